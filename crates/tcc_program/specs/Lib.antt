@@ -1,0 +1,4 @@
+pub mod Plain
+pub mod Program
+pub mod Ram
+pub mod Registers
