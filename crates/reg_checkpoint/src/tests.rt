@@ -1,0 +1,21 @@
+// What a caller sees of registers and checkpoints, at fixed values.
+use crate::{Check, Regs};
+use std::test::Fail;
+use tcc_base::Reg;
+
+#[test]
+fn restores_what_was_saved(rt: HostRuntime) -> Result<(), Fail> {
+    let zero = Reg::new(0).ok_or("x0")?;
+    let last = Reg::new(31).ok_or("x31")?;
+    let mut regs = Regs::new();
+    regs.set(last, 0xffff_ffff);
+    regs.set(zero, 7);
+    let check = Check::save(&regs, 0x8000_0000);
+    regs.set(last, 1);
+    assert_eq!(rt; regs.get(last), 1);
+    let (saved, pc) = check.restore();
+    assert_eq!(rt; saved.get(last), 0xffff_ffff);
+    assert_eq!(rt; saved.get(zero), 0);
+    assert_eq!(rt; pc, 0x8000_0000);
+    Ok(())
+}
