@@ -1,0 +1,53 @@
+-- One instruction of the program, told by the instruction that its pc finds.
+use Rattle.std.proofs.Common.{ℕ, ◌≡◌, List, Option, Some, None, refl, sym, ◌∙◌, ap}
+use Rattle.rv_plain.specs.Attempts.{alone}
+use Rattle.rv_plain.specs.Buffered.{Buffered, buffered, buffered_step}
+use Rattle.rv_plain.specs.Five.{decoded, planned}
+use Rattle.rv_plain.specs.Image.{fetched}
+use Rattle.rv_plain.specs.Machine.{program, bounded, Finds, Fails, need_of_word, after_word, need_of_inst, after_inst}
+use Rattle.rv_plain.specs.declared.five.Inst.{Inst}
+use Rattle.tcc_base.specs.Settings.{Settings}
+use Rattle.tcc_base.specs.declared.access.Size.TheVariants.{Word}
+use Rattle.tcc_program.specs.Plain.{Trapped}
+use Rattle.tcc_program.specs.Program.{Local, Need, Nothing, Loads, Stores, Changes, Prints, Ends, Halts, Traps, Program}
+use Rattle.tcc_program.specs.Ram.{loaded}
+use Rattle.rv_plain.specs.Buffered.{seen}
+
+pub buffered-after : (base : ℕ) (p q : Program) (b : Buffered) → ((x : Option ℕ) → p.after b.local x ≡ q.after b.local x)
+    → (n : Need) → buffered base p b n ≡ buffered base q b n
+buffered-after base p q b h Nothing = rw (h None) refl
+buffered-after base p q b h (Loads addr size) = rw (h (Some (loaded base (seen b.ram b.buffer) addr size))) refl
+buffered-after base p q b h (Stores addr size value) = rw (h None) refl
+buffered-after base p q b h (Changes addr changed) = rw (h (Some (loaded base (seen b.ram b.buffer) addr Word))) refl
+buffered-after base p q b h (Prints byte) = rw (h None) refl
+buffered-after base p q b h Ends = rw (h None) refl
+buffered-after base p q b h (Halts code) = refl
+buffered-after base p q b h (Traps code) = refl
+
+found-need : (s : Settings) (regs : List ℕ) (f : Option ℕ) (inst : Inst) → Finds f inst
+    → need_of_word s regs f ≡ bounded s (planned inst regs)
+found-need s regs None inst h = absurd h
+found-need s regs (Some w) inst h = rw h refl
+
+found-after : (l : Local) (x f : Option ℕ) (inst : Inst) → Finds f inst → after_word l x f ≡ (alone inst).after l x
+found-after l x None inst h = absurd h
+found-after l x (Some w) inst h = rw h refl
+
+failed-need : (s : Settings) (regs : List ℕ) (f : Option ℕ) (trap : ℕ) → Fails f trap → need_of_word s regs f ≡ Traps trap
+failed-need s regs None trap h = rw h refl
+failed-need s regs (Some w) trap h = rw (h.1, h.0) refl
+
+pub buffered_step-found : (s : Settings) (image : List ℕ) (b : Buffered) (inst : Inst)
+    → Finds (fetched s.base image b.local.pc) inst
+    → buffered_step s.base (program s image) b ≡ buffered s.base (alone inst) b (bounded s (planned inst b.local.regs))
+unfolding buffered_step program
+buffered_step-found s image b inst h =
+    rw (found-need s b.local.regs (fetched s.base image b.local.pc) inst h)
+    (buffered-after s.base (program s image) (alone inst) b (λ x. found-after b.local x (fetched s.base image b.local.pc) inst h)
+    (bounded s (planned inst b.local.regs)))
+
+pub buffered_step-failed : (s : Settings) (image : List ℕ) (b : Buffered) (trap : ℕ)
+    → Fails (fetched s.base image b.local.pc) trap
+    → buffered_step s.base (program s image) b ≡ record b { outcome = Trapped trap }
+unfolding buffered_step program
+buffered_step-failed s image b trap h = rw (failed-need s b.local.regs (fetched s.base image b.local.pc) trap h) refl

@@ -1,0 +1,215 @@
+// A transaction on its way: the registers and pc as they are now, what it loaded, stored and printed so far.
+ghost use Rattle.std.specs.Prelude.{◌≡◌, ℕ, ◌+◌, ◌-◌, ◌*◌, ◌^◌, ◌<◌, IfOk, OnErr, OnOk, length, []};
+ghost use Rattle.rv_plain.specs.Buffered.{buffered, buffered_step};
+ghost use Rattle.rv_plain.specs.Five.{finished, planned};
+ghost use Rattle.rv_plain.specs.Machine.{program, bounded};
+ghost use Rattle.rv_plain.specs.Needs.{need_of, local_of};
+
+use crate::bytes;
+use crate::code::Code;
+use crate::five::{Inst, Need, decode, finish, plan};
+use crate::memory::Memory;
+use reg_checkpoint::Regs;
+use std::alloc::Global;
+use tcc_base::{List, Load, NoMemory, Size, Stored};
+
+/// How an instruction leaves its transaction: it goes on, ends, halts its core with a code, or traps.
+#[derive(Clone, Copy, Debug, PartialEq, Eq)]
+pub enum Outcome {
+    Goes,
+    Ended,
+    Halted(u32),
+    Trapped(u8),
+}
+
+/// A transaction on its way, of which `n` instructions are done.
+#[derive(Debug, Drop)]
+pub struct Attempt {
+    pub regs: Regs,
+    pub pc: u32,
+    pub n: u32,
+    pub loads: List<Load>,
+    pub stores: List<Stored>,
+    pub console: List<u8>,
+}
+
+impl Attempt {
+    ghost use Rattle.rv_plain.specs.Attempts.{attempt_of, alone, IsServed};
+
+    /// An attempt at these registers and pc that has done nothing.
+    pub fn begin(alloc: Global, regs: Regs, pc: u32) -> Attempt
+        ensures { result ≡ record { regs = regs; pc = pc; n = 0; loads = []; stores = []; console = [] } }
+    {
+        Attempt {
+            regs,
+            pc,
+            n: 0,
+            loads: List {
+                items: Vec::new(alloc),
+            },
+            stores: List {
+                items: Vec::new(alloc),
+            },
+            console: List {
+                items: Vec::new(alloc),
+            },
+        }
+    }
+
+    fn go_on(&mut self, inst: &Inst, loaded: Option<u32>)
+        ensures { self.new ≡ record self.old {
+          regs = (finished inst.now self.old.regs self.old.pc loaded).regs;
+          pc = (finished inst.now self.old.regs self.old.pc loaded).pc;
+        } }
+    {
+        let next = finish(inst, &self.regs, self.pc, loaded);
+        self.regs = next.regs;
+        self.pc = next.pc;
+    }
+
+    #[tactic(auto, unfolding(crate::specs::Attempts::attempt_of, tcc_program::specs::Ram::loaded, tcc_program::specs::Ram::word_of))]
+    fn load(
+        &mut self,
+        memory: &Memory,
+        base: u32,
+        inst: &Inst,
+        addr: u32,
+        size: Size,
+    ) -> Result<Outcome, NoMemory>
+        requires { IsServed base (4 * length memory.now.ram) (Need.Load addr size) }
+        ensures does { IfOk result (λ o. attempt_of self.new memory.now o
+            ≡ buffered base (alone inst.now) (attempt_of self.old memory.now Outcome.Goes) (need_of (Need.Load addr size))) }
+        ensures n { self.new.n ≡ self.old.n }
+        ensures unchanged { OnErr result (self.new ≡ self.old) }
+    {
+        let value = bytes::read(memory.read((addr - base) / 4), addr, size);
+        self.loads.push(Load { addr, size, value })?;
+        self.go_on(inst, Some(value));
+        Ok(Outcome::Goes)
+    }
+
+    #[tactic(auto, unfolding(crate::specs::Attempts::attempt_of, crate::specs::Five::finished, tcc_program::specs::Ram::word_of))]
+    fn store(
+        &mut self,
+        memory: &mut Memory,
+        base: u32,
+        inst: &Inst,
+        addr: u32,
+        size: Size,
+        value: u32,
+    ) -> Result<Outcome, NoMemory>
+        requires { IsServed base (4 * length memory.old.ram) (Need.Store addr size value) }
+        ensures does { IfOk result (λ o. attempt_of self.new memory.new o
+            ≡ buffered base (alone inst.now) (attempt_of self.old memory.old Outcome.Goes) (need_of (Need.Store addr size value))) }
+        ensures n { self.new.n ≡ self.old.n }
+        ensures ram { memory.new.ram ≡ memory.old.ram }
+        ensures unchanged { OnErr result (self.new ≡ self.old) }
+        ensures memory_unchanged { OnErr result (memory.new ≡ memory.old) }
+    {
+        let w = (addr - base) / 4;
+        let word = bytes::replace(memory.read(w), addr, size, value);
+        self.stores.push(Stored { addr, size, value })?;
+        match memory.write(w, word) {
+            Ok(()) => {
+                self.go_on(inst, None);
+                Ok(Outcome::Goes)
+            }
+            Err(e) => {
+                let _ = self.stores.pop();
+                Err(e)
+            }
+        }
+    }
+
+    #[tactic(auto, unfolding(crate::specs::Attempts::attempt_of, crate::specs::Five::finished))]
+    fn act(
+        &mut self,
+        memory: &mut Memory,
+        base: u32,
+        inst: &Inst,
+        need: Need,
+    ) -> Result<Outcome, NoMemory>
+        requires { IsServed base (4 * length memory.old.ram) need }
+        ensures does { IfOk result (λ o. attempt_of self.new memory.new o
+            ≡ buffered base (alone inst.now) (attempt_of self.old memory.old Outcome.Goes) (need_of need)) }
+        ensures n { self.new.n ≡ self.old.n }
+        ensures ram { memory.new.ram ≡ memory.old.ram }
+        ensures unchanged { OnErr result (self.new ≡ self.old) }
+        ensures memory_unchanged { OnErr result (memory.new ≡ memory.old) }
+    {
+        match need {
+            Need::Nothing => {
+                self.go_on(inst, None);
+                Ok(Outcome::Goes)
+            }
+            Need::Load { addr, size } => self.load(memory, base, inst, addr, size),
+            Need::Store { addr, size, value } => self.store(memory, base, inst, addr, size, value),
+            Need::Console(byte) => {
+                self.console.push(byte)?;
+                self.go_on(inst, None);
+                Ok(Outcome::Goes)
+            }
+            Need::End => {
+                self.go_on(inst, None);
+                Ok(Outcome::Ended)
+            }
+            Need::Halt(code) => Ok(Outcome::Halted(code)),
+            Need::Trap(code) => Ok(Outcome::Trapped(code)),
+        }
+    }
+
+    /// One instruction over RAM as the transaction sees it; the next instruction where it answers Goes. After want of
+    /// memory nothing has changed. Takes the logarithm of what waits in the buffer.
+    #[tactic(auto, unfolding(crate::specs::Attempts::attempt_of))]
+    pub fn step(&mut self, memory: &mut Memory, code: &Code) -> Result<Outcome, NoMemory>
+        requires room { self.old.n < 2 ^ 32 - 1 }
+        requires whole { 4 * length memory.old.ram ≡ code.now.settings.ram }
+        ensures does { IfOk result (λ o. attempt_of self.new memory.new o
+            ≡ buffered_step code.now.settings.base (program code.now.settings code.now.image)
+            (attempt_of self.old memory.old Outcome.Goes)) }
+        ensures counted { OnOk result (self.new.n ≡ self.old.n + 1) }
+        ensures ram { memory.new.ram ≡ memory.old.ram }
+        ensures unchanged { OnErr result (self.new ≡ self.old) }
+        ensures memory_unchanged { OnErr result (memory.new ≡ memory.old) }
+    {
+        let outcome = self.dispatch(memory, code)?;
+        self.n += 1;
+        Ok(outcome)
+    }
+
+    fn dispatch(&mut self, memory: &mut Memory, code: &Code) -> Result<Outcome, NoMemory>
+        requires { 4 * length memory.old.ram ≡ code.now.settings.ram }
+        ensures does { IfOk result (λ o. attempt_of self.new memory.new o
+            ≡ buffered_step code.now.settings.base (program code.now.settings code.now.image)
+            (attempt_of self.old memory.old Outcome.Goes)) }
+        ensures n { self.new.n ≡ self.old.n }
+        ensures ram { memory.new.ram ≡ memory.old.ram }
+        ensures unchanged { OnErr result (self.new ≡ self.old) }
+        ensures memory_unchanged { OnErr result (memory.new ≡ memory.old) }
+    {
+        match code.inst(self.pc) {
+            Err(trap) => Ok(Outcome::Trapped(trap)),
+            Ok(inst) => self.execute(memory, code, &inst),
+        }
+    }
+
+    fn execute(
+        &mut self,
+        memory: &mut Memory,
+        code: &Code,
+        inst: &Inst,
+    ) -> Result<Outcome, NoMemory>
+        requires { 4 * length memory.old.ram ≡ code.now.settings.ram }
+        ensures does { IfOk result (λ o. attempt_of self.new memory.new o
+            ≡ buffered code.now.settings.base (alone inst.now) (attempt_of self.old memory.old Outcome.Goes)
+            (bounded code.now.settings (planned inst.now self.old.regs))) }
+        ensures n { self.new.n ≡ self.old.n }
+        ensures ram { memory.new.ram ≡ memory.old.ram }
+        ensures unchanged { OnErr result (self.new ≡ self.old) }
+        ensures memory_unchanged { OnErr result (memory.new ≡ memory.old) }
+    {
+        let base = code.config().base();
+        let need = code.bounded(plan(inst, &self.regs));
+        self.act(memory, base, inst, need)
+    }
+}

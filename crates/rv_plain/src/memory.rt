@@ -1,0 +1,119 @@
+// RAM with a write buffer before it: what a transaction stores waits here until it commits.
+ghost use Rattle.std.specs.Prelude.{◌≡◌, ℕ, ◌<◌, ◌≤◌, ◌*◌, ◌/◌, IfOk, OnOk, OnErr, Some, [], length};
+ghost use Rattle.rv_plain.specs.Buffered.{seen};
+ghost use Rattle.rv_plain.specs.Image.{image_word};
+ghost use Rattle.rv_plain.specs.Store.{buffer_of, no_buffer, IsInside};
+ghost use Rattle.tcc_base.specs.Put.{put};
+ghost use Rattle.tcc_program.specs.Ram.{flat};
+
+use crate::bytes;
+use std::alloc::Global;
+use std::collections::BTreeMap;
+use std::marker::Model;
+use tcc_base::NoMemory;
+
+/// RAM by word, and the words that wait to be written to it.
+#[derive(Debug, Drop)]
+pub struct Memory {
+    ram: Vec<u32>,
+    buffer: BTreeMap<u32, u32>,
+}
+
+impl Model for Memory {
+    ghost use Rattle.std.specs.Prelude.{length};
+    ghost use Rattle.rv_plain.specs.Store.{Store, IsInside};
+
+    ghost Value = { Store };
+
+    ghost view = { λ m. record { ram = m.ram.items; waiting = m.buffer.entries } };
+
+    ghost invariant = { λ m. IsInside (length m.ram.items) m.buffer.entries };
+}
+
+#[tactic(auto, unfolding(crate::specs::Store::buffer_of, crate::specs::Buffered::seen, tcc_program::specs::Ram::flat))]
+impl Memory {
+    /// RAM of `words` words that begins with the image's bytes, little-endian, and is zero after them. Nothing waits.
+    pub fn new(alloc: Global, words: u32, image: &[u8]) -> Result<Memory, NoMemory>
+        requires { length image.now ≤ 4 * words }
+        ensures length { IfOk result (λ m. length m.ram ≡ words) }
+        ensures ram { IfOk result (λ m. flat m.ram ≡ image_word image.now) }
+        ensures buffer { IfOk result (λ m. buffer_of m.waiting ≡ no_buffer) }
+    {
+        let mut ram = Vec::with_capacity(alloc, words as usize).map_err(|_| NoMemory)?;
+        for w in 0..words {
+            ram.push(bytes::word_of_image(image, w))
+                .map_err(|_| NoMemory)?;
+        }
+        Ok(Memory {
+            ram,
+            buffer: BTreeMap::new(alloc),
+        })
+    }
+
+    /// The number of RAM's words.
+    pub fn words(&self) -> usize
+        ensures { result ≡ length self.now.ram }
+    {
+        self.ram.len()
+    }
+
+    /// A word of RAM, whatever waits. Constant time.
+    pub fn word(&self, w: u32) -> u32
+        requires { w < length self.now.ram }
+        ensures { result ≡ flat self.now.ram w }
+    {
+        self.ram[w as usize]
+    }
+
+    /// A word as the transaction sees it: what waits for it, else RAM's. Takes the logarithm of what waits.
+    pub fn read(&self, w: u32) -> u32
+        requires { w < length self.now.ram }
+        ensures { result ≡ seen (flat self.now.ram) (buffer_of self.now.waiting) w }
+    {
+        match self.buffer.get(&w) {
+            Some(v) => *v,
+            None => self.ram[w as usize],
+        }
+    }
+
+    /// Lets a value wait for a word; after want of memory nothing has changed. Takes the logarithm of what waits.
+    pub fn write(&mut self, w: u32, value: u32) -> Result<(), NoMemory>
+        requires { w < length self.old.ram }
+        ensures ram { self.new.ram ≡ self.old.ram }
+        ensures written { OnOk result (buffer_of self.new.waiting ≡ put (buffer_of self.old.waiting) w (Some value)) }
+        ensures unchanged { OnErr result (self.new ≡ self.old) }
+    {
+        match self.buffer.insert(w, value) {
+            Ok(_) => Ok(()),
+            Err(_) => Err(NoMemory),
+        }
+    }
+
+    /// Writes all that waits to RAM. Takes time in what waits, and no memory.
+    pub fn publish(&mut self)
+        ensures length { length self.new.ram ≡ length self.old.ram }
+        ensures ram { flat self.new.ram ≡ seen (flat self.old.ram) (buffer_of self.old.waiting) }
+        ensures buffer { buffer_of self.new.waiting ≡ no_buffer }
+    {
+        drain(&mut self.ram, &mut self.buffer);
+    }
+
+    /// Forgets all that waits. Takes no memory.
+    pub fn discard(&mut self)
+        ensures ram { self.new.ram ≡ self.old.ram }
+        ensures buffer { buffer_of self.new.waiting ≡ no_buffer }
+    {
+        self.buffer.clear();
+    }
+}
+
+#[tactic(auto, unfolding(crate::specs::Store::buffer_of, crate::specs::Buffered::seen, tcc_program::specs::Ram::flat))]
+fn drain(ram: &mut [u32], buffer: &mut BTreeMap<u32, u32>)
+    requires { IsInside (length ram.old) buffer.old.entries }
+    ensures ram { flat ram.new ≡ seen (flat ram.old) (buffer_of buffer.old.entries) }
+    ensures buffer { buffer.new.entries ≡ [] }
+{
+    while let Some((w, value)) = buffer.pop_first() {
+        ram[w as usize] = value;
+    }
+}
