@@ -1,3 +1,5 @@
 pub mod Splice
 pub mod Laid
 pub mod Stepping
+pub mod Views
+pub mod Faults

@@ -1,5 +1,5 @@
 -- The contents of RAM with a write buffer before it.
-use Rattle.std.specs.Prelude.{ℕ, ◌<◌, List, Option, None, IsSome}
+use Rattle.std.specs.Prelude.{ℕ, ◌<◌, List, Option, IsSome}
 use Rattle.std.specs.BTreeMap.{is_at}
 use Rattle.std.specs.Map.{lookup}
 use Rattle.std.specs.Ordering.{nat_cmp}
@@ -12,9 +12,6 @@ pub record Store : Type 0 where
 -- what waits, as a map from word to value
 unfoldable pub buffer_of : List (ℕ × ℕ) → ℕ → Option ℕ
 buffer_of waiting w = lookup (is_at (nat_cmp w)) waiting
-
-abbrev pub no_buffer : ℕ → Option ℕ
-no_buffer w = None
 
 -- each word that waits is one of RAM's
 abbrev pub IsInside : ℕ → List (ℕ × ℕ) → Type 0

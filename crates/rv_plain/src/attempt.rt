@@ -1,17 +1,19 @@
 // A transaction on its way: the registers and pc as they are now, what it loaded, stored and printed so far.
-ghost use Rattle.std.specs.Prelude.{◌≡◌, ℕ, ◌+◌, ◌-◌, ◌*◌, ◌^◌, ◌<◌, IfOk, OnErr, OnOk, length, []};
-ghost use Rattle.rv_plain.specs.Buffered.{buffered, buffered_step};
+ghost use Rattle.std.specs.Prelude.{◌≡◌, ℕ, ◌+◌, ◌-◌, ◌*◌, ◌^◌, ◌<◌, IfOk, IfErr, OnErr, OnOk, Some, length, [], ◌↔◌, IsTrue, IsFalse};
+ghost use Rattle.rv_plain.specs.Buffered.{buffered, buffered_step, plain_view};
 ghost use Rattle.rv_plain.specs.Five.{finished, planned};
 ghost use Rattle.rv_plain.specs.Machine.{program, bounded};
 ghost use Rattle.rv_plain.specs.Needs.{need_of, local_of};
+ghost use Rattle.tcc_program.specs.Plain.{steps, end_of};
 
 use crate::bytes;
 use crate::code::Code;
 use crate::five::{Inst, Need, decode, finish, plan};
 use crate::memory::Memory;
+use crate::plain::PlainFault;
 use reg_checkpoint::Regs;
 use std::alloc::Global;
-use tcc_base::{List, Load, NoMemory, Size, Stored};
+use tcc_base::{CoreEnd, List, Load, NoMemory, Size, Stored};
 
 /// How an instruction leaves its transaction: it goes on, ends, halts its core with a code, or traps.
 #[derive(Clone, Copy, Debug, PartialEq, Eq)]
@@ -20,6 +22,34 @@ pub enum Outcome {
     Ended,
     Halted(u32),
     Trapped(u8),
+}
+
+impl Outcome {
+    ghost use Rattle.rv_plain.specs.Attempts.{outcome_of};
+    ghost use Rattle.rv_plain.specs.Endings.{HasEnded};
+
+    /// Whether the transaction doesn't go on.
+    pub fn has_ended(self) -> bool
+        ensures ended { IsTrue result ↔ HasEnded (outcome_of self) }
+        ensures goes { IsFalse result → self ≡ Outcome.Goes }
+    {
+        match self {
+            Outcome::Goes => false,
+            Outcome::Ended | Outcome::Halted(_) | Outcome::Trapped(_) => true,
+        }
+    }
+
+    /// How a core stands once the transaction that ended so is committed.
+    pub fn end(self) -> CoreEnd
+        requires { HasEnded (outcome_of self) }
+        ensures { end_of (outcome_of self) ≡ Some result }
+    {
+        match self {
+            Outcome::Goes | Outcome::Ended => CoreEnd::Run,
+            Outcome::Halted(code) => CoreEnd::Halt(code),
+            Outcome::Trapped(code) => CoreEnd::Trap(code),
+        }
+    }
 }
 
 /// A transaction on its way, of which `n` instructions are done.
@@ -34,7 +64,8 @@ pub struct Attempt {
 }
 
 impl Attempt {
-    ghost use Rattle.rv_plain.specs.Attempts.{attempt_of, alone, IsServed};
+    ghost use Rattle.rv_plain.specs.Attempts.{attempt_of, outcome_of, alone, IsServed};
+    ghost use Rattle.rv_plain.specs.Endings.{HasEnded, IsFault};
 
     /// An attempt at these registers and pc that has done nothing.
     pub fn begin(alloc: Global, regs: Regs, pc: u32) -> Attempt
@@ -175,6 +206,37 @@ impl Attempt {
         let outcome = self.dispatch(memory, code)?;
         self.n += 1;
         Ok(outcome)
+    }
+
+    /// `n` instructions of which all but the last go on: how the last one leaves the transaction, which isn't that it goes on.
+    ///
+    /// An error names the instruction, from 1, that ends the transaction too early, or `n` where the last one goes on or
+    /// none was asked for. The memory's RAM is as before in each case.
+    pub fn run(&mut self, memory: &mut Memory, code: &Code, n: u32) -> Result<Outcome, PlainFault>
+        requires fresh { self.old.n ≡ 0 }
+        requires whole { 4 * length memory.old.ram ≡ code.now.settings.ram }
+        ensures runs { IfOk result (λ o. (steps code.now.settings.base (program code.now.settings code.now.image) n
+            (plain_view (attempt_of self.old memory.old Outcome.Goes))
+            ≡ Some (plain_view (attempt_of self.new memory.new o)))
+            × HasEnded (outcome_of o)) }
+        ensures fault { IfErr result (IsFault (λ k. steps code.now.settings.base (program code.now.settings code.now.image) k
+            (plain_view (attempt_of self.old memory.old Outcome.Goes))) n) }
+        ensures ram { memory.new.ram ≡ memory.old.ram }
+    {
+        for k in 0..n {
+            let outcome = match self.step(memory, code) {
+                Ok(outcome) => outcome,
+                Err(_) => return Err(PlainFault::Memory),
+            };
+            if outcome.has_ended() {
+                return if k + 1 == n {
+                    Ok(outcome)
+                } else {
+                    Err(PlainFault::NotEnding(k + 1))
+                };
+            }
+        }
+        Err(PlainFault::NotEnding(n))
     }
 
     fn dispatch(&mut self, memory: &mut Memory, code: &Code) -> Result<Outcome, NoMemory>

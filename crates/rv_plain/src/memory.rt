@@ -2,7 +2,7 @@
 ghost use Rattle.std.specs.Prelude.{◌≡◌, ℕ, ◌<◌, ◌≤◌, ◌*◌, ◌/◌, IfOk, OnOk, OnErr, Some, [], length};
 ghost use Rattle.rv_plain.specs.Buffered.{seen};
 ghost use Rattle.rv_plain.specs.Image.{image_word};
-ghost use Rattle.rv_plain.specs.Store.{buffer_of, no_buffer, IsInside};
+ghost use Rattle.rv_plain.specs.Store.{buffer_of, IsInside};
 ghost use Rattle.tcc_base.specs.Put.{put};
 ghost use Rattle.tcc_program.specs.Ram.{flat};
 
@@ -37,7 +37,7 @@ impl Memory {
         requires { length image.now ≤ 4 * words }
         ensures length { IfOk result (λ m. length m.ram ≡ words) }
         ensures ram { IfOk result (λ m. flat m.ram ≡ image_word image.now) }
-        ensures buffer { IfOk result (λ m. buffer_of m.waiting ≡ no_buffer) }
+        ensures buffer { IfOk result (λ m. m.waiting ≡ []) }
     {
         let mut ram = Vec::with_capacity(alloc, words as usize).map_err(|_| NoMemory)?;
         for w in 0..words {
@@ -93,7 +93,7 @@ impl Memory {
     pub fn publish(&mut self)
         ensures length { length self.new.ram ≡ length self.old.ram }
         ensures ram { flat self.new.ram ≡ seen (flat self.old.ram) (buffer_of self.old.waiting) }
-        ensures buffer { buffer_of self.new.waiting ≡ no_buffer }
+        ensures buffer { self.new.waiting ≡ [] }
     {
         drain(&mut self.ram, &mut self.buffer);
     }
@@ -101,7 +101,7 @@ impl Memory {
     /// Forgets all that waits. Takes no memory.
     pub fn discard(&mut self)
         ensures ram { self.new.ram ≡ self.old.ram }
-        ensures buffer { buffer_of self.new.waiting ≡ no_buffer }
+        ensures buffer { self.new.waiting ≡ [] }
     {
         self.buffer.clear();
     }

@@ -1,0 +1,24 @@
+-- Where the instructions of a transaction end, and which of them is at fault where they are none.
+use Rattle.std.specs.Prelude.{ℕ, zero, suc, ◌≡◌, ◌<◌, ◌⊎◌, Option, IsSomeAnd}
+use Rattle.rv_plain.specs.declared.plain.PlainFault.{PlainFault}
+use Rattle.rv_plain.specs.declared.plain.PlainFault.TheVariants.{NotEnding, Memory}
+use Rattle.tcc_program.specs.Plain.{Attempt, Outcome, Goes, Ended, Halted, Trapped}
+
+abbrev pub HasEnded : Outcome → Type 0
+HasEnded Goes = ⊥
+HasEnded Ended = Unit {0}
+HasEnded (Halted code) = Unit {0}
+HasEnded (Trapped code) = Unit {0}
+
+-- instruction k, from 1, ends the transaction of these instructions too early, or the last one doesn't end it
+abbrev pub EndsEarly : (steps : ℕ → Option Attempt) → (n k : ℕ) → Type 0
+EndsEarly steps n k = (k < n) × IsSomeAnd (steps k) (λ a. HasEnded a.outcome)
+
+abbrev pub GoesPast : (steps : ℕ → Option Attempt) → (n k : ℕ) → Type 0
+GoesPast steps n k = (k ≡ n) × IsSomeAnd (steps k) (λ a. a.outcome ≡ Goes)
+
+-- what an error of running n instructions says: 0 where none was asked for, else the instruction at fault
+abbrev pub IsFault : (steps : ℕ → Option Attempt) → (n : ℕ) → PlainFault → Type 0
+IsFault steps n (NotEnding zero) = n ≡ 0
+IsFault steps n (NotEnding (suc j)) = EndsEarly steps n (suc j) ⊎ GoesPast steps n (suc j)
+IsFault steps n Memory = Unit {0}
