@@ -3,3 +3,4 @@ pub mod Laid
 pub mod Stepping
 pub mod Views
 pub mod Faults
+pub mod Starts

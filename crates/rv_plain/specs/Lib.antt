@@ -1,5 +1,6 @@
 pub mod Attempts
 pub mod Buffered
+pub mod Cores
 pub mod Endings
 pub mod Five
 pub mod Image

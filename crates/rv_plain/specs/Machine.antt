@@ -56,18 +56,21 @@ program s image = record {
 }
 
 -- a core's registers and pc at the start: x10 is its number, x11 the number of cores
-unfoldable pub start_local : (cores core entry : ℕ) → Local
-start_local cores core entry = record { regs = written (written zeroed 10 core) 11 cores; pc = entry; reserved = None }
+unfoldable pub start_regs : (cores core : ℕ) → List ℕ
+start_regs cores core = written (written zeroed 10 core) 11 cores
+
+abbrev pub start_local : (cores core entry : ℕ) → Local
+start_local cores core entry = record { regs = start_regs cores core; pc = entry; reserved = None }
 
 -- what stands for a core that doesn't exist
 abbrev pub no_core : PlainCore
 no_core = record { local = record { regs = []; pc = 0; reserved = None }; ended = Halt 0; console = [] }
 
-abbrev pub start_core : Settings → ℕ → PlainCore
-start_core s core = record { local = start_local s.cores core s.base; ended = Run; console = [] }
+abbrev pub start_core : (cores core entry : ℕ) → PlainCore
+start_core cores core entry = record { local = start_local cores core entry; ended = Run; console = [] }
 
 unfoldable pub started : Settings → List ℕ → Plain
 started s image = record {
   ram = image_word image;
-  cores = λ c. (if nat_lt c s.cores then start_core s c else no_core);
+  cores = λ c. (if nat_lt c s.cores then start_core s.cores c s.base else no_core);
 }

@@ -1,13 +1,13 @@
 -- What the code's plain machine stands for.
 use Rattle.std.specs.Prelude.{ℕ, zero, suc, List, [], ◌≡◌, ◌<◌, ◌⊎◌, ◌*◌, length, map, Option, None, Some, IsSomeAnd, slice_index_or, take, nat_lt}
+use Rattle.rv_plain.specs.Cores.{core_of, no_state}
 use Rattle.rv_plain.specs.Endings.{EndsEarly, GoesPast}
 use Rattle.rv_plain.specs.Loaded.{Loaded}
-use Rattle.rv_plain.specs.Machine.{program, no_core}
-use Rattle.rv_plain.specs.Needs.{local_of}
+use Rattle.rv_plain.specs.Machine.{program}
 use Rattle.rv_plain.specs.declared.plain.CoreState.{CoreState}
 use Rattle.rv_plain.specs.declared.plain.Order.{Order as CodeOrder}
 use Rattle.tcc_base.specs.declared.access.Commit.{Commit}
-use Rattle.tcc_base.specs.declared.access.CoreEnd.TheVariants.{Run, Halt}
+use Rattle.tcc_base.specs.declared.access.CoreEnd.TheVariants.{Run}
 use Rattle.tcc_program.specs.Plain.{Plain, PlainCore, Attempt, Outcome, Goes, Ended, Halted, Trapped, Order, transaction, steps, begun, serial}
 use Rattle.tcc_program.specs.Ram.{flat}
 
@@ -15,12 +15,6 @@ pub record PlainState : Type 0 where
   pub loaded : Loaded
   pub ram : List ℕ
   pub cores : List CoreState
-
-abbrev pub core_of : CoreState → PlainCore
-core_of c = record { local = local_of c.regs c.pc; ended = c.ended; console = c.console }
-
-abbrev pub no_state : CoreState
-no_state = record { regs = []; pc = 0; ended = Halt 0; console = [] }
 
 unfoldable pub plain_of : PlainState → Plain
 plain_of s = record { ram = flat s.ram; cores = λ c. core_of (slice_index_or s.cores c no_state) }

@@ -2,8 +2,8 @@
 ghost use Rattle.std.specs.Prelude.{◌≡◌, ℕ, ◌+◌, ◌-◌, ◌*◌, ◌^◌, ◌<◌, ◌≤◌, IfOk, IfErr, OnErr, OnOk, IsErrAnd, MatchResult, IsSomeAnd, Some, [], length, slice_index, slice_index_or};
 ghost use Rattle.rv_plain.specs.Buffered.{buffered_step};
 ghost use Rattle.rv_plain.specs.Image.{image_word};
-ghost use Rattle.rv_plain.specs.Machine.{program, started, start_local};
-ghost use Rattle.rv_plain.specs.Needs.{local_of};
+ghost use Rattle.rv_plain.specs.Machine.{started, start_regs, start_core};
+ghost use Rattle.rv_plain.specs.Cores.{core_of};
 ghost use Rattle.tcc_program.specs.Ram.{flat};
 
 use crate::attempt::{Attempt, Outcome};
@@ -64,7 +64,7 @@ pub struct Plain {
     alloc: Global,
     code: Code,
     memory: Memory,
-    cores: Vec<CoreState>,
+    cores: List<CoreState>,
 }
 
 impl Model for Plain {
@@ -73,14 +73,14 @@ impl Model for Plain {
 
     ghost Value = { PlainState };
 
-    ghost view = { λ p. record { loaded = p.code; ram = p.memory.ram; cores = p.cores.items } };
+    ghost view = { λ p. record { loaded = p.code; ram = p.memory.ram; cores = p.cores } };
 
-    ghost invariant = { λ p. (4 * length p.memory.ram ≡ p.code.settings.ram) × (p.memory.waiting ≡ []) × (length p.cores.items ≡ p.code.settings.cores) };
+    ghost invariant = { λ p. (4 * length p.memory.ram ≡ p.code.settings.ram) × (p.memory.waiting ≡ []) × (length p.cores ≡ p.code.settings.cores) };
 }
 
-#[tactic(auto, unfolding(crate::specs::Machine::start_local))]
+#[tactic(auto, unfolding(crate::specs::Machine::start_regs))]
 fn start_regs(cores: u8, core: u8) -> Regs
-    ensures { local_of result 0 ≡ start_local cores core 0 }
+    ensures { result ≡ start_regs cores core }
 {
     let mut regs = Regs::new();
     if let Some(x10) = Reg::new(10) {
@@ -90,4 +90,81 @@ fn start_regs(cores: u8, core: u8) -> Regs
         regs.set(x11, cores as u32);
     }
     regs
+}
+
+fn start_core(alloc: Global, cores: u8, core: u8, entry: u32) -> CoreState
+    ensures { core_of result ≡ start_core cores core entry }
+{
+    CoreState {
+        regs: start_regs(cores, core),
+        pc: entry,
+        ended: CoreEnd::Run,
+        console: List::new(alloc),
+    }
+}
+
+impl Plain {
+    ghost use Rattle.rv_plain.specs.PlainState.{PlainState, plain_of, transaction_of, IsNotEnding};
+    ghost use Rattle.rv_plain.specs.Cores.{no_state};
+
+    /// The machine before its first transaction: the image in RAM from its base on, zeros after it, and each core at the
+    /// image's first word.
+    pub fn start(alloc: Global, config: &Config, image: &[u8]) -> Result<Plain, NoMemory>
+        requires { length image.now ≤ config.now.ram }
+        ensures loaded { IfOk result (λ p. p.loaded ≡ record { settings = config.now; image = image.now }) }
+        ensures started { IfOk result (λ p. plain_of p ≡ started config.now image.now) }
+    {
+        let code = Code::new(alloc, config, image)?;
+        let memory = Memory::new(alloc, config.words(), image)?;
+        let mut cores = List::new(alloc);
+        for core in 0..config.cores() {
+            cores.push(start_core(alloc, config.cores(), core, config.base()))?;
+        }
+        Ok(Plain {
+            alloc,
+            code,
+            memory,
+            cores,
+        })
+    }
+
+    /// A word of RAM. Constant time, takes no memory.
+    pub fn word(&self, w: WordAddr) -> u32
+        requires { 4 * w.0 < self.now.loaded.settings.ram }
+        ensures { result ≡ flat self.now.ram w.0 }
+    {
+        self.memory.word(w.0)
+    }
+
+    /// A core's registers. Takes no memory.
+    pub fn regs(&self, core: CoreId) -> &Regs
+        requires { core.0 < self.now.loaded.settings.cores }
+        ensures { result.now ≡ (slice_index_or self.now.cores core.0 no_state).regs }
+    {
+        &self.cores.items[core.0 as usize].regs
+    }
+
+    /// A core's pc. Takes no memory.
+    pub fn pc(&self, core: CoreId) -> u32
+        requires { core.0 < self.now.loaded.settings.cores }
+        ensures { result ≡ (slice_index_or self.now.cores core.0 no_state).pc }
+    {
+        self.cores.items[core.0 as usize].pc
+    }
+
+    /// How a core stands. Takes no memory.
+    pub fn ended(&self, core: CoreId) -> CoreEnd
+        requires { core.0 < self.now.loaded.settings.cores }
+        ensures { result ≡ (slice_index_or self.now.cores core.0 no_state).ended }
+    {
+        self.cores.items[core.0 as usize].ended
+    }
+
+    /// The console bytes of a core's transactions, one after another. Takes no memory.
+    pub fn console(&self, core: CoreId) -> &[u8]
+        requires { core.0 < self.now.loaded.settings.cores }
+        ensures { result.now ≡ (slice_index_or self.now.cores core.0 no_state).console }
+    {
+        &self.cores.items[core.0 as usize].console.items
+    }
 }
