@@ -4,3 +4,4 @@ pub mod Stepping
 pub mod Views
 pub mod Faults
 pub mod Starts
+pub mod Transacted

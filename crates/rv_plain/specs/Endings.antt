@@ -2,6 +2,8 @@
 use Rattle.std.specs.Prelude.{ℕ, zero, suc, ◌≡◌, ◌<◌, ◌⊎◌, Option, IsSomeAnd}
 use Rattle.rv_plain.specs.declared.plain.PlainFault.{PlainFault}
 use Rattle.rv_plain.specs.declared.plain.PlainFault.TheVariants.{NotEnding, Memory}
+use Rattle.tcc_base.specs.declared.access.CoreEnd.{CoreEnd}
+use Rattle.tcc_base.specs.declared.access.CoreEnd.TheVariants.{Run, Halt, Trap}
 use Rattle.tcc_program.specs.Plain.{Attempt, Outcome, Goes, Ended, Halted, Trapped}
 
 abbrev pub HasEnded : Outcome → Type 0
@@ -22,3 +24,9 @@ abbrev pub IsFault : (steps : ℕ → Option Attempt) → (n : ℕ) → PlainFau
 IsFault steps n (NotEnding zero) = n ≡ 0
 IsFault steps n (NotEnding (suc j)) = EndsEarly steps n (suc j) ⊎ GoesPast steps n (suc j)
 IsFault steps n Memory = Unit {0}
+
+-- the same of a core that may have halted before
+abbrev pub IsCoreFault : CoreEnd → (steps : ℕ → Option Attempt) → (n : ℕ) → PlainFault → Type 0
+IsCoreFault Run steps n fault = IsFault steps n fault
+IsCoreFault (Halt code) steps n fault = fault ≡ NotEnding 0
+IsCoreFault (Trap code) steps n fault = fault ≡ NotEnding 0

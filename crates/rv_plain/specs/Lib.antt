@@ -9,3 +9,4 @@ pub mod Machine
 pub mod Needs
 pub mod PlainState
 pub mod Store
+pub mod Transacts

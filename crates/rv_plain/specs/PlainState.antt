@@ -1,10 +1,12 @@
 -- What the code's plain machine stands for.
 use Rattle.std.specs.Prelude.{ℕ, zero, suc, List, [], ◌≡◌, ◌<◌, ◌⊎◌, ◌*◌, length, map, Option, None, Some, IsSomeAnd, slice_index_or, take, nat_lt}
 use Rattle.rv_plain.specs.Cores.{core_of, no_state}
-use Rattle.rv_plain.specs.Endings.{EndsEarly, GoesPast}
+use Rattle.rv_plain.specs.Endings.{IsCoreFault}
 use Rattle.rv_plain.specs.Loaded.{Loaded}
 use Rattle.rv_plain.specs.Machine.{program}
 use Rattle.rv_plain.specs.declared.plain.CoreState.{CoreState}
+use Rattle.rv_plain.specs.declared.plain.Done.{Done}
+use Rattle.rv_plain.specs.declared.plain.PlainFault.{PlainFault}
 use Rattle.rv_plain.specs.declared.plain.Order.{Order as CodeOrder}
 use Rattle.tcc_base.specs.declared.access.Commit.{Commit}
 use Rattle.tcc_base.specs.declared.access.CoreEnd.TheVariants.{Run}
@@ -34,8 +36,12 @@ steps_of s core n =
 abbrev pub serial_of : PlainState → List CodeOrder → Option (Plain × List Commit)
 serial_of s orders = serial s.loaded.settings.base (program s.loaded.settings s.loaded.image) 0 (map order_of orders) (plain_of s)
 
--- why n instructions of a core aren't a transaction: 0 where n is 0 or the core has halted, else the instruction at fault
-abbrev pub IsNotEnding : PlainState → (core n k : ℕ) → Type 0
-IsNotEnding s core n zero = (n ≡ 0) ⊎ (((plain_of s).cores core).ended ≡ Run → ⊥)
-IsNotEnding s core n (suc j) =
-    (((plain_of s).cores core).ended ≡ Run) × (EndsEarly (steps_of s core) n (suc j) ⊎ GoesPast (steps_of s core) n (suc j))
+-- a transaction of this machine has a value, which is the machine afterwards and what is answered
+abbrev pub Did : PlainState → (core n : ℕ) → PlainState → Done → Type 0
+Did s core n after d =
+    IsSomeAnd (transaction_of s core n) (λ r.
+    (plain_of after ≡ r.0) × (d.loads ≡ r.1.loads) × (d.stores ≡ r.1.stores) × (d.console ≡ r.1.console))
+
+-- what an error of a transaction says
+abbrev pub IsPlainFault : PlainState → (core n : ℕ) → PlainFault → Type 0
+IsPlainFault s core n fault = IsCoreFault ((plain_of s).cores core).ended (steps_of s core) n fault

@@ -1,9 +1,12 @@
 // The plain machine: one RAM, whole transactions one after another.
-ghost use Rattle.std.specs.Prelude.{◌≡◌, ℕ, ◌+◌, ◌-◌, ◌*◌, ◌^◌, ◌<◌, ◌≤◌, IfOk, IfErr, OnErr, OnOk, IsErrAnd, MatchResult, IsSomeAnd, Some, [], length, slice_index, slice_index_or};
-ghost use Rattle.rv_plain.specs.Buffered.{buffered_step};
+ghost use Rattle.std.specs.Prelude.{◌≡◌, ℕ, ◌+◌, ◌-◌, ◌*◌, ◌^◌, ◌<◌, ◌≤◌, IfOk, IfErr, OnErr, OnOk, IsErrAnd, MatchResult, IsSomeAnd, Some, [], ◌++◌, length, slice_index, slice_index_or, slice_set};
+ghost use Rattle.rv_plain.specs.Buffered.{seen};
 ghost use Rattle.rv_plain.specs.Image.{image_word};
 ghost use Rattle.rv_plain.specs.Machine.{started, start_regs, start_core};
-ghost use Rattle.rv_plain.specs.Cores.{core_of};
+ghost use Rattle.rv_plain.specs.Cores.{core_of, no_state};
+ghost use Rattle.rv_plain.specs.Endings.{IsFault, IsCoreFault};
+ghost use Rattle.rv_plain.specs.Store.{buffer_of};
+ghost use Rattle.rv_plain.specs.Transacts.{Transacts, steps_at};
 ghost use Rattle.tcc_program.specs.Ram.{flat};
 
 use crate::attempt::{Attempt, Outcome};
@@ -104,8 +107,7 @@ fn start_core(alloc: Global, cores: u8, core: u8, entry: u32) -> CoreState
 }
 
 impl Plain {
-    ghost use Rattle.rv_plain.specs.PlainState.{PlainState, plain_of, transaction_of, IsNotEnding};
-    ghost use Rattle.rv_plain.specs.Cores.{no_state};
+    ghost use Rattle.rv_plain.specs.PlainState.{PlainState, plain_of, Did, IsPlainFault};
 
     /// The machine before its first transaction: the image in RAM from its base on, zeros after it, and each core at the
     /// image's first word.
@@ -166,5 +168,142 @@ impl Plain {
         ensures { result.now ≡ (slice_index_or self.now.cores core.0 no_state).console }
     {
         &self.cores.items[core.0 as usize].console.items
+    }
+
+    /// Executes exactly `n` instructions of the core, of which the n-th ends the transaction and no earlier one does.
+    ///
+    /// `NotEnding(0)` comes exactly where `n` is 0 or the core has halted, `NotEnding(k)` exactly where instruction k ends
+    /// the transaction too early or is the last and doesn't end it. After an error the machine is as before.
+    pub fn transaction(&mut self, core: CoreId, n: u32) -> Result<Done, PlainFault>
+        requires { core.0 < self.old.loaded.settings.cores }
+        ensures did { IfOk result (Did self.old core.0 n self.new) }
+        ensures fault { IfErr result (IsPlainFault self.old core.0 n) }
+        ensures loaded { self.new.loaded ≡ self.old.loaded }
+        ensures unchanged { OnErr result (self.new ≡ self.old) }
+    {
+        execute_core(
+            self.alloc,
+            &self.code,
+            &mut self.memory,
+            &mut self.cores,
+            core,
+            n,
+        )
+    }
+}
+
+fn execute_core(
+    alloc: Global,
+    code: &Code,
+    memory: &mut Memory,
+    cores: &mut List<CoreState>,
+    core: CoreId,
+    n: u32,
+) -> Result<Done, PlainFault>
+    requires exists { core.0 < length cores.old }
+    requires whole { 4 * length memory.old.ram ≡ code.now.settings.ram }
+    requires empty { memory.old.waiting ≡ [] }
+    ensures does { IfOk result (Transacts code.now (slice_index_or cores.old core.0 no_state) (slice_index_or cores.new core.0 no_state)
+        memory.old memory.new n) }
+    ensures fault { IfErr result (IsCoreFault (slice_index_or cores.old core.0 no_state).ended
+        (steps_at code.now (slice_index_or cores.old core.0 no_state) memory.old) n) }
+    ensures others { cores.new ≡ slice_set cores.old core.0 (slice_index_or cores.new core.0 no_state) }
+    ensures length { length memory.new.ram ≡ length memory.old.ram }
+    ensures empty { memory.new.waiting ≡ [] }
+    ensures cores_unchanged { OnErr result (cores.new ≡ cores.old) }
+    ensures memory_unchanged { OnErr result (memory.new ≡ memory.old) }
+{
+    execute(alloc, code, memory, &mut cores.items[core.0 as usize], n)
+}
+
+fn execute(
+    alloc: Global,
+    code: &Code,
+    memory: &mut Memory,
+    state: &mut CoreState,
+    n: u32,
+) -> Result<Done, PlainFault>
+    requires whole { 4 * length memory.old.ram ≡ code.now.settings.ram }
+    requires empty { memory.old.waiting ≡ [] }
+    ensures does { IfOk result (Transacts code.now state.old state.new memory.old memory.new n) }
+    ensures fault { IfErr result (IsCoreFault state.old.ended (steps_at code.now state.old memory.old) n) }
+    ensures length { length memory.new.ram ≡ length memory.old.ram }
+    ensures empty { memory.new.waiting ≡ [] }
+    ensures state_unchanged { OnErr result (state.new ≡ state.old) }
+    ensures memory_unchanged { OnErr result (memory.new ≡ memory.old) }
+{
+    match state.ended {
+        CoreEnd::Run => transact(alloc, code, memory, state, n),
+        CoreEnd::Halt(_) | CoreEnd::Trap(_) => Err(PlainFault::NotEnding(0)),
+    }
+}
+
+fn transact(
+    alloc: Global,
+    code: &Code,
+    memory: &mut Memory,
+    state: &mut CoreState,
+    n: u32,
+) -> Result<Done, PlainFault>
+    requires runs { state.old.ended ≡ CoreEnd.Run }
+    requires whole { 4 * length memory.old.ram ≡ code.now.settings.ram }
+    requires empty { memory.old.waiting ≡ [] }
+    ensures does { IfOk result (Transacts code.now state.old state.new memory.old memory.new n) }
+    ensures fault { IfErr result (IsFault (steps_at code.now state.old memory.old) n) }
+    ensures length { length memory.new.ram ≡ length memory.old.ram }
+    ensures empty { memory.new.waiting ≡ [] }
+    ensures state_unchanged { OnErr result (state.new ≡ state.old) }
+    ensures memory_unchanged { OnErr result (memory.new ≡ memory.old) }
+{
+    let mut attempt = Attempt::begin(alloc, state.regs, state.pc);
+    match attempt.run(memory, code, n) {
+        Err(fault) => {
+            memory.discard();
+            Err(fault)
+        }
+        Ok(outcome) => close(memory, state, attempt, outcome.end()),
+    }
+}
+
+fn close(
+    memory: &mut Memory,
+    state: &mut CoreState,
+    attempt: Attempt,
+    end: CoreEnd,
+) -> Result<Done, PlainFault>
+    ensures state { OnOk result (state.new ≡ record {
+      regs = attempt.regs;
+      pc = attempt.pc;
+      ended = end;
+      console = state.old.console ++ attempt.console;
+    }) }
+    ensures did { IfOk result (λ d. d ≡ record { loads = attempt.loads; stores = attempt.stores; console = attempt.console }) }
+    ensures ram { OnOk result (flat memory.new.ram ≡ seen (flat memory.old.ram) (buffer_of memory.old.waiting)) }
+    ensures length { length memory.new.ram ≡ length memory.old.ram }
+    ensures empty { memory.new.waiting ≡ [] }
+    ensures cause { IfErr result (λ f. f ≡ PlainFault.Memory) }
+    ensures state_unchanged { OnErr result (state.new ≡ state.old) }
+    ensures ram_unchanged { OnErr result (memory.new.ram ≡ memory.old.ram) }
+{
+    match state
+        .console
+        .items
+        .extend_from_slice(&attempt.console.items)
+    {
+        Err(_) => {
+            memory.discard();
+            Err(PlainFault::Memory)
+        }
+        Ok(()) => {
+            memory.publish();
+            state.regs = attempt.regs;
+            state.pc = attempt.pc;
+            state.ended = end;
+            Ok(Done {
+                loads: attempt.loads,
+                stores: attempt.stores,
+                console: attempt.console,
+            })
+        }
     }
 }

@@ -1,0 +1,26 @@
+-- What one transaction of one core of the code's plain machine leaves behind.
+use Rattle.std.specs.Prelude.{ℕ, ◌++◌, ◌≡◌, Option, Some}
+use Rattle.rv_plain.specs.Loaded.{Loaded}
+use Rattle.rv_plain.specs.Machine.{program}
+use Rattle.rv_plain.specs.Needs.{local_of}
+use Rattle.rv_plain.specs.Store.{Store}
+use Rattle.rv_plain.specs.declared.plain.CoreState.{CoreState}
+use Rattle.rv_plain.specs.declared.plain.Done.{Done}
+use Rattle.tcc_base.specs.declared.access.CoreEnd.TheVariants.{Run}
+use Rattle.tcc_program.specs.Plain.{Attempt, steps, begun, end_of}
+use Rattle.tcc_program.specs.Ram.{flat}
+
+abbrev pub steps_at : Loaded → CoreState → Store → ℕ → Option Attempt
+steps_at l c s k = steps l.settings.base (program l.settings l.image) k (begun (local_of c.regs c.pc) (flat s.ram))
+
+pub record Transacts (l : Loaded) (old new : CoreState) (before after : Store) (n : ℕ) (d : Done) : Type 0 where
+  pub attempt : Attempt
+  pub runs : old.ended ≡ Run
+  pub does : steps_at l old before n ≡ Some attempt
+  pub ends : end_of attempt.outcome ≡ Some new.ended
+  pub local : local_of new.regs new.pc ≡ attempt.local
+  pub prints : new.console ≡ old.console ++ attempt.console
+  pub ram : flat after.ram ≡ attempt.ram
+  pub loads : d.loads ≡ attempt.loads
+  pub stores : d.stores ≡ attempt.stores
+  pub console : d.console ≡ attempt.console
