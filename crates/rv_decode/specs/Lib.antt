@@ -1,0 +1,5 @@
+pub mod Bits
+pub mod Codes
+pub mod Decoding
+pub mod Formats
+pub mod Table

@@ -1,0 +1,16 @@
+// The instructions of RV32IM: the table of their encodings, and decoding and encoding, which are that table both ways.
+#![tactic(auto)]
+
+mod decoding;
+mod encoding;
+mod fields;
+mod formats;
+mod instruction;
+mod laws;
+#[cfg(test)]
+mod tests;
+
+pub use decoding::decode;
+pub use encoding::encode;
+pub use instruction::{Cond, ImmOp, Inst, LoadKind, RegOp};
+pub use laws::table_is_a_function_of_the_word;
