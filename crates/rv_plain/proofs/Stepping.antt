@@ -2,10 +2,13 @@
 use Rattle.std.proofs.Common.{ℕ, ◌≡◌, List, Option, Some, None, refl, sym, ◌∙◌, ap}
 use Rattle.rv_plain.specs.Attempts.{alone}
 use Rattle.rv_plain.specs.Buffered.{Buffered, buffered, buffered_step}
-use Rattle.rv_plain.specs.Five.{decoded, planned}
+use Rattle.rv_decode.specs.Decoding.{decoded}
+use Rattle.rv_exec.specs.Effects.{planned}
 use Rattle.rv_plain.specs.Image.{fetched}
-use Rattle.rv_plain.specs.Machine.{program, bounded, Finds, Fails, need_of_word, after_word, need_of_inst, after_inst}
-use Rattle.rv_plain.specs.declared.five.Inst.{Inst}
+use Rattle.rv_exec.specs.Running as rv32im
+use Rattle.rv_exec.specs.Running.{bounded, need_of_word, after_word}
+use Rattle.rv_plain.specs.Machine.{program, in_ram, Finds, Fails}
+use Rattle.rv_decode.specs.declared.instruction.Inst.{Inst}
 use Rattle.tcc_base.specs.Settings.{Settings}
 use Rattle.tcc_base.specs.declared.access.Size.TheVariants.{Word}
 use Rattle.tcc_program.specs.Plain.{Trapped}
@@ -24,30 +27,31 @@ buffered-after base p q b h Ends = rw (h None) refl
 buffered-after base p q b h (Halts code) = refl
 buffered-after base p q b h (Traps code) = refl
 
-found-need : (s : Settings) (regs : List ℕ) (f : Option ℕ) (inst : Inst) → Finds f inst
-    → need_of_word s regs f ≡ bounded s (planned inst regs)
-found-need s regs None inst h = absurd h
-found-need s regs (Some w) inst h = rw h refl
+found-need : (s : Settings) (l : Local) (f : Option ℕ) (inst : Inst) → Finds f inst
+    → need_of_word (in_ram s) l f ≡ bounded (in_ram s) (planned inst l.regs l.pc)
+found-need s l None inst h = absurd h
+found-need s l (Some w) inst h = rw h refl
 
 found-after : (l : Local) (x f : Option ℕ) (inst : Inst) → Finds f inst → after_word l x f ≡ (alone inst).after l x
 found-after l x None inst h = absurd h
 found-after l x (Some w) inst h = rw h refl
 
-failed-need : (s : Settings) (regs : List ℕ) (f : Option ℕ) (trap : ℕ) → Fails f trap → need_of_word s regs f ≡ Traps trap
-failed-need s regs None trap h = rw h refl
-failed-need s regs (Some w) trap h = rw (h.1, h.0) refl
+failed-need : (s : Settings) (l : Local) (f : Option ℕ) (trap : ℕ) → Fails f trap → need_of_word (in_ram s) l f ≡ Traps trap
+failed-need s l None trap h = rw h refl
+failed-need s l (Some w) trap h = rw (h.1, h.0) refl
 
 pub buffered_step-found : (s : Settings) (image : List ℕ) (b : Buffered) (inst : Inst)
     → Finds (fetched s.base image b.local.pc) inst
-    → buffered_step s.base (program s image) b ≡ buffered s.base (alone inst) b (bounded s (planned inst b.local.regs))
-unfolding buffered_step program
+    → buffered_step s.base (program s image) b
+    ≡ buffered s.base (alone inst) b (bounded (in_ram s) (planned inst b.local.regs b.local.pc))
+unfolding buffered_step program rv32im.program
 buffered_step-found s image b inst h =
-    rw (found-need s b.local.regs (fetched s.base image b.local.pc) inst h)
+    rw (found-need s b.local (fetched s.base image b.local.pc) inst h)
     (buffered-after s.base (program s image) (alone inst) b (λ x. found-after b.local x (fetched s.base image b.local.pc) inst h)
-    (bounded s (planned inst b.local.regs)))
+    (bounded (in_ram s) (planned inst b.local.regs b.local.pc)))
 
 pub buffered_step-failed : (s : Settings) (image : List ℕ) (b : Buffered) (trap : ℕ)
     → Fails (fetched s.base image b.local.pc) trap
     → buffered_step s.base (program s image) b ≡ record b { outcome = Trapped trap }
-unfolding buffered_step program
-buffered_step-failed s image b trap h = rw (failed-need s b.local.regs (fetched s.base image b.local.pc) trap h) refl
+unfolding buffered_step program rv32im.program
+buffered_step-failed s image b trap h = rw (failed-need s b.local (fetched s.base image b.local.pc) trap h) refl

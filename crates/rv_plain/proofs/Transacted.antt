@@ -6,7 +6,7 @@ use Rattle.rv_plain.specs.Buffered.{plain_view, seen}
 use Rattle.rv_plain.specs.Cores.{core_of, no_state}
 use Rattle.rv_plain.specs.Endings.{IsCoreFault}
 use Rattle.rv_plain.specs.Loaded.{Loaded}
-use Rattle.rv_plain.specs.Needs.{local_of}
+use Rattle.rv_exec.specs.Needs.{local_of}
 use Rattle.rv_plain.specs.PlainState.{PlainState, plain_of, Did, IsPlainFault}
 use Rattle.rv_plain.specs.Store.{Store, buffer_of}
 use Rattle.rv_plain.specs.Transacts.{Transacts, steps_at}
@@ -59,18 +59,20 @@ cores-put cores c new to is lt j = grind (arith, common_steps)
 pub did-transacts : (l : Loaded) (cores : List CoreState) (before : Store) (c n : ℕ) (new : CoreState) (after : Store) (d : Done)
     → c < length cores → Transacts l (slice_index_or cores c no_state) new before after n d
     → Did (record { loaded = l; ram = before.ram; cores = cores }) c n
-        (record { loaded = l; ram = after.ram; cores = slice_set cores c new }) d
+    (record { loaded = l; ram = after.ram; cores = slice_set cores c new }) d
 unfolding plain_of transaction closed
 did-transacts l cores before c n new after d lt t =
     rw (t.runs, t.does, t.ends) (
-        λ i. record {
-            ram = t.ram i;
-            cores = λ j. (cores-put cores c new
-                (record { local = t.attempt.local; ended = new.ended; console = (slice_index_or cores c no_state).console ++ t.attempt.console })
-                (λ k. record { local = t.local k; ended = new.ended; console = t.prints k }) lt j) i
-          },
-        t.loads, t.stores, t.console
-      )
+      λ i. record {
+        ram = t.ram i;
+        cores = λ j. (cores-put cores c new
+            (record { local = t.attempt.local; ended = new.ended; console = (slice_index_or cores c no_state).console ++ t.attempt.console })
+            (λ k. record { local = t.local k; ended = new.ended; console = t.prints k }) lt j) i;
+      },
+      t.loads,
+      t.stores,
+      t.console,
+    )
 
 pub did-if : (l : Loaded) (cores after_cores : List CoreState) (before after : Store) (c n : ℕ) (r : Result Done PlainFault)
     → c < length cores

@@ -1,15 +1,15 @@
 -- What the code's attempt stands for, and what it asks of memory.
 use Rattle.std.specs.Prelude.{ℕ, List, [], Option, ◌+◌, ◌%◌, ◌≤◌, ◌≡◌}
 use Rattle.rv_plain.specs.Buffered.{Buffered}
-use Rattle.rv_plain.specs.Five.{finished}
-use Rattle.rv_plain.specs.Needs.{local_of}
+use Rattle.rv_exec.specs.Effects.{finished}
+use Rattle.rv_exec.specs.Needs.{local_of}
 use Rattle.rv_plain.specs.Store.{Store, buffer_of}
 use Rattle.rv_plain.specs.declared.attempt.Attempt.{Attempt}
 use Rattle.rv_plain.specs.declared.attempt.Outcome.{Outcome as CodeOutcome}
 use Rattle.rv_plain.specs.declared.attempt.Outcome.TheVariants as code
-use Rattle.rv_plain.specs.declared.five.Inst.{Inst}
-use Rattle.rv_plain.specs.declared.five.Need.{Need as CodeNeed}
-use Rattle.rv_plain.specs.declared.five.Need.TheVariants as need
+use Rattle.rv_decode.specs.declared.instruction.Inst.{Inst}
+use Rattle.rv_exec.specs.declared.need.Need.{Need as CodeNeed}
+use Rattle.rv_exec.specs.declared.need.Need.TheVariants as need
 use Rattle.tcc_base.specs.Bytes.{bytes_of}
 use Rattle.tcc_base.specs.declared.access.Size.{Size}
 use Rattle.tcc_program.specs.Plain.{Outcome, Goes, Ended, Halted, Trapped}
@@ -50,13 +50,3 @@ IsServed base ram (need.Console byte) = Unit {0}
 IsServed base ram need.End = Unit {0}
 IsServed base ram (need.Halt c) = Unit {0}
 IsServed base ram (need.Trap c) = Unit {0}
-
--- a planned store is aligned
-abbrev pub IsAligned : CodeNeed → Type 0
-IsAligned need.Nothing = Unit {0}
-IsAligned (need.Load addr size) = Unit {0}
-IsAligned (need.Store addr size value) = addr % bytes_of size ≡ 0
-IsAligned (need.Console byte) = Unit {0}
-IsAligned need.End = Unit {0}
-IsAligned (need.Halt c) = Unit {0}
-IsAligned (need.Trap c) = Unit {0}

@@ -1,6 +1,6 @@
 -- What the code's core stands for between two transactions.
 use Rattle.std.specs.Prelude.{[]}
-use Rattle.rv_plain.specs.Needs.{local_of}
+use Rattle.rv_exec.specs.Needs.{local_of}
 use Rattle.rv_plain.specs.declared.plain.CoreState.{CoreState}
 use Rattle.tcc_base.specs.declared.access.CoreEnd.TheVariants.{Halt}
 use Rattle.tcc_program.specs.Plain.{PlainCore}

@@ -2,11 +2,9 @@ pub mod Attempts
 pub mod Buffered
 pub mod Cores
 pub mod Endings
-pub mod Five
 pub mod Image
 pub mod Loaded
 pub mod Machine
-pub mod Needs
 pub mod PlainState
 pub mod Store
 pub mod Transacts

@@ -2,7 +2,7 @@
 use Rattle.std.specs.Prelude.{ℕ, ◌++◌, ◌≡◌, Option, Some}
 use Rattle.rv_plain.specs.Loaded.{Loaded}
 use Rattle.rv_plain.specs.Machine.{program}
-use Rattle.rv_plain.specs.Needs.{local_of}
+use Rattle.rv_exec.specs.Needs.{local_of}
 use Rattle.rv_plain.specs.Store.{Store}
 use Rattle.rv_plain.specs.declared.plain.CoreState.{CoreState}
 use Rattle.rv_plain.specs.declared.plain.Done.{Done}

@@ -1,17 +1,19 @@
 // A transaction on its way: the registers and pc as they are now, what it loaded, stored and printed so far.
 ghost use Rattle.std.specs.Prelude.{◌≡◌, ℕ, ◌+◌, ◌-◌, ◌*◌, ◌^◌, ◌<◌, IfOk, IfErr, OnErr, OnOk, Some, length, [], ◌↔◌, IsTrue, IsFalse};
 ghost use Rattle.rv_plain.specs.Buffered.{buffered, buffered_step, plain_view};
-ghost use Rattle.rv_plain.specs.Five.{finished, planned};
-ghost use Rattle.rv_plain.specs.Machine.{program, bounded};
-ghost use Rattle.rv_plain.specs.Needs.{need_of, local_of};
+ghost use Rattle.rv_exec.specs.Effects.{finished, planned};
+ghost use Rattle.rv_exec.specs.Running.{bounded};
+ghost use Rattle.rv_plain.specs.Machine.{program, in_ram};
+ghost use Rattle.rv_exec.specs.Needs.{need_of, local_of};
 ghost use Rattle.tcc_program.specs.Plain.{steps, end_of};
 
 use crate::bytes;
 use crate::code::Code;
-use crate::five::{Inst, Need, decode, finish, plan};
 use crate::memory::Memory;
 use crate::plain::PlainFault;
 use reg_checkpoint::Regs;
+use rv_decode::Inst;
+use rv_exec::{Need, finish, plan};
 use std::alloc::Global;
 use tcc_base::{CoreEnd, List, Load, NoMemory, Size, Stored};
 
@@ -93,7 +95,7 @@ impl Attempt {
           pc = (finished inst.now self.old.regs self.old.pc loaded).pc;
         } }
     {
-        let next = finish(inst, &self.regs, self.pc, loaded);
+        let next = finish(*inst, &self.regs, self.pc, loaded);
         self.regs = next.regs;
         self.pc = next.pc;
     }
@@ -119,7 +121,7 @@ impl Attempt {
         Ok(Outcome::Goes)
     }
 
-    #[tactic(auto, unfolding(crate::specs::Attempts::attempt_of, crate::specs::Five::finished, tcc_program::specs::Ram::word_of))]
+    #[tactic(auto, unfolding(crate::specs::Attempts::attempt_of, rv_exec::specs::Effects::finished, tcc_program::specs::Ram::word_of))]
     fn store(
         &mut self,
         memory: &mut Memory,
@@ -152,7 +154,7 @@ impl Attempt {
         }
     }
 
-    #[tactic(auto, unfolding(crate::specs::Attempts::attempt_of, crate::specs::Five::finished))]
+    #[tactic(auto, unfolding(crate::specs::Attempts::attempt_of, rv_exec::specs::Effects::finished))]
     fn act(
         &mut self,
         memory: &mut Memory,
@@ -264,14 +266,14 @@ impl Attempt {
         requires { 4 * length memory.old.ram ≡ code.now.settings.ram }
         ensures does { IfOk result (λ o. attempt_of self.new memory.new o
             ≡ buffered code.now.settings.base (alone inst.now) (attempt_of self.old memory.old Outcome.Goes)
-            (bounded code.now.settings (planned inst.now self.old.regs))) }
+            (bounded (in_ram code.now.settings) (planned inst.now self.old.regs self.old.pc))) }
         ensures n { self.new.n ≡ self.old.n }
         ensures ram { memory.new.ram ≡ memory.old.ram }
         ensures unchanged { OnErr result (self.new ≡ self.old) }
         ensures memory_unchanged { OnErr result (memory.new ≡ memory.old) }
     {
         let base = code.config().base();
-        let need = code.bounded(plan(inst, &self.regs));
+        let need = code.bounded(plan(*inst, &self.regs, self.pc));
         self.act(memory, base, inst, need)
     }
 }

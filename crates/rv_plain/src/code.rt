@@ -1,12 +1,14 @@
 // A machine's program as it was loaded: what is fetched at an address, and what the instruction there needs.
 ghost use Rattle.std.specs.Prelude.{◌≡◌, ℕ, ◌≤◌, IfOk, length, MatchResult};
-ghost use Rattle.rv_plain.specs.Attempts.{IsServed, IsAligned};
-ghost use Rattle.rv_plain.specs.Machine.{bounded, Finds, Fails};
-ghost use Rattle.rv_plain.specs.Needs.{need_of};
+ghost use Rattle.rv_plain.specs.Attempts.{IsServed};
+ghost use Rattle.rv_exec.specs.Running.{bounded};
+ghost use Rattle.rv_plain.specs.Machine.{in_ram, Finds, Fails};
+ghost use Rattle.rv_exec.specs.Needs.{need_of, IsPlanned};
 ghost use Rattle.rv_plain.specs.Image.{fetched, image_word};
 
 use crate::bytes;
-use crate::five::{Inst, Need, decode};
+use rv_decode::{Inst, decode};
+use rv_exec::Need;
 use std::alloc::Global;
 use std::marker::Model;
 use tcc_base::{Config, NoMemory};
@@ -89,9 +91,10 @@ impl Code {
     }
 
     /// The need, or the trap of an access outside RAM: 5 for a load, 7 for a store. Takes no memory.
+    #[tactic(auto, unfolding(crate::specs::Machine::in_ram))]
     pub fn bounded(&self, need: Need) -> Need
-        requires { IsAligned need }
-        ensures need { need_of result ≡ bounded self.now.settings (need_of need) }
+        requires { IsPlanned need }
+        ensures need { need_of result ≡ bounded (in_ram self.now.settings) (need_of need) }
         ensures served { IsServed self.now.settings.base self.now.settings.ram result }
     {
         match need {

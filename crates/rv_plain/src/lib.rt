@@ -4,12 +4,10 @@
 mod attempt;
 mod bytes;
 mod code;
-mod five;
 mod memory;
 mod plain;
 
 pub use attempt::{Attempt, Outcome};
 pub use code::Code;
-pub use five::{Inst, Need, Next, decode, finish, plan};
 pub use memory::Memory;
 pub use plain::{CoreState, Done, Order, Plain, PlainFault, SerialFault};
