@@ -3,3 +3,6 @@ pub mod Ordered
 pub mod Useful
 pub mod Done
 pub mod Tids
+pub mod Mailed
+pub mod LocalStep
+pub mod Merged

@@ -7,13 +7,8 @@ use Rattle.tcc_rules.specs.State.{World, Link, start}
 use Rattle.tcc_rules.specs.Links.{in_flight, sent_all, taking}
 use Rattle.tcc_rules.specs.Step.{Stepped, step, run}
 use Rattle.tcc_rules.specs.Seen.{IsDone}
+use Rattle.tcc_rules.specs.Local.{at_node}
 use Rattle.tcc_rules.specs.Useful.{is_useful, useful, before}
-
--- the node at which an event happens
-abbrev pub place_of : Event → Node
-place_of (Exec c) = Core c
-place_of (Evict c x y) = Core c
-place_of (Deliver src dst k) = dst
 
 -- a link after an event: as it was, with what the node sent at its end; only the node's own links grow
 abbrev pub Grows : (at src : Node) → (old new : Link) → Type 0
@@ -29,9 +24,9 @@ OnLinks w (Deliver src dst k) v =
 
 -- no other node's state changes, a message that is consumed was in flight, and each link grows at its end alone
 pub record ActsOnOne (w : World) (e : Event) (v : World) : Type 0 where
-  pub cores : (c : ℕ) → node_eq (place_of e) (Core c) ≡ false → v.cores c ≡ w.cores c
-  pub dirs : (d : ℕ) → node_eq (place_of e) (Dir d) ≡ false → v.dirs d ≡ w.dirs d
-  pub vendor : node_eq (place_of e) Vendor ≡ false → v.next ≡ w.next
+  pub cores : (c : ℕ) → node_eq (at_node e) (Core c) ≡ false → v.cores c ≡ w.cores c
+  pub dirs : (d : ℕ) → node_eq (at_node e) (Dir d) ≡ false → v.dirs d ≡ w.dirs d
+  pub vendor : node_eq (at_node e) Vendor ≡ false → v.next ≡ w.next
   pub links : OnLinks w e v
 
 abbrev pub StepsActOnOne : Type 0

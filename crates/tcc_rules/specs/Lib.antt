@@ -17,3 +17,5 @@ pub mod Small
 pub mod Rows
 pub mod Schedules
 pub mod Laws
+pub mod Local
+pub mod Merged

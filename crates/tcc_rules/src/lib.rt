@@ -3,6 +3,7 @@
 #![tactic(auto)]
 
 ghost use Rattle.tcc_rules.specs.Laws.{StepsActOnOne, UsefulHolds, UsefulOrdered, NotBeforeItself, UsefulEnabled, DoneUseless, TidsCount};
+ghost use Rattle.tcc_rules.specs.Merged.{MergedRuns};
 ghost use Rattle.tcc_rules.specs.Picked.{picked};
 ghost use Rattle.tcc_rules.specs.Schedules.{TwoTids, TwoTidsMore, ReaderWaits, ProbeWaits, OverARead, DoomedAttempt, BeforeTheFill, OverADirtyOwner, WriteBackWaits};
 
@@ -38,4 +39,10 @@ pub fn useful_events_are_listed()
 /// The TIDs that the vendor gives in a run are 1, 2, 3 and so on.
 pub fn tids_count_from_one()
     ensures { TidsCount }
+{}
+
+/// Logs that fit, one for each node, sorted by stamp and then by node, are a run of the machine, and each node ends as its
+/// own log leaves it.
+pub fn logs_that_fit_are_a_run()
+    ensures { MergedRuns }
 {}
