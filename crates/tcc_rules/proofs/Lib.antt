@@ -6,3 +6,4 @@ pub mod Tids
 pub mod Mailed
 pub mod LocalStep
 pub mod Merged
+pub mod Picked

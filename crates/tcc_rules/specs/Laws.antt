@@ -1,13 +1,14 @@
 -- What is proved of the rules by themselves: each statement is the contract of an empty function of this crate.
-use Rattle.std.specs.Prelude.{ℕ, suc, zero, ◌+◌, ◌-◌, ◌≡◌, ◌↔◌, ◌⊎◌, true, false, List, [], ◌∷◌, ◌++◌, length, drop, Option, Some, None, IfSome, IsSome}
+use Rattle.std.specs.Prelude.{◌≤◌, ◌<◌, ℕ, suc, zero, ◌+◌, ◌-◌, ◌≡◌, ◌↔◌, ◌⊎◌, true, false, List, [], ◌∷◌, ◌++◌, length, drop, Option, Some, None, IfSome, IsSome}
 use Rattle.tcc_program.specs.Program.{Local, Program}
 use Rattle.tcc_maps.specs.Nodes.{Node, Core, Dir, Vendor, Msg, TidGrant, Event, Exec, Evict, Deliver, node_eq}
 use Rattle.tcc_maps.specs.Shape.{Shape}
 use Rattle.tcc_rules.specs.State.{World, Link, start}
 use Rattle.tcc_rules.specs.Links.{in_flight, sent_all, taking}
-use Rattle.tcc_rules.specs.Step.{Stepped, step, run}
+use Rattle.tcc_rules.specs.Step.{Stepped, History, step, run}
 use Rattle.tcc_rules.specs.Seen.{IsDone}
 use Rattle.tcc_rules.specs.Local.{at_node}
+use Rattle.tcc_rules.specs.Picked.{picked}
 use Rattle.tcc_rules.specs.Useful.{is_useful, useful, before}
 
 -- a link after an event: as it was, with what the node sent at its end; only the node's own links grow
@@ -101,3 +102,15 @@ counting a (suc n) = a ∷ counting (a + 1) n
 abbrev pub TidsCount : Type 0
 TidsCount = (sh : Shape) (p : Program) (entries : ℕ → Local) (ram : ℕ → ℕ) (es : List Event) →
     IfSome (run sh p (start entries ram) es) (λ h. given sh p es (start entries ram) ≡ counting 1 (h.world.next - 1))
+
+-- the state at the end of a list of events
+abbrev pub EndsUseless : Shape → Program → Option History → Type 0
+EndsUseless sh p o = IfSome o (λ h. useful sh p h.world ≡ [])
+
+-- what is picked is a run, of as many events as there are words or of fewer where no event is useful at its end
+abbrev pub PickedRuns : Type 0
+PickedRuns = (sh : Shape) (p : Program) (rs : List ℕ) (w : World) → IsSome (run sh p w (picked sh p rs w))
+
+abbrev pub PickedEnds : Type 0
+PickedEnds = (sh : Shape) (p : Program) (rs : List ℕ) (w : World) →
+    (length (picked sh p rs w) ≤ length rs) × (length (picked sh p rs w) < length rs → EndsUseless sh p (run sh p w (picked sh p rs w)))

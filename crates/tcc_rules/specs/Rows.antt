@@ -40,6 +40,10 @@ v = Vendor
 abbrev pub machine : (dirs : ℕ) → Shape
 machine n = record { cores = 2; dirs = n; sets = 16; ways = 2; base = ram_base; ram = 512 }
 
+-- caches of a single frame
+abbrev pub small_machine : Shape
+small_machine = record { cores = 2; dirs = 2; sets = 1; ways = 1; base = ram_base; ram = 512 }
+
 -- what an image holds, its words and its instructions
 pub record Image : Type 0 where
   pub words : List ℕ
@@ -57,6 +61,13 @@ abbrev pub stores_second : Image
 stores_second = record {
   words = 0x80000337 ∷ 0x06b32023 ∷ 0x00000073 ∷ [];
   code = Some (Lui 6 0x80000000) ∷ Some (Sw 11 6 96) ∷ Some Ecall ∷ [];
+}
+
+-- lui x6; sw x11,64(x6); sw x11,96(x6); ecall
+abbrev pub stores_both : Image
+stores_both = record {
+  words = 0x80000337 ∷ 0x04b32023 ∷ 0x06b32023 ∷ 0x00000073 ∷ [];
+  code = Some (Lui 6 0x80000000) ∷ Some (Sw 11 6 64) ∷ Some (Sw 11 6 96) ∷ Some Ecall ∷ [];
 }
 
 -- lui x6; lw x5,96(x6); sw x5,64(x6); ecall
@@ -151,7 +162,7 @@ report sh ram h = record {
 }
 
 -- the report after these events, where each was enabled
-unfoldable pub replayed : (dirs : ℕ) → Image → Image → List Event → Option Report
-replayed dirs a b es = option_map
-    (report (machine dirs) (flat (both_words a b)))
-    (run (machine dirs) (small (both_code a b)) (start entries (flat (both_words a b))) es)
+unfoldable pub replayed : Shape → Image → Image → List Event → Option Report
+replayed sh a b es = option_map
+    (report sh (flat (both_words a b)))
+    (run sh (small (both_code a b)) (start entries (flat (both_words a b))) es)

@@ -2,10 +2,9 @@
 //! over them. The functions here have no body: the contract of each is a law of these definitions.
 #![tactic(auto)]
 
-ghost use Rattle.tcc_rules.specs.Laws.{StepsActOnOne, UsefulHolds, UsefulOrdered, NotBeforeItself, UsefulEnabled, DoneUseless, TidsCount};
+ghost use Rattle.tcc_rules.specs.Laws.{StepsActOnOne, UsefulHolds, UsefulOrdered, NotBeforeItself, UsefulEnabled, DoneUseless, TidsCount, PickedRuns, PickedEnds};
 ghost use Rattle.tcc_rules.specs.Merged.{MergedRuns};
-ghost use Rattle.tcc_rules.specs.Picked.{picked};
-ghost use Rattle.tcc_rules.specs.Schedules.{TwoTids, TwoTidsMore, ReaderWaits, ProbeWaits, OverARead, DoomedAttempt, BeforeTheFill, OverADirtyOwner, WriteBackWaits};
+ghost use Rattle.tcc_rules.specs.Schedules.{TwoTids, TwoTidsMore, ReaderWaits, ProbeWaits, OverARead, DoomedAttempt, BeforeTheFill, OverADirtyOwner, WriteBackWaits, AloneAfterOverflow};
 
 /// The schedules that were worked by hand end as they must: the commits with their loads, the committed registers and
 /// the words that are seen; and an event that must wait is not enabled where it comes.
@@ -19,6 +18,7 @@ pub fn worked_schedules()
     ensures before_the_fill { BeforeTheFill }
     ensures over_a_dirty_owner { OverADirtyOwner }
     ensures write_back_waits { WriteBackWaits }
+    ensures alone_after_overflow { AloneAfterOverflow }
 {}
 
 /// An event acts on one node: no other node's state changes, a message that is consumed was in flight, and each link only
@@ -45,4 +45,10 @@ pub fn tids_count_from_one()
 /// own log leaves it.
 pub fn logs_that_fit_are_a_run()
     ensures { MergedRuns }
+{}
+
+/// What a chooser picks is a run: each event is useful where it comes, one for each random word until none is useful.
+pub fn a_picked_schedule_is_a_run()
+    ensures runs { PickedRuns }
+    ensures ends { PickedEnds }
 {}
