@@ -1,0 +1,9 @@
+pub mod Acts
+pub mod Ordered
+pub mod Useful
+pub mod Done
+pub mod Tids
+pub mod Mailed
+pub mod LocalStep
+pub mod Merged
+pub mod Picked
