@@ -1,0 +1,121 @@
+-- What is proved of these maps: each statement is the contract of an empty function of this crate.
+use Rattle.std.specs.Prelude.{ℕ, if◌then◌else◌, ◌^◌, ◌<◌, ◌≡◌, ◌↔◌, Bool, true, false, not, ◌&&◌, ◌||◌, ◌==◌, List, Option, Some, Contains, AllPairs, MatchOption, length, get_or}
+use Rattle.tcc_maps.specs.Shape.{Shape}
+use Rattle.tcc_maps.specs.Cache.{Cache, IsCache, empty_cache, modified_mask}
+use Rattle.tcc_maps.specs.CacheChange.{marked, stored, placed, filled, invalidated, cleaned, evicted, rolled_back, read_cleared, committed, word_dropped, words_dropped}
+use Rattle.tcc_maps.specs.CacheLook.{look_load, Hit}
+use Rattle.tcc_maps.specs.Spilled.{Spilled, spill, spill_line}
+use Rattle.tcc_maps.specs.Lines.{Lines, with_mark}
+use Rattle.tcc_maps.specs.Words.{line_of, place_of, those, count_below, any_below, all_below, lowest}
+use Rattle.tcc_maps.specs.Masks.{has, mask_of, minus, meet, join}
+use Rattle.tcc_maps.specs.Serving.{Serving, advance, kept, is_skipped, first_serving}
+use Rattle.tcc_maps.specs.Judge.{judge, Takes, Waits}
+
+-- a mask made from a set of places holds exactly these, and a mask is made from its own places
+abbrev pub MaskHolds : Type 0
+MaskHolds = (p : ℕ → Bool) (k : ℕ) → k < 8 → has (mask_of p) k ≡ p k
+
+abbrev pub MaskOfItself : Type 0
+MaskOfItself = (m : ℕ) → m < 256 → mask_of (has m) ≡ m
+
+abbrev pub MaskSmall : Type 0
+MaskSmall = (p : ℕ → Bool) → mask_of p < 256
+
+abbrev pub HasMinus : Type 0
+HasMinus = (m n k : ℕ) → has (minus m n) k ≡ has m k && not (has n k)
+
+abbrev pub HasMeet : Type 0
+HasMeet = (m n k : ℕ) → has (meet m n) k ≡ has m k && has n k
+
+abbrev pub HasJoin : Type 0
+HasJoin = (m n k : ℕ) → has (join m n) k ≡ has m k || has n k
+
+-- the served TID rises, past TIDs that were skipped alone, to one that wasn't, and the skips above it stay
+abbrev pub AdvanceRises : Type 0
+AdvanceRises = (s : Serving) → s.serving < (advance s).serving
+
+abbrev pub AdvancePast : Type 0
+AdvancePast = (s : Serving) (t : ℕ) → s.serving < t → t < (advance s).serving → is_skipped s t ≡ true
+
+abbrev pub AdvanceStops : Type 0
+AdvanceStops = (s : Serving) → is_skipped s (advance s).serving ≡ false
+
+abbrev pub AdvanceKeeps : Type 0
+AdvanceKeeps = (s : Serving) (t : ℕ) → (advance s).serving < t → is_skipped (advance s) t ≡ is_skipped s t
+
+-- a larger TID that is kept is one more skip
+abbrev pub KeptSkips : Type 0
+KeptSkips = (t : ℕ) (s : Serving) (u : ℕ) → s.serving < t → is_skipped (kept t s) u ≡ (u == t) || is_skipped s u
+
+abbrev pub FirstSkips : Type 0
+FirstSkips = (t : ℕ) → is_skipped first_serving t ≡ false
+
+-- each change of a cache keeps what holds of every cache
+pub record ChangesKeep (sh : Shape) (c : Cache) : Type 0 where
+  pub marks : (w : ℕ) → c.held (line_of w) ≡ true → IsCache sh (marked w c)
+  pub stores : (w x : ℕ) (also : Bool) → c.held (line_of w) ≡ true → IsCache sh (stored w x also c)
+  pub places : (l : ℕ) → c.held l ≡ false → IsCache sh (placed sh l c)
+  pub fills : (l : ℕ) (ws : List ℕ) → c.held l ≡ true → IsCache sh (filled l ws c)
+  pub invalidates : (l m : ℕ) → IsCache sh (invalidated l m c)
+  pub cleans : (l : ℕ) → IsCache sh (cleaned l c)
+  pub evicts : (s y : ℕ) → IsCache sh (evicted s y c)
+  pub rolls_back : IsCache sh (rolled_back c)
+  pub clears_read : IsCache sh (read_cleared c)
+  pub commits : (t : ℕ) → IsCache sh (committed t c)
+  pub drops_word : (w : ℕ) → IsCache sh (word_dropped w c)
+  pub drops_words : (f : ℕ → Option ℕ) → IsCache sh (words_dropped f c)
+
+abbrev pub CachesKeep : Type 0
+CachesKeep = (sh : Shape) (c : Cache) → IsCache sh c → ChangesKeep sh c
+
+abbrev pub CacheBegins : Type 0
+CacheBegins = (sh : Shape) → IsCache sh empty_cache
+
+-- the list of the numbers that pass a test holds exactly these, each before all larger ones
+abbrev pub ThoseHold : Type 0
+ThoseHold = (p : ℕ → Bool) (n k : ℕ) → Contains (those p n) k ↔ (k < n) × (p k ≡ true)
+
+abbrev pub ThoseRise : Type 0
+ThoseRise = (p : ℕ → Bool) (n : ℕ) → AllPairs (λ x y. x < y) (those p n)
+
+abbrev pub ThoseCount : Type 0
+ThoseCount = (p : ℕ → Bool) (n : ℕ) → length (those p n) ≡ count_below p n
+
+-- the three tests over numbers
+abbrev pub AnyBelow : Type 0
+AnyBelow = (p : ℕ → Bool) (n : ℕ) → (any_below p n ≡ true) ↔ ((k : ℕ) × (k < n) × (p k ≡ true))
+
+abbrev pub AllBelow : Type 0
+AllBelow = (p : ℕ → Bool) (n : ℕ) → (all_below p n ≡ true) ↔ ((k : ℕ) → k < n → p k ≡ true)
+
+abbrev pub LowestBelow : Type 0
+LowestBelow = (p : ℕ → Bool) (n : ℕ) → MatchOption (lowest p n) ((k : ℕ) → k < n → p k ≡ false) (λ k. (k < n) × (p k ≡ true) × ((j : ℕ) → j < k → p j ≡ false))
+
+-- what a directory does with words that come home
+abbrev pub JudgesWaits : Type 0
+JudgesWaits = (owner : Option ℕ) (tag from back : ℕ) → (judge owner tag from back ≡ Waits) ↔ (tag < back)
+
+abbrev pub JudgesTakes : Type 0
+JudgesTakes = (owner : Option ℕ) (tag from back : ℕ) → (judge owner tag from back ≡ Takes) ↔ ((back ≡ tag) × (owner ≡ Some from))
+
+abbrev pub HasPow : Type 0
+HasPow = (k j : ℕ) → has (2 ^ k) j ≡ (j == k)
+
+abbrev pub HasZero : Type 0
+HasZero = (k : ℕ) → has 0 k ≡ false
+
+-- after a roll back there is nothing to commit
+abbrev pub NothingLeft : Type 0
+NothingLeft = (t w : ℕ) (c : Cache) → (committed t (rolled_back c)).dirty w ≡ c.dirty w
+
+-- a word is hit exactly where it is valid, with its value
+abbrev pub HitsValid : Type 0
+HitsValid = (sh : Shape) (w x : ℕ) (c : Cache) → (look_load sh w c ≡ Hit x) ↔ (c.value w ≡ Some x)
+
+-- to empty a frame spills its modified words with the values that they have there
+abbrev pub SpillsModified : Type 0
+SpillsModified = (l : ℕ) (c : Cache) (ws : List ℕ) (sp : Spilled) (w : ℕ) → ((v : ℕ) → l ≡ line_of v → c.modified v ≡ true → c.value v ≡ Some (get_or ws (place_of v) 0)) → spill l (modified_mask c l) ws sp w ≡ spill_line l c sp w
+
+-- a line's mark is what was set last, and all others stay
+abbrev pub MarksOneLine : Type 0
+MarksOneLine = (l m k : ℕ) (d : Lines) → (with_mark l m d).mark k ≡ (if k == l then m else d.mark k)

@@ -1,0 +1,13 @@
+pub mod Words
+pub mod Masks
+pub mod Nodes
+pub mod Shape
+pub mod Bridge
+pub mod Cache
+pub mod CacheChange
+pub mod CacheLook
+pub mod Spilled
+pub mod Serving
+pub mod Lines
+pub mod Judge
+pub mod Laws
