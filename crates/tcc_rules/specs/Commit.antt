@@ -1,0 +1,106 @@
+-- The two ways to commit: with all probed directories ready, and alone after an overflow.
+use Rattle.std.specs.Prelude.{ℕ, Bool, List, [], ◌∷◌, ◌++◌, Some, is_some, ◌==◌, ◌&&◌, ◌||◌, if◌then◌else◌}
+use Rattle.std.specs.List.{flat_map}
+use Rattle.tcc_base.specs.declared.access.Commit.{Commit as Noted}
+use Rattle.tcc_program.specs.Plain.{Outcome, Goes, Ended, Halted as HaltedWith, Trapped as TrappedWith}
+use Rattle.tcc_maps.specs.Words.{any_below, count_below, those, word_at}
+use Rattle.tcc_maps.specs.Masks.{mask_of}
+use Rattle.tcc_maps.specs.Nodes.{Msg, Skip, Mark, Commit, WriteBack}
+use Rattle.tcc_maps.specs.Shape.{Shape, home, lines}
+use Rattle.tcc_maps.specs.Cache.{Cache, is_modified, writes_at}
+use Rattle.tcc_maps.specs.CacheChange.{committed, words_dropped}
+use Rattle.tcc_maps.specs.Spilled.{Spilled, none_spilled, holds, spilled_mask, spilled_words}
+use Rattle.tcc_rules.specs.State.{CoreState, Phase, Running, Halted}
+use Rattle.tcc_rules.specs.Sends.{Sends, to_dirs, when}
+use Rattle.tcc_rules.specs.Attempt.{Out}
+
+-- what is noted of a commit
+unfoldable pub noted : (tid core : ℕ) → CoreState → Noted
+noted t id s = record {
+  tid = record { 0 = t };
+  core = record { 0 = id };
+  n = s.n;
+  loads = s.loads;
+  stores = s.stores;
+  console = s.console;
+}
+
+-- after a halt or a trap a core has halted, else it runs on
+abbrev pub phase_after : Outcome → Phase
+phase_after Goes = Running
+phase_after Ended = Running
+phase_after (HaltedWith code) = Halted
+phase_after (TrappedWith code) = Halted
+
+abbrev pub ended_after : Outcome → Outcome
+ended_after Goes = Goes
+ended_after Ended = Goes
+ended_after (HaltedWith code) = HaltedWith code
+ended_after (TrappedWith code) = TrappedWith code
+
+-- modified words are dirty with the commit's tag, marks are cleared, the checkpoint is where the core stands, and its
+-- attempt is empty
+unfoldable pub committed_core : (tid : ℕ) → CoreState → CoreState
+committed_core t s = record s {
+  cache = committed t s.cache;
+  saved = s.local;
+  n = 0;
+  loads = [];
+  stores = [];
+  console = [];
+  ended = ended_after s.ended;
+  phase = phase_after s.ended;
+}
+
+-- to each written directory how many lines were marked there
+unfoldable pub commit_sends : Shape → Cache → (tid : ℕ) → Sends
+commit_sends sh c t = to_dirs sh (λ d. when (writes_at sh c d) (Commit t (count_below (λ l. d == home sh l && is_modified c l) (lines sh)) ∷ []))
+
+-- the core's last commit at each directory
+unfoldable pub after_commit : (written : ℕ → Bool) → (tid : ℕ) → (ℕ → ℕ) → ℕ → ℕ
+after_commit written t after d = if written d then t else after d
+
+-- Commit: the commit point of a transaction whose directories all serve its TID
+unfoldable pub commit : Shape → (core tid : ℕ) → CoreState → Out
+commit sh id t s = record {
+  core = record (committed_core t s) { after = after_commit (writes_at sh s.cache) t s.after };
+  sends = commit_sends sh s.cache t;
+  commit = Some (noted t id s);
+}
+
+-- a line that a core alone has written, in a frame or spilled
+unfoldable pub is_written : Cache → Spilled → ℕ → Bool
+is_written c sp l = is_modified c l || holds sp l
+
+unfoldable pub written_mask : Cache → Spilled → ℕ → ℕ
+written_mask c sp l = mask_of (λ k. c.modified (word_at l k) || is_some (sp (word_at l k)))
+
+unfoldable pub solo_writes_at : Shape → Cache → Spilled → ℕ → Bool
+solo_writes_at sh c sp d = any_below (λ l. d == home sh l && is_written c sp l) (lines sh)
+
+-- a mark for each line and then the commit, where lines were written, else a skip
+unfoldable pub solo_marks : Shape → Cache → Spilled → (tid dir : ℕ) → List Msg
+solo_marks sh c sp t d =
+    if solo_writes_at sh c sp d
+    then flat_map (λ l. Mark l (written_mask c sp l) t ∷ []) (those (λ l. d == home sh l && is_written c sp l) (lines sh))
+    ++ Commit t (count_below (λ l. d == home sh l && is_written c sp l) (lines sh)) ∷ []
+    else Skip t ∷ []
+
+-- the spilled lines at home there, rising
+unfoldable pub solo_backs : Shape → Spilled → (tid dir : ℕ) → List Msg
+solo_backs sh sp t d = flat_map (λ l. WriteBack l (spilled_mask sp l) (spilled_words sp l) t ∷ []) (those (λ l. d == home sh l && holds sp l) (lines sh))
+
+unfoldable pub solo_sends : Shape → Cache → Spilled → (tid : ℕ) → Sends
+solo_sends sh c sp t = to_dirs sh (λ d. solo_marks sh c sp t d ++ solo_backs sh sp t d)
+
+-- Solo commit: marks, commits and the spilled words go out at once; what was spilled has no valid word in a frame
+unfoldable pub solo_commit : Shape → (core tid : ℕ) → CoreState → Out
+solo_commit sh id t s = record {
+  core = record (committed_core t s) {
+    cache = committed t (words_dropped s.spilled s.cache);
+    spilled = none_spilled;
+    after = after_commit (solo_writes_at sh s.cache s.spilled) t s.after;
+  };
+  sends = solo_sends sh s.cache s.spilled t;
+  commit = Some (noted t id s);
+}

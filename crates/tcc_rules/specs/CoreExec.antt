@@ -1,0 +1,26 @@
+-- Exec of a core, by its phase.
+use Rattle.std.specs.Prelude.{ℕ, Option, Some, None}
+use Rattle.tcc_program.specs.Program.{Program}
+use Rattle.tcc_maps.specs.Shape.{Shape}
+use Rattle.tcc_rules.specs.State.{CoreState, Awaited, Phase, Running, AwaitTid, DoomedTid, Probing, Ready, Overflowing, Solo, Halted}
+use Rattle.tcc_rules.specs.Attempt.{Out}
+use Rattle.tcc_rules.specs.Commit.{commit}
+use Rattle.tcc_rules.specs.Execute.{execute}
+
+-- a core that awaits a line executes nothing
+abbrev pub unless_awaiting : Shape → Program → (core : ℕ) → CoreState → Option Awaited → Option Out
+unless_awaiting sh p id s (Some a) = None
+unless_awaiting sh p id s None = execute sh p id s
+
+abbrev pub exec_phase : Shape → Program → (core : ℕ) → CoreState → Phase → Option Out
+exec_phase sh p id s Running = unless_awaiting sh p id s s.awaited
+exec_phase sh p id s (Solo t) = unless_awaiting sh p id s s.awaited
+exec_phase sh p id s (Ready t) = Some (commit sh id t s)
+exec_phase sh p id s AwaitTid = None
+exec_phase sh p id s DoomedTid = None
+exec_phase sh p id s (Probing t) = None
+exec_phase sh p id s (Overflowing t) = None
+exec_phase sh p id s Halted = None
+
+unfoldable pub core_exec : Shape → Program → (core : ℕ) → CoreState → Option Out
+core_exec sh p id s = exec_phase sh p id s s.phase

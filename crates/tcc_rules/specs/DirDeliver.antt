@@ -1,0 +1,159 @@
+-- What a directory does with a message from a core.
+use Rattle.std.specs.Prelude.{ℕ, zero, suc, ◌+◌, ◌-◌, Bool, true, false, not, List, [], ◌∷◌, get_or, Option, Some, None, nat_lt, nat_le, ◌==◌, ◌&&◌, ◌||◌, if◌then◌else◌}
+use Rattle.std.specs.List.{flat_map}
+use Rattle.tcc_maps.specs.Words.{count_below, those, eight, word_at, place_of}
+use Rattle.tcc_maps.specs.Masks.{hit, full}
+use Rattle.tcc_maps.specs.Nodes.{Core, Dir, Vendor, Msg, TidReq, TidGrant, LoadReq, Fill, Skip, Probe, ProbeReply, Mark, Commit, Abort, WriteBack, Flush, DataReq, Inv, InvAck}
+use Rattle.tcc_maps.specs.Shape.{Shape, lines}
+use Rattle.tcc_maps.specs.Serving.{advance, skipped, kept}
+use Rattle.tcc_maps.specs.Lines.{Lines, with_sharer, with_owner, with_asked, with_mark, unmarked, has_mark}
+use Rattle.tcc_maps.specs.Judge.{Judgement, judge, Takes as IsTaken, Drops as IsDropped, Waits as IsEarly}
+use Rattle.tcc_rules.specs.State.{DirState}
+use Rattle.tcc_rules.specs.Sends.{Sends, nothing, to}
+
+-- Waits: the delivery isn't enabled. Drops: consumed without effect. Asks: the line's owner is asked for its data, and the
+-- message stays. Takes: consumed.
+pub data Answer : Type 0 where
+  Waits : Answer
+  Drops : Answer
+  Asks : (dir : DirState) → (sends : Sends) → Answer
+  Takes : (dir : DirState) → (sends : Sends) → Answer
+
+-- the marks are cleared, and the next TID is served
+unfoldable pub moved_on : DirState → DirState
+moved_on s = record s { lines = unmarked s.lines; serving = advance s.serving }
+
+-- Skip: a larger TID is kept as skipped, the served one advances
+unfoldable pub skip : (tid : ℕ) → DirState → Answer
+skip t s = if nat_lt t s.serving.serving then Drops else Takes (record s { serving = skipped t s.serving }) nothing
+
+-- Abort: a larger TID is kept as skipped, the served one clears all marks and advances
+unfoldable pub abort : (tid : ℕ) → DirState → Answer
+abort t s =
+    if nat_lt t s.serving.serving then Drops
+    else if s.serving.serving == t then Takes (moved_on s) nothing
+    else Takes (record s { serving = kept t s.serving }) nothing
+
+-- Probe: answered once the TID is served or passed
+unfoldable pub probe : (core tid : ℕ) → DirState → Answer
+probe c t s = if nat_lt s.serving.serving t then Waits else Takes s (to (Core c) (ProbeReply t s.serving.serving ∷ []))
+
+-- the owner is asked for its data, once
+unfoldable pub ask_owner : (owner line : ℕ) → DirState → Answer
+ask_owner o l s =
+    if s.lines.asked l then Waits
+    else Asks (record s { lines = with_asked l true s.lines }) (to (Core o) (DataReq l ∷ []))
+
+-- the words of a line
+unfoldable pub line_words : DirState → ℕ → List ℕ
+line_words s l = eight (λ k. s.words (word_at l k))
+
+-- Load request: waits for the core's own last commit here and while the line is marked; a line without owner is filled
+abbrev pub load_owned : (core line : ℕ) → DirState → Option ℕ → Answer
+load_owned c l s (Some o) = ask_owner o l s
+load_owned c l s None = Takes (record s { lines = with_sharer l c true s.lines }) (to (Core c) (Fill l (line_words s l) ∷ []))
+
+unfoldable pub load_request : (core line after : ℕ) → DirState → Answer
+load_request c l after s =
+    if nat_le s.serving.serving after || has_mark s.lines l then Waits
+    else load_owned c l s (s.lines.owner l)
+
+-- Mark: by the served TID; a line that is owned and not wholly overwritten is asked for first
+abbrev pub marking : (line mask : ℕ) → DirState → Answer
+marking l m s = Takes (record s { lines = with_mark l m s.lines }) nothing
+
+abbrev pub mark_owned : (line mask : ℕ) → DirState → Option ℕ → Answer
+mark_owned l m s None = marking l m s
+mark_owned l m s (Some o) = ask_owner o l s
+
+unfoldable pub mark : (line mask tid : ℕ) → DirState → Answer
+mark l m t s =
+    if nat_lt t s.serving.serving then Drops
+    else if nat_lt s.serving.serving t then Waits
+    else if m == full then marking l m s
+    else mark_owned l m s (s.lines.owner l)
+
+-- a line that is marked by the commit of c is invalidated at each other sharer
+unfoldable pub is_invalidated : Shape → Lines → (core sharer line : ℕ) → Bool
+is_invalidated sh ls c j l = nat_lt j sh.cores && has_mark ls l && ls.sharers l j && not (j == c)
+
+-- to each such sharer, by rising line
+unfoldable pub invs_to : Shape → Lines → (core tid sharer : ℕ) → List Msg
+invs_to sh ls c t j = flat_map (λ l. Inv l (ls.mark l) t ∷ []) (those (is_invalidated sh ls c j) (lines sh))
+
+unfoldable pub invalidations : Shape → Lines → (core tid : ℕ) → Sends
+invalidations sh ls c t (Core j) = invs_to sh ls c t j
+invalidations sh ls c t (Dir d) = []
+invalidations sh ls c t Vendor = []
+
+-- the sum of f over the numbers below n
+unfoldable pub total : (ℕ → ℕ) → ℕ → ℕ
+total f zero = 0
+total f (suc n) = total f n + f n
+
+-- how many they are
+unfoldable pub owed_by : Shape → Lines → (core : ℕ) → ℕ
+owed_by sh ls c = total (λ j. count_below (is_invalidated sh ls c j) (lines sh)) sh.cores
+
+-- each marked line is owned by the committer alone, with the commit's tag
+unfoldable pub owned : (core tid : ℕ) → Lines → Lines
+owned c t ls = record ls {
+  sharers = λ l j. (if has_mark ls l && j == c then true else ls.sharers l j);
+  owner = λ l. (if has_mark ls l then Some c else ls.owner l);
+  tag = λ l. (if has_mark ls l then t else ls.tag l);
+  asked = λ l. (if has_mark ls l then false else ls.asked l);
+}
+
+-- the directory moves on once nothing is owed
+unfoldable pub settled : DirState → DirState
+settled s = if s.owed == 0 then moved_on s else s
+
+-- Commit: of the served TID, once all its lines are marked
+unfoldable pub commit : Shape → (core tid count : ℕ) → DirState → Answer
+commit sh c t count s =
+    if s.serving.serving == t && count_below (has_mark s.lines) (lines sh) == count
+    then Takes (settled (record s { lines = owned c t s.lines; owed = owed_by sh s.lines c })) (invalidations sh s.lines c t)
+    else Waits
+
+abbrev pub unless_keeps : Bool → (core line : ℕ) → Lines → Lines
+unless_keeps true c l ls = ls
+unless_keeps false c l ls = with_sharer l c false ls
+
+-- Acknowledgement: one less is owed
+unfoldable pub acknowledgement : (core line : ℕ) → (keeps : Bool) → DirState → Answer
+acknowledgement c l keeps s =
+    if s.owed == 0 then Drops
+    else Takes (settled (record s { lines = unless_keeps keeps c l s.lines; owed = s.owed - 1 })) nothing
+
+-- Write-back: the masked home words are those that came, and the line has no owner
+unfoldable pub came_home : (line mask : ℕ) → (words : List ℕ) → DirState → DirState
+came_home l m ws s = record s {
+  words = λ w. (if hit l m w then get_or ws (place_of w) 0 else s.words w);
+  lines = with_asked l false (with_owner l None s.lines);
+}
+
+abbrev pub judged : (line mask : ℕ) → (words : List ℕ) → DirState → Judgement → Answer
+judged l m ws s IsEarly = Waits
+judged l m ws s IsTaken = Takes (came_home l m ws s) nothing
+judged l m ws s IsDropped = Drops
+
+unfoldable pub write_back : (core line mask : ℕ) → (words : List ℕ) → (tag : ℕ) → DirState → Answer
+write_back c l m ws g s = judged l m ws s (judge (s.lines.owner l) (s.lines.tag l) c g)
+
+-- by kind; a kind that doesn't go to a directory is never taken
+unfoldable pub dir_deliver : Shape → DirState → (core : ℕ) → Msg → Answer
+dir_deliver sh s c (Skip t) = skip t s
+dir_deliver sh s c (Abort t) = abort t s
+dir_deliver sh s c (Probe t) = probe c t s
+dir_deliver sh s c (LoadReq l after) = load_request c l after s
+dir_deliver sh s c (Mark l m t) = mark l m t s
+dir_deliver sh s c (Commit t count) = commit sh c t count s
+dir_deliver sh s c (InvAck l keeps) = acknowledgement c l keeps s
+dir_deliver sh s c (WriteBack l m ws g) = write_back c l m ws g s
+dir_deliver sh s c (Flush l m ws g) = write_back c l m ws g s
+dir_deliver sh s c TidReq = Waits
+dir_deliver sh s c (TidGrant t) = Waits
+dir_deliver sh s c (Fill l ws) = Waits
+dir_deliver sh s c (ProbeReply t serving) = Waits
+dir_deliver sh s c (DataReq l) = Waits
+dir_deliver sh s c (Inv l m t) = Waits
