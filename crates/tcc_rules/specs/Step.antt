@@ -1,5 +1,5 @@
 -- The whole machine: an event acts on one node, and what that node sends stands at the end of its links.
-use Rattle.std.specs.Prelude.{ℕ, Bool, List, [], ◌∷◌, Option, Some, None, is_some, nat_lt, if◌then◌else◌}
+use Rattle.std.specs.Prelude.{ℕ, Bool, List, [], ◌∷◌, Option, Some, None, is_some, true, nat_lt, ◌&&◌, if◌then◌else◌}
 use Rattle.tcc_base.specs.Put.{put}
 use Rattle.tcc_base.specs.declared.access.Commit.{Commit as Noted}
 use Rattle.tcc_program.specs.Program.{Program}
@@ -75,11 +75,27 @@ abbrev pub if_in_flight : Shape → World → (src dst : Node) → (k : ℕ) →
 if_in_flight sh w src dst k None = None
 if_in_flight sh w src dst k (Some m) = delivered sh w src dst k m
 
+-- the node exists
+abbrev pub is_node : Shape → Node → Bool
+is_node sh (Core c) = nat_lt c sh.cores
+is_node sh (Dir d) = nat_lt d sh.dirs
+is_node sh Vendor = true
+
+-- all that the event names exists, but perhaps the message
+unfoldable pub names_nodes : Shape → Event → Bool
+names_nodes sh (Exec c) = nat_lt c sh.cores
+names_nodes sh (Evict c x y) = nat_lt c sh.cores && (nat_lt x sh.sets && nat_lt y sh.ways)
+names_nodes sh (Deliver src dst k) = is_node sh src && is_node sh dst
+
+-- by the kind of event
+unfoldable pub happens : Shape → Program → World → Event → Option Stepped
+happens sh p w (Exec c) = moved w c (core_exec sh p c (w.cores c))
+happens sh p w (Evict c x y) = moved w c (core_evict sh x y (w.cores c))
+happens sh p w (Deliver src dst k) = if_in_flight sh w src dst k (in_flight w.net src dst k)
+
 -- the one state after an event; None: the event isn't enabled
 unfoldable pub step : Shape → Program → World → Event → Option Stepped
-step sh p w (Exec c) = if nat_lt c sh.cores then moved w c (core_exec sh p c (w.cores c)) else None
-step sh p w (Evict c x y) = if nat_lt c sh.cores then moved w c (core_evict sh x y (w.cores c)) else None
-step sh p w (Deliver src dst k) = if_in_flight sh w src dst k (in_flight w.net src dst k)
+step sh p w e = if names_nodes sh e then happens sh p w e else None
 
 unfoldable pub is_enabled : Shape → Program → World → Event → Bool
 is_enabled sh p w e = is_some (step sh p w e)
