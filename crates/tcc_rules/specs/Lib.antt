@@ -16,3 +16,4 @@ pub mod Picked
 pub mod Small
 pub mod Rows
 pub mod Schedules
+pub mod Laws

@@ -69,7 +69,7 @@ is_useful sh p w e = is_enabled sh p w e && is_of_use sh p w e
 
 -- all nodes, in their order
 unfoldable pub nodes : Shape → List Node
-nodes sh = map Core (numbers sh.cores) ++ map Dir (numbers sh.dirs) ++ Vendor ∷ []
+nodes sh = map Core (numbers sh.cores) ++ (map Dir (numbers sh.dirs) ++ Vendor ∷ [])
 
 unfoldable pub execs : Shape → List Event
 execs sh = map Exec (numbers sh.cores)
@@ -82,7 +82,7 @@ delivers sh w = flat_map (λ src. flat_map (λ dst. map (λ k. Deliver src dst k
 
 -- the useful events: Exec by core, Evict by core, set and way, Deliver by source, destination and number
 unfoldable pub useful : Shape → Program → World → List Event
-useful sh p w = filter (is_useful sh p w) (execs sh ++ evicts sh ++ delivers sh w)
+useful sh p w = filter (is_useful sh p w) (execs sh ++ (evicts sh ++ delivers sh w))
 
 -- the order of nodes
 abbrev pub node_before : Node → Node → Bool

@@ -2,6 +2,8 @@
 //! over them. The functions here have no body: the contract of each is a law of these definitions.
 #![tactic(auto)]
 
+ghost use Rattle.tcc_rules.specs.Laws.{StepsActOnOne, UsefulHolds, UsefulOrdered, NotBeforeItself, UsefulEnabled, DoneUseless, TidsCount};
+ghost use Rattle.tcc_rules.specs.Picked.{picked};
 ghost use Rattle.tcc_rules.specs.Schedules.{TwoTids, TwoTidsMore, ReaderWaits, ProbeWaits, OverARead, DoomedAttempt, BeforeTheFill, OverADirtyOwner, WriteBackWaits};
 
 /// The schedules that were worked by hand end as they must: the commits with their loads, the committed registers and
@@ -16,4 +18,24 @@ pub fn worked_schedules()
     ensures before_the_fill { BeforeTheFill }
     ensures over_a_dirty_owner { OverADirtyOwner }
     ensures write_back_waits { WriteBackWaits }
+{}
+
+/// An event acts on one node: no other node's state changes, a message that is consumed was in flight, and each link only
+/// grows at its end, the node's own ones alone.
+pub fn an_event_acts_on_one_node()
+    ensures { StepsActOnOne }
+{}
+
+/// The list of useful events holds each of them once, in the stated order; each is enabled, and a done state has none.
+pub fn useful_events_are_listed()
+    ensures holds { UsefulHolds }
+    ensures ordered { UsefulOrdered }
+    ensures once { NotBeforeItself }
+    ensures enabled { UsefulEnabled }
+    ensures done { DoneUseless }
+{}
+
+/// The TIDs that the vendor gives in a run are 1, 2, 3 and so on.
+pub fn tids_count_from_one()
+    ensures { TidsCount }
 {}
