@@ -9,7 +9,7 @@ use tcc_base::Tid;
 /// How many TIDs a vendor gives at most: as many as a schedule may have events.
 pub const MAX_GRANTS: u64 = 4_194_304;
 
-/// A counter of TIDs (Chafi et al., "A Scalable, Non-blocking Approach to Transactional Memory", HPCA 2007, section 3:
+/// A counter of TIDs (Chafi et al., "A Scalable, Non-blocking Approach to Transactional Memory", HPCA 2007:
 /// the TID vendor). In a clause it is the TID that it gives next.
 #[derive(Debug, Drop)]
 pub struct Vendor {

@@ -22,7 +22,7 @@ pub enum Take {
 /// Judges words that came home from a core, for a line with this owner and this tag (the TID of its last commit, or 0).
 /// Words of a later commit wait; words of the last commit that its owner sends are taken; all others are dropped. This is how
 /// tags on write-backs make up for links that overtake one another (Chafi et al., "A Scalable, Non-blocking Approach to
-/// Transactional Memory", HPCA 2007, section 3.3). It takes constant time and no memory.
+/// Transactional Memory", HPCA 2007). It takes constant time and no memory.
 pub fn judge(owner: Option<CoreId>, tag: Tid, from: CoreId, back: &Tagged) -> Take
     ensures map { verdict_of result ≡ verdict (option_map (λ c. c.0) owner) tag.0 from.0 back.now.tag.0 }
     ensures waits { (result ≡ Take.Wait) ↔ (tag.0 < back.now.tag.0) }
