@@ -1,0 +1,2 @@
+-- What the models of this crate cite.
+pub mod Window

@@ -1,0 +1,94 @@
+// The skips as a ring of flags, one for each TID above the served one as far as the last that was skipped.
+ghost use Rattle.std.specs.Prelude.{◌≡◌, ℕ, ◌+◌, ◌-◌, ◌^◌, ◌<◌, ◌≤◌, ◌++◌, Bool, false, OnOk, OnErr, length, replicate};
+ghost use Rattle.tcc_maps.specs.Serving.{Serving, first_serving, skipped, skip_at, advance as advanced};
+
+use crate::skips::Skips;
+use std::alloc::Global;
+use std::collections::VecDeque;
+use std::marker::Model;
+use tcc_base::{NoMemory, Tid};
+
+/// How far above the served TID a skip can be kept: as far as a machine's TIDs go at most. A skip beyond it is answered as want
+/// of memory, so that no message can ask for a ring of absurd size.
+pub const MAX_AHEAD: u64 = 4_194_304;
+
+/// Skips in a ring that doubles when a skip lies past its end, and never shrinks.
+#[derive(Debug, Drop)]
+pub struct RingSkips {
+    serving: u64,
+    ahead: VecDeque<bool>,
+}
+
+impl Model for RingSkips {
+    ghost use Rattle.std.specs.Prelude.{◌+◌, ◌^◌, ◌<◌, ◌≤◌, length};
+    ghost use Rattle.tcc_maps.specs.Serving.{Serving};
+
+    ghost Value = { Serving };
+
+    ghost view = { λ s. record { serving = s.serving; skips = s.ahead.items } };
+
+    ghost invariant = { λ s. (s.serving ≤ 2 ^ 62 + 1) × (0 < length s.ahead.items → s.serving + length s.ahead.items < 2 ^ 62) };
+}
+
+impl Skips for RingSkips {
+    ghost serves = { λ s. s };
+
+    fn new(alloc: Global) -> Self {
+        RingSkips {
+            serving: 1,
+            ahead: VecDeque::new(alloc),
+        }
+    }
+
+    fn serving(&self) -> Tid {
+        Tid(self.serving)
+    }
+
+    #[tactic(auto, using(crate::proofs::Flags::skip_cases))]
+    fn skip(&mut self, tid: Tid) -> Result<(), NoMemory> {
+        if tid.0 < self.serving {
+            return Ok(());
+        }
+        if tid.0 == self.serving {
+            self.advance();
+            return Ok(());
+        }
+        let place = tid.0 - self.serving - 1;
+        if place >= MAX_AHEAD {
+            return Err(NoMemory);
+        }
+        note(&mut self.ahead, place as usize)
+    }
+
+    #[tactic(auto, using(crate::proofs::Flags::serving_steps))]
+    fn advance(&mut self) {
+        self.serving += 1;
+        while let Some(true) = self.ahead.pop_front() {
+            self.serving += 1;
+        }
+    }
+}
+
+// Sets the flag at this place, with clear flags before it where the ring was shorter.
+#[tactic(auto, using(crate::proofs::Flags::reached_flags))]
+fn note(ahead: &mut VecDeque<bool>, place: usize) -> Result<(), NoMemory>
+    requires { place < 2 ^ 32 }
+    ensures kept { OnOk result (ahead.new.items ≡ skip_at place ahead.old.items) }
+    ensures unchanged { OnErr result (ahead.new.items ≡ ahead.old.items) }
+{
+    reach(ahead, place)?;
+    ahead[place] = true;
+    Ok(())
+}
+
+// Adds clear flags behind the last one until there is one at this place.
+fn reach(ahead: &mut VecDeque<bool>, place: usize) -> Result<(), NoMemory>
+    requires { place < 2 ^ 32 }
+    ensures reached { OnOk result (ahead.new.items ≡ ahead.old.items ++ replicate (place + 1 - length ahead.old.items) false) }
+    ensures unchanged { OnErr result (ahead.new.items ≡ ahead.old.items) }
+{
+    if place < ahead.len() {
+        return Ok(());
+    }
+    ahead.resize(place + 1, false).map_err(|_| NoMemory)
+}

@@ -1,0 +1,62 @@
+// The skip vector that a directory keeps: the ring.
+ghost use Rattle.std.specs.Prelude.{◌≡◌, ℕ, ◌^◌, ◌<◌, ◌≤◌, OnOk, OnErr};
+ghost use Rattle.tcc_maps.specs.Serving.{Serving, first_serving, skipped, advance as advanced};
+
+use crate::ring::RingSkips;
+use crate::skips::Skips;
+use std::alloc::Global;
+use std::marker::Model;
+use tcc_base::{NoMemory, Tid};
+
+/// A directory's now-serving TID with the TIDs above it that were skipped. In a clause it is these two.
+#[derive(Debug, Drop)]
+pub struct SkipVector {
+    skips: RingSkips,
+}
+
+impl Model for SkipVector {
+    ghost use Rattle.tcc_maps.specs.Serving.{Serving};
+
+    ghost Value = { Serving };
+
+    ghost view = { λ v. v.skips };
+}
+
+impl SkipVector {
+    /// No TID was skipped, and TID 1 is served. No memory is taken yet.
+    pub fn new(alloc: Global) -> Self
+        ensures { result ≡ first_serving }
+    {
+        SkipVector {
+            skips: RingSkips::new(alloc),
+        }
+    }
+
+    /// The TID that is served now. It takes constant time and no memory.
+    pub fn serving(&self) -> Tid
+        ensures { result.0 ≡ self.now.serving }
+    {
+        self.skips.serving()
+    }
+
+    /// Notes that the TID gives up: one above the served TID is kept, the served one advances, a lower one changes nothing.
+    /// Only a TID above the served one can find no memory, and nothing is changed then. A TID more than `MAX_AHEAD` above the
+    /// served one always finds none. The time is constant but for the growth of the ring.
+    pub fn skip(&mut self, tid: Tid) -> Result<(), NoMemory>
+        requires { tid.0 < 2 ^ 62 }
+        ensures kept { OnOk result (self.new ≡ skipped tid.0 self.old) }
+        ensures unchanged { OnErr result (self.new ≡ self.old) }
+        ensures want { OnErr result (self.old.serving < tid.0) }
+    {
+        self.skips.skip(tid)
+    }
+
+    /// Goes to the next TID that was not skipped, and forgets the skips below it. It takes no memory, and the time of the skips
+    /// that are passed.
+    pub fn advance(&mut self)
+        requires { self.old.serving ≤ 2 ^ 62 }
+        ensures { self.new ≡ advanced self.old }
+    {
+        self.skips.advance()
+    }
+}

@@ -1,0 +1,21 @@
+-- A pool as a map from names to messages.
+use Rattle.std.specs.Prelude.{Bool, ◌==◌, ◌&&◌, List, Option, Some, None, if◌then◌else◌}
+use Rattle.std.specs.Map.{lookup}
+use Rattle.tcc_maps.specs.Nodes.{node_eq}
+use Rattle.tcc_msg.specs.declared.event.Name.{Name}
+use Rattle.tcc_maps.specs.Bridge.{node_of}
+
+-- two names are the same
+abbrev pub name_eq : Name → Name → Bool
+name_eq a b = node_eq (node_of a.src) (node_of b.src) && (node_eq (node_of a.dst) (node_of b.dst) && a.seq == b.seq)
+
+-- the message of a name
+unfoldable pub held : {M : Type 0} → List (Name × M) → Name → Option M
+held messages name = lookup (name_eq name) messages
+
+-- the map with one more message, and without one
+abbrev pub with_message : {M : Type 0} → (Name → Option M) → Name → M → Name → Option M
+with_message f name msg = λ n. if name_eq name n then Some msg else f n
+
+abbrev pub without : {M : Type 0} → (Name → Option M) → Name → Name → Option M
+without f name = λ n. if name_eq name n then None else f n

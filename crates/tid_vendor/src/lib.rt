@@ -1,0 +1,64 @@
+// The TID vendor's counter: it hands out transaction numbers in rising order, each of them once.
+#![tactic(auto)]
+
+ghost use Rattle.std.specs.Prelude.{◌≡◌, ℕ, ◌+◌, ◌≤◌};
+
+use std::marker::Model;
+use tcc_base::Tid;
+
+/// How many TIDs a vendor gives at most: as many as a schedule may have events.
+pub const MAX_GRANTS: u64 = 4_194_304;
+
+/// A counter of TIDs (Chafi et al., "A Scalable, Non-blocking Approach to Transactional Memory", HPCA 2007:
+/// the TID vendor). In a clause it is the TID that it gives next.
+#[derive(Debug, Drop)]
+pub struct Vendor {
+    next: u64,
+}
+
+impl Model for Vendor {
+    ghost Value = { ℕ };
+
+    ghost view = { λ v. v.next };
+}
+
+impl Vendor {
+    /// A vendor that has given nothing. Its first TID is 1.
+    pub fn new() -> Self
+        ensures { result ≡ 1 }
+    {
+        Vendor { next: 1 }
+    }
+
+    /// Gives the next TID: 1, 2, 3 and so on. Fewer than `MAX_GRANTS` were given before. It takes constant time and no memory.
+    pub fn grant(&mut self) -> Tid
+        requires { self.old ≤ MAX_GRANTS }
+        ensures given { result.0 ≡ self.old }
+        ensures next { self.new ≡ self.old + 1 }
+    {
+        let tid = Tid(self.next);
+        self.next += 1;
+        tid
+    }
+}
+
+impl Default for Vendor {
+    ghost is_default = { λ v. v ≡ 1 };
+
+    fn default() -> Self {
+        Vendor::new()
+    }
+}
+
+#[cfg(test)]
+mod tests {
+    use super::*;
+
+    #[test]
+    fn gives_1_2_3(rt: HostRuntime) {
+        let mut vendor = Vendor::default();
+        assert_eq!(rt; vendor.grant(), Tid(1));
+        assert_eq!(rt; vendor.grant(), Tid(2));
+        assert_eq!(rt; vendor.grant(), Tid(3));
+    }
+}
