@@ -1,15 +1,14 @@
 -- The map of names that a search tree of texts and vectors stands for.
-use Rattle.std.proofs.Common.{◌≡◌, ℕ, Bool, true, false, cond, List, [], ◌∷◌, map, refl, ap, sym, ◌∙◌, string_bytes}
-use Rattle.std.specs.Prelude.{Option, None, Some, option_map}
+use Rattle.std.proofs.Common.{◌≡◌, ℕ, Bool, true, false, cond, List, [], ◌∷◌, map, refl, ap, sym, ◌∙◌}
+use Rattle.std.specs.Prelude.{Option, Some, option_map}
 use Rattle.std.specs.Ordering.{is_eq, nat_cmp, eq_by_cmp}
 use Rattle.std.specs.Cmp.Lexicographic.{slice_cmp, nat_list_cmp_total}
 use Rattle.std.specs.Cmp.{eq_by_cmp_equiv}
-use Rattle.std.specs.Map.{lookup, update}
+use Rattle.std.specs.Map.{lookup}
 use Rattle.std.specs.Str.{bytes_eq}
 use Rattle.std.specs.FinMap as by_name
 use Rattle.std.specs.FinMap.Entries.{find}
 use Rattle.std.proofs.lemmas.Map.Text.{is_eq-slice_cmp}
-use Rattle.tcc_world.specs.Files.{Files}
 
 pub same_test : (name other : List ℕ) → bytes_eq name other ≡ eq_by_cmp (slice_cmp nat_cmp) other name
 same_test name other =
@@ -40,13 +39,13 @@ module _ {K V : Type 0} (name_of : K → List ℕ) (bytes_of : V → List ℕ) w
 
   -- a tree that differs from another at one name stands for the map with that name set
   pub from_tree-set : (before after : List (K × V)) (name : List ℕ) (v : V)
-    → ((other : List ℕ) → lookup (is_name other) after ≡ cond (bytes_eq name other) (Some v) (lookup (is_name other) before))
-    → by_name.from_entries {R = slice_cmp nat_cmp} (map named after) ≡ by_name.insert (by_name.from_entries (map named before)) name (bytes_of v)
+      → ((other : List ℕ) → lookup (is_name other) after ≡ cond (bytes_eq name other) (Some v) (lookup (is_name other) before))
+      → by_name.from_entries {R = slice_cmp nat_cmp} (map named after) ≡ by_name.insert (by_name.from_entries (map named before)) name (bytes_of v)
   from_tree-set before after name v updates =
       by_name.same_map nat_list_cmp_total (by_name.slice_cmp-IsAntisymmetric by_name.nat_cmp-IsAntisymmetric) _ _ (λ other.
-        get-from_tree other after
-        ∙ ap (option_map bytes_of) (updates other)
-        ∙ lookup_after (bytes_eq name other) v (lookup (is_name other) before)
-        ∙ ap (λ rest. cond (bytes_eq name other) (Some (bytes_of v)) rest) (sym (get-from_tree other before))
-        ∙ ap (λ b. cond b (Some (bytes_of v)) (by_name.get (by_name.from_entries {R = slice_cmp nat_cmp} (map named before)) other)) (same_test name other)
-        ∙ sym (by_name.get-insert nat_list_cmp_total (by_name.from_entries (map named before)) name (bytes_of v) other))
+      get-from_tree other after
+      ∙ ap (option_map bytes_of) (updates other)
+      ∙ lookup_after (bytes_eq name other) v (lookup (is_name other) before)
+      ∙ ap (λ rest. cond (bytes_eq name other) (Some (bytes_of v)) rest) (sym (get-from_tree other before))
+      ∙ ap (λ b. cond b (Some (bytes_of v)) (by_name.get (by_name.from_entries {R = slice_cmp nat_cmp} (map named before)) other)) (same_test name other)
+      ∙ sym (by_name.get-insert nat_list_cmp_total (by_name.from_entries (map named before)) name (bytes_of v) other))

@@ -1,5 +1,5 @@
 -- What a store in memory holds, and what its calls do with it.
-use Rattle.std.specs.Prelude.{◌≡◌, ℕ, ◌+◌, Bool, List, [], ◌∷◌, ◌++◌, Option, None, ◌==◌, refl, if◌then◌else◌}
+use Rattle.std.specs.Prelude.{ℕ, Bool, List, [], ◌∷◌, ◌++◌, Option, None, ◌==◌, refl, if◌then◌else◌}
 use Rattle.std.specs.List.{list_any, count_by}
 use Rattle.std.specs.Str.{bytes_eq}
 use Rattle.std.specs.FinMap as by_name
@@ -8,11 +8,11 @@ use Rattle.tcc_world.specs.Faults.{raised}
 use Rattle.tcc_world.specs.Files.{Files, files_code}
 
 pub record Shelf : Type 0 where
-  pub files : Files                -- the contents of each name that has some
-  pub fails : List ℕ               -- the numbers of the calls that fail
-  pub calls : ℕ                    -- the number of the coming call
-  pub unread : List (List ℕ)       -- the names of the failed reads, in order
-  pub unwritten : List (List ℕ)    -- the names of the failed writes, in order
+  pub files : Files  -- the contents of each name that has some
+  pub fails : List ℕ  -- the numbers of the calls that fail
+  pub calls : ℕ  -- the number of the coming call
+  pub unread : List (List ℕ)  -- the names of the failed reads, in order
+  pub unwritten : List (List ℕ)  -- the names of the failed writes, in order
 
 abbrev pub shelf_code : Coded Shelf
 shelf_code =

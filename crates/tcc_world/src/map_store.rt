@@ -32,11 +32,11 @@ impl Model for MapStore {
     ghost coded = { shelf_code };
 
     ghost view = { λ s. record {
-        files = by_name.from_entries (map (λ e. (string_bytes e.0, e.1.items)) s.files.entries);
-        fails = s.fails.items;
-        calls = s.calls;
-        unread = map string_bytes s.failed_reads.items;
-        unwritten = map string_bytes s.failed_writes.items
+      files = by_name.from_entries (map (λ e. (string_bytes e.0, e.1.items)) s.files.entries);
+      fails = s.fails.items;
+      calls = s.calls;
+      unread = map string_bytes s.failed_reads.items;
+      unwritten = map string_bytes s.failed_writes.items;
     } };
 }
 

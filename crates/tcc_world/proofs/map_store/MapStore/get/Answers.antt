@@ -1,5 +1,5 @@
 -- The tree has at the name what the map has there.
-use Rattle.std.proofs.Common.{◌≡◌, ℕ, Vec, Global, Some, string_bytes, option_map, ap, sym, ◌∙◌}
+use Rattle.std.proofs.Common.{ℕ, Vec, Global, Some, string_bytes, option_map, ap, sym, ◌∙◌}
 use Rattle.std.specs.FinMap as by_name
 use Rattle.tcc_world.proofs.Files.{get-from_tree}
 use Rattle.tcc_world.proofs.map_store.MapStore.get.Goals as goal

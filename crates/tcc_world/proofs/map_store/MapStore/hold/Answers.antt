@@ -1,9 +1,7 @@
 -- The tree was changed at the name alone, so the map is the old one with this name set.
-use Rattle.std.proofs.Common.{◌≡◌, ℕ, Vec, Global, Some, string_bytes, refl}
-use Rattle.std.specs.FinMap as by_name
+use Rattle.std.proofs.Common.{string_bytes, refl}
 use Rattle.std.proofs.lemmas.Map.Text.{btree_map_updates_text}
 use Rattle.tcc_world.proofs.Files.{from_tree-set}
-use Rattle.tcc_world.specs.Shelf.{holding}
 use Rattle.tcc_world.proofs.map_store.MapStore.hold.Goals as goal
 
 pub returns-clause-set : goal.returns-clause-set
