@@ -8,7 +8,7 @@ use Rattle.std.proofs.lemmas.Bool.{false_from_ne_true}
 use Rattle.std.proofs.lemmas.List.Sums.{fold-append}
 use Rattle.std.proofs.lemmas.Slice.Eq.{bytes_eq-Decides}
 use Rattle.tcc_world.specs.Files.{Files}
-use Rattle.tcc_world.specs.Shelf.{times}
+use Rattle.tcc_world.specs.Names.{times}
 use Rattle.tcc_world.proofs.Files.{same_test}
 
 bytes_eq-same : (name : List ℕ) → bytes_eq name name ≡ true
@@ -29,3 +29,6 @@ pub get-insert_other : (files : Files) (name bytes other : List ℕ) → other �
 get-insert_other files name bytes other apart =
     by_name.get-insert nat_list_cmp_total files name bytes other
     ∙ ap (λ b. cond b (Some bytes) (by_name.get files other)) (sym (same_test name other) ∙ false_from_ne_true _ (λ same. apart (sym ((bytes_eq-Decides name other).0 same))))
+
+-- for a call that books a name
+pub ruleset booking = (times-once_more)

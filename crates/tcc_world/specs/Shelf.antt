@@ -1,7 +1,6 @@
 -- What a store in memory holds, and what its calls do with it.
 use Rattle.std.specs.Prelude.{ℕ, Bool, List, [], ◌∷◌, ◌++◌, Option, None, ◌==◌, refl, if◌then◌else◌}
-use Rattle.std.specs.List.{list_any, count_by}
-use Rattle.std.specs.Str.{bytes_eq}
+use Rattle.std.specs.List.{list_any}
 use Rattle.std.specs.FinMap as by_name
 use Rattle.std.specs.Coded.{Coded, code_by, coded×, coded_list, coded_ℕ}
 use Rattle.tcc_world.specs.Faults.{raised}
@@ -29,10 +28,6 @@ empty_shelf fails = record { files = by_name.empty; fails = fails; calls = 0; un
 -- the coming call is one of those that fail
 abbrev pub is_due : Shelf → Bool
 is_due s = list_any (λ n. n == s.calls) s.fails
-
--- how often a name stands in a list
-abbrev pub times : List (List ℕ) → List ℕ → ℕ
-times names name = count_by (λ other. bytes_eq other name) names
 
 -- the name has these contents from now on
 abbrev pub holding : Shelf → List ℕ → List ℕ → Shelf

@@ -1,4 +1,4 @@
-//! A gate before each turn of a worker, at which a test can hold the worker up.
+// A gate before each turn of a worker, at which a test can hold the worker up.
 
 /// What a worker passes before each of its turns. Nothing is claimed of it but that it returns.
 pub trait Gate {

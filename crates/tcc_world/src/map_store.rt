@@ -1,10 +1,11 @@
-//! A store in memory, which fails at chosen calls.
+// A store in memory, which fails at chosen calls.
 ghost use Rattle.std.specs.Prelude.{◌≡◌, ◌≢◌, ℕ, ◌≤◌, List, Option, Some, None, true, false, ◌++◌, ◌∷◌, [], map, if◌then◌else◌, string_bytes, option_map, IfOk, OnOk, OnErr, IsErrOf};
 ghost use Rattle.std.specs.Option.{option_copied};
 ghost use Rattle.std.specs.FinMap as by_name;
 ghost use Rattle.tcc_world.specs.Told.{Gives};
 ghost use Rattle.tcc_world.specs.Faults.{Rose};
 
+use crate::names::NameList;
 use crate::{Store, StoreError};
 use std::alloc::{AllocError, Global};
 use std::collections::BTreeMap;
@@ -18,8 +19,8 @@ pub struct MapStore {
     files: BTreeMap<String, Vec<u8>>,
     fails: Vec<u64>,
     calls: u64,
-    failed_reads: Vec<String>,
-    failed_writes: Vec<String>,
+    failed_reads: NameList,
+    failed_writes: NameList,
 }
 
 impl Model for MapStore {
@@ -35,19 +36,9 @@ impl Model for MapStore {
       files = by_name.from_entries (map (λ e. (string_bytes e.0, e.1.items)) s.files.entries);
       fails = s.fails.items;
       calls = s.calls;
-      unread = map string_bytes s.failed_reads.items;
-      unwritten = map string_bytes s.failed_writes.items;
+      unread = s.failed_reads;
+      unwritten = s.failed_writes;
     } };
-}
-
-// Adds a name to a list of names.
-fn note(alloc: Global, names: &mut Vec<String>, name: &str) -> Result<(), AllocError>
-    ensures noted { OnOk result (map string_bytes names.new.items ≡ map string_bytes names.old.items ++ name.now ∷ []) }
-    ensures unchanged { OnErr result (names.new.items ≡ names.old.items) }
-{
-    let name = String::from_str(alloc, name)?;
-    names.push(name)?;
-    Ok(())
 }
 
 impl MapStore {
@@ -62,8 +53,8 @@ impl MapStore {
             files: BTreeMap::new(alloc),
             fails,
             calls: 0,
-            failed_reads: Vec::new(alloc),
-            failed_writes: Vec::new(alloc),
+            failed_reads: NameList::new(alloc),
+            failed_writes: NameList::new(alloc),
         }
     }
 
@@ -122,7 +113,7 @@ impl MapStore {
         ensures failed { result ≡ StoreError.Failed → self.new ≡ read_failed self.old name.now }
         ensures memory { result ≡ StoreError.Memory → self.new ≡ self.old }
     {
-        match note(alloc, &mut self.failed_reads, name) {
+        match self.failed_reads.book(alloc, name) {
             Ok(()) => {
                 self.count();
                 StoreError::Failed
@@ -136,7 +127,7 @@ impl MapStore {
         ensures failed { result ≡ StoreError.Failed → self.new ≡ write_failed self.old name.now }
         ensures memory { result ≡ StoreError.Memory → self.new ≡ self.old }
     {
-        match note(alloc, &mut self.failed_writes, name) {
+        match self.failed_writes.book(alloc, name) {
             Ok(()) => {
                 self.count();
                 StoreError::Failed
@@ -149,7 +140,8 @@ impl MapStore {
 impl Store for MapStore {
     ghost use Rattle.std.specs.Prelude.{true};
     ghost use Rattle.std.specs.FinMap as by_name;
-    ghost use Rattle.tcc_world.specs.Shelf.{holding, counted, readable, read_failed, write_failed, is_due, times};
+    ghost use Rattle.tcc_world.specs.Shelf.{holding, counted, readable, read_failed, write_failed, is_due};
+    ghost use Rattle.tcc_world.specs.Names.{times};
 
     ghost tells = { λ _. true };
 

@@ -1,4 +1,4 @@
-//! A place to write bytes to, which may take a part of them or fail.
+// A place to write bytes to, which may take a part of them or fail.
 ghost use Rattle.std.specs.Prelude.{◌≡◌, ℕ, ◌<◌, ◌≤◌, List, Option, length, take, IfOk, OnOk, OnErr};
 ghost use Rattle.tcc_world.specs.Told.{appended};
 ghost use Rattle.tcc_world.specs.Faults.{Rose};

@@ -1,4 +1,4 @@
-//! Files by name, to be read and written as a whole.
+// Files by name, to be read and written as a whole.
 ghost use Rattle.std.specs.Prelude.{◌≡◌, ◌≢◌, ℕ, ◌≤◌, Bool, List, Option, Some, None, if◌then◌else◌, IfOk, OnOk, IsErrOf};
 ghost use Rattle.tcc_world.specs.Told.{Gives};
 ghost use Rattle.tcc_world.specs.Faults.{Rose};

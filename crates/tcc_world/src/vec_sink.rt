@@ -1,4 +1,4 @@
-//! A sink in memory, which fails at chosen calls and when it is full.
+// A sink in memory, which fails at chosen calls and when it is full.
 ghost use Rattle.std.specs.Prelude.{◌≡◌, ℕ, ◌<◌, ◌≤◌, [], length, take, IfOk, OnOk, OnErr};
 ghost use Rattle.tcc_world.specs.Told.{appended};
 ghost use Rattle.tcc_world.specs.Faults.{Rose};
