@@ -32,3 +32,6 @@ get-insert_other files name bytes other apart =
 
 -- for a call that books a name
 pub ruleset booking = (times-once_more)
+
+-- for a call that gives a name its contents
+pub ruleset holding_one = (times-once_more, get-insert_same, get-insert_other)

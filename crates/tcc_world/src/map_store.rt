@@ -152,6 +152,7 @@ impl Store for MapStore {
     ghost failed_writes = { λ s name. times s.unwritten name };
 
     /// Fails exactly where its number is in the list or the name has no contents.
+    #[tactic(auto, using(crate::proofs::Holding::booking))]
     fn read(&mut self, alloc: Global, name: &str) -> Result<Vec<u8>, StoreError>
         ensures given { IfOk result (λ bytes. (readable self.old name.now ≡ Some bytes.items) × (self.new ≡ counted self.old)) }
         ensures failed { IsErrOf result StoreError.Failed → (readable self.old name.now ≡ None) × (self.new ≡ read_failed self.old name.now) }
@@ -175,6 +176,7 @@ impl Store for MapStore {
     }
 
     /// Fails exactly where its number is in the list. A write that failed leaves the contents of all names.
+    #[tactic(auto, using(crate::proofs::Holding::holding_one))]
     fn write(&mut self, alloc: Global, name: &str, bytes: &[u8]) -> Result<(), StoreError>
         ensures held { OnOk result ((is_due self.old ≡ false) × (self.new ≡ counted (holding self.old name.now bytes.now))) }
         ensures failed { IsErrOf result StoreError.Failed → (is_due self.old ≡ true) × (self.new ≡ write_failed self.old name.now) }
@@ -192,6 +194,56 @@ impl Store for MapStore {
         }
         self.hold(alloc, name, bytes)?;
         self.count();
+        Ok(())
+    }
+}
+
+#[cfg(test)]
+mod tests {
+    use super::*;
+    use std::test::Fail;
+
+    #[derive(Clone, Copy)]
+    enum Call {
+        Set(&'static [u8]),
+        Read(Option<&'static [u8]>),
+        Write(&'static [u8], bool),
+    }
+
+    // The reads and writes are numbered from 0, and those with the numbers 2 and 5 fail.
+    #[test]
+    fn fails_by_number_and_where_nothing_is_held(rt: HostRuntime) -> Result<(), Fail> {
+        let mut store = MapStore::new(rt.alloc(), vec![in rt.alloc(); 2, 5]?);
+        let calls = [
+            ("a", Call::Set(b"one")),
+            ("a", Call::Read(Some(b"one"))),
+            ("b", Call::Read(None)),
+            ("a", Call::Read(None)),
+            ("b", Call::Write(b"two", true)),
+            ("b", Call::Read(Some(b"two"))),
+            ("a", Call::Write(b"three", false)),
+            ("a", Call::Read(Some(b"one"))),
+            ("a", Call::Set(b"")),
+            ("a", Call::Read(Some(b""))),
+            ("b", Call::Read(Some(b"two"))),
+        ];
+        for (name, call) in &calls {
+            match call {
+                Call::Set(bytes) => store.set(name, bytes)?,
+                Call::Read(want) => {
+                    let got = store.read(rt.alloc(), name);
+                    match want {
+                        Some(bytes) => assert_eq!(rt; got?.as_slice(), *bytes),
+                        None => assert!(rt; matches!(got, Err(StoreError::Failed)))
+                    }
+                }
+                Call::Write(bytes, want) => {
+                    let got = store.write(rt.alloc(), name, bytes);
+                    assert_eq!(rt; got.is_ok(), *want);
+                }
+            }
+        }
+        assert_eq!(rt; store.get("c"), None);
         Ok(())
     }
 }

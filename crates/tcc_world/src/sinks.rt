@@ -4,7 +4,7 @@ ghost use Rattle.tcc_world.specs.Told.{appended};
 ghost use Rattle.tcc_world.specs.Faults.{Rose};
 
 /// The sink failed. It took nothing in that call.
-#[derive(Clone, Copy, Debug, PartialEq, Eq, Drop)]
+#[derive(Clone, Copy, Debug, PartialEq, Eq)]
 pub struct SinkFailed;
 
 /// A place to write to.

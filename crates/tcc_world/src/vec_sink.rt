@@ -98,3 +98,45 @@ impl Sink for VecSink {
         }
     }
 }
+
+#[cfg(test)]
+mod tests {
+    use super::*;
+    use crate::write_all;
+    use std::test::Fail;
+
+    // Pieces that aren't empty are numbered from 0, and that with the number 1 fails.
+    #[test]
+    fn fails_by_number_and_when_full(rt: HostRuntime) -> Result<(), Fail> {
+        let mut sink = VecSink::new(rt.alloc(), 4, vec![in rt.alloc(); 1]?)?;
+        for (piece, want) in [
+            ("", Ok(0)),
+            ("ab", Ok(2)),
+            ("c", Err(SinkFailed)),
+            ("", Ok(0)),
+            ("cdef", Ok(2)),
+            ("g", Err(SinkFailed)),
+            ("", Ok(0)),
+        ] {
+            assert_eq!(rt; sink.write(piece.as_bytes()), want, "at {piece}");
+        }
+        assert_eq!(rt; sink.bytes(), b"abcd".as_slice());
+        Ok(())
+    }
+
+    #[test]
+    fn takes_all_or_a_prefix(rt: HostRuntime) -> Result<(), Fail> {
+        for (limit, fails, all, taken) in [
+            (9, 7, true, "hello"),
+            (5, 7, true, "hello"),
+            (3, 7, false, "hel"),
+            (9, 0, false, ""),
+            (0, 7, false, ""),
+        ] {
+            let mut sink = VecSink::new(rt.alloc(), limit, vec![in rt.alloc(); fails]?)?;
+            assert_eq!(rt; write_all(&mut sink, b"hello").is_ok(), all, "at {limit}");
+            assert_eq!(rt; sink.bytes(), taken.as_bytes(), "at {limit}");
+        }
+        Ok(())
+    }
+}
