@@ -19,13 +19,12 @@ rest_whole : (i : ℕ) (xs : List ℕ) → take (length xs - i) (drop i xs) ≡ 
 rest_whole i xs = take_all (length xs - i) (drop i xs) (omega (arith, length-drop i xs))
 
 -- the step of a loop that hands out the rest, from i on, of which n bytes are taken
-pub appended-goes_on : (first before after : Option (List ℕ)) (i n : ℕ) (xs : List ℕ)
-    → before ≡ appended first (take i xs)
-    → after ≡ appended before (take n (take (length xs - i) (drop i xs)))
-    → after ≡ appended first (take (i + n) xs)
-appended-goes_on first before after i n xs so_far taken =
-    taken
-    ∙ ap (λ rest. appended before (take n rest)) (rest_whole i xs)
-    ∙ ap (λ told. appended told (take n (drop i xs))) so_far
-    ∙ sym (appended-append first (take i xs) (take n (drop i xs)))
-    ∙ ap (appended first) (sym (take-add i n xs))
+pub appended-take_more : (told : Option (List ℕ)) (i n : ℕ) (xs : List ℕ)
+    → appended (appended told (take i xs)) (take n (take (length xs - i) (drop i xs))) ≡ appended told (take (i + n) xs)
+appended-take_more told i n xs =
+    ap (λ rest. appended (appended told (take i xs)) (take n rest)) (rest_whole i xs)
+    ∙ sym (appended-append told (take i xs) (take n (drop i xs)))
+    ∙ ap (appended told) (sym (take-add i n xs))
+
+-- for a loop that writes part after part
+pub ruleset parts = (appended-nothing, appended-take_more)

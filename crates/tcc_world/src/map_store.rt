@@ -167,9 +167,9 @@ impl Store for MapStore {
     {
         match self.readable(name) {
             Some(bytes) => {
-                let bytes = Vec::from_slice(alloc, bytes)?;
+                let copy = Vec::from_slice(alloc, bytes)?;
                 self.count();
-                Ok(bytes)
+                Ok(copy)
             }
             None => Err(self.fail_read(alloc, name)),
         }

@@ -27,6 +27,7 @@ pub trait Sink {
 }
 
 /// Writes all of the bytes, piece by piece.
+#[tactic(auto, using(crate::proofs::Told::parts))]
 pub fn write_all<S: Sink>(sink: &mut S, bytes: &[u8]) -> Result<(), SinkFailed>
     ensures written { OnOk result (S.bytes sink.new ≡ appended (S.bytes sink.old) bytes.now) }
     ensures prefix { OnErr result ((n : ℕ) × (n < length bytes.now) × (S.bytes sink.new ≡ appended (S.bytes sink.old) (take n bytes.now))) }
