@@ -1,5 +1,5 @@
 // The real files. Nothing is told of what stands in them.
-ghost use Rattle.std.specs.Prelude.{◌≡◌, [], ◌≤◌, ◌^◌, length, IfOk};
+ghost use Rattle.std.specs.Prelude.{◌≡◌, [], ◌≤◌, ◌^◌, length, IfOk, IfSome};
 
 use crate::names::NameList;
 use crate::{Store, StoreError};
@@ -47,7 +47,8 @@ impl<R> DiskStore<R> {
 
 // Reads to the end, chunk by chunk.
 fn read_to_end<F: Read>(alloc: Global, file: &mut F) -> Result<Vec<u8>, StoreError>
-    ensures { IfOk result (λ bytes. length bytes.items ≤ 2 ^ 28) }
+    ensures within { IfOk result (λ bytes. length bytes.items ≤ 2 ^ 28) }
+    ensures whole { IfOk result (λ bytes. IfSome (F.remaining file.old) (λ all. bytes.items ≡ all)) }
 {
     let mut bytes = Vec::new(alloc);
     let mut chunk = [0u8; CHUNK];
