@@ -16,7 +16,8 @@ const CHUNK: usize = 8192;
 /// The longest file that is read, in bytes. A longer one is a failed read.
 const LONGEST: usize = 268_435_456;
 
-/// The files of the system.
+/// The files of the system, with the names of the reads and writes that failed. A file of more than 268,435,456 bytes
+/// is a failed read. What stands in the files is told by no contract.
 #[derive(Drop)]
 pub struct DiskStore<R> {
     rt: R,

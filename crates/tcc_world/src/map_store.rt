@@ -12,7 +12,8 @@ use std::collections::BTreeMap;
 use std::marker::Model;
 use tcc_base::NoMemory;
 
-/// Files in memory.
+/// Files in memory, for tests of what a failing store brings about. A call costs the logarithm of the number of files,
+/// and the length of what it reads or writes.
 #[derive(Drop)]
 pub struct MapStore {
     alloc: Global,
@@ -44,7 +45,8 @@ impl Model for MapStore {
 impl MapStore {
     ghost use Rattle.tcc_world.specs.Shelf.{empty_shelf, holding, is_due, readable, counted, read_failed, write_failed};
 
-    /// A store without files. Of the reads and writes, numbered from 0, those in `fails` fail.
+    /// A store without files. Of the reads and writes, numbered together from 0, those in `fails` fail. Calls past
+    /// number 2^64 - 1 have that number, and one that finds no memory has none.
     pub fn new(alloc: Global, fails: Vec<u64>) -> MapStore
         ensures { result ≡ empty_shelf fails.items }
     {
@@ -58,7 +60,8 @@ impl MapStore {
         }
     }
 
-    /// Sets the contents of a name, and leaves all other names. It isn't one of the numbered calls.
+    /// Sets the contents of a name, and leaves all other names. It isn't one of the numbered calls. After an error
+    /// nothing has changed.
     pub fn set(&mut self, name: &str, bytes: &[u8]) -> Result<(), NoMemory>
         ensures set { OnOk result (self.new ≡ holding self.old name.now bytes.now) }
         ensures unchanged { OnErr result (self.new ≡ self.old) }
@@ -151,7 +154,7 @@ impl Store for MapStore {
 
     ghost failed_writes = { λ s name. times s.unwritten name };
 
-    /// Fails exactly where its number is in the list or the name has no contents.
+    /// Fails exactly where its number is in the list or the name has no contents. After `Memory` nothing has changed.
     #[tactic(auto, using(crate::proofs::Holding::booking))]
     fn read(&mut self, alloc: Global, name: &str) -> Result<Vec<u8>, StoreError>
         ensures given { IfOk result (λ bytes. (readable self.old name.now ≡ Some bytes.items) × (self.new ≡ counted self.old)) }
@@ -175,7 +178,8 @@ impl Store for MapStore {
         }
     }
 
-    /// Fails exactly where its number is in the list. A write that failed leaves the contents of all names.
+    /// Fails exactly where its number is in the list, and then leaves the contents of all names. After `Memory` nothing
+    /// has changed.
     #[tactic(auto, using(crate::proofs::Holding::holding_one))]
     fn write(&mut self, alloc: Global, name: &str, bytes: &[u8]) -> Result<(), StoreError>
         ensures held { OnOk result ((is_due self.old ≡ false) × (self.new ≡ counted (holding self.old name.now bytes.now))) }

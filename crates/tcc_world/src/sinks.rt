@@ -7,7 +7,8 @@ ghost use Rattle.tcc_world.specs.Faults.{Rose};
 #[derive(Clone, Copy, Debug, PartialEq, Eq)]
 pub struct SinkFailed;
 
-/// A place to write to.
+/// A place to write to, which may fail. The count of its faults never falls; one that stands at 2^64 - 1 is
+/// taken as risen.
 pub trait Sink {
     /// The bytes that were taken, where the sink tells them.
     ghost bytes: { Self → Option (List ℕ) };
@@ -15,7 +16,8 @@ pub trait Sink {
     /// How often the sink has failed.
     ghost faults: { Self → ℕ };
 
-    /// Takes a prefix of the piece, and answers its length.
+    /// Takes a prefix of the piece, of at least one byte where the piece isn't empty, and answers its length. It fails
+    /// only where the count of faults rose in this call, and then has taken nothing. An empty piece changes nothing.
     fn write(&mut self, piece: &[u8]) -> Result<usize, SinkFailed>
         ensures prefix { IfOk result (λ n. n ≤ length piece.now) }
         ensures taken { IfOk result (λ n. bytes self.new ≡ appended (bytes self.old) (take n piece.now)) }
@@ -26,7 +28,8 @@ pub trait Sink {
         ensures empty { length piece.now ≡ 0 → (result ≡ Ok 0) × (bytes self.new ≡ bytes self.old) × (faults self.new ≡ faults self.old) };
 }
 
-/// Writes all of the bytes, piece by piece.
+/// Writes all of the bytes, piece by piece. It fails only where the sink's count of faults rose in it, and then has
+/// written a prefix of the bytes, and not all of them. It takes no memory of its own.
 #[tactic(auto, using(crate::proofs::Told::parts))]
 pub fn write_all<S: Sink>(sink: &mut S, bytes: &[u8]) -> Result<(), SinkFailed>
     ensures written { OnOk result (S.bytes sink.new ≡ appended (S.bytes sink.old) bytes.now) }

@@ -5,7 +5,8 @@ use crate::{Sink, SinkFailed};
 use std::io::Write;
 use std::marker::Model;
 
-/// A stream of the system, such as standard output or standard error, with the count of its errors.
+/// A stream of the system, such as standard output or standard error, with the count of its errors. What it shows is
+/// told by no contract.
 #[derive(Drop)]
 pub struct StdSink<W> {
     stream: W,

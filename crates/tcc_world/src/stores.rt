@@ -24,7 +24,8 @@ impl From<AllocError> for StoreError {
     }
 }
 
-/// Files by name.
+/// Files by name, whose reads and writes may fail. A name is any text. The counts of failures never fall;
+/// one that stands at 2^64 - 1 is taken as risen.
 pub trait Store {
     /// Whether a write makes the contents of its name known.
     ghost tells: { Self → Bool };
@@ -38,7 +39,8 @@ pub trait Store {
     /// How often a write of this name has failed.
     ghost failed_writes: { Self → List ℕ → ℕ };
 
-    /// Reads a file whole. A missing file is a failed read.
+    /// Reads a file whole, and leaves the contents of every name whatever it answers. `Failed` comes only where the
+    /// name's count of failed reads rose in this call; a missing file raises it too.
     fn read(&mut self, alloc: Global, name: &str) -> Result<Vec<u8>, StoreError>
         ensures bytes { IfOk result (λ bytes. Gives (contents self.old name.now) bytes.items) }
         ensures cause { IsErrOf result StoreError.Failed → Rose (failed_reads self.old name.now) (failed_reads self.new name.now) }
@@ -48,7 +50,8 @@ pub trait Store {
         ensures reads { (n : List ℕ) → failed_reads self.old n ≤ failed_reads self.new n }
         ensures writes { (n : List ℕ) → failed_writes self.new n ≡ failed_writes self.old n };
 
-    /// Makes these bytes the contents of the name. After an error nothing is said of the contents of this name.
+    /// Makes these bytes the contents of the name, and leaves all other names. `Failed` comes only where the name's
+    /// count of failed writes rose in this call. After an error nothing is said of the contents of this one name.
     fn write(&mut self, alloc: Global, name: &str, bytes: &[u8]) -> Result<(), StoreError>
         ensures stored { OnOk result (contents self.new name.now ≡ (if tells self.old then Some bytes.now else None)) }
         ensures cause { IsErrOf result StoreError.Failed → Rose (failed_writes self.old name.now) (failed_writes self.new name.now) }

@@ -8,7 +8,7 @@ use std::alloc::Global;
 use std::marker::Model;
 use tcc_base::NoMemory;
 
-/// Bytes in memory, up to a limit.
+/// Bytes in memory, up to a limit, for tests of what a failing sink brings about.
 #[derive(Drop)]
 pub struct VecSink {
     bytes: Vec<u8>,
@@ -32,8 +32,8 @@ impl Model for VecSink {
 impl VecSink {
     ghost use Rattle.tcc_world.specs.Written.{empty_sink};
 
-    /// An empty sink with room for `limit` bytes. Of the calls that bring a byte, numbered from 0, those in
-    /// `fails` fail.
+    /// An empty sink with room for `limit` bytes, which is made here. Of the calls that bring a byte, numbered from 0,
+    /// those in `fails` fail, and so do those that find it full.
     pub fn new(alloc: Global, limit: u64, fails: Vec<u64>) -> Result<VecSink, NoMemory>
         ensures { IfOk result (λ s. s ≡ empty_sink limit fails.items) }
     {
@@ -66,7 +66,8 @@ impl Sink for VecSink {
 
     ghost faults = { λ s. s.faults };
 
-    /// Takes no memory. A call with an empty piece has no number.
+    /// Takes as many bytes as there is room for, and no memory. A call with an empty piece has no number; calls past
+    /// number 2^64 - 1 have that number.
     #[tactic(auto, unfolding(crate::specs::Told::appended))]
     fn write(&mut self, piece: &[u8]) -> Result<usize, SinkFailed>
         ensures answers { 0 < length piece.now → result ≡ answer self.old piece.now }
