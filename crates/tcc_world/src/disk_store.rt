@@ -1,0 +1,139 @@
+// The real files. Nothing is told of what stands in them.
+ghost use Rattle.std.specs.Prelude.{◌≡◌, [], ◌≤◌, ◌^◌, length, IfOk, IfSome};
+
+use crate::names::NameList;
+use crate::{Store, StoreError};
+use std::alloc::Global;
+use std::fs;
+use std::fs::File;
+use std::io::Read;
+use std::marker::Model;
+use std::rt::Files;
+
+/// How many bytes of a file are read at a time.
+const CHUNK: usize = 8192;
+
+/// The longest file that is read, in bytes. A longer one is a failed read.
+const LONGEST: usize = 268_435_456;
+
+/// The files of the system, with the names of the reads and writes that failed. A file of more than 268,435,456 bytes
+/// is a failed read. What stands in the files is told by no contract.
+#[derive(Drop)]
+pub struct DiskStore<R> {
+    rt: R,
+    failed_reads: NameList,
+    failed_writes: NameList,
+}
+
+impl<R> Model for DiskStore<R> {
+    ghost use Rattle.tcc_world.specs.Booked.{Booked};
+
+    ghost Value = { Booked };
+
+    ghost view = { λ s. record { unread = s.failed_reads; unwritten = s.failed_writes } };
+}
+
+impl<R> DiskStore<R> {
+    /// A store in which nothing has failed.
+    pub fn new(rt: R, alloc: Global) -> DiskStore<R>
+        ensures { result ≡ record { unread = []; unwritten = [] } }
+    {
+        DiskStore {
+            rt,
+            failed_reads: NameList::new(alloc),
+            failed_writes: NameList::new(alloc),
+        }
+    }
+}
+
+// Reads to the end, chunk by chunk.
+fn read_to_end<F: Read>(alloc: Global, file: &mut F) -> Result<Vec<u8>, StoreError>
+    ensures within { IfOk result (λ bytes. length bytes.items ≤ 2 ^ 28) }
+    ensures whole { IfOk result (λ bytes. IfSome (F.remaining file.old) (λ all. bytes.items ≡ all)) }
+{
+    let mut bytes = Vec::new(alloc);
+    let mut chunk = [0u8; CHUNK];
+    'chunks: for _ in 0..=LONGEST {
+        match file.read(&mut chunk) {
+            Ok(0) => return Ok(bytes),
+            Ok(n) => {
+                if n > LONGEST - bytes.len() {
+                    return Err(StoreError::Failed);
+                }
+                bytes.extend_from_slice(&chunk[..n])?;
+            }
+            Err(_) => return Err(StoreError::Failed),
+        }
+    }
+    Err(StoreError::Failed)
+}
+
+// Opens a file and reads it whole.
+fn read_file<R: Files>(rt: &R, alloc: Global, name: &str) -> Result<Vec<u8>, StoreError>
+    ensures { IfOk result (λ bytes. length bytes.items ≤ 2 ^ 28) }
+{
+    match File::open(rt, name) {
+        Ok(mut file) => read_to_end(alloc, &mut file),
+        Err(_) => Err(StoreError::Failed),
+    }
+}
+
+impl<R: Files> Store for DiskStore<R> {
+    ghost use Rattle.std.specs.Prelude.{false, None};
+    ghost use Rattle.tcc_world.specs.Names.{times};
+
+    ghost tells = { λ _. false };
+
+    ghost contents = { λ _ _. None };
+
+    ghost failed_reads = { λ s name. times s.unread name };
+
+    ghost failed_writes = { λ s name. times s.unwritten name };
+
+    #[tactic(auto, using(crate::proofs::Holding::booking))]
+    fn read(&mut self, alloc: Global, name: &str) -> Result<Vec<u8>, StoreError> {
+        match read_file(&self.rt, alloc, name) {
+            Ok(bytes) => Ok(bytes),
+            Err(StoreError::Memory) => Err(StoreError::Memory),
+            Err(StoreError::Failed) => {
+                self.failed_reads.book(alloc, name)?;
+                Err(StoreError::Failed)
+            }
+        }
+    }
+
+    #[tactic(auto, using(crate::proofs::Holding::booking))]
+    fn write(&mut self, alloc: Global, name: &str, bytes: &[u8]) -> Result<(), StoreError> {
+        match fs::write(&self.rt, name, bytes) {
+            Ok(()) => Ok(()),
+            Err(_) => {
+                self.failed_writes.book(alloc, name)?;
+                Err(StoreError::Failed)
+            }
+        }
+    }
+}
+
+#[cfg(test)]
+mod tests {
+    use super::*;
+    use std::process;
+    use std::test::Fail;
+
+    #[test]
+    fn writes_and_reads_back(rt: HostRuntime) -> Result<(), Fail> {
+        let mut store = DiskStore::new(rt, rt.alloc());
+        let name = format!(in rt.alloc(); "/tmp/tcc_world_{}", process::id(rt.process()))?;
+        store.write(rt.alloc(), name.as_str(), b"two\nlines\n")?;
+        assert_eq!(rt;
+            store.read(rt.alloc(), name.as_str())?.as_slice(),
+            b"two\nlines\n".as_slice()
+        );
+        fs::remove_file(&rt, name.as_str())?;
+        let missing = store.read(rt.alloc(), name.as_str());
+        assert!(rt; matches!(missing, Err(StoreError::Failed)));
+        let nowhere = store.write(rt.alloc(), "/tmp/tcc_world_no_folder/file", b"x");
+        assert!(rt; matches!(nowhere, Err(StoreError::Failed)));
+        Ok(())
+    }
+}

@@ -1,0 +1,143 @@
+// A sink in memory, which fails at chosen calls and when it is full.
+ghost use Rattle.std.specs.Prelude.{◌≡◌, ℕ, ◌<◌, ◌≤◌, [], length, take, IfOk, OnOk, OnErr};
+ghost use Rattle.tcc_world.specs.Told.{appended};
+ghost use Rattle.tcc_world.specs.Faults.{Rose};
+
+use crate::{Sink, SinkFailed};
+use std::alloc::Global;
+use std::marker::Model;
+use tcc_base::NoMemory;
+
+/// Bytes in memory, up to a limit, for tests of what a failing sink brings about.
+#[derive(Drop)]
+pub struct VecSink {
+    bytes: Vec<u8>,
+    limit: usize,
+    fails: Vec<u64>,
+    calls: u64,
+    faults: u64,
+}
+
+impl Model for VecSink {
+    ghost use Rattle.std.specs.Prelude.{◌≤◌, vec_len, vec_capacity};
+    ghost use Rattle.tcc_world.specs.Written.{Written};
+
+    ghost Value = { Written };
+
+    ghost view = { λ s. record { bytes = s.bytes.items; limit = s.limit; fails = s.fails.items; calls = s.calls; faults = s.faults } };
+
+    ghost invariant = { λ s. (vec_len s.bytes ≤ s.limit) × (s.limit ≤ vec_capacity s.bytes) };
+}
+
+impl VecSink {
+    ghost use Rattle.tcc_world.specs.Written.{empty_sink};
+
+    /// An empty sink with room for `limit` bytes, which is made here. Of the calls that bring a byte, numbered from 0,
+    /// those in `fails` fail, and so do those that find it full.
+    pub fn new(alloc: Global, limit: u64, fails: Vec<u64>) -> Result<VecSink, NoMemory>
+        ensures { IfOk result (λ s. s ≡ empty_sink limit fails.items) }
+    {
+        let limit = limit as usize;
+        match Vec::with_capacity(alloc, limit) {
+            Ok(bytes) => Ok(VecSink {
+                bytes,
+                limit,
+                fails,
+                calls: 0,
+                faults: 0,
+            }),
+            Err(_) => Err(NoMemory),
+        }
+    }
+
+    /// The bytes that were taken, in order.
+    pub fn bytes(&self) -> &[u8]
+        ensures { result.now ≡ self.now.bytes }
+    {
+        self.bytes.as_slice()
+    }
+}
+
+impl Sink for VecSink {
+    ghost use Rattle.std.specs.Prelude.{Some};
+    ghost use Rattle.tcc_world.specs.Written.{answer, after_call};
+
+    ghost bytes = { λ s. Some s.bytes };
+
+    ghost faults = { λ s. s.faults };
+
+    /// Takes as many bytes as there is room for, and no memory. A call with an empty piece has no number; calls past
+    /// number 2^64 - 1 have that number.
+    #[tactic(auto, unfolding(crate::specs::Told::appended))]
+    fn write(&mut self, piece: &[u8]) -> Result<usize, SinkFailed>
+        ensures answers { 0 < length piece.now → result ≡ answer self.old piece.now }
+        ensures after { 0 < length piece.now → self.new ≡ after_call self.old piece.now }
+        ensures unchanged { length piece.now ≡ 0 → self.new ≡ self.old }
+
+        ensures prefix { IfOk result (λ n. n ≤ length piece.now) }
+        ensures taken { IfOk result (λ n. Some self.new.bytes ≡ appended (Some self.old.bytes) (take n piece.now)) }
+        ensures progress { IfOk result (λ n. 0 < length piece.now → 0 < n) }
+        ensures failed { OnErr result (Some self.new.bytes ≡ Some self.old.bytes) }
+        ensures cause { OnErr result (Rose self.old.faults self.new.faults) }
+        ensures faults_stay { self.old.faults ≤ self.new.faults }
+        ensures empty { length piece.now ≡ 0 → (result ≡ Ok 0) × (Some self.new.bytes ≡ Some self.old.bytes) × (self.new.faults ≡ self.old.faults) }
+    {
+        if piece.is_empty() {
+            return Ok(0);
+        }
+        let number = self.calls;
+        self.calls = number.saturating_add(1);
+        let room = self.limit - self.bytes.len();
+        if room == 0 || self.fails.contains(&number) {
+            self.faults = self.faults.saturating_add(1);
+            return Err(SinkFailed);
+        }
+        let part = &piece[..room.min(piece.len())];
+        match self.bytes.extend_from_slice(part) {
+            Ok(()) => Ok(part.len()),
+            Err(_) => unreachable!(),
+        }
+    }
+}
+
+#[cfg(test)]
+mod tests {
+    use super::*;
+    use crate::write_all;
+    use std::test::Fail;
+
+    // Pieces that aren't empty are numbered from 0, and that with the number 1 fails.
+    #[test]
+    fn fails_by_number_and_when_full(rt: HostRuntime) -> Result<(), Fail> {
+        let mut sink = VecSink::new(rt.alloc(), 4, vec![in rt.alloc(); 1]?)?;
+        for (piece, want) in [
+            ("", Ok(0)),
+            ("ab", Ok(2)),
+            ("c", Err(SinkFailed)),
+            ("", Ok(0)),
+            ("cdef", Ok(2)),
+            ("g", Err(SinkFailed)),
+            ("", Ok(0)),
+        ] {
+            assert_eq!(rt; sink.write(piece.as_bytes()), want, "at {piece}");
+        }
+        assert_eq!(rt; sink.bytes(), b"abcd".as_slice());
+        Ok(())
+    }
+
+    #[test]
+    fn takes_all_or_a_prefix(rt: HostRuntime) -> Result<(), Fail> {
+        for (limit, fails, all, taken) in [
+            (9, 7, true, "hello"),
+            (5, 7, true, "hello"),
+            (3, 7, false, "hel"),
+            (9, 0, false, ""),
+            (0, 7, false, ""),
+        ] {
+            let mut sink = VecSink::new(rt.alloc(), limit, vec![in rt.alloc(); fails]?)?;
+            assert_eq!(rt; write_all(&mut sink, b"hello").is_ok(), all, "at {limit}");
+            assert_eq!(rt; sink.bytes(), taken.as_bytes(), "at {limit}");
+        }
+        Ok(())
+    }
+}
