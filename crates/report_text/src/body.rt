@@ -60,7 +60,7 @@ fn push_core_lines(text: &mut String, number: usize, core: &CoreShown) -> Result
 {
     push_core(text, number, core.end)?;
     push_pc(text, core.pc)?;
-    push_registers(text, core.regs)?;
+    push_registers(text, &core.regs)?;
     if !core.console.is_empty() {
         push_console(text, core.console)?;
     }

@@ -4,6 +4,8 @@
 mod body;
 mod lines;
 mod shown;
+#[cfg(test)]
+mod tests;
 mod texts;
 
 pub use shown::{CoreShown, Ending, Words};

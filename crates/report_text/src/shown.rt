@@ -57,7 +57,7 @@ impl Words for Vec<u32> {
 pub struct CoreShown<'a> {
     pub end: CoreEnd,
     pub pc: u32,
-    pub regs: &'a Regs,
+    pub regs: Regs,
     pub console: &'a [u8],
 }
 
@@ -66,7 +66,7 @@ impl<'a> Model for CoreShown<'a> {
 
     ghost Value = { ShownCore };
 
-    ghost view = { λ c. record { ended = c.end; pc = c.pc; regs = c.regs.now; console = c.console.now } };
+    ghost view = { λ c. record { ended = c.end; pc = c.pc; regs = c.regs; console = c.console.now } };
 }
 
 /// What a report shows of a machine: the commits from first to last, the cores by number, and `ram` beside the words that
