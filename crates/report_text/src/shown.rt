@@ -6,7 +6,9 @@ use reg_checkpoint::Regs;
 use std::marker::Model;
 use tcc_base::{Commit, CoreEnd, WordAddr};
 
-/// A memory whose words can be read one by one.
+/// A memory whose words of four bytes can be read one by one.
+///
+/// To a contract it is the value of each word by its number, `words`, and the number of words, `count`.
 pub trait Words {
     ghost words: { Self → ℕ → ℕ };
 
@@ -16,7 +18,7 @@ pub trait Words {
     fn word_count(&self) -> usize
         ensures { result ≡ count self.now };
 
-    /// The value of a word.
+    /// The value of a word, by its number from 0.
     fn word(&self, w: WordAddr) -> u32
         requires { w.0 < count self.now }
         ensures { result ≡ words self.now w.0 };
@@ -53,6 +55,8 @@ impl Words for Vec<u32> {
 }
 
 /// What a report shows of a core: how it stands, and what its committed transactions left.
+///
+/// `pc` is an address in bytes, and `console` has the bytes that the committed transactions printed, in order.
 #[derive(Debug, Drop)]
 pub struct CoreShown<'a> {
     pub end: CoreEnd,
@@ -69,8 +73,8 @@ impl<'a> Model for CoreShown<'a> {
     ghost view = { λ c. record { ended = c.end; pc = c.pc; regs = c.regs; console = c.console.now } };
 }
 
-/// What a report shows of a machine: the commits from first to last, the cores by number, and `ram` beside the words that
-/// were loaded, both from the address `base` on.
+/// What a report shows of a machine: the commits from first to last, the cores by number, and RAM as it is beside RAM as it
+/// was loaded, both from the address `base` on.
 #[derive_where(Clone, Copy)]
 pub struct Ending<'a, R, L> {
     pub commits: &'a [Commit],

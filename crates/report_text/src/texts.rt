@@ -11,7 +11,8 @@ use tcc_base::NoMemory;
 
 /// The report of a run: whether the run is done, how many events it took, and the state that it committed.
 ///
-/// `ram` and `loaded` have equally many words, all below address 2^32. One pass over RAM. Fails only for want of memory.
+/// `ram` and `loaded` have equally many words, all below the address 2^32. Reads each word of both once. Fails only for want
+/// of memory.
 pub fn report<R: Words, L: Words>(
     alloc: Global,
     done: bool,
@@ -27,7 +28,8 @@ pub fn report<R: Words, L: Words>(
 
 /// The report of a serial execution: its commits, and the state after them.
 ///
-/// `ram` and `loaded` have equally many words, all below address 2^32. One pass over RAM. Fails only for want of memory.
+/// `ram` and `loaded` have equally many words, all below the address 2^32. Reads each word of both once. Fails only for want
+/// of memory.
 pub fn serial_report<R: Words, L: Words>(
     alloc: Global,
     ending: &Ending<R, L>,
