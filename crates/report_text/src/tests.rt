@@ -13,12 +13,8 @@ fn commit(alloc: Global, tid: u64, core: u8, n: u32, loads: &[Load]) -> Result<C
         loads: List {
             items: loads.to_vec(alloc)?,
         },
-        stores: List {
-            items: Vec::new(alloc),
-        },
-        console: List {
-            items: Vec::new(alloc),
-        },
+        stores: List::new(alloc),
+        console: List::new(alloc),
     })
 }
 
