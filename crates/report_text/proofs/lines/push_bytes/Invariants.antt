@@ -1,0 +1,8 @@
+-- The bytes so far are written.
+use Rattle.std.proofs.Common.{◌≡◌, ◌++◌, string_bytes, take}
+use Rattle.report_text.specs.Lines.{hex}
+use Rattle.std.specs.List.{flat_map}
+use Rattle.report_text.proofs.lines.push_bytes.Given as goal
+
+abbrev pub invariant-loop-byte : goal.invariant-loop-byte
+invariant-loop-byte l = string_bytes l.text ≡ string_bytes l.fn.text ++ flat_map (hex 2) (take l.byte-index l.bytes)

@@ -1,0 +1,5 @@
+pub mod Ending
+pub mod Lines
+pub mod Plain
+pub mod Shown
+pub mod Text
