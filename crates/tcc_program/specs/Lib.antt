@@ -1,3 +1,4 @@
+pub mod Orders
 pub mod Plain
 pub mod Program
 pub mod Ram
