@@ -1,0 +1,45 @@
+-- What the machine with the write buffer has in common with the plain machine: the commits are a serial execution, each with
+-- the loads, stores and console bytes that it has there, and the committed registers, RAM and console are those after it.
+use Rattle.std.specs.Prelude.{ℕ, ◌≡◌, ◌≤◌, List, [], map, length, Option, Some}
+use Rattle.net_core.specs.Rules.{Machine, run, fresh}
+use Rattle.rv_plain.specs.Buffered.{plain_view}
+use Rattle.rv_plain.specs.Image.{image_word}
+use Rattle.rv_plain.specs.Machine.{program, started, start_local}
+use Rattle.tcc_base.specs.Put.{put}
+use Rattle.tcc_base.specs.Settings.{Settings}
+use Rattle.tcc_base.specs.declared.access.Commit.{Commit}
+use Rattle.tcc_base.specs.declared.access.CoreEnd.TheVariants.{Run}
+use Rattle.tcc_program.specs.Orders.{order_of_commit, last_tid}
+use Rattle.tcc_program.specs.Plain.{Plain, PlainCore, serial, steps, begun}
+use Rattle.tcc_program.specs.Program.{Program}
+
+-- the machine at its start: one core, at the image's first word
+unfoldable pub start : Settings → List ℕ → Machine
+start s image = record {
+  attempt = fresh (start_local s.cores 0 s.base) (image_word image);
+  n = 0;
+  check = start_local s.cores 0 s.base;
+  ended = Run;
+  console = [];
+  commits = [];
+  events = 0;
+}
+
+-- what is committed, as a plain machine whose other cores are those of another
+unfoldable pub committed : Plain → Machine → Plain
+committed others m = record {
+  ram = m.attempt.ram;
+  cores = put others.cores 0 (record { local = m.check; ended = m.ended; console = m.console });
+}
+
+-- the commits are a serial execution from the start: their TIDs rise, each is a whole transaction with these loads, stores and
+-- console bytes, and what is committed is the plain machine after them
+unfoldable pub IsSerial : (base : ℕ) → Program → Plain → Machine → Type 0
+IsSerial base p start m =
+    serial base p 0 (map order_of_commit m.commits) start ≡ Some (committed start m, m.commits)
+
+-- the headline: so it is after any number of events
+abbrev pub RunsAreSerial : Type 0
+RunsAreSerial =
+    (s : Settings) (image : List ℕ) (events : ℕ) → 1 ≤ s.cores
+    → IsSerial s.base (program s image) (started s image) (run s.base (program s image) events (start s image))
