@@ -2,9 +2,8 @@
 // before its RAM, whose only events are to execute and to commit.
 #![tactic(auto)]
 
-ghost use Rattle.net_core.specs.Agreement.{RunsAreSerial};
+mod laws;
+mod system;
 
-/// A law: whatever the image and however many events, the commits are a serial execution of the plain machine.
-pub fn runs_are_serial()
-    ensures { RunsAreSerial }
-{}
+pub use laws::runs_are_serial;
+pub use system::{Step, StepError, System};

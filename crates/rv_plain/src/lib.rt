@@ -10,4 +10,4 @@ mod plain;
 pub use attempt::{Attempt, Outcome};
 pub use code::Code;
 pub use memory::Memory;
-pub use plain::{CoreState, Done, Order, Plain, PlainFault, SerialFault};
+pub use plain::{CoreState, Done, Order, Plain, PlainFault, SerialFault, start_regs};

@@ -81,8 +81,9 @@ impl Model for Plain {
     ghost invariant = { λ p. (4 * length p.memory.ram ≡ p.code.settings.ram) × (p.memory.waiting ≡ []) × (length p.cores ≡ p.code.settings.cores) };
 }
 
+/// The registers of a core at its start: x10 is its number, x11 the number of cores, all others are zero.
 #[tactic(auto, unfolding(crate::specs::Machine::start_regs))]
-fn start_regs(cores: u8, core: u8) -> Regs
+pub fn start_regs(cores: u8, core: u8) -> Regs
     ensures { result ≡ start_regs cores core }
 {
     let mut regs = Regs::new();

@@ -1,0 +1,22 @@
+use Rattle.std.proofs.Common.{refl}
+use Rattle.net_core.specs.Agreement.{start}
+use Rattle.net_core.specs.SystemState.{machine_of}
+use Rattle.rv_plain.specs.Attempts.{attempt_of}
+use Rattle.rv_plain.specs.Store.{buffer_of}
+use Rattle.net_core.proofs.system.System.start.Goals as goal
+
+pub returns-clause-started : goal.returns-clause-started
+unfolding machine_of start attempt_of buffer_of
+returns-clause-started c =
+    rw (
+      c.begin.ensures,
+      c.save.ensures,
+      c.start_regs-regs.ensures,
+      c.in_ok-memory.ensures.ram,
+      c.in_ok-memory.ensures.buffer,
+      c.base.ensures.value,
+      c.base-2.ensures.value,
+      c.cores.ensures.value,
+      c.new-3.ensures,
+      c.new-4.ensures.items,
+    ) refl
