@@ -135,6 +135,13 @@ impl System {
         self.ended
     }
 
+    /// The program as it was loaded, and the settings. Takes no memory.
+    pub fn code(&self) -> &Code
+        ensures { result.now ≡ self.now.loaded }
+    {
+        &self.code
+    }
+
     /// The machine before its first event: the image in RAM from its base on, zeros after it, and the core at its first word.
     pub fn start(alloc: Global, config: &Config, image: &[u8]) -> Result<System, NoMemory>
         requires { length image.now ≤ config.now.ram }
@@ -166,6 +173,7 @@ impl System {
         ensures moves { OnOk result (event_step self.old e ≡ Some (machine_of self.new)) }
         ensures tells { IfOk result (Tells (machine_of self.old)) }
         ensures refused { IsErrOf result StepError.Refused ↔ (event_step self.old e ≡ None) }
+        ensures counted { OnOk result (self.new.events ≡ self.old.events + 1) }
         ensures loaded { self.new.loaded ≡ self.old.loaded }
         ensures unchanged { OnErr result (self.new ≡ self.old) }
     {
@@ -181,6 +189,7 @@ impl System {
         ensures moves { OnOk result (core_step self.old ≡ Some (machine_of self.new)) }
         ensures tells { IfOk result (Tells (machine_of self.old)) }
         ensures refused { IsErrOf result StepError.Refused ↔ (core_step self.old ≡ None) }
+        ensures counted { OnOk result (self.new.events ≡ self.old.events + 1) }
         ensures loaded { self.new.loaded ≡ self.old.loaded }
         ensures unchanged { OnErr result (self.new ≡ self.old) }
     {
@@ -203,6 +212,7 @@ impl System {
         ensures moves { OnOk result (machine_of self.new ≡ execute self.old.loaded.settings.base (program self.old.loaded.settings self.old.loaded.image) (machine_of self.old)) }
         ensures moved { IfOk result (λ s. s ≡ Step.Moved) }
         ensures memory { IfErr result (λ f. f ≡ StepError.Memory) }
+        ensures counted { OnOk result (self.new.events ≡ self.old.events + 1) }
         ensures loaded { self.new.loaded ≡ self.old.loaded }
         ensures unchanged { OnErr result (self.new ≡ self.old) }
     {
@@ -223,6 +233,7 @@ impl System {
         ensures moves { OnOk result (Some (machine_of self.new) ≡ option_map (commit (machine_of self.old)) (end_of (outcome_of self.old.outcome))) }
         ensures told { IfOk result (λ s. s ≡ Step.Committed (record { 0 = length self.old.commits + 1 })) }
         ensures memory { IfErr result (λ f. f ≡ StepError.Memory) }
+        ensures counted { OnOk result (self.new.events ≡ self.old.events + 1) }
         ensures loaded { self.new.loaded ≡ self.old.loaded }
         ensures unchanged { OnErr result (self.new ≡ self.old) }
     {
