@@ -1,0 +1,4 @@
+pub mod Digits
+pub mod Headline
+pub mod Running
+pub mod Wording

@@ -1,0 +1,40 @@
+-- A run event by event.
+use Rattle.std.proofs.Common.{ℕ, zero, suc, List, ◌≡◌, ◌+◌, ◌-◌, ◌≤◌, Some, None, refl, sym, ◌∙◌, ap, arith, add-one, add-zero, add-suc, subst}
+use Rattle.net_core.specs.Agreement.{start}
+use Rattle.net_core.specs.Rules.{Machine, run, step, or_stay}
+use Rattle.rv_plain.specs.Loaded.{Loaded}
+use Rattle.rv_plain.specs.Machine.{program}
+use Rattle.tcc_base.specs.Settings.{Settings}
+use Rattle.tcc_cli.specs.First.{settings, run_of}
+use Rattle.tcc_program.specs.Program.{Program}
+
+pub run-more : (base : ℕ) (p : Program) (k : ℕ) (from now next : Machine) → now ≡ run base p k from
+    → step base p now ≡ Some next → next ≡ run base p (k + 1) from
+unfolding run
+run-more base p k from now next is moves = rw (add-one k, ← is, moves) refl
+
+run-stays : (base : ℕ) (p : Program) (k j : ℕ) (from now : Machine) → now ≡ run base p k from → step base p now ≡ None
+    → now ≡ run base p (k + j) from
+unfolding run
+run-stays base p k zero from now is stays = rw (add-zero k) is
+run-stays base p k (suc j) from now is stays =
+    let before = run-stays base p k j from now is stays in
+    rw (add-suc k j, ← before, stays) refl
+
+-- where the machine's event isn't enabled, more events change nothing
+pub run-rests : (base : ℕ) (p : Program) (k n : ℕ) (from now : Machine) → k ≤ n → now ≡ run base p k from
+    → step base p now ≡ None → now ≡ run base p n from
+run-rests base p k n from now le is stays =
+    let all : k + (n - k) ≡ n = omega arith in
+    subst (λ j. now ≡ run base p j from) all (run-stays base p k (n - k) from now is stays)
+
+-- a run of the machine that the settings and the image start
+pub run-whole : (now begun : Machine) (l : Loaded) (config : Settings) (image : List ℕ) (steps : ℕ)
+    → now ≡ run l.settings.base (program l.settings l.image) steps begun
+    → l ≡ record { settings = config; image = image } → begun ≡ start config image → config ≡ settings
+    → now ≡ run_of image steps
+unfolding run_of
+run-whole now begun l config image steps runs loaded starts is =
+    let one = subst (λ x. now ≡ run x.settings.base (program x.settings x.image) steps begun) loaded runs in
+    let two = subst (λ m. now ≡ run config.base (program config image) steps m) starts one in
+    subst (λ s. now ≡ run s.base (program s image) steps (start s image)) is two

@@ -1,0 +1,30 @@
+use Rattle.std.proofs.Common.{◌≡◌, ℕ, IfOk, refl, subst, ap, ◌∙◌}
+use Rattle.net_core.specs.Agreement.{start}
+use Rattle.net_core.specs.SystemState.{machine_of}
+use Rattle.std.specs.String.{string_bytes}
+use Rattle.tcc_cli.proofs.Running.{run-whole}
+use Rattle.tcc_cli.specs.First.{run_of, text_of, is_halted}
+use Rattle.tcc_cli.proofs.simulation.simulate.Goals as goal
+
+pub run_for-requires-clause-first : goal.run_for-requires-clause-first
+unfolding machine_of start
+run_for-requires-clause-first c = ap (λ m. m.events) c.in_ok-system.ensures.started
+
+pub finish-requires : goal.finish-requires
+finish-requires c = rw (c.in_ok-run_for.ensures.loaded, c.in_ok-system.ensures.loaded) c.in-Ok.ensures.settings
+
+pub returns-clause-done : goal.returns-clause-done
+returns-clause-done c =
+    let same = run-whole (machine_of c.run_for.new.system) (machine_of c.in_ok-system.system) c.in_ok-system.system.loaded
+    c.in-Ok.config c.args.image.now c.args.steps c.in_ok-run_for.ensures.runs c.in_ok-system.ensures.loaded
+    c.in_ok-system.ensures.started c.in-Ok.ensures.settings in
+    subst (λ m. IfOk c.finish.result (λ f. f.done ≡ is_halted m.ended)) same c.finish.ensures.done
+
+pub returns-clause-text : goal.returns-clause-text
+returns-clause-text c =
+    let same = run-whole (machine_of c.run_for.new.system) (machine_of c.in_ok-system.system) c.in_ok-system.system.loaded
+    c.in-Ok.config c.args.image.now c.args.steps c.in_ok-run_for.ensures.runs c.in_ok-system.ensures.loaded
+    c.in_ok-system.ensures.started c.in-Ok.ensures.settings in
+    let image = ap (λ l. l.image) (c.in_ok-run_for.ensures.loaded ∙ c.in_ok-system.ensures.loaded) in
+    subst (λ i. IfOk c.finish.result (λ f. string_bytes f.text ≡ text_of i (run_of c.args.image.now c.args.steps))) image
+    (subst (λ m. IfOk c.finish.result (λ f. string_bytes f.text ≡ text_of c.run_for.new.system.loaded.image m)) same c.finish.ensures.text)

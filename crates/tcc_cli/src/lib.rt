@@ -1,0 +1,12 @@
+// All that the program does, from its words to its status, over any files, outputs and gate.
+#![tactic(auto)]
+
+mod laws;
+mod simulation;
+mod status;
+mod top;
+mod words;
+
+pub use laws::answers_are_complete;
+pub use status::Status;
+pub use top::tcc_main;

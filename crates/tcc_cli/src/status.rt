@@ -1,0 +1,39 @@
+// How the program ends.
+ghost use Rattle.std.specs.Prelude.{◌≡◌};
+ghost use Rattle.tcc_cli.specs.Statuses.{number_of};
+
+/// How the program ends, with the number that it ends with.
+#[derive(Clone, Copy, Debug, PartialEq, Eq)]
+pub enum Status {
+    /// 0: a halt or a trap is committed.
+    Done,
+    /// 1: all the events were done, and no halt or trap is committed.
+    Stopped,
+    /// 2: the words are no command.
+    Words,
+    /// 3: the file is no image.
+    Image,
+    /// 5: the file wasn't read.
+    StoreFault,
+    /// 6: the report wasn't written whole.
+    SinkFault,
+    /// 7: there wasn't enough memory.
+    Memory,
+}
+
+impl Status {
+    /// The number that the program ends with. Takes no memory.
+    pub fn number(&self) -> u8
+        ensures { result ≡ number_of self.now }
+    {
+        match self {
+            Status::Done => 0,
+            Status::Stopped => 1,
+            Status::Words => 2,
+            Status::Image => 3,
+            Status::StoreFault => 5,
+            Status::SinkFault => 6,
+            Status::Memory => 7,
+        }
+    }
+}
