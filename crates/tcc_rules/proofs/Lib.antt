@@ -7,3 +7,6 @@ pub mod Mailed
 pub mod LocalStep
 pub mod Merged
 pub mod Picked
+pub mod Sound
+pub mod SoundExec
+pub mod SoundDeliver

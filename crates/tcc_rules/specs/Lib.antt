@@ -19,3 +19,4 @@ pub mod Schedules
 pub mod Laws
 pub mod Local
 pub mod Merged
+pub mod Sound

@@ -3,6 +3,7 @@
 #![tactic(auto)]
 
 ghost use Rattle.tcc_rules.specs.Laws.{StepsActOnOne, UsefulHolds, UsefulOrdered, NotBeforeItself, UsefulEnabled, DoneUseless, TidsCount, PickedRuns, PickedEnds};
+ghost use Rattle.tcc_rules.specs.Sound.{CoresSound};
 ghost use Rattle.tcc_rules.specs.Merged.{MergedRuns};
 ghost use Rattle.tcc_rules.specs.Schedules.{TwoTids, TwoTidsMore, ReaderWaits, ProbeWaits, OverARead, DoomedAttempt, BeforeTheFill, OverADirtyOwner, WriteBackWaits, AloneAfterOverflow};
 
@@ -51,4 +52,11 @@ pub fn logs_that_fit_are_a_run()
 pub fn a_picked_schedule_is_a_run()
     ensures runs { PickedRuns }
     ensures ends { PickedEnds }
+{}
+
+/// In every state that a run reaches each core's cache is consistent, an awaited line has a frame, only a core that is alone
+/// has spilled words, a line with one has no modified and no dirty word in its frame, and a core without an attempt has no
+/// marks.
+pub fn cores_stay_sound()
+    ensures { CoresSound }
 {}
