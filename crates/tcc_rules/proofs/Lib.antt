@@ -10,3 +10,7 @@ pub mod Picked
 pub mod Sound
 pub mod SoundExec
 pub mod SoundDeliver
+pub mod Follows
+pub mod FollowsExec
+pub mod FollowsDeliver
+pub mod FollowsRun

@@ -203,7 +203,7 @@ staled-awaits : (l m : ℕ) (c : Cache) (o : Option Awaited) → AwaitsHeld c o 
 staled-awaits l m c None h = tt
 staled-awaits l m c (Some a) h = held-invalidated l m c a.line ∙ h
 
-without-sound : (sh : Shape) (l m : ℕ) (s : CoreState) → SoundCore sh s → SoundCore sh (without l m s)
+pub without-sound : (sh : Shape) (l m : ℕ) (s : CoreState) → SoundCore sh s → SoundCore sh (without l m s)
 unfolding without
 without-sound sh l m s k = record {
   cache = invalidated-keeps sh l m s.cache k.cache;
@@ -351,7 +351,7 @@ unfolding run_from next
 run_from-sound sh p [] h k = k
 run_from-sound sh p (e ∷ es) h k = run-step-sound sh p es h (step sh p h.world e) (step-sound sh p h.world e k) (run_from-sound sh p es)
 
-start-sound : (sh : Shape) (local : Local) → SoundCore sh (core_start local)
+pub start-sound : (sh : Shape) (local : Local) → SoundCore sh (core_start local)
 unfolding core_start none_spilled empty_cache
 start-sound sh local = record { cache = empty-keeps sh; awaits = tt; alone = λ i w. refl; apart = λ v w i h. absurd (cc); unmarked = λ i w. absurd (cc) }
 

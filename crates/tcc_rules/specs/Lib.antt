@@ -20,3 +20,4 @@ pub mod Laws
 pub mod Local
 pub mod Merged
 pub mod Sound
+pub mod Follows

@@ -4,6 +4,7 @@
 
 ghost use Rattle.tcc_rules.specs.Laws.{StepsActOnOne, UsefulHolds, UsefulOrdered, NotBeforeItself, UsefulEnabled, DoneUseless, TidsCount, PickedRuns, PickedEnds};
 ghost use Rattle.tcc_rules.specs.Sound.{CoresSound};
+ghost use Rattle.tcc_rules.specs.Follows.{AttemptsFollow};
 ghost use Rattle.tcc_rules.specs.Merged.{MergedRuns};
 ghost use Rattle.tcc_rules.specs.Schedules.{TwoTids, TwoTidsMore, ReaderWaits, ProbeWaits, OverARead, DoomedAttempt, BeforeTheFill, OverADirtyOwner, WriteBackWaits, AloneAfterOverflow};
 
@@ -59,4 +60,12 @@ pub fn a_picked_schedule_is_a_run()
 /// marks.
 pub fn cores_stay_sound()
     ensures { CoresSound }
+{}
+
+/// In every state that a run reaches, each core's attempt is what the plain machine does from the core's checkpoint, over any
+/// memory of 32-bit words that has the values which the attempt used: the same registers, pc, loads, stores and console, the
+/// same words as the core sees them, and its end where it has ended. The program's accesses are aligned, and what it stores
+/// fits.
+pub fn attempts_follow_from_their_uses()
+    ensures { AttemptsFollow }
 {}
