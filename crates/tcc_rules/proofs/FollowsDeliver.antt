@@ -1,5 +1,5 @@
 -- Evict and messages leave an attempt what it was, or begin it anew.
-use Rattle.std.proofs.Common.{◌≡◌, ℕ, Bool, true, false, not, cond, ◌&&◌, ◌||◌, ◌⊎◌, inl, inr, List, [], get_or, Option, Some, None, is_some, refl, ap, sym, subst}
+use Rattle.std.proofs.Common.{◌≡◌, ℕ, Bool, true, false, not, cond, ◌&&◌, ◌||◌, List, [], get_or, Option, Some, None, is_some, refl, ap, sym, subst}
 use Rattle.std.specs.Prelude.{IfSome, unwrap_or, ◌==◌, nat_lt}
 use Rattle.tcc_base.specs.Put.{put}
 use Rattle.tcc_program.specs.Plain.{Outcome, Goes}
@@ -23,9 +23,37 @@ use Rattle.tcc_rules.proofs.SoundDeliver.{without-sound}
 use Rattle.tcc_rules.proofs.Follows.{with_words, is_live, in-from, follows-same, follows-into}
 use Rattle.tcc_rules.proofs.FollowsExec.{fresh-claims}
 
--- an attempt that goes on, or an empty one
-abbrev pub Goes_on : Shape → Program → Uses → CoreState → Type 0
-Goes_on sh p us s = Follows sh p s us ⊎ Follows sh p s []
+-- a violated core that has an attempt begins anew
+abbrev pub rolls_back : Phase → Bool
+rolls_back DoomedTid = false
+rolls_back Halted = false
+rolls_back Running = true
+rolls_back AwaitTid = true
+rolls_back (Probing t) = true
+rolls_back (Ready t) = true
+rolls_back (Overflowing t) = true
+rolls_back (Solo t) = true
+
+abbrev pub uses_violated : Bool → Phase → Uses → Uses
+uses_violated b q us = cond (b && rolls_back q) [] us
+
+-- the uses after a message
+abbrev pub uses_delivered : CoreState → Msg → Uses → Uses
+uses_delivered s (Inv l m u) us = uses_violated (is_violated l m u s) s.phase us
+uses_delivered s TidReq us = us
+uses_delivered s (TidGrant t) us = us
+uses_delivered s (LoadReq l x) us = us
+uses_delivered s (Fill l ws) us = us
+uses_delivered s (Skip t) us = us
+uses_delivered s (Probe t) us = us
+uses_delivered s (ProbeReply t serving) us = us
+uses_delivered s (Mark l m t) us = us
+uses_delivered s (Commit t n) us = us
+uses_delivered s (Abort t) us = us
+uses_delivered s (WriteBack l m ws t) us = us
+uses_delivered s (Flush l m ws t) us = us
+uses_delivered s (DataReq l) us = us
+uses_delivered s (InvAck l b) us = us
 
 evicted-seen : (sh : Shape) (x y l : ℕ) (s : CoreState) → s.cache.at x y ≡ Some l → SoundCore sh s → (ram : ℕ → ℕ) (v : ℕ) → sees (with_words s (evicted x y s.cache) (spill_line l s.cache s.spilled)) ram v ≡ sees s ram v
 unfolding sees spill_line
@@ -160,35 +188,35 @@ rolled-follows sh p s q sp f e = record {
       (record { n = refl; local = refl; loads = refl; stores = refl; console = refl; ended = refl; words = λ ram v. rw (f v, modified-rolled_back s.cache v) }));
 }
 
-violated-follows : (sh : Shape) (p : Program) (s : CoreState) (us : Uses) (q : Phase) → s.phase ≡ q → SoundCore sh s → Follows sh p s us → Goes_on sh p us (violated_in sh s q).core
+violated-follows : (sh : Shape) (p : Program) (s : CoreState) (us : Uses) (q : Phase) → s.phase ≡ q → SoundCore sh s → Follows sh p s us → Follows sh p (violated_in sh s q).core (uses_violated true q us)
 unfolding roll_back none_spilled
-violated-follows sh p s us Running e k a = inr (rolled-follows sh p s s.phase s.spilled (k.alone (ap is_solo e)) (subst (λ (x : Phase). EndFits x Goes) (sym e) refl))
-violated-follows sh p s us AwaitTid e k a = inr (rolled-follows sh p s DoomedTid s.spilled (k.alone (ap is_solo e)) refl)
-violated-follows sh p s us (Overflowing None) e k a = inr (rolled-follows sh p s DoomedTid s.spilled (k.alone (ap is_solo e)) refl)
-violated-follows sh p s us (Probing t) e k a = inr (rolled-follows sh p s Running s.spilled (k.alone (ap is_solo e)) refl)
-violated-follows sh p s us (Ready t) e k a = inr (rolled-follows sh p s Running s.spilled (k.alone (ap is_solo e)) refl)
-violated-follows sh p s us (Overflowing (Some t)) e k a = inr (rolled-follows sh p s Running none_spilled (λ w. refl) refl)
-violated-follows sh p s us (Solo t) e k a = inr (rolled-follows sh p s Running none_spilled (λ w. refl) refl)
-violated-follows sh p s us DoomedTid e k a = inl a
-violated-follows sh p s us Halted e k a = inl a
+violated-follows sh p s us Running e k a = rolled-follows sh p s s.phase s.spilled (k.alone (ap is_solo e)) (subst (λ (x : Phase). EndFits x Goes) (sym e) refl)
+violated-follows sh p s us AwaitTid e k a = rolled-follows sh p s DoomedTid s.spilled (k.alone (ap is_solo e)) refl
+violated-follows sh p s us (Overflowing None) e k a = rolled-follows sh p s DoomedTid s.spilled (k.alone (ap is_solo e)) refl
+violated-follows sh p s us (Probing t) e k a = rolled-follows sh p s Running s.spilled (k.alone (ap is_solo e)) refl
+violated-follows sh p s us (Ready t) e k a = rolled-follows sh p s Running s.spilled (k.alone (ap is_solo e)) refl
+violated-follows sh p s us (Overflowing (Some t)) e k a = rolled-follows sh p s Running none_spilled (λ w. refl) refl
+violated-follows sh p s us (Solo t) e k a = rolled-follows sh p s Running none_spilled (λ w. refl) refl
+violated-follows sh p s us DoomedTid e k a = a
+violated-follows sh p s us Halted e k a = a
 
-if_violated-follows : (sh : Shape) (p : Program) (b : Bool) (s : CoreState) (us : Uses) → SoundCore sh s → Follows sh p s us → Goes_on sh p us (if_violated sh b s).core
+if_violated-follows : (sh : Shape) (p : Program) (b : Bool) (s : CoreState) (us : Uses) → SoundCore sh s → Follows sh p s us → Follows sh p (if_violated sh b s).core (uses_violated b s.phase us)
 unfolding if_violated
 if_violated-follows sh p true s us k a = violated-follows sh p s us s.phase refl k a
-if_violated-follows sh p false s us k a = inl a
+if_violated-follows sh p false s us k a = a
 
-invalidate-follows : (sh : Shape) (p : Program) (l m u : ℕ) (s : CoreState) (us : Uses) → SoundCore sh s → Follows sh p s us → Goes_on sh p us (invalidate sh l m u s).core
-unfolding invalidate acknowledged
+invalidate-follows : (sh : Shape) (p : Program) (l m u : ℕ) (s : CoreState) (us : Uses) → SoundCore sh s → Follows sh p s us → Follows sh p (invalidate sh l m u s).core (uses_violated (is_violated l m u s) s.phase us)
+unfolding invalidate acknowledged without
 invalidate-follows sh p l m u s us k a = if_violated-follows sh p (is_violated l m u s) (without l m s) us (without-sound sh l m s k) (without-follows sh p l m s us a)
 
 abbrev pub OutGoes : Shape → Program → Uses → Option Out → Type 0
-OutGoes sh p us o = IfSome o (λ t. Goes_on sh p us t.core)
+OutGoes sh p us o = IfSome o (λ t. Follows sh p t.core us)
 
-from_dir-follows : (sh : Shape) (p : Program) (d : ℕ) (s : CoreState) (us : Uses) (m : Msg) → SoundCore sh s → Follows sh p s us → OutGoes sh p us (from_dir sh d s m)
+from_dir-follows : (sh : Shape) (p : Program) (d : ℕ) (s : CoreState) (us : Uses) (m : Msg) → SoundCore sh s → Follows sh p s us → OutGoes sh p (uses_delivered s m us) (from_dir sh d s m)
 unfolding probe_reply
-from_dir-follows sh p d s us (ProbeReply t serving) k a = inl (reply_phase-follows sh p d t s us s.phase refl a)
-from_dir-follows sh p d s us (Fill l ws) k a = inl (fill-follows sh p l ws s us k a)
-from_dir-follows sh p d s us (DataReq l) k a = inl (request-follows sh p l s us a)
+from_dir-follows sh p d s us (ProbeReply t serving) k a = reply_phase-follows sh p d t s us s.phase refl a
+from_dir-follows sh p d s us (Fill l ws) k a = fill-follows sh p l ws s us k a
+from_dir-follows sh p d s us (DataReq l) k a = request-follows sh p l s us a
 from_dir-follows sh p d s us (Inv l m t) k a = invalidate-follows sh p l m t s us k a
 from_dir-follows sh p d s us TidReq k a = tt
 from_dir-follows sh p d s us (TidGrant t) k a = tt
@@ -202,8 +230,8 @@ from_dir-follows sh p d s us (WriteBack l m ws t) k a = tt
 from_dir-follows sh p d s us (Flush l m ws t) k a = tt
 from_dir-follows sh p d s us (InvAck l b) k a = tt
 
-from_vendor-follows : (sh : Shape) (p : Program) (s : CoreState) (us : Uses) (m : Msg) → Follows sh p s us → OutGoes sh p us (from_vendor sh s m)
-from_vendor-follows sh p s us (TidGrant t) a = inl (grant-follows sh p t s us a)
+from_vendor-follows : (sh : Shape) (p : Program) (s : CoreState) (us : Uses) (m : Msg) → Follows sh p s us → OutGoes sh p (uses_delivered s m us) (from_vendor sh s m)
+from_vendor-follows sh p s us (TidGrant t) a = grant-follows sh p t s us a
 from_vendor-follows sh p s us TidReq a = tt
 from_vendor-follows sh p s us (ProbeReply t serving) a = tt
 from_vendor-follows sh p s us (Fill l ws) a = tt
@@ -220,7 +248,7 @@ from_vendor-follows sh p s us (Flush l m ws t) a = tt
 from_vendor-follows sh p s us (InvAck l b) a = tt
 
 -- the attempt goes on, or it was violated and begins anew
-pub core_deliver-follows : (sh : Shape) (p : Program) (s : CoreState) (us : Uses) (src : Node) (m : Msg) → SoundCore sh s → Follows sh p s us → OutGoes sh p us (core_deliver sh s src m)
+pub core_deliver-follows : (sh : Shape) (p : Program) (s : CoreState) (us : Uses) (src : Node) (m : Msg) → SoundCore sh s → Follows sh p s us → OutGoes sh p (uses_delivered s m us) (core_deliver sh s src m)
 unfolding core_deliver
 core_deliver-follows sh p s us (Dir d) m k a = from_dir-follows sh p d s us m k a
 core_deliver-follows sh p s us Vendor m k a = from_vendor-follows sh p s us m a

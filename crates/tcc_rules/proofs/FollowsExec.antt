@@ -155,11 +155,11 @@ fetch-follows sh p l s us a = at (s.cache.held l) (free_way sh s.cache (set_of s
 unused : (sh : Shape) (p : Program) (us vs : Uses) (o : Option Out) → vs ≡ [] → OutFollows sh p us o → OutFollows sh p (us ++ vs) o
 unused sh p us vs o e h = subst (λ (l : Uses). OutFollows sh p l o) (sym (ap (λ (l : Uses). us ++ l) e ∙ append-nil us)) h
 
-missed : (w : ℕ) (m : Bool) → used_in w None m None ≡ []
+pub missed : (w : ℕ) (m : Bool) → used_in w None m None ≡ []
 missed w true = refl
 missed w false = refl
 
-nothing-used : (s : CoreState) (w : ℕ) → s.spilled w ≡ None → s.cache.value w ≡ None → used_at s w ≡ []
+pub nothing-used : (s : CoreState) (w : ℕ) → s.spilled w ≡ None → s.cache.value w ≡ None → used_at s w ≡ []
 nothing-used s w e v = rw (e, v) (missed w (s.cache.modified w))
 
 pub load-follows : (sh : Shape) (p : Program) (addr : ℕ) (size : Size) (s : CoreState) (us : Uses) → NeedFits (Loads addr size) → p.need s.local ≡ Loads addr size → Acts sh p s us →

@@ -1,5 +1,5 @@
--- Along every run each core's attempt follows from some uses.
-use Rattle.std.proofs.Common.{ℕ, Bool, true, false, cond, ⊎_elim, List, [], ◌∷◌, ◌++◌, Option, Some, None, refl}
+-- Along every run each core's attempt follows from some uses, and its marks fit them.
+use Rattle.std.proofs.Common.{ℕ, Bool, true, false, cond, List, [], ◌∷◌, ◌++◌, Option, Some, None, refl}
 use Rattle.std.specs.Prelude.{IfSome, ◌==◌}
 use Rattle.tcc_base.specs.Put.{put}
 use Rattle.tcc_program.specs.Program.{Local, Program}
@@ -17,25 +17,28 @@ use Rattle.tcc_rules.specs.DirDeliver.{Answer, Waits, Drops, Asks, Takes, dir_de
 use Rattle.tcc_rules.specs.VendorDeliver.{Granted, vendor_deliver}
 use Rattle.tcc_rules.specs.Step.{Stepped, History, core_moves, core_takes, dir_takes, dir_asks, vendor_gives, moved, taken, answered, granted, delivered, if_in_flight, names_nodes, happens, step, recorded, and_noted, next, and_then, run_from, run}
 use Rattle.tcc_rules.specs.Follows.{Fits, Uses, sees, Follows, used_by}
+use Rattle.tcc_rules.specs.Marks.{MarksFit, AttemptFits}
 use Rattle.tcc_rules.proofs.Acts.{if-step}
 use Rattle.tcc_rules.proofs.SoundDeliver.{AllSound, step-sound, start-sound}
 use Rattle.tcc_rules.proofs.FollowsExec.{fresh-claims, uses_after, core_exec-follows}
-use Rattle.tcc_rules.proofs.FollowsDeliver.{Goes_on, core_evict-follows, core_deliver-follows}
+use Rattle.tcc_rules.proofs.Marks.{core_exec-fit}
+use Rattle.tcc_rules.proofs.MarksDeliver.{core_evict-fit, core_deliver-fit}
+use Rattle.tcc_rules.proofs.FollowsDeliver.{uses_delivered, core_evict-follows, core_deliver-follows}
 
 -- each core's attempt follows from some uses
 abbrev pub AllFollow : Shape → Program → (ℕ → CoreState) → Type 0
-AllFollow sh p cores = (c : ℕ) → (us : Uses) × Follows sh p (cores c) us
+AllFollow sh p cores = (c : ℕ) → (us : Uses) × AttemptFits sh p (cores c) us
 
-put-follow : (sh : Shape) (p : Program) (cores : ℕ → CoreState) (c : ℕ) (s : CoreState) → AllFollow sh p cores → (us : Uses) × Follows sh p s us → AllFollow sh p (put cores c s)
+put-follow : (sh : Shape) (p : Program) (cores : ℕ → CoreState) (c : ℕ) (s : CoreState) → AllFollow sh p cores → (us : Uses) × AttemptFits sh p s us → AllFollow sh p (put cores c s)
 put-follow sh p cores c s h k i = at (i == c)
   where
-    at : (b : Bool) → (us : Uses) × Follows sh p (cond b s (cores i)) us
+    at : (b : Bool) → (us : Uses) × AttemptFits sh p (cond b s (cores i)) us
     at true = k
     at false = h i
 
 -- some uses, of what an event leaves
 abbrev pub SomeFollow : Shape → Program → Option Out → Type 0
-SomeFollow sh p o = IfSome o (λ t. (us : Uses) × Follows sh p t.core us)
+SomeFollow sh p o = IfSome o (λ t. (us : Uses) × AttemptFits sh p t.core us)
 
 moved-follow : (sh : Shape) (p : Program) (w : World) (c : ℕ) (o : Option Out) → AllFollow sh p w.cores → SomeFollow sh p o → IfSome (moved w c o) (λ t. AllFollow sh p t.world.cores)
 unfolding core_moves
@@ -59,20 +62,12 @@ unfolding vendor_gives
 granted-follow sh p w c k None h = tt
 granted-follow sh p w c k (Some g) h = h
 
-out-some : (sh : Shape) (p : Program) (us : Uses) (o : Option Out) → IfSome o (λ t. Follows sh p t.core (uses_after t us)) → SomeFollow sh p o
-out-some sh p us None h = tt
-out-some sh p us (Some o) h = (uses_after o us, h)
-
-same-some : (sh : Shape) (p : Program) (us : Uses) (o : Option Out) → IfSome o (λ t. Follows sh p t.core us) → SomeFollow sh p o
-same-some sh p us None h = tt
-same-some sh p us (Some o) h = (us, h)
-
-goes-some : (sh : Shape) (p : Program) (us : Uses) (o : Option Out) → IfSome o (λ t. Goes_on sh p us t.core) → SomeFollow sh p o
-goes-some sh p us None h = tt
-goes-some sh p us (Some o) h = ⊎_elim (λ k. (us, k)) (λ k. ([], k)) h
+both-some : (sh : Shape) (p : Program) (o : Option Out) (us : Out → Uses) → IfSome o (λ t. Follows sh p t.core (us t)) → IfSome o (λ t. MarksFit sh t.core (us t)) → SomeFollow sh p o
+both-some sh p None us h k = tt
+both-some sh p (Some o) us h k = (us o, record { follows = h; marks = k })
 
 delivered-follow : (sh : Shape) (p : Program) (w : World) (src dst : Node) (k : ℕ) (m : Msg) → AllSound sh w.cores → AllFollow sh p w.cores → IfSome (delivered sh w src dst k m) (λ t. AllFollow sh p t.world.cores)
-delivered-follow sh p w src (Core c) k m s h = taken-follow sh p w src c k (core_deliver sh (w.cores c) src m) h (goes-some sh p (h c).0 (core_deliver sh (w.cores c) src m) (core_deliver-follows sh p (w.cores c) (h c).0 src m (s c) (h c).1))
+delivered-follow sh p w src (Core c) k m s h = taken-follow sh p w src c k (core_deliver sh (w.cores c) src m) h (both-some sh p (core_deliver sh (w.cores c) src m) (λ t. uses_delivered (w.cores c) m (h c).0) (core_deliver-follows sh p (w.cores c) (h c).0 src m (s c) (h c).1.follows) (core_deliver-fit sh (w.cores c) (h c).0 src m (h c).1.marks))
 delivered-follow sh p w (Core c) (Dir d) k m s h = answered-follow sh p w c d k (dir_deliver sh (w.dirs d) c m) h
 delivered-follow sh p w (Core c) Vendor k m s h = granted-follow sh p w c k (vendor_deliver w.next c m) h
 delivered-follow sh p w (Dir e) (Dir d) k m s h = tt
@@ -88,8 +83,8 @@ happens-follow : (sh : Shape) (p : Program) (w : World) (e : Event) → Fits p �
 unfolding happens
 happens-follow sh p w (Exec c) f s h =
     let us : Uses = (h c).0 ++ used_by sh.base (w.cores c) (p.need (w.cores c).local) in
-    moved-follow sh p w c (core_exec sh p c (w.cores c)) h (out-some sh p us (core_exec sh p c (w.cores c)) (core_exec-follows sh p c (w.cores c) (h c).0 f (s c) (h c).1))
-happens-follow sh p w (Evict c x y) f s h = moved-follow sh p w c (core_evict sh x y (w.cores c)) h (same-some sh p (h c).0 (core_evict sh x y (w.cores c)) (core_evict-follows sh p x y (w.cores c) (h c).0 (s c) (h c).1))
+    moved-follow sh p w c (core_exec sh p c (w.cores c)) h (both-some sh p (core_exec sh p c (w.cores c)) (λ t. uses_after t us) (core_exec-follows sh p c (w.cores c) (h c).0 f (s c) (h c).1.follows) (core_exec-fit sh p c (w.cores c) (h c).0 (s c) (h c).1.marks))
+happens-follow sh p w (Evict c x y) f s h = moved-follow sh p w c (core_evict sh x y (w.cores c)) h (both-some sh p (core_evict sh x y (w.cores c)) (λ t. (h c).0) (core_evict-follows sh p x y (w.cores c) (h c).0 (s c) (h c).1.follows) (core_evict-fit sh x y (w.cores c) (h c).0 (h c).1.marks))
 happens-follow sh p w (Deliver src dst k) f s h = flight-follow sh p w src dst k (in_flight w.net src dst k) s h
 
 pub step-follow : (sh : Shape) (p : Program) (w : World) (e : Event) → Fits p → AllSound sh w.cores → AllFollow sh p w.cores → IfSome (step sh p w e) (λ t. AllFollow sh p t.world.cores)
@@ -110,6 +105,12 @@ start-follows : (sh : Shape) (p : Program) (local : Local) → Follows sh p (cor
 unfolding core_start none_spilled empty_cache sees
 start-follows sh p local = record { ends = refl; steps = fresh-claims sh p (core_start local) (record { n = refl; local = refl; loads = refl; stores = refl; console = refl; ended = refl; words = λ ram v. refl }) }
 
-pub attempts-follow : (sh : Shape) (p : Program) (entries : ℕ → Local) (ram : ℕ → ℕ) (es : List Event) → Fits p → IfSome (run sh p (start entries ram) es) (λ h. (c : ℕ) → (us : Uses) × Follows sh p (h.world.cores c) us)
+start-marks : (sh : Shape) (local : Local) → MarksFit sh (core_start local) []
+unfolding core_start
+start-marks sh local = record { stand = tt; awaits = λ i. refl; owes = λ d h. absurd (cc) }
+
+pub attempts-fit : (sh : Shape) (p : Program) (entries : ℕ → Local) (ram : ℕ → ℕ) (es : List Event) → Fits p → IfSome (run sh p (start entries ram) es) (λ h. (c : ℕ) → (us : Uses) × AttemptFits sh p (h.world.cores c) us)
 unfolding run start
-attempts-follow sh p entries ram es f = run_from-follow sh p es (record { world = start entries ram; commits = [] }) f (λ c. start-sound sh (entries c)) (λ c. ([], start-follows sh p (entries c)))
+attempts-fit sh p entries ram es f =
+    run_from-follow sh p es (record { world = start entries ram; commits = [] }) f (λ c. start-sound sh (entries c))
+    (λ c. ([], record { follows = start-follows sh p (entries c); marks = start-marks sh (entries c) }))

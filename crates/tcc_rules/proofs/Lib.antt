@@ -14,3 +14,5 @@ pub mod Follows
 pub mod FollowsExec
 pub mod FollowsDeliver
 pub mod FollowsRun
+pub mod Marks
+pub mod MarksDeliver

@@ -1,15 +1,13 @@
 -- A core's attempt is what the plain machine does from the checkpoint, over any memory that agrees with the words that the
 -- attempt used: a fact of the core by itself, whatever messages come.
-use Rattle.std.specs.Prelude.{ℕ, ◌<◌, ◌≡◌, ◌%◌, ◌^◌, Bool, true, false, cond, List, [], ◌∷◌, Option, Some, None, IfSome, IsSomeAnd, is_some, unwrap_or}
+use Rattle.std.specs.Prelude.{ℕ, ◌<◌, ◌≡◌, ◌%◌, ◌^◌, Bool, true, false, cond, List, [], ◌∷◌, Option, Some, None, IsSomeAnd, is_some, unwrap_or}
 use Rattle.tcc_base.specs.Bytes.{bytes_of}
 use Rattle.tcc_base.specs.declared.access.Size.TheVariants.{Byte, Half, Word}
 use Rattle.tcc_program.specs.Plain.{Attempt, Outcome, Goes, begun, end_of, steps}
 use Rattle.tcc_program.specs.Program.{Local, Need, Nothing, Loads, Stores, Changes, Prints, Ends, Halts, Traps, Program}
 use Rattle.tcc_program.specs.Ram.{word_of}
-use Rattle.tcc_maps.specs.Nodes.{Event}
 use Rattle.tcc_maps.specs.Shape.{Shape}
-use Rattle.tcc_rules.specs.State.{CoreState, Phase, Running, AwaitTid, DoomedTid, Probing, Ready, Overflowing, Solo, Halted, start}
-use Rattle.tcc_rules.specs.Step.{run}
+use Rattle.tcc_rules.specs.State.{CoreState, Phase, Running, AwaitTid, DoomedTid, Probing, Ready, Overflowing, Solo, Halted}
 
 -- an access lies at a multiple of its size, and what is stored fits it
 abbrev pub NeedFits : Need → Type 0
@@ -96,8 +94,3 @@ used_by base s (Prints byte) = []
 used_by base s Ends = []
 used_by base s (Halts code) = []
 used_by base s (Traps code) = []
-
--- in every state that a run reaches each core's attempt follows from some uses
-abbrev pub AttemptsFollow : Type 0
-AttemptsFollow = (sh : Shape) (p : Program) (entries : ℕ → Local) (ram : ℕ → ℕ) (es : List Event) → Fits p →
-    IfSome (run sh p (start entries ram) es) (λ h. (c : ℕ) → (us : Uses) × Follows sh p (h.world.cores c) us)

@@ -21,3 +21,4 @@ pub mod Local
 pub mod Merged
 pub mod Sound
 pub mod Follows
+pub mod Marks
