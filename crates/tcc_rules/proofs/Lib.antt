@@ -7,12 +7,3 @@ pub mod Mailed
 pub mod LocalStep
 pub mod Merged
 pub mod Picked
-pub mod Sound
-pub mod SoundExec
-pub mod SoundDeliver
-pub mod Follows
-pub mod FollowsExec
-pub mod FollowsDeliver
-pub mod FollowsRun
-pub mod Marks
-pub mod MarksDeliver

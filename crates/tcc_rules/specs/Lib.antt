@@ -19,6 +19,3 @@ pub mod Schedules
 pub mod Laws
 pub mod Local
 pub mod Merged
-pub mod Sound
-pub mod Follows
-pub mod Marks

@@ -3,8 +3,6 @@
 #![tactic(auto)]
 
 ghost use Rattle.tcc_rules.specs.Laws.{StepsActOnOne, UsefulHolds, UsefulOrdered, NotBeforeItself, UsefulEnabled, DoneUseless, TidsCount, PickedRuns, PickedEnds};
-ghost use Rattle.tcc_rules.specs.Sound.{CoresSound};
-ghost use Rattle.tcc_rules.specs.Marks.{AttemptsFit};
 ghost use Rattle.tcc_rules.specs.Merged.{MergedRuns};
 ghost use Rattle.tcc_rules.specs.Schedules.{TwoTids, TwoTidsMore, ReaderWaits, ProbeWaits, OverARead, DoomedAttempt, BeforeTheFill, OverADirtyOwner, WriteBackWaits, AloneAfterOverflow};
 
@@ -53,21 +51,4 @@ pub fn logs_that_fit_are_a_run()
 pub fn a_picked_schedule_is_a_run()
     ensures runs { PickedRuns }
     ensures ends { PickedEnds }
-{}
-
-/// In every state that a run reaches each core's cache is consistent, an awaited line has a frame, only a core that is alone
-/// has spilled words, a line with one has no modified and no dirty word in its frame, and a core without an attempt has no
-/// marks.
-pub fn cores_stay_sound()
-    ensures { CoresSound }
-{}
-
-/// In every state that a run reaches, each core's attempt is what the plain machine does from the core's checkpoint, over any
-/// memory of 32-bit words that has the values which the attempt used: the same registers, pc, loads, stores and console, the
-/// same words as the core sees them, and its end where it has ended. The program's accesses are aligned, and what it stores
-/// fits. Until the core is alone each such use is marked read, and has its value still unless the attempt stored there
-/// since or, once the core has a TID, an invalidation made it invalid. Only a core that executes awaits a line, and only one
-/// that probes is owed replies.
-pub fn attempts_follow_from_their_uses()
-    ensures { AttemptsFit }
 {}

@@ -19,11 +19,11 @@ use Rattle.tcc_rules.specs.Attempt.{Out, moves, is_solo, is_running, finished, n
 use Rattle.tcc_rules.specs.Commit.{phase_after, ended_after, committed_core, commit, solo_commit}
 use Rattle.tcc_rules.specs.Execute.{ask, place, overflow, full_set, fetch, used, load_valid, load_spilled, load, buffered, framed, word_store, also_read, change_valid, change_spilled, partial_store, close, store, execute_need, execute}
 use Rattle.tcc_rules.specs.CoreExec.{unless_awaiting, exec_phase, core_exec}
-use Rattle.tcc_rules.specs.Sound.{SoundCore}
-use Rattle.tcc_rules.specs.Follows.{Uses, used_in, used_at, used_by}
-use Rattle.tcc_rules.specs.Marks.{StillHas, UseStands, AllStand, UsesStand, awaits_in, owed_in, MarksFit}
-use Rattle.tcc_rules.proofs.Sound.{holds-found}
-use Rattle.tcc_rules.proofs.FollowsExec.{uses_after, nothing-used}
+use Rattle.tcc_attempt.specs.Sound.{SoundCore}
+use Rattle.tcc_attempt.specs.Follows.{Uses, used_in, used_at, used_by}
+use Rattle.tcc_attempt.specs.Marks.{StillHas, UseStands, AllStand, UsesStand, awaits_in, owed_in, MarksFit}
+use Rattle.tcc_attempt.proofs.Sound.{holds-found}
+use Rattle.tcc_attempt.proofs.FollowsExec.{uses_after, nothing-used}
 
 -- a change of a cache that unmarks no read word, and leaves the value of each word that isn't modified after it
 pub record Keeps (c d : Cache) : Type 0 where

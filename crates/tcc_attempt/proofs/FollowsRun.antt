@@ -16,14 +16,14 @@ use Rattle.tcc_rules.specs.CoreDeliver.{core_deliver}
 use Rattle.tcc_rules.specs.DirDeliver.{Answer, Waits, Drops, Asks, Takes, dir_deliver}
 use Rattle.tcc_rules.specs.VendorDeliver.{Granted, vendor_deliver}
 use Rattle.tcc_rules.specs.Step.{Stepped, History, core_moves, core_takes, dir_takes, dir_asks, vendor_gives, moved, taken, answered, granted, delivered, if_in_flight, names_nodes, happens, step, recorded, and_noted, next, and_then, run_from, run}
-use Rattle.tcc_rules.specs.Follows.{Fits, Uses, sees, Follows, used_by}
-use Rattle.tcc_rules.specs.Marks.{MarksFit, AttemptFits}
+use Rattle.tcc_attempt.specs.Follows.{Fits, Uses, sees, Follows, used_by}
+use Rattle.tcc_attempt.specs.Marks.{MarksFit, AttemptFits}
 use Rattle.tcc_rules.proofs.Acts.{if-step}
-use Rattle.tcc_rules.proofs.SoundDeliver.{AllSound, step-sound, start-sound}
-use Rattle.tcc_rules.proofs.FollowsExec.{fresh-claims, uses_after, core_exec-follows}
-use Rattle.tcc_rules.proofs.Marks.{core_exec-fit}
-use Rattle.tcc_rules.proofs.MarksDeliver.{core_evict-fit, core_deliver-fit}
-use Rattle.tcc_rules.proofs.FollowsDeliver.{uses_delivered, core_evict-follows, core_deliver-follows}
+use Rattle.tcc_attempt.proofs.SoundDeliver.{AllSound, step-sound, start-sound}
+use Rattle.tcc_attempt.proofs.FollowsExec.{fresh-claims, uses_after, core_exec-follows}
+use Rattle.tcc_attempt.proofs.Marks.{core_exec-fit}
+use Rattle.tcc_attempt.proofs.MarksDeliver.{core_evict-fit, core_deliver-fit}
+use Rattle.tcc_attempt.proofs.FollowsDeliver.{uses_delivered, core_evict-follows, core_deliver-follows}
 
 -- each core's attempt follows from some uses
 abbrev pub AllFollow : Shape → Program → (ℕ → CoreState) → Type 0

@@ -19,10 +19,10 @@ use Rattle.tcc_rules.specs.Sends.{nothing, to, marks_for, written_back}
 use Rattle.tcc_rules.specs.Attempt.{Out, moves, is_solo, roll_back}
 use Rattle.tcc_rules.specs.CoreEvict.{is_awaited, evict_line, core_evict}
 use Rattle.tcc_rules.specs.CoreDeliver.{ignored, grant_phase, grant, probing, is_probed, replied, all_replied, reply_phase, probe_reply, fill_awaited, fill, data_request, is_above, violated_in, if_violated, staled, without, is_violated, acknowledged, invalidate, from_dir, from_vendor, core_deliver}
-use Rattle.tcc_rules.specs.Follows.{Uses}
-use Rattle.tcc_rules.specs.Marks.{StillHas, UseStands, AllStand, UsesStand, awaits_in, owed_in, MarksFit}
+use Rattle.tcc_attempt.specs.Follows.{Uses}
+use Rattle.tcc_attempt.specs.Marks.{StillHas, UseStands, AllStand, UsesStand, awaits_in, owed_in, MarksFit}
 use Rattle.tcc_rules.proofs.Useful.{and-left}
-use Rattle.tcc_rules.proofs.FollowsDeliver.{uses_violated, uses_delivered}
+use Rattle.tcc_attempt.proofs.FollowsDeliver.{uses_violated, uses_delivered}
 
 -- a change that keeps each use keeps them in every phase, where it adds no read mark to a core that is alone
 pub record KeepsUses (c d : Cache) : Type 0 where

@@ -20,10 +20,10 @@ use Rattle.tcc_rules.specs.Attempt.{Out, moves, is_solo, is_running, finished, n
 use Rattle.tcc_rules.specs.Commit.{phase_after, ended_after, committed_core, commit, solo_commit}
 use Rattle.tcc_rules.specs.Execute.{ask, place, overflow, full_set, fetch, used, load_valid, load_spilled, load, buffered, framed, word_store, also_read, change_valid, change_spilled, partial_store, close, execute_need, execute}
 use Rattle.tcc_rules.specs.CoreExec.{unless_awaiting, exec_phase, core_exec}
-use Rattle.tcc_rules.specs.Sound.{SoundCore}
-use Rattle.tcc_rules.specs.Follows.{NeedFits, Fits, Uses, Agrees, sees, HasEnded, EndFits, Follows, used_in, used_at, used_by}
-use Rattle.tcc_rules.proofs.Sound.{holds-none}
-use Rattle.tcc_rules.proofs.Follows.{TakesOld, seen_after, with_words, Claim, finished-claims, is_live, in-from, in-to, claim-same, follows-same, follows-into}
+use Rattle.tcc_attempt.specs.Sound.{SoundCore}
+use Rattle.tcc_attempt.specs.Follows.{NeedFits, Fits, Uses, Agrees, sees, HasEnded, EndFits, Follows, used_in, used_at, used_by}
+use Rattle.tcc_attempt.proofs.Sound.{holds-none}
+use Rattle.tcc_attempt.proofs.Follows.{TakesOld, seen_after, with_words, Claim, finished-claims, is_live, in-from, in-to, claim-same, follows-same, follows-into}
 
 -- what an event of a core leaves: its attempt follows from these uses, or from none where it has committed
 abbrev pub uses_after : Out → Uses → Uses

@@ -16,7 +16,7 @@ use Rattle.tcc_maps.proofs.Readers.{held-placed, modified-placed, dirty-placed, 
 use Rattle.tcc_rules.specs.State.{CoreState, Awaited}
 use Rattle.tcc_rules.specs.Attempt.{Out, is_solo, is_running, stepped, finished}
 use Rattle.tcc_rules.specs.Execute.{ask, place, overflow, full_set, fetch, used, buffered, framed}
-use Rattle.tcc_rules.specs.Sound.{AwaitsHeld, is_idle, SoundCore}
+use Rattle.tcc_attempt.specs.Sound.{AwaitsHeld, is_idle, SoundCore}
 
 -- the instruction's end changes nothing of this
 pub finished-sound : (sh : Shape) (p : Program) (need : Need) (x : ℕ) (s : CoreState) → SoundCore sh s → SoundCore sh (finished p need x s)

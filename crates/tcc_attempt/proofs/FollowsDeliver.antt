@@ -17,11 +17,11 @@ use Rattle.tcc_rules.specs.Sends.{nothing, to, marks_for, written_back}
 use Rattle.tcc_rules.specs.Attempt.{Out, moves, is_solo, roll_back}
 use Rattle.tcc_rules.specs.CoreEvict.{is_awaited, evict_line, core_evict}
 use Rattle.tcc_rules.specs.CoreDeliver.{ignored, grant_phase, grant, probing, is_probed, replied, all_replied, reply_phase, probe_reply, fill_awaited, fill, data_request, violated_in, if_violated, staled, without, is_violated, acknowledged, invalidate, from_dir, from_vendor, core_deliver}
-use Rattle.tcc_rules.specs.Sound.{SoundCore}
-use Rattle.tcc_rules.specs.Follows.{Uses, sees, HasEnded, EndFits, Follows}
-use Rattle.tcc_rules.proofs.SoundDeliver.{without-sound}
-use Rattle.tcc_rules.proofs.Follows.{with_words, is_live, in-from, follows-same, follows-into}
-use Rattle.tcc_rules.proofs.FollowsExec.{fresh-claims}
+use Rattle.tcc_attempt.specs.Sound.{SoundCore}
+use Rattle.tcc_attempt.specs.Follows.{Uses, sees, HasEnded, EndFits, Follows}
+use Rattle.tcc_attempt.proofs.SoundDeliver.{without-sound}
+use Rattle.tcc_attempt.proofs.Follows.{with_words, is_live, in-from, follows-same, follows-into}
+use Rattle.tcc_attempt.proofs.FollowsExec.{fresh-claims}
 
 -- a violated core that has an attempt begins anew
 abbrev pub rolls_back : Phase → Bool

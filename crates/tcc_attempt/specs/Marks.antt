@@ -6,7 +6,7 @@ use Rattle.tcc_maps.specs.Shape.{Shape}
 use Rattle.tcc_maps.specs.Cache.{Cache}
 use Rattle.tcc_rules.specs.State.{CoreState, Phase, Running, AwaitTid, DoomedTid, Probing, Ready, Overflowing, Solo, Halted, start}
 use Rattle.tcc_rules.specs.Step.{run}
-use Rattle.tcc_rules.specs.Follows.{Uses, Follows, Fits}
+use Rattle.tcc_attempt.specs.Follows.{Uses, Follows, Fits}
 
 -- a used word that the attempt hasn't stored since has the value that it had, or, where that is allowed, is invalid
 abbrev pub StillHas : (may_be_gone : Bool) → Option ℕ → ℕ → Type 0

@@ -12,7 +12,7 @@ use Rattle.tcc_maps.specs.Shape.{Shape}
 use Rattle.tcc_maps.specs.Cache.{Cache}
 use Rattle.tcc_rules.specs.State.{CoreState, Awaited, Phase, Running, AwaitTid, DoomedTid, Probing, Ready, Overflowing, Solo, Halted}
 use Rattle.tcc_rules.specs.Attempt.{finished, new_word, stepped as core_stepped}
-use Rattle.tcc_rules.specs.Follows.{NeedFits, Uses, Agrees, IsSmall, sees, Reaches, EndFits, FollowsIn, Follows}
+use Rattle.tcc_attempt.specs.Follows.{NeedFits, Uses, Agrees, IsSmall, sees, Reaches, EndFits, FollowsIn, Follows}
 
 pub agrees-left : (us vs : Uses) (ram : ℕ → ℕ) → Agrees (us ++ vs) ram → Agrees us ram
 agrees-left [] vs ram h = tt

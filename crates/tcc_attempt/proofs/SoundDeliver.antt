@@ -24,10 +24,10 @@ use Rattle.tcc_rules.specs.CoreDeliver.{ignored, grant_phase, grant, probing, is
 use Rattle.tcc_rules.specs.DirDeliver.{Answer, Waits, Drops, Asks, Takes, dir_deliver}
 use Rattle.tcc_rules.specs.VendorDeliver.{Granted, vendor_deliver}
 use Rattle.tcc_rules.specs.Step.{Stepped, History, core_moves, core_takes, dir_takes, dir_asks, vendor_gives, moved, taken, answered, granted, delivered, if_in_flight, names_nodes, happens, step, recorded, and_noted, next, and_then, run_from, run}
-use Rattle.tcc_rules.specs.Sound.{AwaitsHeld, is_idle, SoundCore}
+use Rattle.tcc_attempt.specs.Sound.{AwaitsHeld, is_idle, SoundCore}
 use Rattle.tcc_rules.proofs.Acts.{if-step}
-use Rattle.tcc_rules.proofs.Sound.{OutSound}
-use Rattle.tcc_rules.proofs.SoundExec.{core_exec-sound}
+use Rattle.tcc_attempt.proofs.Sound.{OutSound}
+use Rattle.tcc_attempt.proofs.SoundExec.{core_exec-sound}
 
 -- the awaited line stays where the cache keeps its frames
 awaits-same : (c d : Cache) (o : Option Awaited) → ((l : ℕ) → d.held l ≡ c.held l) → AwaitsHeld c o → AwaitsHeld d o

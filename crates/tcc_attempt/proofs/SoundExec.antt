@@ -18,8 +18,8 @@ use Rattle.tcc_rules.specs.Attempt.{Out, moves, is_solo, is_running, finished, n
 use Rattle.tcc_rules.specs.Commit.{committed_core, commit, solo_commit}
 use Rattle.tcc_rules.specs.Execute.{place, full_set, used, load_valid, load_spilled, load, buffered, framed, word_store, also_read, change_valid, change_spilled, partial_store, close, store, execute_need, execute}
 use Rattle.tcc_rules.specs.CoreExec.{unless_awaiting, exec_phase, core_exec}
-use Rattle.tcc_rules.specs.Sound.{AwaitsHeld, is_idle, SoundCore}
-use Rattle.tcc_rules.proofs.Sound.{finished-sound, holds-none, valid-held, MayAct, OutSound, used-sound, buffered-sound, framed-sound, fetch-sound, full_set-sound, place-sound, place-held}
+use Rattle.tcc_attempt.specs.Sound.{AwaitsHeld, is_idle, SoundCore}
+use Rattle.tcc_attempt.proofs.Sound.{finished-sound, holds-none, valid-held, MayAct, OutSound, used-sound, buffered-sound, framed-sound, fetch-sound, full_set-sound, place-sound, place-held}
 
 spilled-holds : (sp : ℕ → Option ℕ) (w x : ℕ) → sp w ≡ Some x → holds sp (line_of w) ≡ true
 spilled-holds sp w x e = ⊎_elim (λ h. h) (λ h. let n = holds-none sp (line_of w) w h refl in let t : is_some (sp w) ≡ true = ap is_some e in absurd (cc)) (cases_Bool (holds sp (line_of w)))
