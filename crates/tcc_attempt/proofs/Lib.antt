@@ -1,0 +1,9 @@
+pub mod Sound
+pub mod SoundExec
+pub mod SoundDeliver
+pub mod Follows
+pub mod FollowsExec
+pub mod FollowsDeliver
+pub mod FollowsRun
+pub mod Marks
+pub mod MarksDeliver
