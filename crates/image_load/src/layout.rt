@@ -42,8 +42,7 @@ pub struct Layout {
 impl Layout {
     ghost use Rattle.image_load.specs.Faults.{is_in_ram, is_entry, segment_fault, image_fault};
     ghost use Rattle.image_load.specs.Overlap.{Laid, laid, segments_laid, extents_laid, extent_of, shares_byte};
-    ghost use Rattle.image_load.specs.Filled.{IsFilled};
-    ghost use Rattle.image_load.specs.Layout.{IsLaid};
+    ghost use Rattle.image_load.specs.Layout.{HasFilled, IsLaid};
     ghost use Rattle.image_elf.specs.Elf.{IsWithinSizes};
 
     /// RAM with no segments: all bytes are zero.
@@ -74,7 +73,8 @@ impl Layout {
     /// The earliest of the segments so far that shares a byte with one that lies in RAM.
     fn earliest_sharing(&self, image: u32, segment: &Segment) -> Option<Extent>
         requires { is_in_ram self.now.config segment.now ≡ true }
-        ensures { (earlier : List Laid) → IsLaid self.now earlier → result ≡ find (shares_byte (extent_of image segment.now)) (extents_laid earlier) }
+        ensures { (earlier : List Laid) → IsLaid self.now earlier →
+            result ≡ find (shares_byte (extent_of image segment.now)) (extents_laid earlier) }
     {
         if segment.size == 0 {
             return None;
@@ -90,7 +90,9 @@ impl Layout {
     fn fill(&mut self, segment: &Segment)
         requires room { is_in_ram self.old.config segment.now ≡ true }
         requires within { length segment.now.bytes ≤ segment.now.size }
-        ensures filled { (image : ℕ) (earlier : List Laid) → IsFilled self.old.config.base self.old.bytes.items self.old.taken.items self.old.code.items (segments_laid earlier) → find (shares_byte (extent_of image segment.now)) (extents_laid earlier) ≡ None → IsFilled self.new.config.base self.new.bytes.items self.new.taken.items self.new.code.items (segments_laid earlier ++ segment.now ∷ []) }
+        ensures filled { (image : ℕ) (earlier : List Laid) → HasFilled self.old (segments_laid earlier) →
+            find (shares_byte (extent_of image segment.now)) (extents_laid earlier) ≡ None →
+            HasFilled self.new (segments_laid earlier ++ segment.now ∷ []) }
         ensures config { self.new.config ≡ self.old.config }
         ensures extents { self.new.extents.items ≡ self.old.extents.items }
     {
@@ -107,9 +109,12 @@ impl Layout {
     /// Lays a segment of an image into RAM, or answers why it can't be.
     fn lay(&mut self, image: u32, segment: &Segment) -> Result<(), LoadFault>
         requires { length segment.now.bytes ≤ segment.now.size }
-        ensures passed { OnOk result ((earlier : List Laid) → IsLaid self.old earlier → segment_fault self.old.config image earlier segment.now ≡ None) }
-        ensures laid { OnOk result ((earlier : List Laid) → IsLaid self.old earlier → IsLaid self.new (earlier ++ laid image (segment.now ∷ []))) }
-        ensures fault { IfErr result (λ fault. fault ≢ Memory → (earlier : List Laid) → IsLaid self.old earlier → segment_fault self.old.config image earlier segment.now ≡ Some fault) }
+        ensures passed { OnOk result ((earlier : List Laid) → IsLaid self.old earlier →
+            segment_fault self.old.config image earlier segment.now ≡ None) }
+        ensures laid { OnOk result ((earlier : List Laid) → IsLaid self.old earlier →
+            IsLaid self.new (earlier ++ laid image (segment.now ∷ []))) }
+        ensures fault { IfErr result (λ fault. fault ≢ Memory → (earlier : List Laid) → IsLaid self.old earlier →
+            segment_fault self.old.config image earlier segment.now ≡ Some fault) }
         ensures config { self.new.config ≡ self.old.config }
     {
         if !self.has_room_for(segment) {
@@ -133,7 +138,8 @@ impl Layout {
 
     /// Whether a program may begin at an address: a multiple of four with four bytes of code.
     fn is_entry(&self, entry: u32) -> bool
-        ensures { (earlier : List Laid) → IsLaid self.now earlier → result ≡ is_entry (segments_laid earlier) entry }
+        ensures { (earlier : List Laid) → IsLaid self.now earlier →
+            result ≡ is_entry (segments_laid earlier) entry }
     {
         entry % 4 == 0 && code_place(self.config.base(), &self.code, entry).is_some()
     }
@@ -141,9 +147,12 @@ impl Layout {
     /// Lays an image into RAM, its segments in order, or answers why it can't be.
     pub fn lay_image(&mut self, number: u32, image: &Image) -> Result<(), LoadFault>
         requires { IsWithinSizes image.now }
-        ensures passed { OnOk result ((earlier : List Laid) → IsLaid self.old earlier → image_fault self.old.config number earlier image.now ≡ None) }
-        ensures laid { OnOk result ((earlier : List Laid) → IsLaid self.old earlier → IsLaid self.new (earlier ++ laid number image.now.segments)) }
-        ensures fault { IfErr result (λ fault. fault ≢ Memory → (earlier : List Laid) → IsLaid self.old earlier → image_fault self.old.config number earlier image.now ≡ Some fault) }
+        ensures passed { OnOk result ((earlier : List Laid) → IsLaid self.old earlier →
+            image_fault self.old.config number earlier image.now ≡ None) }
+        ensures laid { OnOk result ((earlier : List Laid) → IsLaid self.old earlier →
+            IsLaid self.new (earlier ++ laid number image.now.segments)) }
+        ensures fault { IfErr result (λ fault. fault ≢ Memory → (earlier : List Laid) → IsLaid self.old earlier →
+            image_fault self.old.config number earlier image.now ≡ Some fault) }
         ensures config { self.new.config ≡ self.old.config }
     {
         for segment in segments(image) {
@@ -159,7 +168,8 @@ impl Layout {
     pub fn into_loaded(self, entries: Vec<u32>) -> Loaded
         requires some { 0 < vec_len entries }
         requires few { vec_len entries ≤ 16 }
-        ensures { result ≡ record { settings = self.config; ram = self.bytes.items; code = self.code.items; entries = entries.items } }
+        ensures { result
+            ≡ record { settings = self.config; ram = self.bytes.items; code = self.code.items; entries = entries.items } }
     {
         let Layout {
             config,

@@ -53,7 +53,8 @@ pub fn mark(marks: &mut [bool], first: usize, end: usize, value: bool)
 /// Writes bytes from `first` on.
 pub fn write_at(ram: &mut [u8], first: usize, bytes: &[u8])
     requires { first + length bytes.now ≤ length ram.old }
-    ensures written { (k : ℕ) → first ≤ k → k < first + length bytes.now → slice_index ram.new k ≡ slice_index bytes.now (k - first) }
+    ensures written { (k : ℕ) → first ≤ k → k < first + length bytes.now →
+        slice_index ram.new k ≡ slice_index bytes.now (k - first) }
     ensures below { (k : ℕ) → k < first → slice_index ram.new k ≡ slice_index ram.old k }
     ensures above { (k : ℕ) → first + length bytes.now ≤ k → slice_index ram.new k ≡ slice_index ram.old k }
 {
