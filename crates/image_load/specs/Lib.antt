@@ -1,0 +1,9 @@
+pub mod Memory
+pub mod Start
+pub mod Contents
+pub mod Overlap
+pub mod Filled
+pub mod Layout
+pub mod Faults
+pub mod Raw
+pub mod Print
