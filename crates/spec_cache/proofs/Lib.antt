@@ -1,0 +1,17 @@
+pub mod MaskLaws
+pub mod Eights
+pub mod FrameChanges
+pub mod FrameKept
+pub mod FrameList
+pub mod FrameFound
+pub mod MapsChanged
+pub mod MapsPlaced
+pub mod MapsAll
+pub mod HeldKept
+pub mod Readings
+pub mod Calls
+pub mod Looks
+pub mod Consistent
+pub mod Handed
+pub mod Placing
+pub mod Forms

@@ -1,0 +1,4 @@
+pub mod Frame
+pub mod Change
+pub mod Held
+pub mod Look
