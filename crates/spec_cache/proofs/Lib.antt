@@ -15,3 +15,4 @@ pub mod Consistent
 pub mod Handed
 pub mod Placing
 pub mod Forms
+pub mod Marked

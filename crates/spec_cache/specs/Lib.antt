@@ -2,3 +2,4 @@ pub mod Frame
 pub mod Change
 pub mod Held
 pub mod Look
+pub mod Home

@@ -1,13 +1,14 @@
 // A core's cache: the calls of its frames, held in one array by set and way.
-ghost use Rattle.std.specs.Prelude.{◌≡◌, ◌<◌, ℕ, Option, Some, None, MatchOption, MatchResult, IfOk, IsTrue, IsSome, is_some, false};
+ghost use Rattle.std.specs.Prelude.{◌≡◌, ◌<◌, ℕ, Option, Some, None, MatchOption, MatchResult, IfOk, map, IsTrue, IsSome, is_some, false};
 ghost use Rattle.std.specs.Option.{option_map};
 ghost use Rattle.tcc_maps.specs.Words.{line_of};
 ghost use Rattle.tcc_maps.specs.Shape.{lines, set_of};
 ghost use Rattle.tcc_maps.specs.Bridge.{tagged_of};
-ghost use Rattle.tcc_maps.specs.Cache.{IsCache, empty_cache, dirty_copy, free_way as lowest_free, keeps as keeps_word};
+ghost use Rattle.tcc_maps.specs.Cache.{IsCache, empty_cache, dirty_copy, free_way as lowest_free, keeps as keeps_word, reads_at as any_read, marks_by_home as every_mark};
 ghost use Rattle.tcc_maps.specs.CacheChange.{stored, placed, filled, invalidated, cleaned, evicted, word_dropped, rolled_back, read_cleared, committed};
 ghost use Rattle.tcc_maps.specs.CacheLook.{look_load as load_answer, look_store as store_answer, reads_masked};
 ghost use Rattle.spec_cache.specs.Held.{Held, maps};
+ghost use Rattle.spec_cache.specs.Home.{mark_of};
 ghost use Rattle.spec_cache.specs.Look.{look_of, loaded, Views, Gives};
 
 use crate::frame::FrameView;
@@ -16,7 +17,7 @@ use crate::look::{Evicted, Invalidated, Look};
 use crate::set_frames::SetFrames;
 use std::alloc::Global;
 use std::marker::Model;
-use tcc_base::{Config, LineAddr, Mask, NoMemory, Tagged, Tid, WordAddr};
+use tcc_base::{Config, DirId, LineAddr, Mask, NoMemory, Tagged, Tid, WordAddr};
 
 /// A speculative cache. Contracts speak of its maps: which line each way holds, and for each word its value, its marks
 /// and the tag of a dirty word. Each call asks that the sets, ways, lines and words that it names exist in the settings.
@@ -154,6 +155,20 @@ impl SpecCache {
         ensures maps { maps self.new ≡ read_cleared (maps self.old) }
     {
         self.frames.clear_read();
+    }
+
+    /// Whether a word of a line at home at the directory is marked read.
+    pub fn reads_at(&self, d: DirId) -> bool
+        ensures { result ≡ any_read self.now.config (maps self.now) d.0 }
+    {
+        self.frames.reads_at(d)
+    }
+
+    /// The lines at home at the directory that have modified words, in rising order, each with the mask of these words.
+    pub fn marks_by_home(&self, d: DirId) -> Result<Vec<(LineAddr, Mask)>, NoMemory>
+        ensures { IfOk result (λ v. map mark_of v.items ≡ every_mark self.now.config (maps self.now) d.0) }
+    {
+        self.frames.marks_by_home(d)
     }
 
     /// Turns modified words into dirty ones with the TID as tag, and clears both marks.

@@ -1,19 +1,21 @@
 // The calls of a cache, over any form of its frames.
-ghost use Rattle.std.specs.Prelude.{◌≡◌, ◌<◌, ◌%◌, ℕ, length, Option, Some, None, MatchOption, MatchResult, IsTrue, IsSome, is_some, false};
+ghost use Rattle.std.specs.Prelude.{◌≡◌, ◌<◌, ◌%◌, ℕ, length, Option, Some, None, MatchOption, MatchResult, IfOk, map, IsTrue, IsSome, is_some, false};
 ghost use Rattle.std.specs.Option.{option_map};
 ghost use Rattle.tcc_maps.specs.Words.{line_of};
 ghost use Rattle.tcc_maps.specs.Shape.{lines, set_of};
 ghost use Rattle.tcc_maps.specs.Bridge.{tagged_of};
-ghost use Rattle.tcc_maps.specs.Cache.{IsCache, dirty_copy, free_way as lowest_free, keeps as keeps_word};
+ghost use Rattle.tcc_maps.specs.Cache.{IsCache, dirty_copy, free_way as lowest_free, keeps as keeps_word, reads_at as any_read, marks_by_home as every_mark};
 ghost use Rattle.tcc_maps.specs.CacheChange.{stored, placed, filled, invalidated, cleaned, evicted, word_dropped, rolled_back, read_cleared, committed};
 ghost use Rattle.tcc_maps.specs.CacheLook.{look_load as load_answer, look_store as store_answer, look_line, reads_masked};
 ghost use Rattle.spec_cache.specs.Held.{Held, maps};
+ghost use Rattle.spec_cache.specs.Home.{mark_of};
 ghost use Rattle.spec_cache.specs.Look.{look_of, loaded, Views, Gives};
 
 use crate::frame::{Change, FrameView};
 use crate::look::{Evicted, Invalidated, Look};
+use crate::marks::put_in_order;
 use crate::ways::Ways;
-use tcc_base::{LineAddr, Mask, Tagged, Tid, WordAddr};
+use tcc_base::{DirId, LineAddr, Mask, NoMemory, Tagged, Tid, WordAddr};
 
 /// The number of a word's line.
 fn line_of_word(w: WordAddr) -> LineAddr
@@ -205,6 +207,29 @@ pub trait Frames: Ways {
         ensures maps { maps (Self.held self.new) ≡ read_cleared (maps (Self.held self.old)) }
     {
         self.change(Change::ClearRead);
+    }
+
+    /// Whether a word of a line at home at the directory is marked read.
+    fn reads_at(&self, d: DirId) -> bool
+        ensures { result ≡ any_read (Self.held self.now).config (maps (Self.held self.now)) d.0 }
+    {
+        self.any_reads_at(d)
+    }
+
+    /// The lines at home at the directory that have modified words, in rising order, each with the mask of these words.
+    fn marks_by_home(&self, d: DirId) -> Result<Vec<(LineAddr, Mask)>, NoMemory>
+        ensures { IfOk result (λ v. map mark_of v.items ≡ every_mark (Self.held self.now).config (maps (Self.held self.now)) d.0) }
+    {
+        let mut lines = self.written_at(d)?;
+        put_in_order(&mut lines);
+        let Ok(mut marks) = Vec::with_capacity(*lines.allocator(), lines.len()) else {
+            return Err(NoMemory);
+        };
+        for line in &lines {
+            let (_, frame) = self.seek(LineAddr(*line));
+            marks.push_reserved((frame.line, frame.modified));
+        }
+        Ok(marks)
     }
 
     /// Turns modified words into dirty ones with the TID as tag, and clears both marks.

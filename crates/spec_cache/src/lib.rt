@@ -6,6 +6,7 @@ mod frame;
 mod frames;
 mod list_frames;
 mod look;
+mod marks;
 mod masks;
 mod set_frames;
 mod slots;

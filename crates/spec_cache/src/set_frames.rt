@@ -3,11 +3,12 @@ ghost use Rattle.std.specs.Prelude.{◌≡◌, ◌*◌, replicate, Option, None,
 
 use crate::frame::{Change, FrameView};
 use crate::frames::Frames;
+use crate::marks::{all_written, any_reads};
 use crate::slots::{change_all, empty_ways, frame_for};
 use crate::ways::Ways;
 use std::alloc::Global;
 use std::marker::Model;
-use tcc_base::{Config, LineAddr, NoMemory};
+use tcc_base::{Config, DirId, LineAddr, NoMemory};
 
 /// The frames in one array: way `y` of set `s` stands at `s * ways + y`, and a line is looked for in its set alone.
 #[derive(Debug, Drop)]
@@ -70,6 +71,19 @@ impl Ways for SetFrames {
 
     fn change(&mut self, change: Change) {
         change_all(&mut self.frames, change);
+    }
+
+    fn any_reads_at(&self, home: DirId) -> bool {
+        any_reads(&self.frames, home.0, self.config.dirs())
+    }
+
+    fn written_at(&self, home: DirId) -> Result<Vec<u32>, NoMemory> {
+        all_written(
+            *self.frames.allocator(),
+            &self.frames,
+            home.0,
+            self.config.dirs(),
+        )
     }
 }
 

@@ -1,16 +1,17 @@
 // What a form of the frames gives to the calls of a cache: its ways by place, and changes of all frames at once.
-ghost use Rattle.std.specs.Prelude.{◌≡◌, ◌<◌, ◌+◌, ◌*◌, ℕ, length, get_or, set, Option, Some, None, MatchOption, IfSome, IsTrue};
+ghost use Rattle.std.specs.Prelude.{◌≡◌, ◌<◌, ◌+◌, ◌*◌, ℕ, length, get_or, set, Option, Some, None, MatchOption, MatchBool, IfSome, IfOk, IsTrue, true, false};
 ghost use Rattle.tcc_maps.specs.Shape.{set_of};
 ghost use Rattle.tcc_maps.specs.Cache.{free_way as lowest_free, all_marked as every_marked};
 ghost use Rattle.tcc_maps.specs.CacheLook.{look_line};
 ghost use Rattle.spec_cache.specs.Look.{look_of};
 ghost use Rattle.spec_cache.specs.Frame.{marked_in};
 ghost use Rattle.spec_cache.specs.Change.{all_changed};
+ghost use Rattle.spec_cache.specs.Home.{reads_in, written_found, Collects};
 ghost use Rattle.spec_cache.specs.Held.{Held, IsHeld, FitsWay, IsWayOf, frame_of, maps};
 
 use crate::frame::{Change, FrameView};
 use crate::look::Look;
-use tcc_base::{Config, LineAddr};
+use tcc_base::{Config, DirId, LineAddr, NoMemory};
 
 /// Whether a way holds a marked frame.
 #[tactic(auto, unfolding(crate::specs::Frame::marked_in))]
@@ -65,6 +66,16 @@ pub trait Ways {
     fn change(&mut self, change: Change)
         ensures frames { held self.new ≡ record (held self.old) { frames = all_changed change (held self.old).frames } }
         ensures in_order { IsHeld (held self.old) };
+
+    /// Whether a line at home there has a frame with a read mark.
+    fn any_reads_at(&self, home: DirId) -> bool
+        ensures any { MatchBool result ((i : ℕ) × (reads_in (held self.now).config.dirs home.0 (get_or (held self.now).frames i None) ≡ true)) ((i : ℕ) → reads_in (held self.now).config.dirs home.0 (get_or (held self.now).frames i None) ≡ false) }
+        ensures in_order { IsHeld (held self.now) };
+
+    /// The lines at home there that have a modified word, in no order.
+    fn written_at(&self, home: DirId) -> Result<Vec<u32>, NoMemory>
+        ensures lines { IfOk result (λ v. Collects (written_found (held self.now).config.dirs home.0 (held self.now).frames) v.items) }
+        ensures in_order { IsHeld (held self.now) };
 
     /// The set in which a line may have a frame.
     fn set_of_line(&self, line: LineAddr) -> u16
