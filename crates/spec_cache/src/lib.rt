@@ -19,3 +19,6 @@ pub use list_frames::ListFrames;
 pub use look::{Evicted, Invalidated, Look};
 pub use set_frames::SetFrames;
 pub use ways::Ways;
+
+#[cfg(test)]
+mod tests;
