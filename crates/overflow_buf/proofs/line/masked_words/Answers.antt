@@ -1,0 +1,10 @@
+use Rattle.std.proofs.Common.{◌<◌, arith, ◌∙◌, refl, lt-ltb}
+use Rattle.tcc_maps.specs.Masks.{masked}
+use Rattle.overflow_buf.proofs.Eights.{eight_of}
+use Rattle.overflow_buf.proofs.line.masked_words.Goals as goal
+
+pub returns : goal.returns
+unfolding masked
+returns c =
+    eight_of c.loop-k.kept _ c.loop-k.invariant.eight_words
+    (λ k h. c.loop-k.invariant.so_far k h ∙ (let past : k < c.loop-k.k = omega arith in rw (lt-ltb k c.loop-k.k past) refl))

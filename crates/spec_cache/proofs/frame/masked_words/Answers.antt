@@ -1,0 +1,11 @@
+use Rattle.std.proofs.Common.{ℕ, ◌<◌, ◌≤◌, ◌≡◌, Bool, true, false, cond, not, ◌&&◌, nat_lt, get_or, length, arith, sym, ◌∙◌, refl, lt-ltb}
+use Rattle.tcc_maps.specs.Words.{eight}
+use Rattle.tcc_maps.specs.Masks.{has, masked}
+use Rattle.spec_cache.proofs.Eights.{eight_of}
+use Rattle.spec_cache.proofs.frame.masked_words.Goals as goal
+
+pub returns : goal.returns
+unfolding masked
+returns c =
+    eight_of c.loop-k.kept _ c.loop-k.invariant.eight_words
+    (λ k h. c.loop-k.invariant.so_far k h ∙ (let past : k < c.loop-k.k = omega arith in rw (lt-ltb k c.loop-k.k past) refl))

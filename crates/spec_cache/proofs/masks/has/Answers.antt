@@ -1,0 +1,9 @@
+use Rattle.std.proofs.Common.{nat_eq, bit_and, ◌/◌, ◌^◌, ◌≡◌, arith}
+use Rattle.std.proofs.lemmas.Nat.Bits.{shr_and_one}
+use Rattle.std.proofs.lemmas.Bool.Decides.{nat_tests}
+use Rattle.tcc_maps.specs.Masks.{has}
+use Rattle.spec_cache.proofs.masks.has.Goals as goal
+
+pub returns : goal.returns
+unfolding has
+returns c = rw shr_and_one (grind (arith, nat_tests))

@@ -1,0 +1,8 @@
+use Rattle.std.proofs.Common.{◌≡◌, ℕ, true}
+use Rattle.tcc_maps.specs.Words.{all_below}
+use Rattle.tcc_maps.specs.Cache.{way_marked}
+use Rattle.spec_cache.specs.Held.{maps}
+use Rattle.spec_cache.proofs.ways.Ways.all_marked.Given as goal
+
+abbrev pub invariant-loop-way : goal.invariant-loop-way
+invariant-loop-way g l = all_below (λ y. way_marked (maps (g.Self.Ways.held l.self)) ((maps (g.Self.Ways.held l.self)).at l.set y)) l.way ≡ true

@@ -1,0 +1,5 @@
+pub mod Frame
+pub mod Change
+pub mod Held
+pub mod Look
+pub mod Home

@@ -1,0 +1,24 @@
+// A core's speculative cache: frames by set and way, with marks for each word.
+#![tactic(auto)]
+
+mod cache;
+mod frame;
+mod frames;
+mod list_frames;
+mod look;
+mod marks;
+mod masks;
+mod set_frames;
+mod slots;
+mod ways;
+
+pub use cache::SpecCache;
+pub use frame::{Change, FrameView};
+pub use frames::Frames;
+pub use list_frames::ListFrames;
+pub use look::{Evicted, Invalidated, Look};
+pub use set_frames::SetFrames;
+pub use ways::Ways;
+
+#[cfg(test)]
+mod tests;

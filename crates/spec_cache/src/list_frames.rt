@@ -1,0 +1,88 @@
+// The frames of a cache as a plain list that is searched and changed as a whole: slow, and easy to see through.
+ghost use Rattle.std.specs.Prelude.{◌≡◌, ◌*◌, replicate, Option, None, IfOk};
+
+use crate::frame::{Change, FrameView};
+use crate::frames::Frames;
+use crate::marks::{all_written, any_reads};
+use crate::slots::{change_all, empty_ways, frame_for};
+use crate::ways::Ways;
+use std::alloc::Global;
+use std::marker::Model;
+use tcc_base::{Config, DirId, LineAddr, NoMemory};
+
+/// The frames as a plain list: way `y` of set `s` stands at `s * ways + y`, and every search and change goes over all of them.
+#[derive(Debug, Drop)]
+pub struct ListFrames {
+    config: Config,
+    frames: Vec<Option<FrameView>>,
+}
+
+impl Model for ListFrames {
+    ghost use Rattle.spec_cache.specs.Held.{Held, IsHeld};
+
+    ghost Value = { Held };
+
+    ghost view = { λ s. record { config = s.config; frames = s.frames.items } };
+
+    ghost invariant = { λ s. IsHeld (record { config = s.config; frames = s.frames.items }) };
+}
+
+impl ListFrames {
+    ghost use Rattle.spec_cache.specs.Held.{IsHeld};
+
+    /// Empty ways for all sets.
+    pub fn new(alloc: Global, cfg: &Config) -> Result<ListFrames, NoMemory>
+        ensures empty { IfOk result (λ s. s ≡ record { config = cfg.now; frames = replicate (cfg.now.sets * cfg.now.ways) None }) }
+        ensures in_order { IfOk result IsHeld }
+    {
+        let count = cfg.sets() as usize * cfg.ways() as usize;
+        Ok(ListFrames {
+            config: *cfg,
+            frames: empty_ways(alloc, count)?,
+        })
+    }
+}
+
+impl Ways for ListFrames {
+    ghost held = { λ s. s };
+
+    fn config(&self) -> Config {
+        self.config
+    }
+
+    fn find(&self, line: LineAddr) -> Option<(usize, FrameView)> {
+        for (at, way) in self.frames.iter().enumerate() {
+            if let Some(frame) = frame_for(way, line) {
+                return Some((at, frame));
+            }
+        }
+        None
+    }
+
+    fn way(&self, at: usize) -> Option<FrameView> {
+        self.frames[at]
+    }
+
+    fn put(&mut self, at: usize, frame: Option<FrameView>) {
+        self.frames[at] = frame;
+    }
+
+    fn change(&mut self, change: Change) {
+        change_all(&mut self.frames, change);
+    }
+
+    fn any_reads_at(&self, home: DirId) -> bool {
+        any_reads(&self.frames, home.0, self.config.dirs())
+    }
+
+    fn written_at(&self, home: DirId) -> Result<Vec<u32>, NoMemory> {
+        all_written(
+            *self.frames.allocator(),
+            &self.frames,
+            home.0,
+            self.config.dirs(),
+        )
+    }
+}
+
+impl Frames for ListFrames {}
