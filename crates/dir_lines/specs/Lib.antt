@@ -1,0 +1,6 @@
+-- What the contracts of this crate cite.
+pub mod Home
+pub mod Record
+pub mod Pages
+pub mod PagesInside
+pub mod Kept
