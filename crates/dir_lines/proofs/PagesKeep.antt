@@ -3,6 +3,7 @@ use Rattle.std.proofs.Common.{◌≡◌, ℕ, zero, suc, ◌+◌, ◌/◌, ◌%�
 use Rattle.std.proofs.lemmas.List.{get_or_default}
 use borrow.Author.Tests.{eq-eqb}
 use Rattle.tcc_base.specs.Settings.{Settings}
+use Rattle.tcc_base.specs.declared.names.Mask.{Mask}
 use Rattle.tcc_maps.specs.Words.{put, those, count_below}
 use Rattle.tcc_maps.specs.Shape.{lines, home}
 use Rattle.tcc_maps.specs.Lines.{has_mark}
@@ -33,12 +34,13 @@ marked-at_home p l e = by (is_at_home p.place l) refl e
     by false f h = cc
 
 -- a line of the home that isn't marked leaves room in the list
-pub room-left : (p : Pages) (l : ℕ) → IsWhole p → IsAtHome p.place l → has_mark (lines_of (pages_at p)) l ≡ false → length (those (has_mark (lines_of (pages_at p))) (lines p.place.shape)) < home_lines p.place
-room-left p l w h e =
-    subst (λ n. n < home_lines p.place) (sym (length-those (has_mark (lines_of (pages_at p))) (lines p.place.shape)))
-    (subst (λ n. count_below (has_mark (lines_of (pages_at p))) (lines p.place.shape) < n) (count_below-home (lines p.place.shape) p.place.shape.dirs p.place.dir w.exists)
-    (count_below-lt (has_mark (lines_of (pages_at p))) (λ k. k % p.place.shape.dirs == p.place.dir) (lines p.place.shape) l
-    (λ k m. eq-eqb (k % p.place.shape.dirs) p.place.dir ((marked-at_home p k m).1)) h.0 (eq-eqb (l % p.place.shape.dirs) p.place.dir h.1) e))
+pub room-left : (h : Home) (f : ℕ → Record) (l : ℕ) → h.dir < h.shape.dirs → ((k : ℕ) → has_mark (lines_of f) k ≡ true → IsAtHome h k) → IsAtHome h l → has_mark (lines_of f) l ≡ false
+    → length (those (has_mark (lines_of f)) (lines h.shape)) < home_lines h
+room-left h f l here only at e =
+    subst (λ n. n < home_lines h) (sym (length-those (has_mark (lines_of f)) (lines h.shape)))
+      (subst (λ n. count_below (has_mark (lines_of f)) (lines h.shape) < n) (count_below-home (lines h.shape) h.shape.dirs h.dir here)
+        (count_below-lt (has_mark (lines_of f)) (λ k. k % h.shape.dirs == h.dir) (lines h.shape) l
+          (λ k m. eq-eqb (k % h.shape.dirs) h.dir ((only k m).1)) at.0 (eq-eqb (l % h.shape.dirs) h.dir at.1) e))
 
 -- a record that was read at a line's place
 pub read-own : (p : Pages) (l d : ℕ) (r : Record) → IsWhole p → IsAtHome p.place l → d ≡ p.place.shape.dirs → r ≡ get_or p.records (l / d) r → r ≡ pages_at p l
@@ -47,13 +49,19 @@ read-own p l d r w h e f =
     f ∙ (ap (λ k. get_or p.records (l / k) r) e ∙ (get_or_default p.records (l / p.place.shape.dirs) r blank lt ∙ sym (pages_at-own p l h)))
 
 -- a record that was read tells whether its line is marked
-pub read-marked : (p : Pages) (l : ℕ) (r : Record) → r ≡ pages_at p l → has_mark (lines_of (pages_at p)) l ≡ nat_lt 0 r.mark.0
-read-marked p l r e = is_marked-own (pages_at p) l ∙ ap (λ x. nat_lt 0 x.mark.0) (sym e)
+pub read-marked : (f : ℕ → Record) (l : ℕ) (m : Mask) → m ≡ (f l).mark → has_mark (lines_of f) l ≡ nat_lt 0 m.0
+read-marked f l m e = is_marked-own f l ∙ ap (λ x. nat_lt 0 x.0) (sym e)
 
-pub unmarked-room : (p : Pages) (l : ℕ) (r : Record) (marked : List ℕ) → IsWhole p → IsAtHome p.place l → r ≡ pages_at p l → r.mark.0 ≡ 0
-    → marked ≡ those (has_mark (lines_of (pages_at p))) (lines p.place.shape) → length marked < home_lines p.place
-unmarked-room p l r marked w h e z same =
-    subst (λ xs. length xs < home_lines p.place) (sym same) (room-left p l w h (read-marked p l r e ∙ ap (nat_lt 0) z))
+pub unmarked-room : (h : Home) (f : ℕ → Record) (l : ℕ) (m : Mask) (marked : List ℕ) → h.dir < h.shape.dirs → ((k : ℕ) → has_mark (lines_of f) k ≡ true → IsAtHome h k) → IsAtHome h l
+    → m ≡ (f l).mark → m.0 ≡ 0 → marked ≡ those (has_mark (lines_of f)) (lines h.shape) → length marked < home_lines h
+unmarked-room h f l m marked here only at e z same =
+    subst (λ xs. length xs < home_lines h) (sym same) (room-left h f l here only at (read-marked f l m e ∙ ap (nat_lt 0) z))
+
+-- the list of marked lines after a change
+pub marked-put : (h : Home) (f g : ℕ → Record) (l : ℕ) (r : Record) (marked : List ℕ) → g ≡ put f l r
+    → marked ≡ those (put (has_mark (lines_of f)) l (nat_lt 0 r.mark.0)) (lines h.shape) → marked ≡ those (has_mark (lines_of g)) (lines h.shape)
+marked-put h f g l r marked e same =
+    same ∙ (ap (λ p. those p (lines h.shape)) (sym (is_marked-put f l r)) ∙ ap (λ k. those (has_mark (lines_of k)) (lines h.shape)) (sym e))
 
 -- the array with one record in another's place, and its list of marked lines
 abbrev pub with_record : Pages → ℕ → Record → Pages
@@ -64,13 +72,6 @@ with_record-count p i r e = length-set p.records i r ∙ e
 
 pub with_record-at : (p : Pages) (l d : ℕ) (r : Record) → IsWhole p → IsAtHome p.place l → d ≡ p.place.shape.dirs → pages_at (with_record p (l / d) r) ≡ put (pages_at p) l r
 with_record-at p l d r w h e = ap (λ k. pages_at (with_record p (l / k) r)) e ∙ pages_at-set p l r w h
-
-pub with_record-marked : (p : Pages) (l d : ℕ) (r : Record) (marked : List ℕ) → IsWhole p → IsAtHome p.place l → d ≡ p.place.shape.dirs
-    → marked ≡ those (put (has_mark (lines_of (pages_at p))) l (nat_lt 0 r.mark.0)) (lines p.place.shape)
-    → marked ≡ those (has_mark (lines_of (pages_at (with_record p (l / d) r)))) (lines p.place.shape)
-with_record-marked p l d r marked w h e same =
-    same ∙ (ap (λ f. those f (lines p.place.shape)) (sym (is_marked-put (pages_at p) l r))
-    ∙ ap (λ f. those (has_mark (lines_of f)) (lines p.place.shape)) (sym (with_record-at p l d r w h e)))
 
 -- at the start no line is marked
 pub those-none : (p : ℕ → Bool) (n : ℕ) → ((k : ℕ) → p k ≡ false) → [] ≡ those p n

@@ -4,3 +4,5 @@ pub mod Record
 pub mod Pages
 pub mod PagesInside
 pub mod Kept
+pub mod Filed
+pub mod FiledInside

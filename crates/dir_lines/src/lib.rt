@@ -7,9 +7,11 @@ mod lines;
 mod marked;
 mod pages;
 mod record;
+mod tree;
 
 pub use array::DirLines;
 pub use core_set::CoreSet;
 pub use lines::Lines;
 pub use pages::PageLines;
 pub use record::LineRecord;
+pub use tree::MapLines;
