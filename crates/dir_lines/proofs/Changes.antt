@@ -1,5 +1,5 @@
 -- One record's change as the change of the map of lines.
-use Rattle.std.proofs.Common.{◌≡◌, ℕ, Bool, true, false, Option, None, option_map, if◌then◌else◌, ◌==◌, ◌&&◌, eqb, refl, ap, sym, ◌∙◌}
+use Rattle.std.proofs.Common.{◌≡◌, ℕ, Bool, true, false, Option, None, option_map, if◌then◌else◌, ◌==◌, ◌&&◌, refl, ap, sym, ◌∙◌}
 use borrow.Author.Tests.{eqb-true}
 use Rattle.tcc_base.specs.declared.names.CoreId.{CoreId}
 use Rattle.tcc_base.specs.declared.names.Tid.{Tid}
@@ -8,7 +8,7 @@ use Rattle.dir_lines.specs.declared.core_set.CoreSet.{CoreSet}
 use Rattle.tcc_maps.specs.Words.{put, put_at}
 use Rattle.tcc_maps.specs.Masks.{has}
 use Rattle.tcc_maps.proofs.Masks.{has-zero}
-use Rattle.tcc_maps.specs.Lines.{Lines, with_sharer, with_owner, with_tag, with_asked, with_mark, no_lines}
+use Rattle.tcc_maps.specs.Lines.{with_sharer, with_owner, with_tag, with_asked, with_mark, no_lines}
 use Rattle.dir_lines.specs.Record.{Record, blank, lines_of}
 
 -- a field that is as before

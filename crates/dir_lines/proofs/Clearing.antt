@@ -1,9 +1,8 @@
 -- Clearing the marks one by one: what the others are, how many are left, and when none is.
-use Rattle.std.proofs.Common.{◌≡◌, ℕ, zero, suc, ◌+◌, ◌<◌, ◌≤◌, Bool, true, false, ◌==◌, eqb, nat_lt, if◌then◌else◌, List, [], length, get_or, slice_get, Option, Some, None, Contains, ◌⊎◌, inl, inr, refl, ap, sym, subst, ◌∙◌, arith}
-use Rattle.std.proofs.lemmas.Bool.Decides.{nat_tests}
+use Rattle.std.proofs.Common.{◌≡◌, ℕ, zero, suc, ◌+◌, ◌<◌, ◌≤◌, Bool, true, false, ◌==◌, eqb, nat_lt, if◌then◌else◌, List, length, get_or, slice_get, Some, None, Contains, ◌⊎◌, inl, inr, refl, ap, sym, subst, ◌∙◌, arith}
 use Rattle.std.proofs.lemmas.Option.{slice_get_cases}
 use Rattle.std.proofs.lemmas.List.Elements.{Contains-get_or}
-use borrow.Author.Tests.{eqb-true, eqb-false, ne_eqb, eq-eqb, ltb-false}
+use borrow.Author.Tests.{eqb-true, eqb-false, ne_eqb, ltb-false}
 use Rattle.tcc_maps.specs.Words.{put, those, count_below, num}
 use Rattle.tcc_maps.specs.Shape.{lines}
 use Rattle.tcc_maps.specs.Lines.{Lines, with_mark, unmarked, has_mark}

@@ -1,15 +1,11 @@
 -- An ordered map of records as a map by line: filling it, reading it, and putting one record in another's place.
-use Rattle.std.proofs.Common.{◌≡◌, ℕ, ◌+◌, ◌%◌, ◌<◌, Bool, true, false, ◌==◌, ◌&&◌, cond, eqb, nat_lt, if◌then◌else◌, List, Option, None, Some, IsSome, IfSome, refl, ap, sym, subst, ◌∙◌, arith}
+use Rattle.std.proofs.Common.{◌≡◌, ℕ, Bool, true, false, ◌==◌, nat_lt, if◌then◌else◌, List, Option, None, Some, IsSome, IfSome, refl, ap, sym, subst, ◌∙◌}
 use Rattle.std.specs.Option.{unwrap_or}
-use Rattle.std.specs.Ordering.{nat_cmp}
-use Rattle.std.specs.BTreeMap.{is_at}
-use Rattle.std.proofs.lemmas.Bool.Decides.{nat_tests}
 use borrow.Author.Tests.{eqb-true, eqb-false, ne_eqb, eq-eqb}
 use Rattle.tcc_base.specs.declared.names.Mask.{Mask}
 use Rattle.tcc_maps.specs.Words.{put}
-use Rattle.tcc_maps.specs.Shape.{lines, home}
 use Rattle.tcc_maps.specs.Lines.{has_mark}
-use Rattle.dir_lines.specs.Home.{Home, IsAtHome}
+use Rattle.dir_lines.specs.Home.{IsAtHome}
 use Rattle.dir_lines.specs.Record.{Record, blank, lines_of}
 use Rattle.dir_lines.specs.Pages.{is_at_home}
 use Rattle.dir_lines.specs.Filed.{Filed, found, filed_at, AllBlank, HasAll}
@@ -55,6 +51,7 @@ filed_at-put m new l r h u = λ i j. by j (j == l) refl (is_at_home m.place j) r
   where
     clash : is_at_home m.place l ≡ false → ⊥
     clash f = let g : is_at_home m.place l ≡ true = is_at_home-true m.place l h in cc
+
     by : (j : ℕ) (a : Bool) → (j == l) ≡ a → (b : Bool) → is_at_home m.place j ≡ b
         → (if b then unwrap_or (found new j) blank else blank) ≡ (if a then r else (if b then unwrap_or (found m.entries j) blank else blank))
     by j true e true f = ap (λ o. unwrap_or o blank) (u j ∙ ap (λ b. if b then Some r else found m.entries j) (eq-eqb l j (sym (eqb-true j l e))))

@@ -1,10 +1,10 @@
 -- The rising list of the numbers with a test, when the test changes at one number.
-use Rattle.std.proofs.Common.{◌≡◌, ℕ, zero, suc, ◌+◌, ◌-◌, ◌<◌, ◌≤◌, Bool, true, false, cond, ◌==◌, eqb, nat_lt, if◌then◌else◌, List, [], ◌∷◌, ◌++◌, length, take, drop, get_or, All, append_assoc, append-nil, length-append, Result, Ok, Err, is_ok, IsOk, refl, ap, sym, subst, ◌∙◌, arith}
+use Rattle.std.proofs.Common.{◌≡◌, ℕ, zero, suc, ◌+◌, ◌-◌, ◌<◌, ◌≤◌, Bool, true, false, cond, nat_lt, if◌then◌else◌, List, [], ◌∷◌, ◌++◌, length, drop, get_or, All, append_assoc, append-nil, length-append, Result, Ok, Err, is_ok, IsOk, refl, ap, sym, subst, ◌∙◌, arith}
 use Rattle.std.specs.List.{insert, remove}
 use Rattle.std.proofs.lemmas.List.Elements.{All-get_or, All-append, All-cons, All-nil, All-weaker, All-push}
 use Rattle.std.proofs.Math.ListN.{get_or-append}
 use Rattle.std.proofs.Math.Seq.{take-append_seam, drop-append_seam, get_or-append_right}
-use borrow.Author.Tests.{ltb-true, ltb-false, eqb-true, eqb-false, ne_eqb, eq-eqb}
+use borrow.Author.Tests.{ltb-true, ltb-false, ne_eqb, eq-eqb}
 use Rattle.tcc_maps.specs.Words.{put, those}
 
 -- the numbers from a on, m of them, that have p

@@ -1,8 +1,7 @@
 -- The array of records as a map by line: reading it, and putting one record in another's place.
-use Rattle.std.proofs.Common.{◌≡◌, ◌≢◌, ℕ, zero, suc, ◌+◌, ◌*◌, ◌/◌, ◌%◌, ◌<◌, ◌≤◌, Bool, true, false, ◌==◌, ◌&&◌, eqb, nat_lt, if◌then◌else◌, List, length, get_or, set, replicate, get_or-set_other, get_or-set_same, refl, ap, sym, subst, ◌∙◌, arith}
+use Rattle.std.proofs.Common.{◌≡◌, ◌≢◌, ℕ, zero, suc, ◌+◌, ◌*◌, ◌/◌, ◌<◌, Bool, true, false, ◌==◌, ◌&&◌, nat_lt, if◌then◌else◌, length, get_or, set, replicate, get_or-set_other, get_or-set_same, refl, ap, sym, subst, ◌∙◌}
 use Rattle.std.proofs.Math.Nat.{mod-add-div'}
 use borrow.Author.Tests.{eqb-true, eqb-false, ltb-true, lt-ltb, eq-eqb}
-use Rattle.tcc_base.specs.Settings.{Settings}
 use Rattle.tcc_maps.specs.Words.{put}
 use Rattle.tcc_maps.specs.Shape.{lines, home}
 use Rattle.dir_lines.specs.Home.{Home, IsAtHome, home_lines}

@@ -1,14 +1,13 @@
 -- What holds of an array of lines and its list of marked lines, before and after one record is put in another's place.
-use Rattle.std.proofs.Common.{◌≡◌, ℕ, zero, suc, ◌+◌, ◌/◌, ◌%◌, ◌<◌, ◌≤◌, Bool, true, false, ◌==◌, ◌&&◌, nat_lt, if◌then◌else◌, List, [], ◌∷◌, ◌++◌, cond, length, get_or, set, length-set, replicate, Option, None, Some, refl, ap, sym, subst, ◌∙◌, arith}
+use Rattle.std.proofs.Common.{◌≡◌, ℕ, zero, suc, ◌/◌, ◌%◌, ◌<◌, Bool, true, false, ◌==◌, nat_lt, if◌then◌else◌, List, [], ◌∷◌, ◌++◌, cond, length, get_or, set, length-set, refl, ap, sym, subst, ◌∙◌}
 use Rattle.std.proofs.lemmas.List.{get_or_default}
 use borrow.Author.Tests.{eq-eqb}
-use Rattle.tcc_base.specs.Settings.{Settings}
 use Rattle.tcc_base.specs.declared.names.Mask.{Mask}
 use Rattle.tcc_maps.specs.Words.{put, those, count_below}
-use Rattle.tcc_maps.specs.Shape.{lines, home}
+use Rattle.tcc_maps.specs.Shape.{lines}
 use Rattle.tcc_maps.specs.Lines.{has_mark}
 use Rattle.tcc_maps.proofs.Numbers.{length-those}
-use Rattle.dir_lines.specs.Home.{Home, IsHome, IsAtHome, home_lines}
+use Rattle.dir_lines.specs.Home.{Home, IsAtHome, home_lines}
 use Rattle.dir_lines.specs.Record.{Record, blank, lines_of}
 use Rattle.dir_lines.specs.Pages.{Pages, pages_at, is_at_home}
 use Rattle.dir_lines.proofs.Counting.{count_below-lt, count_below-home}
@@ -38,9 +37,9 @@ pub room-left : (h : Home) (f : ℕ → Record) (l : ℕ) → h.dir < h.shape.di
     → length (those (has_mark (lines_of f)) (lines h.shape)) < home_lines h
 room-left h f l here only at e =
     subst (λ n. n < home_lines h) (sym (length-those (has_mark (lines_of f)) (lines h.shape)))
-      (subst (λ n. count_below (has_mark (lines_of f)) (lines h.shape) < n) (count_below-home (lines h.shape) h.shape.dirs h.dir here)
-        (count_below-lt (has_mark (lines_of f)) (λ k. k % h.shape.dirs == h.dir) (lines h.shape) l
-          (λ k m. eq-eqb (k % h.shape.dirs) h.dir ((only k m).1)) at.0 (eq-eqb (l % h.shape.dirs) h.dir at.1) e))
+    (subst (λ n. count_below (has_mark (lines_of f)) (lines h.shape) < n) (count_below-home (lines h.shape) h.shape.dirs h.dir here)
+    (count_below-lt (has_mark (lines_of f)) (λ k. k % h.shape.dirs == h.dir) (lines h.shape) l
+    (λ k m. eq-eqb (k % h.shape.dirs) h.dir ((only k m).1)) at.0 (eq-eqb (l % h.shape.dirs) h.dir at.1) e))
 
 -- a record that was read at a line's place
 pub read-own : (p : Pages) (l d : ℕ) (r : Record) → IsWhole p → IsAtHome p.place l → d ≡ p.place.shape.dirs → r ≡ get_or p.records (l / d) r → r ≡ pages_at p l

@@ -7,6 +7,8 @@ mod lines;
 mod marked;
 mod pages;
 mod record;
+#[cfg(test)]
+mod tests;
 mod tree;
 
 pub use array::DirLines;

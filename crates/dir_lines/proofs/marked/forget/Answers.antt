@@ -1,4 +1,4 @@
-use Rattle.std.proofs.Common.{◌≡◌, ◌∙◌, ◌<◌, subst, arith}
+use Rattle.std.proofs.Common.{◌∙◌, ◌<◌, subst, arith}
 use Rattle.dir_lines.proofs.Marks.{IsPlace, those-forget}
 use Rattle.dir_lines.proofs.marked.forget.Goals as goal
 

@@ -1,4 +1,4 @@
-use Rattle.std.proofs.Common.{◌≡◌, ◌∙◌, subst}
+use Rattle.std.proofs.Common.{◌∙◌, subst}
 use Rattle.std.specs.List.{insert}
 use Rattle.dir_lines.proofs.Marks.{IsPlace, those-note, when_ok}
 use Rattle.dir_lines.proofs.marked.note.Goals as goal

@@ -1,4 +1,4 @@
-use Rattle.std.proofs.Common.{◌≡◌, suc, ◌-◌, sym, subst, ◌∙◌, arith}
+use Rattle.std.proofs.Common.{◌≡◌, ◌-◌, sym, subst, ◌∙◌, arith}
 use Rattle.dir_lines.specs.Record.{lines_of}
 use Rattle.dir_lines.proofs.Clearing.{IsClearing, clearing-line, clearing-some, clearing-next, clearing-done}
 use Rattle.dir_lines.proofs.lines.Lines.clear_marks.Goals as goal

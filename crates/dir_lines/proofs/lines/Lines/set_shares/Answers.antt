@@ -1,4 +1,4 @@
-use Rattle.std.proofs.Common.{◌≡◌, ℕ, ◌==◌, if◌then◌else◌, ◌∙◌, ap}
+use Rattle.std.proofs.Common.{◌==◌, if◌then◌else◌, ◌∙◌, ap}
 use Rattle.tcc_maps.specs.Words.{put}
 use Rattle.tcc_maps.specs.Masks.{has}
 use Rattle.dir_lines.specs.Record.{lines_of}

@@ -1,12 +1,7 @@
-use Rattle.std.proofs.Common.{sym, subst, ap, ◌∙◌, arith}
+use Rattle.std.proofs.Common.{sym, subst, ap, ◌∙◌}
 use Rattle.dir_lines.specs.Home.{IsAtHome}
-use Rattle.dir_lines.specs.Record.{lines_of}
-use Rattle.tcc_maps.specs.Words.{those, put}
-use Rattle.tcc_maps.specs.Shape.{lines}
-use Rattle.tcc_maps.specs.Lines.{has_mark}
 use Rattle.dir_lines.specs.Pages.{pages_at}
 use Rattle.dir_lines.specs.PagesInside.{pages_of}
-use Rattle.dir_lines.proofs.PagesAt.{IsWhole}
 use Rattle.dir_lines.proofs.PagesKeep.{read-own}
 use Rattle.dir_lines.proofs.pages.PageLinesLines.get.Goals as goal
 

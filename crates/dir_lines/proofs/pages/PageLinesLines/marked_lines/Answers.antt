@@ -1,7 +1,5 @@
-use Rattle.std.proofs.Common.{rules, ◌≡◌, ◌/◌, ◌<◌, ◌≤◌, length, vec_capacity, sym, subst, ap, ◌∙◌, arith}
-use Rattle.dir_lines.specs.Home.{IsAtHome, home_lines}
+use Rattle.std.proofs.Common.{rules, ◌≡◌, ◌<◌, ◌≤◌, length, ap, ◌∙◌, arith}
 use Rattle.dir_lines.specs.Record.{lines_of}
-use Rattle.tcc_maps.specs.Words.{those, put}
 use Rattle.tcc_maps.specs.Shape.{lines}
 use Rattle.tcc_maps.specs.Lines.{has_mark}
 use Rattle.dir_lines.specs.Pages.{pages_at}

@@ -1,11 +1,9 @@
-use Rattle.std.proofs.Common.{◌≡◌, ◌/◌, ◌<◌, ◌≤◌, length, vec_capacity, sym, subst, ap, ◌∙◌, arith}
+use Rattle.std.proofs.Common.{◌≡◌, length, ap, ◌∙◌, arith}
 use Rattle.dir_lines.specs.Home.{Home}
 use Rattle.dir_lines.specs.Record.{lines_of}
-use Rattle.tcc_maps.specs.Words.{those, put}
 use Rattle.tcc_maps.specs.Shape.{lines}
 use Rattle.tcc_maps.specs.Lines.{has_mark}
 use Rattle.dir_lines.specs.Pages.{pages_at}
-use Rattle.dir_lines.specs.PagesInside.{pages_of}
 use Rattle.std.proofs.lemmas.List.{length-replicate}
 use Rattle.dir_lines.specs.Record.{blank}
 use Rattle.dir_lines.proofs.PagesAt.{pages_at-blank}

@@ -1,15 +1,11 @@
-use Rattle.std.proofs.Common.{rules, ◌≡◌, ◌/◌, ◌<◌, ◌≤◌, IsSome, length, vec_capacity, sym, subst, ap, ◌∙◌, arith}
-use Rattle.tcc_maps.specs.Words.{those, put, count_below}
+use Rattle.std.proofs.Common.{◌≡◌, ◌/◌, ◌∙◌, arith}
 use Rattle.tcc_maps.specs.Shape.{lines}
 use Rattle.tcc_maps.specs.Lines.{has_mark}
-use Rattle.tcc_maps.proofs.Numbers.{length-those}
-use Rattle.dir_lines.specs.Home.{Home, IsAtHome, home_lines}
-use Rattle.dir_lines.specs.Record.{blank, lines_of}
-use Rattle.dir_lines.specs.Filed.{Filed, found, filed_at}
-use Rattle.dir_lines.specs.FiledInside.{filed_of}
-use Rattle.dir_lines.proofs.Counting.{count_below-small}
-use Rattle.dir_lines.proofs.PagesKeep.{read-marked, unmarked-room, marked-put, those-none, blank-unmarked}
-use Rattle.dir_lines.proofs.Filing.{filed_at-blank, filed_at-found, filed_at-mark, filed-at_home, filed_at-put, all-put}
+use Rattle.dir_lines.specs.Home.{Home}
+use Rattle.dir_lines.specs.Record.{lines_of}
+use Rattle.dir_lines.specs.Filed.{filed_at}
+use Rattle.dir_lines.proofs.PagesKeep.{those-none, blank-unmarked}
+use Rattle.dir_lines.proofs.Filing.{filed_at-blank}
 use Rattle.dir_lines.proofs.tree.MapLinesLines.new.Goals as goal
 
 pub invariant_of-result : goal.invariant_of-result
@@ -19,7 +15,7 @@ invariant_of-result c =
       home = (c.count-count.ensures.allowed, c.requires);
       all = λ l a e. c.in_ok-records.ensures.all l (let w : c.words.result ≡ c.args.cfg.now.ram / 4 = c.words.ensures.value in omega arith) (rw c.dirs.ensures.value e);
       marked = c.in-Ok.ensures.items ∙ those-none (has_mark (lines_of (filed_at (record { place = here; entries = c.in_ok-records.records.entries })))) (lines c.args.cfg.now)
-        (blank-unmarked (filed_at (record { place = here; entries = c.in_ok-records.records.entries })) (filed_at-blank (record { place = here; entries = c.in_ok-records.records.entries }) c.in_ok-records.ensures.blank));
+          (blank-unmarked (filed_at (record { place = here; entries = c.in_ok-records.records.entries })) (filed_at-blank (record { place = here; entries = c.in_ok-records.records.entries }) c.in_ok-records.ensures.blank));
       room = omega (arith, c.in-Ok.ensures.capacity, c.count-count.ensures.count);
     }
 
