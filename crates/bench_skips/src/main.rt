@@ -1,0 +1,44 @@
+// Skips TIDs out of order in either form of the skips, and prints a checksum: the work that `bench/parts.sh` times.
+#![tactic(auto)]
+
+use skip_vector::{RingSkips, SetSkips, Skips};
+use std::{env, io};
+use tcc_base::{NoMemory, Tid};
+
+// Skips the TIDs of each window from the last to the first, so that all but the first are kept, and then all are passed.
+// Gives the sum of the TIDs that were served after each skip.
+fn work<S: Skips>(skips: &mut S, window: u64, rounds: u64) -> Result<u64, NoMemory> {
+    let mut sum = 0u64;
+    for _ in 0..rounds {
+        let first = skips.serving().0;
+        for ahead in (0..window).rev() {
+            let tid = first.saturating_add(ahead);
+            if tid < 1 << 62 {
+                skips.skip(Tid(tid))?;
+            }
+            sum = sum.wrapping_add(skips.serving().0);
+        }
+    }
+    Ok(sum)
+}
+
+fn main(rt: HostRuntime) -> io::Result<()> {
+    let mut numbers = [0u64, 8, 100];
+    for (at, word) in env::args(&rt)?.skip(1).enumerate() {
+        if at < 3
+            && let Ok(number) = word.as_str().parse::<u64>()
+        {
+            numbers[at] = number;
+        }
+    }
+    let [set, window, rounds] = numbers;
+    let sum = if set == 0 {
+        work(&mut RingSkips::new(rt.alloc()), window, rounds)
+    } else {
+        work(&mut SetSkips::new(rt.alloc()), window, rounds)
+    };
+    match sum {
+        Ok(sum) => println!(rt; "{sum}"),
+        Err(NoMemory) => println!(rt; "no memory"),
+    }
+}

@@ -1,0 +1,8 @@
+-- What the contracts of this crate cite.
+pub mod Home
+pub mod Record
+pub mod Pages
+pub mod PagesInside
+pub mod Kept
+pub mod Filed
+pub mod FiledInside

@@ -1,0 +1,101 @@
+// The lines as one array of records, so that a line is found by one division.
+ghost use Rattle.std.specs.Prelude.{◌≡◌, ℕ, ◌+◌, ◌-◌, ◌/◌, ◌<◌, IfOk, replicate};
+ghost use Rattle.tcc_base.specs.Settings.{Settings, IsAllowed};
+ghost use Rattle.dir_lines.specs.Home.{Home, home_lines};
+ghost use Rattle.dir_lines.specs.Record.{blank};
+
+use crate::lines::Lines;
+use crate::marked;
+use crate::record::LineRecord;
+use std::alloc::Global;
+use std::marker::Model;
+use tcc_base::{Config, DirId, LineAddr, NoMemory};
+
+/// Records in an array: line L stands at index L / directories. It is made whole at the start.
+#[derive(Debug, Drop)]
+pub struct PageLines {
+    cfg: Config,
+    home: DirId,
+    records: Vec<LineRecord>,
+    marked: Vec<u32>,
+}
+
+impl Model for PageLines {
+    ghost use Rattle.dir_lines.specs.Pages.{Pages};
+
+    ghost Value = { Pages };
+
+    ghost use Rattle.dir_lines.specs.PagesInside.{pages_of, IsPages};
+
+    ghost view = { pages_of };
+
+    ghost invariant = { IsPages };
+}
+
+impl Lines for PageLines {
+    ghost use Rattle.dir_lines.specs.Pages.{pages_at};
+
+    ghost place = { λ p. p.place };
+
+    ghost records = { pages_at };
+
+    fn new(alloc: Global, cfg: &Config, home: DirId) -> Result<Self, NoMemory> {
+        let count = count(cfg, home);
+        let records = blanks(alloc, count)?;
+        match Vec::with_capacity(alloc, count) {
+            Ok(marked) => Ok(PageLines {
+                cfg: *cfg,
+                home,
+                records,
+                marked,
+            }),
+            Err(_) => Err(NoMemory),
+        }
+    }
+
+    fn get(&self, line: LineAddr) -> LineRecord {
+        self.records[(line.0 / self.cfg.dirs() as u32) as usize]
+    }
+
+    fn set(&mut self, line: LineAddr, to: LineRecord) {
+        let at = (line.0 / self.cfg.dirs() as u32) as usize;
+        let was = self.records[at].mark;
+        self.records[at] = to;
+        marked::update(&mut self.marked, line.0, was, to.mark);
+    }
+
+    fn marked_lines(&self) -> u32 {
+        self.marked.len() as u32
+    }
+
+    fn marked_line(&self, k: usize) -> Option<LineAddr> {
+        let line = self.marked.get(k)?;
+        Some(LineAddr(*line))
+    }
+}
+
+// How many lines are at home at this directory.
+pub(crate) fn count(cfg: &Config, home: DirId) -> usize
+    ensures count { result ≡ home_lines (record { shape = cfg.now; dir = home.0 }) }
+    ensures allowed { IsAllowed cfg.now }
+{
+    let lines = cfg.words() / 8;
+    let dirs = cfg.dirs() as u32;
+    let full = (lines / dirs) as usize;
+    if (home.0 as u32) < lines % dirs {
+        full + 1
+    } else {
+        full
+    }
+}
+
+// So many blank records.
+fn blanks(alloc: Global, count: usize) -> Result<Vec<LineRecord>, NoMemory>
+    ensures { IfOk result (λ v. v.items ≡ replicate count blank) }
+{
+    let mut records = Vec::new(alloc);
+    match records.resize(count, LineRecord::blank()) {
+        Ok(()) => Ok(records),
+        Err(_) => Err(NoMemory),
+    }
+}
