@@ -8,6 +8,8 @@ mod code;
 mod memory;
 mod plain;
 mod serial;
+#[cfg(test)]
+mod tests;
 
 pub use attempt::{Attempt, Outcome};
 pub use code::Code;
