@@ -1,9 +1,5 @@
 -- A word in which some bytes are replaced is a word.
 use Rattle.std.proofs.Common.{ℕ, zero, suc, ◌≡◌, ◌+◌, ◌*◌, ◌/◌, ◌%◌, ◌^◌, ◌<◌, arith}
-use Rattle.tcc_base.specs.Bytes.{bytes_of}
-use Rattle.tcc_base.specs.declared.access.Size.{Size}
-use Rattle.tcc_base.specs.declared.access.Size.TheVariants.{Byte, Half, Word}
-use Rattle.tcc_program.specs.Ram.{unit_of, patched}
 
 abbrev pub spliced : (word unit span value : ℕ) → ℕ
 spliced word unit span value = (word % unit) + (value % span) * unit + (word / (unit * span)) * (unit * span)

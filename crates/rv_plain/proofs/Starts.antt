@@ -9,7 +9,6 @@ use Rattle.rv_plain.specs.Machine.{started, start_core, no_core}
 use Rattle.rv_plain.specs.PlainState.{plain_of}
 use Rattle.rv_plain.specs.declared.plain.CoreState.{CoreState}
 use Rattle.tcc_base.specs.Settings.{Settings}
-use Rattle.tcc_program.specs.Plain.{PlainCore}
 use Rattle.tcc_program.specs.Ram.{flat}
 use Rattle.std.specs.Prelude.{nat_lt, if◌then◌else◌}
 

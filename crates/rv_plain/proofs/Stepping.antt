@@ -1,8 +1,7 @@
 -- One instruction of the program, told by the instruction that its pc finds.
-use Rattle.std.proofs.Common.{ℕ, ◌≡◌, List, Option, Some, None, refl, sym, ◌∙◌, ap}
+use Rattle.std.proofs.Common.{ℕ, ◌≡◌, List, Option, Some, None, refl}
 use Rattle.rv_plain.specs.Attempts.{alone}
 use Rattle.rv_plain.specs.Buffered.{Buffered, buffered, buffered_step}
-use Rattle.rv_decode.specs.Decoding.{decoded}
 use Rattle.rv_exec.specs.Effects.{planned}
 use Rattle.rv_plain.specs.Image.{fetched}
 use Rattle.rv_exec.specs.Running as rv32im

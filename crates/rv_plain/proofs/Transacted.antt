@@ -1,5 +1,5 @@
 -- From one core's transaction to the machine's.
-use Rattle.std.proofs.Common.{ℕ, ◌≡◌, ◌<◌, ◌==◌, List, [], ◌++◌, Option, Some, Result, Ok, Err, IfOk, IfErr, OnOk, refl, length, slice_index_or, slice_set, arith, ap, sym, ◌∙◌, if◌then◌else◌, subst}
+use Rattle.std.proofs.Common.{ℕ, ◌≡◌, ◌<◌, List, [], ◌++◌, Some, Result, Ok, Err, IfOk, IfErr, OnOk, refl, length, slice_index_or, slice_set, arith, ap, sym, ◌∙◌, subst}
 use Rattle.std.proofs.lemmas.Grind.{common_steps}
 use Rattle.rv_plain.specs.Attempts.{attempt_of, outcome_of}
 use Rattle.rv_plain.specs.Buffered.{plain_view, seen}

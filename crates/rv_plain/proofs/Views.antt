@@ -1,9 +1,9 @@
 -- A step that keeps its stores in the buffer is a plain step of the memory that the core sees.
-use Rattle.std.proofs.Common.{ℕ, zero, suc, ◌≡◌, ◌+◌, ◌==◌, Bool, true, false, Option, Some, None, refl, add-one, if◌then◌else◌}
+use Rattle.std.proofs.Common.{ℕ, suc, ◌≡◌, ◌+◌, ◌==◌, Bool, true, false, Option, Some, refl, add-one, if◌then◌else◌}
 use Rattle.rv_plain.specs.Buffered.{Buffered, buffered, buffered_step, plain_view, seen, or_else}
 use Rattle.tcc_base.specs.Put.{put}
 use Rattle.tcc_base.specs.declared.access.Size.TheVariants.{Word}
-use Rattle.tcc_program.specs.Plain.{Attempt, Outcome, Goes, stepped, plain_step, steps}
+use Rattle.tcc_program.specs.Plain.{Attempt, Goes, stepped, plain_step, steps}
 use Rattle.tcc_program.specs.Program.{Need, Nothing, Loads, Stores, Changes, Prints, Ends, Halts, Traps, Program}
 use Rattle.tcc_program.specs.Ram.{loaded, stored, word_of, patched}
 

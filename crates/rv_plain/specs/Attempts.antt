@@ -1,5 +1,5 @@
 -- What the code's attempt stands for, and what it asks of memory.
-use Rattle.std.specs.Prelude.{ℕ, List, [], Option, ◌+◌, ◌%◌, ◌≤◌, ◌≡◌}
+use Rattle.std.specs.Prelude.{ℕ, ◌+◌, ◌%◌, ◌≤◌, ◌≡◌}
 use Rattle.rv_plain.specs.Buffered.{Buffered}
 use Rattle.rv_exec.specs.Effects.{finished}
 use Rattle.rv_exec.specs.Needs.{local_of}
@@ -11,9 +11,8 @@ use Rattle.rv_decode.specs.declared.instruction.Inst.{Inst}
 use Rattle.rv_exec.specs.declared.need.Need.{Need as CodeNeed}
 use Rattle.rv_exec.specs.declared.need.Need.TheVariants as need
 use Rattle.tcc_base.specs.Bytes.{bytes_of}
-use Rattle.tcc_base.specs.declared.access.Size.{Size}
 use Rattle.tcc_program.specs.Plain.{Outcome, Goes, Ended, Halted, Trapped}
-use Rattle.tcc_program.specs.Program.{Local, Program, Nothing}
+use Rattle.tcc_program.specs.Program.{Program, Nothing}
 use Rattle.tcc_program.specs.Ram.{flat}
 
 abbrev pub outcome_of : CodeOutcome → Outcome

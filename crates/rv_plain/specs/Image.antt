@@ -1,5 +1,5 @@
 -- What a raw image of 32-bit little-endian words lays into memory, and what is fetched from it.
-use Rattle.std.specs.Prelude.{ℕ, List, length, slice_index, ◌+◌, ◌-◌, ◌*◌, ◌/◌, nat_le, if◌then◌else◌, ◌&&◌, Option, Some, None}
+use Rattle.std.specs.Prelude.{ℕ, List, length, slice_index, ◌+◌, ◌-◌, ◌*◌, nat_le, if◌then◌else◌, ◌&&◌, Option, Some, None}
 
 -- four bytes from an index on, zeros past the end
 unfoldable pub word_at : List ℕ → ℕ → ℕ

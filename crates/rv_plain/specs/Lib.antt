@@ -6,5 +6,6 @@ pub mod Image
 pub mod Loaded
 pub mod Machine
 pub mod PlainState
+pub mod Serials
 pub mod Store
 pub mod Transacts

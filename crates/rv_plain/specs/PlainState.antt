@@ -1,5 +1,5 @@
 -- What the code's plain machine stands for.
-use Rattle.std.specs.Prelude.{ℕ, zero, suc, List, [], ◌≡◌, ◌<◌, ◌⊎◌, ◌*◌, length, map, Option, None, Some, IsSomeAnd, slice_index_or, take, nat_lt}
+use Rattle.std.specs.Prelude.{ℕ, List, ◌≡◌, map, Option, None, IsSomeAnd, slice_index_or}
 use Rattle.rv_plain.specs.Cores.{core_of, no_state}
 use Rattle.rv_plain.specs.Endings.{IsCoreFault}
 use Rattle.rv_plain.specs.Loaded.{Loaded}
@@ -7,10 +7,10 @@ use Rattle.rv_plain.specs.Machine.{program}
 use Rattle.rv_plain.specs.declared.plain.CoreState.{CoreState}
 use Rattle.rv_plain.specs.declared.plain.Done.{Done}
 use Rattle.rv_plain.specs.declared.plain.PlainFault.{PlainFault}
+use Rattle.rv_plain.specs.declared.plain.PlainFault.TheVariants.{NotEnding, Memory}
 use Rattle.rv_plain.specs.declared.plain.Order.{Order as CodeOrder}
 use Rattle.tcc_base.specs.declared.access.Commit.{Commit}
-use Rattle.tcc_base.specs.declared.access.CoreEnd.TheVariants.{Run}
-use Rattle.tcc_program.specs.Plain.{Plain, PlainCore, Attempt, Outcome, Goes, Ended, Halted, Trapped, Order, transaction, steps, begun, serial}
+use Rattle.tcc_program.specs.Plain.{Plain, Attempt, Order, transaction, steps, begun, serial}
 use Rattle.tcc_program.specs.Ram.{flat}
 
 pub record PlainState : Type 0 where
@@ -45,3 +45,8 @@ Did s core n after d =
 -- what an error of a transaction says
 abbrev pub IsPlainFault : PlainState → (core n : ℕ) → PlainFault → Type 0
 IsPlainFault s core n fault = IsCoreFault ((plain_of s).cores core).ended (steps_of s core) n fault
+
+-- where an error names an instruction, the instructions aren't a transaction
+abbrev pub HasNoTransaction : PlainState → (core n : ℕ) → PlainFault → Type 0
+HasNoTransaction s core n (NotEnding k) = transaction_of s core n ≡ None
+HasNoTransaction s core n Memory = Unit {0}

@@ -223,6 +223,7 @@ impl Attempt {
             × HasEnded (outcome_of o)) }
         ensures fault { IfErr result (IsFault (λ k. steps code.now.settings.base (program code.now.settings code.now.image) k
             (plain_view (attempt_of self.old memory.old Outcome.Goes))) n) }
+        ensures counted { OnOk result (self.new.n ≡ n) }
         ensures ram { memory.new.ram ≡ memory.old.ram }
     {
         for k in 0..n {

@@ -44,6 +44,13 @@ impl Code {
         })
     }
 
+    /// The same program. Takes time and memory in the image's bytes.
+    pub(crate) fn copy(&self, alloc: Global) -> Result<Code, NoMemory>
+        ensures { IfOk result (λ c. c ≡ self.now) }
+    {
+        Code::new(alloc, &self.config, &self.image)
+    }
+
     /// The settings of the machine. Takes no memory.
     pub fn config(&self) -> &Config
         ensures { result.now ≡ self.now.settings }

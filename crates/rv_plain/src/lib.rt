@@ -1,4 +1,5 @@
-// temp
+// The plain machine: a flat memory, one core at a time, no cache. It says what a transaction gives, and what executing
+// transactions one after another gives; every other machine is measured by it.
 #![tactic(auto)]
 
 mod attempt;
@@ -6,6 +7,9 @@ mod bytes;
 mod code;
 mod memory;
 mod plain;
+mod serial;
+#[cfg(test)]
+mod tests;
 
 pub use attempt::{Attempt, Outcome};
 pub use code::Code;

@@ -50,6 +50,18 @@ impl Memory {
         })
     }
 
+    /// The same RAM, with nothing waiting. Takes time and memory in RAM's words.
+    pub(crate) fn copy(&self, alloc: Global) -> Result<Memory, NoMemory>
+        ensures ram { IfOk result (λ m. m.ram ≡ self.now.ram) }
+        ensures buffer { IfOk result (λ m. m.waiting ≡ []) }
+    {
+        let ram = self.ram.to_vec(alloc).map_err(|_| NoMemory)?;
+        Ok(Memory {
+            ram,
+            buffer: BTreeMap::new(alloc),
+        })
+    }
+
     /// The number of RAM's words.
     pub fn words(&self) -> usize
         ensures { result ≡ length self.now.ram }

@@ -107,8 +107,30 @@ fn start_core(alloc: Global, cores: u8, core: u8, entry: u32) -> CoreState
     }
 }
 
+fn copy_core(alloc: Global, core: &CoreState) -> Result<CoreState, NoMemory>
+    ensures { IfOk result (λ c. c ≡ core.now) }
+{
+    let console = core.console.items.to_vec(alloc).map_err(|_| NoMemory)?;
+    Ok(CoreState {
+        regs: core.regs,
+        pc: core.pc,
+        ended: core.ended,
+        console: List { items: console },
+    })
+}
+
+fn copy_cores(alloc: Global, cores: &[CoreState]) -> Result<List<CoreState>, NoMemory>
+    ensures { IfOk result (λ copy. copy ≡ cores.now) }
+{
+    let mut copy = List::new(alloc);
+    for core in cores {
+        copy.push(copy_core(alloc, core)?)?;
+    }
+    Ok(copy)
+}
+
 impl Plain {
-    ghost use Rattle.rv_plain.specs.PlainState.{PlainState, plain_of, Did, IsPlainFault};
+    ghost use Rattle.rv_plain.specs.PlainState.{PlainState, plain_of, Did, IsPlainFault, HasNoTransaction};
 
     /// The machine before its first transaction: the image in RAM from its base on, zeros after it, and each core at the
     /// image's first word.
@@ -125,6 +147,26 @@ impl Plain {
         }
         Ok(Plain {
             alloc,
+            code,
+            memory,
+            cores,
+        })
+    }
+
+    /// Where the machine takes its memory from.
+    pub(crate) fn alloc(&self) -> Global {
+        self.alloc
+    }
+
+    /// A machine in the same state. Takes time and memory in RAM's words.
+    pub(crate) fn copy(&self) -> Result<Plain, NoMemory>
+        ensures { IfOk result (λ p. p ≡ self.now) }
+    {
+        let code = self.code.copy(self.alloc)?;
+        let memory = self.memory.copy(self.alloc)?;
+        let cores = copy_cores(self.alloc, &self.cores.items)?;
+        Ok(Plain {
+            alloc: self.alloc,
             code,
             memory,
             cores,
@@ -179,6 +221,7 @@ impl Plain {
         requires { core.0 < self.old.loaded.settings.cores }
         ensures did { IfOk result (Did self.old core.0 n self.new) }
         ensures fault { IfErr result (IsPlainFault self.old core.0 n) }
+        ensures none { IfErr result (HasNoTransaction self.old core.0 n) }
         ensures loaded { self.new.loaded ≡ self.old.loaded }
         ensures unchanged { OnErr result (self.new ≡ self.old) }
     {

@@ -7,6 +7,8 @@ mod collections;
 mod config;
 mod names;
 mod reg;
+#[cfg(test)]
+mod tests;
 
 pub use access::{Commit, CoreEnd, Load, Size, Stored, Tagged};
 pub use collections::{List, NoMemory, Text};

@@ -1,4 +1,4 @@
-use Rattle.std.proofs.Common.{◌≡◌, ℕ, ◌<◌, length}
+use Rattle.std.proofs.Common.{◌≡◌, ℕ, length}
 use Rattle.rv_plain.specs.Buffered.{seen}
 use Rattle.rv_plain.specs.Store.{buffer_of, IsInside}
 use Rattle.tcc_program.specs.Ram.{flat}

@@ -1,10 +1,9 @@
-use Rattle.std.proofs.Common.{ℕ, ◌≡◌, Some, subst}
+use Rattle.std.proofs.Common.{◌≡◌, Some, subst}
 use Rattle.rv_plain.proofs.Transacted.{begun-view, closed-transacts}
 use Rattle.rv_plain.specs.Attempts.{attempt_of}
 use Rattle.rv_plain.specs.Buffered.{plain_view}
 use Rattle.rv_plain.specs.Endings.{IsFault}
 use Rattle.rv_plain.specs.Machine.{program}
-use Rattle.rv_plain.specs.declared.attempt.Outcome.TheVariants.{Goes}
 use Rattle.tcc_program.specs.Plain.{steps}
 use Rattle.rv_plain.proofs.plain.transact.Goals as goal
 
