@@ -3,6 +3,9 @@
 #
 #     ./tcc run examples/squares.bin 1000
 #
+# It halts after 128 events: 122 instructions and 6 commits. The console has `1 4 9 16 25 `, and the last commit's five loads are in
+# the report.
+#
 # A report gives the console in hexadecimal. To read it as text:
 #
 #     ./tcc run examples/squares.bin 1000 | sed -n 's/^console //p' | xxd -r -p
