@@ -1,1 +1,4 @@
+pub mod InsertedOrders
+pub mod MemoryStays
+pub mod SerialAgain
 pub mod UsedWords

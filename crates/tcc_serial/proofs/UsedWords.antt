@@ -16,7 +16,7 @@ patched-whole : (word addr value : ℕ) → word < 2 ^ 32 → addr % 4 ≡ 0 →
 unfolding patched unit_of
 patched-whole word addr value h e = rw e (omega arith)
 
-stores_word-append : (base : ℕ) (a b : List Stored) (w : ℕ) → stores_word base (a ++ b) w ≡ (stores_word base a w || stores_word base b w)
+pub stores_word-append : (base : ℕ) (a b : List Stored) (w : ℕ) → stores_word base (a ++ b) w ≡ (stores_word base a w || stores_word base b w)
 unfolding stores_word
 stores_word-append base [] b w = refl
 stores_word-append base (s ∷ a) b w = let r : stores_word base (a ++ b) w ≡ (stores_word base a w || stores_word base b w) = stores_word-append base a b w in rw r (go (word_of base s.addr == w))
@@ -36,7 +36,7 @@ stored-whole base (s ∷ ss) w h = go (word_of base s.addr == w) (is_whole s.siz
     go false true r h = r h
     go false false r h = r h
 
-stored-put : (base : ℕ) (ram : ℕ → ℕ) (addr : ℕ) (size : Size) (value w : ℕ) → stored base ram addr size value w ≡ (if word_of base addr == w then patched (ram (word_of base addr)) addr size value else ram w)
+pub stored-put : (base : ℕ) (ram : ℕ → ℕ) (addr : ℕ) (size : Size) (value w : ℕ) → stored base ram addr size value w ≡ (if word_of base addr == w then patched (ram (word_of base addr)) addr size value else ram w)
 unfolding stored
 stored-put base ram addr size value w = grind (arith, nat_tests)
 

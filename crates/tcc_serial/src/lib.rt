@@ -2,12 +2,21 @@
 // Each law is the contract of an empty function; the theorem depends on no code.
 #![tactic(auto)]
 
-ghost use Rattle.std.specs.Prelude.{◌≡◌, ℕ, MatchOption, None};
+ghost use Rattle.std.specs.Prelude.{◌≡◌, ℕ, MatchOption, None, Some, List, ◌∷◌, ◌++◌};
 ghost use Rattle.tcc_program.specs.Program.{Local, Program};
-ghost use Rattle.tcc_program.specs.Plain.{steps, begun};
+ghost use Rattle.tcc_program.specs.Plain.{steps, begun, Plain, Attempt, Order, serial};
 ghost use Rattle.tcc_serial.specs.Uses.{Aligned, IsMemory, AgreeOnUsed, Follows};
+ghost use Rattle.tcc_serial.specs.Insertion.{CanInsert, Inserted};
+ghost use Rattle.tcc_base.specs.declared.access.Commit.{Commit};
 
 /// Instructions over two memories that agree on the words used give the same.
 pub fn steps_depend_on_used_words()
     ensures same { (base : ℕ) (p : Program) (n : ℕ) (l : Local) (here there : ℕ → ℕ) → Aligned p → IsMemory here → IsMemory there → AgreeOnUsed base p n l here there → MatchOption (steps base p n (begun l here)) (steps base p n (begun l there) ≡ None) (λ a. Follows base here there a (steps base p n (begun l there))) }
+{}
+
+/// A serial execution may be cut at any place, and one more transaction may be inserted there: where no later transaction is its
+/// core's or touches a word that it stores, all others give what they gave, and the memory after them differs at its words alone.
+pub fn transaction_inserted()
+    ensures without { (base : ℕ) (p : Program) (last : ℕ) (early late : List Order) (o : Order) (m start done end : Plain) (a : Attempt) (before after : List Commit) → CanInsert base p last early late o m start done end a before after → serial base p last (early ++ late) m ≡ Some (end, before ++ after) }
+    ensures with_it { (base : ℕ) (p : Program) (last : ℕ) (early late : List Order) (o : Order) (m start done end : Plain) (a : Attempt) (before after : List Commit) → Aligned p → IsMemory m.ram → CanInsert base p last early late o m start done end a before after → Inserted base before o a after done end (serial base p last (early ++ o ∷ late) m) }
 {}
