@@ -1,4 +1,16 @@
 pub mod InsertedOrders
+pub mod KeptSteps
+pub mod Links
+pub mod PairFrames
 pub mod MemoryStays
 pub mod SerialAgain
+pub mod Always
+pub mod CoreRequests
+pub mod CoreSteps
+pub mod Inside
+pub mod CoreTids
+pub mod DirTids
+pub mod Sent
+pub mod StepCases
+pub mod Executes
 pub mod UsedWords

@@ -1,2 +1,7 @@
+pub mod Count
 pub mod Insertion
+pub mod Laws
+pub mod Owed
+pub mod Pairs
+pub mod Tids
 pub mod Uses

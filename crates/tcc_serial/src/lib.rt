@@ -7,6 +7,7 @@ ghost use Rattle.tcc_program.specs.Program.{Local, Program};
 ghost use Rattle.tcc_program.specs.Plain.{steps, begun, Plain, Attempt, Order, serial};
 ghost use Rattle.tcc_serial.specs.Uses.{Aligned, IsMemory, AgreeOnUsed, Follows};
 ghost use Rattle.tcc_serial.specs.Insertion.{CanInsert, Inserted};
+ghost use Rattle.tcc_serial.specs.Laws.{Always, OneWay, OneRequest, NeverPasses};
 ghost use Rattle.tcc_base.specs.declared.access.Commit.{Commit};
 
 /// Instructions over two memories that agree on the words used give the same.
@@ -20,3 +21,16 @@ pub fn transaction_inserted()
     ensures without { (base : ℕ) (p : Program) (last : ℕ) (early late : List Order) (o : Order) (m start done end : Plain) (a : Attempt) (before after : List Commit) → CanInsert base p last early late o m start done end a before after → serial base p last (early ++ late) m ≡ Some (end, before ++ after) }
     ensures with_it { (base : ℕ) (p : Program) (last : ℕ) (early late : List Order) (o : Order) (m start done end : Plain) (a : Attempt) (before after : List Commit) → Aligned p → IsMemory m.ram → CanInsert base p last early late o m start done end a before after → Inserted base before o a after done end (serial base p last (early ++ o ∷ late) m) }
 {}
+
+/// Where each TID is: at each directory it is resolved in exactly one way, and a core that waits for one has one coming.
+pub fn tids_are_resolved_in_one_way()
+    ensures one_way { Always OneWay }
+    ensures one_request { Always OneRequest }
+{
+}
+
+/// A directory never passes a TID that isn't resolved there.
+pub fn serving_never_passes_an_unresolved_tid()
+    ensures never_passes { Always NeverPasses }
+{
+}
