@@ -1,20 +1,19 @@
 -- What a core's rules do to its requests for a TID.
-use Rattle.std.specs.Prelude.{ℕ, ◌+◌, ◌≡◌, ◌<◌, ◌≤◌, Bool, true, false, not, List, [], ◌∷◌, ◌++◌, ◌==◌, ◌&&◌, ◌||◌, Option, Some, None, IfSome, nat_lt, if◌then◌else◌}
-use Rattle.std.proofs.Common.{arith, refl, sym, ap, ◌∙◌, ◌⊎◌, inl, inr}
-use Rattle.std.proofs.lemmas.Bool.Decides.{nat_tests}
+use Rattle.std.specs.Prelude.{ℕ, ◌+◌, ◌≡◌, Bool, true, false, Option, Some, None, IfSome, if◌then◌else◌}
+use Rattle.std.proofs.Common.{refl, inl, inr}
 use Rattle.tcc_program.specs.Program.{Program}
 use Rattle.tcc_program.specs.Plain.{Outcome, Goes, Ended, Halted as HaltedWith, Trapped as TrappedWith}
 use Rattle.tcc_base.specs.Put.{put}
 use Rattle.tcc_maps.specs.Words.{num, any_below}
-use Rattle.tcc_maps.specs.Nodes.{Node, Core, Dir, Vendor, Msg, TidReq, TidGrant, LoadReq, Fill, Skip, Probe, ProbeReply, Mark, Commit, Abort, WriteBack, Flush, DataReq, Inv, InvAck}
+use Rattle.tcc_maps.specs.Nodes.{Vendor, Msg, TidReq, TidGrant, LoadReq, Fill, Skip, Probe, ProbeReply, Mark, Commit, Abort, WriteBack, Flush, DataReq, Inv, InvAck}
 use Rattle.tcc_maps.specs.Shape.{Shape}
 use Rattle.tcc_rules.specs.State.{CoreState, Awaited, Phase, Running, AwaitTid, DoomedTid, Probing, Ready, Overflowing, Solo, Halted}
 use Rattle.tcc_rules.specs.Sends.{skip_all, probe_all}
-use Rattle.tcc_rules.specs.Attempt.{Out, moves}
+use Rattle.tcc_rules.specs.Attempt.{Out}
 use Rattle.tcc_rules.specs.Commit.{commit, committed_core, commit_sends, phase_after, solo_sends}
 use Rattle.tcc_rules.specs.CoreExec.{core_exec, exec_phase, unless_awaiting}
 use Rattle.tcc_rules.specs.CoreEvict.{core_evict}
-use Rattle.tcc_rules.specs.CoreDeliver.{grant, grant_phase, grant_sends, from_dir, probing, is_probed, probe_reply, reply_phase, ignored, replied, all_replied, when_ready, when_alone, fill, data_request, invalidate}
+use Rattle.tcc_rules.specs.CoreDeliver.{grant, grant_phase, grant_sends, from_dir, probing, is_probed, probe_reply, ignored, all_replied, fill, data_request, invalidate}
 use Rattle.tcc_serial.specs.Count.{Asks, among, passes}
 use Rattle.tcc_serial.specs.Tids.{waits_for_tid}
 use Rattle.tcc_serial.proofs.Executes.{Acts, Steady, Executed, Goes_on, Overflows, Asks_tid, Alone, executed}
@@ -49,9 +48,11 @@ requests-exec sh p c s = go s.phase refl
     weaken : (x : Option Out) → IfSome x (λ o. Executed sh c s o) → IfSome x (λ o. KeepsRequests 0 s o)
     weaken None h = tt
     weaken (Some o) h = requests-executed sh c s o h
+
     awaiting : (a : Option Awaited) → Acts s.phase → IfSome (unless_awaiting sh p c s a) (λ o. KeepsRequests 0 s o)
     awaiting (Some x) a = tt
     awaiting None a = weaken _ (executed sh p c s a)
+
     go : (q : Phase) → s.phase ≡ q → IfSome (exec_phase sh p c s q) (λ o. KeepsRequests 0 s o)
     go Running e = awaiting s.awaited (rw e tt)
     go (Solo u) e = awaiting s.awaited (rw e tt)

@@ -1,10 +1,10 @@
 -- What a core's rules leave alone: evictions, fills, data requests, invalidations.
-use Rattle.std.specs.Prelude.{ℕ, ◌+◌, ◌≡◌, ◌<◌, ◌≤◌, ◌*◌, ◌/◌, ◌%◌, Bool, true, false, not, List, [], ◌∷◌, ◌++◌, ◌==◌, ◌&&◌, ◌||◌, Option, Some, None, IfSome, nat_lt, if◌then◌else◌}
-use Rattle.std.proofs.Common.{arith, refl, sym, ap, ◌∙◌, ◌⊎◌, inl, inr}
+use Rattle.std.specs.Prelude.{ℕ, ◌+◌, ◌≡◌, ◌*◌, ◌%◌, Bool, true, false, not, List, [], ◌∷◌, ◌++◌, ◌==◌, ◌&&◌, ◌||◌, Option, Some, None, IfSome, if◌then◌else◌}
+use Rattle.std.proofs.Common.{arith, refl, sym, ap, ◌⊎◌, inl, inr}
 use Rattle.std.proofs.lemmas.Bool.Decides.{nat_tests}
 use Rattle.tcc_base.specs.Put.{put}
 use Rattle.tcc_maps.specs.Words.{any_word, any_below, line_of}
-use Rattle.tcc_maps.specs.Nodes.{Node, Core, Dir, Vendor, Msg, Tagged, InvAck, Abort}
+use Rattle.tcc_maps.specs.Nodes.{Node, Dir, Vendor, Tagged, InvAck, Abort}
 use Rattle.tcc_maps.specs.Shape.{Shape, home, lines}
 use Rattle.tcc_maps.specs.Cache.{Cache, writes_at, reads_at, is_modified, is_marked, keeps, dirty_copy}
 use Rattle.tcc_maps.specs.CacheChange.{evicted, evicted_line, filled, cleaned, invalidated, read_cleared}
@@ -34,11 +34,13 @@ unmarked-word c l v h e = go (c.modified v) (c.read v) refl refl
   where
     r : 8 * l + v % 8 ≡ v
     r = omega (arith, e)
+
     marked : (c.read v || c.modified v) ≡ true → ⊥
     marked q =
-      let m : (c.read (8 * l + v % 8) || c.modified (8 * l + v % 8)) ≡ true = rw r q in
-      let a : any_below (λ k. c.read (8 * l + k) || c.modified (8 * l + k)) 8 ≡ true = any_below-at (λ k. c.read (8 * l + k) || c.modified (8 * l + k)) 8 (v % 8) (omega arith) m in
-      cc
+        let m : (c.read (8 * l + v % 8) || c.modified (8 * l + v % 8)) ≡ true = rw r q in
+        let a : any_below (λ k. c.read (8 * l + k) || c.modified (8 * l + k)) 8 ≡ true = any_below-at (λ k. c.read (8 * l + k) || c.modified (8 * l + k)) 8 (v % 8) (omega arith) m in
+        cc
+
     go : (a b : Bool) → c.modified v ≡ a → c.read v ≡ b → (c.modified v ≡ false) × (c.read v ≡ false)
     go false false q q' = (q, q')
     go a true q q' = absurd (marked (rw q' refl))
@@ -67,6 +69,7 @@ evict-steady sh x y s = go (s.cache.at x y) refl
   where
     out : ℕ → Out
     out l = moves (record s { cache = evicted x y s.cache; spilled = spill_line l s.cache s.spilled }) (written_back sh s.cache l)
+
     solo : (q : Phase) → s.phase ≡ q → is_solo q ≡ true → Acts s.phase
     solo (Solo t) e h = rw e tt
     solo Running e h = absurd (cc)
@@ -76,18 +79,24 @@ evict-steady sh x y s = go (s.cache.at x y) refl
     solo (Ready t) e h = absurd (cc)
     solo (Overflowing t) e h = absurd (cc)
     solo Halted e h = absurd (cc)
+
     steady : (l : ℕ) → s.cache.at x y ≡ Some l → ((Acts s.phase → ⊥) → is_marked s.cache l ≡ false) → Steady s (out l)
     steady l e m = record {
-      phase = refl; owing = refl; commit = refl; vendor = refl;
+      phase = refl;
+      owing = refl;
+      commit = refl;
+      vendor = refl;
       quiet = λ d. written_back-quiet sh s.cache l d;
       modified = λ h v. (evicted-modified x y l s.cache e (m h) v).0;
       read = λ h v. (evicted-modified x y l s.cache e (m h) v).1;
     }
+
     kept : (l : ℕ) → s.cache.at x y ≡ Some l → (a m b : Bool) → is_marked s.cache l ≡ m → is_solo s.phase ≡ b → IfSome (if a || (m && not b) then None else Some (out l)) (λ o. Steady s o)
     kept l e true m b f g = tt
     kept l e false false b f g = steady l e (λ h. f)
     kept l e false true false f g = tt
     kept l e false true true f g = steady l e (λ h. absurd (h (solo s.phase refl g)))
+
     go : (a : Option ℕ) → s.cache.at x y ≡ a → IfSome (evict_line sh x y s a) (λ o. Steady s o)
     go None e = tt
     go (Some l) e = kept l e (is_awaited s.awaited l) (is_marked s.cache l) (is_solo s.phase) refl refl
@@ -103,9 +112,11 @@ fill-steady l ws s = go s.awaited
     cached : (a : Bool) (v : ℕ) → ((if a then s.cache else filled l ws s.cache).modified v ≡ s.cache.modified v) × ((if a then s.cache else filled l ws s.cache).read v ≡ s.cache.read v)
     cached true v = (refl, refl)
     cached false v = (refl, refl)
+
     one : (a : Awaited) (b : Bool) → Steady s (if b then moves (record s { cache = (if a.stale then s.cache else filled l ws s.cache); awaited = None }) nothing else ignored s)
     one a false = ignored-steady s
     one a true = record { phase = refl; owing = refl; commit = refl; vendor = refl; quiet = λ d. refl; modified = λ h v. (cached a.stale v).0; read = λ h v. (cached a.stale v).1 }
+
     go : (a : Option Awaited) → Steady s (fill_awaited l ws s a)
     go None = ignored-steady s
     go (Some a) = one a (a.line == l)
@@ -141,10 +152,13 @@ invalidate-cases sh l m u s = go (is_violated l m u s) s.phase refl
   where
     r : CoreState
     r = without l m s
+
     acked : (o : Out) → o.commit ≡ None → o.sends Vendor ≡ [] → Hurt sh s o.core o.sends → Invalidated sh l s (acknowledged sh l o)
     acked o c v h = record { sends = o.sends; kept = keeps o.core.cache l; hurt = h; dirs = λ d. refl; vendor = rw v refl; commit = c }
+
     unhurt : Invalidated sh l s (acknowledged sh l (ignored r))
     unhurt = acked (ignored r) refl refl (Unhurt refl refl (λ v. refl) (λ v. refl) (λ n. refl))
+
     go : (b : Bool) (q : Phase) → s.phase ≡ q → Invalidated sh l s (acknowledged sh l (if b then violated_in sh r q else ignored r))
     go false q e = unhurt
     go true Running e = acked (violated_in sh r Running) refl refl (Rolled e e refl (λ n. refl))
@@ -182,17 +196,21 @@ reply-cases sh e u s = go s.phase refl
     ready : (b : Bool) → all_replied sh (put s.owing e false) ≡ b → s.phase ≡ Probing u → s.owing e ≡ true → Replied sh e u s (moves (if b then record (replied e s) { phase = Ready u } else replied e s) (to (Dir e) (marks_for sh s.cache u e)))
     ready true q g h = Probed g h (rw q refl) refl refl refl refl
     ready false q g h = Probed g h (rw q g) refl refl refl refl
+
     alone : (b : Bool) → all_replied sh (put s.owing e false) ≡ b → s.phase ≡ Overflowing (Some u) → s.owing e ≡ true → Replied sh e u s (moves (if b then record (replied e s) { phase = Solo u; cache = read_cleared s.cache } else replied e s) nothing)
     alone true q g h = Left_alone g h (rw q refl) refl (λ v. refl) refl refl
     alone false q g h = Left_alone g h (rw q g) refl (λ v. refl) refl refl
+
     probed : (v : ℕ) → s.phase ≡ Probing v → (a b : Bool) → (v == u) ≡ a → s.owing e ≡ b → Replied sh e u s (if a && b then moves (when_ready sh u (replied e s)) (to (Dir e) (marks_for sh s.cache u e)) else ignored s)
     probed v g true true h f = let i : v ≡ u = grind (arith, nat_tests) in ready (all_replied sh (put s.owing e false)) refl (rw i at g) f
     probed v g true false h f = Ignored refl (λ x. f)
     probed v g false b h f = Ignored refl (λ x. absurd (unexpected u s (Probing v) g h x))
+
     over : (v : ℕ) → s.phase ≡ Overflowing (Some v) → (a b : Bool) → (v == u) ≡ a → s.owing e ≡ b → Replied sh e u s (if a && b then moves (when_alone sh u (replied e s)) nothing else ignored s)
     over v g true true h f = let i : v ≡ u = grind (arith, nat_tests) in alone (all_replied sh (put s.owing e false)) refl (rw i at g) f
     over v g true false h f = Ignored refl (λ x. f)
     over v g false b h f = Ignored refl (λ x. absurd (unexpected u s (Overflowing (Some v)) g h x))
+
     go : (q : Phase) → s.phase ≡ q → Replied sh e u s (reply_phase sh e u s q)
     go (Probing v) g = probed v g (v == u) (s.owing e) refl refl
     go (Overflowing (Some v)) g = over v g (v == u) (s.owing e) refl refl

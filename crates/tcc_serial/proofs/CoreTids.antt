@@ -1,22 +1,22 @@
 -- What a core's rules do to its part of a TID.
-use Rattle.std.specs.Prelude.{ℕ, ◌+◌, ◌≡◌, ◌<◌, ◌≤◌, Bool, true, false, not, List, [], ◌∷◌, ◌++◌, ◌==◌, ◌&&◌, ◌||◌, Option, Some, None, IfSome, nat_lt, if◌then◌else◌}
-use Rattle.std.proofs.Common.{arith, refl, sym, ap, ◌∙◌, ◌⊎◌, inl, inr}
+use Rattle.std.specs.Prelude.{ℕ, ◌+◌, ◌≡◌, ◌<◌, Bool, true, false, List, [], ◌∷◌, ◌==◌, ◌&&◌, Option, Some, None, IfSome, if◌then◌else◌}
+use Rattle.std.proofs.Common.{arith, refl, ap, ◌⊎◌, inl, inr}
 use Rattle.std.proofs.lemmas.Bool.Decides.{nat_tests}
 use Rattle.tcc_program.specs.Program.{Program}
 use Rattle.tcc_program.specs.Plain.{Outcome, Goes, Ended, Halted as HaltedWith, Trapped as TrappedWith}
 use Rattle.tcc_maps.specs.Words.{num, any_below}
-use Rattle.tcc_maps.specs.Nodes.{Node, Core, Dir, Vendor, Msg, TidReq, TidGrant, LoadReq, Fill, Skip, Probe, ProbeReply, Mark, Commit, Abort, WriteBack, Flush, DataReq, Inv, InvAck}
+use Rattle.tcc_maps.specs.Nodes.{Dir, Msg, TidReq, TidGrant, LoadReq, Fill, Skip, Probe, ProbeReply, Mark, Commit, Abort, WriteBack, Flush, DataReq, Inv, InvAck}
 use Rattle.tcc_maps.specs.Shape.{Shape, home}
-use Rattle.tcc_maps.specs.Cache.{Cache, writes_at}
+use Rattle.tcc_maps.specs.Cache.{writes_at}
 use Rattle.tcc_maps.specs.CacheChange.{read_cleared}
 use Rattle.tcc_rules.specs.State.{CoreState, Awaited, Phase, Running, AwaitTid, DoomedTid, Probing, Ready, Overflowing, Solo, Halted}
 use Rattle.tcc_rules.specs.Sends.{Sends, nothing, to, marks_for}
 use Rattle.tcc_rules.specs.Attempt.{Out, moves}
-use Rattle.tcc_rules.specs.Commit.{commit, committed_core, phase_after, solo_sends}
+use Rattle.tcc_rules.specs.Commit.{commit, committed_core, phase_after}
 use Rattle.tcc_rules.specs.CoreExec.{core_exec, exec_phase, unless_awaiting}
 use Rattle.tcc_rules.specs.CoreEvict.{core_evict}
 use Rattle.tcc_rules.specs.CoreDeliver.{grant, grant_phase, from_dir, probing, is_probed, probe_reply, reply_phase, ignored, replied, all_replied, when_ready, when_alone, fill, data_request, invalidate}
-use Rattle.tcc_serial.specs.Count.{Resolves, Grants, Protocol, among, passes}
+use Rattle.tcc_serial.specs.Count.{Resolves, among, passes}
 use Rattle.tcc_serial.specs.Tids.{opens, waits_for_tid}
 use Rattle.tcc_serial.proofs.Links.{among-append}
 use Rattle.tcc_serial.proofs.Sent.{resolves-commit_sends, resolves-abort_written, resolves-skip_all, resolves-probe_all, resolves-grant_sends, resolves-marks_for, resolves-solo_sends, among-quiet}
@@ -78,9 +78,11 @@ part-exec sh p c d t s l = go s.phase refl
     weaken : (x : Option Out) → IfSome x (λ o. Executed sh c s o) → IfSome x (λ o. KeepsPart sh d t 0 s o)
     weaken None h = tt
     weaken (Some o) h = part-executed sh c d t s o l h
+
     awaiting : (a : Option Awaited) → Acts s.phase → IfSome (unless_awaiting sh p c s a) (λ o. KeepsPart sh d t 0 s o)
     awaiting (Some x) a = tt
     awaiting None a = weaken _ (executed sh p c s a)
+
     go : (q : Phase) → s.phase ≡ q → IfSome (exec_phase sh p c s q) (λ o. KeepsPart sh d t 0 s o)
     go Running e = awaiting s.awaited (rw e tt)
     go (Solo u) e = awaiting s.awaited (rw e tt)
@@ -134,22 +136,28 @@ part-reply sh e u d t s = go s.phase refl
   where
     still : (q : Phase) → KeepsPart sh d t 0 s (ignored s)
     still q = part-steady sh d t s (ignored s) (ignored-steady s)
+
     marks : among (Resolves t) (to (Dir e) (marks_for sh s.cache u e) (Dir d)) ≡ 0
     marks = resolves-to t e d (marks_for sh s.cache u e) (resolves-marks_for sh s.cache u e t)
+
     ready : (b : Bool) (v : ℕ) → s.phase ≡ Probing v → v ≡ u → KeepsPart sh d t 0 s (moves (if b then record (replied e s) { phase = Ready u } else replied e s) (to (Dir e) (marks_for sh s.cache u e)))
     ready true v g h = rw (g, h) (omega (arith, marks))
     ready false v g h = rw g (omega (arith, marks))
+
     alone : (b : Bool) (v : ℕ) → s.phase ≡ Overflowing (Some v) → v ≡ u → KeepsPart sh d t 0 s (moves (if b then record (replied e s) { phase = Solo u; cache = read_cleared s.cache } else replied e s) nothing)
     alone true v g h = rw (g, h) (omega arith)
     alone false v g h = rw g (omega arith)
+
     probed : (v : ℕ) → s.phase ≡ Probing v → (a b : Bool) → (v == u) ≡ a → KeepsPart sh d t 0 s (if a && b then moves (when_ready sh u (replied e s)) (to (Dir e) (marks_for sh s.cache u e)) else ignored s)
     probed v g false b h = still s.phase
     probed v g true false h = still s.phase
     probed v g true true h = ready (all_replied sh (replied e s).owing) v g (grind (arith, nat_tests))
+
     over : (v : ℕ) → s.phase ≡ Overflowing (Some v) → (a b : Bool) → (v == u) ≡ a → KeepsPart sh d t 0 s (if a && b then moves (when_alone sh u (replied e s)) nothing else ignored s)
     over v g false b h = still s.phase
     over v g true false h = still s.phase
     over v g true true h = alone (all_replied sh (replied e s).owing) v g (grind (arith, nat_tests))
+
     go : (q : Phase) → s.phase ≡ q → KeepsPart sh d t 0 s (reply_phase sh e u s q)
     go (Probing v) g = probed v g (v == u) (s.owing e) refl
     go (Overflowing (Some v)) g = over v g (v == u) (s.owing e) refl

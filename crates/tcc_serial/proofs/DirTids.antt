@@ -1,6 +1,6 @@
 -- What a directory's rules do to the TIDs that it has handled.
-use Rattle.std.specs.Prelude.{ℕ, zero, suc, ◌+◌, ◌-◌, ◌≡◌, ◌<◌, ◌≤◌, ◌≢◌, Bool, true, false, List, [], ◌∷◌, ◌==◌, ◌&&◌, ◌||◌, nat_lt, nat_le, Option, Some, None, if◌then◌else◌}
-use Rattle.std.proofs.Common.{arith, refl, ap, eqb}
+use Rattle.std.specs.Prelude.{ℕ, ◌+◌, ◌-◌, ◌≡◌, ◌<◌, ◌≤◌, Bool, true, false, List, [], ◌∷◌, ◌==◌, ◌&&◌, ◌||◌, nat_lt, nat_le, Option, Some, None, if◌then◌else◌}
+use Rattle.std.proofs.Common.{arith, refl, ap}
 use Rattle.std.proofs.lemmas.Bool.Decides.{nat_tests}
 use Rattle.tcc_maps.specs.Words.{num, count_below}
 use Rattle.tcc_maps.specs.Lines.{has_mark, with_asked}
@@ -56,7 +56,7 @@ moved_on-handled : (s : Serving) (t : ℕ) → handled (advance s) 0 t ≡ handl
 unfolding handled
 moved_on-handled s t = let a = advance-count s t in grind (arith, nat_tests)
 
-unserved : (s : DirState) (m : Msg) → OnceAt s m → passes (Resolves s.serving.serving) m ≡ true → s.owed ≡ 0
+pub unserved : (s : DirState) (m : Msg) → OnceAt s m → passes (Resolves s.serving.serving) m ≡ true → s.owed ≡ 0
 unfolding handled
 unserved s m h e = let o = h s.serving.serving in grind (arith, nat_tests)
 
@@ -88,6 +88,7 @@ skip-handled s u t h = go (nat_lt u s.serving.serving) refl (s.serving.serving =
   where
     me : passes (Resolves u) (Skip u) ≡ true
     me = grind (arith, nat_tests)
+
     go : (a : Bool) → nat_lt u s.serving.serving ≡ a → (b : Bool) → (s.serving.serving == u) ≡ b → HandledBy s (Skip u) t (if a then Drops else Takes (record s { serving = (if a then s.serving else (if b then advance s.serving else kept u s.serving)) }) nothing)
     go true p b q = absurd (passed_twice s (Skip u) u h me (grind (arith, nat_tests)))
     go false p true q = resolved_served s (Skip u) u t h (grind (arith, nat_tests)) me refl
@@ -99,6 +100,7 @@ abort-handled s u t h = go (nat_lt u s.serving.serving) refl (s.serving.serving 
   where
     me : passes (Resolves u) (Abort u) ≡ true
     me = grind (arith, nat_tests)
+
     go : (a : Bool) → nat_lt u s.serving.serving ≡ a → (b : Bool) → (s.serving.serving == u) ≡ b → HandledBy s (Abort u) t (if a then Drops else (if b then Takes (moved_on s) nothing else Takes (record s { serving = kept u s.serving }) nothing))
     go true p b q = absurd (passed_twice s (Abort u) u h me (grind (arith, nat_tests)))
     go false p true q = resolved_served s (Abort u) u t h (grind (arith, nat_tests)) me refl
@@ -123,13 +125,14 @@ commit-handled sh c u n s t h = go (s.serving.serving == u) refl (count_below (h
   where
     me : passes (Resolves u) (Commit u n) ≡ true
     me = grind (arith, nat_tests)
+
     go : (a : Bool) → (s.serving.serving == u) ≡ a → (b : Bool) → HandledBy s (Commit u n) t (if a && b then Takes (settled (record s { lines = owned c u s.lines; owed = owed_by sh s.lines c })) (invalidations sh s.lines c u) else Waits)
     go false p b = tt
     go true p false = tt
     go true p true =
-      let e : s.serving.serving ≡ u = grind (arith, nat_tests) in
-      let o : s.owed ≡ 0 = unserved s (Commit u n) h (rw e me) in
-      rw (settled-handled s (owed_by sh s.lines c) t (record s { lines = owned c u s.lines; owed = owed_by sh s.lines c }) refl refl, o, e) refl
+        let e : s.serving.serving ≡ u = grind (arith, nat_tests) in
+        let o : s.owed ≡ 0 = unserved s (Commit u n) h (rw e me) in
+        rw (settled-handled s (owed_by sh s.lines c) t (record s { lines = owned c u s.lines; owed = owed_by sh s.lines c }) refl refl, o, e) refl
 
 ack-handled : (c l : ℕ) (b : Bool) (s : DirState) (t : ℕ) → OnceAt s (InvAck l b) → HandledBy s (InvAck l b) t (acknowledgement c l b s)
 unfolding acknowledgement passes
@@ -137,6 +140,7 @@ ack-handled c l b s t h = go (s.owed == 0) refl
   where
     before : 0 < s.owed → handled s.serving s.owed t ≡ handled s.serving 0 t + num (s.serving.serving == t)
     before l = owed-handled s.serving s.owed t l
+
     go : (a : Bool) → (s.owed == 0) ≡ a → HandledBy s (InvAck l b) t (if a then Drops else Takes (settled (record s { lines = unless_keeps b c l s.lines; owed = s.owed - 1 })) nothing)
     go true p = refl
     go false p = rw (settled-handled s (s.owed - 1) t (record s { lines = unless_keeps b c l s.lines; owed = s.owed - 1 }) refl refl, before (grind (arith, nat_tests))) (omega arith)

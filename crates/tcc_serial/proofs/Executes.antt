@@ -1,23 +1,20 @@
 -- What executing an instruction may come to, as far as TIDs and messages about them go.
-use Rattle.std.specs.Prelude.{ℕ, ◌≡◌, ◌<◌, Bool, true, false, not, List, [], ◌∷◌, ◌==◌, ◌&&◌, ◌||◌, Option, Some, None, IfSome, is_some, nat_lt, if◌then◌else◌}
-use Rattle.std.proofs.Common.{arith, refl, ap₂, sym, ◌∙◌, ◌⊎◌, inl, inr}
-use Rattle.std.proofs.lemmas.Bool.Decides.{nat_tests}
-use Rattle.tcc_base.specs.declared.access.Commit.{Commit as Noted}
-use Rattle.tcc_base.specs.declared.access.Size.{Size}
+use Rattle.std.specs.Prelude.{ℕ, ◌≡◌, Bool, true, false, not, [], ◌∷◌, ◌==◌, ◌||◌, Option, Some, None, IfSome, is_some, if◌then◌else◌}
+use Rattle.std.proofs.Common.{refl, ap₂, ◌∙◌}
 use Rattle.tcc_base.specs.declared.access.Size.TheVariants.{Byte, Half, Word}
 use Rattle.tcc_program.specs.Program.{Program, Need, Nothing, Loads, Stores, Changes, Prints, Ends, Halts, Traps}
 use Rattle.tcc_program.specs.Ram.{word_of}
 use Rattle.tcc_maps.specs.Words.{line_of}
-use Rattle.tcc_maps.specs.Nodes.{Node, Core, Dir, Vendor, Msg, TidReq, Tagged, LoadReq}
+use Rattle.tcc_maps.specs.Nodes.{Dir, Vendor, TidReq, Tagged, LoadReq}
 use Rattle.tcc_maps.specs.Shape.{Shape, home, set_of}
 use Rattle.tcc_maps.specs.Cache.{Cache, dirty_copy, free_way, all_marked}
 use Rattle.tcc_maps.specs.CacheChange.{marked}
 use Rattle.tcc_maps.specs.Spilled.{holds}
-use Rattle.tcc_rules.specs.State.{CoreState, Awaited, Phase, Running, AwaitTid, DoomedTid, Probing, Ready, Overflowing, Solo, Halted}
+use Rattle.tcc_rules.specs.State.{CoreState, Phase, Running, AwaitTid, DoomedTid, Probing, Ready, Overflowing, Solo, Halted}
 use Rattle.tcc_rules.specs.Sends.{Sends, nothing, to, flush, flushed}
 use Rattle.tcc_rules.specs.Attempt.{Out, moves, finished, stepped, is_running, is_solo, new_word}
 use Rattle.tcc_rules.specs.Commit.{noted, phase_after, committed_core, solo_commit, solo_sends}
-use Rattle.tcc_rules.specs.Execute.{ask, place, overflow, full_set, fetch, used, load_valid, load_spilled, load, buffered, framed, word_store, also_read, change_valid, change_spilled, partial_store, close, store, execute_need, execute}
+use Rattle.tcc_rules.specs.Execute.{ask, place, overflow, full_set, fetch, used, load_valid, load_spilled, load, buffered, framed, word_store, also_read, change_valid, change_spilled, partial_store, close, execute_need, execute}
 use Rattle.tcc_serial.specs.Count.{Protocol, among, passes}
 
 -- a core executes in these phases
@@ -132,6 +129,7 @@ loads_executed sh p c w need s h = go (s.spilled w) (s.cache.value w)
     valid : (b : Option ℕ) → IfSome (load_valid sh p need w s b) (λ o. Executed sh c s o)
     valid (Some x) = let u = used_phase w s in done_quietly sh p c need x s (used w s) h (u.0) (u.1)
     valid None = fetched sh c (line_of w) s h
+
     go : (a b : Option ℕ) → IfSome (load_spilled sh p need w s a) (λ o. Executed sh c s o)
     go (Some x) b = done_quietly sh p c need x s s h refl refl
     go None b = valid (s.cache.value w)
@@ -143,9 +141,11 @@ partly_executed sh p c w need s h = go (s.spilled w)
     held : (x : ℕ) (b : Bool) → IfSome (if b then Some (moves (finished p need x (buffered w (new_word need x) s)) nothing) else Some (moves (finished p need x (framed w (new_word need x) (also_read w s) s)) (flushed sh s.cache (line_of w)))) (λ o. Executed sh c s o)
     held x true = done_quietly sh p c need x s (buffered w (new_word need x) s) h refl refl
     held x false = done_flushing sh p c need x (line_of w) s (framed w (new_word need x) (also_read w s) s) h refl refl
+
     valid : (b : Option ℕ) → IfSome (change_valid sh p need w s b) (λ o. Executed sh c s o)
     valid (Some x) = held x (holds s.spilled (line_of w))
     valid None = fetched sh c (line_of w) s h
+
     go : (a : Option ℕ) → IfSome (change_spilled sh p need w s a) (λ o. Executed sh c s o)
     go (Some x) = done_quietly sh p c need x s (buffered w (new_word need x) s) h refl refl
     go None = valid (s.cache.value w)
@@ -170,6 +170,7 @@ closed_executed sh p c need s h = go s.phase refl h
   where
     f : Rest s (finished p need 0 s)
     f = finished-rest p need 0 s
+
     go : (q : Phase) → s.phase ≡ q → Acts q → Executed sh c s (close sh c q (finished p need 0 s))
     go Running e a = Asks_tid e refl (f.owing) refl refl (λ d. refl)
     go (Solo t) e a = Alone t (finished p need 0 s) e refl (f.owing) refl (ap₂ (λ x y. solo_sends sh x y t) (f.cache) (f.spilled))

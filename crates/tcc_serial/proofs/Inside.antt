@@ -1,20 +1,18 @@
 -- No message goes to a core that the machine doesn't have, and none of them owns a line.
-use Rattle.std.specs.Prelude.{ℕ, zero, suc, ◌-◌, ◌+◌, ◌≡◌, ◌<◌, ◌≤◌, Bool, true, false, not, List, [], ◌∷◌, ◌++◌, ◌==◌, ◌&&◌, ◌||◌, Option, Some, None, nat_lt, nat_le, if◌then◌else◌}
-use Rattle.std.specs.List.{flat_map}
-use Rattle.std.proofs.Common.{arith, refl, sym, ap, ◌∙◌, ◌⊎◌, inl, inr}
+use Rattle.std.specs.Prelude.{ℕ, zero, suc, ◌-◌, ◌≡◌, ◌<◌, ◌≤◌, Bool, true, false, List, [], ◌∷◌, ◌==◌, ◌&&◌, ◌||◌, Option, Some, None, nat_lt, nat_le, if◌then◌else◌}
+use Rattle.std.proofs.Common.{arith, refl}
 use Rattle.std.proofs.lemmas.Bool.Decides.{nat_tests}
-use Rattle.tcc_base.specs.Put.{put}
-use Rattle.tcc_maps.specs.Words.{num, count_below, those}
+use Rattle.tcc_maps.specs.Words.{count_below, those}
 use Rattle.tcc_maps.specs.Masks.{full}
 use Rattle.tcc_maps.specs.Lines.{Lines, has_mark, with_asked, with_owner, with_sharer, with_mark, unmarked}
 use Rattle.tcc_maps.specs.Judge.{Judgement, judge, Takes as IsTaken, Drops as IsDropped, Waits as IsEarly}
-use Rattle.tcc_maps.specs.Nodes.{Node, Core, Dir, Vendor, Msg, TidReq, TidGrant, LoadReq, Fill, Skip, Probe, ProbeReply, Mark, Commit, Abort, WriteBack, Flush, DataReq, Inv, InvAck}
+use Rattle.tcc_maps.specs.Nodes.{Core, Msg, TidReq, TidGrant, LoadReq, Fill, Skip, Probe, ProbeReply, Mark, Commit, Abort, WriteBack, Flush, DataReq, Inv, InvAck}
 use Rattle.tcc_maps.specs.Serving.{skipped, kept}
 use Rattle.tcc_maps.specs.Shape.{Shape, lines}
 use Rattle.tcc_rules.specs.State.{DirState}
 use Rattle.tcc_rules.specs.Sends.{Sends, nothing, to}
 use Rattle.tcc_rules.specs.DirDeliver.{Answer, Waits, Drops, Asks, Takes, skip, abort, commit, acknowledgement, dir_deliver, moved_on, settled, owned, owed_by, invalidations, invs_to, is_invalidated, unless_keeps, ask_owner, load_owned, load_request, line_words, marking, mark_owned, mark, judged, write_back, came_home, probe}
-use Rattle.tcc_serial.specs.Count.{Any, among, passes}
+use Rattle.tcc_serial.specs.Count.{Any, among}
 
 -- owners are cores of the machine
 abbrev pub OwnersInside : Shape → DirState → Type 0
@@ -85,6 +83,7 @@ back-inside sh c l k ws g s h = go (judge (s.lines.owner l) (s.lines.tag l) c g)
     owner : (b : Bool) (l' o : ℕ) → s.lines.owner l' ≡ s.lines.owner l' → (if b then None else s.lines.owner l') ≡ Some o → o < sh.cores
     owner true l' o r e = absurd (cc)
     owner false l' o r e = h l' o e
+
     go : (j : Judgement) → AnswersInside sh (judged l k ws s j)
     go IsEarly = tt
     go IsTaken = (quiet-inside sh, λ l' o e. owner (l' == l) l' o refl e)
@@ -130,6 +129,7 @@ invalidations-inside sh ls c t j l = rw (those-none (is_invalidated sh ls c j) (
   where
     outside : nat_lt j sh.cores ≡ false
     outside = grind (arith, nat_tests)
+
     none : (k : ℕ) → is_invalidated sh ls c j k ≡ false
     none k = is_invalidated-outside sh ls c j k outside
 
@@ -140,6 +140,7 @@ commit-inside sh c u n s i h = go (s.serving.serving == u && count_below (has_ma
     owner : (b : Bool) (l o : ℕ) → (if b then Some c else s.lines.owner l) ≡ Some o → o < sh.cores
     owner true l o e = let q : c ≡ o = cc in omega arith
     owner false l o e = h l o e
+
     go : (b : Bool) → AnswersInside sh (if b then Takes (settled (record s { lines = owned c u s.lines; owed = owed_by sh s.lines c })) (invalidations sh s.lines c u) else Waits)
     go false = tt
     go true = (invalidations-inside sh s.lines c u, settled-inside sh (record s { lines = owned c u s.lines; owed = owed_by sh s.lines c }) (λ l o e. owner (has_mark s.lines l) l o e))
@@ -151,6 +152,7 @@ ack-inside sh c l b s h = go (s.owed == 0)
     kept_lines : (b : Bool) → OwnersInside sh (record s { lines = unless_keeps b c l s.lines; owed = s.owed - 1 })
     kept_lines true = h
     kept_lines false = h
+
     go : (a : Bool) → AnswersInside sh (if a then Drops else Takes (settled (record s { lines = unless_keeps b c l s.lines; owed = s.owed - 1 })) nothing)
     go true = tt
     go false = (quiet-inside sh, settled-inside sh (record s { lines = unless_keeps b c l s.lines; owed = s.owed - 1 }) (kept_lines b))

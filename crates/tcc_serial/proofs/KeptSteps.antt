@@ -1,273 +1,103 @@
--- Each kind of event keeps the invariants.
-use Rattle.std.specs.Prelude.{ℕ, ◌+◌, ◌≡◌, ◌<◌, ◌≤◌, Bool, true, false, List, [], ◌∷◌, ◌++◌, ◌==◌, Option, Some, None, IfSome, nat_lt, nat_le, set, slice_index_or}
-use Rattle.std.proofs.Common.{arith, refl, sym, ap, subst, ◌∙◌, ◌⊎◌, inl, inr}
-use Rattle.std.proofs.lemmas.Bool.{cases_lt, cases_eq}
+-- Every event keeps the invariants, and so does every run.
+use Rattle.std.specs.Prelude.{ℕ, ◌+◌, ◌≡◌, ◌<◌, ◌≤◌, List, [], ◌∷◌, Option, Some, None, IfSome}
+use Rattle.std.proofs.Common.{arith, ◌⊎◌, inl, inr}
+use Rattle.std.proofs.lemmas.Bool.{cases_lt}
 use Rattle.std.proofs.lemmas.Bool.Decides.{nat_tests}
 use Rattle.tcc_program.specs.Program.{Program, Local}
-use Rattle.tcc_maps.specs.Serving.{first_serving}
-use Rattle.tcc_maps.specs.Lines.{no_lines}
-use Rattle.tcc_maps.proofs.Serving.{first-skips}
+use Rattle.tcc_maps.specs.Serving.{Serving}
 use Rattle.tcc_maps.specs.Words.{num}
-use Rattle.tcc_maps.specs.Nodes.{Node, Core, Dir, Vendor, Msg, TidReq, TidGrant, Event}
+use Rattle.tcc_maps.specs.Nodes.{Core, Dir, Vendor, Msg, TidReq, TidGrant, Event}
 use Rattle.tcc_maps.specs.Shape.{Shape}
-use Rattle.tcc_maps.specs.Cache.{writes_at}
-use Rattle.tcc_rules.specs.State.{CoreState, DirState, World, Link, start, core_start, dir_start, vendor_start}
-use Rattle.tcc_rules.specs.Links.{in_flight, sent_all}
-use Rattle.tcc_rules.specs.Sends.{Sends}
+use Rattle.tcc_rules.specs.State.{World, start}
+use Rattle.tcc_rules.specs.Links.{in_flight}
 use Rattle.tcc_rules.specs.Attempt.{Out}
 use Rattle.tcc_rules.specs.CoreExec.{core_exec}
 use Rattle.tcc_rules.specs.CoreEvict.{core_evict}
 use Rattle.tcc_rules.specs.CoreDeliver.{from_dir, grant}
-use Rattle.tcc_rules.specs.DirDeliver.{total, Answer, Waits, Drops, Asks, Takes, dir_deliver}
-use Rattle.tcc_rules.specs.Step.{core_moves, core_takes, dir_takes, dir_asks, vendor_gives, Stepped, step, History, and_noted, recorded, next, and_then, run_from, run}
-use Rattle.tcc_serial.specs.Count.{Kind, Asks as AsksTid, Grants, AnyGrant, Resolves, Any, live, among, passes}
-use Rattle.tcc_serial.specs.Pairs.{Pair, pair, after_move, grant_taken, back_taken, after_answer, out_taken, after_grant, after_other_grant, share, sum_of}
-use Rattle.tcc_serial.specs.Tids.{waits_for_tid, opens, part, handled, ResolvedAt, RequestOf, InsideOf, Kept}
-use Rattle.tcc_serial.proofs.Links.{live-sends, live-takes, total-le, total-zero}
+use Rattle.tcc_rules.specs.DirDeliver.{Answer, Waits, Drops, Asks, Takes, dir_deliver}
+use Rattle.tcc_rules.specs.Step.{core_moves, core_takes, Stepped, step, History, and_noted, recorded, next, and_then, run_from, run}
+use Rattle.tcc_serial.specs.Count.{Acks, Resolves, AnyResolve, Any, live, passes}
+use Rattle.tcc_serial.specs.Pairs.{pair}
+use Rattle.tcc_serial.specs.Tids.{handled, KeptTids}
 use Rattle.tcc_serial.proofs.StepCases.{OfAnswer, step_cases}
-use Rattle.tcc_serial.proofs.PairFrames.{same, differ, given, pairs_move, pairs_grant, pairs_back, pairs_dir, pairs_asks, pairs_vendor, sum_move, sum_grant, sum_back, sum_back_away, sum_dir, sum_dir_away, sum_asks, sum_vendor}
-use Rattle.tcc_serial.proofs.CoreTids.{KeepsPart, part-exec, part-evict, part-grant, part-back}
-use Rattle.tcc_serial.proofs.CoreRequests.{KeepsRequests, requests-exec, requests-evict, requests-grant, requests-back}
-use Rattle.tcc_serial.proofs.DirTids.{HandledBy, OnceAt, dir-handled}
+use Rattle.tcc_serial.proofs.CoreTids.{KeepsPart, part-exec, part-evict, part-back}
+use Rattle.tcc_serial.proofs.CoreRequests.{KeepsRequests, requests-exec, requests-evict, requests-back}
+use Rattle.tcc_serial.proofs.DirTids.{HandledBy, OnceAt, dir-handled, skipped-above}
+use Rattle.tcc_serial.specs.Owed.{KeptOwed}
+use Rattle.tcc_serial.specs.Kept.{Kept}
+use Rattle.tcc_serial.proofs.CoreDue.{CleanOut, clean-exec, clean-evict, clean-grant}
+use Rattle.tcc_serial.proofs.DirDue.{DueBy, dir-due, still-due}
+use Rattle.tcc_serial.proofs.OwedSteps.{move-owed, grant-owed, backs-owed, dir-owed, asks-owed, vendor-owed, start-owed, marks_home, acks_owed}
+use Rattle.tcc_serial.proofs.TidSteps.{move-kept, grant-kept, back-kept, dir-kept, asks-kept, vendor-kept, start-kept, inside_from, any-one, live-some, once-there, no_sends}
 use Rattle.tcc_serial.proofs.Inside.{AnswersInside, dir-inside}
 
--- a message in flight is counted
-live-some : (k : Kind) (l : Link) (i : ℕ) (m : Msg) → slice_index_or l i None ≡ Some m → num (passes k m) ≤ live k l
-live-some k l i m e = omega (arith, live-takes k l i m e)
+-- the core that a message comes from or goes to is one of the machine
+core_of_grant : (sh : Shape) (w : World) (c k : ℕ) (m : Msg) → KeptTids sh w → in_flight w.net Vendor (Core c) k ≡ Some m → c < sh.cores
+unfolding pair
+core_of_grant sh w c k m h i = inside_from sh c (live Any (w.net Vendor (Core c))) ((h.inside c 0).grants) (any-one (w.net Vendor (Core c)) k m i)
 
-any-one : (l : Link) (i : ℕ) (m : Msg) → slice_index_or l i None ≡ Some m → 1 ≤ live Any l
+core_of_back : (sh : Shape) (w : World) (c d k : ℕ) (m : Msg) → KeptTids sh w → in_flight w.net (Dir d) (Core c) k ≡ Some m → c < sh.cores
+unfolding pair
+core_of_back sh w c d k m h i = inside_from sh c (live Any (w.net (Dir d) (Core c))) ((h.inside c d).back) (any-one (w.net (Dir d) (Core c)) k m i)
+
+core_of_out : (sh : Shape) (w : World) (c d k : ℕ) (m : Msg) → KeptTids sh w → in_flight w.net (Core c) (Dir d) k ≡ Some m → c < sh.cores
+unfolding pair
+core_of_out sh w c d k m h i = inside_from sh c (live Any (w.net (Core c) (Dir d))) ((h.inside c d).out) (any-one (w.net (Core c) (Dir d)) k m i)
+
+core_of_ask : (sh : Shape) (w : World) (c k : ℕ) (m : Msg) → KeptTids sh w → in_flight w.net (Core c) Vendor k ≡ Some m → c < sh.cores
+unfolding pair
+core_of_ask sh w c k m h i = inside_from sh c (live Any (w.net (Core c) Vendor)) ((h.inside c 0).asks) (any-one (w.net (Core c) Vendor) k m i)
+
+resolves-any : (t : ℕ) (m : Msg) → num (passes (Resolves t) m) ≤ num (passes AnyResolve m)
 unfolding passes
-any-one l i m e = live-some Any l i m e
+resolves-any t m = grind (arith, nat_tests)
 
--- a core that a message comes from or goes to is one of the machine
-abbrev Inside : (c : ℕ) → Shape → Type 0
-Inside c sh = c < sh.cores
+handled-once : (s : Serving) (owed t : ℕ) → handled s owed t ≤ 1
+unfolding handled
+handled-once s owed t = let a = skipped-above s t in grind (arith, nat_tests)
 
-inside_from : (sh : Shape) (c n : ℕ) → (sh.cores ≤ c → n ≡ 0) → 1 ≤ n → c < sh.cores
-inside_from sh c n h l = go (cases_lt c sh.cores)
+-- what a TID's message tells of it, also at a directory that the machine doesn't have
+once_at : (sh : Shape) (w : World) (c d k : ℕ) (m : Msg) → Kept sh w → in_flight w.net (Core c) (Dir d) k ≡ Some m → OnceAt (w.dirs d) m
+unfolding pair
+once_at sh w c d k m h i t = go (cases_lt d sh.dirs)
   where
-    go : (c < sh.cores) ⊎ (sh.cores ≤ c) → c < sh.cores
-    go (inl x) = x
-    go (inr x) = absurd (omega (arith, h x))
-
--- for a core of the machine only the owners matter
-within : (sh : Shape) (c : ℕ) (v : Pair) → c < sh.cores → ((l o : ℕ) → v.dir.lines.owner l ≡ Some o → o < sh.cores) → InsideOf sh c v
-within sh c v l h = record { out = λ x. absurd (omega arith); back = λ x. absurd (omega arith); asks = λ x. absurd (omega arith); grants = λ x. absurd (omega arith); owners = h }
-
-request-moved : (v : Pair) (o : Out) (d : ℕ) → KeepsRequests 0 v.core o → RequestOf v → RequestOf (after_move v o d)
-request-moved v o d k r = omega (arith, live-sends AsksTid v.asks (o.sends Vendor))
-
-part-moved : (sh : Shape) (d t : ℕ) (v : Pair) (o : Out) → KeepsPart sh d t 0 v.core o → part sh d t (after_move v o d) + 0 ≡ part sh d t v + 0
-unfolding part
-part-moved sh d t v o k = omega (arith, live-sends (Resolves t) v.out (o.sends (Dir d)))
-
--- a core moves
-move-kept : (sh : Shape) (w : World) (c : ℕ) (o : Out) → Kept sh w → c < sh.cores → KeepsRequests 0 (w.cores c) o → ((d t : ℕ) → d < sh.dirs → KeepsPart sh d t 0 (w.cores c) o) → Kept sh (core_moves w c o)
-unfolding pair core_moves
-move-kept sh w c o k l r p = record {
-    inside = pairs_move (λ c d v. InsideOf sh c v) w c o (λ d. within sh c _ l ((k.inside c d).owners)) k.inside;
-    requests = pairs_move (λ c d v. RequestOf v) w c o (λ d. request-moved (pair w c d) o d r (k.requests c d)) k.requests;
-    resolved = λ d t h. let e = sum_move (part sh d t) sh.cores w c o d 0 0 l (part-moved sh d t (pair w c d) o (p d t h)) in omega (arith, k.resolved d t h);
-  }
-
--- a core takes a grant
-
-request-granted : (v : Pair) (k u : ℕ) (o : Out) (d : ℕ) → slice_index_or v.grants k None ≡ Some (TidGrant u) → KeepsRequests 1 v.core o → RequestOf v → RequestOf (after_move (grant_taken v k) o d)
-unfolding passes
-request-granted v k u o d e r q = omega (arith, live-sends AsksTid v.asks (o.sends Vendor), live-takes AnyGrant v.grants k (TidGrant u) e)
-
-part-granted : (sh : Shape) (d t k u : ℕ) (v : Pair) (o : Out) → slice_index_or v.grants k None ≡ Some (TidGrant u) → KeepsPart sh d t (num (u == t)) v.core o → part sh d t (after_move (grant_taken v k) o d) + 0 ≡ part sh d t v + 0
-unfolding part passes
-part-granted sh d t k u v o e q = omega (arith, live-sends (Resolves t) v.out (o.sends (Dir d)), live-takes (Grants t) v.grants k (TidGrant u) e)
-
-granted_waits : (v : Pair) (k u : ℕ) → slice_index_or v.grants k None ≡ Some (TidGrant u) → RequestOf v → waits_for_tid v.core.phase ≡ true
-unfolding passes
-granted_waits v k u e r = go (waits_for_tid v.core.phase) refl (live-some AnyGrant v.grants k (TidGrant u) e)
-  where
-    go : (b : Bool) → waits_for_tid v.core.phase ≡ b → 1 ≤ live AnyGrant v.grants → waits_for_tid v.core.phase ≡ true
-    go true q l = q
-    go false q l = let z : num (waits_for_tid v.core.phase) ≡ 0 = rw q refl in absurd (omega arith)
-
-grant-kept : (sh : Shape) (w : World) (c k u : ℕ) → Kept sh w → in_flight w.net Vendor (Core c) k ≡ Some (TidGrant u) → Kept sh (core_takes w Vendor c k (grant sh u (w.cores c)))
-unfolding pair core_takes
-grant-kept sh w c k u h e =
-    let l : c < sh.cores = inside_from sh c (live Any (w.net Vendor (Core c))) ((h.inside c 0).grants) (any-one (w.net Vendor (Core c)) k (TidGrant u) e) in
-    let wt : waits_for_tid (w.cores c).phase ≡ true = granted_waits (pair w c 0) k u e (h.requests c 0) in
-    let o : Out = grant sh u (w.cores c) in
-    record {
-      inside = pairs_grant (λ c d v. InsideOf sh c v) w c k o (λ d. within sh c _ l ((h.inside c d).owners)) h.inside;
-      requests = pairs_grant (λ c d v. RequestOf v) w c k o (λ d. request-granted (pair w c d) k u o d e (requests-grant sh u (w.cores c) wt) (h.requests c d)) h.requests;
-      resolved = λ d t x. let e = sum_grant (part sh d t) sh.cores w c k o d 0 0 l (part-granted sh d t k u (pair w c d) o e (part-grant sh u d t (w.cores c) x wt)) in omega (arith, h.resolved d t x);
-    }
-
--- a core takes a message of a directory
-
-back-kept : (sh : Shape) (w : World) (e c k : ℕ) (m : Msg) (o : Out) → Kept sh w → in_flight w.net (Dir e) (Core c) k ≡ Some m → KeepsRequests 0 (w.cores c) o → ((d t : ℕ) → d < sh.dirs → KeepsPart sh d t 0 (w.cores c) o) → Kept sh (core_takes w (Dir e) c k o)
-unfolding pair core_takes part
-back-kept sh w e c k m o h i r p =
-    let l : c < sh.cores = inside_from sh c (live Any (w.net (Dir e) (Core c))) ((h.inside c e).back) (any-one (w.net (Dir e) (Core c)) k m i) in
-    record {
-      inside = pairs_back (λ c d v. InsideOf sh c v) w e c k o (within sh c _ l ((h.inside c e).owners)) (λ d n. within sh c _ l ((h.inside c d).owners)) h.inside;
-      requests = pairs_back (λ c d v. RequestOf v) w e c k o (request-moved (back_taken (pair w c e) k) o e r (h.requests c e)) (λ d n. request-moved (pair w c d) o d r (h.requests c d)) h.requests;
-      resolved = λ d t x. resolved l d t x (cases_eq d e);
-    }
-  where
-    resolved : c < sh.cores → (d t : ℕ) → d < sh.dirs → (d ≡ e) ⊎ (d ≡ e → ⊥) → ResolvedAt sh (core_takes w (Dir e) c k o) d t
-    resolved l d t x (inr n) = let q = sum_back_away (part sh d t) sh.cores w e c k o d 0 0 n l (part-moved sh d t (pair w c d) o (p d t x)) in omega (arith, h.resolved d t x)
-    resolved l d t x (inl n) = subst (λ e. ResolvedAt sh (core_takes w (Dir e) c k o) d t) n (here l d t x)
-      where
-        here : c < sh.cores → (d t : ℕ) → d < sh.dirs → ResolvedAt sh (core_takes w (Dir d) c k o) d t
-        here l d t x = let q = sum_back (part sh d t) sh.cores w c k o d 0 0 l (part-moved sh d t (back_taken (pair w c d) k) o (p d t x)) in omega (arith, h.resolved d t x)
-
--- a directory takes a message of a core
-
-part-answered : (sh : Shape) (d t k : ℕ) (m : Msg) (v : Pair) (s : DirState) (ms : List Msg) → slice_index_or v.out k None ≡ Some m → part sh d t (after_answer (out_taken v k) s ms) + num (passes (Resolves t) m) ≡ part sh d t v + 0 + 0
-unfolding part
-part-answered sh d t k m v s ms e = omega (arith, live-takes (Resolves t) v.out k m e)
-
-once-there : (sh : Shape) (w : World) (c d k t : ℕ) (m : Msg) → c < sh.cores → in_flight w.net (Core c) (Dir d) k ≡ Some m → ResolvedAt sh w d t → num (passes (Resolves t) m) + handled (w.dirs d).serving (w.dirs d).owed t ≤ 1
-unfolding part pair share
-once-there sh w c d k t m l e r = omega (arith, r, total-le (share (part sh d t) w d) sh.cores c l, live-some (Resolves t) (w.net (Core c) (Dir d)) k m e)
-
-inside-answered : (sh : Shape) (j : ℕ) (v : Pair) (s : DirState) (ms : List Msg) → (sh.cores ≤ j → among Any ms ≡ 0) → ((l o : ℕ) → s.lines.owner l ≡ Some o → o < sh.cores) → InsideOf sh j v → InsideOf sh j (after_answer v s ms)
-inside-answered sh j v s ms q h i = record {
-    out = i.out;
-    back = λ x. omega (arith, live-sends Any v.back ms, i.back x, q x);
-    asks = i.asks;
-    grants = i.grants;
-    owners = h;
-  }
-
-part-still : (sh : Shape) (d t : ℕ) (v : Pair) (s : DirState) (ms : List Msg) → part sh d t (after_answer v s ms) ≡ part sh d t v + 0
-unfolding part
-part-still sh d t v s ms = omega arith
-
-part-same : (sh : Shape) (d t : ℕ) (v : Pair) (s : DirState) (ms : List Msg) → part sh d t (after_answer v s ms) ≡ part sh d t v
-unfolding part
-part-same sh d t v s ms = refl
-
-part-next : (sh : Shape) (d t : ℕ) (v : Pair) → part sh d t (after_other_grant v) ≡ part sh d t v
-unfolding part
-part-next sh d t v = refl
-
-part-given : (sh : Shape) (d t : ℕ) (v : Pair) (k : ℕ) → part sh d t (after_grant v k) + 0 ≡ part sh d t v + num (v.next == t)
-unfolding part passes among
-part-given sh d t v k = omega (arith, live-sends (Grants t) v.grants (TidGrant v.next ∷ []))
-
-request-given : (v : Pair) (k : ℕ) → slice_index_or v.asks k None ≡ Some TidReq → RequestOf v → RequestOf (after_grant v k)
-unfolding passes among
-request-given v k e r = omega (arith, live-sends AnyGrant v.grants (TidGrant v.next ∷ []), live-takes AsksTid v.asks k TidReq e)
-
-inside-next : (sh : Shape) (j : ℕ) (v : Pair) → InsideOf sh j v → InsideOf sh j (after_other_grant v)
-inside-next sh j v i = record { out = i.out; back = i.back; asks = i.asks; grants = i.grants; owners = i.owners }
-
-start-handled : (t : ℕ) → num (nat_le 1 t) + handled first_serving 0 t ≡ 1
-unfolding handled first_serving
-start-handled t = let f = first-skips t in grind (arith, nat_tests)
-
-part-start : (sh : Shape) (entries : ℕ → Local) (ram : ℕ → ℕ) (d t j : ℕ) → share (part sh d t) (start entries ram) d j ≡ 0
-unfolding share part pair start core_start live opens
-part-start sh entries ram d t j = refl
-
-no_sends : among Any [] ≡ 0
-unfolding among
-no_sends = refl
-
-dir-kept : (sh : Shape) (w : World) (c e k : ℕ) (m : Msg) (s : DirState) (sends : Sends) → Kept sh w → in_flight w.net (Core c) (Dir e) k ≡ Some m
-    → ((j : ℕ) → sh.cores ≤ j → among Any (sends (Core j)) ≡ 0) → ((l o : ℕ) → s.lines.owner l ≡ Some o → o < sh.cores)
-    → ((t : ℕ) → e < sh.dirs → handled s.serving s.owed t ≡ handled (w.dirs e).serving (w.dirs e).owed t + num (passes (Resolves t) m))
-    → Kept sh (dir_takes w c e k s sends)
-unfolding pair dir_takes
-dir-kept sh w c e k m s sends h i q ow hd =
-    let l : c < sh.cores = inside_from sh c (live Any (w.net (Core c) (Dir e))) ((h.inside c e).out) (any-one (w.net (Core c) (Dir e)) k m i) in
-    record {
-      inside = pairs_dir (λ c d v. InsideOf sh c v) w c e k s sends (within sh c _ l ow) (λ j n. inside-answered sh j (pair w j e) s (sends (Core j)) (q j) ow (h.inside j e)) h.inside;
-      requests = pairs_dir (λ c d v. RequestOf v) w c e k s sends (h.requests c e) (λ j n. h.requests j e) h.requests;
-      resolved = λ d t x. resolved l d t x (cases_eq d e);
-    }
-  where
-    here : c < sh.cores → (d t : ℕ) → d < sh.dirs → in_flight w.net (Core c) (Dir d) k ≡ Some m → handled s.serving s.owed t ≡ handled (w.dirs d).serving (w.dirs d).owed t + num (passes (Resolves t) m) → ResolvedAt sh (dir_takes w c d k s sends) d t
-    here l d t x i hd =
-      let z : total (λ j. 0) sh.cores ≡ 0 = total-zero (λ j. 0) sh.cores (λ j y. refl) in
-      let p = sum_dir (part sh d t) (λ j. 0) sh.cores w c k s sends d (num (passes (Resolves t) m)) 0 l (part-answered sh d t k m (pair w c d) s (sends (Core c)) i) (λ j n. part-still sh d t (pair w j d) s (sends (Core j))) in
-      rw (same d) (omega (arith, h.resolved d t x))
-    resolved : c < sh.cores → (d t : ℕ) → d < sh.dirs → (d ≡ e) ⊎ (d ≡ e → ⊥) → ResolvedAt sh (dir_takes w c e k s sends) d t
-    resolved l d t x (inr n) = let p = sum_dir_away (part sh d t) sh.cores w c e k s sends d n in rw (differ d e n) (omega (arith, h.resolved d t x))
-    resolved l d t x (inl n) = subst (λ y. ResolvedAt sh (dir_takes w c y k s sends) d t) n (here l d t x (rw (sym n) at i) (subst (λ y. handled s.serving s.owed t ≡ handled (w.dirs y).serving (w.dirs y).owed t + num (passes (Resolves t) m)) (sym n) (hd t (rw n at x))))
-
--- a directory asks an owner
-
-asks-kept : (sh : Shape) (w : World) (e : ℕ) (s : DirState) (sends : Sends) → Kept sh w
-    → ((j : ℕ) → sh.cores ≤ j → among Any (sends (Core j)) ≡ 0) → ((l o : ℕ) → s.lines.owner l ≡ Some o → o < sh.cores)
-    → ((t : ℕ) → e < sh.dirs → handled s.serving s.owed t ≡ handled (w.dirs e).serving (w.dirs e).owed t)
-    → Kept sh (dir_asks w e s sends)
-unfolding pair dir_asks
-asks-kept sh w e s sends h q ow hd = record {
-    inside = pairs_asks (λ c d v. InsideOf sh c v) w e s sends (λ j. inside-answered sh j (pair w j e) s (sends (Core j)) (q j) ow (h.inside j e)) h.inside;
-    requests = pairs_asks (λ c d v. RequestOf v) w e s sends (λ j. h.requests j e) h.requests;
-    resolved = λ d t x. resolved d t x (cases_eq d e);
-  }
-  where
-    resolved : (d t : ℕ) → d < sh.dirs → (d ≡ e) ⊎ (d ≡ e → ⊥) → ResolvedAt sh (dir_asks w e s sends) d t
-    resolved d t x (inr n) = let p = sum_asks (part sh d t) (λ j. 0) sh.cores w e s sends d (λ j. part-same sh d t (pair w j d) s (sends (Core j))) in rw (differ d e n) (omega (arith, h.resolved d t x))
-    resolved d t x (inl n) =
-      let p = sum_asks (part sh d t) (λ j. 0) sh.cores w e s sends d (λ j. part-same sh d t (pair w j d) s (sends (Core j))) in
-      let y : handled s.serving s.owed t ≡ handled (w.dirs d).serving (w.dirs d).owed t = subst (λ y. handled s.serving s.owed t ≡ handled (w.dirs y).serving (w.dirs y).owed t) (sym n) (hd t (rw n at x)) in
-      let b : (d == e) ≡ true = rw n (same e) in
-      rw b (omega (arith, h.resolved d t x))
-
--- the vendor grants a TID
-
-vendor-kept : (sh : Shape) (w : World) (c k : ℕ) → Kept sh w → in_flight w.net (Core c) Vendor k ≡ Some TidReq → Kept sh (vendor_gives w c k (given w c))
-unfolding pair vendor_gives
-vendor-kept sh w c k h i =
-    let l : c < sh.cores = inside_from sh c (live Any (w.net (Core c) Vendor)) ((h.inside c 0).asks) (any-one (w.net (Core c) Vendor) k TidReq i) in
-    record {
-      inside = pairs_vendor (λ c d v. InsideOf sh c v) w c k (λ d. within sh c _ l ((h.inside c d).owners)) (λ j d n. inside-next sh j (pair w j d) (h.inside j d));
-      requests = pairs_vendor (λ c d v. RequestOf v) w c k (λ d. request-given (pair w c d) k i (h.requests c d)) (λ j d n. h.requests j d);
-      resolved = λ d t x.
-        let p = sum_vendor (part sh d t) sh.cores w c k d 0 (num (w.next == t)) l (part-given sh d t (pair w c d) k) (λ j n. part-next sh d t (pair w j d)) in
-        let b : num (nat_le w.next t) ≡ num (nat_le (w.next + 1) t) + num (w.next == t) = grind (arith, nat_tests) in
-        omega (arith, h.resolved d t x);
-    }
-
-start-kept : (sh : Shape) (entries : ℕ → Local) (ram : ℕ → ℕ) → Kept sh (start entries ram)
-unfolding start core_start dir_start vendor_start pair live waits_for_tid no_lines
-start-kept sh entries ram = record {
-    inside = λ c d. record { out = λ x. refl; back = λ x. refl; asks = λ x. refl; grants = λ x. refl; owners = λ l o e. absurd (cc) };
-    requests = λ c d. refl;
-    resolved = λ d t x. resolved d t;
-  }
-  where
-    resolved : (d t : ℕ) → ResolvedAt sh (start entries ram) d t
-    resolved d t = omega (arith, total-zero (share (part sh d t) (start entries ram) d) sh.cores (λ j l. part-start sh entries ram d t j), start-handled t)
+    go : (d < sh.dirs) ⊎ (sh.dirs ≤ d) → num (passes (Resolves t) m) + handled (w.dirs d).serving (w.dirs d).owed t ≤ 1
+    go (inl l) = once-there sh w c d k t m (core_of_out sh w c d k m h.tids i) i (h.tids.resolved d t l)
+    go (inr l) = omega (arith, resolves-any t m, live-some AnyResolve (w.net (Core c) (Dir d)) k m i, (h.owed.at_home c d).far l, handled-once (w.dirs d).serving (w.dirs d).owed t)
 
 -- every event that is enabled keeps the invariants
+
+moves : (sh : Shape) (w : World) (c : ℕ) → Kept sh w → c < sh.cores → (x : Option Out) → IfSome x (λ o. KeepsRequests 0 (w.cores c) o) → ((d t : ℕ) → d < sh.dirs → IfSome x (λ o. KeepsPart sh d t 0 (w.cores c) o)) → IfSome x (λ o. CleanOut sh o) → IfSome x (λ o. Kept sh (core_moves w c o))
+moves sh w c h l None r q y = tt
+moves sh w c h l (Some o) r q y = record { tids = move-kept sh w c o h.tids l r q; owed = move-owed sh w c o h.owed l y }
+
+backs : (sh : Shape) (w : World) (c d k : ℕ) (m : Msg) → Kept sh w → in_flight w.net (Dir d) (Core c) k ≡ Some m → (x : Option Out) → IfSome x (λ o. KeepsRequests 0 (w.cores c) o) → ((e t : ℕ) → e < sh.dirs → IfSome x (λ o. KeepsPart sh e t 0 (w.cores c) o)) → IfSome x (λ o. KeptOwed sh (core_takes w (Dir d) c k o)) → IfSome x (λ o. Kept sh (core_takes w (Dir d) c k o))
+backs sh w c d k m h i None r q y = tt
+backs sh w c d k m h i (Some o) r q y = record { tids = back-kept sh w d c k m o h.tids i r q; owed = y }
+
+answers : (sh : Shape) (w : World) (c d k : ℕ) (m : Msg) → Kept sh w → in_flight w.net (Core c) (Dir d) k ≡ Some m → (a : Answer) → AnswersInside sh a → ((t : ℕ) → d < sh.dirs → HandledBy (w.dirs d) m t a) → DueBy sh d (w.dirs d) (num (passes Acks m)) a → OfAnswer w c d k (λ v. Kept sh v) a
+unfolding pair
+answers sh w c d k m h i Waits n q u = tt
+answers sh w c d k m h i Drops n q u =
+    let t = dir-kept sh w c d k m (w.dirs d) (λ dst. []) h.tids i (λ j x. no_sends) ((h.tids.inside c d).owners) (λ t x. rw (q t x) (omega arith)) in
+    record { tids = t; owed = dir-owed sh w c d k m (w.dirs d) (λ dst. []) h.owed t (core_of_out sh w c d k m h.tids i) i (rw u (still-due sh d (w.dirs d) ((h.owed.at_home c d).marked))) }
+answers sh w c d k m h i (Asks s sends) n q u =
+    let t = asks-kept sh w d s sends h.tids (n.0) (n.1) q in
+    record { tids = t; owed = asks-owed sh w d s sends h.owed t u }
+answers sh w c d k m h i (Takes s sends) n q u =
+    let t = dir-kept sh w c d k m s sends h.tids i (n.0) (n.1) q in
+    record { tids = t; owed = dir-owed sh w c d k m s sends h.owed t (core_of_out sh w c d k m h.tids i) i u }
+
 pub step-kept : (sh : Shape) (p : Program) (w : World) (e : Event) → Kept sh w → IfSome (step sh p w e) (λ o. Kept sh o.world)
 unfolding pair
 step-kept sh p w e h = step_cases sh p w e (λ o. Kept sh o.world)
-    (λ c l. exec c l (core_exec sh p c (w.cores c)) (requests-exec sh p c (w.cores c)) (λ d t x. part-exec sh p c d t (w.cores c) x))
-    (λ c x y l. exec c l (core_evict sh x y (w.cores c)) (requests-evict sh x y (w.cores c)) (λ d t x'. part-evict sh x y d t (w.cores c)))
-    (λ c k t i. grant-kept sh w c k t h i)
-    (λ c d k m i. back c d k m i (from_dir sh d (w.cores c) m) (requests-back sh d (w.cores c) m) (λ e t x. part-back sh d e t (w.cores c) m x))
-    (λ c d k m i. answer c d k m i)
-    (λ c k i. vendor-kept sh w c k h i)
-  where
-    exec : (c : ℕ) → c < sh.cores → (x : Option Out) → IfSome x (λ o. KeepsRequests 0 (w.cores c) o) → ((d t : ℕ) → d < sh.dirs → IfSome x (λ o. KeepsPart sh d t 0 (w.cores c) o)) → IfSome x (λ o. Kept sh (core_moves w c o))
-    exec c l None r q = tt
-    exec c l (Some o) r q = move-kept sh w c o h l r q
-    back : (c d k : ℕ) (m : Msg) → in_flight w.net (Dir d) (Core c) k ≡ Some m → (x : Option Out) → IfSome x (λ o. KeepsRequests 0 (w.cores c) o) → ((e t : ℕ) → e < sh.dirs → IfSome x (λ o. KeepsPart sh e t 0 (w.cores c) o)) → IfSome x (λ o. Kept sh (core_takes w (Dir d) c k o))
-    back c d k m i None r q = tt
-    back c d k m i (Some o) r q = back-kept sh w d c k m o h i r q
-    answers : (c d k : ℕ) (m : Msg) → in_flight w.net (Core c) (Dir d) k ≡ Some m → (a : Answer) → AnswersInside sh a → ((t : ℕ) → d < sh.dirs → HandledBy (w.dirs d) m t a) → OfAnswer w c d k (λ v. Kept sh v) a
-    answers c d k m i Waits n q = tt
-    answers c d k m i Drops n q = dir-kept sh w c d k m (w.dirs d) (λ dst. []) h i (λ j x. no_sends) ((h.inside c d).owners) (λ t x. rw (q t x) (omega arith))
-    answers c d k m i (Asks s sends) n q = asks-kept sh w d s sends h (n.0) (n.1) q
-    answers c d k m i (Takes s sends) n q = dir-kept sh w c d k m s sends h i (n.0) (n.1) q
-    answer : (c d k : ℕ) (m : Msg) → in_flight w.net (Core c) (Dir d) k ≡ Some m → OfAnswer w c d k (λ v. Kept sh v) (dir_deliver sh (w.dirs d) c m)
-    answer c d k m i =
-      let l : c < sh.cores = inside_from sh c (live Any (w.net (Core c) (Dir d))) ((h.inside c d).out) (any-one (w.net (Core c) (Dir d)) k m i) in
-      answers c d k m i (dir_deliver sh (w.dirs d) c m) (dir-inside sh (w.dirs d) c m l ((h.inside c d).owners)) (λ t x. dir-handled sh (w.dirs d) c m t (λ u. once-there sh w c d k u m l i (h.resolved d u x)))
+    (λ c l. moves sh w c h l (core_exec sh p c (w.cores c)) (requests-exec sh p c (w.cores c)) (λ d t x. part-exec sh p c d t (w.cores c) x) (clean-exec sh p c (w.cores c)))
+    (λ c x y l. moves sh w c h l (core_evict sh x y (w.cores c)) (requests-evict sh x y (w.cores c)) (λ d t z. part-evict sh x y d t (w.cores c)) (clean-evict sh x y (w.cores c)))
+    (λ c k t i. record { tids = grant-kept sh w c k t h.tids i; owed = grant-owed sh w c k (grant sh t (w.cores c)) h.owed (core_of_grant sh w c k (TidGrant t) h.tids i) (clean-grant sh t (w.cores c)) })
+    (λ c d k m i. backs sh w c d k m h i (from_dir sh d (w.cores c) m) (requests-back sh d (w.cores c) m) (λ e t x. part-back sh d e t (w.cores c) m x) (backs-owed sh w d c k m h.owed (core_of_back sh w c d k m h.tids i) i))
+    (λ c d k m i. answers sh w c d k m h i (dir_deliver sh (w.dirs d) c m) (dir-inside sh (w.dirs d) c m (core_of_out sh w c d k m h.tids i) ((h.tids.inside c d).owners)) (λ t x. dir-handled sh (w.dirs d) c m t (once_at sh w c d k m h i))
+    (dir-due sh d (w.dirs d) c m (once_at sh w c d k m h i) ((h.owed.at_home c d).marked) (marks_home sh w c d k m h.owed i) (acks_owed sh w c d k m h.owed (core_of_out sh w c d k m h.tids i) i)))
+    (λ c k i. record { tids = vendor-kept sh w c k h.tids i; owed = vendor-owed sh w c k h.owed (core_of_ask sh w c k TidReq h.tids i) })
 
 -- and so does every run
 run_from-kept : (sh : Shape) (p : Program) (es : List Event) (h : History) → Kept sh h.world → IfSome (run_from sh p es h) (λ r. Kept sh r.world)
@@ -281,4 +111,4 @@ run_from-kept sh p (e ∷ es) h k = go (step sh p h.world e) (step-kept sh p h.w
 
 pub run-kept : (sh : Shape) (p : Program) (entries : ℕ → Local) (ram : ℕ → ℕ) (es : List Event) → IfSome (run sh p (start entries ram) es) (λ r. Kept sh r.world)
 unfolding run
-run-kept sh p entries ram es = run_from-kept sh p es (record { world = start entries ram; commits = [] }) (start-kept sh entries ram)
+run-kept sh p entries ram es = run_from-kept sh p es (record { world = start entries ram; commits = [] }) (record { tids = start-kept sh entries ram; owed = start-owed sh entries ram })

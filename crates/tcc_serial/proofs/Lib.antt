@@ -1,10 +1,14 @@
 pub mod InsertedOrders
+pub mod TidSteps
 pub mod KeptSteps
+pub mod OwedSteps
 pub mod Links
 pub mod PairFrames
 pub mod MemoryStays
 pub mod SerialAgain
 pub mod Always
+pub mod CoreDue
+pub mod DirDue
 pub mod CoreRequests
 pub mod CoreSteps
 pub mod Inside

@@ -1,12 +1,11 @@
 -- What each kind of event does to the pairs of a core and a directory, to what holds of them, and to sums over the cores.
-use Rattle.std.specs.Prelude.{ℕ, zero, suc, ◌+◌, ◌≡◌, ◌<◌, ◌≤◌, ◌≢◌, Bool, true, false, List, [], ◌∷◌, ◌++◌, set, get_or, ◌==◌, ◌&&◌, Option, Some, None}
+use Rattle.std.specs.Prelude.{ℕ, ◌+◌, ◌≡◌, ◌<◌, Bool, true, false, List, [], ◌∷◌, ◌++◌, ◌==◌, ◌&&◌}
 use Rattle.std.proofs.Common.{arith, refl, ap, sym, subst, ◌∙◌, ◌⊎◌, inl, inr}
 use Rattle.std.proofs.lemmas.Bool.Decides.{nat_tests}
 use Rattle.std.proofs.lemmas.Bool.{cases_eq}
-use Rattle.tcc_maps.specs.Words.{put}
 use Rattle.tcc_maps.specs.Nodes.{Node, Core, Dir, Vendor, Msg, TidGrant}
 use Rattle.tcc_rules.specs.DirDeliver.{total}
-use Rattle.tcc_rules.specs.State.{CoreState, DirState, World, Link}
+use Rattle.tcc_rules.specs.State.{DirState, World, Link}
 use Rattle.tcc_rules.specs.Links.{sent_all}
 use Rattle.tcc_rules.specs.Sends.{to}
 use Rattle.tcc_rules.specs.Attempt.{Out}
@@ -124,15 +123,15 @@ pairs_grant P w c k o own all j d = either j c
 pub pairs_back : (P : ℕ → ℕ → Pair → Type 0) (w : World) (e c k : ℕ) (o : Out) → P c e (after_move (back_taken (pair w c e) k) o e) → ((d : ℕ) → (d ≡ e → ⊥) → P c d (after_move (pair w c d) o d)) → AllPairs P w → AllPairs P (core_takes w (Dir e) c k o)
 pairs_back P w e c k o own away all j d = either j c
     (λ q. either d e
-      (λ r. rw (q, r) (subst (P c e) (sym (back-own w c k o e)) own))
-      (λ h. rw q (subst (P c d) (sym (back-away w e c k o d h)) (away d h))))
+    (λ r. rw (q, r) (subst (P c e) (sym (back-own w c k o e)) own))
+    (λ h. rw q (subst (P c d) (sym (back-away w e c k o d h)) (away d h))))
     (λ h. subst (P j d) (sym (back-other w e c k o j d h)) (all j d))
 
 pub pairs_dir : (P : ℕ → ℕ → Pair → Type 0) (w : World) (c e k : ℕ) (s : DirState) (sends : Node → List Msg) → P c e (after_answer (out_taken (pair w c e) k) s (sends (Core c))) → ((j : ℕ) → (j ≡ c → ⊥) → P j e (after_answer (pair w j e) s (sends (Core j)))) → AllPairs P w → AllPairs P (dir_takes w c e k s sends)
 pairs_dir P w c e k s sends own others all j d = either d e
     (λ q. either j c
-      (λ r. rw (q, r) (subst (P c e) (sym (dir-own w c e k s sends)) own))
-      (λ h. rw q (subst (P j e) (sym (dir-other w c e k s sends j h)) (others j h))))
+    (λ r. rw (q, r) (subst (P c e) (sym (dir-own w c e k s sends)) own))
+    (λ h. rw q (subst (P j e) (sym (dir-other w c e k s sends j h)) (others j h))))
     (λ h. subst (P j d) (sym (dir-away w c e k s sends j d h)) (all j d))
 
 pub pairs_asks : (P : ℕ → ℕ → Pair → Type 0) (w : World) (e : ℕ) (s : DirState) (sends : Node → List Msg) → ((j : ℕ) → P j e (after_answer (pair w j e) s (sends (Core j)))) → AllPairs P w → AllPairs P (dir_asks w e s sends)
@@ -184,6 +183,15 @@ sum_dir_away f n w c e k s sends d h = total-same (share f (dir_takes w c e k s 
 pub sum_asks : (f : Pair → ℕ) (g : ℕ → ℕ) (n : ℕ) (w : World) (e : ℕ) (s : DirState) (sends : Node → List Msg) (d : ℕ) → ((j : ℕ) → f (after_answer (pair w j d) s (sends (Core j))) ≡ f (pair w j d)) → sum_of f n (dir_asks w e s sends) d ≡ sum_of f n w d
 unfolding share
 sum_asks f g n w e s sends d h = total-same (share f (dir_asks w e s sends) d) (share f w d) n (λ j l. either d e (λ q. ap f (rw q (asks-own w e s sends j)) ∙ h j) (λ r. ap f (asks-away w e s sends j d r)))
+
+-- the same where a directory asks
+pub sum_asks_here : (f : Pair → ℕ) (g : ℕ → ℕ) (n : ℕ) (w : World) (s : DirState) (sends : Node → List Msg) (d : ℕ) → ((j : ℕ) → f (after_answer (pair w j d) s (sends (Core j))) ≡ f (pair w j d) + g j) → sum_of f n (dir_asks w d s sends) d ≡ sum_of f n w d + total g n
+unfolding share
+sum_asks_here f g n w s sends d h = total-plus (share f w d) g (share f (dir_asks w d s sends) d) n (λ j l. ap f (asks-own w d s sends j) ∙ h j)
+
+pub sum_asks_away : (f : Pair → ℕ) (n : ℕ) (w : World) (e : ℕ) (s : DirState) (sends : Node → List Msg) (d : ℕ) → (d ≡ e → ⊥) → sum_of f n (dir_asks w e s sends) d ≡ sum_of f n w d
+unfolding share
+sum_asks_away f n w e s sends d h = total-same (share f (dir_asks w e s sends) d) (share f w d) n (λ j l. ap f (asks-away w e s sends j d h))
 
 pub sum_vendor : (f : Pair → ℕ) (n : ℕ) (w : World) (c k d x y : ℕ) → c < n → f (after_grant (pair w c d) k) + x ≡ f (pair w c d) + y → ((j : ℕ) → (j ≡ c → ⊥) → f (after_other_grant (pair w j d)) ≡ f (pair w j d)) → sum_of f n (vendor_gives w c k (given w c)) d + x ≡ sum_of f n w d + y
 unfolding share

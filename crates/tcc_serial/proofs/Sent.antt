@@ -1,17 +1,17 @@
 -- How many messages of a kind a rule sends.
-use Rattle.std.specs.Prelude.{ℕ, ◌+◌, ◌≡◌, ◌<◌, ◌≤◌, Bool, true, false, not, List, [], ◌∷◌, ◌++◌, ◌==◌, ◌&&◌, ◌||◌, Option, Some, None, nat_lt, if◌then◌else◌}
+use Rattle.std.specs.Prelude.{ℕ, ◌+◌, ◌≡◌, ◌<◌, ◌≤◌, Bool, true, false, List, [], ◌∷◌, ◌++◌, ◌==◌, ◌&&◌, nat_lt, if◌then◌else◌}
 use Rattle.std.specs.List.{flat_map}
-use Rattle.std.proofs.Common.{arith, refl, sym, ap, ◌∙◌}
+use Rattle.std.proofs.Common.{arith, refl}
 use Rattle.std.proofs.lemmas.Bool.Decides.{nat_tests}
 use Rattle.tcc_maps.specs.Words.{num, those, count_below}
-use Rattle.tcc_maps.specs.Nodes.{Node, Core, Dir, Vendor, Msg, TidReq, Tagged, LoadReq, Skip, Abort, Commit, Mark, WriteBack}
+use Rattle.tcc_maps.specs.Nodes.{Dir, Msg, Skip, Commit, Mark, WriteBack}
 use Rattle.tcc_maps.specs.Shape.{Shape, home, lines}
-use Rattle.tcc_maps.specs.Cache.{Cache, dirty_copy, writes_at, is_modified, modified_mask, written_lines}
+use Rattle.tcc_maps.specs.Cache.{Cache, writes_at, modified_mask, written_lines}
 use Rattle.tcc_maps.specs.Spilled.{Spilled, holds, spilled_mask, spilled_words}
-use Rattle.tcc_rules.specs.Sends.{to, to_dirs, when, flush, flushed, write_back, written_back, skip_all, probe_all, abort_written, marks_for}
+use Rattle.tcc_rules.specs.Sends.{skip_all, probe_all, abort_written, marks_for}
 use Rattle.tcc_rules.specs.Commit.{commit_sends, solo_sends, solo_marks, solo_backs, solo_writes_at, is_written, written_mask}
-use Rattle.tcc_rules.specs.CoreDeliver.{grant_sends, is_probed}
-use Rattle.tcc_serial.specs.Count.{Kind, Asks, Grants, AnyGrant, Resolves, Protocol, Any, among, passes}
+use Rattle.tcc_rules.specs.CoreDeliver.{grant_sends}
+use Rattle.tcc_serial.specs.Count.{Kind, Resolves, Protocol, among, passes}
 use Rattle.tcc_serial.proofs.Links.{among-append}
 
 pub among-flat_map_none : (k : Kind) (f : ℕ → List Msg) → ((l : ℕ) → among k (f l) ≡ 0) → (xs : List ℕ) → among k (flat_map f xs) ≡ 0
@@ -58,8 +58,10 @@ resolves-solo_sends sh c sp u d t l = go (nat_lt d sh.dirs) (grind (arith, nat_t
   where
     backs : among (Resolves t) (flat_map (λ l. WriteBack l (spilled_mask sp l) (spilled_words sp l) u ∷ []) (those (λ l. d == home sh l && holds sp l) (lines sh))) ≡ 0
     backs = among-flat_map_none (Resolves t) (λ l. WriteBack l (spilled_mask sp l) (spilled_words sp l) u ∷ []) (λ l. refl) (those (λ l. d == home sh l && holds sp l) (lines sh))
+
     marks : among (Resolves t) (flat_map (λ l. Mark l (written_mask c sp l) u ∷ []) (those (λ l. d == home sh l && is_written c sp l) (lines sh))) ≡ 0
     marks = among-flat_map_none (Resolves t) (λ l. Mark l (written_mask c sp l) u ∷ []) (λ l. refl) (those (λ l. d == home sh l && is_written c sp l) (lines sh))
+
     go : (b : Bool) → b ≡ true → (w : Bool) → among (Resolves t) (if b then (if w then flat_map (λ l. Mark l (written_mask c sp l) u ∷ []) (those (λ l. d == home sh l && is_written c sp l) (lines sh)) ++ Commit u (count_below (λ l. d == home sh l && is_written c sp l) (lines sh)) ∷ [] else Skip u ∷ []) ++ solo_backs sh sp u d else []) ≡ num (u == t)
     go false q w = absurd (cc)
     go true q true = rw (among-append, among-append, backs, marks) (omega arith)

@@ -1,18 +1,18 @@
 -- What is to be shown of a step, by the kind of its event.
-use Rattle.std.specs.Prelude.{ℕ, ◌≡◌, ◌<◌, Bool, true, false, List, [], Option, Some, None, IfSome, nat_lt, if◌then◌else◌}
+use Rattle.std.specs.Prelude.{ℕ, ◌≡◌, ◌<◌, Bool, true, false, [], Option, Some, None, IfSome, nat_lt, if◌then◌else◌}
 use Rattle.std.proofs.Common.{arith, refl}
 use Rattle.std.proofs.lemmas.Bool.Decides.{nat_tests}
 use Rattle.tcc_program.specs.Program.{Program}
 use Rattle.tcc_maps.specs.Nodes.{Node, Core, Dir, Vendor, Event, Exec, Evict, Deliver, Msg, TidReq, TidGrant, LoadReq, Fill, Skip, Probe, ProbeReply, Mark, Commit, Abort, WriteBack, Flush, DataReq, Inv, InvAck}
 use Rattle.tcc_maps.specs.Shape.{Shape}
-use Rattle.tcc_rules.specs.State.{CoreState, DirState, World}
+use Rattle.tcc_rules.specs.State.{World}
 use Rattle.tcc_rules.specs.Links.{in_flight}
 use Rattle.tcc_rules.specs.Attempt.{Out}
 use Rattle.tcc_rules.specs.CoreExec.{core_exec}
 use Rattle.tcc_rules.specs.CoreEvict.{core_evict}
 use Rattle.tcc_rules.specs.CoreDeliver.{core_deliver, from_dir, grant}
 use Rattle.tcc_rules.specs.DirDeliver.{Answer, Waits, Drops, Asks, Takes, dir_deliver}
-use Rattle.tcc_rules.specs.Step.{Stepped, core_moves, core_takes, dir_takes, dir_asks, vendor_gives, step, moved, taken, answered, granted, delivered, if_in_flight}
+use Rattle.tcc_rules.specs.Step.{Stepped, core_moves, core_takes, dir_takes, dir_asks, vendor_gives, step, moved, taken, answered, delivered, if_in_flight}
 use Rattle.tcc_serial.proofs.PairFrames.{given}
 
 -- R holds of what an answer makes of the world
@@ -74,6 +74,7 @@ step_cases sh p w (Deliver src dst k) R ex ev gr fr di ve = go src dst (in_fligh
     vendor_core c (DataReq l) q = tt
     vendor_core c (Inv l m t) q = tt
     vendor_core c (InvAck l b) q = tt
+
     core_vendor : (c : ℕ) (m : Msg) → in_flight w.net (Core c) Vendor k ≡ Some m → IfSome (delivered sh w (Core c) Vendor k m) R
     core_vendor c TidReq q = ve c k q
     core_vendor c (TidGrant t) q = tt
@@ -90,6 +91,7 @@ step_cases sh p w (Deliver src dst k) R ex ev gr fr di ve = go src dst (in_fligh
     core_vendor c (DataReq l) q = tt
     core_vendor c (Inv l m t) q = tt
     core_vendor c (InvAck l b) q = tt
+
     go : (src dst : Node) (x : Option Msg) → in_flight w.net src dst k ≡ x → IfSome (if_in_flight sh w src dst k x) R
     go src dst None q = tt
     go (Core c) (Core e) (Some m) q = tt

@@ -1,21 +1,22 @@
 -- How many messages of a kind are in flight on a link.
-use Rattle.std.specs.Prelude.{ℕ, zero, suc, ◌+◌, Bool, true, false, List, [], ◌∷◌, ◌==◌, not, ◌%◌, ◌&&◌, Option, Some, None, nat_lt}
+use Rattle.std.specs.Prelude.{ℕ, ◌+◌, Bool, true, false, List, [], ◌∷◌, ◌==◌, not, ◌%◌, Option, Some, None, nat_lt}
 use Rattle.tcc_maps.specs.Words.{num}
 use Rattle.tcc_maps.specs.Nodes.{Msg, TidReq, TidGrant, LoadReq, Fill, Skip, Probe, ProbeReply, Mark, Commit, Abort, WriteBack, Flush, DataReq, Inv, InvAck}
 
 -- what a message may be
 pub data Kind : Type 0 where
-  Asks : Kind                          -- a request for a TID
-  Grants : (tid : ℕ) → Kind            -- a grant of this TID
+  Asks : Kind  -- a request for a TID
+  Grants : (tid : ℕ) → Kind  -- a grant of this TID
   AnyGrant : Kind
-  Resolves : (tid : ℕ) → Kind          -- Skip, Abort or Commit of this TID
+  Resolves : (tid : ℕ) → Kind  -- Skip, Abort or Commit of this TID
+  AnyResolve : Kind
   Invs : Kind
-  InvsNot : (tid : ℕ) → Kind           -- an Inv that carries another TID
-  InvsAway : (dirs dir : ℕ) → Kind     -- an Inv of a line that is at home elsewhere
+  InvsNot : (tid : ℕ) → Kind  -- an Inv that carries another TID
+  InvsAway : (dirs dir : ℕ) → Kind  -- an Inv of a line that is at home elsewhere
   Acks : Kind
   Marks : (tid : ℕ) → Kind
-  MarksAway : (dirs dir : ℕ) → Kind    -- a Mark of a line that is at home elsewhere
-  Protocol : Kind                      -- all but requests for lines and their words
+  MarksAway : (dirs dir : ℕ) → Kind  -- a Mark of a line that is at home elsewhere
+  Protocol : Kind  -- all but requests for lines and their words
   Any : Kind
   Probes : (tid : ℕ) → Kind
   Replies : (tid : ℕ) → Kind
@@ -32,6 +33,10 @@ passes (Resolves t) (Skip u) = u == t
 passes (Resolves t) (Abort u) = u == t
 passes (Resolves t) (Commit u n) = u == t
 passes (Resolves t) _ = false
+passes AnyResolve (Skip u) = true
+passes AnyResolve (Abort u) = true
+passes AnyResolve (Commit u n) = true
+passes AnyResolve _ = false
 passes Invs (Inv l m u) = true
 passes Invs _ = false
 passes (InvsNot t) (Inv l m u) = not (u == t)

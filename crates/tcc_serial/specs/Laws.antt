@@ -1,13 +1,15 @@
 -- What is proved of every run: for every shape, program, start and list of events that is a run.
-use Rattle.std.specs.Prelude.{ℕ, ◌≡◌, ◌<◌, List, IfSome, false}
+use Rattle.std.specs.Prelude.{ℕ, ◌≡◌, ◌<◌, List, IfSome, true, false}
 use Rattle.tcc_program.specs.Program.{Local, Program}
-use Rattle.tcc_maps.specs.Nodes.{Node, Core, Dir, Vendor, Event}
-use Rattle.tcc_maps.specs.Shape.{Shape}
+use Rattle.tcc_maps.specs.Nodes.{Core, Dir, Vendor, Event}
+use Rattle.tcc_maps.specs.Shape.{Shape, home}
+use Rattle.tcc_maps.specs.Lines.{has_mark}
 use Rattle.tcc_maps.specs.Cache.{writes_at}
 use Rattle.tcc_rules.specs.State.{World, start}
 use Rattle.tcc_rules.specs.Step.{run}
-use Rattle.tcc_serial.specs.Count.{Grants, Resolves, live}
+use Rattle.tcc_serial.specs.Count.{Grants, Resolves, InvsNot, InvsAway, live}
 use Rattle.tcc_serial.specs.Pairs.{pair}
+use Rattle.tcc_serial.specs.Owed.{OwedAt}
 use Rattle.tcc_serial.specs.Tids.{opens, ResolvedAt, RequestOf}
 
 -- P holds of every state that a run reaches
@@ -33,3 +35,11 @@ pub record Passed (sh : Shape) (w : World) (d t : ℕ) : Type 0 where
 -- Serving never passes a TID that wasn't granted, that is open or that is committing.
 abbrev pub NeverPasses : Shape → World → Type 0
 NeverPasses sh w = (d t : ℕ) → d < sh.dirs → t < (w.dirs d).serving.serving → Passed sh w d t
+
+-- What a directory is owed is what is in flight: its invalidations, and acknowledgements to it. The invalidations carry the
+-- served TID, and lines that are at home there.
+pub record OwedInFlight (sh : Shape) (w : World) : Type 0 where
+  pub owed : (d : ℕ) → OwedAt sh w d
+  pub served : (c d : ℕ) → live (InvsNot (w.dirs d).serving.serving) (w.net (Dir d) (Core c)) ≡ 0
+  pub at_home : (c d : ℕ) → live (InvsAway sh.dirs d) (w.net (Dir d) (Core c)) ≡ 0
+  pub marked_at_home : (d l : ℕ) → has_mark (w.dirs d).lines l ≡ true → home sh l ≡ d

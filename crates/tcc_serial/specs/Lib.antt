@@ -1,5 +1,6 @@
 pub mod Count
 pub mod Insertion
+pub mod Kept
 pub mod Laws
 pub mod Owed
 pub mod Pairs

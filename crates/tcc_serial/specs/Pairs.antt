@@ -1,7 +1,7 @@
 -- The world as one core and one directory see it: their states, the links between them and to the vendor, and the next TID.
 -- Every event changes few of these pairs, and each invariant speaks of one pair or is a sum over the cores.
-use Rattle.std.specs.Prelude.{ℕ, ◌+◌, List, [], ◌∷◌, ◌++◌, set, Option, None}
-use Rattle.tcc_maps.specs.Nodes.{Node, Core, Dir, Vendor, Msg, TidGrant}
+use Rattle.std.specs.Prelude.{ℕ, ◌+◌, List, [], ◌∷◌, ◌++◌, set, None}
+use Rattle.tcc_maps.specs.Nodes.{Core, Dir, Vendor, Msg, TidGrant}
 use Rattle.tcc_rules.specs.DirDeliver.{total}
 use Rattle.tcc_rules.specs.State.{CoreState, DirState, World, Link}
 use Rattle.tcc_rules.specs.Links.{sent_all}
@@ -10,10 +10,10 @@ use Rattle.tcc_rules.specs.Attempt.{Out}
 pub record Pair : Type 0 where
   pub core : CoreState
   pub dir : DirState
-  pub out : Link         -- from the core to the directory
-  pub back : Link        -- from the directory to the core
-  pub asks : Link        -- from the core to the vendor
-  pub grants : Link      -- from the vendor to the core
+  pub out : Link  -- from the core to the directory
+  pub back : Link  -- from the directory to the core
+  pub asks : Link  -- from the core to the vendor
+  pub grants : Link  -- from the vendor to the core
   pub next : ℕ
 
 unfoldable pub pair : World → (core dir : ℕ) → Pair

@@ -1,10 +1,10 @@
 -- Where each TID is: not granted yet, on its way to its core, open, on its way to a directory, or handled there.
-use Rattle.std.specs.Prelude.{ℕ, ◌+◌, ◌≡◌, ◌<◌, ◌≤◌, Bool, true, false, ◌==◌, ◌&&◌, ◌||◌, nat_lt, nat_le, Option, Some, None}
+use Rattle.std.specs.Prelude.{ℕ, ◌+◌, ◌≡◌, ◌<◌, ◌≤◌, Bool, true, false, ◌==◌, ◌&&◌, nat_lt, nat_le, Some, None}
 use Rattle.tcc_maps.specs.Words.{num}
 use Rattle.tcc_maps.specs.Serving.{Serving, is_skipped}
 use Rattle.tcc_maps.specs.Shape.{Shape}
 use Rattle.tcc_maps.specs.Cache.{writes_at}
-use Rattle.tcc_rules.specs.State.{Phase, Running, AwaitTid, DoomedTid, Probing, Ready, Overflowing, Solo, Halted, DirState, World}
+use Rattle.tcc_rules.specs.State.{Phase, AwaitTid, DoomedTid, Probing, Ready, Overflowing, Solo, World}
 use Rattle.tcc_serial.specs.Count.{Asks, Grants, AnyGrant, Resolves, Any, live}
 use Rattle.tcc_serial.specs.Pairs.{Pair, pair, sum_of}
 
@@ -57,7 +57,7 @@ pub record InsideOf (sh : Shape) (c : ℕ) (v : Pair) : Type 0 where
   pub owners : (l o : ℕ) → v.dir.lines.owner l ≡ Some o → o < sh.cores
 
 -- What every state that a run reaches satisfies.
-pub record Kept (sh : Shape) (w : World) : Type 0 where
+pub record KeptTids (sh : Shape) (w : World) : Type 0 where
   pub inside : (c d : ℕ) → InsideOf sh c (pair w c d)
   pub requests : (c d : ℕ) → RequestOf (pair w c d)
   pub resolved : (d t : ℕ) → d < sh.dirs → ResolvedAt sh w d t

@@ -7,7 +7,7 @@ ghost use Rattle.tcc_program.specs.Program.{Local, Program};
 ghost use Rattle.tcc_program.specs.Plain.{steps, begun, Plain, Attempt, Order, serial};
 ghost use Rattle.tcc_serial.specs.Uses.{Aligned, IsMemory, AgreeOnUsed, Follows};
 ghost use Rattle.tcc_serial.specs.Insertion.{CanInsert, Inserted};
-ghost use Rattle.tcc_serial.specs.Laws.{Always, OneWay, OneRequest, NeverPasses};
+ghost use Rattle.tcc_serial.specs.Laws.{Always, OneWay, OneRequest, NeverPasses, OwedInFlight};
 ghost use Rattle.tcc_base.specs.declared.access.Commit.{Commit};
 
 /// Instructions over two memories that agree on the words used give the same.
@@ -26,11 +26,14 @@ pub fn transaction_inserted()
 pub fn tids_are_resolved_in_one_way()
     ensures one_way { Always OneWay }
     ensures one_request { Always OneRequest }
-{
-}
+{}
 
 /// A directory never passes a TID that isn't resolved there.
 pub fn serving_never_passes_an_unresolved_tid()
     ensures never_passes { Always NeverPasses }
-{
-}
+{}
+
+/// What a directory is owed is what is in flight.
+pub fn what_is_owed_is_in_flight()
+    ensures owed { Always OwedInFlight }
+{}
