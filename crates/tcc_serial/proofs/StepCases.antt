@@ -1,5 +1,5 @@
 -- What is to be shown of a step, by the kind of its event.
-use Rattle.std.specs.Prelude.{ℕ, ◌≡◌, ◌<◌, Bool, true, false, [], Option, Some, None, IfSome, nat_lt, if◌then◌else◌}
+use Rattle.std.specs.Prelude.{ℕ, ◌≡◌, ◌<◌, ◌&&◌, Bool, true, false, [], Option, Some, None, IfSome, nat_lt, if◌then◌else◌}
 use Rattle.std.proofs.Common.{arith, refl}
 use Rattle.std.proofs.lemmas.Bool.Decides.{nat_tests}
 use Rattle.tcc_program.specs.Program.{Program}
@@ -12,7 +12,7 @@ use Rattle.tcc_rules.specs.CoreExec.{core_exec}
 use Rattle.tcc_rules.specs.CoreEvict.{core_evict}
 use Rattle.tcc_rules.specs.CoreDeliver.{core_deliver, from_dir, grant}
 use Rattle.tcc_rules.specs.DirDeliver.{Answer, Waits, Drops, Asks, Takes, dir_deliver}
-use Rattle.tcc_rules.specs.Step.{Stepped, core_moves, core_takes, dir_takes, dir_asks, vendor_gives, step, moved, taken, answered, delivered, if_in_flight}
+use Rattle.tcc_rules.specs.Step.{Stepped, core_moves, core_takes, dir_takes, dir_asks, vendor_gives, step, moved, taken, answered, delivered, if_in_flight, happens, names_nodes, is_node}
 use Rattle.tcc_serial.proofs.PairFrames.{given}
 
 -- R holds of what an answer makes of the world
@@ -45,18 +45,19 @@ pub step_cases : (sh : Shape) (p : Program) (w : World) (e : Event) (R : Stepped
     → ((c d k : ℕ) (m : Msg) → in_flight w.net (Core c) (Dir d) k ≡ Some m → OfAnswer w c d k (λ v. R (record { world = v; noted = None })) (dir_deliver sh (w.dirs d) c m))
     → ((c k : ℕ) → in_flight w.net (Core c) Vendor k ≡ Some TidReq → R (record { world = vendor_gives w c k (given w c); noted = None }))
     → IfSome (step sh p w e) R
-unfolding step core_deliver
+unfolding step happens names_nodes core_deliver
 step_cases sh p w (Exec c) R ex ev gr fr di ve = go (nat_lt c sh.cores) refl
   where
     go : (b : Bool) → nat_lt c sh.cores ≡ b → IfSome (if b then moved w c (core_exec sh p c (w.cores c)) else None) R
     go false q = tt
     go true q = step_moved w c R (core_exec sh p c (w.cores c)) (ex c (grind (arith, nat_tests)))
-step_cases sh p w (Evict c x y) R ex ev gr fr di ve = go (nat_lt c sh.cores) refl
+step_cases sh p w (Evict c x y) R ex ev gr fr di ve = go (nat_lt c sh.cores) refl (nat_lt x sh.sets && nat_lt y sh.ways)
   where
-    go : (b : Bool) → nat_lt c sh.cores ≡ b → IfSome (if b then moved w c (core_evict sh x y (w.cores c)) else None) R
-    go false q = tt
-    go true q = step_moved w c R (core_evict sh x y (w.cores c)) (ev c x y (grind (arith, nat_tests)))
-step_cases sh p w (Deliver src dst k) R ex ev gr fr di ve = go src dst (in_flight w.net src dst k) refl
+    go : (b : Bool) → nat_lt c sh.cores ≡ b → (d : Bool) → IfSome (if b && d then moved w c (core_evict sh x y (w.cores c)) else None) R
+    go false q d = tt
+    go true q false = tt
+    go true q true = step_moved w c R (core_evict sh x y (w.cores c)) (ev c x y (grind (arith, nat_tests)))
+step_cases sh p w (Deliver src dst k) R ex ev gr fr di ve = guarded (is_node sh src && is_node sh dst)
   where
     vendor_core : (c : ℕ) (m : Msg) → in_flight w.net Vendor (Core c) k ≡ Some m → IfSome (delivered sh w Vendor (Core c) k m) R
     vendor_core c (TidGrant t) q = gr c k t q
@@ -103,3 +104,6 @@ step_cases sh p w (Deliver src dst k) R ex ev gr fr di ve = go src dst (in_fligh
     go (Core c) Vendor (Some m) q = core_vendor c m q
     go (Dir d) Vendor (Some m) q = tt
     go Vendor Vendor (Some m) q = tt
+    guarded : (b : Bool) → IfSome (if b then if_in_flight sh w src dst k (in_flight w.net src dst k) else None) R
+    guarded false = tt
+    guarded true = go src dst (in_flight w.net src dst k) refl
