@@ -14,6 +14,9 @@ pub mod CoreSteps
 pub mod Inside
 pub mod CoreTids
 pub mod DirTids
+pub mod CoreProbes
+pub mod DirProbes
+pub mod ProbeSteps
 pub mod Sent
 pub mod StepCases
 pub mod Executes

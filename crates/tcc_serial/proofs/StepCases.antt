@@ -104,6 +104,7 @@ step_cases sh p w (Deliver src dst k) R ex ev gr fr di ve = guarded (is_node sh 
     go (Core c) Vendor (Some m) q = core_vendor c m q
     go (Dir d) Vendor (Some m) q = tt
     go Vendor Vendor (Some m) q = tt
+
     guarded : (b : Bool) → IfSome (if b then if_in_flight sh w src dst k (in_flight w.net src dst k) else None) R
     guarded false = tt
     guarded true = go src dst (in_flight w.net src dst k) refl

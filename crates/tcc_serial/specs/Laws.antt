@@ -1,15 +1,16 @@
 -- What is proved of every run: for every shape, program, start and list of events that is a run.
-use Rattle.std.specs.Prelude.{ℕ, ◌≡◌, ◌<◌, List, IfSome, true, false}
+use Rattle.std.specs.Prelude.{ℕ, ◌≡◌, ◌<◌, List, IfSome, true, false, ◌≤◌, ◌||◌}
 use Rattle.tcc_program.specs.Program.{Local, Program}
 use Rattle.tcc_maps.specs.Nodes.{Core, Dir, Vendor, Event}
 use Rattle.tcc_maps.specs.Shape.{Shape, home}
 use Rattle.tcc_maps.specs.Lines.{has_mark}
-use Rattle.tcc_maps.specs.Cache.{writes_at}
+use Rattle.tcc_maps.specs.Cache.{writes_at, reads_at}
 use Rattle.tcc_rules.specs.State.{World, start}
 use Rattle.tcc_rules.specs.Step.{run}
 use Rattle.tcc_serial.specs.Count.{Grants, Resolves, InvsNot, InvsAway, live}
 use Rattle.tcc_serial.specs.Pairs.{pair}
 use Rattle.tcc_serial.specs.Owed.{OwedAt}
+use Rattle.tcc_serial.specs.Probes.{tid_of, asks_dir, may_commit}
 use Rattle.tcc_serial.specs.Tids.{opens, ResolvedAt, RequestOf}
 
 -- P holds of every state that a run reaches
@@ -43,3 +44,10 @@ pub record OwedInFlight (sh : Shape) (w : World) : Type 0 where
   pub served : (c d : ℕ) → live (InvsNot (w.dirs d).serving.serving) (w.net (Dir d) (Core c)) ≡ 0
   pub at_home : (c d : ℕ) → live (InvsAway sh.dirs d) (w.net (Dir d) (Core c)) ≡ 0
   pub marked_at_home : (d l : ℕ) → has_mark (w.dirs d).lines l ≡ true → home sh l ≡ d
+
+-- A directory that was asked and owes a core no reply serves the core's TID or a later one, and just this TID where it is open
+-- there: where the core writes, and everywhere for one that overflowed. None owes a reply to a core that may commit.
+pub record Served (sh : Shape) (w : World) : Type 0 where
+  pub reached : (c d : ℕ) → c < sh.cores → d < sh.dirs → asks_dir (w.cores c).phase (writes_at sh (w.cores c).cache d || reads_at sh (w.cores c).cache d) ≡ true → (w.cores c).owing d ≡ false → tid_of (w.cores c).phase ≤ (w.dirs d).serving.serving
+  pub serves : (c d t : ℕ) → c < sh.cores → d < sh.dirs → opens (w.cores c).phase (writes_at sh (w.cores c).cache d) t ≡ true → (w.cores c).owing d ≡ false → (w.dirs d).serving.serving ≡ t
+  pub replied : (c d : ℕ) → c < sh.cores → d < sh.dirs → may_commit (w.cores c).phase ≡ true → (w.cores c).owing d ≡ false

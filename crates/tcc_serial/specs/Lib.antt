@@ -4,5 +4,6 @@ pub mod Kept
 pub mod Laws
 pub mod Owed
 pub mod Pairs
+pub mod Probes
 pub mod Tids
 pub mod Uses

@@ -7,7 +7,7 @@ ghost use Rattle.tcc_program.specs.Program.{Local, Program};
 ghost use Rattle.tcc_program.specs.Plain.{steps, begun, Plain, Attempt, Order, serial};
 ghost use Rattle.tcc_serial.specs.Uses.{Aligned, IsMemory, AgreeOnUsed, Follows};
 ghost use Rattle.tcc_serial.specs.Insertion.{CanInsert, Inserted};
-ghost use Rattle.tcc_serial.specs.Laws.{Always, OneWay, OneRequest, NeverPasses, OwedInFlight};
+ghost use Rattle.tcc_serial.specs.Laws.{Always, OneWay, OneRequest, NeverPasses, OwedInFlight, Served};
 ghost use Rattle.tcc_base.specs.declared.access.Commit.{Commit};
 
 /// Instructions over two memories that agree on the words used give the same.
@@ -36,4 +36,9 @@ pub fn serving_never_passes_an_unresolved_tid()
 /// What a directory is owed is what is in flight.
 pub fn what_is_owed_is_in_flight()
     ensures owed { Always OwedInFlight }
+{}
+
+/// A directory that has replied serves the core's TID, and a core that may commit is served by every directory where it writes.
+pub fn directories_that_replied_serve_the_tid()
+    ensures served { Always Served }
 {}
