@@ -36,19 +36,19 @@ use Rattle.tcc_serial.proofs.ProbeSteps.{move-probes, grant-probes, backs-probes
 use Rattle.tcc_serial.proofs.Inside.{AnswersInside, dir-inside}
 
 -- the core that a message comes from or goes to is one of the machine
-core_of_grant : (sh : Shape) (w : World) (c k : ℕ) (m : Msg) → KeptTids sh w → in_flight w.net Vendor (Core c) k ≡ Some m → c < sh.cores
+pub core_of_grant : (sh : Shape) (w : World) (c k : ℕ) (m : Msg) → KeptTids sh w → in_flight w.net Vendor (Core c) k ≡ Some m → c < sh.cores
 unfolding pair
 core_of_grant sh w c k m h i = inside_from sh c (live Any (w.net Vendor (Core c))) ((h.inside c 0).grants) (any-one (w.net Vendor (Core c)) k m i)
 
-core_of_back : (sh : Shape) (w : World) (c d k : ℕ) (m : Msg) → KeptTids sh w → in_flight w.net (Dir d) (Core c) k ≡ Some m → c < sh.cores
+pub core_of_back : (sh : Shape) (w : World) (c d k : ℕ) (m : Msg) → KeptTids sh w → in_flight w.net (Dir d) (Core c) k ≡ Some m → c < sh.cores
 unfolding pair
 core_of_back sh w c d k m h i = inside_from sh c (live Any (w.net (Dir d) (Core c))) ((h.inside c d).back) (any-one (w.net (Dir d) (Core c)) k m i)
 
-core_of_out : (sh : Shape) (w : World) (c d k : ℕ) (m : Msg) → KeptTids sh w → in_flight w.net (Core c) (Dir d) k ≡ Some m → c < sh.cores
+pub core_of_out : (sh : Shape) (w : World) (c d k : ℕ) (m : Msg) → KeptTids sh w → in_flight w.net (Core c) (Dir d) k ≡ Some m → c < sh.cores
 unfolding pair
 core_of_out sh w c d k m h i = inside_from sh c (live Any (w.net (Core c) (Dir d))) ((h.inside c d).out) (any-one (w.net (Core c) (Dir d)) k m i)
 
-core_of_ask : (sh : Shape) (w : World) (c k : ℕ) (m : Msg) → KeptTids sh w → in_flight w.net (Core c) Vendor k ≡ Some m → c < sh.cores
+pub core_of_ask : (sh : Shape) (w : World) (c k : ℕ) (m : Msg) → KeptTids sh w → in_flight w.net (Core c) Vendor k ≡ Some m → c < sh.cores
 unfolding pair
 core_of_ask sh w c k m h i = inside_from sh c (live Any (w.net (Core c) Vendor)) ((h.inside c 0).asks) (any-one (w.net (Core c) Vendor) k m i)
 
@@ -94,7 +94,7 @@ answers sh w c d k m h i (Takes s sends) n q u =
 
 step-told : (sh : Shape) (p : Program) (w : World) (e : Event) → KeptTold sh w → IfSome (step sh p w e) (λ o. KeptTold sh o.world)
 unfolding pair
-step-told sh p w e h = step_cases sh p w e (λ o. KeptTold sh o.world)
+step-told sh p w e h = step_cases sh p w e (λ g o. KeptTold sh o.world)
     (λ c l. moves sh w c h l (core_exec sh p c (w.cores c)) (requests-exec sh p c (w.cores c)) (λ d t x. part-exec sh p c d t (w.cores c) x) (clean-exec sh p c (w.cores c)))
     (λ c x y l. moves sh w c h l (core_evict sh x y (w.cores c)) (requests-evict sh x y (w.cores c)) (λ d t z. part-evict sh x y d t (w.cores c)) (clean-evict sh x y (w.cores c)))
     (λ c k t i. record { tids = grant-kept sh w c k t h.tids i; owed = grant-owed sh w c k (grant sh t (w.cores c)) h.owed (core_of_grant sh w c k (TidGrant t) h.tids i) (clean-grant sh t (w.cores c)) })
@@ -105,7 +105,7 @@ step-told sh p w e h = step_cases sh p w e (λ o. KeptTold sh o.world)
 
 step-probes : (sh : Shape) (p : Program) (w : World) (e : Event) → KeptProbes sh w → IfSome (step sh p w e) (λ o. KeptProbes sh o.world)
 unfolding pair
-step-probes sh p w e h = step_cases sh p w e (λ o. KeptProbes sh o.world)
+step-probes sh p w e h = step_cases sh p w e (λ g o. KeptProbes sh o.world)
     (λ c l. moved c (core_exec sh p c (w.cores c)) (λ d. asked-exec sh p c d (w.dirs d).serving.serving (w.cores c) ((h c d).core)))
     (λ c x y l. moved c (core_evict sh x y (w.cores c)) (λ d. asked-evict sh x y d (w.dirs d).serving.serving (w.cores c) ((h c d).core)))
     (λ c k t i. grant-probes sh w c k (grant sh t (w.cores c)) h (λ d. asked-grant sh t d (w.dirs d).serving.serving (w.cores c) ((h c d).core)))
@@ -140,6 +140,9 @@ run_from-kept sh p (e ∷ es) h k = go (step sh p h.world e) (step-kept sh p h.w
     go None q f = tt
     go (Some o) q f = f (record { world = o.world; commits = and_noted o.noted h.commits }) q
 
+pub start-all : (sh : Shape) (entries : ℕ → Local) (ram : ℕ → ℕ) → Kept sh (start entries ram)
+start-all sh entries ram = record { told = record { tids = start-kept sh entries ram; owed = start-owed sh entries ram }; probes = start-probes sh entries ram }
+
 pub run-kept : (sh : Shape) (p : Program) (entries : ℕ → Local) (ram : ℕ → ℕ) (es : List Event) → IfSome (run sh p (start entries ram) es) (λ r. Kept sh r.world)
 unfolding run
-run-kept sh p entries ram es = run_from-kept sh p es (record { world = start entries ram; commits = [] }) (record { told = record { tids = start-kept sh entries ram; owed = start-owed sh entries ram }; probes = start-probes sh entries ram })
+run-kept sh p entries ram es = run_from-kept sh p es (record { world = start entries ram; commits = [] }) (start-all sh entries ram)

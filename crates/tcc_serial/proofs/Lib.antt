@@ -17,6 +17,9 @@ pub mod DirTids
 pub mod CoreProbes
 pub mod DirProbes
 pub mod ProbeSteps
+pub mod CoreOwners
+pub mod Commits
+pub mod OwnerSteps
 pub mod Sent
 pub mod StepCases
 pub mod Executes

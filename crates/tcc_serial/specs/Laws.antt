@@ -1,5 +1,5 @@
 -- What is proved of every run: for every shape, program, start and list of events that is a run.
-use Rattle.std.specs.Prelude.{ℕ, ◌≡◌, ◌<◌, List, IfSome, true, false, ◌≤◌, ◌||◌}
+use Rattle.std.specs.Prelude.{ℕ, ◌≡◌, ◌<◌, List, [], IfSome, true, false, ◌≤◌, ◌||◌}
 use Rattle.tcc_program.specs.Program.{Local, Program}
 use Rattle.tcc_maps.specs.Nodes.{Core, Dir, Vendor, Event}
 use Rattle.tcc_maps.specs.Shape.{Shape, home}
@@ -9,6 +9,7 @@ use Rattle.tcc_rules.specs.State.{World, start}
 use Rattle.tcc_rules.specs.Step.{run}
 use Rattle.tcc_serial.specs.Count.{Grants, Resolves, InvsNot, InvsAway, live}
 use Rattle.tcc_serial.specs.Pairs.{pair}
+use Rattle.tcc_serial.specs.Owners.{grants_from, KeptOwners}
 use Rattle.tcc_serial.specs.Owed.{OwedAt}
 use Rattle.tcc_serial.specs.Probes.{tid_of, asks_dir, may_commit}
 use Rattle.tcc_serial.specs.Tids.{opens, ResolvedAt, RequestOf}
@@ -51,3 +52,8 @@ pub record Served (sh : Shape) (w : World) : Type 0 where
   pub reached : (c d : ℕ) → c < sh.cores → d < sh.dirs → asks_dir (w.cores c).phase (writes_at sh (w.cores c).cache d || reads_at sh (w.cores c).cache d) ≡ true → (w.cores c).owing d ≡ false → tid_of (w.cores c).phase ≤ (w.dirs d).serving.serving
   pub serves : (c d t : ℕ) → c < sh.cores → d < sh.dirs → opens (w.cores c).phase (writes_at sh (w.cores c).cache d) t ≡ true → (w.cores c).owing d ≡ false → (w.dirs d).serving.serving ≡ t
   pub replied : (c d : ℕ) → c < sh.cores → d < sh.dirs → may_commit (w.cores c).phase ≡ true → (w.cores c).owing d ≡ false
+
+-- Along a run the granted TIDs count from 1, so that each is granted once; each is with one core at most, on its way to a core,
+-- committed once or given up; the TIDs of the commits rise strictly, and each was granted to the core that committed.
+abbrev pub CommitsOnce : Type 0
+CommitsOnce = (sh : Shape) (p : Program) (entries : ℕ → Local) (ram : ℕ → ℕ) (es : List Event) → IfSome (run sh p (start entries ram) es) (λ r. KeptOwners sh (grants_from sh p es (record { world = start entries ram; commits = [] })) r.world r.commits)

@@ -3,6 +3,7 @@ pub mod Insertion
 pub mod Kept
 pub mod Laws
 pub mod Owed
+pub mod Owners
 pub mod Pairs
 pub mod Probes
 pub mod Tids

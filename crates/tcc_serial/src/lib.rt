@@ -7,7 +7,7 @@ ghost use Rattle.tcc_program.specs.Program.{Local, Program};
 ghost use Rattle.tcc_program.specs.Plain.{steps, begun, Plain, Attempt, Order, serial};
 ghost use Rattle.tcc_serial.specs.Uses.{Aligned, IsMemory, AgreeOnUsed, Follows};
 ghost use Rattle.tcc_serial.specs.Insertion.{CanInsert, Inserted};
-ghost use Rattle.tcc_serial.specs.Laws.{Always, OneWay, OneRequest, NeverPasses, OwedInFlight, Served};
+ghost use Rattle.tcc_serial.specs.Laws.{Always, OneWay, OneRequest, NeverPasses, OwedInFlight, Served, CommitsOnce};
 ghost use Rattle.tcc_base.specs.declared.access.Commit.{Commit};
 
 /// Instructions over two memories that agree on the words used give the same.
@@ -41,4 +41,9 @@ pub fn what_is_owed_is_in_flight()
 /// A directory that has replied serves the core's TID, and a core that may commit is served by every directory where it writes.
 pub fn directories_that_replied_serve_the_tid()
     ensures served { Always Served }
+{}
+
+/// Each TID is granted to one core and committed at most once, by this core, and the commits' TIDs rise strictly.
+pub fn each_tid_commits_at_most_once()
+    ensures once { CommitsOnce }
 {}

@@ -1,0 +1,5 @@
+use Rattle.tcc_serial.proofs.OwnerSteps.{run-owners}
+use Rattle.tcc_serial.proofs.each_tid_commits_at_most_once.Goals as goal
+
+pub returns : goal.returns
+returns c = record { once = run-owners }
