@@ -104,7 +104,7 @@ probed-owes sh c d l a o = go (nat_lt d sh.dirs) (grind (arith, nat_tests)) o
     go false q o = cc
 
 -- where a test holds of none below, it doesn't hold of one
-none-below : (p : ℕ → Bool) (n k : ℕ) → k < n → any_below p n ≡ false → p k ≡ false
+pub none-below : (p : ℕ → Bool) (n k : ℕ) → k < n → any_below p n ≡ false → p k ≡ false
 none-below p n k l q = go (p k) refl
   where
     go : (b : Bool) → p k ≡ b → p k ≡ false
@@ -141,7 +141,7 @@ put-here f e d x q = let b : (d == e) ≡ true = grind (arith, nat_tests) in rw 
 put-away : (f : ℕ → Bool) (e d : ℕ) (x : Bool) → (d ≡ e → ⊥) → put f e x d ≡ f d
 put-away f e d x q = let b : (d == e) ≡ false = grind (arith, nat_tests) in rw b refl
 
-all-replied : (sh : Shape) (f : ℕ → Bool) (d : ℕ) → d < sh.dirs → all_replied sh f ≡ true → f d ≡ false
+pub all-replied : (sh : Shape) (f : ℕ → Bool) (d : ℕ) → d < sh.dirs → all_replied sh f ≡ true → f d ≡ false
 all-replied sh f d l q = none-below f sh.dirs d l (go (any_below f sh.dirs) refl)
   where
     go : (b : Bool) → any_below f sh.dirs ≡ b → any_below f sh.dirs ≡ false

@@ -28,7 +28,7 @@ unfolding reads_at
 reads_at-same sh a b d h = ap (λ m. any_below (λ l. d == home sh l && any_word m l) (lines sh)) (λ i v. h v i)
 
 -- an unmarked line has no modified and no read word
-unmarked-word : (c : Cache) (l v : ℕ) → is_marked c l ≡ false → l ≡ line_of v → (c.modified v ≡ false) × (c.read v ≡ false)
+pub unmarked-word : (c : Cache) (l v : ℕ) → is_marked c l ≡ false → l ≡ line_of v → (c.modified v ≡ false) × (c.read v ≡ false)
 unfolding is_marked any_word
 unmarked-word c l v h e = go (c.modified v) (c.read v) refl refl
   where

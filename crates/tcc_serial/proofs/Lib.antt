@@ -20,6 +20,10 @@ pub mod ProbeSteps
 pub mod CoreOwners
 pub mod Commits
 pub mod OwnerSteps
+pub mod WordsKept
+pub mod OneCoreExec
+pub mod OneCoreTakes
+pub mod CoreAlone
 pub mod Sent
 pub mod StepCases
 pub mod Executes

@@ -2,6 +2,7 @@ pub mod Count
 pub mod Insertion
 pub mod Kept
 pub mod Laws
+pub mod OneCore
 pub mod Owed
 pub mod Owners
 pub mod Pairs

@@ -7,6 +7,7 @@ ghost use Rattle.tcc_program.specs.Program.{Local, Program};
 ghost use Rattle.tcc_program.specs.Plain.{steps, begun, Plain, Attempt, Order, serial};
 ghost use Rattle.tcc_serial.specs.Uses.{Aligned, IsMemory, AgreeOnUsed, Follows};
 ghost use Rattle.tcc_serial.specs.Insertion.{CanInsert, Inserted};
+ghost use Rattle.tcc_serial.specs.OneCore.{KeptCores};
 ghost use Rattle.tcc_serial.specs.Laws.{Always, OneWay, OneRequest, NeverPasses, OwedInFlight, Served, CommitsOnce};
 ghost use Rattle.tcc_base.specs.declared.access.Commit.{Commit};
 
@@ -46,4 +47,10 @@ pub fn directories_that_replied_serve_the_tid()
 /// Each TID is granted to one core and committed at most once, by this core, and the commits' TIDs rise strictly.
 pub fn each_tid_commits_at_most_once()
     ensures once { CommitsOnce }
+{}
+
+/// What holds of each core by itself: its cache's two ways of finding a line agree, its modified and spilled words are those that
+/// its stores name, it awaits a line only in a frame of that line, and it is owed replies only while it waits for them.
+pub fn each_core_is_consistent()
+    ensures consistent { Always KeptCores }
 {}
