@@ -24,6 +24,8 @@ pub mod WordsKept
 pub mod OneCoreExec
 pub mod OneCoreTakes
 pub mod CoreAlone
+pub mod CoreCommits
+pub mod CommitSteps
 pub mod Sent
 pub mod StepCases
 pub mod Executes

@@ -10,6 +10,9 @@ pub data Kind : Type 0 where
   AnyGrant : Kind
   Resolves : (tid : ℕ) → Kind  -- Skip, Abort or Commit of this TID
   AnyResolve : Kind
+  Commits : (tid : ℕ) → Kind
+  CommitsAbove : (serving : ℕ) → Kind  -- a Commit of a TID above this one
+  AnyCommit : Kind
   Invs : Kind
   InvsNot : (tid : ℕ) → Kind  -- an Inv that carries another TID
   InvsAway : (dirs dir : ℕ) → Kind  -- an Inv of a line that is at home elsewhere
@@ -37,6 +40,12 @@ passes AnyResolve (Skip u) = true
 passes AnyResolve (Abort u) = true
 passes AnyResolve (Commit u n) = true
 passes AnyResolve _ = false
+passes (Commits t) (Commit u n) = u == t
+passes (Commits t) _ = false
+passes (CommitsAbove s) (Commit u n) = nat_lt s u
+passes (CommitsAbove s) _ = false
+passes AnyCommit (Commit u n) = true
+passes AnyCommit _ = false
 passes Invs (Inv l m u) = true
 passes Invs _ = false
 passes (InvsNot t) (Inv l m u) = not (u == t)

@@ -8,6 +8,7 @@ ghost use Rattle.tcc_program.specs.Plain.{steps, begun, Plain, Attempt, Order, s
 ghost use Rattle.tcc_serial.specs.Uses.{Aligned, IsMemory, AgreeOnUsed, Follows};
 ghost use Rattle.tcc_serial.specs.Insertion.{CanInsert, Inserted};
 ghost use Rattle.tcc_serial.specs.OneCore.{KeptCores};
+ghost use Rattle.tcc_serial.specs.Committing.{CommitsAreServed};
 ghost use Rattle.tcc_serial.specs.Laws.{Always, OneWay, OneRequest, NeverPasses, OwedInFlight, Served, CommitsOnce};
 ghost use Rattle.tcc_base.specs.declared.access.Commit.{Commit};
 
@@ -53,4 +54,9 @@ pub fn each_tid_commits_at_most_once()
 /// its stores name, it awaits a line only in a frame of that line, and it is owed replies only while it waits for them.
 pub fn each_core_is_consistent()
     ensures consistent { Always KeptCores }
+{}
+
+/// A Commit in flight to a directory is of the TID that this directory serves.
+pub fn commits_are_of_the_served_tid()
+    ensures served { Always CommitsAreServed }
 {}
