@@ -1,30 +1,29 @@
 -- Every event keeps that a Commit in flight is of the served TID, and so does every run.
-use Rattle.std.specs.Prelude.{ℕ, ◌+◌, ◌≡◌, ◌<◌, ◌≤◌, ◌==◌, ◌&&◌, Bool, true, false, List, [], ◌∷◌, ◌++◌, Option, Some, None, IfSome, nat_lt, slice_index_or}
-use Rattle.std.proofs.Common.{arith, refl, sym, ap, ◌∙◌, ◌⊎◌, inl, inr}
+use Rattle.std.specs.Prelude.{ℕ, ◌≡◌, ◌<◌, ◌≤◌, List, [], ◌∷◌, Option, Some, None, IfSome, nat_lt, slice_index_or}
+use Rattle.std.proofs.Common.{arith, refl, ◌⊎◌, inl, inr}
 use Rattle.std.proofs.lemmas.Bool.{cases_order}
 use Rattle.std.proofs.lemmas.Bool.Decides.{nat_tests}
 use Rattle.tcc_program.specs.Program.{Program, Local}
 use Rattle.tcc_maps.specs.Words.{num}
-use Rattle.tcc_maps.specs.Nodes.{Node, Core, Dir, Vendor, Event, Msg, TidReq, TidGrant, LoadReq, Fill, Skip, Probe, ProbeReply, Mark, Commit, Abort, WriteBack, Flush, DataReq, Inv, InvAck}
+use Rattle.tcc_maps.specs.Nodes.{Core, Dir, Event, Msg}
 use Rattle.tcc_maps.specs.Shape.{Shape}
-use Rattle.tcc_rules.specs.State.{CoreState, DirState, World, Link, start}
-use Rattle.tcc_rules.specs.Links.{in_flight, sent_all}
+use Rattle.tcc_rules.specs.State.{DirState, World, Link, start}
+use Rattle.tcc_rules.specs.Links.{in_flight}
 use Rattle.tcc_rules.specs.Sends.{Sends}
 use Rattle.tcc_rules.specs.Attempt.{Out}
 use Rattle.tcc_rules.specs.CoreExec.{core_exec}
 use Rattle.tcc_rules.specs.CoreEvict.{core_evict}
 use Rattle.tcc_rules.specs.CoreDeliver.{from_dir, grant}
 use Rattle.tcc_rules.specs.DirDeliver.{Answer, Waits, Drops, Asks, Takes, dir_deliver}
-use Rattle.tcc_rules.specs.Step.{core_moves, core_takes, dir_takes, dir_asks, Stepped, step, History, and_noted, recorded, next, and_then, run_from, run}
+use Rattle.tcc_rules.specs.Step.{core_moves, core_takes, dir_takes, Stepped, step, History, and_noted, recorded, next, and_then, run_from, run}
 use Rattle.tcc_serial.specs.Count.{Resolves, Commits, CommitsAbove, live, passes}
 use Rattle.tcc_serial.specs.Pairs.{Pair, pair, after_move, grant_taken, back_taken, after_answer, out_taken, share}
 use Rattle.tcc_serial.specs.Tids.{part, handled}
-use Rattle.tcc_serial.specs.Probes.{ReachedOf}
 use Rattle.tcc_serial.specs.Kept.{Kept}
 use Rattle.tcc_serial.specs.Laws.{Always}
 use Rattle.tcc_serial.specs.Committing.{CommittingOf, KeptCommitting, CommitsAreServed}
 use Rattle.tcc_serial.proofs.Links.{live-sends, live-takes, total-le}
-use Rattle.tcc_serial.proofs.PairFrames.{given, pairs_move, pairs_grant, pairs_back, pairs_dir, pairs_asks, pairs_vendor}
+use Rattle.tcc_serial.proofs.PairFrames.{pairs_move, pairs_grant, pairs_back, pairs_dir, pairs_asks, pairs_vendor}
 use Rattle.tcc_serial.proofs.StepCases.{OfAnswer, step_cases}
 use Rattle.tcc_serial.proofs.DirProbes.{Rises, RisesBy, dir-rises, rises-still}
 use Rattle.tcc_serial.proofs.CoreCommits.{Served, served-exec, served-evict, served-grant, served-back, fewer-above}
@@ -39,7 +38,7 @@ committing-answered v s sends ms u h = omega (arith, fewer-above v.dir.serving.s
 committing-taken : (v : Pair) (k : ℕ) (m : Msg) (s : DirState) (sends : Sends) (ms : List Msg) → slice_index_or v.out k None ≡ Some m → Rises v.dir s sends → CommittingOf v → CommittingOf (after_answer (out_taken v k) s ms)
 committing-taken v k m s sends ms i u h = omega (arith, fewer-above v.dir.serving.serving s.serving.serving v.out (u.rises), live-takes (CommitsAbove s.serving.serving) v.out k m i)
 
-step-committing : (sh : Shape) (p : Program) (w : World) (e : Event) → Kept sh w → KeptCommitting w → IfSome (step sh p w e) (λ o. KeptCommitting o.world)
+pub step-committing : (sh : Shape) (p : Program) (w : World) (e : Event) → Kept sh w → KeptCommitting w → IfSome (step sh p w e) (λ o. KeptCommitting o.world)
 unfolding pair
 step-committing sh p w e z h = step_cases sh p w e (λ g o. KeptCommitting o.world)
     (λ c l. moved c (core_exec sh p c (w.cores c)) (λ d. served-exec sh p c d (w.dirs d).serving.serving (w.cores c) ((z.probes c d).core)))
@@ -69,7 +68,7 @@ step-committing sh p w e z h = step_cases sh p w e (λ g o. KeptCommitting o.wor
     answered c d k m i (Asks s sends) u = pairs_asks P w d s sends (λ j. committing-answered (pair w j d) s sends (sends (Core j)) u (h j d)) h
     answered c d k m i (Takes s sends) u = dir c d k m s sends i u
 
-start-committing : (entries : ℕ → Local) (ram : ℕ → ℕ) → KeptCommitting (start entries ram)
+pub start-committing : (entries : ℕ → Local) (ram : ℕ → ℕ) → KeptCommitting (start entries ram)
 unfolding start pair live
 start-committing entries ram c d = refl
 

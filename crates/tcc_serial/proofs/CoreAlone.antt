@@ -29,7 +29,7 @@ put_one sh w c s k h j = go (j == c)
     go true = h
     go false = k j
 
-step-cores : (sh : Shape) (p : Program) (w : World) (e : Event) → KeptCores sh w → IfSome (step sh p w e) (λ o. KeptCores sh o.world)
+pub step-cores : (sh : Shape) (p : Program) (w : World) (e : Event) → KeptCores sh w → IfSome (step sh p w e) (λ o. KeptCores sh o.world)
 unfolding core_moves core_takes dir_takes dir_asks vendor_gives
 step-cores sh p w e k = step_cases sh p w e (λ g o. KeptCores sh o.world)
     (λ c l. moved c (core_exec sh p c (w.cores c)) (exec_one sh p c (w.cores c) (k c)))
@@ -53,7 +53,7 @@ step-cores sh p w e k = step_cases sh p w e (λ g o. KeptCores sh o.world)
     answered c d i (Asks s sends) = k
     answered c d i (Takes s sends) = k
 
-start-cores : (sh : Shape) (entries : ℕ → Local) (ram : ℕ → ℕ) → KeptCores sh (start entries ram)
+pub start-cores : (sh : Shape) (entries : ℕ → Local) (ram : ℕ → ℕ) → KeptCores sh (start entries ram)
 unfolding start core_start empty_cache none_spilled
 start-cores sh entries ram c = record {
   words = words-none sh false empty_cache none_spilled (empty-keeps sh) (λ w. refl) (λ w. refl) (λ w. refl);

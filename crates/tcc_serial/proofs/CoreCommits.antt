@@ -1,23 +1,23 @@
 -- A core sends a Commit only to directories that have reached its TID.
-use Rattle.std.specs.Prelude.{ℕ, ◌+◌, ◌≡◌, ◌<◌, ◌≤◌, Bool, true, false, not, List, [], ◌∷◌, ◌++◌, ◌==◌, ◌&&◌, ◌||◌, Option, Some, None, IfSome, nat_lt, if◌then◌else◌}
+use Rattle.std.specs.Prelude.{ℕ, ◌≡◌, ◌<◌, ◌≤◌, Bool, true, false, List, [], ◌∷◌, ◌++◌, ◌==◌, ◌&&◌, Option, Some, None, IfSome, nat_lt, if◌then◌else◌}
 use Rattle.std.specs.List.{flat_map}
-use Rattle.std.proofs.Common.{arith, refl, sym, ap, ◌∙◌, ◌⊎◌, inl, inr}
+use Rattle.std.proofs.Common.{arith, refl}
 use Rattle.std.proofs.lemmas.Bool.Decides.{nat_tests}
 use Rattle.tcc_program.specs.Program.{Program}
 use Rattle.tcc_maps.specs.Words.{num, those, count_below}
-use Rattle.tcc_maps.specs.Nodes.{Node, Core, Dir, Vendor, Msg, TidReq, TidGrant, LoadReq, Fill, Skip, Probe, ProbeReply, Mark, Commit, Abort, WriteBack, Flush, DataReq, Inv, InvAck}
+use Rattle.tcc_maps.specs.Nodes.{Dir, Msg, TidReq, TidGrant, LoadReq, Fill, Skip, Probe, ProbeReply, Mark, Commit, Abort, WriteBack, Flush, DataReq, Inv, InvAck}
 use Rattle.tcc_maps.specs.Shape.{Shape, home, lines}
-use Rattle.tcc_maps.specs.Cache.{Cache, is_modified, modified_mask, written_lines, writes_at, reads_at}
+use Rattle.tcc_maps.specs.Cache.{Cache, is_modified, modified_mask, written_lines, writes_at}
 use Rattle.tcc_maps.specs.Spilled.{Spilled, holds, spilled_mask, spilled_words}
 use Rattle.tcc_rules.specs.State.{CoreState, Awaited, Phase, Running, AwaitTid, DoomedTid, Probing, Ready, Overflowing, Solo, Halted, Link}
-use Rattle.tcc_rules.specs.Sends.{Sends, nothing, to, marks_for, skip_all, probe_all, abort_written}
-use Rattle.tcc_rules.specs.Attempt.{Out, moves}
+use Rattle.tcc_rules.specs.Sends.{to, marks_for, skip_all, probe_all, abort_written}
+use Rattle.tcc_rules.specs.Attempt.{Out}
 use Rattle.tcc_rules.specs.Commit.{commit, commit_sends, solo_sends, solo_marks, solo_backs, solo_writes_at, is_written, written_mask}
 use Rattle.tcc_rules.specs.CoreExec.{core_exec, exec_phase, unless_awaiting}
 use Rattle.tcc_rules.specs.CoreEvict.{core_evict}
 use Rattle.tcc_rules.specs.CoreDeliver.{grant, grant_phase, grant_sends, from_dir, probe_reply, ignored, fill, data_request, invalidate}
-use Rattle.tcc_serial.specs.Count.{Kind, CommitsAbove, AnyCommit, Protocol, among, live, passes}
-use Rattle.tcc_serial.specs.Probes.{tid_of, asks_dir, may_commit, Reached}
+use Rattle.tcc_serial.specs.Count.{CommitsAbove, AnyCommit, Protocol, among, live, passes}
+use Rattle.tcc_serial.specs.Probes.{Reached}
 use Rattle.tcc_serial.proofs.Links.{among-append}
 use Rattle.tcc_serial.proofs.Sent.{among-flat_map_none}
 use Rattle.tcc_serial.proofs.Executes.{Acts, Steady, Executed, Goes_on, Overflows, Asks_tid, Alone, executed}

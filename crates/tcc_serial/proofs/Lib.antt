@@ -26,6 +26,10 @@ pub mod OneCoreTakes
 pub mod CoreAlone
 pub mod CoreCommits
 pub mod CommitSteps
+pub mod CoreProbing
+pub mod DirProbing
+pub mod ProbingSteps
+pub mod AllKept
 pub mod Sent
 pub mod StepCases
 pub mod Executes

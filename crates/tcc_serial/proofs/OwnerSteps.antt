@@ -165,7 +165,7 @@ share-start : (entries : ℕ → Local) (ram : ℕ → ℕ) (t j : ℕ) → shar
 unfolding share holder start core_start pair live has_tid
 share-start entries ram t j = refl
 
-start-owners : (sh : Shape) (entries : ℕ → Local) (ram : ℕ → ℕ) → KeptOwners sh [] (start entries ram) []
+pub start-owners : (sh : Shape) (entries : ℕ → Local) (ram : ℕ → ℕ) → KeptOwners sh [] (start entries ram) []
 unfolding start vendor_start pair core_start live holder has_tid IsNumbered IsRising AreGranted times
 start-owners sh entries ram = record {
   once = λ t. let z = total-zero (share (holder t) (start entries ram) 0) sh.cores (λ j l. share-start entries ram t j) in let b : num (nat_le 1 t) ≤ 1 = grind (arith, nat_tests) in omega arith;
@@ -178,7 +178,7 @@ start-owners sh entries ram = record {
 
 -- every event keeps who has which TID
 
-step-owners : (sh : Shape) (p : Program) (gs : List Grant) (w : World) (cs : List Noted) (e : Event) → KeptTids sh w → KeptOwners sh gs w cs → IfSome (step sh p w e) (λ o. KeptOwners sh (gs ++ granted_by w e) o.world (and_noted o.noted cs))
+pub step-owners : (sh : Shape) (p : Program) (gs : List Grant) (w : World) (cs : List Noted) (e : Event) → KeptTids sh w → KeptOwners sh gs w cs → IfSome (step sh p w e) (λ o. KeptOwners sh (gs ++ granted_by w e) o.world (and_noted o.noted cs))
 step-owners sh p gs w cs e z h = step_cases sh p w e (λ g o. KeptOwners sh (gs ++ g) o.world (and_noted o.noted cs))
     (λ c l. moved c l (core_exec sh p c (w.cores c)) (holder-exec sh p c (w.cores c)))
     (λ c x y l. moved c l (core_evict sh x y (w.cores c)) (holder-evict sh x y c (w.cores c)))

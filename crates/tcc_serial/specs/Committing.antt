@@ -1,6 +1,6 @@
 -- A Commit in flight is of the TID that its directory serves.
 use Rattle.std.specs.Prelude.{ℕ, ◌≡◌, ◌<◌, ◌≤◌}
-use Rattle.tcc_maps.specs.Nodes.{Node, Core, Dir}
+use Rattle.tcc_maps.specs.Nodes.{Core, Dir}
 use Rattle.tcc_maps.specs.Shape.{Shape}
 use Rattle.tcc_rules.specs.State.{World}
 use Rattle.tcc_serial.specs.Count.{Commits, CommitsAbove, live}

@@ -8,5 +8,6 @@ pub mod Owed
 pub mod Owners
 pub mod Pairs
 pub mod Probes
+pub mod Probing
 pub mod Tids
 pub mod Uses

@@ -9,6 +9,7 @@ ghost use Rattle.tcc_serial.specs.Uses.{Aligned, IsMemory, AgreeOnUsed, Follows}
 ghost use Rattle.tcc_serial.specs.Insertion.{CanInsert, Inserted};
 ghost use Rattle.tcc_serial.specs.OneCore.{KeptCores};
 ghost use Rattle.tcc_serial.specs.Committing.{CommitsAreServed};
+ghost use Rattle.tcc_serial.specs.Probing.{OneProbe};
 ghost use Rattle.tcc_serial.specs.Laws.{Always, OneWay, OneRequest, NeverPasses, OwedInFlight, Served, CommitsOnce};
 ghost use Rattle.tcc_base.specs.declared.access.Commit.{Commit};
 
@@ -59,4 +60,9 @@ pub fn each_core_is_consistent()
 /// A Commit in flight to a directory is of the TID that this directory serves.
 pub fn commits_are_of_the_served_tid()
     ensures served { Always CommitsAreServed }
+{}
+
+/// For each directory that owes a core a reply, exactly one probe or reply is in flight between them, and none for another.
+pub fn each_owed_reply_is_on_its_way()
+    ensures one { Always OneProbe }
 {}
