@@ -1,6 +1,6 @@
 -- All invariants together, through every event and along every run.
 use Rattle.std.specs.Prelude.{ℕ, List, [], ◌∷◌, ◌++◌, Option, Some, None, IfSome}
-use Rattle.std.proofs.Common.{refl, sym, append_assoc}
+use Rattle.std.proofs.Common.{arith, refl, sym, append_assoc}
 use Rattle.std.proofs.lemmas.List.{append-nil}
 use Rattle.tcc_program.specs.Program.{Program, Local}
 use Rattle.tcc_maps.specs.Nodes.{Event}
@@ -13,25 +13,26 @@ use Rattle.tcc_serial.specs.Tids.{has_tid}
 use Rattle.tcc_serial.specs.OneCore.{KeptCores}
 use Rattle.tcc_serial.specs.Committing.{KeptCommitting}
 use Rattle.tcc_serial.specs.Probing.{KeptProbing, OneProbe}
-use Rattle.tcc_serial.specs.Owners.{Grant, granted_by, then_grants, grants_from, KeptOwners}
+use Rattle.tcc_serial.specs.Owners.{Grant, granted_by, then_grants, grants_from, KeptOwners, LastGranted}
 use Rattle.tcc_serial.specs.Kept.{Kept, KeptAll}
-use Rattle.tcc_serial.specs.Laws.{Always}
+use Rattle.tcc_serial.specs.Laws.{Always, HoldsLast}
 use Rattle.tcc_serial.proofs.KeptSteps.{step-kept, start-all}
 use Rattle.tcc_serial.proofs.OwnerSteps.{step-owners, start-owners}
 use Rattle.tcc_serial.proofs.CoreAlone.{step-cores, start-cores}
 use Rattle.tcc_serial.proofs.CommitSteps.{step-committing, start-committing}
 use Rattle.tcc_serial.proofs.ProbingSteps.{step-probing}
+use Rattle.tcc_serial.proofs.LastSteps.{step-last}
 
 start-probing : (entries : ℕ → Local) (ram : ℕ → ℕ) → KeptProbing (start entries ram)
 unfolding start core_start pair live has_tid
 start-probing entries ram c d t = record { fresh = λ l. refl; held = λ k. absurd (cc) }
 
 pub step-all : (sh : Shape) (p : Program) (gs : List Grant) (h : History) (e : Event) → KeptAll sh gs h → IfSome (recorded h (step sh p h.world e)) (λ g. KeptAll sh (gs ++ granted_by h.world e) g)
-step-all sh p gs h e k = go (step sh p h.world e) (step-kept sh p h.world e (k.kept)) (step-owners sh p gs h.world h.commits e (k.kept.told.tids) (k.owners)) (step-cores sh p h.world e (k.cores)) (step-committing sh p h.world e (k.kept) (k.committing)) (step-probing sh p gs h.world h.commits e (k.kept) (k.owners) (k.cores) (k.probing))
+step-all sh p gs h e k = go (step sh p h.world e) (step-kept sh p h.world e (k.kept)) (step-owners sh p gs h.world h.commits e (k.kept.told.tids) (k.owners)) (step-cores sh p h.world e (k.cores)) (step-committing sh p h.world e (k.kept) (k.committing)) (step-probing sh p gs h.world h.commits e (k.kept) (k.owners) (k.cores) (k.probing)) (step-last sh p gs h.world h.commits e (k.kept.told.tids) (k.owners) (k.last))
   where
-    go : (x : Option Stepped) → IfSome x (λ o. Kept sh o.world) → IfSome x (λ o. KeptOwners sh (gs ++ granted_by h.world e) o.world (and_noted o.noted h.commits)) → IfSome x (λ o. KeptCores sh o.world) → IfSome x (λ o. KeptCommitting o.world) → IfSome x (λ o. KeptProbing o.world) → IfSome (recorded h x) (λ g. KeptAll sh (gs ++ granted_by h.world e) g)
-    go None a b c d f = tt
-    go (Some o) a b c d f = record { kept = a; owners = b; cores = c; committing = d; probing = f }
+    go : (x : Option Stepped) → IfSome x (λ o. Kept sh o.world) → IfSome x (λ o. KeptOwners sh (gs ++ granted_by h.world e) o.world (and_noted o.noted h.commits)) → IfSome x (λ o. KeptCores sh o.world) → IfSome x (λ o. KeptCommitting o.world) → IfSome x (λ o. KeptProbing o.world) → IfSome x (λ o. LastGranted (gs ++ granted_by h.world e) o.world) → IfSome (recorded h x) (λ g. KeptAll sh (gs ++ granted_by h.world e) g)
+    go None a b c d f l = tt
+    go (Some o) a b c d f l = record { kept = a; owners = b; cores = c; committing = d; probing = f; last = l }
 
 run_from-all : (sh : Shape) (p : Program) (es : List Event) (gs : List Grant) (h : History) → KeptAll sh gs h → IfSome (run_from sh p es h) (λ r. KeptAll sh (gs ++ grants_from sh p es h) r)
 unfolding run_from grants_from next
@@ -50,6 +51,7 @@ run-all sh p entries ram es = run_from-all sh p es [] (record { world = start en
   cores = start-cores sh entries ram;
   committing = start-committing entries ram;
   probing = start-probing entries ram;
+  last = λ c d t u l q. absurd (omega (arith, q.1));
 })
 
 one_probe_from : (sh : Shape) (w : World) → KeptProbing w → OneProbe sh w
@@ -62,3 +64,13 @@ one_probe sh p entries ram es = go (run sh p (start entries ram) es) (run-all sh
     go : (x : Option History) → IfSome x (λ r. KeptAll sh (grants_from sh p es (record { world = start entries ram; commits = [] })) r) → IfSome x (λ r. OneProbe sh r.world)
     go None h = tt
     go (Some r) h = one_probe_from sh r.world (h.probing)
+
+pub last_granted : HoldsLast
+last_granted sh p entries ram es = go (run sh p (start entries ram) es) (run-all sh p entries ram es)
+  where
+    gs : List Grant
+    gs = grants_from sh p es (record { world = start entries ram; commits = [] })
+
+    go : (x : Option History) → IfSome x (λ r. KeptAll sh gs r) → IfSome x (λ r. LastGranted gs r.world)
+    go None h = tt
+    go (Some r) h = h.last

@@ -57,3 +57,21 @@ numbered-at n (suc k) (x ∷ gs) g h l e = omega (arith, numbered-at (n + 1) k g
 -- no TID is below the first
 pub numbered-least : (n : ℕ) (gs : List Grant) (g : Grant) → IsNumbered n gs → Contains gs g → n ≤ g.tid
 numbered-least n gs g h c = numbered-at n c.0 gs g h (c.1) (c.2)
+
+numbered-below : (n k : ℕ) (gs : List Grant) (g : Grant) → IsNumbered n gs → k < length gs → slice_index_or gs k g ≡ g → g.tid < n + length gs
+unfolding IsNumbered
+numbered-below n k [] g h l e = absurd (omega arith)
+numbered-below n zero (x ∷ gs) g h l e = let q : x.tid ≡ g.tid = ap (λ y. y.tid) e in omega (arith, h.0)
+numbered-below n (suc k) (x ∷ gs) g h l e = omega (arith, numbered-below (n + 1) k gs g (h.1) (omega arith) e)
+
+-- each TID is below the next
+pub numbered-most : (n : ℕ) (gs : List Grant) (g : Grant) → IsNumbered n gs → Contains gs g → g.tid < n + length gs
+numbered-most n gs g h c = numbered-below n c.0 gs g h (c.1) (c.2)
+
+-- what a list of one holds
+pub only-one : (g x : Grant) → Contains (g ∷ []) x → g ≡ x
+only-one g x c = go c.0 (c.1) (c.2)
+  where
+    go : (k : ℕ) → k < 1 → slice_index_or (g ∷ []) k x ≡ x → g ≡ x
+    go zero l e = e
+    go (suc k) l e = absurd (omega arith)

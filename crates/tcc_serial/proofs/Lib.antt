@@ -30,6 +30,7 @@ pub mod CoreProbing
 pub mod DirProbing
 pub mod ProbingSteps
 pub mod AllKept
+pub mod LastSteps
 pub mod Sent
 pub mod StepCases
 pub mod Executes

@@ -32,11 +32,11 @@ use Rattle.tcc_serial.proofs.CoreOwners.{KeepsHolder, noted_tid, none, holder-ex
 use Rattle.tcc_serial.proofs.Commits.{times-insert, insert-rising, insert-granted, granted-more, numbered-more, numbered-least}
 
 -- a core's part after its step
-holder-moved : (v : Pair) (o : Out) (d t c : ℕ) → KeepsHolder c none v.core o → holder t (after_move v o d) + noted_tid t o.commit ≤ holder t v
+pub holder-moved : (v : Pair) (o : Out) (d t c : ℕ) → KeepsHolder c none v.core o → holder t (after_move v o d) + noted_tid t o.commit ≤ holder t v
 unfolding holder
 holder-moved v o d t c k = omega (arith, k.holds t)
 
-holder-granted : (v : Pair) (o : Out) (d t c k u : ℕ) → slice_index_or v.grants k None ≡ Some (TidGrant u) → KeepsHolder c (λ t. num (u == t)) v.core o → holder t (after_move (grant_taken v k) o d) + noted_tid t o.commit ≤ holder t v
+pub holder-granted : (v : Pair) (o : Out) (d t c k u : ℕ) → slice_index_or v.grants k None ≡ Some (TidGrant u) → KeepsHolder c (λ t. num (u == t)) v.core o → holder t (after_move (grant_taken v k) o d) + noted_tid t o.commit ≤ holder t v
 unfolding holder passes
 holder-granted v o d t c k u e h = omega (arith, h.holds t, live-takes (Grants t) v.grants k (TidGrant u) e)
 
@@ -132,11 +132,11 @@ asks-owners sh gs w cs e s sends h = same-owners sh gs w (dir_asks w e s sends) 
 
 -- the vendor grants a TID
 
-holder-given : (v : Pair) (k t : ℕ) → holder t (after_grant v k) + 0 ≡ holder t v + num (v.next == t)
+pub holder-given : (v : Pair) (k t : ℕ) → holder t (after_grant v k) + 0 ≡ holder t v + num (v.next == t)
 unfolding holder passes among
 holder-given v k t = omega (arith, live-sends (Grants t) v.grants (TidGrant v.next ∷ []))
 
-holder-next : (v : Pair) (t : ℕ) → holder t (after_other_grant v) ≡ holder t v
+pub holder-next : (v : Pair) (t : ℕ) → holder t (after_other_grant v) ≡ holder t v
 unfolding holder
 holder-next v t = refl
 

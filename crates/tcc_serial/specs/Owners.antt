@@ -67,3 +67,7 @@ pub record KeptOwners (sh : Shape) (gs : List Grant) (w : World) (commits : List
   pub next : w.next ≡ length gs + 1
   pub granted : AreGranted gs commits
   pub rising : IsRising 0 commits
+
+-- A core's TID is the last that was granted to it.
+abbrev pub LastGranted : List Grant → World → Type 0
+LastGranted gs w = (c d t u : ℕ) → 1 ≤ holder t (pair w c d) → Contains gs (record { tid = u; core = c }) → u ≤ t

@@ -10,7 +10,7 @@ ghost use Rattle.tcc_serial.specs.Insertion.{CanInsert, Inserted};
 ghost use Rattle.tcc_serial.specs.OneCore.{KeptCores};
 ghost use Rattle.tcc_serial.specs.Committing.{CommitsAreServed};
 ghost use Rattle.tcc_serial.specs.Probing.{OneProbe};
-ghost use Rattle.tcc_serial.specs.Laws.{Always, OneWay, OneRequest, NeverPasses, OwedInFlight, Served, CommitsOnce};
+ghost use Rattle.tcc_serial.specs.Laws.{Always, OneWay, OneRequest, NeverPasses, OwedInFlight, Served, CommitsOnce, HoldsLast};
 ghost use Rattle.tcc_base.specs.declared.access.Commit.{Commit};
 
 /// Instructions over two memories that agree on the words used give the same.
@@ -49,6 +49,7 @@ pub fn directories_that_replied_serve_the_tid()
 /// Each TID is granted to one core and committed at most once, by this core, and the commits' TIDs rise strictly.
 pub fn each_tid_commits_at_most_once()
     ensures once { CommitsOnce }
+    ensures last { HoldsLast }
 {}
 
 /// What holds of each core by itself: its cache's two ways of finding a line agree, its modified and spilled words are those that
