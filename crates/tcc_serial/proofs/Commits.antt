@@ -1,6 +1,6 @@
 -- A further commit in the list of commits, and a further grant.
 use Rattle.std.specs.Prelude.{ℕ, zero, suc, ◌+◌, ◌≡◌, ◌<◌, ◌≤◌, Bool, true, false, ◌==◌, List, [], ◌∷◌, ◌++◌, length, Contains, slice_index_or, nat_lt, if◌then◌else◌}
-use Rattle.std.proofs.Common.{arith, refl, ap}
+use Rattle.std.proofs.Common.{arith, refl, sym, ap, ◌∙◌}
 use Rattle.std.proofs.lemmas.Bool.Decides.{nat_tests}
 use Rattle.std.proofs.lemmas.List.Elements.{Contains-append_left}
 use Rattle.tcc_base.specs.declared.access.Commit.{Commit as Noted}
@@ -75,3 +75,15 @@ only-one g x c = go c.0 (c.1) (c.2)
     go : (k : ℕ) → k < 1 → slice_index_or (g ∷ []) k x ≡ x → g ≡ x
     go zero l e = e
     go (suc k) l e = absurd (omega arith)
+
+unique-at : (n i j : ℕ) (gs : List Grant) (g h : Grant) → IsNumbered n gs → g.tid ≡ h.tid → i < length gs → slice_index_or gs i g ≡ g → j < length gs → slice_index_or gs j h ≡ h → g ≡ h
+unfolding IsNumbered
+unique-at n i j [] g h o t a p b q = absurd (omega arith)
+unique-at n zero zero (x ∷ gs) g h o t a p b q = sym p ∙ q
+unique-at n zero (suc j) (x ∷ gs) g h o t a p b q = let r : x.tid ≡ g.tid = ap (λ y. y.tid) p in absurd (omega (arith, o.0, numbered-at (n + 1) j gs h (o.1) (omega arith) q))
+unique-at n (suc i) zero (x ∷ gs) g h o t a p b q = let r : x.tid ≡ h.tid = ap (λ y. y.tid) q in absurd (omega (arith, o.0, numbered-at (n + 1) i gs g (o.1) (omega arith) p))
+unique-at n (suc i) (suc j) (x ∷ gs) g h o t a p b q = unique-at (n + 1) i j gs g h (o.1) t (omega arith) p (omega arith) q
+
+-- a TID was granted to one core
+pub granted-once : (n : ℕ) (gs : List Grant) (t c d : ℕ) → IsNumbered n gs → Contains gs (record { tid = t; core = c }) → Contains gs (record { tid = t; core = d }) → c ≡ d
+granted-once n gs t c d o a b = ap (λ g. g.core) (unique-at n a.0 b.0 gs (record { tid = t; core = c }) (record { tid = t; core = d }) o refl (a.1) (a.2) (b.1) (b.2))

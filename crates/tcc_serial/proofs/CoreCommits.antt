@@ -40,7 +40,7 @@ unfolding among
 few-above x [] = omega arith
 few-above x (m ∷ ms) = omega (arith, above-any x m, few-above x ms)
 
-few-commits : (ms : List Msg) → among AnyCommit ms ≤ among Protocol ms
+pub few-commits : (ms : List Msg) → among AnyCommit ms ≤ among Protocol ms
 unfolding among
 few-commits [] = omega arith
 few-commits (m ∷ ms) = omega (arith, any-protocol m, few-commits ms)
@@ -81,23 +81,23 @@ served-solo sh c sp t d x h = go (nat_lt d sh.dirs) refl (solo_writes_at sh c sp
     go true q true = rw (among-append, among-append, backs, marks) (omega (arith, low (h (grind (arith, nat_tests)))))
     go true q false = rw (among-append, backs) (omega arith)
 
-free-abort : (sh : Shape) (c : Cache) (t d : ℕ) → among AnyCommit (abort_written sh c t (Dir d)) ≡ 0
+pub free-abort : (sh : Shape) (c : Cache) (t d : ℕ) → among AnyCommit (abort_written sh c t (Dir d)) ≡ 0
 unfolding abort_written among passes
 free-abort sh c t d = grind arith
 
-free-skip : (sh : Shape) (t d : ℕ) → among AnyCommit (skip_all sh t (Dir d)) ≡ 0
+pub free-skip : (sh : Shape) (t d : ℕ) → among AnyCommit (skip_all sh t (Dir d)) ≡ 0
 unfolding skip_all among passes
 free-skip sh t d = grind arith
 
-free-probe : (sh : Shape) (t d : ℕ) → among AnyCommit (probe_all sh t (Dir d)) ≡ 0
+pub free-probe : (sh : Shape) (t d : ℕ) → among AnyCommit (probe_all sh t (Dir d)) ≡ 0
 unfolding probe_all among passes
 free-probe sh t d = grind arith
 
-free-grants : (sh : Shape) (c : Cache) (t d : ℕ) → among AnyCommit (grant_sends sh c t (Dir d)) ≡ 0
+pub free-grants : (sh : Shape) (c : Cache) (t d : ℕ) → among AnyCommit (grant_sends sh c t (Dir d)) ≡ 0
 unfolding grant_sends among passes
 free-grants sh c t d = grind arith
 
-free-to : (h d : ℕ) (ms : List Msg) → among AnyCommit ms ≡ 0 → among AnyCommit (to (Dir h) ms (Dir d)) ≡ 0
+pub free-to : (h d : ℕ) (ms : List Msg) → among AnyCommit ms ≡ 0 → among AnyCommit (to (Dir h) ms (Dir d)) ≡ 0
 unfolding among
 free-to h d ms e = go (d == h)
   where
@@ -105,7 +105,7 @@ free-to h d ms e = go (d == h)
     go true = e
     go false = refl
 
-free-marks : (sh : Shape) (c : Cache) (t e : ℕ) → among AnyCommit (marks_for sh c t e) ≡ 0
+pub free-marks : (sh : Shape) (c : Cache) (t e : ℕ) → among AnyCommit (marks_for sh c t e) ≡ 0
 unfolding marks_for among passes
 free-marks sh c t e = among-flat_map_none AnyCommit (λ l. Mark l (modified_mask c l) t ∷ []) (λ l. refl) (written_lines sh c e)
 

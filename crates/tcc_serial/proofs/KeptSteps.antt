@@ -61,7 +61,7 @@ unfolding handled
 handled-once s owed t = let a = skipped-above s t in grind (arith, nat_tests)
 
 -- what a TID's message tells of it, also at a directory that the machine doesn't have
-once_at : (sh : Shape) (w : World) (c d k : ℕ) (m : Msg) → KeptTold sh w → in_flight w.net (Core c) (Dir d) k ≡ Some m → OnceAt (w.dirs d) m
+pub once_at : (sh : Shape) (w : World) (c d k : ℕ) (m : Msg) → KeptTold sh w → in_flight w.net (Core c) (Dir d) k ≡ Some m → OnceAt (w.dirs d) m
 unfolding pair
 once_at sh w c d k m h i t = go (cases_lt d sh.dirs)
   where

@@ -31,6 +31,9 @@ pub mod DirProbing
 pub mod ProbingSteps
 pub mod AllKept
 pub mod LastSteps
+pub mod CommitOwners
+pub mod DirInvs
+pub mod InvSteps
 pub mod Sent
 pub mod StepCases
 pub mod Executes

@@ -159,7 +159,7 @@ invs-any : (m : Msg) → num (passes Invs m) ≤ num (passes Any m)
 unfolding passes
 invs-any m = grind (arith, nat_tests)
 
-invs-few : (l : Link) → live Invs l ≤ live Any l
+pub invs-few : (l : Link) → live Invs l ≤ live Any l
 unfolding live
 invs-few [] = omega arith
 invs-few (None ∷ l) = invs-few l

@@ -5,7 +5,7 @@ use Rattle.tcc_rules.specs.State.{World}
 use Rattle.tcc_rules.specs.Step.{History}
 use Rattle.tcc_serial.specs.Committing.{KeptCommitting}
 use Rattle.tcc_serial.specs.OneCore.{KeptCores}
-use Rattle.tcc_serial.specs.Owners.{Grant, KeptOwners, LastGranted}
+use Rattle.tcc_serial.specs.Owners.{Grant, KeptOwners, LastGranted, SparesCommitter}
 use Rattle.tcc_serial.specs.Probing.{KeptProbing}
 use Rattle.tcc_serial.specs.Tids.{KeptTids}
 use Rattle.tcc_serial.specs.Owed.{KeptOwed}
@@ -28,3 +28,4 @@ pub record KeptAll (sh : Shape) (gs : List Grant) (h : History) : Type 0 where
   pub committing : KeptCommitting h.world
   pub probing : KeptProbing h.world
   pub last : LastGranted gs h.world
+  pub spared : SparesCommitter sh gs h.world

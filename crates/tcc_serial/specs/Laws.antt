@@ -9,7 +9,7 @@ use Rattle.tcc_rules.specs.State.{World, start}
 use Rattle.tcc_rules.specs.Step.{run}
 use Rattle.tcc_serial.specs.Count.{Grants, Resolves, InvsNot, InvsAway, live}
 use Rattle.tcc_serial.specs.Pairs.{pair}
-use Rattle.tcc_serial.specs.Owners.{grants_from, KeptOwners, LastGranted}
+use Rattle.tcc_serial.specs.Owners.{grants_from, KeptOwners, LastGranted, SparesCommitter}
 use Rattle.tcc_serial.specs.Owed.{OwedAt}
 use Rattle.tcc_serial.specs.Probes.{tid_of, asks_dir, may_commit}
 use Rattle.tcc_serial.specs.Tids.{opens, ResolvedAt, RequestOf}
@@ -61,3 +61,7 @@ CommitsOnce = (sh : Shape) (p : Program) (entries : ℕ → Local) (ram : ℕ �
 -- The TID that a core has, or that is on its way to it, is the last that was granted to it: so the core's commits have smaller ones.
 abbrev pub HoldsLast : Type 0
 HoldsLast = (sh : Shape) (p : Program) (entries : ℕ → Local) (ram : ℕ → ℕ) (es : List Event) → IfSome (run sh p (start entries ram) es) (λ r. LastGranted (grants_from sh p es (record { world = start entries ram; commits = [] })) r.world)
+
+-- A Commit in flight is from the core that its TID was granted to, and no invalidation of the served TID is in flight to its core.
+abbrev pub SparesItsCommitter : Type 0
+SparesItsCommitter = (sh : Shape) (p : Program) (entries : ℕ → Local) (ram : ℕ → ℕ) (es : List Event) → IfSome (run sh p (start entries ram) es) (λ r. SparesCommitter sh (grants_from sh p es (record { world = start entries ram; commits = [] })) r.world)

@@ -8,7 +8,7 @@ use Rattle.tcc_maps.specs.Shape.{Shape}
 use Rattle.tcc_rules.specs.State.{World}
 use Rattle.tcc_rules.specs.Links.{in_flight}
 use Rattle.tcc_rules.specs.Step.{History, next}
-use Rattle.tcc_serial.specs.Count.{Grants, live}
+use Rattle.tcc_serial.specs.Count.{Grants, Commits, Invs, live}
 use Rattle.tcc_serial.specs.Pairs.{Pair, pair, sum_of}
 use Rattle.tcc_serial.specs.Tids.{has_tid}
 
@@ -71,3 +71,11 @@ pub record KeptOwners (sh : Shape) (gs : List Grant) (w : World) (commits : List
 -- A core's TID is the last that was granted to it.
 abbrev pub LastGranted : List Grant → World → Type 0
 LastGranted gs w = (c d t u : ℕ) → 1 ≤ holder t (pair w c d) → Contains gs (record { tid = u; core = c }) → u ≤ t
+
+-- A Commit in flight is from the core that its TID was granted to, and no invalidation is in flight to this core.
+pub record SparedOf (sh : Shape) (gs : List Grant) (c d : ℕ) (v : Pair) : Type 0 where
+  pub owner : (t : ℕ) → 1 ≤ live (Commits t) v.out → Contains gs (record { tid = t; core = c })
+  pub own : d < sh.dirs → Contains gs (record { tid = v.dir.serving.serving; core = c }) → live Invs v.back ≡ 0
+
+abbrev pub SparesCommitter : Shape → List Grant → World → Type 0
+SparesCommitter sh gs w = (c d : ℕ) → SparedOf sh gs c d (pair w c d)

@@ -10,7 +10,7 @@ ghost use Rattle.tcc_serial.specs.Insertion.{CanInsert, Inserted};
 ghost use Rattle.tcc_serial.specs.OneCore.{KeptCores};
 ghost use Rattle.tcc_serial.specs.Committing.{CommitsAreServed};
 ghost use Rattle.tcc_serial.specs.Probing.{OneProbe};
-ghost use Rattle.tcc_serial.specs.Laws.{Always, OneWay, OneRequest, NeverPasses, OwedInFlight, Served, CommitsOnce, HoldsLast};
+ghost use Rattle.tcc_serial.specs.Laws.{Always, OneWay, OneRequest, NeverPasses, OwedInFlight, Served, CommitsOnce, HoldsLast, SparesItsCommitter};
 ghost use Rattle.tcc_base.specs.declared.access.Commit.{Commit};
 
 /// Instructions over two memories that agree on the words used give the same.
@@ -58,9 +58,11 @@ pub fn each_core_is_consistent()
     ensures consistent { Always KeptCores }
 {}
 
-/// A Commit in flight to a directory is of the TID that this directory serves.
+/// A Commit in flight to a directory is of the TID that this directory serves, and from the core that it was granted to; no
+/// invalidation of it goes to this core.
 pub fn commits_are_of_the_served_tid()
     ensures served { Always CommitsAreServed }
+    ensures spared { SparesItsCommitter }
 {}
 
 /// For each directory that owes a core a reply, exactly one probe or reply is in flight between them, and none for another.
