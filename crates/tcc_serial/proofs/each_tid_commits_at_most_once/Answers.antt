@@ -1,0 +1,6 @@
+use Rattle.tcc_serial.proofs.OwnerSteps.{run-owners}
+use Rattle.tcc_serial.proofs.AllKept.{last_granted}
+use Rattle.tcc_serial.proofs.each_tid_commits_at_most_once.Goals as goal
+
+pub returns : goal.returns
+returns c = record { once = run-owners; last = last_granted }

@@ -1,0 +1,5 @@
+use Rattle.tcc_serial.proofs.UsedWords.{steps_follow}
+use Rattle.tcc_serial.proofs.steps_depend_on_used_words.Goals as goal
+
+pub returns : goal.returns
+returns c = record { same = steps_follow }

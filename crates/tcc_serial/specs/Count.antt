@@ -1,0 +1,83 @@
+-- How many messages of a kind are in flight on a link.
+use Rattle.std.specs.Prelude.{ℕ, ◌+◌, Bool, true, false, List, [], ◌∷◌, ◌==◌, not, ◌%◌, Option, Some, None, nat_lt}
+use Rattle.tcc_maps.specs.Words.{num}
+use Rattle.tcc_maps.specs.Nodes.{Msg, TidReq, TidGrant, LoadReq, Fill, Skip, Probe, ProbeReply, Mark, Commit, Abort, WriteBack, Flush, DataReq, Inv, InvAck}
+
+-- what a message may be
+pub data Kind : Type 0 where
+  Asks : Kind  -- a request for a TID
+  Grants : (tid : ℕ) → Kind  -- a grant of this TID
+  AnyGrant : Kind
+  Resolves : (tid : ℕ) → Kind  -- Skip, Abort or Commit of this TID
+  AnyResolve : Kind
+  Commits : (tid : ℕ) → Kind
+  CommitsAbove : (serving : ℕ) → Kind  -- a Commit of a TID above this one
+  AnyCommit : Kind
+  Invs : Kind
+  InvsNot : (tid : ℕ) → Kind  -- an Inv that carries another TID
+  InvsAway : (dirs dir : ℕ) → Kind  -- an Inv of a line that is at home elsewhere
+  Acks : Kind
+  Marks : (tid : ℕ) → Kind
+  MarksAway : (dirs dir : ℕ) → Kind  -- a Mark of a line that is at home elsewhere
+  Protocol : Kind  -- all but requests for lines and their words
+  Any : Kind
+  Probes : (tid : ℕ) → Kind
+  Replies : (tid : ℕ) → Kind
+  RepliesAbove : (serving : ℕ) → Kind  -- a ProbeReply of a TID above this one
+
+unfoldable pub passes : Kind → Msg → Bool
+passes Asks TidReq = true
+passes Asks _ = false
+passes (Grants t) (TidGrant u) = u == t
+passes (Grants t) _ = false
+passes AnyGrant (TidGrant u) = true
+passes AnyGrant _ = false
+passes (Resolves t) (Skip u) = u == t
+passes (Resolves t) (Abort u) = u == t
+passes (Resolves t) (Commit u n) = u == t
+passes (Resolves t) _ = false
+passes AnyResolve (Skip u) = true
+passes AnyResolve (Abort u) = true
+passes AnyResolve (Commit u n) = true
+passes AnyResolve _ = false
+passes (Commits t) (Commit u n) = u == t
+passes (Commits t) _ = false
+passes (CommitsAbove s) (Commit u n) = nat_lt s u
+passes (CommitsAbove s) _ = false
+passes AnyCommit (Commit u n) = true
+passes AnyCommit _ = false
+passes Invs (Inv l m u) = true
+passes Invs _ = false
+passes (InvsNot t) (Inv l m u) = not (u == t)
+passes (InvsNot t) _ = false
+passes (InvsAway dirs d) (Inv l m u) = not ((l % dirs) == d)
+passes (InvsAway dirs d) _ = false
+passes Acks (InvAck l k) = true
+passes Acks _ = false
+passes (Marks t) (Mark l m u) = u == t
+passes (Marks t) _ = false
+passes (MarksAway dirs d) (Mark l m u) = not ((l % dirs) == d)
+passes (MarksAway dirs d) _ = false
+passes Protocol (LoadReq l a) = false
+passes Protocol (Fill l ws) = false
+passes Protocol (DataReq l) = false
+passes Protocol (WriteBack l m ws t) = false
+passes Protocol (Flush l m ws t) = false
+passes Protocol _ = true
+passes Any m = true
+passes (Probes t) (Probe u) = u == t
+passes (Probes t) _ = false
+passes (Replies t) (ProbeReply u s) = u == t
+passes (Replies t) _ = false
+passes (RepliesAbove s) (ProbeReply u v) = nat_lt s u
+passes (RepliesAbove s) _ = false
+
+-- in flight on a link, among the messages of a list
+unfoldable pub live : Kind → List (Option Msg) → ℕ
+live k [] = 0
+live k (None ∷ l) = live k l
+live k (Some m ∷ l) = num (passes k m) + live k l
+
+unfoldable pub among : Kind → List Msg → ℕ
+among k [] = 0
+among k (m ∷ ms) = num (passes k m) + among k ms

@@ -1,0 +1,31 @@
+-- What every state that a run reaches satisfies.
+use Rattle.std.specs.Prelude.{List}
+use Rattle.tcc_maps.specs.Shape.{Shape}
+use Rattle.tcc_rules.specs.State.{World}
+use Rattle.tcc_rules.specs.Step.{History}
+use Rattle.tcc_serial.specs.Committing.{KeptCommitting}
+use Rattle.tcc_serial.specs.OneCore.{KeptCores}
+use Rattle.tcc_serial.specs.Owners.{Grant, KeptOwners, LastGranted, SparesCommitter}
+use Rattle.tcc_serial.specs.Probing.{KeptProbing}
+use Rattle.tcc_serial.specs.Tids.{KeptTids}
+use Rattle.tcc_serial.specs.Owed.{KeptOwed}
+use Rattle.tcc_serial.specs.Probes.{KeptProbes}
+
+-- where TIDs are, and what is owed
+pub record KeptTold (sh : Shape) (w : World) : Type 0 where
+  pub tids : KeptTids sh w
+  pub owed : KeptOwed sh w
+
+pub record Kept (sh : Shape) (w : World) : Type 0 where
+  pub told : KeptTold sh w
+  pub probes : KeptProbes sh w
+
+-- all of it, along a run whose grants are gs
+pub record KeptAll (sh : Shape) (gs : List Grant) (h : History) : Type 0 where
+  pub kept : Kept sh h.world
+  pub owners : KeptOwners sh gs h.world h.commits
+  pub cores : KeptCores sh h.world
+  pub committing : KeptCommitting h.world
+  pub probing : KeptProbing h.world
+  pub last : LastGranted gs h.world
+  pub spared : SparesCommitter sh gs h.world

@@ -1,0 +1,13 @@
+pub mod Count
+pub mod Committing
+pub mod Insertion
+pub mod Kept
+pub mod Laws
+pub mod OneCore
+pub mod Owed
+pub mod Owners
+pub mod Pairs
+pub mod Probes
+pub mod Probing
+pub mod Tids
+pub mod Uses

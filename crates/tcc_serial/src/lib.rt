@@ -1,0 +1,71 @@
+// Serializability: what every run of the protocol's rules gives is what executing its transactions one after another gives.
+// Each law is the contract of an empty function; the theorem depends on no code.
+#![tactic(auto)]
+
+ghost use Rattle.std.specs.Prelude.{◌≡◌, ℕ, MatchOption, None, Some, List, ◌∷◌, ◌++◌};
+ghost use Rattle.tcc_program.specs.Program.{Local, Program};
+ghost use Rattle.tcc_program.specs.Plain.{steps, begun, Plain, Attempt, Order, serial};
+ghost use Rattle.tcc_serial.specs.Uses.{Aligned, IsMemory, AgreeOnUsed, Follows};
+ghost use Rattle.tcc_serial.specs.Insertion.{CanInsert, Inserted};
+ghost use Rattle.tcc_serial.specs.OneCore.{KeptCores};
+ghost use Rattle.tcc_serial.specs.Committing.{CommitsAreServed};
+ghost use Rattle.tcc_serial.specs.Probing.{OneProbe};
+ghost use Rattle.tcc_serial.specs.Laws.{Always, OneWay, OneRequest, NeverPasses, OwedInFlight, Served, CommitsOnce, HoldsLast, SparesItsCommitter};
+ghost use Rattle.tcc_base.specs.declared.access.Commit.{Commit};
+
+/// Instructions over two memories that agree on the words used give the same.
+pub fn steps_depend_on_used_words()
+    ensures same { (base : ℕ) (p : Program) (n : ℕ) (l : Local) (here there : ℕ → ℕ) → Aligned p → IsMemory here → IsMemory there → AgreeOnUsed base p n l here there → MatchOption (steps base p n (begun l here)) (steps base p n (begun l there) ≡ None) (λ a. Follows base here there a (steps base p n (begun l there))) }
+{}
+
+/// A serial execution may be cut at any place, and one more transaction may be inserted there: where no later transaction is its
+/// core's or touches a word that it stores, all others give what they gave, and the memory after them differs at its words alone.
+pub fn transaction_inserted()
+    ensures without { (base : ℕ) (p : Program) (last : ℕ) (early late : List Order) (o : Order) (m start done end : Plain) (a : Attempt) (before after : List Commit) → CanInsert base p last early late o m start done end a before after → serial base p last (early ++ late) m ≡ Some (end, before ++ after) }
+    ensures with_it { (base : ℕ) (p : Program) (last : ℕ) (early late : List Order) (o : Order) (m start done end : Plain) (a : Attempt) (before after : List Commit) → Aligned p → IsMemory m.ram → CanInsert base p last early late o m start done end a before after → Inserted base before o a after done end (serial base p last (early ++ o ∷ late) m) }
+{}
+
+/// Where each TID is: at each directory it is resolved in exactly one way, and a core that waits for one has one coming.
+pub fn tids_are_resolved_in_one_way()
+    ensures one_way { Always OneWay }
+    ensures one_request { Always OneRequest }
+{}
+
+/// A directory never passes a TID that isn't resolved there.
+pub fn serving_never_passes_an_unresolved_tid()
+    ensures never_passes { Always NeverPasses }
+{}
+
+/// What a directory is owed is what is in flight.
+pub fn what_is_owed_is_in_flight()
+    ensures owed { Always OwedInFlight }
+{}
+
+/// A directory that has replied serves the core's TID, and a core that may commit is served by every directory where it writes.
+pub fn directories_that_replied_serve_the_tid()
+    ensures served { Always Served }
+{}
+
+/// Each TID is granted to one core and committed at most once, by this core, and the commits' TIDs rise strictly.
+pub fn each_tid_commits_at_most_once()
+    ensures once { CommitsOnce }
+    ensures last { HoldsLast }
+{}
+
+/// What holds of each core by itself: its cache's two ways of finding a line agree, its modified and spilled words are those that
+/// its stores name, it awaits a line only in a frame of that line, and it is owed replies only while it waits for them.
+pub fn each_core_is_consistent()
+    ensures consistent { Always KeptCores }
+{}
+
+/// A Commit in flight to a directory is of the TID that this directory serves, and from the core that it was granted to; no
+/// invalidation of it goes to this core.
+pub fn commits_are_of_the_served_tid()
+    ensures served { Always CommitsAreServed }
+    ensures spared { SparesItsCommitter }
+{}
+
+/// For each directory that owes a core a reply, exactly one probe or reply is in flight between them, and none for another.
+pub fn each_owed_reply_is_on_its_way()
+    ensures one { Always OneProbe }
+{}
