@@ -4,6 +4,8 @@
 
 mod laws;
 mod system;
+#[cfg(test)]
+mod tests;
 
 pub use laws::runs_are_serial;
 pub use system::{Step, StepError, System};

@@ -4,6 +4,8 @@
 mod laws;
 mod simulation;
 mod status;
+#[cfg(test)]
+mod tests;
 mod top;
 mod words;
 
