@@ -1,4 +1,5 @@
 -- Which instruction is at fault.
+use Rattle.image_load.specs.Contents.{started}
 use Rattle.std.proofs.Common.{ℕ, zero, suc, ◌≡◌, ◌+◌, ◌-◌, ◌<◌, Option, Some, None, Result, Ok, Err, IfErr, IsSomeAnd, refl, add-one, add-zero, inl, inr, arith, subst}
 use Rattle.std.proofs.Math.Nat.{add-suc}
 use Rattle.rv_plain.specs.Endings.{HasEnded, IsFault, IsCoreFault}
@@ -77,7 +78,7 @@ core-fault base p m core n k (Trap code) h = refl
 no_transaction : (s : PlainState) (core n : ℕ) (f : PlainFault) → IsPlainFault s core n f → HasNoTransaction s core n f
 unfolding plain_of transaction
 no_transaction s core n (NotEnding k) h =
-    core-fault s.loaded.settings.base (program s.loaded.settings s.loaded.image) (plain_of s) core n k
+    core-fault s.loaded.settings.base (program (started s.loaded)) (plain_of s) core n k
     ((plain_of s).cores core).ended h
 no_transaction s core n Memory h = tt
 

@@ -1,5 +1,4 @@
 pub mod Splice
-pub mod Laid
 pub mod Stepping
 pub mod Views
 pub mod Faults

@@ -1,4 +1,5 @@
 -- One more order of a serial execution of the code's plain machine.
+use Rattle.image_load.specs.Contents.{started}
 use Rattle.std.proofs.Common.{ℕ, ◌≡◌, ◌+◌, ◌<◌, ◌≤◌, true, List, [], ◌∷◌, ◌++◌, Option, Some, None, IsSomeAnd, map, take, length, get_or, nat_lt, refl, add-one, ◌∙◌}
 use Rattle.std.proofs.Math.Seq.{take-suc}
 use Rattle.std.proofs.lemmas.Bool.{lt-ltb}
@@ -63,7 +64,7 @@ pub executed-next : (s mid after : PlainState) (orders : List CodeOrder) (i : �
 unfolding plain_of
 executed-next s mid after orders i commits d lt is same rises did =
     rw (orders-next orders i lt) (
-    serial-done s.loaded.settings.base (program s.loaded.settings s.loaded.image) (map order_of (take i orders))
+    serial-done s.loaded.settings.base (program (started s.loaded)) (map order_of (take i orders))
     (get_or orders i no_order) (plain_of s) (plain_of mid) (plain_of after) commits d is (lt-ltb _ _ rises)
     (rw same at did)
     )
@@ -78,7 +79,7 @@ none-next s mid orders i commits lt is same rises none = (
   rw is refl,
   rw (slice_get-get_or orders i no_order lt) rises,
   rw (orders-next orders i lt) (
-      serial-none s.loaded.settings.base (program s.loaded.settings s.loaded.image) 0 (map order_of (take i orders))
+      serial-none s.loaded.settings.base (program (started s.loaded)) 0 (map order_of (take i orders))
       (order_of (get_or orders i no_order)) (plain_of s) (plain_of mid, commits) is (lt-ltb _ _ rises) (rw same at none)
       ),
 )

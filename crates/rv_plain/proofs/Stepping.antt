@@ -1,9 +1,9 @@
 -- One instruction of the program, told by the instruction that its pc finds.
 use Rattle.std.proofs.Common.{ℕ, ◌≡◌, List, Option, Some, None, refl}
+use Rattle.image_load.specs.Start.{Start}
 use Rattle.rv_plain.specs.Attempts.{alone}
 use Rattle.rv_plain.specs.Buffered.{Buffered, buffered, buffered_step}
 use Rattle.rv_exec.specs.Effects.{planned}
-use Rattle.rv_plain.specs.Image.{fetched}
 use Rattle.rv_exec.specs.Running as rv32im
 use Rattle.rv_exec.specs.Running.{bounded, need_of_word, after_word}
 use Rattle.rv_plain.specs.Machine.{program, in_ram, Finds, Fails}
@@ -39,18 +39,16 @@ failed-need : (s : Settings) (l : Local) (f : Option ℕ) (trap : ℕ) → Fails
 failed-need s l None trap h = rw h refl
 failed-need s l (Some w) trap h = rw (h.1, h.0) refl
 
-pub buffered_step-found : (s : Settings) (image : List ℕ) (b : Buffered) (inst : Inst)
-    → Finds (fetched s.base image b.local.pc) inst
-    → buffered_step s.base (program s image) b
-    ≡ buffered s.base (alone inst) b (bounded (in_ram s) (planned inst b.local.regs b.local.pc))
+pub buffered_step-found : (base : ℕ) (s : Start) (b : Buffered) (inst : Inst) → Finds (s.fetch b.local.pc) inst
+    → buffered_step base (program s) b
+    ≡ buffered base (alone inst) b (bounded (in_ram s.settings) (planned inst b.local.regs b.local.pc))
 unfolding buffered_step program rv32im.program
-buffered_step-found s image b inst h =
-    rw (found-need s b.local (fetched s.base image b.local.pc) inst h)
-    (buffered-after s.base (program s image) (alone inst) b (λ x. found-after b.local x (fetched s.base image b.local.pc) inst h)
-    (bounded (in_ram s) (planned inst b.local.regs b.local.pc)))
+buffered_step-found base s b inst h =
+    rw (found-need s.settings b.local (s.fetch b.local.pc) inst h)
+    (buffered-after base (program s) (alone inst) b (λ x. found-after b.local x (s.fetch b.local.pc) inst h)
+    (bounded (in_ram s.settings) (planned inst b.local.regs b.local.pc)))
 
-pub buffered_step-failed : (s : Settings) (image : List ℕ) (b : Buffered) (trap : ℕ)
-    → Fails (fetched s.base image b.local.pc) trap
-    → buffered_step s.base (program s image) b ≡ record b { outcome = Trapped trap }
+pub buffered_step-failed : (base : ℕ) (s : Start) (b : Buffered) (trap : ℕ) → Fails (s.fetch b.local.pc) trap
+    → buffered_step base (program s) b ≡ record b { outcome = Trapped trap }
 unfolding buffered_step program rv32im.program
-buffered_step-failed s image b trap h = rw (failed-need s b.local (fetched s.base image b.local.pc) trap h) refl
+buffered_step-failed base s b trap h = rw (failed-need s.settings b.local (s.fetch b.local.pc) trap h) refl

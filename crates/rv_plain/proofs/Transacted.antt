@@ -5,7 +5,7 @@ use Rattle.rv_plain.specs.Attempts.{attempt_of, outcome_of}
 use Rattle.rv_plain.specs.Buffered.{plain_view, seen}
 use Rattle.rv_plain.specs.Cores.{core_of, no_state}
 use Rattle.rv_plain.specs.Endings.{IsCoreFault}
-use Rattle.rv_plain.specs.Loaded.{Loaded}
+use Rattle.image_load.specs.Contents.{Contents, started}
 use Rattle.rv_exec.specs.Needs.{local_of}
 use Rattle.rv_plain.specs.PlainState.{PlainState, plain_of, Did, IsPlainFault}
 use Rattle.rv_plain.specs.Store.{Store, buffer_of}
@@ -28,7 +28,7 @@ pub begun-view : (regs : List ℕ) (pc : ℕ) (m : Store) → m.waiting ≡ []
 unfolding plain_view attempt_of begun seen buffer_of
 begun-view regs pc m e = rw e refl
 
-pub closed-transacts : (l : Loaded) (old new : CoreState) (before mid after : Store) (n : ℕ) (a : Attempt) (o : Outcome)
+pub closed-transacts : (l : Contents) (old new : CoreState) (before mid after : Store) (n : ℕ) (a : Attempt) (o : Outcome)
     (end : CoreEnd) (r : Result Done PlainFault) → old.ended ≡ Run
     → steps_at l old before n ≡ Some (plain_view (attempt_of a mid o))
     → end_of (outcome_of o) ≡ Some end
@@ -56,7 +56,7 @@ cores-put : (cores : List CoreState) (c : ℕ) (new : CoreState) (to : PlainCore
     ≡ put (λ k. core_of (slice_index_or cores k no_state)) c to j
 cores-put cores c new to is lt j = grind (arith, common_steps)
 
-pub did-transacts : (l : Loaded) (cores : List CoreState) (before : Store) (c n : ℕ) (new : CoreState) (after : Store) (d : Done)
+pub did-transacts : (l : Contents) (cores : List CoreState) (before : Store) (c n : ℕ) (new : CoreState) (after : Store) (d : Done)
     → c < length cores → Transacts l (slice_index_or cores c no_state) new before after n d
     → Did (record { loaded = l; ram = before.ram; cores = cores }) c n
     (record { loaded = l; ram = after.ram; cores = slice_set cores c new }) d
@@ -74,7 +74,7 @@ did-transacts l cores before c n new after d lt t =
       t.console,
     )
 
-pub did-if : (l : Loaded) (cores after_cores : List CoreState) (before after : Store) (c n : ℕ) (r : Result Done PlainFault)
+pub did-if : (l : Contents) (cores after_cores : List CoreState) (before after : Store) (c n : ℕ) (r : Result Done PlainFault)
     → c < length cores
     → IfOk r (Transacts l (slice_index_or cores c no_state) (slice_index_or after_cores c no_state) before after n)
     → after_cores ≡ slice_set cores c (slice_index_or after_cores c no_state)
@@ -86,7 +86,7 @@ did-if l cores after_cores before after c n (Ok d) lt t is =
     subst (λ cs. Did s c n (record { loaded = l; ram = after.ram; cores = cs }) d) (sym is)
     (did-transacts l cores before c n (slice_index_or after_cores c no_state) after d lt t)
 
-pub fault-if : (l : Loaded) (cores : List CoreState) (before : Store) (c n : ℕ) (r : Result Done PlainFault)
+pub fault-if : (l : Contents) (cores : List CoreState) (before : Store) (c n : ℕ) (r : Result Done PlainFault)
     → IfErr r (IsCoreFault (slice_index_or cores c no_state).ended (steps_at l (slice_index_or cores c no_state) before) n)
     → IfErr r (IsPlainFault (record { loaded = l; ram = before.ram; cores = cores }) c n)
 unfolding plain_of

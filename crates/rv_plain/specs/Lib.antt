@@ -2,8 +2,6 @@ pub mod Attempts
 pub mod Buffered
 pub mod Cores
 pub mod Endings
-pub mod Image
-pub mod Loaded
 pub mod Machine
 pub mod PlainState
 pub mod Serials

@@ -1,8 +1,8 @@
--- The program that a machine with a raw image runs, and the state from which the plain machine starts.
-use Rattle.std.specs.Prelude.{ℕ, ◌≡◌, Bool, List, [], ◌+◌, nat_le, nat_lt, if◌then◌else◌, ◌&&◌, Option, Some, None}
+-- The program that a machine runs from a start, and the state from which the plain machine begins it.
+use Rattle.std.specs.Prelude.{ℕ, ◌≡◌, Bool, List, [], ◌+◌, ◌/◌, nat_le, nat_lt, if◌then◌else◌, ◌&&◌, Option, Some, None}
+use Rattle.image_load.specs.Start.{Start}
 use Rattle.rv_decode.specs.Decoding.{decoded}
 use Rattle.rv_exec.specs.Running as rv32im
-use Rattle.rv_plain.specs.Image.{fetched, image_word}
 use Rattle.rv_decode.specs.declared.instruction.Inst.{Inst}
 use Rattle.tcc_base.specs.Bytes.{bytes_of}
 use Rattle.tcc_base.specs.Settings.{Settings}
@@ -25,8 +25,12 @@ abbrev pub Fails : Option ℕ → ℕ → Type 0
 Fails None trap = trap ≡ 1
 Fails (Some w) trap = (trap ≡ 2) × (decoded w ≡ None)
 
-unfoldable pub program : Settings → List ℕ → Program
-program s image = rv32im.program (fetched s.base image) (in_ram s)
+unfoldable pub program : Start → Program
+program s = rv32im.program s.fetch (in_ram s.settings)
+
+-- RAM's words at the start, with zeros past its end
+unfoldable pub first_ram : Start → ℕ → ℕ
+first_ram s w = if nat_lt w (s.settings.ram / 4) then s.word w else 0
 
 -- a core's registers and pc at the start: x10 is its number, x11 the number of cores
 unfoldable pub start_regs : (cores core : ℕ) → List ℕ
@@ -42,8 +46,9 @@ no_core = record { local = record { regs = []; pc = 0; reserved = None }; ended 
 abbrev pub start_core : (cores core entry : ℕ) → PlainCore
 start_core cores core entry = record { local = start_local cores core entry; ended = Run; console = [] }
 
-unfoldable pub started : Settings → List ℕ → Plain
-started s image = record {
-  ram = image_word image;
-  cores = λ c. (if nat_lt c s.cores then start_core s.cores c s.base else no_core);
-}
+-- the core begins at its entry
+abbrev pub core_at_start : Start → (core : ℕ) → PlainCore
+core_at_start s c = if nat_lt c s.settings.cores then start_core s.settings.cores c (s.entry c) else no_core
+
+unfoldable pub plain_start : Start → Plain
+plain_start s = record { ram = first_ram s; cores = core_at_start s }

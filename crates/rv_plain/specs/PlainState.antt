@@ -2,7 +2,7 @@
 use Rattle.std.specs.Prelude.{ℕ, List, ◌≡◌, map, Option, None, IsSomeAnd, slice_index_or}
 use Rattle.rv_plain.specs.Cores.{core_of, no_state}
 use Rattle.rv_plain.specs.Endings.{IsCoreFault}
-use Rattle.rv_plain.specs.Loaded.{Loaded}
+use Rattle.image_load.specs.Contents.{Contents, started}
 use Rattle.rv_plain.specs.Machine.{program}
 use Rattle.rv_plain.specs.declared.plain.CoreState.{CoreState}
 use Rattle.rv_plain.specs.declared.plain.Done.{Done}
@@ -14,7 +14,7 @@ use Rattle.tcc_program.specs.Plain.{Plain, Attempt, Order, transaction, steps, b
 use Rattle.tcc_program.specs.Ram.{flat}
 
 pub record PlainState : Type 0 where
-  pub loaded : Loaded
+  pub loaded : Contents
   pub ram : List ℕ
   pub cores : List CoreState
 
@@ -26,15 +26,15 @@ order_of o = record { tid = o.tid.0; core = o.core.0; n = o.n }
 
 -- the definitions at this machine's program
 abbrev pub transaction_of : PlainState → (core n : ℕ) → Option (Plain × Attempt)
-transaction_of s core n = transaction s.loaded.settings.base (program s.loaded.settings s.loaded.image) (plain_of s) core n
+transaction_of s core n = transaction s.loaded.settings.base (program (started s.loaded)) (plain_of s) core n
 
 abbrev pub steps_of : PlainState → (core n : ℕ) → Option Attempt
 steps_of s core n =
     let c = (plain_of s).cores core in
-    steps s.loaded.settings.base (program s.loaded.settings s.loaded.image) n (begun c.local (flat s.ram))
+    steps s.loaded.settings.base (program (started s.loaded)) n (begun c.local (flat s.ram))
 
 abbrev pub serial_of : PlainState → List CodeOrder → Option (Plain × List Commit)
-serial_of s orders = serial s.loaded.settings.base (program s.loaded.settings s.loaded.image) 0 (map order_of orders) (plain_of s)
+serial_of s orders = serial s.loaded.settings.base (program (started s.loaded)) 0 (map order_of orders) (plain_of s)
 
 -- a transaction of this machine has a value, which is the machine afterwards and what is answered
 abbrev pub Did : PlainState → (core n : ℕ) → PlainState → Done → Type 0

@@ -1,6 +1,6 @@
 -- What one transaction of one core of the code's plain machine leaves behind.
 use Rattle.std.specs.Prelude.{ℕ, ◌++◌, ◌≡◌, Option, Some}
-use Rattle.rv_plain.specs.Loaded.{Loaded}
+use Rattle.image_load.specs.Contents.{Contents, started}
 use Rattle.rv_plain.specs.Machine.{program}
 use Rattle.rv_exec.specs.Needs.{local_of}
 use Rattle.rv_plain.specs.Store.{Store}
@@ -10,10 +10,10 @@ use Rattle.tcc_base.specs.declared.access.CoreEnd.TheVariants.{Run}
 use Rattle.tcc_program.specs.Plain.{Attempt, steps, begun, end_of}
 use Rattle.tcc_program.specs.Ram.{flat}
 
-abbrev pub steps_at : Loaded → CoreState → Store → ℕ → Option Attempt
-steps_at l c s k = steps l.settings.base (program l.settings l.image) k (begun (local_of c.regs c.pc) (flat s.ram))
+abbrev pub steps_at : Contents → CoreState → Store → ℕ → Option Attempt
+steps_at l c s k = steps l.settings.base (program (started l)) k (begun (local_of c.regs c.pc) (flat s.ram))
 
-pub record Transacts (l : Loaded) (old new : CoreState) (before after : Store) (n : ℕ) (d : Done) : Type 0 where
+pub record Transacts (l : Contents) (old new : CoreState) (before after : Store) (n : ℕ) (d : Done) : Type 0 where
   pub attempt : Attempt
   pub runs : old.ended ≡ Run
   pub does : steps_at l old before n ≡ Some attempt

@@ -1,5 +1,6 @@
 // A transaction on its way: the registers and pc as they are now, what it loaded, stored and printed so far.
 ghost use Rattle.std.specs.Prelude.{◌≡◌, ℕ, ◌+◌, ◌-◌, ◌*◌, ◌^◌, ◌<◌, IfOk, IfErr, OnErr, OnOk, Some, length, [], ◌↔◌, IsTrue, IsFalse};
+ghost use Rattle.image_load.specs.Contents.{started};
 ghost use Rattle.rv_plain.specs.Buffered.{buffered, buffered_step, plain_view};
 ghost use Rattle.rv_exec.specs.Effects.{finished, planned};
 ghost use Rattle.rv_exec.specs.Running.{bounded};
@@ -198,7 +199,7 @@ impl Attempt {
         requires room { self.old.n < 2 ^ 32 - 1 }
         requires whole { 4 * length memory.old.ram ≡ code.now.settings.ram }
         ensures does { IfOk result (λ o. attempt_of self.new memory.new o
-            ≡ buffered_step code.now.settings.base (program code.now.settings code.now.image)
+            ≡ buffered_step code.now.settings.base (program (started code.now))
             (attempt_of self.old memory.old Outcome.Goes)) }
         ensures counted { OnOk result (self.new.n ≡ self.old.n + 1) }
         ensures ram { memory.new.ram ≡ memory.old.ram }
@@ -217,11 +218,11 @@ impl Attempt {
     pub fn run(&mut self, memory: &mut Memory, code: &Code, n: u32) -> Result<Outcome, PlainFault>
         requires fresh { self.old.n ≡ 0 }
         requires whole { 4 * length memory.old.ram ≡ code.now.settings.ram }
-        ensures runs { IfOk result (λ o. (steps code.now.settings.base (program code.now.settings code.now.image) n
+        ensures runs { IfOk result (λ o. (steps code.now.settings.base (program (started code.now)) n
             (plain_view (attempt_of self.old memory.old Outcome.Goes))
             ≡ Some (plain_view (attempt_of self.new memory.new o)))
             × HasEnded (outcome_of o)) }
-        ensures fault { IfErr result (IsFault (λ k. steps code.now.settings.base (program code.now.settings code.now.image) k
+        ensures fault { IfErr result (IsFault (λ k. steps code.now.settings.base (program (started code.now)) k
             (plain_view (attempt_of self.old memory.old Outcome.Goes))) n) }
         ensures counted { OnOk result (self.new.n ≡ n) }
         ensures ram { memory.new.ram ≡ memory.old.ram }
@@ -245,7 +246,7 @@ impl Attempt {
     fn dispatch(&mut self, memory: &mut Memory, code: &Code) -> Result<Outcome, NoMemory>
         requires { 4 * length memory.old.ram ≡ code.now.settings.ram }
         ensures does { IfOk result (λ o. attempt_of self.new memory.new o
-            ≡ buffered_step code.now.settings.base (program code.now.settings code.now.image)
+            ≡ buffered_step code.now.settings.base (program (started code.now))
             (attempt_of self.old memory.old Outcome.Goes)) }
         ensures n { self.new.n ≡ self.old.n }
         ensures ram { memory.new.ram ≡ memory.old.ram }

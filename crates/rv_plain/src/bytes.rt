@@ -1,6 +1,5 @@
 // The bytes of a word: which an access reads, and the word in which it replaced them.
-ghost use Rattle.std.specs.Prelude.{◌≡◌, ℕ, ◌+◌, ◌<◌, ◌%◌, ◌^◌, slice_index};
-ghost use Rattle.rv_plain.specs.Image.{word_at, image_word};
+ghost use Rattle.std.specs.Prelude.{◌≡◌, ℕ, ◌<◌, ◌%◌};
 ghost use Rattle.tcc_base.specs.Bytes.{bytes_of};
 ghost use Rattle.tcc_program.specs.Ram.{unit_of, part, patched};
 
@@ -47,34 +46,4 @@ pub fn replace(word: u32, addr: u32, size: Size, value: u32) -> u32
     let above = unit * span;
     let word = word as u64;
     (word % unit + value as u64 % span * unit + word / above * above) as u32
-}
-
-fn byte(image: &[u8], i: usize) -> u32
-    ensures value { result ≡ slice_index image.now i }
-    ensures small { result < 256 }
-{
-    match image.get(i) {
-        Some(b) => *b as u32,
-        None => 0,
-    }
-}
-
-/// The word of four bytes from an index on, little-endian, with zeros past the end. Takes no memory.
-#[tactic(auto, unfolding(crate::specs::Image::word_at))]
-pub fn word(image: &[u8], at: usize) -> u32
-    requires { at + 3 < 2 ^ 64 }
-    ensures { result ≡ word_at image.now at }
-{
-    byte(image, at)
-        + 256 * byte(image, at + 1)
-        + 65_536 * byte(image, at + 2)
-        + 16_777_216 * byte(image, at + 3)
-}
-
-/// Word `w` of the memory in which the image lies. Takes no memory.
-#[tactic(auto, unfolding(crate::specs::Image::image_word))]
-pub fn word_of_image(image: &[u8], w: u32) -> u32
-    ensures { result ≡ image_word image.now w }
-{
-    word(image, 4 * w as usize)
 }

@@ -1,16 +1,17 @@
 // RAM with a write buffer before it: what a transaction stores waits here until it commits.
 ghost use Rattle.std.specs.Prelude.{◌≡◌, ℕ, ◌<◌, ◌≤◌, ◌*◌, ◌/◌, IfOk, OnOk, OnErr, Some, [], length};
+ghost use Rattle.image_load.specs.Contents.{started};
 ghost use Rattle.rv_plain.specs.Buffered.{seen};
-ghost use Rattle.rv_plain.specs.Image.{image_word};
+ghost use Rattle.rv_plain.specs.Machine.{first_ram};
 ghost use Rattle.rv_plain.specs.Store.{buffer_of, IsInside};
 ghost use Rattle.tcc_base.specs.Put.{put};
 ghost use Rattle.tcc_program.specs.Ram.{flat};
 
-use crate::bytes;
+use crate::code::Code;
 use std::alloc::Global;
 use std::collections::BTreeMap;
 use std::marker::Model;
-use tcc_base::NoMemory;
+use tcc_base::{NoMemory, WordAddr};
 
 /// RAM by word, and the words that wait to be written to it.
 #[derive(Debug, Drop)]
@@ -32,17 +33,16 @@ impl Model for Memory {
 
 #[tactic(auto, unfolding(crate::specs::Store::buffer_of, crate::specs::Buffered::seen, tcc_program::specs::Ram::flat))]
 impl Memory {
-    /// RAM of `words` words that begins with the image's bytes, little-endian, and is zero after them. Nothing waits.
-    pub fn new(alloc: Global, words: u32, image: &[u8]) -> Result<Memory, NoMemory>
-        requires { length image.now ≤ 4 * words }
-        ensures length { IfOk result (λ m. length m.ram ≡ words) }
-        ensures ram { IfOk result (λ m. flat m.ram ≡ image_word image.now) }
+    /// RAM as it was loaded. Nothing waits.
+    pub fn new(alloc: Global, code: &Code) -> Result<Memory, NoMemory>
+        ensures length { IfOk result (λ m. 4 * length m.ram ≡ code.now.settings.ram) }
+        ensures ram { IfOk result (λ m. flat m.ram ≡ first_ram (started code.now)) }
         ensures buffer { IfOk result (λ m. m.waiting ≡ []) }
     {
+        let words = code.config().words();
         let mut ram = Vec::with_capacity(alloc, words as usize).map_err(|_| NoMemory)?;
         for w in 0..words {
-            ram.push(bytes::word_of_image(image, w))
-                .map_err(|_| NoMemory)?;
+            ram.push(code.word(WordAddr(w))).map_err(|_| NoMemory)?;
         }
         Ok(Memory {
             ram,

@@ -1,8 +1,8 @@
 // The plain machine: one RAM, whole transactions one after another.
 ghost use Rattle.std.specs.Prelude.{◌≡◌, ℕ, ◌+◌, ◌-◌, ◌*◌, ◌^◌, ◌<◌, ◌≤◌, IfOk, IfErr, OnErr, OnOk, IsErrAnd, MatchResult, IsSomeAnd, Some, [], ◌++◌, length, slice_index, slice_index_or, slice_set};
+ghost use Rattle.image_load.specs.Contents.{started};
 ghost use Rattle.rv_plain.specs.Buffered.{seen};
-ghost use Rattle.rv_plain.specs.Image.{image_word};
-ghost use Rattle.rv_plain.specs.Machine.{started, start_regs, start_core};
+ghost use Rattle.rv_plain.specs.Machine.{plain_start, start_regs, start_core};
 ghost use Rattle.rv_plain.specs.Cores.{core_of, no_state};
 ghost use Rattle.rv_plain.specs.Endings.{IsFault, IsCoreFault};
 ghost use Rattle.rv_plain.specs.Store.{buffer_of};
@@ -12,6 +12,7 @@ ghost use Rattle.tcc_program.specs.Ram.{flat};
 use crate::attempt::{Attempt, Outcome};
 use crate::code::Code;
 use crate::memory::Memory;
+use image_load::Loaded;
 use reg_checkpoint::Regs;
 use std::alloc::Global;
 use std::marker::Model;
@@ -132,18 +133,19 @@ fn copy_cores(alloc: Global, cores: &[CoreState]) -> Result<List<CoreState>, NoM
 impl Plain {
     ghost use Rattle.rv_plain.specs.PlainState.{PlainState, plain_of, Did, IsPlainFault, HasNoTransaction};
 
-    /// The machine before its first transaction: the image in RAM from its base on, zeros after it, and each core at the
-    /// image's first word.
-    pub fn start(alloc: Global, config: &Config, image: &[u8]) -> Result<Plain, NoMemory>
-        requires { length image.now ≤ config.now.ram }
-        ensures loaded { IfOk result (λ p. p.loaded ≡ record { settings = config.now; image = image.now }) }
-        ensures started { IfOk result (λ p. plain_of p ≡ started config.now image.now) }
+    /// The machine before its first transaction: RAM as it was loaded, and each core at its entry. The memory was loaded
+    /// with these settings; the machine keeps a copy of it.
+    pub fn start(alloc: Global, config: &Config, loaded: &Loaded) -> Result<Plain, NoMemory>
+        requires { loaded.now.settings ≡ config.now }
+        ensures loaded { IfOk result (λ p. p.loaded ≡ loaded.now) }
+        ensures started { IfOk result (λ p. plain_of p ≡ plain_start (started loaded.now)) }
     {
-        let code = Code::new(alloc, config, image)?;
-        let memory = Memory::new(alloc, config.words(), image)?;
+        let copy = loaded.copy()?;
+        let code = Code::new(copy);
+        let memory = Memory::new(alloc, &code)?;
         let mut cores = List::new(alloc);
         for core in 0..config.cores() {
-            cores.push(start_core(alloc, config.cores(), core, config.base()))?;
+            cores.push(start_core(alloc, config.cores(), core, loaded.entry(CoreId(core))))?;
         }
         Ok(Plain {
             alloc,
@@ -162,7 +164,7 @@ impl Plain {
     pub(crate) fn copy(&self) -> Result<Plain, NoMemory>
         ensures { IfOk result (λ p. p ≡ self.now) }
     {
-        let code = self.code.copy(self.alloc)?;
+        let code = self.code.copy()?;
         let memory = self.memory.copy(self.alloc)?;
         let cores = copy_cores(self.alloc, &self.cores.items)?;
         Ok(Plain {

@@ -2,9 +2,10 @@
 ghost use Rattle.std.specs.Prelude.{◌≡◌, ◌<◌, IfSome};
 
 use crate::{Order, Plain, PlainFault, SerialFault};
+use image_load::{load, raw};
 use std::alloc::Global;
 use std::test::Fail;
-use tcc_base::{Config, CoreEnd, CoreId, Reg, Size, Stored, Tid, WordAddr};
+use tcc_base::{Config, CoreEnd, CoreId, List, Reg, Size, Stored, Tid, WordAddr};
 
 const IMAGE: [u8; 24] = [
     0x93, 0x02, 0x70, 0x00, // addi x5, x0, 7
@@ -20,7 +21,16 @@ fn machine(alloc: Global) -> Option<Plain>
     ensures ram { IfSome result (λ p. p.loaded.settings.ram ≡ 65536) }
 {
     let config = Config::new(2, 1, 16, 2, 0x8000_0000, 65_536).ok()?;
-    Plain::start(alloc, &config, &IMAGE).ok()
+    let file = List {
+        items: IMAGE.to_vec(alloc).ok()?,
+    };
+    match raw(alloc, &config, &[file]) {
+        Err(_) => None,
+        Ok(images) => match load(alloc, &config, &images) {
+            Err(_) => None,
+            Ok(loaded) => Plain::start(alloc, &config, &loaded).ok(),
+        },
+    }
 }
 
 fn order(tid: u64, core: u8, n: u32) -> Order

@@ -1,4 +1,5 @@
 use Rattle.std.proofs.Common.{refl}
+use Rattle.image_load.specs.Contents.{started}
 use Rattle.rv_plain.proofs.Stepping.{buffered_step-found, buffered_step-failed}
 use Rattle.rv_plain.specs.Attempts.{attempt_of}
 use Rattle.rv_plain.specs.declared.attempt.Outcome.TheVariants.{Goes}
@@ -7,11 +8,13 @@ use Rattle.rv_plain.proofs.attempt.Attempt.dispatch.Goals as goal
 pub returns-in-Err-clause-does : goal.returns-in-Err-clause-does
 unfolding attempt_of
 returns-in-Err-clause-does c =
-    rw (buffered_step-failed c.args.code.now.settings c.args.code.now.image (attempt_of c.args.self.now c.args.memory.now Goes) c.in-Err.trap c.in-Err.ensures)
+    let at = c.args.code.now in
+    rw (buffered_step-failed at.settings.base (started at) (attempt_of c.args.self.now c.args.memory.now Goes) c.in-Err.trap c.in-Err.ensures)
     refl
 
 pub returns-in-Ok-clause-does : goal.returns-in-Ok-clause-does
-unfolding attempt_of
+unfolding attempt_of started
 returns-in-Ok-clause-does c =
-    rw (buffered_step-found c.args.code.now.settings c.args.code.now.image (attempt_of c.args.self.now c.args.memory.now Goes) c.in-Ok.inst c.in-Ok.ensures)
+    let at = c.args.code.now in
+    rw (buffered_step-found at.settings.base (started at) (attempt_of c.args.self.now c.args.memory.now Goes) c.in-Ok.inst c.in-Ok.ensures)
     c.execute.ensures.does

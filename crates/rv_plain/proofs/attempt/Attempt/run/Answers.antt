@@ -1,4 +1,5 @@
 use Rattle.std.proofs.Common.{refl, ◌≡◌, ℕ, Option, Some, ◌+◌, arith, subst}
+use Rattle.image_load.specs.Contents.{started}
 use Rattle.rv_plain.proofs.Faults.{fault-early, fault-past}
 use Rattle.rv_plain.proofs.Views.{steps-next}
 use Rattle.rv_plain.specs.Attempts.{attempt_of}
@@ -16,7 +17,7 @@ pub returns-then-k-n-clause-runs : goal.returns-then-k-n-clause-runs
 unfolding attempt_of
 returns-then-k-n-clause-runs c =
     let base = c.args.code.now.settings.base in
-    let p = program c.args.code.now.settings c.args.code.now.image in
+    let p = program (started c.args.code.now) in
     let start = plain_view (attempt_of c.args.self.now c.args.memory.now Goes) in
     let next = steps-next base p c.loop-k.k start (attempt_of c.loop-k.self c.loop-k.memory Goes)
     (attempt_of c.step.new.self c.step.new.memory c.in-Ok.outcome) refl c.loop-k.invariant.0 c.in-Ok.ensures.does in
@@ -26,7 +27,7 @@ pub returns-else-k-n-clause-fault : goal.returns-else-k-n-clause-fault
 unfolding attempt_of plain_view
 returns-else-k-n-clause-fault c =
     let base = c.args.code.now.settings.base in
-    let p = program c.args.code.now.settings c.args.code.now.image in
+    let p = program (started c.args.code.now) in
     let start = plain_view (attempt_of c.args.self.now c.args.memory.now Goes) in
     let st : ℕ → Option Attempt = λ k. steps base p k start in
     let next = steps-next base p c.loop-k.k start (attempt_of c.loop-k.self c.loop-k.memory Goes)
@@ -38,7 +39,7 @@ pub loop-k-preserved : goal.loop-k-preserved
 unfolding attempt_of
 loop-k-preserved c =
     let base = c.args.code.now.settings.base in
-    let p = program c.args.code.now.settings c.args.code.now.image in
+    let p = program (started c.args.code.now) in
     let start = plain_view (attempt_of c.args.self.now c.args.memory.now Goes) in
     let next = steps-next base p c.loop-k.k start (attempt_of c.loop-k.self c.loop-k.memory Goes)
     (attempt_of c.step.new.self c.step.new.memory c.in-Ok.outcome) refl c.loop-k.invariant.0 c.in-Ok.ensures.does in (
@@ -53,7 +54,7 @@ pub returns-clause-fault : goal.returns-clause-fault
 unfolding attempt_of plain_view
 returns-clause-fault c =
     let base = c.args.code.now.settings.base in
-    let p = program c.args.code.now.settings c.args.code.now.image in
+    let p = program (started c.args.code.now) in
     let start = plain_view (attempt_of c.args.self.now c.args.memory.now Goes) in
     let st : ℕ → Option Attempt = λ k. steps base p k start in
     let last : c.loop-k.k ≡ c.args.n = grind (arith, c.loop-k.auto.k-end) in

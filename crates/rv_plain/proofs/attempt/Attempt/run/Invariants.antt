@@ -1,4 +1,5 @@
 use Rattle.std.proofs.Common.{◌≡◌, Some}
+use Rattle.image_load.specs.Contents.{started}
 use Rattle.rv_plain.specs.Attempts.{attempt_of}
 use Rattle.rv_plain.specs.Buffered.{plain_view}
 use Rattle.rv_plain.specs.Machine.{program}
@@ -8,7 +9,7 @@ use Rattle.rv_plain.proofs.attempt.Attempt.run.Given as goal
 
 abbrev pub invariant-loop-k : goal.invariant-loop-k
 invariant-loop-k l =
-    (steps l.code.settings.base (program l.code.settings l.code.image) l.k (plain_view (attempt_of l.fn.self l.fn.memory Goes))
+    (steps l.code.settings.base (program (started l.code)) l.k (plain_view (attempt_of l.fn.self l.fn.memory Goes))
     ≡ Some (plain_view (attempt_of l.self l.memory Goes)))
     × (l.self.n ≡ l.k)
     × (l.memory.ram ≡ l.fn.memory.ram)

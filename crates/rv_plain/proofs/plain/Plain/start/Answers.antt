@@ -1,13 +1,22 @@
-use Rattle.std.proofs.Common.{ℕ, ◌≡◌, ◌<◌, length, arith, slice_index_or}
+use Rattle.std.proofs.Common.{ℕ, ◌≡◌, ◌<◌, length, arith, slice_index_or, sym, ◌∙◌, ap, subst}
+use Rattle.image_load.specs.Contents.{started}
 use Rattle.rv_plain.proofs.Starts.{plain_of-started}
 use Rattle.rv_plain.specs.Cores.{core_of, no_state}
-use Rattle.rv_plain.specs.Machine.{start_core}
+use Rattle.rv_plain.specs.Machine.{start_core, first_ram}
+use Rattle.tcc_program.specs.Ram.{flat}
 use Rattle.rv_plain.proofs.plain.Plain.start.Goals as goal
 
 pub returns-clause-started : goal.returns-clause-started
+unfolding started
 returns-clause-started c =
+    let now = c.args.loaded.now in
     let len : length c.loop-core.cores ≡ c.args.config.now.cores = grind (arith, c.loop-core.invariant.0) in
     let each : (k : ℕ) → k < c.args.config.now.cores
-    → core_of (slice_index_or c.loop-core.cores k no_state) ≡ start_core c.args.config.now.cores k c.args.config.now.base
+    → core_of (slice_index_or c.loop-core.cores k no_state) ≡ start_core c.args.config.now.cores k ((started now).entry k)
     = λ k h. c.loop-core.invariant.1 k (omega arith) in
-    plain_of-started c.args.config.now c.args.image.now _ _ _ c.in_ok-memory.ensures.ram len each
+    let both = subst (λ s. (length c.loop-core.cores ≡ s.cores) × ((k : ℕ) → k < s.cores
+    → core_of (slice_index_or c.loop-core.cores k no_state) ≡ start_core s.cores k ((started now).entry k)))
+    (sym c.requires) (len, each) in
+    let ram = subst (λ l. flat c.in_ok-memory.memory.ram ≡ first_ram (started l)) (c.new-code.ensures ∙ c.in_ok-copy.ensures)
+    c.in_ok-memory.ensures.ram in
+    plain_of-started (started now) _ _ _ ram both.0 both.1
