@@ -4,14 +4,13 @@ use Rattle.std.proofs.Common.{refl, ap, sym, ◌∙◌, arith, length-append, su
 use Rattle.std.proofs.lemmas.Bool.{lt-ltb}
 use Rattle.std.proofs.lemmas.Bool.Decides.{nat_tests}
 use Rattle.std.proofs.lemmas.Grind.{common_steps}
+use Rattle.image_load.specs.Start.{Start}
 use Rattle.net_core.specs.Agreement.{start, committed, IsSerial, RunsAreSerial}
 use Rattle.net_core.specs.Rules.{Machine, phase_of, act, execute, commit, step, or_stay, run, fresh}
 use Rattle.rv_plain.proofs.Views.{steps-next}
 use Rattle.rv_plain.specs.Buffered.{Buffered, buffered, buffered_step, plain_view, seen}
-use Rattle.rv_plain.specs.Image.{image_word}
-use Rattle.rv_plain.specs.Machine.{program, started, start_core, start_local, no_core}
+use Rattle.rv_plain.specs.Machine.{program, plain_start, first_ram, start_core, start_local, core_at_start}
 use Rattle.tcc_base.specs.Put.{put}
-use Rattle.tcc_base.specs.Settings.{Settings}
 use Rattle.tcc_base.specs.declared.access.Commit.{Commit}
 use Rattle.tcc_base.specs.declared.access.CoreEnd.{CoreEnd}
 use Rattle.tcc_base.specs.declared.access.CoreEnd.TheVariants.{Run, Halt, Trap}
@@ -136,21 +135,19 @@ unfolding run
 keeps-run base p from zero m k = k
 keeps-run base p from (suc events) m k = keeps-step base p from (run base p events m) (keeps-run base p from events m k)
 
-start-cores : (s : Settings) → 1 ≤ s.cores → (j : ℕ)
-    → (if j == 0 then start_core s.cores 0 s.base else (if nat_lt j s.cores then start_core s.cores j s.base else no_core))
-    ≡ (if nat_lt j s.cores then start_core s.cores j s.base else no_core)
-start-cores s some zero = let some_core : nat_lt 0 s.cores ≡ true = lt-ltb 0 s.cores some in rw some_core refl
+start-cores : (s : Start) → 1 ≤ s.settings.cores → (j : ℕ)
+    → (if j == 0 then start_core s.settings.cores 0 (s.entry 0) else core_at_start s j) ≡ core_at_start s j
+start-cores s some zero = let some_core : nat_lt 0 s.settings.cores ≡ true = lt-ltb 0 s.settings.cores some in rw some_core refl
 start-cores s some (suc j) = grind (arith, nat_tests)
 
-start-kept : (s : Settings) (image : List ℕ) → 1 ≤ s.cores
-    → Kept s.base (program s image) (started s image) (start s image)
-unfolding IsSerial committed start started steps serial
-start-kept s image some = record {
-  serial = ap (λ m. Some (m, [])) (λ i. record { ram = image_word image; cores = λ j. (sym (start-cores s some j)) i });
+start-kept : (s : Start) → 1 ≤ s.settings.cores → Kept s.settings.base (program s) (plain_start s) (start s)
+unfolding IsSerial committed start plain_start steps serial
+start-kept s some = record {
+  serial = ap (λ m. Some (m, [])) (λ i. record { ram = first_ram s; cores = λ j. (sym (start-cores s some j)) i });
   last = refl;
-  does = ap (λ a. Some a) (sym (fresh-begun (start_local s.cores 0 s.base) (image_word image)));
+  does = ap (λ a. Some a) (sym (fresh-begun (start_local s.settings.cores 0 (s.entry 0)) (first_ram s)));
 }
 
 pub runs_serial : RunsAreSerial
-runs_serial s image events some =
-    (keeps-run s.base (program s image) (started s image) events (start s image) (start-kept s image some)).serial
+runs_serial s events some =
+    (keeps-run s.settings.base (program s) (plain_start s) events (start s) (start-kept s some)).serial

@@ -1,24 +1,23 @@
 -- What the machine with the write buffer has in common with the plain machine: the commits are a serial execution, each with
 -- the loads, stores and console bytes that it has there, and the committed registers, RAM and console are those after it.
 use Rattle.std.specs.Prelude.{ℕ, ◌≡◌, ◌≤◌, List, [], map, length, Option, Some}
+use Rattle.image_load.specs.Start.{Start}
 use Rattle.net_core.specs.Rules.{Machine, run, fresh}
 use Rattle.rv_plain.specs.Buffered.{plain_view}
-use Rattle.rv_plain.specs.Image.{image_word}
-use Rattle.rv_plain.specs.Machine.{program, started, start_local}
+use Rattle.rv_plain.specs.Machine.{program, plain_start, first_ram, start_local}
 use Rattle.tcc_base.specs.Put.{put}
-use Rattle.tcc_base.specs.Settings.{Settings}
 use Rattle.tcc_base.specs.declared.access.Commit.{Commit}
 use Rattle.tcc_base.specs.declared.access.CoreEnd.TheVariants.{Run}
 use Rattle.tcc_program.specs.Orders.{order_of_commit, last_tid}
 use Rattle.tcc_program.specs.Plain.{Plain, PlainCore, serial, steps, begun}
 use Rattle.tcc_program.specs.Program.{Program}
 
--- the machine at its start: one core, at the image's first word
-unfoldable pub start : Settings → List ℕ → Machine
-start s image = record {
-  attempt = fresh (start_local s.cores 0 s.base) (image_word image);
+-- the machine at its start: one core, at its entry
+unfoldable pub start : Start → Machine
+start s = record {
+  attempt = fresh (start_local s.settings.cores 0 (s.entry 0)) (first_ram s);
   n = 0;
-  check = start_local s.cores 0 s.base;
+  check = start_local s.settings.cores 0 (s.entry 0);
   ended = Run;
   console = [];
   commits = [];
@@ -41,5 +40,5 @@ IsSerial base p start m =
 -- the headline: so it is after any number of events
 abbrev pub RunsAreSerial : Type 0
 RunsAreSerial =
-    (s : Settings) (image : List ℕ) (events : ℕ) → 1 ≤ s.cores
-    → IsSerial s.base (program s image) (started s image) (run s.base (program s image) events (start s image))
+    (s : Start) (events : ℕ) → 1 ≤ s.settings.cores
+    → IsSerial s.settings.base (program s) (plain_start s) (run s.settings.base (program s) events (start s))

@@ -1,12 +1,12 @@
 -- What the code's machine stands for, and what its answers tell.
 use Rattle.std.specs.Prelude.{ℕ, List, ◌≡◌, ◌+◌, ◌==◌, length, if◌then◌else◌, Option, None}
+use Rattle.image_load.specs.Contents.{Contents, started}
 use Rattle.net_core.specs.Rules.{Machine, Phase, Running, Ready, Halted, phase_of, step}
 use Rattle.net_core.specs.declared.system.Step.{Step}
 use Rattle.net_core.specs.declared.system.Step.TheVariants.{Moved, Committed}
 use Rattle.reg_checkpoint.specs.Registers.{Checkpoint}
 use Rattle.rv_exec.specs.Needs.{local_of}
 use Rattle.rv_plain.specs.Attempts.{attempt_of}
-use Rattle.rv_plain.specs.Loaded.{Loaded}
 use Rattle.rv_plain.specs.Machine.{program}
 use Rattle.rv_plain.specs.Store.{Store}
 use Rattle.rv_plain.specs.declared.attempt.Attempt.{Attempt}
@@ -17,7 +17,7 @@ use Rattle.tcc_msg.specs.declared.event.Event.{Event}
 use Rattle.tcc_msg.specs.declared.event.Event.TheVariants.{Exec, Evict, Deliver}
 
 pub record SystemState : Type 0 where
-  pub loaded : Loaded
+  pub loaded : Contents
   pub memory : Store
   pub attempt : Attempt
   pub outcome : Outcome
@@ -40,7 +40,7 @@ machine_of s = record {
 
 -- the rules at this machine's program
 abbrev pub core_step : SystemState → Option Machine
-core_step s = step s.loaded.settings.base (program s.loaded.settings s.loaded.image) (machine_of s)
+core_step s = step s.loaded.settings.base (program (started s.loaded)) (machine_of s)
 
 -- the machine after an event; None where it isn't enabled: only core 0 executes, and nothing is evicted or delivered
 abbrev pub event_step : SystemState → Event → Option Machine

@@ -1,6 +1,7 @@
 // One core with a write buffer before its RAM, as one object whose events are taken one by one.
 ghost use Rattle.std.specs.Prelude.{◌≡◌, ℕ, ◌+◌, ◌*◌, ◌<◌, ◌≤◌, ◌++◌, ◌↔◌, IfOk, IfErr, OnErr, OnOk, IsSomeAnd, IsErrOf, IsTrue, None, Some, is_ok, if◌then◌else◌, length};
 ghost use Rattle.std.specs.Vec.{vec_len, vec_capacity};
+ghost use Rattle.image_load.specs.Contents.{started};
 ghost use Rattle.net_core.specs.Agreement.{start};
 ghost use Rattle.net_core.specs.Rules.{IsDone, execute, commit};
 ghost use Rattle.rv_plain.specs.Endings.{HasEnded};
@@ -11,6 +12,7 @@ ghost use Rattle.std.specs.Option.{option_map};
 ghost use Rattle.tcc_program.specs.Plain.{end_of};
 ghost use Rattle.tcc_program.specs.Ram.{flat};
 
+use image_load::Loaded;
 use reg_checkpoint::{Check, Regs};
 use rv_plain::{Attempt, Code, Memory, Outcome, start_regs};
 use std::alloc::Global;
@@ -142,22 +144,25 @@ impl System {
         &self.code
     }
 
-    /// The machine before its first event: the image in RAM from its base on, zeros after it, and the core at its first word.
-    pub fn start(alloc: Global, config: &Config, image: &[u8]) -> Result<System, NoMemory>
-        requires { length image.now ≤ config.now.ram }
-        ensures loaded { IfOk result (λ s. s.loaded ≡ record { settings = config.now; image = image.now }) }
-        ensures started { IfOk result (λ s. machine_of s ≡ start config.now image.now) }
+    /// The machine before its first event: RAM as it was loaded, and the core at its entry. The memory was loaded with these
+    /// settings; the machine keeps a copy of it.
+    pub fn start(alloc: Global, config: &Config, loaded: &Loaded) -> Result<System, NoMemory>
+        requires { loaded.now.settings ≡ config.now }
+        ensures loaded { IfOk result (λ s. s.loaded ≡ loaded.now) }
+        ensures started { IfOk result (λ s. machine_of s ≡ start (started loaded.now)) }
     {
-        let code = Code::new(alloc, config, image)?;
-        let memory = Memory::new(alloc, config.words(), image)?;
+        let copy = loaded.copy()?;
+        let code = Code::new(copy);
+        let memory = Memory::new(alloc, &code)?;
         let regs = start_regs(config.cores(), 0);
+        let entry = loaded.entry(CoreId(0));
         Ok(System {
             alloc,
             code,
             memory,
-            attempt: Attempt::begin(alloc, regs, config.base()),
+            attempt: Attempt::begin(alloc, regs, entry),
             outcome: Outcome::Goes,
-            check: Check::save(&regs, config.base()),
+            check: Check::save(&regs, entry),
             ended: CoreEnd::Run,
             console: List::new(alloc),
             commits: Vec::new(alloc),
@@ -209,7 +214,7 @@ impl System {
     fn execute(&mut self) -> Result<Step, StepError>
         requires room { self.old.events < 4194304 }
         requires going { self.old.outcome ≡ Outcome.Goes }
-        ensures moves { OnOk result (machine_of self.new ≡ execute self.old.loaded.settings.base (program self.old.loaded.settings self.old.loaded.image) (machine_of self.old)) }
+        ensures moves { OnOk result (machine_of self.new ≡ execute self.old.loaded.settings.base (program (started self.old.loaded)) (machine_of self.old)) }
         ensures moved { IfOk result (λ s. s ≡ Step.Moved) }
         ensures memory { IfErr result (λ f. f ≡ StepError.Memory) }
         ensures counted { OnOk result (self.new.events ≡ self.old.events + 1) }

@@ -1,7 +1,8 @@
 // One run of the machine, event by event.
 use crate::{Step, StepError, System};
+use image_load::{load, raw};
 use std::test::Fail;
-use tcc_base::{Config, CoreEnd, CoreId, Tid};
+use tcc_base::{Config, CoreEnd, CoreId, List, Tid};
 use tcc_msg::Event;
 
 #[test]
@@ -12,7 +13,12 @@ fn a_store_waits_until_it_commits(rt: HostRuntime) -> Result<(), Fail> {
         0x00,
     ];
     let config = Config::new(1, 1, 16, 2, 0x8000_0000, 65_536)?;
-    let mut system = System::start(alloc, &config, &image)?;
+    let file = List {
+        items: image.to_vec(alloc)?,
+    };
+    let images = raw(alloc, &config, &[file])?;
+    let loaded = load(alloc, &config, &images)?;
+    let mut system = System::start(alloc, &config, &loaded)?;
     let exec = Event::Exec(CoreId(0));
     for _ in 0..4 {
         assert!(rt; system.events() < 9);

@@ -1,4 +1,5 @@
 use Rattle.std.proofs.Common.{refl}
+use Rattle.image_load.specs.Contents.{started}
 use Rattle.net_core.specs.Agreement.{start}
 use Rattle.net_core.specs.SystemState.{machine_of}
 use Rattle.rv_plain.specs.Attempts.{attempt_of}
@@ -6,7 +7,7 @@ use Rattle.rv_plain.specs.Store.{buffer_of}
 use Rattle.net_core.proofs.system.System.start.Goals as goal
 
 pub returns-clause-started : goal.returns-clause-started
-unfolding machine_of start attempt_of buffer_of
+unfolding machine_of start started attempt_of buffer_of
 returns-clause-started c =
     rw (
       c.begin.ensures,
@@ -14,9 +15,11 @@ returns-clause-started c =
       c.start_regs-regs.ensures,
       c.in_ok-memory.ensures.ram,
       c.in_ok-memory.ensures.buffer,
-      c.base.ensures.value,
-      c.base-2.ensures.value,
+      c.new-code.ensures,
+      c.in_ok-copy.ensures,
+      c.entry-entry.ensures,
       c.cores.ensures.value,
-      c.new-3.ensures,
-      c.new-4.ensures.items,
+      c.requires,
+      c.new-2.ensures,
+      c.new-3.ensures.items,
     ) refl
