@@ -1,22 +1,21 @@
 -- The headline at the program's own machine, and why its answers are complete.
-use Rattle.std.proofs.Common.{ℕ, ◌≡◌, ◌≤◌, List, [], ◌∷◌, length, Option, Some, arith, refl, sym, ◌∙◌, ap, subst, get_or, inl, inr}
+use Rattle.std.proofs.Common.{ℕ, ◌≡◌, List, [], Option, Some, arith, sym, ◌∙◌, ap, subst, get_or}
+use Rattle.image_load.specs.Start as image_load
 use Rattle.net_core.proofs.Serial.{runs_serial}
 use Rattle.net_core.specs.Agreement.{IsSerial}
-use Rattle.rv_plain.specs.Machine.{program, started}
-use Rattle.std.specs.Str.Parse.{digits_value}
-use Rattle.tcc_cli.specs.Asked.{Asked, IsCommand, run_word}
-use Rattle.tcc_cli.specs.First.{settings, run_of}
-use Rattle.tcc_cli.specs.Numbers.{radix_of, digits_of}
-use Rattle.tcc_cli.specs.Top.{Around, Caused, Answers, Took, Shows, IsAccepted, IsRefused, IsLeft, AnswersAreComplete}
+use Rattle.rv_plain.specs.Machine.{program, plain_start}
+use Rattle.tcc_cli.specs.Asked.{Asked, IsCommand}
+use Rattle.tcc_cli.specs.First.{IsAccepted, settings, start_of, run_of}
+use Rattle.tcc_cli.specs.Top.{Around, Caused, Answers, IsRefused, AnswersAreComplete}
 use Rattle.tcc_cli.specs.declared.status.Status.{Status}
 use Rattle.tcc_cli.specs.declared.status.Status.TheVariants.{Done, Stopped, Words, Image, StoreFault, SinkFault, Memory}
 use Rattle.tcc_world.specs.Faults.{Rose}
 use Rattle.tcc_world.specs.Told.{Gives}
 
 pub run_is_serial : (image : List ℕ) (steps : ℕ)
-    → IsSerial settings.base (program settings image) (started settings image) (run_of image steps)
-unfolding run_of
-run_is_serial image steps = runs_serial settings image steps (omega arith)
+    → IsSerial settings.base (program (start_of image)) (plain_start (start_of image)) (run_of image steps)
+unfolding run_of start_of image_load.start
+run_is_serial image steps = runs_serial (start_of image) steps (omega arith)
 
 -- the words ask for one file
 same_file : (words : List (List ℕ)) (a b : Asked) → IsCommand words a → IsCommand words b → a.file ≡ b.file

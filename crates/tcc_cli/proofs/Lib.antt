@@ -1,4 +1,5 @@
 pub mod Digits
 pub mod Headline
+pub mod Accepted
 pub mod Running
 pub mod Wording

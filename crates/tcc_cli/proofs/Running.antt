@@ -1,11 +1,11 @@
 -- A run event by event.
-use Rattle.std.proofs.Common.{ℕ, zero, suc, List, ◌≡◌, ◌+◌, ◌-◌, ◌≤◌, Some, None, refl, sym, ◌∙◌, ap, arith, add-one, add-zero, add-suc, subst}
+use Rattle.std.proofs.Common.{ℕ, zero, suc, List, ◌≡◌, ◌+◌, ◌-◌, ◌≤◌, Some, None, refl, ◌∙◌, arith, add-one, add-zero, add-suc, subst}
+use Rattle.image_load.specs.Contents.{Contents, started}
 use Rattle.net_core.specs.Agreement.{start}
-use Rattle.net_core.specs.Rules.{Machine, run, step, or_stay}
-use Rattle.rv_plain.specs.Loaded.{Loaded}
+use Rattle.net_core.specs.Rules.{Machine, run, step}
 use Rattle.rv_plain.specs.Machine.{program}
 use Rattle.tcc_base.specs.Settings.{Settings}
-use Rattle.tcc_cli.specs.First.{settings, run_of}
+use Rattle.tcc_cli.specs.First.{settings, start_of, run_of}
 use Rattle.tcc_program.specs.Program.{Program}
 
 pub run-more : (base : ℕ) (p : Program) (k : ℕ) (from now next : Machine) → now ≡ run base p k from
@@ -28,13 +28,12 @@ run-rests base p k n from now le is stays =
     let all : k + (n - k) ≡ n = omega arith in
     subst (λ j. now ≡ run base p j from) all (run-stays base p k (n - k) from now is stays)
 
--- a run of the machine that the settings and the image start
-pub run-whole : (now begun : Machine) (l : Loaded) (config : Settings) (image : List ℕ) (steps : ℕ)
-    → now ≡ run l.settings.base (program l.settings l.image) steps begun
-    → l ≡ record { settings = config; image = image } → begun ≡ start config image → config ≡ settings
-    → now ≡ run_of image steps
+-- a run of the machine that a loaded memory starts
+pub run-whole : (now begun : Machine) (l : Contents) (config : Settings) (image : List ℕ) (steps : ℕ)
+    → now ≡ run l.settings.base (program (started l)) steps begun → begun ≡ start (started l) → started l ≡ start_of image
+    → l.settings ≡ config → config ≡ settings → now ≡ run_of image steps
 unfolding run_of
-run-whole now begun l config image steps runs loaded starts is =
-    let one = subst (λ x. now ≡ run x.settings.base (program x.settings x.image) steps begun) loaded runs in
-    let two = subst (λ m. now ≡ run config.base (program config image) steps m) starts one in
-    subst (λ s. now ≡ run s.base (program s image) steps (start s image)) is two
+run-whole now begun l config image steps runs starts same kept is =
+    let one = subst (λ m. now ≡ run l.settings.base (program (started l)) steps m) starts runs in
+    let two = subst (λ s. now ≡ run l.settings.base (program s) steps (start s)) same one in
+    subst (λ s. now ≡ run s.base (program (start_of image)) steps (start (start_of image))) (kept ∙ is) two

@@ -1,31 +1,27 @@
 -- What each answer of the program says: its cause, and what was written with it.
-use Rattle.std.specs.Prelude.{ℕ, Bool, true, false, List, length, take, ◌≡◌, ◌<◌, ◌≤◌, ◌⊎◌, Option, Some}
+use Rattle.std.specs.Prelude.{ℕ, Bool, true, false, List, length, take, ◌≡◌, ◌<◌, ◌⊎◌, Option, Some}
 use Rattle.net_core.specs.Agreement.{IsSerial}
-use Rattle.rv_plain.specs.Machine.{program, started}
+use Rattle.rv_plain.specs.Machine.{program, plain_start}
 use Rattle.tcc_cli.specs.Asked.{Asked, IsCommand, NoCommand}
-use Rattle.tcc_cli.specs.First.{settings, run_of, is_halted, text_of}
+use Rattle.tcc_cli.specs.First.{IsAccepted, settings, start_of, run_of, is_halted, text_of}
 use Rattle.tcc_cli.specs.declared.status.Status.{Status}
 use Rattle.tcc_cli.specs.declared.status.Status.TheVariants.{Done, Stopped, Words, Image, StoreFault, SinkFault, Memory}
 use Rattle.tcc_world.specs.Faults.{Rose}
 use Rattle.tcc_world.specs.Told.{Gives, appended}
-
--- an image that the machine takes: at least one word, and no more bytes than RAM has
-abbrev pub IsAccepted : List ℕ → Type 0
-IsAccepted image = (4 ≤ length image) × (length image ≤ 65536)
 
 abbrev pub IsRefused : List ℕ → Type 0
 IsRefused image = (length image < 4) ⊎ (65536 < length image)
 
 -- the report of the image's run of at most so many events
 abbrev pub the_report : List ℕ → ℕ → List ℕ
-the_report image steps = text_of image (run_of image steps)
+the_report image steps = text_of (start_of image) (run_of image steps)
 
 -- the whole report stands behind what the sink told before; `done` is whether a halt or a trap is committed at the end
 pub record Reported (image : List ℕ) (steps : ℕ) (before after : Option (List ℕ)) (done : Bool) : Type 0 where
   pub ended : is_halted (run_of image steps).ended ≡ done
   -- the headline: the printed commits are a serial execution of the plain machine, and the printed loads, registers, memory and
   -- console are those of that execution
-  pub serial : IsSerial settings.base (program settings image) (started settings image) (run_of image steps)
+  pub serial : IsSerial settings.base (program (start_of image)) (plain_start (start_of image)) (run_of image steps)
   pub written : after ≡ appended before (the_report image steps)
 
 -- a first part of the report was written, and not all of it

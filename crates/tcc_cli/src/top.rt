@@ -1,6 +1,7 @@
 // The program as one call: its words, files, outputs and gate in, its status out.
 ghost use Rattle.std.specs.Prelude.{◌≡◌, ℕ, ◌≤◌, List, map};
-ghost use Rattle.tcc_cli.specs.Top.{Caused, Answers, Shows, IsAccepted};
+ghost use Rattle.tcc_cli.specs.First.{IsAccepted};
+ghost use Rattle.tcc_cli.specs.Top.{Caused, Answers, Shows};
 
 use crate::simulation::simulate;
 use crate::status::Status;

@@ -1,4 +1,5 @@
-use Rattle.std.proofs.Common.{◌≡◌, ℕ, IfOk, refl, subst, ap, ◌∙◌}
+use Rattle.std.proofs.Common.{◌≡◌, IfOk, subst, sym, ap, ◌∙◌}
+use Rattle.image_load.specs.Contents.{started}
 use Rattle.net_core.specs.Agreement.{start}
 use Rattle.net_core.specs.SystemState.{machine_of}
 use Rattle.std.specs.String.{string_bytes}
@@ -11,20 +12,27 @@ unfolding machine_of start
 run_for-requires-clause-first c = ap (λ m. m.events) c.in_ok-system.ensures.started
 
 pub finish-requires : goal.finish-requires
-finish-requires c = rw (c.in_ok-run_for.ensures.loaded, c.in_ok-system.ensures.loaded) c.in-Ok.ensures.settings
+finish-requires c =
+    ap (λ l. l.settings) (c.in_ok-run_for.ensures.loaded ∙ c.in_ok-system.ensures.loaded)
+    ∙ c.in_ok-loaded.ensures.settings
+    ∙ c.in-Ok.ensures.settings
 
 pub returns-clause-done : goal.returns-clause-done
 returns-clause-done c =
+    let here = c.in_ok-system.ensures.loaded in
     let same = run-whole (machine_of c.run_for.new.system) (machine_of c.in_ok-system.system) c.in_ok-system.system.loaded
-    c.in-Ok.config c.args.image.now c.args.steps c.in_ok-run_for.ensures.runs c.in_ok-system.ensures.loaded
-    c.in_ok-system.ensures.started c.in-Ok.ensures.settings in
+    c.in-Ok.config c.args.image.now c.args.steps c.in_ok-run_for.ensures.runs
+    (c.in_ok-system.ensures.started ∙ ap (λ l. start (started l)) (sym here)) (ap started here ∙ c.in_ok-loaded.ensures.start)
+    (ap (λ l. l.settings) here ∙ c.in_ok-loaded.ensures.settings) c.in-Ok.ensures.settings in
     subst (λ m. IfOk c.finish.result (λ f. f.done ≡ is_halted m.ended)) same c.finish.ensures.done
 
 pub returns-clause-text : goal.returns-clause-text
 returns-clause-text c =
+    let here = c.in_ok-system.ensures.loaded in
     let same = run-whole (machine_of c.run_for.new.system) (machine_of c.in_ok-system.system) c.in_ok-system.system.loaded
-    c.in-Ok.config c.args.image.now c.args.steps c.in_ok-run_for.ensures.runs c.in_ok-system.ensures.loaded
-    c.in_ok-system.ensures.started c.in-Ok.ensures.settings in
-    let image = ap (λ l. l.image) (c.in_ok-run_for.ensures.loaded ∙ c.in_ok-system.ensures.loaded) in
-    subst (λ i. IfOk c.finish.result (λ f. string_bytes f.text ≡ text_of i (run_of c.args.image.now c.args.steps))) image
-    (subst (λ m. IfOk c.finish.result (λ f. string_bytes f.text ≡ text_of c.run_for.new.system.loaded.image m)) same c.finish.ensures.text)
+    c.in-Ok.config c.args.image.now c.args.steps c.in_ok-run_for.ensures.runs
+    (c.in_ok-system.ensures.started ∙ ap (λ l. start (started l)) (sym here)) (ap started here ∙ c.in_ok-loaded.ensures.start)
+    (ap (λ l. l.settings) here ∙ c.in_ok-loaded.ensures.settings) c.in-Ok.ensures.settings in
+    let from = ap started (c.in_ok-run_for.ensures.loaded ∙ here) ∙ c.in_ok-loaded.ensures.start in
+    subst (λ s. IfOk c.finish.result (λ f. string_bytes f.text ≡ text_of s (run_of c.args.image.now c.args.steps))) from
+    (subst (λ m. IfOk c.finish.result (λ f. string_bytes f.text ≡ text_of (started c.run_for.new.system.loaded) m)) same c.finish.ensures.text)
