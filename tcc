@@ -17,7 +17,7 @@ is_built() {
 # Proves and builds the program. Without words it ends with status 2 at once, so its own status says nothing here.
 build() {
     if ! command -v rt >/dev/null; then
-        echo "tcc: the program isn't built yet, and rt isn't on the path (it is in the bin folder of the Rattle kit)" >&2
+        echo "tcc: the program has to be built, and rt isn't on the path (it is in the bin folder of the Rattle kit)" >&2
         return 1
     fi
     local log

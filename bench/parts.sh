@@ -27,7 +27,7 @@ a_round() {
 
 show() { awk "BEGIN { printf \"%.1f\", $1 / 1000 / $2 }"; }
 
-echo "pool: look up, remove, look up, add; ns a round"
+echo "pool: remove, look up, add; ns a round"
 for held in 10 1000 100000; do
     echo "  $held held: $(show "$(a_round 4000000 crates/bench_pool/out/bench_pool $held)" 1)"
 done

@@ -3,8 +3,8 @@
 #
 #     ./tcc run examples/squares.bin 1000
 #
-# It halts after 128 events: 122 instructions and 6 commits. The console has `1 4 9 16 25 `, and the last commit's five loads are in
-# the report.
+# It halts after 128 events: 122 instructions and 6 commits. The console has `1 4 9 16 25 `, and the report has the last
+# commit's five loads.
 #
 # A report gives the console in hexadecimal. To read it as text:
 #

@@ -1,24 +1,19 @@
 -- What each call does to the maps, where the line has a frame and where it has none.
-use Rattle.std.proofs.Common.{ℕ, suc, zero, ◌+◌, ◌*◌, ◌/◌, ◌%◌, ◌<◌, ◌≤◌, ◌≡◌, ◌≢◌, Bool, true, false, not, cond, ◌&&◌, ◌||◌, ◌⊎◌, inl, inr, List, length, get_or, set, Option, Some, None, is_some, nat_eq, refl, sym, ◌∙◌, ap, subst, arith}
-use Rattle.std.specs.Option.{option_map}
-use Rattle.std.proofs.lemmas.Bool.{cases_eq, eq-eqb, ne_eqb, eqb-true, and_parts}
+use Rattle.std.proofs.Common.{ℕ, ◌<◌, ◌≡◌, Bool, true, false, cond, List, set, Option, Some, None, nat_eq, refl, sym, ◌∙◌, ap, subst}
+use Rattle.std.proofs.lemmas.Bool.{eq-eqb, eqb-true, and_parts}
 use Rattle.tcc_maps.specs.Words.{line_of, place_of}
 use Rattle.tcc_maps.specs.Masks.{hit}
-use Rattle.tcc_maps.specs.Cache.{Cache, dirty_copy, keeps}
 use Rattle.tcc_maps.specs.CacheChange.{marked, stored, filled, invalidated, cleaned, word_dropped, rolled_back, read_cleared, committed}
 use Rattle.spec_cache.specs.declared.frame.Change.TheVariants.{RollBack, ClearRead, Commit}
 use Rattle.spec_cache.specs.Change.{all_changed}
 use Rattle.spec_cache.proofs.MapsAll.{maps-rolled_back, maps-read_cleared, maps-committed}
-use Rattle.tcc_maps.specs.CacheLook.{reads_masked}
-use Rattle.tcc_maps.specs.Bridge.{tagged_of}
 use Rattle.spec_cache.specs.declared.frame.FrameView.{FrameView}
-use Rattle.spec_cache.specs.Frame.{value_in, read_in, modified_in, dirty_in, IsWay, IsFrame, dirty_part, marked_frame, stored_frame, filled_frame, invalidated_frame, cleaned_frame, dropped_frame}
+use Rattle.spec_cache.specs.Frame.{value_in, modified_in, dirty_in, IsWay, IsFrame, marked_frame, stored_frame, filled_frame, invalidated_frame, cleaned_frame, dropped_frame}
 use Rattle.spec_cache.specs.Held.{Held, IsHeld, FitsWay, IsWayOf, frame_of, maps}
 use Rattle.spec_cache.proofs.FrameKept.{IsFrame-marked, IsFrame-stored, IsFrame-filled, IsFrame-invalidated, IsFrame-cleaned, IsFrame-dropped}
 use Rattle.spec_cache.proofs.FrameFound.{frame_of-way, frame_of-changed}
-use Rattle.spec_cache.proofs.MapsChanged.{same_cache, nat_eq-comm, maps-marked, maps-stored, maps-filled, maps-invalidated, maps-cleaned, maps-dropped}
+use Rattle.spec_cache.proofs.MapsChanged.{same_cache, maps-marked, maps-stored, maps-filled, maps-invalidated, maps-cleaned, maps-dropped}
 use Rattle.spec_cache.proofs.HeldKept.{FitsWay-changed}
-use Rattle.spec_cache.proofs.Readings.{dirty_copy-frame, keeps-frame, reads_masked-frame}
 
 -- the cache with another frame at a place
 abbrev pub with_way : Held → ℕ → Option FrameView → Held

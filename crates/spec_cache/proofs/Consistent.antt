@@ -1,14 +1,14 @@
 -- The maps of a cache fit together: the ways and the lines, and the marks of a line.
-use Rattle.std.proofs.Common.{ℕ, suc, zero, ◌+◌, ◌*◌, ◌/◌, ◌%◌, ◌<◌, ◌≤◌, ◌≡◌, ◌≢◌, Bool, true, false, not, cond, ◌&&◌, ◌||◌, ◌⊎◌, inl, inr, List, length, get_or, Option, Some, None, is_some, nat_eq, nat_lt, refl, sym, ◌∙◌, ap, subst, arith}
-use Rattle.std.proofs.lemmas.Bool.{false≢true, cases_eq, cases_Bool, ltb-true, lt-ltb, eqb-true}
+use Rattle.std.proofs.Common.{ℕ, ◌+◌, ◌*◌, ◌/◌, ◌%◌, ◌<◌, ◌≡◌, ◌≢◌, Bool, true, false, cond, get_or, Option, Some, None, is_some, nat_lt, refl, sym, ◌∙◌, ap, subst, arith}
+use Rattle.std.proofs.lemmas.Bool.{false≢true, ltb-true, eqb-true}
 use Rattle.std.proofs.lemmas.Nat.{div-mul-add}
 use Rattle.tcc_maps.specs.Words.{line_of, place_of}
 use Rattle.tcc_maps.specs.Masks.{has}
 use Rattle.tcc_maps.specs.Shape.{set_of}
-use Rattle.tcc_maps.specs.Cache.{Cache, IsCache}
+use Rattle.tcc_maps.specs.Cache.{IsCache}
 use Rattle.tcc_maps.proofs.Masks.{has-zero}
 use Rattle.spec_cache.specs.declared.frame.FrameView.{FrameView}
-use Rattle.spec_cache.specs.Frame.{value_in, read_in, modified_in, dirty_in, line_in, holds_line, IsFrame, IsWay}
+use Rattle.spec_cache.specs.Frame.{value_in, read_in, modified_in, dirty_in, line_in, holds_line, IsFrame}
 use Rattle.spec_cache.specs.Held.{Held, IsHeld, frame_of, frame_at, maps}
 use Rattle.spec_cache.proofs.FrameList.{frame_of-found}
 use Rattle.spec_cache.proofs.FrameFound.{frame_of-way}

@@ -1,11 +1,11 @@
 -- What both forms of the frames show: their ways are in order at the start, after a change, and a search finds a line.
 use Rattle.std.proofs.Common.{ℕ, suc, zero, ◌+◌, ◌*◌, ◌/◌, ◌%◌, ◌<◌, ◌≤◌, ◌≡◌, ◌≢◌, Bool, true, false, not, cond, ◌⊎◌, inl, inr, List, [], ◌∷◌, ◌++◌, length, get_or, set, take, drop, map, replicate, Option, Some, None, is_some, refl, sym, ◌∙◌, ap, subst, arith, length-drop}
 use Rattle.std.specs.Option.{option_map}
-use Rattle.std.proofs.lemmas.Bool.{false≢true, cases_Bool}
-use Rattle.std.proofs.lemmas.List.{length-replicate, take-append-le, take_all}
+use Rattle.std.proofs.lemmas.Bool.{cases_Bool}
+use Rattle.std.proofs.lemmas.List.{length-map, length-replicate, take-append-le, take_all}
 use Rattle.tcc_base.specs.Settings.{Settings, IsAllowed}
-use Rattle.tcc_maps.specs.Words.{line_of, place_of}
-use Rattle.tcc_maps.specs.Cache.{Cache, empty_cache}
+use Rattle.tcc_maps.specs.Words.{line_of}
+use Rattle.tcc_maps.specs.Cache.{empty_cache}
 use Rattle.spec_cache.specs.declared.frame.FrameView.{FrameView}
 use Rattle.spec_cache.specs.declared.frame.Change.{Change}
 use Rattle.spec_cache.specs.declared.frame.Change.TheVariants.{RollBack, ClearRead, Commit}
@@ -101,3 +101,9 @@ absent_all fs n l past none = frame_of-absent fs l (λ j. elim (cases_Bool (hold
   | inr f ↦ f
   | inl t ↦ (let r = holds_line-true (get_or fs j None) l t in let b : j < length fs = some_within fs j r.0 r.1 in none j (omega arith))
 ])
+
+-- all ways, changed in a slice and written back
+pub changed_back : (c : Change) (now old items : List (Option FrameView)) (n : ℕ) → now ≡ all_changed c old → old ≡ items → n ≡ length items → take n (now ++ drop (length now) items) ≡ all_changed c items
+changed_back c now old items n e q l =
+    let s : length now ≡ length items = rw (e, q) (length-map items (option_map (changed_frame c))) in
+    written_back now items n s l ∙ (rw (e, q) refl)

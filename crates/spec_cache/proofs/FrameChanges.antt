@@ -1,13 +1,11 @@
 -- What each change of a frame does to each of its words, and that it leaves a frame.
-use Rattle.std.proofs.Common.{ℕ, suc, zero, ◌+◌, ◌*◌, ◌/◌, ◌%◌, ◌^◌, ◌-◌, ◌<◌, ◌≤◌, ◌≡◌, ◌≢◌, Bool, true, false, not, cond, ◌&&◌, ◌||◌, ◌⊎◌, inl, inr, List, length, get_or, unwrap_or, Option, Some, None, is_some, nat_eq, bit_and, bit_or, bit_xor, refl, sym, ◌∙◌, ap, subst, arith, get_or-set_same, get_or-set_other}
-use Rattle.std.proofs.lemmas.Bool.{false≢true, cases_eq, eq-eqb, ne_eqb, eqb-true, eqb-false}
-use Rattle.std.proofs.lemmas.Nat.{or_of_8, and_le_l}
-use Rattle.tcc_maps.specs.Masks.{has, minus, meet, join}
-use Rattle.tcc_maps.specs.Words.{eight}
+use Rattle.std.proofs.Common.{ℕ, ◌<◌, ◌≡◌, Bool, true, false, not, cond, ◌&&◌, ◌||◌, List, length, get_or, unwrap_or, Some, None, nat_eq, refl, sym, ap, get_or-set_same, get_or-set_other}
+use Rattle.std.proofs.lemmas.Bool.{eqb-true, eqb-false}
+use Rattle.tcc_maps.specs.Masks.{has}
 use Rattle.spec_cache.specs.declared.frame.FrameView.{FrameView}
-use Rattle.spec_cache.specs.Frame.{value_in, read_in, modified_in, dirty_in, IsFrame, empty_frame, marked_frame, stored_frame, filled_up, filled_frame, invalidated_frame, cleaned_frame, dropped_frame, rolled_back_frame, read_cleared_frame, committed_frame, committed_modified}
-use Rattle.spec_cache.proofs.MaskLaws.{has-meet, has-join, has-minus, has-pow, has-zero, has-full}
-use Rattle.spec_cache.proofs.Eights.{length-eight, get_or-eight}
+use Rattle.spec_cache.specs.Frame.{value_in, read_in, modified_in, dirty_in, IsFrame, marked_frame, stored_frame, filled_up, filled_frame, invalidated_frame, cleaned_frame, dropped_frame, rolled_back_frame, read_cleared_frame, committed_frame, committed_modified}
+use Rattle.spec_cache.proofs.MaskLaws.{has-join, has-minus, has-pow, has-zero, has-full}
+use Rattle.spec_cache.proofs.Eights.{get_or-eight}
 
 -- a test that chooses between a value and none
 pub minus_some : {A : Type 0} (a b : Bool) (x : A) → cond (a && not b) (Some x) None ≡ cond b None (cond a (Some x) None)

@@ -1,10 +1,10 @@
 -- In a cache's list of ways each line stands once: its frame before and after a change of one way.
-use Rattle.std.proofs.Common.{ℕ, suc, zero, ◌+◌, ◌*◌, ◌/◌, ◌%◌, ◌<◌, ◌≤◌, ◌≡◌, ◌≢◌, Bool, true, false, not, cond, ◌⊎◌, inl, inr, List, [], ◌∷◌, length, get_or, set, Option, Some, None, is_some, nat_eq, refl, sym, ◌∙◌, ap, subst, arith, get_or-set_same, get_or-set_other}
-use Rattle.std.proofs.lemmas.Bool.{false≢true, cases_eq, cases_lt, eq-eqb, ne_eqb, eqb-true, eqb-false, cases_Bool}
+use Rattle.std.proofs.Common.{ℕ, suc, zero, ◌<◌, ◌≡◌, ◌≢◌, true, false, cond, inl, inr, List, [], ◌∷◌, length, get_or, set, Option, Some, None, nat_eq, refl, sym, ◌∙◌, subst, arith, get_or-set_same, get_or-set_other}
+use Rattle.std.proofs.lemmas.Bool.{false≢true, cases_eq, eq-eqb, ne_eqb, eqb-true, cases_Bool}
 use Rattle.spec_cache.specs.declared.frame.FrameView.{FrameView}
 use Rattle.spec_cache.specs.Frame.{holds_line}
 use Rattle.spec_cache.specs.Held.{Held, IsHeld, frame_of}
-use Rattle.spec_cache.proofs.FrameList.{frame_of-absent, frame_of-only, frame_of-found, frame_of-set_other}
+use Rattle.spec_cache.proofs.FrameList.{frame_of-absent, frame_of-only, frame_of-set_other}
 
 pub holds_line-true : (o : Option FrameView) (l : ℕ) → holds_line l o ≡ true → (g : FrameView) × (o ≡ Some g) × (g.line.0 ≡ l)
 unfolding holds_line

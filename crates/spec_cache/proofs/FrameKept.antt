@@ -1,16 +1,13 @@
 -- Each change of a frame leaves a frame.
-use Rattle.std.proofs.Common.{ℕ, suc, zero, ◌+◌, ◌*◌, ◌/◌, ◌%◌, ◌^◌, ◌-◌, ◌<◌, ◌≤◌, ◌≡◌, ◌≢◌, Bool, true, false, not, cond, ◌&&◌, ◌||◌, ◌⊎◌, inl, inr, List, length, get_or, Option, Some, None, nat_eq, bit_and, bit_or, bit_xor, refl, sym, ◌∙◌, ap, subst, arith, length-set, lit<}
+use Rattle.std.proofs.Common.{ℕ, ◌/◌, ◌^◌, ◌<◌, ◌≤◌, ◌≡◌, Bool, true, false, not, cond, ◌&&◌, ◌||◌, inl, inr, List, nat_eq, bit_and, refl, sym, ◌∙◌, arith, length-set, lit<}
 use Rattle.std.proofs.Math.Pow.{pow_mono, pow_pos}
 use Rattle.std.proofs.Math.Bool.{and-false}
-use Rattle.std.proofs.lemmas.Bool.{false≢true, cases_eq, cases_lt, eqb-true, eqb-false, and_parts, or_cases, or_left, or_right}
+use Rattle.std.proofs.lemmas.Bool.{false≢true, cases_eq, cases_lt, or_cases, or_left, or_right}
 use Rattle.std.proofs.lemmas.Nat.{or_of_8, xor_of_8, and_le_l, pow_below, div_below}
-use Rattle.std.proofs.lemmas.Nat.Bits.{bit_at-lt}
-use Rattle.std.specs.Int.{bit_at}
-use Rattle.tcc_maps.specs.Masks.{has, minus, meet, join}
-use Rattle.tcc_maps.specs.Words.{eight}
+use Rattle.tcc_maps.specs.Masks.{has, minus, join}
 use Rattle.spec_cache.specs.declared.frame.FrameView.{FrameView}
 use Rattle.spec_cache.specs.Frame.{IsFrame, empty_frame, marked_frame, stored_frame, filled_up, filled_frame, invalidated_frame, cleaned_frame, dropped_frame, rolled_back_frame, read_cleared_frame, committed_frame, committed_modified}
-use Rattle.spec_cache.proofs.MaskLaws.{has-meet, has-join, has-minus, has-pow, has-zero, has-full}
+use Rattle.spec_cache.proofs.MaskLaws.{has-join, has-minus, has-zero, has-full}
 use Rattle.spec_cache.proofs.Eights.{length-eight}
 
 never : {P : Type 0} (k : ℕ) → has 0 k ≡ true → P

@@ -1,8 +1,8 @@
 -- What a cache shows and hands out of its frames.
-use Rattle.std.proofs.Common.{ℕ, suc, zero, ◌+◌, ◌*◌, ◌/◌, ◌%◌, ◌<◌, ◌≤◌, ◌≡◌, ◌≢◌, Bool, true, false, not, cond, ◌⊎◌, inl, inr, List, length, get_or, set, Option, Some, None, is_some, nat_eq, bit_and, refl, sym, ◌∙◌, ap, subst, arith}
+use Rattle.std.proofs.Common.{ℕ, suc, zero, ◌+◌, ◌*◌, ◌<◌, ◌≡◌, Bool, true, false, not, get_or, set, Option, Some, None, is_some, nat_eq, bit_and, refl, sym, ◌∙◌, ap, arith}
 use Rattle.std.specs.Option.{MatchOption, option_map}
 use Rattle.tcc_maps.specs.Words.{line_of, place_of, word_at, any_below, any_word}
-use Rattle.tcc_maps.specs.Cache.{Cache, dirty_copy, is_dirty, keeps}
+use Rattle.tcc_maps.specs.Cache.{dirty_copy, is_dirty, keeps}
 use Rattle.tcc_maps.specs.CacheChange.{evicted, evicted_line}
 use Rattle.tcc_maps.specs.Bridge.{tagged_of}
 use Rattle.spec_cache.specs.declared.frame.FrameView.{FrameView}
@@ -12,14 +12,13 @@ use Rattle.tcc_maps.specs.Masks.{hit}
 use Rattle.tcc_maps.specs.CacheLook.{reads_masked}
 use Rattle.spec_cache.proofs.FrameKept.{IsFrame-invalidated}
 use Rattle.spec_cache.specs.Frame.{value_in, read_in, dirty_in, line_in, IsFrame, IsWay, dirty_part, invalidated_frame}
-use Rattle.spec_cache.specs.Held.{Held, IsHeld, FitsWay, IsWayOf, frame_of, maps}
+use Rattle.spec_cache.specs.Held.{Held, IsHeld, IsWayOf, frame_of, maps}
 use Rattle.spec_cache.specs.Look.{Views, Gives}
 use Rattle.spec_cache.proofs.FrameFound.{frame_of-way}
 use Rattle.spec_cache.proofs.Readings.{views-frame, value-word, modified_mask-frame, dirty_copy-frame, keeps-frame, reads_masked-frame, line_of-word_at}
 use Rattle.spec_cache.proofs.MapsPlaced.{maps-emptied}
-use Rattle.spec_cache.proofs.HeldKept.{FitsWay-none}
 use Rattle.spec_cache.proofs.Calls.{found_line, frame_here, found_then, with_way}
-use Rattle.spec_cache.proofs.Looks.{at_way, not_held, is_held}
+use Rattle.spec_cache.proofs.Looks.{at_way, is_held}
 
 module _ (h : Held) (s : IsHeld h) (t y : ℕ) (way : y < h.config.ways) (i : ℕ) (place : i ≡ t * h.config.ways + y) where
   at_place : (o : Option FrameView) → o ≡ get_or h.frames i None → (maps h).at t y ≡ line_in o

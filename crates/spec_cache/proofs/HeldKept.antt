@@ -1,5 +1,5 @@
 -- The ways of a cache stay in order when one of them changes, and when all frames do.
-use Rattle.std.proofs.Common.{ℕ, suc, zero, ◌+◌, ◌*◌, ◌/◌, ◌%◌, ◌<◌, ◌≤◌, ◌≡◌, ◌≢◌, Bool, true, false, ◌⊎◌, inl, inr, List, length, get_or, set, map, Option, Some, None, refl, sym, ◌∙◌, ap, subst, arith, length-set, get_or-set_same, get_or-set_other}
+use Rattle.std.proofs.Common.{ℕ, ◌/◌, ◌%◌, ◌<◌, ◌≡◌, ◌≢◌, ◌⊎◌, inl, inr, length, get_or, set, map, Option, Some, None, refl, sym, ◌∙◌, ap, subst, length-set, get_or-set_same, get_or-set_other}
 use Rattle.std.specs.Option.{option_map}
 use Rattle.std.proofs.lemmas.Bool.{cases_eq}
 use Rattle.std.proofs.lemmas.List.{length-map}
@@ -8,7 +8,7 @@ use Rattle.spec_cache.specs.declared.frame.FrameView.{FrameView}
 use Rattle.spec_cache.specs.Frame.{IsFrame, IsWay, empty_frame}
 use Rattle.spec_cache.specs.Held.{Held, IsHeld, FitsAt, FitsWay, frame_of}
 use Rattle.spec_cache.proofs.FrameKept.{IsFrame-empty}
-use Rattle.spec_cache.proofs.FrameFound.{frame_of-none, holds_line-some, frame_of-way}
+use Rattle.spec_cache.proofs.FrameFound.{frame_of-way}
 use Rattle.spec_cache.proofs.MapsAll.{get_or-all}
 
 module _ (h : Held) (s : IsHeld h) where

@@ -16,3 +16,6 @@ pub mod Handed
 pub mod Placing
 pub mod Forms
 pub mod Marked
+pub mod PlaceLaws
+pub mod NotedWays
+pub mod Indexed

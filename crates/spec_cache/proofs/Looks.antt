@@ -1,14 +1,14 @@
 -- What a set has free and marked, and what a load or a store finds, read off the frames.
-use Rattle.std.proofs.Common.{ℕ, suc, zero, ◌+◌, ◌*◌, ◌/◌, ◌%◌, ◌<◌, ◌≤◌, ◌≡◌, ◌≢◌, Bool, true, false, not, cond, ◌&&◌, ◌||◌, ◌⊎◌, inl, inr, List, length, get_or, Option, Some, None, is_some, is_none, nat_eq, nat_lt, refl, sym, ◌∙◌, ap, subst, arith, add-one}
-use Rattle.std.proofs.lemmas.Bool.{false≢true, cases_eq, cases_lt, lt-ltb}
+use Rattle.std.proofs.Common.{ℕ, suc, zero, ◌+◌, ◌*◌, ◌<◌, ◌≤◌, ◌≡◌, Bool, true, false, not, inl, inr, get_or, Option, Some, None, is_some, is_none, refl, sym, ◌∙◌, ap, subst, arith, add-one}
+use Rattle.std.proofs.lemmas.Bool.{cases_eq, lt-ltb}
 use Rattle.std.proofs.Math.Bool.{and-false}
 use Rattle.tcc_base.specs.Settings.{Settings}
-use Rattle.tcc_maps.specs.Words.{line_of, place_of, lowest, all_below, or_else}
+use Rattle.tcc_maps.specs.Words.{line_of, place_of, lowest, all_below}
 use Rattle.tcc_maps.specs.Shape.{set_of}
-use Rattle.tcc_maps.specs.Cache.{Cache, free_way, all_marked, way_marked, is_marked}
-use Rattle.tcc_maps.specs.CacheLook.{Look, Hit, Miss, NeedsRoom, Overflow, look_line, look_load, look_value, look_store}
+use Rattle.tcc_maps.specs.Cache.{free_way, all_marked, way_marked}
+use Rattle.tcc_maps.specs.CacheLook.{Hit, Miss, NeedsRoom, Overflow, look_line, look_load, look_value, look_store}
 use Rattle.spec_cache.specs.declared.frame.FrameView.{FrameView}
-use Rattle.spec_cache.specs.Frame.{value_in, line_in, marked_in, IsFrame, IsWay}
+use Rattle.spec_cache.specs.Frame.{value_in, line_in, marked_in, IsWay}
 use Rattle.spec_cache.specs.Held.{Held, IsHeld, IsWayOf, frame_of, frame_at, maps}
 use Rattle.spec_cache.proofs.FrameFound.{frame_of-way}
 use Rattle.spec_cache.proofs.Readings.{is_marked-frame}

@@ -1,12 +1,12 @@
 -- The maps of a cache after the frame of one way changed.
-use Rattle.std.proofs.Common.{ℕ, suc, zero, ◌+◌, ◌*◌, ◌/◌, ◌%◌, ◌<◌, ◌≤◌, ◌≡◌, ◌≢◌, Bool, true, false, not, cond, ◌&&◌, ◌||◌, ◌⊎◌, inl, inr, List, length, get_or, set, unwrap_or, Option, Some, None, is_some, nat_eq, nat_lt, refl, sym, ◌∙◌, ap, subst, arith, get_or-set_same, get_or-set_other}
-use Rattle.std.proofs.lemmas.Bool.{cases_eq, eq-eqb, ne_eqb, eqb-true, eqb-false}
+use Rattle.std.proofs.Common.{ℕ, ◌+◌, ◌*◌, ◌/◌, ◌%◌, ◌<◌, ◌≡◌, Bool, true, false, not, cond, ◌&&◌, ◌||◌, inl, inr, List, length, get_or, set, unwrap_or, Option, Some, None, is_some, nat_eq, nat_lt, refl, sym, ◌∙◌, ap, subst, arith, get_or-set_same, get_or-set_other}
+use Rattle.std.proofs.lemmas.Bool.{cases_eq, eq-eqb, ne_eqb}
 use Rattle.tcc_maps.specs.Words.{line_of, place_of}
 use Rattle.tcc_maps.specs.Masks.{has, hit}
 use Rattle.tcc_maps.specs.Cache.{Cache}
 use Rattle.tcc_maps.specs.CacheChange.{marked, stored, filled, invalidated, cleaned, word_dropped}
 use Rattle.spec_cache.specs.declared.frame.FrameView.{FrameView}
-use Rattle.spec_cache.specs.Frame.{value_in, read_in, modified_in, dirty_in, line_in, IsFrame, marked_frame, stored_frame, filled_up, filled_frame, invalidated_frame, cleaned_frame, dropped_frame}
+use Rattle.spec_cache.specs.Frame.{value_in, read_in, modified_in, dirty_in, line_in, IsFrame, marked_frame, stored_frame, filled_frame, invalidated_frame, cleaned_frame, dropped_frame}
 use Rattle.spec_cache.specs.Held.{Held, IsHeld, frame_of, frame_at, maps}
 use Rattle.spec_cache.proofs.FrameChanges.{value_in-invalidated, dirty_in-invalidated, read_in-marked, value_in-stored, read_in-stored, modified_in-stored, dirty_in-stored, dirty_in-cleaned, value_in-filled, value_in-dropped, modified_in-dropped, dirty_in-dropped}
 use Rattle.spec_cache.proofs.FrameFound.{frame_of-way, frame_of-changed, some_within}

@@ -1,19 +1,15 @@
 -- The maps of a cache after a way got a line or was emptied, and after all frames changed.
-use Rattle.std.proofs.Common.{ℕ, suc, zero, ◌+◌, ◌*◌, ◌/◌, ◌%◌, ◌-◌, ◌<◌, ◌≤◌, ◌≡◌, ◌≢◌, Bool, true, false, not, cond, ◌&&◌, ◌||◌, ◌⊎◌, inl, inr, List, [], ◌∷◌, length, get_or, set, map, unwrap_or, Option, Some, None, is_some, nat_eq, nat_lt, refl, sym, ◌∙◌, ap, subst, arith, get_or-set_same, get_or-set_other}
-use Rattle.std.specs.Option.{option_map}
-use Rattle.std.proofs.lemmas.Bool.{cases_eq, eq-eqb, ne_eqb, eqb-true, eqb-false, ltb-true, ltb-false}
+use Rattle.std.proofs.Common.{ℕ, ◌+◌, ◌*◌, ◌/◌, ◌<◌, ◌≤◌, ◌≡◌, Bool, true, false, cond, ◌&&◌, inl, inr, length, get_or, set, Option, Some, None, is_some, nat_eq, nat_lt, refl, sym, ◌∙◌, ap, subst, arith, get_or-set_same, get_or-set_other}
+use Rattle.std.proofs.lemmas.Bool.{cases_eq, eq-eqb, ne_eqb, ltb-true, ltb-false}
 use Rattle.std.proofs.lemmas.Nat.{div-mul-add}
 use Rattle.std.proofs.Math.Bool.{and-false}
 use Rattle.tcc_maps.specs.Words.{line_of, place_of}
-use Rattle.tcc_maps.specs.Cache.{Cache}
-use Rattle.tcc_maps.specs.CacheChange.{placed_at, evicted_line, rolled_back, read_cleared, committed}
+use Rattle.tcc_maps.specs.CacheChange.{placed_at, evicted_line}
 use Rattle.spec_cache.specs.declared.frame.FrameView.{FrameView}
-use Rattle.spec_cache.specs.Frame.{value_in, read_in, modified_in, dirty_in, line_in, holds_line, IsWay, IsFrame, empty_frame, rolled_back_frame, read_cleared_frame, committed_frame, committed_modified}
+use Rattle.spec_cache.specs.Frame.{value_in, read_in, modified_in, dirty_in, line_in, empty_frame}
 use Rattle.spec_cache.specs.Held.{Held, IsHeld, frame_of, frame_at, maps}
-use Rattle.spec_cache.proofs.FrameChanges.{value_in-rolled_back, read_in-rolled_back, modified_in-rolled_back, read_in-read_cleared, value_in-committed, read_in-committed, modified_in-committed, dirty_in-committed}
 use Rattle.spec_cache.proofs.MaskLaws.{has-zero}
-use Rattle.spec_cache.proofs.FrameFound.{frame_of-way, frame_of-placed, frame_of-emptied, some_within}
-use Rattle.spec_cache.proofs.FrameFound.{holds_line-true}
+use Rattle.spec_cache.proofs.FrameFound.{frame_of-placed, frame_of-emptied, some_within}
 use Rattle.spec_cache.proofs.MapsChanged.{same_cache, nat_eq-comm}
 
 -- two ways of a cache are the same where their sets and their ways are

@@ -1,22 +1,22 @@
 -- The lines of a directory that a cache has read or written: lists of them, and what the maps say.
-use Rattle.std.proofs.Common.{ℕ, suc, zero, ◌+◌, ◌*◌, ◌/◌, ◌%◌, ◌<◌, ◌≤◌, ◌≡◌, ◌≢◌, Bool, true, false, not, cond, ◌&&◌, ◌⊎◌, inl, inr, List, [], ◌∷◌, ◌++◌, length, get_or, map, take, Option, Some, None, is_some, nat_eq, refl, sym, ◌∙◌, ap, subst, arith, Contains}
+use Rattle.std.proofs.Common.{ℕ, suc, zero, ◌+◌, ◌%◌, ◌<◌, ◌≤◌, ◌≡◌, Bool, true, false, not, cond, ◌&&◌, ◌⊎◌, inl, inr, List, [], ◌∷◌, ◌++◌, length, get_or, map, take, Option, Some, None, nat_eq, refl, sym, ◌∙◌, ap, subst, arith, Contains}
 use Rattle.std.specs.List.{AllPairs}
 use Rattle.std.specs.Bool.{MatchBool}
-use Rattle.std.proofs.lemmas.Bool.{false≢true, cases_eq, cases_lt, cases_Bool, and_parts, eq-eqb, eqb-true}
-use Rattle.std.proofs.lemmas.List.Elements.{Contains-append_left, Contains-push, Contains-push_cases, Contains-get_or}
+use Rattle.std.proofs.lemmas.Bool.{false≢true, cases_eq, cases_lt, cases_Bool, and_parts, eqb-true}
+use Rattle.std.proofs.lemmas.List.Elements.{Contains-append_left, Contains-push, Contains-push_cases}
 use Rattle.std.proofs.lemmas.List.{take_all, take_more, map-append}
 use Rattle.tcc_base.specs.declared.names.LineAddr.{LineAddr}
 use Rattle.tcc_base.specs.declared.names.Mask.{Mask}
 use Rattle.tcc_maps.specs.Words.{line_of, place_of, word_at, any_below, any_word, those}
 use Rattle.tcc_maps.specs.Masks.{has}
-use Rattle.tcc_maps.specs.Shape.{home, lines}
-use Rattle.tcc_maps.specs.Cache.{Cache, is_modified, written_lines, marks_by_home, modified_mask, reads_at}
+use Rattle.tcc_maps.specs.Shape.{lines}
+use Rattle.tcc_maps.specs.Cache.{is_modified, written_lines, marks_by_home, modified_mask, reads_at}
 use Rattle.tcc_maps.proofs.Numbers.{any_below-found, any_below-at, those-holds, those-only, those-rise}
 use Rattle.spec_cache.specs.declared.frame.FrameView.{FrameView}
 use Rattle.spec_cache.specs.Frame.{read_in, modified_in, IsFrame, IsWay}
 use Rattle.spec_cache.specs.Held.{Held, IsHeld, IsWayOf, frame_of, maps}
 use Rattle.spec_cache.specs.Home.{reads_in, written_in, written_found, Collects, mark_of}
-use Rattle.spec_cache.proofs.FrameFound.{frame_of-way, some_within}
+use Rattle.spec_cache.proofs.FrameFound.{frame_of-way}
 use Rattle.spec_cache.proofs.FrameList.{frame_of-found}
 use Rattle.spec_cache.proofs.Readings.{any_below-same, any-has, read-at, modified-at, line_of-word_at, modified_mask-frame}
 use Rattle.spec_cache.proofs.Calls.{found_line, frame_here}

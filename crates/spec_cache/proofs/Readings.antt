@@ -1,11 +1,11 @@
 -- What the maps say of a line, read off its frame.
-use Rattle.std.proofs.Common.{ℕ, suc, zero, ◌+◌, ◌*◌, ◌/◌, ◌%◌, ◌<◌, ◌≤◌, ◌≡◌, ◌≢◌, Bool, true, false, not, cond, ◌&&◌, ◌||◌, ◌⊎◌, inl, inr, List, length, get_or, unwrap_or, bit_or, Option, Some, None, is_some, nat_eq, bit_and, refl, sym, ◌∙◌, ap, subst, arith}
+use Rattle.std.proofs.Common.{ℕ, suc, zero, ◌<◌, ◌≤◌, ◌≡◌, Bool, true, false, not, cond, ◌&&◌, ◌||◌, inl, inr, get_or, unwrap_or, bit_or, Some, None, is_some, nat_eq, bit_and, refl, sym, ◌∙◌, ap, subst, arith}
 use Rattle.std.specs.Option.{option_map}
-use Rattle.std.proofs.lemmas.Bool.{false≢true, cases_eq, cases_Bool, eq-eqb, ne_eqb, eqb-true, eqb-false}
+use Rattle.std.proofs.lemmas.Bool.{false≢true, cases_eq, cases_Bool, eq-eqb, ne_eqb}
 use Rattle.std.proofs.lemmas.Nat.{and_le_l, le_or_l, or_of_8}
-use Rattle.tcc_maps.specs.Words.{line_of, place_of, word_at, any_below, any_word, eight, or_else, num}
+use Rattle.tcc_maps.specs.Words.{line_of, place_of, word_at, any_below, any_word, eight, or_else}
 use Rattle.tcc_maps.specs.Masks.{has, hit, mask_of, masked, meet, join}
-use Rattle.tcc_maps.specs.Cache.{Cache, is_marked, is_dirty, modified_mask, dirty_mask, dirty_words, dirty_tag, first_of_line, dirty_copy, keeps}
+use Rattle.tcc_maps.specs.Cache.{is_marked, is_dirty, modified_mask, dirty_mask, dirty_words, dirty_tag, first_of_line, dirty_copy, keeps}
 use Rattle.tcc_maps.specs.CacheLook.{reads_masked}
 use Rattle.tcc_maps.specs.Bridge.{tagged_of}
 use Rattle.tcc_maps.proofs.Masks.{mask_of-has, has-meet, has-join, has-zero}

@@ -1,7 +1,7 @@
 -- A frame: one line's words with their marks, what it says of each word, and how each call changes it.
-use Rattle.std.specs.Prelude.{ℕ, ◌+◌, ◌*◌, ◌^◌, ◌<◌, ◌≡◌, ◌≢◌, Bool, true, false, not, cond, ◌==◌, ◌&&◌, ◌||◌, List, length, get_or, slice_set, Option, Some, None, is_some, if◌then◌else◌}
+use Rattle.std.specs.Prelude.{ℕ, ◌^◌, ◌<◌, ◌≡◌, ◌≢◌, Bool, true, false, not, cond, ◌==◌, ◌&&◌, List, length, get_or, slice_set, Option, Some, None, if◌then◌else◌}
 use Rattle.tcc_base.specs.declared.access.Tagged.{Tagged}
-use Rattle.tcc_maps.specs.Masks.{has, minus, meet, join, masked}
+use Rattle.tcc_maps.specs.Masks.{has, minus, join, masked}
 use Rattle.tcc_maps.specs.Words.{eight}
 use Rattle.spec_cache.specs.declared.frame.FrameView.{FrameView}
 

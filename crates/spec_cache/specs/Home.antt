@@ -1,5 +1,5 @@
 -- What a way holds of the lines at home at one directory.
-use Rattle.std.specs.Prelude.{ℕ, ◌%◌, ◌≡◌, Bool, true, false, not, ◌==◌, ◌&&◌, List, get_or, Contains, Option, Some, None, if◌then◌else◌}
+use Rattle.std.specs.Prelude.{ℕ, ◌%◌, ◌≡◌, Bool, false, not, ◌==◌, ◌&&◌, List, get_or, Contains, Option, Some, None, if◌then◌else◌}
 use Rattle.tcc_base.specs.declared.names.LineAddr.{LineAddr}
 use Rattle.tcc_base.specs.declared.names.Mask.{Mask}
 use Rattle.spec_cache.specs.declared.frame.FrameView.{FrameView}

@@ -3,3 +3,4 @@ pub mod Change
 pub mod Held
 pub mod Look
 pub mod Home
+pub mod Places

@@ -1,7 +1,6 @@
 -- What a cache answers and hands out, in the words of its maps.
-use Rattle.std.specs.Prelude.{ℕ, ◌≡◌, Bool, true, false, cond, ◌&&◌, List, get_or, Option, Some, None, is_some}
+use Rattle.std.specs.Prelude.{ℕ, ◌≡◌, Bool, true, cond, ◌&&◌, get_or, Some, is_some}
 use Rattle.std.specs.Option.{option_map}
-use Rattle.tcc_base.specs.declared.access.Tagged.{Tagged}
 use Rattle.tcc_maps.specs.Words.{line_of, place_of, word_at}
 use Rattle.tcc_maps.specs.Masks.{mask_of}
 use Rattle.tcc_maps.specs.Cache.{Cache, modified_mask, dirty_mask, dirty_copy}

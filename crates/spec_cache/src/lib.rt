@@ -8,6 +8,8 @@ mod list_frames;
 mod look;
 mod marks;
 mod masks;
+mod noted;
+mod places;
 mod set_frames;
 mod slots;
 mod ways;

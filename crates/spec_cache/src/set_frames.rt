@@ -3,28 +3,33 @@ ghost use Rattle.std.specs.Prelude.{◌≡◌, ◌*◌, replicate, Option, None,
 
 use crate::frame::{Change, FrameView};
 use crate::frames::Frames;
-use crate::marks::{all_written, any_reads};
-use crate::slots::{change_all, empty_ways, frame_for};
-use crate::ways::Ways;
+use crate::noted::{all_written_in, any_reads_in, change_at};
+use crate::places::Places;
+use crate::slots::{empty_ways, frame_for};
+use crate::ways::{Ways, is_marked};
 use std::alloc::Global;
 use std::marker::Model;
 use tcc_base::{Config, DirId, LineAddr, NoMemory};
 
-/// The frames in one array: way `y` of set `s` stands at `s * ways + y`, and a line is looked for in its set alone.
+/// The frames in one array: way `y` of set `s` stands at `s * ways + y`, a line is looked for in its set alone, and the
+/// frames with marks are known by place, so that no call visits all of them.
 #[derive(Debug, Drop)]
 pub struct SetFrames {
     config: Config,
     frames: Vec<Option<FrameView>>,
+    marked: Places,
 }
 
 impl Model for SetFrames {
-    ghost use Rattle.spec_cache.specs.Held.{Held, IsHeld};
+    ghost use Rattle.spec_cache.specs.Held.{Held};
 
     ghost Value = { Held };
 
     ghost view = { λ s. record { config = s.config; frames = s.frames.items } };
 
-    ghost invariant = { λ s. IsHeld (record { config = s.config; frames = s.frames.items }) };
+    ghost use Rattle.spec_cache.specs.Places.{IsIndexed};
+
+    ghost invariant = { λ s. IsIndexed (record { config = s.config; frames = s.frames.items }) s.marked };
 }
 
 impl SetFrames {
@@ -39,6 +44,7 @@ impl SetFrames {
         Ok(SetFrames {
             config: *cfg,
             frames: empty_ways(alloc, count)?,
+            marked: Places::new(alloc, count)?,
         })
     }
 }
@@ -67,20 +73,34 @@ impl Ways for SetFrames {
 
     fn put(&mut self, at: usize, frame: Option<FrameView>) {
         self.frames[at] = frame;
+        if is_marked(frame) {
+            self.marked.note(at);
+        }
     }
 
     fn change(&mut self, change: Change) {
-        change_all(&mut self.frames, change);
+        change_at(&mut self.frames, self.marked.as_slice(), change);
+        match change {
+            Change::RollBack => self.marked.clear(),
+            Change::ClearRead => {}
+            Change::Commit(_) => self.marked.clear(),
+        }
     }
 
     fn any_reads_at(&self, home: DirId) -> bool {
-        any_reads(&self.frames, home.0, self.config.dirs())
+        any_reads_in(
+            &self.frames,
+            self.marked.as_slice(),
+            home.0,
+            self.config.dirs(),
+        )
     }
 
     fn written_at(&self, home: DirId) -> Result<Vec<u32>, NoMemory> {
-        all_written(
+        all_written_in(
             *self.frames.allocator(),
             &self.frames,
+            self.marked.as_slice(),
             home.0,
             self.config.dirs(),
         )

@@ -15,7 +15,7 @@ use tcc_base::{Config, DirId, LineAddr, NoMemory};
 
 /// Whether a way holds a marked frame.
 #[tactic(auto, unfolding(crate::specs::Frame::marked_in))]
-fn is_marked(way: Option<FrameView>) -> bool
+pub(crate) fn is_marked(way: Option<FrameView>) -> bool
     ensures { result ≡ marked_in way }
 {
     match way {

@@ -1,5 +1,4 @@
-use Rattle.std.proofs.Common.{ℕ, ◌<◌, ◌≤◌, ◌≡◌, Bool, true, false, cond, not, ◌&&◌, nat_lt, get_or, length, arith, sym, ◌∙◌, refl, lt-ltb}
-use Rattle.tcc_maps.specs.Words.{eight}
+use Rattle.std.proofs.Common.{ℕ, ◌<◌, ◌≡◌, Bool, true, false, cond, not, arith, ◌∙◌, refl, lt-ltb}
 use Rattle.tcc_maps.specs.Masks.{has}
 use Rattle.spec_cache.specs.Frame.{filled_up}
 use Rattle.spec_cache.proofs.Eights.{eight_of}

@@ -1,6 +1,5 @@
-use Rattle.std.proofs.Common.{ℕ, ◌<◌, ◌≤◌, ◌≡◌, Bool, true, false, cond, not, ◌&&◌, nat_lt, get_or, length, arith, sym, ◌∙◌, refl, lt-ltb}
-use Rattle.tcc_maps.specs.Words.{eight}
-use Rattle.tcc_maps.specs.Masks.{has, masked}
+use Rattle.std.proofs.Common.{◌<◌, arith, ◌∙◌, refl, lt-ltb}
+use Rattle.tcc_maps.specs.Masks.{masked}
 use Rattle.spec_cache.proofs.Eights.{eight_of}
 use Rattle.spec_cache.proofs.frame.masked_words.Goals as goal
 

@@ -1,4 +1,4 @@
-use Rattle.std.proofs.Common.{◌≡◌, ◌<◌, ◌∙◌, ◌+◌, ◌++◌, ◌∷◌, [], ℕ, List, Option, Some, None, refl, sym, subst, arith, Contains}
+use Rattle.std.proofs.Common.{◌≡◌, ◌++◌, ◌∷◌, [], ℕ, List, Option, Some, None, refl, sym, subst, arith, Contains}
 use Rattle.spec_cache.specs.Home.{written_found}
 use Rattle.spec_cache.proofs.Marked.{collects_more, collects_only, collects_same, written_within}
 use Rattle.spec_cache.proofs.marks.all_written.Goals.{in-Some+in-Ok, in_default}

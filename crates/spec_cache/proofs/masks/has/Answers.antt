@@ -1,4 +1,4 @@
-use Rattle.std.proofs.Common.{nat_eq, bit_and, ◌/◌, ◌^◌, ◌≡◌, arith}
+use Rattle.std.proofs.Common.{arith}
 use Rattle.std.proofs.lemmas.Nat.Bits.{shr_and_one}
 use Rattle.std.proofs.lemmas.Bool.Decides.{nat_tests}
 use Rattle.tcc_maps.specs.Masks.{has}

@@ -1,4 +1,4 @@
-use Rattle.std.proofs.Common.{◌≡◌, ◌∙◌, ◌<◌, ap, None, get_or, length, cond, sym, arith}
+use Rattle.std.proofs.Common.{◌∙◌, ap, None, get_or, cond, arith}
 use Rattle.std.specs.Option.{option_map}
 use Rattle.std.proofs.lemmas.Bool.{lt-ltb}
 use Rattle.spec_cache.specs.Change.{changed_frame}

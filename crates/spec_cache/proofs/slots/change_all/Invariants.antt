@@ -1,4 +1,4 @@
-use Rattle.std.proofs.Common.{◌≡◌, ℕ, nat_lt, cond, None, length, get_or}
+use Rattle.std.proofs.Common.{◌≡◌, ℕ, nat_lt, cond, None, get_or}
 use Rattle.std.specs.Option.{option_map}
 use Rattle.spec_cache.specs.Change.{changed_frame}
 use Rattle.spec_cache.proofs.slots.change_all.Given as goal

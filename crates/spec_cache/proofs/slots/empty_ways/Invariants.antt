@@ -1,6 +1,5 @@
-use Rattle.std.proofs.Common.{◌≡◌, ◌≤◌, Option, None, replicate, vec_len}
+use Rattle.std.proofs.Common.{◌≡◌, ◌≤◌, None, replicate, vec_len}
 use Rattle.std.specs.Vec.{vec_capacity}
-use Rattle.spec_cache.specs.declared.frame.FrameView.{FrameView}
 use Rattle.spec_cache.proofs.slots.empty_ways.Given as goal
 
 abbrev pub invariant-loop : goal.invariant-loop

@@ -1,4 +1,4 @@
-use Rattle.std.proofs.Common.{◌≡◌, ◌∙◌, ◌*◌, ap}
+use Rattle.std.proofs.Common.{◌∙◌, ◌*◌, ap}
 use Rattle.spec_cache.specs.Held.{maps}
 use Rattle.spec_cache.proofs.Forms.{maps-empty}
 use Rattle.spec_cache.proofs.Consistent.{IsCache-maps}

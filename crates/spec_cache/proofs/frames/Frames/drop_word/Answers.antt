@@ -1,5 +1,4 @@
-use Rattle.std.proofs.Common.{◌≡◌, ◌∙◌, ◌<◌, ℕ, Option, sym, ap, subst, refl, Some, None, true, false, arith}
-use Rattle.tcc_maps.specs.Words.{line_of, place_of}
+use Rattle.std.proofs.Common.{◌∙◌, sym, ap}
 use Rattle.spec_cache.specs.Frame.{dropped_frame}
 use Rattle.spec_cache.proofs.Calls.{nothing_dropped, fits_dropped, dropped_maps}
 use Rattle.spec_cache.proofs.frames.Frames.drop_word.Goals as goal

@@ -1,4 +1,4 @@
-use Rattle.std.proofs.Common.{◌≡◌, ◌∙◌, ◌<◌, ℕ, Option, sym, ap, subst, refl, Some, None, true, false, arith}
+use Rattle.std.proofs.Common.{None}
 use Rattle.spec_cache.proofs.HeldKept.{FitsWay-none}
 use Rattle.spec_cache.proofs.Handed.{way_view, evicted_none, evicted_some, gives}
 use Rattle.spec_cache.proofs.frames.Frames.evict.Goals as goal

@@ -1,4 +1,3 @@
-use Rattle.std.proofs.Common.{◌≡◌, ◌∙◌, ◌<◌, ℕ, sym, ap, refl, Some, None, true, false, arith}
 use Rattle.spec_cache.proofs.Consistent.{IsCache-maps}
 use Rattle.spec_cache.proofs.Looks.{not_held}
 use Rattle.spec_cache.proofs.Handed.{line_view}

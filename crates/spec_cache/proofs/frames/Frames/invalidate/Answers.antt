@@ -1,4 +1,4 @@
-use Rattle.std.proofs.Common.{◌≡◌, ◌∙◌, ◌<◌, ℕ, Option, sym, ap, subst, refl, Some, None, true, false, arith}
+use Rattle.std.proofs.Common.{sym, refl}
 use Rattle.spec_cache.proofs.Calls.{nothing_invalid, fits_invalidated, invalidated_maps}
 use Rattle.spec_cache.proofs.Handed.{nothing_read, nothing_kept, read_hits, kept_then}
 use Rattle.spec_cache.proofs.frames.Frames.invalidate.Goals as goal

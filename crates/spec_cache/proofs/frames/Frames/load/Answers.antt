@@ -1,5 +1,4 @@
-use Rattle.std.proofs.Common.{◌≡◌, ◌∙◌, ◌<◌, ℕ, Option, sym, ap, subst, refl, Some, None, true, false, arith}
-use Rattle.tcc_maps.specs.Words.{line_of, place_of}
+use Rattle.std.proofs.Common.{◌∙◌, sym, ap, Some, arith}
 use Rattle.spec_cache.specs.Frame.{value_in, marked_frame}
 use Rattle.spec_cache.specs.Held.{maps}
 use Rattle.spec_cache.proofs.Calls.{fits_marked, marked_maps}

@@ -1,4 +1,4 @@
-use Rattle.std.proofs.Common.{◌≡◌, ◌∙◌, ◌<◌, ℕ, sym, ap, refl, Some, None, true, false, arith}
+use Rattle.std.proofs.Common.{◌∙◌, sym, ap, Some}
 use Rattle.spec_cache.proofs.Consistent.{IsCache-maps}
 use Rattle.spec_cache.specs.Frame.{value_in}
 use Rattle.spec_cache.proofs.Looks.{look_load-absent, look_load-hit, look_load-miss}

@@ -1,4 +1,4 @@
-use Rattle.std.proofs.Common.{◌≡◌, ◌∙◌, ◌<◌, ℕ, Option, sym, ap, subst, refl, Some, None, true, false, arith}
+use Rattle.std.proofs.Common.{◌∙◌, sym}
 use Rattle.spec_cache.proofs.Looks.{look_store-absent, look_store-hit, look_store-part}
 use Rattle.spec_cache.proofs.frames.Frames.look_store.Goals as goal
 

@@ -1,6 +1,5 @@
-use Rattle.std.proofs.Common.{◌≡◌, ◌∙◌, ◌<◌, ◌≤◌, ◌+◌, ◌++◌, ◌∷◌, [], ℕ, List, refl, sym, ap, subst, map, take, length, get_or, Contains, arith}
+use Rattle.std.proofs.Common.{◌∙◌, ℕ, List, refl, subst, get_or, Contains, arith}
 use Rattle.std.proofs.lemmas.List.Elements.{Contains-get_or}
-use Rattle.spec_cache.specs.Held.{maps}
 use Rattle.spec_cache.proofs.Marked.{collected_held, collects_written, marks_more, mark_here, marks_whole}
 use Rattle.spec_cache.proofs.frames.Frames.marks_by_home.Goals as goal
 

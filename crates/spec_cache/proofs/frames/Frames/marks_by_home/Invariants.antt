@@ -1,4 +1,4 @@
-use Rattle.std.proofs.Common.{◌≡◌, ◌≤◌, ℕ, map, take, length, vec_len}
+use Rattle.std.proofs.Common.{◌≡◌, ◌≤◌, map, take, length, vec_len}
 use Rattle.std.specs.Vec.{vec_capacity}
 use Rattle.tcc_maps.specs.Cache.{modified_mask}
 use Rattle.spec_cache.specs.Held.{maps}

@@ -1,5 +1,4 @@
-use Rattle.std.proofs.Common.{◌≡◌, ◌∙◌, ◌<◌, ℕ, Option, sym, ap, subst, refl, Some, None, true, false, arith}
-use Rattle.tcc_maps.specs.Words.{line_of, place_of}
+use Rattle.std.proofs.Common.{◌∙◌, ap, arith}
 use Rattle.tcc_maps.specs.Cache.{dirty_copy}
 use Rattle.spec_cache.specs.Frame.{stored_frame}
 use Rattle.spec_cache.specs.Held.{maps}

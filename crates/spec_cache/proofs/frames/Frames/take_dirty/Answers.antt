@@ -1,4 +1,4 @@
-use Rattle.std.proofs.Common.{◌≡◌, ◌∙◌, ◌<◌, ℕ, Option, sym, ap, subst, refl, Some, None, true, false, arith}
+use Rattle.std.proofs.Common.{sym}
 use Rattle.spec_cache.proofs.Calls.{nothing_cleaned, fits_cleaned, cleaned_maps}
 use Rattle.spec_cache.proofs.Handed.{part_of, nothing_dirty}
 use Rattle.spec_cache.proofs.frames.Frames.take_dirty.Goals as goal

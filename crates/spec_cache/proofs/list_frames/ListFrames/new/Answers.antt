@@ -1,5 +1,3 @@
-use Rattle.std.proofs.Common.{sym, ◌≡◌, ◌∙◌, ◌*◌, ap, Option, None, replicate, ℕ}
-use Rattle.spec_cache.specs.Held.{Held, IsHeld}
 use Rattle.spec_cache.proofs.Forms.{IsHeld-empty}
 use Rattle.spec_cache.proofs.list_frames.ListFrames.new.Goals as goal
 

@@ -1,4 +1,4 @@
-use Rattle.std.proofs.Common.{sym, ◌≡◌, ◌∙◌, length, take, drop, ◌++◌, arith}
+use Rattle.std.proofs.Common.{◌≡◌, length, take, drop, ◌++◌}
 use Rattle.std.specs.Option.{option_map}
 use Rattle.std.proofs.lemmas.List.{length-map}
 use Rattle.spec_cache.specs.Change.{changed_frame}

@@ -1,4 +1,4 @@
-use Rattle.std.proofs.Common.{◌≡◌, ◌∙◌, ◌<◌, ◌≤◌, sym, ap, subst, None, length, arith}
+use Rattle.std.proofs.Common.{◌∙◌, sym, ap, arith}
 use Rattle.spec_cache.specs.Held.{Held, frame_of}
 use Rattle.spec_cache.proofs.Forms.{absent_all}
 use Rattle.spec_cache.proofs.list_frames.ListFramesWays.find.Goals as goal

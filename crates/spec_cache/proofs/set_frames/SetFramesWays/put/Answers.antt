@@ -1,7 +1,14 @@
-use Rattle.std.proofs.Common.{sym}
-use Rattle.spec_cache.proofs.HeldKept.{IsHeld-set}
+use Rattle.std.proofs.Common.{◌∙◌, sym, refl}
+use Rattle.std.proofs.lemmas.Bool.{false≢true}
+use Rattle.spec_cache.proofs.Indexed.{IsIndexed-set}
 use Rattle.spec_cache.proofs.set_frames.SetFramesWays.put.Goals as goal
 
 pub invariant_of-self : goal.invariant_of-self
 invariant_of-self c =
-    IsHeld-set _ c.self.invariant c.args.at c.args.frame (rw (sym c.self.view_is) at c.requires.inside) (rw (sym c.self.view_is) at c.requires.fits)
+    IsIndexed-set (record { config = c.self.inside.config; frames = c.self.inside.frames.items }) c.self.inside.marked c.self.invariant c.args.at c.args.frame (rw (sym c.self.view_is) at c.requires.inside) (rw (sym c.self.view_is) at c.requires.fits)
+    c.note.new.self c.note.ensures.size (λ t. c.note.ensures.noted) c.note.ensures.keeps
+
+pub invariant_of-self-else-is_marked : goal.invariant_of-self-else-is_marked
+invariant_of-self-else-is_marked c =
+    IsIndexed-set (record { config = c.self.inside.config; frames = c.self.inside.frames.items }) c.self.inside.marked c.self.invariant c.args.at c.args.frame (rw (sym c.self.view_is) at c.requires.inside) (rw (sym c.self.view_is) at c.requires.fits)
+    c.self.inside.marked refl (λ t. absurd (false≢true (sym (sym c.is_marked.ensures ∙ c.if-is_marked.false) ∙ t))) (λ j m. m)

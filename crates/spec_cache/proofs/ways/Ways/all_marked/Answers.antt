@@ -1,4 +1,4 @@
-use Rattle.std.proofs.Common.{◌≡◌, ◌<◌, ◌∙◌, sym, arith}
+use Rattle.std.proofs.Common.{◌∙◌, sym}
 use Rattle.spec_cache.proofs.Looks.{within, whole, all_below-none, marked_not, marked_next, marked_all, marked_way}
 use Rattle.spec_cache.proofs.ways.Ways.all_marked.Goals as goal
 

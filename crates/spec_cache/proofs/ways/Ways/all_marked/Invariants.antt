@@ -1,4 +1,4 @@
-use Rattle.std.proofs.Common.{◌≡◌, ℕ, true}
+use Rattle.std.proofs.Common.{◌≡◌, true}
 use Rattle.tcc_maps.specs.Words.{all_below}
 use Rattle.tcc_maps.specs.Cache.{way_marked}
 use Rattle.spec_cache.specs.Held.{maps}

@@ -1,4 +1,4 @@
-use Rattle.std.proofs.Common.{◌≡◌, ◌<◌, ◌∙◌, sym, ap, not, arith}
+use Rattle.std.proofs.Common.{◌∙◌, ap, not}
 use Rattle.spec_cache.proofs.Looks.{within, whole, lowest-none, free_found, free_next, free_none, is_free}
 use Rattle.spec_cache.proofs.ways.Ways.free_way.Goals as goal
 

@@ -1,4 +1,4 @@
-use Rattle.std.proofs.Common.{◌≡◌, ◌∙◌, sym}
+use Rattle.std.proofs.Common.{◌∙◌, sym}
 use Rattle.spec_cache.proofs.Looks.{look_line-free, look_line-marked, look_line-unmarked}
 use Rattle.spec_cache.proofs.ways.Ways.room_for.Goals as goal
 

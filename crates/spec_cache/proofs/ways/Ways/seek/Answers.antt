@@ -1,4 +1,4 @@
-use Rattle.std.proofs.Common.{◌≡◌, ◌∙◌, sym}
+use Rattle.std.proofs.Common.{◌∙◌, sym}
 use Rattle.std.proofs.lemmas.Bool.{false≢true}
 use Rattle.spec_cache.proofs.Looks.{not_held}
 use Rattle.spec_cache.proofs.ways.Ways.seek.Goals as goal
