@@ -29,6 +29,13 @@ pub mod CommitSteps
 pub mod CoreProbing
 pub mod DirProbing
 pub mod ProbingSteps
+pub mod CoreMarks
+pub mod CoreMarking
+pub mod CoreMarkingTakes
+pub mod DirMarks
+pub mod PairMarks
+pub mod MarkSteps
+pub mod MarksKept
 pub mod AllKept
 pub mod LastSteps
 pub mod CommitOwners

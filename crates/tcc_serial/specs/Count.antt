@@ -1,5 +1,5 @@
 -- How many messages of a kind are in flight on a link.
-use Rattle.std.specs.Prelude.{ℕ, ◌+◌, Bool, true, false, List, [], ◌∷◌, ◌==◌, not, ◌%◌, Option, Some, None, nat_lt}
+use Rattle.std.specs.Prelude.{ℕ, ◌+◌, Bool, true, false, List, [], ◌∷◌, ◌==◌, ◌&&◌, not, ◌%◌, Option, Some, None, nat_lt}
 use Rattle.tcc_maps.specs.Words.{num}
 use Rattle.tcc_maps.specs.Nodes.{Msg, TidReq, TidGrant, LoadReq, Fill, Skip, Probe, ProbeReply, Mark, Commit, Abort, WriteBack, Flush, DataReq, Inv, InvAck}
 
@@ -18,6 +18,9 @@ pub data Kind : Type 0 where
   InvsAway : (dirs dir : ℕ) → Kind  -- an Inv of a line that is at home elsewhere
   Acks : Kind
   Marks : (tid : ℕ) → Kind
+  MarkOf : (tid line : ℕ) → Kind  -- a Mark of this line by this TID
+  EmptyMarks : Kind  -- a Mark of no word
+  Skips : (tid : ℕ) → Kind
   MarksAway : (dirs dir : ℕ) → Kind  -- a Mark of a line that is at home elsewhere
   Protocol : Kind  -- all but requests for lines and their words
   Any : Kind
@@ -56,6 +59,12 @@ passes Acks (InvAck l k) = true
 passes Acks _ = false
 passes (Marks t) (Mark l m u) = u == t
 passes (Marks t) _ = false
+passes (MarkOf t l) (Mark k m u) = (u == t) && (k == l)
+passes (MarkOf t l) _ = false
+passes EmptyMarks (Mark l m u) = m == 0
+passes EmptyMarks _ = false
+passes (Skips t) (Skip u) = u == t
+passes (Skips t) _ = false
 passes (MarksAway dirs d) (Mark l m u) = not ((l % dirs) == d)
 passes (MarksAway dirs d) _ = false
 passes Protocol (LoadReq l a) = false

@@ -3,6 +3,7 @@ pub mod Committing
 pub mod Insertion
 pub mod Kept
 pub mod Laws
+pub mod Marks
 pub mod OneCore
 pub mod Owed
 pub mod Owners

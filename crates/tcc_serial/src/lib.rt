@@ -10,7 +10,7 @@ ghost use Rattle.tcc_serial.specs.Insertion.{CanInsert, Inserted};
 ghost use Rattle.tcc_serial.specs.OneCore.{KeptCores};
 ghost use Rattle.tcc_serial.specs.Committing.{CommitsAreServed};
 ghost use Rattle.tcc_serial.specs.Probing.{OneProbe};
-ghost use Rattle.tcc_serial.specs.Laws.{Always, OneWay, OneRequest, NeverPasses, OwedInFlight, Served, CommitsOnce, HoldsLast, SparesItsCommitter};
+ghost use Rattle.tcc_serial.specs.Laws.{Always, OneWay, OneRequest, NeverPasses, OwedInFlight, Served, CommitsOnce, HoldsLast, SparesItsCommitter, MarksAreStored};
 ghost use Rattle.tcc_base.specs.declared.access.Commit.{Commit};
 
 /// Instructions over two memories that agree on the words used give the same.
@@ -68,4 +68,10 @@ pub fn commits_are_of_the_served_tid()
 /// For each directory that owes a core a reply, exactly one probe or reply is in flight between them, and none for another.
 pub fn each_owed_reply_is_on_its_way()
     ensures one { Always OneProbe }
+{}
+
+/// The Marks of a core's TID at a directory, in flight and handled together, are one of each line that the core stores there, from
+/// when the directory has replied; a TID that hasn't come yet or that is skipped has none.
+pub fn marks_are_the_lines_stored()
+    ensures stored { MarksAreStored }
 {}
