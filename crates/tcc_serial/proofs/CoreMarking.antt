@@ -143,7 +143,7 @@ pub swap : {A B : Type 0} → A ⊎ B → B ⊎ A
 swap (inl a) = inr a
 swap (inr a) = inl a
 
-told-commit : (sh : Shape) (c : Cache) (u d t l : ℕ) → (among EmptyMarks (commit_sends sh c u (Dir d)) ≡ 0) × (among (MarkOf t l) (commit_sends sh c u (Dir d)) ≡ 0) × (among (Skips t) (commit_sends sh c u (Dir d)) ≡ 0) × (((u == t) ≡ false) → among (Marks t) (commit_sends sh c u (Dir d)) + among (Resolves t) (commit_sends sh c u (Dir d)) ≡ 0)
+pub told-commit : (sh : Shape) (c : Cache) (u d t l : ℕ) → (among EmptyMarks (commit_sends sh c u (Dir d)) ≡ 0) × (among (MarkOf t l) (commit_sends sh c u (Dir d)) ≡ 0) × (among (Skips t) (commit_sends sh c u (Dir d)) ≡ 0) × (((u == t) ≡ false) → among (Marks t) (commit_sends sh c u (Dir d)) + among (Resolves t) (commit_sends sh c u (Dir d)) ≡ 0)
 unfolding commit_sends among passes
 told-commit sh c u d t l = (grind arith, grind arith, grind arith, λ q. grind arith)
 

@@ -36,6 +36,11 @@ pub mod DirMarks
 pub mod PairMarks
 pub mod MarkSteps
 pub mod MarksKept
+pub mod CoreCounts
+pub mod DirOwes
+pub mod PairCounts
+pub mod CountSteps
+pub mod CountsKept
 pub mod AllKept
 pub mod LastSteps
 pub mod CommitOwners

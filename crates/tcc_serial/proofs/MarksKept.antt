@@ -38,7 +38,7 @@ use Rattle.tcc_serial.proofs.PairMarks.{kinds, marks-moved, marks-granted}
 use Rattle.tcc_serial.proofs.MarkSteps.{marks-answered, marks-given, marks-next, has-alone, grant-alone, is-granted, has-granted, open-untold, open-ahead, taken-less, empty-one, skip-unmarked}
 
 -- a Mark of a TID comes from one core, to which the TID was granted
-only-there : (sh : Shape) (gs : List Grant) (w : World) (cs : List Noted) (c j d k t l : ℕ) (m : Msg) → KeptOwners sh gs w cs → KeptMarks sh gs w → in_flight w.net (Core c) (Dir d) k ≡ Some m → (j ≡ c → ⊥)
+pub only-there : (sh : Shape) (gs : List Grant) (w : World) (cs : List Noted) (c j d k t l : ℕ) (m : Msg) → KeptOwners sh gs w cs → KeptMarks sh gs w → in_flight w.net (Core c) (Dir d) k ≡ Some m → (j ≡ c → ⊥)
     → (Contains gs (record { tid = t; core = j })) ⊎ (1 ≤ num (nat_le w.next t)) → live (MarkOf t l) (w.net (Core j) (Dir d)) + num (passes (MarkOf t l) m) ≡ live (MarkOf t l) (w.net (Core j) (Dir d))
 unfolding marks_of pair
 only-there sh gs w cs c j d k t l m y h i n q = go (passes (MarkOf t l) m) refl
@@ -73,11 +73,11 @@ dir-marks sh gs w cs c d k m s sends a y h z i u = pairs_dir (λ j e v. (t l : �
     reached : (j t : ℕ) → j < sh.cores → d < sh.dirs → opens (w.cores j).phase (writes_at sh (w.cores j).cache d) t ≡ true → s.serving.serving ≤ t
     reached j t x l o = rw (same d) at (open-ahead sh v j d t (z.tids) x l o)
 
-no-request : (t l : ℕ) → passes (MarkOf t l) TidReq ≡ false
+pub no-request : (t l : ℕ) → passes (MarkOf t l) TidReq ≡ false
 unfolding passes
 no-request t l = refl
 
-no-empty : passes EmptyMarks TidReq ≡ false
+pub no-empty : passes EmptyMarks TidReq ≡ false
 unfolding passes
 no-empty = refl
 
@@ -93,7 +93,7 @@ asks-marks sh gs w cs d s sends y h z u = pairs_asks (λ j e v. (t l : ℕ) → 
     reached : (j t : ℕ) → j < sh.cores → d < sh.dirs → opens (w.cores j).phase (writes_at sh (w.cores j).cache d) t ≡ true → s.serving.serving ≤ t
     reached j t x l o = rw (same d) at (open-ahead sh v j d t (z.tids) x l o)
 
-taken-back : (sh : Shape) (gs : List Grant) (w : World) (c d k t l : ℕ) → MarksOf sh gs c d t l (pair w c d) → MarksOf sh gs c d t l (back_taken (pair w c d) k)
+pub taken-back : (sh : Shape) (gs : List Grant) (w : World) (c d k t l : ℕ) → MarksOf sh gs c d t l (pair w c d) → MarksOf sh gs c d t l (back_taken (pair w c d) k)
 unfolding marks_of
 taken-back sh gs w c d k t l h = record { owner = h.owner; words = h.words; fresh = h.fresh; skipped = h.skipped; held = h.held }
 

@@ -11,6 +11,7 @@ pub data Kind : Type 0 where
   Resolves : (tid : ℕ) → Kind  -- Skip, Abort or Commit of this TID
   AnyResolve : Kind
   Commits : (tid : ℕ) → Kind
+  CommitOf : (tid count : ℕ) → Kind  -- a Commit of this TID that counts so many lines
   CommitsAbove : (serving : ℕ) → Kind  -- a Commit of a TID above this one
   AnyCommit : Kind
   Invs : Kind
@@ -45,6 +46,8 @@ passes AnyResolve (Commit u n) = true
 passes AnyResolve _ = false
 passes (Commits t) (Commit u n) = u == t
 passes (Commits t) _ = false
+passes (CommitOf t n) (Commit u k) = (u == t) && (k == n)
+passes (CommitOf t n) _ = false
 passes (CommitsAbove s) (Commit u n) = nat_lt s u
 passes (CommitsAbove s) _ = false
 passes AnyCommit (Commit u n) = true

@@ -4,6 +4,7 @@ use Rattle.tcc_maps.specs.Shape.{Shape}
 use Rattle.tcc_rules.specs.State.{World}
 use Rattle.tcc_rules.specs.Step.{History}
 use Rattle.tcc_serial.specs.Committing.{KeptCommitting}
+use Rattle.tcc_serial.specs.Counted.{KeptCounted}
 use Rattle.tcc_serial.specs.Marks.{KeptMarks}
 use Rattle.tcc_serial.specs.OneCore.{KeptCores}
 use Rattle.tcc_serial.specs.Owners.{Grant, KeptOwners, LastGranted, SparesCommitter}
@@ -31,3 +32,4 @@ pub record KeptAll (sh : Shape) (gs : List Grant) (h : History) : Type 0 where
   pub last : LastGranted gs h.world
   pub spared : SparesCommitter sh gs h.world
   pub marks : KeptMarks sh gs h.world
+  pub counted : KeptCounted sh h.world

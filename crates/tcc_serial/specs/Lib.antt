@@ -1,4 +1,5 @@
 pub mod Count
+pub mod Counted
 pub mod Committing
 pub mod Insertion
 pub mod Kept

@@ -8,6 +8,7 @@ ghost use Rattle.tcc_program.specs.Plain.{steps, begun, Plain, Attempt, Order, s
 ghost use Rattle.tcc_serial.specs.Uses.{Aligned, IsMemory, AgreeOnUsed, Follows};
 ghost use Rattle.tcc_serial.specs.Insertion.{CanInsert, Inserted};
 ghost use Rattle.tcc_serial.specs.OneCore.{KeptCores};
+ghost use Rattle.tcc_serial.specs.Counted.{KeptCounted};
 ghost use Rattle.tcc_serial.specs.Committing.{CommitsAreServed};
 ghost use Rattle.tcc_serial.specs.Probing.{OneProbe};
 ghost use Rattle.tcc_serial.specs.Laws.{Always, OneWay, OneRequest, NeverPasses, OwedInFlight, Served, CommitsOnce, HoldsLast, SparesItsCommitter, MarksAreStored};
@@ -74,4 +75,10 @@ pub fn each_owed_reply_is_on_its_way()
 /// when the directory has replied; a TID that hasn't come yet or that is skipped has none.
 pub fn marks_are_the_lines_stored()
     ensures stored { MarksAreStored }
+{}
+
+/// A Commit in flight counts the Marks of its TID, one at most of each line; while a directory is owed acknowledgements, no Mark of
+/// the TID that it serves is in flight.
+pub fn commits_count_their_marks()
+    ensures counted { Always KeptCounted }
 {}
