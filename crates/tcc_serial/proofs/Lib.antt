@@ -41,6 +41,7 @@ pub mod DirOwes
 pub mod PairCounts
 pub mod CountSteps
 pub mod CountsKept
+pub mod PartlyKept
 pub mod AllKept
 pub mod LastSteps
 pub mod CommitOwners

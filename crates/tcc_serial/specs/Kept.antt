@@ -10,6 +10,7 @@ use Rattle.tcc_serial.specs.OneCore.{KeptCores}
 use Rattle.tcc_serial.specs.Owners.{Grant, KeptOwners, LastGranted, SparesCommitter}
 use Rattle.tcc_serial.specs.Probing.{KeptProbing}
 use Rattle.tcc_serial.specs.Tids.{KeptTids}
+use Rattle.tcc_serial.specs.Partly.{KeptWhole}
 use Rattle.tcc_serial.specs.Owed.{KeptOwed}
 use Rattle.tcc_serial.specs.Probes.{KeptProbes}
 
@@ -33,3 +34,4 @@ pub record KeptAll (sh : Shape) (gs : List Grant) (h : History) : Type 0 where
   pub spared : SparesCommitter sh gs h.world
   pub marks : KeptMarks sh gs h.world
   pub counted : KeptCounted sh h.world
+  pub whole : KeptWhole sh h.world

@@ -9,6 +9,7 @@ pub mod OneCore
 pub mod Owed
 pub mod Owners
 pub mod Pairs
+pub mod Partly
 pub mod Probes
 pub mod Probing
 pub mod Tids

@@ -10,6 +10,7 @@ ghost use Rattle.tcc_serial.specs.Insertion.{CanInsert, Inserted};
 ghost use Rattle.tcc_serial.specs.OneCore.{KeptCores};
 ghost use Rattle.tcc_serial.specs.Counted.{KeptCounted};
 ghost use Rattle.tcc_serial.specs.Committing.{CommitsAreServed};
+ghost use Rattle.tcc_serial.specs.Partly.{KeptWhole};
 ghost use Rattle.tcc_serial.specs.Probing.{OneProbe};
 ghost use Rattle.tcc_serial.specs.Laws.{Always, OneWay, OneRequest, NeverPasses, OwedInFlight, Served, CommitsOnce, HoldsLast, SparesItsCommitter, MarksAreStored};
 ghost use Rattle.tcc_base.specs.declared.access.Commit.{Commit};
@@ -81,4 +82,10 @@ pub fn marks_are_the_lines_stored()
 /// the TID that it serves is in flight.
 pub fn commits_count_their_marks()
     ensures counted { Always KeptCounted }
+{}
+
+/// At a directory that is owed nothing a marked line is wholly overwritten or has no owner: the words that a commit leaves alone
+/// are at home.
+pub fn a_line_marked_in_part_has_no_owner()
+    ensures whole { Always KeptWhole }
 {}
