@@ -42,6 +42,8 @@ pub mod PairCounts
 pub mod CountSteps
 pub mod CountsKept
 pub mod PartlyKept
+pub mod NamedSends
+pub mod NamedKept
 pub mod AllKept
 pub mod LastSteps
 pub mod CommitOwners

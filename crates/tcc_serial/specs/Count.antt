@@ -17,6 +17,9 @@ pub data Kind : Type 0 where
   Invs : Kind
   InvsNot : (tid : ℕ) → Kind  -- an Inv that carries another TID
   InvsAway : (dirs dir : ℕ) → Kind  -- an Inv of a line that is at home elsewhere
+  InvOf : (line : ℕ) → Kind  -- an Inv of this line
+  InvMask : (line mask : ℕ) → Kind  -- an Inv of this line with another mask
+  AckOf : (line : ℕ) → Kind  -- an acknowledgement of this line
   Acks : Kind
   Marks : (tid : ℕ) → Kind
   MarkOf : (tid line : ℕ) → Kind  -- a Mark of this line by this TID
@@ -58,6 +61,12 @@ passes (InvsNot t) (Inv l m u) = not (u == t)
 passes (InvsNot t) _ = false
 passes (InvsAway dirs d) (Inv l m u) = not ((l % dirs) == d)
 passes (InvsAway dirs d) _ = false
+passes (InvOf l) (Inv k m u) = k == l
+passes (InvOf l) _ = false
+passes (InvMask l m) (Inv k n u) = (k == l) && not (n == m)
+passes (InvMask l m) _ = false
+passes (AckOf l) (InvAck k b) = k == l
+passes (AckOf l) _ = false
 passes Acks (InvAck l k) = true
 passes Acks _ = false
 passes (Marks t) (Mark l m u) = u == t

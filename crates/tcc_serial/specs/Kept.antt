@@ -6,6 +6,7 @@ use Rattle.tcc_rules.specs.Step.{History}
 use Rattle.tcc_serial.specs.Committing.{KeptCommitting}
 use Rattle.tcc_serial.specs.Counted.{KeptCounted}
 use Rattle.tcc_serial.specs.Marks.{KeptMarks}
+use Rattle.tcc_serial.specs.Named.{KeptNamed}
 use Rattle.tcc_serial.specs.OneCore.{KeptCores}
 use Rattle.tcc_serial.specs.Owners.{Grant, KeptOwners, LastGranted, SparesCommitter}
 use Rattle.tcc_serial.specs.Probing.{KeptProbing}
@@ -35,3 +36,4 @@ pub record KeptAll (sh : Shape) (gs : List Grant) (h : History) : Type 0 where
   pub marks : KeptMarks sh gs h.world
   pub counted : KeptCounted sh h.world
   pub whole : KeptWhole sh h.world
+  pub named : KeptNamed sh h.world

@@ -5,6 +5,7 @@ pub mod Insertion
 pub mod Kept
 pub mod Laws
 pub mod Marks
+pub mod Named
 pub mod OneCore
 pub mod Owed
 pub mod Owners

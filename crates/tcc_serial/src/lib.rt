@@ -7,6 +7,7 @@ ghost use Rattle.tcc_program.specs.Program.{Local, Program};
 ghost use Rattle.tcc_program.specs.Plain.{steps, begun, Plain, Attempt, Order, serial};
 ghost use Rattle.tcc_serial.specs.Uses.{Aligned, IsMemory, AgreeOnUsed, Follows};
 ghost use Rattle.tcc_serial.specs.Insertion.{CanInsert, Inserted};
+ghost use Rattle.tcc_serial.specs.Named.{KeptNamed};
 ghost use Rattle.tcc_serial.specs.OneCore.{KeptCores};
 ghost use Rattle.tcc_serial.specs.Counted.{KeptCounted};
 ghost use Rattle.tcc_serial.specs.Committing.{CommitsAreServed};
@@ -88,4 +89,10 @@ pub fn commits_count_their_marks()
 /// are at home.
 pub fn a_line_marked_in_part_has_no_owner()
     ensures whole { Always KeptWhole }
+{}
+
+/// An invalidation in flight is of a marked line and has its mask, and of each line at most one is in flight to a core or
+/// acknowledged by it.
+pub fn invalidations_name_marked_lines()
+    ensures named { Always KeptNamed }
 {}
