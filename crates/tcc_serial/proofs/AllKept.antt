@@ -10,12 +10,16 @@ use Rattle.tcc_rules.specs.Step.{Stepped, step, History, and_noted, recorded, ne
 use Rattle.tcc_serial.specs.Count.{live}
 use Rattle.tcc_serial.specs.Pairs.{pair}
 use Rattle.tcc_serial.specs.Tids.{has_tid}
+use Rattle.tcc_serial.specs.Counted.{KeptCounted}
+use Rattle.tcc_serial.specs.Partly.{KeptWhole}
+use Rattle.tcc_serial.specs.Named.{KeptNamed}
+use Rattle.tcc_serial.specs.Marks.{KeptMarks}
 use Rattle.tcc_serial.specs.OneCore.{KeptCores}
 use Rattle.tcc_serial.specs.Committing.{KeptCommitting}
 use Rattle.tcc_serial.specs.Probing.{KeptProbing, OneProbe}
 use Rattle.tcc_serial.specs.Owners.{Grant, granted_by, then_grants, grants_from, KeptOwners, LastGranted, SparesCommitter}
 use Rattle.tcc_serial.specs.Kept.{Kept, KeptTold, KeptAll}
-use Rattle.tcc_serial.specs.Laws.{Always, HoldsLast, SparesItsCommitter}
+use Rattle.tcc_serial.specs.Laws.{Always, HoldsLast, SparesItsCommitter, MarksAreStored}
 use Rattle.tcc_serial.proofs.KeptSteps.{step-kept, start-all}
 use Rattle.tcc_serial.proofs.OwnerSteps.{step-owners, start-owners}
 use Rattle.tcc_serial.proofs.CoreAlone.{step-cores, start-cores}
@@ -23,6 +27,10 @@ use Rattle.tcc_serial.proofs.CommitSteps.{step-committing, start-committing}
 use Rattle.tcc_serial.proofs.ProbingSteps.{step-probing}
 use Rattle.tcc_serial.proofs.LastSteps.{step-last}
 use Rattle.tcc_serial.proofs.InvSteps.{step-spared}
+use Rattle.tcc_serial.proofs.MarksKept.{step-marks, start-marks}
+use Rattle.tcc_serial.proofs.CountsKept.{step-counted, start-counted}
+use Rattle.tcc_serial.proofs.PartlyKept.{step-whole, start-whole}
+use Rattle.tcc_serial.proofs.NamedKept.{step-named, start-named}
 
 start-probing : (entries : ℕ → Local) (ram : ℕ → ℕ) → KeptProbing (start entries ram)
 unfolding start core_start pair live has_tid
@@ -33,11 +41,11 @@ unfolding start pair live
 start-spared sh entries ram c d = record { owner = λ t l. absurd (omega arith); own = λ l g. refl }
 
 pub step-all : (sh : Shape) (p : Program) (gs : List Grant) (h : History) (e : Event) → KeptAll sh gs h → IfSome (recorded h (step sh p h.world e)) (λ g. KeptAll sh (gs ++ granted_by h.world e) g)
-step-all sh p gs h e k = go (step sh p h.world e) (step-kept sh p h.world e (k.kept)) (step-owners sh p gs h.world h.commits e (k.kept.told.tids) (k.owners)) (step-cores sh p h.world e (k.cores)) (step-committing sh p h.world e (k.kept) (k.committing)) (step-probing sh p gs h.world h.commits e (k.kept) (k.owners) (k.cores) (k.probing)) (step-last sh p gs h.world h.commits e (k.kept.told.tids) (k.owners) (k.last)) (step-spared sh p gs h.world h.commits e (k.kept) (k.owners) (k.spared))
+step-all sh p gs h e k = go (step sh p h.world e) (step-kept sh p h.world e (k.kept)) (step-owners sh p gs h.world h.commits e (k.kept.told.tids) (k.owners)) (step-cores sh p h.world e (k.cores)) (step-committing sh p h.world e (k.kept) (k.committing)) (step-probing sh p gs h.world h.commits e (k.kept) (k.owners) (k.cores) (k.probing)) (step-last sh p gs h.world h.commits e (k.kept.told.tids) (k.owners) (k.last)) (step-spared sh p gs h.world h.commits e (k.kept) (k.owners) (k.spared)) (step-marks sh p gs h.world h.commits e (k.kept) (k.owners) (k.marks)) (step-counted sh p gs h.world h.commits e (k.kept) (k.owners) (k.cores) (k.marks) (k.counted)) (step-whole sh p h.world e (k.whole)) (step-named sh p h.world e (k.kept) (k.counted) (k.named))
   where
-    go : (x : Option Stepped) → IfSome x (λ o. Kept sh o.world) → IfSome x (λ o. KeptOwners sh (gs ++ granted_by h.world e) o.world (and_noted o.noted h.commits)) → IfSome x (λ o. KeptCores sh o.world) → IfSome x (λ o. KeptCommitting o.world) → IfSome x (λ o. KeptProbing o.world) → IfSome x (λ o. LastGranted (gs ++ granted_by h.world e) o.world) → IfSome x (λ o. KeptTold sh o.world → SparesCommitter sh (gs ++ granted_by h.world e) o.world) → IfSome (recorded h x) (λ g. KeptAll sh (gs ++ granted_by h.world e) g)
-    go None a b c d f l q = tt
-    go (Some o) a b c d f l q = record { kept = a; owners = b; cores = c; committing = d; probing = f; last = l; spared = q (a.told) }
+    go : (x : Option Stepped) → IfSome x (λ o. Kept sh o.world) → IfSome x (λ o. KeptOwners sh (gs ++ granted_by h.world e) o.world (and_noted o.noted h.commits)) → IfSome x (λ o. KeptCores sh o.world) → IfSome x (λ o. KeptCommitting o.world) → IfSome x (λ o. KeptProbing o.world) → IfSome x (λ o. LastGranted (gs ++ granted_by h.world e) o.world) → IfSome x (λ o. KeptTold sh o.world → SparesCommitter sh (gs ++ granted_by h.world e) o.world) → IfSome x (λ o. KeptTold sh o.world → KeptMarks sh (gs ++ granted_by h.world e) o.world) → IfSome x (λ o. KeptTold sh o.world → KeptCounted sh o.world) → IfSome x (λ o. KeptWhole sh o.world) → IfSome x (λ o. KeptTold sh o.world → KeptNamed sh o.world) → IfSome (recorded h x) (λ g. KeptAll sh (gs ++ granted_by h.world e) g)
+    go None a b c d f l q m n r y = tt
+    go (Some o) a b c d f l q m n r y = record { kept = a; owners = b; cores = c; committing = d; probing = f; last = l; spared = q (a.told); marks = m (a.told); counted = n (a.told); whole = r; named = y (a.told) }
 
 run_from-all : (sh : Shape) (p : Program) (es : List Event) (gs : List Grant) (h : History) → KeptAll sh gs h → IfSome (run_from sh p es h) (λ r. KeptAll sh (gs ++ grants_from sh p es h) r)
 unfolding run_from grants_from next
@@ -58,6 +66,10 @@ run-all sh p entries ram es = run_from-all sh p es [] (record { world = start en
   probing = start-probing entries ram;
   last = λ c d t u l q. absurd (omega (arith, q.1));
   spared = start-spared sh entries ram;
+  marks = start-marks sh entries ram;
+  counted = start-counted sh entries ram;
+  whole = start-whole sh entries ram;
+  named = start-named sh entries ram;
 })
 
 one_probe_from : (sh : Shape) (w : World) → KeptProbing w → OneProbe sh w
@@ -90,3 +102,34 @@ spares_committer sh p entries ram es = go (run sh p (start entries ram) es) (run
     go : (x : Option History) → IfSome x (λ r. KeptAll sh gs r) → IfSome x (λ r. SparesCommitter sh gs r.world)
     go None h = tt
     go (Some r) h = h.spared
+
+pub marks_stored : MarksAreStored
+marks_stored sh p entries ram es = go (run sh p (start entries ram) es) (run-all sh p entries ram es)
+  where
+    gs : List Grant
+    gs = grants_from sh p es (record { world = start entries ram; commits = [] })
+
+    go : (x : Option History) → IfSome x (λ r. KeptAll sh gs r) → IfSome x (λ r. KeptMarks sh gs r.world)
+    go None h = tt
+    go (Some r) h = h.marks
+
+pub counts_marks : Always KeptCounted
+counts_marks sh p entries ram es = go (run sh p (start entries ram) es) (run-all sh p entries ram es)
+  where
+    go : (x : Option History) → IfSome x (λ r. KeptAll sh (grants_from sh p es (record { world = start entries ram; commits = [] })) r) → IfSome x (λ r. KeptCounted sh r.world)
+    go None h = tt
+    go (Some r) h = h.counted
+
+pub wholly_marked : Always KeptWhole
+wholly_marked sh p entries ram es = go (run sh p (start entries ram) es) (run-all sh p entries ram es)
+  where
+    go : (x : Option History) → IfSome x (λ r. KeptAll sh (grants_from sh p es (record { world = start entries ram; commits = [] })) r) → IfSome x (λ r. KeptWhole sh r.world)
+    go None h = tt
+    go (Some r) h = h.whole
+
+pub named_lines : Always KeptNamed
+named_lines sh p entries ram es = go (run sh p (start entries ram) es) (run-all sh p entries ram es)
+  where
+    go : (x : Option History) → IfSome x (λ r. KeptAll sh (grants_from sh p es (record { world = start entries ram; commits = [] })) r) → IfSome x (λ r. KeptNamed sh r.world)
+    go None h = tt
+    go (Some r) h = h.named

@@ -123,7 +123,7 @@ clean-none : (sh : Shape) (d : ℕ) → Clean sh d []
 unfolding among
 clean-none sh d = record { acks = refl; marks = refl; far = λ x. refl }
 
-clean-steady : (sh : Shape) (s : CoreState) (o : Out) → Steady s o → CleanOut sh o
+pub clean-steady : (sh : Shape) (s : CoreState) (o : Out) → Steady s o → CleanOut sh o
 clean-steady sh s o y d = clean-quiet sh d (o.sends (Dir d)) (y.quiet d)
 
 clean-executed : (sh : Shape) (c : ℕ) (s : CoreState) (o : Out) → Executed sh c s o → CleanOut sh o
@@ -179,7 +179,7 @@ clean-grant sh u s = go s.phase
     go (Solo v) = still
     go Halted = still
 
-clean-replied : (sh : Shape) (e u : ℕ) (s : CoreState) (o : Out) → Replied sh e u s o → CleanOut sh o
+pub clean-replied : (sh : Shape) (e u : ℕ) (s : CoreState) (o : Out) → Replied sh e u s o → CleanOut sh o
 clean-replied sh e u s o (Ignored q n) = rw q (clean-steady sh s (ignored s) (ignored-steady s))
 clean-replied sh e u s o (Probed g f ph ow ca se cm) = rw se (λ d. go d (d == e) refl)
   where
@@ -194,7 +194,7 @@ pub record AcksHome (sh : Shape) (l d : ℕ) (ms : List Msg) : Type 0 where
   pub marks : among (MarksAway sh.dirs d) ms ≡ 0
   pub far : sh.dirs ≤ d → among AnyResolve ms ≡ 0
 
-clean-hurt : (sh : Shape) (s r : CoreState) (sends : Sends) (d : ℕ) → Hurt sh s r sends → Clean sh d (sends (Dir d))
+pub clean-hurt : (sh : Shape) (s r : CoreState) (sends : Sends) (d : ℕ) → Hurt sh s r sends → Clean sh d (sends (Dir d))
 clean-hurt sh s r sends d (Unhurt ph ow mo re se) = rw (se (Dir d)) (clean-none sh d)
 clean-hurt sh s r sends d (Rolled ph ph' ow se) = rw (se (Dir d)) (clean-none sh d)
 clean-hurt sh s r sends d (Doomed ph ph' ow se) = rw (se (Dir d)) (clean-none sh d)

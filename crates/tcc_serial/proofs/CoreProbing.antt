@@ -87,7 +87,7 @@ none-to t h d ms e = go (d == h)
     go true = e
     go false = refl
 
-tid-after : (e : Outcome) (t : ℕ) → has_tid (phase_after e) t ≡ false
+pub tid-after : (e : Outcome) (t : ℕ) → has_tid (phase_after e) t ≡ false
 unfolding has_tid
 tid-after Goes t = refl
 tid-after Ended t = refl

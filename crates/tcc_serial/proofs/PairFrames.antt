@@ -64,11 +64,11 @@ back-other w e c k o j d h = rw (differ j c h) (rw (and-false (d == e)) refl)
 
 -- directory e takes a message of core c
 
-dir-own : (w : World) (c d k : ℕ) (s : DirState) (sends : Node → List Msg) → pair (dir_takes w c d k s sends) c d ≡ after_answer (out_taken (pair w c d) k) s (sends (Core c))
+pub dir-own : (w : World) (c d k : ℕ) (s : DirState) (sends : Node → List Msg) → pair (dir_takes w c d k s sends) c d ≡ after_answer (out_taken (pair w c d) k) s (sends (Core c))
 unfolding pair dir_takes
 dir-own w c d k s sends = rw (same c) (rw (same d) refl)
 
-dir-other : (w : World) (c d k : ℕ) (s : DirState) (sends : Node → List Msg) (j : ℕ) → (j ≡ c → ⊥) → pair (dir_takes w c d k s sends) j d ≡ after_answer (pair w j d) s (sends (Core j))
+pub dir-other : (w : World) (c d k : ℕ) (s : DirState) (sends : Node → List Msg) (j : ℕ) → (j ≡ c → ⊥) → pair (dir_takes w c d k s sends) j d ≡ after_answer (pair w j d) s (sends (Core j))
 unfolding pair dir_takes
 dir-other w c d k s sends j h = rw (differ j c h) (rw (same d) refl)
 
@@ -76,7 +76,7 @@ dir-away : (w : World) (c e k : ℕ) (s : DirState) (sends : Node → List Msg) 
 unfolding pair dir_takes
 dir-away w c e k s sends j d h = rw (differ d e h) (rw (and-false (j == c)) refl)
 
-asks-own : (w : World) (d : ℕ) (s : DirState) (sends : Node → List Msg) (j : ℕ) → pair (dir_asks w d s sends) j d ≡ after_answer (pair w j d) s (sends (Core j))
+pub asks-own : (w : World) (d : ℕ) (s : DirState) (sends : Node → List Msg) (j : ℕ) → pair (dir_asks w d s sends) j d ≡ after_answer (pair w j d) s (sends (Core j))
 unfolding pair dir_asks
 asks-own w d s sends j = rw (same d) refl
 

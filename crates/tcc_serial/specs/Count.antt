@@ -1,5 +1,5 @@
 -- How many messages of a kind are in flight on a link.
-use Rattle.std.specs.Prelude.{ℕ, ◌+◌, Bool, true, false, List, [], ◌∷◌, ◌==◌, not, ◌%◌, Option, Some, None, nat_lt}
+use Rattle.std.specs.Prelude.{ℕ, ◌+◌, Bool, true, false, List, [], ◌∷◌, ◌==◌, ◌&&◌, not, ◌%◌, Option, Some, None, nat_lt}
 use Rattle.tcc_maps.specs.Words.{num}
 use Rattle.tcc_maps.specs.Nodes.{Msg, TidReq, TidGrant, LoadReq, Fill, Skip, Probe, ProbeReply, Mark, Commit, Abort, WriteBack, Flush, DataReq, Inv, InvAck}
 
@@ -11,13 +11,20 @@ pub data Kind : Type 0 where
   Resolves : (tid : ℕ) → Kind  -- Skip, Abort or Commit of this TID
   AnyResolve : Kind
   Commits : (tid : ℕ) → Kind
+  CommitOf : (tid count : ℕ) → Kind  -- a Commit of this TID that counts so many lines
   CommitsAbove : (serving : ℕ) → Kind  -- a Commit of a TID above this one
   AnyCommit : Kind
   Invs : Kind
   InvsNot : (tid : ℕ) → Kind  -- an Inv that carries another TID
   InvsAway : (dirs dir : ℕ) → Kind  -- an Inv of a line that is at home elsewhere
+  InvOf : (line : ℕ) → Kind  -- an Inv of this line
+  InvMask : (line mask : ℕ) → Kind  -- an Inv of this line with another mask
+  AckOf : (line : ℕ) → Kind  -- an acknowledgement of this line
   Acks : Kind
   Marks : (tid : ℕ) → Kind
+  MarkOf : (tid line : ℕ) → Kind  -- a Mark of this line by this TID
+  EmptyMarks : Kind  -- a Mark of no word
+  Skips : (tid : ℕ) → Kind
   MarksAway : (dirs dir : ℕ) → Kind  -- a Mark of a line that is at home elsewhere
   Protocol : Kind  -- all but requests for lines and their words
   Any : Kind
@@ -42,6 +49,8 @@ passes AnyResolve (Commit u n) = true
 passes AnyResolve _ = false
 passes (Commits t) (Commit u n) = u == t
 passes (Commits t) _ = false
+passes (CommitOf t n) (Commit u k) = (u == t) && (k == n)
+passes (CommitOf t n) _ = false
 passes (CommitsAbove s) (Commit u n) = nat_lt s u
 passes (CommitsAbove s) _ = false
 passes AnyCommit (Commit u n) = true
@@ -52,10 +61,22 @@ passes (InvsNot t) (Inv l m u) = not (u == t)
 passes (InvsNot t) _ = false
 passes (InvsAway dirs d) (Inv l m u) = not ((l % dirs) == d)
 passes (InvsAway dirs d) _ = false
+passes (InvOf l) (Inv k m u) = k == l
+passes (InvOf l) _ = false
+passes (InvMask l m) (Inv k n u) = (k == l) && not (n == m)
+passes (InvMask l m) _ = false
+passes (AckOf l) (InvAck k b) = k == l
+passes (AckOf l) _ = false
 passes Acks (InvAck l k) = true
 passes Acks _ = false
 passes (Marks t) (Mark l m u) = u == t
 passes (Marks t) _ = false
+passes (MarkOf t l) (Mark k m u) = (u == t) && (k == l)
+passes (MarkOf t l) _ = false
+passes EmptyMarks (Mark l m u) = m == 0
+passes EmptyMarks _ = false
+passes (Skips t) (Skip u) = u == t
+passes (Skips t) _ = false
 passes (MarksAway dirs d) (Mark l m u) = not ((l % dirs) == d)
 passes (MarksAway dirs d) _ = false
 passes Protocol (LoadReq l a) = false

@@ -4,10 +4,14 @@ use Rattle.tcc_maps.specs.Shape.{Shape}
 use Rattle.tcc_rules.specs.State.{World}
 use Rattle.tcc_rules.specs.Step.{History}
 use Rattle.tcc_serial.specs.Committing.{KeptCommitting}
+use Rattle.tcc_serial.specs.Counted.{KeptCounted}
+use Rattle.tcc_serial.specs.Marks.{KeptMarks}
+use Rattle.tcc_serial.specs.Named.{KeptNamed}
 use Rattle.tcc_serial.specs.OneCore.{KeptCores}
 use Rattle.tcc_serial.specs.Owners.{Grant, KeptOwners, LastGranted, SparesCommitter}
 use Rattle.tcc_serial.specs.Probing.{KeptProbing}
 use Rattle.tcc_serial.specs.Tids.{KeptTids}
+use Rattle.tcc_serial.specs.Partly.{KeptWhole}
 use Rattle.tcc_serial.specs.Owed.{KeptOwed}
 use Rattle.tcc_serial.specs.Probes.{KeptProbes}
 
@@ -29,3 +33,7 @@ pub record KeptAll (sh : Shape) (gs : List Grant) (h : History) : Type 0 where
   pub probing : KeptProbing h.world
   pub last : LastGranted gs h.world
   pub spared : SparesCommitter sh gs h.world
+  pub marks : KeptMarks sh gs h.world
+  pub counted : KeptCounted sh h.world
+  pub whole : KeptWhole sh h.world
+  pub named : KeptNamed sh h.world

@@ -8,6 +8,7 @@ use Rattle.tcc_maps.specs.Cache.{writes_at, reads_at}
 use Rattle.tcc_rules.specs.State.{World, start}
 use Rattle.tcc_rules.specs.Step.{run}
 use Rattle.tcc_serial.specs.Count.{Grants, Resolves, InvsNot, InvsAway, live}
+use Rattle.tcc_serial.specs.Marks.{KeptMarks}
 use Rattle.tcc_serial.specs.Pairs.{pair}
 use Rattle.tcc_serial.specs.Owners.{grants_from, KeptOwners, LastGranted, SparesCommitter}
 use Rattle.tcc_serial.specs.Owed.{OwedAt}
@@ -65,3 +66,9 @@ HoldsLast = (sh : Shape) (p : Program) (entries : ℕ → Local) (ram : ℕ → 
 -- A Commit in flight is from the core that its TID was granted to, and no invalidation of the served TID is in flight to its core.
 abbrev pub SparesItsCommitter : Type 0
 SparesItsCommitter = (sh : Shape) (p : Program) (entries : ℕ → Local) (ram : ℕ → ℕ) (es : List Event) → IfSome (run sh p (start entries ram) es) (λ r. SparesCommitter sh (grants_from sh p es (record { world = start entries ram; commits = [] })) r.world)
+
+-- The Marks of a core's TID, in flight and handled together, are one of each line that the core stores at a directory that has
+-- replied, and there is no other; a TID that hasn't come yet or that is skipped has none. A Mark, and a word on what becomes of
+-- its TID, are from the core that the TID was granted to.
+abbrev pub MarksAreStored : Type 0
+MarksAreStored = (sh : Shape) (p : Program) (entries : ℕ → Local) (ram : ℕ → ℕ) (es : List Event) → IfSome (run sh p (start entries ram) es) (λ r. KeptMarks sh (grants_from sh p es (record { world = start entries ram; commits = [] })) r.world)

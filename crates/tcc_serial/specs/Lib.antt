@@ -1,12 +1,16 @@
 pub mod Count
+pub mod Counted
 pub mod Committing
 pub mod Insertion
 pub mod Kept
 pub mod Laws
+pub mod Marks
+pub mod Named
 pub mod OneCore
 pub mod Owed
 pub mod Owners
 pub mod Pairs
+pub mod Partly
 pub mod Probes
 pub mod Probing
 pub mod Tids

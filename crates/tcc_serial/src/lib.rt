@@ -7,10 +7,13 @@ ghost use Rattle.tcc_program.specs.Program.{Local, Program};
 ghost use Rattle.tcc_program.specs.Plain.{steps, begun, Plain, Attempt, Order, serial};
 ghost use Rattle.tcc_serial.specs.Uses.{Aligned, IsMemory, AgreeOnUsed, Follows};
 ghost use Rattle.tcc_serial.specs.Insertion.{CanInsert, Inserted};
+ghost use Rattle.tcc_serial.specs.Named.{KeptNamed};
 ghost use Rattle.tcc_serial.specs.OneCore.{KeptCores};
+ghost use Rattle.tcc_serial.specs.Counted.{KeptCounted};
 ghost use Rattle.tcc_serial.specs.Committing.{CommitsAreServed};
+ghost use Rattle.tcc_serial.specs.Partly.{KeptWhole};
 ghost use Rattle.tcc_serial.specs.Probing.{OneProbe};
-ghost use Rattle.tcc_serial.specs.Laws.{Always, OneWay, OneRequest, NeverPasses, OwedInFlight, Served, CommitsOnce, HoldsLast, SparesItsCommitter};
+ghost use Rattle.tcc_serial.specs.Laws.{Always, OneWay, OneRequest, NeverPasses, OwedInFlight, Served, CommitsOnce, HoldsLast, SparesItsCommitter, MarksAreStored};
 ghost use Rattle.tcc_base.specs.declared.access.Commit.{Commit};
 
 /// Instructions over two memories that agree on the words used give the same.
@@ -68,4 +71,28 @@ pub fn commits_are_of_the_served_tid()
 /// For each directory that owes a core a reply, exactly one probe or reply is in flight between them, and none for another.
 pub fn each_owed_reply_is_on_its_way()
     ensures one { Always OneProbe }
+{}
+
+/// The Marks of a core's TID at a directory, in flight and handled together, are one of each line that the core stores there, from
+/// when the directory has replied; a TID that hasn't come yet or that is skipped has none.
+pub fn marks_are_the_lines_stored()
+    ensures stored { MarksAreStored }
+{}
+
+/// A Commit in flight counts the Marks of its TID, one at most of each line; while a directory is owed acknowledgements, no Mark of
+/// the TID that it serves is in flight.
+pub fn commits_count_their_marks()
+    ensures counted { Always KeptCounted }
+{}
+
+/// At a directory that is owed nothing a marked line is wholly overwritten or has no owner: the words that a commit leaves alone
+/// are at home.
+pub fn a_line_marked_in_part_has_no_owner()
+    ensures whole { Always KeptWhole }
+{}
+
+/// An invalidation in flight is of a marked line and has its mask, and of each line at most one is in flight to a core or
+/// acknowledged by it.
+pub fn invalidations_name_marked_lines()
+    ensures named { Always KeptNamed }
 {}

@@ -1,0 +1,5 @@
+use Rattle.tcc_serial.proofs.AllKept.{named_lines}
+use Rattle.tcc_serial.proofs.invalidations_name_marked_lines.Goals as goal
+
+pub returns : goal.returns
+returns c = record { named = named_lines }
