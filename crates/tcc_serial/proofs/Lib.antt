@@ -42,6 +42,7 @@ pub mod PairCounts
 pub mod CountSteps
 pub mod CountsKept
 pub mod PartlyKept
+pub mod AskedKept
 pub mod NamedSends
 pub mod NamedKept
 pub mod AllKept

@@ -3,6 +3,7 @@ use Rattle.std.specs.Prelude.{List}
 use Rattle.tcc_maps.specs.Shape.{Shape}
 use Rattle.tcc_rules.specs.State.{World}
 use Rattle.tcc_rules.specs.Step.{History}
+use Rattle.tcc_serial.specs.Asked.{KeptAsked}
 use Rattle.tcc_serial.specs.Committing.{KeptCommitting}
 use Rattle.tcc_serial.specs.Counted.{KeptCounted}
 use Rattle.tcc_serial.specs.Marks.{KeptMarks}
@@ -37,3 +38,4 @@ pub record KeptAll (sh : Shape) (gs : List Grant) (h : History) : Type 0 where
   pub counted : KeptCounted sh h.world
   pub whole : KeptWhole sh h.world
   pub named : KeptNamed sh h.world
+  pub asked : KeptAsked sh h.world

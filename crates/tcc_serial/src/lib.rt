@@ -9,6 +9,7 @@ ghost use Rattle.tcc_serial.specs.Uses.{Aligned, IsMemory, AgreeOnUsed, Follows}
 ghost use Rattle.tcc_serial.specs.Insertion.{CanInsert, Inserted};
 ghost use Rattle.tcc_serial.specs.Named.{KeptNamed};
 ghost use Rattle.tcc_serial.specs.OneCore.{KeptCores};
+ghost use Rattle.tcc_serial.specs.Asked.{KeptAsked};
 ghost use Rattle.tcc_serial.specs.Counted.{KeptCounted};
 ghost use Rattle.tcc_serial.specs.Committing.{CommitsAreServed};
 ghost use Rattle.tcc_serial.specs.Partly.{KeptWhole};
@@ -95,4 +96,9 @@ pub fn a_line_marked_in_part_has_no_owner()
 /// acknowledged by it.
 pub fn invalidations_name_marked_lines()
     ensures named { Always KeptNamed }
+{}
+
+/// A line whose data a directory asked for has an owner, from which they come.
+pub fn an_asked_line_has_an_owner()
+    ensures asked { Always KeptAsked }
 {}

@@ -1,0 +1,5 @@
+use Rattle.tcc_serial.proofs.AllKept.{asked_owned}
+use Rattle.tcc_serial.proofs.an_asked_line_has_an_owner.Goals as goal
+
+pub returns : goal.returns
+returns c = record { asked = asked_owned }
