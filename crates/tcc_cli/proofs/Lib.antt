@@ -3,3 +3,4 @@ pub mod Headline
 pub mod Accepted
 pub mod Running
 pub mod Wording
+pub mod Taken

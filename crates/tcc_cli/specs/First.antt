@@ -52,3 +52,8 @@ IsLaid image =
 -- the images that are accepted are those that RAM takes
 abbrev pub AcceptedAreLaid : Type 0
 AcceptedAreLaid = (image : List ℕ) → IsAccepted image ↔ IsLaid image
+
+-- a run in which no halt or trap is committed took all the events that were asked for
+abbrev pub OpenRunsTakeAllEvents : Type 0
+OpenRunsTakeAllEvents =
+    (image : List ℕ) (steps : ℕ) → is_halted (run_of image steps).ended ≡ false → (run_of image steps).events ≡ steps

@@ -1,5 +1,5 @@
 // What follows from the answers of the program.
-ghost use Rattle.tcc_cli.specs.First.{AcceptedAreLaid};
+ghost use Rattle.tcc_cli.specs.First.{AcceptedAreLaid, OpenRunsTakeAllEvents};
 ghost use Rattle.tcc_cli.specs.Top.{AnswersAreComplete};
 
 /// A law: where the words are a command, the file's bytes are told, and no count of faults rose, the program has run the image
@@ -12,4 +12,9 @@ pub fn answers_are_complete()
 /// code, and more than 65,536 don't fit.
 pub fn accepted_are_laid()
     ensures { AcceptedAreLaid }
+{}
+
+/// A law: where no halt or trap is committed at the end, all the events that were asked for were done.
+pub fn open_runs_take_all_events()
+    ensures { OpenRunsTakeAllEvents }
 {}

@@ -9,6 +9,6 @@ mod tests;
 mod top;
 mod words;
 
-pub use laws::{accepted_are_laid, answers_are_complete};
+pub use laws::{accepted_are_laid, answers_are_complete, open_runs_take_all_events};
 pub use status::Status;
 pub use top::tcc_main;
