@@ -3,43 +3,13 @@ use Rattle.std.specs.Prelude.{ℕ, ◌≡◌, ◌<◌, ◌≢◌, Bool, true, fa
 use Rattle.std.proofs.Common.{arith, refl, ap, sym, ◌∙◌}
 use Rattle.std.proofs.lemmas.Bool.Decides.{nat_tests}
 use Rattle.tcc_base.specs.declared.access.Commit.{Commit}
+use Rattle.tcc_program.proofs.Serials.{serial-append}
+use Rattle.tcc_program.specs.Orders.{last_tid}
 use Rattle.tcc_program.specs.Program.{Program}
 use Rattle.tcc_program.specs.Plain.{Attempt, Plain, transaction, Order, commit_of, and_commit, after_order, serial}
 use Rattle.tcc_serial.specs.Uses.{stores_word, Aligned, IsMemory}
-use Rattle.tcc_serial.specs.Insertion.{commits_store, commits_touch, orders_core, last_tid, IsBelow, Again, Inserted, CanInsert}
+use Rattle.tcc_serial.specs.Insertion.{commits_store, commits_touch, orders_core, IsBelow, Again, Inserted, CanInsert}
 use Rattle.tcc_serial.proofs.SerialAgain.{Twice, TwiceIf, transaction_twice, serial_again, commits_touch-store}
-
--- the commits before those of a later part
-abbrev with_before : List Commit → Option (Plain × List Commit) → Option (Plain × List Commit)
-with_before before None = None
-with_before before (Some r) = Some (r.0, before ++ r.1)
-
-abbrev joined : Option (Plain × List Commit) → (Plain → Option (Plain × List Commit)) → Option (Plain × List Commit)
-joined None more = None
-joined (Some x) more = with_before x.1 (more x.0)
-
-joined-commit : (c : Commit) (x : Option (Plain × List Commit)) (more : Plain → Option (Plain × List Commit)) → and_commit c (joined x more) ≡ joined (and_commit c x) more
-joined-commit c None more = refl
-joined-commit c (Some x) more = go (more x.0)
-  where
-    go : (y : Option (Plain × List Commit)) → and_commit c (with_before x.1 y) ≡ with_before (c ∷ x.1) y
-    go None = refl
-    go (Some r) = refl
-
-serial-append : (base : ℕ) (p : Program) (last : ℕ) (early late : List Order) (m : Plain) → serial base p last (early ++ late) m ≡ joined (serial base p last early m) (serial base p (last_tid last early) late)
-unfolding serial
-serial-append base p last [] late m = go (serial base p last late m)
-  where
-    go : (y : Option (Plain × List Commit)) → y ≡ with_before [] y
-    go None = refl
-    go (Some r) = refl
-serial-append base p last (o ∷ early) late m = go (nat_lt last o.tid) (transaction base p m o.core o.n) (λ k. serial-append base p o.tid early late k)
-  where
-    go : (b : Bool) (t : Option (Plain × Attempt)) → ((k : Plain) → serial base p o.tid (early ++ late) k ≡ joined (serial base p o.tid early k) (serial base p (last_tid o.tid early) late))
-        → (if b then after_order (serial base p o.tid (early ++ late)) o t else None) ≡ joined (if b then after_order (serial base p o.tid early) o t else None) (serial base p (last_tid o.tid early) late)
-    go false t h = refl
-    go true None h = refl
-    go true (Some d) h = rw (h d.0) (joined-commit (commit_of o d.1) (serial base p o.tid early d.0) (serial base p (last_tid o.tid early) late))
 
 pub orders_joined : (base : ℕ) (p : Program) (last : ℕ) (early late : List Order) (o : Order) (m start done end : Plain) (a : Attempt) (before after : List Commit) → CanInsert base p last early late o m start done end a before after → serial base p last (early ++ late) m ≡ Some (end, before ++ after)
 orders_joined base p last early late o m start done end a before after c = serial-append base p last early late m ∙ rw (c.first, c.then_late) refl

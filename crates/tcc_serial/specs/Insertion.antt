@@ -3,6 +3,7 @@
 use Rattle.std.specs.Prelude.{ℕ, ◌≡◌, ◌<◌, ◌≢◌, Bool, true, false, ◌||◌, ◌==◌, List, [], ◌∷◌, ◌++◌, Option, Some}
 use Rattle.tcc_base.specs.declared.access.Commit.{Commit}
 use Rattle.tcc_program.specs.Program.{Program}
+use Rattle.tcc_program.specs.Orders.{last_tid}
 use Rattle.tcc_program.specs.Plain.{Attempt, Plain, Order, commit_of, serial, transaction}
 use Rattle.tcc_serial.specs.Uses.{loads_word, stores_word}
 
@@ -19,11 +20,6 @@ commits_touch base (c ∷ cs) w = (loads_word base c.loads w || stores_word base
 unfoldable pub orders_core : List Order → ℕ → Bool
 orders_core [] c = false
 orders_core (o ∷ os) c = (o.core == c) || orders_core os c
-
--- the TID of the last order
-abbrev pub last_tid : (last : ℕ) → List Order → ℕ
-last_tid last [] = last
-last_tid last (o ∷ os) = last_tid o.tid os
 
 -- every later order has a larger TID, where their TIDs rise
 abbrev pub IsBelow : (tid : ℕ) → List Order → Type 0
