@@ -75,7 +75,7 @@ run-all sh p entries ram es = run_from-all sh p es [] (record { world = start en
   asked = start-asked sh entries ram;
 })
 
-one_probe_from : (sh : Shape) (w : World) → KeptProbing w → OneProbe sh w
+pub one_probe_from : (sh : Shape) (w : World) → KeptProbing w → OneProbe sh w
 unfolding pair
 one_probe_from sh w k c d t h = (k c d t).held h
 

@@ -52,7 +52,7 @@ passed sh w d t r l = record {
 pub never_passes : Always NeverPasses
 never_passes = from_kept NeverPasses (λ sh w k d t x l. passed sh w d t (k.told.tids.resolved d t x) l)
 
-owed_from : (sh : Shape) (w : World) → KeptOwed sh w → OwedInFlight sh w
+pub owed_from : (sh : Shape) (w : World) → KeptOwed sh w → OwedInFlight sh w
 unfolding pair
 owed_from sh w k = record { owed = k.owed; served = λ c d. (k.at_home c d).served; at_home = λ c d. (k.at_home c d).invs; marked_at_home = λ d l e. (k.at_home 0 d).marked l e }
 
@@ -92,7 +92,7 @@ serves sh w c d t k l x o r =
     not_below : (a b : ℕ) → num (nat_lt a b) ≡ 0 → b ≤ a
     not_below a b z = grind (arith, nat_tests)
 
-served_from : (sh : Shape) (w : World) → Kept sh w → Served sh w
+pub served_from : (sh : Shape) (w : World) → Kept sh w → Served sh w
 unfolding pair
 served_from sh w k = record {
   reached = λ c d l x a o. (k.probes c d).core.reached x a o;

@@ -46,6 +46,11 @@ pub mod AskedKept
 pub mod NamedSends
 pub mod NamedKept
 pub mod AllKept
+pub mod GivenUpKept
+pub mod FromKept
+pub mod StartAll
+pub mod TriedRun
+pub mod SoundAttempts
 pub mod LastSteps
 pub mod CommitOwners
 pub mod DirInvs

@@ -1,6 +1,7 @@
 -- How many messages of a kind are in flight on a link.
-use Rattle.std.specs.Prelude.{ℕ, ◌+◌, Bool, true, false, List, [], ◌∷◌, ◌==◌, ◌&&◌, not, ◌%◌, Option, Some, None, nat_lt}
-use Rattle.tcc_maps.specs.Words.{num}
+use Rattle.std.specs.Prelude.{ℕ, ◌+◌, Bool, true, false, List, [], ◌∷◌, get_or, ◌==◌, ◌&&◌, not, ◌%◌, Option, Some, None, nat_lt}
+use Rattle.tcc_maps.specs.Words.{num, line_of, place_of}
+use Rattle.tcc_maps.specs.Masks.{hit}
 use Rattle.tcc_maps.specs.Nodes.{Msg, TidReq, TidGrant, LoadReq, Fill, Skip, Probe, ProbeReply, Mark, Commit, Abort, WriteBack, Flush, DataReq, Inv, InvAck}
 
 -- what a message may be
@@ -8,6 +9,20 @@ pub data Kind : Type 0 where
   Asks : Kind  -- a request for a TID
   Grants : (tid : ℕ) → Kind  -- a grant of this TID
   AnyGrant : Kind
+  LoadOf : (line : ℕ) → Kind  -- a request for this line
+  LoadNot : (after : ℕ) → Kind  -- a request for a line that carries another TID
+  FillOf : (line : ℕ) → Kind  -- a Fill of this line
+  FillNot : (word value : ℕ) → Kind  -- a Fill that gives this word another value
+  CopyOf : (line tag : ℕ) → Kind  -- a WriteBack or Flush of this line with this tag
+  CopyMask : (line tag mask : ℕ) → Kind  -- one with another mask
+  CopyWord : (word tag : ℕ) → Kind  -- a WriteBack or Flush with this tag that has this word
+  CopyNot : (word tag value : ℕ) → Kind  -- one that has it with another value
+  DataOf : (line : ℕ) → Kind  -- a request for the owner's words of this line
+  InvWord : (word : ℕ) → Kind  -- an Inv of this word
+  InvBelow : (word tid : ℕ) → Kind  -- one with a TID below this
+  GoneOf : (line : ℕ) → Kind  -- an acknowledgement of this line from a core that keeps no word of it
+  LinesAway : (dirs dir : ℕ) → Kind  -- a message about a line that is at home elsewhere
+  NoWord : Kind  -- a Mark, Inv, WriteBack or Flush of no word
   Resolves : (tid : ℕ) → Kind  -- Skip, Abort or Commit of this TID
   AnyResolve : Kind
   Commits : (tid : ℕ) → Kind
@@ -39,6 +54,48 @@ passes (Grants t) (TidGrant u) = u == t
 passes (Grants t) _ = false
 passes AnyGrant (TidGrant u) = true
 passes AnyGrant _ = false
+passes (LoadOf l) (LoadReq k a) = k == l
+passes (LoadOf l) _ = false
+passes (LoadNot a) (LoadReq k b) = not (b == a)
+passes (LoadNot a) _ = false
+passes (FillOf l) (Fill k ws) = k == l
+passes (FillOf l) _ = false
+passes (FillNot w x) (Fill k ws) = (k == line_of w) && not (get_or ws (place_of w) 0 == x)
+passes (FillNot w x) _ = false
+passes (CopyOf l t) (WriteBack k m ws g) = (k == l) && (g == t)
+passes (CopyOf l t) (Flush k m ws g) = (k == l) && (g == t)
+passes (CopyOf l t) _ = false
+passes (CopyMask l t n) (WriteBack k m ws g) = ((k == l) && (g == t)) && not (m == n)
+passes (CopyMask l t n) (Flush k m ws g) = ((k == l) && (g == t)) && not (m == n)
+passes (CopyMask l t n) _ = false
+passes (CopyWord w t) (WriteBack k m ws g) = hit k m w && (g == t)
+passes (CopyWord w t) (Flush k m ws g) = hit k m w && (g == t)
+passes (CopyWord w t) _ = false
+passes (CopyNot w t x) (WriteBack k m ws g) = (hit k m w && (g == t)) && not (get_or ws (place_of w) 0 == x)
+passes (CopyNot w t x) (Flush k m ws g) = (hit k m w && (g == t)) && not (get_or ws (place_of w) 0 == x)
+passes (CopyNot w t x) _ = false
+passes (DataOf l) (DataReq k) = k == l
+passes (DataOf l) _ = false
+passes (InvWord w) (Inv k m u) = hit k m w
+passes (InvWord w) _ = false
+passes (InvBelow w t) (Inv k m u) = hit k m w && nat_lt u t
+passes (InvBelow w t) _ = false
+passes (GoneOf l) (InvAck k b) = (k == l) && not b
+passes (GoneOf l) _ = false
+passes (LinesAway dirs d) (LoadReq k a) = not ((k % dirs) == d)
+passes (LinesAway dirs d) (Fill k ws) = not ((k % dirs) == d)
+passes (LinesAway dirs d) (Mark k m u) = not ((k % dirs) == d)
+passes (LinesAway dirs d) (WriteBack k m ws g) = not ((k % dirs) == d)
+passes (LinesAway dirs d) (Flush k m ws g) = not ((k % dirs) == d)
+passes (LinesAway dirs d) (DataReq k) = not ((k % dirs) == d)
+passes (LinesAway dirs d) (Inv k m u) = not ((k % dirs) == d)
+passes (LinesAway dirs d) (InvAck k b) = not ((k % dirs) == d)
+passes (LinesAway dirs d) _ = false
+passes NoWord (Mark k m u) = m == 0
+passes NoWord (WriteBack k m ws g) = m == 0
+passes NoWord (Flush k m ws g) = m == 0
+passes NoWord (Inv k m u) = m == 0
+passes NoWord _ = false
 passes (Resolves t) (Skip u) = u == t
 passes (Resolves t) (Abort u) = u == t
 passes (Resolves t) (Commit u n) = u == t

@@ -1,8 +1,13 @@
+pub mod Aim
+pub mod Alone
 pub mod Asked
 pub mod Count
 pub mod Counted
+pub mod Commits
 pub mod Committing
+pub mod Copies
 pub mod Insertion
+pub mod Invariants
 pub mod Kept
 pub mod Laws
 pub mod Marks
@@ -14,5 +19,10 @@ pub mod Pairs
 pub mod Partly
 pub mod Probes
 pub mod Probing
+pub mod Sound
+pub mod Standing
 pub mod Tids
+pub mod Tried
 pub mod Uses
+pub mod Values
+pub mod Wrote

@@ -15,6 +15,9 @@ ghost use Rattle.tcc_serial.specs.Committing.{CommitsAreServed};
 ghost use Rattle.tcc_serial.specs.Partly.{KeptWhole};
 ghost use Rattle.tcc_serial.specs.Probing.{OneProbe};
 ghost use Rattle.tcc_serial.specs.Laws.{Always, OneWay, OneRequest, NeverPasses, OwedInFlight, Served, CommitsOnce, HoldsLast, SparesItsCommitter, MarksAreStored};
+ghost use Rattle.tcc_serial.specs.Invariants.{StartHasAll, RunsCarry};
+ghost use Rattle.tcc_serial.specs.Sound.{AttemptsSound};
+ghost use Rattle.tcc_serial.specs.Tried.{TriedHolds, TriedFails};
 ghost use Rattle.tcc_base.specs.declared.access.Commit.{Commit};
 
 /// Instructions over two memories that agree on the words used give the same.
@@ -101,4 +104,27 @@ pub fn invalidations_name_marked_lines()
 /// A line whose data a directory asked for has an owner, from which they come.
 pub fn an_asked_line_has_an_owner()
     ensures asked { Always KeptAsked }
+{}
+
+/// The start has every invariant of the list, whatever the machine, the program, the cores' entries and the memory are.
+pub fn the_start_has_all_invariants()
+    ensures start { StartHasAll }
+{}
+
+/// Every state that a run reaches has those of the list that are proved so far.
+pub fn runs_carry_what_is_proved()
+    ensures carried { RunsCarry }
+{}
+
+/// The facts on lines, copies and values hold in each state of a run that was worked by hand, and where one thing is changed at its
+/// end the fact that speaks of it fails.
+pub fn the_list_was_tried_on_a_run()
+    ensures holds { TriedHolds }
+    ensures fails { TriedFails }
+{}
+
+/// Where the list holds each attempt is what the plain machine does over the values that its core sees, or an invalidation that will
+/// roll it back is in flight.
+pub fn attempts_are_sound_or_doomed()
+    ensures sound { AttemptsSound }
 {}

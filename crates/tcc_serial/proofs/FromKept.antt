@@ -1,0 +1,144 @@
+-- The facts of the list that are proved of every run, from what is carried together along it.
+use Rattle.std.specs.Prelude.{ℕ, ◌+◌, ◌≡◌, ◌<◌, ◌≤◌, ◌==◌, ◌&&◌, Bool, true, false, not, List, Contains, Option, Some, None, IfSome, nat_le}
+use Rattle.std.proofs.Common.{arith, refl}
+use Rattle.std.proofs.lemmas.Bool.Decides.{nat_tests}
+use Rattle.tcc_maps.specs.Words.{num}
+use Rattle.tcc_maps.specs.Shape.{Shape, home}
+use Rattle.tcc_maps.specs.Cache.{Cache, IsCache, writes_at}
+use Rattle.tcc_maps.specs.Lines.{has_mark}
+use Rattle.tcc_rules.specs.State.{CoreState, Halted, World, start}
+use Rattle.tcc_rules.specs.DirDeliver.{total}
+use Rattle.tcc_rules.specs.Step.{History, run}
+use Rattle.tcc_serial.specs.Alone.{IsApart, PhaseFits}
+use Rattle.tcc_serial.specs.Count.{Grants, Marks, MarkOf, live}
+use Rattle.tcc_serial.specs.Invariants.{Carried, RunsCarry, first_state}
+use Rattle.tcc_serial.specs.Kept.{KeptAll}
+use Rattle.tcc_serial.specs.Marks.{marks_of, marked_by, has_marked, stores_line}
+use Rattle.tcc_serial.specs.OneCore.{OneCore, Empty}
+use Rattle.tcc_serial.specs.Owners.{Grant, grants_from, times, holder}
+use Rattle.tcc_serial.specs.Pairs.{pair, share, sum_of}
+use Rattle.tcc_serial.specs.Standing.{Open, MarksWait}
+use Rattle.tcc_serial.specs.Tids.{part}
+use Rattle.tcc_serial.proofs.AllKept.{run-all, one_probe_from}
+use Rattle.tcc_serial.proofs.Always.{passed, owed_from, served_from}
+use Rattle.tcc_serial.proofs.CommitSteps.{commits_served}
+use Rattle.tcc_serial.proofs.GivenUpKept.{opens-holds, live-stands, committed-given-up}
+use Rattle.tcc_serial.proofs.Links.{total-le}
+
+-- one core
+
+apart : (sh : Shape) (c : Cache) → IsCache sh c → IsApart c
+apart sh c k = record { modified = k.modified; dirty = k.dirty; either = k.either }
+
+phase-fits : (sh : Shape) (s : CoreState) → OneCore sh s → PhaseFits s
+phase-fits sh s k = record { spilled = k.words.spilled_alone; unread = k.words.unread_alone; rested = k.rested }
+
+halted : (sh : Shape) (s : CoreState) → OneCore sh s → s.phase ≡ Halted → Empty s × ((x : ℕ) → s.spilled x ≡ None)
+halted sh s k e = (k.rested (rw e refl), k.words.spilled_alone (rw e refl))
+
+-- TIDs
+
+holder-same : (w : World) (c d e t : ℕ) → holder t (pair w c d) ≡ holder t (pair w c e)
+unfolding pair holder
+holder-same w c d e t = refl
+
+live-granted : (sh : Shape) (gs : List Grant) (h : History) → KeptAll sh gs h → (c d t : ℕ) → c < sh.cores → 1 ≤ holder t (pair h.world c d) → Contains gs (record { tid = t; core = c }) × (times t h.commits ≡ 0)
+unfolding share
+live-granted sh gs h k c d t l x =
+    let y : 1 ≤ holder t (pair h.world c 0) = rw (holder-same h.world c 0 d t) x in
+    (k.owners.held c d t x, omega (arith, y, k.owners.once t, total-le (share (holder t) h.world 0) sh.cores c l))
+
+total-below : (f g : ℕ → ℕ) (n : ℕ) → ((j : ℕ) → j < n → f j ≤ g j) → total f n ≤ total g n
+unfolding total
+total-below f g ℕ.zero h = omega arith
+total-below f g (ℕ.suc n) h = omega (arith, total-below f g n (λ j l. h j (omega arith)), h n (omega arith))
+
+open-live : (sh : Shape) (gs : List Grant) (h : History) → KeptAll sh gs h → (d t : ℕ) → d < sh.dirs → t < h.world.next → Open sh h.world d t → sum_of (holder t) sh.cores h.world d ≡ 1
+unfolding share part holder pair
+open-live sh gs h k d t l x o =
+    let r = k.kept.told.tids.resolved d t l in
+    let z : num (nat_le h.world.next t) ≡ 0 = grind (arith, nat_tests) in
+    let a = total-below (share (part sh d t) h.world d) (share (holder t) h.world d) sh.cores (λ j q. omega (arith, o.untold j q, opens-holds (h.world.cores j).phase (writes_at sh (h.world.cores j).cache d) t)) in
+    omega (arith, r, z, o.ahead, a, k.owners.once t)
+
+-- Marks
+
+marked-came : (n s g : ℕ) (m : ℕ) (b : Bool) → b ≡ true → (1 ≤ num (nat_le n s) + g → m + num (s == s && b) ≡ 0) → (s < n) × (g ≡ 0)
+marked-came n s g m b e f = go (nat_le n s) refl
+  where
+    one : num (s == s && b) ≡ 1
+    one = rw e (grind (arith, nat_tests))
+
+    go : (x : Bool) → nat_le n s ≡ x → (s < n) × (g ≡ 0)
+    go true q = absurd (let p : num (nat_le n s) ≡ 1 = rw q refl in omega (arith, one, f (omega (arith, p))))
+    go false q = let p : num (nat_le n s) ≡ 0 = rw q refl in (grind (arith, nat_tests), zero g p f)
+      where
+        zero : (g : ℕ) → num (nat_le n s) ≡ 0 → (1 ≤ num (nat_le n s) + g → m + num (s == s && b) ≡ 0) → g ≡ 0
+        zero ℕ.zero p f = refl
+        zero (ℕ.suc g) p f = absurd (omega (arith, one, f (omega (arith, p))))
+
+marked-line : (sh : Shape) (gs : List Grant) (h : History) → KeptAll sh gs h → (c d l : ℕ) → c < sh.cores → d < sh.dirs → has_mark (h.world.dirs d).lines l ≡ true → (home sh l ≡ d) × ((h.world.dirs d).serving.serving < h.world.next) × (live (Grants (h.world.dirs d).serving.serving) (pair h.world c d).grants ≡ 0)
+unfolding pair marks_of
+marked-line sh gs h k c d l cl dl e =
+    let f = (k.marks c d (h.world.dirs d).serving.serving l).fresh in
+    let r = marked-came h.world.next (h.world.dirs d).serving.serving (live (Grants (h.world.dirs d).serving.serving) (pair h.world c d).grants) (live (MarkOf (h.world.dirs d).serving.serving l) (pair h.world c d).out) (has_mark (h.world.dirs d).lines l) e f in
+    ((k.kept.told.owed.at_home c d).marked l e, r.0, r.1)
+
+none-marked : (a b c : Bool) → (a && b) ≡ false → num (a && (b && c)) ≡ 0
+none-marked true true c h = absurd (cc)
+none-marked true false c h = refl
+none-marked false b c h = refl
+
+marks-wait : (sh : Shape) (gs : List Grant) (h : History) → KeptAll sh gs h → (c d t l : ℕ) → c < sh.cores → d < sh.dirs → MarksWait sh t l d (pair h.world c d)
+unfolding marked_by
+marks-wait sh gs h k c d t l cl dl = record {
+  fresh = (k.marks c d t l).fresh;
+  unsent = λ y z. omega (arith, (k.marks c d t l).held cl dl y, none-marked (has_marked (pair h.world c d).core.phase) (not ((pair h.world c d).core.owing d)) (stores_line sh (pair h.world c d).core.cache d l) z);
+}
+
+-- the owner of a Mark is known by any of its lines
+mark-owner : (sh : Shape) (gs : List Grant) (h : History) → KeptAll sh gs h → (c d t : ℕ) → 1 ≤ live (Marks t) (pair h.world c d).out → Contains gs (record { tid = t; core = c })
+mark-owner sh gs h k c d t x = (k.marks c d t 0).owner (omega (arith, x))
+
+pub carried : (sh : Shape) (gs : List Grant) (h : History) → KeptAll sh gs h → Carried sh gs h
+unfolding pair
+carried sh gs h k = record {
+  frames_stand_in_their_sets = λ c. (k.cores c).words.cache;
+  modified_and_dirty_words_are_valid_and_apart = λ c. apart sh (h.world.cores c).cache ((k.cores c).words.cache);
+  awaited_line_has_a_frame = λ c a q. (k.cores c).awaited a q;
+  marks_fit_the_phase = λ c. phase-fits sh (h.world.cores c) (k.cores c);
+  no_attempt_after_the_halt = λ c e. halted sh (h.world.cores c) (k.cores c) e;
+  stored_words_are_those_named = λ c x. (k.cores c).words.named x;
+  spilled_line_is_clean_in_its_frame = λ c x y e s. (k.cores c).words.clean x y e s;
+  granted_tids_are_those_below_next = (k.owners.numbered, k.owners.next);
+  each_tid_is_resolved_in_one_way = k.kept.told.tids.resolved;
+  commits_are_of_granted_tids = (k.owners.rising, k.owners.granted);
+  one_tid_request_or_grant = k.kept.told.tids.requests;
+  live_tid_is_granted_to_its_core = live-granted sh gs h k;
+  live_tid_is_the_last_granted_to_its_core = k.last;
+  open_tid_is_live = open-live sh gs h k;
+  live_tid_is_open_where_it_must_be = live-stands sh gs h k;
+  committed_tid_is_given_up_where_it_stored_nothing = committed-given-up sh gs h k;
+  serving_never_passes_an_unresolved_tid = λ d t x l. passed sh h.world d t (k.kept.told.tids.resolved d t x) l;
+  committing_tid_is_served = commits_served sh h.world k.kept k.committing;
+  owed_counts_invs_and_acks = owed_from sh h.world k.kept.told.owed;
+  one_probe_or_reply_per_owing_directory = one_probe_from sh h.world k.probing;
+  replying_directory_has_reached_the_tid = λ c d. (k.kept.probes c d).replies;
+  directory_that_replied_serves_the_tid = served_from sh h.world k.kept;
+  skipped_tid_sent_no_mark = λ c d t l x y. (k.marks c d t l).skipped x y;
+  marked_line_was_marked_by_the_served_tid = marked-line sh gs h k;
+  marks_go_out_with_the_reply = marks-wait sh gs h k;
+  marks_sent_are_in_flight_or_handled = (mark-owner sh gs h k, k.counted);
+  inv_and_ack_name_a_marked_line = k.named;
+  line_marked_in_part_has_no_owner = k.whole;
+}
+
+pub runs_carry : RunsCarry
+runs_carry sh p entries ram es = go (run sh p (start entries ram) es) (run-all sh p entries ram es)
+  where
+    gs : List Grant
+    gs = grants_from sh p es (first_state entries ram)
+
+    go : (x : Option History) → IfSome x (λ h. KeptAll sh gs h) → IfSome x (λ h. Carried sh gs h)
+    go None k = tt
+    go (Some h) k = carried sh gs h k

@@ -1,0 +1,243 @@
+-- The start has every invariant of the list.
+use Rattle.std.specs.Prelude.{ℕ, ◌≡◌, ◌≤◌, ◌==◌, ◌&&◌, Bool, true, false, List, [], ◌∷◌, Contains, Option, Some, None, nat_lt}
+use Rattle.std.specs.List.{flat_map}
+use Rattle.std.proofs.Common.{arith, refl, ap, ◌∙◌, inl}
+use Rattle.tcc_base.specs.declared.access.Commit.{Commit as Noted}
+use Rattle.tcc_program.specs.Plain.{begun, steps, serial}
+use Rattle.tcc_program.specs.Program.{Local, Program}
+use Rattle.tcc_maps.specs.Words.{num, any_below, any_word}
+use Rattle.tcc_maps.specs.Serving.{is_skipped, first_serving}
+use Rattle.tcc_maps.specs.Shape.{Shape}
+use Rattle.tcc_maps.specs.Cache.{empty_cache, is_dirty}
+use Rattle.tcc_maps.specs.Spilled.{none_spilled}
+use Rattle.tcc_maps.specs.Lines.{no_lines}
+use Rattle.tcc_rules.specs.Seen.{Copy, seen, home_copy, copies, copies_of, copies_on, newest, numbers}
+use Rattle.tcc_rules.specs.State.{core_start, dir_start, vendor_start, start}
+use Rattle.tcc_rules.specs.Step.{run, run_from}
+use Rattle.tcc_attempt.specs.Follows.{Follows, sees}
+use Rattle.tcc_serial.specs.Alone.{OwingFits, ReadFits}
+use Rattle.tcc_serial.specs.Commits.{CoresSerial, SeenSerial, plain_start}
+use Rattle.tcc_serial.specs.Copies.{KeptHomes, KeptTags, KeptLineOwners, KeptAfter, KeptLoading, KeptAbove, KeptOwned, KeptGets, KeptSharers, copies_with, keeps_unmodified, holds_line}
+use Rattle.tcc_serial.specs.Count.{live}
+use Rattle.tcc_serial.specs.Invariants.{StartHasAll, first_state}
+use Rattle.tcc_serial.specs.Kept.{KeptAll}
+use Rattle.tcc_serial.specs.Marks.{marks_of}
+use Rattle.tcc_serial.specs.Owners.{grants_from}
+use Rattle.tcc_serial.specs.Pairs.{pair}
+use Rattle.tcc_serial.specs.Standing.{GivenUpIsTold, told}
+use Rattle.tcc_serial.specs.Values.{HomeWords, CopiesAbove, UnmodifiedWords, FilledWords, ReadWords, CopiesHave, value_at, after_commits}
+use Rattle.tcc_serial.specs.Wrote.{last_of, wrote, wrote_line}
+use Rattle.tcc_serial.proofs.AllKept.{run-all}
+use Rattle.tcc_serial.proofs.FromKept.{carried}
+
+-- what is carried along every run holds where the run has no event
+known : (sh : Shape) (p : Program) (entries : ℕ → Local) (ram : ℕ → ℕ) → KeptAll sh [] (first_state entries ram)
+unfolding run run_from grants_from
+known sh p entries ram = run-all sh p entries ram []
+
+-- no core has a TID and nothing is in flight
+
+no-commit : {A : Type 0} → (n : Noted) → Contains [] n → A
+no-commit n c = absurd (omega (arith, c.1))
+
+owing-fits : (sh : Shape) (local : Local) → OwingFits sh (core_start local)
+unfolding core_start
+owing-fits sh local = record { asked = λ d e. absurd (cc); waits = λ d e. absurd (cc); some = λ e. absurd (cc) }
+
+-- nothing was granted, so nothing was given up
+told-nothing : (sh : Shape) (entries : ℕ → Local) (ram : ℕ → ℕ) (d t : ℕ) → GivenUpIsTold sh (start entries ram) [] d t
+unfolding start vendor_start told pair live
+told-nothing sh entries ram d t = record { once = λ g. absurd (omega (arith, g.granted.0, g.granted.1)); only = λ c l x. absurd (omega (arith, x)) }
+
+none-skipped : (t : ℕ) → is_skipped first_serving t ≡ false
+unfolding is_skipped first_serving
+none-skipped t = go (nat_lt 1 t)
+  where
+    go : (b : Bool) → (b && false) ≡ false
+    go true = refl
+    go false = refl
+
+none-marked : (sh : Shape) (entries : ℕ → Local) (ram : ℕ → ℕ) (c d t l : ℕ) → marks_of t l (pair (start entries ram) c d) ≤ 1
+unfolding start dir_start no_lines pair live marks_of
+none-marked sh entries ram c d t l = omega (arith, go (first_serving.serving == t))
+  where
+    go : (b : Bool) → num (b && false) ≤ 1
+    go true = omega arith
+    go false = omega arith
+
+start-follows : (sh : Shape) (p : Program) (local : Local) → Follows sh p (core_start local) []
+unfolding core_start none_spilled empty_cache sees begun steps
+start-follows sh p local = record { ends = refl; steps = λ ram small agrees. record { local = refl; loads = refl; stores = refl; console = refl; outcome = refl; words = λ w. refl; small = small } }
+
+start-read : (local : Local) → ReadFits (core_start local) []
+unfolding core_start empty_cache
+start-read local = record { stand = tt; used = λ a x e. absurd (cc) }
+
+-- lines and copies
+
+no-line : (base c t l : ℕ) → wrote_line base [] c t l ≡ false
+unfolding wrote_line wrote any_word any_below
+no-line base c t l = refl
+
+clean : (l : ℕ) → is_dirty empty_cache l ≡ false
+unfolding is_dirty empty_cache any_word any_below
+clean l = refl
+
+empty-keeps : (l : ℕ) → keeps_unmodified empty_cache l ≡ false
+unfolding keeps_unmodified empty_cache any_word any_below
+empty-keeps l = refl
+
+no-copy : (entries : ℕ → Local) (ram : ℕ → ℕ) (c d l t : ℕ) → copies_with l t (pair (start entries ram) c d) ≡ 0
+unfolding start core_start pair copies_with live
+no-copy entries ram c d l t = rw (clean l) refl
+
+start-homes : (sh : Shape) (entries : ℕ → Local) (ram : ℕ → ℕ) → KeptHomes sh (start entries ram)
+unfolding start dir_start no_lines pair live
+start-homes sh entries ram c d l = record {
+  known = λ a. record { sharers = λ j. refl; owner = refl; tag = refl; asked = refl; mark = refl };
+  sharers = λ j e. absurd (cc);
+  owners = λ j e. absurd (cc);
+  out = refl;
+  back = refl;
+  some_out = refl;
+  some_back = refl;
+}
+
+start-tags : (sh : Shape) (entries : ℕ → Local) (ram : ℕ → ℕ) → KeptTags sh (start entries ram) []
+unfolding start dir_start no_lines last_of
+start-tags sh entries ram d l a b = refl
+
+start-line-owners : (entries : ℕ → Local) (ram : ℕ → ℕ) → KeptLineOwners [] (start entries ram)
+unfolding start dir_start no_lines
+start-line-owners entries ram d l c e = absurd (cc)
+
+start-after : (sh : Shape) (entries : ℕ → Local) (ram : ℕ → ℕ) → KeptAfter sh (start entries ram) []
+unfolding start core_start pair live last_of
+start-after sh entries ram c d a b = record { last = refl; carried = refl }
+
+start-loading : (sh : Shape) (entries : ℕ → Local) (ram : ℕ → ℕ) → KeptLoading sh (start entries ram)
+unfolding start core_start pair live
+start-loading sh entries ram c d l = refl
+
+start-above : (sh : Shape) (entries : ℕ → Local) (ram : ℕ → ℕ) → KeptAbove sh (start entries ram) []
+unfolding start core_start pair live
+start-above sh entries ram c d l t a b e f = record {
+  one = rw (no-copy entries ram c d l t, no-line sh.base c t l) refl;
+  framed = λ x. absurd (let y = clean l in cc);
+  sent = refl;
+}
+
+start-owned : (sh : Shape) (entries : ℕ → Local) (ram : ℕ → ℕ) → KeptOwned sh (start entries ram)
+unfolding start dir_start no_lines pair
+start-owned sh entries ram c d l a b e = no-copy entries ram c d l 0
+
+start-gets : (sh : Shape) (entries : ℕ → Local) (ram : ℕ → ℕ) → KeptGets sh (start entries ram)
+unfolding start dir_start no_lines pair
+start-gets sh entries ram c d l a b e = absurd (cc)
+
+holds-none : (entries : ℕ → Local) (ram : ℕ → ℕ) (c d l : ℕ) → holds_line l (pair (start entries ram) c d) ≡ false
+unfolding start core_start pair holds_line live
+holds-none entries ram c d l = rw (empty-keeps l) refl
+
+start-sharers : (sh : Shape) (entries : ℕ → Local) (ram : ℕ → ℕ) → KeptSharers sh (start entries ram) []
+start-sharers sh entries ram c d l a b e = record {
+  shares = λ x. absurd (let y = holds-none entries ram c d l in cc);
+  stays = λ x. absurd (let y = holds-none entries ram c d l in cc);
+}
+
+-- values
+
+start-value : (base : ℕ) (ram : ℕ → ℕ) (s : _) (c b : Option ℕ) (x : ℕ) → value_at base ram [] s c b x ≡ ram x
+unfolding value_at after_commits
+start-value base ram s c b x = refl
+
+have-none : (entries : ℕ → Local) (ram : ℕ → ℕ) (c d x t y : ℕ) → CopiesHave x t y (pair (start entries ram) c d)
+unfolding start core_start empty_cache pair live
+have-none entries ram c d x t y = record { framed = λ e. absurd (cc); sent = refl }
+
+start-home-words : (sh : Shape) (entries : ℕ → Local) (ram : ℕ → ℕ) → HomeWords sh ram (start entries ram) []
+unfolding start dir_start value_at after_commits no_lines
+start-home-words sh entries ram = record {
+  at_home = λ d x a b e. refl;
+  in_copies = λ c d x a b e. have-none entries ram c d x 0 (ram x);
+}
+
+start-copies-above : (sh : Shape) (entries : ℕ → Local) (ram : ℕ → ℕ) → CopiesAbove sh ram (start entries ram) []
+start-copies-above sh entries ram c d x t a b e f = have-none entries ram c d x t (value_at sh.base ram [] ((start entries ram).dirs d) (Some c) None x)
+
+start-unmodified : (sh : Shape) (entries : ℕ → Local) (ram : ℕ → ℕ) → UnmodifiedWords sh ram (start entries ram) []
+unfolding start core_start empty_cache
+start-unmodified sh entries ram c d x y a b e f = absurd (cc)
+
+start-filled : (sh : Shape) (entries : ℕ → Local) (ram : ℕ → ℕ) → FilledWords sh ram (start entries ram) []
+unfolding start pair live
+start-filled sh entries ram c d x a b e f = inl refl
+
+start-read-words : (sh : Shape) (entries : ℕ → Local) (ram : ℕ → ℕ) → ReadWords sh (start entries ram)
+unfolding start core_start empty_cache
+start-read-words sh entries ram c d x b a f g h e = absurd (cc)
+
+-- what is seen
+
+no-copies : (sh : Shape) (entries : ℕ → Local) (ram : ℕ → ℕ) (x c : ℕ) → copies_of sh (start entries ram) x c ≡ []
+unfolding start core_start empty_cache copies_of copies_on
+no-copies sh entries ram x c = refl
+
+flat_map-none : (f : ℕ → List Copy) → ((c : ℕ) → f c ≡ []) → (cs : List ℕ) → flat_map f cs ≡ []
+flat_map-none f h [] = refl
+flat_map-none f h (c ∷ cs) = rw (h c, flat_map-none f h cs) refl
+
+seen-alone : (sh : Shape) (entries : ℕ → Local) (ram : ℕ → ℕ) (x : ℕ) → (newest (home_copy sh (start entries ram) x) []).value ≡ ram x
+unfolding newest home_copy start dir_start
+seen-alone sh entries ram x = refl
+
+copies-none : (sh : Shape) (entries : ℕ → Local) (ram : ℕ → ℕ) (x : ℕ) → copies sh (start entries ram) x ≡ []
+unfolding copies
+copies-none sh entries ram x = flat_map-none (copies_of sh (start entries ram) x) (no-copies sh entries ram x) (numbers sh.cores)
+
+start-seen : (sh : Shape) (entries : ℕ → Local) (ram : ℕ → ℕ) → SeenSerial sh (start entries ram) (plain_start entries ram)
+unfolding plain_start seen
+start-seen sh entries ram x = ap (λ cs. (newest (home_copy sh (start entries ram) x) cs).value) (copies-none sh entries ram x) ∙ seen-alone sh entries ram x
+
+start-cores-serial : (sh : Shape) (entries : ℕ → Local) (ram : ℕ → ℕ) → CoresSerial sh (start entries ram) (plain_start entries ram)
+unfolding plain_start start core_start
+start-cores-serial sh entries ram c l = record { local = refl; ended = refl }
+
+pub start_has_all : StartHasAll
+unfolding start core_start dir_start vendor_start empty_cache pair live is_skipped first_serving marks_of no_lines serial plain_start
+start_has_all sh p entries ram = record {
+  carried = carried sh [] (first_state entries ram) (known sh p entries ram);
+  frames_are_of_lines_in_memory = λ c l e. absurd (cc);
+  tid_and_owing_fit_the_phase = λ c. owing-fits sh (entries c);
+  attempt_follows_from_its_view = λ c. start-follows sh p (entries c);
+  read_marks_are_the_view = λ c. start-read (entries c);
+  kept_skips_are_given_up_and_ahead = λ d t a e. absurd (let y = none-skipped t in cc);
+  given_up_tid_is_still_to_be_told_or_kept_or_passed = λ d t a. told-nothing sh entries ram d t;
+  commit_message_is_in_flight_while_committing = λ c d t a b. omega arith;
+  settled_tid_is_passed_or_owed = λ n d a. no-commit n a;
+  owed_only_where_settled = λ d a b. absurd (omega (arith, b));
+  no_inv_to_the_core_that_committed = ((known sh p entries ram).spared, λ c d a b. refl);
+  probes_are_of_tids_already_taken = λ c d t x. absurd (omega (arith, x));
+  marks_sent_are_the_lines_stored = λ c d t l a b. (((known sh p entries ram).marks c d t l).held a b, λ x. absurd (omega (arith, x)));
+  commit_counts_the_lines = λ c d t k a b x. absurd (omega (arith, x));
+  marks_name_different_lines = λ c d t l a b. (none-marked sh entries ram c d t l, refl, refl);
+  records_and_messages_are_at_home = start-homes sh entries ram;
+  line_tag_is_the_last_settled_writer = start-tags sh entries ram;
+  owner_is_the_core_of_the_tag = start-line-owners entries ram;
+  after_is_the_last_commit_there = start-after sh entries ram;
+  one_load_request_or_fill = start-loading sh entries ram;
+  copy_above_the_tag_is_of_a_commit_in_flight = start-above sh entries ram;
+  owned_line_has_one_copy_with_its_tag = start-owned sh entries ram;
+  asked_line_gets_its_words = ((known sh p entries ram).asked, start-gets sh entries ram);
+  holder_is_a_sharer = start-sharers sh entries ram;
+  home_words_are_current = start-home-words sh entries ram;
+  copy_above_the_tag_has_the_committed_words = start-copies-above sh entries ram;
+  unmodified_word_is_current_or_inv_in_flight = start-unmodified sh entries ram;
+  filled_word_is_current_or_inv_in_flight = start-filled sh entries ram;
+  read_mark_is_valid_or_passed = start-read-words sh entries ram;
+  viewed_word_is_current_or_doomed = λ c d b a e f. tt;
+  smaller_tid_is_given_up_where_a_larger_one_worked = λ n t x a. no-commit n a;
+  commits_are_serial = refl;
+  committed_cores_are_serial = start-cores-serial sh entries ram;
+  seen_words_are_serial = start-seen sh entries ram;
+}

@@ -1,0 +1,5 @@
+use Rattle.tcc_serial.proofs.SoundAttempts.{attempts_sound}
+use Rattle.tcc_serial.proofs.attempts_are_sound_or_doomed.Goals as goal
+
+pub returns : goal.returns
+returns c = record { sound = attempts_sound }

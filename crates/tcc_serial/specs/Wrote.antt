@@ -1,0 +1,36 @@
+-- Which words the commits so far stored, read from the list of commits.
+use Rattle.std.specs.Prelude.{ℕ, max, Bool, false, cond, ◌==◌, ◌&&◌, ◌||◌, List, [], ◌∷◌}
+use Rattle.tcc_base.specs.declared.access.Commit.{Commit as Noted}
+use Rattle.tcc_base.specs.declared.access.Stored.{Stored}
+use Rattle.tcc_maps.specs.Words.{any_below, any_word, word_at}
+use Rattle.tcc_maps.specs.Masks.{mask_of}
+use Rattle.tcc_maps.specs.Shape.{Shape, home, lines}
+use Rattle.tcc_serial.specs.Uses.{stores_word}
+
+-- some store lies in the line, in a line that is at home at the directory
+unfoldable pub stores_line : (base : ℕ) → List Stored → (line : ℕ) → Bool
+stores_line base ss l = any_word (stores_word base ss) l
+
+unfoldable pub stores_at : Shape → List Stored → (dir : ℕ) → Bool
+stores_at sh ss d = any_below (λ l. d == home sh l && any_word (stores_word sh.base ss) l) (lines sh)
+
+-- the core's commit with this TID stored the word
+unfoldable pub wrote : (base : ℕ) → List Noted → (core tid word : ℕ) → Bool
+wrote base [] c t w = false
+wrote base (x ∷ xs) c t w = ((x.core.0 == c) && ((x.tid.0 == t) && stores_word base x.stores w)) || wrote base xs c t w
+
+-- and so the line, a line that is at home at the directory
+unfoldable pub wrote_line : (base : ℕ) → List Noted → (core tid line : ℕ) → Bool
+wrote_line base cs c t l = any_word (wrote base cs c t) l
+
+unfoldable pub wrote_at : Shape → List Noted → (core tid dir : ℕ) → Bool
+wrote_at sh cs c t d = any_below (λ l. d == home sh l && any_word (wrote sh.base cs c t) l) (lines sh)
+
+-- the mask of the words that it stored in the line
+unfoldable pub wrote_mask : (base : ℕ) → List Noted → (core tid line : ℕ) → ℕ
+wrote_mask base cs c t l = mask_of (λ k. wrote base cs c t (word_at l k))
+
+-- the greatest TID of the commits that pass, or 0 where none does
+unfoldable pub last_of : (Noted → Bool) → List Noted → ℕ
+last_of p [] = 0
+last_of p (x ∷ xs) = max (cond (p x) x.tid.0 0) (last_of p xs)
