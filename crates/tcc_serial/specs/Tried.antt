@@ -1,5 +1,5 @@
--- The facts on lines, copies and values tried on a run that was worked by hand: as tests they hold in each of its states, and where
--- one thing is changed at its end the fact that speaks of it fails.
+-- The facts on lines, copies and values tried on runs that were worked by hand: as tests they hold in each state, and where one thing
+-- is changed at the end of a run the fact that speaks of it fails.
 use Rattle.std.specs.Prelude.{ℕ, ◌+◌, ◌*◌, ◌≡◌, Bool, true, false, not, cond, ◌==◌, ◌&&◌, ◌||◌, List, [], ◌∷◌, Option, Some, None, unwrap_or, is_some, nat_lt}
 use Rattle.tcc_program.specs.Program.{Program}
 use Rattle.tcc_program.specs.Ram.{flat}
@@ -8,8 +8,8 @@ use Rattle.tcc_maps.specs.Lines.{Lines, with_sharer, with_owner, with_tag}
 use Rattle.tcc_maps.specs.Nodes.{Event}
 use Rattle.tcc_maps.specs.Shape.{Shape, home, lines}
 use Rattle.tcc_rules.specs.CoreEvict.{is_awaited}
-use Rattle.tcc_rules.specs.Rows.{machine, stores_second, copies_word, both_words, both_code, entries}
-use Rattle.tcc_rules.specs.Schedules.{before_the_fill}
+use Rattle.tcc_rules.specs.Rows.{Image, machine, small_machine, stores_second, stores_both, stores_base, stores_line, loads_then_stores, copies_word, both_words, both_code, entries}
+use Rattle.tcc_rules.specs.Schedules.{before_the_fill, over_a_read, over_a_dirty_owner, alone_after_overflow}
 use Rattle.tcc_rules.specs.Small.{small}
 use Rattle.tcc_rules.specs.State.{World, start}
 use Rattle.tcc_rules.specs.Step.{History, next, run}
@@ -72,22 +72,36 @@ unfoldable pub along : Shape → Program → (ℕ → ℕ) → List Event → Hi
 along sh p ram [] h = tests sh ram h
 along sh p ram (e ∷ es) h = tests sh ram h && then_along (along sh p ram es) (next sh p h e)
 
--- the run: core 0 stores a word; core 1 asked for it before, loses it, reads it anew from core 0 and stores another; four lines
+-- a run of two images from the start
+abbrev pub HoldsOn : Shape → Image → Image → List Event → Type 0
+HoldsOn sh a b es = along sh (small (both_code a b)) (flat (both_words a b)) es (first_state entries (flat (both_words a b))) ≡ true
+
+-- two cores and two directories, four lines
 abbrev pub tried : Shape
 tried = record (machine 2) { ram = 128 }
 
-abbrev pub tried_program : Program
-tried_program = small (both_code stores_second copies_word)
+-- core 0 stores a word; core 1 asked for it before, loses it, reads it anew from core 0 and stores another
+abbrev pub TriedFill : Type 0
+TriedFill = HoldsOn tried stores_second copies_word before_the_fill
 
+-- a larger TID commits over what a smaller one read
+abbrev pub TriedRead : Type 0
+TriedRead = HoldsOn tried loads_then_stores stores_second over_a_read
+
+-- one directory: a whole line is stored over a dirty owner, whose write-back comes too late
+abbrev pub TriedOwner : Type 0
+TriedOwner = HoldsOn (record (machine 1) { ram = 160 }) stores_base stores_line over_a_dirty_owner
+
+-- caches of one frame: a core goes on alone and spills what it stored
+abbrev pub TriedAlone : Type 0
+TriedAlone = HoldsOn (record small_machine { ram = 128 }) stores_both copies_word alone_after_overflow
+
+-- where the first of them ends
 abbrev pub tried_ram : ℕ → ℕ
 tried_ram = flat (both_words stores_second copies_word)
 
-abbrev pub TriedHolds : Type 0
-TriedHolds = along tried tried_program tried_ram before_the_fill (first_state entries tried_ram) ≡ true
-
--- where it ends
 unfoldable pub tried_end : History
-tried_end = unwrap_or (run tried tried_program (start entries tried_ram) before_the_fill) (first_state entries tried_ram)
+tried_end = unwrap_or (run tried (small (both_code stores_second copies_word)) (start entries tried_ram) before_the_fill) (first_state entries tried_ram)
 
 -- one thing changed
 

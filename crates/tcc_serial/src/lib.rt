@@ -17,7 +17,7 @@ ghost use Rattle.tcc_serial.specs.Probing.{OneProbe};
 ghost use Rattle.tcc_serial.specs.Laws.{Always, OneWay, OneRequest, NeverPasses, OwedInFlight, Served, CommitsOnce, HoldsLast, SparesItsCommitter, MarksAreStored};
 ghost use Rattle.tcc_serial.specs.Invariants.{StartHasAll, RunsCarry};
 ghost use Rattle.tcc_serial.specs.Sound.{AttemptsSound};
-ghost use Rattle.tcc_serial.specs.Tried.{TriedHolds, TriedFails};
+ghost use Rattle.tcc_serial.specs.Tried.{TriedFill, TriedRead, TriedOwner, TriedAlone, TriedFails};
 ghost use Rattle.tcc_base.specs.declared.access.Commit.{Commit};
 
 /// Instructions over two memories that agree on the words used give the same.
@@ -116,10 +116,13 @@ pub fn runs_carry_what_is_proved()
     ensures carried { RunsCarry }
 {}
 
-/// The facts on lines, copies and values hold in each state of a run that was worked by hand, and where one thing is changed at its
-/// end the fact that speaks of it fails.
-pub fn the_list_was_tried_on_a_run()
-    ensures holds { TriedHolds }
+/// The facts on lines, copies and values hold in each state of some runs that were worked by hand, and where one thing is changed at
+/// the end of the first the fact that speaks of it fails.
+pub fn the_list_was_tried_on_runs()
+    ensures fill { TriedFill }
+    ensures read { TriedRead }
+    ensures owner { TriedOwner }
+    ensures alone { TriedAlone }
     ensures fails { TriedFails }
 {}
 
