@@ -19,7 +19,8 @@ use Rattle.tcc_serial.specs.Owners.{Grant, grants_from, times, holder}
 use Rattle.tcc_serial.specs.Pairs.{pair, share, sum_of}
 use Rattle.tcc_serial.specs.Standing.{Open, MarksWait}
 use Rattle.tcc_serial.specs.Tids.{part}
-use Rattle.tcc_serial.proofs.AllKept.{run-all, one_probe_from}
+use Rattle.tcc_serial.proofs.AllKept.{one_probe_from}
+use Rattle.tcc_serial.proofs.MoreKept.{KeptMore, run-more}
 use Rattle.tcc_serial.proofs.Always.{passed, owed_from, served_from}
 use Rattle.tcc_serial.proofs.CommitSteps.{commits_served}
 use Rattle.tcc_serial.proofs.GivenUpKept.{opens-holds, live-stands, committed-given-up}
@@ -100,9 +101,9 @@ marks-wait sh gs h k c d t l cl dl = record {
 mark-owner : (sh : Shape) (gs : List Grant) (h : History) → KeptAll sh gs h → (c d t : ℕ) → 1 ≤ live (Marks t) (pair h.world c d).out → Contains gs (record { tid = t; core = c })
 mark-owner sh gs h k c d t x = (k.marks c d t 0).owner (omega (arith, x))
 
-pub carried : (sh : Shape) (gs : List Grant) (h : History) → KeptAll sh gs h → Carried sh gs h
+pub carried : (sh : Shape) (gs : List Grant) (h : History) → KeptMore sh gs h → Carried sh gs h
 unfolding pair
-carried sh gs h k = record {
+carried sh gs h m = let k = m.all in record {
   frames_stand_in_their_sets = λ c. (k.cores c).words.cache;
   modified_and_dirty_words_are_valid_and_apart = λ c. apart sh (h.world.cores c).cache ((k.cores c).words.cache);
   awaited_line_has_a_frame = λ c a q. (k.cores c).awaited a q;
@@ -131,14 +132,15 @@ carried sh gs h k = record {
   marks_sent_are_in_flight_or_handled = (mark-owner sh gs h k, k.counted);
   inv_and_ack_name_a_marked_line = k.named;
   line_marked_in_part_has_no_owner = k.whole;
+  owner_is_the_core_of_the_tag = m.line_owners;
 }
 
 pub runs_carry : RunsCarry
-runs_carry sh p entries ram es = go (run sh p (start entries ram) es) (run-all sh p entries ram es)
+runs_carry sh p entries ram es = go (run sh p (start entries ram) es) (run-more sh p entries ram es)
   where
     gs : List Grant
     gs = grants_from sh p es (first_state entries ram)
 
-    go : (x : Option History) → IfSome x (λ h. KeptAll sh gs h) → IfSome x (λ h. Carried sh gs h)
+    go : (x : Option History) → IfSome x (λ h. KeptMore sh gs h) → IfSome x (λ h. Carried sh gs h)
     go None k = tt
     go (Some h) k = carried sh gs h k

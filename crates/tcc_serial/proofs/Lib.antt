@@ -46,6 +46,8 @@ pub mod AskedKept
 pub mod NamedSends
 pub mod NamedKept
 pub mod AllKept
+pub mod LineOwnersKept
+pub mod MoreKept
 pub mod GivenUpKept
 pub mod FromKept
 pub mod StartAll

@@ -27,13 +27,8 @@ use Rattle.tcc_serial.specs.Pairs.{pair}
 use Rattle.tcc_serial.specs.Standing.{GivenUpIsTold, told}
 use Rattle.tcc_serial.specs.Values.{HomeWords, CopiesAbove, UnmodifiedWords, FilledWords, ReadWords, CopiesHave, value_at, after_commits}
 use Rattle.tcc_serial.specs.Wrote.{last_of, wrote, wrote_line}
-use Rattle.tcc_serial.proofs.AllKept.{run-all}
+use Rattle.tcc_serial.proofs.MoreKept.{start-more}
 use Rattle.tcc_serial.proofs.FromKept.{carried}
-
--- what is carried along every run holds where the run has no event
-known : (sh : Shape) (p : Program) (entries : ℕ → Local) (ram : ℕ → ℕ) → KeptAll sh [] (first_state entries ram)
-unfolding run run_from grants_from
-known sh p entries ram = run-all sh p entries ram []
 
 -- no core has a TID and nothing is in flight
 
@@ -106,10 +101,6 @@ start-homes sh entries ram c d l = record {
 start-tags : (sh : Shape) (entries : ℕ → Local) (ram : ℕ → ℕ) → KeptTags sh (start entries ram) []
 unfolding start dir_start no_lines last_of
 start-tags sh entries ram d l a b = refl
-
-start-line-owners : (entries : ℕ → Local) (ram : ℕ → ℕ) → KeptLineOwners [] (start entries ram)
-unfolding start dir_start no_lines
-start-line-owners entries ram d l c e = absurd (cc)
 
 start-after : (sh : Shape) (entries : ℕ → Local) (ram : ℕ → ℕ) → KeptAfter sh (start entries ram) []
 unfolding start core_start pair live last_of
@@ -206,7 +197,7 @@ start-cores-serial sh entries ram c l = record { local = refl; ended = refl }
 pub start_has_all : StartHasAll
 unfolding start core_start dir_start vendor_start empty_cache pair live is_skipped first_serving marks_of no_lines serial plain_start
 start_has_all sh p entries ram = record {
-  carried = carried sh [] (first_state entries ram) (known sh p entries ram);
+  carried = carried sh [] (first_state entries ram) (start-more sh p entries ram);
   frames_are_of_lines_in_memory = λ c l e. absurd (cc);
   tid_and_owing_fit_the_phase = λ c. owing-fits sh (entries c);
   attempt_follows_from_its_view = λ c. start-follows sh p (entries c);
@@ -216,19 +207,18 @@ start_has_all sh p entries ram = record {
   commit_message_is_in_flight_while_committing = λ c d t a b. omega arith;
   settled_tid_is_passed_or_owed = λ n d a. no-commit n a;
   owed_only_where_settled = λ d a b. absurd (omega (arith, b));
-  no_inv_to_the_core_that_committed = ((known sh p entries ram).spared, λ c d a b. refl);
+  no_inv_to_the_core_that_committed = ((start-more sh p entries ram).all.spared, λ c d a b. refl);
   probes_are_of_tids_already_taken = λ c d t x. absurd (omega (arith, x));
-  marks_sent_are_the_lines_stored = λ c d t l a b. (((known sh p entries ram).marks c d t l).held a b, λ x. absurd (omega (arith, x)));
+  marks_sent_are_the_lines_stored = λ c d t l a b. (((start-more sh p entries ram).all.marks c d t l).held a b, λ x. absurd (omega (arith, x)));
   commit_counts_the_lines = λ c d t k a b x. absurd (omega (arith, x));
   marks_name_different_lines = λ c d t l a b. (none-marked sh entries ram c d t l, refl, refl);
   records_and_messages_are_at_home = start-homes sh entries ram;
   line_tag_is_the_last_settled_writer = start-tags sh entries ram;
-  owner_is_the_core_of_the_tag = start-line-owners entries ram;
   after_is_the_last_commit_there = start-after sh entries ram;
   one_load_request_or_fill = start-loading sh entries ram;
   copy_above_the_tag_is_of_a_commit_in_flight = start-above sh entries ram;
   owned_line_has_one_copy_with_its_tag = start-owned sh entries ram;
-  asked_line_gets_its_words = ((known sh p entries ram).asked, start-gets sh entries ram);
+  asked_line_gets_its_words = ((start-more sh p entries ram).all.asked, start-gets sh entries ram);
   holder_is_a_sharer = start-sharers sh entries ram;
   home_words_are_current = start-home-words sh entries ram;
   copy_above_the_tag_has_the_committed_words = start-copies-above sh entries ram;

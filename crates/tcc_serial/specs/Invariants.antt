@@ -102,6 +102,10 @@ pub record Carried (sh : Shape) (gs : List Grant) (h : History) : Type 0 where
   pub inv_and_ack_name_a_marked_line : KeptNamed sh h.world
   -- Where nothing is owed, a marked line is wholly overwritten or has no owner.
   pub line_marked_in_part_has_no_owner : KeptWhole sh h.world
+  -- lines and copies
+
+  -- The owner of a line is the core that the line's tag was granted to.
+  pub owner_is_the_core_of_the_tag : KeptLineOwners gs h.world
 
 -- All of it. views are the words that each core's attempt used, in order and with their values, and m is the plain machine after
 -- the commits.
@@ -150,8 +154,6 @@ pub record Invariants (sh : Shape) (p : Program) (entries : ℕ → Local) (ram 
   pub records_and_messages_are_at_home : KeptHomes sh h.world
   -- A line's tag is the greatest TID that is settled at its home and stored in it, or 0.
   pub line_tag_is_the_last_settled_writer : KeptTags sh h.world h.commits
-  -- The owner of a line is the core that the line's tag was granted to.
-  pub owner_is_the_core_of_the_tag : KeptLineOwners gs h.world
   -- What a core notes of a directory is the greatest TID of its commits that stored there, or 0; its load requests to there carry it.
   pub after_is_the_last_commit_there : KeptAfter sh h.world h.commits
   -- One load request or Fill is in flight exactly for the line that a core awaits.

@@ -1,0 +1,47 @@
+-- What is carried along every run together with all else.
+use Rattle.std.specs.Prelude.{ℕ, List, [], ◌∷◌, ◌++◌, Option, Some, None, IfSome}
+use Rattle.std.proofs.Common.{sym, append_assoc}
+use Rattle.std.proofs.lemmas.List.{append-nil}
+use Rattle.tcc_program.specs.Program.{Program, Local}
+use Rattle.tcc_maps.specs.Nodes.{Event}
+use Rattle.tcc_maps.specs.Shape.{Shape}
+use Rattle.tcc_rules.specs.State.{start}
+use Rattle.tcc_rules.specs.Step.{Stepped, step, History, recorded, next, and_then, run_from, run}
+use Rattle.tcc_serial.specs.Copies.{KeptLineOwners}
+use Rattle.tcc_serial.specs.Invariants.{first_state}
+use Rattle.tcc_serial.specs.Kept.{KeptAll}
+use Rattle.tcc_serial.specs.Owners.{Grant, granted_by, then_grants, grants_from}
+use Rattle.tcc_serial.proofs.AllKept.{step-all, run-all}
+use Rattle.tcc_serial.proofs.LineOwnersKept.{step-line-owners, start-line-owners}
+
+pub record KeptMore (sh : Shape) (gs : List Grant) (h : History) : Type 0 where
+  pub all : KeptAll sh gs h
+  pub line_owners : KeptLineOwners gs h.world
+
+step-more : (sh : Shape) (p : Program) (gs : List Grant) (h : History) (e : Event) → KeptMore sh gs h → IfSome (recorded h (step sh p h.world e)) (λ g. KeptMore sh (gs ++ granted_by h.world e) g)
+step-more sh p gs h e k = go (step sh p h.world e) (step-all sh p gs h e k.all) (step-line-owners sh p gs h.world e k.all.spared k.line_owners)
+  where
+    go : (x : Option Stepped) → IfSome (recorded h x) (λ g. KeptAll sh (gs ++ granted_by h.world e) g) → IfSome x (λ o. KeptLineOwners (gs ++ granted_by h.world e) o.world) → IfSome (recorded h x) (λ g. KeptMore sh (gs ++ granted_by h.world e) g)
+    go None a b = tt
+    go (Some o) a b = record { all = a; line_owners = b }
+
+run_from-more : (sh : Shape) (p : Program) (es : List Event) (gs : List Grant) (h : History) → KeptMore sh gs h → IfSome (run_from sh p es h) (λ r. KeptMore sh (gs ++ grants_from sh p es h) r)
+unfolding run_from grants_from next
+run_from-more sh p [] gs h k = rw append-nil k
+run_from-more sh p (e ∷ es) gs h k = go (recorded h (step sh p h.world e)) (step-more sh p gs h e k) (λ g q. run_from-more sh p es (gs ++ granted_by h.world e) g q)
+  where
+    go : (x : Option History) → IfSome x (λ g. KeptMore sh (gs ++ granted_by h.world e) g) → ((g : History) → KeptMore sh (gs ++ granted_by h.world e) g → IfSome (run_from sh p es g) (λ r. KeptMore sh ((gs ++ granted_by h.world e) ++ grants_from sh p es g) r)) → IfSome (and_then (run_from sh p es) x) (λ r. KeptMore sh (gs ++ then_grants (granted_by h.world e) (grants_from sh p es) x) r)
+    go None a f = tt
+    go (Some g) a f = rw (sym (append_assoc gs (granted_by h.world e) (grants_from sh p es g))) (f g a)
+
+-- what is carried holds where the run has no event
+start-all : (sh : Shape) (p : Program) (entries : ℕ → Local) (ram : ℕ → ℕ) → KeptAll sh [] (first_state entries ram)
+unfolding run run_from grants_from
+start-all sh p entries ram = run-all sh p entries ram []
+
+pub start-more : (sh : Shape) (p : Program) (entries : ℕ → Local) (ram : ℕ → ℕ) → KeptMore sh [] (first_state entries ram)
+start-more sh p entries ram = record { all = start-all sh p entries ram; line_owners = start-line-owners entries ram }
+
+pub run-more : (sh : Shape) (p : Program) (entries : ℕ → Local) (ram : ℕ → ℕ) (es : List Event) → IfSome (run sh p (start entries ram) es) (λ r. KeptMore sh (grants_from sh p es (first_state entries ram)) r)
+unfolding run
+run-more sh p entries ram es = run_from-more sh p es [] (first_state entries ram) (start-more sh p entries ram)
