@@ -133,6 +133,7 @@ carried sh gs h m = let k = m.all in record {
   inv_and_ack_name_a_marked_line = k.named;
   line_marked_in_part_has_no_owner = k.whole;
   owner_is_the_core_of_the_tag = m.line_owners;
+  one_load_request_or_fill = m.loading;
 }
 
 pub runs_carry : RunsCarry

@@ -48,6 +48,8 @@ pub mod NamedKept
 pub mod AllKept
 pub mod LineOwnersKept
 pub mod MoreKept
+pub mod CoreLoads
+pub mod LoadsKept
 pub mod GivenUpKept
 pub mod FromKept
 pub mod StartAll

@@ -106,10 +106,6 @@ start-after : (sh : Shape) (entries : ℕ → Local) (ram : ℕ → ℕ) → Kep
 unfolding start core_start pair live last_of
 start-after sh entries ram c d a b = record { last = refl; carried = refl }
 
-start-loading : (sh : Shape) (entries : ℕ → Local) (ram : ℕ → ℕ) → KeptLoading sh (start entries ram)
-unfolding start core_start pair live
-start-loading sh entries ram c d l = refl
-
 start-above : (sh : Shape) (entries : ℕ → Local) (ram : ℕ → ℕ) → KeptAbove sh (start entries ram) []
 unfolding start core_start pair live
 start-above sh entries ram c d l t a b e f = record {
@@ -215,7 +211,6 @@ start_has_all sh p entries ram = record {
   records_and_messages_are_at_home = start-homes sh entries ram;
   line_tag_is_the_last_settled_writer = start-tags sh entries ram;
   after_is_the_last_commit_there = start-after sh entries ram;
-  one_load_request_or_fill = start-loading sh entries ram;
   copy_above_the_tag_is_of_a_commit_in_flight = start-above sh entries ram;
   owned_line_has_one_copy_with_its_tag = start-owned sh entries ram;
   asked_line_gets_its_words = ((start-more sh p entries ram).all.asked, start-gets sh entries ram);
