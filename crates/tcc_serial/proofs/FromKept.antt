@@ -1,5 +1,5 @@
 -- The facts of the list that are proved of every run, from what is carried together along it.
-use Rattle.std.specs.Prelude.{ℕ, ◌+◌, ◌≡◌, ◌<◌, ◌≤◌, ◌==◌, ◌&&◌, Bool, true, false, not, List, Contains, Option, Some, None, IfSome, nat_le}
+use Rattle.std.specs.Prelude.{ℕ, zero, suc, ◌+◌, ◌≡◌, ◌<◌, ◌≤◌, ◌==◌, ◌&&◌, Bool, true, false, not, List, Contains, Option, Some, None, IfSome, nat_le}
 use Rattle.std.proofs.Common.{arith, refl}
 use Rattle.std.proofs.lemmas.Bool.Decides.{nat_tests}
 use Rattle.tcc_maps.specs.Words.{num}
@@ -10,7 +10,7 @@ use Rattle.tcc_rules.specs.State.{CoreState, Halted, World, start}
 use Rattle.tcc_rules.specs.DirDeliver.{total}
 use Rattle.tcc_rules.specs.Step.{History, run}
 use Rattle.tcc_serial.specs.Alone.{IsApart, PhaseFits}
-use Rattle.tcc_serial.specs.Count.{Grants, Marks, MarkOf, live}
+use Rattle.tcc_serial.specs.Count.{Grants, Marks, MarkOf, Probes, Replies, live}
 use Rattle.tcc_serial.specs.Invariants.{Carried, RunsCarry, first_state}
 use Rattle.tcc_serial.specs.Kept.{KeptAll}
 use Rattle.tcc_serial.specs.Marks.{marks_of, marked_by, has_marked, stores_line}
@@ -51,8 +51,8 @@ live-granted sh gs h k c d t l x =
 
 total-below : (f g : ℕ → ℕ) (n : ℕ) → ((j : ℕ) → j < n → f j ≤ g j) → total f n ≤ total g n
 unfolding total
-total-below f g ℕ.zero h = omega arith
-total-below f g (ℕ.suc n) h = omega (arith, total-below f g n (λ j l. h j (omega arith)), h n (omega arith))
+total-below f g zero h = omega arith
+total-below f g (suc n) h = omega (arith, total-below f g n (λ j l. h j (omega arith)), h n (omega arith))
 
 open-live : (sh : Shape) (gs : List Grant) (h : History) → KeptAll sh gs h → (d t : ℕ) → d < sh.dirs → t < h.world.next → Open sh h.world d t → sum_of (holder t) sh.cores h.world d ≡ 1
 unfolding share part holder pair
@@ -64,19 +64,19 @@ open-live sh gs h k d t l x o =
 
 -- Marks
 
+none-coming : (n g x : ℕ) → (1 ≤ n + g → x ≡ 0) → 1 ≤ x → g ≡ 0
+none-coming n zero x f l = refl
+none-coming n (suc g) x f l = absurd (omega (arith, l, f (omega arith)))
+
 marked-came : (n s g : ℕ) (m : ℕ) (b : Bool) → b ≡ true → (1 ≤ num (nat_le n s) + g → m + num (s == s && b) ≡ 0) → (s < n) × (g ≡ 0)
-marked-came n s g m b e f = go (nat_le n s) refl
+marked-came n s g m b e f = (go (nat_le n s) refl, none-coming (num (nat_le n s)) g (m + num (s == s && b)) f (omega (arith, one)))
   where
     one : num (s == s && b) ≡ 1
     one = rw e (grind (arith, nat_tests))
 
-    go : (x : Bool) → nat_le n s ≡ x → (s < n) × (g ≡ 0)
+    go : (x : Bool) → nat_le n s ≡ x → s < n
     go true q = absurd (let p : num (nat_le n s) ≡ 1 = rw q refl in omega (arith, one, f (omega (arith, p))))
-    go false q = let p : num (nat_le n s) ≡ 0 = rw q refl in (grind (arith, nat_tests), zero g p f)
-      where
-        zero : (g : ℕ) → num (nat_le n s) ≡ 0 → (1 ≤ num (nat_le n s) + g → m + num (s == s && b) ≡ 0) → g ≡ 0
-        zero ℕ.zero p f = refl
-        zero (ℕ.suc g) p f = absurd (omega (arith, one, f (omega (arith, p))))
+    go false q = grind (arith, nat_tests)
 
 marked-line : (sh : Shape) (gs : List Grant) (h : History) → KeptAll sh gs h → (c d l : ℕ) → c < sh.cores → d < sh.dirs → has_mark (h.world.dirs d).lines l ≡ true → (home sh l ≡ d) × ((h.world.dirs d).serving.serving < h.world.next) × (live (Grants (h.world.dirs d).serving.serving) (pair h.world c d).grants ≡ 0)
 unfolding pair marks_of
@@ -101,6 +101,9 @@ marks-wait sh gs h k c d t l cl dl = record {
 mark-owner : (sh : Shape) (gs : List Grant) (h : History) → KeptAll sh gs h → (c d t : ℕ) → 1 ≤ live (Marks t) (pair h.world c d).out → Contains gs (record { tid = t; core = c })
 mark-owner sh gs h k c d t x = (k.marks c d t 0).owner (omega (arith, x))
 
+probes-taken : (sh : Shape) (gs : List Grant) (h : History) → KeptMore sh gs h → (c d t : ℕ) → 1 ≤ live (Probes t) (pair h.world c d).out + live (Replies t) (pair h.world c d).back → Contains gs (record { tid = t; core = c }) × (live (Grants t) (pair h.world c d).grants ≡ 0)
+probes-taken sh gs h m c d t x = (m.probed c d t x, none-coming (num (nat_le (pair h.world c d).next t)) (live (Grants t) (pair h.world c d).grants) (live (Probes t) (pair h.world c d).out + live (Replies t) (pair h.world c d).back) ((m.all.probing c d t).fresh) x)
+
 pub carried : (sh : Shape) (gs : List Grant) (h : History) → KeptMore sh gs h → Carried sh gs h
 unfolding pair
 carried sh gs h m = let k = m.all in record {
@@ -124,6 +127,7 @@ carried sh gs h m = let k = m.all in record {
   committing_tid_is_served = commits_served sh h.world k.kept k.committing;
   owed_counts_invs_and_acks = owed_from sh h.world k.kept.told.owed;
   one_probe_or_reply_per_owing_directory = one_probe_from sh h.world k.probing;
+  probes_are_of_tids_already_taken = probes-taken sh gs h m;
   replying_directory_has_reached_the_tid = λ c d. (k.kept.probes c d).replies;
   directory_that_replied_serves_the_tid = served_from sh h.world k.kept;
   skipped_tid_sent_no_mark = λ c d t l x y. (k.marks c d t l).skipped x y;

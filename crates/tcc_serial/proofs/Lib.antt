@@ -48,6 +48,7 @@ pub mod NamedKept
 pub mod AllKept
 pub mod LineOwnersKept
 pub mod MoreKept
+pub mod ProbeOwners
 pub mod CoreLoads
 pub mod LoadsKept
 pub mod GivenUpKept

@@ -84,6 +84,8 @@ pub record Carried (sh : Shape) (gs : List Grant) (h : History) : Type 0 where
 
   -- Between a core with a TID and a directory one probe or reply is in flight exactly where the directory owes a reply.
   pub one_probe_or_reply_per_owing_directory : OneProbe sh h.world
+  -- A probe or reply in flight is of a TID that was granted to its core and has come to it.
+  pub probes_are_of_tids_already_taken : (c d t : ℕ) → 1 ≤ live (Probes t) (pair h.world c d).out + live (Replies t) (pair h.world c d).back → Contains gs (record { tid = t; core = c }) × (live (Grants t) (pair h.world c d).grants ≡ 0)
   -- A reply comes from a directory that has reached its TID.
   pub replying_directory_has_reached_the_tid : (c d : ℕ) → live (RepliesAbove (h.world.dirs d).serving.serving) (pair h.world c d).back ≡ 0
   -- A directory that was asked and owes no reply has reached the core's TID, and serves it where it is open.
@@ -141,8 +143,6 @@ pub record Invariants (sh : Shape) (p : Program) (entries : ℕ → Local) (ram 
   pub no_inv_to_the_core_that_committed : SparesCommitter sh gs h.world × ((c d : ℕ) → d < sh.dirs → Contains gs (record { tid = (h.world.dirs d).serving.serving; core = c }) → live Acks (pair h.world c d).out ≡ 0)
   -- probes and marks
 
-  -- A probe or reply in flight is of a TID that was granted to its core and has come to it.
-  pub probes_are_of_tids_already_taken : (c d t : ℕ) → 1 ≤ live (Probes t) (pair h.world c d).out + live (Replies t) (pair h.world c d).back → Contains gs (record { tid = t; core = c }) × (live (Grants t) (pair h.world c d).grants ≡ 0)
   -- The Marks of a core's TID, in flight and handled, are one of each line that it stores where the directory has replied; those of a
   -- commit on its way are one of each line that it stored there.
   pub marks_sent_are_the_lines_stored : (c d t l : ℕ) → c < sh.cores → d < sh.dirs → (has_tid (h.world.cores c).phase t ≡ true → marks_of t l (pair h.world c d) ≡ marked_by sh (h.world.cores c) d l) × (1 ≤ live (Commits t) (pair h.world c d).out → marks_of t l (pair h.world c d) ≡ num (wrote_line sh.base h.commits c t l && d == home sh l))
