@@ -109,6 +109,7 @@ unfolding pair
 carried sh gs h m = let k = m.all in record {
   frames_stand_in_their_sets = λ c. (k.cores c).words.cache;
   modified_and_dirty_words_are_valid_and_apart = λ c. apart sh (h.world.cores c).cache ((k.cores c).words.cache);
+  tid_and_owing_fit_the_phase = m.owing;
   awaited_line_has_a_frame = λ c a q. (k.cores c).awaited a q;
   marks_fit_the_phase = λ c. phase-fits sh (h.world.cores c) (k.cores c);
   no_attempt_after_the_halt = λ c e. halted sh (h.world.cores c) (k.cores c) e;

@@ -49,6 +49,7 @@ pub mod AllKept
 pub mod LineOwnersKept
 pub mod MoreKept
 pub mod ProbeOwners
+pub mod OwingKept
 pub mod CoreLoads
 pub mod LoadsKept
 pub mod GivenUpKept

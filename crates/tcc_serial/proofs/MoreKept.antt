@@ -14,6 +14,7 @@ use Rattle.tcc_serial.specs.Owners.{Grant, granted_by, then_grants, grants_from}
 use Rattle.tcc_serial.proofs.AllKept.{step-all, run-all}
 use Rattle.tcc_serial.proofs.ProbeOwners.{KeptProbed, step-probed, start-probed}
 use Rattle.tcc_serial.proofs.LoadsKept.{step-loading, start-loading}
+use Rattle.tcc_serial.proofs.OwingKept.{KeptOwing, step-owing, start-owing}
 use Rattle.tcc_serial.proofs.LineOwnersKept.{step-line-owners, start-line-owners}
 
 pub record KeptMore (sh : Shape) (gs : List Grant) (h : History) : Type 0 where
@@ -21,13 +22,14 @@ pub record KeptMore (sh : Shape) (gs : List Grant) (h : History) : Type 0 where
   pub line_owners : KeptLineOwners gs h.world
   pub loading : KeptLoading sh h.world
   pub probed : KeptProbed gs h.world
+  pub owing : KeptOwing sh h.world
 
 step-more : (sh : Shape) (p : Program) (gs : List Grant) (h : History) (e : Event) → KeptMore sh gs h → IfSome (recorded h (step sh p h.world e)) (λ g. KeptMore sh (gs ++ granted_by h.world e) g)
-step-more sh p gs h e k = go (step sh p h.world e) (step-all sh p gs h e k.all) (step-line-owners sh p gs h.world e k.all.spared k.line_owners) (step-loading sh p h.world e k.loading) (step-probed sh p gs h.world h.commits e k.all.kept k.all.owners k.probed)
+step-more sh p gs h e k = go (step sh p h.world e) (step-all sh p gs h e k.all) (step-line-owners sh p gs h.world e k.all.spared k.line_owners) (step-loading sh p h.world e k.loading) (step-probed sh p gs h.world h.commits e k.all.kept k.all.owners k.probed) (step-owing sh p h.world e k.owing)
   where
-    go : (x : Option Stepped) → IfSome (recorded h x) (λ g. KeptAll sh (gs ++ granted_by h.world e) g) → IfSome x (λ o. KeptLineOwners (gs ++ granted_by h.world e) o.world) → IfSome x (λ o. KeptLoading sh o.world) → IfSome x (λ o. KeptProbed (gs ++ granted_by h.world e) o.world) → IfSome (recorded h x) (λ g. KeptMore sh (gs ++ granted_by h.world e) g)
-    go None a b c d = tt
-    go (Some o) a b c d = record { all = a; line_owners = b; loading = c; probed = d }
+    go : (x : Option Stepped) → IfSome (recorded h x) (λ g. KeptAll sh (gs ++ granted_by h.world e) g) → IfSome x (λ o. KeptLineOwners (gs ++ granted_by h.world e) o.world) → IfSome x (λ o. KeptLoading sh o.world) → IfSome x (λ o. KeptProbed (gs ++ granted_by h.world e) o.world) → IfSome x (λ o. KeptOwing sh o.world) → IfSome (recorded h x) (λ g. KeptMore sh (gs ++ granted_by h.world e) g)
+    go None a b c d f = tt
+    go (Some o) a b c d f = record { all = a; line_owners = b; loading = c; probed = d; owing = f }
 
 run_from-more : (sh : Shape) (p : Program) (es : List Event) (gs : List Grant) (h : History) → KeptMore sh gs h → IfSome (run_from sh p es h) (λ r. KeptMore sh (gs ++ grants_from sh p es h) r)
 unfolding run_from grants_from next
@@ -44,7 +46,7 @@ unfolding run run_from grants_from
 start-all sh p entries ram = run-all sh p entries ram []
 
 pub start-more : (sh : Shape) (p : Program) (entries : ℕ → Local) (ram : ℕ → ℕ) → KeptMore sh [] (first_state entries ram)
-start-more sh p entries ram = record { all = start-all sh p entries ram; line_owners = start-line-owners entries ram; loading = start-loading sh entries ram; probed = start-probed entries ram }
+start-more sh p entries ram = record { all = start-all sh p entries ram; line_owners = start-line-owners entries ram; loading = start-loading sh entries ram; probed = start-probed entries ram; owing = start-owing sh entries ram }
 
 pub run-more : (sh : Shape) (p : Program) (entries : ℕ → Local) (ram : ℕ → ℕ) (es : List Event) → IfSome (run sh p (start entries ram) es) (λ r. KeptMore sh (grants_from sh p es (first_state entries ram)) r)
 unfolding run

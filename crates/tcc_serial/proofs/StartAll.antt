@@ -35,10 +35,6 @@ use Rattle.tcc_serial.proofs.FromKept.{carried}
 no-commit : {A : Type 0} → (n : Noted) → Contains [] n → A
 no-commit n c = absurd (omega (arith, c.1))
 
-owing-fits : (sh : Shape) (local : Local) → OwingFits sh (core_start local)
-unfolding core_start
-owing-fits sh local = record { asked = λ d e. absurd (cc); waits = λ d e. absurd (cc); some = λ e. absurd (cc) }
-
 -- nothing was granted, so nothing was given up
 told-nothing : (sh : Shape) (entries : ℕ → Local) (ram : ℕ → ℕ) (d t : ℕ) → GivenUpIsTold sh (start entries ram) [] d t
 unfolding start vendor_start told pair live
@@ -195,7 +191,6 @@ unfolding start core_start dir_start vendor_start empty_cache pair live is_skipp
 start_has_all sh p entries ram = record {
   carried = carried sh [] (first_state entries ram) (start-more sh p entries ram);
   frames_are_of_lines_in_memory = λ c l e. absurd (cc);
-  tid_and_owing_fit_the_phase = λ c. owing-fits sh (entries c);
   attempt_follows_from_its_view = λ c. start-follows sh p (entries c);
   read_marks_are_the_view = λ c. start-read (entries c);
   kept_skips_are_given_up_and_ahead = λ d t a e. absurd (let y = none-skipped t in cc);

@@ -42,6 +42,8 @@ pub record Carried (sh : Shape) (gs : List Grant) (h : History) : Type 0 where
   pub frames_stand_in_their_sets : (c : ℕ) → IsCache sh (h.world.cores c).cache
   -- Modified and dirty words are valid, and a frame has modified or dirty words, not both.
   pub modified_and_dirty_words_are_valid_and_apart : (c : ℕ) → IsApart (h.world.cores c).cache
+  -- A directory owes a reply only in a phase that waits for replies, only where the core asked it, and in such a phase some does.
+  pub tid_and_owing_fit_the_phase : (c : ℕ) → OwingFits sh (h.world.cores c)
   -- A line is awaited only while the core executes, and has a frame.
   pub awaited_line_has_a_frame : (c : ℕ) (a : Awaited) → (h.world.cores c).awaited ≡ Some a → (executes (h.world.cores c).phase ≡ true) × ((h.world.cores c).cache.held a.line ≡ true)
   -- Words are spilled only where the core is alone, none is marked read there, and a core that is doomed or halted has no attempt.
@@ -119,8 +121,6 @@ pub record Invariants (sh : Shape) (p : Program) (entries : ℕ → Local) (ram 
 
   -- Only lines of memory have frames.
   pub frames_are_of_lines_in_memory : (c l : ℕ) → (h.world.cores c).cache.held l ≡ true → l < lines sh
-  -- A directory owes a reply only in a phase that waits for replies, only where the core asked it, and in such a phase some does.
-  pub tid_and_owing_fit_the_phase : (c : ℕ) → OwingFits sh (h.world.cores c)
   -- The plain machine's steps from the checkpoint, over any memory that agrees with the view, give the attempt.
   pub attempt_follows_from_its_view : (c : ℕ) → Follows sh p (h.world.cores c) (views c)
   -- Until a core is alone the words marked read are those of its view, and the valid ones that it hasn't modified have the view's values.
