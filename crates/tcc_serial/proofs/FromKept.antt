@@ -127,6 +127,7 @@ carried sh gs h m = let k = m.all in record {
   serving_never_passes_an_unresolved_tid = λ d t x l. passed sh h.world d t (k.kept.told.tids.resolved d t x) l;
   committing_tid_is_served = commits_served sh h.world k.kept k.committing;
   owed_counts_invs_and_acks = owed_from sh h.world k.kept.told.owed;
+  no_inv_to_the_core_that_committed = (k.spared, m.unacked);
   one_probe_or_reply_per_owing_directory = one_probe_from sh h.world k.probing;
   probes_are_of_tids_already_taken = probes-taken sh gs h m;
   replying_directory_has_reached_the_tid = λ c d. (k.kept.probes c d).replies;

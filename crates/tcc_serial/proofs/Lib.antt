@@ -50,6 +50,7 @@ pub mod LineOwnersKept
 pub mod MoreKept
 pub mod ProbeOwners
 pub mod OwingKept
+pub mod AcksSpared
 pub mod CoreLoads
 pub mod LoadsKept
 pub mod GivenUpKept

@@ -141,7 +141,7 @@ away-back : (e d c l : ℕ) (w : World) (m : Msg) (o : Out) → (d ≡ e → ⊥
 unfolding pair
 away-back e d c l w m o n a h = let b : (d == e) ≡ false = grind (arith, nat_tests) in named-moved l d 0 (pair w c d) o (w.net (Dir d) (Core c)) (rw b at a) (omega arith) (omega arith) h
 
-passed-away : (sh : Shape) (w : World) (c e k : ℕ) (m : Msg) → KeptTold sh w → in_flight w.net (Dir e) (Core c) k ≡ Some m → passes (InvsAway sh.dirs e) m ≡ false
+pub passed-away : (sh : Shape) (w : World) (c e k : ℕ) (m : Msg) → KeptTold sh w → in_flight w.net (Dir e) (Core c) k ≡ Some m → passes (InvsAway sh.dirs e) m ≡ false
 unfolding pair
 passed-away sh w c e k m z i = go (passes (InvsAway sh.dirs e) m) refl
   where

@@ -56,11 +56,11 @@ grant-owed sh w c k o h l y = record {
 -- a core takes a message of a directory
 
 -- the acknowledgement of an invalidation goes back to where it came from, and there is no other
-record BackDue (sh : Shape) (e : ℕ) (m : Msg) (o : Out) : Type 0 where
-  here : among Acks (o.sends (Dir e)) ≡ num (passes Invs m)
-  away : (d : ℕ) → (d ≡ e → ⊥) → among Acks (o.sends (Dir d)) ≡ 0
-  marks : (d : ℕ) → among (MarksAway sh.dirs d) (o.sends (Dir d)) ≡ 0
-  far : (d : ℕ) → sh.dirs ≤ d → among AnyResolve (o.sends (Dir d)) ≡ 0
+pub record BackDue (sh : Shape) (e : ℕ) (m : Msg) (o : Out) : Type 0 where
+  pub here : among Acks (o.sends (Dir e)) ≡ num (passes Invs m)
+  pub away : (d : ℕ) → (d ≡ e → ⊥) → among Acks (o.sends (Dir d)) ≡ 0
+  pub marks : (d : ℕ) → among (MarksAway sh.dirs d) (o.sends (Dir d)) ≡ 0
+  pub far : (d : ℕ) → sh.dirs ≤ d → among AnyResolve (o.sends (Dir d)) ≡ 0
 
 back-clean : (sh : Shape) (e : ℕ) (m : Msg) (o : Out) → passes Invs m ≡ false → CleanOut sh o → BackDue sh e m o
 back-clean sh e m o q y = record { here = rw q ((y e).acks); away = λ d n. (y d).acks; marks = λ d. (y d).marks; far = λ d. (y d).far }
@@ -74,7 +74,7 @@ back-inv sh e l k u o q y = record {
   far = λ d. (y d).far;
 }
 
-back-due : (sh : Shape) (e : ℕ) (s : CoreState) (m : Msg) → passes (InvsAway sh.dirs e) m ≡ false → IfSome (from_dir sh e s m) (λ o. BackDue sh e m o)
+pub back-due : (sh : Shape) (e : ℕ) (s : CoreState) (m : Msg) → passes (InvsAway sh.dirs e) m ≡ false → IfSome (from_dir sh e s m) (λ o. BackDue sh e m o)
 unfolding passes
 back-due sh e s (ProbeReply u v) a = back-clean sh e (ProbeReply u v) _ refl (λ d. acks-back sh e d s (ProbeReply u v))
 back-due sh e s (Fill l ws) a = back-clean sh e (Fill l ws) _ refl (λ d. acks-back sh e d s (Fill l ws))

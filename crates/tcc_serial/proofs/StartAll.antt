@@ -198,7 +198,6 @@ start_has_all sh p entries ram = record {
   commit_message_is_in_flight_while_committing = λ c d t a b. omega arith;
   settled_tid_is_passed_or_owed = λ n d a. no-commit n a;
   owed_only_where_settled = λ d a b. absurd (omega (arith, b));
-  no_inv_to_the_core_that_committed = ((start-more sh p entries ram).all.spared, λ c d a b. refl);
   marks_sent_are_the_lines_stored = λ c d t l a b. (((start-more sh p entries ram).all.marks c d t l).held a b, λ x. absurd (omega (arith, x)));
   commit_counts_the_lines = λ c d t k a b x. absurd (omega (arith, x));
   marks_name_different_lines = λ c d t l a b. (none-marked sh entries ram c d t l, refl, refl);

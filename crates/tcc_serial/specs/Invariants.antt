@@ -82,6 +82,8 @@ pub record Carried (sh : Shape) (gs : List Grant) (h : History) : Type 0 where
   pub committing_tid_is_served : CommitsAreServed sh h.world
   -- As many are owed as invalidations and acknowledgements are in flight, and the invalidations carry the served TID.
   pub owed_counts_invs_and_acks : OwedInFlight sh h.world
+  -- No invalidation of a TID goes to its own core, and none is acknowledged by it.
+  pub no_inv_to_the_core_that_committed : SparesCommitter sh gs h.world × ((c d : ℕ) → d < sh.dirs → Contains gs (record { tid = (h.world.dirs d).serving.serving; core = c }) → live Acks (pair h.world c d).out ≡ 0)
   -- probes and marks
 
   -- Between a core with a TID and a directory one probe or reply is in flight exactly where the directory owes a reply.
@@ -139,8 +141,6 @@ pub record Invariants (sh : Shape) (p : Program) (entries : ℕ → Local) (ram 
   pub settled_tid_is_passed_or_owed : (n : Noted) (d : ℕ) → Contains h.commits n → d < sh.dirs → stores_at sh n.stores d ≡ true → live (Commits n.tid.0) (h.world.net (Core n.core.0) (Dir d)) + num (is_applied (h.world.dirs d) n.tid.0) ≡ 1
   -- Acknowledgements are owed only for a settled commit of the served TID.
   pub owed_only_where_settled : (d : ℕ) → d < sh.dirs → 1 ≤ (h.world.dirs d).owed → (n : Noted) × Contains h.commits n × (n.tid.0 ≡ (h.world.dirs d).serving.serving) × (stores_at sh n.stores d ≡ true) × (is_settled h.world d n ≡ true)
-  -- No invalidation of a TID goes to its own core, and none is acknowledged by it.
-  pub no_inv_to_the_core_that_committed : SparesCommitter sh gs h.world × ((c d : ℕ) → d < sh.dirs → Contains gs (record { tid = (h.world.dirs d).serving.serving; core = c }) → live Acks (pair h.world c d).out ≡ 0)
   -- probes and marks
 
   -- The Marks of a core's TID, in flight and handled, are one of each line that it stores where the directory has replied; those of a
