@@ -1,5 +1,5 @@
 -- Every event keeps that no acknowledgement is in flight from the core that the served TID was granted to.
-use Rattle.std.specs.Prelude.{ℕ, ◌+◌, ◌≡◌, ◌<◌, ◌≤◌, Bool, true, false, List, [], ◌∷◌, ◌++◌, Contains, Option, Some, None, IfSome}
+use Rattle.std.specs.Prelude.{ℕ, ◌≡◌, ◌<◌, ◌≤◌, List, [], ◌∷◌, ◌++◌, Contains, Option, Some, None, IfSome}
 use Rattle.std.proofs.Common.{arith, refl, ap, sym, subst, ◌⊎◌, inl, inr}
 use Rattle.std.proofs.lemmas.Bool.{cases_eq, cases_lt}
 use Rattle.std.proofs.lemmas.Bool.Decides.{nat_tests}
@@ -17,8 +17,8 @@ use Rattle.tcc_rules.specs.CoreExec.{core_exec}
 use Rattle.tcc_rules.specs.CoreEvict.{core_evict}
 use Rattle.tcc_rules.specs.CoreDeliver.{from_dir, grant}
 use Rattle.tcc_rules.specs.DirDeliver.{Answer, Waits, Drops, Asks, Takes, dir_deliver}
-use Rattle.tcc_rules.specs.Step.{core_moves, core_takes, dir_takes, dir_asks, vendor_gives, step}
-use Rattle.tcc_serial.specs.Count.{Invs, InvsNot, Acks, Any, live, among, passes}
+use Rattle.tcc_rules.specs.Step.{core_moves, core_takes, dir_takes, dir_asks, step}
+use Rattle.tcc_serial.specs.Count.{Invs, Acks, Any, live, passes}
 use Rattle.tcc_serial.specs.Kept.{Kept, KeptTold}
 use Rattle.tcc_serial.specs.Owed.{due}
 use Rattle.tcc_serial.specs.Owners.{Grant, granted_by, SparesCommitter}
@@ -31,7 +31,7 @@ use Rattle.tcc_serial.proofs.KeptSteps.{core_of_out, once_at}
 use Rattle.tcc_serial.proofs.Links.{live-sends, live-takes, total-le}
 use Rattle.tcc_serial.proofs.NamedKept.{passed-away}
 use Rattle.tcc_serial.proofs.OwedSteps.{BackDue, back-due, marks_home, acks_owed}
-use Rattle.tcc_serial.proofs.PairFrames.{given, dir-own, dir-other, asks-own, pairs_move, pairs_grant, pairs_back, pairs_dir, pairs_asks, pairs_vendor}
+use Rattle.tcc_serial.proofs.PairFrames.{dir-own, dir-other, asks-own, pairs_move, pairs_grant, pairs_back, pairs_dir, pairs_asks, pairs_vendor}
 use Rattle.tcc_serial.proofs.StepCases.{OfAnswer, step_cases}
 
 abbrev pub UnackedOf : Shape → List Grant → (core dir : ℕ) → Pair → Type 0

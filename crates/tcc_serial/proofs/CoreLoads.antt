@@ -6,11 +6,11 @@ use Rattle.std.proofs.lemmas.Bool.Decides.{nat_tests}
 use Rattle.tcc_base.specs.declared.access.Size.TheVariants.{Byte, Half, Word}
 use Rattle.tcc_program.specs.Program.{Program, Need, Nothing, Loads, Stores, Changes, Prints, Ends, Halts, Traps}
 use Rattle.tcc_program.specs.Ram.{word_of}
-use Rattle.tcc_maps.specs.Words.{num, those, count_below, line_of, any_below}
+use Rattle.tcc_maps.specs.Words.{num, those, count_below, line_of}
 use Rattle.tcc_maps.specs.Nodes.{Dir, Vendor, Msg, TidReq, TidGrant, LoadReq, Fill, Skip, Probe, ProbeReply, Mark, Commit, Abort, WriteBack, Flush, DataReq, Inv, InvAck, Tagged}
 use Rattle.tcc_maps.specs.Shape.{Shape, home, set_of, lines}
-use Rattle.tcc_maps.specs.Cache.{Cache, keeps, dirty_copy, free_way, all_marked, is_modified, is_marked, modified_mask, written_lines, writes_at, reads_at}
-use Rattle.tcc_maps.specs.CacheChange.{marked, evicted, filled, read_cleared}
+use Rattle.tcc_maps.specs.Cache.{Cache, keeps, dirty_copy, free_way, all_marked, is_modified, is_marked, modified_mask, written_lines, writes_at}
+use Rattle.tcc_maps.specs.CacheChange.{marked, evicted, read_cleared}
 use Rattle.tcc_maps.specs.Spilled.{Spilled, holds, spill_line, spilled_mask, spilled_words}
 use Rattle.tcc_rules.specs.State.{CoreState, Awaited, Phase, Running, AwaitTid, DoomedTid, Probing, Ready, Overflowing, Solo, Halted}
 use Rattle.tcc_rules.specs.Sends.{Sends, nothing, to, flush, flushed, write_back, written_back, skip_all, probe_all, abort_written, marks_for}
@@ -19,7 +19,7 @@ use Rattle.tcc_rules.specs.Commit.{commit, commit_sends, committed_core, solo_co
 use Rattle.tcc_rules.specs.Execute.{ask, place, overflow, full_set, fetch, used, load_valid, load_spilled, load, buffered, framed, word_store, also_read, change_valid, change_spilled, partial_store, close, execute_need, execute}
 use Rattle.tcc_rules.specs.CoreExec.{core_exec, exec_phase, unless_awaiting}
 use Rattle.tcc_rules.specs.CoreEvict.{core_evict, evict_line, is_awaited}
-use Rattle.tcc_rules.specs.CoreDeliver.{grant, grant_phase, grant_sends, is_probed, probing, from_dir, probe_reply, reply_phase, replied, all_replied, when_ready, when_alone, ignored, fill, fill_awaited, data_request, invalidate, acknowledged, if_violated, violated_in, is_violated, without, staled}
+use Rattle.tcc_rules.specs.CoreDeliver.{grant, grant_phase, grant_sends, from_dir, probe_reply, reply_phase, replied, all_replied, when_ready, when_alone, ignored, fill, fill_awaited, data_request, invalidate, acknowledged, if_violated, violated_in, is_violated, without, staled}
 use Rattle.tcc_serial.specs.Count.{LoadOf, FillOf, among, passes}
 use Rattle.tcc_serial.proofs.Links.{among-append}
 use Rattle.tcc_serial.proofs.Sent.{among-flat_map_none}

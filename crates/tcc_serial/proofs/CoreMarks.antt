@@ -44,7 +44,7 @@ full-marks p f u (suc n) h = rw (flat_map-append, among-append, full-marks p f u
     go true q = let z : (f n == 0) ≡ false = let y = h n q in grind (arith, nat_tests) in rw z refl
 
 -- a mask of places of which one has p
-some-mask : (p : ℕ → Bool) (k : ℕ) → k < 8 → p k ≡ true → 0 < mask_of p
+pub some-mask : (p : ℕ → Bool) (k : ℕ) → k < 8 → p k ≡ true → 0 < mask_of p
 unfolding mask_of
 some-mask p zero l e = rw e (omega arith)
 some-mask p (suc zero) l e = rw e (omega arith)
@@ -56,15 +56,15 @@ some-mask p (suc (suc (suc (suc (suc (suc zero)))))) l e = rw e (omega arith)
 some-mask p (suc (suc (suc (suc (suc (suc (suc zero))))))) l e = rw e (omega arith)
 some-mask p (suc (suc (suc (suc (suc (suc (suc (suc k)))))))) l e = absurd (omega arith)
 
-modified-full : (c : Cache) (l : ℕ) → is_modified c l ≡ true → 0 < modified_mask c l
+pub modified-full : (c : Cache) (l : ℕ) → is_modified c l ≡ true → 0 < modified_mask c l
 unfolding is_modified any_word modified_mask
 modified-full c l e = let x = any_below-found (λ k. c.modified (word_at l k)) 8 e in some-mask (λ k. c.modified (word_at l k)) (x.0) (x.1) (x.2)
 
-holds-found : (sp : Spilled) (l : ℕ) → holds sp l ≡ true → (k : ℕ) × (k < 8) × (is_some (sp (word_at l k)) ≡ true)
+pub holds-found : (sp : Spilled) (l : ℕ) → holds sp l ≡ true → (k : ℕ) × (k < 8) × (is_some (sp (word_at l k)) ≡ true)
 unfolding holds any_word
 holds-found sp l e = any_below-found (λ k. is_some (sp (word_at l k))) 8 e
 
-written-full : (c : Cache) (sp : Spilled) (l : ℕ) → is_written c sp l ≡ true → 0 < written_mask c sp l
+pub written-full : (c : Cache) (sp : Spilled) (l : ℕ) → is_written c sp l ≡ true → 0 < written_mask c sp l
 unfolding is_written written_mask is_modified any_word
 written-full c sp l e = go (is_modified c l) refl
   where

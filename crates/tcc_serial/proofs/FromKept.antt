@@ -138,6 +138,7 @@ carried sh gs h m = let k = m.all in record {
   marks_sent_are_in_flight_or_handled = (mark-owner sh gs h k, k.counted);
   inv_and_ack_name_a_marked_line = k.named;
   line_marked_in_part_has_no_owner = k.whole;
+  records_and_messages_are_at_home = m.homes;
   owner_is_the_core_of_the_tag = m.line_owners;
   one_load_request_or_fill = m.loading;
 }

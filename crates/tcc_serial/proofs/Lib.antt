@@ -51,6 +51,8 @@ pub mod MoreKept
 pub mod ProbeOwners
 pub mod OwingKept
 pub mod AcksSpared
+pub mod CoreHomes
+pub mod HomesKept
 pub mod CoreLoads
 pub mod LoadsKept
 pub mod GivenUpKept

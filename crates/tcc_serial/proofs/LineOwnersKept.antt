@@ -1,5 +1,5 @@
 -- Every event keeps that the owner of a line is the core that the line's tag was granted to.
-use Rattle.std.specs.Prelude.{ℕ, ◌-◌, ◌≡◌, ◌≤◌, ◌⊎◌, Bool, true, false, List, [], ◌∷◌, ◌++◌, Contains, ◌==◌, ◌&&◌, ◌||◌, Option, Some, None, IfSome, is_some, nat_lt, nat_le, if◌then◌else◌}
+use Rattle.std.specs.Prelude.{ℕ, ◌-◌, ◌≡◌, ◌≤◌, ◌⊎◌, Bool, true, false, List, [], ◌∷◌, ◌++◌, Contains, ◌==◌, ◌&&◌, ◌||◌, Option, Some, None, IfSome, nat_lt, nat_le, if◌then◌else◌}
 use Rattle.std.proofs.Common.{arith, refl, ap, inl, inr}
 use Rattle.std.proofs.lemmas.Bool.Decides.{nat_tests}
 use Rattle.std.proofs.lemmas.List.{append-nil}

@@ -1,5 +1,5 @@
 -- Every event keeps which directories owe a core replies: those that it asked, while it waits, and then some does.
-use Rattle.std.specs.Prelude.{ℕ, zero, suc, ◌≡◌, ◌<◌, ◌≤◌, ◌⊎◌, ◌==◌, ◌&&◌, ◌||◌, Bool, true, false, List, [], ◌∷◌, Option, Some, None, IfSome, nat_lt, if◌then◌else◌}
+use Rattle.std.specs.Prelude.{ℕ, ◌≡◌, ◌<◌, ◌⊎◌, ◌==◌, ◌&&◌, ◌||◌, Bool, true, false, Option, Some, None, IfSome, nat_lt, if◌then◌else◌}
 use Rattle.std.proofs.Common.{arith, refl, ap₂, inl, inr}
 use Rattle.std.proofs.lemmas.Bool.{cases_eq}
 use Rattle.std.proofs.lemmas.Bool.Decides.{nat_tests}
@@ -8,14 +8,14 @@ use Rattle.tcc_program.specs.Plain.{Outcome, Goes, Ended, Halted as HaltedWith, 
 use Rattle.tcc_maps.specs.Words.{put, any_below}
 use Rattle.tcc_maps.specs.Nodes.{Dir, Event, Msg, TidReq, TidGrant, LoadReq, Fill, Skip, Probe, ProbeReply, Mark, Commit, Abort, WriteBack, Flush, DataReq, Inv, InvAck}
 use Rattle.tcc_maps.specs.Shape.{Shape}
-use Rattle.tcc_maps.specs.Cache.{Cache, writes_at, reads_at}
+use Rattle.tcc_maps.specs.Cache.{writes_at, reads_at}
 use Rattle.tcc_maps.proofs.Numbers.{any_below-at}
 use Rattle.tcc_rules.specs.State.{CoreState, Awaited, World, Phase, Running, AwaitTid, DoomedTid, Probing, Ready, Overflowing, Solo, Halted, start, core_start}
 use Rattle.tcc_rules.specs.Attempt.{Out}
 use Rattle.tcc_rules.specs.Commit.{commit, committed_core, phase_after}
 use Rattle.tcc_rules.specs.CoreExec.{core_exec, exec_phase, unless_awaiting}
 use Rattle.tcc_rules.specs.CoreEvict.{core_evict}
-use Rattle.tcc_rules.specs.CoreDeliver.{from_dir, grant, grant_phase, is_probed, probing, all_replied, ignored, fill, data_request, invalidate, probe_reply}
+use Rattle.tcc_rules.specs.CoreDeliver.{from_dir, grant, grant_phase, is_probed, probing, all_replied, fill, data_request, invalidate, probe_reply}
 use Rattle.tcc_rules.specs.DirDeliver.{Answer, Waits, Drops, Asks, Takes, dir_deliver}
 use Rattle.tcc_rules.specs.Execute.{execute}
 use Rattle.tcc_rules.specs.Step.{core_moves, core_takes, dir_takes, dir_asks, vendor_gives, step}

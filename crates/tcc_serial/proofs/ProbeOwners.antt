@@ -18,14 +18,14 @@ use Rattle.tcc_rules.specs.CoreEvict.{core_evict}
 use Rattle.tcc_rules.specs.CoreDeliver.{from_dir, grant, ignored, fill, data_request, invalidate, probe_reply}
 use Rattle.tcc_rules.specs.Sends.{marks_for}
 use Rattle.tcc_rules.specs.DirDeliver.{Answer, Waits, Drops, Asks, Takes, dir_deliver}
-use Rattle.tcc_rules.specs.Step.{core_moves, core_takes, dir_takes, dir_asks, vendor_gives, step}
+use Rattle.tcc_rules.specs.Step.{core_moves, core_takes, step}
 use Rattle.tcc_serial.specs.Count.{Grants, Probes, Replies, live, among, passes}
 use Rattle.tcc_serial.specs.Kept.{Kept}
 use Rattle.tcc_serial.specs.Owners.{Grant, granted_by, holder, KeptOwners}
 use Rattle.tcc_serial.specs.Pairs.{Pair, pair}
 use Rattle.tcc_serial.proofs.CoreProbing.{Unprobed, unprobed-steady, unprobed-exec, unprobed-evict, unprobed-hurt, granted, none-marks, none-to}
 use Rattle.tcc_serial.proofs.CoreSteps.{fill-steady, data-steady, invalidate-cases, Replied, Ignored, Probed, Left_alone, reply-cases}
-use Rattle.tcc_serial.proofs.DirProbing.{Replying, RepliesBy, dir-replies}
+use Rattle.tcc_serial.proofs.DirProbing.{RepliesBy, dir-replies}
 use Rattle.tcc_serial.proofs.Links.{live-sends, live-takes}
 use Rattle.tcc_serial.proofs.PairFrames.{pairs_move, pairs_grant, pairs_back, pairs_dir, pairs_asks, pairs_vendor}
 use Rattle.tcc_serial.proofs.StepCases.{OfAnswer, step_cases}

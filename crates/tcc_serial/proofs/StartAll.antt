@@ -1,5 +1,5 @@
 -- The start has every invariant of the list.
-use Rattle.std.specs.Prelude.{ℕ, ◌≡◌, ◌≤◌, ◌==◌, ◌&&◌, Bool, true, false, List, [], ◌∷◌, Contains, Option, Some, None, nat_lt}
+use Rattle.std.specs.Prelude.{ℕ, ◌≡◌, ◌≤◌, ◌==◌, ◌&&◌, Bool, true, false, List, [], ◌∷◌, Contains, Some, None, nat_lt}
 use Rattle.std.specs.List.{flat_map}
 use Rattle.std.proofs.Common.{arith, refl, ap, ◌∙◌, inl}
 use Rattle.tcc_base.specs.declared.access.Commit.{Commit as Noted}
@@ -13,16 +13,13 @@ use Rattle.tcc_maps.specs.Spilled.{none_spilled}
 use Rattle.tcc_maps.specs.Lines.{no_lines}
 use Rattle.tcc_rules.specs.Seen.{Copy, seen, home_copy, copies, copies_of, copies_on, newest, numbers}
 use Rattle.tcc_rules.specs.State.{core_start, dir_start, vendor_start, start}
-use Rattle.tcc_rules.specs.Step.{run, run_from}
 use Rattle.tcc_attempt.specs.Follows.{Follows, sees}
-use Rattle.tcc_serial.specs.Alone.{OwingFits, ReadFits}
+use Rattle.tcc_serial.specs.Alone.{ReadFits}
 use Rattle.tcc_serial.specs.Commits.{CoresSerial, SeenSerial, plain_start}
-use Rattle.tcc_serial.specs.Copies.{KeptHomes, KeptTags, KeptLineOwners, KeptAfter, KeptLoading, KeptAbove, KeptOwned, KeptGets, KeptSharers, copies_with, keeps_unmodified, holds_line}
+use Rattle.tcc_serial.specs.Copies.{KeptTags, KeptAfter, KeptAbove, KeptOwned, KeptGets, KeptSharers, copies_with, keeps_unmodified, holds_line}
 use Rattle.tcc_serial.specs.Count.{live}
 use Rattle.tcc_serial.specs.Invariants.{StartHasAll, first_state}
-use Rattle.tcc_serial.specs.Kept.{KeptAll}
 use Rattle.tcc_serial.specs.Marks.{marks_of}
-use Rattle.tcc_serial.specs.Owners.{grants_from}
 use Rattle.tcc_serial.specs.Pairs.{pair}
 use Rattle.tcc_serial.specs.Standing.{GivenUpIsTold, told}
 use Rattle.tcc_serial.specs.Values.{HomeWords, CopiesAbove, UnmodifiedWords, FilledWords, ReadWords, CopiesHave, value_at, after_commits}
@@ -82,18 +79,6 @@ no-copy : (entries : ℕ → Local) (ram : ℕ → ℕ) (c d l t : ℕ) → copi
 unfolding start core_start pair copies_with live
 no-copy entries ram c d l t = rw (clean l) refl
 
-start-homes : (sh : Shape) (entries : ℕ → Local) (ram : ℕ → ℕ) → KeptHomes sh (start entries ram)
-unfolding start dir_start no_lines pair live
-start-homes sh entries ram c d l = record {
-  known = λ a. record { sharers = λ j. refl; owner = refl; tag = refl; asked = refl; mark = refl };
-  sharers = λ j e. absurd (cc);
-  owners = λ j e. absurd (cc);
-  out = refl;
-  back = refl;
-  some_out = refl;
-  some_back = refl;
-}
-
 start-tags : (sh : Shape) (entries : ℕ → Local) (ram : ℕ → ℕ) → KeptTags sh (start entries ram) []
 unfolding start dir_start no_lines last_of
 start-tags sh entries ram d l a b = refl
@@ -129,10 +114,6 @@ start-sharers sh entries ram c d l a b e = record {
 }
 
 -- values
-
-start-value : (base : ℕ) (ram : ℕ → ℕ) (s : _) (c b : Option ℕ) (x : ℕ) → value_at base ram [] s c b x ≡ ram x
-unfolding value_at after_commits
-start-value base ram s c b x = refl
 
 have-none : (entries : ℕ → Local) (ram : ℕ → ℕ) (c d x t y : ℕ) → CopiesHave x t y (pair (start entries ram) c d)
 unfolding start core_start empty_cache pair live
@@ -201,7 +182,6 @@ start_has_all sh p entries ram = record {
   marks_sent_are_the_lines_stored = λ c d t l a b. (((start-more sh p entries ram).all.marks c d t l).held a b, λ x. absurd (omega (arith, x)));
   commit_counts_the_lines = λ c d t k a b x. absurd (omega (arith, x));
   marks_name_different_lines = λ c d t l a b. (none-marked sh entries ram c d t l, refl, refl);
-  records_and_messages_are_at_home = start-homes sh entries ram;
   line_tag_is_the_last_settled_writer = start-tags sh entries ram;
   after_is_the_last_commit_there = start-after sh entries ram;
   copy_above_the_tag_is_of_a_commit_in_flight = start-above sh entries ram;

@@ -110,6 +110,8 @@ pub record Carried (sh : Shape) (gs : List Grant) (h : History) : Type 0 where
   pub line_marked_in_part_has_no_owner : KeptWhole sh h.world
   -- lines and copies
 
+  -- A directory knows only of lines at home there, and messages about a line go to its home or come from it, each with some word.
+  pub records_and_messages_are_at_home : KeptHomes sh h.world
   -- The owner of a line is the core that the line's tag was granted to.
   pub owner_is_the_core_of_the_tag : KeptLineOwners gs h.world
   -- One load request or Fill is in flight exactly for the line that a core awaits.
@@ -152,8 +154,6 @@ pub record Invariants (sh : Shape) (p : Program) (entries : ℕ → Local) (ram 
   pub marks_name_different_lines : (c d t l : ℕ) → c < sh.cores → d < sh.dirs → (marks_of t l (pair h.world c d) ≤ 1) × (live (MarksAway sh.dirs d) (pair h.world c d).out ≡ 0) × (live EmptyMarks (pair h.world c d).out ≡ 0)
   -- lines and copies
 
-  -- A directory knows only of lines at home there, and messages about a line go to its home or come from it, each with some word.
-  pub records_and_messages_are_at_home : KeptHomes sh h.world
   -- A line's tag is the greatest TID that is settled at its home and stored in it, or 0.
   pub line_tag_is_the_last_settled_writer : KeptTags sh h.world h.commits
   -- What a core notes of a directory is the greatest TID of its commits that stored there, or 0; its load requests to there carry it.
