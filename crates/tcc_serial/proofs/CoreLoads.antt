@@ -33,17 +33,17 @@ abbrev pub LoadsStep : Shape → CoreState → Out → Type 0
 LoadsStep sh s o = (d l : ℕ) → among (LoadOf l) (o.sends (Dir d)) + awaits_at sh d l s.awaited ≡ awaits_at sh d l o.core.awaited
 
 -- no load request among what is sent
-abbrev Free : Sends → Type 0
+abbrev pub Free : Sends → Type 0
 Free sends = (d l : ℕ) → among (LoadOf l) (sends (Dir d)) ≡ 0
 
 still : (sh : Shape) (s : CoreState) (o : Out) → o.core.awaited ≡ s.awaited → Free o.sends → LoadsStep sh s o
 still sh s o e f d l = rw e (omega (arith, f d l))
 
-free-nothing : Free nothing
+pub free-nothing : Free nothing
 unfolding among
 free-nothing d l = refl
 
-free-flushed : (sh : Shape) (c : Cache) (k : ℕ) → Free (flushed sh c k)
+pub free-flushed : (sh : Shape) (c : Cache) (k : ℕ) → Free (flushed sh c k)
 unfolding flushed among passes
 free-flushed sh c k d l = go (d == home sh k) (dirty_copy c k)
   where
@@ -52,7 +52,7 @@ free-flushed sh c k d l = go (d == home sh k) (dirty_copy c k)
     go true None = refl
     go true (Some t) = refl
 
-free-written : (sh : Shape) (c : Cache) (k : ℕ) → Free (written_back sh c k)
+pub free-written : (sh : Shape) (c : Cache) (k : ℕ) → Free (written_back sh c k)
 unfolding written_back among passes
 free-written sh c k d l = go (d == home sh k) (dirty_copy c k)
   where
@@ -61,7 +61,7 @@ free-written sh c k d l = go (d == home sh k) (dirty_copy c k)
     go true None = refl
     go true (Some t) = refl
 
-free-commit : (sh : Shape) (c : Cache) (u : ℕ) → Free (commit_sends sh c u)
+pub free-commit : (sh : Shape) (c : Cache) (u : ℕ) → Free (commit_sends sh c u)
 unfolding commit_sends among passes
 free-commit sh c u d l = go (nat_lt d sh.dirs) (writes_at sh c d)
   where
@@ -70,7 +70,7 @@ free-commit sh c u d l = go (nat_lt d sh.dirs) (writes_at sh c d)
     go true false = refl
     go true true = refl
 
-free-solo : (sh : Shape) (c : Cache) (sp : Spilled) (u : ℕ) → Free (solo_sends sh c sp u)
+pub free-solo : (sh : Shape) (c : Cache) (sp : Spilled) (u : ℕ) → Free (solo_sends sh c sp u)
 unfolding solo_sends solo_marks solo_backs among passes
 free-solo sh c sp u d l = go (nat_lt d sh.dirs) (solo_writes_at sh c sp d)
   where
@@ -85,23 +85,23 @@ free-solo sh c sp u d l = go (nat_lt d sh.dirs) (solo_writes_at sh c sp d)
     go true true = rw (among-append, among-append, backs, marks) (omega arith)
     go true false = rw (among-append, backs) (omega arith)
 
-free-grants : (sh : Shape) (c : Cache) (u : ℕ) → Free (grant_sends sh c u)
+pub free-grants : (sh : Shape) (c : Cache) (u : ℕ) → Free (grant_sends sh c u)
 unfolding grant_sends among passes
 free-grants sh c u d l = grind (arith, nat_tests)
 
-free-skips : (sh : Shape) (u : ℕ) → Free (skip_all sh u)
+pub free-skips : (sh : Shape) (u : ℕ) → Free (skip_all sh u)
 unfolding skip_all among passes
 free-skips sh u d l = grind (arith, nat_tests)
 
-free-probes : (sh : Shape) (u : ℕ) → Free (probe_all sh u)
+pub free-probes : (sh : Shape) (u : ℕ) → Free (probe_all sh u)
 unfolding probe_all among passes
 free-probes sh u d l = grind (arith, nat_tests)
 
-free-aborts : (sh : Shape) (c : Cache) (u : ℕ) → Free (abort_written sh c u)
+pub free-aborts : (sh : Shape) (c : Cache) (u : ℕ) → Free (abort_written sh c u)
 unfolding abort_written among passes
 free-aborts sh c u d l = grind (arith, nat_tests)
 
-free-marks : (sh : Shape) (c : Cache) (u e : ℕ) → Free (to (Dir e) (marks_for sh c u e))
+pub free-marks : (sh : Shape) (c : Cache) (u e : ℕ) → Free (to (Dir e) (marks_for sh c u e))
 unfolding marks_for among passes
 free-marks sh c u e d l = go (d == e)
   where

@@ -140,6 +140,7 @@ carried sh gs h m = let k = m.all in record {
   line_marked_in_part_has_no_owner = k.whole;
   records_and_messages_are_at_home = m.homes;
   owner_is_the_core_of_the_tag = m.line_owners;
+  after_is_the_last_commit_there = m.after;
   one_load_request_or_fill = m.loading;
 }
 

@@ -55,6 +55,8 @@ pub mod CoreHomes
 pub mod HomesKept
 pub mod CoreLoads
 pub mod LoadsKept
+pub mod CoreAfter
+pub mod AfterKept
 pub mod GivenUpKept
 pub mod FromKept
 pub mod StartAll

@@ -6,8 +6,8 @@ use Rattle.tcc_program.specs.Program.{Program, Local}
 use Rattle.tcc_maps.specs.Nodes.{Event}
 use Rattle.tcc_maps.specs.Shape.{Shape}
 use Rattle.tcc_rules.specs.State.{start}
-use Rattle.tcc_rules.specs.Step.{Stepped, step, History, recorded, next, and_then, run_from, run}
-use Rattle.tcc_serial.specs.Copies.{KeptHomes, KeptLineOwners, KeptLoading}
+use Rattle.tcc_rules.specs.Step.{Stepped, step, History, and_noted, recorded, next, and_then, run_from, run}
+use Rattle.tcc_serial.specs.Copies.{KeptHomes, KeptLineOwners, KeptLoading, KeptAfter}
 use Rattle.tcc_serial.specs.Invariants.{first_state}
 use Rattle.tcc_serial.specs.Kept.{KeptAll, KeptTold}
 use Rattle.tcc_serial.specs.Owners.{Grant, granted_by, then_grants, grants_from}
@@ -17,6 +17,7 @@ use Rattle.tcc_serial.proofs.LoadsKept.{step-loading, start-loading}
 use Rattle.tcc_serial.proofs.OwingKept.{KeptOwing, step-owing, start-owing}
 use Rattle.tcc_serial.proofs.AcksSpared.{KeptUnacked, step-unacked, start-unacked}
 use Rattle.tcc_serial.proofs.HomesKept.{step-homes, start-homes}
+use Rattle.tcc_serial.proofs.AfterKept.{step-after, start-after}
 use Rattle.tcc_serial.proofs.LineOwnersKept.{step-line-owners, start-line-owners}
 
 pub record KeptMore (sh : Shape) (gs : List Grant) (h : History) : Type 0 where
@@ -27,13 +28,14 @@ pub record KeptMore (sh : Shape) (gs : List Grant) (h : History) : Type 0 where
   pub owing : KeptOwing sh h.world
   pub unacked : KeptUnacked sh gs h.world
   pub homes : KeptHomes sh h.world
+  pub after : KeptAfter sh h.world h.commits
 
 step-more : (sh : Shape) (p : Program) (gs : List Grant) (h : History) (e : Event) → KeptMore sh gs h → IfSome (recorded h (step sh p h.world e)) (λ g. KeptMore sh (gs ++ granted_by h.world e) g)
-step-more sh p gs h e k = go (step sh p h.world e) (step-all sh p gs h e k.all) (step-line-owners sh p gs h.world e k.all.spared k.line_owners) (step-loading sh p h.world e k.loading) (step-probed sh p gs h.world h.commits e k.all.kept k.all.owners k.probed) (step-owing sh p h.world e k.owing) (step-unacked sh p gs h.world e k.all.kept k.all.spared k.unacked) (step-homes sh p h.world e k.all.kept k.homes)
+step-more sh p gs h e k = go (step sh p h.world e) (step-all sh p gs h e k.all) (step-line-owners sh p gs h.world e k.all.spared k.line_owners) (step-loading sh p h.world e k.loading) (step-probed sh p gs h.world h.commits e k.all.kept k.all.owners k.probed) (step-owing sh p h.world e k.owing) (step-unacked sh p gs h.world e k.all.kept k.all.spared k.unacked) (step-homes sh p h.world e k.all.kept k.homes) (step-after sh p gs h.world h.commits e k.all.owners k.all.cores k.all.last k.loading k.after)
   where
-    go : (x : Option Stepped) → IfSome (recorded h x) (λ g. KeptAll sh (gs ++ granted_by h.world e) g) → IfSome x (λ o. KeptLineOwners (gs ++ granted_by h.world e) o.world) → IfSome x (λ o. KeptLoading sh o.world) → IfSome x (λ o. KeptProbed (gs ++ granted_by h.world e) o.world) → IfSome x (λ o. KeptOwing sh o.world) → IfSome x (λ o. KeptTold sh o.world → KeptUnacked sh (gs ++ granted_by h.world e) o.world) → IfSome x (λ o. KeptHomes sh o.world) → IfSome (recorded h x) (λ g. KeptMore sh (gs ++ granted_by h.world e) g)
-    go None a b c d f i j = tt
-    go (Some o) a b c d f i j = record { all = a; line_owners = b; loading = c; probed = d; owing = f; unacked = i (a.kept.told); homes = j }
+    go : (x : Option Stepped) → IfSome (recorded h x) (λ g. KeptAll sh (gs ++ granted_by h.world e) g) → IfSome x (λ o. KeptLineOwners (gs ++ granted_by h.world e) o.world) → IfSome x (λ o. KeptLoading sh o.world) → IfSome x (λ o. KeptProbed (gs ++ granted_by h.world e) o.world) → IfSome x (λ o. KeptOwing sh o.world) → IfSome x (λ o. KeptTold sh o.world → KeptUnacked sh (gs ++ granted_by h.world e) o.world) → IfSome x (λ o. KeptHomes sh o.world) → IfSome x (λ o. KeptAfter sh o.world (and_noted o.noted h.commits)) → IfSome (recorded h x) (λ g. KeptMore sh (gs ++ granted_by h.world e) g)
+    go None a b c d f i j l = tt
+    go (Some o) a b c d f i j l = record { all = a; line_owners = b; loading = c; probed = d; owing = f; unacked = i (a.kept.told); homes = j; after = l }
 
 run_from-more : (sh : Shape) (p : Program) (es : List Event) (gs : List Grant) (h : History) → KeptMore sh gs h → IfSome (run_from sh p es h) (λ r. KeptMore sh (gs ++ grants_from sh p es h) r)
 unfolding run_from grants_from next
@@ -50,7 +52,7 @@ unfolding run run_from grants_from
 start-all sh p entries ram = run-all sh p entries ram []
 
 pub start-more : (sh : Shape) (p : Program) (entries : ℕ → Local) (ram : ℕ → ℕ) → KeptMore sh [] (first_state entries ram)
-start-more sh p entries ram = record { all = start-all sh p entries ram; line_owners = start-line-owners entries ram; loading = start-loading sh entries ram; probed = start-probed entries ram; owing = start-owing sh entries ram; unacked = start-unacked sh entries ram; homes = start-homes sh entries ram }
+start-more sh p entries ram = record { all = start-all sh p entries ram; line_owners = start-line-owners entries ram; loading = start-loading sh entries ram; probed = start-probed entries ram; owing = start-owing sh entries ram; unacked = start-unacked sh entries ram; homes = start-homes sh entries ram; after = start-after sh entries ram }
 
 pub run-more : (sh : Shape) (p : Program) (entries : ℕ → Local) (ram : ℕ → ℕ) (es : List Event) → IfSome (run sh p (start entries ram) es) (λ r. KeptMore sh (grants_from sh p es (first_state entries ram)) r)
 unfolding run

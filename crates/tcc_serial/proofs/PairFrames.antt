@@ -30,11 +30,11 @@ append-none (x ∷ l) = rw (append-none l) refl
 
 -- a core moves
 
-moves-own : (w : World) (c : ℕ) (o : Out) (d : ℕ) → pair (core_moves w c o) c d ≡ after_move (pair w c d) o d
+pub moves-own : (w : World) (c : ℕ) (o : Out) (d : ℕ) → pair (core_moves w c o) c d ≡ after_move (pair w c d) o d
 unfolding pair core_moves
 moves-own w c o d = rw (same c) refl
 
-moves-other : (w : World) (c : ℕ) (o : Out) (j d : ℕ) → (j ≡ c → ⊥) → pair (core_moves w c o) j d ≡ pair w j d
+pub moves-other : (w : World) (c : ℕ) (o : Out) (j d : ℕ) → (j ≡ c → ⊥) → pair (core_moves w c o) j d ≡ pair w j d
 unfolding pair core_moves
 moves-other w c o j d h = rw (differ j c h) refl
 

@@ -16,7 +16,7 @@ use Rattle.tcc_rules.specs.State.{core_start, dir_start, vendor_start, start}
 use Rattle.tcc_attempt.specs.Follows.{Follows, sees}
 use Rattle.tcc_serial.specs.Alone.{ReadFits}
 use Rattle.tcc_serial.specs.Commits.{CoresSerial, SeenSerial, plain_start}
-use Rattle.tcc_serial.specs.Copies.{KeptTags, KeptAfter, KeptAbove, KeptOwned, KeptGets, KeptSharers, copies_with, keeps_unmodified, holds_line}
+use Rattle.tcc_serial.specs.Copies.{KeptTags, KeptAbove, KeptOwned, KeptGets, KeptSharers, copies_with, keeps_unmodified, holds_line}
 use Rattle.tcc_serial.specs.Count.{live}
 use Rattle.tcc_serial.specs.Invariants.{StartHasAll, first_state}
 use Rattle.tcc_serial.specs.Marks.{marks_of}
@@ -82,10 +82,6 @@ no-copy entries ram c d l t = rw (clean l) refl
 start-tags : (sh : Shape) (entries : ℕ → Local) (ram : ℕ → ℕ) → KeptTags sh (start entries ram) []
 unfolding start dir_start no_lines last_of
 start-tags sh entries ram d l a b = refl
-
-start-after : (sh : Shape) (entries : ℕ → Local) (ram : ℕ → ℕ) → KeptAfter sh (start entries ram) []
-unfolding start core_start pair live last_of
-start-after sh entries ram c d a b = record { last = refl; carried = refl }
 
 start-above : (sh : Shape) (entries : ℕ → Local) (ram : ℕ → ℕ) → KeptAbove sh (start entries ram) []
 unfolding start core_start pair live
@@ -183,7 +179,6 @@ start_has_all sh p entries ram = record {
   commit_counts_the_lines = λ c d t k a b x. absurd (omega (arith, x));
   marks_name_different_lines = λ c d t l a b. (none-marked sh entries ram c d t l, refl, refl);
   line_tag_is_the_last_settled_writer = start-tags sh entries ram;
-  after_is_the_last_commit_there = start-after sh entries ram;
   copy_above_the_tag_is_of_a_commit_in_flight = start-above sh entries ram;
   owned_line_has_one_copy_with_its_tag = start-owned sh entries ram;
   asked_line_gets_its_words = ((start-more sh p entries ram).all.asked, start-gets sh entries ram);

@@ -114,6 +114,8 @@ pub record Carried (sh : Shape) (gs : List Grant) (h : History) : Type 0 where
   pub records_and_messages_are_at_home : KeptHomes sh h.world
   -- The owner of a line is the core that the line's tag was granted to.
   pub owner_is_the_core_of_the_tag : KeptLineOwners gs h.world
+  -- What a core notes of a directory is the greatest TID of its commits that stored there, or 0; its load requests to there carry it.
+  pub after_is_the_last_commit_there : KeptAfter sh h.world h.commits
   -- One load request or Fill is in flight exactly for the line that a core awaits.
   pub one_load_request_or_fill : KeptLoading sh h.world
 
@@ -156,8 +158,6 @@ pub record Invariants (sh : Shape) (p : Program) (entries : ℕ → Local) (ram 
 
   -- A line's tag is the greatest TID that is settled at its home and stored in it, or 0.
   pub line_tag_is_the_last_settled_writer : KeptTags sh h.world h.commits
-  -- What a core notes of a directory is the greatest TID of its commits that stored there, or 0; its load requests to there carry it.
-  pub after_is_the_last_commit_there : KeptAfter sh h.world h.commits
   -- With a tag above the line's there is one copy of each line that a commit stored whose Commit is in flight, of just its words; no other.
   pub copy_above_the_tag_is_of_a_commit_in_flight : KeptAbove sh h.world h.commits
   -- With the line's tag there is one copy, the owner's, where there is an owner, and else none.
