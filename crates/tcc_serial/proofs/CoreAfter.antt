@@ -25,7 +25,7 @@ use Rattle.tcc_serial.specs.Count.{LoadOf, LoadNot, among, passes}
 use Rattle.tcc_serial.specs.OneCore.{OneCore, executes}
 use Rattle.tcc_serial.specs.Uses.{stores_word}
 use Rattle.tcc_serial.specs.Wrote.{stores_at}
-use Rattle.tcc_serial.proofs.CoreLoads.{Free, free-nothing, free-flushed, free-written, free-commit, free-solo, free-grants, free-skips, free-probes, free-aborts, free-marks}
+use Rattle.tcc_serial.proofs.CoreAwaits.{Free, free-nothing, free-flushed, free-written, free-commit, free-solo, free-grants, free-skips, free-probes, free-aborts, free-marks}
 use Rattle.tcc_serial.proofs.Links.{among-append}
 
 -- without a request for a line there is none that carries something else

@@ -53,7 +53,7 @@ pub mod OwingKept
 pub mod AcksSpared
 pub mod CoreHomes
 pub mod HomesKept
-pub mod CoreLoads
+pub mod CoreAwaits
 pub mod LoadsKept
 pub mod CoreAfter
 pub mod AfterKept

@@ -21,7 +21,7 @@ use Rattle.tcc_rules.specs.Step.{core_moves, core_takes, step}
 use Rattle.tcc_serial.specs.Copies.{LoadingOf, KeptLoading}
 use Rattle.tcc_serial.specs.Count.{LoadOf, FillOf, live, among, passes}
 use Rattle.tcc_serial.specs.Pairs.{Pair, pair}
-use Rattle.tcc_serial.proofs.CoreLoads.{LoadsStep, LoadsBack, loads-exec, loads-evict, loads-grant, loads-back}
+use Rattle.tcc_serial.proofs.CoreAwaits.{LoadsStep, LoadsBack, loads-exec, loads-evict, loads-grant, loads-back}
 use Rattle.tcc_serial.proofs.Links.{live-sends, live-takes}
 use Rattle.tcc_serial.proofs.PairFrames.{same, differ, pairs_move, pairs_grant, pairs_back, pairs_dir, pairs_asks, pairs_vendor}
 use Rattle.tcc_serial.proofs.Sent.{among-flat_map_none}
