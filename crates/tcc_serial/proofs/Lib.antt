@@ -36,6 +36,8 @@ pub mod DirMarks
 pub mod PairMarks
 pub mod MarkSteps
 pub mod MarksKept
+pub mod CoreMasks
+pub mod MasksKept
 pub mod CoreCounts
 pub mod DirOwes
 pub mod PairCounts

@@ -6,6 +6,7 @@ pub mod Insertion
 pub mod Kept
 pub mod Laws
 pub mod Marks
+pub mod Masked
 pub mod Named
 pub mod OneCore
 pub mod Owed
