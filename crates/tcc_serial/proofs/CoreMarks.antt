@@ -44,7 +44,7 @@ full-marks p f u (suc n) h = rw (flat_map-append, among-append, full-marks p f u
     go true q = let z : (f n == 0) ≡ false = let y = h n q in grind (arith, nat_tests) in rw z refl
 
 -- a mask of places of which one has p
-some-mask : (p : ℕ → Bool) (k : ℕ) → k < 8 → p k ≡ true → 0 < mask_of p
+pub some-mask : (p : ℕ → Bool) (k : ℕ) → k < 8 → p k ≡ true → 0 < mask_of p
 unfolding mask_of
 some-mask p zero l e = rw e (omega arith)
 some-mask p (suc zero) l e = rw e (omega arith)

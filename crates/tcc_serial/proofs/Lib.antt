@@ -38,6 +38,9 @@ pub mod MarkSteps
 pub mod MarksKept
 pub mod CoreMasks
 pub mod MasksKept
+pub mod StoredMasks
+pub mod NotedStores
+pub mod CommitMasks
 pub mod CoreCounts
 pub mod DirOwes
 pub mod PairCounts

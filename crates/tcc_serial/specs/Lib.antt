@@ -15,5 +15,6 @@ pub mod Pairs
 pub mod Partly
 pub mod Probes
 pub mod Probing
+pub mod Stored
 pub mod Tids
 pub mod Uses
