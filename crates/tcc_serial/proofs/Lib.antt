@@ -41,6 +41,7 @@ pub mod MasksKept
 pub mod StoredMasks
 pub mod NotedStores
 pub mod CommitMasks
+pub mod PairStored
 pub mod CoreCounts
 pub mod DirOwes
 pub mod PairCounts
