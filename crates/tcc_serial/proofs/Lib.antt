@@ -42,6 +42,7 @@ pub mod StoredMasks
 pub mod NotedStores
 pub mod CommitMasks
 pub mod PairStored
+pub mod StoredKept
 pub mod CoreCounts
 pub mod DirOwes
 pub mod PairCounts
