@@ -43,6 +43,7 @@ pub mod NotedStores
 pub mod CommitMasks
 pub mod PairStored
 pub mod StoredKept
+pub mod MaskLaws
 pub mod CoreCounts
 pub mod DirOwes
 pub mod PairCounts

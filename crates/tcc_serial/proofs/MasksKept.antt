@@ -129,10 +129,6 @@ masks-asked t l v s ms e f h = λ x. rw (e, f) (h x)
 
 -- every event
 
-masks-back : (t l k : ℕ) (v : Pair) → MaskedOf t l v → MaskedOf t l (back_taken v k)
-unfolding wrong_marks
-masks-back t l k v h = h
-
 pub step-masks : (sh : Shape) (p : Program) (gs : List Grant) (w : World) (cs : List Noted) (e : Event) → Kept sh w → KeptOwners sh gs w cs → KeptMarks sh gs w → KeptMasks sh w → IfSome (step sh p w e) (λ o. KeptMasks sh o.world)
 unfolding pair wrong_marks
 step-masks sh p gs w cs e z y b h = step_cases sh p w e (λ g o. KeptMasks sh o.world)

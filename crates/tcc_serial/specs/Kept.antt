@@ -7,6 +7,7 @@ use Rattle.tcc_serial.specs.Asked.{KeptAsked}
 use Rattle.tcc_serial.specs.Committing.{KeptCommitting}
 use Rattle.tcc_serial.specs.Counted.{KeptCounted}
 use Rattle.tcc_serial.specs.Marks.{KeptMarks}
+use Rattle.tcc_serial.specs.Masked.{KeptMasks}
 use Rattle.tcc_serial.specs.Named.{KeptNamed}
 use Rattle.tcc_serial.specs.OneCore.{KeptCores}
 use Rattle.tcc_serial.specs.Owners.{Grant, KeptOwners, LastGranted, SparesCommitter}
@@ -15,6 +16,7 @@ use Rattle.tcc_serial.specs.Tids.{KeptTids}
 use Rattle.tcc_serial.specs.Partly.{KeptWhole}
 use Rattle.tcc_serial.specs.Owed.{KeptOwed}
 use Rattle.tcc_serial.specs.Probes.{KeptProbes}
+use Rattle.tcc_serial.specs.Stored.{KeptStored}
 
 -- where TIDs are, and what is owed
 pub record KeptTold (sh : Shape) (w : World) : Type 0 where
@@ -39,3 +41,5 @@ pub record KeptAll (sh : Shape) (gs : List Grant) (h : History) : Type 0 where
   pub whole : KeptWhole sh h.world
   pub named : KeptNamed sh h.world
   pub asked : KeptAsked sh h.world
+  pub masks : KeptMasks sh h.world
+  pub stored : KeptStored sh h.commits h.world

@@ -7,6 +7,7 @@ pub mod Kept
 pub mod Laws
 pub mod Marks
 pub mod Masked
+pub mod MaskLaws
 pub mod Named
 pub mod OneCore
 pub mod Owed

@@ -12,8 +12,11 @@ ghost use Rattle.tcc_serial.specs.OneCore.{KeptCores};
 ghost use Rattle.tcc_serial.specs.Asked.{KeptAsked};
 ghost use Rattle.tcc_serial.specs.Counted.{KeptCounted};
 ghost use Rattle.tcc_serial.specs.Committing.{CommitsAreServed};
+ghost use Rattle.tcc_serial.specs.Masked.{KeptMasks};
+ghost use Rattle.tcc_serial.specs.MaskLaws.{AlwaysSince, MarkedByServed, MarksOfCommits};
 ghost use Rattle.tcc_serial.specs.Partly.{KeptWhole};
 ghost use Rattle.tcc_serial.specs.Probing.{OneProbe};
+ghost use Rattle.tcc_serial.specs.Stored.{KeptStored};
 ghost use Rattle.tcc_serial.specs.Laws.{Always, OneWay, OneRequest, NeverPasses, OwedInFlight, Served, CommitsOnce, HoldsLast, SparesItsCommitter, MarksAreStored};
 ghost use Rattle.tcc_base.specs.declared.access.Commit.{Commit};
 
@@ -101,4 +104,18 @@ pub fn invalidations_name_marked_lines()
 /// A line whose data a directory asked for has an owner, from which they come.
 pub fn an_asked_line_has_an_owner()
     ensures asked { Always KeptAsked }
+{}
+
+/// Each Mark of a core's TID has as its mask the words of its line that the core has modified; and a marked line is one that the
+/// core of the served TID stores, with this mask.
+pub fn masks_are_the_words_stored()
+    ensures masks { Always KeptMasks }
+    ensures served { Always MarkedByServed }
+{}
+
+/// A TID whose Commit is in flight has marked the lines in which its commit stored, each with the words that it stored there, and
+/// no others; where a directory takes the Commit, and while it is owed acknowledgements, these are its marks.
+pub fn commits_mark_what_they_stored()
+    ensures stored { AlwaysSince KeptStored }
+    ensures each { AlwaysSince MarksOfCommits }
 {}
