@@ -1,25 +1,24 @@
 -- What a core has marked, or marks, by a TID that it commits is what the commit stored.
-use Rattle.std.specs.Prelude.{ℕ, ◌+◌, ◌≡◌, ◌≤◌, Bool, true, false, not, List, [], ◌∷◌, ◌++◌, ◌==◌, ◌&&◌, ◌||◌, Option, Some, None, IfSome, is_some, nat_lt, if◌then◌else◌}
+use Rattle.std.specs.Prelude.{ℕ, ◌+◌, ◌≡◌, ◌≤◌, Bool, true, false, not, List, [], ◌∷◌, ◌++◌, ◌==◌, ◌&&◌, ◌||◌, Option, Some, None, IfSome, nat_lt, if◌then◌else◌}
 use Rattle.std.specs.List.{flat_map}
 use Rattle.std.proofs.Common.{arith, refl, sym, ap, ◌∙◌, ◌⊎◌, inl, inr}
 use Rattle.std.proofs.lemmas.Bool.Decides.{nat_tests}
 use Rattle.tcc_base.specs.declared.access.Commit.{Commit as Noted}
-use Rattle.tcc_base.specs.declared.access.Stored.{Stored}
 use Rattle.tcc_program.specs.Program.{Program}
-use Rattle.tcc_maps.specs.Words.{num, those, count_below, any_word}
+use Rattle.tcc_maps.specs.Words.{num, those, count_below}
 use Rattle.tcc_maps.specs.Nodes.{Dir, Msg, Skip, Mark, Commit, WriteBack, ProbeReply, TidReq, TidGrant, LoadReq, Fill, Probe, Abort, Flush, DataReq, Inv, InvAck}
 use Rattle.tcc_maps.specs.Shape.{Shape, home, lines}
 use Rattle.tcc_maps.specs.Cache.{Cache, is_modified, modified_mask}
 use Rattle.tcc_maps.specs.Spilled.{Spilled, holds, spilled_mask, spilled_words}
 use Rattle.tcc_rules.specs.State.{CoreState, Awaited, Phase, Running, AwaitTid, DoomedTid, Probing, Ready, Overflowing, Solo, Halted}
-use Rattle.tcc_rules.specs.Attempt.{Out, is_solo}
+use Rattle.tcc_rules.specs.Attempt.{Out}
 use Rattle.tcc_rules.specs.Commit.{noted, commit, commit_sends, solo_sends, solo_marks, solo_backs, solo_writes_at, is_written, written_mask}
 use Rattle.tcc_rules.specs.CoreExec.{core_exec, exec_phase, unless_awaiting}
 use Rattle.tcc_rules.specs.CoreEvict.{core_evict}
 use Rattle.tcc_rules.specs.CoreDeliver.{from_dir, probe_reply, fill, data_request, invalidate}
 use Rattle.tcc_serial.specs.Count.{Commits, AnyCommit, CommitOf, MarkOf, MarkMask, among, passes}
 use Rattle.tcc_serial.specs.Marks.{has_marked, stores_line, marked_by}
-use Rattle.tcc_serial.specs.OneCore.{OneCore, awaits_replies}
+use Rattle.tcc_serial.specs.OneCore.{OneCore}
 use Rattle.tcc_serial.specs.Stored.{stores_in, stored_mask}
 use Rattle.tcc_serial.specs.Tids.{has_tid}
 use Rattle.tcc_serial.specs.Uses.{stores_word}

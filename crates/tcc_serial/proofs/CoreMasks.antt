@@ -1,10 +1,9 @@
 -- The Marks that a core sends have as masks the words that it has modified, and these stay while it has its TID.
-use Rattle.std.specs.Prelude.{ℕ, ◌+◌, ◌≡◌, ◌≤◌, Bool, true, false, not, List, [], ◌∷◌, ◌++◌, ◌==◌, ◌&&◌, Option, Some, None, IfSome, if◌then◌else◌}
-use Rattle.std.proofs.Common.{arith, refl, ap, ◌∙◌, ◌⊎◌, inl, inr}
+use Rattle.std.specs.Prelude.{ℕ, ◌≡◌, ◌≤◌, Bool, true, false, not, List, [], ◌∷◌, ◌==◌, ◌&&◌, Option, Some, None, IfSome, if◌then◌else◌}
+use Rattle.std.proofs.Common.{arith, refl, ap, ◌⊎◌, inl, inr}
 use Rattle.std.proofs.lemmas.Bool.{cases_eq}
 use Rattle.std.proofs.lemmas.Bool.Decides.{nat_tests}
 use Rattle.tcc_program.specs.Program.{Program}
-use Rattle.tcc_base.specs.Put.{put}
 use Rattle.tcc_maps.specs.Words.{num, word_at}
 use Rattle.tcc_maps.specs.Masks.{mask_of}
 use Rattle.tcc_maps.specs.Nodes.{Dir, Msg, InvAck, ProbeReply, TidReq, TidGrant, LoadReq, Fill, Skip, Probe, Mark, Commit, Abort, WriteBack, Flush, DataReq, Inv}
@@ -20,7 +19,6 @@ use Rattle.tcc_rules.specs.CoreDeliver.{from_dir, probe_reply, fill, data_reques
 use Rattle.tcc_serial.specs.Count.{MarkOf, MarkMask, live, among, passes}
 use Rattle.tcc_serial.specs.Marks.{has_marked, marked_by}
 use Rattle.tcc_serial.specs.Tids.{has_tid}
-use Rattle.tcc_serial.proofs.Links.{among-append}
 use Rattle.tcc_serial.proofs.Sent.{among-flat_map_none}
 use Rattle.tcc_serial.proofs.CoreProbing.{tid-after}
 use Rattle.tcc_serial.proofs.Executes.{Acts, Steady, Executed, Goes_on, Overflows, Asks_tid, Alone, executed}

@@ -1,32 +1,31 @@
 -- The laws on the marks of directories, from the invariants.
-use Rattle.std.specs.Prelude.{ℕ, zero, suc, ◌+◌, ◌≡◌, ◌<◌, ◌≤◌, Bool, true, false, not, List, [], ◌∷◌, ◌==◌, ◌&&◌, Contains, Option, Some, None, IfSome, length, slice_index_or, nat_lt, nat_le}
+use Rattle.std.specs.Prelude.{ℕ, zero, suc, ◌≡◌, ◌<◌, ◌≤◌, Bool, true, false, not, List, [], ◌∷◌, ◌==◌, ◌&&◌, Contains, Option, Some, None, IfSome, length, slice_index_or, nat_le}
 use Rattle.std.proofs.Common.{arith, refl, sym, ap, subst, ◌∙◌, ◌⊎◌, inl, inr}
 use Rattle.std.proofs.lemmas.Bool.{cases_eq, cases_lt}
 use Rattle.std.proofs.lemmas.Bool.Decides.{nat_tests}
 use Rattle.tcc_base.specs.declared.access.Commit.{Commit as Noted}
-use Rattle.tcc_program.specs.Program.{Local, Program}
 use Rattle.tcc_maps.specs.Words.{num, count_below}
 use Rattle.tcc_maps.specs.Cache.{modified_mask}
 use Rattle.tcc_maps.specs.Lines.{has_mark}
-use Rattle.tcc_maps.specs.Nodes.{Core, Dir, Msg, Event}
+use Rattle.tcc_maps.specs.Nodes.{Core, Dir, Msg}
 use Rattle.tcc_maps.specs.Shape.{Shape, lines}
 use Rattle.tcc_rules.specs.State.{CoreState, World, Link, start}
 use Rattle.tcc_rules.specs.Step.{History, run}
-use Rattle.tcc_serial.specs.Count.{Any, Grants, Commits, CommitOf, MarkOf, live, passes}
+use Rattle.tcc_serial.specs.Count.{Any, Commits, CommitOf, live, passes}
 use Rattle.tcc_serial.specs.Counted.{CountsMarks}
 use Rattle.tcc_serial.specs.Kept.{KeptAll}
 use Rattle.tcc_serial.specs.Laws.{Always}
-use Rattle.tcc_serial.specs.Marks.{marks_of, has_marked, stores_line, marked_by, MarksOf, KeptMarks}
+use Rattle.tcc_serial.specs.Marks.{marks_of, has_marked, stores_line, marked_by, KeptMarks}
 use Rattle.tcc_serial.specs.Masked.{wrong_marks, KeptMasks}
 use Rattle.tcc_serial.specs.MaskLaws.{AlwaysSince, MarkedByServed, MarksOfCommits}
 use Rattle.tcc_serial.specs.Owners.{Grant, grants_from, IsRising}
 use Rattle.tcc_serial.specs.Pairs.{Pair, pair}
-use Rattle.tcc_serial.specs.Stored.{stored_mask, MarkedWith, MarkedCommit, SettledCommit, KeptStored}
-use Rattle.tcc_serial.specs.Tids.{has_tid, InsideOf}
+use Rattle.tcc_serial.specs.Stored.{stored_mask, MarkedWith, KeptStored}
 use Rattle.tcc_serial.proofs.AllKept.{run-all}
 use Rattle.tcc_serial.proofs.TidSteps.{inside_from}
 use Rattle.tcc_serial.proofs.PairCounts.{none-away}
 use Rattle.tcc_serial.proofs.PairStored.{taken-marks}
+use Rattle.tcc_serial.proofs.StoredKept.{one-commit}
 
 -- a TID is that of one commit
 
@@ -96,10 +95,6 @@ unfolding live
 few-any t [] = omega arith
 few-any t (None ∷ k) = few-any t k
 few-any t (Some m ∷ k) = omega (arith, few-any t k, one-any t m)
-
-one-commit : (t n : ℕ) (m : Msg) → num (passes (CommitOf t n) m) ≤ num (passes (Commits t) m)
-unfolding passes
-one-commit t n m = grind (arith, nat_tests)
 
 few-commits : (t n : ℕ) (k : Link) → live (CommitOf t n) k ≤ live (Commits t) k
 unfolding live

@@ -1,6 +1,6 @@
 -- Every event keeps that the Marks of a core's TID have the words that the core has modified as their masks.
-use Rattle.std.specs.Prelude.{ℕ, ◌+◌, ◌≡◌, ◌<◌, ◌≤◌, Bool, true, false, not, List, [], ◌∷◌, ◌++◌, ◌==◌, ◌&&◌, Contains, Option, Some, None, IfSome, nat_lt, nat_le, slice_index_or, set, if◌then◌else◌}
-use Rattle.std.proofs.Common.{arith, refl, ap, ◌⊎◌, inl, inr}
+use Rattle.std.specs.Prelude.{ℕ, ◌+◌, ◌≡◌, ◌<◌, ◌≤◌, Bool, true, false, not, List, [], ◌==◌, ◌&&◌, Contains, Option, Some, None, IfSome, nat_lt, set, if◌then◌else◌}
+use Rattle.std.proofs.Common.{arith, refl, ◌⊎◌, inl, inr}
 use Rattle.std.proofs.lemmas.Bool.{cases_eq}
 use Rattle.std.proofs.lemmas.Bool.Decides.{nat_tests}
 use Rattle.tcc_base.specs.declared.access.Commit.{Commit as Noted}
@@ -8,7 +8,7 @@ use Rattle.tcc_program.specs.Program.{Program, Local}
 use Rattle.tcc_maps.specs.Words.{num}
 use Rattle.tcc_maps.specs.Cache.{modified_mask}
 use Rattle.tcc_maps.specs.Lines.{has_mark}
-use Rattle.tcc_maps.specs.Nodes.{Core, Dir, Vendor, Msg, TidReq, TidGrant, Skip, Mark, Event}
+use Rattle.tcc_maps.specs.Nodes.{Core, Dir, Vendor, Msg, TidGrant, Skip, Mark, Event}
 use Rattle.tcc_maps.specs.Shape.{Shape}
 use Rattle.tcc_rules.specs.State.{DirState, World, Link, start, core_start}
 use Rattle.tcc_rules.specs.Links.{in_flight}
@@ -23,20 +23,20 @@ use Rattle.tcc_serial.specs.Count.{Grants, MarkOf, MarkMask, live, passes}
 use Rattle.tcc_serial.specs.Marks.{marks_of, marked_by, MarksOf, KeptMarks}
 use Rattle.tcc_serial.specs.Masked.{wrong_marks, MaskedOf, KeptMasks}
 use Rattle.tcc_serial.specs.Owners.{Grant, KeptOwners}
-use Rattle.tcc_serial.specs.Pairs.{Pair, pair, after_move, grant_taken, back_taken, after_answer}
+use Rattle.tcc_serial.specs.Pairs.{Pair, pair, after_move, grant_taken, after_answer}
 use Rattle.tcc_serial.specs.Tids.{has_tid}
 use Rattle.tcc_serial.specs.Kept.{Kept, KeptTold}
 use Rattle.tcc_serial.proofs.Links.{live-sends, live-takes}
 use Rattle.tcc_serial.proofs.PairFrames.{pairs_move, pairs_grant, pairs_back, pairs_dir, pairs_asks, pairs_vendor}
 use Rattle.tcc_serial.proofs.StepCases.{OfAnswer, step_cases}
 use Rattle.tcc_serial.proofs.TidSteps.{granted_waits, live-some}
-use Rattle.tcc_serial.proofs.KeptSteps.{core_of_grant, core_of_back}
+use Rattle.tcc_serial.proofs.KeptSteps.{core_of_back}
 use Rattle.tcc_serial.proofs.CoreMarking.{Marking, marking-exec, marking-evict}
 use Rattle.tcc_serial.proofs.CoreMarkingTakes.{Granting, marking-back, granting}
 use Rattle.tcc_serial.proofs.DirMarks.{Marked, Stays, Clears, Skipped, Marks as IsMarked, MarkedBy, dir-marked}
 use Rattle.tcc_serial.proofs.PairMarks.{marks-granted}
 use Rattle.tcc_serial.proofs.MarkSteps.{has-granted, grant-alone, is-granted, skip-unmarked}
-use Rattle.tcc_serial.proofs.MarksKept.{only-there, no-request, is_mine}
+use Rattle.tcc_serial.proofs.MarksKept.{only-there, is_mine}
 use Rattle.tcc_serial.proofs.CoreMasks.{Masking, live-masked, passes-masked, masking-exec, masking-evict, masking-back}
 
 -- a Mark with another mask is a Mark

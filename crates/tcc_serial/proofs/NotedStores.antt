@@ -15,7 +15,7 @@ use Rattle.tcc_rules.specs.Sends.{nothing, flushed}
 use Rattle.tcc_rules.specs.Attempt.{Out, moves, is_solo, new_word, finished, stepped}
 use Rattle.tcc_rules.specs.Commit.{noted, commit, solo_commit}
 use Rattle.tcc_rules.specs.CoreExec.{core_exec, exec_phase, unless_awaiting}
-use Rattle.tcc_rules.specs.Execute.{ask, place, overflow, full_set, fetch, used, load_valid, load_spilled, load, buffered, framed, word_store, also_read, change_valid, change_spilled, partial_store, close, execute_need, execute}
+use Rattle.tcc_rules.specs.Execute.{ask, place, overflow, full_set, fetch, load_valid, load_spilled, load, buffered, framed, word_store, also_read, change_valid, change_spilled, partial_store, close, execute_need, execute}
 
 -- what is noted has these stores
 abbrev pub StoresOf : List Stored → Option Noted → Type 0

@@ -1,12 +1,12 @@
 -- Every event keeps that a TID that commits has marked what its commit stored, also while acknowledgements of it are owed.
-use Rattle.std.specs.Prelude.{ℕ, ◌+◌, ◌≡◌, ◌<◌, ◌≤◌, Bool, true, false, List, [], Contains, Option, Some, None, IfSome, set}
+use Rattle.std.specs.Prelude.{ℕ, ◌+◌, ◌≡◌, ◌<◌, ◌≤◌, false, List, [], Option, Some, None, IfSome, set}
 use Rattle.std.proofs.Common.{arith, refl, sym, ap, subst, ◌∙◌, ◌⊎◌, inl, inr}
 use Rattle.std.proofs.lemmas.Bool.Decides.{nat_tests}
 use Rattle.tcc_base.specs.declared.access.Commit.{Commit as Noted}
 use Rattle.tcc_program.specs.Program.{Program, Local}
 use Rattle.tcc_maps.specs.Words.{num, count_below}
 use Rattle.tcc_maps.specs.Lines.{has_mark}
-use Rattle.tcc_maps.specs.Nodes.{Core, Dir, Vendor, Msg, TidReq, Skip, Commit, Event}
+use Rattle.tcc_maps.specs.Nodes.{Core, Dir, Msg, TidReq, Skip, Commit, Event}
 use Rattle.tcc_maps.specs.Shape.{Shape, lines}
 use Rattle.tcc_rules.specs.State.{DirState, World, start, dir_start}
 use Rattle.tcc_rules.specs.Links.{in_flight}
@@ -49,7 +49,7 @@ use Rattle.tcc_serial.proofs.CoreMasks.{passes-masked}
 use Rattle.tcc_serial.proofs.MasksKept.{masked-there}
 use Rattle.tcc_serial.proofs.PairStored.{stored-more, stored-moved, stored-granted, stored-answered, taken-marks}
 
-one-commit : (u n : ℕ) (m : Msg) → num (passes (CommitOf u n) m) ≤ num (passes (Commits u) m)
+pub one-commit : (u n : ℕ) (m : Msg) → num (passes (CommitOf u n) m) ≤ num (passes (Commits u) m)
 unfolding passes
 one-commit u n m = grind (arith, nat_tests)
 

@@ -12,7 +12,7 @@ use Rattle.tcc_serial.specs.Masked.{wrong_marks}
 use Rattle.tcc_serial.specs.Pairs.{Pair, pair}
 use Rattle.tcc_serial.specs.Uses.{stores_word}
 
--- the words of a line that the stores name, as a mask
+-- the words of a line that the stores name, as a mask; a store of a part of a word names its word
 unfoldable pub stores_in : (base : ℕ) → List Stored → (line : ℕ) → ℕ
 stores_in base ss l = mask_of (λ k. stores_word base ss (word_at l k))
 
