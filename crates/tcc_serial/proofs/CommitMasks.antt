@@ -5,10 +5,10 @@ use Rattle.std.proofs.Common.{arith, refl, sym, ap, ◌∙◌, ◌⊎◌, inl, i
 use Rattle.std.proofs.lemmas.Bool.Decides.{nat_tests}
 use Rattle.tcc_base.specs.declared.access.Commit.{Commit as Noted}
 use Rattle.tcc_program.specs.Program.{Program}
-use Rattle.tcc_maps.specs.Words.{num, those, count_below}
+use Rattle.tcc_maps.specs.Words.{num, those, any_below, count_below}
 use Rattle.tcc_maps.specs.Nodes.{Dir, Msg, Skip, Mark, Commit, WriteBack, ProbeReply, TidReq, TidGrant, LoadReq, Fill, Probe, Abort, Flush, DataReq, Inv, InvAck}
 use Rattle.tcc_maps.specs.Shape.{Shape, home, lines}
-use Rattle.tcc_maps.specs.Cache.{Cache, is_modified, modified_mask}
+use Rattle.tcc_maps.specs.Cache.{Cache, is_modified, modified_mask, writes_at}
 use Rattle.tcc_maps.specs.Spilled.{Spilled, holds, spilled_mask, spilled_words}
 use Rattle.tcc_rules.specs.State.{CoreState, Awaited, Phase, Running, AwaitTid, DoomedTid, Probing, Ready, Overflowing, Solo, Halted}
 use Rattle.tcc_rules.specs.Attempt.{Out}
@@ -19,7 +19,7 @@ use Rattle.tcc_rules.specs.CoreDeliver.{from_dir, probe_reply, fill, data_reques
 use Rattle.tcc_serial.specs.Count.{Commits, AnyCommit, CommitOf, MarkOf, MarkMask, among, passes}
 use Rattle.tcc_serial.specs.Marks.{has_marked, stores_line, marked_by}
 use Rattle.tcc_serial.specs.OneCore.{OneCore}
-use Rattle.tcc_serial.specs.Stored.{stores_in, stored_mask}
+use Rattle.tcc_serial.specs.Stored.{stores_in, stored_mask, stores_at}
 use Rattle.tcc_serial.specs.Tids.{has_tid}
 use Rattle.tcc_serial.specs.Uses.{stores_word}
 use Rattle.tcc_serial.proofs.Links.{among-append}
@@ -33,15 +33,16 @@ use Rattle.tcc_serial.proofs.CoreMarking.{mine, told-commit}
 use Rattle.tcc_serial.proofs.CoreMarkingTakes.{unmarked}
 use Rattle.tcc_serial.proofs.CoreMasks.{own-mask, few-masked}
 use Rattle.tcc_serial.proofs.NotedStores.{StoresOf, noted-stores}
-use Rattle.tcc_serial.proofs.StoredMasks.{stored-line, stored-cases, modified-line, modified-stored, written-line, written-stored}
+use Rattle.tcc_serial.proofs.StoredMasks.{stored-line, stored-some, stored-cases, modified-line, modified-stored, written-line, written-stored}
 
--- A core notes a commit, and what this stored are the masks of the Marks that it has sent, and of those that it sends with it.
+-- A core notes a commit that stored at the directory, and what this stored are the masks of the Marks that it has sent, and of those that it sends with it.
 pub record Storing (sh : Shape) (c d t : ℕ) (s : CoreState) (o : Out) : Type 0 where
   pub commit : Noted
   pub noted : o.commit ≡ Some commit
   pub tid : commit.tid.0 ≡ t
   pub core : commit.core.0 ≡ c
   pub held : has_tid s.phase t ≡ true
+  pub stored : stores_at sh d commit.stores ≡ true
   pub marks : (l : ℕ) → among (MarkOf t l) (o.sends (Dir d)) + marked_by sh s d l ≡ num (nat_lt 0 (stored_mask sh d commit.stores l))
   pub right : (l : ℕ) → among (MarkMask t l (stored_mask sh d commit.stores l)) (o.sends (Dir d)) ≡ 0
   pub before : (l : ℕ) → (marked_by sh s d l ≡ 0) ⊎ (stored_mask sh d commit.stores l ≡ modified_mask s.cache l)
@@ -86,6 +87,18 @@ unspilled sh u s e h w =
     let n : s.spilled w ≡ None = h.words.spilled_alone (rw e refl) w in
     sym (or-false (s.cache.modified w)) ∙ (rw n at (h.words.named w))
 
+commit-writes : (sh : Shape) (c : Cache) (u d t : ℕ) → 1 ≤ among (Commits t) (commit_sends sh c u (Dir d)) → any_below (λ l. d == home sh l && is_modified c l) (lines sh) ≡ true
+unfolding commit_sends writes_at among passes
+commit-writes sh c u d t x = go (nat_lt d sh.dirs) (any_below p (lines sh)) x
+  where
+    p : ℕ → Bool
+    p l = d == home sh l && is_modified c l
+
+    go : (a b : Bool) → 1 ≤ among (Commits t) (if a then (if b then Commit u (count_below p (lines sh)) ∷ [] else []) else []) → b ≡ true
+    go true true y = refl
+    go true false y = absurd (omega (arith, y))
+    go false b y = absurd (omega (arith, y))
+
 storing-ready : (sh : Shape) (c d t u : ℕ) (s : CoreState) → s.phase ≡ Ready u → OneCore sh s → StoresAll sh c d t s (commit sh c u s)
 unfolding commit noted marked_by has_marked stores_line
 storing-ready sh c d t u s ph h x = record {
@@ -94,6 +107,7 @@ storing-ready sh c d t u s ph h x = record {
   tid = same;
   core = refl;
   held = mine u t s.phase (has-ready u s.phase ph) same;
+  stored = stored-some sh d s.stores (λ l. d == home sh l && is_modified s.cache l) line (commit-writes sh s.cache u d t x);
   marks = marks;
   right = λ l. omega (arith, few-masked t l (stored_mask sh d s.stores l) (commit_sends sh s.cache u (Dir d)), (told-commit sh s.cache u d t l).1);
   before = λ l. before l (stored-cases sh d s.stores l);
@@ -138,6 +152,21 @@ alone-masked sh c sp u d t l = go (nat_lt d sh.dirs) (solo_writes_at sh c sp d)
     go true false = rw (among-append, backs) (omega arith)
     go true true = rw (among-append, among-append, backs, marks) (omega arith)
 
+alone-writes : (sh : Shape) (c : Cache) (sp : Spilled) (u d t : ℕ) → 1 ≤ among (Commits t) (solo_sends sh c sp u (Dir d)) → any_below (λ l. d == home sh l && is_written c sp l) (lines sh) ≡ true
+unfolding solo_sends solo_marks solo_backs solo_writes_at among passes
+alone-writes sh c sp u d t x = go (nat_lt d sh.dirs) (any_below p (lines sh)) x
+  where
+    p : ℕ → Bool
+    p k = d == home sh k && is_written c sp k
+
+    backs : among (Commits t) (solo_backs sh sp u d) ≡ 0
+    backs = among-flat_map_none (Commits t) (λ k. WriteBack k (spilled_mask sp k) (spilled_words sp k) u ∷ []) (λ k. refl) (those (λ k. d == home sh k && holds sp k) (lines sh))
+
+    go : (a w : Bool) → 1 ≤ among (Commits t) (if a then (if w then flat_map (λ k. Mark k (written_mask c sp k) u ∷ []) (those p (lines sh)) ++ Commit u (count_below p (lines sh)) ∷ [] else Skip u ∷ []) ++ solo_backs sh sp u d else []) → w ≡ true
+    go true true y = refl
+    go true false y = absurd (omega (arith, y, among-append (Commits t) (Skip u ∷ []) (solo_backs sh sp u d), backs))
+    go false w y = absurd (omega (arith, y))
+
 alone : (u : ℕ) (q : Phase) → q ≡ Solo u → has_marked q ≡ false
 unfolding has_marked
 alone u q e = rw e refl
@@ -150,6 +179,7 @@ storing-alone sh c d t u s r o ph cm st se h x = record {
   tid = same;
   core = refl;
   held = mine u t s.phase (has-solo u s.phase ph) same;
+  stored = rw st (stored-some sh d s.stores (λ l. d == home sh l && is_written s.cache s.spilled l) line (alone-writes sh s.cache s.spilled u d t (rw se at x)));
   marks = λ l. rw (se, st) (omega (arith, marks l, nothing l));
   right = λ l. rw (se, st) (right l (stored-cases sh d s.stores l));
   before = λ l. inl (nothing l);

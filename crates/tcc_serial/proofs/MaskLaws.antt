@@ -1,5 +1,5 @@
 -- The laws on the marks of directories, from the invariants.
-use Rattle.std.specs.Prelude.{ℕ, zero, suc, ◌≡◌, ◌<◌, ◌≤◌, Bool, true, false, not, List, [], ◌∷◌, ◌==◌, ◌&&◌, Contains, Option, Some, None, IfSome, length, slice_index_or, nat_le}
+use Rattle.std.specs.Prelude.{ℕ, zero, suc, ◌≡◌, ◌<◌, ◌≤◌, Bool, true, false, not, List, [], ◌∷◌, ◌==◌, ◌&&◌, Contains, Option, Some, None, IfSome, length, slice_index_or, nat_lt, nat_le}
 use Rattle.std.proofs.Common.{arith, refl, sym, ap, subst, ◌∙◌, ◌⊎◌, inl, inr}
 use Rattle.std.proofs.lemmas.Bool.{cases_eq, cases_lt}
 use Rattle.std.proofs.lemmas.Bool.Decides.{nat_tests}
@@ -20,9 +20,11 @@ use Rattle.tcc_serial.specs.Masked.{wrong_marks, KeptMasks}
 use Rattle.tcc_serial.specs.MaskLaws.{AlwaysSince, MarkedByServed, MarksOfCommits}
 use Rattle.tcc_serial.specs.Owners.{Grant, grants_from, IsRising}
 use Rattle.tcc_serial.specs.Pairs.{Pair, pair}
-use Rattle.tcc_serial.specs.Stored.{stored_mask, MarkedWith, KeptStored}
+use Rattle.tcc_serial.specs.Stored.{stored_mask, stores_at, MarkedWith, KeptStored}
 use Rattle.tcc_serial.proofs.AllKept.{run-all}
 use Rattle.tcc_serial.proofs.TidSteps.{inside_from}
+use Rattle.tcc_serial.proofs.Links.{total-same}
+use Rattle.tcc_serial.proofs.CoreCounts.{total-num}
 use Rattle.tcc_serial.proofs.PairCounts.{none-away}
 use Rattle.tcc_serial.proofs.PairStored.{taken-marks}
 use Rattle.tcc_serial.proofs.StoredKept.{one-commit}
@@ -104,7 +106,7 @@ few-commits t n (Some m ∷ k) = omega (arith, few-commits t n k, one-commit t n
 
 commits-marks : (sh : Shape) (gs : List Grant) (h : History) → KeptAll sh gs h → MarksOfCommits sh h.commits h.world
 unfolding pair
-commits-marks sh gs h k = record { sent = sent; taken = taken; owed = owed }
+commits-marks sh gs h k = record { stored = stored; counted = counted; sent = sent; taken = taken; owed = owed }
   where
     w : World
     w = h.world
@@ -116,6 +118,16 @@ commits-marks sh gs h k = record { sent = sent; taken = taken; owed = owed }
     sent x d l c dl o =
         let y = (k.stored x.core.0 d x.tid.0).sent (inside x d o) dl o in
         subst (λ z. MarkedWith x.tid.0 l (stored_mask sh d z.stores l) (pair w x.core.0 d)) (same-commit h.commits y.commit x (k.owners.rising) (y.noted) c (y.tid)) (y.marks l)
+
+    stored : (x : Noted) (d : ℕ) → Contains h.commits x → d < sh.dirs → 1 ≤ live (Commits x.tid.0) (w.net (Core x.core.0) (Dir d)) → stores_at sh d x.stores ≡ true
+    stored x d c dl o =
+        let y = (k.stored x.core.0 d x.tid.0).sent (inside x d o) dl o in
+        subst (λ z. stores_at sh d z.stores ≡ true) (same-commit h.commits y.commit x (k.owners.rising) (y.noted) c (y.tid)) (y.stored)
+
+    counted : (x : Noted) (d n : ℕ) → Contains h.commits x → d < sh.dirs → 1 ≤ live (CommitOf x.tid.0 n) (w.net (Core x.core.0) (Dir d)) → count_below (λ l. nat_lt 0 (stored_mask sh d x.stores l)) (lines sh) ≡ n
+    counted x d n c dl o =
+        let z : 1 ≤ live (Commits x.tid.0) (w.net (Core x.core.0) (Dir d)) = omega (arith, o, few-commits x.tid.0 n (w.net (Core x.core.0) (Dir d))) in
+        sym (total-num (λ l. nat_lt 0 (stored_mask sh d x.stores l)) (lines sh)) ∙ total-same (λ l. num (nat_lt 0 (stored_mask sh d x.stores l))) (λ l. marks_of x.tid.0 l (pair w x.core.0 d)) (lines sh) (λ l b. sym ((sent x d l c dl z).one)) ∙ ((k.counted x.core.0 d x.tid.0 (inside x d z)).counted n dl o).sum
 
     taken : (x : Noted) (d l : ℕ) → Contains h.commits x → d < sh.dirs → (w.dirs d).serving.serving ≡ x.tid.0 → 1 ≤ live (CommitOf x.tid.0 (count_below (has_mark (w.dirs d).lines) (lines sh))) (w.net (Core x.core.0) (Dir d)) → (w.dirs d).lines.mark l ≡ stored_mask sh d x.stores l
     taken x d l c dl e o =

@@ -70,8 +70,8 @@ noted-has n cs x e = rw e (insert-has x cs)
 
 pub stored-more : (sh : Shape) (cs : List Noted) (n : Option Noted) (c d t : ℕ) (v : Pair) → StoredOf sh cs c d t v → StoredOf sh (and_noted n cs) c d t v
 stored-more sh cs n c d t v h = record {
-  sent = λ cl dl x. let k = h.sent cl dl x in record { commit = k.commit; noted = noted-keeps n cs k.commit k.noted; tid = k.tid; core = k.core; marks = k.marks };
-  settled = λ dl x. let k = h.settled dl x in record { commit = k.commit; noted = noted-keeps n cs k.commit k.noted; tid = k.tid; marks = k.marks };
+  sent = λ cl dl x. let k = h.sent cl dl x in record { commit = k.commit; noted = noted-keeps n cs k.commit k.noted; tid = k.tid; core = k.core; stored = k.stored; marks = k.marks };
+  settled = λ dl x. let k = h.settled dl x in record { commit = k.commit; noted = noted-keeps n cs k.commit k.noted; tid = k.tid; stored = k.stored; marks = k.marks };
 }
 
 -- a core moves
@@ -112,6 +112,7 @@ stored-moved sh gs cs c d t v o cl y s m q free h = record { sent = λ cl dl x. 
       noted = noted-has o.commit cs k.commit (k.noted);
       tid = k.tid;
       core = k.core;
+      stored = k.stored;
       marks = λ l. with-all t l (stored_mask sh d k.commit.stores l) d (marked_by sh v.core d l) v o ((m l).held cl dl (k.held)) (k.marks l) (k.right l) (k.before l) (q dl l (k.held));
     }
 
@@ -122,6 +123,7 @@ stored-moved sh gs cs c d t v o cl y s m q free h = record { sent = λ cl dl x. 
       noted = noted-keeps o.commit cs k.commit (k.noted);
       tid = k.tid;
       core = k.core;
+      stored = k.stored;
       marks = λ l. with-none t l (stored_mask sh d k.commit.stores l) d v o (told l dl (omega (arith, z)) (cases_lt 0 (among (MarkOf t l) (o.sends (Dir d))))) (k.marks l);
     }
 
@@ -134,6 +136,7 @@ stored-granted sh cs c d t k v o f z h = record {
     noted = k.noted;
     tid = k.tid;
     core = k.core;
+    stored = k.stored;
     marks = λ l. record {
       one = omega (arith, (k.marks l).one, f l, live-sends (MarkOf t l) v.out (o.sends (Dir d)));
       right = omega (arith, (k.marks l).right, f l, few-masked t l (stored_mask sh d k.commit.stores l) (o.sends (Dir d)), live-sends (MarkMask t l (stored_mask sh d k.commit.stores l)) v.out (o.sends (Dir d)));
@@ -173,6 +176,7 @@ stored-answered sh gs cs j d t v m s ms k y less ones wrongs skip nonempty ahead
           noted = n.noted;
           tid = n.tid;
           core = n.core;
+          stored = n.stored;
           marks = λ l. stays l (stored_mask sh d n.commit.stores l) a b jl dl (n.marks l);
         }
       where

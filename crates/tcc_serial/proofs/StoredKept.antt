@@ -56,7 +56,7 @@ one-commit u n m = grind (arith, nat_tests)
 -- a directory that takes a Commit has as its marks what the commit stored
 taken-stored : (sh : Shape) (w : World) (cs : List Noted) (c d k : ℕ) (m : Msg) → KeptCounted sh w → KeptStored sh cs w → c < sh.cores → d < sh.dirs → in_flight w.net (Core c) (Dir d) k ≡ Some m → CountsMarked sh (w.dirs d) m → SettledCommit sh cs d (w.dirs d)
 unfolding pair
-taken-stored sh w cs c d k m g h cl dl i q = record { commit = x.commit; noted = x.noted; tid = x.tid; marks = λ l. taken-marks l _ (pair w c d) (none-away sh l (pair w c d) ((g c d u cl).counted n dl sent)) (x.marks l) }
+taken-stored sh w cs c d k m g h cl dl i q = record { commit = x.commit; noted = x.noted; tid = x.tid; stored = x.stored; marks = λ l. taken-marks l _ (pair w c d) (none-away sh l (pair w c d) ((g c d u cl).counted n dl sent)) (x.marks l) }
   where
     u : ℕ
     u = (w.dirs d).serving.serving
@@ -106,6 +106,7 @@ dir-stored sh gs w cs c d k ack m s sends b y a g h z cl i u p o = pairs_dir (λ
       commit = n.commit;
       noted = n.noted;
       tid = n.tid ∙ sym e;
+      stored = n.stored;
       marks = λ l. marks-same sh w c d k m s g cl dl i x e o u l ∙ n.marks l;
     }
 
@@ -120,13 +121,13 @@ asks-stored sh gs w cs d s sends a h z u o = pairs_asks (λ j e v. (t : ℕ) →
     none t l = rw (no-request t l) (omega arith)
 
     settles : d < sh.dirs → 1 ≤ s.owed → SettledCommit sh cs d s
-    settles dl x = let n = (h 0 d 0).settled dl (omega (arith, x, o)) in record { commit = n.commit; noted = n.noted; tid = n.tid ∙ sym (u.0); marks = λ l. u.1 l ∙ n.marks l }
+    settles dl x = let n = (h 0 d 0).settled dl (omega (arith, x, o)) in record { commit = n.commit; noted = n.noted; tid = n.tid ∙ sym (u.0); stored = n.stored; marks = λ l. u.1 l ∙ n.marks l }
 
 -- another pair in which the Marks, the Commits and the directory are the same
 same-stored : (sh : Shape) (cs : List Noted) (c d t : ℕ) (v w : Pair) → w.out ≡ v.out → w.dir ≡ v.dir → StoredOf sh cs c d t v → StoredOf sh cs c d t w
 unfolding marks_of wrong_marks
 same-stored sh cs c d t v w e f h = record {
-  sent = λ cl dl x. let k = h.sent cl dl (rw e at x) in record { commit = k.commit; noted = k.noted; tid = k.tid; core = k.core; marks = λ l. record { one = rw (e, f) ((k.marks l).one); right = rw (e, f) ((k.marks l).right) } };
+  sent = λ cl dl x. let k = h.sent cl dl (rw e at x) in record { commit = k.commit; noted = k.noted; tid = k.tid; core = k.core; stored = k.stored; marks = λ l. record { one = rw (e, f) ((k.marks l).one); right = rw (e, f) ((k.marks l).right) } };
   settled = λ dl x. rw f (h.settled dl (rw f at x));
 }
 

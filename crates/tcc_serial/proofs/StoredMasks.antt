@@ -10,7 +10,7 @@ use Rattle.tcc_maps.specs.Cache.{Cache, is_modified, modified_mask}
 use Rattle.tcc_maps.specs.Spilled.{Spilled, holds}
 use Rattle.tcc_maps.proofs.Numbers.{any_below-found, any_below-at}
 use Rattle.tcc_rules.specs.Commit.{is_written, written_mask}
-use Rattle.tcc_serial.specs.Stored.{stores_in, stored_mask}
+use Rattle.tcc_serial.specs.Stored.{stores_in, stored_mask, stores_at}
 use Rattle.tcc_serial.specs.Uses.{stores_word}
 use Rattle.tcc_serial.proofs.CoreMarks.{some-mask}
 
@@ -54,6 +54,21 @@ stored-line sh d ss l = go (nat_lt l (lines sh)) (d == home sh l)
     go true true = ap num (sym (mask-any (λ k. stores_word sh.base ss (word_at l k))))
     go true false = refl
     go false b = refl
+
+-- where p is of the lines with a stored word, and there is one, there is a stored word
+pub stored-some : (sh : Shape) (d : ℕ) (ss : List Stored) (p : ℕ → Bool) → ((l : ℕ) → num (nat_lt l (lines sh) && p l) ≡ num (nat_lt 0 (stored_mask sh d ss l))) → any_below p (lines sh) ≡ true → stores_at sh d ss ≡ true
+unfolding stores_at
+stored-some sh d ss p h e = any_below-at (λ l. nat_lt 0 (stored_mask sh d ss l)) (lines sh) r.0 (r.1) (one (nat_lt 0 (stored_mask sh d ss r.0)) (sym (h r.0) ∙ here))
+  where
+    r : (l : ℕ) × (l < lines sh) × (p l ≡ true)
+    r = any_below-found p (lines sh) e
+
+    here : num (nat_lt r.0 (lines sh) && p r.0) ≡ 1
+    here = let b : nat_lt r.0 (lines sh) ≡ true = (let x = r.1 in grind (arith, nat_tests)) in rw (b, r.2) refl
+
+    one : (b : Bool) → num b ≡ 1 → b ≡ true
+    one true x = refl
+    one false x = absurd (omega (arith, x))
 
 -- where just the words that the stores name are modified
 

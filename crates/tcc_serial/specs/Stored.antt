@@ -1,8 +1,8 @@
 -- What a TID that commits has marked is what its commit stored.
-use Rattle.std.specs.Prelude.{ℕ, ◌≡◌, ◌<◌, ◌≤◌, ◌==◌, ◌&&◌, List, Contains, nat_lt, if◌then◌else◌}
+use Rattle.std.specs.Prelude.{ℕ, Bool, true, ◌≡◌, ◌<◌, ◌≤◌, ◌==◌, ◌&&◌, List, Contains, nat_lt, if◌then◌else◌}
 use Rattle.tcc_base.specs.declared.access.Commit.{Commit as Noted}
 use Rattle.tcc_base.specs.declared.access.Stored.{Stored}
-use Rattle.tcc_maps.specs.Words.{num, word_at}
+use Rattle.tcc_maps.specs.Words.{num, any_below, word_at}
 use Rattle.tcc_maps.specs.Masks.{mask_of}
 use Rattle.tcc_maps.specs.Shape.{Shape, home, lines}
 use Rattle.tcc_rules.specs.State.{DirState, World}
@@ -20,24 +20,32 @@ stores_in base ss l = mask_of (λ k. stores_word base ss (word_at l k))
 unfoldable pub stored_mask : Shape → (dir : ℕ) → List Stored → (line : ℕ) → ℕ
 stored_mask sh d ss l = if nat_lt l (lines sh) && d == home sh l then stores_in sh.base ss l else 0
 
+-- there is such a line
+unfoldable pub stores_at : Shape → (dir : ℕ) → List Stored → Bool
+stores_at sh d ss = any_below (λ l. nat_lt 0 (stored_mask sh d ss l)) (lines sh)
+
 -- the Marks of a line by a TID, in flight and handled together, are one with this mask, and none where the mask has no word
 pub record MarkedWith (t l mask : ℕ) (v : Pair) : Type 0 where
   pub one : marks_of t l v ≡ num (nat_lt 0 mask)
   pub right : wrong_marks t l mask v ≡ 0
 
--- a commit by this core, among those so far: the Marks of its TID at the directory are those of the lines in which it stored
+-- a commit by this core, among those so far, that stored at the directory: the Marks of its TID there are those of the lines in
+-- which it stored
 pub record MarkedCommit (sh : Shape) (cs : List Noted) (c d t : ℕ) (v : Pair) : Type 0 where
   pub commit : Noted
   pub noted : Contains cs commit
   pub tid : commit.tid.0 ≡ t
   pub core : commit.core.0 ≡ c
+  pub stored : stores_at sh d commit.stores ≡ true
   pub marks : (l : ℕ) → MarkedWith t l (stored_mask sh d commit.stores l) v
 
--- a commit of the served TID, among those so far: the directory's marks are the words that it stored in lines at home there
+-- a commit of the served TID, among those so far, that stored at the directory: the directory's marks are the words that it stored
+-- in lines at home there
 pub record SettledCommit (sh : Shape) (cs : List Noted) (d : ℕ) (s : DirState) : Type 0 where
   pub commit : Noted
   pub noted : Contains cs commit
   pub tid : commit.tid.0 ≡ s.serving.serving
+  pub stored : stores_at sh d commit.stores ≡ true
   pub marks : (l : ℕ) → s.lines.mark l ≡ stored_mask sh d commit.stores l
 
 -- A Commit in flight is of such a commit, and while acknowledgements are owed, so is the served TID.

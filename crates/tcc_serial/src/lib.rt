@@ -113,8 +113,9 @@ pub fn masks_are_the_words_stored()
     ensures served { Always MarkedByServed }
 {}
 
-/// A TID whose Commit is in flight has marked the lines in which its commit stored, each with the words that it stored there, and
-/// no others; where a directory takes the Commit, and while it is owed acknowledgements, these are its marks.
+/// A Commit in flight to a directory is of a commit that stored there, and counts the lines in which it did; its TID has marked these
+/// lines, each with the words that were stored there, and no others; where the directory takes the Commit, and while it is owed
+/// acknowledgements, these are its marks.
 pub fn commits_mark_what_they_stored()
     ensures stored { AlwaysSince KeptStored }
     ensures each { AlwaysSince MarksOfCommits }
