@@ -22,23 +22,13 @@ use Rattle.tcc_serial.specs.Stored.{stored_mask, MarkedWith, MarkedCommit, Settl
 use Rattle.tcc_serial.specs.Tids.{opens}
 use Rattle.tcc_serial.proofs.Links.{live-sends}
 use Rattle.tcc_serial.proofs.CommitOwners.{few-of}
+use Rattle.tcc_serial.proofs.CommitSteps.{ofs-resolve}
 use Rattle.tcc_serial.proofs.CoreMarking.{Marking}
 use Rattle.tcc_serial.proofs.CoreMasks.{few-masked}
 use Rattle.tcc_serial.proofs.CommitMasks.{Storing, StoresAll}
 use Rattle.tcc_serial.proofs.DirMarks.{Marked}
 use Rattle.tcc_serial.proofs.PairCounts.{none-sent, marks-stay}
 use Rattle.tcc_serial.proofs.MasksKept.{wrong-few, wrong-falls}
-
-one-word : (t : ℕ) (m : Msg) → num (passes (Commits t) m) ≤ num (passes (Resolves t) m)
-unfolding passes
-one-word t m = grind (arith, nat_tests)
-
--- a Commit is a word on its TID
-is-word : (t : ℕ) (k : Link) → live (Commits t) k ≤ live (Resolves t) k
-unfolding live
-is-word t [] = omega arith
-is-word t (None ∷ k) = is-word t k
-is-word t (Some m ∷ k) = omega (arith, is-word t k, one-word t m)
 
 -- a further commit in the list
 
@@ -103,7 +93,7 @@ pub stored-moved : (sh : Shape) (gs : List Grant) (cs : List Noted) (c d t : ℕ
 stored-moved sh gs cs c d t v o cl y s m q free h = record { sent = λ cl dl x. sent dl x (cases_lt 0 (live (Commits t) v.out)); settled = (stored-more sh cs o.commit c d t v h).settled }
   where
     told : (l : ℕ) → d < sh.dirs → 1 ≤ live (Commits t) v.out → (0 < among (MarkOf t l) (o.sends (Dir d))) ⊎ (among (MarkOf t l) (o.sends (Dir d)) ≤ 0) → among (MarkOf t l) (o.sends (Dir d)) ≡ 0
-    told l dl x (inl z) = absurd (omega (arith, x, free dl ((y l).opened (omega (arith, z))), is-word t v.out))
+    told l dl x (inl z) = absurd (omega (arith, x, free dl ((y l).opened (omega (arith, z))), ofs-resolve t v.out))
     told l dl x (inr z) = omega (arith, z)
 
     new : d < sh.dirs → Storing sh c d t v.core o → MarkedCommit sh (and_noted o.commit cs) c d t (after_move v o d)
@@ -168,7 +158,7 @@ stored-answered sh gs cs j d t v m s ms k y less ones wrongs skip nonempty ahead
   where
     sent : j < sh.cores → d < sh.dirs → 1 ≤ live (Commits t) k → MarkedCommit sh cs j d t (after_answer (record v { out = k }) s ms)
     sent jl dl x =
-        let a : 1 ≤ live (Resolves t) k = omega (arith, x, is-word t k) in
+        let a : 1 ≤ live (Resolves t) k = omega (arith, x, ofs-resolve t k) in
         let b : Contains gs (record { tid = t; core = j }) = g.owner (omega (arith, a, less (Resolves t))) in
         let n = h.sent jl dl (omega (arith, x, less (Commits t))) in
         record {
