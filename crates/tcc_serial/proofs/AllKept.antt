@@ -62,9 +62,8 @@ run_from-all sh p (e ∷ es) gs h k = go (recorded h (step sh p h.world e)) (ste
     go None a f = tt
     go (Some g) a f = rw (sym (append_assoc gs (granted_by h.world e) (grants_from sh p es g))) (f g a)
 
-pub run-all : (sh : Shape) (p : Program) (entries : ℕ → Local) (ram : ℕ → ℕ) (es : List Event) → IfSome (run sh p (start entries ram) es) (λ r. KeptAll sh (grants_from sh p es (record { world = start entries ram; commits = [] })) r)
-unfolding run
-run-all sh p entries ram es = run_from-all sh p es [] (record { world = start entries ram; commits = [] }) (record {
+pub all-at-start : (sh : Shape) (entries : ℕ → Local) (ram : ℕ → ℕ) → KeptAll sh [] (record { world = start entries ram; commits = [] })
+all-at-start sh entries ram = record {
   kept = start-all sh entries ram;
   owners = start-owners sh entries ram;
   cores = start-cores sh entries ram;
@@ -79,7 +78,11 @@ run-all sh p entries ram es = run_from-all sh p es [] (record { world = start en
   asked = start-asked sh entries ram;
   masks = start-masks sh entries ram;
   stored = start-stored sh entries ram;
-})
+}
+
+pub run-all : (sh : Shape) (p : Program) (entries : ℕ → Local) (ram : ℕ → ℕ) (es : List Event) → IfSome (run sh p (start entries ram) es) (λ r. KeptAll sh (grants_from sh p es (record { world = start entries ram; commits = [] })) r)
+unfolding run
+run-all sh p entries ram es = run_from-all sh p es [] (record { world = start entries ram; commits = [] }) (all-at-start sh entries ram)
 
 one_probe_from : (sh : Shape) (w : World) → KeptProbing w → OneProbe sh w
 unfolding pair

@@ -103,7 +103,7 @@ ofs-resolve t [] = omega arith
 ofs-resolve t (None ∷ l) = ofs-resolve t l
 ofs-resolve t (Some m ∷ l) = omega (arith, of-resolves t m, ofs-resolve t l)
 
-commits_served : (sh : Shape) (w : World) → Kept sh w → KeptCommitting w → CommitsAreServed sh w
+pub commits_served : (sh : Shape) (w : World) → Kept sh w → KeptCommitting w → CommitsAreServed sh w
 unfolding handled share part pair
 commits_served sh w z k c d t l x o = go (cases_order (w.dirs d).serving.serving t)
   where

@@ -19,3 +19,7 @@ pub mod Probing
 pub mod Stored
 pub mod Tids
 pub mod Uses
+pub mod Ways
+pub mod Told
+pub mod WayLaws
+pub mod Worked

@@ -18,6 +18,7 @@ ghost use Rattle.tcc_serial.specs.Partly.{KeptWhole};
 ghost use Rattle.tcc_serial.specs.Probing.{OneProbe};
 ghost use Rattle.tcc_serial.specs.Stored.{KeptStored};
 ghost use Rattle.tcc_serial.specs.Laws.{Always, OneWay, OneRequest, NeverPasses, OwedInFlight, Served, CommitsOnce, HoldsLast, SparesItsCommitter, MarksAreStored};
+ghost use Rattle.tcc_serial.specs.WayLaws.{AlwaysTold, UntoldWhereOpen, UntoldIsLive, AllWaysFit, GivenUpOnce, LiveIsOpen, CommittedWhereStored, SmallerAreResolved, SmallerAreGivenUp, WorkIsReached};
 ghost use Rattle.tcc_base.specs.declared.access.Commit.{Commit};
 
 /// Instructions over two memories that agree on the words used give the same.
@@ -119,4 +120,38 @@ pub fn masks_are_the_words_stored()
 pub fn commits_mark_what_they_stored()
     ensures stored { AlwaysSince KeptStored }
     ensures each { AlwaysSince MarksOfCommits }
+{}
+
+/// Each TID was given to each directory in one way: untold exactly where it isn't granted, is on its way to its core or is open,
+/// and else skipped, aborted or committed, as the word in flight and what the directory keeps say.
+pub fn tids_are_told_apart()
+    ensures untold { AlwaysTold UntoldWhereOpen }
+    ensures fit { AlwaysTold AllWaysFit }
+{}
+
+/// Of a TID that was given up at a directory one Skip or Abort is in flight there, or the directory keeps it as skipped, or has
+/// passed it; and only one of these.
+pub fn given_up_tids_are_told_or_kept_or_passed()
+    ensures once { AlwaysTold GivenUpOnce }
+{}
+
+/// A TID that is on its way to its core, or that its core has, is untold at each directory where it may still store, and skipped at
+/// the others; and one that is untold anywhere is with a core or on its way to it.
+pub fn a_live_tid_is_open_where_it_must_be()
+    ensures untold { AlwaysTold LiveIsOpen }
+    ensures live { AlwaysTold UntoldIsLive }
+{}
+
+/// A committed TID is committed at each directory where its commit stored a word, and skipped at every other; a TID that no commit
+/// has is committed nowhere.
+pub fn a_committed_tid_is_given_up_where_it_stored_nothing()
+    ensures stored { AlwaysTold CommittedWhereStored }
+{}
+
+/// A directory where a commit loaded or stored has reached its TID, so that a smaller TID that no commit has is given up there; and
+/// where a TID is committed each smaller one is given up or settled.
+pub fn a_smaller_tid_is_given_up_where_a_larger_one_worked()
+    ensures reached { AlwaysTold WorkIsReached }
+    ensures given_up { AlwaysTold SmallerAreGivenUp }
+    ensures resolved { AlwaysTold SmallerAreResolved }
 {}
