@@ -32,7 +32,7 @@ use Rattle.tcc_serial.proofs.CoreCounts.{is-commit, is-alone, has-ready, has-sol
 use Rattle.tcc_serial.proofs.CoreMarking.{mine, told-commit}
 use Rattle.tcc_serial.proofs.CoreMarkingTakes.{unmarked}
 use Rattle.tcc_serial.proofs.CoreMasks.{own-mask, few-masked}
-use Rattle.tcc_serial.proofs.NotedStores.{StoresOf, noted-stores}
+use Rattle.tcc_serial.proofs.NotedCommits.{Notes, exec-notes}
 use Rattle.tcc_serial.proofs.StoredMasks.{stored-line, stored-some, stored-cases, modified-line, modified-stored, written-line, written-stored}
 
 -- A core notes a commit that stored at the directory, and what this stored are the masks of the Marks that it has sent, and of those that it sends with it.
@@ -207,26 +207,26 @@ storing-alone sh c d t u s r o ph cm st se h x = record {
     right l (inl e) = rw (e ∙ written-stored sh.base s.cache s.spilled s.stores l (h.words.named)) (alone-masked sh s.cache s.spilled u d t l)
     right l (inr e) = let z : num (nat_lt 0 (stored_mask sh d s.stores l)) ≡ 0 = rw e refl in omega (arith, few-masked t l (stored_mask sh d s.stores l) all, marks l, z)
 
-storing-executed : (sh : Shape) (c d t : ℕ) (s : CoreState) (o : Out) → OneCore sh s → Executed sh c s o → StoresOf s.stores o.commit → StoresAll sh c d t s o
+storing-executed : (sh : Shape) (c d t : ℕ) (s : CoreState) (o : Out) → OneCore sh s → Executed sh c s o → Notes s o → StoresAll sh c d t s o
 unfolding noted
 storing-executed sh c d t s o h (Goes_on y) n = storing-steady sh c d t s o y
 storing-executed sh c d t s o h (Overflows r ph ow cm ve di) n = storing-none sh c d t s o (rw (di d) no-commits)
 storing-executed sh c d t s o h (Asks_tid r ph ow cm ve di) n = storing-none sh c d t s o (rw (di d) no-commits)
-storing-executed sh c d t s o h (Alone u r q ph ow cm se) n = storing-alone sh c d t u s r o q cm (rw cm at n) se h
+storing-executed sh c d t s o h (Alone u r q ph ow cm se) n = let m : (r.stores ≡ s.stores) × (r.loads ≡ s.loads) × (o.core.loads ≡ []) = rw cm at n in storing-alone sh c d t u s r o q cm (m.0) se h
 
 pub storing-exec : (sh : Shape) (p : Program) (c d t : ℕ) (s : CoreState) → OneCore sh s → IfSome (core_exec sh p c s) (λ o. StoresAll sh c d t s o)
 unfolding core_exec
-storing-exec sh p c d t s h = go s.phase refl (noted-stores sh p c s)
+storing-exec sh p c d t s h = go s.phase refl (exec-notes sh p c s)
   where
-    weaken : (x : Option Out) → IfSome x (λ o. Executed sh c s o) → IfSome x (λ o. StoresOf s.stores o.commit) → IfSome x (λ o. StoresAll sh c d t s o)
+    weaken : (x : Option Out) → IfSome x (λ o. Executed sh c s o) → IfSome x (λ o. Notes s o) → IfSome x (λ o. StoresAll sh c d t s o)
     weaken None y n = tt
     weaken (Some o) y n = storing-executed sh c d t s o h y n
 
-    awaiting : (a : Option Awaited) → Acts s.phase → IfSome (unless_awaiting sh p c s a) (λ o. StoresOf s.stores o.commit) → IfSome (unless_awaiting sh p c s a) (λ o. StoresAll sh c d t s o)
+    awaiting : (a : Option Awaited) → Acts s.phase → IfSome (unless_awaiting sh p c s a) (λ o. Notes s o) → IfSome (unless_awaiting sh p c s a) (λ o. StoresAll sh c d t s o)
     awaiting (Some x) a n = tt
     awaiting None a n = weaken _ (executed sh p c s a) n
 
-    go : (q : Phase) → s.phase ≡ q → IfSome (exec_phase sh p c s q) (λ o. StoresOf s.stores o.commit) → IfSome (exec_phase sh p c s q) (λ o. StoresAll sh c d t s o)
+    go : (q : Phase) → s.phase ≡ q → IfSome (exec_phase sh p c s q) (λ o. Notes s o) → IfSome (exec_phase sh p c s q) (λ o. StoresAll sh c d t s o)
     go Running e n = awaiting s.awaited (rw e tt) n
     go (Solo u) e n = awaiting s.awaited (rw e tt) n
     go (Ready u) e n = storing-ready sh c d t u s e h

@@ -39,7 +39,6 @@ pub mod MarksKept
 pub mod CoreMasks
 pub mod MasksKept
 pub mod StoredMasks
-pub mod NotedStores
 pub mod CommitMasks
 pub mod PairStored
 pub mod StoredKept

@@ -8,10 +8,11 @@ use Rattle.tcc_maps.specs.Words.{line_of}
 use Rattle.tcc_maps.specs.Shape.{Shape, set_of}
 use Rattle.tcc_maps.specs.Cache.{free_way, all_marked}
 use Rattle.tcc_maps.specs.Spilled.{holds}
-use Rattle.tcc_rules.specs.State.{CoreState, Phase, Running, AwaitTid, DoomedTid, Probing, Ready, Overflowing, Solo, Halted}
+use Rattle.tcc_rules.specs.State.{CoreState, Awaited, Phase, Running, AwaitTid, DoomedTid, Probing, Ready, Overflowing, Solo, Halted}
 use Rattle.tcc_rules.specs.Sends.{nothing, flushed}
 use Rattle.tcc_rules.specs.Attempt.{Out, moves, finished, stepped, new_word, is_solo}
-use Rattle.tcc_rules.specs.Commit.{noted, committed_core, solo_commit}
+use Rattle.tcc_rules.specs.Commit.{noted, commit, committed_core, solo_commit}
+use Rattle.tcc_rules.specs.CoreExec.{core_exec, exec_phase, unless_awaiting}
 use Rattle.tcc_rules.specs.Execute.{ask, place, overflow, full_set, fetch, load_valid, load_spilled, load, buffered, framed, word_store, also_read, change_valid, change_spilled, partial_store, close, execute_need, execute}
 
 -- what is noted are these loads and stores
@@ -103,3 +104,21 @@ executed-notes sh p id s = go (p.need s.local)
     go Ends = closed-notes sh id s (finished p Ends 0 s) s.phase refl refl
     go (Halts k) = closed-notes sh id s (finished p (Halts k) 0 s) s.phase refl refl
     go (Traps k) = closed-notes sh id s (finished p (Traps k) 0 s) s.phase refl refl
+
+pub exec-notes : (sh : Shape) (p : Program) (id : ℕ) (s : CoreState) → IfSome (core_exec sh p id s) (Notes s)
+unfolding core_exec commit committed_core noted
+exec-notes sh p id s = go s.phase
+  where
+    awaiting : (a : Option Awaited) → IfSome (unless_awaiting sh p id s a) (Notes s)
+    awaiting (Some x) = tt
+    awaiting None = executed-notes sh p id s
+
+    go : (q : Phase) → IfSome (exec_phase sh p id s q) (Notes s)
+    go Running = awaiting s.awaited
+    go (Solo u) = awaiting s.awaited
+    go (Ready u) = (refl, refl, refl)
+    go AwaitTid = tt
+    go DoomedTid = tt
+    go (Probing u) = tt
+    go (Overflowing u) = tt
+    go Halted = tt

@@ -22,7 +22,8 @@ use Rattle.tcc_serial.specs.Owners.{Grant, times, KeptOwners}
 use Rattle.tcc_serial.specs.Pairs.{pair, share}
 use Rattle.tcc_serial.specs.Tids.{has_tid, opens, ResolvedAt, KeptTids}
 use Rattle.tcc_serial.specs.Ways.{Way, Untold, Skipped, Aborted, Committed, Ways, told_by, ways_after, sent_by, part_in, WayAt, KeptWays}
-use Rattle.tcc_serial.specs.Told.{live_way, KeptLive, stored_at, commit_way, KeptCommitted}
+use Rattle.tcc_serial.specs.Stored.{stores_at}
+use Rattle.tcc_serial.specs.Told.{live_way, KeptLive, commit_way, KeptCommitted}
 use Rattle.tcc_serial.proofs.Links.{total-le}
 use Rattle.tcc_serial.proofs.ByCore.{ByCore, Still, Moved, by_core}
 use Rattle.tcc_serial.proofs.ListedCommits.{inserted, positive-held, positive-committed}
@@ -148,7 +149,7 @@ step-live-out sh gs hs ys w cs ds x o z ow k h b z' ow' k' c d t cl dl has = go 
 -- the ways of committed TIDs
 
 told-somehow : (sh : Shape) (n : Noted) (d : ℕ) (y : Way) → y ≡ commit_way sh n d → y ≡ Untold → ⊥
-told-somehow sh n d y e i = go (stored_at sh n.stores d) (sym e ∙ i)
+told-somehow sh n d y e i = go (stores_at sh d n.stores) (sym e ∙ i)
   where
     go : (b : Bool) → (if b then Committed else Skipped) ≡ Untold → ⊥
     go true q = cc

@@ -22,10 +22,10 @@ use Rattle.tcc_serial.specs.Kept.{Kept}
 use Rattle.tcc_serial.specs.OneCore.{OneCore, KeptCores}
 use Rattle.tcc_serial.specs.Pairs.{pair}
 use Rattle.tcc_serial.specs.Probes.{Reached}
-use Rattle.tcc_serial.specs.Told.{stored_at}
+use Rattle.tcc_serial.specs.Stored.{stores_at}
 use Rattle.tcc_serial.specs.Uses.{loads_word}
 use Rattle.tcc_serial.specs.Ways.{sent_by}
-use Rattle.tcc_serial.specs.Worked.{LoadsMarked, KeptLoads, loaded_at, worked_at, KeptWorked}
+use Rattle.tcc_serial.specs.Worked.{LoadsMarked, KeptLoads, loads_at, worked_at, KeptWorked}
 use Rattle.tcc_serial.proofs.ByCore.{ByCore, Still, Moved, by_core}
 use Rattle.tcc_serial.proofs.CoreLoads.{loads-exec, loads-evict}
 use Rattle.tcc_serial.proofs.CoreLoadsTakes.{loads-grant, loads-back}
@@ -37,8 +37,8 @@ use Rattle.tcc_serial.proofs.ListedCommits.{inserted}
 use Rattle.tcc_serial.proofs.StepCases.{OfAnswer, step_cases}
 
 -- a core that loaded a word of a line has marked words at its home
-loaded-touches : (sh : Shape) (s : CoreState) (d : ℕ) → ((w : ℕ) → loads_word sh.base s.loads w ≡ true → (s.cache.read w || s.cache.modified w) ≡ true) → loaded_at sh s.loads d ≡ true → (writes_at sh s.cache d || reads_at sh s.cache d) ≡ true
-unfolding loaded_at writes_at reads_at is_modified any_word
+loaded-touches : (sh : Shape) (s : CoreState) (d : ℕ) → ((w : ℕ) → loads_word sh.base s.loads w ≡ true → (s.cache.read w || s.cache.modified w) ≡ true) → loads_at sh d s.loads ≡ true → (writes_at sh s.cache d || reads_at sh s.cache d) ≡ true
+unfolding loads_at writes_at reads_at is_modified any_word
 loaded-touches sh s d h e = line (any_below-found (λ l. d == home sh l && any_below (λ k. loads_word sh.base s.loads (word_at l k)) 8) (lines sh) e)
   where
     goal : Type 0
@@ -72,13 +72,13 @@ ready-works : (sh : Shape) (dirs : ℕ → DirState) (id u : ℕ) (s : CoreState
 unfolding commit noted
 ready-works sh dirs id u s e h k r = λ d l w. rw e at ((r d).reached l (rw e (touches d w)) ((r d).replied l (rw e refl)))
   where
-    stored : (d : ℕ) → writes_at sh s.cache d ≡ stored_at sh s.stores d
+    stored : (d : ℕ) → writes_at sh s.cache d ≡ stores_at sh d s.stores
     stored d = stored-written sh s.cache s.spilled s.stores d (rw e at (h.words))
 
-    touches : (d : ℕ) → (loaded_at sh s.loads d || stored_at sh s.stores d) ≡ true → (writes_at sh s.cache d || reads_at sh s.cache d) ≡ true
-    touches d w = go (loaded_at sh s.loads d) refl (stored_at sh s.stores d) refl w
+    touches : (d : ℕ) → (loads_at sh d s.loads || stores_at sh d s.stores) ≡ true → (writes_at sh s.cache d || reads_at sh s.cache d) ≡ true
+    touches d w = go (loads_at sh d s.loads) refl (stores_at sh d s.stores) refl w
       where
-        go : (a : Bool) → loaded_at sh s.loads d ≡ a → (b : Bool) → stored_at sh s.stores d ≡ b → (a || b) ≡ true → (writes_at sh s.cache d || reads_at sh s.cache d) ≡ true
+        go : (a : Bool) → loads_at sh d s.loads ≡ a → (b : Bool) → stores_at sh d s.stores ≡ b → (a || b) ≡ true → (writes_at sh s.cache d || reads_at sh s.cache d) ≡ true
         go true p b q w = loaded-touches sh s d (λ v x. k v (rw e refl) x) p
         go false p true q w = rw (stored d ∙ q) refl
         go false p false q w = absurd (cc)

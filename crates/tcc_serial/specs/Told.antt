@@ -1,14 +1,12 @@
 -- What the ways say of a core's TID, and of a committed one.
-use Rattle.std.specs.Prelude.{ℕ, ◌≡◌, ◌<◌, ◌≤◌, Bool, true, ◌==◌, ◌&&◌, List, Contains, if◌then◌else◌}
+use Rattle.std.specs.Prelude.{ℕ, ◌≡◌, ◌<◌, ◌≤◌, Bool, true, List, Contains, if◌then◌else◌}
 use Rattle.tcc_base.specs.declared.access.Commit.{Commit as Noted}
-use Rattle.tcc_base.specs.declared.access.Stored.{Stored}
-use Rattle.tcc_maps.specs.Words.{any_below, any_word}
 use Rattle.tcc_maps.specs.Cache.{writes_at}
-use Rattle.tcc_maps.specs.Shape.{Shape, home, lines}
+use Rattle.tcc_maps.specs.Shape.{Shape}
 use Rattle.tcc_rules.specs.State.{Phase, Probing, Ready, World}
 use Rattle.tcc_serial.specs.Owners.{times}
 use Rattle.tcc_serial.specs.Tids.{has_tid}
-use Rattle.tcc_serial.specs.Uses.{stores_word}
+use Rattle.tcc_serial.specs.Stored.{stores_at}
 use Rattle.tcc_serial.specs.Ways.{Way, Untold, Skipped, Committed, Ways}
 
 -- the way of a core's TID at a directory; written: the core has modified words there
@@ -21,13 +19,9 @@ live_way _ written = Untold
 abbrev pub KeptLive : Shape → Ways → World → Type 0
 KeptLive sh ys w = (c d t : ℕ) → c < sh.cores → d < sh.dirs → has_tid (w.cores c).phase t ≡ true → ys d t ≡ live_way (w.cores c).phase (writes_at sh (w.cores c).cache d)
 
--- the stores name a word of a line that is at home at the directory
-unfoldable pub stored_at : Shape → List Stored → (dir : ℕ) → Bool
-stored_at sh stores d = any_below (λ l. d == home sh l && any_word (stores_word sh.base stores) l) (lines sh)
-
 -- the way of a commit's TID at a directory
 abbrev pub commit_way : Shape → Noted → (dir : ℕ) → Way
-commit_way sh n d = if stored_at sh n.stores d then Committed else Skipped
+commit_way sh n d = if stores_at sh d n.stores then Committed else Skipped
 
 -- A committed TID is committed where its commit stored, and given up by a Skip at every other directory; a TID that no commit has
 -- is committed nowhere.
