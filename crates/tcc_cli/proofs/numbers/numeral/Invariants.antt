@@ -1,6 +1,6 @@
-use Rattle.std.proofs.Common.{◌≡◌, ℕ, ◌≤◌, drop, ◌↔◌}
+use Rattle.std.proofs.Common.{◌≡◌, ◌≤◌, drop, ◌↔◌}
 use Rattle.std.specs.Str.Parse.{AllDigits, digits_value_after}
-use Rattle.tcc_cli.proofs.words.numeral.Given as goal
+use Rattle.tcc_cli.proofs.numbers.numeral.Given as goal
 
 abbrev pub invariant-loop-c : goal.invariant-loop-c
 invariant-loop-c l =
