@@ -1,5 +1,5 @@
 #!/usr/bin/env bash
-# Runs the simulator from any folder: ./tcc run FILE STEPS
+# Runs the simulator from any folder: ./tcc run FORM CORES DIRS SETS WAYS STEPS IMAGE...
 #
 # The program is crates/tcc/out/tcc, which `rt` proves, compiles and links. Where it isn't there, or a source is newer, it is
 # built first. Words, file names, standard streams and exit status are the program's own.

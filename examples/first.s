@@ -1,6 +1,6 @@
 # The smallest program worth a report: one transaction stores the number 7, a second one halts the core.
 #
-#     ./tcc run examples/first.bin 100
+#     ./tcc run raw 1 1 16 2 100 examples/first.bin
 #
 # The machine begins at the first word with x10 = 0 (the core's number), x11 = 1 (the number of cores) and all other registers
 # zero. Each line below is one 32-bit word of the image; first.bin holds the six words, little-endian.

@@ -2,7 +2,8 @@
 use super::{ElfFault, read_elf};
 use std::test::Fail;
 
-/// An empty header of a type that is passed over, beside one writable and executable segment of two instructions.
+/// An empty header of a type that is passed over, beside one writable and executable segment of two instructions and eight
+/// bytes more.
 const FILE: [u8; 124] = [
     0x7f, 0x45, 0x4c, 0x46, 1, 1, 1, 0, 0, 0, 0, 0, 0, 0, 0, 0, //
     2, 0, 243, 0, 1, 0, 0, 0, 0, 0, 0, 0x80, 52, 0, 0, 0, //
@@ -11,7 +12,7 @@ const FILE: [u8; 124] = [
     3, 0, 0, 0x70, 0x74, 0, 0, 0, 0, 0, 0, 0, 0, 0, 0, 0, //
     0, 0, 0, 0, 0, 0, 0, 0, 4, 0, 0, 0, 1, 0, 0, 0, //
     1, 0, 0, 0, 0x74, 0, 0, 0, 0, 0, 0, 0x80, 0, 0, 0, 0x80, //
-    8, 0, 0, 0, 8, 0, 0, 0, 7, 0, 0, 0, 4, 0, 0, 0, //
+    8, 0, 0, 0, 16, 0, 0, 0, 7, 0, 0, 0, 4, 0, 0, 0, //
     0x93, 0x08, 0xd0, 0x05, 0x73, 0, 0, 0,
 ];
 
@@ -23,7 +24,7 @@ fn reads_the_whole_file(rt: HostRuntime) -> Result<(), Fail> {
     let segment = &image.segments.items[0];
     assert_eq!(rt;
         (segment.index, segment.addr, segment.size, segment.exec),
-        (1, 0x8000_0000, 8, true)
+        (1, 0x8000_0000, 16, true)
     );
     assert_eq!(rt; segment.bytes.items.as_slice(), &FILE[116..]);
     Ok(())

@@ -10,6 +10,6 @@ mod planning;
 mod tests;
 
 pub use finishing::finish;
-pub use laws::program_runs_the_table;
+pub use laws::{divisions_and_products, program_runs_the_table};
 pub use need::{Need, Next};
 pub use planning::plan;

@@ -1,5 +1,5 @@
 -- One instruction of the program, told by the instruction that its pc finds.
-use Rattle.std.proofs.Common.{ℕ, ◌≡◌, List, Option, Some, None, refl}
+use Rattle.std.proofs.Common.{ℕ, ◌≡◌, Option, Some, None, refl}
 use Rattle.image_load.specs.Start.{Start}
 use Rattle.rv_plain.specs.Attempts.{alone}
 use Rattle.rv_plain.specs.Buffered.{Buffered, buffered, buffered_step}

@@ -5,7 +5,7 @@ use Rattle.rv_plain.specs.Attempts.{attempt_of, outcome_of}
 use Rattle.rv_plain.specs.Buffered.{plain_view, seen}
 use Rattle.rv_plain.specs.Cores.{core_of, no_state}
 use Rattle.rv_plain.specs.Endings.{IsCoreFault}
-use Rattle.image_load.specs.Contents.{Contents, started}
+use Rattle.image_load.specs.Contents.{Contents}
 use Rattle.rv_exec.specs.Needs.{local_of}
 use Rattle.rv_plain.specs.PlainState.{PlainState, plain_of, Did, IsPlainFault}
 use Rattle.rv_plain.specs.Store.{Store, buffer_of}

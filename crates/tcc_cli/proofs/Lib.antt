@@ -1,6 +1,12 @@
+pub mod Complete
 pub mod Digits
+pub mod Loading
 pub mod Headline
-pub mod Accepted
+pub mod Pieces
+pub mod Refused
+pub mod Refusing
 pub mod Running
-pub mod Wording
+pub mod Shown
+pub mod Starting
 pub mod Taken
+pub mod Wording

@@ -1,11 +1,10 @@
 -- A run event by event.
-use Rattle.std.proofs.Common.{ℕ, zero, suc, List, ◌≡◌, ◌+◌, ◌-◌, ◌≤◌, Some, None, refl, ◌∙◌, arith, add-one, add-zero, add-suc, subst}
+use Rattle.std.proofs.Common.{ℕ, zero, suc, ◌≡◌, ◌+◌, ◌-◌, ◌≤◌, Some, None, refl, arith, add-one, add-zero, add-suc, subst}
 use Rattle.image_load.specs.Contents.{Contents, started}
 use Rattle.net_core.specs.Agreement.{start}
 use Rattle.net_core.specs.Rules.{Machine, run, step}
 use Rattle.rv_plain.specs.Machine.{program}
-use Rattle.tcc_base.specs.Settings.{Settings}
-use Rattle.tcc_cli.specs.First.{settings, start_of, run_of}
+use Rattle.tcc_cli.specs.Runs.{run_of}
 use Rattle.tcc_program.specs.Program.{Program}
 
 pub run-more : (base : ℕ) (p : Program) (k : ℕ) (from now next : Machine) → now ≡ run base p k from
@@ -29,11 +28,9 @@ run-rests base p k n from now le is stays =
     subst (λ j. now ≡ run base p j from) all (run-stays base p k (n - k) from now is stays)
 
 -- a run of the machine that a loaded memory starts
-pub run-whole : (now begun : Machine) (l : Contents) (config : Settings) (image : List ℕ) (steps : ℕ)
-    → now ≡ run l.settings.base (program (started l)) steps begun → begun ≡ start (started l) → started l ≡ start_of image
-    → l.settings ≡ config → config ≡ settings → now ≡ run_of image steps
-unfolding run_of
-run-whole now begun l config image steps runs starts same kept is =
-    let one = subst (λ m. now ≡ run l.settings.base (program (started l)) steps m) starts runs in
-    let two = subst (λ s. now ≡ run l.settings.base (program s) steps (start s)) same one in
-    subst (λ s. now ≡ run s.base (program (start_of image)) steps (start (start_of image))) (kept ∙ is) two
+pub run-whole : (now begun : Machine) (l loaded : Contents) (steps : ℕ) → now ≡ run l.settings.base (program (started l)) steps begun
+    → begun ≡ start (started loaded) → l ≡ loaded → now ≡ run_of (started loaded) steps
+unfolding run_of started
+run-whole now begun l loaded steps runs starts same =
+    subst (λ k. now ≡ run k.settings.base (program (started k)) steps (start (started loaded))) same
+    (subst (λ m. now ≡ run l.settings.base (program (started l)) steps m) starts runs)

@@ -5,7 +5,7 @@ use Rattle.net_core.specs.Rules.{Machine, run, step, act, or_stay, phase_of}
 use Rattle.rv_plain.specs.Machine.{program}
 use Rattle.tcc_base.specs.declared.access.CoreEnd.{CoreEnd}
 use Rattle.tcc_base.specs.declared.access.CoreEnd.TheVariants.{Run, Halt, Trap}
-use Rattle.tcc_cli.specs.First.{settings, start_of, run_of, is_halted, OpenRunsTakeAllEvents}
+use Rattle.tcc_cli.specs.Runs.{run_of, is_halted, OpenRunsTakeAllEvents}
 use Rattle.tcc_program.specs.Plain.{Outcome, Goes, Ended, Halted, Trapped}
 use Rattle.tcc_program.specs.Program.{Program}
 
@@ -34,5 +34,5 @@ run-events base p (suc k) m is =
 
 pub open_runs : OpenRunsTakeAllEvents
 unfolding run_of start
-open_runs image steps is =
-    run-events settings.base (program (start_of image)) steps (start (start_of image)) is ∙ zero-add steps
+open_runs s steps is =
+    run-events s.settings.base (program s) steps (start s) is ∙ zero-add steps

@@ -1,20 +1,97 @@
--- What the words of a command ask for.
-use Rattle.std.specs.Prelude.{ℕ, List, [], ◌∷◌, ◌≡◌, ◌≤◌}
+-- What the words of a command ask for, and why words are refused.
+use Rattle.std.specs.Prelude.{ℕ, List, ◌∷◌, ◌≡◌, ◌≤◌, length, codes, IsTrue}
+use Rattle.tcc_base.specs.Settings.{Settings}
+use Rattle.std.specs.Int.{is_power_of_two}
 use Rattle.tcc_cli.specs.Numbers.{IsNumber}
+use Rattle.tcc_cli.specs.declared.words.Form.{Form}
+use Rattle.tcc_cli.specs.declared.words.Form.TheVariants.{Raw, Elf}
+use Rattle.tcc_cli.specs.declared.words.Field.{Field}
+use Rattle.tcc_cli.specs.declared.words.Field.TheVariants.{Cores, Dirs, Sets, Ways, Steps, Images}
 
--- run this file's image for so many events
+-- run these images, all of this form, on a machine with these settings, for at most so many events
 pub record Asked : Type 0 where
-  pub file : List ℕ
+  pub form : Form
+  pub settings : Settings
   pub steps : ℕ
+  pub images : List (List ℕ)
 
--- the word "run"
-abbrev pub run_word : List ℕ
-run_word = 114 ∷ 117 ∷ 110 ∷ []
+-- one core and one directory so far, and 65,536 bytes of RAM from 0x80000000 on
+abbrev pub settings_with : (sets ways : ℕ) → Settings
+settings_with sets ways = record { cores = 1; dirs = 1; sets = sets; ways = ways; base = 2147483648; ram = 65536 }
 
--- exactly the words run FILE STEPS
-abbrev pub IsCommand : List (List ℕ) → Asked → Type 0
-IsCommand words a =
-    (text : List ℕ) × (words ≡ run_word ∷ a.file ∷ text ∷ []) × IsNumber text a.steps × (a.steps ≤ 4194304)
+-- the words with values, as they stand
+pub record Texts : Type 0 where
+  pub cores : List ℕ
+  pub dirs : List ℕ
+  pub sets : List ℕ
+  pub ways : List ℕ
+  pub steps : List ℕ
+  pub images : List (List ℕ)
 
+abbrev pub form_word : Form → List ℕ
+form_word Raw = codes "raw"
+form_word Elf = codes "elf"
+
+-- run FORM CORES DIRS SETS WAYS STEPS IMAGE.., with at least one image
+pub record Stands (words : List (List ℕ)) (form : Form) (t : Texts) : Type 0 where
+  pub words_are : words ≡ codes "run" ∷ form_word form ∷ t.cores ∷ t.dirs ∷ t.sets ∷ t.ways ∷ t.steps ∷ t.images
+  pub an_image : 1 ≤ length t.images
+
+-- a power of two from 1 to 1024; 1 to 16; at most 4,194,304; at most 16 names
+abbrev pub IsSets : ℕ → Type 0
+IsSets n = IsTrue (is_power_of_two n) × (n ≤ 1024)
+
+abbrev pub IsWays : ℕ → Type 0
+IsWays n = (1 ≤ n) × (n ≤ 16)
+
+abbrev pub IsSteps : ℕ → Type 0
+IsSteps n = n ≤ 4194304
+
+abbrev pub AreImages : List (List ℕ) → Type 0
+AreImages names = length names ≤ 16
+
+-- what stands in this field is allowed
+abbrev pub Allows : Texts → Field → Type 0
+Allows t Cores = IsNumber t.cores 1
+Allows t Dirs = IsNumber t.dirs 1
+Allows t Sets = (n : ℕ) × IsNumber t.sets n × IsSets n
+Allows t Ways = (n : ℕ) × IsNumber t.ways n × IsWays n
+Allows t Steps = (n : ℕ) × IsNumber t.steps n × IsSteps n
+Allows t Images = AreImages t.images
+
+-- what stands in the fields before this one is allowed
+abbrev pub AllowsBefore : Texts → Field → Type 0
+AllowsBefore t Cores = Unit {0}
+AllowsBefore t Dirs = Allows t Cores
+AllowsBefore t Sets = Allows t Cores × Allows t Dirs
+AllowsBefore t Ways = Allows t Cores × Allows t Dirs × Allows t Sets
+AllowsBefore t Steps = Allows t Cores × Allows t Dirs × Allows t Sets × Allows t Ways
+AllowsBefore t Images = Allows t Cores × Allows t Dirs × Allows t Sets × Allows t Ways × Allows t Steps
+
+-- the settings that stand there
+pub record HasSettings (t : Texts) (s : Settings) : Type 0 where
+  pub cores : IsNumber t.cores 1
+  pub dirs : IsNumber t.dirs 1
+  pub sets : IsNumber t.sets s.sets × IsSets s.sets
+  pub ways : IsNumber t.ways s.ways × IsWays s.ways
+  pub are : s ≡ settings_with s.sets s.ways
+
+-- the words stand for what is asked, and all of it is allowed
+pub record IsCommand (words : List (List ℕ)) (a : Asked) : Type 0 where
+  pub texts : Texts
+  pub stands : Stands words a.form texts
+  pub settings : HasSettings texts a.settings
+  pub steps : IsNumber texts.steps a.steps × IsSteps a.steps
+  pub images : (texts.images ≡ a.images) × AreImages a.images
+
+-- the words don't stand as a command's words do
 abbrev pub NoCommand : List (List ℕ) → Type 0
-NoCommand words = (a : Asked) → IsCommand words a → ⊥
+NoCommand words = (form : Form) (t : Texts) → Stands words form t → ⊥
+
+-- the first field in which something stands that isn't allowed
+pub record BreaksFirst (words : List (List ℕ)) (field : Field) : Type 0 where
+  pub form : Form
+  pub texts : Texts
+  pub stands : Stands words form texts
+  pub before : AllowsBefore texts field
+  pub breaks : Allows texts field → ⊥

@@ -1,5 +1,10 @@
 pub mod Asked
-pub mod First
+pub mod Held
+pub mod Images
+pub mod Lines
 pub mod Numbers
+pub mod Reading
+pub mod Refusals
+pub mod Runs
 pub mod Statuses
 pub mod Top

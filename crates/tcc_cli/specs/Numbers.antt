@@ -1,5 +1,5 @@
 -- Numbers as they stand on the command line: decimal digits, or 0x and hexadecimal digits in either case, at least one digit.
-use Rattle.std.specs.Prelude.{ℕ, Bool, List, length, drop, slice_index, ◌==◌, ◌&&◌, ◌≡◌, if◌then◌else◌}
+use Rattle.std.specs.Prelude.{ℕ, Bool, List, drop, slice_index, ◌==◌, ◌&&◌, ◌≡◌, if◌then◌else◌}
 use Rattle.std.specs.Str.Parse.{IsNumeral, digits_value}
 
 -- the text begins with 0x

@@ -1,95 +1,97 @@
--- What each answer of the program says: its cause, and what was written with it.
-use Rattle.std.specs.Prelude.{ℕ, Bool, true, false, List, length, take, ◌≡◌, ◌<◌, ◌⊎◌, Option, Some}
+-- What the program's answers say: how the call ended, its cause, and what was written.
+use Rattle.std.specs.Prelude.{ℕ, Bool, List, map, ◌≡◌, ◌↔◌, ◌⊎◌, Option, Some, None, Ok, Err}
+use Rattle.image_load.specs.Start.{Start}
 use Rattle.net_core.specs.Agreement.{IsSerial}
 use Rattle.rv_plain.specs.Machine.{program, plain_start}
-use Rattle.tcc_cli.specs.Asked.{Asked, IsCommand, NoCommand}
-use Rattle.tcc_cli.specs.First.{IsAccepted, settings, start_of, run_of, is_halted, text_of}
+use Rattle.tcc_cli.specs.Asked.{Asked, IsCommand}
+use Rattle.tcc_cli.specs.Images.{start_of, fault_of}
+use Rattle.tcc_cli.specs.Lines.{Written, IsTold, IsCut, IsWhole, IsSilent}
+use Rattle.tcc_cli.specs.Reading.{AreGiven, RefusedFiles}
+use Rattle.tcc_cli.specs.Refusals.{End, RefusedWords, line_of, status_of}
+use Rattle.tcc_cli.specs.Runs.{run_of, is_halted, text_of}
+use Rattle.tcc_cli.specs.declared.refusal.ImageFault.{ImageFault}
+use Rattle.tcc_cli.specs.declared.refusal.Refusal.TheVariants as why
 use Rattle.tcc_cli.specs.declared.status.Status.{Status}
-use Rattle.tcc_cli.specs.declared.status.Status.TheVariants.{Done, Stopped, Words, Image, StoreFault, SinkFault, Memory}
+use Rattle.tcc_cli.specs.declared.status.Status.TheVariants.{Done, Stopped, Words, Image, Memory}
 use Rattle.tcc_world.specs.Faults.{Rose}
-use Rattle.tcc_world.specs.Told.{Gives, appended}
 
-abbrev pub IsRefused : List ℕ → Type 0
-IsRefused image = (length image < 4) ⊎ (65536 < length image)
-
--- the report of the image's run of at most so many events
-abbrev pub the_report : List ℕ → ℕ → List ℕ
-the_report image steps = text_of (start_of image) (run_of image steps)
-
--- the whole report stands behind what the sink told before; `done` is whether a halt or a trap is committed at the end
-pub record Reported (image : List ℕ) (steps : ℕ) (before after : Option (List ℕ)) (done : Bool) : Type 0 where
-  pub ended : is_halted (run_of image steps).ended ≡ done
-  -- the headline: the printed commits are a serial execution of the plain machine, and the printed loads, registers, memory and
-  -- console are those of that execution
-  pub serial : IsSerial settings.base (program (start_of image)) (plain_start (start_of image)) (run_of image steps)
-  pub written : after ≡ appended before (the_report image steps)
-
--- a first part of the report was written, and not all of it
-abbrev pub WrotePart : (image : List ℕ) → (steps : ℕ) → (before after : Option (List ℕ)) → Type 0
-WrotePart image steps before after =
-    (n : ℕ) × (n < length (the_report image steps)) × (after ≡ appended before (take n (the_report image steps)))
-
--- the world before and after a call, as far as it tells: contents and counts of failed reads by name, the bytes of the output
--- and its count of faults
+-- the world before and after a call, as far as it tells: contents and counts of failed reads by name, and the output
 pub record Around : Type 0 where
   pub told : List ℕ → Option (List ℕ)
   pub reads_before : List ℕ → ℕ
   pub reads_after : List ℕ → ℕ
-  pub out_before : Option (List ℕ)
-  pub out_after : Option (List ℕ)
-  pub faults_before : ℕ
-  pub faults_after : ℕ
+  pub out : Written
 
--- what the answer says once this image was taken
-abbrev pub Shows : (image : List ℕ) → (steps : ℕ) → (before after : Option (List ℕ)) → (faults_before faults_after : ℕ) → Status → Type 0
-Shows image steps before after fb fa Done = Reported image steps before after true
-Shows image steps before after fb fa Stopped = Reported image steps before after false
-Shows image steps before after fb fa Words = ⊥
-Shows image steps before after fb fa Image = ⊥
-Shows image steps before after fb fa StoreFault = ⊥
-Shows image steps before after fb fa SinkFault = WrotePart image steps before after × Rose fb fa
-Shows image steps before after fb fa Memory = after ≡ before
+-- the report of the run from a start for at most so many events
+abbrev pub report_of : Start → (steps : ℕ) → List ℕ
+report_of s steps = text_of s (run_of s steps)
 
--- an image was read, with these bytes where the store tells them, and taken
-abbrev pub Took : Asked → Around → Status → Type 0
-Took a w status =
-    (image : List ℕ) × Gives (w.told a.file) image × IsAccepted image
-    × Shows image a.steps w.out_before w.out_after w.faults_before w.faults_after status
+-- the whole report was written; `done` is whether a halt or a trap is committed at the end
+pub record Reported (s : Start) (steps : ℕ) (out : Written) (done : Bool) : Type 0 where
+  pub ended : is_halted (run_of s steps).ended ≡ done
+  -- the headline: the printed commits are a serial execution of the plain machine, and the printed loads, registers, memory and
+  -- console are those of that execution
+  pub serial : IsSerial s.settings.base (program s) (plain_start s) (run_of s steps)
+  pub written : IsWhole (report_of s steps) out
 
--- what the answer says once this was asked for
-abbrev pub Answers : Asked → Around → Status → Type 0
-Answers a w Done = Took a w Done
-Answers a w Stopped = Took a w Stopped
-Answers a w Words = ⊥
-Answers a w Image = (image : List ℕ) × Gives (w.told a.file) image × IsRefused image × (w.out_after ≡ w.out_before)
-Answers a w StoreFault = Rose (w.reads_before a.file) (w.reads_after a.file) × (w.out_after ≡ w.out_before)
-Answers a w SinkFault = Took a w SinkFault
-Answers a w Memory = w.out_after ≡ w.out_before
+-- the files that are asked for were read, with these bytes where the store tells them
+pub record Read (words : List (List ℕ)) (w : Around) (a : Asked) (files : List (List ℕ)) : Type 0 where
+  pub command : IsCommand words a
+  pub given : AreGiven w.told a.images files
 
--- what the answer says of these words
-abbrev pub Caused : List (List ℕ) → Around → Status → Type 0
-Caused words w Done = (a : Asked) × IsCommand words a × Answers a w Done
-Caused words w Stopped = (a : Asked) × IsCommand words a × Answers a w Stopped
-Caused words w Words = NoCommand words × (w.out_after ≡ w.out_before)
-Caused words w Image = (a : Asked) × IsCommand words a × Answers a w Image
-Caused words w StoreFault = (a : Asked) × IsCommand words a × Answers a w StoreFault
-Caused words w SinkFault = (a : Asked) × IsCommand words a × Answers a w SinkFault
-Caused words w Memory = (a : Asked) × IsCommand words a × Answers a w Memory
+abbrev pub start_from : Asked → (files : List (List ℕ)) → Start
+start_from a files = start_of a.form a.settings files
 
--- what is left to answer where the file's bytes are told and neither count rose
-abbrev pub IsLeft : List ℕ → Status → Type 0
-IsLeft image Done = IsAccepted image
-IsLeft image Stopped = IsAccepted image
-IsLeft image Words = ⊥
-IsLeft image Image = IsRefused image
-IsLeft image StoreFault = ⊥
-IsLeft image SinkFault = ⊥
-IsLeft image Memory = Unit {0}
+-- the files were read and are images, from which the machine starts
+pub record Started (words : List (List ℕ)) (w : Around) (a : Asked) (files : List (List ℕ)) : Type 0 where
+  pub read : Read words w a files
+  pub images : fault_of a.form a.settings files ≡ None
 
--- completeness: where the words mean a command, the file's bytes are told, and neither count rose, an image is run and its
--- whole report written, a file that is none is refused, or there was want of memory
+-- the cause of each end, and what is written to the output
+abbrev pub Ends : List (List ℕ) → Around → End → Type 0
+Ends words w (Ok done) = (a : Asked) × (files : List (List ℕ)) × Started words w a files × Reported (start_from a files) a.steps w.out done
+Ends words w (Err why.Words) = RefusedWords words why.Words × IsSilent w.out
+Ends words w (Err (why.Value field)) = RefusedWords words (why.Value field) × IsSilent w.out
+Ends words w (Err (why.Image fault)) =
+    (a : Asked) × (files : List (List ℕ)) × Read words w a files × (fault_of a.form a.settings files ≡ Some fault) × IsSilent w.out
+Ends words w (Err (why.Store name)) =
+    (a : Asked) × IsCommand words a × RefusedFiles a.images w.reads_before w.reads_after (why.Store name) × IsSilent w.out
+Ends words w (Err why.Output) =
+    (a : Asked) × (files : List (List ℕ)) × Started words w a files × IsCut (report_of (start_from a files) a.steps) w.out
+Ends words w (Err why.Memory) = (a : Asked) × IsCommand words a × IsSilent w.out
+
+-- what is written to the output for errors: the line of a refusal, or nothing
+abbrev pub Notes : (err : Written) → End → Type 0
+Notes err (Ok done) = IsSilent err
+Notes err (Err refusal) = IsTold (line_of refusal) err
+
+-- the status is that of an end with its cause
+pub record Caused (words : List (List ℕ)) (w : Around) (err : Written) (status : Status) : Type 0 where
+  pub end : End
+  pub status_is : status ≡ status_of end
+  pub ends : Ends words w end
+  pub notes : Notes err end
+
+-- no file failed to be read, and the output didn't fail
+pub record HasNoFault (w : Around) : Type 0 where
+  pub reads : (name : List ℕ) → Rose (w.reads_before name) (w.reads_after name) → ⊥
+  pub out : Rose w.out.faults_before w.out.faults_after → ⊥
+
+-- what is left to answer where nothing fails: a run, or the first fault of the images
+abbrev pub IsLeft : Option ImageFault → Status → Type 0
+IsLeft None status = (status ≡ Done) ⊎ (status ≡ Stopped) ⊎ (status ≡ Memory)
+IsLeft (Some fault) status = (status ≡ Image) ⊎ (status ≡ Memory)
+
+-- completeness: where the words are a command, the files' bytes are told, and nothing fails, the images are run and the whole
+-- report written, or their fault is answered, or there was want of memory
 abbrev pub AnswersAreComplete : Type 0
 AnswersAreComplete =
-    (words : List (List ℕ)) (w : Around) (status : Status) (a : Asked) (image : List ℕ) → Caused words w status
-    → IsCommand words a → w.told a.file ≡ Some image → (Rose (w.reads_before a.file) (w.reads_after a.file) → ⊥)
-    → (Rose w.faults_before w.faults_after → ⊥) → IsLeft image status
+    (words : List (List ℕ)) (w : Around) (err : Written) (status : Status) (a : Asked) (files : List (List ℕ))
+    → Caused words w err status → IsCommand words a → map w.told a.images ≡ map (λ file. Some file) files → HasNoFault w
+    → IsLeft (fault_of a.form a.settings files) status
+
+-- the words are refused exactly where they are no command
+abbrev pub OthersAreRefused : Type 0
+OthersAreRefused =
+    (words : List (List ℕ)) (w : Around) (err : Written) (status : Status) → Caused words w err status
+    → ((a : Asked) → IsCommand words a → ⊥) ↔ (status ≡ Words)

@@ -1,17 +1,13 @@
 // What follows from the answers of the program.
-ghost use Rattle.tcc_cli.specs.First.{AcceptedAreLaid, OpenRunsTakeAllEvents};
-ghost use Rattle.tcc_cli.specs.Top.{AnswersAreComplete};
+ghost use Rattle.tcc_cli.specs.Runs.{OpenRunsTakeAllEvents};
+ghost use Rattle.tcc_cli.specs.Top.{AnswersAreComplete, OthersAreRefused};
 
-/// A law: where the words are a command, the file's bytes are told, and no count of faults rose, the program has run the image
-/// and written its whole report, or refused a file that is no image, or found no memory.
+/// A law: where the words are a command, the files' bytes are told, and no count of faults rose, the program has run the images
+/// and written its whole report, or answered their first fault, or found no memory. And the words are refused exactly where they
+/// are no command.
 pub fn answers_are_complete()
-    ensures { AnswersAreComplete }
-{}
-
-/// A law: the images that are accepted are exactly those that can be laid into RAM: of fewer than four bytes the entry isn't
-/// code, and more than 65,536 don't fit.
-pub fn accepted_are_laid()
-    ensures { AcceptedAreLaid }
+    ensures command { AnswersAreComplete }
+    ensures words { OthersAreRefused }
 {}
 
 /// A law: where no halt or trap is committed at the end, all the events that were asked for were done.

@@ -2,19 +2,18 @@
 ghost use Rattle.std.specs.Prelude.{◌≡◌, ℕ, ◌/◌, ◌≤◌, IfOk, OnOk, length};
 ghost use Rattle.std.specs.String.{string_bytes};
 ghost use Rattle.image_load.specs.Contents.{started};
-ghost use Rattle.image_load.specs.declared.fault.LoadFault.TheVariants.{Memory};
 ghost use Rattle.net_core.specs.Rules.{run};
 ghost use Rattle.net_core.specs.SystemState.{machine_of};
 ghost use Rattle.rv_plain.specs.Machine.{program};
-ghost use Rattle.tcc_cli.specs.First.{IsAccepted, settings, start_of, run_of, is_halted, text_of};
+ghost use Rattle.tcc_cli.specs.Runs.{run_of, is_halted, text_of};
 ghost use Rattle.tcc_program.specs.Ram.{flat};
 
-use image_load::{LoadFault, Loaded, load, raw};
+use image_load::Loaded;
 use net_core::{StepError, System};
 use report_text::{CoreShown, Ending, Words, report};
 use rv_plain::Code;
 use std::alloc::Global;
-use tcc_base::{Config, CoreEnd, CoreId, List, NoMemory, WordAddr};
+use tcc_base::{Config, CoreEnd, CoreId, NoMemory, WordAddr};
 use tcc_msg::Event;
 
 /// The text of a run's report, and whether a halt or a trap is committed.
@@ -94,7 +93,7 @@ fn halted(end: CoreEnd) -> bool
 /// The report of the machine as it stands.
 #[tactic(auto, unfolding(net_core::specs::SystemState::machine_of))]
 fn finish(alloc: Global, system: &System) -> Result<Finished, NoMemory>
-    requires { system.now.loaded.settings ≡ settings }
+    requires one { system.now.loaded.settings.cores ≡ 1 }
     ensures done { IfOk result (λ f. f.done ≡ is_halted (machine_of system.now).ended) }
     ensures text { IfOk result (λ f. string_bytes f.text ≡ text_of (started system.now.loaded) (machine_of system.now)) }
 {
@@ -105,9 +104,9 @@ fn finish(alloc: Global, system: &System) -> Result<Finished, NoMemory>
     }
 }
 
-#[tactic(auto, unfolding(net_core::specs::SystemState::machine_of, net_core::specs::Agreement::committed, rv_plain::specs::Attempts::attempt_of, crate::specs::First::text_of))]
+#[tactic(auto, unfolding(net_core::specs::SystemState::machine_of, rv_plain::specs::Attempts::attempt_of))]
 fn text(alloc: Global, system: &System) -> Result<String, NoMemory>
-    requires { system.now.loaded.settings ≡ settings }
+    requires one { system.now.loaded.settings.cores ≡ 1 }
     ensures { IfOk result (λ text. string_bytes text ≡ text_of (started system.now.loaded) (machine_of system.now)) }
 {
     let core = CoreShown {
@@ -128,55 +127,20 @@ fn text(alloc: Global, system: &System) -> Result<String, NoMemory>
     report(alloc, halted(system.ended()), system.events(), &ending)
 }
 
-/// What a fault is of images that are accepted.
-fn wanting(fault: LoadFault) -> NoMemory
-    requires { fault ≡ Memory }
-{
-    match fault {
-        LoadFault::Memory => NoMemory,
-        LoadFault::Outside { .. } | LoadFault::Overlap { .. } | LoadFault::Entry { .. } => {
-            unreachable!()
-        }
-    }
-}
-
-fn copy(alloc: Global, image: &[u8]) -> Result<List<u8>, NoMemory>
-    ensures { IfOk result (λ file. file ≡ image.now) }
-{
-    let items = image.to_vec(alloc).map_err(|_| NoMemory)?;
-    Ok(List { items })
-}
-
-/// A raw image as a loaded memory: it begins at RAM's base, which is its entry.
-fn lay(alloc: Global, config: &Config, image: &[u8]) -> Result<Loaded, NoMemory>
-    requires settings { config.now ≡ settings }
-    requires accepted { IsAccepted image.now }
-    ensures start { IfOk result (λ l. started l ≡ start_of image.now) }
-    ensures settings { IfOk result (λ l. l.settings ≡ config.now) }
-{
-    let file = copy(alloc, image)?;
-    match raw(alloc, config, &[file]) {
-        Err(fault) => Err(wanting(fault)),
-        Ok(images) => match load(alloc, config, &images) {
-            Err(fault) => Err(wanting(fault)),
-            Ok(loaded) => Ok(loaded),
-        },
-    }
-}
-
-/// Runs an image for at most so many events, on a machine of one core with 65,536 bytes of RAM from 0x80000000 on.
-pub fn simulate(alloc: Global, image: &[u8], steps: u32) -> Result<Finished, NoMemory>
-    requires accepted { IsAccepted image.now }
+/// Runs a loaded memory for at most so many events.
+pub fn simulate(
+    alloc: Global,
+    config: &Config,
+    loaded: &Loaded,
+    steps: u32,
+) -> Result<Finished, NoMemory>
+    requires settings { loaded.now.settings ≡ config.now }
+    requires one { config.now.cores ≡ 1 }
     requires few { steps ≤ 4194304 }
-    ensures done { IfOk result (λ f. f.done ≡ is_halted (run_of image.now steps).ended) }
-    ensures text { IfOk result (λ f. string_bytes f.text ≡ text_of (start_of image.now) (run_of image.now steps)) }
+    ensures done { IfOk result (λ f. f.done ≡ is_halted (run_of (started loaded.now) steps).ended) }
+    ensures text { IfOk result (λ f. string_bytes f.text ≡ text_of (started loaded.now) (run_of (started loaded.now) steps)) }
 {
-    let config = match Config::new(1, 1, 16, 2, 0x8000_0000, 65_536) {
-        Ok(config) => config,
-        Err(_) => return Err(NoMemory),
-    };
-    let loaded = lay(alloc, &config, image)?;
-    let mut system = System::start(alloc, &config, &loaded)?;
+    let mut system = System::start(alloc, config, loaded)?;
     run_for(&mut system, steps)?;
     finish(alloc, &system)
 }

@@ -1,78 +1,149 @@
 // What the words of a command ask for.
-ghost use Rattle.std.specs.Prelude.{◌≡◌, ℕ, ◌<◌, ◌≤◌, map, IfSome, IsNone, MatchOption, ◌⊎◌, length};
-ghost use Rattle.std.specs.Str.Parse.{IsNumeral, digits_value};
-ghost use Rattle.std.specs.Char.{digit_value};
-ghost use Rattle.tcc_cli.specs.Asked.{IsCommand, NoCommand};
-ghost use Rattle.tcc_cli.specs.Numbers.{IsNumber};
+ghost use Rattle.std.specs.Prelude.{◌≡◌, map, IfOk, IfErr, MatchOption};
+ghost use Rattle.tcc_cli.specs.Asked.{form_word, Stands, HasSettings, IsCommand, NoCommand, Allows, AllowsBefore};
+ghost use Rattle.tcc_cli.specs.Held.{texts_of, asked_of};
+ghost use Rattle.tcc_cli.specs.Refusals.{RefusedWords};
 
-/// The largest number of events that may be asked for.
-pub const MOST_STEPS: u32 = 4_194_304;
+use crate::numbers::number;
+use crate::refusal::Refusal;
+use tcc_base::{Config, Limit};
 
-/// Run this file's image for so many events.
-#[derive(Clone, Copy, Debug)]
-pub struct Command<'a> {
-    pub file: &'a str,
-    pub steps: u32,
+/// The address of RAM's first byte.
+const BASE: u64 = 0x8000_0000;
+
+/// The bytes of RAM.
+const RAM: u64 = 65_536;
+
+/// The largest number of images.
+const MOST_IMAGES: usize = 16;
+
+/// What the files are that hold the images.
+#[derive(Clone, Copy, Debug, PartialEq, Eq)]
+pub enum Form {
+    /// The words of RAM, one after the other, from the image's first address on.
+    Raw,
+    /// An executable ELF file.
+    Elf,
 }
 
-fn digit(c: u8) -> u32
-    ensures { result ≡ digit_value c }
+/// The fields of a command, in the order in which they are tested.
+#[derive(Clone, Copy, Debug, PartialEq, Eq)]
+pub enum Field {
+    /// 1, so far.
+    Cores,
+    /// 1, so far.
+    Dirs,
+    /// A power of two from 1 to 1024.
+    Sets,
+    /// 1 to 16.
+    Ways,
+    /// 0 to 4,194,304.
+    Steps,
+    /// 1 to 16 names.
+    Images,
+}
+
+/// The words of a command, as they stand.
+#[derive(Clone, Copy)]
+struct Fields<'a> {
+    form: Form,
+    cores: &'a str,
+    dirs: &'a str,
+    sets: &'a str,
+    ways: &'a str,
+    steps: &'a str,
+    images: &'a [&'a str],
+}
+
+/// Run these images on this machine for so many events.
+#[derive(Clone, Copy)]
+pub struct Command<'a> {
+    pub form: Form,
+    pub config: Config,
+    pub steps: u32,
+    pub images: &'a [&'a str],
+}
+
+fn read_form(word: &str) -> Option<Form>
+    ensures { MatchOption result ((f : Form) → word.now ≡ form_word f → ⊥) (λ f. word.now ≡ form_word f) }
 {
-    match c {
-        b'0'..=b'9' => c as u32 - 48,
-        b'A'..=b'Z' => c as u32 - 55,
-        b'a'..=b'z' => c as u32 - 87,
-        _ => 36,
+    if word == "raw" {
+        Some(Form::Raw)
+    } else if word == "elf" {
+        Some(Form::Elf)
+    } else {
+        None
     }
 }
 
-/// The number that digits write, where it is at most `MOST_STEPS`.
-fn numeral(digits: &[u8], radix: u32) -> Option<u32>
-    requires { radix ≡ 10 ⊎ radix ≡ 16 }
-    ensures { MatchOption result
-        (IsNumeral radix digits.now → 4194304 < digits_value radix digits.now)
-        (λ n. IsNumeral radix digits.now × (digits_value radix digits.now ≡ n) × (n ≤ 4194304)) }
+/// The words as a command's fields; None exactly where they don't stand as a command's words do.
+fn read_fields<'a>(words: &'a [&'a str]) -> Option<Fields<'a>>
+    ensures { MatchOption result (NoCommand (map (λ w. w.now) words.now)) (λ f. Stands (map (λ w. w.now) words.now) f.form (texts_of f)) }
 {
-    if digits.is_empty() {
+    if words.len() < 8 || words[0] != "run" {
         return None;
     }
-    let mut n: u32 = 0;
-    for c in digits {
-        let d = digit(*c);
-        if d >= radix {
-            return None;
-        }
-        n = n * radix + d;
-        if n > MOST_STEPS {
-            return None;
-        }
-    }
-    Some(n)
+    let Some(form) = read_form(words[1]) else {
+        return None;
+    };
+    Some(Fields {
+        form,
+        cores: words[2],
+        dirs: words[3],
+        sets: words[4],
+        ways: words[5],
+        steps: words[6],
+        images: &words[7..],
+    })
 }
 
-/// The number that a word is, where it is at most `MOST_STEPS`.
-fn number(text: &str) -> Option<u32>
-    ensures { MatchOption result ((n : ℕ) → n ≤ 4194304 → IsNumber text.now n → ⊥) (λ n. IsNumber text.now n × (n ≤ 4194304)) }
+/// The machine's settings, or the first field of them in which something else stands.
+fn read_config(fields: &Fields) -> Result<Config, Field>
+    ensures ok { IfOk result (HasSettings (texts_of fields.now)) }
+    ensures first { IfErr result (λ field. AllowsBefore (texts_of fields.now) field × (Allows (texts_of fields.now) field → ⊥)) }
 {
-    let bytes = text.as_bytes();
-    if bytes.len() >= 2 && bytes[0] == b'0' && bytes[1] == b'x' {
-        numeral(&bytes[2..], 16)
-    } else {
-        numeral(bytes, 10)
+    if number(fields.cores) != Some(1) {
+        return Err(Field::Cores);
+    }
+    if number(fields.dirs) != Some(1) {
+        return Err(Field::Dirs);
+    }
+    let Some(sets) = number(fields.sets) else {
+        return Err(Field::Sets);
+    };
+    let ways = number(fields.ways);
+    match Config::new(1, 1, sets as u64, ways.unwrap_or(0) as u64, BASE, RAM) {
+        Ok(config) => Ok(config),
+        Err(Limit::Sets) => Err(Field::Sets),
+        Err(Limit::Ways) => Err(Field::Ways),
+        Err(Limit::Cores | Limit::Dirs | Limit::Ram | Limit::Base) => unreachable!(),
     }
 }
 
-/// What the words ask for: exactly `run FILE STEPS`, STEPS being decimal digits or `0x` and hexadecimal digits of a number of
-/// at most 4,194,304. None exactly where they don't. Takes no memory.
-pub fn read_words<'a>(words: &[&'a str]) -> Option<Command<'a>>
-    ensures { MatchOption result (NoCommand (map (λ w. w.now) words.now))
-        (λ c. IsCommand (map (λ w. w.now) words.now) (record { file = c.file.now; steps = c.steps })) }
+/// What the words ask for: exactly `run FORM CORES DIRS SETS WAYS STEPS IMAGE..`, each field with a value that is allowed.
+/// `Words` exactly where they don't stand so, `Value` with the first field, in the order of `Field`, in which something else
+/// stands. Takes no memory.
+pub fn read_words<'a>(words: &'a [&'a str]) -> Result<Command<'a>, Refusal<'a>>
+    ensures command { IfOk result (λ c. IsCommand (map (λ w. w.now) words.now) (asked_of c)) }
+    ensures refused { IfErr result (RefusedWords (map (λ w. w.now) words.now)) }
 {
-    match words {
-        [run, file, steps] if *run == "run" => match number(steps) {
-            Some(steps) => Some(Command { file, steps }),
-            None => None,
-        },
-        _ => None,
+    let Some(fields) = read_fields(words) else {
+        return Err(Refusal::Words);
+    };
+    let config = match read_config(&fields) {
+        Ok(config) => config,
+        Err(field) => return Err(Refusal::Value(field)),
+    };
+    let Some(steps) = number(fields.steps) else {
+        return Err(Refusal::Value(Field::Steps));
+    };
+    if fields.images.len() > MOST_IMAGES {
+        return Err(Refusal::Value(Field::Images));
     }
+    Ok(Command {
+        form: fields.form,
+        config,
+        steps,
+        images: fields.images,
+    })
 }

@@ -15,6 +15,8 @@ use Rattle.tcc_serial.specs.Partly.{KeptWhole}
 use Rattle.tcc_serial.specs.Asked.{KeptAsked}
 use Rattle.tcc_serial.specs.Named.{KeptNamed}
 use Rattle.tcc_serial.specs.Marks.{KeptMarks}
+use Rattle.tcc_serial.specs.Masked.{KeptMasks}
+use Rattle.tcc_serial.specs.Stored.{KeptStored}
 use Rattle.tcc_serial.specs.OneCore.{KeptCores}
 use Rattle.tcc_serial.specs.Committing.{KeptCommitting}
 use Rattle.tcc_serial.specs.Probing.{KeptProbing, OneProbe}
@@ -33,6 +35,8 @@ use Rattle.tcc_serial.proofs.CountsKept.{step-counted, start-counted}
 use Rattle.tcc_serial.proofs.AskedKept.{step-asked, start-asked}
 use Rattle.tcc_serial.proofs.PartlyKept.{step-whole, start-whole}
 use Rattle.tcc_serial.proofs.NamedKept.{step-named, start-named}
+use Rattle.tcc_serial.proofs.MasksKept.{step-masks, start-masks}
+use Rattle.tcc_serial.proofs.StoredKept.{step-stored, start-stored}
 
 start-probing : (entries : ℕ → Local) (ram : ℕ → ℕ) → KeptProbing (start entries ram)
 unfolding start core_start pair live has_tid
@@ -43,11 +47,11 @@ unfolding start pair live
 start-spared sh entries ram c d = record { owner = λ t l. absurd (omega arith); own = λ l g. refl }
 
 pub step-all : (sh : Shape) (p : Program) (gs : List Grant) (h : History) (e : Event) → KeptAll sh gs h → IfSome (recorded h (step sh p h.world e)) (λ g. KeptAll sh (gs ++ granted_by h.world e) g)
-step-all sh p gs h e k = go (step sh p h.world e) (step-kept sh p h.world e (k.kept)) (step-owners sh p gs h.world h.commits e (k.kept.told.tids) (k.owners)) (step-cores sh p h.world e (k.cores)) (step-committing sh p h.world e (k.kept) (k.committing)) (step-probing sh p gs h.world h.commits e (k.kept) (k.owners) (k.cores) (k.probing)) (step-last sh p gs h.world h.commits e (k.kept.told.tids) (k.owners) (k.last)) (step-spared sh p gs h.world h.commits e (k.kept) (k.owners) (k.spared)) (step-marks sh p gs h.world h.commits e (k.kept) (k.owners) (k.marks)) (step-counted sh p gs h.world h.commits e (k.kept) (k.owners) (k.cores) (k.marks) (k.counted)) (step-whole sh p h.world e (k.whole)) (step-named sh p h.world e (k.kept) (k.counted) (k.named)) (step-asked sh p h.world e (k.asked))
+step-all sh p gs h e k = go (step sh p h.world e) (step-kept sh p h.world e (k.kept)) (step-owners sh p gs h.world h.commits e (k.kept.told.tids) (k.owners)) (step-cores sh p h.world e (k.cores)) (step-committing sh p h.world e (k.kept) (k.committing)) (step-probing sh p gs h.world h.commits e (k.kept) (k.owners) (k.cores) (k.probing)) (step-last sh p gs h.world h.commits e (k.kept.told.tids) (k.owners) (k.last)) (step-spared sh p gs h.world h.commits e (k.kept) (k.owners) (k.spared)) (step-marks sh p gs h.world h.commits e (k.kept) (k.owners) (k.marks)) (step-counted sh p gs h.world h.commits e (k.kept) (k.owners) (k.cores) (k.marks) (k.counted)) (step-whole sh p h.world e (k.whole)) (step-named sh p h.world e (k.kept) (k.counted) (k.named)) (step-asked sh p h.world e (k.asked)) (step-masks sh p gs h.world h.commits e (k.kept) (k.owners) (k.marks) (k.masks)) (step-stored sh p gs h.world h.commits e (k.kept) (k.owners) (k.cores) (k.marks) (k.counted) (k.masks) (k.stored))
   where
-    go : (x : Option Stepped) → IfSome x (λ o. Kept sh o.world) → IfSome x (λ o. KeptOwners sh (gs ++ granted_by h.world e) o.world (and_noted o.noted h.commits)) → IfSome x (λ o. KeptCores sh o.world) → IfSome x (λ o. KeptCommitting o.world) → IfSome x (λ o. KeptProbing o.world) → IfSome x (λ o. LastGranted (gs ++ granted_by h.world e) o.world) → IfSome x (λ o. KeptTold sh o.world → SparesCommitter sh (gs ++ granted_by h.world e) o.world) → IfSome x (λ o. KeptTold sh o.world → KeptMarks sh (gs ++ granted_by h.world e) o.world) → IfSome x (λ o. KeptTold sh o.world → KeptCounted sh o.world) → IfSome x (λ o. KeptWhole sh o.world) → IfSome x (λ o. KeptTold sh o.world → KeptNamed sh o.world) → IfSome x (λ o. KeptAsked sh o.world) → IfSome (recorded h x) (λ g. KeptAll sh (gs ++ granted_by h.world e) g)
-    go None a b c d f l q m n r y z = tt
-    go (Some o) a b c d f l q m n r y z = record { kept = a; owners = b; cores = c; committing = d; probing = f; last = l; spared = q (a.told); marks = m (a.told); counted = n (a.told); whole = r; named = y (a.told); asked = z }
+    go : (x : Option Stepped) → IfSome x (λ o. Kept sh o.world) → IfSome x (λ o. KeptOwners sh (gs ++ granted_by h.world e) o.world (and_noted o.noted h.commits)) → IfSome x (λ o. KeptCores sh o.world) → IfSome x (λ o. KeptCommitting o.world) → IfSome x (λ o. KeptProbing o.world) → IfSome x (λ o. LastGranted (gs ++ granted_by h.world e) o.world) → IfSome x (λ o. KeptTold sh o.world → SparesCommitter sh (gs ++ granted_by h.world e) o.world) → IfSome x (λ o. KeptTold sh o.world → KeptMarks sh (gs ++ granted_by h.world e) o.world) → IfSome x (λ o. KeptTold sh o.world → KeptCounted sh o.world) → IfSome x (λ o. KeptWhole sh o.world) → IfSome x (λ o. KeptTold sh o.world → KeptNamed sh o.world) → IfSome x (λ o. KeptAsked sh o.world) → IfSome x (λ o. KeptMasks sh o.world) → IfSome x (λ o. KeptTold sh o.world → KeptStored sh (and_noted o.noted h.commits) o.world) → IfSome (recorded h x) (λ g. KeptAll sh (gs ++ granted_by h.world e) g)
+    go None a b c d f l q m n r y z u v = tt
+    go (Some o) a b c d f l q m n r y z u v = record { kept = a; owners = b; cores = c; committing = d; probing = f; last = l; spared = q (a.told); marks = m (a.told); counted = n (a.told); whole = r; named = y (a.told); asked = z; masks = u; stored = v (a.told) }
 
 run_from-all : (sh : Shape) (p : Program) (es : List Event) (gs : List Grant) (h : History) → KeptAll sh gs h → IfSome (run_from sh p es h) (λ r. KeptAll sh (gs ++ grants_from sh p es h) r)
 unfolding run_from grants_from next
@@ -58,9 +62,8 @@ run_from-all sh p (e ∷ es) gs h k = go (recorded h (step sh p h.world e)) (ste
     go None a f = tt
     go (Some g) a f = rw (sym (append_assoc gs (granted_by h.world e) (grants_from sh p es g))) (f g a)
 
-pub run-all : (sh : Shape) (p : Program) (entries : ℕ → Local) (ram : ℕ → ℕ) (es : List Event) → IfSome (run sh p (start entries ram) es) (λ r. KeptAll sh (grants_from sh p es (record { world = start entries ram; commits = [] })) r)
-unfolding run
-run-all sh p entries ram es = run_from-all sh p es [] (record { world = start entries ram; commits = [] }) (record {
+pub all-at-start : (sh : Shape) (entries : ℕ → Local) (ram : ℕ → ℕ) → KeptAll sh [] (record { world = start entries ram; commits = [] })
+all-at-start sh entries ram = record {
   kept = start-all sh entries ram;
   owners = start-owners sh entries ram;
   cores = start-cores sh entries ram;
@@ -73,7 +76,13 @@ run-all sh p entries ram es = run_from-all sh p es [] (record { world = start en
   whole = start-whole sh entries ram;
   named = start-named sh entries ram;
   asked = start-asked sh entries ram;
-})
+  masks = start-masks sh entries ram;
+  stored = start-stored sh entries ram;
+}
+
+pub run-all : (sh : Shape) (p : Program) (entries : ℕ → Local) (ram : ℕ → ℕ) (es : List Event) → IfSome (run sh p (start entries ram) es) (λ r. KeptAll sh (grants_from sh p es (record { world = start entries ram; commits = [] })) r)
+unfolding run
+run-all sh p entries ram es = run_from-all sh p es [] (record { world = start entries ram; commits = [] }) (all-at-start sh entries ram)
 
 pub one_probe_from : (sh : Shape) (w : World) → KeptProbing w → OneProbe sh w
 unfolding pair

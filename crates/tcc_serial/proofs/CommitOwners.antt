@@ -32,7 +32,7 @@ of-any : (t : ℕ) (m : Msg) → num (passes (Commits t) m) ≤ num (passes AnyC
 unfolding passes
 of-any t m = grind (arith, nat_tests)
 
-few-of : (t : ℕ) (ms : List Msg) → among (Commits t) ms ≤ among AnyCommit ms
+pub few-of : (t : ℕ) (ms : List Msg) → among (Commits t) ms ≤ among AnyCommit ms
 unfolding among
 few-of t [] = omega arith
 few-of t (m ∷ ms) = omega (arith, of-any t m, few-of t ms)

@@ -96,7 +96,8 @@ of-resolves : (t : ℕ) (m : Msg) → num (passes (Commits t) m) ≤ num (passes
 unfolding passes
 of-resolves t m = grind (arith, nat_tests)
 
-ofs-resolve : (t : ℕ) (l : Link) → live (Commits t) l ≤ live (Resolves t) l
+-- a Commit is a word on its TID
+pub ofs-resolve : (t : ℕ) (l : Link) → live (Commits t) l ≤ live (Resolves t) l
 unfolding live
 ofs-resolve t [] = omega arith
 ofs-resolve t (None ∷ l) = ofs-resolve t l

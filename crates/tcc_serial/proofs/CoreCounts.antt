@@ -80,13 +80,13 @@ counts-none sh d t s o z n x = absurd (omega (arith, x, z, few-any t n (o.sends 
 counts-steady : (sh : Shape) (d t : ℕ) (s : CoreState) (o : Out) → Steady s o → CountsAll sh d t s o
 counts-steady sh d t s o y = counts-none sh d t s o (omega (arith, few-commits (o.sends (Dir d)), y.quiet d))
 
-no-commits : among AnyCommit [] ≡ 0
+pub no-commits : among AnyCommit [] ≡ 0
 unfolding among
 no-commits = refl
 
 -- a core whose directories are all ready
 
-is-commit : (sh : Shape) (c : Cache) (u d t n : ℕ) → 1 ≤ among (CommitOf t n) (commit_sends sh c u (Dir d)) → (u ≡ t) × (count_below (λ l. d == home sh l && is_modified c l) (lines sh) ≡ n)
+pub is-commit : (sh : Shape) (c : Cache) (u d t n : ℕ) → 1 ≤ among (CommitOf t n) (commit_sends sh c u (Dir d)) → (u ≡ t) × (count_below (λ l. d == home sh l && is_modified c l) (lines sh) ≡ n)
 unfolding commit_sends among passes
 is-commit sh c u d t n x = go (nat_lt d sh.dirs) (writes_at sh c d) (u == t) (count_below (λ l. d == home sh l && is_modified c l) (lines sh) == n) refl refl x
   where
@@ -97,11 +97,11 @@ is-commit sh c u d t n x = go (nat_lt d sh.dirs) (writes_at sh c d) (u == t) (co
     go true false e f p q y = absurd (omega (arith, y))
     go false b e f p q y = absurd (omega (arith, y))
 
-has-ready : (u : ℕ) (q : Phase) → q ≡ Ready u → has_tid q u ≡ true
+pub has-ready : (u : ℕ) (q : Phase) → q ≡ Ready u → has_tid q u ≡ true
 unfolding has_tid
 has-ready u q e = rw e (self u)
 
-has-solo : (u : ℕ) (q : Phase) → q ≡ Solo u → has_tid q u ≡ true
+pub has-solo : (u : ℕ) (q : Phase) → q ≡ Solo u → has_tid q u ≡ true
 unfolding has_tid
 has-solo u q e = rw e (self u)
 
@@ -117,7 +117,7 @@ counts-ready sh c d t u s ph ow n x = counts-lines sh d t n s (commit sh c u s) 
 
 -- a core alone
 
-is-alone : (sh : Shape) (c : Cache) (sp : Spilled) (u d t n : ℕ) → 1 ≤ among (CommitOf t n) (solo_sends sh c sp u (Dir d)) → (u ≡ t) × (count_below (λ l. d == home sh l && is_written c sp l) (lines sh) ≡ n) × ((l : ℕ) → among (MarkOf t l) (solo_sends sh c sp u (Dir d)) ≡ num (nat_lt l (lines sh) && (d == home sh l && is_written c sp l)))
+pub is-alone : (sh : Shape) (c : Cache) (sp : Spilled) (u d t n : ℕ) → 1 ≤ among (CommitOf t n) (solo_sends sh c sp u (Dir d)) → (u ≡ t) × (count_below (λ l. d == home sh l && is_written c sp l) (lines sh) ≡ n) × ((l : ℕ) → among (MarkOf t l) (solo_sends sh c sp u (Dir d)) ≡ num (nat_lt l (lines sh) && (d == home sh l && is_written c sp l)))
 unfolding solo_sends solo_marks solo_backs among passes
 is-alone sh c sp u d t n x = go (nat_lt d sh.dirs) (solo_writes_at sh c sp d) x
   where
@@ -209,7 +209,7 @@ counts-grant sh u d s = go s.phase
     go (Solo v) = no-commits
     go Halted = no-commits
 
-free-hurt : (sh : Shape) (l d : ℕ) (s : CoreState) (o : Out) → Invalidated sh l s o → among AnyCommit (o.sends (Dir d)) ≡ 0
+pub free-hurt : (sh : Shape) (l d : ℕ) (s : CoreState) (o : Out) → Invalidated sh l s o → among AnyCommit (o.sends (Dir d)) ≡ 0
 unfolding passes among
 free-hurt sh l d s o i = rw (i.dirs d) (omega (arith, among-append AnyCommit (i.sends (Dir d)) (to (Dir (home sh l)) (InvAck l i.kept ∷ []) (Dir d)), go i.hurt, free-to (home sh l) d (InvAck l i.kept ∷ []) refl))
   where
@@ -220,7 +220,7 @@ free-hurt sh l d s o i = rw (i.dirs d) (omega (arith, among-append AnyCommit (i.
     go (Aborted u ph ph' ow se) = rw se (free-abort sh s.cache u d)
     go (Gave_up u ph ph' ow se) = rw se (free-skip sh u d)
 
-free-replied : (sh : Shape) (e u d : ℕ) (s : CoreState) (o : Out) → Replied sh e u s o → among AnyCommit (o.sends (Dir d)) ≡ 0
+pub free-replied : (sh : Shape) (e u d : ℕ) (s : CoreState) (o : Out) → Replied sh e u s o → among AnyCommit (o.sends (Dir d)) ≡ 0
 free-replied sh e u d s o (Ignored q f) = rw q no-commits
 free-replied sh e u d s o (Probed ph ow ph' ow' ca se cm) = rw se (free-to e d (marks_for sh s.cache u e) (free-marks sh s.cache u e))
 free-replied sh e u d s o (Left_alone ph ow ph' ow' ca se cm) = rw se no-commits

@@ -99,7 +99,7 @@ marked-same sh s r d l p q h = rw (p, q) (go (has_marked s.phase) refl)
     go false e = refl
     go true e = rw (h e) refl
 
-idle : (q : Phase) → has_marked q ≡ true → Acts q → ⊥
+pub idle : (q : Phase) → has_marked q ≡ true → Acts q → ⊥
 unfolding has_marked
 idle Running e a = cc
 idle (Solo t) e a = cc

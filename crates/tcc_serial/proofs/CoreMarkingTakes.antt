@@ -42,7 +42,7 @@ unfolding has_marked
 silent-alone u q (inl e) = rw e refl
 silent-alone u q (inr e) = rw e refl
 
-unmarked : (sh : Shape) (s : CoreState) (d l : ℕ) → has_marked s.phase ≡ false → marked_by sh s d l ≡ 0
+pub unmarked : (sh : Shape) (s : CoreState) (d l : ℕ) → has_marked s.phase ≡ false → marked_by sh s d l ≡ 0
 unfolding marked_by
 unmarked sh s d l e = rw e refl
 

@@ -55,7 +55,7 @@ written_back-quiet sh c l d = go (d == home sh l) (dirty_copy c l)
     go true None = refl
     go true (Some t) = refl
 
-evicted-modified : (x y l : ℕ) (c : Cache) → c.at x y ≡ Some l → is_marked c l ≡ false → (v : ℕ) → ((evicted x y c).modified v ≡ c.modified v) × ((evicted x y c).read v ≡ c.read v)
+pub evicted-modified : (x y l : ℕ) (c : Cache) → c.at x y ≡ Some l → is_marked c l ≡ false → (v : ℕ) → ((evicted x y c).modified v ≡ c.modified v) × ((evicted x y c).read v ≡ c.read v)
 unfolding evicted evicted_line
 evicted-modified x y l c e m v = rw e (go (l == line_of v) refl)
   where

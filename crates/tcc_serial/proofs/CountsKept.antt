@@ -45,7 +45,7 @@ use Rattle.tcc_serial.proofs.MarksKept.{only-there, no-request, no-empty, taken-
 use Rattle.tcc_serial.proofs.PairCounts.{counted-moved, none-away, is-word}
 use Rattle.tcc_serial.proofs.CountSteps.{open-unowed, told-ahead, counted-answered, counted-granted}
 
-is-commit : (u n : ℕ) → num (passes (CommitOf u n) (Commit u n)) ≡ 1
+pub is-commit : (u n : ℕ) → num (passes (CommitOf u n) (Commit u n)) ≡ 1
 unfolding passes
 is-commit u n = grind (arith, nat_tests)
 

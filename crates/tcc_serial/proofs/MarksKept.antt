@@ -97,7 +97,7 @@ pub taken-back : (sh : Shape) (gs : List Grant) (w : World) (c d k t l : ℕ) �
 unfolding marks_of
 taken-back sh gs w c d k t l h = record { owner = h.owner; words = h.words; fresh = h.fresh; skipped = h.skipped; held = h.held }
 
-is_mine : (u : ℕ) → num (passes (Grants u) (TidGrant u)) ≡ 1
+pub is_mine : (u : ℕ) → num (passes (Grants u) (TidGrant u)) ≡ 1
 unfolding passes
 is_mine u = grind (arith, nat_tests)
 

@@ -65,7 +65,7 @@ steps-memory base p (suc n) a al m = then-memory base p (steps base p n a) al (s
 
 -- used words are named
 
-loads_word-append : (base : ℕ) (a b : List Load) (w : ℕ) → loads_word base (a ++ b) w ≡ (loads_word base a w || loads_word base b w)
+pub loads_word-append : (base : ℕ) (a b : List Load) (w : ℕ) → loads_word base (a ++ b) w ≡ (loads_word base a w || loads_word base b w)
 unfolding loads_word
 loads_word-append base [] b w = refl
 loads_word-append base (s ∷ a) b w = let r : loads_word base (a ++ b) w ≡ (loads_word base a w || loads_word base b w) = loads_word-append base a b w in rw r (go (word_of base s.addr == w))

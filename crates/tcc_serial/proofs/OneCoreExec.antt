@@ -138,7 +138,7 @@ done_buffered sh p need x y addr v s a h n k l q =
     done sh p need x s (buffered (word_of sh.base addr) y s) a h n refl refl refl (rw (o.1) (words-buffered sh (is_solo s.phase) s.cache (word_of sh.base addr) y s.spilled s.stores o.0 v l q (ap (word_of sh.base) (o.2)) (h.words)))
 
 -- a line with a spilled word has one
-held-word : (sp : Spilled) (l : ℕ) → holds sp l ≡ true → (v : ℕ) × (line_of v ≡ l) × (is_some (sp v) ≡ true)
+pub held-word : (sp : Spilled) (l : ℕ) → holds sp l ≡ true → (v : ℕ) × (line_of v ≡ l) × (is_some (sp v) ≡ true)
 unfolding holds any_word
 held-word sp l h = let f = any_below-found (λ k. is_some (sp (8 * l + k))) 8 h in (8 * l + f.0, omega (arith, f.1), f.2)
 

@@ -41,7 +41,7 @@ unfolding holder passes
 holder-granted v o d t c k u e h = omega (arith, h.holds t, live-takes (Grants t) v.grants k (TidGrant u) e)
 
 -- the commits after a step of core c
-times-noted : (t : ℕ) (n : Option Noted) (cs : List Noted) → times t (and_noted n cs) ≡ times t cs + noted_tid t n
+pub times-noted : (t : ℕ) (n : Option Noted) (cs : List Noted) → times t (and_noted n cs) ≡ times t cs + noted_tid t n
 times-noted t None cs = omega arith
 times-noted t (Some n) cs = times-insert t n cs
 

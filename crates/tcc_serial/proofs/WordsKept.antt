@@ -49,7 +49,7 @@ pub words-marked : (sh : Shape) (c : Cache) (w x : ℕ) (sp : Spilled) (ss : Lis
 unfolding marked
 words-marked sh c w x sp ss e k = same-words sh false c (marked w c) sp ss (marked-keeps sh w c (valid-held sh c w x (k.cache) e) (k.cache)) (λ v q. absurd (cc)) (λ v. refl) (λ v q. q) k
 
-placed-marks : (sh : Shape) (l : ℕ) (c : Cache) (v : ℕ) → ((placed sh l c).read v ≡ c.read v) × ((placed sh l c).modified v ≡ c.modified v) × ((placed sh l c).dirty v ≡ c.dirty v)
+pub placed-marks : (sh : Shape) (l : ℕ) (c : Cache) (v : ℕ) → ((placed sh l c).read v ≡ c.read v) × ((placed sh l c).modified v ≡ c.modified v) × ((placed sh l c).dirty v ≡ c.dirty v)
 unfolding placed placed_at
 placed-marks sh l c v = go (free_way sh c (set_of sh l))
   where

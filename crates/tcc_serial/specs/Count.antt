@@ -38,8 +38,10 @@ pub data Kind : Type 0 where
   Acks : Kind
   Marks : (tid : ℕ) → Kind
   MarkOf : (tid line : ℕ) → Kind  -- a Mark of this line by this TID
+  MarkMask : (tid line mask : ℕ) → Kind  -- a Mark of this line by this TID with another mask
   EmptyMarks : Kind  -- a Mark of no word
   Skips : (tid : ℕ) → Kind
+  Aborts : (tid : ℕ) → Kind
   MarksAway : (dirs dir : ℕ) → Kind  -- a Mark of a line that is at home elsewhere
   Protocol : Kind  -- all but requests for lines and their words
   Any : Kind
@@ -130,10 +132,14 @@ passes (Marks t) (Mark l m u) = u == t
 passes (Marks t) _ = false
 passes (MarkOf t l) (Mark k m u) = (u == t) && (k == l)
 passes (MarkOf t l) _ = false
+passes (MarkMask t l m) (Mark k n u) = (u == t) && ((k == l) && not (n == m))
+passes (MarkMask t l m) _ = false
 passes EmptyMarks (Mark l m u) = m == 0
 passes EmptyMarks _ = false
 passes (Skips t) (Skip u) = u == t
 passes (Skips t) _ = false
+passes (Aborts t) (Abort u) = u == t
+passes (Aborts t) _ = false
 passes (MarksAway dirs d) (Mark l m u) = not ((l % dirs) == d)
 passes (MarksAway dirs d) _ = false
 passes Protocol (LoadReq l a) = false

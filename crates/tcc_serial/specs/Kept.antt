@@ -7,6 +7,7 @@ use Rattle.tcc_serial.specs.Asked.{KeptAsked}
 use Rattle.tcc_serial.specs.Committing.{KeptCommitting}
 use Rattle.tcc_serial.specs.Counted.{KeptCounted}
 use Rattle.tcc_serial.specs.Marks.{KeptMarks}
+use Rattle.tcc_serial.specs.Masked.{KeptMasks}
 use Rattle.tcc_serial.specs.Named.{KeptNamed}
 use Rattle.tcc_serial.specs.OneCore.{KeptCores}
 use Rattle.tcc_serial.specs.Owners.{Grant, KeptOwners, LastGranted, SparesCommitter}
@@ -15,6 +16,10 @@ use Rattle.tcc_serial.specs.Tids.{KeptTids}
 use Rattle.tcc_serial.specs.Partly.{KeptWhole}
 use Rattle.tcc_serial.specs.Owed.{KeptOwed}
 use Rattle.tcc_serial.specs.Probes.{KeptProbes}
+use Rattle.tcc_serial.specs.Stored.{KeptStored}
+use Rattle.tcc_serial.specs.Told.{KeptLive, KeptCommitted}
+use Rattle.tcc_serial.specs.Ways.{Ways, KeptWays}
+use Rattle.tcc_serial.specs.Worked.{KeptLoads, KeptWorked}
 
 -- where TIDs are, and what is owed
 pub record KeptTold (sh : Shape) (w : World) : Type 0 where
@@ -39,3 +44,14 @@ pub record KeptAll (sh : Shape) (gs : List Grant) (h : History) : Type 0 where
   pub whole : KeptWhole sh h.world
   pub named : KeptNamed sh h.world
   pub asked : KeptAsked sh h.world
+  pub masks : KeptMasks sh h.world
+  pub stored : KeptStored sh h.commits h.world
+
+-- and the ways ys in which each TID was given to each directory, and where the commits worked
+pub record KeptRun (sh : Shape) (gs : List Grant) (ys : Ways) (h : History) : Type 0 where
+  pub all : KeptAll sh gs h
+  pub ways : KeptWays sh ys h.world
+  pub live : KeptLive sh ys h.world
+  pub committed : KeptCommitted sh ys h.commits
+  pub loads : KeptLoads sh h.world
+  pub worked : KeptWorked sh h.world h.commits

@@ -11,6 +11,8 @@ pub mod Invariants
 pub mod Kept
 pub mod Laws
 pub mod Marks
+pub mod Masked
+pub mod MaskLaws
 pub mod Named
 pub mod OneCore
 pub mod Owed
@@ -21,8 +23,13 @@ pub mod Probes
 pub mod Probing
 pub mod Sound
 pub mod Standing
+pub mod Stored
 pub mod Tids
 pub mod Tried
 pub mod Uses
 pub mod Values
 pub mod Wrote
+pub mod Ways
+pub mod Told
+pub mod WayLaws
+pub mod Worked

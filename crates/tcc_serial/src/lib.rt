@@ -12,9 +12,13 @@ ghost use Rattle.tcc_serial.specs.OneCore.{KeptCores};
 ghost use Rattle.tcc_serial.specs.Asked.{KeptAsked};
 ghost use Rattle.tcc_serial.specs.Counted.{KeptCounted};
 ghost use Rattle.tcc_serial.specs.Committing.{CommitsAreServed};
+ghost use Rattle.tcc_serial.specs.Masked.{KeptMasks};
+ghost use Rattle.tcc_serial.specs.MaskLaws.{AlwaysSince, MarkedByServed, MarksOfCommits};
 ghost use Rattle.tcc_serial.specs.Partly.{KeptWhole};
 ghost use Rattle.tcc_serial.specs.Probing.{OneProbe};
+ghost use Rattle.tcc_serial.specs.Stored.{KeptStored};
 ghost use Rattle.tcc_serial.specs.Laws.{Always, OneWay, OneRequest, NeverPasses, OwedInFlight, Served, CommitsOnce, HoldsLast, SparesItsCommitter, MarksAreStored};
+ghost use Rattle.tcc_serial.specs.WayLaws.{AlwaysTold, UntoldWhereOpen, UntoldIsLive, AllWaysFit, GivenUpOnce, LiveIsOpen, CommittedWhereStored, SmallerAreResolved, SmallerAreGivenUp, WorkIsReached};
 ghost use Rattle.tcc_serial.specs.Invariants.{StartHasAll, RunsCarry};
 ghost use Rattle.tcc_serial.specs.Sound.{AttemptsSound};
 ghost use Rattle.tcc_serial.specs.Tried.{TriedFill, TriedRead, TriedOwner, TriedAlone, TriedFails};
@@ -104,6 +108,55 @@ pub fn invalidations_name_marked_lines()
 /// A line whose data a directory asked for has an owner, from which they come.
 pub fn an_asked_line_has_an_owner()
     ensures asked { Always KeptAsked }
+{}
+
+/// Each Mark of a core's TID has as its mask the words of its line that the core has modified; and a marked line is one that the
+/// core of the served TID stores, with this mask.
+pub fn masks_are_the_words_stored()
+    ensures masks { Always KeptMasks }
+    ensures served { Always MarkedByServed }
+{}
+
+/// A Commit in flight to a directory is of a commit that stored there, and counts the lines in which it did; its TID has marked these
+/// lines, each with the words that were stored there, and no others; where the directory takes the Commit, and while it is owed
+/// acknowledgements, these are its marks.
+pub fn commits_mark_what_they_stored()
+    ensures stored { AlwaysSince KeptStored }
+    ensures each { AlwaysSince MarksOfCommits }
+{}
+
+/// Each TID was given to each directory in one way: untold exactly where it isn't granted, is on its way to its core or is open,
+/// and else skipped, aborted or committed, as the word in flight and what the directory keeps say.
+pub fn tids_are_told_apart()
+    ensures untold { AlwaysTold UntoldWhereOpen }
+    ensures fit { AlwaysTold AllWaysFit }
+{}
+
+/// Of a TID that was given up at a directory one Skip or Abort is in flight there, or the directory keeps it as skipped, or has
+/// passed it; and only one of these.
+pub fn given_up_tids_are_told_or_kept_or_passed()
+    ensures once { AlwaysTold GivenUpOnce }
+{}
+
+/// A TID that is on its way to its core, or that its core has, is untold at each directory where it may still store, and skipped at
+/// the others; and one that is untold anywhere is with a core or on its way to it.
+pub fn a_live_tid_is_open_where_it_must_be()
+    ensures untold { AlwaysTold LiveIsOpen }
+    ensures live { AlwaysTold UntoldIsLive }
+{}
+
+/// A committed TID is committed at each directory where its commit stored a word, and skipped at every other; a TID that no commit
+/// has is committed nowhere.
+pub fn a_committed_tid_is_given_up_where_it_stored_nothing()
+    ensures stored { AlwaysTold CommittedWhereStored }
+{}
+
+/// A directory where a commit loaded or stored has reached its TID, so that a smaller TID that no commit has is given up there; and
+/// where a TID is committed each smaller one is given up or settled.
+pub fn a_smaller_tid_is_given_up_where_a_larger_one_worked()
+    ensures reached { AlwaysTold WorkIsReached }
+    ensures given_up { AlwaysTold SmallerAreGivenUp }
+    ensures resolved { AlwaysTold SmallerAreResolved }
 {}
 
 /// The start has every invariant of the list, whatever the machine, the program, the cores' entries and the memory are.

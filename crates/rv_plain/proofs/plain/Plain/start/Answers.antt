@@ -1,4 +1,4 @@
-use Rattle.std.proofs.Common.{ℕ, ◌≡◌, ◌<◌, length, arith, slice_index_or, sym, ◌∙◌, ap, subst}
+use Rattle.std.proofs.Common.{ℕ, ◌≡◌, ◌<◌, length, arith, slice_index_or, sym, ◌∙◌, subst}
 use Rattle.image_load.specs.Contents.{started}
 use Rattle.rv_plain.proofs.Starts.{plain_of-started}
 use Rattle.rv_plain.specs.Cores.{core_of, no_state}

@@ -1,0 +1,22 @@
+use Rattle.std.proofs.Common.{rules, [], subst, sym, refl}
+use Rattle.tcc_cli.proofs.Loading.{none_given, given_next}
+use Rattle.tcc_cli.specs.Reading.{AreGiven}
+use Rattle.tcc_world.specs.Told.{Gives}
+use Rattle.tcc_cli.proofs.files.read_files.Goals as goal
+
+pub loop-name-init : goal.loop-name-init
+loop-name-init g c = record {
+  given = subst (λ items. AreGiven (g.F.Store.contents c.args.files.now) [] items) (sym c.new-read.ensures.items)
+      (none_given (g.F.Store.contents c.args.files.now));
+  contents = λ n. refl;
+  reads = λ n. search rules;
+}
+
+pub loop-name-preserved : goal.loop-name-preserved
+loop-name-preserved g c = record {
+  given = given_next (g.F.Store.contents c.args.files.now) c.args.names.now _ c.loop-name.name-index c.loop-name.read.items
+      c.push.new.self.items c.in-Ok.items.items c.loop-name-test.true c.loop-name.invariant.given
+      (subst (λ t. Gives t c.in-Ok.items.items) (c.loop-name.invariant.contents _) c.in-Ok.ensures.bytes) c.in-Ok-push.ensures.items;
+  contents = λ n. search (rules, c.loop-name.invariant.contents n, c.in-Ok.ensures.contents_stay n);
+  reads = λ n. search (rules, c.loop-name.invariant.reads n, c.in-Ok.ensures.reads n);
+}

@@ -1,0 +1,220 @@
+// Why the program refuses, and the line that it writes for it.
+ghost use Rattle.std.specs.Prelude.{◌≡◌, ◌≤◌, OnOk, OnErr};
+ghost use Rattle.std.specs.List.{flat_map};
+ghost use Rattle.tcc_cli.specs.Images.{elf_named, load_named};
+ghost use Rattle.tcc_cli.specs.Lines.{piece_text, IsTold, IsWhole, IsCut};
+ghost use Rattle.tcc_cli.specs.Refusals.{field_word, reader_word, line_of, refusal_status};
+ghost use Rattle.tcc_cli.specs.declared.refusal.Refusal.TheVariants.{Image};
+
+use crate::status::Status;
+use crate::words::Field;
+use image_elf::ElfFault;
+use image_load::LoadFault;
+use itoa::Buffer;
+use tcc_base::NoMemory;
+use tcc_world::{Sink, SinkFailed, write_all};
+
+/// Who refuses an image: the reader of ELF files, or what lays images into RAM.
+#[derive(Clone, Copy, Debug, PartialEq, Eq)]
+pub enum Reader {
+    Elf,
+    Load,
+}
+
+/// An image that is none.
+#[derive(Clone, Copy, Debug, PartialEq, Eq)]
+pub struct ImageFault {
+    /// The image's number, from 0 on.
+    pub image: u32,
+    pub by: Reader,
+    /// The fault's number, from 1 on: that of `ElfFault` or `LoadFault`.
+    pub number: u8,
+    /// The size, offset or index that the fault carries, and 0 where it carries none.
+    pub place: u64,
+}
+
+/// Why the program didn't do what it was asked for.
+#[derive(Clone, Copy, Debug)]
+pub enum Refusal<'a> {
+    /// The words don't stand as a command's words do.
+    Words,
+    /// What stands in this field isn't allowed there.
+    Value(Field),
+    /// A file is no image.
+    Image(ImageFault),
+    /// This file wasn't read.
+    Store(&'a str),
+    /// The report wasn't written whole.
+    Output,
+    /// There wasn't enough memory.
+    Memory,
+}
+
+impl<'a> From<NoMemory> for Refusal<'a> {
+    ghost use Rattle.tcc_cli.specs.declared.refusal.Refusal.TheVariants.{Memory};
+
+    ghost from_gives = { λ _ r. r ≡ Memory };
+
+    fn from(_: NoMemory) -> Refusal<'a> {
+        Refusal::Memory
+    }
+}
+
+impl<'a> Refusal<'a> {
+    fn status(&self) -> Status
+        ensures { result ≡ refusal_status self.now }
+    {
+        match self {
+            Refusal::Words | Refusal::Value(_) => Status::Words,
+            Refusal::Image(_) => Status::Image,
+            Refusal::Store(_) => Status::StoreFault,
+            Refusal::Output => Status::SinkFault,
+            Refusal::Memory => Status::Memory,
+        }
+    }
+}
+
+impl ImageFault {
+    /// The fault of the file of that number.
+    pub fn of_elf(image: u32, fault: ElfFault) -> ImageFault
+        ensures { result ≡ elf_named image fault }
+    {
+        ImageFault {
+            image,
+            by: Reader::Elf,
+            number: fault.number(),
+            place: fault.place(),
+        }
+    }
+
+    /// The fault of the image that a fault of laying names; None for want of memory.
+    pub fn of_load(fault: LoadFault) -> Option<ImageFault>
+        ensures { result ≡ load_named fault }
+    {
+        let image = fault.image()?;
+        Some(ImageFault {
+            image,
+            by: Reader::Load,
+            number: fault.number(),
+            place: fault.place() as u64,
+        })
+    }
+}
+
+/// A part of a line.
+#[derive(Clone, Copy)]
+enum Piece<'a> {
+    Text(&'a str),
+    Number(u64),
+}
+
+fn write_piece<S: Sink>(sink: &mut S, piece: &Piece) -> Result<(), SinkFailed>
+    ensures written { OnOk result (IsWhole (piece_text piece.now) (record { before = S.bytes sink.old; after = S.bytes sink.new; faults_before = S.faults sink.old; faults_after = S.faults sink.new })) }
+    ensures cut { OnErr result (IsCut (piece_text piece.now) (record { before = S.bytes sink.old; after = S.bytes sink.new; faults_before = S.faults sink.old; faults_after = S.faults sink.new })) }
+    ensures faults_stay { S.faults sink.old ≤ S.faults sink.new }
+{
+    match piece {
+        Piece::Text(text) => write_all(sink, text.as_bytes()),
+        Piece::Number(n) => write_all(sink, Buffer::new().format(*n).as_bytes()),
+    }
+}
+
+/// Writes the pieces one after the other, as far as the sink takes them. Takes no memory.
+fn write_pieces<S: Sink>(sink: &mut S, pieces: &[Piece])
+    ensures { IsTold (flat_map piece_text pieces.now) (record { before = S.bytes sink.old; after = S.bytes sink.new; faults_before = S.faults sink.old; faults_after = S.faults sink.new }) }
+{
+    for piece in pieces {
+        match write_piece(sink, piece) {
+            Ok(()) => {}
+            Err(SinkFailed) => return,
+        }
+    }
+}
+
+fn field_word(field: Field) -> &'static str
+    ensures { result.now ≡ field_word field }
+{
+    match field {
+        Field::Cores => "cores",
+        Field::Dirs => "dirs",
+        Field::Sets => "sets",
+        Field::Ways => "ways",
+        Field::Steps => "steps",
+        Field::Images => "images",
+    }
+}
+
+fn reader_word(reader: Reader) -> &'static str
+    ensures { result.now ≡ reader_word reader }
+{
+    match reader {
+        Reader::Elf => "elf",
+        Reader::Load => "load",
+    }
+}
+
+/// The line of an image's fault.
+#[tactic(auto, unfolding(crate::specs::Refusals::line_of))]
+fn write_fault<S: Sink>(sink: &mut S, fault: &ImageFault)
+    ensures { IsTold (line_of (Image fault.now)) (record { before = S.bytes sink.old; after = S.bytes sink.new; faults_before = S.faults sink.old; faults_after = S.faults sink.new }) }
+{
+    let pieces = [
+        Piece::Text("tcc: image "),
+        Piece::Number(fault.image as u64),
+        Piece::Text(" "),
+        Piece::Text(reader_word(fault.by)),
+        Piece::Text(" "),
+        Piece::Number(fault.number as u64),
+        Piece::Text(" "),
+        Piece::Number(fault.place),
+        Piece::Text("\n"),
+    ];
+    write_pieces(sink, &pieces);
+}
+
+#[tactic(auto, unfolding(crate::specs::Refusals::line_of))]
+fn write_line<S: Sink>(sink: &mut S, refusal: &Refusal)
+    ensures { IsTold (line_of refusal.now) (record { before = S.bytes sink.old; after = S.bytes sink.new; faults_before = S.faults sink.old; faults_after = S.faults sink.new }) }
+{
+    match refusal {
+        Refusal::Words => write_pieces(sink, &[Piece::Text("tcc: words\n")]),
+        Refusal::Value(field) => write_pieces(
+            sink,
+            &[
+                Piece::Text("tcc: value "),
+                Piece::Text(field_word(*field)),
+                Piece::Text("\n"),
+            ],
+        ),
+        Refusal::Image(fault) => write_fault(sink, fault),
+        Refusal::Store(name) => write_pieces(
+            sink,
+            &[
+                Piece::Text("tcc: store "),
+                Piece::Text(name),
+                Piece::Text("\n"),
+            ],
+        ),
+        Refusal::Output => write_pieces(sink, &[Piece::Text("tcc: output\n")]),
+        Refusal::Memory => write_pieces(sink, &[Piece::Text("tcc: memory\n")]),
+    }
+}
+
+/// Writes the line of a refusal to `err`, and answers its status:
+///
+/// | Refusal | Line |
+/// |---|---|
+/// | `Words`, `Value` | `tcc: words`, `tcc: value FIELD` |
+/// | `Image` | `tcc: image I elf K P` or `tcc: image I load K P`: the image's number, the fault's number and its place |
+/// | `Store` | `tcc: store NAME` |
+/// | `Output` | `tcc: output` |
+/// | `Memory` | `tcc: memory` |
+///
+/// Where `err` fails, a first part of the line was written, and the status is the same. Takes no memory.
+pub fn refuse<E: Sink>(err: &mut E, refusal: &Refusal) -> Status
+    ensures status { result ≡ refusal_status refusal.now }
+    ensures told { IsTold (line_of refusal.now) (record { before = E.bytes err.old; after = E.bytes err.new; faults_before = E.faults err.old; faults_after = E.faults err.new }) }
+{
+    write_line(err, refusal);
+    refusal.status()
+}
