@@ -2,12 +2,13 @@
 use Rattle.std.specs.Prelude.{ℕ, zero, suc, ◌+◌, ◌≡◌, ◌<◌, ◌≤◌, ◌==◌, ◌&&◌, Bool, true, false, not, List, Contains, Option, Some, None, IfSome, nat_le}
 use Rattle.std.proofs.Common.{arith, refl}
 use Rattle.std.proofs.lemmas.Bool.Decides.{nat_tests}
+use Rattle.tcc_program.specs.Program.{Local, Program}
+use Rattle.tcc_maps.specs.Nodes.{Event}
 use Rattle.tcc_maps.specs.Words.{num}
 use Rattle.tcc_maps.specs.Shape.{Shape, home}
-use Rattle.tcc_maps.specs.Cache.{Cache, IsCache, writes_at}
+use Rattle.tcc_maps.specs.Cache.{Cache, IsCache}
 use Rattle.tcc_maps.specs.Lines.{has_mark}
 use Rattle.tcc_rules.specs.State.{CoreState, Halted, World, start}
-use Rattle.tcc_rules.specs.DirDeliver.{total}
 use Rattle.tcc_rules.specs.Step.{History, run}
 use Rattle.tcc_serial.specs.Alone.{IsApart, PhaseFits}
 use Rattle.tcc_serial.specs.Count.{Grants, Marks, MarkOf, Probes, Replies, live}
@@ -16,14 +17,18 @@ use Rattle.tcc_serial.specs.Kept.{KeptAll}
 use Rattle.tcc_serial.specs.Marks.{marks_of, marked_by, has_marked, stores_line}
 use Rattle.tcc_serial.specs.OneCore.{OneCore, Empty}
 use Rattle.tcc_serial.specs.Owners.{Grant, grants_from, times, holder}
-use Rattle.tcc_serial.specs.Pairs.{pair, share, sum_of}
-use Rattle.tcc_serial.specs.Standing.{Open, MarksWait}
-use Rattle.tcc_serial.specs.Tids.{part}
+use Rattle.tcc_serial.specs.Pairs.{pair, share}
+use Rattle.tcc_serial.specs.Standing.{MarksWait}
 use Rattle.tcc_serial.proofs.AllKept.{one_probe_from}
 use Rattle.tcc_serial.proofs.MoreKept.{KeptMore, run-more}
 use Rattle.tcc_serial.proofs.Always.{passed, owed_from, served_from}
 use Rattle.tcc_serial.proofs.CommitSteps.{commits_served}
-use Rattle.tcc_serial.proofs.GivenUpKept.{opens-holds, live-stands, committed-given-up}
+use Rattle.tcc_serial.proofs.MaskLaws.{marked_by_served, marks_of_commits}
+use Rattle.tcc_serial.proofs.SmallerTids.{smaller_are_given_up, work_is_reached}
+use Rattle.tcc_serial.proofs.WayFacts.{untold_where_open, untold_is_live, all_ways_fit, given_up_once, live_is_open, committed_where_stored}
+use Rattle.tcc_serial.specs.MaskLaws.{MarkedByServed, MarksOfCommits}
+use Rattle.tcc_serial.specs.Ways.{Ways, first_ways, ways_from}
+use Rattle.tcc_serial.specs.WayLaws.{UntoldWhereOpen, UntoldIsLive, AllWaysFit, GivenUpOnce, LiveIsOpen, CommittedWhereStored, SmallerAreGivenUp, WorkIsReached}
 use Rattle.tcc_serial.proofs.Links.{total-le}
 
 -- one core
@@ -48,19 +53,6 @@ unfolding share
 live-granted sh gs h k c d t l x =
     let y : 1 ≤ holder t (pair h.world c 0) = rw (holder-same h.world c 0 d t) x in
     (k.owners.held c d t x, omega (arith, y, k.owners.once t, total-le (share (holder t) h.world 0) sh.cores c l))
-
-total-below : (f g : ℕ → ℕ) (n : ℕ) → ((j : ℕ) → j < n → f j ≤ g j) → total f n ≤ total g n
-unfolding total
-total-below f g zero h = omega arith
-total-below f g (suc n) h = omega (arith, total-below f g n (λ j l. h j (omega arith)), h n (omega arith))
-
-open-live : (sh : Shape) (gs : List Grant) (h : History) → KeptAll sh gs h → (d t : ℕ) → d < sh.dirs → t < h.world.next → Open sh h.world d t → sum_of (holder t) sh.cores h.world d ≡ 1
-unfolding share part holder pair
-open-live sh gs h k d t l x o =
-    let r = k.kept.told.tids.resolved d t l in
-    let z : num (nat_le h.world.next t) ≡ 0 = grind (arith, nat_tests) in
-    let a = total-below (share (part sh d t) h.world d) (share (holder t) h.world d) sh.cores (λ j q. omega (arith, o.untold j q, opens-holds (h.world.cores j).phase (writes_at sh (h.world.cores j).cache d) t)) in
-    omega (arith, r, z, o.ahead, a, k.owners.once t)
 
 -- Marks
 
@@ -104,9 +96,22 @@ mark-owner sh gs h k c d t x = (k.marks c d t 0).owner (omega (arith, x))
 probes-taken : (sh : Shape) (gs : List Grant) (h : History) → KeptMore sh gs h → (c d t : ℕ) → 1 ≤ live (Probes t) (pair h.world c d).out + live (Replies t) (pair h.world c d).back → Contains gs (record { tid = t; core = c }) × (live (Grants t) (pair h.world c d).grants ≡ 0)
 probes-taken sh gs h m c d t x = (m.probed c d t x, none-coming (num (nat_le (pair h.world c d).next t)) (live (Grants t) (pair h.world c d).grants) (live (Probes t) (pair h.world c d).out + live (Replies t) (pair h.world c d).back) ((m.all.probing c d t).fresh) x)
 
-pub carried : (sh : Shape) (gs : List Grant) (h : History) → KeptMore sh gs h → Carried sh gs h
+-- what is proved by itself of every run
+pub record Told (sh : Shape) (ys : Ways) (h : History) : Type 0 where
+  pub untold : UntoldWhereOpen sh ys h
+  pub is_live : UntoldIsLive sh ys h
+  pub fit : AllWaysFit sh ys h
+  pub once : GivenUpOnce sh ys h
+  pub is_open : LiveIsOpen sh ys h
+  pub committed : CommittedWhereStored sh ys h
+  pub smaller : SmallerAreGivenUp sh ys h
+  pub reached : WorkIsReached sh ys h
+  pub served : MarkedByServed sh h.world
+  pub marks : MarksOfCommits sh h.commits h.world
+
+carried : (sh : Shape) (gs : List Grant) (ys : Ways) (h : History) → KeptMore sh gs h → Told sh ys h → Carried sh gs ys h
 unfolding pair
-carried sh gs h m = let k = m.all in record {
+carried sh gs ys h m t = let k = m.all in record {
   frames_stand_in_their_sets = λ c. (k.cores c).words.cache;
   modified_and_dirty_words_are_valid_and_apart = λ c. apart sh (h.world.cores c).cache ((k.cores c).words.cache);
   tid_and_owing_fit_the_phase = m.owing;
@@ -116,15 +121,23 @@ carried sh gs h m = let k = m.all in record {
   stored_words_are_those_named = λ c x. (k.cores c).words.named x;
   spilled_line_is_clean_in_its_frame = λ c x y e s. (k.cores c).words.clean x y e s;
   granted_tids_are_those_below_next = (k.owners.numbered, k.owners.next);
-  each_tid_is_resolved_in_one_way = k.kept.told.tids.resolved;
+  each_tid_is_resolved_in_one_way = (k.kept.told.tids.resolved, t.untold, t.fit);
   commits_are_of_granted_tids = (k.owners.rising, k.owners.granted);
   one_tid_request_or_grant = k.kept.told.tids.requests;
   live_tid_is_granted_to_its_core = live-granted sh gs h k;
   live_tid_is_the_last_granted_to_its_core = k.last;
-  open_tid_is_live = open-live sh gs h k;
-  live_tid_is_open_where_it_must_be = live-stands sh gs h k;
-  committed_tid_is_given_up_where_it_stored_nothing = committed-given-up sh gs h k;
+  open_tid_is_live = t.is_live;
+  live_tid_is_open_where_it_must_be = t.is_open;
+  committed_tid_is_given_up_where_it_stored_nothing = t.committed;
   serving_never_passes_an_unresolved_tid = λ d t x l. passed sh h.world d t (k.kept.told.tids.resolved d t x) l;
+  kept_skips_are_given_up_and_ahead = λ d u l p q. (t.fit d u l p).kept q;
+  given_up_tid_is_still_to_be_told_or_kept_or_passed = t.once;
+  commit_message_is_in_flight_while_committing = λ c d u cl l p q. (t.fit d u l p).commits c cl q;
+  settled_tid_is_passed_or_owed = λ d u l p q. (t.fit d u l p).settled q;
+  owed_only_where_settled = λ d u l p e o. (t.fit d u l p).owed e o;
+  marks_sent_are_the_lines_stored = (λ c d u l cl dl q. (k.marks c d u l).held cl dl q, k.masks, k.stored);
+  commit_counts_the_lines = t.marks;
+  smaller_tid_is_given_up_where_a_larger_one_worked = (t.smaller, t.reached);
   committing_tid_is_served = commits_served sh h.world k.kept k.committing;
   owed_counts_invs_and_acks = owed_from sh h.world k.kept.told.owed;
   no_inv_to_the_core_that_committed = (k.spared, m.unacked);
@@ -133,7 +146,7 @@ carried sh gs h m = let k = m.all in record {
   replying_directory_has_reached_the_tid = λ c d. (k.kept.probes c d).replies;
   directory_that_replied_serves_the_tid = served_from sh h.world k.kept;
   skipped_tid_sent_no_mark = λ c d t l x y. (k.marks c d t l).skipped x y;
-  marked_line_was_marked_by_the_served_tid = marked-line sh gs h k;
+  marked_line_was_marked_by_the_served_tid = (marked-line sh gs h k, t.served);
   marks_go_out_with_the_reply = marks-wait sh gs h k;
   marks_sent_are_in_flight_or_handled = (mark-owner sh gs h k, k.counted);
   inv_and_ack_name_a_marked_line = k.named;
@@ -144,12 +157,25 @@ carried sh gs h m = let k = m.all in record {
   one_load_request_or_fill = m.loading;
 }
 
+told-always : (sh : Shape) (p : Program) (entries : ℕ → Local) (ram : ℕ → ℕ) (es : List Event) → IfSome (run sh p (start entries ram) es) (λ h. Told sh (ways_from sh p es first_ways (first_state entries ram)) h)
+told-always sh p entries ram es = go (run sh p (start entries ram) es) (untold_where_open sh p entries ram es) (untold_is_live sh p entries ram es) (all_ways_fit sh p entries ram es) (given_up_once sh p entries ram es) (live_is_open sh p entries ram es) (committed_where_stored sh p entries ram es) (smaller_are_given_up sh p entries ram es) (work_is_reached sh p entries ram es) (marked_by_served sh p entries ram es) (marks_of_commits sh p entries ram es)
+  where
+    ys : Ways
+    ys = ways_from sh p es first_ways (first_state entries ram)
+
+    go : (x : Option History) → IfSome x (λ h. UntoldWhereOpen sh ys h) → IfSome x (λ h. UntoldIsLive sh ys h) → IfSome x (λ h. AllWaysFit sh ys h) → IfSome x (λ h. GivenUpOnce sh ys h) → IfSome x (λ h. LiveIsOpen sh ys h) → IfSome x (λ h. CommittedWhereStored sh ys h) → IfSome x (λ h. SmallerAreGivenUp sh ys h) → IfSome x (λ h. WorkIsReached sh ys h) → IfSome x (λ h. MarkedByServed sh h.world) → IfSome x (λ h. MarksOfCommits sh h.commits h.world) → IfSome x (λ h. Told sh ys h)
+    go None a b c d f i j l m n = tt
+    go (Some h) a b c d f i j l m n = record { untold = a; is_live = b; fit = c; once = d; is_open = f; committed = i; smaller = j; reached = l; served = m; marks = n }
+
 pub runs_carry : RunsCarry
-runs_carry sh p entries ram es = go (run sh p (start entries ram) es) (run-more sh p entries ram es)
+runs_carry sh p entries ram es = go (run sh p (start entries ram) es) (run-more sh p entries ram es) (told-always sh p entries ram es)
   where
     gs : List Grant
     gs = grants_from sh p es (first_state entries ram)
 
-    go : (x : Option History) → IfSome x (λ h. KeptMore sh gs h) → IfSome x (λ h. Carried sh gs h)
-    go None k = tt
-    go (Some h) k = carried sh gs h k
+    ys : Ways
+    ys = ways_from sh p es first_ways (first_state entries ram)
+
+    go : (x : Option History) → IfSome x (λ h. KeptMore sh gs h) → IfSome x (λ h. Told sh ys h) → IfSome x (λ h. Carried sh gs ys h)
+    go None k t = tt
+    go (Some h) k t = carried sh gs ys h k t

@@ -64,7 +64,6 @@ pub mod CoreAwaits
 pub mod LoadsKept
 pub mod CoreAfter
 pub mod AfterKept
-pub mod GivenUpKept
 pub mod FromKept
 pub mod StartAll
 pub mod TriedRun

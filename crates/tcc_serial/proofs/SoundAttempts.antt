@@ -48,7 +48,7 @@ follows-in sh p s us (Solo t) h f = f
 follows-in sh p s us Halted h f = absurd (h refl)
 
 pub attempts_sound : AttemptsSound
-attempts_sound sh p entries ram gs views m h k c b l n bound runs small =
+attempts_sound sh p entries ram gs ys views m h k c b l n bound runs small =
     go (agrees-or sh ram h.world h.commits c b (views c) n (λ d i. k.viewed_word_is_current_or_doomed c d b l i (bound-at h.world c 0 d b bound)))
   where
     go : Agrees (views c) (values_for sh ram h.world h.commits c b) ⊎ Doomed sh h.world c b → SoundOrDoomed sh p ram h.world h.commits c b

@@ -1,5 +1,5 @@
 -- The start has every invariant of the list.
-use Rattle.std.specs.Prelude.{ℕ, ◌≡◌, ◌≤◌, ◌==◌, ◌&&◌, Bool, true, false, List, [], ◌∷◌, Contains, Some, None, nat_lt}
+use Rattle.std.specs.Prelude.{ℕ, ◌≡◌, ◌≤◌, ◌==◌, ◌&&◌, Bool, true, false, List, [], ◌∷◌, Contains, Some, None}
 use Rattle.std.specs.List.{flat_map}
 use Rattle.std.proofs.Common.{arith, refl, ap, ◌∙◌, inl}
 use Rattle.tcc_base.specs.declared.access.Commit.{Commit as Noted}
@@ -18,32 +18,26 @@ use Rattle.tcc_serial.specs.Alone.{ReadFits}
 use Rattle.tcc_serial.specs.Commits.{CoresSerial, SeenSerial, plain_start}
 use Rattle.tcc_serial.specs.Copies.{KeptTags, KeptAbove, KeptOwned, KeptGets, KeptSharers, copies_with, keeps_unmodified, holds_line}
 use Rattle.tcc_serial.specs.Count.{live}
-use Rattle.tcc_serial.specs.Invariants.{StartHasAll, first_state}
+use Rattle.tcc_serial.specs.Invariants.{Carried, StartHasAll, first_state}
 use Rattle.tcc_serial.specs.Marks.{marks_of}
 use Rattle.tcc_serial.specs.Pairs.{pair}
-use Rattle.tcc_serial.specs.Standing.{GivenUpIsTold, told}
+use Rattle.tcc_serial.specs.Ways.{first_ways, ways_from}
+use Rattle.tcc_serial.specs.Owners.{grants_from}
+use Rattle.tcc_rules.specs.Step.{run, run_from}
 use Rattle.tcc_serial.specs.Values.{HomeWords, CopiesAbove, UnmodifiedWords, FilledWords, ReadWords, CopiesHave, value_at, after_commits}
 use Rattle.tcc_serial.specs.Wrote.{last_of, wrote, wrote_line}
 use Rattle.tcc_serial.proofs.MoreKept.{start-more}
-use Rattle.tcc_serial.proofs.FromKept.{carried}
+use Rattle.tcc_serial.proofs.FromKept.{runs_carry}
 
 -- no core has a TID and nothing is in flight
 
 no-commit : {A : Type 0} → (n : Noted) → Contains [] n → A
 no-commit n c = absurd (omega (arith, c.1))
 
--- nothing was granted, so nothing was given up
-told-nothing : (sh : Shape) (entries : ℕ → Local) (ram : ℕ → ℕ) (d t : ℕ) → GivenUpIsTold sh (start entries ram) [] d t
-unfolding start vendor_start told pair live
-told-nothing sh entries ram d t = record { once = λ g. absurd (omega (arith, g.granted.0, g.granted.1)); only = λ c l x. absurd (omega (arith, x)) }
-
-none-skipped : (t : ℕ) → is_skipped first_serving t ≡ false
-unfolding is_skipped first_serving
-none-skipped t = go (nat_lt 1 t)
-  where
-    go : (b : Bool) → (b && false) ≡ false
-    go true = refl
-    go false = refl
+-- what is proved of every run holds where the run has no event
+start-carried : (sh : Shape) (p : Program) (entries : ℕ → Local) (ram : ℕ → ℕ) → Carried sh [] first_ways (first_state entries ram)
+unfolding run run_from grants_from ways_from
+start-carried sh p entries ram = runs_carry sh p entries ram []
 
 none-marked : (sh : Shape) (entries : ℕ → Local) (ram : ℕ → ℕ) (c d t l : ℕ) → marks_of t l (pair (start entries ram) c d) ≤ 1
 unfolding start dir_start no_lines pair live marks_of
@@ -166,17 +160,11 @@ start-cores-serial sh entries ram c l = record { local = refl; ended = refl }
 pub start_has_all : StartHasAll
 unfolding start core_start dir_start vendor_start empty_cache pair live is_skipped first_serving marks_of no_lines serial plain_start
 start_has_all sh p entries ram = record {
-  carried = carried sh [] (first_state entries ram) (start-more sh p entries ram);
+  carried = start-carried sh p entries ram;
   frames_are_of_lines_in_memory = λ c l e. absurd (cc);
   attempt_follows_from_its_view = λ c. start-follows sh p (entries c);
   read_marks_are_the_view = λ c. start-read (entries c);
-  kept_skips_are_given_up_and_ahead = λ d t a e. absurd (let y = none-skipped t in cc);
-  given_up_tid_is_still_to_be_told_or_kept_or_passed = λ d t a. told-nothing sh entries ram d t;
-  commit_message_is_in_flight_while_committing = λ c d t a b. omega arith;
-  settled_tid_is_passed_or_owed = λ n d a. no-commit n a;
-  owed_only_where_settled = λ d a b. absurd (omega (arith, b));
-  marks_sent_are_the_lines_stored = λ c d t l a b. (((start-more sh p entries ram).all.marks c d t l).held a b, λ x. absurd (omega (arith, x)));
-  commit_counts_the_lines = λ c d t k a b x. absurd (omega (arith, x));
+  commit_is_on_its_way_or_applied = λ n d a. no-commit n a;
   marks_name_different_lines = λ c d t l a b. (none-marked sh entries ram c d t l, refl, refl);
   line_tag_is_the_last_settled_writer = start-tags sh entries ram;
   copy_above_the_tag_is_of_a_commit_in_flight = start-above sh entries ram;
@@ -189,7 +177,6 @@ start_has_all sh p entries ram = record {
   filled_word_is_current_or_inv_in_flight = start-filled sh entries ram;
   read_mark_is_valid_or_passed = start-read-words sh entries ram;
   viewed_word_is_current_or_doomed = λ c d b a e f. tt;
-  smaller_tid_is_given_up_where_a_larger_one_worked = λ n t x a. no-commit n a;
   commits_are_serial = refl;
   committed_cores_are_serial = start-cores-serial sh entries ram;
   seen_words_are_serial = start-seen sh entries ram;

@@ -11,6 +11,7 @@ use Rattle.tcc_rules.specs.Step.{run}
 use Rattle.tcc_attempt.specs.Follows.{Uses, Fits, IsSmall}
 use Rattle.tcc_serial.specs.Invariants.{Invariants, first_state}
 use Rattle.tcc_serial.specs.Owners.{grants_from}
+use Rattle.tcc_serial.specs.Ways.{first_ways, ways_from}
 
 -- an access lies in a line of memory
 abbrev pub NeedInMemory : Shape → Need → Type 0
@@ -29,4 +30,4 @@ pub record Suits (sh : Shape) (p : Program) (ram : ℕ → ℕ) : Type 0 where
 -- for some views and some plain machine
 abbrev pub AllHold : Type 0
 AllHold = (sh : Shape) (p : Program) (entries : ℕ → Local) (ram : ℕ → ℕ) (es : List Event) → Suits sh p ram →
-    IfSome (run sh p (start entries ram) es) (λ h. (views : ℕ → Uses) × ((m : Plain) × Invariants sh p entries ram (grants_from sh p es (first_state entries ram)) views m h))
+    IfSome (run sh p (start entries ram) es) (λ h. (views : ℕ → Uses) × ((m : Plain) × Invariants sh p entries ram (grants_from sh p es (first_state entries ram)) (ways_from sh p es first_ways (first_state entries ram)) views m h))

@@ -1,26 +1,14 @@
 -- The order of the commits: the list of commits is what the plain machine gives for them in the order of their TIDs.
-use Rattle.std.specs.Prelude.{ℕ, ◌≡◌, ◌<◌, ◌≤◌, Bool, true, ◌||◌, List, [], map, Contains, Some}
+use Rattle.std.specs.Prelude.{ℕ, ◌≡◌, ◌<◌, List, [], map, Some}
 use Rattle.tcc_base.specs.declared.access.Commit.{Commit as Noted}
 use Rattle.tcc_base.specs.declared.access.CoreEnd.{CoreEnd}
 use Rattle.tcc_base.specs.declared.access.CoreEnd.TheVariants.{Run, Halt, Trap}
 use Rattle.tcc_program.specs.Orders.{order_of_commit}
 use Rattle.tcc_program.specs.Plain.{Plain, PlainCore, Outcome, Halted as HaltedWith, Trapped as TrappedWith, serial}
 use Rattle.tcc_program.specs.Program.{Local, Program}
-use Rattle.tcc_maps.specs.Words.{line_of}
-use Rattle.tcc_maps.specs.Shape.{Shape, home}
+use Rattle.tcc_maps.specs.Shape.{Shape}
 use Rattle.tcc_rules.specs.Seen.{seen}
 use Rattle.tcc_rules.specs.State.{CoreState, Phase, Halted, World}
-use Rattle.tcc_serial.specs.Owners.{times}
-use Rattle.tcc_serial.specs.Standing.{GivenUp}
-use Rattle.tcc_serial.specs.Uses.{loads_word, stores_word}
-
--- the commit loaded or stored the word
-unfoldable pub worked_on : (base : ℕ) → Noted → (word : ℕ) → Bool
-worked_on base n x = loads_word base n.loads x || stores_word base n.stores x
-
--- Where a larger TID has committed and t hasn't, t is given up at the home of each word on which the larger one worked.
-abbrev pub SmallerGivenUp : Shape → World → List Noted → Type 0
-SmallerGivenUp sh w cs = (n : Noted) (t x : ℕ) → Contains cs n → 1 ≤ t → t < n.tid.0 → times t cs ≡ 0 → worked_on sh.base n x ≡ true → GivenUp sh w cs (home sh (line_of x)) t
 
 -- the plain machine at its start: each core at its entry
 unfoldable pub plain_start : (ℕ → Local) → (ram : ℕ → ℕ) → Plain

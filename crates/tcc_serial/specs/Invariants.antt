@@ -1,10 +1,10 @@
 -- The whole list: all that holds of every state that a run reaches, each fact with a name. Those that are proved of every run stand in
 -- the first record, those to come in the second, each in the order in which the proofs stand on one another.
-use Rattle.std.specs.Prelude.{ℕ, ◌+◌, ◌≡◌, ◌<◌, ◌≤◌, true, false, ◌==◌, ◌&&◌, ◌||◌, List, [], length, Contains, IfSome, Some, None, is_some}
+use Rattle.std.specs.Prelude.{ℕ, ◌+◌, ◌≡◌, ◌<◌, ◌≤◌, ◌⊎◌, true, false, ◌||◌, List, [], length, Contains, IfSome, Some, None, is_some}
 use Rattle.tcc_base.specs.declared.access.Commit.{Commit as Noted}
 use Rattle.tcc_program.specs.Plain.{Plain}
 use Rattle.tcc_program.specs.Program.{Local, Program}
-use Rattle.tcc_maps.specs.Words.{num, line_of, count_below}
+use Rattle.tcc_maps.specs.Words.{num, line_of}
 use Rattle.tcc_maps.specs.Nodes.{Core, Dir, Event}
 use Rattle.tcc_maps.specs.Serving.{is_skipped}
 use Rattle.tcc_maps.specs.Shape.{Shape, home, lines}
@@ -15,27 +15,32 @@ use Rattle.tcc_rules.specs.Step.{History, run}
 use Rattle.tcc_attempt.specs.Follows.{Uses, Follows}
 use Rattle.tcc_serial.specs.Alone.{IsApart, OwingFits, PhaseFits, ReadFits}
 use Rattle.tcc_serial.specs.Asked.{KeptAsked}
-use Rattle.tcc_serial.specs.Commits.{SmallerGivenUp, plain_start, CommitsSerial, CoresSerial, SeenSerial}
+use Rattle.tcc_serial.specs.Commits.{plain_start, CommitsSerial, CoresSerial, SeenSerial}
 use Rattle.tcc_serial.specs.Committing.{CommitsAreServed}
 use Rattle.tcc_serial.specs.Copies.{KeptHomes, KeptTags, KeptLineOwners, KeptAfter, KeptLoading, KeptAbove, KeptOwned, KeptGets, KeptSharers}
-use Rattle.tcc_serial.specs.Count.{Grants, Commits, CommitOf, Acks, Marks, Skips, MarksAway, EmptyMarks, Probes, Replies, RepliesAbove, live}
+use Rattle.tcc_serial.specs.Count.{Grants, Commits, Acks, Marks, Skips, MarksAway, EmptyMarks, Probes, Replies, RepliesAbove, live}
 use Rattle.tcc_serial.specs.Counted.{KeptCounted}
 use Rattle.tcc_serial.specs.Laws.{OneWay, OneRequest, NeverPasses, OwedInFlight, Served}
 use Rattle.tcc_serial.specs.Marks.{marks_of, marked_by}
 use Rattle.tcc_serial.specs.Named.{KeptNamed}
 use Rattle.tcc_serial.specs.OneCore.{executes, Empty}
 use Rattle.tcc_serial.specs.Owners.{Grant, grants_from, IsNumbered, IsRising, AreGranted, times, holder, LastGranted, SparesCommitter}
-use Rattle.tcc_serial.specs.Pairs.{pair, sum_of}
+use Rattle.tcc_serial.specs.Pairs.{pair}
 use Rattle.tcc_serial.specs.Partly.{KeptWhole}
 use Rattle.tcc_serial.specs.Probing.{OneProbe}
-use Rattle.tcc_serial.specs.Standing.{Open, GivenUp, is_settled, is_applied, LiveStands, GivenUpIsTold, MarksWait}
+use Rattle.tcc_serial.specs.Masked.{KeptMasks}
+use Rattle.tcc_serial.specs.MaskLaws.{MarkedByServed, MarksOfCommits}
+use Rattle.tcc_serial.specs.Standing.{is_applied, MarksWait}
+use Rattle.tcc_serial.specs.Stored.{KeptStored}
+use Rattle.tcc_serial.specs.Ways.{Ways, Committed, first_ways, ways_from}
+use Rattle.tcc_serial.specs.WayLaws.{UntoldWhereOpen, UntoldIsLive, AllWaysFit, GivenUpOnce, LiveIsOpen, CommittedWhereStored, SmallerAreGivenUp, WorkIsReached, Settled, is_given_up}
 use Rattle.tcc_serial.specs.Tids.{has_tid}
 use Rattle.tcc_serial.specs.Uses.{stores_word}
 use Rattle.tcc_serial.specs.Values.{HomeWords, CopiesAbove, UnmodifiedWords, FilledWords, ReadWords, ViewedWords}
-use Rattle.tcc_serial.specs.Wrote.{stores_at, wrote_at, wrote_line}
+use Rattle.tcc_serial.specs.Wrote.{stores_at}
 
--- What is proved of every run. gs are the grants along it.
-pub record Carried (sh : Shape) (gs : List Grant) (h : History) : Type 0 where
+-- What is proved of every run. gs are the grants along it, and ys the ways in which each TID was given to each directory.
+pub record Carried (sh : Shape) (gs : List Grant) (ys : Ways) (h : History) : Type 0 where
   -- one core by itself
 
   -- A frame stands in its line's set, a line has at most one, and what is kept of a word stands in a frame.
@@ -58,8 +63,9 @@ pub record Carried (sh : Shape) (gs : List Grant) (h : History) : Type 0 where
 
   -- The granted TIDs are 1, 2, 3 and so on, up to the one before the vendor's next.
   pub granted_tids_are_those_below_next : IsNumbered 1 gs × (h.world.next ≡ length gs + 1)
-  -- At each directory each TID is exactly one of: not granted, on its way or open, given up or committing and on its way, handled.
-  pub each_tid_is_resolved_in_one_way : OneWay sh h.world
+  -- At each directory each TID is in one place: not granted, on its way or open, given up or committing and on its way, handled; and the
+  -- place fits the way in which its core has told it.
+  pub each_tid_is_resolved_in_one_way : OneWay sh h.world × UntoldWhereOpen sh ys h × AllWaysFit sh ys h
   -- The TIDs of the commits rise strictly, and each was granted to the core that committed.
   pub commits_are_of_granted_tids : IsRising 0 h.commits × AreGranted gs h.commits
   -- Exactly one request or grant is in flight for a core that waits for a TID, and none for another.
@@ -68,18 +74,29 @@ pub record Carried (sh : Shape) (gs : List Grant) (h : History) : Type 0 where
   pub live_tid_is_granted_to_its_core : (c d t : ℕ) → c < sh.cores → 1 ≤ holder t (pair h.world c d) → Contains gs (record { tid = t; core = c }) × (times t h.commits ≡ 0)
   -- It is the last that was granted to this core.
   pub live_tid_is_the_last_granted_to_its_core : LastGranted gs h.world
-  -- It is open on its way, in an overflow, alone, and where the core writes; at every other directory it is given up.
-  pub live_tid_is_open_where_it_must_be : (c d t : ℕ) → c < sh.cores → d < sh.dirs → LiveStands sh h.world h.commits d t (pair h.world c d)
-  -- A TID that is open somewhere is with one core, or on its way to one.
-  pub open_tid_is_live : (d t : ℕ) → d < sh.dirs → t < h.world.next → Open sh h.world d t → sum_of (holder t) sh.cores h.world d ≡ 1
-  -- A committed TID is given up where its commit stored nothing.
-  pub committed_tid_is_given_up_where_it_stored_nothing : (n : Noted) (d : ℕ) → Contains h.commits n → d < sh.dirs → stores_at sh n.stores d ≡ false → GivenUp sh h.world h.commits d n.tid.0
+  -- A TID on its way, in an overflow or alone is untold everywhere; one that waits for replies or may commit is untold where its core
+  -- writes, and skipped at every other directory.
+  pub live_tid_is_open_where_it_must_be : LiveIsOpen sh ys h
+  -- A TID that is untold somewhere is with a core, or on its way to one.
+  pub open_tid_is_live : UntoldIsLive sh ys h
+  -- A committed TID is committed where its commit stored, and skipped at every other directory; no other TID is committed anywhere.
+  pub committed_tid_is_given_up_where_it_stored_nothing : CommittedWhereStored sh ys h
   -- serving
 
   -- Serving never passes a TID that wasn't granted, that is open or that is committing.
   pub serving_never_passes_an_unresolved_tid : NeverPasses sh h.world
+  -- A TID that a directory keeps as skipped was given up, and is above the served one.
+  pub kept_skips_are_given_up_and_ahead : (d t : ℕ) → d < sh.dirs → 1 ≤ t → is_skipped (h.world.dirs d).serving t ≡ true → (is_given_up (ys d t) ≡ true) × ((h.world.dirs d).serving.serving < t)
+  -- Of a TID that was given up one Skip or Abort is in flight, or it is kept as skipped, or it is passed, and only one of these.
+  pub given_up_tid_is_still_to_be_told_or_kept_or_passed : GivenUpOnce sh ys h
+  -- A Commit in flight is of a TID that its core has told by a Commit.
+  pub commit_message_is_in_flight_while_committing : (c d t : ℕ) → c < sh.cores → d < sh.dirs → 1 ≤ t → 1 ≤ live (Commits t) (h.world.net (Core c) (Dir d)) → ys d t ≡ Committed
   -- A TID whose Commit is in flight to a directory is the one that this directory serves.
   pub committing_tid_is_served : CommitsAreServed sh h.world
+  -- A settled TID is passed, or served while acknowledgements are owed.
+  pub settled_tid_is_passed_or_owed : (d t : ℕ) → d < sh.dirs → 1 ≤ t → Settled sh ys h.world d t → (t < (h.world.dirs d).serving.serving) ⊎ (((h.world.dirs d).serving.serving ≡ t) × (1 ≤ (h.world.dirs d).owed))
+  -- Acknowledgements are owed only where the served TID is settled.
+  pub owed_only_where_settled : (d t : ℕ) → d < sh.dirs → 1 ≤ t → (h.world.dirs d).serving.serving ≡ t → 1 ≤ (h.world.dirs d).owed → Settled sh ys h.world d t
   -- As many are owed as invalidations and acknowledgements are in flight, and the invalidations carry the served TID.
   pub owed_counts_invs_and_acks : OwedInFlight sh h.world
   -- No invalidation of a TID goes to its own core, and none is acknowledged by it.
@@ -94,10 +111,15 @@ pub record Carried (sh : Shape) (gs : List Grant) (h : History) : Type 0 where
   pub replying_directory_has_reached_the_tid : (c d : ℕ) → live (RepliesAbove (h.world.dirs d).serving.serving) (pair h.world c d).back ≡ 0
   -- A directory that was asked and owes no reply has reached the core's TID, and serves it where it is open.
   pub directory_that_replied_serves_the_tid : Served sh h.world
+  -- The Marks of a core's TID, in flight and handled, are one of each line that it stores where the directory has replied, with the words
+  -- that it has modified; those of a commit on its way, and the marks while acknowledgements are owed, are the words that it stored.
+  pub marks_sent_are_the_lines_stored : ((c d t l : ℕ) → c < sh.cores → d < sh.dirs → has_tid (h.world.cores c).phase t ≡ true → marks_of t l (pair h.world c d) ≡ marked_by sh (h.world.cores c) d l) × KeptMasks sh h.world × KeptStored sh h.commits h.world
+  -- A Commit in flight is of a commit that stored there, and counts the lines in which it did.
+  pub commit_counts_the_lines : MarksOfCommits sh h.commits h.world
   -- A TID that is skipped has sent no Mark there.
   pub skipped_tid_sent_no_mark : (c d t l : ℕ) → d < sh.dirs → 1 ≤ live (Skips t) (pair h.world c d).out → marks_of t l (pair h.world c d) ≡ 0
-  -- A marked line is at home there, and the served TID, which marked it, was granted and has come to its core.
-  pub marked_line_was_marked_by_the_served_tid : (c d l : ℕ) → c < sh.cores → d < sh.dirs → has_mark (h.world.dirs d).lines l ≡ true → (home sh l ≡ d) × ((h.world.dirs d).serving.serving < h.world.next) × (live (Grants (h.world.dirs d).serving.serving) (pair h.world c d).grants ≡ 0)
+  -- A marked line is at home there, and the served TID, which marked it, was granted and has come to its core, which stores the line.
+  pub marked_line_was_marked_by_the_served_tid : ((c d l : ℕ) → c < sh.cores → d < sh.dirs → has_mark (h.world.dirs d).lines l ≡ true → (home sh l ≡ d) × ((h.world.dirs d).serving.serving < h.world.next) × (live (Grants (h.world.dirs d).serving.serving) (pair h.world c d).grants ≡ 0)) × MarkedByServed sh h.world
   -- A TID that hasn't come to its core has sent no Mark, nor has one of an overflow or of a core that is alone, nor to a directory that
   -- owes a reply.
   pub marks_go_out_with_the_reply : (c d t l : ℕ) → c < sh.cores → d < sh.dirs → MarksWait sh t l d (pair h.world c d)
@@ -118,11 +140,16 @@ pub record Carried (sh : Shape) (gs : List Grant) (h : History) : Type 0 where
   pub after_is_the_last_commit_there : KeptAfter sh h.world h.commits
   -- One load request or Fill is in flight exactly for the line that a core awaits.
   pub one_load_request_or_fill : KeptLoading sh h.world
+  -- commits
+
+  -- Where a larger TID has committed and a smaller one hasn't, this one was given up wherever the larger one loaded or stored; and each
+  -- directory where a commit loaded or stored has reached its TID.
+  pub smaller_tid_is_given_up_where_a_larger_one_worked : SmallerAreGivenUp sh ys h × WorkIsReached sh ys h
 
 -- All of it. views are the words that each core's attempt used, in order and with their values, and m is the plain machine after
 -- the commits.
-pub record Invariants (sh : Shape) (p : Program) (entries : ℕ → Local) (ram : ℕ → ℕ) (gs : List Grant) (views : ℕ → Uses) (m : Plain) (h : History) : Type 0 where
-  pub carried : Carried sh gs h
+pub record Invariants (sh : Shape) (p : Program) (entries : ℕ → Local) (ram : ℕ → ℕ) (gs : List Grant) (ys : Ways) (views : ℕ → Uses) (m : Plain) (h : History) : Type 0 where
+  pub carried : Carried sh gs ys h
   -- one core by itself
 
   -- Only lines of memory have frames.
@@ -131,27 +158,12 @@ pub record Invariants (sh : Shape) (p : Program) (entries : ℕ → Local) (ram 
   pub attempt_follows_from_its_view : (c : ℕ) → Follows sh p (h.world.cores c) (views c)
   -- Until a core is alone the words marked read are those of its view, and the valid ones that it hasn't modified have the view's values.
   pub read_marks_are_the_view : (c : ℕ) → ReadFits (h.world.cores c) (views c)
-  -- TIDs
-
   -- serving
 
-  -- A TID that a directory keeps as skipped is above the served one and given up.
-  pub kept_skips_are_given_up_and_ahead : (d t : ℕ) → d < sh.dirs → is_skipped (h.world.dirs d).serving t ≡ true → (h.world.dirs d).serving.serving < t × GivenUp sh h.world h.commits d t
-  -- Of a TID that was given up one Skip or Abort is in flight, or it is kept as skipped, until the directory has passed it; no other is.
-  pub given_up_tid_is_still_to_be_told_or_kept_or_passed : (d t : ℕ) → d < sh.dirs → GivenUpIsTold sh h.world h.commits d t
-  -- At most one Commit of a TID is in flight to a directory, and only from the core whose commit stored there under this TID.
-  pub commit_message_is_in_flight_while_committing : (c d t : ℕ) → c < sh.cores → d < sh.dirs → live (Commits t) (pair h.world c d).out ≤ num (wrote_at sh h.commits c t d)
   -- A commit is on its way to each directory where it stored, or applied there, not both.
-  pub settled_tid_is_passed_or_owed : (n : Noted) (d : ℕ) → Contains h.commits n → d < sh.dirs → stores_at sh n.stores d ≡ true → live (Commits n.tid.0) (h.world.net (Core n.core.0) (Dir d)) + num (is_applied (h.world.dirs d) n.tid.0) ≡ 1
-  -- Acknowledgements are owed only for a settled commit of the served TID.
-  pub owed_only_where_settled : (d : ℕ) → d < sh.dirs → 1 ≤ (h.world.dirs d).owed → (n : Noted) × Contains h.commits n × (n.tid.0 ≡ (h.world.dirs d).serving.serving) × (stores_at sh n.stores d ≡ true) × (is_settled h.world d n ≡ true)
+  pub commit_is_on_its_way_or_applied : (n : Noted) (d : ℕ) → Contains h.commits n → d < sh.dirs → stores_at sh n.stores d ≡ true → live (Commits n.tid.0) (h.world.net (Core n.core.0) (Dir d)) + num (is_applied (h.world.dirs d) n.tid.0) ≡ 1
   -- probes and marks
 
-  -- The Marks of a core's TID, in flight and handled, are one of each line that it stores where the directory has replied; those of a
-  -- commit on its way are one of each line that it stored there.
-  pub marks_sent_are_the_lines_stored : (c d t l : ℕ) → c < sh.cores → d < sh.dirs → (has_tid (h.world.cores c).phase t ≡ true → marks_of t l (pair h.world c d) ≡ marked_by sh (h.world.cores c) d l) × (1 ≤ live (Commits t) (pair h.world c d).out → marks_of t l (pair h.world c d) ≡ num (wrote_line sh.base h.commits c t l && d == home sh l))
-  -- A Commit in flight counts the lines in which its commit stored there.
-  pub commit_counts_the_lines : (c d t k : ℕ) → c < sh.cores → d < sh.dirs → 1 ≤ live (CommitOf t k) (pair h.world c d).out → k ≡ count_below (λ l. d == home sh l && wrote_line sh.base h.commits c t l) (lines sh)
   -- The Marks of a TID, in flight and handled, are of different lines, at home there, and of some word each.
   pub marks_name_different_lines : (c d t l : ℕ) → c < sh.cores → d < sh.dirs → (marks_of t l (pair h.world c d) ≤ 1) × (live (MarksAway sh.dirs d) (pair h.world c d).out ≡ 0) × (live EmptyMarks (pair h.world c d).out ≡ 0)
   -- lines and copies
@@ -182,8 +194,6 @@ pub record Invariants (sh : Shape) (p : Program) (entries : ℕ → Local) (ram 
   pub viewed_word_is_current_or_doomed : ViewedWords sh ram h.world h.commits views
   -- commits
 
-  -- Where a larger TID has committed and a smaller one hasn't, this one is given up at the home of each word on which the larger worked.
-  pub smaller_tid_is_given_up_where_a_larger_one_worked : SmallerGivenUp sh h.world h.commits
   -- The commits are what the plain machine gives for them in the order of their TIDs.
   pub commits_are_serial : CommitsSerial sh p entries ram h.commits m
   -- Each core's checkpoint, and whether it has halted, are those of the plain machine.
@@ -200,8 +210,8 @@ no_views c = []
 
 -- The start has all of it, whatever the machine, the program, the cores' entries and the memory are.
 abbrev pub StartHasAll : Type 0
-StartHasAll = (sh : Shape) (p : Program) (entries : ℕ → Local) (ram : ℕ → ℕ) → Invariants sh p entries ram [] no_views (plain_start entries ram) (first_state entries ram)
+StartHasAll = (sh : Shape) (p : Program) (entries : ℕ → Local) (ram : ℕ → ℕ) → Invariants sh p entries ram [] first_ways no_views (plain_start entries ram) (first_state entries ram)
 
 -- Every state that a run reaches has what is proved so far.
 abbrev pub RunsCarry : Type 0
-RunsCarry = (sh : Shape) (p : Program) (entries : ℕ → Local) (ram : ℕ → ℕ) (es : List Event) → IfSome (run sh p (start entries ram) es) (λ h. Carried sh (grants_from sh p es (first_state entries ram)) h)
+RunsCarry = (sh : Shape) (p : Program) (entries : ℕ → Local) (ram : ℕ → ℕ) (es : List Event) → IfSome (run sh p (start entries ram) es) (λ h. Carried sh (grants_from sh p es (first_state entries ram)) (ways_from sh p es first_ways (first_state entries ram)) h)

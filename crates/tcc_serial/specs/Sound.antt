@@ -12,6 +12,7 @@ use Rattle.tcc_serial.specs.Invariants.{Invariants}
 use Rattle.tcc_serial.specs.Owners.{Grant}
 use Rattle.tcc_serial.specs.Pairs.{pair}
 use Rattle.tcc_serial.specs.Standing.{IsBound}
+use Rattle.tcc_serial.specs.Ways.{Ways}
 use Rattle.tcc_serial.specs.Values.{value_at, IsDoomed}
 
 -- the memory as a core sees it at its bound
@@ -31,6 +32,6 @@ SoundOrDoomed sh p ram w cs c b =
 -- In each state that has the invariants of the list every attempt is sound or doomed; these values fit 32 bits.
 abbrev pub AttemptsSound : Type 0
 AttemptsSound =
-    (sh : Shape) (p : Program) (entries : ℕ → Local) (ram : ℕ → ℕ) (gs : List Grant) (views : ℕ → Uses) (m : Plain) (h : History) → Invariants sh p entries ram gs views m h
+    (sh : Shape) (p : Program) (entries : ℕ → Local) (ram : ℕ → ℕ) (gs : List Grant) (ys : Ways) (views : ℕ → Uses) (m : Plain) (h : History) → Invariants sh p entries ram gs ys views m h
     → (c : ℕ) (b : Option ℕ) → c < sh.cores → 1 ≤ sh.dirs → IsBound b (pair h.world c 0) → ((h.world.cores c).phase ≡ Halted → ⊥) → IsSmall (values_for sh ram h.world h.commits c b)
     → SoundOrDoomed sh p ram h.world h.commits c b

@@ -19,12 +19,9 @@ unfoldable pub wrote : (base : ℕ) → List Noted → (core tid word : ℕ) →
 wrote base [] c t w = false
 wrote base (x ∷ xs) c t w = ((x.core.0 == c) && ((x.tid.0 == t) && stores_word base x.stores w)) || wrote base xs c t w
 
--- and so the line, a line that is at home at the directory
+-- and so the line
 unfoldable pub wrote_line : (base : ℕ) → List Noted → (core tid line : ℕ) → Bool
 wrote_line base cs c t l = any_word (wrote base cs c t) l
-
-unfoldable pub wrote_at : Shape → List Noted → (core tid dir : ℕ) → Bool
-wrote_at sh cs c t d = any_below (λ l. d == home sh l && any_word (wrote sh.base cs c t) l) (lines sh)
 
 -- the mask of the words that it stored in the line
 unfoldable pub wrote_mask : (base : ℕ) → List Noted → (core tid line : ℕ) → ℕ
