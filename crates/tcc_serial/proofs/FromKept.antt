@@ -18,12 +18,14 @@ use Rattle.tcc_serial.specs.Marks.{marks_of, marked_by, has_marked, stores_line}
 use Rattle.tcc_serial.specs.OneCore.{OneCore, Empty}
 use Rattle.tcc_serial.specs.Owners.{Grant, grants_from, times, holder}
 use Rattle.tcc_serial.specs.Pairs.{pair, share}
-use Rattle.tcc_serial.specs.Standing.{MarksWait}
+use Rattle.tcc_serial.specs.Standing.{CommitsStand, MarksWait}
 use Rattle.tcc_serial.proofs.AllKept.{one_probe_from}
 use Rattle.tcc_serial.proofs.MoreKept.{KeptMore, run-more}
+use Rattle.tcc_serial.proofs.OnItsWay.{on-its-way}
 use Rattle.tcc_serial.proofs.Always.{passed, owed_from, served_from}
 use Rattle.tcc_serial.proofs.CommitSteps.{commits_served}
 use Rattle.tcc_serial.proofs.MaskLaws.{marked_by_served, marks_of_commits}
+use Rattle.tcc_serial.proofs.RunWays.{told_from}
 use Rattle.tcc_serial.proofs.SmallerTids.{smaller_are_given_up, work_is_reached}
 use Rattle.tcc_serial.proofs.WayFacts.{untold_where_open, untold_is_live, all_ways_fit, given_up_once, live_is_open, committed_where_stored}
 use Rattle.tcc_serial.specs.MaskLaws.{MarkedByServed, MarksOfCommits}
@@ -108,6 +110,7 @@ pub record Told (sh : Shape) (ys : Ways) (h : History) : Type 0 where
   pub reached : WorkIsReached sh ys h
   pub served : MarkedByServed sh h.world
   pub marks : MarksOfCommits sh h.commits h.world
+  pub stand : CommitsStand sh h.world h.commits
 
 carried : (sh : Shape) (gs : List Grant) (ys : Ways) (h : History) → KeptMore sh gs h → Told sh ys h → Carried sh gs ys h
 unfolding pair
@@ -133,6 +136,7 @@ carried sh gs ys h m t = let k = m.all in record {
   kept_skips_are_given_up_and_ahead = λ d u l p q. (t.fit d u l p).kept q;
   given_up_tid_is_still_to_be_told_or_kept_or_passed = t.once;
   commit_message_is_in_flight_while_committing = λ c d u cl l p q. (t.fit d u l p).commits c cl q;
+  commit_is_on_its_way_or_applied = t.stand;
   settled_tid_is_passed_or_owed = λ d u l p q. (t.fit d u l p).settled q;
   owed_only_where_settled = λ d u l p e o. (t.fit d u l p).owed e o;
   marks_sent_are_the_lines_stored = (λ c d u l cl dl q. (k.marks c d u l).held cl dl q, k.masks, k.stored);
@@ -158,14 +162,14 @@ carried sh gs ys h m t = let k = m.all in record {
 }
 
 told-always : (sh : Shape) (p : Program) (entries : ℕ → Local) (ram : ℕ → ℕ) (es : List Event) → IfSome (run sh p (start entries ram) es) (λ h. Told sh (ways_from sh p es first_ways (first_state entries ram)) h)
-told-always sh p entries ram es = go (run sh p (start entries ram) es) (untold_where_open sh p entries ram es) (untold_is_live sh p entries ram es) (all_ways_fit sh p entries ram es) (given_up_once sh p entries ram es) (live_is_open sh p entries ram es) (committed_where_stored sh p entries ram es) (smaller_are_given_up sh p entries ram es) (work_is_reached sh p entries ram es) (marked_by_served sh p entries ram es) (marks_of_commits sh p entries ram es)
+told-always sh p entries ram es = go (run sh p (start entries ram) es) (untold_where_open sh p entries ram es) (untold_is_live sh p entries ram es) (all_ways_fit sh p entries ram es) (given_up_once sh p entries ram es) (live_is_open sh p entries ram es) (committed_where_stored sh p entries ram es) (smaller_are_given_up sh p entries ram es) (work_is_reached sh p entries ram es) (marked_by_served sh p entries ram es) (marks_of_commits sh p entries ram es) (told_from (λ sh ys h. CommitsStand sh h.world h.commits) on-its-way sh p entries ram es)
   where
     ys : Ways
     ys = ways_from sh p es first_ways (first_state entries ram)
 
-    go : (x : Option History) → IfSome x (λ h. UntoldWhereOpen sh ys h) → IfSome x (λ h. UntoldIsLive sh ys h) → IfSome x (λ h. AllWaysFit sh ys h) → IfSome x (λ h. GivenUpOnce sh ys h) → IfSome x (λ h. LiveIsOpen sh ys h) → IfSome x (λ h. CommittedWhereStored sh ys h) → IfSome x (λ h. SmallerAreGivenUp sh ys h) → IfSome x (λ h. WorkIsReached sh ys h) → IfSome x (λ h. MarkedByServed sh h.world) → IfSome x (λ h. MarksOfCommits sh h.commits h.world) → IfSome x (λ h. Told sh ys h)
-    go None a b c d f i j l m n = tt
-    go (Some h) a b c d f i j l m n = record { untold = a; is_live = b; fit = c; once = d; is_open = f; committed = i; smaller = j; reached = l; served = m; marks = n }
+    go : (x : Option History) → IfSome x (λ h. UntoldWhereOpen sh ys h) → IfSome x (λ h. UntoldIsLive sh ys h) → IfSome x (λ h. AllWaysFit sh ys h) → IfSome x (λ h. GivenUpOnce sh ys h) → IfSome x (λ h. LiveIsOpen sh ys h) → IfSome x (λ h. CommittedWhereStored sh ys h) → IfSome x (λ h. SmallerAreGivenUp sh ys h) → IfSome x (λ h. WorkIsReached sh ys h) → IfSome x (λ h. MarkedByServed sh h.world) → IfSome x (λ h. MarksOfCommits sh h.commits h.world) → IfSome x (λ h. CommitsStand sh h.world h.commits) → IfSome x (λ h. Told sh ys h)
+    go None a b c d f i j l m n q = tt
+    go (Some h) a b c d f i j l m n q = record { untold = a; is_live = b; fit = c; once = d; is_open = f; committed = i; smaller = j; reached = l; served = m; marks = n; stand = q }
 
 pub runs_carry : RunsCarry
 runs_carry sh p entries ram es = go (run sh p (start entries ram) es) (run-more sh p entries ram es) (told-always sh p entries ram es)

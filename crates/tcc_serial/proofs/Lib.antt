@@ -64,6 +64,7 @@ pub mod CoreAwaits
 pub mod LoadsKept
 pub mod CoreAfter
 pub mod AfterKept
+pub mod OnItsWay
 pub mod FromKept
 pub mod StartAll
 pub mod TriedRun

@@ -18,7 +18,7 @@ contains-cases x n xs c = go c.0 (c.1) (c.2)
     go zero l e = inl e
     go (suc k) l e = inr (k, omega (arith, l), e)
 
-granted-at : (gs : List Grant) (cs : List Noted) (n : Noted) → AreGranted gs cs → Contains cs n → Contains gs (record { tid = n.tid.0; core = n.core.0 })
+pub granted-at : (gs : List Grant) (cs : List Noted) (n : Noted) → AreGranted gs cs → Contains cs n → Contains gs (record { tid = n.tid.0; core = n.core.0 })
 unfolding AreGranted
 granted-at gs [] n a c = absurd (omega (arith, c.1))
 granted-at gs (x ∷ cs) n a c = go (contains-cases x n cs c) (λ k. granted-at gs cs n (a.1) k)

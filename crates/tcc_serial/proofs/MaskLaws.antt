@@ -92,7 +92,7 @@ one-any : (t : ℕ) (m : Msg) → num (passes (Commits t) m) ≤ num (passes Any
 unfolding passes
 one-any t m = grind (arith, nat_tests)
 
-few-any : (t : ℕ) (k : Link) → live (Commits t) k ≤ live Any k
+pub few-any : (t : ℕ) (k : Link) → live (Commits t) k ≤ live Any k
 unfolding live
 few-any t [] = omega arith
 few-any t (None ∷ k) = few-any t k

@@ -164,7 +164,6 @@ start_has_all sh p entries ram = record {
   frames_are_of_lines_in_memory = λ c l e. absurd (cc);
   attempt_follows_from_its_view = λ c. start-follows sh p (entries c);
   read_marks_are_the_view = λ c. start-read (entries c);
-  commit_is_on_its_way_or_applied = λ n d a. no-commit n a;
   marks_name_different_lines = λ c d t l a b. (none-marked sh entries ram c d t l, refl, refl);
   line_tag_is_the_last_settled_writer = start-tags sh entries ram;
   copy_above_the_tag_is_of_a_commit_in_flight = start-above sh entries ram;

@@ -1,10 +1,9 @@
 -- The whole list: all that holds of every state that a run reaches, each fact with a name. Those that are proved of every run stand in
 -- the first record, those to come in the second, each in the order in which the proofs stand on one another.
 use Rattle.std.specs.Prelude.{ℕ, ◌+◌, ◌≡◌, ◌<◌, ◌≤◌, ◌⊎◌, true, false, ◌||◌, List, [], length, Contains, IfSome, Some, None, is_some}
-use Rattle.tcc_base.specs.declared.access.Commit.{Commit as Noted}
 use Rattle.tcc_program.specs.Plain.{Plain}
 use Rattle.tcc_program.specs.Program.{Local, Program}
-use Rattle.tcc_maps.specs.Words.{num, line_of}
+use Rattle.tcc_maps.specs.Words.{line_of}
 use Rattle.tcc_maps.specs.Nodes.{Core, Dir, Event}
 use Rattle.tcc_maps.specs.Serving.{is_skipped}
 use Rattle.tcc_maps.specs.Shape.{Shape, home, lines}
@@ -30,14 +29,13 @@ use Rattle.tcc_serial.specs.Partly.{KeptWhole}
 use Rattle.tcc_serial.specs.Probing.{OneProbe}
 use Rattle.tcc_serial.specs.Masked.{KeptMasks}
 use Rattle.tcc_serial.specs.MaskLaws.{MarkedByServed, MarksOfCommits}
-use Rattle.tcc_serial.specs.Standing.{is_applied, MarksWait}
+use Rattle.tcc_serial.specs.Standing.{CommitsStand, MarksWait}
 use Rattle.tcc_serial.specs.Stored.{KeptStored}
 use Rattle.tcc_serial.specs.Ways.{Ways, Committed, first_ways, ways_from}
 use Rattle.tcc_serial.specs.WayLaws.{UntoldWhereOpen, UntoldIsLive, AllWaysFit, GivenUpOnce, LiveIsOpen, CommittedWhereStored, SmallerAreGivenUp, WorkIsReached, Settled, is_given_up}
 use Rattle.tcc_serial.specs.Tids.{has_tid}
 use Rattle.tcc_serial.specs.Uses.{stores_word}
 use Rattle.tcc_serial.specs.Values.{HomeWords, CopiesAbove, UnmodifiedWords, FilledWords, ReadWords, ViewedWords}
-use Rattle.tcc_serial.specs.Wrote.{stores_at}
 
 -- What is proved of every run. gs are the grants along it, and ys the ways in which each TID was given to each directory.
 pub record Carried (sh : Shape) (gs : List Grant) (ys : Ways) (h : History) : Type 0 where
@@ -95,6 +93,8 @@ pub record Carried (sh : Shape) (gs : List Grant) (ys : Ways) (h : History) : Ty
   pub committing_tid_is_served : CommitsAreServed sh h.world
   -- A settled TID is passed, or served while acknowledgements are owed.
   pub settled_tid_is_passed_or_owed : (d t : ℕ) → d < sh.dirs → 1 ≤ t → Settled sh ys h.world d t → (t < (h.world.dirs d).serving.serving) ⊎ (((h.world.dirs d).serving.serving ≡ t) × (1 ≤ (h.world.dirs d).owed))
+  -- A commit is on its way to each directory where it stored, or applied there, not both.
+  pub commit_is_on_its_way_or_applied : CommitsStand sh h.world h.commits
   -- Acknowledgements are owed only where the served TID is settled.
   pub owed_only_where_settled : (d t : ℕ) → d < sh.dirs → 1 ≤ t → (h.world.dirs d).serving.serving ≡ t → 1 ≤ (h.world.dirs d).owed → Settled sh ys h.world d t
   -- As many are owed as invalidations and acknowledgements are in flight, and the invalidations carry the served TID.
@@ -158,10 +158,6 @@ pub record Invariants (sh : Shape) (p : Program) (entries : ℕ → Local) (ram 
   pub attempt_follows_from_its_view : (c : ℕ) → Follows sh p (h.world.cores c) (views c)
   -- Until a core is alone the words marked read are those of its view, and the valid ones that it hasn't modified have the view's values.
   pub read_marks_are_the_view : (c : ℕ) → ReadFits (h.world.cores c) (views c)
-  -- serving
-
-  -- A commit is on its way to each directory where it stored, or applied there, not both.
-  pub commit_is_on_its_way_or_applied : (n : Noted) (d : ℕ) → Contains h.commits n → d < sh.dirs → stores_at sh n.stores d ≡ true → live (Commits n.tid.0) (h.world.net (Core n.core.0) (Dir d)) + num (is_applied (h.world.dirs d) n.tid.0) ≡ 1
   -- probes and marks
 
   -- The Marks of a TID, in flight and handled, are of different lines, at home there, and of some word each.

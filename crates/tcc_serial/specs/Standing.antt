@@ -1,5 +1,5 @@
 -- Where a commit stands at a directory, settled or applied; the bound of a core's attempt; and which Marks have yet to go out.
-use Rattle.std.specs.Prelude.{ℕ, ◌+◌, ◌≡◌, ◌≤◌, Bool, true, false, not, ◌==◌, ◌&&◌, ◌||◌, Option, Some, None, nat_lt, nat_le}
+use Rattle.std.specs.Prelude.{ℕ, ◌+◌, ◌≡◌, ◌<◌, ◌≤◌, Bool, true, false, not, ◌==◌, ◌&&◌, ◌||◌, List, Contains, Option, Some, None, nat_lt, nat_le}
 use Rattle.tcc_base.specs.declared.access.Commit.{Commit as Noted}
 use Rattle.tcc_maps.specs.Words.{num}
 use Rattle.tcc_maps.specs.Nodes.{Core, Dir}
@@ -10,6 +10,7 @@ use Rattle.tcc_serial.specs.Marks.{marks_of, has_marked}
 use Rattle.tcc_serial.specs.Owners.{holder}
 use Rattle.tcc_serial.specs.Pairs.{Pair}
 use Rattle.tcc_serial.specs.Tids.{has_tid}
+use Rattle.tcc_serial.specs.Wrote.{stores_at}
 
 -- settled: no Commit of the commit's TID is in flight to the directory any more
 unfoldable pub is_settled : World → (dir : ℕ) → Noted → Bool
@@ -18,6 +19,10 @@ is_settled w d x = live (Commits x.tid.0) (w.net (Core x.core.0) (Dir d)) == 0
 -- applied: the directory has passed the TID, or serves it and is owed acknowledgements
 unfoldable pub is_applied : DirState → (tid : ℕ) → Bool
 is_applied s t = nat_lt t s.serving.serving || (t == s.serving.serving && nat_lt 0 s.owed)
+
+-- A commit is on its way to each directory where it stored, or applied there, not both.
+abbrev pub CommitsStand : Shape → World → List Noted → Type 0
+CommitsStand sh w cs = (n : Noted) (d : ℕ) → Contains cs n → d < sh.dirs → stores_at sh n.stores d ≡ true → live (Commits n.tid.0) (w.net (Core n.core.0) (Dir d)) + num (is_applied (w.dirs d) n.tid.0) ≡ 1
 
 -- the bound of a core's attempt: the TID that the core has, or that is on its way to it
 abbrev pub IsBound : Option ℕ → Pair → Type 0
