@@ -35,7 +35,7 @@ use Rattle.tcc_serial.proofs.StepCases.{OfAnswer, step_cases}
 max-swap : (a b l : ℕ) → max a (max b l) ≡ max b (max a l)
 max-swap a b l = omega arith
 
-last-insert : (p : Noted → Bool) (n : Noted) (cs : List Noted) → last_of p (insert_commit n cs) ≡ max (cond (p n) n.tid.0 0) (last_of p cs)
+pub last-insert : (p : Noted → Bool) (n : Noted) (cs : List Noted) → last_of p (insert_commit n cs) ≡ max (cond (p n) n.tid.0 0) (last_of p cs)
 unfolding last_of insert_commit
 last-insert p n [] = refl
 last-insert p n (m ∷ cs) = go (nat_lt n.tid.0 m.tid.0) (last-insert p n cs)

@@ -27,7 +27,7 @@ unfolding any_below
 any-same p q zero h = refl
 any-same p q (suc n) h = rw (any-same p q n (λ l i. h l (omega (arith, i))), h n (omega arith)) refl
 
-num-same : (a b : Bool) → num a ≡ num b → a ≡ b
+pub num-same : (a b : Bool) → num a ≡ num b → a ≡ b
 num-same true true h = refl
 num-same true false h = absurd (omega (arith, h))
 num-same false true h = absurd (omega (arith, h))

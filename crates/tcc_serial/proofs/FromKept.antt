@@ -20,7 +20,8 @@ use Rattle.tcc_serial.specs.Owners.{Grant, grants_from, times, holder}
 use Rattle.tcc_serial.specs.Pairs.{pair, share}
 use Rattle.tcc_serial.specs.Standing.{CommitsStand, MarksWait}
 use Rattle.tcc_serial.proofs.AllKept.{one_probe_from}
-use Rattle.tcc_serial.proofs.MoreKept.{KeptMore, run-more}
+use Rattle.tcc_serial.proofs.CopiesKept.{KeptCopies, run-copies}
+use Rattle.tcc_serial.proofs.MoreKept.{KeptMore}
 use Rattle.tcc_serial.proofs.OnItsWay.{on-its-way}
 use Rattle.tcc_serial.proofs.Always.{passed, owed_from, served_from}
 use Rattle.tcc_serial.proofs.CommitSteps.{commits_served}
@@ -112,9 +113,9 @@ pub record Told (sh : Shape) (ys : Ways) (h : History) : Type 0 where
   pub marks : MarksOfCommits sh h.commits h.world
   pub stand : CommitsStand sh h.world h.commits
 
-carried : (sh : Shape) (gs : List Grant) (ys : Ways) (h : History) → KeptMore sh gs h → Told sh ys h → Carried sh gs ys h
+carried : (sh : Shape) (gs : List Grant) (ys : Ways) (h : History) → KeptCopies sh gs ys h → Told sh ys h → Carried sh gs ys h
 unfolding pair
-carried sh gs ys h m t = let k = m.all in record {
+carried sh gs ys h x t = let m = x.more in let k = m.all in record {
   frames_stand_in_their_sets = λ c. (k.cores c).words.cache;
   modified_and_dirty_words_are_valid_and_apart = λ c. apart sh (h.world.cores c).cache ((k.cores c).words.cache);
   tid_and_owing_fit_the_phase = m.owing;
@@ -159,6 +160,7 @@ carried sh gs ys h m t = let k = m.all in record {
   owner_is_the_core_of_the_tag = m.line_owners;
   after_is_the_last_commit_there = m.after;
   one_load_request_or_fill = m.loading;
+  line_tag_is_the_last_settled_writer = x.tags;
 }
 
 told-always : (sh : Shape) (p : Program) (entries : ℕ → Local) (ram : ℕ → ℕ) (es : List Event) → IfSome (run sh p (start entries ram) es) (λ h. Told sh (ways_from sh p es first_ways (first_state entries ram)) h)
@@ -172,7 +174,7 @@ told-always sh p entries ram es = go (run sh p (start entries ram) es) (untold_w
     go (Some h) a b c d f i j l m n q = record { untold = a; is_live = b; fit = c; once = d; is_open = f; committed = i; smaller = j; reached = l; served = m; marks = n; stand = q }
 
 pub runs_carry : RunsCarry
-runs_carry sh p entries ram es = go (run sh p (start entries ram) es) (run-more sh p entries ram es) (told-always sh p entries ram es)
+runs_carry sh p entries ram es = go (run sh p (start entries ram) es) (run-copies sh p entries ram es) (told-always sh p entries ram es)
   where
     gs : List Grant
     gs = grants_from sh p es (first_state entries ram)
@@ -180,6 +182,6 @@ runs_carry sh p entries ram es = go (run sh p (start entries ram) es) (run-more 
     ys : Ways
     ys = ways_from sh p es first_ways (first_state entries ram)
 
-    go : (x : Option History) → IfSome x (λ h. KeptMore sh gs h) → IfSome x (λ h. Told sh ys h) → IfSome x (λ h. Carried sh gs ys h)
+    go : (x : Option History) → IfSome x (λ h. KeptCopies sh gs ys h) → IfSome x (λ h. Told sh ys h) → IfSome x (λ h. Carried sh gs ys h)
     go None k t = tt
     go (Some h) k t = carried sh gs ys h k t

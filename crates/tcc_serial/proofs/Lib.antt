@@ -16,6 +16,7 @@ pub mod CoreTids
 pub mod DirTids
 pub mod CoreProbes
 pub mod DirProbes
+pub mod DirRecords
 pub mod ProbeSteps
 pub mod CoreOwners
 pub mod Commits
@@ -64,6 +65,10 @@ pub mod CoreAwaits
 pub mod LoadsKept
 pub mod CoreAfter
 pub mod AfterKept
+pub mod LastOf
+pub mod TagsKept
+pub mod CopiesKept
+pub mod NewCommits
 pub mod OnItsWay
 pub mod FromKept
 pub mod StartAll

@@ -45,7 +45,7 @@ same-at last zero (suc j) (c ∷ cs) x y h t a p b q = let r : c.tid.0 ≡ x.tid
 same-at last (suc i) zero (c ∷ cs) x y h t a p b q = let r : c.tid.0 ≡ y.tid.0 = ap (λ z. z.tid.0) q in absurd (omega (arith, t, rising-at c.tid.0 i cs x (h.1) (omega arith) p))
 same-at last (suc i) (suc j) (c ∷ cs) x y h t a p b q = same-at c.tid.0 i j cs x y (h.1) t (omega arith) p (omega arith) q
 
-same-commit : (cs : List Noted) (x y : Noted) → IsRising 0 cs → Contains cs x → Contains cs y → x.tid.0 ≡ y.tid.0 → x ≡ y
+pub same-commit : (cs : List Noted) (x y : Noted) → IsRising 0 cs → Contains cs x → Contains cs y → x.tid.0 ≡ y.tid.0 → x ≡ y
 same-commit cs x y h a b t = same-at 0 a.0 b.0 cs x y h t (a.1) (a.2) (b.1) (b.2)
 
 -- a marked line is a Mark of the served TID

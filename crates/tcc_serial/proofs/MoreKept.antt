@@ -1,16 +1,13 @@
 -- What is carried along every run together with all else.
-use Rattle.std.specs.Prelude.{ℕ, List, [], ◌∷◌, ◌++◌, Option, Some, None, IfSome}
-use Rattle.std.proofs.Common.{sym, append_assoc}
-use Rattle.std.proofs.lemmas.List.{append-nil}
+use Rattle.std.specs.Prelude.{ℕ, List, [], ◌++◌, Option, Some, None, IfSome}
 use Rattle.tcc_program.specs.Program.{Program, Local}
 use Rattle.tcc_maps.specs.Nodes.{Event}
 use Rattle.tcc_maps.specs.Shape.{Shape}
-use Rattle.tcc_rules.specs.State.{start}
-use Rattle.tcc_rules.specs.Step.{Stepped, step, History, and_noted, recorded, next, and_then, run_from, run}
+use Rattle.tcc_rules.specs.Step.{Stepped, step, History, and_noted, recorded, run_from, run}
 use Rattle.tcc_serial.specs.Copies.{KeptHomes, KeptLineOwners, KeptLoading, KeptAfter}
 use Rattle.tcc_serial.specs.Invariants.{first_state}
 use Rattle.tcc_serial.specs.Kept.{KeptAll, KeptTold}
-use Rattle.tcc_serial.specs.Owners.{Grant, granted_by, then_grants, grants_from}
+use Rattle.tcc_serial.specs.Owners.{Grant, granted_by, grants_from}
 use Rattle.tcc_serial.proofs.AllKept.{step-all, run-all}
 use Rattle.tcc_serial.proofs.ProbeOwners.{KeptProbed, step-probed, start-probed}
 use Rattle.tcc_serial.proofs.LoadsKept.{step-loading, start-loading}
@@ -30,21 +27,12 @@ pub record KeptMore (sh : Shape) (gs : List Grant) (h : History) : Type 0 where
   pub homes : KeptHomes sh h.world
   pub after : KeptAfter sh h.world h.commits
 
-step-more : (sh : Shape) (p : Program) (gs : List Grant) (h : History) (e : Event) → KeptMore sh gs h → IfSome (recorded h (step sh p h.world e)) (λ g. KeptMore sh (gs ++ granted_by h.world e) g)
+pub step-more : (sh : Shape) (p : Program) (gs : List Grant) (h : History) (e : Event) → KeptMore sh gs h → IfSome (recorded h (step sh p h.world e)) (λ g. KeptMore sh (gs ++ granted_by h.world e) g)
 step-more sh p gs h e k = go (step sh p h.world e) (step-all sh p gs h e k.all) (step-line-owners sh p gs h.world e k.all.spared k.line_owners) (step-loading sh p h.world e k.loading) (step-probed sh p gs h.world h.commits e k.all.kept k.all.owners k.probed) (step-owing sh p h.world e k.owing) (step-unacked sh p gs h.world e k.all.kept k.all.spared k.unacked) (step-homes sh p h.world e k.all.kept k.homes) (step-after sh p gs h.world h.commits e k.all.owners k.all.cores k.all.last k.loading k.after)
   where
     go : (x : Option Stepped) → IfSome (recorded h x) (λ g. KeptAll sh (gs ++ granted_by h.world e) g) → IfSome x (λ o. KeptLineOwners (gs ++ granted_by h.world e) o.world) → IfSome x (λ o. KeptLoading sh o.world) → IfSome x (λ o. KeptProbed (gs ++ granted_by h.world e) o.world) → IfSome x (λ o. KeptOwing sh o.world) → IfSome x (λ o. KeptTold sh o.world → KeptUnacked sh (gs ++ granted_by h.world e) o.world) → IfSome x (λ o. KeptHomes sh o.world) → IfSome x (λ o. KeptAfter sh o.world (and_noted o.noted h.commits)) → IfSome (recorded h x) (λ g. KeptMore sh (gs ++ granted_by h.world e) g)
     go None a b c d f i j l = tt
     go (Some o) a b c d f i j l = record { all = a; line_owners = b; loading = c; probed = d; owing = f; unacked = i (a.kept.told); homes = j; after = l }
-
-run_from-more : (sh : Shape) (p : Program) (es : List Event) (gs : List Grant) (h : History) → KeptMore sh gs h → IfSome (run_from sh p es h) (λ r. KeptMore sh (gs ++ grants_from sh p es h) r)
-unfolding run_from grants_from next
-run_from-more sh p [] gs h k = rw append-nil k
-run_from-more sh p (e ∷ es) gs h k = go (recorded h (step sh p h.world e)) (step-more sh p gs h e k) (λ g q. run_from-more sh p es (gs ++ granted_by h.world e) g q)
-  where
-    go : (x : Option History) → IfSome x (λ g. KeptMore sh (gs ++ granted_by h.world e) g) → ((g : History) → KeptMore sh (gs ++ granted_by h.world e) g → IfSome (run_from sh p es g) (λ r. KeptMore sh ((gs ++ granted_by h.world e) ++ grants_from sh p es g) r)) → IfSome (and_then (run_from sh p es) x) (λ r. KeptMore sh (gs ++ then_grants (granted_by h.world e) (grants_from sh p es) x) r)
-    go None a f = tt
-    go (Some g) a f = rw (sym (append_assoc gs (granted_by h.world e) (grants_from sh p es g))) (f g a)
 
 -- what is carried holds where the run has no event
 start-all : (sh : Shape) (p : Program) (entries : ℕ → Local) (ram : ℕ → ℕ) → KeptAll sh [] (first_state entries ram)
@@ -53,7 +41,3 @@ start-all sh p entries ram = run-all sh p entries ram []
 
 pub start-more : (sh : Shape) (p : Program) (entries : ℕ → Local) (ram : ℕ → ℕ) → KeptMore sh [] (first_state entries ram)
 start-more sh p entries ram = record { all = start-all sh p entries ram; line_owners = start-line-owners entries ram; loading = start-loading sh entries ram; probed = start-probed entries ram; owing = start-owing sh entries ram; unacked = start-unacked sh entries ram; homes = start-homes sh entries ram; after = start-after sh entries ram }
-
-pub run-more : (sh : Shape) (p : Program) (entries : ℕ → Local) (ram : ℕ → ℕ) (es : List Event) → IfSome (run sh p (start entries ram) es) (λ r. KeptMore sh (grants_from sh p es (first_state entries ram)) r)
-unfolding run
-run-more sh p entries ram es = run_from-more sh p es [] (first_state entries ram) (start-more sh p entries ram)

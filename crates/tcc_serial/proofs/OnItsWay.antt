@@ -34,7 +34,7 @@ total-only f (suc n) c h z = go (cases_eq n c) (λ g. total-only f n c (λ j l i
     go (inl e) g = let y : f n ≡ f c = ap f e in omega (arith, y, total-zero f n (λ j l. h j (omega arith) (λ i. omega (arith, i, e, l))))
     go (inr e) g = omega (arith, h n (omega arith) e, g (λ l. z (omega (arith, l, e))))
 
-applied-or : (s : DirState) (t : ℕ) → num (is_applied s t) ≡ num (nat_lt t s.serving.serving) + num ((t == s.serving.serving) && nat_lt 0 s.owed)
+pub applied-or : (s : DirState) (t : ℕ) → num (is_applied s t) ≡ num (nat_lt t s.serving.serving) + num ((t == s.serving.serving) && nat_lt 0 s.owed)
 unfolding is_applied
 applied-or s t = go (nat_lt t s.serving.serving) refl
   where

@@ -20,7 +20,7 @@ same c = grind (arith, nat_tests)
 pub differ : (j c : ℕ) → (j ≡ c → ⊥) → (j == c) ≡ false
 differ j c h = grind (arith, nat_tests)
 
-and-false : (b : Bool) → (b && false) ≡ false
+pub and-false : (b : Bool) → (b && false) ≡ false
 and-false true = refl
 and-false false = refl
 

@@ -51,11 +51,11 @@ insert-keeps n (c ∷ cs) x h = go (nat_lt n.tid.0 c.tid.0) h.0 (h.1) (h.2) (ins
     go false zero l e f = (0, omega arith, e)
     go false (suc k) l e f = let r = f (k, omega (arith, l), e) in (suc r.0, omega (arith, r.1), r.2)
 
-noted-keeps : (n : Option Noted) (cs : List Noted) (x : Noted) → Contains cs x → Contains (and_noted n cs) x
+pub noted-keeps : (n : Option Noted) (cs : List Noted) (x : Noted) → Contains cs x → Contains (and_noted n cs) x
 noted-keeps None cs x h = h
 noted-keeps (Some n) cs x h = insert-keeps n cs x h
 
-noted-has : (n : Option Noted) (cs : List Noted) (x : Noted) → n ≡ Some x → Contains (and_noted n cs) x
+pub noted-has : (n : Option Noted) (cs : List Noted) (x : Noted) → n ≡ Some x → Contains (and_noted n cs) x
 noted-has n cs x e = rw e (insert-has x cs)
 
 pub stored-more : (sh : Shape) (cs : List Noted) (n : Option Noted) (c d t : ℕ) (v : Pair) → StoredOf sh cs c d t v → StoredOf sh (and_noted n cs) c d t v

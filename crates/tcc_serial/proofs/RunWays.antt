@@ -19,7 +19,7 @@ use Rattle.tcc_serial.proofs.ToldSteps.{Speaks, step-speaks, step-live-out, step
 use Rattle.tcc_serial.proofs.WorkedSteps.{Loads, Later, step-loads, step-later, loads-out, worked-out}
 use Rattle.tcc_serial.proofs.WaySteps.{step-ways, start-ways}
 
-step-run : (sh : Shape) (p : Program) (gs : List Grant) (ys : Ways) (h : History) (e : Event) → KeptRun sh gs ys h → IfSome (recorded h (step sh p h.world e)) (λ g. KeptRun sh (gs ++ granted_by h.world e) (ways_after (sent_by sh p h.world e) ys) g)
+pub step-run : (sh : Shape) (p : Program) (gs : List Grant) (ys : Ways) (h : History) (e : Event) → KeptRun sh gs ys h → IfSome (recorded h (step sh p h.world e)) (λ g. KeptRun sh (gs ++ granted_by h.world e) (ways_after (sent_by sh p h.world e) ys) g)
 step-run sh p gs ys h e k = go (step sh p h.world e) (step-all sh p gs h e k.all) (step-ways sh p ys h.world e k.all.kept k.ways) (step-speaks sh p h.world e k.all.kept.told.tids k.all.cores) (step-loads sh p h.world e k.all.kept k.all.cores k.loads) (step-later sh p h.world e)
   where
     x : Ways
@@ -50,7 +50,7 @@ run_from-ways sh p (e ∷ es) gs ys h k = go (recorded h (step sh p h.world e)) 
     go None a f = tt
     go (Some g) a f = rw (sym (append_assoc gs (granted_by h.world e) (grants_from sh p es g))) (f g a)
 
-start-run : (sh : Shape) (entries : ℕ → Local) (ram : ℕ → ℕ) → KeptRun sh [] first_ways (record { world = start entries ram; commits = [] })
+pub start-run : (sh : Shape) (entries : ℕ → Local) (ram : ℕ → ℕ) → KeptRun sh [] first_ways (record { world = start entries ram; commits = [] })
 unfolding start core_start has_tid loads_word
 start-run sh entries ram = record {
   all = all-at-start sh entries ram;

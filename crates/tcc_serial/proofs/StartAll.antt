@@ -16,7 +16,7 @@ use Rattle.tcc_rules.specs.State.{core_start, dir_start, vendor_start, start}
 use Rattle.tcc_attempt.specs.Follows.{Follows, sees}
 use Rattle.tcc_serial.specs.Alone.{ReadFits}
 use Rattle.tcc_serial.specs.Commits.{CoresSerial, SeenSerial, plain_start}
-use Rattle.tcc_serial.specs.Copies.{KeptTags, KeptAbove, KeptOwned, KeptGets, KeptSharers, copies_with, keeps_unmodified, holds_line}
+use Rattle.tcc_serial.specs.Copies.{KeptAbove, KeptOwned, KeptGets, KeptSharers, copies_with, keeps_unmodified, holds_line}
 use Rattle.tcc_serial.specs.Count.{live}
 use Rattle.tcc_serial.specs.Invariants.{Carried, StartHasAll, first_state}
 use Rattle.tcc_serial.specs.Marks.{marks_of}
@@ -25,7 +25,7 @@ use Rattle.tcc_serial.specs.Ways.{first_ways, ways_from}
 use Rattle.tcc_serial.specs.Owners.{grants_from}
 use Rattle.tcc_rules.specs.Step.{run, run_from}
 use Rattle.tcc_serial.specs.Values.{HomeWords, CopiesAbove, UnmodifiedWords, FilledWords, ReadWords, CopiesHave, value_at, after_commits}
-use Rattle.tcc_serial.specs.Wrote.{last_of, wrote, wrote_line}
+use Rattle.tcc_serial.specs.Wrote.{wrote, wrote_line}
 use Rattle.tcc_serial.proofs.MoreKept.{start-more}
 use Rattle.tcc_serial.proofs.FromKept.{runs_carry}
 
@@ -72,10 +72,6 @@ empty-keeps l = refl
 no-copy : (entries : ℕ → Local) (ram : ℕ → ℕ) (c d l t : ℕ) → copies_with l t (pair (start entries ram) c d) ≡ 0
 unfolding start core_start pair copies_with live
 no-copy entries ram c d l t = rw (clean l) refl
-
-start-tags : (sh : Shape) (entries : ℕ → Local) (ram : ℕ → ℕ) → KeptTags sh (start entries ram) []
-unfolding start dir_start no_lines last_of
-start-tags sh entries ram d l a b = refl
 
 start-above : (sh : Shape) (entries : ℕ → Local) (ram : ℕ → ℕ) → KeptAbove sh (start entries ram) []
 unfolding start core_start pair live
@@ -165,7 +161,6 @@ start_has_all sh p entries ram = record {
   attempt_follows_from_its_view = λ c. start-follows sh p (entries c);
   read_marks_are_the_view = λ c. start-read (entries c);
   marks_name_different_lines = λ c d t l a b. (none-marked sh entries ram c d t l, refl, refl);
-  line_tag_is_the_last_settled_writer = start-tags sh entries ram;
   copy_above_the_tag_is_of_a_commit_in_flight = start-above sh entries ram;
   owned_line_has_one_copy_with_its_tag = start-owned sh entries ram;
   asked_line_gets_its_words = ((start-more sh p entries ram).all.asked, start-gets sh entries ram);

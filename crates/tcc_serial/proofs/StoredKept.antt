@@ -54,7 +54,7 @@ unfolding passes
 one-commit u n m = grind (arith, nat_tests)
 
 -- a directory that takes a Commit has as its marks what the commit stored
-taken-stored : (sh : Shape) (w : World) (cs : List Noted) (c d k : ℕ) (m : Msg) → KeptCounted sh w → KeptStored sh cs w → c < sh.cores → d < sh.dirs → in_flight w.net (Core c) (Dir d) k ≡ Some m → CountsMarked sh (w.dirs d) m → SettledCommit sh cs d (w.dirs d)
+pub taken-stored : (sh : Shape) (w : World) (cs : List Noted) (c d k : ℕ) (m : Msg) → KeptCounted sh w → KeptStored sh cs w → c < sh.cores → d < sh.dirs → in_flight w.net (Core c) (Dir d) k ≡ Some m → CountsMarked sh (w.dirs d) m → SettledCommit sh cs d (w.dirs d)
 unfolding pair
 taken-stored sh w cs c d k m g h cl dl i q = record { commit = x.commit; noted = x.noted; tid = x.tid; stored = x.stored; marks = λ l. taken-marks l _ (pair w c d) (none-away sh l (pair w c d) ((g c d u cl).counted n dl sent)) (x.marks l) }
   where

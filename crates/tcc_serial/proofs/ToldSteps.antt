@@ -155,7 +155,7 @@ told-somehow sh n d y e i = go (stores_at sh d n.stores) (sym e ∙ i)
     go true q = cc
     go false q = cc
 
-told-committed : (ms : List Msg) (t : ℕ) (y : Way) → told_by ms t y ≡ Committed → (y ≡ Committed) ⊎ (1 ≤ among (Commits t) ms)
+pub told-committed : (ms : List Msg) (t : ℕ) (y : Way) → told_by ms t y ≡ Committed → (y ≡ Committed) ⊎ (1 ≤ among (Commits t) ms)
 unfolding told_by
 told-committed ms t y h = go (nat_lt 0 (among (Skips t) ms)) (nat_lt 0 (among (Aborts t) ms)) (nat_lt 0 (among (Commits t) ms)) refl h
   where

@@ -4,7 +4,7 @@ use Rattle.tcc_base.specs.declared.access.Commit.{Commit as Noted}
 use Rattle.tcc_maps.specs.Words.{num, any_word}
 use Rattle.tcc_maps.specs.Cache.{Cache, is_dirty, dirty_mask, dirty_tag}
 use Rattle.tcc_maps.specs.Lines.{Lines}
-use Rattle.tcc_maps.specs.Shape.{Shape, home}
+use Rattle.tcc_maps.specs.Shape.{Shape, home, lines}
 use Rattle.tcc_rules.specs.State.{Awaited, World}
 use Rattle.tcc_rules.specs.CoreEvict.{is_awaited}
 use Rattle.tcc_serial.specs.Count.{LoadOf, LoadNot, FillOf, Commits, CopyOf, CopyMask, DataOf, GoneOf, LinesAway, NoWord, live}
@@ -43,9 +43,9 @@ KeptHomes sh w = (c d l : ℕ) → HomeOf sh d l (pair w c d)
 unfoldable pub settled_in_line : Shape → World → (dir line : ℕ) → Noted → Bool
 settled_in_line sh w d l x = is_settled w d x && stores_line sh.base x.stores l
 
--- A line's tag is the greatest TID that is settled at its home and stored in it, or 0.
+-- The tag of a line in memory is the greatest TID that is settled at its home and stored in it, or 0.
 abbrev pub KeptTags : Shape → World → List Noted → Type 0
-KeptTags sh w cs = (d l : ℕ) → d < sh.dirs → home sh l ≡ d → (w.dirs d).lines.tag l ≡ last_of (settled_in_line sh w d l) cs
+KeptTags sh w cs = (d l : ℕ) → d < sh.dirs → l < lines sh → home sh l ≡ d → (w.dirs d).lines.tag l ≡ last_of (settled_in_line sh w d l) cs
 
 -- The owner of a line is the core that the line's tag was granted to.
 abbrev pub KeptLineOwners : List Grant → World → Type 0

@@ -140,6 +140,8 @@ pub record Carried (sh : Shape) (gs : List Grant) (ys : Ways) (h : History) : Ty
   pub after_is_the_last_commit_there : KeptAfter sh h.world h.commits
   -- One load request or Fill is in flight exactly for the line that a core awaits.
   pub one_load_request_or_fill : KeptLoading sh h.world
+  -- The tag of a line in memory is the greatest TID that is settled at its home and stored in it, or 0.
+  pub line_tag_is_the_last_settled_writer : KeptTags sh h.world h.commits
   -- commits
 
   -- Where a larger TID has committed and a smaller one hasn't, this one was given up wherever the larger one loaded or stored; and each
@@ -164,8 +166,6 @@ pub record Invariants (sh : Shape) (p : Program) (entries : ℕ → Local) (ram 
   pub marks_name_different_lines : (c d t l : ℕ) → c < sh.cores → d < sh.dirs → (marks_of t l (pair h.world c d) ≤ 1) × (live (MarksAway sh.dirs d) (pair h.world c d).out ≡ 0) × (live EmptyMarks (pair h.world c d).out ≡ 0)
   -- lines and copies
 
-  -- A line's tag is the greatest TID that is settled at its home and stored in it, or 0.
-  pub line_tag_is_the_last_settled_writer : KeptTags sh h.world h.commits
   -- With a tag above the line's there is one copy of each line that a commit stored whose Commit is in flight, of just its words; no other.
   pub copy_above_the_tag_is_of_a_commit_in_flight : KeptAbove sh h.world h.commits
   -- With the line's tag there is one copy, the owner's, where there is an owner, and else none.
