@@ -82,7 +82,7 @@ or-false : (b : Bool) → (b || false) ≡ b
 or-false true = refl
 or-false false = refl
 
-unspilled : (sh : Shape) (u : ℕ) (s : CoreState) → s.phase ≡ Ready u → OneCore sh s → (w : ℕ) → s.cache.modified w ≡ stores_word sh.base s.stores w
+pub unspilled : (sh : Shape) (u : ℕ) (s : CoreState) → s.phase ≡ Ready u → OneCore sh s → (w : ℕ) → s.cache.modified w ≡ stores_word sh.base s.stores w
 unspilled sh u s e h w =
     let n : s.spilled w ≡ None = h.words.spilled_alone (rw e refl) w in
     sym (or-false (s.cache.modified w)) ∙ (rw n at (h.words.named w))

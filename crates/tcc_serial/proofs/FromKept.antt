@@ -21,6 +21,7 @@ use Rattle.tcc_serial.specs.Pairs.{pair, share}
 use Rattle.tcc_serial.specs.Standing.{CommitsStand, MarksWait}
 use Rattle.tcc_serial.proofs.AllKept.{one_probe_from}
 use Rattle.tcc_serial.proofs.CopiesKept.{KeptCopies, run-copies}
+use Rattle.tcc_serial.proofs.CopyFacts.{above-from, owned-from}
 use Rattle.tcc_serial.proofs.MoreKept.{KeptMore}
 use Rattle.tcc_serial.proofs.OnItsWay.{on-its-way}
 use Rattle.tcc_serial.proofs.Always.{passed, owed_from, served_from}
@@ -161,6 +162,8 @@ carried sh gs ys h x t = let m = x.more in let k = m.all in record {
   after_is_the_last_commit_there = m.after;
   one_load_request_or_fill = m.loading;
   line_tag_is_the_last_settled_writer = x.tags;
+  copy_above_the_tag_is_of_a_commit_in_flight = above-from sh h.commits h.world x.lines;
+  owned_line_has_one_copy_with_its_tag = owned-from sh h.commits h.world x.lines;
 }
 
 told-always : (sh : Shape) (p : Program) (entries : ℕ → Local) (ram : ℕ → ℕ) (es : List Event) → IfSome (run sh p (start entries ram) es) (λ h. Told sh (ways_from sh p es first_ways (first_state entries ram)) h)

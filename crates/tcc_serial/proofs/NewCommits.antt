@@ -32,7 +32,7 @@ of-resolves : (t : ℕ) (m : Msg) → num (passes (Commits t) m) ≤ num (passes
 unfolding passes
 of-resolves t m = grind (arith, nat_tests)
 
-few-resolves : (t : ℕ) (ms : List Msg) → among (Commits t) ms ≤ among (Resolves t) ms
+pub few-resolves : (t : ℕ) (ms : List Msg) → among (Commits t) ms ≤ among (Resolves t) ms
 unfolding among
 few-resolves t [] = omega arith
 few-resolves t (m ∷ ms) = omega (arith, of-resolves t m, few-resolves t ms)

@@ -8,7 +8,7 @@ use Rattle.tcc_program.specs.Program.{Local, Program}
 use Rattle.tcc_maps.specs.Words.{num, any_below, any_word}
 use Rattle.tcc_maps.specs.Serving.{is_skipped, first_serving}
 use Rattle.tcc_maps.specs.Shape.{Shape}
-use Rattle.tcc_maps.specs.Cache.{empty_cache, is_dirty}
+use Rattle.tcc_maps.specs.Cache.{empty_cache}
 use Rattle.tcc_maps.specs.Spilled.{none_spilled}
 use Rattle.tcc_maps.specs.Lines.{no_lines}
 use Rattle.tcc_rules.specs.Seen.{Copy, seen, home_copy, copies, copies_of, copies_on, newest, numbers}
@@ -16,7 +16,7 @@ use Rattle.tcc_rules.specs.State.{core_start, dir_start, vendor_start, start}
 use Rattle.tcc_attempt.specs.Follows.{Follows, sees}
 use Rattle.tcc_serial.specs.Alone.{ReadFits}
 use Rattle.tcc_serial.specs.Commits.{CoresSerial, SeenSerial, plain_start}
-use Rattle.tcc_serial.specs.Copies.{KeptAbove, KeptOwned, KeptGets, KeptSharers, copies_with, keeps_unmodified, holds_line}
+use Rattle.tcc_serial.specs.Copies.{KeptGets, KeptSharers, keeps_unmodified, holds_line}
 use Rattle.tcc_serial.specs.Count.{live}
 use Rattle.tcc_serial.specs.Invariants.{Carried, StartHasAll, first_state}
 use Rattle.tcc_serial.specs.Marks.{marks_of}
@@ -25,7 +25,6 @@ use Rattle.tcc_serial.specs.Ways.{first_ways, ways_from}
 use Rattle.tcc_serial.specs.Owners.{grants_from}
 use Rattle.tcc_rules.specs.Step.{run, run_from}
 use Rattle.tcc_serial.specs.Values.{HomeWords, CopiesAbove, UnmodifiedWords, FilledWords, ReadWords, CopiesHave, value_at, after_commits}
-use Rattle.tcc_serial.specs.Wrote.{wrote, wrote_line}
 use Rattle.tcc_serial.proofs.MoreKept.{start-more}
 use Rattle.tcc_serial.proofs.FromKept.{runs_carry}
 
@@ -57,33 +56,9 @@ start-read local = record { stand = tt; used = λ a x e. absurd (cc) }
 
 -- lines and copies
 
-no-line : (base c t l : ℕ) → wrote_line base [] c t l ≡ false
-unfolding wrote_line wrote any_word any_below
-no-line base c t l = refl
-
-clean : (l : ℕ) → is_dirty empty_cache l ≡ false
-unfolding is_dirty empty_cache any_word any_below
-clean l = refl
-
 empty-keeps : (l : ℕ) → keeps_unmodified empty_cache l ≡ false
 unfolding keeps_unmodified empty_cache any_word any_below
 empty-keeps l = refl
-
-no-copy : (entries : ℕ → Local) (ram : ℕ → ℕ) (c d l t : ℕ) → copies_with l t (pair (start entries ram) c d) ≡ 0
-unfolding start core_start pair copies_with live
-no-copy entries ram c d l t = rw (clean l) refl
-
-start-above : (sh : Shape) (entries : ℕ → Local) (ram : ℕ → ℕ) → KeptAbove sh (start entries ram) []
-unfolding start core_start pair live
-start-above sh entries ram c d l t a b e f = record {
-  one = rw (no-copy entries ram c d l t, no-line sh.base c t l) refl;
-  framed = λ x. absurd (let y = clean l in cc);
-  sent = refl;
-}
-
-start-owned : (sh : Shape) (entries : ℕ → Local) (ram : ℕ → ℕ) → KeptOwned sh (start entries ram)
-unfolding start dir_start no_lines pair
-start-owned sh entries ram c d l a b e = no-copy entries ram c d l 0
 
 start-gets : (sh : Shape) (entries : ℕ → Local) (ram : ℕ → ℕ) → KeptGets sh (start entries ram)
 unfolding start dir_start no_lines pair
@@ -161,8 +136,6 @@ start_has_all sh p entries ram = record {
   attempt_follows_from_its_view = λ c. start-follows sh p (entries c);
   read_marks_are_the_view = λ c. start-read (entries c);
   marks_name_different_lines = λ c d t l a b. (none-marked sh entries ram c d t l, refl, refl);
-  copy_above_the_tag_is_of_a_commit_in_flight = start-above sh entries ram;
-  owned_line_has_one_copy_with_its_tag = start-owned sh entries ram;
   asked_line_gets_its_words = ((start-more sh p entries ram).all.asked, start-gets sh entries ram);
   holder_is_a_sharer = start-sharers sh entries ram;
   home_words_are_current = start-home-words sh entries ram;

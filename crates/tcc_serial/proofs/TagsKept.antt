@@ -171,7 +171,7 @@ heard-tags : (sh : Shape) (w v : World) (cs : List Noted) → ((e l : ℕ) → (
 unfolding settled_in_line is_settled
 heard-tags sh w v cs f g h d l dl i q = f d l ∙ h d l dl i q ∙ sym (last-same (settled_in_line sh v d l) (settled_in_line sh w d l) cs (λ x k. rw (g x.tid.0 x.core.0 d) refl))
 
-applied-served : (s : DirState) (t : ℕ) → 1 ≤ num (is_applied s t) → t ≤ s.serving.serving
+pub applied-served : (s : DirState) (t : ℕ) → 1 ≤ num (is_applied s t) → t ≤ s.serving.serving
 applied-served s t l = go (nat_lt t s.serving.serving) (t == s.serving.serving) refl refl (applied-or s t)
   where
     go : (a b : Bool) → nat_lt t s.serving.serving ≡ a → (t == s.serving.serving) ≡ b → num (is_applied s t) ≡ num a + num (b && nat_lt 0 s.owed) → t ≤ s.serving.serving
@@ -180,7 +180,7 @@ applied-served s t l = go (nat_lt t s.serving.serving) (t == s.serving.serving) 
     go false false p q e = absurd (omega (arith, e, l))
 
 -- the mask of a commit in a line at home has a word where the commit stored in the line
-stored-in : (sh : Shape) (d l : ℕ) (n : Noted) → l < lines sh → home sh l ≡ d → stores_line sh.base n.stores l ≡ nat_lt 0 (stored_mask sh d n.stores l)
+pub stored-in : (sh : Shape) (d l : ℕ) (n : Noted) → l < lines sh → home sh l ≡ d → stores_line sh.base n.stores l ≡ nat_lt 0 (stored_mask sh d n.stores l)
 unfolding stores_line
 stored-in sh d l n i e =
     let a : nat_lt l (lines sh) ≡ true = grind (arith, nat_tests) in
@@ -224,7 +224,7 @@ still-settled w v c d m x e b f = let y = go (x.core.0 == c && e == d) (passes (
     go true true (inl f) o = absurd (cc)
     go true true (inr f) o = absurd (cc)
 
-none-sent : (w : World) (d : ℕ) (x : Noted) → is_settled w d x ≡ true → live (Commits x.tid.0) (w.net (Core x.core.0) (Dir d)) ≡ 0
+pub none-sent : (w : World) (d : ℕ) (x : Noted) → is_settled w d x ≡ true → live (Commits x.tid.0) (w.net (Core x.core.0) (Dir d)) ≡ 0
 unfolding is_settled
 none-sent w d x y = grind (arith, nat_tests)
 

@@ -40,7 +40,7 @@ pub record Speaks (sh : Shape) (w : World) (c : ℕ) (y : Out) : Type 0 where
   pub tells : Tells sh (w.cores c) y
   pub noted : CommitsNoted y
 
-speaks : (sh : Shape) (w : World) (c : ℕ) (y : Out) → ((d t : ℕ) → d < sh.dirs → KeepsPart sh d t 0 (w.cores c) y) → Tells sh (w.cores c) y → CommitsNoted y → Speaks sh w c y
+pub speaks : (sh : Shape) (w : World) (c : ℕ) (y : Out) → ((d t : ℕ) → d < sh.dirs → KeepsPart sh d t 0 (w.cores c) y) → Tells sh (w.cores c) y → CommitsNoted y → Speaks sh w c y
 unfolding part_in pair
 speaks sh w c y k h n = record { untold = λ d t l. omega (arith, k d t l); tells = h; noted = n }
 

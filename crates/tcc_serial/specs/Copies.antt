@@ -78,22 +78,22 @@ KeptLoading sh w = (c d l : ℕ) → LoadingOf sh d l (pair w c d)
 unfoldable pub copies_with : (line tag : ℕ) → Pair → ℕ
 copies_with l t v = num (is_dirty v.core.cache l && dirty_tag v.core.cache l == t) + live (CopyOf l t) v.out
 
--- With a tag above the line's there is one copy of each line that a commit stored whose Commit is in flight, and no other; it has
--- just the words that the commit stored.
+-- Of a line in memory, with a tag above the line's, there is one copy where a commit stored in the line whose Commit is in flight, and
+-- no other; it has just the words that the commit stored.
 pub record AboveOf (base : ℕ) (cs : List Noted) (c l t : ℕ) (v : Pair) : Type 0 where
   pub one : copies_with l t v ≡ cond (wrote_line base cs c t l) (live (Commits t) v.out) 0
   pub framed : is_dirty v.core.cache l ≡ true → dirty_tag v.core.cache l ≡ t → dirty_mask v.core.cache l ≡ wrote_mask base cs c t l
   pub sent : live (CopyMask l t (wrote_mask base cs c t l)) v.out ≡ 0
 
 abbrev pub KeptAbove : Shape → World → List Noted → Type 0
-KeptAbove sh w cs = (c d l t : ℕ) → c < sh.cores → d < sh.dirs → home sh l ≡ d → (w.dirs d).lines.tag l < t → AboveOf sh.base cs c l t (pair w c d)
+KeptAbove sh w cs = (c d l t : ℕ) → c < sh.cores → d < sh.dirs → l < lines sh → home sh l ≡ d → (w.dirs d).lines.tag l < t → AboveOf sh.base cs c l t (pair w c d)
 
--- With the line's tag there is one copy, the owner's, where there is an owner, and else none.
+-- Of a line in memory there is one copy with the line's tag, the owner's, where there is an owner, and else none.
 abbrev pub OwnedOf : (core line : ℕ) → Pair → Type 0
 OwnedOf c l v = copies_with l (v.dir.lines.tag l) v ≡ num (is_this (v.dir.lines.owner l) c)
 
 abbrev pub KeptOwned : Shape → World → Type 0
-KeptOwned sh w = (c d l : ℕ) → c < sh.cores → d < sh.dirs → home sh l ≡ d → OwnedOf c l (pair w c d)
+KeptOwned sh w = (c d l : ℕ) → c < sh.cores → d < sh.dirs → l < lines sh → home sh l ≡ d → OwnedOf c l (pair w c d)
 
 -- Of an asked line the request is in flight to the owner, or its words are on their way from the owner.
 abbrev pub GetsOf : (core line : ℕ) → Pair → Type 0
