@@ -164,6 +164,7 @@ carried sh gs ys h x t = let m = x.more in let k = m.all in record {
   line_tag_is_the_last_settled_writer = x.tags;
   copy_above_the_tag_is_of_a_commit_in_flight = above-from sh h.commits h.world x.lines;
   owned_line_has_one_copy_with_its_tag = owned-from sh h.commits h.world x.lines;
+  asked_line_gets_its_words = (k.asked, x.gets);
 }
 
 told-always : (sh : Shape) (p : Program) (entries : ℕ → Local) (ram : ℕ → ℕ) (es : List Event) → IfSome (run sh p (start entries ram) es) (λ h. Told sh (ways_from sh p es first_ways (first_state entries ram)) h)

@@ -68,6 +68,8 @@ pub mod AfterKept
 pub mod LastOf
 pub mod TagsKept
 pub mod DirtyFrames
+pub mod GetsKept
+pub mod DirGets
 pub mod CopyFacts
 pub mod LinesStep
 pub mod LinesAnswered

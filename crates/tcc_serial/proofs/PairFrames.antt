@@ -50,7 +50,7 @@ grant-other w c k o j d h = rw (differ j c h) refl
 
 -- a core takes a message of directory e
 
-back-own : (w : World) (c k : ℕ) (o : Out) (d : ℕ) → pair (core_takes w (Dir d) c k o) c d ≡ after_move (back_taken (pair w c d) k) o d
+pub back-own : (w : World) (c k : ℕ) (o : Out) (d : ℕ) → pair (core_takes w (Dir d) c k o) c d ≡ after_move (back_taken (pair w c d) k) o d
 unfolding pair core_takes
 back-own w c k o d = rw (same c) (rw (same d) refl)
 

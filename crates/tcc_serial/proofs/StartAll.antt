@@ -16,7 +16,7 @@ use Rattle.tcc_rules.specs.State.{core_start, dir_start, vendor_start, start}
 use Rattle.tcc_attempt.specs.Follows.{Follows, sees}
 use Rattle.tcc_serial.specs.Alone.{ReadFits}
 use Rattle.tcc_serial.specs.Commits.{CoresSerial, SeenSerial, plain_start}
-use Rattle.tcc_serial.specs.Copies.{KeptGets, KeptSharers, keeps_unmodified, holds_line}
+use Rattle.tcc_serial.specs.Copies.{KeptSharers, keeps_unmodified, holds_line}
 use Rattle.tcc_serial.specs.Count.{live}
 use Rattle.tcc_serial.specs.Invariants.{Carried, StartHasAll, first_state}
 use Rattle.tcc_serial.specs.Marks.{marks_of}
@@ -25,7 +25,6 @@ use Rattle.tcc_serial.specs.Ways.{first_ways, ways_from}
 use Rattle.tcc_serial.specs.Owners.{grants_from}
 use Rattle.tcc_rules.specs.Step.{run, run_from}
 use Rattle.tcc_serial.specs.Values.{HomeWords, CopiesAbove, UnmodifiedWords, FilledWords, ReadWords, CopiesHave, value_at, after_commits}
-use Rattle.tcc_serial.proofs.MoreKept.{start-more}
 use Rattle.tcc_serial.proofs.FromKept.{runs_carry}
 
 -- no core has a TID and nothing is in flight
@@ -59,10 +58,6 @@ start-read local = record { stand = tt; used = λ a x e. absurd (cc) }
 empty-keeps : (l : ℕ) → keeps_unmodified empty_cache l ≡ false
 unfolding keeps_unmodified empty_cache any_word any_below
 empty-keeps l = refl
-
-start-gets : (sh : Shape) (entries : ℕ → Local) (ram : ℕ → ℕ) → KeptGets sh (start entries ram)
-unfolding start dir_start no_lines pair
-start-gets sh entries ram c d l a b e = absurd (cc)
 
 holds-none : (entries : ℕ → Local) (ram : ℕ → ℕ) (c d l : ℕ) → holds_line l (pair (start entries ram) c d) ≡ false
 unfolding start core_start pair holds_line live
@@ -136,7 +131,6 @@ start_has_all sh p entries ram = record {
   attempt_follows_from_its_view = λ c. start-follows sh p (entries c);
   read_marks_are_the_view = λ c. start-read (entries c);
   marks_name_different_lines = λ c d t l a b. (none-marked sh entries ram c d t l, refl, refl);
-  asked_line_gets_its_words = ((start-more sh p entries ram).all.asked, start-gets sh entries ram);
   holder_is_a_sharer = start-sharers sh entries ram;
   home_words_are_current = start-home-words sh entries ram;
   copy_above_the_tag_has_the_committed_words = start-copies-above sh entries ram;

@@ -95,12 +95,12 @@ OwnedOf c l v = copies_with l (v.dir.lines.tag l) v ≡ num (is_this (v.dir.line
 abbrev pub KeptOwned : Shape → World → Type 0
 KeptOwned sh w = (c d l : ℕ) → c < sh.cores → d < sh.dirs → l < lines sh → home sh l ≡ d → OwnedOf c l (pair w c d)
 
--- Of an asked line the request is in flight to the owner, or its words are on their way from the owner.
+-- Of an asked line in memory the request is in flight to the owner, or its words are on their way from the owner.
 abbrev pub GetsOf : (core line : ℕ) → Pair → Type 0
 GetsOf c l v = v.dir.lines.asked l ≡ true → v.dir.lines.owner l ≡ Some c → 1 ≤ live (DataOf l) v.back + live (CopyOf l (v.dir.lines.tag l)) v.out
 
 abbrev pub KeptGets : Shape → World → Type 0
-KeptGets sh w = (c d l : ℕ) → c < sh.cores → d < sh.dirs → GetsOf c l (pair w c d)
+KeptGets sh w = (c d l : ℕ) → c < sh.cores → d < sh.dirs → l < lines sh → home sh l ≡ d → GetsOf c l (pair w c d)
 
 -- sharers
 

@@ -147,6 +147,8 @@ pub record Carried (sh : Shape) (gs : List Grant) (ys : Ways) (h : History) : Ty
   pub copy_above_the_tag_is_of_a_commit_in_flight : KeptAbove sh h.world h.commits
   -- With the tag of a line in memory there is one copy, the owner's, where there is an owner, and else none.
   pub owned_line_has_one_copy_with_its_tag : KeptOwned sh h.world
+  -- An asked line has an owner; the request is in flight to it, or the line's words are on their way from it.
+  pub asked_line_gets_its_words : KeptAsked sh h.world × KeptGets sh h.world
   -- commits
 
   -- Where a larger TID has committed and a smaller one hasn't, this one was given up wherever the larger one loaded or stored; and each
@@ -171,8 +173,6 @@ pub record Invariants (sh : Shape) (p : Program) (entries : ℕ → Local) (ram 
   pub marks_name_different_lines : (c d t l : ℕ) → c < sh.cores → d < sh.dirs → (marks_of t l (pair h.world c d) ≤ 1) × (live (MarksAway sh.dirs d) (pair h.world c d).out ≡ 0) × (live EmptyMarks (pair h.world c d).out ≡ 0)
   -- lines and copies
 
-  -- An asked line has an owner; the request is in flight to it, or the line's words are on their way from it.
-  pub asked_line_gets_its_words : KeptAsked sh h.world × KeptGets sh h.world
   -- A core that holds a line is one of its sharers, or its Commit of the line is in flight; and it hasn't said that it keeps no word.
   pub holder_is_a_sharer : KeptSharers sh h.world h.commits
   -- values
