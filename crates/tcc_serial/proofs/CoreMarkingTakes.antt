@@ -18,7 +18,7 @@ use Rattle.tcc_serial.specs.Tids.{has_tid, opens, waits_for_tid}
 use Rattle.tcc_serial.proofs.CoreSteps.{fill-steady, data-steady, ignored-steady, Hurt, Unhurt, Rolled, Doomed, Aborted, Gave_up, Invalidated, invalidate-cases, Replied, Ignored, Probed, Left_alone, reply-cases}
 use Rattle.tcc_serial.proofs.Links.{among-append}
 use Rattle.tcc_serial.proofs.CoreMarks.{marks-for, marks-only, full-for, stores-writes}
-use Rattle.tcc_serial.proofs.CoreMarking.{Marking, Unsaid, unsaid-nothing, unsaid-append, acked, silent, silent-none, marking-steady, last-words, is-tid, swap, mine, self, told-abort, told-skip, marked-same, stores-same}
+use Rattle.tcc_serial.proofs.CoreMarking.{Marking, few-one, Unsaid, unsaid-nothing, unsaid-append, acked, silent, silent-none, marking-steady, last-words, is-tid, swap, mine, self, told-abort, told-skip, marked-same, stores-same}
 
 -- before an acknowledgement
 
@@ -125,6 +125,10 @@ nothing-more true false = refl
 nothing-more false true = refl
 nothing-more false false = refl
 
+no-more : (a b c : Bool) → num a + num (b && (not true && c)) ≤ 1
+no-more a true c = omega (arith, few-one a)
+no-more a false c = omega (arith, few-one a)
+
 one-is : (b : Bool) → 1 ≤ num b → b ≡ true
 one-is true x = refl
 one-is false x = absurd (omega (arith, x))
@@ -156,6 +160,7 @@ marking-here sh e u t l s o ph ow ph' ow' ca se = record {
   owned = λ x. mine u t s.phase has (skips-mine u t _ _ (rw se at x) (omega arith) own);
   words = rw se (full-for sh s.cache u e);
   kept = λ x. let y : u ≡ t = last (all_replied sh (put s.owing e false)) (rw ph' at x) in (mine u t s.phase has y, rw (se, ph, ow, ca, marks-for sh s.cache u e t l) (after y));
+  once = rw (se, ph, ow, marks-for sh s.cache u e t l) (no-more ((u == t) && stores_line sh s.cache e l) (has_marked (Probing u)) (stores_line sh s.cache e l));
   opened = λ x. opening (rw se at x);
   skips = λ x. absurd (omega (arith, rw se at x, no-skips sh s.cache u e t));
 }

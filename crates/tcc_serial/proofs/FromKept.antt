@@ -155,6 +155,7 @@ carried sh gs ys h m t = let k = m.all in record {
   marks_sent_are_in_flight_or_handled = (mark-owner sh gs h k, k.counted);
   inv_and_ack_name_a_marked_line = k.named;
   line_marked_in_part_has_no_owner = k.whole;
+  marks_name_different_lines = λ c d u l cl dl. (m.one_mark c d u l cl dl, (k.kept.told.owed.at_home c d).marks, (k.marks c d u l).words);
   records_and_messages_are_at_home = m.homes;
   owner_is_the_core_of_the_tag = m.line_owners;
   after_is_the_last_commit_there = m.after;

@@ -38,6 +38,7 @@ pub mod MarkSteps
 pub mod MarksKept
 pub mod CoreMasks
 pub mod MasksKept
+pub mod OneMarkKept
 pub mod StoredMasks
 pub mod CommitMasks
 pub mod PairStored

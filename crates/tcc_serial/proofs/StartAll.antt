@@ -39,14 +39,6 @@ start-carried : (sh : Shape) (p : Program) (entries : ℕ → Local) (ram : ℕ 
 unfolding run run_from grants_from ways_from
 start-carried sh p entries ram = runs_carry sh p entries ram []
 
-none-marked : (sh : Shape) (entries : ℕ → Local) (ram : ℕ → ℕ) (c d t l : ℕ) → marks_of t l (pair (start entries ram) c d) ≤ 1
-unfolding start dir_start no_lines pair live marks_of
-none-marked sh entries ram c d t l = omega (arith, go (first_serving.serving == t))
-  where
-    go : (b : Bool) → num (b && false) ≤ 1
-    go true = omega arith
-    go false = omega arith
-
 start-follows : (sh : Shape) (p : Program) (local : Local) → Follows sh p (core_start local) []
 unfolding core_start none_spilled empty_cache sees begun steps
 start-follows sh p local = record { ends = refl; steps = λ ram small agrees. record { local = refl; loads = refl; stores = refl; console = refl; outcome = refl; words = λ w. refl; small = small } }
@@ -164,7 +156,6 @@ start_has_all sh p entries ram = record {
   frames_are_of_lines_in_memory = λ c l e. absurd (cc);
   attempt_follows_from_its_view = λ c. start-follows sh p (entries c);
   read_marks_are_the_view = λ c. start-read (entries c);
-  marks_name_different_lines = λ c d t l a b. (none-marked sh entries ram c d t l, refl, refl);
   line_tag_is_the_last_settled_writer = start-tags sh entries ram;
   copy_above_the_tag_is_of_a_commit_in_flight = start-above sh entries ram;
   owned_line_has_one_copy_with_its_tag = start-owned sh entries ram;

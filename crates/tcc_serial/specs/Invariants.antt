@@ -130,6 +130,8 @@ pub record Carried (sh : Shape) (gs : List Grant) (ys : Ways) (h : History) : Ty
   pub inv_and_ack_name_a_marked_line : KeptNamed sh h.world
   -- Where nothing is owed, a marked line is wholly overwritten or has no owner.
   pub line_marked_in_part_has_no_owner : KeptWhole sh h.world
+  -- The Marks of a TID, in flight and handled, are of different lines, at home there, and of some word each.
+  pub marks_name_different_lines : (c d t l : ℕ) → c < sh.cores → d < sh.dirs → (marks_of t l (pair h.world c d) ≤ 1) × (live (MarksAway sh.dirs d) (pair h.world c d).out ≡ 0) × (live EmptyMarks (pair h.world c d).out ≡ 0)
   -- lines and copies
 
   -- A directory knows only of lines at home there, and messages about a line go to its home or come from it, each with some word.
@@ -158,10 +160,6 @@ pub record Invariants (sh : Shape) (p : Program) (entries : ℕ → Local) (ram 
   pub attempt_follows_from_its_view : (c : ℕ) → Follows sh p (h.world.cores c) (views c)
   -- Until a core is alone the words marked read are those of its view, and the valid ones that it hasn't modified have the view's values.
   pub read_marks_are_the_view : (c : ℕ) → ReadFits (h.world.cores c) (views c)
-  -- probes and marks
-
-  -- The Marks of a TID, in flight and handled, are of different lines, at home there, and of some word each.
-  pub marks_name_different_lines : (c d t l : ℕ) → c < sh.cores → d < sh.dirs → (marks_of t l (pair h.world c d) ≤ 1) × (live (MarksAway sh.dirs d) (pair h.world c d).out ≡ 0) × (live EmptyMarks (pair h.world c d).out ≡ 0)
   -- lines and copies
 
   -- A line's tag is the greatest TID that is settled at its home and stored in it, or 0.
