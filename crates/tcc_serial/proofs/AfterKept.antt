@@ -22,7 +22,8 @@ use Rattle.tcc_serial.specs.Count.{LoadOf, LoadNot, live, passes}
 use Rattle.tcc_serial.specs.OneCore.{KeptCores}
 use Rattle.tcc_serial.specs.Owners.{Grant, AreGranted, holder, KeptOwners, LastGranted}
 use Rattle.tcc_serial.specs.Pairs.{Pair, pair, after_move}
-use Rattle.tcc_serial.specs.Wrote.{stores_at, last_of}
+use Rattle.tcc_serial.specs.Stored.{stores_at}
+use Rattle.tcc_serial.specs.Wrote.{last_of}
 use Rattle.tcc_serial.proofs.CoreAfter.{Stays, Commits_now, AfterStep, after-exec, after-evict, after-grant, after-back}
 use Rattle.tcc_serial.proofs.CoreOwners.{KeepsHolder, noted_tid, none, holder-exec, holder-evict}
 use Rattle.tcc_serial.proofs.Links.{live-sends, live-takes}
@@ -48,7 +49,7 @@ last-insert p n (m ∷ cs) = go (nat_lt n.tid.0 m.tid.0) (last-insert p n cs)
 last-below : (sh : Shape) (gs : List Grant) (c d t : ℕ) (cs : List Noted) → AreGranted gs cs → ((u : ℕ) → Contains gs (record { tid = u; core = c }) → u ≤ t) → last_of (stored_there sh c d) cs ≤ t
 unfolding AreGranted last_of stored_there
 last-below sh gs c d t [] a f = omega arith
-last-below sh gs c d t (m ∷ cs) a f = go (m.core.0 == c) refl (stores_at sh m.stores d) (last-below sh gs c d t cs (a.1) f)
+last-below sh gs c d t (m ∷ cs) a f = go (m.core.0 == c) refl (stores_at sh d m.stores) (last-below sh gs c d t cs (a.1) f)
   where
     go : (b : Bool) → (m.core.0 == c) ≡ b → (y : Bool) → last_of (stored_there sh c d) cs ≤ t → max (cond (b && y) m.tid.0 0) (last_of (stored_there sh c d) cs) ≤ t
     go true q true l = let e : m.core.0 ≡ c = grind (arith, nat_tests) in let x = f m.tid.0 (rw (sym e) (a.0)) in omega arith
@@ -90,7 +91,7 @@ stays-after sh cs c d v o y h = record {
 commits-after : (sh : Shape) (cs : List Noted) (c d : ℕ) (v : Pair) (o : Out) (y : Commits_now sh c v.core o) → last_of (stored_there sh c d) cs ≤ y.noted.tid.0 → ((l : ℕ) → live (LoadOf l) v.out ≡ 0) → AfterOf sh cs c d v → AfterOf sh (insert_commit y.noted cs) c d (after_move v o d)
 unfolding stored_there
 commits-after sh cs c d v o y b n h = record {
-  last = y.after d ∙ (go (stores_at sh y.noted.stores d) refl ∙ sym (last-insert (stored_there sh c d) y.noted cs));
+  last = y.after d ∙ (go (stores_at sh d y.noted.stores) refl ∙ sym (last-insert (stored_there sh c d) y.noted cs));
   carried = omega (arith, no-live v.out n (o.core.after d), y.quiet d (o.core.after d), live-sends (LoadNot (o.core.after d)) v.out (o.sends (Dir d)));
 }
   where
@@ -103,7 +104,7 @@ commits-after sh cs c d v o y b n h = record {
     none-else : (l : ℕ) → l ≡ max 0 l
     none-else l = omega arith
 
-    go : (x : Bool) → stores_at sh y.noted.stores d ≡ x → (if x then y.noted.tid.0 else v.core.after d) ≡ max (cond ((y.noted.core.0 == c) && stores_at sh y.noted.stores d) y.noted.tid.0 0) (last_of (stored_there sh c d) cs)
+    go : (x : Bool) → stores_at sh d y.noted.stores ≡ x → (if x then y.noted.tid.0 else v.core.after d) ≡ max (cond ((y.noted.core.0 == c) && stores_at sh d y.noted.stores) y.noted.tid.0 0) (last_of (stored_there sh c d) cs)
     go true q = rw (own, q) (at-most y.noted.tid.0 (last_of (stored_there sh c d) cs) b)
     go false q = rw (own, q) (h.last ∙ none-else (last_of (stored_there sh c d) cs))
 

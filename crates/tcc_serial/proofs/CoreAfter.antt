@@ -23,10 +23,11 @@ use Rattle.tcc_rules.specs.CoreEvict.{core_evict, evict_line, is_awaited}
 use Rattle.tcc_rules.specs.CoreDeliver.{grant, grant_phase, from_dir, probe_reply, reply_phase, replied, all_replied, when_ready, when_alone, ignored, fill, fill_awaited, data_request, invalidate, acknowledged, if_violated, violated_in, is_violated, without}
 use Rattle.tcc_serial.specs.Count.{LoadOf, LoadNot, among, passes}
 use Rattle.tcc_serial.specs.OneCore.{OneCore, executes}
+use Rattle.tcc_serial.specs.Stored.{stores_at}
 use Rattle.tcc_serial.specs.Uses.{stores_word}
-use Rattle.tcc_serial.specs.Wrote.{stores_at}
 use Rattle.tcc_serial.proofs.CoreAwaits.{Free, free-nothing, free-flushed, free-written, free-commit, free-solo, free-grants, free-skips, free-probes, free-aborts, free-marks}
 use Rattle.tcc_serial.proofs.Links.{among-append}
+use Rattle.tcc_serial.proofs.StoredMasks.{stored-solo, stored-written}
 
 -- without a request for a line there is none that carries something else
 no-loads : (ms : List Msg) → ((l : ℕ) → among (LoadOf l) ms ≡ 0) → (x : ℕ) → among (LoadNot x) ms ≡ 0
@@ -62,7 +63,7 @@ pub record Commits_now (sh : Shape) (c : ℕ) (s : CoreState) (o : Out) : Type 0
   pub noted : Noted
   pub commit : o.commit ≡ Some noted
   pub core : noted.core.0 ≡ c
-  pub after : (d : ℕ) → o.core.after d ≡ (if stores_at sh noted.stores d then noted.tid.0 else s.after d)
+  pub after : (d : ℕ) → o.core.after d ≡ (if stores_at sh d noted.stores then noted.tid.0 else s.after d)
   pub quiet : (d x : ℕ) → among (LoadNot x) (o.sends (Dir d)) ≡ 0
   pub idle : s.awaited ≡ None
 
@@ -74,35 +75,6 @@ stays s o e c f = record { after = e; carries = λ d. no-loads (o.sends (Dir d))
 
 still : (sh : Shape) (c : ℕ) (s : CoreState) (o : Out) → o.core.after ≡ s.after → o.commit ≡ None → Free o.sends → AfterStep sh c s o
 still sh c s o e n f = inl (stays s o e n f)
-
--- where a commit stored, by its stores and by the core's words
-
-word-or : (f g : ℕ → Bool) (n : ℕ) → any_below (λ k. f k || g k) n ≡ (any_below f n || any_below g n)
-unfolding any_below
-word-or f g zero = refl
-word-or f g (suc n) = rw (word-or f g n) (four (any_below f n) (any_below g n) (f n) (g n))
-  where
-    four : (a b x y : Bool) → ((a || b) || (x || y)) ≡ ((a || x) || (b || y))
-    four true b x y = refl
-    four false true true y = refl
-    four false true false y = refl
-    four false false true y = refl
-    four false false false y = refl
-
-below-same : (f g : ℕ → Bool) (n : ℕ) → ((k : ℕ) → f k ≡ g k) → any_below f n ≡ any_below g n
-unfolding any_below
-below-same f g zero h = refl
-below-same f g (suc n) h = rw (below-same f g n h, h n) refl
-
-solo-stores : (sh : Shape) (c : Cache) (sp : Spilled) (ss : List Stored) (d : ℕ) → ((w : ℕ) → (c.modified w || is_some (sp w)) ≡ stores_word sh.base ss w) → solo_writes_at sh c sp d ≡ stores_at sh ss d
-unfolding solo_writes_at is_written is_modified holds any_word stores_at
-solo-stores sh c sp ss d h = below-same (λ l. d == home sh l && (any_below (λ k. c.modified (word_at l k)) 8 || any_below (λ k. is_some (sp (word_at l k))) 8)) (λ l. d == home sh l && any_below (λ k. stores_word sh.base ss (word_at l k)) 8) (lines sh)
-    (λ l. ap (λ b. d == home sh l && b) (sym (word-or (λ k. c.modified (word_at l k)) (λ k. is_some (sp (word_at l k))) 8) ∙ below-same (λ k. c.modified (word_at l k) || is_some (sp (word_at l k))) (λ k. stores_word sh.base ss (word_at l k)) 8 (λ k. h (word_at l k))))
-
-ready-stores : (sh : Shape) (c : Cache) (ss : List Stored) (d : ℕ) → ((w : ℕ) → c.modified w ≡ stores_word sh.base ss w) → writes_at sh c d ≡ stores_at sh ss d
-unfolding writes_at is_modified any_word stores_at
-ready-stores sh c ss d h = below-same (λ l. d == home sh l && any_below (λ k. c.modified (word_at l k)) 8) (λ l. d == home sh l && any_below (λ k. stores_word sh.base ss (word_at l k)) 8) (lines sh)
-    (λ l. ap (λ b. d == home sh l && b) (below-same (λ k. c.modified (word_at l k)) (λ k. stores_word sh.base ss (word_at l k)) 8 (λ k. h (word_at l k))))
 
 -- executing
 
@@ -213,8 +185,8 @@ closed sh p c need s cl h n = go s.phase
     e : r.after ≡ s.after
     e = finished-after p need 0 s
 
-    stored : (d : ℕ) → solo_writes_at sh r.cache r.spilled d ≡ stores_at sh r.stores d
-    stored d = solo-stores sh r.cache r.spilled r.stores d (λ w. rw ((cl s).1, (cl s).2, (cl s).0) (h.words.named w))
+    stored : (d : ℕ) → solo_writes_at sh r.cache r.spilled d ≡ stores_at sh d r.stores
+    stored d = stored-solo sh r.cache r.spilled r.stores d (λ w. rw ((cl s).1, (cl s).2, (cl s).0) (h.words.named w))
 
     asks : AfterStep sh c s (moves (record r { phase = AwaitTid }) (to Vendor (TidReq ∷ [])))
     asks = still sh c s (moves (record r { phase = AwaitTid }) (to Vendor (TidReq ∷ []))) e refl (λ d l. refl)
@@ -265,13 +237,6 @@ after-exec sh p c s h = go s.phase refl
     rests t q None e = refl
     rests t q (Some a) e = let x = (h.awaited a e).0 in absurd (let y : executes s.phase ≡ false = rw q refl in cc)
 
-    named : (t : ℕ) → s.phase ≡ Ready t → (w : ℕ) → s.cache.modified w ≡ stores_word sh.base s.stores w
-    named t q w = let x : is_solo s.phase ≡ false = rw q refl in let y = h.words.spilled_alone x w in rw (sym (h.words.named w)) (plain (s.cache.modified w) (s.spilled w) y)
-      where
-        plain : (b : Bool) (o : Option ℕ) → o ≡ None → b ≡ (b || is_some o)
-        plain true o e = refl
-        plain false o e = rw e refl
-
     go : (q : Phase) → s.phase ≡ q → IfSome (exec_phase sh p c s q) (λ o. AfterStep sh c s o)
     go Running e = acts s.awaited refl
     go (Solo t) e = acts s.awaited refl
@@ -279,7 +244,7 @@ after-exec sh p c s h = go s.phase refl
       noted = noted t c s;
       commit = refl;
       core = refl;
-      after = λ d. rw (ready-stores sh s.cache s.stores d (named t e)) refl;
+      after = λ d. rw (stored-written sh s.cache s.spilled s.stores d (rw e at (h.words))) refl;
       quiet = λ d x. no-loads (commit_sends sh s.cache t (Dir d)) (λ l. free-commit sh s.cache t d l) x;
       idle = rests t e s.awaited refl;
     })

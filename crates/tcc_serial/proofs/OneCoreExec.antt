@@ -54,11 +54,6 @@ executing sh s r a e f h w aw = record {
   rested = λ q. absurd (acts-rest s.phase a (rw e at q));
 }
 
--- what an instruction stores
-abbrev stores_of : Need → List Stored
-stores_of (Stores addr size value) = store_of addr size value ∷ []
-stores_of _ = []
-
 -- what finishing an instruction leaves alone
 record Fixed (s r : CoreState) : Type 0 where
   phase : r.phase ≡ s.phase
@@ -275,12 +270,6 @@ wholly_one sh p addr x need s a h n k = go (holds s.spilled (line_of w)) refl (s
     go false q false r false t = full sh (line_of w) s a h n
 
 -- the transaction has ended
-
-after-solo : (e : Outcome) → is_solo (phase_after e) ≡ false
-after-solo Goes = refl
-after-solo Ended = refl
-after-solo (HaltedWith k) = refl
-after-solo (TrappedWith k) = refl
 
 -- a core that has committed
 committed_one : (sh : Shape) (s r : CoreState) → r.phase ≡ phase_after s.ended → ((d : ℕ) → r.owing d ≡ false) → r.awaited ≡ None → ((b : Bool) → Words sh b r.cache r.spilled r.stores) → Empty r → OneCore sh r

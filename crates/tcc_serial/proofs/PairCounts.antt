@@ -88,10 +88,6 @@ pub marks-stay : (sh : Shape) (d t l : ℕ) (v : Pair) (m : Msg) (s : DirState) 
 unfolding marks_of
 marks-stay sh d t l v m s ms k y eqn skip nonempty ahead one = holds v.dir s m t l (live (MarkOf t l) v.out) (live (MarkOf t l) k) (live (MarkOf t l) v.out + num (v.dir.serving.serving == t && has_mark v.dir.lines l)) y eqn skip nonempty one (λ x. ahead) refl
 
-one-line : (b : Bool) → num b ≤ 1
-one-line true = omega arith
-one-line false = omega arith
-
 -- where a Commit counts the marked lines, none of its Marks is in flight
 pub none-away : (sh : Shape) (l : ℕ) (v : Pair) → CountsMarks sh (count_below (has_mark v.dir.lines) (lines sh)) v.dir.serving.serving v → live (MarkOf v.dir.serving.serving l) v.out ≡ 0
 unfolding marks_of

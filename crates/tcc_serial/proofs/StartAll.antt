@@ -31,9 +31,6 @@ use Rattle.tcc_serial.proofs.FromKept.{runs_carry}
 
 -- no core has a TID and nothing is in flight
 
-no-commit : {A : Type 0} → (n : Noted) → Contains [] n → A
-no-commit n c = absurd (omega (arith, c.1))
-
 -- what is proved of every run holds where the run has no event
 start-carried : (sh : Shape) (p : Program) (entries : ℕ → Local) (ram : ℕ → ℕ) → Carried sh [] first_ways (first_state entries ram)
 unfolding run run_from grants_from ways_from

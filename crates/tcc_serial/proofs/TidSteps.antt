@@ -34,9 +34,6 @@ unfolding passes
 any-one l i m e = live-some Any l i m e
 
 -- a core that a message comes from or goes to is one of the machine
-abbrev Inside : (c : ℕ) → Shape → Type 0
-Inside c sh = c < sh.cores
-
 pub inside_from : (sh : Shape) (c n : ℕ) → (sh.cores ≤ c → n ≡ 0) → 1 ≤ n → c < sh.cores
 inside_from sh c n h l = go (cases_lt c sh.cores)
   where
