@@ -28,8 +28,8 @@ use Rattle.tcc_serial.proofs.Executes.{Acts, Steady, Executed, Goes_on, Overflow
 use Rattle.tcc_serial.proofs.CoreSteps.{evict-steady, fill-steady, data-steady, invalidate-cases, reply-cases}
 use Rattle.tcc_serial.proofs.CoreCommits.{few-commits}
 use Rattle.tcc_serial.proofs.CommitOwners.{few-of}
-use Rattle.tcc_serial.proofs.CoreCounts.{is-commit, is-alone, has-ready, has-solo, no-commits, free-hurt, free-replied}
-use Rattle.tcc_serial.proofs.CoreMarking.{mine, told-commit}
+use Rattle.tcc_serial.proofs.CoreCounts.{is-commit, is-alone, has-solo, no-commits, free-hurt, free-replied}
+use Rattle.tcc_serial.proofs.CoreMarking.{mine, told-commit, has-ready}
 use Rattle.tcc_serial.proofs.CoreMarkingTakes.{unmarked}
 use Rattle.tcc_serial.proofs.CoreMasks.{own-mask, few-masked}
 use Rattle.tcc_serial.proofs.NotedCommits.{Notes, exec-notes}

@@ -27,7 +27,7 @@ use Rattle.tcc_serial.proofs.Executes.{Acts, Steady, Executed, Goes_on, Overflow
 use Rattle.tcc_serial.proofs.CoreSteps.{evict-steady, fill-steady, data-steady, Hurt, Unhurt, Rolled, Doomed, Aborted, Gave_up, Invalidated, invalidate-cases, Replied, Ignored, Probed, Left_alone, reply-cases}
 use Rattle.tcc_serial.proofs.CoreCommits.{few-commits, free-abort, free-skip, free-probe, free-grants, free-to, free-marks}
 use Rattle.tcc_serial.proofs.CoreMarks.{one-mark, marks-only}
-use Rattle.tcc_serial.proofs.CoreMarking.{mine, self, told-commit}
+use Rattle.tcc_serial.proofs.CoreMarking.{mine, self, told-commit, has-ready}
 
 -- the Marks of a TID that a core has sent and sends
 abbrev marks_after : Shape → (dir tid : ℕ) → CoreState → Out → ℕ → ℕ
@@ -96,10 +96,6 @@ is-commit sh c u d t n x = go (nat_lt d sh.dirs) (writes_at sh c d) (u == t) (co
     go true true false f p q y = absurd (grind (arith, nat_tests))
     go true false e f p q y = absurd (omega (arith, y))
     go false b e f p q y = absurd (omega (arith, y))
-
-pub has-ready : (u : ℕ) (q : Phase) → q ≡ Ready u → has_tid q u ≡ true
-unfolding has_tid
-has-ready u q e = rw e (self u)
 
 pub has-solo : (u : ℕ) (q : Phase) → q ≡ Solo u → has_tid q u ≡ true
 unfolding has_tid

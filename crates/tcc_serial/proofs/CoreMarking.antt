@@ -22,6 +22,7 @@ use Rattle.tcc_serial.proofs.CoreProbing.{tid-after}
 use Rattle.tcc_serial.proofs.Executes.{Acts, Steady, Executed, Goes_on, Overflows, Asks_tid, Alone, executed}
 use Rattle.tcc_serial.proofs.CoreSteps.{evict-steady}
 use Rattle.tcc_serial.proofs.CoreMarks.{solo-mark, solo-full, solo-skips, solo-owned}
+use Rattle.tcc_serial.proofs.Nums.{num-few}
 
 -- A core speaks only of its TID. While it keeps it, it has sent a Mark of each line that it has to; it marks a line once, only where
 -- the TID is open, and skips only where it has sent no Mark.
@@ -78,13 +79,9 @@ unsaid-append t l a b x y = record {
   skips = omega (arith, among-append (Skips t) a b, x.skips, y.skips);
 }
 
-pub few-one : (b : Bool) → num b ≤ 1
-few-one true = omega arith
-few-one false = omega arith
-
 pub at-most-one : (sh : Shape) (s : CoreState) (d l : ℕ) → marked_by sh s d l ≤ 1
 unfolding marked_by
-at-most-one sh s d l = few-one (has_marked s.phase && (not (s.owing d) && stores_line sh s.cache d l))
+at-most-one sh s d l = num-few (has_marked s.phase && (not (s.owing d) && stores_line sh s.cache d l))
 
 -- nothing is said, and what is to be marked stays
 pub silent : (sh : Shape) (d t l : ℕ) (s : CoreState) (o : Out) → Unsaid t l (o.sends (Dir d)) → (has_tid o.core.phase t ≡ true → (has_tid s.phase t ≡ true) × (marked_by sh s d l ≡ marked_by sh o.core d l)) → Marking sh d t l s o
@@ -181,7 +178,7 @@ mine u t q h e = rw e at h
 pub self : (u : ℕ) → (u == u) ≡ true
 self u = grind (arith, nat_tests)
 
-has-ready : (u : ℕ) (q : Phase) → q ≡ Ready u → has_tid q u ≡ true
+pub has-ready : (u : ℕ) (q : Phase) → q ≡ Ready u → has_tid q u ≡ true
 unfolding has_tid
 has-ready u q e = rw e (self u)
 
@@ -198,7 +195,7 @@ marking-executed sh c d t l s o (Alone u r q ph ow cm se) = record {
   owned = λ x. own (rw se at x) (solo-owned sh s.cache s.spilled u d t);
   words = rw se (solo-full sh s.cache s.spilled u d);
   kept = λ x. let y : has_tid o.core.phase t ≡ false = rw ph (tid-after r.ended t) in absurd (cc);
-  once = rw (se, q) (omega (arith, solo-mark sh s.cache s.spilled u d t l, few-one (u == t)));
+  once = rw (se, q) (omega (arith, solo-mark sh s.cache s.spilled u d t l, num-few (u == t)));
   opened = λ x. solo-opens u t (writes_at sh s.cache d) s.phase q (one (rw se at x) (cases_eq u t));
   skips = λ x. (own (skipped (rw se at x)) (solo-owned sh s.cache s.spilled u d t), rw (se, q) (omega (arith, solo-skips sh s.cache s.spilled u d t l (rw se at x))));
 }

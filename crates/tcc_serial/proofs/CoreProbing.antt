@@ -157,7 +157,7 @@ probes-all : (sh : Shape) (u d t : ℕ) → among (Probes t) (probe_all sh u (Di
 unfolding probe_all among passes
 probes-all sh u d t = grind (arith, nat_tests)
 
-tid-probing : (b : Bool) (u t : ℕ) → has_tid (probing b u) t ≡ (u == t)
+pub tid-probing : (b : Bool) (u t : ℕ) → has_tid (probing b u) t ≡ (u == t)
 unfolding has_tid
 tid-probing true u t = refl
 tid-probing false u t = refl

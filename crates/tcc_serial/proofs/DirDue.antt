@@ -75,7 +75,7 @@ quiet-due sh d s new sends e f q m = record {
     served (inl x) = inl (x, λ j. omega (arith, q j, few-nots s.serving.serving (sends (Core j))))
     served (inr x) = inr x
 
-to-quiet : (c : ℕ) (m : Msg) → passes Invs m ≡ false → (j : ℕ) → among Invs (to (Core c) (m ∷ []) (Core j)) ≡ 0
+pub to-quiet : (c : ℕ) (m : Msg) → passes Invs m ≡ false → (j : ℕ) → among Invs (to (Core c) (m ∷ []) (Core j)) ≡ 0
 unfolding among
 to-quiet c m e j = go (j == c)
   where
@@ -83,7 +83,7 @@ to-quiet c m e j = go (j == c)
     go true = rw e refl
     go false = refl
 
-none-quiet : (j : ℕ) → among Invs [] ≡ 0
+pub none-quiet : (j : ℕ) → among Invs [] ≡ 0
 unfolding among
 none-quiet j = refl
 
@@ -267,7 +267,7 @@ ack-due sh d c l b s m o = go (s.owed == 0) refl
       marked = kept_lines b;
     })
 
-at-home : (h d : ℕ) → not (h == d) ≡ false → h ≡ d
+pub at-home : (h d : ℕ) → not (h == d) ≡ false → h ≡ d
 at-home h d e = grind (arith, nat_tests)
 
 -- whether a message is an acknowledgement

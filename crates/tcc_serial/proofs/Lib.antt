@@ -3,6 +3,7 @@ pub mod TidSteps
 pub mod KeptSteps
 pub mod OwedSteps
 pub mod Links
+pub mod Nums
 pub mod PairFrames
 pub mod MemoryStays
 pub mod SerialAgain

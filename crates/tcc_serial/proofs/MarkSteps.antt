@@ -101,10 +101,6 @@ pub has-alone : (sh : Shape) (gs : List Grant) (w : World) (cs : List Noted) (c 
 unfolding share holder pair
 has-alone sh gs w cs c t k l h = let n : num (has_tid (w.cores c).phase t) ≡ 1 = ap num h in omega (arith, n, k.once t, total-le (share (holder t) w 0) sh.cores c l)
 
-pub grant-alone : (sh : Shape) (gs : List Grant) (w : World) (cs : List Noted) (c t : ℕ) → KeptOwners sh gs w cs → c < sh.cores → num (nat_le w.next t) + live (Grants t) (w.net Vendor (Core c)) ≤ 1
-unfolding share holder pair
-grant-alone sh gs w cs c t k l = omega (arith, k.once t, total-le (share (holder t) w 0) sh.cores c l)
-
 pub is-granted : (sh : Shape) (gs : List Grant) (w : World) (cs : List Noted) (c t : ℕ) → KeptOwners sh gs w cs → 1 ≤ live (Grants t) (w.net Vendor (Core c)) + num (has_tid (w.cores c).phase t) → Contains gs (record { tid = t; core = c })
 unfolding holder pair
 is-granted sh gs w cs c t k l = k.held c 0 t l

@@ -28,12 +28,13 @@ use Rattle.tcc_serial.proofs.PairFrames.{pairs_move, pairs_grant, pairs_back, pa
 use Rattle.tcc_serial.proofs.StepCases.{OfAnswer, step_cases}
 use Rattle.tcc_serial.proofs.TidSteps.{granted_waits}
 use Rattle.tcc_serial.proofs.KeptSteps.{core_of_back}
-use Rattle.tcc_serial.proofs.CoreMarking.{Marking, few, few-one, marking-exec, marking-evict}
+use Rattle.tcc_serial.proofs.CoreMarking.{Marking, few, marking-exec, marking-evict}
 use Rattle.tcc_serial.proofs.CoreMarkingTakes.{marking-back, granting}
 use Rattle.tcc_serial.proofs.DirMarks.{Marked, Stays, MarkedBy, dir-marked}
 use Rattle.tcc_serial.proofs.PairMarks.{kinds, falls}
 use Rattle.tcc_serial.proofs.MarkSteps.{taken-less, skip-unmarked}
 use Rattle.tcc_serial.proofs.MarksKept.{only-there}
+use Rattle.tcc_serial.proofs.Nums.{num-few}
 
 -- A core that sends a Mark has the TID, and no Mark of the line was sent before.
 one-moved : (sh : Shape) (gs : List Grant) (c d t l : ℕ) (v : Pair) (o : Out) → Marking sh d t l v.core o → c < sh.cores → d < sh.dirs → MarksOf sh gs c d t l v → marks_of t l v ≤ 1 → marks_of t l (after_move v o d) ≤ 1
@@ -56,7 +57,7 @@ unfolding marks_of
 one-answered t l v m s ms k y less eqn skip h = go (cases_lt 0 (live (MarkOf t l) k))
   where
     go : (0 < live (MarkOf t l) k) ⊎ (live (MarkOf t l) k ≤ 0) → marks_of t l (after_answer (record v { out = k }) s ms) ≤ 1
-    go (inr x) = omega (arith, x, few-one (s.serving.serving == t && has_mark s.lines l))
+    go (inr x) = omega (arith, x, num-few (s.serving.serving == t && has_mark s.lines l))
     go (inl x) =
         let e = eqn (omega (arith, x, less)) in
         let none : 0 + num (s.serving.serving == t && has_mark s.lines l) ≡ 0 = falls v.dir s m t l 0 0 y (omega (arith, x, e, h)) skip (omega (arith, x, e, h)) in
@@ -113,4 +114,4 @@ step-one-mark sh p gs w cs e z y b h = step_cases sh p w e (λ g o. OneMark sh o
 
 pub start-one-mark : (sh : Shape) (entries : ℕ → Local) (ram : ℕ → ℕ) → OneMark sh (start entries ram)
 unfolding start dir_start no_lines pair live marks_of
-start-one-mark sh entries ram c d t l x r = omega (arith, few-one (first_serving.serving == t && false))
+start-one-mark sh entries ram c d t l x r = omega (arith, num-few (first_serving.serving == t && false))

@@ -21,7 +21,7 @@ use Rattle.tcc_serial.specs.Owed.{due, OwedAt, AtHomeOf, KeptOwed}
 use Rattle.tcc_serial.proofs.Links.{live-sends, live-takes, total-le, total-zero}
 use Rattle.tcc_serial.proofs.PairFrames.{same, differ, given, pairs_move, pairs_grant, pairs_back, pairs_dir, pairs_asks, pairs_vendor, sum_move, sum_grant, sum_back, sum_back_away, sum_dir, sum_dir_away, sum_asks_here, sum_asks_away, sum_vendor}
 use Rattle.tcc_serial.proofs.CoreDue.{Clean, CleanOut, AcksHome, acks-back}
-use Rattle.tcc_serial.proofs.DirDue.{Due, nots-invs}
+use Rattle.tcc_serial.proofs.DirDue.{Due, nots-invs, at-home}
 
 due-moved : (sh : Shape) (v : Pair) (o : Out) (d : ℕ) → Clean sh d (o.sends (Dir d)) → due (after_move v o d) + 0 ≡ due v + 0
 unfolding due
@@ -80,9 +80,6 @@ back-due sh e s (ProbeReply u v) a = back-clean sh e (ProbeReply u v) _ refl (λ
 back-due sh e s (Fill l ws) a = back-clean sh e (Fill l ws) _ refl (λ d. acks-back sh e d s (Fill l ws))
 back-due sh e s (DataReq l) a = back-clean sh e (DataReq l) _ refl (λ d. acks-back sh e d s (DataReq l))
 back-due sh e s (Inv l k u) a = back-inv sh e l k u _ (at-home (l % sh.dirs) e a) (λ d. acks-back sh e d s (Inv l k u))
-  where
-    at-home : (h d : ℕ) → not (h == d) ≡ false → h ≡ d
-    at-home h d e = grind (arith, nat_tests)
 back-due sh e s TidReq a = tt
 back-due sh e s (TidGrant u) a = tt
 back-due sh e s (LoadReq l x) a = tt

@@ -20,6 +20,7 @@ use Rattle.tcc_serial.proofs.Links.{live-sends, live-takes}
 use Rattle.tcc_serial.proofs.CoreMarking.{Marking, few}
 use Rattle.tcc_serial.proofs.CoreMarkingTakes.{Granting}
 use Rattle.tcc_serial.proofs.DirMarks.{Marked, Stays, Clears, Skipped, Marks as IsMarked}
+use Rattle.tcc_serial.proofs.TidSteps.{is_mine, not_mine}
 
 one-kind : (t l : ℕ) (m : Msg) → (num (passes (MarkOf t l) m) ≤ num (passes (Marks t) m)) × (num (passes (Skips t) m) ≤ num (passes (Resolves t) m))
 unfolding passes
@@ -70,14 +71,6 @@ marks-moved sh gs c d t l v o y cl alone mine free h = record {
 
 -- a core takes its grant
 
-is_mine : (u : ℕ) → num (passes (Grants u) (TidGrant u)) ≡ 1
-unfolding passes
-is_mine u = grind (arith, nat_tests)
-
-not_mine : (u t : ℕ) → (u ≡ t → ⊥) → num (passes (Grants t) (TidGrant u)) ≡ 0
-unfolding passes
-not_mine u t n = let b : (u == t) ≡ false = grind (arith, nat_tests) in rw b refl
-
 granted-here : (sh : Shape) (gs : List Grant) (c d u l k : ℕ) (v : Pair) (o : Out) → slice_index_or v.grants k None ≡ Some (TidGrant u) → num (nat_le v.next u) + live (Grants u) v.grants ≤ 1 → Contains gs (record { tid = u; core = c }) → Granting sh u d u l o → MarksOf sh gs c d u l v → MarksOf sh gs c d u l (after_move (grant_taken v k) o d)
 unfolding marks_of
 granted-here sh gs c d u l k v o i one mine y h = record {
@@ -114,7 +107,7 @@ pub is-skip : (u : ℕ) → num (passes (Skips u) (Skip u)) ≡ 1
 unfolding passes
 is-skip u = grind (arith, nat_tests)
 
-is-mark : (t a b : ℕ) → num (passes (MarkOf t a) (Mark a b t)) ≡ 1
+pub is-mark : (t a b : ℕ) → num (passes (MarkOf t a) (Mark a b t)) ≡ 1
 unfolding passes
 is-mark t a b = grind (arith, nat_tests)
 

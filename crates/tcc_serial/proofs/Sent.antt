@@ -1,5 +1,5 @@
 -- How many messages of a kind a rule sends.
-use Rattle.std.specs.Prelude.{ℕ, ◌+◌, ◌≡◌, ◌<◌, ◌≤◌, Bool, true, false, List, [], ◌∷◌, ◌++◌, ◌==◌, ◌&&◌, nat_lt, if◌then◌else◌}
+use Rattle.std.specs.Prelude.{ℕ, zero, suc, ◌+◌, ◌≡◌, ◌<◌, ◌≤◌, Bool, true, false, List, [], ◌∷◌, ◌++◌, ◌==◌, ◌&&◌, nat_lt, if◌then◌else◌}
 use Rattle.std.specs.List.{flat_map}
 use Rattle.std.proofs.Common.{arith, refl}
 use Rattle.std.proofs.lemmas.Bool.Decides.{nat_tests}
@@ -18,6 +18,12 @@ pub among-flat_map_none : (k : Kind) (f : ℕ → List Msg) → ((l : ℕ) → a
 unfolding among
 among-flat_map_none k f h [] = refl
 among-flat_map_none k f h (x ∷ xs) = omega (arith, among-append k (f x) (flat_map f xs), h x, among-flat_map_none k f h xs)
+
+-- of no line nothing
+pub those-none : (p : ℕ → Bool) (n : ℕ) → ((k : ℕ) → p k ≡ false) → those p n ≡ []
+unfolding those
+those-none p zero h = refl
+those-none p (suc n) h = rw (those-none p n h, h n) refl
 
 pub passes-protocol : (t : ℕ) (m : Msg) → num (passes (Resolves t) m) ≤ num (passes Protocol m)
 unfolding passes

@@ -15,6 +15,7 @@ use Rattle.tcc_serial.specs.OneCore.{Words}
 use Rattle.tcc_serial.specs.Stored.{stores_in, stored_mask, stores_at}
 use Rattle.tcc_serial.specs.Uses.{stores_word}
 use Rattle.tcc_serial.proofs.CoreMarks.{some-mask}
+use Rattle.tcc_serial.proofs.Nums.{num-same}
 
 -- a mask has a word exactly where one of its places has p
 no-mask : (p : ℕ → Bool) → ((k : ℕ) → k < 8 → p k ≡ false) → mask_of p ≡ 0
@@ -63,12 +64,6 @@ any-same : (p q : ℕ → Bool) (n : ℕ) → ((l : ℕ) → l < n → p l ≡ q
 unfolding any_below
 any-same p q zero h = refl
 any-same p q (suc n) h = rw (any-same p q n (λ l i. h l (omega (arith, i))), h n (omega arith)) refl
-
-num-same : (a b : Bool) → num a ≡ num b → a ≡ b
-num-same true true h = refl
-num-same true false h = absurd (omega (arith, h))
-num-same false true h = absurd (omega (arith, h))
-num-same false false h = refl
 
 pub stored-any : (sh : Shape) (d : ℕ) (ss : List Stored) (p : ℕ → Bool) → ((l : ℕ) → num (nat_lt l (lines sh) && p l) ≡ num (nat_lt 0 (stored_mask sh d ss l))) → any_below p (lines sh) ≡ stores_at sh d ss
 unfolding stores_at
