@@ -24,7 +24,7 @@ use Rattle.tcc_serial.specs.Owners.{Grant, AreGranted, holder, KeptOwners, LastG
 use Rattle.tcc_serial.specs.Pairs.{Pair, pair, after_move}
 use Rattle.tcc_serial.specs.Stored.{stores_at}
 use Rattle.tcc_serial.specs.Wrote.{last_of}
-use Rattle.tcc_serial.proofs.CoreAfter.{Stays, Commits_now, AfterStep, after-exec, after-evict, after-grant, after-back}
+use Rattle.tcc_serial.proofs.CoreAfter.{no-load, Stays, Commits_now, AfterStep, after-exec, after-evict, after-grant, after-back}
 use Rattle.tcc_serial.proofs.CoreOwners.{KeepsHolder, noted_tid, none, holder-exec, holder-evict}
 use Rattle.tcc_serial.proofs.Links.{live-sends, live-takes}
 use Rattle.tcc_serial.proofs.OwnerSteps.{holder-moved}
@@ -58,27 +58,10 @@ last-below sh gs c d t (m ∷ cs) a f = go (m.core.0 == c) refl (stores_at sh d 
 
 -- no request for a line, so none that carries something else
 no-live : (k : Link) → ((l : ℕ) → live (LoadOf l) k ≡ 0) → (x : ℕ) → live (LoadNot x) k ≡ 0
-unfolding live passes
+unfolding live
 no-live [] h x = refl
 no-live (None ∷ k) h x = no-live k h x
-no-live (Some m ∷ k) h x = omega (arith, one m (λ l. omega (arith, h l)), no-live k (λ l. omega (arith, h l)) x)
-  where
-    one : (m : Msg) → ((l : ℕ) → num (passes (LoadOf l) m) ≡ 0) → num (passes (LoadNot x) m) ≡ 0
-    one (LoadReq k a) f = absurd (let y = f k in let z : (k == k) ≡ true = grind (arith, nat_tests) in let q : num (k == k) ≡ 1 = rw z refl in omega (arith, y, q))
-    one TidReq f = refl
-    one (TidGrant t) f = refl
-    one (Fill k ws) f = refl
-    one (Skip t) f = refl
-    one (Probe t) f = refl
-    one (ProbeReply t s) f = refl
-    one (Mark k m t) f = refl
-    one (Commit t n) f = refl
-    one (Abort t) f = refl
-    one (WriteBack k m ws t) f = refl
-    one (Flush k m ws t) f = refl
-    one (DataReq k) f = refl
-    one (Inv k m t) f = refl
-    one (InvAck k b) f = refl
+no-live (Some m ∷ k) h x = omega (arith, no-load x m (λ l. omega (arith, h l)), no-live k (λ l. omega (arith, h l)) x)
 
 -- a core that commits nothing
 stays-after : (sh : Shape) (cs : List Noted) (c d : ℕ) (v : Pair) (o : Out) → Stays v.core o → AfterOf sh cs c d v → AfterOf sh cs c d (after_move v o d)

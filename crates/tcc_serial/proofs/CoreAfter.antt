@@ -30,27 +30,29 @@ use Rattle.tcc_serial.proofs.Links.{among-append}
 use Rattle.tcc_serial.proofs.StoredMasks.{stored-solo, stored-written}
 
 -- without a request for a line there is none that carries something else
+
+pub no-load : (x : ℕ) (m : Msg) → ((l : ℕ) → num (passes (LoadOf l) m) ≡ 0) → num (passes (LoadNot x) m) ≡ 0
+unfolding passes
+no-load x (LoadReq k a) f = absurd (let y = f k in let z : (k == k) ≡ true = grind (arith, nat_tests) in let q : num (k == k) ≡ 1 = rw z refl in omega (arith, y, q))
+no-load x TidReq f = refl
+no-load x (TidGrant t) f = refl
+no-load x (Fill k ws) f = refl
+no-load x (Skip t) f = refl
+no-load x (Probe t) f = refl
+no-load x (ProbeReply t s) f = refl
+no-load x (Mark k m t) f = refl
+no-load x (Commit t n) f = refl
+no-load x (Abort t) f = refl
+no-load x (WriteBack k m ws t) f = refl
+no-load x (Flush k m ws t) f = refl
+no-load x (DataReq k) f = refl
+no-load x (Inv k m t) f = refl
+no-load x (InvAck k b) f = refl
+
 no-loads : (ms : List Msg) → ((l : ℕ) → among (LoadOf l) ms ≡ 0) → (x : ℕ) → among (LoadNot x) ms ≡ 0
-unfolding among passes
+unfolding among
 no-loads [] h x = refl
-no-loads (m ∷ ms) h x = omega (arith, one m (λ l. omega (arith, h l)), no-loads ms (λ l. omega (arith, h l)) x)
-  where
-    one : (m : Msg) → ((l : ℕ) → num (passes (LoadOf l) m) ≡ 0) → num (passes (LoadNot x) m) ≡ 0
-    one (LoadReq k a) f = absurd (let y = f k in let z : (k == k) ≡ true = grind (arith, nat_tests) in let q : num (k == k) ≡ 1 = rw z refl in omega (arith, y, q))
-    one TidReq f = refl
-    one (TidGrant t) f = refl
-    one (Fill k ws) f = refl
-    one (Skip t) f = refl
-    one (Probe t) f = refl
-    one (ProbeReply t s) f = refl
-    one (Mark k m t) f = refl
-    one (Commit t n) f = refl
-    one (Abort t) f = refl
-    one (WriteBack k m ws t) f = refl
-    one (Flush k m ws t) f = refl
-    one (DataReq k) f = refl
-    one (Inv k m t) f = refl
-    one (InvAck k b) f = refl
+no-loads (m ∷ ms) h x = omega (arith, no-load x m (λ l. omega (arith, h l)), no-loads ms (λ l. omega (arith, h l)) x)
 
 -- nothing is committed, and a load request carries what the core notes of the line's home
 pub record Stays (s : CoreState) (o : Out) : Type 0 where
