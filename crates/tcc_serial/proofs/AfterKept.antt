@@ -5,8 +5,7 @@ use Rattle.std.proofs.lemmas.Bool.{cases_eq}
 use Rattle.std.proofs.lemmas.Bool.Decides.{nat_tests}
 use Rattle.tcc_base.specs.declared.access.Commit.{Commit as Noted}
 use Rattle.tcc_program.specs.Program.{Program, Local}
-use Rattle.tcc_maps.specs.Words.{num}
-use Rattle.tcc_maps.specs.Nodes.{Core, Dir, Vendor, Event, Msg, TidReq, TidGrant, LoadReq, Fill, Skip, Probe, ProbeReply, Mark, Commit, Abort, WriteBack, Flush, DataReq, Inv, InvAck}
+use Rattle.tcc_maps.specs.Nodes.{Core, Dir, Vendor, Event, Msg}
 use Rattle.tcc_maps.specs.Shape.{Shape}
 use Rattle.tcc_rules.specs.State.{DirState, World, Link, start, core_start}
 use Rattle.tcc_rules.specs.Links.{in_flight}
@@ -18,7 +17,7 @@ use Rattle.tcc_rules.specs.CoreDeliver.{from_dir, grant}
 use Rattle.tcc_rules.specs.DirDeliver.{Answer, Waits, Drops, Asks, Takes, dir_deliver}
 use Rattle.tcc_rules.specs.Step.{core_moves, core_takes, dir_takes, step, and_noted, insert_commit}
 use Rattle.tcc_serial.specs.Copies.{AfterOf, KeptAfter, KeptLoading, stored_there}
-use Rattle.tcc_serial.specs.Count.{LoadOf, LoadNot, live, passes}
+use Rattle.tcc_serial.specs.Count.{LoadOf, LoadNot, live}
 use Rattle.tcc_serial.specs.OneCore.{KeptCores}
 use Rattle.tcc_serial.specs.Owners.{Grant, AreGranted, holder, KeptOwners, LastGranted}
 use Rattle.tcc_serial.specs.Pairs.{Pair, pair, after_move}

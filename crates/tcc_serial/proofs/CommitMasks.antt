@@ -1,5 +1,5 @@
 -- What a core has marked, or marks, by a TID that it commits is what the commit stored.
-use Rattle.std.specs.Prelude.{ℕ, ◌+◌, ◌≡◌, ◌≤◌, Bool, true, false, not, List, [], ◌∷◌, ◌++◌, ◌==◌, ◌&&◌, ◌||◌, Option, Some, None, IfSome, nat_lt, if◌then◌else◌}
+use Rattle.std.specs.Prelude.{ℕ, ◌+◌, ◌≡◌, ◌≤◌, Bool, true, false, not, List, [], ◌∷◌, ◌++◌, ◌==◌, ◌&&◌, Option, Some, None, IfSome, nat_lt, if◌then◌else◌}
 use Rattle.std.specs.List.{flat_map}
 use Rattle.std.proofs.Common.{arith, refl, sym, ap, ◌∙◌, ◌⊎◌, inl, inr}
 use Rattle.std.proofs.lemmas.Bool.Decides.{nat_tests}
@@ -21,7 +21,6 @@ use Rattle.tcc_serial.specs.Marks.{has_marked, stores_line, marked_by}
 use Rattle.tcc_serial.specs.OneCore.{OneCore}
 use Rattle.tcc_serial.specs.Stored.{stores_in, stored_mask, stores_at}
 use Rattle.tcc_serial.specs.Tids.{has_tid}
-use Rattle.tcc_serial.specs.Uses.{stores_word}
 use Rattle.tcc_serial.proofs.Links.{among-append}
 use Rattle.tcc_serial.proofs.Sent.{among-flat_map_none}
 use Rattle.tcc_serial.proofs.Executes.{Acts, Steady, Executed, Goes_on, Overflows, Asks_tid, Alone, executed}

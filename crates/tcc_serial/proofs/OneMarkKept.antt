@@ -1,12 +1,12 @@
 -- Every event keeps that the Marks of a TID at a directory are of different lines.
-use Rattle.std.specs.Prelude.{ℕ, ◌+◌, ◌≡◌, ◌<◌, ◌≤◌, Bool, true, false, ◌==◌, ◌&&◌, List, [], Contains, Option, Some, None, IfSome, set}
+use Rattle.std.specs.Prelude.{ℕ, ◌+◌, ◌≡◌, ◌<◌, ◌≤◌, false, ◌==◌, ◌&&◌, List, [], Contains, Option, Some, None, IfSome, set}
 use Rattle.std.proofs.Common.{arith, refl, ◌⊎◌, inl, inr}
 use Rattle.std.proofs.lemmas.Bool.{cases_lt}
 use Rattle.tcc_base.specs.declared.access.Commit.{Commit as Noted}
 use Rattle.tcc_program.specs.Program.{Program, Local}
 use Rattle.tcc_maps.specs.Words.{num}
 use Rattle.tcc_maps.specs.Lines.{has_mark, no_lines}
-use Rattle.tcc_maps.specs.Nodes.{Core, Dir, Msg, TidGrant, Skip, Event}
+use Rattle.tcc_maps.specs.Nodes.{Core, Dir, Msg, Skip, Event}
 use Rattle.tcc_maps.specs.Serving.{first_serving}
 use Rattle.tcc_maps.specs.Shape.{Shape}
 use Rattle.tcc_rules.specs.State.{DirState, World, Link, start, dir_start}

@@ -1,11 +1,10 @@
 -- The start has every invariant of the list.
-use Rattle.std.specs.Prelude.{ℕ, ◌≡◌, ◌≤◌, ◌==◌, ◌&&◌, Bool, true, false, List, [], ◌∷◌, Contains, Some, None}
+use Rattle.std.specs.Prelude.{ℕ, ◌≡◌, false, List, [], ◌∷◌, Some, None}
 use Rattle.std.specs.List.{flat_map}
-use Rattle.std.proofs.Common.{arith, refl, ap, ◌∙◌, inl}
-use Rattle.tcc_base.specs.declared.access.Commit.{Commit as Noted}
+use Rattle.std.proofs.Common.{refl, ap, ◌∙◌, inl}
 use Rattle.tcc_program.specs.Plain.{begun, steps, serial}
 use Rattle.tcc_program.specs.Program.{Local, Program}
-use Rattle.tcc_maps.specs.Words.{num, any_below, any_word}
+use Rattle.tcc_maps.specs.Words.{any_below, any_word}
 use Rattle.tcc_maps.specs.Serving.{is_skipped, first_serving}
 use Rattle.tcc_maps.specs.Shape.{Shape}
 use Rattle.tcc_maps.specs.Cache.{empty_cache, is_dirty}
