@@ -1,5 +1,5 @@
 -- How each kind of event keeps that a Commit counts its Marks, between a core and a directory.
-use Rattle.std.specs.Prelude.{ℕ, ◌+◌, ◌≡◌, ◌<◌, ◌≤◌, true, false, List, [], ◌∷◌, ◌++◌, ◌==◌, ◌&&◌, Some, None, nat_lt}
+use Rattle.std.specs.Prelude.{ℕ, ◌+◌, ◌≡◌, ◌<◌, ◌≤◌, true, false, List, ◌++◌, ◌==◌, ◌&&◌, nat_lt}
 use Rattle.std.proofs.Common.{arith, refl, ◌∙◌, ◌⊎◌, inl, inr}
 use Rattle.std.proofs.lemmas.Bool.{cases_lt}
 use Rattle.std.proofs.lemmas.Bool.Decides.{nat_tests}
@@ -18,7 +18,7 @@ use Rattle.tcc_serial.specs.Counted.{CountsMarks, CountedOf}
 use Rattle.tcc_serial.specs.Owners.{Grant}
 use Rattle.tcc_serial.specs.Pairs.{Pair, after_move, after_answer}
 use Rattle.tcc_serial.specs.Tids.{opens}
-use Rattle.tcc_serial.proofs.Links.{live-sends, total-same, total-plus, total-le}
+use Rattle.tcc_serial.proofs.Links.{live-sends, total-same, total-plus, total-le, live-fewer}
 use Rattle.tcc_serial.proofs.CoreMarking.{Marking}
 use Rattle.tcc_serial.proofs.CoreCounts.{Counts, CountsAll, total-num}
 use Rattle.tcc_serial.proofs.DirMarks.{Marked}
@@ -30,10 +30,7 @@ one-resolve t n m = grind (arith, nat_tests)
 
 -- a Commit is a word on its TID
 pub is-word : (t n : ℕ) (k : Link) → live (CommitOf t n) k ≤ live (Resolves t) k
-unfolding live
-is-word t n [] = omega arith
-is-word t n (None ∷ k) = is-word t n k
-is-word t n (Some m ∷ k) = omega (arith, is-word t n k, one-resolve t n m)
+is-word t n k = live-fewer (CommitOf t n) (Resolves t) (one-resolve t n) k
 
 -- the same Marks are counted
 pub same-counts : (sh : Shape) (n t : ℕ) (v w : Pair) → ((l : ℕ) → marks_of t l w ≡ marks_of t l v) → CountsMarks sh n t v → CountsMarks sh n t w

@@ -1,5 +1,5 @@
 -- How each kind of event keeps what is known of the Marks between a core and a directory.
-use Rattle.std.specs.Prelude.{ℕ, ◌+◌, ◌≡◌, ◌<◌, ◌≤◌, Bool, true, false, List, [], ◌∷◌, ◌++◌, ◌==◌, ◌&&◌, Contains, Some, None, nat_lt, nat_le, slice_index_or, if◌then◌else◌}
+use Rattle.std.specs.Prelude.{ℕ, ◌+◌, ◌≡◌, ◌<◌, ◌≤◌, Bool, true, false, List, ◌++◌, ◌==◌, ◌&&◌, Contains, Some, None, nat_lt, nat_le, slice_index_or, if◌then◌else◌}
 use Rattle.std.proofs.Common.{arith, refl, ap, subst, ◌⊎◌, inl, inr}
 use Rattle.std.proofs.lemmas.Bool.{cases_eq, cases_lt}
 use Rattle.std.proofs.lemmas.Bool.Decides.{nat_tests}
@@ -16,7 +16,7 @@ use Rattle.tcc_serial.specs.Marks.{marks_of, MarksOf}
 use Rattle.tcc_serial.specs.Owners.{Grant}
 use Rattle.tcc_serial.specs.Pairs.{Pair, after_move, grant_taken}
 use Rattle.tcc_serial.specs.Tids.{has_tid, opens}
-use Rattle.tcc_serial.proofs.Links.{live-sends, live-takes}
+use Rattle.tcc_serial.proofs.Links.{live-sends, live-takes, live-fewer}
 use Rattle.tcc_serial.proofs.CoreMarking.{Marking, few}
 use Rattle.tcc_serial.proofs.CoreMarkingTakes.{Granting}
 use Rattle.tcc_serial.proofs.DirMarks.{Marked, Stays, Clears, Skipped, Marks as IsMarked}
@@ -28,10 +28,7 @@ one-kind t l m = (grind (arith, nat_tests), grind (arith, nat_tests))
 
 -- a Mark of a line is a Mark, and a Skip a word on its TID
 pub kinds : (t l : ℕ) (k : Link) → (live (MarkOf t l) k ≤ live (Marks t) k) × (live (Skips t) k ≤ live (Resolves t) k)
-unfolding live
-kinds t l [] = (omega arith, omega arith)
-kinds t l (None ∷ k) = kinds t l k
-kinds t l (Some m ∷ k) = let r = kinds t l k in let o = one-kind t l m in (omega (arith, r.0, o.0), omega (arith, r.1, o.1))
+kinds t l k = (live-fewer (MarkOf t l) (Marks t) (λ m. (one-kind t l m).0) k, live-fewer (Skips t) (Resolves t) (λ m. (one-kind t l m).1) k)
 
 -- a core moves
 pub marks-moved : (sh : Shape) (gs : List Grant) (c d t l : ℕ) (v : Pair) (o : Out) → Marking sh d t l v.core o → c < sh.cores

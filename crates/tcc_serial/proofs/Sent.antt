@@ -12,7 +12,7 @@ use Rattle.tcc_rules.specs.Sends.{skip_all, probe_all, abort_written, marks_for}
 use Rattle.tcc_rules.specs.Commit.{commit_sends, solo_sends, solo_marks, solo_backs, solo_writes_at, is_written, written_mask}
 use Rattle.tcc_rules.specs.CoreDeliver.{grant_sends}
 use Rattle.tcc_serial.specs.Count.{Kind, Resolves, Protocol, among, passes}
-use Rattle.tcc_serial.proofs.Links.{among-append}
+use Rattle.tcc_serial.proofs.Links.{among-append, among-fewer}
 
 pub among-flat_map_none : (k : Kind) (f : ℕ → List Msg) → ((l : ℕ) → among k (f l) ≡ 0) → (xs : List ℕ) → among k (flat_map f xs) ≡ 0
 unfolding among
@@ -30,9 +30,7 @@ unfolding passes
 passes-protocol t m = grind (arith, nat_tests)
 
 pub among-quiet : (t : ℕ) (ms : List Msg) → among (Resolves t) ms ≤ among Protocol ms
-unfolding among
-among-quiet t [] = omega arith
-among-quiet t (m ∷ ms) = omega (arith, passes-protocol t m, among-quiet t ms)
+among-quiet t ms = among-fewer (Resolves t) Protocol (passes-protocol t) ms
 
 pub resolves-commit_sends : (sh : Shape) (c : Cache) (u d t : ℕ) → d < sh.dirs → among (Resolves t) (commit_sends sh c u (Dir d)) ≡ num ((u == t) && writes_at sh c d)
 unfolding commit_sends among passes
