@@ -68,6 +68,7 @@ pub mod CoreAfter
 pub mod AfterKept
 pub mod OnItsWay
 pub mod FromKept
+pub mod FromViews
 pub mod StartAll
 pub mod TriedRun
 pub mod SoundAttempts

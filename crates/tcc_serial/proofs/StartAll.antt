@@ -149,9 +149,8 @@ pub start_has_all : StartHasAll
 unfolding start core_start dir_start vendor_start empty_cache pair live is_skipped first_serving marks_of no_lines serial plain_start
 start_has_all sh p entries ram = record {
   carried = start-carried sh p entries ram;
+  carried_views = record { attempt_follows_from_its_view = λ c. start-follows sh p (entries c); read_marks_are_the_view = λ c. start-read (entries c) };
   frames_are_of_lines_in_memory = λ c l e. absurd (cc);
-  attempt_follows_from_its_view = λ c. start-follows sh p (entries c);
-  read_marks_are_the_view = λ c. start-read (entries c);
   line_tag_is_the_last_settled_writer = start-tags sh entries ram;
   copy_above_the_tag_is_of_a_commit_in_flight = start-above sh entries ram;
   owned_line_has_one_copy_with_its_tag = start-owned sh entries ram;
