@@ -32,19 +32,23 @@ pub data Reading (s r : CoreState) : Type 0 where
   Cleared : ((x : ℕ) → r.cache.read x ≡ false) → Reading s r
   Kept : ((t : ℕ) → has_tid s.phase t ≡ true → has_tid r.phase t ≡ true) → ((x : ℕ) → Reads s.cache r.cache x) → Reading s r
 
--- A word at home at directory d that is marked read is valid, or the core has a TID and the directory, which serves n, has passed it.
+-- the word is valid, or the core has a TID that a directory which serves n has passed
+abbrev pub ValidOrPassed : (value : Option ℕ) → Phase → (serving : ℕ) → Type 0
+ValidOrPassed y q n = (is_some y ≡ true) ⊎ ((t : ℕ) × (has_tid q t ≡ true) × (t < n))
+
+-- so is each word at home at directory d that is marked read
 abbrev pub ReadOf : Shape → (dir serving : ℕ) → CoreState → Type 0
-ReadOf sh d n s = (x : ℕ) → home sh (line_of x) ≡ d → s.cache.read x ≡ true → (is_some (s.cache.value x) ≡ true) ⊎ ((t : ℕ) × (has_tid s.phase t ≡ true) × (t < n))
+ReadOf sh d n s = (x : ℕ) → home sh (line_of x) ≡ d → s.cache.read x ≡ true → ValidOrPassed (s.cache.value x) s.phase n
 
 pub read-kept : (sh : Shape) (d n : ℕ) (s r : CoreState) → Reading s r → ReadOf sh d n s → ReadOf sh d n r
 read-kept sh d n s r (Cleared h) k x e y = absurd (let z = h x in cc)
 read-kept sh d n s r (Kept tid words) k x e y = go (words x y)
   where
-    before : r.cache.value x ≡ s.cache.value x → (is_some (s.cache.value x) ≡ true) ⊎ ((t : ℕ) × (has_tid s.phase t ≡ true) × (t < n)) → (is_some (r.cache.value x) ≡ true) ⊎ ((t : ℕ) × (has_tid r.phase t ≡ true) × (t < n))
+    before : r.cache.value x ≡ s.cache.value x → ValidOrPassed (s.cache.value x) s.phase n → ValidOrPassed (r.cache.value x) r.phase n
     before v (inl z) = inl (rw v z)
     before v (inr z) = inr (z.0, tid z.0 (z.1), z.2)
 
-    go : (is_some (r.cache.value x) ≡ true) ⊎ ((s.cache.read x ≡ true) × (r.cache.value x ≡ s.cache.value x)) → (is_some (r.cache.value x) ≡ true) ⊎ ((t : ℕ) × (has_tid r.phase t ≡ true) × (t < n))
+    go : (is_some (r.cache.value x) ≡ true) ⊎ ((s.cache.read x ≡ true) × (r.cache.value x ≡ s.cache.value x)) → ValidOrPassed (r.cache.value x) r.phase n
     go (inl z) = inl z
     go (inr z) = before (z.1) (k x e (z.0))
 

@@ -16,7 +16,7 @@ use Rattle.tcc_rules.specs.Attempt.{moves, roll_back}
 use Rattle.tcc_rules.specs.CoreDeliver.{ignored, grant, grant_phase, probe_reply, reply_phase, replied, all_replied, when_ready, when_alone, fill, fill_awaited, data_request, invalidate, acknowledged, if_violated, is_violated, is_above, violated_in, without, from_dir}
 use Rattle.tcc_serial.specs.OneCore.{OneCore}
 use Rattle.tcc_serial.specs.Tids.{has_tid}
-use Rattle.tcc_serial.proofs.CoreReads.{Reads, Reading, Cleared, ReadOf, read-kept, reads-same, as-before, tid-kept, no-tid}
+use Rattle.tcc_serial.proofs.CoreReads.{Reads, Reading, Cleared, ValidOrPassed, ReadOf, read-kept, reads-same, as-before, tid-kept, no-tid}
 
 same : (s : CoreState) → Reading s s
 same s = as-before s s refl (reads-same s.cache)
@@ -138,7 +138,7 @@ unhurt sh l m u d n s v p k x e y = go (hit l m x) refl
     passed : l ≡ line_of x → is_above u s.phase ≡ false → (t : ℕ) × (has_tid s.phase t ≡ true) × (t < n)
     passed i a = let z = tid-ahead u s.phase a in (z.0, z.1, p (rw i e) z.0 (z.1) (z.2))
 
-    go : (b : Bool) → hit l m x ≡ b → (is_some (if b && not (s.cache.modified x) then None else s.cache.value x) ≡ true) ⊎ ((t : ℕ) × (has_tid s.phase t ≡ true) × (t < n))
+    go : (b : Bool) → hit l m x ≡ b → ValidOrPassed (if b && not (s.cache.modified x) then None else s.cache.value x) s.phase n
     go false q = k x e y
     go true q = let i = hit-line l m x q in inr (passed i (ahead (reads_masked l m s.cache) (is_above u s.phase) (hit-reads l m x s.cache y q i) v))
 

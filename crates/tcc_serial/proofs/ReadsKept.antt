@@ -25,7 +25,7 @@ use Rattle.tcc_serial.specs.Pairs.{Pair, pair}
 use Rattle.tcc_serial.specs.Standing.{IsBound}
 use Rattle.tcc_serial.specs.Tids.{has_tid}
 use Rattle.tcc_serial.specs.Values.{IsPassed, ReadWords}
-use Rattle.tcc_serial.proofs.CoreReads.{Reading, ReadOf, read-kept, reading-exec, reading-evict}
+use Rattle.tcc_serial.proofs.CoreReads.{Reading, ValidOrPassed, ReadOf, read-kept, reading-exec, reading-evict}
 use Rattle.tcc_serial.proofs.CoreReadsTakes.{PassesTid, Admits, reading-grant, reads-back}
 use Rattle.tcc_serial.proofs.DirProbes.{RisesBy, dir-rises}
 use Rattle.tcc_serial.proofs.NamedKept.{passed-away}
@@ -98,7 +98,7 @@ admitted sh gs w cs c e k (InvAck l n) d b z y s i = tt
 read-rises : (sh : Shape) (d a b : ℕ) (s : CoreState) → a ≤ b → ReadOf sh d a s → ReadOf sh d b s
 read-rises sh d a b s l h x e y = go (h x e y)
   where
-    go : (is_some (s.cache.value x) ≡ true) ⊎ ((t : ℕ) × (has_tid s.phase t ≡ true) × (t < a)) → (is_some (s.cache.value x) ≡ true) ⊎ ((t : ℕ) × (has_tid s.phase t ≡ true) × (t < b))
+    go : ValidOrPassed (s.cache.value x) s.phase a → ValidOrPassed (s.cache.value x) s.phase b
     go (inl z) = inl z
     go (inr z) = inr (z.0, z.1, omega (arith, z.2))
 
@@ -141,7 +141,7 @@ read-words sh gs w cs y last k c d x b l a e q r = go b q (k c d a x e r)
     v : Pair
     v = pair w c d
 
-    go : (b : Option ℕ) → IsBound b v → (is_some ((w.cores c).cache.value x) ≡ true) ⊎ ((t : ℕ) × (has_tid (w.cores c).phase t ≡ true) × (t < (w.dirs d).serving.serving)) → (is_some ((w.cores c).cache.value x) ≡ true) ⊎ IsPassed b (w.dirs d).serving.serving
+    go : (b : Option ℕ) → IsBound b v → ValidOrPassed ((w.cores c).cache.value x) (w.cores c).phase (w.dirs d).serving.serving → (is_some ((w.cores c).cache.value x) ≡ true) ⊎ IsPassed b (w.dirs d).serving.serving
     go b q (inl z) = inl z
     go None q (inr z) = absurd (omega (arith, q z.0, has-holder z.0 v (z.1)))
     go (Some t) q (inr z) = inr (omega (arith, z.2, last c d z.0 t (has-holder z.0 v (z.1)) (y.held c d t q)))
