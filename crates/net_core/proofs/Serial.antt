@@ -1,6 +1,6 @@
 -- Each event keeps the commits a serial execution.
-use Rattle.std.specs.Prelude.{ℕ, zero, suc, ◌≡◌, ◌≤◌, ◌+◌, ◌==◌, ◌++◌, ◌∷◌, [], Bool, true, false, List, map, length, Option, Some, None, nat_lt, if◌then◌else◌}
-use Rattle.std.proofs.Common.{refl, ap, sym, ◌∙◌, arith, length-append, subst}
+use Rattle.std.specs.Prelude.{ℕ, zero, suc, ◌≡◌, ◌≤◌, ◌+◌, ◌==◌, ◌++◌, ◌∷◌, [], Bool, true, false, map, length, Some, nat_lt, if◌then◌else◌}
+use Rattle.std.proofs.Common.{refl, ap, sym, arith, subst}
 use Rattle.std.proofs.lemmas.Bool.{lt-ltb}
 use Rattle.std.proofs.lemmas.Bool.Decides.{nat_tests}
 use Rattle.std.proofs.lemmas.Grind.{common_steps}
@@ -11,13 +11,11 @@ use Rattle.rv_plain.proofs.Views.{steps-next}
 use Rattle.rv_plain.specs.Buffered.{Buffered, buffered, buffered_step, plain_view, seen}
 use Rattle.rv_plain.specs.Machine.{program, plain_start, first_ram, start_core, start_local, core_at_start}
 use Rattle.tcc_base.specs.Put.{put}
-use Rattle.tcc_base.specs.declared.access.Commit.{Commit}
 use Rattle.tcc_base.specs.declared.access.CoreEnd.{CoreEnd}
 use Rattle.tcc_base.specs.declared.access.CoreEnd.TheVariants.{Run, Halt, Trap}
 use Rattle.tcc_program.proofs.Serials.{serial-snoc, last_tid-snoc}
 use Rattle.tcc_program.specs.Orders.{order_of_commit, last_tid}
-use Rattle.tcc_program.specs.Plain.{Plain, PlainCore, Attempt, Outcome, Goes, Ended, Halted, Trapped, Order, transaction, serial, steps, begun, closed, close, close_if, if_runs, end_of, plain_step, commit_of}
-use Rattle.tcc_program.specs.Plain as plain
+use Rattle.tcc_program.specs.Plain.{Plain, Outcome, Goes, Ended, Halted, Trapped, Order, transaction, serial, steps, begun, closed, end_of, commit_of}
 use Rattle.std.proofs.lemmas.List.{map-append}
 use Rattle.tcc_program.specs.Program.{Local, Need, Nothing, Loads, Stores, Changes, Prints, Ends, Halts, Traps, Program}
 

@@ -1,15 +1,13 @@
 -- What the machine with the write buffer has in common with the plain machine: the commits are a serial execution, each with
 -- the loads, stores and console bytes that it has there, and the committed registers, RAM and console are those after it.
-use Rattle.std.specs.Prelude.{ℕ, ◌≡◌, ◌≤◌, List, [], map, length, Option, Some}
+use Rattle.std.specs.Prelude.{ℕ, ◌≡◌, ◌≤◌, [], map, Some}
 use Rattle.image_load.specs.Start.{Start}
 use Rattle.net_core.specs.Rules.{Machine, run, fresh}
-use Rattle.rv_plain.specs.Buffered.{plain_view}
 use Rattle.rv_plain.specs.Machine.{program, plain_start, first_ram, start_local}
 use Rattle.tcc_base.specs.Put.{put}
-use Rattle.tcc_base.specs.declared.access.Commit.{Commit}
 use Rattle.tcc_base.specs.declared.access.CoreEnd.TheVariants.{Run}
-use Rattle.tcc_program.specs.Orders.{order_of_commit, last_tid}
-use Rattle.tcc_program.specs.Plain.{Plain, PlainCore, serial, steps, begun}
+use Rattle.tcc_program.specs.Orders.{order_of_commit}
+use Rattle.tcc_program.specs.Plain.{Plain, serial}
 use Rattle.tcc_program.specs.Program.{Program}
 
 -- the machine at its start: one core, at its entry

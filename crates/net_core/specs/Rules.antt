@@ -1,5 +1,5 @@
 -- A core with a write buffer, alone with its RAM: its state and its two rules, to execute and to commit.
-use Rattle.std.specs.Prelude.{ℕ, zero, suc, List, [], ◌∷◌, ◌++◌, length, ◌+◌, Option, Some, None}
+use Rattle.std.specs.Prelude.{ℕ, zero, suc, Bool, true, false, List, [], ◌∷◌, ◌++◌, length, ◌+◌, Option, Some, None}
 use Rattle.rv_plain.specs.Buffered.{Buffered, buffered_step, plain_view, seen}
 use Rattle.tcc_base.specs.declared.access.Commit.{Commit}
 use Rattle.tcc_base.specs.declared.access.CoreEnd.{CoreEnd}
@@ -81,11 +81,11 @@ unfoldable pub run : (base : ℕ) → Program → (events : ℕ) → Machine →
 run base p zero m = m
 run base p (suc k) m = let before = run base p k m in or_stay before (step base p before)
 
--- whether a halt or a trap was committed
-abbrev pub IsDone : Machine → Type 0
-IsDone m = IsHalted m.ended
-  where
-    IsHalted : CoreEnd → Type 0
-    IsHalted Run = ⊥
-    IsHalted (Halt code) = Unit {0}
-    IsHalted (Trap code) = Unit {0}
+-- whether a halt or a trap is committed
+abbrev pub is_halted : CoreEnd → Bool
+is_halted Run = false
+is_halted (Halt code) = true
+is_halted (Trap code) = true
+
+abbrev pub is_done : Machine → Bool
+is_done m = is_halted m.ended

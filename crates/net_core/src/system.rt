@@ -1,9 +1,9 @@
 // One core with a write buffer before its RAM, as one object whose events are taken one by one.
-ghost use Rattle.std.specs.Prelude.{◌≡◌, ℕ, ◌+◌, ◌*◌, ◌<◌, ◌≤◌, ◌++◌, ◌↔◌, IfOk, IfErr, OnErr, OnOk, IsSomeAnd, IsErrOf, IsTrue, None, Some, is_ok, if◌then◌else◌, length};
+ghost use Rattle.std.specs.Prelude.{◌≡◌, ℕ, ◌+◌, ◌*◌, ◌<◌, ◌≤◌, ◌++◌, ◌↔◌, IfOk, IfErr, OnErr, OnOk, IsSomeAnd, IsErrOf, None, Some, is_ok, if◌then◌else◌, length};
 ghost use Rattle.std.specs.Vec.{vec_len, vec_capacity};
 ghost use Rattle.image_load.specs.Contents.{started};
 ghost use Rattle.net_core.specs.Agreement.{start};
-ghost use Rattle.net_core.specs.Rules.{IsDone, execute, commit};
+ghost use Rattle.net_core.specs.Rules.{is_done, execute, commit};
 ghost use Rattle.rv_plain.specs.Endings.{HasEnded};
 ghost use Rattle.rv_plain.specs.Attempts.{outcome_of};
 ghost use Rattle.tcc_base.specs.declared.access.CoreEnd.TheVariants.{Run};
@@ -101,7 +101,7 @@ impl System {
     /// Whether a halt or a trap of the core is committed. Takes no memory.
     #[tactic(auto, unfolding(crate::specs::SystemState::machine_of))]
     pub fn done(&self) -> bool
-        ensures { IsTrue result ↔ IsDone (machine_of self.now) }
+        ensures { result ≡ is_done (machine_of self.now) }
     {
         match self.ended {
             CoreEnd::Run => false,

@@ -19,41 +19,10 @@ use Rattle.tcc_rules.specs.CoreEvict.{is_awaited, evict_line, core_evict}
 use Rattle.tcc_rules.specs.CoreDeliver.{ignored, grant_phase, grant, probing, is_probed, replied, all_replied, reply_phase, probe_reply, fill_awaited, fill, data_request, violated_in, if_violated, staled, without, is_violated, acknowledged, invalidate, from_dir, from_vendor, core_deliver}
 use Rattle.tcc_attempt.specs.Sound.{SoundCore}
 use Rattle.tcc_attempt.specs.Follows.{Uses, sees, HasEnded, EndFits, Follows}
+use Rattle.tcc_attempt.specs.Views.{uses_violated, uses_delivered}
 use Rattle.tcc_attempt.proofs.SoundDeliver.{without-sound}
 use Rattle.tcc_attempt.proofs.Follows.{with_words, is_live, in-from, follows-same, follows-into}
 use Rattle.tcc_attempt.proofs.FollowsExec.{fresh-claims}
-
--- a violated core that has an attempt begins anew
-abbrev pub rolls_back : Phase → Bool
-rolls_back DoomedTid = false
-rolls_back Halted = false
-rolls_back Running = true
-rolls_back AwaitTid = true
-rolls_back (Probing t) = true
-rolls_back (Ready t) = true
-rolls_back (Overflowing t) = true
-rolls_back (Solo t) = true
-
-abbrev pub uses_violated : Bool → Phase → Uses → Uses
-uses_violated b q us = cond (b && rolls_back q) [] us
-
--- the uses after a message
-abbrev pub uses_delivered : CoreState → Msg → Uses → Uses
-uses_delivered s (Inv l m u) us = uses_violated (is_violated l m u s) s.phase us
-uses_delivered s TidReq us = us
-uses_delivered s (TidGrant t) us = us
-uses_delivered s (LoadReq l x) us = us
-uses_delivered s (Fill l ws) us = us
-uses_delivered s (Skip t) us = us
-uses_delivered s (Probe t) us = us
-uses_delivered s (ProbeReply t serving) us = us
-uses_delivered s (Mark l m t) us = us
-uses_delivered s (Commit t n) us = us
-uses_delivered s (Abort t) us = us
-uses_delivered s (WriteBack l m ws t) us = us
-uses_delivered s (Flush l m ws t) us = us
-uses_delivered s (DataReq l) us = us
-uses_delivered s (InvAck l b) us = us
 
 evicted-seen : (sh : Shape) (x y l : ℕ) (s : CoreState) → s.cache.at x y ≡ Some l → SoundCore sh s → (ram : ℕ → ℕ) (v : ℕ) → sees (with_words s (evicted x y s.cache) (spill_line l s.cache s.spilled)) ram v ≡ sees s ram v
 unfolding sees spill_line

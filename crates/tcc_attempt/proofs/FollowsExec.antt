@@ -23,12 +23,10 @@ use Rattle.tcc_rules.specs.CoreExec.{unless_awaiting, exec_phase, core_exec}
 use Rattle.tcc_attempt.specs.Sound.{SoundCore}
 use Rattle.tcc_attempt.specs.Follows.{NeedFits, Fits, Uses, Agrees, sees, HasEnded, EndFits, Follows, used_in, used_at, used_by}
 use Rattle.tcc_attempt.proofs.Sound.{holds-none}
+use Rattle.tcc_attempt.specs.Views.{uses_after}
 use Rattle.tcc_attempt.proofs.Follows.{TakesOld, seen_after, with_words, Claim, finished-claims, is_live, in-from, in-to, claim-same, follows-same, follows-into}
 
 -- what an event of a core leaves: its attempt follows from these uses, or from none where it has committed
-abbrev pub uses_after : Out → Uses → Uses
-uses_after o us = cond (is_some o.commit) [] us
-
 abbrev pub OutFollows : Shape → Program → Uses → Option Out → Type 0
 OutFollows sh p us o = IfSome o (λ x. Follows sh p x.core (uses_after x us))
 

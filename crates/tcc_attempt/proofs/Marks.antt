@@ -1,6 +1,7 @@
 -- Exec keeps what a core's marks say of its attempt.
-use Rattle.std.proofs.Common.{◌≡◌, ℕ, Bool, true, false, not, cond, ◌||◌, [], ◌∷◌, ◌++◌, Option, Some, None, is_some, append-nil, refl, ap, sym, ◌∙◌, subst, arith}
-use Rattle.std.specs.Prelude.{IfSome}
+use Rattle.std.proofs.Common.{◌≡◌, ℕ, Bool, true, false, not, cond, ◌||◌, ◌⊎◌, inl, inr, ⊎_elim, [], ◌∷◌, ◌++◌, Option, Some, None, is_some, append-nil, refl, ap, sym, ◌∙◌, subst, arith}
+use Rattle.std.specs.Prelude.{IfSome, ◌==◌}
+use Rattle.std.proofs.lemmas.Bool.{cases_eq}
 use Rattle.std.proofs.lemmas.Bool.Decides.{nat_tests}
 use Rattle.tcc_base.specs.declared.access.Size.{Size}
 use Rattle.tcc_base.specs.declared.access.Size.TheVariants.{Byte, Half, Word}
@@ -12,7 +13,7 @@ use Rattle.tcc_maps.specs.Shape.{Shape, set_of}
 use Rattle.tcc_maps.specs.Cache.{Cache, IsCache, free_way, all_marked}
 use Rattle.tcc_maps.specs.CacheChange.{marked, stored, placed}
 use Rattle.tcc_maps.specs.Spilled.{holds, none_spilled}
-use Rattle.tcc_maps.proofs.Readers.{read-stored, value-placed, read-placed, modified-placed}
+use Rattle.tcc_maps.proofs.Readers.{read-marked, read-stored, read-committed, value-placed, read-placed, modified-placed}
 use Rattle.tcc_rules.specs.State.{CoreState, Awaited, Phase, Running, AwaitTid, DoomedTid, Probing, Ready, Overflowing, Solo, Halted}
 use Rattle.tcc_rules.specs.Sends.{nothing, flushed}
 use Rattle.tcc_rules.specs.Attempt.{Out, moves, is_solo, is_running, finished, new_word, stepped}
@@ -21,9 +22,10 @@ use Rattle.tcc_rules.specs.Execute.{ask, place, overflow, full_set, fetch, used,
 use Rattle.tcc_rules.specs.CoreExec.{unless_awaiting, exec_phase, core_exec}
 use Rattle.tcc_attempt.specs.Sound.{SoundCore}
 use Rattle.tcc_attempt.specs.Follows.{Uses, used_in, used_at, used_by}
-use Rattle.tcc_attempt.specs.Marks.{StillHas, UseStands, AllStand, UsesStand, awaits_in, owed_in, MarksFit}
+use Rattle.tcc_attempt.specs.Marks.{StillHas, UseStands, AllStand, UsesStand, is_used, OnlyUsed, awaits_in, owed_in, MarksFit}
 use Rattle.tcc_attempt.proofs.Sound.{holds-found}
-use Rattle.tcc_attempt.proofs.FollowsExec.{uses_after, nothing-used}
+use Rattle.tcc_attempt.specs.Views.{uses_after}
+use Rattle.tcc_attempt.proofs.FollowsExec.{nothing-used}
 
 -- a change of a cache that unmarks no read word, and leaves the value of each word that isn't modified after it
 pub record Keeps (c d : Cache) : Type 0 where
@@ -63,6 +65,37 @@ stands-new d w None true o f = tt
 stands-new d w None false None f = tt
 stands-new d w None false (Some x) f = (f refl x refl, tt)
 
+-- a word that is marked read afterwards was marked before, or is one of these uses
+abbrev pub Adds : Cache → Cache → Uses → Type 0
+Adds c d new = (v : ℕ) → d.read v ≡ true → (c.read v ≡ true) ⊎ (is_used new v ≡ true)
+
+adds-none : (c : Cache) (new : Uses) → Adds c c new
+adds-none c new v h = inl h
+
+used-before : (us vs : Uses) (v : ℕ) → is_used us v ≡ true → is_used (us ++ vs) v ≡ true
+unfolding is_used
+used-before [] vs v h = absurd (cc)
+used-before (u ∷ us) vs v h = at (u.0 == v) h (used-before us vs v)
+  where
+    at : (b : Bool) → (b || is_used us v) ≡ true → (is_used us v ≡ true → is_used (us ++ vs) v ≡ true) → (b || is_used (us ++ vs) v) ≡ true
+    at true q f = refl
+    at false q f = f q
+
+used-behind : (us vs : Uses) (v : ℕ) → is_used vs v ≡ true → is_used (us ++ vs) v ≡ true
+unfolding is_used
+used-behind [] vs v h = h
+used-behind (u ∷ us) vs v h = at (u.0 == v) (used-behind us vs v h)
+  where
+    at : (b : Bool) → is_used (us ++ vs) v ≡ true → (b || is_used (us ++ vs) v) ≡ true
+    at true q = refl
+    at false q = q
+
+used-added : (c d : Cache) (us new : Uses) → Adds c d new → OnlyUsed c us → OnlyUsed d (us ++ new)
+used-added c d us new a h v r = ⊎_elim (λ o. used-before us new v (h v o)) (used-behind us new v) (a v r)
+
+pub none-used : (c : Cache) → ((v : ℕ) → c.read v ≡ false) → OnlyUsed c []
+none-used c u v r = absurd (let i = u v in cc)
+
 -- what an instruction's end leaves alone
 pub record SameBut (s t : CoreState) : Type 0 where
   pub phase : t.phase ≡ s.phase
@@ -95,38 +128,40 @@ owes-none sh s us h m d o = let i = m.owes d o in let j = i.0 in cc
 
 -- the phase stays, and the cache keeps its read marks and the values of words that aren't modified
 stays-fit : (sh : Shape) (s t : CoreState) (us new : Uses) (q : Phase) → Runs sh s us q → t.phase ≡ s.phase → t.owing ≡ s.owing → Keeps s.cache t.cache →
-    (is_running q ≡ true → AllStand false t.cache new) → (is_running q ≡ false → (v : ℕ) → s.cache.read v ≡ false → t.cache.read v ≡ false) → MarksFit sh t (us ++ new)
-stays-fit sh s t us new Running r p o k f g =
+    (is_running q ≡ true → AllStand false t.cache new) → (is_running q ≡ false → (v : ℕ) → s.cache.read v ≡ false → t.cache.read v ≡ false) → Adds s.cache t.cache new → MarksFit sh t (us ++ new)
+stays-fit sh s t us new Running r p o k f g a =
     let i : t.phase ≡ Running = p ∙ r.is in
     record {
       stand = subst (λ (x : Phase). UsesStand t.cache (us ++ new) x) (sym i) (all-append false t.cache us new (all-keep false s.cache t.cache us k (subst (λ (x : Phase). UsesStand s.cache us x) r.is r.fit.stand)) (f refl));
+      used = used-added s.cache t.cache us new a r.fit.used;
       awaits = λ h. absurd (let j = ap awaits_in i in cc);
       owes = λ d h. absurd (owes-none sh s us (ap owed_in r.is) r.fit d (ap (λ (w : ℕ → Bool). w d) (sym o) ∙ h));
     }
-stays-fit sh s t us new (Solo tid) r p o k f g =
+stays-fit sh s t us new (Solo tid) r p o k f g a =
     let i : t.phase ≡ Solo tid = p ∙ r.is in
     record {
       stand = subst (λ (x : Phase). UsesStand t.cache (us ++ new) x) (sym i) (λ v. g refl v ((subst (λ (x : Phase). UsesStand s.cache us x) r.is r.fit.stand) v));
+      used = used-added s.cache t.cache us new a r.fit.used;
       awaits = λ h. absurd (let j = ap awaits_in i in cc);
       owes = λ d h. absurd (owes-none sh s us (ap owed_in r.is) r.fit d (ap (λ (w : ℕ → Bool). w d) (sym o) ∙ h));
     }
-stays-fit sh s t us new AwaitTid r p o k f g = absurd (let j = r.executes in cc)
-stays-fit sh s t us new DoomedTid r p o k f g = absurd (let j = r.executes in cc)
-stays-fit sh s t us new (Probing u) r p o k f g = absurd (let j = r.executes in cc)
-stays-fit sh s t us new (Ready u) r p o k f g = absurd (let j = r.executes in cc)
-stays-fit sh s t us new (Overflowing u) r p o k f g = absurd (let j = r.executes in cc)
-stays-fit sh s t us new Halted r p o k f g = absurd (let j = r.executes in cc)
+stays-fit sh s t us new AwaitTid r p o k f g a = absurd (let j = r.executes in cc)
+stays-fit sh s t us new DoomedTid r p o k f g a = absurd (let j = r.executes in cc)
+stays-fit sh s t us new (Probing u) r p o k f g a = absurd (let j = r.executes in cc)
+stays-fit sh s t us new (Ready u) r p o k f g a = absurd (let j = r.executes in cc)
+stays-fit sh s t us new (Overflowing u) r p o k f g a = absurd (let j = r.executes in cc)
+stays-fit sh s t us new Halted r p o k f g a = absurd (let j = r.executes in cc)
 
 abbrev pub OutFits : Shape → Uses → Option Out → Type 0
 OutFits sh us o = IfSome o (λ t. MarksFit sh t.core (uses_after t us))
 
 -- an instruction that is finished in a state with another cache
 done-fit : (sh : Shape) (p : Program) (need : Need) (x : ℕ) (s t : CoreState) (us new : Uses) (q : Phase) → Runs sh s us q → t.phase ≡ s.phase → t.owing ≡ s.owing → Keeps s.cache t.cache →
-    (is_running q ≡ true → AllStand false t.cache new) → (is_running q ≡ false → (v : ℕ) → s.cache.read v ≡ false → t.cache.read v ≡ false) → MarksFit sh (finished p need x t) (us ++ new)
-done-fit sh p need x s t us new q r e o k f g =
+    (is_running q ≡ true → AllStand false t.cache new) → (is_running q ≡ false → (v : ℕ) → s.cache.read v ≡ false → t.cache.read v ≡ false) → Adds s.cache t.cache new → MarksFit sh (finished p need x t) (us ++ new)
+done-fit sh p need x s t us new q r e o k f g a =
     let b = finished-same p need x t in
     stays-fit sh s (finished p need x t) us new q r (b.phase ∙ e) (b.owing ∙ o) (subst (Keeps s.cache) (sym b.cache) k)
-    (λ h. subst (λ (c : Cache). AllStand false c new) (sym b.cache) (f h)) (λ h v i. ap (λ (c : Cache). c.read v) b.cache ∙ g h v i)
+    (λ h. subst (λ (c : Cache). AllStand false c new) (sym b.cache) (f h)) (λ h v i. ap (λ (c : Cache). c.read v) b.cache ∙ g h v i) (subst (λ (c : Cache). Adds s.cache c new) (sym b.cache) a)
 
 none-stand : (c : Cache) (vs : Uses) → vs ≡ [] → AllStand false c vs
 none-stand c vs e = subst (AllStand false c) (sym e) tt
@@ -138,6 +173,7 @@ overflow-fit : (sh : Shape) (s : CoreState) (us : Uses) (q : Phase) → is_solo 
 unfolding overflow
 overflow-fit sh s us Running h r = record {
   stand = subst (λ (x : Phase). UsesStand s.cache us x) r.is r.fit.stand;
+  used = r.fit.used;
   awaits = λ i. r.none;
   owes = λ d i. absurd (owes-none sh s us (ap owed_in r.is) r.fit d i);
 }
@@ -160,11 +196,11 @@ full_set-fit sh l s us q r = at (is_solo s.phase) refl (not (all_marked sh s.cac
 
 ask-fit : (sh : Shape) (l : ℕ) (s : CoreState) (us : Uses) (q : Phase) → Runs sh s us q → MarksFit sh (ask sh l s).core (us ++ [])
 unfolding ask
-ask-fit sh l s us q r = stays-fit sh s (record s { awaited = Some (record { line = l; stale = false }) }) us [] q r refl refl (keeps-itself s.cache) (λ h. tt) (λ h v i. i)
+ask-fit sh l s us q r = stays-fit sh s (record s { awaited = Some (record { line = l; stale = false }) }) us [] q r refl refl (keeps-itself s.cache) (λ h. tt) (λ h v i. i) (adds-none s.cache [])
 
 place_ask-fit : (sh : Shape) (l : ℕ) (s : CoreState) (us : Uses) (q : Phase) → Runs sh s us q → MarksFit sh (ask sh l (place sh l s)).core (us ++ [])
 unfolding ask place
-place_ask-fit sh l s us q r = stays-fit sh s (record s { cache = placed sh l s.cache; awaited = Some (record { line = l; stale = false }) }) us [] q r refl refl (keeps-placed sh l s.cache) (λ h. tt) (λ h v i. read-placed sh l s.cache v ∙ i)
+place_ask-fit sh l s us q r = stays-fit sh s (record s { cache = placed sh l s.cache; awaited = Some (record { line = l; stale = false }) }) us [] q r refl refl (keeps-placed sh l s.cache) (λ h. tt) (λ h v i. read-placed sh l s.cache v ∙ i) (λ v i. inl (sym (read-placed sh l s.cache v) ∙ i))
 
 unused-fit : (sh : Shape) (us vs : Uses) (o : Option Out) → vs ≡ [] → OutFits sh us o → OutFits sh (us ++ vs) o
 unused-fit sh us vs o e h = subst (λ (l : Uses). OutFits sh l o) (sym (ap (λ (l : Uses). us ++ l) e ∙ append-nil us)) h
@@ -180,6 +216,27 @@ fetch-fit sh l s us q r = at (s.cache.held l) (free_way sh s.cache (set_of sh l)
 
 missed-fit : (sh : Shape) (l : ℕ) (s : CoreState) (us vs : Uses) (q : Phase) → vs ≡ [] → Runs sh s us q → OutFits sh (us ++ vs) (fetch sh l s)
 missed-fit sh l s us vs q e r = subst (λ (x : Uses). OutFits sh (us ++ x) (fetch sh l s)) (sym e) (fetch-fit sh l s us q r)
+
+-- only a word that is used becomes marked
+used-new : (w x : ℕ) (s : CoreState) → s.spilled w ≡ None → s.cache.modified w ≡ false → s.cache.value w ≡ Some x → is_used (used_at s w) w ≡ true
+unfolding is_used
+used-new w x s n m e = rw (n, m, e) (grind (arith, nat_tests))
+
+adds-marked : (w x : ℕ) (s : CoreState) → s.spilled w ≡ None → s.cache.value w ≡ Some x → Adds s.cache (marked w s.cache) (used_at s w)
+adds-marked w x s n e v h = at (cases_eq w v) (s.cache.modified w) refl
+  where
+    at : (w ≡ v) ⊎ (w ≡ v → ⊥) → (m : Bool) → s.cache.modified w ≡ m → (s.cache.read v ≡ true) ⊎ (is_used (used_at s w) v ≡ true)
+    at (inl i) false q = inr (subst (λ y. is_used (used_at s w) y ≡ true) i (used-new w x s n q e))
+    at (inl i) true q = inl (let j = read-marked w s.cache v in grind (arith, nat_tests))
+    at (inr i) m q = inl (let j = read-marked w s.cache v in grind (arith, nat_tests))
+
+adds-stored : (w y x : ℕ) (s : CoreState) → s.spilled w ≡ None → s.cache.value w ≡ Some x → Adds s.cache (stored w y (also_read w s) s.cache) (used_at s w)
+adds-stored w y x s n e v h = at (cases_eq w v) (s.cache.modified w) refl
+  where
+    at : (w ≡ v) ⊎ (w ≡ v → ⊥) → (m : Bool) → s.cache.modified w ≡ m → (s.cache.read v ≡ true) ⊎ (is_used (used_at s w) v ≡ true)
+    at (inl i) false q = inr (subst (λ z. is_used (used_at s w) z ≡ true) i (used-new w x s n q e))
+    at (inl i) true q = inl (let j = read-stored w y (also_read w s) s.cache v in grind (arith, nat_tests))
+    at (inr i) m q = inl (let j = read-stored w y (also_read w s) s.cache v in grind (arith, nat_tests))
 
 -- a word that is used in Running is marked
 used-marked : (w x : ℕ) (c : Cache) → c.modified w ≡ false → c.value w ≡ Some x → UseStands false (marked w c) w x
@@ -197,18 +254,22 @@ load-fit sh p need w s us q r = spilled_in (s.spilled w) refl
     valid_as x n v true e = done-fit sh p need x s (record s { cache = marked w s.cache }) us (used_at s w) q r refl refl (keeps-marked w s.cache)
         (λ h. stands-new (marked w s.cache) w (s.spilled w) (s.cache.modified w) (s.cache.value w) (λ m y f. used-marked w y s.cache m f))
         (λ h. absurd (let i = running-is s q true r.is e in cc))
-    valid_as x n v false e = done-fit sh p need x s s us (used_at s w) q r refl refl (keeps-itself s.cache) (λ h. absurd (let i = running-is s q false r.is e in cc)) (λ h u i. i)
+        (adds-marked w x s n v)
+    valid_as x n v false e = done-fit sh p need x s s us (used_at s w) q r refl refl (keeps-itself s.cache) (λ h. absurd (let i = running-is s q false r.is e in cc)) (λ h u i. i) (adds-none s.cache (used_at s w))
 
     valid_in : (o : Option ℕ) → s.spilled w ≡ None → s.cache.value w ≡ o → OutFits sh (us ++ used_at s w) (load_valid sh p need w s o)
     valid_in (Some x) n v = valid_as x n v (is_running s.phase) refl
     valid_in None n v = missed-fit sh (line_of w) s us (used_at s w) q (nothing-used s w n v) r
 
     spilled_in : (o : Option ℕ) → s.spilled w ≡ o → OutFits sh (us ++ used_at s w) (load_spilled sh p need w s o)
-    spilled_in (Some x) e = done-fit sh p need x s s us (used_at s w) q r refl refl (keeps-itself s.cache) (λ h. none-stand s.cache (used_at s w) (spilled-unused s w x e)) (λ h v i. i)
+    spilled_in (Some x) e = done-fit sh p need x s s us (used_at s w) q r refl refl (keeps-itself s.cache) (λ h. none-stand s.cache (used_at s w) (spilled-unused s w x e)) (λ h v i. i) (adds-none s.cache (used_at s w))
     spilled_in None e = valid_in (s.cache.value w) e refl
 
+stored-same : (w x : ℕ) (c : Cache) (v : ℕ) → (stored w x false c).read v ≡ c.read v
+stored-same w x c v = read-stored w x false c v ∙ grind (arith, nat_tests)
+
 stored-unread : (w x : ℕ) (c : Cache) (v : ℕ) → c.read v ≡ false → (stored w x false c).read v ≡ false
-stored-unread w x c v h = read-stored w x false c v ∙ grind (arith, nat_tests)
+stored-unread w x c v h = stored-same w x c v ∙ h
 
 word_store-fit : (sh : Shape) (p : Program) (need : Need) (w x : ℕ) (s : CoreState) (us : Uses) (q : Phase) → Runs sh s us q → OutFits sh (us ++ []) (word_store sh p need w x s)
 unfolding word_store buffered framed place
@@ -218,10 +279,11 @@ word_store-fit sh p need w x s us q r = at (holds s.spilled (line_of w)) (s.cach
         OutFits sh (us ++ []) (cond a (Some (moves (finished p need x (buffered w x s)) nothing))
         (cond b (Some (moves (finished p need x (framed w x false s)) (flushed sh s.cache (line_of w))))
         (cond (is_some o) (Some (moves (finished p need x (framed w x false (place sh (line_of w) s))) nothing)) (full_set sh (line_of w) s))))
-    at true b o = done-fit sh p need x s (buffered w x s) us [] q r refl refl (keeps-itself s.cache) (λ h. tt) (λ h v i. i)
-    at false true o = done-fit sh p need x s (framed w x false s) us [] q r refl refl (keeps-stored w x false s.cache) (λ h. tt) (λ h v i. stored-unread w x s.cache v i)
+    at true b o = done-fit sh p need x s (buffered w x s) us [] q r refl refl (keeps-itself s.cache) (λ h. tt) (λ h v i. i) (adds-none s.cache [])
+    at false true o = done-fit sh p need x s (framed w x false s) us [] q r refl refl (keeps-stored w x false s.cache) (λ h. tt) (λ h v i. stored-unread w x s.cache v i) (λ v i. inl (sym (stored-same w x s.cache v) ∙ i))
     at false false (Some y) = done-fit sh p need x s (framed w x false (place sh (line_of w) s)) us [] q r refl refl (keeps-then s.cache (placed sh (line_of w) s.cache) (stored w x false (placed sh (line_of w) s.cache)) (keeps-placed sh (line_of w) s.cache) (keeps-stored w x false (placed sh (line_of w) s.cache)))
         (λ h. tt) (λ h v i. stored-unread w x (placed sh (line_of w) s.cache) v (read-placed sh (line_of w) s.cache v ∙ i))
+        (λ v i. inl (sym (stored-same w x (placed sh (line_of w) s.cache) v ∙ read-placed sh (line_of w) s.cache v) ∙ i))
     at false false None = unused-fit sh us [] (full_set sh (line_of w) s) refl (full_set-fit sh (line_of w) s us q r)
 
 -- a partial store marks the word that it found, unless it was modified
@@ -255,29 +317,30 @@ partial_store-fit sh p need w s us q r = spilled_in (s.spilled w) refl
 
     held_in : (x : ℕ) → s.spilled w ≡ None → s.cache.value w ≡ Some x → (b : Bool) → holds s.spilled (line_of w) ≡ b →
         OutFits sh (us ++ used_at s w) (cond b (Some (moves (finished p need x (buffered w (new_word need x) s)) nothing)) (Some (moves (finished p need x (framed w (new_word need x) (also_read w s) s)) (flushed sh s.cache (line_of w)))))
-    held_in x n v true h = done-fit sh p need x s (buffered w (new_word need x) s) us (used_at s w) q r refl refl (keeps-itself s.cache) (λ i. absurd (solo_holds h i)) (λ i u j. j)
+    held_in x n v true h = done-fit sh p need x s (buffered w (new_word need x) s) us (used_at s w) q r refl refl (keeps-itself s.cache) (λ i. absurd (solo_holds h i)) (λ i u j. j) (adds-none s.cache (used_at s w))
     held_in x n v false h = done-fit sh p need x s (framed w (new_word need x) (also_read w s) s) us (used_at s w) q r refl refl (keeps-stored w (new_word need x) (also_read w s) s.cache)
         (λ i. stands-new (stored w (new_word need x) (also_read w s) s.cache) w (s.spilled w) (s.cache.modified w) (s.cache.value w)
         (λ m y f. changed-stands w (new_word need x) y s.cache (also_read w s) (let j : is_running s.phase ≡ true = ap is_running r.is ∙ i in grind (arith, nat_tests))))
         (λ i u j. also-unread w (new_word need x) s.cache (also_read w s) u (let k : is_running s.phase ≡ false = ap is_running r.is ∙ i in grind (arith, nat_tests)) j)
+        (adds-stored w (new_word need x) x s n v)
 
     valid_in : (o : Option ℕ) → s.spilled w ≡ None → s.cache.value w ≡ o → OutFits sh (us ++ used_at s w) (change_valid sh p need w s o)
     valid_in None n v = missed-fit sh (line_of w) s us (used_at s w) q (nothing-used s w n v) r
     valid_in (Some x) n v = held_in x n v (holds s.spilled (line_of w)) refl
 
     spilled_in : (o : Option ℕ) → s.spilled w ≡ o → OutFits sh (us ++ used_at s w) (change_spilled sh p need w s o)
-    spilled_in (Some x) e = done-fit sh p need x s (buffered w (new_word need x) s) us (used_at s w) q r refl refl (keeps-itself s.cache) (λ h. none-stand s.cache (used_at s w) (spilled-unused s w x e)) (λ h v i. i)
+    spilled_in (Some x) e = done-fit sh p need x s (buffered w (new_word need x) s) us (used_at s w) q r refl refl (keeps-itself s.cache) (λ h. none-stand s.cache (used_at s w) (spilled-unused s w x e)) (λ h v i. i) (adds-none s.cache (used_at s w))
     spilled_in None e = valid_in (s.cache.value w) e refl
 
 -- the transaction has ended: the core asks for a TID with the same uses, or has committed and has none
-awaits-fit : (sh : Shape) (t : CoreState) (us : Uses) → AllStand false t.cache us → t.awaited ≡ None → ((d : ℕ) → t.owing d ≡ true → ⊥) → MarksFit sh (record t { phase = AwaitTid }) us
-awaits-fit sh t us h n o = record { stand = h; awaits = λ i. n; owes = λ d i. absurd (o d i) }
+awaits-fit : (sh : Shape) (t : CoreState) (us : Uses) → AllStand false t.cache us → OnlyUsed t.cache us → t.awaited ≡ None → ((d : ℕ) → t.owing d ≡ true → ⊥) → MarksFit sh (record t { phase = AwaitTid }) us
+awaits-fit sh t us h k n o = record { stand = h; used = k; awaits = λ i. n; owes = λ d i. absurd (o d i) }
 
-committed-fit : (sh : Shape) (t : CoreState) (o : Outcome) → t.awaited ≡ None → ((d : ℕ) → t.owing d ≡ true → ⊥) → MarksFit sh (record t { ended = ended_after o; phase = phase_after o }) []
-committed-fit sh t Goes n f = record { stand = tt; awaits = λ i. n; owes = λ d i. absurd (f d i) }
-committed-fit sh t Ended n f = record { stand = tt; awaits = λ i. n; owes = λ d i. absurd (f d i) }
-committed-fit sh t (HaltedWith code) n f = record { stand = tt; awaits = λ i. n; owes = λ d i. absurd (f d i) }
-committed-fit sh t (TrappedWith code) n f = record { stand = tt; awaits = λ i. n; owes = λ d i. absurd (f d i) }
+committed-fit : (sh : Shape) (t : CoreState) (o : Outcome) → ((v : ℕ) → t.cache.read v ≡ false) → t.awaited ≡ None → ((d : ℕ) → t.owing d ≡ true → ⊥) → MarksFit sh (record t { ended = ended_after o; phase = phase_after o }) []
+committed-fit sh t Goes u n f = record { stand = tt; used = none-used t.cache u; awaits = λ i. n; owes = λ d i. absurd (f d i) }
+committed-fit sh t Ended u n f = record { stand = tt; used = none-used t.cache u; awaits = λ i. n; owes = λ d i. absurd (f d i) }
+committed-fit sh t (HaltedWith code) u n f = record { stand = tt; used = none-used t.cache u; awaits = λ i. n; owes = λ d i. absurd (f d i) }
+committed-fit sh t (TrappedWith code) u n f = record { stand = tt; used = none-used t.cache u; awaits = λ i. n; owes = λ d i. absurd (f d i) }
 
 solo_commit-fit : (sh : Shape) (id t : ℕ) (s : CoreState) → s.awaited ≡ None → ((d : ℕ) → s.owing d ≡ true → ⊥) → MarksFit sh (solo_commit sh id t s).core []
 unfolding solo_commit committed_core
@@ -285,13 +348,13 @@ solo_commit-fit sh id t s n o = committed-fit sh (record (record (committed_core
   cache = Rattle.tcc_maps.specs.CacheChange.committed t (Rattle.tcc_maps.specs.CacheChange.words_dropped s.spilled s.cache);
   spilled = none_spilled;
   after = Rattle.tcc_rules.specs.Commit.after_commit (Rattle.tcc_rules.specs.Commit.solo_writes_at sh s.cache s.spilled) t s.after;
-}) { ended = s.ended; phase = s.phase }) s.ended n o
+}) { ended = s.ended; phase = s.phase }) s.ended (read-committed t (Rattle.tcc_maps.specs.CacheChange.words_dropped s.spilled s.cache)) n o
 
 commit-fit : (sh : Shape) (id t : ℕ) (s : CoreState) → s.awaited ≡ None → ((d : ℕ) → s.owing d ≡ true → ⊥) → MarksFit sh (commit sh id t s).core []
 unfolding commit committed_core
 commit-fit sh id t s n o = committed-fit sh (record (record (committed_core t s) {
   after = Rattle.tcc_rules.specs.Commit.after_commit (Rattle.tcc_maps.specs.Cache.writes_at sh s.cache) t s.after;
-}) { ended = s.ended; phase = s.phase }) s.ended n o
+}) { ended = s.ended; phase = s.phase }) s.ended (read-committed t s.cache) n o
 
 -- an ending instruction
 close-fit : (sh : Shape) (id : ℕ) (p : Program) (need : Need) (s : CoreState) (us : Uses) (q : Phase) → Runs sh s us q → OutFits sh (us ++ []) (Some (close sh id q (finished p need 0 s)))
@@ -300,6 +363,7 @@ close-fit sh id p need s us Running r =
     let b = finished-same p need 0 s in
     awaits-fit sh (finished p need 0 s) (us ++ [])
     (subst (λ (c : Cache). AllStand false c (us ++ [])) (sym b.cache) (all-append false s.cache us [] (subst (λ (x : Phase). UsesStand s.cache us x) r.is r.fit.stand) tt))
+    (subst (λ (c : Cache). OnlyUsed c (us ++ [])) (sym b.cache) (used-added s.cache s.cache us [] (adds-none s.cache []) r.fit.used))
     (b.awaited ∙ r.none)
     (λ d i. owes-none sh s us (ap owed_in r.is) r.fit d (ap (λ (w : ℕ → Bool). w d) (sym b.owing) ∙ i))
 close-fit sh id p need s us (Solo t) r =
@@ -321,8 +385,8 @@ store-fit sh p addr Half value s us q r = partial_store-fit sh p (Stores addr Ha
 store-fit sh p addr Byte value s us q r = partial_store-fit sh p (Stores addr Byte value) (word_of sh.base addr) s us q r
 
 need-fit : (sh : Shape) (p : Program) (id : ℕ) (s : CoreState) (us : Uses) (q : Phase) (need : Need) → Runs sh s us q → OutFits sh (us ++ used_by sh.base s need) (execute_need sh p id s need)
-need-fit sh p id s us q Nothing r = done-fit sh p Nothing 0 s s us [] q r refl refl (keeps-itself s.cache) (λ h. tt) (λ h v i. i)
-need-fit sh p id s us q (Prints byte) r = done-fit sh p (Prints byte) 0 s s us [] q r refl refl (keeps-itself s.cache) (λ h. tt) (λ h v i. i)
+need-fit sh p id s us q Nothing r = done-fit sh p Nothing 0 s s us [] q r refl refl (keeps-itself s.cache) (λ h. tt) (λ h v i. i) (adds-none s.cache [])
+need-fit sh p id s us q (Prints byte) r = done-fit sh p (Prints byte) 0 s s us [] q r refl refl (keeps-itself s.cache) (λ h. tt) (λ h v i. i) (adds-none s.cache [])
 need-fit sh p id s us q (Loads addr size) r = load-fit sh p (Loads addr size) (word_of sh.base addr) s us q r
 need-fit sh p id s us q (Stores addr size value) r = store-fit sh p addr size value s us q r
 need-fit sh p id s us q (Changes addr changed) r = partial_store-fit sh p (Changes addr changed) (word_of sh.base addr) s us q r

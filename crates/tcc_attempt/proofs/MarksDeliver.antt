@@ -13,16 +13,17 @@ use Rattle.tcc_maps.specs.CacheChange.{filled, invalidated, cleaned, evicted, ro
 use Rattle.tcc_maps.specs.CacheLook.{reads_masked}
 use Rattle.tcc_maps.specs.Spilled.{spill_line, none_spilled}
 use Rattle.tcc_maps.proofs.Numbers.{any_below-at}
-use Rattle.tcc_maps.proofs.Readers.{value-evicted, read-evicted, modified-evicted, value-filled, read-filled, modified-filled, value-invalidated, read-invalidated, modified-invalidated}
+use Rattle.tcc_maps.proofs.Readers.{value-evicted, read-evicted, modified-evicted, value-filled, read-filled, modified-filled, value-invalidated, read-invalidated, modified-invalidated, read-cleaned, read-rolled_back}
 use Rattle.tcc_rules.specs.State.{CoreState, Awaited, Phase, Running, AwaitTid, DoomedTid, Probing, Ready, Overflowing, Solo, Halted}
 use Rattle.tcc_rules.specs.Sends.{nothing, to, marks_for, written_back}
 use Rattle.tcc_rules.specs.Attempt.{Out, moves, is_solo, roll_back}
 use Rattle.tcc_rules.specs.CoreEvict.{is_awaited, evict_line, core_evict}
 use Rattle.tcc_rules.specs.CoreDeliver.{ignored, grant_phase, grant, probing, is_probed, replied, all_replied, reply_phase, probe_reply, fill_awaited, fill, data_request, is_above, violated_in, if_violated, staled, without, is_violated, acknowledged, invalidate, from_dir, from_vendor, core_deliver}
 use Rattle.tcc_attempt.specs.Follows.{Uses}
-use Rattle.tcc_attempt.specs.Marks.{StillHas, UseStands, AllStand, UsesStand, awaits_in, owed_in, MarksFit}
+use Rattle.tcc_attempt.specs.Marks.{StillHas, UseStands, AllStand, UsesStand, OnlyUsed, awaits_in, owed_in, MarksFit}
+use Rattle.tcc_attempt.specs.Views.{uses_violated, uses_delivered}
 use Rattle.tcc_rules.proofs.Useful.{and-left}
-use Rattle.tcc_attempt.proofs.FollowsDeliver.{uses_violated, uses_delivered}
+use Rattle.tcc_attempt.proofs.Marks.{none-used}
 
 -- a change that keeps each use keeps them in every phase, where it adds no read mark to a core that is alone
 pub record KeepsUses (c d : Cache) : Type 0 where
@@ -79,6 +80,17 @@ evicted-stands x y l c e m = record {
 evicted-unread : (x y l : ℕ) (c : Cache) → c.at x y ≡ Some l → (v : ℕ) → c.read v ≡ false → (evicted x y c).read v ≡ false
 evicted-unread x y l c e v h = read-evicted x y c v l e ∙ grind (arith, nat_tests)
 
+-- a change that adds no read mark
+fewer-used : (c d : Cache) (us : Uses) → ((v : ℕ) → d.read v ≡ true → c.read v ≡ true) → OnlyUsed c us → OnlyUsed d us
+fewer-used c d us f h v r = h v (f v r)
+
+evicted-reads : (x y l : ℕ) (c : Cache) → c.at x y ≡ Some l → (v : ℕ) → (evicted x y c).read v ≡ true → c.read v ≡ true
+evicted-reads x y l c e v h = at (l == line_of v) (sym (read-evicted x y c v l e) ∙ h)
+  where
+    at : (b : Bool) → cond b false (c.read v) ≡ true → c.read v ≡ true
+    at true q = absurd (cc)
+    at false q = q
+
 -- a core that is alone has no read marks to lose
 evicted-uses : (x y l : ℕ) (c : Cache) (us : Uses) (q : Phase) → c.at x y ≡ Some l → (is_marked c l && not (is_solo q)) ≡ false → UsesStand c us q → UsesStand (evicted x y c) us q
 evicted-uses x y l c us (Solo t) e m h = λ v. evicted-unread x y l c e v (h v)
@@ -101,7 +113,7 @@ evict_line-fit sh x y s us (Some l) e m = at (is_awaited s.awaited l || (is_mark
   where
     at : (b : Bool) → (is_awaited s.awaited l || (is_marked s.cache l && not (is_solo s.phase))) ≡ b → IfSome (cond b None (Some (moves (record s { cache = evicted x y s.cache; spilled = spill_line l s.cache s.spilled }) (written_back sh s.cache l)))) (λ t. MarksFit sh t.core us)
     at true q = tt
-    at false q = record { stand = evicted-uses x y l s.cache us s.phase e (or-right (is_awaited s.awaited l) (is_marked s.cache l && not (is_solo s.phase)) q) m.stand; awaits = m.awaits; owes = m.owes }
+    at false q = record { stand = evicted-uses x y l s.cache us s.phase e (or-right (is_awaited s.awaited l) (is_marked s.cache l && not (is_solo s.phase)) q) m.stand; used = fewer-used s.cache (evicted x y s.cache) us (evicted-reads x y l s.cache e) m.used; awaits = m.awaits; owes = m.owes }
 
 pub core_evict-fit : (sh : Shape) (x y : ℕ) (s : CoreState) (us : Uses) → MarksFit sh s us → IfSome (core_evict sh x y s) (λ t. MarksFit sh t.core us)
 unfolding core_evict
@@ -128,16 +140,19 @@ probing-owed false t e = absurd (cc)
 grant_phase-fit : (sh : Shape) (t : ℕ) (s : CoreState) (us : Uses) (q : Phase) → s.phase ≡ q → MarksFit sh s us → MarksFit sh (grant_phase sh t s q).core us
 grant_phase-fit sh t s us AwaitTid e m = record {
   stand = probing-stand s.cache us (any_below (is_probed sh s.cache) sh.dirs) t (stand-in s us AwaitTid e m.stand);
+  used = m.used;
   awaits = λ i. m.awaits (ap awaits_in e);
   owes = λ d h. let b = probed-below sh s.cache d h in (probing-owed (any_below (is_probed sh s.cache) sh.dirs) t b.1, b.0);
 }
 grant_phase-fit sh t s us DoomedTid e m = record {
   stand = subst (AllStand false s.cache) (sym (stand-in s us DoomedTid e m.stand)) tt;
+  used = m.used;
   awaits = λ i. m.awaits (ap awaits_in e);
   owes = λ d h. absurd (let o = m.owes d h in let a = o.0 in let b = ap owed_in e in cc);
 }
 grant_phase-fit sh t s us (Overflowing None) e m = record {
   stand = weaker s.cache us (stand-in s us (Overflowing None) e m.stand);
+  used = m.used;
   awaits = λ i. m.awaits (ap awaits_in e);
   owes = λ d h. (refl, h);
 }
@@ -166,20 +181,22 @@ reply_phase-fit sh d t s us (Probing u) e m = at (u == t && s.owing d) (all_repl
     at : (b c : Bool) → all_replied sh (replied d s).owing ≡ c → MarksFit sh (cond b (moves (cond c (record (replied d s) { phase = Ready t }) (replied d s)) (to (Dir d) (marks_for sh s.cache t d))) (ignored s)).core us
     at true true r = record {
       stand = stand-in s us (Probing u) e m.stand;
+      used = m.used;
       awaits = λ i. m.awaits (ap awaits_in e);
       owes = λ f h. absurd (all-none sh (put s.owing d false) f r ((m.owes f (replied-owes s.owing d f h)).1) h);
     }
-    at true false r = record { stand = m.stand; awaits = m.awaits; owes = λ f h. m.owes f (replied-owes s.owing d f h) }
+    at true false r = record { stand = m.stand; used = m.used; awaits = m.awaits; owes = λ f h. m.owes f (replied-owes s.owing d f h) }
     at false c r = m
 reply_phase-fit sh d t s us (Overflowing (Some u)) e m = at (u == t && s.owing d) (all_replied sh (replied d s).owing) refl
   where
     at : (b c : Bool) → all_replied sh (replied d s).owing ≡ c → MarksFit sh (cond b (moves (cond c (record (replied d s) { phase = Solo t; cache = read_cleared s.cache }) (replied d s)) nothing) (ignored s)).core us
     at true true r = record {
       stand = λ v. refl;
+      used = λ v i. absurd (cc);
       awaits = λ i. absurd (cc);
       owes = λ f h. absurd (all-none sh (put s.owing d false) f r ((m.owes f (replied-owes s.owing d f h)).1) h);
     }
-    at true false r = record { stand = m.stand; awaits = m.awaits; owes = λ f h. m.owes f (replied-owes s.owing d f h) }
+    at true false r = record { stand = m.stand; used = m.used; awaits = m.awaits; owes = λ f h. m.owes f (replied-owes s.owing d f h) }
     at false c r = m
 reply_phase-fit sh d t s us (Overflowing None) e m = m
 reply_phase-fit sh d t s us Running e m = m
@@ -220,8 +237,8 @@ fill_awaited-fit sh l ws s us (Some a) e m = at (a.line == l) a.stale
     awaiting = ⊎_elim (λ h. h) (λ h. absurd (let n = m.awaits h in cc)) (cases_Bool (awaits_in s.phase))
 
     at : (b c : Bool) → MarksFit sh (cond b (moves (record s { cache = cond c s.cache (filled l ws s.cache); awaited = None }) nothing) (ignored s)).core us
-    at true true = record { stand = m.stand; awaits = λ i. refl; owes = m.owes }
-    at true false = record { stand = filled-uses l ws s.cache us s.phase awaiting m.stand; awaits = λ i. refl; owes = m.owes }
+    at true true = record { stand = m.stand; used = m.used; awaits = λ i. refl; owes = m.owes }
+    at true false = record { stand = filled-uses l ws s.cache us s.phase awaiting m.stand; used = fewer-used s.cache (filled l ws s.cache) us (λ v i. sym (read-filled l ws s.cache v) ∙ i) m.used; awaits = λ i. refl; owes = m.owes }
     at false c = m
 
 fill-fit : (sh : Shape) (l : ℕ) (ws : List ℕ) (s : CoreState) (us : Uses) → MarksFit sh s us → MarksFit sh (fill l ws s).core us
@@ -234,7 +251,7 @@ cleaned-uses l c = record { stands = λ g w x u. record { marked = u.marked; val
 
 request-fit : (sh : Shape) (l : ℕ) (s : CoreState) (us : Uses) → MarksFit sh s us → MarksFit sh (data_request sh l s).core us
 unfolding data_request
-request-fit sh l s us m = record { stand = uses-kept s.cache (cleaned l s.cache) us s.phase (cleaned-uses l s.cache) m.stand; awaits = m.awaits; owes = m.owes }
+request-fit sh l s us m = record { stand = uses-kept s.cache (cleaned l s.cache) us s.phase (cleaned-uses l s.cache) m.stand; used = fewer-used s.cache (cleaned l s.cache) us (λ v i. sym (read-cleaned l s.cache v) ∙ i) m.used; awaits = m.awaits; owes = m.owes }
 
 -- an invalidated word that is marked read
 hit-reads : (l m : ℕ) (c : Cache) (w : ℕ) → c.read w ≡ true → hit l m w ≡ true → l ≡ line_of w → reads_masked l m c ≡ true
@@ -298,15 +315,18 @@ without-uses l m u c us Halted n h = h
 staled-none : (l : ℕ) (o : Option Awaited) → o ≡ None → staled l o ≡ None
 staled-none l o e = rw e
 
+without-used : (l m : ℕ) (c : Cache) (us : Uses) → OnlyUsed c us → OnlyUsed (invalidated l m c) us
+without-used l m c us h = fewer-used c (invalidated l m c) us (λ v i. sym (read-invalidated l m c v) ∙ i) h
+
 -- a core that isn't violated
 without-fit : (sh : Shape) (l m u : ℕ) (s : CoreState) (us : Uses) → is_violated l m u s ≡ false → MarksFit sh s us → MarksFit sh (without l m s) us
 unfolding without is_violated
-without-fit sh l m u s us n k = record { stand = without-uses l m u s.cache us s.phase n k.stand; awaits = λ i. staled-none l s.awaited (k.awaits i); owes = k.owes }
+without-fit sh l m u s us n k = record { stand = without-uses l m u s.cache us s.phase n k.stand; used = without-used l m s.cache us k.used; awaits = λ i. staled-none l s.awaited (k.awaits i); owes = k.owes }
 
 -- one that is: it begins anew, or had no attempt
 rolled-fit : (sh : Shape) (s : CoreState) (q : Phase) (sp : ℕ → Option ℕ) → UsesStand (rolled_back s.cache) [] q → (awaits_in q ≡ false → s.awaited ≡ None) → MarksFit sh (record (roll_back s) { phase = q; spilled = sp }) []
 unfolding roll_back
-rolled-fit sh s q sp f n = record { stand = f; awaits = n; owes = λ d h. absurd (cc) }
+rolled-fit sh s q sp f n = record { stand = f; used = none-used (rolled_back s.cache) (read-rolled_back s.cache); awaits = n; owes = λ d h. absurd (cc) }
 
 violated-fit : (sh : Shape) (l m : ℕ) (s : CoreState) (us : Uses) (q : Phase) → s.phase ≡ q → MarksFit sh s us → MarksFit sh (violated_in sh (without l m s) q).core (uses_violated true q us)
 unfolding without roll_back none_spilled
@@ -319,11 +339,13 @@ violated-fit sh l m s us (Overflowing (Some t)) e k = rolled-fit sh (without l m
 violated-fit sh l m s us (Solo t) e k = rolled-fit sh (without l m s) Running none_spilled tt (λ i. absurd (cc))
 violated-fit sh l m s us DoomedTid e k = record {
   stand = subst (λ (x : Phase). UsesStand (invalidated l m s.cache) us x) (sym e) (stand-in s us DoomedTid e k.stand);
+  used = without-used l m s.cache us k.used;
   awaits = λ i. staled-none l s.awaited (k.awaits i);
   owes = k.owes;
 }
 violated-fit sh l m s us Halted e k = record {
   stand = subst (λ (x : Phase). UsesStand (invalidated l m s.cache) us x) (sym e) tt;
+  used = without-used l m s.cache us k.used;
   awaits = λ i. staled-none l s.awaited (k.awaits i);
   owes = k.owes;
 }

@@ -1,3 +1,4 @@
 pub mod Sound
 pub mod Follows
 pub mod Marks
+pub mod Views

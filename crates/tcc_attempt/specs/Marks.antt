@@ -1,5 +1,5 @@
 -- What a core's marks say of its attempt: which words it used and stored, and which replies and fills it waits for.
-use Rattle.std.specs.Prelude.{ℕ, ◌≡◌, ◌⊎◌, Bool, true, false, List, [], ◌∷◌, Option, Some, None, IfSome, nat_lt}
+use Rattle.std.specs.Prelude.{ℕ, ◌≡◌, ◌⊎◌, Bool, true, false, ◌==◌, ◌||◌, List, [], ◌∷◌, Option, Some, None, IfSome, nat_lt}
 use Rattle.tcc_program.specs.Program.{Local, Program}
 use Rattle.tcc_maps.specs.Nodes.{Event}
 use Rattle.tcc_maps.specs.Shape.{Shape}
@@ -7,6 +7,7 @@ use Rattle.tcc_maps.specs.Cache.{Cache}
 use Rattle.tcc_rules.specs.State.{CoreState, Phase, Running, AwaitTid, DoomedTid, Probing, Ready, Overflowing, Solo, Halted, start}
 use Rattle.tcc_rules.specs.Step.{run}
 use Rattle.tcc_attempt.specs.Follows.{Uses, Follows, Fits}
+use Rattle.tcc_attempt.specs.Views.{no_views, views_from}
 
 -- a used word that the attempt hasn't stored since has the value that it had, or, where that is allowed, is invalid
 abbrev pub StillHas : (may_be_gone : Bool) → Option ℕ → ℕ → Type 0
@@ -33,6 +34,15 @@ UsesStand c us (Solo t) = (w : ℕ) → c.read w ≡ false
 UsesStand c us DoomedTid = us ≡ []
 UsesStand c us Halted = Unit {0}
 
+-- a word of the uses
+unfoldable pub is_used : Uses → (word : ℕ) → Bool
+is_used [] w = false
+is_used (u ∷ us) w = (u.0 == w) || is_used us w
+
+-- no other word is marked read
+abbrev pub OnlyUsed : Cache → Uses → Type 0
+OnlyUsed c us = (w : ℕ) → c.read w ≡ true → is_used us w ≡ true
+
 -- a line is awaited in Running and Solo alone
 abbrev pub awaits_in : Phase → Bool
 awaits_in Running = true
@@ -58,6 +68,7 @@ owed_in Halted = false
 
 pub record MarksFit (sh : Shape) (s : CoreState) (us : Uses) : Type 0 where
   pub stand : UsesStand s.cache us s.phase
+  pub used : OnlyUsed s.cache us
   pub awaits : awaits_in s.phase ≡ false → s.awaited ≡ None
   pub owes : (d : ℕ) → s.owing d ≡ true → (owed_in s.phase ≡ true) × (nat_lt d sh.dirs ≡ true)
 
@@ -66,7 +77,7 @@ pub record AttemptFits (sh : Shape) (p : Program) (s : CoreState) (us : Uses) : 
   pub follows : Follows sh p s us
   pub marks : MarksFit sh s us
 
--- in every state that a run reaches each core's attempt fits some uses
+-- in every state that a run reaches each core's attempt fits its view
 abbrev pub AttemptsFit : Type 0
 AttemptsFit = (sh : Shape) (p : Program) (entries : ℕ → Local) (ram : ℕ → ℕ) (es : List Event) → Fits p →
-    IfSome (run sh p (start entries ram) es) (λ h. (c : ℕ) → (us : Uses) × AttemptFits sh p (h.world.cores c) us)
+    IfSome (run sh p (start entries ram) es) (λ h. (c : ℕ) → AttemptFits sh p (h.world.cores c) (views_from sh p es no_views (record { world = start entries ram; commits = [] }) c))

@@ -15,9 +15,10 @@ pub fn cores_stay_sound()
 /// In every state that a run reaches, each core's attempt is what the plain machine does from the core's checkpoint, over any
 /// memory of 32-bit words that has the values which the attempt used: the same registers, pc, loads, stores and console, the
 /// same words as the core sees them, and its end where it has ended. The program's accesses are aligned, and what it stores
-/// fits. Until the core is alone each such use is marked read, and has its value still unless the attempt stored there
-/// since or, once the core has a TID, an invalidation made it invalid. Only a core that executes awaits a line, and only one
-/// that probes is owed replies.
+/// fits. The uses are those that the run's events made, one after another: the core's view. Until the core is alone each such
+/// use is marked read, and has its value still unless the attempt stored there since or, once the core has a TID, an
+/// invalidation made it invalid; and no word is marked read that the attempt didn't use. Only a core that executes awaits a
+/// line, and only one that probes is owed replies.
 pub fn attempts_follow_from_their_uses()
     ensures { AttemptsFit }
 {}

@@ -4,12 +4,13 @@ use Rattle.image_load.specs.Start as image_load
 use Rattle.image_load.specs.Start.{Start}
 use Rattle.net_core.proofs.Serial.{runs_serial}
 use Rattle.net_core.specs.Agreement.{IsSerial}
+use Rattle.net_core.specs.Rules.{is_done}
 use Rattle.rv_plain.specs.Machine.{program, plain_start}
 use Rattle.tcc_base.specs.Settings.{Settings}
 use Rattle.tcc_cli.specs.Asked.{HasSettings, Texts}
 use Rattle.tcc_cli.specs.Images.{start_of}
 use Rattle.tcc_cli.specs.Lines.{Written, IsWhole}
-use Rattle.tcc_cli.specs.Runs.{run_of, is_halted, text_of}
+use Rattle.tcc_cli.specs.Runs.{run_of, text_of}
 use Rattle.tcc_cli.specs.Top.{Reported}
 use Rattle.tcc_cli.specs.declared.words.Form.{Form}
 
@@ -27,10 +28,10 @@ start_settings form s files = refl
 
 -- the report of a loaded memory is that of the start that it stands for
 pub reported : (s t : Start) (steps : ℕ) (text : List ℕ) (out : Written) (done halted : Bool) → s ≡ t → 1 ≤ t.settings.cores
-    → halted ≡ is_halted (run_of s steps).ended → text ≡ text_of s (run_of s steps) → done ≡ halted → IsWhole text out
+    → halted ≡ is_done (run_of s steps) → text ≡ text_of s (run_of s steps) → done ≡ halted → IsWhole text out
     → Reported t steps out done
 reported s t steps text out done halted same some ends texts is whole = record {
-  ended = ap (λ r. is_halted (run_of r steps).ended) (sym same) ∙ sym ends ∙ sym is;
+  ended = ap (λ r. is_done (run_of r steps)) (sym same) ∙ sym ends ∙ sym is;
   serial = run_is_serial t steps some;
   written = subst (λ x. IsWhole x out) (texts ∙ ap (λ r. text_of r (run_of r steps)) same) whole;
 }

@@ -2,13 +2,14 @@
 use Rattle.std.specs.Prelude.{ℕ, Bool, List, map, ◌≡◌, ◌↔◌, ◌⊎◌, Option, Some, None, Ok, Err}
 use Rattle.image_load.specs.Start.{Start}
 use Rattle.net_core.specs.Agreement.{IsSerial}
+use Rattle.net_core.specs.Rules.{is_done}
 use Rattle.rv_plain.specs.Machine.{program, plain_start}
 use Rattle.tcc_cli.specs.Asked.{Asked, IsCommand}
 use Rattle.tcc_cli.specs.Images.{start_of, fault_of}
 use Rattle.tcc_cli.specs.Lines.{Written, IsTold, IsCut, IsWhole, IsSilent}
 use Rattle.tcc_cli.specs.Reading.{AreGiven, RefusedFiles}
 use Rattle.tcc_cli.specs.Refusals.{End, RefusedWords, line_of, status_of}
-use Rattle.tcc_cli.specs.Runs.{run_of, is_halted, text_of}
+use Rattle.tcc_cli.specs.Runs.{run_of, text_of}
 use Rattle.tcc_cli.specs.declared.refusal.ImageFault.{ImageFault}
 use Rattle.tcc_cli.specs.declared.refusal.Refusal.TheVariants as why
 use Rattle.tcc_cli.specs.declared.status.Status.{Status}
@@ -28,7 +29,7 @@ report_of s steps = text_of s (run_of s steps)
 
 -- the whole report was written; `done` is whether a halt or a trap is committed at the end
 pub record Reported (s : Start) (steps : ℕ) (out : Written) (done : Bool) : Type 0 where
-  pub ended : is_halted (run_of s steps).ended ≡ done
+  pub ended : is_done (run_of s steps) ≡ done
   -- the headline: the printed commits are a serial execution of the plain machine, and the printed loads, registers, memory and
   -- console are those of that execution
   pub serial : IsSerial s.settings.base (program s) (plain_start s) (run_of s steps)

@@ -11,13 +11,14 @@ use crate::words::Field;
 use image_elf::ElfFault;
 use image_load::LoadFault;
 use itoa::Buffer;
-use tcc_base::NoMemory;
 use tcc_world::{Sink, SinkFailed, write_all};
 
-/// Who refuses an image: the reader of ELF files, or what lays images into RAM.
+/// Who refuses an image.
 #[derive(Clone, Copy, Debug, PartialEq, Eq)]
 pub enum Reader {
+    /// The reader of ELF files.
     Elf,
+    /// What lays images into RAM.
     Load,
 }
 
@@ -26,10 +27,11 @@ pub enum Reader {
 pub struct ImageFault {
     /// The image's number, from 0 on.
     pub image: u32,
+    /// Who refuses it.
     pub by: Reader,
     /// The fault's number, from 1 on: that of `ElfFault` or `LoadFault`.
     pub number: u8,
-    /// The size, offset or index that the fault carries, and 0 where it carries none.
+    /// The size in bytes, offset or index that the fault carries, and 0 where it carries none.
     pub place: u64,
 }
 
@@ -48,16 +50,6 @@ pub enum Refusal<'a> {
     Output,
     /// There wasn't enough memory.
     Memory,
-}
-
-impl<'a> From<NoMemory> for Refusal<'a> {
-    ghost use Rattle.tcc_cli.specs.declared.refusal.Refusal.TheVariants.{Memory};
-
-    ghost from_gives = { λ _ r. r ≡ Memory };
-
-    fn from(_: NoMemory) -> Refusal<'a> {
-        Refusal::Memory
-    }
 }
 
 impl<'a> Refusal<'a> {

@@ -2,10 +2,10 @@
 ghost use Rattle.std.specs.Prelude.{◌≡◌, ℕ, ◌/◌, ◌≤◌, IfOk, OnOk, length};
 ghost use Rattle.std.specs.String.{string_bytes};
 ghost use Rattle.image_load.specs.Contents.{started};
-ghost use Rattle.net_core.specs.Rules.{run};
+ghost use Rattle.net_core.specs.Rules.{run, is_done};
 ghost use Rattle.net_core.specs.SystemState.{machine_of};
 ghost use Rattle.rv_plain.specs.Machine.{program};
-ghost use Rattle.tcc_cli.specs.Runs.{run_of, is_halted, text_of};
+ghost use Rattle.tcc_cli.specs.Runs.{run_of, text_of};
 ghost use Rattle.tcc_program.specs.Ram.{flat};
 
 use image_load::Loaded;
@@ -13,7 +13,7 @@ use net_core::{StepError, System};
 use report_text::{CoreShown, Ending, Words, report};
 use rv_plain::Code;
 use std::alloc::Global;
-use tcc_base::{Config, CoreEnd, CoreId, NoMemory, WordAddr};
+use tcc_base::{Config, CoreId, NoMemory, WordAddr};
 use tcc_msg::Event;
 
 /// The text of a run's report, and whether a halt or a trap is committed.
@@ -81,23 +81,14 @@ fn run_for(system: &mut System, steps: u32) -> Result<(), NoMemory>
     Ok(())
 }
 
-fn halted(end: CoreEnd) -> bool
-    ensures { result ≡ is_halted end }
-{
-    match end {
-        CoreEnd::Run => false,
-        CoreEnd::Halt(_) | CoreEnd::Trap(_) => true,
-    }
-}
-
 /// The report of the machine as it stands.
 #[tactic(auto, unfolding(net_core::specs::SystemState::machine_of))]
 fn finish(alloc: Global, system: &System) -> Result<Finished, NoMemory>
     requires one { system.now.loaded.settings.cores ≡ 1 }
-    ensures done { IfOk result (λ f. f.done ≡ is_halted (machine_of system.now).ended) }
+    ensures done { IfOk result (λ f. f.done ≡ is_done (machine_of system.now)) }
     ensures text { IfOk result (λ f. string_bytes f.text ≡ text_of (started system.now.loaded) (machine_of system.now)) }
 {
-    let done = halted(system.ended());
+    let done = system.done();
     match text(alloc, system) {
         Ok(text) => Ok(Finished { done, text }),
         Err(e) => Err(e),
@@ -124,7 +115,7 @@ fn text(alloc: Global, system: &System) -> Result<String, NoMemory>
             code: system.code(),
         },
     };
-    report(alloc, halted(system.ended()), system.events(), &ending)
+    report(alloc, system.done(), system.events(), &ending)
 }
 
 /// Runs a loaded memory for at most so many events.
@@ -137,7 +128,7 @@ pub fn simulate(
     requires settings { loaded.now.settings ≡ config.now }
     requires one { config.now.cores ≡ 1 }
     requires few { steps ≤ 4194304 }
-    ensures done { IfOk result (λ f. f.done ≡ is_halted (run_of (started loaded.now) steps).ended) }
+    ensures done { IfOk result (λ f. f.done ≡ is_done (run_of (started loaded.now) steps)) }
     ensures text { IfOk result (λ f. string_bytes f.text ≡ text_of (started loaded.now) (run_of (started loaded.now) steps)) }
 {
     let mut system = System::start(alloc, config, loaded)?;

@@ -9,7 +9,7 @@ use Rattle.tcc_program.specs.Program.{Program, Local}
 use Rattle.tcc_maps.specs.Words.{num}
 use Rattle.tcc_maps.specs.Nodes.{Core, Dir, Msg, Event}
 use Rattle.tcc_maps.specs.Shape.{Shape}
-use Rattle.tcc_rules.specs.State.{DirState, World, Link, start}
+use Rattle.tcc_rules.specs.State.{DirState, World, start}
 use Rattle.tcc_rules.specs.Links.{in_flight}
 use Rattle.tcc_rules.specs.Sends.{Sends}
 use Rattle.tcc_rules.specs.Attempt.{Out}
@@ -28,7 +28,7 @@ use Rattle.tcc_serial.proofs.Commits.{only-one}
 use Rattle.tcc_serial.proofs.CoreDue.{CleanOut, clean-exec, clean-evict, clean-grant}
 use Rattle.tcc_serial.proofs.DirDue.{Due, DueBy, dir-due, still-due}
 use Rattle.tcc_serial.proofs.KeptSteps.{core_of_out, once_at}
-use Rattle.tcc_serial.proofs.Links.{live-sends, live-takes, total-le}
+use Rattle.tcc_serial.proofs.Links.{live-sends, live-takes, total-le, live-fewer}
 use Rattle.tcc_serial.proofs.NamedKept.{passed-away}
 use Rattle.tcc_serial.proofs.OwedSteps.{BackDue, back-due, marks_home, acks_owed}
 use Rattle.tcc_serial.proofs.PairFrames.{dir-own, dir-other, asks-own, pairs_move, pairs_grant, pairs_back, pairs_dir, pairs_asks, pairs_vendor}
@@ -40,14 +40,9 @@ UnackedOf sh gs c d v = d < sh.dirs → Contains gs (record { tid = v.dir.servin
 abbrev pub KeptUnacked : Shape → List Grant → World → Type 0
 KeptUnacked sh gs w = (c d : ℕ) → UnackedOf sh gs c d (pair w c d)
 
-acks-few : (k : Link) → live Acks k ≤ live Any k
-unfolding live passes
-acks-few [] = omega arith
-acks-few (None ∷ k) = acks-few k
-acks-few (Some m ∷ k) = omega (arith, acks-few k, one m)
-  where
-    one : (m : Msg) → num (passes Acks m) ≤ 1
-    one m = grind (arith, nat_tests)
+acks-any : (m : Msg) → num (passes Acks m) ≤ num (passes Any m)
+unfolding passes
+acks-any m = grind (arith, nat_tests)
 
 -- where nothing is owed, no acknowledgement is in flight
 no-acks : (sh : Shape) (w : World) (j d : ℕ) → KeptTold sh w → (pair w j d).dir.owed ≡ 0 → live Acks (pair w j d).out ≡ 0
@@ -56,7 +51,7 @@ no-acks sh w j d k z = go (cases_lt j sh.cores)
   where
     go : (j < sh.cores) ⊎ (sh.cores ≤ j) → live Acks (w.net (Core j) (Dir d)) ≡ 0
     go (inl l) = omega (arith, k.owed.owed d, total-le (share due w d) sh.cores j l)
-    go (inr l) = omega (arith, (k.tids.inside j d).out l, acks-few (w.net (Core j) (Dir d)))
+    go (inr l) = omega (arith, (k.tids.inside j d).out l, live-fewer Acks Any acks-any (w.net (Core j) (Dir d)))
 
 -- a directory whose TID isn't granted yet is owed nothing
 next-unacked : (sh : Shape) (w : World) (j d : ℕ) → KeptTold sh w → d < sh.dirs → (w.dirs d).serving.serving ≡ w.next → live Acks (pair w j d).out ≡ 0

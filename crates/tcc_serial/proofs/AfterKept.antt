@@ -5,8 +5,7 @@ use Rattle.std.proofs.lemmas.Bool.{cases_eq}
 use Rattle.std.proofs.lemmas.Bool.Decides.{nat_tests}
 use Rattle.tcc_base.specs.declared.access.Commit.{Commit as Noted}
 use Rattle.tcc_program.specs.Program.{Program, Local}
-use Rattle.tcc_maps.specs.Words.{num}
-use Rattle.tcc_maps.specs.Nodes.{Core, Dir, Vendor, Event, Msg, TidReq, TidGrant, LoadReq, Fill, Skip, Probe, ProbeReply, Mark, Commit, Abort, WriteBack, Flush, DataReq, Inv, InvAck}
+use Rattle.tcc_maps.specs.Nodes.{Core, Dir, Vendor, Event, Msg}
 use Rattle.tcc_maps.specs.Shape.{Shape}
 use Rattle.tcc_rules.specs.State.{DirState, World, Link, start, core_start}
 use Rattle.tcc_rules.specs.Links.{in_flight}
@@ -18,12 +17,13 @@ use Rattle.tcc_rules.specs.CoreDeliver.{from_dir, grant}
 use Rattle.tcc_rules.specs.DirDeliver.{Answer, Waits, Drops, Asks, Takes, dir_deliver}
 use Rattle.tcc_rules.specs.Step.{core_moves, core_takes, dir_takes, step, and_noted, insert_commit}
 use Rattle.tcc_serial.specs.Copies.{AfterOf, KeptAfter, KeptLoading, stored_there}
-use Rattle.tcc_serial.specs.Count.{LoadOf, LoadNot, live, passes}
+use Rattle.tcc_serial.specs.Count.{LoadOf, LoadNot, live}
 use Rattle.tcc_serial.specs.OneCore.{KeptCores}
 use Rattle.tcc_serial.specs.Owners.{Grant, AreGranted, holder, KeptOwners, LastGranted}
 use Rattle.tcc_serial.specs.Pairs.{Pair, pair, after_move}
-use Rattle.tcc_serial.specs.Wrote.{stores_at, last_of}
-use Rattle.tcc_serial.proofs.CoreAfter.{Stays, Commits_now, AfterStep, after-exec, after-evict, after-grant, after-back}
+use Rattle.tcc_serial.specs.Stored.{stores_at}
+use Rattle.tcc_serial.specs.Wrote.{last_of}
+use Rattle.tcc_serial.proofs.CoreAfter.{no-load, Stays, Commits_now, AfterStep, after-exec, after-evict, after-grant, after-back}
 use Rattle.tcc_serial.proofs.CoreOwners.{KeepsHolder, noted_tid, none, holder-exec, holder-evict}
 use Rattle.tcc_serial.proofs.Links.{live-sends, live-takes}
 use Rattle.tcc_serial.proofs.OwnerSteps.{holder-moved}
@@ -48,7 +48,7 @@ last-insert p n (m ∷ cs) = go (nat_lt n.tid.0 m.tid.0) (last-insert p n cs)
 last-below : (sh : Shape) (gs : List Grant) (c d t : ℕ) (cs : List Noted) → AreGranted gs cs → ((u : ℕ) → Contains gs (record { tid = u; core = c }) → u ≤ t) → last_of (stored_there sh c d) cs ≤ t
 unfolding AreGranted last_of stored_there
 last-below sh gs c d t [] a f = omega arith
-last-below sh gs c d t (m ∷ cs) a f = go (m.core.0 == c) refl (stores_at sh m.stores d) (last-below sh gs c d t cs (a.1) f)
+last-below sh gs c d t (m ∷ cs) a f = go (m.core.0 == c) refl (stores_at sh d m.stores) (last-below sh gs c d t cs (a.1) f)
   where
     go : (b : Bool) → (m.core.0 == c) ≡ b → (y : Bool) → last_of (stored_there sh c d) cs ≤ t → max (cond (b && y) m.tid.0 0) (last_of (stored_there sh c d) cs) ≤ t
     go true q true l = let e : m.core.0 ≡ c = grind (arith, nat_tests) in let x = f m.tid.0 (rw (sym e) (a.0)) in omega arith
@@ -57,27 +57,10 @@ last-below sh gs c d t (m ∷ cs) a f = go (m.core.0 == c) refl (stores_at sh m.
 
 -- no request for a line, so none that carries something else
 no-live : (k : Link) → ((l : ℕ) → live (LoadOf l) k ≡ 0) → (x : ℕ) → live (LoadNot x) k ≡ 0
-unfolding live passes
+unfolding live
 no-live [] h x = refl
 no-live (None ∷ k) h x = no-live k h x
-no-live (Some m ∷ k) h x = omega (arith, one m (λ l. omega (arith, h l)), no-live k (λ l. omega (arith, h l)) x)
-  where
-    one : (m : Msg) → ((l : ℕ) → num (passes (LoadOf l) m) ≡ 0) → num (passes (LoadNot x) m) ≡ 0
-    one (LoadReq k a) f = absurd (let y = f k in let z : (k == k) ≡ true = grind (arith, nat_tests) in let q : num (k == k) ≡ 1 = rw z refl in omega (arith, y, q))
-    one TidReq f = refl
-    one (TidGrant t) f = refl
-    one (Fill k ws) f = refl
-    one (Skip t) f = refl
-    one (Probe t) f = refl
-    one (ProbeReply t s) f = refl
-    one (Mark k m t) f = refl
-    one (Commit t n) f = refl
-    one (Abort t) f = refl
-    one (WriteBack k m ws t) f = refl
-    one (Flush k m ws t) f = refl
-    one (DataReq k) f = refl
-    one (Inv k m t) f = refl
-    one (InvAck k b) f = refl
+no-live (Some m ∷ k) h x = omega (arith, no-load x m (λ l. omega (arith, h l)), no-live k (λ l. omega (arith, h l)) x)
 
 -- a core that commits nothing
 stays-after : (sh : Shape) (cs : List Noted) (c d : ℕ) (v : Pair) (o : Out) → Stays v.core o → AfterOf sh cs c d v → AfterOf sh cs c d (after_move v o d)
@@ -90,7 +73,7 @@ stays-after sh cs c d v o y h = record {
 commits-after : (sh : Shape) (cs : List Noted) (c d : ℕ) (v : Pair) (o : Out) (y : Commits_now sh c v.core o) → last_of (stored_there sh c d) cs ≤ y.noted.tid.0 → ((l : ℕ) → live (LoadOf l) v.out ≡ 0) → AfterOf sh cs c d v → AfterOf sh (insert_commit y.noted cs) c d (after_move v o d)
 unfolding stored_there
 commits-after sh cs c d v o y b n h = record {
-  last = y.after d ∙ (go (stores_at sh y.noted.stores d) refl ∙ sym (last-insert (stored_there sh c d) y.noted cs));
+  last = y.after d ∙ (go (stores_at sh d y.noted.stores) refl ∙ sym (last-insert (stored_there sh c d) y.noted cs));
   carried = omega (arith, no-live v.out n (o.core.after d), y.quiet d (o.core.after d), live-sends (LoadNot (o.core.after d)) v.out (o.sends (Dir d)));
 }
   where
@@ -103,7 +86,7 @@ commits-after sh cs c d v o y b n h = record {
     none-else : (l : ℕ) → l ≡ max 0 l
     none-else l = omega arith
 
-    go : (x : Bool) → stores_at sh y.noted.stores d ≡ x → (if x then y.noted.tid.0 else v.core.after d) ≡ max (cond ((y.noted.core.0 == c) && stores_at sh y.noted.stores d) y.noted.tid.0 0) (last_of (stored_there sh c d) cs)
+    go : (x : Bool) → stores_at sh d y.noted.stores ≡ x → (if x then y.noted.tid.0 else v.core.after d) ≡ max (cond ((y.noted.core.0 == c) && stores_at sh d y.noted.stores) y.noted.tid.0 0) (last_of (stored_there sh c d) cs)
     go true q = rw (own, q) (at-most y.noted.tid.0 (last_of (stored_there sh c d) cs) b)
     go false q = rw (own, q) (h.last ∙ none-else (last_of (stored_there sh c d) cs))
 

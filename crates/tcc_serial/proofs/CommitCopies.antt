@@ -15,18 +15,17 @@ use Rattle.tcc_rules.specs.Commit.{commit, committed_core, noted, solo_commit, c
 use Rattle.tcc_serial.specs.OneCore.{OneCore, Words}
 use Rattle.tcc_serial.specs.Stored.{stores_in}
 use Rattle.tcc_serial.specs.Wrote.{stores_line}
-use Rattle.tcc_serial.proofs.CommitMasks.{unspilled}
 use Rattle.tcc_serial.proofs.CopySends.{few-masks, commit-copies, solo-copies, solo-wrong}
 use Rattle.tcc_serial.proofs.CoreCopies.{Conserves}
 use Rattle.tcc_serial.proofs.DirtyFrames.{wrong-copy, IsClean, clean-frame, in-line, committed-frame}
-use Rattle.tcc_serial.proofs.StoredMasks.{modified-line, modified-stored, written-line, written-stored}
+use Rattle.tcc_serial.proofs.StoredMasks.{unspilled, modified-line, modified-stored, written-line, written-stored}
 
 pub ready-copies : (sh : Shape) (l id u : ℕ) (s : CoreState) → s.phase ≡ Ready u → OneCore sh s → Conserves sh l s (commit sh id u s)
 unfolding commit committed_core committed noted stores_line
 ready-copies sh l id u s e h =
     let x = committed-frame sh s.cache (committed u s.cache) l u h.words.cache (λ k i. refl) in
-    let z : (t : ℕ) → num (is_modified s.cache l && u == t) ≡ num (stores_line sh.base s.stores l && u == t) = λ t. rw (modified-line sh.base s.cache s.stores l (unspilled sh u s e h)) refl in
-    let y : (t m : ℕ) → num ((is_modified s.cache l && u == t) && not (modified_mask s.cache l == m)) ≡ num ((stores_line sh.base s.stores l && u == t) && not (stores_in sh.base s.stores l == m)) = λ t m. rw (modified-line sh.base s.cache s.stores l (unspilled sh u s e h), modified-stored sh.base s.cache s.stores l (unspilled sh u s e h)) refl in
+    let z : (t : ℕ) → num (is_modified s.cache l && u == t) ≡ num (stores_line sh.base s.stores l && u == t) = λ t. rw (modified-line sh.base s.cache s.stores l (unspilled sh s.cache s.spilled s.stores (rw e at (h.words)))) refl in
+    let y : (t m : ℕ) → num ((is_modified s.cache l && u == t) && not (modified_mask s.cache l == m)) ≡ num ((stores_line sh.base s.stores l && u == t) && not (stores_in sh.base s.stores l == m)) = λ t m. rw (modified-line sh.base s.cache s.stores l (unspilled sh s.cache s.spilled s.stores (rw e at (h.words))), modified-stored sh.base s.cache s.stores l (unspilled sh s.cache s.spilled s.stores (rw e at (h.words)))) refl in
     record {
       copies = λ t. omega (arith, x.0 t, z t, commit-copies sh s.cache u l t (home sh l));
       wrong = λ t m. omega (arith, x.1 t m, y t m, commit-copies sh s.cache u l t (home sh l), few-masks l t m (commit_sends sh s.cache u (Dir (home sh l))));

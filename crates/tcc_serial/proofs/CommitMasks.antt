@@ -1,5 +1,5 @@
 -- What a core has marked, or marks, by a TID that it commits is what the commit stored.
-use Rattle.std.specs.Prelude.{ℕ, ◌+◌, ◌≡◌, ◌≤◌, Bool, true, false, not, List, [], ◌∷◌, ◌++◌, ◌==◌, ◌&&◌, ◌||◌, Option, Some, None, IfSome, nat_lt, if◌then◌else◌}
+use Rattle.std.specs.Prelude.{ℕ, ◌+◌, ◌≡◌, ◌≤◌, Bool, true, false, not, List, [], ◌∷◌, ◌++◌, ◌==◌, ◌&&◌, Option, Some, None, IfSome, nat_lt, if◌then◌else◌}
 use Rattle.std.specs.List.{flat_map}
 use Rattle.std.proofs.Common.{arith, refl, sym, ap, ◌∙◌, ◌⊎◌, inl, inr}
 use Rattle.std.proofs.lemmas.Bool.Decides.{nat_tests}
@@ -21,19 +21,18 @@ use Rattle.tcc_serial.specs.Marks.{has_marked, stores_line, marked_by}
 use Rattle.tcc_serial.specs.OneCore.{OneCore}
 use Rattle.tcc_serial.specs.Stored.{stores_in, stored_mask, stores_at}
 use Rattle.tcc_serial.specs.Tids.{has_tid}
-use Rattle.tcc_serial.specs.Uses.{stores_word}
 use Rattle.tcc_serial.proofs.Links.{among-append}
 use Rattle.tcc_serial.proofs.Sent.{among-flat_map_none}
 use Rattle.tcc_serial.proofs.Executes.{Acts, Steady, Executed, Goes_on, Overflows, Asks_tid, Alone, executed}
 use Rattle.tcc_serial.proofs.CoreSteps.{evict-steady, fill-steady, data-steady, invalidate-cases, reply-cases}
 use Rattle.tcc_serial.proofs.CoreCommits.{few-commits}
 use Rattle.tcc_serial.proofs.CommitOwners.{few-of}
-use Rattle.tcc_serial.proofs.CoreCounts.{is-commit, is-alone, has-ready, has-solo, no-commits, free-hurt, free-replied}
-use Rattle.tcc_serial.proofs.CoreMarking.{mine, told-commit}
+use Rattle.tcc_serial.proofs.CoreCounts.{is-commit, is-alone, has-solo, no-commits, free-hurt, free-replied}
+use Rattle.tcc_serial.proofs.CoreMarking.{mine, told-commit, has-ready}
 use Rattle.tcc_serial.proofs.CoreMarkingTakes.{unmarked}
 use Rattle.tcc_serial.proofs.CoreMasks.{own-mask, few-masked}
 use Rattle.tcc_serial.proofs.NotedCommits.{Notes, exec-notes}
-use Rattle.tcc_serial.proofs.StoredMasks.{stored-line, stored-some, stored-cases, modified-line, modified-stored, written-line, written-stored}
+use Rattle.tcc_serial.proofs.StoredMasks.{unspilled, stored-line, stored-any, stored-cases, modified-line, modified-stored, written-line, written-stored}
 
 -- A core notes a commit that stored at the directory, and what this stored are the masks of the Marks that it has sent, and of those that it sends with it.
 pub record Storing (sh : Shape) (c d t : ℕ) (s : CoreState) (o : Out) : Type 0 where
@@ -78,15 +77,6 @@ commit-some t (m ∷ ms) x = go (passes (Commits t) m) refl (commit-some t ms)
 
 -- a core whose directories are all ready has marked what its stores name
 
-or-false : (b : Bool) → (b || false) ≡ b
-or-false true = refl
-or-false false = refl
-
-pub unspilled : (sh : Shape) (u : ℕ) (s : CoreState) → s.phase ≡ Ready u → OneCore sh s → (w : ℕ) → s.cache.modified w ≡ stores_word sh.base s.stores w
-unspilled sh u s e h w =
-    let n : s.spilled w ≡ None = h.words.spilled_alone (rw e refl) w in
-    sym (or-false (s.cache.modified w)) ∙ (rw n at (h.words.named w))
-
 commit-writes : (sh : Shape) (c : Cache) (u d t : ℕ) → 1 ≤ among (Commits t) (commit_sends sh c u (Dir d)) → any_below (λ l. d == home sh l && is_modified c l) (lines sh) ≡ true
 unfolding commit_sends writes_at among passes
 commit-writes sh c u d t x = go (nat_lt d sh.dirs) (any_below p (lines sh)) x
@@ -107,7 +97,7 @@ storing-ready sh c d t u s ph h x = record {
   tid = same;
   core = refl;
   held = mine u t s.phase (has-ready u s.phase ph) same;
-  stored = stored-some sh d s.stores (λ l. d == home sh l && is_modified s.cache l) line (commit-writes sh s.cache u d t x);
+  stored = sym (stored-any sh d s.stores (λ l. d == home sh l && is_modified s.cache l) line) ∙ commit-writes sh s.cache u d t x;
   marks = marks;
   right = λ l. omega (arith, few-masked t l (stored_mask sh d s.stores l) (commit_sends sh s.cache u (Dir d)), (told-commit sh s.cache u d t l).1);
   before = λ l. before l (stored-cases sh d s.stores l);
@@ -123,13 +113,13 @@ storing-ready sh c d t u s ph h x = record {
     owing = h.owing d (rw ph refl)
 
     line : (l : ℕ) → num (nat_lt l (lines sh) && (d == home sh l && is_modified s.cache l)) ≡ num (nat_lt 0 (stored_mask sh d s.stores l))
-    line l = rw (modified-line sh.base s.cache s.stores l (unspilled sh u s ph h)) (stored-line sh d s.stores l)
+    line l = rw (modified-line sh.base s.cache s.stores l (unspilled sh s.cache s.spilled s.stores (rw ph at (h.words)))) (stored-line sh d s.stores l)
 
     marks : (l : ℕ) → among (MarkOf t l) (commit_sends sh s.cache u (Dir d)) + num (has_marked s.phase && (not (s.owing d) && (nat_lt l (lines sh) && (d == home sh l && is_modified s.cache l)))) ≡ num (nat_lt 0 (stored_mask sh d s.stores l))
     marks l = rw (ph, owing) (omega (arith, (told-commit sh s.cache u d t l).1, line l))
 
     before : (l : ℕ) → (stored_mask sh d s.stores l ≡ stores_in sh.base s.stores l) ⊎ (stored_mask sh d s.stores l ≡ 0) → (num (has_marked s.phase && (not (s.owing d) && (nat_lt l (lines sh) && (d == home sh l && is_modified s.cache l)))) ≡ 0) ⊎ (stored_mask sh d s.stores l ≡ modified_mask s.cache l)
-    before l (inl e) = inr (e ∙ modified-stored sh.base s.cache s.stores l (unspilled sh u s ph h))
+    before l (inl e) = inr (e ∙ modified-stored sh.base s.cache s.stores l (unspilled sh s.cache s.spilled s.stores (rw ph at (h.words))))
     before l (inr e) = let z : num (nat_lt 0 (stored_mask sh d s.stores l)) ≡ 0 = rw e refl in inl (omega (arith, marks l, z))
 
 -- a core alone marks what its stores name
@@ -179,7 +169,7 @@ storing-alone sh c d t u s r o ph cm st se h x = record {
   tid = same;
   core = refl;
   held = mine u t s.phase (has-solo u s.phase ph) same;
-  stored = rw st (stored-some sh d s.stores (λ l. d == home sh l && is_written s.cache s.spilled l) line (alone-writes sh s.cache s.spilled u d t (rw se at x)));
+  stored = rw st (sym (stored-any sh d s.stores (λ l. d == home sh l && is_written s.cache s.spilled l) line) ∙ alone-writes sh s.cache s.spilled u d t (rw se at x));
   marks = λ l. rw (se, st) (omega (arith, marks l, nothing l));
   right = λ l. rw (se, st) (right l (stored-cases sh d s.stores l));
   before = λ l. inl (nothing l);

@@ -17,7 +17,7 @@ use Rattle.tcc_rules.specs.CoreExec.{core_exec, exec_phase, unless_awaiting}
 use Rattle.tcc_rules.specs.CoreEvict.{core_evict}
 use Rattle.tcc_rules.specs.CoreDeliver.{grant, grant_phase, from_dir, probe_reply, ignored, fill, data_request, invalidate}
 use Rattle.tcc_serial.specs.Count.{Commits, AnyCommit, among, passes}
-use Rattle.tcc_serial.proofs.Links.{among-append}
+use Rattle.tcc_serial.proofs.Links.{among-append, among-fewer}
 use Rattle.tcc_serial.proofs.Sent.{among-flat_map_none}
 use Rattle.tcc_serial.proofs.Executes.{Acts, Steady, Executed, Goes_on, Overflows, Asks_tid, Alone, executed}
 use Rattle.tcc_serial.proofs.CoreSteps.{evict-steady, ignored-steady, fill-steady, data-steady, Hurt, Unhurt, Rolled, Doomed, Aborted, Gave_up, Invalidated, invalidate-cases, Replied, Ignored, Probed, Left_alone, reply-cases}
@@ -33,9 +33,7 @@ unfolding passes
 of-any t m = grind (arith, nat_tests)
 
 pub few-of : (t : ℕ) (ms : List Msg) → among (Commits t) ms ≤ among AnyCommit ms
-unfolding among
-few-of t [] = omega arith
-few-of t (m ∷ ms) = omega (arith, of-any t m, few-of t ms)
+few-of t ms = among-fewer (Commits t) AnyCommit (of-any t) ms
 
 noted-free : (o : Out) → ((d : ℕ) → among AnyCommit (o.sends (Dir d)) ≡ 0) → CommitsNoted o
 noted-free o h d t = omega (arith, h d, few-of t (o.sends (Dir d)))

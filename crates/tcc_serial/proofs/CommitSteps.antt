@@ -22,7 +22,7 @@ use Rattle.tcc_serial.specs.Tids.{part, handled}
 use Rattle.tcc_serial.specs.Kept.{Kept}
 use Rattle.tcc_serial.specs.Laws.{Always}
 use Rattle.tcc_serial.specs.Committing.{CommittingOf, KeptCommitting, CommitsAreServed}
-use Rattle.tcc_serial.proofs.Links.{live-sends, live-takes, total-le}
+use Rattle.tcc_serial.proofs.Links.{live-sends, live-takes, total-le, live-fewer}
 use Rattle.tcc_serial.proofs.PairFrames.{pairs_move, pairs_grant, pairs_back, pairs_dir, pairs_asks, pairs_vendor}
 use Rattle.tcc_serial.proofs.StepCases.{OfAnswer, step_cases}
 use Rattle.tcc_serial.proofs.DirProbes.{Rises, RisesBy, dir-rises, rises-still}
@@ -87,10 +87,7 @@ unfolding passes
 of-above s t m l = grind (arith, nat_tests)
 
 ofs-above : (s t : ℕ) (l : Link) → s < t → live (Commits t) l ≤ live (CommitsAbove s) l
-unfolding live
-ofs-above s t [] h = omega arith
-ofs-above s t (None ∷ l) h = ofs-above s t l h
-ofs-above s t (Some m ∷ l) h = omega (arith, of-above s t m h, ofs-above s t l h)
+ofs-above s t l h = live-fewer (Commits t) (CommitsAbove s) (λ m. of-above s t m h) l
 
 of-resolves : (t : ℕ) (m : Msg) → num (passes (Commits t) m) ≤ num (passes (Resolves t) m)
 unfolding passes
@@ -98,10 +95,7 @@ of-resolves t m = grind (arith, nat_tests)
 
 -- a Commit is a word on its TID
 pub ofs-resolve : (t : ℕ) (l : Link) → live (Commits t) l ≤ live (Resolves t) l
-unfolding live
-ofs-resolve t [] = omega arith
-ofs-resolve t (None ∷ l) = ofs-resolve t l
-ofs-resolve t (Some m ∷ l) = omega (arith, of-resolves t m, ofs-resolve t l)
+ofs-resolve t l = live-fewer (Commits t) (Resolves t) (of-resolves t) l
 
 pub commits_served : (sh : Shape) (w : World) → Kept sh w → KeptCommitting w → CommitsAreServed sh w
 unfolding handled share part pair

@@ -1,55 +1,56 @@
 -- What a core's step does to the TIDs that it notes of its last commit at each directory.
-use Rattle.std.specs.Prelude.{ℕ, zero, suc, ◌≡◌, ◌⊎◌, Bool, true, false, not, List, [], ◌∷◌, ◌==◌, ◌&&◌, ◌||◌, Option, Some, None, IfSome, is_some, if◌then◌else◌}
-use Rattle.std.proofs.Common.{arith, refl, ap, sym, ◌∙◌, inl, inr}
+use Rattle.std.specs.Prelude.{ℕ, ◌≡◌, ◌⊎◌, Bool, true, false, not, List, [], ◌∷◌, ◌==◌, ◌&&◌, ◌||◌, Option, Some, None, IfSome, is_some, if◌then◌else◌}
+use Rattle.std.proofs.Common.{arith, refl, ◌∙◌, inl, inr}
 use Rattle.std.proofs.lemmas.Bool.Decides.{nat_tests}
 use Rattle.tcc_base.specs.declared.access.Commit.{Commit as Noted}
-use Rattle.tcc_base.specs.declared.access.Stored.{Stored}
 use Rattle.tcc_base.specs.declared.access.Size.TheVariants.{Byte, Half, Word}
 use Rattle.tcc_program.specs.Program.{Program, Need, Nothing, Loads, Stores, Changes, Prints, Ends, Halts, Traps}
 use Rattle.tcc_program.specs.Ram.{word_of}
-use Rattle.tcc_maps.specs.Words.{num, line_of, any_below, any_word, word_at}
+use Rattle.tcc_maps.specs.Words.{num, line_of}
 use Rattle.tcc_maps.specs.Nodes.{Dir, Vendor, Msg, TidReq, TidGrant, LoadReq, Fill, Skip, Probe, ProbeReply, Mark, Commit, Abort, WriteBack, Flush, DataReq, Inv, InvAck}
-use Rattle.tcc_maps.specs.Shape.{Shape, home, set_of, lines}
-use Rattle.tcc_maps.specs.Cache.{Cache, keeps, free_way, all_marked, is_modified, is_marked, writes_at}
+use Rattle.tcc_maps.specs.Shape.{Shape, home, set_of}
+use Rattle.tcc_maps.specs.Cache.{keeps, free_way, all_marked, is_marked}
 use Rattle.tcc_maps.specs.CacheChange.{marked, evicted, filled, read_cleared}
-use Rattle.tcc_maps.specs.Spilled.{Spilled, holds, spill_line}
+use Rattle.tcc_maps.specs.Spilled.{holds, spill_line}
 use Rattle.tcc_rules.specs.State.{CoreState, Awaited, Phase, Running, AwaitTid, DoomedTid, Probing, Ready, Overflowing, Solo, Halted}
 use Rattle.tcc_rules.specs.Sends.{Sends, nothing, to, flushed, written_back, marks_for}
 use Rattle.tcc_rules.specs.Attempt.{Out, moves, finished, stepped, is_running, is_solo, new_word, roll_back}
-use Rattle.tcc_rules.specs.Commit.{commit, noted, after_commit, commit_sends, committed_core, solo_commit, solo_sends, solo_writes_at, is_written}
+use Rattle.tcc_rules.specs.Commit.{commit, noted, after_commit, commit_sends, committed_core, solo_commit, solo_sends, solo_writes_at}
 use Rattle.tcc_rules.specs.Execute.{ask, place, overflow, full_set, fetch, used, load_valid, load_spilled, load, buffered, framed, word_store, also_read, change_valid, change_spilled, partial_store, close, execute_need, execute}
 use Rattle.tcc_rules.specs.CoreExec.{core_exec, exec_phase, unless_awaiting}
 use Rattle.tcc_rules.specs.CoreEvict.{core_evict, evict_line, is_awaited}
 use Rattle.tcc_rules.specs.CoreDeliver.{grant, grant_phase, from_dir, probe_reply, reply_phase, replied, all_replied, when_ready, when_alone, ignored, fill, fill_awaited, data_request, invalidate, acknowledged, if_violated, violated_in, is_violated, without}
 use Rattle.tcc_serial.specs.Count.{LoadOf, LoadNot, among, passes}
 use Rattle.tcc_serial.specs.OneCore.{OneCore, executes}
-use Rattle.tcc_serial.specs.Uses.{stores_word}
-use Rattle.tcc_serial.specs.Wrote.{stores_at}
+use Rattle.tcc_serial.specs.Stored.{stores_at}
 use Rattle.tcc_serial.proofs.CoreAwaits.{Free, free-nothing, free-flushed, free-written, free-commit, free-solo, free-grants, free-skips, free-probes, free-aborts, free-marks}
 use Rattle.tcc_serial.proofs.Links.{among-append}
+use Rattle.tcc_serial.proofs.StoredMasks.{stored-solo, stored-written}
 
 -- without a request for a line there is none that carries something else
+
+pub no-load : (x : ℕ) (m : Msg) → ((l : ℕ) → num (passes (LoadOf l) m) ≡ 0) → num (passes (LoadNot x) m) ≡ 0
+unfolding passes
+no-load x (LoadReq k a) f = absurd (let y = f k in let z : (k == k) ≡ true = grind (arith, nat_tests) in let q : num (k == k) ≡ 1 = rw z refl in omega (arith, y, q))
+no-load x TidReq f = refl
+no-load x (TidGrant t) f = refl
+no-load x (Fill k ws) f = refl
+no-load x (Skip t) f = refl
+no-load x (Probe t) f = refl
+no-load x (ProbeReply t s) f = refl
+no-load x (Mark k m t) f = refl
+no-load x (Commit t n) f = refl
+no-load x (Abort t) f = refl
+no-load x (WriteBack k m ws t) f = refl
+no-load x (Flush k m ws t) f = refl
+no-load x (DataReq k) f = refl
+no-load x (Inv k m t) f = refl
+no-load x (InvAck k b) f = refl
+
 no-loads : (ms : List Msg) → ((l : ℕ) → among (LoadOf l) ms ≡ 0) → (x : ℕ) → among (LoadNot x) ms ≡ 0
-unfolding among passes
+unfolding among
 no-loads [] h x = refl
-no-loads (m ∷ ms) h x = omega (arith, one m (λ l. omega (arith, h l)), no-loads ms (λ l. omega (arith, h l)) x)
-  where
-    one : (m : Msg) → ((l : ℕ) → num (passes (LoadOf l) m) ≡ 0) → num (passes (LoadNot x) m) ≡ 0
-    one (LoadReq k a) f = absurd (let y = f k in let z : (k == k) ≡ true = grind (arith, nat_tests) in let q : num (k == k) ≡ 1 = rw z refl in omega (arith, y, q))
-    one TidReq f = refl
-    one (TidGrant t) f = refl
-    one (Fill k ws) f = refl
-    one (Skip t) f = refl
-    one (Probe t) f = refl
-    one (ProbeReply t s) f = refl
-    one (Mark k m t) f = refl
-    one (Commit t n) f = refl
-    one (Abort t) f = refl
-    one (WriteBack k m ws t) f = refl
-    one (Flush k m ws t) f = refl
-    one (DataReq k) f = refl
-    one (Inv k m t) f = refl
-    one (InvAck k b) f = refl
+no-loads (m ∷ ms) h x = omega (arith, no-load x m (λ l. omega (arith, h l)), no-loads ms (λ l. omega (arith, h l)) x)
 
 -- nothing is committed, and a load request carries what the core notes of the line's home
 pub record Stays (s : CoreState) (o : Out) : Type 0 where
@@ -62,7 +63,7 @@ pub record Commits_now (sh : Shape) (c : ℕ) (s : CoreState) (o : Out) : Type 0
   pub noted : Noted
   pub commit : o.commit ≡ Some noted
   pub core : noted.core.0 ≡ c
-  pub after : (d : ℕ) → o.core.after d ≡ (if stores_at sh noted.stores d then noted.tid.0 else s.after d)
+  pub after : (d : ℕ) → o.core.after d ≡ (if stores_at sh d noted.stores then noted.tid.0 else s.after d)
   pub quiet : (d x : ℕ) → among (LoadNot x) (o.sends (Dir d)) ≡ 0
   pub idle : s.awaited ≡ None
 
@@ -74,35 +75,6 @@ stays s o e c f = record { after = e; carries = λ d. no-loads (o.sends (Dir d))
 
 still : (sh : Shape) (c : ℕ) (s : CoreState) (o : Out) → o.core.after ≡ s.after → o.commit ≡ None → Free o.sends → AfterStep sh c s o
 still sh c s o e n f = inl (stays s o e n f)
-
--- where a commit stored, by its stores and by the core's words
-
-word-or : (f g : ℕ → Bool) (n : ℕ) → any_below (λ k. f k || g k) n ≡ (any_below f n || any_below g n)
-unfolding any_below
-word-or f g zero = refl
-word-or f g (suc n) = rw (word-or f g n) (four (any_below f n) (any_below g n) (f n) (g n))
-  where
-    four : (a b x y : Bool) → ((a || b) || (x || y)) ≡ ((a || x) || (b || y))
-    four true b x y = refl
-    four false true true y = refl
-    four false true false y = refl
-    four false false true y = refl
-    four false false false y = refl
-
-below-same : (f g : ℕ → Bool) (n : ℕ) → ((k : ℕ) → f k ≡ g k) → any_below f n ≡ any_below g n
-unfolding any_below
-below-same f g zero h = refl
-below-same f g (suc n) h = rw (below-same f g n h, h n) refl
-
-solo-stores : (sh : Shape) (c : Cache) (sp : Spilled) (ss : List Stored) (d : ℕ) → ((w : ℕ) → (c.modified w || is_some (sp w)) ≡ stores_word sh.base ss w) → solo_writes_at sh c sp d ≡ stores_at sh ss d
-unfolding solo_writes_at is_written is_modified holds any_word stores_at
-solo-stores sh c sp ss d h = below-same (λ l. d == home sh l && (any_below (λ k. c.modified (word_at l k)) 8 || any_below (λ k. is_some (sp (word_at l k))) 8)) (λ l. d == home sh l && any_below (λ k. stores_word sh.base ss (word_at l k)) 8) (lines sh)
-    (λ l. ap (λ b. d == home sh l && b) (sym (word-or (λ k. c.modified (word_at l k)) (λ k. is_some (sp (word_at l k))) 8) ∙ below-same (λ k. c.modified (word_at l k) || is_some (sp (word_at l k))) (λ k. stores_word sh.base ss (word_at l k)) 8 (λ k. h (word_at l k))))
-
-ready-stores : (sh : Shape) (c : Cache) (ss : List Stored) (d : ℕ) → ((w : ℕ) → c.modified w ≡ stores_word sh.base ss w) → writes_at sh c d ≡ stores_at sh ss d
-unfolding writes_at is_modified any_word stores_at
-ready-stores sh c ss d h = below-same (λ l. d == home sh l && any_below (λ k. c.modified (word_at l k)) 8) (λ l. d == home sh l && any_below (λ k. stores_word sh.base ss (word_at l k)) 8) (lines sh)
-    (λ l. ap (λ b. d == home sh l && b) (below-same (λ k. c.modified (word_at l k)) (λ k. stores_word sh.base ss (word_at l k)) 8 (λ k. h (word_at l k))))
 
 -- executing
 
@@ -213,8 +185,8 @@ closed sh p c need s cl h n = go s.phase
     e : r.after ≡ s.after
     e = finished-after p need 0 s
 
-    stored : (d : ℕ) → solo_writes_at sh r.cache r.spilled d ≡ stores_at sh r.stores d
-    stored d = solo-stores sh r.cache r.spilled r.stores d (λ w. rw ((cl s).1, (cl s).2, (cl s).0) (h.words.named w))
+    stored : (d : ℕ) → solo_writes_at sh r.cache r.spilled d ≡ stores_at sh d r.stores
+    stored d = stored-solo sh r.cache r.spilled r.stores d (λ w. rw ((cl s).1, (cl s).2, (cl s).0) (h.words.named w))
 
     asks : AfterStep sh c s (moves (record r { phase = AwaitTid }) (to Vendor (TidReq ∷ [])))
     asks = still sh c s (moves (record r { phase = AwaitTid }) (to Vendor (TidReq ∷ []))) e refl (λ d l. refl)
@@ -265,13 +237,6 @@ after-exec sh p c s h = go s.phase refl
     rests t q None e = refl
     rests t q (Some a) e = let x = (h.awaited a e).0 in absurd (let y : executes s.phase ≡ false = rw q refl in cc)
 
-    named : (t : ℕ) → s.phase ≡ Ready t → (w : ℕ) → s.cache.modified w ≡ stores_word sh.base s.stores w
-    named t q w = let x : is_solo s.phase ≡ false = rw q refl in let y = h.words.spilled_alone x w in rw (sym (h.words.named w)) (plain (s.cache.modified w) (s.spilled w) y)
-      where
-        plain : (b : Bool) (o : Option ℕ) → o ≡ None → b ≡ (b || is_some o)
-        plain true o e = refl
-        plain false o e = rw e refl
-
     go : (q : Phase) → s.phase ≡ q → IfSome (exec_phase sh p c s q) (λ o. AfterStep sh c s o)
     go Running e = acts s.awaited refl
     go (Solo t) e = acts s.awaited refl
@@ -279,7 +244,7 @@ after-exec sh p c s h = go s.phase refl
       noted = noted t c s;
       commit = refl;
       core = refl;
-      after = λ d. rw (ready-stores sh s.cache s.stores d (named t e)) refl;
+      after = λ d. rw (stored-written sh s.cache s.spilled s.stores d (rw e at (h.words))) refl;
       quiet = λ d x. no-loads (commit_sends sh s.cache t (Dir d)) (λ l. free-commit sh s.cache t d l) x;
       idle = rests t e s.awaited refl;
     })

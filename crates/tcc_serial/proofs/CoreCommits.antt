@@ -18,7 +18,7 @@ use Rattle.tcc_rules.specs.CoreEvict.{core_evict}
 use Rattle.tcc_rules.specs.CoreDeliver.{grant, grant_phase, grant_sends, from_dir, probe_reply, ignored, fill, data_request, invalidate}
 use Rattle.tcc_serial.specs.Count.{CommitsAbove, AnyCommit, Protocol, among, live, passes}
 use Rattle.tcc_serial.specs.Probes.{Reached}
-use Rattle.tcc_serial.proofs.Links.{among-append}
+use Rattle.tcc_serial.proofs.Links.{among-append, among-fewer, live-fewer}
 use Rattle.tcc_serial.proofs.Sent.{among-flat_map_none}
 use Rattle.tcc_serial.proofs.Executes.{Acts, Steady, Executed, Goes_on, Overflows, Asks_tid, Alone, executed}
 use Rattle.tcc_serial.proofs.CoreSteps.{evict-steady, ignored-steady, fill-steady, data-steady, Hurt, Unhurt, Rolled, Doomed, Aborted, Gave_up, Invalidated, invalidate-cases, Replied, Ignored, Probed, Left_alone, reply-cases}
@@ -36,14 +36,10 @@ unfolding passes
 any-protocol m = grind (arith, nat_tests)
 
 few-above : (x : ℕ) (ms : List Msg) → among (CommitsAbove x) ms ≤ among AnyCommit ms
-unfolding among
-few-above x [] = omega arith
-few-above x (m ∷ ms) = omega (arith, above-any x m, few-above x ms)
+few-above x ms = among-fewer (CommitsAbove x) AnyCommit (above-any x) ms
 
 pub few-commits : (ms : List Msg) → among AnyCommit ms ≤ among Protocol ms
-unfolding among
-few-commits [] = omega arith
-few-commits (m ∷ ms) = omega (arith, any-protocol m, few-commits ms)
+few-commits ms = among-fewer AnyCommit Protocol any-protocol ms
 
 served-free : (d x : ℕ) (o : Out) → among AnyCommit (o.sends (Dir d)) ≡ 0 → Served d x o
 served-free d x o h = omega (arith, few-above x (o.sends (Dir d)))
@@ -206,7 +202,4 @@ unfolding passes
 above-fewer a b m l = grind (arith, nat_tests)
 
 pub fewer-above : (a b : ℕ) (l : Link) → a ≤ b → live (CommitsAbove b) l ≤ live (CommitsAbove a) l
-unfolding live
-fewer-above a b [] h = omega arith
-fewer-above a b (None ∷ l) h = fewer-above a b l h
-fewer-above a b (Some m ∷ l) h = omega (arith, above-fewer a b m h, fewer-above a b l h)
+fewer-above a b l h = live-fewer (CommitsAbove b) (CommitsAbove a) (λ m. above-fewer a b m h) l

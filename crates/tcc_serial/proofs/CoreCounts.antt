@@ -21,13 +21,13 @@ use Rattle.tcc_serial.specs.Count.{Kind, MarkOf, AnyCommit, CommitOf, among, pas
 use Rattle.tcc_serial.specs.Marks.{has_marked, stores_line, marked_by}
 use Rattle.tcc_serial.specs.Probes.{may_commit}
 use Rattle.tcc_serial.specs.Tids.{has_tid}
-use Rattle.tcc_serial.proofs.Links.{among-append, total-same}
+use Rattle.tcc_serial.proofs.Links.{among-append, total-same, among-fewer}
 use Rattle.tcc_serial.proofs.Sent.{among-flat_map_none}
 use Rattle.tcc_serial.proofs.Executes.{Acts, Steady, Executed, Goes_on, Overflows, Asks_tid, Alone, executed}
 use Rattle.tcc_serial.proofs.CoreSteps.{evict-steady, fill-steady, data-steady, Hurt, Unhurt, Rolled, Doomed, Aborted, Gave_up, Invalidated, invalidate-cases, Replied, Ignored, Probed, Left_alone, reply-cases}
 use Rattle.tcc_serial.proofs.CoreCommits.{few-commits, free-abort, free-skip, free-probe, free-grants, free-to, free-marks}
 use Rattle.tcc_serial.proofs.CoreMarks.{one-mark, marks-only}
-use Rattle.tcc_serial.proofs.CoreMarking.{mine, self, told-commit}
+use Rattle.tcc_serial.proofs.CoreMarking.{mine, self, told-commit, has-ready}
 
 -- the Marks of a TID that a core has sent and sends
 abbrev marks_after : Shape → (dir tid : ℕ) → CoreState → Out → ℕ → ℕ
@@ -70,9 +70,7 @@ unfolding passes
 of-any t n m = grind (arith, nat_tests)
 
 pub few-any : (t n : ℕ) (ms : List Msg) → among (CommitOf t n) ms ≤ among AnyCommit ms
-unfolding among
-few-any t n [] = omega arith
-few-any t n (m ∷ ms) = omega (arith, of-any t n m, few-any t n ms)
+few-any t n ms = among-fewer (CommitOf t n) AnyCommit (of-any t n) ms
 
 counts-none : (sh : Shape) (d t : ℕ) (s : CoreState) (o : Out) → among AnyCommit (o.sends (Dir d)) ≡ 0 → CountsAll sh d t s o
 counts-none sh d t s o z n x = absurd (omega (arith, x, z, few-any t n (o.sends (Dir d))))
@@ -96,10 +94,6 @@ is-commit sh c u d t n x = go (nat_lt d sh.dirs) (writes_at sh c d) (u == t) (co
     go true true false f p q y = absurd (grind (arith, nat_tests))
     go true false e f p q y = absurd (omega (arith, y))
     go false b e f p q y = absurd (omega (arith, y))
-
-pub has-ready : (u : ℕ) (q : Phase) → q ≡ Ready u → has_tid q u ≡ true
-unfolding has_tid
-has-ready u q e = rw e (self u)
 
 pub has-solo : (u : ℕ) (q : Phase) → q ≡ Solo u → has_tid q u ≡ true
 unfolding has_tid

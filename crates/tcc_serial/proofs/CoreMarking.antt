@@ -22,13 +22,15 @@ use Rattle.tcc_serial.proofs.CoreProbing.{tid-after}
 use Rattle.tcc_serial.proofs.Executes.{Acts, Steady, Executed, Goes_on, Overflows, Asks_tid, Alone, executed}
 use Rattle.tcc_serial.proofs.CoreSteps.{evict-steady}
 use Rattle.tcc_serial.proofs.CoreMarks.{solo-mark, solo-full, solo-skips, solo-owned}
+use Rattle.tcc_serial.proofs.Nums.{num-few}
 
--- A core speaks only of its TID. While it keeps it, it has sent a Mark of each line that it has to; it marks only where the TID
--- is open, and skips only where it has sent no Mark.
+-- A core speaks only of its TID. While it keeps it, it has sent a Mark of each line that it has to; it marks a line once, only where
+-- the TID is open, and skips only where it has sent no Mark.
 pub record Marking (sh : Shape) (d t l : ℕ) (s : CoreState) (o : Out) : Type 0 where
   pub owned : 1 ≤ among (Marks t) (o.sends (Dir d)) + among (Resolves t) (o.sends (Dir d)) → has_tid s.phase t ≡ true
   pub words : among EmptyMarks (o.sends (Dir d)) ≡ 0
   pub kept : has_tid o.core.phase t ≡ true → (has_tid s.phase t ≡ true) × (among (MarkOf t l) (o.sends (Dir d)) + marked_by sh s d l ≡ marked_by sh o.core d l)
+  pub once : among (MarkOf t l) (o.sends (Dir d)) + marked_by sh s d l ≤ 1
   pub opened : 1 ≤ among (MarkOf t l) (o.sends (Dir d)) → opens s.phase (writes_at sh s.cache d) t ≡ true
   pub skips : 1 ≤ among (Skips t) (o.sends (Dir d)) → (has_tid s.phase t ≡ true) × (among (MarkOf t l) (o.sends (Dir d)) + marked_by sh s d l ≡ 0)
 
@@ -77,12 +79,17 @@ unsaid-append t l a b x y = record {
   skips = omega (arith, among-append (Skips t) a b, x.skips, y.skips);
 }
 
+pub at-most-one : (sh : Shape) (s : CoreState) (d l : ℕ) → marked_by sh s d l ≤ 1
+unfolding marked_by
+at-most-one sh s d l = num-few (has_marked s.phase && (not (s.owing d) && stores_line sh s.cache d l))
+
 -- nothing is said, and what is to be marked stays
 pub silent : (sh : Shape) (d t l : ℕ) (s : CoreState) (o : Out) → Unsaid t l (o.sends (Dir d)) → (has_tid o.core.phase t ≡ true → (has_tid s.phase t ≡ true) × (marked_by sh s d l ≡ marked_by sh o.core d l)) → Marking sh d t l s o
 silent sh d t l s o u k = record {
   owned = λ x. absurd (omega (arith, x, u.owned));
   words = u.words;
   kept = λ x. ((k x).0, omega (arith, (k x).1, u.marks));
+  once = omega (arith, u.marks, at-most-one sh s d l);
   opened = λ x. absurd (omega (arith, x, u.marks));
   skips = λ x. absurd (omega (arith, x, u.skips));
 }
@@ -125,6 +132,7 @@ last-words sh d t l u s o q e h f w m a k = record {
   owned = λ x. own x a;
   words = w;
   kept = λ x. let y : has_tid o.core.phase t ≡ false = rw e h in absurd (cc);
+  once = omega (arith, m, at-most-one sh s d l);
   opened = λ x. absurd (omega (arith, x, m));
   skips = λ x. ((k x).0, omega (arith, m, (k x).1));
 }
@@ -170,7 +178,7 @@ mine u t q h e = rw e at h
 pub self : (u : ℕ) → (u == u) ≡ true
 self u = grind (arith, nat_tests)
 
-has-ready : (u : ℕ) (q : Phase) → q ≡ Ready u → has_tid q u ≡ true
+pub has-ready : (u : ℕ) (q : Phase) → q ≡ Ready u → has_tid q u ≡ true
 unfolding has_tid
 has-ready u q e = rw e (self u)
 
@@ -187,6 +195,7 @@ marking-executed sh c d t l s o (Alone u r q ph ow cm se) = record {
   owned = λ x. own (rw se at x) (solo-owned sh s.cache s.spilled u d t);
   words = rw se (solo-full sh s.cache s.spilled u d);
   kept = λ x. let y : has_tid o.core.phase t ≡ false = rw ph (tid-after r.ended t) in absurd (cc);
+  once = rw (se, q) (omega (arith, solo-mark sh s.cache s.spilled u d t l, num-few (u == t)));
   opened = λ x. solo-opens u t (writes_at sh s.cache d) s.phase q (one (rw se at x) (cases_eq u t));
   skips = λ x. (own (skipped (rw se at x)) (solo-owned sh s.cache s.spilled u d t), rw (se, q) (omega (arith, solo-skips sh s.cache s.spilled u d t l (rw se at x))));
 }

@@ -19,6 +19,7 @@ use Rattle.tcc_serial.proofs.CoreSteps.{fill-steady, data-steady, ignored-steady
 use Rattle.tcc_serial.proofs.Links.{among-append}
 use Rattle.tcc_serial.proofs.CoreMarks.{marks-for, marks-only, full-for, stores-writes}
 use Rattle.tcc_serial.proofs.CoreMarking.{Marking, Unsaid, unsaid-nothing, unsaid-append, acked, silent, silent-none, marking-steady, last-words, is-tid, swap, mine, self, told-abort, told-skip, marked-same, stores-same}
+use Rattle.tcc_serial.proofs.Nums.{num-few, num-one}
 
 -- before an acknowledgement
 
@@ -125,9 +126,9 @@ nothing-more true false = refl
 nothing-more false true = refl
 nothing-more false false = refl
 
-one-is : (b : Bool) → 1 ≤ num b → b ≡ true
-one-is true x = refl
-one-is false x = absurd (omega (arith, x))
+no-more : (a b c : Bool) → num a + num (b && (not true && c)) ≤ 1
+no-more a true c = omega (arith, num-few a)
+no-more a false c = omega (arith, num-few a)
 
 first-is : (a b : Bool) → (a && b) ≡ true → a ≡ true
 first-is true b x = refl
@@ -156,6 +157,7 @@ marking-here sh e u t l s o ph ow ph' ow' ca se = record {
   owned = λ x. mine u t s.phase has (skips-mine u t _ _ (rw se at x) (omega arith) own);
   words = rw se (full-for sh s.cache u e);
   kept = λ x. let y : u ≡ t = last (all_replied sh (put s.owing e false)) (rw ph' at x) in (mine u t s.phase has y, rw (se, ph, ow, ca, marks-for sh s.cache u e t l) (after y));
+  once = rw (se, ph, ow, marks-for sh s.cache u e t l) (no-more ((u == t) && stores_line sh s.cache e l) (has_marked (Probing u)) (stores_line sh s.cache e l));
   opened = λ x. opening (rw se at x);
   skips = λ x. absurd (omega (arith, rw se at x, no-skips sh s.cache u e t));
 }
@@ -179,7 +181,7 @@ marking-here sh e u t l s o ph ow ph' ow' ca se = record {
     after y = let b : (u == t) ≡ true = grind (arith, nat_tests) in rw (b, marked, free) (nothing-more (has_marked (Probing u)) (stores_line sh s.cache e l))
 
     opening : 1 ≤ among (MarkOf t l) (marks_for sh s.cache u e) → opens s.phase (writes_at sh s.cache e) t ≡ true
-    opening x = let y : (u == t) && stores_line sh s.cache e l ≡ true = one-is _ (omega (arith, x, marks-for sh s.cache u e t l)) in rw ph (opens-probing u t (writes_at sh s.cache e) (first-is _ _ y) (stores-writes sh s.cache e l (second-is _ _ y)))
+    opening x = let y : (u == t) && stores_line sh s.cache e l ≡ true = num-one _ (omega (arith, x, marks-for sh s.cache u e t l)) in rw ph (opens-probing u t (writes_at sh s.cache e) (first-is _ _ y) (stores-writes sh s.cache e l (second-is _ _ y)))
 
 -- a directory where it doesn't mark
 marking-away : (sh : Shape) (e u d t l : ℕ) (s : CoreState) (o : Out) → (d ≡ e → ⊥) → s.phase ≡ Probing u → o.core.phase ≡ (if all_replied sh (put s.owing e false) then Ready u else Probing u) → o.core.owing ≡ put s.owing e false → o.core.cache ≡ s.cache → o.sends (Dir d) ≡ [] → Marking sh d t l s o

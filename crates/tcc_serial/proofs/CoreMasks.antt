@@ -25,6 +25,7 @@ use Rattle.tcc_serial.proofs.Executes.{Acts, Steady, Executed, Goes_on, Overflow
 use Rattle.tcc_serial.proofs.CoreSteps.{evict-steady, fill-steady, data-steady, ignored-steady, Hurt, Unhurt, Rolled, Doomed, Aborted, Gave_up, Invalidated, invalidate-cases, Replied, Ignored, Probed, Left_alone, reply-cases}
 use Rattle.tcc_serial.proofs.CoreMarking.{Unsaid, unsaid-quiet, unsaid-nothing, unsaid-append, acked, idle}
 use Rattle.tcc_serial.proofs.CoreMarkingTakes.{unmarked}
+use Rattle.tcc_serial.proofs.Links.{among-fewer, live-fewer}
 
 -- While a core keeps its TID, what it marks has the mask of the line's modified words, and these stay where it has marked.
 pub record Masking (sh : Shape) (d t l : ℕ) (s : CoreState) (o : Out) : Type 0 where
@@ -38,15 +39,10 @@ unfolding passes
 one-masked t l q m = grind (arith, nat_tests)
 
 pub few-masked : (t l q : ℕ) (ms : List Msg) → among (MarkMask t l q) ms ≤ among (MarkOf t l) ms
-unfolding among
-few-masked t l q [] = omega arith
-few-masked t l q (m ∷ ms) = omega (arith, few-masked t l q ms, one-masked t l q m)
+few-masked t l q ms = among-fewer (MarkMask t l q) (MarkOf t l) (one-masked t l q) ms
 
 pub live-masked : (t l q : ℕ) (k : Link) → live (MarkMask t l q) k ≤ live (MarkOf t l) k
-unfolding live
-live-masked t l q [] = omega arith
-live-masked t l q (None ∷ k) = live-masked t l q k
-live-masked t l q (Some m ∷ k) = omega (arith, live-masked t l q k, one-masked t l q m)
+live-masked t l q k = live-fewer (MarkMask t l q) (MarkOf t l) (one-masked t l q) k
 
 pub passes-masked : (t l q : ℕ) (m : Msg) → num (passes (MarkOf t l) m) ≡ 0 → num (passes (MarkMask t l q) m) ≡ 0
 passes-masked t l q m z = omega (arith, z, one-masked t l q m)

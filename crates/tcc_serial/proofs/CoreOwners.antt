@@ -5,7 +5,6 @@ use Rattle.std.proofs.lemmas.Bool.Decides.{nat_tests}
 use Rattle.tcc_base.specs.Put.{put}
 use Rattle.tcc_base.specs.declared.access.Commit.{Commit as Noted}
 use Rattle.tcc_program.specs.Program.{Program}
-use Rattle.tcc_program.specs.Plain.{Outcome, Goes, Ended, Halted as HaltedWith, Trapped as TrappedWith}
 use Rattle.tcc_maps.specs.Words.{num, any_below}
 use Rattle.tcc_maps.specs.Nodes.{Msg, TidReq, TidGrant, LoadReq, Fill, Skip, Probe, ProbeReply, Mark, Commit, Abort, WriteBack, Flush, DataReq, Inv, InvAck}
 use Rattle.tcc_maps.specs.Shape.{Shape}
@@ -14,10 +13,11 @@ use Rattle.tcc_rules.specs.Attempt.{Out}
 use Rattle.tcc_rules.specs.Commit.{commit, committed_core, noted, phase_after}
 use Rattle.tcc_rules.specs.CoreExec.{core_exec, exec_phase, unless_awaiting}
 use Rattle.tcc_rules.specs.CoreEvict.{core_evict}
-use Rattle.tcc_rules.specs.CoreDeliver.{grant, grant_phase, from_dir, probing, is_probed, probe_reply, ignored, all_replied, fill, data_request, invalidate}
+use Rattle.tcc_rules.specs.CoreDeliver.{grant, grant_phase, from_dir, is_probed, probe_reply, ignored, all_replied, fill, data_request, invalidate}
 use Rattle.tcc_serial.specs.Tids.{has_tid}
 use Rattle.tcc_serial.proofs.Executes.{Acts, Steady, Executed, Goes_on, Overflows, Asks_tid, Alone, executed}
 use Rattle.tcc_serial.proofs.CoreSteps.{evict-steady, ignored-steady, fill-steady, data-steady, Hurt, Unhurt, Rolled, Doomed, Aborted, Gave_up, Invalidated, invalidate-cases, Replied, Ignored, Probed, Left_alone, reply-cases}
+use Rattle.tcc_serial.proofs.CoreProbing.{tid-after, tid-probing}
 
 -- the TID of a commit
 abbrev pub noted_tid : ℕ → Option Noted → ℕ
@@ -31,13 +31,6 @@ pub record KeepsHolder (c : ℕ) (got : ℕ → ℕ) (s : CoreState) (o : Out) :
 
 abbrev pub none : ℕ → ℕ
 none t = 0
-
-tid-after : (e : Outcome) (t : ℕ) → has_tid (phase_after e) t ≡ false
-unfolding has_tid
-tid-after Goes t = refl
-tid-after Ended t = refl
-tid-after (HaltedWith k) t = refl
-tid-after (TrappedWith k) t = refl
 
 holder-steady : (c : ℕ) (s : CoreState) (o : Out) → Steady s o → KeepsHolder c none s o
 holder-steady c s o y = record { holds = λ t. rw (y.phase, y.commit) (omega arith); own = rw (y.commit) tt }
@@ -85,11 +78,6 @@ holder-evict sh x y c s = go (core_evict sh x y s) (evict-steady sh x y s)
     go : (a : Option Out) → IfSome a (λ o. Steady s o) → IfSome a (λ o. KeepsHolder c none s o)
     go None h = tt
     go (Some o) h = holder-steady c s o h
-
-tid-probing : (b : Bool) (u t : ℕ) → has_tid (probing b u) t ≡ (u == t)
-unfolding has_tid
-tid-probing true u t = refl
-tid-probing false u t = refl
 
 pub holder-grant : (sh : Shape) (u c : ℕ) (s : CoreState) → KeepsHolder c (λ t. num (u == t)) s (grant sh u s)
 unfolding grant has_tid

@@ -135,9 +135,6 @@ asked-grant sh u d x s h = go s.phase
 
 -- a reply of a directory that has reached the TID
 
-put-here : (f : ℕ → Bool) (e d : ℕ) (x : Bool) → d ≡ e → put f e x d ≡ x
-put-here f e d x q = let b : (d == e) ≡ true = grind (arith, nat_tests) in rw b refl
-
 put-away : (f : ℕ → Bool) (e d : ℕ) (x : Bool) → (d ≡ e → ⊥) → put f e x d ≡ f d
 put-away f e d x q = let b : (d == e) ≡ false = grind (arith, nat_tests) in rw b refl
 

@@ -19,7 +19,7 @@ use Rattle.tcc_rules.specs.CoreEvict.{core_evict}
 use Rattle.tcc_rules.specs.CoreDeliver.{grant, grant_phase, grant_sends, is_probed, probing}
 use Rattle.tcc_serial.specs.Count.{Probes, Protocol, among, passes}
 use Rattle.tcc_serial.specs.Tids.{has_tid, waits_for_tid}
-use Rattle.tcc_serial.proofs.Links.{among-append}
+use Rattle.tcc_serial.proofs.Links.{among-append, among-fewer}
 use Rattle.tcc_serial.proofs.Sent.{among-flat_map_none}
 use Rattle.tcc_serial.proofs.Executes.{Acts, Steady, Executed, Goes_on, Overflows, Asks_tid, Alone, executed}
 use Rattle.tcc_serial.proofs.CoreSteps.{evict-steady, Hurt, Unhurt, Rolled, Doomed, Aborted, Gave_up, Invalidated}
@@ -34,9 +34,7 @@ unfolding passes
 probes-protocol t m = grind (arith, nat_tests)
 
 few-probes : (t : ℕ) (ms : List Msg) → among (Probes t) ms ≤ among Protocol ms
-unfolding among
-few-probes t [] = omega arith
-few-probes t (m ∷ ms) = omega (arith, probes-protocol t m, few-probes t ms)
+few-probes t ms = among-fewer (Probes t) Protocol (probes-protocol t) ms
 
 pub unprobed-steady : (s : CoreState) (o : Out) → Steady s o → Unprobed s o
 unprobed-steady s o y = record {
@@ -157,7 +155,7 @@ probes-all : (sh : Shape) (u d t : ℕ) → among (Probes t) (probe_all sh u (Di
 unfolding probe_all among passes
 probes-all sh u d t = grind (arith, nat_tests)
 
-tid-probing : (b : Bool) (u t : ℕ) → has_tid (probing b u) t ≡ (u == t)
+pub tid-probing : (b : Bool) (u t : ℕ) → has_tid (probing b u) t ≡ (u == t)
 unfolding has_tid
 tid-probing true u t = refl
 tid-probing false u t = refl

@@ -24,7 +24,8 @@ use Rattle.tcc_serial.specs.Ways.{Untold, told_by}
 use Rattle.tcc_serial.specs.Told.{live_way, commit_way}
 use Rattle.tcc_serial.proofs.Executes.{Acts, Steady, Executed, Goes_on, Overflows, Asks_tid, Alone, executed}
 use Rattle.tcc_serial.proofs.CoreSteps.{writes_at-same, evict-steady, ignored-steady, fill-steady, data-steady, Hurt, Unhurt, Rolled, Doomed, Aborted, Gave_up, Invalidated, invalidate-cases, Replied, Ignored, Probed, Left_alone, reply-cases}
-use Rattle.tcc_serial.proofs.CoreTells.{stored-solo, stored-written, solo-told, ready-told}
+use Rattle.tcc_serial.proofs.CoreTells.{solo-told, ready-told}
+use Rattle.tcc_serial.proofs.StoredMasks.{stored-solo, stored-written}
 use Rattle.tcc_serial.proofs.NotedCommits.{Notes, executed-notes}
 
 -- a core in this phase has skipped its TID where it writes nothing
@@ -75,7 +76,7 @@ tells-executed sh c s o h n (Overflows r ph ow cm ve di) = tells-none sh s o (Ov
 tells-executed sh c s o h n (Asks_tid r ph ow cm ve di) = tells-none sh s o AwaitTid ph (λ b t. refl) (rw cm tt)
 tells-executed sh c s o h n (Alone u r q ph ow cm se) = tells-none sh s o (phase_after r.ended) ph (skips-after r.ended) (rw cm (record {
   has = rw q (grind (arith, nat_tests));
-  told = λ d l. rw (q, se, stores) (rw (← stored-solo sh true s.cache s.spilled s.stores d words) (solo-told sh s.cache s.spilled u d Untold l));
+  told = λ d l. rw (q, se, stores) (rw (← stored-solo sh s.cache s.spilled s.stores d words.named) (solo-told sh s.cache s.spilled u d Untold l));
 }))
   where
     stores : r.stores ≡ s.stores

@@ -1,61 +1,19 @@
 -- What a core with a TID says of it: it skips it at directories where it writes nothing, and commits it where it has stored.
-use Rattle.std.specs.Prelude.{ℕ, zero, suc, ◌≡◌, ◌<◌, Bool, true, false, List, [], ◌∷◌, ◌++◌, ◌==◌, ◌&&◌, ◌||◌, Option, None, is_some, nat_lt, if◌then◌else◌}
+use Rattle.std.specs.Prelude.{ℕ, ◌≡◌, ◌<◌, Bool, true, false, List, [], ◌∷◌, ◌++◌, ◌==◌, ◌&&◌, nat_lt, if◌then◌else◌}
 use Rattle.std.specs.List.{flat_map}
-use Rattle.std.proofs.Common.{arith, refl, ap, ◌∙◌}
+use Rattle.std.proofs.Common.{arith, refl}
 use Rattle.std.proofs.lemmas.Bool.Decides.{nat_tests}
-use Rattle.tcc_base.specs.declared.access.Stored.{Stored}
-use Rattle.tcc_maps.specs.Words.{num, any_below, any_word, those, count_below}
+use Rattle.tcc_maps.specs.Words.{num, those, count_below}
 use Rattle.tcc_maps.specs.Nodes.{Dir, Msg, Skip, Mark, Commit, WriteBack}
 use Rattle.tcc_maps.specs.Shape.{Shape, home, lines}
 use Rattle.tcc_maps.specs.Cache.{Cache, writes_at, is_modified}
 use Rattle.tcc_maps.specs.Spilled.{Spilled, holds, spilled_mask, spilled_words}
 use Rattle.tcc_rules.specs.Commit.{commit_sends, solo_sends, solo_marks, solo_backs, solo_writes_at, is_written, written_mask}
 use Rattle.tcc_serial.specs.Count.{Kind, Skips, Aborts, Commits, among, passes}
-use Rattle.tcc_serial.specs.OneCore.{Words}
-use Rattle.tcc_serial.specs.Stored.{stored_mask, stores_at}
-use Rattle.tcc_serial.specs.Uses.{stores_word}
 use Rattle.tcc_serial.specs.Ways.{Way, Untold, Skipped, Committed, told_by}
 use Rattle.tcc_serial.proofs.Links.{among-append}
-use Rattle.tcc_serial.proofs.StoredMasks.{stored-line, modified-line, written-line}
 use Rattle.tcc_serial.proofs.Sent.{among-flat_map_none}
 use Rattle.tcc_serial.proofs.WayParts.{told-skip, told-commit}
-
--- where it has stored
-
-any-same : (p q : ℕ → Bool) (n : ℕ) → ((l : ℕ) → l < n → p l ≡ q l) → any_below p n ≡ any_below q n
-unfolding any_below
-any-same p q zero h = refl
-any-same p q (suc n) h = rw (any-same p q n (λ l i. h l (omega (arith, i))), h n (omega arith)) refl
-
-pub num-same : (a b : Bool) → num a ≡ num b → a ≡ b
-num-same true true h = refl
-num-same true false h = absurd (omega (arith, h))
-num-same false true h = absurd (omega (arith, h))
-num-same false false h = refl
-
--- a directory is stored at where a line at home there has a stored word
-stored-at : (sh : Shape) (d : ℕ) (ss : List Stored) → any_below (λ l. d == home sh l && any_word (stores_word sh.base ss) l) (lines sh) ≡ stores_at sh d ss
-unfolding stores_at
-stored-at sh d ss = any-same (λ l. d == home sh l && any_word (stores_word sh.base ss) l) (λ l. nat_lt 0 (stored_mask sh d ss l)) (lines sh) one
-  where
-    one : (l : ℕ) → l < lines sh → (d == home sh l && any_word (stores_word sh.base ss) l) ≡ nat_lt 0 (stored_mask sh d ss l)
-    one l i = let b : nat_lt l (lines sh) ≡ true = grind (arith, nat_tests) in num-same _ _ (rw b at (stored-line sh d ss l))
-
--- a core stores at home at a directory where it has modified or spilled words
-pub stored-solo : (sh : Shape) (b : Bool) (c : Cache) (sp : Spilled) (stores : List Stored) (d : ℕ) → Words sh b c sp stores → solo_writes_at sh c sp d ≡ stores_at sh d stores
-unfolding solo_writes_at
-stored-solo sh b c sp stores d h = ap {A = ℕ → Bool} (λ f. any_below (λ l. d == home sh l && f l) (lines sh)) (λ i l. written-line sh.base c sp stores l h.named i) ∙ stored-at sh d stores
-
--- and one that isn't alone has spilled nothing
-pub stored-written : (sh : Shape) (c : Cache) (sp : Spilled) (stores : List Stored) (d : ℕ) → Words sh false c sp stores → writes_at sh c d ≡ stores_at sh d stores
-unfolding writes_at
-stored-written sh c sp stores d h = ap {A = ℕ → Bool} (λ f. any_below (λ l. d == home sh l && f l) (lines sh)) (λ i l. modified-line sh.base c stores l word i) ∙ stored-at sh d stores
-  where
-    none : (x : Option ℕ) (b : Bool) → x ≡ None → b ≡ (b || is_some x)
-    none x b e = rw e (grind arith)
-
-    word : (w : ℕ) → c.modified w ≡ stores_word sh.base stores w
-    word w = none (sp w) (c.modified w) (h.spilled_alone refl w) ∙ h.named w
 
 -- what it sends as it commits
 

@@ -15,7 +15,7 @@ use Rattle.tcc_rules.specs.State.{DirState}
 use Rattle.tcc_rules.specs.Sends.{Sends, nothing, to}
 use Rattle.tcc_rules.specs.DirDeliver.{total, Answer, Waits, Drops, Asks, Takes, skip, abort, commit, acknowledgement, dir_deliver, moved_on, settled, owned, owed_by, invalidations, invs_to, is_invalidated, unless_keeps, ask_owner, load_owned, load_request, line_words, marking, mark_owned, mark, judged, write_back, came_home, probe}
 use Rattle.tcc_serial.specs.Count.{Invs, InvsNot, InvsAway, Acks, MarksAway, Resolves, among, passes}
-use Rattle.tcc_serial.proofs.Links.{among-append, total-zero, total-same}
+use Rattle.tcc_serial.proofs.Links.{among-append, total-zero, total-same, among-fewer}
 use Rattle.tcc_serial.proofs.Sent.{among-flat_map_none}
 use Rattle.tcc_serial.proofs.CoreDue.{among-those_none}
 use Rattle.tcc_serial.proofs.DirTids.{OnceAt, unserved}
@@ -53,14 +53,10 @@ unfolding passes
 aways-invs n d m = grind (arith, nat_tests)
 
 few-nots : (t : ℕ) (ms : List Msg) → among (InvsNot t) ms ≤ among Invs ms
-unfolding among
-few-nots t [] = omega arith
-few-nots t (m ∷ ms) = omega (arith, nots-invs t m, few-nots t ms)
+few-nots t ms = among-fewer (InvsNot t) Invs (nots-invs t) ms
 
 few-aways : (n d : ℕ) (ms : List Msg) → among (InvsAway n d) ms ≤ among Invs ms
-unfolding among
-few-aways n d [] = omega arith
-few-aways n d (m ∷ ms) = omega (arith, aways-invs n d m, few-aways n d ms)
+few-aways n d ms = among-fewer (InvsAway n d) Invs (aways-invs n d) ms
 
 -- nothing about marked lines changes but perhaps the marks, and no invalidation is sent
 quiet-due : (sh : Shape) (d : ℕ) (s new : DirState) (sends : Sends) → new.owed ≡ s.owed → (new.serving.serving ≡ s.serving.serving) ⊎ (new.owed ≡ 0) → ((j : ℕ) → among Invs (sends (Core j)) ≡ 0) → MarkedHome sh d new → Due sh d s 0 new sends
@@ -75,7 +71,7 @@ quiet-due sh d s new sends e f q m = record {
     served (inl x) = inl (x, λ j. omega (arith, q j, few-nots s.serving.serving (sends (Core j))))
     served (inr x) = inr x
 
-to-quiet : (c : ℕ) (m : Msg) → passes Invs m ≡ false → (j : ℕ) → among Invs (to (Core c) (m ∷ []) (Core j)) ≡ 0
+pub to-quiet : (c : ℕ) (m : Msg) → passes Invs m ≡ false → (j : ℕ) → among Invs (to (Core c) (m ∷ []) (Core j)) ≡ 0
 unfolding among
 to-quiet c m e j = go (j == c)
   where
@@ -83,7 +79,7 @@ to-quiet c m e j = go (j == c)
     go true = rw e refl
     go false = refl
 
-none-quiet : (j : ℕ) → among Invs [] ≡ 0
+pub none-quiet : (j : ℕ) → among Invs [] ≡ 0
 unfolding among
 none-quiet j = refl
 
@@ -267,7 +263,7 @@ ack-due sh d c l b s m o = go (s.owed == 0) refl
       marked = kept_lines b;
     })
 
-at-home : (h d : ℕ) → not (h == d) ≡ false → h ≡ d
+pub at-home : (h d : ℕ) → not (h == d) ≡ false → h ≡ d
 at-home h d e = grind (arith, nat_tests)
 
 -- whether a message is an acknowledgement

@@ -1,8 +1,8 @@
 -- A directory sends invalidations only where it takes the Commit of the served TID, and none to the core that commits.
-use Rattle.std.specs.Prelude.{ℕ, zero, suc, ◌-◌, ◌≡◌, Bool, true, false, not, List, [], ◌∷◌, ◌==◌, ◌&&◌, ◌||◌, Option, Some, None, nat_lt, nat_le, if◌then◌else◌}
+use Rattle.std.specs.Prelude.{ℕ, ◌-◌, ◌≡◌, Bool, true, false, not, List, [], ◌∷◌, ◌==◌, ◌&&◌, ◌||◌, Option, Some, None, nat_lt, nat_le, if◌then◌else◌}
 use Rattle.std.proofs.Common.{arith, refl, ◌⊎◌, inl, inr}
 use Rattle.std.proofs.lemmas.Bool.Decides.{nat_tests}
-use Rattle.tcc_maps.specs.Words.{count_below, those}
+use Rattle.tcc_maps.specs.Words.{count_below}
 use Rattle.tcc_maps.specs.Masks.{full}
 use Rattle.tcc_maps.specs.Lines.{Lines, has_mark, with_asked}
 use Rattle.tcc_maps.specs.Judge.{Judgement, judge, Takes as IsTaken, Drops as IsDropped, Waits as IsEarly}
@@ -13,6 +13,8 @@ use Rattle.tcc_rules.specs.State.{DirState}
 use Rattle.tcc_rules.specs.Sends.{Sends, nothing, to}
 use Rattle.tcc_rules.specs.DirDeliver.{Answer, Waits, Drops, Asks, Takes, skip, abort, commit, acknowledgement, dir_deliver, moved_on, settled, owned, owed_by, invalidations, invs_to, is_invalidated, unless_keeps, ask_owner, load_owned, load_request, line_words, marking, mark_owned, mark, judged, write_back, probe}
 use Rattle.tcc_serial.specs.Count.{Invs, Commits, among, passes}
+use Rattle.tcc_serial.proofs.DirDue.{to-quiet, none-quiet}
+use Rattle.tcc_serial.proofs.Sent.{those-none}
 
 -- no invalidation, or those of a Commit of the served TID, none of them to its core
 abbrev pub Quiet : Sends → Type 0
@@ -27,25 +29,13 @@ SparesBy s c m Drops = Unit {0}
 SparesBy s c m (Asks new sends) = Quiet sends
 SparesBy s c m (Takes new sends) = SparesOwn s c m sends
 
-none-nothing : (j : ℕ) → among Invs [] ≡ 0
-unfolding among
-none-nothing j = refl
-
-none-to : (c : ℕ) (m : Msg) → passes Invs m ≡ false → (j : ℕ) → among Invs (to (Core c) (m ∷ []) (Core j)) ≡ 0
-unfolding among
-none-to c m e j = go (j == c)
-  where
-    go : (b : Bool) → among Invs (if b then m ∷ [] else []) ≡ 0
-    go true = rw e refl
-    go false = refl
-
 spares-asked : (o l c : ℕ) (s : DirState) (m : Msg) → SparesBy s c m (ask_owner o l s)
 unfolding ask_owner passes
 spares-asked o l c s m = go (s.lines.asked l)
   where
     go : (b : Bool) → SparesBy s c m (if b then Waits else Asks (record s { lines = with_asked l true s.lines }) (to (Core o) (DataReq l ∷ [])))
     go true = tt
-    go false = none-to o (DataReq l) refl
+    go false = to-quiet o (DataReq l) refl
 
 spares-probe : (c u : ℕ) (s : DirState) → SparesBy s c (Probe u) (probe c u s)
 unfolding probe passes
@@ -53,7 +43,7 @@ spares-probe c u s = go (nat_lt s.serving.serving u)
   where
     go : (b : Bool) → SparesBy s c (Probe u) (if b then Waits else Takes s (to (Core c) (ProbeReply u s.serving.serving ∷ [])))
     go true = tt
-    go false = inl (none-to c (ProbeReply u s.serving.serving) refl)
+    go false = inl (to-quiet c (ProbeReply u s.serving.serving) refl)
 
 spares-load : (c l a : ℕ) (s : DirState) → SparesBy s c (LoadReq l a) (load_request c l a s)
 unfolding load_request passes
@@ -62,7 +52,7 @@ spares-load c l a s = go (nat_le s.serving.serving a || has_mark s.lines l) (s.l
     go : (b : Bool) (o : Option ℕ) → SparesBy s c (LoadReq l a) (if b then Waits else load_owned c l s o)
     go true o = tt
     go false (Some o) = spares-asked o l c s (LoadReq l a)
-    go false None = inl (none-to c (Fill l (line_words s l)) refl)
+    go false None = inl (to-quiet c (Fill l (line_words s l)) refl)
 
 spares-mark : (c l k u : ℕ) (s : DirState) → SparesBy s c (Mark l k u) (mark l k u s)
 unfolding mark
@@ -71,8 +61,8 @@ spares-mark c l k u s = go (nat_lt u s.serving.serving) (nat_lt s.serving.servin
     go : (a b x : Bool) (o : Option ℕ) → SparesBy s c (Mark l k u) (if a then Drops else (if b then Waits else (if x then marking l k s else mark_owned l k s o)))
     go true b x o = tt
     go false true x o = tt
-    go false false true o = inl none-nothing
-    go false false false None = inl none-nothing
+    go false false true o = inl none-quiet
+    go false false false None = inl none-quiet
     go false false false (Some o) = spares-asked o l c s (Mark l k u)
 
 spares-skip : (c u : ℕ) (s : DirState) → SparesBy s c (Skip u) (skip u s)
@@ -81,7 +71,7 @@ spares-skip c u s = go (nat_lt u s.serving.serving)
   where
     go : (b : Bool) → SparesBy s c (Skip u) (if b then Drops else Takes (record s { serving = skipped u s.serving }) nothing)
     go true = tt
-    go false = inl none-nothing
+    go false = inl none-quiet
 
 spares-abort : (c u : ℕ) (s : DirState) → SparesBy s c (Abort u) (abort u s)
 unfolding abort
@@ -89,13 +79,8 @@ spares-abort c u s = go (nat_lt u s.serving.serving) (s.serving.serving == u)
   where
     go : (a b : Bool) → SparesBy s c (Abort u) (if a then Drops else (if b then Takes (moved_on s) nothing else Takes (record s { serving = kept u s.serving }) nothing))
     go true b = tt
-    go false true = inl none-nothing
-    go false false = inl none-nothing
-
-those-none : (p : ℕ → Bool) (n : ℕ) → ((k : ℕ) → p k ≡ false) → those p n ≡ []
-unfolding those
-those-none p zero h = refl
-those-none p (suc n) h = rw (those-none p n h, h n) refl
+    go false true = inl none-quiet
+    go false false = inl none-quiet
 
 own-spared : (sh : Shape) (ls : Lines) (c k : ℕ) → is_invalidated sh ls c c k ≡ false
 unfolding is_invalidated
@@ -123,7 +108,7 @@ spares-ack c l b s = go (s.owed == 0)
   where
     go : (a : Bool) → SparesBy s c (InvAck l b) (if a then Drops else Takes (settled (record s { lines = unless_keeps b c l s.lines; owed = s.owed - 1 })) nothing)
     go true = tt
-    go false = inl none-nothing
+    go false = inl none-quiet
 
 spares-back : (c l k : ℕ) (ws : List ℕ) (g : ℕ) (s : DirState) (m : Msg) → SparesBy s c m (write_back c l k ws g s)
 unfolding write_back
@@ -131,7 +116,7 @@ spares-back c l k ws g s m = go (judge (s.lines.owner l) (s.lines.tag l) c g)
   where
     go : (j : Judgement) → SparesBy s c m (judged l k ws s j)
     go IsEarly = tt
-    go IsTaken = inl none-nothing
+    go IsTaken = inl none-quiet
     go IsDropped = tt
 
 pub dir-spares : (sh : Shape) (s : DirState) (c : ℕ) (m : Msg) → SparesBy s c m (dir_deliver sh s c m)

@@ -15,6 +15,7 @@ use Rattle.tcc_rules.specs.Sends.{Sends, nothing, to}
 use Rattle.tcc_rules.specs.DirDeliver.{Answer, Waits, Drops, Asks, Takes, skip, abort, commit, acknowledgement, dir_deliver, moved_on, settled, owned, owed_by, invalidations, invs_to, is_invalidated, unless_keeps, ask_owner, load_owned, load_request, line_words, marking, mark_owned, mark, judged, write_back, came_home, probe}
 use Rattle.tcc_serial.specs.Count.{RepliesAbove, among, live, passes}
 use Rattle.tcc_serial.proofs.Sent.{among-flat_map_none}
+use Rattle.tcc_serial.proofs.Links.{live-fewer}
 
 -- no reply of a TID above the served one
 pub record Rises (s new : DirState) (sends : Sends) : Type 0 where
@@ -164,7 +165,4 @@ unfolding passes
 above-fewer a b m l = grind (arith, nat_tests)
 
 pub fewer-above : (a b : ℕ) (l : Link) → a ≤ b → live (RepliesAbove b) l ≤ live (RepliesAbove a) l
-unfolding live
-fewer-above a b [] h = omega arith
-fewer-above a b (None ∷ l) h = fewer-above a b l h
-fewer-above a b (Some m ∷ l) h = omega (arith, above-fewer a b m h, fewer-above a b l h)
+fewer-above a b l h = live-fewer (RepliesAbove b) (RepliesAbove a) (λ m. above-fewer a b m h) l

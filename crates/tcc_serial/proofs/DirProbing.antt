@@ -36,9 +36,9 @@ none-dropped m n t = rw (n t) refl
 none-taken : (m : Msg) (c : ℕ) (sends : Sends) → NoProbe m → ((j t : ℕ) → among (Replies t) (sends (Core j)) ≡ 0) → Replying m c sends
 none-taken m c sends n h = record { own = λ t. rw (n t) (h c t); others = λ j t x. h j t }
 
-none-nothing : (j t : ℕ) → among (Replies t) [] ≡ 0
+pub none-replied : (t : ℕ) → among (Replies t) [] ≡ 0
 unfolding among
-none-nothing j t = refl
+none-replied t = refl
 
 none-to : (c : ℕ) (m : Msg) → ((t : ℕ) → passes (Replies t) m ≡ false) → (j t : ℕ) → among (Replies t) (to (Core c) (m ∷ []) (Core j)) ≡ 0
 unfolding among
@@ -84,7 +84,7 @@ unfolding mark passes
 replied-mark c l k u s = go (nat_lt u s.serving.serving) (nat_lt s.serving.serving u) (k == full) (s.lines.owner l)
   where
     marked : RepliesBy (Mark l k u) c (marking l k s)
-    marked = none-taken (Mark l k u) c nothing (λ t. refl) none-nothing
+    marked = none-taken (Mark l k u) c nothing (λ t. refl) (λ j. none-replied)
 
     go : (a b x : Bool) (o : Option ℕ) → RepliesBy (Mark l k u) c (if a then Drops else (if b then Waits else (if x then marking l k s else mark_owned l k s o)))
     go true b x o = λ t. refl
@@ -99,7 +99,7 @@ replied-skip c u s = go (nat_lt u s.serving.serving)
   where
     go : (b : Bool) → RepliesBy (Skip u) c (if b then Drops else Takes (record s { serving = skipped u s.serving }) nothing)
     go true = λ t. refl
-    go false = none-taken (Skip u) c nothing (λ t. refl) none-nothing
+    go false = none-taken (Skip u) c nothing (λ t. refl) (λ j. none-replied)
 
 replied-abort : (c u : ℕ) (s : DirState) → RepliesBy (Abort u) c (abort u s)
 unfolding abort passes
@@ -107,8 +107,8 @@ replied-abort c u s = go (nat_lt u s.serving.serving) (s.serving.serving == u)
   where
     go : (a b : Bool) → RepliesBy (Abort u) c (if a then Drops else (if b then Takes (moved_on s) nothing else Takes (record s { serving = kept u s.serving }) nothing))
     go true b = λ t. refl
-    go false true = none-taken (Abort u) c nothing (λ t. refl) none-nothing
-    go false false = none-taken (Abort u) c nothing (λ t. refl) none-nothing
+    go false true = none-taken (Abort u) c nothing (λ t. refl) (λ j. none-replied)
+    go false false = none-taken (Abort u) c nothing (λ t. refl) (λ j. none-replied)
 
 none-invalidations : (sh : Shape) (ls : Lines) (c u j t : ℕ) → among (Replies t) (invalidations sh ls c u (Core j)) ≡ 0
 unfolding invalidations invs_to passes among
@@ -128,7 +128,7 @@ replied-ack c l b s = go (s.owed == 0)
   where
     go : (a : Bool) → RepliesBy (InvAck l b) c (if a then Drops else Takes (settled (record s { lines = unless_keeps b c l s.lines; owed = s.owed - 1 })) nothing)
     go true = λ t. refl
-    go false = none-taken (InvAck l b) c nothing (λ t. refl) none-nothing
+    go false = none-taken (InvAck l b) c nothing (λ t. refl) (λ j. none-replied)
 
 replied-back : (c l k : ℕ) (ws : List ℕ) (g : ℕ) (s : DirState) (m : Msg) → NoProbe m → RepliesBy m c (write_back c l k ws g s)
 unfolding write_back
@@ -136,7 +136,7 @@ replied-back c l k ws g s m n = go (judge (s.lines.owner l) (s.lines.tag l) c g)
   where
     go : (j : Judgement) → RepliesBy m c (judged l k ws s j)
     go IsEarly = tt
-    go IsTaken = none-taken m c nothing n none-nothing
+    go IsTaken = none-taken m c nothing n (λ j. none-replied)
     go IsDropped = none-dropped m n
 
 pub dir-replies : (sh : Shape) (s : DirState) (c : ℕ) (m : Msg) → RepliesBy m c (dir_deliver sh s c m)

@@ -27,6 +27,7 @@ use Rattle.tcc_serial.proofs.OnItsWay.{on-its-way}
 use Rattle.tcc_serial.proofs.Always.{passed, owed_from, served_from}
 use Rattle.tcc_serial.proofs.CommitSteps.{commits_served}
 use Rattle.tcc_serial.proofs.MaskLaws.{marked_by_served, marks_of_commits}
+use Rattle.tcc_serial.proofs.ReadsKept.{read-words}
 use Rattle.tcc_serial.proofs.RunWays.{told_from}
 use Rattle.tcc_serial.proofs.SmallerTids.{smaller_are_given_up, work_is_reached}
 use Rattle.tcc_serial.proofs.WayFacts.{untold_where_open, untold_is_live, all_ways_fit, given_up_once, live_is_open, committed_where_stored}
@@ -157,6 +158,7 @@ carried sh gs ys h x t = let m = x.more in let k = m.all in record {
   marks_sent_are_in_flight_or_handled = (mark-owner sh gs h k, k.counted);
   inv_and_ack_name_a_marked_line = k.named;
   line_marked_in_part_has_no_owner = k.whole;
+  marks_name_different_lines = λ c d u l cl dl. (m.one_mark c d u l cl dl, (k.kept.told.owed.at_home c d).marks, (k.marks c d u l).words);
   records_and_messages_are_at_home = m.homes;
   owner_is_the_core_of_the_tag = m.line_owners;
   after_is_the_last_commit_there = m.after;
@@ -165,6 +167,7 @@ carried sh gs ys h x t = let m = x.more in let k = m.all in record {
   copy_above_the_tag_is_of_a_commit_in_flight = above-from sh h.commits h.world x.lines;
   owned_line_has_one_copy_with_its_tag = owned-from sh h.commits h.world x.lines;
   asked_line_gets_its_words = (k.asked, x.gets);
+  read_mark_is_valid_or_passed = read-words sh gs h.world h.commits k.owners k.last m.reads;
 }
 
 told-always : (sh : Shape) (p : Program) (entries : ℕ → Local) (ram : ℕ → ℕ) (es : List Event) → IfSome (run sh p (start entries ram) es) (λ h. Told sh (ways_from sh p es first_ways (first_state entries ram)) h)

@@ -30,6 +30,7 @@ use Rattle.tcc_serial.proofs.Links.{live-sends, live-takes}
 use Rattle.tcc_serial.proofs.PairFrames.{pairs_move, pairs_grant, pairs_back, pairs_dir, pairs_asks, pairs_vendor}
 use Rattle.tcc_serial.proofs.StepCases.{OfAnswer, step_cases}
 use Rattle.tcc_serial.proofs.TidSteps.{live-some}
+use Rattle.tcc_serial.proofs.DirDue.{at-home}
 
 -- what a directory knows is of lines at home there, and of cores that the machine has
 pub record LinesHome (sh : Shape) (d : ℕ) (ls : Lines) : Type 0 where
@@ -65,10 +66,6 @@ settled-home sh d s h = go (s.owed == 0)
     go : (b : Bool) → LinesHome sh d (if b then moved_on s else s).lines
     go true = moved-home sh d s h
     go false = h
-
--- of a message about a line, which is at home here
-here : (h d : ℕ) → not (h == d) ≡ false → h ≡ d
-here h d e = grind (arith, nat_tests)
 
 other : (sh : Shape) (d l x : ℕ) → home sh l ≡ d → (home sh x ≡ d → ⊥) → (x == l) ≡ false
 other sh d l x e n = go (cases_eq x l)
@@ -283,8 +280,8 @@ unfolding dir_deliver passes
 dir-homes sh d s c (Skip u) l a h = skip-home sh d u s h
 dir-homes sh d s c (Abort u) l a h = abort-home sh d u s h
 dir-homes sh d s c (Probe u) l a h = probe-home sh d c u s h
-dir-homes sh d s c (LoadReq k x) l a h = load-home sh d c k x s l (here (home sh k) d a) h
-dir-homes sh d s c (Mark k n u) l a h = mark-home sh d k n u s (here (home sh k) d a) h
+dir-homes sh d s c (LoadReq k x) l a h = load-home sh d c k x s l (at-home (home sh k) d a) h
+dir-homes sh d s c (Mark k n u) l a h = mark-home sh d k n u s (at-home (home sh k) d a) h
 dir-homes sh d s c (Commit u n) l a h = commit-home sh d c u n s l h
 dir-homes sh d s c (InvAck k b) l a h = ack-home sh d c k b s h
 dir-homes sh d s c (WriteBack k n ws g) l a h = back-home sh d c k n ws g s h

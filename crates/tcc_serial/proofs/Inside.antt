@@ -1,8 +1,8 @@
 -- No message goes to a core that the machine doesn't have, and none of them owns a line.
-use Rattle.std.specs.Prelude.{ℕ, zero, suc, ◌-◌, ◌≡◌, ◌<◌, ◌≤◌, Bool, true, false, List, [], ◌∷◌, ◌==◌, ◌&&◌, ◌||◌, Option, Some, None, nat_lt, nat_le, if◌then◌else◌}
+use Rattle.std.specs.Prelude.{ℕ, ◌-◌, ◌≡◌, ◌<◌, ◌≤◌, Bool, true, false, List, [], ◌∷◌, ◌==◌, ◌&&◌, ◌||◌, Option, Some, None, nat_lt, nat_le, if◌then◌else◌}
 use Rattle.std.proofs.Common.{arith, refl}
 use Rattle.std.proofs.lemmas.Bool.Decides.{nat_tests}
-use Rattle.tcc_maps.specs.Words.{count_below, those}
+use Rattle.tcc_maps.specs.Words.{count_below}
 use Rattle.tcc_maps.specs.Masks.{full}
 use Rattle.tcc_maps.specs.Lines.{Lines, has_mark, with_asked, with_owner, with_sharer, with_mark, unmarked}
 use Rattle.tcc_maps.specs.Judge.{Judgement, judge, Takes as IsTaken, Drops as IsDropped, Waits as IsEarly}
@@ -13,6 +13,7 @@ use Rattle.tcc_rules.specs.State.{DirState}
 use Rattle.tcc_rules.specs.Sends.{Sends, nothing, to}
 use Rattle.tcc_rules.specs.DirDeliver.{Answer, Waits, Drops, Asks, Takes, skip, abort, commit, acknowledgement, dir_deliver, moved_on, settled, owned, owed_by, invalidations, invs_to, is_invalidated, unless_keeps, ask_owner, load_owned, load_request, line_words, marking, mark_owned, mark, judged, write_back, came_home, probe}
 use Rattle.tcc_serial.specs.Count.{Any, among}
+use Rattle.tcc_serial.proofs.Sent.{those-none}
 
 -- owners are cores of the machine
 abbrev pub OwnersInside : Shape → DirState → Type 0
@@ -113,11 +114,6 @@ probe-inside sh c u s i h = go (nat_lt s.serving.serving u)
     go : (b : Bool) → AnswersInside sh (if b then Waits else Takes s (to (Core c) (ProbeReply u s.serving.serving ∷ [])))
     go true = tt
     go false = (to-inside sh c (ProbeReply u s.serving.serving) i, h)
-
-those-none : (p : ℕ → Bool) (n : ℕ) → ((k : ℕ) → p k ≡ false) → those p n ≡ []
-unfolding those
-those-none p zero h = refl
-those-none p (suc n) h = rw (those-none p n h, h n) refl
 
 is_invalidated-outside : (sh : Shape) (ls : Lines) (c j k : ℕ) → nat_lt j sh.cores ≡ false → is_invalidated sh ls c j k ≡ false
 unfolding is_invalidated

@@ -32,7 +32,7 @@ use Rattle.tcc_serial.proofs.CoreOwners.{KeepsHolder, noted_tid, none, holder-ex
 use Rattle.tcc_serial.proofs.CommitOwners.{CommitsNoted, noted-exec, noted-evict, noted-grant, noted-back}
 use Rattle.tcc_serial.proofs.Commits.{granted-once, only-one}
 use Rattle.tcc_serial.proofs.DirInvs.{SparesOwn, SparesBy, dir-spares}
-use Rattle.tcc_serial.proofs.DirDue.{Due, DueBy, dir-due, still-due}
+use Rattle.tcc_serial.proofs.DirDue.{Due, DueBy, dir-due, still-due, none-quiet}
 use Rattle.tcc_serial.proofs.OwedSteps.{marks_home, acks_owed, invs-few}
 use Rattle.tcc_serial.proofs.KeptSteps.{core_of_out, once_at}
 
@@ -134,10 +134,6 @@ core-spared : (sh : Shape) (gs : List Grant) (w : World) (cs : List Noted) (c t 
 unfolding holder pair
 core-spared sh gs w cs c t got o y k z l = y.held c 0 t (omega (arith, k.holds t))
 
-none-invs : (j : ℕ) → among Invs [] ≡ 0
-unfolding among
-none-invs j = refl
-
 -- a grant notes no commit
 no-commit : (sh : Shape) (u t : ℕ) (s : CoreState) → 1 ≤ noted_tid t (grant sh u s).commit → ⊥
 unfolding grant
@@ -181,6 +177,6 @@ step-spared sh p gs w cs e z y h = step_cases sh p w e (λ g o. KeptTold sh o.wo
 
     answered : (c d k : ℕ) (m : Msg) → in_flight w.net (Core c) (Dir d) k ≡ Some m → (a : Answer) → DueBy sh d (w.dirs d) (num (passes Acks m)) a → SparesBy (w.dirs d) c m a → OfAnswer w c d k (λ v. KeptTold sh v → SparesCommitter sh (gs ++ []) v) a
     answered c d k m i Waits u p = tt
-    answered c d k m i Drops u p = λ n. rw append-nil (dir-spared sh gs w c d k m (w.dirs d) (λ dst. []) (y.numbered) h n i (rw u (still-due sh d (w.dirs d) ((z.told.owed.at_home c d).marked))) (inl none-invs))
+    answered c d k m i Drops u p = λ n. rw append-nil (dir-spared sh gs w c d k m (w.dirs d) (λ dst. []) (y.numbered) h n i (rw u (still-due sh d (w.dirs d) ((z.told.owed.at_home c d).marked))) (inl none-quiet))
     answered c d k m i (Asks s sends) u p = λ n. rw append-nil (asks-spared sh gs w d s sends h n u p)
     answered c d k m i (Takes s sends) u p = λ n. rw append-nil (dir-spared sh gs w c d k m s sends (y.numbered) h n i u p)

@@ -22,7 +22,7 @@ use Rattle.tcc_serial.specs.Count.{Asks as AsksTid, Grants, AnyGrant, live, pass
 use Rattle.tcc_serial.specs.Pairs.{Pair, pair, after_grant, after_other_grant}
 use Rattle.tcc_serial.specs.Tids.{has_tid, waits_for_tid, RequestOf, KeptTids}
 use Rattle.tcc_serial.specs.Owners.{Grant, granted_by, holder, KeptOwners, LastGranted}
-use Rattle.tcc_serial.proofs.Links.{live-takes}
+use Rattle.tcc_serial.proofs.Links.{live-takes, live-fewer}
 use Rattle.tcc_serial.proofs.PairFrames.{pairs_move, pairs_grant, pairs_back, pairs_dir, pairs_asks, pairs_vendor}
 use Rattle.tcc_serial.proofs.StepCases.{OfAnswer, step_cases}
 use Rattle.tcc_serial.proofs.CoreOwners.{KeepsHolder, none, holder-exec, holder-evict, holder-grant, holder-back}
@@ -50,10 +50,7 @@ unfolding passes
 grants-any t m = grind (arith, nat_tests)
 
 grant-any : (t : ℕ) (l : Link) → live (Grants t) l ≤ live AnyGrant l
-unfolding live
-grant-any t [] = omega arith
-grant-any t (None ∷ l) = grant-any t l
-grant-any t (Some m ∷ l) = omega (arith, grants-any t m, grant-any t l)
+grant-any t l = live-fewer (Grants t) AnyGrant (grants-any t) l
 
 -- a core that has a request in flight has no TID, and none is on its way to it
 asking-none : (v : Pair) (k t : ℕ) → slice_index_or v.asks k None ≡ Some TidReq → RequestOf v → holder t v ≡ 0

@@ -3,6 +3,7 @@ pub mod TidSteps
 pub mod KeptSteps
 pub mod OwedSteps
 pub mod Links
+pub mod Nums
 pub mod PairFrames
 pub mod MemoryStays
 pub mod SerialAgain
@@ -39,6 +40,7 @@ pub mod MarkSteps
 pub mod MarksKept
 pub mod CoreMasks
 pub mod MasksKept
+pub mod OneMarkKept
 pub mod StoredMasks
 pub mod CommitMasks
 pub mod PairStored
@@ -88,6 +90,7 @@ pub mod CopiesKept
 pub mod NewCommits
 pub mod OnItsWay
 pub mod FromKept
+pub mod FromViews
 pub mod StartAll
 pub mod TriedRun
 pub mod SoundAttempts
@@ -102,6 +105,9 @@ pub mod SmallerTids
 pub mod WorkedSteps
 pub mod CoreLoadsTakes
 pub mod CoreLoads
+pub mod CoreReads
+pub mod CoreReadsTakes
+pub mod ReadsKept
 pub mod RunWays
 pub mod ListedCommits
 pub mod ToldSteps

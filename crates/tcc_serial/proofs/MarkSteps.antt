@@ -21,6 +21,7 @@ use Rattle.tcc_serial.specs.Kept.{KeptTold}
 use Rattle.tcc_serial.proofs.Links.{live-sends, live-takes, total-le}
 use Rattle.tcc_serial.proofs.TidSteps.{live-some}
 use Rattle.tcc_serial.proofs.CoreMarks.{stores-writes}
+use Rattle.tcc_serial.proofs.CoreMarking.{at-most-one}
 use Rattle.tcc_serial.proofs.DirMarks.{Marked}
 use Rattle.tcc_serial.proofs.PairMarks.{kinds, falls, holds, is-skip}
 
@@ -43,14 +44,6 @@ marked-opens sh s d t l h m = go s.phase refl h m
     go AwaitTid e x y = absurd (cc)
     go DoomedTid e x y = absurd (cc)
     go Halted e x y = absurd (cc)
-
-few-one : (b : Bool) → num b ≤ 1
-few-one true = omega arith
-few-one false = omega arith
-
-at-most-one : (sh : Shape) (s : CoreState) (d l : ℕ) → marked_by sh s d l ≤ 1
-unfolding marked_by
-at-most-one sh s d l = few-one (has_marked s.phase && (not (s.owing d) && stores_line sh s.cache d l))
 
 -- what a directory's answer does to a pair: what is in flight to it is what was, but for m perhaps
 pub marks-answered : (sh : Shape) (gs : List Grant) (j d t l : ℕ) (v : Pair) (m : Msg) (s : DirState) (ms : List Msg) (k : Link) → Marked v.dir m s
@@ -107,10 +100,6 @@ marks-next sh gs hs c d t l v h = record {
 pub has-alone : (sh : Shape) (gs : List Grant) (w : World) (cs : List Noted) (c t : ℕ) → KeptOwners sh gs w cs → c < sh.cores → has_tid (w.cores c).phase t ≡ true → num (nat_le w.next t) + live (Grants t) (w.net Vendor (Core c)) ≡ 0
 unfolding share holder pair
 has-alone sh gs w cs c t k l h = let n : num (has_tid (w.cores c).phase t) ≡ 1 = ap num h in omega (arith, n, k.once t, total-le (share (holder t) w 0) sh.cores c l)
-
-pub grant-alone : (sh : Shape) (gs : List Grant) (w : World) (cs : List Noted) (c t : ℕ) → KeptOwners sh gs w cs → c < sh.cores → num (nat_le w.next t) + live (Grants t) (w.net Vendor (Core c)) ≤ 1
-unfolding share holder pair
-grant-alone sh gs w cs c t k l = omega (arith, k.once t, total-le (share (holder t) w 0) sh.cores c l)
 
 pub is-granted : (sh : Shape) (gs : List Grant) (w : World) (cs : List Noted) (c t : ℕ) → KeptOwners sh gs w cs → 1 ≤ live (Grants t) (w.net Vendor (Core c)) + num (has_tid (w.cores c).phase t) → Contains gs (record { tid = t; core = c })
 unfolding holder pair

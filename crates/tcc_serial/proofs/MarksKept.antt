@@ -1,7 +1,6 @@
 -- Every event keeps that the Marks of a TID are those of the lines that its core stores.
 use Rattle.std.specs.Prelude.{ℕ, ◌+◌, ◌≡◌, ◌<◌, ◌≤◌, Bool, true, false, List, [], ◌∷◌, ◌++◌, Contains, Option, Some, None, IfSome, nat_le, set}
 use Rattle.std.proofs.Common.{arith, refl, ap, ◌⊎◌, inl, inr}
-use Rattle.std.proofs.lemmas.Bool.Decides.{nat_tests}
 use Rattle.std.proofs.lemmas.List.{append-nil}
 use Rattle.tcc_base.specs.declared.access.Commit.{Commit as Noted}
 use Rattle.tcc_program.specs.Program.{Program, Local}
@@ -28,14 +27,15 @@ use Rattle.tcc_serial.specs.Kept.{Kept, KeptTold}
 use Rattle.tcc_serial.proofs.Links.{live-takes}
 use Rattle.tcc_serial.proofs.PairFrames.{same, pairs_move, pairs_grant, pairs_back, pairs_dir, pairs_asks, pairs_vendor}
 use Rattle.tcc_serial.proofs.StepCases.{OfAnswer, step_cases}
-use Rattle.tcc_serial.proofs.TidSteps.{granted_waits, live-some}
+use Rattle.tcc_serial.proofs.TidSteps.{granted_waits, live-some, is_mine}
 use Rattle.tcc_serial.proofs.KeptSteps.{core_of_grant, core_of_back}
 use Rattle.tcc_serial.proofs.Commits.{granted-once}
 use Rattle.tcc_serial.proofs.CoreMarking.{Marking, marking-exec, marking-evict}
 use Rattle.tcc_serial.proofs.CoreMarkingTakes.{marking-back, granting}
 use Rattle.tcc_serial.proofs.DirMarks.{Marked, Stays, MarkedBy, dir-marked}
 use Rattle.tcc_serial.proofs.PairMarks.{kinds, marks-moved, marks-granted}
-use Rattle.tcc_serial.proofs.MarkSteps.{marks-answered, marks-given, marks-next, has-alone, grant-alone, is-granted, has-granted, open-untold, open-ahead, taken-less, empty-one, skip-unmarked}
+use Rattle.tcc_serial.proofs.MarkSteps.{marks-answered, marks-given, marks-next, has-alone, is-granted, has-granted, open-untold, open-ahead, taken-less, empty-one, skip-unmarked}
+use Rattle.tcc_serial.proofs.OwnerSteps.{grant-alone}
 
 -- a Mark of a TID comes from one core, to which the TID was granted
 pub only-there : (sh : Shape) (gs : List Grant) (w : World) (cs : List Noted) (c j d k t l : ℕ) (m : Msg) → KeptOwners sh gs w cs → KeptMarks sh gs w → in_flight w.net (Core c) (Dir d) k ≡ Some m → (j ≡ c → ⊥)
@@ -96,10 +96,6 @@ asks-marks sh gs w cs d s sends y h z u = pairs_asks (λ j e v. (t l : ℕ) → 
 pub taken-back : (sh : Shape) (gs : List Grant) (w : World) (c d k t l : ℕ) → MarksOf sh gs c d t l (pair w c d) → MarksOf sh gs c d t l (back_taken (pair w c d) k)
 unfolding marks_of
 taken-back sh gs w c d k t l h = record { owner = h.owner; words = h.words; fresh = h.fresh; skipped = h.skipped; held = h.held }
-
-pub is_mine : (u : ℕ) → num (passes (Grants u) (TidGrant u)) ≡ 1
-unfolding passes
-is_mine u = grind (arith, nat_tests)
 
 pub step-marks : (sh : Shape) (p : Program) (gs : List Grant) (w : World) (cs : List Noted) (e : Event) → Kept sh w → KeptOwners sh gs w cs → KeptMarks sh gs w → IfSome (step sh p w e) (λ o. KeptTold sh o.world → KeptMarks sh (gs ++ granted_by w e) o.world)
 unfolding pair

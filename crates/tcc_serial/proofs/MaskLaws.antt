@@ -23,7 +23,7 @@ use Rattle.tcc_serial.specs.Pairs.{Pair, pair}
 use Rattle.tcc_serial.specs.Stored.{stored_mask, stores_at, MarkedWith, KeptStored}
 use Rattle.tcc_serial.proofs.AllKept.{run-all}
 use Rattle.tcc_serial.proofs.TidSteps.{inside_from}
-use Rattle.tcc_serial.proofs.Links.{total-same}
+use Rattle.tcc_serial.proofs.Links.{total-same, live-fewer}
 use Rattle.tcc_serial.proofs.CoreCounts.{total-num}
 use Rattle.tcc_serial.proofs.PairCounts.{none-away}
 use Rattle.tcc_serial.proofs.PairStored.{taken-marks}
@@ -93,16 +93,10 @@ unfolding passes
 one-any t m = grind (arith, nat_tests)
 
 pub few-any : (t : ℕ) (k : Link) → live (Commits t) k ≤ live Any k
-unfolding live
-few-any t [] = omega arith
-few-any t (None ∷ k) = few-any t k
-few-any t (Some m ∷ k) = omega (arith, few-any t k, one-any t m)
+few-any t k = live-fewer (Commits t) Any (one-any t) k
 
 few-commits : (t n : ℕ) (k : Link) → live (CommitOf t n) k ≤ live (Commits t) k
-unfolding live
-few-commits t n [] = omega arith
-few-commits t n (None ∷ k) = few-commits t n k
-few-commits t n (Some m ∷ k) = omega (arith, few-commits t n k, one-commit t n m)
+few-commits t n k = live-fewer (CommitOf t n) (Commits t) (one-commit t n) k
 
 commits-marks : (sh : Shape) (gs : List Grant) (h : History) → KeptAll sh gs h → MarksOfCommits sh h.commits h.world
 unfolding pair

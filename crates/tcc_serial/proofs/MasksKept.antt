@@ -29,15 +29,16 @@ use Rattle.tcc_serial.specs.Kept.{Kept, KeptTold}
 use Rattle.tcc_serial.proofs.Links.{live-sends, live-takes}
 use Rattle.tcc_serial.proofs.PairFrames.{pairs_move, pairs_grant, pairs_back, pairs_dir, pairs_asks, pairs_vendor}
 use Rattle.tcc_serial.proofs.StepCases.{OfAnswer, step_cases}
-use Rattle.tcc_serial.proofs.TidSteps.{granted_waits, live-some}
+use Rattle.tcc_serial.proofs.TidSteps.{granted_waits, live-some, is_mine}
 use Rattle.tcc_serial.proofs.KeptSteps.{core_of_back}
 use Rattle.tcc_serial.proofs.CoreMarking.{Marking, marking-exec, marking-evict}
 use Rattle.tcc_serial.proofs.CoreMarkingTakes.{Granting, marking-back, granting}
 use Rattle.tcc_serial.proofs.DirMarks.{Marked, Stays, Clears, Skipped, Marks as IsMarked, MarkedBy, dir-marked}
 use Rattle.tcc_serial.proofs.PairMarks.{marks-granted}
-use Rattle.tcc_serial.proofs.MarkSteps.{has-granted, grant-alone, is-granted, skip-unmarked}
-use Rattle.tcc_serial.proofs.MarksKept.{only-there, is_mine}
+use Rattle.tcc_serial.proofs.MarkSteps.{has-granted, is-granted, skip-unmarked}
+use Rattle.tcc_serial.proofs.MarksKept.{only-there}
 use Rattle.tcc_serial.proofs.CoreMasks.{Masking, live-masked, passes-masked, masking-exec, masking-evict, masking-back}
+use Rattle.tcc_serial.proofs.OwnerSteps.{grant-alone}
 
 -- a Mark with another mask is a Mark
 pub wrong-few : (t l q : ℕ) (v : Pair) → wrong_marks t l q v ≤ marks_of t l v

@@ -28,13 +28,14 @@ use Rattle.tcc_serial.proofs.StepCases.{OfAnswer, step_cases}
 use Rattle.tcc_serial.proofs.TidSteps.{live-some}
 use Rattle.tcc_serial.proofs.KeptSteps.{core_of_out, once_at}
 use Rattle.tcc_serial.proofs.CoreDue.{Clean, CleanOut, clean-exec, clean-evict, clean-grant}
-use Rattle.tcc_serial.proofs.DirDue.{Due, DueBy, dir-due, still-due}
+use Rattle.tcc_serial.proofs.DirDue.{Due, DueBy, dir-due, still-due, none-quiet}
 use Rattle.tcc_serial.proofs.DirTids.{unserved}
 use Rattle.tcc_serial.proofs.OwedSteps.{marks_home, acks_owed}
 use Rattle.tcc_serial.proofs.DirMarks.{Marked, Stays, Clears, Skipped, Marks as IsMarked, MarkedBy, dir-marked}
 use Rattle.tcc_serial.proofs.DirOwes.{CountsMarked, OwesBy, dir-owes}
 use Rattle.tcc_serial.proofs.MarkSteps.{taken-less}
 use Rattle.tcc_serial.proofs.NamedSends.{lines-live, lines-among, acks-line, Names, NamesBy, dir-names}
+use Rattle.tcc_serial.proofs.PairMarks.{is-mark}
 
 -- a core moves: so many acknowledgements as invalidations that it took
 named-moved : (l d got : ℕ) (v : Pair) (o : Out) (k : Link) → among (AckOf l) (o.sends (Dir d)) ≤ got → live (InvOf l) k + got ≤ live (InvOf l) v.back → live (InvMask l (v.dir.lines.mark l)) k ≤ live (InvMask l (v.dir.lines.mark l)) v.back → NamedOf l v → NamedOf l (after_move (record v { back = k }) o d)
@@ -80,10 +81,6 @@ none-due : (sh : Shape) (w : World) (j d : ℕ) → KeptTold sh w → j < sh.cor
 unfolding share due pair
 none-due sh w j d k l z = omega (arith, z, k.owed.owed d, total-le (share due w d) sh.cores j l)
 
-is-mark : (t a b : ℕ) → num (passes (MarkOf t a) (Mark a b t)) ≡ 1
-unfolding passes
-is-mark t a b = grind (arith, nat_tests)
-
 no-commit-mark : (sh : Shape) (s : DirState) (l k t : ℕ) → CountsMarked sh s (Mark l k t) → ⊥
 no-commit-mark sh s l k t e = cc
 
@@ -95,10 +92,6 @@ marks-same sh w c d k m s h cl dl i x e o (Clears f g p) l = absurd (omega (arit
 marks-same sh w c d k m s h cl dl i x e o (Skipped f g) l = g l
 marks-same sh w c d k m s h cl dl i x e (inl o) (IsMarked a b q g f) l = absurd (omega (arith, (h c d 0 cl).settled a dl (omega (arith, x, o)), live-some (MarkOf (w.dirs d).serving.serving a) (w.net (Core c) (Dir d)) k (Mark a b (w.dirs d).serving.serving) (i ∙ ap (λ y. Some y) q), is-mark (w.dirs d).serving.serving a b))
 marks-same sh w c d k m s h cl dl i x e (inr o) (IsMarked a b q g f) l = absurd (no-commit-mark sh (w.dirs d) a b (w.dirs d).serving.serving (sym q ∙ o))
-
-none-invs : (j : ℕ) → among Invs [] ≡ 0
-unfolding among
-none-invs j = refl
 
 dir-named : (sh : Shape) (w : World) (c d k ack : ℕ) (m : Msg) (s : DirState) (sends : Sends) → KeptTold sh w → KeptCounted sh w → KeptNamed sh w → KeptTold sh (dir_takes w c d k s sends) → c < sh.cores → in_flight w.net (Core c) (Dir d) k ≡ Some m
     → Marked (w.dirs d) m s → Due sh d (w.dirs d) ack s sends → (s.owed ≤ (w.dirs d).owed) ⊎ CountsMarked sh (w.dirs d) m
@@ -173,7 +166,7 @@ step-named sh p w e z g h = step_cases sh p w e (λ x o. KeptTold sh o.world →
 
     answered : (c d k : ℕ) (m : Msg) → in_flight w.net (Core c) (Dir d) k ≡ Some m → c < sh.cores → (b : Answer) → MarkedBy (w.dirs d) m b → OwesBy sh (w.dirs d) m b → DueBy sh d (w.dirs d) (num (passes Acks m)) b → NamesBy (w.dirs d) m b → OfAnswer w c d k (λ v. KeptTold sh v → KeptNamed sh v) b
     answered c d k m i cl Waits u o p n = tt
-    answered c d k m i cl Drops u o p n = λ t. dir-named sh w c d k 0 m (w.dirs d) (λ dst. []) z.told g h t cl i (Stays refl (λ l. refl) u) (still-due sh d (w.dirs d) ((z.told.owed.at_home c d).marked)) (inl (omega arith)) (inl none-invs)
+    answered c d k m i cl Drops u o p n = λ t. dir-named sh w c d k 0 m (w.dirs d) (λ dst. []) z.told g h t cl i (Stays refl (λ l. refl) u) (still-due sh d (w.dirs d) ((z.told.owed.at_home c d).marked)) (inl (omega arith)) (inl none-quiet)
     answered c d k m i cl (Asks s sends) u o p n = λ t. pairs_asks P w d s sends (λ j l x y. named-quiet l (pair w j d) s (sends (Core j)) (w.net (Core j) (Dir d)) (u.1 l) (n j) (omega arith) (h j d l x y)) h
     answered c d k m i cl (Takes s sends) u o p n = λ t. dir-named sh w c d k (num (passes Acks m)) m s sends z.told g h t cl i u p o n
 

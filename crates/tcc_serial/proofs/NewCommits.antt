@@ -1,12 +1,12 @@
 -- A commit that is noted by an event isn't applied anywhere yet.
-use Rattle.std.specs.Prelude.{ℕ, ◌≡◌, ◌<◌, ◌≤◌, ◌⊎◌, ◌==◌, ◌&&◌, Bool, true, false, List, [], ◌∷◌, Option, Some, IfSome, if◌then◌else◌}
+use Rattle.std.specs.Prelude.{ℕ, ◌≡◌, ◌<◌, ◌≤◌, ◌⊎◌, Bool, true, false, List, [], ◌∷◌, Option, Some, IfSome, if◌then◌else◌}
 use Rattle.std.proofs.Common.{arith, refl, ap, sym, ◌∙◌, inl, inr}
 use Rattle.std.proofs.lemmas.Bool.Decides.{nat_tests}
 use Rattle.tcc_base.specs.declared.access.Commit.{Commit as Noted}
-use Rattle.tcc_maps.specs.Words.{num, any_word}
+use Rattle.tcc_maps.specs.Words.{num}
 use Rattle.tcc_maps.specs.Cache.{writes_at}
 use Rattle.tcc_maps.specs.Nodes.{Dir, Msg}
-use Rattle.tcc_maps.specs.Shape.{Shape, home}
+use Rattle.tcc_maps.specs.Shape.{Shape}
 use Rattle.tcc_rules.specs.Attempt.{Out}
 use Rattle.tcc_rules.specs.Sends.{Sends}
 use Rattle.tcc_rules.specs.Step.{History, Stepped}
@@ -15,17 +15,14 @@ use Rattle.tcc_serial.specs.Kept.{KeptRun}
 use Rattle.tcc_serial.specs.Owners.{Grant, times, holder}
 use Rattle.tcc_serial.specs.Pairs.{pair, share}
 use Rattle.tcc_serial.specs.Standing.{is_applied}
-use Rattle.tcc_serial.specs.Stored.{stores_at as stored_there}
 use Rattle.tcc_serial.specs.Tids.{has_tid, part, handled}
 use Rattle.tcc_serial.specs.Told.{live_way}
-use Rattle.tcc_serial.specs.Uses.{stores_word}
 use Rattle.tcc_serial.specs.Ways.{Ways, Committed, Skipped, part_in}
-use Rattle.tcc_serial.specs.Wrote.{stores_at}
+use Rattle.tcc_serial.specs.Stored.{stores_at}
 use Rattle.tcc_serial.proofs.ByCore.{ByCore, Still, Moved}
 use Rattle.tcc_serial.proofs.CoreSkips.{TellsCommit}
 use Rattle.tcc_serial.proofs.Links.{total-le}
 use Rattle.tcc_serial.proofs.OnItsWay.{applied-or}
-use Rattle.tcc_serial.proofs.StoredMasks.{stored-line, stored-some}
 use Rattle.tcc_serial.proofs.ToldSteps.{Speaks, told-committed}
 
 of-resolves : (t : ℕ) (m : Msg) → num (passes (Commits t) m) ≤ num (passes (Resolves t) m)
@@ -43,13 +40,9 @@ unfolding share holder pair
 uncommitted sh gs ys h c t k l e = let one : num (has_tid (h.world.cores c).phase t) ≡ 1 = ap num e in omega (arith, one, k.all.owners.once t, total-le (share (holder t) h.world 0) sh.cores c l)
 
 -- it sends a Commit to each directory where it stored
-pub commit-sent : (sh : Shape) (gs : List Grant) (ys : Ways) (h : History) (c d : ℕ) (s : Out) (n : Noted) → KeptRun sh gs ys h → c < sh.cores → TellsCommit sh (h.world.cores c) s n → d < sh.dirs → stores_at sh n.stores d ≡ true → 1 ≤ among (Commits n.tid.0) (s.sends (Dir d))
-unfolding stores_at
-commit-sent sh gs ys h c d s n k cl a dl e = go (told-committed (s.sends (Dir d)) n.tid.0 (live_way (h.world.cores c).phase (writes_at sh (h.world.cores c).cache d)) (a.told d dl ∙ there (stored_there sh d n.stores) stored))
+pub commit-sent : (sh : Shape) (gs : List Grant) (ys : Ways) (h : History) (c d : ℕ) (s : Out) (n : Noted) → KeptRun sh gs ys h → c < sh.cores → TellsCommit sh (h.world.cores c) s n → d < sh.dirs → stores_at sh d n.stores ≡ true → 1 ≤ among (Commits n.tid.0) (s.sends (Dir d))
+commit-sent sh gs ys h c d s n k cl a dl e = go (told-committed (s.sends (Dir d)) n.tid.0 (live_way (h.world.cores c).phase (writes_at sh (h.world.cores c).cache d)) (a.told d dl ∙ there (stores_at sh d n.stores) e))
   where
-    stored : stored_there sh d n.stores ≡ true
-    stored = stored-some sh d n.stores (λ l. d == home sh l && any_word (stores_word sh.base n.stores) l) (stored-line sh d n.stores) e
-
     there : (b : Bool) → b ≡ true → (if b then Committed else Skipped) ≡ Committed
     there b q = rw q refl
 
@@ -57,7 +50,7 @@ commit-sent sh gs ys h c d s n k cl a dl e = go (told-committed (s.sends (Dir d)
     go (inl q) = absurd (omega (arith, uncommitted sh gs ys h c n.tid.0 k cl (a.has), k.committed.only d n.tid.0 dl (k.live c d n.tid.0 cl dl (a.has) ∙ q)))
     go (inr q) = q
 
-pub new-commit : (sh : Shape) (gs : List Grant) (ys : Ways) (h : History) (x : Sends) (o : Stepped) → KeptRun sh gs ys h → ByCore sh h.world (Speaks sh h.world) x o → (n : Noted) (d : ℕ) → o.noted ≡ Some n → d < sh.dirs → stores_at sh n.stores d ≡ true → is_applied (h.world.dirs d) n.tid.0 ≡ false
+pub new-commit : (sh : Shape) (gs : List Grant) (ys : Ways) (h : History) (x : Sends) (o : Stepped) → KeptRun sh gs ys h → ByCore sh h.world (Speaks sh h.world) x o → (n : Noted) (d : ℕ) → o.noted ≡ Some n → d < sh.dirs → stores_at sh d n.stores ≡ true → is_applied (h.world.dirs d) n.tid.0 ≡ false
 unfolding share part part_in handled pair
 new-commit sh gs ys h x o k (Still e i q) n d z dl st = absurd (let y = sym q ∙ z in cc)
 new-commit sh gs ys h x o k (Moved c s cl u f i q) n d z dl st = go (is_applied (h.world.dirs d) n.tid.0) refl

@@ -3,9 +3,9 @@ use Rattle.std.specs.Prelude.{ℕ, zero, suc, ◌+◌, ◌≡◌, ◌<◌, ◌�
 use Rattle.std.proofs.Common.{arith, refl, ap, sym, subst, ◌∙◌, inl, inr}
 use Rattle.std.proofs.lemmas.Bool.{cases_eq, cases_lt}
 use Rattle.std.proofs.lemmas.Bool.Decides.{nat_tests}
-use Rattle.tcc_maps.specs.Words.{num, any_word}
+use Rattle.tcc_maps.specs.Words.{num}
 use Rattle.tcc_maps.specs.Nodes.{Core, Dir}
-use Rattle.tcc_maps.specs.Shape.{Shape, home}
+use Rattle.tcc_maps.specs.Shape.{Shape}
 use Rattle.tcc_rules.specs.DirDeliver.{total}
 use Rattle.tcc_rules.specs.State.{DirState}
 use Rattle.tcc_rules.specs.Step.{History}
@@ -14,15 +14,12 @@ use Rattle.tcc_serial.specs.Kept.{KeptRun}
 use Rattle.tcc_serial.specs.Owners.{Grant}
 use Rattle.tcc_serial.specs.Pairs.{pair, share}
 use Rattle.tcc_serial.specs.Standing.{is_applied, CommitsStand}
-use Rattle.tcc_serial.specs.Stored.{stores_at as stored_there}
-use Rattle.tcc_serial.specs.Uses.{stores_word}
+use Rattle.tcc_serial.specs.Stored.{stores_at}
 use Rattle.tcc_serial.specs.Ways.{Skipped, Committed, Ways, part_in, kept_in, WayAt}
-use Rattle.tcc_serial.specs.Wrote.{stores_at}
 use Rattle.tcc_serial.proofs.Commits.{granted-once}
 use Rattle.tcc_serial.proofs.Links.{total-zero}
 use Rattle.tcc_serial.proofs.ListedCommits.{granted-at, positive-committed}
 use Rattle.tcc_serial.proofs.MaskLaws.{few-any}
-use Rattle.tcc_serial.proofs.StoredMasks.{stored-line, stored-some}
 
 -- the only number of a sum that isn't zero
 total-only : (f : ℕ → ℕ) (n c : ℕ) → ((j : ℕ) → j < n → (j ≡ c → ⊥) → f j ≡ 0) → (n ≤ c → f c ≡ 0) → total f n ≡ f c
@@ -43,14 +40,14 @@ applied-or s t = go (nat_lt t s.serving.serving) refl
     go false q = omega arith
 
 pub on-its-way : (sh : Shape) (gs : List Grant) (ys : Ways) (h : History) → KeptRun sh gs ys h → CommitsStand sh h.world h.commits
-unfolding stores_at share part_in kept_in pair
+unfolding share part_in kept_in pair
 on-its-way sh gs ys h k n d i dl s = omega (arith, place, one, applied-or (h.world.dirs d) n.tid.0)
   where
     t : ℕ
     t = n.tid.0
 
     way : ys d t ≡ Committed
-    way = k.committed.stored n d i dl ∙ told (stored_there sh d n.stores) (stored-some sh d n.stores (λ l. d == home sh l && any_word (stores_word sh.base n.stores) l) (stored-line sh d n.stores) s)
+    way = k.committed.stored n d i dl ∙ told (stores_at sh d n.stores) s
       where
         told : (b : Bool) → b ≡ true → (if b then Committed else Skipped) ≡ Committed
         told b e = rw e refl

@@ -1,11 +1,11 @@
 -- Executing an instruction keeps what holds of a core by itself.
-use Rattle.std.specs.Prelude.{ℕ, ◌*◌, ◌+◌, ◌≡◌, Bool, true, false, not, ◌&&◌, ◌||◌, ◌==◌, List, [], ◌∷◌, ◌++◌, Option, Some, None, IfSome, is_some, if◌then◌else◌}
+use Rattle.std.specs.Prelude.{ℕ, ◌*◌, ◌+◌, ◌≡◌, Bool, true, false, not, ◌&&◌, ◌||◌, ◌==◌, [], ◌∷◌, ◌++◌, Option, Some, None, IfSome, is_some, if◌then◌else◌}
 use Rattle.std.proofs.Common.{arith, refl, sym, ap, subst, ◌∙◌}
 use Rattle.std.proofs.lemmas.Bool.Decides.{nat_tests}
 use Rattle.tcc_base.specs.declared.access.Size.TheVariants.{Byte, Half, Word}
 use Rattle.tcc_base.specs.declared.access.Stored.{Stored}
 use Rattle.tcc_program.specs.Program.{Program, Need, Nothing, Loads, Stores, Changes, Prints, Ends, Halts, Traps}
-use Rattle.tcc_program.specs.Plain.{Outcome, Goes, Ended, Halted as HaltedWith, Trapped as TrappedWith, store_of}
+use Rattle.tcc_program.specs.Plain.{store_of}
 use Rattle.tcc_program.specs.Ram.{word_of, part}
 use Rattle.tcc_maps.specs.Words.{line_of, any_word}
 use Rattle.tcc_maps.specs.Shape.{Shape, set_of}
@@ -53,11 +53,6 @@ executing sh s r a e f h w aw = record {
   owers = λ d q. rw f (h.owers d q);
   rested = λ q. absurd (acts-rest s.phase a (rw e at q));
 }
-
--- what an instruction stores
-abbrev stores_of : Need → List Stored
-stores_of (Stores addr size value) = store_of addr size value ∷ []
-stores_of _ = []
 
 -- what finishing an instruction leaves alone
 record Fixed (s r : CoreState) : Type 0 where
@@ -275,12 +270,6 @@ wholly_one sh p addr x need s a h n k = go (holds s.spilled (line_of w)) refl (s
     go false q false r false t = full sh (line_of w) s a h n
 
 -- the transaction has ended
-
-after-solo : (e : Outcome) → is_solo (phase_after e) ≡ false
-after-solo Goes = refl
-after-solo Ended = refl
-after-solo (HaltedWith k) = refl
-after-solo (TrappedWith k) = refl
 
 -- a core that has committed
 committed_one : (sh : Shape) (s r : CoreState) → r.phase ≡ phase_after s.ended → ((d : ℕ) → r.owing d ≡ false) → r.awaited ≡ None → ((b : Bool) → Words sh b r.cache r.spilled r.stores) → Empty r → OneCore sh r

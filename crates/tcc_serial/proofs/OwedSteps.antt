@@ -1,5 +1,5 @@
 -- Each kind of event keeps what is owed equal to what is in flight.
-use Rattle.std.specs.Prelude.{ℕ, ◌+◌, ◌≡◌, ◌<◌, ◌≤◌, ◌%◌, Bool, true, false, not, List, [], ◌∷◌, ◌++◌, ◌==◌, Option, Some, None, IfSome, set, slice_index_or}
+use Rattle.std.specs.Prelude.{ℕ, ◌+◌, ◌≡◌, ◌<◌, ◌≤◌, ◌%◌, Bool, true, false, List, ◌++◌, ◌==◌, Option, Some, None, IfSome, set, slice_index_or}
 use Rattle.std.proofs.Common.{arith, refl, sym, ◌∙◌, ◌⊎◌, inl, inr}
 use Rattle.std.proofs.lemmas.Bool.{cases_lt, cases_eq}
 use Rattle.std.proofs.lemmas.Bool.Decides.{nat_tests}
@@ -18,10 +18,10 @@ use Rattle.tcc_serial.specs.Count.{Invs, InvsNot, InvsAway, Acks, MarksAway, Any
 use Rattle.tcc_serial.specs.Pairs.{Pair, pair, after_move, grant_taken, back_taken, after_answer, out_taken, after_grant, after_other_grant, share}
 use Rattle.tcc_serial.specs.Tids.{KeptTids}
 use Rattle.tcc_serial.specs.Owed.{due, OwedAt, AtHomeOf, KeptOwed}
-use Rattle.tcc_serial.proofs.Links.{live-sends, live-takes, total-le, total-zero}
+use Rattle.tcc_serial.proofs.Links.{live-sends, live-takes, total-le, total-zero, live-fewer}
 use Rattle.tcc_serial.proofs.PairFrames.{same, differ, given, pairs_move, pairs_grant, pairs_back, pairs_dir, pairs_asks, pairs_vendor, sum_move, sum_grant, sum_back, sum_back_away, sum_dir, sum_dir_away, sum_asks_here, sum_asks_away, sum_vendor}
 use Rattle.tcc_serial.proofs.CoreDue.{Clean, CleanOut, AcksHome, acks-back}
-use Rattle.tcc_serial.proofs.DirDue.{Due, nots-invs}
+use Rattle.tcc_serial.proofs.DirDue.{Due, nots-invs, at-home}
 
 due-moved : (sh : Shape) (v : Pair) (o : Out) (d : ℕ) → Clean sh d (o.sends (Dir d)) → due (after_move v o d) + 0 ≡ due v + 0
 unfolding due
@@ -80,9 +80,6 @@ back-due sh e s (ProbeReply u v) a = back-clean sh e (ProbeReply u v) _ refl (λ
 back-due sh e s (Fill l ws) a = back-clean sh e (Fill l ws) _ refl (λ d. acks-back sh e d s (Fill l ws))
 back-due sh e s (DataReq l) a = back-clean sh e (DataReq l) _ refl (λ d. acks-back sh e d s (DataReq l))
 back-due sh e s (Inv l k u) a = back-inv sh e l k u _ (at-home (l % sh.dirs) e a) (λ d. acks-back sh e d s (Inv l k u))
-  where
-    at-home : (h d : ℕ) → not (h == d) ≡ false → h ≡ d
-    at-home h d e = grind (arith, nat_tests)
 back-due sh e s TidReq a = tt
 back-due sh e s (TidGrant u) a = tt
 back-due sh e s (LoadReq l x) a = tt
@@ -150,20 +147,14 @@ unfolding due
 due-other v s ms = omega (arith, live-sends Invs v.back ms)
 
 nots-few : (t : ℕ) (l : Link) → live (InvsNot t) l ≤ live Invs l
-unfolding live
-nots-few t [] = omega arith
-nots-few t (None ∷ l) = nots-few t l
-nots-few t (Some m ∷ l) = omega (arith, nots-invs t m, nots-few t l)
+nots-few t l = live-fewer (InvsNot t) Invs (nots-invs t) l
 
 invs-any : (m : Msg) → num (passes Invs m) ≤ num (passes Any m)
 unfolding passes
 invs-any m = grind (arith, nat_tests)
 
 pub invs-few : (l : Link) → live Invs l ≤ live Any l
-unfolding live
-invs-few [] = omega arith
-invs-few (None ∷ l) = invs-few l
-invs-few (Some m ∷ l) = omega (arith, invs-any m, invs-few l)
+invs-few l = live-fewer Invs Any invs-any l
 
 -- where nothing is owed, no invalidation is in flight
 none-due : (sh : Shape) (w : World) (d j t : ℕ) → (sh.cores ≤ j → live Any (w.net (Dir d) (Core j)) ≡ 0) → OwedAt sh w d → (w.dirs d).owed ≡ 0 → live (InvsNot t) (w.net (Dir d) (Core j)) ≡ 0

@@ -217,3 +217,8 @@ run_from-owners sh p (e ∷ es) gs h k o = go (step sh p h.world e) (step-kept s
 pub run-owners : (sh : Shape) (p : Program) (entries : ℕ → Local) (ram : ℕ → ℕ) (es : List Event) → IfSome (run sh p (start entries ram) es) (λ r. KeptOwners sh (grants_from sh p es (record { world = start entries ram; commits = [] })) r.world r.commits)
 unfolding run
 run-owners sh p entries ram es = run_from-owners sh p es [] (record { world = start entries ram; commits = [] }) (start-all sh entries ram) (start-owners sh entries ram)
+
+-- a grant in flight is the only one of its TID
+pub grant-alone : (sh : Shape) (gs : List Grant) (w : World) (cs : List Noted) (c t : ℕ) → KeptOwners sh gs w cs → c < sh.cores → num (nat_le w.next t) + live (Grants t) (w.net Vendor (Core c)) ≤ 1
+unfolding share holder pair
+grant-alone sh gs w cs c t k l = omega (arith, k.once t, total-le (share (holder t) w 0) sh.cores c l)

@@ -1,5 +1,5 @@
 -- How each kind of event keeps that a Commit counts its Marks, between a core and a directory.
-use Rattle.std.specs.Prelude.{ℕ, ◌+◌, ◌≡◌, ◌<◌, ◌≤◌, Bool, true, false, List, [], ◌∷◌, ◌++◌, ◌==◌, ◌&&◌, Some, None, nat_lt}
+use Rattle.std.specs.Prelude.{ℕ, ◌+◌, ◌≡◌, ◌<◌, ◌≤◌, true, false, List, ◌++◌, ◌==◌, ◌&&◌, nat_lt}
 use Rattle.std.proofs.Common.{arith, refl, ◌∙◌, ◌⊎◌, inl, inr}
 use Rattle.std.proofs.lemmas.Bool.{cases_lt}
 use Rattle.std.proofs.lemmas.Bool.Decides.{nat_tests}
@@ -18,7 +18,7 @@ use Rattle.tcc_serial.specs.Counted.{CountsMarks, CountedOf}
 use Rattle.tcc_serial.specs.Owners.{Grant}
 use Rattle.tcc_serial.specs.Pairs.{Pair, after_move, after_answer}
 use Rattle.tcc_serial.specs.Tids.{opens}
-use Rattle.tcc_serial.proofs.Links.{live-sends, total-same, total-plus, total-le}
+use Rattle.tcc_serial.proofs.Links.{live-sends, total-same, total-plus, total-le, live-fewer}
 use Rattle.tcc_serial.proofs.CoreMarking.{Marking}
 use Rattle.tcc_serial.proofs.CoreCounts.{Counts, CountsAll, total-num}
 use Rattle.tcc_serial.proofs.DirMarks.{Marked}
@@ -30,10 +30,7 @@ one-resolve t n m = grind (arith, nat_tests)
 
 -- a Commit is a word on its TID
 pub is-word : (t n : ℕ) (k : Link) → live (CommitOf t n) k ≤ live (Resolves t) k
-unfolding live
-is-word t n [] = omega arith
-is-word t n (None ∷ k) = is-word t n k
-is-word t n (Some m ∷ k) = omega (arith, is-word t n k, one-resolve t n m)
+is-word t n k = live-fewer (CommitOf t n) (Resolves t) (one-resolve t n) k
 
 -- the same Marks are counted
 pub same-counts : (sh : Shape) (n t : ℕ) (v w : Pair) → ((l : ℕ) → marks_of t l w ≡ marks_of t l v) → CountsMarks sh n t v → CountsMarks sh n t w
@@ -87,10 +84,6 @@ pub marks-stay : (sh : Shape) (d t l : ℕ) (v : Pair) (m : Msg) (s : DirState) 
     → passes EmptyMarks m ≡ false → s.serving.serving ≤ t → marks_of t l v ≤ 1 → marks_of t l (after_answer (record v { out = k }) s ms) ≡ marks_of t l v
 unfolding marks_of
 marks-stay sh d t l v m s ms k y eqn skip nonempty ahead one = holds v.dir s m t l (live (MarkOf t l) v.out) (live (MarkOf t l) k) (live (MarkOf t l) v.out + num (v.dir.serving.serving == t && has_mark v.dir.lines l)) y eqn skip nonempty one (λ x. ahead) refl
-
-one-line : (b : Bool) → num b ≤ 1
-one-line true = omega arith
-one-line false = omega arith
 
 -- where a Commit counts the marked lines, none of its Marks is in flight
 pub none-away : (sh : Shape) (l : ℕ) (v : Pair) → CountsMarks sh (count_below (has_mark v.dir.lines) (lines sh)) v.dir.serving.serving v → live (MarkOf v.dir.serving.serving l) v.out ≡ 0

@@ -1,5 +1,5 @@
 -- How each kind of event keeps what is known of the Marks between a core and a directory.
-use Rattle.std.specs.Prelude.{ℕ, ◌+◌, ◌≡◌, ◌<◌, ◌≤◌, Bool, true, false, List, [], ◌∷◌, ◌++◌, ◌==◌, ◌&&◌, Contains, Some, None, nat_lt, nat_le, slice_index_or, if◌then◌else◌}
+use Rattle.std.specs.Prelude.{ℕ, ◌+◌, ◌≡◌, ◌<◌, ◌≤◌, Bool, true, false, List, ◌++◌, ◌==◌, ◌&&◌, Contains, Some, None, nat_lt, nat_le, slice_index_or, if◌then◌else◌}
 use Rattle.std.proofs.Common.{arith, refl, ap, subst, ◌⊎◌, inl, inr}
 use Rattle.std.proofs.lemmas.Bool.{cases_eq, cases_lt}
 use Rattle.std.proofs.lemmas.Bool.Decides.{nat_tests}
@@ -16,10 +16,11 @@ use Rattle.tcc_serial.specs.Marks.{marks_of, MarksOf}
 use Rattle.tcc_serial.specs.Owners.{Grant}
 use Rattle.tcc_serial.specs.Pairs.{Pair, after_move, grant_taken}
 use Rattle.tcc_serial.specs.Tids.{has_tid, opens}
-use Rattle.tcc_serial.proofs.Links.{live-sends, live-takes}
+use Rattle.tcc_serial.proofs.Links.{live-sends, live-takes, live-fewer}
 use Rattle.tcc_serial.proofs.CoreMarking.{Marking, few}
 use Rattle.tcc_serial.proofs.CoreMarkingTakes.{Granting}
 use Rattle.tcc_serial.proofs.DirMarks.{Marked, Stays, Clears, Skipped, Marks as IsMarked}
+use Rattle.tcc_serial.proofs.TidSteps.{is_mine, not_mine}
 
 one-kind : (t l : ℕ) (m : Msg) → (num (passes (MarkOf t l) m) ≤ num (passes (Marks t) m)) × (num (passes (Skips t) m) ≤ num (passes (Resolves t) m))
 unfolding passes
@@ -27,10 +28,7 @@ one-kind t l m = (grind (arith, nat_tests), grind (arith, nat_tests))
 
 -- a Mark of a line is a Mark, and a Skip a word on its TID
 pub kinds : (t l : ℕ) (k : Link) → (live (MarkOf t l) k ≤ live (Marks t) k) × (live (Skips t) k ≤ live (Resolves t) k)
-unfolding live
-kinds t l [] = (omega arith, omega arith)
-kinds t l (None ∷ k) = kinds t l k
-kinds t l (Some m ∷ k) = let r = kinds t l k in let o = one-kind t l m in (omega (arith, r.0, o.0), omega (arith, r.1, o.1))
+kinds t l k = (live-fewer (MarkOf t l) (Marks t) (λ m. (one-kind t l m).0) k, live-fewer (Skips t) (Resolves t) (λ m. (one-kind t l m).1) k)
 
 -- a core moves
 pub marks-moved : (sh : Shape) (gs : List Grant) (c d t l : ℕ) (v : Pair) (o : Out) → Marking sh d t l v.core o → c < sh.cores
@@ -70,14 +68,6 @@ marks-moved sh gs c d t l v o y cl alone mine free h = record {
 
 -- a core takes its grant
 
-is_mine : (u : ℕ) → num (passes (Grants u) (TidGrant u)) ≡ 1
-unfolding passes
-is_mine u = grind (arith, nat_tests)
-
-not_mine : (u t : ℕ) → (u ≡ t → ⊥) → num (passes (Grants t) (TidGrant u)) ≡ 0
-unfolding passes
-not_mine u t n = let b : (u == t) ≡ false = grind (arith, nat_tests) in rw b refl
-
 granted-here : (sh : Shape) (gs : List Grant) (c d u l k : ℕ) (v : Pair) (o : Out) → slice_index_or v.grants k None ≡ Some (TidGrant u) → num (nat_le v.next u) + live (Grants u) v.grants ≤ 1 → Contains gs (record { tid = u; core = c }) → Granting sh u d u l o → MarksOf sh gs c d u l v → MarksOf sh gs c d u l (after_move (grant_taken v k) o d)
 unfolding marks_of
 granted-here sh gs c d u l k v o i one mine y h = record {
@@ -114,7 +104,7 @@ pub is-skip : (u : ℕ) → num (passes (Skips u) (Skip u)) ≡ 1
 unfolding passes
 is-skip u = grind (arith, nat_tests)
 
-is-mark : (t a b : ℕ) → num (passes (MarkOf t a) (Mark a b t)) ≡ 1
+pub is-mark : (t a b : ℕ) → num (passes (MarkOf t a) (Mark a b t)) ≡ 1
 unfolding passes
 is-mark t a b = grind (arith, nat_tests)
 

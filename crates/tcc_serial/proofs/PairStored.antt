@@ -29,6 +29,7 @@ use Rattle.tcc_serial.proofs.CommitMasks.{Storing, StoresAll}
 use Rattle.tcc_serial.proofs.DirMarks.{Marked}
 use Rattle.tcc_serial.proofs.PairCounts.{none-sent, marks-stay}
 use Rattle.tcc_serial.proofs.MasksKept.{wrong-few, wrong-falls}
+use Rattle.tcc_serial.proofs.Nums.{num-few}
 
 -- a further commit in the list
 
@@ -140,10 +141,6 @@ stored-granted sh cs c d t k v o f z h = record {
 
 -- a directory answers
 
-one-or-none : (b : Bool) → num b ≤ 1
-one-or-none true = omega arith
-one-or-none false = omega arith
-
 pub stored-answered : (sh : Shape) (gs : List Grant) (cs : List Noted) (j d t : ℕ) (v : Pair) (m : Msg) (s : DirState) (ms : List Msg) (k : Link) → Marked v.dir m s
     → ((x : Kind) → live x k ≤ live x v.out)
     → ((l : ℕ) → Contains gs (record { tid = t; core = j }) → live (MarkOf t l) k + num (passes (MarkOf t l) m) ≡ live (MarkOf t l) v.out)
@@ -172,7 +169,7 @@ stored-answered sh gs cs j d t v m s ms k y less ones wrongs skip nonempty ahead
       where
         stays : (l q : ℕ) → 1 ≤ live (Resolves t) k → Contains gs (record { tid = t; core = j }) → j < sh.cores → d < sh.dirs → MarkedWith t l q v → MarkedWith t l q (after_answer (record v { out = k }) s ms)
         stays l q a b jl dl w = record {
-          one = marks-stay sh d t l v m s ms k y (ones l b) (skip l) nonempty (ahead jl dl a) (omega (arith, w.one, one-or-none (nat_lt 0 q))) ∙ w.one;
+          one = marks-stay sh d t l v m s ms k y (ones l b) (skip l) nonempty (ahead jl dl a) (omega (arith, w.one, num-few (nat_lt 0 q))) ∙ w.one;
           right = wrong-falls v.dir s m t l q (live (MarkMask t l q) v.out) (live (MarkMask t l q) k) y (wrongs l q b) (skip l) (w.right);
         }
 

@@ -25,7 +25,7 @@ use Rattle.tcc_serial.specs.Owners.{Grant, granted_by, holder, KeptOwners}
 use Rattle.tcc_serial.specs.Pairs.{Pair, pair}
 use Rattle.tcc_serial.proofs.CoreProbing.{Unprobed, unprobed-steady, unprobed-exec, unprobed-evict, unprobed-hurt, granted, none-marks, none-to}
 use Rattle.tcc_serial.proofs.CoreSteps.{fill-steady, data-steady, invalidate-cases, Replied, Ignored, Probed, Left_alone, reply-cases}
-use Rattle.tcc_serial.proofs.DirProbing.{RepliesBy, dir-replies}
+use Rattle.tcc_serial.proofs.DirProbing.{RepliesBy, dir-replies, none-replied}
 use Rattle.tcc_serial.proofs.Links.{live-sends, live-takes}
 use Rattle.tcc_serial.proofs.PairFrames.{pairs_move, pairs_grant, pairs_back, pairs_dir, pairs_asks, pairs_vendor}
 use Rattle.tcc_serial.proofs.StepCases.{OfAnswer, step_cases}
@@ -72,10 +72,6 @@ back-quiet sh e s (Abort t) = tt
 back-quiet sh e s (WriteBack l m ws t) = tt
 back-quiet sh e s (Flush l m ws t) = tt
 back-quiet sh e s (InvAck l b) = tt
-
-none-replied : (t : ℕ) → among (Replies t) [] ≡ 0
-unfolding among
-none-replied t = refl
 
 -- a grant that is taken was on its way to this core
 taken-granted : (sh : Shape) (gs : List Grant) (w : World) (cs : List Noted) (c k u : ℕ) → KeptOwners sh gs w cs → in_flight w.net Vendor (Core c) k ≡ Some (TidGrant u) → Contains gs (record { tid = u; core = c })

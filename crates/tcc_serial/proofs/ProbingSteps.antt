@@ -1,12 +1,12 @@
 -- Every event keeps that one probe or reply is in flight for each directory that owes one, and so does every run.
-use Rattle.std.specs.Prelude.{ℕ, ◌+◌, ◌≡◌, ◌<◌, ◌≤◌, ◌==◌, Bool, true, false, List, [], ◌∷◌, Option, Some, None, IfSome, nat_le, slice_index_or, if◌then◌else◌}
+use Rattle.std.specs.Prelude.{ℕ, ◌+◌, ◌≡◌, ◌≤◌, ◌==◌, Bool, true, false, List, [], ◌∷◌, Option, Some, None, IfSome, nat_le, slice_index_or, if◌then◌else◌}
 use Rattle.std.proofs.Common.{arith, refl, sym, ap, subst, ◌∙◌, ◌⊎◌, inl, inr}
 use Rattle.std.proofs.lemmas.Bool.{cases_eq}
 use Rattle.std.proofs.lemmas.Bool.Decides.{nat_tests}
 use Rattle.tcc_base.specs.Put.{put}
 use Rattle.tcc_program.specs.Program.{Program}
 use Rattle.tcc_maps.specs.Words.{num}
-use Rattle.tcc_maps.specs.Nodes.{Core, Dir, Vendor, Event, Msg, TidReq, TidGrant, LoadReq, Fill, Skip, Probe, ProbeReply, Mark, Commit, Abort, WriteBack, Flush, DataReq, Inv, InvAck}
+use Rattle.tcc_maps.specs.Nodes.{Core, Dir, Event, Msg, TidReq, TidGrant, LoadReq, Fill, Skip, Probe, ProbeReply, Mark, Commit, Abort, WriteBack, Flush, DataReq, Inv, InvAck}
 use Rattle.tcc_maps.specs.Shape.{Shape}
 use Rattle.tcc_rules.specs.State.{CoreState, DirState, World, Phase, Running, AwaitTid, DoomedTid, Probing, Ready, Overflowing, Solo, Halted}
 use Rattle.tcc_rules.specs.Links.{in_flight}
@@ -18,35 +18,28 @@ use Rattle.tcc_rules.specs.CoreDeliver.{from_dir, grant, probe_reply, all_replie
 use Rattle.tcc_rules.specs.DirDeliver.{Answer, Waits, Drops, Asks, Takes, dir_deliver}
 use Rattle.tcc_rules.specs.Step.{core_moves, core_takes, dir_takes, step}
 use Rattle.tcc_serial.specs.Count.{Grants, Probes, Replies, live, among, passes}
-use Rattle.tcc_serial.specs.Pairs.{Pair, pair, after_move, grant_taken, back_taken, after_answer, out_taken, after_grant, after_other_grant, share}
+use Rattle.tcc_serial.specs.Pairs.{Pair, pair, after_move, grant_taken, back_taken, after_answer, out_taken, after_grant, after_other_grant}
 use Rattle.tcc_serial.specs.Tids.{has_tid}
 use Rattle.tcc_base.specs.declared.access.Commit.{Commit as Noted}
 use Rattle.tcc_serial.specs.Kept.{Kept}
 use Rattle.tcc_serial.specs.OneCore.{OneCore, KeptCores}
-use Rattle.tcc_serial.specs.Owners.{Grant, holder, KeptOwners}
+use Rattle.tcc_serial.specs.Owners.{Grant, KeptOwners}
 use Rattle.tcc_serial.proofs.StepCases.{OfAnswer, step_cases}
 use Rattle.tcc_serial.proofs.KeptSteps.{core_of_grant}
-use Rattle.tcc_serial.proofs.TidSteps.{granted_waits}
+use Rattle.tcc_serial.proofs.TidSteps.{granted_waits, is_mine, not_mine}
 use Rattle.tcc_serial.specs.Probing.{ProbingOf, KeptProbing}
-use Rattle.tcc_serial.proofs.Links.{live-sends, live-takes, total-le}
+use Rattle.tcc_serial.proofs.Links.{live-sends, live-takes}
 use Rattle.tcc_serial.proofs.PairFrames.{pairs_move, pairs_grant, pairs_back, pairs_dir, pairs_asks, pairs_vendor}
 use Rattle.tcc_serial.proofs.CoreSteps.{fill-steady, data-steady, invalidate-cases, Replied, Ignored, Probed, Left_alone, reply-cases}
 use Rattle.tcc_serial.proofs.CoreProbing.{Unprobed, unprobed-steady, unprobed-exec, unprobed-evict, unprobed-hurt, Granted, granted, none-marks, none-to}
-use Rattle.tcc_serial.proofs.DirProbing.{Replying, RepliesBy, dir-replies}
+use Rattle.tcc_serial.proofs.DirProbing.{Replying, RepliesBy, dir-replies, none-replied}
+use Rattle.tcc_serial.proofs.OwnerSteps.{grant-alone}
 
 probing-moved : (v : Pair) (o : Out) (d t : ℕ) → Unprobed v.core o → ProbingOf d t v → ProbingOf d t (after_move v o d)
 probing-moved v o d t y h = record {
   fresh = λ l. omega (arith, h.fresh l, live-sends (Probes t) v.out (o.sends (Dir d)), y.sent d t);
   held = λ k. let x = y.kept d t k in let q : num (o.core.owing d) ≡ num (v.core.owing d) = ap num (x.1) in omega (arith, h.held (x.0), live-sends (Probes t) v.out (o.sends (Dir d)), y.sent d t);
 }
-
-is_mine : (u : ℕ) → num (passes (Grants u) (TidGrant u)) ≡ 1
-unfolding passes
-is_mine u = grind (arith, nat_tests)
-
-not_mine : (u t : ℕ) → (u ≡ t → ⊥) → num (passes (Grants t) (TidGrant u)) ≡ 0
-unfolding passes
-not_mine u t n = let b : (u == t) ≡ false = grind (arith, nat_tests) in rw b refl
 
 -- a core takes its grant, which is the only one of its TID
 probing-granted : (v : Pair) (o : Out) (d t k u : ℕ) → slice_index_or v.grants k None ≡ Some (TidGrant u) → num (nat_le v.next u) + live (Grants u) v.grants ≤ 1 → Granted u o → ProbingOf d u v → ProbingOf d t v → ProbingOf d t (after_move (grant_taken v k) o d)
@@ -190,15 +183,6 @@ probing-next v d t h = record {
   held = h.held;
 }
 
--- a grant in flight is the only one of its TID
-only_grant : (sh : Shape) (gs : List Grant) (w : World) (cs : List Noted) (c u : ℕ) → KeptOwners sh gs w cs → c < sh.cores → num (nat_le w.next u) + live (Grants u) (w.net Vendor (Core c)) ≤ 1
-unfolding share holder pair
-only_grant sh gs w cs c u k l = omega (arith, k.once u, total-le (share (holder u) w 0) sh.cores c l)
-
-none : (t : ℕ) → among (Replies t) [] ≡ 0
-unfolding among
-none t = refl
-
 no-reply_fill : (l : ℕ) (ws : List ℕ) (t : ℕ) → passes (Replies t) (Fill l ws) ≡ false
 unfolding passes
 no-reply_fill l ws t = refl
@@ -223,7 +207,7 @@ unfolding pair
 step-probing sh p gs w cs e z y x h = step_cases sh p w e (λ g o. KeptProbing o.world)
     (λ c l. moved c (core_exec sh p c (w.cores c)) (unprobed-exec sh p c (w.cores c)))
     (λ c a b l. moved c (core_evict sh a b (w.cores c)) (unprobed-evict sh a b (w.cores c)))
-    (λ c k u i. pairs_grant P w c k (grant sh u (w.cores c)) (λ d t. probing-granted (pair w c d) (grant sh u (w.cores c)) d t k u i (only_grant sh gs w cs c u y (core_of_grant sh w c k (TidGrant u) z.told.tids i)) (granted sh u (w.cores c) (granted_waits (pair w c d) k u i (z.told.tids.requests c d))) (h c d u) (h c d t)) h)
+    (λ c k u i. pairs_grant P w c k (grant sh u (w.cores c)) (λ d t. probing-granted (pair w c d) (grant sh u (w.cores c)) d t k u i (grant-alone sh gs w cs c u y (core_of_grant sh w c k (TidGrant u) z.told.tids i)) (granted sh u (w.cores c) (granted_waits (pair w c d) k u i (z.told.tids.requests c d))) (h c d u) (h c d t)) h)
     (λ c d k m i. taken c d k m i)
     (λ c d k m i. answered c d k m i (dir_deliver sh (w.dirs d) c m) (dir-replies sh (w.dirs d) c m))
     (λ c k i. pairs_vendor P w c k (λ d t. probing-given (pair w c d) k d t (h c d t)) (λ j d n t. probing-next (pair w j d) d t (h j d t)))
@@ -265,6 +249,6 @@ step-probing sh p gs w cs e z y x h = step_cases sh p w e (λ g o. KeptProbing o
 
     answered : (c d k : ℕ) (m : Msg) → in_flight w.net (Core c) (Dir d) k ≡ Some m → (a : Answer) → RepliesBy m c a → OfAnswer w c d k (λ v. KeptProbing v) a
     answered c d k m i Waits u = tt
-    answered c d k m i Drops u = dir c d k m (w.dirs d) (λ dst. []) i (record { own = λ t. none t ∙ sym (u t); others = λ j t n. none t })
+    answered c d k m i Drops u = dir c d k m (w.dirs d) (λ dst. []) i (record { own = λ t. none-replied t ∙ sym (u t); others = λ j t n. none-replied t })
     answered c d k m i (Asks s sends) u = pairs_asks P w d s sends (λ j t. probing-answered (pair w j d) s (sends (Core j)) d t (u j t) (h j d t)) h
     answered c d k m i (Takes s sends) u = dir c d k m s sends i u

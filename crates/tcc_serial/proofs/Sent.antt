@@ -1,5 +1,5 @@
 -- How many messages of a kind a rule sends.
-use Rattle.std.specs.Prelude.{ℕ, ◌+◌, ◌≡◌, ◌<◌, ◌≤◌, Bool, true, false, List, [], ◌∷◌, ◌++◌, ◌==◌, ◌&&◌, nat_lt, if◌then◌else◌}
+use Rattle.std.specs.Prelude.{ℕ, zero, suc, ◌+◌, ◌≡◌, ◌<◌, ◌≤◌, Bool, true, false, List, [], ◌∷◌, ◌++◌, ◌==◌, ◌&&◌, nat_lt, if◌then◌else◌}
 use Rattle.std.specs.List.{flat_map}
 use Rattle.std.proofs.Common.{arith, refl}
 use Rattle.std.proofs.lemmas.Bool.Decides.{nat_tests}
@@ -12,21 +12,25 @@ use Rattle.tcc_rules.specs.Sends.{skip_all, probe_all, abort_written, marks_for}
 use Rattle.tcc_rules.specs.Commit.{commit_sends, solo_sends, solo_marks, solo_backs, solo_writes_at, is_written, written_mask}
 use Rattle.tcc_rules.specs.CoreDeliver.{grant_sends}
 use Rattle.tcc_serial.specs.Count.{Kind, Resolves, Protocol, among, passes}
-use Rattle.tcc_serial.proofs.Links.{among-append}
+use Rattle.tcc_serial.proofs.Links.{among-append, among-fewer}
 
 pub among-flat_map_none : (k : Kind) (f : ℕ → List Msg) → ((l : ℕ) → among k (f l) ≡ 0) → (xs : List ℕ) → among k (flat_map f xs) ≡ 0
 unfolding among
 among-flat_map_none k f h [] = refl
 among-flat_map_none k f h (x ∷ xs) = omega (arith, among-append k (f x) (flat_map f xs), h x, among-flat_map_none k f h xs)
 
+-- of no line nothing
+pub those-none : (p : ℕ → Bool) (n : ℕ) → ((k : ℕ) → p k ≡ false) → those p n ≡ []
+unfolding those
+those-none p zero h = refl
+those-none p (suc n) h = rw (those-none p n h, h n) refl
+
 pub passes-protocol : (t : ℕ) (m : Msg) → num (passes (Resolves t) m) ≤ num (passes Protocol m)
 unfolding passes
 passes-protocol t m = grind (arith, nat_tests)
 
 pub among-quiet : (t : ℕ) (ms : List Msg) → among (Resolves t) ms ≤ among Protocol ms
-unfolding among
-among-quiet t [] = omega arith
-among-quiet t (m ∷ ms) = omega (arith, passes-protocol t m, among-quiet t ms)
+among-quiet t ms = among-fewer (Resolves t) Protocol (passes-protocol t) ms
 
 pub resolves-commit_sends : (sh : Shape) (c : Cache) (u d t : ℕ) → d < sh.dirs → among (Resolves t) (commit_sends sh c u (Dir d)) ≡ num ((u == t) && writes_at sh c d)
 unfolding commit_sends among passes

@@ -52,5 +52,5 @@ attempts_sound sh p entries ram gs ys views m h k c b l n bound runs small =
     go (agrees-or sh ram h.world h.commits c b (views c) n (λ d i. k.viewed_word_is_current_or_doomed c d b l i (bound-at h.world c 0 d b bound)))
   where
     go : Agrees (views c) (values_for sh ram h.world h.commits c b) ⊎ Doomed sh h.world c b → SoundOrDoomed sh p ram h.world h.commits c b
-    go (inl a) = inl (follows-in sh p (h.world.cores c) (views c) (h.world.cores c).phase runs ((k.attempt_follows_from_its_view c).steps) (values_for sh ram h.world h.commits c b) small a)
+    go (inl a) = inl (follows-in sh p (h.world.cores c) (views c) (h.world.cores c).phase runs ((k.carried_views.attempt_follows_from_its_view c).steps) (values_for sh ram h.world h.commits c b) small a)
     go (inr d) = inr d

@@ -1,11 +1,10 @@
 -- The start has every invariant of the list.
-use Rattle.std.specs.Prelude.{ℕ, ◌≡◌, ◌≤◌, ◌==◌, ◌&&◌, Bool, true, false, List, [], ◌∷◌, Contains, Some, None}
+use Rattle.std.specs.Prelude.{ℕ, ◌≡◌, false, List, [], ◌∷◌, Some, None}
 use Rattle.std.specs.List.{flat_map}
-use Rattle.std.proofs.Common.{arith, refl, ap, ◌∙◌, inl}
-use Rattle.tcc_base.specs.declared.access.Commit.{Commit as Noted}
+use Rattle.std.proofs.Common.{refl, ap, ◌∙◌, inl}
 use Rattle.tcc_program.specs.Plain.{begun, steps, serial}
 use Rattle.tcc_program.specs.Program.{Local, Program}
-use Rattle.tcc_maps.specs.Words.{num, any_below, any_word}
+use Rattle.tcc_maps.specs.Words.{any_below, any_word}
 use Rattle.tcc_maps.specs.Serving.{is_skipped, first_serving}
 use Rattle.tcc_maps.specs.Shape.{Shape}
 use Rattle.tcc_maps.specs.Cache.{empty_cache}
@@ -24,26 +23,15 @@ use Rattle.tcc_serial.specs.Pairs.{pair}
 use Rattle.tcc_serial.specs.Ways.{first_ways, ways_from}
 use Rattle.tcc_serial.specs.Owners.{grants_from}
 use Rattle.tcc_rules.specs.Step.{run, run_from}
-use Rattle.tcc_serial.specs.Values.{HomeWords, CopiesAbove, UnmodifiedWords, FilledWords, ReadWords, CopiesHave, value_at, after_commits}
+use Rattle.tcc_serial.specs.Values.{HomeWords, CopiesAbove, UnmodifiedWords, FilledWords, CopiesHave, value_at, after_commits}
 use Rattle.tcc_serial.proofs.FromKept.{runs_carry}
 
 -- no core has a TID and nothing is in flight
-
-no-commit : {A : Type 0} → (n : Noted) → Contains [] n → A
-no-commit n c = absurd (omega (arith, c.1))
 
 -- what is proved of every run holds where the run has no event
 start-carried : (sh : Shape) (p : Program) (entries : ℕ → Local) (ram : ℕ → ℕ) → Carried sh [] first_ways (first_state entries ram)
 unfolding run run_from grants_from ways_from
 start-carried sh p entries ram = runs_carry sh p entries ram []
-
-none-marked : (sh : Shape) (entries : ℕ → Local) (ram : ℕ → ℕ) (c d t l : ℕ) → marks_of t l (pair (start entries ram) c d) ≤ 1
-unfolding start dir_start no_lines pair live marks_of
-none-marked sh entries ram c d t l = omega (arith, go (first_serving.serving == t))
-  where
-    go : (b : Bool) → num (b && false) ≤ 1
-    go true = omega arith
-    go false = omega arith
 
 start-follows : (sh : Shape) (p : Program) (local : Local) → Follows sh p (core_start local) []
 unfolding core_start none_spilled empty_cache sees begun steps
@@ -93,10 +81,6 @@ start-filled : (sh : Shape) (entries : ℕ → Local) (ram : ℕ → ℕ) → Fi
 unfolding start pair live
 start-filled sh entries ram c d x a b e f = inl refl
 
-start-read-words : (sh : Shape) (entries : ℕ → Local) (ram : ℕ → ℕ) → ReadWords sh (start entries ram)
-unfolding start core_start empty_cache
-start-read-words sh entries ram c d x b a f g h e = absurd (cc)
-
 -- what is seen
 
 no-copies : (sh : Shape) (entries : ℕ → Local) (ram : ℕ → ℕ) (x c : ℕ) → copies_of sh (start entries ram) x c ≡ []
@@ -127,16 +111,13 @@ pub start_has_all : StartHasAll
 unfolding start core_start dir_start vendor_start empty_cache pair live is_skipped first_serving marks_of no_lines serial plain_start
 start_has_all sh p entries ram = record {
   carried = start-carried sh p entries ram;
+  carried_views = record { attempt_follows_from_its_view = λ c. start-follows sh p (entries c); read_marks_are_the_view = λ c. start-read (entries c) };
   frames_are_of_lines_in_memory = λ c l e. absurd (cc);
-  attempt_follows_from_its_view = λ c. start-follows sh p (entries c);
-  read_marks_are_the_view = λ c. start-read (entries c);
-  marks_name_different_lines = λ c d t l a b. (none-marked sh entries ram c d t l, refl, refl);
   holder_is_a_sharer = start-sharers sh entries ram;
   home_words_are_current = start-home-words sh entries ram;
   copy_above_the_tag_has_the_committed_words = start-copies-above sh entries ram;
   unmodified_word_is_current_or_inv_in_flight = start-unmodified sh entries ram;
   filled_word_is_current_or_inv_in_flight = start-filled sh entries ram;
-  read_mark_is_valid_or_passed = start-read-words sh entries ram;
   viewed_word_is_current_or_doomed = λ c d b a e f. tt;
   commits_are_serial = refl;
   committed_cores_are_serial = start-cores-serial sh entries ram;

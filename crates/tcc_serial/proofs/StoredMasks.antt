@@ -1,18 +1,21 @@
--- The masks of the words that an attempt's stores name are those of the words that are modified or spilled.
-use Rattle.std.specs.Prelude.{ℕ, zero, suc, ◌≡◌, ◌<◌, Bool, true, false, List, ◌==◌, ◌&&◌, ◌||◌, is_some, nat_lt, if◌then◌else◌}
+-- The masks of the words that an attempt's stores name are those of the words that are modified or spilled; so a core stores at a
+-- directory where its stores do.
+use Rattle.std.specs.Prelude.{ℕ, zero, suc, ◌≡◌, ◌<◌, Bool, true, false, List, ◌==◌, ◌&&◌, ◌||◌, Option, None, is_some, nat_lt, if◌then◌else◌}
 use Rattle.std.proofs.Common.{arith, refl, sym, ap, ◌∙◌, ◌⊎◌, inl, inr}
 use Rattle.std.proofs.lemmas.Bool.Decides.{nat_tests}
 use Rattle.tcc_base.specs.declared.access.Stored.{Stored}
 use Rattle.tcc_maps.specs.Words.{num, any_below, any_word, word_at}
 use Rattle.tcc_maps.specs.Masks.{mask_of}
 use Rattle.tcc_maps.specs.Shape.{Shape, home, lines}
-use Rattle.tcc_maps.specs.Cache.{Cache, is_modified, modified_mask}
+use Rattle.tcc_maps.specs.Cache.{Cache, is_modified, modified_mask, writes_at}
 use Rattle.tcc_maps.specs.Spilled.{Spilled, holds}
 use Rattle.tcc_maps.proofs.Numbers.{any_below-found, any_below-at}
-use Rattle.tcc_rules.specs.Commit.{is_written, written_mask}
+use Rattle.tcc_rules.specs.Commit.{is_written, written_mask, solo_writes_at}
+use Rattle.tcc_serial.specs.OneCore.{Words}
 use Rattle.tcc_serial.specs.Stored.{stores_in, stored_mask, stores_at}
 use Rattle.tcc_serial.specs.Uses.{stores_word}
 use Rattle.tcc_serial.proofs.CoreMarks.{some-mask}
+use Rattle.tcc_serial.proofs.Nums.{num-same}
 
 -- a mask has a word exactly where one of its places has p
 no-mask : (p : ℕ → Bool) → ((k : ℕ) → k < 8 → p k ≡ false) → mask_of p ≡ 0
@@ -55,20 +58,19 @@ stored-line sh d ss l = go (nat_lt l (lines sh)) (d == home sh l)
     go true false = refl
     go false b = refl
 
--- where p is of the lines with a stored word, and there is one, there is a stored word
-pub stored-some : (sh : Shape) (d : ℕ) (ss : List Stored) (p : ℕ → Bool) → ((l : ℕ) → num (nat_lt l (lines sh) && p l) ≡ num (nat_lt 0 (stored_mask sh d ss l))) → any_below p (lines sh) ≡ true → stores_at sh d ss ≡ true
+-- where p is of the lines with a stored word, there is one exactly where the directory was stored at
+
+any-same : (p q : ℕ → Bool) (n : ℕ) → ((l : ℕ) → l < n → p l ≡ q l) → any_below p n ≡ any_below q n
+unfolding any_below
+any-same p q zero h = refl
+any-same p q (suc n) h = rw (any-same p q n (λ l i. h l (omega (arith, i))), h n (omega arith)) refl
+
+pub stored-any : (sh : Shape) (d : ℕ) (ss : List Stored) (p : ℕ → Bool) → ((l : ℕ) → num (nat_lt l (lines sh) && p l) ≡ num (nat_lt 0 (stored_mask sh d ss l))) → any_below p (lines sh) ≡ stores_at sh d ss
 unfolding stores_at
-stored-some sh d ss p h e = any_below-at (λ l. nat_lt 0 (stored_mask sh d ss l)) (lines sh) r.0 (r.1) (one (nat_lt 0 (stored_mask sh d ss r.0)) (sym (h r.0) ∙ here))
+stored-any sh d ss p h = any-same p (λ l. nat_lt 0 (stored_mask sh d ss l)) (lines sh) one
   where
-    r : (l : ℕ) × (l < lines sh) × (p l ≡ true)
-    r = any_below-found p (lines sh) e
-
-    here : num (nat_lt r.0 (lines sh) && p r.0) ≡ 1
-    here = let b : nat_lt r.0 (lines sh) ≡ true = (let x = r.1 in grind (arith, nat_tests)) in rw (b, r.2) refl
-
-    one : (b : Bool) → num b ≡ 1 → b ≡ true
-    one true x = refl
-    one false x = absurd (omega (arith, x))
+    one : (l : ℕ) → l < lines sh → p l ≡ nat_lt 0 (stored_mask sh d ss l)
+    one l i = let b : nat_lt l (lines sh) ≡ true = grind (arith, nat_tests) in num-same (p l) (nat_lt 0 (stored_mask sh d ss l)) (rw b at (h l))
 
 -- where just the words that the stores name are modified
 
@@ -98,3 +100,20 @@ stored-cases sh d ss l = go (nat_lt l (lines sh) && d == home sh l)
     go : (b : Bool) → ((if b then stores_in sh.base ss l else 0) ≡ stores_in sh.base ss l) ⊎ ((if b then stores_in sh.base ss l else 0) ≡ 0)
     go true = inl refl
     go false = inr refl
+
+-- where a core stores
+
+pub stored-solo : (sh : Shape) (c : Cache) (sp : Spilled) (ss : List Stored) (d : ℕ) → ((w : ℕ) → (c.modified w || is_some (sp w)) ≡ stores_word sh.base ss w) → solo_writes_at sh c sp d ≡ stores_at sh d ss
+unfolding solo_writes_at
+stored-solo sh c sp ss d h = ap {A = ℕ → Bool} (λ f. any_below (λ l. d == home sh l && f l) (lines sh)) (λ i l. written-line sh.base c sp ss l h i) ∙ stored-any sh d ss (λ l. d == home sh l && any_word (stores_word sh.base ss) l) (stored-line sh d ss)
+
+-- one that isn't alone has spilled nothing
+pub unspilled : (sh : Shape) (c : Cache) (sp : Spilled) (ss : List Stored) → Words sh false c sp ss → (w : ℕ) → c.modified w ≡ stores_word sh.base ss w
+unspilled sh c sp ss h w = none (sp w) (c.modified w) (h.spilled_alone refl w) ∙ h.named w
+  where
+    none : (x : Option ℕ) (b : Bool) → x ≡ None → b ≡ (b || is_some x)
+    none x b e = rw e (grind arith)
+
+pub stored-written : (sh : Shape) (c : Cache) (sp : Spilled) (ss : List Stored) (d : ℕ) → Words sh false c sp ss → writes_at sh c d ≡ stores_at sh d ss
+unfolding writes_at
+stored-written sh c sp ss d h = ap {A = ℕ → Bool} (λ f. any_below (λ l. d == home sh l && f l) (lines sh)) (λ i l. modified-line sh.base c ss l (unspilled sh c sp ss h) i) ∙ stored-any sh d ss (λ l. d == home sh l && any_word (stores_word sh.base ss) l) (stored-line sh d ss)

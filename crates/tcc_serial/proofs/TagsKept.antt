@@ -25,13 +25,13 @@ use Rattle.tcc_serial.specs.Kept.{KeptAll, KeptRun}
 use Rattle.tcc_serial.specs.Pairs.{pair}
 use Rattle.tcc_serial.specs.Owners.{Grant}
 use Rattle.tcc_serial.specs.Standing.{is_settled, is_applied, CommitsStand}
-use Rattle.tcc_serial.specs.Stored.{stored_mask, SettledCommit}
+use Rattle.tcc_serial.specs.Stored.{stored_mask, stores_at, SettledCommit}
 use Rattle.tcc_serial.specs.Uses.{stores_word}
 use Rattle.tcc_serial.specs.Ways.{Ways}
-use Rattle.tcc_serial.specs.Wrote.{stores_at, stores_line, last_of}
+use Rattle.tcc_serial.specs.Wrote.{stores_line, last_of}
 use Rattle.tcc_serial.proofs.AfterKept.{last-insert}
 use Rattle.tcc_serial.proofs.Commits.{granted-once}
-use Rattle.tcc_serial.proofs.CoreTells.{num-same}
+use Rattle.tcc_serial.proofs.Nums.{num-same}
 use Rattle.tcc_serial.proofs.DirOwes.{CountsMarked}
 use Rattle.tcc_serial.proofs.DirRecords.{NoCommit, Records, Still, Came, Settles, RecordsBy, dir-records}
 use Rattle.tcc_serial.proofs.KeptSteps.{core_of_out}
@@ -119,10 +119,18 @@ tag-step sh p w e = step_cases sh p w e (λ g o. TagStep sh w o)
     answered c d k m i (Asks s sends) u = Heard refl (λ e l. same-tags d e l s (u.tags)) (λ t j e. refl)
     answered c d k m i (Takes s sends) u = takes c d k m s sends i u
 
+-- the mask of a commit in a line at home has a word where the commit stored in the line
+pub stored-in : (sh : Shape) (d l : ℕ) (n : Noted) → l < lines sh → home sh l ≡ d → stores_line sh.base n.stores l ≡ nat_lt 0 (stored_mask sh d n.stores l)
+unfolding stores_line
+stored-in sh d l n i e =
+    let a : nat_lt l (lines sh) ≡ true = grind (arith, nat_tests) in
+    let b : (d == home sh l) ≡ true = rw e (grind (arith, nat_tests)) in
+    num-same (any_word (stores_word sh.base n.stores) l) (nat_lt 0 (stored_mask sh d n.stores l)) (rw (a, b) at (stored-line sh d n.stores l))
+
 -- a commit that stored in a line stored at the line's home
-pub stored-home : (sh : Shape) (d l : ℕ) (n : Noted) → l < lines sh → home sh l ≡ d → stores_line sh.base n.stores l ≡ true → stores_at sh n.stores d ≡ true
-unfolding stores_line stores_at
-stored-home sh d l n i e s = any_below-at (λ k. d == home sh k && any_word (stores_word sh.base n.stores) k) (lines sh) l i (let q : (d == home sh l) ≡ true = rw e (grind (arith, nat_tests)) in rw (q, s) refl)
+pub stored-home : (sh : Shape) (d l : ℕ) (n : Noted) → l < lines sh → home sh l ≡ d → stores_line sh.base n.stores l ≡ true → stores_at sh d n.stores ≡ true
+unfolding stores_at
+stored-home sh d l n i e s = any_below-at (λ k. nat_lt 0 (stored_mask sh d n.stores k)) (lines sh) l i (sym (stored-in sh d l n i e) ∙ s)
 
 -- tests of a commit that stored in a line or not
 same-test : (a b s : Bool) → (s ≡ true → a ≡ b) → (a && s) ≡ (b && s)
@@ -133,11 +141,11 @@ same-test false true false h = refl
 same-test false false false h = refl
 
 -- where no directory changes, a commit is settled as before, and a new one isn't
-unheard-tags : (sh : Shape) (w v : World) (cs : List Noted) (a : Option Noted) → CommitsStand sh w cs → CommitsStand sh v (and_noted a cs) → v.dirs ≡ w.dirs → ((n : Noted) (d : ℕ) → a ≡ Some n → d < sh.dirs → stores_at sh n.stores d ≡ true → is_applied (w.dirs d) n.tid.0 ≡ false) → KeptTags sh w cs → KeptTags sh v (and_noted a cs)
+unheard-tags : (sh : Shape) (w v : World) (cs : List Noted) (a : Option Noted) → CommitsStand sh w cs → CommitsStand sh v (and_noted a cs) → v.dirs ≡ w.dirs → ((n : Noted) (d : ℕ) → a ≡ Some n → d < sh.dirs → stores_at sh d n.stores ≡ true → is_applied (w.dirs d) n.tid.0 ≡ false) → KeptTags sh w cs → KeptTags sh v (and_noted a cs)
 unfolding settled_in_line is_settled
 unheard-tags sh w v cs a b z e f h d l dl i q = rw e (h d l dl i q ∙ go a refl)
   where
-    here : (x : Noted) → stores_line sh.base x.stores l ≡ true → stores_at sh x.stores d ≡ true
+    here : (x : Noted) → stores_line sh.base x.stores l ≡ true → stores_at sh d x.stores ≡ true
     here x s = stored-home sh d l x i q s
 
     one : (x : Noted) → Contains cs x → settled_in_line sh v d l x ≡ settled_in_line sh w d l x
@@ -178,14 +186,6 @@ applied-served s t l = go (nat_lt t s.serving.serving) (t == s.serving.serving) 
     go true b p q e = grind (arith, nat_tests)
     go false true p q e = grind (arith, nat_tests)
     go false false p q e = absurd (omega (arith, e, l))
-
--- the mask of a commit in a line at home has a word where the commit stored in the line
-pub stored-in : (sh : Shape) (d l : ℕ) (n : Noted) → l < lines sh → home sh l ≡ d → stores_line sh.base n.stores l ≡ nat_lt 0 (stored_mask sh d n.stores l)
-unfolding stores_line
-stored-in sh d l n i e =
-    let a : nat_lt l (lines sh) ≡ true = grind (arith, nat_tests) in
-    let b : (d == home sh l) ≡ true = rw e (grind (arith, nat_tests)) in
-    num-same (any_word (stores_word sh.base n.stores) l) (nat_lt 0 (stored_mask sh d n.stores l)) (rw (a, b) at (stored-line sh d n.stores l))
 
 -- a Commit that a directory takes is of a commit of the served TID, by the core that sent it
 pub record TakenCommit (sh : Shape) (cs : List Noted) (w : World) (c d : ℕ) : Type 0 where
@@ -229,7 +229,7 @@ unfolding is_settled
 none-sent w d x y = grind (arith, nat_tests)
 
 -- the commit is settled once its Commit is taken
-settled-now : (sh : Shape) (cs : List Noted) (w v : World) (c d : ℕ) (m : Msg) → CommitsStand sh w cs → d < sh.dirs → CountsMarked sh (w.dirs d) m → Consumes w c d m v → (t : TakenCommit sh cs w c d) → stores_at sh t.settled.commit.stores d ≡ true → is_settled v d t.settled.commit ≡ true
+settled-now : (sh : Shape) (cs : List Noted) (w v : World) (c d : ℕ) (m : Msg) → CommitsStand sh w cs → d < sh.dirs → CountsMarked sh (w.dirs d) m → Consumes w c d m v → (t : TakenCommit sh cs w c d) → stores_at sh d t.settled.commit.stores ≡ true → is_settled v d t.settled.commit ≡ true
 unfolding is_settled passes
 settled-now sh cs w v c d m a dl q b t st =
     let x = t.settled.commit in
@@ -292,7 +292,7 @@ taken-tags sh cs w v c d m a t q g b h e l el i k = go (cases_eq e d)
     go (inl p) = subst (λ e. (v.dirs e).lines.tag l ≡ last_of (settled_in_line sh v e l) cs) (sym p) (let dl = rw p at el in let y : (d == d) ≡ true = grind (arith, nat_tests) in taken-here sh cs w v c d l m a dl i (k ∙ p) q b (t dl) (rw y at (g d l)) (h d l dl i (k ∙ p)))
     go (inr p) = let y : (e == d) ≡ false = grind (arith, nat_tests) in (rw y at (g e l)) ∙ h e l el i k ∙ sym (last-same (settled_in_line sh v e l) (settled_in_line sh w e l) cs (λ x j. rw (still-settled w v c d m x e b (inl (rw y (and-false (x.core.0 == c))))) refl))
 
-pub tags-out : (sh : Shape) (gs : List Grant) (ys : Ways) (h : History) (o : Stepped) → KeptRun sh gs ys h → CommitsStand sh o.world (and_noted o.noted h.commits) → ((n : Noted) (d : ℕ) → o.noted ≡ Some n → d < sh.dirs → stores_at sh n.stores d ≡ true → is_applied (h.world.dirs d) n.tid.0 ≡ false) → KeptTags sh h.world h.commits → TagStep sh h.world o → KeptTags sh o.world (and_noted o.noted h.commits)
+pub tags-out : (sh : Shape) (gs : List Grant) (ys : Ways) (h : History) (o : Stepped) → KeptRun sh gs ys h → CommitsStand sh o.world (and_noted o.noted h.commits) → ((n : Noted) (d : ℕ) → o.noted ≡ Some n → d < sh.dirs → stores_at sh d n.stores ≡ true → is_applied (h.world.dirs d) n.tid.0 ≡ false) → KeptTags sh h.world h.commits → TagStep sh h.world o → KeptTags sh o.world (and_noted o.noted h.commits)
 tags-out sh gs ys h o k z f t (Unheard e) = unheard-tags sh h.world o.world h.commits o.noted (on-its-way sh gs ys h k) z e f t
 tags-out sh gs ys h o k z f t (Heard n g y) = rw n (heard-tags sh h.world o.world h.commits g y t)
 tags-out sh gs ys h o k z f t (Taken c d i m n j q g b) = rw n (taken-tags sh h.commits h.world o.world c d m (on-its-way sh gs ys h k) (λ dl. taken-commit sh gs h c d i m (k.all) dl j q) q g b t)

@@ -33,10 +33,16 @@ pub any-one : (l : Link) (i : ℕ) (m : Msg) → slice_index_or l i None ≡ Som
 unfolding passes
 any-one l i m e = live-some Any l i m e
 
--- a core that a message comes from or goes to is one of the machine
-abbrev Inside : (c : ℕ) → Shape → Type 0
-Inside c sh = c < sh.cores
+-- a grant is one of its TID, and of no other
+pub is_mine : (u : ℕ) → num (passes (Grants u) (TidGrant u)) ≡ 1
+unfolding passes
+is_mine u = grind (arith, nat_tests)
 
+pub not_mine : (u t : ℕ) → (u ≡ t → ⊥) → num (passes (Grants t) (TidGrant u)) ≡ 0
+unfolding passes
+not_mine u t n = let b : (u == t) ≡ false = grind (arith, nat_tests) in rw b refl
+
+-- a core that a message comes from or goes to is one of the machine
 pub inside_from : (sh : Shape) (c n : ℕ) → (sh.cores ≤ c → n ≡ 0) → 1 ≤ n → c < sh.cores
 inside_from sh c n h l = go (cases_lt c sh.cores)
   where

@@ -120,9 +120,6 @@ same_loaded : (base : ℕ) (ram other : ℕ → ℕ) (addr : ℕ) (size : Size) 
 unfolding loaded
 same_loaded base ram other addr size e = rw e refl
 
-with_ram : Attempt → (ℕ → ℕ) → Attempt
-with_ram a ram = record a { ram = ram }
-
 follow_step : (base : ℕ) (p : Program) (here there : ℕ → ℕ) (a : Attempt) (ram : ℕ → ℕ) (need : Need) → Apart base here there a ram
     → IsMemory here → IsMemory there → AlignedNeed need
     → ((w : ℕ) → reads_word base need w ≡ true → ram w ≡ a.ram w)

@@ -22,6 +22,7 @@ use Rattle.tcc_serial.proofs.Links.{total-le, total-zero}
 use Rattle.tcc_serial.proofs.ListedCommits.{positive-granted}
 use Rattle.tcc_serial.proofs.RunWays.{told_from}
 use Rattle.tcc_serial.proofs.WayParts.{parts_in, resolved-split, in-way}
+use Rattle.tcc_serial.proofs.Nums.{num-one}
 
 -- untold where it is open
 
@@ -70,10 +71,6 @@ pub untold_is_live : AlwaysTold UntoldIsLive
 untold_is_live = told_from UntoldIsLive (λ sh gs ys h k d t l p m e. untold-live sh h.world d t (ys d t) (k.ways d t l p) e m)
 
 -- the kind of a message fits the way
-
-num-one : (b : Bool) → 1 ≤ num b → b ≡ true
-num-one true h = refl
-num-one false h = absurd (omega arith)
 
 -- a core's part is one of the places of its way
 fits : (sh : Shape) (w : World) (c d t : ℕ) (y z : Way) → c < sh.cores → 1 ≤ part_in z sh d t (pair w c d) → ResolvedAt sh w d t → WayAt sh w d t y → y ≡ z

@@ -29,7 +29,7 @@ use Rattle.tcc_serial.specs.Worked.{LoadsMarked, KeptLoads, loads_at, worked_at,
 use Rattle.tcc_serial.proofs.ByCore.{ByCore, Still, Moved, by_core}
 use Rattle.tcc_serial.proofs.CoreLoads.{loads-exec, loads-evict}
 use Rattle.tcc_serial.proofs.CoreLoadsTakes.{loads-grant, loads-back}
-use Rattle.tcc_serial.proofs.CoreTells.{stored-written}
+use Rattle.tcc_serial.proofs.StoredMasks.{stored-written}
 use Rattle.tcc_serial.proofs.DirProbes.{RisesBy, dir-rises}
 use Rattle.tcc_serial.proofs.Executes.{Acts, Steady, Executed, Goes_on, Overflows, Asks_tid, Alone, executed}
 use Rattle.tcc_serial.proofs.CoreSteps.{evict-steady, fill-steady, data-steady, invalidate-cases, Replied, Ignored, Probed, Left_alone, reply-cases}

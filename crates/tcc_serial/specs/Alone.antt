@@ -1,12 +1,12 @@
 -- What holds of one core by itself, fact by fact.
-use Rattle.std.specs.Prelude.{ℕ, ◌≡◌, ◌<◌, ◌≤◌, Bool, true, false, ◌==◌, ◌||◌, [], ◌∷◌, None, is_some}
+use Rattle.std.specs.Prelude.{ℕ, ◌≡◌, ◌<◌, ◌≤◌, true, false, ◌||◌, None, is_some}
 use Rattle.tcc_maps.specs.Words.{any_below, line_of}
 use Rattle.tcc_maps.specs.Shape.{Shape}
 use Rattle.tcc_maps.specs.Cache.{Cache, writes_at, reads_at}
 use Rattle.tcc_rules.specs.Attempt.{is_solo}
 use Rattle.tcc_rules.specs.State.{CoreState}
 use Rattle.tcc_attempt.specs.Follows.{Uses}
-use Rattle.tcc_attempt.specs.Marks.{UsesStand}
+use Rattle.tcc_attempt.specs.Marks.{UsesStand, is_used}
 use Rattle.tcc_serial.specs.OneCore.{awaits_replies, rests, Empty}
 use Rattle.tcc_serial.specs.Probes.{asks_dir}
 
@@ -27,11 +27,6 @@ pub record PhaseFits (s : CoreState) : Type 0 where
   pub spilled : is_solo s.phase ≡ false → (x : ℕ) → s.spilled x ≡ None
   pub unread : is_solo s.phase ≡ true → (x : ℕ) → s.cache.read x ≡ false
   pub rested : rests s.phase ≡ true → Empty s
-
--- a word of the uses
-unfoldable pub is_used : Uses → (word : ℕ) → Bool
-is_used [] x = false
-is_used (u ∷ us) x = (u.0 == x) || is_used us x
 
 -- until the core is alone the words marked read are those of the view, and such a word that isn't modified has the view's value
 -- while it is valid

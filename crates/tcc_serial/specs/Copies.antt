@@ -11,7 +11,8 @@ use Rattle.tcc_serial.specs.Count.{LoadOf, LoadNot, FillOf, Commits, CopyOf, Cop
 use Rattle.tcc_serial.specs.Owners.{Grant}
 use Rattle.tcc_serial.specs.Pairs.{Pair, pair}
 use Rattle.tcc_serial.specs.Standing.{is_settled, is_this}
-use Rattle.tcc_serial.specs.Wrote.{stores_line, stores_at, wrote_line, wrote_mask, last_of}
+use Rattle.tcc_serial.specs.Stored.{stores_at}
+use Rattle.tcc_serial.specs.Wrote.{stores_line, wrote_line, wrote_mask, last_of}
 
 -- records and messages are at home
 
@@ -53,7 +54,7 @@ KeptLineOwners gs w = (d l c : ℕ) → (w.dirs d).lines.owner l ≡ Some c → 
 
 -- the commit is the core's and stored at the directory
 unfoldable pub stored_there : Shape → (core dir : ℕ) → Noted → Bool
-stored_there sh c d x = (x.core.0 == c) && stores_at sh x.stores d
+stored_there sh c d x = (x.core.0 == c) && stores_at sh d x.stores
 
 -- What a core notes of a directory is the greatest TID of its commits that stored there, or 0; a load request to there carries it.
 pub record AfterOf (sh : Shape) (cs : List Noted) (c d : ℕ) (v : Pair) : Type 0 where

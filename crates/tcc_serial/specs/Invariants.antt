@@ -1,5 +1,6 @@
 -- The whole list: all that holds of every state that a run reaches, each fact with a name. Those that are proved of every run stand in
--- the first record, those to come in the second, each in the order in which the proofs stand on one another.
+-- the first record, those that are proved where the program's accesses are aligned and its stores fit in the second, and those to come
+-- in the third, each in the order in which the proofs stand on one another.
 use Rattle.std.specs.Prelude.{ℕ, ◌+◌, ◌≡◌, ◌<◌, ◌≤◌, ◌⊎◌, true, false, ◌||◌, List, [], length, Contains, IfSome, Some, None, is_some}
 use Rattle.tcc_program.specs.Plain.{Plain}
 use Rattle.tcc_program.specs.Program.{Local, Program}
@@ -11,7 +12,8 @@ use Rattle.tcc_maps.specs.Cache.{IsCache}
 use Rattle.tcc_maps.specs.Lines.{has_mark}
 use Rattle.tcc_rules.specs.State.{Awaited, Halted, start}
 use Rattle.tcc_rules.specs.Step.{History, run}
-use Rattle.tcc_attempt.specs.Follows.{Uses, Follows}
+use Rattle.tcc_attempt.specs.Follows.{Uses, Follows, Fits}
+use Rattle.tcc_attempt.specs.Views.{no_views, views_from}
 use Rattle.tcc_serial.specs.Alone.{IsApart, OwingFits, PhaseFits, ReadFits}
 use Rattle.tcc_serial.specs.Asked.{KeptAsked}
 use Rattle.tcc_serial.specs.Commits.{plain_start, CommitsSerial, CoresSerial, SeenSerial}
@@ -130,6 +132,8 @@ pub record Carried (sh : Shape) (gs : List Grant) (ys : Ways) (h : History) : Ty
   pub inv_and_ack_name_a_marked_line : KeptNamed sh h.world
   -- Where nothing is owed, a marked line is wholly overwritten or has no owner.
   pub line_marked_in_part_has_no_owner : KeptWhole sh h.world
+  -- The Marks of a TID, in flight and handled, are of different lines, at home there, and of some word each.
+  pub marks_name_different_lines : (c d t l : ℕ) → c < sh.cores → d < sh.dirs → (marks_of t l (pair h.world c d) ≤ 1) × (live (MarksAway sh.dirs d) (pair h.world c d).out ≡ 0) × (live EmptyMarks (pair h.world c d).out ≡ 0)
   -- lines and copies
 
   -- A directory knows only of lines at home there, and messages about a line go to its home or come from it, each with some word.
@@ -149,28 +153,34 @@ pub record Carried (sh : Shape) (gs : List Grant) (ys : Ways) (h : History) : Ty
   pub owned_line_has_one_copy_with_its_tag : KeptOwned sh h.world
   -- An asked line has an owner; the request is in flight to it, or the line's words are on their way from it.
   pub asked_line_gets_its_words : KeptAsked sh h.world × KeptGets sh h.world
+  -- values
+
+  -- A word that is marked read is valid, or its home has passed the core's bound.
+  pub read_mark_is_valid_or_passed : ReadWords sh h.world
   -- commits
 
   -- Where a larger TID has committed and a smaller one hasn't, this one was given up wherever the larger one loaded or stored; and each
   -- directory where a commit loaded or stored has reached its TID.
   pub smaller_tid_is_given_up_where_a_larger_one_worked : SmallerAreGivenUp sh ys h × WorkIsReached sh ys h
 
--- All of it. views are the words that each core's attempt used, in order and with their values, and m is the plain machine after
--- the commits.
-pub record Invariants (sh : Shape) (p : Program) (entries : ℕ → Local) (ram : ℕ → ℕ) (gs : List Grant) (ys : Ways) (views : ℕ → Uses) (m : Plain) (h : History) : Type 0 where
-  pub carried : Carried sh gs ys h
+-- What is proved of every run of a program whose accesses are aligned and whose stores fit. views are the words that each core's attempt
+-- used, in order and with their values.
+pub record CarriedViews (sh : Shape) (p : Program) (views : ℕ → Uses) (h : History) : Type 0 where
   -- one core by itself
 
-  -- Only lines of memory have frames.
-  pub frames_are_of_lines_in_memory : (c l : ℕ) → (h.world.cores c).cache.held l ≡ true → l < lines sh
   -- The plain machine's steps from the checkpoint, over any memory that agrees with the view, give the attempt.
   pub attempt_follows_from_its_view : (c : ℕ) → Follows sh p (h.world.cores c) (views c)
   -- Until a core is alone the words marked read are those of its view, and the valid ones that it hasn't modified have the view's values.
   pub read_marks_are_the_view : (c : ℕ) → ReadFits (h.world.cores c) (views c)
-  -- probes and marks
 
-  -- The Marks of a TID, in flight and handled, are of different lines, at home there, and of some word each.
-  pub marks_name_different_lines : (c d t l : ℕ) → c < sh.cores → d < sh.dirs → (marks_of t l (pair h.world c d) ≤ 1) × (live (MarksAway sh.dirs d) (pair h.world c d).out ≡ 0) × (live EmptyMarks (pair h.world c d).out ≡ 0)
+-- All of it. m is the plain machine after the commits.
+pub record Invariants (sh : Shape) (p : Program) (entries : ℕ → Local) (ram : ℕ → ℕ) (gs : List Grant) (ys : Ways) (views : ℕ → Uses) (m : Plain) (h : History) : Type 0 where
+  pub carried : Carried sh gs ys h
+  pub carried_views : CarriedViews sh p views h
+  -- one core by itself
+
+  -- Only lines of memory have frames.
+  pub frames_are_of_lines_in_memory : (c l : ℕ) → (h.world.cores c).cache.held l ≡ true → l < lines sh
   -- lines and copies
 
   -- A core that holds a line is one of its sharers, or its Commit of the line is in flight; and it hasn't said that it keeps no word.
@@ -185,8 +195,6 @@ pub record Invariants (sh : Shape) (p : Program) (entries : ℕ → Local) (ram 
   pub unmodified_word_is_current_or_inv_in_flight : UnmodifiedWords sh ram h.world h.commits
   -- So is each word of a Fill that the core will take.
   pub filled_word_is_current_or_inv_in_flight : FilledWords sh ram h.world h.commits
-  -- A word that is marked read is valid, or its home has passed the core's bound.
-  pub read_mark_is_valid_or_passed : ReadWords sh h.world
   -- A word of a core's view has the value that it has for the core at its bound, or the attempt is doomed.
   pub viewed_word_is_current_or_doomed : ViewedWords sh ram h.world h.commits views
   -- commits
@@ -202,9 +210,6 @@ pub record Invariants (sh : Shape) (p : Program) (entries : ℕ → Local) (ram 
 abbrev pub first_state : (ℕ → Local) → (ram : ℕ → ℕ) → History
 first_state entries ram = record { world = start entries ram; commits = [] }
 
-abbrev pub no_views : ℕ → Uses
-no_views c = []
-
 -- The start has all of it, whatever the machine, the program, the cores' entries and the memory are.
 abbrev pub StartHasAll : Type 0
 StartHasAll = (sh : Shape) (p : Program) (entries : ℕ → Local) (ram : ℕ → ℕ) → Invariants sh p entries ram [] first_ways no_views (plain_start entries ram) (first_state entries ram)
@@ -212,3 +217,7 @@ StartHasAll = (sh : Shape) (p : Program) (entries : ℕ → Local) (ram : ℕ �
 -- Every state that a run reaches has what is proved so far.
 abbrev pub RunsCarry : Type 0
 RunsCarry = (sh : Shape) (p : Program) (entries : ℕ → Local) (ram : ℕ → ℕ) (es : List Event) → IfSome (run sh p (start entries ram) es) (λ h. Carried sh (grants_from sh p es (first_state entries ram)) (ways_from sh p es first_ways (first_state entries ram)) h)
+
+-- And, for a program that fits, with the views along the run.
+abbrev pub RunsCarryViews : Type 0
+RunsCarryViews = (sh : Shape) (p : Program) (entries : ℕ → Local) (ram : ℕ → ℕ) (es : List Event) → Fits p → IfSome (run sh p (start entries ram) es) (λ h. CarriedViews sh p (views_from sh p es no_views (first_state entries ram)) h)

@@ -40,3 +40,7 @@ pub record MarksOf (sh : Shape) (gs : List Grant) (c d t l : ℕ) (v : Pair) : T
 
 abbrev pub KeptMarks : Shape → List Grant → World → Type 0
 KeptMarks sh gs w = (c d t l : ℕ) → MarksOf sh gs c d t l (pair w c d)
+
+-- The Marks of a TID at a directory are of different lines: of each line at most one is in flight from a core or handled.
+abbrev pub OneMark : Shape → World → Type 0
+OneMark sh w = (c d t l : ℕ) → c < sh.cores → d < sh.dirs → marks_of t l (pair w c d) ≤ 1

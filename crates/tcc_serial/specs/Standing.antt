@@ -9,8 +9,8 @@ use Rattle.tcc_serial.specs.Count.{Grants, Commits, live}
 use Rattle.tcc_serial.specs.Marks.{marks_of, has_marked}
 use Rattle.tcc_serial.specs.Owners.{holder}
 use Rattle.tcc_serial.specs.Pairs.{Pair}
+use Rattle.tcc_serial.specs.Stored.{stores_at}
 use Rattle.tcc_serial.specs.Tids.{has_tid}
-use Rattle.tcc_serial.specs.Wrote.{stores_at}
 
 -- settled: no Commit of the commit's TID is in flight to the directory any more
 unfoldable pub is_settled : World → (dir : ℕ) → Noted → Bool
@@ -22,7 +22,7 @@ is_applied s t = nat_lt t s.serving.serving || (t == s.serving.serving && nat_lt
 
 -- A commit is on its way to each directory where it stored, or applied there, not both.
 abbrev pub CommitsStand : Shape → World → List Noted → Type 0
-CommitsStand sh w cs = (n : Noted) (d : ℕ) → Contains cs n → d < sh.dirs → stores_at sh n.stores d ≡ true → live (Commits n.tid.0) (w.net (Core n.core.0) (Dir d)) + num (is_applied (w.dirs d) n.tid.0) ≡ 1
+CommitsStand sh w cs = (n : Noted) (d : ℕ) → Contains cs n → d < sh.dirs → stores_at sh d n.stores ≡ true → live (Commits n.tid.0) (w.net (Core n.core.0) (Dir d)) + num (is_applied (w.dirs d) n.tid.0) ≡ 1
 
 -- the bound of a core's attempt: the TID that the core has, or that is on its way to it
 abbrev pub IsBound : Option ℕ → Pair → Type 0

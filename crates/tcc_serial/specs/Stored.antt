@@ -20,7 +20,7 @@ stores_in base ss l = mask_of (λ k. stores_word base ss (word_at l k))
 unfoldable pub stored_mask : Shape → (dir : ℕ) → List Stored → (line : ℕ) → ℕ
 stored_mask sh d ss l = if nat_lt l (lines sh) && d == home sh l then stores_in sh.base ss l else 0
 
--- there is such a line
+-- the stores name a word of a line that is at home at the directory
 unfoldable pub stores_at : Shape → (dir : ℕ) → List Stored → Bool
 stores_at sh d ss = any_below (λ l. nat_lt 0 (stored_mask sh d ss l)) (lines sh)
 

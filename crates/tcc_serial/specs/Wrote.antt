@@ -2,17 +2,13 @@
 use Rattle.std.specs.Prelude.{ℕ, max, Bool, false, cond, ◌==◌, ◌&&◌, ◌||◌, List, [], ◌∷◌}
 use Rattle.tcc_base.specs.declared.access.Commit.{Commit as Noted}
 use Rattle.tcc_base.specs.declared.access.Stored.{Stored}
-use Rattle.tcc_maps.specs.Words.{any_below, any_word, word_at}
+use Rattle.tcc_maps.specs.Words.{any_word, word_at}
 use Rattle.tcc_maps.specs.Masks.{mask_of}
-use Rattle.tcc_maps.specs.Shape.{Shape, home, lines}
 use Rattle.tcc_serial.specs.Uses.{stores_word}
 
 -- some store lies in the line, in a line that is at home at the directory
 unfoldable pub stores_line : (base : ℕ) → List Stored → (line : ℕ) → Bool
 stores_line base ss l = any_word (stores_word base ss) l
-
-unfoldable pub stores_at : Shape → List Stored → (dir : ℕ) → Bool
-stores_at sh ss d = any_below (λ l. d == home sh l && any_word (stores_word sh.base ss) l) (lines sh)
 
 -- the core's commit with this TID stored the word
 unfoldable pub wrote : (base : ℕ) → List Noted → (core tid word : ℕ) → Bool

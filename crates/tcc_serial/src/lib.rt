@@ -19,7 +19,7 @@ ghost use Rattle.tcc_serial.specs.Probing.{OneProbe};
 ghost use Rattle.tcc_serial.specs.Stored.{KeptStored};
 ghost use Rattle.tcc_serial.specs.Laws.{Always, OneWay, OneRequest, NeverPasses, OwedInFlight, Served, CommitsOnce, HoldsLast, SparesItsCommitter, MarksAreStored};
 ghost use Rattle.tcc_serial.specs.WayLaws.{AlwaysTold, UntoldWhereOpen, UntoldIsLive, AllWaysFit, GivenUpOnce, LiveIsOpen, CommittedWhereStored, SmallerAreResolved, SmallerAreGivenUp, WorkIsReached};
-ghost use Rattle.tcc_serial.specs.Invariants.{StartHasAll, RunsCarry};
+ghost use Rattle.tcc_serial.specs.Invariants.{StartHasAll, RunsCarry, RunsCarryViews};
 ghost use Rattle.tcc_serial.specs.Sound.{AttemptsSound};
 ghost use Rattle.tcc_serial.specs.Tried.{TriedFill, TriedRead, TriedOwner, TriedAlone, TriedFails};
 ghost use Rattle.tcc_base.specs.declared.access.Commit.{Commit};
@@ -167,6 +167,13 @@ pub fn the_start_has_all_invariants()
 /// Every state that a run reaches has those of the list that are proved so far.
 pub fn runs_carry_what_is_proved()
     ensures carried { RunsCarry }
+{}
+
+/// In every state that a run reaches each core's attempt is what the plain machine does over any memory that agrees with the core's
+/// view, the words that the attempt used with their values; and until the core is alone the words marked read are those of its view,
+/// with these values where they are valid and the attempt hasn't modified them. The program's accesses are aligned and its stores fit.
+pub fn attempts_follow_from_their_views()
+    ensures views { RunsCarryViews }
 {}
 
 /// The facts on lines, copies and values hold in each state of some runs that were worked by hand, and where one thing is changed at
