@@ -70,6 +70,14 @@ pub mod AfterKept
 pub mod LastOf
 pub mod TagsKept
 pub mod DirtyFrames
+pub mod SharersKept
+pub mod SharersMoved
+pub mod SharersAnswered
+pub mod PairSharers
+pub mod DirSharers
+pub mod CoreHoldsTakes
+pub mod CoreHolds
+pub mod HeldWords
 pub mod GetsKept
 pub mod DirGets
 pub mod CopyFacts

@@ -40,7 +40,7 @@ marked-line : (sh : Shape) (h : History) (c d l : ℕ) → l < lines sh → home
 marked-line sh h c d l ll e t = stored-in sh d l t.settled.commit ll e ∙ ap (nat_lt 0) (sym (t.settled.marks l))
 
 -- of the core that committed; no other core has a commit with this TID
-writer-line : (sh : Shape) (h : History) (c d l : ℕ) → l < lines sh → home sh l ≡ d → TakenCommit sh h.commits h.world c d → wrote_line sh.base h.commits c (h.world.dirs d).serving.serving l ≡ has_mark (h.world.dirs d).lines l
+pub writer-line : (sh : Shape) (h : History) (c d l : ℕ) → l < lines sh → home sh l ≡ d → TakenCommit sh h.commits h.world c d → wrote_line sh.base h.commits c (h.world.dirs d).serving.serving l ≡ has_mark (h.world.dirs d).lines l
 writer-line sh h c d l ll e t =
     let n = t.settled.commit in
     let x = wrote-listed sh.base h.commits n l (t.settled.noted) (λ y k o. t.only y k (sym (t.settled.tid) ∙ tids y (y.core.0 == n.core.0) (y.tid.0 == n.tid.0) refl o)) in
@@ -67,7 +67,7 @@ one-commit sh gs ys h c d l b dl ll e t s =
     let y : live (Commits (h.world.dirs d).serving.serving) (h.world.net (Core c) (Dir d)) + num (is_applied (h.world.dirs d) (h.world.dirs d).serving.serving) ≡ 1 = rw (t.settled.tid, t.core) at x in
     omega (arith, y, t.sent)
 
-commit-passes : (sh : Shape) (s : DirState) (m : Msg) (x : ℕ) → CountsMarked sh s m → passes (Commits x) m ≡ (s.serving.serving == x)
+pub commit-passes : (sh : Shape) (s : DirState) (m : Msg) (x : ℕ) → CountsMarked sh s m → passes (Commits x) m ≡ (s.serving.serving == x)
 unfolding passes
 commit-passes sh s m x q = rw q refl
 

@@ -59,7 +59,7 @@ unfolding pair
 conserves-pair sh w c d l o k = k
 
 -- a commit that the core notes
-new-of : (sh : Shape) (gs : List Grant) (ys : Ways) (h : History) (c d l : ℕ) (o : Out) (n : Noted) → Before sh gs ys h → c < sh.cores → d < sh.dirs → l < lines sh → home sh l ≡ d → o.commit ≡ Some n → n.core.0 ≡ c → Speaks sh h.world c o → NewCommit sh.base h.commits c d l (pair h.world c d) o n
+pub new-of : (sh : Shape) (gs : List Grant) (ys : Ways) (h : History) (c d l : ℕ) (o : Out) (n : Noted) → Before sh gs ys h → c < sh.cores → d < sh.dirs → l < lines sh → home sh l ≡ d → o.commit ≡ Some n → n.core.0 ≡ c → Speaks sh h.world c o → NewCommit sh.base h.commits c d l (pair h.world c d) o n
 unfolding pair share part part_in
 new-of sh gs ys h c d l o n b cl dl ll e q r u = record {
   fresh = fresh;

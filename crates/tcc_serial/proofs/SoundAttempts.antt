@@ -20,7 +20,7 @@ unfolding pair holder
 bound-at w c d e None h = h
 bound-at w c d e (Some t) h = h
 
-home-below : (sh : Shape) (l : ℕ) → 1 ≤ sh.dirs → home sh l < sh.dirs
+pub home-below : (sh : Shape) (l : ℕ) → 1 ≤ sh.dirs → home sh l < sh.dirs
 home-below sh l h = omega arith
 
 -- all uses are current, or one dooms

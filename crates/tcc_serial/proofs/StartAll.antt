@@ -52,7 +52,7 @@ unfolding start core_start pair holds_line live
 holds-none entries ram c d l = rw (empty-keeps l) refl
 
 start-sharers : (sh : Shape) (entries : ℕ → Local) (ram : ℕ → ℕ) → KeptSharers sh (start entries ram) []
-start-sharers sh entries ram c d l a b e = record {
+start-sharers sh entries ram c d l a b i e = record {
   shares = λ x. absurd (let y = holds-none entries ram c d l in cc);
   stays = λ x. absurd (let y = holds-none entries ram c d l in cc);
 }

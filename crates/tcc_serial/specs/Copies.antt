@@ -130,4 +130,4 @@ pub record SharerOf (base : ℕ) (cs : List Noted) (c l : ℕ) (v : Pair) : Type
   pub stays : holds_line l v ≡ true → live (GoneOf l) v.out ≡ 0
 
 abbrev pub KeptSharers : Shape → World → List Noted → Type 0
-KeptSharers sh w cs = (c d l : ℕ) → c < sh.cores → d < sh.dirs → home sh l ≡ d → SharerOf sh.base cs c l (pair w c d)
+KeptSharers sh w cs = (c d l : ℕ) → c < sh.cores → d < sh.dirs → l < lines sh → home sh l ≡ d → SharerOf sh.base cs c l (pair w c d)
