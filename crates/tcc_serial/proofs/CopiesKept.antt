@@ -1,5 +1,5 @@
 -- What is proved of lines and their copies, carried along every run together with all else.
-use Rattle.std.specs.Prelude.{ℕ, List, [], ◌∷◌, ◌++◌, Option, Some, None, IfSome}
+use Rattle.std.specs.Prelude.{◌<◌, ◌≡◌, true, false, ℕ, List, [], ◌∷◌, ◌++◌, Option, Some, None, IfSome}
 use Rattle.std.proofs.Common.{sym, append_assoc}
 use Rattle.std.proofs.lemmas.List.{append-nil}
 use Rattle.tcc_program.specs.Program.{Program, Local}
@@ -7,7 +7,12 @@ use Rattle.tcc_maps.specs.Nodes.{Event}
 use Rattle.tcc_maps.specs.Shape.{Shape}
 use Rattle.tcc_rules.specs.State.{start}
 use Rattle.tcc_rules.specs.Step.{Stepped, step, History, and_noted, recorded, next, and_then, run_from, run}
-use Rattle.tcc_serial.specs.Copies.{KeptTags, KeptGets}
+use Rattle.tcc_serial.specs.Copies.{KeptTags, KeptGets, KeptLoading, KeptSharers}
+use Rattle.tcc_serial.specs.Standing.{is_applied}
+use Rattle.tcc_serial.specs.Stored.{stores_at}
+use Rattle.tcc_serial.proofs.SharersStep.{step-sharers}
+use Rattle.tcc_serial.proofs.SharersStart.{start-sharers}
+use Rattle.tcc_base.specs.declared.access.Commit.{Commit as Noted}
 use Rattle.tcc_serial.specs.Invariants.{first_state}
 use Rattle.tcc_serial.specs.Kept.{KeptRun}
 use Rattle.tcc_serial.specs.Owners.{Grant, granted_by, then_grants, grants_from}
@@ -30,9 +35,10 @@ pub record KeptCopies (sh : Shape) (gs : List Grant) (ys : Ways) (h : History) :
   pub tags : KeptTags sh h.world h.commits
   pub lines : KeptLines sh h.commits h.world
   pub gets : KeptGets sh h.world
+  pub sharers : KeptSharers sh h.world h.commits
 
 step-copies : (sh : Shape) (p : Program) (gs : List Grant) (ys : Ways) (h : History) (e : Event) → KeptCopies sh gs ys h → IfSome (recorded h (step sh p h.world e)) (λ g. KeptCopies sh (gs ++ granted_by h.world e) (ways_after (sent_by sh p h.world e) ys) g)
-step-copies sh p gs ys h e k = go (step sh p h.world e) (step-run sh p gs ys h e k.told) (step-more sh p gs h e k.more) (step-speaks sh p h.world e k.told.all.kept.told.tids k.told.all.cores) (tag-step sh p h.world e) (step-lines sh p gs ys h e (record { told = k.told; owners = k.more.line_owners; tags = k.tags; lines = k.lines })) (step-gets sh p h.world h.commits e k.gets)
+step-copies sh p gs ys h e k = go (step sh p h.world e) (step-run sh p gs ys h e k.told) (step-more sh p gs h e k.more) (step-speaks sh p h.world e k.told.all.kept.told.tids k.told.all.cores) (tag-step sh p h.world e) (step-lines sh p gs ys h e (record { told = k.told; owners = k.more.line_owners; tags = k.tags; lines = k.lines })) (step-gets sh p h.world h.commits e k.gets) (step-sharers sh p gs ys h e (record { told = k.told; owners = k.more.line_owners; tags = k.tags; lines = k.lines }) k.more.loading k.more.homes k.more.reads k.sharers)
   where
     hs : List Grant
     hs = gs ++ granted_by h.world e
@@ -40,14 +46,15 @@ step-copies sh p gs ys h e k = go (step sh p h.world e) (step-run sh p gs ys h e
     zs : Ways
     zs = ways_after (sent_by sh p h.world e) ys
 
-    go : (x : Option Stepped) → IfSome (recorded h x) (λ g. KeptRun sh hs zs g) → IfSome (recorded h x) (λ g. KeptMore sh hs g) → IfSome x (ByCore sh h.world (Speaks sh h.world) (sent_by sh p h.world e)) → IfSome x (TagStep sh h.world) → IfSome x (λ o. KeptLines sh (and_noted o.noted h.commits) o.world) → IfSome x (λ o. KeptLines sh (and_noted o.noted h.commits) o.world → KeptGets sh o.world) → IfSome (recorded h x) (λ g. KeptCopies sh hs zs g)
-    go None a b c d f i = tt
-    go (Some o) a b c d f i = record {
+    go : (x : Option Stepped) → IfSome (recorded h x) (λ g. KeptRun sh hs zs g) → IfSome (recorded h x) (λ g. KeptMore sh hs g) → IfSome x (ByCore sh h.world (Speaks sh h.world) (sent_by sh p h.world e)) → IfSome x (TagStep sh h.world) → IfSome x (λ o. KeptLines sh (and_noted o.noted h.commits) o.world) → IfSome x (λ o. KeptLines sh (and_noted o.noted h.commits) o.world → KeptGets sh o.world) → IfSome x (λ o. KeptLoading sh o.world → ((n : Noted) (d : ℕ) → o.noted ≡ Some n → d < sh.dirs → stores_at sh d n.stores ≡ true → is_applied (h.world.dirs d) n.tid.0 ≡ false) → KeptSharers sh o.world (and_noted o.noted h.commits)) → IfSome (recorded h x) (λ g. KeptCopies sh hs zs g)
+    go None a b c d f i j = tt
+    go (Some o) a b c d f i j = record {
       told = a;
       more = b;
       tags = tags-out sh gs ys h o k.told (on-its-way sh hs zs (record { world = o.world; commits = and_noted o.noted h.commits }) a) (new-commit sh gs ys h (sent_by sh p h.world e) o k.told c) k.tags d;
       lines = f;
       gets = i f;
+      sharers = j b.loading (new-commit sh gs ys h (sent_by sh p h.world e) o k.told c);
     }
 
 run_from-copies : (sh : Shape) (p : Program) (es : List Event) (gs : List Grant) (ys : Ways) (h : History) → KeptCopies sh gs ys h → IfSome (run_from sh p es h) (λ r. KeptCopies sh (gs ++ grants_from sh p es h) (ways_from sh p es ys h) r)
@@ -70,4 +77,5 @@ run-copies sh p entries ram es = run_from-copies sh p es [] first_ways (first_st
   tags = start-tags sh entries ram;
   lines = start-lines sh entries ram;
   gets = start-gets sh entries ram;
+  sharers = start-sharers sh entries ram;
 })

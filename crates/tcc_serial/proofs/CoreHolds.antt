@@ -1,15 +1,15 @@
 -- By an instruction, an eviction or a grant a core comes to hold a line only by a commit that stored in it.
-use Rattle.std.specs.Prelude.{ℕ, ◌≡◌, ◌<◌, ◌⊎◌, ◌==◌, ◌&&◌, ◌||◌, Bool, true, false, not, List, [], ◌∷◌, Option, Some, None, IfSome, is_some, if◌then◌else◌}
-use Rattle.std.proofs.Common.{arith, refl, ap, sym, ◌∙◌, inl, inr}
+use Rattle.std.specs.Prelude.{ℕ, ◌≡◌, ◌⊎◌, ◌&&◌, ◌||◌, Bool, true, false, not, [], ◌∷◌, Option, Some, None, IfSome, is_some, if◌then◌else◌}
+use Rattle.std.proofs.Common.{refl, sym, ◌∙◌, inl, inr}
 use Rattle.tcc_base.specs.declared.access.Commit.{Commit as Noted}
 use Rattle.tcc_base.specs.declared.access.Size.TheVariants.{Byte, Half, Word}
 use Rattle.tcc_program.specs.Program.{Program, Need, Nothing, Loads, Stores, Changes, Prints, Ends, Halts, Traps}
 use Rattle.tcc_program.specs.Ram.{word_of}
-use Rattle.tcc_maps.specs.Words.{any_word, line_of}
+use Rattle.tcc_maps.specs.Words.{line_of}
 use Rattle.tcc_maps.specs.Nodes.{Vendor, TidReq}
 use Rattle.tcc_maps.specs.Shape.{Shape, set_of}
 use Rattle.tcc_maps.specs.Cache.{Cache, is_marked, is_modified, free_way, all_marked}
-use Rattle.tcc_maps.specs.CacheChange.{marked, placed, placed_at, stored, committed, words_dropped, evicted}
+use Rattle.tcc_maps.specs.CacheChange.{marked, placed, placed_at, evicted}
 use Rattle.tcc_maps.specs.Spilled.{holds, spill_line}
 use Rattle.tcc_rules.specs.State.{CoreState, Awaited, Phase, Running, AwaitTid, DoomedTid, Probing, Ready, Overflowing, Solo, Halted}
 use Rattle.tcc_rules.specs.Sends.{Sends, nothing, to, flushed, written_back}

@@ -167,6 +167,7 @@ carried sh gs ys h x t = let m = x.more in let k = m.all in record {
   copy_above_the_tag_is_of_a_commit_in_flight = above-from sh h.commits h.world x.lines;
   owned_line_has_one_copy_with_its_tag = owned-from sh h.commits h.world x.lines;
   asked_line_gets_its_words = (k.asked, x.gets);
+  holder_is_a_sharer = x.sharers;
   read_mark_is_valid_or_passed = read-words sh gs h.world h.commits k.owners k.last m.reads;
 }
 

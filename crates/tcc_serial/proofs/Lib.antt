@@ -70,6 +70,9 @@ pub mod AfterKept
 pub mod LastOf
 pub mod TagsKept
 pub mod DirtyFrames
+pub mod SharersStart
+pub mod SharersStep
+pub mod SharersTaken
 pub mod SharersKept
 pub mod SharersMoved
 pub mod SharersAnswered

@@ -54,7 +54,7 @@ pub back-own : (w : World) (c k : ℕ) (o : Out) (d : ℕ) → pair (core_takes 
 unfolding pair core_takes
 back-own w c k o d = rw (same c) (rw (same d) refl)
 
-back-away : (w : World) (e c k : ℕ) (o : Out) (d : ℕ) → (d ≡ e → ⊥) → pair (core_takes w (Dir e) c k o) c d ≡ after_move (pair w c d) o d
+pub back-away : (w : World) (e c k : ℕ) (o : Out) (d : ℕ) → (d ≡ e → ⊥) → pair (core_takes w (Dir e) c k o) c d ≡ after_move (pair w c d) o d
 unfolding pair core_takes
 back-away w e c k o d h = rw (same c) (rw (differ d e h) refl)
 

@@ -1,19 +1,11 @@
 -- What each kind of event does, between a core and the line's home, to that a core which holds a line is one of its sharers.
-use Rattle.std.specs.Prelude.{ℕ, ◌+◌, ◌≡◌, ◌<◌, ◌≤◌, ◌⊎◌, ◌==◌, ◌&&◌, ◌||◌, Bool, true, false, nat_lt, List, ◌++◌, Option, Some, None}
+use Rattle.std.specs.Prelude.{ℕ, ◌≡◌, ◌≤◌, ◌⊎◌, ◌&&◌, ◌||◌, Bool, true, false, nat_lt, List}
 use Rattle.std.proofs.Common.{arith, refl, ap, sym, ◌∙◌, inl, inr}
-use Rattle.std.proofs.lemmas.Bool.{cases_lt}
 use Rattle.std.proofs.lemmas.Bool.Decides.{nat_tests}
 use Rattle.tcc_base.specs.declared.access.Commit.{Commit as Noted}
-use Rattle.tcc_maps.specs.Words.{num}
-use Rattle.tcc_maps.specs.Lines.{has_mark}
-use Rattle.tcc_maps.specs.Nodes.{Msg}
-use Rattle.tcc_maps.specs.Shape.{Shape}
-use Rattle.tcc_rules.specs.State.{DirState, Awaited}
-use Rattle.tcc_rules.specs.Sends.{Sends}
 use Rattle.tcc_serial.specs.Copies.{keeps_unmodified, is_fresh, holds_line, CommitsLine, SharerOf}
-use Rattle.tcc_serial.specs.Count.{FillOf, GoneOf, AckOf, Commits, live, passes}
+use Rattle.tcc_serial.specs.Count.{FillOf, GoneOf, live}
 use Rattle.tcc_serial.specs.Pairs.{Pair}
-use Rattle.tcc_serial.specs.Wrote.{wrote_line}
 
 -- a core holds a line by a word that it keeps, or by a Fill that it will take
 pub holds-cases : (l : ℕ) (v : Pair) → holds_line l v ≡ true → (keeps_unmodified v.core.cache l ≡ true) ⊎ ((is_fresh v.core.awaited ≡ true) × (1 ≤ live (FillOf l) v.back))

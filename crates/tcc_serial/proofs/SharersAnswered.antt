@@ -1,7 +1,7 @@
 -- Every answer of a directory keeps that a core which holds a line is one of its sharers, or its Commit of the line is in flight.
-use Rattle.std.specs.Prelude.{ℕ, ◌+◌, ◌≡◌, ◌<◌, ◌≤◌, ◌⊎◌, ◌==◌, ◌&&◌, Bool, true, false, List, [], ◌∷◌, Option, Some, None, nat_lt}
+use Rattle.std.specs.Prelude.{ℕ, ◌+◌, ◌≡◌, ◌<◌, ◌≤◌, ◌⊎◌, ◌==◌, ◌&&◌, Bool, true, false, List, [], ◌∷◌, Some, None}
 use Rattle.std.proofs.Common.{arith, refl, ap, sym, subst, ◌∙◌, inl, inr}
-use Rattle.std.proofs.lemmas.Bool.{cases_lt, cases_eq}
+use Rattle.std.proofs.lemmas.Bool.{cases_lt}
 use Rattle.std.proofs.lemmas.Bool.Decides.{nat_tests}
 use Rattle.tcc_maps.specs.Words.{num}
 use Rattle.tcc_maps.specs.Lines.{has_mark}
@@ -17,15 +17,14 @@ use Rattle.tcc_serial.specs.Owners.{Grant}
 use Rattle.tcc_serial.specs.Pairs.{Pair, pair}
 use Rattle.tcc_serial.specs.Ways.{Ways}
 use Rattle.tcc_serial.specs.Wrote.{wrote_line}
-use Rattle.tcc_serial.proofs.DirOwes.{CountsMarked}
-use Rattle.tcc_serial.proofs.DirRecords.{NoCommit, Records, Still, Came, Settles}
+use Rattle.tcc_serial.proofs.DirRecords.{Records, Still, Came, Settles}
 use Rattle.tcc_serial.proofs.DirSharers.{Shares}
 use Rattle.tcc_serial.proofs.LinesAnswered.{writer-line, commit-passes}
 use Rattle.tcc_serial.proofs.LinesKept.{Before}
-use Rattle.tcc_serial.proofs.PairSharers.{SharerStep, sharer-answered}
-use Rattle.tcc_serial.proofs.TagsKept.{TakenCommit, taken-commit}
+use Rattle.tcc_serial.proofs.PairSharers.{sharer-answered}
+use Rattle.tcc_serial.proofs.TagsKept.{taken-commit}
 
-gone-ack : (l : ℕ) (m : Msg) → num (passes (GoneOf l) m) ≤ num (passes (AckOf l) m)
+pub gone-ack : (l : ℕ) (m : Msg) → num (passes (GoneOf l) m) ≤ num (passes (AckOf l) m)
 unfolding passes
 gone-ack l m = grind (arith, nat_tests)
 

@@ -1,47 +1,38 @@
 -- Every event keeps that a core which holds a line in memory is one of its sharers, or its Commit of the line is in flight.
-use Rattle.std.specs.Prelude.{ℕ, ◌+◌, ◌%◌, ◌≡◌, ◌<◌, ◌≤◌, ◌⊎◌, ◌==◌, ◌&&◌, Bool, true, false, not, List, [], ◌∷◌, ◌++◌, Option, Some, None, IfSome, is_some, set}
-use Rattle.std.proofs.Common.{arith, refl, ap, sym, subst, ◌∙◌, inl, inr}
-use Rattle.std.proofs.lemmas.Bool.{cases_eq}
+use Rattle.std.specs.Prelude.{ℕ, ◌≡◌, ◌<◌, ◌≤◌, ◌⊎◌, ◌==◌, true, false, List, Option, Some, None, is_some}
+use Rattle.std.proofs.Common.{arith, refl, sym, subst, ◌∙◌, inl, inr}
 use Rattle.std.proofs.lemmas.Bool.Decides.{nat_tests}
 use Rattle.tcc_base.specs.declared.access.Commit.{Commit as Noted}
-use Rattle.tcc_program.specs.Program.{Program}
-use Rattle.tcc_maps.specs.Words.{num, line_of}
-use Rattle.tcc_maps.specs.Nodes.{Core, Dir, Vendor, Msg, Event}
+use Rattle.tcc_maps.specs.Words.{line_of}
+use Rattle.tcc_maps.specs.Nodes.{Core, Dir, Msg}
 use Rattle.tcc_maps.specs.Shape.{Shape, home, lines}
 use Rattle.tcc_rules.specs.State.{CoreState, DirState, Phase, Running, AwaitTid, DoomedTid, Probing, Ready, Overflowing, Solo, Halted, World}
 use Rattle.tcc_rules.specs.Links.{in_flight}
 use Rattle.tcc_rules.specs.Sends.{Sends}
 use Rattle.tcc_rules.specs.Attempt.{Out}
-use Rattle.tcc_rules.specs.CoreExec.{core_exec}
-use Rattle.tcc_rules.specs.CoreEvict.{core_evict, is_awaited}
-use Rattle.tcc_rules.specs.CoreDeliver.{from_dir, grant}
-use Rattle.tcc_rules.specs.DirDeliver.{Answer, Waits, Drops, Asks, Takes, dir_deliver}
-use Rattle.tcc_rules.specs.Step.{core_moves, core_takes, dir_takes, dir_asks, History, and_noted, insert_commit, step}
-use Rattle.tcc_serial.specs.Copies.{KeptLoading, KeptHomes, KeptSharers, SharerOf, CommitsLine, holds_line, keeps_unmodified, is_fresh}
-use Rattle.tcc_serial.specs.Count.{FillOf, GoneOf, AckOf, Acks, InvOf, InvsAway, LinesAway, Commits, CommitsAbove, live, among, passes}
+use Rattle.tcc_rules.specs.Step.{core_moves, dir_takes, History, and_noted, insert_commit}
+use Rattle.tcc_serial.specs.Copies.{KeptLoading, KeptSharers, SharerOf, CommitsLine}
 use Rattle.tcc_serial.specs.OneCore.{OneCore, executes as acting}
 use Rattle.tcc_serial.specs.Owners.{Grant}
-use Rattle.tcc_serial.specs.Pairs.{Pair, pair, after_move, grant_taken, back_taken, after_answer, out_taken, after_grant, after_other_grant}
+use Rattle.tcc_serial.specs.Pairs.{Pair, pair, after_answer, out_taken}
 use Rattle.tcc_serial.specs.Tids.{has_tid}
 use Rattle.tcc_serial.specs.Ways.{Ways}
-use Rattle.tcc_serial.proofs.CommitOwners.{CommitsNoted, noted-exec, noted-evict, noted-grant, noted-back}
-use Rattle.tcc_serial.proofs.CoreAfter.{AfterStep, Stays, after-exec, after-evict, after-grant, after-back}
+use Rattle.tcc_serial.proofs.CoreAfter.{AfterStep}
 use Rattle.tcc_serial.proofs.CoreReads.{ValidOrPassed}
-use Rattle.tcc_serial.proofs.CoreHolds.{Holds, ReadsValid, holds-exec, holds-evict, holds-grant}
-use Rattle.tcc_serial.proofs.CoreHoldsTakes.{HoldsTaken, Gone, holds-back}
-use Rattle.tcc_serial.proofs.DirRecords.{Records, RecordsBy, Dropped, dir-records}
-use Rattle.tcc_serial.proofs.DirSharers.{Shares, SharesBy, dir-shares}
+use Rattle.tcc_serial.proofs.CoreHolds.{ReadsValid}
+use Rattle.tcc_serial.proofs.DirRecords.{Records}
+use Rattle.tcc_serial.proofs.DirSharers.{Shares}
 use Rattle.tcc_serial.proofs.LinesKept.{Before}
 use Rattle.tcc_serial.proofs.Links.{live-sends, live-takes}
 use Rattle.tcc_serial.proofs.PairFrames.{same, differ, either, moves-own, moves-other, pairs_dir}
 use Rattle.tcc_serial.proofs.WroteLines.{wrote-other}
 use Rattle.tcc_serial.proofs.ReadsKept.{KeptReads}
-use Rattle.tcc_serial.proofs.SharersAnswered.{Seen, answer-sharers}
+use Rattle.tcc_serial.proofs.SharersAnswered.{answer-sharers}
 use Rattle.tcc_serial.proofs.SharersMoved.{Sharing, own-sharers}
 use Rattle.tcc_serial.proofs.SoundAttempts.{home-below}
 
 -- the words that a core which executes has marked read are valid
-reads-valid : (sh : Shape) (w : World) (c : ℕ) → OneCore sh (w.cores c) → KeptReads sh w → 1 ≤ sh.dirs → acting (w.cores c).phase ≡ true → ReadsValid (w.cores c).cache
+pub reads-valid : (sh : Shape) (w : World) (c : ℕ) → OneCore sh (w.cores c) → KeptReads sh w → 1 ≤ sh.dirs → acting (w.cores c).phase ≡ true → ReadsValid (w.cores c).cache
 unfolding has_tid
 reads-valid sh w c h k n q x r = go (w.cores c).phase refl
   where
@@ -65,7 +56,7 @@ reads-valid sh w c h k n q x r = go (w.cores c).phase refl
 abbrev pub SharersAt : Shape → List Noted → (core dir : ℕ) → Pair → Type 0
 SharersAt sh cs c d v = (l : ℕ) → c < sh.cores → d < sh.dirs → l < lines sh → home sh l ≡ d → SharerOf sh.base cs c l v
 
-dir-sharers : (sh : Shape) (gs : List Grant) (ys : Ways) (h : History) (c d k : ℕ) (m : Msg) (s : DirState) (sends : Sends) → Before sh gs ys h → KeptSharers sh h.world h.commits → in_flight h.world.net (Core c) (Dir d) k ≡ Some m → Records sh (h.world.dirs d) c m s → Shares sh (h.world.dirs d) c m s sends → (j e : ℕ) → SharersAt sh h.commits j e (pair (dir_takes h.world c d k s sends) j e)
+pub dir-sharers : (sh : Shape) (gs : List Grant) (ys : Ways) (h : History) (c d k : ℕ) (m : Msg) (s : DirState) (sends : Sends) → Before sh gs ys h → KeptSharers sh h.world h.commits → in_flight h.world.net (Core c) (Dir d) k ≡ Some m → Records sh (h.world.dirs d) c m s → Shares sh (h.world.dirs d) c m s sends → (j e : ℕ) → SharersAt sh h.commits j e (pair (dir_takes h.world c d k s sends) j e)
 unfolding pair
 dir-sharers sh gs ys h c d k m s sends b t i r f = pairs_dir (SharersAt sh h.commits) h.world c d k s sends
     (λ l cl dl ll e. answer-sharers sh gs ys h c d k c l true m s sends (after_answer (out_taken (pair h.world c d) k) s (sends (Core c))) b i (same c) cl dl ll e (record { core = refl; dir = refl; lives = λ q. live-takes q (h.world.net (Core c) (Dir d)) k m i; back = λ q. live-sends q (h.world.net (Dir d) (Core c)) (sends (Core c)) }) r f (t c d l cl dl ll e))
@@ -85,7 +76,7 @@ other-sharers base a cs j l v f h = go a refl
         more (inr x) = inr (record { tid = x.tid; sent = x.sent; line = (wrote-other base n cs j x.tid l (let y = f n e in rw y refl)).line ∙ x.line })
 
 -- a core executes or evicts
-moved-sharers : (sh : Shape) (gs : List Grant) (ys : Ways) (h : History) (c : ℕ) (o : Out) → Before sh gs ys h → KeptLoading sh h.world → KeptSharers sh h.world h.commits → AfterStep sh c (h.world.cores c) o → ((d l : ℕ) → d < sh.dirs → l < lines sh → home sh l ≡ d → Sharing sh h c d l o) → KeptSharers sh (core_moves h.world c o) (and_noted o.commit h.commits)
+pub moved-sharers : (sh : Shape) (gs : List Grant) (ys : Ways) (h : History) (c : ℕ) (o : Out) → Before sh gs ys h → KeptLoading sh h.world → KeptSharers sh h.world h.commits → AfterStep sh c (h.world.cores c) o → ((d l : ℕ) → d < sh.dirs → l < lines sh → home sh l ≡ d → Sharing sh h c d l o) → KeptSharers sh (core_moves h.world c o) (and_noted o.commit h.commits)
 moved-sharers sh gs ys h c o b ld t a f j d = either j c
     (λ q. subst (λ i. SharersAt sh (and_noted o.commit h.commits) i d (pair (core_moves h.world c o) i d)) (sym q) (subst (SharersAt sh (and_noted o.commit h.commits) c d) (sym (moves-own h.world c o d)) (λ l cl dl ll e. own-sharers sh gs ys h c d l o b ld cl dl ll e (f d l dl ll e) (t c d l cl dl ll e))))
     (λ n. subst (SharersAt sh (and_noted o.commit h.commits) j d) (sym (moves-other h.world c o j d n)) (λ l jl dl ll e. other-sharers sh.base o.commit h.commits j l (pair h.world j d) (λ x q. unlike x q n a) (t j d l jl dl ll e)))

@@ -1,5 +1,5 @@
 -- Every event of a core keeps that a core which holds a line is one of its sharers, or its Commit of the line is in flight.
-use Rattle.std.specs.Prelude.{ℕ, ◌+◌, ◌≡◌, ◌<◌, ◌≤◌, ◌⊎◌, ◌==◌, ◌&&◌, ◌||◌, Bool, true, false, List, [], ◌∷◌, Option, Some, None, IfSome, nat_lt}
+use Rattle.std.specs.Prelude.{ℕ, ◌+◌, ◌≡◌, ◌<◌, ◌≤◌, ◌⊎◌, ◌==◌, ◌&&◌, Bool, true, false, List, [], ◌∷◌, Option, Some, None, IfSome, nat_lt}
 use Rattle.std.proofs.Common.{arith, refl, ap, sym, subst, ◌∙◌, inl, inr}
 use Rattle.std.proofs.lemmas.Bool.{cases_lt}
 use Rattle.std.proofs.lemmas.Bool.Decides.{nat_tests}
@@ -11,7 +11,7 @@ use Rattle.tcc_rules.specs.State.{DirState}
 use Rattle.tcc_rules.specs.Attempt.{Out}
 use Rattle.tcc_rules.specs.Step.{History, and_noted, insert_commit}
 use Rattle.tcc_serial.specs.Copies.{KeptLoading, keeps_unmodified, is_fresh, holds_line, CommitsLine, SharerOf}
-use Rattle.tcc_serial.specs.Count.{LoadOf, FillOf, GoneOf, AckOf, Acks, Commits, CommitsAbove, live, among, passes}
+use Rattle.tcc_serial.specs.Count.{LoadOf, FillOf, GoneOf, Commits, CommitsAbove, live, among, passes}
 use Rattle.tcc_serial.specs.Owed.{due}
 use Rattle.tcc_serial.specs.Owners.{Grant}
 use Rattle.tcc_serial.specs.Pairs.{Pair, pair, after_move, share}

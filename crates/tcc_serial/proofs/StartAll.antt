@@ -1,10 +1,9 @@
 -- The start has every invariant of the list.
-use Rattle.std.specs.Prelude.{ℕ, ◌≡◌, false, List, [], ◌∷◌, Some, None}
+use Rattle.std.specs.Prelude.{ℕ, ◌≡◌, List, [], ◌∷◌, Some, None}
 use Rattle.std.specs.List.{flat_map}
 use Rattle.std.proofs.Common.{refl, ap, ◌∙◌, inl}
 use Rattle.tcc_program.specs.Plain.{begun, steps, serial}
 use Rattle.tcc_program.specs.Program.{Local, Program}
-use Rattle.tcc_maps.specs.Words.{any_below, any_word}
 use Rattle.tcc_maps.specs.Serving.{is_skipped, first_serving}
 use Rattle.tcc_maps.specs.Shape.{Shape}
 use Rattle.tcc_maps.specs.Cache.{empty_cache}
@@ -15,7 +14,6 @@ use Rattle.tcc_rules.specs.State.{core_start, dir_start, vendor_start, start}
 use Rattle.tcc_attempt.specs.Follows.{Follows, sees}
 use Rattle.tcc_serial.specs.Alone.{ReadFits}
 use Rattle.tcc_serial.specs.Commits.{CoresSerial, SeenSerial, plain_start}
-use Rattle.tcc_serial.specs.Copies.{KeptSharers, keeps_unmodified, holds_line}
 use Rattle.tcc_serial.specs.Count.{live}
 use Rattle.tcc_serial.specs.Invariants.{Carried, StartHasAll, first_state}
 use Rattle.tcc_serial.specs.Marks.{marks_of}
@@ -40,22 +38,6 @@ start-follows sh p local = record { ends = refl; steps = λ ram small agrees. re
 start-read : (local : Local) → ReadFits (core_start local) []
 unfolding core_start empty_cache
 start-read local = record { stand = tt; used = λ a x e. absurd (cc) }
-
--- lines and copies
-
-empty-keeps : (l : ℕ) → keeps_unmodified empty_cache l ≡ false
-unfolding keeps_unmodified empty_cache any_word any_below
-empty-keeps l = refl
-
-holds-none : (entries : ℕ → Local) (ram : ℕ → ℕ) (c d l : ℕ) → holds_line l (pair (start entries ram) c d) ≡ false
-unfolding start core_start pair holds_line live
-holds-none entries ram c d l = rw (empty-keeps l) refl
-
-start-sharers : (sh : Shape) (entries : ℕ → Local) (ram : ℕ → ℕ) → KeptSharers sh (start entries ram) []
-start-sharers sh entries ram c d l a b i e = record {
-  shares = λ x. absurd (let y = holds-none entries ram c d l in cc);
-  stays = λ x. absurd (let y = holds-none entries ram c d l in cc);
-}
 
 -- values
 
@@ -113,7 +95,6 @@ start_has_all sh p entries ram = record {
   carried = start-carried sh p entries ram;
   carried_views = record { attempt_follows_from_its_view = λ c. start-follows sh p (entries c); read_marks_are_the_view = λ c. start-read (entries c) };
   frames_are_of_lines_in_memory = λ c l e. absurd (cc);
-  holder_is_a_sharer = start-sharers sh entries ram;
   home_words_are_current = start-home-words sh entries ram;
   copy_above_the_tag_has_the_committed_words = start-copies-above sh entries ram;
   unmodified_word_is_current_or_inv_in_flight = start-unmodified sh entries ram;

@@ -44,7 +44,7 @@ pub speaks : (sh : Shape) (w : World) (c : ℕ) (y : Out) → ((d t : ℕ) → d
 unfolding part_in pair
 speaks sh w c y k h n = record { untold = λ d t l. omega (arith, k d t l); tells = h; noted = n }
 
-grant-speaks : (sh : Shape) (w : World) (c k u : ℕ) → KeptTids sh w → in_flight w.net Vendor (Core c) k ≡ Some (TidGrant u) → Speaks sh w c (grant sh u (w.cores c))
+pub grant-speaks : (sh : Shape) (w : World) (c k u : ℕ) → KeptTids sh w → in_flight w.net Vendor (Core c) k ≡ Some (TidGrant u) → Speaks sh w c (grant sh u (w.cores c))
 unfolding part_in pair passes
 grant-speaks sh w c k u z i = record {
   untold = λ d t l. omega (arith, part-grant sh u d t (w.cores c) l (granted_waits (pair w c d) k u i (z.requests c d)), live-some (Grants t) (w.net Vendor (Core c)) k (TidGrant u) i);

@@ -124,7 +124,8 @@ pub record CommitsLine (base : ℕ) (cs : List Noted) (c l : ℕ) (v : Pair) : T
   pub sent : 1 ≤ live (Commits tid) v.out
   pub line : wrote_line base cs c tid l ≡ true
 
--- A core that holds a line is one of its sharers, or its Commit of the line is in flight; and it hasn't said that it keeps no word.
+-- A core that holds a line in memory is one of its sharers, or its Commit of the line is in flight; and it hasn't said that it keeps
+-- no word.
 pub record SharerOf (base : ℕ) (cs : List Noted) (c l : ℕ) (v : Pair) : Type 0 where
   pub shares : holds_line l v ≡ true → (v.dir.lines.sharers l c ≡ true) ⊎ CommitsLine base cs c l v
   pub stays : holds_line l v ≡ true → live (GoneOf l) v.out ≡ 0

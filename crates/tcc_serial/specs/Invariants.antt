@@ -153,6 +153,8 @@ pub record Carried (sh : Shape) (gs : List Grant) (ys : Ways) (h : History) : Ty
   pub owned_line_has_one_copy_with_its_tag : KeptOwned sh h.world
   -- An asked line has an owner; the request is in flight to it, or the line's words are on their way from it.
   pub asked_line_gets_its_words : KeptAsked sh h.world × KeptGets sh h.world
+  -- A core that holds a line in memory is one of its sharers, or its Commit of the line is in flight; and it hasn't said that it keeps no word.
+  pub holder_is_a_sharer : KeptSharers sh h.world h.commits
   -- values
 
   -- A word that is marked read is valid, or its home has passed the core's bound.
@@ -181,10 +183,6 @@ pub record Invariants (sh : Shape) (p : Program) (entries : ℕ → Local) (ram 
 
   -- Only lines of memory have frames.
   pub frames_are_of_lines_in_memory : (c l : ℕ) → (h.world.cores c).cache.held l ≡ true → l < lines sh
-  -- lines and copies
-
-  -- A core that holds a line is one of its sharers, or its Commit of the line is in flight; and it hasn't said that it keeps no word.
-  pub holder_is_a_sharer : KeptSharers sh h.world h.commits
   -- values
 
   -- A word has its value in the copy with its line's tag, and at home where no such copy has the word.
