@@ -69,6 +69,10 @@ pub mod AfterKept
 pub mod OnItsWay
 pub mod FromKept
 pub mod FromViews
+pub mod CoreInMemory
+pub mod InMemoryTakes
+pub mod InMemoryKept
+pub mod MemoryHomes
 pub mod StartAll
 pub mod TriedRun
 pub mod SoundAttempts
