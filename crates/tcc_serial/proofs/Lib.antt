@@ -72,6 +72,7 @@ pub mod FromViews
 pub mod CoreInMemory
 pub mod InMemoryTakes
 pub mod InMemoryKept
+pub mod FromMemory
 pub mod MemoryHomes
 pub mod StartAll
 pub mod TriedRun

@@ -27,6 +27,8 @@ use Rattle.tcc_serial.specs.Values.{HomeWords, CopiesAbove, UnmodifiedWords, Fil
 use Rattle.tcc_serial.specs.Wrote.{last_of, wrote, wrote_line}
 use Rattle.tcc_serial.proofs.MoreKept.{start-more}
 use Rattle.tcc_serial.proofs.FromKept.{runs_carry}
+use Rattle.tcc_serial.proofs.FromMemory.{carried-memory}
+use Rattle.tcc_serial.proofs.InMemoryKept.{start-memory}
 
 -- no core has a TID and nothing is in flight
 
@@ -150,7 +152,7 @@ unfolding start core_start dir_start vendor_start empty_cache pair live is_skipp
 start_has_all sh p entries ram = record {
   carried = start-carried sh p entries ram;
   carried_views = record { attempt_follows_from_its_view = λ c. start-follows sh p (entries c); read_marks_are_the_view = λ c. start-read (entries c) };
-  frames_are_of_lines_in_memory = λ c l e. absurd (cc);
+  carried_in_memory = carried-memory sh [] first_ways (first_state entries ram) (start-carried sh p entries ram) (start-memory sh entries ram);
   line_tag_is_the_last_settled_writer = start-tags sh entries ram;
   copy_above_the_tag_is_of_a_commit_in_flight = start-above sh entries ram;
   owned_line_has_one_copy_with_its_tag = start-owned sh entries ram;
