@@ -25,6 +25,7 @@ use Rattle.tcc_serial.proofs.OnItsWay.{on-its-way}
 use Rattle.tcc_serial.proofs.Always.{passed, owed_from, served_from}
 use Rattle.tcc_serial.proofs.CommitSteps.{commits_served}
 use Rattle.tcc_serial.proofs.MaskLaws.{marked_by_served, marks_of_commits}
+use Rattle.tcc_serial.proofs.ReadsKept.{read-words}
 use Rattle.tcc_serial.proofs.RunWays.{told_from}
 use Rattle.tcc_serial.proofs.SmallerTids.{smaller_are_given_up, work_is_reached}
 use Rattle.tcc_serial.proofs.WayFacts.{untold_where_open, untold_is_live, all_ways_fit, given_up_once, live_is_open, committed_where_stored}
@@ -160,6 +161,7 @@ carried sh gs ys h m t = let k = m.all in record {
   owner_is_the_core_of_the_tag = m.line_owners;
   after_is_the_last_commit_there = m.after;
   one_load_request_or_fill = m.loading;
+  read_mark_is_valid_or_passed = read-words sh gs h.world h.commits k.owners k.last m.reads;
 }
 
 told-always : (sh : Shape) (p : Program) (entries : ℕ → Local) (ram : ℕ → ℕ) (es : List Event) → IfSome (run sh p (start entries ram) es) (λ h. Told sh (ways_from sh p es first_ways (first_state entries ram)) h)

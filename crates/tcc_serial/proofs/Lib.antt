@@ -88,6 +88,9 @@ pub mod SmallerTids
 pub mod WorkedSteps
 pub mod CoreLoadsTakes
 pub mod CoreLoads
+pub mod CoreReads
+pub mod CoreReadsTakes
+pub mod ReadsKept
 pub mod RunWays
 pub mod ListedCommits
 pub mod ToldSteps

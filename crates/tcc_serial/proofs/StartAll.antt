@@ -23,7 +23,7 @@ use Rattle.tcc_serial.specs.Pairs.{pair}
 use Rattle.tcc_serial.specs.Ways.{first_ways, ways_from}
 use Rattle.tcc_serial.specs.Owners.{grants_from}
 use Rattle.tcc_rules.specs.Step.{run, run_from}
-use Rattle.tcc_serial.specs.Values.{HomeWords, CopiesAbove, UnmodifiedWords, FilledWords, ReadWords, CopiesHave, value_at, after_commits}
+use Rattle.tcc_serial.specs.Values.{HomeWords, CopiesAbove, UnmodifiedWords, FilledWords, CopiesHave, value_at, after_commits}
 use Rattle.tcc_serial.specs.Wrote.{last_of, wrote, wrote_line}
 use Rattle.tcc_serial.proofs.MoreKept.{start-more}
 use Rattle.tcc_serial.proofs.FromKept.{runs_carry}
@@ -117,10 +117,6 @@ start-filled : (sh : Shape) (entries : ℕ → Local) (ram : ℕ → ℕ) → Fi
 unfolding start pair live
 start-filled sh entries ram c d x a b e f = inl refl
 
-start-read-words : (sh : Shape) (entries : ℕ → Local) (ram : ℕ → ℕ) → ReadWords sh (start entries ram)
-unfolding start core_start empty_cache
-start-read-words sh entries ram c d x b a f g h e = absurd (cc)
-
 -- what is seen
 
 no-copies : (sh : Shape) (entries : ℕ → Local) (ram : ℕ → ℕ) (x c : ℕ) → copies_of sh (start entries ram) x c ≡ []
@@ -162,7 +158,6 @@ start_has_all sh p entries ram = record {
   copy_above_the_tag_has_the_committed_words = start-copies-above sh entries ram;
   unmodified_word_is_current_or_inv_in_flight = start-unmodified sh entries ram;
   filled_word_is_current_or_inv_in_flight = start-filled sh entries ram;
-  read_mark_is_valid_or_passed = start-read-words sh entries ram;
   viewed_word_is_current_or_doomed = λ c d b a e f. tt;
   commits_are_serial = refl;
   committed_cores_are_serial = start-cores-serial sh entries ram;

@@ -145,6 +145,10 @@ pub record Carried (sh : Shape) (gs : List Grant) (ys : Ways) (h : History) : Ty
   pub after_is_the_last_commit_there : KeptAfter sh h.world h.commits
   -- One load request or Fill is in flight exactly for the line that a core awaits.
   pub one_load_request_or_fill : KeptLoading sh h.world
+  -- values
+
+  -- A word that is marked read is valid, or its home has passed the core's bound.
+  pub read_mark_is_valid_or_passed : ReadWords sh h.world
   -- commits
 
   -- Where a larger TID has committed and a smaller one hasn't, this one was given up wherever the larger one loaded or stored; and each
@@ -205,8 +209,6 @@ pub record Invariants (sh : Shape) (p : Program) (entries : ℕ → Local) (ram 
   pub unmodified_word_is_current_or_inv_in_flight : UnmodifiedWords sh ram h.world h.commits
   -- So is each word of a Fill that the core will take.
   pub filled_word_is_current_or_inv_in_flight : FilledWords sh ram h.world h.commits
-  -- A word that is marked read is valid, or its home has passed the core's bound.
-  pub read_mark_is_valid_or_passed : ReadWords sh h.world
   -- A word of a core's view has the value that it has for the core at its bound, or the attempt is doomed.
   pub viewed_word_is_current_or_doomed : ViewedWords sh ram h.world h.commits views
   -- commits
