@@ -70,14 +70,21 @@ noted-memory sh (Some x) cs a k = λ n q. go n (inserted x n cs q)
     go n (inl e) = subst (λ (m : Noted). AccessesInMemory sh m.loads m.stores) e a
     go n (inr q) = k n q
 
+pub step-in-memory : (sh : Shape) (p : Program) (h : History) (e : Event) → StaysInMemory sh p → KeptInMemory sh h → IfSome (recorded h (step sh p h.world e)) (λ g. KeptInMemory sh g)
+step-in-memory sh p h e i k = go (step sh p h.world e) (step-memory sh p h.world e i k.cores)
+  where
+    go : (x : Option Stepped) → IfSome x (StepInMemory sh) → IfSome (recorded h x) (λ g. KeptInMemory sh g)
+    go None q = tt
+    go (Some o) q = record { cores = q.0; commits = noted-memory sh o.noted h.commits (q.1) k.commits }
+
 run_from-memory : (sh : Shape) (p : Program) (es : List Event) (h : History) → StaysInMemory sh p → KeptInMemory sh h → IfSome (run_from sh p es h) (λ r. KeptInMemory sh r)
 unfolding run_from next
 run_from-memory sh p [] h i k = k
-run_from-memory sh p (e ∷ es) h i k = go (step sh p h.world e) (step-memory sh p h.world e i k.cores) (λ g q. run_from-memory sh p es g i q)
+run_from-memory sh p (e ∷ es) h i k = go (recorded h (step sh p h.world e)) (step-in-memory sh p h e i k) (λ g q. run_from-memory sh p es g i q)
   where
-    go : (x : Option Stepped) → IfSome x (StepInMemory sh) → ((g : History) → KeptInMemory sh g → IfSome (run_from sh p es g) (λ r. KeptInMemory sh r)) → IfSome (and_then (run_from sh p es) (recorded h x)) (λ r. KeptInMemory sh r)
+    go : (x : Option History) → IfSome x (λ g. KeptInMemory sh g) → ((g : History) → KeptInMemory sh g → IfSome (run_from sh p es g) (λ r. KeptInMemory sh r)) → IfSome (and_then (run_from sh p es) x) (λ r. KeptInMemory sh r)
     go None q f = tt
-    go (Some o) q f = f (record { world = o.world; commits = and_noted o.noted h.commits }) (record { cores = q.0; commits = noted-memory sh o.noted h.commits (q.1) k.commits })
+    go (Some g) q f = f g q
 
 pub start-memory : (sh : Shape) (entries : ℕ → Local) (ram : ℕ → ℕ) → KeptInMemory sh (first_state entries ram)
 unfolding start core_start empty_cache
