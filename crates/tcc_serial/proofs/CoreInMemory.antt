@@ -14,7 +14,7 @@ use Rattle.tcc_maps.specs.Shape.{Shape, set_of, lines}
 use Rattle.tcc_maps.specs.Cache.{Cache, free_way, all_marked}
 use Rattle.tcc_maps.specs.CacheChange.{marked, stored, placed, placed_at, committed, words_dropped}
 use Rattle.tcc_maps.specs.Spilled.{holds}
-use Rattle.tcc_rules.specs.State.{CoreState, Awaited, Phase, Running, AwaitTid, DoomedTid, Probing, Ready, Overflowing, Solo, Halted}
+use Rattle.tcc_rules.specs.State.{CoreState, Awaited, Phase, Running, AwaitTid, DoomedTid, Probing, Ready, Overflowing, Solo, Halted, World}
 use Rattle.tcc_rules.specs.Sends.{nothing, to, flushed}
 use Rattle.tcc_rules.specs.Attempt.{Out, moves, finished, stepped, is_running, is_solo, new_word}
 use Rattle.tcc_rules.specs.Commit.{noted, commit, committed_core, solo_commit}
@@ -29,6 +29,9 @@ use Rattle.tcc_serial.proofs.UsedWords.{stores_word-append}
 pub record CoreInMemory (sh : Shape) (s : CoreState) : Type 0 where
   pub frames : FramesInMemory sh s.cache
   pub accesses : AccessesInMemory sh s.loads s.stores
+
+abbrev pub CoresInMemory : Shape → World → Type 0
+CoresInMemory sh w = (c : ℕ) → CoreInMemory sh (w.cores c)
 
 -- and what it commits
 abbrev pub OutInMemory : Shape → Out → Type 0

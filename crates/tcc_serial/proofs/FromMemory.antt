@@ -1,13 +1,14 @@
 -- The facts of the list that are proved of every run of a program whose accesses lie in memory.
 use Rattle.std.specs.Prelude.{ℕ, ◌≡◌, ◌<◌, ◌≤◌, Bool, true, false, ◌==◌, ◌&&◌, ◌||◌, List, Option, Some, None, IfSome, is_some}
-use Rattle.std.proofs.Common.{arith, refl, sym, ◌∙◌}
+use Rattle.std.proofs.Common.{arith, refl, sym, ◌∙◌, ◌⊎◌, inl, inr}
+use Rattle.std.proofs.lemmas.Bool.{cases_lt}
 use Rattle.std.proofs.lemmas.Bool.Decides.{nat_tests}
 use Rattle.tcc_maps.specs.Shape.{Shape, home, lines}
 use Rattle.tcc_maps.specs.Words.{num}
 use Rattle.tcc_rules.specs.State.{Awaited, start}
 use Rattle.tcc_rules.specs.CoreEvict.{is_awaited}
 use Rattle.tcc_rules.specs.Step.{History, run}
-use Rattle.tcc_serial.specs.InMemory.{AttemptInMemory, LoadsInMemory}
+use Rattle.tcc_serial.specs.InMemory.{AttemptInMemory, LoadsInMemory, CopiesInMemory}
 use Rattle.tcc_serial.specs.Invariants.{Carried, CarriedInMemory, RunsStayInMemory, first_state}
 use Rattle.tcc_serial.specs.Owners.{Grant, grants_from}
 use Rattle.tcc_serial.specs.Pairs.{pair}
@@ -38,11 +39,19 @@ loads-memory sh gs ys h k m c d l i = go (h.world.cores c).awaited refl (omega (
     go None q n = absurd (omega arith)
     go (Some a) q n = line a q (a.line == l) (home sh l == d) refl n
 
+copies-memory : (sh : Shape) (h : History) → KeptInMemory sh h → CopiesInMemory sh h.world
+copies-memory sh h m c d l t i = go (cases_lt l (lines sh))
+  where
+    go : (l < lines sh) ⊎ (lines sh ≤ l) → l < lines sh
+    go (inl q) = q
+    go (inr q) = absurd (omega (arith, i, m.copies c d l t q))
+
 pub carried-memory : (sh : Shape) (gs : List Grant) (ys : Ways) (h : History) → Carried sh gs ys h → KeptInMemory sh h → CarriedInMemory sh h
 carried-memory sh gs ys h k m = record {
   frames_are_of_lines_in_memory = λ c l e. (m.cores c).frames l e;
   attempts_stay_in_memory = attempt-memory sh gs ys h k m;
   loads_in_flight_are_of_lines_in_memory = loads-memory sh gs ys h k m;
+  copies_in_flight_are_of_lines_in_memory = copies-memory sh h m;
   commits_stay_in_memory = m.commits;
 }
 

@@ -15,16 +15,18 @@ use Rattle.tcc_rules.specs.DirDeliver.{Answer, Waits, Drops, Asks, Takes, dir_de
 use Rattle.tcc_rules.specs.Step.{core_moves, core_takes, dir_takes, dir_asks, vendor_gives, Stepped, step, History, and_noted, recorded, next, and_then, run_from, run}
 use Rattle.tcc_serial.specs.InMemory.{StaysInMemory, AccessesInMemory, CommitsInMemory}
 use Rattle.tcc_serial.specs.Invariants.{first_state}
-use Rattle.tcc_serial.proofs.CoreInMemory.{CoreInMemory, OutInMemory, nothing-used, exec-memory}
+use Rattle.tcc_serial.specs.OneCore.{KeptCores}
+use Rattle.tcc_serial.proofs.CoreAlone.{step-cores, start-cores}
+use Rattle.tcc_serial.proofs.CoreInMemory.{CoreInMemory, CoresInMemory, OutInMemory, nothing-used, exec-memory}
 use Rattle.tcc_serial.proofs.InMemoryTakes.{evict-memory, grant-memory, back-memory}
 use Rattle.tcc_serial.proofs.ListedCommits.{inserted}
+use Rattle.tcc_serial.proofs.MemoryCopies.{NoCopiesOutside, step-copies, start-copies}
 use Rattle.tcc_serial.proofs.StepCases.{OfAnswer, step_cases}
 
-abbrev pub CoresInMemory : Shape → World → Type 0
-CoresInMemory sh w = (c : ℕ) → CoreInMemory sh (w.cores c)
-
 pub record KeptInMemory (sh : Shape) (h : History) : Type 0 where
+  pub alone : KeptCores sh h.world
   pub cores : CoresInMemory sh h.world
+  pub copies : NoCopiesOutside sh h.world
   pub commits : CommitsInMemory sh h.commits
 
 -- what a step leaves and notes
@@ -71,11 +73,11 @@ noted-memory sh (Some x) cs a k = λ n q. go n (inserted x n cs q)
     go n (inr q) = k n q
 
 pub step-in-memory : (sh : Shape) (p : Program) (h : History) (e : Event) → StaysInMemory sh p → KeptInMemory sh h → IfSome (recorded h (step sh p h.world e)) (λ g. KeptInMemory sh g)
-step-in-memory sh p h e i k = go (step sh p h.world e) (step-memory sh p h.world e i k.cores)
+step-in-memory sh p h e i k = go (step sh p h.world e) (step-cores sh p h.world e k.alone) (step-memory sh p h.world e i k.cores) (step-copies sh p h.world e k.alone k.cores k.copies)
   where
-    go : (x : Option Stepped) → IfSome x (StepInMemory sh) → IfSome (recorded h x) (λ g. KeptInMemory sh g)
-    go None q = tt
-    go (Some o) q = record { cores = q.0; commits = noted-memory sh o.noted h.commits (q.1) k.commits }
+    go : (x : Option Stepped) → IfSome x (λ o. KeptCores sh o.world) → IfSome x (StepInMemory sh) → IfSome x (λ o. NoCopiesOutside sh o.world) → IfSome (recorded h x) (λ g. KeptInMemory sh g)
+    go None a q f = tt
+    go (Some o) a q f = record { alone = a; cores = q.0; copies = f; commits = noted-memory sh o.noted h.commits (q.1) k.commits }
 
 run_from-memory : (sh : Shape) (p : Program) (es : List Event) (h : History) → StaysInMemory sh p → KeptInMemory sh h → IfSome (run_from sh p es h) (λ r. KeptInMemory sh r)
 unfolding run_from next
@@ -89,7 +91,9 @@ run_from-memory sh p (e ∷ es) h i k = go (recorded h (step sh p h.world e)) (s
 pub start-memory : (sh : Shape) (entries : ℕ → Local) (ram : ℕ → ℕ) → KeptInMemory sh (first_state entries ram)
 unfolding start core_start empty_cache
 start-memory sh entries ram = record {
+  alone = start-cores sh entries ram;
   cores = λ c. record { frames = λ l e. absurd (cc); accesses = nothing-used sh };
+  copies = start-copies sh entries ram;
   commits = λ n q. absurd (omega (arith, q.1));
 }
 

@@ -71,6 +71,8 @@ pub mod FromKept
 pub mod FromViews
 pub mod CoreInMemory
 pub mod InMemoryTakes
+pub mod MemorySends
+pub mod MemoryCopies
 pub mod InMemoryKept
 pub mod FromMemory
 pub mod MemoryHomes

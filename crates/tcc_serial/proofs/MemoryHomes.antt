@@ -22,7 +22,7 @@ line-has : (p : ℕ → Bool) (x : ℕ) → p x ≡ true → any_word p (line_of
 unfolding any_word
 line-has p x e = let same : word_at (line_of x) (place_of x) ≡ x = omega arith in any_below-at (λ k. p (word_at (line_of x) k)) 8 (place_of x) (omega arith) (rw same e)
 
-line-found : (p : ℕ → Bool) (l : ℕ) → any_word p l ≡ true → (x : ℕ) × (line_of x ≡ l) × (p x ≡ true)
+pub line-found : (p : ℕ → Bool) (l : ℕ) → any_word p l ≡ true → (x : ℕ) × (line_of x ≡ l) × (p x ≡ true)
 unfolding any_word
 line-found p l e = let k = any_below-found (λ k. p (word_at l k)) 8 e in (word_at l k.0, omega (arith, k.1), k.2)
 

@@ -9,7 +9,7 @@ use Rattle.tcc_maps.specs.Cache.{Cache}
 use Rattle.tcc_maps.specs.Shape.{Shape, lines}
 use Rattle.tcc_maps.specs.Words.{line_of}
 use Rattle.tcc_rules.specs.State.{CoreState, Awaited, World}
-use Rattle.tcc_serial.specs.Count.{LoadOf, FillOf, live}
+use Rattle.tcc_serial.specs.Count.{LoadOf, FillOf, CopyOf, live}
 use Rattle.tcc_serial.specs.Pairs.{pair}
 use Rattle.tcc_serial.specs.Uses.{loads_word, stores_word}
 
@@ -54,3 +54,7 @@ CommitsInMemory sh cs = (n : Noted) → Contains cs n → AccessesInMemory sh n.
 -- A load request and a Fill in flight are of a line of memory.
 abbrev pub LoadsInMemory : Shape → World → Type 0
 LoadsInMemory sh w = (c d l : ℕ) → 1 ≤ live (LoadOf l) (pair w c d).out + live (FillOf l) (pair w c d).back → l < lines sh
+
+-- So are words on their way home.
+abbrev pub CopiesInMemory : Shape → World → Type 0
+CopiesInMemory sh w = (c d l t : ℕ) → 1 ≤ live (CopyOf l t) (pair w c d).out → l < lines sh

@@ -21,7 +21,7 @@ use Rattle.tcc_serial.specs.Committing.{CommitsAreServed}
 use Rattle.tcc_serial.specs.Copies.{KeptHomes, KeptTags, KeptLineOwners, KeptAfter, KeptLoading, KeptAbove, KeptOwned, KeptGets, KeptSharers}
 use Rattle.tcc_serial.specs.Count.{Grants, Commits, Acks, Marks, Skips, MarksAway, EmptyMarks, Probes, Replies, RepliesAbove, live}
 use Rattle.tcc_serial.specs.Counted.{KeptCounted}
-use Rattle.tcc_serial.specs.InMemory.{StaysInMemory, FramesInMemory, AttemptInMemory, LoadsInMemory, CommitsInMemory}
+use Rattle.tcc_serial.specs.InMemory.{StaysInMemory, FramesInMemory, AttemptInMemory, LoadsInMemory, CopiesInMemory, CommitsInMemory}
 use Rattle.tcc_serial.specs.Laws.{OneWay, OneRequest, NeverPasses, OwedInFlight, Served}
 use Rattle.tcc_serial.specs.Marks.{marks_of, marked_by}
 use Rattle.tcc_serial.specs.Named.{KeptNamed}
@@ -177,6 +177,8 @@ pub record CarriedInMemory (sh : Shape) (h : History) : Type 0 where
 
   -- A load request and a Fill in flight are of a line of memory.
   pub loads_in_flight_are_of_lines_in_memory : LoadsInMemory sh h.world
+  -- So is a WriteBack or Flush in flight.
+  pub copies_in_flight_are_of_lines_in_memory : CopiesInMemory sh h.world
   -- commits
 
   -- The words that a commit loaded or stored lie in memory.
