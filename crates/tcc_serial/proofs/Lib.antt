@@ -102,6 +102,13 @@ pub mod NewCommits
 pub mod OnItsWay
 pub mod FromKept
 pub mod FromViews
+pub mod CoreInMemory
+pub mod InMemoryTakes
+pub mod MemorySends
+pub mod MemoryCopies
+pub mod InMemoryKept
+pub mod FromMemory
+pub mod MemoryHomes
 pub mod StartAll
 pub mod TriedRun
 pub mod SoundAttempts

@@ -23,6 +23,8 @@ use Rattle.tcc_serial.specs.Owners.{grants_from}
 use Rattle.tcc_rules.specs.Step.{run, run_from}
 use Rattle.tcc_serial.specs.Values.{HomeWords, CopiesAbove, UnmodifiedWords, FilledWords, CopiesHave, value_at, after_commits}
 use Rattle.tcc_serial.proofs.FromKept.{runs_carry}
+use Rattle.tcc_serial.proofs.FromMemory.{carried-memory}
+use Rattle.tcc_serial.proofs.InMemoryKept.{start-memory}
 
 -- no core has a TID and nothing is in flight
 
@@ -94,7 +96,7 @@ unfolding start core_start dir_start vendor_start empty_cache pair live is_skipp
 start_has_all sh p entries ram = record {
   carried = start-carried sh p entries ram;
   carried_views = record { attempt_follows_from_its_view = λ c. start-follows sh p (entries c); read_marks_are_the_view = λ c. start-read (entries c) };
-  frames_are_of_lines_in_memory = λ c l e. absurd (cc);
+  carried_in_memory = carried-memory sh [] first_ways (first_state entries ram) (start-carried sh p entries ram) (start-memory sh entries ram);
   home_words_are_current = start-home-words sh entries ram;
   copy_above_the_tag_has_the_committed_words = start-copies-above sh entries ram;
   unmodified_word_is_current_or_inv_in_flight = start-unmodified sh entries ram;

@@ -1,30 +1,22 @@
 -- The aim, which is still to be proved: every state that a run reaches has all of the list.
-use Rattle.std.specs.Prelude.{ℕ, ◌<◌, ◌≤◌, List, IfSome}
+use Rattle.std.specs.Prelude.{ℕ, ◌≤◌, List, IfSome}
 use Rattle.tcc_program.specs.Plain.{Plain}
-use Rattle.tcc_program.specs.Program.{Local, Need, Loads, Stores, Changes, Program}
-use Rattle.tcc_program.specs.Ram.{word_of}
+use Rattle.tcc_program.specs.Program.{Local, Program}
 use Rattle.tcc_maps.specs.Nodes.{Event}
-use Rattle.tcc_maps.specs.Shape.{Shape, lines}
-use Rattle.tcc_maps.specs.Words.{line_of}
+use Rattle.tcc_maps.specs.Shape.{Shape}
 use Rattle.tcc_rules.specs.State.{start}
 use Rattle.tcc_rules.specs.Step.{run}
 use Rattle.tcc_attempt.specs.Follows.{Uses, Fits, IsSmall}
+use Rattle.tcc_serial.specs.InMemory.{StaysInMemory}
 use Rattle.tcc_serial.specs.Invariants.{Invariants, first_state}
 use Rattle.tcc_serial.specs.Owners.{grants_from}
 use Rattle.tcc_serial.specs.Ways.{first_ways, ways_from}
-
--- an access lies in a line of memory
-abbrev pub NeedInMemory : Shape → Need → Type 0
-NeedInMemory sh (Loads addr size) = line_of (word_of sh.base addr) < lines sh
-NeedInMemory sh (Stores addr size value) = line_of (word_of sh.base addr) < lines sh
-NeedInMemory sh (Changes addr changed) = line_of (word_of sh.base addr) < lines sh
-NeedInMemory sh _ = Unit {0}
 
 -- there is a directory, the program's accesses are aligned, fit and lie in memory, and memory has 32-bit words
 pub record Suits (sh : Shape) (p : Program) (ram : ℕ → ℕ) : Type 0 where
   pub dirs : 1 ≤ sh.dirs
   pub fits : Fits p
-  pub inside : (l : Local) → NeedInMemory sh (p.need l)
+  pub inside : StaysInMemory sh p
   pub small : IsSmall ram
 
 -- for some views and some plain machine

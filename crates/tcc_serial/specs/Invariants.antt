@@ -1,13 +1,13 @@
 -- The whole list: all that holds of every state that a run reaches, each fact with a name. Those that are proved of every run stand in
--- the first record, those that are proved where the program's accesses are aligned and its stores fit in the second, and those to come
--- in the third, each in the order in which the proofs stand on one another.
+-- the first record, those that are proved where the program's accesses are aligned and its stores fit in the second, those where its
+-- accesses lie in memory in the third, and those to come in the fourth, each in the order in which the proofs stand on one another.
 use Rattle.std.specs.Prelude.{ℕ, ◌+◌, ◌≡◌, ◌<◌, ◌≤◌, ◌⊎◌, true, false, ◌||◌, List, [], length, Contains, IfSome, Some, None, is_some}
 use Rattle.tcc_program.specs.Plain.{Plain}
 use Rattle.tcc_program.specs.Program.{Local, Program}
 use Rattle.tcc_maps.specs.Words.{line_of}
 use Rattle.tcc_maps.specs.Nodes.{Core, Dir, Event}
 use Rattle.tcc_maps.specs.Serving.{is_skipped}
-use Rattle.tcc_maps.specs.Shape.{Shape, home, lines}
+use Rattle.tcc_maps.specs.Shape.{Shape, home}
 use Rattle.tcc_maps.specs.Cache.{IsCache}
 use Rattle.tcc_maps.specs.Lines.{has_mark}
 use Rattle.tcc_rules.specs.State.{Awaited, Halted, start}
@@ -21,6 +21,7 @@ use Rattle.tcc_serial.specs.Committing.{CommitsAreServed}
 use Rattle.tcc_serial.specs.Copies.{KeptHomes, KeptTags, KeptLineOwners, KeptAfter, KeptLoading, KeptAbove, KeptOwned, KeptGets, KeptSharers}
 use Rattle.tcc_serial.specs.Count.{Grants, Commits, Acks, Marks, Skips, MarksAway, EmptyMarks, Probes, Replies, RepliesAbove, live}
 use Rattle.tcc_serial.specs.Counted.{KeptCounted}
+use Rattle.tcc_serial.specs.InMemory.{StaysInMemory, FramesInMemory, AttemptInMemory, LoadsInMemory, CopiesInMemory, CommitsInMemory}
 use Rattle.tcc_serial.specs.Laws.{OneWay, OneRequest, NeverPasses, OwedInFlight, Served}
 use Rattle.tcc_serial.specs.Marks.{marks_of, marked_by}
 use Rattle.tcc_serial.specs.Named.{KeptNamed}
@@ -175,14 +176,30 @@ pub record CarriedViews (sh : Shape) (p : Program) (views : ℕ → Uses) (h : H
   -- Until a core is alone the words marked read are those of its view, and the valid ones that it hasn't modified have the view's values.
   pub read_marks_are_the_view : (c : ℕ) → ReadFits (h.world.cores c) (views c)
 
+-- What is proved of every run of a program whose accesses lie in memory.
+pub record CarriedInMemory (sh : Shape) (h : History) : Type 0 where
+  -- one core by itself
+
+  -- Only lines of memory have frames.
+  pub frames_are_of_lines_in_memory : (c : ℕ) → FramesInMemory sh (h.world.cores c).cache
+  -- The words that an attempt has loaded, stored or spilled lie in memory, and so does the line that its core awaits.
+  pub attempts_stay_in_memory : (c : ℕ) → AttemptInMemory sh (h.world.cores c)
+  -- lines and copies
+
+  -- A load request and a Fill in flight are of a line of memory.
+  pub loads_in_flight_are_of_lines_in_memory : LoadsInMemory sh h.world
+  -- So is a WriteBack or Flush in flight.
+  pub copies_in_flight_are_of_lines_in_memory : CopiesInMemory sh h.world
+  -- commits
+
+  -- The words that a commit loaded or stored lie in memory.
+  pub commits_stay_in_memory : CommitsInMemory sh h.commits
+
 -- All of it. m is the plain machine after the commits.
 pub record Invariants (sh : Shape) (p : Program) (entries : ℕ → Local) (ram : ℕ → ℕ) (gs : List Grant) (ys : Ways) (views : ℕ → Uses) (m : Plain) (h : History) : Type 0 where
   pub carried : Carried sh gs ys h
   pub carried_views : CarriedViews sh p views h
-  -- one core by itself
-
-  -- Only lines of memory have frames.
-  pub frames_are_of_lines_in_memory : (c l : ℕ) → (h.world.cores c).cache.held l ≡ true → l < lines sh
+  pub carried_in_memory : CarriedInMemory sh h
   -- values
 
   -- A word has its value in the copy with its line's tag, and at home where no such copy has the word.
@@ -219,3 +236,7 @@ RunsCarry = (sh : Shape) (p : Program) (entries : ℕ → Local) (ram : ℕ → 
 -- And, for a program that fits, with the views along the run.
 abbrev pub RunsCarryViews : Type 0
 RunsCarryViews = (sh : Shape) (p : Program) (entries : ℕ → Local) (ram : ℕ → ℕ) (es : List Event) → Fits p → IfSome (run sh p (start entries ram) es) (λ h. CarriedViews sh p (views_from sh p es no_views (first_state entries ram)) h)
+
+-- And, for a program whose accesses lie in memory, what lies there then.
+abbrev pub RunsStayInMemory : Type 0
+RunsStayInMemory = (sh : Shape) (p : Program) (entries : ℕ → Local) (ram : ℕ → ℕ) (es : List Event) → StaysInMemory sh p → IfSome (run sh p (start entries ram) es) (λ h. CarriedInMemory sh h)

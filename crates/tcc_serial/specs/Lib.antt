@@ -6,6 +6,8 @@ pub mod Counted
 pub mod Commits
 pub mod Committing
 pub mod Copies
+pub mod AtHomes
+pub mod InMemory
 pub mod Insertion
 pub mod Invariants
 pub mod Kept

@@ -19,7 +19,8 @@ ghost use Rattle.tcc_serial.specs.Probing.{OneProbe};
 ghost use Rattle.tcc_serial.specs.Stored.{KeptStored};
 ghost use Rattle.tcc_serial.specs.Laws.{Always, OneWay, OneRequest, NeverPasses, OwedInFlight, Served, CommitsOnce, HoldsLast, SparesItsCommitter, MarksAreStored};
 ghost use Rattle.tcc_serial.specs.WayLaws.{AlwaysTold, UntoldWhereOpen, UntoldIsLive, AllWaysFit, GivenUpOnce, LiveIsOpen, CommittedWhereStored, SmallerAreResolved, SmallerAreGivenUp, WorkIsReached};
-ghost use Rattle.tcc_serial.specs.Invariants.{StartHasAll, RunsCarry, RunsCarryViews};
+ghost use Rattle.tcc_serial.specs.AtHomes.{AccessesAtHomes, MarksAtHomes, WrittenInMemory};
+ghost use Rattle.tcc_serial.specs.Invariants.{StartHasAll, RunsCarry, RunsCarryViews, RunsStayInMemory};
 ghost use Rattle.tcc_serial.specs.Sound.{AttemptsSound};
 ghost use Rattle.tcc_serial.specs.Tried.{TriedFill, TriedRead, TriedOwner, TriedAlone, TriedFails};
 ghost use Rattle.tcc_base.specs.declared.access.Commit.{Commit};
@@ -174,6 +175,15 @@ pub fn runs_carry_what_is_proved()
 /// with these values where they are valid and the attempt hasn't modified them. The program's accesses are aligned and its stores fit.
 pub fn attempts_follow_from_their_views()
     ensures views { RunsCarryViews }
+{}
+
+/// In every state that a run reaches frames, the words that attempts and commits loaded and stored, spilled words and awaited lines lie
+/// in memory, where the program's accesses do. So each word that was loaded or stored, or that is marked, is found at its line's home.
+pub fn accesses_stay_in_memory()
+    ensures inside { RunsStayInMemory }
+    ensures used { AccessesAtHomes }
+    ensures marked { MarksAtHomes }
+    ensures written { WrittenInMemory }
 {}
 
 /// The facts on lines, copies and values hold in each state of some runs that were worked by hand, and where one thing is changed at
