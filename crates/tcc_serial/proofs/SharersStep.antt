@@ -113,8 +113,8 @@ step-sharers sh p gs ys h e b ld hm rd t = step_cases sh p h.world e (λ g o. Ke
         let o : Out = grant sh u (h.world.cores c) in
         let a = after-grant sh u (h.world.cores c) in
         pairs_grant (SharersAt sh (and_noted o.commit h.commits)) h.world c k o
-            (λ d l cl dl ll q. regranted sh.base (and_noted o.commit h.commits) c d k l (pair h.world c d) o (own-sharers sh gs ys h c d l o b ld cl dl ll q (record { holds = holds-grant sh l u (h.world.cores c); speaks = grant-speaks sh h.world c k u b.told.all.kept.told.tids i; after = inl a; quiet = none-gone l (o.sends (Dir d)) ((clean-grant sh u (h.world.cores c) d).acks); reached = served-grant sh u d (h.world.dirs d).serving.serving (h.world.cores c); unapplied = λ n q s. absurd (let y = sym (a.commit) ∙ q in cc) }) (t c d l cl dl ll q)))
-            (λ j d l jl dl ll q. subst (λ n. SharerOf sh.base (and_noted n h.commits) j l (pair h.world j d)) (sym (a.commit)) (t j d l jl dl ll q))
+        (λ d l cl dl ll q. regranted sh.base (and_noted o.commit h.commits) c d k l (pair h.world c d) o (own-sharers sh gs ys h c d l o b ld cl dl ll q (record { holds = holds-grant sh l u (h.world.cores c); speaks = grant-speaks sh h.world c k u b.told.all.kept.told.tids i; after = inl a; quiet = none-gone l (o.sends (Dir d)) ((clean-grant sh u (h.world.cores c) d).acks); reached = served-grant sh u d (h.world.dirs d).serving.serving (h.world.cores c); unapplied = λ n q s. absurd (let y = sym (a.commit) ∙ q in cc) }) (t c d l cl dl ll q)))
+        (λ j d l jl dl ll q. subst (λ n. SharerOf sh.base (and_noted n h.commits) j l (pair h.world j d)) (sym (a.commit)) (t j d l jl dl ll q))
 
     not-away : (c d k : ℕ) (m : Msg) → in_flight h.world.net (Dir d) (Core c) k ≡ Some m → passes (InvsAway sh.dirs d) m ≡ false
     not-away c d k m i = go (passes (InvsAway sh.dirs d) m) refl
