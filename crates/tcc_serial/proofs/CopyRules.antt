@@ -107,27 +107,27 @@ quiet : (sh : Shape) (l : ℕ) (s : CoreState) → Conserves sh l s (ignored s)
 unfolding among
 quiet sh l s = conserves-still sh l s (ignored s) refl (λ k i. refl) (λ t. refl)
 
-grants-none : (sh : Shape) (c : Cache) (l u t d : ℕ) → among (CopyOf l t) (grant_sends sh c u (Dir d)) ≡ 0
+pub grants-none : (sh : Shape) (c : Cache) (l u t d : ℕ) → among (CopyOf l t) (grant_sends sh c u (Dir d)) ≡ 0
 unfolding grant_sends among passes
 grants-none sh c l u t d = grind (arith, nat_tests)
 
-skips-none : (sh : Shape) (l u t d : ℕ) → among (CopyOf l t) (skip_all sh u (Dir d)) ≡ 0
+pub skips-none : (sh : Shape) (l u t d : ℕ) → among (CopyOf l t) (skip_all sh u (Dir d)) ≡ 0
 unfolding skip_all among passes
 skips-none sh l u t d = grind (arith, nat_tests)
 
-probes-none : (sh : Shape) (l u t d : ℕ) → among (CopyOf l t) (probe_all sh u (Dir d)) ≡ 0
+pub probes-none : (sh : Shape) (l u t d : ℕ) → among (CopyOf l t) (probe_all sh u (Dir d)) ≡ 0
 unfolding probe_all among passes
 probes-none sh l u t d = grind (arith, nat_tests)
 
-aborts-none : (sh : Shape) (c : Cache) (l u t d : ℕ) → among (CopyOf l t) (abort_written sh c u (Dir d)) ≡ 0
+pub aborts-none : (sh : Shape) (c : Cache) (l u t d : ℕ) → among (CopyOf l t) (abort_written sh c u (Dir d)) ≡ 0
 unfolding abort_written among passes
 aborts-none sh c l u t d = grind (arith, nat_tests)
 
-marks-none : (sh : Shape) (c : Cache) (l u t e : ℕ) → among (CopyOf l t) (marks_for sh c u e) ≡ 0
+pub marks-none : (sh : Shape) (c : Cache) (l u t e : ℕ) → among (CopyOf l t) (marks_for sh c u e) ≡ 0
 unfolding marks_for among passes
 marks-none sh c l u t e = among-flat_map_none (CopyOf l t) (λ k. Mark k (modified_mask c k) u ∷ []) (λ k. refl) (written_lines sh c e)
 
-acked-none : (sh : Shape) (l k t : ℕ) (o : Out) → among (CopyOf l t) (o.sends (Dir (home sh l))) ≡ 0 → among (CopyOf l t) ((acknowledged sh k o).sends (Dir (home sh l))) ≡ 0
+pub acked-none : (sh : Shape) (l k t : ℕ) (o : Out) → among (CopyOf l t) (o.sends (Dir (home sh l))) ≡ 0 → among (CopyOf l t) ((acknowledged sh k o).sends (Dir (home sh l))) ≡ 0
 unfolding acknowledged among passes
 acked-none sh l k t o z = rw among-append (omega (arith, z, one (home sh l == home sh k)))
   where
@@ -135,12 +135,12 @@ acked-none sh l k t o z = rw among-append (omega (arith, z, one (home sh l == ho
     one true = refl
     one false = refl
 
-acked-commit : (sh : Shape) (k : ℕ) (o : Out) → (acknowledged sh k o).commit ≡ o.commit
+pub acked-commit : (sh : Shape) (k : ℕ) (o : Out) → (acknowledged sh k o).commit ≡ o.commit
 unfolding acknowledged
 acked-commit sh k o = refl
 
 -- a word of another line isn't hit
-missed : (k m l w : ℕ) → line_of w ≡ l → (k ≡ l → ⊥) → hit k m w ≡ false
+pub missed : (k m l w : ℕ) → line_of w ≡ l → (k ≡ l → ⊥) → hit k m w ≡ false
 unfolding hit
 missed k m l w e n = let z : (k == line_of w) ≡ false = rw e (grind (arith, nat_tests)) in rw z refl
 

@@ -77,7 +77,7 @@ done : (sh : Shape) (l : ℕ) (p : Program) (need : Need) (x : ℕ) (s r : CoreS
 unfolding among
 done sh l p need x s r h = conserves-still sh l s (moves (finished p need x r) nothing) refl (λ k i. ap (λ c. c.dirty (word_at l k)) (finished-cache p need x r) ∙ h (word_at l k)) (λ t. refl)
 
-placed-dirty : (sh : Shape) (k : ℕ) (s : CoreState) (v : ℕ) → (place sh k s).cache.dirty v ≡ s.cache.dirty v
+pub placed-dirty : (sh : Shape) (k : ℕ) (s : CoreState) (v : ℕ) → (place sh k s).cache.dirty v ≡ s.cache.dirty v
 unfolding place placed placed_at
 placed-dirty sh k s v = go (free_way sh s.cache (set_of sh k))
   where
@@ -85,7 +85,7 @@ placed-dirty sh k s v = go (free_way sh s.cache (set_of sh k))
     go None = refl
     go (Some y) = refl
 
-used-dirty : (w : ℕ) (s : CoreState) (v : ℕ) → (used w s).cache.dirty v ≡ s.cache.dirty v
+pub used-dirty : (w : ℕ) (s : CoreState) (v : ℕ) → (used w s).cache.dirty v ≡ s.cache.dirty v
 unfolding used marked
 used-dirty w s v = go (is_running s.phase)
   where
@@ -156,7 +156,7 @@ partly sh l p w need s = go (s.spilled w)
     go None = valid (s.cache.value w)
 
 -- a line without a frame has no dirty word
-unheld-clean : (sh : Shape) (c : Cache) (v : ℕ) → IsCache sh c → c.held (line_of v) ≡ false → c.dirty v ≡ None
+pub unheld-clean : (sh : Shape) (c : Cache) (v : ℕ) → IsCache sh c → c.held (line_of v) ≡ false → c.dirty v ≡ None
 unheld-clean sh c v h e = go (c.dirty v) refl
   where
     go : (a : Option ℕ) → c.dirty v ≡ a → a ≡ None

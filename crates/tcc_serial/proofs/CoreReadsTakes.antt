@@ -99,18 +99,18 @@ reading-data sh l s = as-before s _ refl (λ v h. inr (h, refl))
 -- an invalidation
 
 -- a masked word that is marked read
-hit-reads : (l m x : ℕ) (c : Cache) → c.read x ≡ true → hit l m x ≡ true → l ≡ line_of x → reads_masked l m c ≡ true
+pub hit-reads : (l m x : ℕ) (c : Cache) → c.read x ≡ true → hit l m x ≡ true → l ≡ line_of x → reads_masked l m c ≡ true
 unfolding reads_masked any_word
 hit-reads l m x c r h e =
     let i : word_at l (x % 8) ≡ x = omega arith in
     any_below-at (λ k. hit l m (word_at l k) && c.read (word_at l k)) 8 (x % 8) (omega arith) (subst (λ v. (hit l m v && c.read v) ≡ true) (sym i) (rw (h, r) refl))
 
-hit-line : (l m x : ℕ) → hit l m x ≡ true → l ≡ line_of x
+pub hit-line : (l m x : ℕ) → hit l m x ≡ true → l ≡ line_of x
 unfolding hit
 hit-line l m x h = grind (arith, nat_tests)
 
 -- a core that is ahead of TID u, or has it, has a TID up to u
-tid-ahead : (u : ℕ) (q : Phase) → is_above u q ≡ false → (t : ℕ) × (has_tid q t ≡ true) × (t ≤ u)
+pub tid-ahead : (u : ℕ) (q : Phase) → is_above u q ≡ false → (t : ℕ) × (has_tid q t ≡ true) × (t ≤ u)
 unfolding has_tid
 tid-ahead u (Probing t) h = (t, grind (arith, nat_tests), grind (arith, nat_tests))
 tid-ahead u (Ready t) h = (t, grind (arith, nat_tests), grind (arith, nat_tests))

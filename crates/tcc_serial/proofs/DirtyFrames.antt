@@ -66,7 +66,7 @@ dirty-found c l h = go (c.dirty (word_at l 0)) (c.dirty (word_at l 1)) (c.dirty 
     go None None None None None None None (Some x) e0 e1 e2 e3 e4 e5 e6 e7 h = (7, omega arith, e7)
     go None None None None None None None None e0 e1 e2 e3 e4 e5 e6 e7 h = absurd (cc)
 
-some-dirty : (c : Cache) (l k t : ℕ) → k < 8 → c.dirty (word_at l k) ≡ Some t → is_dirty c l ≡ true
+pub some-dirty : (c : Cache) (l k t : ℕ) → k < 8 → c.dirty (word_at l k) ≡ Some t → is_dirty c l ≡ true
 unfolding is_dirty any_word
 some-dirty c l k t i e = any_below-at (λ k. is_some (c.dirty (word_at l k))) 8 k i (rw e refl)
 
@@ -74,7 +74,7 @@ pub in-line : (l k : ℕ) → k < 8 → line_of (word_at l k) ≡ l
 in-line l k i = omega (arith, i)
 
 -- the tag of a word that is dirty is that of its line
-tag-of : (sh : Shape) (c : Cache) (l k t : ℕ) → IsCache sh c → k < 8 → c.dirty (word_at l k) ≡ Some t → dirty_tag c l ≡ t
+pub tag-of : (sh : Shape) (c : Cache) (l k t : ℕ) → IsCache sh c → k < 8 → c.dirty (word_at l k) ≡ Some t → dirty_tag c l ≡ t
 tag-of sh c l k t h i e =
     let x = dirty-found c l (some-dirty c l k t i e) in
     h.one_tag (word_at l x.0) (word_at l k) (dirty_tag c l) t (in-line l x.0 (x.1) ∙ sym (in-line l k i)) (x.2) e

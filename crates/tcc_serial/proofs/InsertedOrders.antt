@@ -35,7 +35,7 @@ memory_then base p o m true (Some d) other more t h = go (more d.0) (h d.0 (t.me
     go None h = tt
     go (Some r) h = h
 
-serial-memory : (base : ℕ) (p : Program) (last : ℕ) (os : List Order) (m : Plain) → Aligned p → IsMemory m.ram → IfSome (serial base p last os m) (λ r. IsMemory r.0.ram)
+pub serial-memory : (base : ℕ) (p : Program) (last : ℕ) (os : List Order) (m : Plain) → Aligned p → IsMemory m.ram → IfSome (serial base p last os m) (λ r. IsMemory r.0.ram)
 unfolding serial
 serial-memory base p last [] m al mm = mm
 serial-memory base p last (o ∷ os) m al mm = memory_then base p o m (nat_lt last o.tid) (transaction base p m o.core o.n) (transaction base p m o.core o.n) (serial base p o.tid os) (transaction_once base p m o.core o.n al mm) (λ k mk. serial-memory base p o.tid os k al mk)

@@ -49,11 +49,11 @@ grants-any : (t : ℕ) (m : Msg) → num (passes (Grants t) m) ≤ num (passes A
 unfolding passes
 grants-any t m = grind (arith, nat_tests)
 
-grant-any : (t : ℕ) (l : Link) → live (Grants t) l ≤ live AnyGrant l
+pub grant-any : (t : ℕ) (l : Link) → live (Grants t) l ≤ live AnyGrant l
 grant-any t l = live-fewer (Grants t) AnyGrant (grants-any t) l
 
 -- a core that has a request in flight has no TID, and none is on its way to it
-asking-none : (v : Pair) (k t : ℕ) → slice_index_or v.asks k None ≡ Some TidReq → RequestOf v → holder t v ≡ 0
+pub asking-none : (v : Pair) (k t : ℕ) → slice_index_or v.asks k None ≡ Some TidReq → RequestOf v → holder t v ≡ 0
 unfolding holder passes
 asking-none v k t i r = go (waits_for_tid v.core.phase) refl
   where

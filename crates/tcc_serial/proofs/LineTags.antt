@@ -14,11 +14,12 @@ use Rattle.tcc_rules.specs.Step.{History}
 use Rattle.tcc_serial.specs.Copies.{settled_in_line, KeptTags}
 use Rattle.tcc_serial.specs.Count.{Commits, Invs, InvOf, live, passes}
 use Rattle.tcc_serial.specs.Kept.{KeptAll}
-use Rattle.tcc_serial.specs.Owed.{due}
+use Rattle.tcc_serial.specs.Named.{KeptNamed}
+use Rattle.tcc_serial.specs.Owed.{due, OwedAt}
 use Rattle.tcc_serial.specs.Owners.{Grant, times}
 use Rattle.tcc_serial.specs.Pairs.{pair, share}
 use Rattle.tcc_serial.specs.Standing.{is_settled, is_applied, CommitsStand}
-use Rattle.tcc_serial.specs.Stored.{SettledCommit}
+use Rattle.tcc_serial.specs.Stored.{SettledCommit, KeptStored}
 use Rattle.tcc_serial.specs.Wrote.{stores_line, last_of}
 use Rattle.tcc_serial.proofs.LastOf.{last-most, last-least}
 use Rattle.tcc_serial.proofs.Links.{total-le}
@@ -74,7 +75,7 @@ tag-below sh h c d l a k dl ll e p own s = go (h.world.dirs d).serving.serving r
     go : (n : ℕ) → u ≡ n → (h.world.dirs d).lines.tag l < u
     go n q = let y : u ≡ (u - 1) + 1 = omega (arith, p) in let z = last-most (settled_in_line sh h.world d l) h.commits (u - 1) (λ x j s. one (u - 1) y x j (is_settled h.world d x) (stores_line sh.base x.stores l) refl refl s) in omega (arith, k d l dl ll e, z, p)
 
-applied-owed : (s : DirState) (t : ℕ) → t ≡ s.serving.serving → 1 ≤ s.owed → is_applied s t ≡ true
+pub applied-owed : (s : DirState) (t : ℕ) → t ≡ s.serving.serving → 1 ≤ s.owed → is_applied s t ≡ true
 unfolding is_applied
 applied-owed s t e o = let y : (t == s.serving.serving) ≡ true = grind (arith, nat_tests) in let z : nat_lt 0 s.owed ≡ true = grind (arith, nat_tests) in rw (y, z) (any-last (nat_lt t s.serving.serving))
   where
@@ -87,9 +88,9 @@ pub record Invalidating (sh : Shape) (h : History) (c d l : ℕ) : Type 0 where
   pub tag : (h.world.dirs d).lines.tag l ≡ (h.world.dirs d).serving.serving
   pub sent : 1 ≤ live Invs (pair h.world c d).back
 
-pub inv-tag : (sh : Shape) (gs : List Grant) (h : History) (c d k l m u : ℕ) → KeptAll sh gs h → CommitsStand sh h.world h.commits → KeptTags sh h.world h.commits → c < sh.cores → d < sh.dirs → l < lines sh → home sh l ≡ d → in_flight h.world.net (Dir d) (Core c) k ≡ Some (Inv l m u) → Invalidating sh h c d l
+pub inv-tag-of : (sh : Shape) (h : History) (c d k l m u : ℕ) → ((d : ℕ) → OwedAt sh h.world d) → KeptNamed sh h.world → KeptStored sh h.commits h.world → CommitsStand sh h.world h.commits → KeptTags sh h.world h.commits → c < sh.cores → d < sh.dirs → l < lines sh → home sh l ≡ d → in_flight h.world.net (Dir d) (Core c) k ≡ Some (Inv l m u) → Invalidating sh h c d l
 unfolding pair passes due share settled_in_line is_settled
-inv-tag sh gs h c d k l m u r a g cl dl ll e i = record { tag = omega (arith, most, least); sent = invs }
+inv-tag-of sh h c d k l m u owes named stored a g cl dl ll e i = record { tag = omega (arith, most, least); sent = invs }
   where
     w : World
     w = h.world
@@ -101,14 +102,14 @@ inv-tag sh gs h c d k l m u r a g cl dl ll e i = record { tag = omega (arith, mo
     invs = omega (arith, live-some Invs (w.net (Dir d) (Core c)) k (Inv l m u) i)
 
     owed : 1 ≤ s.owed
-    owed = omega (arith, invs, r.kept.told.owed.owed d, total-le (share due w d) sh.cores c cl)
+    owed = omega (arith, invs, owes d, total-le (share due w d) sh.cores c cl)
 
     marked : (b : Bool) → has_mark s.lines l ≡ b → b ≡ true
     marked true q = refl
-    marked false q = absurd (let y : (l == l) ≡ true = grind (arith, nat_tests) in let z : num (l == l) ≡ 1 = rw y refl in let n : num (has_mark s.lines l) ≡ 0 = ap num q in omega (arith, z, n, live-some (InvOf l) (w.net (Dir d) (Core c)) k (Inv l m u) i, (r.named c d l cl dl).one))
+    marked false q = absurd (let y : (l == l) ≡ true = grind (arith, nat_tests) in let z : num (l == l) ≡ 1 = rw y refl in let n : num (has_mark s.lines l) ≡ 0 = ap num q in omega (arith, z, n, live-some (InvOf l) (w.net (Dir d) (Core c)) k (Inv l m u) i, (named c d l cl dl).one))
 
     n : SettledCommit sh h.commits d s
-    n = (r.stored 0 d 0).settled dl owed
+    n = (stored 0 d 0).settled dl owed
 
     line : stores_line sh.base n.commit.stores l ≡ true
     line = stored-in sh d l n.commit ll e ∙ ap (nat_lt 0) (sym (n.marks l)) ∙ marked (has_mark s.lines l) refl
@@ -124,3 +125,6 @@ inv-tag sh gs h c d k l m u r a g cl dl ll e i = record { tag = omega (arith, mo
 
     most : s.lines.tag l ≤ s.serving.serving
     most = tag-served sh w h.commits d l a g dl ll e
+
+pub inv-tag : (sh : Shape) (gs : List Grant) (h : History) (c d k l m u : ℕ) → KeptAll sh gs h → CommitsStand sh h.world h.commits → KeptTags sh h.world h.commits → c < sh.cores → d < sh.dirs → l < lines sh → home sh l ≡ d → in_flight h.world.net (Dir d) (Core c) k ≡ Some (Inv l m u) → Invalidating sh h c d l
+inv-tag sh gs h c d k l m u r = inv-tag-of sh h c d k l m u r.kept.told.owed.owed r.named r.stored

@@ -36,7 +36,7 @@ use Rattle.tcc_serial.proofs.WroteLines.{wrote-listed, no-writer}
 -- a line that the commit whose Commit is taken stored, and one that it didn't
 
 -- the commit stored just the lines that are marked
-marked-line : (sh : Shape) (h : History) (c d l : ℕ) → l < lines sh → home sh l ≡ d → (t : TakenCommit sh h.commits h.world c d) → stores_line sh.base t.settled.commit.stores l ≡ has_mark (h.world.dirs d).lines l
+pub marked-line : (sh : Shape) (h : History) (c d l : ℕ) → l < lines sh → home sh l ≡ d → (t : TakenCommit sh h.commits h.world c d) → stores_line sh.base t.settled.commit.stores l ≡ has_mark (h.world.dirs d).lines l
 marked-line sh h c d l ll e t = stored-in sh d l t.settled.commit ll e ∙ ap (nat_lt 0) (sym (t.settled.marks l))
 
 -- of the core that committed; no other core has a commit with this TID
@@ -51,7 +51,7 @@ writer-line sh h c d l ll e t =
     tids y true false q o = absurd (cc)
     tids y false b q o = absurd (cc)
 
-other-writer : (sh : Shape) (h : History) (c j d l : ℕ) → (j ≡ c → ⊥) → TakenCommit sh h.commits h.world c d → wrote_line sh.base h.commits j (h.world.dirs d).serving.serving l ≡ false
+pub other-writer : (sh : Shape) (h : History) (c j d l : ℕ) → (j ≡ c → ⊥) → TakenCommit sh h.commits h.world c d → wrote_line sh.base h.commits j (h.world.dirs d).serving.serving l ≡ false
 other-writer sh h c j d l n t = no-writer sh.base h.commits j (h.world.dirs d).serving.serving l (λ x k. go x k (x.core.0 == j) (x.tid.0 == (h.world.dirs d).serving.serving) refl refl)
   where
     go : (x : Noted) → Contains h.commits x → (a b : Bool) → (x.core.0 == j) ≡ a → (x.tid.0 == (h.world.dirs d).serving.serving) ≡ b → (a && b) ≡ false

@@ -137,7 +137,7 @@ back-fills c k n ws g m s h = go (judge (s.lines.owner k) (s.lines.tag k) c g)
     go IsTaken = λ l j. quiet c m l j (h l)
     go IsDropped = h
 
-dir-fills : (sh : Shape) (s : DirState) (c : ℕ) (m : Msg) → FillsBy c m (dir_deliver sh s c m)
+pub dir-fills : (sh : Shape) (s : DirState) (c : ℕ) (m : Msg) → FillsBy c m (dir_deliver sh s c m)
 unfolding dir_deliver passes
 dir-fills sh s c (Skip u) = skip-fills u c s
 dir-fills sh s c (Abort u) = abort-fills u c s

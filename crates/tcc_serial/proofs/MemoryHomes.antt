@@ -18,7 +18,7 @@ use Rattle.tcc_serial.proofs.StoredMasks.{stored-any, stored-line}
 
 -- a line has a word with p where one of its words has it
 
-line-has : (p : ℕ → Bool) (x : ℕ) → p x ≡ true → any_word p (line_of x) ≡ true
+pub line-has : (p : ℕ → Bool) (x : ℕ) → p x ≡ true → any_word p (line_of x) ≡ true
 unfolding any_word
 line-has p x e = let same : word_at (line_of x) (place_of x) ≡ x = omega arith in any_below-at (λ k. p (word_at (line_of x) k)) 8 (place_of x) (omega arith) (rw same e)
 

@@ -37,7 +37,7 @@ agrees-or sh ram w cs c b (u ∷ us) l f = go ((f (home sh (line_of u.0)) (home-
     go (inl e) (inr d) = inr d
     go (inl e) (inl a) = inl (sym e, a)
 
-follows-in : (sh : Shape) (p : Program) (s : CoreState) (us : Uses) (q : Phase) → (q ≡ Halted → ⊥) → FollowsIn sh p s us q → (ram : ℕ → ℕ) → IsSmall ram → Agrees us ram → IsSomeAnd (steps sh.base p s.n (begun s.saved ram)) (Reaches s ram)
+pub follows-in : (sh : Shape) (p : Program) (s : CoreState) (us : Uses) (q : Phase) → (q ≡ Halted → ⊥) → FollowsIn sh p s us q → (ram : ℕ → ℕ) → IsSmall ram → Agrees us ram → IsSomeAnd (steps sh.base p s.n (begun s.saved ram)) (Reaches s ram)
 follows-in sh p s us Running h f = f
 follows-in sh p s us AwaitTid h f = f
 follows-in sh p s us DoomedTid h f = f

@@ -97,6 +97,7 @@ start_has_all sh p entries ram = record {
   carried = start-carried sh p entries ram;
   carried_views = record { attempt_follows_from_its_view = λ c. start-follows sh p (entries c); read_marks_are_the_view = λ c. start-read (entries c) };
   carried_in_memory = carried-memory sh [] first_ways (first_state entries ram) (start-carried sh p entries ram) (start-memory sh entries ram);
+  no_view_after_the_halt = λ c e. refl;
   home_words_are_current = start-home-words sh entries ram;
   copy_above_the_tag_has_the_committed_words = start-copies-above sh entries ram;
   unmodified_word_is_current_or_inv_in_flight = start-unmodified sh entries ram;

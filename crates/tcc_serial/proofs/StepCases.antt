@@ -25,7 +25,7 @@ OfAnswer w c d k R Drops = R (dir_takes w c d k (w.dirs d) (λ dst. []))
 OfAnswer w c d k R (Asks s sends) = R (dir_asks w d s sends)
 OfAnswer w c d k R (Takes s sends) = R (dir_takes w c d k s sends)
 
-step_answer : (w : World) (c d k : ℕ) (R : Stepped → Type 0) (a : Answer) → OfAnswer w c d k (λ v. R (record { world = v; noted = None })) a → IfSome (answered w c d k a) R
+pub step_answer : (w : World) (c d k : ℕ) (R : Stepped → Type 0) (a : Answer) → OfAnswer w c d k (λ v. R (record { world = v; noted = None })) a → IfSome (answered w c d k a) R
 step_answer w c d k R Waits h = tt
 step_answer w c d k R Drops h = h
 step_answer w c d k R (Asks s sends) h = h
@@ -40,27 +40,27 @@ step_taken w src c k R None h = tt
 step_taken w src c k R (Some x) h = h
 
 -- each kind of event by itself; R takes what the event's core sends, what is granted, and the state after it
-pub sent_cases : (sh : Shape) (p : Program) (w : World) (e : Event) (R : Sends → List Grant → Stepped → Type 0)
+pub node_cases : (sh : Shape) (p : Program) (w : World) (e : Event) (R : Sends → List Grant → Stepped → Type 0)
     → ((c : ℕ) → c < sh.cores → IfSome (core_exec sh p c (w.cores c)) (λ o. R o.sends [] (record { world = core_moves w c o; noted = o.commit })))
     → ((c x y : ℕ) → c < sh.cores → IfSome (core_evict sh x y (w.cores c)) (λ o. R o.sends [] (record { world = core_moves w c o; noted = o.commit })))
     → ((c k t : ℕ) → in_flight w.net Vendor (Core c) k ≡ Some (TidGrant t) → R (grant sh t (w.cores c)).sends [] (record { world = core_takes w Vendor c k (grant sh t (w.cores c)); noted = (grant sh t (w.cores c)).commit }))
     → ((c d k : ℕ) (m : Msg) → in_flight w.net (Dir d) (Core c) k ≡ Some m → IfSome (from_dir sh d (w.cores c) m) (λ o. R o.sends [] (record { world = core_takes w (Dir d) c k o; noted = o.commit })))
-    → ((c d k : ℕ) (m : Msg) → in_flight w.net (Core c) (Dir d) k ≡ Some m → OfAnswer w c d k (λ v. R nothing [] (record { world = v; noted = None })) (dir_deliver sh (w.dirs d) c m))
+    → ((c d k : ℕ) (m : Msg) → c < sh.cores → d < sh.dirs → in_flight w.net (Core c) (Dir d) k ≡ Some m → OfAnswer w c d k (λ v. R nothing [] (record { world = v; noted = None })) (dir_deliver sh (w.dirs d) c m))
     → ((c k : ℕ) → in_flight w.net (Core c) Vendor k ≡ Some TidReq → R nothing (record { tid = w.next; core = c } ∷ []) (record { world = vendor_gives w c k (given w c); noted = None }))
     → IfSome (step sh p w e) (R (sent_by sh p w e) (granted_by w e))
 unfolding step happens names_nodes core_deliver
-sent_cases sh p w (Exec c) R ex ev gr fr di ve = go (nat_lt c sh.cores) refl
+node_cases sh p w (Exec c) R ex ev gr fr di ve = go (nat_lt c sh.cores) refl
   where
     go : (b : Bool) → nat_lt c sh.cores ≡ b → IfSome (if b then moved w c (core_exec sh p c (w.cores c)) else None) (R (sends_of (core_exec sh p c (w.cores c))) [])
     go false q = tt
     go true q = step_moved w c (λ x. R x []) (core_exec sh p c (w.cores c)) (ex c (grind (arith, nat_tests)))
-sent_cases sh p w (Evict c x y) R ex ev gr fr di ve = go (nat_lt c sh.cores) refl (nat_lt x sh.sets && nat_lt y sh.ways)
+node_cases sh p w (Evict c x y) R ex ev gr fr di ve = go (nat_lt c sh.cores) refl (nat_lt x sh.sets && nat_lt y sh.ways)
   where
     go : (b : Bool) → nat_lt c sh.cores ≡ b → (d : Bool) → IfSome (if b && d then moved w c (core_evict sh x y (w.cores c)) else None) (R (sends_of (core_evict sh x y (w.cores c))) [])
     go false q d = tt
     go true q false = tt
     go true q true = step_moved w c (λ x. R x []) (core_evict sh x y (w.cores c)) (ev c x y (grind (arith, nat_tests)))
-sent_cases sh p w (Deliver src dst k) R ex ev gr fr di ve = guarded (is_node sh src && is_node sh dst)
+node_cases sh p w (Deliver src dst k) R ex ev gr fr di ve = guarded (is_node sh src && is_node sh dst) refl
   where
     vendor_core : (c : ℕ) (m : Msg) → in_flight w.net Vendor (Core c) k ≡ Some m → IfSome (delivered sh w Vendor (Core c) k m) (R (sends_for sh (w.cores c) Vendor (Some m)) [])
     vendor_core c (TidGrant t) q = gr c k t q
@@ -96,21 +96,32 @@ sent_cases sh p w (Deliver src dst k) R ex ev gr fr di ve = guarded (is_node sh 
     core_vendor c (Inv l m t) q = tt
     core_vendor c (InvAck l b) q = tt
 
-    go : (src dst : Node) (x : Option Msg) → in_flight w.net src dst k ≡ x → IfSome (if_in_flight sh w src dst k x) (R (sent_by sh p w (Deliver src dst k)) (granted_by w (Deliver src dst k)))
-    go src dst None q = tt
-    go (Core c) (Core e) (Some m) q = tt
-    go (Dir d) (Core c) (Some m) q = rw q (step_taken w (Dir d) c k (λ x. R x []) (from_dir sh d (w.cores c) m) (fr c d k m q))
-    go Vendor (Core c) (Some m) q = rw q (vendor_core c m q)
-    go (Core c) (Dir d) (Some m) q = step_answer w c d k (R nothing []) (dir_deliver sh (w.dirs d) c m) (di c d k m q)
-    go (Dir e) (Dir d) (Some m) q = tt
-    go Vendor (Dir d) (Some m) q = tt
-    go (Core c) Vendor (Some m) q = rw q (core_vendor c m q)
-    go (Dir d) Vendor (Some m) q = tt
-    go Vendor Vendor (Some m) q = tt
+    go : (src dst : Node) (x : Option Msg) → (is_node sh src && is_node sh dst) ≡ true → in_flight w.net src dst k ≡ x → IfSome (if_in_flight sh w src dst k x) (R (sent_by sh p w (Deliver src dst k)) (granted_by w (Deliver src dst k)))
+    go src dst None n q = tt
+    go (Core c) (Core e) (Some m) n q = tt
+    go (Dir d) (Core c) (Some m) n q = rw q (step_taken w (Dir d) c k (λ x. R x []) (from_dir sh d (w.cores c) m) (fr c d k m q))
+    go Vendor (Core c) (Some m) n q = rw q (vendor_core c m q)
+    go (Core c) (Dir d) (Some m) n q = step_answer w c d k (R nothing []) (dir_deliver sh (w.dirs d) c m) (di c d k m (grind (arith, nat_tests)) (grind (arith, nat_tests)) q)
+    go (Dir e) (Dir d) (Some m) n q = tt
+    go Vendor (Dir d) (Some m) n q = tt
+    go (Core c) Vendor (Some m) n q = rw q (core_vendor c m q)
+    go (Dir d) Vendor (Some m) n q = tt
+    go Vendor Vendor (Some m) n q = tt
 
-    guarded : (b : Bool) → IfSome (if b then if_in_flight sh w src dst k (in_flight w.net src dst k) else None) (R (sent_by sh p w (Deliver src dst k)) (granted_by w (Deliver src dst k)))
-    guarded false = tt
-    guarded true = go src dst (in_flight w.net src dst k) refl
+    guarded : (b : Bool) → (is_node sh src && is_node sh dst) ≡ b → IfSome (if b then if_in_flight sh w src dst k (in_flight w.net src dst k) else None) (R (sent_by sh p w (Deliver src dst k)) (granted_by w (Deliver src dst k)))
+    guarded false n = tt
+    guarded true n = go src dst (in_flight w.net src dst k) n refl
+
+-- the same where the node that a directory hears doesn't matter
+pub sent_cases : (sh : Shape) (p : Program) (w : World) (e : Event) (R : Sends → List Grant → Stepped → Type 0)
+    → ((c : ℕ) → c < sh.cores → IfSome (core_exec sh p c (w.cores c)) (λ o. R o.sends [] (record { world = core_moves w c o; noted = o.commit })))
+    → ((c x y : ℕ) → c < sh.cores → IfSome (core_evict sh x y (w.cores c)) (λ o. R o.sends [] (record { world = core_moves w c o; noted = o.commit })))
+    → ((c k t : ℕ) → in_flight w.net Vendor (Core c) k ≡ Some (TidGrant t) → R (grant sh t (w.cores c)).sends [] (record { world = core_takes w Vendor c k (grant sh t (w.cores c)); noted = (grant sh t (w.cores c)).commit }))
+    → ((c d k : ℕ) (m : Msg) → in_flight w.net (Dir d) (Core c) k ≡ Some m → IfSome (from_dir sh d (w.cores c) m) (λ o. R o.sends [] (record { world = core_takes w (Dir d) c k o; noted = o.commit })))
+    → ((c d k : ℕ) (m : Msg) → in_flight w.net (Core c) (Dir d) k ≡ Some m → OfAnswer w c d k (λ v. R nothing [] (record { world = v; noted = None })) (dir_deliver sh (w.dirs d) c m))
+    → ((c k : ℕ) → in_flight w.net (Core c) Vendor k ≡ Some TidReq → R nothing (record { tid = w.next; core = c } ∷ []) (record { world = vendor_gives w c k (given w c); noted = None }))
+    → IfSome (step sh p w e) (R (sent_by sh p w e) (granted_by w e))
+sent_cases sh p w e R ex ev gr fr di ve = node_cases sh p w e R ex ev gr fr (λ c d k m a b i. di c d k m i) ve
 
 -- the same where what is sent doesn't matter
 pub step_cases : (sh : Shape) (p : Program) (w : World) (e : Event) (R : List Grant → Stepped → Type 0)

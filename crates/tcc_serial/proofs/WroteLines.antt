@@ -108,7 +108,7 @@ no-writer base cs c t l h = line-never base cs c t l (λ w. wrote-never base cs 
 pub wrote-unknown : (base : ℕ) (cs : List Noted) (c t l : ℕ) → times t cs ≡ 0 → wrote_line base cs c t l ≡ false
 wrote-unknown base cs c t l z = line-never base cs c t l (λ w. wrote-none base cs c t w z)
 
-wrote-at : (base : ℕ) (cs : List Noted) (n : Noted) (w k : ℕ) → stores_word base n.stores w ≡ true → k < length cs → slice_index_or cs k n ≡ n → wrote base cs n.core.0 n.tid.0 w ≡ true
+pub wrote-at : (base : ℕ) (cs : List Noted) (n : Noted) (w k : ℕ) → stores_word base n.stores w ≡ true → k < length cs → slice_index_or cs k n ≡ n → wrote base cs n.core.0 n.tid.0 w ≡ true
 unfolding wrote
 wrote-at base [] n w k s i e = absurd (omega (arith, i))
 wrote-at base (x ∷ cs) n w zero s i e = here x e

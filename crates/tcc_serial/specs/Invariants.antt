@@ -1,6 +1,7 @@
 -- The whole list: all that holds of every state that a run reaches, each fact with a name. Those that are proved of every run stand in
 -- the first record, those that are proved where the program's accesses are aligned and its stores fit in the second, those where its
--- accesses lie in memory in the third, and those to come in the fourth, each in the order in which the proofs stand on one another.
+-- accesses lie in memory in the third, each in the order in which the proofs stand on one another; and those that stand on all of the
+-- list, which are proved together where both hold, in the fourth.
 use Rattle.std.specs.Prelude.{ℕ, ◌+◌, ◌≡◌, ◌<◌, ◌≤◌, ◌⊎◌, true, false, ◌||◌, List, [], length, Contains, IfSome, Some, None, is_some}
 use Rattle.tcc_program.specs.Plain.{Plain}
 use Rattle.tcc_program.specs.Program.{Local, Program}
@@ -38,7 +39,7 @@ use Rattle.tcc_serial.specs.Ways.{Ways, Committed, first_ways, ways_from}
 use Rattle.tcc_serial.specs.WayLaws.{UntoldWhereOpen, UntoldIsLive, AllWaysFit, GivenUpOnce, LiveIsOpen, CommittedWhereStored, SmallerAreGivenUp, WorkIsReached, Settled, is_given_up}
 use Rattle.tcc_serial.specs.Tids.{has_tid}
 use Rattle.tcc_serial.specs.Uses.{stores_word}
-use Rattle.tcc_serial.specs.Values.{HomeWords, CopiesAbove, UnmodifiedWords, FilledWords, ReadWords, ViewedWords}
+use Rattle.tcc_serial.specs.Values.{HomeWords, CopiesAbove, UnmodifiedWords, FilledWords, ReadWords, ViewedWords, HaltedUsesNone}
 
 -- What is proved of every run. gs are the grants along it, and ys the ways in which each TID was given to each directory.
 pub record Carried (sh : Shape) (gs : List Grant) (ys : Ways) (h : History) : Type 0 where
@@ -200,6 +201,10 @@ pub record Invariants (sh : Shape) (p : Program) (entries : ℕ → Local) (ram 
   pub carried : Carried sh gs ys h
   pub carried_views : CarriedViews sh p views h
   pub carried_in_memory : CarriedInMemory sh h
+  -- one core by itself
+
+  -- A halted core's view is empty.
+  pub no_view_after_the_halt : HaltedUsesNone h.world views
   -- values
 
   -- A word has its value in the copy with its line's tag, and at home where no such copy has the word.
@@ -229,7 +234,7 @@ first_state entries ram = record { world = start entries ram; commits = [] }
 abbrev pub StartHasAll : Type 0
 StartHasAll = (sh : Shape) (p : Program) (entries : ℕ → Local) (ram : ℕ → ℕ) → Invariants sh p entries ram [] first_ways no_views (plain_start entries ram) (first_state entries ram)
 
--- Every state that a run reaches has what is proved so far.
+-- Every state that a run reaches has what is proved of every run.
 abbrev pub RunsCarry : Type 0
 RunsCarry = (sh : Shape) (p : Program) (entries : ℕ → Local) (ram : ℕ → ℕ) (es : List Event) → IfSome (run sh p (start entries ram) es) (λ h. Carried sh (grants_from sh p es (first_state entries ram)) (ways_from sh p es first_ways (first_state entries ram)) h)
 

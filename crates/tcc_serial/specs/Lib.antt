@@ -1,3 +1,4 @@
+pub mod KeepsWords
 pub mod Aim
 pub mod Alone
 pub mod Asked
@@ -10,6 +11,7 @@ pub mod AtHomes
 pub mod InMemory
 pub mod Insertion
 pub mod Invariants
+pub mod KeepsHomes
 pub mod Kept
 pub mod Laws
 pub mod Marks
@@ -24,6 +26,8 @@ pub mod Partly
 pub mod Probes
 pub mod Probing
 pub mod Sound
+pub mod SerialKept
+pub mod KeepsViews
 pub mod Standing
 pub mod Stored
 pub mod Tids

@@ -6,7 +6,7 @@ use Rattle.tcc_base.specs.declared.access.Stored.{Stored}
 use Rattle.tcc_program.specs.Ram.{word_of, patched}
 use Rattle.tcc_maps.specs.Words.{num, line_of}
 use Rattle.tcc_maps.specs.Shape.{Shape, home}
-use Rattle.tcc_rules.specs.State.{Awaited, DirState, World}
+use Rattle.tcc_rules.specs.State.{Awaited, DirState, Halted, World}
 use Rattle.tcc_attempt.specs.Follows.{Uses}
 use Rattle.tcc_serial.specs.Count.{Kind, FillNot, CopyWord, CopyNot, InvWord, InvBelow, live}
 use Rattle.tcc_serial.specs.Pairs.{Pair, pair}
@@ -99,3 +99,7 @@ EachUse P (u ∷ us) = P u.0 u.1 × EachUse P us
 -- A word of the core's view has the value that it has for the core at its bound, or the attempt is doomed.
 abbrev pub ViewedWords : Shape → (ℕ → ℕ) → World → List Noted → (views : ℕ → Uses) → Type 0
 ViewedWords sh ram w cs views = (c d : ℕ) (b : Option ℕ) → c < sh.cores → d < sh.dirs → IsBound b (pair w c d) → EachUse (λ x y. home sh (line_of x) ≡ d → (y ≡ value_at sh.base ram cs (w.dirs d) (Some c) b x) ⊎ IsDoomed b x (pair w c d)) (views c)
+
+-- A halted core's view is empty.
+abbrev pub HaltedUsesNone : World → (views : ℕ → Uses) → Type 0
+HaltedUsesNone w views = (c : ℕ) → (w.cores c).phase ≡ Halted → views c ≡ []

@@ -21,8 +21,13 @@ ghost use Rattle.tcc_serial.specs.Laws.{Always, OneWay, OneRequest, NeverPasses,
 ghost use Rattle.tcc_serial.specs.WayLaws.{AlwaysTold, UntoldWhereOpen, UntoldIsLive, AllWaysFit, GivenUpOnce, LiveIsOpen, CommittedWhereStored, SmallerAreResolved, SmallerAreGivenUp, WorkIsReached};
 ghost use Rattle.tcc_serial.specs.AtHomes.{AccessesAtHomes, MarksAtHomes, WrittenInMemory};
 ghost use Rattle.tcc_serial.specs.Invariants.{StartHasAll, RunsCarry, RunsCarryViews, RunsStayInMemory};
+ghost use Rattle.tcc_serial.specs.Aim.{AllHold, RunsAreSerial};
 ghost use Rattle.tcc_serial.specs.Sound.{AttemptsSound};
+ghost use Rattle.tcc_serial.specs.KeepsViews.{KeepsViews};
+ghost use Rattle.tcc_serial.specs.KeepsHomes.{EventsKeepHomes};
+ghost use Rattle.tcc_serial.specs.SerialKept.{EventsKeepSerial, SeenFollows};
 ghost use Rattle.tcc_serial.specs.Tried.{TriedFill, TriedRead, TriedOwner, TriedAlone, TriedFails};
+ghost use Rattle.tcc_serial.specs.KeepsWords.{EventsKeepWords};
 ghost use Rattle.tcc_base.specs.declared.access.Commit.{Commit};
 
 /// Instructions over two memories that agree on the words used give the same.
@@ -165,7 +170,7 @@ pub fn the_start_has_all_invariants()
     ensures start { StartHasAll }
 {}
 
-/// Every state that a run reaches has those of the list that are proved so far.
+/// Every state that a run reaches has those of the list that are proved of every run by themselves.
 pub fn runs_carry_what_is_proved()
     ensures carried { RunsCarry }
 {}
@@ -200,4 +205,47 @@ pub fn the_list_was_tried_on_runs()
 /// roll it back is in flight.
 pub fn attempts_are_sound_or_doomed()
     ensures sound { AttemptsSound }
+{}
+
+/// An event of a state that has the invariants of the list leaves each word its value: in the copy with its line's tag, and at home where
+/// no such copy has the word; and copies with a larger tag have the words of their commits.
+pub fn events_keep_home_words()
+    ensures keeps { EventsKeepHomes }
+{}
+
+/// Where the whole list holds, every event leaves each word of a core's view with the value that it has for the core at its bound, or
+/// the attempt doomed; and a halted core's view stays empty.
+pub fn events_keep_views()
+    ensures views { KeepsViews }
+{}
+
+/// An event of a state that has the invariants of the list leaves the commits serial: where it commits, the new transaction stands in
+/// their order at its TID, and the others give what they gave.
+pub fn events_keep_the_commits_serial()
+    ensures keeps { EventsKeepSerial }
+{}
+
+/// An event of a state that has the invariants of the list keeps the words in frames and in Fills: each that isn't modified is as its
+/// core sees it, or an invalidation of it is on its way to the core.
+pub fn events_keep_words()
+    ensures keeps { EventsKeepWords }
+{}
+
+/// In a state that has the facts of the list on TIDs, lines, copies and values, what is seen of each word is the plain machine's memory
+/// after the commits.
+pub fn what_is_seen_is_serial()
+    ensures seen { SeenFollows }
+{}
+
+/// Every state that a run reaches has every invariant of the list. There is a directory, the program's accesses are aligned, fit and lie in
+/// memory, and memory has 32-bit words.
+pub fn every_state_has_all_invariants()
+    ensures all { AllHold }
+{}
+
+/// The runs of the protocol are serial: in every state that a run reaches the commits are what the plain machine gives for them one
+/// after another, in the order of their TIDs, with just their loads, stores and console bytes; each core's checkpoint, and whether and
+/// how it has halted, are the plain machine's then; and what is seen of each word is its memory.
+pub fn runs_are_serial()
+    ensures serial { RunsAreSerial }
 {}

@@ -1,0 +1,5 @@
+use Rattle.tcc_serial.proofs.SerialSteps.{events_serial}
+use Rattle.tcc_serial.proofs.events_keep_the_commits_serial.Goals as goal
+
+pub returns : goal.returns
+returns c = record { keeps = events_serial }

@@ -1,0 +1,23 @@
+-- That every event keeps the values of home words and of the copies on their way home.
+use Rattle.std.specs.Prelude.{ℕ, List, ◌++◌, IfSome}
+use Rattle.tcc_program.specs.Plain.{Plain}
+use Rattle.tcc_program.specs.Program.{Local, Program}
+use Rattle.tcc_maps.specs.Nodes.{Event}
+use Rattle.tcc_maps.specs.Shape.{Shape}
+use Rattle.tcc_rules.specs.Step.{History, next}
+use Rattle.tcc_attempt.specs.Follows.{Uses}
+use Rattle.tcc_serial.specs.Aim.{Suits}
+use Rattle.tcc_serial.specs.Invariants.{Carried, Invariants}
+use Rattle.tcc_serial.specs.Owners.{Grant, granted_by}
+use Rattle.tcc_serial.specs.Values.{HomeWords, CopiesAbove}
+use Rattle.tcc_serial.specs.Ways.{Ways, ways_after, sent_by}
+
+-- home words and copies have their values
+abbrev pub HomesHold : Shape → (ram : ℕ → ℕ) → History → Type 0
+HomesHold sh ram g = HomeWords sh ram g.world g.commits × CopiesAbove sh ram g.world g.commits
+
+-- An event of a state that has the invariants of the list keeps home words current, and the copies of commits in flight.
+abbrev pub EventsKeepHomes : Type 0
+EventsKeepHomes =
+    (sh : Shape) (p : Program) (entries : ℕ → Local) (ram : ℕ → ℕ) (gs : List Grant) (ys : Ways) (views : ℕ → Uses) (m : Plain) (h : History) (e : Event) → Suits sh p ram → Invariants sh p entries ram gs ys views m h
+    → IfSome (next sh p h e) (λ g. Carried sh (gs ++ granted_by h.world e) (ways_after (sent_by sh p h.world e) ys) g → HomesHold sh ram g)
