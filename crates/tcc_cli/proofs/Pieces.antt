@@ -18,12 +18,9 @@ use Rattle.tcc_world.proofs.Told.{appended-append}
 use Rattle.tcc_world.specs.Faults.{Rose}
 use Rattle.tcc_world.specs.Told.{appended}
 
--- a count that rose from one that was no smaller rose from the smaller one, and has risen ever after
+-- a count that rose from one that was no smaller rose from the smaller one
 pub rose_before : (before mid after : ℕ) → before ≤ mid → Rose mid after → Rose before after
 rose_before before mid after h rose = grind (arith, nat_tests)
-
-pub rose_after : (before mid after : ℕ) → mid ≤ after → Rose before mid → Rose before after
-rose_after before mid after h rose = omega (arith, h, rose)
 
 split_at : {P : Type 0} (f : P → List ℕ) (ps : List P) (i : ℕ) (d : P) → i < length ps
     → flat_map f ps ≡ flat_map f (take i ps) ++ (f (get_or ps i d) ++ flat_map f (drop (suc i) ps))

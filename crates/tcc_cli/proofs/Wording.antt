@@ -54,16 +54,6 @@ stands_so ws d form images h first second are =
       an_image = omega (arith, h, count, same);
     }
 
--- a command has eight words
-pub long_enough : (words : List (List ℕ)) (form : Form) (t : Texts) → Stands words form t → 8 ≤ length words
-long_enough words form t h =
-    let same = ap length h.words_are in
-    let some = h.an_image in
-    omega (arith, same, some)
-
-word_at : (k : ℕ) (words others : List (List ℕ)) → words ≡ others → get_or words k [] ≡ get_or others k []
-word_at k words others e = ap (λ ws. get_or ws k []) e
-
 pub same_number : (text other : List ℕ) (n m : ℕ) → text ≡ other → IsNumber text n → IsNumber other m → n ≡ m
 same_number text other n m e h k =
     let here = subst (λ t. IsNumber t n) e h in

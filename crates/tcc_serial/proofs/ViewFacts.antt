@@ -27,10 +27,6 @@ use Rattle.tcc_serial.proofs.Links.{live-fewer, total-le}
 
 -- the bound of a core
 
-pub holder-there : (w : World) (c d e t : ℕ) → holder t (pair w c d) ≡ holder t (pair w c e)
-unfolding pair holder
-holder-there w c d e t = refl
-
 pub own-holder : (w : World) (c d t : ℕ) → has_tid (w.cores c).phase t ≡ true → 1 ≤ holder t (pair w c d)
 unfolding holder pair
 own-holder w c d t e = rw e (omega arith)
