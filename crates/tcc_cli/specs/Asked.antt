@@ -1,7 +1,7 @@
 -- What the words of a command ask for, and why words are refused.
-use Rattle.std.specs.Prelude.{ℕ, List, ◌∷◌, ◌≡◌, ◌≤◌, length, codes, IsTrue}
-use Rattle.tcc_base.specs.Settings.{Settings}
-use Rattle.std.specs.Int.{is_power_of_two}
+use Rattle.std.specs.Prelude.{ℕ, List, ◌∷◌, ◌≡◌, ◌≤◌, length, codes}
+use Rattle.tcc_base.specs.Settings.{Settings, Keeps}
+use Rattle.tcc_base.specs.declared.config.Limit.TheVariants as limit
 use Rattle.tcc_cli.specs.Numbers.{IsNumber}
 use Rattle.tcc_cli.specs.declared.words.Form.{Form}
 use Rattle.tcc_cli.specs.declared.words.Form.TheVariants.{Raw, Elf}
@@ -37,13 +37,7 @@ pub record Stands (words : List (List ℕ)) (form : Form) (t : Texts) : Type 0 w
   pub words_are : words ≡ codes "run" ∷ form_word form ∷ t.cores ∷ t.dirs ∷ t.sets ∷ t.ways ∷ t.steps ∷ t.images
   pub an_image : 1 ≤ length t.images
 
--- a power of two from 1 to 1024; 1 to 16; at most 4,194,304; at most 16 names
-abbrev pub IsSets : ℕ → Type 0
-IsSets n = IsTrue (is_power_of_two n) × (n ≤ 1024)
-
-abbrev pub IsWays : ℕ → Type 0
-IsWays n = (1 ≤ n) × (n ≤ 16)
-
+-- at most 4,194,304; at most 16 names
 abbrev pub IsSteps : ℕ → Type 0
 IsSteps n = n ≤ 4194304
 
@@ -54,8 +48,8 @@ AreImages names = length names ≤ 16
 abbrev pub Allows : Texts → Field → Type 0
 Allows t Cores = IsNumber t.cores 1
 Allows t Dirs = IsNumber t.dirs 1
-Allows t Sets = (n : ℕ) × IsNumber t.sets n × IsSets n
-Allows t Ways = (n : ℕ) × IsNumber t.ways n × IsWays n
+Allows t Sets = (n : ℕ) × IsNumber t.sets n × Keeps (settings_with n 1) limit.Sets
+Allows t Ways = (n : ℕ) × IsNumber t.ways n × Keeps (settings_with 1 n) limit.Ways
 Allows t Steps = (n : ℕ) × IsNumber t.steps n × IsSteps n
 Allows t Images = AreImages t.images
 
@@ -72,8 +66,8 @@ AllowsBefore t Images = Allows t Cores × Allows t Dirs × Allows t Sets × Allo
 pub record HasSettings (t : Texts) (s : Settings) : Type 0 where
   pub cores : IsNumber t.cores 1
   pub dirs : IsNumber t.dirs 1
-  pub sets : IsNumber t.sets s.sets × IsSets s.sets
-  pub ways : IsNumber t.ways s.ways × IsWays s.ways
+  pub sets : IsNumber t.sets s.sets × Keeps s limit.Sets
+  pub ways : IsNumber t.ways s.ways × Keeps s limit.Ways
   pub are : s ≡ settings_with s.sets s.ways
 
 -- the words stand for what is asked, and all of it is allowed

@@ -8,7 +8,7 @@ use crate::files::{lay, read_files};
 use crate::refusal::{Refusal, refuse};
 use crate::simulation::{Finished, simulate};
 use crate::status::Status;
-use crate::words::{Command, read_words};
+use crate::words::read_words;
 use std::alloc::Global;
 use tcc_world::{Gate, Sink, SinkFailed, Store, write_all};
 

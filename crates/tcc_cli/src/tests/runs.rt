@@ -4,7 +4,7 @@ use std::alloc::{AllocError, Global};
 use std::test::Fail;
 
 /// An image's bytes.
-pub fn bytes(alloc: Global, image: &[u32]) -> Result<Vec<u8>, AllocError> {
+pub(crate) fn bytes(alloc: Global, image: &[u32]) -> Result<Vec<u8>, AllocError> {
     let mut bytes = Vec::new(alloc);
     for word in image {
         bytes.extend_from_slice(&word.to_le_bytes())?;
