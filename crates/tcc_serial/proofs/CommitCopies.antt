@@ -9,7 +9,7 @@ use Rattle.tcc_maps.specs.Shape.{Shape, home, lines}
 use Rattle.tcc_maps.specs.Cache.{Cache, is_modified, modified_mask}
 use Rattle.tcc_maps.specs.CacheChange.{committed, words_dropped}
 use Rattle.tcc_maps.specs.Spilled.{Spilled, holds, spilled_mask}
-use Rattle.tcc_maps.proofs.Numbers.{any_below-found, any_below-at}
+use Rattle.tcc_maps.proofs.Numbers.{any_below-at}
 use Rattle.tcc_rules.specs.State.{CoreState, Ready}
 use Rattle.tcc_rules.specs.Commit.{commit, committed_core, noted, solo_commit, commit_sends, is_written, written_mask}
 use Rattle.tcc_serial.specs.OneCore.{OneCore, Words}
@@ -19,6 +19,7 @@ use Rattle.tcc_serial.proofs.CopySends.{few-masks, commit-copies, solo-copies, s
 use Rattle.tcc_serial.proofs.CoreCopies.{Conserves}
 use Rattle.tcc_serial.proofs.DirtyFrames.{wrong-copy, IsClean, clean-frame, in-line, committed-frame}
 use Rattle.tcc_serial.proofs.StoredMasks.{unspilled, modified-line, modified-stored, written-line, written-stored}
+use Rattle.tcc_serial.proofs.CoreMarks.{holds-found}
 
 pub ready-copies : (sh : Shape) (l id u : ℕ) (s : CoreState) → s.phase ≡ Ready u → OneCore sh s → Conserves sh l s (commit sh id u s)
 unfolding commit committed_core committed noted stores_line
@@ -38,10 +39,6 @@ none-held sp l e k i = go (sp (word_at l k)) refl
     go : (a : Option ℕ) → sp (word_at l k) ≡ a → sp (word_at l k) ≡ None
     go None q = q
     go (Some x) q = absurd (let a = any_below-at (λ k. is_some (sp (word_at l k))) 8 k i (rw q refl) in cc)
-
-held-found : (sp : Spilled) (l : ℕ) → holds sp l ≡ true → (k : ℕ) × (k < 8) × (is_some (sp (word_at l k)) ≡ true)
-unfolding holds any_word
-held-found sp l e = any_below-found (λ k. is_some (sp (word_at l k))) 8 e
 
 -- of a line without spilled words the written ones are the modified ones, and of one with some they are the spilled ones
 
@@ -88,7 +85,7 @@ alone-copies sh b l id u s i j h = go (holds s.spilled l) refl
           copies = λ t. (let y : num (holds s.spilled l && u == t) ≡ 0 = rw q refl in let z : num (is_modified s.cache l && u == t) ≡ num (stores_line sh.base s.stores l && u == t) = rw m refl in omega (arith, x.0 t, y, z, solo-copies sh s.cache s.spilled u l t i j));
           wrong = λ t k. (let y : num ((holds s.spilled l && u == t) && not (spilled_mask s.spilled l == k)) ≡ 0 = rw q refl in let z : num ((is_modified s.cache l && u == t) && not (modified_mask s.cache l == k)) ≡ num ((stores_line sh.base s.stores l && u == t) && not (stores_in sh.base s.stores l == k)) = rw (m, n) refl in omega (arith, x.1 t k, y, z, solo-wrong sh s.cache s.spilled u l t k i j));
         }
-    go true q = alone (held-found s.spilled l q)
+    go true q = alone (holds-found s.spilled l q)
       where
         alone : (k : ℕ) × (k < 8) × (is_some (s.spilled (word_at l k)) ≡ true) → Conserves sh l s (solo_commit sh id u s)
         alone v = record {

@@ -82,14 +82,14 @@ run_from-committing sh p (e ∷ es) h z k = go (step sh p h.world e) (step-kept 
     go (Some o) a b f = f (record { world = o.world; commits = and_noted o.noted h.commits }) a b
 
 -- a Commit of a larger TID would be above the served one
-of-above : (s t : ℕ) (m : Msg) → s < t → num (passes (Commits t) m) ≤ num (passes (CommitsAbove s) m)
+pub of-above : (s t : ℕ) (m : Msg) → s < t → num (passes (Commits t) m) ≤ num (passes (CommitsAbove s) m)
 unfolding passes
 of-above s t m l = grind (arith, nat_tests)
 
 ofs-above : (s t : ℕ) (l : Link) → s < t → live (Commits t) l ≤ live (CommitsAbove s) l
 ofs-above s t l h = live-fewer (Commits t) (CommitsAbove s) (λ m. of-above s t m h) l
 
-of-resolves : (t : ℕ) (m : Msg) → num (passes (Commits t) m) ≤ num (passes (Resolves t) m)
+pub of-resolves : (t : ℕ) (m : Msg) → num (passes (Commits t) m) ≤ num (passes (Resolves t) m)
 unfolding passes
 of-resolves t m = grind (arith, nat_tests)
 

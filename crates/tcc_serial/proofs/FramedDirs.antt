@@ -84,7 +84,7 @@ load-home c l a s = go (nat_le s.serving.serving a) (has_mark s.lines l) (s.line
 
 -- the directory's state, and the Commits in flight, after a message was taken
 
-dirs-taken : (w : World) (c d k : ℕ) (s : DirState) (sends : Sends) → (dir_takes w c d k s sends).dirs d ≡ s
+pub dirs-taken : (w : World) (c d k : ℕ) (s : DirState) (sends : Sends) → (dir_takes w c d k s sends).dirs d ≡ s
 unfolding pair
 dirs-taken w c d k s sends = ap (λ v. v.dir) (dir-own w c d k s sends)
 

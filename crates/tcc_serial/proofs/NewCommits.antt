@@ -1,7 +1,6 @@
 -- A commit that is noted by an event isn't applied anywhere yet.
 use Rattle.std.specs.Prelude.{ℕ, ◌≡◌, ◌<◌, ◌≤◌, ◌⊎◌, Bool, true, false, List, [], ◌∷◌, Option, Some, IfSome, if◌then◌else◌}
 use Rattle.std.proofs.Common.{arith, refl, ap, sym, ◌∙◌, inl, inr}
-use Rattle.std.proofs.lemmas.Bool.Decides.{nat_tests}
 use Rattle.tcc_base.specs.declared.access.Commit.{Commit as Noted}
 use Rattle.tcc_maps.specs.Words.{num}
 use Rattle.tcc_maps.specs.Cache.{writes_at}
@@ -10,7 +9,7 @@ use Rattle.tcc_maps.specs.Shape.{Shape}
 use Rattle.tcc_rules.specs.Attempt.{Out}
 use Rattle.tcc_rules.specs.Sends.{Sends}
 use Rattle.tcc_rules.specs.Step.{History, Stepped}
-use Rattle.tcc_serial.specs.Count.{Resolves, Commits, among, passes}
+use Rattle.tcc_serial.specs.Count.{Resolves, Commits, among}
 use Rattle.tcc_serial.specs.Kept.{KeptRun}
 use Rattle.tcc_serial.specs.Owners.{Grant, times, holder}
 use Rattle.tcc_serial.specs.Pairs.{pair, share}
@@ -24,10 +23,7 @@ use Rattle.tcc_serial.proofs.CoreSkips.{TellsCommit}
 use Rattle.tcc_serial.proofs.Links.{total-le}
 use Rattle.tcc_serial.proofs.OnItsWay.{applied-or}
 use Rattle.tcc_serial.proofs.ToldSteps.{Speaks, told-committed}
-
-of-resolves : (t : ℕ) (m : Msg) → num (passes (Commits t) m) ≤ num (passes (Resolves t) m)
-unfolding passes
-of-resolves t m = grind (arith, nat_tests)
+use Rattle.tcc_serial.proofs.CommitSteps.{of-resolves}
 
 pub few-resolves : (t : ℕ) (ms : List Msg) → among (Commits t) ms ≤ among (Resolves t) ms
 unfolding among

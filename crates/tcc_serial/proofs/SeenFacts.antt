@@ -3,8 +3,6 @@ use Rattle.std.specs.Prelude.{ℕ, zero, suc, ◌≡◌, ◌<◌, ◌≤◌, Boo
 use Rattle.std.proofs.Common.{arith, refl, sym, ap, ◌∙◌, ◌⊎◌, inl, inr}
 use Rattle.std.proofs.lemmas.Bool.Decides.{nat_tests}
 use Rattle.tcc_base.specs.declared.access.Commit.{Commit as Noted}
-use Rattle.tcc_base.specs.declared.access.Stored.{Stored}
-use Rattle.tcc_program.specs.Ram.{word_of, patched}
 use Rattle.tcc_maps.specs.Words.{num, line_of, place_of, word_at}
 use Rattle.tcc_maps.specs.Masks.{has, hit}
 use Rattle.tcc_maps.specs.Nodes.{Msg, TidReq, TidGrant, LoadReq, Fill, Skip, Probe, ProbeReply, Mark, Commit, Abort, WriteBack, Flush, DataReq, Inv, InvAck}
@@ -24,17 +22,9 @@ use Rattle.tcc_serial.proofs.CutCommits.{Each}
 use Rattle.tcc_serial.proofs.DirtyFrames.{some-dirty, tag-of}
 use Rattle.tcc_serial.proofs.Links.{live-fewer}
 use Rattle.tcc_serial.proofs.SerialParts.{all_stores}
+use Rattle.tcc_serial.proofs.ValueAt.{after_stores-other}
 
 -- values
-
-stores-other : (base : ℕ) (ss : List Stored) (x y : ℕ) → stores_word base ss x ≡ false → after_stores base ss x y ≡ y
-unfolding after_stores stores_word
-stores-other base [] x y h = refl
-stores-other base (s ∷ ss) x y h = go (word_of base s.addr == x) h (λ k. stores-other base ss x y k)
-  where
-    go : (b : Bool) → (b || stores_word base ss x) ≡ false → (stores_word base ss x ≡ false → after_stores base ss x y ≡ y) → after_stores base ss x (if b then patched y s.addr s.size s.value else y) ≡ y
-    go false q f = f q
-    go true q f = absurd (cc)
 
 -- where each commit that stored the word counts, its value is that after all of them
 pub after-all : (base : ℕ) (s : DirState) (c b : Option ℕ) (x : ℕ) (ns : List Noted) (y : ℕ) → Each (λ n. (counts s c b n ≡ true) ⊎ (stores_word base n.stores x ≡ false)) ns → after_commits base s c b x ns y ≡ all_stores base x ns y
@@ -44,7 +34,7 @@ after-all base s c b x (n ∷ ns) y h = ap (after_commits base s c b x ns) (one 
   where
     silent : stores_word base n.stores x ≡ false → (k : Bool) → (if k then after_stores base n.stores x y else y) ≡ after_stores base n.stores x y
     silent e true = refl
-    silent e false = sym (stores-other base n.stores x y e)
+    silent e false = sym (after_stores-other base n.stores x y e)
 
     one : (counts s c b n ≡ true) ⊎ (stores_word base n.stores x ≡ false) → (if counts s c b n then after_stores base n.stores x y else y) ≡ after_stores base n.stores x y
     one (inl e) = rw e refl

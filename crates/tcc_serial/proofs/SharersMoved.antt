@@ -11,7 +11,7 @@ use Rattle.tcc_rules.specs.State.{DirState}
 use Rattle.tcc_rules.specs.Attempt.{Out}
 use Rattle.tcc_rules.specs.Step.{History, and_noted, insert_commit}
 use Rattle.tcc_serial.specs.Copies.{KeptLoading, keeps_unmodified, is_fresh, holds_line, CommitsLine, SharerOf}
-use Rattle.tcc_serial.specs.Count.{LoadOf, FillOf, GoneOf, Commits, CommitsAbove, live, among, passes}
+use Rattle.tcc_serial.specs.Count.{LoadOf, FillOf, GoneOf, Commits, CommitsAbove, live, among}
 use Rattle.tcc_serial.specs.Owed.{due}
 use Rattle.tcc_serial.specs.Owners.{Grant}
 use Rattle.tcc_serial.specs.Pairs.{Pair, pair, after_move, share}
@@ -33,15 +33,12 @@ use Rattle.tcc_serial.proofs.SharersAnswered.{gone-acks}
 use Rattle.tcc_serial.proofs.TagsKept.{stored-home}
 use Rattle.tcc_serial.proofs.ToldSteps.{Speaks}
 use Rattle.tcc_serial.proofs.WroteLines.{is_of, wrote-new, wrote-other, wrote-unknown}
-
-above-one : (s t : ℕ) (m : Msg) → s < t → num (passes (Commits t) m) ≤ num (passes (CommitsAbove s) m)
-unfolding passes
-above-one s t m l = grind (arith, nat_tests)
+use Rattle.tcc_serial.proofs.CommitSteps.{of-above}
 
 above-sent : (s t : ℕ) (ms : List Msg) → s < t → among (Commits t) ms ≤ among (CommitsAbove s) ms
 unfolding among
 above-sent s t [] l = omega arith
-above-sent s t (m ∷ ms) l = omega (arith, above-one s t m l, above-sent s t ms l)
+above-sent s t (m ∷ ms) l = omega (arith, of-above s t m l, above-sent s t ms l)
 
 -- what a core's rule does that counts here
 pub record Sharing (sh : Shape) (w : History) (c d l : ℕ) (o : Out) : Type 0 where

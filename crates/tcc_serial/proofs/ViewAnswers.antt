@@ -37,13 +37,10 @@ use Rattle.tcc_serial.proofs.ValueAt.{IsAlike, value-alike}
 use Rattle.tcc_serial.proofs.ViewFacts.{IsSeen, bound-own, solo-tid, solo-holds, solo-served}
 use Rattle.tcc_serial.proofs.ViewInvs.{sent-dooms}
 use Rattle.tcc_serial.proofs.ViewPairs.{StaysOrDooms}
-use Rattle.tcc_serial.proofs.ViewValues.{applied-same, stored-home}
+use Rattle.tcc_serial.proofs.ViewValues.{applied-same}
+use Rattle.tcc_serial.proofs.WordValues.{stored-at-home}
 
 -- the Commits in flight to a directory where it takes a message
-
-pub dirs-after : (w : World) (c d k : ℕ) (s : DirState) (sends : Sends) → (dir_takes w c d k s sends).dirs d ≡ s
-unfolding dir_takes
-dirs-after w c d k s sends = rw (same d) refl
 
 pub commits-after : (w : World) (c d k t : ℕ) (m : Msg) (s : DirState) (sends : Sends) (j : ℕ) → in_flight w.net (Core c) (Dir d) k ≡ Some m → passes (Commits t) m ≡ false → live (Commits t) ((dir_takes w c d k s sends).net (Core j) (Dir d)) ≡ live (Commits t) (w.net (Core j) (Dir d))
 unfolding pair
@@ -71,7 +68,7 @@ stays-value sh ram cs w v j d x b m a z dl e f = value-alike sh.base ram cs (w.d
   where
     go : (n : Noted) → Contains cs n → (q : Bool) → stores_word sh.base n.stores x ≡ q → IsAlike sh.base (w.dirs d) (Some j) b (v.dirs d) (Some j) b x n
     go n i false q = inr q
-    go n i true q = inl (counts-alike (w.dirs d) (v.dirs d) (Some j) b n (applied-same sh cs w v n d a z i dl (stored-home sh cs n d x m i e q) (f n)))
+    go n i true q = inl (counts-alike (w.dirs d) (v.dirs d) (Some j) b n (applied-same sh cs w v n d a z i dl (stored-at-home sh cs n d x m i e q) (f n)))
 
 -- the directory takes the Commit of TID u from core c
 
@@ -132,7 +129,7 @@ commit-value sh gs ys ram h k mem v stand c d u t f j b jl dl bound x y e seen =
         one : (o : Noted) → Contains h.commits o → (q : Bool) → stores_word sh.base o.stores x ≡ q → (o.tid.0 ≡ u) ⊎ (o.tid.0 ≡ u → ⊥) → IsAlike sh.base (w.dirs d) (Some j) b (v.dirs d) (Some j) b x o
         one o i false q z = inr q
         one o i true q (inl z) = inl (g o i z q)
-        one o i true q (inr z) = inl (counts-alike (w.dirs d) (v.dirs d) (Some j) b o (applied-same sh h.commits w v o d (k.commit_is_on_its_way_or_applied) stand i dl (stored-home sh h.commits o d x mem i e q) (f o z)))
+        one o i true q (inr z) = inl (counts-alike (w.dirs d) (v.dirs d) (Some j) b o (applied-same sh h.commits w v o d (k.commit_is_on_its_way_or_applied) stand i dl (stored-at-home sh h.commits o d x mem i e q) (f o z)))
 
     -- the core's bound isn't above the commit
     unbounded : (o : Noted) → o.tid.0 ≡ u → is_below b u ≡ false → counts (w.dirs d) (Some j) b o ≡ counts (v.dirs d) (Some j) b o

@@ -24,9 +24,10 @@ use Rattle.tcc_serial.specs.Ways.{Ways}
 use Rattle.tcc_serial.proofs.PairFrames.{AllPairs, same, pairs_dir, pairs_asks, asks-own}
 use Rattle.tcc_serial.proofs.StepCases.{OfAnswer}
 use Rattle.tcc_serial.proofs.TidSteps.{live-some}
-use Rattle.tcc_serial.proofs.ViewAnswers.{dirs-after, commits-after, stays-value, commit-value}
+use Rattle.tcc_serial.proofs.ViewAnswers.{commits-after, stays-value, commit-value}
 use Rattle.tcc_serial.proofs.ViewFacts.{IsSeen}
 use Rattle.tcc_serial.proofs.ViewPairs.{StaysOrDooms, ViewOf, view-answers, bound-out, view-out}
+use Rattle.tcc_serial.proofs.FramedDirs.{dirs-taken}
 
 -- every core's view is near
 abbrev pub AllNear : Shape → (ℕ → ℕ) → List Noted → (ℕ → Uses) → World → Type 0
@@ -64,7 +65,7 @@ plain-views sh ram cs vs w c d k m a mem st q h i f = go a
     takes s sends z = near-takes sh ram cs vs w c d k s sends q h stays
       where
         stays : (j : ℕ) → StaysOrDooms sh ram cs j d (pair w j d) s (sends (Core j))
-        stays j b cl dl g x y e r = inl (rw (dirs-after w c d k s sends) at (stays-value sh ram cs w (dir_takes w c d k s sends) j d x b mem st z dl e (λ n. commits-after w c d k n.tid.0 m s sends n.core.0 i (f n.tid.0))))
+        stays j b cl dl g x y e r = inl (rw (dirs-taken w c d k s sends) at (stays-value sh ram cs w (dir_takes w c d k s sends) j d x b mem st z dl e (λ n. commits-after w c d k n.tid.0 m s sends n.core.0 i (f n.tid.0))))
 
     go : (a : Answer) → OfAnswer w c d k (NearAfter sh ram cs vs) a
     go Waits = tt
@@ -101,7 +102,7 @@ commit-views sh gs ys ram vs h c d k u n y mem q near cl i = go (s.serving.servi
         away t x = grind (arith, nat_tests)
 
         one : CommitsStand sh (dir_takes w c d k r (invalidations sh s.lines c u)) h.commits → (j : ℕ) → StaysOrDooms sh ram h.commits j d (pair w j d) r (invalidations sh s.lines c u (Core j))
-        one z j b jl dl g = rw (dirs-after w c d k r (invalidations sh s.lines c u)) at (commit-value sh gs ys ram h y mem (dir_takes w c d k r (invalidations sh s.lines c u)) z c d u
+        one z j b jl dl g = rw (dirs-taken w c d k r (invalidations sh s.lines c u)) at (commit-value sh gs ys ram h y mem (dir_takes w c d k r (invalidations sh s.lines c u)) z c d u
             (record { core = cl; dir = dl; serving = grind (arith, nat_tests); sent = omega (arith, counted, live-some (CommitOf u (count_below (has_mark s.lines) (lines sh))) (w.net (Core c) (Dir d)) k (Commit u n) i); commit = omega (arith, meant, live-some (Commits u) (w.net (Core c) (Dir d)) k (Commit u n) i) })
             (λ o x. commits-after w c d k o.tid.0 (Commit u n) r (invalidations sh s.lines c u) o.core.0 i (away o.tid.0 x)) j b jl dl g)
 

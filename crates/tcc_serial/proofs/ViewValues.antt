@@ -4,24 +4,21 @@ use Rattle.std.proofs.Common.{arith, refl, ap, inl, inr}
 use Rattle.std.proofs.lemmas.Bool.{cases_lt}
 use Rattle.std.proofs.lemmas.Bool.Decides.{nat_tests}
 use Rattle.tcc_base.specs.declared.access.Commit.{Commit as Noted}
-use Rattle.tcc_maps.specs.Words.{num, line_of}
+use Rattle.tcc_maps.specs.Words.{num}
 use Rattle.tcc_maps.specs.Nodes.{Core, Dir, Msg}
-use Rattle.tcc_maps.specs.Shape.{Shape, home}
+use Rattle.tcc_maps.specs.Shape.{Shape}
 use Rattle.tcc_rules.specs.State.{DirState, Solo, Link, World}
 use Rattle.tcc_rules.specs.Step.{History}
 use Rattle.tcc_serial.specs.Count.{Commits, InvWord, InvBelow, InvsNot, passes, live}
-use Rattle.tcc_serial.specs.InMemory.{CommitsInMemory}
 use Rattle.tcc_serial.specs.Invariants.{Carried}
 use Rattle.tcc_serial.specs.Owners.{Grant, times, holder}
 use Rattle.tcc_serial.specs.Pairs.{pair}
 use Rattle.tcc_serial.specs.Standing.{is_applied, is_this, CommitsStand}
 use Rattle.tcc_serial.specs.Stored.{stores_at}
-use Rattle.tcc_serial.specs.Uses.{stores_word}
 use Rattle.tcc_serial.specs.Values.{counts, value_at}
 use Rattle.tcc_serial.specs.Ways.{Ways}
 use Rattle.tcc_serial.proofs.Commits.{numbered-most}
 use Rattle.tcc_serial.proofs.ListedCommits.{granted-at}
-use Rattle.tcc_serial.proofs.MemoryHomes.{accesses_at_homes}
 use Rattle.tcc_serial.proofs.ValueAt.{value-alike}
 use Rattle.tcc_serial.proofs.ViewFacts.{own-holder, IsServed, solo-holds, solo-served, unowed-none, few-dooms}
 
@@ -86,9 +83,6 @@ num-same true true e = refl
 num-same false false e = refl
 num-same true false e = absurd (omega (arith, e))
 num-same false true e = absurd (omega (arith, e))
-
-pub stored-home : (sh : Shape) (cs : List Noted) (n : Noted) (d x : ℕ) → CommitsInMemory sh cs → Contains cs n → home sh (line_of x) ≡ d → stores_word sh.base n.stores x ≡ true → stores_at sh d n.stores ≡ true
-stored-home sh cs n d x m i e s = rw e at ((accesses_at_homes sh n.loads n.stores (m n i)).stored x s)
 
 -- a commit of which as many Commits are in flight as before is applied as before
 pub applied-same : (sh : Shape) (cs : List Noted) (v w : World) (n : Noted) (d : ℕ) → CommitsStand sh v cs → CommitsStand sh w cs → Contains cs n → d < sh.dirs → stores_at sh d n.stores ≡ true → live (Commits n.tid.0) (w.net (Core n.core.0) (Dir d)) ≡ live (Commits n.tid.0) (v.net (Core n.core.0) (Dir d)) → is_applied (v.dirs d) n.tid.0 ≡ is_applied (w.dirs d) n.tid.0
