@@ -27,7 +27,7 @@ patched-whole : (word addr value : ℕ) → word < 2 ^ 32 → addr % 4 ≡ 0 →
 unfolding patched unit_of
 patched-whole word addr value h e l = rw e (omega arith)
 
-patched-small : (word addr : ℕ) (size : Size) (value : ℕ) → word < 2 ^ 32 → addr % bytes_of size ≡ 0 → patched word addr size value < 2 ^ 32
+pub patched-small : (word addr : ℕ) (size : Size) (value : ℕ) → word < 2 ^ 32 → addr % bytes_of size ≡ 0 → patched word addr size value < 2 ^ 32
 unfolding patched unit_of
 patched-small word addr Word value h e = rw e (omega arith)
 patched-small word addr Half value h e = halves (addr % 4) refl (omega arith) (omega arith)

@@ -112,7 +112,7 @@ unfolding run_from next views_from
 run_from-follow sh p [] h vs f s k = k
 run_from-follow sh p (e ∷ es) h vs f s k = run-step-follow sh p es h vs (views_after sh p h.world e vs) (step sh p h.world e) (step-sound sh p h.world e s) (step-follow sh p h.world vs e f s k) (λ g a b. run_from-follow sh p es g (views_after sh p h.world e vs) f a b)
 
-start-follows : (sh : Shape) (p : Program) (local : Local) → Follows sh p (core_start local) []
+pub start-follows : (sh : Shape) (p : Program) (local : Local) → Follows sh p (core_start local) []
 unfolding core_start none_spilled empty_cache sees
 start-follows sh p local = record { ends = refl; steps = fresh-claims sh p (core_start local) (record { n = refl; local = refl; loads = refl; stores = refl; console = refl; ended = refl; words = λ ram v. refl }) }
 

@@ -254,14 +254,14 @@ unfolding data_request
 request-fit sh l s us m = record { stand = uses-kept s.cache (cleaned l s.cache) us s.phase (cleaned-uses l s.cache) m.stand; used = fewer-used s.cache (cleaned l s.cache) us (λ v i. sym (read-cleaned l s.cache v) ∙ i) m.used; awaits = m.awaits; owes = m.owes }
 
 -- an invalidated word that is marked read
-hit-reads : (l m : ℕ) (c : Cache) (w : ℕ) → c.read w ≡ true → hit l m w ≡ true → l ≡ line_of w → reads_masked l m c ≡ true
+pub hit-reads : (l m : ℕ) (c : Cache) (w : ℕ) → c.read w ≡ true → hit l m w ≡ true → l ≡ line_of w → reads_masked l m c ≡ true
 unfolding reads_masked any_word
 hit-reads l m c w r h e =
     let i : word_at l (w % 8) ≡ w = omega arith in
     any_below-at (λ k. hit l m (word_at l k) && c.read (word_at l k)) 8 (w % 8) (omega arith)
     (subst (λ v. (hit l m v && c.read v) ≡ true) (sym i) (grind (arith, nat_tests)))
 
-hit-line : (l m w : ℕ) → hit l m w ≡ true → l ≡ line_of w
+pub hit-line : (l m w : ℕ) → hit l m w ≡ true → l ≡ line_of w
 unfolding hit
 hit-line l m w h = grind (arith, nat_tests)
 

@@ -1,15 +1,14 @@
 -- What each message to a core does to the words that are marked read.
-use Rattle.std.specs.Prelude.{ℕ, ◌≡◌, ◌<◌, ◌≤◌, ◌%◌, Bool, true, false, not, ◌&&◌, ◌==◌, List, Option, Some, None, IfSome, is_some, unwrap_or, get_or, if◌then◌else◌}
-use Rattle.std.proofs.Common.{arith, refl, sym, subst, ◌⊎◌, inl, inr}
+use Rattle.std.specs.Prelude.{ℕ, ◌≡◌, ◌<◌, ◌≤◌, Bool, true, false, not, ◌&&◌, ◌==◌, List, Option, Some, None, IfSome, is_some, unwrap_or, get_or, if◌then◌else◌}
+use Rattle.std.proofs.Common.{arith, refl, sym, ◌⊎◌, inl, inr}
 use Rattle.std.proofs.lemmas.Bool.Decides.{nat_tests}
-use Rattle.tcc_maps.specs.Words.{any_word, line_of, place_of, word_at}
+use Rattle.tcc_maps.specs.Words.{line_of, place_of}
 use Rattle.tcc_maps.specs.Masks.{hit}
 use Rattle.tcc_maps.specs.Nodes.{Dir, Msg, TidReq, TidGrant, LoadReq, Fill, Skip, Probe, ProbeReply, Mark, Commit, Abort, WriteBack, Flush, DataReq, Inv, InvAck}
 use Rattle.tcc_maps.specs.Shape.{Shape, home}
 use Rattle.tcc_maps.specs.Cache.{Cache}
 use Rattle.tcc_maps.specs.CacheChange.{filled, cleaned, invalidated, rolled_back, read_cleared}
 use Rattle.tcc_maps.specs.CacheLook.{reads_masked}
-use Rattle.tcc_maps.proofs.Numbers.{any_below-at}
 use Rattle.tcc_rules.specs.State.{CoreState, Awaited, Phase, Running, AwaitTid, DoomedTid, Probing, Ready, Overflowing, Solo, Halted}
 use Rattle.tcc_rules.specs.Sends.{nothing, to, marks_for}
 use Rattle.tcc_rules.specs.Attempt.{moves, roll_back}
@@ -17,6 +16,7 @@ use Rattle.tcc_rules.specs.CoreDeliver.{ignored, grant, grant_phase, probe_reply
 use Rattle.tcc_serial.specs.OneCore.{OneCore}
 use Rattle.tcc_serial.specs.Tids.{has_tid}
 use Rattle.tcc_serial.proofs.CoreReads.{Reads, Reading, Cleared, ValidOrPassed, ReadOf, read-kept, reads-same, as-before, tid-kept, no-tid}
+use Rattle.tcc_attempt.proofs.MarksDeliver.{hit-line, hit-reads}
 
 same : (s : CoreState) → Reading s s
 same s = as-before s s refl (reads-same s.cache)
@@ -99,16 +99,6 @@ reading-data sh l s = as-before s _ refl (λ v h. inr (h, refl))
 -- an invalidation
 
 -- a masked word that is marked read
-pub hit-reads : (l m x : ℕ) (c : Cache) → c.read x ≡ true → hit l m x ≡ true → l ≡ line_of x → reads_masked l m c ≡ true
-unfolding reads_masked any_word
-hit-reads l m x c r h e =
-    let i : word_at l (x % 8) ≡ x = omega arith in
-    any_below-at (λ k. hit l m (word_at l k) && c.read (word_at l k)) 8 (x % 8) (omega arith) (subst (λ v. (hit l m v && c.read v) ≡ true) (sym i) (rw (h, r) refl))
-
-pub hit-line : (l m x : ℕ) → hit l m x ≡ true → l ≡ line_of x
-unfolding hit
-hit-line l m x h = grind (arith, nat_tests)
-
 -- a core that is ahead of TID u, or has it, has a TID up to u
 pub tid-ahead : (u : ℕ) (q : Phase) → is_above u q ≡ false → (t : ℕ) × (has_tid q t ≡ true) × (t ≤ u)
 unfolding has_tid
@@ -140,7 +130,7 @@ unhurt sh l m u d n s v p k x e y = go (hit l m x) refl
 
     go : (b : Bool) → hit l m x ≡ b → ValidOrPassed (if b && not (s.cache.modified x) then None else s.cache.value x) s.phase n
     go false q = k x e y
-    go true q = let i = hit-line l m x q in inr (passed i (ahead (reads_masked l m s.cache) (is_above u s.phase) (hit-reads l m x s.cache y q i) v))
+    go true q = let i = hit-line l m x q in inr (passed i (ahead (reads_masked l m s.cache) (is_above u s.phase) (hit-reads l m s.cache x y q i) v))
 
 reads-invalidate : (sh : Shape) (l m u d n : ℕ) (s : CoreState) → OneCore sh s → PassesTid sh s d n l u → ReadOf sh d n s → ReadOf sh d n (invalidate sh l m u s).core
 unfolding invalidate acknowledged if_violated without invalidated roll_back rolled_back

@@ -3,7 +3,7 @@ use Rattle.std.specs.Prelude.{ℕ, ◌-◌, ◌≡◌, Bool, true, false, not, L
 use Rattle.std.proofs.Common.{arith, refl, ◌∙◌}
 use Rattle.std.proofs.lemmas.Bool.Decides.{nat_tests}
 use Rattle.tcc_maps.specs.Words.{count_below, line_of, place_of}
-use Rattle.tcc_maps.specs.Masks.{full, has, hit}
+use Rattle.tcc_maps.specs.Masks.{full, hit}
 use Rattle.tcc_maps.specs.Lines.{has_mark, with_asked, with_mark, with_sharer, unmarked}
 use Rattle.tcc_maps.specs.Judge.{judge, is_owner, Takes as IsTaken, Drops as IsDropped, Waits as IsEarly}
 use Rattle.tcc_maps.specs.Serving.{skipped, kept}
@@ -13,6 +13,7 @@ use Rattle.tcc_rules.specs.State.{DirState}
 use Rattle.tcc_rules.specs.Sends.{nothing, to}
 use Rattle.tcc_rules.specs.DirDeliver.{Answer, Waits, Drops, Asks, Takes, skip, abort, commit, acknowledgement, dir_deliver, moved_on, settled, owned, owed_by, invalidations, unless_keeps, ask_owner, load_owned, load_request, marking, mark_owned, mark, judged, write_back, came_home, probe}
 use Rattle.tcc_serial.specs.Count.{CopyWord, CopyNot, passes}
+use Rattle.tcc_attempt.proofs.MarksDeliver.{hit-line}
 
 pub data HomeBy (s : DirState) (m : Msg) (x : ℕ) (new : DirState) : Type 0 where
   Left : new.words x ≡ s.words x → ((t : ℕ) → passes (CopyWord x t) m ≡ false) → HomeBy s m x new
@@ -100,14 +101,6 @@ ack-words x c l b s = go (s.owed == 0)
     go : (a : Bool) → WordsBy s (InvAck l b) x (if a then Drops else Takes (settled (record s { lines = unless_keeps b c l s.lines; owed = s.owed - 1 })) nothing)
     go true = tt
     go false = Left (settled-words x (record s { lines = unless_keeps b c l s.lines; owed = s.owed - 1 })) (λ t. refl)
-
-hit-line : (k n x : ℕ) → hit k n x ≡ true → k ≡ line_of x
-unfolding hit
-hit-line k n x e = of (k == line_of x) (has n (place_of x)) refl e
-  where
-    of : (a b : Bool) → (k == line_of x) ≡ a → (a && b) ≡ true → k ≡ line_of x
-    of true b r e = grind (arith, nat_tests)
-    of false b r e = absurd (cc)
 
 -- the message has words of line k with tag g
 back-words : (x c k n : ℕ) (ws : List ℕ) (g : ℕ) (m : Msg) (s : DirState) → ((t : ℕ) → passes (CopyWord x t) m ≡ (hit k n x && (g == t))) → ((t y : ℕ) → passes (CopyNot x t y) m ≡ ((hit k n x && (g == t)) && not (get_or ws (place_of x) 0 == y))) → WordsBy s m x (write_back c k n ws g s)

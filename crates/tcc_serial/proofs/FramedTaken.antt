@@ -20,6 +20,7 @@ use Rattle.tcc_serial.proofs.TidSteps.{live-some}
 use Rattle.tcc_serial.proofs.FramedWords.{HeldOf, few-not}
 use Rattle.tcc_serial.proofs.FramedCores.{Fading}
 use Rattle.tcc_serial.proofs.FramedBacks.{Invalidates, Fills}
+use Rattle.tcc_attempt.proofs.MarksDeliver.{hit-line}
 
 -- the frames fade, and the link from the home stays
 pub held-fades : (x y : ℕ) (v w : Pair) → w.back ≡ v.back → Fading v.core w.core → HeldOf x y v → HeldOf x y w
@@ -59,10 +60,6 @@ stale-other l (Some a) h = go (a.line == l) h
     go false q = refl
 
 -- an invalidation is taken
-
-hit-line : (l m x : ℕ) → hit l m x ≡ true → l ≡ line_of x
-unfolding hit
-hit-line l m x h = grind (arith, nat_tests)
 
 pub held-invalid : (sh : Shape) (d x y k l m u : ℕ) (v : Pair) (o : Out) → get_or v.back k None ≡ Some (Inv l m u) → Invalidates l m v.core o → LoadingOf sh d (line_of x) v → HeldOf x y v → HeldOf x y (after_move (back_taken v k) o d)
 unfolding passes

@@ -1,34 +1,16 @@
 -- Instructions whose accesses are aligned leave words of 32 bits, and each word that they use is named by their loads or stores.
-use Rattle.std.specs.Prelude.{ℕ, zero, suc, ◌≡◌, ◌+◌, ◌*◌, ◌/◌, ◌<◌, ◌%◌, ◌^◌, Bool, true, false, not, ◌&&◌, ◌||◌, ◌==◌, List, [], ◌∷◌, ◌++◌, Option, Some, None, IfSome, if◌then◌else◌}
+use Rattle.std.specs.Prelude.{ℕ, zero, suc, ◌≡◌, ◌<◌, ◌%◌, ◌^◌, Bool, true, false, not, ◌&&◌, ◌||◌, ◌==◌, List, [], ◌∷◌, ◌++◌, Option, Some, None, IfSome, if◌then◌else◌}
 use Rattle.std.proofs.Common.{arith, refl}
 use Rattle.tcc_base.specs.Bytes.{bytes_of}
 use Rattle.tcc_base.specs.declared.access.Load.{Load}
 use Rattle.tcc_base.specs.declared.access.Size.{Size}
-use Rattle.tcc_base.specs.declared.access.Size.TheVariants.{Byte, Half, Word}
+use Rattle.tcc_base.specs.declared.access.Size.TheVariants.{Word}
 use Rattle.tcc_program.specs.Program.{Need, Nothing, Loads, Stores, Changes, Prints, Ends, Halts, Traps, Program}
 use Rattle.tcc_program.specs.Plain.{Attempt, Outcome, Goes, Ended, Halted, Trapped, steps, stepped, plain_step, when_going, then_step}
-use Rattle.tcc_program.specs.Ram.{word_of, unit_of, patched, loaded, stored}
+use Rattle.tcc_program.specs.Ram.{word_of, patched, loaded, stored}
 use Rattle.tcc_serial.specs.Uses.{loads_word, stores_word, stores_whole, is_whole, reads_word, uses_next, uses, AlignedNeed, Aligned, IsMemory}
 use Rattle.tcc_serial.proofs.UsedWords.{stored-put, stores_word-append}
-
-patched-small : (word addr : ℕ) (size : Size) (value : ℕ) → word < 2 ^ 32 → addr % bytes_of size ≡ 0 → patched word addr size value < 2 ^ 32
-unfolding patched unit_of
-patched-small word addr Word value h e = rw e (omega arith)
-patched-small word addr Half value h e = halves (addr % 4) refl (omega arith) (omega arith)
-  where
-    halves : (k : ℕ) → addr % 4 ≡ k → k < 4 → k % 2 ≡ 0 → (word % 256 ^ (addr % 4)) + (value % 65536) * 256 ^ (addr % 4) + (word / (256 ^ (addr % 4) * 65536)) * (256 ^ (addr % 4) * 65536) < 2 ^ 32
-    halves zero q l m = rw q (omega arith)
-    halves (suc zero) q l m = absurd (omega arith)
-    halves (suc (suc zero)) q l m = rw q (omega arith)
-    halves (suc (suc (suc k))) q l m = absurd (omega arith)
-patched-small word addr Byte value h e = bytes (addr % 4) refl (omega arith)
-  where
-    bytes : (k : ℕ) → addr % 4 ≡ k → k < 4 → (word % 256 ^ (addr % 4)) + (value % 256) * 256 ^ (addr % 4) + (word / (256 ^ (addr % 4) * 256)) * (256 ^ (addr % 4) * 256) < 2 ^ 32
-    bytes zero q l = rw q (omega arith)
-    bytes (suc zero) q l = rw q (omega arith)
-    bytes (suc (suc zero)) q l = rw q (omega arith)
-    bytes (suc (suc (suc zero))) q l = rw q (omega arith)
-    bytes (suc (suc (suc (suc k)))) q l = absurd (omega arith)
+use Rattle.tcc_attempt.proofs.Follows.{patched-small}
 
 stored-memory : (base : ℕ) (ram : ℕ → ℕ) (addr : ℕ) (size : Size) (value : ℕ) → IsMemory ram → addr % bytes_of size ≡ 0 → IsMemory (stored base ram addr size value)
 stored-memory base ram addr size value m e w = rw stored-put (go (word_of base addr == w))

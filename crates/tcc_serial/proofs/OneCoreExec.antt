@@ -22,7 +22,8 @@ use Rattle.tcc_rules.specs.Execute.{ask, place, overflow, full_set, fetch, used,
 use Rattle.tcc_rules.specs.CoreExec.{core_exec, exec_phase, unless_awaiting}
 use Rattle.tcc_serial.specs.OneCore.{Words, OneCore, Empty, executes, rests}
 use Rattle.tcc_serial.proofs.Executes.{Acts}
-use Rattle.tcc_serial.proofs.WordsKept.{words-marked, words-placed, words-stored, words-buffered, words-committed, valid-held}
+use Rattle.tcc_serial.proofs.WordsKept.{words-marked, words-placed, words-stored, words-buffered, words-committed}
+use Rattle.tcc_attempt.proofs.Sound.{valid-held}
 
 acts-execute : (q : Phase) → Acts q → executes q ≡ true
 acts-execute Running a = refl

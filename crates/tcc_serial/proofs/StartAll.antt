@@ -2,16 +2,14 @@
 use Rattle.std.specs.Prelude.{ℕ, ◌≡◌, List, [], ◌∷◌, Some, None}
 use Rattle.std.specs.List.{flat_map}
 use Rattle.std.proofs.Common.{refl, ap, ◌∙◌, inl}
-use Rattle.tcc_program.specs.Plain.{begun, steps, serial}
+use Rattle.tcc_program.specs.Plain.{serial}
 use Rattle.tcc_program.specs.Program.{Local, Program}
 use Rattle.tcc_maps.specs.Serving.{is_skipped, first_serving}
 use Rattle.tcc_maps.specs.Shape.{Shape}
 use Rattle.tcc_maps.specs.Cache.{empty_cache}
-use Rattle.tcc_maps.specs.Spilled.{none_spilled}
 use Rattle.tcc_maps.specs.Lines.{no_lines}
 use Rattle.tcc_rules.specs.Seen.{Copy, seen, home_copy, copies, copies_of, copies_on, newest, numbers}
 use Rattle.tcc_rules.specs.State.{core_start, dir_start, vendor_start, start}
-use Rattle.tcc_attempt.specs.Follows.{Follows, sees}
 use Rattle.tcc_serial.specs.Alone.{ReadFits}
 use Rattle.tcc_serial.specs.Commits.{CoresSerial, SeenSerial, plain_start}
 use Rattle.tcc_serial.specs.Count.{live}
@@ -25,6 +23,7 @@ use Rattle.tcc_serial.specs.Values.{HomeWords, CopiesAbove, UnmodifiedWords, Fil
 use Rattle.tcc_serial.proofs.FromKept.{runs_carry}
 use Rattle.tcc_serial.proofs.FromMemory.{carried-memory}
 use Rattle.tcc_serial.proofs.InMemoryKept.{start-memory}
+use Rattle.tcc_attempt.proofs.FollowsRun.{start-follows}
 
 -- no core has a TID and nothing is in flight
 
@@ -32,10 +31,6 @@ use Rattle.tcc_serial.proofs.InMemoryKept.{start-memory}
 start-carried : (sh : Shape) (p : Program) (entries : ℕ → Local) (ram : ℕ → ℕ) → Carried sh [] first_ways (first_state entries ram)
 unfolding run run_from grants_from ways_from
 start-carried sh p entries ram = runs_carry sh p entries ram []
-
-start-follows : (sh : Shape) (p : Program) (local : Local) → Follows sh p (core_start local) []
-unfolding core_start none_spilled empty_cache sees begun steps
-start-follows sh p local = record { ends = refl; steps = λ ram small agrees. record { local = refl; loads = refl; stores = refl; console = refl; outcome = refl; words = λ w. refl; small = small } }
 
 start-read : (local : Local) → ReadFits (core_start local) []
 unfolding core_start empty_cache

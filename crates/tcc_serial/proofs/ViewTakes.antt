@@ -22,7 +22,7 @@ use Rattle.tcc_serial.specs.Pairs.{Pair, pair, after_move, grant_taken, back_tak
 use Rattle.tcc_serial.specs.Standing.{IsBound}
 use Rattle.tcc_serial.specs.Values.{value_at, dooms}
 use Rattle.tcc_serial.specs.Ways.{Ways}
-use Rattle.tcc_serial.proofs.CoreReadsTakes.{hit-reads, hit-line, tid-ahead}
+use Rattle.tcc_serial.proofs.CoreReadsTakes.{tid-ahead}
 use Rattle.tcc_serial.proofs.LastSteps.{asking-none}
 use Rattle.tcc_serial.proofs.PairFrames.{given, pairs_grant, pairs_back, pairs_vendor}
 use Rattle.tcc_serial.proofs.TidSteps.{live-some, granted_waits}
@@ -32,6 +32,7 @@ use Rattle.tcc_serial.proofs.ViewFacts.{bound-own, few-doom, solo-undoomed, IsSe
 use Rattle.tcc_serial.proofs.ViewPairs.{ViewOf, view-empty, view-moves, view-takes, view-grants, view-other, view-given}
 use Rattle.tcc_serial.proofs.ViewSteps.{put-own, near-put}
 use Rattle.tcc_serial.proofs.ViewValues.{value-bounded, listed-below, word-next}
+use Rattle.tcc_attempt.proofs.MarksDeliver.{hit-line, hit-reads}
 
 -- a grant
 
@@ -80,7 +81,7 @@ spares-inv sh gs ys h k' c d k l n u x y b cl dl i v g s = go (passes (dooms b x
     no : passes (dooms b x) (Inv l n u) ≡ true → IsSeen (h.world.cores c).cache (h.world.cores c).phase x y → ⊥
     no q (inl r) =
         let f = hits b q in
-        let a = ahead (reads_masked l n (h.world.cores c).cache) (is_above u (h.world.cores c).phase) (hit-reads l n x (h.world.cores c).cache r f (hit-line l n x f)) v in
+        let a = ahead (reads_masked l n (h.world.cores c).cache) (is_above u (h.world.cores c).phase) (hit-reads l n (h.world.cores c).cache x r f (hit-line l n x f)) v in
         let t = tid-ahead u (h.world.cores c).phase a in
         below t.0 (t.2) (bound-own sh gs ys h k' c d t.0 b cl (t.1) g) q
     no q (inr r) = let o : num (passes (dooms b x) (Inv l n u)) ≡ 1 = ap num q in omega (arith, o, solo-undoomed sh gs ys h k' c d x b cl dl r, live-some (dooms b x) (h.world.net (Dir d) (Core c)) k (Inv l n u) i)

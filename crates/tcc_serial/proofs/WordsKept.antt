@@ -17,6 +17,7 @@ use Rattle.tcc_serial.specs.OneCore.{Words}
 use Rattle.tcc_serial.proofs.UsedWords.{stores_word-append}
 use Rattle.tcc_serial.proofs.CoreSteps.{unmarked-word}
 use Rattle.tcc_maps.specs.Masks.{hit}
+use Rattle.tcc_attempt.proofs.Sound.{valid-held}
 
 -- a line of which nothing is spilled
 unspilled : (sp : Spilled) (l v : ℕ) → holds sp l ≡ false → line_of v ≡ l → is_some (sp v) ≡ true → ⊥
@@ -28,13 +29,6 @@ unspilled sp l v h e q =
     cc
 
 -- a valid word has a frame
-pub valid-held : (sh : Shape) (c : Cache) (w x : ℕ) → IsCache sh c → c.value w ≡ Some x → c.held (line_of w) ≡ true
-valid-held sh c w x i e = go (c.held (line_of w)) refl
-  where
-    go : (b : Bool) → c.held (line_of w) ≡ b → c.held (line_of w) ≡ true
-    go true q = q
-    go false q = let n : c.value w ≡ None = i.valued w q in absurd (cc)
-
 -- the marks and spilled words stay
 same-words : (sh : Shape) (solo : Bool) (c d : Cache) (sp : Spilled) (ss : List Stored) → IsCache sh d → ((w : ℕ) → solo ≡ true → d.read w ≡ c.read w) → ((w : ℕ) → d.modified w ≡ c.modified w) → ((w : ℕ) → c.dirty w ≡ None → d.dirty w ≡ None) → Words sh solo c sp ss → Words sh solo d sp ss
 same-words sh solo c d sp ss i r m t k = record {
