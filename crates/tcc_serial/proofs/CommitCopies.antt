@@ -14,7 +14,7 @@ use Rattle.tcc_rules.specs.State.{CoreState, Ready}
 use Rattle.tcc_rules.specs.Commit.{commit, committed_core, noted, solo_commit, commit_sends, is_written, written_mask}
 use Rattle.tcc_serial.specs.OneCore.{OneCore, Words}
 use Rattle.tcc_serial.specs.Stored.{stores_in}
-use Rattle.tcc_serial.specs.Wrote.{stores_line}
+use Rattle.tcc_serial.specs.Wrote.{names_line}
 use Rattle.tcc_serial.proofs.CopySends.{few-masks, commit-copies, solo-copies, solo-wrong}
 use Rattle.tcc_serial.proofs.CoreCopies.{Conserves}
 use Rattle.tcc_serial.proofs.DirtyFrames.{wrong-copy, IsClean, clean-frame, in-line, committed-frame}
@@ -22,11 +22,11 @@ use Rattle.tcc_serial.proofs.StoredMasks.{unspilled, modified-line, modified-sto
 use Rattle.tcc_serial.proofs.CoreMarks.{holds-found}
 
 pub ready-copies : (sh : Shape) (l id u : ℕ) (s : CoreState) → s.phase ≡ Ready u → OneCore sh s → Conserves sh l s (commit sh id u s)
-unfolding commit committed_core committed noted stores_line
+unfolding commit committed_core committed noted names_line
 ready-copies sh l id u s e h =
     let x = committed-frame sh s.cache (committed u s.cache) l u h.words.cache (λ k i. refl) in
-    let z : (t : ℕ) → num (is_modified s.cache l && u == t) ≡ num (stores_line sh.base s.stores l && u == t) = λ t. rw (modified-line sh.base s.cache s.stores l (unspilled sh s.cache s.spilled s.stores (rw e at (h.words)))) refl in
-    let y : (t m : ℕ) → num ((is_modified s.cache l && u == t) && not (modified_mask s.cache l == m)) ≡ num ((stores_line sh.base s.stores l && u == t) && not (stores_in sh.base s.stores l == m)) = λ t m. rw (modified-line sh.base s.cache s.stores l (unspilled sh s.cache s.spilled s.stores (rw e at (h.words))), modified-stored sh.base s.cache s.stores l (unspilled sh s.cache s.spilled s.stores (rw e at (h.words)))) refl in
+    let z : (t : ℕ) → num (is_modified s.cache l && u == t) ≡ num (names_line sh.base s.stores l && u == t) = λ t. rw (modified-line sh.base s.cache s.stores l (unspilled sh s.cache s.spilled s.stores (rw e at (h.words)))) refl in
+    let y : (t m : ℕ) → num ((is_modified s.cache l && u == t) && not (modified_mask s.cache l == m)) ≡ num ((names_line sh.base s.stores l && u == t) && not (stores_in sh.base s.stores l == m)) = λ t m. rw (modified-line sh.base s.cache s.stores l (unspilled sh s.cache s.spilled s.stores (rw e at (h.words))), modified-stored sh.base s.cache s.stores l (unspilled sh s.cache s.spilled s.stores (rw e at (h.words)))) refl in
     record {
       copies = λ t. omega (arith, x.0 t, z t, commit-copies sh s.cache u l t (home sh l));
       wrong = λ t m. omega (arith, x.1 t m, y t m, commit-copies sh s.cache u l t (home sh l), few-masks l t m (commit_sends sh s.cache u (Dir (home sh l))));
@@ -55,13 +55,13 @@ unfolding written_mask spilled_mask mask_of
 spilled-only c sp l h = rw (h 0 (omega arith), h 1 (omega arith), h 2 (omega arith), h 3 (omega arith), h 4 (omega arith), h 5 (omega arith), h 6 (omega arith), h 7 (omega arith)) refl
 
 pub alone-copies : (sh : Shape) (b : Bool) (l id u : ℕ) (s : CoreState) → l < lines sh → home sh l < sh.dirs → Words sh b s.cache s.spilled s.stores → Conserves sh l s (solo_commit sh id u s)
-unfolding solo_commit committed_core committed words_dropped noted stores_line is_written
+unfolding solo_commit committed_core committed words_dropped noted names_line is_written
 alone-copies sh b l id u s i j h = go (holds s.spilled l) refl
   where
     after : Cache
     after = committed u (words_dropped s.spilled s.cache)
 
-    line : (is_modified s.cache l || holds s.spilled l) ≡ stores_line sh.base s.stores l
+    line : (is_modified s.cache l || holds s.spilled l) ≡ names_line sh.base s.stores l
     line = written-line sh.base s.cache s.spilled s.stores l (h.named)
 
     mask : stores_in sh.base s.stores l ≡ written_mask s.cache s.spilled l
@@ -79,18 +79,18 @@ alone-copies sh b l id u s i j h = go (holds s.spilled l) refl
     go false q =
         let none = none-held s.spilled l q in
         let x = committed-frame sh s.cache after l u h.cache (λ k i. rw (none k i) refl) in
-        let m : is_modified s.cache l ≡ stores_line sh.base s.stores l = sym (or-none (is_modified s.cache l) (holds s.spilled l) q) ∙ line in
+        let m : is_modified s.cache l ≡ names_line sh.base s.stores l = sym (or-none (is_modified s.cache l) (holds s.spilled l) q) ∙ line in
         let n : modified_mask s.cache l ≡ stores_in sh.base s.stores l = sym (unspilled-mask s.cache s.spilled l none) ∙ sym mask in
         record {
-          copies = λ t. (let y : num (holds s.spilled l && u == t) ≡ 0 = rw q refl in let z : num (is_modified s.cache l && u == t) ≡ num (stores_line sh.base s.stores l && u == t) = rw m refl in omega (arith, x.0 t, y, z, solo-copies sh s.cache s.spilled u l t i j));
-          wrong = λ t k. (let y : num ((holds s.spilled l && u == t) && not (spilled_mask s.spilled l == k)) ≡ 0 = rw q refl in let z : num ((is_modified s.cache l && u == t) && not (modified_mask s.cache l == k)) ≡ num ((stores_line sh.base s.stores l && u == t) && not (stores_in sh.base s.stores l == k)) = rw (m, n) refl in omega (arith, x.1 t k, y, z, solo-wrong sh s.cache s.spilled u l t k i j));
+          copies = λ t. (let y : num (holds s.spilled l && u == t) ≡ 0 = rw q refl in let z : num (is_modified s.cache l && u == t) ≡ num (names_line sh.base s.stores l && u == t) = rw m refl in omega (arith, x.0 t, y, z, solo-copies sh s.cache s.spilled u l t i j));
+          wrong = λ t k. (let y : num ((holds s.spilled l && u == t) && not (spilled_mask s.spilled l == k)) ≡ 0 = rw q refl in let z : num ((is_modified s.cache l && u == t) && not (modified_mask s.cache l == k)) ≡ num ((names_line sh.base s.stores l && u == t) && not (stores_in sh.base s.stores l == k)) = rw (m, n) refl in omega (arith, x.1 t k, y, z, solo-wrong sh s.cache s.spilled u l t k i j));
         }
     go true q = alone (holds-found s.spilled l q)
       where
         alone : (k : ℕ) × (k < 8) × (is_some (s.spilled (word_at l k)) ≡ true) → Conserves sh l s (solo_commit sh id u s)
         alone v = record {
-          copies = λ t. (let z : num (holds s.spilled l && u == t) ≡ num (stores_line sh.base s.stores l && u == t) = rw (q, stored) refl in omega (arith, clean-frame s.cache l (λ k i. (words k i).1) t, clean-frame after l gone t, z, solo-copies sh s.cache s.spilled u l t i j));
-          wrong = λ t k. (let z : num ((holds s.spilled l && u == t) && not (spilled_mask s.spilled l == k)) ≡ num ((stores_line sh.base s.stores l && u == t) && not (stores_in sh.base s.stores l == k)) = rw (q, stored, n) refl in omega (arith, clean-frame s.cache l (λ k i. (words k i).1) t, clean-frame after l gone t, wrong-copy s.cache l t k, wrong-copy after l t k, z, solo-wrong sh s.cache s.spilled u l t k i j));
+          copies = λ t. (let z : num (holds s.spilled l && u == t) ≡ num (names_line sh.base s.stores l && u == t) = rw (q, stored) refl in omega (arith, clean-frame s.cache l (λ k i. (words k i).1) t, clean-frame after l gone t, z, solo-copies sh s.cache s.spilled u l t i j));
+          wrong = λ t k. (let z : num ((holds s.spilled l && u == t) && not (spilled_mask s.spilled l == k)) ≡ num ((names_line sh.base s.stores l && u == t) && not (stores_in sh.base s.stores l == k)) = rw (q, stored, n) refl in omega (arith, clean-frame s.cache l (λ k i. (words k i).1) t, clean-frame after l gone t, wrong-copy s.cache l t k, wrong-copy after l t k, z, solo-wrong sh s.cache s.spilled u l t k i j));
         }
           where
             words : (k : ℕ) → k < 8 → (s.cache.modified (word_at l k) ≡ false) × (s.cache.dirty (word_at l k) ≡ None)
@@ -103,7 +103,7 @@ alone-copies sh b l id u s i j h = go (holds s.spilled l) refl
             gone : IsClean after l
             gone k i = none (is_some (s.spilled (word_at l k))) (s.cache.modified (word_at l k)) (s.cache.dirty (word_at l k)) ((words k i).0) ((words k i).1)
 
-            stored : stores_line sh.base s.stores l ≡ true
+            stored : names_line sh.base s.stores l ≡ true
             stored = sym line ∙ or-last (is_modified s.cache l) (holds s.spilled l) q
 
             n : spilled_mask s.spilled l ≡ stores_in sh.base s.stores l

@@ -18,18 +18,18 @@ use Rattle.tcc_rules.specs.Attempt.{Out, moves, finished, stepped, is_running, i
 use Rattle.tcc_rules.specs.Execute.{ask, place, overflow, full_set, fetch, used, load_valid, load_spilled, load, buffered, framed, word_store, also_read, change_valid, change_spilled, partial_store}
 use Rattle.tcc_serial.specs.Count.{CopyOf, CopyMask, among, passes}
 use Rattle.tcc_serial.specs.Stored.{stores_in}
-use Rattle.tcc_serial.specs.Wrote.{stores_line}
+use Rattle.tcc_serial.specs.Wrote.{names_line}
 use Rattle.tcc_serial.proofs.CopySends.{Leaves, few-masks, flushed-leaves}
 use Rattle.tcc_serial.proofs.DirtyFrames.{frame_copy, frame_wrong, wrong-copy, SameDirty, same-frame, clean-frame, in-line}
 
 -- a commit makes a copy of the line with the tag; and it has another mask
 abbrev pub gains : Shape → (line : ℕ) → Option Noted → (tag : ℕ) → Bool
 gains sh l None t = false
-gains sh l (Some n) t = stores_line sh.base n.stores l && n.tid.0 == t
+gains sh l (Some n) t = names_line sh.base n.stores l && n.tid.0 == t
 
 abbrev pub gains_wrong : Shape → (line : ℕ) → Option Noted → (tag mask : ℕ) → Bool
 gains_wrong sh l None t m = false
-gains_wrong sh l (Some n) t m = (stores_line sh.base n.stores l && n.tid.0 == t) && not (stores_in sh.base n.stores l == m)
+gains_wrong sh l (Some n) t m = (names_line sh.base n.stores l && n.tid.0 == t) && not (stores_in sh.base n.stores l == m)
 
 pub record Conserves (sh : Shape) (l : ℕ) (s : CoreState) (o : Out) : Type 0 where
   pub copies : (t : ℕ) → frame_copy o.core.cache l t + among (CopyOf l t) (o.sends (Dir (home sh l))) ≡ frame_copy s.cache l t + num (gains sh l o.commit t)

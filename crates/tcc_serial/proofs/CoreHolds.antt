@@ -21,7 +21,7 @@ use Rattle.tcc_rules.specs.CoreEvict.{core_evict, evict_line, is_awaited}
 use Rattle.tcc_rules.specs.Execute.{ask, place, overflow, full_set, fetch, used, load_valid, load_spilled, load, buffered, framed, word_store, also_read, change_valid, change_spilled, partial_store, close, execute_need, execute}
 use Rattle.tcc_serial.specs.Copies.{keeps_unmodified, is_fresh}
 use Rattle.tcc_serial.specs.OneCore.{OneCore, Words, executes as acting}
-use Rattle.tcc_serial.specs.Wrote.{stores_line}
+use Rattle.tcc_serial.specs.Wrote.{names_line}
 use Rattle.tcc_serial.proofs.CoreCopies.{finished-cache}
 use Rattle.tcc_serial.proofs.HeldWords.{Fewer, fewer-kept, fewer-marked, fewer-stored, fewer-evicted, kept-committed, kept-alone}
 use Rattle.tcc_serial.proofs.StoredMasks.{unspilled, modified-line, written-line}
@@ -30,7 +30,7 @@ use Rattle.tcc_serial.proofs.StoredMasks.{unspilled, modified-line, written-line
 pub record StoredLine (sh : Shape) (l : ℕ) (o : Out) : Type 0 where
   pub commit : Noted
   pub noted : o.commit ≡ Some commit
-  pub line : stores_line sh.base commit.stores l ≡ true
+  pub line : names_line sh.base commit.stores l ≡ true
 
 pub record Holds (sh : Shape) (l : ℕ) (s : CoreState) (o : Out) : Type 0 where
   pub kept : keeps_unmodified o.core.cache l ≡ true → (keeps_unmodified s.cache l ≡ true) ⊎ StoredLine sh l o
@@ -148,7 +148,7 @@ wholly sh l p w x need s g = go (holds s.spilled (line_of w)) (s.cache.held (lin
 -- commits
 
 ready-kept : (sh : Shape) (l id u : ℕ) (s : CoreState) → s.phase ≡ Ready u → OneCore sh s → KeptBy sh l s (commit sh id u s)
-unfolding commit committed_core noted stores_line
+unfolding commit committed_core noted names_line
 ready-kept sh l id u s e h q = go (kept-committed u l s.cache q)
   where
     go : (keeps_unmodified s.cache l ≡ true) ⊎ (is_modified s.cache l ≡ true) → (keeps_unmodified s.cache l ≡ true) ⊎ StoredLine sh l (commit sh id u s)
@@ -156,7 +156,7 @@ ready-kept sh l id u s e h q = go (kept-committed u l s.cache q)
     go (inr y) = inr (record { commit = noted u id s; noted = refl; line = sym (modified-line sh.base s.cache s.stores l (unspilled sh s.cache s.spilled s.stores (rw e at (h.words)))) ∙ y })
 
 alone-kept : (sh : Shape) (b : Bool) (l id u : ℕ) (s : CoreState) → Words sh b s.cache s.spilled s.stores → KeptBy sh l s (solo_commit sh id u s)
-unfolding solo_commit committed_core noted stores_line is_written
+unfolding solo_commit committed_core noted names_line is_written
 alone-kept sh b l id u s h q = go (kept-alone u l s.spilled s.cache q)
   where
     first : (x y : Bool) → x ≡ true → (x || y) ≡ true

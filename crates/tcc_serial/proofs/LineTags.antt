@@ -20,7 +20,7 @@ use Rattle.tcc_serial.specs.Owners.{Grant, times}
 use Rattle.tcc_serial.specs.Pairs.{pair, share}
 use Rattle.tcc_serial.specs.Standing.{is_settled, is_applied, CommitsStand}
 use Rattle.tcc_serial.specs.Stored.{SettledCommit, KeptStored}
-use Rattle.tcc_serial.specs.Wrote.{stores_line, last_of}
+use Rattle.tcc_serial.specs.Wrote.{names_line, last_of}
 use Rattle.tcc_serial.proofs.LastOf.{last-most, last-least}
 use Rattle.tcc_serial.proofs.Links.{total-le}
 use Rattle.tcc_serial.proofs.TagsKept.{stored-home, stored-in, applied-served, none-sent}
@@ -45,9 +45,9 @@ untagged sh h d l t k dl ll e p z q = absurd (omega (arith, z, last-listed (sett
 -- the tag isn't above the served TID
 tag-served : (sh : Shape) (w : World) (cs : List Noted) (d l : ℕ) → CommitsStand sh w cs → KeptTags sh w cs → d < sh.dirs → l < lines sh → home sh l ≡ d → (w.dirs d).lines.tag l ≤ (w.dirs d).serving.serving
 unfolding settled_in_line
-tag-served sh w cs d l a k dl ll e = rw (k d l dl ll e) (last-most (settled_in_line sh w d l) cs (w.dirs d).serving.serving (λ x j s. one x j (is_settled w d x) (stores_line sh.base x.stores l) refl refl s))
+tag-served sh w cs d l a k dl ll e = rw (k d l dl ll e) (last-most (settled_in_line sh w d l) cs (w.dirs d).serving.serving (λ x j s. one x j (is_settled w d x) (names_line sh.base x.stores l) refl refl s))
   where
-    one : (x : Noted) → Contains cs x → (b s : Bool) → is_settled w d x ≡ b → stores_line sh.base x.stores l ≡ s → (b && s) ≡ true → x.tid.0 ≤ (w.dirs d).serving.serving
+    one : (x : Noted) → Contains cs x → (b s : Bool) → is_settled w d x ≡ b → names_line sh.base x.stores l ≡ s → (b && s) ≡ true → x.tid.0 ≤ (w.dirs d).serving.serving
     one x j true true q r f = applied-served (w.dirs d) x.tid.0 (omega (arith, a x d j dl (stored-home sh d l x ll e r), none-sent w d x q))
     one x j true false q r f = absurd (cc)
     one x j false s q r f = absurd (cc)
@@ -60,7 +60,7 @@ tag-below sh h c d l a k dl ll e p own s = go (h.world.dirs d).serving.serving r
     u : ℕ
     u = (h.world.dirs d).serving.serving
 
-    one : (v : ℕ) → u ≡ v + 1 → (x : Noted) → Contains h.commits x → (b s : Bool) → is_settled h.world d x ≡ b → stores_line sh.base x.stores l ≡ s → (b && s) ≡ true → x.tid.0 ≤ v
+    one : (v : ℕ) → u ≡ v + 1 → (x : Noted) → Contains h.commits x → (b s : Bool) → is_settled h.world d x ≡ b → names_line sh.base x.stores l ≡ s → (b && s) ≡ true → x.tid.0 ≤ v
     one v y x j true true q r f = below (cases_lt v x.tid.0)
       where
         most : x.tid.0 ≤ u
@@ -73,7 +73,7 @@ tag-below sh h c d l a k dl ll e p own s = go (h.world.dirs d).serving.serving r
     one v y x j false s q r f = absurd (cc)
 
     go : (n : ℕ) → u ≡ n → (h.world.dirs d).lines.tag l < u
-    go n q = let y : u ≡ (u - 1) + 1 = omega (arith, p) in let z = last-most (settled_in_line sh h.world d l) h.commits (u - 1) (λ x j s. one (u - 1) y x j (is_settled h.world d x) (stores_line sh.base x.stores l) refl refl s) in omega (arith, k d l dl ll e, z, p)
+    go n q = let y : u ≡ (u - 1) + 1 = omega (arith, p) in let z = last-most (settled_in_line sh h.world d l) h.commits (u - 1) (λ x j s. one (u - 1) y x j (is_settled h.world d x) (names_line sh.base x.stores l) refl refl s) in omega (arith, k d l dl ll e, z, p)
 
 pub applied-owed : (s : DirState) (t : ℕ) → t ≡ s.serving.serving → 1 ≤ s.owed → is_applied s t ≡ true
 unfolding is_applied
@@ -111,7 +111,7 @@ inv-tag-of sh h c d k l m u owes named stored a g cl dl ll e i = record { tag = 
     n : SettledCommit sh h.commits d s
     n = (stored 0 d 0).settled dl owed
 
-    line : stores_line sh.base n.commit.stores l ≡ true
+    line : names_line sh.base n.commit.stores l ≡ true
     line = stored-in sh d l n.commit ll e ∙ ap (nat_lt 0) (sym (n.marks l)) ∙ marked (has_mark s.lines l) refl
 
     applied : is_applied s n.commit.tid.0 ≡ true

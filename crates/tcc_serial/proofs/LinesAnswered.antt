@@ -17,7 +17,7 @@ use Rattle.tcc_serial.specs.Owners.{Grant}
 use Rattle.tcc_serial.specs.Pairs.{Pair, pair, after_answer, out_taken}
 use Rattle.tcc_serial.specs.Standing.{is_applied}
 use Rattle.tcc_serial.specs.Ways.{Ways}
-use Rattle.tcc_serial.specs.Wrote.{stores_line, wrote_line}
+use Rattle.tcc_serial.specs.Wrote.{names_line, wrote_line}
 use Rattle.tcc_serial.proofs.AnswerCopies.{Answered, none-passes, still-similar, dropped-similar, came-similar}
 use Rattle.tcc_serial.proofs.DirCopies.{similar-copies, taken-copies}
 use Rattle.tcc_serial.proofs.DirOwes.{CountsMarked}
@@ -36,7 +36,7 @@ use Rattle.tcc_serial.proofs.WroteLines.{wrote-listed, no-writer}
 -- a line that the commit whose Commit is taken stored, and one that it didn't
 
 -- the commit stored just the lines that are marked
-pub marked-line : (sh : Shape) (h : History) (c d l : ℕ) → l < lines sh → home sh l ≡ d → (t : TakenCommit sh h.commits h.world c d) → stores_line sh.base t.settled.commit.stores l ≡ has_mark (h.world.dirs d).lines l
+pub marked-line : (sh : Shape) (h : History) (c d l : ℕ) → l < lines sh → home sh l ≡ d → (t : TakenCommit sh h.commits h.world c d) → names_line sh.base t.settled.commit.stores l ≡ has_mark (h.world.dirs d).lines l
 marked-line sh h c d l ll e t = stored-in sh d l t.settled.commit ll e ∙ ap (nat_lt 0) (sym (t.settled.marks l))
 
 -- of the core that committed; no other core has a commit with this TID
@@ -60,7 +60,7 @@ other-writer sh h c j d l n t = no-writer sh.base h.commits j (h.world.dirs d).s
     go x k false b q r = refl
 
 -- just one Commit of it is in flight
-one-commit : (sh : Shape) (gs : List Grant) (ys : Ways) (h : History) (c d l : ℕ) → Before sh gs ys h → d < sh.dirs → l < lines sh → home sh l ≡ d → (t : TakenCommit sh h.commits h.world c d) → stores_line sh.base t.settled.commit.stores l ≡ true → live (Commits (h.world.dirs d).serving.serving) (h.world.net (Core c) (Dir d)) ≡ 1
+one-commit : (sh : Shape) (gs : List Grant) (ys : Ways) (h : History) (c d l : ℕ) → Before sh gs ys h → d < sh.dirs → l < lines sh → home sh l ≡ d → (t : TakenCommit sh h.commits h.world c d) → names_line sh.base t.settled.commit.stores l ≡ true → live (Commits (h.world.dirs d).serving.serving) (h.world.net (Core c) (Dir d)) ≡ 1
 one-commit sh gs ys h c d l b dl ll e t s =
     let n = t.settled.commit in
     let x : live (Commits n.tid.0) (h.world.net (Core n.core.0) (Dir d)) + num (is_applied (h.world.dirs d) n.tid.0) ≡ 1 = on-its-way sh gs ys h b.told n d (t.settled.noted) dl (stored-home sh d l n ll e s) in

@@ -13,7 +13,7 @@ use Rattle.tcc_serial.specs.InMemory.{WordInMemory, CommitsInMemory}
 use Rattle.tcc_serial.specs.Stored.{stores_at}
 use Rattle.tcc_serial.specs.Uses.{loads_word, stores_word}
 use Rattle.tcc_serial.specs.Worked.{loads_at}
-use Rattle.tcc_serial.specs.Wrote.{stores_line, wrote, wrote_line}
+use Rattle.tcc_serial.specs.Wrote.{names_line, wrote, wrote_line}
 use Rattle.tcc_serial.proofs.StoredMasks.{stored-any, stored-line}
 
 -- a line has a word with p where one of its words has it
@@ -38,7 +38,7 @@ line-memory : (sh : Shape) (p : ℕ → Bool) → ((x : ℕ) → p x ≡ true �
 line-memory sh p h l e = let x = line-found p l e in let i : line_of x.0 < lines sh = h x.0 (x.2) in omega (arith, i, x.1)
 
 pub accesses_at_homes : AccessesAtHomes
-unfolding loads_at stores_line
+unfolding loads_at names_line
 accesses_at_homes sh ls ss k = record {
   loaded = λ x e. at-home sh (loads_word sh.base ls) (line_of x) (k.loaded x e) (line-has (loads_word sh.base ls) x e);
   stored = λ x e. stored-at sh ss (line_of x) (k.stored x e) (line-has (stores_word sh.base ss) x e);

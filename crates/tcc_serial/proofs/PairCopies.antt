@@ -15,7 +15,7 @@ use Rattle.tcc_serial.specs.Owners.{times}
 use Rattle.tcc_serial.specs.Pairs.{Pair, after_move}
 use Rattle.tcc_serial.specs.Standing.{is_this}
 use Rattle.tcc_serial.specs.Stored.{stores_in}
-use Rattle.tcc_serial.specs.Wrote.{stores_line, wrote_line, wrote_mask}
+use Rattle.tcc_serial.specs.Wrote.{names_line, wrote_line, wrote_mask}
 use Rattle.tcc_serial.proofs.CoreCopies.{Conserves}
 use Rattle.tcc_serial.proofs.CopySends.{mask-copy}
 use Rattle.tcc_serial.proofs.DirtyFrames.{frame_copy, frame_wrong, wrong-copy}
@@ -93,8 +93,8 @@ copies-lost sh cs c d l v o e z k f h = record {
 pub record NewCommit (base : ℕ) (cs : List Noted) (c d l : ℕ) (v : Pair) (o : Out) (n : Noted) : Type 0 where
   pub fresh : times n.tid.0 cs ≡ 0
   pub core : n.core.0 ≡ c
-  pub tag : stores_line base n.stores l ≡ true → n.tid.0 ≡ v.dir.lines.tag l → ⊥
-  pub sent : stores_line base n.stores l ≡ true → live (Commits n.tid.0) v.out + among (Commits n.tid.0) (o.sends (Dir d)) ≡ 1
+  pub tag : names_line base n.stores l ≡ true → n.tid.0 ≡ v.dir.lines.tag l → ⊥
+  pub sent : names_line base n.stores l ≡ true → live (Commits n.tid.0) v.out + among (Commits n.tid.0) (o.sends (Dir d)) ≡ 1
   pub others : (t : ℕ) → (n.tid.0 == t) ≡ false → among (Commits t) (o.sends (Dir d)) ≡ 0
 
 pub copies-committed : (sh : Shape) (cs : List Noted) (c d l : ℕ) (v : Pair) (o : Out) (n : Noted) → home sh l ≡ d → o.commit ≡ Some n → NewCommit sh.base cs c d l v o n → Conserves sh l v.core o → LineCopies sh.base cs c l v → LineCopies sh.base (insert_commit n cs) c l (after_move v o d)
@@ -106,22 +106,22 @@ copies-committed sh cs c d l v o n e q x k h = record { owned = owned; above = �
     ds : List Noted
     ds = insert_commit n cs
 
-    copies : (t : ℕ) → line_copies l t (after_move v o d) ≡ line_copies l t v + num (stores_line sh.base n.stores l && u == t)
+    copies : (t : ℕ) → line_copies l t (after_move v o d) ≡ line_copies l t v + num (names_line sh.base n.stores l && u == t)
     copies t = omega (arith, moved-copies sh d l t v o e, rw q at (k.copies t), of-line l t v)
 
-    wrong : (t m : ℕ) → line_wrong l t m (after_move v o d) ≡ line_wrong l t m v + num ((stores_line sh.base n.stores l && u == t) && not (stores_in sh.base n.stores l == m))
+    wrong : (t m : ℕ) → line_wrong l t m (after_move v o d) ≡ line_wrong l t m v + num ((names_line sh.base n.stores l && u == t) && not (stores_in sh.base n.stores l == m))
     wrong t m = omega (arith, moved-wrong sh d l t m v o e, rw q at (k.wrong t m), of-wrong l t m v)
 
     none : (t : ℕ) (b : Bool) → (u == t) ≡ false → num (b && u == t) ≡ 0
     none t true r = rw r refl
     none t false r = refl
 
-    not-tag : (b : Bool) → stores_line sh.base n.stores l ≡ b → num (b && u == v.dir.lines.tag l) ≡ 0
+    not-tag : (b : Bool) → names_line sh.base n.stores l ≡ b → num (b && u == v.dir.lines.tag l) ≡ 0
     not-tag true r = let f = x.tag r in let y : (u == v.dir.lines.tag l) ≡ false = grind (arith, nat_tests) in rw y refl
     not-tag false r = refl
 
     owned : line_copies l (v.dir.lines.tag l) (after_move v o d) ≡ num (is_this (v.dir.lines.owner l) c)
-    owned = omega (arith, copies (v.dir.lines.tag l), not-tag (stores_line sh.base n.stores l) refl, h.owned)
+    owned = omega (arith, copies (v.dir.lines.tag l), not-tag (names_line sh.base n.stores l) refl, h.owned)
 
     -- the commit's own copies: none before
     mine : (t : ℕ) → u ≡ t → wrote_line sh.base cs c t l ≡ false
@@ -130,7 +130,7 @@ copies-committed sh cs c d l v o n e q x k h = record { owned = owned; above = �
     new : (t : ℕ) → u ≡ t → Wrote sh.base ds c t l n
     new t r = wrote-new sh.base n cs c t l (x.core) r (rw r at (x.fresh))
 
-    one : (t : ℕ) (b : Bool) → u ≡ t → stores_line sh.base n.stores l ≡ b → num (b && u == t) ≡ cond b (live (Commits t) ((after_move v o d).out)) 0
+    one : (t : ℕ) (b : Bool) → u ≡ t → names_line sh.base n.stores l ≡ b → num (b && u == t) ≡ cond b (live (Commits t) ((after_move v o d).out)) 0
     one t true r s = let y : (u == t) ≡ true = grind (arith, nat_tests) in let z : live (Commits t) v.out + among (Commits t) (o.sends (Dir d)) ≡ 1 = rw r at (x.sent s) in rw y (omega (arith, z, live-sends (Commits t) v.out (o.sends (Dir d))))
     one t false r s = refl
 
@@ -142,18 +142,18 @@ copies-committed sh cs c d l v o n e q x k h = record { owned = owned; above = �
         last false b z = refl
 
     above : (t : ℕ) → v.dir.lines.tag l < t → (u ≡ t) ⊎ (u ≡ t → ⊥) → line_copies l t (after_move v o d) ≡ cond (wrote_line sh.base ds c t l) (live (Commits t) ((after_move v o d).out)) 0
-    above t i (inl r) = let y = (new t r).line in let z : line_copies l t v ≡ 0 = h.above t i ∙ rw (mine t r) refl in rw y (copies t ∙ rw z (let w = one t (stores_line sh.base n.stores l) r refl in omega (arith, w)))
+    above t i (inl r) = let y = (new t r).line in let z : line_copies l t v ≡ 0 = h.above t i ∙ rw (mine t r) refl in rw y (copies t ∙ rw z (let w = one t (names_line sh.base n.stores l) r refl in omega (arith, w)))
     above t i (inr r) =
         let y : (u == t) ≡ false = grind (arith, nat_tests) in
         let s = (other t r).line in
-        rw s (omega (arith, copies t, none t (stores_line sh.base n.stores l) y, h.above t i, same-cond (wrote_line sh.base cs c t l) (live (Commits t) ((after_move v o d).out)) (live (Commits t) v.out) (λ w. omega (arith, x.others t y, live-sends (Commits t) v.out (o.sends (Dir d))))))
+        rw s (omega (arith, copies t, none t (names_line sh.base n.stores l) y, h.above t i, same-cond (wrote_line sh.base cs c t l) (live (Commits t) ((after_move v o d).out)) (live (Commits t) v.out) (λ w. omega (arith, x.others t y, live-sends (Commits t) v.out (o.sends (Dir d))))))
 
     masks : (t : ℕ) → v.dir.lines.tag l < t → (u ≡ t) ⊎ (u ≡ t → ⊥) → line_wrong l t (wrote_mask sh.base ds c t l) (after_move v o d) ≡ 0
     masks t i (inl r) =
         let y = (new t r).mask in
         let z : line_copies l t v ≡ 0 = h.above t i ∙ rw (mine t r) refl in
         let s : (stores_in sh.base n.stores l == stores_in sh.base n.stores l) ≡ true = grind (arith, nat_tests) in
-        let w : num ((stores_line sh.base n.stores l && u == t) && not (stores_in sh.base n.stores l == stores_in sh.base n.stores l)) ≡ 0 = rw s (never (stores_line sh.base n.stores l && u == t)) in
+        let w : num ((names_line sh.base n.stores l && u == t) && not (stores_in sh.base n.stores l == stores_in sh.base n.stores l)) ≡ 0 = rw s (never (names_line sh.base n.stores l && u == t)) in
         rw y (omega (arith, wrong t (stores_in sh.base n.stores l), w, z, few-wrong l t (stores_in sh.base n.stores l) v))
       where
         never : (b : Bool) → num (b && false) ≡ 0
@@ -162,7 +162,7 @@ copies-committed sh cs c d l v o n e q x k h = record { owned = owned; above = �
     masks t i (inr r) =
         let y : (u == t) ≡ false = grind (arith, nat_tests) in
         let s = (other t r).mask in
-        let w : num ((stores_line sh.base n.stores l && u == t) && not (stores_in sh.base n.stores l == wrote_mask sh.base cs c t l)) ≡ 0 = rw y (off (stores_line sh.base n.stores l)) in
+        let w : num ((names_line sh.base n.stores l && u == t) && not (stores_in sh.base n.stores l == wrote_mask sh.base cs c t l)) ≡ 0 = rw y (off (names_line sh.base n.stores l)) in
         rw s (omega (arith, wrong t (wrote_mask sh.base cs c t l), w, h.masks t i))
       where
         off : (b : Bool) → num ((b && false) && not (stores_in sh.base n.stores l == wrote_mask sh.base cs c t l)) ≡ 0

@@ -23,7 +23,7 @@ use Rattle.tcc_serial.specs.Stored.{MarkedCommit, stores_at}
 use Rattle.tcc_serial.specs.Uses.{stores_word}
 use Rattle.tcc_serial.specs.Values.{counts, value_at, word_copies, CopiesHave, HomeWords, CopiesAbove}
 use Rattle.tcc_serial.specs.Ways.{Ways, Committed}
-use Rattle.tcc_serial.specs.Wrote.{stores_line, wrote, wrote_line, wrote_mask}
+use Rattle.tcc_serial.specs.Wrote.{names_line, wrote, wrote_line, wrote_mask}
 use Rattle.tcc_serial.proofs.BelowBound.{home-below}
 use Rattle.tcc_serial.proofs.Commits.{numbered-least, granted-once}
 use Rattle.tcc_serial.proofs.CutCommits.{each-listed}
@@ -214,7 +214,7 @@ coming-below sh ram gs ys ends h x c n k i f = subst (λ q. q < (at sh h.world x
     positive : 1 ≤ (at sh h.world x).serving.serving
     positive = numbered-least 1 gs (record { tid = (at sh h.world x).serving.serving; core = c }) (k.carried.granted_tids_are_those_below_next.0) ((k.carried.no_inv_to_the_core_that_committed.0 c (home sh (line_of x))).owner (at sh h.world x).serving.serving (f.sent))
 
-    stands : (m : Noted) → Contains h.commits m → stores_line sh.base m.stores (line_of x) ≡ true → live (Commits m.tid.0) (h.world.net (Core m.core.0) (Dir (home sh (line_of x)))) + num (is_applied (at sh h.world x) m.tid.0) ≡ 1
+    stands : (m : Noted) → Contains h.commits m → names_line sh.base m.stores (line_of x) ≡ true → live (Commits m.tid.0) (h.world.net (Core m.core.0) (Dir (home sh (line_of x)))) + num (is_applied (at sh h.world x) m.tid.0) ≡ 1
     stands m j e = k.carried.commit_is_on_its_way_or_applied m (home sh (line_of x)) j (home-below sh x k.dirs) (((accesses_at_homes sh m.loads m.stores (k.inside.commits_stay_in_memory m j)).in_line (line_of x) e).1)
 
     -- the served one isn't settled
@@ -226,14 +226,14 @@ coming-below sh ram gs ys ends h x c n k i f = subst (λ q. q < (at sh h.world x
         omega (arith, y, f.sent)
 
     below : (m : Noted) → Contains h.commits m → settled_in_line sh h.world (home sh (line_of x)) (line_of x) m ≡ true → m.tid.0 < (at sh h.world x).serving.serving
-    below m j e = go (live (Commits m.tid.0) (h.world.net (Core m.core.0) (Dir (home sh (line_of x)))) == 0) refl (stores_line sh.base m.stores (line_of x)) refl e
+    below m j e = go (live (Commits m.tid.0) (h.world.net (Core m.core.0) (Dir (home sh (line_of x)))) == 0) refl (names_line sh.base m.stores (line_of x)) refl e
       where
         last : live (Commits m.tid.0) (h.world.net (Core m.core.0) (Dir (home sh (line_of x)))) ≡ 0 → num (is_applied (at sh h.world x) m.tid.0) ≡ 1 → (a : Bool) → nat_lt m.tid.0 (at sh h.world x).serving.serving ≡ a → (b : Bool) → (m.tid.0 == (at sh h.world x).serving.serving) ≡ b → m.tid.0 < (at sh h.world x).serving.serving
         last z o true p b q = grind (arith, nat_tests)
         last z o false p true q = absurd (served m j (grind (arith, nat_tests)) z)
         last z o false p false q = absurd (let y : is_applied (at sh h.world x) m.tid.0 ≡ false = rw (p, q) refl in let w : num (is_applied (at sh h.world x) m.tid.0) ≡ 0 = ap num y in omega (arith, o, w))
 
-        go : (a : Bool) → (live (Commits m.tid.0) (h.world.net (Core m.core.0) (Dir (home sh (line_of x)))) == 0) ≡ a → (b : Bool) → stores_line sh.base m.stores (line_of x) ≡ b → (a && b) ≡ true → m.tid.0 < (at sh h.world x).serving.serving
+        go : (a : Bool) → (live (Commits m.tid.0) (h.world.net (Core m.core.0) (Dir (home sh (line_of x)))) == 0) ≡ a → (b : Bool) → names_line sh.base m.stores (line_of x) ≡ b → (a && b) ≡ true → m.tid.0 < (at sh h.world x).serving.serving
         go true p true q w = let z : live (Commits m.tid.0) (h.world.net (Core m.core.0) (Dir (home sh (line_of x)))) ≡ 0 = grind (arith, nat_tests) in last z (omega (arith, z, stands m j q)) (nat_lt m.tid.0 (at sh h.world x).serving.serving) refl (m.tid.0 == (at sh h.world x).serving.serving) refl
         go true p false q w = absurd (cc)
         go false p b q w = absurd (cc)

@@ -18,7 +18,7 @@ use Rattle.tcc_serial.specs.Pairs.{Pair, pair, after_move, share}
 use Rattle.tcc_serial.specs.Standing.{is_applied}
 use Rattle.tcc_serial.specs.Stored.{stores_at}
 use Rattle.tcc_serial.specs.Ways.{Ways}
-use Rattle.tcc_serial.specs.Wrote.{stores_line, wrote_line}
+use Rattle.tcc_serial.specs.Wrote.{names_line, wrote_line}
 use Rattle.tcc_serial.proofs.CoreAfter.{AfterStep}
 use Rattle.tcc_serial.proofs.CoreHolds.{Holds, StoredLine}
 use Rattle.tcc_serial.proofs.CoreSkips.{TellsCommit}
@@ -76,7 +76,7 @@ own-sharers sh gs ys h c d l o b ld cl dl ll e s k = sharer-moved sh.base h.comm
     new : (n : Noted) → o.commit ≡ Some n → n.core.0 ≡ c → NewCommit sh.base h.commits c d l v o n
     new n q r = new-of sh gs ys h c d l o n b cl dl ll e q r (s.speaks)
 
-    stored : (n : Noted) → o.commit ≡ Some n → stores_line sh.base n.stores l ≡ true → AfterStep sh c (h.world.cores c) o → CommitsLine sh.base (and_noted o.commit h.commits) c l w × (live (GoneOf l) v.out ≡ 0)
+    stored : (n : Noted) → o.commit ≡ Some n → names_line sh.base n.stores l ≡ true → AfterStep sh c (h.world.cores c) o → CommitsLine sh.base (and_noted o.commit h.commits) c l w × (live (GoneOf l) v.out ≡ 0)
     stored n q i (inl x) = absurd (let y = sym (x.commit) ∙ q in cc)
     stored n q i (inr x) = (subst (λ a. CommitsLine sh.base (and_noted a h.commits) c l w) (sym q) (record { tid = n.tid.0; sent = omega (arith, y.sent i, live-sends (Commits n.tid.0) v.out (o.sends (Dir d))); line = (wrote-new sh.base n h.commits c n.tid.0 l core refl (y.fresh)).line ∙ i }), unowed sh gs ys h c d l b cl (served-owed (h.world.dirs d) n.tid.0 below (s.unapplied n q (stored-home sh d l n ll e i))))
       where

@@ -28,7 +28,7 @@ use Rattle.tcc_serial.specs.Standing.{is_settled, is_applied, CommitsStand}
 use Rattle.tcc_serial.specs.Stored.{stored_mask, stores_at, SettledCommit}
 use Rattle.tcc_serial.specs.Uses.{stores_word}
 use Rattle.tcc_serial.specs.Ways.{Ways}
-use Rattle.tcc_serial.specs.Wrote.{stores_line, last_of}
+use Rattle.tcc_serial.specs.Wrote.{names_line, last_of}
 use Rattle.tcc_serial.proofs.AfterKept.{last-insert}
 use Rattle.tcc_serial.proofs.Commits.{granted-once}
 use Rattle.tcc_serial.proofs.Nums.{num-same}
@@ -120,15 +120,15 @@ tag-step sh p w e = step_cases sh p w e (λ g o. TagStep sh w o)
     answered c d k m i (Takes s sends) u = takes c d k m s sends i u
 
 -- the mask of a commit in a line at home has a word where the commit stored in the line
-pub stored-in : (sh : Shape) (d l : ℕ) (n : Noted) → l < lines sh → home sh l ≡ d → stores_line sh.base n.stores l ≡ nat_lt 0 (stored_mask sh d n.stores l)
-unfolding stores_line
+pub stored-in : (sh : Shape) (d l : ℕ) (n : Noted) → l < lines sh → home sh l ≡ d → names_line sh.base n.stores l ≡ nat_lt 0 (stored_mask sh d n.stores l)
+unfolding names_line
 stored-in sh d l n i e =
     let a : nat_lt l (lines sh) ≡ true = grind (arith, nat_tests) in
     let b : (d == home sh l) ≡ true = rw e (grind (arith, nat_tests)) in
     num-same (any_word (stores_word sh.base n.stores) l) (nat_lt 0 (stored_mask sh d n.stores l)) (rw (a, b) at (stored-line sh d n.stores l))
 
 -- a commit that stored in a line stored at the line's home
-pub stored-home : (sh : Shape) (d l : ℕ) (n : Noted) → l < lines sh → home sh l ≡ d → stores_line sh.base n.stores l ≡ true → stores_at sh d n.stores ≡ true
+pub stored-home : (sh : Shape) (d l : ℕ) (n : Noted) → l < lines sh → home sh l ≡ d → names_line sh.base n.stores l ≡ true → stores_at sh d n.stores ≡ true
 unfolding stores_at
 stored-home sh d l n i e s = any_below-at (λ k. nat_lt 0 (stored_mask sh d n.stores k)) (lines sh) l i (sym (stored-in sh d l n i e) ∙ s)
 
@@ -145,19 +145,19 @@ unheard-tags : (sh : Shape) (w v : World) (cs : List Noted) (a : Option Noted) �
 unfolding settled_in_line is_settled
 unheard-tags sh w v cs a b z e f h d l dl i q = rw e (h d l dl i q ∙ go a refl)
   where
-    here : (x : Noted) → stores_line sh.base x.stores l ≡ true → stores_at sh d x.stores ≡ true
+    here : (x : Noted) → names_line sh.base x.stores l ≡ true → stores_at sh d x.stores ≡ true
     here x s = stored-home sh d l x i q s
 
     one : (x : Noted) → Contains cs x → settled_in_line sh v d l x ≡ settled_in_line sh w d l x
-    one x k = same-test (is_settled v d x) (is_settled w d x) (stores_line sh.base x.stores l) (λ s.
+    one x k = same-test (is_settled v d x) (is_settled w d x) (names_line sh.base x.stores l) (λ s.
         let n : live (Commits x.tid.0) (v.net (Core x.core.0) (Dir d)) + num (is_applied (w.dirs d) x.tid.0) ≡ 1 = rw e at (z x d (noted-keeps a cs x k) dl (here x s)) in
         let y : live (Commits x.tid.0) (v.net (Core x.core.0) (Dir d)) ≡ live (Commits x.tid.0) (w.net (Core x.core.0) (Dir d)) = omega (arith, n, b x d k dl (here x s)) in
         rw y refl)
 
     new : (n : Noted) → a ≡ Some n → Contains (and_noted a cs) n → settled_in_line sh v d l n ≡ false
-    new n r k = go (stores_line sh.base n.stores l) refl
+    new n r k = go (names_line sh.base n.stores l) refl
       where
-        go : (s : Bool) → stores_line sh.base n.stores l ≡ s → settled_in_line sh v d l n ≡ false
+        go : (s : Bool) → names_line sh.base n.stores l ≡ s → settled_in_line sh v d l n ≡ false
         go false s = rw s (grind arith)
         go true s =
             let y : live (Commits n.tid.0) (v.net (Core n.core.0) (Dir d)) + num (is_applied (w.dirs d) n.tid.0) ≡ 1 = rw e at (z n d k dl (here n s)) in
@@ -251,7 +251,7 @@ taken-here sh cs w v c d l m a dl i e q b t g h = go (has_mark (w.dirs d).lines 
     n : Noted
     n = t.settled.commit
 
-    line : stores_line sh.base n.stores l ≡ has_mark (w.dirs d).lines l
+    line : names_line sh.base n.stores l ≡ has_mark (w.dirs d).lines l
     line = stored-in sh d l n i e ∙ ap (nat_lt 0) (sym (t.settled.marks l))
 
     -- one of another TID is settled as before
@@ -259,9 +259,9 @@ taken-here sh cs w v c d l m a dl i e q b t g h = go (has_mark (w.dirs d).lines 
     other x z = still-settled w v c d m x d b (inr (rw q z))
 
     most : (x : Noted) → Contains cs x → settled_in_line sh v d l x ≡ true → x.tid.0 ≤ u
-    most x j s = below (u == x.tid.0) (is_settled w d x) refl refl (stores_line sh.base x.stores l) refl (is_settled v d x) refl s
+    most x j s = below (u == x.tid.0) (is_settled w d x) refl refl (names_line sh.base x.stores l) refl (is_settled v d x) refl s
       where
-        below : (y f : Bool) → (u == x.tid.0) ≡ y → is_settled w d x ≡ f → (o : Bool) → stores_line sh.base x.stores l ≡ o → (p : Bool) → is_settled v d x ≡ p → (p && o) ≡ true → x.tid.0 ≤ u
+        below : (y f : Bool) → (u == x.tid.0) ≡ y → is_settled w d x ≡ f → (o : Bool) → names_line sh.base x.stores l ≡ o → (p : Bool) → is_settled v d x ≡ p → (p && o) ≡ true → x.tid.0 ≤ u
         below true f z k o r p r' s = grind (arith, nat_tests)
         below false f z k false r true r' s = absurd (cc)
         below false f z k o r false r' s = absurd (cc)
@@ -270,18 +270,18 @@ taken-here sh cs w v c d l m a dl i e q b t g h = go (has_mark (w.dirs d).lines 
 
     go : (f : Bool) → has_mark (w.dirs d).lines l ≡ f → (v.dirs d).lines.tag l ≡ (if f then u else (w.dirs d).lines.tag l) → (v.dirs d).lines.tag l ≡ last_of (settled_in_line sh v d l) cs
     go true f g =
-        let s : stores_line sh.base n.stores l ≡ true = line ∙ f in
+        let s : names_line sh.base n.stores l ≡ true = line ∙ f in
         let y : settled_in_line sh v d l n ≡ true = rw (settled-now sh cs w v c d m a dl q b t (stored-home sh d l n i e s), s) refl in
         let z : n.tid.0 ≡ u = t.settled.tid in
         omega (arith, g, z, last-least (settled_in_line sh v d l) cs n (t.settled.noted) y, last-most (settled_in_line sh v d l) cs u most)
     go false f g = g ∙ h ∙ sym (last-same (settled_in_line sh v d l) (settled_in_line sh w d l) cs one)
       where
         one : (x : Noted) → Contains cs x → settled_in_line sh v d l x ≡ settled_in_line sh w d l x
-        one x j = same-test (is_settled v d x) (is_settled w d x) (stores_line sh.base x.stores l) (λ s. tid (u == x.tid.0) refl s)
+        one x j = same-test (is_settled v d x) (is_settled w d x) (names_line sh.base x.stores l) (λ s. tid (u == x.tid.0) refl s)
           where
-            tid : (y : Bool) → (u == x.tid.0) ≡ y → stores_line sh.base x.stores l ≡ true → is_settled v d x ≡ is_settled w d x
+            tid : (y : Bool) → (u == x.tid.0) ≡ y → names_line sh.base x.stores l ≡ true → is_settled v d x ≡ is_settled w d x
             tid false z s = other x z
-            tid true z s = absurd (let o : u ≡ x.tid.0 = grind (arith, nat_tests) in let p : x ≡ n = t.only x j o in let r : stores_line sh.base n.stores l ≡ true = rw p at s in let k = line in cc)
+            tid true z s = absurd (let o : u ≡ x.tid.0 = grind (arith, nat_tests) in let p : x ≡ n = t.only x j o in let r : names_line sh.base n.stores l ≡ true = rw p at s in let k = line in cc)
 
 taken-tags : (sh : Shape) (cs : List Noted) (w v : World) (c d : ℕ) (m : Msg) → CommitsStand sh w cs → (d < sh.dirs → TakenCommit sh cs w c d) → CountsMarked sh (w.dirs d) m
     → ((e l : ℕ) → (v.dirs e).lines.tag l ≡ (if e == d && has_mark (w.dirs d).lines l then (w.dirs d).serving.serving else (w.dirs e).lines.tag l)) → Consumes w c d m v → KeptTags sh w cs → KeptTags sh v cs

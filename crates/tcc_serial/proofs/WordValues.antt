@@ -13,7 +13,7 @@ use Rattle.tcc_serial.specs.Standing.{is_applied, CommitsStand}
 use Rattle.tcc_serial.specs.Stored.{stores_at}
 use Rattle.tcc_serial.specs.Uses.{stores_word}
 use Rattle.tcc_serial.specs.Values.{counts, value_at, word_copies, CopiesHave, HomeWords, CopiesAbove}
-use Rattle.tcc_serial.specs.Wrote.{stores_line}
+use Rattle.tcc_serial.specs.Wrote.{names_line}
 use Rattle.tcc_serial.proofs.MemoryHomes.{line-has}
 use Rattle.tcc_serial.proofs.Nums.{num-same}
 use Rattle.tcc_serial.proofs.TagsKept.{stored-home}
@@ -103,7 +103,7 @@ same-values sh ram w v cs d x e f g h = quiet-keep sh ram w v cs d x (record {
 
 -- a commit that stored the word stored at the word's home
 pub stored-at-home : (sh : Shape) (cs : List Noted) (n : Noted) (d x : ℕ) → CommitsInMemory sh cs → Contains cs n → home sh (line_of x) ≡ d → stores_word sh.base n.stores x ≡ true → stores_at sh d n.stores ≡ true
-unfolding stores_line
+unfolding names_line
 stored-at-home sh cs n d x k i e s = stored-home sh d (line_of x) n ((k n i).stored x s) e (line-has (stores_word sh.base n.stores) x s)
 
 -- no Commit of a commit that stored the word is consumed

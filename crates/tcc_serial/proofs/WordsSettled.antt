@@ -22,7 +22,7 @@ use Rattle.tcc_serial.specs.Standing.{is_applied, is_this}
 use Rattle.tcc_serial.specs.Stored.{MarkedCommit, stores_at, stores_in, stored_mask}
 use Rattle.tcc_serial.specs.Uses.{stores_word}
 use Rattle.tcc_serial.specs.Values.{counts, word_copies, CopiesHave}
-use Rattle.tcc_serial.specs.Wrote.{stores_line, wrote, wrote_line, wrote_mask}
+use Rattle.tcc_serial.specs.Wrote.{names_line, wrote, wrote_line, wrote_mask}
 use Rattle.tcc_serial.proofs.DirOwes.{CountsMarked}
 use Rattle.tcc_serial.proofs.DirRecords.{NoCopy}
 use Rattle.tcc_serial.proofs.LinesAnswered.{marked-line, writer-line, other-writer, commit-passes}
@@ -148,7 +148,7 @@ mask-inside sh d l ss m e r = go (nat_lt l (lines sh)) refl
 
 -- a word of a line that isn't marked
 unmarked-values : (sh : Shape) (ram : ℕ → ℕ) (h : History) (c d k x : ℕ) (m : Msg) (v : World) → Settled sh ram h c d k m v → home sh (line_of x) ≡ d → TakenCommit sh h.commits h.world c d → has_mark (h.world.dirs d).lines (line_of x) ≡ false → ValuesAt sh ram v h.commits d x
-unfolding stores_line
+unfolding names_line
 unmarked-values sh ram h c d k x m v s e t r = quiet-keep sh ram h.world v h.commits d x (record {
   cores = s.answers.cores;
   tag = s.tags (line_of x) ∙ rw r refl;
@@ -167,7 +167,7 @@ unmarked-values sh ram h c d k x m v s e t r = quiet-keep sh ram h.world v h.com
 
     unstored : (b : Bool) → stores_word sh.base t.settled.commit.stores x ≡ b → b ≡ false
     unstored false q = refl
-    unstored true q = absurd (let i : line_of x < lines sh = (s.known.inside t.settled.commit (t.settled.noted)).stored x q in let y : stores_line sh.base t.settled.commit.stores (line_of x) ≡ has_mark (h.world.dirs d).lines (line_of x) = marked-line sh h c d (line_of x) i e t in let z : stores_line sh.base t.settled.commit.stores (line_of x) ≡ true = line-has (stores_word sh.base t.settled.commit.stores) x q in cc)
+    unstored true q = absurd (let i : line_of x < lines sh = (s.known.inside t.settled.commit (t.settled.noted)).stored x q in let y : names_line sh.base t.settled.commit.stores (line_of x) ≡ has_mark (h.world.dirs d).lines (line_of x) = marked-line sh h c d (line_of x) i e t in let z : names_line sh.base t.settled.commit.stores (line_of x) ≡ true = line-has (stores_word sh.base t.settled.commit.stores) x q in cc)
 
 -- a word of a marked line
 

@@ -9,7 +9,7 @@ use Rattle.tcc_rules.specs.Step.{insert_commit}
 use Rattle.tcc_serial.specs.Owners.{times}
 use Rattle.tcc_serial.specs.Stored.{stores_in}
 use Rattle.tcc_serial.specs.Uses.{stores_word}
-use Rattle.tcc_serial.specs.Wrote.{stores_line, wrote, wrote_line, wrote_mask}
+use Rattle.tcc_serial.specs.Wrote.{names_line, wrote, wrote_line, wrote_mask}
 
 -- the commit is this core's with this TID
 abbrev pub is_of : (core tid : ℕ) → Noted → Bool
@@ -51,11 +51,11 @@ same-mask f g h l = ap {A = ℕ → Bool} (λ p. mask_of (λ k. p (word_at l k))
 
 -- the words of a commit by this core with this TID are the words that it stored
 pub record Wrote (base : ℕ) (cs : List Noted) (c t l : ℕ) (n : Noted) : Type 0 where
-  pub line : wrote_line base cs c t l ≡ stores_line base n.stores l
+  pub line : wrote_line base cs c t l ≡ names_line base n.stores l
   pub mask : wrote_mask base cs c t l ≡ stores_in base n.stores l
 
 wrote-all : (base : ℕ) (cs : List Noted) (c t l : ℕ) (n : Noted) → ((w : ℕ) → wrote base cs c t w ≡ stores_word base n.stores w) → Wrote base cs c t l n
-unfolding wrote_line wrote_mask stores_line stores_in
+unfolding wrote_line wrote_mask names_line stores_in
 wrote-all base cs c t l n h = record { line = same-line (wrote base cs c t) (stores_word base n.stores) h l; mask = same-mask (wrote base cs c t) (stores_word base n.stores) h l }
 
 -- a new commit

@@ -10,13 +10,13 @@ use Rattle.tcc_serial.specs.InMemory.{FramesInMemory, AccessesInMemory, CommitsI
 use Rattle.tcc_serial.specs.Stored.{stores_at}
 use Rattle.tcc_serial.specs.Uses.{loads_word, stores_word}
 use Rattle.tcc_serial.specs.Worked.{loads_at}
-use Rattle.tcc_serial.specs.Wrote.{stores_line, wrote_line}
+use Rattle.tcc_serial.specs.Wrote.{names_line, wrote_line}
 
 -- a word that was loaded or stored was so at its line's home, and a line with a stored word is one of memory
 pub record UsedAtHomes (sh : Shape) (loads : List Load) (stores : List Stored) : Type 0 where
   pub loaded : (x : ℕ) → loads_word sh.base loads x ≡ true → loads_at sh (home sh (line_of x)) loads ≡ true
   pub stored : (x : ℕ) → stores_word sh.base stores x ≡ true → stores_at sh (home sh (line_of x)) stores ≡ true
-  pub in_line : (l : ℕ) → stores_line sh.base stores l ≡ true → (l < lines sh) × (stores_at sh (home sh l) stores ≡ true)
+  pub in_line : (l : ℕ) → names_line sh.base stores l ≡ true → (l < lines sh) × (stores_at sh (home sh l) stores ≡ true)
 
 -- a core reads and writes at the home of each word that is marked
 pub record MarkedAtHomes (sh : Shape) (c : Cache) : Type 0 where

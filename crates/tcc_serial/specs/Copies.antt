@@ -12,7 +12,7 @@ use Rattle.tcc_serial.specs.Owners.{Grant}
 use Rattle.tcc_serial.specs.Pairs.{Pair, pair}
 use Rattle.tcc_serial.specs.Standing.{is_settled, is_this}
 use Rattle.tcc_serial.specs.Stored.{stores_at}
-use Rattle.tcc_serial.specs.Wrote.{stores_line, wrote_line, wrote_mask, last_of}
+use Rattle.tcc_serial.specs.Wrote.{names_line, wrote_line, wrote_mask, last_of}
 
 -- records and messages are at home
 
@@ -42,7 +42,7 @@ KeptHomes sh w = (c d l : ℕ) → HomeOf sh d l (pair w c d)
 
 -- the commit is settled at the directory and stored in the line
 unfoldable pub settled_in_line : Shape → World → (dir line : ℕ) → Noted → Bool
-settled_in_line sh w d l x = is_settled w d x && stores_line sh.base x.stores l
+settled_in_line sh w d l x = is_settled w d x && names_line sh.base x.stores l
 
 -- The tag of a line in memory is the greatest TID that is settled at its home and stored in it, or 0.
 abbrev pub KeptTags : Shape → World → List Noted → Type 0

@@ -6,9 +6,9 @@ use Rattle.tcc_maps.specs.Words.{any_word, word_at}
 use Rattle.tcc_maps.specs.Masks.{mask_of}
 use Rattle.tcc_serial.specs.Uses.{stores_word}
 
--- some store lies in the line, in a line that is at home at the directory
-unfoldable pub stores_line : (base : ℕ) → List Stored → (line : ℕ) → Bool
-stores_line base ss l = any_word (stores_word base ss) l
+-- the stores name a word of the line
+unfoldable pub names_line : (base : ℕ) → List Stored → (line : ℕ) → Bool
+names_line base ss l = any_word (stores_word base ss) l
 
 -- the core's commit with this TID stored the word
 unfoldable pub wrote : (base : ℕ) → List Noted → (core tid word : ℕ) → Bool
