@@ -14,8 +14,8 @@ pub record Settings : Type 0 where
 
 -- one limit
 abbrev pub Keeps : Settings → Limit → Type 0
-Keeps s Cores = (1 ≤ s.cores) × (s.cores ≤ 16)
-Keeps s Dirs = (1 ≤ s.dirs) × (s.dirs ≤ 16)
+Keeps s Cores = (1 ≤ s.cores) × (s.cores ≤ 64)
+Keeps s Dirs = (1 ≤ s.dirs) × (s.dirs ≤ 64)
 Keeps s Sets = (IsTrue (is_power_of_two s.sets)) × (s.sets ≤ 1024)
 Keeps s Ways = (1 ≤ s.ways) × (s.ways ≤ 16)
 Keeps s Ram = (32 ≤ s.ram) × (s.ram ≤ 16777216) × (s.ram % 32 ≡ 0)

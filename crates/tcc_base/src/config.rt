@@ -10,9 +10,9 @@ use std::marker::Model;
 /// The limits of a machine's settings, in the order in which they are tested.
 #[derive(Clone, Copy, Debug, PartialEq, Eq)]
 pub enum Limit {
-    /// 1 to 16 cores.
+    /// 1 to 64 cores.
     Cores,
-    /// 1 to 16 directories.
+    /// 1 to 64 directories.
     Dirs,
     /// A power of two from 1 to 1024 sets.
     Sets,
@@ -61,10 +61,10 @@ impl Config {
         ensures allowed { IfOk result IsAllowed }
         ensures first_broken { IfErr result (BreaksFirst (record { cores = cores; dirs = dirs; sets = sets; ways = ways; base = base; ram = ram })) }
     {
-        if !(1..=16).contains(&cores) {
+        if !(1..=64).contains(&cores) {
             return Err(Limit::Cores);
         }
-        if !(1..=16).contains(&dirs) {
+        if !(1..=64).contains(&dirs) {
             return Err(Limit::Dirs);
         }
         if !sets.is_power_of_two() || sets > 1024 {
@@ -89,7 +89,7 @@ impl Config {
         })
     }
 
-    /// The number of cores, 1 to 16.
+    /// The number of cores, 1 to 64.
     pub fn cores(&self) -> u8
         ensures value { result ≡ self.now.cores }
         ensures allowed { IsAllowed self.now }
@@ -97,7 +97,7 @@ impl Config {
         self.cores
     }
 
-    /// The number of directories, 1 to 16.
+    /// The number of directories, 1 to 64.
     pub fn dirs(&self) -> u8
         ensures value { result ≡ self.now.dirs }
         ensures allowed { IsAllowed self.now }

@@ -5,7 +5,10 @@ use crate::{Config, Limit, List};
 fn settings_name_the_first_limit_that_they_break(rt: HostRuntime) {
     for (cores, dirs, sets, ways, base, ram, broken) in [
         (1, 1, 16, 2, 0x8000_0000, 65_536, None),
+        (64, 64, 16, 2, 0x8000_0000, 65_536, None),
         (0, 0, 16, 2, 0, 65_536, Some(Limit::Cores)),
+        (65, 1, 16, 2, 0, 65_536, Some(Limit::Cores)),
+        (1, 65, 16, 2, 0, 65_536, Some(Limit::Dirs)),
         (1, 0, 16, 2, 0, 65_536, Some(Limit::Dirs)),
         (1, 1, 3, 2, 0, 65_536, Some(Limit::Sets)),
         (1, 1, 16, 17, 0, 65_536, Some(Limit::Ways)),
