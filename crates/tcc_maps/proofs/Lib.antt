@@ -5,3 +5,4 @@ pub mod Readers
 pub mod Caches
 pub mod Judge
 pub mod Uses
+pub mod Looks

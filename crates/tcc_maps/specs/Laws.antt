@@ -1,12 +1,12 @@
 -- What is proved of these maps: each statement is the contract of an empty function of this crate.
-use Rattle.std.specs.Prelude.{ℕ, if◌then◌else◌, ◌^◌, ◌<◌, ◌≡◌, ◌↔◌, Bool, true, false, not, ◌&&◌, ◌||◌, ◌==◌, List, Option, Some, Contains, AllPairs, MatchOption, length, get_or}
-use Rattle.tcc_maps.specs.Shape.{Shape}
-use Rattle.tcc_maps.specs.Cache.{Cache, IsCache, empty_cache, modified_mask}
+use Rattle.std.specs.Prelude.{ℕ, if◌then◌else◌, ◌^◌, ◌<◌, ◌≡◌, ◌↔◌, ◌⊎◌, Bool, true, false, not, ◌&&◌, ◌||◌, ◌==◌, List, Option, Some, None, is_some, Contains, AllPairs, MatchOption, length, get_or}
+use Rattle.tcc_maps.specs.Shape.{Shape, set_of}
+use Rattle.tcc_maps.specs.Cache.{Cache, IsCache, empty_cache, way_marked, modified_mask}
 use Rattle.tcc_maps.specs.CacheChange.{marked, stored, placed, filled, invalidated, cleaned, evicted, rolled_back, read_cleared, committed, word_dropped, words_dropped}
-use Rattle.tcc_maps.specs.CacheLook.{look_load, Hit}
+use Rattle.tcc_maps.specs.CacheLook.{look_line, look_load, reads_masked, Hit, Miss, NeedsRoom, Overflow}
 use Rattle.tcc_maps.specs.Spilled.{Spilled, spill, spill_line}
 use Rattle.tcc_maps.specs.Lines.{Lines, with_mark}
-use Rattle.tcc_maps.specs.Words.{line_of, place_of, those, count_below, any_below, all_below, lowest}
+use Rattle.tcc_maps.specs.Words.{line_of, place_of, those, count_below, any_below, all_below, lowest, any_word}
 use Rattle.tcc_maps.specs.Masks.{has, mask_of, minus, meet, join}
 use Rattle.tcc_maps.specs.Serving.{Serving, advance, kept, is_skipped, first_serving}
 use Rattle.tcc_maps.specs.Judge.{judge, Takes, Waits}
@@ -111,6 +111,34 @@ NothingLeft = (t w : ℕ) (c : Cache) → (committed t (rolled_back c)).dirty w 
 -- a word is hit exactly where it is valid, with its value
 abbrev pub HitsValid : Type 0
 HitsValid = (sh : Shape) (w x : ℕ) (c : Cache) → (look_load sh w c ≡ Hit x) ↔ (c.value w ≡ Some x)
+
+-- all ways of the set hold marked frames
+abbrev pub FullSet : Shape → Cache → ℕ → Type 0
+FullSet sh c s = (y : ℕ) → y < sh.ways → way_marked c (c.at s y) ≡ true
+
+-- a line with no valid word is a miss exactly where it has a frame or its set has a free way
+abbrev pub LooksMiss : Type 0
+LooksMiss = (sh : Shape) (l : ℕ) (c : Cache) → (look_line sh l c ≡ Miss) ↔
+    ((c.held l ≡ true) ⊎ ((y : ℕ) × (y < sh.ways) × (c.at (set_of sh l) y ≡ None)))
+
+-- it overflows exactly where it has no frame and all ways of its set hold marked ones
+abbrev pub LooksOverflow : Type 0
+LooksOverflow = (sh : Shape) (l s : ℕ) (c : Cache) → (look_line sh l c ≡ Overflow s) ↔
+    ((s ≡ set_of sh l) × (c.held l ≡ false) × FullSet sh c s)
+
+-- it needs room exactly where it has no frame, all ways of its set hold frames and one of them is unmarked
+abbrev pub LooksRoom : Type 0
+LooksRoom = (sh : Shape) (l s : ℕ) (c : Cache) → (look_line sh l c ≡ NeedsRoom s) ↔
+    ((s ≡ set_of sh l) × (c.held l ≡ false) × ((y : ℕ) → y < sh.ways → is_some (c.at s y) ≡ true) ×
+      ((y : ℕ) × (y < sh.ways) × (way_marked c (c.at s y) ≡ false)))
+
+-- some word of a line passes a test; a masked word of it is marked read
+abbrev pub AnyWord : Type 0
+AnyWord = (p : ℕ → Bool) (l : ℕ) → (any_word p l ≡ true) ↔ ((w : ℕ) × (l ≡ line_of w) × (p w ≡ true))
+
+abbrev pub ReadsMasked : Type 0
+ReadsMasked = (l m : ℕ) (c : Cache) → (reads_masked l m c ≡ true) ↔
+    ((w : ℕ) × (l ≡ line_of w) × (has m (place_of w) ≡ true) × (c.read w ≡ true))
 
 -- to empty a frame spills its modified words with the values that they have there
 abbrev pub SpillsModified : Type 0

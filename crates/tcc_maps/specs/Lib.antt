@@ -6,6 +6,7 @@ pub mod Bridge
 pub mod Cache
 pub mod CacheChange
 pub mod CacheLook
+pub mod CacheUse
 pub mod Spilled
 pub mod Serving
 pub mod Lines

@@ -5,7 +5,7 @@
 //! The functions here have no body: the contract of each is a law of these definitions.
 #![tactic(auto)]
 
-ghost use Rattle.tcc_maps.specs.Laws.{MaskHolds, MaskOfItself, MaskSmall, HasMinus, HasMeet, HasJoin, HasPow, HasZero, NothingLeft, HitsValid, SpillsModified, MarksOneLine, AdvanceRises, AdvancePast, AdvanceStops, AdvanceKeeps, KeptSkips, FirstSkips, CachesKeep, CacheBegins, ThoseHold, ThoseRise, ThoseCount, AnyBelow, AllBelow, LowestBelow, JudgesWaits, JudgesTakes};
+ghost use Rattle.tcc_maps.specs.Laws.{MaskHolds, MaskOfItself, MaskSmall, HasMinus, HasMeet, HasJoin, HasPow, HasZero, NothingLeft, HitsValid, LooksMiss, LooksOverflow, LooksRoom, AnyWord, ReadsMasked, SpillsModified, MarksOneLine, AdvanceRises, AdvancePast, AdvanceStops, AdvanceKeeps, KeptSkips, FirstSkips, CachesKeep, CacheBegins, ThoseHold, ThoseRise, ThoseCount, AnyBelow, AllBelow, LowestBelow, JudgesWaits, JudgesTakes};
 ghost use Rattle.tcc_maps.specs.Bridge.{tagged_of};
 
 /// A mask is a set of places below eight: making one from a test and asking it again gives the test, and the
@@ -62,4 +62,14 @@ pub fn maps_fit_together()
     ensures hits { HitsValid }
     ensures spills { SpillsModified }
     ensures marks { MarksOneLine }
+{}
+
+/// A line whose word isn't there is a miss where it has a frame or may have one, an overflow where all ways of its set hold
+/// marked frames, and else needs room; an invalidation meets exactly the read marks of its masked words.
+pub fn looks_are_exact()
+    ensures miss { LooksMiss }
+    ensures overflow { LooksOverflow }
+    ensures room { LooksRoom }
+    ensures word { AnyWord }
+    ensures reads { ReadsMasked }
 {}
