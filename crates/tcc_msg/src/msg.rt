@@ -3,6 +3,7 @@ use tcc_base::{LineAddr, Mask, Tid};
 
 /// A message between two nodes. Words outside its mask are zero. The mechanisms are those of Scalable TCC (Chafi et al., "A
 /// Scalable, Non-blocking Approach to Transactional Memory", HPCA 2007); which message carries what is this project's choice.
+/// A message takes 48 bytes; the fields stand in the order that needs no more.
 #[derive(Clone, Copy, Debug, PartialEq, Eq)]
 pub enum Msg {
     /// Core to vendor: a transaction asks for its TID.
@@ -52,15 +53,15 @@ pub enum Msg {
     },
     /// Core to directory: dirty words of a line that leaves the cache.
     WriteBack {
-        line: LineAddr,
         mask: Mask,
+        line: LineAddr,
         words: [u32; 8],
         tag: Tid,
     },
     /// Core to directory: dirty words of a line that stays in the cache.
     Flush {
-        line: LineAddr,
         mask: Mask,
+        line: LineAddr,
         words: [u32; 8],
         tag: Tid,
     },

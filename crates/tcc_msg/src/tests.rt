@@ -1,5 +1,6 @@
 // Each call of the pool and of what is sent, with ample memory.
 use crate::{Msg, Name, Outgoing, Pool};
+use std::mem::size_of;
 use std::test::Fail;
 use tcc_base::{CoreId, DirId, LineAddr, NodeId, Tid};
 
@@ -47,10 +48,16 @@ fn what_is_sent_stands_in_order(rt: HostRuntime) -> Result<(), Fail> {
     assert_eq!(rt; out.len(), 2);
     out.truncate(1);
     assert_eq!(rt;
-        out.list.items.as_slice(),
+        out.list.as_slice(),
         [(NodeId::Vendor, Msg::TidReq)].as_slice()
     );
     out.clear();
     assert!(rt; out.is_empty());
+    Ok(())
+}
+
+#[test]
+fn a_message_takes_48_bytes(rt: HostRuntime) -> Result<(), Fail> {
+    assert_eq!(rt; size_of::<Msg>(), 48);
     Ok(())
 }
