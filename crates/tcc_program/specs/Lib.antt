@@ -1,3 +1,4 @@
+pub mod Cores
 pub mod Orders
 pub mod Plain
 pub mod Program
