@@ -11,7 +11,7 @@ use Rattle.rv_decode.specs.declared.instruction.Inst.{Inst}
 use Rattle.tcc_base.specs.Settings.{Settings}
 use Rattle.tcc_base.specs.declared.access.Size.TheVariants.{Word}
 use Rattle.tcc_program.specs.Plain.{Trapped}
-use Rattle.tcc_program.specs.Program.{Local, Need, Nothing, Loads, Stores, Changes, Prints, Ends, Halts, Traps, Program}
+use Rattle.tcc_program.specs.Program.{Local, unreserved, Need, Nothing, Loads, Stores, Changes, Prints, Ends, Halts, Traps, Program}
 use Rattle.tcc_program.specs.Ram.{loaded}
 use Rattle.rv_plain.specs.Buffered.{seen}
 
@@ -49,6 +49,6 @@ buffered_step-found base s b inst h =
     (bounded (in_ram s.settings) (planned inst b.local.regs b.local.pc)))
 
 pub buffered_step-failed : (base : ℕ) (s : Start) (b : Buffered) (trap : ℕ) → Fails (s.fetch b.local.pc) trap
-    → buffered_step base (program s) b ≡ record b { outcome = Trapped trap }
+    → buffered_step base (program s) b ≡ record b { local = unreserved b.local; outcome = Trapped trap }
 unfolding buffered_step program rv32im.program
 buffered_step-failed base s b trap h = rw (failed-need s.settings b.local (s.fetch b.local.pc) trap h) refl

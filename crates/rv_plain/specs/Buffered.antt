@@ -6,7 +6,7 @@ use Rattle.tcc_base.specs.declared.access.Size.{Size}
 use Rattle.tcc_base.specs.declared.access.Size.TheVariants.{Word}
 use Rattle.tcc_base.specs.declared.access.Stored.{Stored}
 use Rattle.tcc_program.specs.Plain.{Attempt, Outcome, Ended, Halted, Trapped, load_of, store_of}
-use Rattle.tcc_program.specs.Program.{Local, Need, Nothing, Loads, Stores, Changes, Prints, Ends, Halts, Traps, Program}
+use Rattle.tcc_program.specs.Program.{Local, unreserved, Need, Nothing, Loads, Stores, Changes, Prints, Ends, Halts, Traps, Program}
 use Rattle.tcc_program.specs.Ram.{word_of, loaded, patched}
 
 abbrev pub or_else : Option ℕ → ℕ → ℕ
@@ -52,9 +52,9 @@ buffered base p b (Changes addr changed) =
       stores = b.stores ++ store_of addr Word (changed value) ∷ [];
     }
 buffered base p b (Prints byte) = record b { local = p.after b.local None; console = b.console ++ byte ∷ [] }
-buffered base p b Ends = record b { local = p.after b.local None; outcome = Ended }
-buffered base p b (Halts code) = record b { outcome = Halted code }
-buffered base p b (Traps code) = record b { outcome = Trapped code }
+buffered base p b Ends = record b { local = unreserved (p.after b.local None); outcome = Ended }
+buffered base p b (Halts code) = record b { local = unreserved b.local; outcome = Halted code }
+buffered base p b (Traps code) = record b { local = unreserved b.local; outcome = Trapped code }
 
 unfoldable pub buffered_step : (base : ℕ) → Program → Buffered → Buffered
 buffered_step base p b = buffered base p b (p.need b.local)

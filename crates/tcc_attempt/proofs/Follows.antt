@@ -6,7 +6,7 @@ use Rattle.tcc_base.specs.Put.{put}
 use Rattle.tcc_base.specs.declared.access.Size.{Size}
 use Rattle.tcc_base.specs.declared.access.Size.TheVariants.{Byte, Half, Word}
 use Rattle.tcc_program.specs.Plain.{Attempt, Goes, begun, load_of, store_of, plain_step, steps, stepped}
-use Rattle.tcc_program.specs.Program.{Need, Nothing, Loads, Stores, Changes, Prints, Ends, Halts, Traps, Program}
+use Rattle.tcc_program.specs.Program.{unreserved, Need, Nothing, Loads, Stores, Changes, Prints, Ends, Halts, Traps, Program}
 use Rattle.tcc_program.specs.Ram.{word_of, unit_of, part, patched, loaded, stored}
 use Rattle.tcc_maps.specs.Shape.{Shape}
 use Rattle.tcc_maps.specs.Cache.{Cache}
@@ -125,7 +125,7 @@ reaches-next base p s c sp ram a (Prints byte) x f r t h = record {
   small = r.small;
 }
 reaches-next base p s c sp ram a Ends x f r t h = record {
-  local = ap (λ l. p.after l None) r.local;
+  local = ap (λ l. unreserved (p.after l None)) r.local;
   loads = r.loads;
   stores = r.stores;
   console = r.console;
@@ -134,7 +134,7 @@ reaches-next base p s c sp ram a Ends x f r t h = record {
   small = r.small;
 }
 reaches-next base p s c sp ram a (Halts code) x f r t h = record {
-  local = r.local;
+  local = ap unreserved r.local;
   loads = r.loads;
   stores = r.stores;
   console = r.console;
@@ -143,7 +143,7 @@ reaches-next base p s c sp ram a (Halts code) x f r t h = record {
   small = r.small;
 }
 reaches-next base p s c sp ram a (Traps code) x f r t h = record {
-  local = r.local;
+  local = ap unreserved r.local;
   loads = r.loads;
   stores = r.stores;
   console = r.console;

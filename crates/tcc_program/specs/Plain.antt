@@ -9,7 +9,7 @@ use Rattle.tcc_base.specs.declared.access.Load.{Load}
 use Rattle.tcc_base.specs.declared.access.Size.{Size}
 use Rattle.tcc_base.specs.declared.access.Size.TheVariants.{Word}
 use Rattle.tcc_base.specs.declared.access.Stored.{Stored}
-use Rattle.tcc_program.specs.Program.{Local, Need, Nothing, Loads, Stores, Changes, Prints, Ends, Halts, Traps, Program}
+use Rattle.tcc_program.specs.Program.{Local, unreserved, Need, Nothing, Loads, Stores, Changes, Prints, Ends, Halts, Traps, Program}
 use Rattle.tcc_program.specs.Ram.{loaded, stored}
 
 -- how an instruction leaves its transaction
@@ -55,9 +55,9 @@ stepped base p a (Changes addr changed) =
       stores = a.stores ++ store_of addr Word (changed value) ∷ [];
     }
 stepped base p a (Prints byte) = record a { local = p.after a.local None; console = a.console ++ byte ∷ [] }
-stepped base p a Ends = record a { local = p.after a.local None; outcome = Ended }
-stepped base p a (Halts code) = record a { outcome = Halted code }
-stepped base p a (Traps code) = record a { outcome = Trapped code }
+stepped base p a Ends = record a { local = unreserved (p.after a.local None); outcome = Ended }
+stepped base p a (Halts code) = record a { local = unreserved a.local; outcome = Halted code }
+stepped base p a (Traps code) = record a { local = unreserved a.local; outcome = Trapped code }
 
 unfoldable pub plain_step : (base : ℕ) → Program → Attempt → Attempt
 plain_step base p a = stepped base p a (p.need a.local)

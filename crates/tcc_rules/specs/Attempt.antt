@@ -2,7 +2,7 @@
 use Rattle.std.specs.Prelude.{ℕ, ◌+◌, Bool, true, false, [], ◌∷◌, ◌++◌, Option, Some, None}
 use Rattle.tcc_base.specs.declared.access.Commit.{Commit as Noted}
 use Rattle.tcc_base.specs.declared.access.Size.TheVariants.{Word}
-use Rattle.tcc_program.specs.Program.{Need, Nothing, Loads, Stores, Changes, Prints, Ends, Halts, Traps, Program}
+use Rattle.tcc_program.specs.Program.{unreserved, Need, Nothing, Loads, Stores, Changes, Prints, Ends, Halts, Traps, Program}
 use Rattle.tcc_program.specs.Plain.{Goes, Ended, Halted as HaltedWith, Trapped as TrappedWith, load_of, store_of}
 use Rattle.tcc_program.specs.Ram.{part, patched}
 use Rattle.tcc_maps.specs.CacheChange.{rolled_back}
@@ -40,7 +40,8 @@ unfoldable pub stepped : Program → Option ℕ → CoreState → CoreState
 stepped p given s = record s { n = s.n + 1; local = p.after s.local given }
 
 -- Finish: the instruction that needed this is done, x being the word that it found, where it looked for one. It is
--- counted, its load and store are noted, and where it doesn't halt the core, registers and pc advance.
+-- counted, its load and store are noted, and where it doesn't halt the core, registers and pc advance. An end leaves no
+-- reservation.
 unfoldable pub finished : Program → Need → (x : ℕ) → CoreState → CoreState
 finished p Nothing x s = stepped p None s
 finished p (Loads addr size) x s = record (stepped p (Some (part x addr size)) s) { loads = s.loads ++ load_of addr size (part x addr size) ∷ [] }
@@ -50,9 +51,9 @@ finished p (Changes addr changed) x s = record (stepped p (Some (part x addr Wor
   stores = s.stores ++ store_of addr Word (changed (part x addr Word)) ∷ [];
 }
 finished p (Prints byte) x s = record (stepped p None s) { console = s.console ++ byte ∷ [] }
-finished p Ends x s = record (stepped p None s) { ended = Ended }
-finished p (Halts code) x s = record s { n = s.n + 1; ended = HaltedWith code }
-finished p (Traps code) x s = record s { n = s.n + 1; ended = TrappedWith code }
+finished p Ends x s = record (stepped p None s) { local = unreserved (p.after s.local None); ended = Ended }
+finished p (Halts code) x s = record s { n = s.n + 1; local = unreserved s.local; ended = HaltedWith code }
+finished p (Traps code) x s = record s { n = s.n + 1; local = unreserved s.local; ended = TrappedWith code }
 
 -- Roll back: modified words become invalid, marks are cleared, registers and pc come from the checkpoint, the attempt
 -- is empty and no directory owes a reply. An awaited line stays awaited.
