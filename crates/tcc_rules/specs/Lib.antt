@@ -16,6 +16,10 @@ pub mod Picked
 pub mod Small
 pub mod Rows
 pub mod Schedules
+pub mod Needs
+pub mod Told
+pub mod Names
+pub mod Cases
 pub mod Laws
 pub mod Local
 pub mod Merged

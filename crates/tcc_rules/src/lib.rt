@@ -2,6 +2,7 @@
 //! over them. The functions here have no body: the contract of each is a law of these definitions.
 #![tactic(auto)]
 
+ghost use Rattle.tcc_rules.specs.Cases.{CasesAre};
 ghost use Rattle.tcc_rules.specs.Laws.{StepsActOnOne, UsefulHolds, UsefulOrdered, NotBeforeItself, UsefulEnabled, DoneUseless, TidsCount, PickedRuns, PickedEnds};
 ghost use Rattle.tcc_rules.specs.Merged.{MergedRuns};
 ghost use Rattle.tcc_rules.specs.Schedules.{TwoTids, TwoTidsMore, ReaderWaits, ProbeWaits, OverARead, DoomedAttempt, BeforeTheFill, OverADirtyOwner, WriteBackWaits, AloneAfterOverflow};
@@ -19,6 +20,12 @@ pub fn worked_schedules()
     ensures over_a_dirty_owner { OverADirtyOwner }
     ensures write_back_waits { WriteBackWaits }
     ensures alone_after_overflow { AloneAfterOverflow }
+{}
+
+/// Six more schedules, each of which ends otherwise by a rule that is nearly the same: the commits with their loads and stores,
+/// the cores with what they have marked read, the words that are seen, and the events that are useful next.
+pub fn nearby_rules_are_told_apart()
+    ensures schedules { CasesAre }
 {}
 
 /// An event acts on one node: no other node's state changes, a message that is consumed was in flight, and each link only

@@ -1,0 +1,5 @@
+pub mod Homes
+pub mod Caches
+pub mod Violations
+pub mod Alone
+pub mod Whole

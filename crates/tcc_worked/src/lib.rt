@@ -1,0 +1,34 @@
+//! Worked schedules of the protocol's rules, beside those of tcc_rules: each tells a rule from one that is nearly the same. The
+//! functions here have no body: the contract of each is that its schedules end as they must, computed by the definitions.
+#![tactic(auto)]
+
+ghost use Rattle.tcc_worked.specs.Alone.{AloneAre};
+ghost use Rattle.tcc_worked.specs.Caches.{CachesAre};
+ghost use Rattle.tcc_worked.specs.Homes.{HomesAre};
+ghost use Rattle.tcc_worked.specs.Violations.{ViolationsAre};
+ghost use Rattle.tcc_worked.specs.Whole.{WholeAre};
+
+/// Directories: turns, marks, and words that come home early, late or on their way.
+pub fn homes()
+    ensures schedules { HomesAre }
+{}
+
+/// Frames: fills, room and evictions.
+pub fn caches()
+    ensures schedules { CachesAre }
+{}
+
+/// Read marks, who is violated by a commit and who isn't, and what that leaves.
+pub fn violations()
+    ensures schedules { ViolationsAre }
+{}
+
+/// A core that goes on alone, and its spilled words.
+pub fn alone()
+    ensures schedules { AloneAre }
+{}
+
+/// Three cores up to the end of all.
+pub fn whole()
+    ensures schedules { WholeAre }
+{}
