@@ -186,3 +186,4 @@ pub mod HomesStep
 pub mod CommitHomes
 pub mod HomeWordsKept
 pub mod WordCopies
+pub mod Lemmas

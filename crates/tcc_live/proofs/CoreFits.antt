@@ -1,0 +1,305 @@
+-- What a core sends fits: to directories that the machine has, and to the vendor requests for TIDs.
+use Rattle.std.specs.Prelude.{ℕ, ◌≡◌, ◌<◌, ◌≤◌, Bool, true, false, not, ◌==◌, ◌&&◌, ◌||◌, List, [], ◌∷◌, ◌++◌, Option, Some, None, is_some, IfSome, if◌then◌else◌}
+use Rattle.std.specs.List.{flat_map}
+use Rattle.std.proofs.Common.{arith, refl}
+use Rattle.tcc_base.specs.declared.access.Size.TheVariants.{Byte, Half, Word}
+use Rattle.tcc_program.specs.Program.{Need, Nothing, Loads, Stores, Changes, Prints, Ends, Halts, Traps, Program}
+use Rattle.tcc_program.specs.Ram.{word_of}
+use Rattle.tcc_maps.specs.Words.{line_of, those, count_below}
+use Rattle.tcc_maps.specs.Cache.{Cache, free_way, all_marked, modified_mask, is_modified, dirty_copy, written_lines, writes_at, reads_at, is_marked}
+use Rattle.tcc_maps.specs.Nodes.{Core, Dir, Vendor, Msg, TidReq, TidGrant, LoadReq, Fill, Skip, Probe, ProbeReply, Mark, Commit, Abort, WriteBack, Flush, DataReq, Inv, InvAck, Tagged}
+use Rattle.tcc_maps.specs.Shape.{Shape, home, lines, set_of}
+use Rattle.tcc_maps.specs.Spilled.{Spilled, holds, spilled_mask, spilled_words}
+use Rattle.tcc_rules.specs.State.{CoreState, Awaited, Phase, Running, AwaitTid, DoomedTid, Probing, Ready, Overflowing, Solo, Halted}
+use Rattle.tcc_rules.specs.Attempt.{Out, is_solo, finished}
+use Rattle.tcc_rules.specs.Commit.{commit_sends, commit, is_written, written_mask, solo_writes_at, solo_marks, solo_backs, solo_sends, solo_commit}
+use Rattle.tcc_rules.specs.CoreDeliver.{grant_sends, grant_phase, grant, reply_phase, probe_reply, fill_awaited, fill, data_request, violated_in, if_violated, is_violated, without, acknowledged, invalidate, from_dir, ignored}
+use Rattle.tcc_rules.specs.CoreEvict.{is_awaited, evict_line, core_evict}
+use Rattle.tcc_rules.specs.CoreExec.{unless_awaiting, exec_phase, core_exec}
+use Rattle.tcc_rules.specs.Execute.{ask, place, overflow, full_set, fetch, load_valid, load_spilled, load, word_store, change_valid, change_spilled, partial_store, close, execute_need, execute}
+use Rattle.tcc_rules.specs.Sends.{to, when, write_back, flush, written_back, flushed, skip_all, probe_all, abort_written, marks_for}
+use Rattle.tcc_live.proofs.Strays.{strays, AllFit, strays-append, strays-none, strays-flat, strays-when, out_fits, ask_fits, fit-nothing, fit-then, fit-to, fit-dirs}
+
+-- a core of a machine that has a directory
+pub record IsCore (sh : Shape) (c : ℕ) : Type 0 where
+  pub core : c < sh.cores
+  pub dirs : 1 ≤ sh.dirs
+
+abbrev pub Fit : Shape → ℕ → Out → Type 0
+Fit sh c o = AllFit sh (Core c) o.sends
+
+-- what goes to all directories
+
+skips : (sh : Shape) (c t : ℕ) → IsCore sh c → AllFit sh (Core c) (skip_all sh t)
+unfolding skip_all
+skips sh c t k = fit-dirs sh (Core c) (λ d. Skip t ∷ []) (λ d i. out_fits sh c d (Skip t) k.core i refl)
+
+probes : (sh : Shape) (c t : ℕ) → IsCore sh c → AllFit sh (Core c) (probe_all sh t)
+unfolding probe_all
+probes sh c t k = fit-dirs sh (Core c) (λ d. Probe t ∷ []) (λ d i. out_fits sh c d (Probe t) k.core i refl)
+
+aborts : (sh : Shape) (c : ℕ) (s : Cache) (t : ℕ) → IsCore sh c → AllFit sh (Core c) (abort_written sh s t)
+unfolding abort_written
+aborts sh c s t k = fit-dirs sh (Core c) (λ d. when (writes_at sh s d) (Abort t ∷ [])) (λ d i. strays-when sh (Core c) (Dir d) (writes_at sh s d) (Abort t ∷ []) (out_fits sh c d (Abort t) k.core i refl))
+
+grants : (sh : Shape) (c : ℕ) (s : Cache) (t : ℕ) → IsCore sh c → AllFit sh (Core c) (grant_sends sh s t)
+unfolding grant_sends
+grants sh c s t k = fit-dirs sh (Core c) (λ d. when (not (writes_at sh s d)) (Skip t ∷ []) ++ when (writes_at sh s d || reads_at sh s d) (Probe t ∷ []))
+    (λ d i. omega (
+      arith,
+      strays-append sh (Core c) (Dir d) (when (not (writes_at sh s d)) (Skip t ∷ [])) (when (writes_at sh s d || reads_at sh s d) (Probe t ∷ [])),
+      strays-when sh (Core c) (Dir d) (not (writes_at sh s d)) (Skip t ∷ []) (out_fits sh c d (Skip t) k.core i refl),
+      strays-when sh (Core c) (Dir d) (writes_at sh s d || reads_at sh s d) (Probe t ∷ []) (out_fits sh c d (Probe t) k.core i refl),
+    ))
+
+commits : (sh : Shape) (c : ℕ) (s : Cache) (t : ℕ) → IsCore sh c → AllFit sh (Core c) (commit_sends sh s t)
+unfolding commit_sends
+commits sh c s t k = fit-dirs sh (Core c) (λ d. when (writes_at sh s d) (Commit t (count_below (λ l. d == home sh l && is_modified s l) (lines sh)) ∷ []))
+    (λ d i. strays-when sh (Core c) (Dir d) (writes_at sh s d) (Commit t (count_below (λ l. d == home sh l && is_modified s l) (lines sh)) ∷ []) (out_fits sh c d (Commit t (count_below (λ l. d == home sh l && is_modified s l) (lines sh))) k.core i refl))
+
+-- Marks to one directory
+marks : (sh : Shape) (c d t : ℕ) (mask : ℕ → ℕ) (ls : List ℕ) → IsCore sh c → d < sh.dirs → strays sh (Core c) (Dir d) (flat_map (λ l. Mark l (mask l) t ∷ []) ls) ≡ 0
+marks sh c d t mask ls k i = strays-flat sh (Core c) (Dir d) (λ l. Mark l (mask l) t ∷ []) (λ l. out_fits sh c d (Mark l (mask l) t) k.core i refl) ls
+
+solos : (sh : Shape) (c : ℕ) (s : Cache) (sp : Spilled) (t : ℕ) → IsCore sh c → AllFit sh (Core c) (solo_sends sh s sp t)
+unfolding solo_sends solo_marks solo_backs
+solos sh c s sp t k = fit-dirs sh (Core c) (λ d. solo_marks sh s sp t d ++ solo_backs sh sp t d)
+    (λ d i. omega (arith, strays-append sh (Core c) (Dir d) (solo_marks sh s sp t d) (solo_backs sh sp t d), first d i (solo_writes_at sh s sp d), backs d i))
+  where
+    backs : (d : ℕ) → d < sh.dirs → strays sh (Core c) (Dir d) (solo_backs sh sp t d) ≡ 0
+    backs d i = strays-flat sh (Core c) (Dir d) (λ l. WriteBack l (spilled_mask sp l) (spilled_words sp l) t ∷ []) (λ l. out_fits sh c d (WriteBack l (spilled_mask sp l) (spilled_words sp l) t) k.core i refl) (those (λ l. d == home sh l && holds sp l) (lines sh))
+
+    first : (d : ℕ) → d < sh.dirs → (b : Bool) → strays sh (Core c) (Dir d) (if b then flat_map (λ l. Mark l (written_mask s sp l) t ∷ []) (those (λ l. d == home sh l && is_written s sp l) (lines sh)) ++ Commit t (count_below (λ l. d == home sh l && is_written s sp l) (lines sh)) ∷ [] else Skip t ∷ []) ≡ 0
+    first d i false = out_fits sh c d (Skip t) k.core i refl
+    first d i true = omega (
+      arith,
+      strays-append sh (Core c) (Dir d) (flat_map (λ l. Mark l (written_mask s sp l) t ∷ []) (those (λ l. d == home sh l && is_written s sp l) (lines sh))) (Commit t (count_below (λ l. d == home sh l && is_written s sp l) (lines sh)) ∷ []),
+      marks sh c d t (written_mask s sp) (those (λ l. d == home sh l && is_written s sp l) (lines sh)) k i,
+      out_fits sh c d (Commit t (count_below (λ l. d == home sh l && is_written s sp l) (lines sh))) k.core i refl,
+    )
+
+-- to a line's home
+
+at_home : (sh : Shape) (c l : ℕ) (ms : List Msg) → IsCore sh c → ((d : ℕ) → d < sh.dirs → strays sh (Core c) (Dir d) ms ≡ 0) → AllFit sh (Core c) (to (Dir (home sh l)) ms)
+at_home sh c l ms k h = fit-to sh (Core c) (Dir (home sh l)) ms (h (home sh l) (let n = k.dirs in omega arith))
+
+flushes : (sh : Shape) (c : ℕ) (s : Cache) (l : ℕ) → IsCore sh c → AllFit sh (Core c) (flushed sh s l)
+unfolding flushed
+flushes sh c s l k = at_home sh c l (flush (dirty_copy s l)) k (λ d i. go d i (dirty_copy s l))
+  where
+    go : (d : ℕ) → d < sh.dirs → (o : Option Tagged) → strays sh (Core c) (Dir d) (flush o) ≡ 0
+    go d i None = strays-none sh (Core c) (Dir d)
+    go d i (Some t) = out_fits sh c d (Flush t.line t.mask t.words t.tag) k.core i refl
+
+backs : (sh : Shape) (c : ℕ) (s : Cache) (l : ℕ) → IsCore sh c → AllFit sh (Core c) (written_back sh s l)
+unfolding written_back
+backs sh c s l k = at_home sh c l (write_back (dirty_copy s l)) k (λ d i. go d i (dirty_copy s l))
+  where
+    go : (d : ℕ) → d < sh.dirs → (o : Option Tagged) → strays sh (Core c) (Dir d) (write_back o) ≡ 0
+    go d i None = strays-none sh (Core c) (Dir d)
+    go d i (Some t) = out_fits sh c d (WriteBack t.line t.mask t.words t.tag) k.core i refl
+
+asks : (sh : Shape) (c l : ℕ) (s : CoreState) → IsCore sh c → Fit sh c (ask sh l s)
+unfolding ask
+asks sh c l s k = at_home sh c l (LoadReq l (s.after (home sh l)) ∷ []) k (λ d i. out_fits sh c d (LoadReq l (s.after (home sh l))) k.core i refl)
+
+requests : (sh : Shape) (c : ℕ) → IsCore sh c → AllFit sh (Core c) (to Vendor (TidReq ∷ []))
+requests sh c k = fit-to sh (Core c) Vendor (TidReq ∷ []) (ask_fits sh c k.core)
+
+-- Exec
+
+full : (sh : Shape) (c l : ℕ) (s : CoreState) → IsCore sh c → IfSome (full_set sh l s) (Fit sh c)
+unfolding full_set overflow
+full sh c l s k = go (is_solo s.phase || not (all_marked sh s.cache (set_of sh l)))
+  where
+    go : (b : Bool) → IfSome (if b then None else Some (overflow s)) (Fit sh c)
+    go true = tt
+    go false = requests sh c k
+
+fetches : (sh : Shape) (c l : ℕ) (s : CoreState) → IsCore sh c → IfSome (fetch sh l s) (Fit sh c)
+unfolding fetch
+fetches sh c l s k = go (s.cache.held l) (is_some (free_way sh s.cache (set_of sh l)))
+  where
+    go : (a b : Bool) → IfSome (if a then Some (ask sh l s) else (if b then Some (ask sh l (place sh l s)) else full_set sh l s)) (Fit sh c)
+    go true b = asks sh c l s k
+    go false true = asks sh c l (place sh l s) k
+    go false false = full sh c l s k
+
+loads : (sh : Shape) (p : Program) (c w : ℕ) (need : Need) (s : CoreState) → IsCore sh c → IfSome (load sh p need w s) (Fit sh c)
+unfolding load
+loads sh p c w need s k = go (s.spilled w) (s.cache.value w)
+  where
+    valid : (b : Option ℕ) → IfSome (load_valid sh p need w s b) (Fit sh c)
+    valid (Some x) = fit-nothing sh (Core c)
+    valid None = fetches sh c (line_of w) s k
+
+    go : (a b : Option ℕ) → IfSome (load_spilled sh p need w s a) (Fit sh c)
+    go (Some x) b = fit-nothing sh (Core c)
+    go None b = valid (s.cache.value w)
+
+partly : (sh : Shape) (p : Program) (c w : ℕ) (need : Need) (s : CoreState) → IsCore sh c → IfSome (partial_store sh p need w s) (Fit sh c)
+unfolding partial_store
+partly sh p c w need s k = go (s.spilled w)
+  where
+    in_frame : (x : ℕ) (b : Bool) (o q : Out) → Fit sh c o → Fit sh c q → IfSome (if b then Some o else Some q) (Fit sh c)
+    in_frame x true o q f g = f
+    in_frame x false o q f g = g
+
+    valid : (b : Option ℕ) → IfSome (change_valid sh p need w s b) (Fit sh c)
+    valid None = fetches sh c (line_of w) s k
+    valid (Some x) = in_frame x (holds s.spilled (line_of w)) _ _ (fit-nothing sh (Core c)) (flushes sh c s.cache (line_of w) k)
+
+    go : (a : Option ℕ) → IfSome (change_spilled sh p need w s a) (Fit sh c)
+    go (Some x) = fit-nothing sh (Core c)
+    go None = valid (s.cache.value w)
+
+stores_word : (sh : Shape) (p : Program) (c w x : ℕ) (need : Need) (s : CoreState) → IsCore sh c → IfSome (word_store sh p need w x s) (Fit sh c)
+unfolding word_store
+stores_word sh p c w x need s k = go (holds s.spilled (line_of w)) (s.cache.held (line_of w)) (is_some (free_way sh s.cache (set_of sh (line_of w)))) _ _ _ (fit-nothing sh (Core c)) (flushes sh c s.cache (line_of w) k) (fit-nothing sh (Core c))
+  where
+    go : (a b d : Bool) (o q r : Out) → Fit sh c o → Fit sh c q → Fit sh c r → IfSome (if a then Some o else (if b then Some q else (if d then Some r else full_set sh (line_of w) s))) (Fit sh c)
+    go true b d o q r f g h = f
+    go false true d o q r f g h = g
+    go false false true o q r f g h = h
+    go false false false o q r f g h = full sh c (line_of w) s k
+
+closes : (sh : Shape) (c : ℕ) (q : Phase) (s : CoreState) → IsCore sh c → Fit sh c (close sh c q s)
+unfolding solo_commit
+closes sh c (Solo t) s k = solos sh c s.cache s.spilled t k
+closes sh c Running s k = requests sh c k
+closes sh c AwaitTid s k = requests sh c k
+closes sh c DoomedTid s k = requests sh c k
+closes sh c (Probing t) s k = requests sh c k
+closes sh c (Ready t) s k = requests sh c k
+closes sh c (Overflowing t) s k = requests sh c k
+closes sh c Halted s k = requests sh c k
+
+needs : (sh : Shape) (p : Program) (c : ℕ) (s : CoreState) (n : Need) → IsCore sh c → IfSome (execute_need sh p c s n) (Fit sh c)
+needs sh p c s Nothing k = fit-nothing sh (Core c)
+needs sh p c s (Loads addr size) k = loads sh p c (word_of sh.base addr) (Loads addr size) s k
+needs sh p c s (Stores addr Word x) k = stores_word sh p c (word_of sh.base addr) x (Stores addr Word x) s k
+needs sh p c s (Stores addr Half x) k = partly sh p c (word_of sh.base addr) (Stores addr Half x) s k
+needs sh p c s (Stores addr Byte x) k = partly sh p c (word_of sh.base addr) (Stores addr Byte x) s k
+needs sh p c s (Changes addr f) k = partly sh p c (word_of sh.base addr) (Changes addr f) s k
+needs sh p c s (Prints byte) k = fit-nothing sh (Core c)
+needs sh p c s Ends k = closes sh c s.phase (finished p Ends 0 s) k
+needs sh p c s (Halts code) k = closes sh c s.phase (finished p (Halts code) 0 s) k
+needs sh p c s (Traps code) k = closes sh c s.phase (finished p (Traps code) 0 s) k
+
+pub fit-exec : (sh : Shape) (p : Program) (c : ℕ) (s : CoreState) → IsCore sh c → IfSome (core_exec sh p c s) (Fit sh c)
+unfolding core_exec execute commit
+fit-exec sh p c s k = go s.phase
+  where
+    awaiting : (a : Option Awaited) → IfSome (unless_awaiting sh p c s a) (Fit sh c)
+    awaiting (Some x) = tt
+    awaiting None = needs sh p c s (p.need s.local) k
+
+    go : (q : Phase) → IfSome (exec_phase sh p c s q) (Fit sh c)
+    go Running = awaiting s.awaited
+    go (Solo t) = awaiting s.awaited
+    go (Ready t) = commits sh c s.cache t k
+    go AwaitTid = tt
+    go DoomedTid = tt
+    go (Probing t) = tt
+    go (Overflowing t) = tt
+    go Halted = tt
+
+-- Evict
+
+pub fit-evict : (sh : Shape) (c x y : ℕ) (s : CoreState) → IsCore sh c → IfSome (core_evict sh x y s) (Fit sh c)
+unfolding core_evict
+fit-evict sh c x y s k = go (s.cache.at x y)
+  where
+    unless : (b : Bool) (o : Out) → Fit sh c o → IfSome (if b then None else Some o) (Fit sh c)
+    unless true o f = tt
+    unless false o f = f
+
+    go : (o : Option ℕ) → IfSome (evict_line sh x y s o) (Fit sh c)
+    go None = tt
+    go (Some l) = unless (is_awaited s.awaited l || (is_marked s.cache l && not (is_solo s.phase))) _ (backs sh c s.cache l k)
+
+-- messages
+
+pub fit-grant : (sh : Shape) (c t : ℕ) (s : CoreState) → IsCore sh c → Fit sh c (grant sh t s)
+unfolding grant
+fit-grant sh c t s k = go s.phase
+  where
+    go : (q : Phase) → Fit sh c (grant_phase sh t s q)
+    go AwaitTid = grants sh c s.cache t k
+    go DoomedTid = skips sh c t k
+    go (Overflowing None) = probes sh c t k
+    go (Overflowing (Some u)) = fit-nothing sh (Core c)
+    go Running = fit-nothing sh (Core c)
+    go (Probing u) = fit-nothing sh (Core c)
+    go (Ready u) = fit-nothing sh (Core c)
+    go (Solo u) = fit-nothing sh (Core c)
+    go Halted = fit-nothing sh (Core c)
+
+reply : (sh : Shape) (c d t : ℕ) (s : CoreState) → IsCore sh c → d < sh.dirs → Fit sh c (probe_reply sh d t s)
+unfolding probe_reply marks_for
+reply sh c d t s k i = go s.phase
+  where
+    either : (b : Bool) (o q : Out) → Fit sh c o → Fit sh c q → Fit sh c (if b then o else q)
+    either true o q f g = f
+    either false o q f g = g
+
+    go : (q : Phase) → Fit sh c (reply_phase sh d t s q)
+    go (Probing u) = either (u == t && s.owing d) _ (ignored s) (fit-to sh (Core c) (Dir d) (marks_for sh s.cache t d) (marks sh c d t (modified_mask s.cache) (written_lines sh s.cache d) k i)) (fit-nothing sh (Core c))
+    go (Overflowing (Some u)) = either (u == t && s.owing d) _ (ignored s) (fit-nothing sh (Core c)) (fit-nothing sh (Core c))
+    go (Overflowing None) = fit-nothing sh (Core c)
+    go Running = fit-nothing sh (Core c)
+    go AwaitTid = fit-nothing sh (Core c)
+    go DoomedTid = fit-nothing sh (Core c)
+    go (Ready u) = fit-nothing sh (Core c)
+    go (Solo u) = fit-nothing sh (Core c)
+    go Halted = fit-nothing sh (Core c)
+
+filled : (sh : Shape) (c l : ℕ) (ws : List ℕ) (s : CoreState) → Fit sh c (fill l ws s)
+unfolding fill
+filled sh c l ws s = go s.awaited
+  where
+    either : (b : Bool) (o q : Out) → Fit sh c o → Fit sh c q → Fit sh c (if b then o else q)
+    either true o q f g = f
+    either false o q f g = g
+
+    go : (o : Option Awaited) → Fit sh c (fill_awaited l ws s o)
+    go None = fit-nothing sh (Core c)
+    go (Some a) = either (a.line == l) _ (ignored s) (fit-nothing sh (Core c)) (fit-nothing sh (Core c))
+
+violated : (sh : Shape) (c : ℕ) (s : CoreState) (b : Bool) → IsCore sh c → Fit sh c (if_violated sh b s)
+unfolding if_violated
+violated sh c s false k = fit-nothing sh (Core c)
+violated sh c s true k = go s.phase
+  where
+    go : (q : Phase) → Fit sh c (violated_in sh s q)
+    go Running = fit-nothing sh (Core c)
+    go AwaitTid = fit-nothing sh (Core c)
+    go (Overflowing None) = fit-nothing sh (Core c)
+    go (Probing t) = aborts sh c s.cache t k
+    go (Ready t) = aborts sh c s.cache t k
+    go (Overflowing (Some t)) = skips sh c t k
+    go (Solo t) = skips sh c t k
+    go DoomedTid = fit-nothing sh (Core c)
+    go Halted = fit-nothing sh (Core c)
+
+invalidates : (sh : Shape) (c l m u : ℕ) (s : CoreState) → IsCore sh c → Fit sh c (invalidate sh l m u s)
+unfolding invalidate acknowledged
+invalidates sh c l m u s k = fit-then sh (Core c) _ _ (violated sh c (without l m s) (is_violated l m u s) k) (at_home sh c l _ k (λ d i. out_fits sh c d (InvAck l _) k.core i refl))
+
+pub fit-back : (sh : Shape) (c d : ℕ) (s : CoreState) (m : Msg) → IsCore sh c → d < sh.dirs → IfSome (from_dir sh d s m) (Fit sh c)
+unfolding data_request
+fit-back sh c d s (ProbeReply t v) k i = reply sh c d t s k i
+fit-back sh c d s (Fill l ws) k i = filled sh c l ws s
+fit-back sh c d s (DataReq l) k i = flushes sh c s.cache l k
+fit-back sh c d s (Inv l m u) k i = invalidates sh c l m u s k
+fit-back sh c d s TidReq k i = tt
+fit-back sh c d s (TidGrant t) k i = tt
+fit-back sh c d s (LoadReq l a) k i = tt
+fit-back sh c d s (Skip t) k i = tt
+fit-back sh c d s (Probe t) k i = tt
+fit-back sh c d s (Mark l m t) k i = tt
+fit-back sh c d s (Commit t n) k i = tt
+fit-back sh c d s (Abort t) k i = tt
+fit-back sh c d s (WriteBack l m ws t) k i = tt
+fit-back sh c d s (Flush l m ws t) k i = tt
+fit-back sh c d s (InvAck l b) k i = tt

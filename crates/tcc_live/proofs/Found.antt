@@ -1,0 +1,33 @@
+-- From a number of messages to one of them.
+use Rattle.std.specs.Prelude.{ℕ, zero, suc, ◌≡◌, ◌≤◌, Bool, true, false, [], ◌∷◌, Some, None, get_or}
+use Rattle.std.proofs.Common.{arith, refl}
+use Rattle.tcc_maps.specs.Nodes.{Msg}
+use Rattle.tcc_rules.specs.State.{Link}
+use Rattle.tcc_serial.specs.Count.{Kind, live, passes}
+
+-- a message of the kind is in flight on the link
+pub record Found (k : Kind) (l : Link) : Type 0 where
+  pub at : ℕ
+  pub msg : Msg
+  pub there : get_or l at None ≡ Some msg
+  pub passes : passes k msg ≡ true
+
+-- where there are any, there is one
+pub found : (k : Kind) (l : Link) → 1 ≤ live k l → Found k l
+unfolding live
+found k [] h = absurd (omega arith)
+found k (None ∷ l) h = let f = found k l h in record { at = suc f.at; msg = f.msg; there = f.there; passes = f.passes }
+found k (Some m ∷ l) h = go (passes k m) refl (found k l)
+  where
+    go : (b : Bool) → passes k m ≡ b → (1 ≤ live k l → Found k l) → Found k (Some m ∷ l)
+    go true e f = record { at = 0; msg = m; there = refl; passes = e }
+    go false e f = let h2 : 1 ≤ live k l = omega (arith, rw e at h) in let g = f h2 in record { at = suc g.at; msg = g.msg; there = g.there; passes = g.passes }
+
+-- and one that is there counts
+pub counted : (k : Kind) (l : Link) (i : ℕ) (m : Msg) → get_or l i None ≡ Some m → passes k m ≡ true → 1 ≤ live k l
+unfolding live
+counted k [] i m e q = absurd (cc)
+counted k (Some x ∷ l) zero m e q = let h : x ≡ m = cc in let r : passes k x ≡ true = rw h q in rw r (omega arith)
+counted k (None ∷ l) zero m e q = absurd (cc)
+counted k (Some x ∷ l) (suc i) m e q = let h = counted k l i m e q in omega arith
+counted k (None ∷ l) (suc i) m e q = counted k l i m e q

@@ -1,0 +1,17 @@
+pub mod Found
+pub mod Events
+pub mod Least
+pub mod Waiting
+pub mod State
+pub mod Owner
+pub mod Committing
+pub mod Serving
+pub mod Room
+pub mod Holder
+pub mod GoesOn
+pub mod Halted
+pub mod Strays
+pub mod CoreFits
+pub mod DirFits
+pub mod FitSteps
+pub mod Stuck

@@ -1,0 +1,144 @@
+-- Serving stands: the TID that a directory serves is the vendor's next, or a core has it; else some message about it can go on.
+use Rattle.std.specs.Prelude.{ℕ, zero, suc, ◌+◌, ◌≡◌, ◌<◌, ◌≤◌, Bool, true, false, List, nat_lt}
+use Rattle.std.proofs.Common.{arith, refl, ◌⊎◌, inl, inr}
+use Rattle.std.proofs.lemmas.Bool.{cases_lt}
+use Rattle.std.proofs.lemmas.Bool.Decides.{nat_tests}
+use Rattle.tcc_program.specs.Program.{Program}
+use Rattle.tcc_maps.specs.Words.{num}
+use Rattle.tcc_maps.specs.Nodes.{Core, Dir, Vendor, Msg, Skip, Abort, InvAck}
+use Rattle.tcc_maps.specs.Serving.{is_skipped}
+use Rattle.tcc_maps.specs.Shape.{Shape}
+use Rattle.tcc_rules.specs.State.{DirState, World}
+use Rattle.tcc_rules.specs.Step.{History}
+use Rattle.tcc_rules.specs.DirDeliver.{dir_deliver, total}
+use Rattle.tcc_serial.specs.Count.{Grants, Commits, Skips, Aborts, Invs, Acks, live, passes}
+use Rattle.tcc_serial.specs.Owed.{due}
+use Rattle.tcc_serial.specs.Owners.{Grant, holder}
+use Rattle.tcc_serial.specs.Pairs.{pair, share}
+use Rattle.tcc_serial.specs.Tids.{has_tid}
+use Rattle.tcc_serial.specs.Ways.{Way, Untold, Skipped, Aborted, Committed, Ways}
+use Rattle.tcc_serial.specs.WayLaws.{Settled, is_given_up, given_up_by}
+use Rattle.tcc_serial.proofs.Lemmas.{total-le, some-part}
+use Rattle.tcc_live.specs.Fits.{goes_to_core, is_grant}
+use Rattle.tcc_live.proofs.Committing.{commit_moves}
+use Rattle.tcc_live.proofs.Events.{Moves, is_answer, back_counted, grant_counted, out_counted}
+use Rattle.tcc_live.proofs.State.{Reached}
+use Rattle.tcc_live.proofs.Waiting.{skip_answered, abort_answered, ack_answered}
+
+-- a core has the TID
+pub record IsHeld (sh : Shape) (w : World) (t : ℕ) : Type 0 where
+  pub core : ℕ
+  pub below : core < sh.cores
+  pub has : has_tid (w.cores core).phase t ≡ true
+
+skip_taken : (sh : Shape) (s : DirState) (c t : ℕ) (m : Msg) → passes (Skips t) m ≡ true → is_answer (dir_deliver sh s c m) ≡ true
+unfolding passes dir_deliver
+skip_taken sh s c t (Skip u) q = skip_answered u s
+skip_taken sh s c t m q = absurd (cc)
+
+abort_taken : (sh : Shape) (s : DirState) (c t : ℕ) (m : Msg) → passes (Aborts t) m ≡ true → is_answer (dir_deliver sh s c m) ≡ true
+unfolding passes dir_deliver
+abort_taken sh s c t (Abort u) q = abort_answered u s
+abort_taken sh s c t m q = absurd (cc)
+
+ack_taken : (sh : Shape) (s : DirState) (c : ℕ) (m : Msg) → passes Acks m ≡ true → is_answer (dir_deliver sh s c m) ≡ true
+unfolding passes dir_deliver
+ack_taken sh s c (InvAck l b) q = ack_answered c l b s
+ack_taken sh s c m q = absurd (cc)
+
+inv_taken : (m : Msg) → passes Invs m ≡ true → goes_to_core m ≡ true
+unfolding passes
+inv_taken m q = grind (arith, nat_tests)
+
+grant_taken : (t : ℕ) (m : Msg) → passes (Grants t) m ≡ true → is_grant m ≡ true
+unfolding passes
+grant_taken t m q = grind (arith, nat_tests)
+
+one : (b : Bool) → 1 ≤ num b → b ≡ true
+one true h = refl
+one false h = absurd (omega arith)
+
+-- a TID that is with a core, or on its way to it
+held : (sh : Shape) (p : Program) (w : World) (c d t : ℕ) → c < sh.cores → 1 ≤ holder t (pair w c d) → Moves sh p w ⊎ IsHeld sh w t
+unfolding holder pair
+held sh p w c d t l n = go (live (Grants t) (w.net Vendor (Core c))) refl
+  where
+    go : (x : ℕ) → live (Grants t) (w.net Vendor (Core c)) ≡ x → Moves sh p w ⊎ IsHeld sh w t
+    go (suc x) e = inl (grant_counted sh p w (Grants t) c l (grant_taken t) (omega (arith, e)))
+    go zero e = inr (record { core = c; below = l; has = one (has_tid (w.cores c).phase t) (omega (arith, e)) })
+
+-- a served TID that was given up: a Skip or an Abort is on its way
+given_up : (sh : Shape) (p : Program) (gs : List Grant) (ys : Ways) (h : History) (d : ℕ) → Reached sh p gs ys h → d < sh.dirs → is_given_up (ys d (h.world.dirs d).serving.serving) ≡ true → Moves sh p h.world
+unfolding share given_up_by pair
+given_up sh p gs ys h d k i g =
+    let r = some-part (share (given_up_by t) h.world d) sh.cores told in
+    go r.0 (r.1) (live (Skips t) (h.world.net (Core r.0) (Dir d))) refl (r.2)
+  where
+    t : ℕ
+    t = (h.world.dirs d).serving.serving
+
+    ahead : (b : Bool) → is_skipped (h.world.dirs d).serving t ≡ b → num (is_skipped (h.world.dirs d).serving t) ≡ 0
+    ahead false e = rw e refl
+    ahead true e = absurd (omega (arith, (k.carried.kept_skips_are_given_up_and_ahead d t i (k.fits.serves d) e).1))
+
+    here : num (nat_lt t t) ≡ 0
+    here = grind (arith, nat_tests)
+
+    told : 1 ≤ total (share (given_up_by t) h.world d) sh.cores
+    told = omega (arith, k.carried.given_up_tid_is_still_to_be_told_or_kept_or_passed d t i (k.fits.serves d) g, ahead (is_skipped (h.world.dirs d).serving t) refl, here)
+
+    go : (c : ℕ) → c < sh.cores → (x : ℕ) → live (Skips t) (h.world.net (Core c) (Dir d)) ≡ x → 1 ≤ live (Skips t) (h.world.net (Core c) (Dir d)) + live (Aborts t) (h.world.net (Core c) (Dir d)) → Moves sh p h.world
+    go c l (suc x) e n = out_counted sh p h.world (Skips t) c d l i (skip_taken sh (h.world.dirs d) c t) (omega (arith, e))
+    go c l zero e n = out_counted sh p h.world (Aborts t) c d l i (abort_taken sh (h.world.dirs d) c t) (omega (arith, e))
+
+-- acknowledgements that are owed are on their way, or their invalidations are
+owed_moves : (sh : Shape) (p : Program) (gs : List Grant) (ys : Ways) (h : History) (d : ℕ) → Reached sh p gs ys h → d < sh.dirs → 1 ≤ (h.world.dirs d).owed → Moves sh p h.world
+unfolding share due pair
+owed_moves sh p gs ys h d k i o =
+    let r = some-part (share due h.world d) sh.cores (omega (arith, k.carried.owed_counts_invs_and_acks.owed d)) in
+    go r.0 (r.1) (live Invs (h.world.net (Dir d) (Core r.0))) refl (r.2)
+  where
+    go : (c : ℕ) → c < sh.cores → (x : ℕ) → live Invs (h.world.net (Dir d) (Core c)) ≡ x → 1 ≤ live Invs (h.world.net (Dir d) (Core c)) + live Acks (h.world.net (Core c) (Dir d)) → Moves sh p h.world
+    go c l (suc x) e n = back_counted sh p h.world Invs d c i l inv_taken (omega (arith, e))
+    go c l zero e n = out_counted sh p h.world Acks c d l i (ack_taken sh (h.world.dirs d) c) (omega (arith, e))
+
+-- a committed TID that is served
+committed : (sh : Shape) (p : Program) (gs : List Grant) (ys : Ways) (h : History) (d : ℕ) → Reached sh p gs ys h → d < sh.dirs → ys d (h.world.dirs d).serving.serving ≡ Committed → Moves sh p h.world
+committed sh p gs ys h d k i y = go (total sent sh.cores) refl
+  where
+    t : ℕ
+    t = (h.world.dirs d).serving.serving
+
+    sent : ℕ → ℕ
+    sent c = live (Commits t) (h.world.net (Core c) (Dir d))
+
+    settled : Settled sh ys h.world d t → Moves sh p h.world
+    settled s = either ((k.carried.each_tid_is_resolved_in_one_way.2 d t i (k.fits.serves d)).settled s)
+      where
+        either : (t < (h.world.dirs d).serving.serving) ⊎ (((h.world.dirs d).serving.serving ≡ t) × (1 ≤ (h.world.dirs d).owed)) → Moves sh p h.world
+        either (inl l) = absurd (omega arith)
+        either (inr o) = owed_moves sh p gs ys h d k i (o.1)
+
+    go : (x : ℕ) → total sent sh.cores ≡ x → Moves sh p h.world
+    go (suc x) e = let r = some-part sent sh.cores (omega (arith, e)) in commit_moves sh p gs ys h r.0 d t k (r.1) i (r.2)
+    go zero e = settled (record { committed = y; handled = λ c l. omega (arith, total-le sent sh.cores c l, e) })
+
+pub serving_stands : (sh : Shape) (p : Program) (gs : List Grant) (ys : Ways) (h : History) (d : ℕ) → Reached sh p gs ys h → d < sh.dirs → Moves sh p h.world ⊎ ((h.world.next ≤ (h.world.dirs d).serving.serving) ⊎ IsHeld sh h.world (h.world.dirs d).serving.serving)
+serving_stands sh p gs ys h d k i = go (ys d t) refl
+  where
+    t : ℕ
+    t = (h.world.dirs d).serving.serving
+
+    open_at : ys d t ≡ Untold → (t < h.world.next) ⊎ (h.world.next ≤ t) → Moves sh p h.world ⊎ ((h.world.next ≤ t) ⊎ IsHeld sh h.world t)
+    open_at y (inr l) = inr (inl l)
+    open_at y (inl l) = let r = k.carried.open_tid_is_live d t i (k.fits.serves d) l y in with_core (held sh p h.world r.0 d t (r.1) (r.2))
+      where
+        with_core : Moves sh p h.world ⊎ IsHeld sh h.world t → Moves sh p h.world ⊎ ((h.world.next ≤ t) ⊎ IsHeld sh h.world t)
+        with_core (inl m) = inl m
+        with_core (inr a) = inr (inr a)
+
+    go : (y : Way) → ys d t ≡ y → Moves sh p h.world ⊎ ((h.world.next ≤ t) ⊎ IsHeld sh h.world t)
+    go Untold y = open_at y (cases_lt t h.world.next)
+    go Skipped y = inl (given_up sh p gs ys h d k i (rw y refl))
+    go Aborted y = inl (given_up sh p gs ys h d k i (rw y refl))
+    go Committed y = inl (committed sh p gs ys h d k i y)

@@ -1,0 +1,61 @@
+-- No state that a run reaches is stuck.
+use Rattle.std.specs.Prelude.{ℕ, ◌≡◌, ◌≢◌, ◌<◌, List, [], Option, Some, None, IfSome}
+use Rattle.std.proofs.Common.{refl, ◌⊎◌, inl, inr}
+use Rattle.tcc_program.specs.Program.{Program}
+use Rattle.tcc_maps.specs.Shape.{Shape}
+use Rattle.tcc_rules.specs.Laws.{IsIn}
+use Rattle.tcc_rules.specs.State.{Phase, Halted, World, start}
+use Rattle.tcc_rules.specs.Step.{History, run}
+use Rattle.tcc_rules.specs.Useful.{useful}
+use Rattle.tcc_rules.proofs.Useful.{useful-holds}
+use Rattle.tcc_serial.specs.Invariants.{Carried, CarriedInMemory, first_state}
+use Rattle.tcc_serial.specs.Owners.{Grant, grants_from}
+use Rattle.tcc_serial.specs.Ways.{Ways, first_ways, ways_from}
+use Rattle.tcc_serial.proofs.Lemmas.{runs_carry, runs_stay_in_memory}
+use Rattle.tcc_live.specs.Fits.{KeptFits}
+use Rattle.tcc_live.specs.Progress.{InEachState, EachGoesOn, DoneWhereNoneUseful}
+use Rattle.tcc_live.proofs.FitSteps.{links_fit}
+use Rattle.tcc_live.proofs.GoesOn.{each_goes_on}
+use Rattle.tcc_live.proofs.Halted.{IsStill, done}
+use Rattle.tcc_live.proofs.State.{Reached}
+
+-- what holds of a state with all that is proved of it holds of every state that a run reaches
+from_reached : (P : Shape → Program → World → Type 0) → ((sh : Shape) (p : Program) (gs : List Grant) (ys : Ways) (h : History) → Reached sh p gs ys h → P sh p h.world) → InEachState P
+from_reached P f sh p entries ram es k = go (run sh p (start entries ram) es) (links_fit sh p entries ram es k.dirs) (runs_carry sh p entries ram es) (runs_stay_in_memory sh p entries ram es k.inside)
+  where
+    gs : List Grant
+    gs = grants_from sh p es (first_state entries ram)
+
+    ys : Ways
+    ys = ways_from sh p es first_ways (first_state entries ram)
+
+    go : (x : Option History) → IfSome x (λ h. KeptFits sh h.world) → IfSome x (λ h. Carried sh gs ys h) → IfSome x (λ h. CarriedInMemory sh h) → IfSome x (λ h. P sh p h.world)
+    go None a b c = tt
+    go (Some h) a b c = f sh p gs ys h (record { equipped = k; fits = a; carried = b; memory = c })
+
+pub each_core_goes_on : InEachState EachGoesOn
+each_core_goes_on = from_reached EachGoesOn each_goes_on
+
+-- none is useful where the list is empty
+none_useful : (sh : Shape) (p : Program) (w : World) → useful sh p w ≡ [] → IsStill sh p w
+none_useful sh p w z e u = in_none ((useful-holds sh p w e).1 u)
+  where
+    in_none : IsIn e (useful sh p w) → ⊥
+    in_none i = (rw z at i)
+
+halted-or : (q : Phase) → (q ≡ Halted) ⊎ (q ≢ Halted)
+halted-or Halted = inl refl
+halted-or q = inr (λ e. absurd (cc))
+
+done_where_none_useful : (sh : Shape) (p : Program) (gs : List Grant) (ys : Ways) (h : History) → Reached sh p gs ys h → DoneWhereNoneUseful sh p h.world
+done_where_none_useful sh p gs ys h k z = done sh p gs ys h k (none_useful sh p h.world z) halted
+  where
+    halted : (c : ℕ) → c < sh.cores → (h.world.cores c).phase ≡ Halted
+    halted c l = go (halted-or (h.world.cores c).phase)
+      where
+        go : ((h.world.cores c).phase ≡ Halted) ⊎ ((h.world.cores c).phase ≢ Halted) → (h.world.cores c).phase ≡ Halted
+        go (inl e) = e
+        go (inr n) = absurd (let g = each_goes_on sh p gs ys h k c l n in none_useful sh p h.world z g.event g.is_useful)
+
+pub no_state_is_stuck : InEachState DoneWhereNoneUseful
+no_state_is_stuck = from_reached DoneWhereNoneUseful done_where_none_useful

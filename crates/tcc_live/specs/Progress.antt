@@ -1,0 +1,40 @@
+-- No state is stuck: what is useful in each state that a run reaches.
+use Rattle.std.specs.Prelude.{ℕ, ◌≡◌, ◌≢◌, ◌<◌, ◌≤◌, Bool, true, List, [], IfSome, ◌==◌}
+use Rattle.tcc_program.specs.Program.{Local, Program}
+use Rattle.tcc_maps.specs.Nodes.{Core, Vendor, Event, Deliver}
+use Rattle.tcc_maps.specs.Shape.{Shape}
+use Rattle.tcc_rules.specs.State.{World, Halted, start}
+use Rattle.tcc_rules.specs.Seen.{IsDone}
+use Rattle.tcc_rules.specs.Step.{run}
+use Rattle.tcc_rules.specs.Useful.{is_useful, useful}
+use Rattle.tcc_serial.specs.InMemory.{StaysInMemory}
+
+-- there is a directory, caches have a set and a way, and the program's accesses lie in memory
+pub record IsEquipped (sh : Shape) (p : Program) : Type 0 where
+  pub dirs : 1 ≤ sh.dirs
+  pub sets : 1 ≤ sh.sets
+  pub ways : 1 ≤ sh.ways
+  pub inside : StaysInMemory sh p
+
+-- P holds of every state that a run of such a machine reaches
+abbrev pub InEachState : (Shape → Program → World → Type 0) → Type 0
+InEachState P = (sh : Shape) (p : Program) (entries : ℕ → Local) (ram : ℕ → ℕ) (es : List Event) → IsEquipped sh p → IfSome (run sh p (start entries ram) es) (λ h. P sh p h.world)
+
+-- Where no event is useful the state is done.
+abbrev pub DoneWhereNoneUseful : Shape → Program → World → Type 0
+DoneWhereNoneUseful sh p w = useful sh p w ≡ [] → IsDone sh w
+
+-- the event doesn't deliver another core's request for a TID
+abbrev pub spares : (core : ℕ) → Event → Bool
+spares c (Deliver (Core j) Vendor k) = j == c
+spares c _ = true
+
+-- a useful event for which no other core gets a place in the order
+pub record GoesOn (sh : Shape) (p : Program) (w : World) (c : ℕ) : Type 0 where
+  pub event : Event
+  pub is_useful : is_useful sh p w event ≡ true
+  pub spares : spares c event ≡ true
+
+-- For each core that hasn't halted there is one.
+abbrev pub EachGoesOn : Shape → Program → World → Type 0
+EachGoesOn sh p w = (c : ℕ) → c < sh.cores → (w.cores c).phase ≢ Halted → GoesOn sh p w c

@@ -1,0 +1,9 @@
+-- What other crates may cite: the laws that they stand on, and lemmas on counts, grants and commits.
+pub use Rattle.tcc_serial.proofs.Commits.{numbered-least, numbered-most}
+pub use Rattle.tcc_serial.proofs.FromKept.{runs_carry}
+pub use Rattle.tcc_serial.proofs.FromMemory.{runs_stay_in_memory}
+pub use Rattle.tcc_serial.proofs.LastOf.{last-most}
+pub use Rattle.tcc_serial.proofs.Links.{total-le}
+pub use Rattle.tcc_serial.proofs.ListedCommits.{granted-at}
+pub use Rattle.tcc_serial.proofs.ModifiedWords.{times-listed}
+pub use Rattle.tcc_serial.proofs.WayFacts.{some-part}
