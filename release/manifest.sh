@@ -1,0 +1,52 @@
+# What the launcher, `renew` and `check` share: the manifest of a program, three lines that name the kit, the sources and the program.
+# Sourced with `root` set to the top of the repository.
+
+released=$root/release/tcc-x86_64-linux
+
+# crates_of NAME: the repository's crates that NAME stands on, by crates.txt, each after those that it stands on itself, and NAME last
+crates_of() {
+    awk -v top="$1" '
+        /^[^#]*:/ { colon = index($0, ":"); split(substr($0, 1, colon - 1), words, " "); below[words[1]] = substr($0, colon + 1) }
+        function visit(name, parts, count, i) {
+            if (!(name in below) || name in seen) return
+            seen[name] = 1
+            count = split(below[name], parts, " ")
+            for (i = 1; i <= count; i++) visit(parts[i])
+            print name
+        }
+        END { visit(top) }' "$root/crates.txt"
+}
+
+# The checksum of what the bytes of the program depend on beside the kit: its crates' lines of crates.txt and their .rt files.
+sources_sum() (
+    cd -- "$root" || exit
+    export LC_ALL=C
+    mapfile -t names < <(crates_of tcc)
+    {
+        for name in "${names[@]}"; do grep -E "^$name( |:)" crates.txt; done
+        find "${names[@]/#/crates/}" -path 'crates/*/src/*' -type f -name '*.rt' -print0 | sort -z | xargs -0 sha256sum
+    } | checksum
+)
+
+# The checksum of standard input.
+checksum() { sha256sum | cut -d ' ' -f 1; }
+
+# The kit on the path, as `rt version` names it; nothing where there is none.
+kit() {
+    local rt
+    rt=$(command -v rt) || return 0
+    cat -- "$(dirname -- "$(readlink -f -- "$rt")")/../KIT-ID" 2>/dev/null || rt version
+}
+
+# manifest PROGRAM KIT: the manifest of that program, if that kit built it of these sources
+manifest() { printf 'kit %s\nsources %s\nprogram %s\n' "$2" "$(sources_sum)" "$(checksum <"$1")"; }
+
+# is_of_sources PROGRAM MANIFEST: whether that file is the manifest of that program, of these sources and of the kit on the path.
+# Where no kit is on the path, nothing else could be built, and the manifest's own counts.
+is_of_sources() {
+    local known
+    [ -x "$1" ] && [ -f "$2" ] || return
+    known=$(kit)
+    [ -n "$known" ] || known=$(sed -n 's/^kit //p' "$2")
+    [ "$(manifest "$1" "$known")" = "$(cat -- "$2")" ]
+}
