@@ -37,10 +37,10 @@ away sh d t l (Mark k n u) q a = let e : k ≡ l = grind (arith, nat_tests) in r
 away sh d t l m q a = absurd (cc)
 
 -- a Mark of a TID that is served or passed
-pub mark_moves : (sh : Shape) (p : Program) (gs : List Grant) (ys : Ways) (h : History) (c d t l : ℕ) → Reached sh p gs ys h → c < sh.cores → d < sh.dirs → l < lines sh → t ≤ (h.world.dirs d).serving.serving
+pub mark_moves : (sh : Shape) (p : Program) (h : History) (c d t l : ℕ) → Reached sh p h → c < sh.cores → d < sh.dirs → l < lines sh → t ≤ (h.world.dirs d).serving.serving
     → 1 ≤ live (MarkOf t l) (h.world.net (Core c) (Dir d)) → Moves sh p h.world
 unfolding pair
-mark_moves sh p gs ys h c d t l k i j inside b n = go (mark_waits sh (h.world.dirs d) c l t f.msg f.passes b)
+mark_moves sh p h c d t l k i j inside b n = go (mark_waits sh (h.world.dirs d) c l t f.msg f.passes b)
   where
     f : Found (MarkOf t l) (h.world.net (Core c) (Dir d))
     f = found (MarkOf t l) (h.world.net (Core c) (Dir d)) n
@@ -51,7 +51,7 @@ mark_moves sh p gs ys h c d t l k i j inside b n = go (mark_waits sh (h.world.di
 
     go : (is_answer (dir_deliver sh (h.world.dirs d) c f.msg) ≡ true) ⊎ IsAsked (h.world.dirs d) l → Moves sh p h.world
     go (inl a) = out_moves sh p h.world c d f.at f.msg i j f.there a
-    go (inr a) = owner_moves sh p gs ys h d l k j inside (away sh d t l f.msg f.passes (near (passes (MarksAway sh.dirs d) f.msg) refl)) a
+    go (inr a) = owner_moves sh p h d l k j inside (away sh d t l f.msg f.passes (near (passes (MarksAway sh.dirs d) f.msg) refl)) a
 
 -- Commits
 
@@ -79,9 +79,9 @@ commit_taken : (sh : Shape) (s : DirState) (c t n : ℕ) (m : Msg) → m ≡ Com
 unfolding dir_deliver
 commit_taken sh s c t n m e b q = rw e (commit_answered sh c t n s b q)
 
-pub commit_moves : (sh : Shape) (p : Program) (gs : List Grant) (ys : Ways) (h : History) (c d t : ℕ) → Reached sh p gs ys h → c < sh.cores → d < sh.dirs → 1 ≤ live (Commits t) (h.world.net (Core c) (Dir d)) → Moves sh p h.world
+pub commit_moves : (sh : Shape) (p : Program) (h : History) (c d t : ℕ) → Reached sh p h → c < sh.cores → d < sh.dirs → 1 ≤ live (Commits t) (h.world.net (Core c) (Dir d)) → Moves sh p h.world
 unfolding pair marks_of
-commit_moves sh p gs ys h c d t k i j n = go (total sent (lines sh)) refl
+commit_moves sh p h c d t k i j n = go (total sent (lines sh)) refl
   where
     sent : ℕ → ℕ
     sent l = live (MarkOf t l) (h.world.net (Core c) (Dir d))
@@ -102,7 +102,7 @@ commit_moves sh p gs ys h c d t k i j n = go (total sent (lines sh)) refl
     one l z = rw served (grind (arith, nat_tests, z))
 
     go : (y : ℕ) → total sent (lines sh) ≡ y → Moves sh p h.world
-    go (suc y) e = let r = some-part sent (lines sh) (omega (arith, e)) in mark_moves sh p gs ys h c d t r.0 k i j (r.1) (omega (arith, served)) (r.2)
+    go (suc y) e = let r = some-part sent (lines sh) (omega (arith, e)) in mark_moves sh p h c d t r.0 k i j (r.1) (omega (arith, served)) (r.2)
     go zero e = out_moves sh p h.world c d f.at f.msg i j f.there (commit_taken sh (h.world.dirs d) c t x.count f.msg x.is served (counts-all (λ l b. omega (arith, total-le sent (lines sh) l b, e))))
       where
         counts-all : ((l : ℕ) → l < lines sh → sent l ≡ 0) → count_below (has_mark (h.world.dirs d).lines) (lines sh) ≡ x.count

@@ -26,9 +26,9 @@ unfolding passes
 granted m q = grind (arith, nat_tests)
 
 -- a core that waits for a TID: its request or its grant is on its way
-waiting : (sh : Shape) (p : Program) (gs : List Grant) (ys : Ways) (h : History) (c : ℕ) → Reached sh p gs ys h → c < sh.cores → waits_for_tid (h.world.cores c).phase ≡ true → GoesOn sh p h.world c
+waiting : (sh : Shape) (p : Program) (h : History) (c : ℕ) → Reached sh p h → c < sh.cores → waits_for_tid (h.world.cores c).phase ≡ true → GoesOn sh p h.world c
 unfolding pair
-waiting sh p gs ys h c k l q = go (live AnyGrant (h.world.net Vendor (Core c))) refl
+waiting sh p h c k l q = go (live AnyGrant (h.world.net Vendor (Core c))) refl
   where
     one : live Asks (h.world.net (Core c) Vendor) + live AnyGrant (h.world.net Vendor (Core c)) ≡ 1
     one = let n : num (waits_for_tid (h.world.cores c).phase) ≡ 1 = rw q refl in omega (arith, k.carried.one_tid_request_or_grant c 0, n)
@@ -38,8 +38,8 @@ waiting sh p gs ys h c k l q = go (live AnyGrant (h.world.net Vendor (Core c))) 
     go zero e = ask_goes_on sh p h.world c l (omega (arith, one, e))
 
 -- a core that runs: alone with itself, or it awaits a line, and its home serves a TID beyond all that were granted
-running : (sh : Shape) (p : Program) (gs : List Grant) (ys : Ways) (h : History) (c : ℕ) → Reached sh p gs ys h → NoneHeld sh p h.world → c < sh.cores → (h.world.cores c).phase ≡ Running → Moves sh p h.world
-running sh p gs ys h c k n l e = go (h.world.cores c).awaited refl
+running : (sh : Shape) (p : Program) (h : History) (c : ℕ) → Reached sh p h → NoneHeld sh p h.world → c < sh.cores → (h.world.cores c).phase ≡ Running → Moves sh p h.world
+running sh p h c k n l e = go (h.world.cores c).awaited refl
   where
     unmarked : (d m : ℕ) → d < sh.dirs → h.world.next ≤ (h.world.dirs d).serving.serving → has_mark (h.world.dirs d).lines m ≡ false
     unmarked d m i b = test (has_mark (h.world.dirs d).lines m) refl
@@ -50,15 +50,15 @@ running sh p gs ys h c k n l e = go (h.world.cores c).awaited refl
 
     served : (d : ℕ) → d < sh.dirs → Moves sh p h.world ⊎ (h.world.next ≤ (h.world.dirs d).serving.serving) → Moves sh p h.world ⊎ (((h.world.cores c).after d < (h.world.dirs d).serving.serving) × ((m : ℕ) → has_mark (h.world.dirs d).lines m ≡ false))
     served d i (inl m) = inl m
-    served d i (inr b) = inr (omega (arith, b, after_next sh p gs ys h c d k l i), λ m. unmarked d m i b)
+    served d i (inr b) = inr (omega (arith, b, after_next sh p h c d k l i), λ m. unmarked d m i b)
 
     go : (o : Option Awaited) → (h.world.cores c).awaited ≡ o → Moves sh p h.world
     go None a = room_moves sh p h.world c k.equipped l (rw e refl) a
-    go (Some a) q = awaited_moves sh p gs ys h c a k l q (λ d i. served d i (n.beyond d i))
+    go (Some a) q = awaited_moves sh p h c a k l q (λ d i. served d i (n.beyond d i))
 
-pub each_goes_on : (sh : Shape) (p : Program) (gs : List Grant) (ys : Ways) (h : History) → Reached sh p gs ys h → EachGoesOn sh p h.world
+pub each_goes_on : (sh : Shape) (p : Program) (h : History) → Reached sh p h → EachGoesOn sh p h.world
 unfolding waits_for_tid has_tid
-each_goes_on sh p gs ys h k c l n = go (h.world.cores c).phase refl (none_or_moves sh p gs ys h k)
+each_goes_on sh p h k c l n = go (h.world.cores c).phase refl (none_or_moves sh p h k)
   where
     holds : (t : ℕ) → has_tid (h.world.cores c).phase t ≡ true → Moves sh p h.world ⊎ NoneHeld sh p h.world → GoesOn sh p h.world c
     holds t q (inl m) = goes_on sh p h.world c m
@@ -67,10 +67,10 @@ each_goes_on sh p gs ys h k c l n = go (h.world.cores c).phase refl (none_or_mov
     go : (q : Phase) → (h.world.cores c).phase ≡ q → Moves sh p h.world ⊎ NoneHeld sh p h.world → GoesOn sh p h.world c
     go Halted e r = absurd (n e)
     go Running e (inl m) = goes_on sh p h.world c m
-    go Running e (inr a) = goes_on sh p h.world c (running sh p gs ys h c k a l e)
-    go AwaitTid e r = waiting sh p gs ys h c k l (rw e refl)
-    go DoomedTid e r = waiting sh p gs ys h c k l (rw e refl)
-    go (Overflowing None) e r = waiting sh p gs ys h c k l (rw e refl)
+    go Running e (inr a) = goes_on sh p h.world c (running sh p h c k a l e)
+    go AwaitTid e r = waiting sh p h c k l (rw e refl)
+    go DoomedTid e r = waiting sh p h c k l (rw e refl)
+    go (Overflowing None) e r = waiting sh p h c k l (rw e refl)
     go (Overflowing (Some t)) e r = holds t (rw e (grind (arith, nat_tests))) r
     go (Probing t) e r = holds t (rw e (grind (arith, nat_tests))) r
     go (Ready t) e r = holds t (rw e (grind (arith, nat_tests))) r

@@ -23,14 +23,14 @@ use Rattle.tcc_serial.specs.Owners.{Grant, holder, times}
 use Rattle.tcc_serial.specs.Pairs.{pair}
 use Rattle.tcc_serial.specs.Tids.{has_tid, opens}
 use Rattle.tcc_serial.specs.Ways.{Ways}
-use Rattle.tcc_serial.proofs.Lemmas.{total-le, some-part, numbered-least, numbered-most, last-most, granted-at, times-listed}
+use Rattle.tcc_serial.proofs.Lemmas.{total-le, some-part, numbered-least, last-most, granted-at, times-listed}
 use Rattle.tcc_live.specs.Fits.{goes_to_core}
 use Rattle.tcc_live.proofs.Events.{Moves, is_answer, exec_moves, back_counted, out_counted}
 use Rattle.tcc_live.proofs.Least.{IsLeast, least}
 use Rattle.tcc_live.proofs.Owner.{load_moves}
 use Rattle.tcc_live.proofs.Room.{room_moves}
 use Rattle.tcc_live.proofs.Serving.{IsHeld, serving_stands}
-use Rattle.tcc_live.proofs.State.{Reached}
+use Rattle.tcc_live.proofs.State.{Reached, granted_below}
 use Rattle.tcc_live.proofs.Waiting.{probe_answered}
 
 -- each directory serves t or a later TID, unless something can go on
@@ -49,8 +49,8 @@ unfolding passes
 reply_taken t m q = grind (arith, nat_tests)
 
 -- a core that waits for replies
-probing : (sh : Shape) (p : Program) (gs : List Grant) (ys : Ways) (h : History) (c t : ℕ) → Reached sh p gs ys h → AllReach sh p h.world t → c < sh.cores → has_tid (h.world.cores c).phase t ≡ true → awaits_replies (h.world.cores c).phase ≡ true → Moves sh p h.world
-probing sh p gs ys h c t k reach l q a = go d.0 (d.1) (d.2) (live (Replies t) (h.world.net (Dir d.0) (Core c))) refl (reach d.0 (d.1))
+probing : (sh : Shape) (p : Program) (h : History) (c t : ℕ) → Reached sh p h → AllReach sh p h.world t → c < sh.cores → has_tid (h.world.cores c).phase t ≡ true → awaits_replies (h.world.cores c).phase ≡ true → Moves sh p h.world
+probing sh p h c t k reach l q a = go d.0 (d.1) (d.2) (live (Replies t) (h.world.net (Dir d.0) (Core c))) refl (reach d.0 (d.1))
   where
     d : (d : ℕ) × (d < sh.dirs) × ((h.world.cores c).owing d ≡ true)
     d = any_below-found (h.world.cores c).owing sh.dirs ((k.carried.tid_and_owing_fit_the_phase c).some a k.equipped.dirs)
@@ -73,23 +73,26 @@ unfolding stored_there
 stored_by sh c d x q = grind (arith, nat_tests)
 
 -- it is below the vendor's next
-pub after_next : (sh : Shape) (p : Program) (gs : List Grant) (ys : Ways) (h : History) (c d : ℕ) → Reached sh p gs ys h → c < sh.cores → d < sh.dirs → (h.world.cores c).after d < h.world.next
+pub after_next : (sh : Shape) (p : Program) (h : History) (c d : ℕ) → Reached sh p h → c < sh.cores → d < sh.dirs → (h.world.cores c).after d < h.world.next
 unfolding pair
-after_next sh p gs ys h c d k l i = omega (arith, (k.carried.after_is_the_last_commit_there c d l i).last, last-most (stored_there sh c d) h.commits (h.world.next - 1) each, k.carried.granted_tids_are_those_below_next.1)
+after_next sh p h c d k l i = omega (arith, (k.carried.after_is_the_last_commit_there c d l i).last, last-most (stored_there sh c d) h.commits (h.world.next - 1) each, positive)
   where
+    positive : 1 ≤ h.world.next
+    positive = omega (arith, k.carried.granted_tids_are_those_below_next.1)
+
     each : (x : Noted) → Contains h.commits x → stored_there sh c d x ≡ true → x.tid.0 ≤ h.world.next - 1
-    each x m q = omega (arith, numbered-most 1 gs (record { tid = x.tid.0; core = x.core.0 }) (k.carried.granted_tids_are_those_below_next.0) (granted-at gs h.commits x (k.carried.commits_are_of_granted_tids.1) m), k.carried.granted_tids_are_those_below_next.1)
+    each x m q = omega (arith, granted_below sh p h x.core.0 x.tid.0 k (granted-at k.grants h.commits x (k.carried.commits_are_of_granted_tids.1) m))
 
 -- and below the TID that the core has
-after_held : (sh : Shape) (p : Program) (gs : List Grant) (ys : Ways) (h : History) (c d t : ℕ) → Reached sh p gs ys h → c < sh.cores → d < sh.dirs → has_tid (h.world.cores c).phase t ≡ true → (h.world.cores c).after d < t
+after_held : (sh : Shape) (p : Program) (h : History) (c d t : ℕ) → Reached sh p h → c < sh.cores → d < sh.dirs → has_tid (h.world.cores c).phase t ≡ true → (h.world.cores c).after d < t
 unfolding pair
-after_held sh p gs ys h c d t k l i q = omega (arith, (k.carried.after_is_the_last_commit_there c d l i).last, last-most (stored_there sh c d) h.commits (t - 1) each, first)
+after_held sh p h c d t k l i q = omega (arith, (k.carried.after_is_the_last_commit_there c d l i).last, last-most (stored_there sh c d) h.commits (t - 1) each, first)
   where
-    granted : Contains gs (record { tid = t; core = c }) × (times t h.commits ≡ 0)
+    granted : Contains k.grants (record { tid = t; core = c }) × (times t h.commits ≡ 0)
     granted = k.carried.live_tid_is_granted_to_its_core c d t l (tid_held h.world c d t q)
 
     first : 1 ≤ t
-    first = numbered-least 1 gs (record { tid = t; core = c }) (k.carried.granted_tids_are_those_below_next.0) (granted.0)
+    first = numbered-least 1 k.grants (record { tid = t; core = c }) (k.carried.granted_tids_are_those_below_next.0) (granted.0)
 
     other : (x : Noted) → Contains h.commits x → x.tid.0 ≡ t → ⊥
     other x m e = omega (arith, times-listed t h.commits x m e, granted.1)
@@ -97,8 +100,8 @@ after_held sh p gs ys h c d t k l i q = omega (arith, (k.carried.after_is_the_la
     each : (x : Noted) → Contains h.commits x → stored_there sh c d x ≡ true → x.tid.0 ≤ t - 1
     each x m s = go (cases_lt x.tid.0 t)
       where
-        its : Contains gs (record { tid = x.tid.0; core = c })
-        its = rw (stored_by sh c d x s) at (granted-at gs h.commits x (k.carried.commits_are_of_granted_tids.1) m)
+        its : Contains k.grants (record { tid = x.tid.0; core = c })
+        its = rw (stored_by sh c d x s) at (granted-at k.grants h.commits x (k.carried.commits_are_of_granted_tids.1) m)
 
         go : (x.tid.0 < t) ⊎ (t ≤ x.tid.0) → x.tid.0 ≤ t - 1
         go (inl b) = omega arith
@@ -111,10 +114,10 @@ unfolding passes
 fill_taken l m q = grind (arith, nat_tests)
 
 -- an awaited line: its Fill can be delivered, or its request is served, where nothing there lets it wait
-pub awaited_moves : (sh : Shape) (p : Program) (gs : List Grant) (ys : Ways) (h : History) (c : ℕ) (a : Awaited) → Reached sh p gs ys h → c < sh.cores → (h.world.cores c).awaited ≡ Some a
+pub awaited_moves : (sh : Shape) (p : Program) (h : History) (c : ℕ) (a : Awaited) → Reached sh p h → c < sh.cores → (h.world.cores c).awaited ≡ Some a
     → ((d : ℕ) → d < sh.dirs → Moves sh p h.world ⊎ (((h.world.cores c).after d < (h.world.dirs d).serving.serving) × ((l : ℕ) → has_mark (h.world.dirs d).lines l ≡ false))) → Moves sh p h.world
 unfolding pair
-awaited_moves sh p gs ys h c a k l e served = go (served d i) (live (FillOf a.line) (h.world.net (Dir d) (Core c))) refl
+awaited_moves sh p h c a k l e served = go (served d i) (live (FillOf a.line) (h.world.net (Dir d) (Core c))) refl
   where
     d : ℕ
     d = home sh a.line
@@ -131,12 +134,12 @@ awaited_moves sh p gs ys h c a k l e served = go (served d i) (live (FillOf a.li
     go : Moves sh p h.world ⊎ (((h.world.cores c).after d < (h.world.dirs d).serving.serving) × ((l : ℕ) → has_mark (h.world.dirs d).lines l ≡ false)) → (x : ℕ) → live (FillOf a.line) (h.world.net (Dir d) (Core c)) ≡ x → Moves sh p h.world
     go (inl m) x q = m
     go (inr s) (suc x) q = back_counted sh p h.world (FillOf a.line) d c i l (fill_taken a.line) (omega (arith, q))
-    go (inr s) zero q = load_moves sh p gs ys h c d a.line k l i refl (omega (arith, one, q)) (s.0) (s.1 a.line)
+    go (inr s) zero q = load_moves sh p h c d a.line k l i refl (omega (arith, one, q)) (s.0) (s.1 a.line)
 
 -- a core that is alone
-alone : (sh : Shape) (p : Program) (gs : List Grant) (ys : Ways) (h : History) (c t : ℕ) → Reached sh p gs ys h → c < sh.cores → (h.world.cores c).phase ≡ Solo t → Moves sh p h.world
+alone : (sh : Shape) (p : Program) (h : History) (c t : ℕ) → Reached sh p h → c < sh.cores → (h.world.cores c).phase ≡ Solo t → Moves sh p h.world
 unfolding pair marks_of has_marked has_tid opens
-alone sh p gs ys h c t k l e = go (h.world.cores c).awaited refl
+alone sh p h c t k l e = go (h.world.cores c).awaited refl
   where
     has : has_tid (h.world.cores c).phase t ≡ true
     has = rw e (grind (arith, nat_tests))
@@ -152,22 +155,22 @@ alone sh p gs ys h c t k l e = go (h.world.cores c).awaited refl
 
     go : (o : Option Awaited) → (h.world.cores c).awaited ≡ o → Moves sh p h.world
     go None a = room_moves sh p h.world c k.equipped l (rw e refl) a
-    go (Some a) q = awaited_moves sh p gs ys h c a k l q (λ d i. inr (omega (arith, after_held sh p gs ys h c d t k l i has, serves d i), λ m. unmarked d m i))
+    go (Some a) q = awaited_moves sh p h c a k l q (λ d i. inr (omega (arith, after_held sh p h c d t k l i has, serves d i), λ m. unmarked d m i))
 
 -- a core that may commit
 ready : (sh : Shape) (p : Program) (w : World) (c t : ℕ) → c < sh.cores → (w.cores c).phase ≡ Ready t → Moves sh p w
 unfolding core_exec
 ready sh p w c t l e = exec_moves sh p w c l (rw e refl)
 
-holder_moves : (sh : Shape) (p : Program) (gs : List Grant) (ys : Ways) (h : History) (c t : ℕ) → Reached sh p gs ys h → AllReach sh p h.world t → c < sh.cores → has_tid (h.world.cores c).phase t ≡ true → Moves sh p h.world
+holder_moves : (sh : Shape) (p : Program) (h : History) (c t : ℕ) → Reached sh p h → AllReach sh p h.world t → c < sh.cores → has_tid (h.world.cores c).phase t ≡ true → Moves sh p h.world
 unfolding has_tid
-holder_moves sh p gs ys h c t k reach l q = go (h.world.cores c).phase refl
+holder_moves sh p h c t k reach l q = go (h.world.cores c).phase refl
   where
     go : (x : Phase) → (h.world.cores c).phase ≡ x → Moves sh p h.world
-    go (Probing u) e = probing sh p gs ys h c t k reach l q (rw e refl)
-    go (Overflowing (Some u)) e = probing sh p gs ys h c t k reach l q (rw e refl)
+    go (Probing u) e = probing sh p h c t k reach l q (rw e refl)
+    go (Overflowing (Some u)) e = probing sh p h c t k reach l q (rw e refl)
     go (Ready u) e = ready sh p h.world c u l e
-    go (Solo u) e = alone sh p gs ys h c u k l e
+    go (Solo u) e = alone sh p h c u k l e
     go x e = absurd (let n : has_tid (h.world.cores c).phase t ≡ false = rw e refl in cc)
 
 -- the least TID that a core has
@@ -191,8 +194,8 @@ unfolding held_count held_by
 some_core sh w t n = let r = some-part (held_by w t) sh.cores n in record { core = r.0; below = r.1; has = one (has_tid (w.cores r.0).phase t) (r.2) }
 
 -- where some core has a TID, something can go on
-least_moves : (sh : Shape) (p : Program) (gs : List Grant) (ys : Ways) (h : History) (t : ℕ) → Reached sh p gs ys h → IsLeast (held_count sh h.world) h.world.next t → Moves sh p h.world
-least_moves sh p gs ys h t k x = let a = some_core sh h.world t x.some in holder_moves sh p gs ys h a.core t k (λ d i. at d (serving_stands sh p gs ys h d k i)) a.below a.has
+least_moves : (sh : Shape) (p : Program) (h : History) (t : ℕ) → Reached sh p h → IsLeast (held_count sh h.world) h.world.next t → Moves sh p h.world
+least_moves sh p h t k x = let a = some_core sh h.world t x.some in holder_moves sh p h a.core t k (λ d i. at d (serving_stands sh p h d k i)) a.below a.has
   where
     at : (d : ℕ) → Moves sh p h.world ⊎ ((h.world.next ≤ (h.world.dirs d).serving.serving) ⊎ IsHeld sh h.world (h.world.dirs d).serving.serving) → Moves sh p h.world ⊎ (t ≤ (h.world.dirs d).serving.serving)
     at d (inl m) = inl m
@@ -204,23 +207,24 @@ least_moves sh p gs ys h t k x = let a = some_core sh h.world t x.some in holder
         go (inl l) = absurd (omega (arith, x.first (h.world.dirs d).serving.serving l, counts sh h.world (h.world.dirs d).serving.serving a))
 
 -- a TID that a core has was granted
-held_granted : (sh : Shape) (p : Program) (gs : List Grant) (ys : Ways) (h : History) (t : ℕ) → Reached sh p gs ys h → IsHeld sh h.world t → t < h.world.next
-held_granted sh p gs ys h t k a = omega (arith, numbered-most 1 gs (record { tid = t; core = a.core }) (k.carried.granted_tids_are_those_below_next.0) ((k.carried.live_tid_is_granted_to_its_core a.core 0 t a.below (tid_held h.world a.core 0 t a.has)).0), k.carried.granted_tids_are_those_below_next.1)
+held_granted : (sh : Shape) (p : Program) (h : History) (t : ℕ) → Reached sh p h → IsHeld sh h.world t → t < h.world.next
+held_granted sh p h t k a =
+    granted_below sh p h a.core t k ((k.carried.live_tid_is_granted_to_its_core a.core 0 t a.below (tid_held h.world a.core 0 t a.has)).0)
 
 -- either something can go on, or no core has a TID and every directory serves the vendor's next or is beyond it
 pub record NoneHeld (sh : Shape) (p : Program) (w : World) : Type 0 where
   pub none : (t : ℕ) → IsHeld sh w t → ⊥
   pub beyond : AllReach sh p w w.next
 
-pub none_or_moves : (sh : Shape) (p : Program) (gs : List Grant) (ys : Ways) (h : History) → Reached sh p gs ys h → Moves sh p h.world ⊎ NoneHeld sh p h.world
-none_or_moves sh p gs ys h k = go (least (held_count sh h.world) h.world.next)
+pub none_or_moves : (sh : Shape) (p : Program) (h : History) → Reached sh p h → Moves sh p h.world ⊎ NoneHeld sh p h.world
+none_or_moves sh p h k = go (least (held_count sh h.world) h.world.next)
   where
     go : ((t : ℕ) × IsLeast (held_count sh h.world) h.world.next t) ⊎ ((u : ℕ) → u < h.world.next → held_count sh h.world u ≡ 0) → Moves sh p h.world ⊎ NoneHeld sh p h.world
-    go (inl x) = inl (least_moves sh p gs ys h x.0 k (x.1))
-    go (inr z) = inr (record { none = none; beyond = λ d i. at d (serving_stands sh p gs ys h d k i) })
+    go (inl x) = inl (least_moves sh p h x.0 k (x.1))
+    go (inr z) = inr (record { none = none; beyond = λ d i. at d (serving_stands sh p h d k i) })
       where
         none : (t : ℕ) → IsHeld sh h.world t → ⊥
-        none t a = omega (arith, z t (held_granted sh p gs ys h t k a), counts sh h.world t a)
+        none t a = omega (arith, z t (held_granted sh p h t k a), counts sh h.world t a)
 
         at : (d : ℕ) → Moves sh p h.world ⊎ ((h.world.next ≤ (h.world.dirs d).serving.serving) ⊎ IsHeld sh h.world (h.world.dirs d).serving.serving) → Moves sh p h.world ⊎ (h.world.next ≤ (h.world.dirs d).serving.serving)
         at d (inl m) = inl m

@@ -31,9 +31,9 @@ copy_taken sh s c l (WriteBack k m ws g) q = let e : k ≡ l = grind (arith, nat
 copy_taken sh s c l (Flush k m ws g) q = let e : k ≡ l = grind (arith, nat_tests) in let u : s.lines.tag k ≡ s.lines.tag l = ap s.lines.tag e in copy_answered c k m ws g s (grind (arith, nat_tests))
 copy_taken sh s c l m q = absurd (cc)
 
-pub owner_moves : (sh : Shape) (p : Program) (gs : List Grant) (ys : Ways) (h : History) (d l : ℕ) → Reached sh p gs ys h → d < sh.dirs → l < lines sh → home sh l ≡ d → IsAsked (h.world.dirs d) l → Moves sh p h.world
+pub owner_moves : (sh : Shape) (p : Program) (h : History) (d l : ℕ) → Reached sh p h → d < sh.dirs → l < lines sh → home sh l ≡ d → IsAsked (h.world.dirs d) l → Moves sh p h.world
 unfolding pair
-owner_moves sh p gs ys h d l k i m e a = go (live (DataOf l) (h.world.net (Dir d) (Core a.owner))) refl
+owner_moves sh p h d l k i m e a = go (live (DataOf l) (h.world.net (Dir d) (Core a.owner))) refl
   where
     owner : a.owner < sh.cores
     owner = k.fits.owners d l a.owner (a.owned)
@@ -51,10 +51,10 @@ unfolding passes dir_deliver
 load_waits sh s c l after (LoadReq k a) q n b u = let e : k ≡ l = grind (arith, nat_tests) in let f : a ≡ after = grind (arith, nat_tests) in rw (e, f) (load_answered c l after s b u)
 load_waits sh s c l after m q n b u = absurd (cc)
 
-pub load_moves : (sh : Shape) (p : Program) (gs : List Grant) (ys : Ways) (h : History) (c d l : ℕ) → Reached sh p gs ys h → c < sh.cores → d < sh.dirs → home sh l ≡ d → 1 ≤ live (LoadOf l) (h.world.net (Core c) (Dir d))
+pub load_moves : (sh : Shape) (p : Program) (h : History) (c d l : ℕ) → Reached sh p h → c < sh.cores → d < sh.dirs → home sh l ≡ d → 1 ≤ live (LoadOf l) (h.world.net (Core c) (Dir d))
     → (h.world.cores c).after d < (h.world.dirs d).serving.serving → has_mark (h.world.dirs d).lines l ≡ false → Moves sh p h.world
 unfolding pair
-load_moves sh p gs ys h c d l k i j e n b u = go (load_waits sh (h.world.dirs d) c l ((h.world.cores c).after d) f.msg f.passes (carries (passes (LoadNot ((h.world.cores c).after d)) f.msg) refl) b u)
+load_moves sh p h c d l k i j e n b u = go (load_waits sh (h.world.dirs d) c l ((h.world.cores c).after d) f.msg f.passes (carries (passes (LoadNot ((h.world.cores c).after d)) f.msg) refl) b u)
   where
     f : Found (LoadOf l) (h.world.net (Core c) (Dir d))
     f = found (LoadOf l) (h.world.net (Core c) (Dir d)) n
@@ -68,4 +68,4 @@ load_moves sh p gs ys h c d l k i j e n b u = go (load_waits sh (h.world.dirs d)
 
     go : (is_answer (dir_deliver sh (h.world.dirs d) c f.msg) ≡ true) ⊎ IsAsked (h.world.dirs d) l → Moves sh p h.world
     go (inl a) = out_moves sh p h.world c d f.at f.msg i j f.there a
-    go (inr a) = owner_moves sh p gs ys h d l k j inside e a
+    go (inr a) = owner_moves sh p h d l k j inside e a

@@ -68,9 +68,9 @@ held sh p w c d t l n = go (live (Grants t) (w.net Vendor (Core c))) refl
     go zero e = inr (record { core = c; below = l; has = one (has_tid (w.cores c).phase t) (omega (arith, e)) })
 
 -- a served TID that was given up: a Skip or an Abort is on its way
-given_up : (sh : Shape) (p : Program) (gs : List Grant) (ys : Ways) (h : History) (d : ℕ) → Reached sh p gs ys h → d < sh.dirs → is_given_up (ys d (h.world.dirs d).serving.serving) ≡ true → Moves sh p h.world
+given_up : (sh : Shape) (p : Program) (h : History) (d : ℕ) (k : Reached sh p h) → d < sh.dirs → is_given_up (k.ways d (h.world.dirs d).serving.serving) ≡ true → Moves sh p h.world
 unfolding share given_up_by pair
-given_up sh p gs ys h d k i g =
+given_up sh p h d k i g =
     let r = some-part (share (given_up_by t) h.world d) sh.cores told in
     go r.0 (r.1) (live (Skips t) (h.world.net (Core r.0) (Dir d))) refl (r.2)
   where
@@ -92,9 +92,9 @@ given_up sh p gs ys h d k i g =
     go c l zero e n = out_counted sh p h.world (Aborts t) c d l i (abort_taken sh (h.world.dirs d) c t) (omega (arith, e))
 
 -- acknowledgements that are owed are on their way, or their invalidations are
-owed_moves : (sh : Shape) (p : Program) (gs : List Grant) (ys : Ways) (h : History) (d : ℕ) → Reached sh p gs ys h → d < sh.dirs → 1 ≤ (h.world.dirs d).owed → Moves sh p h.world
+owed_moves : (sh : Shape) (p : Program) (h : History) (d : ℕ) → Reached sh p h → d < sh.dirs → 1 ≤ (h.world.dirs d).owed → Moves sh p h.world
 unfolding share due pair
-owed_moves sh p gs ys h d k i o =
+owed_moves sh p h d k i o =
     let r = some-part (share due h.world d) sh.cores (omega (arith, k.carried.owed_counts_invs_and_acks.owed d)) in
     go r.0 (r.1) (live Invs (h.world.net (Dir d) (Core r.0))) refl (r.2)
   where
@@ -103,8 +103,8 @@ owed_moves sh p gs ys h d k i o =
     go c l zero e n = out_counted sh p h.world Acks c d l i (ack_taken sh (h.world.dirs d) c) (omega (arith, e))
 
 -- a committed TID that is served
-committed : (sh : Shape) (p : Program) (gs : List Grant) (ys : Ways) (h : History) (d : ℕ) → Reached sh p gs ys h → d < sh.dirs → ys d (h.world.dirs d).serving.serving ≡ Committed → Moves sh p h.world
-committed sh p gs ys h d k i y = go (total sent sh.cores) refl
+committed : (sh : Shape) (p : Program) (h : History) (d : ℕ) (k : Reached sh p h) → d < sh.dirs → k.ways d (h.world.dirs d).serving.serving ≡ Committed → Moves sh p h.world
+committed sh p h d k i y = go (total sent sh.cores) refl
   where
     t : ℕ
     t = (h.world.dirs d).serving.serving
@@ -112,24 +112,24 @@ committed sh p gs ys h d k i y = go (total sent sh.cores) refl
     sent : ℕ → ℕ
     sent c = live (Commits t) (h.world.net (Core c) (Dir d))
 
-    settled : Settled sh ys h.world d t → Moves sh p h.world
+    settled : Settled sh k.ways h.world d t → Moves sh p h.world
     settled s = either ((k.carried.each_tid_is_resolved_in_one_way.2 d t i (k.fits.serves d)).settled s)
       where
         either : (t < (h.world.dirs d).serving.serving) ⊎ (((h.world.dirs d).serving.serving ≡ t) × (1 ≤ (h.world.dirs d).owed)) → Moves sh p h.world
         either (inl l) = absurd (omega arith)
-        either (inr o) = owed_moves sh p gs ys h d k i (o.1)
+        either (inr o) = owed_moves sh p h d k i (o.1)
 
     go : (x : ℕ) → total sent sh.cores ≡ x → Moves sh p h.world
-    go (suc x) e = let r = some-part sent sh.cores (omega (arith, e)) in commit_moves sh p gs ys h r.0 d t k (r.1) i (r.2)
+    go (suc x) e = let r = some-part sent sh.cores (omega (arith, e)) in commit_moves sh p h r.0 d t k (r.1) i (r.2)
     go zero e = settled (record { committed = y; handled = λ c l. omega (arith, total-le sent sh.cores c l, e) })
 
-pub serving_stands : (sh : Shape) (p : Program) (gs : List Grant) (ys : Ways) (h : History) (d : ℕ) → Reached sh p gs ys h → d < sh.dirs → Moves sh p h.world ⊎ ((h.world.next ≤ (h.world.dirs d).serving.serving) ⊎ IsHeld sh h.world (h.world.dirs d).serving.serving)
-serving_stands sh p gs ys h d k i = go (ys d t) refl
+pub serving_stands : (sh : Shape) (p : Program) (h : History) (d : ℕ) → Reached sh p h → d < sh.dirs → Moves sh p h.world ⊎ ((h.world.next ≤ (h.world.dirs d).serving.serving) ⊎ IsHeld sh h.world (h.world.dirs d).serving.serving)
+serving_stands sh p h d k i = go (k.ways d t) refl
   where
     t : ℕ
     t = (h.world.dirs d).serving.serving
 
-    open_at : ys d t ≡ Untold → (t < h.world.next) ⊎ (h.world.next ≤ t) → Moves sh p h.world ⊎ ((h.world.next ≤ t) ⊎ IsHeld sh h.world t)
+    open_at : k.ways d t ≡ Untold → (t < h.world.next) ⊎ (h.world.next ≤ t) → Moves sh p h.world ⊎ ((h.world.next ≤ t) ⊎ IsHeld sh h.world t)
     open_at y (inr l) = inr (inl l)
     open_at y (inl l) = let r = k.carried.open_tid_is_live d t i (k.fits.serves d) l y in with_core (held sh p h.world r.0 d t (r.1) (r.2))
       where
@@ -137,8 +137,8 @@ serving_stands sh p gs ys h d k i = go (ys d t) refl
         with_core (inl m) = inl m
         with_core (inr a) = inr (inr a)
 
-    go : (y : Way) → ys d t ≡ y → Moves sh p h.world ⊎ ((h.world.next ≤ t) ⊎ IsHeld sh h.world t)
+    go : (y : Way) → k.ways d t ≡ y → Moves sh p h.world ⊎ ((h.world.next ≤ t) ⊎ IsHeld sh h.world t)
     go Untold y = open_at y (cases_lt t h.world.next)
-    go Skipped y = inl (given_up sh p gs ys h d k i (rw y refl))
-    go Aborted y = inl (given_up sh p gs ys h d k i (rw y refl))
-    go Committed y = inl (committed sh p gs ys h d k i y)
+    go Skipped y = inl (given_up sh p h d k i (rw y refl))
+    go Aborted y = inl (given_up sh p h d k i (rw y refl))
+    go Committed y = inl (committed sh p h d k i y)

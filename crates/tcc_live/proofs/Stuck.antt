@@ -20,7 +20,7 @@ use Rattle.tcc_live.proofs.Halted.{IsStill, done}
 use Rattle.tcc_live.proofs.State.{Reached}
 
 -- what holds of a state with all that is proved of it holds of every state that a run reaches
-from_reached : (P : Shape → Program → World → Type 0) → ((sh : Shape) (p : Program) (gs : List Grant) (ys : Ways) (h : History) → Reached sh p gs ys h → P sh p h.world) → InEachState P
+from_reached : (P : Shape → Program → World → Type 0) → ((sh : Shape) (p : Program) (h : History) → Reached sh p h → P sh p h.world) → InEachState P
 from_reached P f sh p entries ram es k = go (run sh p (start entries ram) es) (links_fit sh p entries ram es k.dirs) (runs_carry sh p entries ram es) (runs_stay_in_memory sh p entries ram es k.inside)
   where
     gs : List Grant
@@ -31,7 +31,7 @@ from_reached P f sh p entries ram es k = go (run sh p (start entries ram) es) (l
 
     go : (x : Option History) → IfSome x (λ h. KeptFits sh h.world) → IfSome x (λ h. Carried sh gs ys h) → IfSome x (λ h. CarriedInMemory sh h) → IfSome x (λ h. P sh p h.world)
     go None a b c = tt
-    go (Some h) a b c = f sh p gs ys h (record { equipped = k; fits = a; carried = b; memory = c })
+    go (Some h) a b c = f sh p h (record { grants = gs; ways = ys; equipped = k; fits = a; carried = b; memory = c })
 
 pub each_core_goes_on : InEachState EachGoesOn
 each_core_goes_on = from_reached EachGoesOn each_goes_on
@@ -47,15 +47,15 @@ halted-or : (q : Phase) → (q ≡ Halted) ⊎ (q ≢ Halted)
 halted-or Halted = inl refl
 halted-or q = inr (λ e. absurd (cc))
 
-done_where_none_useful : (sh : Shape) (p : Program) (gs : List Grant) (ys : Ways) (h : History) → Reached sh p gs ys h → DoneWhereNoneUseful sh p h.world
-done_where_none_useful sh p gs ys h k z = done sh p gs ys h k (none_useful sh p h.world z) halted
+done_where_none_useful : (sh : Shape) (p : Program) (h : History) → Reached sh p h → DoneWhereNoneUseful sh p h.world
+done_where_none_useful sh p h k z = done sh p h k (none_useful sh p h.world z) halted
   where
     halted : (c : ℕ) → c < sh.cores → (h.world.cores c).phase ≡ Halted
     halted c l = go (halted-or (h.world.cores c).phase)
       where
         go : ((h.world.cores c).phase ≡ Halted) ⊎ ((h.world.cores c).phase ≢ Halted) → (h.world.cores c).phase ≡ Halted
         go (inl e) = e
-        go (inr n) = absurd (let g = each_goes_on sh p gs ys h k c l n in none_useful sh p h.world z g.event g.is_useful)
+        go (inr n) = absurd (let g = each_goes_on sh p h k c l n in none_useful sh p h.world z g.event g.is_useful)
 
 pub no_state_is_stuck : InEachState DoneWhereNoneUseful
 no_state_is_stuck = from_reached DoneWhereNoneUseful done_where_none_useful
