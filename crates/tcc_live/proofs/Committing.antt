@@ -1,6 +1,6 @@
 -- A TID that commits goes on: where a Commit is in flight, a Mark of its TID can be delivered, or makes the owner of its line answer, or
 -- all lines are marked and the Commit is taken.
-use Rattle.std.specs.Prelude.{ℕ, zero, suc, ◌+◌, ◌≡◌, ◌<◌, ◌≤◌, Bool, true, false, ◌==◌, ◌&&◌, List}
+use Rattle.std.specs.Prelude.{ℕ, zero, suc, ◌+◌, ◌≡◌, ◌<◌, ◌≤◌, Bool, true, false, ◌==◌, ◌&&◌}
 use Rattle.std.proofs.Common.{arith, refl, ap, ◌⊎◌, inl, inr}
 use Rattle.std.proofs.lemmas.Bool.Decides.{nat_tests}
 use Rattle.tcc_program.specs.Program.{Program}
@@ -14,9 +14,7 @@ use Rattle.tcc_rules.specs.DirDeliver.{dir_deliver, total}
 use Rattle.tcc_serial.specs.Count.{Commits, CommitOf, MarkOf, MarksAway, live, passes}
 use Rattle.tcc_serial.specs.Counted.{CountsMarks}
 use Rattle.tcc_serial.specs.Marks.{marks_of}
-use Rattle.tcc_serial.specs.Owners.{Grant}
 use Rattle.tcc_serial.specs.Pairs.{pair}
-use Rattle.tcc_serial.specs.Ways.{Ways}
 use Rattle.tcc_serial.proofs.Lemmas.{total-le, some-part}
 use Rattle.tcc_live.proofs.Events.{Moves, is_answer, out_moves}
 use Rattle.tcc_live.proofs.Found.{Found, found, counted}

@@ -1,5 +1,5 @@
 -- Each core that hasn't halted goes on, by an event that is no other core's request for a TID.
-use Rattle.std.specs.Prelude.{ℕ, zero, suc, ◌+◌, ◌≡◌, ◌<◌, ◌≤◌, Bool, true, false, List, Option, Some, None}
+use Rattle.std.specs.Prelude.{ℕ, zero, suc, ◌+◌, ◌≡◌, ◌<◌, ◌≤◌, Bool, true, false, Option, Some, None}
 use Rattle.std.proofs.Common.{arith, refl, ◌⊎◌, inl, inr}
 use Rattle.std.proofs.lemmas.Bool.Decides.{nat_tests}
 use Rattle.tcc_program.specs.Program.{Program}
@@ -10,10 +10,8 @@ use Rattle.tcc_maps.specs.Shape.{Shape}
 use Rattle.tcc_rules.specs.State.{Awaited, Phase, Running, AwaitTid, DoomedTid, Probing, Ready, Overflowing, Solo, Halted}
 use Rattle.tcc_rules.specs.Step.{History}
 use Rattle.tcc_serial.specs.Count.{Asks, AnyGrant, live, passes}
-use Rattle.tcc_serial.specs.Owners.{Grant}
 use Rattle.tcc_serial.specs.Pairs.{pair}
 use Rattle.tcc_serial.specs.Tids.{waits_for_tid, has_tid}
-use Rattle.tcc_serial.specs.Ways.{Ways}
 use Rattle.tcc_live.specs.Fits.{is_grant}
 use Rattle.tcc_live.specs.Progress.{GoesOn, EachGoesOn}
 use Rattle.tcc_live.proofs.Events.{Moves, goes_on, grant_counted, ask_goes_on}

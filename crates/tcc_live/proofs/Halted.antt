@@ -1,6 +1,6 @@
 -- Where all cores have halted each message left can be delivered, and each frame with dirty words can be emptied; so where nothing is
 -- useful all is done.
-use Rattle.std.specs.Prelude.{ℕ, zero, suc, ◌+◌, ◌≡◌, ◌<◌, ◌≤◌, Bool, true, false, not, cond, ◌==◌, ◌&&◌, ◌||◌, List, Contains, Option, Some, None, is_some}
+use Rattle.std.specs.Prelude.{ℕ, zero, suc, ◌+◌, ◌≡◌, ◌<◌, ◌≤◌, Bool, true, false, not, cond, ◌==◌, ◌&&◌, ◌||◌, Option, Some, None, is_some}
 use Rattle.std.proofs.Common.{arith, refl, ◌⊎◌, inl, inr}
 use Rattle.std.proofs.lemmas.Bool.{cases_lt}
 use Rattle.std.proofs.lemmas.Bool.Decides.{nat_tests}
@@ -20,9 +20,7 @@ use Rattle.tcc_rules.specs.Useful.{is_useful, holds_written}
 use Rattle.tcc_serial.specs.Copies.{copies_with}
 use Rattle.tcc_serial.specs.Count.{LoadOf, CopyOf, Commits, Marks, Probes, LinesAway, live, passes}
 use Rattle.tcc_serial.specs.OneCore.{executes, Empty}
-use Rattle.tcc_serial.specs.Owners.{Grant}
 use Rattle.tcc_serial.specs.Pairs.{pair}
-use Rattle.tcc_serial.specs.Ways.{Ways}
 use Rattle.tcc_serial.specs.Wrote.{wrote_line}
 use Rattle.tcc_live.specs.Fits.{goes_to_dir, fits}
 use Rattle.tcc_live.proofs.Committing.{commit_moves}

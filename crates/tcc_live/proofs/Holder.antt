@@ -1,5 +1,5 @@
 -- The core that has the least TID goes on: every directory serves it or a later one.
-use Rattle.std.specs.Prelude.{ℕ, zero, suc, ◌+◌, ◌-◌, ◌≡◌, ◌<◌, ◌≤◌, Bool, true, false, ◌==◌, ◌&&◌, List, Contains, Option, Some, None}
+use Rattle.std.specs.Prelude.{ℕ, zero, suc, ◌+◌, ◌-◌, ◌≡◌, ◌<◌, ◌≤◌, Bool, true, false, ◌==◌, ◌&&◌, Contains, Option, Some, None}
 use Rattle.std.proofs.Common.{arith, refl, ◌⊎◌, inl, inr}
 use Rattle.std.proofs.lemmas.Bool.{cases_lt}
 use Rattle.std.proofs.lemmas.Bool.Decides.{nat_tests}
@@ -19,10 +19,9 @@ use Rattle.tcc_serial.specs.Copies.{stored_there}
 use Rattle.tcc_serial.specs.Count.{Probes, Replies, LoadOf, FillOf, live, passes}
 use Rattle.tcc_serial.specs.Marks.{marks_of, has_marked}
 use Rattle.tcc_serial.specs.OneCore.{awaits_replies}
-use Rattle.tcc_serial.specs.Owners.{Grant, holder, times}
+use Rattle.tcc_serial.specs.Owners.{holder, times}
 use Rattle.tcc_serial.specs.Pairs.{pair}
 use Rattle.tcc_serial.specs.Tids.{has_tid, opens}
-use Rattle.tcc_serial.specs.Ways.{Ways}
 use Rattle.tcc_serial.proofs.Lemmas.{total-le, some-part, numbered-least, last-most, granted-at, times-listed}
 use Rattle.tcc_live.specs.Fits.{goes_to_core}
 use Rattle.tcc_live.proofs.Events.{Moves, is_answer, exec_moves, back_counted, out_counted}

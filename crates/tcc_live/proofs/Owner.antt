@@ -1,6 +1,6 @@
 -- The owner answers: where a line is owned and its words were asked for, the request can be delivered to the owner, or words that it
 -- has sent are taken; so a message that only waits for an owner can go on.
-use Rattle.std.specs.Prelude.{ℕ, zero, suc, ◌+◌, ◌≡◌, ◌<◌, ◌≤◌, Bool, true, false, List}
+use Rattle.std.specs.Prelude.{ℕ, zero, suc, ◌+◌, ◌≡◌, ◌<◌, ◌≤◌, Bool, true, false}
 use Rattle.std.proofs.Common.{arith, refl, ap, ◌⊎◌, inl, inr}
 use Rattle.std.proofs.lemmas.Bool.Decides.{nat_tests}
 use Rattle.tcc_program.specs.Program.{Program}
@@ -11,9 +11,7 @@ use Rattle.tcc_rules.specs.State.{DirState}
 use Rattle.tcc_rules.specs.Step.{History}
 use Rattle.tcc_rules.specs.DirDeliver.{dir_deliver}
 use Rattle.tcc_serial.specs.Count.{DataOf, CopyOf, LoadOf, LoadNot, live, passes}
-use Rattle.tcc_serial.specs.Owners.{Grant}
 use Rattle.tcc_serial.specs.Pairs.{pair}
-use Rattle.tcc_serial.specs.Ways.{Ways}
 use Rattle.tcc_live.specs.Fits.{goes_to_core}
 use Rattle.tcc_live.proofs.Events.{Moves, is_answer, back_counted, out_counted, out_moves}
 use Rattle.tcc_live.proofs.Found.{Found, found, counted}

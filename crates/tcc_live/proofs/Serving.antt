@@ -1,5 +1,5 @@
 -- Serving stands: the TID that a directory serves is the vendor's next, or a core has it; else some message about it can go on.
-use Rattle.std.specs.Prelude.{ℕ, zero, suc, ◌+◌, ◌≡◌, ◌<◌, ◌≤◌, Bool, true, false, List, nat_lt}
+use Rattle.std.specs.Prelude.{ℕ, zero, suc, ◌+◌, ◌≡◌, ◌<◌, ◌≤◌, Bool, true, false, nat_lt}
 use Rattle.std.proofs.Common.{arith, refl, ◌⊎◌, inl, inr}
 use Rattle.std.proofs.lemmas.Bool.{cases_lt}
 use Rattle.std.proofs.lemmas.Bool.Decides.{nat_tests}
@@ -13,10 +13,10 @@ use Rattle.tcc_rules.specs.Step.{History}
 use Rattle.tcc_rules.specs.DirDeliver.{dir_deliver, total}
 use Rattle.tcc_serial.specs.Count.{Grants, Commits, Skips, Aborts, Invs, Acks, live, passes}
 use Rattle.tcc_serial.specs.Owed.{due}
-use Rattle.tcc_serial.specs.Owners.{Grant, holder}
+use Rattle.tcc_serial.specs.Owners.{holder}
 use Rattle.tcc_serial.specs.Pairs.{pair, share}
 use Rattle.tcc_serial.specs.Tids.{has_tid}
-use Rattle.tcc_serial.specs.Ways.{Way, Untold, Skipped, Aborted, Committed, Ways}
+use Rattle.tcc_serial.specs.Ways.{Way, Untold, Skipped, Aborted, Committed}
 use Rattle.tcc_serial.specs.WayLaws.{Settled, is_given_up, given_up_by}
 use Rattle.tcc_serial.proofs.Lemmas.{total-le, some-part}
 use Rattle.tcc_live.specs.Fits.{goes_to_core, is_grant}

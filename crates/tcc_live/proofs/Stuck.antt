@@ -2,18 +2,20 @@
 use Rattle.std.specs.Prelude.{ℕ, ◌≡◌, ◌≢◌, ◌<◌, List, [], Option, Some, None, IfSome}
 use Rattle.std.proofs.Common.{refl, ◌⊎◌, inl, inr}
 use Rattle.tcc_program.specs.Program.{Program}
+use Rattle.tcc_maps.specs.Nodes.{Event}
 use Rattle.tcc_maps.specs.Shape.{Shape}
-use Rattle.tcc_rules.specs.Laws.{IsIn}
+use Rattle.tcc_rules.specs.Laws.{IsIn, EndsUseless}
+use Rattle.tcc_rules.specs.Picked.{picked}
 use Rattle.tcc_rules.specs.State.{Phase, Halted, World, start}
 use Rattle.tcc_rules.specs.Step.{History, run}
 use Rattle.tcc_rules.specs.Useful.{useful}
-use Rattle.tcc_rules.proofs.Useful.{useful-holds}
+use Rattle.tcc_rules.proofs.Lemmas.{useful-holds, picked-is_run}
 use Rattle.tcc_serial.specs.Invariants.{Carried, CarriedInMemory, first_state}
 use Rattle.tcc_serial.specs.Owners.{Grant, grants_from}
 use Rattle.tcc_serial.specs.Ways.{Ways, first_ways, ways_from}
 use Rattle.tcc_serial.proofs.Lemmas.{runs_carry, runs_stay_in_memory}
 use Rattle.tcc_live.specs.Fits.{KeptFits}
-use Rattle.tcc_live.specs.Progress.{InEachState, EachGoesOn, DoneWhereNoneUseful}
+use Rattle.tcc_live.specs.Progress.{InEachState, EachGoesOn, DoneWhereNoneUseful, EndsDone, PickedEndsDone}
 use Rattle.tcc_live.proofs.FitSteps.{links_fit}
 use Rattle.tcc_live.proofs.GoesOn.{each_goes_on}
 use Rattle.tcc_live.proofs.Halted.{IsStill, done}
@@ -59,3 +61,17 @@ done_where_none_useful sh p h k z = done sh p h k (none_useful sh p h.world z) h
 
 pub no_state_is_stuck : InEachState DoneWhereNoneUseful
 no_state_is_stuck = from_reached DoneWhereNoneUseful done_where_none_useful
+
+-- a chooser stops early only where none is useful
+pub picked_ends_done : PickedEndsDone
+picked_ends_done sh p entries ram rs k l = go (run sh p w es) (no_state_is_stuck sh p entries ram es k) ((picked-is_run sh p rs w).ends l)
+  where
+    w : World
+    w = start entries ram
+
+    es : List Event
+    es = picked sh p rs w
+
+    go : (o : Option History) → IfSome o (λ h. DoneWhereNoneUseful sh p h.world) → EndsUseless sh p o → EndsDone sh o
+    go None a b = tt
+    go (Some h) a b = a b

@@ -1,11 +1,12 @@
 -- No state is stuck: what is useful in each state that a run reaches.
-use Rattle.std.specs.Prelude.{ℕ, ◌≡◌, ◌≢◌, ◌<◌, ◌≤◌, Bool, true, List, [], IfSome, ◌==◌}
+use Rattle.std.specs.Prelude.{ℕ, ◌≡◌, ◌≢◌, ◌<◌, ◌≤◌, Bool, true, List, [], length, Option, IfSome, ◌==◌}
 use Rattle.tcc_program.specs.Program.{Local, Program}
 use Rattle.tcc_maps.specs.Nodes.{Core, Vendor, Event, Deliver}
 use Rattle.tcc_maps.specs.Shape.{Shape}
 use Rattle.tcc_rules.specs.State.{World, Halted, start}
+use Rattle.tcc_rules.specs.Picked.{picked}
 use Rattle.tcc_rules.specs.Seen.{IsDone}
-use Rattle.tcc_rules.specs.Step.{run}
+use Rattle.tcc_rules.specs.Step.{History, run}
 use Rattle.tcc_rules.specs.Useful.{is_useful, useful}
 use Rattle.tcc_serial.specs.InMemory.{StaysInMemory}
 
@@ -38,3 +39,11 @@ pub record GoesOn (sh : Shape) (p : Program) (w : World) (c : ℕ) : Type 0 wher
 -- For each core that hasn't halted there is one.
 abbrev pub EachGoesOn : Shape → Program → World → Type 0
 EachGoesOn sh p w = (c : ℕ) → c < sh.cores → (w.cores c).phase ≢ Halted → GoesOn sh p w c
+
+-- A schedule that a chooser picks from a list of random words, and that ends before the last word, ends where all is done.
+abbrev pub EndsDone : Shape → Option History → Type 0
+EndsDone sh o = IfSome o (λ h. IsDone sh h.world)
+
+abbrev pub PickedEndsDone : Type 0
+PickedEndsDone = (sh : Shape) (p : Program) (entries : ℕ → Local) (ram : ℕ → ℕ) (rs : List ℕ) → IsEquipped sh p
+    → length (picked sh p rs (start entries ram)) < length rs → EndsDone sh (run sh p (start entries ram) (picked sh p rs (start entries ram)))

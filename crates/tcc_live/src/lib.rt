@@ -3,7 +3,7 @@
 #![tactic(auto)]
 
 ghost use Rattle.tcc_live.specs.Fits.{LinksFitAlways};
-ghost use Rattle.tcc_live.specs.Progress.{InEachState, DoneWhereNoneUseful, EachGoesOn};
+ghost use Rattle.tcc_live.specs.Progress.{InEachState, DoneWhereNoneUseful, EachGoesOn, PickedEndsDone};
 
 /// In every state that a run reaches each message in flight is of a kind that its source says to its destination, both nodes of
 /// the machine; a line's owner is a core of the machine; and each directory serves a TID. There is a directory.
@@ -21,4 +21,10 @@ pub fn no_state_is_stuck()
 /// request for a TID: so no core has to take a place in the order for another one to go on.
 pub fn each_core_goes_on()
     ensures goes_on { InEachState EachGoesOn }
+{}
+
+/// A schedule that a chooser picks from the start, one useful event for each random word, has as many events as there are words, or
+/// ends where all is done.
+pub fn picked_schedules_end_where_all_is_done()
+    ensures done { PickedEndsDone }
 {}

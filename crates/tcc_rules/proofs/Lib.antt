@@ -7,3 +7,4 @@ pub mod Mailed
 pub mod LocalStep
 pub mod Merged
 pub mod Picked
+pub mod Lemmas
