@@ -22,9 +22,10 @@ sources_sum() (
     cd -- "$root" || exit
     export LC_ALL=C
     mapfile -t names < <(crates_of tcc)
+    folders=("${names[@]/#/crates/}")
     {
         for name in "${names[@]}"; do grep -E "^$name( |:)" crates.txt; done
-        find "${names[@]/#/crates/}" -path 'crates/*/src/*' -type f -name '*.rt' -print0 | sort -z | xargs -0 sha256sum
+        find "${folders[@]/%//src}" -type f -name '*.rt' -print0 | sort -z | xargs -0 sha256sum
     } | checksum
 )
 
