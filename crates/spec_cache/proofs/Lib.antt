@@ -19,3 +19,5 @@ pub mod Marked
 pub mod PlaceLaws
 pub mod NotedWays
 pub mod Indexed
+pub mod Counted
+pub mod Counts

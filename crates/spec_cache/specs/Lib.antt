@@ -3,4 +3,5 @@ pub mod Change
 pub mod Held
 pub mod Look
 pub mod Home
+pub mod Useful
 pub mod Places

@@ -23,7 +23,7 @@ use tcc_base::{Config, DirId, LineAddr, Mask, NoMemory, Tagged, Tid, WordAddr};
 /// and the tag of a dirty word. Each call asks that the sets, ways, lines and words that it names exist in the settings.
 #[derive(Debug, Drop)]
 pub struct SpecCache {
-    frames: SetFrames,
+    pub(crate) frames: SetFrames,
 }
 
 impl Model for SpecCache {

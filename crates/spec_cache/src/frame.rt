@@ -68,6 +68,13 @@ impl FrameView {
         !(self.read.0 == 0 && self.modified.0 == 0)
     }
 
+    /// Whether a word is modified or dirty.
+    pub(crate) fn is_written(&self) -> bool
+        ensures { result ≡ not (self.now.modified.0 == 0 && self.now.dirty.0 == 0) }
+    {
+        !(self.modified.0 == 0 && self.dirty.0 == 0)
+    }
+
     /// Marks the word at place `k` read, unless it is modified.
     #[tactic(auto, unfolding(crate::specs::Frame::marked_frame))]
     pub(crate) fn mark_read(&mut self, k: usize)

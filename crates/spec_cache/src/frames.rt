@@ -18,14 +18,14 @@ use crate::ways::Ways;
 use tcc_base::{DirId, LineAddr, Mask, NoMemory, Tagged, Tid, WordAddr};
 
 /// The number of a word's line.
-fn line_of_word(w: WordAddr) -> LineAddr
+pub(crate) fn line_of_word(w: WordAddr) -> LineAddr
     ensures { result.0 ≡ line_of w.0 }
 {
     LineAddr(w.0 / 8)
 }
 
 /// A word's place in its line, below eight.
-fn place_of_word(w: WordAddr) -> usize
+pub(crate) fn place_of_word(w: WordAddr) -> usize
     ensures { result ≡ w.0 % 8 }
 {
     w.0 as usize % 8

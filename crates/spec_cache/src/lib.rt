@@ -10,8 +10,10 @@ mod marks;
 mod masks;
 mod noted;
 mod places;
+mod readers;
 mod set_frames;
 mod slots;
+mod useful;
 mod ways;
 
 pub use cache::SpecCache;
@@ -20,6 +22,7 @@ pub use frames::Frames;
 pub use list_frames::ListFrames;
 pub use look::{Evicted, Invalidated, Look};
 pub use set_frames::SetFrames;
+pub use useful::Wants;
 pub use ways::Ways;
 
 #[cfg(test)]

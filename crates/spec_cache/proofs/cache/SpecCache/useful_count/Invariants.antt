@@ -1,0 +1,10 @@
+use Rattle.std.proofs.Common.{◌≡◌, ◌≤◌, ◌/◌, get_or, None}
+use Rattle.tcc_maps.specs.Words.{count_below}
+use Rattle.spec_cache.specs.Useful.{useful_in, wants_of}
+use Rattle.spec_cache.proofs.cache.SpecCache.useful_count.Given as goal
+
+abbrev pub invariant-loop-at : goal.invariant-loop-at
+invariant-loop-at l = record {
+  counted : l.count ≡ count_below (λ i. useful_in (wants_of l.wants) (i / l.ways) (get_or l.self-inside.frames.frames i None)) l.at;
+  most : l.count ≤ l.at;
+}

@@ -1,0 +1,153 @@
+// What a core asks of its cache between its changes: single frames, and what all frames hold together.
+ghost use Rattle.std.specs.Prelude.{◌≡◌, ◌<◌, ◌≤◌, ◌+◌, ◌*◌, ◌&&◌, ◌==◌, ℕ, Option, None, Some, MatchOption, OnOk, length, get_or, map};
+ghost use Rattle.tcc_maps.specs.Words.{any_below, count_below};
+ghost use Rattle.tcc_maps.specs.Shape.{lines, home};
+ghost use Rattle.tcc_maps.specs.Cache.{keeps as keeps_word, is_marked as marked_line, is_modified as modified_line, is_dirty as dirty_line, writes_at as any_write, marks_by_home as every_mark};
+ghost use Rattle.tcc_maps.specs.CacheUse.{useful_ways};
+ghost use Rattle.spec_cache.specs.Held.{IsHeld, maps};
+ghost use Rattle.spec_cache.specs.Home.{mark_of};
+ghost use Rattle.spec_cache.specs.Useful.{wants_of};
+
+use crate::cache::SpecCache;
+use crate::frames::{line_of_word, place_of_word};
+use crate::marks::written;
+use crate::masks::has;
+use crate::useful::{Wants, is_dirty};
+use crate::ways::Ways;
+use tcc_base::{Config, DirId, LineAddr, Mask, NoMemory, WordAddr};
+
+impl SpecCache {
+    /// The machine's settings.
+    pub fn config(&self) -> Config
+        ensures { result ≡ self.now.config }
+    {
+        self.frames.config()
+    }
+
+    /// Whether the line has a frame.
+    pub fn has_frame(&self, line: LineAddr) -> bool
+        ensures { result ≡ (maps self.now).held line.0 }
+    {
+        self.frames.find(line).is_some()
+    }
+
+    /// Whether the line has a frame with a valid word.
+    pub fn keeps(&self, line: LineAddr) -> bool
+        ensures { result ≡ keeps_word (maps self.now) line.0 }
+    {
+        match self.frames.find(line) {
+            None => false,
+            Some((_, frame)) => frame.valid.0 != 0,
+        }
+    }
+
+    /// Whether the word is modified.
+    pub fn is_modified(&self, w: WordAddr) -> bool
+        ensures { result ≡ (maps self.now).modified w.0 }
+    {
+        match self.frames.find(line_of_word(w)) {
+            None => false,
+            Some((_, frame)) => has(frame.modified.0, place_of_word(w)),
+        }
+    }
+
+    /// The line of a way, and whether its frame is marked; None exactly where the way holds no line.
+    pub fn way(&self, set: u16, way: u8) -> Option<(LineAddr, bool)>
+        requires set_exists { set < self.now.config.sets }
+        requires way_exists { way < self.now.config.ways }
+        ensures { MatchOption result ((maps self.now).at set way ≡ None) (λ p. ((maps self.now).at set way ≡ Some p.0.0) × (p.1 ≡ marked_line (maps self.now) p.0.0)) }
+    {
+        match self.frames.way(self.frames.place_of_way(set, way)) {
+            None => None,
+            Some(frame) => Some((frame.line, frame.is_marked())),
+        }
+    }
+
+    /// The number of ways, of all sets.
+    fn way_count(&self) -> usize
+        ensures value { result ≡ self.now.config.sets * self.now.config.ways }
+        ensures below { result ≤ 16384 }
+        ensures in_order { IsHeld self.now }
+    {
+        let cfg = self.frames.config();
+        cfg.sets() as usize * cfg.ways() as usize
+    }
+
+    /// The number of lines at home at the directory that have modified words.
+    pub fn write_count(&self, d: DirId) -> u32
+        ensures { result ≡ count_below (λ l. d.0 == home self.now.config l && modified_line (maps self.now) l) (lines self.now.config) }
+    {
+        let dirs = self.frames.config().dirs();
+        let mut count = 0;
+        for at in 0..self.way_count() {
+            if written(&self.frames.way(at), d.0, dirs).is_some() {
+                count += 1;
+            }
+        }
+        count
+    }
+
+    /// Whether a line at home at the directory has modified words.
+    pub fn writes_at(&self, d: DirId) -> bool
+        ensures { result ≡ any_write self.now.config (maps self.now) d.0 }
+    {
+        self.write_count(d) != 0
+    }
+
+    /// Puts the lines at home at the directory that have modified words into the list, in rising order, each with the mask of these
+    /// words, in place of what the list held. Takes no memory where the list has room for them.
+    pub fn marks_into(&self, d: DirId, marks: &mut Vec<(LineAddr, Mask)>) -> Result<(), NoMemory>
+        ensures { OnOk result (map mark_of marks.new.items ≡ every_mark self.now.config (maps self.now) d.0) }
+    {
+        *marks = self.marks_by_home(d)?;
+        Ok(())
+    }
+
+    /// Whether any word is dirty.
+    pub fn any_dirty(&self) -> bool
+        ensures { result ≡ any_below (dirty_line (maps self.now)) (lines self.now.config) }
+    {
+        let mut count = 0usize;
+        for at in 0..self.way_count() {
+            if is_dirty(&self.frames.way(at)) {
+                count += 1;
+            }
+        }
+        count != 0
+    }
+
+    /// How many ways may be emptied with use.
+    pub fn useful_count(&self, wants: Wants) -> usize
+        ensures { result ≡ length (useful_ways self.now.config (wants_of wants) (maps self.now)) }
+    {
+        let ways = self.frames.config().ways() as usize;
+        let mut count = 0;
+        for at in 0..self.way_count() {
+            if wants.finds(at / ways, &self.frames.way(at)) {
+                count += 1;
+            }
+        }
+        count
+    }
+
+    /// The set and way of the `k`-th way that may be emptied with use, from 0, in the order of set and way; None exactly where
+    /// there are no more than `k`.
+    pub fn useful_way(&self, wants: Wants, k: usize) -> Option<(u16, u8)>
+        ensures {
+            let all = useful_ways self.now.config (wants_of wants) (maps self.now) in
+            MatchOption result (length all ≤ k) (λ p. (k < length all) × (p.0 < self.now.config.sets) × (p.1 < self.now.config.ways) × (get_or all k 0 ≡ p.0 * self.now.config.ways + p.1))
+        }
+    {
+        let ways = self.frames.config().ways() as usize;
+        let mut left = k;
+        for at in 0..self.way_count() {
+            if wants.finds(at / ways, &self.frames.way(at)) {
+                if left == 0 {
+                    return Some(((at / ways) as u16, (at % ways) as u8));
+                }
+                left -= 1;
+            }
+        }
+        None
+    }
+}

@@ -1,0 +1,83 @@
+// Which ways of a cache may be emptied with use.
+ghost use Rattle.std.specs.Prelude.{◌≡◌, ◌&&◌, ◌||◌, not};
+ghost use Rattle.tcc_maps.specs.CacheUse.{is_number};
+ghost use Rattle.spec_cache.specs.Useful.{wants_of, is_marked_frame, is_written_frame, useful_in, dirty_way};
+
+use crate::frame::FrameView;
+use tcc_base::LineAddr;
+
+/// What decides, beside the cache, which of its ways may be emptied with use.
+#[derive(Clone, Copy, Debug, PartialEq, Eq)]
+pub struct Wants {
+    /// The core is alone, so that marked frames may be emptied too.
+    pub alone: bool,
+    /// The line that the core awaits, which stays.
+    pub awaited: Option<LineAddr>,
+    /// The set in which the core waits for room.
+    pub room: Option<u16>,
+}
+
+impl Wants {
+    /// Whether the core awaits this line.
+    fn awaits(&self, line: LineAddr) -> bool
+        ensures { result ≡ is_number (wants_of self.now).awaited line.0 }
+    {
+        match self.awaited {
+            None => false,
+            Some(awaited) => awaited.0 == line.0,
+        }
+    }
+
+    /// Whether the core waits for room in this set.
+    fn wants_room(&self, set: usize) -> bool
+        ensures { result ≡ is_number self.now.room set }
+    {
+        match self.room {
+            None => false,
+            Some(room) => room as usize == set,
+        }
+    }
+
+    /// Whether the frame is marked, and such frames aren't emptied.
+    fn spares(&self, frame: &FrameView) -> bool
+        ensures { result ≡ not self.now.alone && is_marked_frame frame.now }
+    {
+        !self.alone && frame.is_marked()
+    }
+
+    /// Whether the frame isn't emptied.
+    fn keeps(&self, frame: &FrameView) -> bool
+        ensures { result ≡ is_number (wants_of self.now).awaited frame.now.line.0 || (not self.now.alone && is_marked_frame frame.now) }
+    {
+        self.awaits(frame.line) || self.spares(frame)
+    }
+
+    /// Whether it is of use to empty the frame, of a way of this set.
+    fn gains(&self, set: usize, frame: &FrameView) -> bool
+        ensures { result ≡ is_written_frame frame.now || is_number self.now.room set }
+    {
+        frame.is_written() || self.wants_room(set)
+    }
+
+    /// Whether the way, of this set, may be emptied with use.
+    #[tactic(auto, unfolding(crate::specs::Useful::useful_in))]
+    pub(crate) fn finds(&self, set: usize, way: &Option<FrameView>) -> bool
+        ensures { result ≡ useful_in (wants_of self.now) set way.now }
+    {
+        match way {
+            None => false,
+            Some(frame) => !self.keeps(frame) && self.gains(set, frame),
+        }
+    }
+}
+
+/// Whether the way holds a frame with a dirty word.
+#[tactic(auto, unfolding(crate::specs::Useful::dirty_way))]
+pub(crate) fn is_dirty(way: &Option<FrameView>) -> bool
+    ensures { result ≡ dirty_way way.now }
+{
+    match way {
+        None => false,
+        Some(frame) => frame.dirty.0 != 0,
+    }
+}
