@@ -1,4 +1,4 @@
-// The words that an attempt stored and that no longer have a frame in the cache, kept until it commits.
+// The words that an attempt stored and that no frame of the cache has as modified, kept until it commits.
 #![tactic(auto)]
 
 mod buffer;

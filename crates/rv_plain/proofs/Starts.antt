@@ -1,5 +1,5 @@
 -- The machine before its first transaction, told by its parts.
-use Rattle.std.proofs.Common.{ℕ, ◌≡◌, ◌<◌, ◌/◌, List, length, slice_index, slice_index_or, arith, inl, inr}
+use Rattle.std.proofs.Common.{ℕ, ◌≡◌, ◌<◌, ◌/◌, ◌%◌, ◌^◌, List, length, slice_index, slice_index_or, arith, inl, inr}
 use Rattle.std.proofs.lemmas.Bool.{cases_lt}
 use Rattle.std.proofs.lemmas.Grind.{common_steps}
 use Rattle.image_load.specs.Contents.{Contents}
@@ -12,7 +12,7 @@ use Rattle.tcc_program.specs.Ram.{flat}
 
 -- words that are the start's up to RAM's end are its RAM, which has none beyond
 pub flat-first : (s : Start) (ram : List ℕ) → length ram ≡ s.settings.ram / 4
-    → ((k : ℕ) → k < s.settings.ram / 4 → slice_index ram k ≡ s.word k) → (w : ℕ) → flat ram w ≡ first_ram s w
+    → ((k : ℕ) → k < s.settings.ram / 4 → slice_index ram k ≡ s.word k % 2 ^ 32) → (w : ℕ) → flat ram w ≡ first_ram s w
 unfolding flat first_ram
 flat-first s ram len same w =
     elim (cases_lt w (s.settings.ram / 4)) [ inl h ↦ grind (arith, common_steps, same w h) | inr h ↦ grind (arith, common_steps) ]

@@ -1,5 +1,5 @@
 -- The program that a machine runs from a start, and the state from which the plain machine begins it.
-use Rattle.std.specs.Prelude.{ℕ, ◌≡◌, Bool, List, [], ◌+◌, ◌/◌, nat_le, nat_lt, if◌then◌else◌, ◌&&◌, Option, Some, None}
+use Rattle.std.specs.Prelude.{ℕ, ◌≡◌, Bool, List, [], ◌+◌, ◌/◌, ◌%◌, ◌^◌, nat_le, nat_lt, if◌then◌else◌, ◌&&◌, Option, Some, None}
 use Rattle.image_load.specs.Start.{Start}
 use Rattle.rv_decode.specs.Decoding.{decoded}
 use Rattle.rv_exec.specs.Running as rv32im
@@ -28,9 +28,9 @@ Fails (Some w) trap = (trap ≡ 2) × (decoded w ≡ None)
 unfoldable pub program : Start → Program
 program s = rv32im.program s.fetch (in_ram s.settings)
 
--- RAM's words at the start, with zeros past its end
+-- RAM's words at the start, 32 bits of each, with zeros past its end
 unfoldable pub first_ram : Start → ℕ → ℕ
-first_ram s w = if nat_lt w (s.settings.ram / 4) then s.word w else 0
+first_ram s w = if nat_lt w (s.settings.ram / 4) then s.word w % 2 ^ 32 else 0
 
 -- a core's registers and pc at the start: x10 is its number, x11 the number of cores
 unfoldable pub start_regs : (cores core : ℕ) → List ℕ

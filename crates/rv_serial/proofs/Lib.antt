@@ -1,3 +1,4 @@
-pub mod Needs
-pub mod FirstWords
+pub mod Given
+pub mod ImageRun
 pub mod MachineRuns
+pub mod Needs

@@ -1,1 +1,3 @@
+pub mod CounterImage
+pub mod Given
 pub mod Suiting

@@ -2,16 +2,12 @@
 // their runs are serial. Each law is the contract of an empty function; nothing here depends on code.
 #![tactic(auto)]
 
-ghost use Rattle.rv_serial.specs.Suiting.{ImagesHaveWords, LoadedHaveWords, RiscvProgramsSuit, RiscvRunsAreSerial};
+ghost use Rattle.rv_serial.specs.CounterImage.{ImagesAreLaid, ImageCounts};
+ghost use Rattle.rv_serial.specs.Given.{RunsGiveThePlainMachine, CommittedTidsWereGrantedOnce};
+ghost use Rattle.rv_serial.specs.Suiting.{RiscvProgramsSuit, RiscvRunsAreSerial};
 
-/// Memory begins with 32-bit words: where images are laid whose bytes are below 256, and where a loaded memory has such bytes.
-pub fn starts_have_words()
-    ensures images { ImagesHaveWords }
-    ensures loaded { LoadedHaveWords }
-{}
-
-/// From each start with settings that are allowed and with 32-bit words, the RISC-V program suits the protocol: each access that
-/// doesn't trap is aligned and lies in RAM, and what is stored fits.
+/// From each start with settings that are allowed the RISC-V program suits the protocol: each access that doesn't trap is aligned
+/// and lies in RAM, what is stored fits, and RAM begins with 32-bit words.
 pub fn riscv_programs_suit()
     ensures suit { RiscvProgramsSuit }
 {}
@@ -20,4 +16,25 @@ pub fn riscv_programs_suit()
 /// what the plain RISC-V machine gives that executes the committed transactions one after another.
 pub fn riscv_runs_are_serial()
     ensures serial { RiscvRunsAreSerial }
+{}
+
+/// The same as one equation: the serial execution of the commits from the plain machine's start gives just these commits, and the
+/// machine that is committed: each word as it is seen, and of each core the checkpoint, whether and how it has halted, and what
+/// its commits printed.
+pub fn runs_give_the_plain_machine()
+    ensures given { RunsGiveThePlainMachine }
+{}
+
+/// Along every run the granted TIDs count from 1, each is granted to one core, and the commits' TIDs rise strictly: each was granted
+/// to the core that commits, and is committed once.
+pub fn committed_tids_were_granted_once()
+    ensures tids { CommittedTidsWereGrantedOnce }
+{}
+
+/// What these laws ask is met: two images of eight instructions on two cores, with settings that are allowed, have a run in which the
+/// first core commits alone after an overflow, and the second after a violation. Both halt; the commits, the cores and the words at
+/// the end are computed.
+pub fn a_riscv_image_runs()
+    ensures laid { ImagesAreLaid }
+    ensures counts { ImageCounts }
 {}

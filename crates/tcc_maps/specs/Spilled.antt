@@ -1,4 +1,5 @@
--- The words that an attempt stored and that no longer have a frame, as a map from the word to its value.
+-- The words that an attempt stored and that no frame has as modified, since theirs was emptied or their line had such a word already,
+-- as a map from the word to its value. The line may have a frame again, for words that are loaded.
 use Rattle.std.specs.Prelude.{ℕ, ◌≤◌, ◌≡◌, Bool, List, map, get_or, Option, Some, None, is_some, unwrap_or, if◌then◌else◌, ◌==◌, ◌&&◌}
 use Rattle.tcc_maps.specs.Words.{those, eight, any_word, line_of, place_of, word_at}
 use Rattle.tcc_maps.specs.Masks.{mask_of, hit}

@@ -1,4 +1,5 @@
--- What a core does with a message. All messages to a core are enabled; one that no rule speaks of is consumed without effect.
+-- What a core does with a message. Those of the kinds that its sender sends to cores are always enabled; where no rule speaks of one,
+-- it is consumed without effect.
 use Rattle.std.specs.Prelude.{ℕ, Bool, true, false, not, List, [], ◌∷◌, ◌++◌, Option, Some, None, nat_lt, ◌==◌, ◌&&◌, ◌||◌, if◌then◌else◌}
 use Rattle.tcc_base.specs.Put.{put}
 use Rattle.tcc_maps.specs.Words.{any_below}

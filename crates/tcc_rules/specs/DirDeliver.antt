@@ -95,7 +95,7 @@ total f (suc n) = total f n + f n
 unfoldable pub owed_by : Shape → Lines → (core : ℕ) → ℕ
 owed_by sh ls c = total (λ j. count_below (is_invalidated sh ls c j) (lines sh)) sh.cores
 
--- each marked line is owned by the committer alone, with the commit's tag
+-- each marked line is owned by the committer, with the commit's tag; other sharers stay until they acknowledge
 unfoldable pub owned : (core tid : ℕ) → Lines → Lines
 owned c t ls = record ls {
   sharers = λ l j. (if has_mark ls l && j == c then true else ls.sharers l j);

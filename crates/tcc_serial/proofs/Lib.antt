@@ -60,6 +60,7 @@ pub mod CoreCounts
 pub mod DirOwes
 pub mod PairCounts
 pub mod CountSteps
+pub mod CounterRun
 pub mod CountsKept
 pub mod PartlyKept
 pub mod AskedKept
@@ -75,6 +76,7 @@ pub mod CoreHomes
 pub mod HomesKept
 pub mod CoreAwaits
 pub mod LoadsKept
+pub mod Computed
 pub mod CoreAfter
 pub mod AfterKept
 pub mod LastOf
@@ -150,6 +152,7 @@ pub mod ReadsKept
 pub mod RunWays
 pub mod ListedCommits
 pub mod ToldSteps
+pub mod NotedBy
 pub mod NotedCommits
 pub mod CoreSkips
 pub mod CoreTells

@@ -4,6 +4,7 @@ pub mod Alone
 pub mod Asked
 pub mod Count
 pub mod Counted
+pub mod Counter
 pub mod Commits
 pub mod Committing
 pub mod Copies
@@ -18,6 +19,7 @@ pub mod Marks
 pub mod Masked
 pub mod MaskLaws
 pub mod Named
+pub mod NotedBy
 pub mod OneCore
 pub mod Owed
 pub mod Owners
@@ -25,6 +27,7 @@ pub mod Pairs
 pub mod Partly
 pub mod Probes
 pub mod Probing
+pub mod Shown
 pub mod Sound
 pub mod SerialKept
 pub mod KeepsViews

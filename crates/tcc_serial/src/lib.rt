@@ -8,9 +8,11 @@ ghost use Rattle.tcc_program.specs.Plain.{steps, begun, Plain, Attempt, Order, s
 ghost use Rattle.tcc_serial.specs.Uses.{Aligned, IsMemory, AgreeOnUsed, Follows};
 ghost use Rattle.tcc_serial.specs.Insertion.{CanInsert, Inserted};
 ghost use Rattle.tcc_serial.specs.Named.{KeptNamed};
+ghost use Rattle.tcc_serial.specs.NotedBy.{CommitsAreByCores};
 ghost use Rattle.tcc_serial.specs.OneCore.{KeptCores};
 ghost use Rattle.tcc_serial.specs.Asked.{KeptAsked};
 ghost use Rattle.tcc_serial.specs.Counted.{KeptCounted};
+ghost use Rattle.tcc_serial.specs.Counter.{CountingSuits, GoesAlone, HasRead, IsViolated, CountsOn};
 ghost use Rattle.tcc_serial.specs.Committing.{CommitsAreServed};
 ghost use Rattle.tcc_serial.specs.Masked.{KeptMasks};
 ghost use Rattle.tcc_serial.specs.MaskLaws.{AlwaysSince, MarkedByServed, MarksOfCommits};
@@ -67,6 +69,11 @@ pub fn directories_that_replied_serve_the_tid()
 pub fn each_tid_commits_at_most_once()
     ensures once { CommitsOnce }
     ensures last { HoldsLast }
+{}
+
+/// Every commit is by a core of the machine.
+pub fn only_cores_of_the_machine_commit()
+    ensures cores { CommitsAreByCores }
 {}
 
 /// What holds of each core by itself: its cache's two ways of finding a line agree, its modified and spilled words are those that
@@ -248,4 +255,15 @@ pub fn every_state_has_all_invariants()
 /// how it has halted, are the plain machine's then; and what is seen of each word is its memory.
 pub fn runs_are_serial()
     ensures serial { RunsAreSerial }
+{}
+
+/// What the theorem asks is met, by a program of a few instructions and a run of it: of two cores that count in the same word the
+/// first goes on alone after an overflow and commits; so the second, which had read the word, is violated, counts anew, and commits
+/// behind it. Both halt; the commits, the cores and the words at the end are computed.
+pub fn a_program_suits_and_runs()
+    ensures suits { CountingSuits }
+    ensures alone { GoesAlone }
+    ensures read { HasRead }
+    ensures violated { IsViolated }
+    ensures counts { CountsOn }
 {}
