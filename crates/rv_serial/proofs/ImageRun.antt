@@ -51,5 +51,6 @@ images_are_laid = ((cores, dirs, sets, ways, ram, base), refl)
     base = (refl, omega arith)
 
 pub image_counts : ImageCounts
-unfolding computed printed changed shown segment_at image_load-word_of all_four raw_images image_load-start inst_of decoded planned results finished rv_exec-program program first_ram in_ram start_regs zeroed register written
+unfolding computed printed changed shown segment_at image_load-word_of all_four raw_images image_load-start inst_of decoded planned
+    results finished rv_exec-program program first_ram in_ram start_regs zeroed register written
 image_counts = refl

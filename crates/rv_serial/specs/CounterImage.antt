@@ -48,7 +48,8 @@ halted_core x5 x10 pc console = record {
 
 abbrev pub ImageCounts : Type 0
 ImageCounts =
-    option_map (shown two_cores (first_ram counter_start)) (run two_cores (program counter_start) (world_at_start counter_start) whole_schedule)
+    option_map (shown two_cores (first_ram counter_start))
+    (run two_cores (program counter_start) (world_at_start counter_start) whole_schedule)
     ≡ Some (record {
       commits = three_commits;
       cores = halted_core 1 0 0x8000001c [] ∷ halted_core 2 1 0x8000003c (1 ∷ []) ∷ [];

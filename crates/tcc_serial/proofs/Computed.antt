@@ -33,5 +33,18 @@ use Rattle.tcc_rules.specs.Step.{insert_commit, next, run_from, run}
 use Rattle.tcc_rules.specs.Seen.{copies_on, copies_of, copies, newest, home_copy, seen}
 
 unfoldable pub computed : Type 0
-unfolding empty_cache is_marked way_marked free_way all_marked is_modified is_dirty modified_mask dirty_mask dirty_words first_of_line dirty_tag dirty_copy written_lines marks_by_home writes_at reads_at keeps marked cachechange-stored placed_at placed filled invalidated cleaned evicted_line evicted rolled_back read_cleared cachechange-committed word_dropped words_dropped look_line look_value look_load look_store reads_masked judge no_lines with_sharer with_owner with_tag with_asked with_mark unmarked has mask_of hit masked first_serving is_skipped serve_from advance skip_at kept skipped none_spilled spill spill_line holds spilled_mask spilled_words spilled_line drained any_below all_below count_below those lowest eight any_word word_of unit_of part patched loaded ram-stored flat stepped finished roll_back noted committed_core commit_sends after_commit commit-commit is_written written_mask solo_writes_at solo_marks solo_backs solo_sends solo_commit is_probed grant_sends grant probe_reply coredeliver-fill data_request if_violated without is_violated acknowledged invalidate core_deliver core_evict core_exec moved_on skip abort probe ask_owner line_words load_request mark is_invalidated invs_to invalidations total owed_by owned settled dirdeliver-commit acknowledgement came_home dirdeliver-write_back dir_deliver ask place overflow full_set fetch used load buffered framed word_store partial_store execute sent_all written_back flushed skip_all probe_all abort_written marks_for core_start dir_start vendor_start start names_nodes happens core_moves core_takes dir_takes dir_asks vendor_gives step is_enabled insert_commit next run_from run copies_on copies_of copies newest home_copy seen
+unfolding empty_cache is_marked way_marked free_way all_marked is_modified is_dirty modified_mask dirty_mask dirty_words
+    first_of_line dirty_tag dirty_copy written_lines marks_by_home writes_at reads_at keeps marked cachechange-stored placed_at
+    placed filled invalidated cleaned evicted_line evicted rolled_back read_cleared cachechange-committed word_dropped words_dropped
+    look_line look_value look_load look_store reads_masked judge no_lines with_sharer with_owner with_tag with_asked with_mark
+    unmarked has mask_of hit masked first_serving is_skipped serve_from advance skip_at kept skipped none_spilled spill spill_line
+    holds spilled_mask spilled_words spilled_line drained any_below all_below count_below those lowest eight any_word word_of
+    unit_of part patched loaded ram-stored flat stepped finished roll_back noted committed_core commit_sends after_commit
+    commit-commit is_written written_mask solo_writes_at solo_marks solo_backs solo_sends solo_commit is_probed grant_sends grant
+    probe_reply coredeliver-fill data_request if_violated without is_violated acknowledged invalidate core_deliver core_evict
+    core_exec moved_on skip abort probe ask_owner line_words load_request mark is_invalidated invs_to invalidations total owed_by
+    owned settled dirdeliver-commit acknowledgement came_home dirdeliver-write_back dir_deliver ask place overflow full_set fetch
+    used load buffered framed word_store partial_store execute sent_all written_back flushed skip_all probe_all abort_written
+    marks_for core_start dir_start vendor_start start names_nodes happens core_moves core_takes dir_takes dir_asks vendor_gives step
+    is_enabled insert_commit next run_from run copies_on copies_of copies newest home_copy seen
 computed = Unit {0}

@@ -3,7 +3,7 @@ use Rattle.std.specs.Prelude.{ℕ, ◌≡◌, ◌<◌, ◌≢◌, Bool, true, fa
 use Rattle.std.proofs.Common.{arith, refl, ap, sym, ◌∙◌}
 use Rattle.std.proofs.lemmas.Bool.Decides.{nat_tests}
 use Rattle.tcc_base.specs.declared.access.Commit.{Commit}
-use Rattle.tcc_program.proofs.Serials.{serial-append}
+use Rattle.tcc_program.proofs.Lemmas.{serial-append}
 use Rattle.tcc_program.specs.Orders.{last_tid}
 use Rattle.tcc_program.specs.Program.{Program}
 use Rattle.tcc_program.specs.Plain.{Attempt, Plain, transaction, Order, commit_of, and_commit, after_order, serial}

@@ -37,8 +37,10 @@ step-by : (sh : Shape) (p : Program) (w : World) (e : Event) → Kept sh w → I
 step-by sh p w e h = step_cases sh p w e (λ g o. NotedByCore sh o.noted)
     (λ c l. out-by sh c _ (w.cores c) (core_exec sh p c (w.cores c)) l (holder-exec sh p c (w.cores c)))
     (λ c x y l. out-by sh c _ (w.cores c) (core_evict sh x y (w.cores c)) l (holder-evict sh x y c (w.cores c)))
-    (λ c k t i. noted-by sh c (grant sh t (w.cores c)).commit (core_of_grant sh w c k (TidGrant t) h.told.tids i) (holder-grant sh t c (w.cores c)).own)
-    (λ c d k m i. out-by sh c _ (w.cores c) (from_dir sh d (w.cores c) m) (core_of_back sh w c d k m h.told.tids i) (holder-back sh d c (w.cores c) m))
+    (λ c k t i. noted-by sh c (grant sh t (w.cores c)).commit (core_of_grant sh w c k (TidGrant t) h.told.tids i)
+    (holder-grant sh t c (w.cores c)).own)
+    (λ c d k m i. out-by sh c _ (w.cores c) (from_dir sh d (w.cores c) m) (core_of_back sh w c d k m h.told.tids i)
+    (holder-back sh d c (w.cores c) m))
     (λ c d k m i. answer c d k (dir_deliver sh (w.dirs d) c m))
     (λ c k i. tt)
   where
@@ -53,7 +55,8 @@ unfolding AreBy insert_commit
 inserted-by sh n [] l k = (grind (arith, nat_tests), tt)
 inserted-by sh n (c ∷ cs) l k = go (nat_lt n.tid.0 c.tid.0) (grind (arith, nat_tests)) (inserted-by sh n cs l (k.1))
   where
-    go : (b : Bool) → is_core sh n.core.0 ≡ true → AreByCores sh (insert_commit n cs) → AreByCores sh (if b then n ∷ c ∷ cs else c ∷ insert_commit n cs)
+    go : (b : Bool) → is_core sh n.core.0 ≡ true → AreByCores sh (insert_commit n cs)
+        → AreByCores sh (if b then n ∷ c ∷ cs else c ∷ insert_commit n cs)
     go true own r = (own, (k.0, k.1))
     go false own r = (k.0, r)
 

@@ -14,6 +14,7 @@ use Rattle.tcc_maps.specs.Shape.{Shape}
 use Rattle.tcc_rules.specs.Rows.{e, x, d, c0, c1, d0, d1, v}
 use Rattle.tcc_rules.specs.State.{Solo, start}
 use Rattle.tcc_rules.specs.Step.{History, run}
+use Rattle.tcc_rules.specs.Useful.{useful}
 use Rattle.tcc_serial.specs.Aim.{Suits}
 use Rattle.tcc_serial.specs.Shown.{shown}
 
@@ -159,3 +160,7 @@ CountsOn = Ran (shown two_cores no_ram) whole_schedule (record {
   cores = halted_core 1 7 0 [] ∷ halted_core 2 15 1 (1 ∷ []) ∷ [];
   words = (16, 2) ∷ (24, 1) ∷ [];
 })
+
+-- no event is useful then
+abbrev pub NothingIsLeft : Type 0
+NothingIsLeft = Ran (λ h. useful two_cores counting h.world) whole_schedule []

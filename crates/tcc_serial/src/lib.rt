@@ -12,7 +12,7 @@ ghost use Rattle.tcc_serial.specs.NotedBy.{CommitsAreByCores};
 ghost use Rattle.tcc_serial.specs.OneCore.{KeptCores};
 ghost use Rattle.tcc_serial.specs.Asked.{KeptAsked};
 ghost use Rattle.tcc_serial.specs.Counted.{KeptCounted};
-ghost use Rattle.tcc_serial.specs.Counter.{CountingSuits, GoesAlone, HasRead, IsViolated, CountsOn};
+ghost use Rattle.tcc_serial.specs.Counter.{CountingSuits, GoesAlone, HasRead, IsViolated, CountsOn, NothingIsLeft};
 ghost use Rattle.tcc_serial.specs.Committing.{CommitsAreServed};
 ghost use Rattle.tcc_serial.specs.Masked.{KeptMasks};
 ghost use Rattle.tcc_serial.specs.MaskLaws.{AlwaysSince, MarkedByServed, MarksOfCommits};
@@ -259,11 +259,12 @@ pub fn runs_are_serial()
 
 /// What the theorem asks is met, by a program of a few instructions and a run of it: of two cores that count in the same word the
 /// first goes on alone after an overflow and commits; so the second, which had read the word, is violated, counts anew, and commits
-/// behind it. Both halt; the commits, the cores and the words at the end are computed.
+/// behind it. Both halt; the commits, the cores and the words at the end are computed, and no event is useful then.
 pub fn a_program_suits_and_runs()
     ensures suits { CountingSuits }
     ensures alone { GoesAlone }
     ensures read { HasRead }
     ensures violated { IsViolated }
     ensures counts { CountsOn }
+    ensures left { NothingIsLeft }
 {}
