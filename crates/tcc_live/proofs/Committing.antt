@@ -5,7 +5,7 @@ use Rattle.std.proofs.Common.{arith, refl, ap, ◌⊎◌, inl, inr}
 use Rattle.std.proofs.lemmas.Bool.Decides.{nat_tests}
 use Rattle.tcc_program.specs.Program.{Program}
 use Rattle.tcc_maps.specs.Words.{num, count_below}
-use Rattle.tcc_maps.specs.Nodes.{Core, Dir, Msg, Mark, Commit}
+use Rattle.tcc_maps.specs.Nodes.{Msg, Mark, Commit}
 use Rattle.tcc_maps.specs.Shape.{Shape, home, lines}
 use Rattle.tcc_maps.specs.Lines.{has_mark}
 use Rattle.tcc_rules.specs.State.{DirState}
@@ -17,16 +17,18 @@ use Rattle.tcc_serial.specs.Marks.{marks_of}
 use Rattle.tcc_serial.specs.Pairs.{pair}
 use Rattle.tcc_serial.proofs.Lemmas.{total-le, some-part}
 use Rattle.tcc_live.proofs.Events.{Moves, is_answer, out_moves}
-use Rattle.tcc_live.proofs.Found.{Found, found, counted}
+use Rattle.tcc_live.proofs.Found.{out, serving_at, Found, found, counted}
 use Rattle.tcc_live.proofs.Owner.{owner_moves}
 use Rattle.tcc_live.proofs.State.{Reached}
 use Rattle.tcc_live.proofs.Waiting.{IsAsked, mark_answered, commit_answered}
 
 -- Marks
 
-mark_waits : (sh : Shape) (s : DirState) (c l t : ℕ) (m : Msg) → passes (MarkOf t l) m ≡ true → t ≤ s.serving.serving → (is_answer (dir_deliver sh s c m) ≡ true) ⊎ IsAsked s l
+mark_waits : (sh : Shape) (s : DirState) (c l t : ℕ) (m : Msg) → passes (MarkOf t l) m ≡ true → t ≤ s.serving.serving
+    → (is_answer (dir_deliver sh s c m) ≡ true) ⊎ IsAsked s l
 unfolding passes dir_deliver
-mark_waits sh s c l t (Mark k n u) q b = let e : k ≡ l = grind (arith, nat_tests) in let f : u ≡ t = grind (arith, nat_tests) in rw (e, f) (mark_answered l n t s b)
+mark_waits sh s c l t (Mark k n u) q b = let e : k ≡ l = grind (arith, nat_tests) in let f : u ≡ t = grind (arith, nat_tests) in
+    rw (e, f) (mark_answered l n t s b)
 mark_waits sh s c l t m q b = absurd (cc)
 
 away : (sh : Shape) (d t l : ℕ) (m : Msg) → passes (MarkOf t l) m ≡ true → passes (MarksAway sh.dirs d) m ≡ false → home sh l ≡ d
@@ -35,17 +37,21 @@ away sh d t l (Mark k n u) q a = let e : k ≡ l = grind (arith, nat_tests) in r
 away sh d t l m q a = absurd (cc)
 
 -- a Mark of a TID that is served or passed
-pub mark_moves : (sh : Shape) (p : Program) (h : History) (c d t l : ℕ) → Reached sh p h → c < sh.cores → d < sh.dirs → l < lines sh → t ≤ (h.world.dirs d).serving.serving
-    → 1 ≤ live (MarkOf t l) (h.world.net (Core c) (Dir d)) → Moves sh p h.world
+pub mark_moves : (sh : Shape) (p : Program) (h : History) (c d t l : ℕ) → Reached sh p h → c < sh.cores → d < sh.dirs → l < lines sh
+    → t ≤ serving_at h.world d → 1 ≤ live (MarkOf t l) (out h.world c d) → Moves sh p h.world
 unfolding pair
 mark_moves sh p h c d t l k i j inside b n = go (mark_waits sh (h.world.dirs d) c l t f.msg f.passes b)
   where
-    f : Found (MarkOf t l) (h.world.net (Core c) (Dir d))
-    f = found (MarkOf t l) (h.world.net (Core c) (Dir d)) n
+    f : Found (MarkOf t l) (out h.world c d)
+    f = found (MarkOf t l) (out h.world c d) n
 
     near : (x : Bool) → passes (MarksAway sh.dirs d) f.msg ≡ x → passes (MarksAway sh.dirs d) f.msg ≡ false
     near false q = q
-    near true q = absurd (omega (arith, counted (MarksAway sh.dirs d) (h.world.net (Core c) (Dir d)) f.at f.msg f.there q, (k.carried.marks_name_different_lines c d t l i j).1))
+    near true q = absurd (omega (
+      arith,
+      counted (MarksAway sh.dirs d) (out h.world c d) f.at f.msg f.there q,
+      (k.carried.marks_name_different_lines c d t l i j).1,
+    ))
 
     go : (is_answer (dir_deliver sh (h.world.dirs d) c f.msg) ≡ true) ⊎ IsAsked (h.world.dirs d) l → Moves sh p h.world
     go (inl a) = out_moves sh p h.world c d f.at f.msg i j f.there a
@@ -73,35 +79,48 @@ count-passes : (t n : ℕ) (m : Msg) → m ≡ Commit t n → passes (CommitOf t
 unfolding passes
 count-passes t n m e = rw e (grind (arith, nat_tests))
 
-commit_taken : (sh : Shape) (s : DirState) (c t n : ℕ) (m : Msg) → m ≡ Commit t n → s.serving.serving ≡ t → count_below (has_mark s.lines) (lines sh) ≡ n → is_answer (dir_deliver sh s c m) ≡ true
+commit_taken : (sh : Shape) (s : DirState) (c t n : ℕ) (m : Msg) → m ≡ Commit t n → s.serving.serving ≡ t
+    → count_below (has_mark s.lines) (lines sh) ≡ n → is_answer (dir_deliver sh s c m) ≡ true
 unfolding dir_deliver
 commit_taken sh s c t n m e b q = rw e (commit_answered sh c t n s b q)
 
-pub commit_moves : (sh : Shape) (p : Program) (h : History) (c d t : ℕ) → Reached sh p h → c < sh.cores → d < sh.dirs → 1 ≤ live (Commits t) (h.world.net (Core c) (Dir d)) → Moves sh p h.world
+pub commit_moves : (sh : Shape) (p : Program) (h : History) (c d t : ℕ) → Reached sh p h → c < sh.cores → d < sh.dirs
+    → 1 ≤ live (Commits t) (out h.world c d) → Moves sh p h.world
 unfolding pair marks_of
 commit_moves sh p h c d t k i j n = go (total sent (lines sh)) refl
   where
     sent : ℕ → ℕ
-    sent l = live (MarkOf t l) (h.world.net (Core c) (Dir d))
+    sent l = live (MarkOf t l) (out h.world c d)
 
-    served : (h.world.dirs d).serving.serving ≡ t
+    served : serving_at h.world d ≡ t
     served = k.carried.committing_tid_is_served c d t i j n
 
-    f : Found (Commits t) (h.world.net (Core c) (Dir d))
-    f = found (Commits t) (h.world.net (Core c) (Dir d)) n
+    f : Found (Commits t) (out h.world c d)
+    f = found (Commits t) (out h.world c d) n
 
     x : Counting t f.msg
     x = counts t f.msg f.passes
 
     marks : CountsMarks sh x.count t (pair h.world c d)
-    marks = ((k.carried.marks_sent_are_in_flight_or_handled).1 c d t i).counted x.count j (counted (CommitOf t x.count) (h.world.net (Core c) (Dir d)) f.at f.msg f.there (count-passes t x.count f.msg x.is))
+    marks = ((k.carried.marks_sent_are_in_flight_or_handled).1 c d t i).counted x.count j
+        (counted (CommitOf t x.count) (out h.world c d) f.at f.msg f.there (count-passes t x.count f.msg x.is))
 
-    one : (l : ℕ) → sent l ≡ 0 → live (MarkOf t l) (h.world.net (Core c) (Dir d)) + num (((h.world.dirs d).serving.serving == t) && has_mark (h.world.dirs d).lines l) ≡ num (has_mark (h.world.dirs d).lines l)
+    one : (l : ℕ) → sent l ≡ 0
+        → live (MarkOf t l) (out h.world c d) + num ((serving_at h.world d == t) && has_mark (h.world.dirs d).lines l)
+        ≡ num (has_mark (h.world.dirs d).lines l)
     one l z = rw served (grind (arith, nat_tests, z))
 
     go : (y : ℕ) → total sent (lines sh) ≡ y → Moves sh p h.world
-    go (suc y) e = let r = some-part sent (lines sh) (omega (arith, e)) in mark_moves sh p h c d t r.0 k i j (r.1) (omega (arith, served)) (r.2)
-    go zero e = out_moves sh p h.world c d f.at f.msg i j f.there (commit_taken sh (h.world.dirs d) c t x.count f.msg x.is served (counts-all (λ l b. omega (arith, total-le sent (lines sh) l b, e))))
+    go (suc y) e = let r = some-part sent (lines sh) (omega (arith, e)) in
+        mark_moves sh p h c d t r.0 k i j (r.1) (omega (arith, served)) (r.2)
+    go zero e = out_moves sh p h.world c d f.at f.msg i j f.there
+        (commit_taken sh (h.world.dirs d) c t x.count f.msg x.is served
+        (counts-all (λ l b. omega (arith, total-le sent (lines sh) l b, e))))
       where
         counts-all : ((l : ℕ) → l < lines sh → sent l ≡ 0) → count_below (has_mark (h.world.dirs d).lines) (lines sh) ≡ x.count
-        counts-all z = omega (arith, marks.sum, count-total (has_mark (h.world.dirs d).lines) (λ l. marks_of t l (pair h.world c d)) (lines sh) (λ l b. one l (z l b)))
+        counts-all z = omega (
+          arith,
+          marks.sum,
+          count-total (has_mark (h.world.dirs d).lines) (λ l. marks_of t l (pair h.world c d))
+              (lines sh) (λ l b. one l (z l b)),
+        )

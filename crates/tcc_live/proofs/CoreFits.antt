@@ -40,47 +40,82 @@ probes sh c t k = fit-dirs sh (Core c) (λ d. Probe t ∷ []) (λ d i. out_fits 
 
 aborts : (sh : Shape) (c : ℕ) (s : Cache) (t : ℕ) → IsCore sh c → AllFit sh (Core c) (abort_written sh s t)
 unfolding abort_written
-aborts sh c s t k = fit-dirs sh (Core c) (λ d. when (writes_at sh s d) (Abort t ∷ [])) (λ d i. strays-when sh (Core c) (Dir d) (writes_at sh s d) (Abort t ∷ []) (out_fits sh c d (Abort t) k.core i refl))
+aborts sh c s t k = fit-dirs sh (Core c) (λ d. when (writes_at sh s d) (Abort t ∷ []))
+    (λ d i. strays-when sh (Core c) (Dir d) (writes_at sh s d) (Abort t ∷ []) (out_fits sh c d (Abort t) k.core i refl))
 
 grants : (sh : Shape) (c : ℕ) (s : Cache) (t : ℕ) → IsCore sh c → AllFit sh (Core c) (grant_sends sh s t)
 unfolding grant_sends
-grants sh c s t k = fit-dirs sh (Core c) (λ d. when (not (writes_at sh s d)) (Skip t ∷ []) ++ when (writes_at sh s d || reads_at sh s d) (Probe t ∷ []))
-    (λ d i. omega (
+grants sh c s t k = fit-dirs sh (Core c) (λ d. skip d ++ probe d) each
+  where
+    skip : ℕ → List Msg
+    skip d = when (not (writes_at sh s d)) (Skip t ∷ [])
+
+    probe : ℕ → List Msg
+    probe d = when (writes_at sh s d || reads_at sh s d) (Probe t ∷ [])
+
+    each : (d : ℕ) → d < sh.dirs → strays sh (Core c) (Dir d) (skip d ++ probe d) ≡ 0
+    each d i = omega (
       arith,
-      strays-append sh (Core c) (Dir d) (when (not (writes_at sh s d)) (Skip t ∷ [])) (when (writes_at sh s d || reads_at sh s d) (Probe t ∷ [])),
+      strays-append sh (Core c) (Dir d) (skip d) (probe d),
       strays-when sh (Core c) (Dir d) (not (writes_at sh s d)) (Skip t ∷ []) (out_fits sh c d (Skip t) k.core i refl),
       strays-when sh (Core c) (Dir d) (writes_at sh s d || reads_at sh s d) (Probe t ∷ []) (out_fits sh c d (Probe t) k.core i refl),
-    ))
+    )
 
 commits : (sh : Shape) (c : ℕ) (s : Cache) (t : ℕ) → IsCore sh c → AllFit sh (Core c) (commit_sends sh s t)
 unfolding commit_sends
-commits sh c s t k = fit-dirs sh (Core c) (λ d. when (writes_at sh s d) (Commit t (count_below (λ l. d == home sh l && is_modified s l) (lines sh)) ∷ []))
-    (λ d i. strays-when sh (Core c) (Dir d) (writes_at sh s d) (Commit t (count_below (λ l. d == home sh l && is_modified s l) (lines sh)) ∷ []) (out_fits sh c d (Commit t (count_below (λ l. d == home sh l && is_modified s l) (lines sh))) k.core i refl))
+commits sh c s t k = fit-dirs sh (Core c) (λ d. when (writes_at sh s d) (done d ∷ []))
+    (λ d i. strays-when sh (Core c) (Dir d) (writes_at sh s d) (done d ∷ []) (out_fits sh c d (done d) k.core i refl))
+  where
+    done : ℕ → Msg
+    done d = Commit t (count_below (λ l. d == home sh l && is_modified s l) (lines sh))
 
 -- Marks to one directory
-marks : (sh : Shape) (c d t : ℕ) (mask : ℕ → ℕ) (ls : List ℕ) → IsCore sh c → d < sh.dirs → strays sh (Core c) (Dir d) (flat_map (λ l. Mark l (mask l) t ∷ []) ls) ≡ 0
-marks sh c d t mask ls k i = strays-flat sh (Core c) (Dir d) (λ l. Mark l (mask l) t ∷ []) (λ l. out_fits sh c d (Mark l (mask l) t) k.core i refl) ls
+marks : (sh : Shape) (c d t : ℕ) (mask : ℕ → ℕ) (ls : List ℕ) → IsCore sh c → d < sh.dirs
+    → strays sh (Core c) (Dir d) (flat_map (λ l. Mark l (mask l) t ∷ []) ls) ≡ 0
+marks sh c d t mask ls k i = strays-flat sh (Core c) (Dir d) (λ l. Mark l (mask l) t ∷ [])
+    (λ l. out_fits sh c d (Mark l (mask l) t) k.core i refl) ls
 
 solos : (sh : Shape) (c : ℕ) (s : Cache) (sp : Spilled) (t : ℕ) → IsCore sh c → AllFit sh (Core c) (solo_sends sh s sp t)
 unfolding solo_sends solo_marks solo_backs
-solos sh c s sp t k = fit-dirs sh (Core c) (λ d. solo_marks sh s sp t d ++ solo_backs sh sp t d)
-    (λ d i. omega (arith, strays-append sh (Core c) (Dir d) (solo_marks sh s sp t d) (solo_backs sh sp t d), first d i (solo_writes_at sh s sp d), backs d i))
+solos sh c s sp t k = fit-dirs sh (Core c) (λ d. solo_marks sh s sp t d ++ solo_backs sh sp t d) each
   where
-    backs : (d : ℕ) → d < sh.dirs → strays sh (Core c) (Dir d) (solo_backs sh sp t d) ≡ 0
-    backs d i = strays-flat sh (Core c) (Dir d) (λ l. WriteBack l (spilled_mask sp l) (spilled_words sp l) t ∷ []) (λ l. out_fits sh c d (WriteBack l (spilled_mask sp l) (spilled_words sp l) t) k.core i refl) (those (λ l. d == home sh l && holds sp l) (lines sh))
+    back : ℕ → Msg
+    back l = WriteBack l (spilled_mask sp l) (spilled_words sp l) t
 
-    first : (d : ℕ) → d < sh.dirs → (b : Bool) → strays sh (Core c) (Dir d) (if b then flat_map (λ l. Mark l (written_mask s sp l) t ∷ []) (those (λ l. d == home sh l && is_written s sp l) (lines sh)) ++ Commit t (count_below (λ l. d == home sh l && is_written s sp l) (lines sh)) ∷ [] else Skip t ∷ []) ≡ 0
+    written : ℕ → List ℕ
+    written d = those (λ l. d == home sh l && is_written s sp l) (lines sh)
+
+    marked : ℕ → List Msg
+    marked d = flat_map (λ l. Mark l (written_mask s sp l) t ∷ []) (written d)
+
+    done : ℕ → Msg
+    done d = Commit t (count_below (λ l. d == home sh l && is_written s sp l) (lines sh))
+
+    backs : (d : ℕ) → d < sh.dirs → strays sh (Core c) (Dir d) (solo_backs sh sp t d) ≡ 0
+    backs d i = strays-flat sh (Core c) (Dir d) (λ l. back l ∷ []) (λ l. out_fits sh c d (back l) k.core i refl)
+        (those (λ l. d == home sh l && holds sp l) (lines sh))
+
+    first : (d : ℕ) → d < sh.dirs → (b : Bool) → strays sh (Core c) (Dir d) (if b then marked d ++ done d ∷ [] else Skip t ∷ []) ≡ 0
     first d i false = out_fits sh c d (Skip t) k.core i refl
     first d i true = omega (
       arith,
-      strays-append sh (Core c) (Dir d) (flat_map (λ l. Mark l (written_mask s sp l) t ∷ []) (those (λ l. d == home sh l && is_written s sp l) (lines sh))) (Commit t (count_below (λ l. d == home sh l && is_written s sp l) (lines sh)) ∷ []),
-      marks sh c d t (written_mask s sp) (those (λ l. d == home sh l && is_written s sp l) (lines sh)) k i,
-      out_fits sh c d (Commit t (count_below (λ l. d == home sh l && is_written s sp l) (lines sh))) k.core i refl,
+      strays-append sh (Core c) (Dir d) (marked d) (done d ∷ []),
+      marks sh c d t (written_mask s sp) (written d) k i,
+      out_fits sh c d (done d) k.core i refl,
+    )
+
+    each : (d : ℕ) → d < sh.dirs → strays sh (Core c) (Dir d) (solo_marks sh s sp t d ++ solo_backs sh sp t d) ≡ 0
+    each d i = omega (
+      arith,
+      strays-append sh (Core c) (Dir d) (solo_marks sh s sp t d) (solo_backs sh sp t d),
+      first d i (solo_writes_at sh s sp d),
+      backs d i,
     )
 
 -- to a line's home
 
-at_home : (sh : Shape) (c l : ℕ) (ms : List Msg) → IsCore sh c → ((d : ℕ) → d < sh.dirs → strays sh (Core c) (Dir d) ms ≡ 0) → AllFit sh (Core c) (to (Dir (home sh l)) ms)
+at_home : (sh : Shape) (c l : ℕ) (ms : List Msg) → IsCore sh c → ((d : ℕ) → d < sh.dirs → strays sh (Core c) (Dir d) ms ≡ 0)
+    → AllFit sh (Core c) (to (Dir (home sh l)) ms)
 at_home sh c l ms k h = fit-to sh (Core c) (Dir (home sh l)) ms (h (home sh l) (let n = k.dirs in omega arith))
 
 flushes : (sh : Shape) (c : ℕ) (s : Cache) (l : ℕ) → IsCore sh c → AllFit sh (Core c) (flushed sh s l)
@@ -101,7 +136,8 @@ backs sh c s l k = at_home sh c l (write_back (dirty_copy s l)) k (λ d i. go d 
 
 asks : (sh : Shape) (c l : ℕ) (s : CoreState) → IsCore sh c → Fit sh c (ask sh l s)
 unfolding ask
-asks sh c l s k = at_home sh c l (LoadReq l (s.after (home sh l)) ∷ []) k (λ d i. out_fits sh c d (LoadReq l (s.after (home sh l))) k.core i refl)
+asks sh c l s k = at_home sh c l (LoadReq l (s.after (home sh l)) ∷ []) k
+    (λ d i. out_fits sh c d (LoadReq l (s.after (home sh l))) k.core i refl)
 
 requests : (sh : Shape) (c : ℕ) → IsCore sh c → AllFit sh (Core c) (to Vendor (TidReq ∷ []))
 requests sh c k = fit-to sh (Core c) Vendor (TidReq ∷ []) (ask_fits sh c k.core)
@@ -153,11 +189,15 @@ partly sh p c w need s k = go (s.spilled w)
     go (Some x) = fit-nothing sh (Core c)
     go None = valid (s.cache.value w)
 
-stores_word : (sh : Shape) (p : Program) (c w x : ℕ) (need : Need) (s : CoreState) → IsCore sh c → IfSome (word_store sh p need w x s) (Fit sh c)
+stores_word : (sh : Shape) (p : Program) (c w x : ℕ) (need : Need) (s : CoreState) → IsCore sh c
+    → IfSome (word_store sh p need w x s) (Fit sh c)
 unfolding word_store
-stores_word sh p c w x need s k = go (holds s.spilled (line_of w)) (s.cache.held (line_of w)) (is_some (free_way sh s.cache (set_of sh (line_of w)))) _ _ _ (fit-nothing sh (Core c)) (flushes sh c s.cache (line_of w) k) (fit-nothing sh (Core c))
+stores_word sh p c w x need s k = go (holds s.spilled (line_of w)) (s.cache.held (line_of w))
+    (is_some (free_way sh s.cache (set_of sh (line_of w)))) _ _ _ (fit-nothing sh (Core c)) (flushes sh c s.cache (line_of w) k)
+    (fit-nothing sh (Core c))
   where
-    go : (a b d : Bool) (o q r : Out) → Fit sh c o → Fit sh c q → Fit sh c r → IfSome (if a then Some o else (if b then Some q else (if d then Some r else full_set sh (line_of w) s))) (Fit sh c)
+    go : (a b d : Bool) (o q r : Out) → Fit sh c o → Fit sh c q → Fit sh c r
+        → IfSome (if a then Some o else (if b then Some q else (if d then Some r else full_set sh (line_of w) s))) (Fit sh c)
     go true b d o q r f g h = f
     go false true d o q r f g h = g
     go false false true o q r f g h = h
@@ -244,7 +284,9 @@ reply sh c d t s k i = go s.phase
     either false o q f g = g
 
     go : (q : Phase) → Fit sh c (reply_phase sh d t s q)
-    go (Probing u) = either (u == t && s.owing d) _ (ignored s) (fit-to sh (Core c) (Dir d) (marks_for sh s.cache t d) (marks sh c d t (modified_mask s.cache) (written_lines sh s.cache d) k i)) (fit-nothing sh (Core c))
+    go (Probing u) = either (u == t && s.owing d) _ (ignored s)
+        (fit-to sh (Core c) (Dir d) (marks_for sh s.cache t d) (marks sh c d t (modified_mask s.cache) (written_lines sh s.cache d) k i))
+        (fit-nothing sh (Core c))
     go (Overflowing (Some u)) = either (u == t && s.owing d) _ (ignored s) (fit-nothing sh (Core c)) (fit-nothing sh (Core c))
     go (Overflowing None) = fit-nothing sh (Core c)
     go Running = fit-nothing sh (Core c)
@@ -284,7 +326,8 @@ violated sh c s true k = go s.phase
 
 invalidates : (sh : Shape) (c l m u : ℕ) (s : CoreState) → IsCore sh c → Fit sh c (invalidate sh l m u s)
 unfolding invalidate acknowledged
-invalidates sh c l m u s k = fit-then sh (Core c) _ _ (violated sh c (without l m s) (is_violated l m u s) k) (at_home sh c l _ k (λ d i. out_fits sh c d (InvAck l _) k.core i refl))
+invalidates sh c l m u s k = fit-then sh (Core c) _ _ (violated sh c (without l m s) (is_violated l m u s) k)
+    (at_home sh c l _ k (λ d i. out_fits sh c d (InvAck l _) k.core i refl))
 
 pub fit-back : (sh : Shape) (c d : ℕ) (s : CoreState) (m : Msg) → IsCore sh c → d < sh.dirs → IfSome (from_dir sh d s m) (Fit sh c)
 unfolding data_request

@@ -60,7 +60,8 @@ settles sh s k = go (s.owed == 0)
 
 skips : (sh : Shape) (d t : ℕ) (s : DirState) → KeptDir sh s → FitAnswer sh d (skip t s)
 unfolding skip skipped kept
-skips sh d t s k = either sh d (nat_lt t s.serving.serving) Drops _ tt (quietly sh d _ (same-lines sh s (skipped t s.serving) k (go (nat_lt t s.serving.serving) (s.serving.serving == t))))
+skips sh d t s k = either sh d (nat_lt t s.serving.serving) Drops _ tt
+    (quietly sh d _ (same-lines sh s (skipped t s.serving) k (go (nat_lt t s.serving.serving) (s.serving.serving == t))))
   where
     go : (a b : Bool) → 1 ≤ (if a then s.serving else (if b then advance s.serving else kept t s.serving)).serving
     go true b = k.serves
@@ -69,27 +70,44 @@ skips sh d t s k = either sh d (nat_lt t s.serving.serving) Drops _ tt (quietly 
 
 aborts : (sh : Shape) (d t : ℕ) (s : DirState) → KeptDir sh s → FitAnswer sh d (abort t s)
 unfolding abort kept
-aborts sh d t s k = either sh d (nat_lt t s.serving.serving) Drops _ tt (either sh d (s.serving.serving == t) _ _ (quietly sh d _ (moved sh s k)) (quietly sh d _ (same-lines sh s (kept t s.serving) k k.serves)))
+aborts sh d t s k = either sh d (nat_lt t s.serving.serving) Drops _ tt
+    (either sh d (s.serving.serving == t) _ _ (quietly sh d _ (moved sh s k))
+    (quietly sh d _ (same-lines sh s (kept t s.serving) k k.serves)))
 
 probes : (sh : Shape) (d c t : ℕ) (s : DirState) → c < sh.cores → d < sh.dirs → KeptDir sh s → FitAnswer sh d (probe c t s)
 unfolding probe
-probes sh d c t s l i k = either sh d (nat_lt s.serving.serving t) Waits _ tt (record { kept = k; fit = fit-to sh (Dir d) (Core c) (ProbeReply t s.serving.serving ∷ []) (back_fits sh c d (ProbeReply t s.serving.serving) l i refl) })
+probes sh d c t s l i k = either sh d (nat_lt s.serving.serving t) Waits _ tt
+    (record {
+      kept = k;
+      fit = fit-to sh (Dir d) (Core c) (ProbeReply t s.serving.serving ∷ [])
+          (back_fits sh c d (ProbeReply t s.serving.serving) l i refl);
+    })
 
 asks_owner : (sh : Shape) (d o l : ℕ) (s : DirState) → o < sh.cores → d < sh.dirs → KeptDir sh s → FitAnswer sh d (ask_owner o l s)
 unfolding ask_owner with_asked
-asks_owner sh d o l s b i k = either sh d (s.lines.asked l) Waits _ tt (record { kept = record { owners = k.owners; serves = k.serves }; fit = fit-to sh (Dir d) (Core o) (DataReq l ∷ []) (back_fits sh o d (DataReq l) b i refl) })
+asks_owner sh d o l s b i k = either sh d (s.lines.asked l) Waits _ tt
+    (record {
+      kept = record { owners = k.owners; serves = k.serves };
+      fit = fit-to sh (Dir d) (Core o) (DataReq l ∷ [])
+          (back_fits sh o d (DataReq l) b i refl);
+    })
 
 loads : (sh : Shape) (d c l a : ℕ) (s : DirState) → c < sh.cores → d < sh.dirs → KeptDir sh s → FitAnswer sh d (load_request c l a s)
 unfolding load_request with_sharer
 loads sh d c l a s b i k = either sh d (nat_le s.serving.serving a || has_mark s.lines l) Waits _ tt (go (s.lines.owner l) refl)
   where
     go : (o : Option ℕ) → s.lines.owner l ≡ o → FitAnswer sh d (load_owned c l s o)
-    go None e = record { kept = record { owners = k.owners; serves = k.serves }; fit = fit-to sh (Dir d) (Core c) (Fill l (line_words s l) ∷ []) (back_fits sh c d (Fill l (line_words s l)) b i refl) }
+    go None e = record {
+      kept = record { owners = k.owners; serves = k.serves };
+      fit = fit-to sh (Dir d) (Core c)
+          (Fill l (line_words s l) ∷ []) (back_fits sh c d (Fill l (line_words s l)) b i refl);
+    }
     go (Some o) e = asks_owner sh d o l s (k.owners l o e) i k
 
 marks : (sh : Shape) (d l m t : ℕ) (s : DirState) → d < sh.dirs → KeptDir sh s → FitAnswer sh d (mark l m t s)
 unfolding mark with_mark
-marks sh d l m t s i k = either sh d (nat_lt t s.serving.serving) Drops _ tt (either sh d (nat_lt s.serving.serving t) Waits _ tt (either sh d (m == full) _ _ taken (go (s.lines.owner l) refl)))
+marks sh d l m t s i k = either sh d (nat_lt t s.serving.serving) Drops _ tt
+    (either sh d (nat_lt s.serving.serving t) Waits _ tt (either sh d (m == full) _ _ taken (go (s.lines.owner l) refl)))
   where
     taken : Answered sh d (record s { lines = with_mark l m s.lines }) nothing
     taken = quietly sh d _ (record { owners = k.owners; serves = k.serves })
@@ -110,11 +128,15 @@ invalidates sh d ls c t i (Dir e) = strays-none sh (Dir d) (Dir e)
 invalidates sh d ls c t i Vendor = strays-none sh (Dir d) Vendor
 invalidates sh d ls c t i (Core j) = go (nat_lt j sh.cores) refl
   where
-    go : (b : Bool) → nat_lt j sh.cores ≡ b → strays sh (Dir d) (Core j) (flat_map (λ l. Inv l (ls.mark l) t ∷ []) (those (is_invalidated sh ls c j) (lines sh))) ≡ 0
-    go true e = strays-flat sh (Dir d) (Core j) (λ l. Inv l (ls.mark l) t ∷ []) (λ l. back_fits sh j d (Inv l (ls.mark l) t) (grind (arith, nat_tests)) i refl) (those (is_invalidated sh ls c j) (lines sh))
-    go false e = let z : those (is_invalidated sh ls c j) (lines sh) ≡ [] = no-one (is_invalidated sh ls c j) (lines sh) (λ l. rw e refl) in rw z (strays-none sh (Dir d) (Core j))
+    go : (b : Bool) → nat_lt j sh.cores ≡ b → strays sh (Dir d) (Core j)
+        (flat_map (λ l. Inv l (ls.mark l) t ∷ []) (those (is_invalidated sh ls c j) (lines sh))) ≡ 0
+    go true e = strays-flat sh (Dir d) (Core j) (λ l. Inv l (ls.mark l) t ∷ [])
+        (λ l. back_fits sh j d (Inv l (ls.mark l) t) (grind (arith, nat_tests)) i refl) (those (is_invalidated sh ls c j) (lines sh))
+    go false e = let z : those (is_invalidated sh ls c j) (lines sh) ≡ [] =
+        no-one (is_invalidated sh ls c j) (lines sh) (λ l. rw e refl) in rw z (strays-none sh (Dir d) (Core j))
 
-owned-by : (sh : Shape) (c t : ℕ) (s : DirState) (n : ℕ) → c < sh.cores → KeptDir sh s → KeptDir sh (record s { lines = owned c t s.lines; owed = n })
+owned-by : (sh : Shape) (c t : ℕ) (s : DirState) (n : ℕ) → c < sh.cores → KeptDir sh s
+    → KeptDir sh (record s { lines = owned c t s.lines; owed = n })
 unfolding owned
 owned-by sh c t s n b k = record { owners = λ l j e. go l j (has_mark s.lines l) e; serves = k.serves }
   where
@@ -124,7 +146,8 @@ owned-by sh c t s n b k = record { owners = λ l j e. go l j (has_mark s.lines l
 
 commits : (sh : Shape) (d c t n : ℕ) (s : DirState) → c < sh.cores → d < sh.dirs → KeptDir sh s → FitAnswer sh d (commit sh c t n s)
 unfolding commit
-commits sh d c t n s b i k = either sh d (s.serving.serving == t && count_below (has_mark s.lines) (lines sh) == n) _ Waits (record { kept = settles sh _ (owned-by sh c t s (owed_by sh s.lines c) b k); fit = invalidates sh d s.lines c t i }) tt
+commits sh d c t n s b i k = either sh d (s.serving.serving == t && count_below (has_mark s.lines) (lines sh) == n) _ Waits
+    (record { kept = settles sh _ (owned-by sh c t s (owed_by sh s.lines c) b k); fit = invalidates sh d s.lines c t i }) tt
 
 acks : (sh : Shape) (d c l : ℕ) (keeps : Bool) (s : DirState) → KeptDir sh s → FitAnswer sh d (acknowledgement c l keeps s)
 unfolding acknowledgement with_sharer
@@ -147,7 +170,8 @@ backs sh d c l m ws g s k = go (judge (s.lines.owner l) (s.lines.tag l) c g)
     go IsDropped = tt
     go IsTaken = quietly sh d _ (record { owners = λ j o e. home j o (j == l) e; serves = k.serves })
 
-pub fit-answer : (sh : Shape) (d c : ℕ) (s : DirState) (m : Msg) → c < sh.cores → d < sh.dirs → KeptDir sh s → FitAnswer sh d (dir_deliver sh s c m)
+pub fit-answer : (sh : Shape) (d c : ℕ) (s : DirState) (m : Msg) → c < sh.cores → d < sh.dirs → KeptDir sh s
+    → FitAnswer sh d (dir_deliver sh s c m)
 unfolding dir_deliver
 fit-answer sh d c s (Skip t) b i k = skips sh d t s k
 fit-answer sh d c s (Abort t) b i k = aborts sh d t s k

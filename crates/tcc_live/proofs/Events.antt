@@ -18,7 +18,7 @@ use Rattle.tcc_rules.specs.Useful.{is_of_use, is_useful, holds_written, is_set, 
 use Rattle.tcc_serial.specs.Count.{Kind, Asks as Requests, live, passes}
 use Rattle.tcc_live.specs.Fits.{goes_to_core, is_grant, is_request}
 use Rattle.tcc_live.specs.Progress.{spares, GoesOn}
-use Rattle.tcc_live.proofs.Found.{found}
+use Rattle.tcc_live.proofs.Found.{back, out, found}
 
 -- a useful event that is no other core's request for a TID, whichever core asks
 pub record Moves (sh : Shape) (p : Program) (w : World) : Type 0 where
@@ -74,12 +74,19 @@ some_granted w c k (InvAck l b) h = absurd (cc)
 
 -- useful events
 
-pub exec_moves : (sh : Shape) (p : Program) (w : World) (c : ℕ) → c < sh.cores → is_some (core_exec sh p c (w.cores c)) ≡ true → Moves sh p w
+pub exec_moves : (sh : Shape) (p : Program) (w : World) (c : ℕ) → c < sh.cores → is_some (core_exec sh p c (w.cores c)) ≡ true
+    → Moves sh p w
 unfolding is_useful is_enabled step names_nodes happens
-exec_moves sh p w c l h = record { event = Exec c; is_useful = rw (below c sh.cores l, some_moved w c (core_exec sh p c (w.cores c)) h) refl; spares = λ j. refl }
+exec_moves sh p w c l h = record {
+  event = Exec c;
+  is_useful = rw
+      (below c sh.cores l, some_moved w c (core_exec sh p c (w.cores c)) h) refl;
+  spares = λ j. refl;
+}
 
 -- an Evict of a way whose line has words that leave it, or in a set where the core waits for room
-pub evict_moves : (sh : Shape) (p : Program) (w : World) (c x y : ℕ) → c < sh.cores → x < sh.sets → y < sh.ways → is_some (core_evict sh x y (w.cores c)) ≡ true
+pub evict_moves : (sh : Shape) (p : Program) (w : World) (c x y : ℕ) → c < sh.cores → x < sh.sets → y < sh.ways
+    → is_some (core_evict sh x y (w.cores c)) ≡ true
     → (holds_written (w.cores c).cache ((w.cores c).cache.at x y) ≡ true) ⊎ (is_set (room sh p (w.cores c)) x ≡ true) → Moves sh p w
 unfolding is_useful is_enabled step names_nodes happens
 evict_moves sh p w c x y l i j h u = record {
@@ -88,19 +95,23 @@ evict_moves sh p w c x y l i j h u = record {
   spares = λ j. refl;
 }
   where
-    used : (holds_written (w.cores c).cache ((w.cores c).cache.at x y) ≡ true) ⊎ (is_set (room sh p (w.cores c)) x ≡ true) → is_of_use sh p w (Evict c x y) ≡ true
+    used : (holds_written (w.cores c).cache ((w.cores c).cache.at x y) ≡ true) ⊎ (is_set (room sh p (w.cores c)) x ≡ true)
+        → is_of_use sh p w (Evict c x y) ≡ true
     used (inl e) = grind (arith, nat_tests)
     used (inr e) = grind (arith, nat_tests)
 
-delivers : (sh : Shape) (p : Program) (w : World) (src dst : Node) (k : ℕ) (m : Msg) → is_node sh src ≡ true → is_node sh dst ≡ true → in_flight w.net src dst k ≡ Some m → is_some (delivered sh w src dst k m) ≡ true → is_useful sh p w (Deliver src dst k) ≡ true
+delivers : (sh : Shape) (p : Program) (w : World) (src dst : Node) (k : ℕ) (m : Msg) → is_node sh src ≡ true → is_node sh dst ≡ true
+    → in_flight w.net src dst k ≡ Some m → is_some (delivered sh w src dst k m) ≡ true → is_useful sh p w (Deliver src dst k) ≡ true
 unfolding is_useful is_enabled step names_nodes happens
 delivers sh p w src dst k m a b i h = rw (a, b, i, h) refl
 
-pub back_moves : (sh : Shape) (p : Program) (w : World) (d c k : ℕ) (m : Msg) → d < sh.dirs → c < sh.cores → in_flight w.net (Dir d) (Core c) k ≡ Some m → goes_to_core m ≡ true → Moves sh p w
+pub back_moves : (sh : Shape) (p : Program) (w : World) (d c k : ℕ) (m : Msg) → d < sh.dirs → c < sh.cores
+    → in_flight w.net (Dir d) (Core c) k ≡ Some m → goes_to_core m ≡ true → Moves sh p w
 unfolding core_deliver
 back_moves sh p w d c k m i l e h = record {
   event = Deliver (Dir d) (Core c) k;
-  is_useful = delivers sh p w (Dir d) (Core c) k m (below d sh.dirs i) (below c sh.cores l) e (some_taken w (Dir d) c k (from_dir sh d (w.cores c) m) (some m h));
+  is_useful = delivers sh p w (Dir d) (Core c) k m (below d sh.dirs i) (below c sh.cores l) e
+      (some_taken w (Dir d) c k (from_dir sh d (w.cores c) m) (some m h));
   spares = λ j. refl;
 }
   where
@@ -121,11 +132,13 @@ back_moves sh p w d c k m i l e h = record {
     some (Flush l m ws g) h = h
     some (InvAck l b) h = h
 
-pub grant_moves : (sh : Shape) (p : Program) (w : World) (c k : ℕ) (m : Msg) → c < sh.cores → in_flight w.net Vendor (Core c) k ≡ Some m → is_grant m ≡ true → Moves sh p w
+pub grant_moves : (sh : Shape) (p : Program) (w : World) (c k : ℕ) (m : Msg) → c < sh.cores → in_flight w.net Vendor (Core c) k ≡ Some m
+    → is_grant m ≡ true → Moves sh p w
 unfolding core_deliver
 grant_moves sh p w c k m l e h = record {
   event = Deliver Vendor (Core c) k;
-  is_useful = delivers sh p w Vendor (Core c) k m refl (below c sh.cores l) e (some_taken w Vendor c k (from_vendor sh (w.cores c) m) (some m h));
+  is_useful = delivers sh p w Vendor (Core c) k m refl (below c sh.cores l) e
+      (some_taken w Vendor c k (from_vendor sh (w.cores c) m) (some m h));
   spares = λ j. refl;
 }
   where
@@ -146,33 +159,45 @@ grant_moves sh p w c k m l e h = record {
     some (Flush l m ws g) h = h
     some (InvAck l b) h = h
 
-pub out_moves : (sh : Shape) (p : Program) (w : World) (c d k : ℕ) (m : Msg) → c < sh.cores → d < sh.dirs → in_flight w.net (Core c) (Dir d) k ≡ Some m → is_answer (dir_deliver sh (w.dirs d) c m) ≡ true → Moves sh p w
+pub out_moves : (sh : Shape) (p : Program) (w : World) (c d k : ℕ) (m : Msg) → c < sh.cores → d < sh.dirs
+    → in_flight w.net (Core c) (Dir d) k ≡ Some m → is_answer (dir_deliver sh (w.dirs d) c m) ≡ true → Moves sh p w
 out_moves sh p w c d k m l i e h = record {
   event = Deliver (Core c) (Dir d) k;
-  is_useful = delivers sh p w (Core c) (Dir d) k m (below c sh.cores l) (below d sh.dirs i) e (some_answered w c d k (dir_deliver sh (w.dirs d) c m) h);
+  is_useful = delivers sh p w (Core c) (Dir d) k m (below c sh.cores l) (below d sh.dirs i) e
+      (some_answered w c d k (dir_deliver sh (w.dirs d) c m) h);
   spares = λ j. refl;
 }
 
 -- a core's own request for a TID, or that of any core
-pub ask_useful : (sh : Shape) (p : Program) (w : World) (c k : ℕ) (m : Msg) → c < sh.cores → in_flight w.net (Core c) Vendor k ≡ Some m → is_request m ≡ true → is_useful sh p w (Deliver (Core c) Vendor k) ≡ true
+pub ask_useful : (sh : Shape) (p : Program) (w : World) (c k : ℕ) (m : Msg) → c < sh.cores → in_flight w.net (Core c) Vendor k ≡ Some m
+    → is_request m ≡ true → is_useful sh p w (Deliver (Core c) Vendor k) ≡ true
 ask_useful sh p w c k m l e h = delivers sh p w (Core c) Vendor k m (below c sh.cores l) refl e (some_granted w c k m h)
 
 -- the same, from counts
 
-pub back_counted : (sh : Shape) (p : Program) (w : World) (q : Kind) (d c : ℕ) → d < sh.dirs → c < sh.cores → ((m : Msg) → passes q m ≡ true → goes_to_core m ≡ true) → 1 ≤ live q (w.net (Dir d) (Core c)) → Moves sh p w
-back_counted sh p w q d c i l f h = let x = found q (w.net (Dir d) (Core c)) h in back_moves sh p w d c x.at x.msg i l x.there (f x.msg x.passes)
+pub back_counted : (sh : Shape) (p : Program) (w : World) (q : Kind) (d c : ℕ) → d < sh.dirs → c < sh.cores
+    → ((m : Msg) → passes q m ≡ true → goes_to_core m ≡ true) → 1 ≤ live q (back w c d) → Moves sh p w
+back_counted sh p w q d c i l f h = let x = found q (back w c d) h in back_moves sh p w d c x.at x.msg i l x.there (f x.msg x.passes)
 
-pub grant_counted : (sh : Shape) (p : Program) (w : World) (q : Kind) (c : ℕ) → c < sh.cores → ((m : Msg) → passes q m ≡ true → is_grant m ≡ true) → 1 ≤ live q (w.net Vendor (Core c)) → Moves sh p w
+pub grant_counted : (sh : Shape) (p : Program) (w : World) (q : Kind) (c : ℕ) → c < sh.cores
+    → ((m : Msg) → passes q m ≡ true → is_grant m ≡ true) → 1 ≤ live q (w.net Vendor (Core c)) → Moves sh p w
 grant_counted sh p w q c l f h = let x = found q (w.net Vendor (Core c)) h in grant_moves sh p w c x.at x.msg l x.there (f x.msg x.passes)
 
-pub out_counted : (sh : Shape) (p : Program) (w : World) (q : Kind) (c d : ℕ) → c < sh.cores → d < sh.dirs → ((m : Msg) → passes q m ≡ true → is_answer (dir_deliver sh (w.dirs d) c m) ≡ true) → 1 ≤ live q (w.net (Core c) (Dir d)) → Moves sh p w
-out_counted sh p w q c d l i f h = let x = found q (w.net (Core c) (Dir d)) h in out_moves sh p w c d x.at x.msg l i x.there (f x.msg x.passes)
+pub out_counted : (sh : Shape) (p : Program) (w : World) (q : Kind) (c d : ℕ) → c < sh.cores → d < sh.dirs
+    → ((m : Msg) → passes q m ≡ true → is_answer (dir_deliver sh (w.dirs d) c m) ≡ true) → 1 ≤ live q (out w c d) → Moves sh p w
+out_counted sh p w q c d l i f h = let x = found q (out w c d) h in out_moves sh p w c d x.at x.msg l i x.there (f x.msg x.passes)
 
 requested : (m : Msg) → passes Requests m ≡ true → is_request m ≡ true
 unfolding passes
 requested m h = grind (arith, nat_tests)
 
-pub ask_goes_on : (sh : Shape) (p : Program) (w : World) (c : ℕ) → c < sh.cores → 1 ≤ live Requests (w.net (Core c) Vendor) → GoesOn sh p w c
+pub ask_goes_on : (sh : Shape) (p : Program) (w : World) (c : ℕ) → c < sh.cores → 1 ≤ live Requests (w.net (Core c) Vendor)
+    → GoesOn sh p w c
 ask_goes_on sh p w c l h =
     let x = found Requests (w.net (Core c) Vendor) h in
-    record { event = Deliver (Core c) Vendor x.at; is_useful = ask_useful sh p w c x.at x.msg l x.there (requested x.msg x.passes); spares = grind (arith, nat_tests) }
+    record {
+      event = Deliver (Core c) Vendor x.at;
+      is_useful = ask_useful sh p w c x.at x.msg l x.there
+          (requested x.msg x.passes);
+      spares = grind (arith, nat_tests);
+    }

@@ -38,10 +38,15 @@ unfolding core_moves
 moves-clean sh w c None k f = tt
 moves-clean sh w c (Some o) k f = record { links = sending-clean sh w.net (Core c) o.sends k.links f; dirs = k.dirs }
 
-takes-clean : (sh : Shape) (w : World) (src : Node) (c i : ℕ) (o : Option Out) → Clean sh w → IfSome o (Fit sh c) → Keeps sh (taken w src c i o)
+takes-clean : (sh : Shape) (w : World) (src : Node) (c i : ℕ) (o : Option Out) → Clean sh w → IfSome o (Fit sh c)
+    → Keeps sh (taken w src c i o)
 unfolding core_takes
 takes-clean sh w src c i None k f = tt
-takes-clean sh w src c i (Some o) k f = record { links = sending-clean sh (taking w.net src (Core c) i) (Core c) o.sends (taking-clean sh w.net src (Core c) i k.links) f; dirs = k.dirs }
+takes-clean sh w src c i (Some o) k f = record {
+  links = sending-clean sh (taking w.net src (Core c) i) (Core c) o.sends
+      (taking-clean sh w.net src (Core c) i k.links) f;
+  dirs = k.dirs;
+}
 
 put-dir : (sh : Shape) (w : World) (d : ℕ) (s : DirState) → Clean sh w → KeptDir sh s → (e : ℕ) → KeptDir sh (put w.dirs d s e)
 put-dir sh w d s k h e = go (e == d)
@@ -53,40 +58,67 @@ put-dir sh w d s k h e = go (e == d)
 answers-clean : (sh : Shape) (w : World) (c d i : ℕ) (a : Answer) → Clean sh w → FitAnswer sh d a → Keeps sh (answered w c d i a)
 unfolding dir_takes dir_asks
 answers-clean sh w c d i Waits k f = tt
-answers-clean sh w c d i Drops k f = record { links = sending-clean sh (taking w.net (Core c) (Dir d) i) (Dir d) (λ dst. []) (taking-clean sh w.net (Core c) (Dir d) i k.links) (fit-nothing sh (Dir d)); dirs = put-dir sh w d (w.dirs d) k (k.dirs d) }
-answers-clean sh w c d i (Asks s sends) k f = record { links = sending-clean sh w.net (Dir d) sends k.links f.fit; dirs = put-dir sh w d s k f.kept }
-answers-clean sh w c d i (Takes s sends) k f = record { links = sending-clean sh (taking w.net (Core c) (Dir d) i) (Dir d) sends (taking-clean sh w.net (Core c) (Dir d) i k.links) f.fit; dirs = put-dir sh w d s k f.kept }
+answers-clean sh w c d i Drops k f = record {
+  links = sending-clean sh (taking w.net (Core c) (Dir d) i) (Dir d) (λ dst. [])
+      (taking-clean sh w.net (Core c) (Dir d) i k.links) (fit-nothing sh (Dir d));
+  dirs = put-dir sh w d (w.dirs d) k (k.dirs d);
+}
+answers-clean sh w c d i (Asks s sends) k f = record {
+  links = sending-clean sh w.net
+      (Dir d) sends k.links f.fit;
+  dirs = put-dir sh w d s k f.kept;
+}
+answers-clean sh w c d i (Takes s sends) k f = record {
+  links = sending-clean sh (taking w.net (Core c) (Dir d) i) (Dir d) sends
+      (taking-clean sh w.net (Core c) (Dir d) i k.links) f.fit;
+  dirs = put-dir sh w d s k f.kept;
+}
 
-gives-clean : (sh : Shape) (w : World) (c i : ℕ) (m : Msg) → Clean sh w → c < sh.cores → Keeps sh (granted w c i (vendor_deliver w.next c m))
+gives-clean : (sh : Shape) (w : World) (c i : ℕ) (m : Msg) → Clean sh w → c < sh.cores
+    → Keeps sh (granted w c i (vendor_deliver w.next c m))
 unfolding vendor_gives
-gives-clean sh w c i TidReq k l = record { links = sending-clean sh (taking w.net (Core c) Vendor i) Vendor (to (Core c) (TidGrant w.next ∷ [])) (taking-clean sh w.net (Core c) Vendor i k.links) (fit-to sh Vendor (Core c) (TidGrant w.next ∷ []) (grant_fits sh c w.next l)); dirs = k.dirs }
+gives-clean sh w c i TidReq k l = record {
+  links = sending-clean sh (taking w.net (Core c) Vendor i) Vendor
+      (to (Core c) (TidGrant w.next ∷ [])) (taking-clean sh w.net (Core c) Vendor i k.links)
+      (fit-to sh Vendor (Core c) (TidGrant w.next ∷ []) (grant_fits sh c w.next l));
+  dirs = k.dirs;
+}
 gives-clean sh w c i m k l = tt
 
-core-takes : (sh : Shape) (w : World) (src : Node) (c : ℕ) (m : Msg) → IsCore sh c → is_node sh src ≡ true → IfSome (core_deliver sh (w.cores c) src m) (Fit sh c)
+core-takes : (sh : Shape) (w : World) (src : Node) (c : ℕ) (m : Msg) → IsCore sh c → is_node sh src ≡ true
+    → IfSome (core_deliver sh (w.cores c) src m) (Fit sh c)
 unfolding core_deliver
 core-takes sh w (Dir d) c m k n = fit-back sh c d (w.cores c) m k (grind (arith, nat_tests))
 core-takes sh w (Core d) c m k n = tt
 core-takes sh w Vendor c (TidGrant t) k n = fit-grant sh c t (w.cores c) k
 core-takes sh w Vendor c m k n = tt
 
-delivers-clean : (sh : Shape) (w : World) (src dst : Node) (i : ℕ) (m : Msg) → Clean sh w → 1 ≤ sh.dirs → is_node sh src ≡ true → is_node sh dst ≡ true → Keeps sh (delivered sh w src dst i m)
-delivers-clean sh w src (Core c) i m k n a b = takes-clean sh w src c i (core_deliver sh (w.cores c) src m) k (core-takes sh w src c m (record { core = grind (arith, nat_tests); dirs = n }) a)
-delivers-clean sh w (Core c) (Dir d) i m k n a b = answers-clean sh w c d i (dir_deliver sh (w.dirs d) c m) k (fit-answer sh d c (w.dirs d) m (grind (arith, nat_tests)) (grind (arith, nat_tests)) (k.dirs d))
+delivers-clean : (sh : Shape) (w : World) (src dst : Node) (i : ℕ) (m : Msg) → Clean sh w → 1 ≤ sh.dirs → is_node sh src ≡ true
+    → is_node sh dst ≡ true → Keeps sh (delivered sh w src dst i m)
+delivers-clean sh w src (Core c) i m k n a b = takes-clean sh w src c i (core_deliver sh (w.cores c) src m) k
+    (core-takes sh w src c m (record { core = grind (arith, nat_tests); dirs = n }) a)
+delivers-clean sh w (Core c) (Dir d) i m k n a b = answers-clean sh w c d i (dir_deliver sh (w.dirs d) c m) k
+    (fit-answer sh d c (w.dirs d) m (grind (arith, nat_tests)) (grind (arith, nat_tests)) (k.dirs d))
 delivers-clean sh w (Core c) Vendor i m k n a b = gives-clean sh w c i m k (grind (arith, nat_tests))
 delivers-clean sh w (Dir e) (Dir d) i m k n a b = tt
 delivers-clean sh w Vendor (Dir d) i m k n a b = tt
 delivers-clean sh w (Dir e) Vendor i m k n a b = tt
 delivers-clean sh w Vendor Vendor i m k n a b = tt
 
-flying-clean : (sh : Shape) (w : World) (src dst : Node) (i : ℕ) (o : Option Msg) → Clean sh w → 1 ≤ sh.dirs → is_node sh src ≡ true → is_node sh dst ≡ true → Keeps sh (if_in_flight sh w src dst i o)
+flying-clean : (sh : Shape) (w : World) (src dst : Node) (i : ℕ) (o : Option Msg) → Clean sh w → 1 ≤ sh.dirs → is_node sh src ≡ true
+    → is_node sh dst ≡ true → Keeps sh (if_in_flight sh w src dst i o)
 flying-clean sh w src dst i None k n a b = tt
 flying-clean sh w src dst i (Some m) k n a b = delivers-clean sh w src dst i m k n a b
 
-happens-clean : (sh : Shape) (p : Program) (w : World) (e : Event) → Clean sh w → 1 ≤ sh.dirs → names_nodes sh e ≡ true → Keeps sh (happens sh p w e)
+happens-clean : (sh : Shape) (p : Program) (w : World) (e : Event) → Clean sh w → 1 ≤ sh.dirs → names_nodes sh e ≡ true
+    → Keeps sh (happens sh p w e)
 unfolding happens names_nodes
-happens-clean sh p w (Exec c) k n h = moves-clean sh w c (core_exec sh p c (w.cores c)) k (fit-exec sh p c (w.cores c) (record { core = grind (arith, nat_tests); dirs = n }))
-happens-clean sh p w (Evict c x y) k n h = moves-clean sh w c (core_evict sh x y (w.cores c)) k (fit-evict sh c x y (w.cores c) (record { core = grind (arith, nat_tests); dirs = n }))
-happens-clean sh p w (Deliver src dst i) k n h = flying-clean sh w src dst i (in_flight w.net src dst i) k n (grind (arith, nat_tests)) (grind (arith, nat_tests))
+happens-clean sh p w (Exec c) k n h = moves-clean sh w c (core_exec sh p c (w.cores c)) k
+    (fit-exec sh p c (w.cores c) (record { core = grind (arith, nat_tests); dirs = n }))
+happens-clean sh p w (Evict c x y) k n h = moves-clean sh w c (core_evict sh x y (w.cores c)) k
+    (fit-evict sh c x y (w.cores c) (record { core = grind (arith, nat_tests); dirs = n }))
+happens-clean sh p w (Deliver src dst i) k n h = flying-clean sh w src dst i (in_flight w.net src dst i) k n (grind (arith, nat_tests))
+    (grind (arith, nat_tests))
 
 step-clean : (sh : Shape) (p : Program) (w : World) (e : Event) → Clean sh w → 1 ≤ sh.dirs → Keeps sh (step sh p w e)
 unfolding step
@@ -98,25 +130,40 @@ step-clean sh p w e k n = go (names_nodes sh e) refl
 
 -- runs
 
-runs-clean : (sh : Shape) (p : Program) (es : List Event) (h : History) → 1 ≤ sh.dirs → Clean sh h.world → IfSome (run_from sh p es h) (λ g. Clean sh g.world)
+runs-clean : (sh : Shape) (p : Program) (es : List Event) (h : History) → 1 ≤ sh.dirs → Clean sh h.world
+    → IfSome (run_from sh p es h) (λ g. Clean sh g.world)
 unfolding run_from next
 runs-clean sh p [] h n k = k
 runs-clean sh p (e ∷ es) h n k = go (step sh p h.world e) (step-clean sh p h.world e k n) (λ g c. runs-clean sh p es g n c)
   where
-    go : (x : Option Stepped) → Keeps sh x → ((g : History) → Clean sh g.world → IfSome (run_from sh p es g) (λ f. Clean sh f.world)) → IfSome (and_then (run_from sh p es) (recorded h x)) (λ f. Clean sh f.world)
+    go : (x : Option Stepped) → Keeps sh x → ((g : History) → Clean sh g.world → IfSome (run_from sh p es g) (λ f. Clean sh f.world))
+        → IfSome (and_then (run_from sh p es) (recorded h x)) (λ f. Clean sh f.world)
     go None q f = tt
     go (Some o) q f = f (record { world = o.world; commits = and_noted o.noted h.commits }) q
 
 start-clean : (sh : Shape) (entries : ℕ → Local) (ram : ℕ → ℕ) → Clean sh (start entries ram)
 unfolding start dir_start no_lines first_serving
-start-clean sh entries ram = record { links = λ s d. link-none sh s d; dirs = λ d. record { owners = λ l c e. absurd (cc); serves = omega arith } }
+start-clean sh entries ram = record {
+  links = λ s d. link-none sh s d;
+  dirs = λ d. record {
+    owners = λ l c e. absurd
+        (cc);
+    serves = omega arith;
+  };
+}
 
 kept-from : (sh : Shape) (w : World) → Clean sh w → KeptFits sh w
-kept-from sh w k = record { links = λ s d i m e. link-fits sh s d (w.net s d) i m (k.links s d) e; owners = λ d. (k.dirs d).owners; serves = λ d. (k.dirs d).serves }
+kept-from sh w k = record {
+  links = λ s d i m e. link-fits sh s d (w.net s d) i m (k.links s d) e;
+  owners = λ d.
+      (k.dirs d).owners;
+  serves = λ d. (k.dirs d).serves;
+}
 
 pub links_fit : LinksFitAlways
 unfolding run
-links_fit sh p entries ram es n = go (run sh p (start entries ram) es) (runs-clean sh p es (record { world = start entries ram; commits = [] }) n (start-clean sh entries ram))
+links_fit sh p entries ram es n = go (run sh p (start entries ram) es)
+    (runs-clean sh p es (record { world = start entries ram; commits = [] }) n (start-clean sh entries ram))
   where
     go : (x : Option History) → IfSome x (λ g. Clean sh g.world) → IfSome x (λ g. KeptFits sh g.world)
     go None q = tt

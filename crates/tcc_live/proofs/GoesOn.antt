@@ -17,6 +17,7 @@ use Rattle.tcc_live.specs.Progress.{GoesOn, EachGoesOn}
 use Rattle.tcc_live.proofs.Events.{Moves, goes_on, grant_counted, ask_goes_on}
 use Rattle.tcc_live.proofs.Holder.{NoneHeld, none_or_moves, after_next, awaited_moves}
 use Rattle.tcc_live.proofs.Room.{room_moves}
+use Rattle.tcc_live.proofs.Found.{serving_at}
 use Rattle.tcc_live.proofs.State.{Reached}
 
 granted : (m : Msg) → passes AnyGrant m ≡ true → is_grant m ≡ true
@@ -24,7 +25,8 @@ unfolding passes
 granted m q = grind (arith, nat_tests)
 
 -- a core that waits for a TID: its request or its grant is on its way
-waiting : (sh : Shape) (p : Program) (h : History) (c : ℕ) → Reached sh p h → c < sh.cores → waits_for_tid (h.world.cores c).phase ≡ true → GoesOn sh p h.world c
+waiting : (sh : Shape) (p : Program) (h : History) (c : ℕ) → Reached sh p h → c < sh.cores → waits_for_tid (h.world.cores c).phase ≡ true
+    → GoesOn sh p h.world c
 unfolding pair
 waiting sh p h c k l q = go (live AnyGrant (h.world.net Vendor (Core c))) refl
   where
@@ -36,17 +38,19 @@ waiting sh p h c k l q = go (live AnyGrant (h.world.net Vendor (Core c))) refl
     go zero e = ask_goes_on sh p h.world c l (omega (arith, one, e))
 
 -- a core that runs: alone with itself, or it awaits a line, and its home serves a TID beyond all that were granted
-running : (sh : Shape) (p : Program) (h : History) (c : ℕ) → Reached sh p h → NoneHeld sh p h.world → c < sh.cores → (h.world.cores c).phase ≡ Running → Moves sh p h.world
+running : (sh : Shape) (p : Program) (h : History) (c : ℕ) → Reached sh p h → NoneHeld sh p h.world → c < sh.cores
+    → (h.world.cores c).phase ≡ Running → Moves sh p h.world
 running sh p h c k n l e = go (h.world.cores c).awaited refl
   where
-    unmarked : (d m : ℕ) → d < sh.dirs → h.world.next ≤ (h.world.dirs d).serving.serving → has_mark (h.world.dirs d).lines m ≡ false
+    unmarked : (d m : ℕ) → d < sh.dirs → h.world.next ≤ serving_at h.world d → has_mark (h.world.dirs d).lines m ≡ false
     unmarked d m i b = test (has_mark (h.world.dirs d).lines m) refl
       where
         test : (x : Bool) → has_mark (h.world.dirs d).lines m ≡ x → has_mark (h.world.dirs d).lines m ≡ false
         test false q = q
         test true q = absurd (omega (arith, b, (k.carried.marked_line_was_marked_by_the_served_tid.0 c d m l i q).1))
 
-    served : (d : ℕ) → d < sh.dirs → Moves sh p h.world ⊎ (h.world.next ≤ (h.world.dirs d).serving.serving) → Moves sh p h.world ⊎ (((h.world.cores c).after d < (h.world.dirs d).serving.serving) × ((m : ℕ) → has_mark (h.world.dirs d).lines m ≡ false))
+    served : (d : ℕ) → d < sh.dirs → Moves sh p h.world ⊎ (h.world.next ≤ serving_at h.world d)
+        → Moves sh p h.world ⊎ (((h.world.cores c).after d < serving_at h.world d) × ((m : ℕ) → has_mark (h.world.dirs d).lines m ≡ false))
     served d i (inl m) = inl m
     served d i (inr b) = inr (omega (arith, b, after_next sh p h c d k l i), λ m. unmarked d m i b)
 

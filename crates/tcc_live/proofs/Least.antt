@@ -13,7 +13,8 @@ pub least : (f : ℕ → ℕ) (n : ℕ) → ((t : ℕ) × IsLeast f n t) ⊎ ((u
 least f zero = inr (λ u l. absurd (omega arith))
 least f (suc n) = go (least f n) (f n) refl
   where
-    go : ((t : ℕ) × IsLeast f n t) ⊎ ((u : ℕ) → u < n → f u ≡ 0) → (x : ℕ) → f n ≡ x → ((t : ℕ) × IsLeast f (suc n) t) ⊎ ((u : ℕ) → u < suc n → f u ≡ 0)
+    go : ((t : ℕ) × IsLeast f n t) ⊎ ((u : ℕ) → u < n → f u ≡ 0) → (x : ℕ) → f n ≡ x
+        → ((t : ℕ) × IsLeast f (suc n) t) ⊎ ((u : ℕ) → u < suc n → f u ≡ 0)
     go (inl r) x e = inl (r.0, record { below = omega (arith, (r.1).below); some = (r.1).some; first = (r.1).first })
     go (inr r) (suc x) e = inl (n, record { below = omega arith; some = omega (arith, e); first = r })
     go (inr r) zero e = inr (λ u l. last u (cases_eq u n) l)

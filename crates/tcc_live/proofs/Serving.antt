@@ -5,7 +5,7 @@ use Rattle.std.proofs.lemmas.Bool.{cases_lt}
 use Rattle.std.proofs.lemmas.Bool.Decides.{nat_tests}
 use Rattle.tcc_program.specs.Program.{Program}
 use Rattle.tcc_maps.specs.Words.{num}
-use Rattle.tcc_maps.specs.Nodes.{Core, Dir, Vendor, Msg, Skip, Abort, InvAck}
+use Rattle.tcc_maps.specs.Nodes.{Core, Vendor, Msg, Skip, Abort, InvAck}
 use Rattle.tcc_maps.specs.Serving.{is_skipped}
 use Rattle.tcc_maps.specs.Shape.{Shape}
 use Rattle.tcc_rules.specs.State.{DirState, World}
@@ -23,6 +23,7 @@ use Rattle.tcc_live.specs.Fits.{goes_to_core, is_grant}
 use Rattle.tcc_live.proofs.Committing.{commit_moves}
 use Rattle.tcc_live.proofs.Events.{Moves, is_answer, back_counted, grant_counted, out_counted}
 use Rattle.tcc_live.proofs.State.{Reached}
+use Rattle.tcc_live.proofs.Found.{back, out, serving_at}
 use Rattle.tcc_live.proofs.Waiting.{skip_answered, abort_answered, ack_answered}
 
 -- a core has the TID
@@ -68,14 +69,15 @@ held sh p w c d t l n = go (live (Grants t) (w.net Vendor (Core c))) refl
     go zero e = inr (record { core = c; below = l; has = one (has_tid (w.cores c).phase t) (omega (arith, e)) })
 
 -- a served TID that was given up: a Skip or an Abort is on its way
-given_up : (sh : Shape) (p : Program) (h : History) (d : ℕ) (k : Reached sh p h) → d < sh.dirs → is_given_up (k.ways d (h.world.dirs d).serving.serving) ≡ true → Moves sh p h.world
+given_up : (sh : Shape) (p : Program) (h : History) (d : ℕ) (k : Reached sh p h) → d < sh.dirs
+    → is_given_up (k.ways d (serving_at h.world d)) ≡ true → Moves sh p h.world
 unfolding share given_up_by pair
 given_up sh p h d k i g =
     let r = some-part (share (given_up_by t) h.world d) sh.cores told in
-    go r.0 (r.1) (live (Skips t) (h.world.net (Core r.0) (Dir d))) refl (r.2)
+    go r.0 (r.1) (live (Skips t) (out h.world r.0 d)) refl (r.2)
   where
     t : ℕ
-    t = (h.world.dirs d).serving.serving
+    t = serving_at h.world d
 
     ahead : (b : Bool) → is_skipped (h.world.dirs d).serving t ≡ b → num (is_skipped (h.world.dirs d).serving t) ≡ 0
     ahead false e = rw e refl
@@ -85,37 +87,46 @@ given_up sh p h d k i g =
     here = grind (arith, nat_tests)
 
     told : 1 ≤ total (share (given_up_by t) h.world d) sh.cores
-    told = omega (arith, k.carried.given_up_tid_is_still_to_be_told_or_kept_or_passed d t i (k.fits.serves d) g, ahead (is_skipped (h.world.dirs d).serving t) refl, here)
+    told = omega (
+      arith,
+      k.carried.given_up_tid_is_still_to_be_told_or_kept_or_passed d t i (k.fits.serves d) g,
+      ahead (is_skipped (h.world.dirs d).serving t) refl,
+      here,
+    )
 
-    go : (c : ℕ) → c < sh.cores → (x : ℕ) → live (Skips t) (h.world.net (Core c) (Dir d)) ≡ x → 1 ≤ live (Skips t) (h.world.net (Core c) (Dir d)) + live (Aborts t) (h.world.net (Core c) (Dir d)) → Moves sh p h.world
+    go : (c : ℕ) → c < sh.cores → (x : ℕ) → live (Skips t) (out h.world c d) ≡ x
+        → 1 ≤ live (Skips t) (out h.world c d) + live (Aborts t) (out h.world c d) → Moves sh p h.world
     go c l (suc x) e n = out_counted sh p h.world (Skips t) c d l i (skip_taken sh (h.world.dirs d) c t) (omega (arith, e))
     go c l zero e n = out_counted sh p h.world (Aborts t) c d l i (abort_taken sh (h.world.dirs d) c t) (omega (arith, e))
 
 -- acknowledgements that are owed are on their way, or their invalidations are
-owed_moves : (sh : Shape) (p : Program) (h : History) (d : ℕ) → Reached sh p h → d < sh.dirs → 1 ≤ (h.world.dirs d).owed → Moves sh p h.world
+owed_moves : (sh : Shape) (p : Program) (h : History) (d : ℕ) → Reached sh p h → d < sh.dirs → 1 ≤ (h.world.dirs d).owed
+    → Moves sh p h.world
 unfolding share due pair
 owed_moves sh p h d k i o =
     let r = some-part (share due h.world d) sh.cores (omega (arith, k.carried.owed_counts_invs_and_acks.owed d)) in
-    go r.0 (r.1) (live Invs (h.world.net (Dir d) (Core r.0))) refl (r.2)
+    go r.0 (r.1) (live Invs (back h.world r.0 d)) refl (r.2)
   where
-    go : (c : ℕ) → c < sh.cores → (x : ℕ) → live Invs (h.world.net (Dir d) (Core c)) ≡ x → 1 ≤ live Invs (h.world.net (Dir d) (Core c)) + live Acks (h.world.net (Core c) (Dir d)) → Moves sh p h.world
+    go : (c : ℕ) → c < sh.cores → (x : ℕ) → live Invs (back h.world c d) ≡ x
+        → 1 ≤ live Invs (back h.world c d) + live Acks (out h.world c d) → Moves sh p h.world
     go c l (suc x) e n = back_counted sh p h.world Invs d c i l inv_taken (omega (arith, e))
     go c l zero e n = out_counted sh p h.world Acks c d l i (ack_taken sh (h.world.dirs d) c) (omega (arith, e))
 
 -- a committed TID that is served
-committed : (sh : Shape) (p : Program) (h : History) (d : ℕ) (k : Reached sh p h) → d < sh.dirs → k.ways d (h.world.dirs d).serving.serving ≡ Committed → Moves sh p h.world
+committed : (sh : Shape) (p : Program) (h : History) (d : ℕ) (k : Reached sh p h) → d < sh.dirs
+    → k.ways d (serving_at h.world d) ≡ Committed → Moves sh p h.world
 committed sh p h d k i y = go (total sent sh.cores) refl
   where
     t : ℕ
-    t = (h.world.dirs d).serving.serving
+    t = serving_at h.world d
 
     sent : ℕ → ℕ
-    sent c = live (Commits t) (h.world.net (Core c) (Dir d))
+    sent c = live (Commits t) (out h.world c d)
 
     settled : Settled sh k.ways h.world d t → Moves sh p h.world
     settled s = either ((k.carried.each_tid_is_resolved_in_one_way.2 d t i (k.fits.serves d)).settled s)
       where
-        either : (t < (h.world.dirs d).serving.serving) ⊎ (((h.world.dirs d).serving.serving ≡ t) × (1 ≤ (h.world.dirs d).owed)) → Moves sh p h.world
+        either : (t < serving_at h.world d) ⊎ ((serving_at h.world d ≡ t) × (1 ≤ (h.world.dirs d).owed)) → Moves sh p h.world
         either (inl l) = absurd (omega arith)
         either (inr o) = owed_moves sh p h d k i (o.1)
 
@@ -123,13 +134,15 @@ committed sh p h d k i y = go (total sent sh.cores) refl
     go (suc x) e = let r = some-part sent sh.cores (omega (arith, e)) in commit_moves sh p h r.0 d t k (r.1) i (r.2)
     go zero e = settled (record { committed = y; handled = λ c l. omega (arith, total-le sent sh.cores c l, e) })
 
-pub serving_stands : (sh : Shape) (p : Program) (h : History) (d : ℕ) → Reached sh p h → d < sh.dirs → Moves sh p h.world ⊎ ((h.world.next ≤ (h.world.dirs d).serving.serving) ⊎ IsHeld sh h.world (h.world.dirs d).serving.serving)
+pub serving_stands : (sh : Shape) (p : Program) (h : History) (d : ℕ) → Reached sh p h → d < sh.dirs
+    → Moves sh p h.world ⊎ ((h.world.next ≤ serving_at h.world d) ⊎ IsHeld sh h.world (serving_at h.world d))
 serving_stands sh p h d k i = go (k.ways d t) refl
   where
     t : ℕ
-    t = (h.world.dirs d).serving.serving
+    t = serving_at h.world d
 
-    open_at : k.ways d t ≡ Untold → (t < h.world.next) ⊎ (h.world.next ≤ t) → Moves sh p h.world ⊎ ((h.world.next ≤ t) ⊎ IsHeld sh h.world t)
+    open_at : k.ways d t ≡ Untold → (t < h.world.next) ⊎ (h.world.next ≤ t)
+        → Moves sh p h.world ⊎ ((h.world.next ≤ t) ⊎ IsHeld sh h.world t)
     open_at y (inr l) = inr (inl l)
     open_at y (inl l) = let r = k.carried.open_tid_is_live d t i (k.fits.serves d) l y in with_core (held sh p h.world r.0 d t (r.1) (r.2))
       where

@@ -47,7 +47,8 @@ link-taken sh s d zero (Some x ∷ l) = omega arith
 link-taken sh s d (suc k) (None ∷ l) = link-taken sh s d k l
 link-taken sh s d (suc k) (Some x ∷ l) = omega (arith, link-taken sh s d k l)
 
-pub link-fits : (sh : Shape) (s d : Node) (l : Link) (k : ℕ) (m : Msg) → on_link sh s d l ≡ 0 → get_or l k None ≡ Some m → fits sh s d m ≡ true
+pub link-fits : (sh : Shape) (s d : Node) (l : Link) (k : ℕ) (m : Msg) → on_link sh s d l ≡ 0 → get_or l k None ≡ Some m
+    → fits sh s d m ≡ true
 unfolding on_link
 link-fits sh s d [] k m z e = absurd (cc)
 link-fits sh s d (None ∷ l) zero m z e = absurd (cc)
@@ -77,14 +78,17 @@ same_node Vendor (Dir d) h = absurd (cc)
 abbrev pub LinksClean : Shape → (Node → Node → Link) → Type 0
 LinksClean sh net = (s d : Node) → on_link sh s d (net s d) ≡ 0
 
-pub sending-clean : (sh : Shape) (net : Node → Node → Link) (n : Node) (sends : Sends) → LinksClean sh net → AllFit sh n sends → LinksClean sh (sending net n sends)
+pub sending-clean : (sh : Shape) (net : Node → Node → Link) (n : Node) (sends : Sends) → LinksClean sh net → AllFit sh n sends
+    → LinksClean sh (sending net n sends)
 sending-clean sh net n sends h f s d = go (node_eq s n) refl
   where
     go : (b : Bool) → node_eq s n ≡ b → on_link sh s d (if b then net s d ++ sent_all (sends d) else net s d) ≡ 0
     go false e = h s d
-    go true e = let q = same_node s n e in let z : strays sh s d (sends d) ≡ 0 = rw q (f d) in omega (arith, link-append sh s d (net s d) (sent_all (sends d)), link-sent sh s d (sends d), h s d)
+    go true e = let q = same_node s n e in let z : strays sh s d (sends d) ≡ 0 = rw q (f d) in
+        omega (arith, link-append sh s d (net s d) (sent_all (sends d)), link-sent sh s d (sends d), h s d)
 
-pub taking-clean : (sh : Shape) (net : Node → Node → Link) (src dst : Node) (k : ℕ) → LinksClean sh net → LinksClean sh (taking net src dst k)
+pub taking-clean : (sh : Shape) (net : Node → Node → Link) (src dst : Node) (k : ℕ) → LinksClean sh net
+    → LinksClean sh (taking net src dst k)
 taking-clean sh net src dst k h s d = go (node_eq s src && node_eq d dst)
   where
     go : (b : Bool) → on_link sh s d (if b then slice_set (net s d) k None else net s d) ≡ 0
@@ -106,7 +110,8 @@ pub strays-one : (sh : Shape) (s d : Node) (m : Msg) → fits sh s d m ≡ true 
 unfolding strays
 strays-one sh s d m e = rw e refl
 
-pub strays-flat : (sh : Shape) (s d : Node) (f : ℕ → List Msg) → ((l : ℕ) → strays sh s d (f l) ≡ 0) → (xs : List ℕ) → strays sh s d (flat_map f xs) ≡ 0
+pub strays-flat : (sh : Shape) (s d : Node) (f : ℕ → List Msg) → ((l : ℕ) → strays sh s d (f l) ≡ 0) → (xs : List ℕ)
+    → strays sh s d (flat_map f xs) ≡ 0
 strays-flat sh s d f h [] = strays-none sh s d
 strays-flat sh s d f h (x ∷ xs) = omega (arith, strays-append sh s d (f x) (flat_map f xs), h x, strays-flat sh s d f h xs)
 
@@ -116,11 +121,13 @@ strays-when sh s d false ms h = strays-none sh s d
 
 -- a message that fits
 
-pub out_fits : (sh : Shape) (c d : ℕ) (m : Msg) → c < sh.cores → d < sh.dirs → goes_to_dir m ≡ true → strays sh (Core c) (Dir d) (m ∷ []) ≡ 0
+pub out_fits : (sh : Shape) (c d : ℕ) (m : Msg) → c < sh.cores → d < sh.dirs → goes_to_dir m ≡ true
+    → strays sh (Core c) (Dir d) (m ∷ []) ≡ 0
 unfolding fits
 out_fits sh c d m l i g = strays-one sh (Core c) (Dir d) m (rw (below c sh.cores l, below d sh.dirs i, g) refl)
 
-pub back_fits : (sh : Shape) (c d : ℕ) (m : Msg) → c < sh.cores → d < sh.dirs → goes_to_core m ≡ true → strays sh (Dir d) (Core c) (m ∷ []) ≡ 0
+pub back_fits : (sh : Shape) (c d : ℕ) (m : Msg) → c < sh.cores → d < sh.dirs → goes_to_core m ≡ true
+    → strays sh (Dir d) (Core c) (m ∷ []) ≡ 0
 unfolding fits
 back_fits sh c d m l i g = strays-one sh (Dir d) (Core c) m (rw (below c sh.cores l, below d sh.dirs i, g) refl)
 
@@ -147,7 +154,8 @@ fit-to sh n m ms h dst = go (node_eq dst m) refl
     go false e = strays-none sh n dst
     go true e = rw (same_node dst m e) h
 
-pub fit-dirs : (sh : Shape) (n : Node) (f : ℕ → List Msg) → ((d : ℕ) → d < sh.dirs → strays sh n (Dir d) (f d) ≡ 0) → AllFit sh n (to_dirs sh f)
+pub fit-dirs : (sh : Shape) (n : Node) (f : ℕ → List Msg) → ((d : ℕ) → d < sh.dirs → strays sh n (Dir d) (f d) ≡ 0)
+    → AllFit sh n (to_dirs sh f)
 fit-dirs sh n f h (Core c) = strays-none sh n (Core c)
 fit-dirs sh n f h Vendor = strays-none sh n Vendor
 fit-dirs sh n f h (Dir d) = go (nat_lt d sh.dirs) refl

@@ -22,8 +22,10 @@ use Rattle.tcc_live.proofs.Halted.{IsStill, done}
 use Rattle.tcc_live.proofs.State.{Reached}
 
 -- what holds of a state with all that is proved of it holds of every state that a run reaches
-from_reached : (P : Shape → Program → World → Type 0) → ((sh : Shape) (p : Program) (h : History) → Reached sh p h → P sh p h.world) → InEachState P
-from_reached P f sh p entries ram es k = go (run sh p (start entries ram) es) (links_fit sh p entries ram es k.dirs) (runs_carry sh p entries ram es) (runs_stay_in_memory sh p entries ram es k.inside)
+from_reached : (P : Shape → Program → World → Type 0) → ((sh : Shape) (p : Program) (h : History) → Reached sh p h → P sh p h.world)
+    → InEachState P
+from_reached P f sh p entries ram es k = go (run sh p (start entries ram) es) (links_fit sh p entries ram es k.dirs)
+    (runs_carry sh p entries ram es) (runs_stay_in_memory sh p entries ram es k.inside)
   where
     gs : List Grant
     gs = grants_from sh p es (first_state entries ram)
@@ -31,7 +33,8 @@ from_reached P f sh p entries ram es k = go (run sh p (start entries ram) es) (l
     ys : Ways
     ys = ways_from sh p es first_ways (first_state entries ram)
 
-    go : (x : Option History) → IfSome x (λ h. KeptFits sh h.world) → IfSome x (λ h. Carried sh gs ys h) → IfSome x (λ h. CarriedInMemory sh h) → IfSome x (λ h. P sh p h.world)
+    go : (x : Option History) → IfSome x (λ h. KeptFits sh h.world) → IfSome x (λ h. Carried sh gs ys h)
+        → IfSome x (λ h. CarriedInMemory sh h) → IfSome x (λ h. P sh p h.world)
     go None a b c = tt
     go (Some h) a b c = f sh p h (record { grants = gs; ways = ys; equipped = k; fits = a; carried = b; memory = c })
 

@@ -42,7 +42,8 @@ asked_or s o l e = go (s.lines.asked l) refl
     go false q = inl (rw q refl)
 
 -- a load request for a line without mark, behind the core's last commit, waits for an owner that was asked
-pub load_answered : (c l after : ℕ) (s : DirState) → after < s.serving.serving → has_mark s.lines l ≡ false → (is_answer (load_request c l after s) ≡ true) ⊎ IsAsked s l
+pub load_answered : (c l after : ℕ) (s : DirState) → after < s.serving.serving → has_mark s.lines l ≡ false
+    → (is_answer (load_request c l after s) ≡ true) ⊎ IsAsked s l
 unfolding load_request
 load_answered c l after s h m = go (s.lines.owner l) refl
   where
@@ -74,7 +75,8 @@ mark_answered l m t s h = go (s.lines.owner l) refl
         either (inr a) = inr a
 
 -- a Commit of the served TID is taken once all its lines are marked
-pub commit_answered : (sh : Shape) (c t n : ℕ) (s : DirState) → s.serving.serving ≡ t → count_below (has_mark s.lines) (lines sh) ≡ n → is_answer (commit sh c t n s) ≡ true
+pub commit_answered : (sh : Shape) (c t n : ℕ) (s : DirState) → s.serving.serving ≡ t → count_below (has_mark s.lines) (lines sh) ≡ n
+    → is_answer (commit sh c t n s) ≡ true
 unfolding commit
 commit_answered sh c t n s e q = grind (arith, nat_tests)
 

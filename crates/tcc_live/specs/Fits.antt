@@ -53,4 +53,5 @@ pub record KeptFits (sh : Shape) (w : World) : Type 0 where
 
 -- So it is in every state that a run reaches, where there is a directory.
 abbrev pub LinksFitAlways : Type 0
-LinksFitAlways = (sh : Shape) (p : Program) (entries : ℕ → Local) (ram : ℕ → ℕ) (es : List Event) → 1 ≤ sh.dirs → IfSome (run sh p (start entries ram) es) (λ h. KeptFits sh h.world)
+LinksFitAlways = (sh : Shape) (p : Program) (entries : ℕ → Local) (ram : ℕ → ℕ) (es : List Event) → 1 ≤ sh.dirs
+    → IfSome (run sh p (start entries ram) es) (λ h. KeptFits sh h.world)

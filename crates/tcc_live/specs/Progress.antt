@@ -19,7 +19,8 @@ pub record IsEquipped (sh : Shape) (p : Program) : Type 0 where
 
 -- P holds of every state that a run of such a machine reaches
 abbrev pub InEachState : (Shape → Program → World → Type 0) → Type 0
-InEachState P = (sh : Shape) (p : Program) (entries : ℕ → Local) (ram : ℕ → ℕ) (es : List Event) → IsEquipped sh p → IfSome (run sh p (start entries ram) es) (λ h. P sh p h.world)
+InEachState P = (sh : Shape) (p : Program) (entries : ℕ → Local) (ram : ℕ → ℕ) (es : List Event) → IsEquipped sh p
+    → IfSome (run sh p (start entries ram) es) (λ h. P sh p h.world)
 
 -- Where no event is useful the state is done.
 abbrev pub DoneWhereNoneUseful : Shape → Program → World → Type 0
@@ -46,4 +47,5 @@ EndsDone sh o = IfSome o (λ h. IsDone sh h.world)
 
 abbrev pub PickedEndsDone : Type 0
 PickedEndsDone = (sh : Shape) (p : Program) (entries : ℕ → Local) (ram : ℕ → ℕ) (rs : List ℕ) → IsEquipped sh p
-    → length (picked sh p rs (start entries ram)) < length rs → EndsDone sh (run sh p (start entries ram) (picked sh p rs (start entries ram)))
+    → length (picked sh p rs (start entries ram)) < length rs
+    → EndsDone sh (run sh p (start entries ram) (picked sh p rs (start entries ram)))
