@@ -14,7 +14,7 @@ abbrev pub whole_run_events : List Event
 whole_run_events =
     e 0 ∷ e 2 ∷ e 1 ∷ d c0 d0 0 ∷ d c2 d1 0 ∷ d d1 c2 0 ∷ e 2 ∷ d c1 d0 0 ∷ e 2 ∷ e 2 ∷ d c2 v 0 ∷ d d0 c1 0 ∷ e 1 ∷ e 1 ∷
     e 1 ∷ d d0 c0 0 ∷ d v c2 0 ∷ e 0 ∷ e 0 ∷ e 0 ∷ e 0 ∷ d c2 d0 0 ∷ d c2 d1 1 ∷ d c0 v 0 ∷ d c1 v 0 ∷ d v c1 0 ∷ d c1 d1 0 ∷
-    d v c0 0 ∷ d c0 d1 0 ∷ d c0 d0 1 ∷ d d1 c2 1 ∷ e 2 ∷ x 2 0 0 ∷ d c2 d1 2 ∷ d c2 d1 3 ∷ d c2 d1 4 ∷ d d0 c0 1 ∷ d c0 d0 2 ∷
+    d v c0 0 ∷ d c0 d1 0 ∷ d c0 d0 1 ∷ d d1 c2 1 ∷ e 2 ∷ x 2 1 0 ∷ d c2 d1 2 ∷ d c2 d1 3 ∷ d c2 d1 4 ∷ d d0 c0 1 ∷ d c0 d0 2 ∷
     e 0 ∷ d c0 d0 3 ∷ d d0 c1 1 ∷ d c1 d0 2 ∷ d c1 d0 3 ∷ d c1 d0 1 ∷ d d0 c1 2 ∷ e 1 ∷ d c1 d0 4 ∷ d d0 c0 2 ∷ d c0 d0 4 ∷
     d c1 d0 4 ∷ d d0 c1 3 ∷ e 1 ∷ e 1 ∷ e 1 ∷ d c1 v 1 ∷ d v c1 1 ∷ d c1 d1 1 ∷ d c1 d0 5 ∷ d d0 c1 4 ∷ e 1 ∷ x 1 0 0 ∷
     d c1 d0 6 ∷ d c1 d0 7 ∷ d c1 d0 8 ∷ d d0 c0 3 ∷ d c0 d0 5 ∷ []
@@ -34,7 +34,7 @@ whole_run = record {
 
 abbrev pub WholeRun : Type 0
 WholeRun =
-    Tells (machine 3 2 1 2 256)
+    Tells (machine 3 2 2 2 512)
     ((add 0 5 ∷ sb 1 2 7 ∷ Prints 65 ∷ Halts 3 ∷ []) ∷
     (add 0 6 ∷ Prints 66 ∷ Halts 4 ∷ []) ∷
     (lw 8 ∷ sh 8 2 9 ∷ Traps 3 ∷ []) ∷
