@@ -1,5 +1,5 @@
 -- One record's change as the change of the map of lines.
-use Rattle.std.proofs.Common.{◌≡◌, ℕ, Bool, true, false, Option, None, option_map, if◌then◌else◌, ◌==◌, ◌&&◌, refl, ap, sym, ◌∙◌}
+use Rattle.std.proofs.Common.{◌≡◌, ℕ, Bool, true, false, Option, Some, None, option_map, if◌then◌else◌, ◌==◌, ◌&&◌, refl, ap, sym, ◌∙◌}
 use borrow.Author.Tests.{eqb-true}
 use Rattle.tcc_base.specs.declared.names.CoreId.{CoreId}
 use Rattle.tcc_base.specs.declared.names.Tid.{Tid}
@@ -9,6 +9,7 @@ use Rattle.tcc_maps.specs.Words.{put, put_at}
 use Rattle.tcc_maps.specs.Masks.{has}
 use Rattle.tcc_maps.proofs.Masks.{has-zero}
 use Rattle.tcc_maps.specs.Lines.{with_sharer, with_owner, with_tag, with_asked, with_mark, no_lines}
+use Rattle.dir_lines.specs.Owned.{owned_line}
 use Rattle.dir_lines.specs.Record.{Record, blank, lines_of}
 
 -- a field that is as before
@@ -68,27 +69,43 @@ lines_of-with_mark f l m = λ i. record {
 }
 
 -- a set of cores that differs at one core from the line's
-new-sharer : (f : ℕ → Record) (l c : ℕ) (on : Bool) (s : CoreSet) (j d : ℕ)
-    → ((k : ℕ) → has s.0 k ≡ (if k == c then on else has (f l).sharers.0 k))
-    → has (put f l (record (f l) { sharers = s }) j).sharers.0 d ≡ put_at (λ m k. has (f m).sharers.0 k) l c on j d
-new-sharer f l c on s j d h = by (j == l) refl (d == c) (h d)
+new-sharer : (f : ℕ → Record) (l c : ℕ) (on : Bool) (r : Record) (j d : ℕ)
+    → ((k : ℕ) → has r.sharers.0 k ≡ (if k == c then on else has (f l).sharers.0 k))
+    → has (put f l r j).sharers.0 d ≡ put_at (λ m k. has (f m).sharers.0 k) l c on j d
+new-sharer f l c on r j d h = by (j == l) refl (d == c) (h d)
   where
-    by : (p : Bool) → (j == l) ≡ p → (q : Bool) → has s.0 d ≡ (if q then on else has (f l).sharers.0 d)
-        → has (if p then record (f l) { sharers = s } else f j).sharers.0 d ≡ (if p && q then on else has (f j).sharers.0 d)
+    by : (p : Bool) → (j == l) ≡ p → (q : Bool) → has r.sharers.0 d ≡ (if q then on else has (f l).sharers.0 d)
+        → has (if p then r else f j).sharers.0 d ≡ (if p && q then on else has (f j).sharers.0 d)
     by true t true e = e
     by true t false e = e ∙ ap (λ k. has (f k).sharers.0 d) (sym (eqb-true j l t))
     by false t q e = refl
+
+abbrev owned_record : (ℕ → Record) → ℕ → CoreId → Tid → CoreSet → Record
+owned_record f l c t s = record { sharers = s; owner = Some c; tag = t; asked = false; mark = (f l).mark }
 
 pub lines_of-with_sharer : (f : ℕ → Record) (l c : ℕ) (on : Bool) (s : CoreSet)
     → ((k : ℕ) → has s.0 k ≡ (if k == c then on else has (f l).sharers.0 k))
     → lines_of (put f l (record (f l) { sharers = s })) ≡ with_sharer l c on (lines_of f)
 unfolding lines_of with_sharer
 lines_of-with_sharer f l c on s h = λ i. record {
-  sharers = λ j d. new-sharer f l c on s j d h i;
+  sharers = λ j d. new-sharer f l c on (record (f l) { sharers = s }) j d h i;
   owner = λ j. same-field (λ r. option_map (λ c. c.0) r.owner) f l (record (f l) { sharers = s }) j refl i;
   tag = λ j. same-field (λ r. r.tag.0) f l (record (f l) { sharers = s }) j refl i;
   asked = λ j. same-field (λ r. r.asked) f l (record (f l) { sharers = s }) j refl i;
   mark = λ j. same-field (λ r. r.mark.0) f l (record (f l) { sharers = s }) j refl i;
+}
+
+-- a commit of the line
+pub lines_of-owned : (f : ℕ → Record) (l : ℕ) (c : CoreId) (t : Tid) (s : CoreSet)
+    → ((k : ℕ) → has s.0 k ≡ (if k == c.0 then true else has (f l).sharers.0 k))
+    → lines_of (put f l (record { sharers = s; owner = Some c; tag = t; asked = false; mark = (f l).mark })) ≡ owned_line l c.0 t.0 (lines_of f)
+unfolding lines_of with_sharer with_owner with_tag with_asked
+lines_of-owned f l c t s h = λ i. record {
+  sharers = λ j d. new-sharer f l c.0 true (owned_record f l c t s) j d h i;
+  owner = λ j. new-field (λ r. option_map (λ c. c.0) r.owner) f l (owned_record f l c t s) j (Some c.0) refl i;
+  tag = λ j. new-field (λ r. r.tag.0) f l (owned_record f l c t s) j t.0 refl i;
+  asked = λ j. new-field (λ r. r.asked) f l (owned_record f l c t s) j false refl i;
+  mark = λ j. same-field (λ r. r.mark.0) f l (owned_record f l c t s) j refl i;
 }
 
 -- blank records know nothing of any line

@@ -6,3 +6,5 @@ pub mod Filing
 pub mod PagesAt
 pub mod PagesKeep
 pub mod Marks
+pub mod WordsAt
+pub mod Lemmas

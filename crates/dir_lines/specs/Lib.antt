@@ -6,3 +6,6 @@ pub mod PagesInside
 pub mod Kept
 pub mod Filed
 pub mod FiledInside
+pub mod Words
+pub mod WordsInside
+pub mod Owned

@@ -4,10 +4,14 @@ ghost use Rattle.tcc_maps.specs.Words.{those, count_below};
 ghost use Rattle.tcc_maps.specs.Shape.{lines};
 ghost use Rattle.tcc_maps.specs.Lines.{no_lines, with_sharer, with_owner, with_tag, with_asked, with_mark, unmarked, has_mark};
 ghost use Rattle.dir_lines.specs.Home.{IsAtHome};
+ghost use Rattle.tcc_maps.specs.Masks.{has};
 ghost use Rattle.dir_lines.specs.Kept.{kept};
+ghost use Rattle.dir_lines.specs.Owned.{owned_line};
+ghost use Rattle.dir_lines.specs.Pages.{is_at_home};
 
 use crate::lines::Lines;
 use crate::pages::PageLines;
+use crate::record::LineRecord;
 use std::alloc::Global;
 use std::marker::Model;
 use tcc_base::{Config, CoreId, DirId, LineAddr, Mask, NoMemory, Tid};
@@ -28,7 +32,7 @@ impl Model for DirLines {
     ghost view = { λ d. d.lines };
 }
 
-#[tactic(auto, unfolding(crate::specs::Kept::kept))]
+#[tactic(auto, unfolding(crate::specs::Kept::kept, crate::specs::Record::lines_of))]
 impl DirLines {
     /// All lines of that home: no sharer, no owner, tag 0, not asked, no mark. Its time and memory go with their number.
     pub fn new(alloc: Global, cfg: &Config, home: DirId) -> Result<Self, NoMemory>
@@ -39,6 +43,32 @@ impl DirLines {
         Ok(DirLines {
             lines: PageLines::new(alloc, cfg, home)?,
         })
+    }
+
+    /// The settings of the machine.
+    pub fn config(&self) -> Config
+        ensures { result ≡ self.now.place.shape }
+    {
+        self.lines.config()
+    }
+
+    /// Whether the line exists and is at home here: those of which the other calls may be asked.
+    pub fn has_line(&self, line: LineAddr) -> bool
+        ensures { result ≡ is_at_home self.now.place line.0 }
+    {
+        self.lines.has_line(line)
+    }
+
+    /// All that is known of the line, in one reading.
+    pub fn get(&self, line: LineAddr) -> LineRecord
+        requires { IsAtHome self.now.place line.0 }
+        ensures sharers { (c : ℕ) → has result.sharers.0 c ≡ (kept self.now).sharers line.0 c }
+        ensures owner { option_map (λ c. c.0) result.owner ≡ (kept self.now).owner line.0 }
+        ensures tag { result.tag.0 ≡ (kept self.now).tag line.0 }
+        ensures asked { result.asked ≡ (kept self.now).asked line.0 }
+        ensures mark { result.mark.0 ≡ (kept self.now).mark line.0 }
+    {
+        self.lines.get(line)
     }
 
     /// Whether the core is a sharer of the line.
@@ -117,6 +147,16 @@ impl DirLines {
         ensures map { kept self.new ≡ with_asked line.0 asked (kept self.old) }
     {
         self.lines.set_asked(line, asked)
+    }
+
+    /// Makes the core the line's owner and a sharer, with the TID as the line's tag, and not asked. The mark stays.
+    pub fn own(&mut self, line: LineAddr, core: CoreId, tid: Tid)
+        requires at_home { IsAtHome self.old.place line.0 }
+        requires exists { core.0 < self.old.place.shape.cores }
+        ensures place { self.new.place ≡ self.old.place }
+        ensures map { kept self.new ≡ owned_line line.0 core.0 tid.0 (kept self.old) }
+    {
+        self.lines.own(line, core, tid)
     }
 
     /// Sets the line's mark. The time is constant where lines are marked in rising order; else it goes with the number of marked

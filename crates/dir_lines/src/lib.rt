@@ -10,6 +10,7 @@ mod record;
 #[cfg(test)]
 mod tests;
 mod tree;
+mod words;
 
 pub use array::DirLines;
 pub use core_set::CoreSet;
@@ -17,3 +18,4 @@ pub use lines::Lines;
 pub use pages::PageLines;
 pub use record::LineRecord;
 pub use tree::MapLines;
+pub use words::HomeWords;

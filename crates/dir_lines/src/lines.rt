@@ -5,6 +5,7 @@ ghost use Rattle.tcc_maps.specs.Words.{put, those, count_below};
 ghost use Rattle.tcc_maps.specs.Shape.{lines};
 ghost use Rattle.tcc_maps.specs.Lines.{no_lines, with_sharer, with_owner, with_tag, with_asked, with_mark, unmarked, has_mark};
 ghost use Rattle.dir_lines.specs.Home.{IsHome, IsAtHome};
+ghost use Rattle.dir_lines.specs.Owned.{owned_line};
 
 use crate::record::LineRecord;
 use std::alloc::Global;
@@ -130,6 +131,24 @@ pub trait Lines: Drop {
     {
         let mut to = self.get(line);
         to.asked = asked;
+        self.set(line, to);
+    }
+
+    /// Makes the core the line's owner and a sharer, with the TID as the line's tag, and not asked. The mark stays.
+    fn own(&mut self, line: LineAddr, core: CoreId, tid: Tid)
+        requires at_home { IsAtHome (place self.old) line.0 }
+        requires exists { core.0 < (place self.old).shape.cores }
+        ensures place { place self.new ≡ place self.old }
+        ensures map { lines_of (records self.new) ≡ owned_line line.0 core.0 tid.0 (lines_of (records self.old)) }
+    {
+        let was = self.get(line);
+        let to = LineRecord {
+            sharers: was.sharers.with(core, true),
+            owner: Some(core),
+            tag: tid,
+            asked: false,
+            mark: was.mark,
+        };
         self.set(line, to);
     }
 

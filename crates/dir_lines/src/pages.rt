@@ -1,8 +1,9 @@
 // The lines as one array of records, so that a line is found by one division.
-ghost use Rattle.std.specs.Prelude.{◌≡◌, ℕ, ◌+◌, ◌-◌, ◌/◌, ◌<◌, IfOk, replicate};
+ghost use Rattle.std.specs.Prelude.{◌≡◌, ℕ, ◌+◌, ◌-◌, ◌/◌, ◌<◌, ◌≤◌, IfOk, replicate};
 ghost use Rattle.tcc_base.specs.Settings.{Settings, IsAllowed};
 ghost use Rattle.dir_lines.specs.Home.{Home, home_lines};
 ghost use Rattle.dir_lines.specs.Record.{blank};
+ghost use Rattle.dir_lines.specs.Pages.{is_at_home};
 
 use crate::lines::Lines;
 use crate::marked;
@@ -30,6 +31,22 @@ impl Model for PageLines {
     ghost view = { pages_of };
 
     ghost invariant = { IsPages };
+}
+
+impl PageLines {
+    // The settings of the machine.
+    pub(crate) fn config(&self) -> Config
+        ensures { result ≡ self.now.place.shape }
+    {
+        self.cfg
+    }
+
+    // Whether the line exists and is at home here.
+    pub(crate) fn has_line(&self, line: LineAddr) -> bool
+        ensures { result ≡ is_at_home self.now.place line.0 }
+    {
+        line.0 < self.cfg.words() / 8 && self.cfg.home(line) == self.home
+    }
 }
 
 impl Lines for PageLines {
@@ -78,6 +95,7 @@ impl Lines for PageLines {
 pub(crate) fn count(cfg: &Config, home: DirId) -> usize
     ensures count { result ≡ home_lines (record { shape = cfg.now; dir = home.0 }) }
     ensures allowed { IsAllowed cfg.now }
+    ensures small { result ≤ cfg.now.ram / 32 + 1 }
 {
     let lines = cfg.words() / 8;
     let dirs = cfg.dirs() as u32;

@@ -43,6 +43,17 @@ pub advance-serve_from : (s : Serving) → advance s ≡ serve_from (s.serving +
 unfolding advance
 advance-serve_from s = refl
 
+-- no TID behind the flags is passed
+serve_from-bound : (t : ℕ) (xs : List Bool) → (serve_from t xs).serving ≤ t + length xs
+unfolding serve_from
+serve_from-bound t [] = omega arith
+serve_from-bound t (true ∷ xs) = omega (arith, serve_from-bound (t + 1) xs)
+serve_from-bound t (false ∷ xs) = omega arith
+
+pub advance-bound : (s : Serving) → (advance s).serving ≤ s.serving + 1 + length s.skips
+unfolding advance
+advance-bound s = serve_from-bound (s.serving + 1) s.skips
+
 pub ruleset serving_steps = (serve_from-none, serve_from-clear, serve_from-set, advance-serve_from)
 
 -- both at once

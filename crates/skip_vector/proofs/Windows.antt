@@ -1,5 +1,5 @@
 -- An ordered set of TIDs against the flags that it stands for.
-use Rattle.std.proofs.Common.{◌≡◌, ℕ, zero, suc, ◌+◌, ◌-◌, ◌^◌, ◌<◌, ◌≤◌, Bool, true, false, List, [], ◌∷◌, Some, slice_get, refl, ap, sym, ◌∙◌, arith, nat_lt, eqb, cond}
+use Rattle.std.proofs.Common.{◌≡◌, ℕ, zero, suc, ◌+◌, ◌-◌, ◌^◌, ◌<◌, ◌≤◌, Bool, true, false, List, [], ◌∷◌, Some, length, slice_get, refl, ap, sym, ◌∙◌, arith, nat_lt, eqb, cond}
 use Rattle.std.specs.Ordering.{nat_cmp, match_ordering}
 use Rattle.std.specs.declared.cmp.Ordering.TheVariants.{Less, Equal, Greater}
 use borrow.Author.Tests.{ltb-true, ltb-false, eqb-true, eqb-false}
@@ -106,6 +106,18 @@ skipped-insert_key s k ts h a =
     let e : k - s - 1 ≡ k - (s + 1) = omega arith in
     skipped-higher k (record { serving = s; skips = window (s + 1) ts }) a
     ∙ ap (λ xs. record { serving = s; skips = xs }) (ap (λ j. skip_at j (window (s + 1) ts)) e ∙ sym (window-insert_key (s + 1) k ts h (omega arith)))
+
+-- all flags are of TIDs that can be skipped
+length-clear_before : (n : ℕ) (xs : List Bool) → length (clear_before n xs) ≡ n + length xs
+unfolding clear_before
+length-clear_before zero xs = omega arith
+length-clear_before (suc n) xs = omega (arith, length-clear_before n xs)
+
+pub window-bound : (s : ℕ) (ts : List ℕ) → Rises s ts → s ≤ 2 ^ 62 → s + length (window s ts) ≤ 2 ^ 62
+unfolding Rises window
+window-bound s [] h b = omega arith
+window-bound s (t ∷ ts) h b =
+    omega (arith, window-bound (t + 1) ts h.2 (omega (arith, h.1)), length-clear_before (t - s) (true ∷ window (t + 1) ts), h.0, h.1)
 
 pub ruleset window_steps = (window-served, serve_from-window_stays, serve_from-set, advance-serve_from, Rises-rest, Rises-other)
 

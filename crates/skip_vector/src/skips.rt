@@ -24,7 +24,8 @@ pub trait Skips: Drop {
         requires { tid.0 < 2 ^ 62 }
         ensures kept { OnOk result (serves self.new ≡ skipped tid.0 (serves self.old)) }
         ensures unchanged { OnErr result (serves self.new ≡ serves self.old) }
-        ensures want { OnErr result ((serves self.old).serving < tid.0) };
+        ensures want { OnErr result ((serves self.old).serving < tid.0) }
+        ensures small { (serves self.old).serving ≤ 2 ^ 62 → (serves self.new).serving ≤ 2 ^ 62 };
 
     /// Goes to the next TID that was not skipped, and forgets the skips below it. No memory is taken. The time is that of the
     /// skips that are passed.

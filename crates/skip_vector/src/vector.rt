@@ -47,6 +47,7 @@ impl SkipVector {
         ensures kept { OnOk result (self.new ≡ skipped tid.0 self.old) }
         ensures unchanged { OnErr result (self.new ≡ self.old) }
         ensures want { OnErr result (self.old.serving < tid.0) }
+        ensures small { self.old.serving ≤ 2 ^ 62 → self.new.serving ≤ 2 ^ 62 }
     {
         self.skips.skip(tid)
     }

@@ -5,7 +5,7 @@ ghost use Rattle.std.specs.Prelude.{◌≡◌, ◌<◌, ◌↔◌, option_map};
 ghost use Rattle.tcc_maps.specs.Judge.{judge as verdict};
 ghost use Rattle.write_back.specs.Take.{verdict_of};
 
-use tcc_base::{CoreId, Tagged, Tid};
+use tcc_base::{CoreId, Tid};
 
 /// What a directory does with words that an owner sends home.
 #[derive(Clone, Copy, Debug, PartialEq, Eq)]
@@ -19,18 +19,18 @@ pub enum Take {
 }
 
 #[tactic(auto, unfolding(tcc_maps::specs::Judge::judge))]
-/// Judges words that came home from a core, for a line with this owner and this tag (the TID of its last commit, or 0).
+/// Judges words with this tag that came home from a core, for a line with this owner and this tag (the TID of its last commit, or 0).
 /// Words of a later commit wait; words of the last commit that its owner sends are taken; all others are dropped. This is how
 /// tags on write-backs make up for links that overtake one another (Chafi et al., "A Scalable, Non-blocking Approach to
 /// Transactional Memory", HPCA 2007). It takes constant time and no memory.
-pub fn judge(owner: Option<CoreId>, tag: Tid, from: CoreId, back: &Tagged) -> Take
-    ensures map { verdict_of result ≡ verdict (option_map (λ c. c.0) owner) tag.0 from.0 back.now.tag.0 }
-    ensures waits { (result ≡ Take.Wait) ↔ (tag.0 < back.now.tag.0) }
-    ensures takes { (result ≡ Take.Take) ↔ ((tag ≡ back.now.tag) × (owner ≡ Some from)) }
+pub fn judge(owner: Option<CoreId>, tag: Tid, from: CoreId, back: Tid) -> Take
+    ensures map { verdict_of result ≡ verdict (option_map (λ c. c.0) owner) tag.0 from.0 back.0 }
+    ensures waits { (result ≡ Take.Wait) ↔ (tag.0 < back.0) }
+    ensures takes { (result ≡ Take.Take) ↔ ((tag ≡ back) × (owner ≡ Some from)) }
 {
-    if back.tag > tag {
+    if back > tag {
         Take::Wait
-    } else if back.tag == tag && owner == Some(from) {
+    } else if back == tag && owner == Some(from) {
         Take::Take
     } else {
         Take::Drop
@@ -40,7 +40,6 @@ pub fn judge(owner: Option<CoreId>, tag: Tid, from: CoreId, back: &Tagged) -> Ta
 #[cfg(test)]
 mod tests {
     use super::*;
-    use tcc_base::{LineAddr, Mask};
 
     #[test]
     fn judges_by_tag_and_sender(rt: HostRuntime) {
@@ -54,13 +53,7 @@ mod tests {
             (None, 5, one, 5, Take::Drop),
             (None, 0, one, 1, Take::Wait),
         ] {
-            let back = Tagged {
-                line: LineAddr(7),
-                mask: Mask(1),
-                words: [9, 0, 0, 0, 0, 0, 0, 0],
-                tag: Tid(back_tag),
-            };
-            assert_eq!(rt; judge(owner, Tid(tag), from, &back), want, "{back_tag}");
+            assert_eq!(rt; judge(owner, Tid(tag), from, Tid(back_tag)), want, "{back_tag}");
         }
     }
 }
