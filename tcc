@@ -1,7 +1,7 @@
 #!/usr/bin/env bash
 # Runs the simulator from any folder: ./tcc run FORM CORES DIRS SETS WAYS STEPS IMAGE...
 #
-# What runs is the proved program in release/, where that is of these sources and this is Linux on x86-64. Else it is
+# What runs is the proved program in release/, where that is of these sources and runs on this machine. Else it is
 # crates/tcc/out/tcc, which is proved and built first where it isn't of these sources. Words, file names, standard streams and
 # exit status are the program's own; without words, and with -h or --help alone, a page of usage is printed.
 set -u
@@ -44,7 +44,7 @@ build() {
     local log names at=0
     log=$(mktemp "${TMPDIR:-/tmp}/tcc-build.XXXXXX") || return 1
     mapfile -t names < <(crates_of tcc)
-    echo "tcc: release/ isn't of these sources, or not for this platform, so the program is proved and built first ($log)" >&2
+    echo "tcc: the program in release/ isn't of these sources, or can't run here, so it is proved and built first ($log)" >&2
     rm -f -- "$built" "$built.manifest"
     for name in "${names[@]}"; do
         at=$((at + 1))
@@ -71,13 +71,19 @@ build_crate() {
     fi
 }
 
+# runs_here PROGRAM: whether this machine can run it (without words it ends with status 2)
+runs_here() {
+    "$1" </dev/null >/dev/null 2>&1
+    [ $? = 2 ]
+}
+
 case $#,${1-} in
 0, | 1,-h | 1,--help)
     usage
     exit
     ;;
 esac
-if [ "$(uname -sm)" = "Linux x86_64" ] && is_of_sources "$released" "$root/release/manifest"; then
+if is_of_sources "$released" "$root/release/manifest" && runs_here "$released"; then
     exec "$released" "$@"
 fi
 is_of_sources "$built" "$built.manifest" || build || exit 126

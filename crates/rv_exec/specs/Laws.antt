@@ -1,11 +1,12 @@
 -- What the program that RV32IM is does by the instruction table, and what the manual says of quotients and products.
-use Rattle.std.specs.Prelude.{ℕ, Bool, ◌≡◌, ◌<◌, ◌+◌, ◌-◌, ◌*◌, ◌^◌, Option, Some, None}
+use Rattle.std.specs.Prelude.{ℕ, ℤ, pos, Bool, ◌≡◌, ◌<◌, ◌+◌, ◌-◌, ◌*◌, ◌^◌, ◌+ℤ◌, ◌*ℤ◌, ◌<ℤ◌, ◌≤ℤ◌, unsigned_abs, Option, Some, None}
 use Rattle.rv_decode.specs.Table.{Encodes}
 use Rattle.rv_decode.specs.declared.instruction.Inst.{Inst}
-use Rattle.rv_decode.specs.declared.instruction.RegOp.TheVariants.{Mul, Mulhu, Div, Divu, Rem, Remu}
+use Rattle.rv_decode.specs.declared.instruction.RegOp.TheVariants.{Mul, Mulh, Mulhsu, Mulhu, Div, Divu, Rem, Remu}
 use Rattle.rv_exec.specs.Effects.{planned, finished}
 use Rattle.rv_exec.specs.Operations.{reg_result}
 use Rattle.rv_exec.specs.Running.{program, bounded}
+use Rattle.rv_exec.specs.Words.{signed}
 use Rattle.tcc_base.specs.declared.access.Size.{Size}
 use Rattle.tcc_program.specs.Program.{Local, Traps}
 
@@ -35,10 +36,27 @@ pub record DividesAtItsCorners : Type 0 where
   pub div_overflow : reg_result Div (2 ^ 31) (2 ^ 32 - 1) ≡ 2 ^ 31
   pub rem_overflow : reg_result Rem (2 ^ 31) (2 ^ 32 - 1) ≡ 0
 
--- the dividend is the divisor times the quotient, plus the remainder
-abbrev pub RemaindersRest : Type 0
-RemaindersRest = (a b : ℕ) → 0 < b → reg_result Divu a b * b + reg_result Remu a b ≡ a
+-- the dividend is the divisor times the quotient, plus the remainder, which is below the divisor
+abbrev pub DividesUnsigned : Type 0
+DividesUnsigned = (a b : ℕ) → 0 < b → (reg_result Divu a b * b + reg_result Remu a b ≡ a) × (reg_result Remu a b < b)
 
--- the high and the low word of an unsigned product
-abbrev pub WordsMakeTheProduct : Type 0
-WordsMakeTheProduct = (a b : ℕ) → reg_result Mulhu a b * 2 ^ 32 + reg_result Mul a b ≡ a * b
+-- q and r are the quotient, rounded towards zero, and the remainder: it is smaller than the divisor, and has the dividend's sign
+-- where it isn't zero
+pub record Divides (x y q r : ℤ) : Type 0 where
+  pub equation : q *ℤ y +ℤ r ≡ x
+  pub smaller : unsigned_abs r < unsigned_abs y
+  pub sign : (pos 0 ≤ℤ x → pos 0 ≤ℤ r) × (x <ℤ pos 0 → r ≤ℤ pos 0)
+
+-- every signed division but that by zero and the one that overflows
+abbrev pub DividesSigned : Type 0
+DividesSigned =
+    (a b : ℕ) → a < 2 ^ 32 → b < 2 ^ 32 → 0 < b → (b ≡ 2 ^ 32 - 1 → a ≡ 2 ^ 31 → ⊥) →
+    Divides (signed a) (signed b) (signed (reg_result Div a b)) (signed (reg_result Rem a b))
+
+-- the high word, by the signs of the operands, and the low word are the product
+pub record WordsMakeTheProducts : Type 0 where
+  pub mulhu : (a b : ℕ) → reg_result Mulhu a b * 2 ^ 32 + reg_result Mul a b ≡ a * b
+  pub mulh : (a b : ℕ) → a < 2 ^ 32 → b < 2 ^ 32 →
+      signed (reg_result Mulh a b) *ℤ pos (2 ^ 32) +ℤ pos (reg_result Mul a b) ≡ signed a *ℤ signed b
+  pub mulhsu : (a b : ℕ) → a < 2 ^ 32 → b < 2 ^ 32 →
+      signed (reg_result Mulhsu a b) *ℤ pos (2 ^ 32) +ℤ pos (reg_result Mul a b) ≡ signed a *ℤ pos b

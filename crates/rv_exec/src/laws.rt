@@ -1,5 +1,5 @@
 // What holds of the program that RV32IM is, and of the definitions that its effects are stated in.
-ghost use Rattle.rv_exec.specs.Laws.{TrapsWhereNoWordIsFetched, TrapsOutsideTheTable, RunsTheTable, DividesAtItsCorners, RemaindersRest, WordsMakeTheProduct};
+ghost use Rattle.rv_exec.specs.Laws.{TrapsWhereNoWordIsFetched, TrapsOutsideTheTable, RunsTheTable, DividesAtItsCorners, DividesUnsigned, DividesSigned, WordsMakeTheProducts};
 
 use rv_decode::table_is_a_function_of_the_word;
 
@@ -15,12 +15,14 @@ pub fn program_runs_the_table()
     table_is_a_function_of_the_word();
 }
 
-/// The manual's table of division by zero and of overflow, and that a quotient and its remainder give the dividend back and the
-/// two words of a product the product.
+/// The manual's table of division by zero and of overflow; every other quotient and its remainder give the dividend back, where the
+/// remainder is smaller than the divisor and has the dividend's sign; and the high word of each product and its low word are the
+/// product.
 ///
 /// A law, without code.
 pub fn divisions_and_products()
     ensures corners { DividesAtItsCorners }
-    ensures quotient { RemaindersRest }
-    ensures product { WordsMakeTheProduct }
+    ensures unsigned { DividesUnsigned }
+    ensures signed { DividesSigned }
+    ensures products { WordsMakeTheProducts }
 {}

@@ -60,7 +60,7 @@ answers-left words w status a files (Err (why.Value field)) is (bad, t) h told n
 answers-left words w status a files (Err (why.Image fault)) is (b, read, r, first, t) h told none =
     left-after (fault_of a.form a.settings files) (Some fault) status
     (same_fault words w a b files read h r.command told r.given ∙ first) (inl is)
-answers-left words w status a files (Err (why.Store name)) is (b, k, (t, rose), s) h told none = absurd (none.reads name.now rose)
+answers-left words w status a files (Err (why.Store name)) is (b, k, first, s) h told none = absurd (none.reads name.now first.rose)
 answers-left words w status a files (Err why.Output) is (b, read, begun, (n, t, u, rose)) h told none = absurd (none.out rose)
 answers-left words w status a files (Err why.Memory) is t h told none = memory_left (fault_of a.form a.settings files) status is
 

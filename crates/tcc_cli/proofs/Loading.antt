@@ -1,6 +1,6 @@
 -- Files that are read one after the other, and then as images.
-use Rattle.std.proofs.Common.{ℕ, zero, suc, ◌≡◌, ◌+◌, ◌<◌, ◌≤◌, List, [], ◌∷◌, ◌++◌, length, map, take, drop, get_or, Bor, Option, Some, None, refl, sym, ◌∙◌, ap, subst, arith, add-one, drop-cons, drop_of_length-le, take-suc}
-use Rattle.std.proofs.lemmas.List.{map-append}
+use Rattle.std.proofs.Common.{ℕ, zero, suc, ◌≡◌, ◌≢◌, ◌+◌, ◌<◌, ◌≤◌, List, [], ◌∷◌, ◌++◌, length, map, take, drop, get_or, Bor, Option, Some, None, refl, sym, ◌∙◌, ap, subst, arith, add-one, drop-cons, drop_of_length-le, take-suc}
+use Rattle.std.proofs.lemmas.List.{map-append, take-append-drop}
 use Rattle.std.proofs.lemmas.List.Elements.{All-append}
 use Rattle.std.specs.Prelude.{All}
 use Rattle.image_elf.specs.declared.image.Image.{Image}
@@ -8,7 +8,8 @@ use Rattle.std.specs.Option.{option_or, option_map}
 use Rattle.image_elf.specs.Tests.{tests, first_fault}
 use Rattle.image_elf.specs.declared.fault.ElfFault.{ElfFault}
 use Rattle.tcc_cli.specs.Images.{elf_named, elf_fault}
-use Rattle.tcc_cli.specs.Reading.{AreGiven}
+use Rattle.tcc_cli.specs.Reading.{AreGiven, FailedFirst}
+use Rattle.tcc_world.specs.Faults.{Rose}
 use Rattle.tcc_world.specs.Told.{Gives}
 
 pub none_given : (told : List ℕ → Option (List ℕ)) → AreGiven told [] []
@@ -47,6 +48,27 @@ given_length told [] [] h = refl
 given_length told [] (f ∷ fs) h = absurd h
 given_length told (n ∷ ns) [] h = absurd h
 given_length told (n ∷ ns) (f ∷ fs) h = ap (λ k. suc k) (given_length told ns fs h.1)
+
+-- the name at which reading stops is the first of which the read failed
+pub failed_first : (told : List ℕ → Option (List ℕ)) (names : List (Bor (List ℕ))) (d : Bor (List ℕ)) (i : ℕ) (files : List (List ℕ))
+    (before mid after : List ℕ → ℕ) → i < length names → AreGiven told (map (λ w. w.now) (take i names)) files
+    → ((n : List ℕ) → mid n ≡ before n) → Rose (mid (get_or names i d).now) (after (get_or names i d).now)
+    → ((n : List ℕ) → n ≢ (get_or names i d).now → after n ≡ mid n)
+    → FailedFirst told (map (λ w. w.now) names) before after (get_or names i d).now
+failed_first told names d i files before mid after h given same rose others =
+    let now = map {A = Bor (List ℕ)} {B = List ℕ} (λ w. w.now) in
+    let name = (get_or names i d).now in record {
+      earlier = now (take i names);
+      later = now (drop (suc i) names);
+      names_are =
+          sym (ap now (take-append-drop i names))
+          ∙ map-append (λ w. w.now) (take i names) (drop i names)
+          ∙ ap (λ rest. now (take i names) ++ now rest) (drop-cons names i d h);
+      files = files;
+      given = given;
+      rose = subst (λ k. Rose k (after name)) (same name) rose;
+      others = λ n apart. others n apart ∙ same n;
+    }
 
 -- the faults from a file on are its own, or else those from the next one on
 elf_step : (n : ℕ) (files : List (List ℕ)) (d : List ℕ) → n < length files

@@ -7,6 +7,7 @@ use Rattle.std.proofs.lemmas.List.{take-append-drop, take-append-le}
 use Rattle.std.proofs.lemmas.List.Folds.{length-flat_map-take}
 use Rattle.std.specs.List.{flat_map}
 use Rattle.std.specs.Fmt.{decimal}
+use Rattle.std.specs.Io.KnownBytes.{Appends}
 use Rattle.std.specs.Prelude.{codes}
 use Rattle.report_text.specs.Lines.{newline}
 use Rattle.tcc_cli.specs.Lines.{Written, IsCut, IsTold}
@@ -14,9 +15,8 @@ use Rattle.tcc_cli.specs.Refusals.{reader_word, field_word, line_of}
 use Rattle.tcc_cli.specs.declared.refusal.ImageFault.{ImageFault}
 use Rattle.tcc_cli.specs.declared.refusal.Refusal.TheVariants.{Words, Value, Image, Store, Output, Memory}
 use Rattle.tcc_cli.specs.declared.words.Field.{Field}
-use Rattle.tcc_world.proofs.Told.{appended-append}
+use Rattle.tcc_world.proofs.Told.{appends-append}
 use Rattle.tcc_world.specs.Faults.{Rose}
-use Rattle.tcc_world.specs.Told.{appended}
 
 -- a count that rose from one that was no smaller rose from the smaller one
 pub rose_before : (before mid after : ℕ) → before ≤ mid → Rose mid after → Rose before after
@@ -31,8 +31,8 @@ split_at f ps i d h =
 
 -- a piece of which a first part was written cuts the whole
 pub cut_at : {P : Type 0} (f : P → List ℕ) (ps : List P) (i n : ℕ) (d : P) (o : Written) (mid : Option (List ℕ)) → i < length ps
-    → mid ≡ appended o.before (flat_map f (take i ps)) → n < length (f (get_or ps i d))
-    → o.after ≡ appended mid (take n (f (get_or ps i d))) → Rose o.faults_before o.faults_after → IsCut (flat_map f ps) o
+    → Appends o.before mid (flat_map f (take i ps)) → n < length (f (get_or ps i d))
+    → Appends mid o.after (take n (f (get_or ps i d))) → Rose o.faults_before o.faults_after → IsCut (flat_map f ps) o
 cut_at f ps i n d o mid h begun short cut rose =
     let pre = flat_map f (take i ps) in
     let x = f (get_or ps i d) in
@@ -44,20 +44,20 @@ cut_at f ps i n d o mid h begun short cut rose =
     ∙ ap (λ t. pre ++ t) (take-append-le n x rest (omega (arith, short))) in (
       length pre + n,
       omega (arith, fits, short),
-      cut ∙ ap (λ m. appended m (take n x)) begun ∙ sym (appended-append o.before pre (take n x)) ∙ ap (appended o.before) (sym whole),
+      subst (Appends o.before o.after) (sym whole) (appends-append o.before mid o.after pre (take n x) begun cut),
       rose,
     )
 
 -- one piece more was written
 pub told_more : {P : Type 0} (f : P → List ℕ) (ps : List P) (i : ℕ) (d : P) (before mid after : Option (List ℕ)) → i < length ps
-    → mid ≡ appended before (flat_map f (take i ps)) → after ≡ appended mid (f (get_or ps i d))
-    → after ≡ appended before (flat_map f (take (i + 1) ps))
+    → Appends before mid (flat_map f (take i ps)) → Appends mid after (f (get_or ps i d))
+    → Appends before after (flat_map f (take (i + 1) ps))
 told_more f ps i d before mid after h begun more =
-    rw (add-one i)
-    (more
-    ∙ ap (λ m. appended m (f (get_or ps i d))) begun
-    ∙ sym (appended-append before (flat_map f (take i ps)) (f (get_or ps i d)))
-    ∙ ap (appended before) (sym (ap (flat_map f) (take-suc ps i d h) ∙ flat_map-append f (take i ps) (get_or ps i d ∷ []) ∙ ap (λ t. flat_map f (take i ps) ++ t) (append-nil (f (get_or ps i d))))))
+    let pre = flat_map f (take i ps) in
+    let x = f (get_or ps i d) in
+    let joined : flat_map f (take (suc i) ps) ≡ pre ++ x =
+    ap (flat_map f) (take-suc ps i d h) ∙ flat_map-append f (take i ps) (get_or ps i d ∷ []) ∙ ap (λ t. pre ++ t) (append-nil x) in
+    rw (add-one i) (subst (Appends before after) (sym joined) (appends-append before mid after pre x begun more))
 
 pub told_same : (s t : List ℕ) (o : Written) → s ≡ t → IsTold s o → IsTold t o
 told_same s t o e h = subst (λ x. IsTold x o) e h

@@ -1,10 +1,10 @@
 -- What is written behind the bytes that an output told before.
 use Rattle.std.specs.Prelude.{ℕ, List, length, take, ◌≡◌, ◌<◌, ◌⊎◌, Option}
 use Rattle.std.specs.Fmt.{decimal}
+use Rattle.std.specs.Io.KnownBytes.{Appends}
 use Rattle.tcc_cli.specs.declared.refusal.Piece.{Piece}
 use Rattle.tcc_cli.specs.declared.refusal.Piece.TheVariants.{Text, Number}
 use Rattle.tcc_world.specs.Faults.{Rose}
-use Rattle.tcc_world.specs.Told.{appended}
 
 abbrev pub piece_text : Piece → List ℕ
 piece_text (Text text) = text.now
@@ -20,10 +20,11 @@ pub record Written : Type 0 where
 -- a first part of the text was written, and not all of it, and the count of faults rose
 abbrev pub IsCut : List ℕ → Written → Type 0
 IsCut text o =
-    (n : ℕ) × (n < length text) × (o.after ≡ appended o.before (take n text)) × Rose o.faults_before o.faults_after
+    (n : ℕ) × (n < length text) × Appends o.before o.after (take n text) × Rose o.faults_before o.faults_after
 
+-- the text stands behind the bytes that the output told before, once
 abbrev pub IsWhole : List ℕ → Written → Type 0
-IsWhole text o = o.after ≡ appended o.before text
+IsWhole text o = Appends o.before o.after text
 
 -- all of the text was written, or a first part where the count of faults rose
 abbrev pub IsTold : List ℕ → Written → Type 0

@@ -7,7 +7,7 @@ use Rattle.rv_plain.specs.Machine.{program, plain_start}
 use Rattle.tcc_cli.specs.Asked.{Asked, IsCommand}
 use Rattle.tcc_cli.specs.Images.{start_of, fault_of}
 use Rattle.tcc_cli.specs.Lines.{Written, IsTold, IsCut, IsWhole, IsSilent}
-use Rattle.tcc_cli.specs.Reading.{AreGiven, RefusedFiles}
+use Rattle.tcc_cli.specs.Reading.{AreGiven, FailedFirst}
 use Rattle.tcc_cli.specs.Refusals.{End, RefusedWords, line_of, status_of}
 use Rattle.tcc_cli.specs.Runs.{run_of, text_of}
 use Rattle.tcc_cli.specs.declared.refusal.ImageFault.{ImageFault}
@@ -56,7 +56,7 @@ Ends words w (Err (why.Value field)) = RefusedWords words (why.Value field) × I
 Ends words w (Err (why.Image fault)) =
     (a : Asked) × (files : List (List ℕ)) × Read words w a files × (fault_of a.form a.settings files ≡ Some fault) × IsSilent w.out
 Ends words w (Err (why.Store name)) =
-    (a : Asked) × IsCommand words a × RefusedFiles a.images w.reads_before w.reads_after (why.Store name) × IsSilent w.out
+    (a : Asked) × IsCommand words a × FailedFirst w.told a.images w.reads_before w.reads_after name.now × IsSilent w.out
 Ends words w (Err why.Output) =
     (a : Asked) × (files : List (List ℕ)) × Started words w a files × IsCut (report_of (start_from a files) a.steps) w.out
 Ends words w (Err why.Memory) = (a : Asked) × IsCommand words a × IsSilent w.out

@@ -22,7 +22,7 @@ pub fn read_files<'a, F: Store>(
     files: &mut F,
 ) -> Result<Vec<List<u8>>, Refusal<'a>>
     ensures read { IfOk result (λ read. AreGiven (F.contents files.old) (map (λ w. w.now) names.now) read.items) }
-    ensures refused { IfErr result (RefusedFiles (map (λ w. w.now) names.now) (F.failed_reads files.old) (F.failed_reads files.new)) }
+    ensures refused { IfErr result (RefusedFiles (F.contents files.old) (map (λ w. w.now) names.now) (F.failed_reads files.old) (F.failed_reads files.new)) }
     ensures contents { (n : List ℕ) → F.contents files.new n ≡ F.contents files.old n }
 {
     let mut read = Vec::new(alloc);

@@ -17,7 +17,7 @@ use tcc_world::{Gate, Sink, SinkFailed, Store, write_all};
 ///
 /// `Done`: a halt or a trap is committed, and the whole report was written. `Stopped`: none is, and it was. `Words`: the words
 /// are no command, or a value isn't allowed. `Image`: the files were read, and one is no image. `StoreFault`: reading a file
-/// failed. `SinkFault`: `out` failed, after a first part of the report. `Memory`: there wasn't enough memory, before anything
+/// failed, this one first. `SinkFault`: `out` failed, after a first part of the report. `Memory`: there wasn't enough memory, before anything
 /// was written. Nothing is written to `out` with the other refusals. A refusal writes its line to `err`, as far as `err` takes
 /// it; nothing else is written there. No file is changed.
 pub fn tcc_main<F: Store, O: Sink, E: Sink, G: Gate + Sync>(

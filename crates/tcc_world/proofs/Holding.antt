@@ -1,5 +1,5 @@
 -- Laws of a map of names and of a list of names, for the calls of a store in memory.
-use Rattle.std.proofs.Common.{◌≡◌, ◌≢◌, ◌+◌, ℕ, true, cond, List, [], ◌∷◌, ◌++◌, refl, ap, sym, ◌∙◌}
+use Rattle.std.proofs.Common.{◌≡◌, ◌≢◌, ◌+◌, ℕ, true, cond, List, [], ◌∷◌, ◌++◌, refl, ap, sym, ◌∙◌, arith}
 use Rattle.std.specs.Prelude.{Some}
 use Rattle.std.specs.Cmp.Lexicographic.{nat_list_cmp_total}
 use Rattle.std.specs.Str.{bytes_eq}
@@ -19,6 +19,12 @@ times-append names other name = fold-append (λ n x. n + cond (bytes_eq x name) 
 
 pub times-once_more : (names : List (List ℕ)) (name : List ℕ) → times (names ++ name ∷ []) name ≡ times names name + 1
 times-once_more names name = times-append names name name ∙ ap (λ b. times names name + cond b 1 0) (bytes_eq-same name)
+
+pub times-other : (names : List (List ℕ)) (other name : List ℕ) → name ≢ other → times (names ++ other ∷ []) name ≡ times names name
+times-other names other name apart =
+    times-append names other name
+    ∙ ap (λ b. times names name + cond b 1 0) (false_from_ne_true _ (λ same. apart (sym ((bytes_eq-Decides other name).0 same))))
+    ∙ omega arith
 
 pub get-insert_same : (files : Files) (name bytes : List ℕ) → by_name.get (by_name.insert files name bytes) name ≡ Some bytes
 get-insert_same files name bytes =

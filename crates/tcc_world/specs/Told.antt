@@ -1,12 +1,7 @@
 -- Bytes that an object of the outside world may tell: `None` tells nothing.
-use Rattle.std.specs.Prelude.{◌≡◌, ℕ, List, ◌++◌, Option, None, Some}
+use Rattle.std.specs.Prelude.{◌≡◌, ℕ, List, Option, None, Some}
 
 -- what is told, if anything, is these bytes
 abbrev pub Gives : Option (List ℕ) → List ℕ → Type 0
 Gives None bytes = Unit {0}
 Gives (Some known) bytes = known ≡ bytes
-
--- these bytes stand behind what was told
-unfoldable pub appended : Option (List ℕ) → List ℕ → Option (List ℕ)
-appended None bytes = None
-appended (Some known) bytes = Some (known ++ bytes)

@@ -165,6 +165,8 @@ impl Store for MapStore {
         ensures cause { IsErrOf result StoreError.Failed → Rose (times self.old.unread name.now) (times self.new.unread name.now) }
         ensures contents_stay { (n : List ℕ) → by_name.get self.new.files n ≡ by_name.get self.old.files n }
         ensures tells_stays { true ≡ true }
+        ensures no_failure { OnOk result ((n : List ℕ) → times self.new.unread n ≡ times self.old.unread n) }
+        ensures others_stay { (n : List ℕ) → n ≢ name.now → times self.new.unread n ≡ times self.old.unread n }
         ensures reads { (n : List ℕ) → times self.old.unread n ≤ times self.new.unread n }
         ensures writes { (n : List ℕ) → times self.new.unwritten n ≡ times self.old.unwritten n }
     {

@@ -1,6 +1,6 @@
 // A place to write bytes to, which may take a part of them or fail.
 ghost use Rattle.std.specs.Prelude.{◌≡◌, ℕ, ◌<◌, ◌≤◌, List, Option, length, take, IfOk, OnOk, OnErr};
-ghost use Rattle.tcc_world.specs.Told.{appended};
+ghost use Rattle.std.specs.Io.KnownBytes.{Appends, Keeps};
 ghost use Rattle.tcc_world.specs.Faults.{Rose};
 
 /// The sink failed. It took nothing in that call.
@@ -16,13 +16,14 @@ pub trait Sink {
     /// How often the sink has failed.
     ghost faults: { Self → ℕ };
 
-    /// Takes a prefix of the piece, of at least one byte where the piece isn't empty, and answers its length. It fails
-    /// only where the count of faults rose in this call, and then has taken nothing. An empty piece changes nothing.
+    /// Takes a prefix of the piece, of at least one byte where the piece isn't empty, and answers its length: the bytes that were
+    /// told before are told still, with this prefix behind them, once. It fails only where the count of faults rose in this call,
+    /// and then has taken nothing. An empty piece changes nothing.
     fn write(&mut self, piece: &[u8]) -> Result<usize, SinkFailed>
         ensures prefix { IfOk result (λ n. n ≤ length piece.now) }
-        ensures taken { IfOk result (λ n. bytes self.new ≡ appended (bytes self.old) (take n piece.now)) }
+        ensures taken { IfOk result (λ n. Appends (bytes self.old) (bytes self.new) (take n piece.now)) }
         ensures progress { IfOk result (λ n. 0 < length piece.now → 0 < n) }
-        ensures failed { OnErr result (bytes self.new ≡ bytes self.old) }
+        ensures failed { OnErr result (Keeps (bytes self.old) (bytes self.new)) }
         ensures cause { OnErr result (Rose (faults self.old) (faults self.new)) }
         ensures faults_stay { faults self.old ≤ faults self.new }
         ensures empty { length piece.now ≡ 0 → (result ≡ Ok 0) × (bytes self.new ≡ bytes self.old) × (faults self.new ≡ faults self.old) };
@@ -32,8 +33,8 @@ pub trait Sink {
 /// written a prefix of the bytes, and not all of them. It takes no memory of its own.
 #[tactic(auto, using(crate::proofs::Told::parts))]
 pub fn write_all<S: Sink>(sink: &mut S, bytes: &[u8]) -> Result<(), SinkFailed>
-    ensures written { OnOk result (S.bytes sink.new ≡ appended (S.bytes sink.old) bytes.now) }
-    ensures prefix { OnErr result ((n : ℕ) × (n < length bytes.now) × (S.bytes sink.new ≡ appended (S.bytes sink.old) (take n bytes.now))) }
+    ensures written { OnOk result (Appends (S.bytes sink.old) (S.bytes sink.new) bytes.now) }
+    ensures prefix { OnErr result ((n : ℕ) × (n < length bytes.now) × Appends (S.bytes sink.old) (S.bytes sink.new) (take n bytes.now)) }
     ensures cause { OnErr result (Rose (S.faults sink.old) (S.faults sink.new)) }
     ensures faults_stay { S.faults sink.old ≤ S.faults sink.new }
 {

@@ -40,13 +40,16 @@ pub trait Store {
     ghost failed_writes: { Self → List ℕ → ℕ };
 
     /// Reads a file whole, and leaves the contents of every name whatever it answers. `Failed` comes only where the
-    /// name's count of failed reads rose in this call; a missing file raises it too.
+    /// name's count of failed reads rose in this call; a missing file raises it too. No other name's count changes, and
+    /// none where the file was read.
     fn read(&mut self, alloc: Global, name: &str) -> Result<Vec<u8>, StoreError>
         ensures bytes { IfOk result (λ bytes. Gives (contents self.old name.now) bytes.items) }
         ensures cause { IsErrOf result StoreError.Failed → Rose (failed_reads self.old name.now) (failed_reads self.new name.now) }
 
         ensures contents_stay { (n : List ℕ) → contents self.new n ≡ contents self.old n }
         ensures tells_stays { tells self.new ≡ tells self.old }
+        ensures no_failure { OnOk result ((n : List ℕ) → failed_reads self.new n ≡ failed_reads self.old n) }
+        ensures others_stay { (n : List ℕ) → n ≢ name.now → failed_reads self.new n ≡ failed_reads self.old n }
         ensures reads { (n : List ℕ) → failed_reads self.old n ≤ failed_reads self.new n }
         ensures writes { (n : List ℕ) → failed_writes self.new n ≡ failed_writes self.old n };
 

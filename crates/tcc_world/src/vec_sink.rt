@@ -1,6 +1,6 @@
 // A sink in memory, which fails at chosen calls and when it is full.
 ghost use Rattle.std.specs.Prelude.{◌≡◌, ℕ, ◌<◌, ◌≤◌, [], length, take, IfOk, OnOk, OnErr};
-ghost use Rattle.tcc_world.specs.Told.{appended};
+ghost use Rattle.std.specs.Io.KnownBytes.{Appends, Keeps};
 ghost use Rattle.tcc_world.specs.Faults.{Rose};
 
 use crate::{Sink, SinkFailed};
@@ -68,16 +68,15 @@ impl Sink for VecSink {
 
     /// Takes as many bytes as there is room for, and no memory. A call with an empty piece has no number; calls past
     /// number 2^64 - 1 have that number.
-    #[tactic(auto, unfolding(crate::specs::Told::appended))]
     fn write(&mut self, piece: &[u8]) -> Result<usize, SinkFailed>
         ensures answers { 0 < length piece.now → result ≡ answer self.old piece.now }
         ensures after { 0 < length piece.now → self.new ≡ after_call self.old piece.now }
         ensures unchanged { length piece.now ≡ 0 → self.new ≡ self.old }
 
         ensures prefix { IfOk result (λ n. n ≤ length piece.now) }
-        ensures taken { IfOk result (λ n. Some self.new.bytes ≡ appended (Some self.old.bytes) (take n piece.now)) }
+        ensures taken { IfOk result (λ n. Appends (Some self.old.bytes) (Some self.new.bytes) (take n piece.now)) }
         ensures progress { IfOk result (λ n. 0 < length piece.now → 0 < n) }
-        ensures failed { OnErr result (Some self.new.bytes ≡ Some self.old.bytes) }
+        ensures failed { OnErr result (Keeps (Some self.old.bytes) (Some self.new.bytes)) }
         ensures cause { OnErr result (Rose self.old.faults self.new.faults) }
         ensures faults_stay { self.old.faults ≤ self.new.faults }
         ensures empty { length piece.now ≡ 0 → (result ≡ Ok 0) × (Some self.new.bytes ≡ Some self.old.bytes) × (self.new.faults ≡ self.old.faults) }

@@ -1,5 +1,5 @@
-use Rattle.std.proofs.Common.{rules, [], subst, sym, refl}
-use Rattle.tcc_cli.proofs.Loading.{none_given, given_next}
+use Rattle.std.proofs.Common.{rules, [], subst, sym, refl, ◌∙◌}
+use Rattle.tcc_cli.proofs.Loading.{none_given, given_next, failed_first}
 use Rattle.tcc_cli.specs.Reading.{AreGiven}
 use Rattle.tcc_world.specs.Told.{Gives}
 use Rattle.tcc_cli.proofs.files.read_files.Goals as goal
@@ -9,7 +9,7 @@ loop-name-init g c = record {
   given = subst (λ items. AreGiven (g.F.Store.contents c.args.files.now) [] items) (sym c.new-read.ensures.items)
       (none_given (g.F.Store.contents c.args.files.now));
   contents = λ n. refl;
-  reads = λ n. search rules;
+  reads = λ n. refl;
 }
 
 pub loop-name-preserved : goal.loop-name-preserved
@@ -18,5 +18,12 @@ loop-name-preserved g c = record {
       c.push.new.self.items c.in-Ok.items.items c.loop-name-test.true c.loop-name.invariant.given
       (subst (λ t. Gives t c.in-Ok.items.items) (c.loop-name.invariant.contents _) c.in-Ok.ensures.bytes) c.in-Ok-push.ensures.items;
   contents = λ n. search (rules, c.loop-name.invariant.contents n, c.in-Ok.ensures.contents_stay n);
-  reads = λ n. search (rules, c.loop-name.invariant.reads n, c.in-Ok.ensures.reads n);
+  reads = λ n. c.in-Ok.ensures.no_failure n ∙ c.loop-name.invariant.reads n;
 }
+
+pub returns-in-Err-Failed-clause-refused : goal.returns-in-Err-Failed-clause-refused
+returns-in-Err-Failed-clause-refused g c =
+    failed_first (g.F.Store.contents c.args.files.now) c.args.names.now _ c.loop-name.name-index c.loop-name.read.items
+    (g.F.Store.failed_reads c.args.files.now) (g.F.Store.failed_reads c.loop-name.files) (g.F.Store.failed_reads c.read.new.self)
+    c.loop-name-test.true c.loop-name.invariant.given c.loop-name.invariant.reads (search (rules, c.in-Err-Failed.ensures.cause))
+    (λ n apart. c.in-Err-Failed.ensures.others_stay n apart)

@@ -1,4 +1,4 @@
-use Rattle.std.proofs.Common.{ℕ, List, ◌≡◌, ◌≤◌, map, take}
+use Rattle.std.proofs.Common.{ℕ, List, ◌≡◌, map, take}
 use Rattle.tcc_cli.specs.Reading.{AreGiven}
 use Rattle.tcc_cli.proofs.files.read_files.Given as goal
 
@@ -6,5 +6,5 @@ abbrev pub invariant-loop-name : goal.invariant-loop-name
 invariant-loop-name g l = record {
   given : AreGiven (g.F.Store.contents l.fn.files) (map (λ w. w.now) (take l.name-index l.names)) l.read.items;
   contents : (n : List ℕ) → g.F.Store.contents l.files n ≡ g.F.Store.contents l.fn.files n;
-  reads : (n : List ℕ) → g.F.Store.failed_reads l.fn.files n ≤ g.F.Store.failed_reads l.files n;
+  reads : (n : List ℕ) → g.F.Store.failed_reads l.files n ≡ g.F.Store.failed_reads l.fn.files n;
 }

@@ -1,11 +1,11 @@
 use Rattle.std.proofs.Common.{rules, inr}
 use Rattle.tcc_cli.proofs.Pieces.{cut_at, told_more, rose_before}
 use Rattle.tcc_cli.specs.Lines.{piece_text}
-use Rattle.tcc_world.proofs.Told.{appended-nothing}
+use Rattle.tcc_world.proofs.Told.{appends-nothing}
 use Rattle.tcc_cli.proofs.refusal.write_pieces.Goals as goal
 
 pub loop-piece-init : goal.loop-piece-init
-loop-piece-init g c = search (rules, appended-nothing)
+loop-piece-init g c = search (rules, appends-nothing)
 
 pub returns-in-Err : goal.returns-in-Err
 returns-in-Err g c =

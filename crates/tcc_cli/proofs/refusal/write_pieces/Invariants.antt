@@ -1,11 +1,11 @@
-use Rattle.std.proofs.Common.{◌≡◌, ◌≤◌, take}
+use Rattle.std.proofs.Common.{◌≤◌, take}
 use Rattle.std.specs.List.{flat_map}
 use Rattle.tcc_cli.specs.Lines.{piece_text}
-use Rattle.tcc_world.specs.Told.{appended}
+use Rattle.std.specs.Io.KnownBytes.{Appends}
 use Rattle.tcc_cli.proofs.refusal.write_pieces.Given as goal
 
 abbrev pub invariant-loop-piece : goal.invariant-loop-piece
 invariant-loop-piece g l = record {
-  written : g.S.Sink.bytes l.sink ≡ appended (g.S.Sink.bytes l.fn.sink) (flat_map piece_text (take l.piece-index l.pieces));
+  written : Appends (g.S.Sink.bytes l.fn.sink) (g.S.Sink.bytes l.sink) (flat_map piece_text (take l.piece-index l.pieces));
   faults_stay : g.S.Sink.faults l.fn.sink ≤ g.S.Sink.faults l.sink;
 }

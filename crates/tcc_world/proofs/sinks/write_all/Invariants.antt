@@ -1,11 +1,11 @@
-use Rattle.std.proofs.Common.{◌≡◌, ◌≤◌, ◌-◌, length, take}
-use Rattle.tcc_world.specs.Told.{appended}
+use Rattle.std.proofs.Common.{◌≤◌, ◌-◌, length, take}
+use Rattle.std.specs.Io.KnownBytes.{Appends}
 use Rattle.tcc_world.proofs.sinks.write_all.Given as goal
 
 abbrev pub invariant-loop-done : goal.invariant-loop-done
 invariant-loop-done g l = record {
   within : l.done ≤ length l.bytes;
-  taken : g.S.Sink.bytes l.sink ≡ appended (g.S.Sink.bytes l.fn.sink) (take l.done l.bytes);
+  taken : Appends (g.S.Sink.bytes l.fn.sink) (g.S.Sink.bytes l.sink) (take l.done l.bytes);
   faults_stay : g.S.Sink.faults l.fn.sink ≤ g.S.Sink.faults l.sink;
 }
 
