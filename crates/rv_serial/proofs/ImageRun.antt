@@ -17,7 +17,7 @@ use Rattle.tcc_program.specs.Cores.{printed}
 use Rattle.tcc_program.specs.Registers.{zeroed, register, written}
 use Rattle.tcc_serial.specs.Counter.{two_cores}
 use Rattle.tcc_serial.specs.Shown.{changed, shown}
-use Rattle.tcc_serial.proofs.Lemmas.{computed}
+use Rattle.tcc_rules.proofs.Lemmas.{computed}
 use Rattle.rv_serial.specs.CounterImage.{ImagesAreLaid, ImageCounts}
 
 -- one digit of 1 is set

@@ -1,3 +1,4 @@
--- What other crates may cite: the laws of useful events and of picked schedules.
+-- What other crates may cite: all that rules compute with, and the laws of useful events and of picked schedules.
+unfoldable pub use Rattle.tcc_rules.proofs.Computed.{computed}
 pub use Rattle.tcc_rules.proofs.Picked.{PicksRun, picked-is_run}
 pub use Rattle.tcc_rules.proofs.Useful.{useful-holds}

@@ -8,3 +8,4 @@ pub mod LocalStep
 pub mod Merged
 pub mod Picked
 pub mod Lemmas
+pub mod Computed

@@ -3,13 +3,12 @@ use Rattle.std.specs.Prelude.{ℕ}
 use Rattle.std.proofs.Common.{arith, refl}
 use Rattle.tcc_program.specs.Cores.{printed}
 use Rattle.tcc_program.specs.Ram.{word_of}
-use Rattle.tcc_rules.specs.Useful.{room_for_line, room_for_word, room_for_store, room, is_useful, nodes, execs, evicts, delivers, useful}
 use Rattle.tcc_attempt.specs.Follows.{NeedFits}
 use Rattle.tcc_serial.specs.Counter.{two_cores, Inst, Passes, Gets, Counts, Puts, PutsBeside, Says, Finishes, Stops, at_pc, register, inst_need}
 use Rattle.tcc_serial.specs.Counter.{counting, CountingSuits, GoesAlone, HasRead, IsViolated, CountsOn, NothingIsLeft}
 use Rattle.tcc_serial.specs.InMemory.{NeedInMemory}
 use Rattle.tcc_serial.specs.Shown.{changed, shown}
-use Rattle.tcc_serial.proofs.Computed.{computed}
+use Rattle.tcc_rules.proofs.Lemmas.{computed}
 
 inst-fits : (i : Inst) (value : ℕ) → NeedFits (inst_need i value)
 inst-fits Passes y = tt
@@ -58,5 +57,5 @@ unfolding computed counting printed changed shown
 counts_on = refl
 
 pub nothing_is_left : NothingIsLeft
-unfolding computed counting room_for_line room_for_word room_for_store room is_useful nodes execs evicts delivers useful
+unfolding computed counting
 nothing_is_left = refl

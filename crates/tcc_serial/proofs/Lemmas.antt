@@ -1,7 +1,6 @@
 -- What other crates may cite: the laws that they stand on, and lemmas on counts, grants and commits.
 pub use Rattle.tcc_serial.proofs.AllCarried.{runs_are_serial}
 pub use Rattle.tcc_serial.proofs.Commits.{granted-once, numbered-least, numbered-most}
-unfoldable pub use Rattle.tcc_serial.proofs.Computed.{computed}
 pub use Rattle.tcc_serial.proofs.FromKept.{runs_carry}
 pub use Rattle.tcc_serial.proofs.FromMemory.{runs_stay_in_memory}
 pub use Rattle.tcc_serial.proofs.LastOf.{last-most}

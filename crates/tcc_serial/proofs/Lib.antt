@@ -76,7 +76,6 @@ pub mod CoreHomes
 pub mod HomesKept
 pub mod CoreAwaits
 pub mod LoadsKept
-pub mod Computed
 pub mod CoreAfter
 pub mod AfterKept
 pub mod LastOf

@@ -1,68 +1,47 @@
 -- Each schedule is computed by the definitions alone.
-use Rattle.tcc_maps.specs.Cache.{empty_cache, is_marked, way_marked, free_way, all_marked, is_modified, is_dirty, modified_mask, dirty_mask, dirty_words, first_of_line, dirty_tag, dirty_copy, written_lines, marks_by_home, writes_at, reads_at, keeps}
-use Rattle.tcc_maps.specs.CacheChange.{marked, stored as cachechange-stored, placed_at, placed, filled, invalidated, cleaned, evicted_line, evicted, rolled_back, read_cleared, committed as cachechange-committed, word_dropped, words_dropped}
-use Rattle.tcc_maps.specs.CacheLook.{look_line, look_value, look_load, look_store, reads_masked}
-use Rattle.tcc_maps.specs.Judge.{judge}
-use Rattle.tcc_maps.specs.Lines.{no_lines, with_sharer, with_owner, with_tag, with_asked, with_mark, unmarked}
-use Rattle.tcc_maps.specs.Masks.{has, mask_of, hit, masked}
-use Rattle.tcc_maps.specs.Serving.{first_serving, is_skipped, serve_from, advance, skip_at, kept, skipped}
-use Rattle.tcc_maps.specs.Spilled.{none_spilled, spill, spill_line, holds, spilled_mask, spilled_words, spilled_line, drained}
-use Rattle.tcc_maps.specs.Words.{any_below, all_below, count_below, those, lowest, eight, any_word}
-use Rattle.tcc_program.specs.Ram.{word_of, unit_of, part, patched, loaded, stored as ram-stored, flat}
+use Rattle.tcc_rules.proofs.Computed.{computed}
 use Rattle.tcc_program.specs.Registers.{zeroed, register, written}
-use Rattle.tcc_rules.specs.Attempt.{stepped, finished, roll_back}
-use Rattle.tcc_rules.specs.Commit.{noted, committed_core, commit_sends, after_commit, commit as commit-commit, is_written, written_mask, solo_writes_at, solo_marks, solo_backs, solo_sends, solo_commit}
-use Rattle.tcc_rules.specs.CoreDeliver.{is_probed, grant_sends, grant, probe_reply, fill as coredeliver-fill, data_request, if_violated, without, is_violated, acknowledged, invalidate, core_deliver}
-use Rattle.tcc_rules.specs.CoreEvict.{core_evict}
-use Rattle.tcc_rules.specs.CoreExec.{core_exec}
-use Rattle.tcc_rules.specs.DirDeliver.{moved_on, skip, abort, probe, ask_owner, line_words, load_request, mark, is_invalidated, invs_to, invalidations, total, owed_by, owned, settled, commit as dirdeliver-commit, acknowledgement, came_home, write_back as dirdeliver-write_back, dir_deliver}
-use Rattle.tcc_rules.specs.Execute.{ask, place, overflow, full_set, fetch, used, load, buffered, framed, word_store, partial_store, execute}
-use Rattle.tcc_rules.specs.Links.{sent_all}
 use Rattle.tcc_rules.specs.Rows.{padded, both_words, both_code, changed, report, replayed}
-use Rattle.tcc_rules.specs.Seen.{copies_on, copies_of, copies, newest, home_copy, seen}
-use Rattle.tcc_rules.specs.Sends.{written_back, flushed, skip_all, probe_all, abort_written, marks_for}
 use Rattle.tcc_rules.specs.Small.{at_pc, address, call_need, small, entry}
-use Rattle.tcc_rules.specs.State.{core_start, dir_start, vendor_start, start}
-use Rattle.tcc_rules.specs.Step.{names_nodes, happens, core_moves, core_takes, dir_takes, dir_asks, vendor_gives, step, is_enabled, insert_commit, next, run_from, run}
 use Rattle.std.proofs.Common.{refl}
 use Rattle.tcc_rules.proofs.worked_schedules.Goals as goal
 
 pub returns-clause-two_tids : goal.returns-clause-two_tids
-unfolding names_nodes happens empty_cache is_marked way_marked free_way all_marked is_modified is_dirty modified_mask dirty_mask dirty_words first_of_line dirty_tag dirty_copy written_lines marks_by_home writes_at reads_at keeps marked cachechange-stored placed_at placed filled invalidated cleaned evicted_line evicted rolled_back read_cleared cachechange-committed word_dropped words_dropped look_line look_value look_load look_store reads_masked judge no_lines with_sharer with_owner with_tag with_asked with_mark unmarked has mask_of hit masked first_serving is_skipped serve_from advance skip_at kept skipped none_spilled spill spill_line holds spilled_mask spilled_words spilled_line drained any_below all_below count_below those lowest eight any_word word_of unit_of part patched loaded ram-stored flat zeroed register written stepped finished roll_back noted committed_core commit_sends after_commit commit-commit is_written written_mask solo_writes_at solo_marks solo_backs solo_sends solo_commit is_probed grant_sends grant probe_reply coredeliver-fill data_request if_violated without is_violated acknowledged invalidate core_deliver core_evict core_exec moved_on skip abort probe ask_owner line_words load_request mark is_invalidated invs_to invalidations total owed_by owned settled dirdeliver-commit acknowledgement came_home dirdeliver-write_back dir_deliver ask place overflow full_set fetch used load buffered framed word_store partial_store execute sent_all padded both_words both_code changed report replayed copies_on copies_of copies newest home_copy seen written_back flushed skip_all probe_all abort_written marks_for at_pc address call_need small entry core_start dir_start vendor_start start core_moves core_takes dir_takes dir_asks vendor_gives step is_enabled insert_commit next run_from run
+unfolding computed zeroed register written padded both_words both_code changed report replayed at_pc address call_need small entry
 returns-clause-two_tids c = refl
 
 pub returns-clause-two_tids_more : goal.returns-clause-two_tids_more
-unfolding names_nodes happens empty_cache is_marked way_marked free_way all_marked is_modified is_dirty modified_mask dirty_mask dirty_words first_of_line dirty_tag dirty_copy written_lines marks_by_home writes_at reads_at keeps marked cachechange-stored placed_at placed filled invalidated cleaned evicted_line evicted rolled_back read_cleared cachechange-committed word_dropped words_dropped look_line look_value look_load look_store reads_masked judge no_lines with_sharer with_owner with_tag with_asked with_mark unmarked has mask_of hit masked first_serving is_skipped serve_from advance skip_at kept skipped none_spilled spill spill_line holds spilled_mask spilled_words spilled_line drained any_below all_below count_below those lowest eight any_word word_of unit_of part patched loaded ram-stored flat zeroed register written stepped finished roll_back noted committed_core commit_sends after_commit commit-commit is_written written_mask solo_writes_at solo_marks solo_backs solo_sends solo_commit is_probed grant_sends grant probe_reply coredeliver-fill data_request if_violated without is_violated acknowledged invalidate core_deliver core_evict core_exec moved_on skip abort probe ask_owner line_words load_request mark is_invalidated invs_to invalidations total owed_by owned settled dirdeliver-commit acknowledgement came_home dirdeliver-write_back dir_deliver ask place overflow full_set fetch used load buffered framed word_store partial_store execute sent_all padded both_words both_code changed report replayed copies_on copies_of copies newest home_copy seen written_back flushed skip_all probe_all abort_written marks_for at_pc address call_need small entry core_start dir_start vendor_start start core_moves core_takes dir_takes dir_asks vendor_gives step is_enabled insert_commit next run_from run
+unfolding computed zeroed register written padded both_words both_code changed report replayed at_pc address call_need small entry
 returns-clause-two_tids_more c = refl
 
 pub returns-clause-reader_waits : goal.returns-clause-reader_waits
-unfolding names_nodes happens empty_cache is_marked way_marked free_way all_marked is_modified is_dirty modified_mask dirty_mask dirty_words first_of_line dirty_tag dirty_copy written_lines marks_by_home writes_at reads_at keeps marked cachechange-stored placed_at placed filled invalidated cleaned evicted_line evicted rolled_back read_cleared cachechange-committed word_dropped words_dropped look_line look_value look_load look_store reads_masked judge no_lines with_sharer with_owner with_tag with_asked with_mark unmarked has mask_of hit masked first_serving is_skipped serve_from advance skip_at kept skipped none_spilled spill spill_line holds spilled_mask spilled_words spilled_line drained any_below all_below count_below those lowest eight any_word word_of unit_of part patched loaded ram-stored flat zeroed register written stepped finished roll_back noted committed_core commit_sends after_commit commit-commit is_written written_mask solo_writes_at solo_marks solo_backs solo_sends solo_commit is_probed grant_sends grant probe_reply coredeliver-fill data_request if_violated without is_violated acknowledged invalidate core_deliver core_evict core_exec moved_on skip abort probe ask_owner line_words load_request mark is_invalidated invs_to invalidations total owed_by owned settled dirdeliver-commit acknowledgement came_home dirdeliver-write_back dir_deliver ask place overflow full_set fetch used load buffered framed word_store partial_store execute sent_all padded both_words both_code changed report replayed copies_on copies_of copies newest home_copy seen written_back flushed skip_all probe_all abort_written marks_for at_pc address call_need small entry core_start dir_start vendor_start start core_moves core_takes dir_takes dir_asks vendor_gives step is_enabled insert_commit next run_from run
+unfolding computed zeroed register written padded both_words both_code changed report replayed at_pc address call_need small entry
 returns-clause-reader_waits c = refl
 
 pub returns-clause-probe_waits : goal.returns-clause-probe_waits
-unfolding names_nodes happens empty_cache is_marked way_marked free_way all_marked is_modified is_dirty modified_mask dirty_mask dirty_words first_of_line dirty_tag dirty_copy written_lines marks_by_home writes_at reads_at keeps marked cachechange-stored placed_at placed filled invalidated cleaned evicted_line evicted rolled_back read_cleared cachechange-committed word_dropped words_dropped look_line look_value look_load look_store reads_masked judge no_lines with_sharer with_owner with_tag with_asked with_mark unmarked has mask_of hit masked first_serving is_skipped serve_from advance skip_at kept skipped none_spilled spill spill_line holds spilled_mask spilled_words spilled_line drained any_below all_below count_below those lowest eight any_word word_of unit_of part patched loaded ram-stored flat zeroed register written stepped finished roll_back noted committed_core commit_sends after_commit commit-commit is_written written_mask solo_writes_at solo_marks solo_backs solo_sends solo_commit is_probed grant_sends grant probe_reply coredeliver-fill data_request if_violated without is_violated acknowledged invalidate core_deliver core_evict core_exec moved_on skip abort probe ask_owner line_words load_request mark is_invalidated invs_to invalidations total owed_by owned settled dirdeliver-commit acknowledgement came_home dirdeliver-write_back dir_deliver ask place overflow full_set fetch used load buffered framed word_store partial_store execute sent_all padded both_words both_code changed report replayed copies_on copies_of copies newest home_copy seen written_back flushed skip_all probe_all abort_written marks_for at_pc address call_need small entry core_start dir_start vendor_start start core_moves core_takes dir_takes dir_asks vendor_gives step is_enabled insert_commit next run_from run
+unfolding computed zeroed register written padded both_words both_code changed report replayed at_pc address call_need small entry
 returns-clause-probe_waits c = refl
 
 pub returns-clause-over_a_read : goal.returns-clause-over_a_read
-unfolding names_nodes happens empty_cache is_marked way_marked free_way all_marked is_modified is_dirty modified_mask dirty_mask dirty_words first_of_line dirty_tag dirty_copy written_lines marks_by_home writes_at reads_at keeps marked cachechange-stored placed_at placed filled invalidated cleaned evicted_line evicted rolled_back read_cleared cachechange-committed word_dropped words_dropped look_line look_value look_load look_store reads_masked judge no_lines with_sharer with_owner with_tag with_asked with_mark unmarked has mask_of hit masked first_serving is_skipped serve_from advance skip_at kept skipped none_spilled spill spill_line holds spilled_mask spilled_words spilled_line drained any_below all_below count_below those lowest eight any_word word_of unit_of part patched loaded ram-stored flat zeroed register written stepped finished roll_back noted committed_core commit_sends after_commit commit-commit is_written written_mask solo_writes_at solo_marks solo_backs solo_sends solo_commit is_probed grant_sends grant probe_reply coredeliver-fill data_request if_violated without is_violated acknowledged invalidate core_deliver core_evict core_exec moved_on skip abort probe ask_owner line_words load_request mark is_invalidated invs_to invalidations total owed_by owned settled dirdeliver-commit acknowledgement came_home dirdeliver-write_back dir_deliver ask place overflow full_set fetch used load buffered framed word_store partial_store execute sent_all padded both_words both_code changed report replayed copies_on copies_of copies newest home_copy seen written_back flushed skip_all probe_all abort_written marks_for at_pc address call_need small entry core_start dir_start vendor_start start core_moves core_takes dir_takes dir_asks vendor_gives step is_enabled insert_commit next run_from run
+unfolding computed zeroed register written padded both_words both_code changed report replayed at_pc address call_need small entry
 returns-clause-over_a_read c = refl
 
 pub returns-clause-doomed_attempt : goal.returns-clause-doomed_attempt
-unfolding names_nodes happens empty_cache is_marked way_marked free_way all_marked is_modified is_dirty modified_mask dirty_mask dirty_words first_of_line dirty_tag dirty_copy written_lines marks_by_home writes_at reads_at keeps marked cachechange-stored placed_at placed filled invalidated cleaned evicted_line evicted rolled_back read_cleared cachechange-committed word_dropped words_dropped look_line look_value look_load look_store reads_masked judge no_lines with_sharer with_owner with_tag with_asked with_mark unmarked has mask_of hit masked first_serving is_skipped serve_from advance skip_at kept skipped none_spilled spill spill_line holds spilled_mask spilled_words spilled_line drained any_below all_below count_below those lowest eight any_word word_of unit_of part patched loaded ram-stored flat zeroed register written stepped finished roll_back noted committed_core commit_sends after_commit commit-commit is_written written_mask solo_writes_at solo_marks solo_backs solo_sends solo_commit is_probed grant_sends grant probe_reply coredeliver-fill data_request if_violated without is_violated acknowledged invalidate core_deliver core_evict core_exec moved_on skip abort probe ask_owner line_words load_request mark is_invalidated invs_to invalidations total owed_by owned settled dirdeliver-commit acknowledgement came_home dirdeliver-write_back dir_deliver ask place overflow full_set fetch used load buffered framed word_store partial_store execute sent_all padded both_words both_code changed report replayed copies_on copies_of copies newest home_copy seen written_back flushed skip_all probe_all abort_written marks_for at_pc address call_need small entry core_start dir_start vendor_start start core_moves core_takes dir_takes dir_asks vendor_gives step is_enabled insert_commit next run_from run
+unfolding computed zeroed register written padded both_words both_code changed report replayed at_pc address call_need small entry
 returns-clause-doomed_attempt c = refl
 
 pub returns-clause-before_the_fill : goal.returns-clause-before_the_fill
-unfolding names_nodes happens empty_cache is_marked way_marked free_way all_marked is_modified is_dirty modified_mask dirty_mask dirty_words first_of_line dirty_tag dirty_copy written_lines marks_by_home writes_at reads_at keeps marked cachechange-stored placed_at placed filled invalidated cleaned evicted_line evicted rolled_back read_cleared cachechange-committed word_dropped words_dropped look_line look_value look_load look_store reads_masked judge no_lines with_sharer with_owner with_tag with_asked with_mark unmarked has mask_of hit masked first_serving is_skipped serve_from advance skip_at kept skipped none_spilled spill spill_line holds spilled_mask spilled_words spilled_line drained any_below all_below count_below those lowest eight any_word word_of unit_of part patched loaded ram-stored flat zeroed register written stepped finished roll_back noted committed_core commit_sends after_commit commit-commit is_written written_mask solo_writes_at solo_marks solo_backs solo_sends solo_commit is_probed grant_sends grant probe_reply coredeliver-fill data_request if_violated without is_violated acknowledged invalidate core_deliver core_evict core_exec moved_on skip abort probe ask_owner line_words load_request mark is_invalidated invs_to invalidations total owed_by owned settled dirdeliver-commit acknowledgement came_home dirdeliver-write_back dir_deliver ask place overflow full_set fetch used load buffered framed word_store partial_store execute sent_all padded both_words both_code changed report replayed copies_on copies_of copies newest home_copy seen written_back flushed skip_all probe_all abort_written marks_for at_pc address call_need small entry core_start dir_start vendor_start start core_moves core_takes dir_takes dir_asks vendor_gives step is_enabled insert_commit next run_from run
+unfolding computed zeroed register written padded both_words both_code changed report replayed at_pc address call_need small entry
 returns-clause-before_the_fill c = refl
 
 pub returns-clause-over_a_dirty_owner : goal.returns-clause-over_a_dirty_owner
-unfolding names_nodes happens empty_cache is_marked way_marked free_way all_marked is_modified is_dirty modified_mask dirty_mask dirty_words first_of_line dirty_tag dirty_copy written_lines marks_by_home writes_at reads_at keeps marked cachechange-stored placed_at placed filled invalidated cleaned evicted_line evicted rolled_back read_cleared cachechange-committed word_dropped words_dropped look_line look_value look_load look_store reads_masked judge no_lines with_sharer with_owner with_tag with_asked with_mark unmarked has mask_of hit masked first_serving is_skipped serve_from advance skip_at kept skipped none_spilled spill spill_line holds spilled_mask spilled_words spilled_line drained any_below all_below count_below those lowest eight any_word word_of unit_of part patched loaded ram-stored flat zeroed register written stepped finished roll_back noted committed_core commit_sends after_commit commit-commit is_written written_mask solo_writes_at solo_marks solo_backs solo_sends solo_commit is_probed grant_sends grant probe_reply coredeliver-fill data_request if_violated without is_violated acknowledged invalidate core_deliver core_evict core_exec moved_on skip abort probe ask_owner line_words load_request mark is_invalidated invs_to invalidations total owed_by owned settled dirdeliver-commit acknowledgement came_home dirdeliver-write_back dir_deliver ask place overflow full_set fetch used load buffered framed word_store partial_store execute sent_all padded both_words both_code changed report replayed copies_on copies_of copies newest home_copy seen written_back flushed skip_all probe_all abort_written marks_for at_pc address call_need small entry core_start dir_start vendor_start start core_moves core_takes dir_takes dir_asks vendor_gives step is_enabled insert_commit next run_from run
+unfolding computed zeroed register written padded both_words both_code changed report replayed at_pc address call_need small entry
 returns-clause-over_a_dirty_owner c = refl
 
 pub returns-clause-write_back_waits : goal.returns-clause-write_back_waits
-unfolding names_nodes happens empty_cache is_marked way_marked free_way all_marked is_modified is_dirty modified_mask dirty_mask dirty_words first_of_line dirty_tag dirty_copy written_lines marks_by_home writes_at reads_at keeps marked cachechange-stored placed_at placed filled invalidated cleaned evicted_line evicted rolled_back read_cleared cachechange-committed word_dropped words_dropped look_line look_value look_load look_store reads_masked judge no_lines with_sharer with_owner with_tag with_asked with_mark unmarked has mask_of hit masked first_serving is_skipped serve_from advance skip_at kept skipped none_spilled spill spill_line holds spilled_mask spilled_words spilled_line drained any_below all_below count_below those lowest eight any_word word_of unit_of part patched loaded ram-stored flat zeroed register written stepped finished roll_back noted committed_core commit_sends after_commit commit-commit is_written written_mask solo_writes_at solo_marks solo_backs solo_sends solo_commit is_probed grant_sends grant probe_reply coredeliver-fill data_request if_violated without is_violated acknowledged invalidate core_deliver core_evict core_exec moved_on skip abort probe ask_owner line_words load_request mark is_invalidated invs_to invalidations total owed_by owned settled dirdeliver-commit acknowledgement came_home dirdeliver-write_back dir_deliver ask place overflow full_set fetch used load buffered framed word_store partial_store execute sent_all padded both_words both_code changed report replayed copies_on copies_of copies newest home_copy seen written_back flushed skip_all probe_all abort_written marks_for at_pc address call_need small entry core_start dir_start vendor_start start core_moves core_takes dir_takes dir_asks vendor_gives step is_enabled insert_commit next run_from run
+unfolding computed zeroed register written padded both_words both_code changed report replayed at_pc address call_need small entry
 returns-clause-write_back_waits c = (λ w. absurd (cc), refl)
 
 pub returns-clause-alone_after_overflow : goal.returns-clause-alone_after_overflow
-unfolding names_nodes happens empty_cache is_marked way_marked free_way all_marked is_modified is_dirty modified_mask dirty_mask dirty_words first_of_line dirty_tag dirty_copy written_lines marks_by_home writes_at reads_at keeps marked cachechange-stored placed_at placed filled invalidated cleaned evicted_line evicted rolled_back read_cleared cachechange-committed word_dropped words_dropped look_line look_value look_load look_store reads_masked judge no_lines with_sharer with_owner with_tag with_asked with_mark unmarked has mask_of hit masked first_serving is_skipped serve_from advance skip_at kept skipped none_spilled spill spill_line holds spilled_mask spilled_words spilled_line drained any_below all_below count_below those lowest eight any_word word_of unit_of part patched loaded ram-stored flat zeroed register written stepped finished roll_back noted committed_core commit_sends after_commit commit-commit is_written written_mask solo_writes_at solo_marks solo_backs solo_sends solo_commit is_probed grant_sends grant probe_reply coredeliver-fill data_request if_violated without is_violated acknowledged invalidate core_deliver core_evict core_exec moved_on skip abort probe ask_owner line_words load_request mark is_invalidated invs_to invalidations total owed_by owned settled dirdeliver-commit acknowledgement came_home dirdeliver-write_back dir_deliver ask place overflow full_set fetch used load buffered framed word_store partial_store execute sent_all padded both_words both_code changed report replayed copies_on copies_of copies newest home_copy seen written_back flushed skip_all probe_all abort_written marks_for at_pc address call_need small entry core_start dir_start vendor_start start core_moves core_takes dir_takes dir_asks vendor_gives step is_enabled insert_commit next run_from run
+unfolding computed zeroed register written padded both_words both_code changed report replayed at_pc address call_need small entry
 returns-clause-alone_after_overflow c = refl

@@ -1,34 +1,11 @@
 -- Each schedule is computed by the definitions alone.
-use Rattle.tcc_maps.specs.Cache.{empty_cache, is_marked, way_marked, free_way, all_marked, is_modified, is_dirty, modified_mask, dirty_mask, dirty_words, first_of_line, dirty_tag, dirty_copy, written_lines, marks_by_home, writes_at, reads_at, keeps}
-use Rattle.tcc_maps.specs.CacheChange.{marked, stored as cachechange-stored, placed_at, placed, filled, invalidated, cleaned, evicted_line, evicted, rolled_back, read_cleared, committed as cachechange-committed, word_dropped, words_dropped}
-use Rattle.tcc_maps.specs.CacheLook.{look_line, look_value, look_load, look_store, reads_masked}
-use Rattle.tcc_maps.specs.Judge.{judge}
-use Rattle.tcc_maps.specs.Lines.{no_lines, with_sharer, with_owner, with_tag, with_asked, with_mark, unmarked}
-use Rattle.tcc_maps.specs.Masks.{has, mask_of, hit, masked}
-use Rattle.tcc_maps.specs.Serving.{first_serving, is_skipped, serve_from, advance, skip_at, kept, skipped}
-use Rattle.tcc_maps.specs.Spilled.{none_spilled, spill, spill_line, holds, spilled_mask, spilled_words, spilled_line, drained}
-use Rattle.tcc_maps.specs.Words.{any_below, all_below, count_below, those, lowest, eight, any_word}
-use Rattle.tcc_program.specs.Ram.{word_of, unit_of, part, patched, loaded, stored as ram-stored, flat}
-use Rattle.tcc_program.specs.Registers.{zeroed, register, written}
-use Rattle.tcc_rules.specs.Attempt.{stepped, finished, roll_back}
-use Rattle.tcc_rules.specs.Commit.{noted, committed_core, commit_sends, after_commit, commit as commit-commit, is_written, written_mask, solo_writes_at, solo_marks, solo_backs, solo_sends, solo_commit}
-use Rattle.tcc_rules.specs.CoreDeliver.{is_probed, grant_sends, grant, probe_reply, fill as coredeliver-fill, data_request, if_violated, without, is_violated, acknowledged, invalidate, core_deliver}
-use Rattle.tcc_rules.specs.CoreEvict.{core_evict}
-use Rattle.tcc_rules.specs.CoreExec.{core_exec}
-use Rattle.tcc_rules.specs.DirDeliver.{moved_on, skip, abort, probe, ask_owner, line_words, load_request, mark, is_invalidated, invs_to, invalidations, total, owed_by, owned, settled, commit as dirdeliver-commit, acknowledgement, came_home, write_back as dirdeliver-write_back, dir_deliver}
-use Rattle.tcc_rules.specs.Execute.{ask, place, overflow, full_set, fetch, used, load, buffered, framed, word_store, partial_store, execute}
-use Rattle.tcc_rules.specs.Links.{sent_all}
+use Rattle.tcc_rules.proofs.Lemmas.{computed}
 use Rattle.tcc_rules.specs.Rows.{changed}
-use Rattle.tcc_rules.specs.Seen.{copies_on, copies_of, copies, newest, home_copy, seen}
-use Rattle.tcc_rules.specs.Sends.{written_back, flushed, skip_all, probe_all, abort_written, marks_for}
-use Rattle.tcc_rules.specs.Useful.{nodes, execs, evicts, delivers, useful, is_useful, room, room_for_line, room_for_word, room_for_store}
 use Rattle.tcc_rules.specs.Needs.{need_at, goes_on, needs, entry}
 use Rattle.tcc_rules.specs.Told.{words_with, told_core, first_words, told}
-use Rattle.tcc_rules.specs.State.{core_start, dir_start, vendor_start, start}
-use Rattle.tcc_rules.specs.Step.{names_nodes, happens, core_moves, core_takes, dir_takes, dir_asks, vendor_gives, step, is_enabled, insert_commit, next, run_from, run}
 use Rattle.std.proofs.Common.{refl}
 use Rattle.tcc_worked.proofs.alone.Goals as goal
 
 pub returns : goal.returns
-unfolding names_nodes happens empty_cache is_marked way_marked free_way all_marked is_modified is_dirty modified_mask dirty_mask dirty_words first_of_line dirty_tag dirty_copy written_lines marks_by_home writes_at reads_at keeps marked cachechange-stored placed_at placed filled invalidated cleaned evicted_line evicted rolled_back read_cleared cachechange-committed word_dropped words_dropped look_line look_value look_load look_store reads_masked judge no_lines with_sharer with_owner with_tag with_asked with_mark unmarked has mask_of hit masked first_serving is_skipped serve_from advance skip_at kept skipped none_spilled spill spill_line holds spilled_mask spilled_words spilled_line drained any_below all_below count_below those lowest eight any_word word_of unit_of part patched loaded ram-stored flat zeroed register written stepped finished roll_back noted committed_core commit_sends after_commit commit-commit is_written written_mask solo_writes_at solo_marks solo_backs solo_sends solo_commit is_probed grant_sends grant probe_reply coredeliver-fill data_request if_violated without is_violated acknowledged invalidate core_deliver core_evict core_exec moved_on skip abort probe ask_owner line_words load_request mark is_invalidated invs_to invalidations total owed_by owned settled dirdeliver-commit acknowledgement came_home dirdeliver-write_back dir_deliver ask place overflow full_set fetch used load buffered framed word_store partial_store execute sent_all changed copies_on copies_of copies newest home_copy seen written_back flushed skip_all probe_all abort_written marks_for need_at goes_on needs entry words_with told_core first_words told nodes execs evicts delivers useful is_useful room room_for_line room_for_word room_for_store core_start dir_start vendor_start start core_moves core_takes dir_takes dir_asks vendor_gives step is_enabled insert_commit next run_from run
+unfolding computed changed need_at goes_on needs entry words_with told_core first_words told
 returns c = record { schedules = (refl, refl, refl, refl, refl) }
