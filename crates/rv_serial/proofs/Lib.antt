@@ -1,4 +1,5 @@
 pub mod Given
+pub mod Going
 pub mod ImageRun
 pub mod Lemmas
 pub mod MachineRuns

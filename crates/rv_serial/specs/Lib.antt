@@ -1,3 +1,4 @@
 pub mod CounterImage
 pub mod Given
+pub mod Going
 pub mod Suiting

@@ -4,6 +4,7 @@
 
 ghost use Rattle.rv_serial.specs.CounterImage.{ImagesAreLaid, ImageCounts};
 ghost use Rattle.rv_serial.specs.Given.{RunsGiveThePlainMachine, CommittedTidsWereGrantedOnce};
+ghost use Rattle.rv_serial.specs.Going.{RiscvNeverStuck, RiscvCoresGoOn, RiscvPickedEndsDone};
 ghost use Rattle.rv_serial.specs.Suiting.{RiscvProgramsSuit, RiscvRunsAreSerial};
 
 /// From each start with settings that are allowed the RISC-V program suits the protocol: each access that doesn't trap is aligned
@@ -37,4 +38,13 @@ pub fn committed_tids_were_granted_once()
 pub fn a_riscv_image_runs()
     ensures laid { ImagesAreLaid }
     ensures counts { ImageCounts }
+{}
+
+/// After every run from such a start the machine is done, or some event is useful; for each core that hasn't halted one is another
+/// than to deliver another core's request for a TID; and a schedule that a chooser picks has an event for each random word, or ends
+/// where all is done.
+pub fn riscv_machines_are_never_stuck()
+    ensures done { RiscvNeverStuck }
+    ensures goes_on { RiscvCoresGoOn }
+    ensures picked { RiscvPickedEndsDone }
 {}

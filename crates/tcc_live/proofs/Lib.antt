@@ -15,3 +15,4 @@ pub mod CoreFits
 pub mod DirFits
 pub mod FitSteps
 pub mod Stuck
+pub mod Lemmas
