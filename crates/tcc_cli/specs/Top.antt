@@ -84,7 +84,7 @@ IsLeft None status = (status ≡ Done) ⊎ (status ≡ Stopped) ⊎ (status ≡ 
 IsLeft (Some fault) status = (status ≡ Image) ⊎ (status ≡ Memory)
 
 -- completeness: where the words are a command, the files' bytes are told, and nothing fails, the images are run and the whole
--- report written, or their fault is answered, or there was want of memory
+-- report written, or their fault is answered, or the status is that of want of memory, of which nothing more is said
 abbrev pub AnswersAreComplete : Type 0
 AnswersAreComplete =
     (words : List (List ℕ)) (w : Around) (err : Written) (status : Status) (a : Asked) (files : List (List ℕ))

@@ -3,7 +3,7 @@ ghost use Rattle.tcc_cli.specs.Runs.{OpenRunsTakeAllEvents};
 ghost use Rattle.tcc_cli.specs.Top.{AnswersAreComplete, OthersAreRefused};
 
 /// A law: where the words are a command, the files' bytes are told, and no count of faults rose, the program has run the images
-/// and written its whole report, or answered their first fault, or found no memory. And the words are refused exactly where they
+/// and written its whole report, or answered their first fault, or the status is `Memory`. And the words are refused exactly where they
 /// are no command.
 pub fn answers_are_complete()
     ensures command { AnswersAreComplete }

@@ -16,10 +16,10 @@ use tcc_world::{Gate, Sink, SinkFailed, Store, write_all};
 /// runs them for at most STEPS events, and writes the report to `out`.
 ///
 /// `Done`: a halt or a trap is committed, and the whole report was written. `Stopped`: none is, and it was. `Words`: the words
-/// are no command, or a value isn't allowed. `Image`: the files were read, and one is no image. `StoreFault`: reading a file
-/// failed, this one first. `SinkFault`: `out` failed, after a first part of the report. `Memory`: there wasn't enough memory, before anything
-/// was written. Nothing is written to `out` with the other refusals. A refusal writes its line to `err`, as far as `err` takes
-/// it; nothing else is written there. No file is changed.
+/// are no command, or a value isn't allowed. `Image`: the files were read, and one is no image. `StoreFault`: a file wasn't read,
+/// and this is the first. `SinkFault`: `out` failed, after a first part of the report. `Memory`: there wasn't enough memory, before
+/// anything was written; no clause says that memory was short. Nothing is written to `out` with the other refusals. A refusal writes
+/// its line to `err`, as far as `err` takes it; nothing else is written there. The contents that `files` tells stay as they are.
 pub fn tcc_main<F: Store, O: Sink, E: Sink, G: Gate + Sync>(
     alloc: Global,
     words: &[&str],
