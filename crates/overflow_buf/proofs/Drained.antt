@@ -1,16 +1,35 @@
--- The lines that are kept, in rising order.
-use Rattle.std.proofs.Common.{ℕ, suc, zero, ◌+◌, ◌<◌, ◌≤◌, ◌≡◌, true, ◌⊎◌, inl, inr, List, [], ◌∷◌, ◌++◌, length, get_or, map, take, Option, None, is_some, refl, sym, ◌∙◌, ap, subst, arith, Contains}
+-- The lines that are kept, in rising order, and how many they are.
+use Rattle.std.proofs.Common.{ℕ, suc, zero, ◌<◌, ◌≤◌, ◌≡◌, Bool, true, false, cond, ◌⊎◌, inl, inr, List, [], ◌∷◌, length, get_or, Option, Some, None, is_some, nat_eq, refl, sym, ◌∙◌, ap, subst, arith, Contains}
 use Rattle.std.specs.List.{AllPairs}
-use Rattle.std.specs.Map.{keys_of}
-use Rattle.std.proofs.lemmas.Bool.{false≢true, cases_eq, cases_lt, eq-eqb, ne_eqb}
-use Rattle.std.proofs.lemmas.List.{take_all, take_more, map-append}
-use Rattle.tcc_base.specs.declared.access.Tagged.{Tagged}
-use Rattle.tcc_maps.specs.Words.{word_at, any_word, those}
-use Rattle.tcc_maps.specs.Bridge.{tagged_of}
-use Rattle.tcc_maps.specs.Spilled.{Spilled, holds, spilled_line, IsBelow, drained}
-use Rattle.tcc_maps.proofs.Numbers.{any_below-found, those-holds, those-only, those-rise}
+use Rattle.std.specs.Map.{keys_of, lookup}
+use Rattle.std.specs.Ordering.{nat_cmp, is_eq, is_gt}
+use Rattle.std.specs.Option.{IsSome}
+use Rattle.std.specs.BTreeMap.{BTreeMap, IsOrdered}
+use Rattle.std.specs.BTreeMap.Range.{IsRangeOf}
+use Rattle.std.specs.declared.ops.Bound.TheVariants.{Included, Unbounded}
+use Rattle.std.proofs.lemmas.List.{length-map}
+use Rattle.std.proofs.lemmas.Map.Keys.{below_from_sorted}
+use Rattle.std.proofs.lemmas.Bool.{false≢true, cases_eq, cases_lt, cases_Bool, eq-eqb, ne_eqb}
+use Rattle.std.proofs.lemmas.Bool.Decides.{nat_tests}
+use Rattle.tcc_maps.specs.Words.{word_at, any_word, those, count_below}
+use Rattle.tcc_maps.specs.Spilled.{Spilled, holds, IsBelow}
+use Rattle.tcc_maps.proofs.Numbers.{any_below-found, those-holds, those-only, those-rise, length-those}
+use Rattle.overflow_buf.specs.declared.line.SpilledLine.{SpilledLine}
 use Rattle.overflow_buf.specs.Kept.{Entries, kept_at, spilled, IsBuffer}
-use Rattle.overflow_buf.proofs.Lines.{holds-line, line_of-word_at}
+use Rattle.overflow_buf.proofs.Lines.{Keeps, holds-line, line_of-word_at}
+
+-- ---- the map's own look-up
+
+pub cmp-eq : (a b : ℕ) → is_eq (nat_cmp a b) ≡ nat_eq a b
+cmp-eq a b = grind (arith, nat_tests)
+
+pub looked_up : (es : Entries) (l : ℕ) → lookup (λ k. is_eq (nat_cmp l k)) es ≡ kept_at es l
+unfolding kept_at
+looked_up es l = ap (λ (t : ℕ → Bool). lookup t es) (λ i k. (cmp-eq l k) i)
+
+pub keeps-updated : (old new : Entries) (line : ℕ) (s : SpilledLine) →
+    ((q : ℕ) → lookup (λ k. is_eq (nat_cmp q k)) new ≡ cond (is_eq (nat_cmp line q)) (Some s) (lookup (λ k. is_eq (nat_cmp q k)) old)) → Keeps old new line s
+keeps-updated old new line s u l = sym (looked_up new l) ∙ u l ∙ (rw (cmp-eq line l, looked_up old l) refl)
 
 -- ---- lists that rise
 
@@ -77,12 +96,6 @@ kept_key (e ∷ es) l k = elim (cases_eq l e.0) [
   | inr n ↦ in_tail e.0 l (keys_of es) (kept_key es l (rw (ne_eqb l e.0 n) at k))
 ]
 
--- ---- the lines handed out, one by one
-
-pub lines_more : (t : ℕ) (sp : Spilled) (ls : List ℕ) (i : ℕ) (ts : List Tagged) (x : Tagged) → i < length ls →
-    map tagged_of ts ≡ map (spilled_line t sp) (take i ls) → tagged_of x ≡ spilled_line t sp (get_or ls i 0) → map tagged_of (ts ++ x ∷ []) ≡ map (spilled_line t sp) (take (i + 1) ls)
-lines_more t sp ls i ts x b e q = rw (map-append, take_more ls i 0 b, map-append, e, q) refl
-
 -- a line that is kept lies below any bound on the kept lines
 below : (es : Entries) (n l : ℕ) → IsBelow n (spilled es) → holds (spilled es) l ≡ true → l < n
 unfolding holds any_word
@@ -93,13 +106,59 @@ below es n l b h = elim (cases_lt l n) [
       false≢true (sym (ap (λ (o : Option ℕ). is_some o) e) ∙ r.2))
 ]
 
-pub lines_whole : (t : ℕ) (es : Entries) → IsBuffer es → (ls : List ℕ) → Rises ls → ((l : ℕ) → (Contains ls l → is_some (kept_at es l) ≡ true) × (is_some (kept_at es l) ≡ true → Contains ls l)) →
-    (i : ℕ) (ts : List Tagged) → length ls ≤ i → map tagged_of ts ≡ map (spilled_line t (spilled es)) (take i ls) →
-    (n : ℕ) → IsBelow n (spilled es) → map tagged_of ts ≡ drained n t (spilled es)
-unfolding drained
-lines_whole t es s ls r k i ts b e n below_n =
-    let same : (l : ℕ) → is_some (kept_at es l) ≡ holds (spilled es) l = λ l. holds-line es l (kept_at es l) refl (s l) in
-    let q : ls ≡ those (holds (spilled es)) n = rising_same ls (those (holds (spilled es)) n) r (those-rise (holds (spilled es)) n)
-    (λ l m. let h : holds (spilled es) l ≡ true = sym (same l) ∙ (k l).0 m in those-holds (holds (spilled es)) n l (below es n l below_n h) h)
-    (λ l m. let h = those-only (holds (spilled es)) n l m in (k l).1 (same l ∙ h.1)) in
-    e ∙ ap (map (spilled_line t (spilled es))) (take_all i ls b ∙ q)
+module _ (es : Entries) (s : IsBuffer es) where
+  kept_holds : (l : ℕ) → is_some (kept_at es l) ≡ holds (spilled es) l
+  kept_holds l = holds-line es l (kept_at es l) refl (s l)
+
+  -- as many keys as kept lines below any bound
+  pub keys_counted : Rises (keys_of es) → (n : ℕ) → IsBelow n (spilled es) → length (keys_of es) ≡ count_below (holds (spilled es)) n
+  keys_counted r n b =
+      ap length (rising_same (keys_of es) (those (holds (spilled es)) n) r (those-rise (holds (spilled es)) n)
+        (λ l m. let h : holds (spilled es) l ≡ true = sym (kept_holds l) ∙ key_kept es l m in those-holds (holds (spilled es)) n l (below es n l b h) h)
+        (λ l m. kept_key es l (kept_holds l ∙ (those-only (holds (spilled es)) n l m).1)))
+      ∙ length-those (holds (spilled es)) n
+
+-- the keys of a map rise
+pub rises : (m : BTreeMap ℕ SpilledLine) → IsOrdered nat_cmp m → Rises (keys_of m.entries)
+rises m o = λ i j d h l. below_from_sorted (keys_of m.entries) i j d o h l
+
+-- as many lines as entries, below any bound
+pub lines_counted : (m : BTreeMap ℕ SpilledLine) → IsBuffer m.entries → IsOrdered nat_cmp m → (n : ℕ) → IsBelow n (spilled m.entries) → length m.entries ≡ count_below (holds (spilled m.entries)) n
+lines_counted m s o n b = sym (length-map m.entries (λ (e : ℕ × SpilledLine). e.0)) ∙ keys_counted m.entries s (rises m o) n b
+
+-- ---- the next line
+
+module _ (m : BTreeMap ℕ SpilledLine) (s : IsBuffer m.entries) (start : ℕ) (r : List (ℕ × SpilledLine)) (in_range : IsRangeOf nat_cmp (Included start) Unbounded m r) where
+  from_start : (q : ℕ) → start ≤ q → is_gt (nat_cmp start q) ≡ false
+  from_start q h = grind (arith, nat_tests)
+
+  pub next-none : r ≡ [] → (l : ℕ) → start ≤ l → holds (spilled m.entries) l ≡ false
+  next-none e l h =
+      let n : kept_at m.entries l ≡ None = sym (looked_up m.entries l) ∙ in_range.5 e l (from_start l h, tt) in
+      sym (kept_holds m.entries s l) ∙ (rw n refl)
+
+  pub next-some : (n : ℕ) (v : SpilledLine) (t : List (ℕ × SpilledLine)) → r ≡ (n, v) ∷ t →
+      (start ≤ n) × (holds (spilled m.entries) n ≡ true) × ((l : ℕ) → start ≤ l → l < n → holds (spilled m.entries) l ≡ false)
+  next-some n v t e =
+      let first = rw e at in_range.1 in
+      let here : kept_at m.entries n ≡ Some v = sym (looked_up m.entries n) ∙ first.1 in
+      let above : start ≤ n = not_above n first.0.0 in
+      (above, sym (kept_holds m.entries s n) ∙ (rw here refl), λ l a b. elim (cases_Bool (holds (spilled m.entries) l)) [
+        | inr f ↦ f
+        | inl h ↦ absurd (let found = kept_some (kept_at m.entries l) (kept_holds m.entries s l ∙ h) in
+            let w = rw e at (in_range.2 l (from_start l a, tt) (found_some l found.0 (looked_up m.entries l ∙ found.1))) in
+            let q : n ≤ l = lower n l w in omega (arith, b, q))
+      ])
+    where
+      not_above : (q : ℕ) → is_gt (nat_cmp start q) ≡ false → start ≤ q
+      not_above q g = grind (arith, nat_tests)
+
+      lower : (p q : ℕ) → is_gt (nat_cmp p q) ≡ false → p ≤ q
+      lower p q g = grind (arith, nat_tests)
+
+      kept_some : (o : Option SpilledLine) → is_some o ≡ true → (x : SpilledLine) × (o ≡ Some x)
+      kept_some None q = absurd (false≢true q)
+      kept_some (Some x) q = (x, refl)
+
+      found_some : (q : ℕ) (x : SpilledLine) → lookup (λ k. is_eq (nat_cmp q k)) m.entries ≡ Some x → IsSome (lookup (λ k. is_eq (nat_cmp q k)) m.entries)
+      found_some q x f = rw f refl

@@ -196,9 +196,9 @@ unwrap-cond true x = refl
 unwrap-cond false x = refl
 
 module _ (es : Entries) (l : ℕ) (s : SpilledLine) (e : Some s ≡ kept_at es l) (i : IsSpilled s) where
-  mask-line : spilled_mask (spilled es) l ≡ s.mask.0
+  mask-is : spilled_mask (spilled es) l ≡ s.mask.0
   unfolding spilled_mask word_in
-  mask-line = mask_of-same _ (has s.mask.0) (λ k h. rw (word-at es l k h, ← e) (is_some-cond (has s.mask.0 k) (get_or s.words k 0))) ∙ mask_of-has s.mask.0 i.fits
+  mask-is = mask_of-same _ (has s.mask.0) (λ k h. rw (word-at es l k h, ← e) (is_some-cond (has s.mask.0 k) (get_or s.words k 0))) ∙ mask_of-has s.mask.0 i.fits
 
   words-line : spilled_words (spilled es) l ≡ masked s.mask.0 s.words
   unfolding spilled_words masked word_in
@@ -206,4 +206,21 @@ module _ (es : Entries) (l : ℕ) (s : SpilledLine) (e : Some s ≡ kept_at es l
 
   pub line-drained : (t : ℕ) → record { line = l; mask = s.mask.0; words = masked s.mask.0 s.words; tag = t } ≡ spilled_line t (spilled es) l
   unfolding spilled_line
-  line-drained t = rw (mask-line, words-line) refl
+  line-drained t = rw (mask-is, words-line) refl
+
+  pub mask-line : s.mask.0 ≡ spilled_mask (spilled es) l
+  mask-line = sym mask-is
+
+-- a line of which nothing is kept
+module _ (es : Entries) (l : ℕ) where
+  pub mask-none : None ≡ kept_at es l → 0 ≡ spilled_mask (spilled es) l
+  unfolding spilled_mask word_in
+  mask-none e = sym (mask_of-none _ (λ k h. rw (word-at es l k h, ← e) refl))
+
+  words-none : None ≡ kept_at es l → spilled_words (spilled es) l ≡ 0 ∷ 0 ∷ 0 ∷ 0 ∷ 0 ∷ 0 ∷ 0 ∷ 0 ∷ []
+  unfolding spilled_words word_in eight
+  words-none e = eight-same (λ k. unwrap_or (spilled es (word_at l k)) 0) (λ _. 0) (λ k h. rw (word-at es l k h, ← e) refl)
+
+  pub line-none : (t : ℕ) → None ≡ kept_at es l → record { line = l; mask = 0; words = 0 ∷ 0 ∷ 0 ∷ 0 ∷ 0 ∷ 0 ∷ 0 ∷ 0 ∷ []; tag = t } ≡ spilled_line t (spilled es) l
+  unfolding spilled_line
+  line-none t e = rw (← mask-none e, words-none e) refl

@@ -1,21 +1,22 @@
 // The buffer: the kept words of all lines, by line.
-ghost use Rattle.std.specs.Prelude.{◌≡◌, ◌≢◌, ◌<◌, ◌↔◌, ℕ, Option, Some, None, is_some, IsTrue, IfOk, OnOk, OnErr, AllPairs, Contains, map, cond, ◌==◌};
-ghost use Rattle.indexmap.specs.IndexMap.{keys};
+ghost use Rattle.std.specs.Prelude.{◌≡◌, ◌<◌, ℕ, Option, Some, None, OnOk, OnErr, cond, ◌==◌};
+ghost use Rattle.std.specs.Option.{option_map};
 ghost use Rattle.tcc_base.specs.Put.{put as put_value};
 ghost use Rattle.tcc_maps.specs.Bridge.{tagged_of};
-ghost use Rattle.tcc_maps.specs.Spilled.{none_spilled, spill as spill_words, holds as holds_word, IsBelow, drained};
-ghost use Rattle.overflow_buf.specs.Kept.{IsBuffer, IsSpilled, kept_at, spilled};
+ghost use Rattle.tcc_maps.specs.Words.{count_below};
+ghost use Rattle.tcc_maps.specs.Spilled.{none_spilled, spill as spill_words, holds as holds_word, spilled_mask, spilled_line, IsBelow};
+ghost use Rattle.overflow_buf.specs.Kept.{IsBuffer, IsSpilled, IsNextLine, line_number, kept_at, spilled};
 
 use crate::line::{SpilledLine, with_word, with_words};
-use indexmap::IndexMap;
 use std::alloc::Global;
+use std::collections::BTreeMap;
 use std::marker::Model;
 use tcc_base::{LineAddr, Mask, NoMemory, Tagged, Tid, WordAddr};
 
 /// Spilled words by their line. Contracts speak of the map from a kept word to its value.
 #[derive(Debug, Drop)]
 pub struct OverflowBuf {
-    lines: IndexMap<u32, SpilledLine>,
+    lines: BTreeMap<u32, SpilledLine>,
 }
 
 impl Model for OverflowBuf {
@@ -34,7 +35,7 @@ impl OverflowBuf {
         ensures { spilled result ≡ none_spilled }
     {
         OverflowBuf {
-            lines: IndexMap::new(alloc),
+            lines: BTreeMap::new(alloc),
         }
     }
 
@@ -99,70 +100,53 @@ impl OverflowBuf {
         Ok(())
     }
 
-    /// Hands out the kept words, line by line in rising order, with this TID, and keeps none. After want of memory the
-    /// buffer is as before.
-    pub fn drain_lines(&mut self, tid: Tid) -> Result<Vec<Tagged>, NoMemory>
-        ensures lines { IfOk result (λ v. (n : ℕ) → IsBelow n (spilled self.old) → map tagged_of v.items ≡ drained n tid.0 (spilled self.old)) }
-        ensures empty { OnOk result (spilled self.new ≡ none_spilled) }
-        ensures unchanged { OnErr result (spilled self.new ≡ spilled self.old) }
+    /// The mask of the line's kept words, 0 where none is kept.
+    pub fn mask(&self, line: LineAddr) -> Mask
+        ensures { result.0 ≡ spilled_mask (spilled self.now) line.0 }
     {
-        let lines = self.tagged_lines(tid)?;
+        match self.kept(line.0) {
+            None => Mask(0),
+            Some(kept) => kept.mask,
+        }
+    }
+
+    /// The line's kept words, with the TID as their tag; zero, and outside the mask, where a word isn't kept.
+    pub fn line(&self, line: LineAddr, tid: Tid) -> Tagged
+        ensures { tagged_of result ≡ spilled_line tid.0 (spilled self.now) line.0 }
+    {
+        match self.kept(line.0) {
+            None => Tagged {
+                line,
+                mask: Mask(0),
+                words: [0; 8],
+                tag: tid,
+            },
+            Some(kept) => kept.tagged(line, tid),
+        }
+    }
+
+    /// The lowest line from `from` on of which a word is kept; None exactly where there is none. So calls with one line more each time
+    /// give all lines in rising order.
+    pub fn next_line(&self, from: LineAddr) -> Option<LineAddr>
+        ensures { IsNextLine (spilled self.now) from.0 (option_map line_number result) }
+    {
+        match self.lines.range(from.0..).next() {
+            None => None,
+            Some((line, _)) => Some(LineAddr(*line)),
+        }
+    }
+
+    /// The number of lines of which words are kept.
+    pub fn len(&self) -> usize
+        ensures { (n : ℕ) → IsBelow n (spilled self.now) → result ≡ count_below (holds_word (spilled self.now)) n }
+    {
+        self.lines.len()
+    }
+
+    /// Keeps no word any more.
+    pub fn clear(&mut self)
+        ensures { spilled self.new ≡ none_spilled }
+    {
         self.lines.clear();
-        Ok(lines)
     }
-
-    /// The kept words, line by line in rising order, with this TID.
-    fn tagged_lines(&self, tid: Tid) -> Result<Vec<Tagged>, NoMemory>
-        ensures { IfOk result (λ v. (n : ℕ) → IsBelow n (spilled self.now) → map tagged_of v.items ≡ drained n tid.0 (spilled self.now)) }
-    {
-        let numbers = self.line_numbers()?;
-        let Ok(mut lines) = Vec::with_capacity(*self.lines.allocator(), numbers.len()) else {
-            return Err(NoMemory);
-        };
-        for line in &numbers {
-            lines.push_reserved(self.seek(*line).tagged(LineAddr(*line), tid));
-        }
-        Ok(lines)
-    }
-
-    /// The numbers of the lines of which words are kept, in rising order.
-    fn line_numbers(&self) -> Result<Vec<u32>, NoMemory>
-        ensures rising { IfOk result (λ v. AllPairs (λ a b. a < b) v.items) }
-        ensures kept { IfOk result (λ v. (l : ℕ) → Contains v.items l ↔ IsTrue (is_some (kept_at self.now l))) }
-    {
-        let mut numbers = keys_in(&self.lines)?;
-        put_in_order(&mut numbers);
-        Ok(numbers)
-    }
-
-    /// What is kept of a line of which words are kept.
-    fn seek(&self, line: u32) -> SpilledLine
-        requires { IsTrue (is_some (kept_at self.now line)) }
-        ensures value { Some result ≡ kept_at self.now line }
-        ensures in_order { IsSpilled result }
-    {
-        match self.kept(line) {
-            Some(kept) => kept,
-            None => unreachable!(),
-        }
-    }
-}
-
-/// The lines of which words are kept, in the map's order.
-fn keys_in(lines: &IndexMap<u32, SpilledLine>) -> Result<Vec<u32>, NoMemory>
-    ensures { IfOk result (λ v. v.items ≡ keys lines.now) }
-{
-    match lines.keys().copied().collect(*lines.allocator()) {
-        Ok(numbers) => Ok(numbers),
-        Err(_) => Err(NoMemory),
-    }
-}
-
-/// Puts line numbers in rising order, each once.
-fn put_in_order(lines: &mut Vec<u32>)
-    ensures rising { AllPairs (λ a b. a < b) lines.new.items }
-    ensures same { (l : ℕ) → Contains lines.new.items l ↔ Contains lines.old.items l }
-{
-    lines.sort_unstable();
-    lines.dedup();
 }

@@ -14,7 +14,9 @@ fn words_are_kept_and_handed_out(rt: HostRuntime) -> Result<(), Fail> {
     assert_eq!(rt; buf.get(WordAddr(27)), None);
     assert!(rt; buf.holds(LineAddr(1)));
     assert!(rt; !buf.holds(LineAddr(2)));
-    let lines = buf.drain_lines(Tid(5))?;
+    assert_eq!(rt; buf.mask(LineAddr(3)), Mask(0b111));
+    assert_eq!(rt; buf.mask(LineAddr(2)), Mask(0));
+    assert_eq!(rt; buf.len(), 2);
     let first = Tagged {
         line: LineAddr(1),
         mask: Mask(1),
@@ -27,7 +29,13 @@ fn words_are_kept_and_handed_out(rt: HostRuntime) -> Result<(), Fail> {
         words: [1, 20, 3, 0, 0, 0, 0, 0],
         tag: Tid(5),
     };
-    assert_eq!(rt; lines.as_slice(), [first, second].as_slice());
+    assert_eq!(rt; buf.next_line(LineAddr(0)), Some(LineAddr(1)));
+    assert_eq!(rt; buf.line(LineAddr(1), Tid(5)), first);
+    assert_eq!(rt; buf.next_line(LineAddr(2)), Some(LineAddr(3)));
+    assert_eq!(rt; buf.line(LineAddr(3), Tid(5)), second);
+    assert_eq!(rt; buf.next_line(LineAddr(4)), None);
+    buf.clear();
     assert!(rt; !buf.holds(LineAddr(3)));
+    assert_eq!(rt; buf.len(), 0);
     Ok(())
 }

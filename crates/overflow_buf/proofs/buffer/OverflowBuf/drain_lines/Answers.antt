@@ -1,8 +1,0 @@
-use Rattle.overflow_buf.proofs.Lines.{IsBuffer-empty, spilled-empty}
-use Rattle.overflow_buf.proofs.buffer.OverflowBuf.drain_lines.Goals as goal
-
-pub invariant_of-self : goal.invariant_of-self
-invariant_of-self c = rw c.clear.ensures.empty IsBuffer-empty
-
-pub returns-clause-empty : goal.returns-clause-empty
-returns-clause-empty c = rw c.clear.ensures.empty spilled-empty
