@@ -1,9 +1,10 @@
 -- What each call does to the maps, where the line has a frame and where it has none.
-use Rattle.std.proofs.Common.{ℕ, ◌<◌, ◌≡◌, Bool, true, false, cond, List, set, Option, Some, None, nat_eq, refl, sym, ◌∙◌, ap, subst}
+use Rattle.std.proofs.Common.{[], ℕ, ◌<◌, ◌≡◌, Bool, true, false, cond, List, set, Option, Some, None, nat_eq, refl, sym, ◌∙◌, ap, subst}
 use Rattle.std.proofs.lemmas.Bool.{eq-eqb, eqb-true, and_parts}
 use Rattle.tcc_maps.specs.Words.{line_of, place_of}
 use Rattle.tcc_maps.specs.Masks.{hit}
-use Rattle.tcc_maps.specs.CacheChange.{marked, stored, filled, invalidated, cleaned, word_dropped, rolled_back, read_cleared, committed}
+use Rattle.tcc_maps.specs.CacheChange.{marked, stored, filled, invalidated, cleaned, words_dropped, rolled_back, read_cleared, committed}
+use Rattle.tcc_maps.specs.Spilled.{spill, none_spilled}
 use Rattle.spec_cache.specs.declared.frame.Change.TheVariants.{RollBack, ClearRead, Commit}
 use Rattle.spec_cache.specs.Change.{all_changed}
 use Rattle.spec_cache.proofs.MapsAll.{maps-rolled_back, maps-read_cleared, maps-committed}
@@ -12,7 +13,7 @@ use Rattle.spec_cache.specs.Frame.{value_in, modified_in, dirty_in, IsWay, IsFra
 use Rattle.spec_cache.specs.Held.{Held, IsHeld, FitsWay, IsWayOf, frame_of, maps}
 use Rattle.spec_cache.proofs.FrameKept.{IsFrame-marked, IsFrame-stored, IsFrame-filled, IsFrame-invalidated, IsFrame-cleaned, IsFrame-dropped}
 use Rattle.spec_cache.proofs.FrameFound.{frame_of-way, frame_of-changed}
-use Rattle.spec_cache.proofs.MapsChanged.{same_cache, maps-marked, maps-stored, maps-filled, maps-invalidated, maps-cleaned, maps-dropped}
+use Rattle.spec_cache.proofs.MapsChanged.{same_cache, maps-marked, maps-stored, maps-filled, maps-invalidated, maps-cleaned, maps-dropped, line_dropped, words_dropped-line}
 use Rattle.spec_cache.proofs.HeldKept.{FitsWay-changed}
 
 -- the cache with another frame at a place
@@ -40,15 +41,15 @@ module _ (h : Held) (s : IsHeld h) (l : ℕ) (p : ℕ × FrameView) (w : IsWayOf
     pub cleaned_maps : f ≡ cleaned_frame p.1 → maps n ≡ cleaned l (maps h)
     cleaned_maps q = rw (e, q) (maps-cleaned h s p.0 p.1 w.here ∙ ap (λ x. cleaned x (maps h)) w.line)
 
+    pub dropped_maps : (m : ℕ) → f ≡ dropped_frame m p.1 → maps n ≡ words_dropped (spill l m [] none_spilled) (maps h)
+    dropped_maps m q = rw (e, q) (maps-dropped h s p.0 p.1 w.here m ∙ ap (λ x. line_dropped x m (maps h)) w.line ∙ sym (words_dropped-line l m (maps h)))
+
     module _ (v : ℕ) (line : l ≡ line_of v) where
       pub marked_maps : f ≡ marked_frame (place_of v) p.1 → maps n ≡ marked v (maps h)
       marked_maps q = rw (e, q) (maps-marked h s p.0 p.1 w.here v (w.line ∙ line))
 
       pub stored_maps : (x : ℕ) (also : Bool) → f ≡ stored_frame (place_of v) x also p.1 → maps n ≡ stored v x also (maps h)
       stored_maps x also q = rw (e, q) (maps-stored h s p.0 p.1 w.here v (w.line ∙ line) x also frame_here)
-
-      pub dropped_maps : f ≡ dropped_frame (place_of v) p.1 → maps n ≡ word_dropped v (maps h)
-      dropped_maps q = rw (e, q) (maps-dropped h s p.0 p.1 w.here v (w.line ∙ line))
 
     -- the frame that is found then
     pub found_then : f.line.0 ≡ p.1.line.0 → frame_of n.frames l ≡ Some f
@@ -99,16 +100,13 @@ module _ (h : Held) (l : ℕ) (absent : frame_of h.frames l ≡ None) where
   nothing_cleaned = same_cache _ _ (λ t y. refl) (λ k. refl) (λ v. refl) (λ v. refl) (λ v. refl)
       (λ v. same_cond _ _ _ (λ e. none_at (λ o. dirty_in o (place_of v)) v e))
 
-  pub nothing_dropped : (v : ℕ) → l ≡ line_of v → word_dropped v (maps h) ≡ maps h
-  unfolding maps word_dropped value_in modified_in dirty_in
-  nothing_dropped v q = same_cache _ _ (λ t y. refl) (λ k. refl)
-      (λ w. same_cond _ _ _ (λ e. none_at (λ o. value_in o (place_of w)) w (same_line w e)))
-      (λ w. refl)
-      (λ w. same_cond _ _ _ (λ e. none_at (λ o. modified_in o (place_of w)) w (same_line w e)))
-      (λ w. same_cond _ _ _ (λ e. none_at (λ o. dirty_in o (place_of w)) w (same_line w e)))
-    where
-      same_line : (w : ℕ) → nat_eq w v ≡ true → nat_eq l (line_of w) ≡ true
-      same_line w e = eq-eqb l (line_of w) (q ∙ sym (ap line_of (eqb-true w v e)))
+  pub nothing_dropped : (m : ℕ) → words_dropped (spill l m [] none_spilled) (maps h) ≡ maps h
+  unfolding maps hit value_in modified_in dirty_in
+  nothing_dropped m = words_dropped-line l m (maps h) ∙ same_cache _ _ (λ t y. refl) (λ k. refl)
+      (λ v. same_cond _ _ _ (λ e. none_at (λ o. value_in o (place_of v)) v (and_parts _ _ e).0))
+      (λ v. refl)
+      (λ v. same_cond _ _ _ (λ e. none_at (λ o. modified_in o (place_of v)) v (and_parts _ _ e).0))
+      (λ v. same_cond _ _ _ (λ e. none_at (λ o. dirty_in o (place_of v)) v (and_parts _ _ e).0))
 
 -- ---- a change of all frames
 

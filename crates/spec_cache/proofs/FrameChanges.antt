@@ -108,15 +108,15 @@ unfolding value_in filled_frame filled_up
 value_in-filled ws f k h =
     rw (has-full k h, get_or-eight _ k 0 h) (ap Some (filled_value (has f.valid.0 k) (get_or f.words k 0) (get_or ws k 0)))
 
-pub value_in-dropped : (j : ℕ) (f : FrameView) (k : ℕ) →
-    value_in (Some (dropped_frame j f)) k ≡ cond (nat_eq j k) None (value_in (Some f) k)
+pub value_in-dropped : (m : ℕ) (f : FrameView) (k : ℕ) →
+    value_in (Some (dropped_frame m f)) k ≡ cond (has m k) None (value_in (Some f) k)
 unfolding value_in dropped_frame
-value_in-dropped j f k = rw (has-minus, has-pow) (minus_some (has f.valid.0 k) (nat_eq j k) (get_or f.words k 0))
+value_in-dropped m f k = rw has-minus (minus_some (has f.valid.0 k) (has m k) (get_or f.words k 0))
 
-pub dirty_in-dropped : (j : ℕ) (f : FrameView) (k : ℕ) →
-    dirty_in (Some (dropped_frame j f)) k ≡ cond (nat_eq j k) None (dirty_in (Some f) k)
+pub dirty_in-dropped : (m : ℕ) (f : FrameView) (k : ℕ) →
+    dirty_in (Some (dropped_frame m f)) k ≡ cond (has m k) None (dirty_in (Some f) k)
 unfolding dirty_in dropped_frame
-dirty_in-dropped j f k = rw (has-minus, has-pow) (minus_some (has f.dirty.0 k) (nat_eq j k) f.tag.0)
+dirty_in-dropped m f k = rw has-minus (minus_some (has f.dirty.0 k) (has m k) f.tag.0)
 
 and_not : (a b : Bool) → (a && not b) ≡ cond b false a
 and_not true true = refl
@@ -124,10 +124,10 @@ and_not true false = refl
 and_not false true = refl
 and_not false false = refl
 
-pub modified_in-dropped : (j : ℕ) (f : FrameView) (k : ℕ) →
-    modified_in (Some (dropped_frame j f)) k ≡ cond (nat_eq j k) false (modified_in (Some f) k)
+pub modified_in-dropped : (m : ℕ) (f : FrameView) (k : ℕ) →
+    modified_in (Some (dropped_frame m f)) k ≡ cond (has m k) false (modified_in (Some f) k)
 unfolding modified_in dropped_frame
-modified_in-dropped j f k = rw (has-minus, has-pow) (and_not (has f.modified.0 k) (nat_eq j k))
+modified_in-dropped m f k = rw has-minus (and_not (has f.modified.0 k) (has m k))
 
 pub value_in-rolled_back : (f : FrameView) (k : ℕ) →
     value_in (Some (rolled_back_frame f)) k ≡ cond (modified_in (Some f) k) None (value_in (Some f) k)

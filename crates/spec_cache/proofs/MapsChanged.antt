@@ -1,10 +1,11 @@
 -- The maps of a cache after the frame of one way changed.
-use Rattle.std.proofs.Common.{ℕ, ◌+◌, ◌*◌, ◌/◌, ◌%◌, ◌<◌, ◌≡◌, Bool, true, false, not, cond, ◌&&◌, ◌||◌, inl, inr, List, length, get_or, set, unwrap_or, Option, Some, None, is_some, nat_eq, nat_lt, refl, sym, ◌∙◌, ap, subst, arith, get_or-set_same, get_or-set_other}
+use Rattle.std.proofs.Common.{[], ℕ, ◌+◌, ◌*◌, ◌/◌, ◌%◌, ◌<◌, ◌≡◌, Bool, true, false, not, cond, ◌&&◌, ◌||◌, inl, inr, List, length, get_or, set, unwrap_or, Option, Some, None, is_some, nat_eq, nat_lt, refl, sym, ◌∙◌, ap, subst, arith, get_or-set_same, get_or-set_other}
 use Rattle.std.proofs.lemmas.Bool.{cases_eq, eq-eqb, ne_eqb}
 use Rattle.tcc_maps.specs.Words.{line_of, place_of}
 use Rattle.tcc_maps.specs.Masks.{has, hit}
 use Rattle.tcc_maps.specs.Cache.{Cache}
-use Rattle.tcc_maps.specs.CacheChange.{marked, stored, filled, invalidated, cleaned, word_dropped}
+use Rattle.tcc_maps.specs.CacheChange.{marked, stored, filled, invalidated, cleaned, words_dropped}
+use Rattle.tcc_maps.specs.Spilled.{spill, none_spilled}
 use Rattle.spec_cache.specs.declared.frame.FrameView.{FrameView}
 use Rattle.spec_cache.specs.Frame.{value_in, read_in, modified_in, dirty_in, line_in, IsFrame, marked_frame, stored_frame, filled_frame, invalidated_frame, cleaned_frame, dropped_frame}
 use Rattle.spec_cache.specs.Held.{Held, IsHeld, frame_of, frame_at, maps}
@@ -21,6 +22,26 @@ same_cache c d a h v r m t = λ i. record {
   modified = λ w. (m w) i;
   dirty = λ w. (t w) i;
 }
+
+-- the masked words of one line dropped
+abbrev pub line_dropped : ℕ → ℕ → Cache → Cache
+line_dropped l m c = record c {
+  value = λ w. cond (hit l m w) None (c.value w);
+  modified = λ w. cond (hit l m w) false (c.modified w);
+  dirty = λ w. cond (hit l m w) None (c.dirty w);
+}
+
+spilled-hit : (l m w : ℕ) → is_some (spill l m [] none_spilled w) ≡ hit l m w
+unfolding spill none_spilled
+spilled-hit l m w = chosen (hit l m w)
+  where
+    chosen : (b : Bool) → is_some {T = ℕ} (cond b (Some (get_or [] (place_of w) 0)) None) ≡ b
+    chosen true = refl
+    chosen false = refl
+
+pub words_dropped-line : (l m : ℕ) (c : Cache) → words_dropped (spill l m [] none_spilled) c ≡ line_dropped l m c
+unfolding words_dropped
+words_dropped-line l m c = same_cache _ _ (λ t y. refl) (λ k. refl) (λ w. rw (spilled-hit l m w) refl) (λ w. refl) (λ w. rw (spilled-hit l m w) refl) (λ w. rw (spilled-hit l m w) refl)
 
 pub nat_eq-comm : (a b : ℕ) → nat_eq a b ≡ nat_eq b a
 nat_eq-comm a b = elim (cases_eq a b) [
@@ -129,6 +150,16 @@ module _ (h : Held) (s : IsHeld h) (i : ℕ) (f : FrameView) (p : get_or h.frame
       (λ w. modified-kept h s i f p g refl w refl)
       (λ w. dirty-kept h s i f p g refl w refl)
 
+  pub maps-dropped : (m : ℕ) → maps (record h { frames = set h.frames i (Some (dropped_frame m f)) }) ≡ line_dropped f.line.0 m (maps h)
+  unfolding maps hit read_in dropped_frame
+  maps-dropped m =
+      let g : FrameView = dropped_frame m f in
+      same_cache _ _ (at-changed h s i f p g refl) (held-changed h s i f p g refl)
+      (λ w. value-changed h s i f p g refl w (λ b o. cond (b && has m (place_of w)) None (value_in o (place_of w))) (λ q. value_in-dropped m f (place_of w)) (λ o. refl))
+      (λ w. read-kept h s i f p g refl w refl)
+      (λ w. modified-changed h s i f p g refl w (λ b o. cond (b && has m (place_of w)) false (modified_in o (place_of w))) (λ q. modified_in-dropped m f (place_of w)) (λ o. refl))
+      (λ w. dirty-changed h s i f p g refl w (λ b o. cond (b && has m (place_of w)) None (dirty_in o (place_of w))) (λ q. dirty_in-dropped m f (place_of w)) (λ o. refl))
+
   -- a change of one word: v's line is that of way i
   module _ (v : ℕ) (l : f.line.0 ≡ line_of v) where
     word_here : (w : ℕ) → (nat_eq f.line.0 (line_of w) && nat_eq (place_of v) (place_of w)) ≡ nat_eq v w
@@ -162,16 +193,3 @@ module _ (h : Held) (s : IsHeld h) (i : ℕ) (f : FrameView) (p : get_or h.frame
         ∙ ap (λ b. cond b true (modified_in (frame_of h.frames (line_of w)) (place_of w))) (word_there w))
         (λ w. dirty-changed h s i f p g refl w (λ b o. cond b None (dirty_in o (place_of w))) (λ q. dirty_in-stored (place_of v) x also f (place_of w)) (λ o. refl)
         ∙ ap (λ l. cond (nat_eq l (line_of w)) None (dirty_in (frame_of h.frames (line_of w)) (place_of w))) l)
-
-    pub maps-dropped : maps (record h { frames = set h.frames i (Some (dropped_frame (place_of v) f)) }) ≡ word_dropped v (maps h)
-    unfolding maps word_dropped read_in dropped_frame
-    maps-dropped =
-        let g : FrameView = dropped_frame (place_of v) f in
-        same_cache _ _ (at-changed h s i f p g refl) (held-changed h s i f p g refl)
-        (λ w. value-changed h s i f p g refl w (λ b o. cond (b && nat_eq (place_of v) (place_of w)) None (value_in o (place_of w))) (λ q. value_in-dropped (place_of v) f (place_of w)) (λ o. refl)
-        ∙ ap (λ b. cond b None (value_in (frame_of h.frames (line_of w)) (place_of w))) (word_there w))
-        (λ w. read-kept h s i f p g refl w refl)
-        (λ w. modified-changed h s i f p g refl w (λ b o. cond (b && nat_eq (place_of v) (place_of w)) false (modified_in o (place_of w))) (λ q. modified_in-dropped (place_of v) f (place_of w)) (λ o. refl)
-        ∙ ap (λ b. cond b false (modified_in (frame_of h.frames (line_of w)) (place_of w))) (word_there w))
-        (λ w. dirty-changed h s i f p g refl w (λ b o. cond (b && nat_eq (place_of v) (place_of w)) None (dirty_in o (place_of w))) (λ q. dirty_in-dropped (place_of v) f (place_of w)) (λ o. refl)
-        ∙ ap (λ b. cond b None (dirty_in (frame_of h.frames (line_of w)) (place_of w))) (word_there w))

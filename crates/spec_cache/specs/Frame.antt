@@ -90,11 +90,12 @@ invalidated_frame m f = record f {
 unfoldable pub cleaned_frame : FrameView → FrameView
 cleaned_frame f = record f { dirty = record { 0 = 0 } }
 
+-- the masked words become invalid, clean and not modified
 unfoldable pub dropped_frame : ℕ → FrameView → FrameView
-dropped_frame k f = record f {
-  valid = record { 0 = minus f.valid.0 (2 ^ k) };
-  modified = record { 0 = minus f.modified.0 (2 ^ k) };
-  dirty = record { 0 = minus f.dirty.0 (2 ^ k) };
+dropped_frame m f = record f {
+  valid = record { 0 = minus f.valid.0 m };
+  modified = record { 0 = minus f.modified.0 m };
+  dirty = record { 0 = minus f.dirty.0 m };
 }
 
 unfoldable pub rolled_back_frame : FrameView → FrameView

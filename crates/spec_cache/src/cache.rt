@@ -1,12 +1,13 @@
 // A core's cache: the calls of its frames, held in one array by set and way.
-ghost use Rattle.std.specs.Prelude.{◌≡◌, ◌<◌, ℕ, Option, Some, None, MatchOption, MatchResult, IfOk, map, IsTrue, IsSome, is_some, false};
+ghost use Rattle.std.specs.Prelude.{◌≡◌, ◌<◌, ℕ, [], Option, Some, None, MatchOption, MatchResult, IfOk, map, IsTrue, IsSome, is_some, false};
 ghost use Rattle.std.specs.Option.{option_map};
 ghost use Rattle.tcc_maps.specs.Words.{line_of};
 ghost use Rattle.tcc_maps.specs.Shape.{lines, set_of};
 ghost use Rattle.tcc_maps.specs.Bridge.{tagged_of};
 ghost use Rattle.tcc_maps.specs.Cache.{IsCache, empty_cache, dirty_copy, free_way as lowest_free, keeps as keeps_word, reads_at as any_read, marks_by_home as every_mark};
-ghost use Rattle.tcc_maps.specs.CacheChange.{stored, placed, filled, invalidated, cleaned, evicted, word_dropped, rolled_back, read_cleared, committed};
+ghost use Rattle.tcc_maps.specs.CacheChange.{stored, placed, filled, invalidated, cleaned, evicted, words_dropped, rolled_back, read_cleared, committed};
 ghost use Rattle.tcc_maps.specs.CacheLook.{look_load as load_answer, look_store as store_answer, reads_masked};
+ghost use Rattle.tcc_maps.specs.Spilled.{spill, none_spilled};
 ghost use Rattle.spec_cache.specs.Held.{Held, maps};
 ghost use Rattle.spec_cache.specs.Home.{mark_of};
 ghost use Rattle.spec_cache.specs.Look.{look_of, loaded, Views, Gives};
@@ -133,12 +134,12 @@ impl SpecCache {
         self.frames.evict(set, way)
     }
 
-    /// Makes one word invalid, clean and not modified. Its read mark stays.
-    pub fn drop_word(&mut self, w: WordAddr)
+    /// Makes the masked words of the line invalid, clean and not modified. Their read marks stay.
+    pub fn drop_words(&mut self, line: LineAddr, mask: Mask)
         ensures config { self.new.config ≡ self.old.config }
-        ensures maps { maps self.new ≡ word_dropped w.0 (maps self.old) }
+        ensures maps { maps self.new ≡ words_dropped (spill line.0 mask.0 [] none_spilled) (maps self.old) }
     {
-        self.frames.drop_word(w);
+        self.frames.drop_words(line, mask);
     }
 
     /// Makes all modified words invalid, and clears both marks.

@@ -140,15 +140,14 @@ impl FrameView {
         self.dirty.0 = without(self.dirty.0, struck);
     }
 
-    /// Makes the word at place `k` invalid, clean and not modified.
+    /// Makes the masked words invalid, clean and not modified.
     #[tactic(auto, unfolding(crate::specs::Frame::dropped_frame))]
-    pub(crate) fn drop_word(&mut self, k: usize)
-        requires { k < 8 }
-        ensures { self.new ≡ dropped_frame k self.old }
+    pub(crate) fn drop_words(&mut self, mask: Mask)
+        ensures { self.new ≡ dropped_frame mask.0 self.old }
     {
-        self.valid.0 = without(self.valid.0, bit(k));
-        self.modified.0 = without(self.modified.0, bit(k));
-        self.dirty.0 = without(self.dirty.0, bit(k));
+        self.valid.0 = without(self.valid.0, mask.0);
+        self.modified.0 = without(self.modified.0, mask.0);
+        self.dirty.0 = without(self.dirty.0, mask.0);
     }
 
     /// Makes the modified words invalid and clears both marks.

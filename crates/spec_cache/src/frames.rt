@@ -1,12 +1,13 @@
 // The calls of a cache, over any form of its frames.
-ghost use Rattle.std.specs.Prelude.{◌≡◌, ◌<◌, ◌%◌, ℕ, length, Option, Some, None, MatchOption, MatchResult, IfOk, map, IsTrue, IsSome, is_some, false};
+ghost use Rattle.std.specs.Prelude.{◌≡◌, ◌<◌, ◌%◌, ℕ, [], length, Option, Some, None, MatchOption, MatchResult, IfOk, map, IsTrue, IsSome, is_some, false};
 ghost use Rattle.std.specs.Option.{option_map};
 ghost use Rattle.tcc_maps.specs.Words.{line_of};
 ghost use Rattle.tcc_maps.specs.Shape.{lines, set_of};
 ghost use Rattle.tcc_maps.specs.Bridge.{tagged_of};
 ghost use Rattle.tcc_maps.specs.Cache.{IsCache, dirty_copy, free_way as lowest_free, keeps as keeps_word, reads_at as any_read, marks_by_home as every_mark};
-ghost use Rattle.tcc_maps.specs.CacheChange.{stored, placed, filled, invalidated, cleaned, evicted, word_dropped, rolled_back, read_cleared, committed};
+ghost use Rattle.tcc_maps.specs.CacheChange.{stored, placed, filled, invalidated, cleaned, evicted, words_dropped, rolled_back, read_cleared, committed};
 ghost use Rattle.tcc_maps.specs.CacheLook.{look_load as load_answer, look_store as store_answer, look_line, reads_masked};
+ghost use Rattle.tcc_maps.specs.Spilled.{spill, none_spilled};
 ghost use Rattle.spec_cache.specs.Held.{Held, maps};
 ghost use Rattle.spec_cache.specs.Home.{mark_of};
 ghost use Rattle.spec_cache.specs.Look.{look_of, loaded, Views, Gives};
@@ -182,13 +183,13 @@ pub trait Frames: Ways {
         })
     }
 
-    /// Makes one word invalid, clean and not modified. Its read mark stays.
-    fn drop_word(&mut self, w: WordAddr)
+    /// Makes the masked words of the line invalid, clean and not modified. Their read marks stay.
+    fn drop_words(&mut self, line: LineAddr, mask: Mask)
         ensures config { (Self.held self.new).config ≡ (Self.held self.old).config }
-        ensures maps { maps (Self.held self.new) ≡ word_dropped w.0 (maps (Self.held self.old)) }
+        ensures maps { maps (Self.held self.new) ≡ words_dropped (spill line.0 mask.0 [] none_spilled) (maps (Self.held self.old)) }
     {
-        if let Some((at, mut frame)) = self.find(line_of_word(w)) {
-            frame.drop_word(place_of_word(w));
+        if let Some((at, mut frame)) = self.find(line) {
+            frame.drop_words(mask);
             self.put(at, Some(frame));
         }
     }

@@ -17,7 +17,7 @@ enum Call {
     RollBack,
     ClearRead,
     Commit(u64),
-    DropWord(u32),
+    DropWords(u32, u8),
     Reads(u8),
     Frame(u16, u8),
 }
@@ -94,8 +94,8 @@ fn drive<F: Frames>(frames: &mut F, call: Call) -> Answer {
             frames.commit(Tid(tid));
             Answer::Done
         }
-        Call::DropWord(w) => {
-            frames.drop_word(WordAddr(w));
+        Call::DropWords(line, mask) => {
+            frames.drop_words(LineAddr(line), Mask(mask));
             Answer::Done
         }
         Call::Reads(d) => Answer::Is(frames.reads_at(DirId(d))),
@@ -138,7 +138,7 @@ const CALLS: [Call; 40] = [
     Call::TakeDirty(5),
     Call::Store(41, 2, true),
     Call::Commit(4),
-    Call::DropWord(41),
+    Call::DropWords(5, 2),
     Call::Evict(1, 0),
     Call::Fill(3, 9),
     Call::Load(26, true),
