@@ -1,0 +1,11 @@
+use Rattle.std.proofs.Common.{rules, ◌≡◌, ◌<◌, ◌≤◌, ℕ, true, false, not, nat_lt, ◌&&◌, ◌+◌, ◌-◌, ◌*◌, ◌/◌, ◌%◌, ◌^◌, Bool, nat_eq, bit_and, bit_or, ltb, refl, sym, ap, ◌∙◌, arith}
+use Rattle.tcc_base.specs.Put.{put}
+use Rattle.tcc_maps.specs.Masks.{has}
+use Rattle.tcc_maps.specs.Words.{any_below}
+use Rattle.commit_engine.proofs.Bits.{has-zero, has-below, has-with, has-without, empty_below, has-and}
+use Rattle.commit_engine.proofs.dir_set.DirSet.is_empty_below.Goals as goal
+
+pub returns : goal.returns
+returns c =
+    empty_below c.args.self.bits (bit_and c.args.self.bits c.below.result.bits) c.args.count
+    (λ k. has-and c.args.self.bits c.below.result.bits k ∙ ap (λ (p : ℕ → Bool). has c.args.self.bits k && p k) c.below.ensures)

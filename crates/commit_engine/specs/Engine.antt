@@ -1,0 +1,21 @@
+-- The phase of the code as the rules' phase, and sets of directories as the bits of a number.
+use Rattle.std.specs.Prelude.{ℕ, Bool, List, get_or, Option, Some, None}
+use Rattle.tcc_base.specs.declared.names.Tid.{Tid}
+use Rattle.tcc_rules.specs.State as rules
+use Rattle.commit_engine.specs.declared.phase.Phase.{Phase}
+use Rattle.commit_engine.specs.declared.phase.Phase.TheVariants as code
+
+abbrev pub phase_of : Phase → rules.Phase
+phase_of code.Running = rules.Running
+phase_of code.AwaitTid = rules.AwaitTid
+phase_of code.DoomedTid = rules.DoomedTid
+phase_of (code.Probing t) = rules.Probing t.0
+phase_of (code.Ready t) = rules.Ready t.0
+phase_of (code.Overflowing None) = rules.Overflowing None
+phase_of (code.Overflowing (Some t)) = rules.Overflowing (Some t.0)
+phase_of (code.Solo t) = rules.Solo t.0
+phase_of code.Halted = rules.Halted
+
+-- for each directory the TID of the core's last commit there
+unfoldable pub after_of : List Tid → ℕ → ℕ
+after_of after d = (get_or after d (record { 0 = 0 })).0
