@@ -1,3 +1,4 @@
 pub mod Bits
+pub mod FirstWith
 pub mod Lists
 pub mod Marks

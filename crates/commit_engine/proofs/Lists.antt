@@ -1,20 +1,19 @@
 -- What goes to each node, message by message.
-use Rattle.std.proofs.Common.{◌≡◌, ◌<◌, ℕ, zero, suc, ◌+◌, Bool, true, false, List, [], ◌∷◌, ◌++◌, map, take, length, vec_capacity, length-append, ◌≤◌, nat_eq, nat_lt, ltb, ◌||◌, if◌then◌else◌, append_assoc, append-nil, refl, ap, sym, ◌∙◌, arith, inl, inr}
+use Rattle.std.proofs.Common.{◌≡◌, ℕ, ◌+◌, Bool, true, false, List, [], ◌∷◌, ◌++◌, map, length, vec_capacity, length-append, ◌≤◌, nat_eq, nat_lt, ◌||◌, if◌then◌else◌, append_assoc, append-nil, refl, ap, sym, ◌∙◌, arith, inl, inr}
 use Rattle.std.specs.List.{flat_map}
-use Rattle.std.proofs.lemmas.List.Concat.{flat_map_single}
-use Rattle.std.proofs.lemmas.Bool.{cases_eq, eq-eqb, ne_eqb}
+use Rattle.std.proofs.lemmas.Bool.{cases_eq, ne_eqb}
 use Rattle.std.proofs.lemmas.Bool.Decides.{nat_tests}
 use Rattle.tcc_base.specs.declared.names.NodeId.{NodeId}
-use Rattle.tcc_maps.specs.Nodes.{Node, Core, Dir, Vendor, Msg, Mark, Skip, Probe, Abort, node_eq}
+use Rattle.tcc_maps.specs.Nodes.{Node, Core, Dir, Vendor, Msg, Mark, Skip, Probe, node_eq}
 use Rattle.tcc_maps.specs.Masks.{has}
 use Rattle.tcc_maps.specs.Shape.{Shape}
 use Rattle.tcc_maps.specs.Bridge.{node_of}
-use Rattle.tcc_maps.specs.Cache.{Cache, modified_mask, written_lines, marks_by_home, writes_at}
+use Rattle.tcc_maps.specs.Cache.{Cache, modified_mask, written_lines, marks_by_home}
 use Rattle.tcc_msg.specs.Plain.{msg_of, sends_of}
 use Rattle.tcc_msg.specs.declared.msg.Msg.{Msg as CodeMsg}
 use Rattle.tcc_msg.specs.declared.outgoing.Outgoing.{Outgoing}
 use Rattle.tcc_msg.proofs.Lemmas.{sends_of-push}
-use Rattle.tcc_rules.specs.Sends.{Sends, nothing, to, then_send, to_dirs, when, skip_all, probe_all, abort_written, marks_for}
+use Rattle.tcc_rules.specs.Sends.{Sends, to, when, skip_all, probe_all, marks_for}
 use Rattle.commit_engine.specs.Sent.{Sent, followed, to_first, to_members, mark_at}
 
 pub followed-nothing : (s : Sends) → followed s (λ dst. []) ≡ s

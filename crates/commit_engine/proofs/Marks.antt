@@ -1,21 +1,18 @@
 -- The marks that a list of lines with masks stands for, one after another.
-use Rattle.std.proofs.Common.{◌≡◌, ◌<◌, ◌≤◌, ℕ, ◌+◌, List, [], ◌∷◌, ◌++◌, map, take, length, vec_capacity, length-append, refl, ap, sym, ◌∙◌, rules, arith, get_or}
+use Rattle.std.proofs.Common.{◌≡◌, ◌<◌, ℕ, ◌+◌, List, [], ◌∷◌, ◌++◌, map, take, length, vec_capacity, ap, sym, ◌∙◌, arith, get_or}
 use Rattle.std.proofs.lemmas.List.{take_more, map-append}
 use Rattle.std.proofs.Math.Seq.{take-length}
-use Rattle.tcc_base.specs.declared.names.NodeId.{NodeId}
 use Rattle.tcc_base.specs.declared.names.NodeId.TheVariants.{Dir as CodeDir}
 use Rattle.tcc_base.specs.declared.names.DirId.{DirId}
 use Rattle.tcc_base.specs.declared.names.LineAddr.{LineAddr}
 use Rattle.tcc_base.specs.declared.names.Mask.{Mask}
 use Rattle.tcc_base.specs.declared.names.Tid.{Tid}
-use Rattle.tcc_maps.specs.Nodes.{Dir, Msg}
-use Rattle.tcc_msg.specs.Plain.{msg_of, sends_of}
+use Rattle.tcc_maps.specs.Nodes.{Dir}
 use Rattle.tcc_msg.specs.declared.outgoing.Outgoing.{Outgoing}
-use Rattle.tcc_msg.specs.declared.msg.Msg.{Msg as CodeMsg}
 use Rattle.tcc_msg.specs.declared.msg.Msg.TheVariants.{Mark as CodeMark}
 use Rattle.tcc_rules.specs.Sends.{to}
 use Rattle.spec_cache.specs.Home.{mark_of}
-use Rattle.commit_engine.specs.Sent.{Sent, mark_at, followed}
+use Rattle.commit_engine.specs.Sent.{Sent, mark_at}
 use Rattle.commit_engine.proofs.Lists.{sent_push, to-append, to-none, sent_nothing, sent_as}
 
 pub marks_none : (out : Outgoing) (d : DirId) (t : Tid) (marks : List (LineAddr × Mask)) → Sent out out (to (Dir d.0) (map (mark_at t.0) (map mark_of (take 0 marks)))) 0

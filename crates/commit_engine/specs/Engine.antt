@@ -1,5 +1,5 @@
 -- The phase of the code as the rules' phase, and sets of directories as the bits of a number.
-use Rattle.std.specs.Prelude.{ℕ, Bool, List, get_or, Option, Some, None}
+use Rattle.std.specs.Prelude.{ℕ, Bool, ◌&&◌, nat_lt, List, get_or, Some, None}
 use Rattle.tcc_base.specs.declared.names.Tid.{Tid}
 use Rattle.tcc_rules.specs.State as rules
 use Rattle.commit_engine.specs.declared.phase.Phase.{Phase}
@@ -19,3 +19,7 @@ phase_of code.Halted = rules.Halted
 -- for each directory the TID of the core's last commit there
 unfoldable pub after_of : List Tid → ℕ → ℕ
 after_of after d = (get_or after d (record { 0 = 0 })).0
+
+-- the numbers below n that have p
+unfoldable pub first_with : ℕ → (ℕ → Bool) → ℕ → Bool
+first_with n p d = nat_lt d n && p d

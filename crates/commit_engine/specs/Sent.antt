@@ -1,7 +1,7 @@
 -- What was sent before and after a call, by destination.
 use Rattle.std.specs.Prelude.{ℕ, ◌+◌, ◌≤◌, ◌≡◌, List, [], ◌∷◌, ◌++◌, length, vec_capacity, nat_lt, if◌then◌else◌}
 use Rattle.tcc_maps.specs.Masks.{has}
-use Rattle.tcc_maps.specs.Nodes.{Node, Core, Dir, Vendor, Msg, Mark}
+use Rattle.tcc_maps.specs.Nodes.{Core, Dir, Vendor, Msg, Mark}
 use Rattle.tcc_msg.specs.Plain.{sends_of}
 use Rattle.tcc_msg.specs.declared.outgoing.Outgoing.{Outgoing}
 use Rattle.tcc_rules.specs.Sends.{Sends, when}

@@ -1,5 +1,5 @@
 // A set of directories as the bits of a number.
-ghost use Rattle.std.specs.Prelude.{◌≡◌, ◌<◌, ◌≤◌, ℕ, true, false, not, nat_lt};
+ghost use Rattle.std.specs.Prelude.{◌≡◌, ◌<◌, ◌≤◌, ℕ, true, false, not, ◌&&◌, ◌||◌, nat_lt};
 ghost use Rattle.tcc_base.specs.Put.{put};
 ghost use Rattle.tcc_maps.specs.Masks.{has};
 ghost use Rattle.tcc_maps.specs.Words.{any_below};
@@ -67,5 +67,23 @@ impl DirSet {
         ensures { result ≡ not (any_below (has self.bits) count) }
     {
         self.bits & DirSet::below(count).bits == 0
+    }
+
+    /// The directories of this set or of the other.
+    pub fn or(self, other: DirSet) -> DirSet
+        ensures { has result.bits ≡ (λ d. has self.bits d || has other.bits d) }
+    {
+        DirSet {
+            bits: self.bits | other.bits,
+        }
+    }
+
+    /// The directories of this set that aren't in the other.
+    pub fn minus(self, other: DirSet) -> DirSet
+        ensures { has result.bits ≡ (λ d. has self.bits d && not (has other.bits d)) }
+    {
+        DirSet {
+            bits: self.bits ^ (self.bits & other.bits),
+        }
     }
 }

@@ -2,9 +2,11 @@
 #![tactic(auto)]
 
 mod dir_set;
+mod homes;
 mod phase;
 mod sending;
 
 pub use dir_set::DirSet;
+pub use homes::read_homes;
 pub use phase::Phase;
-pub use sending::{send_each, send_marks, send_probes, send_skips};
+pub use sending::{send_aborts, send_each, send_granted, send_marks, send_probes, send_skips};

@@ -1,5 +1,4 @@
-use Rattle.std.proofs.Common.{◌≡◌, ℕ, ◌+◌, ◌≤◌, length, vec_capacity}
-use Rattle.tcc_msg.specs.Plain.{msg_of, sends_of}
+use Rattle.tcc_msg.specs.Plain.{msg_of}
 use Rattle.commit_engine.specs.Sent.{Sent, to_first, to_members}
 use Rattle.commit_engine.proofs.sending.send_each.Given as goal
 

@@ -1,8 +1,4 @@
-use Rattle.std.proofs.Common.{arith, ◌≡◌, refl, map, take}
-use Rattle.tcc_maps.specs.Nodes.{Dir}
-use Rattle.tcc_rules.specs.Sends.{to}
-use Rattle.spec_cache.specs.Home.{mark_of}
-use Rattle.commit_engine.specs.Sent.{Sent, mark_at}
+use Rattle.std.proofs.Common.{arith}
 use Rattle.commit_engine.proofs.Marks.{marks_none, marks_more, marks_all}
 use Rattle.commit_engine.proofs.sending.send_marks.Goals as goal
 

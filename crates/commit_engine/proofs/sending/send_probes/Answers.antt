@@ -1,7 +1,5 @@
-use Rattle.std.proofs.Common.{◌≡◌, ℕ, ap, ◌∙◌, nat_lt, arith}
+use Rattle.std.proofs.Common.{◌≡◌, nat_lt, arith}
 use Rattle.tcc_maps.specs.Masks.{has}
-use Rattle.tcc_rules.specs.Sends.{probe_all}
-use Rattle.commit_engine.specs.Sent.{to_first, to_members}
 use Rattle.commit_engine.proofs.Lists.{sent_as, probes_all}
 use Rattle.commit_engine.proofs.sending.send_probes.Goals as goal
 
