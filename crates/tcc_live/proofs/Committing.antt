@@ -15,7 +15,7 @@ use Rattle.tcc_serial.specs.Count.{Commits, CommitOf, MarkOf, MarksAway, live, p
 use Rattle.tcc_serial.specs.Counted.{CountsMarks}
 use Rattle.tcc_serial.specs.Marks.{marks_of}
 use Rattle.tcc_serial.specs.Pairs.{pair}
-use Rattle.tcc_serial.proofs.Lemmas.{total-le, some-part}
+use Rattle.tcc_serial.proofs.Lemmas.{total-le, total-num, total-same, some-part}
 use Rattle.tcc_live.proofs.Events.{Moves, is_answer, out_moves}
 use Rattle.tcc_live.proofs.Found.{out, serving_at, Found, found, counted}
 use Rattle.tcc_live.proofs.Owner.{owner_moves}
@@ -61,9 +61,7 @@ mark_moves sh p h c d t l k i j inside b n = go (mark_waits sh (h.world.dirs d) 
 
 -- a count is a sum of ones
 count-total : (q : ℕ → Bool) (f : ℕ → ℕ) (n : ℕ) → ((l : ℕ) → l < n → f l ≡ num (q l)) → count_below q n ≡ total f n
-unfolding count_below total
-count-total q f zero e = refl
-count-total q f (suc n) e = omega (arith, count-total q f n (λ l b. e l (omega arith)), e n (omega arith))
+count-total q f n e = omega (arith, total-num q n, total-same f (λ l. num (q l)) n e)
 
 -- it carries a count
 record Counting (t : ℕ) (m : Msg) : Type 0 where

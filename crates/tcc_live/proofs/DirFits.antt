@@ -1,5 +1,5 @@
 -- What a directory sends fits: to cores that the machine has; and lines have owners among these, and the served TID doesn't fall.
-use Rattle.std.specs.Prelude.{ℕ, zero, suc, ◌-◌, ◌≡◌, ◌<◌, ◌≤◌, Bool, true, false, ◌==◌, ◌&&◌, ◌||◌, List, [], ◌∷◌, Option, Some, None, nat_lt, nat_le, if◌then◌else◌}
+use Rattle.std.specs.Prelude.{ℕ, ◌-◌, ◌≡◌, ◌<◌, ◌≤◌, Bool, true, false, ◌==◌, ◌&&◌, ◌||◌, List, [], ◌∷◌, Option, Some, None, nat_lt, nat_le, if◌then◌else◌}
 use Rattle.std.specs.List.{flat_map}
 use Rattle.std.proofs.Common.{arith, refl}
 use Rattle.std.proofs.lemmas.Bool.Decides.{nat_tests}
@@ -14,6 +14,7 @@ use Rattle.tcc_maps.proofs.Serving.{advance-rises}
 use Rattle.tcc_rules.specs.DirDeliver.{Answer, Waits, Drops, Asks, Takes, moved_on, skip, abort, probe, ask_owner, line_words, load_owned, load_request, mark_owned, mark, is_invalidated, invs_to, invalidations, owed_by, owned, settled, commit, unless_keeps, acknowledgement, came_home, judged, write_back, dir_deliver}
 use Rattle.tcc_rules.specs.Sends.{Sends, nothing}
 use Rattle.tcc_rules.specs.State.{DirState}
+use Rattle.tcc_serial.proofs.Lemmas.{those-none}
 use Rattle.tcc_live.proofs.Strays.{strays, AllFit, strays-none, strays-flat, back_fits, fit-nothing, fit-to}
 
 -- owners are cores of the machine, and a TID is served
@@ -117,11 +118,6 @@ marks sh d l m t s i k = either sh d (nat_lt t s.serving.serving) Drops _ tt
     go (Some o) e = asks_owner sh d o l s (k.owners l o e) i k
 
 -- invalidations go to cores that the machine has
-no-one : (q : ℕ → Bool) (n : ℕ) → ((l : ℕ) → q l ≡ false) → those q n ≡ []
-unfolding those
-no-one q zero h = refl
-no-one q (suc n) h = rw (no-one q n h, h n) refl
-
 invalidates : (sh : Shape) (d : ℕ) (ls : Lines) (c t : ℕ) → d < sh.dirs → AllFit sh (Dir d) (invalidations sh ls c t)
 unfolding invalidations invs_to is_invalidated
 invalidates sh d ls c t i (Dir e) = strays-none sh (Dir d) (Dir e)
@@ -133,7 +129,7 @@ invalidates sh d ls c t i (Core j) = go (nat_lt j sh.cores) refl
     go true e = strays-flat sh (Dir d) (Core j) (λ l. Inv l (ls.mark l) t ∷ [])
         (λ l. back_fits sh j d (Inv l (ls.mark l) t) (grind (arith, nat_tests)) i refl) (those (is_invalidated sh ls c j) (lines sh))
     go false e = let z : those (is_invalidated sh ls c j) (lines sh) ≡ [] =
-        no-one (is_invalidated sh ls c j) (lines sh) (λ l. rw e refl) in rw z (strays-none sh (Dir d) (Core j))
+        those-none (is_invalidated sh ls c j) (lines sh) (λ l. rw e refl) in rw z (strays-none sh (Dir d) (Core j))
 
 owned-by : (sh : Shape) (c t : ℕ) (s : DirState) (n : ℕ) → c < sh.cores → KeptDir sh s
     → KeptDir sh (record s { lines = owned c t s.lines; owed = n })

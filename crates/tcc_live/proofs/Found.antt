@@ -1,9 +1,11 @@
 -- The links between a core and a directory, and from a number of messages to one of them.
-use Rattle.std.specs.Prelude.{ℕ, zero, suc, ◌≡◌, ◌≤◌, Bool, true, false, [], ◌∷◌, Some, None, get_or}
+use Rattle.std.specs.Prelude.{ℕ, suc, ◌≡◌, ◌≤◌, Bool, true, false, [], ◌∷◌, Some, None, get_or}
 use Rattle.std.proofs.Common.{arith, refl}
+use Rattle.tcc_maps.specs.Words.{num}
 use Rattle.tcc_maps.specs.Nodes.{Core, Dir, Msg}
 use Rattle.tcc_rules.specs.State.{Link, World}
 use Rattle.tcc_serial.specs.Count.{Kind, live, passes}
+use Rattle.tcc_serial.proofs.Lemmas.{live-some}
 
 -- from a core to a directory, and from the directory to the core
 abbrev pub out : World → (core dir : ℕ) → Link
@@ -37,9 +39,4 @@ found k (Some m ∷ l) h = go (passes k m) refl (found k l)
 
 -- and one that is there counts
 pub counted : (k : Kind) (l : Link) (i : ℕ) (m : Msg) → get_or l i None ≡ Some m → passes k m ≡ true → 1 ≤ live k l
-unfolding live
-counted k [] i m e q = absurd (cc)
-counted k (Some x ∷ l) zero m e q = let h : x ≡ m = cc in let r : passes k x ≡ true = rw h q in rw r (omega arith)
-counted k (None ∷ l) zero m e q = absurd (cc)
-counted k (Some x ∷ l) (suc i) m e q = let h = counted k l i m e q in omega arith
-counted k (None ∷ l) (suc i) m e q = counted k l i m e q
+counted k l i m e q = let n : num (passes k m) ≡ 1 = rw q refl in omega (arith, live-some k l i m e)

@@ -1,5 +1,5 @@
 -- The core that has the least TID goes on: every directory serves it or a later one.
-use Rattle.std.specs.Prelude.{ℕ, zero, suc, ◌+◌, ◌-◌, ◌≡◌, ◌<◌, ◌≤◌, Bool, true, false, ◌==◌, ◌&&◌, Contains, Option, Some, None}
+use Rattle.std.specs.Prelude.{ℕ, zero, suc, ◌+◌, ◌-◌, ◌≡◌, ◌<◌, ◌≤◌, true, false, ◌==◌, ◌&&◌, Contains, Option, Some, None}
 use Rattle.std.proofs.Common.{arith, refl, ◌⊎◌, inl, inr}
 use Rattle.std.proofs.lemmas.Bool.{cases_lt}
 use Rattle.std.proofs.lemmas.Bool.Decides.{nat_tests}
@@ -22,7 +22,7 @@ use Rattle.tcc_serial.specs.OneCore.{awaits_replies}
 use Rattle.tcc_serial.specs.Owners.{holder, times}
 use Rattle.tcc_serial.specs.Pairs.{pair}
 use Rattle.tcc_serial.specs.Tids.{has_tid, opens}
-use Rattle.tcc_serial.proofs.Lemmas.{total-le, some-part, numbered-least, last-most, granted-at, times-listed}
+use Rattle.tcc_serial.proofs.Lemmas.{total-le, some-part, num-one, numbered-least, last-most, granted-at, times-listed}
 use Rattle.tcc_live.specs.Fits.{goes_to_core}
 use Rattle.tcc_live.proofs.Events.{Moves, is_answer, exec_moves, back_counted, out_counted}
 use Rattle.tcc_live.proofs.Least.{IsLeast, least}
@@ -216,14 +216,10 @@ unfolding held_count held_by
 counts sh w t a = let n : num (has_tid (w.cores a.core).phase t) ≡ 1 = rw a.has refl in
     omega (arith, total-le (held_by w t) sh.cores a.core a.below)
 
-one : (b : Bool) → 1 ≤ num b → b ≡ true
-one true h = refl
-one false h = absurd (omega arith)
-
 some_core : (sh : Shape) (w : World) (t : ℕ) → 1 ≤ held_count sh w t → IsHeld sh w t
 unfolding held_count held_by
 some_core sh w t n = let r = some-part (held_by w t) sh.cores n in
-    record { core = r.0; below = r.1; has = one (has_tid (w.cores r.0).phase t) (r.2) }
+    record { core = r.0; below = r.1; has = num-one (has_tid (w.cores r.0).phase t) (r.2) }
 
 -- where some core has a TID, something can go on
 least_moves : (sh : Shape) (p : Program) (h : History) (t : ℕ) → Reached sh p h → IsLeast (held_count sh h.world) h.world.next t

@@ -18,7 +18,7 @@ use Rattle.tcc_serial.specs.Pairs.{pair, share}
 use Rattle.tcc_serial.specs.Tids.{has_tid}
 use Rattle.tcc_serial.specs.Ways.{Way, Untold, Skipped, Aborted, Committed}
 use Rattle.tcc_serial.specs.WayLaws.{Settled, is_given_up, given_up_by}
-use Rattle.tcc_serial.proofs.Lemmas.{total-le, some-part}
+use Rattle.tcc_serial.proofs.Lemmas.{total-le, some-part, num-one}
 use Rattle.tcc_live.specs.Fits.{goes_to_core, is_grant}
 use Rattle.tcc_live.proofs.Committing.{commit_moves}
 use Rattle.tcc_live.proofs.Events.{Moves, is_answer, back_counted, grant_counted, out_counted}
@@ -55,10 +55,6 @@ grant_taken : (t : ℕ) (m : Msg) → passes (Grants t) m ≡ true → is_grant 
 unfolding passes
 grant_taken t m q = grind (arith, nat_tests)
 
-one : (b : Bool) → 1 ≤ num b → b ≡ true
-one true h = refl
-one false h = absurd (omega arith)
-
 -- a TID that is with a core, or on its way to it
 held : (sh : Shape) (p : Program) (w : World) (c d t : ℕ) → c < sh.cores → 1 ≤ holder t (pair w c d) → Moves sh p w ⊎ IsHeld sh w t
 unfolding holder pair
@@ -66,7 +62,7 @@ held sh p w c d t l n = go (live (Grants t) (w.net Vendor (Core c))) refl
   where
     go : (x : ℕ) → live (Grants t) (w.net Vendor (Core c)) ≡ x → Moves sh p w ⊎ IsHeld sh w t
     go (suc x) e = inl (grant_counted sh p w (Grants t) c l (grant_taken t) (omega (arith, e)))
-    go zero e = inr (record { core = c; below = l; has = one (has_tid (w.cores c).phase t) (omega (arith, e)) })
+    go zero e = inr (record { core = c; below = l; has = num-one (has_tid (w.cores c).phase t) (omega (arith, e)) })
 
 -- a served TID that was given up: a Skip or an Abort is on its way
 given_up : (sh : Shape) (p : Program) (h : History) (d : ℕ) (k : Reached sh p h) → d < sh.dirs

@@ -1,7 +1,7 @@
 -- How many messages don't fit their link: none that a rule sends.
 use Rattle.std.specs.Prelude.{ℕ, zero, suc, ◌+◌, ◌≡◌, ◌<◌, ◌≤◌, Bool, true, false, not, ◌&&◌, List, [], ◌∷◌, ◌++◌, get_or, slice_set, Some, None, nat_lt, if◌then◌else◌}
 use Rattle.std.specs.List.{flat_map}
-use Rattle.std.proofs.Common.{arith, refl, ap}
+use Rattle.std.proofs.Common.{arith, refl}
 use Rattle.std.proofs.lemmas.Bool.Decides.{nat_tests}
 use Rattle.tcc_maps.specs.Words.{num}
 use Rattle.tcc_maps.specs.Nodes.{Node, Core, Dir, Vendor, Msg, TidReq, TidGrant, node_eq}
@@ -9,6 +9,7 @@ use Rattle.tcc_maps.specs.Shape.{Shape}
 use Rattle.tcc_rules.specs.State.{Link}
 use Rattle.tcc_rules.specs.Links.{sent_all, sending, taking}
 use Rattle.tcc_rules.specs.Sends.{Sends, nothing, to, then_send, to_dirs, when}
+use Rattle.tcc_rules.proofs.Lemmas.{node_eq-eq}
 use Rattle.tcc_live.specs.Fits.{goes_to_core, goes_to_dir, fits}
 use Rattle.tcc_live.proofs.Events.{below}
 
@@ -64,17 +65,6 @@ pub link-none : (sh : Shape) (s d : Node) → on_link sh s d [] ≡ 0
 unfolding on_link
 link-none sh s d = refl
 
-same_node : (a b : Node) → node_eq a b ≡ true → a ≡ b
-same_node (Core c) (Core d) h = let e : c ≡ d = grind (arith, nat_tests) in ap Core e
-same_node (Dir c) (Dir d) h = let e : c ≡ d = grind (arith, nat_tests) in ap Dir e
-same_node Vendor Vendor h = refl
-same_node (Core c) (Dir d) h = absurd (cc)
-same_node (Core c) Vendor h = absurd (cc)
-same_node (Dir c) (Core d) h = absurd (cc)
-same_node (Dir c) Vendor h = absurd (cc)
-same_node Vendor (Core d) h = absurd (cc)
-same_node Vendor (Dir d) h = absurd (cc)
-
 abbrev pub LinksClean : Shape → (Node → Node → Link) → Type 0
 LinksClean sh net = (s d : Node) → on_link sh s d (net s d) ≡ 0
 
@@ -84,7 +74,7 @@ sending-clean sh net n sends h f s d = go (node_eq s n) refl
   where
     go : (b : Bool) → node_eq s n ≡ b → on_link sh s d (if b then net s d ++ sent_all (sends d) else net s d) ≡ 0
     go false e = h s d
-    go true e = let q = same_node s n e in let z : strays sh s d (sends d) ≡ 0 = rw q (f d) in
+    go true e = let q = node_eq-eq s n e in let z : strays sh s d (sends d) ≡ 0 = rw q (f d) in
         omega (arith, link-append sh s d (net s d) (sent_all (sends d)), link-sent sh s d (sends d), h s d)
 
 pub taking-clean : (sh : Shape) (net : Node → Node → Link) (src dst : Node) (k : ℕ) → LinksClean sh net
@@ -152,7 +142,7 @@ fit-to sh n m ms h dst = go (node_eq dst m) refl
   where
     go : (b : Bool) → node_eq dst m ≡ b → strays sh n dst (if b then ms else []) ≡ 0
     go false e = strays-none sh n dst
-    go true e = rw (same_node dst m e) h
+    go true e = rw (node_eq-eq dst m e) h
 
 pub fit-dirs : (sh : Shape) (n : Node) (f : ℕ → List Msg) → ((d : ℕ) → d < sh.dirs → strays sh n (Dir d) (f d) ≡ 0)
     → AllFit sh n (to_dirs sh f)
