@@ -7,10 +7,10 @@ use Rattle.tcc_program.specs.Program.{Need, Nothing, Loads, Stores, Changes, Pri
 use Rattle.tcc_program.specs.Ram.{word_of}
 use Rattle.tcc_maps.specs.Words.{line_of, those, count_below}
 use Rattle.tcc_maps.specs.Cache.{Cache, free_way, all_marked, modified_mask, is_modified, dirty_copy, written_lines, writes_at, reads_at, is_marked}
-use Rattle.tcc_maps.specs.Nodes.{Core, Dir, Vendor, Msg, TidReq, TidGrant, LoadReq, Fill, Skip, Probe, ProbeReply, Mark, Commit, Abort, WriteBack, Flush, DataReq, Inv, InvAck, Tagged}
+use Rattle.tcc_maps.specs.Nodes.{Core, Dir, Vendor, Msg, TidReq, LoadReq, Fill, Skip, Probe, ProbeReply, Mark, Commit, Abort, WriteBack, Flush, DataReq, Inv, InvAck, Tagged}
 use Rattle.tcc_maps.specs.Shape.{Shape, home, lines, set_of}
 use Rattle.tcc_maps.specs.Spilled.{Spilled, holds, spilled_mask, spilled_words}
-use Rattle.tcc_rules.specs.State.{CoreState, Awaited, Phase, Running, AwaitTid, DoomedTid, Probing, Ready, Overflowing, Solo, Halted}
+use Rattle.tcc_rules.specs.State.{CoreState, Awaited, Phase, Running, AwaitTid, DoomedTid, Probing, Ready, Overflowing, Solo}
 use Rattle.tcc_rules.specs.Attempt.{Out, is_solo, finished}
 use Rattle.tcc_rules.specs.Commit.{commit_sends, commit, is_written, written_mask, solo_writes_at, solo_marks, solo_backs, solo_sends, solo_commit}
 use Rattle.tcc_rules.specs.CoreDeliver.{grant_sends, grant_phase, grant, reply_phase, probe_reply, fill_awaited, fill, data_request, violated_in, if_violated, is_violated, without, acknowledged, invalidate, from_dir, ignored}
@@ -206,13 +206,7 @@ stores_word sh p c w x need s k = go (holds s.spilled (line_of w)) (s.cache.held
 closes : (sh : Shape) (c : ℕ) (q : Phase) (s : CoreState) → IsCore sh c → Fit sh c (close sh c q s)
 unfolding solo_commit
 closes sh c (Solo t) s k = solos sh c s.cache s.spilled t k
-closes sh c Running s k = requests sh c k
-closes sh c AwaitTid s k = requests sh c k
-closes sh c DoomedTid s k = requests sh c k
-closes sh c (Probing t) s k = requests sh c k
-closes sh c (Ready t) s k = requests sh c k
-closes sh c (Overflowing t) s k = requests sh c k
-closes sh c Halted s k = requests sh c k
+closes sh c _ s k = requests sh c k
 
 needs : (sh : Shape) (p : Program) (c : ℕ) (s : CoreState) (n : Need) → IsCore sh c → IfSome (execute_need sh p c s n) (Fit sh c)
 needs sh p c s Nothing k = fit-nothing sh (Core c)
@@ -238,11 +232,7 @@ fit-exec sh p c s k = go s.phase
     go Running = awaiting s.awaited
     go (Solo t) = awaiting s.awaited
     go (Ready t) = commits sh c s.cache t k
-    go AwaitTid = tt
-    go DoomedTid = tt
-    go (Probing t) = tt
-    go (Overflowing t) = tt
-    go Halted = tt
+    go _ = tt
 
 -- Evict
 
@@ -268,45 +258,31 @@ fit-grant sh c t s k = go s.phase
     go AwaitTid = grants sh c s.cache t k
     go DoomedTid = skips sh c t k
     go (Overflowing None) = probes sh c t k
-    go (Overflowing (Some u)) = fit-nothing sh (Core c)
-    go Running = fit-nothing sh (Core c)
-    go (Probing u) = fit-nothing sh (Core c)
-    go (Ready u) = fit-nothing sh (Core c)
-    go (Solo u) = fit-nothing sh (Core c)
-    go Halted = fit-nothing sh (Core c)
+    go _ = fit-nothing sh (Core c)
+
+-- one of two
+either : (sh : Shape) (c : ℕ) (b : Bool) (o q : Out) → Fit sh c o → Fit sh c q → Fit sh c (if b then o else q)
+either sh c true o q f g = f
+either sh c false o q f g = g
 
 reply : (sh : Shape) (c d t : ℕ) (s : CoreState) → IsCore sh c → d < sh.dirs → Fit sh c (probe_reply sh d t s)
 unfolding probe_reply marks_for
 reply sh c d t s k i = go s.phase
   where
-    either : (b : Bool) (o q : Out) → Fit sh c o → Fit sh c q → Fit sh c (if b then o else q)
-    either true o q f g = f
-    either false o q f g = g
-
     go : (q : Phase) → Fit sh c (reply_phase sh d t s q)
-    go (Probing u) = either (u == t && s.owing d) _ (ignored s)
+    go (Probing u) = either sh c (u == t && s.owing d) _ (ignored s)
         (fit-to sh (Core c) (Dir d) (marks_for sh s.cache t d) (marks sh c d t (modified_mask s.cache) (written_lines sh s.cache d) k i))
         (fit-nothing sh (Core c))
-    go (Overflowing (Some u)) = either (u == t && s.owing d) _ (ignored s) (fit-nothing sh (Core c)) (fit-nothing sh (Core c))
-    go (Overflowing None) = fit-nothing sh (Core c)
-    go Running = fit-nothing sh (Core c)
-    go AwaitTid = fit-nothing sh (Core c)
-    go DoomedTid = fit-nothing sh (Core c)
-    go (Ready u) = fit-nothing sh (Core c)
-    go (Solo u) = fit-nothing sh (Core c)
-    go Halted = fit-nothing sh (Core c)
+    go (Overflowing (Some u)) = either sh c (u == t && s.owing d) _ (ignored s) (fit-nothing sh (Core c)) (fit-nothing sh (Core c))
+    go _ = fit-nothing sh (Core c)
 
 filled : (sh : Shape) (c l : ℕ) (ws : List ℕ) (s : CoreState) → Fit sh c (fill l ws s)
 unfolding fill
 filled sh c l ws s = go s.awaited
   where
-    either : (b : Bool) (o q : Out) → Fit sh c o → Fit sh c q → Fit sh c (if b then o else q)
-    either true o q f g = f
-    either false o q f g = g
-
     go : (o : Option Awaited) → Fit sh c (fill_awaited l ws s o)
     go None = fit-nothing sh (Core c)
-    go (Some a) = either (a.line == l) _ (ignored s) (fit-nothing sh (Core c)) (fit-nothing sh (Core c))
+    go (Some a) = either sh c (a.line == l) _ (ignored s) (fit-nothing sh (Core c)) (fit-nothing sh (Core c))
 
 violated : (sh : Shape) (c : ℕ) (s : CoreState) (b : Bool) → IsCore sh c → Fit sh c (if_violated sh b s)
 unfolding if_violated
@@ -314,15 +290,11 @@ violated sh c s false k = fit-nothing sh (Core c)
 violated sh c s true k = go s.phase
   where
     go : (q : Phase) → Fit sh c (violated_in sh s q)
-    go Running = fit-nothing sh (Core c)
-    go AwaitTid = fit-nothing sh (Core c)
-    go (Overflowing None) = fit-nothing sh (Core c)
     go (Probing t) = aborts sh c s.cache t k
     go (Ready t) = aborts sh c s.cache t k
     go (Overflowing (Some t)) = skips sh c t k
     go (Solo t) = skips sh c t k
-    go DoomedTid = fit-nothing sh (Core c)
-    go Halted = fit-nothing sh (Core c)
+    go _ = fit-nothing sh (Core c)
 
 invalidates : (sh : Shape) (c l m u : ℕ) (s : CoreState) → IsCore sh c → Fit sh c (invalidate sh l m u s)
 unfolding invalidate acknowledged
@@ -335,14 +307,4 @@ fit-back sh c d s (ProbeReply t v) k i = reply sh c d t s k i
 fit-back sh c d s (Fill l ws) k i = filled sh c l ws s
 fit-back sh c d s (DataReq l) k i = flushes sh c s.cache l k
 fit-back sh c d s (Inv l m u) k i = invalidates sh c l m u s k
-fit-back sh c d s TidReq k i = tt
-fit-back sh c d s (TidGrant t) k i = tt
-fit-back sh c d s (LoadReq l a) k i = tt
-fit-back sh c d s (Skip t) k i = tt
-fit-back sh c d s (Probe t) k i = tt
-fit-back sh c d s (Mark l m t) k i = tt
-fit-back sh c d s (Commit t n) k i = tt
-fit-back sh c d s (Abort t) k i = tt
-fit-back sh c d s (WriteBack l m ws t) k i = tt
-fit-back sh c d s (Flush l m ws t) k i = tt
-fit-back sh c d s (InvAck l b) k i = tt
+fit-back sh c d s _ k i = tt

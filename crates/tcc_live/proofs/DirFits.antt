@@ -7,7 +7,7 @@ use Rattle.tcc_maps.specs.Words.{those, count_below}
 use Rattle.tcc_maps.specs.Judge.{Judgement, judge, Takes as IsTaken, Drops as IsDropped, Waits as IsEarly}
 use Rattle.tcc_maps.specs.Lines.{Lines, with_sharer, with_owner, with_asked, with_mark, unmarked, has_mark}
 use Rattle.tcc_maps.specs.Masks.{full}
-use Rattle.tcc_maps.specs.Nodes.{Core, Dir, Vendor, Msg, TidReq, TidGrant, LoadReq, Fill, Skip, Probe, ProbeReply, Mark, Commit, Abort, WriteBack, Flush, DataReq, Inv, InvAck}
+use Rattle.tcc_maps.specs.Nodes.{Core, Dir, Vendor, Msg, LoadReq, Fill, Skip, Probe, ProbeReply, Mark, Commit, Abort, WriteBack, Flush, DataReq, Inv, InvAck}
 use Rattle.tcc_maps.specs.Serving.{Serving, advance, skipped, kept}
 use Rattle.tcc_maps.specs.Shape.{Shape, lines}
 use Rattle.tcc_maps.proofs.Serving.{advance-rises}
@@ -178,9 +178,4 @@ fit-answer sh d c s (Commit t n) b i k = commits sh d c t n s b i k
 fit-answer sh d c s (InvAck l x) b i k = acks sh d c l x s k
 fit-answer sh d c s (WriteBack l m ws g) b i k = backs sh d c l m ws g s k
 fit-answer sh d c s (Flush l m ws g) b i k = backs sh d c l m ws g s k
-fit-answer sh d c s TidReq b i k = tt
-fit-answer sh d c s (TidGrant t) b i k = tt
-fit-answer sh d c s (Fill l ws) b i k = tt
-fit-answer sh d c s (ProbeReply t v) b i k = tt
-fit-answer sh d c s (DataReq l) b i k = tt
-fit-answer sh d c s (Inv l m t) b i k = tt
+fit-answer sh d c s _ b i k = tt

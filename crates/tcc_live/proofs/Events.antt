@@ -3,7 +3,7 @@ use Rattle.std.specs.Prelude.{ℕ, ◌≡◌, ◌<◌, ◌≤◌, Bool, true, fa
 use Rattle.std.proofs.Common.{arith, refl, ◌⊎◌, inl, inr}
 use Rattle.std.proofs.lemmas.Bool.Decides.{nat_tests}
 use Rattle.tcc_program.specs.Program.{Program}
-use Rattle.tcc_maps.specs.Nodes.{Node, Core, Dir, Vendor, Event, Exec, Evict, Deliver, Msg, TidReq, TidGrant, LoadReq, Fill, Skip, Probe, ProbeReply, Mark, Commit, Abort, WriteBack, Flush, DataReq, Inv, InvAck}
+use Rattle.tcc_maps.specs.Nodes.{Node, Core, Dir, Vendor, Event, Exec, Evict, Deliver, Msg, TidReq, TidGrant, Fill, ProbeReply, DataReq, Inv}
 use Rattle.tcc_maps.specs.Shape.{Shape}
 use Rattle.tcc_rules.specs.State.{World}
 use Rattle.tcc_rules.specs.Attempt.{Out}
@@ -57,20 +57,7 @@ some_answered w c d k (Takes s sends) h = refl
 
 some_granted : (w : World) (c k : ℕ) (m : Msg) → is_request m ≡ true → is_some (granted w c k (vendor_deliver w.next c m)) ≡ true
 some_granted w c k TidReq h = refl
-some_granted w c k (TidGrant t) h = absurd (cc)
-some_granted w c k (LoadReq l a) h = absurd (cc)
-some_granted w c k (Fill l ws) h = absurd (cc)
-some_granted w c k (Skip t) h = absurd (cc)
-some_granted w c k (Probe t) h = absurd (cc)
-some_granted w c k (ProbeReply t s) h = absurd (cc)
-some_granted w c k (Mark l m t) h = absurd (cc)
-some_granted w c k (Commit t n) h = absurd (cc)
-some_granted w c k (Abort t) h = absurd (cc)
-some_granted w c k (WriteBack l m ws g) h = absurd (cc)
-some_granted w c k (Flush l m ws g) h = absurd (cc)
-some_granted w c k (DataReq l) h = absurd (cc)
-some_granted w c k (Inv l m t) h = absurd (cc)
-some_granted w c k (InvAck l b) h = absurd (cc)
+some_granted w c k m h = absurd (cc)
 
 -- useful events
 
@@ -120,17 +107,7 @@ back_moves sh p w d c k m i l e h = record {
     some (Fill l ws) h = refl
     some (DataReq l) h = refl
     some (Inv l m t) h = refl
-    some TidReq h = h
-    some (TidGrant t) h = h
-    some (LoadReq l a) h = h
-    some (Skip t) h = h
-    some (Probe t) h = h
-    some (Mark l m t) h = h
-    some (Commit t n) h = h
-    some (Abort t) h = h
-    some (WriteBack l m ws g) h = h
-    some (Flush l m ws g) h = h
-    some (InvAck l b) h = h
+    some _ h = h
 
 pub grant_moves : (sh : Shape) (p : Program) (w : World) (c k : ℕ) (m : Msg) → c < sh.cores → in_flight w.net Vendor (Core c) k ≡ Some m
     → is_grant m ≡ true → Moves sh p w
@@ -144,20 +121,7 @@ grant_moves sh p w c k m l e h = record {
   where
     some : (m : Msg) → is_grant m ≡ true → is_some (from_vendor sh (w.cores c) m) ≡ true
     some (TidGrant t) h = refl
-    some (ProbeReply t s) h = h
-    some (Fill l ws) h = h
-    some (DataReq l) h = h
-    some (Inv l m t) h = h
-    some TidReq h = h
-    some (LoadReq l a) h = h
-    some (Skip t) h = h
-    some (Probe t) h = h
-    some (Mark l m t) h = h
-    some (Commit t n) h = h
-    some (Abort t) h = h
-    some (WriteBack l m ws g) h = h
-    some (Flush l m ws g) h = h
-    some (InvAck l b) h = h
+    some _ h = h
 
 pub out_moves : (sh : Shape) (p : Program) (w : World) (c d k : ℕ) (m : Msg) → c < sh.cores → d < sh.dirs
     → in_flight w.net (Core c) (Dir d) k ≡ Some m → is_answer (dir_deliver sh (w.dirs d) c m) ≡ true → Moves sh p w

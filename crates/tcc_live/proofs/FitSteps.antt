@@ -100,10 +100,7 @@ delivers-clean sh w src (Core c) i m k n a b = takes-clean sh w src c i (core_de
 delivers-clean sh w (Core c) (Dir d) i m k n a b = answers-clean sh w c d i (dir_deliver sh (w.dirs d) c m) k
     (fit-answer sh d c (w.dirs d) m (grind (arith, nat_tests)) (grind (arith, nat_tests)) (k.dirs d))
 delivers-clean sh w (Core c) Vendor i m k n a b = gives-clean sh w c i m k (grind (arith, nat_tests))
-delivers-clean sh w (Dir e) (Dir d) i m k n a b = tt
-delivers-clean sh w Vendor (Dir d) i m k n a b = tt
-delivers-clean sh w (Dir e) Vendor i m k n a b = tt
-delivers-clean sh w Vendor Vendor i m k n a b = tt
+delivers-clean sh w _ _ i m k n a b = tt
 
 flying-clean : (sh : Shape) (w : World) (src dst : Node) (i : ℕ) (o : Option Msg) → Clean sh w → 1 ≤ sh.dirs → is_node sh src ≡ true
     → is_node sh dst ≡ true → Keeps sh (if_in_flight sh w src dst i o)

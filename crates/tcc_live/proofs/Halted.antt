@@ -165,11 +165,7 @@ quiet sh p h k s f src dst i = go (in_flight h.world.net src dst i) refl
         (back_moves sh p h.world d c i m (grind (arith, nat_tests)) (grind (arith, nat_tests)) e (grind (arith, nat_tests)))
     none Vendor (Core c) m e q = still sh p h.world s
         (grant_moves sh p h.world c i m (grind (arith, nat_tests)) e (grind (arith, nat_tests)))
-    none (Core c) (Core d) m e q = absurd (cc)
-    none (Dir c) (Dir d) m e q = absurd (cc)
-    none (Dir c) Vendor m e q = absurd (cc)
-    none Vendor (Dir d) m e q = absurd (cc)
-    none Vendor Vendor m e q = absurd (cc)
+    none _ _ m e q = absurd (cc)
 
     go : (o : Option Msg) → in_flight h.world.net src dst i ≡ o → in_flight h.world.net src dst i ≡ None
     go None e = e
