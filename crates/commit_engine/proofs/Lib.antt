@@ -1,4 +1,4 @@
 pub mod Bits
 pub mod FirstWith
-pub mod Lists
+pub mod Lemmas
 pub mod Marks

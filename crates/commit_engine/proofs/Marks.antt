@@ -13,7 +13,7 @@ use Rattle.tcc_msg.specs.declared.msg.Msg.TheVariants.{Mark as CodeMark}
 use Rattle.tcc_rules.specs.Sends.{to}
 use Rattle.spec_cache.specs.Home.{mark_of}
 use Rattle.commit_engine.specs.Sent.{Sent, mark_at}
-use Rattle.commit_engine.proofs.Lists.{sent_push, to-append, to-none, sent_nothing, sent_as}
+use Rattle.commit_engine.proofs.Lemmas.{sent_push, to-append, to-none, sent_nothing, sent_as}
 
 pub marks_none : (out : Outgoing) (d : DirId) (t : Tid) (marks : List (LineAddr × Mask)) → Sent out out (to (Dir d.0) (map (mark_at t.0) (map mark_of (take 0 marks)))) 0
 marks_none out d t marks = sent_as out out (λ dst. []) (to (Dir d.0) []) 0 0 (sent_nothing out) (sym (to-none (Dir d.0))) (omega arith)

@@ -7,6 +7,6 @@ mod phase;
 mod sending;
 
 pub use dir_set::DirSet;
-pub use homes::read_homes;
+pub use homes::{read_homes, written_homes};
 pub use phase::Phase;
 pub use sending::{send_aborts, send_each, send_granted, send_marks, send_probes, send_skips};

@@ -1,7 +1,7 @@
 use Rattle.std.proofs.Common.{arith}
 use Rattle.spec_cache.specs.Held.{maps}
 use Rattle.commit_engine.proofs.FirstWith.{aborts_are}
-use Rattle.commit_engine.proofs.Lists.{sent_as}
+use Rattle.commit_engine.proofs.Lemmas.{sent_as}
 use Rattle.commit_engine.proofs.sending.send_aborts.Goals as goal
 
 pub returns : goal.returns

@@ -2,7 +2,7 @@ use Rattle.std.proofs.Common.{◌≡◌, refl, sym, ◌∙◌, true, false}
 use Rattle.tcc_maps.specs.Masks.{has}
 use Rattle.tcc_msg.specs.Plain.{msg_of}
 use Rattle.commit_engine.specs.Sent.{to_members}
-use Rattle.commit_engine.proofs.Lists.{sent_none, sent_more, sent_same, member_in, member_out}
+use Rattle.commit_engine.proofs.Lemmas.{sent_none, sent_more, sent_same, member_in, member_out}
 use Rattle.commit_engine.proofs.sending.send_each.Goals.{then-contains, else-contains}
 use Rattle.commit_engine.proofs.sending.send_each.Goals as goal
 

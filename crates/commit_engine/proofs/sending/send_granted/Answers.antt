@@ -4,7 +4,7 @@ use Rattle.tcc_maps.specs.Masks.{has}
 use Rattle.spec_cache.specs.Held.{maps}
 use Rattle.commit_engine.specs.Engine.{first_with}
 use Rattle.commit_engine.proofs.FirstWith.{grants_are}
-use Rattle.commit_engine.proofs.Lists.{sent_as, sent_both}
+use Rattle.commit_engine.proofs.Lemmas.{sent_as, sent_both}
 use Rattle.commit_engine.proofs.sending.send_granted.Goals as goal
 
 pub returns : goal.returns

@@ -1,6 +1,6 @@
 use Rattle.std.proofs.Common.{◌≡◌, nat_lt, arith}
 use Rattle.tcc_maps.specs.Masks.{has}
-use Rattle.commit_engine.proofs.Lists.{sent_as, skips_all}
+use Rattle.commit_engine.proofs.Lemmas.{sent_as, skips_all}
 use Rattle.commit_engine.proofs.sending.send_skips.Goals as goal
 
 pub returns : goal.returns

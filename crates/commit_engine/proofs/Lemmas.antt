@@ -1,4 +1,4 @@
--- What goes to each node, message by message.
+-- What goes to each node, message by message: for the proofs of callers too.
 use Rattle.std.proofs.Common.{◌≡◌, ℕ, ◌+◌, Bool, true, false, List, [], ◌∷◌, ◌++◌, map, length, vec_capacity, length-append, ◌≤◌, nat_eq, nat_lt, ◌||◌, if◌then◌else◌, append_assoc, append-nil, refl, ap, sym, ◌∙◌, arith, inl, inr}
 use Rattle.std.specs.List.{flat_map}
 use Rattle.std.proofs.lemmas.Bool.{cases_eq, ne_eqb}
