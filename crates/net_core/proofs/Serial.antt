@@ -9,7 +9,8 @@ use Rattle.net_core.specs.Agreement.{start, committed, IsSerial, RunsAreSerial}
 use Rattle.net_core.specs.Rules.{Machine, phase_of, act, execute, commit, step, or_stay, run, fresh}
 use Rattle.rv_plain.proofs.Views.{steps-next}
 use Rattle.rv_plain.specs.Buffered.{Buffered, buffered, buffered_step, plain_view, seen}
-use Rattle.rv_plain.specs.Machine.{program, plain_start, first_ram, start_core, start_local, core_at_start}
+use Rattle.rv_code.specs.Machine.{program, first_ram, start_local}
+use Rattle.rv_plain.specs.Machine.{plain_start, start_core, core_at_start}
 use Rattle.tcc_base.specs.Put.{put}
 use Rattle.tcc_base.specs.declared.access.CoreEnd.{CoreEnd}
 use Rattle.tcc_base.specs.declared.access.CoreEnd.TheVariants.{Run, Halt, Trap}

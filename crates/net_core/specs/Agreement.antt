@@ -3,7 +3,8 @@
 use Rattle.std.specs.Prelude.{ℕ, ◌≡◌, ◌≤◌, [], map, Some}
 use Rattle.image_load.specs.Start.{Start}
 use Rattle.net_core.specs.Rules.{Machine, run, fresh}
-use Rattle.rv_plain.specs.Machine.{program, plain_start, first_ram, start_local}
+use Rattle.rv_code.specs.Machine.{program, first_ram, start_local}
+use Rattle.rv_plain.specs.Machine.{plain_start}
 use Rattle.tcc_base.specs.Put.{put}
 use Rattle.tcc_base.specs.declared.access.CoreEnd.TheVariants.{Run}
 use Rattle.tcc_program.specs.Orders.{order_of_commit}

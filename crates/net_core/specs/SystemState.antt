@@ -4,10 +4,8 @@ use Rattle.image_load.specs.Contents.{Contents, started}
 use Rattle.net_core.specs.Rules.{Machine, Phase, Running, Ready, Halted, phase_of, step}
 use Rattle.net_core.specs.declared.system.Step.{Step}
 use Rattle.net_core.specs.declared.system.Step.TheVariants.{Moved, Committed}
-use Rattle.reg_checkpoint.specs.Registers.{Checkpoint}
-use Rattle.rv_exec.specs.Needs.{local_of}
 use Rattle.rv_plain.specs.Attempts.{attempt_of}
-use Rattle.rv_plain.specs.Machine.{program}
+use Rattle.rv_code.specs.Machine.{program}
 use Rattle.rv_plain.specs.Store.{Store}
 use Rattle.rv_plain.specs.declared.attempt.Attempt.{Attempt}
 use Rattle.rv_plain.specs.declared.attempt.Outcome.{Outcome}
@@ -15,13 +13,14 @@ use Rattle.tcc_base.specs.declared.access.Commit.{Commit}
 use Rattle.tcc_base.specs.declared.access.CoreEnd.{CoreEnd}
 use Rattle.tcc_msg.specs.declared.event.Event.{Event}
 use Rattle.tcc_msg.specs.declared.event.Event.TheVariants.{Exec, Evict, Deliver}
+use Rattle.tcc_program.specs.Program.{Local}
 
 pub record SystemState : Type 0 where
   pub loaded : Contents
   pub memory : Store
   pub attempt : Attempt
   pub outcome : Outcome
-  pub check : Checkpoint
+  pub check : Local
   pub ended : CoreEnd
   pub console : List ℕ
   pub commits : List Commit
@@ -31,7 +30,7 @@ unfoldable pub machine_of : SystemState → Machine
 machine_of s = record {
   attempt = attempt_of s.attempt s.memory s.outcome;
   n = s.attempt.n;
-  check = local_of s.check.regs s.check.pc;
+  check = s.check;
   ended = s.ended;
   console = s.console;
   commits = s.commits;

@@ -7,14 +7,15 @@ ghost use Rattle.net_core.specs.Rules.{is_done, execute, commit};
 ghost use Rattle.rv_plain.specs.Endings.{HasEnded};
 ghost use Rattle.rv_plain.specs.Attempts.{outcome_of};
 ghost use Rattle.tcc_base.specs.declared.access.CoreEnd.TheVariants.{Run};
-ghost use Rattle.rv_plain.specs.Machine.{program};
+ghost use Rattle.rv_code.specs.Machine.{program};
 ghost use Rattle.std.specs.Option.{option_map};
 ghost use Rattle.tcc_program.specs.Plain.{end_of};
 ghost use Rattle.tcc_program.specs.Ram.{flat};
 
 use image_load::Loaded;
 use reg_checkpoint::{Check, Regs};
-use rv_plain::{Attempt, Code, Memory, Outcome, start_regs};
+use rv_code::{Code, start_state};
+use rv_plain::{Attempt, Memory, Outcome};
 use std::alloc::Global;
 use std::marker::Model;
 use std::mem;
@@ -152,17 +153,17 @@ impl System {
         ensures started { IfOk result (λ s. machine_of s ≡ start (started loaded.now)) }
     {
         let copy = loaded.copy()?;
-        let code = Code::new(copy);
+        let code = Code::new(alloc, copy)?;
         let memory = Memory::new(alloc, &code)?;
-        let regs = start_regs(config.cores(), 0);
         let entry = loaded.entry(CoreId(0));
+        let state = start_state(config.cores(), 0, entry);
         Ok(System {
             alloc,
             code,
             memory,
-            attempt: Attempt::begin(alloc, regs, entry),
+            attempt: Attempt::begin(alloc, &state),
             outcome: Outcome::Goes,
-            check: Check::save(&regs, entry),
+            check: Check::save(&state),
             ended: CoreEnd::Run,
             console: List::new(alloc),
             commits: Vec::new(alloc),
@@ -246,10 +247,10 @@ impl System {
             return Err(StepError::Memory);
         }
         self.memory.publish();
-        let next = Attempt::begin(self.alloc, self.attempt.regs, self.attempt.pc);
+        let next = Attempt::begin(self.alloc, &self.attempt.state);
         let done = mem::replace(&mut self.attempt, next);
         let tid = Tid(self.commits.len() as u64 + 1);
-        self.check = Check::save(&done.regs, done.pc);
+        self.check = Check::save(&done.state);
         self.ended = self.outcome.end();
         self.outcome = Outcome::Goes;
         self.events += 1;

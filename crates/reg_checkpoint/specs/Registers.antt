@@ -1,12 +1,7 @@
--- What contracts see of a core's registers and of a checkpoint of them.
+-- What contracts see of a core's registers.
 use Rattle.std.specs.Prelude.{ℕ, List, ◌≡◌, length, slice_index}
 
 -- the values of x0 to x31 in this order; x0 is hardwired to zero (RISC-V Unprivileged ISA, 2.1)
 pub record IsRegisters (values : List ℕ) : Type 0 where
   pub count : length values ≡ 32
   pub zero_register : slice_index values 0 ≡ 0
-
--- the registers and the pc of a core as they were at one moment
-pub record Checkpoint : Type 0 where
-  pub regs : List ℕ
-  pub pc : ℕ

@@ -1,53 +1,52 @@
-// A checkpoint: a core's registers and pc as they were when its transaction began.
+// A checkpoint: a core's state as it was when its transaction began.
 ghost use Rattle.std.specs.Prelude.{◌≡◌};
 
 use crate::regs::Regs;
+use crate::state::State;
 use std::marker::Model;
 
-/// The registers and the pc of a core at one moment, to which a roll back returns.
+/// The state of a core at one moment, to which a roll back returns.
 #[derive(Clone, Copy, Debug, PartialEq, Eq)]
 pub struct Check {
-    regs: Regs,
-    pc: u32,
+    state: State,
 }
 
 impl Model for Check {
-    ghost use Rattle.reg_checkpoint.specs.Registers.{Checkpoint};
+    ghost use Rattle.tcc_program.specs.Program.{Local};
 
-    ghost Value = { Checkpoint };
+    ghost Value = { Local };
 
-    ghost view = { λ a. record { regs = a.regs; pc = a.pc } };
+    ghost view = { λ c. c.state };
 
-    ghost inverse = { λ c. record { regs = c.regs; pc = c.pc } };
+    ghost inverse = { λ l. record { state = l } };
 }
 
 impl Check {
-    /// A copy of the registers and of the pc. Takes no memory.
-    pub fn save(regs: &Regs, pc: u32) -> Check
-        ensures { result ≡ record { regs = regs.now; pc = pc } }
+    /// A copy of the state. Takes no memory.
+    pub fn save(state: &State) -> Check
+        ensures { result ≡ state.now }
     {
-        Check { regs: *regs, pc }
+        Check { state: *state }
     }
 
-    /// The registers and the pc as they were saved. Takes no memory.
-    pub fn restore(&self) -> (Regs, u32)
-        ensures regs { result.0 ≡ self.now.regs }
-        ensures pc { result.1 ≡ self.now.pc }
+    /// The state as it was saved. Takes no memory.
+    pub fn restore(&self) -> State
+        ensures { result ≡ self.now }
     {
-        (self.regs, self.pc)
+        self.state
     }
 
     /// The registers as they were saved.
     pub fn regs(&self) -> &Regs
         ensures { result.now ≡ self.now.regs }
     {
-        &self.regs
+        self.state.regs()
     }
 
     /// The pc as it was saved, in bytes.
     pub fn pc(&self) -> u32
         ensures { result ≡ self.now.pc }
     {
-        self.pc
+        self.state.pc()
     }
 }

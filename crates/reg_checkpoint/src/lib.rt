@@ -1,10 +1,12 @@
-// The integer registers of one core, and the checkpoint of them that a roll back restores.
+// What one core holds beside memory, registers, pc and reservation, and the checkpoint of it that a roll back restores.
 #![tactic(auto)]
 
 mod check;
 mod regs;
+mod state;
 #[cfg(test)]
 mod tests;
 
 pub use check::Check;
 pub use regs::Regs;
+pub use state::State;

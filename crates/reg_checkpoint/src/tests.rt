@@ -1,5 +1,5 @@
 // What a caller sees of registers and checkpoints, at fixed values.
-use crate::{Check, Regs};
+use crate::{Check, Regs, State};
 use std::test::Fail;
 use tcc_base::Reg;
 
@@ -10,12 +10,17 @@ fn restores_what_was_saved(rt: HostRuntime) -> Result<(), Fail> {
     let mut regs = Regs::new();
     regs.set(last, 0xffff_ffff);
     regs.set(zero, 7);
-    let check = Check::save(&regs, 0x8000_0000);
-    regs.set(last, 1);
-    assert_eq!(rt; regs.get(last), 1);
-    let (saved, pc) = check.restore();
+    let mut state = State::new(regs, 0x8000_0000);
+    let check = Check::save(&state);
+    state.set(last, 1);
+    state.go_to(0x8000_0004);
+    state.reserve(0x8000_0040);
+    assert_eq!(rt; state.get(last), 1);
+    assert_eq!(rt; state.reserved(), Some(0x8000_0040));
+    let saved = check.restore();
     assert_eq!(rt; saved.get(last), 0xffff_ffff);
     assert_eq!(rt; saved.get(zero), 0);
-    assert_eq!(rt; pc, 0x8000_0000);
+    assert_eq!(rt; saved.pc(), 0x8000_0000);
+    assert_eq!(rt; saved.reserved(), None);
     Ok(())
 }

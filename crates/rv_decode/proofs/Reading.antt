@@ -8,12 +8,12 @@ use Rattle.rv_decode.specs.declared.instruction.ImmOp.{ImmOp}
 use Rattle.rv_decode.specs.declared.instruction.ImmOp.TheVariants.{Addi, Slti, Sltiu, Xori, Ori, Andi, Slli, Srli, Srai}
 use Rattle.rv_decode.specs.declared.instruction.RegOp.{RegOp}
 use Rattle.rv_decode.specs.declared.instruction.Inst.{Inst}
-use Rattle.rv_decode.specs.declared.instruction.Inst.TheVariants.{Lui, Auipc, Jal, Branch, Load, Store, OpImm, Op}
-use Rattle.rv_decode.proofs.Rows.{encoding-Branch, encoding-Load, encoding-Store, encoding-Op}
+use Rattle.rv_decode.specs.declared.instruction.Inst.TheVariants.{Lui, Auipc, Jal, Branch, Load, Store, OpImm, Op, Lr, Sc, Amo}
+use Rattle.rv_decode.proofs.Rows.{encoding-Branch, encoding-Load, encoding-Store, encoding-Op, encoding-Amo}
 use Rattle.rv_decode.specs.Bits.{bits, signed, pattern}
-use Rattle.rv_decode.specs.Codes.{cond_code, cond_of, load_kind_code, load_kind_of, size_code, size_of, imm_op_code, imm_op_of, shift_of, reg_op_funct3, reg_op_funct7, reg_op_of, base_op_of, other_op_of, multiply_op_of}
-use Rattle.rv_decode.specs.Decoding.{decoded, inst_of, jalr_inst, branch_inst, load_inst, store_inst, imm_inst, op_inst, fence_inst, system_inst}
-use Rattle.rv_decode.specs.Formats.{opcode_of, rd_of, funct3_of, rs1_of, rs2_of, funct7_of, imm_i, imm_s, imm_b, imm_u, imm_j, r_type, i_type, s_type, b_type}
+use Rattle.rv_decode.specs.Codes.{cond_code, cond_of, load_kind_code, load_kind_of, size_code, size_of, imm_op_code, imm_op_of, shift_of, reg_op_funct3, reg_op_funct7, reg_op_of, base_op_of, other_op_of, multiply_op_of, amo_op_code, amo_op_of}
+use Rattle.rv_decode.specs.Decoding.{decoded, inst_of, jalr_inst, branch_inst, load_inst, store_inst, imm_inst, op_inst, fence_inst, system_inst, atomic_inst, word_atomic_inst, lr_inst}
+use Rattle.rv_decode.specs.Formats.{opcode_of, rd_of, funct3_of, rs1_of, rs2_of, funct7_of, funct5_of, order_of, imm_i, imm_s, imm_b, imm_u, imm_j, r_type, a_type, i_type, s_type, b_type}
 use Rattle.rv_decode.specs.Table.{encoding, Encodes, IsImmediate, IsBranchOffset, IsJumpOffset, IsOperand}
 
 -- what two's complement gives, and that it leads back
@@ -53,6 +53,9 @@ reg_op-other_op_of n = grind (arith, nat_tests)
 
 reg_op-multiply_op_of : (n : ℕ) → IfSome (multiply_op_of n) (λ o. (reg_op_funct3 o ≡ n) × (reg_op_funct7 o ≡ 0b0000001))
 reg_op-multiply_op_of n = grind (arith, nat_tests)
+
+amo_op_code-amo_op_of : (n : ℕ) → IfSome (amo_op_of n) (λ o. amo_op_code o ≡ n)
+amo_op_code-amo_op_of n = grind (arith, nat_tests)
 
 -- a choice, and an option that is mapped
 chosen : {A : Type 0} (P : A → Type 0) (b : Bool) (x y : A) → (b ≡ true → P x) → (b ≡ false → P y) → P (if b then x else y)
@@ -165,6 +168,10 @@ r_row : (w op f3 f7 : ℕ) → w < 2 ^ 32 → opcode_of w ≡ op → funct3_of w
     w ≡ r_type op f3 f7 (rd_of w) (rs1_of w) (rs2_of w)
 r_row w op f3 f7 h o f g = omega arith
 
+a_row : (w f5 : ℕ) → w < 2 ^ 32 → opcode_of w ≡ 0b0101111 → funct3_of w ≡ 0b010 → funct5_of w ≡ f5 →
+    w ≡ a_type f5 (order_of w) (rd_of w) (rs1_of w) (rs2_of w)
+a_row w f5 h o f g = omega arith
+
 registers_below : (w : ℕ) → (rd_of w < 32) × (rs1_of w < 32) × (rs2_of w < 32)
 registers_below w = (omega arith, omega arith, omega arith)
 
@@ -241,6 +248,48 @@ row_fence w h o =
     record { registers = omega arith; range = (omega arith, omega arith); row = omega arith })
     (λ _. tt)
 
+row_lr : (w : ℕ) → w < 2 ^ 32 → opcode_of w ≡ 0b0101111 → funct3_of w ≡ 0b010 → funct5_of w ≡ 0b00010 →
+    IfSome (lr_inst (order_of w) (rd_of w) (rs1_of w) (rs2_of w)) (Encodes w)
+unfolding encoding
+row_lr w h o f g =
+    let b = registers_below w in
+    chosen (λ i. IfSome i (Encodes w)) (rs2_of w == 0) _ _
+    (λ t. record {
+      registers = (b.0, b.1);
+      range = omega arith;
+      row = a_row w 0b00010 h o f g ∙ ap (a_type 0b00010 (order_of w) (rd_of w) (rs1_of w)) (eqb-true _ _ t);
+    })
+    (λ _. tt)
+
+row_sc : (w : ℕ) → w < 2 ^ 32 → opcode_of w ≡ 0b0101111 → funct3_of w ≡ 0b010 → funct5_of w ≡ 0b00011 →
+    Encodes w (Sc (rd_of w) (rs1_of w) (rs2_of w) (order_of w))
+unfolding encoding
+row_sc w h o f g = record { registers = registers_below w; range = omega arith; row = a_row w 0b00011 h o f g }
+
+row_amo : (w : ℕ) → w < 2 ^ 32 → opcode_of w ≡ 0b0101111 → funct3_of w ≡ 0b010 →
+    IfSome (option_map (λ op. Amo op (rd_of w) (rs1_of w) (rs2_of w) (order_of w)) (amo_op_of (funct5_of w))) (Encodes w)
+row_amo w h o f =
+    mapped (λ op. Amo op (rd_of w) (rs1_of w) (rs2_of w) (order_of w)) (Encodes w) (λ op. amo_op_code op ≡ funct5_of w)
+    (amo_op_of (funct5_of w))
+    (amo_op_code-amo_op_of (funct5_of w))
+    (λ op e. record {
+      registers = registers_below w;
+      range = omega arith;
+      row = a_row w (amo_op_code op) h o f (sym e) ∙ sym (encoding-Amo op _ _ _ _);
+    })
+
+row_word_atomic : (w : ℕ) → w < 2 ^ 32 → opcode_of w ≡ 0b0101111 → funct3_of w ≡ 0b010 →
+    IfSome (word_atomic_inst (funct5_of w) (order_of w) (rd_of w) (rs1_of w) (rs2_of w)) (Encodes w)
+row_word_atomic w h o f =
+    let P = λ (i : Option Inst). IfSome i (Encodes w) in
+    chosen P (funct5_of w == 0b00010) _ _ (λ t. row_lr w h o f (eqb-true _ _ t))
+    (λ _. chosen P (funct5_of w == 0b00011) _ _ (λ t. row_sc w h o f (eqb-true _ _ t)) (λ _. row_amo w h o f))
+
+row_atomic : (w : ℕ) → w < 2 ^ 32 → opcode_of w ≡ 0b0101111 →
+    IfSome (atomic_inst (funct3_of w) (funct5_of w) (order_of w) (rd_of w) (rs1_of w) (rs2_of w)) (Encodes w)
+row_atomic w h o =
+    chosen (λ i. IfSome i (Encodes w)) (funct3_of w == 0b010) _ _ (λ t. row_word_atomic w h o (eqb-true _ _ t)) (λ _. tt)
+
 row_system : (w : ℕ) → IfSome (system_inst w) (Encodes w)
 unfolding encoding
 row_system w =
@@ -262,4 +311,5 @@ Encodes-decoded w h =
     chosen P (o == 0b0010011) _ _ (λ t. row_imm w h (eqb-true _ _ t)) (λ _.
     chosen P (o == 0b0110011) _ _ (λ t. row_op w h (eqb-true _ _ t)) (λ _.
     chosen P (o == 0b0001111) _ _ (λ t. row_fence w h (eqb-true _ _ t)) (λ _.
-    chosen P (o == 0b1110011) _ _ (λ t. row_system w) (λ _. tt)))))))))))
+    chosen P (o == 0b0101111) _ _ (λ t. row_atomic w h (eqb-true _ _ t)) (λ _.
+    chosen P (o == 0b1110011) _ _ (λ t. row_system w) (λ _. tt))))))))))))

@@ -6,11 +6,13 @@ use Rattle.rv_decode.specs.declared.instruction.Cond.{Cond}
 use Rattle.rv_decode.specs.declared.instruction.Cond.TheVariants.{Beq, Bne, Blt, Bge, Bltu, Bgeu}
 use Rattle.rv_decode.specs.declared.instruction.LoadKind.{LoadKind}
 use Rattle.rv_decode.specs.declared.instruction.LoadKind.TheVariants.{Lb, Lh, Lw, Lbu, Lhu}
+use Rattle.rv_decode.specs.declared.instruction.AmoOp.{AmoOp}
+use Rattle.rv_decode.specs.declared.instruction.AmoOp.TheVariants.{Amoswap, Amoadd, Amoxor, Amoand, Amoor, Amomin, Amomax, Amominu, Amomaxu}
 use Rattle.rv_decode.specs.declared.instruction.RegOp.{RegOp}
 use Rattle.rv_decode.specs.declared.instruction.RegOp.TheVariants.{Add, Sub, Sll, Slt, Sltu, Xor, Srl, Sra, Or, And, Mul, Mulh, Mulhsu, Mulhu, Div, Divu, Rem, Remu}
-use Rattle.rv_decode.specs.declared.instruction.Inst.TheVariants.{Branch, Load, Store, Op}
-use Rattle.rv_decode.specs.Codes.{cond_code, load_kind_code, size_code, reg_op_funct3, reg_op_funct7}
-use Rattle.rv_decode.specs.Formats.{r_type, i_type, s_type, b_type}
+use Rattle.rv_decode.specs.declared.instruction.Inst.TheVariants.{Branch, Load, Store, Op, Amo}
+use Rattle.rv_decode.specs.Codes.{cond_code, load_kind_code, size_code, reg_op_funct3, reg_op_funct7, amo_op_code}
+use Rattle.rv_decode.specs.Formats.{r_type, a_type, i_type, s_type, b_type}
 use Rattle.rv_decode.specs.Table.{encoding}
 
 pub encoding-Branch : (cond : Cond) (rs1 rs2 : ℕ) (offset : ℤ) → encoding (Branch cond rs1 rs2 offset) ≡ b_type 0b1100011 (cond_code cond) rs1 rs2 offset
@@ -57,4 +59,16 @@ encoding-Op Divu rd rs1 rs2 = refl
 encoding-Op Rem rd rs1 rs2 = refl
 encoding-Op Remu rd rs1 rs2 = refl
 
-pub ruleset rows = (encoding-Branch, encoding-Load, encoding-Store, encoding-Op)
+pub encoding-Amo : (op : AmoOp) (rd rs1 rs2 order : ℕ) → encoding (Amo op rd rs1 rs2 order) ≡ a_type (amo_op_code op) order rd rs1 rs2
+unfolding encoding
+encoding-Amo Amoswap rd rs1 rs2 order = refl
+encoding-Amo Amoadd rd rs1 rs2 order = refl
+encoding-Amo Amoxor rd rs1 rs2 order = refl
+encoding-Amo Amoand rd rs1 rs2 order = refl
+encoding-Amo Amoor rd rs1 rs2 order = refl
+encoding-Amo Amomin rd rs1 rs2 order = refl
+encoding-Amo Amomax rd rs1 rs2 order = refl
+encoding-Amo Amominu rd rs1 rs2 order = refl
+encoding-Amo Amomaxu rd rs1 rs2 order = refl
+
+pub ruleset rows = (encoding-Branch, encoding-Load, encoding-Store, encoding-Op, encoding-Amo)

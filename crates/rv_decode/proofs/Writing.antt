@@ -9,15 +9,17 @@ use Rattle.rv_decode.specs.declared.instruction.Cond.TheVariants.{Beq, Bne, Blt,
 use Rattle.rv_decode.specs.declared.instruction.LoadKind.{LoadKind}
 use Rattle.rv_decode.specs.declared.instruction.LoadKind.TheVariants.{Lb, Lh, Lw, Lbu, Lhu}
 use Rattle.rv_decode.specs.declared.instruction.ImmOp.TheVariants.{Addi, Slti, Sltiu, Xori, Ori, Andi, Slli, Srli, Srai}
+use Rattle.rv_decode.specs.declared.instruction.AmoOp.{AmoOp}
+use Rattle.rv_decode.specs.declared.instruction.AmoOp.TheVariants.{Amoswap, Amoadd, Amoxor, Amoand, Amoor, Amomin, Amomax, Amominu, Amomaxu}
 use Rattle.rv_decode.specs.declared.instruction.RegOp.{RegOp}
 use Rattle.rv_decode.specs.declared.instruction.RegOp.TheVariants.{Add, Sub, Sll, Slt, Sltu, Xor, Srl, Sra, Or, And, Mul, Mulh, Mulhsu, Mulhu, Div, Divu, Rem, Remu}
 use Rattle.rv_decode.specs.declared.instruction.Inst.{Inst}
-use Rattle.rv_decode.specs.declared.instruction.Inst.TheVariants.{Lui, Auipc, Jal, Jalr, Branch, Load, Store, OpImm, Op, Fence, Ecall, Ebreak}
-use Rattle.rv_decode.proofs.Rows.{encoding-Branch, encoding-Load, encoding-Store, encoding-Op}
+use Rattle.rv_decode.specs.declared.instruction.Inst.TheVariants.{Lui, Auipc, Jal, Jalr, Branch, Load, Store, OpImm, Op, Fence, Lr, Sc, Amo, Ecall, Ebreak}
+use Rattle.rv_decode.proofs.Rows.{encoding-Branch, encoding-Load, encoding-Store, encoding-Op, encoding-Amo}
 use Rattle.rv_decode.specs.Bits.{bits, signed, pattern}
-use Rattle.rv_decode.specs.Codes.{cond_code, load_kind_code, size_code, reg_op_funct3, reg_op_funct7}
-use Rattle.rv_decode.specs.Decoding.{decoded, inst_of}
-use Rattle.rv_decode.specs.Formats.{opcode_of, rd_of, funct3_of, rs1_of, rs2_of, funct7_of, imm_i, imm_s, imm_b, imm_u, imm_j, r_type, i_type, s_type, b_type, u_type, j_type}
+use Rattle.rv_decode.specs.Codes.{cond_code, load_kind_code, size_code, reg_op_funct3, reg_op_funct7, amo_op_code}
+use Rattle.rv_decode.specs.Decoding.{decoded, inst_of, word_atomic_inst}
+use Rattle.rv_decode.specs.Formats.{opcode_of, rd_of, funct3_of, rs1_of, rs2_of, funct7_of, funct5_of, order_of, imm_i, imm_s, imm_b, imm_u, imm_j, r_type, a_type, i_type, s_type, b_type, u_type, j_type}
 use Rattle.rv_decode.specs.Table.{encoding, Encodes, IsImmediate, IsShiftAmount, IsBranchOffset, IsJumpOffset}
 
 -- two's complement, there and back
@@ -291,6 +293,43 @@ row_imm : (w f3 rd rs1 : ℕ) (imm : ℤ) → w ≡ i_type 0b0010011 f3 rd rs1 i
 row_imm w f3 rd rs1 imm e a b c h =
     (decoded-i_type w _ f3 rd rs1 imm e (lit< tt) a b c (pattern_12_below imm h), imm_i-i_type w _ f3 rd rs1 imm e (lit< tt) a b c h)
 
+-- the atomic accesses
+inst_of-atomic : (w f7 rd rs1 rs2 : ℕ) → inst_of w 0b0101111 0b010 f7 rd rs1 rs2 ≡ word_atomic_inst (funct5_of w) (order_of w) rd rs1 rs2
+unfolding inst_of
+inst_of-atomic w f7 rd rs1 rs2 = refl
+
+decoded-a_type : (w f5 order rd rs1 rs2 : ℕ) → w ≡ a_type f5 order rd rs1 rs2 →
+    f5 < 2 ^ 5 → order < 4 → rd < 32 → rs1 < 32 → rs2 < 32 → decoded w ≡ word_atomic_inst f5 order rd rs1 rs2
+decoded-a_type w f5 order rd rs1 rs2 e a b c d f =
+    let e1 : funct5_of w ≡ f5 = omega arith in
+    let e2 : order_of w ≡ order = omega arith in
+    decoded-r_type w _ _ (f5 * 2 ^ 2 + order) rd rs1 rs2 e (lit< tt) (lit< tt) (omega arith) c d f
+    ∙ inst_of-atomic w _ rd rs1 rs2
+    ∙ ap (λ x. word_atomic_inst x (order_of w) rd rs1 rs2) e1
+    ∙ ap (λ x. word_atomic_inst f5 x rd rs1 rs2) e2
+
+word_atomic-Amo : (op : AmoOp) (order rd rs1 rs2 : ℕ) → word_atomic_inst (amo_op_code op) order rd rs1 rs2 ≡ Some (Amo op rd rs1 rs2 order)
+word_atomic-Amo Amoswap order rd rs1 rs2 = refl
+word_atomic-Amo Amoadd order rd rs1 rs2 = refl
+word_atomic-Amo Amoxor order rd rs1 rs2 = refl
+word_atomic-Amo Amoand order rd rs1 rs2 = refl
+word_atomic-Amo Amoor order rd rs1 rs2 = refl
+word_atomic-Amo Amomin order rd rs1 rs2 = refl
+word_atomic-Amo Amomax order rd rs1 rs2 = refl
+word_atomic-Amo Amominu order rd rs1 rs2 = refl
+word_atomic-Amo Amomaxu order rd rs1 rs2 = refl
+
+amo_op_code_below : (x : AmoOp) → amo_op_code x < 2 ^ 5
+amo_op_code_below Amoswap = lit< tt
+amo_op_code_below Amoadd = lit< tt
+amo_op_code_below Amoxor = lit< tt
+amo_op_code_below Amoand = lit< tt
+amo_op_code_below Amoor = lit< tt
+amo_op_code_below Amomin = lit< tt
+amo_op_code_below Amomax = lit< tt
+amo_op_code_below Amominu = lit< tt
+amo_op_code_below Amomaxu = lit< tt
+
 pub decoded-encoding : (w : ℕ) (i : Inst) → Encodes w i → decoded w ≡ Some i
 unfolding encoding inst_of
 decoded-encoding w (Lui rd imm) e =
@@ -355,5 +394,13 @@ decoded-encoding w (Op op rd rs1 rs2) e =
     decoded-r_type w _ _ _ rd rs1 rs2 row (lit< tt) (reg_op_funct3_below op) (reg_op_funct7_below op) e.registers.0 e.registers.1 e.registers.2
     ∙ inst_of-Op op w rd rs1 rs2
 decoded-encoding w (Fence hints) e = row_fence w hints e.row e.range.0 e.range.1 e.registers
+decoded-encoding w (Lr rd rs1 order) e =
+    decoded-a_type w 0b00010 order rd rs1 0 e.row (lit< tt) e.range e.registers.0 e.registers.1 (lit< tt)
+decoded-encoding w (Sc rd rs1 rs2 order) e =
+    decoded-a_type w 0b00011 order rd rs1 rs2 e.row (lit< tt) e.range e.registers.0 e.registers.1 e.registers.2
+decoded-encoding w (Amo op rd rs1 rs2 order) e =
+    decoded-a_type w (amo_op_code op) order rd rs1 rs2 (e.row ∙ encoding-Amo op rd rs1 rs2 order) (amo_op_code_below op) e.range
+    e.registers.0 e.registers.1 e.registers.2
+    ∙ word_atomic-Amo op order rd rs1 rs2
 decoded-encoding w Ecall e = ap decoded e.row ∙ (unfold decoded in refl)
 decoded-encoding w Ebreak e = ap decoded e.row ∙ (unfold decoded in refl)

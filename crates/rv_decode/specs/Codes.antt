@@ -1,4 +1,4 @@
--- The codes by which the fields funct3 and funct7 name an operation, both ways.
+-- The codes by which the fields funct3, funct7 and funct5 name an operation, both ways.
 use Rattle.std.specs.Prelude.{ℕ, Option, Some, None, ◌==◌, if◌then◌else◌}
 use Rattle.tcc_base.specs.declared.access.Size.{Size}
 use Rattle.tcc_base.specs.declared.access.Size.TheVariants.{Byte, Half, Word}
@@ -8,6 +8,8 @@ use Rattle.rv_decode.specs.declared.instruction.LoadKind.{LoadKind}
 use Rattle.rv_decode.specs.declared.instruction.LoadKind.TheVariants.{Lb, Lh, Lw, Lbu, Lhu}
 use Rattle.rv_decode.specs.declared.instruction.ImmOp.{ImmOp}
 use Rattle.rv_decode.specs.declared.instruction.ImmOp.TheVariants.{Addi, Slti, Sltiu, Xori, Ori, Andi, Slli, Srli, Srai}
+use Rattle.rv_decode.specs.declared.instruction.AmoOp.{AmoOp}
+use Rattle.rv_decode.specs.declared.instruction.AmoOp.TheVariants.{Amoswap, Amoadd, Amoxor, Amoand, Amoor, Amomin, Amomax, Amominu, Amomaxu}
 use Rattle.rv_decode.specs.declared.instruction.RegOp.{RegOp}
 use Rattle.rv_decode.specs.declared.instruction.RegOp.TheVariants.{Add, Sub, Sll, Slt, Sltu, Xor, Srl, Sra, Or, And, Mul, Mulh, Mulhsu, Mulhu, Div, Divu, Rem, Remu}
 
@@ -164,4 +166,29 @@ reg_op_of funct3 funct7 =
     (if funct7 == 0b0000000 then base_op_of funct3
     else if funct7 == 0b0100000 then other_op_of funct3
     else if funct7 == 0b0000001 then multiply_op_of funct3
+    else None)
+
+-- the atomic memory operations
+abbrev pub amo_op_code : AmoOp → ℕ
+amo_op_code Amoswap = 0b00001
+amo_op_code Amoadd = 0b00000
+amo_op_code Amoxor = 0b00100
+amo_op_code Amoand = 0b01100
+amo_op_code Amoor = 0b01000
+amo_op_code Amomin = 0b10000
+amo_op_code Amomax = 0b10100
+amo_op_code Amominu = 0b11000
+amo_op_code Amomaxu = 0b11100
+
+abbrev pub amo_op_of : ℕ → Option AmoOp
+amo_op_of funct5 =
+    (if funct5 == 0b00001 then Some Amoswap
+    else if funct5 == 0b00000 then Some Amoadd
+    else if funct5 == 0b00100 then Some Amoxor
+    else if funct5 == 0b01100 then Some Amoand
+    else if funct5 == 0b01000 then Some Amoor
+    else if funct5 == 0b10000 then Some Amomin
+    else if funct5 == 0b10100 then Some Amomax
+    else if funct5 == 0b11000 then Some Amominu
+    else if funct5 == 0b11100 then Some Amomaxu
     else None)

@@ -2,9 +2,9 @@
 use Rattle.std.specs.Prelude.{ℕ, pos, Option, Some, None, ◌-◌, ◌==◌, if◌then◌else◌}
 use Rattle.std.specs.Option.{option_map}
 use Rattle.rv_decode.specs.declared.instruction.Inst.{Inst}
-use Rattle.rv_decode.specs.declared.instruction.Inst.TheVariants.{Lui, Auipc, Jal, Jalr, Branch, Load, Store, OpImm, Op, Fence, Ecall, Ebreak}
-use Rattle.rv_decode.specs.Codes.{cond_of, load_kind_of, size_of, imm_op_of, shift_of, reg_op_of}
-use Rattle.rv_decode.specs.Formats.{opcode_of, rd_of, funct3_of, rs1_of, rs2_of, funct7_of, imm_i, imm_s, imm_b, imm_u, imm_j}
+use Rattle.rv_decode.specs.declared.instruction.Inst.TheVariants.{Lui, Auipc, Jal, Jalr, Branch, Load, Store, OpImm, Op, Fence, Lr, Sc, Amo, Ecall, Ebreak}
+use Rattle.rv_decode.specs.Codes.{cond_of, load_kind_of, size_of, imm_op_of, shift_of, reg_op_of, amo_op_of}
+use Rattle.rv_decode.specs.Formats.{opcode_of, rd_of, funct3_of, rs1_of, rs2_of, funct7_of, funct5_of, order_of, imm_i, imm_s, imm_b, imm_u, imm_j}
 
 abbrev pub jalr_inst : (w funct3 rd rs1 : ℕ) → Option Inst
 jalr_inst w funct3 rd rs1 = (if funct3 == 0b000 then Some (Jalr rd rs1 (imm_i w)) else None)
@@ -32,6 +32,19 @@ imm_inst w funct3 funct7 rd rs1 rs2 =
     else if funct3 == 0b101 then option_map (λ op. OpImm op rd rs1 (pos rs2)) (shift_of funct3 funct7)
     else option_map (λ op. OpImm op rd rs1 (imm_i w)) (imm_op_of funct3))
 
+-- an atomic access to a word; the field rs2 of LR.W is zero
+abbrev pub lr_inst : (order rd rs1 rs2 : ℕ) → Option Inst
+lr_inst order rd rs1 rs2 = (if rs2 == 0 then Some (Lr rd rs1 order) else None)
+
+abbrev pub word_atomic_inst : (funct5 order rd rs1 rs2 : ℕ) → Option Inst
+word_atomic_inst funct5 order rd rs1 rs2 =
+    (if funct5 == 0b00010 then lr_inst order rd rs1 rs2
+    else if funct5 == 0b00011 then Some (Sc rd rs1 rs2 order)
+    else option_map (λ op. Amo op rd rs1 rs2 order) (amo_op_of funct5))
+
+abbrev pub atomic_inst : (funct3 funct5 order rd rs1 rs2 : ℕ) → Option Inst
+atomic_inst funct3 funct5 order rd rs1 rs2 = (if funct3 == 0b010 then word_atomic_inst funct5 order rd rs1 rs2 else None)
+
 -- the two instructions that are one word each
 abbrev pub system_inst : ℕ → Option Inst
 system_inst w = (if w == 0x0000_0073 then Some Ecall else if w == 0x0010_0073 then Some Ebreak else None)
@@ -48,6 +61,7 @@ inst_of w opcode funct3 funct7 rd rs1 rs2 =
     else if opcode == 0b0010011 then imm_inst w funct3 funct7 rd rs1 rs2
     else if opcode == 0b0110011 then op_inst funct3 funct7 rd rs1 rs2
     else if opcode == 0b0001111 then fence_inst w funct3
+    else if opcode == 0b0101111 then atomic_inst funct3 (funct5_of w) (order_of w) rd rs1 rs2
     else if opcode == 0b1110011 then system_inst w
     else None)
 

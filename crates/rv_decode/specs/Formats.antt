@@ -22,6 +22,13 @@ rs2_of w = bits w 24 20
 abbrev pub funct7_of : ℕ → ℕ
 funct7_of w = bits w 31 25
 
+-- the two parts of funct7 in an atomic access: which it is, and acquire and release
+abbrev pub funct5_of : ℕ → ℕ
+funct5_of w = bits w 31 27
+
+abbrev pub order_of : ℕ → ℕ
+order_of w = bits w 26 25
+
 -- the immediate of each format, sign-extended but for U
 abbrev pub imm_i : ℕ → ℤ
 imm_i w = signed 12 (bits w 31 20)
@@ -42,6 +49,10 @@ imm_j w = signed 21 (bits w 31 31 * 2 ^ 20 + bits w 19 12 * 2 ^ 12 + bits w 20 2
 abbrev pub r_type : ℕ → ℕ → ℕ → ℕ → ℕ → ℕ → ℕ
 r_type opcode funct3 funct7 rd rs1 rs2 =
     opcode + rd * 2 ^ 7 + funct3 * 2 ^ 12 + rs1 * 2 ^ 15 + rs2 * 2 ^ 20 + funct7 * 2 ^ 25
+
+-- an atomic access to a word
+abbrev pub a_type : ℕ → ℕ → ℕ → ℕ → ℕ → ℕ
+a_type funct5 order rd rs1 rs2 = r_type 0b0101111 0b010 (funct5 * 2 ^ 2 + order) rd rs1 rs2
 
 abbrev pub i_type : ℕ → ℕ → ℕ → ℕ → ℤ → ℕ
 i_type opcode funct3 rd rs1 imm =

@@ -1,4 +1,4 @@
--- The instruction table of RV32IM: which word is which instruction.
+-- The instruction table of RV32IMA: which word is which instruction.
 -- The sections are those of the RISC-V Unprivileged ISA, whose "RV32/64G Instruction Set Listings" give the same encodings.
 use Rattle.std.specs.Prelude.{ℕ, ℤ, pos, neg_ℤ, ◌+◌, ◌^◌, ◌%◌, ◌<◌, ◌≤ℤ◌, ◌≡◌, unsigned_abs}
 use Rattle.tcc_base.specs.declared.access.Size.TheVariants.{Byte, Half, Word}
@@ -6,11 +6,12 @@ use Rattle.rv_decode.specs.declared.instruction.Cond.TheVariants.{Beq, Bne, Blt,
 use Rattle.rv_decode.specs.declared.instruction.LoadKind.TheVariants.{Lb, Lh, Lw, Lbu, Lhu}
 use Rattle.rv_decode.specs.declared.instruction.ImmOp.{ImmOp}
 use Rattle.rv_decode.specs.declared.instruction.ImmOp.TheVariants.{Addi, Slti, Sltiu, Xori, Ori, Andi, Slli, Srli, Srai}
+use Rattle.rv_decode.specs.declared.instruction.AmoOp.TheVariants.{Amoswap, Amoadd, Amoxor, Amoand, Amoor, Amomin, Amomax, Amominu, Amomaxu}
 use Rattle.rv_decode.specs.declared.instruction.RegOp.TheVariants.{Add, Sub, Sll, Slt, Sltu, Xor, Srl, Sra, Or, And, Mul, Mulh, Mulhsu, Mulhu, Div, Divu, Rem, Remu}
 use Rattle.rv_decode.specs.declared.instruction.Inst.{Inst}
-use Rattle.rv_decode.specs.declared.instruction.Inst.TheVariants.{Lui, Auipc, Jal, Jalr, Branch, Load, Store, OpImm, Op, Fence, Ecall, Ebreak}
+use Rattle.rv_decode.specs.declared.instruction.Inst.TheVariants.{Lui, Auipc, Jal, Jalr, Branch, Load, Store, OpImm, Op, Fence, Lr, Sc, Amo, Ecall, Ebreak}
 use Rattle.rv_decode.specs.Bits.{bits}
-use Rattle.rv_decode.specs.Formats.{r_type, i_type, s_type, b_type, u_type, j_type}
+use Rattle.rv_decode.specs.Formats.{r_type, a_type, i_type, s_type, b_type, u_type, j_type}
 
 -- the table: one line for each row
 unfoldable pub encoding : Inst → ℕ
@@ -72,6 +73,19 @@ encoding (Op Div rd rs1 rs2) = r_type 0b0110011 0b100 0b0000001 rd rs1 rs2
 encoding (Op Divu rd rs1 rs2) = r_type 0b0110011 0b101 0b0000001 rd rs1 rs2
 encoding (Op Rem rd rs1 rs2) = r_type 0b0110011 0b110 0b0000001 rd rs1 rs2
 encoding (Op Remu rd rs1 rs2) = r_type 0b0110011 0b111 0b0000001 rd rs1 rs2
+-- "A" extension, Load-Reserved/Store-Conditional Instructions
+encoding (Lr rd rs1 order) = a_type 0b00010 order rd rs1 0b00000
+encoding (Sc rd rs1 rs2 order) = a_type 0b00011 order rd rs1 rs2
+-- "A" extension, Atomic Memory Operations
+encoding (Amo Amoswap rd rs1 rs2 order) = a_type 0b00001 order rd rs1 rs2
+encoding (Amo Amoadd rd rs1 rs2 order) = a_type 0b00000 order rd rs1 rs2
+encoding (Amo Amoxor rd rs1 rs2 order) = a_type 0b00100 order rd rs1 rs2
+encoding (Amo Amoand rd rs1 rs2 order) = a_type 0b01100 order rd rs1 rs2
+encoding (Amo Amoor rd rs1 rs2 order) = a_type 0b01000 order rd rs1 rs2
+encoding (Amo Amomin rd rs1 rs2 order) = a_type 0b10000 order rd rs1 rs2
+encoding (Amo Amomax rd rs1 rs2 order) = a_type 0b10100 order rd rs1 rs2
+encoding (Amo Amominu rd rs1 rs2 order) = a_type 0b11000 order rd rs1 rs2
+encoding (Amo Amomaxu rd rs1 rs2 order) = a_type 0b11100 order rd rs1 rs2
 
 abbrev pub IsWithin : ℤ → ℤ → ℤ → Type 0
 IsWithin low high n = (low ≤ℤ n) × (n ≤ℤ high)
@@ -103,7 +117,7 @@ IsOperand Slli = IsShiftAmount
 IsOperand Srli = IsShiftAmount
 IsOperand Srai = IsShiftAmount
 
--- the immediate is in the range of its row
+-- the immediate is in the range of its row, and acquire and release are one bit each
 abbrev pub IsInRange : Inst → Type 0
 IsInRange (Lui rd imm) = imm % 2 ^ 12 ≡ 0
 IsInRange (Auipc rd imm) = imm % 2 ^ 12 ≡ 0
@@ -115,6 +129,9 @@ IsInRange (Store size rs1 rs2 imm) = IsImmediate imm
 IsInRange (OpImm op rd rs1 imm) = IsOperand op imm
 IsInRange (Op op rd rs1 rs2) = Unit {0}
 IsInRange (Fence hints) = (bits hints 6 0 ≡ 0) × (bits hints 14 12 ≡ 0)
+IsInRange (Lr rd rs1 order) = order < 4
+IsInRange (Sc rd rs1 rs2 order) = order < 4
+IsInRange (Amo op rd rs1 rs2 order) = order < 4
 IsInRange Ecall = Unit {0}
 IsInRange Ebreak = Unit {0}
 
@@ -130,6 +147,9 @@ HasRegisters (Store size rs1 rs2 imm) = (rs1 < 32) × (rs2 < 32)
 HasRegisters (OpImm op rd rs1 imm) = (rd < 32) × (rs1 < 32)
 HasRegisters (Op op rd rs1 rs2) = (rd < 32) × (rs1 < 32) × (rs2 < 32)
 HasRegisters (Fence hints) = hints < 2 ^ 32
+HasRegisters (Lr rd rs1 order) = (rd < 32) × (rs1 < 32)
+HasRegisters (Sc rd rs1 rs2 order) = (rd < 32) × (rs1 < 32) × (rs2 < 32)
+HasRegisters (Amo op rd rs1 rs2 order) = (rd < 32) × (rs1 < 32) × (rs2 < 32)
 HasRegisters Ecall = Unit {0}
 HasRegisters Ebreak = Unit {0}
 

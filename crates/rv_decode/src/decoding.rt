@@ -1,22 +1,22 @@
 // Decoding: the instruction that the table has for a word.
 ghost use Rattle.std.specs.Prelude.{◌≡◌, Some, IfSome};
 ghost use Rattle.rv_decode.specs.declared.instruction.Inst.{Inst};
-ghost use Rattle.rv_decode.specs.Codes.{cond_of, load_kind_of, size_of, imm_op_of, shift_of, base_op_of, other_op_of, multiply_op_of, reg_op_of};
-ghost use Rattle.rv_decode.specs.Decoding.{decoded, jalr_inst, branch_inst, load_inst, store_inst, imm_inst, op_inst, fence_inst, system_inst};
-ghost use Rattle.rv_decode.specs.Formats.{opcode_of, funct3_of, funct7_of, rd_of, rs1_of, rs2_of};
+ghost use Rattle.rv_decode.specs.Codes.{cond_of, load_kind_of, size_of, imm_op_of, shift_of, base_op_of, other_op_of, multiply_op_of, reg_op_of, amo_op_of};
+ghost use Rattle.rv_decode.specs.Decoding.{decoded, jalr_inst, branch_inst, load_inst, store_inst, imm_inst, op_inst, fence_inst, system_inst, atomic_inst, word_atomic_inst, lr_inst};
+ghost use Rattle.rv_decode.specs.Formats.{opcode_of, funct3_of, funct7_of, funct5_of, order_of, rd_of, rs1_of, rs2_of};
 ghost use Rattle.rv_decode.specs.Table.{Encodes};
 
 use crate::fields::{
-    funct3, funct7, immediate_b, immediate_i, immediate_j, immediate_s, immediate_u, opcode, rd,
-    rs1, rs2, shift_amount,
+    funct3, funct5, funct7, immediate_b, immediate_i, immediate_j, immediate_s, immediate_u, opcode,
+    order, rd, rs1, rs2, shift_amount,
 };
-use crate::instruction::{Cond, ImmOp, Inst, LoadKind, RegOp};
+use crate::instruction::{AmoOp, Cond, ImmOp, Inst, LoadKind, RegOp};
 use tcc_base::Size;
 
-/// The instruction that a word is in RV32IM; None exactly where the instruction table doesn't have it.
+/// The instruction that a word is in RV32IMA; None exactly where the instruction table doesn't have it.
 ///
-/// Takes no memory, and constant time (RISC-V Unprivileged ISA, 2 RV32I Base Integer Instruction Set, and the "M"
-/// extension for multiplication and division).
+/// Takes no memory, and constant time (RISC-V Unprivileged ISA, 2 RV32I Base Integer Instruction Set, the "M" extension for
+/// multiplication and division, and the "A" extension for atomic instructions).
 pub fn decode(word: u32) -> Option<Inst>
     ensures function { result ≡ decoded word }
     ensures row { IfSome result (Encodes word) }
@@ -50,6 +50,7 @@ fn by_opcode(word: u32) -> Option<Inst>
         0b0010011 => register_immediate(word),
         0b0110011 => register_register(word),
         0b0001111 => fence(word),
+        0b0101111 => atomic(word),
         0b1110011 => system(word),
         _ => None,
     }
@@ -129,6 +130,55 @@ fn fence(word: u32) -> Option<Inst>
     match funct3(word) {
         0b000 => Some(Inst::Fence {
             bits: word - 0b0001111,
+        }),
+        _ => None,
+    }
+}
+
+/// An atomic access, which is to a word.
+fn atomic(word: u32) -> Option<Inst>
+    ensures { result ≡ atomic_inst (funct3_of word) (funct5_of word) (order_of word) (rd_of word) (rs1_of word) (rs2_of word) }
+{
+    match funct3(word) {
+        0b010 => word_atomic(word),
+        _ => None,
+    }
+}
+
+/// An atomic access to a word, by its funct5.
+fn word_atomic(word: u32) -> Option<Inst>
+    ensures { result ≡ word_atomic_inst (funct5_of word) (order_of word) (rd_of word) (rs1_of word) (rs2_of word) }
+{
+    match funct5(word) {
+        0b00010 => load_reserved(word),
+        0b00011 => Some(Inst::Sc {
+            rd: rd(word),
+            rs1: rs1(word),
+            rs2: rs2(word),
+            order: order(word),
+        }),
+        code => {
+            let op = amo_op(code)?;
+            Some(Inst::Amo {
+                op,
+                rd: rd(word),
+                rs1: rs1(word),
+                rs2: rs2(word),
+                order: order(word),
+            })
+        }
+    }
+}
+
+/// LR.W, whose field rs2 is zero.
+fn load_reserved(word: u32) -> Option<Inst>
+    ensures { result ≡ lr_inst (order_of word) (rd_of word) (rs1_of word) (rs2_of word) }
+{
+    match rs2(word).number() {
+        0 => Some(Inst::Lr {
+            rd: rd(word),
+            rs1: rs1(word),
+            order: order(word),
         }),
         _ => None,
     }
@@ -292,6 +342,24 @@ fn multiply_op(funct3: u32) -> Option<RegOp>
         0b101 => RegOp::Divu,
         0b110 => RegOp::Rem,
         0b111 => RegOp::Remu,
+        _ => return None,
+    })
+}
+
+/// The atomic memory operations.
+fn amo_op(funct5: u32) -> Option<AmoOp>
+    ensures { result ≡ amo_op_of funct5 }
+{
+    Some(match funct5 {
+        0b00001 => AmoOp::Amoswap,
+        0b00000 => AmoOp::Amoadd,
+        0b00100 => AmoOp::Amoxor,
+        0b01100 => AmoOp::Amoand,
+        0b01000 => AmoOp::Amoor,
+        0b10000 => AmoOp::Amomin,
+        0b10100 => AmoOp::Amomax,
+        0b11000 => AmoOp::Amominu,
+        0b11100 => AmoOp::Amomaxu,
         _ => return None,
     })
 }

@@ -1,19 +1,20 @@
 // Encoding: the word that the table has for an instruction.
 ghost use Rattle.std.specs.Prelude.{◌≡◌, ◌<◌, ◌^◌, Some};
-ghost use Rattle.rv_decode.specs.Codes.{cond_code, load_kind_code, size_code, imm_op_code, reg_op_funct3, reg_op_funct7};
+ghost use Rattle.rv_decode.specs.Codes.{cond_code, load_kind_code, size_code, imm_op_code, reg_op_funct3, reg_op_funct7, amo_op_code};
 ghost use Rattle.rv_decode.specs.Decoding.{decoded};
-ghost use Rattle.rv_decode.specs.declared.instruction.Inst.TheVariants.{Branch, Load, Store, OpImm, Op};
+ghost use Rattle.rv_decode.specs.declared.instruction.Inst.TheVariants.{Branch, Load, Store, OpImm, Op, Amo};
 ghost use Rattle.rv_decode.specs.Table.{Encodes, HasRegisters, IsInRange, IsBranchOffset, IsImmediate, IsOperand, encoding};
 
-use crate::formats::{b_type, i_type, j_type, r_type, s_type, u_type};
-use crate::instruction::{Cond, ImmOp, Inst, LoadKind, RegOp};
+use crate::formats::{a_type, b_type, i_type, j_type, r_type, s_type, u_type};
+use crate::instruction::{AmoOp, Cond, ImmOp, Inst, LoadKind, RegOp};
 use tcc_base::{Reg, Size};
 
 /// The word of an instruction.
 ///
 /// Asks that immediates and offsets are in the range of their row: -2048 to 2047 for the formats I and S, 0 to 31 for
 /// the shifts, the even numbers from -4096 to 4094 for B and from -1048576 to 1048574 for J, a multiple of 4096 for U;
-/// and that the `bits` of a `Fence` are zero where its word has opcode and funct3. Takes no memory, and constant time.
+/// that the `bits` of a `Fence` are zero where its word has opcode and funct3; and that an `order` is below 4. Takes no memory,
+/// and constant time.
 pub fn encode(inst: Inst) -> u32
     requires { IsInRange inst }
     ensures row { Encodes result inst }
@@ -50,6 +51,20 @@ fn table_word(inst: Inst) -> u32
         Inst::OpImm { op, rd, rs1, imm } => register_immediate(op, rd, rs1, imm),
         Inst::Op { op, rd, rs1, rs2 } => register_register(op, rd, rs1, rs2),
         Inst::Fence { bits } => bits + 0b0001111,
+        Inst::Lr { rd, rs1, order } => a_type(0b00010, order, rd, rs1, 0),
+        Inst::Sc {
+            rd,
+            rs1,
+            rs2,
+            order,
+        } => a_type(0b00011, order, rd, rs1, rs2.number() as u32),
+        Inst::Amo {
+            op,
+            rd,
+            rs1,
+            rs2,
+            order,
+        } => atomic(op, order, rd, rs1, rs2),
         Inst::Ecall => 0x0000_0073,
         Inst::Ebreak => 0x0010_0073,
     }
@@ -115,6 +130,16 @@ fn register_immediate(op: ImmOp, rd: Reg, rs1: Reg, imm: i32) -> u32
         ImmOp::Srai => r_type(0b0010011, funct3, 0b0100000, rd, rs1, imm as u32),
         _ => i_type(0b0010011, funct3, rd, rs1, imm),
     }
+}
+
+/// The word of an atomic memory operation.
+#[tactic(auto, using(crate::proofs::Rows::rows))]
+fn atomic(op: AmoOp, order: u8, rd: Reg, rs1: Reg, rs2: Reg) -> u32
+    requires { order < 4 }
+    ensures row { result ≡ encoding (Amo op rd rs1 rs2 order) }
+    ensures registers { (rd < 32) × (rs1 < 32) × (rs2 < 32) }
+{
+    a_type(amo_op_code(op), order, rd, rs1, rs2.number() as u32)
 }
 
 /// funct3 of a branch.
@@ -227,5 +252,23 @@ fn reg_op_funct7(op: RegOp) -> u32
         RegOp::Divu => 0b0000001,
         RegOp::Rem => 0b0000001,
         RegOp::Remu => 0b0000001,
+    }
+}
+
+/// funct5 of an atomic memory operation.
+fn amo_op_code(op: AmoOp) -> u32
+    ensures code { result ≡ amo_op_code op }
+    ensures below { result < 2 ^ 5 }
+{
+    match op {
+        AmoOp::Amoswap => 0b00001,
+        AmoOp::Amoadd => 0b00000,
+        AmoOp::Amoxor => 0b00100,
+        AmoOp::Amoand => 0b01100,
+        AmoOp::Amoor => 0b01000,
+        AmoOp::Amomin => 0b10000,
+        AmoOp::Amomax => 0b10100,
+        AmoOp::Amominu => 0b11000,
+        AmoOp::Amomaxu => 0b11100,
     }
 }

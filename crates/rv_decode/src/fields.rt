@@ -1,7 +1,7 @@
 // Reading the fields of an instruction word: bit fields, register numbers and immediates.
 ghost use Rattle.std.specs.Prelude.{◌≡◌, ◌+◌, pos, ◌^◌, ◌≤◌, ◌<◌};
 ghost use Rattle.rv_decode.specs.Bits.{bits, signed};
-ghost use Rattle.rv_decode.specs.Formats.{opcode_of, rd_of, funct3_of, rs1_of, rs2_of, funct7_of, imm_i, imm_s, imm_b, imm_u, imm_j};
+ghost use Rattle.rv_decode.specs.Formats.{opcode_of, rd_of, funct3_of, rs1_of, rs2_of, funct7_of, funct5_of, order_of, imm_i, imm_s, imm_b, imm_u, imm_j};
 
 use tcc_base::Reg;
 
@@ -57,6 +57,20 @@ pub fn funct7(word: u32) -> u32
     ensures { result ≡ funct7_of word }
 {
     bits(word, 31, 25)
+}
+
+/// Which atomic access a word is.
+pub fn funct5(word: u32) -> u32
+    ensures { result ≡ funct5_of word }
+{
+    bits(word, 31, 27)
+}
+
+/// Acquire and release of an atomic access.
+pub fn order(word: u32) -> u8
+    ensures { result ≡ order_of word }
+{
+    bits(word, 26, 25) as u8
 }
 
 /// The amount of a shift by an immediate, which stands in the place of rs2.

@@ -1,7 +1,7 @@
 // Putting the fields of an instruction together into its word, one function for each format.
 ghost use Rattle.std.specs.Prelude.{◌≡◌, ◌%◌, ◌^◌, ◌<◌};
 ghost use Rattle.rv_decode.specs.Bits.{pattern};
-ghost use Rattle.rv_decode.specs.Formats.{r_type, i_type, s_type, b_type, u_type, j_type};
+ghost use Rattle.rv_decode.specs.Formats.{r_type, a_type, i_type, s_type, b_type, u_type, j_type};
 ghost use Rattle.rv_decode.specs.Table.{IsImmediate, IsBranchOffset, IsJumpOffset};
 
 use tcc_base::Reg;
@@ -24,6 +24,18 @@ pub fn r_type(opcode: u32, funct3: u32, funct7: u32, rd: Reg, rs1: Reg, rs2: u32
     ensures registers { (rd < 32) × (rs1 < 32) }
 {
     opcode + (number(rd) << 7) + (funct3 << 12) + (number(rs1) << 15) + (rs2 << 20) + (funct7 << 25)
+}
+
+/// An atomic access to a word: format R, whose funct7 is funct5 and `order`.
+pub fn a_type(funct5: u32, order: u8, rd: Reg, rs1: Reg, rs2: u32) -> u32
+    requires funct5 { funct5 < 2 ^ 5 }
+    requires order { order < 4 }
+    requires rs2 { rs2 < 2 ^ 5 }
+    ensures word { result ≡ a_type funct5 order rd rs1 rs2 }
+    ensures registers { (rd < 32) × (rs1 < 32) }
+{
+    let funct7 = (funct5 << 2) + order as u32;
+    r_type(0b0101111, 0b010, funct7, rd, rs1, rs2)
 }
 
 /// Format I.

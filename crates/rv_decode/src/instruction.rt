@@ -1,4 +1,4 @@
-// The instructions of RV32IM as data: one variant for each format and operation, with its registers and immediate.
+// The instructions of RV32IMA as data: one variant for each format and operation, with its registers and immediate.
 use tcc_base::{Reg, Size};
 
 /// The condition of a branch (RISC-V Unprivileged ISA, 2.5.2 Conditional Branches).
@@ -59,10 +59,25 @@ pub enum RegOp {
     Remu,
 }
 
-/// An instruction of RV32IM.
+/// What an atomic memory operation makes of a word and a register ("A" extension, Atomic Memory Operations).
+#[derive(Clone, Copy, Debug, PartialEq, Eq)]
+pub enum AmoOp {
+    Amoswap,
+    Amoadd,
+    Amoxor,
+    Amoand,
+    Amoor,
+    Amomin,
+    Amomax,
+    Amominu,
+    Amomaxu,
+}
+
+/// An instruction of RV32IMA.
 ///
 /// Offsets and immediates are in bytes and already sign-extended. `imm` of `Lui` and `Auipc` has its low twelve bits
-/// zero. `bits` of `Fence` is its word with opcode and funct3 set to zero; they are hints that this machine ignores.
+/// zero. `bits` of `Fence` is its word with opcode and funct3 set to zero; they are hints that this machine ignores. `order`
+/// of `Lr`, `Sc` and `Amo` is the bits 26 and 25 of the word, acquire and release, as a number below 4; it has no effect.
 #[derive(Clone, Copy, Debug, PartialEq, Eq)]
 pub enum Inst {
     Lui {
@@ -114,6 +129,24 @@ pub enum Inst {
     },
     Fence {
         bits: u32,
+    },
+    Lr {
+        rd: Reg,
+        rs1: Reg,
+        order: u8,
+    },
+    Sc {
+        rd: Reg,
+        rs1: Reg,
+        rs2: Reg,
+        order: u8,
+    },
+    Amo {
+        op: AmoOp,
+        rd: Reg,
+        rs1: Reg,
+        rs2: Reg,
+        order: u8,
     },
     Ecall,
     Ebreak,

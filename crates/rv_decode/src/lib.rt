@@ -1,4 +1,4 @@
-// The instructions of RV32IM: the table of their encodings, and decoding and encoding, which are that table both ways.
+// The instructions of RV32IMA: the table of their encodings, and decoding and encoding, which are that table both ways.
 #![tactic(auto)]
 
 mod decoding;
@@ -12,5 +12,5 @@ mod tests;
 
 pub use decoding::decode;
 pub use encoding::encode;
-pub use instruction::{Cond, ImmOp, Inst, LoadKind, RegOp};
+pub use instruction::{AmoOp, Cond, ImmOp, Inst, LoadKind, RegOp};
 pub use laws::table_is_a_function_of_the_word;

@@ -1,9 +1,9 @@
 // One word for each row of the instruction table, decoded and encoded again, and words outside the table.
 //
-// The words are those that GNU as 2.40 makes of these instructions with -march=rv32im.
+// The words are those that GNU as 2.40 makes of these instructions with -march=rv32ima.
 ghost use Rattle.std.specs.Prelude.{◌<◌};
 
-use crate::{Cond, ImmOp, Inst, LoadKind, RegOp, decode, encode};
+use crate::{AmoOp, Cond, ImmOp, Inst, LoadKind, RegOp, decode, encode};
 use std::process::Abort;
 use tcc_base::{Reg, Size};
 
@@ -41,6 +41,16 @@ fn op_imm(op: ImmOp, rd: Reg, rs1: Reg, imm: i32) -> Inst {
 
 fn op(op: RegOp, rd: Reg, rs1: Reg, rs2: Reg) -> Inst {
     Inst::Op { op, rd, rs1, rs2 }
+}
+
+fn amo(op: AmoOp, rd: Reg, rs1: Reg, rs2: Reg, order: u8) -> Inst {
+    Inst::Amo {
+        op,
+        rd,
+        rs1,
+        rs2,
+        order,
+    }
 }
 
 /// Each word decodes to the instruction beside it, and encodes again.
@@ -170,6 +180,42 @@ fn multiplications_divisions_and_system(rt: HostRuntime) {
 }
 
 #[test]
+fn reservations(rt: HostRuntime) {
+    let lr = |rd, rs1, order| Inst::Lr { rd, rs1, order };
+    let sc = |rd, rs1, rs2, order| Inst::Sc {
+        rd,
+        rs1,
+        rs2,
+        order,
+    };
+    let rows = [
+        (0x1003_22af, lr(x(5), x(6), 0)),
+        (0x1400_afaf, lr(x(31), x(1), 2)),
+        (0x160f_a02f, lr(x(0), x(31), 3)),
+        (0x1884_a3af, sc(x(7), x(9), x(8), 0)),
+        (0x1ab6_252f, sc(x(10), x(12), x(11), 1)),
+        (0x1e0f_afaf, sc(x(31), x(31), x(0), 3)),
+    ];
+    reads_both_ways(&rt, &rows);
+}
+
+#[test]
+fn atomic_memory_operations(rt: HostRuntime) {
+    let rows = [
+        (0x0821_a0af, amo(AmoOp::Amoswap, x(1), x(3), x(2), 0)),
+        (0x0453_222f, amo(AmoOp::Amoadd, x(4), x(6), x(5), 2)),
+        (0x2284_a3af, amo(AmoOp::Amoxor, x(7), x(9), x(8), 1)),
+        (0x66b6_252f, amo(AmoOp::Amoand, x(10), x(12), x(11), 3)),
+        (0x40e7_a6af, amo(AmoOp::Amoor, x(13), x(15), x(14), 0)),
+        (0x8519_282f, amo(AmoOp::Amomin, x(16), x(18), x(17), 2)),
+        (0xa34a_a9af, amo(AmoOp::Amomax, x(19), x(21), x(20), 1)),
+        (0xc77c_2b2f, amo(AmoOp::Amominu, x(22), x(24), x(23), 3)),
+        (0xe1ee_afaf, amo(AmoOp::Amomaxu, x(31), x(29), x(30), 0)),
+    ];
+    reads_both_ways(&rt, &rows);
+}
+
+#[test]
 fn words_outside_the_table(rt: HostRuntime) {
     let words = [
         0x0000_0000, // all zero
@@ -186,7 +232,10 @@ fn words_outside_the_table(rt: HostRuntime) {
         0x3020_0073, // MRET
         0x1050_0073, // WFI
         0xc000_2573, // RDCYCLE x10
-        0x1005_252f, // LR.W x10, (x10)
+        0x1015_252f, // LR.W with field rs2 1
+        0x1005_352f, // LR.D, of RV64
+        0x00b5_352f, // AMOADD.D, of RV64
+        0x28b5_252f, // an atomic access with bits 31 to 27 00101
         0x0000_003b, // ADDW, of RV64
         0x0400_0033, // funct7 2
         0x0000_0072, // a word whose low bits are not 11

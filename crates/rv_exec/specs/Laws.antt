@@ -1,4 +1,4 @@
--- What the program that RV32IM is does by the instruction table, and what the manual says of quotients and products.
+-- What the program that RV32IMA is does by the instruction table, and what the manual says of quotients and products.
 use Rattle.std.specs.Prelude.{ℕ, ℤ, pos, Bool, ◌≡◌, ◌<◌, ◌+◌, ◌-◌, ◌*◌, ◌^◌, ◌+ℤ◌, ◌*ℤ◌, ◌<ℤ◌, ◌≤ℤ◌, unsigned_abs, Option, Some, None}
 use Rattle.rv_decode.specs.Table.{Encodes}
 use Rattle.rv_decode.specs.declared.instruction.Inst.{Inst}
@@ -24,8 +24,8 @@ abbrev pub RunsTheTable : Type 0
 RunsTheTable =
     (fetch : ℕ → Option ℕ) (in_ram : ℕ → Size → Bool) (l : Local) (w : ℕ) (inst : Inst) (loaded : Option ℕ) →
     fetch l.pc ≡ Some w → Encodes w inst →
-    ((program fetch in_ram).need l ≡ bounded in_ram (planned inst l.regs l.pc))
-    × ((program fetch in_ram).after l loaded ≡ finished inst l.regs l.pc loaded)
+    ((program fetch in_ram).need l ≡ bounded in_ram (planned inst l))
+    × ((program fetch in_ram).after l loaded ≡ finished inst l loaded)
 
 -- "M" extension, Division Operations, the table of division by zero and division overflow, for operands of 32 bits
 pub record DividesAtItsCorners : Type 0 where

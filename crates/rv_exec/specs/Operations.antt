@@ -1,6 +1,8 @@
 -- What the operations on registers give, as numbers.
 use Rattle.std.specs.Prelude.{ℕ, ℤ, pos, Bool, ◌+◌, ◌-◌, ◌*◌, ◌/◌, ◌%◌, ◌^◌, ◌==◌, ◌-ℤ◌, ◌*ℤ◌, bit_and, bit_or, bit_xor, nat_lt, not, int_lt, int_div, int_rem, if◌then◌else◌}
 use Rattle.std.specs.Int.{w8, w16, cast_signed, int_div_euclid}
+use Rattle.rv_decode.specs.declared.instruction.AmoOp.{AmoOp}
+use Rattle.rv_decode.specs.declared.instruction.AmoOp.TheVariants.{Amoswap, Amoadd, Amoxor, Amoand, Amoor, Amomin, Amomax, Amominu, Amomaxu}
 use Rattle.rv_decode.specs.declared.instruction.Cond.{Cond}
 use Rattle.rv_decode.specs.declared.instruction.Cond.TheVariants.{Beq, Bne, Blt, Bge, Bltu, Bgeu}
 use Rattle.rv_decode.specs.declared.instruction.ImmOp.{ImmOp}
@@ -61,6 +63,18 @@ operation_of Srai = Sra
 
 abbrev pub imm_result : ImmOp → ℕ → ℤ → ℕ
 imm_result op a imm = reg_result (operation_of op) a (word imm)
+
+-- "A" extension, Atomic Memory Operations: what is stored, by the word as it was and the operand
+abbrev pub amo_result : AmoOp → (old operand : ℕ) → ℕ
+amo_result Amoswap old operand = operand
+amo_result Amoadd old operand = (old + operand) % 2 ^ 32
+amo_result Amoxor old operand = bit_xor old operand
+amo_result Amoand old operand = bit_and old operand
+amo_result Amoor old operand = bit_or old operand
+amo_result Amomin old operand = (if int_lt (signed old) (signed operand) then old else operand)
+amo_result Amomax old operand = (if int_lt (signed old) (signed operand) then operand else old)
+amo_result Amominu old operand = (if nat_lt old operand then old else operand)
+amo_result Amomaxu old operand = (if nat_lt old operand then operand else old)
 
 -- 2.5.2 Conditional Branches
 abbrev pub holds : Cond → ℕ → ℕ → Bool

@@ -1,4 +1,4 @@
--- The program that RV32IM is, given what a fetch finds at each pc and which accesses lie in RAM.
+-- The program that RV32IMA is, given what a fetch finds at each pc and which accesses lie in RAM.
 use Rattle.std.specs.Prelude.{ℕ, Bool, if◌then◌else◌, Option, Some, None}
 use Rattle.rv_decode.specs.Decoding.{decoded}
 use Rattle.rv_decode.specs.declared.instruction.Inst.{Inst}
@@ -21,7 +21,7 @@ bounded in_ram (Traps cause) = Traps cause
 -- what is needed where the fetched word is this instruction or in no row of the table
 abbrev pub need_of_inst : (in_ram : ℕ → Size → Bool) → Local → Option Inst → Need
 need_of_inst in_ram l None = Traps 2
-need_of_inst in_ram l (Some inst) = bounded in_ram (planned inst l.regs l.pc)
+need_of_inst in_ram l (Some inst) = bounded in_ram (planned inst l)
 
 -- what is needed where the fetch found this word or lies outside all code
 abbrev pub need_of_word : (in_ram : ℕ → Size → Bool) → Local → Option ℕ → Need
@@ -30,7 +30,7 @@ need_of_word in_ram l (Some w) = need_of_inst in_ram l (decoded w)
 
 abbrev pub after_inst : Local → Option ℕ → Option Inst → Local
 after_inst l loaded None = l
-after_inst l loaded (Some inst) = finished inst l.regs l.pc loaded
+after_inst l loaded (Some inst) = finished inst l loaded
 
 abbrev pub after_word : Local → Option ℕ → Option ℕ → Local
 after_word l loaded None = l

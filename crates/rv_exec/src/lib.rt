@@ -1,4 +1,4 @@
-// The effect of each instruction of RV32IM: what it needs of its machine, and the registers and pc that it leaves.
+// The effect of each instruction of RV32IMA: what it needs of its machine, and the registers, pc and reservation that it leaves.
 #![tactic(auto)]
 
 mod finishing;
@@ -11,5 +11,6 @@ mod tests;
 
 pub use finishing::finish;
 pub use laws::{divisions_and_products, program_runs_the_table};
-pub use need::{Need, Next};
+pub use need::Need;
+pub use operations::amo_value;
 pub use planning::plan;

@@ -1,10 +1,11 @@
 // The operations on registers, the conditions of branches, and what a load makes of its bytes.
 ghost use Rattle.std.specs.Prelude.{◌≡◌, ◌<◌, ◌≢◌, ◌^◌, pos, ◌*ℤ◌, nat_lt, not, int_lt, int_div, int_rem};
 ghost use Rattle.rv_decode.specs.declared.instruction.RegOp.TheVariants.{Div, Rem};
-ghost use Rattle.rv_exec.specs.Operations.{reg_result, operation_of, high_word, holds, extended};
+ghost use Rattle.rv_exec.specs.Operations.{reg_result, operation_of, high_word, amo_result, holds, extended};
+ghost use Rattle.rv_exec.specs.Effects.{is_reserved};
 ghost use Rattle.rv_exec.specs.Words.{signed, word, displaced};
 
-use rv_decode::{Cond, ImmOp, LoadKind, RegOp};
+use rv_decode::{AmoOp, Cond, ImmOp, LoadKind, RegOp};
 
 /// What an operation gives for the values of its two registers.
 pub fn operate(op: RegOp, a: u32, b: u32) -> u32
@@ -78,6 +79,33 @@ fn signed_less(a: u32, b: u32) -> bool
     ensures { result ≡ int_lt (signed a) (signed b) }
 {
     a.cast_signed() < b.cast_signed()
+}
+
+/// What an atomic memory operation stores, by the word as it was and the value of rs2.
+pub fn amo_value(op: AmoOp, old: u32, operand: u32) -> u32
+    ensures { result ≡ amo_result op old operand }
+{
+    match op {
+        AmoOp::Amoswap => operand,
+        AmoOp::Amoadd => old.wrapping_add(operand),
+        AmoOp::Amoxor => old ^ operand,
+        AmoOp::Amoand => old & operand,
+        AmoOp::Amoor => old | operand,
+        AmoOp::Amomin => if signed_less(old, operand) { old } else { operand },
+        AmoOp::Amomax => if signed_less(old, operand) { operand } else { old },
+        AmoOp::Amominu => if old < operand { old } else { operand },
+        AmoOp::Amomaxu => if old < operand { operand } else { old },
+    }
+}
+
+/// Whether an address is the reserved one.
+pub fn has_reserved(reserved: Option<u32>, addr: u32) -> bool
+    ensures { result ≡ is_reserved reserved addr }
+{
+    match reserved {
+        None => false,
+        Some(reserved) => reserved == addr,
+    }
 }
 
 /// The operation on two registers that an operation with an immediate is.

@@ -1,35 +1,52 @@
-// What an instruction needs of its machine at a core's registers and pc.
-ghost use Rattle.std.specs.Prelude.{◌≡◌, ◌<◌, ◌%◌, ◌^◌};
-ghost use Rattle.rv_exec.specs.Effects.{planned, target_of, lands, size_read, load_need, store_need, call_need};
+// What an instruction needs of its machine at a core's state.
+ghost use Rattle.std.specs.Prelude.{◌≡◌, ◌<◌, ◌%◌, ◌^◌, Some, None, if◌then◌else◌};
+ghost use Rattle.rv_exec.specs.Effects.{planned, lands, size_read, load_need, store_need, conditional_need, change_need, call_need};
 ghost use Rattle.rv_exec.specs.Needs.{need_of, IsPlanned};
+ghost use Rattle.rv_exec.specs.Operations.{holds, amo_result};
+ghost use Rattle.rv_exec.specs.Words.{displaced};
 ghost use Rattle.tcc_base.specs.Bytes.{bytes_of};
+ghost use Rattle.tcc_program.specs.Registers.{register};
 
 use crate::need::Need;
-use crate::operations::{displace, is_taken};
-use reg_checkpoint::Regs;
-use rv_decode::{Inst, LoadKind};
+use crate::operations::{displace, has_reserved, is_taken};
+use reg_checkpoint::State;
+use rv_decode::{AmoOp, Cond, Inst, LoadKind};
 use tcc_base::{Reg, Size};
 
-/// What an instruction needs at a core's registers and pc, before it is finished. Takes no memory, and constant time.
+/// What an instruction needs at a core's state, before it is finished. Takes no memory, and constant time.
 ///
 /// It traps with 0 where a jump or a branch that is taken goes to an address that is no multiple of four, with 3 at
-/// EBREAK, with 4 and 6 where a load's or a store's address is no multiple of its size, and with 11 at an ECALL whose
-/// x17 is none of 0, 1 and 93. Whether an access lies in RAM is the caller's to see, after this.
+/// EBREAK, with 4 where a load's or a load-reserved's address is no multiple of its size, with 6 where that of a store, a
+/// store-conditional (reserved or not) or an atomic memory operation is none, and with 11 at an ECALL whose x17 is none of 0, 1
+/// and 93. Whether an access lies in RAM is the caller's to see, after this.
 #[tactic(auto, unfolding(crate::specs::Effects::planned))]
-pub fn plan(inst: Inst, regs: &Regs, pc: u32) -> Need
-    ensures need { need_of result ≡ planned inst regs.now pc }
+pub fn plan(inst: &Inst, at: &State) -> Need
+    ensures need { need_of result ≡ planned inst.now at.now }
     ensures planned { IsPlanned result }
 {
-    match inst {
-        Inst::Jal { .. } | Inst::Jalr { .. } | Inst::Branch { .. } => land(&inst, regs, pc),
-        Inst::Load { kind, rs1, imm, .. } => load(displace(regs.get(rs1), imm), bytes_read(kind)),
+    match *inst {
+        Inst::Jal { offset, .. } => land(displace(at.pc(), offset)),
+        Inst::Jalr { rs1, imm, .. } => {
+            let sum = displace(at.get(rs1), imm);
+            land(sum - sum % 2)
+        }
+        Inst::Branch {
+            cond,
+            rs1,
+            rs2,
+            offset,
+        } => branch(at, cond, rs1, rs2, offset),
+        Inst::Load { kind, rs1, imm, .. } => load(displace(at.get(rs1), imm), bytes_read(kind)),
         Inst::Store {
             size,
             rs1,
             rs2,
             imm,
-        } => store(displace(regs.get(rs1), imm), size, regs.get(rs2)),
-        Inst::Ecall => call(regs.get(x(17)), regs.get(x(10))),
+        } => store(displace(at.get(rs1), imm), size, at.get(rs2)),
+        Inst::Lr { rs1, .. } => load(at.get(rs1), Size::Word),
+        Inst::Sc { rs1, rs2, .. } => store_conditional(at, at.get(rs1), at.get(rs2)),
+        Inst::Amo { op, rs1, rs2, .. } => change(at.get(rs1), op, at.get(rs2)),
+        Inst::Ecall => call(at.get(x(17)), at.get(x(10))),
         Inst::Ebreak => Need::Trap(3),
         Inst::Lui { .. }
         | Inst::Auipc { .. }
@@ -39,40 +56,31 @@ pub fn plan(inst: Inst, regs: &Regs, pc: u32) -> Need
     }
 }
 
-/// Where a jump or a branch that is taken goes; None of an instruction that goes on at the next one.
-pub fn target(inst: &Inst, regs: &Regs, pc: u32) -> Option<u32>
-    ensures { result ≡ target_of inst.now regs.now pc }
+/// A jump to this address.
+fn land(target: u32) -> Need
+    ensures need { need_of result ≡ lands (Some target) }
+    ensures planned { IsPlanned result }
 {
-    match *inst {
-        Inst::Jal { offset, .. } => Some(displace(pc, offset)),
-        Inst::Jalr { rs1, imm, .. } => {
-            let sum = displace(regs.get(rs1), imm);
-            Some(sum - sum % 2)
-        }
-        Inst::Branch {
-            cond,
-            rs1,
-            rs2,
-            offset,
-        } => {
-            if is_taken(cond, regs.get(rs1), regs.get(rs2)) {
-                Some(displace(pc, offset))
-            } else {
-                None
-            }
-        }
-        _ => None,
+    if target % 4 == 0 {
+        Need::Nothing
+    } else {
+        Need::Trap(0)
     }
 }
 
-/// A jump or a branch.
-fn land(inst: &Inst, regs: &Regs, pc: u32) -> Need
-    ensures need { need_of result ≡ lands (target_of inst.now regs.now pc) }
+/// A branch. Its condition matters only where its target isn't aligned.
+fn branch(at: &State, cond: Cond, rs1: Reg, rs2: Reg, offset: i32) -> Need
+    ensures need { need_of result ≡ lands
+        (if holds cond (register at.now.regs rs1) (register at.now.regs rs2) then Some (displaced at.now.pc offset) else None) }
     ensures planned { IsPlanned result }
 {
-    match target(inst, regs, pc) {
-        Some(address) if address % 4 != 0 => Need::Trap(0),
-        _ => Need::Nothing,
+    if displace(at.pc(), offset) % 4 == 0 {
+        return Need::Nothing;
+    }
+    if is_taken(cond, at.get(rs1), at.get(rs2)) {
+        Need::Trap(0)
+    } else {
+        Need::Nothing
     }
 }
 
@@ -97,6 +105,36 @@ fn store(addr: u32, size: Size, value: u32) -> Need
             size,
             value: low_bytes(value, size),
         }
+    } else {
+        Need::Trap(6)
+    }
+}
+
+/// A store-conditional.
+fn store_conditional(at: &State, addr: u32, value: u32) -> Need
+    ensures need { need_of result ≡ conditional_need at.now.reserved addr value }
+    ensures planned { IsPlanned result }
+{
+    if addr % 4 != 0 {
+        Need::Trap(6)
+    } else if has_reserved(at.reserved(), addr) {
+        Need::Store {
+            addr,
+            size: Size::Word,
+            value,
+        }
+    } else {
+        Need::Nothing
+    }
+}
+
+/// An atomic memory operation.
+fn change(addr: u32, op: AmoOp, value: u32) -> Need
+    ensures need { need_of result ≡ change_need addr (λ old. amo_result op old value) }
+    ensures planned { IsPlanned result }
+{
+    if addr % 4 == 0 {
+        Need::Amo { addr, op, value }
     } else {
         Need::Trap(6)
     }

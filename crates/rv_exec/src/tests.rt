@@ -1,9 +1,10 @@
-// Effects at values from outside: the tables of the manual's "M" extension, and corners of shifts, products, branches and loads.
+// Effects at values from outside: the tables of the manual's "M" extension, corners of shifts, products, branches and loads, and of
+// reservations and atomic memory operations.
 ghost use Rattle.std.specs.Prelude.{◌<◌};
 
-use crate::{Need, finish, plan};
-use reg_checkpoint::Regs;
-use rv_decode::{Cond, Inst, LoadKind, RegOp};
+use crate::{Need, amo_value, finish, plan};
+use reg_checkpoint::{Regs, State};
+use rv_decode::{AmoOp, Cond, Inst, LoadKind, RegOp};
 use std::process::Abort;
 use tcc_base::{Reg, Size};
 
@@ -15,12 +16,19 @@ fn x(number: u8) -> Reg
     Reg::new(number).unwrap()
 }
 
-/// Registers of which x1 and x2 have these values.
-fn regs(a: u32, b: u32) -> Regs {
-    let mut regs = Regs::new();
-    regs.set(x(1), a);
-    regs.set(x(2), b);
-    regs
+/// A core whose x1 and x2 have these values.
+fn at(a: u32, b: u32) -> State {
+    let mut state = State::new(Regs::new(), PC);
+    state.set(x(1), a);
+    state.set(x(2), b);
+    state
+}
+
+/// That core after an instruction.
+fn after(inst: &Inst, a: u32, b: u32, loaded: Option<u32>) -> State {
+    let mut state = at(a, b);
+    finish(inst, &mut state, loaded);
+    state
 }
 
 /// Each row: an operation, its two operands and its result.
@@ -32,9 +40,9 @@ fn gives(rt: &impl Abort, rows: &[(RegOp, u32, u32, u32)]) {
             rs1: x(1),
             rs2: x(2),
         };
-        let next = finish(inst, &regs(*a, *b), PC, None);
-        assert_eq!(rt; next.regs.get(x(3)), *result, "{op:?} {a:x} {b:x}");
-        assert_eq!(rt; next.pc, PC + 4);
+        let next = after(&inst, *a, *b, None);
+        assert_eq!(rt; next.get(x(3)), *result, "{op:?} {a:x} {b:x}");
+        assert_eq!(rt; next.pc(), PC + 4);
     }
 }
 
@@ -128,9 +136,8 @@ fn branches(rt: HostRuntime) {
             rs2: x(2),
             offset: -16,
         };
-        let next = finish(inst, &regs(a, b), PC, None);
         assert_eq!(rt;
-            next.pc,
+            after(&inst, a, b, None).pc(),
             if taken { 0x8000_0000 } else { 0x8000_0014 },
             "{cond:?} {a:x} {b:x}"
         );
@@ -162,8 +169,8 @@ fn loads_of_every_byte(rt: HostRuntime) {
             rs1: x(1),
             imm: 0,
         };
-        let next = finish(inst, &regs(PC, 0), PC, Some(bytes));
-        assert_eq!(rt; next.regs.get(x(3)), result, "{kind:?} {bytes:x}");
+        let next = after(&inst, PC, 0, Some(bytes));
+        assert_eq!(rt; next.get(x(3)), result, "{kind:?} {bytes:x}");
     }
 }
 
@@ -173,35 +180,30 @@ fn jumps(rt: HostRuntime) {
         rd: x(1),
         offset: -16,
     };
-    let next = finish(call, &regs(0, 0), PC, None);
-    assert_eq!(rt; next.pc, 0x8000_0000);
-    assert_eq!(rt; next.regs.get(x(1)), 0x8000_0014);
+    let next = after(&call, 0, 0, None);
+    assert_eq!(rt; next.pc(), 0x8000_0000);
+    assert_eq!(rt; next.get(x(1)), 0x8000_0014);
     // the target is that of the old x1, with bit 0 cleared
-    let back = &Inst::Jalr {
+    let back = Inst::Jalr {
         rd: x(1),
         rs1: x(1),
         imm: -3,
     };
-    assert_eq!(rt; plan(*back, &regs(0x8000_0104, 0), PC), Need::Nothing);
-    let next = finish(*back, &regs(0x8000_0104, 0), PC, None);
-    assert_eq!(rt; next.pc, 0x8000_0100);
-    assert_eq!(rt; next.regs.get(x(1)), 0x8000_0014);
+    assert_eq!(rt; plan(&back, &at(0x8000_0104, 0)), Need::Nothing);
+    let next = after(&back, 0x8000_0104, 0, None);
+    assert_eq!(rt; next.pc(), 0x8000_0100);
+    assert_eq!(rt; next.get(x(1)), 0x8000_0014);
     // x0 takes no link
-    let next = finish(
-        Inst::Jal {
-            rd: x(0),
-            offset: 4,
-        },
-        &regs(0, 0),
-        PC,
-        None,
-    );
-    assert_eq!(rt; next.regs.get(x(0)), 0);
+    let jump = Inst::Jal {
+        rd: x(0),
+        offset: 4,
+    };
+    assert_eq!(rt; after(&jump, 0, 0, None).get(x(0)), 0);
 }
 
 #[test]
 fn needs_and_traps(rt: HostRuntime) {
-    let at = regs(0x8000_0041, 0xaabb_ccdd);
+    let state = at(0x8000_0041, 0xaabb_ccdd);
     let load = |kind, imm| Inst::Load {
         kind,
         rd: x(3),
@@ -218,31 +220,31 @@ fn needs_and_traps(rt: HostRuntime) {
         addr,
         size: Size::Word,
     };
-    assert_eq!(rt; plan(load(LoadKind::Lw, 3), &at, PC), word(0x8000_0044));
-    assert_eq!(rt; plan(load(LoadKind::Lw, 1), &at, PC), Need::Trap(4));
-    assert_eq!(rt; plan(load(LoadKind::Lhu, 0), &at, PC), Need::Trap(4));
-    assert_eq!(rt; plan(store(Size::Half, 2), &at, PC), Need::Trap(6));
+    assert_eq!(rt; plan(&load(LoadKind::Lw, 3), &state), word(0x8000_0044));
+    assert_eq!(rt; plan(&load(LoadKind::Lw, 1), &state), Need::Trap(4));
+    assert_eq!(rt; plan(&load(LoadKind::Lhu, 0), &state), Need::Trap(4));
+    assert_eq!(rt; plan(&store(Size::Half, 2), &state), Need::Trap(6));
     let half = Need::Store {
         addr: 0x8000_0040,
         size: Size::Half,
         value: 0xccdd,
     };
-    assert_eq!(rt; plan(store(Size::Half, -1), &at, PC), half);
+    assert_eq!(rt; plan(&store(Size::Half, -1), &state), half);
     let byte = Need::Store {
         addr: 0x8000_0041,
         size: Size::Byte,
         value: 0xdd,
     };
-    assert_eq!(rt; plan(store(Size::Byte, 0), &at, PC), byte);
-    let skip = &Inst::Branch {
+    assert_eq!(rt; plan(&store(Size::Byte, 0), &state), byte);
+    let skip = Inst::Branch {
         cond: Cond::Bne,
         rs1: x(1),
         rs2: x(2),
         offset: 2,
     };
-    assert_eq!(rt; plan(*skip, &at, PC), Need::Trap(0));
-    assert_eq!(rt; plan(*skip, &regs(0, 0), PC), Need::Nothing);
-    assert_eq!(rt; plan(Inst::Ebreak, &at, PC), Need::Trap(3));
+    assert_eq!(rt; plan(&skip, &state), Need::Trap(0));
+    assert_eq!(rt; plan(&skip, &at(0, 0)), Need::Nothing);
+    assert_eq!(rt; plan(&Inst::Ebreak, &state), Need::Trap(3));
 }
 
 #[test]
@@ -254,9 +256,109 @@ fn environment_calls(rt: HostRuntime) {
         (2, 0, Need::Trap(11)),
     ];
     for (number, argument, need) in rows {
-        let mut regs = Regs::new();
-        regs.set(x(17), number);
-        regs.set(x(10), argument);
-        assert_eq!(rt; plan(Inst::Ecall, &regs, PC), need);
+        let mut state = at(0, 0);
+        state.set(x(17), number);
+        state.set(x(10), argument);
+        assert_eq!(rt; plan(&Inst::Ecall, &state), need);
     }
+}
+
+#[test]
+fn values_of_atomic_memory_operations(rt: HostRuntime) {
+    let least = 0x8000_0000;
+    let greatest = 0x7fff_ffff;
+    let rows = [
+        (AmoOp::Amoswap, 7, 9, 9),
+        (AmoOp::Amoadd, 0xffff_ffff, 2, 1),
+        (AmoOp::Amoxor, 0xff00_ff00, 0x0f0f_0f0f, 0xf00f_f00f),
+        (AmoOp::Amoand, 0xff00_ff00, 0x0f0f_0f0f, 0x0f00_0f00),
+        (AmoOp::Amoor, 0xff00_ff00, 0x0f0f_0f0f, 0xff0f_ff0f),
+        (AmoOp::Amomin, least, greatest, least),
+        (AmoOp::Amomin, greatest, least, least),
+        (AmoOp::Amomin, 0xffff_ffff, 0, 0xffff_ffff),
+        (AmoOp::Amomax, least, greatest, greatest),
+        (AmoOp::Amomax, greatest, least, greatest),
+        (AmoOp::Amomax, 0xffff_ffff, 0, 0),
+        (AmoOp::Amominu, least, greatest, greatest),
+        (AmoOp::Amominu, greatest, least, greatest),
+        (AmoOp::Amominu, 0xffff_ffff, 0, 0),
+        (AmoOp::Amomaxu, least, greatest, least),
+        (AmoOp::Amomaxu, greatest, least, least),
+        (AmoOp::Amomaxu, 0xffff_ffff, 0, 0xffff_ffff),
+    ];
+    for (op, old, operand, stored) in rows {
+        assert_eq!(rt; amo_value(op, old, operand), stored, "{op:?} {old:x} {operand:x}");
+    }
+}
+
+#[test]
+fn atomic_memory_operations(rt: HostRuntime) {
+    let amo = |rd, rs1, rs2| Inst::Amo {
+        op: AmoOp::Amoadd,
+        rd,
+        rs1,
+        rs2,
+        order: 0,
+    };
+    let need = |addr, value| Need::Amo {
+        addr,
+        op: AmoOp::Amoadd,
+        value,
+    };
+    let state = at(0x8000_0040, 5);
+    assert_eq!(rt; plan(&amo(x(3), x(1), x(2)), &state), need(0x8000_0040, 5));
+    // the operands are those from before rd is written, also where they are one register
+    let one = amo(x(1), x(1), x(1));
+    assert_eq!(rt; plan(&one, &state), need(0x8000_0040, 0x8000_0040));
+    let next = after(&one, 0x8000_0040, 5, Some(9));
+    assert_eq!(rt; (next.get(x(1)), next.pc()), (9, PC + 4));
+    assert_eq!(rt; plan(&amo(x(3), x(1), x(2)), &at(0x8000_0042, 5)), Need::Trap(6));
+}
+
+#[test]
+fn reservations(rt: HostRuntime) {
+    let lr = Inst::Lr {
+        rd: x(3),
+        rs1: x(1),
+        order: 3,
+    };
+    let sc = |rd| Inst::Sc {
+        rd,
+        rs1: x(1),
+        rs2: x(2),
+        order: 0,
+    };
+    let word = 0x8000_0040;
+    let load = Need::Load {
+        addr: word,
+        size: Size::Word,
+    };
+    let store = Need::Store {
+        addr: word,
+        size: Size::Word,
+        value: 7,
+    };
+    let mut state = at(word, 7);
+    assert_eq!(rt; plan(&sc(x(4)), &state), Need::Nothing);
+    assert_eq!(rt; plan(&lr, &state), load);
+    finish(&lr, &mut state, Some(9));
+    assert_eq!(rt; (state.get(x(3)), state.reserved()), (9, Some(word)));
+    // another instruction leaves the reservation
+    finish(&Inst::Ecall, &mut state, None);
+    assert_eq!(rt; plan(&sc(x(4)), &state), store);
+    finish(&sc(x(4)), &mut state, None);
+    assert_eq!(rt; (state.get(x(4)), state.reserved()), (0, None));
+    // a second one has no reservation
+    assert_eq!(rt; plan(&sc(x(5)), &state), Need::Nothing);
+    finish(&sc(x(5)), &mut state, None);
+    assert_eq!(rt; (state.get(x(5)), state.pc()), (1, PC + 16));
+    // another address has none
+    state.reserve(word + 4);
+    assert_eq!(rt; plan(&sc(x(5)), &state), Need::Nothing);
+    // addresses that are no multiple of four, reserved or not
+    assert_eq!(rt; plan(&lr, &at(word + 2, 0)), Need::Trap(4));
+    assert_eq!(rt; plan(&sc(x(5)), &at(word + 1, 0)), Need::Trap(6));
+    let mut odd = at(word + 1, 0);
+    odd.reserve(word + 1);
+    assert_eq!(rt; plan(&sc(x(5)), &odd), Need::Trap(6));
 }

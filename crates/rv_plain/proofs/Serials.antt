@@ -5,7 +5,7 @@ use Rattle.std.proofs.Math.Seq.{take-suc}
 use Rattle.std.proofs.lemmas.Bool.{lt-ltb}
 use Rattle.std.proofs.lemmas.List.{map-append}
 use Rattle.std.proofs.lemmas.Option.{slice_get-get_or}
-use Rattle.rv_plain.specs.Machine.{program}
+use Rattle.rv_code.specs.Machine.{program}
 use Rattle.rv_plain.specs.PlainState.{PlainState, plain_of, order_of, transaction_of, serial_of, Did}
 use Rattle.rv_plain.specs.Serials.{tid_before, IsSerialFault}
 use Rattle.rv_plain.specs.declared.plain.Done.{Done}

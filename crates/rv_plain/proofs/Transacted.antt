@@ -6,7 +6,6 @@ use Rattle.rv_plain.specs.Buffered.{plain_view, seen}
 use Rattle.rv_plain.specs.Cores.{core_of, no_state}
 use Rattle.rv_plain.specs.Endings.{IsCoreFault}
 use Rattle.image_load.specs.Contents.{Contents}
-use Rattle.rv_exec.specs.Needs.{local_of}
 use Rattle.rv_plain.specs.PlainState.{PlainState, plain_of, Did, IsPlainFault}
 use Rattle.rv_plain.specs.Store.{Store, buffer_of}
 use Rattle.rv_plain.specs.Transacts.{Transacts, steps_at}
@@ -20,19 +19,19 @@ use Rattle.tcc_base.specs.Put.{put}
 use Rattle.tcc_base.specs.declared.access.CoreEnd.{CoreEnd}
 use Rattle.tcc_base.specs.declared.access.CoreEnd.TheVariants.{Run}
 use Rattle.tcc_program.specs.Plain.{PlainCore, begun, end_of, transaction, closed}
+use Rattle.tcc_program.specs.Program.{Local}
 use Rattle.tcc_program.specs.Ram.{flat}
 
-pub begun-view : (regs : List ℕ) (pc : ℕ) (m : Store) → m.waiting ≡ []
-    → plain_view (attempt_of (record { regs = regs; pc = pc; n = 0; loads = []; stores = []; console = [] }) m Goes)
-    ≡ begun (local_of regs pc) (flat m.ram)
+pub begun-view : (l : Local) (m : Store) → m.waiting ≡ []
+    → plain_view (attempt_of (record { state = l; n = 0; loads = []; stores = []; console = [] }) m Goes) ≡ begun l (flat m.ram)
 unfolding plain_view attempt_of begun seen buffer_of
-begun-view regs pc m e = rw e refl
+begun-view l m e = rw e refl
 
 pub closed-transacts : (l : Contents) (old new : CoreState) (before mid after : Store) (n : ℕ) (a : Attempt) (o : Outcome)
     (end : CoreEnd) (r : Result Done PlainFault) → old.ended ≡ Run
     → steps_at l old before n ≡ Some (plain_view (attempt_of a mid o))
     → end_of (outcome_of o) ≡ Some end
-    → OnOk r (new ≡ record { regs = a.regs; pc = a.pc; ended = end; console = old.console ++ a.console })
+    → OnOk r (new ≡ record { state = a.state; ended = end; console = old.console ++ a.console })
     → IfOk r (λ d. d ≡ record { loads = a.loads; stores = a.stores; console = a.console })
     → OnOk r (flat after.ram ≡ seen (flat mid.ram) (buffer_of mid.waiting))
     → IfOk r (Transacts l old new before after n)
@@ -43,7 +42,7 @@ closed-transacts l old new before mid after n a o end (Ok d) runs does ends stat
   runs = runs;
   does = does;
   ends = ends ∙ ap (λ s. Some s.ended) (sym state);
-  local = ap (λ s. local_of s.regs s.pc) state;
+  local = ap (λ s. s.state) state;
   prints = ap (λ s. s.console) state;
   ram = ram;
   loads = ap (λ x. x.loads) did;

@@ -1,12 +1,11 @@
 -- What the code's core stands for between two transactions.
-use Rattle.std.specs.Prelude.{[]}
-use Rattle.rv_exec.specs.Needs.{local_of}
+use Rattle.std.specs.Prelude.{[], None}
 use Rattle.rv_plain.specs.declared.plain.CoreState.{CoreState}
 use Rattle.tcc_base.specs.declared.access.CoreEnd.TheVariants.{Halt}
 use Rattle.tcc_program.specs.Plain.{PlainCore}
 
 abbrev pub core_of : CoreState → PlainCore
-core_of c = record { local = local_of c.regs c.pc; ended = c.ended; console = c.console }
+core_of c = record { local = c.state; ended = c.ended; console = c.console }
 
 abbrev pub no_state : CoreState
-no_state = record { regs = []; pc = 0; ended = Halt 0; console = [] }
+no_state = record { state = record { regs = []; pc = 0; reserved = None }; ended = Halt 0; console = [] }

@@ -3,7 +3,7 @@ use Rattle.std.specs.Prelude.{ℕ, List, ◌≡◌, map, Option, None, IsSomeAnd
 use Rattle.rv_plain.specs.Cores.{core_of, no_state}
 use Rattle.rv_plain.specs.Endings.{IsCoreFault}
 use Rattle.image_load.specs.Contents.{Contents, started}
-use Rattle.rv_plain.specs.Machine.{program}
+use Rattle.rv_code.specs.Machine.{program}
 use Rattle.rv_plain.specs.declared.plain.CoreState.{CoreState}
 use Rattle.rv_plain.specs.declared.plain.Done.{Done}
 use Rattle.rv_plain.specs.declared.plain.PlainFault.{PlainFault}

@@ -1,8 +1,7 @@
 -- What one transaction of one core of the code's plain machine leaves behind.
 use Rattle.std.specs.Prelude.{ℕ, ◌++◌, ◌≡◌, Option, Some}
 use Rattle.image_load.specs.Contents.{Contents, started}
-use Rattle.rv_plain.specs.Machine.{program}
-use Rattle.rv_exec.specs.Needs.{local_of}
+use Rattle.rv_code.specs.Machine.{program}
 use Rattle.rv_plain.specs.Store.{Store}
 use Rattle.rv_plain.specs.declared.plain.CoreState.{CoreState}
 use Rattle.rv_plain.specs.declared.plain.Done.{Done}
@@ -11,14 +10,14 @@ use Rattle.tcc_program.specs.Plain.{Attempt, steps, begun, end_of}
 use Rattle.tcc_program.specs.Ram.{flat}
 
 abbrev pub steps_at : Contents → CoreState → Store → ℕ → Option Attempt
-steps_at l c s k = steps l.settings.base (program (started l)) k (begun (local_of c.regs c.pc) (flat s.ram))
+steps_at l c s k = steps l.settings.base (program (started l)) k (begun c.state (flat s.ram))
 
 pub record Transacts (l : Contents) (old new : CoreState) (before after : Store) (n : ℕ) (d : Done) : Type 0 where
   pub attempt : Attempt
   pub runs : old.ended ≡ Run
   pub does : steps_at l old before n ≡ Some attempt
   pub ends : end_of attempt.outcome ≡ Some new.ended
-  pub local : local_of new.regs new.pc ≡ attempt.local
+  pub local : new.state ≡ attempt.local
   pub prints : new.console ≡ old.console ++ attempt.console
   pub ram : flat after.ram ≡ attempt.ram
   pub loads : d.loads ≡ attempt.loads

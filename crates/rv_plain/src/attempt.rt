@@ -1,20 +1,23 @@
-// A transaction on its way: the registers and pc as they are now, what it loaded, stored and printed so far.
-ghost use Rattle.std.specs.Prelude.{◌≡◌, ℕ, ◌+◌, ◌-◌, ◌*◌, ◌^◌, ◌<◌, IfOk, IfErr, OnErr, OnOk, Some, length, [], ◌↔◌, IsTrue, IsFalse};
+// A transaction on its way: the core's state as it is now, what it loaded, stored and printed so far.
+ghost use Rattle.std.specs.Prelude.{◌≡◌, ℕ, ◌+◌, ◌-◌, ◌*◌, ◌^◌, ◌<◌, IfOk, IfErr, OnErr, OnOk, Some, length, [], ◌∷◌, ◌++◌, ◌↔◌, IsTrue, IsFalse};
 ghost use Rattle.image_load.specs.Contents.{started};
 ghost use Rattle.rv_plain.specs.Buffered.{buffered, buffered_step, plain_view};
-ghost use Rattle.rv_exec.specs.Effects.{finished, planned};
+ghost use Rattle.rv_exec.specs.Effects.{planned};
 ghost use Rattle.rv_exec.specs.Running.{bounded};
-ghost use Rattle.rv_plain.specs.Machine.{program, in_ram};
-ghost use Rattle.rv_exec.specs.Needs.{need_of, local_of};
-ghost use Rattle.tcc_program.specs.Plain.{steps, end_of};
+ghost use Rattle.rv_code.specs.Machine.{program, in_ram};
+ghost use Rattle.rv_code.specs.Served.{IsServed};
+ghost use Rattle.rv_exec.specs.Needs.{need_of};
+ghost use Rattle.tcc_base.specs.declared.access.Size.TheVariants.{Word};
+ghost use Rattle.tcc_program.specs.Plain.{steps, end_of, load_of, store_of};
+ghost use Rattle.tcc_program.specs.Program.{unreserved};
 
 use crate::bytes;
-use crate::code::Code;
 use crate::memory::Memory;
 use crate::plain::PlainFault;
-use reg_checkpoint::Regs;
-use rv_decode::Inst;
-use rv_exec::{Need, finish, plan};
+use reg_checkpoint::State;
+use rv_code::Code;
+use rv_decode::{AmoOp, Inst};
+use rv_exec::{Need, amo_value, finish};
 use std::alloc::Global;
 use tcc_base::{CoreEnd, List, Load, NoMemory, Size, Stored};
 
@@ -58,8 +61,7 @@ impl Outcome {
 /// A transaction on its way, of which `n` instructions are done.
 #[derive(Debug, Drop)]
 pub struct Attempt {
-    pub regs: Regs,
-    pub pc: u32,
+    pub state: State,
     pub n: u32,
     pub loads: List<Load>,
     pub stores: List<Stored>,
@@ -67,16 +69,15 @@ pub struct Attempt {
 }
 
 impl Attempt {
-    ghost use Rattle.rv_plain.specs.Attempts.{attempt_of, outcome_of, alone, IsServed};
+    ghost use Rattle.rv_plain.specs.Attempts.{attempt_of, outcome_of, alone};
     ghost use Rattle.rv_plain.specs.Endings.{HasEnded, IsFault};
 
-    /// An attempt at these registers and pc that has done nothing.
-    pub fn begin(alloc: Global, regs: Regs, pc: u32) -> Attempt
-        ensures { result ≡ record { regs = regs; pc = pc; n = 0; loads = []; stores = []; console = [] } }
+    /// An attempt of a core at this state that has done nothing. Takes no memory.
+    pub fn begin(alloc: Global, state: &State) -> Attempt
+        ensures { result ≡ record { state = state.now; n = 0; loads = []; stores = []; console = [] } }
     {
         Attempt {
-            regs,
-            pc,
+            state: *state,
             n: 0,
             loads: List {
                 items: Vec::new(alloc),
@@ -88,17 +89,6 @@ impl Attempt {
                 items: Vec::new(alloc),
             },
         }
-    }
-
-    fn go_on(&mut self, inst: &Inst, loaded: Option<u32>)
-        ensures { self.new ≡ record self.old {
-          regs = (finished inst.now self.old.regs self.old.pc loaded).regs;
-          pc = (finished inst.now self.old.regs self.old.pc loaded).pc;
-        } }
-    {
-        let next = finish(*inst, &self.regs, self.pc, loaded);
-        self.regs = next.regs;
-        self.pc = next.pc;
     }
 
     #[tactic(auto, unfolding(crate::specs::Attempts::attempt_of, tcc_program::specs::Ram::loaded, tcc_program::specs::Ram::word_of))]
@@ -118,11 +108,11 @@ impl Attempt {
     {
         let value = bytes::read(memory.read((addr - base) / 4), addr, size);
         self.loads.push(Load { addr, size, value })?;
-        self.go_on(inst, Some(value));
+        finish(inst, &mut self.state, Some(value));
         Ok(Outcome::Goes)
     }
 
-    #[tactic(auto, unfolding(crate::specs::Attempts::attempt_of, rv_exec::specs::Effects::finished, tcc_program::specs::Ram::word_of))]
+    #[tactic(auto, unfolding(crate::specs::Attempts::attempt_of, tcc_program::specs::Ram::word_of))]
     fn store(
         &mut self,
         memory: &mut Memory,
@@ -145,7 +135,7 @@ impl Attempt {
         self.stores.push(Stored { addr, size, value })?;
         match memory.write(w, word) {
             Ok(()) => {
-                self.go_on(inst, None);
+                finish(inst, &mut self.state, None);
                 Ok(Outcome::Goes)
             }
             Err(e) => {
@@ -155,7 +145,66 @@ impl Attempt {
         }
     }
 
-    #[tactic(auto, unfolding(crate::specs::Attempts::attempt_of, rv_exec::specs::Effects::finished))]
+    #[tactic(auto, unfolding(crate::specs::Attempts::attempt_of, tcc_program::specs::Ram::loaded, tcc_program::specs::Ram::word_of))]
+    fn change(
+        &mut self,
+        memory: &mut Memory,
+        base: u32,
+        inst: &Inst,
+        addr: u32,
+        op: AmoOp,
+        operand: u32,
+    ) -> Result<Outcome, NoMemory>
+        requires { IsServed base (4 * length memory.old.ram) (Need.Amo addr op operand) }
+        ensures does { IfOk result (λ o. attempt_of self.new memory.new o
+            ≡ buffered base (alone inst.now) (attempt_of self.old memory.old Outcome.Goes) (need_of (Need.Amo addr op operand))) }
+        ensures n { self.new.n ≡ self.old.n }
+        ensures ram { memory.new.ram ≡ memory.old.ram }
+        ensures unchanged { OnErr result (self.new ≡ self.old) }
+        ensures memory_unchanged { OnErr result (memory.new ≡ memory.old) }
+    {
+        let w = (addr - base) / 4;
+        let word = memory.read(w);
+        let old = bytes::read(word, addr, Size::Word);
+        let value = amo_value(op, old, operand);
+        self.note_change(addr, old, value)?;
+        match memory.write(w, bytes::replace(word, addr, Size::Word, value)) {
+            Ok(()) => {
+                finish(inst, &mut self.state, Some(old));
+                Ok(Outcome::Goes)
+            }
+            Err(e) => {
+                let _ = self.loads.pop();
+                let _ = self.stores.pop();
+                Err(e)
+            }
+        }
+    }
+
+    /// Notes the load and the store of a word.
+    fn note_change(&mut self, addr: u32, old: u32, value: u32) -> Result<(), NoMemory>
+        ensures noted { OnOk result (self.new ≡ record self.old {
+          loads = self.old.loads ++ load_of addr Word old ∷ [];
+          stores = self.old.stores ++ store_of addr Word value ∷ [];
+        }) }
+        ensures unchanged { OnErr result (self.new ≡ self.old) }
+    {
+        let size = Size::Word;
+        self.loads.push(Load {
+            addr,
+            size,
+            value: old,
+        })?;
+        match self.stores.push(Stored { addr, size, value }) {
+            Ok(()) => Ok(()),
+            Err(e) => {
+                let _ = self.loads.pop();
+                Err(e)
+            }
+        }
+    }
+
+    #[tactic(auto, unfolding(crate::specs::Attempts::attempt_of))]
     fn act(
         &mut self,
         memory: &mut Memory,
@@ -173,23 +222,33 @@ impl Attempt {
     {
         match need {
             Need::Nothing => {
-                self.go_on(inst, None);
+                finish(inst, &mut self.state, None);
                 Ok(Outcome::Goes)
             }
             Need::Load { addr, size } => self.load(memory, base, inst, addr, size),
             Need::Store { addr, size, value } => self.store(memory, base, inst, addr, size, value),
+            Need::Amo { addr, op, value } => self.change(memory, base, inst, addr, op, value),
             Need::Console(byte) => {
                 self.console.push(byte)?;
-                self.go_on(inst, None);
+                finish(inst, &mut self.state, None);
                 Ok(Outcome::Goes)
             }
             Need::End => {
-                self.go_on(inst, None);
-                Ok(Outcome::Ended)
+                finish(inst, &mut self.state, None);
+                Ok(self.end(Outcome::Ended))
             }
-            Need::Halt(code) => Ok(Outcome::Halted(code)),
-            Need::Trap(code) => Ok(Outcome::Trapped(code)),
+            Need::Halt(code) => Ok(self.end(Outcome::Halted(code))),
+            Need::Trap(code) => Ok(self.end(Outcome::Trapped(code))),
         }
+    }
+
+    /// The transaction ends so. No end leaves a reservation.
+    fn end(&mut self, outcome: Outcome) -> Outcome
+        ensures state { self.new ≡ record self.old { state = unreserved self.old.state } }
+        ensures outcome { result ≡ outcome }
+    {
+        self.state.unreserve();
+        outcome
     }
 
     /// One instruction over RAM as the transaction sees it; the next instruction where it answers Goes. After want of
@@ -253,8 +312,8 @@ impl Attempt {
         ensures unchanged { OnErr result (self.new ≡ self.old) }
         ensures memory_unchanged { OnErr result (memory.new ≡ memory.old) }
     {
-        match code.inst(self.pc) {
-            Err(trap) => Ok(Outcome::Trapped(trap)),
+        match code.inst(&self.state) {
+            Err(trap) => Ok(self.end(Outcome::Trapped(trap))),
             Ok(inst) => self.execute(memory, code, &inst),
         }
     }
@@ -268,14 +327,14 @@ impl Attempt {
         requires { 4 * length memory.old.ram ≡ code.now.settings.ram }
         ensures does { IfOk result (λ o. attempt_of self.new memory.new o
             ≡ buffered code.now.settings.base (alone inst.now) (attempt_of self.old memory.old Outcome.Goes)
-            (bounded (in_ram code.now.settings) (planned inst.now self.old.regs self.old.pc))) }
+            (bounded (in_ram code.now.settings) (planned inst.now self.old.state))) }
         ensures n { self.new.n ≡ self.old.n }
         ensures ram { memory.new.ram ≡ memory.old.ram }
         ensures unchanged { OnErr result (self.new ≡ self.old) }
         ensures memory_unchanged { OnErr result (memory.new ≡ memory.old) }
     {
         let base = code.config().base();
-        let need = code.bounded(plan(*inst, &self.regs, self.pc));
+        let need = code.plan(inst, &self.state);
         self.act(memory, base, inst, need)
     }
 }

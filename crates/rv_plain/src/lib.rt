@@ -4,7 +4,6 @@
 
 mod attempt;
 mod bytes;
-mod code;
 mod memory;
 mod plain;
 mod serial;
@@ -12,6 +11,5 @@ mod serial;
 mod tests;
 
 pub use attempt::{Attempt, Outcome};
-pub use code::Code;
 pub use memory::Memory;
-pub use plain::{CoreState, Done, Order, Plain, PlainFault, SerialFault, start_regs};
+pub use plain::{CoreState, Done, Order, Plain, PlainFault, SerialFault};

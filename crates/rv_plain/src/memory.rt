@@ -2,12 +2,12 @@
 ghost use Rattle.std.specs.Prelude.{◌≡◌, ℕ, ◌<◌, ◌≤◌, ◌*◌, ◌/◌, IfOk, OnOk, OnErr, Some, [], length};
 ghost use Rattle.image_load.specs.Contents.{started};
 ghost use Rattle.rv_plain.specs.Buffered.{seen};
-ghost use Rattle.rv_plain.specs.Machine.{first_ram};
+ghost use Rattle.rv_code.specs.Machine.{first_ram};
 ghost use Rattle.rv_plain.specs.Store.{buffer_of, IsInside};
 ghost use Rattle.tcc_base.specs.Put.{put};
 ghost use Rattle.tcc_program.specs.Ram.{flat};
 
-use crate::code::Code;
+use rv_code::Code;
 use std::alloc::Global;
 use std::collections::BTreeMap;
 use std::marker::Model;

@@ -2,7 +2,7 @@
 ghost use Rattle.std.specs.Prelude.{◌≡◌, ℕ, ◌+◌, ◌-◌, ◌*◌, ◌^◌, ◌<◌, ◌≤◌, IfOk, IfErr, OnErr, OnOk, IsErrAnd, MatchResult, IsSomeAnd, Some, [], ◌++◌, length, slice_index, slice_index_or, slice_set};
 ghost use Rattle.image_load.specs.Contents.{started};
 ghost use Rattle.rv_plain.specs.Buffered.{seen};
-ghost use Rattle.rv_plain.specs.Machine.{plain_start, start_regs, start_core};
+ghost use Rattle.rv_plain.specs.Machine.{plain_start, start_core};
 ghost use Rattle.rv_plain.specs.Cores.{core_of, no_state};
 ghost use Rattle.rv_plain.specs.Endings.{IsFault, IsCoreFault};
 ghost use Rattle.rv_plain.specs.Store.{buffer_of};
@@ -10,13 +10,13 @@ ghost use Rattle.rv_plain.specs.Transacts.{Transacts, steps_at};
 ghost use Rattle.tcc_program.specs.Ram.{flat};
 
 use crate::attempt::{Attempt, Outcome};
-use crate::code::Code;
 use crate::memory::Memory;
 use image_load::Loaded;
-use reg_checkpoint::Regs;
+use reg_checkpoint::{Regs, State};
+use rv_code::{Code, start_state};
 use std::alloc::Global;
 use std::marker::Model;
-use tcc_base::{Commit, Config, CoreEnd, CoreId, List, Load, NoMemory, Reg, Stored, Tid, WordAddr};
+use tcc_base::{Commit, Config, CoreEnd, CoreId, List, Load, NoMemory, Stored, Tid, WordAddr};
 
 /// Which core executes how many instructions under which TID.
 #[derive(Clone, Copy, Debug, PartialEq, Eq)]
@@ -56,8 +56,7 @@ pub enum SerialFault {
 /// A core of the plain machine between two transactions.
 #[derive(Debug, Drop)]
 pub struct CoreState {
-    pub regs: Regs,
-    pub pc: u32,
+    pub state: State,
     pub ended: CoreEnd,
     pub console: List<u8>,
 }
@@ -82,27 +81,11 @@ impl Model for Plain {
     ghost invariant = { λ p. (4 * length p.memory.ram ≡ p.code.settings.ram) × (p.memory.waiting ≡ []) × (length p.cores ≡ p.code.settings.cores) };
 }
 
-/// The registers of a core at its start: x10 is its number, x11 the number of cores, all others are zero.
-#[tactic(auto, unfolding(crate::specs::Machine::start_regs))]
-pub fn start_regs(cores: u8, core: u8) -> Regs
-    ensures { result ≡ start_regs cores core }
-{
-    let mut regs = Regs::new();
-    if let Some(x10) = Reg::new(10) {
-        regs.set(x10, core as u32);
-    }
-    if let Some(x11) = Reg::new(11) {
-        regs.set(x11, cores as u32);
-    }
-    regs
-}
-
 fn start_core(alloc: Global, cores: u8, core: u8, entry: u32) -> CoreState
     ensures { core_of result ≡ start_core cores core entry }
 {
     CoreState {
-        regs: start_regs(cores, core),
-        pc: entry,
+        state: start_state(cores, core, entry),
         ended: CoreEnd::Run,
         console: List::new(alloc),
     }
@@ -113,8 +96,7 @@ fn copy_core(alloc: Global, core: &CoreState) -> Result<CoreState, NoMemory>
 {
     let console = core.console.items.to_vec(alloc).map_err(|_| NoMemory)?;
     Ok(CoreState {
-        regs: core.regs,
-        pc: core.pc,
+        state: core.state,
         ended: core.ended,
         console: List { items: console },
     })
@@ -141,7 +123,7 @@ impl Plain {
         ensures started { IfOk result (λ p. plain_of p ≡ plain_start (started loaded.now)) }
     {
         let copy = loaded.copy()?;
-        let code = Code::new(copy);
+        let code = Code::new(alloc, copy)?;
         let memory = Memory::new(alloc, &code)?;
         let mut cores = List::new(alloc);
         for core in 0..config.cores() {
@@ -164,7 +146,7 @@ impl Plain {
     pub(crate) fn copy(&self) -> Result<Plain, NoMemory>
         ensures { IfOk result (λ p. p ≡ self.now) }
     {
-        let code = self.code.copy()?;
+        let code = self.code.copy(self.alloc)?;
         let memory = self.memory.copy(self.alloc)?;
         let cores = copy_cores(self.alloc, &self.cores.items)?;
         Ok(Plain {
@@ -186,17 +168,17 @@ impl Plain {
     /// A core's registers. Takes no memory.
     pub fn regs(&self, core: CoreId) -> &Regs
         requires { core.0 < self.now.loaded.settings.cores }
-        ensures { result.now ≡ (slice_index_or self.now.cores core.0 no_state).regs }
+        ensures { result.now ≡ (slice_index_or self.now.cores core.0 no_state).state.regs }
     {
-        &self.cores.items[core.0 as usize].regs
+        self.cores.items[core.0 as usize].state.regs()
     }
 
     /// A core's pc. Takes no memory.
     pub fn pc(&self, core: CoreId) -> u32
         requires { core.0 < self.now.loaded.settings.cores }
-        ensures { result ≡ (slice_index_or self.now.cores core.0 no_state).pc }
+        ensures { result ≡ (slice_index_or self.now.cores core.0 no_state).state.pc }
     {
-        self.cores.items[core.0 as usize].pc
+        self.cores.items[core.0 as usize].state.pc()
     }
 
     /// How a core stands. Takes no memory.
@@ -301,7 +283,7 @@ fn transact(
     ensures state_unchanged { OnErr result (state.new ≡ state.old) }
     ensures memory_unchanged { OnErr result (memory.new ≡ memory.old) }
 {
-    let mut attempt = Attempt::begin(alloc, state.regs, state.pc);
+    let mut attempt = Attempt::begin(alloc, &state.state);
     match attempt.run(memory, code, n) {
         Err(fault) => {
             memory.discard();
@@ -318,8 +300,7 @@ fn close(
     end: CoreEnd,
 ) -> Result<Done, PlainFault>
     ensures state { OnOk result (state.new ≡ record {
-      regs = attempt.regs;
-      pc = attempt.pc;
+      state = attempt.state;
       ended = end;
       console = state.old.console ++ attempt.console;
     }) }
@@ -342,8 +323,7 @@ fn close(
         }
         Ok(()) => {
             memory.publish();
-            state.regs = attempt.regs;
-            state.pc = attempt.pc;
+            state.state = attempt.state;
             state.ended = end;
             Ok(Done {
                 loads: attempt.loads,

@@ -4,7 +4,8 @@ use Rattle.std.specs.Prelude.{ℕ, ◌≡◌, ◌<◌, Bool, true, false, map, O
 use Rattle.std.proofs.Common.{arith, refl, ap, sym, ◌∙◌}
 use Rattle.std.proofs.lemmas.Bool.Decides.{nat_tests}
 use Rattle.image_load.specs.Start.{Start}
-use Rattle.rv_plain.specs.Machine.{program, plain_start, first_ram, start_core, core_at_start, no_core}
+use Rattle.rv_code.specs.Machine.{program, first_ram}
+use Rattle.rv_plain.specs.Machine.{plain_start, start_core, core_at_start, no_core}
 use Rattle.tcc_program.specs.Cores.{printed, AgreeOn, with_others, and_others}
 use Rattle.tcc_program.specs.Orders.{order_of_commit}
 use Rattle.tcc_program.specs.Plain.{Plain}

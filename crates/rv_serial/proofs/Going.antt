@@ -6,7 +6,7 @@ use Rattle.std.proofs.Common.{arith}
 use Rattle.std.proofs.lemmas.Bool.Decides.{nat_tests}
 use Rattle.std.proofs.lemmas.Nat.{ones_le_self}
 use Rattle.image_load.specs.Start.{Start}
-use Rattle.rv_plain.specs.Machine.{program, first_ram}
+use Rattle.rv_code.specs.Machine.{program, first_ram}
 use Rattle.tcc_base.specs.Settings.{IsAllowed}
 use Rattle.tcc_live.specs.Progress.{IsEquipped}
 use Rattle.tcc_live.proofs.Lemmas.{no_state_is_stuck, each_core_goes_on, picked_ends_done}

@@ -10,7 +10,7 @@ use Rattle.image_load.specs.Start.{start as image_load-start}
 use Rattle.rv_decode.specs.Decoding.{inst_of, decoded}
 use Rattle.rv_exec.specs.Effects.{planned, results, finished}
 use Rattle.rv_exec.specs.Running.{program as rv_exec-program}
-use Rattle.rv_plain.specs.Machine.{program, first_ram, in_ram, start_regs}
+use Rattle.rv_code.specs.Machine.{program, first_ram, in_ram, start_regs}
 use Rattle.tcc_base.specs.Settings.{Keeps}
 use Rattle.tcc_base.specs.declared.config.Limit.TheVariants.{Cores, Dirs, Sets, Ways, Ram, Base}
 use Rattle.tcc_program.specs.Cores.{printed}

@@ -2,7 +2,7 @@
 use Rattle.std.specs.Prelude.{◌<◌, ◌/◌, ◌%◌, ◌^◌, Bool, true, false, if◌then◌else◌, nat_lt}
 use Rattle.std.proofs.Common.{arith}
 use Rattle.image_load.specs.Start.{Start}
-use Rattle.rv_plain.specs.Machine.{program, first_ram}
+use Rattle.rv_code.specs.Machine.{program, first_ram}
 use Rattle.tcc_attempt.specs.Follows.{IsSmall}
 use Rattle.tcc_serial.proofs.Lemmas.{runs_are_serial}
 use Rattle.rv_serial.specs.Suiting.{local_at_start, RiscvProgramsSuit, RiscvRunsAreSerial}

@@ -4,17 +4,18 @@ use Rattle.std.proofs.Common.{arith, refl}
 use Rattle.std.proofs.lemmas.Bool.Decides.{nat_tests}
 use Rattle.rv_decode.specs.Decoding.{decoded}
 use Rattle.rv_decode.specs.declared.instruction.Inst.{Inst}
-use Rattle.rv_decode.specs.declared.instruction.Inst.TheVariants.{Lui, Auipc, Jal, Jalr, Branch, Load, Store, OpImm, Op, Fence, Ecall, Ebreak}
-use Rattle.rv_exec.specs.Effects.{planned, target_of, lands, load_need, store_need, call_need, size_read}
-use Rattle.rv_exec.specs.Running.{bounded, need_of_inst, need_of_word, program as rv32im_program}
+use Rattle.rv_decode.specs.declared.instruction.Inst.TheVariants.{Lui, Auipc, Jal, Jalr, Branch, Load, Store, OpImm, Op, Fence, Lr, Sc, Amo, Ecall, Ebreak}
+use Rattle.rv_exec.specs.Effects.{planned, target_of, lands, load_need, store_need, is_reserved, conditional_need, change_need, call_need, size_read}
+use Rattle.rv_exec.specs.Operations.{amo_result}
+use Rattle.rv_exec.specs.Running.{bounded, need_of_inst, need_of_word, program as rv32ima_program}
 use Rattle.rv_exec.specs.Words.{displaced}
-use Rattle.rv_plain.specs.Machine.{in_ram, program}
+use Rattle.rv_code.specs.Machine.{in_ram, program}
 use Rattle.image_load.specs.Start.{Start}
 use Rattle.tcc_base.specs.Bytes.{bytes_of}
 use Rattle.tcc_base.specs.Settings.{Settings}
 use Rattle.tcc_base.specs.declared.access.Size.{Size}
 use Rattle.tcc_base.specs.declared.access.Size.TheVariants.{Byte, Half, Word}
-use Rattle.tcc_program.specs.Program.{Need, Nothing, Loads, Stores, Changes, Prints, Ends, Halts, Traps}
+use Rattle.tcc_program.specs.Program.{Local, Need, Nothing, Loads, Stores, Changes, Prints, Ends, Halts, Traps}
 use Rattle.tcc_program.specs.Registers.{register}
 use Rattle.tcc_program.specs.Ram.{word_of}
 use Rattle.tcc_attempt.specs.Follows.{NeedFits, Fits}
@@ -58,20 +59,38 @@ call-fits x17 x10 = go (x17 == 0) (x17 == 1) (x17 == 93)
     go false false true = tt
     go false false false = tt
 
-planned-fits : (inst : Inst) (regs : List ℕ) (pc : ℕ) → NeedFits (planned inst regs pc)
+conditional-fits : (reserved : Option ℕ) (addr value : ℕ) → NeedFits (conditional_need reserved addr value)
+conditional-fits reserved addr value = go (addr % 4 == 0) refl (is_reserved reserved addr)
+  where
+    go : (b : Bool) → (addr % 4 == 0) ≡ b → (c : Bool) → NeedFits (if b then (if c then Stores addr Word (value % 2 ^ 32) else Nothing) else Traps 6)
+    go true e true = (grind (arith, nat_tests), low-bytes value Word)
+    go true e false = tt
+    go false e c = tt
+
+change-fits : (addr : ℕ) (changed : ℕ → ℕ) → NeedFits (change_need addr changed)
+change-fits addr changed = go (addr % 4 == 0) refl
+  where
+    go : (b : Bool) → (addr % 4 == 0) ≡ b → NeedFits (if b then Changes addr changed else Traps 6)
+    go true e = grind (arith, nat_tests)
+    go false e = tt
+
+planned-fits : (inst : Inst) (l : Local) → NeedFits (planned inst l)
 unfolding planned
-planned-fits (Lui rd imm) regs pc = tt
-planned-fits (Auipc rd imm) regs pc = tt
-planned-fits (Jal rd offset) regs pc = lands-fits (target_of (Jal rd offset) regs pc)
-planned-fits (Jalr rd rs1 imm) regs pc = lands-fits (target_of (Jalr rd rs1 imm) regs pc)
-planned-fits (Branch cond rs1 rs2 offset) regs pc = lands-fits (target_of (Branch cond rs1 rs2 offset) regs pc)
-planned-fits (Load kind rd rs1 imm) regs pc = load-fits (displaced (register regs rs1) imm) (size_read kind)
-planned-fits (Store size rs1 rs2 imm) regs pc = store-fits (displaced (register regs rs1) imm) size (register regs rs2)
-planned-fits (OpImm op rd rs1 imm) regs pc = tt
-planned-fits (Op op rd rs1 rs2) regs pc = tt
-planned-fits (Fence hints) regs pc = tt
-planned-fits Ecall regs pc = call-fits (register regs 17) (register regs 10)
-planned-fits Ebreak regs pc = tt
+planned-fits (Lui rd imm) l = tt
+planned-fits (Auipc rd imm) l = tt
+planned-fits (Jal rd offset) l = lands-fits (target_of (Jal rd offset) l)
+planned-fits (Jalr rd rs1 imm) l = lands-fits (target_of (Jalr rd rs1 imm) l)
+planned-fits (Branch cond rs1 rs2 offset) l = lands-fits (target_of (Branch cond rs1 rs2 offset) l)
+planned-fits (Load kind rd rs1 imm) l = load-fits (displaced (register l.regs rs1) imm) (size_read kind)
+planned-fits (Store size rs1 rs2 imm) l = store-fits (displaced (register l.regs rs1) imm) size (register l.regs rs2)
+planned-fits (OpImm op rd rs1 imm) l = tt
+planned-fits (Op op rd rs1 rs2) l = tt
+planned-fits (Fence hints) l = tt
+planned-fits (Lr rd rs1 order) l = load-fits (register l.regs rs1) Word
+planned-fits (Sc rd rs1 rs2 order) l = conditional-fits l.reserved (register l.regs rs1) (register l.regs rs2)
+planned-fits (Amo op rd rs1 rs2 order) l = change-fits (register l.regs rs1) (λ old. amo_result op old (register l.regs rs2))
+planned-fits Ecall l = call-fits (register l.regs 17) (register l.regs 10)
+planned-fits Ebreak l = tt
 
 bounded-fits : (inside : ℕ → Size → Bool) (n : Need) → NeedFits n → NeedFits (bounded inside n)
 bounded-fits inside Nothing f = tt
@@ -96,12 +115,12 @@ bounded-fits inside (Halts code) f = tt
 bounded-fits inside (Traps code) f = tt
 
 pub needs-fit : (s : Start) → Fits (program s)
-unfolding program rv32im_program
+unfolding program rv32ima_program
 needs-fit s l = at (s.fetch l.pc)
   where
     by_inst : (i : Option Inst) → NeedFits (need_of_inst (in_ram s.settings) l i)
     by_inst None = tt
-    by_inst (Some i) = bounded-fits (in_ram s.settings) (planned i l.regs l.pc) (planned-fits i l.regs l.pc)
+    by_inst (Some i) = bounded-fits (in_ram s.settings) (planned i l) (planned-fits i l)
 
     at : (w : Option ℕ) → NeedFits (need_of_word (in_ram s.settings) l w)
     at None = tt
@@ -138,12 +157,12 @@ bounded-inside s (Halts code) r = tt
 bounded-inside s (Traps code) r = tt
 
 pub needs-inside : (s : Start) → s.settings.ram % 32 ≡ 0 → StaysInMemory s.settings (program s)
-unfolding program rv32im_program
+unfolding program rv32ima_program
 needs-inside s r l = at (s.fetch l.pc)
   where
     by_inst : (i : Option Inst) → NeedInMemory s.settings (need_of_inst (in_ram s.settings) l i)
     by_inst None = tt
-    by_inst (Some i) = bounded-inside s.settings (planned i l.regs l.pc) r
+    by_inst (Some i) = bounded-inside s.settings (planned i l) r
 
     at : (w : Option ℕ) → NeedInMemory s.settings (need_of_word (in_ram s.settings) l w)
     at None = tt

@@ -3,7 +3,7 @@
 use Rattle.std.specs.Prelude.{ℕ, ◌≡◌, List, [], ◌∷◌, ◌++◌, replicate, Some, None, option_map}
 use Rattle.image_load.specs.Raw.{raw_images, raw_fault}
 use Rattle.image_load.specs.Start.{Start, start}
-use Rattle.rv_plain.specs.Machine.{program, first_ram}
+use Rattle.rv_code.specs.Machine.{program, first_ram}
 use Rattle.tcc_base.specs.Settings.{IsAllowed}
 use Rattle.tcc_base.specs.declared.access.CoreEnd.TheVariants.{Halt}
 use Rattle.tcc_program.specs.Plain.{PlainCore}

@@ -2,7 +2,8 @@
 -- another from the same start.
 use Rattle.std.specs.Prelude.{ℕ, ◌≡◌, ◌≤◌, List, map, Contains, Some, nat_lt, if◌then◌else◌}
 use Rattle.image_load.specs.Start.{Start}
-use Rattle.rv_plain.specs.Machine.{program, plain_start, first_ram, no_core}
+use Rattle.rv_code.specs.Machine.{program, first_ram}
+use Rattle.rv_plain.specs.Machine.{plain_start, no_core}
 use Rattle.tcc_base.specs.Settings.{IsAllowed}
 use Rattle.tcc_base.specs.declared.access.Commit.{Commit}
 use Rattle.tcc_maps.specs.Nodes.{Event}

@@ -1,7 +1,7 @@
 -- What is claimed of the progress of the RISC-V programs that the machine runs: from a start with allowed settings no state is stuck.
 use Rattle.std.specs.Prelude.{ℕ, ◌<◌, List, length}
 use Rattle.image_load.specs.Start.{Start}
-use Rattle.rv_plain.specs.Machine.{program}
+use Rattle.rv_code.specs.Machine.{program}
 use Rattle.tcc_base.specs.Settings.{IsAllowed}
 use Rattle.tcc_live.specs.Progress.{DoneWhereNoneUseful, EachGoesOn}
 use Rattle.tcc_maps.specs.Nodes.{Event}

@@ -2,7 +2,7 @@
 -- shape of a machine is its settings.
 use Rattle.std.specs.Prelude.{ℕ, List, IfSome}
 use Rattle.image_load.specs.Start.{Start}
-use Rattle.rv_plain.specs.Machine.{program, first_ram, start_local}
+use Rattle.rv_code.specs.Machine.{program, first_ram, start_local}
 use Rattle.tcc_base.specs.Settings.{IsAllowed}
 use Rattle.tcc_maps.specs.Nodes.{Event}
 use Rattle.tcc_program.specs.Program.{Local}

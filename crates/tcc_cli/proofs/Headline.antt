@@ -5,7 +5,8 @@ use Rattle.image_load.specs.Start.{Start}
 use Rattle.net_core.proofs.Serial.{runs_serial}
 use Rattle.net_core.specs.Agreement.{IsSerial}
 use Rattle.net_core.specs.Rules.{is_done}
-use Rattle.rv_plain.specs.Machine.{program, plain_start}
+use Rattle.rv_code.specs.Machine.{program}
+use Rattle.rv_plain.specs.Machine.{plain_start}
 use Rattle.tcc_base.specs.Settings.{Settings}
 use Rattle.tcc_cli.specs.Asked.{HasSettings, Texts}
 use Rattle.tcc_cli.specs.Images.{start_of}

@@ -3,7 +3,7 @@ use Rattle.std.proofs.Common.{ℕ, zero, suc, ◌≡◌, ◌+◌, ◌-◌, ◌�
 use Rattle.image_load.specs.Contents.{Contents, started}
 use Rattle.net_core.specs.Agreement.{start}
 use Rattle.net_core.specs.Rules.{Machine, run, step}
-use Rattle.rv_plain.specs.Machine.{program}
+use Rattle.rv_code.specs.Machine.{program}
 use Rattle.tcc_cli.specs.Runs.{run_of}
 use Rattle.tcc_program.specs.Program.{Program}
 

@@ -2,7 +2,7 @@
 use Rattle.std.proofs.Common.{ℕ, zero, suc, ◌≡◌, ◌+◌, true, false, refl, sym, ◌∙◌, ap, arith, add-zero, zero-add}
 use Rattle.net_core.specs.Agreement.{start}
 use Rattle.net_core.specs.Rules.{Machine, run, step, act, or_stay, phase_of, is_halted, is_done}
-use Rattle.rv_plain.specs.Machine.{program}
+use Rattle.rv_code.specs.Machine.{program}
 use Rattle.tcc_base.specs.declared.access.CoreEnd.{CoreEnd}
 use Rattle.tcc_base.specs.declared.access.CoreEnd.TheVariants.{Run, Halt, Trap}
 use Rattle.tcc_cli.specs.Runs.{run_of, OpenRunsTakeAllEvents}

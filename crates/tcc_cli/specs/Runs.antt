@@ -6,7 +6,8 @@ use Rattle.net_core.specs.Rules.{Machine, run, is_done}
 use Rattle.report_text.specs.Plain.{shown_plain}
 use Rattle.report_text.specs.Shown.{Shown}
 use Rattle.report_text.specs.Text.{report_text}
-use Rattle.rv_plain.specs.Machine.{program, plain_start}
+use Rattle.rv_code.specs.Machine.{program}
+use Rattle.rv_plain.specs.Machine.{plain_start}
 
 -- the run of the rules for at most so many events
 unfoldable pub run_of : Start → (steps : ℕ) → Machine

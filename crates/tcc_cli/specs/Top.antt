@@ -3,7 +3,8 @@ use Rattle.std.specs.Prelude.{ℕ, Bool, List, map, ◌≡◌, ◌↔◌, ◌⊎
 use Rattle.image_load.specs.Start.{Start}
 use Rattle.net_core.specs.Agreement.{IsSerial}
 use Rattle.net_core.specs.Rules.{is_done}
-use Rattle.rv_plain.specs.Machine.{program, plain_start}
+use Rattle.rv_code.specs.Machine.{program}
+use Rattle.rv_plain.specs.Machine.{plain_start}
 use Rattle.tcc_cli.specs.Asked.{Asked, IsCommand}
 use Rattle.tcc_cli.specs.Images.{start_of, fault_of}
 use Rattle.tcc_cli.specs.Lines.{Written, IsTold, IsCut, IsWhole, IsSilent}

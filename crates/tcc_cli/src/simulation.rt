@@ -4,14 +4,14 @@ ghost use Rattle.std.specs.String.{string_bytes};
 ghost use Rattle.image_load.specs.Contents.{started};
 ghost use Rattle.net_core.specs.Rules.{run, is_done};
 ghost use Rattle.net_core.specs.SystemState.{machine_of};
-ghost use Rattle.rv_plain.specs.Machine.{program};
+ghost use Rattle.rv_code.specs.Machine.{program};
 ghost use Rattle.tcc_cli.specs.Runs.{run_of, text_of};
 ghost use Rattle.tcc_program.specs.Ram.{flat};
 
 use image_load::Loaded;
 use net_core::{StepError, System};
 use report_text::{CoreShown, Ending, Words, report};
-use rv_plain::Code;
+use rv_code::Code;
 use std::alloc::Global;
 use tcc_base::{Config, CoreId, NoMemory, WordAddr};
 use tcc_msg::Event;

@@ -1,4 +1,5 @@
 // The program's answers and texts, over files and outputs in memory.
+mod atomics;
 mod files;
 mod outputs;
 mod runs;

@@ -1,6 +1,7 @@
 // Raw images and their reports.
 use super::{AMPLE, answer};
 use std::alloc::{AllocError, Global};
+use std::process::Abort;
 use std::test::Fail;
 
 /// An image's bytes.
@@ -13,11 +14,11 @@ pub(crate) fn bytes(alloc: Global, image: &[u32]) -> Result<Vec<u8>, AllocError>
 }
 
 /// One row: the number of events in words, the image's words, the status and the report.
-struct Row {
-    steps: &'static str,
-    image: &'static [u32],
-    status: u8,
-    report: &'static str,
+pub(crate) struct Row {
+    pub steps: &'static str,
+    pub image: &'static [u32],
+    pub status: u8,
+    pub report: &'static str,
 }
 
 pub const STORE: &[u32] = &[
@@ -93,10 +94,9 @@ const ROWS: [Row; 10] = [
     },
 ];
 
-#[test]
-fn images_run_to_their_reports(rt: HostRuntime) -> Result<(), Fail> {
-    let alloc = rt.alloc();
-    for row in &ROWS {
+/// Each image runs to its report.
+pub(crate) fn run_to_reports(rt: &impl Abort, alloc: Global, rows: &[Row]) -> Result<(), Fail> {
+    for row in rows {
         let image = bytes(alloc, row.image)?;
         let words = ["run", "raw", "1", "1", "16", "2", row.steps, "a"];
         let given = answer(alloc, &words, &image, AMPLE)?;
@@ -105,4 +105,9 @@ fn images_run_to_their_reports(rt: HostRuntime) -> Result<(), Fail> {
         assert_eq!(rt; given.err.len(), 0);
     }
     Ok(())
+}
+
+#[test]
+fn images_run_to_their_reports(rt: HostRuntime) -> Result<(), Fail> {
+    run_to_reports(&rt, rt.alloc(), &ROWS)
 }

@@ -2,7 +2,7 @@ use Rattle.std.proofs.Common.{◌≡◌, ◌≤◌, ◌+◌, Some, None, Err, re
 use Rattle.image_load.specs.Contents.{started}
 use Rattle.net_core.specs.Rules.{run, step}
 use Rattle.net_core.specs.SystemState.{machine_of}
-use Rattle.rv_plain.specs.Machine.{program}
+use Rattle.rv_code.specs.Machine.{program}
 use Rattle.tcc_cli.proofs.Running.{run-more, run-rests}
 use Rattle.tcc_cli.proofs.simulation.run_for.Goals as goal
 

@@ -2,7 +2,7 @@ use Rattle.std.proofs.Common.{◌≡◌}
 use Rattle.image_load.specs.Contents.{started}
 use Rattle.net_core.specs.Rules.{run}
 use Rattle.net_core.specs.SystemState.{machine_of}
-use Rattle.rv_plain.specs.Machine.{program}
+use Rattle.rv_code.specs.Machine.{program}
 use Rattle.tcc_cli.proofs.simulation.run_for.Given as goal
 
 abbrev pub invariant-loop-k : goal.invariant-loop-k

@@ -12,14 +12,14 @@ returns-clause-started c =
     rw (
       c.begin.ensures,
       c.save.ensures,
-      c.start_regs-regs.ensures,
+      c.start_state-state.ensures,
       c.in_ok-memory.ensures.ram,
       c.in_ok-memory.ensures.buffer,
-      c.new-code.ensures,
+      c.in_ok-code.ensures,
       c.in_ok-copy.ensures,
       c.entry-entry.ensures,
       c.cores.ensures.value,
       c.requires,
-      c.new-2.ensures,
-      c.new-3.ensures.items,
+      c.new-3.ensures,
+      c.new-4.ensures.items,
     ) refl

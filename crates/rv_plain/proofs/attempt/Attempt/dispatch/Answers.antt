@@ -9,8 +9,11 @@ pub returns-in-Err-clause-does : goal.returns-in-Err-clause-does
 unfolding attempt_of
 returns-in-Err-clause-does c =
     let at = c.args.code.now in
-    rw (buffered_step-failed at.settings.base (started at) (attempt_of c.args.self.now c.args.memory.now Goes) c.in-Err.trap c.in-Err.ensures)
-    refl
+    rw (
+      buffered_step-failed at.settings.base (started at) (attempt_of c.args.self.now c.args.memory.now Goes) c.in-Err.trap c.in-Err.ensures,
+      c.end.ensures.state,
+      c.end.ensures.outcome,
+    ) refl
 
 pub returns-in-Ok-clause-does : goal.returns-in-Ok-clause-does
 unfolding attempt_of started

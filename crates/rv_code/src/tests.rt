@@ -1,0 +1,43 @@
+// The instructions of a program of two words, and what lies beside them.
+use crate::{Code, start_state};
+use image_load::{load, raw};
+use rv_decode::Inst;
+use rv_exec::Need;
+use std::test::Fail;
+use tcc_base::{Config, CoreId, List, Reg, WordAddr};
+
+const IMAGE: [u8; 8] = [
+    0x73, 0x00, 0x00, 0x00, // ecall
+    0xff, 0xff, 0xff, 0xff, // in no row of the table
+];
+
+#[test]
+fn finds_instructions_and_traps(rt: HostRuntime) -> Result<(), Fail> {
+    let alloc = rt.alloc();
+    let config = Config::new(2, 1, 16, 2, 0x8000_0000, 65_536)?;
+    let file = List {
+        items: IMAGE.to_vec(alloc)?,
+    };
+    let images = raw(alloc, &config, &[file])?;
+    let code = Code::new(alloc, load(alloc, &config, &images)?)?;
+    let mut state = start_state(2, 1, code.entry(CoreId(1)));
+    let x10 = Reg::new(10).ok_or("x10")?;
+    let x11 = Reg::new(11).ok_or("x11")?;
+    assert_eq!(rt; (state.get(x10), state.get(x11)), (1, 2));
+    assert_eq!(rt; code.inst(&state), Ok(Inst::Ecall));
+    assert_eq!(rt; code.plan(&Inst::Ecall, &state), Need::End);
+    let rows = [
+        (0x8000_0004, Err(2)),
+        (0x8000_0008, Err(1)),
+        (0x8000_0001, Err(2)),
+        (0x7fff_fffc, Err(1)),
+        (0x8001_0000, Err(1)),
+    ];
+    for (pc, found) in rows {
+        state.go_to(pc);
+        assert_eq!(rt; code.inst(&state), found);
+    }
+    let copy = code.copy(alloc)?;
+    assert_eq!(rt; copy.word(WordAddr(1)), 0xffff_ffff);
+    Ok(())
+}
