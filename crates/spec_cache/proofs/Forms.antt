@@ -1,6 +1,6 @@
 -- What both forms of the frames show: their ways are in order at the start, after a change, and a search finds a line.
 use Rattle.std.proofs.Common.{ℕ, suc, zero, ◌+◌, ◌*◌, ◌/◌, ◌%◌, ◌<◌, ◌≤◌, ◌≡◌, ◌≢◌, Bool, true, false, not, cond, ◌⊎◌, inl, inr, List, [], ◌∷◌, ◌++◌, length, get_or, set, take, drop, map, replicate, Option, Some, None, is_some, refl, sym, ◌∙◌, ap, subst, arith, length-drop}
-use Rattle.std.specs.Option.{option_map}
+use Rattle.std.specs.Option.{option_map, MatchOption}
 use Rattle.std.proofs.lemmas.Bool.{cases_Bool}
 use Rattle.std.proofs.lemmas.List.{length-map, length-replicate, take-append-le, take_all}
 use Rattle.tcc_base.specs.Settings.{Settings, IsAllowed}
@@ -94,6 +94,13 @@ module _ (h : Held) (s : IsHeld h) (l : ℕ) where
 
   pub found_here : (i : ℕ) (f : FrameView) → get_or h.frames i None ≡ Some f → f.line.0 ≡ l → IsWayOf h l (i, f)
   found_here i f p e = record { inside = some_within h.frames i f p; here = p; line = e }
+
+  -- what a search in the line's set finds
+  pub found_set : (first : ℕ) → first ≡ l % h.config.sets * h.config.ways → (o : Option (ℕ × FrameView)) →
+      MatchOption o ((j : ℕ) → first ≤ j → j < first + h.config.ways → holds_line l (get_or h.frames j None) ≡ false) (λ p. (get_or h.frames p.0 None ≡ Some p.1) × (p.1.line.0 ≡ l)) →
+      MatchOption o (frame_of h.frames l ≡ None) (λ p. IsWayOf h l p)
+  found_set first e None m = absent_set first e m
+  found_set first e (Some p) m = found_here p.0 p.1 m.0 m.1
 
 -- no way of the list holds the line
 pub absent_all : (fs : List (Option FrameView)) (n l : ℕ) → length fs ≤ n → ((j : ℕ) → j < n → holds_line l (get_or fs j None) ≡ false) → frame_of fs l ≡ None

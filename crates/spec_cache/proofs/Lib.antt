@@ -21,3 +21,4 @@ pub mod NotedWays
 pub mod Indexed
 pub mod Counted
 pub mod Counts
+pub mod Tallied

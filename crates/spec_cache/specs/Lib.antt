@@ -4,4 +4,5 @@ pub mod Held
 pub mod Look
 pub mod Home
 pub mod Useful
+pub mod Tracked
 pub mod Places

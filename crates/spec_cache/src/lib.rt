@@ -4,6 +4,7 @@
 mod cache;
 mod frame;
 mod frames;
+mod home_counts;
 mod list_frames;
 mod look;
 mod marks;
@@ -13,6 +14,7 @@ mod places;
 mod readers;
 mod set_frames;
 mod slots;
+mod tracked;
 mod useful;
 mod ways;
 

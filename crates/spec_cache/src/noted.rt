@@ -1,39 +1,26 @@
 // Changes and searches of the ways at noted places alone.
-ghost use Rattle.std.specs.Prelude.{◌≡◌, ◌<◌, ℕ, length, get_or, Option, Some, None, Contains, IfOk, MatchBool, true, false};
+ghost use Rattle.std.specs.Prelude.{◌≡◌, ◌<◌, ℕ, length, get_or, Option, Some, None, Contains, IfOk, true};
 ghost use Rattle.spec_cache.specs.Frame.{marked_in};
 ghost use Rattle.spec_cache.specs.Change.{all_changed};
-ghost use Rattle.spec_cache.specs.Home.{reads_in, written_found, Collects};
+ghost use Rattle.spec_cache.specs.Home.{written_found, Collects};
 
 use crate::frame::{Change, FrameView};
-use crate::marks::{reads, written};
+use crate::marks::written;
 use crate::slots::changed;
+use crate::tracked::Tracked;
 use std::alloc::Global;
 use tcc_base::NoMemory;
 
 /// Changes all frames, where none is marked but at these places.
-pub(crate) fn change_at(ways: &mut [Option<FrameView>], places: &[usize], change: Change)
-    requires inside { (j : ℕ) → j < length places.now → get_or places.now j 0 < length ways.old }
-    requires marked { (i : ℕ) → marked_in (get_or ways.old i None) ≡ true → Contains places.now i }
-    ensures { ways.new ≡ all_changed change ways.old }
+pub(crate) fn change_at(ways: &mut Tracked, places: &[usize], change: Change)
+    requires inside { (j : ℕ) → j < length places.now → get_or places.now j 0 < length ways.old.frames }
+    requires marked { (i : ℕ) → marked_in (get_or ways.old.frames i None) ≡ true → Contains places.now i }
+    ensures { ways.new ≡ record ways.old { frames = all_changed change ways.old.frames } }
 {
     for at in places {
-        ways[*at] = changed(ways[*at], change);
+        let way = changed(ways.way(*at), change);
+        ways.put(*at, way);
     }
-}
-
-/// Whether a line at home there has a read mark, where none has but at these places.
-pub(crate) fn any_reads_in(ways: &[Option<FrameView>], places: &[usize], home: u8, dirs: u8) -> bool
-    requires dirs { 0 < dirs }
-    requires inside { (j : ℕ) → j < length places.now → get_or places.now j 0 < length ways.now }
-    requires marked { (i : ℕ) → marked_in (get_or ways.now i None) ≡ true → Contains places.now i }
-    ensures { MatchBool result ((i : ℕ) × (reads_in dirs home (get_or ways.now i None) ≡ true)) ((i : ℕ) → reads_in dirs home (get_or ways.now i None) ≡ false) }
-{
-    for at in places {
-        if reads(&ways[*at], home, dirs) {
-            return true;
-        }
-    }
-    false
 }
 
 /// The lines at home there that have a modified word, where none has but at these places.

@@ -10,9 +10,8 @@ ghost use Rattle.spec_cache.specs.Useful.{wants_of};
 
 use crate::cache::SpecCache;
 use crate::frames::{line_of_word, place_of_word};
-use crate::marks::written;
 use crate::masks::has;
-use crate::useful::{Wants, is_dirty};
+use crate::useful::Wants;
 use crate::ways::Ways;
 use tcc_base::{Config, DirId, LineAddr, Mask, NoMemory, WordAddr};
 
@@ -77,14 +76,7 @@ impl SpecCache {
     pub fn write_count(&self, d: DirId) -> u32
         ensures { result ≡ count_below (λ l. d.0 == home self.now.config l && modified_line (maps self.now) l) (lines self.now.config) }
     {
-        let dirs = self.frames.config().dirs();
-        let mut count = 0;
-        for at in 0..self.way_count() {
-            if written(&self.frames.way(at), d.0, dirs).is_some() {
-                count += 1;
-            }
-        }
-        count
+        self.frames.write_count(d) as u32
     }
 
     /// Whether a line at home at the directory has modified words.
@@ -107,13 +99,7 @@ impl SpecCache {
     pub fn any_dirty(&self) -> bool
         ensures { result ≡ any_below (dirty_line (maps self.now)) (lines self.now.config) }
     {
-        let mut count = 0usize;
-        for at in 0..self.way_count() {
-            if is_dirty(&self.frames.way(at)) {
-                count += 1;
-            }
-        }
-        count != 0
+        self.frames.dirty_count() != 0
     }
 
     /// How many ways may be emptied with use.

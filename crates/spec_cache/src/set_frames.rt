@@ -1,11 +1,14 @@
 // The frames of a cache in one array, a line's frame among the ways of its set.
-ghost use Rattle.std.specs.Prelude.{◌≡◌, ◌*◌, replicate, Option, None, IfOk};
+ghost use Rattle.std.specs.Prelude.{◌≡◌, ◌*◌, ◌≤◌, replicate, Option, None, IfOk};
+ghost use Rattle.spec_cache.specs.Home.{reads_in};
+ghost use Rattle.spec_cache.specs.Useful.{writes_in, dirty_way};
+ghost use Rattle.spec_cache.specs.Tracked.{count_ways};
 
 use crate::frame::{Change, FrameView};
 use crate::frames::Frames;
-use crate::noted::{all_written_in, any_reads_in, change_at};
+use crate::noted::{all_written_in, change_at};
 use crate::places::Places;
-use crate::slots::{empty_ways, frame_for};
+use crate::tracked::Tracked;
 use crate::ways::{Ways, is_marked};
 use std::alloc::Global;
 use std::marker::Model;
@@ -15,21 +18,19 @@ use tcc_base::{Config, DirId, LineAddr, NoMemory};
 /// frames with marks are known by place, so that no call visits all of them.
 #[derive(Debug, Drop)]
 pub struct SetFrames {
-    config: Config,
-    frames: Vec<Option<FrameView>>,
+    ways: Tracked,
     marked: Places,
 }
 
 impl Model for SetFrames {
     ghost use Rattle.spec_cache.specs.Held.{Held};
+    ghost use Rattle.spec_cache.specs.Places.{IsIndexed};
 
     ghost Value = { Held };
 
-    ghost view = { λ s. record { config = s.config; frames = s.frames.items } };
+    ghost view = { λ s. s.ways };
 
-    ghost use Rattle.spec_cache.specs.Places.{IsIndexed};
-
-    ghost invariant = { λ s. IsIndexed (record { config = s.config; frames = s.frames.items }) s.marked };
+    ghost invariant = { λ s. IsIndexed s.ways s.marked };
 }
 
 impl SetFrames {
@@ -42,10 +43,26 @@ impl SetFrames {
     {
         let count = cfg.sets() as usize * cfg.ways() as usize;
         Ok(SetFrames {
-            config: *cfg,
-            frames: empty_ways(alloc, count)?,
+            ways: Tracked::new(alloc, cfg)?,
             marked: Places::new(alloc, count)?,
         })
+    }
+
+    /// The number of lines at home there with a modified word.
+    pub(crate) fn write_count(&self, home: DirId) -> usize
+        ensures number { result ≡ count_ways (writes_in self.now.config.dirs home.0) self.now.frames }
+        ensures small { result ≤ 16384 }
+        ensures in_order { IsHeld self.now }
+    {
+        self.ways.write_count(home.0)
+    }
+
+    /// The number of frames with a dirty word.
+    pub(crate) fn dirty_count(&self) -> usize
+        ensures number { result ≡ count_ways dirty_way self.now.frames }
+        ensures in_order { IsHeld self.now }
+    {
+        self.ways.dirty_count()
     }
 }
 
@@ -53,33 +70,29 @@ impl Ways for SetFrames {
     ghost held = { λ s. s };
 
     fn config(&self) -> Config {
-        self.config
+        self.ways.config()
     }
 
     fn find(&self, line: LineAddr) -> Option<(usize, FrameView)> {
-        let ways = self.config.ways() as usize;
-        let first = line.0 as usize % self.config.sets() as usize * ways;
-        for at in first..first + ways {
-            if let Some(frame) = frame_for(&self.frames[at], line) {
-                return Some((at, frame));
-            }
-        }
-        None
+        let cfg = self.ways.config();
+        let ways = cfg.ways() as usize;
+        let first = (line.0 % cfg.sets() as u32) as usize * ways;
+        self.ways.find_in(first, first + ways, line)
     }
 
     fn way(&self, at: usize) -> Option<FrameView> {
-        self.frames[at]
+        self.ways.way(at)
     }
 
     fn put(&mut self, at: usize, frame: Option<FrameView>) {
-        self.frames[at] = frame;
+        self.ways.put(at, frame);
         if is_marked(frame) {
             self.marked.note(at);
         }
     }
 
     fn change(&mut self, change: Change) {
-        change_at(&mut self.frames, self.marked.as_slice(), change);
+        change_at(&mut self.ways, self.marked.as_slice(), change);
         match change {
             Change::RollBack => self.marked.clear(),
             Change::ClearRead => {}
@@ -88,21 +101,16 @@ impl Ways for SetFrames {
     }
 
     fn any_reads_at(&self, home: DirId) -> bool {
-        any_reads_in(
-            &self.frames,
-            self.marked.as_slice(),
-            home.0,
-            self.config.dirs(),
-        )
+        self.ways.read_count(home.0) != 0
     }
 
     fn written_at(&self, home: DirId) -> Result<Vec<u32>, NoMemory> {
         all_written_in(
-            *self.frames.allocator(),
-            &self.frames,
+            self.ways.allocator(),
+            self.ways.frames(),
             self.marked.as_slice(),
             home.0,
-            self.config.dirs(),
+            self.ways.config().dirs(),
         )
     }
 }

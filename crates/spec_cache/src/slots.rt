@@ -38,6 +38,19 @@ pub(crate) fn empty_ways(alloc: Global, count: usize) -> Result<Vec<Option<Frame
     Ok(ways)
 }
 
+/// As many tags, of ways with no frame.
+pub(crate) fn no_tags(alloc: Global, count: usize) -> Result<Vec<u32>, NoMemory>
+    ensures { IfOk result (λ v. v.items ≡ replicate count 4294967295) }
+{
+    let Ok(mut tags) = Vec::with_capacity(alloc, count) else {
+        return Err(NoMemory);
+    };
+    for _ in 0..count {
+        tags.push_reserved(u32::MAX);
+    }
+    Ok(tags)
+}
+
 /// The way after a change of all frames.
 pub(crate) fn changed(way: Option<FrameView>, change: Change) -> Option<FrameView>
     ensures { result ≡ option_map (changed_frame change) way }

@@ -1,11 +1,11 @@
-use Rattle.std.proofs.Common.{◌∙◌, ◌*◌, ◌%◌, sym, ap, refl, arith}
-use Rattle.spec_cache.specs.Held.{Held, frame_of}
-use Rattle.spec_cache.proofs.Forms.{absent_set}
+use Rattle.std.proofs.Common.{◌≡◌, ◌∙◌, ◌*◌, ◌%◌, sym, ap, refl}
+use Rattle.tcc_base.specs.Settings.{Settings}
+use Rattle.spec_cache.proofs.Forms.{found_set}
 use Rattle.spec_cache.proofs.set_frames.SetFramesWays.find.Goals as goal
 
 pub returns-clause-found : goal.returns-clause-found
 returns-clause-found c =
-    ap (λ (h : Held). frame_of h.frames c.args.line.0) (sym c.self.view_is)
-    ∙ absent_set (record { config = c.self.inside.config; frames = c.self.inside.frames.items }) c.self.invariant.in_order c.args.line.0
-    (c.args.line.0 % c.sets.result * c.ways-ways.result) (rw (c.sets.ensures.value, c.ways-ways.ensures.value) refl)
-    (λ j low high. c.loop-at.invariant j low (omega (arith, high, c.ways-ways.ensures.value)))
+    let sets : c.sets.result ≡ c.self.inside.ways.config.sets = c.sets.ensures.value ∙ ap (λ (x : Settings). x.sets) c.config-cfg.ensures in
+    let ways : c.ways-ways.result ≡ c.self.inside.ways.config.ways = c.ways-ways.ensures.value ∙ ap (λ (x : Settings). x.ways) c.config-cfg.ensures in
+    rw (sym c.self.view_is) (found_set c.self.inside.ways c.self.invariant.in_order c.args.line.0
+      (c.args.line.0 % c.self.inside.ways.config.sets * c.self.inside.ways.config.ways) refl c.find_in.result (rw (sets, ways) at c.find_in.ensures))

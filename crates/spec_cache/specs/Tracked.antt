@@ -1,0 +1,38 @@
+-- What is counted of a cache's ways, and the line of each way apart from its frame.
+use Rattle.std.specs.Prelude.{ℕ, ◌%◌, ◌<◌, ◌≤◌, ◌≡◌, Bool, false, not, ◌==◌, List, length, get_or, map, Option, Some, None, if◌then◌else◌}
+use Rattle.tcc_maps.specs.Words.{count_below}
+use Rattle.spec_cache.specs.declared.frame.FrameView.{FrameView}
+use Rattle.spec_cache.specs.Home.{reads_in}
+use Rattle.spec_cache.specs.Useful.{writes_in, dirty_way}
+use Rattle.spec_cache.specs.Held.{Held}
+
+-- how many ways pass a test
+unfoldable pub count_ways : (Option FrameView → Bool) → List (Option FrameView) → ℕ
+count_ways q fs = count_below (λ i. q (get_or fs i None)) (length fs)
+
+-- the home of a way's line, where it has a modified word, a word that is marked read
+unfoldable pub written_home : ℕ → Option FrameView → Option ℕ
+written_home dirs None = None
+written_home dirs (Some f) = if not (f.modified.0 == 0) then Some (f.line.0 % dirs) else None
+
+unfoldable pub read_home : ℕ → Option FrameView → Option ℕ
+read_home dirs None = None
+read_home dirs (Some f) = if not (f.read.0 == 0) then Some (f.line.0 % dirs) else None
+
+-- there is a home, and it is this one
+abbrev pub is_home : Option ℕ → ℕ → Bool
+is_home None d = false
+is_home (Some m) d = d == m
+
+-- the line of a way, and where it holds none a number that no line has
+unfoldable pub tag_of : Option FrameView → ℕ
+tag_of None = 4294967295
+tag_of (Some f) = f.line.0
+
+-- the tags are those of the ways, and the numbers say by home how many ways are written and read, and how many are dirty
+pub record IsTracked (h : Held) (ts ws rs : List ℕ) (n : ℕ) : Type 0 where
+  pub tags : ts ≡ map tag_of h.frames
+  pub written : (d : ℕ) → d < 64 → get_or ws d 0 ≡ count_ways (writes_in h.config.dirs d) h.frames
+  pub read : (d : ℕ) → d < 64 → get_or rs d 0 ≡ count_ways (reads_in h.config.dirs d) h.frames
+  pub dirty : n ≡ count_ways dirty_way h.frames
+  pub small : length h.frames ≤ 16384

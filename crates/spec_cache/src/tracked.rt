@@ -1,0 +1,149 @@
+// The ways of a cache in one array: a change of one way keeps what is counted of all.
+ghost use Rattle.std.specs.Prelude.{◌≡◌, ◌*◌, ◌<◌, ◌≤◌, ℕ, length, get_or, set, replicate, Option, Some, None, MatchOption, IfOk, true, false};
+ghost use Rattle.spec_cache.specs.Frame.{holds_line};
+ghost use Rattle.spec_cache.specs.Home.{reads_in};
+ghost use Rattle.spec_cache.specs.Useful.{writes_in, dirty_way};
+ghost use Rattle.spec_cache.specs.Tracked.{count_ways};
+
+use crate::home_counts::{ByHome, one, read_home, recount, tag, written_home};
+use crate::frame::FrameView;
+use crate::slots::{empty_ways, frame_for, no_tags};
+use crate::useful::is_dirty;
+use std::alloc::Global;
+use std::marker::Model;
+use tcc_base::{Config, LineAddr, NoMemory};
+
+/// The ways of a cache, by place, with their lines apart, so that a search reads four bytes a way, and with the numbers of
+/// written and read ways by home and of dirty ways.
+#[derive(Debug, Drop)]
+pub struct Tracked {
+    config: Config,
+    frames: Vec<Option<FrameView>>,
+    tags: Vec<u32>,
+    written: ByHome,
+    read: ByHome,
+    dirty: usize,
+}
+
+impl Model for Tracked {
+    ghost use Rattle.spec_cache.specs.Held.{Held};
+    ghost use Rattle.spec_cache.specs.Tracked.{IsTracked};
+
+    ghost Value = { Held };
+
+    ghost view = { λ t. record { config = t.config; frames = t.frames.items } };
+
+    ghost invariant = { λ t. IsTracked (record { config = t.config; frames = t.frames.items }) t.tags.items t.written t.read t.dirty };
+}
+
+impl Tracked {
+    /// Empty ways for all sets.
+    pub(crate) fn new(alloc: Global, cfg: &Config) -> Result<Tracked, NoMemory>
+        ensures { IfOk result (λ t. t ≡ record { config = cfg.now; frames = replicate (cfg.now.sets * cfg.now.ways) None }) }
+    {
+        let count = cfg.sets() as usize * cfg.ways() as usize;
+        Ok(Tracked {
+            config: *cfg,
+            frames: empty_ways(alloc, count)?,
+            tags: no_tags(alloc, count)?,
+            written: [0; 64],
+            read: [0; 64],
+            dirty: 0,
+        })
+    }
+
+    /// The machine's settings.
+    pub(crate) fn config(&self) -> Config
+        ensures { result ≡ self.now.config }
+    {
+        self.config
+    }
+
+    /// What gives memory.
+    pub(crate) fn allocator(&self) -> Global {
+        *self.frames.allocator()
+    }
+
+    /// All ways.
+    pub(crate) fn frames(&self) -> &[Option<FrameView>]
+        ensures { result.now ≡ self.now.frames }
+    {
+        self.frames.as_slice()
+    }
+
+    /// The frame of a way; None exactly where it holds no line.
+    pub(crate) fn way(&self, at: usize) -> Option<FrameView>
+        requires { at < length self.now.frames }
+        ensures { result ≡ get_or self.now.frames at None }
+    {
+        self.frames[at]
+    }
+
+    /// Sets the frame of a way.
+    pub(crate) fn put(&mut self, at: usize, frame: Option<FrameView>)
+        requires { at < length self.old.frames }
+        ensures { self.new ≡ record self.old { frames = set self.old.frames at frame } }
+    {
+        let dirs = self.config.dirs();
+        let old = self.way(at);
+        recount(&mut self.written, written_home(&old, dirs), written_home(&frame, dirs));
+        recount(&mut self.read, read_home(&old, dirs), read_home(&frame, dirs));
+        self.dirty = self.dirty + one(is_dirty(&frame)) - one(is_dirty(&old));
+        self.tags[at] = tag(&frame);
+        self.frames[at] = frame;
+    }
+
+    /// The frame of a way, where it holds the line.
+    fn frame_at(&self, at: usize, line: LineAddr) -> Option<FrameView>
+        requires { at < length self.now.frames }
+        ensures { MatchOption result (holds_line line.0 (get_or self.now.frames at None) ≡ false) (λ f. (get_or self.now.frames at None ≡ Some f) × (f.line.0 ≡ line.0)) }
+    {
+        if self.tags[at] != line.0 {
+            return None;
+        }
+        frame_for(&self.frames[at], line)
+    }
+
+    /// The first way from `first` on, and before `end`, that holds the line.
+    pub(crate) fn find_in(&self, first: usize, end: usize, line: LineAddr) -> Option<(usize, FrameView)>
+        requires { end ≤ length self.now.frames }
+        ensures { MatchOption result ((j : ℕ) → first ≤ j → j < end → holds_line line.0 (get_or self.now.frames j None) ≡ false) (λ p. (get_or self.now.frames p.0 None ≡ Some p.1) × (p.1.line.0 ≡ line.0)) }
+    {
+        for at in first..end {
+            if let Some(frame) = self.frame_at(at, line) {
+                return Some((at, frame));
+            }
+        }
+        None
+    }
+
+    /// The number of ways that hold a line at home there with a modified word.
+    pub(crate) fn write_count(&self, home: u8) -> usize
+        ensures number { result ≡ count_ways (writes_in self.now.config.dirs home) self.now.frames }
+        ensures small { result ≤ 16384 }
+    {
+        if home < self.config.dirs() {
+            self.written[home as usize]
+        } else {
+            0
+        }
+    }
+
+    /// The number of ways that hold a line at home there with a word that is marked read.
+    pub(crate) fn read_count(&self, home: u8) -> usize
+        ensures { result ≡ count_ways (reads_in self.now.config.dirs home) self.now.frames }
+    {
+        if home < self.config.dirs() {
+            self.read[home as usize]
+        } else {
+            0
+        }
+    }
+
+    /// The number of ways with a dirty word.
+    pub(crate) fn dirty_count(&self) -> usize
+        ensures { result ≡ count_ways dirty_way self.now.frames }
+    {
+        self.dirty
+    }
+}
