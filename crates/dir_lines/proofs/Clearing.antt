@@ -52,7 +52,7 @@ pub record IsClearing (h : Home) (start now : Lines) (left : ℕ) : Type 0 where
   pub at_home : (l : ℕ) → has_mark now l ≡ true → IsAtHome h l
 
 -- the k-th item is in the list
-found : (xs : List ℕ) (k l : ℕ) → slice_get xs k ≡ Some l → Contains xs l
+pub found : (xs : List ℕ) (k l : ℕ) → slice_get xs k ≡ Some l → Contains xs l
 found xs k l f = by (slice_get_cases xs k).1
   where
     by : ((x : ℕ) × (k < length xs) × (slice_get xs k ≡ Some x) × (get_or xs k x ≡ x)) ⊎ ((length xs ≤ k) × (slice_get xs k ≡ None)) → Contains xs l

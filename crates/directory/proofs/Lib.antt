@@ -1,0 +1,5 @@
+pub mod RuleCases
+pub mod Giving
+pub mod Told
+pub mod Owning
+pub mod Committing

@@ -1,0 +1,172 @@
+// A directory: its parts, and the readers of what it knows.
+ghost use Rattle.std.specs.Prelude.{◌≡◌, ℕ, ◌^◌, ◌<◌, ◌≤◌, ◌↔◌, true, false, Err, IfOk, OnErr, IsTrue, option_map};
+ghost use Rattle.tcc_maps.specs.Words.{count_below};
+ghost use Rattle.tcc_maps.specs.Words.{line_of as line_number};
+ghost use Rattle.tcc_maps.specs.Shape.{lines as line_count};
+ghost use Rattle.tcc_maps.specs.Lines.{has_mark};
+ghost use Rattle.tcc_rules.specs.DirDeliver.{dir_deliver};
+ghost use Rattle.dir_lines.specs.Home.{IsAtHome};
+ghost use Rattle.tcc_msg.specs.Plain.{msg_of};
+ghost use Rattle.directory.specs.Data.{DirData, dir_of};
+ghost use Rattle.directory.specs.Foreign.{is_foreign, HasSmallTids};
+ghost use Rattle.directory.specs.Gives.{Gives};
+
+use crate::handled::{DirError, Handled};
+use dir_lines::{DirLines, HomeWords};
+use skip_vector::SkipVector;
+use std::marker::Model;
+use tcc_base::{CoreId, LineAddr, Mask, NoMemory, Tid, WordAddr};
+use tcc_msg::{Msg, Outgoing};
+
+/// What is known of one line.
+#[derive(Clone, Copy, Debug, PartialEq, Eq)]
+pub struct LineState {
+    /// The words that the served TID marked.
+    pub mark: Mask,
+    /// The core whose last commit of the line hasn't come home yet.
+    pub owner: Option<CoreId>,
+    /// Whether the owner was asked for its data.
+    pub asked: bool,
+    /// The TID of the line's last commit, or 0.
+    pub tag: Tid,
+}
+
+/// One directory of a machine (Chafi et al., "A Scalable, Non-blocking Approach to Transactional Memory", HPCA 2007): the words
+/// and records of the lines that are at home there, the TID that it serves with those that it skips, and how many acknowledgements
+/// are owed. In a clause it is plain data, and `dir_of` makes of it the state of the protocol's rules. `dir_of` takes for the words
+/// of other homes whatever stands elsewhere: a directory neither reads nor changes them.
+#[derive(Debug, Drop)]
+pub struct Directory {
+    pub(crate) lines: DirLines,
+    pub(crate) words: HomeWords,
+    pub(crate) skips: SkipVector,
+    pub(crate) owed: usize,
+}
+
+impl Model for Directory {
+    ghost use Rattle.directory.specs.Data.{DirData};
+
+    ghost Value = { DirData };
+
+    ghost use Rattle.directory.specs.DataInside.{data_of, IsDirectory};
+
+    ghost view = { data_of };
+
+    ghost invariant = { IsDirectory };
+}
+
+impl Directory {
+    /// The TID that is served now. It takes constant time.
+    pub fn serving(&self) -> Tid
+        ensures { (elsewhere : ℕ → ℕ) → result.0 ≡ (dir_of elsewhere self.now).serving.serving }
+    {
+        self.skips.serving()
+    }
+
+    /// The number of marked lines. It takes constant time.
+    pub fn marked_lines(&self) -> u32
+        ensures { (elsewhere : ℕ → ℕ) → result ≡ count_below (has_mark (dir_of elsewhere self.now).lines) (line_count self.now.lines.place.shape) }
+    {
+        self.lines.marked_lines()
+    }
+
+    /// The home word of that number, of a line that is at home here. It takes constant time.
+    pub fn word(&self, w: WordAddr) -> u32
+        requires { IsAtHome self.now.lines.place (line_number w.0) }
+        ensures { (elsewhere : ℕ → ℕ) → result ≡ (dir_of elsewhere self.now).words w.0 }
+    {
+        self.words.word(w)
+    }
+
+    /// What is known of a line that is at home here. It takes constant time.
+    pub fn line_state(&self, line: LineAddr) -> LineState
+        requires { IsAtHome self.now.lines.place line.0 }
+        ensures mark { (elsewhere : ℕ → ℕ) → result.mark.0 ≡ (dir_of elsewhere self.now).lines.mark line.0 }
+        ensures owner { (elsewhere : ℕ → ℕ) → option_map (λ c. c.0) result.owner ≡ (dir_of elsewhere self.now).lines.owner line.0 }
+        ensures asked { (elsewhere : ℕ → ℕ) → result.asked ≡ (dir_of elsewhere self.now).lines.asked line.0 }
+        ensures tag { (elsewhere : ℕ → ℕ) → result.tag.0 ≡ (dir_of elsewhere self.now).lines.tag line.0 }
+    {
+        let record = self.lines.get(line);
+        LineState {
+            mark: record.mark,
+            owner: record.owner,
+            asked: record.asked,
+            tag: record.tag,
+        }
+    }
+
+    /// Handles a message from a core, by the rule for its kind. `gives` says all of it: the rule's answer for the state before is
+    /// what is answered, with the state after and what was sent, in order and to each destination. After an error the directory
+    /// and what is sent are as before; want of memory can come where something is sent or a TID is skipped ahead.
+    pub fn deliver(
+        &mut self,
+        src: CoreId,
+        msg: &Msg,
+        out: &mut Outgoing,
+    ) -> Result<Handled, DirError>
+        requires core { src.0 < self.old.lines.place.shape.cores }
+        requires tids { HasSmallTids (msg_of msg.now) }
+        ensures place { self.new.lines.place ≡ self.old.lines.place }
+        ensures gives { IfOk result (λ h. Gives self.old self.new out.old.list.items out.new.list.items h (λ s. dir_deliver self.old.lines.place.shape s src.0 (msg_of msg.now))) }
+        ensures foreign { (result ≡ Err DirError.Foreign) ↔ (is_foreign self.old.lines.place (msg_of msg.now) ≡ true) }
+        ensures unchanged { OnErr result (self.new ≡ self.old) }
+        ensures unsent { OnErr result (out.new.list.items ≡ out.old.list.items) }
+    {
+        if self.is_foreign(msg) {
+            return Err(DirError::Foreign);
+        }
+        match self.take(src, msg, out) {
+            Ok(handled) => Ok(handled),
+            Err(NoMemory) => Err(DirError::Memory),
+        }
+    }
+
+    // Whether the message isn't of a directory's kind, or its line isn't at home here.
+    fn is_foreign(&self, msg: &Msg) -> bool
+        ensures { result ≡ is_foreign self.now.lines.place (msg_of msg.now) }
+    {
+        match msg {
+            Msg::Skip { .. } | Msg::Abort { .. } | Msg::Probe { .. } | Msg::Commit { .. } => false,
+            Msg::LoadReq { line, .. }
+            | Msg::Mark { line, .. }
+            | Msg::InvAck { line, .. }
+            | Msg::WriteBack { line, .. }
+            | Msg::Flush { line, .. } => !self.lines.has_line(*line),
+            _ => true,
+        }
+    }
+
+    // The rule for the message's kind.
+    fn take(&mut self, src: CoreId, msg: &Msg, out: &mut Outgoing) -> Result<Handled, NoMemory>
+        requires core { src.0 < self.old.lines.place.shape.cores }
+        requires home { is_foreign self.old.lines.place (msg_of msg.now) ≡ false }
+        requires tids { HasSmallTids (msg_of msg.now) }
+        ensures place { self.new.lines.place ≡ self.old.lines.place }
+        ensures gives { IfOk result (λ h. Gives self.old self.new out.old.list.items out.new.list.items h (λ s. dir_deliver self.old.lines.place.shape s src.0 (msg_of msg.now))) }
+        ensures unchanged { OnErr result (self.new ≡ self.old) }
+        ensures unsent { OnErr result (out.new.list.items ≡ out.old.list.items) }
+    {
+        match msg {
+            Msg::Skip { tid } => self.skip(*tid, out),
+            Msg::Abort { tid } => self.abort(*tid, out),
+            Msg::Probe { tid } => self.probe(src, *tid, out),
+            Msg::LoadReq { line, after } => self.load(src, *line, *after, out),
+            Msg::Mark { line, mask, tid } => self.mark(*line, *mask, *tid, out),
+            Msg::Commit { tid, count } => self.commit(src, *tid, *count, out),
+            Msg::InvAck { line, keeps } => Ok(self.acknowledge(src, *line, *keeps, out)),
+            Msg::WriteBack {
+                mask,
+                line,
+                words,
+                tag,
+            } => Ok(self.take_home(src, *line, *mask, words, *tag, out)),
+            Msg::Flush {
+                mask,
+                line,
+                words,
+                tag,
+            } => Ok(self.take_home(src, *line, *mask, words, *tag, out)),
+            _ => Ok(Handled::Waits),
+        }
+    }
+}

@@ -1,0 +1,10 @@
+// A directory as a node: the home words, the lines and the skips of one home, and what each message from a core does there.
+#![tactic(auto)]
+
+mod directory;
+mod handled;
+mod invalidate;
+mod rules;
+
+pub use directory::{Directory, LineState};
+pub use handled::{DirError, Handled};
