@@ -1,11 +1,13 @@
 // How a core commits: its phase, the directories that owe it a reply, and what each step of a commit sends.
 #![tactic(auto)]
 
+mod commits;
 mod dir_set;
 mod homes;
 mod phase;
 mod sending;
 
+pub use commits::{note_commit, send_commits};
 pub use dir_set::DirSet;
 pub use homes::{read_homes, written_homes};
 pub use phase::Phase;

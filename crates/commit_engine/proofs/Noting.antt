@@ -1,0 +1,83 @@
+-- The commits that go to the written directories, and what is noted of them.
+use Rattle.std.proofs.Common.{ℕ, suc, zero, ◌+◌, ◌<◌, ◌≡◌, ◌≢◌, Bool, true, false, not, cond, ◌==◌, ◌&&◌, ◌||◌, nat_eq, if◌then◌else◌, inl, inr, List, [], ◌∷◌, length, get_or, set, refl, ap, sym, ◌∙◌, arith}
+use Rattle.std.proofs.lemmas.Bool.{cases_eq, ne_eqb}
+use Rattle.std.proofs.lemmas.Bool.Decides.{nat_tests}
+use Rattle.std.proofs.lemmas.List.{get_or-set_same, get_or-set_other}
+use Rattle.tcc_base.specs.Put.{put}
+use Rattle.tcc_base.specs.declared.names.Tid.{Tid}
+use Rattle.tcc_maps.specs.Words.{any_below, count_below}
+use Rattle.tcc_maps.specs.Nodes.{Node, Core, Dir, Vendor, Msg, Commit}
+use Rattle.tcc_maps.specs.Shape.{Shape, home, lines}
+use Rattle.tcc_maps.specs.Cache.{Cache, is_modified, writes_at}
+use Rattle.tcc_rules.specs.Commit.{after_commit, commit_sends}
+use Rattle.tcc_rules.specs.Sends.{when}
+use Rattle.commit_engine.specs.Engine.{after_of, first_with}
+use Rattle.commit_engine.specs.Sent.{to_first}
+use Rattle.commit_engine.proofs.FirstWith.{first_none, first_in, first_out}
+
+-- a number below n has the property exactly where their number isn't zero
+one_more : (a : ℕ) (b : Bool) → (not (nat_eq a 0) || b) ≡ not (nat_eq (a + cond b 1 0) 0)
+one_more a true = grind (arith, nat_tests)
+one_more a false = grind (arith, nat_tests)
+
+pub any_below-count : (p : ℕ → Bool) (n : ℕ) → any_below p n ≡ not (nat_eq (count_below p n) 0)
+unfolding any_below count_below
+any_below-count p zero = refl
+any_below-count p (suc n) = rw (any_below-count p n) (one_more (count_below p n) (p n))
+
+-- how many lines were written at a directory, and what goes there
+abbrev pub count_at : Shape → Cache → ℕ → ℕ
+count_at sh c d = count_below (λ l. d == home sh l && is_modified c l) (lines sh)
+
+unfoldable pub commit_at : Shape → Cache → (tid dir : ℕ) → List Msg
+commit_at sh c t d = when (writes_at sh c d) (Commit t (count_at sh c d) ∷ [])
+
+pub commit_in : (sh : Shape) (c : Cache) (t d n : ℕ) → n ≡ count_at sh c d → n ≢ 0 → commit_at sh c t d ≡ Commit t n ∷ []
+unfolding commit_at writes_at
+commit_in sh c t d n e h =
+    let f : nat_eq n 0 ≡ false = ne_eqb n 0 h in
+    rw (any_below-count (λ l. d == home sh l && is_modified c l) (lines sh), sym e, f) refl
+
+pub commit_out : (sh : Shape) (c : Cache) (t d n : ℕ) → n ≡ count_at sh c d → n ≡ 0 → commit_at sh c t d ≡ []
+unfolding commit_at writes_at
+commit_out sh c t d n e h =
+    let z : count_at sh c d ≡ 0 = sym e ∙ h in
+    rw (any_below-count (λ l. d == home sh l && is_modified c l) (lines sh), z) refl
+
+pub commits_are : (sh : Shape) (c : Cache) (t : ℕ) → to_first sh.dirs (commit_at sh c t) ≡ commit_sends sh c t
+unfolding to_first commit_at commit_sends
+commits_are sh c t = λ i dst. (each dst) i
+  where
+    each : (dst : Node) → to_first sh.dirs (commit_at sh c t) dst ≡ commit_sends sh c t dst
+    each (Dir d) = refl
+    each (Core k) = refl
+    each Vendor = refl
+
+-- the noted TIDs, directory by directory
+pub note_none : (p : ℕ → Bool) (t : ℕ) (a : ℕ → ℕ) → a ≡ after_commit (first_with 0 p) t a
+unfolding after_commit
+note_none p t a = ap (λ (w : ℕ → Bool). after_commit w t a) (first_none p)
+
+pub note_in : (n : ℕ) (p : ℕ → Bool) (t : ℕ) (a : ℕ → ℕ) → p n ≡ true → put (after_commit (first_with n p) t a) n t ≡ after_commit (first_with (n + 1) p) t a
+unfolding after_commit
+note_in n p t a h = (λ i d. (each d (first_with n p d) (nat_eq d n)) i) ∙ ap (λ (w : ℕ → Bool). after_commit w t a) (first_in n p h)
+  where
+    each : (d : ℕ) (w b : Bool) → (if b then t else if w then t else a d) ≡ (if (if b then true else w) then t else a d)
+    each d w true = refl
+    each d w false = refl
+
+pub note_out : (n : ℕ) (p : ℕ → Bool) (t : ℕ) (a : ℕ → ℕ) → p n ≡ false → after_commit (first_with n p) t a ≡ after_commit (first_with (n + 1) p) t a
+note_out n p t a h = ap (λ (w : ℕ → Bool). after_commit w t a) (first_out n p h)
+
+pub after_of-set : (xs : List Tid) (n : ℕ) (t : Tid) → n < length xs → after_of (set xs n t) ≡ put (after_of xs) n t.0
+unfolding after_of
+after_of-set xs n t l = λ i d. (each d) i
+  where
+    zeroth : Tid
+    zeroth = record { 0 = 0 }
+
+    each : (d : ℕ) → (get_or (set xs n t) d zeroth).0 ≡ (if nat_eq d n then t.0 else (get_or xs d zeroth).0)
+    each d = elim (cases_eq d n) [
+      | inl e ↦ rw e (rw (get_or-set_same xs n t zeroth l) (grind (arith, nat_tests)))
+      | inr m ↦ rw (ne_eqb d n m, get_or-set_other xs n d t zeroth m) refl
+    ]
