@@ -22,3 +22,5 @@ pub mod Indexed
 pub mod Counted
 pub mod Counts
 pub mod Tallied
+pub mod SetTallies
+pub mod TrackedKept

@@ -135,45 +135,20 @@ pub dirty-enough : (fs : List (Option FrameView)) (i n m : ℕ) (b : Bool) → i
 dirty-enough fs i n m true inside e t = let c = count-some dirty_way fs i inside (sym t) in omega (arith, c, e)
 dirty-enough fs i n m false inside e t = omega arith
 
--- ---- all of it, after one way changed and at the start
-
-module _ (h : Held) (ts ws rs : List ℕ) (n : ℕ) (k : IsTracked h ts ws rs n) (i : ℕ) (o : Option FrameView) (inside : i < length h.frames) where
-  pub IsTracked-set : (t : ℕ) → t ≡ tag_of o → (us vs : List ℕ) (m : ℕ) →
-      ((d : ℕ) → get_or us d 0 + num (is_home (written_home h.config.dirs (get_or h.frames i None)) d) ≡ get_or ws d 0 + num (is_home (written_home h.config.dirs o) d)) →
-      ((d : ℕ) → get_or vs d 0 + num (is_home (read_home h.config.dirs (get_or h.frames i None)) d) ≡ get_or rs d 0 + num (is_home (read_home h.config.dirs o) d)) →
-      m + num (dirty_way (get_or h.frames i None)) ≡ n + num (dirty_way o) →
-      IsTracked (record h { frames = set h.frames i o }) (set ts i t) us vs m
-  IsTracked-set t e us vs m w r d = record {
-    tags = rw (k.tags, e) (sym (map-set tag_of h.frames i o));
-    written = λ a b. recounted (writes_in h.config.dirs a) h.frames i o inside (get_or ws a 0) (get_or us a 0) (k.written a b)
-      (rw (writes-home h.config.dirs a (get_or h.frames i None), writes-home h.config.dirs a o) (w a));
-    read = λ a b. recounted (reads_in h.config.dirs a) h.frames i o inside (get_or rs a 0) (get_or vs a 0) (k.read a b)
-      (rw (reads-home h.config.dirs a (get_or h.frames i None), reads-home h.config.dirs a o) (r a));
-    dirty = recounted dirty_way h.frames i o inside n m k.dirty d;
-    small = rw (length-set h.frames i o) k.small;
-  }
+-- ---- at the start
 
 pub few-ways : (s : Settings) → IsAllowed s → s.sets * s.ways ≤ 16384
 few-ways s a = let b = a.2.1 in let c = a.3.1 in grind arith
 
-map-none : (n : ℕ) → replicate n 4294967295 ≡ map tag_of (replicate n None)
+pub map-none : (n : ℕ) → replicate n 4294967295 ≡ map tag_of (replicate n None)
 unfolding tag_of
 map-none zero = refl
 map-none (suc n) = ap (λ (xs : List ℕ). 4294967295 ∷ xs) (map-none n)
 
-zeros : (n d : ℕ) → let z : ℕ = get_or (replicate n 0) d 0 in z ≡ 0
+pub zeros : (n d : ℕ) → let z : ℕ = get_or (replicate n 0) d 0 in z ≡ 0
 zeros zero d = refl
 zeros (suc n) zero = refl
 zeros (suc n) (suc d) = zeros n d
-
-pub IsTracked-empty : (s : Settings) (n : ℕ) → n ≤ 16384 → IsTracked (record { config = s; frames = replicate n None }) (replicate n 4294967295) (replicate 64 0) (replicate 64 0) 0
-IsTracked-empty s n b = record {
-  tags = map-none n;
-  written = λ d l. zeros 64 d ∙ sym (count-none (writes_in s.dirs d) n (unfold written_in in refl));
-  read = λ d l. zeros 64 d ∙ sym (count-none (reads_in s.dirs d) n (unfold reads_in in refl));
-  dirty = sym (count-none dirty_way n (unfold dirty_way in refl));
-  small = rw (length-replicate {A = Option FrameView} n None) b;
-}
 
 -- ---- a way whose tag is another line's
 

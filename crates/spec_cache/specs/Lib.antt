@@ -4,5 +4,6 @@ pub mod Held
 pub mod Look
 pub mod Home
 pub mod Useful
+pub mod PerSet
 pub mod Tracked
 pub mod Places

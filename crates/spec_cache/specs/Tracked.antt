@@ -1,10 +1,11 @@
 -- What is counted of a cache's ways, and the line of each way apart from its frame.
-use Rattle.std.specs.Prelude.{ℕ, ◌%◌, ◌<◌, ◌≤◌, ◌≡◌, Bool, false, not, ◌==◌, List, length, get_or, map, Option, Some, None, if◌then◌else◌}
+use Rattle.std.specs.Prelude.{ℕ, ◌*◌, ◌%◌, ◌<◌, ◌≤◌, ◌≡◌, Bool, false, not, ◌==◌, List, length, get_or, map, Option, Some, None, if◌then◌else◌}
 use Rattle.tcc_maps.specs.Words.{count_below}
 use Rattle.spec_cache.specs.declared.frame.FrameView.{FrameView}
 use Rattle.spec_cache.specs.Home.{reads_in}
 use Rattle.spec_cache.specs.Useful.{writes_in, dirty_way}
 use Rattle.spec_cache.specs.Held.{Held}
+use Rattle.spec_cache.specs.PerSet.{Counted, idle_way, used_way, IsPerSet}
 
 -- how many ways pass a test
 unfoldable pub count_ways : (Option FrameView → Bool) → List (Option FrameView) → ℕ
@@ -29,10 +30,14 @@ unfoldable pub tag_of : Option FrameView → ℕ
 tag_of None = 4294967295
 tag_of (Some f) = f.line.0
 
--- the tags are those of the ways, and the numbers say by home how many ways are written and read, and how many are dirty
-pub record IsTracked (h : Held) (ts ws rs : List ℕ) (n : ℕ) : Type 0 where
+-- the tags are those of the ways, and the numbers say by home how many ways are written and read, how many are dirty, and by
+-- set how many may be emptied with use
+pub record IsTracked (h : Held) (ts ws rs : List ℕ) (n : ℕ) (i u : Counted) : Type 0 where
   pub tags : ts ≡ map tag_of h.frames
   pub written : (d : ℕ) → d < 64 → get_or ws d 0 ≡ count_ways (writes_in h.config.dirs d) h.frames
   pub read : (d : ℕ) → d < 64 → get_or rs d 0 ≡ count_ways (reads_in h.config.dirs d) h.frames
   pub dirty : n ≡ count_ways dirty_way h.frames
+  pub idle : IsPerSet idle_way h i
+  pub used : IsPerSet used_way h u
+  pub whole : length h.frames ≡ h.config.sets * h.config.ways
   pub small : length h.frames ≤ 16384

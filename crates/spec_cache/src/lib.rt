@@ -10,6 +10,7 @@ mod look;
 mod marks;
 mod masks;
 mod noted;
+mod per_set;
 mod places;
 mod readers;
 mod set_frames;

@@ -51,6 +51,19 @@ pub(crate) fn no_tags(alloc: Global, count: usize) -> Result<Vec<u32>, NoMemory>
     Ok(tags)
 }
 
+/// As many zeros.
+pub(crate) fn zeros(alloc: Global, count: usize) -> Result<Vec<u8>, NoMemory>
+    ensures { IfOk result (λ v. v.items ≡ replicate count 0) }
+{
+    let Ok(mut numbers) = Vec::with_capacity(alloc, count) else {
+        return Err(NoMemory);
+    };
+    for _ in 0..count {
+        numbers.push_reserved(0);
+    }
+    Ok(numbers)
+}
+
 /// The way after a change of all frames.
 pub(crate) fn changed(way: Option<FrameView>, change: Change) -> Option<FrameView>
     ensures { result ≡ option_map (changed_frame change) way }

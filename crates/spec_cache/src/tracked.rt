@@ -1,20 +1,22 @@
 // The ways of a cache in one array: a change of one way keeps what is counted of all.
-ghost use Rattle.std.specs.Prelude.{◌≡◌, ◌*◌, ◌<◌, ◌≤◌, ℕ, length, get_or, set, replicate, Option, Some, None, MatchOption, IfOk, true, false};
+ghost use Rattle.std.specs.Prelude.{◌≡◌, ◌*◌, ◌<◌, ◌≤◌, ℕ, length, get_or, set, replicate, Option, Some, None, MatchOption, IfOk, cond, true, false};
 ghost use Rattle.spec_cache.specs.Frame.{holds_line};
 ghost use Rattle.spec_cache.specs.Home.{reads_in};
 ghost use Rattle.spec_cache.specs.Useful.{writes_in, dirty_way};
+ghost use Rattle.spec_cache.specs.PerSet.{idle_way, used_way, count_set};
 ghost use Rattle.spec_cache.specs.Tracked.{count_ways};
 
 use crate::home_counts::{ByHome, one, read_home, recount, tag, written_home};
 use crate::frame::FrameView;
+use crate::per_set::PerSet;
 use crate::slots::{empty_ways, frame_for, no_tags};
-use crate::useful::is_dirty;
+use crate::useful::{is_dirty, is_idle, is_used};
 use std::alloc::Global;
 use std::marker::Model;
 use tcc_base::{Config, LineAddr, NoMemory};
 
 /// The ways of a cache, by place, with their lines apart, so that a search reads four bytes a way, and with the numbers of
-/// written and read ways by home and of dirty ways.
+/// written and read ways by home, of dirty ways, and by set of those that may be emptied with use.
 #[derive(Debug, Drop)]
 pub struct Tracked {
     config: Config,
@@ -23,6 +25,8 @@ pub struct Tracked {
     written: ByHome,
     read: ByHome,
     dirty: usize,
+    idle: PerSet,
+    used: PerSet,
 }
 
 impl Model for Tracked {
@@ -33,7 +37,7 @@ impl Model for Tracked {
 
     ghost view = { λ t. record { config = t.config; frames = t.frames.items } };
 
-    ghost invariant = { λ t. IsTracked (record { config = t.config; frames = t.frames.items }) t.tags.items t.written t.read t.dirty };
+    ghost invariant = { λ t. IsTracked (record { config = t.config; frames = t.frames.items }) t.tags.items t.written t.read t.dirty t.idle t.used };
 }
 
 impl Tracked {
@@ -49,6 +53,8 @@ impl Tracked {
             written: [0; 64],
             read: [0; 64],
             dirty: 0,
+            idle: PerSet::new(alloc, cfg.sets() as usize)?,
+            used: PerSet::new(alloc, cfg.sets() as usize)?,
         })
     }
 
@@ -89,6 +95,9 @@ impl Tracked {
         recount(&mut self.written, written_home(&old, dirs), written_home(&frame, dirs));
         recount(&mut self.read, read_home(&old, dirs), read_home(&frame, dirs));
         self.dirty = self.dirty + one(is_dirty(&frame)) - one(is_dirty(&old));
+        let set = at / self.config.ways() as usize;
+        self.idle.shift(set, is_idle(&old), is_idle(&frame));
+        self.used.shift(set, is_used(&old), is_used(&frame));
         self.tags[at] = tag(&frame);
         self.frames[at] = frame;
     }
@@ -145,5 +154,24 @@ impl Tracked {
         ensures { result ≡ count_ways dirty_way self.now.frames }
     {
         self.dirty
+    }
+
+    /// The number of ways that may be emptied with use, but for the line that is awaited and the set where room is wanted.
+    pub(crate) fn useful_ways(&self, alone: bool) -> usize
+        ensures { result ≡ cond alone (count_ways used_way self.now.frames) (count_ways idle_way self.now.frames) }
+    {
+        if alone { self.used.all() } else { self.idle.all() }
+    }
+
+    /// The same of one set.
+    pub(crate) fn useful_in_set(&self, alone: bool, set: usize) -> usize
+        requires { set < self.now.config.sets }
+        ensures { result ≡ cond alone (count_set used_way self.now set) (count_set idle_way self.now set) }
+    {
+        if alone {
+            self.used.of(set)
+        } else {
+            self.idle.of(set)
+        }
     }
 }

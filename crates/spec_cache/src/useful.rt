@@ -1,6 +1,7 @@
 // Which ways of a cache may be emptied with use.
 ghost use Rattle.std.specs.Prelude.{◌≡◌, ◌&&◌, ◌||◌, not};
 ghost use Rattle.tcc_maps.specs.CacheUse.{is_number};
+ghost use Rattle.spec_cache.specs.PerSet.{idle_way, used_way};
 ghost use Rattle.spec_cache.specs.Useful.{wants_of, is_marked_frame, is_written_frame, useful_in, dirty_way};
 
 use crate::frame::FrameView;
@@ -68,6 +69,28 @@ impl Wants {
             None => false,
             Some(frame) => !self.keeps(frame) && self.gains(set, frame),
         }
+    }
+}
+
+/// Whether the way may be emptied with use where the core isn't alone: it has a dirty word and no mark.
+#[tactic(auto, unfolding(crate::specs::PerSet::idle_way))]
+pub(crate) fn is_idle(way: &Option<FrameView>) -> bool
+    ensures { result ≡ idle_way way.now }
+{
+    match way {
+        None => false,
+        Some(frame) => frame.dirty.0 != 0 && !frame.is_marked(),
+    }
+}
+
+/// Whether the way may be emptied with use where the core is alone: it has a modified or a dirty word.
+#[tactic(auto, unfolding(crate::specs::PerSet::used_way))]
+pub(crate) fn is_used(way: &Option<FrameView>) -> bool
+    ensures { result ≡ used_way way.now }
+{
+    match way {
+        None => false,
+        Some(frame) => frame.is_written(),
     }
 }
 

@@ -1,11 +1,15 @@
-use Rattle.std.proofs.Common.{◌≡◌, ◌<◌, ◌≤◌, ◌+◌, ◌∙◌, ap, ℕ, Option, None, List, length, get_or, sym, refl, arith}
+use Rattle.std.proofs.Common.{◌≡◌, ◌<◌, ◌≤◌, ◌+◌, ◌∙◌, ap, true, ℕ, Option, None, List, length, get_or, sym, refl, arith}
 use Rattle.std.specs.Option.{IfSome}
 use Rattle.tcc_maps.specs.Words.{num}
 use Rattle.spec_cache.specs.declared.frame.FrameView.{FrameView}
 use Rattle.spec_cache.specs.Home.{reads_in}
 use Rattle.spec_cache.specs.Useful.{writes_in, dirty_way}
+use Rattle.spec_cache.specs.Held.{Held}
+use Rattle.spec_cache.specs.PerSet.{idle_way, used_way}
 use Rattle.spec_cache.specs.Tracked.{written_home, read_home, is_home}
-use Rattle.spec_cache.proofs.Tallied.{written-below, read-below, written-some, read-some, counted-small, dirty-fits, dirty-enough, IsTracked-set}
+use Rattle.spec_cache.proofs.Tallied.{written-below, read-below, written-some, read-some, counted-small, dirty-fits, dirty-enough}
+use Rattle.spec_cache.proofs.SetTallies.{IsPerSet-set, shift-exists, shift-some, shift-some_all, shift-few, shift-few_all}
+use Rattle.spec_cache.proofs.TrackedKept.{IsTracked-set}
 use Rattle.spec_cache.proofs.tracked.Tracked.put.Goals as goal
 
 pub recount-requires-clause-less_exists : goal.recount-requires-clause-less_exists
@@ -59,6 +63,36 @@ overflow_sub-self c =
     rw c.one-2.ensures (dirty-enough c.self.inside.frames.items c.args.at c.self.inside.dirty c.one.result c.is_dirty-2.result (rw (sym c.self.view_is) at c.requires)
       c.self.invariant.dirty (c.is_dirty-2.ensures ∙ ap dirty_way old))
 
+pub shift-requires : goal.shift-requires
+shift-requires c =
+    let h : Held = record { config = c.self.inside.config; frames = c.self.inside.frames.items } in
+    let old : c.way-old.result ≡ get_or c.self.inside.frames.items c.args.at None = rw (sym c.self.view_is) at c.way-old.ensures in
+    let inside : c.args.at < length c.self.inside.frames.items = rw (sym c.self.view_is) at c.requires in
+    let ways = c.ways.ensures.allowed.3 in
+    let test : c.is_idle.result ≡ true → idle_way (get_or c.self.inside.frames.items c.args.at None) ≡ true = λ t. sym (c.is_idle.ensures ∙ ap idle_way old) ∙ t in
+    rw c.ways.ensures.value record {
+      exists = shift-exists idle_way h ways.0 ways.1 c.self.invariant.whole c.args.at c.args.frame inside c.self.inside.idle c.self.invariant.idle;
+      some = λ t. shift-some idle_way h ways.0 ways.1 c.self.invariant.whole c.args.at c.args.frame inside c.self.inside.idle c.self.invariant.idle (test t);
+      some_all = λ t. shift-some_all idle_way h ways.0 ways.1 c.self.invariant.whole c.args.at c.args.frame inside c.self.inside.idle c.self.invariant.idle (test t);
+      few = shift-few idle_way h ways.0 ways.1 c.self.invariant.whole c.args.at c.args.frame inside c.self.inside.idle c.self.invariant.idle;
+      few_all = shift-few_all idle_way h ways.0 ways.1 c.self.invariant.whole c.self.inside.idle c.self.invariant.idle c.self.invariant.small;
+    }
+
+pub shift-requires-2 : goal.shift-requires-2
+shift-requires-2 c =
+    let h : Held = record { config = c.self.inside.config; frames = c.self.inside.frames.items } in
+    let old : c.way-old.result ≡ get_or c.self.inside.frames.items c.args.at None = rw (sym c.self.view_is) at c.way-old.ensures in
+    let inside : c.args.at < length c.self.inside.frames.items = rw (sym c.self.view_is) at c.requires in
+    let ways = c.ways.ensures.allowed.3 in
+    let test : c.is_used.result ≡ true → used_way (get_or c.self.inside.frames.items c.args.at None) ≡ true = λ t. sym (c.is_used.ensures ∙ ap used_way old) ∙ t in
+    rw c.ways.ensures.value record {
+      exists = shift-exists used_way h ways.0 ways.1 c.self.invariant.whole c.args.at c.args.frame inside c.self.inside.used c.self.invariant.used;
+      some = λ t. shift-some used_way h ways.0 ways.1 c.self.invariant.whole c.args.at c.args.frame inside c.self.inside.used c.self.invariant.used (test t);
+      some_all = λ t. shift-some_all used_way h ways.0 ways.1 c.self.invariant.whole c.args.at c.args.frame inside c.self.inside.used c.self.invariant.used (test t);
+      few = shift-few used_way h ways.0 ways.1 c.self.invariant.whole c.args.at c.args.frame inside c.self.inside.used c.self.invariant.used;
+      few_all = shift-few_all used_way h ways.0 ways.1 c.self.invariant.whole c.self.inside.used c.self.invariant.used c.self.invariant.small;
+    }
+
 pub invariant_of-self : goal.invariant_of-self
 invariant_of-self c =
     let old : c.way-old.result ≡ get_or c.self.inside.frames.items c.args.at None = rw (sym c.self.view_is) at c.way-old.ensures in
@@ -72,7 +106,16 @@ invariant_of-self c =
     let more : c.one.result ≡ num (dirty_way c.args.frame) = c.one.ensures ∙ ap num c.is_dirty.ensures in
     let less : c.one-2.result ≡ num (dirty_way (get_or c.self.inside.frames.items c.args.at None)) = c.one-2.ensures ∙ ap num (c.is_dirty-2.ensures ∙ ap dirty_way old) in
     let enough = dirty-enough c.self.inside.frames.items c.args.at c.self.inside.dirty c.one.result c.is_dirty-2.result (rw (sym c.self.view_is) at c.requires) c.self.invariant.dirty (c.is_dirty-2.ensures ∙ ap dirty_way old) in
-    IsTracked-set (record { config = c.self.inside.config; frames = c.self.inside.frames.items }) c.self.inside.tags.items c.self.inside.written c.self.inside.read
-      c.self.inside.dirty c.self.invariant c.args.at c.args.frame (rw (sym c.self.view_is) at c.requires) c.tag.result c.tag.ensures _ _ _
+    let h : Held = record { config = c.self.inside.config; frames = c.self.inside.frames.items } in
+    let inside : c.args.at < length c.self.inside.frames.items = rw (sym c.self.view_is) at c.requires in
+    let ways = c.ways.ensures.allowed.3 in
+    let was_idle : c.is_idle.result ≡ idle_way (get_or c.self.inside.frames.items c.args.at None) = c.is_idle.ensures ∙ ap idle_way old in
+    let was_used : c.is_used.result ≡ used_way (get_or c.self.inside.frames.items c.args.at None) = c.is_used.ensures ∙ ap used_way old in
+    let idle = IsPerSet-set idle_way h ways.0 ways.1 c.self.invariant.whole c.args.at c.args.frame inside c.self.inside.idle c.shift.new.self c.self.invariant.idle c.shift.ensures.sets
+        (λ s. rw (← c.ways.ensures.value, ← was_idle, ← c.is_idle-2.ensures) (c.shift.ensures.counts s)) (rw (← was_idle, ← c.is_idle-2.ensures) c.shift.ensures.all) in
+    let used = IsPerSet-set used_way h ways.0 ways.1 c.self.invariant.whole c.args.at c.args.frame inside c.self.inside.used c.shift-2.new.self c.self.invariant.used c.shift-2.ensures.sets
+        (λ s. rw (← c.ways.ensures.value, ← was_used, ← c.is_used-2.ensures) (c.shift-2.ensures.counts s)) (rw (← was_used, ← c.is_used-2.ensures) c.shift-2.ensures.all) in
+    IsTracked-set h c.self.inside.tags.items c.self.inside.written c.self.inside.read
+      c.self.inside.dirty c.self.inside.idle c.self.inside.used c.self.invariant c.args.at c.args.frame (rw (sym c.self.view_is) at c.requires) c.tag.result c.tag.ensures _ _ _ c.shift.new.self c.shift-2.new.self
       (λ d. rw (← was, ← is) (c.recount.ensures d)) (λ d. rw (← was_read, ← is_read) (c.recount-2.ensures d))
-      (rw (← more, ← less) (let e = c.one-2.ensures in omega (arith, enough, e)))
+      (rw (← more, ← less) (let e = c.one-2.ensures in omega (arith, enough, e))) idle used
