@@ -3,3 +3,5 @@ pub mod Giving
 pub mod Told
 pub mod Owning
 pub mod Committing
+pub mod LoadedWords
+pub mod Taking

@@ -17,6 +17,13 @@ answer_of Asked s sends = rules.Asks s sends
 answer_of Waits s sends = rules.Waits
 answer_of Dropped s sends = rules.Drops
 
+-- the message is consumed, or its line's owner is asked
+abbrev pub is_taken : rules.Answer → Bool
+is_taken rules.Waits = false
+is_taken rules.Drops = true
+is_taken (rules.Asks s sends) = true
+is_taken (rules.Takes s sends) = true
+
 -- something may have changed
 abbrev pub acts : Handled → Bool
 acts Done = true

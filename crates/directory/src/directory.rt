@@ -4,7 +4,9 @@ ghost use Rattle.tcc_maps.specs.Words.{count_below};
 ghost use Rattle.tcc_maps.specs.Words.{line_of as line_number};
 ghost use Rattle.tcc_maps.specs.Shape.{lines as line_count};
 ghost use Rattle.tcc_maps.specs.Lines.{has_mark};
+ghost use Rattle.tcc_rules.specs.State.{dir_start};
 ghost use Rattle.tcc_rules.specs.DirDeliver.{dir_deliver};
+ghost use Rattle.image_load.specs.Contents.{started};
 ghost use Rattle.dir_lines.specs.Home.{IsAtHome};
 ghost use Rattle.tcc_msg.specs.Plain.{msg_of};
 ghost use Rattle.directory.specs.Data.{DirData, dir_of};
@@ -12,10 +14,13 @@ ghost use Rattle.directory.specs.Foreign.{is_foreign, HasSmallTids};
 ghost use Rattle.directory.specs.Gives.{Gives};
 
 use crate::handled::{DirError, Handled};
+use crate::loading::load_words;
 use dir_lines::{DirLines, HomeWords};
+use image_load::Loaded;
 use skip_vector::SkipVector;
+use std::alloc::Global;
 use std::marker::Model;
-use tcc_base::{CoreId, LineAddr, Mask, NoMemory, Tid, WordAddr};
+use tcc_base::{Config, CoreId, DirId, LineAddr, Mask, NoMemory, Tid, WordAddr};
 use tcc_msg::{Msg, Outgoing};
 
 /// What is known of one line.
@@ -56,6 +61,30 @@ impl Model for Directory {
 }
 
 impl Directory {
+    /// A directory at the start: it serves TID 1, its home words are the loaded words, and nothing else is known. Its time goes with
+    /// the machine's number of lines, and its memory with the number of those at home here.
+    pub fn start(
+        alloc: Global,
+        cfg: &Config,
+        loaded: &Loaded,
+        id: DirId,
+    ) -> Result<Directory, NoMemory>
+        requires exists { id.0 < cfg.now.dirs }
+        requires made_for { loaded.now.settings ≡ cfg.now }
+        ensures place { IfOk result (λ d. d.lines.place ≡ record { shape = cfg.now; dir = id.0 }) }
+        ensures start { IfOk result (λ d. dir_of (started loaded.now).word d ≡ dir_start (started loaded.now).word) }
+    {
+        let lines = DirLines::new(alloc, cfg, id)?;
+        let mut words = HomeWords::new(alloc, cfg, id)?;
+        load_words(&lines, &mut words, loaded);
+        Ok(Directory {
+            lines,
+            words,
+            skips: SkipVector::new(alloc),
+            owed: 0,
+        })
+    }
+
     /// The TID that is served now. It takes constant time.
     pub fn serving(&self) -> Tid
         ensures { (elsewhere : ℕ → ℕ) → result.0 ≡ (dir_of elsewhere self.now).serving.serving }
@@ -122,7 +151,7 @@ impl Directory {
     }
 
     // Whether the message isn't of a directory's kind, or its line isn't at home here.
-    fn is_foreign(&self, msg: &Msg) -> bool
+    pub(crate) fn is_foreign(&self, msg: &Msg) -> bool
         ensures { result ≡ is_foreign self.now.lines.place (msg_of msg.now) }
     {
         match msg {

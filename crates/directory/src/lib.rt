@@ -4,7 +4,9 @@
 mod directory;
 mod handled;
 mod invalidate;
+mod loading;
 mod rules;
+mod takes;
 
 pub use directory::{Directory, LineState};
 pub use handled::{DirError, Handled};

@@ -259,7 +259,7 @@ impl Directory {
 }
 
 // The owner that must be asked before these words of the line are marked.
-fn asked_first(lines: &DirLines, line: LineAddr, mask: Mask) -> Option<CoreId>
+pub(crate) fn asked_first(lines: &DirLines, line: LineAddr, mask: Mask) -> Option<CoreId>
     requires { IsAtHome lines.now.place line.0 }
     ensures { option_map (λ c. c.0) result ≡ (if mask.0 == full then None else (kept lines.now).owner line.0) }
 {

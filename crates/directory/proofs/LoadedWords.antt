@@ -1,0 +1,65 @@
+-- The home words while they are loaded line by line.
+use Rattle.std.proofs.Common.{◌≡◌, ℕ, zero, suc, ◌+◌, ◌/◌, ◌<◌, ◌≤◌, Bool, true, false, ◌&&◌, ◌==◌, eqb, nat_lt, if◌then◌else◌, List, get_or, refl, ap, sym, subst, ◌∙◌, arith}
+use borrow.Author.Tests.{eqb-true, eqb-false, ltb-true}
+use Rattle.tcc_maps.specs.Words.{eight, word_at, line_of, place_of}
+use Rattle.tcc_maps.specs.Masks.{has, hit}
+use Rattle.tcc_maps.specs.Shape.{lines}
+use Rattle.dir_lines.specs.Pages.{is_at_home}
+use Rattle.dir_lines.specs.Words.{Words, words_at, with_words}
+
+eight-at : (f : ℕ → ℕ) (k : ℕ) → k < 8 → get_or (eight f) k 0 ≡ f k
+unfolding eight
+eight-at f zero h = refl
+eight-at f (suc zero) h = refl
+eight-at f (suc (suc zero)) h = refl
+eight-at f (suc (suc (suc zero))) h = refl
+eight-at f (suc (suc (suc (suc zero)))) h = refl
+eight-at f (suc (suc (suc (suc (suc zero))))) h = refl
+eight-at f (suc (suc (suc (suc (suc (suc zero)))))) h = refl
+eight-at f (suc (suc (suc (suc (suc (suc (suc zero))))))) h = refl
+eight-at f (suc (suc (suc (suc (suc (suc (suc (suc k)))))))) h = absurd (omega arith)
+
+has-full : (k : ℕ) → k < 8 → has 255 k ≡ true
+unfolding has
+has-full zero h = refl
+has-full (suc zero) h = refl
+has-full (suc (suc zero)) h = refl
+has-full (suc (suc (suc zero))) h = refl
+has-full (suc (suc (suc (suc zero)))) h = refl
+has-full (suc (suc (suc (suc (suc zero))))) h = refl
+has-full (suc (suc (suc (suc (suc (suc zero)))))) h = refl
+has-full (suc (suc (suc (suc (suc (suc (suc zero))))))) h = refl
+has-full (suc (suc (suc (suc (suc (suc (suc (suc k)))))))) h = absurd (omega arith)
+
+-- a line that was written
+pub loaded-here : (ram : ℕ → ℕ) (old new : Words) (n : ℕ) (ws : List ℕ) → words_at ram new ≡ with_words n 255 ws (words_at ram old)
+    → ws ≡ eight (λ k. ram (word_at n k)) → ((w : ℕ) → line_of w < n → words_at ram old w ≡ ram w) → (w : ℕ) → line_of w < n + 1 → words_at ram new w ≡ ram w
+unfolding hit
+loaded-here ram old new n ws e v h w lt = (λ i. e i w) ∙ by (eqb n (line_of w)) refl
+  where
+    by : (b : Bool) → eqb n (line_of w) ≡ b → (if (n == line_of w) && has 255 (place_of w) then get_or ws (place_of w) 0 else words_at ram old w) ≡ ram w
+    by true f =
+        let same : n ≡ line_of w = eqb-true n (line_of w) f in
+        let all : has 255 (place_of w) ≡ true = has-full (place_of w) (omega arith) in
+        let own : word_at n (place_of w) ≡ w = omega arith in
+        rw (f, all) (ap (λ xs. get_or xs (place_of w) 0) v ∙ (eight-at (λ k. ram (word_at n k)) (place_of w) (omega arith) ∙ ap ram own))
+    by false f = rw f (h w (omega (arith, eqb-false n (line_of w) f)))
+
+-- a line of another home
+pub loaded-away : (ram : ℕ → ℕ) (p : Words) (n : ℕ) → is_at_home p.place n ≡ false → ((w : ℕ) → line_of w < n → words_at ram p w ≡ ram w)
+    → (w : ℕ) → line_of w < n + 1 → words_at ram p w ≡ ram w
+unfolding words_at
+loaded-away ram p n away h w lt = by (eqb (line_of w) n) refl
+  where
+    by : (b : Bool) → eqb (line_of w) n ≡ b → words_at ram p w ≡ ram w
+    by true f = let off : is_at_home p.place (line_of w) ≡ false = subst (λ k. is_at_home p.place k ≡ false) (sym (eqb-true (line_of w) n f)) away in rw off refl
+    by false f = h w (omega (arith, eqb-false (line_of w) n f))
+
+-- all lines
+pub loaded-all : (ram : ℕ → ℕ) (p : Words) (n : ℕ) → lines p.place.shape ≤ n → ((w : ℕ) → line_of w < n → words_at ram p w ≡ ram w) → words_at ram p ≡ ram
+unfolding words_at
+loaded-all ram p n e h = λ i w. by w (nat_lt (line_of w) (lines p.place.shape)) refl i
+  where
+    by : (w : ℕ) (b : Bool) → nat_lt (line_of w) (lines p.place.shape) ≡ b → words_at ram p w ≡ ram w
+    by w true f = h w (omega (arith, ltb-true (line_of w) (lines p.place.shape) f))
+    by w false f = rw f refl

@@ -1,0 +1,43 @@
+// The home words at the start: those that were loaded.
+ghost use Rattle.std.specs.Prelude.{◌≡◌, ℕ, ◌/◌, ◌^◌, ◌<◌};
+ghost use Rattle.tcc_maps.specs.Words.{eight, word_at};
+ghost use Rattle.dir_lines.specs.Words.{words_at};
+ghost use Rattle.image_load.specs.Contents.{started};
+
+use dir_lines::{DirLines, HomeWords};
+use image_load::Loaded;
+use tcc_base::{LineAddr, Mask, WordAddr};
+
+// Gives each home word its loaded value.
+pub(crate) fn load_words(lines: &DirLines, words: &mut HomeWords, loaded: &Loaded)
+    requires place { words.old.place ≡ lines.now.place }
+    requires made_for { loaded.now.settings ≡ lines.now.place.shape }
+    ensures place { words.new.place ≡ words.old.place }
+    ensures words { words_at (started loaded.now).word words.new ≡ (started loaded.now).word }
+{
+    for line in 0..lines.config().words() / 8 {
+        if lines.has_line(LineAddr(line)) {
+            let values = loaded_line(loaded, line);
+            words.write(LineAddr(line), Mask(255), &values);
+        }
+    }
+}
+
+// The loaded words of a line.
+fn loaded_line(loaded: &Loaded, line: u32) -> [u32; 8]
+    requires within { line < loaded.now.settings.ram / 32 }
+    requires small { line < 2 ^ 24 }
+    ensures { result ≡ eight (λ k. (started loaded.now).word (word_at line k)) }
+{
+    let first = 8 * line;
+    [
+        loaded.word(WordAddr(first)),
+        loaded.word(WordAddr(first + 1)),
+        loaded.word(WordAddr(first + 2)),
+        loaded.word(WordAddr(first + 3)),
+        loaded.word(WordAddr(first + 4)),
+        loaded.word(WordAddr(first + 5)),
+        loaded.word(WordAddr(first + 6)),
+        loaded.word(WordAddr(first + 7)),
+    ]
+}
