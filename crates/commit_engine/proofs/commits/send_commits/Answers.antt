@@ -21,13 +21,13 @@ loop-d-preserved c =
     let e : c.write_count-count.result ≡ count_at sh m d = c.write_count-count.ensures ∙ ap (λ (s : Settings). count_at s m d) c.requires.config in
     elim c.if-count-ne0.branch [
       | then-count-ne0 w ↦ record {
-          sent = rw w.out-is (sent_more c.args.out.now c.loop-d.out w.hand_out.new.self (commit_at sh m c.args.tid.0) d _ _
-              c.loop-d.invariant.sent w.hand_out.ensures.sent w.hand_out.ensures.room refl (commit_in sh m c.args.tid.0 d c.write_count-count.result e w.if-count-ne0.true));
-        }
+        sent = rw w.out-is (sent_more c.args.out.now c.loop-d.out w.hand_out.new.self (commit_at sh m c.args.tid.0) d _ _
+            c.loop-d.invariant.sent w.hand_out.ensures.sent w.hand_out.ensures.room refl (commit_in sh m c.args.tid.0 d c.write_count-count.result e w.if-count-ne0.true));
+      }
       | else-count-ne0 w ↦ record {
-          sent = rw w.out-is (sent_same c.args.out.now c.loop-d.out (commit_at sh m c.args.tid.0) d
-              c.loop-d.invariant.sent (commit_out sh m c.args.tid.0 d c.write_count-count.result e w.if-count-ne0.false));
-        }
+        sent = rw w.out-is (sent_same c.args.out.now c.loop-d.out (commit_at sh m c.args.tid.0) d
+            c.loop-d.invariant.sent (commit_out sh m c.args.tid.0 d c.write_count-count.result e w.if-count-ne0.false));
+      }
     ]
 
 pub returns : goal.returns
