@@ -1,0 +1,4 @@
+pub mod Cores
+pub mod Emptied
+pub mod Handed
+pub mod Steps

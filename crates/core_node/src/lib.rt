@@ -1,0 +1,14 @@
+// A core as a pure machine over messages: what it executes, evicts and answers, as the rules say.
+#![tactic(auto)]
+
+mod delivering;
+mod evicting;
+mod granting;
+mod messages;
+mod node;
+mod rolling;
+mod state;
+
+pub use delivering::CoreError;
+pub use node::CoreNode;
+pub use state::{Awaited, Core};

@@ -1,0 +1,171 @@
+// A core of the machine, with the calls by which it takes messages, empties frames and is looked at.
+ghost use Rattle.std.specs.Prelude.{◌≡◌, ◌<◌, IfOk, IsTrue, MatchOption, OnOk, OnErr, is_some, length, false, Some, None};
+ghost use Rattle.tcc_maps.specs.Bridge.{node_of};
+ghost use Rattle.tcc_msg.specs.Plain.{msg_of};
+ghost use Rattle.tcc_rules.specs.CoreDeliver.{core_deliver};
+ghost use Rattle.tcc_rules.specs.CoreEvict.{core_evict};
+ghost use Rattle.tcc_rules.specs.State.{core_start};
+ghost use Rattle.spec_cache.specs.Held.{maps};
+ghost use Rattle.spec_cache.specs.Look.{Views};
+ghost use Rattle.commit_engine.specs.Engine.{phase_of, after_of};
+ghost use Rattle.rv_plain.specs.Machine.{start_local};
+ghost use Rattle.core_node.specs.View.{core_of, IsKnown, Stays};
+ghost use Rattle.core_node.specs.Answers.{Happened, IsBlocked};
+
+use crate::delivering::{CoreError, from_dir, from_vendor};
+use crate::evicting::{can_evict, evict};
+use crate::state::Core;
+use commit_engine::{DirSet, Phase};
+use overflow_buf::OverflowBuf;
+use reg_checkpoint::Check;
+use rv_plain::{Outcome, start_regs};
+use spec_cache::{FrameView, SpecCache};
+use std::alloc::Global;
+use std::marker::Model;
+use tcc_base::{Config, CoreId, LineAddr, List, NoMemory, NodeId, Tid};
+use tcc_msg::{Msg, Outgoing};
+
+/// A core. Contracts speak of the state of the rules that it stands for.
+#[derive(Debug, Drop)]
+pub struct CoreNode {
+    core: Core,
+}
+
+impl Model for CoreNode {
+    ghost use Rattle.core_node.specs.View.{IsCore};
+    ghost use Rattle.core_node.specs.declared.state.Core.{Core};
+
+    ghost Value = { Core };
+
+    ghost view = { λ n. n.core };
+
+    ghost invariant = { λ n. IsCore n.core };
+}
+
+/// No commit yet at any directory.
+fn no_commits() -> [Tid; 64]
+    ensures none { after_of result ≡ (λ d. 0) }
+    ensures count { length result ≡ 64 }
+{
+    [Tid(0); 64]
+}
+
+impl CoreNode {
+    /// A core that runs from its entry, with empty frames. All memory of its cache is taken here.
+    #[tactic(auto, unfolding(crate::specs::View::core_of))]
+    pub fn start(alloc: Global, cfg: &Config, id: CoreId, entry: u32) -> Result<CoreNode, NoMemory>
+        ensures state { IfOk result (λ n. core_of n ≡ core_start (start_local cfg.now.cores id.0 entry)) }
+        ensures config { IfOk result (λ n. n.config ≡ cfg.now) }
+        ensures id { IfOk result (λ n. n.id ≡ id) }
+    {
+        let regs = start_regs(cfg.cores(), id.0);
+        Ok(CoreNode {
+            core: Core {
+                config: *cfg,
+                id,
+                regs,
+                pc: entry,
+                check: Check::save(&regs, entry),
+                n: 0,
+                loads: List::new(alloc),
+                stores: List::new(alloc),
+                console: List::new(alloc),
+                ended: Outcome::Goes,
+                phase: Phase::Running,
+                owing: DirSet::none(),
+                after: no_commits(),
+                cache: SpecCache::new(alloc, cfg)?,
+                spilled: OverflowBuf::new(alloc),
+                awaited: None,
+            },
+        })
+    }
+
+    /// Takes a message. Blocked exactly where the rules know no such message to a core; after an error the core is as before
+    /// and nothing is sent. The sender exists.
+    #[tactic(auto, unfolding(tcc_rules::specs::CoreDeliver::core_deliver))]
+    pub fn deliver(&mut self, src: NodeId, msg: &Msg, out: &mut Outgoing) -> Result<(), CoreError>
+        requires { IsKnown self.old.config src }
+        ensures does { OnOk result (Happened (core_deliver self.old.config (core_of self.old) (node_of src) (msg_of msg.now)) out.old self.new out.new) }
+        ensures blocked { IsBlocked result (core_deliver self.old.config (core_of self.old) (node_of src) (msg_of msg.now)) }
+        ensures stays { Stays self.old self.new }
+        ensures unchanged { OnErr result (self.new ≡ self.old) }
+        ensures unsent { OnErr result (out.new.list.items ≡ out.old.list.items) }
+    {
+        match src {
+            NodeId::Core(_) => Err(CoreError::Blocked),
+            NodeId::Dir(d) => from_dir(&mut self.core, d, msg, out),
+            NodeId::Vendor => from_vendor(&mut self.core, msg, out),
+        }
+    }
+
+    /// Empties a way: its dirty words go home and its modified words to the overflow buffer. Blocked exactly where the rules
+    /// don't allow it; after an error the core is as before and nothing is sent.
+    pub fn evict(&mut self, set: u16, way: u8, out: &mut Outgoing) -> Result<(), CoreError>
+        requires set_exists { set < self.old.config.sets }
+        requires way_exists { way < self.old.config.ways }
+        ensures does { OnOk result (Happened (core_evict self.old.config set way (core_of self.old)) out.old self.new out.new) }
+        ensures blocked { IsBlocked result (core_evict self.old.config set way (core_of self.old)) }
+        ensures stays { Stays self.old self.new }
+        ensures unchanged { OnErr result (core_of self.new ≡ core_of self.old) }
+        ensures unsent { OnErr result (out.new.list.items ≡ out.old.list.items) }
+    {
+        evict(&mut self.core, set, way, out)
+    }
+
+    /// Whether the way may be emptied now. Takes no memory.
+    pub fn can_evict(&self, set: u16, way: u8) -> bool
+        requires set_exists { set < self.now.config.sets }
+        requires way_exists { way < self.now.config.ways }
+        ensures { result ≡ is_some (core_evict self.now.config set way (core_of self.now)) }
+    {
+        can_evict(&self.core, set, way)
+    }
+
+    /// How far the core has come with its transaction.
+    #[tactic(auto, unfolding(crate::specs::View::core_of))]
+    pub fn phase(&self) -> Phase
+        ensures { phase_of result ≡ (core_of self.now).phase }
+    {
+        self.core.phase
+    }
+
+    /// The frame of a way; None exactly where it holds no line.
+    #[tactic(auto, unfolding(crate::specs::View::core_of))]
+    pub fn frame(&self, set: u16, way: u8) -> Option<FrameView>
+        requires set_exists { set < self.now.config.sets }
+        requires way_exists { way < self.now.config.ways }
+        ensures { let c = (core_of self.now).cache in MatchOption result (c.at set way ≡ None) (λ f. (c.at set way ≡ Some f.line.0) × Views c f.line.0 f) }
+    {
+        self.core.cache.frame(set, way)
+    }
+
+    /// The frame of a line; None exactly where it has none.
+    #[tactic(auto, unfolding(crate::specs::View::core_of))]
+    pub fn frame_of(&self, line: LineAddr) -> Option<FrameView>
+        ensures { let c = (core_of self.now).cache in MatchOption result (c.held line.0 ≡ false) (λ f. IsTrue (c.held line.0) × Views c line.0 f) }
+    {
+        self.core.cache.frame_of(line)
+    }
+
+    /// The checkpoint: registers and pc as the last commit left them.
+    pub fn check(&self) -> &Check
+        ensures { result.now ≡ self.now.check }
+    {
+        &self.core.check
+    }
+
+    /// How the present attempt ended, and how a halted core did.
+    pub fn ended(&self) -> Outcome
+        ensures { result ≡ self.now.ended }
+    {
+        self.core.ended
+    }
+
+    /// The number of console bytes of the present attempt.
+    pub fn console_len(&self) -> usize
+        ensures { result ≡ length self.now.console }
+    {
+        self.core.console.items.len()
+    }
+}
