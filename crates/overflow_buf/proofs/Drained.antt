@@ -114,8 +114,8 @@ module _ (es : Entries) (s : IsBuffer es) where
   pub keys_counted : Rises (keys_of es) → (n : ℕ) → IsBelow n (spilled es) → length (keys_of es) ≡ count_below (holds (spilled es)) n
   keys_counted r n b =
       ap length (rising_same (keys_of es) (those (holds (spilled es)) n) r (those-rise (holds (spilled es)) n)
-        (λ l m. let h : holds (spilled es) l ≡ true = sym (kept_holds l) ∙ key_kept es l m in those-holds (holds (spilled es)) n l (below es n l b h) h)
-        (λ l m. kept_key es l (kept_holds l ∙ (those-only (holds (spilled es)) n l m).1)))
+      (λ l m. let h : holds (spilled es) l ≡ true = sym (kept_holds l) ∙ key_kept es l m in those-holds (holds (spilled es)) n l (below es n l b h) h)
+      (λ l m. kept_key es l (kept_holds l ∙ (those-only (holds (spilled es)) n l m).1)))
       ∙ length-those (holds (spilled es)) n
 
 -- the keys of a map rise
@@ -142,13 +142,16 @@ module _ (m : BTreeMap ℕ SpilledLine) (s : IsBuffer m.entries) (start : ℕ) (
   next-some n v t e =
       let first = rw e at in_range.1 in
       let here : kept_at m.entries n ≡ Some v = sym (looked_up m.entries n) ∙ first.1 in
-      let above : start ≤ n = not_above n first.0.0 in
-      (above, sym (kept_holds m.entries s n) ∙ (rw here refl), λ l a b. elim (cases_Bool (holds (spilled m.entries) l)) [
-        | inr f ↦ f
-        | inl h ↦ absurd (let found = kept_some (kept_at m.entries l) (kept_holds m.entries s l ∙ h) in
-            let w = rw e at (in_range.2 l (from_start l a, tt) (found_some l found.0 (looked_up m.entries l ∙ found.1))) in
-            let q : n ≤ l = lower n l w in omega (arith, b, q))
-      ])
+      let above : start ≤ n = not_above n first.0.0 in (
+        above,
+        sym (kept_holds m.entries s n) ∙ (rw here refl),
+        λ l a b. elim (cases_Bool (holds (spilled m.entries) l)) [
+          | inr f ↦ f
+          | inl h ↦ absurd (let found = kept_some (kept_at m.entries l) (kept_holds m.entries s l ∙ h) in
+              let w = rw e at (in_range.2 l (from_start l a, tt) (found_some l found.0 (looked_up m.entries l ∙ found.1))) in
+              let q : n ≤ l = lower n l w in omega (arith, b, q))
+        ],
+      )
     where
       not_above : (q : ℕ) → is_gt (nat_cmp start q) ≡ false → start ≤ q
       not_above q g = grind (arith, nat_tests)

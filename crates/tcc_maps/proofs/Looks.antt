@@ -67,14 +67,23 @@ module _ (sh : Shape) (l : ℕ) (c : Cache) where
       (answer b o m (set_of sh l) ≡ Overflow s) ↔ ((s ≡ set_of sh l) × (c.held l ≡ false) × Full s)
   unfolding all_marked
   overflow-in true o m s e f a = (λ q. absurd (cc), λ h. absurd (false≢true (sym h.1 ∙ e)))
-  overflow-in false (Some y) m s e f a = (λ q. absurd (cc),
-    λ h. absurd (marked_none (c.at (set_of sh l) y) (subst (λ (t : ℕ). way_marked c (c.at t y) ≡ true) h.0 (h.2 y f.below)) f.passes))
-  overflow-in false None true s e f a = (λ q. let r : s ≡ set_of sh l = cc in (r, e, λ y i.
-    subst (λ (t : ℕ). way_marked c (c.at t y) ≡ true) (sym r) (all_below-at is_marked_way sh.ways y a i)), λ h. ap Overflow (sym h.0))
+  overflow-in false (Some y) m s e f a = (
+    λ q. absurd (cc),
+    λ h. absurd (marked_none (c.at (set_of sh l) y) (subst (λ (t : ℕ). way_marked c (c.at t y) ≡ true) h.0 (h.2 y f.below)) f.passes),
+  )
+  overflow-in false None true s e f a = (
+    λ q. let r : s ≡ set_of sh l = cc in (
+      r,
+      e,
+      λ y i.
+          subst (λ (t : ℕ). way_marked c (c.at t y) ≡ true) (sym r) (all_below-at is_marked_way sh.ways y a i),
+    ),
+    λ h. ap Overflow (sym h.0),
+  )
   overflow-in false None false s e f a = (
     λ q. absurd (cc),
     λ h. absurd (false≢true (sym a ∙ all_below-each is_marked_way sh.ways
-      (λ y i. subst (λ (t : ℕ). way_marked c (c.at t y) ≡ true) h.0 (h.2 y i)))),
+        (λ y i. subst (λ (t : ℕ). way_marked c (c.at t y) ≡ true) h.0 (h.2 y i)))),
   )
 
   pub looks-overflow : (s : ℕ) →
@@ -84,7 +93,7 @@ module _ (sh : Shape) (l : ℕ) (c : Cache) where
 
   room-in : (b : Bool) (o : Option ℕ) (m : Bool) (s : ℕ) → c.held l ≡ b → LowestIs is_free sh.ways o → all_marked sh c (set_of sh l) ≡ m →
       (answer b o m (set_of sh l) ≡ NeedsRoom s) ↔ ((s ≡ set_of sh l) × (c.held l ≡ false) ×
-        ((y : ℕ) → y < sh.ways → is_some (c.at s y) ≡ true) × ((y : ℕ) × (y < sh.ways) × (way_marked c (c.at s y) ≡ false)))
+      ((y : ℕ) → y < sh.ways → is_some (c.at s y) ≡ true) × ((y : ℕ) × (y < sh.ways) × (way_marked c (c.at s y) ≡ false)))
   unfolding all_marked
   room-in true o m s e f a = (λ q. absurd (cc), λ h. absurd (false≢true (sym h.1 ∙ e)))
   room-in false (Some y) m s e f a = (
@@ -98,12 +107,15 @@ module _ (sh : Shape) (l : ℕ) (c : Cache) where
   room-in false None true s e f a = (
     λ q. absurd (cc),
     λ h. absurd (false≢true (sym (h.3.2) ∙
-      subst (λ (t : ℕ). way_marked c (c.at t h.3.0) ≡ true) (sym h.0) (all_below-at is_marked_way sh.ways h.3.0 a h.3.1))),
+        subst (λ (t : ℕ). way_marked c (c.at t h.3.0) ≡ true) (sym h.0) (all_below-at is_marked_way sh.ways h.3.0 a h.3.1))),
   )
   room-in false None false s e f a = (
-    λ q. let r : s ≡ set_of sh l = cc in let u = all_below-fails is_marked_way sh.ways a in
-        (r, e, λ y i. subst (λ (t : ℕ). is_some (c.at t y) ≡ true) (sym r) (some_of (c.at (set_of sh l) y) (f y i)),
-          (u.0, u.1, subst (λ (t : ℕ). way_marked c (c.at t u.0) ≡ false) (sym r) u.2)),
+    λ q. let r : s ≡ set_of sh l = cc in let u = all_below-fails is_marked_way sh.ways a in (
+      r,
+      e,
+      λ y i. subst (λ (t : ℕ). is_some (c.at t y) ≡ true) (sym r) (some_of (c.at (set_of sh l) y) (f y i)),
+      (u.0, u.1, subst (λ (t : ℕ). way_marked c (c.at t u.0) ≡ false) (sym r) u.2),
+    ),
     λ h. ap NeedsRoom (sym h.0),
   )
 
@@ -131,6 +143,6 @@ pub reads-masked : (l m : ℕ) (c : Cache) → (reads_masked l m c ≡ true) ↔
 unfolding reads_masked hit
 reads-masked l m c = let a = any-word (λ w. hit l m w && c.read w) l in (
   (λ e. let r = a.0 e in let p = and_parts (hit l m r.0) (c.read r.0) r.2 in
-    let q : has m (place_of r.0) ≡ true = (let z = p.0 in grind (arith, nat_tests)) in (r.0, r.1, q, p.1)),
+      let q : has m (place_of r.0) ≡ true = (let z = p.0 in grind (arith, nat_tests)) in (r.0, r.1, q, p.1)),
   (λ h. a.1 (h.0, h.1, let i = h.1 in let j = h.2 in let k = h.3 in grind (arith, nat_tests))),
 )

@@ -130,7 +130,7 @@ LooksOverflow = (sh : Shape) (l s : ℕ) (c : Cache) → (look_line sh l c ≡ O
 abbrev pub LooksRoom : Type 0
 LooksRoom = (sh : Shape) (l s : ℕ) (c : Cache) → (look_line sh l c ≡ NeedsRoom s) ↔
     ((s ≡ set_of sh l) × (c.held l ≡ false) × ((y : ℕ) → y < sh.ways → is_some (c.at s y) ≡ true) ×
-      ((y : ℕ) × (y < sh.ways) × (way_marked c (c.at s y) ≡ false)))
+    ((y : ℕ) × (y < sh.ways) × (way_marked c (c.at s y) ≡ false)))
 
 -- some word of a line passes a test; a masked word of it is marked read
 abbrev pub AnyWord : Type 0

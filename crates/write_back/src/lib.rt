@@ -53,7 +53,11 @@ mod tests {
             (None, 5, one, 5, Take::Drop),
             (None, 0, one, 1, Take::Wait),
         ] {
-            assert_eq!(rt; judge(owner, Tid(tag), from, Tid(back_tag)), want, "{back_tag}");
+            assert_eq!(rt;
+                judge(owner, Tid(tag), from, Tid(back_tag)),
+                want,
+                "{back_tag}"
+            );
         }
     }
 }

@@ -7,4 +7,4 @@ returns-in-None c = line-none c.args.self.now c.args.line.0 c.args.tid.0 c.in-No
 pub returns-in-Some : goal.returns-in-Some
 returns-in-Some c =
     rw c.tagged.ensures (line-drained c.args.self.now c.args.line.0 c.in-Some.kept c.in-Some.ensures.value
-      (is_spilled c.kept.result c.in-Some.kept c.in-Some.is (rw c.kept.ensures.value (c.kept.ensures.in_order c.args.line.0))) c.args.tid.0)
+    (is_spilled c.kept.result c.in-Some.kept c.in-Some.is (rw c.kept.ensures.value (c.kept.ensures.in_order c.args.line.0))) c.args.tid.0)

@@ -9,4 +9,4 @@ returns-in-None c =
 pub returns-in-Some : goal.returns-in-Some
 returns-in-Some c =
     rw (sym c.self.view_is) (next-some c.self.inside.lines c.self.invariant c.args.from.0 c.range.result (c.range.ensures.in_range tt)
-      c.in-Some.line.now c.in-Some.field-0-1.now c.next.new.self c.in-Some.ensures.steps)
+    c.in-Some.line.now c.in-Some.field-0-1.now c.next.new.self c.in-Some.ensures.steps)
