@@ -10,7 +10,6 @@ use Rattle.tcc_rules.specs.State as rules
 use Rattle.tcc_rules.specs.Attempt.{Out}
 use Rattle.spec_cache.specs.Held.{maps}
 use Rattle.overflow_buf.specs.Kept.{spilled}
-use Rattle.rv_exec.specs.Needs.{local_of}
 use Rattle.rv_plain.specs.Attempts.{outcome_of}
 use Rattle.commit_engine.specs.Engine.{phase_of, after_of}
 use Rattle.commit_engine.specs.Sent.{Sent}
@@ -23,8 +22,8 @@ awaited_of (Some a) = Some (record { line = a.line.0; stale = a.stale })
 
 unfoldable pub core_of : Core → rules.CoreState
 core_of c = record {
-  local = local_of c.regs c.pc;
-  saved = local_of c.check.regs c.check.pc;
+  local = c.state;
+  saved = c.check;
   n = c.n;
   loads = c.loads;
   stores = c.stores;

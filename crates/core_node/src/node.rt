@@ -8,7 +8,7 @@ ghost use Rattle.tcc_rules.specs.State.{core_start};
 ghost use Rattle.spec_cache.specs.Held.{maps};
 ghost use Rattle.spec_cache.specs.Look.{Views};
 ghost use Rattle.commit_engine.specs.Engine.{phase_of, after_of};
-ghost use Rattle.rv_plain.specs.Machine.{start_local};
+ghost use Rattle.rv_code.specs.Machine.{start_local};
 ghost use Rattle.core_node.specs.View.{core_of, IsKnown, Stays};
 ghost use Rattle.core_node.specs.Answers.{Happened, IsBlocked};
 
@@ -18,7 +18,8 @@ use crate::state::Core;
 use commit_engine::{DirSet, Phase};
 use overflow_buf::OverflowBuf;
 use reg_checkpoint::Check;
-use rv_plain::{Outcome, start_regs};
+use rv_code::start_state;
+use rv_plain::Outcome;
 use spec_cache::{FrameView, SpecCache};
 use std::alloc::Global;
 use std::marker::Model;
@@ -58,14 +59,13 @@ impl CoreNode {
         ensures config { IfOk result (λ n. n.config ≡ cfg.now) }
         ensures id { IfOk result (λ n. n.id ≡ id) }
     {
-        let regs = start_regs(cfg.cores(), id.0);
+        let state = start_state(cfg.cores(), id.0, entry);
         Ok(CoreNode {
             core: Core {
                 config: *cfg,
                 id,
-                regs,
-                pc: entry,
-                check: Check::save(&regs, entry),
+                state,
+                check: Check::save(&state),
                 n: 0,
                 loads: List::new(alloc),
                 stores: List::new(alloc),

@@ -24,8 +24,7 @@ pub(crate) fn roll_back(core: &mut Core)
     ensures stays { Stays core.old core.new }
 {
     core.cache.roll_back();
-    core.regs = *core.check.regs();
-    core.pc = core.check.pc();
+    core.state = core.check.restore();
     core.n = 0;
     core.loads.items.clear();
     core.stores.items.clear();

@@ -1,7 +1,7 @@
 // The state of a core.
 use commit_engine::{DirSet, Phase};
 use overflow_buf::OverflowBuf;
-use reg_checkpoint::{Check, Regs};
+use reg_checkpoint::{Check, State};
 use rv_plain::Outcome;
 use spec_cache::SpecCache;
 use tcc_base::{Config, CoreId, LineAddr, List, Load, Stored, Tid};
@@ -18,9 +18,9 @@ pub struct Awaited {
 pub struct Core {
     pub config: Config,
     pub id: CoreId,
-    pub regs: Regs,
-    pub pc: u32,
-    /// Registers and pc as the last commit left them.
+    /// Registers, pc and reservation.
+    pub state: State,
+    /// The same as the last commit left them.
     pub check: Check,
     /// The attempt: its instructions, loads, stores and console bytes so far.
     pub n: u32,
