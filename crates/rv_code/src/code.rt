@@ -114,12 +114,11 @@ impl Code {
         ensures need { need_of result ≡ bounded (in_ram self.now.settings) (need_of need) }
         ensures served { IsServed self.now.settings.base self.now.settings.ram result }
     {
+        let config = self.loaded.config();
         match need {
-            Need::Load { addr, size } if !self.loaded.config().in_ram(addr, size) => Need::Trap(5),
-            Need::Store { addr, size, .. } if !self.loaded.config().in_ram(addr, size) =>
-                Need::Trap(7),
-            Need::Amo { addr, .. } if !self.loaded.config().in_ram(addr, Size::Word) =>
-                Need::Trap(7),
+            Need::Load { addr, size } if !config.in_ram(addr, size) => Need::Trap(5),
+            Need::Store { addr, size, .. } if !config.in_ram(addr, size) => Need::Trap(7),
+            Need::Amo { addr, .. } if !config.in_ram(addr, Size::Word) => Need::Trap(7),
             _ => need,
         }
     }

@@ -7,8 +7,8 @@ ghost use Rattle.rv_decode.specs.Formats.{opcode_of, funct3_of, funct7_of, funct
 ghost use Rattle.rv_decode.specs.Table.{Encodes};
 
 use crate::fields::{
-    funct3, funct5, funct7, immediate_b, immediate_i, immediate_j, immediate_s, immediate_u, opcode,
-    order, rd, rs1, rs2, shift_amount,
+    funct3, funct5, funct7, immediate_b, immediate_i, immediate_j, immediate_s, immediate_u,
+    opcode, order, rd, rs1, rs2, shift_amount,
 };
 use crate::instruction::{AmoOp, Cond, ImmOp, Inst, LoadKind, RegOp};
 use tcc_base::Size;

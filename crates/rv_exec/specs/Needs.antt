@@ -1,5 +1,5 @@
 -- What the code's needs stand for, and what holds of each need that a plan gives.
-use Rattle.std.specs.Prelude.{ℕ, ◌%◌, ◌^◌, ◌<◌, ◌≡◌, ◌==◌, ◌||◌, IsTrue}
+use Rattle.std.specs.Prelude.{◌%◌, ◌^◌, ◌<◌, ◌≡◌, ◌==◌, ◌||◌, IsTrue}
 use Rattle.rv_exec.specs.declared.need.Need.{Need as CodeNeed}
 use Rattle.rv_exec.specs.declared.need.Need.TheVariants as code
 use Rattle.rv_exec.specs.Operations.{amo_result}

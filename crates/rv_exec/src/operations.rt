@@ -91,8 +91,16 @@ pub fn amo_value(op: AmoOp, old: u32, operand: u32) -> u32
         AmoOp::Amoxor => old ^ operand,
         AmoOp::Amoand => old & operand,
         AmoOp::Amoor => old | operand,
-        AmoOp::Amomin => if signed_less(old, operand) { old } else { operand },
-        AmoOp::Amomax => if signed_less(old, operand) { operand } else { old },
+        AmoOp::Amomin => if signed_less(old, operand) {
+            old
+        } else {
+            operand
+        },
+        AmoOp::Amomax => if signed_less(old, operand) {
+            operand
+        } else {
+            old
+        },
         AmoOp::Amominu => if old < operand { old } else { operand },
         AmoOp::Amomaxu => if old < operand { operand } else { old },
     }

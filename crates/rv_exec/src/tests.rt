@@ -287,7 +287,11 @@ fn values_of_atomic_memory_operations(rt: HostRuntime) {
         (AmoOp::Amomaxu, 0xffff_ffff, 0, 0xffff_ffff),
     ];
     for (op, old, operand, stored) in rows {
-        assert_eq!(rt; amo_value(op, old, operand), stored, "{op:?} {old:x} {operand:x}");
+        assert_eq!(rt;
+            amo_value(op, old, operand),
+            stored,
+            "{op:?} {old:x} {operand:x}"
+        );
     }
 }
 
@@ -312,7 +316,10 @@ fn atomic_memory_operations(rt: HostRuntime) {
     assert_eq!(rt; plan(&one, &state), need(0x8000_0040, 0x8000_0040));
     let next = after(&one, 0x8000_0040, 5, Some(9));
     assert_eq!(rt; (next.get(x(1)), next.pc()), (9, PC + 4));
-    assert_eq!(rt; plan(&amo(x(3), x(1), x(2)), &at(0x8000_0042, 5)), Need::Trap(6));
+    assert_eq!(rt;
+        plan(&amo(x(3), x(1), x(2)), &at(0x8000_0042, 5)),
+        Need::Trap(6)
+    );
 }
 
 #[test]

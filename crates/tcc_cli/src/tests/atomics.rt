@@ -6,9 +6,7 @@ const ROWS: [Row; 12] = [
     // a store-conditional without a reservation makes no access
     Row {
         steps: "100",
-        image: &[
-            0x80000337, 0x18b322af, 0x05d00893, 0x00000073,
-        ],
+        image: &[0x80000337, 0x18b322af, 0x05d00893, 0x00000073],
         status: 0,
         report: "tcc-report 1\nend done\nevents 5\ncommit 1 0 4\ncore 0 halt 0\npc 8000000c\nreg 5 00000001\nreg 6 80000000\nreg 11 00000001\nreg 17 0000005d\n",
     },
@@ -25,7 +23,8 @@ const ROWS: [Row; 12] = [
     Row {
         steps: "100",
         image: &[
-            0x80000337, 0x04030313, 0x100322af, 0x00632023, 0x18b323af, 0x186324af, 0x05d00893, 0x00000073,
+            0x80000337, 0x04030313, 0x100322af, 0x00632023, 0x18b323af, 0x186324af, 0x05d00893,
+            0x00000073,
         ],
         status: 0,
         report: "tcc-report 1\nend done\nevents 9\ncommit 1 0 8\nload 80000040 4 00000000\ncore 0 halt 0\npc 8000001c\nreg 6 80000040\nreg 9 00000001\nreg 11 00000001\nreg 17 0000005d\nmem 80000040 00000001\n",
@@ -51,63 +50,49 @@ const ROWS: [Row; 12] = [
     // no trap outside RAM where nothing is reserved
     Row {
         steps: "100",
-        image: &[
-            0x180022af, 0x05d00893, 0x00000073,
-        ],
+        image: &[0x180022af, 0x05d00893, 0x00000073],
         status: 0,
         report: "tcc-report 1\nend done\nevents 4\ncommit 1 0 3\ncore 0 halt 0\npc 80000008\nreg 5 00000001\nreg 11 00000001\nreg 17 0000005d\n",
     },
     // LR.W at 1, which is no multiple of four and lies outside RAM
     Row {
         steps: "100",
-        image: &[
-            0x1005a2af,
-        ],
+        image: &[0x1005a2af],
         status: 0,
         report: "tcc-report 1\nend done\nevents 2\ncommit 1 0 1\ncore 0 trap 4\npc 80000000\nreg 11 00000001\n",
     },
     // SC.W at 1, without a reservation
     Row {
         steps: "100",
-        image: &[
-            0x1805a2af,
-        ],
+        image: &[0x1805a2af],
         status: 0,
         report: "tcc-report 1\nend done\nevents 2\ncommit 1 0 1\ncore 0 trap 6\npc 80000000\nreg 11 00000001\n",
     },
     // AMOADD.W at 1
     Row {
         steps: "100",
-        image: &[
-            0x0005a2af,
-        ],
+        image: &[0x0005a2af],
         status: 0,
         report: "tcc-report 1\nend done\nevents 2\ncommit 1 0 1\ncore 0 trap 6\npc 80000000\nreg 11 00000001\n",
     },
     // LR.W at 0, outside RAM
     Row {
         steps: "100",
-        image: &[
-            0x100022af,
-        ],
+        image: &[0x100022af],
         status: 0,
         report: "tcc-report 1\nend done\nevents 2\ncommit 1 0 1\ncore 0 trap 5\npc 80000000\nreg 11 00000001\n",
     },
     // AMOADD.W at 0, outside RAM
     Row {
         steps: "100",
-        image: &[
-            0x000022af,
-        ],
+        image: &[0x000022af],
         status: 0,
         report: "tcc-report 1\nend done\nevents 2\ncommit 1 0 1\ncore 0 trap 7\npc 80000000\nreg 11 00000001\n",
     },
     // LR.W with 1 in its field rs2
     Row {
         steps: "100",
-        image: &[
-            0x1015a2af,
-        ],
+        image: &[0x1015a2af],
         status: 0,
         report: "tcc-report 1\nend done\nevents 2\ncommit 1 0 1\ncore 0 trap 2\npc 80000000\nreg 11 00000001\n",
     },
