@@ -33,13 +33,6 @@ module _ (p : ℕ → Bool) (i n : ℕ) (counted : n ≡ count_below p i) where
   unfolding count_below
   counted_same m e f = rw (add-one, f) (e ∙ counted ∙ omega arith)
 
--- as many ways as there are, in sets and ways
-pub whole_list : (h : Held) (s : IsHeld h) (n i : ℕ) → n ≡ h.config.sets * h.config.ways → i < n → i < length h.frames
-whole_list h s n i e b = let l : length h.frames ≡ h.config.sets * h.config.ways = s.filled_ways in omega (arith, e, b, l)
-
-pub whole_count : (h : Held) (s : IsHeld h) (n a : ℕ) → n ≡ h.config.sets * h.config.ways → n ≤ a → a ≤ n → a ≡ length h.frames
-whole_count h s n a e b c = let l : length h.frames ≡ h.config.sets * h.config.ways = s.filled_ways in omega (arith, e, b, c, l)
-
 -- ---- one line, one way
 
 pub held_as_found : (h : Held) (s : IsHeld h) (l : ℕ) (o : Option (ℕ × FrameView)) → MatchOption o (frame_of h.frames l ≡ None) (λ p. IsWayOf h l p) →
@@ -122,12 +115,6 @@ module _ (h : Held) (s : IsHeld h) where
       e ∙ lines_counted (writes_in h.config.dirs d) (writes_none d) (lines h.config) h.frames s.once s.exists
       ∙ count_below-same _ _ (lines h.config) (λ l b. line_writes d l (frame_of h.frames l) refl)
 
-  -- the same, where the number of directories and that of the ways were read before
-  pub write_counted_at : (d n dirs a : ℕ) → dirs ≡ h.config.dirs → a ≡ length h.frames → n ≡ count_below (λ i. writes_in dirs d (get_or h.frames i None)) a →
-      n ≡ count_below (λ l. nat_eq d (l % h.config.dirs) && is_modified (maps h) l) (lines h.config)
-  write_counted_at d n dirs a e l c =
-      write_counted d n (c ∙ ap (λ x. count_below (λ i. writes_in x d (get_or h.frames i None)) a) e ∙ ap (count_below (λ i. writes_in h.config.dirs d (get_or h.frames i None))) l)
-
   line_dirty : (l : ℕ) (o : Option FrameView) → frame_of h.frames l ≡ o → dirty_way o ≡ is_dirty (maps h) l
   unfolding dirty_way
   line_dirty l None e = sym (clean l e)
@@ -140,7 +127,7 @@ module _ (h : Held) (s : IsHeld h) where
   pub dirty_counted : (n : ℕ) → n ≡ count_below (λ i. dirty_way (get_or h.frames i None)) (length h.frames) → not (nat_eq n 0) ≡ any_below (is_dirty (maps h)) (lines h.config)
   dirty_counted n e =
       let all : n ≡ count_below (is_dirty (maps h)) (lines h.config) =
-          e ∙ lines_counted dirty_way dirty_none (lines h.config) h.frames s.once s.exists ∙ count_below-same _ _ (lines h.config) (λ l b. line_dirty l (frame_of h.frames l) refl) in
+      e ∙ lines_counted dirty_way dirty_none (lines h.config) h.frames s.once s.exists ∙ count_below-same _ _ (lines h.config) (λ l b. line_dirty l (frame_of h.frames l) refl) in
       ap (λ x. not (nat_eq x 0)) all ∙ sym (any_below-count (is_dirty (maps h)) (lines h.config))
 
   -- ---- the useful ways
@@ -192,23 +179,6 @@ module _ (h : Held) (s : IsHeld h) where
         let a = count_below-within (useful_at h.config q (maps h)) (h.config.sets * h.config.ways) i inside (useful-here q i ∙ here) in
         let b = length-those (useful_at h.config q (maps h)) (h.config.sets * h.config.ways) in
         omega (arith, a, b, passed)
-
-module _ (h : Held) (s : IsHeld h) (q : Wants) (ways : ℕ) (e : ways ≡ h.config.ways) where
-  abbrev in_way : ℕ → ℕ → Bool
-  in_way n i = useful_in q (i / n) (get_or h.frames i None)
-
-  pub useful_counted_at : (n a : ℕ) → a ≡ h.config.sets * h.config.ways → n ≡ count_below (λ i. useful_in q (i / ways) (get_or h.frames i None)) a → n ≡ length (useful_ways h.config q (maps h))
-  useful_counted_at n a l c =
-      c ∙ ap (λ x. count_below (in_way x) a) e ∙ ap (count_below (in_way h.config.ways)) l ∙ sym (useful_counted h s q)
-
-  pub useful_found : (i k left : ℕ) → i < h.config.sets * h.config.ways → useful_in q (i / ways) (get_or h.frames i None) ≡ true →
-      count_below (λ j. useful_in q (j / ways) (get_or h.frames j None)) i + left ≡ k → left ≡ 0 →
-      (k < length (useful_ways h.config q (maps h))) × (i / ways < h.config.sets) × (i % ways < h.config.ways) × (get_or (useful_ways h.config q (maps h)) k 0 ≡ i / ways * h.config.ways + i % ways)
-  useful_found i k left inside here before none =
-      let positive : 0 < h.config.ways = s.allowed.3.0 in
-      let found : useful_in q (i / h.config.ways) (get_or h.frames i None) ≡ true = ap (λ x. in_way x i) (sym e) ∙ here in
-      let passed : count_below (in_way h.config.ways) i ≡ k = ap (λ x. count_below (in_way x) i) (sym e) ∙ omega (arith, before, none) in
-      rw e (useful_more h s q i k inside found passed, div_below i h.config.ways h.config.sets positive inside, omega (arith, positive), useful_nth h s q i k inside found passed ∙ omega (arith, positive))
 
 pub writes-count : (h : Held) (d : ℕ) → writes_at h.config (maps h) d ≡ not (nat_eq (count_below (λ l. nat_eq d (l % h.config.dirs) && is_modified (maps h) l) (lines h.config)) 0)
 unfolding writes_at

@@ -24,3 +24,4 @@ pub mod Counts
 pub mod Tallied
 pub mod SetTallies
 pub mod TrackedKept
+pub mod UsefulSets

@@ -22,9 +22,9 @@ module _ (h : Held) (ts ws rs : List ℕ) (n : ℕ) (idle used : Counted) (k : I
   IsTracked-set t e us vs m a b w r d x y = record {
     tags = rw (k.tags, e) (sym (map-set tag_of h.frames i o));
     written = λ a b. recounted (writes_in h.config.dirs a) h.frames i o inside (get_or ws a 0) (get_or us a 0) (k.written a b)
-      (rw (writes-home h.config.dirs a (get_or h.frames i None), writes-home h.config.dirs a o) (w a));
+        (rw (writes-home h.config.dirs a (get_or h.frames i None), writes-home h.config.dirs a o) (w a));
     read = λ a b. recounted (reads_in h.config.dirs a) h.frames i o inside (get_or rs a 0) (get_or vs a 0) (k.read a b)
-      (rw (reads-home h.config.dirs a (get_or h.frames i None), reads-home h.config.dirs a o) (r a));
+        (rw (reads-home h.config.dirs a (get_or h.frames i None), reads-home h.config.dirs a o) (r a));
     dirty = recounted dirty_way h.frames i o inside n m k.dirty d;
     idle = x;
     used = y;
@@ -34,7 +34,7 @@ module _ (h : Held) (ts ws rs : List ℕ) (n : ℕ) (idle used : Counted) (k : I
 
 pub IsTracked-empty : (s : Settings) → s.sets * s.ways ≤ 16384 →
     IsTracked (record { config = s; frames = replicate (s.sets * s.ways) None }) (replicate (s.sets * s.ways) 4294967295) (replicate 64 0) (replicate 64 0) 0
-      (record { counts = replicate s.sets 0; all = 0 }) (record { counts = replicate s.sets 0; all = 0 })
+    (record { counts = replicate s.sets 0; all = 0 }) (record { counts = replicate s.sets 0; all = 0 })
 IsTracked-empty s b = record {
   tags = map-none (s.sets * s.ways);
   written = λ d l. zeros 64 d ∙ sym (count-none (writes_in s.dirs d) (s.sets * s.ways) (unfold written_in in refl));

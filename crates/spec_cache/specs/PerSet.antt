@@ -1,5 +1,5 @@
 -- Ways counted set by set.
-use Rattle.std.specs.Prelude.{ℕ, ◌+◌, ◌*◌, ◌<◌, ◌≡◌, Bool, false, not, ◌==◌, ◌&&◌, List, length, get_or, Option, Some, None}
+use Rattle.std.specs.Prelude.{ℕ, ◌+◌, ◌*◌, ◌<◌, ◌≡◌, Bool, true, false, not, ◌==◌, ◌&&◌, List, length, get_or, Option, Some, None}
 use Rattle.tcc_maps.specs.Words.{count_below}
 use Rattle.spec_cache.specs.declared.frame.FrameView.{FrameView}
 use Rattle.spec_cache.specs.Useful.{is_marked_frame, is_written_frame}
@@ -28,3 +28,9 @@ pub record IsPerSet (q : Option FrameView → Bool) (h : Held) (p : Counted) : T
   pub sets : length p.counts ≡ h.config.sets
   pub each : (s : ℕ) → s < h.config.sets → get_or p.counts s 0 ≡ count_set q h s
   pub all : p.all ≡ count_below (λ i. q (get_or h.frames i None)) (length h.frames)
+
+-- way y of the set passes the test, and as many ways of it before
+pub record IsNthWay (q : Option FrameView → Bool) (h : Held) (s n y : ℕ) : Type 0 where
+  pub exists : y < h.config.ways
+  pub passes : q (get_or h.frames (s * h.config.ways + y) None) ≡ true
+  pub before : count_below (λ z. q (get_or h.frames (s * h.config.ways + z) None)) y ≡ n

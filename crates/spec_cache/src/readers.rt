@@ -4,9 +4,10 @@ ghost use Rattle.tcc_maps.specs.Words.{any_below, count_below};
 ghost use Rattle.tcc_maps.specs.Shape.{lines, home};
 ghost use Rattle.tcc_maps.specs.Cache.{keeps as keeps_word, is_marked as marked_line, is_modified as modified_line, is_dirty as dirty_line, writes_at as any_write, marks_by_home as every_mark};
 ghost use Rattle.tcc_maps.specs.CacheUse.{useful_ways};
-ghost use Rattle.spec_cache.specs.Held.{IsHeld, maps};
+ghost use Rattle.spec_cache.specs.Held.{maps};
 ghost use Rattle.spec_cache.specs.Home.{mark_of};
-ghost use Rattle.spec_cache.specs.Useful.{wants_of};
+ghost use Rattle.spec_cache.specs.Useful.{wants_of, useful_in};
+ghost use Rattle.spec_cache.specs.PerSet.{count_set, IsNthWay};
 
 use crate::cache::SpecCache;
 use crate::frames::{line_of_word, place_of_word};
@@ -62,16 +63,6 @@ impl SpecCache {
         }
     }
 
-    /// The number of ways, of all sets.
-    fn way_count(&self) -> usize
-        ensures value { result ≡ self.now.config.sets * self.now.config.ways }
-        ensures below { result ≤ 16384 }
-        ensures in_order { IsHeld self.now }
-    {
-        let cfg = self.frames.config();
-        cfg.sets() as usize * cfg.ways() as usize
-    }
-
     /// The number of lines at home at the directory that have modified words.
     pub fn write_count(&self, d: DirId) -> u32
         ensures { result ≡ count_below (λ l. d.0 == home self.now.config l && modified_line (maps self.now) l) (lines self.now.config) }
@@ -102,38 +93,91 @@ impl SpecCache {
         self.frames.dirty_count() != 0
     }
 
-    /// How many ways may be emptied with use.
+    /// How many ways may be emptied with use. Constant time where no line is awaited and no room is wanted, and else a step a set.
     pub fn useful_count(&self, wants: Wants) -> usize
         ensures { result ≡ length (useful_ways self.now.config (wants_of wants) (maps self.now)) }
     {
+        if wants.is_plain() {
+            self.frames.useful_ways(wants.alone)
+        } else {
+            self.count_by_set(wants)
+        }
+    }
+
+    /// The same, set by set.
+    fn count_by_set(&self, wants: Wants) -> usize
+        ensures { result ≡ length (useful_ways self.now.config (wants_of wants) (maps self.now)) }
+    {
+        let sets = self.frames.config().sets() as usize;
+        let mut count = 0;
+        for set in 0..sets {
+            count += self.useful_in_set(wants, set);
+        }
+        count
+    }
+
+    /// The set and way of the `k`-th way that may be emptied with use, from 0, in the order of set and way; None exactly where
+    /// there are no more than `k`. Takes a step a set.
+    pub fn useful_way(&self, wants: Wants, k: usize) -> Option<(u16, u8)>
+        ensures { let all = useful_ways self.now.config (wants_of wants) (maps self.now) in
+            MatchOption result (length all ≤ k) (λ p. (k < length all) × (p.0 < self.now.config.sets) × (p.1 < self.now.config.ways) × (get_or all k 0 ≡ p.0 * self.now.config.ways + p.1)) }
+    {
+        let sets = self.frames.config().sets();
+        let mut left = k;
+        for set in 0..sets {
+            let here = self.useful_in_set(wants, set as usize);
+            if left < here {
+                return Some((set, self.nth_in_set(wants, set as usize, left)));
+            }
+            left -= here;
+        }
+        None
+    }
+
+    /// How many ways of a set may be emptied with use.
+    fn useful_in_set(&self, wants: Wants, set: usize) -> usize
+        requires { set < self.now.config.sets }
+        ensures number { result ≡ count_set (useful_in (wants_of wants) set) self.now set }
+        ensures few { result ≤ 16 }
+    {
+        if wants.touches(set, self.frames.config().sets()) {
+            self.look_at_set(wants, set)
+        } else {
+            self.frames.useful_in_set(wants.alone, set)
+        }
+    }
+
+    /// The same, way by way.
+    fn look_at_set(&self, wants: Wants, set: usize) -> usize
+        requires { set < self.now.config.sets }
+        ensures { result ≡ count_set (useful_in (wants_of wants) set) self.now set }
+    {
         let ways = self.frames.config().ways() as usize;
         let mut count = 0;
-        for at in 0..self.way_count() {
-            if wants.finds(at / ways, &self.frames.way(at)) {
+        for way in 0..ways {
+            if wants.finds(set, &self.frames.way(set * ways + way)) {
                 count += 1;
             }
         }
         count
     }
 
-    /// The set and way of the `k`-th way that may be emptied with use, from 0, in the order of set and way; None exactly where
-    /// there are no more than `k`.
-    pub fn useful_way(&self, wants: Wants, k: usize) -> Option<(u16, u8)>
-        ensures {
-            let all = useful_ways self.now.config (wants_of wants) (maps self.now) in
-            MatchOption result (length all ≤ k) (λ p. (k < length all) × (p.0 < self.now.config.sets) × (p.1 < self.now.config.ways) × (get_or all k 0 ≡ p.0 * self.now.config.ways + p.1))
-        }
+    /// The `left`-th way of a set, from 0, that may be emptied with use, where there are more than `left`.
+    fn nth_in_set(&self, wants: Wants, set: usize, left: usize) -> u8
+        requires exists { set < self.now.config.sets }
+        requires more { left < count_set (useful_in (wants_of wants) set) self.now set }
+        ensures { IsNthWay (useful_in (wants_of wants) set) self.now set left result }
     {
-        let ways = self.frames.config().ways() as usize;
-        let mut left = k;
-        for at in 0..self.way_count() {
-            if wants.finds(at / ways, &self.frames.way(at)) {
+        let ways = self.frames.config().ways();
+        let mut left = left;
+        for way in 0..ways {
+            if wants.finds(set, &self.frames.way(set * ways as usize + way as usize)) {
                 if left == 0 {
-                    return Some(((at / ways) as u16, (at % ways) as u8));
+                    return way;
                 }
                 left -= 1;
             }
         }
-        None
+        unreachable!()
     }
 }

@@ -1,7 +1,8 @@
 // The frames of a cache in one array, a line's frame among the ways of its set.
-ghost use Rattle.std.specs.Prelude.{◌≡◌, ◌*◌, ◌≤◌, replicate, Option, None, IfOk};
+ghost use Rattle.std.specs.Prelude.{◌≡◌, ◌*◌, ◌≤◌, replicate, Option, None, IfOk, cond, ◌<◌};
 ghost use Rattle.spec_cache.specs.Home.{reads_in};
 ghost use Rattle.spec_cache.specs.Useful.{writes_in, dirty_way};
+ghost use Rattle.spec_cache.specs.PerSet.{idle_way, used_way, count_set};
 ghost use Rattle.spec_cache.specs.Tracked.{count_ways};
 
 use crate::frame::{Change, FrameView};
@@ -55,6 +56,23 @@ impl SetFrames {
         ensures in_order { IsHeld self.now }
     {
         self.ways.write_count(home.0)
+    }
+
+    /// The number of ways that may be emptied with use, where no line is awaited and no room is wanted.
+    pub(crate) fn useful_ways(&self, alone: bool) -> usize
+        ensures number { result ≡ cond alone (count_ways used_way self.now.frames) (count_ways idle_way self.now.frames) }
+        ensures in_order { IsHeld self.now }
+    {
+        self.ways.useful_ways(alone)
+    }
+
+    /// The same of one set.
+    pub(crate) fn useful_in_set(&self, alone: bool, set: usize) -> usize
+        requires { set < self.now.config.sets }
+        ensures number { result ≡ cond alone (count_set used_way self.now set) (count_set idle_way self.now set) }
+        ensures in_order { IsHeld self.now }
+    {
+        self.ways.useful_in_set(alone, set)
     }
 
     /// The number of frames with a dirty word.

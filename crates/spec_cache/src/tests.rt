@@ -1,5 +1,7 @@
 // Both forms of the frames driven by the same calls, and a cache that is filled, rolled back and committed.
-use super::{Evicted, FrameView, Frames, Invalidated, ListFrames, Look, SetFrames, SpecCache};
+use super::{
+    Evicted, FrameView, Frames, Invalidated, ListFrames, Look, SetFrames, SpecCache, Wants,
+};
 use std::test::Fail;
 use tcc_base::{Config, DirId, LineAddr, Mask, Tagged, Tid, WordAddr};
 
@@ -188,5 +190,101 @@ fn a_cache_marks_what_it_wrote(rt: HostRuntime) -> Result<(), Fail> {
     assert_eq!(rt; cache.load(WordAddr(10), true), Look::Hit(7));
     assert!(rt; cache.reads_at(DirId(1)));
     assert_eq!(rt; cache.marks_by_home(DirId(1))?.len(), 0);
+    Ok(())
+}
+
+/// Gives the word's line a frame, where it has none.
+fn frame_line(cache: &mut SpecCache, line: u32) {
+    if line < cache.config().words() / 8 && !cache.has_frame(LineAddr(line)) {
+        let _ = cache.place(LineAddr(line));
+    }
+}
+
+/// Stores a word, in a frame that its line may get for it.
+fn write(cache: &mut SpecCache, w: u32) {
+    frame_line(cache, w / 8);
+    if cache.has_frame(LineAddr(w / 8)) {
+        let _ = cache.store(WordAddr(w), w, false);
+    }
+}
+
+/// A core that is alone or not, and awaits no line and no room.
+fn plain(alone: bool) -> Wants {
+    Wants {
+        alone,
+        awaited: None,
+        room: None,
+    }
+}
+
+#[test]
+fn a_cache_answers_what_a_core_asks(rt: HostRuntime) -> Result<(), Fail> {
+    let Ok(cfg) = Config::new(1, 2, 2, 2, 0, 512) else {
+        return Ok(());
+    };
+    let mut cache = SpecCache::new(rt.alloc(), &cfg)?;
+    write(&mut cache, 8);
+    write(&mut cache, 16);
+    frame_line(&mut cache, 3);
+    assert!(rt; cache.has_frame(LineAddr(3)) && !cache.has_frame(LineAddr(4)));
+    assert!(rt; cache.keeps(LineAddr(1)) && !cache.keeps(LineAddr(3)));
+    assert!(rt; cache.is_modified(WordAddr(8)) && !cache.is_modified(WordAddr(9)));
+    assert!(rt; cache.writes_at(DirId(0)) && cache.writes_at(DirId(1)));
+    assert_eq!(rt; cache.write_count(DirId(1)), 1);
+    let mut marks = Vec::new(rt.alloc());
+    cache.marks_into(DirId(1), &mut marks)?;
+    assert_eq!(rt; marks.as_slice(), [(LineAddr(1), Mask(1))].as_slice());
+    assert!(rt; !cache.any_dirty());
+    cache.commit(Tid(1));
+    assert!(rt; cache.any_dirty() && !cache.writes_at(DirId(1)));
+    cache.drop_words(LineAddr(1), Mask(1));
+    assert!(rt; !cache.keeps(LineAddr(1)));
+    Ok(())
+}
+
+#[test]
+fn a_cache_counts_its_useful_ways(rt: HostRuntime) -> Result<(), Fail> {
+    let Ok(cfg) = Config::new(1, 2, 2, 2, 0, 512) else {
+        return Ok(());
+    };
+    let mut cache = SpecCache::new(rt.alloc(), &cfg)?;
+    write(&mut cache, 8);
+    write(&mut cache, 16);
+    frame_line(&mut cache, 3);
+    assert_eq!(rt; cache.useful_count(plain(false)), 0);
+    assert_eq!(rt; cache.useful_count(plain(true)), 2);
+    assert_eq!(rt; cache.useful_way(plain(true), 0), Some((0, 0)));
+    assert_eq!(rt; cache.useful_way(plain(true), 1), Some((1, 0)));
+    assert_eq!(rt; cache.useful_way(plain(true), 2), None);
+    let room = Wants {
+        room: Some(1),
+        ..plain(false)
+    };
+    assert_eq!(rt; cache.useful_count(room), 1);
+    assert_eq!(rt; cache.useful_way(room, 0), Some((1, 1)));
+    cache.commit(Tid(1));
+    let awaiting = Wants {
+        awaited: Some(LineAddr(2)),
+        ..plain(false)
+    };
+    assert_eq!(rt; cache.useful_count(plain(false)), 2);
+    assert_eq!(rt; cache.useful_count(awaiting), 1);
+    assert_eq!(rt; cache.useful_way(awaiting, 0), Some((1, 0)));
+    Ok(())
+}
+
+#[test]
+fn a_cache_shows_its_ways(rt: HostRuntime) -> Result<(), Fail> {
+    let Ok(cfg) = Config::new(1, 2, 2, 2, 0, 512) else {
+        return Ok(());
+    };
+    let mut cache = SpecCache::new(rt.alloc(), &cfg)?;
+    write(&mut cache, 8);
+    frame_line(&mut cache, 3);
+    if cache.config().sets() == 2 && cache.config().ways() == 2 {
+        assert_eq!(rt; cache.way(1, 0), Some((LineAddr(1), true)));
+        assert_eq!(rt; cache.way(1, 1), Some((LineAddr(3), false)));
+        assert_eq!(rt; cache.way(0, 1), None);
+    }
     Ok(())
 }

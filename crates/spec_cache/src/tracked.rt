@@ -6,8 +6,8 @@ ghost use Rattle.spec_cache.specs.Useful.{writes_in, dirty_way};
 ghost use Rattle.spec_cache.specs.PerSet.{idle_way, used_way, count_set};
 ghost use Rattle.spec_cache.specs.Tracked.{count_ways};
 
-use crate::home_counts::{ByHome, one, read_home, recount, tag, written_home};
 use crate::frame::FrameView;
+use crate::home_counts::{ByHome, one, read_home, recount, tag, written_home};
 use crate::per_set::PerSet;
 use crate::slots::{empty_ways, frame_for, no_tags};
 use crate::useful::{is_dirty, is_idle, is_used};
@@ -92,8 +92,16 @@ impl Tracked {
     {
         let dirs = self.config.dirs();
         let old = self.way(at);
-        recount(&mut self.written, written_home(&old, dirs), written_home(&frame, dirs));
-        recount(&mut self.read, read_home(&old, dirs), read_home(&frame, dirs));
+        recount(
+            &mut self.written,
+            written_home(&old, dirs),
+            written_home(&frame, dirs),
+        );
+        recount(
+            &mut self.read,
+            read_home(&old, dirs),
+            read_home(&frame, dirs),
+        );
         self.dirty = self.dirty + one(is_dirty(&frame)) - one(is_dirty(&old));
         let set = at / self.config.ways() as usize;
         self.idle.shift(set, is_idle(&old), is_idle(&frame));
@@ -114,7 +122,12 @@ impl Tracked {
     }
 
     /// The first way from `first` on, and before `end`, that holds the line.
-    pub(crate) fn find_in(&self, first: usize, end: usize, line: LineAddr) -> Option<(usize, FrameView)>
+    pub(crate) fn find_in(
+        &self,
+        first: usize,
+        end: usize,
+        line: LineAddr,
+    ) -> Option<(usize, FrameView)>
         requires { end ≤ length self.now.frames }
         ensures { MatchOption result ((j : ℕ) → first ≤ j → j < end → holds_line line.0 (get_or self.now.frames j None) ≡ false) (λ p. (get_or self.now.frames p.0 None ≡ Some p.1) × (p.1.line.0 ≡ line.0)) }
     {
@@ -160,7 +173,11 @@ impl Tracked {
     pub(crate) fn useful_ways(&self, alone: bool) -> usize
         ensures { result ≡ cond alone (count_ways used_way self.now.frames) (count_ways idle_way self.now.frames) }
     {
-        if alone { self.used.all() } else { self.idle.all() }
+        if alone {
+            self.used.all()
+        } else {
+            self.idle.all()
+        }
     }
 
     /// The same of one set.

@@ -1,5 +1,6 @@
 // Which ways of a cache may be emptied with use.
-ghost use Rattle.std.specs.Prelude.{◌≡◌, ◌&&◌, ◌||◌, not};
+ghost use Rattle.std.specs.Prelude.{◌≡◌, ◌<◌, ◌%◌, ◌&&◌, ◌||◌, not, is_some};
+ghost use Rattle.std.specs.Option.{option_map};
 ghost use Rattle.tcc_maps.specs.CacheUse.{is_number};
 ghost use Rattle.spec_cache.specs.PerSet.{idle_way, used_way};
 ghost use Rattle.spec_cache.specs.Useful.{wants_of, is_marked_frame, is_written_frame, useful_in, dirty_way};
@@ -37,6 +38,32 @@ impl Wants {
             None => false,
             Some(room) => room as usize == set,
         }
+    }
+
+    /// Whether a line is awaited or room is wanted in this set, of as many.
+    pub(crate) fn touches(&self, set: usize, sets: u16) -> bool
+        requires { 0 < sets }
+        ensures { result ≡ is_number self.now.room set || is_number (option_map (λ l. l % sets) (wants_of self.now).awaited) set }
+    {
+        self.wants_room(set) || self.awaits_in(set, sets)
+    }
+
+    /// Whether the line that the core awaits belongs to this set, of as many.
+    fn awaits_in(&self, set: usize, sets: u16) -> bool
+        requires { 0 < sets }
+        ensures { result ≡ is_number (option_map (λ l. l % sets) (wants_of self.now).awaited) set }
+    {
+        match self.awaited {
+            None => false,
+            Some(line) => (line.0 % sets as u32) as usize == set,
+        }
+    }
+
+    /// Whether no line is awaited and no room is wanted.
+    pub(crate) fn is_plain(&self) -> bool
+        ensures { result ≡ not (is_some self.now.room) && not (is_some self.now.awaited) }
+    {
+        self.room.is_none() && self.awaited.is_none()
     }
 
     /// Whether the frame is marked, and such frames aren't emptied.

@@ -23,5 +23,5 @@ loop-at-preserved c =
 pub returns : goal.returns
 returns c =
     let frames = all_done c.args.change c.args.ways.now.frames c.loop-at.ways.frames c.args.places.now c.loop-at.at-index c.loop-at.invariant.size (omega arith)
-      c.requires.marked c.loop-at.invariant.either c.loop-at.invariant.done in
+    c.requires.marked c.loop-at.invariant.either c.loop-at.invariant.done in
     λ i. record { config = c.loop-at.invariant.config i; frames = frames i }

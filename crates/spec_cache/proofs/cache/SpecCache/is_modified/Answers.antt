@@ -9,4 +9,4 @@ returns-in-None c =
 pub returns-in-Some : goal.returns-in-Some
 returns-in-Some c =
     rw (sym c.self.view_is) (modified_here c.self.inside.frames c.find.ensures.in_order c.line_of_word.result.0 (c.in-Some.field-0-0, c.in-Some.frame)
-      c.in-Some.ensures.found c.args.w.0 c.line_of_word.ensures c.place_of_word.result c.place_of_word.ensures c.has.result c.has.ensures)
+    c.in-Some.ensures.found c.args.w.0 c.line_of_word.ensures c.place_of_word.result c.place_of_word.ensures c.has.result c.has.ensures)

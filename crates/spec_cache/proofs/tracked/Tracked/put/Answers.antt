@@ -15,18 +15,18 @@ use Rattle.spec_cache.proofs.tracked.Tracked.put.Goals as goal
 pub recount-requires-clause-less_exists : goal.recount-requires-clause-less_exists
 recount-requires-clause-less_exists c =
     written-below c.dirs-dirs.result (rw c.dirs-dirs.ensures.value c.dirs-dirs.ensures.allowed.1.0) (rw c.dirs-dirs.ensures.value c.dirs-dirs.ensures.allowed.1.1)
-      c.way-old.result c.written_home.result c.written_home.ensures
+    c.way-old.result c.written_home.result c.written_home.ensures
 
 pub recount-requires-clause-more_exists : goal.recount-requires-clause-more_exists
 recount-requires-clause-more_exists c =
     written-below c.dirs-dirs.result (rw c.dirs-dirs.ensures.value c.dirs-dirs.ensures.allowed.1.0) (rw c.dirs-dirs.ensures.value c.dirs-dirs.ensures.allowed.1.1)
-      c.args.frame c.written_home-2.result c.written_home-2.ensures
+    c.args.frame c.written_home-2.result c.written_home-2.ensures
 
 pub recount-requires-clause-some : goal.recount-requires-clause-some
 recount-requires-clause-some c =
     let old : c.way-old.result ≡ get_or c.self.inside.frames.items c.args.at None = rw (sym c.self.view_is) at c.way-old.ensures in
     written-some c.self.inside.frames.items c.args.at (rw (sym c.self.view_is) at c.requires) c.self.inside.written c.self.inside.config.dirs c.self.invariant.written
-      c.written_home.result (recount-requires-clause-less_exists c) (c.written_home.ensures ∙ (rw (c.dirs-dirs.ensures.value, old) refl))
+    c.written_home.result (recount-requires-clause-less_exists c) (c.written_home.ensures ∙ (rw (c.dirs-dirs.ensures.value, old) refl))
 
 pub recount-requires-clause-small : goal.recount-requires-clause-small
 recount-requires-clause-small c =
@@ -35,18 +35,18 @@ recount-requires-clause-small c =
 pub recount-requires-2-clause-less_exists : goal.recount-requires-2-clause-less_exists
 recount-requires-2-clause-less_exists c =
     read-below c.dirs-dirs.result (rw c.dirs-dirs.ensures.value c.dirs-dirs.ensures.allowed.1.0) (rw c.dirs-dirs.ensures.value c.dirs-dirs.ensures.allowed.1.1)
-      c.way-old.result c.read_home.result c.read_home.ensures
+    c.way-old.result c.read_home.result c.read_home.ensures
 
 pub recount-requires-2-clause-more_exists : goal.recount-requires-2-clause-more_exists
 recount-requires-2-clause-more_exists c =
     read-below c.dirs-dirs.result (rw c.dirs-dirs.ensures.value c.dirs-dirs.ensures.allowed.1.0) (rw c.dirs-dirs.ensures.value c.dirs-dirs.ensures.allowed.1.1)
-      c.args.frame c.read_home-2.result c.read_home-2.ensures
+    c.args.frame c.read_home-2.result c.read_home-2.ensures
 
 pub recount-requires-2-clause-some : goal.recount-requires-2-clause-some
 recount-requires-2-clause-some c =
     let old : c.way-old.result ≡ get_or c.self.inside.frames.items c.args.at None = rw (sym c.self.view_is) at c.way-old.ensures in
     read-some c.self.inside.frames.items c.args.at (rw (sym c.self.view_is) at c.requires) c.self.inside.read c.self.inside.config.dirs c.self.invariant.read
-      c.read_home.result (recount-requires-2-clause-less_exists c) (c.read_home.ensures ∙ (rw (c.dirs-dirs.ensures.value, old) refl))
+    c.read_home.result (recount-requires-2-clause-less_exists c) (c.read_home.ensures ∙ (rw (c.dirs-dirs.ensures.value, old) refl))
 
 pub recount-requires-2-clause-small : goal.recount-requires-2-clause-small
 recount-requires-2-clause-small c =
@@ -61,7 +61,7 @@ pub overflow_sub-self : goal.overflow_sub-self
 overflow_sub-self c =
     let old : c.way-old.result ≡ get_or c.self.inside.frames.items c.args.at None = rw (sym c.self.view_is) at c.way-old.ensures in
     rw c.one-2.ensures (dirty-enough c.self.inside.frames.items c.args.at c.self.inside.dirty c.one.result c.is_dirty-2.result (rw (sym c.self.view_is) at c.requires)
-      c.self.invariant.dirty (c.is_dirty-2.ensures ∙ ap dirty_way old))
+    c.self.invariant.dirty (c.is_dirty-2.ensures ∙ ap dirty_way old))
 
 pub shift-requires : goal.shift-requires
 shift-requires c =
@@ -98,10 +98,10 @@ invariant_of-self c =
     let old : c.way-old.result ≡ get_or c.self.inside.frames.items c.args.at None = rw (sym c.self.view_is) at c.way-old.ensures in
     let dirs = c.self.inside.config.dirs in
     let was : c.written_home.result ≡ written_home dirs (get_or c.self.inside.frames.items c.args.at None) =
-        c.written_home.ensures ∙ (rw (c.dirs-dirs.ensures.value, old) refl) in
+    c.written_home.ensures ∙ (rw (c.dirs-dirs.ensures.value, old) refl) in
     let is : c.written_home-2.result ≡ written_home dirs c.args.frame = c.written_home-2.ensures ∙ (rw c.dirs-dirs.ensures.value refl) in
     let was_read : c.read_home.result ≡ read_home dirs (get_or c.self.inside.frames.items c.args.at None) =
-        c.read_home.ensures ∙ (rw (c.dirs-dirs.ensures.value, old) refl) in
+    c.read_home.ensures ∙ (rw (c.dirs-dirs.ensures.value, old) refl) in
     let is_read : c.read_home-2.result ≡ read_home dirs c.args.frame = c.read_home-2.ensures ∙ (rw c.dirs-dirs.ensures.value refl) in
     let more : c.one.result ≡ num (dirty_way c.args.frame) = c.one.ensures ∙ ap num c.is_dirty.ensures in
     let less : c.one-2.result ≡ num (dirty_way (get_or c.self.inside.frames.items c.args.at None)) = c.one-2.ensures ∙ ap num (c.is_dirty-2.ensures ∙ ap dirty_way old) in
@@ -112,10 +112,10 @@ invariant_of-self c =
     let was_idle : c.is_idle.result ≡ idle_way (get_or c.self.inside.frames.items c.args.at None) = c.is_idle.ensures ∙ ap idle_way old in
     let was_used : c.is_used.result ≡ used_way (get_or c.self.inside.frames.items c.args.at None) = c.is_used.ensures ∙ ap used_way old in
     let idle = IsPerSet-set idle_way h ways.0 ways.1 c.self.invariant.whole c.args.at c.args.frame inside c.self.inside.idle c.shift.new.self c.self.invariant.idle c.shift.ensures.sets
-        (λ s. rw (← c.ways.ensures.value, ← was_idle, ← c.is_idle-2.ensures) (c.shift.ensures.counts s)) (rw (← was_idle, ← c.is_idle-2.ensures) c.shift.ensures.all) in
+    (λ s. rw (← c.ways.ensures.value, ← was_idle, ← c.is_idle-2.ensures) (c.shift.ensures.counts s)) (rw (← was_idle, ← c.is_idle-2.ensures) c.shift.ensures.all) in
     let used = IsPerSet-set used_way h ways.0 ways.1 c.self.invariant.whole c.args.at c.args.frame inside c.self.inside.used c.shift-2.new.self c.self.invariant.used c.shift-2.ensures.sets
-        (λ s. rw (← c.ways.ensures.value, ← was_used, ← c.is_used-2.ensures) (c.shift-2.ensures.counts s)) (rw (← was_used, ← c.is_used-2.ensures) c.shift-2.ensures.all) in
+    (λ s. rw (← c.ways.ensures.value, ← was_used, ← c.is_used-2.ensures) (c.shift-2.ensures.counts s)) (rw (← was_used, ← c.is_used-2.ensures) c.shift-2.ensures.all) in
     IsTracked-set h c.self.inside.tags.items c.self.inside.written c.self.inside.read
-      c.self.inside.dirty c.self.inside.idle c.self.inside.used c.self.invariant c.args.at c.args.frame (rw (sym c.self.view_is) at c.requires) c.tag.result c.tag.ensures _ _ _ c.shift.new.self c.shift-2.new.self
-      (λ d. rw (← was, ← is) (c.recount.ensures d)) (λ d. rw (← was_read, ← is_read) (c.recount-2.ensures d))
-      (rw (← more, ← less) (let e = c.one-2.ensures in omega (arith, enough, e))) idle used
+    c.self.inside.dirty c.self.inside.idle c.self.inside.used c.self.invariant c.args.at c.args.frame (rw (sym c.self.view_is) at c.requires) c.tag.result c.tag.ensures _ _ _ c.shift.new.self c.shift-2.new.self
+    (λ d. rw (← was, ← is) (c.recount.ensures d)) (λ d. rw (← was_read, ← is_read) (c.recount-2.ensures d))
+    (rw (← more, ← less) (let e = c.one-2.ensures in omega (arith, enough, e))) idle used

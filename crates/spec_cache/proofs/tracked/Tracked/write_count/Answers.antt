@@ -12,4 +12,4 @@ returns-then-home-dirs-clause-small c =
 pub returns-else-home-dirs-clause-number : goal.returns-else-home-dirs-clause-number
 returns-else-home-dirs-clause-number c =
     rw (sym c.self.view_is) (sym (count-never (writes_in c.self.inside.config.dirs c.args.home) c.self.inside.frames.items
-      (never-written c.self.inside.config.dirs c.dirs.ensures.allowed.1.0 c.dirs.ensures.allowed.1.1 c.args.home (rw c.dirs.ensures.value at c.if-home-dirs.false))))
+    (never-written c.self.inside.config.dirs c.dirs.ensures.allowed.1.0 c.dirs.ensures.allowed.1.1 c.args.home (rw c.dirs.ensures.value at c.if-home-dirs.false))))

@@ -1,0 +1,10 @@
+use Rattle.std.proofs.Common.{◌≡◌, ◌≤◌, ◌*◌, ◌/◌, get_or, None}
+use Rattle.tcc_maps.specs.Words.{count_below}
+use Rattle.spec_cache.specs.Useful.{useful_in, wants_of}
+use Rattle.spec_cache.proofs.cache.SpecCache.count_by_set.Given as goal
+
+abbrev pub invariant-loop-set : goal.invariant-loop-set
+invariant-loop-set l = record {
+  counted : l.count ≡ count_below (λ i. useful_in (wants_of l.wants) (i / l.self.config.ways) (get_or l.self.frames i None)) (l.set * l.self.config.ways);
+  most : l.count ≤ 16 * l.set;
+}
