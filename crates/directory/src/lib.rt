@@ -7,6 +7,8 @@ mod invalidate;
 mod loading;
 mod rules;
 mod takes;
+#[cfg(test)]
+mod tests;
 
 pub use directory::{Directory, LineState};
 pub use handled::{DirError, Handled};
