@@ -1,15 +1,18 @@
 -- The commits that go to the written directories, and what is noted of them.
-use Rattle.std.proofs.Common.{ℕ, suc, zero, ◌+◌, ◌<◌, ◌≡◌, ◌≢◌, Bool, true, false, not, cond, ◌==◌, ◌&&◌, ◌||◌, nat_eq, if◌then◌else◌, inl, inr, List, [], ◌∷◌, length, get_or, set, refl, ap, sym, ◌∙◌, arith}
+use Rattle.std.proofs.Common.{ℕ, suc, zero, ◌+◌, ◌%◌, ◌<◌, ◌≡◌, ◌≢◌, Bool, true, false, not, cond, ◌==◌, ◌&&◌, ◌||◌, nat_eq, nat_lt, if◌then◌else◌, inl, inr, List, [], ◌∷◌, length, get_or, set, refl, ap, sym, ◌∙◌, arith}
+use Rattle.std.proofs.Math.Nat.{mod-lt}
 use Rattle.std.proofs.lemmas.Bool.{cases_eq, ne_eqb}
 use Rattle.std.proofs.lemmas.Bool.Decides.{nat_tests}
 use Rattle.std.proofs.lemmas.List.{get_or-set_same, get_or-set_other}
 use Rattle.tcc_base.specs.Put.{put}
 use Rattle.tcc_base.specs.declared.names.Tid.{Tid}
 use Rattle.tcc_maps.specs.Words.{any_below, count_below}
+use Rattle.tcc_maps.specs.Masks.{has}
+use Rattle.tcc_maps.specs.Spilled.{Spilled}
 use Rattle.tcc_maps.specs.Nodes.{Node, Core, Dir, Vendor, Msg, Commit}
 use Rattle.tcc_maps.specs.Shape.{Shape, home, lines}
 use Rattle.tcc_maps.specs.Cache.{Cache, is_modified, writes_at}
-use Rattle.tcc_rules.specs.Commit.{after_commit, commit_sends}
+use Rattle.tcc_rules.specs.Commit.{after_commit, commit_sends, is_written, solo_writes_at}
 use Rattle.tcc_rules.specs.Sends.{when}
 use Rattle.commit_engine.specs.Engine.{after_of, first_with}
 use Rattle.commit_engine.specs.Sent.{to_first}
@@ -81,3 +84,33 @@ after_of-set xs n t l = λ i d. (each d) i
       | inl e ↦ rw e (rw (get_or-set_same xs n t zeroth l) (grind (arith, nat_tests)))
       | inr m ↦ rw (ne_eqb d n m, get_or-set_other xs n d t zeroth m) refl
     ]
+
+-- no line is at home at a directory that isn't there
+home_elsewhere : (sh : Shape) (q : ℕ → Bool) (d n : ℕ) → 0 < sh.dirs → nat_lt d sh.dirs ≡ false → any_below (λ l. d == home sh l && q l) n ≡ false
+unfolding any_below
+home_elsewhere sh q d zero s e = refl
+home_elsewhere sh q d (suc n) s e =
+    let below : n % sh.dirs < sh.dirs = mod-lt n s in
+    let other : nat_eq d (n % sh.dirs) ≡ false = grind (arith, nat_tests) in
+    rw (home_elsewhere sh q d n s e, other) refl
+
+pub writes_elsewhere : (sh : Shape) (c : Cache) (d : ℕ) → 0 < sh.dirs → nat_lt d sh.dirs ≡ false → writes_at sh c d ≡ false
+unfolding writes_at
+writes_elsewhere sh c d s e = home_elsewhere sh (is_modified c) d (lines sh) s e
+
+pub solo_writes_elsewhere : (sh : Shape) (c : Cache) (sp : Spilled) (d : ℕ) → 0 < sh.dirs → nat_lt d sh.dirs ≡ false → solo_writes_at sh c sp d ≡ false
+unfolding solo_writes_at
+solo_writes_elsewhere sh c sp d s e = home_elsewhere sh (is_written c sp) d (lines sh) s e
+
+-- what is noted of a set of directories is what is noted of those that were written
+pub noted_all : (n bits t : ℕ) (p : ℕ → Bool) (a : ℕ → ℕ) → has bits ≡ first_with n p → ((d : ℕ) → nat_lt d n ≡ false → p d ≡ false)
+    → after_commit (first_with n (has bits)) t a ≡ after_commit p t a
+unfolding first_with
+noted_all n bits t p a e none = ap (λ (w : ℕ → Bool). after_commit w t a) (λ i d. (each d) i)
+  where
+    by : (d : ℕ) (b : Bool) → nat_lt d n ≡ b → (b && (b && p d)) ≡ p d
+    by d true q = refl
+    by d false q = sym (none d q)
+
+    each : (d : ℕ) → (nat_lt d n && has bits d) ≡ p d
+    each d = rw (ap (λ (w : ℕ → Bool). w d) e) (by d (nat_lt d n) refl)

@@ -160,3 +160,11 @@ few_lines sh c sp ms e =
     ap length e ∙ length-map (those (is_written c sp) (lines sh)) (λ l. (l, written_mask c sp l)) ∙ length-those (is_written c sp) (lines sh) in
     let small = count_small (is_written c sp) (lines sh) in
     omega (arith, long, small)
+
+-- a directory was written exactly where a line of the list is at home
+pub writes-here : (sh : Shape) (c : Cache) (sp : Spilled) (ms : List (ℕ × ℕ)) (d n : ℕ) → ms ≡ solo_list sh c sp → n ≡ length (here sh d ms)
+    → solo_writes_at sh c sp d ≡ not (nat_eq n 0)
+unfolding solo_writes_at
+writes-here sh c sp ms d n e k =
+    let count : n ≡ count_below (written_here sh c sp d) (lines sh) = k ∙ ap (λ (xs : List (ℕ × ℕ)). length (here sh d xs)) e ∙ count_here-is sh c sp d in
+    rw count (any_below-count (written_here sh c sp d) (lines sh))

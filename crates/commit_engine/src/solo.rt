@@ -85,6 +85,25 @@ fn count_here(cfg: &Config, marks: &[(LineAddr, Mask)], d: DirId) -> u32
     count
 }
 
+/// The directories where lines of the list are at home, where it holds all lines that the core has written.
+pub fn solo_homes(
+    cfg: &Config,
+    cache: &SpecCache,
+    spilled: &OverflowBuf,
+    marks: &[(LineAddr, Mask)],
+) -> DirSet
+    requires { map mark_of marks.now ≡ solo_list cfg.now (maps cache.now) (words_of spilled.now) }
+    ensures { has result.bits ≡ first_with cfg.now.dirs (solo_writes_at cfg.now (maps cache.now) (words_of spilled.now)) }
+{
+    let mut set = DirSet::none();
+    for d in 0..cfg.dirs() {
+        if count_here(cfg, marks, DirId(d)) != 0 {
+            set = set.with(DirId(d));
+        }
+    }
+    set
+}
+
 /// Tells each directory how many lines of the list were marked there, or that there were none.
 fn close_all(cfg: &Config, marks: &[(LineAddr, Mask)], tid: Tid, out: &mut Outgoing)
     requires few { length marks.now ≤ lines cfg.now }
