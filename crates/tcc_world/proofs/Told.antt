@@ -9,7 +9,8 @@ pub appends-nothing : (told : Option (List ℕ)) → Appends told told []
 appends-nothing None = _
 appends-nothing (Some known) = sym (append-nil known)
 
-pub appends-append : (before mid after : Option (List ℕ)) (xs ys : List ℕ) → Appends before mid xs → Appends mid after ys → Appends before after (xs ++ ys)
+pub appends-append : (before mid after : Option (List ℕ)) (xs ys : List ℕ) → Appends before mid xs → Appends mid after ys
+    → Appends before after (xs ++ ys)
 appends-append None mid after xs ys first then = _
 appends-append (Some known) None after xs ys first then = absurd first
 appends-append (Some known) (Some more) None xs ys first then = absurd then
@@ -21,9 +22,11 @@ rest_whole i xs = take_all (length xs - i) (drop i xs) (omega (arith, length-dro
 
 -- the step of a loop that hands out the rest, from i on, of which n bytes are taken
 pub appends-take_more : (before mid after : Option (List ℕ)) (i n : ℕ) (xs : List ℕ)
-    → Appends before mid (take i xs) → Appends mid after (take n (take (length xs - i) (drop i xs))) → Appends before after (take (i + n) xs)
+    → Appends before mid (take i xs) → Appends mid after (take n (take (length xs - i) (drop i xs)))
+    → Appends before after (take (i + n) xs)
 appends-take_more before mid after i n xs begun more =
-    rw (take-add i n xs, sym (rest_whole i xs)) (appends-append before mid after (take i xs) (take n (take (length xs - i) (drop i xs))) begun more)
+    let rest = take (length xs - i) (drop i xs) in
+    rw (take-add i n xs, sym (rest_whole i xs)) (appends-append before mid after (take i xs) (take n rest) begun more)
 
 -- for a loop that writes part after part
 pub ruleset parts = (appends-nothing, appends-take_more)
