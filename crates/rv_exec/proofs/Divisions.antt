@@ -75,16 +75,21 @@ signed_some b h some = grind (arith, nat_tests, ints)
 not_zero : (b : ℕ) → 0 < b → b == 0 ≡ false
 not_zero b some = grind (arith, nat_tests)
 
+-- the bits of a word that is read as this integer
+bits_of : (a : ℕ) → a < 2 ^ 32 → {z : ℤ} → signed a ≡ z → a ≡ cast_unsigned w32 z
+bits_of a h is = sym (of_z-to_z w32 a h) ∙ ap (cast_unsigned w32) is
+
 pub divides_signed : DividesSigned
 divides_signed a b h k some no_overflow =
     let x = signed a in
     let y = signed b in
     let fits = quotient_fits x y (signed_fits a h)
-    (λ last first. no_overflow (sym (of_z-to_z w32 b k) ∙ ap (cast_unsigned w32) last) (sym (of_z-to_z w32 a h) ∙ ap (cast_unsigned w32) first)) in
+    (λ last first. no_overflow (bits_of b k last) (bits_of a h first)) in
     let quotient : signed (reg_result Div a b) ≡ int_div x y =
     ap (λ t. signed (if t then all_ones else word (int_div x y))) (not_zero b some) ∙ signed-word (int_div x y) fits in
     let remainder : signed (reg_result Rem a b) ≡ int_rem x y =
-    ap (λ t. signed (if t then a else word (int_rem x y))) (not_zero b some) ∙ signed-word (int_rem x y) (remainder_fits x y (signed_fits a h)) in
+    ap (λ t. signed (if t then a else word (int_rem x y))) (not_zero b some)
+    ∙ signed-word (int_rem x y) (remainder_fits x y (signed_fits a h)) in
     subst (λ q. Divides x y q (signed (reg_result Rem a b))) (sym quotient)
     (subst (Divides x y (int_div x y)) (sym remainder) (divides x y (signed_some b k some)))
 

@@ -59,7 +59,8 @@ low_signed a b h k =
 low_negative : (n a b : ℕ) → suc n + a ≡ 2 ^ 32 → a * b % 2 ^ 32 ≡ word (negsuc n *ℤ pos b)
 low_negative n a b e =
     let times : (suc n + a) * b ≡ 2 ^ 32 * b = ap (λ t. t * b) e in
-    sym (ap unsigned_abs (int_rem_euclid_is (negsuc n *ℤ pos b) (pos (2 ^ 32)) (2 ^ 32) b (a * b) (lit< tt) refl (omega (arith, ints, times))))
+    let up = int_rem_euclid_is (negsuc n *ℤ pos b) (pos (2 ^ 32)) (2 ^ 32) b (a * b) (lit< tt) refl (omega (arith, ints, times)) in
+    sym (ap unsigned_abs up)
 
 low_mixed : (a b : ℕ) → a < 2 ^ 32 → a * b % 2 ^ 32 ≡ word (signed a *ℤ pos b)
 low_mixed a b h = by (ltb a (2 ^ 31))
