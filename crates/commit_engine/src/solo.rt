@@ -85,6 +85,20 @@ fn count_here(cfg: &Config, marks: &[(LineAddr, Mask)], d: DirId) -> u32
     count
 }
 
+/// How many messages `send_solo` sends at most.
+pub fn solo_room(
+    cfg: &Config,
+    cache: &SpecCache,
+    spilled: &OverflowBuf,
+    marks: &[(LineAddr, Mask)],
+) -> usize
+    requires { map mark_of marks.now ≡ solo_list cfg.now (maps cache.now) (words_of spilled.now) }
+    ensures { result ≡ 2 * length marks.now + cfg.now.dirs }
+{
+    let dirs = cfg.dirs() as usize;
+    2 * marks.len() + dirs
+}
+
 /// The directories where lines of the list are at home, where it holds all lines that the core has written.
 pub fn solo_homes(
     cfg: &Config,
