@@ -16,7 +16,7 @@ usage() {
     cat <<END
 Usage: tcc run FORM CORES DIRS SETS WAYS STEPS IMAGE...
 
-Runs images of RISC-V programs (RV32IM) on a machine that executes nothing but transactions, and prints a report.
+Runs images of RISC-V programs (RV32IMA) on a machine that executes nothing but transactions, and prints a report.
 
   FORM      raw or elf: what all the images are
   CORES     the number of cores: 1, so far
