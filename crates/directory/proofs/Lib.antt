@@ -5,3 +5,4 @@ pub mod Owning
 pub mod Committing
 pub mod LoadedWords
 pub mod Taking
+pub mod Staying

@@ -4,3 +4,4 @@ pub mod DataInside
 pub mod Foreign
 pub mod Gives
 pub mod Invs
+pub mod Stays

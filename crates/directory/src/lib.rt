@@ -9,6 +9,8 @@ mod rules;
 mod takes;
 #[cfg(test)]
 mod tests;
+mod waits;
 
 pub use directory::{Directory, LineState};
 pub use handled::{DirError, Handled};
+pub use waits::Cause;

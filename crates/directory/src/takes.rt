@@ -37,7 +37,7 @@ impl Directory {
         }
     }
 
-    fn takes_probe(&self, tid: Tid) -> bool
+    pub(crate) fn takes_probe(&self, tid: Tid) -> bool
         ensures { (e : ℕ → ℕ) (c : ℕ) → result ≡ is_taken (probe c tid.0 (dir_of e self.now)) }
     {
         if self.skips.serving().0 < tid.0 {
@@ -46,7 +46,7 @@ impl Directory {
         true
     }
 
-    fn takes_load(&self, line: LineAddr, after: Tid) -> bool
+    pub(crate) fn takes_load(&self, line: LineAddr, after: Tid) -> bool
         requires { IsAtHome self.now.lines.place line.0 }
         ensures { (e : ℕ → ℕ) (c : ℕ) → result ≡ is_taken (load_request c line.0 after.0 (dir_of e self.now)) }
     {
@@ -63,7 +63,7 @@ impl Directory {
         }
     }
 
-    fn takes_mark(&self, line: LineAddr, mask: Mask, tid: Tid) -> bool
+    pub(crate) fn takes_mark(&self, line: LineAddr, mask: Mask, tid: Tid) -> bool
         requires { IsAtHome self.now.lines.place line.0 }
         ensures { (e : ℕ → ℕ) → result ≡ is_taken (mark line.0 mask.0 tid.0 (dir_of e self.now)) }
     {
@@ -80,7 +80,7 @@ impl Directory {
         }
     }
 
-    fn takes_commit(&self, tid: Tid, count: u32) -> bool
+    pub(crate) fn takes_commit(&self, tid: Tid, count: u32) -> bool
         ensures { (e : ℕ → ℕ) (c : ℕ) → result ≡ is_taken (commit self.now.lines.place.shape c tid.0 count (dir_of e self.now)) }
     {
         if self.skips.serving().0 != tid.0 {
@@ -92,7 +92,7 @@ impl Directory {
         true
     }
 
-    fn takes_home(&self, src: CoreId, line: LineAddr, tag: Tid) -> bool
+    pub(crate) fn takes_home(&self, src: CoreId, line: LineAddr, tag: Tid) -> bool
         requires { IsAtHome self.now.lines.place line.0 }
         ensures { (e : ℕ → ℕ) (m : ℕ) (ws : List ℕ) → result ≡ is_taken (write_back src.0 line.0 m ws tag.0 (dir_of e self.now)) }
     {
