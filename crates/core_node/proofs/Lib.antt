@@ -1,4 +1,9 @@
+pub mod Asked
 pub mod Cores
 pub mod Emptied
+pub mod Fetched
+pub mod Finished
 pub mod Handed
+pub mod Placed
 pub mod Steps
+pub mod Used

@@ -3,11 +3,14 @@
 
 mod delivering;
 mod evicting;
+mod finishing;
 mod granting;
 mod messages;
+mod missing;
 mod node;
 mod rolling;
 mod state;
+mod storing;
 
 pub use delivering::CoreError;
 pub use node::CoreNode;

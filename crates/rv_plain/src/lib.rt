@@ -11,5 +11,6 @@ mod serial;
 mod tests;
 
 pub use attempt::{Attempt, Outcome};
+pub use bytes::{read as read_part, replace as replace_part};
 pub use memory::Memory;
 pub use plain::{CoreState, Done, Order, Plain, PlainFault, SerialFault};

@@ -1,0 +1,56 @@
+-- What finishing an instruction is: what it did is noted, and the core goes on.
+use Rattle.std.proofs.Common.{◌≡◌, ℕ, Option, refl}
+use Rattle.tcc_program.specs.Program.{Program, Need, Nothing, Loads, Stores, Changes, Prints, Ends, Halts, Traps}
+use Rattle.tcc_maps.specs.Cache.{Cache}
+use Rattle.tcc_maps.specs.Spilled.{Spilled}
+use Rattle.tcc_rules.specs.State.{CoreState}
+use Rattle.tcc_rules.specs.Attempt.{stepped, finished}
+use Rattle.core_node.specs.Executing.{noted, given, GoesOn}
+
+pub finished_noted : (p : Program) (n : Need) (x : ℕ) (s : CoreState) → GoesOn n → stepped p (given n x) (noted n x s) ≡ finished p n x s
+unfolding finished stepped
+finished_noted p Nothing x s g = refl
+finished_noted p (Loads addr size) x s g = refl
+finished_noted p (Stores addr size value) x s g = refl
+finished_noted p (Changes addr changed) x s g = refl
+finished_noted p (Prints byte) x s g = refl
+finished_noted p Ends x s g = absurd g
+finished_noted p (Halts code) x s g = absurd g
+finished_noted p (Traps code) x s g = absurd g
+
+-- an instruction is finished apart from the cache and from what is spilled
+pub finished_cache : (p : Program) (n : Need) (x : ℕ) (c : Cache) (s : CoreState)
+    → record (finished p n x s) { cache = c } ≡ finished p n x (record s { cache = c })
+unfolding finished stepped
+finished_cache p Nothing x c s = refl
+finished_cache p (Loads addr size) x c s = refl
+finished_cache p (Stores addr size value) x c s = refl
+finished_cache p (Changes addr changed) x c s = refl
+finished_cache p (Prints byte) x c s = refl
+finished_cache p Ends x c s = refl
+finished_cache p (Halts code) x c s = refl
+finished_cache p (Traps code) x c s = refl
+
+pub finished_spilled : (p : Program) (n : Need) (x : ℕ) (b : Spilled) (s : CoreState)
+    → record (finished p n x s) { spilled = b } ≡ finished p n x (record s { spilled = b })
+unfolding finished stepped
+finished_spilled p Nothing x b s = refl
+finished_spilled p (Loads addr size) x b s = refl
+finished_spilled p (Stores addr size value) x b s = refl
+finished_spilled p (Changes addr changed) x b s = refl
+finished_spilled p (Prints byte) x b s = refl
+finished_spilled p Ends x b s = refl
+finished_spilled p (Halts code) x b s = refl
+finished_spilled p (Traps code) x b s = refl
+
+-- and leaves the cache, what is spilled and the phase
+pub cache-finished : (p : Program) (n : Need) (x : ℕ) (s : CoreState) → (finished p n x s).cache ≡ s.cache
+unfolding finished stepped
+cache-finished p Nothing x s = refl
+cache-finished p (Loads addr size) x s = refl
+cache-finished p (Stores addr size value) x s = refl
+cache-finished p (Changes addr changed) x s = refl
+cache-finished p (Prints byte) x s = refl
+cache-finished p Ends x s = refl
+cache-finished p (Halts code) x s = refl
+cache-finished p (Traps code) x s = refl

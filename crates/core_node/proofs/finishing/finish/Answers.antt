@@ -1,0 +1,17 @@
+use Rattle.std.proofs.Common.{◌≡◌, ℕ, Option, refl, ap, sym, ◌∙◌}
+use Rattle.tcc_rules.specs.State.{CoreState}
+use Rattle.tcc_rules.specs.Attempt.{stepped}
+use Rattle.rv_exec.specs.Needs.{need_of}
+use Rattle.rv_plain.specs.Attempts.{alone}
+use Rattle.core_node.specs.View.{core_of}
+use Rattle.core_node.specs.Executing.{given}
+use Rattle.core_node.proofs.Finished.{finished_noted}
+use Rattle.core_node.proofs.finishing.finish.Goals as goal
+
+pub returns-clause-does : goal.returns-clause-does
+returns-clause-does c =
+    let p = alone c.args.inst.now in
+    let n = need_of c.args.need in
+    c.step.ensures.does ∙ ap (λ (o : Option ℕ). stepped p o (core_of c.note.new.core)) c.given.ensures
+    ∙ ap (λ (s : CoreState). stepped p (given n c.args.word) s) c.in_ok-note.ensures.does
+    ∙ finished_noted p n c.args.word (core_of c.args.core.now) c.requires.goes_on

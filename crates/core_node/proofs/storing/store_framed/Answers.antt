@@ -1,0 +1,47 @@
+use Rattle.std.proofs.Common.{◌≡◌, refl, ap, ◌∙◌, sym}
+use Rattle.tcc_maps.specs.Cache.{Cache}
+use Rattle.tcc_maps.specs.CacheChange.{stored}
+use Rattle.tcc_maps.specs.Shape.{Shape, home}
+use Rattle.tcc_rules.specs.Execute.{framed}
+use Rattle.spec_cache.specs.Held.{maps}
+use Rattle.core_node.specs.View.{core_of, IsCore, Did, Stays}
+use Rattle.core_node.proofs.Cores.{whole_cache}
+use Rattle.core_node.proofs.Handed.{flushed_none, flushed_some}
+use Rattle.core_node.proofs.storing.store_framed.Goals as goal
+use Rattle.tcc_maps.specs.Words.{line_of}
+use Rattle.std.specs.Prelude.{ℕ}
+
+pub returns-in-Some-clause-does : goal.returns-in-Some-clause-does
+unfolding core_of framed
+returns-in-Some-clause-does c =
+    let k = c.args.core.now in
+    record {
+      core = rw c.in-Some.ensures.maps refl;
+      sent = flushed_some c.args.out.now c.hand_out.new.self k.config (maps k.cache)
+          (line_of c.args.w.0) c.in-Some.back c.home.result c.in-Some.ensures.out
+          (c.home.ensures.value ∙ ap (λ (l : ℕ). home k.config l) c.line_of_word.ensures)
+          (rw c.flush_of.ensures at c.hand_out.ensures.sent) c.hand_out.ensures.room;
+    }
+
+pub returns-in-Some-clause-stays : goal.returns-in-Some-clause-stays
+unfolding stored
+returns-in-Some-clause-stays c = record {
+  config = refl;
+  id = refl;
+  whole = whole_cache c.args.core.now c.store.new.self c.requires.whole c.in-Some.ensures.config (rw c.in-Some.ensures.maps refl);
+}
+
+pub returns-in-None-clause-does : goal.returns-in-None-clause-does
+unfolding core_of framed
+returns-in-None-clause-does c =
+    let k = c.args.core.now in
+    record { core = rw c.in-None.ensures.maps refl; sent = flushed_none c.args.out.now k.config (maps k.cache)
+        (line_of c.args.w.0) c.in-None.ensures.out }
+
+pub returns-in-None-clause-stays : goal.returns-in-None-clause-stays
+unfolding stored
+returns-in-None-clause-stays c = record {
+  config = refl;
+  id = refl;
+  whole = whole_cache c.args.core.now c.store.new.self c.requires.whole c.in-None.ensures.config (rw c.in-None.ensures.maps refl);
+}

@@ -1,0 +1,40 @@
+-- What an execution answers, and what an instruction leaves in an attempt, in the words of the rules.
+use Rattle.std.specs.Prelude.{ℕ, [], ◌∷◌, ◌++◌, Option, Some, None}
+use Rattle.tcc_base.specs.declared.access.Size.TheVariants.{Word}
+use Rattle.tcc_msg.specs.declared.outgoing.Outgoing.{Outgoing}
+use Rattle.tcc_program.specs.Program.{Need, Nothing, Loads, Stores, Changes, Prints, Ends, Halts, Traps}
+use Rattle.tcc_program.specs.Plain.{load_of, store_of}
+use Rattle.tcc_program.specs.Ram.{part}
+use Rattle.tcc_rules.specs.State.{CoreState}
+use Rattle.tcc_rules.specs.Attempt.{Out}
+use Rattle.core_node.specs.View.{Did}
+use Rattle.core_node.specs.declared.state.Core.{Core}
+
+-- a rule's event happened
+abbrev pub DidSome : Option Out → (most : ℕ) → Outgoing → Core → Outgoing → Type 0
+DidSome None most before new out = ⊥
+DidSome (Some o) most before new out = Did o most before new out
+
+-- the bytes that an instruction loads from the word that it found
+abbrev pub given : Need → (x : ℕ) → Option ℕ
+given (Loads addr size) x = Some (part x addr size)
+given (Changes addr changed) x = Some (part x addr Word)
+given _ x = None
+
+-- what an instruction loads, stores and prints is noted
+abbrev pub noted : Need → (x : ℕ) → CoreState → CoreState
+noted (Loads addr size) x s = record s { loads = s.loads ++ load_of addr size (part x addr size) ∷ [] }
+noted (Stores addr size value) x s = record s { stores = s.stores ++ store_of addr size value ∷ [] }
+noted (Changes addr changed) x s = record s {
+  loads = s.loads ++ load_of addr Word (part x addr Word) ∷ [];
+  stores = s.stores ++ store_of addr Word (changed (part x addr Word)) ∷ [];
+}
+noted (Prints byte) x s = record s { console = s.console ++ byte ∷ [] }
+noted _ x s = s
+
+-- the transaction goes on after it
+abbrev pub GoesOn : Need → Type 0
+GoesOn Ends = ⊥
+GoesOn (Halts code) = ⊥
+GoesOn (Traps code) = ⊥
+GoesOn _ = Unit {0}

@@ -1,0 +1,88 @@
+// A word that an instruction has found or stores: in its frame, or in the overflow buffer.
+ghost use Rattle.std.specs.Prelude.{◌≡◌, ◌<◌, ◌-◌, ◌^◌, ◌&&◌, true, not, OnOk, OnErr, ℕ, is_some};
+ghost use Rattle.tcc_maps.specs.Shape.{lines};
+ghost use Rattle.tcc_maps.specs.Words.{line_of};
+ghost use Rattle.tcc_rules.specs.Attempt.{moves, is_running, finished};
+ghost use Rattle.tcc_rules.specs.Execute.{used, framed, buffered};
+ghost use Rattle.tcc_rules.specs.Sends.{flushed};
+ghost use Rattle.tcc_rules.specs.State.{CoreState};
+ghost use Rattle.rv_exec.specs.Needs.{need_of};
+ghost use Rattle.rv_plain.specs.Attempts.{alone};
+ghost use Rattle.spec_cache.specs.Held.{maps};
+ghost use Rattle.commit_engine.specs.Engine.{phase_of};
+ghost use Rattle.commit_engine.specs.Sent.{HasRoom};
+ghost use Rattle.core_node.specs.Executing.{noted};
+ghost use Rattle.core_node.specs.View.{core_of, IsCore, Did, Stays};
+
+use crate::finishing::{given, note, step};
+use crate::messages::flush_of;
+use crate::state::Core;
+use commit_engine::Phase;
+use rv_decode::Inst;
+use rv_exec::Need;
+use tcc_base::{LineAddr, NoMemory, NodeId, WordAddr};
+use tcc_msg::Outgoing;
+
+/// The line of a word.
+pub(crate) fn line_of_word(w: WordAddr) -> LineAddr
+    ensures { result.0 ≡ line_of w.0 }
+{
+    LineAddr(w.0 / 8)
+}
+
+/// Whether the core executes, and isn't alone.
+pub(crate) fn runs(phase: Phase) -> bool
+    ensures { result ≡ is_running (phase_of phase) }
+{
+    match phase {
+        Phase::Running => true,
+        Phase::AwaitTid => false,
+        Phase::DoomedTid => false,
+        Phase::Probing(_) => false,
+        Phase::Ready(_) => false,
+        Phase::Overflowing(None) => false,
+        Phase::Overflowing(Some(_)) => false,
+        Phase::Solo(_) => false,
+        Phase::Halted => false,
+    }
+}
+
+/// A valid word that is used is marked read, unless it is modified or the core is alone.
+#[tactic(auto, unfolding(crate::specs::View::core_of, tcc_rules::specs::Execute::used))]
+pub(crate) fn mark_used(core: &mut Core, w: WordAddr)
+    requires whole { IsCore core.old }
+    requires valid { is_some ((maps core.old.cache).value w.0) ≡ true }
+    ensures does { core_of core.new ≡ used w.0 (core_of core.old) }
+    ensures stays { Stays core.old core.new }
+{
+    core.cache.load(w, runs(core.phase));
+}
+
+/// Stores a word in its line's frame, and read-marks it too where `also` is set. Dirty words of the frame go home first.
+#[tactic(auto, unfolding(crate::specs::View::core_of, tcc_rules::specs::Execute::framed))]
+pub(crate) fn store_framed(core: &mut Core, w: WordAddr, value: u32, also: bool, out: &mut Outgoing)
+    requires whole { IsCore core.old }
+    requires held { (maps core.old.cache).held (line_of w.0) ≡ true }
+    requires room { HasRoom out.old 1 }
+    ensures does { Did (moves (framed w.0 value also (core_of core.old)) (flushed core.old.config (maps core.old.cache) (line_of w.0))) 1 out.old core.new out.new }
+    ensures stays { Stays core.old core.new }
+{
+    let home = NodeId::Dir(core.config.home(line_of_word(w)));
+    match core.cache.store(w, value, also) {
+        Some(back) => out.hand_out(home, flush_of(back)),
+        None => {}
+    }
+}
+
+/// Stores a word in the overflow buffer. After want of memory it is as before.
+#[tactic(auto, unfolding(crate::specs::View::core_of, tcc_rules::specs::Execute::buffered))]
+fn store_buffered(core: &mut Core, w: WordAddr, value: u32) -> Result<(), NoMemory>
+    requires whole { IsCore core.old }
+    requires exists { line_of w.0 < lines core.old.config }
+    ensures does { OnOk result (core_of core.new ≡ buffered w.0 value (core_of core.old)) }
+    ensures n { core.new.n ≡ core.old.n }
+    ensures stays { Stays core.old core.new }
+    ensures unchanged { OnErr result (core_of core.new ≡ core_of core.old) }
+{
+    core.spilled.put(w, value)
+}
