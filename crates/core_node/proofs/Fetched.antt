@@ -59,7 +59,8 @@ pub fetched_overflow : (sh : Shape) (l k : ℕ) (s : CoreState) → Overflow k �
     → fetch sh l s ≡ (if is_solo s.phase then None else Some (overflow s))
 unfolding fetch full_set look_line
 fetched_overflow sh l k s e =
-    overflows (s.cache.held l) (is_some (free_way sh s.cache (set_of sh l))) (all_marked sh s.cache (set_of sh l)) (is_solo s.phase)
+    overflows (s.cache.held l)
+        (is_some (free_way sh s.cache (set_of sh l))) (all_marked sh s.cache (set_of sh l)) (is_solo s.phase)
         (set_of sh l) k
         (ask sh l s) (ask sh l (place sh l s)) (overflow s) e
 

@@ -7,7 +7,8 @@ use Rattle.tcc_rules.specs.State.{CoreState}
 use Rattle.tcc_rules.specs.Attempt.{stepped, finished}
 use Rattle.core_node.specs.Executing.{noted, given, GoesOn}
 
-pub finished_noted : (p : Program) (n : Need) (x : ℕ) (s : CoreState) → GoesOn n → stepped p (given n x) (noted n x s) ≡ finished p n x s
+pub finished_noted : (p : Program) (n : Need) (x : ℕ) (s : CoreState) → GoesOn n
+    → stepped p (given n x) (noted n x s) ≡ finished p n x s
 unfolding finished stepped
 finished_noted p Nothing x s g = refl
 finished_noted p (Loads addr size) x s g = refl

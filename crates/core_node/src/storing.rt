@@ -1,25 +1,18 @@
 // A word that an instruction has found or stores: in its frame, or in the overflow buffer.
-ghost use Rattle.std.specs.Prelude.{◌≡◌, ◌<◌, ◌-◌, ◌^◌, ◌&&◌, true, not, OnOk, OnErr, ℕ, is_some};
+ghost use Rattle.std.specs.Prelude.{◌≡◌, ◌<◌, true, OnOk, OnErr, is_some};
 ghost use Rattle.tcc_maps.specs.Shape.{lines};
 ghost use Rattle.tcc_maps.specs.Words.{line_of};
-ghost use Rattle.tcc_rules.specs.Attempt.{moves, is_running, finished};
+ghost use Rattle.tcc_rules.specs.Attempt.{moves, is_running};
 ghost use Rattle.tcc_rules.specs.Execute.{used, framed, buffered};
 ghost use Rattle.tcc_rules.specs.Sends.{flushed};
-ghost use Rattle.tcc_rules.specs.State.{CoreState};
-ghost use Rattle.rv_exec.specs.Needs.{need_of};
-ghost use Rattle.rv_plain.specs.Attempts.{alone};
 ghost use Rattle.spec_cache.specs.Held.{maps};
 ghost use Rattle.commit_engine.specs.Engine.{phase_of};
 ghost use Rattle.commit_engine.specs.Sent.{HasRoom};
-ghost use Rattle.core_node.specs.Executing.{noted};
 ghost use Rattle.core_node.specs.View.{core_of, IsCore, Did, Stays};
 
-use crate::finishing::{given, note, step};
 use crate::messages::flush_of;
 use crate::state::Core;
 use commit_engine::Phase;
-use rv_decode::Inst;
-use rv_exec::Need;
 use tcc_base::{LineAddr, NoMemory, NodeId, WordAddr};
 use tcc_msg::Outgoing;
 

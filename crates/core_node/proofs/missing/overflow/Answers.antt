@@ -8,4 +8,7 @@ use Rattle.core_node.proofs.missing.overflow.Goals as goal
 
 pub returns-clause-does : goal.returns-clause-does
 unfolding core_of overflow
-returns-clause-does c = record { core = refl; sent = sent_one c.args.out.now c.hand_out.new.self Vendor TidReq c.hand_out.ensures.sent c.hand_out.ensures.room }
+returns-clause-does c = record {
+  core = refl;
+  sent = sent_one c.args.out.now c.hand_out.new.self Vendor TidReq c.hand_out.ensures.sent c.hand_out.ensures.room;
+}
