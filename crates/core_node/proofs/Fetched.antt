@@ -50,8 +50,8 @@ unfolding look_line
 way_free sh l s h e = missed (s.cache.held l) (is_some (free_way sh s.cache (set_of sh l))) (all_marked sh s.cache (set_of sh l))
     (set_of sh l) h e
 
-pub fetched_placed : (sh : Shape) (l : ℕ) (s : CoreState) → s.cache.held l ≡ false → is_some (free_way sh s.cache (set_of sh l)) ≡ true
-    → fetch sh l s ≡ Some (ask sh l (place sh l s))
+pub fetched_placed : (sh : Shape) (l : ℕ) (s : CoreState) → s.cache.held l ≡ false
+    → is_some (free_way sh s.cache (set_of sh l)) ≡ true → fetch sh l s ≡ Some (ask sh l (place sh l s))
 unfolding fetch
 fetched_placed sh l s h f = rw (h, f) refl
 
