@@ -60,16 +60,16 @@ pub fetched_overflow : (sh : Shape) (l k : ℕ) (s : CoreState) → Overflow k �
 unfolding fetch full_set look_line
 fetched_overflow sh l k s e =
     overflows (s.cache.held l)
-        (is_some (free_way sh s.cache (set_of sh l))) (all_marked sh s.cache (set_of sh l)) (is_solo s.phase)
-        (set_of sh l) k
-        (ask sh l s) (ask sh l (place sh l s)) (overflow s) e
+    (is_some (free_way sh s.cache (set_of sh l))) (all_marked sh s.cache (set_of sh l)) (is_solo s.phase)
+    (set_of sh l) k
+    (ask sh l s) (ask sh l (place sh l s)) (overflow s) e
 
 pub fetched_waits : (sh : Shape) (l k : ℕ) (s : CoreState) → NeedsRoom k ≡ look_line sh l s.cache → fetch sh l s ≡ None
 unfolding fetch full_set look_line
 fetched_waits sh l k s e =
     wants_room (s.cache.held l) (is_some (free_way sh s.cache (set_of sh l))) (all_marked sh s.cache (set_of sh l)) (is_solo s.phase)
-        (set_of sh l) k
-        (ask sh l s) (ask sh l (place sh l s)) (overflow s) e
+    (set_of sh l) k
+    (ask sh l s) (ask sh l (place sh l s)) (overflow s) e
 
 pub never_hits_line : {A : Type 0} → (sh : Shape) (l x : ℕ) (c : Cache) → Hit x ≡ look_line sh l c → A
 unfolding look_line

@@ -89,7 +89,12 @@ fn request(core: &mut Core, line: LineAddr, out: &mut Outgoing)
 
 /// What a core does about a line whose word it hasn't got, by what the cache answered: it asks for the line or, where its set is
 /// full of marked frames, for a TID by which it goes on alone. Else it waits for room.
-pub(crate) fn fetch(core: &mut Core, line: LineAddr, found: Look, out: &mut Outgoing) -> Result<(), CoreError>
+pub(crate) fn fetch(
+    core: &mut Core,
+    line: LineAddr,
+    found: Look,
+    out: &mut Outgoing,
+) -> Result<(), CoreError>
     requires whole { IsCore core.old }
     requires exists { line.0 < lines core.old.config }
     requires found { look_of found ≡ look_line core.old.config line.0 (maps core.old.cache) }

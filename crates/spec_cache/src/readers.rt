@@ -78,7 +78,7 @@ impl SpecCache {
     }
 
     /// Puts the lines at home at the directory that have modified words into the list, in rising order, each with the mask of these
-    /// words, in place of what the list held. Takes no memory where the list has room for them.
+    /// words, in place of what the list held. It takes memory for them, and one pass over the marked frames.
     pub fn marks_into(&self, d: DirId, marks: &mut Vec<(LineAddr, Mask)>) -> Result<(), NoMemory>
         ensures { OnOk result (map mark_of marks.new.items ≡ every_mark self.now.config (maps self.now) d.0) }
     {

@@ -14,4 +14,3 @@ returns-clause-does c =
           (core_of k).after c.home-home.ensures.value
           c.last_commit-after.ensures c.hand_out.ensures.sent c.hand_out.ensures.room;
     }
-

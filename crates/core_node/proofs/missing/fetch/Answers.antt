@@ -8,15 +8,21 @@ pub returns-then-is_alone-clause-blocked : goal.returns-then-is_alone-clause-blo
 unfolding core_of
 returns-then-is_alone-clause-blocked c =
     let k = c.args.core.now in
-    rw (fetched_overflow k.config c.args.line.0 c.in-Overflow.field-0 (core_of k) (sym (ap look_of c.in-Overflow.is) ∙ c.requires.found),
-        ← c.is_alone.ensures, c.if-is_alone.true) refl
+    rw (
+      fetched_overflow k.config c.args.line.0 c.in-Overflow.field-0 (core_of k) (sym (ap look_of c.in-Overflow.is) ∙ c.requires.found),
+      ← c.is_alone.ensures,
+      c.if-is_alone.true,
+    ) refl
 
 pub returns-else-is_alone-clause-does : goal.returns-else-is_alone-clause-does
 unfolding core_of
 returns-else-is_alone-clause-does c =
     let k = c.args.core.now in
-    rw (fetched_overflow k.config c.args.line.0 c.in-Overflow.field-0 (core_of k) (sym (ap look_of c.in-Overflow.is) ∙ c.requires.found),
-        ← c.is_alone.ensures, c.if-is_alone.false) c.overflow.ensures.does
+    rw (
+      fetched_overflow k.config c.args.line.0 c.in-Overflow.field-0 (core_of k) (sym (ap look_of c.in-Overflow.is) ∙ c.requires.found),
+      ← c.is_alone.ensures,
+      c.if-is_alone.false,
+    ) c.overflow.ensures.does
 
 pub returns-in-NeedsRoom-clause-blocked : goal.returns-in-NeedsRoom-clause-blocked
 unfolding core_of

@@ -30,8 +30,8 @@ returns-else-has_frame-clause-does c =
     let absent = sym c.has_frame.ensures ∙ c.if-has_frame.false in
     let free = way_free k.config l (core_of k) absent c.requires.found in
     let same : ask c.place.new.core.config l (core_of c.place.new.core) ≡ ask k.config l (place k.config l (core_of k)) =
-        ap (λ (sh : Shape). ask sh l (core_of c.place.new.core)) c.place.ensures.stays.config
-            ∙ ap (ask k.config l) c.place.ensures.does in
+    ap (λ (sh : Shape). ask sh l (core_of c.place.new.core)) c.place.ensures.stays.config
+    ∙ ap (ask k.config l) c.place.ensures.does in
     rw (fetched_placed k.config l (core_of k) absent free)
-        (subst (λ (o : Out). Did o 1 c.args.out.now c.ask-else-has_frame.new.core c.ask-else-has_frame.new.out)
-            same c.ask-else-has_frame.ensures.does)
+    (subst (λ (o : Out). Did o 1 c.args.out.now c.ask-else-has_frame.new.core c.ask-else-has_frame.new.out)
+    same c.ask-else-has_frame.ensures.does)

@@ -16,9 +16,9 @@ returns-clause-does c =
     let k = c.args.core.now in
     let b = is_running (phase_of k.phase) in
     let m : maps c.load.new.self ≡ loaded c.args.w.0 b (maps k.cache) = c.load.ensures.maps
-        ∙ ap (λ (x : Bool). loaded c.args.w.0 x (maps k.cache)) c.runs.ensures in
+    ∙ ap (λ (x : Bool). loaded c.args.w.0 x (maps k.cache)) c.runs.ensures in
     ap (λ (x : Cache). record (core_of k) { cache = x }) (m ∙ loaded_valid c.args.w.0 b (maps k.cache) c.requires.valid)
-        ∙ used_by b c.args.w.0 (core_of k)
+    ∙ used_by b c.args.w.0 (core_of k)
 
 pub returns-clause-stays : goal.returns-clause-stays
 returns-clause-stays c =

@@ -35,8 +35,11 @@ pub returns-in-None-clause-does : goal.returns-in-None-clause-does
 unfolding core_of framed
 returns-in-None-clause-does c =
     let k = c.args.core.now in
-    record { core = rw c.in-None.ensures.maps refl; sent = flushed_none c.args.out.now k.config (maps k.cache)
-        (line_of c.args.w.0) c.in-None.ensures.out }
+    record {
+      core = rw c.in-None.ensures.maps refl;
+      sent = flushed_none c.args.out.now k.config (maps k.cache)
+          (line_of c.args.w.0) c.in-None.ensures.out;
+    }
 
 pub returns-in-None-clause-stays : goal.returns-in-None-clause-stays
 unfolding stored
