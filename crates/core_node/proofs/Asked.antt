@@ -1,5 +1,5 @@
 -- What a request for a line sends.
-use Rattle.std.proofs.Common.{◌≡◌, ℕ, [], ◌∷◌, ◌++◌, vec_capacity, sym}
+use Rattle.std.proofs.Common.{◌≡◌, ℕ, [], ◌∷◌, ◌++◌, vec_capacity}
 use Rattle.tcc_base.specs.declared.names.NodeId.TheVariants.{Dir as CodeDir}
 use Rattle.tcc_base.specs.declared.names.DirId.{DirId}
 use Rattle.tcc_base.specs.declared.names.LineAddr.{LineAddr}

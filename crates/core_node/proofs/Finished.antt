@@ -1,5 +1,5 @@
 -- What finishing an instruction is: what it did is noted, and the core goes on.
-use Rattle.std.proofs.Common.{◌≡◌, ℕ, Option, refl}
+use Rattle.std.proofs.Common.{◌≡◌, ℕ, refl}
 use Rattle.tcc_program.specs.Program.{Program, Need, Nothing, Loads, Stores, Changes, Prints, Ends, Halts, Traps}
 use Rattle.tcc_maps.specs.Cache.{Cache}
 use Rattle.tcc_maps.specs.Spilled.{Spilled}

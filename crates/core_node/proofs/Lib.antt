@@ -5,5 +5,6 @@ pub mod Fetched
 pub mod Finished
 pub mod Handed
 pub mod Placed
+pub mod Rooms
 pub mod Steps
 pub mod Used

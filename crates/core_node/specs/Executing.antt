@@ -2,7 +2,7 @@
 use Rattle.std.specs.Prelude.{ℕ, [], ◌∷◌, ◌++◌, Option, Some, None}
 use Rattle.tcc_base.specs.declared.access.Size.TheVariants.{Word}
 use Rattle.tcc_msg.specs.declared.outgoing.Outgoing.{Outgoing}
-use Rattle.tcc_program.specs.Program.{Need, Nothing, Loads, Stores, Changes, Prints, Ends, Halts, Traps}
+use Rattle.tcc_program.specs.Program.{Need, Loads, Stores, Changes, Prints, Ends, Halts, Traps}
 use Rattle.tcc_program.specs.Plain.{load_of, store_of}
 use Rattle.tcc_program.specs.Ram.{part}
 use Rattle.tcc_rules.specs.State.{CoreState}

@@ -11,6 +11,7 @@ mod node;
 mod rolling;
 mod state;
 mod storing;
+mod waiting;
 
 pub use delivering::CoreError;
 pub use node::CoreNode;

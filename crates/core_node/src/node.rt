@@ -3,7 +3,10 @@ ghost use Rattle.std.specs.Prelude.{◌≡◌, ◌<◌, IfOk, IsTrue, MatchOptio
 ghost use Rattle.tcc_maps.specs.Bridge.{node_of};
 ghost use Rattle.tcc_msg.specs.Plain.{msg_of};
 ghost use Rattle.tcc_rules.specs.CoreDeliver.{core_deliver};
+ghost use Rattle.image_load.specs.Contents.{started};
+ghost use Rattle.rv_code.specs.Machine.{program};
 ghost use Rattle.tcc_rules.specs.CoreEvict.{core_evict};
+ghost use Rattle.tcc_rules.specs.Useful.{room};
 ghost use Rattle.tcc_rules.specs.State.{core_start};
 ghost use Rattle.spec_cache.specs.Held.{maps};
 ghost use Rattle.spec_cache.specs.Look.{Views};
@@ -15,10 +18,11 @@ ghost use Rattle.core_node.specs.Answers.{Happened, IsBlocked};
 use crate::delivering::{CoreError, from_dir, from_vendor};
 use crate::evicting::{can_evict, evict};
 use crate::state::Core;
+use crate::waiting::waits_for_room;
 use commit_engine::{DirSet, Phase};
 use overflow_buf::OverflowBuf;
 use reg_checkpoint::Check;
-use rv_code::start_state;
+use rv_code::{Code, start_state};
 use rv_plain::Outcome;
 use spec_cache::{FrameView, SpecCache};
 use std::alloc::Global;
@@ -120,6 +124,15 @@ impl CoreNode {
         ensures { result ≡ is_some (core_evict self.now.config set way (core_of self.now)) }
     {
         can_evict(&self.core, set, way)
+    }
+
+    /// The set in which the core waits for room, so that it is of use to empty a frame there; None where it doesn't wait. The code
+    /// is of the same machine. Takes no memory.
+    pub fn waits_for_room(&self, code: &Code) -> Option<u16>
+        requires { code.now.settings ≡ self.now.config }
+        ensures { result ≡ room self.now.config (program (started code.now)) (core_of self.now) }
+    {
+        waits_for_room(&self.core, code)
     }
 
     /// How far the core has come with its transaction.

@@ -1,6 +1,6 @@
-use Rattle.std.proofs.Common.{◌≡◌, refl}
+use Rattle.std.proofs.Common.{refl}
 use Rattle.tcc_rules.specs.Execute.{ask}
-use Rattle.core_node.specs.View.{core_of, Did}
+use Rattle.core_node.specs.View.{core_of}
 use Rattle.core_node.proofs.Asked.{sent_asked}
 use Rattle.core_node.proofs.missing.ask.Goals as goal
 

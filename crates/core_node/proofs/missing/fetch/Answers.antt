@@ -1,4 +1,4 @@
-use Rattle.std.proofs.Common.{◌≡◌, refl, ap, sym, ◌∙◌}
+use Rattle.std.proofs.Common.{refl, ap, sym, ◌∙◌}
 use Rattle.spec_cache.specs.Look.{look_of}
 use Rattle.core_node.specs.View.{core_of}
 use Rattle.core_node.proofs.Fetched.{fetched_overflow, fetched_waits, never_hits}

@@ -1,7 +1,5 @@
-use Rattle.std.proofs.Common.{◌≡◌, true, refl, ap, sym, ◌∙◌}
-use Rattle.tcc_maps.specs.Cache.{Cache}
+use Rattle.std.proofs.Common.{refl, ◌∙◌}
 use Rattle.spec_cache.specs.Held.{maps}
-use Rattle.core_node.specs.View.{IsCore, Stays, AwaitsFrame}
 use Rattle.core_node.proofs.Placed.{awaits_placed}
 use Rattle.core_node.proofs.missing.place.Goals as goal
 

@@ -1,11 +1,11 @@
-use Rattle.std.proofs.Common.{◌≡◌, ℕ, Bool, refl, ap, sym, ◌∙◌}
+use Rattle.std.proofs.Common.{◌≡◌, Bool, refl, ap, ◌∙◌}
 use Rattle.tcc_maps.specs.Cache.{Cache}
 use Rattle.tcc_rules.specs.Execute.{used}
 use Rattle.tcc_rules.specs.Attempt.{is_running}
 use Rattle.spec_cache.specs.Held.{maps}
 use Rattle.spec_cache.specs.Look.{loaded}
 use Rattle.commit_engine.specs.Engine.{phase_of}
-use Rattle.core_node.specs.View.{core_of, IsCore, Stays}
+use Rattle.core_node.specs.View.{core_of}
 use Rattle.core_node.proofs.Cores.{whole_cache}
 use Rattle.core_node.proofs.Used.{loaded_valid, used_by, held-loaded}
 use Rattle.core_node.proofs.storing.mark_used.Goals as goal

@@ -1,10 +1,9 @@
-use Rattle.std.proofs.Common.{◌≡◌, refl, ap, ◌∙◌, sym}
-use Rattle.tcc_maps.specs.Cache.{Cache}
+use Rattle.std.proofs.Common.{refl, ap, ◌∙◌}
 use Rattle.tcc_maps.specs.CacheChange.{stored}
-use Rattle.tcc_maps.specs.Shape.{Shape, home}
+use Rattle.tcc_maps.specs.Shape.{home}
 use Rattle.tcc_rules.specs.Execute.{framed}
 use Rattle.spec_cache.specs.Held.{maps}
-use Rattle.core_node.specs.View.{core_of, IsCore, Did, Stays}
+use Rattle.core_node.specs.View.{core_of}
 use Rattle.core_node.proofs.Cores.{whole_cache}
 use Rattle.core_node.proofs.Handed.{flushed_none, flushed_some}
 use Rattle.core_node.proofs.storing.store_framed.Goals as goal
