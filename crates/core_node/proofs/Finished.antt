@@ -55,3 +55,14 @@ cache-finished p (Prints byte) x s = refl
 cache-finished p Ends x s = refl
 cache-finished p (Halts code) x s = refl
 cache-finished p (Traps code) x s = refl
+
+pub phase-finished : (p : Program) (n : Need) (x : ℕ) (s : CoreState) → (finished p n x s).phase ≡ s.phase
+unfolding finished stepped
+phase-finished p Nothing x s = refl
+phase-finished p (Loads addr size) x s = refl
+phase-finished p (Stores addr size value) x s = refl
+phase-finished p (Changes addr changed) x s = refl
+phase-finished p (Prints byte) x s = refl
+phase-finished p Ends x s = refl
+phase-finished p (Halts code) x s = refl
+phase-finished p (Traps code) x s = refl

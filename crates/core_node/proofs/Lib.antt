@@ -1,9 +1,11 @@
 pub mod Asked
+pub mod Blocked
 pub mod Cores
 pub mod Emptied
 pub mod Fetched
 pub mod Finished
 pub mod Handed
+pub mod Loaded
 pub mod Placed
 pub mod Rooms
 pub mod Steps

@@ -5,6 +5,7 @@ mod delivering;
 mod evicting;
 mod finishing;
 mod granting;
+mod loading;
 mod messages;
 mod missing;
 mod node;
