@@ -1,5 +1,6 @@
 pub mod Asked
 pub mod Blocked
+pub mod Committed
 pub mod Cores
 pub mod Emptied
 pub mod Fetched

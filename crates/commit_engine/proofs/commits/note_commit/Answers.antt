@@ -7,7 +7,7 @@ use Rattle.commit_engine.proofs.commits.note_commit.Goals.{then-contains, else-c
 use Rattle.commit_engine.proofs.commits.note_commit.Goals as goal
 
 pub loop-d-init : goal.loop-d-init
-loop-d-init c = record { noted = note_none (has c.args.written.bits) c.args.tid.0 (after_of c.args.after.now) }
+loop-d-init c = record { noted = note_none (has c.args.written.bits) c.args.tid.0 (after_of c.args.after.now); count = c.told-after }
 
 pub loop-d-preserved : goal.loop-d-preserved
 loop-d-preserved c = elim c.if-contains.branch [
@@ -17,7 +17,11 @@ loop-d-preserved c = elim c.if-contains.branch [
       record {
         noted = rw w.after-is (after_of-set c.loop-d.after c.loop-d.d c.args.tid below ∙ ap (λ (a : ℕ → ℕ). put a c.loop-d.d c.args.tid.0) c.loop-d.invariant.noted
             ∙ note_in c.loop-d.d (has c.args.written.bits) c.args.tid.0 (after_of c.args.after.now) e);
+        count = c.if-contains.array_long;
       })
   | else-contains w ↦ (let e : has c.args.written.bits c.loop-d.d ≡ false = sym c.contains.ensures ∙ w.if-contains.false in
-      record { noted = rw w.after-is (c.loop-d.invariant.noted ∙ note_out c.loop-d.d (has c.args.written.bits) c.args.tid.0 (after_of c.args.after.now) e) })
+      record { noted = rw w.after-is (c.loop-d.invariant.noted ∙ note_out c.loop-d.d (has c.args.written.bits) c.args.tid.0 (after_of c.args.after.now) e); count = c.if-contains.array_long })
 ]
+
+pub returns-clause-count : goal.returns-clause-count
+returns-clause-count c = c.loop-d.invariant.count

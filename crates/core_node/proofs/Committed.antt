@@ -1,0 +1,32 @@
+-- What holds of a core that has committed, and what it notes of its directories.
+use Rattle.std.proofs.Common.{◌≡◌, ℕ, ◌<◌, Bool, List, [], length, nat_lt, false, refl, ap, ◌∙◌}
+use Rattle.tcc_base.specs.declared.names.Tid.{Tid}
+use Rattle.tcc_maps.specs.Cache.{Cache, writes_at}
+use Rattle.tcc_maps.specs.CacheChange.{committed}
+use Rattle.tcc_maps.specs.Masks.{has}
+use Rattle.tcc_maps.specs.Shape.{Shape}
+use Rattle.tcc_rules.specs.Commit.{after_commit}
+use Rattle.spec_cache.specs.Held.{Held, maps}
+use Rattle.commit_engine.specs.Engine.{first_with}
+use Rattle.commit_engine.proofs.Noting.{noted_all, writes_elsewhere}
+use Rattle.core_node.specs.declared.state.Core.{Core}
+use Rattle.core_node.specs.View.{IsCore}
+use Rattle.core_node.proofs.Cores.{awaits_same}
+
+pub whole_noted : (c : Core) (h : Held) (a : List Tid) → IsCore c → h.config ≡ c.cache.config → (maps h).held ≡ (maps c.cache).held → length a ≡ 64
+    → IsCore (record c { cache = h; after = a })
+whole_noted c h a s e f n = record {
+  cache = e ∙ s.cache;
+  awaited = awaits_same (maps c.cache) (maps h) c.awaited f s.awaited;
+  after = n;
+}
+
+pub held_committed : (t : ℕ) (a b : Cache) → a ≡ committed t b → a.held ≡ b.held
+unfolding committed
+held_committed t a b e = ap (λ (x : Cache). x.held) e
+
+pub noted_written : (sh : Shape) (c : Cache) (bits t n : ℕ) (a : ℕ → ℕ) → 0 < sh.dirs → n ≡ sh.dirs → has bits ≡ first_with sh.dirs (writes_at sh c)
+    → after_commit (first_with n (has bits)) t a ≡ after_commit (writes_at sh c) t a
+noted_written sh c bits t n a s e w =
+    ap (λ (x : ℕ). after_commit (first_with x (has bits)) t a) e
+        ∙ noted_all sh.dirs bits t (writes_at sh c) a w (λ d q. writes_elsewhere sh c d s q)
