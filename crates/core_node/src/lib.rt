@@ -18,3 +18,6 @@ mod waiting;
 pub use delivering::CoreError;
 pub use node::CoreNode;
 pub use state::{Awaited, Core};
+
+#[cfg(test)]
+mod tests;
