@@ -2,6 +2,7 @@ pub mod Asked
 pub mod Blocked
 pub mod Committed
 pub mod Cores
+pub mod Dropped
 pub mod Emptied
 pub mod Fetched
 pub mod Finished

@@ -1,19 +1,25 @@
 // A transaction commits: what goes out, what is noted, and how the core goes on.
-ghost use Rattle.std.specs.Prelude.{◌≡◌, [], Some};
-ghost use Rattle.tcc_rules.specs.Commit.{commit as commit_rule, ended_after as ended_by, noted, phase_after as phase_by};
-ghost use Rattle.tcc_maps.specs.CacheChange.{committed as cache_committed};
+ghost use Rattle.std.specs.Prelude.{◌≡◌, ◌+◌, ◌*◌, [], length, map, Some};
+ghost use Rattle.tcc_rules.specs.Commit.{commit as commit_rule, ended_after as ended_by, noted, phase_after as phase_by, solo_commit as solo_rule};
+ghost use Rattle.tcc_maps.specs.CacheChange.{words_dropped};
+ghost use Rattle.tcc_maps.specs.Spilled.{none_spilled};
 ghost use Rattle.spec_cache.specs.Held.{maps};
+ghost use Rattle.spec_cache.specs.Home.{mark_of};
+ghost use Rattle.overflow_buf.specs.Kept.{spilled as words_of};
 ghost use Rattle.rv_plain.specs.Attempts.{outcome_of};
 ghost use Rattle.commit_engine.specs.Engine.{phase_of};
+ghost use Rattle.commit_engine.specs.Solo.{solo_list};
 ghost use Rattle.commit_engine.specs.Sent.{HasRoom};
 ghost use Rattle.core_node.specs.View.{core_of, IsCore, Did, Stays};
 
 use crate::state::Core;
-use commit_engine::{Phase, note_commit, send_commits, written_homes};
+use commit_engine::{Phase, note_commit, send_commits, send_solo, solo_homes, written_homes};
+use overflow_buf::OverflowBuf;
 use reg_checkpoint::Check;
 use rv_plain::Outcome;
+use spec_cache::SpecCache;
 use std::mem;
-use tcc_base::{Commit, List, Tid};
+use tcc_base::{Commit, LineAddr, List, Mask, Tid};
 use tcc_msg::Outgoing;
 
 /// After a halt or a trap a core has halted, else it runs on.
@@ -90,6 +96,42 @@ pub(crate) fn commit(core: &mut Core, tid: Tid, out: &mut Outgoing) -> Commit
     send_commits(&core.config, &core.cache, tid, out);
     let written = written_homes(&core.config, &core.cache);
     note_commit(written, core.config.dirs(), tid, &mut core.after);
+    core.cache.commit(tid);
+    let done = take_attempt(core, tid);
+    go_on(core);
+    done
+}
+
+/// Drops the words that are spilled from their frames; none is spilled then. Takes no memory.
+fn drop_spilled(cache: &mut SpecCache, spilled: &mut OverflowBuf)
+    ensures config { cache.new.config ≡ cache.old.config }
+    ensures dropped { maps cache.new ≡ words_dropped (words_of spilled.old) (maps cache.old) }
+    ensures none { words_of spilled.new ≡ none_spilled }
+{
+    while let Some((line, mask)) = spilled.take_line() {
+        cache.drop_words(line, mask);
+    }
+}
+
+/// The commit of a core that is alone, where the list holds all lines that it has written. Takes no memory.
+#[tactic(auto, unfolding(crate::specs::View::core_of))]
+pub(crate) fn solo_commit(
+    core: &mut Core,
+    tid: Tid,
+    marks: &[(LineAddr, Mask)],
+    out: &mut Outgoing,
+) -> Commit
+    requires whole { IsCore core.old }
+    requires marks { map mark_of marks.now ≡ solo_list core.old.config (maps core.old.cache) (words_of core.old.spilled) }
+    requires room { HasRoom out.old (2 * length marks.now + core.old.config.dirs) }
+    ensures does { Did (solo_rule core.old.config core.old.id.0 tid.0 (core_of core.old)) (2 * length marks.now + core.old.config.dirs) out.old core.new out.new }
+    ensures noted { Some result ≡ (solo_rule core.old.config core.old.id.0 tid.0 (core_of core.old)).commit }
+    ensures stays { Stays core.old core.new }
+{
+    send_solo(&core.config, &core.cache, &core.spilled, marks, tid, out);
+    let written = solo_homes(&core.config, &core.cache, &core.spilled, marks);
+    note_commit(written, core.config.dirs(), tid, &mut core.after);
+    drop_spilled(&mut core.cache, &mut core.spilled);
     core.cache.commit(tid);
     let done = take_attempt(core, tid);
     go_on(core);

@@ -11,11 +11,11 @@ use Rattle.std.proofs.lemmas.List.{length-map}
 use Rattle.std.proofs.lemmas.Map.Keys.{below_from_sorted}
 use Rattle.std.proofs.lemmas.Bool.{false≢true, cases_eq, cases_lt, cases_Bool, eq-eqb, ne_eqb}
 use Rattle.std.proofs.lemmas.Bool.Decides.{nat_tests}
-use Rattle.tcc_maps.specs.Words.{word_at, any_word, those, count_below}
+use Rattle.tcc_maps.specs.Words.{word_at, line_of, place_of, any_word, those, count_below}
 use Rattle.tcc_maps.specs.Spilled.{Spilled, holds, IsBelow}
 use Rattle.tcc_maps.proofs.Numbers.{any_below-found, those-holds, those-only, those-rise, length-those}
 use Rattle.overflow_buf.specs.declared.line.SpilledLine.{SpilledLine}
-use Rattle.overflow_buf.specs.Kept.{Entries, kept_at, spilled, IsBuffer}
+use Rattle.overflow_buf.specs.Kept.{Entries, kept_at, word_in, spilled, without_line, IsBuffer, IsLine}
 use Rattle.overflow_buf.proofs.Lines.{Keeps, holds-line, line_of-word_at}
 
 -- ---- the map's own look-up
@@ -30,6 +30,30 @@ looked_up es l = ap (λ (t : ℕ → Bool). lookup t es) (λ i k. (cmp-eq l k) i
 pub keeps-updated : (old new : Entries) (line : ℕ) (s : SpilledLine) →
     ((q : ℕ) → lookup (λ k. is_eq (nat_cmp q k)) new ≡ cond (is_eq (nat_cmp line q)) (Some s) (lookup (λ k. is_eq (nat_cmp q k)) old)) → Keeps old new line s
 keeps-updated old new line s u l = sym (looked_up new l) ∙ u l ∙ (rw (cmp-eq line l, looked_up old l) refl)
+
+-- one line taken away
+abbrev pub Loses : Entries → Entries → ℕ → Type 0
+Loses old new line = (l : ℕ) → kept_at new l ≡ cond (nat_eq line l) None (kept_at old l)
+
+pub loses-updated : (old new : Entries) (line : ℕ)
+    → ((q : ℕ) → lookup (λ k. is_eq (nat_cmp q k)) new ≡ cond (is_eq (nat_cmp line q)) None (lookup (λ k. is_eq (nat_cmp q k)) old)) → Loses old new line
+loses-updated old new line u l = sym (looked_up new l) ∙ u l ∙ (rw (cmp-eq line l, looked_up old l) refl)
+
+pub IsBuffer-lost : (old new : Entries) (line : ℕ) → Loses old new line → IsBuffer old → IsBuffer new
+unfolding IsLine
+IsBuffer-lost old new line k b l = rw (k l) (elim (nat_eq line l) as (λ t. IsLine (cond t None (kept_at old l))) [ true ↦ tt | false ↦ b l ])
+
+pub spilled-lost : (old new : Entries) (line : ℕ) → Loses old new line → spilled new ≡ without_line line (spilled old)
+unfolding spilled without_line word_in
+spilled-lost old new line k = λ i w. (at_word w) i
+  where
+    at_word : (w : ℕ) → word_in (kept_at new (line_of w)) (place_of w) ≡ cond (nat_eq line (line_of w)) None (word_in (kept_at old (line_of w)) (place_of w))
+    at_word w = rw (k (line_of w)) (elim (nat_eq line (line_of w))
+        as (λ t. word_in (cond t None (kept_at old (line_of w))) (place_of w) ≡ cond t None (word_in (kept_at old (line_of w)) (place_of w))) [ true ↦ refl | false ↦ refl ])
+
+pub none_left : (es : Entries) → (0 < length es → ⊥) → es ≡ []
+none_left [] n = refl
+none_left (e ∷ es) n = absurd (n (omega arith))
 
 -- ---- lists that rise
 

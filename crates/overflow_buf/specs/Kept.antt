@@ -23,6 +23,10 @@ word_in (Some s) k = if has s.mask.0 k then Some (get_or s.words k 0) else None
 unfoldable pub spilled : Entries → Spilled
 spilled es = λ w. word_in (kept_at es (line_of w)) (place_of w)
 
+-- the kept words but for those of one line
+unfoldable pub without_line : ℕ → Spilled → Spilled
+without_line l sp = λ w. if l == line_of w then None else sp w
+
 -- what holds of a line that is kept: it has eight words, of which some are kept
 pub record IsSpilled (s : SpilledLine) : Type 0 where
   pub fits : s.mask.0 < 256

@@ -1,11 +1,11 @@
 // The buffer: the kept words of all lines, by line.
-ghost use Rattle.std.specs.Prelude.{◌≡◌, ◌<◌, ℕ, Option, Some, None, OnOk, OnErr, cond, ◌==◌};
+ghost use Rattle.std.specs.Prelude.{◌≡◌, ◌<◌, ℕ, Option, Some, None, IfSome, IfNone, OnOk, OnErr, cond, length, ◌==◌};
 ghost use Rattle.std.specs.Option.{option_map};
 ghost use Rattle.tcc_base.specs.Put.{put as put_value};
 ghost use Rattle.tcc_maps.specs.Bridge.{tagged_of};
 ghost use Rattle.tcc_maps.specs.Words.{count_below};
 ghost use Rattle.tcc_maps.specs.Spilled.{none_spilled, spill as spill_words, holds as holds_word, spilled_mask, spilled_line, IsBelow};
-ghost use Rattle.overflow_buf.specs.Kept.{IsBuffer, IsSpilled, IsNextLine, line_number, kept_at, spilled};
+ghost use Rattle.overflow_buf.specs.Kept.{IsBuffer, IsSpilled, IsNextLine, line_number, kept_at, spilled, without_line};
 
 use crate::line::{SpilledLine, with_word, with_words};
 use std::alloc::Global;
@@ -141,6 +141,20 @@ impl OverflowBuf {
         ensures { (n : ℕ) → IsBelow n (spilled self.now) → result ≡ count_below (holds_word (spilled self.now)) n }
     {
         self.lines.len()
+    }
+
+    /// Takes the kept words of the lowest line away, and gives that line with the mask of these words; None where no word is kept.
+    pub fn take_line(&mut self) -> Option<(LineAddr, Mask)>
+        ensures none { IfNone result (spilled self.old ≡ none_spilled) }
+        ensures same { IfNone result (self.new ≡ self.old) }
+        ensures mask { IfSome result (λ t. t.1.0 ≡ spilled_mask (spilled self.old) t.0.0) }
+        ensures taken { IfSome result (λ t. spilled self.new ≡ without_line t.0.0 (spilled self.old)) }
+        ensures fewer { IfSome result (λ t. length self.new < length self.old) }
+    {
+        match self.lines.pop_first() {
+            None => None,
+            Some((line, kept)) => Some((LineAddr(line), kept.mask)),
+        }
     }
 
     /// Keeps no word any more.
