@@ -12,7 +12,8 @@ pub awaits_same : (a b : Cache) (o : Option Awaited) → b.held ≡ a.held → A
 awaits_same a b None e w = w
 awaits_same a b (Some x) e w = ap (λ (h : ℕ → Bool). h x.line.0) e ∙ w
 
-pub whole_cache : (c : Core) (h : Held) → IsCore c → h.config ≡ c.cache.config → (maps h).held ≡ (maps c.cache).held → IsCore (record c { cache = h })
+pub whole_cache : (c : Core) (h : Held) → IsCore c → h.config ≡ c.cache.config → (maps h).held ≡ (maps c.cache).held
+    → IsCore (record c { cache = h })
 whole_cache c h s e f = record {
   cache = e ∙ s.cache;
   awaited = awaits_same (maps c.cache) (maps h) c.awaited f s.awaited;

@@ -80,13 +80,15 @@ evicted_core x y l k m n a b e f =
     ∙ ap (λ (z : Spilled). record (core_of k) { cache = evicted x y (maps k.cache); spilled = z }) f
 
 -- the awaited line keeps its frame
-waits_on : (x y l : ℕ) (c : Cache) (o : Option Awaited) → c.at x y ≡ Some l → is_awaited (awaited_of o) l ≡ false → AwaitsFrame c o → AwaitsFrame (evicted x y c) o
+waits_on : (x y l : ℕ) (c : Cache) (o : Option Awaited) → c.at x y ≡ Some l → is_awaited (awaited_of o) l ≡ false → AwaitsFrame c o
+    → AwaitsFrame (evicted x y c) o
 unfolding evicted evicted_line
 waits_on x y l c None e f w = w
 waits_on x y l c (Some a) e f w = rw e (rw f w)
 
 pub evicted_whole : (x y l : ℕ) (k m n : Core) → IsCore k → m ≡ record k { spilled = m.spilled } → n ≡ record m { cache = n.cache }
-    → maps n.cache ≡ evicted x y (maps m.cache) → n.cache.config ≡ m.cache.config → (maps k.cache).at x y ≡ Some l → is_awaited (awaited_of k.awaited) l ≡ false → IsCore n
+    → maps n.cache ≡ evicted x y (maps m.cache) → n.cache.config ≡ m.cache.config → (maps k.cache).at x y ≡ Some l
+    → is_awaited (awaited_of k.awaited) l ≡ false → IsCore n
 evicted_whole x y l k m n w a b e g h f =
     let c : m.cache ≡ k.cache = ap (λ (q : Core). q.cache) a in
     let i : maps n.cache ≡ evicted x y (maps k.cache) = e ∙ ap (λ (q : Held). evicted x y (maps q)) c in

@@ -16,7 +16,8 @@ use Rattle.core_node.specs.Waiting.{room_after}
 
 room_line : (sh : Shape) (l : ℕ) (s : CoreState) → room_after (look_line sh l s.cache) (is_solo s.phase) ≡ room_for_line sh l s
 unfolding look_line room_for_line
-room_line sh l s = by (s.cache.held l) (is_some (free_way sh s.cache (set_of sh l))) (all_marked sh s.cache (set_of sh l)) (is_solo s.phase) (set_of sh l)
+room_line sh l s = by (s.cache.held l) (is_some (free_way sh s.cache (set_of sh l))) (all_marked sh s.cache (set_of sh l))
+    (is_solo s.phase) (set_of sh l)
   where
     by : (h f m a : Bool) (x : ℕ) → room_after (if h then Miss else if f then Miss else if m then Overflow x else NeedsRoom x) a
         ≡ (if h || f then None else if a || not m then Some x else None)
@@ -36,19 +37,23 @@ pub room_word : (sh : Shape) (w : ℕ) (s : CoreState) (r : Option ℕ) (look : 
 unfolding look_load look_value room_for_word
 room_word sh w s r look a e f g h = f ∙ rw (g, h) (rw (← e) (by (s.cache.value w)))
   where
-    by : (v : Option ℕ) → room_after (look_value v sh (line_of w) s.cache) (is_solo s.phase) ≡ (if is_some v then None else room_for_line sh (line_of w) s)
+    by : (v : Option ℕ) → room_after (look_value v sh (line_of w) s.cache) (is_solo s.phase)
+        ≡ (if is_some v then None else room_for_line sh (line_of w) s)
     by (Some x) = refl
     by None = room_line sh (line_of w) s
 
-pub room_store : (sh : Shape) (w : ℕ) (s : CoreState) (r : Option ℕ) (look : Look) (a : Bool) → holds s.spilled (line_of w) ≡ false → r ≡ room_after look a
+pub room_store : (sh : Shape) (w : ℕ) (s : CoreState) (r : Option ℕ) (look : Look) (a : Bool) → holds s.spilled (line_of w) ≡ false
+    → r ≡ room_after look a
     → look ≡ look_store sh w true s.cache → a ≡ is_solo s.phase → r ≡ room_for_store sh w s
 unfolding look_store room_for_store
 room_store sh w s r look a e f g h = f ∙ rw (g, h) (rw e (by (s.cache.held (line_of w)) refl))
   where
-    by : (b : Bool) → s.cache.held (line_of w) ≡ b → room_after (if b then Hit 0 else look_line sh (line_of w) s.cache) (is_solo s.phase) ≡ room_for_line sh (line_of w) s
+    by : (b : Bool) → s.cache.held (line_of w) ≡ b → room_after (if b then Hit 0 else look_line sh (line_of w) s.cache)
+        (is_solo s.phase) ≡ room_for_line sh (line_of w) s
     by true q = line_held sh (line_of w) s q
     by false q = room_line sh (line_of w) s
 
-pub room_overflowing : (sh : Shape) (p : Program) (s : CoreState) (o : Option Tid) → None ≡ room_in_phase sh p s (phase_of (code.Overflowing o))
+pub room_overflowing : (sh : Shape) (p : Program) (s : CoreState) (o : Option Tid)
+    → None ≡ room_in_phase sh p s (phase_of (code.Overflowing o))
 room_overflowing sh p s None = refl
 room_overflowing sh p s (Some t) = refl

@@ -30,12 +30,14 @@ did_silently s n out c e = record { core = e; sent = sent_as out out (λ dst. []
 pub did_within : (o : Out) (m n : ℕ) (before out : Outgoing) (c : Core) → Did o m before c out → m ≤ n → Did o n before c out
 did_within o m n before out c d h = record { core = d.core; sent = sent_as before out o.sends o.sends m n d.sent refl h }
 
-pub follows_did : (o : Out) (n : ℕ) (first before out : Outgoing) (c : Core) → before.list.items ≡ first.list.items → Did o n before c out → Follows o first c out
+pub follows_did : (o : Out) (n : ℕ) (first before out : Outgoing) (c : Core) → before.list.items ≡ first.list.items
+    → Did o n before c out → Follows o first c out
 follows_did o n first before out c e d = record { core = d.core; sends = rw (← e) d.sent.messages }
 
 -- an acknowledgement behind a step
 pub did_acknowledged : (sh : Shape) (l : LineAddr) (o : Out) (n : ℕ) (before mid out : Outgoing) (c : Core) (d : DirId) (k : Bool)
-    → Did o n before c mid → out.list.items ≡ mid.list.items ++ (CodeDir d, code.InvAck l k) ∷ [] → vec_capacity out.list ≡ vec_capacity mid.list
+    → Did o n before c mid → out.list.items ≡ mid.list.items ++ (CodeDir d, code.InvAck l k) ∷ []
+    → vec_capacity out.list ≡ vec_capacity mid.list
     → d.0 ≡ home sh l.0 → k ≡ keeps (maps c.cache) l.0 → Did (acknowledged sh l.0 o) (n + 1) before c out
 unfolding acknowledged followed core_of
 did_acknowledged sh l o n before mid out c d k s i r h e =
@@ -43,7 +45,8 @@ did_acknowledged sh l o n before mid out c d k s i r h e =
     record { core = s.core; sent = rw (← kept, ← h) (sent_push before mid out o.sends n (CodeDir d) (code.InvAck l k) s.sent i r) }
 
 -- the directories where something was written or read
-pub probed_is : (sh : Shape) (c : Cache) (b w r : ℕ) → has b ≡ (λ d. has w d || has r d) → has w ≡ first_with sh.dirs (writes_at sh c) → has r ≡ first_with sh.dirs (reads_at sh c)
+pub probed_is : (sh : Shape) (c : Cache) (b w r : ℕ) → has b ≡ (λ d. has w d || has r d)
+    → has w ≡ first_with sh.dirs (writes_at sh c) → has r ≡ first_with sh.dirs (reads_at sh c)
     → has b ≡ is_probed sh c
 unfolding first_with is_probed
 probed_is sh c b w r e f g = e ∙ (λ i d. (each d) i)
@@ -58,7 +61,8 @@ probed_is sh c b w r e f g = e ∙ (λ i d. (each d) i)
 -- the marks for a directory that replied
 pub marks_sent : (sh : Shape) (c : Cache) (t : ℕ) (d : ℕ) (ms : List (ℕ × ℕ)) (n : ℕ) (old new : Outgoing) → ms ≡ marks_by_home sh c d
     → Sent old new (to (Dir d) (map (mark_at t) ms)) n → Sent old new (to (Dir d) (marks_for sh c t d)) n
-marks_sent sh c t d ms n old new e s = sent_as old new _ _ n n s (ap (to (Dir d)) (ap (map (mark_at t)) e ∙ marks_are sh c t d)) (omega arith)
+marks_sent sh c t d ms n old new e s = sent_as old new _ _ n n s (ap (to (Dir d)) (ap (map (mark_at t)) e
+    ∙ marks_are sh c t d)) (omega arith)
 
 -- a fill sends nothing
 pub fill_silent : (l : ℕ) (ws : List ℕ) (s : CoreState) → (fill l ws s).sends ≡ (λ dst. [])
@@ -77,4 +81,8 @@ pub did_as : (o p : Out) (n : ℕ) (before out : Outgoing) (c : Core) → o ≡ 
 did_as o p n before out c e d = subst (λ (q : Out). Did q n before c out) (sym e) d
 
 pub follows_silently : (o : Out) (out : Outgoing) (c : Core) → core_of c ≡ o.core → o.sends ≡ (λ dst. []) → Follows o out c out
-follows_silently o out c e f = record { core = e; sends = sym (ap (followed (sends_of out.list.items)) f ∙ followed-nothing (sends_of out.list.items)) }
+follows_silently o out c e f = record {
+  core = e;
+  sends = sym (ap (followed (sends_of out.list.items)) f
+      ∙ followed-nothing (sends_of out.list.items));
+}

@@ -11,11 +11,13 @@ pub returns-in_ok-make_room-in-ProbeReply-clause-does : goal.returns-in_ok-make_
 unfolding probe_reply core_of
 returns-in_ok-make_room-in-ProbeReply-clause-does c =
     let k = c.args.core.now in
-    subst (λ (m : Msg). Happened (from_dir k.config c.args.d.0 (core_of k) (msg_of m)) c.args.out.now c.reply.new.core c.reply.new.out) (sym c.in-ProbeReply.is)
+    subst (λ (m : Msg). Happened (from_dir k.config c.args.d.0 (core_of k)
+    (msg_of m)) c.args.out.now c.reply.new.core c.reply.new.out) (sym c.in-ProbeReply.is)
     (follows_did _ _ _ _ _ _ c.make_room.ensures.unsent c.reply.ensures.does)
 
 pub returns-in-Fill-clause-does : goal.returns-in-Fill-clause-does
 returns-in-Fill-clause-does c =
     let k = c.args.core.now in
-    subst (λ (m : Msg). Happened (from_dir k.config c.args.d.0 (core_of k) (msg_of m)) c.args.out.now c.fill.new.core c.args.out.now) (sym c.in-Fill.is)
+    subst (λ (m : Msg). Happened (from_dir k.config c.args.d.0 (core_of k) (msg_of m)) c.args.out.now c.fill.new.core c.args.out.now)
+    (sym c.in-Fill.is)
     (follows_silently _ c.args.out.now c.fill.new.core c.fill.ensures.does (fill_silent _ _ (core_of k)))

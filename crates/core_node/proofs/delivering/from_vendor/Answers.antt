@@ -11,5 +11,6 @@ pub returns-in_ok-make_room-in-TidGrant-clause-does : goal.returns-in_ok-make_ro
 unfolding grant core_of
 returns-in_ok-make_room-in-TidGrant-clause-does c =
     let k = c.args.core.now in
-    subst (λ (m : Msg). Happened (from_vendor k.config (core_of k) (msg_of m)) c.args.out.now c.grant.new.core c.grant.new.out) (sym c.in-TidGrant.is)
+    subst (λ (m : Msg). Happened (from_vendor k.config (core_of k) (msg_of m)) c.args.out.now c.grant.new.core c.grant.new.out)
+    (sym c.in-TidGrant.is)
     (follows_did _ _ _ _ _ _ c.make_room.ensures.unsent c.grant.ensures.does)

@@ -11,5 +11,6 @@ returns-in-None c = rw c.in-None.ensures refl
 pub returns-in-Some : goal.returns-in-Some
 unfolding core_of
 returns-in-Some c =
-    evict_enabled c.args.core.now.config c.args.set c.args.way c.in-Some.line.0 (core_of c.args.core.now) c.may_leave.result c.awaits.result c.in-Some.marked c.is_alone.result
+    evict_enabled c.args.core.now.config c.args.set c.args.way c.in-Some.line.0
+    (core_of c.args.core.now) c.may_leave.result c.awaits.result c.in-Some.marked c.is_alone.result
     c.in-Some.ensures.0 c.may_leave.ensures c.awaits.ensures c.in-Some.ensures.1 c.is_alone.ensures

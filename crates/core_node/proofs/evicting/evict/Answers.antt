@@ -19,9 +19,11 @@ returns-clause-does c =
     let cache = ap (λ (q : Core). q.cache) c.in_ok-keep_modified.ensures.others in
     let config = ap (λ (q : Core). q.config) c.in_ok-keep_modified.ensures.others in
     let sent = rw (cache, config, w.1.here) at c.empty.ensures.sent in
-    let core = evicted_core c.args.set c.args.way w.0 k m n c.in_ok-keep_modified.ensures.others c.empty.ensures.others c.empty.ensures.maps (c.in_ok-keep_modified.ensures.kept w.0 w.1.here) in
+    let core = evicted_core c.args.set c.args.way w.0 k m n c.in_ok-keep_modified.ensures.others c.empty.ensures.others
+    c.empty.ensures.maps (c.in_ok-keep_modified.ensures.kept w.0 w.1.here) in
     subst (λ (o : Option Out). Happened o c.args.out.now n c.empty.new.out) (sym w.1.does)
-    (follows_did _ 1 c.args.out.now c.make_room.new.out c.empty.new.out n c.in_ok-make_room.ensures.unsent (record { core = core; sent = sent }))
+    (follows_did _ 1 c.args.out.now c.make_room.new.out c.empty.new.out n c.in_ok-make_room.ensures.unsent
+    (record { core = core; sent = sent }))
 
 pub returns-clause-stays : goal.returns-clause-stays
 unfolding core_of
@@ -34,5 +36,6 @@ returns-clause-stays c =
     record {
       config = ap (λ (q : Core). q.config) c.empty.ensures.others ∙ ap (λ (q : Core). q.config) c.in_ok-keep_modified.ensures.others;
       id = ap (λ (q : Core). q.id) c.empty.ensures.others ∙ ap (λ (q : Core). q.id) c.in_ok-keep_modified.ensures.others;
-      whole = evicted_whole c.args.set c.args.way w.0 k m n c.requires.whole c.in_ok-keep_modified.ensures.others c.empty.ensures.others c.empty.ensures.maps c.empty.ensures.config w.1.here w.1.free;
+      whole = evicted_whole c.args.set c.args.way w.0 k m n c.requires.whole c.in_ok-keep_modified.ensures.others
+          c.empty.ensures.others c.empty.ensures.maps c.empty.ensures.config w.1.here w.1.free;
     }

@@ -13,7 +13,8 @@ returns-in-Ok-clause-kept c = λ l e.
     let seen = c.in-Some.ensures in
     let here : Some f.line.0 ≡ Some l = sym seen.view.0 ∙ e in
     let same : f.line.0 ≡ l = cc in
-    c.in-Ok.ensures.kept ∙ spilled_as k.cache.config (maps k.cache) seen.consistent f seen.view.1 c.maps_fit_together.ensures.spills (spilled k.spilled)
+    c.in-Ok.ensures.kept ∙ spilled_as k.cache.config (maps k.cache) seen.consistent f seen.view.1 c.maps_fit_together.ensures.spills
+    (spilled k.spilled)
     ∙ ap (λ (x : ℕ). spill_line x (maps k.cache) (spilled k.spilled)) same
 
 pub returns-in-Err-clause-unchanged : goal.returns-in-Err-clause-unchanged

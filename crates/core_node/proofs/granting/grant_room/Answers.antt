@@ -10,9 +10,11 @@ use Rattle.core_node.proofs.granting.grant_room.Goals as goal
 pub returns-in-None-clause-does : goal.returns-in-None-clause-does
 returns-in-None-clause-does c =
     let k = c.args.core.now in
-    did_as _ _ _ _ _ _ (ap (λ (o : Option Tid). grant_phase k.config c.args.tid.0 (core_of k) (phase_of (code.Overflowing o))) c.in-None.is) c.probe_all.ensures.does
+    did_as _ _ _ _ _ _ (ap (λ (o : Option Tid). grant_phase k.config c.args.tid.0 (core_of k) (phase_of
+    (code.Overflowing o))) c.in-None.is) c.probe_all.ensures.does
 
 pub returns-in-Some-clause-does : goal.returns-in-Some-clause-does
 returns-in-Some-clause-does c =
     let k = c.args.core.now in
-    did_as _ _ _ _ _ _ (ap (λ (o : Option Tid). grant_phase k.config c.args.tid.0 (core_of k) (phase_of (code.Overflowing o))) c.in-Some.is) (did_silently _ _ _ _ refl)
+    did_as _ _ _ _ _ _ (ap (λ (o : Option Tid). grant_phase k.config c.args.tid.0 (core_of k) (phase_of
+    (code.Overflowing o))) c.in-Some.is) (did_silently _ _ _ _ refl)

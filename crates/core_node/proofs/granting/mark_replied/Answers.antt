@@ -13,7 +13,11 @@ returns-then-is_empty_below-clause-does c =
     let k = c.args.core.now in
     let all : not (any_below (put (has k.owing.bits) c.args.d.0 false) k.config.dirs) ≡ true =
     rw (c.without-owing.ensures, c.dirs-dirs.ensures.value) at (sym c.is_empty_below.ensures ∙ c.if-is_empty_below.true) in
-    record { core = rw (c.without-owing.ensures, all) refl; sent = marks_sent k.config (maps k.cache) c.args.tid.0 c.args.d.0 _ _ _ _ c.requires.marks c.send_marks.ensures }
+    record {
+      core = rw (c.without-owing.ensures, all) refl;
+      sent = marks_sent k.config
+          (maps k.cache) c.args.tid.0 c.args.d.0 _ _ _ _ c.requires.marks c.send_marks.ensures;
+    }
 
 pub returns-else-is_empty_below-clause-does : goal.returns-else-is_empty_below-clause-does
 unfolding core_of
@@ -21,4 +25,8 @@ returns-else-is_empty_below-clause-does c =
     let k = c.args.core.now in
     let all : not (any_below (put (has k.owing.bits) c.args.d.0 false) k.config.dirs) ≡ false =
     rw (c.without-owing.ensures, c.dirs-dirs.ensures.value) at (sym c.is_empty_below.ensures ∙ c.if-is_empty_below.false) in
-    record { core = rw (c.without-owing.ensures, all) refl; sent = marks_sent k.config (maps k.cache) c.args.tid.0 c.args.d.0 _ _ _ _ c.requires.marks c.send_marks.ensures }
+    record {
+      core = rw (c.without-owing.ensures, all) refl;
+      sent = marks_sent k.config
+          (maps k.cache) c.args.tid.0 c.args.d.0 _ _ _ _ c.requires.marks c.send_marks.ensures;
+    }

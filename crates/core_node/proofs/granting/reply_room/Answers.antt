@@ -14,4 +14,5 @@ returns-in-None-clause-does c =
 pub returns-in-Some-clause-does : goal.returns-in-Some-clause-does
 returns-in-Some-clause-does c =
     let k = c.args.core.now in
-    ap (λ (o : Option Tid). reply_phase k.config c.args.d.0 c.args.tid.0 (core_of k) (phase_of (code.Overflowing o))) c.in-Some.is ∙ c.reply_overflowing.ensures.does
+    ap (λ (o : Option Tid). reply_phase k.config c.args.d.0 c.args.tid.0 (core_of k) (phase_of (code.Overflowing o))) c.in-Some.is
+    ∙ c.reply_overflowing.ensures.does

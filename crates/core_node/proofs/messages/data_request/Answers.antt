@@ -13,7 +13,8 @@ returns-in-Some-clause-does c =
     let k = c.args.core.now in
     record {
       core = rw c.in-Some.ensures.maps refl;
-      sent = flushed_some c.args.out.now c.hand_out.new.self k.config (maps k.cache) c.args.line.0 c.in-Some.back c.home.result c.in-Some.ensures.out c.home.ensures.value
+      sent = flushed_some c.args.out.now c.hand_out.new.self k.config
+          (maps k.cache) c.args.line.0 c.in-Some.back c.home.result c.in-Some.ensures.out c.home.ensures.value
           (rw c.flush_of.ensures at c.hand_out.ensures.sent) c.hand_out.ensures.room;
     }
 
@@ -29,7 +30,11 @@ pub returns-in-None-clause-does : goal.returns-in-None-clause-does
 unfolding core_of data_request
 returns-in-None-clause-does c =
     let k = c.args.core.now in
-    record { core = rw c.in-None.ensures.maps refl; sent = flushed_none c.args.out.now k.config (maps k.cache) c.args.line.0 c.in-None.ensures.out }
+    record {
+      core = rw c.in-None.ensures.maps refl;
+      sent = flushed_none c.args.out.now k.config
+          (maps k.cache) c.args.line.0 c.in-None.ensures.out;
+    }
 
 pub returns-in-None-clause-stays : goal.returns-in-None-clause-stays
 unfolding cleaned

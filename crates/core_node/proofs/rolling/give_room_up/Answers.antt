@@ -10,10 +10,12 @@ use Rattle.core_node.proofs.rolling.give_room_up.Goals as goal
 pub returns-in-None-clause-does : goal.returns-in-None-clause-does
 returns-in-None-clause-does c =
     let k = c.args.core.now in
-    did_as _ _ _ _ _ _ (ap (λ (o : Option Tid). violated_in k.config (core_of k) (phase_of (code.Overflowing o))) c.in-None.is) (did_silently _ _ _ _ c.doom.ensures.does)
+    did_as _ _ _ _ _ _ (ap (λ (o : Option Tid). violated_in k.config (core_of k) (phase_of (code.Overflowing o))) c.in-None.is)
+    (did_silently _ _ _ _ c.doom.ensures.does)
 
 pub returns-in-Some-clause-does : goal.returns-in-Some-clause-does
 unfolding core_of
 returns-in-Some-clause-does c =
     let k = c.args.core.now in
-    did_as _ _ _ _ _ _ (ap (λ (o : Option Tid). violated_in k.config (core_of k) (phase_of (code.Overflowing o))) c.in-Some.is) c.give_way.ensures.does
+    did_as _ _ _ _ _ _ (ap (λ (o : Option Tid). violated_in k.config (core_of k) (phase_of
+    (code.Overflowing o))) c.in-Some.is) c.give_way.ensures.does

@@ -9,12 +9,14 @@ use Rattle.core_node.proofs.rolling.give_up.Goals as goal
 pub returns-in-Running-clause-does : goal.returns-in-Running-clause-does
 returns-in-Running-clause-does c =
     let k = c.args.core.now in
-    did_as _ _ _ _ _ _ (ap (λ (p : Phase). violated_in k.config (core_of k) (phase_of p)) c.in-Running.is) (did_silently _ _ _ _ c.roll_back.ensures.does)
+    did_as _ _ _ _ _ _ (ap (λ (p : Phase). violated_in k.config (core_of k) (phase_of p)) c.in-Running.is)
+    (did_silently _ _ _ _ c.roll_back.ensures.does)
 
 pub returns-in-AwaitTid-clause-does : goal.returns-in-AwaitTid-clause-does
 returns-in-AwaitTid-clause-does c =
     let k = c.args.core.now in
-    did_as _ _ _ _ _ _ (ap (λ (p : Phase). violated_in k.config (core_of k) (phase_of p)) c.in-AwaitTid.is) (did_silently _ _ _ _ c.doom.ensures.does)
+    did_as _ _ _ _ _ _ (ap (λ (p : Phase). violated_in k.config (core_of k) (phase_of p)) c.in-AwaitTid.is)
+    (did_silently _ _ _ _ c.doom.ensures.does)
 
 pub returns-in-DoomedTid-clause-does : goal.returns-in-DoomedTid-clause-does
 returns-in-DoomedTid-clause-does c = rw c.in-DoomedTid.is (did_silently _ _ _ _ refl)

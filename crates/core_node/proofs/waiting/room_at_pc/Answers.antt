@@ -8,4 +8,5 @@ use Rattle.core_node.proofs.waiting.room_at_pc.Goals as goal
 pub returns-in-Ok : goal.returns-in-Ok
 unfolding started
 returns-in-Ok c =
-    c.room_at_need.ensures ∙ ap (λ (n : Need). room_for_need c.args.core.now.config (core_of c.args.core.now) n) (c.plan.ensures.need ∙ sym c.in-Ok.ensures.need)
+    c.room_at_need.ensures ∙ ap (λ (n : Need). room_for_need c.args.core.now.config (core_of c.args.core.now) n) (c.plan.ensures.need
+    ∙ sym c.in-Ok.ensures.need)

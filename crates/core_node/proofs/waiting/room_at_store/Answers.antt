@@ -16,5 +16,6 @@ pub returns-else-holds : goal.returns-else-holds
 unfolding core_of
 returns-else-holds c =
     let k = c.args.core.now in
-    room_store k.config c.args.w.0 (core_of k) c.room_of.result (look_of c.look_store.result) c.is_alone.result (sym c.holds.ensures ∙ c.if-holds.false) c.room_of.ensures
+    room_store k.config c.args.w.0 (core_of k) c.room_of.result (look_of c.look_store.result) c.is_alone.result (sym c.holds.ensures
+    ∙ c.if-holds.false) c.room_of.ensures
     (c.look_store.ensures ∙ ap (λ (s : Settings). look_store s c.args.w.0 true (maps k.cache)) c.requires.cache) c.is_alone.ensures

@@ -16,5 +16,6 @@ pub returns-in-None : goal.returns-in-None
 unfolding core_of
 returns-in-None c =
     let k = c.args.core.now in
-    room_word k.config c.args.w.0 (core_of k) c.room_of.result (look_of c.look_load.result) c.is_alone.result c.in-None.ensures c.room_of.ensures
+    room_word k.config c.args.w.0 (core_of k) c.room_of.result
+    (look_of c.look_load.result) c.is_alone.result c.in-None.ensures c.room_of.ensures
     (c.look_load.ensures.answer ∙ ap (λ (s : Settings). look_load s c.args.w.0 (maps k.cache)) c.requires.cache) c.is_alone.ensures

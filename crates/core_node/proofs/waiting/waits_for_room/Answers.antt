@@ -12,13 +12,15 @@ pub returns-in-Running : goal.returns-in-Running
 unfolding room core_of
 returns-in-Running c =
     let k = c.args.core.now in
-    c.room_unless_awaiting.ensures ∙ sym (ap (λ (q : Phase). room_in_phase k.config (program (started c.args.code.now)) (core_of k) (phase_of q)) c.in-Running.is)
+    c.room_unless_awaiting.ensures ∙ sym (ap (λ (q : Phase). room_in_phase k.config (program (started c.args.code.now)) (core_of k)
+    (phase_of q)) c.in-Running.is)
 
 pub returns-in-Solo : goal.returns-in-Solo
 unfolding room core_of
 returns-in-Solo c =
     let k = c.args.core.now in
-    c.room_unless_awaiting-in-Solo.ensures ∙ sym (ap (λ (q : Phase). room_in_phase k.config (program (started c.args.code.now)) (core_of k) (phase_of q)) c.in-Solo.is)
+    c.room_unless_awaiting-in-Solo.ensures ∙ sym (ap (λ (q : Phase). room_in_phase k.config (program (started c.args.code.now))
+    (core_of k) (phase_of q)) c.in-Solo.is)
 
 pub returns-in-AwaitTid : goal.returns-in-AwaitTid
 unfolding room core_of
@@ -48,7 +50,9 @@ pub returns-in-Overflowing : goal.returns-in-Overflowing
 unfolding room core_of
 returns-in-Overflowing c =
     let k = c.args.core.now in
-    room_overflowing k.config (program (started c.args.code.now)) (core_of k) c.in-Overflowing.field-0 ∙ sym (ap (λ (q : Phase). room_in_phase k.config (program (started c.args.code.now)) (core_of k) (phase_of q)) c.in-Overflowing.is)
+    room_overflowing k.config (program (started c.args.code.now)) (core_of k) c.in-Overflowing.field-0
+    ∙ sym (ap (λ (q : Phase). room_in_phase k.config (program (started c.args.code.now)) (core_of k)
+    (phase_of q)) c.in-Overflowing.is)
 
 pub returns-in-Halted : goal.returns-in-Halted
 unfolding room core_of
