@@ -1,5 +1,5 @@
 -- When an answer is that the rules have no such event.
-use Rattle.std.proofs.Common.{◌≡◌, ◌≢◌, ℕ, Option, Some, None, Result, Ok, Err, OnOk, OnErr, refl}
+use Rattle.std.proofs.Common.{◌≡◌, ◌≢◌, ℕ, Option, Some, None, Result, Ok, Err, OnOk, OnErr}
 use Rattle.tcc_msg.specs.declared.outgoing.Outgoing.{Outgoing}
 use Rattle.tcc_rules.specs.Attempt.{Out}
 use Rattle.core_node.specs.Answers.{IsBlocked, IsMemory}

@@ -4,6 +4,7 @@ pub mod Committed
 pub mod Cores
 pub mod Dropped
 pub mod Emptied
+pub mod Enabled
 pub mod Fetched
 pub mod Finished
 pub mod Handed

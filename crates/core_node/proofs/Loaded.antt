@@ -1,11 +1,11 @@
 -- What the rule of a load gives, by where its word is.
-use Rattle.std.proofs.Common.{◌≡◌, ◌≢◌, ℕ, Bool, true, false, if◌then◌else◌, Option, Some, None, is_some, refl, ap, sym, ◌∙◌}
+use Rattle.std.proofs.Common.{◌≡◌, ◌≢◌, ℕ, Bool, true, false, if◌then◌else◌, Option, Some, None, refl, ap, ◌∙◌}
 use Rattle.tcc_program.specs.Program.{Program, Need}
 use Rattle.tcc_maps.specs.Words.{line_of}
 use Rattle.tcc_maps.specs.Shape.{Shape}
 use Rattle.tcc_maps.specs.Cache.{Cache}
 use Rattle.tcc_maps.specs.CacheChange.{marked}
-use Rattle.tcc_maps.specs.CacheLook.{Look, Hit, look_load, look_value, look_line}
+use Rattle.tcc_maps.specs.CacheLook.{Hit, look_load, look_value, look_line}
 use Rattle.tcc_rules.specs.State.{CoreState, Phase}
 use Rattle.tcc_rules.specs.Sends.{nothing}
 use Rattle.tcc_rules.specs.Attempt.{moves, finished, is_running}

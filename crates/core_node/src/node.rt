@@ -6,6 +6,7 @@ ghost use Rattle.tcc_rules.specs.CoreDeliver.{core_deliver};
 ghost use Rattle.image_load.specs.Contents.{started};
 ghost use Rattle.rv_code.specs.Machine.{program};
 ghost use Rattle.tcc_rules.specs.CoreEvict.{core_evict};
+ghost use Rattle.tcc_rules.specs.CoreExec.{core_exec};
 ghost use Rattle.tcc_rules.specs.Useful.{room};
 ghost use Rattle.tcc_rules.specs.State.{core_start};
 ghost use Rattle.spec_cache.specs.Held.{maps};
@@ -18,7 +19,7 @@ ghost use Rattle.core_node.specs.Answers.{Happened, IsBlocked};
 use crate::delivering::{CoreError, from_dir, from_vendor};
 use crate::evicting::{can_evict, evict};
 use crate::state::Core;
-use crate::waiting::waits_for_room;
+use crate::waiting::{can_exec, waits_for_room};
 use commit_engine::{DirSet, Phase};
 use overflow_buf::OverflowBuf;
 use reg_checkpoint::Check;
@@ -124,6 +125,14 @@ impl CoreNode {
         ensures { result ≡ is_some (core_evict self.now.config set way (core_of self.now)) }
     {
         can_evict(&self.core, set, way)
+    }
+
+    /// Whether the core may execute. The code is of the same machine. Takes no memory.
+    pub fn can_exec(&self, code: &Code) -> bool
+        requires { code.now.settings ≡ self.now.config }
+        ensures { result ≡ is_some (core_exec self.now.config (program (started code.now)) self.now.id.0 (core_of self.now)) }
+    {
+        can_exec(&self.core, code)
     }
 
     /// The set in which the core waits for room, so that it is of use to empty a frame there; None where it doesn't wait. The code

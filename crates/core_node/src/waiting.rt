@@ -1,9 +1,10 @@
-// The set in which a core waits for room, so that an eviction there is of use.
-ghost use Rattle.std.specs.Prelude.{◌≡◌};
+// Whether a core may execute, and the set in which it waits for room, so that an eviction there is of use.
+ghost use Rattle.std.specs.Prelude.{◌≡◌, is_some, not};
 ghost use Rattle.image_load.specs.Contents.{started};
 ghost use Rattle.rv_code.specs.Machine.{program};
 ghost use Rattle.rv_code.specs.Served.{IsServed};
 ghost use Rattle.rv_exec.specs.Needs.{need_of};
+ghost use Rattle.tcc_rules.specs.CoreExec.{core_exec, unless_awaiting as exec_unless_awaiting};
 ghost use Rattle.tcc_rules.specs.Useful.{room, room_for_need, room_for_store, room_for_word, room_unless_awaiting as unless_awaiting};
 ghost use Rattle.spec_cache.specs.Look.{look_of};
 ghost use Rattle.core_node.specs.View.{awaited_of, core_of, IsCore};
@@ -118,5 +119,45 @@ pub(crate) fn waits_for_room(core: &Core, code: &Code) -> Option<u16>
         Phase::Ready(_) => None,
         Phase::Overflowing(_) => None,
         Phase::Halted => None,
+    }
+}
+
+/// Whether no set is waited for.
+fn is_free(set: Option<u16>) -> bool
+    ensures { result ≡ not (is_some set) }
+{
+    match set {
+        Some(_) => false,
+        None => true,
+    }
+}
+
+/// Whether a core may execute that runs or is alone: it awaits no line, and doesn't wait for room.
+fn can_execute(core: &Core, code: &Code) -> bool
+    requires whole { IsCore core.now }
+    requires same { code.now.settings ≡ core.now.config }
+    ensures { result ≡ is_some (exec_unless_awaiting core.now.config (program (started code.now)) core.now.id.0 (core_of core.now) (awaited_of core.now.awaited)) }
+{
+    match core.awaited {
+        Some(_) => false,
+        None => is_free(room_at_pc(core, code)),
+    }
+}
+
+/// Whether the core may execute.
+pub(crate) fn can_exec(core: &Core, code: &Code) -> bool
+    requires whole { IsCore core.now }
+    requires same { code.now.settings ≡ core.now.config }
+    ensures { result ≡ is_some (core_exec core.now.config (program (started code.now)) core.now.id.0 (core_of core.now)) }
+{
+    match core.phase {
+        Phase::Running => can_execute(core, code),
+        Phase::Solo(_) => can_execute(core, code),
+        Phase::Ready(_) => true,
+        Phase::AwaitTid => false,
+        Phase::DoomedTid => false,
+        Phase::Probing(_) => false,
+        Phase::Overflowing(_) => false,
+        Phase::Halted => false,
     }
 }
