@@ -1,11 +1,12 @@
 -- What finishing an instruction is: what it did is noted, and the core goes on.
-use Rattle.std.proofs.Common.{◌≡◌, ℕ, refl}
-use Rattle.tcc_program.specs.Program.{Program, Need, Nothing, Loads, Stores, Changes, Prints, Ends, Halts, Traps}
+use Rattle.std.proofs.Common.{◌≡◌, ℕ, None, refl}
+use Rattle.tcc_program.specs.Program.{unreserved, Program, Need, Nothing, Loads, Stores, Changes, Prints, Ends, Halts, Traps}
+use Rattle.tcc_program.specs.Plain.{Ended, Halted, Trapped}
 use Rattle.tcc_maps.specs.Cache.{Cache}
 use Rattle.tcc_maps.specs.Spilled.{Spilled}
 use Rattle.tcc_rules.specs.State.{CoreState}
 use Rattle.tcc_rules.specs.Attempt.{stepped, finished}
-use Rattle.core_node.specs.Executing.{noted, given, GoesOn}
+use Rattle.core_node.specs.Executing.{noted, given, concluded, GoesOn}
 
 pub finished_noted : (p : Program) (n : Need) (x : ℕ) (s : CoreState) → GoesOn n
     → stepped p (given n x) (noted n x s) ≡ finished p n x s
@@ -66,3 +67,16 @@ phase-finished p (Prints byte) x s = refl
 phase-finished p Ends x s = refl
 phase-finished p (Halts code) x s = refl
 phase-finished p (Traps code) x s = refl
+
+-- an instruction that ends its transaction
+pub finished_ends : (p : Program) (x : ℕ) (s : CoreState) → finished p Ends x s ≡ concluded (unreserved (p.after s.local None)) Ended s
+unfolding finished stepped concluded
+finished_ends p x s = refl
+
+pub finished_halts : (p : Program) (code x : ℕ) (s : CoreState) → finished p (Halts code) x s ≡ concluded (unreserved s.local) (Halted code) s
+unfolding finished concluded
+finished_halts p code x s = refl
+
+pub finished_traps : (p : Program) (code x : ℕ) (s : CoreState) → finished p (Traps code) x s ≡ concluded (unreserved s.local) (Trapped code) s
+unfolding finished concluded
+finished_traps p code x s = refl

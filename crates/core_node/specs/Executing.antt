@@ -1,9 +1,9 @@
 -- What an execution answers, and what an instruction leaves in an attempt, in the words of the rules.
-use Rattle.std.specs.Prelude.{ℕ, [], ◌∷◌, ◌++◌, Option, Some, None}
+use Rattle.std.specs.Prelude.{ℕ, ◌+◌, [], ◌∷◌, ◌++◌, Option, Some, None}
 use Rattle.tcc_base.specs.declared.access.Size.TheVariants.{Word}
 use Rattle.tcc_msg.specs.declared.outgoing.Outgoing.{Outgoing}
-use Rattle.tcc_program.specs.Program.{Need, Loads, Stores, Changes, Prints, Ends, Halts, Traps}
-use Rattle.tcc_program.specs.Plain.{load_of, store_of}
+use Rattle.tcc_program.specs.Program.{Local, Need, Loads, Stores, Changes, Prints, Ends, Halts, Traps}
+use Rattle.tcc_program.specs.Plain.{Outcome, load_of, store_of}
 use Rattle.tcc_program.specs.Ram.{part}
 use Rattle.tcc_rules.specs.State.{CoreState}
 use Rattle.tcc_rules.specs.Attempt.{Out}
@@ -38,3 +38,7 @@ GoesOn Ends = ⊥
 GoesOn (Halts code) = ⊥
 GoesOn (Traps code) = ⊥
 GoesOn _ = Unit {0}
+
+-- an instruction is counted, and ends its transaction with these registers and pc
+unfoldable pub concluded : Local → Outcome → CoreState → CoreState
+concluded l o s = record s { n = s.n + 1; local = l; ended = o }

@@ -1,6 +1,7 @@
 // A core as a pure machine over messages: what it executes, evicts and answers, as the rules say.
 #![tactic(auto)]
 
+mod closing;
 mod committing;
 mod delivering;
 mod evicting;

@@ -1,0 +1,13 @@
+use Rattle.std.proofs.Common.{refl}
+use Rattle.tcc_base.specs.declared.names.NodeId.TheVariants.{Vendor}
+use Rattle.tcc_msg.specs.declared.msg.Msg.TheVariants.{TidReq}
+use Rattle.commit_engine.proofs.Lemmas.{sent_one}
+use Rattle.core_node.specs.View.{core_of}
+use Rattle.core_node.proofs.closing.ask_tid.Goals as goal
+
+pub returns-clause-does : goal.returns-clause-does
+unfolding core_of
+returns-clause-does c = record {
+  core = refl;
+  sent = sent_one c.args.out.now c.hand_out.new.self Vendor TidReq c.hand_out.ensures.sent c.hand_out.ensures.room;
+}
