@@ -1,9 +1,13 @@
--- When an answer is that the rules have no such event.
-use Rattle.std.proofs.Common.{◌≡◌, ◌≢◌, ℕ, Option, Some, None, Result, Ok, Err, OnOk, OnErr}
+-- What an answer says of the rules: that they have the event, or that they have none.
+use Rattle.std.proofs.Common.{◌≡◌, ◌≢◌, ℕ, Option, Some, None, Result, Ok, Err, OnOk, OnErr, refl, ap}
 use Rattle.tcc_msg.specs.declared.outgoing.Outgoing.{Outgoing}
-use Rattle.tcc_rules.specs.Attempt.{Out}
+use Rattle.tcc_rules.specs.State.{CoreState}
+use Rattle.tcc_rules.specs.Attempt.{Out, moves}
+use Rattle.tcc_rules.specs.Sends.{nothing}
 use Rattle.core_node.specs.Answers.{IsBlocked, IsMemory}
 use Rattle.core_node.specs.Executing.{DidSome}
+use Rattle.core_node.specs.View.{core_of, Did}
+use Rattle.core_node.proofs.Steps.{did_silently}
 use Rattle.core_node.specs.declared.state.Core.{Core}
 use Rattle.core_node.specs.declared.delivering.CoreError.{CoreError}
 use Rattle.core_node.specs.declared.delivering.CoreError.TheVariants.{Blocked, Memory}
@@ -25,3 +29,18 @@ blocked_none (Ok y) None n before out c d e f = absurd d
 blocked_none (Ok y) (Some x) n before out c d e f = λ g. cc
 blocked_none (Err Blocked) o n before out c d e f = e
 blocked_none (Err Memory) o n before out c d e f = cc
+
+-- an answer by which a rule's event happened
+pub ok_did : {A E : Type 0} → (r : Result A E) (o : Option Out) (t : Out) (n : ℕ) (before out : Outgoing) (c : Core)
+    → o ≡ Some t → OnOk r (Did t n before c out) → OnOk r (DidSome o n before c out)
+ok_did (Ok y) o t n before out c e d = rw e d
+ok_did (Err y) o t n before out c e d = d
+
+pub ok_silently : {A E : Type 0} → (r : Result A E) (o : Option Out) (t : CoreState) (n : ℕ) (out : Outgoing) (c : Core)
+    → o ≡ Some (moves t nothing) → OnOk r (core_of c ≡ t) → OnOk r (DidSome o n out c out)
+ok_silently (Ok y) o t n out c e d = rw e (did_silently t n out c d)
+ok_silently (Err y) o t n out c e d = d
+
+pub unchanged_core : {A E : Type 0} → (r : Result A E) (c k : Core) → OnErr r (c ≡ k) → OnErr r (core_of c ≡ core_of k)
+unchanged_core (Ok y) c k e = e
+unchanged_core (Err y) c k e = ap core_of e

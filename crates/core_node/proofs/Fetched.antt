@@ -7,7 +7,7 @@ use Rattle.tcc_rules.specs.State.{CoreState}
 use Rattle.tcc_rules.specs.Attempt.{Out, is_solo}
 use Rattle.tcc_rules.specs.Execute.{ask, place, overflow, fetch, full_set}
 
-abbrev look_by : (held free marked : Bool) → (set : ℕ) → Look
+abbrev pub look_by : (held free marked : Bool) → (set : ℕ) → Look
 look_by held free marked n = if held then Miss else if free then Miss else if marked then Overflow n else NeedsRoom n
 
 abbrev fetch_by : (held free marked solo : Bool) → (a b c : Out) → Option Out

@@ -1,6 +1,7 @@
 pub mod Asked
 pub mod Blocked
 pub mod Committed
+pub mod Changed
 pub mod Cores
 pub mod Dropped
 pub mod Emptied
@@ -12,4 +13,6 @@ pub mod Loaded
 pub mod Placed
 pub mod Rooms
 pub mod Steps
+pub mod Stored
+pub mod Unnoted
 pub mod Used

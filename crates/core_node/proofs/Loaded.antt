@@ -5,7 +5,7 @@ use Rattle.tcc_maps.specs.Words.{line_of}
 use Rattle.tcc_maps.specs.Shape.{Shape}
 use Rattle.tcc_maps.specs.Cache.{Cache}
 use Rattle.tcc_maps.specs.CacheChange.{marked}
-use Rattle.tcc_maps.specs.CacheLook.{Hit, look_load, look_value, look_line}
+use Rattle.tcc_maps.specs.CacheLook.{Look, Hit, Miss, look_load, look_value, look_line}
 use Rattle.tcc_rules.specs.State.{CoreState, Phase}
 use Rattle.tcc_rules.specs.Sends.{nothing}
 use Rattle.tcc_rules.specs.Attempt.{moves, finished, is_running}
@@ -51,11 +51,17 @@ pub look_invalid : (sh : Shape) (w : ℕ) (c : Cache) → c.value w ≡ None →
 unfolding look_load look_value
 look_invalid sh w c e = rw e refl
 
-not_hit : (r : CodeLook) → ((x : ℕ) → r ≢ code.Hit x) → (x : ℕ) → look_of r ≢ Hit x
+pub not_hit : (r : CodeLook) → ((x : ℕ) → r ≢ code.Hit x) → (x : ℕ) → look_of r ≢ Hit x
 not_hit (code.Hit y) h x = absurd (h y refl)
 not_hit code.Miss h x = λ e. cc
 not_hit (code.NeedsRoom k) h x = λ e. cc
 not_hit (code.Overflow k) h x = λ e. cc
+
+pub not_miss : (r : CodeLook) → r ≢ code.Miss → look_of r ≢ Miss
+not_miss (code.Hit y) h = λ e. cc
+not_miss code.Miss h = absurd (h refl)
+not_miss (code.NeedsRoom k) h = λ e. cc
+not_miss (code.Overflow k) h = λ e. cc
 
 -- a word that a look doesn't find is not valid
 pub not_found : (sh : Shape) (w : ℕ) (c : Cache) (r : CodeLook) → look_of r ≡ look_load sh w c → ((x : ℕ) → r ≢ code.Hit x) → c.value w ≡ None

@@ -1,7 +1,8 @@
 // An instruction that has what it needs: what it loads, stores and prints is noted, and the core goes on to the next one.
-ghost use Rattle.std.specs.Prelude.{◌≡◌, ◌<◌, ◌-◌, ◌^◌, OnOk, OnErr, [], ◌∷◌, ◌++◌};
+ghost use Rattle.std.specs.Prelude.{ℕ, ◌≡◌, ◌<◌, ◌-◌, ◌^◌, OnOk, OnErr, [], ◌∷◌, ◌++◌};
 ghost use Rattle.tcc_program.specs.Plain.{load_of, store_of};
 ghost use Rattle.tcc_base.specs.declared.access.Size.TheVariants.{Word};
+ghost use Rattle.tcc_rules.specs.State.{CoreState};
 ghost use Rattle.tcc_rules.specs.Attempt.{stepped, finished};
 ghost use Rattle.rv_exec.specs.Needs.{need_of};
 ghost use Rattle.rv_plain.specs.Attempts.{alone};
@@ -102,6 +103,33 @@ pub(crate) fn note(core: &mut Core, need: Need, word: u32) -> Result<(), NoMemor
         Need::End => Ok(()),
         Need::Halt(_) => Ok(()),
         Need::Trap(_) => Ok(()),
+    }
+}
+
+/// Takes back what was noted of an instruction last. Takes no memory.
+pub(crate) fn take_back(core: &mut Core, need: Need)
+    requires whole { IsCore core.old }
+    ensures undone { (x : ℕ) (s : CoreState) → core_of core.old ≡ noted (need_of need) x s → core_of core.new ≡ s }
+    ensures stays { Stays core.old core.new }
+{
+    match need {
+        Need::Load { .. } => {
+            let _ = core.loads.pop();
+        }
+        Need::Store { .. } => {
+            let _ = core.stores.pop();
+        }
+        Need::Amo { .. } => {
+            let _ = core.loads.pop();
+            let _ = core.stores.pop();
+        }
+        Need::Console(_) => {
+            let _ = core.console.pop();
+        }
+        Need::Nothing => {}
+        Need::End => {}
+        Need::Halt(_) => {}
+        Need::Trap(_) => {}
     }
 }
 

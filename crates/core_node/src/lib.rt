@@ -3,6 +3,7 @@
 
 mod closing;
 mod committing;
+mod changing;
 mod delivering;
 mod evicting;
 mod finishing;

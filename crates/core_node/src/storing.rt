@@ -69,7 +69,7 @@ pub(crate) fn store_framed(core: &mut Core, w: WordAddr, value: u32, also: bool,
 
 /// Stores a word in the overflow buffer. After want of memory it is as before.
 #[tactic(auto, unfolding(crate::specs::View::core_of, tcc_rules::specs::Execute::buffered))]
-fn store_buffered(core: &mut Core, w: WordAddr, value: u32) -> Result<(), NoMemory>
+pub(crate) fn store_buffered(core: &mut Core, w: WordAddr, value: u32) -> Result<(), NoMemory>
     requires whole { IsCore core.old }
     requires exists { line_of w.0 < lines core.old.config }
     ensures does { OnOk result (core_of core.new ≡ buffered w.0 value (core_of core.old)) }

@@ -1,0 +1,45 @@
+use Rattle.std.proofs.Common.{◌≡◌, true, refl, ap, sym, ◌∙◌}
+use Rattle.tcc_maps.specs.Cache.{Cache}
+use Rattle.tcc_maps.specs.Shape.{Shape}
+use Rattle.tcc_maps.specs.Words.{line_of}
+use Rattle.tcc_rules.specs.State.{CoreState}
+use Rattle.tcc_rules.specs.Attempt.{Out, moves, finished}
+use Rattle.tcc_rules.specs.Execute.{framed}
+use Rattle.tcc_rules.specs.Sends.{flushed}
+use Rattle.rv_exec.specs.Needs.{need_of}
+use Rattle.rv_plain.specs.Attempts.{alone}
+use Rattle.spec_cache.specs.Held.{maps}
+use Rattle.core_node.specs.View.{core_of}
+use Rattle.core_node.proofs.Changed.{framed_finished}
+use Rattle.core_node.proofs.Finished.{cache-finished}
+use Rattle.core_node.proofs.Steps.{did_as}
+use Rattle.core_node.proofs.changing.finish_framed.Goals as goal
+
+pub store_framed-requires-clause-held : goal.store_framed-requires-clause-held
+unfolding core_of
+store_framed-requires-clause-held c =
+    let k = c.args.core.now in
+    ap (λ (s : CoreState). s.cache.held (line_of c.args.w.0))
+    (c.in-Ok.ensures.does) ∙ ap (λ (x : Cache). x.held (line_of c.args.w.0))
+    (cache-finished (alone c.args.inst.now) (need_of c.args.need) c.args.word (core_of k)) ∙ c.requires.held
+
+pub returns-clause-does : goal.returns-clause-does
+unfolding core_of
+returns-clause-does c =
+    let k = c.args.core.now in
+    let m = c.finish.new.core in
+    let p = alone c.args.inst.now in
+    let n = need_of c.args.need in
+    let l = line_of c.args.w.0 in
+    let core : framed c.args.w.0 c.args.value c.args.also (core_of m) ≡ finished p n c.args.word (framed c.args.w.0 c.args.value c.args.also (core_of k)) =
+    ap (framed c.args.w.0 c.args.value c.args.also) c.in-Ok.ensures.does
+    ∙ framed_finished p n c.args.word c.args.w.0 c.args.value c.args.also (core_of k) in
+    let cache : maps m.cache ≡ maps k.cache =
+    ap (λ (s : CoreState). s.cache) c.in-Ok.ensures.does ∙ cache-finished p n c.args.word (core_of k) in
+    did_as _ (moves (framed c.args.w.0 c.args.value c.args.also (core_of m)) (flushed m.config (maps m.cache) l)) 1
+    c.args.out.now c.store_framed.new.out c.store_framed.new.core
+    (ap (λ (s : CoreState). moves s (flushed k.config (maps k.cache) l)) (sym core)
+    ∙ ap (λ (x : Cache). moves (framed c.args.w.0 c.args.value c.args.also (core_of m)) (flushed k.config x l)) (sym cache)
+    ∙ ap (λ (sh : Shape). moves (framed c.args.w.0 c.args.value c.args.also (core_of m)) (flushed sh (maps m.cache) l))
+    (sym c.in-Ok.ensures.stays.config))
+    c.store_framed.ensures.does
