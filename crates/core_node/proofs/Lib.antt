@@ -6,6 +6,7 @@ pub mod Cores
 pub mod Dropped
 pub mod Emptied
 pub mod Enabled
+pub mod Executed
 pub mod Fetched
 pub mod Finished
 pub mod Handed

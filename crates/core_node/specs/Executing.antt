@@ -1,5 +1,8 @@
 -- What an execution answers, and what an instruction leaves in an attempt, in the words of the rules.
-use Rattle.std.specs.Prelude.{ℕ, ◌+◌, [], ◌∷◌, ◌++◌, Option, Some, None}
+use Rattle.std.specs.Prelude.{ℕ, ◌≡◌, ◌+◌, ◌%◌, [], ◌∷◌, ◌++◌, Option, Some, None}
+use Rattle.rv_exec.specs.declared.need.Need.{Need as CodeNeed}
+use Rattle.rv_exec.specs.declared.need.Need.TheVariants as code
+use Rattle.tcc_base.specs.Bytes.{bytes_of}
 use Rattle.tcc_base.specs.declared.access.Size.TheVariants.{Word}
 use Rattle.tcc_msg.specs.declared.outgoing.Outgoing.{Outgoing}
 use Rattle.tcc_program.specs.Program.{Local, Need, Loads, Stores, Changes, Prints, Ends, Halts, Traps}
@@ -31,6 +34,13 @@ noted (Changes addr changed) x s = record s {
 }
 noted (Prints byte) x s = record s { console = s.console ++ byte ∷ [] }
 noted _ x s = s
+
+-- the access is at a multiple of its size
+abbrev pub IsAligned : CodeNeed → Type 0
+IsAligned (code.Load addr size) = addr % bytes_of size ≡ 0
+IsAligned (code.Store addr size value) = addr % bytes_of size ≡ 0
+IsAligned (code.Amo addr op value) = addr % 4 ≡ 0
+IsAligned _ = Unit {0}
 
 -- the transaction goes on after it
 abbrev pub GoesOn : Need → Type 0

@@ -7,13 +7,13 @@ ghost use Rattle.tcc_maps.specs.Words.{line_of};
 ghost use Rattle.tcc_rules.specs.Attempt.{moves, finished, new_word as word_after};
 ghost use Rattle.tcc_rules.specs.Execute.{also_read, place as placed_in, framed, buffered, change_valid as valid_rule, partial_store as partial_rule, word_store as word_rule};
 ghost use Rattle.tcc_rules.specs.Sends.{flushed};
-ghost use Rattle.rv_exec.specs.Needs.{need_of, IsPlanned};
+ghost use Rattle.rv_exec.specs.Needs.{need_of};
 ghost use Rattle.rv_plain.specs.Attempts.{alone};
 ghost use Rattle.spec_cache.specs.Held.{maps};
 ghost use Rattle.overflow_buf.specs.Kept.{spilled};
 ghost use Rattle.commit_engine.specs.Sent.{HasRoom};
 ghost use Rattle.core_node.specs.Answers.{IsBlocked, IsMemory};
-ghost use Rattle.core_node.specs.Executing.{DidSome, GoesOn};
+ghost use Rattle.core_node.specs.Executing.{DidSome, GoesOn, IsAligned};
 ghost use Rattle.core_node.specs.View.{core_of, IsCore, Did, Stays};
 
 use crate::delivering::CoreError;
@@ -30,7 +30,7 @@ use tcc_msg::Outgoing;
 
 /// The word that an instruction leaves in place of the one that it found.
 fn new_word(need: Need, word: u32) -> u32
-    requires { IsPlanned need }
+    requires { IsAligned need }
     ensures { result ≡ word_after (need_of need) word }
 {
     match need {
@@ -202,7 +202,7 @@ fn change_valid(
     requires whole { IsCore core.old }
     requires counts { core.old.n < 2 ^ 32 - 1 }
     requires goes_on { GoesOn (need_of need) }
-    requires planned { IsPlanned need }
+    requires aligned { IsAligned need }
     requires exists { line_of w.0 < lines core.old.config }
     requires held { (maps core.old.cache).held (line_of w.0) ≡ true }
     requires room { HasRoom out.old 1 }
@@ -231,7 +231,7 @@ pub(crate) fn partial_store(
     requires whole { IsCore core.old }
     requires counts { core.old.n < 2 ^ 32 - 1 }
     requires goes_on { GoesOn (need_of need) }
-    requires planned { IsPlanned need }
+    requires aligned { IsAligned need }
     requires exists { line_of w.0 < lines core.old.config }
     requires room { HasRoom out.old 1 }
     ensures does { OnOk result (DidSome (partial_rule core.old.config (alone inst.now) (need_of need) w.0 (core_of core.old)) 1 out.old core.new out.new) }

@@ -6,6 +6,7 @@ mod committing;
 mod changing;
 mod delivering;
 mod evicting;
+mod executing;
 mod finishing;
 mod granting;
 mod loading;

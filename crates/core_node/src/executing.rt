@@ -1,0 +1,100 @@
+// What an instruction needs decides what the core does.
+ghost use Rattle.std.specs.Prelude.{◌≡◌, ◌<◌, ◌-◌, ◌^◌, OnOk, OnErr};
+ghost use Rattle.tcc_maps.specs.Shape.{lines};
+ghost use Rattle.tcc_maps.specs.Words.{line_of};
+ghost use Rattle.tcc_program.specs.Ram.{word_of};
+ghost use Rattle.tcc_rules.specs.Attempt.{finished};
+ghost use Rattle.tcc_rules.specs.Execute.{store as store_rule, execute_need as need_rule};
+ghost use Rattle.rv_code.specs.Served.{Lies, IsServed};
+ghost use Rattle.rv_exec.specs.Needs.{need_of};
+ghost use Rattle.rv_plain.specs.Attempts.{alone};
+ghost use Rattle.commit_engine.specs.Sent.{HasRoom};
+ghost use Rattle.core_node.specs.Answers.{IsBlocked, IsMemory};
+ghost use Rattle.core_node.specs.Executing.{DidSome, GoesOn};
+ghost use Rattle.core_node.specs.View.{core_of, IsCore, Stays};
+
+use crate::changing::{partial_store, word_store};
+use crate::delivering::CoreError;
+use crate::finishing::finish;
+use crate::loading::load;
+use crate::state::Core;
+use rv_decode::Inst;
+use rv_exec::Need;
+use tcc_base::{Size, WordAddr};
+use tcc_msg::Outgoing;
+
+/// The word in which an address of RAM lies.
+#[tactic(auto, unfolding(tcc_program::specs::Ram::word_of))]
+fn word_at(core: &Core, addr: u32) -> WordAddr
+    requires { Lies core.now.config.base core.now.config.ram addr 1 }
+    ensures value { result.0 ≡ word_of core.now.config.base addr }
+    ensures exists { line_of result.0 < lines core.now.config }
+{
+    WordAddr((addr - core.config.base()) / 4)
+}
+
+/// An instruction that accesses no memory is done.
+fn finish_plain(core: &mut Core, inst: &Inst, need: Need) -> Result<(), CoreError>
+    requires whole { IsCore core.old }
+    requires counts { core.old.n < 2 ^ 32 - 1 }
+    requires goes_on { GoesOn (need_of need) }
+    ensures does { OnOk result (core_of core.new ≡ finished (alone inst.now) (need_of need) 0 (core_of core.old)) }
+    ensures cause { OnErr result (IsMemory result) }
+    ensures stays { Stays core.old core.new }
+    ensures unchanged { OnErr result (core.new ≡ core.old) }
+{
+    let Ok(()) = finish(core, inst, need, 0) else {
+        return Err(CoreError::Memory);
+    };
+    Ok(())
+}
+
+/// An instruction that stores, by the size of what it stores.
+fn store(
+    core: &mut Core,
+    inst: &Inst,
+    need: Need,
+    addr: u32,
+    size: Size,
+    value: u32,
+    out: &mut Outgoing,
+) -> Result<(), CoreError>
+    requires whole { IsCore core.old }
+    requires counts { core.old.n < 2 ^ 32 - 1 }
+    requires stores { need ≡ Need.Store addr size value }
+    requires served { IsServed core.old.config.base core.old.config.ram need }
+    requires room { HasRoom out.old 1 }
+    ensures does { OnOk result (DidSome (store_rule core.old.config (alone inst.now) addr size value (core_of core.old)) 1 out.old core.new out.new) }
+    ensures blocked { IsBlocked result (store_rule core.old.config (alone inst.now) addr size value (core_of core.old)) }
+    ensures stays { Stays core.old core.new }
+    ensures unchanged { OnErr result (core_of core.new ≡ core_of core.old) }
+    ensures unsent { OnErr result (out.new ≡ out.old) }
+{
+    let w = word_at(core, addr);
+    match size {
+        Size::Word => word_store(core, inst, need, w, value, out),
+        Size::Half => partial_store(core, inst, need, w, out),
+        Size::Byte => partial_store(core, inst, need, w, out),
+    }
+}
+
+/// An instruction after which its transaction goes on. For a load or a store there is room for a message.
+fn go_on(core: &mut Core, inst: &Inst, need: Need, out: &mut Outgoing) -> Result<(), CoreError>
+    requires whole { IsCore core.old }
+    requires counts { core.old.n < 2 ^ 32 - 1 }
+    requires goes_on { GoesOn (need_of need) }
+    requires served { IsServed core.old.config.base core.old.config.ram need }
+    requires room { HasRoom out.old 1 }
+    ensures does { OnOk result (DidSome (need_rule core.old.config (alone inst.now) core.old.id.0 (core_of core.old) (need_of need)) 1 out.old core.new out.new) }
+    ensures blocked { IsBlocked result (need_rule core.old.config (alone inst.now) core.old.id.0 (core_of core.old) (need_of need)) }
+    ensures stays { Stays core.old core.new }
+    ensures unchanged { OnErr result (core_of core.new ≡ core_of core.old) }
+    ensures unsent { OnErr result (out.new ≡ out.old) }
+{
+    match need {
+        Need::Load { addr, .. } => load(core, inst, need, word_at(core, addr), out),
+        Need::Store { addr, size, value } => store(core, inst, need, addr, size, value, out),
+        Need::Amo { addr, .. } => partial_store(core, inst, need, word_at(core, addr), out),
+        _ => finish_plain(core, inst, need),
+    }
+}
