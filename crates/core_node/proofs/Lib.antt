@@ -12,6 +12,7 @@ pub mod Finished
 pub mod Handed
 pub mod Loaded
 pub mod Placed
+pub mod Programs
 pub mod Rooms
 pub mod Steps
 pub mod Stored
