@@ -26,7 +26,7 @@ returns-clause-mask c = elim c.match-pop_first.branch [
       let kept : Some w.in-Some.kept ≡ kept_at es w.in-Some.line = sym w.in-Some.ensures.value ∙ looked_up es w.in-Some.line in
       let line : IsLine (Some w.in-Some.kept) = rw kept (c.self.invariant w.in-Some.line) in
       rw w.result-is (rw (← c.self.view_is)
-          (mask-line es w.in-Some.line w.in-Some.kept kept (is_spilled (Some w.in-Some.kept) w.in-Some.kept refl line))))
+      (mask-line es w.in-Some.line w.in-Some.kept kept (is_spilled (Some w.in-Some.kept) w.in-Some.kept refl line))))
 ]
 
 pub returns-clause-taken : goal.returns-clause-taken
