@@ -1,5 +1,5 @@
 -- What an answer says of the rules: that they have the event, or that they have none.
-use Rattle.std.proofs.Common.{◌≡◌, ◌≢◌, ℕ, Option, Some, None, Result, Ok, Err, OnOk, OnErr, refl, ap}
+use Rattle.std.proofs.Common.{◌≡◌, ◌≢◌, ℕ, Bool, not, is_some, if◌then◌else◌, Option, Some, None, Result, Ok, Err, OnOk, OnErr, refl, ap}
 use Rattle.tcc_msg.specs.declared.outgoing.Outgoing.{Outgoing}
 use Rattle.tcc_rules.specs.State.{CoreState}
 use Rattle.tcc_rules.specs.Attempt.{Out, moves}
@@ -44,3 +44,14 @@ ok_silently (Err y) o t n out c e d = d
 pub unchanged_core : {A E : Type 0} → (r : Result A E) (c k : Core) → OnErr r (c ≡ k) → OnErr r (core_of c ≡ core_of k)
 unchanged_core (Ok y) c k e = e
 unchanged_core (Err y) c k e = ap core_of e
+
+-- where no memory was found
+pub blocked_room : (o : Option Out) (r : Option ℕ) (e : CoreError) → is_some o ≡ not (is_some r)
+    → e ≡ (if is_some r then Blocked else Memory) → IsBlocked {A = Unit {0}} (Err e) o
+blocked_room o r e h f = rw f (by o r h)
+  where
+    by : (o : Option Out) (r : Option ℕ) → is_some o ≡ not (is_some r) → IsBlocked {A = Unit {0}} (Err (if is_some r then Blocked else Memory)) o
+    by None None h = cc
+    by None (Some x) h = refl
+    by (Some y) None h = λ g. cc
+    by (Some y) (Some x) h = cc

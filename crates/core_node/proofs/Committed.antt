@@ -31,7 +31,7 @@ pub noted_written : (sh : Shape) (c : Cache) (bits t n : ℕ) (a : ℕ → ℕ) 
     → after_commit (first_with n (has bits)) t a ≡ after_commit (writes_at sh c) t a
 noted_written sh c bits t n a s e w =
     ap (λ (x : ℕ). after_commit (first_with x (has bits)) t a) e
-        ∙ noted_all sh.dirs bits t (writes_at sh c) a w (λ d q. writes_elsewhere sh c d s q)
+    ∙ noted_all sh.dirs bits t (writes_at sh c) a w (λ d q. writes_elsewhere sh c d s q)
 
 pub whole_dropped : (c : Core) (h : Held) (a : List Tid) (b : Entries) → IsCore c → h.config ≡ c.cache.config → (maps h).held ≡ (maps c.cache).held → length a ≡ 64
     → IsCore (record c { cache = h; after = a; spilled = b })
@@ -49,4 +49,4 @@ pub noted_alone : (sh : Shape) (c : Cache) (sp : Spilled) (bits t n : ℕ) (a : 
     → after_commit (first_with n (has bits)) t a ≡ after_commit (solo_writes_at sh c sp) t a
 noted_alone sh c sp bits t n a s e w =
     ap (λ (x : ℕ). after_commit (first_with x (has bits)) t a) e
-        ∙ noted_all sh.dirs bits t (solo_writes_at sh c sp) a w (λ d q. solo_writes_elsewhere sh c sp d s q)
+    ∙ noted_all sh.dirs bits t (solo_writes_at sh c sp) a w (λ d q. solo_writes_elsewhere sh c sp d s q)

@@ -1,17 +1,24 @@
 -- What the rules do by what an instruction needs.
-use Rattle.std.proofs.Common.{◌≡◌, ◌≢◌, ℕ, Some, refl}
+use Rattle.std.proofs.Common.{◌≡◌, ◌≢◌, ℕ, Option, Some, None, refl, ap, sym}
 use Rattle.tcc_base.specs.declared.access.Size.{Size}
-use Rattle.tcc_program.specs.Program.{Program}
+use Rattle.tcc_base.specs.declared.access.Size.TheVariants.{Byte, Half, Word}
+use Rattle.tcc_program.specs.Program.{Program, unreserved, Need as Asked, Nothing, Loads, Stores, Changes, Prints, Ends, Halts, Traps}
+use Rattle.tcc_program.specs.Plain.{Halted, Trapped}
+use Rattle.tcc_program.specs.Ram.{word_of}
+use Rattle.tcc_msg.specs.declared.outgoing.Outgoing.{Outgoing}
 use Rattle.tcc_maps.specs.Shape.{Shape}
 use Rattle.tcc_rules.specs.State.{CoreState}
-use Rattle.tcc_rules.specs.Attempt.{moves, finished}
-use Rattle.tcc_rules.specs.Execute.{execute_need}
+use Rattle.tcc_rules.specs.Attempt.{Out, moves, finished}
+use Rattle.tcc_rules.specs.Execute.{close, execute_need}
 use Rattle.tcc_rules.specs.Sends.{nothing}
 use Rattle.rv_decode.specs.declared.instruction.AmoOp.{AmoOp}
 use Rattle.rv_exec.specs.declared.need.Need.{Need}
 use Rattle.rv_exec.specs.declared.need.Need.TheVariants as code
 use Rattle.rv_exec.specs.Needs.{need_of}
-use Rattle.core_node.specs.Executing.{GoesOn}
+use Rattle.core_node.specs.Executing.{DidSome, GoesOn, Notes, concluded}
+use Rattle.core_node.specs.declared.state.Core.{Core}
+use Rattle.core_node.proofs.Finished.{finished_halts, finished_traps}
+use Rattle.core_node.proofs.Programs.{Unnoted, unnoted_load, unnoted_word, unnoted_partial}
 
 -- an instruction that neither ends its transaction nor accesses memory
 pub does_plain : (sh : Shape) (p : Program) (id : ℕ) (s : CoreState) (n : Need) → GoesOn (need_of n)
@@ -26,3 +33,33 @@ does_plain sh p id s (code.Console byte) g a b d = refl
 does_plain sh p id s code.End g a b d = absurd g
 does_plain sh p id s (code.Halt status) g a b d = absurd g
 does_plain sh p id s (code.Trap cause) g a b d = absurd g
+
+-- an instruction that ends its transaction
+pub does_end : (sh : Shape) (p : Program) (id : ℕ) (s : CoreState) (n : Need) → n ≡ code.End
+    → execute_need sh p id s (need_of n) ≡ Some (close sh id s.phase (finished p Ends 0 s))
+does_end sh p id s n e = rw e refl
+
+pub does_halt : (sh : Shape) (p : Program) (id : ℕ) (s : CoreState) (n : Need) (status : ℕ) → n ≡ code.Halt status
+    → execute_need sh p id s (need_of n) ≡ Some (close sh id s.phase (concluded (unreserved s.local) (Halted status) s))
+does_halt sh p id s n status e = rw e (ap (λ (t : CoreState). Some (close sh id s.phase t)) (finished_halts p status 0 s))
+
+pub does_trap : (sh : Shape) (p : Program) (id : ℕ) (s : CoreState) (n : Need) (cause : ℕ) → n ≡ code.Trap cause
+    → execute_need sh p id s (need_of n) ≡ Some (close sh id s.phase (concluded (unreserved s.local) (Trapped cause) s))
+does_trap sh p id s n cause e = rw e (ap (λ (t : CoreState). Some (close sh id s.phase t)) (finished_traps p cause 0 s))
+
+-- nothing is noted of one that doesn't
+pub unnoted_goes_on : (sh : Shape) (p : Program) (id : ℕ) (s : CoreState) (n : Asked) → GoesOn n → Unnoted (execute_need sh p id s n)
+unnoted_goes_on sh p id s Nothing g = refl
+unnoted_goes_on sh p id s (Loads addr size) g = unnoted_load sh p (Loads addr size) (word_of sh.base addr) s
+unnoted_goes_on sh p id s (Stores addr Word value) g = unnoted_word sh p (Stores addr Word value) (word_of sh.base addr) value s
+unnoted_goes_on sh p id s (Stores addr Half value) g = unnoted_partial sh p (Stores addr Half value) (word_of sh.base addr) s
+unnoted_goes_on sh p id s (Stores addr Byte value) g = unnoted_partial sh p (Stores addr Byte value) (word_of sh.base addr) s
+unnoted_goes_on sh p id s (Changes addr changed) g = unnoted_partial sh p (Changes addr changed) (word_of sh.base addr) s
+unnoted_goes_on sh p id s (Prints byte) g = refl
+unnoted_goes_on sh p id s Ends g = absurd g
+unnoted_goes_on sh p id s (Halts status) g = absurd g
+unnoted_goes_on sh p id s (Traps cause) g = absurd g
+
+pub notes_none : (o : Option Out) (n : ℕ) (before out : Outgoing) (c : Core) → Unnoted o → DidSome o n before c out → Notes None o
+notes_none None n before out c u d = absurd d
+notes_none (Some x) n before out c u d = sym u

@@ -111,7 +111,7 @@ pub unnoted_word : (sh : Shape) (p : Program) (n : Need) (w x : ℕ) (s : CoreSt
 unfolding word_store
 unnoted_word sh p n w x s =
     unnoted_either (holds s.spilled (line_of w)) _ _ refl (unnoted_either (s.cache.held (line_of w)) _ _ refl
-        (unnoted_either (is_some (free_way sh s.cache (set_of sh (line_of w)))) _ _ refl (unnoted_full sh (line_of w) s)))
+    (unnoted_either (is_some (free_way sh s.cache (set_of sh (line_of w)))) _ _ refl (unnoted_full sh (line_of w) s)))
 
 pub unnoted_partial : (sh : Shape) (p : Program) (n : Need) (w : ℕ) (s : CoreState) → Unnoted (partial_store sh p n w s)
 unfolding partial_store

@@ -3,6 +3,7 @@ use Rattle.std.specs.Prelude.{ℕ, ◌≡◌, ◌+◌, ◌%◌, [], ◌∷◌, �
 use Rattle.rv_exec.specs.declared.need.Need.{Need as CodeNeed}
 use Rattle.rv_exec.specs.declared.need.Need.TheVariants as code
 use Rattle.tcc_base.specs.Bytes.{bytes_of}
+use Rattle.tcc_base.specs.declared.access.Commit.{Commit}
 use Rattle.tcc_base.specs.declared.access.Size.TheVariants.{Word}
 use Rattle.tcc_msg.specs.declared.outgoing.Outgoing.{Outgoing}
 use Rattle.tcc_program.specs.Program.{Local, Need, Loads, Stores, Changes, Prints, Ends, Halts, Traps}
@@ -17,6 +18,11 @@ use Rattle.core_node.specs.declared.state.Core.{Core}
 abbrev pub DidSome : Option Out → (most : ℕ) → Outgoing → Core → Outgoing → Type 0
 DidSome None most before new out = ⊥
 DidSome (Some o) most before new out = Did o most before new out
+
+-- this is what is noted of a rule's event
+abbrev pub Notes : Option Commit → Option Out → Type 0
+Notes c None = ⊥
+Notes c (Some o) = c ≡ o.commit
 
 -- the bytes that an instruction loads from the word that it found
 abbrev pub given : Need → (x : ℕ) → Option ℕ

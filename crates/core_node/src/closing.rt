@@ -144,7 +144,11 @@ pub(crate) fn close(
 }
 
 /// The end of the transaction by an instruction after which the core goes on.
-pub(crate) fn end(core: &mut Core, inst: &Inst, out: &mut Outgoing) -> Result<Option<Commit>, CoreError>
+pub(crate) fn end(
+    core: &mut Core,
+    inst: &Inst,
+    out: &mut Outgoing,
+) -> Result<Option<Commit>, CoreError>
     requires whole { IsCore core.old }
     requires room { core.old.n < 2 ^ 32 - 1 }
     ensures does { OnOk result (Follows (close_rule core.old.config core.old.id.0 (phase_of core.old.phase) (finished (alone inst.now) Ends 0 (core_of core.old))) out.old core.new out.new) }
@@ -161,7 +165,11 @@ pub(crate) fn end(core: &mut Core, inst: &Inst, out: &mut Outgoing) -> Result<Op
 }
 
 /// The end of the transaction where the core stands, after which it halts.
-pub(crate) fn stop(core: &mut Core, ended: Outcome, out: &mut Outgoing) -> Result<Option<Commit>, CoreError>
+pub(crate) fn stop(
+    core: &mut Core,
+    ended: Outcome,
+    out: &mut Outgoing,
+) -> Result<Option<Commit>, CoreError>
     requires whole { IsCore core.old }
     requires room { core.old.n < 2 ^ 32 - 1 }
     ensures does { OnOk result (Follows (close_rule core.old.config core.old.id.0 (phase_of core.old.phase) (concluded (unreserved core.old.state) (outcome_of ended) (core_of core.old))) out.old core.new out.new) }

@@ -1,26 +1,30 @@
 // What an instruction needs decides what the core does.
-ghost use Rattle.std.specs.Prelude.{◌≡◌, ◌<◌, ◌-◌, ◌^◌, OnOk, OnErr};
+ghost use Rattle.std.specs.Prelude.{◌≡◌, ◌<◌, ◌-◌, ◌^◌, IfOk, OnOk, OnErr, is_some, if◌then◌else◌};
 ghost use Rattle.tcc_maps.specs.Shape.{lines};
 ghost use Rattle.tcc_maps.specs.Words.{line_of};
 ghost use Rattle.tcc_program.specs.Ram.{word_of};
 ghost use Rattle.tcc_rules.specs.Attempt.{finished};
 ghost use Rattle.tcc_rules.specs.Execute.{store as store_rule, execute_need as need_rule};
+ghost use Rattle.tcc_rules.specs.Useful.{room_for_need};
 ghost use Rattle.rv_code.specs.Served.{Lies, IsServed};
 ghost use Rattle.rv_exec.specs.Needs.{need_of};
 ghost use Rattle.rv_plain.specs.Attempts.{alone};
 ghost use Rattle.commit_engine.specs.Sent.{HasRoom};
-ghost use Rattle.core_node.specs.Answers.{IsBlocked, IsMemory};
-ghost use Rattle.core_node.specs.Executing.{DidSome, GoesOn};
+ghost use Rattle.core_node.specs.Answers.{Happened, IsBlocked, IsMemory};
+ghost use Rattle.core_node.specs.Executing.{DidSome, GoesOn, Notes};
 ghost use Rattle.core_node.specs.View.{core_of, IsCore, Stays};
 
 use crate::changing::{partial_store, word_store};
-use crate::delivering::CoreError;
+use crate::closing::{end, stop};
+use crate::delivering::{CoreError, make_room};
 use crate::finishing::finish;
 use crate::loading::load;
 use crate::state::Core;
+use crate::waiting::room_at_need;
 use rv_decode::Inst;
 use rv_exec::Need;
-use tcc_base::{Size, WordAddr};
+use rv_plain::Outcome;
+use tcc_base::{Commit, Size, WordAddr};
 use tcc_msg::Outgoing;
 
 /// The word in which an address of RAM lies.
@@ -96,5 +100,70 @@ fn go_on(core: &mut Core, inst: &Inst, need: Need, out: &mut Outgoing) -> Result
         Need::Store { addr, size, value } => store(core, inst, need, addr, size, value, out),
         Need::Amo { addr, .. } => partial_store(core, inst, need, word_at(core, addr), out),
         _ => finish_plain(core, inst, need),
+    }
+}
+
+/// The error of an execution that finds no memory: it is blocked where the rules have no event anyway.
+fn error_of(core: &Core, need: Need) -> CoreError
+    requires whole { IsCore core.now }
+    requires served { IsServed core.now.config.base core.now.config.ram need }
+    ensures { result ≡ (if is_some (room_for_need core.now.config (core_of core.now) (need_of need)) then CoreError.Blocked else CoreError.Memory) }
+{
+    match room_at_need(core, need) {
+        Some(_) => CoreError::Blocked,
+        None => CoreError::Memory,
+    }
+}
+
+/// The same instruction, with room made for what it sends. Its transaction commits nothing.
+fn proceed(
+    core: &mut Core,
+    inst: &Inst,
+    need: Need,
+    out: &mut Outgoing,
+) -> Result<Option<Commit>, CoreError>
+    requires whole { IsCore core.old }
+    requires counts { core.old.n < 2 ^ 32 - 1 }
+    requires goes_on { GoesOn (need_of need) }
+    requires served { IsServed core.old.config.base core.old.config.ram need }
+    ensures does { OnOk result (Happened (need_rule core.old.config (alone inst.now) core.old.id.0 (core_of core.old) (need_of need)) out.old core.new out.new) }
+    ensures noted { IfOk result (λ c. Notes c (need_rule core.old.config (alone inst.now) core.old.id.0 (core_of core.old) (need_of need))) }
+    ensures blocked { IsBlocked result (need_rule core.old.config (alone inst.now) core.old.id.0 (core_of core.old) (need_of need)) }
+    ensures stays { Stays core.old core.new }
+    ensures unchanged { OnErr result (core_of core.new ≡ core_of core.old) }
+    ensures unsent { OnErr result (out.new.list.items ≡ out.old.list.items) }
+{
+    let Ok(()) = make_room(out, 1) else {
+        return Err(error_of(core, need));
+    };
+    match go_on(core, inst, need, out) {
+        Ok(()) => Ok(None),
+        Err(e) => Err(e),
+    }
+}
+
+/// The instruction at pc, which needs this. Gives what is noted of a commit, where the core is alone and its transaction ends.
+/// After an error the core is in the same state, and nothing was sent.
+pub(crate) fn execute(
+    core: &mut Core,
+    inst: &Inst,
+    need: Need,
+    out: &mut Outgoing,
+) -> Result<Option<Commit>, CoreError>
+    requires whole { IsCore core.old }
+    requires counts { core.old.n < 2 ^ 32 - 1 }
+    requires served { IsServed core.old.config.base core.old.config.ram need }
+    ensures does { OnOk result (Happened (need_rule core.old.config (alone inst.now) core.old.id.0 (core_of core.old) (need_of need)) out.old core.new out.new) }
+    ensures noted { IfOk result (λ c. Notes c (need_rule core.old.config (alone inst.now) core.old.id.0 (core_of core.old) (need_of need))) }
+    ensures blocked { IsBlocked result (need_rule core.old.config (alone inst.now) core.old.id.0 (core_of core.old) (need_of need)) }
+    ensures stays { Stays core.old core.new }
+    ensures unchanged { OnErr result (core_of core.new ≡ core_of core.old) }
+    ensures unsent { OnErr result (out.new.list.items ≡ out.old.list.items) }
+{
+    match need {
+        Need::End => end(core, inst, out),
+        Need::Halt(status) => stop(core, Outcome::Halted(status), out),
+        Need::Trap(cause) => stop(core, Outcome::Trapped(cause), out),
+        _ => proceed(core, inst, need, out),
     }
 }

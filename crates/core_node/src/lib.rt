@@ -1,9 +1,9 @@
 // A core as a pure machine over messages: what it executes, evicts and answers, as the rules say.
 #![tactic(auto)]
 
+mod changing;
 mod closing;
 mod committing;
-mod changing;
 mod delivering;
 mod evicting;
 mod executing;

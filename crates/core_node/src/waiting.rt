@@ -55,7 +55,7 @@ fn room_at_store(core: &Core, w: WordAddr) -> Option<u16>
 
 /// Where the core waits for room whose instruction needs this.
 #[tactic(auto, unfolding(tcc_program::specs::Ram::word_of))]
-fn room_at_need(core: &Core, need: Need) -> Option<u16>
+pub(crate) fn room_at_need(core: &Core, need: Need) -> Option<u16>
     requires whole { IsCore core.now }
     requires served { IsServed core.now.config.base core.now.config.ram need }
     ensures { result ≡ room_for_need core.now.config (core_of core.now) (need_of need) }

@@ -13,8 +13,8 @@ go_on-requires c =
     let k = c.args.core.now in
     let w : IsCore (record k { cache = c.commit.new.self; after = c.note_commit.new.after; spilled = c.drop_spilled.new.spilled }) =
     whole_dropped k c.commit.new.self c.note_commit.new.after c.drop_spilled.new.spilled c.requires.whole (c.commit.ensures.config ∙ c.drop_spilled.ensures.config)
-        (held_dropped c.args.tid.0 (spilled k.spilled) (maps c.commit.new.self) (maps c.drop_spilled.new.cache) (maps k.cache)
-            c.commit.ensures.maps c.drop_spilled.ensures.dropped) c.note_commit.ensures.count in
+    (held_dropped c.args.tid.0 (spilled k.spilled) (maps c.commit.new.self) (maps c.drop_spilled.new.cache) (maps k.cache)
+    c.commit.ensures.maps c.drop_spilled.ensures.dropped) c.note_commit.ensures.count in
     record { whole = rw c.take_attempt-done.ensures.emptied (record { cache = w.cache; awaited = w.awaited; after = w.after }) }
 
 pub returns-clause-does : goal.returns-clause-does
@@ -24,7 +24,7 @@ returns-clause-does c =
     let some : 0 < k.config.dirs = c.dirs.ensures.allowed.1.0 in
     let after : after_of c.note_commit.new.after ≡ after_commit (solo_writes_at k.config (maps k.cache) (spilled k.spilled)) c.args.tid.0 (after_of k.after) =
     c.note_commit.ensures.noted ∙ noted_alone k.config (maps k.cache) (spilled k.spilled) c.solo_homes-written.result.bits c.args.tid.0 c.dirs.result
-        (after_of k.after) some c.dirs.ensures.value c.solo_homes-written.ensures in
+    (after_of k.after) some c.dirs.ensures.value c.solo_homes-written.ensures in
     record {
       core = rw (c.go_on.ensures.does, c.take_attempt-done.ensures.emptied, after, c.commit.ensures.maps, c.drop_spilled.ensures.dropped, c.drop_spilled.ensures.none) refl;
       sent = c.send_solo.ensures;
