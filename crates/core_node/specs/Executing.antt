@@ -1,5 +1,5 @@
 -- What an execution answers, and what an instruction leaves in an attempt, in the words of the rules.
-use Rattle.std.specs.Prelude.{ℕ, ◌≡◌, ◌+◌, ◌%◌, [], ◌∷◌, ◌++◌, Option, Some, None}
+use Rattle.std.specs.Prelude.{ℕ, Bool, true, false, ◌||◌, is_some, ◌≡◌, ◌+◌, ◌%◌, [], ◌∷◌, ◌++◌, Option, Some, None}
 use Rattle.rv_exec.specs.declared.need.Need.{Need as CodeNeed}
 use Rattle.rv_exec.specs.declared.need.Need.TheVariants as code
 use Rattle.tcc_base.specs.Bytes.{bytes_of}
@@ -9,9 +9,11 @@ use Rattle.tcc_msg.specs.declared.outgoing.Outgoing.{Outgoing}
 use Rattle.tcc_program.specs.Program.{Local, Need, Loads, Stores, Changes, Prints, Ends, Halts, Traps}
 use Rattle.tcc_program.specs.Plain.{Outcome, load_of, store_of}
 use Rattle.tcc_program.specs.Ram.{part}
-use Rattle.tcc_rules.specs.State.{CoreState}
+use Rattle.tcc_rules.specs.State.{CoreState, Phase, Overflowing}
 use Rattle.tcc_rules.specs.Attempt.{Out}
 use Rattle.core_node.specs.View.{Did}
+use Rattle.core_node.specs.declared.exec.Executed.{Executed}
+use Rattle.core_node.specs.declared.exec.Executed.TheVariants.{Stepped, Asked, Committed}
 use Rattle.core_node.specs.declared.state.Core.{Core}
 
 -- a rule's event happened
@@ -58,3 +60,21 @@ GoesOn _ = Unit {0}
 -- an instruction is counted, and ends its transaction with these registers and pc
 unfoldable pub concluded : Local → Outcome → CoreState → CoreState
 concluded l o s = record s { n = s.n + 1; local = l; ended = o }
+
+-- a line, or a TID to go on alone, is awaited
+abbrev pub overflows : Phase → Bool
+overflows (Overflowing t) = true
+overflows _ = false
+
+abbrev pub asks : CoreState → Bool
+asks s = overflows s.phase || is_some s.awaited
+
+-- what an execution tells that left this state and noted this
+abbrev pub Tells : Executed → CoreState → Option Commit → Type 0
+Tells Stepped s noted = (noted ≡ None) × (asks s ≡ false)
+Tells Asked s noted = (noted ≡ None) × (asks s ≡ true)
+Tells (Committed c) s noted = noted ≡ Some c
+
+abbrev pub Told : Executed → Option Out → Type 0
+Told e None = ⊥
+Told e (Some o) = Tells e o.core o.commit

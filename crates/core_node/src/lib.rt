@@ -6,6 +6,7 @@ mod closing;
 mod committing;
 mod delivering;
 mod evicting;
+mod exec;
 mod executing;
 mod finishing;
 mod granting;
@@ -19,6 +20,7 @@ mod storing;
 mod waiting;
 
 pub use delivering::CoreError;
+pub use exec::Executed;
 pub use node::CoreNode;
 pub use state::{Awaited, Core};
 

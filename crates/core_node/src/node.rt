@@ -13,11 +13,13 @@ ghost use Rattle.spec_cache.specs.Held.{maps};
 ghost use Rattle.spec_cache.specs.Look.{Views};
 ghost use Rattle.commit_engine.specs.Engine.{phase_of, after_of};
 ghost use Rattle.rv_code.specs.Machine.{start_local};
+ghost use Rattle.core_node.specs.Executing.{Told};
 ghost use Rattle.core_node.specs.View.{core_of, IsKnown, Stays};
 ghost use Rattle.core_node.specs.Answers.{Happened, IsBlocked};
 
 use crate::delivering::{CoreError, from_dir, from_vendor};
 use crate::evicting::{can_evict, evict};
+use crate::exec::{Executed, exec, told};
 use crate::state::Core;
 use crate::waiting::{can_exec, waits_for_room};
 use commit_engine::{DirSet, Phase};
@@ -102,6 +104,25 @@ impl CoreNode {
             NodeId::Dir(d) => from_dir(&mut self.core, d, msg, out),
             NodeId::Vendor => from_vendor(&mut self.core, msg, out),
         }
+    }
+
+    /// Executes one instruction of a core that runs or is alone, or commits a transaction whose directories all serve its TID. Blocked
+    /// exactly where the rules don't allow it: in any other phase, while a line is awaited, and while the instruction waits for room.
+    /// After an error the core is as before and nothing is sent. The attempt has fewer than 4,194,304 instructions. Takes constant time,
+    /// but for a commit, which takes time in the cache's frames, and for one of a core that is alone in RAM's lines.
+    #[tactic(auto, unfolding(crate::specs::View::core_of))]
+    pub fn exec(&mut self, code: &Code, out: &mut Outgoing) -> Result<Executed, CoreError>
+        requires short { self.old.n < 4194304 }
+        requires same { code.now.settings ≡ self.old.config }
+        ensures does { OnOk result (Happened (core_exec self.old.config (program (started code.now)) self.old.id.0 (core_of self.old)) out.old self.new out.new) }
+        ensures told { IfOk result (λ e. Told e (core_exec self.old.config (program (started code.now)) self.old.id.0 (core_of self.old))) }
+        ensures blocked { IsBlocked result (core_exec self.old.config (program (started code.now)) self.old.id.0 (core_of self.old)) }
+        ensures stays { Stays self.old self.new }
+        ensures unchanged { OnErr result (core_of self.new ≡ core_of self.old) }
+        ensures unsent { OnErr result (out.new.list.items ≡ out.old.list.items) }
+    {
+        let noted = exec(&mut self.core, code, out)?;
+        Ok(told(&self.core, noted))
     }
 
     /// Empties a way: its dirty words go home and its modified words to the overflow buffer. Blocked exactly where the rules

@@ -1,6 +1,6 @@
 use Rattle.rv_plain.specs.Attempts.{alone}
 use Rattle.core_node.specs.View.{core_of}
-use Rattle.core_node.proofs.Executed.{does_end, does_halt, does_trap}
+use Rattle.core_node.proofs.Needed.{does_end, does_halt, does_trap}
 use Rattle.core_node.proofs.executing.execute.Goals as goal
 
 pub returns-in-End-clause-does : goal.returns-in-End-clause-does

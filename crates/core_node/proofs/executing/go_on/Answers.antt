@@ -1,7 +1,7 @@
 use Rattle.rv_plain.specs.Attempts.{alone}
 use Rattle.core_node.specs.View.{core_of}
 use Rattle.core_node.proofs.Blocked.{blocked_some, ok_silently}
-use Rattle.core_node.proofs.Executed.{does_plain}
+use Rattle.core_node.proofs.Needed.{does_plain}
 use Rattle.core_node.proofs.executing.go_on.Goals as goal
 
 pub returns-in_default-clause-does : goal.returns-in_default-clause-does

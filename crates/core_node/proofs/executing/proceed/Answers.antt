@@ -3,7 +3,7 @@ use Rattle.rv_plain.specs.Attempts.{alone}
 use Rattle.core_node.specs.View.{core_of}
 use Rattle.core_node.proofs.Blocked.{blocked_room}
 use Rattle.core_node.proofs.Enabled.{need_or_room}
-use Rattle.core_node.proofs.Executed.{unnoted_goes_on, notes_none}
+use Rattle.core_node.proofs.Needed.{unnoted_goes_on, notes_none}
 use Rattle.core_node.proofs.executing.proceed.Goals as goal
 
 pub returns-in_default-clause-blocked : goal.returns-in_default-clause-blocked
