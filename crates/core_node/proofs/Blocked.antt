@@ -1,5 +1,5 @@
 -- What an answer says of the rules: that they have the event, or that they have none.
-use Rattle.std.proofs.Common.{◌≡◌, ◌≢◌, ℕ, Bool, not, is_some, if◌then◌else◌, Option, Some, None, Result, Ok, Err, OnOk, OnErr, refl, ap}
+use Rattle.std.proofs.Common.{◌≡◌, ◌≢◌, ℕ, not, is_some, if◌then◌else◌, Option, Some, None, Result, Ok, Err, OnOk, OnErr, refl, ap}
 use Rattle.tcc_msg.specs.declared.outgoing.Outgoing.{Outgoing}
 use Rattle.tcc_rules.specs.State.{CoreState}
 use Rattle.tcc_rules.specs.Attempt.{Out, moves}

@@ -1,6 +1,5 @@
 -- An instruction that stores: finished before its word is stored, or after.
-use Rattle.std.proofs.Common.{◌≡◌, ℕ, Bool, Option, Some, refl, ap, sym, ◌∙◌}
-use Rattle.tcc_base.specs.Put.{put}
+use Rattle.std.proofs.Common.{◌≡◌, ℕ, Bool, refl, ap, ◌∙◌}
 use Rattle.tcc_program.specs.Program.{Program, Need, Nothing, Loads, Stores, Changes, Prints, Ends, Halts, Traps}
 use Rattle.tcc_maps.specs.Cache.{Cache}
 use Rattle.tcc_maps.specs.CacheChange.{stored, placed}

@@ -1,5 +1,5 @@
 -- What holds of a core that has committed, and what it notes of its directories.
-use Rattle.std.proofs.Common.{◌≡◌, ℕ, ◌<◌, Bool, List, [], length, nat_lt, false, refl, ap, ◌∙◌}
+use Rattle.std.proofs.Common.{◌≡◌, ℕ, ◌<◌, List, length, ap, ◌∙◌}
 use Rattle.tcc_base.specs.declared.names.Tid.{Tid}
 use Rattle.tcc_maps.specs.Cache.{Cache, writes_at}
 use Rattle.tcc_maps.specs.CacheChange.{committed, words_dropped}

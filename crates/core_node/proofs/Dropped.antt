@@ -1,5 +1,5 @@
 -- Spilled words are dropped from the frames line by line.
-use Rattle.std.proofs.Common.{◌≡◌, ℕ, [], Bool, true, false, ◌&&◌, ◌*◌, ◌+◌, ◌/◌, ◌%◌, ◌<◌, nat_eq, Option, Some, None, is_some, get_or, if◌then◌else◌, refl, ap, ◌∙◌, arith}
+use Rattle.std.proofs.Common.{◌≡◌, ℕ, [], Bool, true, false, ◌&&◌, nat_eq, Option, Some, None, is_some, get_or, if◌then◌else◌, refl, ap, ◌∙◌, arith}
 use Rattle.std.proofs.lemmas.Bool.Decides.{nat_tests}
 use Rattle.tcc_maps.specs.Cache.{Cache}
 use Rattle.tcc_maps.specs.CacheChange.{words_dropped}

@@ -1,12 +1,9 @@
 -- The instruction at pc as what the program does there.
-use Rattle.std.proofs.Common.{◌≡◌, ℕ, Option, Some, None, ap, ◌∙◌, sym}
-use Rattle.tcc_base.specs.declared.access.Commit.{Commit}
-use Rattle.tcc_msg.specs.declared.outgoing.Outgoing.{Outgoing}
+use Rattle.std.proofs.Common.{◌≡◌, ℕ, Some, ap, ◌∙◌, sym}
 use Rattle.tcc_program.specs.Program.{unreserved, Need}
 use Rattle.tcc_program.specs.Plain.{Trapped}
 use Rattle.tcc_maps.specs.Shape.{Shape}
 use Rattle.tcc_rules.specs.State.{CoreState}
-use Rattle.tcc_rules.specs.Attempt.{Out}
 use Rattle.tcc_rules.specs.Execute.{close, execute, execute_need}
 use Rattle.image_load.specs.Start.{Start}
 use Rattle.rv_code.specs.Instructions.{Runs, FailsToFetch}
@@ -15,11 +12,7 @@ use Rattle.rv_decode.specs.declared.instruction.Inst.{Inst}
 use Rattle.rv_exec.specs.Effects.{planned}
 use Rattle.rv_exec.specs.Running.{bounded}
 use Rattle.rv_plain.specs.Attempts.{alone}
-use Rattle.core_node.specs.Executing.{concluded, Notes, Tells, Told}
-use Rattle.core_node.specs.Answers.{Happened}
-use Rattle.core_node.specs.View.{core_of}
-use Rattle.core_node.specs.declared.state.Core.{Core}
-use Rattle.core_node.specs.declared.exec.Executed.{Executed}
+use Rattle.core_node.specs.Executing.{concluded}
 use Rattle.core_node.proofs.Finished.{finished_traps}
 use Rattle.core_node.proofs.Programs.{execute_same}
 
@@ -34,9 +27,3 @@ pub trapped_as : (sh : Shape) (m : Start) (id : ℕ) (s : CoreState) (trap : ℕ
 unfolding execute
 trapped_as sh m id s trap f =
     ap (execute_need sh (program m) id s) f ∙ ap (λ (t : CoreState). Some (close sh id s.phase t)) (finished_traps (program m) trap 0 s)
-
--- what an execution tells of the state that it left is told of the event
-pub told_of : (e : Executed) (o : Option Out) (n : Option Commit) (before : Outgoing) (new : Core) (out : Outgoing)
-    → Happened o before new out → Notes n o → Tells e (core_of new) n → Told e o
-told_of e None n before new out h m t = absurd h
-told_of e (Some o) n before new out h m t = rw (h.core, m) at t

@@ -5,7 +5,7 @@ use Rattle.tcc_maps.specs.Words.{line_of}
 use Rattle.tcc_maps.specs.Shape.{Shape}
 use Rattle.tcc_maps.specs.Cache.{Cache}
 use Rattle.tcc_maps.specs.CacheChange.{marked}
-use Rattle.tcc_maps.specs.CacheLook.{Look, Hit, Miss, look_load, look_value, look_line}
+use Rattle.tcc_maps.specs.CacheLook.{Hit, Miss, look_load, look_value, look_line}
 use Rattle.tcc_rules.specs.State.{CoreState, Phase}
 use Rattle.tcc_rules.specs.Sends.{nothing}
 use Rattle.tcc_rules.specs.Attempt.{moves, finished, is_running}

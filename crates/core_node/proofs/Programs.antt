@@ -1,6 +1,5 @@
 -- An execution asks of its program only what it does at the core's state; and what it notes, unless it ends a transaction, is nothing.
-use Rattle.std.proofs.Common.{◌≡◌, ℕ, Bool, true, false, not, Option, Some, None, is_some, ◌||◌, if◌then◌else◌, refl, ap, sym, ◌∙◌}
-use Rattle.tcc_base.specs.declared.access.Size.{Size}
+use Rattle.std.proofs.Common.{◌≡◌, ℕ, Bool, true, false, not, Option, Some, None, is_some, ◌||◌, if◌then◌else◌, refl, ap}
 use Rattle.tcc_base.specs.declared.access.Size.TheVariants.{Byte, Half, Word}
 use Rattle.tcc_program.specs.Program.{Program, Local, Need, Nothing, Loads, Stores, Changes, Prints, Ends, Halts, Traps}
 use Rattle.tcc_program.specs.Ram.{part, word_of}
@@ -12,7 +11,7 @@ use Rattle.tcc_maps.specs.Words.{line_of}
 use Rattle.tcc_rules.specs.State.{CoreState}
 use Rattle.tcc_rules.specs.Attempt.{Out, moves, is_solo, is_running, new_word, stepped, finished}
 use Rattle.tcc_rules.specs.Execute.{ask, overflow, place, used, buffered, framed, also_read, full_set, fetch, load, load_spilled, load_valid, word_store, partial_store, change_spilled, change_valid, close, execute_need}
-use Rattle.tcc_rules.specs.Sends.{nothing, flushed}
+use Rattle.tcc_rules.specs.Sends.{nothing}
 
 -- two programs do the same at these registers and pc
 abbrev pub SameAt : Program → Program → Local → Type 0

@@ -1,5 +1,5 @@
 -- What the rules of a word store and of a partial store give, by where the word is.
-use Rattle.std.proofs.Common.{◌≡◌, ◌≢◌, ℕ, Bool, true, false, Option, Some, None, is_some, if◌then◌else◌, refl, ap, sym, ◌∙◌}
+use Rattle.std.proofs.Common.{◌≡◌, ◌≢◌, ℕ, Bool, true, false, Some, None, is_some, if◌then◌else◌, refl, ◌∙◌}
 use Rattle.tcc_program.specs.Program.{Program, Need}
 use Rattle.tcc_maps.specs.Words.{line_of}
 use Rattle.tcc_maps.specs.Shape.{Shape, set_of}

@@ -76,11 +76,7 @@ fn exec_unless_awaiting(
 }
 
 /// The commit of a transaction whose directories all serve its TID.
-fn commit_ready(
-    core: &mut Core,
-    tid: Tid,
-    out: &mut Outgoing,
-) -> Result<Option<Commit>, CoreError>
+fn commit_ready(core: &mut Core, tid: Tid, out: &mut Outgoing) -> Result<Option<Commit>, CoreError>
     requires whole { IsCore core.old }
     ensures does { OnOk result (Happened (Some (commit_rule core.old.config core.old.id.0 tid.0 (core_of core.old))) out.old core.new out.new) }
     ensures noted { IfOk result (λ c. Notes c (Some (commit_rule core.old.config core.old.id.0 tid.0 (core_of core.old)))) }
@@ -95,7 +91,11 @@ fn commit_ready(
 
 /// Executes, commits or does nothing, by the phase. Gives what is noted, where a transaction commits.
 #[tactic(auto, unfolding(tcc_rules::specs::CoreExec::core_exec, crate::specs::View::core_of))]
-pub(crate) fn exec(core: &mut Core, code: &Code, out: &mut Outgoing) -> Result<Option<Commit>, CoreError>
+pub(crate) fn exec(
+    core: &mut Core,
+    code: &Code,
+    out: &mut Outgoing,
+) -> Result<Option<Commit>, CoreError>
     requires whole { IsCore core.old }
     requires counts { core.old.n < 2 ^ 32 - 1 }
     requires same { code.now.settings ≡ core.old.config }

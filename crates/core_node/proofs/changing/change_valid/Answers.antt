@@ -1,12 +1,10 @@
-use Rattle.std.proofs.Common.{◌≡◌, ℕ, Bool, true, false, refl, ap, sym, ◌∙◌}
+use Rattle.std.proofs.Common.{ap, sym, ◌∙◌}
 use Rattle.tcc_maps.specs.Spilled.{holds}
-use Rattle.tcc_maps.specs.Words.{line_of}
-use Rattle.tcc_rules.specs.Attempt.{new_word}
 use Rattle.rv_exec.specs.Needs.{need_of}
 use Rattle.rv_plain.specs.Attempts.{alone}
 use Rattle.overflow_buf.specs.Kept.{spilled}
 use Rattle.core_node.specs.View.{core_of}
-use Rattle.core_node.proofs.Blocked.{blocked_some, ok_did, ok_silently}
+use Rattle.core_node.proofs.Blocked.{ok_did, ok_silently}
 use Rattle.core_node.proofs.Stored.{change_buffered, change_framed}
 use Rattle.core_node.proofs.changing.change_valid.Goals as goal
 

@@ -1,9 +1,9 @@
-use Rattle.std.proofs.Common.{◌≡◌, true, refl, ap, sym, ◌∙◌}
+use Rattle.std.proofs.Common.{◌≡◌, ap, sym, ◌∙◌}
 use Rattle.tcc_maps.specs.Cache.{Cache}
 use Rattle.tcc_maps.specs.Shape.{Shape}
 use Rattle.tcc_maps.specs.Words.{line_of}
 use Rattle.tcc_rules.specs.State.{CoreState}
-use Rattle.tcc_rules.specs.Attempt.{Out, moves, finished}
+use Rattle.tcc_rules.specs.Attempt.{moves, finished}
 use Rattle.tcc_rules.specs.Execute.{framed}
 use Rattle.tcc_rules.specs.Sends.{flushed}
 use Rattle.rv_exec.specs.Needs.{need_of}

@@ -1,4 +1,4 @@
-use Rattle.std.proofs.Common.{◌≡◌, ℕ, true, false, is_some, refl, ap, sym, ◌∙◌}
+use Rattle.std.proofs.Common.{false, is_some, ap, ◌∙◌}
 use Rattle.tcc_maps.specs.Cache.{Cache, free_way}
 use Rattle.tcc_maps.specs.Shape.{Shape, set_of}
 use Rattle.tcc_maps.specs.Words.{line_of}

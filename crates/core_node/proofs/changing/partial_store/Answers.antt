@@ -1,7 +1,6 @@
-use Rattle.std.proofs.Common.{◌≡◌, ℕ, true, refl, ap, sym, ◌∙◌}
+use Rattle.std.proofs.Common.{ap, sym, ◌∙◌}
 use Rattle.tcc_maps.specs.CacheLook.{look_load}
 use Rattle.tcc_maps.specs.Shape.{Shape}
-use Rattle.tcc_maps.specs.Words.{line_of}
 use Rattle.rv_exec.specs.Needs.{need_of}
 use Rattle.rv_plain.specs.Attempts.{alone}
 use Rattle.spec_cache.specs.Held.{maps}

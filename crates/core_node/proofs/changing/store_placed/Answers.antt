@@ -1,11 +1,11 @@
-use Rattle.std.proofs.Common.{◌≡◌, ℕ, true, false, refl, ap, sym, ◌∙◌}
+use Rattle.std.proofs.Common.{ℕ, false, refl, ap, ◌∙◌}
 use Rattle.tcc_maps.specs.Cache.{Cache}
 use Rattle.tcc_maps.specs.CacheChange.{stored}
 use Rattle.tcc_maps.specs.Words.{line_of}
 use Rattle.tcc_rules.specs.State.{CoreState}
 use Rattle.tcc_rules.specs.Execute.{framed, place}
 use Rattle.spec_cache.specs.Held.{maps}
-use Rattle.core_node.specs.View.{core_of, IsCore, Stays}
+use Rattle.core_node.specs.View.{core_of}
 use Rattle.core_node.proofs.Cores.{whole_cache}
 use Rattle.core_node.proofs.Placed.{placed_held}
 use Rattle.core_node.proofs.changing.store_placed.Goals as goal

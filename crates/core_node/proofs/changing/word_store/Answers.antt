@@ -1,9 +1,7 @@
-use Rattle.std.proofs.Common.{◌≡◌, ℕ, true, false, is_some, refl, ap, sym, ◌∙◌}
-use Rattle.tcc_maps.specs.Cache.{Cache}
+use Rattle.std.proofs.Common.{ℕ, true, ap, sym, ◌∙◌}
 use Rattle.tcc_maps.specs.CacheLook.{look_line, look_store}
 use Rattle.tcc_maps.specs.Shape.{Shape}
 use Rattle.tcc_maps.specs.Spilled.{holds}
-use Rattle.tcc_maps.specs.Words.{line_of}
 use Rattle.rv_exec.specs.Needs.{need_of}
 use Rattle.rv_plain.specs.Attempts.{alone}
 use Rattle.spec_cache.specs.Held.{maps}

@@ -1,5 +1,4 @@
 use Rattle.std.proofs.Common.{◌≡◌, None, ap, sym, ◌∙◌}
-use Rattle.tcc_maps.specs.Cache.{Cache}
 use Rattle.tcc_maps.specs.CacheChange.{words_dropped}
 use Rattle.tcc_maps.specs.Spilled.{Spilled, none_spilled}
 use Rattle.spec_cache.specs.Held.{maps}

@@ -1,10 +1,5 @@
-use Rattle.std.proofs.Common.{◌≡◌, Some, sym}
-use Rattle.tcc_rules.specs.Attempt.{Out}
-use Rattle.tcc_rules.specs.Execute.{close, execute, execute_need}
 use Rattle.image_load.specs.Contents.{started}
-use Rattle.rv_code.specs.Machine.{program}
 use Rattle.rv_exec.specs.Needs.{need_of}
-use Rattle.rv_plain.specs.Attempts.{alone}
 use Rattle.core_node.specs.View.{core_of}
 use Rattle.core_node.proofs.Blocked.{blocked_some}
 use Rattle.core_node.proofs.Fetches.{executed_as, trapped_as}

@@ -1,6 +1,4 @@
-use Rattle.std.proofs.Common.{◌≡◌, ℕ, ap, ◌∙◌}
-use Rattle.tcc_base.specs.declared.access.Load.{Load}
-use Rattle.tcc_rules.specs.State.{CoreState}
+use Rattle.std.proofs.Common.{ap, ◌∙◌}
 use Rattle.rv_exec.specs.declared.need.Need.{Need}
 use Rattle.rv_exec.specs.Needs.{need_of}
 use Rattle.core_node.specs.Executing.{noted}
