@@ -50,7 +50,8 @@ pub blocked_room : (o : Option Out) (r : Option ℕ) (e : CoreError) → is_some
     → e ≡ (if is_some r then Blocked else Memory) → IsBlocked {A = Unit {0}} (Err e) o
 blocked_room o r e h f = rw f (by o r h)
   where
-    by : (o : Option Out) (r : Option ℕ) → is_some o ≡ not (is_some r) → IsBlocked {A = Unit {0}} (Err (if is_some r then Blocked else Memory)) o
+    by : (o : Option Out) (r : Option ℕ) → is_some o ≡ not (is_some r)
+        → IsBlocked {A = Unit {0}} (Err (if is_some r then Blocked else Memory)) o
     by None None h = cc
     by None (Some x) h = refl
     by (Some y) None h = λ g. cc

@@ -16,7 +16,8 @@ use Rattle.spec_cache.specs.declared.look.Look.{Look as CodeLook}
 use Rattle.spec_cache.specs.declared.look.Look.TheVariants as code
 use Rattle.core_node.proofs.Fetched.{never_hits_line}
 
-pub load_spilled : (sh : Shape) (p : Program) (n : Need) (w x : ℕ) (s : CoreState) → s.spilled w ≡ Some x → load sh p n w s ≡ Some (moves (finished p n x s) nothing)
+pub load_spilled : (sh : Shape) (p : Program) (n : Need) (w x : ℕ) (s : CoreState) → s.spilled w ≡ Some x
+    → load sh p n w s ≡ Some (moves (finished p n x s) nothing)
 unfolding load
 load_spilled sh p n w x s e = rw e refl
 
@@ -25,7 +26,8 @@ pub load_valid : (sh : Shape) (p : Program) (n : Need) (w x : ℕ) (s : CoreStat
 unfolding load
 load_valid sh p n w x s e f = rw (e, f) refl
 
-pub load_missing : (sh : Shape) (p : Program) (n : Need) (w : ℕ) (s : CoreState) → s.spilled w ≡ None → s.cache.value w ≡ None → load sh p n w s ≡ fetch sh (line_of w) s
+pub load_missing : (sh : Shape) (p : Program) (n : Need) (w : ℕ) (s : CoreState) → s.spilled w ≡ None
+    → s.cache.value w ≡ None → load sh p n w s ≡ fetch sh (line_of w) s
 unfolding load
 load_missing sh p n w s e f = rw (e, f) refl
 
@@ -64,7 +66,8 @@ not_miss (code.NeedsRoom k) h = λ e. cc
 not_miss (code.Overflow k) h = λ e. cc
 
 -- a word that a look doesn't find is not valid
-pub not_found : (sh : Shape) (w : ℕ) (c : Cache) (r : CodeLook) → look_of r ≡ look_load sh w c → ((x : ℕ) → r ≢ code.Hit x) → c.value w ≡ None
+pub not_found : (sh : Shape) (w : ℕ) (c : Cache) (r : CodeLook) → look_of r ≡ look_load sh w c → ((x : ℕ) → r ≢ code.Hit x)
+    → c.value w ≡ None
 not_found sh w c r e h = invalid_no_hit sh w c (λ x f. not_hit r h x (e ∙ f))
 
 pub looks_for : (sh : Shape) (w : ℕ) (c : Cache) (r : CodeLook) → look_of r ≡ look_load sh w c → ((x : ℕ) → r ≢ code.Hit x)

@@ -40,7 +40,8 @@ full_absent_by : (h f m : Bool) (n : ℕ) (r : CodeLook) → look_of r ≡ store
 full_absent_by true f m n r e a = absurd (not_hit r a 0 e)
 full_absent_by false f m n r e a = refl
 
-full_taken_by : (h f m : Bool) (n : ℕ) (r : CodeLook) → look_of r ≡ store_by h f m n → ((x : ℕ) → r ≢ code.Hit x) → r ≢ code.Miss → f ≡ false
+full_taken_by : (h f m : Bool) (n : ℕ) (r : CodeLook) → look_of r ≡ store_by h f m n → ((x : ℕ) → r ≢ code.Hit x)
+    → r ≢ code.Miss → f ≡ false
 full_taken_by true f m n r e a b = absurd (not_hit r a 0 e)
 full_taken_by false true m n r e a b = absurd (not_miss r b e)
 full_taken_by false false m n r e a b = refl

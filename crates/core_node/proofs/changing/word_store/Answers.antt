@@ -8,7 +8,8 @@ use Rattle.spec_cache.specs.Held.{maps}
 use Rattle.overflow_buf.specs.Kept.{spilled}
 use Rattle.core_node.specs.View.{core_of}
 use Rattle.core_node.proofs.Blocked.{blocked_some, blocked_none, ok_did, ok_silently}
-use Rattle.core_node.proofs.Stored.{hit_held, miss_absent, miss_free, full_absent, full_taken, full_looks, word_buffered, word_framed, word_placed, word_full}
+use Rattle.core_node.proofs.Stored.{hit_held, miss_absent, miss_free, full_absent, full_taken, full_looks}
+use Rattle.core_node.proofs.Stored.{word_buffered, word_framed, word_placed, word_full}
 use Rattle.core_node.proofs.changing.word_store.Goals as goal
 
 pub returns-then-holds-clause-does : goal.returns-then-holds-clause-does
