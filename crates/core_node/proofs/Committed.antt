@@ -15,7 +15,8 @@ use Rattle.core_node.specs.declared.state.Core.{Core}
 use Rattle.core_node.specs.View.{IsCore}
 use Rattle.core_node.proofs.Cores.{awaits_same}
 
-pub whole_noted : (c : Core) (h : Held) (a : List Tid) → IsCore c → h.config ≡ c.cache.config → (maps h).held ≡ (maps c.cache).held → length a ≡ 64
+pub whole_noted : (c : Core) (h : Held) (a : List Tid) → IsCore c → h.config ≡ c.cache.config → (maps h).held ≡ (maps c.cache).held
+    → length a ≡ 64
     → IsCore (record c { cache = h; after = a })
 whole_noted c h a s e f n = record {
   cache = e ∙ s.cache;
@@ -27,13 +28,15 @@ pub held_committed : (t : ℕ) (a b : Cache) → a ≡ committed t b → a.held 
 unfolding committed
 held_committed t a b e = ap (λ (x : Cache). x.held) e
 
-pub noted_written : (sh : Shape) (c : Cache) (bits t n : ℕ) (a : ℕ → ℕ) → 0 < sh.dirs → n ≡ sh.dirs → has bits ≡ first_with sh.dirs (writes_at sh c)
+pub noted_written : (sh : Shape) (c : Cache) (bits t n : ℕ) (a : ℕ → ℕ) → 0 < sh.dirs → n ≡ sh.dirs
+    → has bits ≡ first_with sh.dirs (writes_at sh c)
     → after_commit (first_with n (has bits)) t a ≡ after_commit (writes_at sh c) t a
 noted_written sh c bits t n a s e w =
     ap (λ (x : ℕ). after_commit (first_with x (has bits)) t a) e
     ∙ noted_all sh.dirs bits t (writes_at sh c) a w (λ d q. writes_elsewhere sh c d s q)
 
-pub whole_dropped : (c : Core) (h : Held) (a : List Tid) (b : Entries) → IsCore c → h.config ≡ c.cache.config → (maps h).held ≡ (maps c.cache).held → length a ≡ 64
+pub whole_dropped : (c : Core) (h : Held) (a : List Tid) (b : Entries) → IsCore c → h.config ≡ c.cache.config
+    → (maps h).held ≡ (maps c.cache).held → length a ≡ 64
     → IsCore (record c { cache = h; after = a; spilled = b })
 whole_dropped c h a b s e f n = record {
   cache = e ∙ s.cache;
@@ -45,7 +48,8 @@ pub held_dropped : (t : ℕ) (sp : Spilled) (a b c : Cache) → a ≡ committed 
 unfolding committed words_dropped
 held_dropped t sp a b c e f = ap (λ (x : Cache). x.held) e ∙ ap (λ (x : Cache). x.held) f
 
-pub noted_alone : (sh : Shape) (c : Cache) (sp : Spilled) (bits t n : ℕ) (a : ℕ → ℕ) → 0 < sh.dirs → n ≡ sh.dirs → has bits ≡ first_with sh.dirs (solo_writes_at sh c sp)
+pub noted_alone : (sh : Shape) (c : Cache) (sp : Spilled) (bits t n : ℕ) (a : ℕ → ℕ) → 0 < sh.dirs → n ≡ sh.dirs
+    → has bits ≡ first_with sh.dirs (solo_writes_at sh c sp)
     → after_commit (first_with n (has bits)) t a ≡ after_commit (solo_writes_at sh c sp) t a
 noted_alone sh c sp bits t n a s e w =
     ap (λ (x : ℕ). after_commit (first_with x (has bits)) t a) e

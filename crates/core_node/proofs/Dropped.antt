@@ -35,7 +35,8 @@ twice true (Some z) w x y = refl
 twice false None w x y = refl
 twice false (Some z) w x y = refl
 
-pub dropped_line : (l : ℕ) (m : ℕ) (f g : Spilled) (c d : Cache) → m ≡ spilled_mask f l → g ≡ without_line l f → d ≡ words_dropped (spill l m [] none_spilled) c
+pub dropped_line : (l : ℕ) (m : ℕ) (f g : Spilled) (c d : Cache) → m ≡ spilled_mask f l → g ≡ without_line l f
+    → d ≡ words_dropped (spill l m [] none_spilled) c
     → words_dropped g d ≡ words_dropped f c
 unfolding words_dropped spill none_spilled hit without_line
 dropped_line l m f g c d e h k = rw (h, k, e) (ap (λ (p : ℕ → Bool). both p) (λ i v. (first_is l f v) i) ∙ rest)

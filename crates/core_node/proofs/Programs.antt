@@ -48,12 +48,14 @@ load_same sh p q n w s e = spilled (s.spilled w)
     spilled None = valid (s.cache.value w)
     spilled (Some x) = ap (λ (t : CoreState). Some (moves t nothing)) (finished_same p q n x s e)
 
-word_same : (sh : Shape) (p q : Program) (n : Need) (w x : ℕ) (s : CoreState) → SameAt p q s.local → word_store sh p n w x s ≡ word_store sh q n w x s
+word_same : (sh : Shape) (p q : Program) (n : Need) (w x : ℕ) (s : CoreState) → SameAt p q s.local
+    → word_store sh p n w x s ≡ word_store sh q n w x s
 unfolding word_store buffered framed place
 word_same sh p q n w x s e =
     rw (finished_same p q n x (buffered w x s) e, finished_same p q n x (framed w x false s) e, finished_same p q n x (framed w x false (place sh (line_of w) s)) e) refl
 
-partial_same : (sh : Shape) (p q : Program) (n : Need) (w : ℕ) (s : CoreState) → SameAt p q s.local → partial_store sh p n w s ≡ partial_store sh q n w s
+partial_same : (sh : Shape) (p q : Program) (n : Need) (w : ℕ) (s : CoreState) → SameAt p q s.local
+    → partial_store sh p n w s ≡ partial_store sh q n w s
 unfolding partial_store buffered framed
 partial_same sh p q n w s e = spilled (s.spilled w)
   where
@@ -65,7 +67,8 @@ partial_same sh p q n w s e = spilled (s.spilled w)
     spilled None = valid (s.cache.value w)
     spilled (Some x) = ap (λ (t : CoreState). Some (moves t nothing)) (finished_same p q n x (buffered w (new_word n x) s) e)
 
-pub execute_same : (sh : Shape) (p q : Program) (id : ℕ) (s : CoreState) (n : Need) → SameAt p q s.local → execute_need sh p id s n ≡ execute_need sh q id s n
+pub execute_same : (sh : Shape) (p q : Program) (id : ℕ) (s : CoreState) (n : Need) → SameAt p q s.local
+    → execute_need sh p id s n ≡ execute_need sh q id s n
 execute_same sh p q id s Nothing e = ap (λ (t : CoreState). Some (moves t nothing)) (finished_same p q Nothing 0 s e)
 execute_same sh p q id s (Loads addr size) e = load_same sh p q (Loads addr size) (word_of sh.base addr) s e
 execute_same sh p q id s (Stores addr Word value) e = word_same sh p q (Stores addr Word value) (word_of sh.base addr) value s e

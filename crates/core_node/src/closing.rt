@@ -1,7 +1,6 @@
 // The instruction that ends a transaction: a core that runs asks for a TID then, and one that is alone commits at once.
 ghost use Rattle.std.specs.Prelude.{◌≡◌, ◌<◌, ◌-◌, ◌^◌, IfOk, OnOk, OnErr, None, map, [], ◌∷◌};
-ghost use Rattle.tcc_program.specs.Program.{unreserved, Program, Ends, Halts, Traps};
-ghost use Rattle.tcc_program.specs.Plain.{Ended as EndedBy, Halted as HaltedBy, Trapped as TrappedBy};
+ghost use Rattle.tcc_program.specs.Program.{unreserved, Ends};
 ghost use Rattle.tcc_rules.specs.Attempt.{moves, finished};
 ghost use Rattle.tcc_rules.specs.Execute.{close as close_rule};
 ghost use Rattle.tcc_rules.specs.Sends.{to};
