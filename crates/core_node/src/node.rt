@@ -205,6 +205,13 @@ impl CoreNode {
         self.core.ended
     }
 
+    /// The number of instructions that the present attempt has done.
+    pub fn instructions(&self) -> u32
+        ensures { result ≡ self.now.n }
+    {
+        self.core.n
+    }
+
     /// The number of console bytes of the present attempt.
     pub fn console_len(&self) -> usize
         ensures { result ≡ length self.now.console }

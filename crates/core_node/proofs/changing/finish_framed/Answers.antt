@@ -32,7 +32,7 @@ returns-clause-does c =
     let n = need_of c.args.need in
     let l = line_of c.args.w.0 in
     let core : framed c.args.w.0 c.args.value c.args.also (core_of m)
-            ≡ finished p n c.args.word (framed c.args.w.0 c.args.value c.args.also (core_of k)) =
+    ≡ finished p n c.args.word (framed c.args.w.0 c.args.value c.args.also (core_of k)) =
     ap (framed c.args.w.0 c.args.value c.args.also) c.in-Ok.ensures.does
     ∙ framed_finished p n c.args.word c.args.w.0 c.args.value c.args.also (core_of k) in
     let cache : maps m.cache ≡ maps k.cache =

@@ -67,7 +67,7 @@ returns-in_default-look_load c =
     let absent = not_found k.cache.config c.args.w.0 (maps k.cache) c.look_load.result c.look_load.ensures.answer
     c.in_default-look_load.not-Hit in
     let same = partial_missing k.config (alone c.args.inst.now) (need_of c.args.need) c.args.w.0 (core_of k)
-        (sym c.in_default.ensures) absent in
+    (sym c.in_default.ensures) absent in
     let does = rw (c.line_of_word.ensures) at c.fetch.ensures.does in
     let none = rw (c.line_of_word.ensures) at c.fetch.ensures.blocked in
     record {

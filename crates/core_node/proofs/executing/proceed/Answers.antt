@@ -10,7 +10,7 @@ pub returns-in_default-clause-blocked : goal.returns-in_default-clause-blocked
 returns-in_default-clause-blocked c =
     let k = c.args.core.now in
     blocked_room _ _ c.error_of.result (need_or_room k.config (alone c.args.inst.now) k.id.0 (core_of k) (need_of c.args.need))
-        c.error_of.ensures
+    c.error_of.ensures
 
 pub returns-in-Ok-go_on-clause-noted : goal.returns-in-Ok-go_on-clause-noted
 returns-in-Ok-go_on-clause-noted c =

@@ -18,7 +18,7 @@ unfolding core_of
 returns-in_default-finish-clause-blocked c =
     let k = c.args.core.now in
     some_not _ _
-        (load_spilled k.config (alone c.args.inst.now) (need_of c.args.need) c.args.w.0 c.in-Some.word (core_of k) (sym c.in-Some.ensures))
+    (load_spilled k.config (alone c.args.inst.now) (need_of c.args.need) c.args.w.0 c.in-Some.word (core_of k) (sym c.in-Some.ensures))
 
 pub returns-in-Some-clause-does : goal.returns-in-Some-clause-does
 unfolding core_of
@@ -32,7 +32,7 @@ unfolding core_of
 returns-in-Some-clause-blocked c =
     let k = c.args.core.now in
     some_not _ _
-        (load_spilled k.config (alone c.args.inst.now) (need_of c.args.need) c.args.w.0 c.in-Some.word (core_of k) (sym c.in-Some.ensures))
+    (load_spilled k.config (alone c.args.inst.now) (need_of c.args.need) c.args.w.0 c.in-Some.word (core_of k) (sym c.in-Some.ensures))
 
 pub returns-in_default-finish-2-clause-blocked : goal.returns-in_default-finish-2-clause-blocked
 unfolding core_of
@@ -86,9 +86,9 @@ unfolding core_of
 returns-in_default-look_load c =
     let k = c.args.core.now in
     let absent = not_found k.cache.config c.args.w.0 (core_of k).cache c.look_load.result c.look_load.ensures.answer
-        c.in_default-look_load.not-Hit in
+    c.in_default-look_load.not-Hit in
     let same = load_missing k.config (alone c.args.inst.now) (need_of c.args.need) c.args.w.0 (core_of k)
-        (sym c.in_default.ensures) absent in
+    (sym c.in_default.ensures) absent in
     let does = rw (c.line_of_word.ensures) at c.fetch.ensures.does in
     let none = rw (c.line_of_word.ensures) at c.fetch.ensures.blocked in
     record {
