@@ -1,14 +1,13 @@
-// What a core that has just begun does with messages and with a frame to empty, and a transaction from its first instruction to its
-// commit.
-ghost use Rattle.std.specs.Prelude.{◌≡◌};
-ghost use Rattle.core_node.specs.View.{Stays};
+// What a core that has just begun does with messages and with a frame to empty, a load, and an end with its commit.
+ghost use Rattle.std.specs.Prelude.{◌≡◌, IfOk};
 
 use crate::{CoreError, CoreNode, Executed};
 use commit_engine::Phase;
 use image_load::{load, raw};
 use rv_code::Code;
+use std::alloc::Global;
 use std::test::Fail;
-use tcc_base::{Config, CoreId, DirId, LineAddr, List, Mask, NodeId, Tid};
+use tcc_base::{Config, CoreId, DirId, LineAddr, List, NodeId, Tid};
 use tcc_msg::{Msg, Outgoing};
 
 #[test]
@@ -44,15 +43,23 @@ fn an_empty_way_stays(rt: HostRuntime) -> Result<(), Fail> {
     Ok(())
 }
 
-// lui x6,0x80000; lw x5,96(x6); sw x5,64(x6); ecall
-const IMAGE: [u8; 16] = [
-    0x37, 0x03, 0x00, 0x80, 0x83, 0x22, 0x03, 0x06, 0x23, 0x20, 0x53, 0x04, 0x73, 0x00, 0x00, 0x00,
-];
+// A core of two directories that begins with this image, and the image.
+fn begun(alloc: Global, image: &[u8]) -> Result<(Code, CoreNode), Fail>
+    ensures { IfOk result (λ r. r.0.settings ≡ r.1.config) }
+{
+    let cfg = Config::new(1, 2, 4, 1, 0, 65_536)?;
+    let file = List {
+        items: image.to_vec(alloc)?,
+    };
+    let code = Code::new(alloc, load(alloc, &cfg, &raw(alloc, &cfg, &[file])?)?)?;
+    let core = CoreNode::start(alloc, &cfg, CoreId(0), code.entry(CoreId(0)))?;
+    Ok((code, core))
+}
 
 // Executes one instruction of a short attempt.
 fn exec(core: &mut CoreNode, code: &Code, out: &mut Outgoing) -> Result<Executed, Fail>
     requires { code.now.settings ≡ core.old.config }
-    ensures { Stays core.old core.new }
+    ensures { core.new.config ≡ core.old.config }
 {
     if core.instructions() >= 4_194_304 {
         return Err("a long attempt".into());
@@ -60,59 +67,39 @@ fn exec(core: &mut CoreNode, code: &Code, out: &mut Outgoing) -> Result<Executed
     Ok(core.exec(code, out)?)
 }
 
-// The core's part of a transaction that loads a word at one directory and stores it at another, message by message.
 #[test]
-fn a_transaction_loads_stores_and_commits(rt: HostRuntime) -> Result<(), Fail> {
-    let alloc = rt.alloc();
-    let cfg = Config::new(1, 2, 4, 1, 0x8000_0000, 65_536)?;
-    let file = List {
-        items: IMAGE.to_vec(alloc)?,
-    };
-    let code = Code::new(alloc, load(alloc, &cfg, &raw(alloc, &cfg, &[file])?)?)?;
-    let mut core = CoreNode::start(alloc, &cfg, CoreId(0), code.entry(CoreId(0)))?;
-    let mut out = Outgoing::new(alloc);
-    let (d0, d1) = (NodeId::Dir(DirId(0)), NodeId::Dir(DirId(1)));
-    let (line, tid, mask) = (LineAddr(3), Tid(1), Mask(1));
-    let words = [9, 0, 0, 0, 0, 0, 0, 0];
-    let reply = Msg::ProbeReply { tid, serving: tid };
-
-    assert!(rt; matches!(&exec(&mut core, &code, &mut out)?, Executed::Stepped));
-    assert!(rt; matches!(&exec(&mut core, &code, &mut out)?, Executed::Asked));
-    core.deliver(d1, &Msg::Fill { line, words }, &mut out)?;
-    assert!(rt; matches!(&exec(&mut core, &code, &mut out)?, Executed::Stepped));
-    assert!(rt; matches!(&exec(&mut core, &code, &mut out)?, Executed::Stepped));
-    assert!(rt; matches!(&exec(&mut core, &code, &mut out)?, Executed::Stepped));
-    core.deliver(NodeId::Vendor, &Msg::TidGrant { tid }, &mut out)?;
-    core.deliver(d0, &reply, &mut out)?;
-    core.deliver(d1, &reply, &mut out)?;
-    let Executed::Committed(commit) = exec(&mut core, &code, &mut out)? else {
-        return Err("no commit".into());
+fn a_load_asks_for_its_line(rt: HostRuntime) -> Result<(), Fail> {
+    // lw x5,96(x0)
+    let (code, mut core) = begun(rt.alloc(), &[0x83, 0x22, 0x00, 0x06])?;
+    let mut out = Outgoing::new(rt.alloc());
+    let done = exec(&mut core, &code, &mut out)?;
+    assert!(rt; matches!(&done, Executed::Asked));
+    let request = Msg::LoadReq {
+        line: LineAddr(3),
+        after: Tid(0),
     };
     assert_eq!(rt;
-        (commit.tid, commit.n, commit.loads.items.len()),
-        (tid, 4, 1)
+        out.list.as_slice(),
+        [(NodeId::Dir(DirId(1)), request)].as_slice()
     );
+    Ok(())
+}
+
+#[test]
+fn a_transaction_ends_and_commits(rt: HostRuntime) -> Result<(), Fail> {
+    // ecall
+    let (code, mut core) = begun(rt.alloc(), &[0x73, 0x00, 0x00, 0x00])?;
+    let mut out = Outgoing::new(rt.alloc());
+    let tid = Tid(1);
+    let done = exec(&mut core, &code, &mut out)?;
+    assert!(rt; matches!(&done, Executed::Stepped));
+    core.deliver(NodeId::Vendor, &Msg::TidGrant { tid }, &mut out)?;
+    let done = exec(&mut core, &code, &mut out)?;
+    assert!(rt; matches!(&done, Executed::Committed(_)));
     let sent = [
-        (
-            d1,
-            Msg::LoadReq {
-                line,
-                after: Tid(0),
-            },
-        ),
         (NodeId::Vendor, Msg::TidReq),
-        (d1, Msg::Skip { tid }),
-        (d0, Msg::Probe { tid }),
-        (d1, Msg::Probe { tid }),
-        (
-            d0,
-            Msg::Mark {
-                line: LineAddr(2),
-                mask,
-                tid,
-            },
-        ),
-        (d0, Msg::Commit { tid, count: 1 }),
+        (NodeId::Dir(DirId(0)), Msg::Skip { tid }),
+        (NodeId::Dir(DirId(1)), Msg::Skip { tid }),
     ];
     assert_eq!(rt; out.list.as_slice(), sent.as_slice());
     Ok(())
