@@ -2,6 +2,7 @@
 use Rattle.std.proofs.Common.{ℕ, ◌+◌, ◌*◌, ◌/◌, ◌%◌, ◌<◌, ◌≡◌, Bool, true, false, not, ◌&&◌, length, get_or, set, Option, Some, None, is_some, refl, sym, ◌∙◌, ap, subst}
 use Rattle.std.specs.Option.{MatchOption}
 use Rattle.std.proofs.lemmas.Bool.{false≢true}
+use Rattle.std.proofs.lemmas.List.{set-get_or}
 use Rattle.std.proofs.lemmas.Nat.{div-mul-add}
 use Rattle.std.proofs.Math.Bool.{and-false}
 use Rattle.tcc_maps.specs.Words.{line_of, place_of, lowest}
@@ -10,12 +11,12 @@ use Rattle.tcc_maps.specs.Cache.{Cache, free_way}
 use Rattle.tcc_maps.specs.CacheChange.{marked, placed, placed_at}
 use Rattle.tcc_maps.proofs.Numbers.{lowest-cases}
 use Rattle.spec_cache.specs.declared.frame.FrameView.{FrameView}
-use Rattle.spec_cache.specs.Frame.{value_in, line_in, empty_frame}
+use Rattle.spec_cache.specs.Frame.{value_in, line_in, marked_frame, empty_frame}
 use Rattle.spec_cache.specs.Held.{Held, IsHeld, FitsWay, IsWayOf, frame_of, maps}
 use Rattle.spec_cache.specs.Look.{loaded}
 use Rattle.spec_cache.proofs.MapsPlaced.{maps-placed}
 use Rattle.spec_cache.proofs.HeldKept.{FitsWay-empty}
-use Rattle.spec_cache.proofs.Calls.{found_line}
+use Rattle.spec_cache.proofs.Calls.{found_line, marked_maps}
 use Rattle.spec_cache.proofs.Looks.{at_way}
 
 -- ---- what a load marks
@@ -43,6 +44,14 @@ module _ (h : Held) (s : IsHeld h) (l : ℕ) (p : ℕ × FrameView) (k : IsWayOf
   pub loaded_marked : (x : ℕ) → Some x ≡ value_in (Some p.1) (place_of w) → mark ≡ true → (n : Held) → maps n ≡ marked w (maps h) → maps n ≡ loaded w mark (maps h)
   unfolding loaded
   loaded_marked x e m n d = rw (m, value_here, ← e) d
+
+  -- the mark was there
+  pub loaded_same : (x : ℕ) → Some x ≡ value_in (Some p.1) (place_of w) → mark ≡ true → (f : FrameView) → f ≡ marked_frame (place_of w) p.1 → f ≡ p.1
+      → maps h ≡ loaded w mark (maps h)
+  loaded_same x e m f marks same = loaded_marked x e m h (marked_maps h s l p k _ _ put_back w q (sym same ∙ marks))
+    where
+      put_back : h ≡ record h { frames = set h.frames p.0 (Some p.1) }
+      put_back = ap (λ fs. record h { frames = fs }) (rw (← k.here) (sym (set-get_or h.frames p.0 None)))
 
 -- ---- how a line gets a way
 

@@ -1,5 +1,5 @@
 // A frame: one line's eight words with their marks, and how each call of the cache changes it.
-ghost use Rattle.std.specs.Prelude.{◌≡◌, ◌≢◌, ℕ, ◌^◌, ◌<◌, ◌≤◌, ◌↔◌, ◌==◌, ◌&&◌, Bool, not, IsTrue, Option, Some, None, length};
+ghost use Rattle.std.specs.Prelude.{false, ◌≡◌, ◌≢◌, ℕ, ◌^◌, ◌<◌, ◌≤◌, ◌↔◌, ◌==◌, ◌&&◌, Bool, not, IsTrue, Option, Some, None, length};
 ghost use Rattle.tcc_maps.specs.Masks.{has as has_word, meet, masked};
 ghost use Rattle.spec_cache.specs.Frame.{value_in, read_in, modified_in, empty_frame, marked_frame, stored_frame, filled_frame, filled_up, invalidated_frame, cleaned_frame, dropped_frame, rolled_back_frame, read_cleared_frame, committed_frame, dirty_part};
 
@@ -75,13 +75,16 @@ impl FrameView {
         !(self.modified.0 == 0 && self.dirty.0 == 0)
     }
 
-    /// Marks the word at place `k` read, unless it is modified.
+    /// Marks the word at place `k` read, unless it is modified. Says whether that changes anything.
     #[tactic(auto, unfolding(crate::specs::Frame::marked_frame))]
-    pub(crate) fn mark_read(&mut self, k: usize)
+    pub(crate) fn mark_read(&mut self, k: usize) -> bool
         requires { k < 8 }
-        ensures { self.new ≡ marked_frame k self.old }
+        ensures marked { self.new ≡ marked_frame k self.old }
+        ensures same { result ≡ false → self.new ≡ self.old }
     {
+        let before = self.read.0;
         self.read.0 |= without(bit(k), self.modified.0);
+        self.read.0 != before
     }
 
     /// Hands out the dirty words with their tag, where there are any, and leaves them valid and clean.

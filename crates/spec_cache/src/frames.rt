@@ -63,8 +63,10 @@ pub trait Frames: Ways {
         let Some(value) = frame.word(place) else {
             return Look::Miss;
         };
-        if mark {
-            frame.mark_read(place);
+        if !mark {
+            return Look::Hit(value);
+        }
+        if frame.mark_read(place) {
             self.put(at, Some(frame));
         }
         Look::Hit(value)
