@@ -1,4 +1,5 @@
 -- What goes to each node, message by message: for the proofs of callers too.
+pub use Rattle.commit_engine.proofs.Noting.{noted_all, solo_writes_elsewhere, writes_elsewhere}
 use Rattle.std.proofs.Common.{◌≡◌, ℕ, ◌+◌, Bool, true, false, List, [], ◌∷◌, ◌++◌, map, length, vec_capacity, length-append, ◌≤◌, nat_eq, nat_lt, ◌||◌, if◌then◌else◌, append_assoc, append-nil, refl, ap, sym, ◌∙◌, arith, inl, inr}
 use Rattle.std.specs.List.{flat_map}
 use Rattle.std.proofs.lemmas.Bool.{cases_eq, ne_eqb}

@@ -9,7 +9,7 @@ use Rattle.tcc_maps.specs.Nodes.{Node, Core, Dir, Vendor, Msg, Skip, Mark, Commi
 use Rattle.tcc_maps.specs.Shape.{Shape, home, lines}
 use Rattle.tcc_maps.specs.Cache.{Cache, is_modified}
 use Rattle.tcc_maps.specs.Spilled.{Spilled, holds, spilled_mask, spilled_words}
-use Rattle.tcc_maps.proofs.Numbers.{length-those}
+use Rattle.tcc_maps.proofs.Lemmas.{length-those}
 use Rattle.tcc_rules.specs.Commit.{is_written, written_mask, solo_writes_at, solo_marks, solo_backs, solo_sends}
 use Rattle.commit_engine.specs.Sent.{followed, to_first}
 use Rattle.commit_engine.specs.Solo.{solo_list, at_homes, marked_line, spilled_back, here, closing}

@@ -14,7 +14,7 @@ use Rattle.tcc_maps.specs.Spilled.{Spilled, holds, spilled_mask}
 use Rattle.tcc_rules.specs.Commit.{is_written, written_mask}
 use Rattle.spec_cache.specs.Home.{mark_of}
 use Rattle.commit_engine.specs.Solo.{solo_list}
-use Rattle.tcc_maps.proofs.Masks.{has-join, has-mask_of, mask_of-has, mask_of-small}
+use Rattle.tcc_maps.proofs.Lemmas.{has-join, has-mask_of, mask_of-has, mask_of-small}
 
 pub mask_of-same : (p q : ℕ → Bool) → ((k : ℕ) → k < 8 → p k ≡ q k) → mask_of p ≡ mask_of q
 unfolding mask_of

@@ -10,7 +10,7 @@ use Rattle.tcc_rules.specs.Commit.{after_commit, solo_writes_at}
 use Rattle.spec_cache.specs.Held.{Held, maps}
 use Rattle.overflow_buf.specs.Kept.{Entries}
 use Rattle.commit_engine.specs.Engine.{first_with}
-use Rattle.commit_engine.proofs.Noting.{noted_all, writes_elsewhere, solo_writes_elsewhere}
+use Rattle.commit_engine.proofs.Lemmas.{noted_all, writes_elsewhere, solo_writes_elsewhere}
 use Rattle.core_node.specs.declared.state.Core.{Core}
 use Rattle.core_node.specs.View.{IsCore}
 use Rattle.core_node.proofs.Cores.{awaits_same}

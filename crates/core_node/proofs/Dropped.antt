@@ -6,7 +6,7 @@ use Rattle.tcc_maps.specs.CacheChange.{words_dropped}
 use Rattle.tcc_maps.specs.Masks.{has, hit, mask_of}
 use Rattle.tcc_maps.specs.Spilled.{Spilled, none_spilled, spill, spilled_mask}
 use Rattle.tcc_maps.specs.Words.{line_of, place_of, word_at}
-use Rattle.tcc_maps.proofs.Masks.{has-mask_of}
+use Rattle.tcc_maps.proofs.Lemmas.{has-mask_of}
 use Rattle.overflow_buf.specs.Kept.{without_line}
 
 at_place : (l v : ℕ) → nat_eq l (line_of v) ≡ true → word_at l (place_of v) ≡ v

@@ -6,7 +6,7 @@ use borrow.Author.Tests.{eqb-true, eqb-false, ne_eqb, ltb-false}
 use Rattle.tcc_maps.specs.Words.{put, those, count_below, num}
 use Rattle.tcc_maps.specs.Shape.{lines}
 use Rattle.tcc_maps.specs.Lines.{Lines, with_mark, unmarked, has_mark}
-use Rattle.tcc_maps.proofs.Numbers.{length-those, those-only}
+use Rattle.tcc_maps.proofs.Lemmas.{length-those, those-only}
 use Rattle.dir_lines.specs.Home.{Home, IsAtHome}
 
 count_below-same : (p q : ℕ → Bool) (n : ℕ) → ((k : ℕ) → k < n → p k ≡ q k) → count_below p n ≡ count_below q n

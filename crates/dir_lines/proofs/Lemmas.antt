@@ -2,7 +2,7 @@
 use Rattle.std.proofs.Common.{◌≡◌, ℕ, true, Some, length, slice_get}
 use Rattle.tcc_maps.specs.Words.{those, count_below}
 use Rattle.tcc_maps.specs.Shape.{lines}
-use Rattle.tcc_maps.proofs.Numbers.{length-those, those-only}
+use Rattle.tcc_maps.proofs.Lemmas.{length-those, those-only}
 use Rattle.tcc_maps.specs.Lines.{has_mark}
 use Rattle.dir_lines.specs.Home.{Home, IsAtHome}
 use Rattle.dir_lines.specs.Pages.{Pages, is_at_home}

@@ -6,7 +6,7 @@ use Rattle.tcc_base.specs.declared.names.Mask.{Mask}
 use Rattle.tcc_maps.specs.Words.{put, those, count_below}
 use Rattle.tcc_maps.specs.Shape.{lines}
 use Rattle.tcc_maps.specs.Lines.{has_mark}
-use Rattle.tcc_maps.proofs.Numbers.{length-those}
+use Rattle.tcc_maps.proofs.Lemmas.{length-those}
 use Rattle.dir_lines.specs.Home.{Home, IsAtHome, home_lines}
 use Rattle.dir_lines.specs.Record.{Record, blank, lines_of}
 use Rattle.dir_lines.specs.Pages.{Pages, pages_at, is_at_home}

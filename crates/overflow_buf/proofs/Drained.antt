@@ -13,7 +13,7 @@ use Rattle.std.proofs.lemmas.Bool.{false≢true, cases_eq, cases_lt, cases_Bool,
 use Rattle.std.proofs.lemmas.Bool.Decides.{nat_tests}
 use Rattle.tcc_maps.specs.Words.{word_at, line_of, place_of, any_word, those, count_below}
 use Rattle.tcc_maps.specs.Spilled.{Spilled, holds, IsBelow}
-use Rattle.tcc_maps.proofs.Numbers.{any_below-found, those-holds, those-only, those-rise, length-those}
+use Rattle.tcc_maps.proofs.Lemmas.{any_below-found, those-holds, those-only, those-rise, length-those}
 use Rattle.overflow_buf.specs.declared.line.SpilledLine.{SpilledLine}
 use Rattle.overflow_buf.specs.Kept.{Entries, kept_at, word_in, spilled, without_line, IsBuffer, IsLine}
 use Rattle.overflow_buf.proofs.Lines.{Keeps, holds-line, line_of-word_at}

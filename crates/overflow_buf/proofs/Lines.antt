@@ -6,8 +6,7 @@ use Rattle.tcc_base.specs.Put.{put}
 use Rattle.tcc_maps.specs.Words.{line_of, place_of, word_at, any_below, any_word, eight}
 use Rattle.tcc_maps.specs.Masks.{has, hit, mask_of, masked, join}
 use Rattle.tcc_maps.specs.Spilled.{Spilled, none_spilled, spill, holds, spilled_mask, spilled_words, spilled_line}
-use Rattle.tcc_maps.proofs.Masks.{has-join, has-pow, has-zero, mask_of-has}
-use Rattle.tcc_maps.proofs.Numbers.{any_below-at}
+use Rattle.tcc_maps.proofs.Lemmas.{has-join, has-pow, has-zero, mask_of-has, any_below-at}
 use Rattle.overflow_buf.specs.declared.line.SpilledLine.{SpilledLine}
 use Rattle.overflow_buf.specs.Kept.{Entries, kept_at, word_in, spilled, IsSpilled, IsLine, IsBuffer, merged}
 use Rattle.overflow_buf.proofs.Eights.{length-eight, get_or-eight}

@@ -6,7 +6,7 @@ use Rattle.tcc_maps.specs.Words.{line_of, place_of}
 use Rattle.tcc_maps.specs.Masks.{has}
 use Rattle.tcc_maps.specs.Shape.{set_of}
 use Rattle.tcc_maps.specs.Cache.{IsCache}
-use Rattle.tcc_maps.proofs.Masks.{has-zero}
+use Rattle.tcc_maps.proofs.Lemmas.{has-zero}
 use Rattle.spec_cache.specs.declared.frame.FrameView.{FrameView}
 use Rattle.spec_cache.specs.Frame.{value_in, read_in, modified_in, dirty_in, line_in, holds_line, IsFrame}
 use Rattle.spec_cache.specs.Held.{Held, IsHeld, frame_of, frame_at, maps}

@@ -3,7 +3,7 @@ use Rattle.std.proofs.Common.{ℕ, suc, zero, ◌+◌, ◌<◌, ◌≤◌, ◌�
 use Rattle.std.proofs.lemmas.Bool.{false≢true, cases_eq, cases_lt, cases_Bool}
 use Rattle.std.proofs.lemmas.Bool.Decides.{nat_tests}
 use Rattle.tcc_maps.specs.Words.{num, count_below, any_below, those}
-use Rattle.tcc_maps.proofs.Numbers.{length-those}
+use Rattle.tcc_maps.proofs.Lemmas.{length-those}
 use Rattle.spec_cache.specs.declared.frame.FrameView.{FrameView}
 use Rattle.spec_cache.specs.Frame.{holds_line}
 use Rattle.spec_cache.specs.Held.{frame_of}

@@ -9,7 +9,7 @@ use Rattle.tcc_maps.specs.Masks.{has}
 use Rattle.tcc_maps.specs.Shape.{lines}
 use Rattle.tcc_maps.specs.Cache.{is_marked, is_modified, is_dirty, writes_at, keeps}
 use Rattle.tcc_maps.specs.CacheUse.{Wants, is_number, is_useful_way, useful_at, useful_ways}
-use Rattle.tcc_maps.proofs.Numbers.{length-those}
+use Rattle.tcc_maps.proofs.Lemmas.{length-those}
 use Rattle.spec_cache.specs.declared.frame.FrameView.{FrameView}
 use Rattle.spec_cache.specs.Frame.{modified_in, dirty_in, line_in, holds_line, IsFrame, IsWay}
 use Rattle.spec_cache.specs.Held.{Held, IsHeld, IsWayOf, frame_of, maps}

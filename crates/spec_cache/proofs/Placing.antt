@@ -9,7 +9,7 @@ use Rattle.tcc_maps.specs.Words.{line_of, place_of, lowest}
 use Rattle.tcc_maps.specs.Shape.{set_of, lines}
 use Rattle.tcc_maps.specs.Cache.{Cache, free_way}
 use Rattle.tcc_maps.specs.CacheChange.{marked, placed, placed_at}
-use Rattle.tcc_maps.proofs.Numbers.{lowest-cases}
+use Rattle.tcc_maps.proofs.Lemmas.{lowest-cases}
 use Rattle.spec_cache.specs.declared.frame.FrameView.{FrameView}
 use Rattle.spec_cache.specs.Frame.{value_in, line_in, marked_frame, empty_frame}
 use Rattle.spec_cache.specs.Held.{Held, IsHeld, FitsWay, IsWayOf, frame_of, maps}

@@ -8,7 +8,7 @@ use Rattle.tcc_maps.specs.Masks.{has, hit, mask_of, masked, meet, join}
 use Rattle.tcc_maps.specs.Cache.{is_marked, is_dirty, modified_mask, dirty_mask, dirty_words, dirty_tag, first_of_line, dirty_copy, keeps}
 use Rattle.tcc_maps.specs.CacheLook.{reads_masked}
 use Rattle.tcc_maps.specs.Bridge.{tagged_of}
-use Rattle.tcc_maps.proofs.Masks.{mask_of-has, has-meet, has-join, has-zero}
+use Rattle.tcc_maps.proofs.Lemmas.{mask_of-has, has-meet, has-join, has-zero}
 use Rattle.spec_cache.specs.declared.frame.FrameView.{FrameView}
 use Rattle.spec_cache.specs.Frame.{value_in, read_in, modified_in, dirty_in, IsFrame, dirty_part}
 use Rattle.spec_cache.specs.Held.{Held, frame_of, maps}

@@ -6,7 +6,7 @@ use Rattle.std.proofs.lemmas.Bool.{false≢true, cases_eq, cases_lt, cases_Bool,
 use Rattle.std.proofs.lemmas.List.{map-set, length-replicate}
 use Rattle.tcc_base.specs.Settings.{Settings, IsAllowed}
 use Rattle.tcc_maps.specs.Words.{num, any_below, count_below}
-use Rattle.tcc_maps.proofs.Numbers.{any_below-found, any_below-at}
+use Rattle.tcc_maps.proofs.Lemmas.{any_below-found, any_below-at}
 use Rattle.spec_cache.specs.declared.frame.FrameView.{FrameView}
 use Rattle.spec_cache.specs.Frame.{holds_line}
 use Rattle.spec_cache.specs.Home.{reads_in, written_in}

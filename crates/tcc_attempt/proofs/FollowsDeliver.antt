@@ -11,7 +11,7 @@ use Rattle.tcc_maps.specs.Shape.{Shape}
 use Rattle.tcc_maps.specs.Cache.{IsCache, is_marked}
 use Rattle.tcc_maps.specs.CacheChange.{filled, invalidated, cleaned, evicted, read_cleared}
 use Rattle.tcc_maps.specs.Spilled.{spill_line, none_spilled}
-use Rattle.tcc_maps.proofs.Readers.{value-evicted, modified-evicted, value-filled, modified-filled, value-invalidated, modified-invalidated, modified-rolled_back}
+use Rattle.tcc_maps.proofs.Lemmas.{value-evicted, modified-evicted, value-filled, modified-filled, value-invalidated, modified-invalidated, modified-rolled_back}
 use Rattle.tcc_rules.specs.State.{CoreState, Awaited, Phase, Running, AwaitTid, DoomedTid, Probing, Ready, Overflowing, Solo, Halted}
 use Rattle.tcc_rules.specs.Sends.{nothing, to, marks_for, written_back}
 use Rattle.tcc_rules.specs.Attempt.{Out, moves, is_solo, roll_back}

@@ -13,7 +13,7 @@ use Rattle.tcc_maps.specs.Shape.{Shape, set_of}
 use Rattle.tcc_maps.specs.Cache.{Cache, IsCache, free_way, all_marked}
 use Rattle.tcc_maps.specs.CacheChange.{marked, stored, placed}
 use Rattle.tcc_maps.specs.Spilled.{holds, none_spilled}
-use Rattle.tcc_maps.proofs.Readers.{value-placed, modified-placed, modified-committed}
+use Rattle.tcc_maps.proofs.Lemmas.{value-placed, modified-placed, modified-committed}
 use Rattle.tcc_rules.specs.State.{CoreState, Awaited, Phase, Running, AwaitTid, DoomedTid, Probing, Ready, Overflowing, Solo, Halted}
 use Rattle.tcc_rules.specs.Sends.{nothing, flushed}
 use Rattle.tcc_rules.specs.Attempt.{Out, moves, is_solo, is_running, finished, new_word}

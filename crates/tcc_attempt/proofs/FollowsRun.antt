@@ -20,7 +20,7 @@ use Rattle.tcc_rules.specs.Step.{Stepped, History, core_moves, core_takes, dir_t
 use Rattle.tcc_attempt.specs.Follows.{Fits, Uses, sees, Follows, used_by}
 use Rattle.tcc_attempt.specs.Marks.{MarksFit, AttemptFits, AttemptsFit}
 use Rattle.tcc_attempt.specs.Views.{Views, no_views, uses_after, uses_executed, uses_delivered, views_delivered, views_after, then_views, views_from}
-use Rattle.tcc_rules.proofs.Acts.{if-step}
+use Rattle.tcc_rules.proofs.Lemmas.{if-step}
 use Rattle.tcc_attempt.proofs.SoundDeliver.{AllSound, step-sound, start-sound}
 use Rattle.tcc_attempt.proofs.FollowsExec.{fresh-claims, core_exec-follows}
 use Rattle.tcc_attempt.proofs.Marks.{none-used, core_exec-fit}

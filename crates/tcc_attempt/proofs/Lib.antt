@@ -7,3 +7,4 @@ pub mod FollowsDeliver
 pub mod FollowsRun
 pub mod Marks
 pub mod MarksDeliver
+pub mod Lemmas

@@ -12,8 +12,7 @@ use Rattle.tcc_maps.specs.Cache.{Cache, is_marked}
 use Rattle.tcc_maps.specs.CacheChange.{filled, invalidated, cleaned, evicted, rolled_back, read_cleared}
 use Rattle.tcc_maps.specs.CacheLook.{reads_masked}
 use Rattle.tcc_maps.specs.Spilled.{spill_line, none_spilled}
-use Rattle.tcc_maps.proofs.Numbers.{any_below-at}
-use Rattle.tcc_maps.proofs.Readers.{value-evicted, read-evicted, modified-evicted, value-filled, read-filled, modified-filled, value-invalidated, read-invalidated, modified-invalidated, read-cleaned, read-rolled_back}
+use Rattle.tcc_maps.proofs.Lemmas.{any_below-at, value-evicted, read-evicted, modified-evicted, value-filled, read-filled, modified-filled, value-invalidated, read-invalidated, modified-invalidated, read-cleaned, read-rolled_back}
 use Rattle.tcc_rules.specs.State.{CoreState, Awaited, Phase, Running, AwaitTid, DoomedTid, Probing, Ready, Overflowing, Solo, Halted}
 use Rattle.tcc_rules.specs.Sends.{nothing, to, marks_for, written_back}
 use Rattle.tcc_rules.specs.Attempt.{Out, moves, is_solo, roll_back}
@@ -22,7 +21,7 @@ use Rattle.tcc_rules.specs.CoreDeliver.{ignored, grant_phase, grant, probing, is
 use Rattle.tcc_attempt.specs.Follows.{Uses}
 use Rattle.tcc_attempt.specs.Marks.{StillHas, UseStands, AllStand, UsesStand, OnlyUsed, awaits_in, owed_in, MarksFit}
 use Rattle.tcc_attempt.specs.Views.{uses_violated, uses_delivered}
-use Rattle.tcc_rules.proofs.Useful.{and-left}
+use Rattle.tcc_rules.proofs.Lemmas.{and-left}
 use Rattle.tcc_attempt.proofs.Marks.{none-used}
 
 -- a change that keeps each use keeps them in every phase, where it adds no read mark to a core that is alone

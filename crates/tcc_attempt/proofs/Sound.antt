@@ -10,9 +10,7 @@ use Rattle.tcc_maps.specs.Shape.{Shape, set_of}
 use Rattle.tcc_maps.specs.Cache.{Cache, IsCache, free_way, all_marked}
 use Rattle.tcc_maps.specs.CacheChange.{marked, stored, placed}
 use Rattle.tcc_maps.specs.Spilled.{holds}
-use Rattle.tcc_maps.proofs.Caches.{marked-keeps, stored-keeps, placed-keeps}
-use Rattle.tcc_maps.proofs.Numbers.{any_below-at, any_below-found}
-use Rattle.tcc_maps.proofs.Readers.{held-placed, modified-placed, dirty-placed, read-placed, modified-marked, dirty-marked, held-marked, held-stored, modified-stored, dirty-stored}
+use Rattle.tcc_maps.proofs.Lemmas.{marked-keeps, stored-keeps, placed-keeps, any_below-at, any_below-found, held-placed, modified-placed, dirty-placed, read-placed, modified-marked, dirty-marked, held-marked, held-stored, modified-stored, dirty-stored}
 use Rattle.tcc_rules.specs.State.{CoreState, Awaited}
 use Rattle.tcc_rules.specs.Attempt.{Out, is_solo, is_running, stepped, finished}
 use Rattle.tcc_rules.specs.Execute.{ask, place, overflow, full_set, fetch, used, buffered, framed}

@@ -11,9 +11,7 @@ use Rattle.tcc_maps.specs.Shape.{Shape}
 use Rattle.tcc_maps.specs.Cache.{Cache, is_marked, empty_cache}
 use Rattle.tcc_maps.specs.CacheChange.{filled, invalidated, cleaned, evicted, rolled_back, read_cleared}
 use Rattle.tcc_maps.specs.Spilled.{spill_line, none_spilled}
-use Rattle.tcc_maps.proofs.Caches.{empty-keeps, evicted-keeps, filled-keeps, invalidated-keeps, cleaned-keeps, rolled_back-keeps, read_cleared-keeps}
-use Rattle.tcc_maps.proofs.Numbers.{any_below-at}
-use Rattle.tcc_maps.proofs.Readers.{held-evicted, modified-evicted, dirty-evicted, read-evicted, read-filled, modified-filled, dirty-filled, held-invalidated, read-invalidated, modified-invalidated, dirty-invalidated, held-cleaned, read-cleaned, modified-cleaned, dirty-cleaned, held-rolled_back, read-rolled_back, modified-rolled_back, held-read_cleared, modified-read_cleared, dirty-read_cleared}
+use Rattle.tcc_maps.proofs.Lemmas.{empty-keeps, evicted-keeps, filled-keeps, invalidated-keeps, cleaned-keeps, rolled_back-keeps, read_cleared-keeps, any_below-at, held-evicted, modified-evicted, dirty-evicted, read-evicted, read-filled, modified-filled, dirty-filled, held-invalidated, read-invalidated, modified-invalidated, dirty-invalidated, held-cleaned, read-cleaned, modified-cleaned, dirty-cleaned, held-rolled_back, read-rolled_back, modified-rolled_back, held-read_cleared, modified-read_cleared, dirty-read_cleared}
 use Rattle.tcc_rules.specs.State.{CoreState, Awaited, Phase, Running, AwaitTid, DoomedTid, Probing, Ready, Overflowing, Solo, Halted, World, core_start, start}
 use Rattle.tcc_rules.specs.Links.{in_flight}
 use Rattle.tcc_rules.specs.Sends.{nothing, to, marks_for, written_back}
@@ -25,7 +23,7 @@ use Rattle.tcc_rules.specs.DirDeliver.{Answer, Waits, Drops, Asks, Takes, dir_de
 use Rattle.tcc_rules.specs.VendorDeliver.{Granted, vendor_deliver}
 use Rattle.tcc_rules.specs.Step.{Stepped, History, core_moves, core_takes, dir_takes, dir_asks, vendor_gives, moved, taken, answered, granted, delivered, if_in_flight, names_nodes, happens, step, recorded, and_noted, next, and_then, run_from, run}
 use Rattle.tcc_attempt.specs.Sound.{AwaitsHeld, is_idle, SoundCore}
-use Rattle.tcc_rules.proofs.Acts.{if-step}
+use Rattle.tcc_rules.proofs.Lemmas.{if-step}
 use Rattle.tcc_attempt.proofs.Sound.{OutSound}
 use Rattle.tcc_attempt.proofs.SoundExec.{core_exec-sound}
 

@@ -10,8 +10,7 @@ use Rattle.tcc_maps.specs.Shape.{Shape, set_of}
 use Rattle.tcc_maps.specs.Cache.{Cache, free_way}
 use Rattle.tcc_maps.specs.CacheChange.{committed, words_dropped}
 use Rattle.tcc_maps.specs.Spilled.{holds, none_spilled}
-use Rattle.tcc_maps.proofs.Caches.{committed-keeps, words_dropped-keeps}
-use Rattle.tcc_maps.proofs.Readers.{read-committed, modified-committed, held-committed, held-words_dropped}
+use Rattle.tcc_maps.proofs.Lemmas.{committed-keeps, words_dropped-keeps, read-committed, modified-committed, held-committed, held-words_dropped}
 use Rattle.tcc_rules.specs.State.{CoreState, Awaited, Phase, Running, AwaitTid, DoomedTid, Probing, Ready, Overflowing, Solo, Halted}
 use Rattle.tcc_rules.specs.Sends.{nothing, flushed}
 use Rattle.tcc_rules.specs.Attempt.{Out, moves, is_solo, is_running, finished, new_word}

@@ -15,7 +15,7 @@ use Rattle.tcc_cli.specs.Refusals.{reader_word, field_word, line_of}
 use Rattle.tcc_cli.specs.declared.refusal.ImageFault.{ImageFault}
 use Rattle.tcc_cli.specs.declared.refusal.Refusal.TheVariants.{Words, Value, Image, Store, Output, Memory}
 use Rattle.tcc_cli.specs.declared.words.Field.{Field}
-use Rattle.tcc_world.proofs.Told.{appends-append}
+use Rattle.tcc_world.proofs.Lemmas.{appends-append}
 use Rattle.tcc_world.specs.Faults.{Rose}
 
 -- a count that rose from one that was no smaller rose from the smaller one

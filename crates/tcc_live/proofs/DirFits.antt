@@ -10,7 +10,7 @@ use Rattle.tcc_maps.specs.Masks.{full}
 use Rattle.tcc_maps.specs.Nodes.{Core, Dir, Vendor, Msg, LoadReq, Fill, Skip, Probe, ProbeReply, Mark, Commit, Abort, WriteBack, Flush, DataReq, Inv, InvAck}
 use Rattle.tcc_maps.specs.Serving.{Serving, advance, skipped, kept}
 use Rattle.tcc_maps.specs.Shape.{Shape, lines}
-use Rattle.tcc_maps.proofs.Serving.{advance-rises}
+use Rattle.tcc_maps.proofs.Lemmas.{advance-rises}
 use Rattle.tcc_rules.specs.DirDeliver.{Answer, Waits, Drops, Asks, Takes, moved_on, skip, abort, probe, ask_owner, line_words, load_owned, load_request, mark_owned, mark, is_invalidated, invs_to, invalidations, owed_by, owned, settled, commit, unless_keeps, acknowledgement, came_home, judged, write_back, dir_deliver}
 use Rattle.tcc_rules.specs.Sends.{Sends, nothing}
 use Rattle.tcc_rules.specs.State.{DirState}

@@ -9,7 +9,7 @@ use Rattle.tcc_maps.specs.Words.{num, any_below, any_word, line_of, place_of, wo
 use Rattle.tcc_maps.specs.Cache.{Cache, is_marked, is_dirty, dirty_tag, way_marked}
 use Rattle.tcc_maps.specs.Nodes.{Node, Core, Dir, Vendor, Event, Msg, LoadReq, Skip, Probe, Mark, Commit, Abort, WriteBack, Flush, InvAck}
 use Rattle.tcc_maps.specs.Shape.{Shape, home, set_of}
-use Rattle.tcc_maps.proofs.Numbers.{any_below-found, any_below-at}
+use Rattle.tcc_maps.proofs.Lemmas.{any_below-found, any_below-at}
 use Rattle.tcc_rules.specs.CoreEvict.{is_awaited}
 use Rattle.tcc_rules.specs.State.{Awaited, DirState, Halted, World}
 use Rattle.tcc_rules.specs.Links.{in_flight}

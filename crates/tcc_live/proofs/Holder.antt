@@ -9,7 +9,7 @@ use Rattle.tcc_maps.specs.Words.{num}
 use Rattle.tcc_maps.specs.Nodes.{Msg, Probe}
 use Rattle.tcc_maps.specs.Lines.{has_mark}
 use Rattle.tcc_maps.specs.Shape.{Shape, home}
-use Rattle.tcc_maps.proofs.Numbers.{any_below-found}
+use Rattle.tcc_maps.proofs.Lemmas.{any_below-found}
 use Rattle.tcc_rules.specs.CoreEvict.{is_awaited}
 use Rattle.tcc_rules.specs.CoreExec.{core_exec}
 use Rattle.tcc_rules.specs.State.{Awaited, DirState, Phase, Probing, Ready, Overflowing, Solo, World}

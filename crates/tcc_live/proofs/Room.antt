@@ -9,7 +9,7 @@ use Rattle.tcc_maps.specs.Words.{line_of, all_below, lowest}
 use Rattle.tcc_maps.specs.Shape.{Shape, set_of}
 use Rattle.tcc_maps.specs.Cache.{Cache, free_way, way_marked, all_marked, is_marked}
 use Rattle.tcc_maps.specs.Spilled.{holds}
-use Rattle.tcc_maps.proofs.Numbers.{LowestIs, lowest-is}
+use Rattle.tcc_maps.proofs.Lemmas.{LowestIs, lowest-is}
 use Rattle.tcc_rules.specs.State.{CoreState, Awaited, Phase, Running, Solo, World}
 use Rattle.tcc_rules.specs.Attempt.{is_solo}
 use Rattle.tcc_rules.specs.CoreEvict.{core_evict}

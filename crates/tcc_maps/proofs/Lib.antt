@@ -6,3 +6,4 @@ pub mod Caches
 pub mod Judge
 pub mod Uses
 pub mod Looks
+pub mod Lemmas

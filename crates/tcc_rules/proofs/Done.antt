@@ -7,7 +7,7 @@ use Rattle.tcc_maps.specs.Words.{any_below, any_word, word_at}
 use Rattle.tcc_maps.specs.Cache.{Cache, is_marked, is_modified, is_dirty}
 use Rattle.tcc_maps.specs.Nodes.{Event, Exec, Evict, Deliver}
 use Rattle.tcc_maps.specs.Shape.{Shape}
-use Rattle.tcc_maps.proofs.Numbers.{any_below-found, any_below-at}
+use Rattle.tcc_maps.proofs.Lemmas.{any_below-found, any_below-at}
 use Rattle.tcc_rules.specs.State.{CoreState, World, Halted}
 use Rattle.tcc_rules.specs.Links.{in_flight}
 use Rattle.tcc_rules.specs.CoreExec.{core_exec}

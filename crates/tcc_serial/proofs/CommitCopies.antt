@@ -9,7 +9,7 @@ use Rattle.tcc_maps.specs.Shape.{Shape, home, lines}
 use Rattle.tcc_maps.specs.Cache.{Cache, is_modified, modified_mask}
 use Rattle.tcc_maps.specs.CacheChange.{committed, words_dropped}
 use Rattle.tcc_maps.specs.Spilled.{Spilled, holds, spilled_mask}
-use Rattle.tcc_maps.proofs.Numbers.{any_below-at}
+use Rattle.tcc_maps.proofs.Lemmas.{any_below-at}
 use Rattle.tcc_rules.specs.State.{CoreState, Ready}
 use Rattle.tcc_rules.specs.Commit.{commit, committed_core, noted, solo_commit, commit_sends, is_written, written_mask}
 use Rattle.tcc_serial.specs.OneCore.{OneCore, Words}

@@ -21,7 +21,7 @@ use Rattle.tcc_rules.specs.CoreDeliver.{grant, grant_phase, grant_sends, from_di
 use Rattle.tcc_rules.specs.CoreExec.{core_exec, exec_phase, unless_awaiting}
 use Rattle.tcc_rules.specs.CoreEvict.{core_evict, evict_line, is_awaited}
 use Rattle.tcc_rules.specs.Execute.{close, execute_need, execute}
-use Rattle.tcc_maps.proofs.Readers.{dirty-evicted}
+use Rattle.tcc_maps.proofs.Lemmas.{dirty-evicted}
 use Rattle.tcc_serial.specs.Count.{CopyOf, among, passes}
 use Rattle.tcc_serial.specs.OneCore.{OneCore, Words}
 use Rattle.tcc_serial.proofs.CommitCopies.{ready-copies, alone-copies}

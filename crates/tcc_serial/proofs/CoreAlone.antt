@@ -6,7 +6,7 @@ use Rattle.tcc_maps.specs.Nodes.{Dir, Event}
 use Rattle.tcc_maps.specs.Shape.{Shape}
 use Rattle.tcc_maps.specs.Cache.{empty_cache}
 use Rattle.tcc_maps.specs.Spilled.{none_spilled}
-use Rattle.tcc_maps.proofs.Caches.{empty-keeps}
+use Rattle.tcc_maps.proofs.Lemmas.{empty-keeps}
 use Rattle.tcc_rules.specs.State.{CoreState, World, start, core_start}
 use Rattle.tcc_rules.specs.Attempt.{Out}
 use Rattle.tcc_rules.specs.CoreExec.{core_exec}

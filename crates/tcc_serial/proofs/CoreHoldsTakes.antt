@@ -7,7 +7,7 @@ use Rattle.tcc_maps.specs.Nodes.{Dir, Msg, TidReq, TidGrant, LoadReq, Fill, Skip
 use Rattle.tcc_maps.specs.Shape.{Shape, home}
 use Rattle.tcc_maps.specs.Cache.{Cache, keeps}
 use Rattle.tcc_maps.specs.CacheChange.{filled, cleaned, read_cleared}
-use Rattle.tcc_maps.proofs.Numbers.{any_below-found, any_below-at}
+use Rattle.tcc_maps.proofs.Lemmas.{any_below-found, any_below-at}
 use Rattle.tcc_rules.specs.State.{CoreState, Awaited, Phase, Running, AwaitTid, DoomedTid, Probing, Ready, Overflowing, Solo, Halted}
 use Rattle.tcc_rules.specs.Sends.{nothing, to, marks_for, abort_written, skip_all}
 use Rattle.tcc_rules.specs.Attempt.{Out, moves, roll_back}

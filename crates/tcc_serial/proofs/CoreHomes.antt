@@ -2,7 +2,7 @@
 use Rattle.std.specs.Prelude.{ℕ, ◌%◌, ◌≡◌, ◌<◌, Bool, true, false, not, List, [], ◌∷◌, ◌++◌, ◌==◌, ◌&&◌, ◌||◌, cond, Option, Some, None, IfSome, is_some, nat_lt, if◌then◌else◌}
 use Rattle.std.specs.List.{flat_map}
 use Rattle.std.proofs.Common.{arith, refl}
-use Rattle.tcc_maps.proofs.Numbers.{any_below-found}
+use Rattle.tcc_maps.proofs.Lemmas.{any_below-found}
 use Rattle.std.proofs.lemmas.Bool.Decides.{nat_tests}
 use Rattle.tcc_base.specs.declared.access.Size.TheVariants.{Byte, Half, Word}
 use Rattle.tcc_program.specs.Program.{Program, Need, Nothing, Loads, Stores, Changes, Prints, Ends, Halts, Traps}

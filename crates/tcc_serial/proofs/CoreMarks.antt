@@ -11,7 +11,7 @@ use Rattle.tcc_maps.specs.Nodes.{Dir, Msg, Skip, Mark, Commit, WriteBack}
 use Rattle.tcc_maps.specs.Shape.{Shape, home, lines}
 use Rattle.tcc_maps.specs.Cache.{Cache, is_modified, modified_mask, written_lines, writes_at}
 use Rattle.tcc_maps.specs.Spilled.{Spilled, holds, spilled_mask, spilled_words}
-use Rattle.tcc_maps.proofs.Numbers.{any_below-at, any_below-found}
+use Rattle.tcc_maps.proofs.Lemmas.{any_below-at, any_below-found}
 use Rattle.tcc_rules.specs.Sends.{marks_for}
 use Rattle.tcc_rules.specs.Commit.{solo_sends, solo_marks, solo_backs, solo_writes_at, is_written, written_mask}
 use Rattle.tcc_serial.specs.Count.{Kind, Resolves, Marks, MarkOf, EmptyMarks, Skips, among, passes}

@@ -11,7 +11,7 @@ use Rattle.tcc_maps.specs.Shape.{Shape, home, set_of}
 use Rattle.tcc_maps.specs.Cache.{Cache, free_way, all_marked, is_marked}
 use Rattle.tcc_maps.specs.CacheChange.{marked, stored, placed, evicted, evicted_line, committed}
 use Rattle.tcc_maps.specs.Spilled.{holds, spill_line}
-use Rattle.tcc_maps.proofs.Readers.{value-placed, read-placed}
+use Rattle.tcc_maps.proofs.Lemmas.{value-placed, read-placed}
 use Rattle.tcc_rules.specs.State.{CoreState, Awaited, Phase, Running, AwaitTid, DoomedTid, Probing, Ready, Overflowing, Solo, Halted}
 use Rattle.tcc_rules.specs.Sends.{nothing, flushed, to, written_back}
 use Rattle.tcc_rules.specs.Attempt.{moves, finished, is_running, is_solo, new_word}
@@ -19,7 +19,7 @@ use Rattle.tcc_rules.specs.Commit.{commit, committed_core, solo_commit}
 use Rattle.tcc_rules.specs.Execute.{ask, place, overflow, full_set, fetch, used, load_valid, load_spilled, load, buffered, framed, word_store, also_read, change_valid, change_spilled, partial_store, close, execute_need, execute}
 use Rattle.tcc_rules.specs.CoreExec.{core_exec, exec_phase, unless_awaiting}
 use Rattle.tcc_rules.specs.CoreEvict.{core_evict, evict_line, is_awaited}
-use Rattle.tcc_attempt.proofs.Marks.{SameBut, finished-same}
+use Rattle.tcc_attempt.proofs.Lemmas.{SameBut, finished-same}
 use Rattle.tcc_serial.specs.Tids.{has_tid}
 use Rattle.tcc_serial.proofs.Executes.{Acts}
 

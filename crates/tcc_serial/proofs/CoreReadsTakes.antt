@@ -16,7 +16,7 @@ use Rattle.tcc_rules.specs.CoreDeliver.{ignored, grant, grant_phase, probe_reply
 use Rattle.tcc_serial.specs.OneCore.{OneCore}
 use Rattle.tcc_serial.specs.Tids.{has_tid}
 use Rattle.tcc_serial.proofs.CoreReads.{Reads, Reading, Cleared, ValidOrPassed, ReadOf, read-kept, reads-same, as-before, tid-kept, no-tid}
-use Rattle.tcc_attempt.proofs.MarksDeliver.{hit-line, hit-reads}
+use Rattle.tcc_attempt.proofs.Lemmas.{hit-line, hit-reads}
 
 same : (s : CoreState) → Reading s s
 same s = as-before s s refl (reads-same s.cache)

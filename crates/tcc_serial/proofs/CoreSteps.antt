@@ -9,7 +9,7 @@ use Rattle.tcc_maps.specs.Shape.{Shape, home, lines}
 use Rattle.tcc_maps.specs.Cache.{Cache, writes_at, reads_at, is_modified, is_marked, keeps, dirty_copy}
 use Rattle.tcc_maps.specs.CacheChange.{evicted, evicted_line, filled, cleaned, invalidated, read_cleared}
 use Rattle.tcc_maps.specs.Spilled.{spill_line}
-use Rattle.tcc_maps.proofs.Numbers.{any_below-at}
+use Rattle.tcc_maps.proofs.Lemmas.{any_below-at}
 use Rattle.tcc_rules.specs.State.{CoreState, Awaited, Phase, Running, AwaitTid, DoomedTid, Probing, Ready, Overflowing, Solo, Halted}
 use Rattle.tcc_rules.specs.Sends.{Sends, nothing, to, flushed, write_back, written_back, abort_written, skip_all, to_dirs, when, marks_for}
 use Rattle.tcc_rules.specs.Attempt.{Out, moves, is_solo, roll_back}

@@ -11,7 +11,7 @@ use Rattle.tcc_maps.specs.Shape.{Shape, home, set_of}
 use Rattle.tcc_maps.specs.Cache.{IsCache, free_way, all_marked, is_marked}
 use Rattle.tcc_maps.specs.CacheChange.{marked, stored, placed, placed_at, evicted}
 use Rattle.tcc_maps.specs.Spilled.{holds, spill_line}
-use Rattle.tcc_maps.proofs.Readers.{dirty-evicted, value-evicted}
+use Rattle.tcc_maps.proofs.Lemmas.{dirty-evicted, value-evicted}
 use Rattle.tcc_rules.specs.State.{CoreState, Awaited, Phase, Running, AwaitTid, DoomedTid, Probing, Ready, Overflowing, Solo, Halted}
 use Rattle.tcc_rules.specs.Sends.{nothing, to, flushed, written_back}
 use Rattle.tcc_rules.specs.Attempt.{Out, moves, finished, is_running, is_solo, new_word}

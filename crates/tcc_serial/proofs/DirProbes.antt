@@ -7,7 +7,7 @@ use Rattle.tcc_maps.specs.Masks.{full}
 use Rattle.tcc_maps.specs.Lines.{Lines, has_mark, with_asked, with_sharer}
 use Rattle.tcc_maps.specs.Judge.{Judgement, judge, Takes as IsTaken, Drops as IsDropped, Waits as IsEarly}
 use Rattle.tcc_maps.specs.Serving.{advance, skipped, kept}
-use Rattle.tcc_maps.proofs.Serving.{advance-rises}
+use Rattle.tcc_maps.proofs.Lemmas.{advance-rises}
 use Rattle.tcc_maps.specs.Nodes.{Core, Msg, TidReq, TidGrant, LoadReq, Fill, Skip, Probe, ProbeReply, Mark, Commit, Abort, WriteBack, Flush, DataReq, Inv, InvAck}
 use Rattle.tcc_maps.specs.Shape.{Shape, lines}
 use Rattle.tcc_rules.specs.State.{DirState, Link}

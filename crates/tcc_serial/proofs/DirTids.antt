@@ -9,7 +9,7 @@ use Rattle.tcc_maps.specs.Judge.{Judgement, judge, Takes as IsTaken, Drops as Is
 use Rattle.tcc_maps.specs.Serving.{Serving, advance, kept, skipped, is_skipped}
 use Rattle.tcc_maps.specs.Nodes.{Core, Msg, TidReq, TidGrant, LoadReq, Fill, Skip, Probe, ProbeReply, Mark, Commit, Abort, WriteBack, Flush, DataReq, Inv, InvAck}
 use Rattle.tcc_maps.specs.Shape.{Shape, lines}
-use Rattle.tcc_maps.proofs.Serving.{advance-rises, advance-past, advance-stops, advance-keeps, kept-skips}
+use Rattle.tcc_maps.proofs.Lemmas.{advance-rises, advance-past, advance-stops, advance-keeps, kept-skips}
 use Rattle.tcc_rules.specs.State.{DirState}
 use Rattle.tcc_rules.specs.DirDeliver.{Answer, Waits, Drops, Asks, Takes, skip, abort, commit, acknowledgement, dir_deliver, moved_on, settled, owned, owed_by, invalidations, unless_keeps, ask_owner, load_owned, load_request, marking, mark_owned, mark, judged, write_back, came_home, probe}
 use Rattle.tcc_rules.specs.Sends.{nothing, to}

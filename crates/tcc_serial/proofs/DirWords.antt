@@ -13,7 +13,7 @@ use Rattle.tcc_rules.specs.State.{DirState}
 use Rattle.tcc_rules.specs.Sends.{nothing, to}
 use Rattle.tcc_rules.specs.DirDeliver.{Answer, Waits, Drops, Asks, Takes, skip, abort, commit, acknowledgement, dir_deliver, moved_on, settled, owned, owed_by, invalidations, unless_keeps, ask_owner, load_owned, load_request, marking, mark_owned, mark, judged, write_back, came_home, probe}
 use Rattle.tcc_serial.specs.Count.{CopyWord, CopyNot, passes}
-use Rattle.tcc_attempt.proofs.MarksDeliver.{hit-line}
+use Rattle.tcc_attempt.proofs.Lemmas.{hit-line}
 
 pub data HomeBy (s : DirState) (m : Msg) (x : ℕ) (new : DirState) : Type 0 where
   Left : new.words x ≡ s.words x → ((t : ℕ) → passes (CopyWord x t) m ≡ false) → HomeBy s m x new

@@ -5,7 +5,7 @@ use Rattle.tcc_maps.specs.Words.{num, any_below, any_word, word_at, line_of, or_
 use Rattle.tcc_maps.specs.Masks.{mask_of}
 use Rattle.tcc_maps.specs.Shape.{Shape}
 use Rattle.tcc_maps.specs.Cache.{Cache, IsCache, is_dirty, is_modified, dirty_tag, dirty_mask, modified_mask, first_of_line}
-use Rattle.tcc_maps.proofs.Numbers.{any_below-found, any_below-at}
+use Rattle.tcc_maps.proofs.Lemmas.{any_below-found, any_below-at}
 
 -- 1 where the line's frame is dirty with this tag, and where it is so with another mask
 unfoldable pub frame_copy : Cache → (line tag : ℕ) → ℕ

@@ -17,7 +17,7 @@ use Rattle.tcc_rules.specs.Commit.{noted, commit, committed_core, solo_commit}
 use Rattle.tcc_rules.specs.Execute.{ask, place, overflow, full_set, fetch, used, load_valid, load_spilled, load, buffered, framed, word_store, also_read, change_valid, change_spilled, partial_store, close, execute_need, execute}
 use Rattle.tcc_rules.specs.CoreExec.{core_exec, exec_phase, unless_awaiting}
 use Rattle.tcc_rules.specs.CoreEvict.{core_evict, evict_line, is_awaited}
-use Rattle.tcc_attempt.proofs.Marks.{SameBut, finished-same}
+use Rattle.tcc_attempt.proofs.Lemmas.{SameBut, finished-same}
 use Rattle.tcc_serial.specs.Values.{is_stale}
 use Rattle.tcc_serial.proofs.Executes.{Acts}
 

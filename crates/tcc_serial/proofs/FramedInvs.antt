@@ -12,7 +12,7 @@ use Rattle.tcc_maps.specs.Lines.{Lines, has_mark}
 use Rattle.tcc_maps.specs.Masks.{has, hit, mask_of}
 use Rattle.tcc_maps.specs.Nodes.{Msg, Core, Dir, Commit, Inv}
 use Rattle.tcc_maps.specs.Shape.{Shape, home, lines}
-use Rattle.tcc_maps.proofs.Masks.{has-mask_of}
+use Rattle.tcc_maps.proofs.Lemmas.{has-mask_of}
 use Rattle.tcc_rules.specs.State.{Awaited, DirState, Link, World}
 use Rattle.tcc_rules.specs.CoreEvict.{is_awaited}
 use Rattle.tcc_rules.specs.Links.{in_flight}

@@ -20,7 +20,7 @@ use Rattle.tcc_serial.proofs.TidSteps.{live-some}
 use Rattle.tcc_serial.proofs.FramedWords.{HeldOf, few-not}
 use Rattle.tcc_serial.proofs.FramedCores.{Fading}
 use Rattle.tcc_serial.proofs.FramedBacks.{Invalidates, Fills}
-use Rattle.tcc_attempt.proofs.MarksDeliver.{hit-line}
+use Rattle.tcc_attempt.proofs.Lemmas.{hit-line}
 
 -- the frames fade, and the link from the home stays
 pub held-fades : (x y : ℕ) (v w : Pair) → w.back ≡ v.back → Fading v.core w.core → HeldOf x y v → HeldOf x y w

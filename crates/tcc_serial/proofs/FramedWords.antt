@@ -6,7 +6,7 @@ use Rattle.tcc_base.specs.declared.access.Commit.{Commit as Noted}
 use Rattle.tcc_maps.specs.Words.{num, line_of, place_of, word_at, any_word}
 use Rattle.tcc_maps.specs.Nodes.{Msg, Core, Dir}
 use Rattle.tcc_maps.specs.Shape.{Shape, home}
-use Rattle.tcc_maps.proofs.Numbers.{any_below-at}
+use Rattle.tcc_maps.proofs.Lemmas.{any_below-at}
 use Rattle.tcc_rules.specs.State.{DirState, Link, World}
 use Rattle.tcc_serial.specs.Copies.{keeps_unmodified}
 use Rattle.tcc_serial.specs.Count.{FillOf, FillNot, InvWord, Commits, live, among, passes}

@@ -6,7 +6,7 @@ use Rattle.tcc_rules.specs.Step.{History, run}
 use Rattle.tcc_attempt.specs.Follows.{Uses}
 use Rattle.tcc_attempt.specs.Marks.{MarksFit, AttemptFits}
 use Rattle.tcc_attempt.specs.Views.{Views, no_views, views_from}
-use Rattle.tcc_attempt.proofs.FollowsRun.{attempts-fit}
+use Rattle.tcc_attempt.proofs.Lemmas.{attempts-fit}
 use Rattle.tcc_serial.specs.Alone.{ReadFits}
 use Rattle.tcc_serial.specs.Invariants.{CarriedViews, RunsCarryViews, first_state}
 

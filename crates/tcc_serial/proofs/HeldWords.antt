@@ -7,7 +7,7 @@ use Rattle.tcc_maps.specs.Masks.{hit}
 use Rattle.tcc_maps.specs.Cache.{Cache, is_modified}
 use Rattle.tcc_maps.specs.CacheChange.{marked, stored, invalidated, evicted, evicted_line, rolled_back, read_cleared, committed, words_dropped}
 use Rattle.tcc_maps.specs.Spilled.{Spilled}
-use Rattle.tcc_maps.proofs.Numbers.{any_below-found, any_below-at}
+use Rattle.tcc_maps.proofs.Lemmas.{any_below-found, any_below-at}
 use Rattle.tcc_serial.specs.Copies.{keeps_unmodified}
 
 -- the word is valid, and not modified or marked read

@@ -7,7 +7,7 @@ use Rattle.tcc_base.specs.declared.access.Stored.{Stored}
 use Rattle.tcc_maps.specs.Words.{any_below, any_word, line_of, place_of, word_at}
 use Rattle.tcc_maps.specs.Shape.{Shape, home, lines}
 use Rattle.tcc_maps.specs.Cache.{is_modified, writes_at, reads_at}
-use Rattle.tcc_maps.proofs.Numbers.{any_below-found, any_below-at}
+use Rattle.tcc_maps.proofs.Lemmas.{any_below-found, any_below-at}
 use Rattle.tcc_serial.specs.AtHomes.{AccessesAtHomes, MarksAtHomes, WrittenInMemory}
 use Rattle.tcc_serial.specs.InMemory.{WordInMemory, CommitsInMemory}
 use Rattle.tcc_serial.specs.Stored.{stores_at}

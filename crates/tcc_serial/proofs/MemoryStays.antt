@@ -10,7 +10,7 @@ use Rattle.tcc_program.specs.Plain.{Attempt, Outcome, Goes, Ended, Halted, Trapp
 use Rattle.tcc_program.specs.Ram.{word_of, patched, loaded, stored}
 use Rattle.tcc_serial.specs.Uses.{loads_word, stores_word, stores_whole, is_whole, reads_word, uses_next, uses, AlignedNeed, Aligned, IsMemory}
 use Rattle.tcc_serial.proofs.UsedWords.{stored-put, stores_word-append}
-use Rattle.tcc_attempt.proofs.Follows.{patched-small}
+use Rattle.tcc_attempt.proofs.Lemmas.{patched-small}
 
 stored-memory : (base : ℕ) (ram : ℕ → ℕ) (addr : ℕ) (size : Size) (value : ℕ) → IsMemory ram → addr % bytes_of size ≡ 0 → IsMemory (stored base ram addr size value)
 stored-memory base ram addr size value m e w = rw stored-put (go (word_of base addr == w))

@@ -12,8 +12,7 @@ use Rattle.tcc_maps.specs.Shape.{Shape, set_of}
 use Rattle.tcc_maps.specs.Cache.{Cache, free_way, all_marked}
 use Rattle.tcc_maps.specs.CacheChange.{marked, placed, placed_at, committed, words_dropped}
 use Rattle.tcc_maps.specs.Spilled.{Spilled, none_spilled, holds}
-use Rattle.tcc_maps.proofs.Caches.{words_dropped-keeps}
-use Rattle.tcc_maps.proofs.Numbers.{any_below-found}
+use Rattle.tcc_maps.proofs.Lemmas.{words_dropped-keeps, any_below-found}
 use Rattle.tcc_rules.specs.State.{CoreState, Awaited, Phase, Running, AwaitTid, DoomedTid, Probing, Ready, Overflowing, Solo, Halted}
 use Rattle.tcc_rules.specs.Sends.{nothing, flushed}
 use Rattle.tcc_rules.specs.Attempt.{moves, finished, stepped, is_running, is_solo, new_word}
@@ -23,7 +22,7 @@ use Rattle.tcc_rules.specs.CoreExec.{core_exec, exec_phase, unless_awaiting}
 use Rattle.tcc_serial.specs.OneCore.{Words, OneCore, Empty, executes, rests}
 use Rattle.tcc_serial.proofs.Executes.{Acts}
 use Rattle.tcc_serial.proofs.WordsKept.{words-marked, words-placed, words-stored, words-buffered, words-committed}
-use Rattle.tcc_attempt.proofs.Sound.{valid-held}
+use Rattle.tcc_attempt.proofs.Lemmas.{valid-held}
 
 acts-execute : (q : Phase) → Acts q → executes q ≡ true
 acts-execute Running a = refl

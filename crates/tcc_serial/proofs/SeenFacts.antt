@@ -8,7 +8,7 @@ use Rattle.tcc_maps.specs.Masks.{has, hit}
 use Rattle.tcc_maps.specs.Nodes.{Msg, TidReq, TidGrant, LoadReq, Fill, Skip, Probe, ProbeReply, Mark, Commit, Abort, WriteBack, Flush, DataReq, Inv, InvAck}
 use Rattle.tcc_maps.specs.Shape.{Shape}
 use Rattle.tcc_maps.specs.Cache.{IsCache, is_dirty, dirty_tag, dirty_mask}
-use Rattle.tcc_maps.proofs.Masks.{has-mask_of}
+use Rattle.tcc_maps.proofs.Lemmas.{has-mask_of}
 use Rattle.tcc_rules.specs.State.{DirState}
 use Rattle.tcc_serial.specs.Copies.{AboveOf}
 use Rattle.tcc_serial.specs.Count.{CopyMask, CopyWord, passes}

@@ -23,7 +23,7 @@ use Rattle.tcc_serial.specs.Values.{HomeWords, CopiesAbove, UnmodifiedWords, Fil
 use Rattle.tcc_serial.proofs.FromKept.{runs_carry}
 use Rattle.tcc_serial.proofs.FromMemory.{carried-memory}
 use Rattle.tcc_serial.proofs.InMemoryKept.{start-memory}
-use Rattle.tcc_attempt.proofs.FollowsRun.{start-follows}
+use Rattle.tcc_attempt.proofs.Lemmas.{start-follows}
 
 -- no core has a TID and nothing is in flight
 

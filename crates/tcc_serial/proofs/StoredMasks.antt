@@ -9,7 +9,7 @@ use Rattle.tcc_maps.specs.Masks.{mask_of}
 use Rattle.tcc_maps.specs.Shape.{Shape, home, lines}
 use Rattle.tcc_maps.specs.Cache.{Cache, is_modified, modified_mask, writes_at}
 use Rattle.tcc_maps.specs.Spilled.{Spilled, holds}
-use Rattle.tcc_maps.proofs.Numbers.{any_below-found, any_below-at}
+use Rattle.tcc_maps.proofs.Lemmas.{any_below-found, any_below-at}
 use Rattle.tcc_rules.specs.Commit.{is_written, written_mask, solo_writes_at}
 use Rattle.tcc_serial.specs.OneCore.{Words}
 use Rattle.tcc_serial.specs.Stored.{stores_in, stored_mask, stores_at}

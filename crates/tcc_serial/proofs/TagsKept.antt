@@ -9,7 +9,7 @@ use Rattle.tcc_maps.specs.Words.{num, any_word}
 use Rattle.tcc_maps.specs.Lines.{has_mark, no_lines}
 use Rattle.tcc_maps.specs.Nodes.{Core, Dir, Msg, Event}
 use Rattle.tcc_maps.specs.Shape.{Shape, home, lines}
-use Rattle.tcc_maps.proofs.Numbers.{any_below-at}
+use Rattle.tcc_maps.proofs.Lemmas.{any_below-at}
 use Rattle.tcc_rules.specs.State.{DirState, World, start, dir_start}
 use Rattle.tcc_rules.specs.Links.{in_flight}
 use Rattle.tcc_rules.specs.Sends.{Sends}

@@ -6,7 +6,7 @@ use Rattle.std.proofs.lemmas.Bool.Decides.{nat_tests}
 use Rattle.tcc_program.specs.Program.{Local}
 use Rattle.tcc_maps.specs.Serving.{first_serving}
 use Rattle.tcc_maps.specs.Lines.{no_lines}
-use Rattle.tcc_maps.proofs.Serving.{first-skips}
+use Rattle.tcc_maps.proofs.Lemmas.{first-skips}
 use Rattle.tcc_maps.specs.Words.{num}
 use Rattle.tcc_maps.specs.Nodes.{Core, Dir, Vendor, Msg, TidReq, TidGrant}
 use Rattle.tcc_maps.specs.Shape.{Shape}

@@ -9,8 +9,7 @@ use Rattle.tcc_maps.specs.Masks.{hit}
 use Rattle.tcc_maps.specs.Lines.{has_mark}
 use Rattle.tcc_maps.specs.Nodes.{Core, Dir, Msg}
 use Rattle.tcc_maps.specs.Shape.{Shape, home, lines}
-use Rattle.tcc_maps.proofs.Masks.{has-mask_of}
-use Rattle.tcc_maps.proofs.Numbers.{any_below-at}
+use Rattle.tcc_maps.proofs.Lemmas.{has-mask_of, any_below-at}
 use Rattle.tcc_rules.specs.State.{DirState, World}
 use Rattle.tcc_rules.specs.Links.{in_flight}
 use Rattle.tcc_rules.specs.DirDeliver.{is_invalidated, invs_to, invalidations}

@@ -32,7 +32,7 @@ use Rattle.tcc_serial.proofs.ViewFacts.{bound-own, few-doom, solo-undoomed, IsSe
 use Rattle.tcc_serial.proofs.ViewPairs.{ViewOf, view-empty, view-moves, view-takes, view-grants, view-other, view-given}
 use Rattle.tcc_serial.proofs.ViewSteps.{put-own, near-put}
 use Rattle.tcc_serial.proofs.ViewValues.{value-bounded, listed-below, word-next}
-use Rattle.tcc_attempt.proofs.MarksDeliver.{hit-line, hit-reads}
+use Rattle.tcc_attempt.proofs.Lemmas.{hit-line, hit-reads}
 
 -- a grant
 

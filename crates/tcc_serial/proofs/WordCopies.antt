@@ -7,7 +7,7 @@ use Rattle.tcc_maps.specs.Masks.{has, hit}
 use Rattle.tcc_maps.specs.Nodes.{Msg, TidReq, TidGrant, LoadReq, Fill, Skip, Probe, ProbeReply, Mark, Commit, Abort, WriteBack, Flush, DataReq, Inv, InvAck}
 use Rattle.tcc_maps.specs.Shape.{Shape}
 use Rattle.tcc_maps.specs.Cache.{Cache, IsCache, is_dirty, dirty_tag, dirty_mask}
-use Rattle.tcc_maps.proofs.Masks.{has-mask_of}
+use Rattle.tcc_maps.proofs.Lemmas.{has-mask_of}
 use Rattle.tcc_rules.specs.State.{Link}
 use Rattle.tcc_serial.specs.Copies.{copies_with}
 use Rattle.tcc_serial.specs.Count.{CopyOf, CopyMask, CopyWord, CopyNot, live, among, passes}

@@ -8,7 +8,7 @@ use Rattle.tcc_maps.specs.Masks.{has, hit}
 use Rattle.tcc_maps.specs.Nodes.{Dir, Msg, WriteBack, Flush}
 use Rattle.tcc_maps.specs.Shape.{Shape, home}
 use Rattle.tcc_maps.specs.Cache.{Cache, IsCache, is_dirty, dirty_tag, dirty_mask, dirty_words, dirty_copy}
-use Rattle.tcc_maps.proofs.Masks.{has-mask_of}
+use Rattle.tcc_maps.proofs.Lemmas.{has-mask_of}
 use Rattle.tcc_rules.specs.State.{CoreState}
 use Rattle.tcc_rules.specs.Attempt.{Out}
 use Rattle.tcc_rules.specs.Sends.{to, flush, write_back, flushed, written_back}

@@ -10,14 +10,13 @@ use Rattle.tcc_maps.specs.Shape.{Shape, set_of}
 use Rattle.tcc_maps.specs.Cache.{Cache, IsCache, free_way, is_marked}
 use Rattle.tcc_maps.specs.CacheChange.{marked, stored, placed, placed_at, filled, invalidated, cleaned, evicted, evicted_line, rolled_back, read_cleared, committed}
 use Rattle.tcc_maps.specs.Spilled.{Spilled, spill_line, holds}
-use Rattle.tcc_maps.proofs.Numbers.{any_below-at}
-use Rattle.tcc_maps.proofs.Caches.{marked-keeps, stored-keeps, placed-keeps, filled-keeps, invalidated-keeps, cleaned-keeps, evicted-keeps, rolled_back-keeps, read_cleared-keeps, committed-keeps}
+use Rattle.tcc_maps.proofs.Lemmas.{any_below-at, marked-keeps, stored-keeps, placed-keeps, filled-keeps, invalidated-keeps, cleaned-keeps, evicted-keeps, rolled_back-keeps, read_cleared-keeps, committed-keeps}
 use Rattle.tcc_serial.specs.Uses.{stores_word}
 use Rattle.tcc_serial.specs.OneCore.{Words}
 use Rattle.tcc_serial.proofs.UsedWords.{stores_word-append}
 use Rattle.tcc_serial.proofs.CoreSteps.{unmarked-word}
 use Rattle.tcc_maps.specs.Masks.{hit}
-use Rattle.tcc_attempt.proofs.Sound.{valid-held}
+use Rattle.tcc_attempt.proofs.Lemmas.{valid-held}
 
 -- a line of which nothing is spilled
 unspilled : (sp : Spilled) (l v : ℕ) → holds sp l ≡ false → line_of v ≡ l → is_some (sp v) ≡ true → ⊥

@@ -8,7 +8,7 @@ use Rattle.tcc_maps.specs.Words.{any_below, any_word, word_at}
 use Rattle.tcc_maps.specs.Nodes.{Dir, Msg, Event, TidReq, TidGrant, LoadReq, Fill, Skip, Probe, ProbeReply, Mark, Commit, Abort, WriteBack, Flush, DataReq, Inv, InvAck}
 use Rattle.tcc_maps.specs.Shape.{Shape, home, lines}
 use Rattle.tcc_maps.specs.Cache.{writes_at, reads_at, is_modified}
-use Rattle.tcc_maps.proofs.Numbers.{any_below-at, any_below-found}
+use Rattle.tcc_maps.proofs.Lemmas.{any_below-at, any_below-found}
 use Rattle.tcc_rules.specs.State.{CoreState, Awaited, DirState, Phase, Running, AwaitTid, DoomedTid, Probing, Ready, Overflowing, Solo, Halted, World}
 use Rattle.tcc_rules.specs.Attempt.{Out}
 use Rattle.tcc_rules.specs.Sends.{Sends}

@@ -1,3 +1,4 @@
 pub mod Files
 pub mod Holding
 pub mod Told
+pub mod Lemmas

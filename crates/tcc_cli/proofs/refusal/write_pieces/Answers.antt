@@ -1,7 +1,7 @@
 use Rattle.std.proofs.Common.{rules, inr}
 use Rattle.tcc_cli.proofs.Pieces.{cut_at, told_more, rose_before}
 use Rattle.tcc_cli.specs.Lines.{piece_text}
-use Rattle.tcc_world.proofs.Told.{appends-nothing}
+use Rattle.tcc_world.proofs.Lemmas.{appends-nothing}
 use Rattle.tcc_cli.proofs.refusal.write_pieces.Goals as goal
 
 pub loop-piece-init : goal.loop-piece-init

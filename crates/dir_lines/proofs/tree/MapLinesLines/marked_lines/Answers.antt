@@ -2,7 +2,7 @@ use Rattle.std.proofs.Common.{rules, ◌≡◌, ◌<◌, ◌≤◌, length, ap, 
 use Rattle.tcc_maps.specs.Words.{count_below}
 use Rattle.tcc_maps.specs.Shape.{lines}
 use Rattle.tcc_maps.specs.Lines.{has_mark}
-use Rattle.tcc_maps.proofs.Numbers.{length-those}
+use Rattle.tcc_maps.proofs.Lemmas.{length-those}
 use Rattle.dir_lines.specs.Record.{lines_of}
 use Rattle.dir_lines.specs.Filed.{filed_at}
 use Rattle.dir_lines.specs.FiledInside.{filed_of}
