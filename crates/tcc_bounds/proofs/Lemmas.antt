@@ -1,0 +1,5 @@
+-- What other crates may cite: the laws, and what a machine's code needs of them.
+pub use Rattle.tcc_bounds.proofs.After.{bounded_after, riscv_bounded_after, granted_most, link_short}
+pub use Rattle.tcc_bounds.proofs.Bounded.{runs_are_bounded}
+pub use Rattle.tcc_bounds.proofs.Ends.{Between, fits_out, fits_back}
+pub use Rattle.tcc_bounds.proofs.Riscv.{riscv_runs_are_bounded}

@@ -1,0 +1,12 @@
+pub mod After
+pub mod AtHome
+pub mod Bounded
+pub mod CoreKeeps
+pub mod Counted
+pub mod DirKeeps
+pub mod Ends
+pub mod Granted
+pub mod Lemmas
+pub mod Outside
+pub mod Riscv
+pub mod Steps
