@@ -1,0 +1,3 @@
+mod EachLine
+mod Numbers
+mod Words

@@ -1,0 +1,14 @@
+// The text of a schedule: one text for each well-formed schedule, and a reader that accepts no other spelling.
+#![tactic(auto)]
+
+mod fault;
+mod fields;
+mod laws;
+mod lines;
+mod reading;
+mod writing;
+
+pub use fault::TextFault;
+pub use laws::{texts_tell_schedules_apart, the_first_fault_is_one};
+pub use reading::read;
+pub use writing::write;

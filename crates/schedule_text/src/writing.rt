@@ -1,0 +1,105 @@
+// Writing a text: each line appended to what stands before it. Where memory runs out, a part of a line may stand at the end.
+ghost use Rattle.std.specs.Prelude.{◌≡◌, ◌++◌, OnOk, IfOk, string_bytes};
+ghost use Rattle.std.specs.List.{flat_map};
+ghost use Rattle.schedule_text.specs.WellFormed.{IsWellFormed};
+ghost use Rattle.schedule_text.specs.Grammar.{version_of, version_line, config_line, node_word, event_line, end_line, text_of};
+
+use crate::lines::version_needed;
+use std::alloc::{AllocError, Global};
+use tcc_base::{Config, NoMemory, NodeId};
+use tcc_msg::{Event, Name, Schedule};
+
+#[tactic(auto, unfolding(crate::specs::Grammar::version_line))]
+fn push_version(text: &mut String, version: u64) -> Result<(), AllocError>
+    ensures { OnOk result (string_bytes text.new ≡ string_bytes text.old ++ version_line version) }
+{
+    write!(text, "tcc-schedule {version}\n")
+}
+
+#[tactic(auto, unfolding(crate::specs::Grammar::config_line))]
+fn push_config(text: &mut String, config: &Config) -> Result<(), AllocError>
+    ensures { OnOk result (string_bytes text.new ≡ string_bytes text.old ++ config_line config.now) }
+{
+    let ram = 4 * config.words();
+    write!(
+        text,
+        "cores {} dirs {} sets {} ways {} base {} ram {ram}\n",
+        config.cores(),
+        config.dirs(),
+        config.sets(),
+        config.ways(),
+        config.base()
+    )
+}
+
+#[tactic(auto, unfolding(crate::specs::Grammar::node_word))]
+fn push_node(text: &mut String, node: NodeId) -> Result<(), AllocError>
+    ensures { OnOk result (string_bytes text.new ≡ string_bytes text.old ++ node_word node) }
+{
+    match node {
+        NodeId::Core(core) => write!(text, "c{}", core.0),
+        NodeId::Dir(dir) => write!(text, "d{}", dir.0),
+        NodeId::Vendor => text.push_str("v"),
+    }
+}
+
+#[tactic(auto, unfolding(crate::specs::Grammar::event_line))]
+fn push_deliver(text: &mut String, name: &Name) -> Result<(), AllocError>
+    ensures { OnOk result (string_bytes text.new ≡ string_bytes text.old ++ event_line (Event.Deliver name.now)) }
+{
+    text.push_str("d ")?;
+    push_node(text, name.src)?;
+    text.push_str(" ")?;
+    push_node(text, name.dst)?;
+    write!(text, " {}\n", name.seq)
+}
+
+#[tactic(auto, unfolding(crate::specs::Grammar::event_line))]
+fn push_event(text: &mut String, event: &Event) -> Result<(), AllocError>
+    ensures { OnOk result (string_bytes text.new ≡ string_bytes text.old ++ event_line event.now) }
+{
+    match event {
+        Event::Exec(core) => write!(text, "e {}\n", core.0),
+        Event::Evict(core, set, way) => write!(text, "x {} {set} {way}\n", core.0),
+        Event::Deliver(name) => push_deliver(text, name),
+    }
+}
+
+fn push_events(text: &mut String, events: &[Event]) -> Result<(), AllocError>
+    ensures { OnOk result (string_bytes text.new ≡ string_bytes text.old ++ flat_map event_line events.now) }
+{
+    for event in events {
+        push_event(text, event)?;
+    }
+    Ok(())
+}
+
+#[tactic(auto, unfolding(crate::specs::Grammar::end_line))]
+fn push_end(text: &mut String, count: usize) -> Result<(), AllocError>
+    ensures { OnOk result (string_bytes text.new ≡ string_bytes text.old ++ end_line count) }
+{
+    write!(text, "end {count}\n")
+}
+
+fn text_or_error(alloc: Global, s: &Schedule) -> Result<String, AllocError>
+    ensures { IfOk result (λ text. string_bytes text ≡ text_of s.now) }
+{
+    let mut text = String::new(alloc);
+    push_version(&mut text, version_needed(&s.config))?;
+    push_config(&mut text, &s.config)?;
+    push_events(&mut text, &s.events.items)?;
+    push_end(&mut text, s.events.items.len())?;
+    Ok(text)
+}
+
+/// The text of a well-formed schedule: its version, its settings, a line for each event, and their number. It takes time
+/// for each byte that it writes, and fails only for want of memory.
+pub fn write(alloc: Global, s: &Schedule) -> Result<Vec<u8>, NoMemory>
+    requires { IsWellFormed s.now }
+    ensures { IfOk result (λ text. text.items ≡ text_of s.now) }
+{
+    match text_or_error(alloc, s) {
+        Ok(text) => Ok(text.into_bytes()),
+        Err(_) => Err(NoMemory),
+    }
+}
