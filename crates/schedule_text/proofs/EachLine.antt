@@ -36,6 +36,21 @@ grouped : (c : Settings) (rest : List ℕ) → config_line c ++ rest ≡
 unfolding config_line
 grouped c rest = simp append_assoc
 
+line_parts : (c : Settings) → (codes "cores " ++ (decimal c.cores ++ (codes " dirs " ++ (decimal c.dirs ++ (codes " sets " ++ decimal c.sets)))))
+    ++ (codes " ways " ++ (decimal c.ways ++ (codes " base " ++ (decimal c.base ++ (codes " ram " ++ (decimal c.ram ++ newline)))))) ≡ config_line c
+unfolding config_line
+line_parts c = simp append_assoc
+
+-- the second line, in the two parts in which it is written
+pub line_from_parts : (c : Settings) (t0 t1 t2 : List ℕ)
+    → t1 ≡ t0 ++ (codes "cores " ++ (decimal c.cores ++ (codes " dirs " ++ (decimal c.dirs ++ (codes " sets " ++ decimal c.sets)))))
+    → t2 ≡ t1 ++ (codes " ways " ++ (decimal c.ways ++ (codes " base " ++ (decimal c.base ++ (codes " ram " ++ (decimal c.ram ++ newline))))))
+    → t2 ≡ t0 ++ config_line c
+line_from_parts c t0 t1 t2 first second =
+    let back : List ℕ = codes " ways " ++ (decimal c.ways ++ (codes " base " ++ (decimal c.base ++ (codes " ram " ++ (decimal c.ram ++ newline))))) in
+    let front : List ℕ = codes "cores " ++ (decimal c.cores ++ (codes " dirs " ++ (decimal c.dirs ++ (codes " sets " ++ decimal c.sets)))) in
+    second ∙ ap (λ (r : List ℕ). r ++ back) first ∙ append_assoc t0 front back ∙ ap (λ (r : List ℕ). t0 ++ r) (line_parts c)
+
 pub settings_again : (c : Settings) (rest : List ℕ) → IsAllowed c → settings_at (config_line c ++ rest) ≡ Some (c, rest)
 unfolding settings_at
 settings_again c rest allowed =

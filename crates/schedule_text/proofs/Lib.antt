@@ -1,3 +1,5 @@
 mod EachLine
+mod FirstLines
 mod Numbers
+mod Texts
 mod Words

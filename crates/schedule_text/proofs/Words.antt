@@ -1,6 +1,6 @@
 -- Words that stand in front of some bytes.
 use Rattle.std.proofs.Common.{◌≡◌, ◌≢◌, ℕ, List, [], ◌∷◌, ◌++◌, Option, Some, None, Bool, true, false, cond, eqb, refl, sym, ap, ◌∙◌, inl, inr, ◌⊎◌, Bor}
-use Rattle.std.specs.Prelude.{MatchOption}
+use Rattle.std.specs.Prelude.{MatchOption, OnOk, Result, Ok, Err}
 use Rattle.std.proofs.lemmas.Bool.{eqb-true, eq-eqb}
 use Rattle.schedule_text.specs.Reading.{Reads, word_at, ◌>>=◌}
 
@@ -40,3 +40,8 @@ pub word_reads : (word bytes : List ℕ) (r : Option (Bor (List ℕ)))
     → MatchOption r ((rest : List ℕ) → bytes ≢ word ++ rest) (λ x. bytes ≡ word ++ x.now) → Reads (λ x. x.now) r (word_at word bytes)
 word_reads word bytes None never = word_none word bytes never (word_at word bytes) refl
 word_reads word bytes (Some x) parts = rw parts (word_again word x.now)
+
+-- what follows from a clause on a call that succeeds
+pub on_ok_then : {A E : Type 0} (r : Result A E) (P Q : Type 0) → (P → Q) → OnOk r P → OnOk r Q
+on_ok_then (Ok x) P Q f p = f p
+on_ok_then (Err e) P Q f p = tt

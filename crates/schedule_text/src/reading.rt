@@ -20,13 +20,13 @@ fn header(bytes: &[u8]) -> Result<(Config, &[u8]), u64>
     let Some((version, rest)) = version(bytes) else {
         return Err(1);
     };
-    let Some((config, rest)) = config(rest) else {
+    let Some(found) = config(rest) else {
         return Err(2);
     };
-    if version_needed(&config) != version {
+    if version_needed(&found.0) != version {
         return Err(2);
     }
-    Ok((config, rest))
+    Ok(found)
 }
 
 /// The schedule with this text, or the first line that the grammar doesn't allow in its place, or want of memory. It gives only
@@ -51,9 +51,14 @@ pub fn read(alloc: Global, bytes: &[u8]) -> Result<Schedule, TextFault>
         rest = after;
     }
     let count = events.items.len() as u64;
-    match end(rest) {
-        Some((told, [])) if told == count => Ok(Schedule { config, events }),
-        Some((told, _)) if told == count => Err(TextFault::Line(count + 4)),
-        _ => Err(TextFault::Line(count + 3)),
+    let Some((told, after)) = end(rest) else {
+        return Err(TextFault::Line(count + 3));
+    };
+    if told != count {
+        return Err(TextFault::Line(count + 3));
     }
+    if !after.is_empty() {
+        return Err(TextFault::Line(count + 4));
+    }
+    Ok(Schedule { config, events })
 }

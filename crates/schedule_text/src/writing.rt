@@ -16,17 +16,28 @@ fn push_version(text: &mut String, version: u64) -> Result<(), AllocError>
     write!(text, "tcc-schedule {version}\n")
 }
 
+/// The bytes of RAM.
+fn ram_bytes(config: &Config) -> u32
+    ensures { result ≡ config.now.ram }
+{
+    4 * config.words()
+}
+
 #[tactic(auto, unfolding(crate::specs::Grammar::config_line))]
 fn push_config(text: &mut String, config: &Config) -> Result<(), AllocError>
     ensures { OnOk result (string_bytes text.new ≡ string_bytes text.old ++ config_line config.now) }
 {
-    let ram = 4 * config.words();
+    let ram = ram_bytes(config);
     write!(
         text,
-        "cores {} dirs {} sets {} ways {} base {} ram {ram}\n",
+        "cores {} dirs {} sets {}",
         config.cores(),
         config.dirs(),
-        config.sets(),
+        config.sets()
+    )?;
+    write!(
+        text,
+        " ways {} base {} ram {ram}\n",
         config.ways(),
         config.base()
     )
