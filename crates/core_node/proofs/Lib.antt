@@ -6,10 +6,13 @@ pub mod Cores
 pub mod Dropped
 pub mod Emptied
 pub mod Enabled
+pub mod Evictions
 pub mod Fetched
 pub mod Fetches
 pub mod Finished
 pub mod Handed
+pub mod Lemmas
+pub mod Listed
 pub mod Loaded
 pub mod Needed
 pub mod Placed
@@ -19,3 +22,4 @@ pub mod Steps
 pub mod Stored
 pub mod Unnoted
 pub mod Used
+pub mod Worlds

@@ -2,3 +2,4 @@ pub mod View
 pub mod Answers
 pub mod Executing
 pub mod Waiting
+pub mod Useful

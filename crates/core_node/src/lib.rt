@@ -17,6 +17,7 @@ mod node;
 mod rolling;
 mod state;
 mod storing;
+mod useful;
 mod waiting;
 
 pub use delivering::CoreError;

@@ -1,5 +1,5 @@
 // A core of the machine, with the calls by which it takes messages, empties frames and is looked at.
-ghost use Rattle.std.specs.Prelude.{◌≡◌, ◌<◌, IfOk, IsTrue, MatchOption, OnOk, OnErr, is_some, length, false, Some, None};
+ghost use Rattle.std.specs.Prelude.{◌≡◌, ◌<◌, IfOk, IsTrue, MatchOption, OnOk, OnErr, is_some, length, slice_get, false, Some, None};
 ghost use Rattle.tcc_maps.specs.Bridge.{node_of};
 ghost use Rattle.tcc_msg.specs.Plain.{msg_of};
 ghost use Rattle.tcc_rules.specs.CoreDeliver.{core_deliver};
@@ -9,11 +9,15 @@ ghost use Rattle.tcc_rules.specs.CoreEvict.{core_evict};
 ghost use Rattle.tcc_rules.specs.CoreExec.{core_exec};
 ghost use Rattle.tcc_rules.specs.Useful.{room};
 ghost use Rattle.tcc_rules.specs.State.{core_start};
+ghost use Rattle.tcc_maps.specs.Cache.{is_dirty};
+ghost use Rattle.tcc_maps.specs.Shape.{lines};
+ghost use Rattle.tcc_maps.specs.Words.{any_below};
 ghost use Rattle.spec_cache.specs.Held.{maps};
 ghost use Rattle.spec_cache.specs.Look.{Views};
 ghost use Rattle.commit_engine.specs.Engine.{phase_of, after_of};
 ghost use Rattle.rv_code.specs.Machine.{start_local};
 ghost use Rattle.core_node.specs.Executing.{Told};
+ghost use Rattle.core_node.specs.Useful.{useful_evicts as useful_pairs};
 ghost use Rattle.core_node.specs.View.{core_of, IsKnown, Stays};
 ghost use Rattle.core_node.specs.Answers.{Happened, IsBlocked};
 
@@ -21,6 +25,7 @@ use crate::delivering::{CoreError, from_dir, from_vendor};
 use crate::evicting::{can_evict, evict};
 use crate::exec::{Executed, exec, told};
 use crate::state::Core;
+use crate::useful::{useful_evict, useful_evicts};
 use crate::waiting::{can_exec, waits_for_room};
 use commit_engine::{DirSet, Phase};
 use overflow_buf::OverflowBuf;
@@ -163,6 +168,32 @@ impl CoreNode {
         ensures { result ≡ room self.now.config (program (started code.now)) (core_of self.now) }
     {
         waits_for_room(&self.core, code)
+    }
+
+    /// How many evictions are useful: those that the rules allow, where words leave the way or the core waits for room in its set.
+    /// The code is of the same machine. Takes no memory.
+    pub fn useful_evicts(&self, code: &Code) -> usize
+        requires { code.now.settings ≡ self.now.config }
+        ensures { result ≡ length (useful_pairs self.now.config (program (started code.now)) (core_of self.now)) }
+    {
+        useful_evicts(&self.core, code)
+    }
+
+    /// The set and way of the `k`-th useful eviction, from 0, in the order of set and way; None exactly where there are no more than
+    /// `k`. The code is of the same machine. Takes no memory.
+    pub fn useful_evict(&self, code: &Code, k: usize) -> Option<(u16, u8)>
+        requires { code.now.settings ≡ self.now.config }
+        ensures { result ≡ slice_get (useful_pairs self.now.config (program (started code.now)) (core_of self.now)) k }
+    {
+        useful_evict(&self.core, code, k)
+    }
+
+    /// Whether the cache has a dirty word, of which the home doesn't know yet. It takes constant time.
+    #[tactic(auto, unfolding(crate::specs::View::core_of))]
+    pub fn any_dirty(&self) -> bool
+        ensures { result ≡ any_below (is_dirty (core_of self.now).cache) (lines self.now.config) }
+    {
+        self.core.cache.any_dirty()
     }
 
     /// How far the core has come with its transaction.

@@ -104,3 +104,12 @@ fn a_transaction_ends_and_commits(rt: HostRuntime) -> Result<(), Fail> {
     assert_eq!(rt; out.list.as_slice(), sent.as_slice());
     Ok(())
 }
+
+#[test]
+fn an_empty_cache_has_no_useful_eviction(rt: HostRuntime) -> Result<(), Fail> {
+    // ecall
+    let (code, core) = begun(rt.alloc(), &[0x73, 0x00, 0x00, 0x00])?;
+    assert_eq!(rt; core.useful_evicts(&code), 0);
+    assert_eq!(rt; core.useful_evict(&code, 0), None);
+    Ok(())
+}
