@@ -1,11 +1,14 @@
 -- The home words while they are loaded line by line.
-use Rattle.std.proofs.Common.{◌≡◌, ℕ, zero, suc, ◌+◌, ◌/◌, ◌<◌, ◌≤◌, Bool, true, false, ◌&&◌, ◌==◌, eqb, nat_lt, if◌then◌else◌, List, get_or, refl, ap, sym, subst, ◌∙◌, arith}
+use Rattle.std.proofs.Common.{◌≡◌, ℕ, zero, suc, ◌+◌, ◌^◌, ◌<◌, ◌≤◌, Bool, true, false, ◌&&◌, ◌==◌, eqb, nat_lt, if◌then◌else◌, List}
+use Rattle.std.proofs.Common.{get_or, refl, ap, sym, subst, ◌∙◌, arith}
 use borrow.Author.Tests.{eqb-true, eqb-false, ltb-true}
 use Rattle.tcc_maps.specs.Words.{eight, word_at, line_of, place_of}
 use Rattle.tcc_maps.specs.Masks.{has, hit}
 use Rattle.tcc_maps.specs.Shape.{lines}
+use Rattle.dir_lines.specs.Home.{Home, IsAtHome}
 use Rattle.dir_lines.specs.Pages.{is_at_home}
 use Rattle.dir_lines.specs.Words.{Words, words_at, with_words}
+use Rattle.dir_lines.proofs.Lemmas.{is_at_home-true}
 
 eight-at : (f : ℕ → ℕ) (k : ℕ) → k < 8 → get_or (eight f) k 0 ≡ f k
 unfolding eight
@@ -18,6 +21,19 @@ eight-at f (suc (suc (suc (suc (suc zero))))) h = refl
 eight-at f (suc (suc (suc (suc (suc (suc zero)))))) h = refl
 eight-at f (suc (suc (suc (suc (suc (suc (suc zero))))))) h = refl
 eight-at f (suc (suc (suc (suc (suc (suc (suc (suc k)))))))) h = absurd (omega arith)
+
+-- what holds of each of the first eight
+pub all-eight : (f : ℕ → ℕ) (n : ℕ) → f 0 < n → f 1 < n → f 2 < n → f 3 < n → f 4 < n → f 5 < n → f 6 < n → f 7 < n
+    → (k : ℕ) → k < 8 → f k < n
+all-eight f n a b c d e i j l zero h = a
+all-eight f n a b c d e i j l (suc zero) h = b
+all-eight f n a b c d e i j l (suc (suc zero)) h = c
+all-eight f n a b c d e i j l (suc (suc (suc zero))) h = d
+all-eight f n a b c d e i j l (suc (suc (suc (suc zero)))) h = e
+all-eight f n a b c d e i j l (suc (suc (suc (suc (suc zero))))) h = i
+all-eight f n a b c d e i j l (suc (suc (suc (suc (suc (suc zero)))))) h = j
+all-eight f n a b c d e i j l (suc (suc (suc (suc (suc (suc (suc zero))))))) h = l
+all-eight f n a b c d e i j l (suc (suc (suc (suc (suc (suc (suc (suc k)))))))) h = absurd (omega arith)
 
 has-full : (k : ℕ) → k < 8 → has 255 k ≡ true
 unfolding has
@@ -63,3 +79,34 @@ loaded-all ram p n e h = λ i w. by w (nat_lt (line_of w) (lines p.place.shape))
     by : (w : ℕ) (b : Bool) → nat_lt (line_of w) (lines p.place.shape) ≡ b → words_at ram p w ≡ ram w
     by w true f = h w (omega (arith, ltb-true (line_of w) (lines p.place.shape) f))
     by w false f = rw f refl
+
+-- each word of the first n lines, where they are at home, is a number of 32 bits
+abbrev pub SmallBelow : (ram : ℕ → ℕ) (h : Home) (n : ℕ) → Type 0
+SmallBelow ram h n = (w : ℕ) → line_of w < n → IsAtHome h (line_of w) → ram w < 2 ^ 32
+
+-- one more line whose words are, and one that isn't at home
+pub small-here : (ram : ℕ → ℕ) (h : Home) (n : ℕ) → ((k : ℕ) → k < 8 → ram (word_at n k) < 2 ^ 32)
+    → SmallBelow ram h n → SmallBelow ram h (n + 1)
+small-here ram h n here below = λ w lt a. by w lt a (eqb n (line_of w)) refl
+  where
+    by : (w : ℕ) → line_of w < n + 1 → IsAtHome h (line_of w) → (b : Bool) → eqb n (line_of w) ≡ b → ram w < 2 ^ 32
+    by w lt a true f =
+        let same : n ≡ line_of w = eqb-true n (line_of w) f in
+        let own : word_at n (place_of w) ≡ w = omega arith in
+        rw (← own) (here (place_of w) (omega arith))
+    by w lt a false f = below w (omega (arith, eqb-false n (line_of w) f)) a
+
+pub small-away : (ram : ℕ → ℕ) (h : Home) (n : ℕ) → is_at_home h n ≡ false → SmallBelow ram h n → SmallBelow ram h (n + 1)
+small-away ram h n away below = λ w lt a. by w lt a (eqb (line_of w) n) refl
+  where
+    by : (w : ℕ) → line_of w < n + 1 → IsAtHome h (line_of w) → (b : Bool) → eqb (line_of w) n ≡ b → ram w < 2 ^ 32
+    by w lt a true f =
+        let same : is_at_home h n ≡ is_at_home h (line_of w) = ap (is_at_home h) (sym (eqb-true (line_of w) n f)) in
+        let home : is_at_home h (line_of w) ≡ true = is_at_home-true h (line_of w) a in
+        cc
+    by w lt a false f = below w (omega (arith, eqb-false (line_of w) n f)) a
+
+-- of all lines
+pub small-all : (ram : ℕ → ℕ) (h : Home) (n : ℕ) → lines h.shape ≤ n → SmallBelow ram h n
+    → (w : ℕ) → IsAtHome h (line_of w) → ram w < 2 ^ 32
+small-all ram h n all below = λ w a. below w (omega (arith, a.0)) a

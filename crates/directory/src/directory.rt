@@ -73,6 +73,7 @@ impl Directory {
         requires made_for { loaded.now.settings ≡ cfg.now }
         ensures place { IfOk result (λ d. d.lines.place ≡ record { shape = cfg.now; dir = id.0 }) }
         ensures start { IfOk result (λ d. dir_of (started loaded.now).word d ≡ dir_start (started loaded.now).word) }
+        ensures fits { IfOk result (λ d. (w : ℕ) → IsAtHome d.lines.place (line_number w) → (started loaded.now).word w < 2 ^ 32) }
     {
         let lines = DirLines::new(alloc, cfg, id)?;
         let mut words = HomeWords::new(alloc, cfg, id)?;

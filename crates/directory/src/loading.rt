@@ -1,6 +1,8 @@
 // The home words at the start: those that were loaded.
 ghost use Rattle.std.specs.Prelude.{◌≡◌, ℕ, ◌/◌, ◌^◌, ◌<◌};
 ghost use Rattle.tcc_maps.specs.Words.{eight, word_at};
+ghost use Rattle.tcc_maps.specs.Words.{line_of as line_number};
+ghost use Rattle.dir_lines.specs.Home.{IsAtHome};
 ghost use Rattle.dir_lines.specs.Words.{words_at};
 ghost use Rattle.image_load.specs.Contents.{started};
 
@@ -14,6 +16,7 @@ pub(crate) fn load_words(lines: &DirLines, words: &mut HomeWords, loaded: &Loade
     requires made_for { loaded.now.settings ≡ lines.now.place.shape }
     ensures place { words.new.place ≡ words.old.place }
     ensures words { words_at (started loaded.now).word words.new ≡ (started loaded.now).word }
+    ensures fits { (w : ℕ) → IsAtHome lines.now.place (line_number w) → (started loaded.now).word w < 2 ^ 32 }
 {
     for line in 0..lines.config().words() / 8 {
         if lines.has_line(LineAddr(line)) {
@@ -27,7 +30,8 @@ pub(crate) fn load_words(lines: &DirLines, words: &mut HomeWords, loaded: &Loade
 fn loaded_line(loaded: &Loaded, line: u32) -> [u32; 8]
     requires within { line < loaded.now.settings.ram / 32 }
     requires small { line < 2 ^ 24 }
-    ensures { result ≡ eight (λ k. (started loaded.now).word (word_at line k)) }
+    ensures words { result ≡ eight (λ k. (started loaded.now).word (word_at line k)) }
+    ensures fits { (k : ℕ) → k < 8 → (started loaded.now).word (word_at line k) < 2 ^ 32 }
 {
     let first = 8 * line;
     [
