@@ -72,6 +72,7 @@ impl Directory {
         requires exists { id.0 < cfg.now.dirs }
         requires made_for { loaded.now.settings ≡ cfg.now }
         ensures place { IfOk result (λ d. d.lines.place ≡ record { shape = cfg.now; dir = id.0 }) }
+        ensures words_place { IfOk result (λ d. d.words.place ≡ d.lines.place) }
         ensures start { IfOk result (λ d. dir_of (started loaded.now).word d ≡ dir_start (started loaded.now).word) }
         ensures fits { IfOk result (λ d. (w : ℕ) → IsAtHome d.lines.place (line_number w) → (started loaded.now).word w < 2 ^ 32) }
     {
