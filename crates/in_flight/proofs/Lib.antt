@@ -1,0 +1,10 @@
+-- The lemmas of this crate.
+pub mod Laid
+pub mod Finding
+pub mod Numbers
+pub mod Changing
+pub mod Placing
+pub mod Lanes
+pub mod Counts
+pub mod Flown
+pub mod Reading

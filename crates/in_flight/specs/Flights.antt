@@ -1,0 +1,78 @@
+-- The messages in flight of a machine: as the links of the rules, with a mark on each, and the list of those that are marked.
+use Rattle.std.specs.Prelude.{ℕ, ◌-◌, Bool, true, ◌==◌, ◌&&◌, ◌≡◌, List, [], ◌∷◌, ◌++◌, map, length, take, slice_index_or, slice_set, IsSome, Option, Some, None, false, if◌then◌else◌}
+use Rattle.std.specs.List.{flat_map, count_by, sum_by, All}
+use Rattle.tcc_base.specs.declared.names.NodeId.{NodeId}
+use Rattle.tcc_maps.specs.Words.{those}
+use Rattle.tcc_maps.specs.Nodes.{Node, Core, Dir, Vendor, Event, Deliver, node_eq}
+use Rattle.tcc_maps.specs.Bridge.{node_of}
+use Rattle.tcc_msg.specs.declared.msg.Msg.{Msg}
+use Rattle.tcc_rules.specs.State.{Link}
+use Rattle.tcc_rules.specs.Seen.{numbers}
+use Rattle.in_flight.specs.Lane.{Lane, message, is_marked, is_waiting}
+use Rattle.in_flight.specs.Places.{is_link, place}
+
+-- one lane for each pair of nodes, by source and then destination
+pub record Flights : Type 0 where
+  pub cores : ℕ
+  pub dirs : ℕ
+  pub lanes : List Lane
+
+-- the lane of a link; nothing where there is no such link
+abbrev pub lane_at : List Lane → Option ℕ → Lane
+lane_at ls None = []
+lane_at ls (Some i) = slice_index_or ls i []
+
+unfoldable pub lane : Flights → Node → Node → Lane
+lane f src dst = lane_at f.lanes (place f.cores f.dirs src dst)
+
+-- the links of the rules
+unfoldable pub net_of : Flights → Node → Node → Link
+net_of f src dst = map message (lane f src dst)
+
+-- the message of that number is in flight and may be delivered
+unfoldable pub is_ready : Flights → Node → Node → ℕ → Bool
+is_ready f src dst k = is_marked (slice_index_or (lane f src dst) k None)
+
+-- how many messages are in flight
+unfoldable pub flying : Flights → ℕ
+flying f = sum_by (count_by is_waiting) f.lanes
+
+-- the marks with that of one message changed
+unfoldable pub with_mark : (Node → Node → ℕ → Bool) → Node → Node → ℕ → Bool → Node → Node → ℕ → Bool
+with_mark f src dst k b s d j = if node_eq s src && (node_eq d dst && j == k) then b else f s d j
+
+-- all nodes, in their order
+unfoldable pub nodes_of : Flights → List Node
+nodes_of f = map Core (numbers f.cores) ++ (map Dir (numbers f.dirs) ++ Vendor ∷ [])
+
+-- the deliveries on one link that may happen, by rising number
+unfoldable pub ready_on : Flights → Node → Node → List Event
+ready_on f src dst = map (Deliver src dst) (those (is_ready f src dst) (length (net_of f src dst)))
+
+-- all deliveries that may happen, by source, destination and number
+unfoldable pub ready_list : Flights → List Event
+ready_list f = flat_map (λ src. flat_map (ready_on f src) (nodes_of f)) (nodes_of f)
+
+-- src has a link to the destination of each message
+abbrev pub HasLinks : Flights → Node → List (NodeId × Msg) → Type 0
+HasLinks f src sends = All (λ e. is_link f.cores f.dirs src (node_of e.0) ≡ true) sends
+
+-- one more message at the end of a lane, not marked
+abbrev pub and_sent : Option ℕ → Msg → List Lane → List Lane
+and_sent None m ls = ls
+and_sent (Some i) m ls = slice_set ls i (slice_index_or ls i [] ++ Some (record { msg = m; ready = false }) ∷ [])
+
+-- the last message of a lane taken back
+abbrev pub and_back : Option ℕ → List Lane → List Lane
+and_back None ls = ls
+and_back (Some i) ls = slice_set ls i (take (length (slice_index_or ls i []) - 1) (slice_index_or ls i []))
+
+-- the last message of a lane is in flight
+abbrev pub LastWaits : Option ℕ → List Lane → Type 0
+LastWaits None ls = ⊥
+LastWaits (Some i) ls = IsSome (slice_index_or (slice_index_or ls i []) (length (slice_index_or ls i []) - 1) None)
+
+-- the lanes after these messages from src
+unfoldable pub with_sent : (cores dirs : ℕ) → Node → List (NodeId × Msg) → List Lane → List Lane
+with_sent cs ds src [] ls = ls
+with_sent cs ds src (e ∷ es) ls = with_sent cs ds src es (and_sent (place cs ds src (node_of e.0)) e.1 ls)

@@ -1,0 +1,7 @@
+-- What the contracts of this crate cite.
+pub mod Lane
+pub mod Laid
+pub mod LaneInside
+pub mod Places
+pub mod Flights
+pub mod FlightsInside

@@ -1,0 +1,247 @@
+// The messages in flight of a machine, and which of them may be delivered.
+ghost use Rattle.std.specs.Prelude.{◌≡◌, ◌↔◌, ◌≤◌, ◌<◌, ℕ, false, [], length, replicate, slice_get, Option, Some, None, IsTrue, IsSome, IfOk, OnOk, OnErr, IfNone, IfSome, option_map, is_some};
+ghost use Rattle.tcc_maps.specs.Words.{those};
+ghost use Rattle.tcc_maps.specs.Nodes.{Node, Deliver};
+ghost use Rattle.tcc_maps.specs.Bridge.{node_of};
+ghost use Rattle.tcc_msg.specs.Plain.{msg_of, sends_of};
+ghost use Rattle.tcc_rules.specs.Links.{in_flight, sending, taking};
+
+use crate::grid::Grid;
+use crate::lane::Lane;
+use crate::sending::send_all;
+use std::alloc::Global;
+use std::marker::Model;
+use sum_tree::SumTree;
+use tcc_base::{NoMemory, NodeId};
+use tcc_msg::{Msg, Name, Outgoing};
+
+/// The messages in flight of a machine, each with a mark that says whether it may be delivered. There is a link from each core to
+/// each directory and to the vendor, and from each of these to each core. In a clause `net_of` makes of it the links of the rules, and
+/// `is_ready` the marks; only a message in flight is ever marked.
+///
+/// Messages are not copied. With n messages in flight on a link, a call that names one takes time that goes with the logarithm of n;
+/// `take` moves those behind it, and `ready_at` passes over those of one link. A change of a mark and `ready_at` take time that goes
+/// with the logarithm of the number of links. Only `new` and `send` take memory.
+#[derive(Debug, Drop)]
+pub struct InFlight {
+    grid: Grid,
+    lanes: Vec<Lane>,
+    ready: SumTree,
+    flying: u64,
+}
+
+impl Model for InFlight {
+    ghost use Rattle.in_flight.specs.Flights.{Flights};
+
+    ghost Value = { Flights };
+
+    ghost use Rattle.in_flight.specs.FlightsInside.{flights_of, IsFlights};
+
+    ghost view = { flights_of };
+
+    ghost invariant = { IsFlights };
+}
+
+impl InFlight {
+    ghost use Rattle.in_flight.specs.Flights.{lane, net_of, is_ready, with_mark, ready_list, HasLinks, flying};
+
+    /// Nothing was sent. Its time and memory go with the number of pairs of nodes.
+    pub fn new(alloc: Global, cores: u8, dirs: u8) -> Result<InFlight, NoMemory>
+        requires cores { cores ≤ 64 }
+        requires dirs { dirs ≤ 64 }
+        ensures cores { IfOk result (λ f. f.cores ≡ cores) }
+        ensures dirs { IfOk result (λ f. f.dirs ≡ dirs) }
+        ensures net { IfOk result (λ f. net_of f ≡ (λ src dst. [])) }
+        ensures ready { IfOk result (λ f. is_ready f ≡ (λ src dst k. false)) }
+    {
+        let grid = Grid { cores, dirs };
+        let pairs = grid.pairs();
+        Ok(InFlight {
+            grid,
+            lanes: empty_lanes(alloc, pairs)?,
+            ready: SumTree::new(alloc, pairs)?,
+            flying: 0,
+        })
+    }
+
+    /// The number of cores.
+    pub fn cores(&self) -> u8
+        ensures { result ≡ self.now.cores }
+    {
+        self.grid.cores
+    }
+
+    /// The number of directories.
+    pub fn dirs(&self) -> u8
+        ensures { result ≡ self.now.dirs }
+    {
+        self.grid.dirs
+    }
+
+    /// How many messages were sent on a link: 0 where there is no such link. It takes constant time.
+    pub fn sent(&self, src: NodeId, dst: NodeId) -> u64
+        ensures { result ≡ length (net_of self.now (node_of src) (node_of dst)) }
+    {
+        match self.lane(src, dst) {
+            Some(lane) => lane.sent(),
+            None => 0,
+        }
+    }
+
+    /// How many messages are in flight. It takes constant time.
+    pub fn len(&self) -> u64
+        ensures { result ≡ flying self.now }
+    {
+        self.flying
+    }
+
+    /// Whether no message is in flight. It takes constant time.
+    pub fn is_empty(&self) -> bool
+        ensures count { IsTrue result ↔ (flying self.now ≡ 0) }
+        ensures quiet { IsTrue result ↔ ((src dst : Node) (k : ℕ) → in_flight (net_of self.now) src dst k ≡ None) }
+    {
+        self.flying == 0
+    }
+
+    /// The message of that name; `None` exactly where it isn't in flight.
+    pub fn get(&self, name: Name) -> Option<&Msg>
+        ensures { option_map (λ m. msg_of m.now) result ≡ in_flight (net_of self.now) (node_of name.src) (node_of name.dst) name.seq }
+    {
+        let held = self.lane(name.src, name.dst)?.get(name.seq)?;
+        Some(&held.msg)
+    }
+
+    /// Whether the message of that name is in flight and marked.
+    pub fn is_ready(&self, name: Name) -> bool
+        ensures { result ≡ is_ready self.now (node_of name.src) (node_of name.dst) name.seq }
+    {
+        match self.lane(name.src, name.dst) {
+            Some(lane) => match lane.get(name.seq) {
+                Some(held) => held.ready,
+                None => false,
+            },
+            None => false,
+        }
+    }
+
+    /// Sends these messages from a node, in order, and takes them out of the list, whose memory is kept. They aren't marked. After
+    /// want of memory nothing is changed, neither here nor in the list. The time goes with their number.
+    pub fn send(&mut self, src: NodeId, out: &mut Outgoing) -> Result<(), NoMemory>
+        requires { HasLinks self.old (node_of src) out.old.list.items }
+        ensures cores { self.new.cores ≡ self.old.cores }
+        ensures dirs { self.new.dirs ≡ self.old.dirs }
+        ensures net { OnOk result (net_of self.new ≡ sending (net_of self.old) (node_of src) (sends_of out.old.list.items)) }
+        ensures ready { is_ready self.new ≡ is_ready self.old }
+        ensures emptied { OnOk result (out.new.list.items ≡ []) }
+        ensures unchanged { OnErr result (self.new ≡ self.old) }
+        ensures kept { OnErr result (out.new.list.items ≡ out.old.list.items) }
+    {
+        let more = out.len() as u64;
+        if self.flying > u64::MAX - more {
+            return Err(NoMemory);
+        }
+        send_all(self.grid, src, self.lanes.as_mut_slice(), out.list.as_slice())?;
+        self.flying += more;
+        out.clear();
+        Ok(())
+    }
+
+    /// Takes the message of that name out; `None` exactly where it isn't in flight, and then nothing is changed.
+    pub fn take(&mut self, name: Name) -> Option<Msg>
+        ensures given { option_map msg_of result ≡ in_flight (net_of self.old) (node_of name.src) (node_of name.dst) name.seq }
+        ensures cores { self.new.cores ≡ self.old.cores }
+        ensures dirs { self.new.dirs ≡ self.old.dirs }
+        ensures net { net_of self.new ≡ taking (net_of self.old) (node_of name.src) (node_of name.dst) name.seq }
+        ensures ready { is_ready self.new ≡ with_mark (is_ready self.old) (node_of name.src) (node_of name.dst) name.seq false }
+        ensures unchanged { IfNone result (self.new ≡ self.old) }
+    {
+        let at = self.grid.place(name.src, name.dst)?;
+        let held = self.lanes[at].take(name.seq)?;
+        self.flying -= 1;
+        if held.ready {
+            self.ready.set(at, self.ready.get(at) - 1);
+        }
+        Some(held.msg)
+    }
+
+    /// How many messages are in flight on a link. It takes constant time.
+    pub fn waiting(&self, src: NodeId, dst: NodeId) -> usize
+        ensures { let net = net_of self.now in
+            result ≡ length (those (λ k. is_some (in_flight net (node_of src) (node_of dst) k)) (length (net (node_of src) (node_of dst)))) }
+    {
+        match self.lane(src, dst) {
+            Some(lane) => lane.waiting(),
+            None => 0,
+        }
+    }
+
+    /// The i-th message in flight on a link by rising number, with its number; `None` exactly where there are no more than i. It
+    /// takes constant time.
+    pub fn waiting_at(&self, src: NodeId, dst: NodeId, i: usize) -> Option<(u64, &Msg)>
+        ensures number { let net = net_of self.now in option_map (λ p. p.0) result
+            ≡ slice_get (those (λ k. is_some (in_flight net (node_of src) (node_of dst) k)) (length (net (node_of src) (node_of dst)))) i }
+        ensures own { IfSome result (λ p. in_flight (net_of self.now) (node_of src) (node_of dst) p.0 ≡ Some (msg_of p.1.now)) }
+    {
+        let (seq, held) = self.lane(src, dst)?.waiting_at(i)?;
+        Some((seq, &held.msg))
+    }
+
+    /// Marks a message in flight, or takes its mark.
+    pub fn set_ready(&mut self, src: NodeId, dst: NodeId, seq: u64, ready: bool)
+        requires { IsSome (in_flight (net_of self.old) (node_of src) (node_of dst) seq) }
+        ensures cores { self.new.cores ≡ self.old.cores }
+        ensures dirs { self.new.dirs ≡ self.old.dirs }
+        ensures net { net_of self.new ≡ net_of self.old }
+        ensures ready { is_ready self.new ≡ with_mark (is_ready self.old) (node_of src) (node_of dst) seq ready }
+    {
+        if let Some(at) = self.grid.place(src, dst) {
+            let was = self.lanes[at].set_ready(seq, ready);
+            let count = self.ready.get(at);
+            if ready && !was {
+                self.ready.set(at, count + 1);
+            } else if was && !ready {
+                self.ready.set(at, count - 1);
+            }
+        }
+    }
+
+    /// How many messages are marked: all deliveries that may happen. It takes constant time.
+    pub fn ready_count(&self) -> usize
+        ensures count { result ≡ length (ready_list self.now) }
+        ensures only { (src dst : Node) (k : ℕ) → IsTrue (is_ready self.now src dst k) → IsSome (in_flight (net_of self.now) src dst k) }
+    {
+        self.ready.total() as usize
+    }
+
+    /// The name of the k-th marked message by source, destination and number; `None` exactly where there are no more than k.
+    pub fn ready_at(&self, k: usize) -> Option<Name>
+        ensures { option_map (λ n. Deliver (node_of n.src) (node_of n.dst) n.seq) result ≡ slice_get (ready_list self.now) k }
+    {
+        let (at, into) = self.ready.find(k as u64)?;
+        let seq = self.lanes[at].ready_at(into)?;
+        let (src, dst) = self.grid.ends(at);
+        Some(Name { src, dst, seq })
+    }
+
+    // The lane of a link.
+    fn lane(&self, src: NodeId, dst: NodeId) -> Option<&Lane>
+        ensures some { IfSome result (λ l. l.now ≡ lane self.now (node_of src) (node_of dst)) }
+        ensures none { IfNone result (lane self.now (node_of src) (node_of dst) ≡ []) }
+    {
+        let at = self.grid.place(src, dst)?;
+        Some(&self.lanes[at])
+    }
+}
+
+// So many lanes on which nothing was sent.
+fn empty_lanes(alloc: Global, count: usize) -> Result<Vec<Lane>, NoMemory>
+    ensures { IfOk result (λ v. v.items ≡ replicate count []) }
+{
+    let mut lanes = Vec::new(alloc);
+    for _ in 0..count {
+        if lanes.push(Lane::new(alloc)).is_err() {
+            return Err(NoMemory);
+        }
+    }
+    Ok(lanes)
+}

@@ -1,0 +1,13 @@
+// The messages in flight of a machine, by link, each with a mark that says whether it may be delivered.
+#![tactic(auto)]
+
+mod flights;
+mod grid;
+mod lane;
+mod sending;
+#[cfg(test)]
+mod tests;
+
+pub use flights::InFlight;
+pub use grid::Grid;
+pub use lane::{Held, Lane, Waiting};
