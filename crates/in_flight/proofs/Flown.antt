@@ -13,7 +13,7 @@ abbrev pub with_lanes : ℕ → ℕ → List Lane → Flights
 with_lanes cs ds ls = record { cores = cs; dirs = ds; lanes = ls }
 
 -- the lane of the link that is named
-same-lane : (cs ds : ℕ) (ls : List Lane) (s0 d0 s d : Node) (i : ℕ) → place cs ds s0 d0 ≡ Some i → (node_eq s s0 && node_eq d d0) ≡ true → lane_at ls (place cs ds s d) ≡ get_or ls i []
+pub same-lane : (cs ds : ℕ) (ls : List Lane) (s0 d0 s d : Node) (i : ℕ) → place cs ds s0 d0 ≡ Some i → (node_eq s s0 && node_eq d d0) ≡ true → lane_at ls (place cs ds s d) ≡ get_or ls i []
 same-lane cs ds ls s0 d0 s d i at e =
     let t = and_parts (node_eq s s0) (node_eq d d0) e in
     ap (lane_at ls) ((λ k. place cs ds (node_eq-eq s s0 t.0 k) (node_eq-eq d d0 t.1 k)) ∙ at)

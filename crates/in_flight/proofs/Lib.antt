@@ -8,3 +8,5 @@ pub mod Lanes
 pub mod Counts
 pub mod Flown
 pub mod Reading
+pub mod Sends
+pub mod Behind

@@ -1,6 +1,6 @@
 // The messages in flight of a machine, and which of them may be delivered.
-ghost use Rattle.std.specs.Prelude.{◌≡◌, ◌↔◌, ◌≤◌, ◌<◌, ℕ, false, [], length, replicate, slice_get, Option, Some, None, IsTrue, IsSome, IfOk, OnOk, OnErr, IfNone, IfSome, option_map, is_some};
-ghost use Rattle.tcc_maps.specs.Words.{those};
+ghost use Rattle.std.specs.Prelude.{◌≡◌, ◌↔◌, ◌+◌, ◌-◌, ◌^◌, ◌≤◌, ◌<◌, ℕ, false, [], length, replicate, slice_get, slice_index, slice_set, Option, Some, None, IsTrue, IsSome, IfOk, OnOk, OnErr, IfNone, IfSome, option_map, is_some};
+ghost use Rattle.tcc_maps.specs.Words.{those, num};
 ghost use Rattle.tcc_maps.specs.Nodes.{Node, Deliver};
 ghost use Rattle.tcc_maps.specs.Bridge.{node_of};
 ghost use Rattle.tcc_msg.specs.Plain.{msg_of, sends_of};
@@ -158,9 +158,7 @@ impl InFlight {
         let at = self.grid.place(name.src, name.dst)?;
         let held = self.lanes[at].take(name.seq)?;
         self.flying -= 1;
-        if held.ready {
-            self.ready.set(at, self.ready.get(at) - 1);
-        }
+        count_mark(&mut self.ready, at, held.ready, false);
         Some(held.msg)
     }
 
@@ -196,12 +194,7 @@ impl InFlight {
     {
         if let Some(at) = self.grid.place(src, dst) {
             let was = self.lanes[at].set_ready(seq, ready);
-            let count = self.ready.get(at);
-            if ready && !was {
-                self.ready.set(at, count + 1);
-            } else if was && !ready {
-                self.ready.set(at, count - 1);
-            }
+            count_mark(&mut self.ready, at, was, ready);
         }
     }
 
@@ -230,6 +223,21 @@ impl InFlight {
     {
         let at = self.grid.place(src, dst)?;
         Some(&self.lanes[at])
+    }
+}
+
+// Counts one mark of a lane that was there before as it is now.
+fn count_mark(ready: &mut SumTree, at: usize, was: bool, now: bool)
+    requires place { at < length ready.old }
+    requires counted { num was ≤ slice_index ready.old at }
+    requires fits { slice_index ready.old at + num now - num was < 2 ^ 32 }
+    ensures { ready.new ≡ slice_set ready.old at (slice_index ready.old at + num now - num was) }
+{
+    let count = ready.get(at);
+    if now && !was {
+        ready.set(at, count + 1);
+    } else if was && !now {
+        ready.set(at, count - 1);
     }
 }
 

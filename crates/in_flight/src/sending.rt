@@ -20,13 +20,16 @@ pub fn send_all(grid: Grid, src: NodeId, lanes: &mut [Lane], sends: &[(NodeId, M
 {
     for i in 0..sends.len() {
         let (dst, msg) = sends[i];
-        if send_one(grid, src, dst, lanes, msg).is_err() {
-            let mut left = i;
-            while left > 0 {
-                left -= 1;
-                take_back(grid, src, sends[left].0, lanes);
+        match send_one(grid, src, dst, lanes, msg) {
+            Ok(()) => {}
+            Err(error) => {
+                let mut left = i;
+                while left > 0 {
+                    left -= 1;
+                    take_back(grid, src, sends[left].0, lanes);
+                }
+                return Err(error);
             }
-            return Err(NoMemory);
         }
     }
     Ok(())
