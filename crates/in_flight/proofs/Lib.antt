@@ -10,3 +10,4 @@ pub mod Flown
 pub mod Reading
 pub mod Sends
 pub mod Behind
+pub mod Taking

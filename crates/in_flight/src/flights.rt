@@ -230,7 +230,7 @@ impl InFlight {
 fn count_mark(ready: &mut SumTree, at: usize, was: bool, now: bool)
     requires place { at < length ready.old }
     requires counted { num was ≤ slice_index ready.old at }
-    requires fits { slice_index ready.old at + num now - num was < 2 ^ 32 }
+    requires fits { IsTrue now → slice_index ready.old at + 1 - num was < 2 ^ 32 }
     ensures { ready.new ≡ slice_set ready.old at (slice_index ready.old at + num now - num was) }
 {
     let count = ready.get(at);
