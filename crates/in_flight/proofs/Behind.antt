@@ -97,7 +97,7 @@ sent-link cs ds s (x ∷ es) ls laned links t e =
     let after : List Lane = and_sent (place cs ds s (node_of x.0)) x.1 ls in
     let l : Lane = lane_at ls (place cs ds t e) in
     let here : map message (lane_at after (place cs ds t e)) ≡ map message l ++ map message (if node_eq t s && node_eq e (node_of x.0) then unmarked x.1 ∷ [] else []) =
-        ap (map message) (one-lane cs ds s (node_of x.0) x.1 ls laned link t e) ∙ map-append message l (if node_eq t s && node_eq e (node_of x.0) then unmarked x.1 ∷ [] else []) in
+    ap (map message) (one-lane cs ds s (node_of x.0) x.1 ls laned link t e) ∙ map-append message l (if node_eq t s && node_eq e (node_of x.0) then unmarked x.1 ∷ [] else []) in
     sent-link cs ds s es after (one-laned cs ds s (node_of x.0) x.1 ls laned link) (All-tail P x es links) t e
     ∙ (ap (λ k. if node_eq t s then k ++ sent_all (sends_of es e) else k) here
     ∙ joined (node_eq t s) (node_eq e (node_of x.0)) (map message l) x.1 (sends_of es e))

@@ -120,13 +120,14 @@ backed n ws vs w l kept last e = by n refl
         let r : Rises 0 (suc m) (vs ++ w ∷ []) = subst (λ k. Rises 0 k (vs ++ w ∷ [])) z (subst (λ us. Rises 0 n us) e kept.rising) in
         let some : IsSome (held_at (vs ++ w ∷ []) m) = subst (λ us. IsSome (held_at us m)) e (subst (λ k. IsSome (held_at ws k)) two seen) in
         let own : w.seq ≡ m = last-seq 0 m vs w r some in
-        let view : laid (held_at (vs ++ w ∷ [])) (suc m) ≡ l = subst (λ k. laid (held_at (vs ++ w ∷ [])) k ≡ l) z (subst (λ us. laid (held_at us) n ≡ l) e kept.view) in
-        (omega arith,
-        rw (one, two) (record {
-          rising = subst (λ k. Rises 0 k vs) own (rises-front 0 (suc m) vs w r).0;
-          few = omega (arith, kept.few, count vs, ap length e);
-          view = laid-front (held_at (vs ++ w ∷ [])) (held_at vs) m (λ k lt. sym (held-push_other vs w k (λ f. omega (arith, f, own)))) ∙ ap (take m) view;
-        }))
+        let view : laid (held_at (vs ++ w ∷ [])) (suc m) ≡ l = subst (λ k. laid (held_at (vs ++ w ∷ [])) k ≡ l) z (subst (λ us. laid (held_at us) n ≡ l) e kept.view) in (
+          omega arith,
+          rw (one, two) (record {
+            rising = subst (λ k. Rises 0 k vs) own (rises-front 0 (suc m) vs w r).0;
+            few = omega (arith, kept.few, count vs, ap length e);
+            view = laid-front (held_at (vs ++ w ∷ [])) (held_at vs) m (λ k lt. sym (held-push_other vs w k (λ f. omega (arith, f, own)))) ∙ ap (take m) view;
+          }),
+        )
 
 pub backed-pop : (n : ℕ) (ws vs : List Waiting) (r : Option Waiting) (l : Lane) → Kept n ws l → IsSome (get_or l (length l - 1) None) → ws ≡ vs ++ option_to_list r
     → (0 < length ws → IsSome r) → (0 < n) × Kept (n - 1) vs (take (length l - 1) l)

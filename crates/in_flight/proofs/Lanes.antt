@@ -105,7 +105,7 @@ unfolding is_marked
 take-mark l k j =
     ⊎_elim (λ lt. mark-set l k j None lt)
     (λ le. ⊎_elim
-        (λ e. rw (eq-eqb j k e) (ap (λ m. is_marked (get_or m j None)) (set_past l k None le) ∙ ap is_marked (get_or_past l j None (omega arith))))
-        (λ ne. rw (ne_eqb j k ne) (ap (λ m. is_marked (get_or m j None)) (set_past l k None le)))
-        (cases_eq j k))
+    (λ e. rw (eq-eqb j k e) (ap (λ m. is_marked (get_or m j None)) (set_past l k None le) ∙ ap is_marked (get_or_past l j None (omega arith))))
+    (λ ne. rw (ne_eqb j k ne) (ap (λ m. is_marked (get_or m j None)) (set_past l k None le)))
+    (cases_eq j k))
     (cases_lt k (length l))

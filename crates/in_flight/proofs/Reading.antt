@@ -50,7 +50,7 @@ unfolding numbers_of
 waiting-numbers f s d l e =
     ap (numbers_of is_waiting) e
     ∙ (those-same (λ k. is_waiting (get_or (lane f s d) k None)) (λ k. is_some (in_flight (net_of f) s d k)) (length (lane f s d))
-        (λ k h. waits (get_or (lane f s d) k None) ∙ ap is_some (sym (in-flight f s d k)))
+    (λ k h. waits (get_or (lane f s d) k None) ∙ ap is_some (sym (in-flight f s d k)))
     ∙ ap (those (λ k. is_some (in_flight (net_of f) s d k))) (sym (net-length f s d)))
 
 pub waiting-no_lane : (f : Flights) (s d : Node) → lane f s d ≡ [] → those (λ k. is_some (in_flight (net_of f) s d k)) (length (net_of f s d)) ≡ []

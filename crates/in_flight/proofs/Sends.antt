@@ -95,3 +95,7 @@ pub sent-one : (cs ds : ℕ) (s : Node) (es : List (NodeId × Msg)) (i : ℕ) (d
     → new ≡ and_sent (place cs ds s (node_of (get_or es i d).0)) (get_or es i d).1 lanes → new ≡ with_sent cs ds s (take (i + 1) es) ls
 sent-one cs ds s es i d ls lanes new h e f =
     f ∙ (ap (λ us. and_sent (place cs ds s (node_of (get_or es i d).0)) (get_or es i d).1 us) e ∙ sym (sent-more cs ds s es i d ls h))
+
+pub single : (cs ds : ℕ) (s : Node) (e : NodeId × Msg) (ls : List Lane) → with_sent cs ds s (e ∷ []) ls ≡ and_sent (place cs ds s (node_of e.0)) e.1 ls
+unfolding with_sent
+single cs ds s e ls = refl

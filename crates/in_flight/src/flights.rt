@@ -1,5 +1,5 @@
 // The messages in flight of a machine, and which of them may be delivered.
-ghost use Rattle.std.specs.Prelude.{◌≡◌, ◌↔◌, ◌+◌, ◌-◌, ◌^◌, ◌≤◌, ◌<◌, ℕ, false, [], length, replicate, slice_get, slice_index, slice_set, Option, Some, None, IsTrue, IsSome, IfOk, OnOk, OnErr, IfNone, IfSome, option_map, is_some};
+ghost use Rattle.std.specs.Prelude.{◌≡◌, ◌↔◌, ◌+◌, ◌-◌, ◌^◌, ◌≤◌, ◌<◌, ℕ, true, false, [], ◌∷◌, length, replicate, slice_get, slice_index, slice_set, Option, Some, None, IsTrue, IsSome, IfOk, OnOk, OnErr, IfNone, IfSome, option_map, is_some};
 ghost use Rattle.tcc_maps.specs.Words.{those, num};
 ghost use Rattle.tcc_maps.specs.Nodes.{Node, Deliver};
 ghost use Rattle.tcc_maps.specs.Bridge.{node_of};
@@ -8,12 +8,12 @@ ghost use Rattle.tcc_rules.specs.Links.{in_flight, sending, taking};
 
 use crate::grid::Grid;
 use crate::lane::Lane;
-use crate::sending::send_all;
+use crate::sending::send_one;
 use std::alloc::Global;
 use std::marker::Model;
 use sum_tree::SumTree;
 use tcc_base::{NoMemory, NodeId};
-use tcc_msg::{Msg, Name, Outgoing};
+use tcc_msg::{Msg, Name};
 
 /// The messages in flight of a machine, each with a mark that says whether it may be delivered. There is a link from each core to
 /// each directory and to the vendor, and from each of these to each core. In a clause `net_of` makes of it the links of the rules, and
@@ -21,7 +21,7 @@ use tcc_msg::{Msg, Name, Outgoing};
 ///
 /// Messages are not copied. With n messages in flight on a link, a call that names one takes time that goes with the logarithm of n;
 /// `take` moves those behind it, and `ready_at` passes over those of one link. A change of a mark and `ready_at` take time that goes
-/// with the logarithm of the number of links. Only `new` and `send` take memory.
+/// with the logarithm of the number of links. Only `new` and `push` take memory.
 #[derive(Debug, Drop)]
 pub struct InFlight {
     grid: Grid,
@@ -43,7 +43,8 @@ impl Model for InFlight {
 }
 
 impl InFlight {
-    ghost use Rattle.in_flight.specs.Flights.{lane, net_of, is_ready, with_mark, ready_list, HasLinks, flying};
+    ghost use Rattle.in_flight.specs.Flights.{lane, net_of, is_ready, with_mark, ready_list, flying};
+    ghost use Rattle.in_flight.specs.Places.{is_link};
 
     /// Nothing was sent. Its time and memory go with the number of pairs of nodes.
     pub fn new(alloc: Global, cores: u8, dirs: u8) -> Result<InFlight, NoMemory>
@@ -124,25 +125,36 @@ impl InFlight {
         }
     }
 
-    /// Sends these messages from a node, in order, and takes them out of the list, whose memory is kept. They aren't marked. After
-    /// want of memory nothing is changed, neither here nor in the list. The time goes with their number.
-    pub fn send(&mut self, src: NodeId, out: &mut Outgoing) -> Result<(), NoMemory>
-        requires { HasLinks self.old (node_of src) out.old.list.items }
+    /// Sends one message, behind the others on its link, marked or not. After want of memory nothing is changed. It takes time that
+    /// goes with the logarithm of the number of links, but for the growth of the link.
+    pub fn push(&mut self, src: NodeId, dst: NodeId, msg: Msg, ready: bool) -> Result<(), NoMemory>
+        requires { is_link self.old.cores self.old.dirs (node_of src) (node_of dst) ≡ true }
         ensures cores { self.new.cores ≡ self.old.cores }
         ensures dirs { self.new.dirs ≡ self.old.dirs }
-        ensures net { OnOk result (net_of self.new ≡ sending (net_of self.old) (node_of src) (sends_of out.old.list.items)) }
-        ensures ready { is_ready self.new ≡ is_ready self.old }
-        ensures emptied { OnOk result (out.new.list.items ≡ []) }
+        ensures net { OnOk result (net_of self.new ≡ sending (net_of self.old) (node_of src) (sends_of ((dst, msg) ∷ []))) }
+        ensures ready { OnOk result (is_ready self.new ≡ with_mark (is_ready self.old) (node_of src) (node_of dst) (length (net_of self.old (node_of src) (node_of dst))) ready) }
         ensures unchanged { OnErr result (self.new ≡ self.old) }
-        ensures kept { OnErr result (out.new.list.items ≡ out.old.list.items) }
     {
-        let more = out.len() as u64;
-        if self.flying > u64::MAX - more {
+        let seq = self.sent(src, dst);
+        self.put(src, dst, msg)?;
+        self.set_ready(src, dst, seq, ready);
+        Ok(())
+    }
+
+    // Sends one message without a mark.
+    fn put(&mut self, src: NodeId, dst: NodeId, msg: Msg) -> Result<(), NoMemory>
+        requires { is_link self.old.cores self.old.dirs (node_of src) (node_of dst) ≡ true }
+        ensures cores { self.new.cores ≡ self.old.cores }
+        ensures dirs { self.new.dirs ≡ self.old.dirs }
+        ensures net { OnOk result (net_of self.new ≡ sending (net_of self.old) (node_of src) (sends_of ((dst, msg) ∷ []))) }
+        ensures ready { is_ready self.new ≡ is_ready self.old }
+        ensures unchanged { OnErr result (self.new ≡ self.old) }
+    {
+        if self.flying == u64::MAX {
             return Err(NoMemory);
         }
-        send_all(self.grid, src, self.lanes.as_mut_slice(), out.list.as_slice())?;
-        self.flying += more;
-        out.clear();
+        send_one(self.grid, src, dst, self.lanes.as_mut_slice(), msg)?;
+        self.flying += 1;
         Ok(())
     }
 

@@ -35,7 +35,8 @@ impl Grid {
             (NodeId::Core(c), NodeId::Dir(d)) | (NodeId::Dir(d), NodeId::Core(c)) => {
                 c.0 < self.cores && d.0 < self.dirs
             }
-            (NodeId::Core(c), NodeId::Vendor) | (NodeId::Vendor, NodeId::Core(c)) => c.0 < self.cores,
+            (NodeId::Core(c), NodeId::Vendor) | (NodeId::Vendor, NodeId::Core(c)) => c.0
+                < self.cores,
             _ => false,
         }
     }

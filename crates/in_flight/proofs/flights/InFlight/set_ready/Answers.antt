@@ -39,7 +39,7 @@ set_ready-was-requires c =
     } in
     let at : place i.grid.cores i.grid.dirs s d ≡ Some c.in-Some.at = sym c.place.ensures ∙ c.in-Some.is in
     let e : c.index_mut.result.now ≡ get_or i.lanes.items c.in-Some.at [] =
-        get_or_read i.lanes.items c.in-Some.at c.index_mut.result.now (below i.grid.cores i.grid.dirs i.lanes.items i.ready i.flying s d c.in-Some.at stands at) c.index_mut.ensures.value [] in
+    get_or_read i.lanes.items c.in-Some.at c.index_mut.result.now (below i.grid.cores i.grid.dirs i.lanes.items i.ready i.flying s d c.in-Some.at stands at) c.index_mut.ensures.value [] in
     flies-held (with_lanes i.grid.cores i.grid.dirs i.lanes.items) s d c.args.seq c.index_mut.result.now (e ∙ sym (place-lane i.grid.cores i.grid.dirs i.lanes.items s d c.in-Some.at at))
     (subst (λ f. IsSome (in_flight (net_of f) s d c.args.seq)) (sym c.self.view_is) c.requires)
 
@@ -66,10 +66,10 @@ count_mark-requires-clause-counted c =
     } in
     let at : place i.grid.cores i.grid.dirs s d ≡ Some c.in-Some.at = sym c.place.ensures ∙ c.in-Some.is in
     let e : c.index_mut.result.now ≡ get_or i.lanes.items c.in-Some.at [] =
-        get_or_read i.lanes.items c.in-Some.at c.index_mut.result.now (below i.grid.cores i.grid.dirs i.lanes.items i.ready i.flying s d c.in-Some.at stands at) c.index_mut.ensures.value [] in
+    get_or_read i.lanes.items c.in-Some.at c.index_mut.result.now (below i.grid.cores i.grid.dirs i.lanes.items i.ready i.flying s d c.in-Some.at stands at) c.index_mut.ensures.value [] in
     let some : IsSome (get_or c.index_mut.result.now c.args.seq None) =
-        flies-held (with_lanes i.grid.cores i.grid.dirs i.lanes.items) s d c.args.seq c.index_mut.result.now (e ∙ sym (place-lane i.grid.cores i.grid.dirs i.lanes.items s d c.in-Some.at at))
-        (subst (λ f. IsSome (in_flight (net_of f) s d c.args.seq)) (sym c.self.view_is) c.requires) in
+    flies-held (with_lanes i.grid.cores i.grid.dirs i.lanes.items) s d c.args.seq c.index_mut.result.now (e ∙ sym (place-lane i.grid.cores i.grid.dirs i.lanes.items s d c.in-Some.at at))
+    (subst (λ f. IsSome (in_flight (net_of f) s d c.args.seq)) (sym c.self.view_is) c.requires) in
     rw c.set_ready-was.ensures.was (marked-counted i.grid.cores i.grid.dirs i.lanes.items i.ready i.flying s d c.in-Some.at c.args.seq c.index_mut.result.now c.args.ready stands at e some)
 
 pub count_mark-requires-clause-fits : goal.count_mark-requires-clause-fits
@@ -83,10 +83,10 @@ count_mark-requires-clause-fits c =
     } in
     let at : place i.grid.cores i.grid.dirs s d ≡ Some c.in-Some.at = sym c.place.ensures ∙ c.in-Some.is in
     let e : c.index_mut.result.now ≡ get_or i.lanes.items c.in-Some.at [] =
-        get_or_read i.lanes.items c.in-Some.at c.index_mut.result.now (below i.grid.cores i.grid.dirs i.lanes.items i.ready i.flying s d c.in-Some.at stands at) c.index_mut.ensures.value [] in
+    get_or_read i.lanes.items c.in-Some.at c.index_mut.result.now (below i.grid.cores i.grid.dirs i.lanes.items i.ready i.flying s d c.in-Some.at stands at) c.index_mut.ensures.value [] in
     let some : IsSome (get_or c.index_mut.result.now c.args.seq None) =
-        flies-held (with_lanes i.grid.cores i.grid.dirs i.lanes.items) s d c.args.seq c.index_mut.result.now (e ∙ sym (place-lane i.grid.cores i.grid.dirs i.lanes.items s d c.in-Some.at at))
-        (subst (λ f. IsSome (in_flight (net_of f) s d c.args.seq)) (sym c.self.view_is) c.requires) in
+    flies-held (with_lanes i.grid.cores i.grid.dirs i.lanes.items) s d c.args.seq c.index_mut.result.now (e ∙ sym (place-lane i.grid.cores i.grid.dirs i.lanes.items s d c.in-Some.at at))
+    (subst (λ f. IsSome (in_flight (net_of f) s d c.args.seq)) (sym c.self.view_is) c.requires) in
     let few = subst (λ l. count_by is_marked l < 4294967296) c.set_ready-was.ensures.marked c.set_ready-was.ensures.few in
     rw c.set_ready-was.ensures.was (marked-fits i.grid.cores i.grid.dirs i.lanes.items i.ready i.flying s d c.in-Some.at c.args.seq c.index_mut.result.now c.args.ready stands at e some few)
 
@@ -101,10 +101,10 @@ invariant_of-self c =
     } in
     let at : place i.grid.cores i.grid.dirs s d ≡ Some c.in-Some.at = sym c.place.ensures ∙ c.in-Some.is in
     let e : c.index_mut.result.now ≡ get_or i.lanes.items c.in-Some.at [] =
-        get_or_read i.lanes.items c.in-Some.at c.index_mut.result.now (below i.grid.cores i.grid.dirs i.lanes.items i.ready i.flying s d c.in-Some.at stands at) c.index_mut.ensures.value [] in
+    get_or_read i.lanes.items c.in-Some.at c.index_mut.result.now (below i.grid.cores i.grid.dirs i.lanes.items i.ready i.flying s d c.in-Some.at stands at) c.index_mut.ensures.value [] in
     let some : IsSome (get_or c.index_mut.result.now c.args.seq None) =
-        flies-held (with_lanes i.grid.cores i.grid.dirs i.lanes.items) s d c.args.seq c.index_mut.result.now (e ∙ sym (place-lane i.grid.cores i.grid.dirs i.lanes.items s d c.in-Some.at at))
-        (subst (λ f. IsSome (in_flight (net_of f) s d c.args.seq)) (sym c.self.view_is) c.requires) in
+    flies-held (with_lanes i.grid.cores i.grid.dirs i.lanes.items) s d c.args.seq c.index_mut.result.now (e ∙ sym (place-lane i.grid.cores i.grid.dirs i.lanes.items s d c.in-Some.at at))
+    (subst (λ f. IsSome (in_flight (net_of f) s d c.args.seq)) (sym c.self.view_is) c.requires) in
     let after = marked-stands i.grid.cores i.grid.dirs i.lanes.items i.ready i.flying s d c.in-Some.at c.args.seq c.index_mut.result.now c.args.ready stands at e some in
     let items = ap (λ l. set i.lanes.items c.in-Some.at l) c.set_ready-was.ensures.marked in
     let laned = subst (λ ls. Laned i.grid.cores i.grid.dirs ls) (sym items) after.laned in
@@ -129,7 +129,7 @@ returns-in-Some-clause-net c =
     } in
     let at : place i.grid.cores i.grid.dirs s d ≡ Some c.in-Some.at = sym c.place.ensures ∙ c.in-Some.is in
     let e : c.index_mut.result.now ≡ get_or i.lanes.items c.in-Some.at [] =
-        get_or_read i.lanes.items c.in-Some.at c.index_mut.result.now (below i.grid.cores i.grid.dirs i.lanes.items i.ready i.flying s d c.in-Some.at stands at) c.index_mut.ensures.value [] in
+    get_or_read i.lanes.items c.in-Some.at c.index_mut.result.now (below i.grid.cores i.grid.dirs i.lanes.items i.ready i.flying s d c.in-Some.at stands at) c.index_mut.ensures.value [] in
     rw (← c.self.view_is) (ap (λ l. net_of (with_lanes i.grid.cores i.grid.dirs (set i.lanes.items c.in-Some.at l))) c.set_ready-was.ensures.marked
     ∙ marked-net i.grid.cores i.grid.dirs i.lanes.items i.ready i.flying s d c.in-Some.at c.args.seq c.index_mut.result.now c.args.ready stands at e)
 
@@ -144,10 +144,10 @@ returns-in-Some-clause-ready c =
     } in
     let at : place i.grid.cores i.grid.dirs s d ≡ Some c.in-Some.at = sym c.place.ensures ∙ c.in-Some.is in
     let e : c.index_mut.result.now ≡ get_or i.lanes.items c.in-Some.at [] =
-        get_or_read i.lanes.items c.in-Some.at c.index_mut.result.now (below i.grid.cores i.grid.dirs i.lanes.items i.ready i.flying s d c.in-Some.at stands at) c.index_mut.ensures.value [] in
+    get_or_read i.lanes.items c.in-Some.at c.index_mut.result.now (below i.grid.cores i.grid.dirs i.lanes.items i.ready i.flying s d c.in-Some.at stands at) c.index_mut.ensures.value [] in
     let some : IsSome (get_or c.index_mut.result.now c.args.seq None) =
-        flies-held (with_lanes i.grid.cores i.grid.dirs i.lanes.items) s d c.args.seq c.index_mut.result.now (e ∙ sym (place-lane i.grid.cores i.grid.dirs i.lanes.items s d c.in-Some.at at))
-        (subst (λ f. IsSome (in_flight (net_of f) s d c.args.seq)) (sym c.self.view_is) c.requires) in
+    flies-held (with_lanes i.grid.cores i.grid.dirs i.lanes.items) s d c.args.seq c.index_mut.result.now (e ∙ sym (place-lane i.grid.cores i.grid.dirs i.lanes.items s d c.in-Some.at at))
+    (subst (λ f. IsSome (in_flight (net_of f) s d c.args.seq)) (sym c.self.view_is) c.requires) in
     rw (← c.self.view_is) (ap (λ l. is_ready (with_lanes i.grid.cores i.grid.dirs (set i.lanes.items c.in-Some.at l))) c.set_ready-was.ensures.marked
     ∙ marked-ready i.grid.cores i.grid.dirs i.lanes.items i.ready i.flying s d c.in-Some.at c.args.seq c.index_mut.result.now c.args.ready stands at e some)
 

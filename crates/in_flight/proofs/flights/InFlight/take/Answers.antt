@@ -75,7 +75,7 @@ returns-in_err-held-clause-given c =
     } in
     let at : place i.grid.cores i.grid.dirs s d ≡ Some c.in_ok-at.at = sym c.place.ensures ∙ c.in_ok-at.was in
     let e : c.index_mut.result.now ≡ get_or i.lanes.items c.in_ok-at.at [] =
-        get_or_read i.lanes.items c.in_ok-at.at c.index_mut.result.now (below i.grid.cores i.grid.dirs i.lanes.items i.ready i.flying s d c.in_ok-at.at stands at) c.index_mut.ensures.value [] in
+    get_or_read i.lanes.items c.in_ok-at.at c.index_mut.result.now (below i.grid.cores i.grid.dirs i.lanes.items i.ready i.flying s d c.in_ok-at.at stands at) c.index_mut.ensures.value [] in
     rw (← c.self.view_is, c.from_residual-in_err-held.ensures)
     (flown-none _ s d c.args.name.seq _ (e ∙ sym (place-lane i.grid.cores i.grid.dirs i.lanes.items s d c.in_ok-at.at at)) c.in_err-held.ensures.given)
 
@@ -90,7 +90,7 @@ returns-in_err-held-clause-net c =
     } in
     let at : place i.grid.cores i.grid.dirs s d ≡ Some c.in_ok-at.at = sym c.place.ensures ∙ c.in_ok-at.was in
     let e : c.index_mut.result.now ≡ get_or i.lanes.items c.in_ok-at.at [] =
-        get_or_read i.lanes.items c.in_ok-at.at c.index_mut.result.now (below i.grid.cores i.grid.dirs i.lanes.items i.ready i.flying s d c.in_ok-at.at stands at) c.index_mut.ensures.value [] in
+    get_or_read i.lanes.items c.in_ok-at.at c.index_mut.result.now (below i.grid.cores i.grid.dirs i.lanes.items i.ready i.flying s d c.in_ok-at.at stands at) c.index_mut.ensures.value [] in
     rw (← c.self.view_is) (ap (λ l. net_of (with_lanes i.grid.cores i.grid.dirs (set i.lanes.items c.in_ok-at.at l))) c.take.ensures.taken
     ∙ taken-net i.grid.cores i.grid.dirs i.lanes.items i.ready i.flying s d c.in_ok-at.at c.args.name.seq c.index_mut.result.now stands at e)
 
@@ -105,7 +105,7 @@ returns-in_err-held-clause-ready c =
     } in
     let at : place i.grid.cores i.grid.dirs s d ≡ Some c.in_ok-at.at = sym c.place.ensures ∙ c.in_ok-at.was in
     let e : c.index_mut.result.now ≡ get_or i.lanes.items c.in_ok-at.at [] =
-        get_or_read i.lanes.items c.in_ok-at.at c.index_mut.result.now (below i.grid.cores i.grid.dirs i.lanes.items i.ready i.flying s d c.in_ok-at.at stands at) c.index_mut.ensures.value [] in
+    get_or_read i.lanes.items c.in_ok-at.at c.index_mut.result.now (below i.grid.cores i.grid.dirs i.lanes.items i.ready i.flying s d c.in_ok-at.at stands at) c.index_mut.ensures.value [] in
     rw (← c.self.view_is) (ap (λ l. is_ready (with_lanes i.grid.cores i.grid.dirs (set i.lanes.items c.in_ok-at.at l))) c.take.ensures.taken
     ∙ taken-ready i.grid.cores i.grid.dirs i.lanes.items i.ready i.flying s d c.in_ok-at.at c.args.name.seq c.index_mut.result.now stands at e)
 
@@ -120,7 +120,7 @@ overflow_sub-self c =
     } in
     let at : place i.grid.cores i.grid.dirs s d ≡ Some c.in_ok-at.at = sym c.place.ensures ∙ c.in_ok-at.was in
     let e : c.index_mut.result.now ≡ get_or i.lanes.items c.in_ok-at.at [] =
-        get_or_read i.lanes.items c.in_ok-at.at c.index_mut.result.now (below i.grid.cores i.grid.dirs i.lanes.items i.ready i.flying s d c.in_ok-at.at stands at) c.index_mut.ensures.value [] in
+    get_or_read i.lanes.items c.in_ok-at.at c.index_mut.result.now (below i.grid.cores i.grid.dirs i.lanes.items i.ready i.flying s d c.in_ok-at.at stands at) c.index_mut.ensures.value [] in
     taken-flying i.grid.cores i.grid.dirs i.lanes.items i.ready i.flying s d c.in_ok-at.at c.args.name.seq c.index_mut.result.now c.in_ok-held.held stands at e c.in_ok-held.ensures.given
 
 pub count_mark-requires-clause-place : goal.count_mark-requires-clause-place
@@ -146,7 +146,7 @@ count_mark-requires-clause-counted c =
     } in
     let at : place i.grid.cores i.grid.dirs s d ≡ Some c.in_ok-at.at = sym c.place.ensures ∙ c.in_ok-at.was in
     let e : c.index_mut.result.now ≡ get_or i.lanes.items c.in_ok-at.at [] =
-        get_or_read i.lanes.items c.in_ok-at.at c.index_mut.result.now (below i.grid.cores i.grid.dirs i.lanes.items i.ready i.flying s d c.in_ok-at.at stands at) c.index_mut.ensures.value [] in
+    get_or_read i.lanes.items c.in_ok-at.at c.index_mut.result.now (below i.grid.cores i.grid.dirs i.lanes.items i.ready i.flying s d c.in_ok-at.at stands at) c.index_mut.ensures.value [] in
     taken-marked i.grid.cores i.grid.dirs i.lanes.items i.ready i.flying s d c.in_ok-at.at c.args.name.seq c.index_mut.result.now c.in_ok-held.held stands at e c.in_ok-held.ensures.given
 
 pub invariant_of-self-2 : goal.invariant_of-self-2
@@ -160,7 +160,7 @@ invariant_of-self-2 c =
     } in
     let at : place i.grid.cores i.grid.dirs s d ≡ Some c.in_ok-at.at = sym c.place.ensures ∙ c.in_ok-at.was in
     let e : c.index_mut.result.now ≡ get_or i.lanes.items c.in_ok-at.at [] =
-        get_or_read i.lanes.items c.in_ok-at.at c.index_mut.result.now (below i.grid.cores i.grid.dirs i.lanes.items i.ready i.flying s d c.in_ok-at.at stands at) c.index_mut.ensures.value [] in
+    get_or_read i.lanes.items c.in_ok-at.at c.index_mut.result.now (below i.grid.cores i.grid.dirs i.lanes.items i.ready i.flying s d c.in_ok-at.at stands at) c.index_mut.ensures.value [] in
     let after = taken-stands i.grid.cores i.grid.dirs i.lanes.items i.ready i.flying s d c.in_ok-at.at c.args.name.seq c.index_mut.result.now c.in_ok-held.held stands at e c.in_ok-held.ensures.given in
     let items = ap (λ l. set i.lanes.items c.in_ok-at.at l) c.take.ensures.taken in
     let laned = subst (λ ls. Laned i.grid.cores i.grid.dirs ls) (sym items) after.laned in
@@ -184,7 +184,7 @@ returns-clause-given c =
     } in
     let at : place i.grid.cores i.grid.dirs s d ≡ Some c.in_ok-at.at = sym c.place.ensures ∙ c.in_ok-at.was in
     let e : c.index_mut.result.now ≡ get_or i.lanes.items c.in_ok-at.at [] =
-        get_or_read i.lanes.items c.in_ok-at.at c.index_mut.result.now (below i.grid.cores i.grid.dirs i.lanes.items i.ready i.flying s d c.in_ok-at.at stands at) c.index_mut.ensures.value [] in
+    get_or_read i.lanes.items c.in_ok-at.at c.index_mut.result.now (below i.grid.cores i.grid.dirs i.lanes.items i.ready i.flying s d c.in_ok-at.at stands at) c.index_mut.ensures.value [] in
     rw (← c.self.view_is)
     (flown-some _ s d c.args.name.seq _ c.in_ok-held.held (e ∙ sym (place-lane i.grid.cores i.grid.dirs i.lanes.items s d c.in_ok-at.at at)) c.in_ok-held.ensures.given)
 
@@ -199,7 +199,7 @@ returns-clause-net c =
     } in
     let at : place i.grid.cores i.grid.dirs s d ≡ Some c.in_ok-at.at = sym c.place.ensures ∙ c.in_ok-at.was in
     let e : c.index_mut.result.now ≡ get_or i.lanes.items c.in_ok-at.at [] =
-        get_or_read i.lanes.items c.in_ok-at.at c.index_mut.result.now (below i.grid.cores i.grid.dirs i.lanes.items i.ready i.flying s d c.in_ok-at.at stands at) c.index_mut.ensures.value [] in
+    get_or_read i.lanes.items c.in_ok-at.at c.index_mut.result.now (below i.grid.cores i.grid.dirs i.lanes.items i.ready i.flying s d c.in_ok-at.at stands at) c.index_mut.ensures.value [] in
     rw (← c.self.view_is) (ap (λ l. net_of (with_lanes i.grid.cores i.grid.dirs (set i.lanes.items c.in_ok-at.at l))) c.take.ensures.taken
     ∙ taken-net i.grid.cores i.grid.dirs i.lanes.items i.ready i.flying s d c.in_ok-at.at c.args.name.seq c.index_mut.result.now stands at e)
 
@@ -214,6 +214,6 @@ returns-clause-ready c =
     } in
     let at : place i.grid.cores i.grid.dirs s d ≡ Some c.in_ok-at.at = sym c.place.ensures ∙ c.in_ok-at.was in
     let e : c.index_mut.result.now ≡ get_or i.lanes.items c.in_ok-at.at [] =
-        get_or_read i.lanes.items c.in_ok-at.at c.index_mut.result.now (below i.grid.cores i.grid.dirs i.lanes.items i.ready i.flying s d c.in_ok-at.at stands at) c.index_mut.ensures.value [] in
+    get_or_read i.lanes.items c.in_ok-at.at c.index_mut.result.now (below i.grid.cores i.grid.dirs i.lanes.items i.ready i.flying s d c.in_ok-at.at stands at) c.index_mut.ensures.value [] in
     rw (← c.self.view_is) (ap (λ l. is_ready (with_lanes i.grid.cores i.grid.dirs (set i.lanes.items c.in_ok-at.at l))) c.take.ensures.taken
     ∙ taken-ready i.grid.cores i.grid.dirs i.lanes.items i.ready i.flying s d c.in_ok-at.at c.args.name.seq c.index_mut.result.now stands at e)

@@ -17,5 +17,5 @@ pub returns : goal.returns
 returns c =
     let kept : Kept c.self.inside.sent c.self.inside.waiting.items c.args.self.now = record { rising = c.self.invariant.rising; few = c.self.invariant.few; view = c.self.view_is } in
     found-read _ _ _ c.args.seq c.in_ok-at.at c.index.result.now kept
-        (record { within = rw c.deref.ensures.value at c.in_ok-at.ensures.within; own = rw c.deref.ensures.value at c.in_ok-at.ensures.found })
-        c.index.ensures
+    (record { within = rw c.deref.ensures.value at c.in_ok-at.ensures.within; own = rw c.deref.ensures.value at c.in_ok-at.ensures.found })
+    c.index.ensures

@@ -27,16 +27,16 @@ unfolding is_marked
 returns-clause-was c =
     let kept : Kept c.self.inside.sent c.self.inside.waiting.items c.args.self.now = record { rising = c.self.invariant.rising; few = c.self.invariant.few; view = c.self.view_is } in
     let at : At c.self.inside.waiting.items c.args.seq c.in-Some.at =
-        record { within = rw c.deref.ensures.value at c.in-Some.ensures.within; own = rw c.deref.ensures.value at c.in-Some.ensures.found } in
+    record { within = rw c.deref.ensures.value at c.in-Some.ensures.within; own = rw c.deref.ensures.value at c.in-Some.ensures.found } in
     rw (found-held _ _ _ c.args.seq c.in-Some.at blank kept at) (rw c.as_mut_slice.ensures.value at (c.mark.ensures.was blank))
 
 pub invariant_of-self : goal.invariant_of-self
 invariant_of-self c =
     let kept : Kept c.self.inside.sent c.self.inside.waiting.items c.args.self.now = record { rising = c.self.invariant.rising; few = c.self.invariant.few; view = c.self.view_is } in
     let at : At c.self.inside.waiting.items c.args.seq c.in-Some.at =
-        record { within = rw c.deref.ensures.value at c.in-Some.ensures.within; own = rw c.deref.ensures.value at c.in-Some.ensures.found } in
+    record { within = rw c.deref.ensures.value at c.in-Some.ensures.within; own = rw c.deref.ensures.value at c.in-Some.ensures.found } in
     let items : (with_items c.self.inside.waiting c.mark.new.waiting).items ≡ set c.self.inside.waiting.items c.in-Some.at (record (get_or c.self.inside.waiting.items c.in-Some.at blank) { held = record (get_or c.self.inside.waiting.items c.in-Some.at blank).held { ready = c.args.ready } })
-        = with_items_is c.self.inside.waiting c.mark.new.waiting (omega (arith, c.mark.auto.waiting, c.as_mut_slice.ensures.len)) ∙ rw c.as_mut_slice.ensures.value at (c.mark.ensures.now blank) in
+    = with_items_is c.self.inside.waiting c.mark.new.waiting (omega (arith, c.mark.auto.waiting, c.as_mut_slice.ensures.len)) ∙ rw c.as_mut_slice.ensures.value at (c.mark.ensures.now blank) in
     let after = marked _ _ _ _ c.args.seq c.in-Some.at c.args.ready blank kept at items in
     record { rising = after.rising; few = after.few }
 
@@ -44,9 +44,9 @@ pub returns-clause-marked : goal.returns-clause-marked
 returns-clause-marked c =
     let kept : Kept c.self.inside.sent c.self.inside.waiting.items c.args.self.now = record { rising = c.self.invariant.rising; few = c.self.invariant.few; view = c.self.view_is } in
     let at : At c.self.inside.waiting.items c.args.seq c.in-Some.at =
-        record { within = rw c.deref.ensures.value at c.in-Some.ensures.within; own = rw c.deref.ensures.value at c.in-Some.ensures.found } in
+    record { within = rw c.deref.ensures.value at c.in-Some.ensures.within; own = rw c.deref.ensures.value at c.in-Some.ensures.found } in
     let items : (with_items c.self.inside.waiting c.mark.new.waiting).items ≡ set c.self.inside.waiting.items c.in-Some.at (record (get_or c.self.inside.waiting.items c.in-Some.at blank) { held = record (get_or c.self.inside.waiting.items c.in-Some.at blank).held { ready = c.args.ready } })
-        = with_items_is c.self.inside.waiting c.mark.new.waiting (omega (arith, c.mark.auto.waiting, c.as_mut_slice.ensures.len)) ∙ rw c.as_mut_slice.ensures.value at (c.mark.ensures.now blank) in
+    = with_items_is c.self.inside.waiting c.mark.new.waiting (omega (arith, c.mark.auto.waiting, c.as_mut_slice.ensures.len)) ∙ rw c.as_mut_slice.ensures.value at (c.mark.ensures.now blank) in
     let after = marked _ _ _ _ c.args.seq c.in-Some.at c.args.ready blank kept at items in
     after.view
 
@@ -54,8 +54,8 @@ pub returns-clause-few : goal.returns-clause-few
 returns-clause-few c =
     let kept : Kept c.self.inside.sent c.self.inside.waiting.items c.args.self.now = record { rising = c.self.invariant.rising; few = c.self.invariant.few; view = c.self.view_is } in
     let at : At c.self.inside.waiting.items c.args.seq c.in-Some.at =
-        record { within = rw c.deref.ensures.value at c.in-Some.ensures.within; own = rw c.deref.ensures.value at c.in-Some.ensures.found } in
+    record { within = rw c.deref.ensures.value at c.in-Some.ensures.within; own = rw c.deref.ensures.value at c.in-Some.ensures.found } in
     let items : (with_items c.self.inside.waiting c.mark.new.waiting).items ≡ set c.self.inside.waiting.items c.in-Some.at (record (get_or c.self.inside.waiting.items c.in-Some.at blank) { held = record (get_or c.self.inside.waiting.items c.in-Some.at blank).held { ready = c.args.ready } })
-        = with_items_is c.self.inside.waiting c.mark.new.waiting (omega (arith, c.mark.auto.waiting, c.as_mut_slice.ensures.len)) ∙ rw c.as_mut_slice.ensures.value at (c.mark.ensures.now blank) in
+    = with_items_is c.self.inside.waiting c.mark.new.waiting (omega (arith, c.mark.auto.waiting, c.as_mut_slice.ensures.len)) ∙ rw c.as_mut_slice.ensures.value at (c.mark.ensures.now blank) in
     let after = marked _ _ _ _ c.args.seq c.in-Some.at c.args.ready blank kept at items in
     subst (λ m. count_by is_marked m < 4294967296) (sym after.view) (few-kept _ _ _ after)

@@ -22,7 +22,7 @@ pub invariant_of-self : goal.invariant_of-self
 invariant_of-self c =
     let kept : Kept c.self.inside.sent c.self.inside.waiting.items c.args.self.now = record { rising = c.self.invariant.rising; few = c.self.invariant.few; view = c.self.view_is } in
     let at : At c.self.inside.waiting.items c.args.seq c.in_ok-at.at =
-        record { within = rw c.deref.ensures.value at c.in_ok-at.ensures.within; own = rw c.deref.ensures.value at c.in_ok-at.ensures.found } in
+    record { within = rw c.deref.ensures.value at c.in_ok-at.ensures.within; own = rw c.deref.ensures.value at c.in_ok-at.ensures.found } in
     let after = taken _ _ _ _ c.args.seq c.in_ok-at.at c.remove.result kept at c.remove.ensures.items in
     record { rising = after.rising; few = after.few }
 
@@ -30,12 +30,12 @@ pub returns-clause-given : goal.returns-clause-given
 returns-clause-given c =
     let kept : Kept c.self.inside.sent c.self.inside.waiting.items c.args.self.now = record { rising = c.self.invariant.rising; few = c.self.invariant.few; view = c.self.view_is } in
     let at : At c.self.inside.waiting.items c.args.seq c.in_ok-at.at =
-        record { within = rw c.deref.ensures.value at c.in_ok-at.ensures.within; own = rw c.deref.ensures.value at c.in_ok-at.ensures.found } in
+    record { within = rw c.deref.ensures.value at c.in_ok-at.ensures.within; own = rw c.deref.ensures.value at c.in_ok-at.ensures.found } in
     found-read _ _ _ c.args.seq c.in_ok-at.at c.remove.result kept at c.remove.ensures.value
 
 pub returns-clause-taken : goal.returns-clause-taken
 returns-clause-taken c =
     let kept : Kept c.self.inside.sent c.self.inside.waiting.items c.args.self.now = record { rising = c.self.invariant.rising; few = c.self.invariant.few; view = c.self.view_is } in
     let at : At c.self.inside.waiting.items c.args.seq c.in_ok-at.at =
-        record { within = rw c.deref.ensures.value at c.in_ok-at.ensures.within; own = rw c.deref.ensures.value at c.in_ok-at.ensures.found } in
+    record { within = rw c.deref.ensures.value at c.in_ok-at.ensures.within; own = rw c.deref.ensures.value at c.in_ok-at.ensures.found } in
     (taken _ _ _ _ c.args.seq c.in_ok-at.at c.remove.result kept at c.remove.ensures.items).view
