@@ -1,10 +1,9 @@
 -- What the readers of a cache answer: single frames, and ways counted by what they hold.
-use Rattle.std.proofs.Common.{ℕ, zero, suc, ◌+◌, ◌*◌, ◌/◌, ◌%◌, ◌<◌, ◌≤◌, ◌≡◌, Bool, true, false, not, cond, ◌&&◌, ◌||◌, inl, inr, length, get_or, Option, Some, None, is_some, nat_eq, refl, sym, ◌∙◌, ap, subst, arith, add-one}
+use Rattle.std.proofs.Common.{ℕ, zero, suc, ◌+◌, ◌*◌, ◌/◌, ◌%◌, ◌<◌, ◌≡◌, Bool, true, false, not, cond, ◌&&◌, ◌||◌, length, get_or, Option, Some, None, is_some, nat_eq, refl, sym, ◌∙◌, ap, subst, arith, add-one}
 use Rattle.std.specs.Option.{MatchOption}
 use Rattle.std.proofs.lemmas.Bool.{eqb-true}
-use Rattle.std.proofs.lemmas.Nat.{div_below}
 use Rattle.std.proofs.Math.Bool.{and-false}
-use Rattle.tcc_maps.specs.Words.{line_of, place_of, word_at, any_word, any_below, count_below}
+use Rattle.tcc_maps.specs.Words.{line_of, place_of, any_word, any_below, count_below}
 use Rattle.tcc_maps.specs.Masks.{has}
 use Rattle.tcc_maps.specs.Shape.{lines}
 use Rattle.tcc_maps.specs.Cache.{is_marked, is_modified, is_dirty, writes_at, keeps}
@@ -14,7 +13,7 @@ use Rattle.spec_cache.specs.declared.frame.FrameView.{FrameView}
 use Rattle.spec_cache.specs.Frame.{modified_in, dirty_in, line_in, holds_line, IsFrame, IsWay}
 use Rattle.spec_cache.specs.Held.{Held, IsHeld, IsWayOf, frame_of, maps}
 use Rattle.spec_cache.specs.Home.{written_in}
-use Rattle.spec_cache.specs.Useful.{writes_in, dirty_way, is_marked_frame, is_written_frame, useful_in}
+use Rattle.spec_cache.specs.Useful.{writes_in, dirty_way, is_marked_frame, useful_in}
 use Rattle.spec_cache.proofs.FrameList.{frame_of-found}
 use Rattle.spec_cache.proofs.FrameFound.{frame_of-way}
 use Rattle.spec_cache.proofs.Readings.{any_below-same, any-has, modified-at, line_of-word_at, is_dirty-frame, is_marked-frame, keeps-frame}

@@ -25,3 +25,4 @@ pub mod Tallied
 pub mod SetTallies
 pub mod TrackedKept
 pub mod UsefulSets
+pub mod UsefulCount

@@ -1,18 +1,16 @@
 -- What is counted of the ways, after one of them changed.
-use Rattle.std.proofs.Common.{ℕ, suc, zero, ◌+◌, ◌*◌, ◌%◌, ◌<◌, ◌≤◌, ◌≡◌, Bool, true, false, not, cond, ◌&&◌, inl, inr, List, [], ◌∷◌, length, get_or, set, map, replicate, Option, Some, None, is_some, nat_eq, refl, sym, ◌∙◌, ap, arith, length-set}
+use Rattle.std.proofs.Common.{ℕ, suc, zero, ◌+◌, ◌*◌, ◌%◌, ◌<◌, ◌≤◌, ◌≡◌, Bool, true, false, not, cond, ◌&&◌, inl, inr, List, [], ◌∷◌, length, get_or, set, map, replicate, Option, Some, None, is_some, nat_eq, refl, sym, ◌∙◌, ap, arith}
 use Rattle.std.specs.Option.{IfSome}
 use Rattle.std.specs.Bool.{MatchBool}
-use Rattle.std.proofs.lemmas.Bool.{false≢true, cases_eq, cases_lt, cases_Bool, eq-eqb, ne_eqb}
-use Rattle.std.proofs.lemmas.List.{map-set, length-replicate}
+use Rattle.std.proofs.lemmas.Bool.{false≢true, cases_lt, cases_Bool, eq-eqb, ne_eqb}
 use Rattle.tcc_base.specs.Settings.{Settings, IsAllowed}
-use Rattle.tcc_maps.specs.Words.{num, any_below, count_below}
+use Rattle.tcc_maps.specs.Words.{num, any_below}
 use Rattle.tcc_maps.proofs.Lemmas.{any_below-found, any_below-at}
 use Rattle.spec_cache.specs.declared.frame.FrameView.{FrameView}
 use Rattle.spec_cache.specs.Frame.{holds_line}
 use Rattle.spec_cache.specs.Home.{reads_in, written_in}
 use Rattle.spec_cache.specs.Useful.{writes_in, dirty_way}
-use Rattle.spec_cache.specs.Held.{Held}
-use Rattle.spec_cache.specs.Tracked.{count_ways, written_home, read_home, is_home, tag_of, IsTracked}
+use Rattle.spec_cache.specs.Tracked.{count_ways, written_home, read_home, is_home, tag_of}
 use Rattle.spec_cache.proofs.Counted.{count_below-head, count_below-none, count_below-within, count_below-at_most, any_below-count}
 use Rattle.spec_cache.proofs.Forms.{get_or-none}
 

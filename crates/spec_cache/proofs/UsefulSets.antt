@@ -1,27 +1,25 @@
 -- The useful ways, set by set.
-use Rattle.std.proofs.Common.{ℕ, suc, zero, ◌+◌, ◌-◌, ◌*◌, ◌/◌, ◌%◌, ◌<◌, ◌≤◌, ◌≡◌, Bool, true, false, not, cond, ◌&&◌, ◌||◌, inl, inr, length, get_or, Option, Some, None, is_some, nat_eq, refl, sym, ◌∙◌, ap, arith}
+use Rattle.std.proofs.Common.{ℕ, suc, zero, ◌+◌, ◌-◌, ◌*◌, ◌/◌, ◌%◌, ◌<◌, ◌≤◌, ◌≡◌, Bool, true, false, not, cond, ◌&&◌, ◌||◌, inl, inr, length, get_or, Option, Some, None, nat_eq, refl, sym, ◌∙◌, ap, arith}
 use Rattle.std.specs.Option.{option_map}
-use Rattle.std.proofs.lemmas.Bool.{false≢true, cases_eq, cases_Bool, or_parts, eq-eqb, ne_eqb}
+use Rattle.std.proofs.lemmas.Bool.{false≢true, cases_eq, or_parts, eq-eqb, ne_eqb}
 use Rattle.std.proofs.lemmas.Nat.{div-mul-add}
 use Rattle.std.proofs.Math.Nat.{mul-le-mul_right}
 use Rattle.tcc_maps.specs.Words.{count_below}
 use Rattle.tcc_maps.specs.CacheUse.{Wants, is_number, useful_ways}
 use Rattle.spec_cache.specs.declared.frame.FrameView.{FrameView}
-use Rattle.tcc_base.specs.declared.names.LineAddr.{LineAddr}
-use Rattle.spec_cache.specs.Useful.{line_number, useful_in}
+use Rattle.spec_cache.specs.Useful.{useful_in}
 use Rattle.spec_cache.specs.Held.{Held, IsHeld, maps}
 use Rattle.spec_cache.specs.PerSet.{count_set, idle_way, used_way, IsNthWay}
-use Rattle.spec_cache.specs.Tracked.{count_ways}
 use Rattle.spec_cache.proofs.Counted.{count_below-same, count_below-at_most, count_below-zero}
 use Rattle.spec_cache.proofs.Counts.{useful_counted, useful_nth, useful_more}
 
 -- the numbers below a sum
-count_below-plus : (p : ℕ → Bool) (m n : ℕ) → count_below p (m + n) ≡ count_below p m + count_below (λ j. p (m + j)) n
+pub count_below-plus : (p : ℕ → Bool) (m n : ℕ) → count_below p (m + n) ≡ count_below p m + count_below (λ j. p (m + j)) n
 unfolding count_below
 count_below-plus p m zero = let e : m + 0 ≡ m = omega arith in ap (count_below p) e ∙ omega arith
 count_below-plus p m (suc n) = let e : m + suc n ≡ suc (m + n) = omega arith in ap (count_below p) e ∙ (rw (count_below-plus p m n) (omega arith))
 
-next_row : (t n : ℕ) → (t + 1) * n ≡ t * n + n
+pub next_row : (t n : ℕ) → (t + 1) * n ≡ t * n + n
 next_row t n = grind arith
 
 -- ---- a frame
@@ -50,11 +48,11 @@ unfolding useful_in used_way idle_way
 plain-frame q t f a r = rw (a, r) (plain q.alone (nat_eq f.read.0 0) (nat_eq f.modified.0 0) (nat_eq f.dirty.0 0))
 
 module _ (h : Held) (s : IsHeld h) (q : Wants) where
-  abbrev in_way : ℕ → Bool
+  abbrev pub in_way : ℕ → Bool
   in_way i = useful_in q (i / h.config.ways) (get_or h.frames i None)
 
   -- a way of a set, by its number
-  at_set : (t y : ℕ) → y < h.config.ways → in_way (t * h.config.ways + y) ≡ useful_in q t (get_or h.frames (t * h.config.ways + y) None)
+  pub at_set : (t y : ℕ) → y < h.config.ways → in_way (t * h.config.ways + y) ≡ useful_in q t (get_or h.frames (t * h.config.ways + y) None)
   at_set t y b = ap (λ x. useful_in q x (get_or h.frames (t * h.config.ways + y) None)) (div-mul-add t h.config.ways y b)
 
   pub next_set : (t : ℕ) → count_below in_way ((t + 1) * h.config.ways) ≡ count_below in_way (t * h.config.ways) + count_set (useful_in q t) h t
@@ -83,22 +81,6 @@ module _ (h : Held) (s : IsHeld h) (q : Wants) where
       let before : count_below in_way i ≡ k =
       count_below-plus in_way (t * h.config.ways) y ∙ ap (λ x. count_below in_way (t * h.config.ways) + x) (count_below-same _ _ y (λ z l. at_set t z (omega (arith, l, n.exists))) ∙ n.before) ∙ c in
       (useful_more h s q i k inside here before, b, n.exists, useful_nth h s q i k inside here before)
-
-  -- where no line is awaited and no room is wanted
-  plain-way : q.room ≡ None → q.awaited ≡ None → (t : ℕ) (o : Option FrameView) → useful_in q t o ≡ cond q.alone (used_way o) (idle_way o)
-  plain-way r a t None = plain-none q t
-  plain-way r a t (Some f) = plain-frame q t f (ap (λ (o : Option ℕ). is_number o f.line.0) a) (ap (λ (o : Option ℕ). is_number o t) r)
-
-  pub plain-count : q.room ≡ None → q.awaited ≡ None → cond q.alone (count_ways used_way h.frames) (count_ways idle_way h.frames) ≡ length (useful_ways h.config q (maps h))
-  unfolding count_ways
-  plain-count r a = go q.alone refl ∙ sym (useful_counted h s q)
-    where
-      go : (b : Bool) → q.alone ≡ b →
-          cond b (count_below (λ i. used_way (get_or h.frames i None)) (length h.frames)) (count_below (λ i. idle_way (get_or h.frames i None)) (length h.frames)) ≡ count_below in_way (h.config.sets * h.config.ways)
-      go true e = ap (count_below (λ i. used_way (get_or h.frames i None))) s.filled_ways
-          ∙ count_below-same _ _ (h.config.sets * h.config.ways) (λ i l. sym (plain-way r a (i / h.config.ways) (get_or h.frames i None) ∙ (rw e refl)))
-      go false e = ap (count_below (λ i. idle_way (get_or h.frames i None))) s.filled_ways
-          ∙ count_below-same _ _ (h.config.sets * h.config.ways) (λ i l. sym (plain-way r a (i / h.config.ways) (get_or h.frames i None) ∙ (rw e refl)))
 
   -- a set of another line than the awaited one
   not_awaited : (o : Option ℕ) (l t : ℕ) → l % h.config.sets ≡ t → is_number (option_map (λ m. m % h.config.sets) o) t ≡ false → is_number o l ≡ false
@@ -135,8 +117,3 @@ pub set_whole : (t : Option FrameView → Bool) (h : Held) (s n w a : ℕ) → w
 unfolding count_set
 set_whole t h s n w a e f c =
     c ∙ ap (count_below (λ y. t (get_or h.frames (s * w + y) None))) (f ∙ e) ∙ ap (λ x. count_below (λ y. t (get_or h.frames (s * x + y) None)) h.config.ways) e
-
-pub plain_parts : (r : Option ℕ) (a : Option LineAddr) → (not (is_some r) && not (is_some a)) ≡ true → (r ≡ None) × (option_map line_number a ≡ None)
-plain_parts None None e = (refl, refl)
-plain_parts None (Some l) e = absurd (false≢true e)
-plain_parts (Some x) a e = absurd (false≢true e)

@@ -30,6 +30,19 @@ unfoldable pub tag_of : Option FrameView → ℕ
 tag_of None = 4294967295
 tag_of (Some f) = f.line.0
 
+-- frames of one line, with read, modified and dirty words alike: all that is counted of them is the same
+pub record IsAlike (f g : FrameView) : Type 0 where
+  pub line : f.line.0 ≡ g.line.0
+  pub read : (f.read.0 == 0) ≡ (g.read.0 == 0)
+  pub modified : (f.modified.0 == 0) ≡ (g.modified.0 == 0)
+  pub dirty : (f.dirty.0 == 0) ≡ (g.dirty.0 == 0)
+
+-- ways with frames that are alike
+abbrev pub AreAlike : Option FrameView → Option FrameView → Type 0
+AreAlike None p = ⊥
+AreAlike (Some f) None = ⊥
+AreAlike (Some f) (Some g) = IsAlike f g
+
 -- the tags are those of the ways, and the numbers say by home how many ways are written and read, how many are dirty, and by
 -- set how many may be emptied with use
 pub record IsTracked (h : Held) (ts ws rs : List ℕ) (n : ℕ) (i u : Counted) : Type 0 where

@@ -1,6 +1,6 @@
 -- What a way holds that counts: a line with modified words at home at a directory, dirty words, or words that leave it where
 -- it is emptied with use.
-use Rattle.std.specs.Prelude.{ℕ, Bool, false, not, ◌==◌, ◌&&◌, ◌||◌, Option, Some, None, is_some}
+use Rattle.std.specs.Prelude.{ℕ, ◌%◌, Bool, false, not, ◌==◌, ◌&&◌, ◌||◌, nat_lt, Option, Some, None, is_some, if◌then◌else◌}
 use Rattle.std.specs.Option.{option_map}
 use Rattle.tcc_base.specs.declared.names.LineAddr.{LineAddr}
 use Rattle.tcc_maps.specs.CacheUse.{Wants, is_number}
@@ -35,3 +35,26 @@ unfoldable pub useful_in : Wants → ℕ → Option FrameView → Bool
 useful_in q s None = false
 useful_in q s (Some f) =
     not (is_number q.awaited f.line.0 || (not q.alone && is_marked_frame f)) && (is_written_frame f || is_number q.room s)
+
+-- ---- the sets where what is wanted counts
+
+abbrev pub set_below : ℕ → Option ℕ → Option ℕ
+set_below sets None = None
+set_below sets (Some s) = if nat_lt s sets then Some s else None
+
+abbrev pub other_set : Option ℕ → Option ℕ → Option ℕ
+other_set first None = None
+other_set first (Some s) = if is_number first s then None else Some s
+
+-- the set where room is wanted, where it exists
+abbrev pub room_set : ℕ → Wants → Option ℕ
+room_set sets q = set_below sets q.room
+
+-- the set of the line that is awaited, where no room is wanted there
+abbrev pub line_set : ℕ → Wants → Option ℕ
+line_set sets q = other_set (room_set sets q) (option_map (λ l. l % sets) q.awaited)
+
+-- the number of a set, where there is one
+abbrev pub in_set : (ℕ → ℕ) → Option ℕ → ℕ
+in_set f None = 0
+in_set f (Some s) = f s

@@ -4,6 +4,7 @@ ghost use Rattle.tcc_maps.specs.Words.{num};
 ghost use Rattle.spec_cache.specs.Tracked.{is_home, written_home as home_written, read_home as home_read, tag_of};
 
 use crate::frame::FrameView;
+use crate::quotients::home_of;
 
 /// A number for each home, up to 64.
 pub(crate) type ByHome = [usize; 64];
@@ -18,7 +19,7 @@ pub(crate) fn written_home(way: &Option<FrameView>, dirs: u8) -> Option<u8>
         None => None,
         Some(frame) => {
             if frame.modified.0 != 0 {
-                Some((frame.line.0 % dirs as u32) as u8)
+                Some(home_of(frame.line.0, dirs))
             } else {
                 None
             }
@@ -36,7 +37,7 @@ pub(crate) fn read_home(way: &Option<FrameView>, dirs: u8) -> Option<u8>
         None => None,
         Some(frame) => {
             if frame.read.0 != 0 {
-                Some((frame.line.0 % dirs as u32) as u8)
+                Some(home_of(frame.line.0, dirs))
             } else {
                 None
             }

@@ -1,6 +1,7 @@
 // A core's speculative cache: frames by set and way, with marks for each word.
 #![tactic(auto)]
 
+mod alike;
 mod cache;
 mod frame;
 mod frames;
@@ -12,6 +13,7 @@ mod masks;
 mod noted;
 mod per_set;
 mod places;
+mod quotients;
 mod readers;
 mod set_frames;
 mod slots;

@@ -1,13 +1,13 @@
 // What a core asks of its cache between its changes: single frames, and what all frames hold together.
-ghost use Rattle.std.specs.Prelude.{◌≡◌, ◌<◌, ◌≤◌, ◌+◌, ◌*◌, ◌&&◌, ◌==◌, ℕ, Option, None, Some, MatchOption, OnOk, length, get_or, map};
+ghost use Rattle.std.specs.Prelude.{◌≡◌, ◌<◌, ◌≤◌, ◌+◌, ◌*◌, ◌&&◌, ◌==◌, ℕ, Option, None, Some, MatchOption, IfSome, OnOk, cond, length, get_or, map};
 ghost use Rattle.tcc_maps.specs.Words.{any_below, count_below};
 ghost use Rattle.tcc_maps.specs.Shape.{lines, home};
 ghost use Rattle.tcc_maps.specs.Cache.{keeps as keeps_word, is_marked as marked_line, is_modified as modified_line, is_dirty as dirty_line, writes_at as any_write, marks_by_home as every_mark};
 ghost use Rattle.tcc_maps.specs.CacheUse.{useful_ways};
 ghost use Rattle.spec_cache.specs.Held.{maps};
 ghost use Rattle.spec_cache.specs.Home.{mark_of};
-ghost use Rattle.spec_cache.specs.Useful.{wants_of, useful_in};
-ghost use Rattle.spec_cache.specs.PerSet.{count_set, IsNthWay};
+ghost use Rattle.spec_cache.specs.Useful.{wants_of, useful_in, in_set};
+ghost use Rattle.spec_cache.specs.PerSet.{count_set, idle_way, used_way, IsNthWay};
 
 use crate::cache::SpecCache;
 use crate::frames::{line_of_word, place_of_word};
@@ -93,27 +93,40 @@ impl SpecCache {
         self.frames.dirty_count() != 0
     }
 
-    /// How many ways may be emptied with use. Constant time where no line is awaited and no room is wanted, and else a step a set.
+    /// How many ways may be emptied with use. Takes a step a way of two sets at most.
     pub fn useful_count(&self, wants: Wants) -> usize
         ensures { result ≡ length (useful_ways self.now.config (wants_of wants) (maps self.now)) }
     {
-        if wants.is_plain() {
-            self.frames.useful_ways(wants.alone)
-        } else {
-            self.count_by_set(wants)
+        let sets = self.frames.config().sets();
+        let room = wants.room_set(sets);
+        let line = wants.line_set(sets);
+        let found = self.found_in(wants, room) + self.found_in(wants, line);
+        let counted = self.counted_in(wants.alone, room) + self.counted_in(wants.alone, line);
+        self.frames.useful_ways(wants.alone) + found - counted
+    }
+
+    /// How many ways of a set may be emptied with use, as its ways are; zero of no set.
+    fn found_in(&self, wants: Wants, set: Option<u16>) -> usize
+        requires { IfSome set (λ s. s < self.now.config.sets) }
+        ensures number { result ≡ in_set (λ s. count_set (useful_in (wants_of wants) s) self.now s) set }
+        ensures few { result ≤ 16 }
+    {
+        match set {
+            Some(set) => self.look_at_set(wants, set as usize),
+            None => 0,
         }
     }
 
-    /// The same, set by set.
-    fn count_by_set(&self, wants: Wants) -> usize
-        ensures { result ≡ length (useful_ways self.now.config (wants_of wants) (maps self.now)) }
+    /// How many ways of a set are counted as such; zero of no set.
+    fn counted_in(&self, alone: bool, set: Option<u16>) -> usize
+        requires { IfSome set (λ s. s < self.now.config.sets) }
+        ensures number { result ≡ in_set (λ s. cond alone (count_set used_way self.now s) (count_set idle_way self.now s)) set }
+        ensures few { result ≤ 16 }
     {
-        let sets = self.frames.config().sets() as usize;
-        let mut count = 0;
-        for set in 0..sets {
-            count += self.useful_in_set(wants, set);
+        match set {
+            Some(set) => self.frames.useful_in_set(alone, set as usize),
+            None => 0,
         }
-        count
     }
 
     /// The set and way of the `k`-th way that may be emptied with use, from 0, in the order of set and way; None exactly where
@@ -150,7 +163,8 @@ impl SpecCache {
     /// The same, way by way.
     fn look_at_set(&self, wants: Wants, set: usize) -> usize
         requires { set < self.now.config.sets }
-        ensures { result ≡ count_set (useful_in (wants_of wants) set) self.now set }
+        ensures number { result ≡ count_set (useful_in (wants_of wants) set) self.now set }
+        ensures few { result ≤ 16 }
     {
         let ways = self.frames.config().ways() as usize;
         let mut count = 0;

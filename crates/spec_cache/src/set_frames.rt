@@ -9,6 +9,7 @@ use crate::frame::{Change, FrameView};
 use crate::frames::Frames;
 use crate::noted::{all_written_in, change_at};
 use crate::places::Places;
+use crate::quotients::set_of;
 use crate::tracked::Tracked;
 use crate::ways::{Ways, is_marked};
 use std::alloc::Global;
@@ -94,7 +95,7 @@ impl Ways for SetFrames {
     fn find(&self, line: LineAddr) -> Option<(usize, FrameView)> {
         let cfg = self.ways.config();
         let ways = cfg.ways() as usize;
-        let first = (line.0 % cfg.sets() as u32) as usize * ways;
+        let first = set_of(line.0, cfg.sets()) as usize * ways;
         self.ways.find_in(first, first + ways, line)
     }
 

@@ -6,9 +6,11 @@ ghost use Rattle.spec_cache.specs.Useful.{writes_in, dirty_way};
 ghost use Rattle.spec_cache.specs.PerSet.{idle_way, used_way, count_set};
 ghost use Rattle.spec_cache.specs.Tracked.{count_ways};
 
+use crate::alike::alike;
 use crate::frame::FrameView;
 use crate::home_counts::{ByHome, one, read_home, recount, tag, written_home};
 use crate::per_set::PerSet;
+use crate::quotients::set_at;
 use crate::slots::{empty_ways, frame_for, no_tags};
 use crate::useful::{is_dirty, is_idle, is_used};
 use std::alloc::Global;
@@ -90,6 +92,10 @@ impl Tracked {
         requires { at < length self.old.frames }
         ensures { self.new ≡ record self.old { frames = set self.old.frames at frame } }
     {
+        if alike(&self.frames[at], &frame) {
+            self.frames[at] = frame;
+            return;
+        }
         let dirs = self.config.dirs();
         let old = self.way(at);
         recount(
@@ -103,7 +109,7 @@ impl Tracked {
             read_home(&frame, dirs),
         );
         self.dirty = self.dirty + one(is_dirty(&frame)) - one(is_dirty(&old));
-        let set = at / self.config.ways() as usize;
+        let set = set_at(at, self.config.ways());
         self.idle.shift(set, is_idle(&old), is_idle(&frame));
         self.used.shift(set, is_used(&old), is_used(&frame));
         self.tags[at] = tag(&frame);

@@ -1,9 +1,9 @@
 // Which ways of a cache may be emptied with use.
-ghost use Rattle.std.specs.Prelude.{◌≡◌, ◌<◌, ◌%◌, ◌&&◌, ◌||◌, not, is_some};
+ghost use Rattle.std.specs.Prelude.{◌≡◌, ◌<◌, ◌%◌, ◌&&◌, ◌||◌, not, Some, IfSome};
 ghost use Rattle.std.specs.Option.{option_map};
 ghost use Rattle.tcc_maps.specs.CacheUse.{is_number};
 ghost use Rattle.spec_cache.specs.PerSet.{idle_way, used_way};
-ghost use Rattle.spec_cache.specs.Useful.{wants_of, is_marked_frame, is_written_frame, useful_in, dirty_way};
+ghost use Rattle.spec_cache.specs.Useful.{wants_of, is_marked_frame, is_written_frame, useful_in, dirty_way, room_set as set_of_room, line_set as set_of_line, other_set};
 
 use crate::frame::FrameView;
 use tcc_base::LineAddr;
@@ -59,11 +59,27 @@ impl Wants {
         }
     }
 
-    /// Whether no line is awaited and no room is wanted.
-    pub(crate) fn is_plain(&self) -> bool
-        ensures { result ≡ not (is_some self.now.room) && not (is_some self.now.awaited) }
+    /// The set in which the core waits for room, of as many.
+    pub(crate) fn room_set(&self, sets: u16) -> Option<u16>
+        ensures value { result ≡ set_of_room sets (wants_of self.now) }
+        ensures exists { IfSome result (λ s. s < sets) }
     {
-        self.room.is_none() && self.awaited.is_none()
+        match self.room {
+            Some(set) => if set < sets { Some(set) } else { None },
+            None => None,
+        }
+    }
+
+    /// The set of the line that the core awaits, of as many, where the core doesn't wait for room there.
+    pub(crate) fn line_set(&self, sets: u16) -> Option<u16>
+        requires { 0 < sets }
+        ensures value { result ≡ set_of_line sets (wants_of self.now) }
+        ensures exists { IfSome result (λ s. s < sets) }
+    {
+        match self.awaited {
+            Some(line) => other((line.0 % sets as u32) as u16, self.room_set(sets)),
+            None => None,
+        }
     }
 
     /// Whether the frame is marked, and such frames aren't emptied.
@@ -96,6 +112,17 @@ impl Wants {
             None => false,
             Some(frame) => !self.keeps(frame) && self.gains(set, frame),
         }
+    }
+}
+
+/// The set, where it isn't the first one.
+fn other(set: u16, first: Option<u16>) -> Option<u16>
+    ensures value { result ≡ other_set first (Some set) }
+    ensures same { IfSome result (λ s. s ≡ set) }
+{
+    match first {
+        Some(other) => if other == set { None } else { Some(set) },
+        None => Some(set),
     }
 }
 

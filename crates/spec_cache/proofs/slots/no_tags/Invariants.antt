@@ -1,4 +1,4 @@
-use Rattle.std.proofs.Common.{◌≡◌, ◌≤◌, None, replicate, vec_len}
+use Rattle.std.proofs.Common.{◌≡◌, ◌≤◌, replicate, vec_len}
 use Rattle.std.specs.Vec.{vec_capacity}
 use Rattle.spec_cache.proofs.slots.no_tags.Given as goal
 

@@ -1,5 +1,4 @@
-use Rattle.std.proofs.Common.{ℕ, sym}
-use Rattle.spec_cache.specs.declared.frame.FrameView.{FrameView}
+use Rattle.std.proofs.Common.{sym}
 use Rattle.spec_cache.proofs.Handed.{nothing_kept}
 use Rattle.spec_cache.proofs.Counts.{keeps_here}
 use Rattle.spec_cache.proofs.cache.SpecCache.keeps.Goals as goal

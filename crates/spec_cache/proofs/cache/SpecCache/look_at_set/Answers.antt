@@ -19,7 +19,11 @@ loop-way-preserved c =
       | else-finds w ↦ record { counted = counted_same _ c.loop-way.way c.loop-way.count c.loop-way.invariant.counted _ w.count-is (test ∙ w.if-finds.false); most = omega (arith, w.count-is, c.loop-way.invariant.most) }
     ]
 
-pub returns : goal.returns
-returns c =
+pub returns-clause-few : goal.returns-clause-few
+returns-clause-few c =
+    omega (arith, c.loop-way.invariant.most, c.loop-way-test.false, c.loop-way.auto.way-end, c.ways-ways.ensures.value, c.ways-ways.ensures.allowed.3.1)
+
+pub returns-clause-number : goal.returns-clause-number
+returns-clause-number c =
     rw (sym c.self.view_is) (set_whole (useful_in (wants_of c.args.wants) c.args.set) c.self.inside.frames c.args.set c.loop-way.count c.ways-ways.result c.loop-way.way
     (c.ways-ways.ensures.value ∙ ap (λ (x : Settings). x.ways) c.config.ensures.value) (omega (arith, c.loop-way-test.false, c.loop-way.auto.way-end)) c.loop-way.invariant.counted)

@@ -4,10 +4,6 @@ use Rattle.spec_cache.specs.Useful.{wants_of}
 use Rattle.spec_cache.proofs.UsefulSets.{plain-set, few-in_set}
 use Rattle.spec_cache.proofs.cache.SpecCache.useful_in_set.Goals as goal
 
-pub returns-then-touches-clause-few : goal.returns-then-touches-clause-few
-returns-then-touches-clause-few c =
-    rw c.look_at_set.ensures (few-in_set c.args.self.now (rw c.self.view_is at c.config.ensures.in_order) (wants_of c.args.wants) c.args.set)
-
 pub returns-else-touches-clause-number : goal.returns-else-touches-clause-number
 returns-else-touches-clause-number c =
     let sets : c.sets.result ≡ c.self.inside.frames.config.sets = c.sets.ensures.value ∙ ap (λ (x : Settings). x.sets) c.config.ensures.value in

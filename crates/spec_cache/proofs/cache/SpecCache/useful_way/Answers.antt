@@ -1,4 +1,4 @@
-use Rattle.std.proofs.Common.{◌≡◌, ◌<◌, ◌∙◌, sym, ap, refl, arith}
+use Rattle.std.proofs.Common.{◌≡◌, ◌∙◌, ap, refl, arith}
 use Rattle.tcc_base.specs.Settings.{Settings}
 use Rattle.spec_cache.specs.Useful.{wants_of}
 use Rattle.spec_cache.proofs.UsefulSets.{first_set, fewer_left, all_sets, nth_way}

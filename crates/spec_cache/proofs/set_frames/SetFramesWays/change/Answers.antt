@@ -1,6 +1,4 @@
-use Rattle.std.proofs.Common.{◌≡◌, ℕ, List, Option, None, Contains, sym, subst, get_or, true}
-use Rattle.spec_cache.specs.declared.frame.FrameView.{FrameView}
-use Rattle.spec_cache.specs.Frame.{marked_in}
+use Rattle.std.proofs.Common.{ℕ, List, Contains, sym, subst}
 use Rattle.spec_cache.proofs.Indexed.{IsIndexed-rolled_back, IsIndexed-read_cleared, IsIndexed-committed}
 use Rattle.spec_cache.proofs.set_frames.SetFramesWays.change.Goals as goal
 

@@ -1,15 +1,14 @@
-use Rattle.std.proofs.Common.{◌≡◌, ◌<◌, ◌≤◌, ◌+◌, ◌∙◌, ap, true, ℕ, Option, None, List, length, get_or, sym, refl, arith}
-use Rattle.std.specs.Option.{IfSome}
+use Rattle.std.proofs.Common.{◌≡◌, ◌<◌, ◌/◌, ◌∙◌, ap, true, None, length, get_or, sym, refl, arith}
+use Rattle.std.proofs.lemmas.List.{get_or_read}
 use Rattle.tcc_maps.specs.Words.{num}
-use Rattle.spec_cache.specs.declared.frame.FrameView.{FrameView}
 use Rattle.spec_cache.specs.Home.{reads_in}
 use Rattle.spec_cache.specs.Useful.{writes_in, dirty_way}
 use Rattle.spec_cache.specs.Held.{Held}
 use Rattle.spec_cache.specs.PerSet.{idle_way, used_way}
-use Rattle.spec_cache.specs.Tracked.{written_home, read_home, is_home}
+use Rattle.spec_cache.specs.Tracked.{written_home, read_home}
 use Rattle.spec_cache.proofs.Tallied.{written-below, read-below, written-some, read-some, counted-small, dirty-fits, dirty-enough}
 use Rattle.spec_cache.proofs.SetTallies.{IsPerSet-set, shift-exists, shift-some, shift-some_all, shift-few, shift-few_all}
-use Rattle.spec_cache.proofs.TrackedKept.{IsTracked-set}
+use Rattle.spec_cache.proofs.TrackedKept.{IsTracked-alike, IsTracked-set}
 use Rattle.spec_cache.proofs.tracked.Tracked.put.Goals as goal
 
 pub recount-requires-clause-less_exists : goal.recount-requires-clause-less_exists
@@ -70,7 +69,7 @@ shift-requires c =
     let inside : c.args.at < length c.self.inside.frames.items = rw (sym c.self.view_is) at c.requires in
     let ways = c.ways.ensures.allowed.3 in
     let test : c.is_idle.result ≡ true → idle_way (get_or c.self.inside.frames.items c.args.at None) ≡ true = λ t. sym (c.is_idle.ensures ∙ ap idle_way old) ∙ t in
-    rw c.ways.ensures.value record {
+    rw (c.set_at-set.ensures, c.ways.ensures.value) record {
       exists = shift-exists idle_way h ways.0 ways.1 c.self.invariant.whole c.args.at c.args.frame inside c.self.inside.idle c.self.invariant.idle;
       some = λ t. shift-some idle_way h ways.0 ways.1 c.self.invariant.whole c.args.at c.args.frame inside c.self.inside.idle c.self.invariant.idle (test t);
       some_all = λ t. shift-some_all idle_way h ways.0 ways.1 c.self.invariant.whole c.args.at c.args.frame inside c.self.inside.idle c.self.invariant.idle (test t);
@@ -85,7 +84,7 @@ shift-requires-2 c =
     let inside : c.args.at < length c.self.inside.frames.items = rw (sym c.self.view_is) at c.requires in
     let ways = c.ways.ensures.allowed.3 in
     let test : c.is_used.result ≡ true → used_way (get_or c.self.inside.frames.items c.args.at None) ≡ true = λ t. sym (c.is_used.ensures ∙ ap used_way old) ∙ t in
-    rw c.ways.ensures.value record {
+    rw (c.set_at-set.ensures, c.ways.ensures.value) record {
       exists = shift-exists used_way h ways.0 ways.1 c.self.invariant.whole c.args.at c.args.frame inside c.self.inside.used c.self.invariant.used;
       some = λ t. shift-some used_way h ways.0 ways.1 c.self.invariant.whole c.args.at c.args.frame inside c.self.inside.used c.self.invariant.used (test t);
       some_all = λ t. shift-some_all used_way h ways.0 ways.1 c.self.invariant.whole c.args.at c.args.frame inside c.self.inside.used c.self.invariant.used (test t);
@@ -93,8 +92,8 @@ shift-requires-2 c =
       few_all = shift-few_all used_way h ways.0 ways.1 c.self.invariant.whole c.self.inside.used c.self.invariant.used c.self.invariant.small;
     }
 
-pub invariant_of-self : goal.invariant_of-self
-invariant_of-self c =
+pub invariant_of-self-2 : goal.invariant_of-self-2
+invariant_of-self-2 c =
     let old : c.way-old.result ≡ get_or c.self.inside.frames.items c.args.at None = rw (sym c.self.view_is) at c.way-old.ensures in
     let dirs = c.self.inside.config.dirs in
     let was : c.written_home.result ≡ written_home dirs (get_or c.self.inside.frames.items c.args.at None) =
@@ -109,13 +108,22 @@ invariant_of-self c =
     let h : Held = record { config = c.self.inside.config; frames = c.self.inside.frames.items } in
     let inside : c.args.at < length c.self.inside.frames.items = rw (sym c.self.view_is) at c.requires in
     let ways = c.ways.ensures.allowed.3 in
+    let set : c.set_at-set.result ≡ c.args.at / h.config.ways = c.set_at-set.ensures ∙ ap (λ w. c.args.at / w) c.ways.ensures.value in
     let was_idle : c.is_idle.result ≡ idle_way (get_or c.self.inside.frames.items c.args.at None) = c.is_idle.ensures ∙ ap idle_way old in
     let was_used : c.is_used.result ≡ used_way (get_or c.self.inside.frames.items c.args.at None) = c.is_used.ensures ∙ ap used_way old in
     let idle = IsPerSet-set idle_way h ways.0 ways.1 c.self.invariant.whole c.args.at c.args.frame inside c.self.inside.idle c.shift.new.self c.self.invariant.idle c.shift.ensures.sets
-    (λ s. rw (← c.ways.ensures.value, ← was_idle, ← c.is_idle-2.ensures) (c.shift.ensures.counts s)) (rw (← was_idle, ← c.is_idle-2.ensures) c.shift.ensures.all) in
+    (λ s. rw (← set, ← was_idle, ← c.is_idle-2.ensures) (c.shift.ensures.counts s)) (rw (← was_idle, ← c.is_idle-2.ensures) c.shift.ensures.all) in
     let used = IsPerSet-set used_way h ways.0 ways.1 c.self.invariant.whole c.args.at c.args.frame inside c.self.inside.used c.shift-2.new.self c.self.invariant.used c.shift-2.ensures.sets
-    (λ s. rw (← c.ways.ensures.value, ← was_used, ← c.is_used-2.ensures) (c.shift-2.ensures.counts s)) (rw (← was_used, ← c.is_used-2.ensures) c.shift-2.ensures.all) in
+    (λ s. rw (← set, ← was_used, ← c.is_used-2.ensures) (c.shift-2.ensures.counts s)) (rw (← was_used, ← c.is_used-2.ensures) c.shift-2.ensures.all) in
     IsTracked-set h c.self.inside.tags.items c.self.inside.written c.self.inside.read
     c.self.inside.dirty c.self.inside.idle c.self.inside.used c.self.invariant c.args.at c.args.frame (rw (sym c.self.view_is) at c.requires) c.tag.result c.tag.ensures _ _ _ c.shift.new.self c.shift-2.new.self
     (λ d. rw (← was, ← is) (c.recount.ensures d)) (λ d. rw (← was_read, ← is_read) (c.recount-2.ensures d))
     (rw (← more, ← less) (let e = c.one-2.ensures in omega (arith, enough, e))) idle used
+
+pub invariant_of-self : goal.invariant_of-self
+invariant_of-self c =
+    let h : Held = record { config = c.self.inside.config; frames = c.self.inside.frames.items } in
+    let inside : c.args.at < length c.self.inside.frames.items = rw (sym c.self.view_is) at c.requires in
+    let old : c.index.result.now ≡ get_or c.self.inside.frames.items c.args.at None = get_or_read c.self.inside.frames.items c.args.at c.index.result.now inside c.index.ensures None in
+    IsTracked-alike h c.self.inside.tags.items c.self.inside.written c.self.inside.read c.self.inside.dirty c.self.inside.idle c.self.inside.used
+    c.self.invariant c.args.at c.args.frame inside (rw old at (c.alike.ensures c.if-alike.true))
