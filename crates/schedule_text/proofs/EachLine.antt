@@ -25,7 +25,7 @@ unfolding version_at version_line
 version_again v rest known =
     let grouped : version_line v ++ rest ≡ codes "tcc-schedule " ++ (decimal v ++ 10 ∷ rest) = simp append_assoc in
     let read : field_at (codes "tcc-schedule ") 10 (version_line v ++ rest) ≡ Some (v, rest) =
-        ap (field_at (codes "tcc-schedule ") 10) grouped ∙ field_again (codes "tcc-schedule ") 10 v rest (omega arith) (elim known [ inl e ↦ omega arith | inr e ↦ omega arith ]) in
+    ap (field_at (codes "tcc-schedule ") 10) grouped ∙ field_again (codes "tcc-schedule ") 10 v rest (omega arith) (elim known [ inl e ↦ omega arith | inr e ↦ omega arith ]) in
     let passes : (eqb v 1 || eqb v 2) ≡ true = elim known [ inl e ↦ rw e refl | inr e ↦ rw e refl ] in
     rw (read, passes) refl
 
@@ -65,7 +65,8 @@ settings_again c rest allowed =
       field_again (codes "sets ") 32 c.sets r3 (omega arith) (omega arith),
       field_again (codes "ways ") 32 c.ways r4 (omega arith) (omega arith),
       field_again (codes "base ") 32 c.base r5 (omega arith) (omega arith),
-      field_again (codes "ram ") 10 c.ram rest (omega arith) (omega arith)) refl
+      field_again (codes "ram ") 10 c.ram rest (omega arith) (omega arith),
+    ) refl
 
 pub node_again : (c : Settings) (n : NodeId) (rest : List ℕ) → IsAllowed c → IsNode c n → node_at c (node_word n ++ 32 ∷ rest) ≡ Some (n, rest)
 unfolding node_at node_word core_node_at dir_node_at vendor_at word_at
@@ -89,7 +90,8 @@ evict_again c core set way rest allowed names =
     ap (event_at c) grouped ∙ rw (
       below_again 32 c.cores core.0 r1 (omega arith) (omega arith) names.0,
       below_again 32 c.sets set r2 (omega arith) (omega arith) names.1,
-      below_again 10 c.ways way rest (omega arith) (omega arith) names.2) refl
+      below_again 10 c.ways way rest (omega arith) (omega arith) names.2,
+    ) refl
 
 deliver_again : (c : Settings) (name : Name) (rest : List ℕ) → IsAllowed c → Names c (Deliver name)
     → event_at c (event_line (Deliver name) ++ rest) ≡ Some (Deliver name, rest)
@@ -103,7 +105,8 @@ deliver_again c name rest allowed names =
       node_again c name.src r1 allowed names.0,
       node_again c name.dst r2 allowed names.1,
       number_again 10 name.seq rest (omega arith) names.3,
-      link) refl
+      link,
+    ) refl
 
 pub event_again : (c : Settings) (e : Event) (rest : List ℕ) → IsAllowed c → Names c e → event_at c (event_line e ++ rest) ≡ Some (e, rest)
 event_again c (Exec core) rest allowed names = exec_again c core rest allowed names
@@ -150,12 +153,12 @@ settings_take bytes x e =
     let th = (field_takes (codes "ram ") 10 g.0.1 h.0.0 h.0.1 h.1).0 in
     let c : Settings = record { cores = a.0.0; dirs = b.0.0; sets = d.0.0; ways = f.0.0; base = g.0.0; ram = h.0.0 } in
     let parts : bytes ≡ config_line c ++ h.0.1 = ta
-      ∙ ap (λ (r : List ℕ). codes "cores " ++ (decimal c.cores ++ 32 ∷ r)) (tb
-      ∙ ap (λ (r : List ℕ). codes "dirs " ++ (decimal c.dirs ++ 32 ∷ r)) (td
-      ∙ ap (λ (r : List ℕ). codes "sets " ++ (decimal c.sets ++ 32 ∷ r)) (tf
-      ∙ ap (λ (r : List ℕ). codes "ways " ++ (decimal c.ways ++ 32 ∷ r)) (tg
-      ∙ ap (λ (r : List ℕ). codes "base " ++ (decimal c.base ++ 32 ∷ r)) th))))
-      ∙ sym (grouped c h.0.1) in
+    ∙ ap (λ (r : List ℕ). codes "cores " ++ (decimal c.cores ++ 32 ∷ r)) (tb
+    ∙ ap (λ (r : List ℕ). codes "dirs " ++ (decimal c.dirs ++ 32 ∷ r)) (td
+    ∙ ap (λ (r : List ℕ). codes "sets " ++ (decimal c.sets ++ 32 ∷ r)) (tf
+    ∙ ap (λ (r : List ℕ). codes "ways " ++ (decimal c.ways ++ 32 ∷ r)) (tg
+    ∙ ap (λ (r : List ℕ). codes "base " ++ (decimal c.base ++ 32 ∷ r)) th))))
+    ∙ sym (grouped c h.0.1) in
     subst (λ (y : Settings × List ℕ). bytes ≡ config_line y.0 ++ y.1) (same_Some (c, h.0.1) x h.2) parts
 
 -- what stands in front is this node, and a space
@@ -195,7 +198,7 @@ pub node_takes : (c : Settings) (bytes : List ℕ) (x : NodeId × List ℕ) → 
 unfolding node_at
 node_takes c bytes =
     either (IsNodeRead c bytes) (core_node_at c bytes) (or_else (dir_node_at c bytes) (vendor_at bytes)) (core_node_takes c bytes)
-      (either (IsNodeRead c bytes) (dir_node_at c bytes) (vendor_at bytes) (dir_node_takes c bytes) (vendor_takes c bytes))
+    (either (IsNodeRead c bytes) (dir_node_at c bytes) (vendor_at bytes) (dir_node_takes c bytes) (vendor_takes c bytes))
 
 -- what stands in front is the line of this event
 abbrev pub IsEventRead : Settings → List ℕ → Event × List ℕ → Type 0
@@ -209,7 +212,7 @@ exec_takes c bytes x e =
     let t = below_takes 10 c.cores a.0 b.0.0 b.0.1 b.1 in
     let core : CoreId = record { 0 = b.0.0 } in
     let parts : bytes ≡ event_line (Exec core) ++ b.0.1 =
-        word_takes (codes "e ") bytes a.0 a.1 ∙ ap (λ (r : List ℕ). codes "e " ++ r) t.0.parts ∙ simp append_assoc in
+    word_takes (codes "e ") bytes a.0 a.1 ∙ ap (λ (r : List ℕ). codes "e " ++ r) t.0.parts ∙ simp append_assoc in
     subst (IsEventRead c bytes) (same_Some (Exec core, b.0.1) x b.2) (parts, t.1)
 
 evict_takes : (c : Settings) (bytes : List ℕ) (x : Event × List ℕ) → evict_at c bytes ≡ Some x → IsEventRead c bytes x
@@ -224,11 +227,11 @@ evict_takes c bytes x e =
     let tf = below_takes 10 c.ways d.0.1 f.0.0 f.0.1 f.1 in
     let core : CoreId = record { 0 = b.0.0 } in
     let parts : bytes ≡ event_line (Evict core d.0.0 f.0.0) ++ f.0.1 =
-        word_takes (codes "x ") bytes a.0 a.1
-        ∙ ap (λ (r : List ℕ). codes "x " ++ r) (tb.0.parts
-        ∙ ap (λ (r : List ℕ). decimal b.0.0 ++ 32 ∷ r) (td.0.parts
-        ∙ ap (λ (r : List ℕ). decimal d.0.0 ++ 32 ∷ r) tf.0.parts))
-        ∙ simp append_assoc in
+    word_takes (codes "x ") bytes a.0 a.1
+    ∙ ap (λ (r : List ℕ). codes "x " ++ r) (tb.0.parts
+    ∙ ap (λ (r : List ℕ). decimal b.0.0 ++ 32 ∷ r) (td.0.parts
+    ∙ ap (λ (r : List ℕ). decimal d.0.0 ++ 32 ∷ r) tf.0.parts))
+    ∙ simp append_assoc in
     subst (IsEventRead c bytes) (same_Some (Evict core d.0.0 f.0.0, f.0.1) x f.2) (parts, (tb.1, td.1, tf.1))
 
 deliver_takes : (c : Settings) (bytes : List ℕ) (x : Event × List ℕ) → deliver_at c bytes ≡ Some x → IsEventRead c bytes x
@@ -244,18 +247,18 @@ deliver_takes c bytes x e =
     let td = node_takes c b.0.1 d.0 d.1 in
     let tf = number_takes 10 d.0.1 f.0.0 f.0.1 f.1 in
     let parts : bytes ≡ event_line (Deliver name) ++ f.0.1 =
-        word_takes (codes "d ") bytes a.0 a.1
-        ∙ ap (λ (r : List ℕ). codes "d " ++ r) (tb.0
-        ∙ ap (λ (r : List ℕ). node_word b.0.0 ++ 32 ∷ r) (td.0
-        ∙ ap (λ (r : List ℕ). node_word d.0.0 ++ 32 ∷ r) tf.parts))
-        ∙ simp append_assoc in
+    word_takes (codes "d ") bytes a.0 a.1
+    ∙ ap (λ (r : List ℕ). codes "d " ++ r) (tb.0
+    ∙ ap (λ (r : List ℕ). node_word b.0.0 ++ 32 ∷ r) (td.0
+    ∙ ap (λ (r : List ℕ). node_word d.0.0 ++ 32 ∷ r) tf.parts))
+    ∙ simp append_assoc in
     subst (IsEventRead c bytes) (same_Some (Deliver name, f.0.1) x k.1) (parts, (tb.1, td.1, k.0, tf.small))
 
 pub event_takes : (c : Settings) (bytes : List ℕ) (x : Event × List ℕ) → event_at c bytes ≡ Some x → IsEventRead c bytes x
 unfolding event_at
 event_takes c bytes =
     either (IsEventRead c bytes) (exec_at c bytes) (or_else (evict_at c bytes) (deliver_at c bytes)) (exec_takes c bytes)
-      (either (IsEventRead c bytes) (evict_at c bytes) (deliver_at c bytes) (evict_takes c bytes) (deliver_takes c bytes))
+    (either (IsEventRead c bytes) (evict_at c bytes) (deliver_at c bytes) (evict_takes c bytes) (deliver_takes c bytes))
 
 pub end_takes : (bytes : List ℕ) (count : ℕ) (rest : List ℕ) → end_at bytes ≡ Some (count, rest) → bytes ≡ end_line count ++ rest
 unfolding end_at end_line

@@ -95,7 +95,7 @@ no_settings : (bytes : List ℕ) (v : ℕ) (rest : List ℕ) → version_at byte
 no_settings bytes v rest read never s formed more same =
     let after : List ℕ = config_line s.config ++ more in
     let p = some_pair_parts (version_of s.config) v after rest
-        (sym (version_again (version_of s.config) after (known_version s.config)) ∙ ap version_at (sym same) ∙ read) in
+    (sym (version_again (version_of s.config) after (known_version s.config)) ∙ ap version_at (sym same) ∙ read) in
     never s.config more formed.allowed p.0 (ap settings_at (sym p.1) ∙ settings_again s.config more formed.allowed)
 
 second : (bytes : List ℕ) (v : ℕ) (rest : List ℕ) → version_at bytes ≡ Some (v, rest) → NoSettings v rest → IsFirstFault 2 bytes
@@ -121,8 +121,8 @@ pub other_version : (bytes : List ℕ) (v : ℕ) (rest : List ℕ) (c : Settings
     → (version_of c ≡ v → ⊥) → IsFirstFault 2 bytes
 other_version bytes v rest c more read config apart =
     second bytes v rest read (λ d after allowed version e.
-      let same : c ≡ d = (some_pair_parts c d more after (sym config ∙ e)).0 in
-      apart (ap version_of same ∙ version))
+    let same : c ≡ d = (some_pair_parts c d more after (sym config ∙ e)).0 in
+    apart (ap version_of same ∙ version))
 
 pub both_lines : (bytes : List ℕ) (v : ℕ) (rest : List ℕ) (c : Settings) (more : List ℕ) → version_at bytes ≡ Some (v, rest) → settings_at rest ≡ Some (c, more)
     → version_of c ≡ v → bytes ≡ version_line (version_of c) ++ (config_line c ++ more)
@@ -136,9 +136,9 @@ begins_less : (bytes : List ℕ) (j k : ℕ) → j ≤ k → Begins k bytes → 
 begins_less bytes j k less b =
     let front : List (List ℕ) = take k (lines_of b.schedule) in
     let split : front ≡ take j (lines_of b.schedule) ++ drop j front =
-        sym (take-append-drop j front) ∙ ap (λ (ls : List (List ℕ)). ls ++ drop j front) (take-take j k (lines_of b.schedule) less) in
+    sym (take-append-drop j front) ∙ ap (λ (ls : List (List ℕ)). ls ++ drop j front) (take-take j k (lines_of b.schedule) less) in
     let parts : joined front ≡ joined (take j (lines_of b.schedule)) ++ joined (drop j front) =
-        ap joined split ∙ flat_map-append (λ (line : List ℕ). line) (take j (lines_of b.schedule)) (drop j front) in
+    ap joined split ∙ flat_map-append (λ (line : List ℕ). line) (take j (lines_of b.schedule)) (drop j front) in
     record {
       schedule = b.schedule;
       rest = joined (drop j front) ++ b.rest;

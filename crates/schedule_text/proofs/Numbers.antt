@@ -130,9 +130,9 @@ leads_more end n digits apart long before pos small rest =
     let d : ℕ = n % 10 in
     let whole : 10 * (n / 10) + n % 10 ≡ n = omega arith in
     let step : digits_at end (n / 10) ((48 + n % 10) ∷ rest) ≡ digits_at end (10 * (n / 10) + n % 10) rest =
-        rw (ne_eqb (48 + n % 10) end (λ e. omega arith), more_again (n / 10) (n % 10) (omega arith) (omega arith)) refl in
+    rw (ne_eqb (48 + n % 10) end (λ e. omega arith), more_again (n / 10) (n % 10) (omega arith) (omega arith)) refl in
     let front : number_at end (digits ++ (48 + n % 10) ∷ rest) ≡ digits_at end (n / 10) ((48 + n % 10) ∷ rest) =
-        before (omega arith) (omega arith) ((48 + n % 10) ∷ rest) in
+    before (omega arith) (omega arith) ((48 + n % 10) ∷ rest) in
     ap (number_at end) (append_assoc digits ((48 + n % 10) ∷ []) rest) ∙ front ∙ step ∙ rw whole refl
 
 leads : (end n : ℕ) → end < 48 → n < 2 ^ 62 → LeadsTo end n (decimal n)

@@ -42,7 +42,7 @@ same_head c d a b p q same =
     let after-c : List ℕ = config_line c ++ a in
     let after-d : List ℕ = config_line d ++ b in
     let v = some_pair_parts (version_of c) (version_of d) after-c after-d
-        (sym (version_again (version_of c) after-c (known_version c)) ∙ ap version_at same ∙ version_again (version_of d) after-d (known_version d)) in
+    (sym (version_again (version_of c) after-c (known_version c)) ∙ ap version_at same ∙ version_again (version_of d) after-d (known_version d)) in
     some_pair_parts c d a b (sym (settings_again c a p) ∙ ap settings_at v.1 ∙ settings_again d b q)
 
 -- ---- the lines from the third on
@@ -80,10 +80,10 @@ beyond c [] es' count n k a b allowed p q len same =
 beyond c (e ∷ es) es' count n zero a b allowed p q len same = absurd (omega arith)
 beyond c (e ∷ es) [] count n (suc k) a b allowed p q len same =
     absurd (not_end c e count (flat_map event_line es ++ a) (joined (take k []) ++ b) allowed p.0
-      (sym (append_assoc (event_line e) (flat_map event_line es) a) ∙ same ∙ append_assoc (end_line count) (joined (take k [])) b))
+    (sym (append_assoc (event_line e) (flat_map event_line es) a) ∙ same ∙ append_assoc (end_line count) (joined (take k [])) b))
 beyond c (e ∷ es) (f ∷ fs) count n (suc k) a b allowed p q len same =
     let s = same_event c e f (flat_map event_line es ++ a) (joined (take k (body fs count)) ++ b) allowed p.0 q.0
-        (sym (append_assoc (event_line e) (flat_map event_line es) a) ∙ same ∙ append_assoc (event_line f) (joined (take k (body fs count))) b) in
+    (sym (append_assoc (event_line e) (flat_map event_line es) a) ∙ same ∙ append_assoc (event_line f) (joined (take k (body fs count))) b) in
     let rest = beyond c es fs count n k a b allowed p.1 q.1 (omega arith) s.1 in
     let head : e ≡ f = s.0 in
     let tail : fs ≡ es ++ rest.more = rest.whole in
@@ -116,7 +116,7 @@ follows bytes c es a f s formed n b same =
     let lines : List (List ℕ) = take (length es + n) (body s.events (length s.events)) in
     let v : List ℕ = version_line (version_of s.config) in
     let apart : (v ++ (config_line s.config ++ joined lines)) ++ b ≡ v ++ (config_line s.config ++ (joined lines ++ b)) =
-        append_assoc v (config_line s.config ++ joined lines) b ∙ ap (λ (r : List ℕ). v ++ r) (append_assoc (config_line s.config) (joined lines) b) in
+    append_assoc v (config_line s.config ++ joined lines) b ∙ ap (λ (r : List ℕ). v ++ r) (append_assoc (config_line s.config) (joined lines) b) in
     let head = same_head c s.config (flat_map event_line es ++ a) (joined lines ++ b) f.allowed formed.allowed (sym f.parts ∙ same ∙ apart) in
     let named : AllByRecursion (Names s.config) s.events = recursion_from_All (Names s.config) s.events formed.named in
     let named-here : AllByRecursion (Names c) s.events = subst (λ (d : Settings). AllByRecursion (Names d) s.events) (sym head.0) named in
@@ -135,10 +135,10 @@ unfolding lines_of
 begins_events bytes c es a f =
     let v : List ℕ = version_line (version_of c) in
     let front : take (length es) (body es (length es)) ≡ map event_line es =
-        take_at (map event_line es) (end_line (length es) ∷ []) (length es) (length-map es event_line) in
+    take_at (map event_line es) (end_line (length es) ∷ []) (length es) (length-map es event_line) in
     let lines : joined (take (length es) (body es (length es))) ≡ flat_map event_line es = ap joined front ∙ joined_map es in
     let apart : (v ++ (config_line c ++ flat_map event_line es)) ++ a ≡ v ++ (config_line c ++ (flat_map event_line es ++ a)) =
-        append_assoc v (config_line c ++ flat_map event_line es) a ∙ ap (λ (r : List ℕ). v ++ r) (append_assoc (config_line c) (flat_map event_line es) a) in
+    append_assoc v (config_line c ++ flat_map event_line es) a ∙ ap (λ (r : List ℕ). v ++ r) (append_assoc (config_line c) (flat_map event_line es) a) in
     record {
       schedule = scheduled c es;
       rest = a;
@@ -153,11 +153,11 @@ unfolding lines_of
 is_text bytes c es a after f last =
     let v : List ℕ = version_line (version_of c) in
     let tail : flat_map event_line es ++ a ≡ joined (body es (length es)) ++ after =
-        ap (λ (r : List ℕ). flat_map event_line es ++ r) last ∙ sym (append_assoc (flat_map event_line es) (end_line (length es)) after)
-        ∙ ap (λ (r : List ℕ). r ++ after) (sym (joined_body es (length es))) in
+    ap (λ (r : List ℕ). flat_map event_line es ++ r) last ∙ sym (append_assoc (flat_map event_line es) (end_line (length es)) after)
+    ∙ ap (λ (r : List ℕ). r ++ after) (sym (joined_body es (length es))) in
     let apart : (v ++ (config_line c ++ joined (body es (length es)))) ++ after ≡ v ++ (config_line c ++ (joined (body es (length es)) ++ after)) =
-        append_assoc v (config_line c ++ joined (body es (length es))) after
-        ∙ ap (λ (r : List ℕ). v ++ r) (append_assoc (config_line c) (joined (body es (length es))) after) in
+    append_assoc v (config_line c ++ joined (body es (length es))) after
+    ∙ ap (λ (r : List ℕ). v ++ r) (append_assoc (config_line c) (joined (body es (length es))) after) in
     f.parts ∙ ap (λ (r : List ℕ). v ++ (config_line c ++ r)) tail ∙ sym apart
 
 begins_whole : (bytes : List ℕ) (c : Settings) (es : List Event) (a after : List ℕ) → Front bytes c es a → a ≡ end_line (length es) ++ after
@@ -183,7 +183,7 @@ no_more : (c : Settings) (es : List Event) (a b : List ℕ) (s : Schedule) (n : 
 no_more c es a b s n allowed formed no-event no-end [] whole named after =
     let len : length s.events ≡ length es = ap length whole ∙ ap length (append-nil es) in
     let last : a ≡ end_line (length es) ++ (joined (take n []) ++ b) =
-        after ∙ append_assoc (end_line (length s.events)) (joined (take n [])) b ∙ ap (λ (k : ℕ). end_line k ++ (joined (take n []) ++ b)) len in
+    after ∙ append_assoc (end_line (length s.events)) (joined (take n [])) b ∙ ap (λ (k : ℕ). end_line k ++ (joined (take n []) ++ b)) len in
     let small : length s.events ≤ 4194304 = formed.count in
     no-end (joined (take n []) ++ b) (ap end_at last ∙ end_again (length es) (joined (take n []) ++ b) (omega arith))
 no_more c es a b s n allowed formed no-event no-end (e ∷ more) whole named after =
@@ -215,7 +215,7 @@ faulty_line bytes c es a f no-event no-end =
       refused = λ s formed same. stuck bytes c es a f no-event no-end s formed (length (lines_of s)) [] (whole_text bytes s (length es) same);
       before = subst (λ (k : ℕ). Begins k bytes) two (begins_events bytes c es a f);
       faulty = λ b. stuck bytes c es a f no-event no-end b.schedule b.formed zero b.rest
-        (subst (λ (k : ℕ). bytes ≡ joined (take k (lines_of b.schedule)) ++ b.rest) three b.same);
+          (subst (λ (k : ℕ). bytes ≡ joined (take k (lines_of b.schedule)) ++ b.rest) three b.same);
     }
 
 -- ---- what stands after the last line
@@ -232,11 +232,11 @@ only_end : (c : Settings) (es : List Event) (a after b : List ℕ) (s : Schedule
 only_end c es a after b s n allowed formed few config last [] whole named next =
     let small : length s.events ≤ 4194304 = formed.count in
     let e = same_end (length es) (length s.events) after (joined (take n []) ++ b) (omega arith) (omega arith)
-        (sym last ∙ next ∙ append_assoc (end_line (length s.events)) (joined (take n [])) b) in
+    (sym last ∙ next ∙ append_assoc (end_line (length s.events)) (joined (take n [])) b) in
     record { config = config; events = sym (whole ∙ append-nil es); rest = e.1 }
 only_end c es a after b s n allowed formed few config last (e ∷ more) whole named next =
     absurd (not_end c e (length es) (joined (take n (body more (length s.events))) ++ b) after allowed named.0
-      (sym (append_assoc (event_line e) (joined (take n (body more (length s.events)))) b) ∙ sym next ∙ last))
+    (sym (append_assoc (event_line e) (joined (take n (body more (length s.events)))) b) ∙ sym next ∙ last))
 
 pub ended : (bytes : List ℕ) (c : Settings) (es : List Event) (a after : List ℕ) → Front bytes c es a → a ≡ end_line (length es) ++ after
     → (s : Schedule) → IsWellFormed s → (n : ℕ) (b : List ℕ) → bytes ≡ joined (take (suc (suc (length es + suc n))) (lines_of s)) ++ b
@@ -260,11 +260,11 @@ faulty_end bytes c es a after f last some =
       refused = λ s formed same. some ((ended bytes c es a after f last s formed (length (lines_of s)) [] (whole_text bytes s (length es) same)).rest ∙ nothing (length (lines_of s)));
       before = subst (λ (k : ℕ). Begins k bytes) three (begins_whole bytes c es a after f last);
       faulty = λ b.
-        let r = ended bytes c es a after f last b.schedule b.formed 1 b.rest (subst (λ (k : ℕ). bytes ≡ joined (take k (lines_of b.schedule)) ++ b.rest) four b.same) in
-        let len : length es ≡ length b.schedule.events = ap length r.events in
-        let lines : length (lines_of b.schedule) ≡ length b.schedule.events + 3 = length_lines b.schedule in
-        let there : length es + 4 ≤ length (lines_of b.schedule) = b.there in
-        omega arith;
+          let r = ended bytes c es a after f last b.schedule b.formed 1 b.rest (subst (λ (k : ℕ). bytes ≡ joined (take k (lines_of b.schedule)) ++ b.rest) four b.same) in
+          let len : length es ≡ length b.schedule.events = ap length r.events in
+          let lines : length (lines_of b.schedule) ≡ length b.schedule.events + 3 = length_lines b.schedule in
+          let there : length es + 4 ≤ length (lines_of b.schedule) = b.there in
+          omega arith;
     }
 
 -- ---- one text for each schedule
@@ -281,7 +281,7 @@ front_of s formed = record {
 pub one_text : (s t : Schedule) → IsWellFormed s → IsWellFormed t → text_of s ≡ text_of t → s ≡ t
 one_text s t p q same =
     let r = ended (text_of s) s.config s.events (end_line (length s.events)) [] (front_of s p) (sym (append-nil (end_line (length s.events)))) t q
-        (length (lines_of t)) [] (whole_text (text_of s) t (length s.events) same) in
+    (length (lines_of t)) [] (whole_text (text_of s) t (length s.events) same) in
     ap (λ (c : Settings). scheduled c s.events) r.config ∙ ap (λ (es : List Event). scheduled t.config es) r.events
 
 -- the text as it is written: the first two lines, the lines of the events, and the last
@@ -300,7 +300,7 @@ text_from_parts s version count t0 t1 t2 t3 t4 v k e0 e1 e2 e3 e4 =
     let two : t2 ≡ head ++ config_line s.config = e2 ∙ ap (λ (r : List ℕ). r ++ config_line s.config) first in
     let three : t3 ≡ (head ++ config_line s.config) ++ flat_map event_line s.events = e3 ∙ ap (λ (r : List ℕ). r ++ flat_map event_line s.events) two in
     let four : t4 ≡ ((head ++ config_line s.config) ++ flat_map event_line s.events) ++ end_line (length s.events) =
-        e4 ∙ ap (λ (r : List ℕ). r ++ end_line count) three ∙ ap (λ (n : ℕ). ((head ++ config_line s.config) ++ flat_map event_line s.events) ++ end_line n) k in
+    e4 ∙ ap (λ (r : List ℕ). r ++ end_line count) three ∙ ap (λ (n : ℕ). ((head ++ config_line s.config) ++ flat_map event_line s.events) ++ end_line n) k in
     four ∙ append_assoc (head ++ config_line s.config) (flat_map event_line s.events) (end_line (length s.events))
     ∙ append_assoc head (config_line s.config) (flat_map event_line s.events ++ end_line (length s.events)) ∙ sym (text_is s)
 
@@ -314,9 +314,9 @@ front_more bytes c es a e after f next =
     let room = ltb-true (length es) 4194304 k.0 in
     let t = event_takes c a (e, after) k.1 in
     let lines : flat_map event_line es ++ a ≡ flat_map event_line (es ++ e ∷ []) ++ after =
-        ap (λ (r : List ℕ). flat_map event_line es ++ r) t.0
-        ∙ sym (append_assoc (flat_map event_line es) (event_line e) after)
-        ∙ ap (λ (r : List ℕ). r ++ after) (flat_map_more event_line [] es e) in
+    ap (λ (r : List ℕ). flat_map event_line es ++ r) t.0
+    ∙ sym (append_assoc (flat_map event_line es) (event_line e) after)
+    ∙ ap (λ (r : List ℕ). r ++ after) (flat_map_more event_line [] es e) in
     record {
       allowed = f.allowed;
       count = omega (arith, length_push es e);
@@ -331,10 +331,11 @@ last_line es a told after last same = end_takes a told after last ∙ ap (λ (k 
 pub read_found : (bytes : List ℕ) (c : Settings) (es : List Event) (a : List ℕ) (told : ℕ) (after : List ℕ) → Front bytes c es a
     → end_at a ≡ Some (told, after) → told ≡ length es → length after ≡ 0 → IsWellFormed (scheduled c es) × (bytes ≡ text_of (scheduled c es))
 read_found bytes c es a told after f last same none =
-    let nil : after ≡ [] = nil_from_length after none in
-    (is_well_formed bytes c es a f,
+    let nil : after ≡ [] = nil_from_length after none in (
+      is_well_formed bytes c es a f,
       is_text bytes c es a after f (last_line es a told after last same) ∙ ap (λ (r : List ℕ). text_of (scheduled c es) ++ r) nil
-      ∙ append-nil (text_of (scheduled c es)))
+          ∙ append-nil (text_of (scheduled c es)),
+    )
 
 pub read_only : (bytes : List ℕ) (c : Settings) (es : List Event) (a : List ℕ) (told : ℕ) (after : List ℕ) → Front bytes c es a
     → end_at a ≡ Some (told, after) → told ≡ length es → length after ≡ 0

@@ -157,11 +157,7 @@ fn event<'a>(config: &Config, bytes: &'a [u8]) -> Option<(Event, &'a [u8])>
 }
 
 /// The line of an event, where there may be one more.
-pub fn next_event<'a>(
-    config: &Config,
-    count: usize,
-    bytes: &'a [u8],
-) -> Option<(Event, &'a [u8])>
+pub fn next_event<'a>(config: &Config, count: usize, bytes: &'a [u8]) -> Option<(Event, &'a [u8])>
     ensures { Reads (λ x. (x.0, x.1.now)) result (if nat_lt count 4194304 then event_at config.now bytes.now else None) }
 {
     if count < MOST_EVENTS {

@@ -6,4 +6,4 @@ use Rattle.schedule_text.proofs.fields.word.Goals as goal
 pub returns : goal.returns
 returns c =
     word_reads c.args.word.now c.args.bytes.now c.strip_prefix.result
-      (strip_prefix_is Decides-eqb c.args.bytes.now c.args.word.now c.strip_prefix.result c.strip_prefix.ensures.cases)
+    (strip_prefix_is Decides-eqb c.args.bytes.now c.args.word.now c.strip_prefix.result c.strip_prefix.ensures.cases)

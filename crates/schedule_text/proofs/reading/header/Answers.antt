@@ -17,10 +17,12 @@ returns-in_default-config-clause-fault c =
 pub returns-then-version_needed-version-clause-fault : goal.returns-then-version_needed-version-clause-fault
 returns-then-version_needed-version-clause-fault c =
     other_version c.args.bytes.now c.in-Some.version c.in-Some.rest.now c.in-Some-config.found.0 c.in-Some-config.found.1.now
-      c.in-Some.ensures c.in-Some-config.ensures.found.1 (λ same. c.if-version_needed-version.true (c.version_needed.ensures ∙ same))
+    c.in-Some.ensures c.in-Some-config.ensures.found.1 (λ same. c.if-version_needed-version.true (c.version_needed.ensures ∙ same))
 
 pub returns-clause-found : goal.returns-clause-found
-returns-clause-found c = (c.in-Some-config.ensures.found.0,
-    both_lines c.args.bytes.now c.in-Some.version c.in-Some.rest.now c.in-Some-config.found.0 c.in-Some-config.found.1.now
+returns-clause-found c = (
+  c.in-Some-config.ensures.found.0,
+  both_lines c.args.bytes.now c.in-Some.version c.in-Some.rest.now c.in-Some-config.found.0 c.in-Some-config.found.1.now
       c.in-Some.ensures c.in-Some-config.ensures.found.1
-      (sym c.version_needed.ensures ∙ c.if-version_needed-version.false))
+      (sym c.version_needed.ensures ∙ c.if-version_needed-version.false),
+)

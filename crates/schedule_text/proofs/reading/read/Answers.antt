@@ -9,10 +9,10 @@ use Rattle.schedule_text.proofs.reading.read.Goals as goal
 pub loop-event-preserved : goal.loop-event-preserved
 loop-event-preserved c =
     let next : cond (ltb (length c.loop-event.events) 4194304) (event_at c.in-Ok.found.0 c.loop-event.rest.now) None ≡ Some (c.in-Some.event, c.in-Some.after.now) =
-        grind (arith, common_steps) in
+    grind (arith, common_steps) in
     let pushed : c.push.new.self ≡ c.loop-event.events ++ c.in-Some.event ∷ [] = grind (arith, common_steps) in
     subst (λ (es : List Event). Front c.args.bytes.now c.in-Ok.found.0 es c.in-Some.after.now) (sym pushed)
-      (front_more c.args.bytes.now c.in-Ok.found.0 c.loop-event.events c.loop-event.rest.now c.in-Some.event c.in-Some.after.now c.loop-event.invariant next)
+    (front_more c.args.bytes.now c.in-Ok.found.0 c.loop-event.events c.loop-event.rest.now c.in-Some.event c.in-Some.after.now c.loop-event.invariant next)
 
 -- the last line is missing
 
@@ -21,7 +21,7 @@ returns-in_default-end-clause-line c =
     let no-event : cond (ltb (length c.loop-event.events) 4194304) (event_at c.in-Ok.found.0 c.loop-event.rest.now) None ≡ None = grind (arith, common_steps) in
     let line : length c.loop-event.events + 3 ≡ c.len-count.result + 3 = grind (arith, common_steps) in
     subst (λ (k : ℕ). IsFirstFault k c.args.bytes.now) line
-      (no_last c.args.bytes.now c.in-Ok.found.0 c.loop-event.events c.loop-event.rest.now c.loop-event.invariant no-event c.in_default-end.ensures)
+    (no_last c.args.bytes.now c.in-Ok.found.0 c.loop-event.events c.loop-event.rest.now c.loop-event.invariant no-event c.in_default-end.ensures)
 
 pub returns-in_default-end-clause-only : goal.returns-in_default-end-clause-only
 returns-in_default-end-clause-only c = (returns-in_default-end-clause-line c).refused
@@ -34,8 +34,8 @@ returns-then-told-count-clause-line c =
     let count : length c.loop-event.events ≡ c.len-count.result = grind (arith, common_steps) in
     let line : length c.loop-event.events + 3 ≡ c.len-count.result + 3 = omega arith in
     subst (λ (k : ℕ). IsFirstFault k c.args.bytes.now) line
-      (other_count c.args.bytes.now c.in-Ok.found.0 c.loop-event.events c.loop-event.rest.now c.in-Some-end.told c.in-Some-end.after.now
-        c.loop-event.invariant no-event c.in-Some-end.ensures (λ same. c.if-told-count.true (same ∙ count)))
+    (other_count c.args.bytes.now c.in-Ok.found.0 c.loop-event.events c.loop-event.rest.now c.in-Some-end.told c.in-Some-end.after.now
+    c.loop-event.invariant no-event c.in-Some-end.ensures (λ same. c.if-told-count.true (same ∙ count)))
 
 pub returns-then-told-count-clause-only : goal.returns-then-told-count-clause-only
 returns-then-told-count-clause-only c = (returns-then-told-count-clause-line c).refused
@@ -47,8 +47,8 @@ returns-then-not-is_empty-clause-line c =
     let count : length c.loop-event.events ≡ c.len-count.result = grind (arith, common_steps) in
     let line : length c.loop-event.events + 4 ≡ c.len-count.result + 4 = omega arith in
     subst (λ (k : ℕ). IsFirstFault k c.args.bytes.now) line
-      (more_after c.args.bytes.now c.in-Ok.found.0 c.loop-event.events c.loop-event.rest.now c.in-Some-end.told c.in-Some-end.after.now
-        c.loop-event.invariant c.in-Some-end.ensures (c.if-told-count.false ∙ sym count) (λ none. grind (arith, common_steps)))
+    (more_after c.args.bytes.now c.in-Ok.found.0 c.loop-event.events c.loop-event.rest.now c.in-Some-end.told c.in-Some-end.after.now
+    c.loop-event.invariant c.in-Some-end.ensures (c.if-told-count.false ∙ sym count) (λ none. grind (arith, common_steps)))
 
 pub returns-then-not-is_empty-clause-only : goal.returns-then-not-is_empty-clause-only
 returns-then-not-is_empty-clause-only c = (returns-then-not-is_empty-clause-line c).refused
@@ -60,11 +60,11 @@ returns-clause-found c =
     let count : length c.loop-event.events ≡ c.len-count.result = grind (arith, common_steps) in
     let none : length c.in-Some-end.after.now ≡ 0 = grind (arith, common_steps) in
     read_found c.args.bytes.now c.in-Ok.found.0 c.loop-event.events c.loop-event.rest.now c.in-Some-end.told c.in-Some-end.after.now
-      c.loop-event.invariant c.in-Some-end.ensures (c.if-told-count.false ∙ sym count) none
+    c.loop-event.invariant c.in-Some-end.ensures (c.if-told-count.false ∙ sym count) none
 
 pub returns-clause-only : goal.returns-clause-only
 returns-clause-only c =
     let count : length c.loop-event.events ≡ c.len-count.result = grind (arith, common_steps) in
     let none : length c.in-Some-end.after.now ≡ 0 = grind (arith, common_steps) in
     read_only c.args.bytes.now c.in-Ok.found.0 c.loop-event.events c.loop-event.rest.now c.in-Some-end.told c.in-Some-end.after.now
-      c.loop-event.invariant c.in-Some-end.ensures (c.if-told-count.false ∙ sym count) none
+    c.loop-event.invariant c.in-Some-end.ensures (c.if-told-count.false ∙ sym count) none
