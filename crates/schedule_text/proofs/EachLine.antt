@@ -1,12 +1,12 @@
 -- Lines: what is read is a line of the grammar, and a line of the grammar is read.
-use Rattle.std.proofs.Common.{◌≡◌, ℕ, ◌+◌, ◌^◌, ◌<◌, ◌≤◌, List, [], ◌∷◌, ◌++◌, Option, Some, None, Bool, true, false, cond, eqb, leb, ltb, ◌&&◌, ◌||◌, ◌⊎◌, refl, sym, ap, subst, ◌∙◌, inl, inr, append_assoc, arith}
-use Rattle.std.specs.Prelude.{IsTrue, codes}
+use Rattle.std.proofs.Common.{◌≡◌, ℕ, ◌^◌, ◌<◌, List, ◌∷◌, ◌++◌, Option, Some, None, true, cond, eqb, ◌||◌, ◌⊎◌, refl, sym, ap, subst}
+use Rattle.std.proofs.Common.{◌∙◌, inl, inr, append_assoc, arith}
+use Rattle.std.specs.Prelude.{codes}
 use Rattle.std.specs.Fmt.{decimal}
 use Rattle.std.proofs.lemmas.Bool.{eqb-true, or_cases}
 use Rattle.std.proofs.lemmas.Option.{same_Some}
 use Rattle.tcc_base.specs.Settings.{Settings, IsAllowed}
 use Rattle.tcc_base.specs.declared.names.CoreId.{CoreId}
-use Rattle.tcc_base.specs.declared.names.DirId.{DirId}
 use Rattle.tcc_base.specs.declared.names.NodeId.{NodeId}
 use Rattle.tcc_base.specs.declared.names.NodeId.TheVariants.{Core, Dir, Vendor}
 use Rattle.tcc_msg.specs.declared.event.Event.{Event}
@@ -14,9 +14,10 @@ use Rattle.tcc_msg.specs.declared.event.Event.TheVariants.{Exec, Evict, Deliver}
 use Rattle.tcc_msg.specs.declared.event.Name.{Name}
 use Rattle.schedule_text.specs.WellFormed.{IsNode, one_is_core, Names}
 use Rattle.schedule_text.specs.Grammar.{newline, version_line, config_line, node_word, event_line, end_line}
-use Rattle.schedule_text.specs.Reading.{◌>>=◌, or_else, word_at, number_at, below_at, field_at, version_at, settings_at, core_node_at, dir_node_at, vendor_at, node_at, exec_at, evict_at, deliver_at, event_at, end_at}
-use Rattle.schedule_text.proofs.Words.{bind_some, kept, word_takes, word_again}
-use Rattle.schedule_text.proofs.Numbers.{Takes, number_takes, number_again, below_takes, below_again, field_takes, field_again}
+use Rattle.schedule_text.specs.Reading.{or_else, word_at, number_at, below_at, field_at, version_at, settings_at, core_node_at}
+use Rattle.schedule_text.specs.Reading.{dir_node_at, vendor_at, node_at, exec_at, evict_at, deliver_at, event_at, end_at}
+use Rattle.schedule_text.proofs.Words.{bind_some, kept, word_takes}
+use Rattle.schedule_text.proofs.Numbers.{number_takes, number_again, below_takes, below_again, field_takes, field_again}
 
 -- ---- what is written so is read
 
@@ -25,30 +26,37 @@ unfolding version_at version_line
 version_again v rest known =
     let grouped : version_line v ++ rest ≡ codes "tcc-schedule " ++ (decimal v ++ 10 ∷ rest) = simp append_assoc in
     let read : field_at (codes "tcc-schedule ") 10 (version_line v ++ rest) ≡ Some (v, rest) =
-    ap (field_at (codes "tcc-schedule ") 10) grouped ∙ field_again (codes "tcc-schedule ") 10 v rest (omega arith) (elim known [ inl e ↦ omega arith | inr e ↦ omega arith ]) in
+    ap (field_at (codes "tcc-schedule ") 10) grouped
+    ∙ field_again (codes "tcc-schedule ") 10 v rest (omega arith) (elim known [ inl e ↦ omega arith | inr e ↦ omega arith ]) in
     let passes : (eqb v 1 || eqb v 2) ≡ true = elim known [ inl e ↦ rw e refl | inr e ↦ rw e refl ] in
     rw (read, passes) refl
 
 -- the second line and what follows it, as its fields are read
 grouped : (c : Settings) (rest : List ℕ) → config_line c ++ rest ≡
     codes "cores " ++ (decimal c.cores ++ 32 ∷ (codes "dirs " ++ (decimal c.dirs ++ 32 ∷ (codes "sets " ++ (decimal c.sets ++ 32 ∷
-    (codes "ways " ++ (decimal c.ways ++ 32 ∷ (codes "base " ++ (decimal c.base ++ 32 ∷ (codes "ram " ++ (decimal c.ram ++ 10 ∷ rest)))))))))))
+    (codes "ways " ++ (decimal c.ways ++ 32 ∷ (codes "base " ++
+    (decimal c.base ++ 32 ∷ (codes "ram " ++ (decimal c.ram ++ 10 ∷ rest)))))))))))
 unfolding config_line
 grouped c rest = simp append_assoc
 
-line_parts : (c : Settings) → (codes "cores " ++ (decimal c.cores ++ (codes " dirs " ++ (decimal c.dirs ++ (codes " sets " ++ decimal c.sets)))))
-    ++ (codes " ways " ++ (decimal c.ways ++ (codes " base " ++ (decimal c.base ++ (codes " ram " ++ (decimal c.ram ++ newline)))))) ≡ config_line c
+line_parts : (c : Settings) → (codes "cores " ++ (decimal c.cores ++
+    (codes " dirs " ++ (decimal c.dirs ++ (codes " sets " ++ decimal c.sets)))))
+    ++ (codes " ways " ++ (decimal c.ways ++ (codes " base " ++
+    (decimal c.base ++ (codes " ram " ++ (decimal c.ram ++ newline)))))) ≡ config_line c
 unfolding config_line
 line_parts c = simp append_assoc
 
 -- the second line, in the two parts in which it is written
 pub line_from_parts : (c : Settings) (t0 t1 t2 : List ℕ)
     → t1 ≡ t0 ++ (codes "cores " ++ (decimal c.cores ++ (codes " dirs " ++ (decimal c.dirs ++ (codes " sets " ++ decimal c.sets)))))
-    → t2 ≡ t1 ++ (codes " ways " ++ (decimal c.ways ++ (codes " base " ++ (decimal c.base ++ (codes " ram " ++ (decimal c.ram ++ newline))))))
+    → t2 ≡ t1 ++ (codes " ways " ++ (decimal c.ways ++
+    (codes " base " ++ (decimal c.base ++ (codes " ram " ++ (decimal c.ram ++ newline))))))
     → t2 ≡ t0 ++ config_line c
 line_from_parts c t0 t1 t2 first second =
-    let back : List ℕ = codes " ways " ++ (decimal c.ways ++ (codes " base " ++ (decimal c.base ++ (codes " ram " ++ (decimal c.ram ++ newline))))) in
-    let front : List ℕ = codes "cores " ++ (decimal c.cores ++ (codes " dirs " ++ (decimal c.dirs ++ (codes " sets " ++ decimal c.sets)))) in
+    let back : List ℕ = codes " ways " ++ (decimal c.ways ++
+    (codes " base " ++ (decimal c.base ++ (codes " ram " ++ (decimal c.ram ++ newline))))) in
+    let front : List ℕ = codes "cores " ++ (decimal c.cores ++
+    (codes " dirs " ++ (decimal c.dirs ++ (codes " sets " ++ decimal c.sets)))) in
     second ∙ ap (λ (r : List ℕ). r ++ back) first ∙ append_assoc t0 front back ∙ ap (λ (r : List ℕ). t0 ++ r) (line_parts c)
 
 pub settings_again : (c : Settings) (rest : List ℕ) → IsAllowed c → settings_at (config_line c ++ rest) ≡ Some (c, rest)
@@ -68,13 +76,15 @@ settings_again c rest allowed =
       field_again (codes "ram ") 10 c.ram rest (omega arith) (omega arith),
     ) refl
 
-pub node_again : (c : Settings) (n : NodeId) (rest : List ℕ) → IsAllowed c → IsNode c n → node_at c (node_word n ++ 32 ∷ rest) ≡ Some (n, rest)
+pub node_again : (c : Settings) (n : NodeId) (rest : List ℕ) → IsAllowed c → IsNode c n
+    → node_at c (node_word n ++ 32 ∷ rest) ≡ Some (n, rest)
 unfolding node_at node_word core_node_at dir_node_at vendor_at word_at
 node_again c (Core core) rest allowed exists = rw (below_again 32 c.cores core.0 rest (omega arith) (omega arith) exists) refl
 node_again c (Dir dir) rest allowed exists = rw (below_again 32 c.dirs dir.0 rest (omega arith) (omega arith) exists) refl
 node_again c Vendor rest allowed exists = refl
 
-exec_again : (c : Settings) (core : CoreId) (rest : List ℕ) → IsAllowed c → Names c (Exec core) → event_at c (event_line (Exec core) ++ rest) ≡ Some (Exec core, rest)
+exec_again : (c : Settings) (core : CoreId) (rest : List ℕ) → IsAllowed c → Names c (Exec core)
+    → event_at c (event_line (Exec core) ++ rest) ≡ Some (Exec core, rest)
 unfolding event_at event_line exec_at word_at
 exec_again c core rest allowed names =
     let grouped : event_line (Exec core) ++ rest ≡ codes "e " ++ (decimal core.0 ++ 10 ∷ rest) = simp append_assoc in
@@ -126,13 +136,18 @@ no_event c count rest = refl
 
 -- ---- what is read is written so
 
-pub version_takes : (bytes : List ℕ) (v : ℕ) (rest : List ℕ) → version_at bytes ≡ Some (v, rest) → (bytes ≡ version_line v ++ rest) × ((v ≡ 1) ⊎ (v ≡ 2))
+pub version_takes : (bytes : List ℕ) (v : ℕ) (rest : List ℕ) → version_at bytes ≡ Some (v, rest)
+    → (bytes ≡ version_line v ++ rest) × ((v ≡ 1) ⊎ (v ≡ 2))
 unfolding version_at version_line
 version_takes bytes v rest e =
     let b = bind_some (field_at (codes "tcc-schedule ") 10 bytes) (λ x. cond (eqb x.0 1 || eqb x.0 2) (Some x) None) (v, rest) e in
     let k = kept (eqb b.0.0 1 || eqb b.0.0 2) (Some b.0) (v, rest) b.2 in
     let t = field_takes (codes "tcc-schedule ") 10 bytes b.0.0 b.0.1 b.1 in
-    let known : (b.0.0 ≡ 1) ⊎ (b.0.0 ≡ 2) = elim (or_cases (eqb b.0.0 1) (eqb b.0.0 2) k.0) [ inl h ↦ inl (eqb-true b.0.0 1 h) | inr h ↦ inr (eqb-true b.0.0 2 h) ] in
+    let known : (b.0.0 ≡ 1) ⊎ (b.0.0 ≡ 2) = elim (or_cases (eqb b.0.0 1) (eqb b.0.0 2) k.0) [
+      | inl h ↦ inl (eqb-true b.0.0 1 h)
+      | inr h ↦
+          inr (eqb-true b.0.0 2 h)
+    ] in
     let parts : bytes ≡ version_line b.0.0 ++ b.0.1 = t.0 ∙ simp append_assoc in
     subst (λ (x : ℕ × List ℕ). (bytes ≡ version_line x.0 ++ x.1) × ((x.0 ≡ 1) ⊎ (x.0 ≡ 2))) (same_Some b.0 (v, rest) k.1) (parts, known)
 
@@ -171,7 +186,8 @@ core_node_takes c bytes x e =
     let a = bind_some (word_at (codes "c") bytes) _ x e in
     let b = bind_some (below_at 32 c.cores a.0) _ x a.2 in
     let t = below_takes 32 c.cores a.0 b.0.0 b.0.1 b.1 in
-    let parts : bytes ≡ codes "c" ++ (decimal b.0.0 ++ 32 ∷ b.0.1) = word_takes (codes "c") bytes a.0 a.1 ∙ ap (λ (r : List ℕ). codes "c" ++ r) t.0.parts in
+    let parts : bytes ≡ codes "c" ++ (decimal b.0.0 ++ 32 ∷ b.0.1) = word_takes (codes "c") bytes a.0 a.1
+    ∙ ap (λ (r : List ℕ). codes "c" ++ r) t.0.parts in
     subst (IsNodeRead c bytes) (same_Some (Core (record { 0 = b.0.0 }), b.0.1) x b.2) (parts, t.1)
 
 dir_node_takes : (c : Settings) (bytes : List ℕ) (x : NodeId × List ℕ) → dir_node_at c bytes ≡ Some x → IsNodeRead c bytes x
@@ -180,7 +196,8 @@ dir_node_takes c bytes x e =
     let a = bind_some (word_at (codes "d") bytes) _ x e in
     let b = bind_some (below_at 32 c.dirs a.0) _ x a.2 in
     let t = below_takes 32 c.dirs a.0 b.0.0 b.0.1 b.1 in
-    let parts : bytes ≡ codes "d" ++ (decimal b.0.0 ++ 32 ∷ b.0.1) = word_takes (codes "d") bytes a.0 a.1 ∙ ap (λ (r : List ℕ). codes "d" ++ r) t.0.parts in
+    let parts : bytes ≡ codes "d" ++ (decimal b.0.0 ++ 32 ∷ b.0.1) = word_takes (codes "d") bytes a.0 a.1
+    ∙ ap (λ (r : List ℕ). codes "d" ++ r) t.0.parts in
     subst (IsNodeRead c bytes) (same_Some (Dir (record { 0 = b.0.0 }), b.0.1) x b.2) (parts, t.1)
 
 vendor_takes : (c : Settings) (bytes : List ℕ) (x : NodeId × List ℕ) → vendor_at bytes ≡ Some x → IsNodeRead c bytes x
@@ -190,7 +207,8 @@ vendor_takes c bytes x e =
     subst (IsNodeRead c bytes) (same_Some (Vendor, a.0) x a.2) (word_takes (codes "v ") bytes a.0 a.1, tt)
 
 -- what one of two readings gives, one of them gives
-pub either : {A : Type 0} (P : A → Type 0) (a b : Option A) → ((x : A) → a ≡ Some x → P x) → ((x : A) → b ≡ Some x → P x) → (x : A) → or_else a b ≡ Some x → P x
+pub either : {A : Type 0} (P : A → Type 0) (a b : Option A) → ((x : A) → a ≡ Some x → P x) → ((x : A) → b ≡ Some x → P x) → (x : A)
+    → or_else a b ≡ Some x → P x
 either P None b first second x e = second x e
 either P (Some y) b first second x e = first x e
 

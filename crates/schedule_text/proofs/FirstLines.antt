@@ -1,5 +1,6 @@
 -- The first two lines, where they are read and where one of them is faulty.
-use Rattle.std.proofs.Common.{◌≡◌, ℕ, zero, suc, ◌+◌, ◌-◌, ◌<◌, ◌≤◌, List, [], ◌∷◌, ◌++◌, length, take, drop, Option, Some, None, Bool, true, false, ◌⊎◌, refl, sym, ap, subst, ◌∙◌, inl, inr, append_assoc, arith, All}
+use Rattle.std.proofs.Common.{◌≡◌, ℕ, ◌-◌, ◌<◌, ◌≤◌, List, [], ◌++◌, length, take, drop, Option, Some, None, refl, sym, ap, subst, ◌∙◌}
+use Rattle.std.proofs.Common.{inl, inr, append_assoc, arith}
 use lib.Count.{ones}
 use Rattle.std.specs.Prelude.{IfSome}
 use Rattle.std.proofs.lemmas.Bool.{cases_order}
@@ -23,22 +24,37 @@ some_settings cores = record { cores = cores; dirs = 1; sets = 1; ways = 1; base
 
 allowed : (cores : ℕ) → 1 ≤ cores → cores ≤ 64 → IsAllowed (some_settings cores)
 unfolding some_settings ones
-allowed cores low high = ((low, high), (omega arith, omega arith), (refl, omega arith), (omega arith, omega arith), (omega arith, omega arith, refl), (refl, omega arith))
+allowed cores low high = (
+  (low, high),
+  (omega arith, omega arith),
+  (refl, omega arith),
+  (omega arith, omega arith),
+  (omega arith, omega arith, refl),
+  (refl, omega arith),
+)
 
 formed : (cores : ℕ) → 1 ≤ cores → cores ≤ 64 → IsWellFormed (scheduled (some_settings cores) [])
 formed cores low high = record { allowed = allowed cores low high; count = omega arith; named = All-nil (Names (some_settings cores)) }
 
 begins_nothing : (bytes : List ℕ) → Begins 0 bytes
-begins_nothing bytes = record { schedule = scheduled (some_settings 1) []; rest = bytes; formed = formed 1 (omega arith) (omega arith); there = omega arith; same = refl }
+begins_nothing bytes = record {
+  schedule = scheduled (some_settings 1) [];
+  rest = bytes;
+  formed = formed 1 (omega arith) (omega arith);
+  there = omega arith;
+  same = refl;
+}
 
-begins_version : (bytes rest : List ℕ) (cores v : ℕ) → 1 ≤ cores → cores ≤ 64 → version_of (some_settings cores) ≡ v → bytes ≡ version_line v ++ rest → Begins 1 bytes
+begins_version : (bytes rest : List ℕ) (cores v : ℕ) → 1 ≤ cores → cores ≤ 64 → version_of (some_settings cores) ≡ v
+    → bytes ≡ version_line v ++ rest → Begins 1 bytes
 unfolding lines_of
 begins_version bytes rest cores v low high version parts = record {
   schedule = scheduled (some_settings cores) [];
   rest = rest;
   formed = formed cores low high;
   there = omega arith;
-  same = parts ∙ ap (λ (k : ℕ). version_line k ++ rest) (sym version) ∙ ap (λ (r : List ℕ). r ++ rest) (sym (append-nil (version_line (version_of (some_settings cores)))));
+  same = parts ∙ ap (λ (k : ℕ). version_line k ++ rest) (sym version)
+      ∙ ap (λ (r : List ℕ). r ++ rest) (sym (append-nil (version_line (version_of (some_settings cores)))));
 }
 
 begins_line : (bytes : List ℕ) (v : ℕ) (rest : List ℕ) → version_at bytes ≡ Some (v, rest) → Begins 1 bytes
@@ -53,7 +69,8 @@ begins_line bytes v rest read =
 -- ---- what a text begins with
 
 -- where the bytes begin with one line of a text, or with two
-one_line : (s : Schedule) (bytes rest : List ℕ) → bytes ≡ joined (take 1 (lines_of s)) ++ rest → bytes ≡ version_line (version_of s.config) ++ rest
+one_line : (s : Schedule) (bytes rest : List ℕ) → bytes ≡ joined (take 1 (lines_of s)) ++ rest
+    → bytes ≡ version_line (version_of s.config) ++ rest
 unfolding lines_of
 one_line s bytes rest same = same ∙ ap (λ (r : List ℕ). r ++ rest) (append-nil (version_line (version_of s.config)))
 
@@ -74,9 +91,11 @@ all_lines s = refl
 
 -- ---- faults
 
-no_version : (bytes : List ℕ) (s : Schedule) (rest : List ℕ) → version_at bytes ≡ None → bytes ≡ version_line (version_of s.config) ++ rest → ⊥
+no_version : (bytes : List ℕ) (s : Schedule) (rest : List ℕ) → version_at bytes ≡ None
+    → bytes ≡ version_line (version_of s.config) ++ rest → ⊥
 no_version bytes s rest none same =
-    none-some (version_of s.config, rest) (sym none ∙ ap version_at same ∙ version_again (version_of s.config) rest (known_version s.config))
+    none-some (version_of s.config, rest) (sym none ∙ ap version_at same
+    ∙ version_again (version_of s.config) rest (known_version s.config))
 
 pub bad_version : (bytes : List ℕ) → version_at bytes ≡ None → IsFirstFault 1 bytes
 bad_version bytes none = record {
@@ -90,7 +109,8 @@ bad_version bytes none = record {
 abbrev NoSettings : (v : ℕ) → List ℕ → Type 0
 NoSettings v rest = (c : Settings) (more : List ℕ) → IsAllowed c → version_of c ≡ v → settings_at rest ≡ Some (c, more) → ⊥
 
-no_settings : (bytes : List ℕ) (v : ℕ) (rest : List ℕ) → version_at bytes ≡ Some (v, rest) → NoSettings v rest → (s : Schedule) → IsWellFormed s → (more : List ℕ)
+no_settings : (bytes : List ℕ) (v : ℕ) (rest : List ℕ) → version_at bytes ≡ Some (v, rest) → NoSettings v rest → (s : Schedule)
+    → IsWellFormed s → (more : List ℕ)
     → bytes ≡ version_line (version_of s.config) ++ (config_line s.config ++ more) → ⊥
 no_settings bytes v rest read never s formed more same =
     let after : List ℕ = config_line s.config ++ more in
@@ -106,25 +126,29 @@ second bytes v rest read never = record {
   faulty = λ b. no_settings bytes v rest read never b.schedule b.formed b.rest (two_lines b.schedule bytes b.rest b.same);
 }
 
-none_allowed : (o : Option (Settings × List ℕ)) (c : Settings) (more : List ℕ) → IfSome o (λ x. IsAllowed x.0 → ⊥) → IsAllowed c → o ≡ Some (c, more) → ⊥
+none_allowed : (o : Option (Settings × List ℕ)) (c : Settings) (more : List ℕ) → IfSome o (λ x. IsAllowed x.0 → ⊥) → IsAllowed c
+    → o ≡ Some (c, more) → ⊥
 none_allowed None c more never allowed e = absurd cc
 none_allowed (Some x) c more never allowed e =
     let same : x.0 ≡ c = (some_pair_parts x.0 c x.1 more e).0 in
     never (subst IsAllowed (sym same) allowed)
 
-pub bad_settings : (bytes : List ℕ) (v : ℕ) (rest : List ℕ) → version_at bytes ≡ Some (v, rest) → IfSome (settings_at rest) (λ x. IsAllowed x.0 → ⊥)
+pub bad_settings : (bytes : List ℕ) (v : ℕ) (rest : List ℕ) → version_at bytes ≡ Some (v, rest)
+    → IfSome (settings_at rest) (λ x. IsAllowed x.0 → ⊥)
     → IsFirstFault 2 bytes
 bad_settings bytes v rest read never =
     second bytes v rest read (λ c more allowed version e. none_allowed (settings_at rest) c more never allowed e)
 
-pub other_version : (bytes : List ℕ) (v : ℕ) (rest : List ℕ) (c : Settings) (more : List ℕ) → version_at bytes ≡ Some (v, rest) → settings_at rest ≡ Some (c, more)
+pub other_version : (bytes : List ℕ) (v : ℕ) (rest : List ℕ) (c : Settings) (more : List ℕ) → version_at bytes ≡ Some (v, rest)
+    → settings_at rest ≡ Some (c, more)
     → (version_of c ≡ v → ⊥) → IsFirstFault 2 bytes
 other_version bytes v rest c more read config apart =
     second bytes v rest read (λ d after allowed version e.
     let same : c ≡ d = (some_pair_parts c d more after (sym config ∙ e)).0 in
     apart (ap version_of same ∙ version))
 
-pub both_lines : (bytes : List ℕ) (v : ℕ) (rest : List ℕ) (c : Settings) (more : List ℕ) → version_at bytes ≡ Some (v, rest) → settings_at rest ≡ Some (c, more)
+pub both_lines : (bytes : List ℕ) (v : ℕ) (rest : List ℕ) (c : Settings) (more : List ℕ) → version_at bytes ≡ Some (v, rest)
+    → settings_at rest ≡ Some (c, more)
     → version_of c ≡ v → bytes ≡ version_line (version_of c) ++ (config_line c ++ more)
 both_lines bytes v rest c more read config same =
     (version_takes bytes v rest read).0 ∙ ap (λ (k : ℕ). version_line k ++ rest) (sym same)
@@ -144,7 +168,8 @@ begins_less bytes j k less b =
       rest = joined (drop j front) ++ b.rest;
       formed = b.formed;
       there = (let long : k ≤ length (lines_of b.schedule) = b.there in omega arith);
-      same = b.same ∙ ap (λ (r : List ℕ). r ++ b.rest) parts ∙ append_assoc (joined (take j (lines_of b.schedule))) (joined (drop j front)) b.rest;
+      same = b.same ∙ ap (λ (r : List ℕ). r ++ b.rest) parts
+          ∙ append_assoc (joined (take j (lines_of b.schedule))) (joined (drop j front)) b.rest;
     }
 
 not_before : (bytes : List ℕ) (j k : ℕ) → IsFirstFault j bytes → IsFirstFault k bytes → j < k → ⊥

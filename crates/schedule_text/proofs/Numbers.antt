@@ -1,7 +1,8 @@
 -- Numbers: what is read is written so, and what is written so is read.
-use Rattle.std.proofs.Common.{◌≡◌, ℕ, zero, suc, ◌+◌, ◌-◌, ◌*◌, ◌/◌, ◌%◌, ◌^◌, ◌<◌, ◌≤◌, List, [], ◌∷◌, ◌++◌, length, get_or, drop, Option, Some, None, Bool, true, false, cond, eqb, leb, ltb, ◌&&◌, refl, sym, ap, subst, ◌∙◌, inl, inr, append_assoc, arith}
+use Rattle.std.proofs.Common.{◌≡◌, ℕ, zero, suc, ◌+◌, ◌-◌, ◌*◌, ◌/◌, ◌%◌, ◌^◌, ◌<◌, ◌≤◌, List, [], ◌∷◌, ◌++◌, length, get_or, drop, Some}
+use Rattle.std.proofs.Common.{None, cond, eqb, leb, ltb, ◌&&◌, refl, sym, ap, subst, ◌∙◌, inl, inr, append_assoc, arith}
 use Rattle.std.specs.Fmt.{decimal}
-use Rattle.std.proofs.lemmas.Bool.{eqb-true, eq-eqb, ne_eqb, leb-true, ltb-true, le-leb, lt-ltb, lt-leb, and_parts, and_from}
+use Rattle.std.proofs.lemmas.Bool.{eqb-true, eq-eqb, ne_eqb, leb-true, ltb-true, le-leb, lt-ltb, and_parts}
 use Rattle.std.proofs.lemmas.Fmt.{decimal_digit, decimal_step, decimal_by_steps}
 use Rattle.std.proofs.lemmas.List.{drop_more, drop_all}
 use Rattle.std.proofs.lemmas.Option.{some_pair_parts, same_Some}
@@ -28,7 +29,8 @@ more_again n d digit small =
 
 -- ---- the loop over the digits
 
-pub digits_stop : (end n i : ℕ) (bytes : List ℕ) → i < length bytes → get_or bytes i 0 ≡ end → digits_at end n (drop i bytes) ≡ Some (n, drop (i + 1) bytes)
+pub digits_stop : (end n i : ℕ) (bytes : List ℕ) → i < length bytes → get_or bytes i 0 ≡ end
+    → digits_at end n (drop i bytes) ≡ Some (n, drop (i + 1) bytes)
 unfolding digits_at
 digits_stop end n i bytes within stop = rw (drop_more bytes i 0 within, stop, eq-eqb end end refl) refl
 
@@ -88,7 +90,8 @@ pub number_takes : (end : ℕ) (bytes : List ℕ) (n : ℕ) (rest : List ℕ) �
 unfolding number_at
 number_takes end [] n rest e = absurd cc
 number_takes end (byte ∷ bytes) n rest e =
-    elim (chosen (eqb byte 48) (word_at (end ∷ []) bytes >>= λ r. Some (0, r)) (cond (leb 49 byte && leb byte 57) (digits_at end (byte - 48) bytes) None) (Some (n, rest)) e) [
+    elim (chosen (eqb byte 48) (word_at (end ∷ []) bytes >>= λ r. Some (0, r))
+    (cond (leb 49 byte && leb byte 57) (digits_at end (byte - 48) bytes) None) (Some (n, rest)) e) [
       | inl h ↦
           let b = bind_some (word_at (end ∷ []) bytes) (λ r. Some (0, r)) (n, rest) h.1 in
           let same = some_pair_parts 0 n b.0 rest b.2 in
@@ -158,7 +161,8 @@ below_takes end limit bytes n rest e =
     let low = ltb-true b.0.0 limit k.0 in
     subst (λ (x : ℕ × List ℕ). Takes end bytes x.0 x.1 × (x.0 < limit)) (same_Some b.0 (n, rest) k.1) (t, low)
 
-pub below_again : (end limit n : ℕ) (rest : List ℕ) → end < 48 → n < 2 ^ 62 → n < limit → below_at end limit (decimal n ++ end ∷ rest) ≡ Some (n, rest)
+pub below_again : (end limit n : ℕ) (rest : List ℕ) → end < 48 → n < 2 ^ 62 → n < limit
+    → below_at end limit (decimal n ++ end ∷ rest) ≡ Some (n, rest)
 unfolding below_at
 below_again end limit n rest apart small low = rw (number_again end n rest apart small, lt-ltb n limit low) refl
 
@@ -170,6 +174,7 @@ field_takes word end bytes n rest e =
     let t = number_takes end b.0 n rest b.2 in
     (word_takes word bytes b.0 b.1 ∙ ap (λ (r : List ℕ). word ++ r) t.parts, t.small)
 
-pub field_again : (word : List ℕ) (end n : ℕ) (rest : List ℕ) → end < 48 → n < 2 ^ 62 → field_at word end (word ++ (decimal n ++ end ∷ rest)) ≡ Some (n, rest)
+pub field_again : (word : List ℕ) (end n : ℕ) (rest : List ℕ) → end < 48 → n < 2 ^ 62
+    → field_at word end (word ++ (decimal n ++ end ∷ rest)) ≡ Some (n, rest)
 unfolding field_at
 field_again word end n rest apart small = rw (word_again word (decimal n ++ end ∷ rest)) (number_again end n rest apart small)

@@ -1,5 +1,6 @@
 -- Texts: what the front of some bytes tells of each schedule whose text begins with it.
-use Rattle.std.proofs.Common.{◌≡◌, ℕ, zero, suc, ◌+◌, ◌-◌, ◌^◌, ◌<◌, ◌≤◌, List, [], ◌∷◌, ◌++◌, map, length, take, Option, Some, None, Bool, true, false, cond, leb, ltb, ◌&&◌, ◌⊎◌, refl, sym, ap, subst, ◌∙◌, inl, inr, append_assoc, arith, All}
+use Rattle.std.proofs.Common.{◌≡◌, ℕ, zero, suc, ◌+◌, ◌-◌, ◌^◌, ◌<◌, ◌≤◌, List, [], ◌∷◌, ◌++◌, map, length, take, Some, None, Bool, true}
+use Rattle.std.proofs.Common.{false, cond, leb, ltb, ◌&&◌, ◌⊎◌, refl, sym, ap, subst, ◌∙◌, inl, inr, append_assoc, arith}
 use Rattle.std.specs.List.{flat_map, AllByRecursion}
 use Rattle.std.proofs.lemmas.Bool.{lt-ltb, ltb-true}
 use Rattle.std.proofs.lemmas.List.{append-nil, length-append, length-map, take_at, take_all, flat_map_more, length_push, nil_from_length}
@@ -42,7 +43,8 @@ same_head c d a b p q same =
     let after-c : List ℕ = config_line c ++ a in
     let after-d : List ℕ = config_line d ++ b in
     let v = some_pair_parts (version_of c) (version_of d) after-c after-d
-    (sym (version_again (version_of c) after-c (known_version c)) ∙ ap version_at same ∙ version_again (version_of d) after-d (known_version d)) in
+    (sym (version_again (version_of c) after-c (known_version c)) ∙ ap version_at same
+    ∙ version_again (version_of d) after-d (known_version d)) in
     some_pair_parts c d a b (sym (settings_again c a p) ∙ ap settings_at v.1 ∙ settings_again d b q)
 
 -- ---- the lines from the third on
@@ -58,7 +60,8 @@ joined_map (e ∷ es) = ap (λ (r : List ℕ). event_line e ++ r) (joined_map es
 joined_body : (es : List Event) (count : ℕ) → joined (body es count) ≡ flat_map event_line es ++ end_line count
 joined_body [] count = append-nil (end_line count)
 joined_body (e ∷ es) count =
-    ap (λ (r : List ℕ). event_line e ++ r) (joined_body es count) ∙ sym (append_assoc (event_line e) (flat_map event_line es) (end_line count))
+    ap (λ (r : List ℕ). event_line e ++ r) (joined_body es count)
+    ∙ sym (append_assoc (event_line e) (flat_map event_line es) (end_line count))
 
 length_lines : (s : Schedule) → length (lines_of s) ≡ length s.events + 3
 unfolding lines_of
@@ -83,7 +86,8 @@ beyond c (e ∷ es) [] count n (suc k) a b allowed p q len same =
     (sym (append_assoc (event_line e) (flat_map event_line es) a) ∙ same ∙ append_assoc (end_line count) (joined (take k [])) b))
 beyond c (e ∷ es) (f ∷ fs) count n (suc k) a b allowed p q len same =
     let s = same_event c e f (flat_map event_line es ++ a) (joined (take k (body fs count)) ++ b) allowed p.0 q.0
-    (sym (append_assoc (event_line e) (flat_map event_line es) a) ∙ same ∙ append_assoc (event_line f) (joined (take k (body fs count))) b) in
+    (sym (append_assoc (event_line e) (flat_map event_line es) a) ∙ same
+    ∙ append_assoc (event_line f) (joined (take k (body fs count))) b) in
     let rest = beyond c es fs count n k a b allowed p.1 q.1 (omega arith) s.1 in
     let head : e ≡ f = s.0 in
     let tail : fs ≡ es ++ rest.more = rest.whole in
@@ -109,28 +113,38 @@ record Follows (c : Settings) (es : List Event) (s : Schedule) (n : ℕ) (a b : 
   config : c ≡ s.config
   beyond-is : Beyond c es s.events (length s.events) n a b
 
-follows : (bytes : List ℕ) (c : Settings) (es : List Event) (a : List ℕ) → Front bytes c es a → (s : Schedule) → IsWellFormed s → (n : ℕ) (b : List ℕ)
+follows : (bytes : List ℕ) (c : Settings) (es : List Event) (a : List ℕ) → Front bytes c es a → (s : Schedule) → IsWellFormed s
+    → (n : ℕ) (b : List ℕ)
     → bytes ≡ joined (take (suc (suc (length es + n))) (lines_of s)) ++ b → Follows c es s n a b
 unfolding lines_of
 follows bytes c es a f s formed n b same =
     let lines : List (List ℕ) = take (length es + n) (body s.events (length s.events)) in
     let v : List ℕ = version_line (version_of s.config) in
     let apart : (v ++ (config_line s.config ++ joined lines)) ++ b ≡ v ++ (config_line s.config ++ (joined lines ++ b)) =
-    append_assoc v (config_line s.config ++ joined lines) b ∙ ap (λ (r : List ℕ). v ++ r) (append_assoc (config_line s.config) (joined lines) b) in
-    let head = same_head c s.config (flat_map event_line es ++ a) (joined lines ++ b) f.allowed formed.allowed (sym f.parts ∙ same ∙ apart) in
+    append_assoc v (config_line s.config ++ joined lines) b
+    ∙ ap (λ (r : List ℕ). v ++ r) (append_assoc (config_line s.config) (joined lines) b) in
+    let head = same_head c s.config (flat_map event_line es ++ a) (joined lines ++ b) f.allowed formed.allowed
+    (sym f.parts ∙ same ∙ apart) in
     let named : AllByRecursion (Names s.config) s.events = recursion_from_All (Names s.config) s.events formed.named in
     let named-here : AllByRecursion (Names c) s.events = subst (λ (d : Settings). AllByRecursion (Names d) s.events) (sym head.0) named in
-    record { config = head.0; beyond-is = beyond c es s.events (length s.events) n (length es + n) a b f.allowed f.named named-here refl head.1 }
+    record {
+      config = head.0;
+      beyond-is = beyond c es s.events (length s.events) n
+          (length es + n) a b f.allowed f.named named-here refl head.1;
+    }
 
 -- a whole text is as many of its lines as one likes beyond all
-whole_text : (bytes : List ℕ) (s : Schedule) (k : ℕ) → bytes ≡ text_of s → bytes ≡ joined (take (suc (suc (k + suc (length (lines_of s))))) (lines_of s)) ++ []
+whole_text : (bytes : List ℕ) (s : Schedule) (k : ℕ) → bytes ≡ text_of s
+    → bytes ≡ joined (take (suc (suc (k + suc (length (lines_of s))))) (lines_of s)) ++ []
 whole_text bytes s k same =
-    let all : take (suc (suc (k + suc (length (lines_of s))))) (lines_of s) ≡ lines_of s = take_all (suc (suc (k + suc (length (lines_of s))))) (lines_of s) (omega arith) in
+    let all : take (suc (suc (k + suc (length (lines_of s))))) (lines_of s) ≡ lines_of s =
+    take_all (suc (suc (k + suc (length (lines_of s))))) (lines_of s) (omega arith) in
     same ∙ rw (all, append-nil (joined (lines_of s))) refl
 
 -- ---- the front begins a text
 
-pub begins_events : (bytes : List ℕ) (c : Settings) (es : List Event) (a : List ℕ) → Front bytes c es a → Begins (suc (suc (length es))) bytes
+pub begins_events : (bytes : List ℕ) (c : Settings) (es : List Event) (a : List ℕ) → Front bytes c es a
+    → Begins (suc (suc (length es))) bytes
 unfolding lines_of
 begins_events bytes c es a f =
     let v : List ℕ = version_line (version_of c) in
@@ -138,7 +152,8 @@ begins_events bytes c es a f =
     take_at (map event_line es) (end_line (length es) ∷ []) (length es) (length-map es event_line) in
     let lines : joined (take (length es) (body es (length es))) ≡ flat_map event_line es = ap joined front ∙ joined_map es in
     let apart : (v ++ (config_line c ++ flat_map event_line es)) ++ a ≡ v ++ (config_line c ++ (flat_map event_line es ++ a)) =
-    append_assoc v (config_line c ++ flat_map event_line es) a ∙ ap (λ (r : List ℕ). v ++ r) (append_assoc (config_line c) (flat_map event_line es) a) in
+    append_assoc v (config_line c ++ flat_map event_line es) a
+    ∙ ap (λ (r : List ℕ). v ++ r) (append_assoc (config_line c) (flat_map event_line es) a) in
     record {
       schedule = scheduled c es;
       rest = a;
@@ -155,7 +170,8 @@ is_text bytes c es a after f last =
     let tail : flat_map event_line es ++ a ≡ joined (body es (length es)) ++ after =
     ap (λ (r : List ℕ). flat_map event_line es ++ r) last ∙ sym (append_assoc (flat_map event_line es) (end_line (length es)) after)
     ∙ ap (λ (r : List ℕ). r ++ after) (sym (joined_body es (length es))) in
-    let apart : (v ++ (config_line c ++ joined (body es (length es)))) ++ after ≡ v ++ (config_line c ++ (joined (body es (length es)) ++ after)) =
+    let apart : (v ++ (config_line c ++ joined (body es (length es)))) ++ after ≡ v ++
+    (config_line c ++ (joined (body es (length es)) ++ after)) =
     append_assoc v (config_line c ++ joined (body es (length es))) after
     ∙ ap (λ (r : List ℕ). v ++ r) (append_assoc (config_line c) (joined (body es (length es))) after) in
     f.parts ∙ ap (λ (r : List ℕ). v ++ (config_line c ++ r)) tail ∙ sym apart
@@ -183,7 +199,8 @@ no_more : (c : Settings) (es : List Event) (a b : List ℕ) (s : Schedule) (n : 
 no_more c es a b s n allowed formed no-event no-end [] whole named after =
     let len : length s.events ≡ length es = ap length whole ∙ ap length (append-nil es) in
     let last : a ≡ end_line (length es) ++ (joined (take n []) ++ b) =
-    after ∙ append_assoc (end_line (length s.events)) (joined (take n [])) b ∙ ap (λ (k : ℕ). end_line k ++ (joined (take n []) ++ b)) len in
+    after ∙ append_assoc (end_line (length s.events)) (joined (take n [])) b
+    ∙ ap (λ (k : ℕ). end_line k ++ (joined (take n []) ++ b)) len in
     let small : length s.events ≤ 4194304 = formed.count in
     no-end (joined (take n []) ++ b) (ap end_at last ∙ end_again (length es) (joined (take n []) ++ b) (omega arith))
 no_more c es a b s n allowed formed no-event no-end (e ∷ more) whole named after =
@@ -212,7 +229,8 @@ faulty_line bytes c es a f no-event no-end =
     let three : length es + 3 ≡ suc (suc (length es + suc zero)) = omega arith in
     record {
       counted = omega arith;
-      refused = λ s formed same. stuck bytes c es a f no-event no-end s formed (length (lines_of s)) [] (whole_text bytes s (length es) same);
+      refused = λ s formed same. stuck bytes c es a f no-event no-end s formed (length (lines_of s)) []
+          (whole_text bytes s (length es) same);
       before = subst (λ (k : ℕ). Begins k bytes) two (begins_events bytes c es a f);
       faulty = λ b. stuck bytes c es a f no-event no-end b.schedule b.formed zero b.rest
           (subst (λ (k : ℕ). bytes ≡ joined (take k (lines_of b.schedule)) ++ b.rest) three b.same);
@@ -226,7 +244,8 @@ pub record IsRead (c : Settings) (es : List Event) (s : Schedule) (n : ℕ) (aft
   pub events : es ≡ s.events
   pub rest : after ≡ joined (take n []) ++ b
 
-only_end : (c : Settings) (es : List Event) (a after b : List ℕ) (s : Schedule) (n : ℕ) → IsAllowed c → IsWellFormed s → length es ≤ 4194304 → c ≡ s.config
+only_end : (c : Settings) (es : List Event) (a after b : List ℕ) (s : Schedule) (n : ℕ) → IsAllowed c → IsWellFormed s
+    → length es ≤ 4194304 → c ≡ s.config
     → a ≡ end_line (length es) ++ after → (more : List Event) → s.events ≡ es ++ more → AllByRecursion (Names c) more
     → a ≡ joined (take (suc n) (body more (length s.events))) ++ b → IsRead c es s n after b
 only_end c es a after b s n allowed formed few config last [] whole named next =
@@ -250,17 +269,20 @@ nothing zero = refl
 nothing (suc n) = refl
 
 -- something stands after the last line
-pub faulty_end : (bytes : List ℕ) (c : Settings) (es : List Event) (a after : List ℕ) → Front bytes c es a → a ≡ end_line (length es) ++ after
+pub faulty_end : (bytes : List ℕ) (c : Settings) (es : List Event) (a after : List ℕ) → Front bytes c es a
+    → a ≡ end_line (length es) ++ after
     → (after ≡ [] → ⊥) → IsFirstFault (length es + 4) bytes
 faulty_end bytes c es a after f last some =
     let three : length es + 3 ≡ length es + 4 - 1 = omega arith in
     let four : length es + 4 ≡ suc (suc (length es + suc 1)) = omega arith in
     record {
       counted = omega arith;
-      refused = λ s formed same. some ((ended bytes c es a after f last s formed (length (lines_of s)) [] (whole_text bytes s (length es) same)).rest ∙ nothing (length (lines_of s)));
+      refused = λ s formed same. some ((ended bytes c es a after f last s formed (length (lines_of s)) []
+          (whole_text bytes s (length es) same)).rest ∙ nothing (length (lines_of s)));
       before = subst (λ (k : ℕ). Begins k bytes) three (begins_whole bytes c es a after f last);
       faulty = λ b.
-          let r = ended bytes c es a after f last b.schedule b.formed 1 b.rest (subst (λ (k : ℕ). bytes ≡ joined (take k (lines_of b.schedule)) ++ b.rest) four b.same) in
+          let r = ended bytes c es a after f last b.schedule b.formed 1 b.rest
+          (subst (λ (k : ℕ). bytes ≡ joined (take k (lines_of b.schedule)) ++ b.rest) four b.same) in
           let len : length es ≡ length b.schedule.events = ap length r.events in
           let lines : length (lines_of b.schedule) ≡ length b.schedule.events + 3 = length_lines b.schedule in
           let there : length es + 4 ≤ length (lines_of b.schedule) = b.there in
@@ -280,7 +302,8 @@ front_of s formed = record {
 
 pub one_text : (s t : Schedule) → IsWellFormed s → IsWellFormed t → text_of s ≡ text_of t → s ≡ t
 one_text s t p q same =
-    let r = ended (text_of s) s.config s.events (end_line (length s.events)) [] (front_of s p) (sym (append-nil (end_line (length s.events)))) t q
+    let r = ended (text_of s) s.config s.events (end_line (length s.events)) [] (front_of s p)
+    (sym (append-nil (end_line (length s.events)))) t q
     (length (lines_of t)) [] (whole_text (text_of s) t (length s.events) same) in
     ap (λ (c : Settings). scheduled c s.events) r.config ∙ ap (λ (es : List Event). scheduled t.config es) r.events
 
@@ -292,15 +315,18 @@ text_is s = ap (λ (r : List ℕ). version_line (version_of s.config) ++ (config
 
 -- the text, part by part
 pub text_from_parts : (s : Schedule) (version count : ℕ) (t0 t1 t2 t3 t4 : List ℕ) → version ≡ version_of s.config → count ≡ length s.events
-    → t0 ≡ [] → t1 ≡ t0 ++ version_line version → t2 ≡ t1 ++ config_line s.config → t3 ≡ t2 ++ flat_map event_line s.events → t4 ≡ t3 ++ end_line count
+    → t0 ≡ [] → t1 ≡ t0 ++ version_line version → t2 ≡ t1 ++ config_line s.config → t3 ≡ t2 ++ flat_map event_line s.events
+    → t4 ≡ t3 ++ end_line count
     → t4 ≡ text_of s
 text_from_parts s version count t0 t1 t2 t3 t4 v k e0 e1 e2 e3 e4 =
     let head : List ℕ = version_line (version_of s.config) in
     let first : t1 ≡ head = e1 ∙ ap (λ (r : List ℕ). r ++ version_line version) e0 ∙ ap version_line v in
     let two : t2 ≡ head ++ config_line s.config = e2 ∙ ap (λ (r : List ℕ). r ++ config_line s.config) first in
-    let three : t3 ≡ (head ++ config_line s.config) ++ flat_map event_line s.events = e3 ∙ ap (λ (r : List ℕ). r ++ flat_map event_line s.events) two in
+    let three : t3 ≡ (head ++ config_line s.config) ++ flat_map event_line s.events = e3
+    ∙ ap (λ (r : List ℕ). r ++ flat_map event_line s.events) two in
     let four : t4 ≡ ((head ++ config_line s.config) ++ flat_map event_line s.events) ++ end_line (length s.events) =
-    e4 ∙ ap (λ (r : List ℕ). r ++ end_line count) three ∙ ap (λ (n : ℕ). ((head ++ config_line s.config) ++ flat_map event_line s.events) ++ end_line n) k in
+    e4 ∙ ap (λ (r : List ℕ). r ++ end_line count) three
+    ∙ ap (λ (n : ℕ). ((head ++ config_line s.config) ++ flat_map event_line s.events) ++ end_line n) k in
     four ∙ append_assoc (head ++ config_line s.config) (flat_map event_line s.events) (end_line (length s.events))
     ∙ append_assoc head (config_line s.config) (flat_map event_line s.events ++ end_line (length s.events)) ∙ sym (text_is s)
 
@@ -324,12 +350,14 @@ front_more bytes c es a e after f next =
       parts = f.parts ∙ ap (λ (r : List ℕ). version_line (version_of c) ++ (config_line c ++ r)) lines;
     }
 
-last_line : (es : List Event) (a : List ℕ) (told : ℕ) (after : List ℕ) → end_at a ≡ Some (told, after) → told ≡ length es → a ≡ end_line (length es) ++ after
+last_line : (es : List Event) (a : List ℕ) (told : ℕ) (after : List ℕ) → end_at a ≡ Some (told, after) → told ≡ length es
+    → a ≡ end_line (length es) ++ after
 last_line es a told after last same = end_takes a told after last ∙ ap (λ (k : ℕ). end_line k ++ after) same
 
 -- the last line is read, and nothing follows it
 pub read_found : (bytes : List ℕ) (c : Settings) (es : List Event) (a : List ℕ) (told : ℕ) (after : List ℕ) → Front bytes c es a
-    → end_at a ≡ Some (told, after) → told ≡ length es → length after ≡ 0 → IsWellFormed (scheduled c es) × (bytes ≡ text_of (scheduled c es))
+    → end_at a ≡ Some (told, after) → told ≡ length es → length after ≡ 0
+    → IsWellFormed (scheduled c es) × (bytes ≡ text_of (scheduled c es))
 read_found bytes c es a told after f last same none =
     let nil : after ≡ [] = nil_from_length after none in (
       is_well_formed bytes c es a f,

@@ -1,5 +1,5 @@
 -- Words that stand in front of some bytes.
-use Rattle.std.proofs.Common.{◌≡◌, ◌≢◌, ℕ, List, [], ◌∷◌, ◌++◌, Option, Some, None, Bool, true, false, cond, eqb, refl, sym, ap, ◌∙◌, inl, inr, ◌⊎◌, Bor}
+use Rattle.std.proofs.Common.{◌≡◌, ◌≢◌, ℕ, List, [], ◌∷◌, ◌++◌, Option, Some, None, Bool, true, false, cond, eqb, refl, inl, inr, ◌⊎◌, Bor}
 use Rattle.std.specs.Prelude.{MatchOption, OnOk, Result, Ok, Err}
 use Rattle.std.proofs.lemmas.Bool.{eqb-true, eq-eqb}
 use Rattle.schedule_text.specs.Reading.{Reads, word_at, ◌>>=◌}

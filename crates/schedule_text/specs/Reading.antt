@@ -1,6 +1,7 @@
 -- Reading from the front: what stands there, and the bytes after it. The contracts of the private readers cite these; what they
 -- mean is told by the grammar.
-use Rattle.std.specs.Prelude.{ℕ, zero, suc, List, [], ◌∷◌, Option, Some, None, Bool, ◌==◌, ◌&&◌, ◌||◌, ◌+◌, ◌*◌, ◌-◌, ◌^◌, ◌≡◌, nat_lt, nat_le, codes, if◌then◌else◌}
+use Rattle.std.specs.Prelude.{ℕ, List, [], ◌∷◌, Option, Some, None, ◌==◌, ◌&&◌, ◌||◌, ◌+◌, ◌*◌, ◌-◌, ◌^◌, ◌≡◌, nat_lt, nat_le, codes}
+use Rattle.std.specs.Prelude.{if◌then◌else◌}
 use Rattle.tcc_base.specs.Settings.{Settings}
 use Rattle.tcc_base.specs.declared.names.NodeId.{NodeId}
 use Rattle.tcc_base.specs.declared.names.NodeId.TheVariants.{Core, Dir, Vendor}

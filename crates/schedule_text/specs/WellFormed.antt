@@ -1,5 +1,5 @@
 -- Which schedules have a text: those that a machine of these settings could have run, as far as names and numbers tell.
-use Rattle.std.specs.Prelude.{ℕ, List, length, Bool, true, false, ◌<◌, ◌≤◌, ◌^◌, IsTrue, All}
+use Rattle.std.specs.Prelude.{length, Bool, true, false, ◌<◌, ◌≤◌, ◌^◌, IsTrue, All}
 use Rattle.tcc_base.specs.Settings.{Settings, IsAllowed}
 use Rattle.tcc_base.specs.declared.names.NodeId.{NodeId}
 use Rattle.tcc_base.specs.declared.names.NodeId.TheVariants.{Core, Dir, Vendor}

@@ -6,6 +6,8 @@ mod fields;
 mod laws;
 mod lines;
 mod reading;
+#[cfg(test)]
+mod tests;
 mod writing;
 
 pub use fault::TextFault;

@@ -1,7 +1,6 @@
-use Rattle.std.proofs.Common.{◌≡◌, Some, None, sym, ◌∙◌, arith}
+use Rattle.std.proofs.Common.{◌≡◌, None, sym, ◌∙◌, arith}
 use Rattle.std.proofs.lemmas.Grind.{common_steps}
-use Rattle.schedule_text.specs.Grammar.{version_of}
-use Rattle.schedule_text.specs.Reading.{version_at, settings_at}
+use Rattle.schedule_text.specs.Reading.{version_at}
 use Rattle.schedule_text.proofs.FirstLines.{bad_version, bad_settings, other_version, both_lines}
 use Rattle.schedule_text.proofs.reading.header.Goals as goal
 

@@ -2,13 +2,14 @@ use Rattle.std.proofs.Common.{ℕ, ◌≡◌, ◌+◌, ◌++◌, [], ◌∷◌, 
 use Rattle.std.proofs.lemmas.Grind.{common_steps}
 use Rattle.tcc_msg.specs.declared.event.Event.{Event}
 use Rattle.schedule_text.specs.Faults.{IsFirstFault}
-use Rattle.schedule_text.specs.Reading.{event_at, end_at}
+use Rattle.schedule_text.specs.Reading.{event_at}
 use Rattle.schedule_text.proofs.Texts.{Front, front_more, read_found, read_only, no_last, other_count, more_after}
 use Rattle.schedule_text.proofs.reading.read.Goals as goal
 
 pub loop-event-preserved : goal.loop-event-preserved
 loop-event-preserved c =
-    let next : cond (ltb (length c.loop-event.events) 4194304) (event_at c.in-Ok.found.0 c.loop-event.rest.now) None ≡ Some (c.in-Some.event, c.in-Some.after.now) =
+    let next : cond (ltb (length c.loop-event.events) 4194304) (event_at c.in-Ok.found.0 c.loop-event.rest.now) None ≡ Some
+    (c.in-Some.event, c.in-Some.after.now) =
     grind (arith, common_steps) in
     let pushed : c.push.new.self ≡ c.loop-event.events ++ c.in-Some.event ∷ [] = grind (arith, common_steps) in
     subst (λ (es : List Event). Front c.args.bytes.now c.in-Ok.found.0 es c.in-Some.after.now) (sym pushed)
@@ -18,7 +19,8 @@ loop-event-preserved c =
 
 pub returns-in_default-end-clause-line : goal.returns-in_default-end-clause-line
 returns-in_default-end-clause-line c =
-    let no-event : cond (ltb (length c.loop-event.events) 4194304) (event_at c.in-Ok.found.0 c.loop-event.rest.now) None ≡ None = grind (arith, common_steps) in
+    let no-event : cond (ltb (length c.loop-event.events) 4194304) (event_at c.in-Ok.found.0 c.loop-event.rest.now) None ≡ None =
+    grind (arith, common_steps) in
     let line : length c.loop-event.events + 3 ≡ c.len-count.result + 3 = grind (arith, common_steps) in
     subst (λ (k : ℕ). IsFirstFault k c.args.bytes.now) line
     (no_last c.args.bytes.now c.in-Ok.found.0 c.loop-event.events c.loop-event.rest.now c.loop-event.invariant no-event c.in_default-end.ensures)
@@ -30,7 +32,8 @@ returns-in_default-end-clause-only c = (returns-in_default-end-clause-line c).re
 
 pub returns-then-told-count-clause-line : goal.returns-then-told-count-clause-line
 returns-then-told-count-clause-line c =
-    let no-event : cond (ltb (length c.loop-event.events) 4194304) (event_at c.in-Ok.found.0 c.loop-event.rest.now) None ≡ None = grind (arith, common_steps) in
+    let no-event : cond (ltb (length c.loop-event.events) 4194304) (event_at c.in-Ok.found.0 c.loop-event.rest.now) None ≡ None =
+    grind (arith, common_steps) in
     let count : length c.loop-event.events ≡ c.len-count.result = grind (arith, common_steps) in
     let line : length c.loop-event.events + 3 ≡ c.len-count.result + 3 = omega arith in
     subst (λ (k : ℕ). IsFirstFault k c.args.bytes.now) line
