@@ -2,7 +2,7 @@
 use Rattle.std.proofs.Common.{◌≡◌, ℕ, ◌-◌, ◌<◌, ◌≤◌, List, [], ◌++◌, length, take, drop, Option, Some, None, refl, sym, ap, subst, ◌∙◌}
 use Rattle.std.proofs.Common.{inl, inr, append_assoc, arith}
 use lib.Count.{ones}
-use Rattle.std.specs.Prelude.{IfSome}
+use Rattle.std.specs.Prelude.{IfSome, IfOk, Result, Ok, Err}
 use Rattle.std.proofs.lemmas.Bool.{cases_order}
 use Rattle.std.proofs.lemmas.List.{append-nil, take-take, take-append-drop}
 use Rattle.std.proofs.lemmas.List.Concat.{flat_map-append}
@@ -12,10 +12,12 @@ use Rattle.tcc_base.specs.Settings.{Settings, IsAllowed}
 use Rattle.tcc_msg.specs.declared.event.Schedule.{Schedule}
 use Rattle.schedule_text.specs.WellFormed.{Names, IsWellFormed}
 use Rattle.schedule_text.specs.Grammar.{version_of, version_line, config_line, lines_of, joined, text_of}
-use Rattle.schedule_text.specs.Faults.{Begins, IsFirstFault}
+use Rattle.schedule_text.specs.Faults.{Begins, IsFirstFault, Gives, IfLine}
+use Rattle.schedule_text.specs.declared.fault.TextFault.{TextFault}
+use Rattle.schedule_text.specs.declared.fault.TextFault.TheVariants.{Line, Memory}
 use Rattle.schedule_text.specs.Reading.{version_at, settings_at}
 use Rattle.schedule_text.proofs.EachLine.{version_again, settings_again, version_takes, settings_take}
-use Rattle.schedule_text.proofs.Texts.{known_version, scheduled}
+use Rattle.schedule_text.proofs.Texts.{known_version, scheduled, one_text}
 
 -- ---- a schedule of each version
 
@@ -181,3 +183,11 @@ first_is_one bytes j k p q =
       | inl same ↦ same
       | inr apart ↦ absurd (elim apart [ inl less ↦ not_before bytes j k p q less | inr more ↦ not_before bytes k j q p more ])
     ]
+
+-- ---- what was written is read
+
+pub given_back : (s : Schedule) (answer : Result Schedule TextFault) → IsWellFormed s
+    → IfOk answer (λ t. IsWellFormed t × (text_of s ≡ text_of t)) → IfLine answer (λ k. IsFirstFault k (text_of s)) → Gives answer s
+given_back s (Ok t) formed found line = sym (one_text s t formed found.0 found.1)
+given_back s (Err (Line k)) formed found line = line.refused s formed refl
+given_back s (Err Memory) formed found line = tt

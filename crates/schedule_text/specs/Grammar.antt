@@ -10,6 +10,7 @@ use Rattle.tcc_msg.specs.declared.event.Event.{Event}
 use Rattle.tcc_msg.specs.declared.event.Event.TheVariants.{Exec, Evict, Deliver}
 use Rattle.tcc_msg.specs.declared.event.Schedule.{Schedule}
 
+-- a line feed
 abbrev pub newline : List ℕ
 newline = 10 ∷ []
 
@@ -17,19 +18,23 @@ newline = 10 ∷ []
 abbrev pub version_of : Settings → ℕ
 version_of config = if nat_le config.cores 16 && nat_le config.dirs 16 then 1 else 2
 
+-- the first line
 unfoldable pub version_line : ℕ → List ℕ
 version_line version = codes "tcc-schedule " ++ decimal version ++ newline
 
+-- the second line: the settings
 unfoldable pub config_line : Settings → List ℕ
 config_line config = codes "cores " ++ decimal config.cores ++ codes " dirs " ++ decimal config.dirs
     ++ codes " sets " ++ decimal config.sets ++ codes " ways " ++ decimal config.ways
     ++ codes " base " ++ decimal config.base ++ codes " ram " ++ decimal config.ram ++ newline
 
+-- a node, in an event's line
 unfoldable pub node_word : NodeId → List ℕ
 node_word (Core core) = codes "c" ++ decimal core.0
 node_word (Dir dir) = codes "d" ++ decimal dir.0
 node_word Vendor = codes "v"
 
+-- the line of an event
 unfoldable pub event_line : Event → List ℕ
 event_line (Exec core) = codes "e " ++ decimal core.0 ++ newline
 event_line (Evict core set way) = codes "x " ++ decimal core.0 ++ codes " " ++ decimal set ++ codes " " ++ decimal way ++ newline

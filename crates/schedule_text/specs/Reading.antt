@@ -9,6 +9,7 @@ use Rattle.tcc_msg.specs.declared.event.Event.{Event}
 use Rattle.tcc_msg.specs.declared.event.Event.TheVariants.{Exec, Evict, Deliver}
 use Rattle.schedule_text.specs.WellFormed.{one_is_core}
 
+-- a step, and what follows where it succeeds
 infixl 10 ◌>>=◌
 abbrev pub ◌>>=◌ : {A B : Type 0} → Option A → (A → Option B) → Option B
 None >>= f = None
@@ -55,9 +56,11 @@ below_at end limit bytes = number_at end bytes >>= λ n. if nat_lt n.0 limit the
 unfoldable pub field_at : (word : List ℕ) → (end : ℕ) → List ℕ → Option (ℕ × List ℕ)
 field_at word end bytes = word_at word bytes >>= λ rest. number_at end rest
 
+-- the first line: its version, 1 or 2
 unfoldable pub version_at : List ℕ → Option (ℕ × List ℕ)
 version_at bytes = field_at (codes "tcc-schedule ") 10 bytes >>= λ v. if v.0 == 1 || v.0 == 2 then Some v else None
 
+-- the second line, whether or not its numbers are allowed
 unfoldable pub settings_at : List ℕ → Option (Settings × List ℕ)
 settings_at bytes = do
   cores ← field_at (codes "cores ") 32 bytes
@@ -68,7 +71,7 @@ settings_at bytes = do
   ram ← field_at (codes "ram ") 10 base.1
   Some (record { cores = cores.0; dirs = dirs.0; sets = sets.0; ways = ways.0; base = base.0; ram = ram.0 }, ram.1)
 
--- a node and the space after it
+-- a core, as a node, and the space after it; then a directory, the vendor, and any node
 unfoldable pub core_node_at : Settings → List ℕ → Option (NodeId × List ℕ)
 core_node_at config bytes = do
   rest ← word_at (codes "c") bytes
@@ -87,7 +90,7 @@ vendor_at bytes = word_at (codes "v ") bytes >>= λ rest. Some (Vendor, rest)
 unfoldable pub node_at : Settings → List ℕ → Option (NodeId × List ℕ)
 node_at config bytes = or_else (core_node_at config bytes) (or_else (dir_node_at config bytes) (vendor_at bytes))
 
--- the line of an event
+-- the line of an event of each kind; then of any kind
 unfoldable pub exec_at : Settings → List ℕ → Option (Event × List ℕ)
 exec_at config bytes = do
   rest ← word_at (codes "e ") bytes
@@ -113,5 +116,6 @@ deliver_at config bytes = do
 unfoldable pub event_at : Settings → List ℕ → Option (Event × List ℕ)
 event_at config bytes = or_else (exec_at config bytes) (or_else (evict_at config bytes) (deliver_at config bytes))
 
+-- the last line: its number
 unfoldable pub end_at : List ℕ → Option (ℕ × List ℕ)
 end_at bytes = field_at (codes "end ") 10 bytes

@@ -27,6 +27,7 @@ Names config (Evict core set way) = (core.0 < config.cores) × (set < config.set
 Names config (Deliver name) =
     IsNode config name.src × IsNode config name.dst × IsTrue (one_is_core name.src name.dst) × (name.seq < 2 ^ 62)
 
+-- the schedules that have a text
 pub record IsWellFormed (s : Schedule) : Type 0 where
   pub allowed : IsAllowed s.config
   pub count : length s.events ≤ 4194304

@@ -11,6 +11,6 @@ mod tests;
 mod writing;
 
 pub use fault::TextFault;
-pub use laws::{texts_tell_schedules_apart, the_first_fault_is_one};
+pub use laws::{texts_tell_schedules_apart, the_first_fault_is_one, what_was_written_is_read};
 pub use reading::read;
 pub use writing::write;

@@ -67,11 +67,11 @@ fn what_is_read_is_written_again(rt: HostRuntime) -> Result<(), Fail> {
 #[test]
 fn every_proper_prefix_is_refused_with_its_line(rt: HostRuntime) -> Result<(), Fail> {
     let text = SMALL.as_bytes();
-    let mut line = 1;
+    let mut line = 1u64;
     for (len, byte) in text.iter().enumerate() {
         assert_eq!(rt; fault(rt.alloc(), &text[..len]), Some(line));
-        if *byte == b'\n' && line < 9 {
-            line += 1;
+        if *byte == b'\n' {
+            line = line.saturating_add(1);
         }
     }
     Ok(())
