@@ -6,3 +6,5 @@ pub mod Committing
 pub mod LoadedWords
 pub mod Taking
 pub mod Staying
+pub mod Leaving
+pub mod Lemmas

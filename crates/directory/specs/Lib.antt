@@ -4,4 +4,6 @@ pub mod DataInside
 pub mod Foreign
 pub mod Gives
 pub mod Invs
+pub mod Leaves
 pub mod Stays
+pub mod Tells

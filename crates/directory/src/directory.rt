@@ -1,5 +1,5 @@
 // A directory: its parts, and the readers of what it knows.
-ghost use Rattle.std.specs.Prelude.{◌≡◌, ℕ, ◌^◌, ◌<◌, ◌≤◌, ◌↔◌, true, false, Err, IfOk, OnErr, IsTrue, option_map};
+ghost use Rattle.std.specs.Prelude.{◌≡◌, ℕ, ◌^◌, ◌<◌, ◌≤◌, ◌↔◌, true, false, Err, IfOk, OnOk, OnErr, IsTrue, option_map};
 ghost use Rattle.tcc_maps.specs.Words.{count_below};
 ghost use Rattle.tcc_maps.specs.Words.{line_of as line_number};
 ghost use Rattle.tcc_maps.specs.Shape.{lines as line_count};
@@ -12,6 +12,7 @@ ghost use Rattle.tcc_msg.specs.Plain.{msg_of};
 ghost use Rattle.directory.specs.Data.{DirData, dir_of};
 ghost use Rattle.directory.specs.Foreign.{is_foreign, HasSmallTids};
 ghost use Rattle.directory.specs.Gives.{Gives};
+ghost use Rattle.directory.specs.Leaves.{Leaves};
 
 use crate::handled::{DirError, Handled};
 use crate::loading::load_words;
@@ -127,8 +128,9 @@ impl Directory {
     }
 
     /// Handles a message from a core, by the rule for its kind. `gives` says all of it: the rule's answer for the state before is
-    /// what is answered, with the state after and what was sent, in order and to each destination. After an error the directory
-    /// and what is sent are as before; want of memory can come where something is sent or a TID is skipped ahead.
+    /// what is answered, with the state after and what was sent, in order and to each destination. `leaves` says which messages
+    /// that wait need no look then. After an error the directory and what is sent are as before; want of memory can come where
+    /// something is sent or a TID is skipped ahead.
     pub fn deliver(
         &mut self,
         src: CoreId,
@@ -139,6 +141,7 @@ impl Directory {
         requires tids { HasSmallTids (msg_of msg.now) }
         ensures place { self.new.lines.place ≡ self.old.lines.place }
         ensures gives { IfOk result (λ h. Gives self.old self.new out.old.list.items out.new.list.items h (λ s. dir_deliver self.old.lines.place.shape s src.0 (msg_of msg.now))) }
+        ensures leaves { OnOk result ((elsewhere : ℕ → ℕ) → Leaves (msg_of msg.now) (dir_of elsewhere self.old) (dir_of elsewhere self.new)) }
         ensures foreign { (result ≡ Err DirError.Foreign) ↔ (is_foreign self.old.lines.place (msg_of msg.now) ≡ true) }
         ensures unchanged { OnErr result (self.new ≡ self.old) }
         ensures unsent { OnErr result (out.new.list.items ≡ out.old.list.items) }

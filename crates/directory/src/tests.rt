@@ -3,7 +3,7 @@ ghost use Rattle.std.specs.Prelude.{◌≡◌, true, IfOk};
 ghost use Rattle.directory.specs.Foreign.{HasSmallTids};
 ghost use Rattle.tcc_msg.specs.Plain.{msg_of};
 
-use crate::{DirError, Directory, Handled, LineState};
+use crate::{Cause, DirError, Directory, Handled, LineState};
 use image_load::{Loaded, load, raw};
 use std::alloc::Global;
 use std::test::Fail;
@@ -209,6 +209,39 @@ fn each_rule_answers_row_by_row(rt: HostRuntime) -> Result<(), Fail> {
         }
     }
     assert_eq!(rt; (dir.serving(), dir.marked_lines()), (Tid(5), 0));
+    Ok(())
+}
+
+// What a message of a core waits for, where it is the directory's.
+fn cause(dir: &Directory, core: u8, msg: &Msg) -> Option<Cause> {
+    if dir.is_foreign(msg) {
+        return None;
+    }
+    dir.waits_for(CoreId(core), msg)
+}
+
+#[test]
+fn a_message_waits_for_one_thing(rt: HostRuntime) -> Result<(), Fail> {
+    let alloc = rt.alloc();
+    let config = Config::new(64, 2, 16, 2, 0x8000_0000, 1024)?;
+    let memory = loaded(alloc, &config)?;
+    let Ok(mut dir) = Directory::start(alloc, &config, &memory, DirId(1)) else {
+        assert!(rt; false, "no memory");
+        return Ok(());
+    };
+    for (core, msg, want) in [
+        (3, Msg::Probe { tid: Tid(2) }, Some(Cause::Turn(Tid(2)))),
+        (3, load_req(1), Some(Cause::Done(Tid(1)))),
+        (5, back(1), Some(Cause::Line(LINE))),
+        (5, commit(1, 1), Some(Cause::Marks)),
+        (5, Msg::Skip { tid: Tid(2) }, None),
+    ] {
+        assert_eq!(rt; cause(&dir, core, &msg), want, "{msg:?}");
+    }
+    let mut out = Outgoing::new(alloc);
+    assert_eq!(rt; hand(&mut dir, 5, &mark(3, 1), &mut out), HANDLED);
+    assert_eq!(rt; cause(&dir, 3, &load_req(0)), Some(Cause::Served(LINE)));
+    assert_eq!(rt; cause(&dir, 5, &commit(1, 1)), None);
     Ok(())
 }
 
