@@ -2,6 +2,7 @@
 #![tactic(auto)]
 
 mod directory;
+mod ends;
 mod handled;
 mod invalidate;
 mod loading;

@@ -242,6 +242,15 @@ fn a_message_waits_for_one_thing(rt: HostRuntime) -> Result<(), Fail> {
     assert_eq!(rt; hand(&mut dir, 5, &mark(3, 1), &mut out), HANDLED);
     assert_eq!(rt; cause(&dir, 3, &load_req(0)), Some(Cause::Served(LINE)));
     assert_eq!(rt; cause(&dir, 5, &commit(1, 1)), None);
+    for (waits, ends) in [
+        (Cause::Turn(Tid(2)), true),
+        (Cause::Done(Tid(2)), false),
+        (Cause::Line(LINE), false),
+        (Cause::Served(LINE), true),
+        (Cause::Marks, true),
+    ] {
+        assert_eq!(rt; waits.may_end(&commit(1, 1), Tid(1), Tid(2)), ends);
+    }
     Ok(())
 }
 
