@@ -1,5 +1,6 @@
 -- The messages in flight on a link by rising number: what is found at a number, and after a change of the list.
-use Rattle.std.proofs.Common.{◌≡◌, ℕ, suc, zero, ◌+◌, ◌-◌, ◌<◌, ◌≤◌, ◌≢◌, eqb, Bool, true, false, ⊎_elim, inl, inr, List, [], ◌∷◌, ◌++◌, length, get_or, set, Option, Some, None, is_some, IsSome, if◌then◌else◌, refl, ap, sym, subst, ◌∙◌, arith}
+use Rattle.std.proofs.Common.{◌≡◌, ℕ, suc, zero, ◌<◌, ◌≤◌, ◌≢◌, eqb, ⊎_elim, inl, inr, List, [], ◌∷◌, ◌++◌, length, get_or, set, Option}
+use Rattle.std.proofs.Common.{Some, None, IsSome, if◌then◌else◌, refl, ap, sym, subst, ◌∙◌, arith}
 use Rattle.std.specs.Prelude.{IfSome, IfNone, Result, Ok, Err}
 use Rattle.std.specs.Result.{result_ok}
 use Rattle.std.specs.List.{remove}
@@ -8,7 +9,6 @@ use Rattle.std.specs.Ordering.{nat_cmp, ordering_index}
 use Rattle.std.proofs.lemmas.Bool.{cases_eq, cases_lt, false≢true, eq-eqb, ne_eqb}
 use Rattle.std.proofs.lemmas.Bool.Decides.{nat_tests}
 use Rattle.std.proofs.lemmas.Cmp.{ranked}
-use Rattle.in_flight.specs.declared.lane.Held.{Held}
 use Rattle.in_flight.specs.declared.lane.Waiting.{Waiting}
 use Rattle.in_flight.specs.Laid.{held_at, Rises}
 
@@ -20,13 +20,15 @@ pub rises-lower : (lower low high : ℕ) (ws : List Waiting) → lower ≤ low �
 rises-lower lower low high [] h r = omega arith
 rises-lower lower low high (w ∷ ws) h r = (omega (arith, r.0), r.1)
 
-pub rises-get : (low high : ℕ) (ws : List Waiting) (i : ℕ) (d : Waiting) → Rises low high ws → i < length ws → (low ≤ (get_or ws i d).seq) × ((get_or ws i d).seq < high)
+pub rises-get : (low high : ℕ) (ws : List Waiting) (i : ℕ) (d : Waiting) → Rises low high ws → i < length ws
+    → (low ≤ (get_or ws i d).seq) × ((get_or ws i d).seq < high)
 rises-get low high [] i d r h = absurd (omega arith)
 rises-get low high (w ∷ ws) zero d r h = (r.0, rises-le (suc w.seq) high ws r.1)
 rises-get low high (w ∷ ws) (suc i) d r h = let t = rises-get (suc w.seq) high ws i d r.1 (omega arith) in (omega (arith, r.0, t.0), t.1)
 
 -- the numbers rise from place to place
-pub rises-order : (low high : ℕ) (ws : List Waiting) (i j : ℕ) (d : Waiting) → Rises low high ws → i ≤ j → j < length ws → (get_or ws i d).seq ≤ (get_or ws j d).seq
+pub rises-order : (low high : ℕ) (ws : List Waiting) (i j : ℕ) (d : Waiting) → Rises low high ws → i ≤ j → j < length ws
+    → (get_or ws i d).seq ≤ (get_or ws j d).seq
 rises-order low high [] i j d r e h = absurd (omega arith)
 rises-order low high (w ∷ ws) zero zero d r e h = omega arith
 rises-order low high (w ∷ ws) zero (suc j) d r e h = omega (arith, (rises-get (suc w.seq) high ws j d r.1 (omega arith)).0)
@@ -47,7 +49,8 @@ held-high low high (w ∷ ws) k r h =
     rw (ne_eqb w.seq k (λ e. omega arith)) (held-high (suc w.seq) high ws k r.1 h)
 
 -- what stands at a place is found by its number
-pub held-get : (low high : ℕ) (ws : List Waiting) (i : ℕ) (d : Waiting) → Rises low high ws → i < length ws → held_at ws (get_or ws i d).seq ≡ Some (get_or ws i d).held
+pub held-get : (low high : ℕ) (ws : List Waiting) (i : ℕ) (d : Waiting) → Rises low high ws → i < length ws
+    → held_at ws (get_or ws i d).seq ≡ Some (get_or ws i d).held
 unfolding held_at
 held-get low high [] i d r h = absurd (omega arith)
 held-get low high (w ∷ ws) zero d r h = rw (eq-eqb w.seq w.seq refl) refl
@@ -66,7 +69,8 @@ rises-remove low high [] i r h = absurd (omega arith)
 rises-remove low high (w ∷ ws) zero r h = rises-lower low (suc w.seq) high ws (omega (arith, r.0)) r.1
 rises-remove low high (w ∷ ws) (suc i) r h = (r.0, rises-remove (suc w.seq) high ws i r.1 (omega arith))
 
-pub held-remove_own : (low high : ℕ) (ws : List Waiting) (i : ℕ) (d : Waiting) → Rises low high ws → i < length ws → held_at (remove ws i) (get_or ws i d).seq ≡ None
+pub held-remove_own : (low high : ℕ) (ws : List Waiting) (i : ℕ) (d : Waiting) → Rises low high ws → i < length ws
+    → held_at (remove ws i) (get_or ws i d).seq ≡ None
 unfolding held_at
 held-remove_own low high [] i d r h = absurd (omega arith)
 held-remove_own low high (w ∷ ws) zero d r h = held-low (suc w.seq) high ws w.seq r.1 (omega arith)
@@ -74,19 +78,22 @@ held-remove_own low high (w ∷ ws) (suc i) d r h =
     let lt : suc w.seq ≤ (get_or ws i d).seq = (rises-get (suc w.seq) high ws i d r.1 (omega arith)).0 in
     rw (ne_eqb w.seq (get_or ws i d).seq (λ e. omega arith)) (held-remove_own (suc w.seq) high ws i d r.1 (omega arith))
 
-pub held-remove_other : (ws : List Waiting) (i : ℕ) (d : Waiting) (q : ℕ) → i < length ws → q ≢ (get_or ws i d).seq → held_at (remove ws i) q ≡ held_at ws q
+pub held-remove_other : (ws : List Waiting) (i : ℕ) (d : Waiting) (q : ℕ) → i < length ws → q ≢ (get_or ws i d).seq
+    → held_at (remove ws i) q ≡ held_at ws q
 unfolding held_at
 held-remove_other [] i d q h ne = absurd (omega arith)
 held-remove_other (w ∷ ws) zero d q h ne = rw (ne_eqb w.seq q (λ e. ne (sym e))) refl
 held-remove_other (w ∷ ws) (suc i) d q h ne = ap (λ o. if eqb w.seq q then Some w.held else o) (held-remove_other ws i d q (omega arith) ne)
 
 -- one message changed, with the same number
-pub rises-set : (low high : ℕ) (ws : List Waiting) (i : ℕ) (d v : Waiting) → v.seq ≡ (get_or ws i d).seq → i < length ws → Rises low high ws → Rises low high (set ws i v)
+pub rises-set : (low high : ℕ) (ws : List Waiting) (i : ℕ) (d v : Waiting) → v.seq ≡ (get_or ws i d).seq → i < length ws → Rises low high ws
+    → Rises low high (set ws i v)
 rises-set low high [] i d v e h r = r
 rises-set low high (w ∷ ws) zero d v e h r = (omega (arith, r.0), subst (λ k. Rises (suc k) high ws) (sym e) r.1)
 rises-set low high (w ∷ ws) (suc i) d v e h r = (r.0, rises-set (suc w.seq) high ws i d v e (omega arith) r.1)
 
-pub held-set_own : (low high : ℕ) (ws : List Waiting) (i : ℕ) (d v : Waiting) → Rises low high ws → i < length ws → v.seq ≡ (get_or ws i d).seq → held_at (set ws i v) v.seq ≡ Some v.held
+pub held-set_own : (low high : ℕ) (ws : List Waiting) (i : ℕ) (d v : Waiting) → Rises low high ws → i < length ws
+    → v.seq ≡ (get_or ws i d).seq → held_at (set ws i v) v.seq ≡ Some v.held
 unfolding held_at
 held-set_own low high [] i d v r h e = absurd (omega arith)
 held-set_own low high (w ∷ ws) zero d v r h e = rw (eq-eqb v.seq v.seq refl) refl
@@ -94,18 +101,21 @@ held-set_own low high (w ∷ ws) (suc i) d v r h e =
     let lt : suc w.seq ≤ (get_or ws i d).seq = (rises-get (suc w.seq) high ws i d r.1 (omega arith)).0 in
     rw (ne_eqb w.seq v.seq (λ f. omega arith)) (held-set_own (suc w.seq) high ws i d v r.1 (omega arith) e)
 
-pub held-set_other : (ws : List Waiting) (i : ℕ) (d v : Waiting) (q : ℕ) → i < length ws → v.seq ≡ (get_or ws i d).seq → q ≢ v.seq → held_at (set ws i v) q ≡ held_at ws q
+pub held-set_other : (ws : List Waiting) (i : ℕ) (d v : Waiting) (q : ℕ) → i < length ws → v.seq ≡ (get_or ws i d).seq → q ≢ v.seq
+    → held_at (set ws i v) q ≡ held_at ws q
 unfolding held_at
 held-set_other [] i d v q h e ne = absurd (omega arith)
 held-set_other (w ∷ ws) zero d v q h e ne = rw (ne_eqb v.seq q (λ f. ne (sym f)), ne_eqb w.seq q (λ f. ne (sym f ∙ sym e))) refl
-held-set_other (w ∷ ws) (suc i) d v q h e ne = ap (λ o. if eqb w.seq q then Some w.held else o) (held-set_other ws i d v q (omega arith) e ne)
+held-set_other (w ∷ ws) (suc i) d v q h e ne =
+    ap (λ o. if eqb w.seq q then Some w.held else o) (held-set_other ws i d v q (omega arith) e ne)
 
 -- one more message behind the others
 pub rises-push : (low high : ℕ) (ws : List Waiting) (w : Waiting) → w.seq ≡ high → Rises low high ws → Rises low (suc high) (ws ++ w ∷ [])
 rises-push low high [] w e r = (omega arith, omega arith)
 rises-push low high (v ∷ ws) w e r = (r.0, rises-push (suc v.seq) high ws w e r.1)
 
-pub held-push_own : (low high : ℕ) (ws : List Waiting) (w : Waiting) → w.seq ≡ high → Rises low high ws → held_at (ws ++ w ∷ []) high ≡ Some w.held
+pub held-push_own : (low high : ℕ) (ws : List Waiting) (w : Waiting) → w.seq ≡ high → Rises low high ws
+    → held_at (ws ++ w ∷ []) high ≡ Some w.held
 unfolding held_at
 held-push_own low high [] w e r = rw (eq-eqb w.seq high e) refl
 held-push_own low high (v ∷ ws) w e r =
@@ -122,10 +132,12 @@ pub rises-front : (low high : ℕ) (ws : List Waiting) (w : Waiting) → Rises l
 rises-front low high [] w r = (r.0, r.1)
 rises-front low high (v ∷ ws) w r = let t = rises-front (suc v.seq) high ws w r.1 in ((r.0, t.0), t.1)
 
-pub last-seq : (low high : ℕ) (ws : List Waiting) (w : Waiting) → Rises low (suc high) (ws ++ w ∷ []) → IsSome (held_at (ws ++ w ∷ []) high) → w.seq ≡ high
+pub last-seq : (low high : ℕ) (ws : List Waiting) (w : Waiting) → Rises low (suc high) (ws ++ w ∷ []) → IsSome (held_at (ws ++ w ∷ []) high)
+    → w.seq ≡ high
 last-seq low high ws w r some =
     let t = rises-front low (suc high) ws w r in
-    ⊎_elim (λ e. sym e) (λ ne. absurd (gone (held-push_other ws w high ne ∙ held-high low w.seq ws high t.0 (omega (arith, t.1))))) (cases_eq high w.seq)
+    ⊎_elim (λ e. sym e) (λ ne. absurd (gone (held-push_other ws w high ne ∙ held-high low w.seq ws high t.0 (omega (arith, t.1)))))
+    (cases_eq high w.seq)
   where
     gone : held_at (ws ++ w ∷ []) high ≡ None → ⊥
     gone e = false≢true (rw e at some)
@@ -150,7 +162,8 @@ searched ws k sorted (Err at) in_range parted = record {
   within = tt;
   found = tt;
   absent = held-absent ws k (λ i d l e. elim (cases_lt i at) [
-    | inl below ↦ let lt : (get_or ws i d).seq < k = ranked _ k _ (sym ((parted (rise ws k sorted)).0 i d (omega arith) below)) in omega arith
+    | inl below ↦ let lt : (get_or ws i d).seq < k = ranked _ k _ (sym ((parted (rise ws k sorted)).0 i d (omega arith) below)) in
+        omega arith
     | inr above ↦ let gt : k < (get_or ws i d).seq = ranked _ k _ (sym ((parted (rise ws k sorted)).1 i d above l)) in omega arith
   ]);
 }

@@ -11,3 +11,7 @@ pub mod Reading
 pub mod Sends
 pub mod Behind
 pub mod Taking
+pub mod Quiet
+pub mod Listing
+pub mod Lemmas
+pub mod Worked

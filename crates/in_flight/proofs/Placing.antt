@@ -1,11 +1,11 @@
 -- The places of links among all pairs of nodes: each link has its own, and each place has its source and destination.
-use Rattle.std.proofs.Common.{◌≡◌, ℕ, suc, zero, ◌+◌, ◌-◌, ◌*◌, ◌/◌, ◌%◌, ◌<◌, ◌≤◌, ◌≢◌, Bool, true, false, cond, ◌&&◌, nat_lt, if◌then◌else◌, ⊎_elim, inl, inr, Option, Some, None, refl, ap, sym, subst, ◌∙◌, arith}
-use Rattle.std.proofs.lemmas.Bool.{cases_lt, cases_Bool, and_parts, cond-true, cond-false, ltb-true, lt-ltb, le-ltb}
+use Rattle.std.proofs.Common.{◌≡◌, ℕ, ◌+◌, ◌*◌, ◌/◌, ◌%◌, ◌<◌, ◌≤◌, true, false, nat_lt, ⊎_elim, Some, None, refl, ap, subst, ◌∙◌, arith}
+use Rattle.std.proofs.lemmas.Bool.{cases_lt, and_parts, ltb-true, lt-ltb, le-ltb}
 use Rattle.std.proofs.lemmas.Bool.Decides.{nat_tests}
 use Rattle.std.proofs.lemmas.Option.{cond_some}
 use Rattle.std.proofs.lemmas.Nat.{div-mul-add, mod-mul-add, mul-add-lt, div_below, mod_below, div-add-mod'}
 use Rattle.tcc_maps.specs.Nodes.{Node, Core, Dir, Vendor, node_eq}
-use Rattle.in_flight.specs.Places.{is_link, node_count, rank, node_at, place, src_at, dst_at}
+use Rattle.in_flight.specs.Places.{is_link, rank, node_at, place, src_at, dst_at}
 
 core-at : (cs ds c : ℕ) → c < cs → node_at cs ds c ≡ Core c
 core-at cs ds c h = rw (lt-ltb c cs h) refl
@@ -87,15 +87,18 @@ place-none cs ds s d e = rw e refl
 rank-at : (cs ds n : ℕ) → n < cs + ds + 1 → rank cs ds (node_at cs ds n) ≡ n
 rank-at cs ds n h =
     ⊎_elim (λ lt. rw (lt-ltb n cs lt) refl)
-    (λ le. ⊎_elim (λ lt. rw (le-ltb n cs le, lt-ltb n (cs + ds) lt) (omega arith)) (λ ge. rw (le-ltb n cs le, le-ltb n (cs + ds) ge) (omega arith)) (cases_lt n (cs + ds)))
+    (λ le. ⊎_elim (λ lt. rw (le-ltb n cs le, lt-ltb n (cs + ds) lt) (omega arith))
+    (λ ge. rw (le-ltb n cs le, le-ltb n (cs + ds) ge) (omega arith)) (cases_lt n (cs + ds)))
     (cases_lt n cs)
 
 -- each place is that of its source and destination, where they have a link
-pub place-at : (cs ds i : ℕ) → i < (cs + ds + 1) * (cs + ds + 1) → is_link cs ds (src_at cs ds i) (dst_at cs ds i) ≡ true → place cs ds (src_at cs ds i) (dst_at cs ds i) ≡ Some i
+pub place-at : (cs ds i : ℕ) → i < (cs + ds + 1) * (cs + ds + 1) → is_link cs ds (src_at cs ds i) (dst_at cs ds i) ≡ true
+    → place cs ds (src_at cs ds i) (dst_at cs ds i) ≡ Some i
 unfolding place
 place-at cs ds i h e =
     let m : 0 < cs + ds + 1 = omega arith in
-    let a : rank cs ds (src_at cs ds i) ≡ i / (cs + ds + 1) = rank-at cs ds (i / (cs + ds + 1)) (div_below i (cs + ds + 1) (cs + ds + 1) m h) in
+    let a : rank cs ds (src_at cs ds i) ≡ i / (cs + ds + 1) =
+    rank-at cs ds (i / (cs + ds + 1)) (div_below i (cs + ds + 1) (cs + ds + 1) m h) in
     let b : rank cs ds (dst_at cs ds i) ≡ i % (cs + ds + 1) = rank-at cs ds (i % (cs + ds + 1)) (mod_below i (cs + ds + 1) m) in
     rw (e, a, b) (ap Some (div-add-mod' i (cs + ds + 1)))
 

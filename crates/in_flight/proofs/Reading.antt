@@ -1,15 +1,15 @@
 -- What is read of one link: its messages and marks by its lane.
-use Rattle.std.proofs.Common.{◌≡◌, ℕ, ◌<◌, Bool, true, false, List, [], map, length, get_or, Option, Some, None, is_some, refl, ap, sym, ◌∙◌, arith}
+use Rattle.std.proofs.Common.{◌≡◌, ℕ, true, false, [], length, get_or, Option, Some, None, is_some, refl, ap, sym, ◌∙◌}
 use Rattle.std.proofs.lemmas.List.{length-map}
 use Rattle.tcc_maps.specs.Words.{those}
-use Rattle.tcc_maps.specs.Nodes.{Node, Msg}
+use Rattle.tcc_maps.specs.Nodes.{Node}
 use Rattle.tcc_msg.specs.Plain.{msg_of}
 use Rattle.tcc_rules.specs.Links.{in_flight}
 use Rattle.in_flight.specs.declared.lane.Held.{Held}
 use Rattle.in_flight.specs.Lane.{Lane, message, is_marked, is_waiting, numbers_of}
 use Rattle.in_flight.specs.Flights.{Flights, lane, net_of, is_ready}
 use Rattle.in_flight.proofs.Numbers.{those-same}
-use Rattle.in_flight.proofs.Lanes.{get-message, in-flight}
+use Rattle.in_flight.proofs.Lanes.{in-flight}
 
 pub net-length : (f : Flights) (s d : Node) → length (net_of f s d) ≡ length (lane f s d)
 unfolding net_of
@@ -18,7 +18,8 @@ net-length f s d = length-map (lane f s d) message
 pub net-none : (f : Flights) (s d : Node) → lane f s d ≡ [] → length (net_of f s d) ≡ 0
 net-none f s d e = net-length f s d ∙ ap length e
 
-pub flown-some : (f : Flights) (s d : Node) (k : ℕ) (l : Lane) (h : Held) → l ≡ lane f s d → Some h ≡ get_or l k None → Some (msg_of h.msg) ≡ in_flight (net_of f) s d k
+pub flown-some : (f : Flights) (s d : Node) (k : ℕ) (l : Lane) (h : Held) → l ≡ lane f s d → Some h ≡ get_or l k None
+    → Some (msg_of h.msg) ≡ in_flight (net_of f) s d k
 unfolding message
 flown-some f s d k l h e g = ap message (g ∙ ap (λ m. get_or m k None) e) ∙ sym (in-flight f s d k)
 
@@ -29,7 +30,8 @@ flown-none f s d k l e g = ap message (g ∙ ap (λ m. get_or m k None) e) ∙ s
 pub flown-no_lane : (f : Flights) (s d : Node) (k : ℕ) → lane f s d ≡ [] → None ≡ in_flight (net_of f) s d k
 flown-no_lane f s d k e = flown-none f s d k [] (sym e) refl
 
-pub ready-some : (f : Flights) (s d : Node) (k : ℕ) (l : Lane) (h : Held) → l ≡ lane f s d → Some h ≡ get_or l k None → h.ready ≡ is_ready f s d k
+pub ready-some : (f : Flights) (s d : Node) (k : ℕ) (l : Lane) (h : Held) → l ≡ lane f s d → Some h ≡ get_or l k None
+    → h.ready ≡ is_ready f s d k
 unfolding is_ready is_marked
 ready-some f s d k l h e g = ap is_marked (g ∙ ap (λ m. get_or m k None) e)
 
@@ -45,7 +47,8 @@ unfolding is_waiting message
 waits None = refl
 waits (Some h) = refl
 
-pub waiting-numbers : (f : Flights) (s d : Node) (l : Lane) → l ≡ lane f s d → numbers_of is_waiting l ≡ those (λ k. is_some (in_flight (net_of f) s d k)) (length (net_of f s d))
+pub waiting-numbers : (f : Flights) (s d : Node) (l : Lane) → l ≡ lane f s d
+    → numbers_of is_waiting l ≡ those (λ k. is_some (in_flight (net_of f) s d k)) (length (net_of f s d))
 unfolding numbers_of
 waiting-numbers f s d l e =
     ap (numbers_of is_waiting) e
@@ -53,7 +56,8 @@ waiting-numbers f s d l e =
     (λ k h. waits (get_or (lane f s d) k None) ∙ ap is_some (sym (in-flight f s d k)))
     ∙ ap (those (λ k. is_some (in_flight (net_of f) s d k))) (sym (net-length f s d)))
 
-pub waiting-no_lane : (f : Flights) (s d : Node) → lane f s d ≡ [] → those (λ k. is_some (in_flight (net_of f) s d k)) (length (net_of f s d)) ≡ []
+pub waiting-no_lane : (f : Flights) (s d : Node) → lane f s d ≡ []
+    → those (λ k. is_some (in_flight (net_of f) s d k)) (length (net_of f s d)) ≡ []
 unfolding those
 waiting-no_lane f s d e = ap (those (λ k. is_some (in_flight (net_of f) s d k))) (net-none f s d e)
 

@@ -1,6 +1,7 @@
 -- The messages in flight of a machine: as the links of the rules, with a mark on each, and the list of those that are marked.
-use Rattle.std.specs.Prelude.{ℕ, ◌-◌, Bool, true, ◌==◌, ◌&&◌, ◌≡◌, List, [], ◌∷◌, ◌++◌, map, length, take, slice_index_or, slice_set, IsSome, Option, Some, None, false, if◌then◌else◌}
-use Rattle.std.specs.List.{flat_map, count_by, sum_by, All}
+use Rattle.std.specs.Prelude.{ℕ, Bool, ◌==◌, ◌&&◌, List, [], ◌∷◌, ◌++◌, map, length, slice_index_or, slice_set}
+use Rattle.std.specs.Prelude.{Option, Some, None, false, if◌then◌else◌}
+use Rattle.std.specs.List.{flat_map, count_by, sum_by}
 use Rattle.tcc_base.specs.declared.names.NodeId.{NodeId}
 use Rattle.tcc_maps.specs.Words.{those}
 use Rattle.tcc_maps.specs.Nodes.{Node, Core, Dir, Vendor, Event, Deliver, node_eq}
@@ -9,7 +10,7 @@ use Rattle.tcc_msg.specs.declared.msg.Msg.{Msg}
 use Rattle.tcc_rules.specs.State.{Link}
 use Rattle.tcc_rules.specs.Seen.{numbers}
 use Rattle.in_flight.specs.Lane.{Lane, message, is_marked, is_waiting}
-use Rattle.in_flight.specs.Places.{is_link, place}
+use Rattle.in_flight.specs.Places.{place}
 
 -- one lane for each pair of nodes, by source and then destination
 pub record Flights : Type 0 where
@@ -53,24 +54,10 @@ ready_on f src dst = map (Deliver src dst) (those (is_ready f src dst) (length (
 unfoldable pub ready_list : Flights → List Event
 ready_list f = flat_map (λ src. flat_map (ready_on f src) (nodes_of f)) (nodes_of f)
 
--- src has a link to the destination of each message
-abbrev pub HasLinks : Flights → Node → List (NodeId × Msg) → Type 0
-HasLinks f src sends = All (λ e. is_link f.cores f.dirs src (node_of e.0) ≡ true) sends
-
 -- one more message at the end of a lane, not marked
 abbrev pub and_sent : Option ℕ → Msg → List Lane → List Lane
 and_sent None m ls = ls
 and_sent (Some i) m ls = slice_set ls i (slice_index_or ls i [] ++ Some (record { msg = m; ready = false }) ∷ [])
-
--- the last message of a lane taken back
-abbrev pub and_back : Option ℕ → List Lane → List Lane
-and_back None ls = ls
-and_back (Some i) ls = slice_set ls i (take (length (slice_index_or ls i []) - 1) (slice_index_or ls i []))
-
--- the last message of a lane is in flight
-abbrev pub LastWaits : Option ℕ → List Lane → Type 0
-LastWaits None ls = ⊥
-LastWaits (Some i) ls = IsSome (slice_index_or (slice_index_or ls i []) (length (slice_index_or ls i []) - 1) None)
 
 -- the lanes after these messages from src
 unfoldable pub with_sent : (cores dirs : ℕ) → Node → List (NodeId × Msg) → List Lane → List Lane

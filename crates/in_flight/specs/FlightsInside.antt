@@ -1,5 +1,5 @@
 -- The fields of the messages in flight, and what always holds of them.
-use Rattle.std.specs.Prelude.{ℕ, ◌≡◌, ◌*◌, ◌<◌, ◌≤◌, false, [], map, length, slice_index_or}
+use Rattle.std.specs.Prelude.{ℕ, ◌≡◌, ◌*◌, ◌≤◌, false, [], map, length, slice_index_or}
 use Rattle.std.specs.List.{count_by, sum_by}
 use Rattle.in_flight.specs.declared.flights.InFlight.TheInside.{Inside}
 use Rattle.in_flight.specs.Lane.{is_marked, is_waiting}

@@ -1,5 +1,5 @@
 -- A link with marks: what was sent on it in order, each None once it is consumed, with whether it may be delivered.
-use Rattle.std.specs.Prelude.{ℕ, Bool, true, false, List, length, slice_index_or, Option, Some, None, option_map, is_some}
+use Rattle.std.specs.Prelude.{ℕ, Bool, true, false, List, length, slice_index_or, Option, Some, None}
 use Rattle.tcc_maps.specs.Words.{those}
 use Rattle.tcc_maps.specs.Nodes.{Msg}
 use Rattle.tcc_msg.specs.Plain.{msg_of}

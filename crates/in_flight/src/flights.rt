@@ -1,5 +1,6 @@
 // The messages in flight of a machine, and which of them may be delivered.
-ghost use Rattle.std.specs.Prelude.{◌≡◌, ◌↔◌, ◌+◌, ◌-◌, ◌^◌, ◌≤◌, ◌<◌, ℕ, true, false, [], ◌∷◌, length, replicate, slice_get, slice_index, slice_set, Option, Some, None, IsTrue, IsSome, IfOk, OnOk, OnErr, IfNone, IfSome, option_map, is_some};
+ghost use Rattle.std.specs.Prelude.{◌≡◌, ◌↔◌, ◌+◌, ◌-◌, ◌^◌, ◌≤◌, ◌<◌, ℕ, true, false, [], ◌∷◌, length, replicate, IsTrue, IfOk, OnOk, OnErr};
+ghost use Rattle.std.specs.Prelude.{slice_get, slice_index, slice_set, Option, Some, None, IsSome, IfNone, IfSome, option_map, is_some};
 ghost use Rattle.tcc_maps.specs.Words.{those, num};
 ghost use Rattle.tcc_maps.specs.Nodes.{Node, Deliver};
 ghost use Rattle.tcc_maps.specs.Bridge.{node_of};

@@ -1,5 +1,6 @@
 // One link with marks: the messages on it that are in flight, by rising number.
-ghost use Rattle.std.specs.Prelude.{◌≡◌, ℕ, ◌+◌, ◌-◌, ◌^◌, ◌<◌, ◌≤◌, List, [], ◌∷◌, ◌++◌, length, take, map, slice_index_or, slice_set, slice_get, Option, Some, None, false, OnOk, OnErr, IfSome, IfNone, IsSome, option_map, option_copied};
+ghost use Rattle.std.specs.Prelude.{◌≡◌, ℕ, ◌+◌, ◌-◌, ◌^◌, ◌<◌, ◌≤◌, List, [], ◌∷◌, ◌++◌, length, take, map};
+ghost use Rattle.std.specs.Prelude.{slice_index_or, slice_set, slice_get, Option, Some, None, false, OnOk, OnErr, IfSome, IfNone, IsSome, option_map, option_copied};
 ghost use Rattle.std.specs.List.{count_by, filter};
 ghost use Rattle.std.specs.List.Sorted.{IsNonDecreasingBy};
 ghost use Rattle.in_flight.specs.Laid.{held_at};
@@ -83,15 +84,6 @@ impl Lane {
         }
     }
 
-    /// Takes back the last message that was sent, which is still in flight: as if it had never been sent. It takes constant time.
-    pub fn take_back(&mut self)
-        requires { IsSome (slice_index_or self.old (length self.old - 1) None) }
-        ensures { self.new ≡ take (length self.old - 1) self.old }
-    {
-        self.waiting.pop();
-        self.sent -= 1;
-    }
-
     /// The message of that number with its mark; `None` exactly where it isn't in flight. The time goes with the logarithm of the
     /// number in flight here.
     pub fn get(&self, seq: u64) -> Option<&Held>
@@ -108,7 +100,8 @@ impl Lane {
         ensures taken { self.new ≡ slice_set self.old seq None }
     {
         let at = find(&self.waiting, seq)?;
-        Some(self.waiting.remove(at).held)
+        let waiting = self.waiting.remove(at);
+        Some(waiting.held)
     }
 
     /// Marks the message of that number, or takes its mark, and says whether it was marked. The time goes with the logarithm of the
@@ -165,7 +158,8 @@ fn find(waiting: &[Waiting], seq: u64) -> Option<usize>
 fn mark(waiting: &mut [Waiting], at: usize, ready: bool) -> bool
     requires { at < length waiting.old }
     ensures was { (d : Waiting) → result ≡ (slice_index_or waiting.old at d).held.ready }
-    ensures now { (d : Waiting) → let w = slice_index_or waiting.old at d in waiting.new ≡ slice_set waiting.old at (record w { held = record w.held { ready = ready } }) }
+    ensures now { (d : Waiting) → let w = slice_index_or waiting.old at d in
+        waiting.new ≡ slice_set waiting.old at (record w { held = record w.held { ready = ready } }) }
 {
     let was = waiting[at].held.ready;
     waiting[at].held.ready = ready;

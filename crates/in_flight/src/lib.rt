@@ -9,5 +9,4 @@ mod sending;
 mod tests;
 
 pub use flights::InFlight;
-pub use grid::Grid;
 pub use lane::{Held, Lane, Waiting};

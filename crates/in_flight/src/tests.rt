@@ -1,53 +1,51 @@
 // Messages sent, marked, listed and taken, with ample memory.
-use crate::InFlight;
+use crate::{InFlight, Lane};
 use std::test::Fail;
-use tcc_base::{CoreId, DirId, NodeId, Tid};
+use tcc_base::{CoreId, DirId, NoMemory, NodeId, Tid};
 use tcc_msg::{Msg, Name};
 
-const CORE: NodeId = NodeId::Core(CoreId(1));
+// Skip 7, then Skip 8.
+fn two_sent(alloc: std::alloc::Global) -> Result<Lane, NoMemory> {
+    let mut lane = Lane::new(alloc);
+    lane.send(Msg::Skip { tid: Tid(7) })?;
+    lane.send(Msg::Skip { tid: Tid(8) })?;
+    Ok(lane)
+}
 
-const DIR: NodeId = NodeId::Dir(DirId(0));
+#[test]
+fn a_lane_gives_by_number(rt: HostRuntime) -> Result<(), NoMemory> {
+    let mut lane = two_sent(rt.alloc())?;
+    assert_eq!(rt;
+        lane.take(0).map(|held| held.msg),
+        Some(Msg::Skip { tid: Tid(7) })
+    );
+    assert!(rt; lane.get(0).is_none());
+    assert!(rt; lane.get(1).is_some());
+    assert_eq!(rt; lane.sent(), 2);
+    assert_eq!(rt; lane.waiting(), 1);
+    Ok(())
+}
 
 #[test]
 fn marked_messages_are_listed_by_link(rt: HostRuntime) -> Result<(), Fail> {
+    let core = NodeId::Core(CoreId(1));
+    let dir = NodeId::Dir(DirId(0));
     let mut flights = InFlight::new(rt.alloc(), 2, 1).map_err(|_| "memory")?;
-    flights
-        .push(CORE, NodeId::Vendor, Msg::TidReq, false)
+    let mut out = Outgoing::new(rt.alloc());
+    out.push(NodeId::Vendor, Msg::TidReq).map_err(|_| "memory")?;
+    out.push(dir, Msg::Skip { tid: Tid(7) })
         .map_err(|_| "memory")?;
-    flights
-        .push(CORE, DIR, Msg::Skip { tid: Tid(7) }, false)
-        .map_err(|_| "memory")?;
-    flights
-        .push(CORE, DIR, Msg::Skip { tid: Tid(8) }, false)
-        .map_err(|_| "memory")?;
-    assert_eq!(rt; flights.sent(CORE, DIR), 2);
-    assert_eq!(rt; flights.ready_count(), 0);
-    flights.set_ready(CORE, NodeId::Vendor, 0, true);
-    flights.set_ready(CORE, DIR, 1, true);
+    flights.send(core, &mut out).map_err(|_| "memory")?;
     let name = Name {
-        src: CORE,
-        dst: DIR,
-        seq: 1,
+        src: core,
+        dst: dir,
+        seq: 0,
     };
+    assert!(rt; flights.get(name).is_some());
+    flights.set_ready(core, dir, 0, true);
     assert_eq!(rt; flights.ready_at(0), Some(name));
-    assert_eq!(rt;
-        flights.ready_at(1),
-        Some(Name {
-            src: CORE,
-            dst: NodeId::Vendor,
-            seq: 0
-        })
-    );
-    assert_eq!(rt; flights.take(name), Some(Msg::Skip { tid: Tid(8) }));
-    assert_eq!(rt; flights.get(name), None);
-    assert_eq!(rt;
-        flights.waiting_at(CORE, DIR, 0),
-        Some((0, &Msg::Skip { tid: Tid(7) }))
-    );
-    assert_eq!(rt; flights.waiting(CORE, DIR), 1);
-    assert_eq!(rt; flights.ready_count(), 1);
-    assert_eq!(rt; flights.len(), 2);
-    assert_eq!(rt; flights.take(name), None);
-    assert_eq!(rt; flights.len(), 2);
+    assert_eq!(rt; flights.take(name), Some(Msg::Skip { tid: Tid(7) }));
+    assert_eq!(rt; flights.ready_count(), 0);
+    assert_eq!(rt; flights.len(), 1);
     Ok(())
 }

@@ -8,5 +8,6 @@ pub returns : goal.returns
 returns c =
     let facts = c.binary_search_by_key.ensures in
     let by_key = facts.position (λ w. w.seq) (answers_always _ _ _ (λ f a r g called. search rules)) in
-    let found = subst (λ r. Found c.args.waiting.now c.args.seq r) (sym c.ok.ensures.value) (searched c.args.waiting.now c.args.seq c.requires _ facts.bound by_key) in
+    let found = subst (λ r. Found c.args.waiting.now c.args.seq r) (sym c.ok.ensures.value)
+    (searched c.args.waiting.now c.args.seq c.requires _ facts.bound by_key) in
     record { within = found.within; found = found.found; absent = found.absent }

@@ -1,16 +1,18 @@
-use Rattle.std.proofs.Common.{◌≡◌, ℕ, [], length, Option, Some, None, sym, ap, ◌∙◌}
-use Rattle.std.specs.Prelude.{slice_get}
 use Rattle.tcc_maps.specs.Bridge.{node_of}
-use Rattle.in_flight.specs.Flights.{lane, net_of, is_ready}
-use Rattle.in_flight.proofs.Reading.{flown-some, flown-none, flown-no_lane, waiting-numbers, waiting-no_lane}
+use Rattle.in_flight.proofs.Reading.{flown-some, flown-none, flown-no_lane}
 use Rattle.in_flight.proofs.flights.InFlight.get.Goals as goal
 
 pub returns-in_err-lane : goal.returns-in_err-lane
-returns-in_err-lane c = rw c.from_residual.ensures (flown-no_lane c.args.self.now (node_of c.args.name.src) (node_of c.args.name.dst) c.args.name.seq c.in_err-lane.ensures.none)
+returns-in_err-lane c =
+    rw c.from_residual.ensures
+    (flown-no_lane c.args.self.now (node_of c.args.name.src) (node_of c.args.name.dst) c.args.name.seq c.in_err-lane.ensures.none)
 
 pub returns-in_err-held : goal.returns-in_err-held
 returns-in_err-held c =
-    rw c.from_residual-in_err-held.ensures (flown-none c.args.self.now (node_of c.args.name.src) (node_of c.args.name.dst) c.args.name.seq _ c.in_ok-lane.ensures.some c.in_err-held.ensures)
+    rw c.from_residual-in_err-held.ensures
+    (flown-none c.args.self.now (node_of c.args.name.src) (node_of c.args.name.dst) c.args.name.seq _ c.in_ok-lane.ensures.some
+    c.in_err-held.ensures)
 
 pub returns : goal.returns
-returns c = flown-some c.args.self.now (node_of c.args.name.src) (node_of c.args.name.dst) c.args.name.seq _ c.in_ok-held.held.now c.in_ok-lane.ensures.some c.in_ok-held.ensures
+returns c = flown-some c.args.self.now (node_of c.args.name.src) (node_of c.args.name.dst) c.args.name.seq _ c.in_ok-held.held.now
+    c.in_ok-lane.ensures.some c.in_ok-held.ensures

@@ -10,16 +10,19 @@ use Rattle.in_flight.proofs.flights.InFlight.lane.Goals as goal
 pub index-requires : goal.index-requires
 index-requires c =
     let i = c.self.inside in
-    let at : place i.grid.cores i.grid.dirs (node_of c.args.src) (node_of c.args.dst) ≡ Some c.in_ok-at.at = sym c.place.ensures ∙ c.in_ok-at.was in
+    let at : place i.grid.cores i.grid.dirs (node_of c.args.src) (node_of c.args.dst) ≡ Some c.in_ok-at.at = sym c.place.ensures
+    ∙ c.in_ok-at.was in
     omega (arith, (placed _ _ _ _ _ at).below, c.self.invariant.all, c.self.inside.lanes.ok)
 
 pub returns-clause-some : goal.returns-clause-some
 unfolding lane
 returns-clause-some c =
     let i = c.self.inside in
-    let at : place i.grid.cores i.grid.dirs (node_of c.args.src) (node_of c.args.dst) ≡ Some c.in_ok-at.at = sym c.place.ensures ∙ c.in_ok-at.was in
+    let at : place i.grid.cores i.grid.dirs (node_of c.args.src) (node_of c.args.dst) ≡ Some c.in_ok-at.at = sym c.place.ensures
+    ∙ c.in_ok-at.was in
     let within : c.in_ok-at.at < length i.lanes.items = omega (arith, (placed _ _ _ _ _ at).below, c.self.invariant.all) in
-    rw (← c.self.view_is) (get_or_read i.lanes.items c.in_ok-at.at c.index.result.now within c.index.ensures [] ∙ sym (ap (lane_at i.lanes.items) at))
+    rw (← c.self.view_is)
+    (get_or_read i.lanes.items c.in_ok-at.at c.index.result.now within c.index.ensures [] ∙ sym (ap (lane_at i.lanes.items) at))
 
 pub returns-in_err-at-clause-none : goal.returns-in_err-at-clause-none
 unfolding lane

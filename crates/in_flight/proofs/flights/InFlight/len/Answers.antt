@@ -1,5 +1,4 @@
 -- The count is of all that is in flight.
-use Rattle.std.proofs.Common.{sym, ◌∙◌, ap}
 use Rattle.in_flight.specs.Flights.{flying}
 use Rattle.in_flight.proofs.flights.InFlight.len.Goals as goal
 

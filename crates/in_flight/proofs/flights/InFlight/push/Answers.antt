@@ -1,9 +1,9 @@
 -- The message that was put on its link is in flight there.
-use Rattle.std.proofs.Common.{◌≡◌, ◌++◌, [], ◌∷◌, length, List, Some, None, IsSome, Option, refl, ap, sym, ◌∙◌, subst, true}
-use Rattle.std.specs.Prelude.{slice_index_or, if◌then◌else◌}
+use Rattle.std.proofs.Common.{◌≡◌, ◌++◌, [], ◌∷◌, length, Some, None, IsSome, Option, refl, sym, subst}
+use Rattle.std.specs.Prelude.{slice_index_or}
 use Rattle.tcc_base.specs.declared.names.NodeId.{NodeId}
 use Rattle.tcc_maps.specs.Bridge.{node_of}
-use Rattle.tcc_maps.specs.Nodes.{Node, Msg as PlainMsg, node_eq}
+use Rattle.tcc_maps.specs.Nodes.{Node, Msg as PlainMsg}
 use Rattle.tcc_msg.specs.Plain.{msg_of, sends_of}
 use Rattle.tcc_msg.specs.declared.msg.Msg.{Msg}
 use Rattle.tcc_rules.specs.Links.{in_flight, sending, sent_all}

@@ -1,11 +1,11 @@
-use Rattle.std.proofs.Common.{◌≡◌, ℕ, ◌+◌, ◌-◌, ◌*◌, ◌<◌, ◌≤◌, List, [], length, map, slice_index_or, Option, Some, None, false, true, refl, sym, ap, subst, ◌∙◌, arith}
+use Rattle.std.proofs.Common.{length, sym, ap, ◌∙◌}
 use Rattle.tcc_maps.specs.Bridge.{node_of}
-use Rattle.in_flight.specs.Flights.{lane, net_of, is_ready}
-use Rattle.in_flight.proofs.Reading.{net-length, net-none, flown-some, flown-none, flown-no_lane, ready-some, ready-none, ready-no_lane, waiting-numbers, waiting-no_lane}
+use Rattle.in_flight.proofs.Reading.{net-length, net-none}
 use Rattle.in_flight.proofs.flights.InFlight.sent.Goals as goal
 
 pub returns-in-Some : goal.returns-in-Some
-returns-in-Some c = c.sent.ensures ∙ (ap length c.in-Some.ensures.some ∙ sym (net-length c.args.self.now (node_of c.args.src) (node_of c.args.dst)))
+returns-in-Some c = c.sent.ensures
+    ∙ (ap length c.in-Some.ensures.some ∙ sym (net-length c.args.self.now (node_of c.args.src) (node_of c.args.dst)))
 
 pub returns-in-None : goal.returns-in-None
 returns-in-None c = sym (net-none c.args.self.now (node_of c.args.src) (node_of c.args.dst) c.in-None.ensures.none)

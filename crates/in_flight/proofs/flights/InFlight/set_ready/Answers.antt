@@ -1,19 +1,19 @@
 -- The mark of the message is set in its lane, and counted.
-use Rattle.std.proofs.Common.{◌≡◌, ℕ, ◌+◌, ◌-◌, ◌<◌, ◌≤◌, List, [], length, map, get_or, set, Option, Some, None, IsSome, false, sym, ap, subst, ◌∙◌, arith}
-use Rattle.std.specs.Vec.{with_item}
+use Rattle.std.proofs.Common.{◌≡◌, ◌+◌, ◌-◌, ◌<◌, [], map, get_or, set, Some, None, IsSome, sym, ap, subst, ◌∙◌, arith}
 use Rattle.std.specs.List.{count_by, sum_by}
+use Rattle.std.proofs.lemmas.Bool.{false≢true}
 use Rattle.std.proofs.lemmas.List.{get_or_read}
 use Rattle.tcc_maps.specs.Words.{num}
 use Rattle.tcc_maps.specs.Bridge.{node_of}
-use Rattle.tcc_msg.specs.Plain.{msg_of}
-use Rattle.tcc_rules.specs.Links.{in_flight, taking}
-use Rattle.in_flight.specs.Lane.{Lane, is_marked, is_waiting, marked_as}
+use Rattle.tcc_rules.specs.Links.{in_flight}
+use Rattle.in_flight.specs.Lane.{is_marked, is_waiting}
 use Rattle.in_flight.specs.Places.{place}
-use Rattle.in_flight.specs.Flights.{net_of, is_ready, with_mark, lane}
+use Rattle.in_flight.specs.Flights.{net_of, is_ready}
 use Rattle.in_flight.proofs.Lanes.{Laned}
 use Rattle.in_flight.proofs.Flown.{with_lanes}
-use Rattle.in_flight.proofs.Reading.{flown-some, flown-none, flown-no_lane}
-use Rattle.in_flight.proofs.Taking.{Stands, below, counted-below, flies-held, place-lane, place-no_lane, marked-counted, marked-fits, marked-stands, marked-net, marked-ready}
+use Rattle.in_flight.proofs.Reading.{flown-no_lane}
+use Rattle.in_flight.proofs.Taking.{Stands, below, counted-below, flies-held, place-lane, place-no_lane, marked-counted, marked-fits}
+use Rattle.in_flight.proofs.Taking.{marked-stands, marked-net, marked-ready}
 use Rattle.in_flight.proofs.flights.InFlight.set_ready.Goals as goal
 
 pub index_mut-requires : goal.index_mut-requires
@@ -39,8 +39,10 @@ set_ready-was-requires c =
     } in
     let at : place i.grid.cores i.grid.dirs s d ≡ Some c.in-Some.at = sym c.place.ensures ∙ c.in-Some.is in
     let e : c.index_mut.result.now ≡ get_or i.lanes.items c.in-Some.at [] =
-    get_or_read i.lanes.items c.in-Some.at c.index_mut.result.now (below i.grid.cores i.grid.dirs i.lanes.items i.ready i.flying s d c.in-Some.at stands at) c.index_mut.ensures.value [] in
-    flies-held (with_lanes i.grid.cores i.grid.dirs i.lanes.items) s d c.args.seq c.index_mut.result.now (e ∙ sym (place-lane i.grid.cores i.grid.dirs i.lanes.items s d c.in-Some.at at))
+    get_or_read i.lanes.items c.in-Some.at c.index_mut.result.now
+    (below i.grid.cores i.grid.dirs i.lanes.items i.ready i.flying s d c.in-Some.at stands at) c.index_mut.ensures.value [] in
+    flies-held (with_lanes i.grid.cores i.grid.dirs i.lanes.items) s d c.args.seq c.index_mut.result.now
+    (e ∙ sym (place-lane i.grid.cores i.grid.dirs i.lanes.items s d c.in-Some.at at))
     (subst (λ f. IsSome (in_flight (net_of f) s d c.args.seq)) (sym c.self.view_is) c.requires)
 
 pub count_mark-requires-clause-place : goal.count_mark-requires-clause-place
@@ -66,11 +68,15 @@ count_mark-requires-clause-counted c =
     } in
     let at : place i.grid.cores i.grid.dirs s d ≡ Some c.in-Some.at = sym c.place.ensures ∙ c.in-Some.is in
     let e : c.index_mut.result.now ≡ get_or i.lanes.items c.in-Some.at [] =
-    get_or_read i.lanes.items c.in-Some.at c.index_mut.result.now (below i.grid.cores i.grid.dirs i.lanes.items i.ready i.flying s d c.in-Some.at stands at) c.index_mut.ensures.value [] in
+    get_or_read i.lanes.items c.in-Some.at c.index_mut.result.now
+    (below i.grid.cores i.grid.dirs i.lanes.items i.ready i.flying s d c.in-Some.at stands at) c.index_mut.ensures.value [] in
     let some : IsSome (get_or c.index_mut.result.now c.args.seq None) =
-    flies-held (with_lanes i.grid.cores i.grid.dirs i.lanes.items) s d c.args.seq c.index_mut.result.now (e ∙ sym (place-lane i.grid.cores i.grid.dirs i.lanes.items s d c.in-Some.at at))
+    flies-held (with_lanes i.grid.cores i.grid.dirs i.lanes.items) s d c.args.seq c.index_mut.result.now
+    (e ∙ sym (place-lane i.grid.cores i.grid.dirs i.lanes.items s d c.in-Some.at at))
     (subst (λ f. IsSome (in_flight (net_of f) s d c.args.seq)) (sym c.self.view_is) c.requires) in
-    rw c.set_ready-was.ensures.was (marked-counted i.grid.cores i.grid.dirs i.lanes.items i.ready i.flying s d c.in-Some.at c.args.seq c.index_mut.result.now c.args.ready stands at e some)
+    rw c.set_ready-was.ensures.was
+    (marked-counted i.grid.cores i.grid.dirs i.lanes.items i.ready i.flying s d c.in-Some.at c.args.seq c.index_mut.result.now
+    c.args.ready stands at e some)
 
 pub count_mark-requires-clause-fits : goal.count_mark-requires-clause-fits
 count_mark-requires-clause-fits c =
@@ -83,12 +89,16 @@ count_mark-requires-clause-fits c =
     } in
     let at : place i.grid.cores i.grid.dirs s d ≡ Some c.in-Some.at = sym c.place.ensures ∙ c.in-Some.is in
     let e : c.index_mut.result.now ≡ get_or i.lanes.items c.in-Some.at [] =
-    get_or_read i.lanes.items c.in-Some.at c.index_mut.result.now (below i.grid.cores i.grid.dirs i.lanes.items i.ready i.flying s d c.in-Some.at stands at) c.index_mut.ensures.value [] in
+    get_or_read i.lanes.items c.in-Some.at c.index_mut.result.now
+    (below i.grid.cores i.grid.dirs i.lanes.items i.ready i.flying s d c.in-Some.at stands at) c.index_mut.ensures.value [] in
     let some : IsSome (get_or c.index_mut.result.now c.args.seq None) =
-    flies-held (with_lanes i.grid.cores i.grid.dirs i.lanes.items) s d c.args.seq c.index_mut.result.now (e ∙ sym (place-lane i.grid.cores i.grid.dirs i.lanes.items s d c.in-Some.at at))
+    flies-held (with_lanes i.grid.cores i.grid.dirs i.lanes.items) s d c.args.seq c.index_mut.result.now
+    (e ∙ sym (place-lane i.grid.cores i.grid.dirs i.lanes.items s d c.in-Some.at at))
     (subst (λ f. IsSome (in_flight (net_of f) s d c.args.seq)) (sym c.self.view_is) c.requires) in
     let few = subst (λ l. count_by is_marked l < 4294967296) c.set_ready-was.ensures.marked c.set_ready-was.ensures.few in
-    rw c.set_ready-was.ensures.was (marked-fits i.grid.cores i.grid.dirs i.lanes.items i.ready i.flying s d c.in-Some.at c.args.seq c.index_mut.result.now c.args.ready stands at e some few)
+    rw c.set_ready-was.ensures.was
+    (marked-fits i.grid.cores i.grid.dirs i.lanes.items i.ready i.flying s d c.in-Some.at c.args.seq c.index_mut.result.now c.args.ready
+    stands at e some few)
 
 pub invariant_of-self : goal.invariant_of-self
 invariant_of-self c =
@@ -101,11 +111,14 @@ invariant_of-self c =
     } in
     let at : place i.grid.cores i.grid.dirs s d ≡ Some c.in-Some.at = sym c.place.ensures ∙ c.in-Some.is in
     let e : c.index_mut.result.now ≡ get_or i.lanes.items c.in-Some.at [] =
-    get_or_read i.lanes.items c.in-Some.at c.index_mut.result.now (below i.grid.cores i.grid.dirs i.lanes.items i.ready i.flying s d c.in-Some.at stands at) c.index_mut.ensures.value [] in
+    get_or_read i.lanes.items c.in-Some.at c.index_mut.result.now
+    (below i.grid.cores i.grid.dirs i.lanes.items i.ready i.flying s d c.in-Some.at stands at) c.index_mut.ensures.value [] in
     let some : IsSome (get_or c.index_mut.result.now c.args.seq None) =
-    flies-held (with_lanes i.grid.cores i.grid.dirs i.lanes.items) s d c.args.seq c.index_mut.result.now (e ∙ sym (place-lane i.grid.cores i.grid.dirs i.lanes.items s d c.in-Some.at at))
+    flies-held (with_lanes i.grid.cores i.grid.dirs i.lanes.items) s d c.args.seq c.index_mut.result.now
+    (e ∙ sym (place-lane i.grid.cores i.grid.dirs i.lanes.items s d c.in-Some.at at))
     (subst (λ f. IsSome (in_flight (net_of f) s d c.args.seq)) (sym c.self.view_is) c.requires) in
-    let after = marked-stands i.grid.cores i.grid.dirs i.lanes.items i.ready i.flying s d c.in-Some.at c.args.seq c.index_mut.result.now c.args.ready stands at e some in
+    let after = marked-stands i.grid.cores i.grid.dirs i.lanes.items i.ready i.flying s d c.in-Some.at c.args.seq c.index_mut.result.now
+    c.args.ready stands at e some in
     let items = ap (λ l. set i.lanes.items c.in-Some.at l) c.set_ready-was.ensures.marked in
     let laned = subst (λ ls. Laned i.grid.cores i.grid.dirs ls) (sym items) after.laned in
     record {
@@ -113,7 +126,8 @@ invariant_of-self c =
       dirs = c.self.invariant.dirs;
       all = laned.all;
       unlinked = laned.unlinked;
-      counted = c.count_mark.ensures ∙ (ap (λ b. set i.ready c.in-Some.at (get_or i.ready c.in-Some.at 0 + num c.args.ready - num b)) c.set_ready-was.ensures.was
+      counted = c.count_mark.ensures
+          ∙ (ap (λ b. set i.ready c.in-Some.at (get_or i.ready c.in-Some.at 0 + num c.args.ready - num b)) c.set_ready-was.ensures.was
           ∙ (after.counted.counted ∙ ap (map (count_by is_marked)) (sym items)));
       flying = after.counted.flying ∙ ap (sum_by (count_by is_waiting)) (sym items);
     }
@@ -129,9 +143,12 @@ returns-in-Some-clause-net c =
     } in
     let at : place i.grid.cores i.grid.dirs s d ≡ Some c.in-Some.at = sym c.place.ensures ∙ c.in-Some.is in
     let e : c.index_mut.result.now ≡ get_or i.lanes.items c.in-Some.at [] =
-    get_or_read i.lanes.items c.in-Some.at c.index_mut.result.now (below i.grid.cores i.grid.dirs i.lanes.items i.ready i.flying s d c.in-Some.at stands at) c.index_mut.ensures.value [] in
-    rw (← c.self.view_is) (ap (λ l. net_of (with_lanes i.grid.cores i.grid.dirs (set i.lanes.items c.in-Some.at l))) c.set_ready-was.ensures.marked
-    ∙ marked-net i.grid.cores i.grid.dirs i.lanes.items i.ready i.flying s d c.in-Some.at c.args.seq c.index_mut.result.now c.args.ready stands at e)
+    get_or_read i.lanes.items c.in-Some.at c.index_mut.result.now
+    (below i.grid.cores i.grid.dirs i.lanes.items i.ready i.flying s d c.in-Some.at stands at) c.index_mut.ensures.value [] in
+    rw (← c.self.view_is)
+    (ap (λ l. net_of (with_lanes i.grid.cores i.grid.dirs (set i.lanes.items c.in-Some.at l))) c.set_ready-was.ensures.marked
+    ∙ marked-net i.grid.cores i.grid.dirs i.lanes.items i.ready i.flying s d c.in-Some.at c.args.seq c.index_mut.result.now c.args.ready
+    stands at e)
 
 pub returns-in-Some-clause-ready : goal.returns-in-Some-clause-ready
 returns-in-Some-clause-ready c =
@@ -144,12 +161,22 @@ returns-in-Some-clause-ready c =
     } in
     let at : place i.grid.cores i.grid.dirs s d ≡ Some c.in-Some.at = sym c.place.ensures ∙ c.in-Some.is in
     let e : c.index_mut.result.now ≡ get_or i.lanes.items c.in-Some.at [] =
-    get_or_read i.lanes.items c.in-Some.at c.index_mut.result.now (below i.grid.cores i.grid.dirs i.lanes.items i.ready i.flying s d c.in-Some.at stands at) c.index_mut.ensures.value [] in
+    get_or_read i.lanes.items c.in-Some.at c.index_mut.result.now
+    (below i.grid.cores i.grid.dirs i.lanes.items i.ready i.flying s d c.in-Some.at stands at) c.index_mut.ensures.value [] in
     let some : IsSome (get_or c.index_mut.result.now c.args.seq None) =
-    flies-held (with_lanes i.grid.cores i.grid.dirs i.lanes.items) s d c.args.seq c.index_mut.result.now (e ∙ sym (place-lane i.grid.cores i.grid.dirs i.lanes.items s d c.in-Some.at at))
+    flies-held (with_lanes i.grid.cores i.grid.dirs i.lanes.items) s d c.args.seq c.index_mut.result.now
+    (e ∙ sym (place-lane i.grid.cores i.grid.dirs i.lanes.items s d c.in-Some.at at))
     (subst (λ f. IsSome (in_flight (net_of f) s d c.args.seq)) (sym c.self.view_is) c.requires) in
-    rw (← c.self.view_is) (ap (λ l. is_ready (with_lanes i.grid.cores i.grid.dirs (set i.lanes.items c.in-Some.at l))) c.set_ready-was.ensures.marked
-    ∙ marked-ready i.grid.cores i.grid.dirs i.lanes.items i.ready i.flying s d c.in-Some.at c.args.seq c.index_mut.result.now c.args.ready stands at e some)
+    rw (← c.self.view_is)
+    (ap (λ l. is_ready (with_lanes i.grid.cores i.grid.dirs (set i.lanes.items c.in-Some.at l))) c.set_ready-was.ensures.marked
+    ∙ marked-ready i.grid.cores i.grid.dirs i.lanes.items i.ready i.flying s d c.in-Some.at c.args.seq c.index_mut.result.now c.args.ready
+    stands at e some)
 
 pub returns-in_default-clause-ready : goal.returns-in_default-clause-ready
-returns-in_default-clause-ready c = ?
+returns-in_default-clause-ready c =
+    let i = c.self.inside in
+    let s = node_of c.args.src in
+    let d = node_of c.args.dst in
+    let none = place-no_lane i.grid.cores i.grid.dirs i.lanes.items s d (sym c.place.ensures ∙ c.in_default.is) in
+    absurd (false≢true (subst (λ o. IsSome o) (sym (flown-no_lane (with_lanes i.grid.cores i.grid.dirs i.lanes.items) s d c.args.seq none))
+    (subst (λ f. IsSome (in_flight (net_of f) s d c.args.seq)) (sym c.self.view_is) c.requires)))

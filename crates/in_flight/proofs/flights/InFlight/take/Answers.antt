@@ -1,19 +1,16 @@
 -- The message is taken out of its lane, and counted no longer.
-use Rattle.std.proofs.Common.{◌≡◌, ℕ, ◌+◌, ◌-◌, ◌<◌, ◌≤◌, List, [], length, map, get_or, set, Option, Some, None, IsSome, false, sym, ap, subst, ◌∙◌, arith}
-use Rattle.std.specs.Vec.{with_item}
+use Rattle.std.proofs.Common.{◌≡◌, [], map, get_or, set, Some, sym, ap, subst, ◌∙◌, arith}
 use Rattle.std.specs.List.{count_by, sum_by}
 use Rattle.std.proofs.lemmas.List.{get_or_read}
-use Rattle.tcc_maps.specs.Words.{num}
 use Rattle.tcc_maps.specs.Bridge.{node_of}
-use Rattle.tcc_msg.specs.Plain.{msg_of}
-use Rattle.tcc_rules.specs.Links.{in_flight, taking}
-use Rattle.in_flight.specs.Lane.{Lane, is_marked, is_waiting, marked_as}
+use Rattle.in_flight.specs.Lane.{is_marked, is_waiting}
 use Rattle.in_flight.specs.Places.{place}
-use Rattle.in_flight.specs.Flights.{net_of, is_ready, with_mark, lane}
+use Rattle.in_flight.specs.Flights.{net_of, is_ready}
 use Rattle.in_flight.proofs.Lanes.{Laned}
 use Rattle.in_flight.proofs.Flown.{with_lanes}
 use Rattle.in_flight.proofs.Reading.{flown-some, flown-none, flown-no_lane}
-use Rattle.in_flight.proofs.Taking.{Stands, below, counted-below, taken-flying, taken-marked, taken-stands, taken-net, taken-ready, no_link-net, no_link-ready, place-no_lane, place-lane}
+use Rattle.in_flight.proofs.Taking.{Stands, below, counted-below, taken-flying, taken-marked, taken-stands, taken-net, taken-ready}
+use Rattle.in_flight.proofs.Taking.{no_link-net, no_link-ready, place-no_lane, place-lane}
 use Rattle.in_flight.proofs.flights.InFlight.take.Goals as goal
 
 pub returns-in_err-at-clause-given : goal.returns-in_err-at-clause-given
@@ -75,9 +72,11 @@ returns-in_err-held-clause-given c =
     } in
     let at : place i.grid.cores i.grid.dirs s d ≡ Some c.in_ok-at.at = sym c.place.ensures ∙ c.in_ok-at.was in
     let e : c.index_mut.result.now ≡ get_or i.lanes.items c.in_ok-at.at [] =
-    get_or_read i.lanes.items c.in_ok-at.at c.index_mut.result.now (below i.grid.cores i.grid.dirs i.lanes.items i.ready i.flying s d c.in_ok-at.at stands at) c.index_mut.ensures.value [] in
+    get_or_read i.lanes.items c.in_ok-at.at c.index_mut.result.now
+    (below i.grid.cores i.grid.dirs i.lanes.items i.ready i.flying s d c.in_ok-at.at stands at) c.index_mut.ensures.value [] in
     rw (← c.self.view_is, c.from_residual-in_err-held.ensures)
-    (flown-none _ s d c.args.name.seq _ (e ∙ sym (place-lane i.grid.cores i.grid.dirs i.lanes.items s d c.in_ok-at.at at)) c.in_err-held.ensures.given)
+    (flown-none _ s d c.args.name.seq _ (e ∙ sym (place-lane i.grid.cores i.grid.dirs i.lanes.items s d c.in_ok-at.at at))
+    c.in_err-held.ensures.given)
 
 pub returns-in_err-held-clause-net : goal.returns-in_err-held-clause-net
 returns-in_err-held-clause-net c =
@@ -90,9 +89,11 @@ returns-in_err-held-clause-net c =
     } in
     let at : place i.grid.cores i.grid.dirs s d ≡ Some c.in_ok-at.at = sym c.place.ensures ∙ c.in_ok-at.was in
     let e : c.index_mut.result.now ≡ get_or i.lanes.items c.in_ok-at.at [] =
-    get_or_read i.lanes.items c.in_ok-at.at c.index_mut.result.now (below i.grid.cores i.grid.dirs i.lanes.items i.ready i.flying s d c.in_ok-at.at stands at) c.index_mut.ensures.value [] in
+    get_or_read i.lanes.items c.in_ok-at.at c.index_mut.result.now
+    (below i.grid.cores i.grid.dirs i.lanes.items i.ready i.flying s d c.in_ok-at.at stands at) c.index_mut.ensures.value [] in
     rw (← c.self.view_is) (ap (λ l. net_of (with_lanes i.grid.cores i.grid.dirs (set i.lanes.items c.in_ok-at.at l))) c.take.ensures.taken
-    ∙ taken-net i.grid.cores i.grid.dirs i.lanes.items i.ready i.flying s d c.in_ok-at.at c.args.name.seq c.index_mut.result.now stands at e)
+    ∙ taken-net i.grid.cores i.grid.dirs i.lanes.items i.ready i.flying s d c.in_ok-at.at c.args.name.seq c.index_mut.result.now stands at
+    e)
 
 pub returns-in_err-held-clause-ready : goal.returns-in_err-held-clause-ready
 returns-in_err-held-clause-ready c =
@@ -105,9 +106,11 @@ returns-in_err-held-clause-ready c =
     } in
     let at : place i.grid.cores i.grid.dirs s d ≡ Some c.in_ok-at.at = sym c.place.ensures ∙ c.in_ok-at.was in
     let e : c.index_mut.result.now ≡ get_or i.lanes.items c.in_ok-at.at [] =
-    get_or_read i.lanes.items c.in_ok-at.at c.index_mut.result.now (below i.grid.cores i.grid.dirs i.lanes.items i.ready i.flying s d c.in_ok-at.at stands at) c.index_mut.ensures.value [] in
+    get_or_read i.lanes.items c.in_ok-at.at c.index_mut.result.now
+    (below i.grid.cores i.grid.dirs i.lanes.items i.ready i.flying s d c.in_ok-at.at stands at) c.index_mut.ensures.value [] in
     rw (← c.self.view_is) (ap (λ l. is_ready (with_lanes i.grid.cores i.grid.dirs (set i.lanes.items c.in_ok-at.at l))) c.take.ensures.taken
-    ∙ taken-ready i.grid.cores i.grid.dirs i.lanes.items i.ready i.flying s d c.in_ok-at.at c.args.name.seq c.index_mut.result.now stands at e)
+    ∙ taken-ready i.grid.cores i.grid.dirs i.lanes.items i.ready i.flying s d c.in_ok-at.at c.args.name.seq c.index_mut.result.now stands at
+    e)
 
 pub overflow_sub-self : goal.overflow_sub-self
 overflow_sub-self c =
@@ -120,8 +123,10 @@ overflow_sub-self c =
     } in
     let at : place i.grid.cores i.grid.dirs s d ≡ Some c.in_ok-at.at = sym c.place.ensures ∙ c.in_ok-at.was in
     let e : c.index_mut.result.now ≡ get_or i.lanes.items c.in_ok-at.at [] =
-    get_or_read i.lanes.items c.in_ok-at.at c.index_mut.result.now (below i.grid.cores i.grid.dirs i.lanes.items i.ready i.flying s d c.in_ok-at.at stands at) c.index_mut.ensures.value [] in
-    taken-flying i.grid.cores i.grid.dirs i.lanes.items i.ready i.flying s d c.in_ok-at.at c.args.name.seq c.index_mut.result.now c.in_ok-held.held stands at e c.in_ok-held.ensures.given
+    get_or_read i.lanes.items c.in_ok-at.at c.index_mut.result.now
+    (below i.grid.cores i.grid.dirs i.lanes.items i.ready i.flying s d c.in_ok-at.at stands at) c.index_mut.ensures.value [] in
+    taken-flying i.grid.cores i.grid.dirs i.lanes.items i.ready i.flying s d c.in_ok-at.at c.args.name.seq c.index_mut.result.now
+    c.in_ok-held.held stands at e c.in_ok-held.ensures.given
 
 pub count_mark-requires-clause-place : goal.count_mark-requires-clause-place
 count_mark-requires-clause-place c =
@@ -146,8 +151,10 @@ count_mark-requires-clause-counted c =
     } in
     let at : place i.grid.cores i.grid.dirs s d ≡ Some c.in_ok-at.at = sym c.place.ensures ∙ c.in_ok-at.was in
     let e : c.index_mut.result.now ≡ get_or i.lanes.items c.in_ok-at.at [] =
-    get_or_read i.lanes.items c.in_ok-at.at c.index_mut.result.now (below i.grid.cores i.grid.dirs i.lanes.items i.ready i.flying s d c.in_ok-at.at stands at) c.index_mut.ensures.value [] in
-    taken-marked i.grid.cores i.grid.dirs i.lanes.items i.ready i.flying s d c.in_ok-at.at c.args.name.seq c.index_mut.result.now c.in_ok-held.held stands at e c.in_ok-held.ensures.given
+    get_or_read i.lanes.items c.in_ok-at.at c.index_mut.result.now
+    (below i.grid.cores i.grid.dirs i.lanes.items i.ready i.flying s d c.in_ok-at.at stands at) c.index_mut.ensures.value [] in
+    taken-marked i.grid.cores i.grid.dirs i.lanes.items i.ready i.flying s d c.in_ok-at.at c.args.name.seq c.index_mut.result.now
+    c.in_ok-held.held stands at e c.in_ok-held.ensures.given
 
 pub invariant_of-self-2 : goal.invariant_of-self-2
 invariant_of-self-2 c =
@@ -160,8 +167,10 @@ invariant_of-self-2 c =
     } in
     let at : place i.grid.cores i.grid.dirs s d ≡ Some c.in_ok-at.at = sym c.place.ensures ∙ c.in_ok-at.was in
     let e : c.index_mut.result.now ≡ get_or i.lanes.items c.in_ok-at.at [] =
-    get_or_read i.lanes.items c.in_ok-at.at c.index_mut.result.now (below i.grid.cores i.grid.dirs i.lanes.items i.ready i.flying s d c.in_ok-at.at stands at) c.index_mut.ensures.value [] in
-    let after = taken-stands i.grid.cores i.grid.dirs i.lanes.items i.ready i.flying s d c.in_ok-at.at c.args.name.seq c.index_mut.result.now c.in_ok-held.held stands at e c.in_ok-held.ensures.given in
+    get_or_read i.lanes.items c.in_ok-at.at c.index_mut.result.now
+    (below i.grid.cores i.grid.dirs i.lanes.items i.ready i.flying s d c.in_ok-at.at stands at) c.index_mut.ensures.value [] in
+    let after = taken-stands i.grid.cores i.grid.dirs i.lanes.items i.ready i.flying s d c.in_ok-at.at c.args.name.seq
+    c.index_mut.result.now c.in_ok-held.held stands at e c.in_ok-held.ensures.given in
     let items = ap (λ l. set i.lanes.items c.in_ok-at.at l) c.take.ensures.taken in
     let laned = subst (λ ls. Laned i.grid.cores i.grid.dirs ls) (sym items) after.laned in
     record {
@@ -184,9 +193,11 @@ returns-clause-given c =
     } in
     let at : place i.grid.cores i.grid.dirs s d ≡ Some c.in_ok-at.at = sym c.place.ensures ∙ c.in_ok-at.was in
     let e : c.index_mut.result.now ≡ get_or i.lanes.items c.in_ok-at.at [] =
-    get_or_read i.lanes.items c.in_ok-at.at c.index_mut.result.now (below i.grid.cores i.grid.dirs i.lanes.items i.ready i.flying s d c.in_ok-at.at stands at) c.index_mut.ensures.value [] in
+    get_or_read i.lanes.items c.in_ok-at.at c.index_mut.result.now
+    (below i.grid.cores i.grid.dirs i.lanes.items i.ready i.flying s d c.in_ok-at.at stands at) c.index_mut.ensures.value [] in
     rw (← c.self.view_is)
-    (flown-some _ s d c.args.name.seq _ c.in_ok-held.held (e ∙ sym (place-lane i.grid.cores i.grid.dirs i.lanes.items s d c.in_ok-at.at at)) c.in_ok-held.ensures.given)
+    (flown-some _ s d c.args.name.seq _ c.in_ok-held.held (e ∙ sym (place-lane i.grid.cores i.grid.dirs i.lanes.items s d c.in_ok-at.at at))
+    c.in_ok-held.ensures.given)
 
 pub returns-clause-net : goal.returns-clause-net
 returns-clause-net c =
@@ -199,9 +210,11 @@ returns-clause-net c =
     } in
     let at : place i.grid.cores i.grid.dirs s d ≡ Some c.in_ok-at.at = sym c.place.ensures ∙ c.in_ok-at.was in
     let e : c.index_mut.result.now ≡ get_or i.lanes.items c.in_ok-at.at [] =
-    get_or_read i.lanes.items c.in_ok-at.at c.index_mut.result.now (below i.grid.cores i.grid.dirs i.lanes.items i.ready i.flying s d c.in_ok-at.at stands at) c.index_mut.ensures.value [] in
+    get_or_read i.lanes.items c.in_ok-at.at c.index_mut.result.now
+    (below i.grid.cores i.grid.dirs i.lanes.items i.ready i.flying s d c.in_ok-at.at stands at) c.index_mut.ensures.value [] in
     rw (← c.self.view_is) (ap (λ l. net_of (with_lanes i.grid.cores i.grid.dirs (set i.lanes.items c.in_ok-at.at l))) c.take.ensures.taken
-    ∙ taken-net i.grid.cores i.grid.dirs i.lanes.items i.ready i.flying s d c.in_ok-at.at c.args.name.seq c.index_mut.result.now stands at e)
+    ∙ taken-net i.grid.cores i.grid.dirs i.lanes.items i.ready i.flying s d c.in_ok-at.at c.args.name.seq c.index_mut.result.now stands at
+    e)
 
 pub returns-clause-ready : goal.returns-clause-ready
 returns-clause-ready c =
@@ -214,6 +227,8 @@ returns-clause-ready c =
     } in
     let at : place i.grid.cores i.grid.dirs s d ≡ Some c.in_ok-at.at = sym c.place.ensures ∙ c.in_ok-at.was in
     let e : c.index_mut.result.now ≡ get_or i.lanes.items c.in_ok-at.at [] =
-    get_or_read i.lanes.items c.in_ok-at.at c.index_mut.result.now (below i.grid.cores i.grid.dirs i.lanes.items i.ready i.flying s d c.in_ok-at.at stands at) c.index_mut.ensures.value [] in
+    get_or_read i.lanes.items c.in_ok-at.at c.index_mut.result.now
+    (below i.grid.cores i.grid.dirs i.lanes.items i.ready i.flying s d c.in_ok-at.at stands at) c.index_mut.ensures.value [] in
     rw (← c.self.view_is) (ap (λ l. is_ready (with_lanes i.grid.cores i.grid.dirs (set i.lanes.items c.in_ok-at.at l))) c.take.ensures.taken
-    ∙ taken-ready i.grid.cores i.grid.dirs i.lanes.items i.ready i.flying s d c.in_ok-at.at c.args.name.seq c.index_mut.result.now stands at e)
+    ∙ taken-ready i.grid.cores i.grid.dirs i.lanes.items i.ready i.flying s d c.in_ok-at.at c.args.name.seq c.index_mut.result.now stands at
+    e)

@@ -1,7 +1,6 @@
-use Rattle.std.proofs.Common.{◌≡◌, ℕ, ◌+◌, ◌-◌, ◌*◌, ◌<◌, ◌≤◌, List, [], length, map, slice_index_or, Option, Some, None, false, true, refl, sym, ap, subst, ◌∙◌, arith}
+use Rattle.std.proofs.Common.{length, sym, ap, ◌∙◌}
 use Rattle.tcc_maps.specs.Bridge.{node_of}
-use Rattle.in_flight.specs.Flights.{lane, net_of, is_ready}
-use Rattle.in_flight.proofs.Reading.{net-length, net-none, flown-some, flown-none, flown-no_lane, ready-some, ready-none, ready-no_lane, waiting-numbers, waiting-no_lane}
+use Rattle.in_flight.proofs.Reading.{waiting-numbers, waiting-no_lane}
 use Rattle.in_flight.proofs.flights.InFlight.waiting.Goals as goal
 
 pub returns-in-Some : goal.returns-in-Some

@@ -2,7 +2,6 @@
 use Rattle.std.proofs.Common.{sym, ap, ◌∙◌}
 use Rattle.std.specs.Prelude.{slice_get}
 use Rattle.in_flight.proofs.Numbers.{ready-laid}
-use Rattle.in_flight.specs.Lane.{is_marked, numbers_of}
 use Rattle.in_flight.proofs.lane.Lane.ready_at.Goals as goal
 
 pub returns : goal.returns

@@ -2,7 +2,6 @@
 use Rattle.std.proofs.Common.{ap, ◌∙◌, length, arith}
 use Rattle.std.proofs.lemmas.List.{length-map}
 use Rattle.in_flight.proofs.Numbers.{waiting-laid}
-use Rattle.in_flight.specs.Lane.{is_waiting, numbers_of}
 use Rattle.in_flight.proofs.lane.Lane.waiting.Goals as goal
 
 pub returns : goal.returns

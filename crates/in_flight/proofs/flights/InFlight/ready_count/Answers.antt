@@ -1,0 +1,18 @@
+-- The sum of the counts by place.
+use Rattle.std.proofs.Common.{◌∙◌, sym}
+use Rattle.in_flight.proofs.Taking.{Stands}
+use Rattle.in_flight.proofs.Reading.{marked-flies}
+use Rattle.in_flight.proofs.Listing.{ready-count}
+use Rattle.in_flight.proofs.flights.InFlight.ready_count.Goals as goal
+
+pub returns-clause-count : goal.returns-clause-count
+returns-clause-count c =
+    let i = c.self.inside in
+    let stands : Stands i.grid.cores i.grid.dirs i.lanes.items i.ready i.flying = record {
+      laned = record { all = c.self.invariant.all; unlinked = c.self.invariant.unlinked };
+      counted = record { counted = c.self.invariant.counted; flying = c.self.invariant.flying };
+    } in
+    rw (← c.self.view_is) (c.total.ensures ∙ sym (ready-count _ _ _ _ _ stands))
+
+pub returns-clause-only : goal.returns-clause-only
+returns-clause-only c = λ src dst k h. marked-flies c.args.self.now src dst k h
