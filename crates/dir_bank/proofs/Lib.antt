@@ -1,0 +1,6 @@
+pub mod Lists
+pub mod Parts
+pub mod Answers
+pub mod Starts
+pub mod MarkedTo
+pub mod MarkedFrom

@@ -1,0 +1,6 @@
+-- The messages from the first so many cores have been looked at.
+use Rattle.dir_bank.proofs.MarkedFrom.{MarkedFrom}
+use Rattle.dir_bank.proofs.bank.DirBank.mark.Given as goal
+
+abbrev pub invariant-loop-core : goal.invariant-loop-core
+invariant-loop-core l = MarkedFrom l.directory l.fn.dir.0 l.core l.initial.flights l.flights

@@ -1,0 +1,4 @@
+-- What the contracts of this crate cite.
+pub mod Bank
+pub mod BankInside
+pub mod Acted
