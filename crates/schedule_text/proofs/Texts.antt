@@ -262,7 +262,8 @@ pub ended : (bytes : List ℕ) (c : Settings) (es : List Event) (a after : List 
     → IsRead c es s n after b
 ended bytes c es a after f last s formed n b same =
     let w = follows bytes c es a f s formed (suc n) b same in
-    only_end c es a after b s n f.allowed formed f.count w.config last w.beyond-is.more w.beyond-is.whole w.beyond-is.named w.beyond-is.after
+    let rest = w.beyond-is in
+    only_end c es a after b s n f.allowed formed f.count w.config last rest.more rest.whole rest.named rest.after
 
 nothing : (n : ℕ) → joined (take n []) ++ [] ≡ []
 nothing zero = refl

@@ -8,12 +8,13 @@ use Rattle.schedule_text.proofs.reading.read.Goals as goal
 
 pub loop-event-preserved : goal.loop-event-preserved
 loop-event-preserved c =
-    let next : cond (ltb (length c.loop-event.events) 4194304) (event_at c.in-Ok.found.0 c.loop-event.rest.now) None ≡ Some
-    (c.in-Some.event, c.in-Some.after.now) =
+    let past : List Event = c.loop-event.events in
+    let event : Event = c.in-Some.event in
+    let next : cond (ltb (length past) 4194304) (event_at c.in-Ok.found.0 c.loop-event.rest.now) None ≡ Some (event, c.in-Some.after.now) =
     grind (arith, common_steps) in
-    let pushed : c.push.new.self ≡ c.loop-event.events ++ c.in-Some.event ∷ [] = grind (arith, common_steps) in
+    let pushed : c.push.new.self ≡ past ++ event ∷ [] = grind (arith, common_steps) in
     subst (λ (es : List Event). Front c.args.bytes.now c.in-Ok.found.0 es c.in-Some.after.now) (sym pushed)
-    (front_more c.args.bytes.now c.in-Ok.found.0 c.loop-event.events c.loop-event.rest.now c.in-Some.event c.in-Some.after.now c.loop-event.invariant next)
+    (front_more c.args.bytes.now c.in-Ok.found.0 past c.loop-event.rest.now event c.in-Some.after.now c.loop-event.invariant next)
 
 -- the last line is missing
 
@@ -23,7 +24,8 @@ returns-in_default-end-clause-line c =
     grind (arith, common_steps) in
     let line : length c.loop-event.events + 3 ≡ c.len-count.result + 3 = grind (arith, common_steps) in
     subst (λ (k : ℕ). IsFirstFault k c.args.bytes.now) line
-    (no_last c.args.bytes.now c.in-Ok.found.0 c.loop-event.events c.loop-event.rest.now c.loop-event.invariant no-event c.in_default-end.ensures)
+    (no_last c.args.bytes.now c.in-Ok.found.0 c.loop-event.events c.loop-event.rest.now c.loop-event.invariant no-event
+    c.in_default-end.ensures)
 
 pub returns-in_default-end-clause-only : goal.returns-in_default-end-clause-only
 returns-in_default-end-clause-only c = (returns-in_default-end-clause-line c).refused

@@ -13,4 +13,5 @@ returns c =
     grind (arith, common_steps) in
     let events : string_bytes c.push_events.new.text ≡ string_bytes c.push_config.new.text ++ flat_map event_line c.args.s.now.events =
     grind (arith, common_steps) in
-    text_from_parts c.args.s.now _ _ _ _ _ _ _ version count c.new-text.ensures.bytes c.in_ok-push_version.ensures config events c.in_ok-push_end.ensures
+    text_from_parts c.args.s.now _ _ _ _ _ _ _ version count
+    c.new-text.ensures.bytes c.in_ok-push_version.ensures config events c.in_ok-push_end.ensures
