@@ -1,5 +1,5 @@
 -- The first two lines, where they are read and where one of them is faulty.
-use Rattle.std.proofs.Common.{◌≡◌, ℕ, ◌-◌, ◌<◌, ◌≤◌, List, [], ◌++◌, length, take, drop, Option, Some, None, refl, sym, ap, subst, ◌∙◌}
+use Rattle.std.proofs.Common.{suc, ◌≡◌, ℕ, ◌-◌, ◌<◌, ◌≤◌, List, [], ◌++◌, length, take, drop, Option, Some, None, refl, sym, ap, subst, ◌∙◌}
 use Rattle.std.proofs.Common.{inl, inr, append_assoc, arith}
 use lib.Count.{ones}
 use Rattle.std.specs.Prelude.{IfSome, IfOk, Result, Ok, Err}
@@ -9,15 +9,16 @@ use Rattle.std.proofs.lemmas.List.Concat.{flat_map-append}
 use Rattle.std.proofs.lemmas.List.Elements.{All-nil}
 use Rattle.std.proofs.lemmas.Option.{none-some, some_pair_parts}
 use Rattle.tcc_base.specs.Settings.{Settings, IsAllowed}
+use Rattle.tcc_msg.specs.declared.event.Event.{Event}
 use Rattle.tcc_msg.specs.declared.event.Schedule.{Schedule}
 use Rattle.schedule_text.specs.WellFormed.{Names, IsWellFormed}
 use Rattle.schedule_text.specs.Grammar.{version_of, version_line, config_line, lines_of, joined, text_of}
-use Rattle.schedule_text.specs.Faults.{Begins, IsFirstFault, Gives, IfLine}
+use Rattle.schedule_text.specs.Faults.{Begins, IsFirstFault, HasEvent, Gives, IfLine}
 use Rattle.schedule_text.specs.declared.fault.TextFault.{TextFault}
 use Rattle.schedule_text.specs.declared.fault.TextFault.TheVariants.{Line, Memory}
 use Rattle.schedule_text.specs.Reading.{version_at, settings_at}
 use Rattle.schedule_text.proofs.EachLine.{version_again, settings_again, version_takes, settings_take}
-use Rattle.schedule_text.proofs.Texts.{known_version, scheduled, one_text}
+use Rattle.schedule_text.proofs.Texts.{known_version, scheduled, one_text, Front, begins_events, begins_with}
 
 -- ---- a schedule of each version
 
@@ -173,6 +174,14 @@ begins_less bytes j k less b =
       same = b.same ∙ ap (λ (r : List ℕ). r ++ b.rest) parts
           ∙ append_assoc (joined (take j (lines_of b.schedule))) (joined (drop j front)) b.rest;
     }
+
+-- where an event is read, the bytes have one
+pub has_event : (bytes : List ℕ) (c : Settings) (es : List Event) (a : List ℕ) → Front bytes c es a → 0 < length es → HasEvent bytes
+unfolding begins_less
+has_event bytes c es a f some =
+    let b = begins_events bytes c es a f in
+    let there : length b.schedule.events ≡ length es = ap (λ (s : Schedule). length s.events) (begins_with bytes c es a f) in
+    record { front = begins_less bytes 3 (suc (suc (length es))) (omega arith) b; event = omega arith }
 
 not_before : (bytes : List ℕ) (j k : ℕ) → IsFirstFault j bytes → IsFirstFault k bytes → j < k → ⊥
 not_before bytes j k p q less = p.faulty (begins_less bytes j (k - 1) (omega arith) q.before)

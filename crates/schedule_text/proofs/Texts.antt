@@ -162,6 +162,11 @@ begins_events bytes c es a f =
       same = f.parts ∙ sym apart ∙ ap (λ (r : List ℕ). (v ++ (config_line c ++ r)) ++ a) (sym lines);
     }
 
+pub begins_with : (bytes : List ℕ) (c : Settings) (es : List Event) (a : List ℕ) (f : Front bytes c es a)
+    → (begins_events bytes c es a f).schedule ≡ scheduled c es
+unfolding begins_events lines_of
+begins_with bytes c es a f = refl
+
 pub is_text : (bytes : List ℕ) (c : Settings) (es : List Event) (a after : List ℕ) → Front bytes c es a → a ≡ end_line (length es) ++ after
     → bytes ≡ text_of (scheduled c es) ++ after
 unfolding lines_of

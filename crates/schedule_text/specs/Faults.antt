@@ -22,6 +22,11 @@ pub record IsFirstFault (k : ℕ) (bytes : List ℕ) : Type 0 where
   pub before : Begins (k - 1) bytes
   pub faulty : Begins k bytes → ⊥
 
+-- the bytes begin with the first two lines and an event's line of the text of a well-formed schedule
+pub record HasEvent (bytes : List ℕ) : Type 0 where
+  pub front : Begins 3 bytes
+  pub event : 0 < length front.schedule.events
+
 -- this schedule is read, unless memory runs out
 abbrev pub Gives : Result Schedule TextFault → Schedule → Type 0
 Gives (Ok read) s = read ≡ s

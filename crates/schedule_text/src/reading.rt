@@ -1,10 +1,10 @@
 // Reading a text, from the first line to the last.
-ghost use Rattle.std.specs.Prelude.{◌≡◌, ◌++◌, IfOk, IfErr};
+ghost use Rattle.std.specs.Prelude.{◌≡◌, ◌++◌, IfOk, IfErr, IsErrOf};
 ghost use Rattle.tcc_base.specs.Settings.{IsAllowed};
 ghost use Rattle.tcc_msg.specs.declared.event.Schedule.{Schedule};
 ghost use Rattle.schedule_text.specs.WellFormed.{IsWellFormed};
 ghost use Rattle.schedule_text.specs.Grammar.{version_of, version_line, config_line, text_of};
-ghost use Rattle.schedule_text.specs.Faults.{IsFirstFault, Gives, IfLine};
+ghost use Rattle.schedule_text.specs.Faults.{IsFirstFault, HasEvent, Gives, IfLine};
 
 use crate::fault::TextFault;
 use crate::lines::{config, end, next_event, version, version_needed};
@@ -40,6 +40,8 @@ pub fn read(alloc: Global, bytes: &[u8]) -> Result<Schedule, TextFault>
     ensures only { (s : Schedule) → IsWellFormed s → bytes.now ≡ text_of s → Gives result s }
     // Any other bytes are refused with the first faulty line.
     ensures line { IfLine result (λ k. IsFirstFault k bytes.now) }
+    // Without an event no memory is needed.
+    ensures memory { IsErrOf result TextFault.Memory → HasEvent bytes.now }
 {
     let (config, mut rest) = match header(bytes) {
         Ok(found) => found,

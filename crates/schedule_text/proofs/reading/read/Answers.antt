@@ -3,6 +3,8 @@ use Rattle.std.proofs.lemmas.Grind.{common_steps}
 use Rattle.tcc_msg.specs.declared.event.Event.{Event}
 use Rattle.schedule_text.specs.Faults.{IsFirstFault}
 use Rattle.schedule_text.specs.Reading.{event_at}
+use Rattle.std.proofs.lemmas.List.{length_push}
+use Rattle.schedule_text.proofs.FirstLines.{has_event}
 use Rattle.schedule_text.proofs.Texts.{Front, front_more, read_found, read_only, no_last, other_count, more_after}
 use Rattle.schedule_text.proofs.reading.read.Goals as goal
 
@@ -15,6 +17,15 @@ loop-event-preserved c =
     let pushed : c.push.new.self ≡ past ++ event ∷ [] = grind (arith, common_steps) in
     subst (λ (es : List Event). Front c.args.bytes.now c.in-Ok.found.0 es c.in-Some.after.now) (sym pushed)
     (front_more c.args.bytes.now c.in-Ok.found.0 past c.loop-event.rest.now event c.in-Some.after.now c.loop-event.invariant next)
+
+pub returns-in_err-push-clause-memory : goal.returns-in_err-push-clause-memory
+returns-in_err-push-clause-memory c =
+    let past : List Event = c.loop-event.events in
+    let event : Event = c.in-Some.event in
+    let next : cond (ltb (length past) 4194304) (event_at c.in-Ok.found.0 c.loop-event.rest.now) None ≡ Some (event, c.in-Some.after.now) =
+    grind (arith, common_steps) in
+    let front = front_more c.args.bytes.now c.in-Ok.found.0 past c.loop-event.rest.now event c.in-Some.after.now c.loop-event.invariant next in
+    λ _. has_event c.args.bytes.now c.in-Ok.found.0 (past ++ event ∷ []) c.in-Some.after.now front (omega (arith, length_push past event))
 
 -- the last line is missing
 
