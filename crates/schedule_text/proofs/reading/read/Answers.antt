@@ -24,7 +24,8 @@ returns-in_err-push-clause-memory c =
     let event : Event = c.in-Some.event in
     let next : cond (ltb (length past) 4194304) (event_at c.in-Ok.found.0 c.loop-event.rest.now) None ≡ Some (event, c.in-Some.after.now) =
     grind (arith, common_steps) in
-    let front = front_more c.args.bytes.now c.in-Ok.found.0 past c.loop-event.rest.now event c.in-Some.after.now c.loop-event.invariant next in
+    let rest : List ℕ = c.loop-event.rest.now in
+    let front = front_more c.args.bytes.now c.in-Ok.found.0 past rest event c.in-Some.after.now c.loop-event.invariant next in
     λ _. has_event c.args.bytes.now c.in-Ok.found.0 (past ++ event ∷ []) c.in-Some.after.now front (omega (arith, length_push past event))
 
 -- the last line is missing
