@@ -1,0 +1,4 @@
+pub mod Rules
+pub mod Rows
+pub mod Order
+pub mod Standing

@@ -1,0 +1,63 @@
+-- Rules that are added one by one, and the simplicity of the grammars.
+use Rattle.std.proofs.Common.{◌≡◌, true, List, [], ◌∷◌, ◌++◌, refl, sym, ap, codes, append_assoc}
+use Rattle.clap.specs.Words.{App, Rule, Text, is_simple, with_rule}
+use Rattle.clap.specs.Faults.{is_simple_and_free}
+use Rattle.clap.specs.Simple.{on_top}
+use Rattle.tcc_words.specs.Grammar.{event_rules, grammar, memory_rules, node_rules, option, place, places, plain, rules, verb_word}
+use Rattle.tcc_words.specs.Grammar.{with_rules}
+use Rattle.tcc_words.specs.declared.command.Verb.{Verb}
+use Rattle.tcc_words.specs.declared.command.Verb.TheVariants.{Run, Replay, Serial, Trial}
+
+put_rules : App → List Rule → App
+put_rules a rs = on_top (λ s. record s { rules = rs }) a
+
+pub two_rules : (a : App) (r s : Rule) → with_rule (with_rule a r) s ≡ with_rules (r ∷ s ∷ []) a
+unfolding put_rules
+two_rules a r s = ap (put_rules a) (append_assoc a.top.rules (r ∷ []) (s ∷ []))
+
+pub three_rules : (a : App) (r s t : Rule) → with_rule (with_rule (with_rule a r) s) t ≡ with_rules (r ∷ s ∷ t ∷ []) a
+unfolding put_rules
+three_rules a r s t =
+    let all : ((a.top.rules ++ r ∷ []) ++ s ∷ []) ++ t ∷ [] ≡ a.top.rules ++ r ∷ s ∷ t ∷ [] = simp append_assoc in
+    ap (put_rules a) all
+
+pub four_rules : (a : App) (r s t u : Rule)
+    → with_rule (with_rule (with_rule (with_rule a r) s) t) u ≡ with_rules (r ∷ s ∷ t ∷ u ∷ []) a
+unfolding put_rules
+four_rules a r s t u =
+    let all : (((a.top.rules ++ r ∷ []) ++ s ∷ []) ++ t ∷ []) ++ u ∷ [] ≡ a.top.rules ++ r ∷ s ∷ t ∷ u ∷ [] = simp append_assoc in
+    ap (put_rules a) all
+
+-- the grammars, by the steps in which they are made
+pub run_made : (verb : Verb) (name : Text) (bare nodes machine events threads record_to made : App) → verb ≡ Run → name ≡ verb_word verb
+    → bare ≡ plain name [] → nodes ≡ with_rules node_rules bare → machine ≡ with_rules memory_rules nodes
+    → events ≡ with_rules event_rules machine → threads ≡ with_rule events (option (codes "threads"))
+    → record_to ≡ with_rule threads (option (codes "record")) → made ≡ with_rule record_to (places (codes "image")) → made ≡ grammar verb
+unfolding grammar
+run_made verb name bare nodes machine events threads record_to made v n e0 e1 e2 e3 e4 e5 e6 = rw (e6, e5, e4, e3, e2, e1, e0, n, v) refl
+
+pub filed_made : (verb : Verb) (name file : Text) (bare nodes machine filed made : App) → rules verb ≡ node_rules ++ memory_rules ++ place file ∷ places (codes "image") ∷ []
+    → name ≡ verb_word verb → bare ≡ plain name [] → nodes ≡ with_rules node_rules bare → machine ≡ with_rules memory_rules nodes
+    → filed ≡ with_rule machine (place file) → made ≡ with_rule filed (places (codes "image")) → made ≡ grammar verb
+unfolding grammar
+filed_made verb name file bare nodes machine filed made r n e0 e1 e2 e3 e4 = rw (e4, e3, e2, e1, e0, n) (ap (plain (verb_word verb)) (sym r))
+
+pub trial_made : (verb : Verb) (name : Text) (bare nodes events kind made : App) → verb ≡ Trial → name ≡ verb_word verb
+    → bare ≡ plain name [] → nodes ≡ with_rules node_rules bare → events ≡ with_rules event_rules nodes
+    → kind ≡ with_rule events (place (codes "kind")) → made ≡ with_rule kind (place (codes "number")) → made ≡ grammar verb
+unfolding grammar
+trial_made verb name bare nodes events kind made v n e0 e1 e2 e3 e4 = rw (e4, e3, e2, e1, e0, n, v) refl
+
+pub grammar-simple : (verb : Verb) → is_simple (grammar verb) ≡ true
+unfolding grammar
+grammar-simple Run = refl
+grammar-simple Replay = refl
+grammar-simple Serial = refl
+grammar-simple Trial = refl
+
+pub grammar-free : (verb : Verb) → is_simple_and_free (grammar verb) ≡ true
+unfolding grammar
+grammar-free Run = refl
+grammar-free Replay = refl
+grammar-free Serial = refl
+grammar-free Trial = refl

@@ -1,0 +1,101 @@
+-- What the words of a command line ask for, and why they are refused.
+use Rattle.std.specs.Prelude.{ℕ, ◌≡◌, ◌≢◌, ◌≤◌, List, [], ◌∷◌, Bool, Option, Some, None, ◌↔◌, IsTrue, IsSome, MatchOption, option_map}
+use Rattle.std.specs.Prelude.{slice_get, length, codes}
+use Rattle.clap.specs.Words.{Row, Text, first_of, matches_of}
+use Rattle.clap.specs.Faults.{fault_of}
+use Rattle.tcc_base.specs.Settings.{Settings}
+use Rattle.tcc_words.specs.Numbers.{IsNumber}
+use Rattle.tcc_words.specs.Grammar.{grammar, verb_word}
+use Rattle.work_gen.specs.Names.{work_word}
+use Rattle.tcc_words.specs.Fields.{Allows, BreaksFirst, IsSaid, images_of, order}
+use Rattle.work_gen.specs.declared.work.Work.{Work}
+use Rattle.tcc_words.specs.declared.fields.Values.{Values}
+use Rattle.tcc_words.specs.declared.command.Command.{Command}
+use Rattle.tcc_words.specs.declared.command.Command.TheVariants as command
+use Rattle.tcc_words.specs.declared.command.Field.{Field}
+use Rattle.tcc_words.specs.declared.command.Field.TheVariants.{Cores, Dirs, Sets, Ways, Ram, Base, Steps, Seed}
+use Rattle.tcc_words.specs.declared.command.Machine.{Machine}
+use Rattle.tcc_words.specs.declared.command.Verb.{Verb}
+use Rattle.tcc_words.specs.declared.command.Verb.TheVariants.{Run, Replay, Serial, Trial}
+use Rattle.tcc_words.specs.declared.command.WordsFault.{WordsFault}
+use Rattle.tcc_words.specs.declared.command.WordsFault.TheVariants as fault
+
+-- each place of the command has its word
+abbrev pub HasPlaces : Verb → List Row → Type 0
+HasPlaces Run rows = 1 ≤ length (images_of rows)
+HasPlaces Replay rows = IsSome (first_of (codes "schedule") rows) × (1 ≤ length (images_of rows))
+HasPlaces Serial rows = IsSome (first_of (codes "report") rows) × (1 ≤ length (images_of rows))
+HasPlaces Trial rows = IsSome (first_of (codes "kind") rows) × IsSome (first_of (codes "number") rows)
+
+-- the first word names a command, and clap takes the words after it; these are the options and places that it reads
+pub record Stands (words : List Text) (verb : Verb) (rows : List Row) : Type 0 where
+  pub first : slice_get words 0 ≡ Some (verb_word verb)
+  pub taken : fault_of (grammar verb) words ≡ []
+  pub read : matches_of (grammar verb) words ≡ rows
+  pub places : HasPlaces verb rows
+
+-- the settings of the machine that stand there
+pub record HasSettings (rows : List Row) (s : Settings) : Type 0 where
+  pub cores : IsSaid rows Cores s.cores
+  pub dirs : IsSaid rows Dirs s.dirs
+  pub sets : IsSaid rows Sets s.sets
+  pub ways : IsSaid rows Ways s.ways
+  pub ram : IsSaid rows Ram s.ram
+  pub base : IsSaid rows Base s.base
+
+-- the machine, and whether all images are raw
+abbrev pub HasMachine : List Row → Machine → Type 0
+HasMachine rows m = HasSettings rows m.config × (IsTrue m.raw ↔ (first_of (codes "raw") rows ≡ Some (codes "true")))
+
+-- a number that must be given, and one that may be
+abbrev pub IsGiven : List Row → Text → ℕ → Type 0
+IsGiven rows name n = (text : Text) × (first_of name rows ≡ Some text) × IsNumber text n
+
+abbrev pub MayBeGiven : List Row → Text → Option ℕ → Type 0
+MayBeGiven rows name n = MatchOption n (first_of name rows ≡ None) (IsGiven rows name)
+
+-- the kind of the workload
+abbrev pub HasWork : List Row → Option Work → Type 0
+HasWork rows work = first_of (codes "kind") rows ≡ option_map work_word work
+
+-- the command that is asked for
+abbrev pub Asks : Verb → List Row → Command → Type 0
+Asks Run rows (command.Run machine images steps seed threads keep) =
+    HasMachine rows machine × (images ≡ images_of rows) × IsSaid rows Steps steps × IsSaid rows Seed seed
+    × MayBeGiven rows (codes "threads") threads × (keep ≡ first_of (codes "record") rows)
+Asks Replay rows (command.Replay machine schedule images) =
+    HasMachine rows machine × (first_of (codes "schedule") rows ≡ Some schedule) × (images ≡ images_of rows)
+Asks Serial rows (command.Serial machine report images) =
+    HasMachine rows machine × (first_of (codes "report") rows ≡ Some report) × (images ≡ images_of rows)
+Asks Trial rows (command.Trial config work number steps seed) =
+    HasSettings rows config × (first_of (codes "kind") rows ≡ Some (work_word work)) × IsGiven rows (codes "number") number
+    × IsSaid rows Steps steps × IsSaid rows Seed seed
+Asks _ _ _ = ⊥
+
+-- what stands in the fields, where all of it is allowed
+pub record HasValues (rows : List Row) (v : Values) : Type 0 where
+  pub settings : HasSettings rows v.config
+  pub steps : IsSaid rows Steps v.steps
+  pub seed : IsSaid rows Seed v.seed
+  pub threads : MayBeGiven rows (codes "threads") v.threads
+  pub work : HasWork rows v.work
+  pub number : MayBeGiven rows (codes "number") v.number
+  pub allowed : (field : Field) → Allows rows field
+
+-- this field is the faulty one
+abbrev pub IsFaulty : List Row → Field → Field → Type 0
+IsFaulty rows f field = (field ≡ f) × (Allows rows f → ⊥)
+
+-- the words ask for this command, and all that stands in its fields is allowed
+pub record IsCommand (words : List Text) (c : Command) : Type 0 where
+  pub verb : Verb
+  pub rows : List Row
+  pub stands : Stands words verb rows
+  pub allowed : (field : Field) → Allows rows field
+  pub asks : Asks verb rows c
+
+-- why words are refused: they don't stand as a command's words do, or the first field in which something stands that isn't allowed
+abbrev pub IsRefused : List Text → WordsFault → Type 0
+IsRefused words fault.Words = (verb : Verb) (rows : List Row) → Stands words verb rows → ⊥
+IsRefused words (fault.Value field) = (verb : Verb) × (rows : List Row) × Stands words verb rows × BreaksFirst rows order field
+IsRefused words fault.Memory = Unit {0}

@@ -1,0 +1,80 @@
+-- The fields of a command: their words, their defaults, and which values are allowed.
+use Rattle.std.specs.Prelude.{ℕ, ◌≡◌, ◌⊎◌, ◌+◌, ◌^◌, ◌%◌, ◌≤◌, List, [], ◌∷◌, ◌++◌, Option, Some, None, IfSome, IsSome, IsTrue, length}
+use Rattle.std.specs.Prelude.{codes, unwrap_or}
+use Rattle.std.specs.Int.{is_power_of_two}
+use Rattle.clap.specs.Words.{Row, Text, first_of, all_of}
+use Rattle.work_gen.specs.declared.work.Work.{Work}
+use Rattle.work_gen.specs.Names.{work_word}
+use Rattle.tcc_words.specs.Numbers.{IsNumber}
+use Rattle.tcc_words.specs.declared.command.Field.{Field}
+use Rattle.tcc_words.specs.declared.command.Field.TheVariants.{Cores, Dirs, Sets, Ways, Ram, Base, Steps, Seed, Threads, Images, Kind}
+use Rattle.tcc_words.specs.declared.command.Field.TheVariants.{Number}
+
+-- the word of a field: of an option, what stands behind the two hyphens
+abbrev pub field_word : Field → Text
+field_word Cores = codes "cores"
+field_word Dirs = codes "dirs"
+field_word Sets = codes "sets"
+field_word Ways = codes "ways"
+field_word Ram = codes "ram"
+field_word Base = codes "base"
+field_word Steps = codes "steps"
+field_word Seed = codes "seed"
+field_word Threads = codes "threads"
+field_word Images = codes "images"
+field_word Kind = codes "kind"
+field_word Number = codes "number"
+
+-- the number of a field that isn't given; the last four have none
+abbrev pub default_of : Field → ℕ
+default_of Cores = 1
+default_of Dirs = 1
+default_of Sets = 16
+default_of Ways = 2
+default_of Ram = 65536
+default_of Base = 0x80000000
+default_of Steps = 1000000
+default_of Seed = 0
+default_of _ = 0
+
+-- the number that a text writes, or the default where there is none
+abbrev pub IsValue : ℕ → Option Text → ℕ → Type 0
+IsValue default None n = n ≡ default
+IsValue default (Some text) n = IsNumber text n
+
+-- the number of a field, in what clap read
+abbrev pub IsSaid : List Row → Field → ℕ → Type 0
+IsSaid rows field n = IsValue (default_of field) (first_of (field_word field) rows) n
+
+-- the names of the images
+abbrev pub images_of : List Row → List Text
+images_of rows = unwrap_or (all_of (codes "image") rows) []
+
+-- what stands in this field is allowed
+abbrev pub Allows : List Row → Field → Type 0
+Allows rows Cores = (n : ℕ) × IsSaid rows Cores n × (1 ≤ n) × (n ≤ 64)
+Allows rows Dirs = (n : ℕ) × IsSaid rows Dirs n × (1 ≤ n) × (n ≤ 64)
+Allows rows Sets = (n : ℕ) × IsSaid rows Sets n × IsTrue (is_power_of_two n) × (n ≤ 1024)
+Allows rows Ways = (n : ℕ) × IsSaid rows Ways n × (1 ≤ n) × (n ≤ 16)
+Allows rows Ram = (n : ℕ) × IsSaid rows Ram n × (32 ≤ n) × (n ≤ 16777216) × (n % 32 ≡ 0)
+Allows rows Base = (n ram : ℕ) × IsSaid rows Base n × IsSaid rows Ram ram × (n % 32 ≡ 0) × (n + ram ≤ 2 ^ 32)
+Allows rows Steps = (n : ℕ) × IsSaid rows Steps n × (n ≤ 4194304)
+Allows rows Seed = (n : ℕ) × IsSaid rows Seed n
+Allows rows Threads = IfSome (first_of (codes "threads") rows)
+    (λ text. ((n : ℕ) × IsNumber text n × (1 ≤ n) × (n ≤ 16)) × IsSome (first_of (codes "record") rows))
+Allows rows Images = length (images_of rows) ≤ 16
+Allows rows Kind = IfSome (first_of (codes "kind") rows) (λ text. (work : Work) × (text ≡ work_word work))
+Allows rows Number = IfSome (first_of (codes "number") rows) (λ text. (n : ℕ) × IsNumber text n × (1 ≤ n) × (n ≤ 2047))
+
+-- the order in which the fields are tested: those of the machine, and the others
+abbrev pub machine_fields : List Field
+machine_fields = Cores ∷ Dirs ∷ Sets ∷ Ways ∷ Ram ∷ Base ∷ []
+
+abbrev pub order : List Field
+order = machine_fields ++ Steps ∷ Seed ∷ Threads ∷ Images ∷ Kind ∷ Number ∷ []
+
+-- the first of these fields in which something stands that isn't allowed
+abbrev pub BreaksFirst : List Row → List Field → Field → Type 0
+BreaksFirst rows [] field = ⊥
+BreaksFirst rows (f ∷ later) field =
+    ((field ≡ f) × (Allows rows f → ⊥)) ⊎ (Allows rows f × BreaksFirst rows later field)

@@ -1,0 +1,68 @@
+-- The words that each command takes, as the options and places that clap reads.
+use Rattle.std.specs.Prelude.{◌≢◌, true, List, [], ◌∷◌, ◌++◌, Some, codes}
+use Rattle.clap.specs.Words.{App, Rule, Text, new_rule}
+use Rattle.clap.specs.Simple.{new_shape, on_top}
+use Rattle.clap.specs.Kinds.{Kinds}
+use Rattle.clap.specs.declared.builder.action.ArgAction.TheVariants.{Append, SetTrue}
+use Rattle.tcc_words.specs.declared.command.WordsFault.{WordsFault}
+use Rattle.tcc_words.specs.declared.command.WordsFault.TheVariants as fault
+use Rattle.tcc_words.specs.declared.command.Verb.{Verb}
+use Rattle.tcc_words.specs.declared.command.Verb.TheVariants.{Run, Replay, Serial, Trial}
+
+-- the first word of a command
+abbrev pub verb_word : Verb → Text
+verb_word Run = codes "run"
+verb_word Replay = codes "replay"
+verb_word Serial = codes "serial"
+verb_word Trial = codes "trial"
+
+-- an option with a value, `--name value` or `--name=value`, at most once
+abbrev pub option : Text → Rule
+option name = record (new_rule name) { long = Some name }
+
+-- an option without a value, `--name`, at most once
+abbrev pub flag : Text → Rule
+flag name = record (option name) { action = Some SetTrue }
+
+-- a word that must stand there, and one or more
+abbrev pub place : Text → Rule
+place name = record (new_rule name) { required = true }
+
+abbrev pub places : Text → Rule
+places name = record (place name) { action = Some Append }
+
+-- the options of the nodes, of memory and images, and of the events
+abbrev pub node_rules : List Rule
+node_rules = option (codes "cores") ∷ option (codes "dirs") ∷ option (codes "sets") ∷ option (codes "ways") ∷ []
+
+abbrev pub memory_rules : List Rule
+memory_rules = option (codes "ram") ∷ option (codes "base") ∷ flag (codes "raw") ∷ []
+
+abbrev pub event_rules : List Rule
+event_rules = option (codes "steps") ∷ option (codes "seed") ∷ []
+
+-- run [..] IMAGE...    replay [..] SCHEDULE IMAGE...    serial [..] REPORT IMAGE...    trial [..] KIND NUMBER
+abbrev pub rules : Verb → List Rule
+rules Run =
+    node_rules ++ memory_rules ++ event_rules ++ option (codes "threads") ∷ option (codes "record") ∷ places (codes "image") ∷ []
+rules Replay = node_rules ++ memory_rules ++ place (codes "schedule") ∷ places (codes "image") ∷ []
+rules Serial = node_rules ++ memory_rules ++ place (codes "report") ∷ places (codes "image") ∷ []
+rules Trial = node_rules ++ event_rules ++ place (codes "kind") ∷ place (codes "number") ∷ []
+
+-- a simple command of clap's, without help
+abbrev pub plain : Text → List Rule → App
+plain name its_rules = record { top = record (new_shape name) { rules = its_rules; disable_help_flag = true }; subs = [] }
+
+-- the command; its first word stands where clap expects the program's name
+unfoldable pub grammar : Verb → App
+grammar verb = plain (verb_word verb) (rules verb)
+
+-- clap's refusal of words for one of these kinds of error, and want of memory
+abbrev pub IsRefusal : Kinds → WordsFault → Type 0
+IsRefusal kinds fault.Words = kinds ≢ []
+IsRefusal kinds (fault.Value field) = ⊥
+IsRefusal kinds fault.Memory = Unit {0}
+
+-- more rules, behind those that are there
+abbrev pub with_rules : List Rule → App → App
+with_rules more app = on_top (λ s. record s { rules = s.rules ++ more }) app

@@ -1,0 +1,5 @@
+-- What the contracts of this crate cite.
+pub mod Numbers
+pub mod Grammar
+pub mod Fields
+pub mod Asked

@@ -1,0 +1,19 @@
+-- Numbers as words write them: decimal digits, or 0x and hexadecimal digits in either case, at least one digit.
+use Rattle.std.specs.Prelude.{ℕ, Bool, List, drop, slice_index, ◌==◌, ◌&&◌, ◌≡◌, ◌<◌, ◌^◌, if◌then◌else◌}
+use Rattle.std.specs.Str.Parse.{IsNumeral, digits_value}
+
+-- the text begins with 0x
+abbrev pub is_hex : List ℕ → Bool
+is_hex text = (slice_index text 0 == 48) && (slice_index text 1 == 120)
+
+abbrev pub radix_of : List ℕ → ℕ
+radix_of text = (if is_hex text then 16 else 10)
+
+abbrev pub digits_of : List ℕ → List ℕ
+digits_of text = (if is_hex text then drop 2 text else text)
+
+-- the text writes the number, which 64 bits hold
+pub record IsNumber (text : List ℕ) (n : ℕ) : Type 0 where
+  pub numeral : IsNumeral (radix_of text) (digits_of text)
+  pub value : digits_value (radix_of text) (digits_of text) ≡ n
+  pub fits : n < 2 ^ 64

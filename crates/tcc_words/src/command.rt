@@ -1,0 +1,167 @@
+// What the words of a command line ask for.
+ghost use Rattle.std.specs.Prelude.{◌≡◌, MatchOption};
+ghost use Rattle.tcc_words.specs.Fields.{field_word, default_of};
+ghost use Rattle.tcc_words.specs.Grammar.{verb_word};
+
+use tcc_base::{Config, List, Text};
+use work_gen::Work;
+
+/// The commands, by their first words.
+#[derive(Clone, Copy, Debug, PartialEq, Eq)]
+pub enum Verb {
+    /// Runs images on the machine.
+    Run,
+    /// Runs a schedule that was recorded.
+    Replay,
+    /// Runs the transactions that a report lists on the plain machine.
+    Serial,
+    /// Runs a workload on the machine.
+    Trial,
+}
+
+impl Verb {
+    /// The first word of the command. Takes no memory.
+    pub fn word(self) -> &'static str
+        ensures { result.now ≡ verb_word self }
+    {
+        match self {
+            Verb::Run => "run",
+            Verb::Replay => "replay",
+            Verb::Serial => "serial",
+            Verb::Trial => "trial",
+        }
+    }
+
+    /// The command with that first word; None exactly where there is none. Takes no memory.
+    pub fn named(word: &str) -> Option<Verb>
+        ensures { MatchOption result ((v : Verb) → word.now ≡ verb_word v → ⊥) (λ v. word.now ≡ verb_word v) }
+    {
+        match word {
+            "run" => Some(Verb::Run),
+            "replay" => Some(Verb::Replay),
+            "serial" => Some(Verb::Serial),
+            "trial" => Some(Verb::Trial),
+            _ => None,
+        }
+    }
+}
+
+/// A machine and the form of its images.
+#[derive(Clone, Copy, Debug, PartialEq, Eq)]
+pub struct Machine {
+    pub config: Config,
+    /// Whether all images are raw; else all are ELF files.
+    pub raw: bool,
+}
+
+/// A command with its settings. Files stand as their names.
+#[derive(Debug, Drop)]
+pub enum Command {
+    /// Run the images for at most `steps` events, chosen by `seed`: on so many host threads, where `threads` says so. The
+    /// schedule is written to the file `keep`, where there is one.
+    Run {
+        machine: Machine,
+        images: List<Text>,
+        steps: u64,
+        seed: u64,
+        threads: Option<u8>,
+        keep: Option<Text>,
+    },
+    /// Run the schedule of a file whole.
+    Replay {
+        machine: Machine,
+        schedule: Text,
+        images: List<Text>,
+    },
+    /// Run the list of transactions of a file.
+    Serial {
+        machine: Machine,
+        list: Text,
+        images: List<Text>,
+    },
+    /// Run a workload for at most `steps` events, chosen by `seed`.
+    Trial {
+        config: Config,
+        work: Work,
+        number: u32,
+        steps: u64,
+        seed: u64,
+    },
+}
+
+/// The fields of a command, in the order in which they are tested.
+#[derive(Clone, Copy, Debug, PartialEq, Eq)]
+pub enum Field {
+    /// 1 to 64 cores.
+    Cores,
+    /// 1 to 64 directories.
+    Dirs,
+    /// A power of two from 1 to 1024.
+    Sets,
+    /// 1 to 16.
+    Ways,
+    /// 32 to 16,777,216 bytes, a multiple of 32.
+    Ram,
+    /// A multiple of 32, with base + RAM at most 2^32.
+    Base,
+    /// 0 to 4,194,304 events.
+    Steps,
+    /// Any number.
+    Seed,
+    /// 1 to 16, and only together with a file for the schedule.
+    Threads,
+    /// 1 to 16 names.
+    Images,
+    /// The name of a workload.
+    Kind,
+    /// 1 to 2047.
+    Number,
+}
+
+impl Field {
+    /// The name of the field: of an option, what stands behind the two hyphens. Takes no memory.
+    pub fn word(self) -> &'static str
+        ensures { result.now ≡ field_word self }
+    {
+        match self {
+            Field::Cores => "cores",
+            Field::Dirs => "dirs",
+            Field::Sets => "sets",
+            Field::Ways => "ways",
+            Field::Ram => "ram",
+            Field::Base => "base",
+            Field::Steps => "steps",
+            Field::Seed => "seed",
+            Field::Threads => "threads",
+            Field::Images => "images",
+            Field::Kind => "kind",
+            Field::Number => "number",
+        }
+    }
+
+    /// The number of the field where it isn't given, 0 where it has none.
+    pub(crate) fn default(self) -> u64
+        ensures { result ≡ default_of self }
+    {
+        match self {
+            Field::Cores | Field::Dirs => 1,
+            Field::Sets => 16,
+            Field::Ways => 2,
+            Field::Ram => 65_536,
+            Field::Base => 0x8000_0000,
+            Field::Steps => 1_000_000,
+            _ => 0,
+        }
+    }
+}
+
+/// Why words are refused.
+#[derive(Clone, Copy, Debug, PartialEq, Eq)]
+pub enum WordsFault {
+    /// They don't stand as a command's words do.
+    Words,
+    /// The first field in which something stands that isn't allowed.
+    Value(Field),
+    /// There was no memory to read them.
+    Memory,
+}

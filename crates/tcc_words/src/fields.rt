@@ -1,0 +1,183 @@
+// The fields of a command as numbers, names and settings, in the order in which they are tested.
+ghost use Rattle.std.specs.Prelude.{◌≡◌, ◌≢◌, ℕ, [], ◌∷◌, codes, map, option_map, IfOk, IfErr};
+ghost use Rattle.clap.specs.Words.{all_of, first_of, found_of, rows_of};
+ghost use Rattle.tcc_base.specs.Settings.{IsAllowed};
+ghost use Rattle.tcc_words.specs.Fields.{Allows, BreaksFirst, IsSaid, images_of, machine_fields, order};
+ghost use Rattle.tcc_words.specs.Asked.{HasSettings, HasValues, HasWork, IsFaulty, MayBeGiven};
+ghost use Rattle.tcc_words.specs.declared.command.Field.TheVariants.{Steps, Seed, Threads, Images, Kind, Number};
+
+use crate::command::Field;
+use crate::numbers::number;
+use clap::ArgMatches;
+use tcc_base::{Config, Limit};
+use work_gen::{MAX_NUMBER, Work};
+
+/// The largest number of events.
+const MAX_STEPS: u64 = 4_194_304;
+
+/// The largest number of host threads.
+const MAX_THREADS: u64 = 16;
+
+/// The largest number of images.
+const MAX_IMAGES: usize = 16;
+
+/// What stands in the fields of a command; in those that it doesn't have, their defaults or nothing.
+#[derive(Clone, Copy)]
+pub struct Values {
+    pub config: Config,
+    pub steps: u64,
+    pub seed: u64,
+    pub threads: Option<u8>,
+    pub work: Option<Work>,
+    pub number: Option<u32>,
+}
+
+/// The text of an option or a place; None where it isn't given.
+pub fn text<'a>(matches: &ArgMatches<'a>, name: &str) -> Option<&'a str>
+    ensures { option_map (λ s. s.now) result ≡ first_of name.now (rows_of (found_of matches.now)) }
+{
+    matches.get_str(name)
+}
+
+/// The names of the images; None where there is none.
+pub fn images<'b, 'a>(matches: &'b ArgMatches<'a>) -> Option<&'b [&'a str]>
+    ensures { option_map (λ names. map (λ s. s.now) names.now) result ≡ all_of (codes "image") (rows_of (found_of matches.now)) }
+{
+    matches.get_strs("image")
+}
+
+/// What stands in the fields, or the first of them in which something stands that isn't allowed. Takes no memory.
+pub fn read_values(matches: &ArgMatches) -> Result<Values, Field>
+    ensures values { IfOk result (HasValues (rows_of (found_of matches.now))) }
+    ensures first { IfErr result (BreaksFirst (rows_of (found_of matches.now)) order) }
+{
+    let config = config(matches)?;
+    let steps = steps(matches)?;
+    let seed = seed(matches)?;
+    let threads = threads(matches)?;
+    count_images(matches)?;
+    Ok(Values {
+        config,
+        steps,
+        seed,
+        threads,
+        work: work(matches)?,
+        number: transactions(matches)?,
+    })
+}
+
+/// The machine's settings.
+fn config(matches: &ArgMatches) -> Result<Config, Field>
+    ensures settings { IfOk result (HasSettings (rows_of (found_of matches.now))) }
+    ensures allowed { IfOk result IsAllowed }
+    ensures first { IfErr result (BreaksFirst (rows_of (found_of matches.now)) machine_fields) }
+{
+    // Where no number stands, one that no limit allows: 0, and for the base 1.
+    let cores = said_or(matches, Field::Cores, 0);
+    let dirs = said_or(matches, Field::Dirs, 0);
+    let sets = said_or(matches, Field::Sets, 0);
+    let ways = said_or(matches, Field::Ways, 0);
+    let ram = said_or(matches, Field::Ram, 0);
+    let base = said_or(matches, Field::Base, 1);
+    match Config::new(cores, dirs, sets, ways, base, ram) {
+        Ok(config) => Ok(config),
+        Err(Limit::Cores) => Err(Field::Cores),
+        Err(Limit::Dirs) => Err(Field::Dirs),
+        Err(Limit::Sets) => Err(Field::Sets),
+        Err(Limit::Ways) => Err(Field::Ways),
+        Err(Limit::Ram) => Err(Field::Ram),
+        Err(Limit::Base) => Err(Field::Base),
+    }
+}
+
+/// The number of a field, or `other` where none stands there.
+fn said_or(matches: &ArgMatches, field: Field, other: u64) -> u64
+    ensures said { (n : ℕ) → IsSaid (rows_of (found_of matches.now)) field n → result ≡ n }
+    ensures other { result ≢ other → IsSaid (rows_of (found_of matches.now)) field result }
+{
+    match text(matches, field.word()) {
+        None => field.default(),
+        Some(text) => number(text).unwrap_or(other),
+    }
+}
+
+/// The number of events.
+fn steps(matches: &ArgMatches) -> Result<u64, Field>
+    ensures said { IfOk result (IsSaid (rows_of (found_of matches.now)) Steps) }
+    ensures allowed { IfOk result (λ _. Allows (rows_of (found_of matches.now)) Steps) }
+    ensures faulty { IfErr result (IsFaulty (rows_of (found_of matches.now)) Steps) }
+{
+    let steps = said_or(matches, Field::Steps, u64::MAX);
+    if steps <= MAX_STEPS {
+        Ok(steps)
+    } else {
+        Err(Field::Steps)
+    }
+}
+
+/// The seed of the chooser.
+fn seed(matches: &ArgMatches) -> Result<u64, Field>
+    ensures said { IfOk result (IsSaid (rows_of (found_of matches.now)) Seed) }
+    ensures faulty { IfErr result (IsFaulty (rows_of (found_of matches.now)) Seed) }
+{
+    match text(matches, "seed") {
+        None => Ok(0),
+        Some(text) => number(text).ok_or(Field::Seed),
+    }
+}
+
+/// The number of host threads, where it is given.
+fn threads(matches: &ArgMatches) -> Result<Option<u8>, Field>
+    ensures given { IfOk result (MayBeGiven (rows_of (found_of matches.now)) (codes "threads")) }
+    ensures allowed { IfOk result (λ _. Allows (rows_of (found_of matches.now)) Threads) }
+    ensures faulty { IfErr result (IsFaulty (rows_of (found_of matches.now)) Threads) }
+{
+    let Some(text_of_it) = text(matches, "threads") else {
+        return Ok(None);
+    };
+    match (number(text_of_it), text(matches, "record")) {
+        (Some(n), Some(_)) if 1 <= n && n <= MAX_THREADS => Ok(Some(n as u8)),
+        _ => Err(Field::Threads),
+    }
+}
+
+/// There are not too many images.
+fn count_images(matches: &ArgMatches) -> Result<(), Field>
+    ensures allowed { IfOk result (λ _. Allows (rows_of (found_of matches.now)) Images) }
+    ensures faulty { IfErr result (IsFaulty (rows_of (found_of matches.now)) Images) }
+{
+    match images(matches) {
+        Some(names) if names.len() > MAX_IMAGES => Err(Field::Images),
+        _ => Ok(()),
+    }
+}
+
+/// The kind of the workload, where it is given.
+fn work(matches: &ArgMatches) -> Result<Option<Work>, Field>
+    ensures given { IfOk result (HasWork (rows_of (found_of matches.now))) }
+    ensures allowed { IfOk result (λ _. Allows (rows_of (found_of matches.now)) Kind) }
+    ensures faulty { IfErr result (IsFaulty (rows_of (found_of matches.now)) Kind) }
+{
+    match text(matches, "kind") {
+        None => Ok(None),
+        Some(word) => match Work::named(word) {
+            Some(work) => Ok(Some(work)),
+            None => Err(Field::Kind),
+        },
+    }
+}
+
+/// The number of transactions of each core, where it is given.
+fn transactions(matches: &ArgMatches) -> Result<Option<u32>, Field>
+    ensures given { IfOk result (MayBeGiven (rows_of (found_of matches.now)) (codes "number")) }
+    ensures allowed { IfOk result (λ _. Allows (rows_of (found_of matches.now)) Number) }
+    ensures faulty { IfErr result (IsFaulty (rows_of (found_of matches.now)) Number) }
+{
+    match text(matches, "number") {
+        None => Ok(None),
+        Some(text) => match number(text) {
+            Some(n) if 1 <= n && n <= u64::from(MAX_NUMBER) => Ok(Some(n as u32)),
+            _ => Err(Field::Number),
+        },
+    }
+}

@@ -1,0 +1,157 @@
+// The grammar of each command, as clap is told it, and the reading of words by it.
+ghost use Rattle.std.specs.Prelude.{◌≡◌, map, IfOk, IfErr, []};
+ghost use Rattle.clap.specs.Words.{app_of, rule_of, rows_of, found_of, matches_of, with_rule};
+ghost use Rattle.clap.specs.Faults.{fault_of};
+ghost use Rattle.tcc_words.specs.Grammar.{IsRefusal, grammar, option, flag, place, places, plain, verb_word, with_rules, node_rules, memory_rules, event_rules};
+
+use crate::command::{Verb, WordsFault};
+use clap::error::ErrorKind;
+use clap::{Arg, ArgAction, ArgMatches};
+use std::alloc::{AllocError, Global};
+
+/// What clap reads of the words of a command, the first of which is its name.
+pub fn read<'a>(
+    alloc: Global,
+    verb: Verb,
+    name: &'a str,
+    words: &'a [&'a str],
+) -> Result<ArgMatches<'a>, WordsFault>
+    requires { name.now ≡ verb_word verb }
+    ensures taken { IfOk result (λ _. fault_of (grammar verb) (map (λ w. w.now) words.now) ≡ []) }
+    ensures rows { IfOk result (λ m. rows_of (found_of m) ≡ matches_of (grammar verb) (map (λ w. w.now) words.now)) }
+    ensures refused { IfErr result (IsRefusal (fault_of (grammar verb) (map (λ w. w.now) words.now))) }
+{
+    let Ok(command) = grammar(alloc, verb, name) else {
+        return Err(WordsFault::Memory);
+    };
+    match command.try_get_matches_from(words) {
+        Ok(matches) => Ok(matches),
+        Err(error) => match error.kind() {
+            ErrorKind::OutOfMemory => Err(WordsFault::Memory),
+            _ => Err(WordsFault::Words),
+        },
+    }
+}
+
+/// The grammar of the command of that name.
+fn grammar<'a>(alloc: Global, verb: Verb, name: &'a str) -> Result<clap::Command<'a>, AllocError>
+    requires { name.now ≡ verb_word verb }
+    ensures { IfOk result (λ c. app_of c ≡ grammar verb) }
+{
+    let nodes = with_nodes(alloc, bare(alloc, name))?;
+    match verb {
+        Verb::Run => {
+            let machine = with_memory(alloc, nodes)?;
+            let events = with_events(alloc, machine)?;
+            let threads = with_option(alloc, events, "threads")?;
+            let record = with_option(alloc, threads, "record")?;
+            with_places(alloc, record, "image")
+        }
+        Verb::Replay => {
+            let machine = with_memory(alloc, nodes)?;
+            let schedule = with_place(alloc, machine, "schedule")?;
+            with_places(alloc, schedule, "image")
+        }
+        Verb::Serial => {
+            let machine = with_memory(alloc, nodes)?;
+            let report = with_place(alloc, machine, "report")?;
+            with_places(alloc, report, "image")
+        }
+        Verb::Trial => {
+            let events = with_events(alloc, nodes)?;
+            let kind = with_place(alloc, events, "kind")?;
+            with_place(alloc, kind, "number")
+        }
+    }
+}
+
+/// A command without options and places.
+fn bare<'a>(alloc: Global, name: &'a str) -> clap::Command<'a>
+    ensures { app_of result ≡ plain name.entry.now [] }
+{
+    clap::Command::new(alloc, name).disable_help_flag(true)
+}
+
+/// The options of the nodes.
+fn with_nodes<'a>(
+    alloc: Global,
+    command: clap::Command<'a>,
+) -> Result<clap::Command<'a>, AllocError>
+    ensures { IfOk result (λ c. app_of c ≡ with_rules node_rules (app_of command.entry)) }
+{
+    let cores = with_option(alloc, command, "cores")?;
+    let dirs = with_option(alloc, cores, "dirs")?;
+    let sets = with_option(alloc, dirs, "sets")?;
+    with_option(alloc, sets, "ways")
+}
+
+/// The options of memory and images.
+fn with_memory<'a>(
+    alloc: Global,
+    command: clap::Command<'a>,
+) -> Result<clap::Command<'a>, AllocError>
+    ensures { IfOk result (λ c. app_of c ≡ with_rules memory_rules (app_of command.entry)) }
+{
+    let ram = with_option(alloc, command, "ram")?;
+    let base = with_option(alloc, ram, "base")?;
+    with_flag(alloc, base, "raw")
+}
+
+/// The options of the events.
+fn with_events<'a>(
+    alloc: Global,
+    command: clap::Command<'a>,
+) -> Result<clap::Command<'a>, AllocError>
+    ensures { IfOk result (λ c. app_of c ≡ with_rules event_rules (app_of command.entry)) }
+{
+    let steps = with_option(alloc, command, "steps")?;
+    with_option(alloc, steps, "seed")
+}
+
+/// An option with a value.
+fn with_option<'a>(
+    alloc: Global,
+    command: clap::Command<'a>,
+    name: &'a str,
+) -> Result<clap::Command<'a>, AllocError>
+    ensures { IfOk result (λ c. app_of c ≡ with_rule (app_of command.entry) (option name.entry.now)) }
+{
+    command.arg(Arg::new(alloc, name).long(name))
+}
+
+/// An option without a value.
+fn with_flag<'a>(
+    alloc: Global,
+    command: clap::Command<'a>,
+    name: &'a str,
+) -> Result<clap::Command<'a>, AllocError>
+    ensures { IfOk result (λ c. app_of c ≡ with_rule (app_of command.entry) (flag name.entry.now)) }
+{
+    command.arg(Arg::new(alloc, name).long(name).action(ArgAction::SetTrue))
+}
+
+/// A word that must stand there.
+fn with_place<'a>(
+    alloc: Global,
+    command: clap::Command<'a>,
+    name: &'a str,
+) -> Result<clap::Command<'a>, AllocError>
+    ensures { IfOk result (λ c. app_of c ≡ with_rule (app_of command.entry) (place name.entry.now)) }
+{
+    command.arg(Arg::new(alloc, name).required(true))
+}
+
+/// One word or more.
+fn with_places<'a>(
+    alloc: Global,
+    command: clap::Command<'a>,
+    name: &'a str,
+) -> Result<clap::Command<'a>, AllocError>
+    ensures { IfOk result (λ c. app_of c ≡ with_rule (app_of command.entry) (places name.entry.now)) }
+{
+    command.arg(
+        Arg::new(alloc, name)
+            .required(true)
+            .action(ArgAction::Append),
+    )
+}

@@ -1,0 +1,13 @@
+// The words of a command line: which command they ask for, with which settings, and why they are refused.
+#![tactic(auto)]
+
+mod command;
+mod fields;
+mod grammar;
+mod numbers;
+mod reading;
+#[cfg(test)]
+mod tests;
+
+pub use command::{Command, Field, Machine, Verb, WordsFault};
+pub use reading::settings;

@@ -1,0 +1,171 @@
+// From words to a command.
+ghost use Rattle.std.specs.Prelude.{◌≡◌, ◌↔◌, ◌≤◌, length, List as Seq, map, Some, IfOk, IfErr, IsSome, IsTrue};
+ghost use Rattle.clap.specs.Words.{Row, first_of, found_of, rows_of};
+ghost use Rattle.tcc_words.specs.Fields.{images_of};
+ghost use Rattle.tcc_words.specs.declared.command.Verb.TheVariants.{Trial};
+ghost use Rattle.tcc_words.specs.Asked.{Asks, HasMachine, HasPlaces, HasSettings, HasValues, IsCommand, IsRefused};
+
+use crate::command::{Command, Machine, Verb, WordsFault};
+use crate::fields::{Values, images, read_values, text};
+use crate::grammar::read;
+use clap::ArgMatches;
+use std::alloc::Global;
+use tcc_base::{Config, List, NoMemory, Text};
+
+/// The command that the words after the program's name ask for.
+///
+/// The first word names the command, and clap reads the words after it: options, as `--name value` or `--name=value`, and
+/// places. `Words` exactly where the first word is missing or names no command or clap refuses the others, `Value` with the first
+/// field, in the order of `Field`, in which something stands that isn't allowed. Each call takes memory.
+pub fn settings<'a>(alloc: Global, words: &'a [&'a str]) -> Result<Command, WordsFault>
+    ensures command { IfOk result (IsCommand (map (λ w. w.now) words.now)) }
+    ensures refused { IfErr result (IsRefused (map (λ w. w.now) words.now)) }
+{
+    let Some(name) = words.first() else {
+        return Err(WordsFault::Words);
+    };
+    let Some(verb) = Verb::named(name) else {
+        return Err(WordsFault::Words);
+    };
+    let matches = read(alloc, verb, name, words)?;
+    if !has_places(verb, &matches) {
+        return Err(WordsFault::Words);
+    }
+    match read_values(&matches) {
+        Err(field) => Err(WordsFault::Value(field)),
+        Ok(values) => match command(alloc, verb, &matches, &values) {
+            Ok(command) => Ok(command),
+            Err(NoMemory) => Err(WordsFault::Memory),
+        },
+    }
+}
+
+/// Whether each place of the command has its word.
+fn has_places(verb: Verb, matches: &ArgMatches) -> bool
+    ensures { IsTrue result ↔ HasPlaces verb (rows_of (found_of matches.now)) }
+{
+    match verb {
+        Verb::Run => has_images(matches),
+        Verb::Replay => text(matches, "schedule").is_some() && has_images(matches),
+        Verb::Serial => text(matches, "report").is_some() && has_images(matches),
+        Verb::Trial => text(matches, "kind").is_some() && text(matches, "number").is_some(),
+    }
+}
+
+/// Whether an image is named.
+fn has_images(matches: &ArgMatches) -> bool
+    ensures { IsTrue result ↔ (1 ≤ length (images_of (rows_of (found_of matches.now)))) }
+{
+    match images(matches) {
+        Some(names) => !names.is_empty(),
+        None => false,
+    }
+}
+
+/// The command with these values.
+fn command(
+    alloc: Global,
+    verb: Verb,
+    matches: &ArgMatches,
+    values: &Values,
+) -> Result<Command, NoMemory>
+    requires places { HasPlaces verb (rows_of (found_of matches.now)) }
+    requires values { HasValues (rows_of (found_of matches.now)) values.now }
+    ensures { IfOk result (Asks verb (rows_of (found_of matches.now))) }
+{
+    match verb {
+        Verb::Run => Ok(Command::Run {
+            machine: machine(matches, values.config),
+            images: image_names(alloc, matches)?,
+            steps: values.steps,
+            seed: values.seed,
+            threads: values.threads,
+            keep: match text(matches, "record") {
+                Some(name) => Some(owned(alloc, name)?),
+                None => None,
+            },
+        }),
+        Verb::Replay => Ok(Command::Replay {
+            machine: machine(matches, values.config),
+            schedule: given(alloc, matches, "schedule")?,
+            images: image_names(alloc, matches)?,
+        }),
+        Verb::Serial => Ok(Command::Serial {
+            machine: machine(matches, values.config),
+            list: given(alloc, matches, "report")?,
+            images: image_names(alloc, matches)?,
+        }),
+        Verb::Trial => Ok(trial(values)),
+    }
+}
+
+/// The trial with these values.
+fn trial(values: &Values) -> Command
+    requires work { IsSome values.now.work }
+    requires number { IsSome values.now.number }
+    ensures { (rows : Seq Row) → HasValues rows values.now → Asks Trial rows result }
+{
+    match (values.work, values.number) {
+        (Some(work), Some(number)) => Command::Trial {
+            config: values.config,
+            work,
+            number,
+            steps: values.steps,
+            seed: values.seed,
+        },
+        _ => unreachable!(),
+    }
+}
+
+/// The machine with these settings.
+fn machine(matches: &ArgMatches, config: Config) -> Machine
+    requires { HasSettings (rows_of (found_of matches.now)) config }
+    ensures { HasMachine (rows_of (found_of matches.now)) result }
+{
+    Machine {
+        config,
+        raw: text(matches, "raw") == Some("true"),
+    }
+}
+
+/// The text of a place that is given.
+fn given(alloc: Global, matches: &ArgMatches, name: &str) -> Result<Text, NoMemory>
+    requires { IsSome (first_of name.now (rows_of (found_of matches.now))) }
+    ensures { IfOk result (λ t. first_of name.now (rows_of (found_of matches.now)) ≡ Some t) }
+{
+    match text(matches, name) {
+        Some(text) => owned(alloc, text),
+        None => unreachable!(),
+    }
+}
+
+/// A text of its own.
+fn owned(alloc: Global, text: &str) -> Result<Text, NoMemory>
+    ensures { IfOk result (λ t. t ≡ text.now) }
+{
+    match String::from_str(alloc, text) {
+        Ok(items) => Ok(Text { items }),
+        Err(_) => Err(NoMemory),
+    }
+}
+
+/// The names of the images, as texts of their own.
+fn image_names(alloc: Global, matches: &ArgMatches) -> Result<List<Text>, NoMemory>
+    ensures { IfOk result (λ names. names ≡ images_of (rows_of (found_of matches.now))) }
+{
+    match images(matches) {
+        Some(words) => names(alloc, words),
+        None => Ok(List::new(alloc)),
+    }
+}
+
+/// Texts of their own.
+fn names(alloc: Global, words: &[&str]) -> Result<List<Text>, NoMemory>
+    ensures { IfOk result (λ names. names ≡ map (λ w. w.now) words.now) }
+{
+    let mut names = List::new(alloc);
+    for word in words {
+        names.push(owned(alloc, word)?)?;
+    }
+    Ok(names)
+}
