@@ -5,7 +5,7 @@ use Rattle.std.specs.Borrow.{Bor}
 use Rattle.std.specs.Str.{bytes_eq}
 use Rattle.clap.specs.Facts.{Entry}
 use Rattle.clap.specs.Matches.{first_value, matched_of, raw_values}
-use Rattle.clap.specs.Walk.{Row, Text, all_of, first_of, row_of, rows_of}
+use Rattle.clap.specs.Walk.{Text, all_of, first_of, row_of, rows_of}
 use Rattle.clap.specs.declared.parser.matches.Found.{Found}
 
 find-rows : (id : Text) (es : List Entry)
@@ -21,7 +21,8 @@ find-rows id (e ∷ es) = go (bytes_eq e.0.now id) (find-rows id es)
 
 pub first_value-rows : (f : Found) (id : Text) → first_value f id ≡ first_of id (rows_of f)
 first_value-rows f id =
-    go (find (λ e. bytes_eq e.0.now id) f.entries.items) ∙ ap (option_and_then (λ r. slice_get r.values 0)) (sym (find-rows id f.entries.items))
+    go (find (λ e. bytes_eq e.0.now id) f.entries.items)
+    ∙ ap (option_and_then (λ r. slice_get r.values 0)) (sym (find-rows id f.entries.items))
   where
     first : (vals : List (Bor Text)) → option_map (λ s. s.now) (slice_get vals 0) ≡ slice_get (map (λ s. s.now) vals) 0
     first [] = refl

@@ -36,11 +36,13 @@ pub run_made : (verb : Verb) (name : Text) (bare nodes machine events threads re
 unfolding grammar
 run_made verb name bare nodes machine events threads record_to made v n e0 e1 e2 e3 e4 e5 e6 = rw (e6, e5, e4, e3, e2, e1, e0, n, v) refl
 
-pub filed_made : (verb : Verb) (name file : Text) (bare nodes machine filed made : App) → rules verb ≡ node_rules ++ memory_rules ++ place file ∷ places (codes "image") ∷ []
+pub filed_made : (verb : Verb) (name file : Text) (bare nodes machine filed made : App)
+    → rules verb ≡ node_rules ++ memory_rules ++ place file ∷ places (codes "image") ∷ []
     → name ≡ verb_word verb → bare ≡ plain name [] → nodes ≡ with_rules node_rules bare → machine ≡ with_rules memory_rules nodes
     → filed ≡ with_rule machine (place file) → made ≡ with_rule filed (places (codes "image")) → made ≡ grammar verb
 unfolding grammar
-filed_made verb name file bare nodes machine filed made r n e0 e1 e2 e3 e4 = rw (e4, e3, e2, e1, e0, n) (ap (plain (verb_word verb)) (sym r))
+filed_made verb name file bare nodes machine filed made r n e0 e1 e2 e3 e4 =
+    rw (e4, e3, e2, e1, e0, n) (ap (plain (verb_word verb)) (sym r))
 
 pub trial_made : (verb : Verb) (name : Text) (bare nodes events kind made : App) → verb ≡ Trial → name ≡ verb_word verb
     → bare ≡ plain name [] → nodes ≡ with_rules node_rules bare → events ≡ with_rules event_rules nodes

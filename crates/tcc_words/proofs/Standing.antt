@@ -1,5 +1,5 @@
 -- Words stand for one command at most.
-use Rattle.std.proofs.Common.{◌≡◌, ℕ, ◌+◌, List, [], ◌∷◌, Some, map, length, get_or, refl, sym, ap, ap₂, subst, ◌∙◌, arith}
+use Rattle.std.proofs.Common.{◌≡◌, ℕ, ◌+◌, List, [], ◌∷◌, Some, map, get_or, refl, sym, ap, subst, ◌∙◌, arith}
 use Rattle.std.specs.Prelude.{option_map, slice_get}
 use Rattle.std.specs.Borrow.{Bor}
 use Rattle.clap.specs.Faults.{fault_of}
@@ -58,7 +58,8 @@ placeless-stands_not words verb other read rows first is missing s =
     missing (subst (λ v. HasPlaces v read) same (subst (HasPlaces other) found s.places))
 
 -- the text of the first word
-pub first-text : (words : List (Bor Text)) (word : Bor Text) → slice_get words 0 ≡ Some word → slice_get (map (λ w. w.now) words) 0 ≡ Some word.now
+pub first-text : (words : List (Bor Text)) (word : Bor Text) → slice_get words 0 ≡ Some word
+    → slice_get (map (λ w. w.now) words) 0 ≡ Some word.now
 first-text [] word e = cc
 first-text (w ∷ words) word e = ap (option_map (λ x. x.now)) e
 

@@ -1,5 +1,5 @@
 -- What the words of a command line ask for, and why they are refused.
-use Rattle.std.specs.Prelude.{ℕ, ◌≡◌, ◌≢◌, ◌≤◌, List, [], ◌∷◌, Bool, Option, Some, None, ◌↔◌, IsTrue, IsSome, MatchOption, option_map}
+use Rattle.std.specs.Prelude.{ℕ, ◌≡◌, ◌≤◌, List, [], Option, Some, None, ◌↔◌, IsTrue, IsSome, MatchOption, option_map}
 use Rattle.std.specs.Prelude.{slice_get, length, codes}
 use Rattle.clap.specs.Words.{Row, Text, first_of, matches_of}
 use Rattle.clap.specs.Faults.{fault_of}

@@ -15,8 +15,9 @@ use tcc_base::{Config, List, NoMemory, Text};
 /// The command that the words after the program's name ask for.
 ///
 /// The first word names the command, and clap reads the words after it: options, as `--name value` or `--name=value`, and
-/// places. `Words` exactly where the first word is missing or names no command or clap refuses the others, `Value` with the first
-/// field, in the order of `Field`, in which something stands that isn't allowed. Each call takes memory.
+/// places. `Words` exactly where the first word is missing or names no command, clap refuses the others or a place has no word;
+/// `Value` with the first field, in the order of `Field`, in which something stands that isn't allowed. Takes memory for what clap
+/// keeps and for the names.
 pub fn settings<'a>(alloc: Global, words: &'a [&'a str]) -> Result<Command, WordsFault>
     ensures command { IfOk result (IsCommand (map (λ w. w.now) words.now)) }
     ensures refused { IfErr result (IsRefused (map (λ w. w.now) words.now)) }

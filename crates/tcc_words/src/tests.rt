@@ -64,9 +64,9 @@ fn a_trial_has_its_workload(rt: HostRuntime) {
     let words = ["trial", "--cores", "2", "--seed", "1", "counters", "0100"];
     let Ok(
         Command::Trial {
-            config,
             work,
             number,
+            steps,
             seed,
             ..
         },
@@ -74,7 +74,7 @@ fn a_trial_has_its_workload(rt: HostRuntime) {
     else {
         panic!(rt; "these words are a command");
     };
-    assert!(rt; config.cores() == 2 && work == Work::Counters && number == 100 && seed == 1);
+    assert!(rt; work == Work::Counters && number == 100 && steps == 1_000_000 && seed == 1);
 }
 
 #[test]

@@ -1,4 +1,3 @@
-use Rattle.std.proofs.Common.{◌≡◌, rules}
 use Rattle.std.proofs.lemmas.Result.{err_from_is_err_and}
 use Rattle.clap.specs.Words.{found_of, rows_of}
 use Rattle.tcc_words.proofs.Order.{kind_first, number_first, seed_first}
@@ -13,13 +12,15 @@ returns-in_err-seed-clause-first c =
 pub returns-in_err-work-clause-first : goal.returns-in_err-work-clause-first
 returns-in_err-work-clause-first c =
     let p = err_from_is_err_and c.from_residual-in_err-work.result c.from_residual-in_err-work.ensures.1 in
-    rw (p.1, p.2) (kind_first (rows_of (found_of c.args.matches.now)) c.in_ok-config.config c.in_ok-seed.seed _ c.in_ok-config.ensures.settings
+    rw (p.1, p.2) (kind_first (rows_of (found_of c.args.matches.now)) c.in_ok-config.config c.in_ok-seed.seed _
+    c.in_ok-config.ensures.settings
     c.in_ok-config.ensures.allowed c.in_ok-steps.ensures.allowed c.in_ok-seed.ensures.said c.in_ok-threads.ensures.allowed
     c.in_ok-count_images.ensures.allowed c.in_err-work.ensures.faulty)
 
 pub returns-in_err-transactions-clause-first : goal.returns-in_err-transactions-clause-first
 returns-in_err-transactions-clause-first c =
     let p = err_from_is_err_and c.from_residual-in_err-transactions.result c.from_residual-in_err-transactions.ensures.1 in
-    rw (p.1, p.2) (number_first (rows_of (found_of c.args.matches.now)) c.in_ok-config.config c.in_ok-seed.seed _ c.in_ok-config.ensures.settings
+    rw (p.1, p.2) (number_first (rows_of (found_of c.args.matches.now)) c.in_ok-config.config c.in_ok-seed.seed _
+    c.in_ok-config.ensures.settings
     c.in_ok-config.ensures.allowed c.in_ok-steps.ensures.allowed c.in_ok-seed.ensures.said c.in_ok-threads.ensures.allowed
     c.in_ok-count_images.ensures.allowed c.in_ok-work.ensures.allowed c.in_err-transactions.ensures.faulty)

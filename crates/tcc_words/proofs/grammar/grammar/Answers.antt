@@ -1,4 +1,4 @@
-use Rattle.std.proofs.Common.{ap, codes, ◌∙◌}
+use Rattle.std.proofs.Common.{ap, codes}
 use Rattle.std.proofs.lemmas.Result.{IfOk-weaker}
 use Rattle.tcc_words.specs.Grammar.{rules}
 use Rattle.tcc_words.proofs.Rules.{filed_made, run_made, trial_made}

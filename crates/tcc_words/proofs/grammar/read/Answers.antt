@@ -1,8 +1,7 @@
-use Rattle.std.proofs.Common.{◌≡◌, List, [], true, map, ap, subst, sym, ◌∙◌, inl, inr}
+use Rattle.std.proofs.Common.{◌≡◌, List, true, map, ap, subst, sym, ◌∙◌, inl, inr}
 use Rattle.clap.specs.Words.{App, Text, app_of, is_simple, matches_of}
 use Rattle.clap.specs.Faults.{fault_of, is_simple_and_free}
 use Rattle.clap.specs.Kinds.{IsAmong}
-use Rattle.tcc_words.specs.Grammar.{grammar}
 use Rattle.tcc_words.proofs.Rules.{grammar-free, grammar-simple}
 use Rattle.tcc_words.proofs.grammar.read.Goals as goal
 

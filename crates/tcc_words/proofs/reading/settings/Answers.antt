@@ -20,8 +20,8 @@ returns-then-not-has_places-clause-refused c = λ other rows s.
     let words : List Text = map (λ w. w.now) c.args.words.now in
     let first : slice_get words 0 ≡ Some (verb_word c.in-Some-named.verb) =
     first-text c.args.words.now c.in-Some.name.now (sym c.in-Some.ensures.value) ∙ ap (λ (t : Text). Some t) c.in-Some-named.ensures in
-    placeless-stands_not words c.in-Some-named.verb other (rows_of (found_of c.in_ok-matches.matches)) rows first c.in_ok-matches.ensures.rows
-    (λ h. let bad = c.if-not-has_places.ensures.1 h in cc) s
+    placeless-stands_not words c.in-Some-named.verb other (rows_of (found_of c.in_ok-matches.matches)) rows first
+    c.in_ok-matches.ensures.rows (λ h. let bad = c.if-not-has_places.ensures.1 h in cc) s
 
 pub returns-in-Err-clause-refused : goal.returns-in-Err-clause-refused
 returns-in-Err-clause-refused c =
