@@ -31,11 +31,12 @@ fn marked_messages_are_listed_by_link(rt: HostRuntime) -> Result<(), Fail> {
     let core = NodeId::Core(CoreId(1));
     let dir = NodeId::Dir(DirId(0));
     let mut flights = InFlight::new(rt.alloc(), 2, 1).map_err(|_| "memory")?;
-    let mut out = Outgoing::new(rt.alloc());
-    out.push(NodeId::Vendor, Msg::TidReq).map_err(|_| "memory")?;
-    out.push(dir, Msg::Skip { tid: Tid(7) })
+    flights
+        .push(core, NodeId::Vendor, Msg::TidReq, false)
         .map_err(|_| "memory")?;
-    flights.send(core, &mut out).map_err(|_| "memory")?;
+    flights
+        .push(core, dir, Msg::Skip { tid: Tid(7) }, false)
+        .map_err(|_| "memory")?;
     let name = Name {
         src: core,
         dst: dir,
