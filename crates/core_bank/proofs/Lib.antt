@@ -1,0 +1,8 @@
+pub mod Lists
+pub mod Flat
+pub mod Banks
+pub mod Limits
+pub mod Totals
+pub mod Choices
+pub mod Starts
+pub mod Resting

@@ -1,0 +1,6 @@
+-- What the contracts of this crate cite.
+pub mod Bank
+pub mod BankInside
+pub mod Acted
+pub mod Uses
+pub mod Rest

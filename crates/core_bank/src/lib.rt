@@ -1,0 +1,12 @@
+// All cores of a machine, each with the number of its useful events.
+#![tactic(auto)]
+
+mod acting;
+mod bank;
+mod choosing;
+mod counting;
+mod reading;
+#[cfg(test)]
+mod tests;
+
+pub use bank::CoreBank;
