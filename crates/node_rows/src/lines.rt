@@ -1,0 +1,59 @@
+// The lines of a table.
+//
+// | Line | What it says |
+// |---|---|
+// | `# TEXT`, or an empty line | nothing |
+// | `machine CORES DIRS SETS WAYS RAM` | the machine of the rows below, with RAM's bytes; its RAM begins at 0x80000000 |
+// | `image WORD ..` | one more raw image of that machine, as hexadecimal words |
+// | `row TEXT` | a row begins, with all nodes as they start |
+// | `STEP` | a step of which all is shown |
+// | `+ STEP` | a step on the way to where the row wants to be: what it answers is shown, and how many messages it sends |
+use crate::steps::{Step, read_step};
+use crate::words::Words;
+use tcc_base::Config;
+
+pub enum Line<'a> {
+    Empty,
+    Machine(Config),
+    Image(Words<'a>),
+    Row,
+    Step { step: Step, shown: bool },
+    /// It is written as no other line is.
+    Unknown,
+}
+
+fn read_config(from: &mut Words<'_>) -> Option<Config> {
+    let cores = from.number()?;
+    let dirs = from.number()?;
+    let sets = from.number()?;
+    let ways = from.number()?;
+    let ram = from.number()?;
+    Config::new(cores, dirs, sets, ways, 0x8000_0000, ram).ok()
+}
+
+fn machine_line(from: &mut Words<'_>) -> Line<'static> {
+    match read_config(from) {
+        Some(config) => Line::Machine(config),
+        None => Line::Unknown,
+    }
+}
+
+fn step_line(from: &mut Words<'_>, shown: bool) -> Line<'static> {
+    match read_step(from) {
+        Some(step) if from.is_at_end() => Line::Step { step, shown },
+        _ => Line::Unknown,
+    }
+}
+
+/// What a line says.
+pub fn read_line(line: &str) -> Line<'_> {
+    let mut words = Words::of(line);
+    match words.word() {
+        None | Some("#") => Line::Empty,
+        Some("machine") => machine_line(&mut words),
+        Some("image") => Line::Image(words),
+        Some("row") => Line::Row,
+        Some("+") => step_line(&mut words, false),
+        _ => step_line(&mut Words::of(line), true),
+    }
+}
