@@ -12,10 +12,11 @@ use crate::steps::{Step, read_step};
 use crate::words::Words;
 use tcc_base::Config;
 
-pub enum Line<'a> {
+#[derive(Clone, Copy, Debug, PartialEq, Eq)]
+pub enum Line {
     Empty,
     Machine(Config),
-    Image(Words<'a>),
+    Image,
     Row,
     Step { step: Step, shown: bool },
     /// It is written as no other line is.
@@ -31,14 +32,14 @@ fn read_config(from: &mut Words<'_>) -> Option<Config> {
     Config::new(cores, dirs, sets, ways, 0x8000_0000, ram).ok()
 }
 
-fn machine_line(from: &mut Words<'_>) -> Line<'static> {
+fn machine_line(from: &mut Words<'_>) -> Line {
     match read_config(from) {
         Some(config) => Line::Machine(config),
         None => Line::Unknown,
     }
 }
 
-fn step_line(from: &mut Words<'_>, shown: bool) -> Line<'static> {
+fn step_line(from: &mut Words<'_>, shown: bool) -> Line {
     match read_step(from) {
         Some(step) if from.is_at_end() => Line::Step { step, shown },
         _ => Line::Unknown,
@@ -46,12 +47,12 @@ fn step_line(from: &mut Words<'_>, shown: bool) -> Line<'static> {
 }
 
 /// What a line says.
-pub fn read_line(line: &str) -> Line<'_> {
+pub fn read_line(line: &str) -> Line {
     let mut words = Words::of(line);
     match words.word() {
         None | Some("#") => Line::Empty,
         Some("machine") => machine_line(&mut words),
-        Some("image") => Line::Image(words),
+        Some("image") => Line::Image,
         Some("row") => Line::Row,
         Some("+") => step_line(&mut words, false),
         _ => step_line(&mut Words::of(line), true),

@@ -39,8 +39,10 @@ pub struct Table {
     last: Option<NodeId>,
 }
 
-/// The bytes of an image, from its words in hexadecimal digits.
-fn image_bytes(alloc: Global, words: &mut Words<'_>) -> Result<Vec<u8>, AllocError> {
+/// The bytes of an image, from its words in hexadecimal digits, which stand behind the line's first word.
+fn image_bytes(alloc: Global, line: &str) -> Result<Vec<u8>, AllocError> {
+    let mut words = Words::of(line);
+    let _ = words.word();
     let mut bytes = Vec::new(alloc);
     for _ in 0..4096 {
         match words.hex() {
@@ -77,7 +79,7 @@ impl Table {
         match read_line(line) {
             Line::Empty => {}
             Line::Machine(config) => self.begin_machine(config, line, &mut text)?,
-            Line::Image(mut words) => self.add_image(&mut words, line, &mut text)?,
+            Line::Image => self.add_image(line, &mut text)?,
             Line::Row => self.begin_row(line, &mut text)?,
             Line::Step { step, shown } => self.step(step, shown, line, &mut text)?,
             Line::Unknown => write!(text, "? {line}\n")?,
@@ -98,13 +100,8 @@ impl Table {
         Ok(())
     }
 
-    fn add_image(
-        &mut self,
-        words: &mut Words<'_>,
-        line: &str,
-        text: &mut String,
-    ) -> Result<(), OutOfMemory> {
-        let items = image_bytes(self.alloc, words)?;
+    fn add_image(&mut self, line: &str, text: &mut String) -> Result<(), OutOfMemory> {
+        let items = image_bytes(self.alloc, line)?;
         self.images.push(List { items }).map_err(|_| OutOfMemory)?;
         write!(text, "{line}\n")?;
         Ok(())
@@ -184,20 +181,21 @@ fn show_step(
     write!(text, "{line}\n  ")?;
     push_answer(text, &answer)?;
     text.push_str("\n")?;
-    push_sent(nodes, step.node(), &out, text)?;
+    push_sent(nodes, step.node(), &mut out, text)?;
     text.push_str("  ")?;
     nodes.push_state(text, step.node())?;
     text.push_str("\n")?;
     Ok(())
 }
 
-/// Keeps what a node sent, and says what it was.
+/// Keeps what a node sent, and says what it was: by destination, and to each one in the order in which it was sent.
 fn push_sent(
     nodes: &mut Nodes,
     src: NodeId,
-    out: &Outgoing,
+    out: &mut Outgoing,
     text: &mut String,
 ) -> Result<(), OutOfMemory> {
+    out.list.sort_by_key(|sent| sent.0)?;
     for (dst, msg) in out.list.iter() {
         let name = nodes.post(src, *dst, *msg)?;
         text.push_str("  to ")?;

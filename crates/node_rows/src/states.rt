@@ -1,5 +1,5 @@
 // What a node's readers say of its state, in one line.
-ghost use Rattle.std.specs.Prelude.{◌≡◌, ◌<◌, ◌/◌, true};
+ghost use Rattle.std.specs.Prelude.{◌≡◌, ◌<◌, ◌^◌, true};
 ghost use Rattle.dir_lines.specs.Home.{IsAtHome};
 
 use crate::tested_core::TestedCore;
@@ -132,7 +132,8 @@ pub fn push_core(text: &mut String, core: &TestedCore) -> Result<(), AllocError>
 }
 
 fn push_home_words(text: &mut String, dir: &TestedDir, line: LineAddr) -> Result<(), AllocError>
-    requires { IsAtHome dir.now.dir.lines.place line.0 }
+    requires home { IsAtHome dir.now.dir.lines.place line.0 }
+    requires small { line.0 < 2 ^ 24 }
 {
     for k in 0..8 {
         let word = dir.dir.word(WordAddr(8 * line.0 + k));
@@ -143,7 +144,8 @@ fn push_home_words(text: &mut String, dir: &TestedDir, line: LineAddr) -> Result
 
 /// A line of which more is known than at the start.
 fn push_line(text: &mut String, dir: &TestedDir, line: LineAddr) -> Result<(), AllocError>
-    requires { IsAtHome dir.now.dir.lines.place line.0 }
+    requires home { IsAtHome dir.now.dir.lines.place line.0 }
+    requires small { line.0 < 2 ^ 24 }
 {
     let LineState {
         mark,
