@@ -1,4 +1,4 @@
-// The lines of a table.
+// The lines of a table. Each is printed as it stands, and behind a step what comes of it.
 //
 // | Line | What it says |
 // |---|---|
@@ -6,7 +6,7 @@
 // | `machine CORES DIRS SETS WAYS RAM` | the machine of the rows below, with RAM's bytes; its RAM begins at 0x80000000 |
 // | `image WORD ..` | one more raw image of that machine, as hexadecimal words |
 // | `row TEXT` | a row begins, with all nodes as they start |
-// | `STEP` | a step of which all is shown |
+// | `STEP` | a step of which all is shown: the node's state before it, where that isn't the line above, the answer, what is sent, the state |
 // | `+ STEP` | a step on the way to where the row wants to be: what it answers is shown, and how many messages it sends |
 use crate::steps::{Step, read_step};
 use crate::words::Words;
@@ -14,7 +14,7 @@ use tcc_base::Config;
 
 #[derive(Clone, Copy, Debug, PartialEq, Eq)]
 pub enum Line {
-    Empty,
+    Text,
     Machine(Config),
     Image,
     Row,
@@ -50,7 +50,7 @@ fn step_line(from: &mut Words<'_>, shown: bool) -> Line {
 pub fn read_line(line: &str) -> Line {
     let mut words = Words::of(line);
     match words.word() {
-        None | Some("#") => Line::Empty,
+        None | Some("#") => Line::Text,
         Some("machine") => machine_line(&mut words),
         Some("image") => Line::Image,
         Some("row") => Line::Row,

@@ -139,6 +139,19 @@ fn push_words(text: &mut String, words: &[u32; 8]) -> Result<(), AllocError> {
     Ok(())
 }
 
+fn push_home(
+    text: &mut String,
+    kind: &str,
+    line: LineAddr,
+    mask: Mask,
+    words: &[u32; 8],
+    tag: Tid,
+) -> Result<(), AllocError> {
+    write!(text, "{kind} {} {:02x}", line.0, mask.0)?;
+    push_words(text, words)?;
+    write!(text, " {}", tag.0)
+}
+
 /// Appends the words of a message.
 pub fn push_msg(text: &mut String, msg: &Msg) -> Result<(), AllocError> {
     match msg {
@@ -162,21 +175,13 @@ pub fn push_msg(text: &mut String, msg: &Msg) -> Result<(), AllocError> {
             line,
             words,
             tag,
-        } => {
-            write!(text, "write-back {} {:02x}", line.0, mask.0)?;
-            push_words(text, words)?;
-            write!(text, " {}", tag.0)
-        }
+        } => push_home(text, "write-back", *line, *mask, words, *tag),
         Msg::Flush {
             mask,
             line,
             words,
             tag,
-        } => {
-            write!(text, "flush {} {:02x}", line.0, mask.0)?;
-            push_words(text, words)?;
-            write!(text, " {}", tag.0)
-        }
+        } => push_home(text, "flush", *line, *mask, words, *tag),
         Msg::DataReq { line } => write!(text, "data-req {}", line.0),
         Msg::Inv { line, mask, tid } => write!(text, "inv {} {:02x} {}", line.0, mask.0, tid.0),
         Msg::InvAck { line, keeps } => {

@@ -77,7 +77,7 @@ impl Table {
     pub fn run(&mut self, line: &str) -> Result<String, OutOfMemory> {
         let mut text = String::new(self.alloc);
         match read_line(line) {
-            Line::Empty => {}
+            Line::Text => write!(text, "{line}\n")?,
             Line::Machine(config) => self.begin_machine(config, line, &mut text)?,
             Line::Image => self.add_image(line, &mut text)?,
             Line::Row => self.begin_row(line, &mut text)?,
@@ -96,7 +96,7 @@ impl Table {
         self.config = Some(config);
         self.images.clear();
         self.nodes = None;
-        write!(text, "\n{line}\n")?;
+        write!(text, "{line}\n")?;
         Ok(())
     }
 
@@ -110,7 +110,7 @@ impl Table {
     fn begin_row(&mut self, line: &str, text: &mut String) -> Result<(), OutOfMemory> {
         self.last = None;
         self.nodes = None;
-        write!(text, "\n{line}\n")?;
+        write!(text, "{line}\n")?;
         let Some(config) = self.config else {
             return Ok(());
         };
