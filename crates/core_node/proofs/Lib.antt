@@ -1,4 +1,5 @@
 pub mod Asked
+pub mod AtOnce
 pub mod Blocked
 pub mod Changed
 pub mod Committed

@@ -10,7 +10,8 @@ use Rattle.tcc_program.specs.Program.{Local, Need, Loads, Stores, Changes, Print
 use Rattle.tcc_program.specs.Plain.{Outcome, load_of, store_of}
 use Rattle.tcc_program.specs.Ram.{part}
 use Rattle.tcc_rules.specs.State.{CoreState, Phase, Overflowing}
-use Rattle.tcc_rules.specs.Attempt.{Out}
+use Rattle.tcc_rules.specs.Attempt.{Out, moves}
+use Rattle.tcc_rules.specs.Sends.{nothing}
 use Rattle.core_node.specs.View.{Did}
 use Rattle.core_node.specs.declared.exec.Executed.{Executed}
 use Rattle.core_node.specs.declared.exec.Executed.TheVariants.{Stepped, Asked, Committed}
@@ -78,3 +79,8 @@ Tells (Committed c) s noted = noted ≡ Some c
 abbrev pub Told : Executed → Option Out → Type 0
 Told e None = ⊥
 Told e (Some o) = Tells e o.core o.commit
+
+-- done at once: a rule's event happened that sends and notes nothing; or else the state is as before
+abbrev pub AtOnce : Bool → Option Out → (old new : CoreState) → Type 0
+AtOnce true o old new = o ≡ Some (moves new nothing)
+AtOnce false o old new = new ≡ old

@@ -29,7 +29,7 @@ use tcc_base::{Size, WordAddr};
 use tcc_msg::Outgoing;
 
 /// The word that an instruction leaves in place of the one that it found.
-fn new_word(need: Need, word: u32) -> u32
+pub(crate) fn new_word(need: Need, word: u32) -> u32
     requires { IsAligned need }
     ensures { result ≡ word_after (need_of need) word }
 {

@@ -7,13 +7,14 @@ ghost use Rattle.image_load.specs.Contents.{started};
 ghost use Rattle.rv_code.specs.Machine.{program};
 ghost use Rattle.commit_engine.specs.Engine.{phase_of};
 ghost use Rattle.core_node.specs.Answers.{Happened, IsBlocked};
-ghost use Rattle.core_node.specs.Executing.{asks, overflows, Notes, Tells};
+ghost use Rattle.core_node.specs.Executing.{asks, overflows, Notes, Tells, Told};
 ghost use Rattle.core_node.specs.View.{awaited_of, core_of, IsCore, Stays};
 
 use crate::closing::stop;
 use crate::committing::commit;
 use crate::delivering::{CoreError, make_room};
 use crate::executing::execute;
+use crate::quick::exec_quickly;
 use crate::state::Core;
 use commit_engine::Phase;
 use rv_code::Code;
@@ -91,11 +92,7 @@ fn commit_ready(core: &mut Core, tid: Tid, out: &mut Outgoing) -> Result<Option<
 
 /// Executes, commits or does nothing, by the phase. Gives what is noted, where a transaction commits.
 #[tactic(auto, unfolding(tcc_rules::specs::CoreExec::core_exec, crate::specs::View::core_of))]
-pub(crate) fn exec(
-    core: &mut Core,
-    code: &Code,
-    out: &mut Outgoing,
-) -> Result<Option<Commit>, CoreError>
+fn exec_any(core: &mut Core, code: &Code, out: &mut Outgoing) -> Result<Option<Commit>, CoreError>
     requires whole { IsCore core.old }
     requires counts { core.old.n < 2 ^ 32 - 1 }
     requires same { code.now.settings ≡ core.old.config }
@@ -144,7 +141,7 @@ fn waits(core: &Core) -> bool
 }
 
 /// What an execution did that left the core like this, and noted this.
-pub(crate) fn told(core: &Core, noted: Option<Commit>) -> Executed
+fn told(core: &Core, noted: Option<Commit>) -> Executed
     ensures { Tells result (core_of core.now) noted }
 {
     match noted {
@@ -156,5 +153,42 @@ pub(crate) fn told(core: &Core, noted: Option<Commit>) -> Executed
                 Executed::Stepped
             }
         }
+    }
+}
+
+/// What isn't done at once.
+#[inline(never)]
+fn exec_left(core: &mut Core, code: &Code, out: &mut Outgoing) -> Result<Executed, CoreError>
+    requires whole { IsCore core.old }
+    requires counts { core.old.n < 2 ^ 32 - 1 }
+    requires same { code.now.settings ≡ core.old.config }
+    ensures does { OnOk result (Happened (core_exec core.old.config (program (started code.now)) core.old.id.0 (core_of core.old)) out.old core.new out.new) }
+    ensures told { IfOk result (λ e. Told e (core_exec core.old.config (program (started code.now)) core.old.id.0 (core_of core.old))) }
+    ensures blocked { IsBlocked result (core_exec core.old.config (program (started code.now)) core.old.id.0 (core_of core.old)) }
+    ensures stays { Stays core.old core.new }
+    ensures unchanged { OnErr result (core_of core.new ≡ core_of core.old) }
+    ensures unsent { OnErr result (out.new.list.items ≡ out.old.list.items) }
+{
+    let noted = exec_any(core, code, out)?;
+    Ok(told(core, noted))
+}
+
+/// Executes, commits or does nothing. What can be done at once is done first, since most instructions can.
+#[inline]
+pub(crate) fn exec(core: &mut Core, code: &Code, out: &mut Outgoing) -> Result<Executed, CoreError>
+    requires whole { IsCore core.old }
+    requires counts { core.old.n < 2 ^ 32 - 1 }
+    requires same { code.now.settings ≡ core.old.config }
+    ensures does { OnOk result (Happened (core_exec core.old.config (program (started code.now)) core.old.id.0 (core_of core.old)) out.old core.new out.new) }
+    ensures told { IfOk result (λ e. Told e (core_exec core.old.config (program (started code.now)) core.old.id.0 (core_of core.old))) }
+    ensures blocked { IsBlocked result (core_exec core.old.config (program (started code.now)) core.old.id.0 (core_of core.old)) }
+    ensures stays { Stays core.old core.new }
+    ensures unchanged { OnErr result (core_of core.new ≡ core_of core.old) }
+    ensures unsent { OnErr result (out.new.list.items ≡ out.old.list.items) }
+{
+    if exec_quickly(core, code) {
+        Ok(Executed::Stepped)
+    } else {
+        exec_left(core, code, out)
     }
 }

@@ -29,7 +29,7 @@ use tcc_msg::Outgoing;
 
 /// The word in which an address of RAM lies.
 #[tactic(auto, unfolding(tcc_program::specs::Ram::word_of))]
-fn word_at(core: &Core, addr: u32) -> WordAddr
+pub(crate) fn word_at(core: &Core, addr: u32) -> WordAddr
     requires { Lies core.now.config.base core.now.config.ram addr 1 }
     ensures value { result.0 ≡ word_of core.now.config.base addr }
     ensures exists { line_of result.0 < lines core.now.config }

@@ -37,6 +37,8 @@ pub(crate) fn step(core: &mut Core, inst: &Inst, loaded: Option<u32>)
     requires whole { IsCore core.old }
     requires room { core.old.n < 2 ^ 32 - 1 }
     ensures does { core_of core.new ≡ stepped (alone inst.now) loaded (core_of core.old) }
+    ensures phase { core.new.phase ≡ core.old.phase }
+    ensures awaited { core.new.awaited ≡ core.old.awaited }
     ensures stays { Stays core.old core.new }
 {
     finish_inst(inst, &mut core.state, loaded);

@@ -14,6 +14,7 @@ mod loading;
 mod messages;
 mod missing;
 mod node;
+mod quick;
 mod rolling;
 mod state;
 mod storing;

@@ -23,7 +23,7 @@ ghost use Rattle.core_node.specs.Answers.{Happened, IsBlocked};
 
 use crate::delivering::{CoreError, from_dir, from_vendor};
 use crate::evicting::{can_evict, evict};
-use crate::exec::{Executed, exec, told};
+use crate::exec::{Executed, exec};
 use crate::state::Core;
 use crate::useful::{useful_evict, useful_evicts};
 use crate::waiting::{can_exec, waits_for_room};
@@ -115,7 +115,7 @@ impl CoreNode {
     /// exactly where the rules don't allow it: in any other phase, while a line is awaited, and while the instruction waits for room.
     /// After an error the core is as before and nothing is sent. The attempt has fewer than 4,194,304 instructions. Takes constant time,
     /// but for a commit, which takes time in the cache's frames, and for one of a core that is alone in RAM's lines.
-    #[tactic(auto, unfolding(crate::specs::View::core_of))]
+    #[inline]
     pub fn exec(&mut self, code: &Code, out: &mut Outgoing) -> Result<Executed, CoreError>
         requires short { self.old.n < 4194304 }
         requires same { code.now.settings ≡ self.old.config }
@@ -126,8 +126,7 @@ impl CoreNode {
         ensures unchanged { OnErr result (core_of self.new ≡ core_of self.old) }
         ensures unsent { OnErr result (out.new.list.items ≡ out.old.list.items) }
     {
-        let noted = exec(&mut self.core, code, out)?;
-        Ok(told(&self.core, noted))
+        exec(&mut self.core, code, out)
     }
 
     /// Empties a way: its dirty words go home and its modified words to the overflow buffer. Blocked exactly where the rules

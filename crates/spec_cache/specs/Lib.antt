@@ -7,3 +7,4 @@ pub mod Useful
 pub mod PerSet
 pub mod Tracked
 pub mod Places
+pub mod InPlace

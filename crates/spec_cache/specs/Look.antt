@@ -1,10 +1,10 @@
 -- What a cache answers and hands out, in the words of its maps.
-use Rattle.std.specs.Prelude.{ℕ, ◌≡◌, Bool, true, cond, ◌&&◌, get_or, Some, is_some}
+use Rattle.std.specs.Prelude.{ℕ, ◌≡◌, Bool, true, cond, ◌&&◌, get_or, Some, None, is_some}
 use Rattle.std.specs.Option.{option_map}
 use Rattle.tcc_maps.specs.Words.{line_of, place_of, word_at}
 use Rattle.tcc_maps.specs.Masks.{mask_of}
 use Rattle.tcc_maps.specs.Cache.{Cache, modified_mask, dirty_mask, dirty_copy}
-use Rattle.tcc_maps.specs.CacheChange.{marked}
+use Rattle.tcc_maps.specs.CacheChange.{marked, stored}
 use Rattle.tcc_maps.specs.CacheLook.{Look as Answer, Hit as Hits, Miss as Misses, NeedsRoom as WantsRoom, Overflow as Overflows}
 use Rattle.tcc_maps.specs.Bridge.{tagged_of}
 use Rattle.spec_cache.specs.declared.frame.FrameView.{FrameView}
@@ -38,3 +38,9 @@ pub record Gives (c : Cache) (l : ℕ) (e : Evicted) : Type 0 where
   pub modified : e.modified.0 ≡ modified_mask c l
   pub words : (w : ℕ) → l ≡ line_of w → is_some (c.value w) ≡ true → c.value w ≡ Some (get_or e.words (place_of w) 0)
   pub back : option_map tagged_of e.back ≡ dirty_copy c l
+
+-- a word is stored in a frame that has no dirty word
+pub record StoresClean (w x : ℕ) (also : Bool) (old new : Cache) : Type 0 where
+  pub held : old.held (line_of w) ≡ true
+  pub clean : dirty_copy old (line_of w) ≡ None
+  pub maps : new ≡ stored w x also old

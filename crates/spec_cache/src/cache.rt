@@ -1,5 +1,5 @@
 // A core's cache: the calls of its frames, held in one array by set and way.
-ghost use Rattle.std.specs.Prelude.{◌≡◌, ◌<◌, ℕ, [], Option, Some, None, MatchOption, MatchResult, IfOk, map, IsTrue, IsSome, is_some, false};
+ghost use Rattle.std.specs.Prelude.{◌≡◌, ◌<◌, ℕ, [], Option, Some, None, MatchBool, MatchOption, MatchResult, IfOk, map, IsTrue, IsSome, is_some, false};
 ghost use Rattle.std.specs.Option.{option_map};
 ghost use Rattle.tcc_maps.specs.Words.{line_of};
 ghost use Rattle.tcc_maps.specs.Shape.{lines, set_of};
@@ -10,7 +10,7 @@ ghost use Rattle.tcc_maps.specs.CacheLook.{look_load as load_answer, look_store 
 ghost use Rattle.tcc_maps.specs.Spilled.{spill, none_spilled};
 ghost use Rattle.spec_cache.specs.Held.{Held, maps};
 ghost use Rattle.spec_cache.specs.Home.{mark_of};
-ghost use Rattle.spec_cache.specs.Look.{look_of, loaded, Views, Gives};
+ghost use Rattle.spec_cache.specs.Look.{look_of, loaded, Views, Gives, StoresClean};
 
 use crate::frame::FrameView;
 use crate::frames::Frames;
@@ -61,6 +61,19 @@ impl SpecCache {
         ensures maps { maps self.new ≡ loaded w.0 mark (maps self.old) }
         ensures answer { look_of result ≡ load_answer self.old.config w.0 (maps self.old) }
     {
+        match self.frames.hit(w, mark) {
+            Some(value) => Look::Hit(value),
+            None => self.load_and_mark(w, mark),
+        }
+    }
+
+    /// A load that may set a mark.
+    #[inline(never)]
+    fn load_and_mark(&mut self, w: WordAddr, mark: bool) -> Look
+        ensures config { self.new.config ≡ self.old.config }
+        ensures maps { maps self.new ≡ loaded w.0 mark (maps self.old) }
+        ensures answer { look_of result ≡ load_answer self.old.config w.0 (maps self.old) }
+    {
         self.frames.load(w, mark)
     }
 
@@ -80,6 +93,27 @@ impl SpecCache {
         ensures out { option_map tagged_of result ≡ dirty_copy (maps self.old) (line_of w.0) }
     {
         self.frames.store(w, value, mark_read)
+    }
+
+    /// Stores a word of a line whose frame has no dirty word, and says whether it did; else nothing is changed. The word becomes
+    /// valid and modified, and read too where `mark_read` is set.
+    pub fn store_clean(&mut self, w: WordAddr, value: u32, mark_read: bool) -> bool
+        ensures config { self.new.config ≡ self.old.config }
+        ensures does { MatchBool result (StoresClean w.0 value mark_read (maps self.old) (maps self.new)) (maps self.new ≡ maps self.old) }
+    {
+        if self.frames.store_again(w, value, mark_read) {
+            return true;
+        }
+        self.store_and_count(w, value, mark_read)
+    }
+
+    /// A store after which other numbers of frames may be modified or read.
+    #[inline(never)]
+    fn store_and_count(&mut self, w: WordAddr, value: u32, mark_read: bool) -> bool
+        ensures config { self.new.config ≡ self.old.config }
+        ensures does { MatchBool result (StoresClean w.0 value mark_read (maps self.old) (maps self.new)) (maps self.new ≡ maps self.old) }
+    {
+        self.frames.store_clean(w, value, mark_read)
     }
 
     /// Gives a line that has no frame the lowest free way of its set, with no valid word; Err of the set exactly where

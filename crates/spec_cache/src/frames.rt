@@ -1,5 +1,5 @@
 // The calls of a cache, over any form of its frames.
-ghost use Rattle.std.specs.Prelude.{◌≡◌, ◌<◌, ◌%◌, ℕ, [], length, Option, Some, None, MatchOption, MatchResult, IfOk, map, IsTrue, IsSome, is_some, false};
+ghost use Rattle.std.specs.Prelude.{◌≡◌, ◌<◌, ◌%◌, ℕ, [], length, Option, Some, None, MatchBool, MatchOption, MatchResult, IfOk, map, IsTrue, IsSome, is_some, false};
 ghost use Rattle.std.specs.Option.{option_map};
 ghost use Rattle.tcc_maps.specs.Words.{line_of};
 ghost use Rattle.tcc_maps.specs.Shape.{lines, set_of};
@@ -10,7 +10,7 @@ ghost use Rattle.tcc_maps.specs.CacheLook.{look_load as load_answer, look_store 
 ghost use Rattle.tcc_maps.specs.Spilled.{spill, none_spilled};
 ghost use Rattle.spec_cache.specs.Held.{Held, maps};
 ghost use Rattle.spec_cache.specs.Home.{mark_of};
-ghost use Rattle.spec_cache.specs.Look.{look_of, loaded, Views, Gives};
+ghost use Rattle.spec_cache.specs.Look.{look_of, loaded, Views, Gives, StoresClean};
 
 use crate::frame::{Change, FrameView};
 use crate::look::{Evicted, Invalidated, Look};
@@ -98,6 +98,24 @@ pub trait Frames: Ways {
         let out = frame.store(place_of_word(w), value, mark_read);
         self.put(at, Some(frame));
         out
+    }
+
+    /// Stores a word of a line whose frame has no dirty word, and says whether it did; else nothing is changed. The word becomes
+    /// valid and modified, and read too where `mark_read` is set.
+    fn store_clean(&mut self, w: WordAddr, value: u32, mark_read: bool) -> bool
+        ensures config { (Self.held self.new).config ≡ (Self.held self.old).config }
+        ensures does { MatchBool result (StoresClean w.0 value mark_read (maps (Self.held self.old)) (maps (Self.held self.new))) (maps (Self.held self.new) ≡ maps (Self.held self.old)) }
+    {
+        let line = line_of_word(w);
+        let Some((at, mut frame)) = self.find(line) else {
+            return false;
+        };
+        if frame.dirty.0 != 0 {
+            return false;
+        }
+        let _ = frame.store(place_of_word(w), value, mark_read);
+        self.put(at, Some(frame));
+        true
     }
 
     /// Gives a line that has no frame the lowest free way of its set, with no valid word; Err of the set exactly where

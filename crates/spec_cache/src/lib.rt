@@ -6,6 +6,7 @@ mod cache;
 mod frame;
 mod frames;
 mod home_counts;
+mod in_place;
 mod list_frames;
 mod look;
 mod marks;

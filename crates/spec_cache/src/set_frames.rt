@@ -1,12 +1,15 @@
 // The frames of a cache in one array, a line's frame among the ways of its set.
-ghost use Rattle.std.specs.Prelude.{◌≡◌, ◌*◌, ◌≤◌, replicate, Option, None, IfOk, cond, ◌<◌};
+ghost use Rattle.std.specs.Prelude.{◌≡◌, ◌*◌, ◌≤◌, replicate, Option, None, IfOk, IfSome, MatchBool, cond, ◌<◌};
+ghost use Rattle.tcc_maps.specs.CacheLook.{look_load as load_answer, Hit};
+ghost use Rattle.spec_cache.specs.Held.{maps};
+ghost use Rattle.spec_cache.specs.Look.{loaded, StoresClean};
 ghost use Rattle.spec_cache.specs.Home.{reads_in};
 ghost use Rattle.spec_cache.specs.Useful.{writes_in, dirty_way};
 ghost use Rattle.spec_cache.specs.PerSet.{idle_way, used_way, count_set};
 ghost use Rattle.spec_cache.specs.Tracked.{count_ways};
 
 use crate::frame::{Change, FrameView};
-use crate::frames::Frames;
+use crate::frames::{Frames, line_of_word, place_of_word};
 use crate::noted::{all_written_in, change_at};
 use crate::places::Places;
 use crate::quotients::set_of;
@@ -14,7 +17,7 @@ use crate::tracked::Tracked;
 use crate::ways::{Ways, is_marked};
 use std::alloc::Global;
 use std::marker::Model;
-use tcc_base::{Config, DirId, LineAddr, NoMemory};
+use tcc_base::{Config, DirId, LineAddr, NoMemory, WordAddr};
 
 /// The frames in one array: way `y` of set `s` stands at `s * ways + y`, a line is looked for in its set alone, and the
 /// frames with marks are known by place, so that no call visits all of them.
@@ -74,6 +77,33 @@ impl SetFrames {
         ensures in_order { IsHeld self.now }
     {
         self.ways.useful_in_set(alone, set)
+    }
+
+    /// The value of a word that is valid, where a mark would change nothing.
+    pub(crate) fn hit(&self, w: WordAddr, mark: bool) -> Option<u32>
+        ensures answer { IfSome result (λ x. Hit x ≡ load_answer self.now.config w.0 (maps self.now)) }
+        ensures same { IfSome result (λ x. maps self.now ≡ loaded w.0 mark (maps self.now)) }
+    {
+        let line = line_of_word(w);
+        let cfg = self.ways.config();
+        let ways = cfg.ways() as usize;
+        let first = set_of(line.0, cfg.sets()) as usize * ways;
+        self.ways
+            .hit(first, first + ways, line, place_of_word(w), mark)
+    }
+
+    /// Stores a word in a frame that has modified words and no dirty ones. Says whether it did; else nothing is changed.
+    pub(crate) fn store_again(&mut self, w: WordAddr, value: u32, mark_read: bool) -> bool
+        ensures config { self.new.config ≡ self.old.config }
+        ensures does { MatchBool result (StoresClean w.0 value mark_read (maps self.old) (maps self.new)) (self.new ≡ self.old) }
+    {
+        let line = line_of_word(w);
+        let cfg = self.ways.config();
+        let ways = cfg.ways() as usize;
+        let first = set_of(line.0, cfg.sets()) as usize * ways;
+        let place = place_of_word(w);
+        self.ways
+            .store_again(first, first + ways, line, place, value, mark_read)
     }
 
     /// The number of frames with a dirty word.

@@ -1,14 +1,16 @@
 // The ways of a cache in one array: a change of one way keeps what is counted of all.
-ghost use Rattle.std.specs.Prelude.{◌≡◌, ◌*◌, ◌<◌, ◌≤◌, ℕ, length, get_or, set, replicate, Option, Some, None, MatchOption, IfOk, cond, true, false};
+ghost use Rattle.std.specs.Prelude.{◌≡◌, ◌*◌, ◌<◌, ◌≤◌, ℕ, length, get_or, set, replicate, Option, Some, None, MatchOption, MatchBool, IfOk, IfSome, cond, true, false};
 ghost use Rattle.spec_cache.specs.Frame.{holds_line};
 ghost use Rattle.spec_cache.specs.Home.{reads_in};
 ghost use Rattle.spec_cache.specs.Useful.{writes_in, dirty_way};
 ghost use Rattle.spec_cache.specs.PerSet.{idle_way, used_way, count_set};
 ghost use Rattle.spec_cache.specs.Tracked.{count_ways};
+ghost use Rattle.spec_cache.specs.InPlace.{Hits, StoresAt};
 
 use crate::alike::alike;
 use crate::frame::FrameView;
 use crate::home_counts::{ByHome, one, read_home, recount, tag, written_home};
+use crate::in_place::{hit_at, spot, store_at};
 use crate::per_set::PerSet;
 use crate::quotients::set_at;
 use crate::slots::{empty_ways, frame_for, no_tags};
@@ -143,6 +145,47 @@ impl Tracked {
             }
         }
         None
+    }
+
+    /// The value of a word of the line, whose ways are those from `first` on and before `end`, where it is valid and a mark would
+    /// change nothing.
+    pub(crate) fn hit(
+        &self,
+        first: usize,
+        end: usize,
+        line: LineAddr,
+        k: usize,
+        mark: bool,
+    ) -> Option<u32>
+        requires inside { end ≤ length self.now.frames }
+        requires place { k < 8 }
+        ensures { IfSome result (Hits self.now line.0 k mark) }
+    {
+        let Some(at) = spot(&self.tags, first, end, line.0) else {
+            return None;
+        };
+        hit_at(&self.frames[at], line, k, mark)
+    }
+
+    /// Stores a word of the line in its frame among these ways, where that has modified words and no dirty ones. Says whether it
+    /// did; else nothing is changed.
+    pub(crate) fn store_again(
+        &mut self,
+        first: usize,
+        end: usize,
+        line: LineAddr,
+        k: usize,
+        value: u32,
+        also: bool,
+    ) -> bool
+        requires inside { end ≤ length self.old.frames }
+        requires place { k < 8 }
+        ensures { MatchBool result (StoresAt self.old self.new line.0 k value also) (self.new ≡ self.old) }
+    {
+        let Some(at) = spot(&self.tags, first, end, line.0) else {
+            return false;
+        };
+        store_at(&mut self.frames[at], line, k, value, also)
     }
 
     /// The number of ways that hold a line at home there with a modified word.
