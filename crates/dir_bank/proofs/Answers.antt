@@ -1,6 +1,6 @@
 -- What a bank does is what its directory does.
-use Rattle.std.proofs.Common.{◌≡◌, ℕ, ◌<◌, ◌≤◌, Bool, true, false, not, ◌&&◌, List, [], ◌++◌, length, Some, refl, ap, sym, ◌∙◌, subst, arith, inl, inr, if◌then◌else◌, ◌↔◌}
-use Rattle.std.specs.Prelude.{slice_get, slice_set, get_or, ◌==◌, ◌%◌, ◌/◌, Result, Ok, Err, IfOk}
+use Rattle.std.proofs.Common.{◌≡◌, ℕ, ◌<◌, Bool, true, not, ◌&&◌, List, length, Some, refl, ap, sym, ◌∙◌, subst, arith, inl, inr, if◌then◌else◌}
+use Rattle.std.specs.Prelude.{slice_get, slice_set, get_or, ◌==◌, ◌%◌, Result, Ok, Err, IfOk}
 use Rattle.std.proofs.lemmas.Option.{slice_get_read}
 use Rattle.std.proofs.lemmas.Bool.{cases_eq, ne_eqb}
 use Rattle.std.proofs.lemmas.Bool.Decides.{nat_tests}
@@ -8,14 +8,13 @@ use Rattle.tcc_base.specs.Put.{put}
 use Rattle.tcc_base.specs.Settings.{Settings}
 use Rattle.tcc_base.specs.declared.names.NodeId.{NodeId}
 use Rattle.tcc_maps.specs.Nodes.{Msg}
-use Rattle.tcc_maps.specs.Shape.{home, lines}
+use Rattle.tcc_maps.specs.Shape.{lines}
 use Rattle.tcc_msg.specs.Plain.{sends_of}
 use Rattle.tcc_msg.specs.declared.msg.Msg.{Msg as CodeMsg}
 use Rattle.tcc_rules.specs.DirDeliver.{dir_deliver}
-use Rattle.tcc_rules.specs.State.{DirState}
 use Rattle.directory.specs.Data.{DirData, dir_of}
 use Rattle.directory.specs.Foreign.{is_foreign}
-use Rattle.directory.specs.Gives.{Gives, is_taken, answer_of, acts}
+use Rattle.directory.specs.Gives.{Gives, is_taken, answer_of}
 use Rattle.directory.specs.declared.handled.Handled.{Handled}
 use Rattle.directory.specs.declared.handled.DirError.{DirError}
 use Rattle.dir_lines.specs.Home.{IsAtHome}

@@ -1,8 +1,7 @@
 -- The messages to one directory looked at again, core after core.
-use Rattle.std.proofs.Common.{◌≡◌, ℕ, ◌+◌, ◌<◌, ◌≤◌, Bool, true, false, ◌&&◌, Some, refl, ap, sym, ◌∙◌, subst, arith, ⊎_elim, inl, inr}
+use Rattle.std.proofs.Common.{◌≡◌, ℕ, ◌+◌, ◌<◌, false, ◌&&◌, Some, refl, sym, ◌∙◌, subst, arith, inl, inr}
 use Rattle.std.proofs.lemmas.Bool.{cases_eq, ne_eqb}
 use Rattle.std.proofs.lemmas.Bool.Decides.{nat_tests}
-use Rattle.std.specs.Prelude.{◌==◌}
 use Rattle.tcc_maps.specs.Nodes.{Node, Msg, Core, Dir, node_eq}
 use Rattle.tcc_rules.specs.DirDeliver.{dir_deliver}
 use Rattle.tcc_rules.specs.Links.{in_flight}

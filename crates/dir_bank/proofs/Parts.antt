@@ -1,12 +1,12 @@
 -- How the states of the rules change with one directory, and what directories are at the start.
-use Rattle.std.proofs.Common.{◌≡◌, ◌≢◌, ℕ, zero, suc, ◌+◌, ◌*◌, ◌/◌, ◌<◌, ◌≤◌, ◌^◌, ◌%◌, Bool, true, false, ◌&&◌, List, [], ◌∷◌, ◌++◌, length, Option, Some, None, refl, ap, sym, ◌∙◌, subst, arith, inl, inr, if◌then◌else◌}
+use Rattle.std.proofs.Common.{◌≡◌, ℕ, ◌+◌, ◌/◌, ◌<◌, ◌^◌, Bool, true, false, ◌&&◌, List, length, Some, refl, ap, sym, ◌∙◌, subst, arith, inl, inr, if◌then◌else◌}
 use Rattle.std.specs.Prelude.{slice_get, slice_set, get_or, nat_lt, ◌==◌}
 use Rattle.std.proofs.lemmas.Bool.{cases_eq, ne_eqb, cases_Bool}
 use Rattle.std.proofs.lemmas.Bool.Decides.{nat_tests}
 use Rattle.image_load.specs.Start.{Start}
 use Rattle.rv_code.specs.Machine.{first_ram}
 use Rattle.tcc_base.specs.Put.{put}
-use Rattle.tcc_rules.specs.State.{DirState, dir_start}
+use Rattle.tcc_rules.specs.State.{dir_start}
 use Rattle.tcc_maps.specs.Shape.{lines, home}
 use Rattle.tcc_maps.specs.Words.{line_of, place_of}
 use Rattle.directory.specs.Data.{DirData, dir_of}

@@ -1,11 +1,10 @@
 -- The directories at the start, one after another.
-use Rattle.std.proofs.Common.{◌≡◌, ℕ, zero, suc, ◌+◌, ◌<◌, ◌^◌, List, [], ◌∷◌, ◌++◌, length, length-append, Option, Some, None, refl, ap, sym, ◌∙◌, subst, arith, ⊎_elim, inl, inr}
+use Rattle.std.proofs.Common.{◌≡◌, ℕ, zero, suc, ◌+◌, List, [], ◌∷◌, ◌++◌, length, length-append, Option, Some, None, refl, ap, sym, ◌∙◌, subst, ⊎_elim, inl, inr}
 use Rattle.std.specs.Prelude.{slice_get, ◌⊎◌}
-use Rattle.std.proofs.lemmas.Option.{slice_get_past}
 use Rattle.image_load.specs.Start.{Start}
 use Rattle.rv_code.specs.Machine.{first_ram}
 use Rattle.tcc_base.specs.Settings.{Settings}
-use Rattle.tcc_rules.specs.State.{DirState, dir_start}
+use Rattle.tcc_rules.specs.State.{dir_start}
 use Rattle.directory.specs.Data.{DirData, dir_of}
 use Rattle.dir_bank.specs.Bank.{dir_or, dirs_of}
 use Rattle.dir_bank.specs.BankInside.{AreDirs}

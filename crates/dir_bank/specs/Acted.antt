@@ -1,5 +1,5 @@
 -- One directory has answered as a rule says, and all others are as before.
-use Rattle.std.specs.Prelude.{ℕ, ◌≡◌, Bool, false, List, ◌++◌}
+use Rattle.std.specs.Prelude.{ℕ, ◌≡◌, false, List, ◌++◌}
 use Rattle.tcc_base.specs.Put.{put}
 use Rattle.tcc_base.specs.declared.names.NodeId.{NodeId}
 use Rattle.tcc_msg.specs.Plain.{sends_of}

@@ -4,6 +4,7 @@
 mod answering;
 mod bank;
 mod marking;
+mod reading;
 #[cfg(test)]
 mod tests;
 

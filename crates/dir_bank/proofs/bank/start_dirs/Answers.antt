@@ -1,5 +1,5 @@
 -- One more directory as it was loaded.
-use Rattle.std.proofs.Common.{◌≡◌, ◌+◌, [], ◌∷◌, ◌++◌, subst, sym, ap, ◌∙◌}
+use Rattle.std.proofs.Common.{◌+◌, subst, sym, ap, ◌∙◌}
 use Rattle.image_load.specs.Contents.{started}
 use Rattle.dir_bank.proofs.Starts.{Begun, begun-push, begun-start}
 use Rattle.dir_bank.proofs.Parts.{dir-first}

@@ -1,13 +1,12 @@
 -- One more message is marked as the directory says now.
-use Rattle.std.proofs.Common.{◌≡◌, ℕ, ◌+◌, ◌≤◌, ◌&&◌, not, Some, None, length, subst, sym, ap, ◌∙◌, arith}
+use Rattle.std.proofs.Common.{◌≡◌, ℕ, ◌+◌, ◌&&◌, not, Some, subst, sym, ap, ◌∙◌, arith}
 use Rattle.tcc_maps.specs.Nodes.{Core, Dir}
 use Rattle.tcc_msg.specs.Plain.{msg_of}
 use Rattle.tcc_rules.specs.DirDeliver.{dir_deliver}
 use Rattle.tcc_rules.specs.Links.{in_flight}
 use Rattle.directory.specs.Data.{dir_of}
 use Rattle.directory.specs.Gives.{is_taken}
-use Rattle.in_flight.specs.Flights.{net_of}
-use Rattle.dir_bank.proofs.MarkedTo.{MarkedTo, marked-skip, marked-step, marked-all, waiting_of}
+use Rattle.dir_bank.proofs.MarkedTo.{MarkedTo, marked-skip, marked-step, marked-all}
 use Rattle.dir_bank.proofs.marking.remark_link.Goals as goal
 use Rattle.dir_bank.proofs.marking.remark_link.Goals.{in-Some, in_default}
 

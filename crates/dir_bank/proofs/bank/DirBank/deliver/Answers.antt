@@ -1,5 +1,5 @@
 -- What the directory does.
-use Rattle.std.proofs.Common.{◌≡◌, subst, sym, ap, ◌∙◌, ◌↔◌, Ok, Err, Result, IfOk}
+use Rattle.std.proofs.Common.{◌≡◌, subst, sym, ap, ◌∙◌, ◌↔◌, Err}
 use Rattle.std.specs.Prelude.{get_or, true}
 use Rattle.tcc_msg.specs.Plain.{msg_of}
 use Rattle.directory.specs.Foreign.{is_foreign}

@@ -1,7 +1,7 @@
 -- What is known at the line's home.
-use Rattle.std.proofs.Common.{◌≡◌, ◌<◌, ◌/◌, ◌%◌, subst, sym, ap, ◌∙◌, arith}
+use Rattle.std.proofs.Common.{◌≡◌, ◌<◌, subst, sym}
 use Rattle.std.specs.Prelude.{get_or}
-use Rattle.tcc_maps.specs.Shape.{home, lines}
+use Rattle.tcc_maps.specs.Shape.{home}
 use Rattle.tcc_maps.specs.Words.{line_of}
 use Rattle.dir_bank.specs.Bank.{dirs_of}
 use Rattle.dir_bank.specs.BankInside.{AreDirs}
