@@ -19,8 +19,8 @@ Usage: tcc run FORM CORES DIRS SETS WAYS STEPS IMAGE...
 Runs images of RISC-V programs (RV32IMA) on a machine that executes nothing but transactions, and prints a report.
 
   FORM      raw or elf: what all the images are
-  CORES     the number of cores: 1, so far
-  DIRS      the number of directories: 1, so far
+  CORES     the number of cores: 1 to 64
+  DIRS      the number of directories: 1 to 64
   SETS      how many sets a cache has: a power of two from 1 to 1024
   WAYS      how many ways a set has: 1 to 16
   STEPS     the largest number of events: 0 to 4194304
@@ -30,7 +30,7 @@ For example, at most 100 events of the raw image of examples/first.s:
 
   $(printf '%q' "$0") run raw 1 1 16 2 100 $(printf '%q' "$image")
 
-The status is 0 where all cores halted, 1 where the events ended before, and 2 to 7 where a line on standard error says why there
+The status is 0 where all cores halted and all messages and stored words came home, 1 where the events ended before, and 2 to 7 where a line on standard error says why there
 is no whole report. docs/FORMATS.md describes images, reports and statuses; README.md says what is proved of them.
 END
 }

@@ -1,3 +1,8 @@
-pub mod Agreement
-pub mod Rules
-pub mod SystemState
+-- What the contracts of this crate cite.
+pub mod Machine
+pub mod Reached
+pub mod Delivery
+pub mod Whole
+pub mod Answers
+pub mod Inside
+pub mod Copies

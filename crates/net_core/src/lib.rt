@@ -1,11 +1,19 @@
-// The machine as one object: all its nodes and what is on its way between them. So far it is one core with a write buffer
-// before its RAM, whose only events are to execute and to commit.
+// The whole machine: its cores, its directories, the vendor of TIDs and the messages in flight between them, as one object whose
+// events are taken one by one.
 #![tactic(auto)]
 
-mod laws;
+mod acting;
+mod answering;
+mod choosing;
+mod enabling;
+mod placing;
+mod readers;
+mod reading;
+mod seeing;
 mod system;
+mod taking;
 #[cfg(test)]
 mod tests;
 
-pub use laws::runs_are_serial;
-pub use system::{Step, StepError, System};
+pub use system::System;
+pub use taking::{Step, StepError};

@@ -1,5 +1,6 @@
 -- Why the program's answers are complete.
-use Rattle.std.proofs.Common.{ℕ, ◌≡◌, List, [], ◌∷◌, map, drop, get_or, Bool, true, false, Option, Some, None, Ok, Err, refl, sym, ◌∙◌, ap, subst, inl, inr}
+use Rattle.std.proofs.Common.{ℕ, ◌≡◌, List, [], ◌∷◌, map, drop, get_or, Bool, true, false, Option, Some, None, Ok, Err, refl, sym, ◌∙◌}
+use Rattle.std.proofs.Common.{ap, subst, inl, inr}
 use Rattle.tcc_cli.proofs.Refused.{no_command, no_value}
 use Rattle.tcc_cli.proofs.Wording.{asked_once}
 use Rattle.tcc_cli.specs.Asked.{Asked, IsCommand}
@@ -61,7 +62,8 @@ answers-left words w status a files (Err (why.Image fault)) is (b, read, r, firs
     left-after (fault_of a.form a.settings files) (Some fault) status
     (same_fault words w a b files read h r.command told r.given ∙ first) (inl is)
 answers-left words w status a files (Err (why.Store name)) is (b, k, first, s) h told none = absurd (none.reads name.now first.rose)
-answers-left words w status a files (Err why.Output) is (b, read, begun, (n, t, u, rose)) h told none = absurd (none.out rose)
+answers-left words w status a files (Err why.Output) is (b, read, begun, part) h told none =
+    let (n, t, u, rose) = part.written in absurd (none.out rose)
 answers-left words w status a files (Err why.Memory) is t h told none = memory_left (fault_of a.form a.settings files) status is
 
 pub answers_complete : AnswersAreComplete

@@ -5,8 +5,8 @@ pub mod Headline
 pub mod Pieces
 pub mod Refused
 pub mod Refusing
-pub mod Running
 pub mod Shown
+pub mod Simulated
 pub mod Starting
 pub mod Taken
 pub mod Wording

@@ -28,8 +28,8 @@ same_texts words f g t u h k = sym (texts_are words f t h) ∙ texts_are words g
 
 -- what a command's words are is allowed in each field
 all_allowed : (words : List (List ℕ)) (a : Asked) (h : IsCommand words a) (field : Field) → Allows h.texts field
-all_allowed words a h Cores = h.settings.cores
-all_allowed words a h Dirs = h.settings.dirs
+all_allowed words a h Cores = (a.settings.cores, h.settings.cores.0, h.settings.cores.1)
+all_allowed words a h Dirs = (a.settings.dirs, h.settings.dirs.0, h.settings.dirs.1)
 all_allowed words a h Sets = (a.settings.sets, h.settings.sets.0, h.settings.sets.1)
 all_allowed words a h Ways = (a.settings.ways, h.settings.ways.0, h.settings.ways.1)
 all_allowed words a h Steps = (a.steps, h.steps.0, h.steps.1)

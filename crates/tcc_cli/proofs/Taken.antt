@@ -1,38 +1,28 @@
--- A run that goes on has taken one event for each that it was asked for.
-use Rattle.std.proofs.Common.{ℕ, zero, suc, ◌≡◌, ◌+◌, true, false, refl, sym, ◌∙◌, ap, arith, add-zero, zero-add}
-use Rattle.net_core.specs.Agreement.{start}
-use Rattle.net_core.specs.Rules.{Machine, run, step, act, or_stay, phase_of, is_halted, is_done}
+-- A run at whose end the machine isn't done has taken one event for each that it was asked for.
+use Rattle.std.proofs.Common.{ℕ, zero, suc, ◌≡◌, ◌<◌, ◌≤◌, length, refl, ap, arith}
+use Rattle.rand_core.specs.Steps.{first_words}
+use Rattle.rand_pcg.specs.Lcg.{Lcg}
+use Rattle.rand_pcg.specs.Pcg.{pcg32}
 use Rattle.rv_code.specs.Machine.{program}
-use Rattle.tcc_base.specs.declared.access.CoreEnd.{CoreEnd}
-use Rattle.tcc_base.specs.declared.access.CoreEnd.TheVariants.{Run, Halt, Trap}
-use Rattle.tcc_cli.specs.Runs.{run_of, OpenRunsTakeAllEvents}
-use Rattle.tcc_program.specs.Plain.{Outcome, Goes, Ended, Halted, Trapped}
-use Rattle.tcc_program.specs.Program.{Program}
+use Rattle.rv_serial.specs.Going.{RiscvPickedEndsDone}
+use Rattle.rv_serial.specs.Suiting.{world_at_start}
+use Rattle.tcc_rules.specs.Laws.{PickedEnds}
+use Rattle.tcc_cli.specs.Runs.{OpenRunsTakeAllEvents, schedule_of, the_seed}
+use Rattle.tcc_pick.specs.Words.{seeded, words}
 
-true-not-false : true ≡ false → ⊥
-true-not-false e = cc
+pub as-many : (n : ℕ) (g : Lcg) → length (words n g) ≡ n
+unfolding first_words
+as-many zero g = refl
+as-many (suc n) g = ap (λ k. suc k) (as-many n (pcg32 g).1)
 
-acts-once : (base : ℕ) (p : Program) (m : Machine) (n : ℕ) (e : CoreEnd) (x : Outcome) → m.ended ≡ e
-    → (is_done m ≡ false → m.events ≡ n)
-    → is_done (or_stay m (act base p m (phase_of e x))) ≡ false
-    → (or_stay m (act base p m (phase_of e x))).events ≡ n + 1
-acts-once base p m n Run Goes is before open_after = ap (λ k. k + 1) (before (ap is_halted is))
-acts-once base p m n Run Ended is before open_after = ap (λ k. k + 1) (before (ap is_halted is))
-acts-once base p m n Run (Halted code) is before open_after = ap (λ k. k + 1) (before (ap is_halted is))
-acts-once base p m n Run (Trapped code) is before open_after = ap (λ k. k + 1) (before (ap is_halted is))
-acts-once base p m n (Halt code) x is before open_after = absurd (true-not-false (sym (ap is_halted is) ∙ open_after))
-acts-once base p m n (Trap code) x is before open_after = absurd (true-not-false (sym (ap is_halted is) ∙ open_after))
-
-run-events : (base : ℕ) (p : Program) (k : ℕ) (m : Machine) → is_done (run base p k m) ≡ false
-    → (run base p k m).events ≡ m.events + k
-unfolding run step
-run-events base p zero m is = sym (add-zero m.events)
-run-events base p (suc k) m is =
-    let b = run base p k m in
-    acts-once base p b (m.events + k) b.ended b.attempt.outcome refl (run-events base p k m) is
-    ∙ omega arith
-
-pub open_runs : OpenRunsTakeAllEvents
-unfolding run_of start
-open_runs s steps is =
-    run-events s.settings.base (program s) steps (start s) is ∙ zero-add steps
+pub open_runs : RiscvPickedEndsDone → PickedEnds → OpenRunsTakeAllEvents
+open_runs done ends s steps h allowed is_run open_end =
+    let rs = words steps (seeded the_seed) in
+    let count : length rs ≡ steps = as-many steps (seeded the_seed) in
+    let few : length (schedule_of s steps) ≤ length rs = (ends s.settings (program s) rs (world_at_start s)).0 in
+    let all : (length (schedule_of s steps) < length rs) → ⊥ =
+    λ l. open_end (rw is_run at (done s rs allowed l)) in
+    equal (length (schedule_of s steps)) (length rs) steps count few all
+  where
+    equal : (n m k : ℕ) → m ≡ k → n ≤ m → ((n < m) → ⊥) → n ≡ k
+    equal n m k e l a = grind (arith)

@@ -1,5 +1,6 @@
 -- The words of a command, one by one.
-use Rattle.std.proofs.Common.{ℕ, ◌≡◌, ◌≤◌, ◌-◌, List, [], ◌∷◌, length, map, take, drop, get_or, Bor, length-drop, refl, sym, ◌∙◌, ap, subst, arith}
+use Rattle.std.proofs.Common.{ℕ, ◌≡◌, ◌≤◌, ◌-◌, List, [], ◌∷◌, length, map, take, drop, get_or, Bor, length-drop, refl, sym, ◌∙◌, ap}
+use Rattle.std.proofs.Common.{subst, arith}
 use Rattle.std.proofs.lemmas.List.{length-map, take_all}
 use Rattle.std.specs.Prelude.{codes, Bool, true, false, not}
 use Rattle.tcc_base.specs.Settings.{Settings}
@@ -68,12 +69,24 @@ same_form Raw Elf e = absurd (form_unlike e)
 same_form Elf Raw e = absurd (form_unlike (sym e))
 same_form Elf Elf e = refl
 
-same_settings : (t u : Texts) (s r : Settings) → t.sets ≡ u.sets → t.ways ≡ u.ways → HasSettings t s → HasSettings u r → s ≡ r
-same_settings t u s r sets ways h k =
-    h.are
-    ∙ ap (λ n. settings_with n s.ways) (same_number t.sets u.sets s.sets r.sets sets h.sets.0 k.sets.0)
-    ∙ ap (λ n. settings_with r.sets n) (same_number t.ways u.ways s.ways r.ways ways h.ways.0 k.ways.0)
-    ∙ sym k.are
+same_settings : (t u : Texts) (s r : Settings) → t ≡ u → HasSettings t s → HasSettings u r → s ≡ r
+same_settings t u s r same h k =
+    let cores = same_number t.cores u.cores s.cores r.cores (ap (λ x. x.cores) same) h.cores.0 k.cores.0 in
+    let dirs = same_number t.dirs u.dirs s.dirs r.dirs (ap (λ x. x.dirs) same) h.dirs.0 k.dirs.0 in
+    let sets = same_number t.sets u.sets s.sets r.sets (ap (λ x. x.sets) same) h.sets.0 k.sets.0 in
+    let ways = same_number t.ways u.ways s.ways r.ways (ap (λ x. x.ways) same) h.ways.0 k.ways.0 in
+    h.are ∙ (λ i. settings_with (cores i) (dirs i) (sets i) (ways i)) ∙ sym k.are
+
+-- the values of a command's words
+values_at : List (List ℕ) → Texts
+values_at ws = record {
+  cores = get_or ws 2 [];
+  dirs = get_or ws 3 [];
+  sets = get_or ws 4 [];
+  ways = get_or ws 5 [];
+  steps = get_or ws 6 [];
+  images = drop 7 ws;
+}
 
 -- the words ask for one thing
 pub record Same (a b : Asked) : Type 0 where
@@ -82,10 +95,11 @@ pub record Same (a b : Asked) : Type 0 where
   pub images : a.images ≡ b.images
 
 pub asked_once : (words : List (List ℕ)) (a b : Asked) → IsCommand words a → IsCommand words b → Same a b
+unfolding values_at
 asked_once words a b h k =
     let same = sym h.stands.words_are ∙ k.stands.words_are in
     record {
       form = same_form a.form b.form (ap (λ ws. get_or ws 1 []) same);
-      settings = same_settings h.texts k.texts a.settings b.settings (ap (λ ws. get_or ws 4 []) same) (ap (λ ws. get_or ws 5 []) same) h.settings k.settings;
+      settings = same_settings h.texts k.texts a.settings b.settings (ap values_at same) h.settings k.settings;
       images = sym h.images.0 ∙ ap (λ ws. drop 7 ws) same ∙ k.images.0;
     }

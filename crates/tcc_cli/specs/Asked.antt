@@ -15,9 +15,10 @@ pub record Asked : Type 0 where
   pub steps : ℕ
   pub images : List (List ℕ)
 
--- one core and one directory so far, and 65,536 bytes of RAM from 0x80000000 on
-abbrev pub settings_with : (sets ways : ℕ) → Settings
-settings_with sets ways = record { cores = 1; dirs = 1; sets = sets; ways = ways; base = 2147483648; ram = 65536 }
+-- 65,536 bytes of RAM from 0x80000000 on
+abbrev pub settings_with : (cores dirs sets ways : ℕ) → Settings
+settings_with cores dirs sets ways =
+    record { cores = cores; dirs = dirs; sets = sets; ways = ways; base = 2147483648; ram = 65536 }
 
 -- the words with values, as they stand
 pub record Texts : Type 0 where
@@ -46,10 +47,10 @@ AreImages names = length names ≤ 16
 
 -- what stands in this field is allowed
 abbrev pub Allows : Texts → Field → Type 0
-Allows t Cores = IsNumber t.cores 1
-Allows t Dirs = IsNumber t.dirs 1
-Allows t Sets = (n : ℕ) × IsNumber t.sets n × Keeps (settings_with n 1) limit.Sets
-Allows t Ways = (n : ℕ) × IsNumber t.ways n × Keeps (settings_with 1 n) limit.Ways
+Allows t Cores = (n : ℕ) × IsNumber t.cores n × Keeps (settings_with n 1 1 1) limit.Cores
+Allows t Dirs = (n : ℕ) × IsNumber t.dirs n × Keeps (settings_with 1 n 1 1) limit.Dirs
+Allows t Sets = (n : ℕ) × IsNumber t.sets n × Keeps (settings_with 1 1 n 1) limit.Sets
+Allows t Ways = (n : ℕ) × IsNumber t.ways n × Keeps (settings_with 1 1 1 n) limit.Ways
 Allows t Steps = (n : ℕ) × IsNumber t.steps n × IsSteps n
 Allows t Images = AreImages t.images
 
@@ -64,11 +65,11 @@ AllowsBefore t Images = Allows t Cores × Allows t Dirs × Allows t Sets × Allo
 
 -- the settings that stand there
 pub record HasSettings (t : Texts) (s : Settings) : Type 0 where
-  pub cores : IsNumber t.cores 1
-  pub dirs : IsNumber t.dirs 1
+  pub cores : IsNumber t.cores s.cores × Keeps s limit.Cores
+  pub dirs : IsNumber t.dirs s.dirs × Keeps s limit.Dirs
   pub sets : IsNumber t.sets s.sets × Keeps s limit.Sets
   pub ways : IsNumber t.ways s.ways × Keeps s limit.Ways
-  pub are : s ≡ settings_with s.sets s.ways
+  pub are : s ≡ settings_with s.cores s.dirs s.sets s.ways
 
 -- the words stand for what is asked, and all of it is allowed
 pub record IsCommand (words : List (List ℕ)) (a : Asked) : Type 0 where

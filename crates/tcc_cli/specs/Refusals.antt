@@ -50,7 +50,7 @@ refusal_status (why.Store name) = StoreFault
 refusal_status why.Output = SinkFault
 refusal_status why.Memory = Memory
 
--- how a call ends: with whether a halt or a trap is committed, or refused
+-- how a call ends: with whether the machine is done, or refused
 abbrev pub End : Type 0
 End = Result Bool Refusal
 

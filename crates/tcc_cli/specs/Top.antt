@@ -1,16 +1,15 @@
 -- What the program's answers say: how the call ended, its cause, and what was written.
-use Rattle.std.specs.Prelude.{ℕ, Bool, List, map, ◌≡◌, ◌↔◌, ◌⊎◌, Option, Some, None, Ok, Err}
+use Rattle.std.specs.Prelude.{ℕ, Bool, List, length, IsTrue, map, ◌≡◌, ◌↔◌, ◌⊎◌, Option, Some, None, Ok, Err}
 use Rattle.image_load.specs.Start.{Start}
-use Rattle.net_core.specs.Agreement.{IsSerial}
-use Rattle.net_core.specs.Rules.{is_done}
-use Rattle.rv_code.specs.Machine.{program}
-use Rattle.rv_plain.specs.Machine.{plain_start}
+use Rattle.rv_serial.specs.Given.{IsSerial}
+use Rattle.tcc_rules.specs.Seen.{IsDone}
+use Rattle.tcc_rules.specs.Step.{History}
 use Rattle.tcc_cli.specs.Asked.{Asked, IsCommand}
 use Rattle.tcc_cli.specs.Images.{start_of, fault_of}
 use Rattle.tcc_cli.specs.Lines.{Written, IsTold, IsCut, IsWhole, IsSilent}
 use Rattle.tcc_cli.specs.Reading.{AreGiven, FailedFirst}
 use Rattle.tcc_cli.specs.Refusals.{End, RefusedWords, line_of, status_of}
-use Rattle.tcc_cli.specs.Runs.{run_of, text_of}
+use Rattle.tcc_cli.specs.Runs.{IsRun, schedule_of, text_of}
 use Rattle.tcc_cli.specs.declared.refusal.ImageFault.{ImageFault}
 use Rattle.tcc_cli.specs.declared.refusal.Refusal.TheVariants as why
 use Rattle.tcc_cli.specs.declared.status.Status.{Status}
@@ -24,17 +23,23 @@ pub record Around : Type 0 where
   pub reads_after : List ℕ → ℕ
   pub out : Written
 
--- the report of the run from a start for at most so many events
-abbrev pub report_of : Start → (steps : ℕ) → List ℕ
-report_of s steps = text_of s (run_of s steps)
-
--- the whole report was written; `done` is whether a halt or a trap is committed at the end
+-- the whole report was written; `done` is whether every core has halted, nothing is in flight and no frame has a dirty word at the end
 pub record Reported (s : Start) (steps : ℕ) (out : Written) (done : Bool) : Type 0 where
-  pub ended : is_done (run_of s steps) ≡ done
+  pub ends : History
+  pub is_run : IsRun s steps ends
+  pub is_done : IsTrue done ↔ IsDone s.settings ends.world
   -- the headline: the printed commits are a serial execution of the plain machine, and the printed loads, registers, memory and
   -- console are those of that execution
-  pub serial : IsSerial s.settings.base (program s) (plain_start s) (run_of s steps)
-  pub written : IsWhole (report_of s steps) out
+  pub serial : IsSerial s ends
+  pub written : IsWhole (text_of s done (length (schedule_of s steps)) ends) out
+
+-- a first part of the report was written, and not all of it
+pub record ReportedInPart (s : Start) (steps : ℕ) (out : Written) : Type 0 where
+  pub done : Bool
+  pub ends : History
+  pub is_run : IsRun s steps ends
+  pub is_done : IsTrue done ↔ IsDone s.settings ends.world
+  pub written : IsCut (text_of s done (length (schedule_of s steps)) ends) out
 
 -- the files that are asked for were read, with these bytes where the store tells them
 pub record Read (words : List (List ℕ)) (w : Around) (a : Asked) (files : List (List ℕ)) : Type 0 where
@@ -59,7 +64,7 @@ Ends words w (Err (why.Image fault)) =
 Ends words w (Err (why.Store name)) =
     (a : Asked) × IsCommand words a × FailedFirst w.told a.images w.reads_before w.reads_after name.now × IsSilent w.out
 Ends words w (Err why.Output) =
-    (a : Asked) × (files : List (List ℕ)) × Started words w a files × IsCut (report_of (start_from a files) a.steps) w.out
+    (a : Asked) × (files : List (List ℕ)) × Started words w a files × ReportedInPart (start_from a files) a.steps w.out
 Ends words w (Err why.Memory) = (a : Asked) × IsCommand words a × IsSilent w.out
 
 -- what is written to the output for errors: the line of a refusal, or nothing

@@ -1,41 +1,56 @@
-// The run of an image, from its first event to the text of its report.
-ghost use Rattle.std.specs.Prelude.{◌≡◌, ◌/◌, ◌≤◌, IfOk, OnOk};
+// The run of images, from its first event to the text of its report.
+ghost use Rattle.std.specs.Prelude.{◌≡◌, ◌≤◌, ◌↔◌, ◌/◌, [], IfOk, IsTrue, length, map};
+ghost use Rattle.std.specs.List.{range_with_len};
 ghost use Rattle.std.specs.String.{string_bytes};
 ghost use Rattle.image_load.specs.Contents.{started};
-ghost use Rattle.net_core.specs.Rules.{run, is_done};
-ghost use Rattle.net_core.specs.SystemState.{machine_of};
-ghost use Rattle.rv_code.specs.Machine.{program};
-ghost use Rattle.tcc_cli.specs.Runs.{run_of, text_of};
-ghost use Rattle.tcc_program.specs.Ram.{flat};
+ghost use Rattle.tcc_program.specs.Cores.{printed};
+ghost use Rattle.tcc_rules.specs.Seen.{IsDone, seen};
+ghost use Rattle.net_core.specs.Machine.{history_of, settings_of, start_of, world_of};
+ghost use Rattle.tcc_cli.specs.Runs.{Finishes, shown, text_of};
 
 use image_load::Loaded;
-use net_core::{StepError, System};
+use net_core::System;
 use report_text::{CoreShown, Ending, Words, report};
 use rv_code::Code;
 use std::alloc::Global;
-use tcc_base::{Config, CoreId, NoMemory, WordAddr};
-use tcc_msg::Event;
+use std::marker::Model;
+use tcc_base::{CoreId, List, NoMemory, WordAddr};
+use tcc_pick::Chooser;
 
-/// The text of a run's report, and whether a halt or a trap is committed.
+/// The seed of each run, so far.
+const SEED: u64 = 0;
+
+/// The text of a run's report, and whether the machine is done.
 #[derive(Debug, Drop)]
 pub struct Finished {
     pub done: bool,
     pub text: String,
 }
 
-/// RAM as the machine has committed it.
-#[derive(Clone, Copy)]
+/// RAM as the machine has committed it, where all that was sent stands on its links.
+#[derive(Drop)]
 struct Committed<'a> {
     system: &'a System,
 }
 
-impl<'a> Words for Committed<'a> {
-    ghost words = { λ c. flat c.system.now.memory.ram };
+impl<'a> Model for Committed<'a> {
+    ghost use Rattle.std.specs.Prelude.{◌≡◌, []};
+    ghost use Rattle.net_core.specs.Machine.{Machine};
 
-    ghost count = { λ c. c.system.now.loaded.settings.ram / 4 };
+    ghost Value = { Machine };
+
+    ghost view = { λ c. c.system.now };
+
+    ghost invariant = { λ c. c.system.now.unsent ≡ [] };
+}
+
+impl<'a> Words for Committed<'a> {
+    ghost words = { λ m. seen (settings_of m) (world_of m) };
+
+    ghost count = { λ m. (settings_of m).ram / 4 };
 
     fn word_count(&self) -> usize {
-        self.system.code().config().words() as usize
+        self.system.config().words() as usize
     }
 
     fn word(&self, w: WordAddr) -> u32 {
@@ -63,75 +78,67 @@ impl<'a> Words for Laid<'a> {
     }
 }
 
-/// Takes so many events, or fewer where the core has halted before.
-fn run_for(system: &mut System, steps: u32) -> Result<(), NoMemory>
-    requires first { system.old.events ≡ 0 }
-    requires few { steps ≤ 4194304 }
-    ensures runs { OnOk result (machine_of system.new ≡ run system.old.loaded.settings.base
-        (program (started system.old.loaded)) steps (machine_of system.old)) }
-    ensures loaded { system.new.loaded ≡ system.old.loaded }
+/// What the commits of each core printed.
+fn consoles(alloc: Global, system: &System) -> Result<List<List<u8>>, NoMemory>
+    ensures { IfOk result (λ cs. cs ≡ map (λ core. printed core system.now.commits) (range_with_len 0 (settings_of system.now).cores)) }
 {
-    for k in 0..steps {
-        match system.step(Event::Exec(CoreId(0))) {
-            Ok(_) => {}
-            Err(StepError::Refused) => return Ok(()),
-            Err(StepError::Memory) => return Err(NoMemory),
-        }
+    let mut consoles = List::new(alloc);
+    for c in 0..system.config().cores() {
+        consoles.push(system.console(alloc, CoreId(c))?)?;
     }
-    Ok(())
+    Ok(consoles)
+}
+
+/// The cores as their commits left them.
+fn cores<'a>(
+    alloc: Global,
+    system: &System,
+    consoles: &'a List<List<u8>>,
+) -> Result<List<CoreShown<'a>>, NoMemory>
+    requires { consoles.now ≡ map (λ core. printed core system.now.commits) (range_with_len 0 (settings_of system.now).cores) }
+    ensures { IfOk result (λ cs. cs ≡ (shown (start_of system.now) (history_of system.now)).cores) }
+{
+    let mut cores = List::new(alloc);
+    for c in 0..system.config().cores() {
+        let core = CoreId(c);
+        let check = system.committed(core);
+        cores.push(CoreShown {
+            end: system.ended(core),
+            pc: check.pc(),
+            regs: *check.regs(),
+            console: &consoles.items[c as usize].items,
+        })?;
+    }
+    Ok(cores)
 }
 
 /// The report of the machine as it stands.
-#[tactic(auto, unfolding(net_core::specs::SystemState::machine_of))]
-fn finish(alloc: Global, system: &System) -> Result<Finished, NoMemory>
-    requires one { system.now.loaded.settings.cores ≡ 1 }
-    ensures done { IfOk result (λ f. f.done ≡ is_done (machine_of system.now)) }
-    ensures text { IfOk result (λ f. string_bytes f.text ≡ text_of (started system.now.loaded) (machine_of system.now)) }
+fn text(alloc: Global, system: &System, done: bool) -> Result<String, NoMemory>
+    requires settled { system.now.unsent ≡ [] }
+    ensures { IfOk result (λ text. string_bytes text ≡ text_of (start_of system.now) done system.now.events (history_of system.now)) }
 {
-    let done = system.done();
-    match text(alloc, system) {
-        Ok(text) => Ok(Finished { done, text }),
-        Err(e) => Err(e),
-    }
-}
-
-#[tactic(auto, unfolding(net_core::specs::SystemState::machine_of, rv_plain::specs::Attempts::attempt_of))]
-fn text(alloc: Global, system: &System) -> Result<String, NoMemory>
-    requires one { system.now.loaded.settings.cores ≡ 1 }
-    ensures { IfOk result (λ text. string_bytes text ≡ text_of (started system.now.loaded) (machine_of system.now)) }
-{
-    let core = CoreShown {
-        end: system.ended(),
-        pc: system.pc(),
-        regs: *system.regs(),
-        console: system.console(),
-    };
+    let consoles = consoles(alloc, system)?;
+    let cores = cores(alloc, system, &consoles)?;
     let ending = Ending {
         commits: system.commits(),
-        cores: &[core],
-        base: system.code().config().base(),
+        cores: &cores.items,
+        base: system.config().base(),
         ram: &Committed { system },
         loaded: &Laid {
             code: system.code(),
         },
     };
-    report(alloc, system.done(), system.events(), &ending)
+    report(alloc, done, system.events(), &ending)
 }
 
 /// Runs a loaded memory for at most so many events.
-pub fn simulate(
-    alloc: Global,
-    config: &Config,
-    loaded: &Loaded,
-    steps: u32,
-) -> Result<Finished, NoMemory>
-    requires settings { loaded.now.settings ≡ config.now }
-    requires one { config.now.cores ≡ 1 }
+pub fn simulate(alloc: Global, loaded: &Loaded, steps: u32) -> Result<Finished, NoMemory>
     requires few { steps ≤ 4194304 }
-    ensures done { IfOk result (λ f. f.done ≡ is_done (run_of (started loaded.now) steps)) }
-    ensures text { IfOk result (λ f. string_bytes f.text ≡ text_of (started loaded.now) (run_of (started loaded.now) steps)) }
+    ensures { IfOk result (λ f. Finishes (started loaded.now) steps f.done (string_bytes f.text)) }
 {
-    let mut system = System::start(alloc, config, loaded)?;
-    run_for(&mut system, steps)?;
-    finish(alloc, &system)
+    let mut system = System::start(alloc, loaded)?;
+    Chooser::new(SEED).run(&mut system, steps)?;
+    let done = system.done();
+    let text = text(alloc, &system, done)?;
+    Ok(Finished { done, text })
 }

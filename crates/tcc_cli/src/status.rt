@@ -5,9 +5,9 @@ ghost use Rattle.tcc_cli.specs.Statuses.{number_of};
 /// How the program ends, with the number that it ends with.
 #[derive(Clone, Copy, Debug, PartialEq, Eq)]
 pub enum Status {
-    /// 0: a halt or a trap is committed.
+    /// 0: every core has halted, nothing is in flight, and no frame has a dirty word.
     Done,
-    /// 1: all the events were done, and no halt or trap is committed.
+    /// 1: all the events were taken, and the machine is not done.
     Stopped,
     /// 2: the words are no command.
     Words,

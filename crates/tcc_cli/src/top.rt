@@ -13,9 +13,10 @@ use std::alloc::Global;
 use tcc_world::{Gate, Sink, SinkFailed, Store, write_all};
 
 /// Does what the words ask for: `run FORM CORES DIRS SETS WAYS STEPS IMAGE..` reads 1 to 16 images of the form `raw` or `elf`,
-/// runs them for at most STEPS events, and writes the report to `out`.
+/// runs them on CORES cores and DIRS directories for at most STEPS events, picked by seed 0, and writes the report to `out`.
 ///
-/// `Done`: a halt or a trap is committed, and the whole report was written. `Stopped`: none is, and it was. `Words`: the words
+/// `Done`: every core has halted, nothing is in flight, no frame has a dirty word, and the whole report was written. `Stopped`: STEPS
+/// events were taken and the machine isn't done, and it was. `Words`: the words
 /// are no command, or a value isn't allowed. `Image`: the files were read, and one is no image. `StoreFault`: a file wasn't read,
 /// and this is the first. `SinkFault`: `out` failed, after a first part of the report. `Memory`: there wasn't enough memory, before
 /// anything was written; no clause says that memory was short. Nothing is written to `out` with the other refusals. A refusal writes
@@ -46,7 +47,7 @@ pub fn tcc_main<F: Store, O: Sink, E: Sink, G: Gate + Sync>(
     }
 }
 
-/// What the words ask for, up to the written report: whether a halt or a trap is committed, or why it was refused.
+/// What the words ask for, up to the written report: whether the machine is done, or why it was refused.
 fn run<'a, F: Store, O: Sink>(
     alloc: Global,
     words: &'a [&'a str],
@@ -75,7 +76,7 @@ fn run<'a, F: Store, O: Sink>(
         Ok(loaded) => loaded,
         Err(refusal) => return Err(refusal),
     };
-    let finished = match simulate(alloc, &command.config, &loaded, command.steps) {
+    let finished = match simulate(alloc, &loaded, command.steps) {
         Ok(finished) => finished,
         Err(_) => return Err(Refusal::Memory),
     };

@@ -2,6 +2,7 @@
 ghost use Rattle.std.specs.Prelude.{◌≡◌, map, IfOk, IfErr, MatchOption};
 ghost use Rattle.tcc_cli.specs.Asked.{form_word, Stands, HasSettings, IsCommand, NoCommand, Allows, AllowsBefore};
 ghost use Rattle.tcc_cli.specs.Held.{texts_of, asked_of};
+ghost use Rattle.tcc_cli.specs.Numbers.{MatchNumber};
 ghost use Rattle.tcc_cli.specs.Refusals.{RefusedWords};
 
 use crate::numbers::number;
@@ -29,9 +30,9 @@ pub enum Form {
 /// The fields of a command, in the order in which they are tested.
 #[derive(Clone, Copy, Debug, PartialEq, Eq)]
 pub enum Field {
-    /// 1, so far.
+    /// 1 to 64.
     Cores,
-    /// 1, so far.
+    /// 1 to 64.
     Dirs,
     /// A power of two from 1 to 1024.
     Sets,
@@ -97,26 +98,32 @@ fn read_fields<'a>(words: &'a [&'a str]) -> Option<Fields<'a>>
     })
 }
 
+/// The number of a field that isn't allowed to be 0; 0 where something else stands.
+fn number_or_zero(text: &str) -> u64
+    ensures { MatchNumber text.now result }
+{
+    match number(text) {
+        Some(n) => n as u64,
+        None => 0,
+    }
+}
+
 /// The machine's settings, or the first field of them in which something else stands.
 fn read_config(fields: &Fields) -> Result<Config, Field>
     ensures ok { IfOk result (HasSettings (texts_of fields.now)) }
     ensures first { IfErr result (λ field. AllowsBefore (texts_of fields.now) field × (Allows (texts_of fields.now) field → ⊥)) }
 {
-    if number(fields.cores) != Some(1) {
-        return Err(Field::Cores);
-    }
-    if number(fields.dirs) != Some(1) {
-        return Err(Field::Dirs);
-    }
-    let Some(sets) = number(fields.sets) else {
-        return Err(Field::Sets);
-    };
-    let ways = number(fields.ways);
-    match Config::new(1, 1, sets as u64, ways.unwrap_or(0) as u64, BASE, RAM) {
+    let cores = number_or_zero(fields.cores);
+    let dirs = number_or_zero(fields.dirs);
+    let sets = number_or_zero(fields.sets);
+    let ways = number_or_zero(fields.ways);
+    match Config::new(cores, dirs, sets, ways, BASE, RAM) {
         Ok(config) => Ok(config),
+        Err(Limit::Cores) => Err(Field::Cores),
+        Err(Limit::Dirs) => Err(Field::Dirs),
         Err(Limit::Sets) => Err(Field::Sets),
         Err(Limit::Ways) => Err(Field::Ways),
-        Err(Limit::Cores | Limit::Dirs | Limit::Ram | Limit::Base) => unreachable!(),
+        Err(Limit::Ram | Limit::Base) => unreachable!(),
     }
 }
 

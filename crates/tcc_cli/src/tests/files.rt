@@ -21,7 +21,7 @@ const FILE: [u8; 124] = [
 const ONE: [&str; 8] = ["run", "elf", "1", "1", "16", "2", "1000", "a"];
 
 const REPORT: &str =
-    "tcc-report 1\nend done\nevents 3\ncommit 1 0 2\ncore 0 halt 0\npc 80000004\nreg 11 00000001\nreg 17 0000005d\n";
+    "tcc-report 1\nend done\nevents 6\ncommit 1 0 2\ncore 0 halt 0\npc 80000004\nreg 11 00000001\nreg 17 0000005d\n";
 
 #[test]
 fn the_whole_file_runs(rt: HostRuntime) -> Result<(), Fail> {

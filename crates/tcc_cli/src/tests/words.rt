@@ -1,6 +1,6 @@
 // Words that are no command, and values that aren't allowed.
 use super::runs::{STORE, bytes};
-use super::{AMPLE, answer, refused};
+use super::{Room, answer, refused};
 use std::test::Fail;
 
 /// Words that don't stand as a command's words do.
@@ -10,7 +10,7 @@ const NO_COMMANDS: [&[&str]; 6] = [
     &["run", "raw", "1", "1", "16", "2", "9"],
     &["walk", "raw", "1", "1", "16", "2", "9", "a"],
     &["run", "hex", "1", "1", "16", "2", "9", "a"],
-    &["raw", "run", "17", "1", "16", "2", "9", "a"],
+    &["raw", "run", "65", "1", "16", "2", "9", "a"],
 ];
 
 #[test]
@@ -33,7 +33,7 @@ struct Row {
 
 const ROWS: [Row; 22] = [
     Row {
-        cores: "17",
+        cores: "65",
         dirs: "1",
         sets: "16",
         ways: "2",
@@ -49,7 +49,7 @@ const ROWS: [Row; 22] = [
         field: "cores",
     },
     Row {
-        cores: "2",
+        cores: "x2",
         dirs: "1",
         sets: "16",
         ways: "2",
@@ -66,7 +66,7 @@ const ROWS: [Row; 22] = [
     },
     Row {
         cores: "1",
-        dirs: "2",
+        dirs: "65",
         sets: "3",
         ways: "2",
         steps: "10",
@@ -234,8 +234,12 @@ fn more_than_sixteen_images_are_refused(rt: HostRuntime) -> Result<(), Fail> {
 #[test]
 fn the_largest_values_are_taken(rt: HostRuntime) -> Result<(), Fail> {
     let image = bytes(rt.alloc(), STORE)?;
-    let words = ["run", "raw", "0x1", "01", "1024", "0x10", "0x400000", "a"];
-    let given = answer(rt.alloc(), &words, &image, AMPLE)?;
+    let words = ["run", "raw", "0x40", "064", "1024", "0x10", "0x400000", "a"];
+    let room = Room {
+        out: 1_000_000,
+        err: 4096,
+    };
+    let given = answer(rt.alloc(), &words, &image, room)?;
     assert_eq!(rt; given.status, 0);
     Ok(())
 }

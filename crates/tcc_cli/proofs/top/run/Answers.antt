@@ -1,7 +1,7 @@
 use Rattle.std.proofs.Common.{length, ap, arith}
 use Rattle.image_load.specs.Contents.{started}
 use Rattle.std.specs.String.{string_bytes}
-use Rattle.tcc_cli.proofs.Headline.{reported, start_cores}
+use Rattle.tcc_cli.proofs.Headline.{reported, start_allowed}
 use Rattle.tcc_cli.proofs.Loading.{given_length, given_same}
 use Rattle.tcc_cli.specs.Held.{asked_of}
 use Rattle.tcc_cli.specs.Top.{start_from}
@@ -41,7 +41,7 @@ returns-in-Ok-show-clause-ends g c =
         images = c.in-Ok-lay.ensures.accepted;
       },
       reported (started c.in-Ok-lay.loaded) (start_from asked files) asked.steps (string_bytes c.in-Ok-simulate.finished.text) _
-          c.in-Ok-show.done c.in-Ok-simulate.finished.done c.in-Ok-lay.ensures.start
-          (start_cores command.texts asked.form asked.settings files command.settings) c.in-Ok-simulate.ensures.done
-          c.in-Ok-simulate.ensures.text c.in-Ok-show.ensures.whole.0 c.in-Ok-show.ensures.whole.1,
+          c.in-Ok-simulate.finished.done c.in-Ok-show.done c.in-Ok-lay.ensures.start
+          (start_allowed command.texts asked.form asked.settings files command.settings) c.in-Ok-simulate.ensures
+          c.in-Ok-show.ensures.whole.0 c.in-Ok-show.ensures.whole.1,
     )

@@ -1,0 +1,176 @@
+-- The machine after an event of one node.
+use Rattle.std.proofs.Common.{◌≡◌, ℕ, ◌+◌, ◌<◌, ◌≤◌, Bool, true, false, List, [], ◌∷◌, ◌++◌, Some}
+use Rattle.std.proofs.Common.{refl, ap, sym, ◌∙◌, subst, arith}
+use Rattle.std.specs.Prelude.{nat_lt, ◌==◌, if◌then◌else◌}
+use Rattle.std.proofs.lemmas.Bool.Decides.{nat_tests}
+use Rattle.image_load.specs.Contents.{started}
+use Rattle.rv_code.specs.Machine.{first_ram}
+use Rattle.rv_serial.specs.Given.{TidsOf, grants_of}
+use Rattle.rv_serial.specs.Suiting.{world_at_start}
+use Rattle.rv_serial.proofs.Lemmas.{committed_tids_were_granted_once}
+use Rattle.tcc_base.specs.declared.access.Commit.{Commit}
+use Rattle.tcc_maps.specs.Bridge.{node_of}
+use Rattle.tcc_maps.specs.Nodes.{Event}
+use Rattle.tcc_maps.specs.Words.{num}
+use Rattle.tcc_msg.specs.Plain.{sends_of}
+use Rattle.tcc_rules.specs.Links.{sending}
+use Rattle.tcc_rules.specs.State.{World}
+use Rattle.tcc_rules.specs.Step.{History, Stepped, and_noted, insert_commit, next, recorded, run}
+use Rattle.tcc_serial.specs.Owners.{times}
+use Rattle.commit_list.specs.Rising.{HasNone}
+use Rattle.core_bank.specs.Bank.{cores_of}
+use Rattle.dir_bank.specs.Bank.{dirs_of}
+use Rattle.in_flight.specs.Flights.{net_of}
+use Rattle.net_core.specs.Answers.{Kept, Took, step_of, tid_noted, tid_told}
+use Rattle.net_core.specs.Delivery.{AreMarked}
+use Rattle.net_core.specs.Machine.{Machine, history_of, program_of, settings_of, start_of, world_of}
+use Rattle.net_core.specs.Whole.{IsWhole}
+use Rattle.net_core.specs.declared.taking.Step.{Step as Told}
+use Rattle.net_core.proofs.Reaching.{reached-on, reached-same, run-on, settled-net}
+
+pub world-is : (n : Machine) (v : World) → cores_of n.cores ≡ v.cores → dirs_of (first_ram (start_of n)) n.dirs ≡ v.dirs → n.next ≡ v.next
+    → sending (net_of n.flights) (node_of n.sender) (sends_of n.unsent) ≡ v.net → world_of n ≡ v
+unfolding world_of
+world-is n v c d x l = λ i. record { cores = c i; dirs = d i; next = x i; net = l i }
+
+-- directories and what they start from are as before
+pub same-dirs : (m n : Machine) → n.cores.code ≡ m.cores.code → n.dirs ≡ m.dirs
+    → dirs_of (first_ram (start_of n)) n.dirs ≡ dirs_of (first_ram (start_of m)) m.dirs
+same-dirs m n code dirs = λ i. dirs_of (first_ram (started (code i))) (dirs i)
+
+-- the rules' next history, where the rules' step is known
+pub next-is : (m n : Machine) (e : Event) (o : Stepped) → step_of m e ≡ Some o → world_of n ≡ o.world → n.commits ≡ and_noted o.noted m.commits
+    → next (settings_of m) (program_of m) (history_of m) e ≡ Some (history_of n)
+unfolding next history_of
+next-is m n e o s w cs = ap (recorded (record { world = world_of m; commits = m.commits })) s ∙ (λ i. Some (record { world = sym w i; commits = sym cs i }))
+
+-- the event was taken
+pub took-by : (m n : Machine) (e : Event) (o : Stepped) (t : Told) → step_of m e ≡ Some o → world_of n ≡ o.world
+    → n.commits ≡ and_noted o.noted m.commits → tid_told t ≡ tid_noted (Some o) → n.events ≡ m.events + 1 → n.cores.code ≡ m.cores.code
+    → Took m n e t
+took-by m n e o t s w cs told events code = record {
+  next = next-is m n e o s w cs;
+  tells = told ∙ ap tid_noted (sym s);
+  events = events;
+  code = code;
+}
+
+-- and the machine is whole
+pub took-whole : (m n : Machine) (e : Event) (t : Told) → IsWhole m → m.events < 4194304 → Took m n e t → n.dirs.settings ≡ m.dirs.settings
+    → n.flights.cores ≡ m.flights.cores → n.flights.dirs ≡ m.flights.dirs
+    → AreMarked (settings_of m) (dirs_of (first_ram (start_of n)) n.dirs) n.flights → IsWhole n
+took-whole m n e t w short k settings cores dirs marked = record {
+  allowed = rw k.code w.allowed;
+  dirs = settings ∙ w.dirs ∙ ap (λ c. c.settings) (sym k.code);
+  flight_cores = cores ∙ w.flight_cores ∙ ap (λ c. c.settings.cores) (sym k.code);
+  flight_dirs = dirs ∙ w.flight_dirs ∙ ap (λ c. c.settings.dirs) (sym k.code);
+  reached = reached-on m n e w.reached k.next k.events k.code;
+  few = let count = k.events in omega (arith, short, count);
+  marked = subst (λ c. AreMarked c.settings (dirs_of (first_ram (start_of n)) n.dirs) n.flights) (sym k.code) marked;
+}
+
+-- nothing happened, and what is held is the same but for the cores' own way of holding it
+pub record StaysBut (m n : Machine) : Type 0 where
+  pub code : n.cores.code ≡ m.cores.code
+  pub cores : cores_of n.cores ≡ cores_of m.cores
+  pub dirs : dirs_of (first_ram (start_of m)) n.dirs ≡ dirs_of (first_ram (start_of m)) m.dirs
+  pub settings : n.dirs.settings ≡ m.dirs.settings
+  pub next : n.next ≡ m.next
+  pub flights : n.flights ≡ m.flights
+  pub before : m.unsent ≡ []
+  pub now : n.unsent ≡ []
+  pub commits : n.commits ≡ m.commits
+  pub events : n.events ≡ m.events
+
+same-dirs_but : (m n : Machine) → StaysBut m n → dirs_of (first_ram (start_of n)) n.dirs ≡ dirs_of (first_ram (start_of m)) m.dirs
+same-dirs_but m n s = ap (λ c. dirs_of (first_ram (started c)) n.dirs) s.code ∙ s.dirs
+
+stays-world : (m n : Machine) → StaysBut m n → world_of n ≡ world_of m
+unfolding world_of
+stays-world m n s = world-is n (world_of m) s.cores (same-dirs_but m n s) s.next
+    (settled-net n s.now ∙ ap net_of s.flights ∙ sym (settled-net m s.before))
+
+pub stays-kept : (m n : Machine) → StaysBut m n → Kept m n
+unfolding history_of
+stays-kept m n s = record {
+  history = (λ i. record { world = stays-world m n s i; commits = s.commits i });
+  events = s.events;
+  code = s.code;
+}
+
+pub stays-whole : (m n : Machine) → IsWhole m → StaysBut m n → IsWhole n
+stays-whole m n w s =
+    let k : Kept m n = stays-kept m n s in
+    record {
+      allowed = rw s.code w.allowed;
+      dirs = s.settings ∙ w.dirs ∙ ap (λ c. c.settings) (sym s.code);
+      flight_cores = ap (λ f. f.cores) s.flights ∙ w.flight_cores ∙ ap (λ c. c.settings.cores) (sym s.code);
+      flight_dirs = ap (λ f. f.dirs) s.flights ∙ w.flight_dirs ∙ ap (λ c. c.settings.dirs) (sym s.code);
+      reached = reached-same m n w.reached k.history k.events k.code;
+      few = subst (λ x. x ≤ 4194304) (sym k.events) w.few;
+      marked = subst (λ c. AreMarked c.settings (dirs_of (first_ram (start_of n)) n.dirs) n.flights) (sym s.code)
+          (subst (λ f. AreMarked (settings_of m) (dirs_of (first_ram (start_of n)) n.dirs) f) (sym s.flights)
+          (subst (λ ds. AreMarked (settings_of m) ds m.flights) (sym (same-dirs_but m n s)) w.marked));
+    }
+
+-- ---- one commit more
+
+times-insert : (t : ℕ) (c : Commit) (cs : List Commit) → times t (insert_commit c cs) ≡ num (c.tid.0 == t) + times t cs
+unfolding times insert_commit
+times-insert t c [] = refl
+times-insert t c (d ∷ ds) = by (nat_lt c.tid.0 d.tid.0) (times-insert t c ds)
+  where
+    by : (b : Bool) → times t (insert_commit c ds) ≡ num (c.tid.0 == t) + times t ds
+        → times t (if b then c ∷ d ∷ ds else d ∷ insert_commit c ds) ≡ num (c.tid.0 == t) + (num (d.tid.0 == t) + times t ds)
+    by true e = refl
+    by false e = omega (arith, e)
+
+none-among : (t : ℕ) (cs : List Commit) → times t cs ≡ 0 → HasNone t cs
+unfolding times HasNone
+none-among t [] e = tt
+none-among t (c ∷ cs) e = (λ q. other q, none-among t cs (omega (arith, e)))
+  where
+    other : c.tid.0 ≡ t → ⊥
+    other q = let same : (c.tid.0 == t) ≡ true = grind (arith, nat_tests) in let one : num (c.tid.0 == t) ≡ 1 = rw same refl in absurd (omega (arith, e, one))
+
+-- a commit that an event notes has a TID that no commit before it has
+pub new-tid : (m : Machine) (e : Event) (o : Stepped) (c : Commit) → IsWhole m → step_of m e ≡ Some o → o.noted ≡ Some c
+    → HasNone c.tid.0 m.commits
+unfolding next history_of started
+new-tid m e o c w s noted =
+    let h : History = record { world = o.world; commits = insert_commit c m.commits } in
+    let there : next (settings_of m) (program_of m) (history_of m) e ≡ Some h =
+    ap (recorded (record { world = world_of m; commits = m.commits })) s ∙ ap (λ n. Some (record { world = o.world; commits = and_noted n m.commits })) noted in
+    let es : List Event = w.reached.taken ++ e ∷ [] in
+    let all : run (settings_of m) (program_of m) (world_at_start (start_of m)) es ≡ Some h =
+    run-on (settings_of m) (program_of m) (world_at_start (start_of m)) w.reached.taken e (history_of m) w.reached.reaches ∙ there in
+    let t : TidsOf (grants_of (start_of m) es) h.commits = rw all at (committed_tids_were_granted_once (start_of m) es) in
+    let once : times c.tid.0 (insert_commit c m.commits) ≤ 1 = t.once c.tid.0 in
+    let sum : times c.tid.0 (insert_commit c m.commits) ≡ num (c.tid.0 == c.tid.0) + times c.tid.0 m.commits = times-insert c.tid.0 c m.commits in
+    let own : num (c.tid.0 == c.tid.0) ≡ 1 = one c.tid.0 in
+    none-among c.tid.0 m.commits (omega (arith, once, sum, own))
+  where
+    one : (t : ℕ) → num (t == t) ≡ 1
+    one t = let same : (t == t) ≡ true = grind (arith, nat_tests) in rw same refl
+
+-- ---- room for a commit
+
+abbrev pub with_room : Machine → List Commit → (room : ℕ) → Machine
+with_room m cs room = record m { commits = cs; room = room }
+
+pub room-kept : (m : Machine) (cs : List Commit) (room : ℕ) → cs ≡ m.commits → Kept m (with_room m cs room)
+unfolding history_of world_of
+room-kept m cs room e = record { history = (λ i. record { world = world_of m; commits = e i }); events = refl; code = refl }
+
+pub room-whole : (m : Machine) (cs : List Commit) (room : ℕ) → IsWhole m → cs ≡ m.commits → IsWhole (with_room m cs room)
+room-whole m cs room w e =
+    let k : Kept m (with_room m cs room) = room-kept m cs room e in
+    record {
+      allowed = w.allowed;
+      dirs = w.dirs;
+      flight_cores = w.flight_cores;
+      flight_dirs = w.flight_dirs;
+      reached = reached-same m (with_room m cs room) w.reached k.history k.events k.code;
+      few = w.few;
+      marked = w.marked;
+    }

@@ -1,0 +1,178 @@
+-- The newest of several copies of a word.
+use Rattle.std.proofs.Common.{◌≡◌, ℕ, zero, suc, ◌+◌, ◌<◌, ◌≤◌, Bool, true, false, cond, List, [], ◌∷◌, ◌++◌, take, length, Option, Some}
+use Rattle.std.proofs.Common.{None, is_some, refl, ap, sym, ◌∙◌, arith, get_or, append_assoc, append-nil, if◌then◌else◌}
+use Rattle.std.specs.Prelude.{nat_eq, slice_get}
+use Rattle.std.specs.List.{flat_map}
+use Rattle.std.proofs.Math.Seq.{take-suc}
+use Rattle.std.proofs.lemmas.List.{take_all}
+use Rattle.std.proofs.lemmas.List.Concat.{flat_map-append}
+use Rattle.std.proofs.lemmas.Bool.{eq-eqb, ne_eqb}
+use Rattle.tcc_base.specs.declared.names.LineAddr.{LineAddr}
+use Rattle.tcc_base.specs.declared.names.Mask.{Mask}
+use Rattle.tcc_base.specs.declared.names.Tid.{Tid}
+use Rattle.tcc_maps.specs.Cache.{Cache, IsCache, dirty_mask}
+use Rattle.tcc_maps.specs.Masks.{has, hit}
+use Rattle.tcc_maps.specs.Nodes.{Msg, WriteBack}
+use Rattle.tcc_maps.specs.Shape.{Shape}
+use Rattle.tcc_maps.specs.Words.{line_of, place_of, those, word_at}
+use Rattle.tcc_msg.specs.Plain.{msg_of}
+use Rattle.tcc_msg.specs.declared.msg.Msg.{Msg as CodeMsg}
+use Rattle.tcc_msg.specs.declared.msg.Msg.TheVariants as code
+use Rattle.tcc_maps.proofs.Masks.{has-mask_of}
+use Rattle.tcc_rules.specs.Seen.{Copy, copies_on, copy_in, copy_of, newer, newest}
+use Rattle.tcc_rules.specs.State.{Link}
+use Rattle.spec_cache.specs.Look.{Views}
+use Rattle.spec_cache.specs.declared.frame.FrameView.{FrameView}
+use Rattle.net_core.proofs.Prefixes.{took-more}
+
+pub newest-none : (a : Copy) → a ≡ newest a []
+unfolding newest
+newest-none a = refl
+
+pub newest-append : (a : Copy) (xs ys : List Copy) → newest a (xs ++ ys) ≡ newest (newest a xs) ys
+unfolding newest
+newest-append a [] ys = refl
+newest-append a (x ∷ xs) ys = newest-append (newer a x) xs ys
+
+-- whether a line's mask means the word
+pub hit-own : (l m w : ℕ) → l ≡ line_of w → has m (place_of w) ≡ hit l m w
+unfolding hit
+hit-own l m w e = rw (eq-eqb l (line_of w) e) refl
+
+pub hit-elsewhere : (l m w : ℕ) → (l ≡ line_of w → ⊥) → nat_eq l (line_of w) ≡ hit l m w
+unfolding hit
+hit-elsewhere l m w e = rw (ne_eqb l (line_of w) e) refl
+
+-- where the word is one of these, and where it isn't
+pub newest-carried : (a : Copy) (w l m : ℕ) (ws : List ℕ) (g : ℕ) → hit l m w ≡ true
+    → newer a (record { tag = g; value = get_or ws (place_of w) 0 }) ≡ newest a (copy_of w (WriteBack l m ws g))
+unfolding newest
+newest-carried a w l m ws g h = rw h refl
+
+pub newest-other : (a : Copy) (w l m : ℕ) (ws : List ℕ) (g : ℕ) → hit l m w ≡ false → a ≡ newest a (copy_of w (WriteBack l m ws g))
+unfolding newest
+newest-other a w l m ws g h = rw h refl
+
+-- ---- a frame
+
+own-word : (w : ℕ) → word_at (line_of w) (place_of w) ≡ w
+own-word w = omega arith
+
+-- the frame's mask says whether the word is dirty
+hit-dirty : (c : Cache) (w : ℕ) → hit (line_of w) (dirty_mask c (line_of w)) w ≡ is_some (c.dirty w)
+unfolding hit dirty_mask
+hit-dirty c w =
+    let place : place_of w < 8 = omega arith in
+    let line : nat_eq (line_of w) (line_of w) ≡ true = eq-eqb (line_of w) (line_of w) refl in
+    rw line (has-mask_of (λ k. is_some (c.dirty (word_at (line_of w) k))) (place_of w) place ∙ ap (λ v. is_some (c.dirty v)) (own-word w))
+
+-- the copy of a frame is that of its words under its mask of dirty words
+pub frame-copy : (sh : Shape) (c : Cache) (w : ℕ) (f : FrameView) → IsCache sh c → Views c (line_of w) f
+    → copy_of w (WriteBack (line_of w) f.dirty.0 f.words f.tag.0) ≡ copy_in (c.value w) (c.dirty w)
+frame-copy sh c w f k v =
+    ap (λ m. copy_of w (WriteBack (line_of w) m f.words f.tag.0)) v.dirty
+    ∙ (ap (λ b. if b then record { tag = f.tag.0; value = get_or f.words (place_of w) 0 } ∷ [] else []) (hit-dirty c w)
+    ∙ go (c.dirty w) refl)
+  where
+    go : (o : Option ℕ) → c.dirty w ≡ o
+        → (if is_some o then record { tag = f.tag.0; value = get_or f.words (place_of w) 0 } ∷ [] else []) ≡ copy_in (c.value w) o
+    go None e = refl
+    go (Some g) e =
+        let dirty : is_some (c.dirty w) ≡ true = ap is_some e in
+        let tag : f.tag.0 ≡ g = let t = v.tag w refl dirty in cc in
+        let value : c.value w ≡ Some (get_or f.words (place_of w) 0) = v.words w refl (k.dirty w dirty) in
+        rw (value, tag) refl
+
+-- a line without a frame has no dirty word
+pub unframed : (sh : Shape) (c : Cache) (w : ℕ) → IsCache sh c → c.held (line_of w) ≡ false → c.dirty w ≡ None
+unframed sh c w k h = go (c.dirty w) refl
+  where
+    go : (o : Option ℕ) → c.dirty w ≡ o → o ≡ None
+    go None e = refl
+    go (Some g) e =
+        let some : is_some (c.value w) ≡ true = k.dirty w (ap is_some e) in
+        let none : is_some (c.value w) ≡ false = ap is_some (k.valued w h) in
+        absurd (cc)
+
+-- ---- a message, and those on a link
+
+-- only these kinds carry words
+pub newest-wordless : (a : Copy) (w : ℕ) (m : CodeMsg)
+    → ((mask : Mask) (line : LineAddr) (ws : List ℕ) (tag : Tid) → m ≡ code.WriteBack mask line ws tag → ⊥)
+    → ((mask : Mask) (line : LineAddr) (ws : List ℕ) (tag : Tid) → m ≡ code.Flush mask line ws tag → ⊥)
+    → a ≡ newest a (copy_of w (msg_of m))
+newest-wordless a w (code.WriteBack mask line ws tag) b f = absurd (b mask line ws tag refl)
+newest-wordless a w (code.Flush mask line ws tag) b f = absurd (f mask line ws tag refl)
+newest-wordless a w code.TidReq b f = newest-none a
+newest-wordless a w (code.TidGrant t) b f = newest-none a
+newest-wordless a w (code.LoadReq l t) b f = newest-none a
+newest-wordless a w (code.Fill l ws) b f = newest-none a
+newest-wordless a w (code.Skip t) b f = newest-none a
+newest-wordless a w (code.Probe t) b f = newest-none a
+newest-wordless a w (code.ProbeReply t u) b f = newest-none a
+newest-wordless a w (code.Mark l m t) b f = newest-none a
+newest-wordless a w (code.Commit t n) b f = newest-none a
+newest-wordless a w (code.Abort t) b f = newest-none a
+newest-wordless a w (code.DataReq l) b f = newest-none a
+newest-wordless a w (code.Inv l m t) b f = newest-none a
+newest-wordless a w (code.InvAck l k) b f = newest-none a
+
+-- the copy in what stands on a link under a number
+abbrev pub copy_there : (word : ℕ) → Option Msg → List Copy
+copy_there w None = []
+copy_there w (Some m) = copy_of w m
+
+unfoldable pub copy_at : (word : ℕ) → Link → ℕ → List Copy
+copy_at w link k = copy_there w (get_or link k None)
+
+-- the numbers of the messages that are there
+abbrev pub waiting_on : Link → List ℕ
+waiting_on link = those (λ k. is_some (get_or link k None)) (length link)
+
+copies-more : (w : ℕ) (link : Link) (o : Option Msg) → copies_on w (link ++ o ∷ []) ≡ copies_on w link ++ copy_there w o
+unfolding copies_on
+copies-more w [] None = refl
+copies-more w [] (Some m) = append-nil (copy_of w m)
+copies-more w (None ∷ ms) o = copies-more w ms o
+copies-more w (Some m ∷ ms) o =
+    ap (λ cs. copy_of w m ++ cs) (copies-more w ms o) ∙ sym (append_assoc (copy_of w m) (copies_on w ms) (copy_there w o))
+
+own-copy : (w : ℕ) (link : Link) (n : ℕ) (o : Option Msg) → get_or link n None ≡ o
+    → flat_map (copy_at w link) (cond (is_some o) (n ∷ []) []) ≡ copy_there w o
+unfolding copy_at
+own-copy w link n None e = refl
+own-copy w link n (Some m) e = append-nil (copy_there w (get_or link n None)) ∙ ap (copy_there w) e
+
+copies-first : (w : ℕ) (link : Link) (n : ℕ) → n ≤ length link
+    → copies_on w (take n link) ≡ flat_map (copy_at w link) (those (λ k. is_some (get_or link k None)) n)
+unfolding copies_on those
+copies-first w link zero l = refl
+copies-first w link (suc n) l =
+    let there : ℕ → Bool = λ k. is_some (get_or link k None) in
+    ap (copies_on w) (take-suc link n None l)
+    ∙ (copies-more w (take n link) (get_or link n None)
+    ∙ ((λ i. copies-first w link n (omega (arith, l)) i ++ sym (own-copy w link n (get_or link n None) refl) i)
+    ∙ sym (flat_map-append (copy_at w link) (those there n) (cond (there n) (n ∷ []) []))))
+
+-- the copies on a link are those of the messages that are there
+pub copies-waiting : (w : ℕ) (link : Link) → flat_map (copy_at w link) (waiting_on link) ≡ copies_on w link
+copies-waiting w link = sym (copies-first w link (length link) (omega arith)) ∙ ap (copies_on w) (take_all (length link) link (omega arith))
+
+-- one more of them
+pub newest-more : (a : Copy) (w : ℕ) (link : Link) (i k : ℕ) (m : Msg) → Some k ≡ slice_get (waiting_on link) i
+    → get_or link k None ≡ Some m
+    → newest (newest a (flat_map (copy_at w link) (take i (waiting_on link)))) (copy_of w m)
+    ≡ newest a (flat_map (copy_at w link) (take (i + 1) (waiting_on link)))
+unfolding copy_at
+newest-more a w link i k m at own =
+    let before : List ℕ = take i (waiting_on link) in
+    let copy : copy_of w m ≡ flat_map (copy_at w link) (k ∷ []) =
+    ap (copy_there w) (sym own) ∙ sym (append-nil (copy_there w (get_or link k None))) in
+    sym (newest-append a (flat_map (copy_at w link) before) (copy_of w m))
+    ∙ ap (newest a) (ap (λ cs. flat_map (copy_at w link) before ++ cs) copy
+    ∙ (sym (flat_map-append (copy_at w link) before (k ∷ []))
+    ∙ ap (flat_map (copy_at w link)) (sym (took-more (waiting_on link) i k (sym at)))))
+
+pub newest-all : (a : Copy) (w : ℕ) (link : Link) (i : ℕ) → length (waiting_on link) ≤ i
+    → newest a (flat_map (copy_at w link) (take i (waiting_on link))) ≡ newest a (copies_on w link)
+newest-all a w link i l = ap (newest a) (ap (flat_map (copy_at w link)) (take_all i (waiting_on link) l) ∙ copies-waiting w link)

@@ -1,0 +1,206 @@
+-- What a machine that the rules have led to keeps to, and that it is still one after one more event.
+use Rattle.std.proofs.Common.{◌≡◌, ℕ, zero, suc, ◌+◌, ◌^◌, ◌<◌, ◌≤◌, Bool, true, false, ◌&&◌, List, [], ◌∷◌, ◌++◌, length, Option}
+use Rattle.std.proofs.Common.{Some, None, refl, ap, sym, ◌∙◌, subst, arith}
+use Rattle.std.specs.Prelude.{nat_lt, ◌==◌, IfSome, drop, if◌then◌else◌}
+use Rattle.std.proofs.lemmas.Bool.Decides.{nat_tests}
+use Rattle.image_load.specs.Contents.{Contents, started}
+use Rattle.rv_code.specs.Machine.{program}
+use Rattle.rv_serial.specs.Suiting.{world_at_start}
+use Rattle.tcc_base.specs.Settings.{Settings, IsAllowed}
+use Rattle.tcc_live.specs.Fits.{fits, goes_to_dir, goes_to_core}
+use Rattle.tcc_maps.specs.Bridge.{node_of}
+use Rattle.tcc_maps.specs.Nodes.{Node, Core, Dir, Vendor, Event, Msg, TidReq, TidGrant, LoadReq, Fill, Skip, Probe, ProbeReply, Mark}
+use Rattle.tcc_maps.specs.Nodes.{Commit, Abort, WriteBack, Flush, DataReq, Inv, InvAck, node_eq}
+use Rattle.tcc_maps.specs.Shape.{home, lines}
+use Rattle.tcc_msg.specs.Plain.{sends_of}
+use Rattle.tcc_program.specs.Program.{Program}
+use Rattle.tcc_rules.specs.Links.{in_flight, sending, sent_all}
+use Rattle.tcc_rules.specs.State.{World, Link}
+use Rattle.tcc_rules.specs.Step.{History, and_then, next, run, run_from}
+use Rattle.tcc_bounds.specs.Bounds.{IsBounded}
+use Rattle.tcc_bounds.specs.Messages.{InBounds, IsLine, WasGranted, line_named, tid_named}
+use Rattle.tcc_bounds.proofs.Lemmas.{riscv_bounded_after}
+use Rattle.directory.specs.Foreign.{is_foreign, HasSmallTids}
+use Rattle.in_flight.specs.Flights.{net_of}
+use Rattle.net_core.specs.Delivery.{AllMayGo, MayGo}
+use Rattle.net_core.specs.Machine.{Machine, history_of, program_of, settings_of, start_of, world_of}
+use Rattle.net_core.specs.Reached.{Reached}
+use Rattle.net_core.specs.Whole.{IsWhole}
+
+-- ---- one more event
+
+pub after-all : (sh : Settings) (p : Program) (e : Event) (es : List Event) (h : History)
+    → run_from sh p (es ++ e ∷ []) h ≡ and_then (λ g. next sh p g e) (run_from sh p es h)
+unfolding run_from
+after-all sh p e [] h = last (next sh p h e)
+  where
+    last : (o : Option History) → and_then (λ g. Some g) o ≡ o
+    last None = refl
+    last (Some g) = refl
+after-all sh p e (x ∷ es) h = go (next sh p h x) (after-all sh p e es)
+  where
+    go : (o : Option History) → ((g : History) → run_from sh p (es ++ e ∷ []) g ≡ and_then (λ f. next sh p f e) (run_from sh p es g))
+        → and_then (run_from sh p (es ++ e ∷ [])) o ≡ and_then (λ g. next sh p g e) (and_then (run_from sh p es) o)
+    go None rest = refl
+    go (Some g) rest = rest g
+
+pub run-on : (sh : Settings) (p : Program) (w : World) (es : List Event) (e : Event) (h : History) → run sh p w es ≡ Some h
+    → run sh p w (es ++ e ∷ []) ≡ next sh p h e
+unfolding run
+run-on sh p w es e h r = after-all sh p e es (record { world = w; commits = [] }) ∙ ap (and_then (λ g. next sh p g e)) r
+
+one-longer : (xs : List Event) (e : Event) → length (xs ++ e ∷ []) ≡ length xs + 1
+one-longer [] e = refl
+one-longer (x ∷ xs) e = let r = one-longer xs e in omega (arith, r)
+
+-- the machine after one more event of the rules
+pub reached-on : (m n : Machine) (e : Event) → Reached m → next (settings_of m) (program_of m) (history_of m) e ≡ Some (history_of n)
+    → n.events ≡ m.events + 1 → n.cores.code ≡ m.cores.code → Reached n
+reached-on m n e r step count code = record {
+  taken = r.taken ++ e ∷ [];
+  count = one-longer r.taken e ∙ ap (λ k. k + 1) r.count ∙ sym count;
+  reaches = subst (λ c. run c.settings (program (started c)) (world_at_start (started c)) (r.taken ++ e ∷ []) ≡ Some (history_of n)) (sym code)
+      (run-on (settings_of m) (program_of m) (world_at_start (start_of m)) r.taken e (history_of m) r.reaches ∙ step);
+}
+
+-- the same state held in another way
+pub reached-same : (m n : Machine) → Reached m → history_of n ≡ history_of m → n.events ≡ m.events → n.cores.code ≡ m.cores.code → Reached n
+reached-same m n r same count code = record {
+  taken = r.taken;
+  count = r.count ∙ sym count;
+  reaches = subst (λ c. run c.settings (program (started c)) (world_at_start (started c)) r.taken ≡ Some (history_of n)) (sym code)
+      (r.reaches ∙ ap (λ h. Some h) (sym same));
+}
+
+-- ---- what is in bounds
+
+bounded-after : (c : Contents) (es : List Event) (h : History) → IsAllowed c.settings
+    → run c.settings (program (started c)) (world_at_start (started c)) es ≡ Some h → IsBounded c.settings es h
+unfolding started
+bounded-after c es h k e = riscv_bounded_after (started c) es h k e
+
+pub whole-bounded : (m : Machine) (w : IsWhole m) → IsBounded (settings_of m) w.reached.taken (history_of m)
+whole-bounded m w = bounded-after m.cores.code w.reached.taken (history_of m) w.allowed w.reached.reaches
+
+-- what is in flight is in bounds
+pub in-bounds : (m : Machine) → IsWhole m → (src dst : Node) (k : ℕ) (x : Msg) → in_flight (world_of m).net src dst k ≡ Some x
+    → InBounds (settings_of m) (world_of m).next src dst x
+unfolding history_of
+in-bounds m w src dst k x e = (whole-bounded m w).messages src dst k x e
+
+at_home : (s : Settings) (l d : ℕ) → l < lines s → home s l ≡ d → (nat_lt l (lines s) && (home s l == d)) ≡ true
+at_home s l d a b = grind (arith, nat_tests)
+
+both : (a b : Bool) (x : Bool) → (a && (b && x)) ≡ true → (a && b) ≡ true
+both true true x e = refl
+both true false x e = absurd (cc)
+both false b x e = absurd (cc)
+
+first : (a b : Bool) → (a && b) ≡ true → a ≡ true
+first true b e = refl
+first false b e = absurd (cc)
+
+swapped : (a b : Bool) → (a && b) ≡ true → (b && a) ≡ true
+swapped true true e = refl
+swapped true false e = absurd (cc)
+swapped false b e = absurd (cc)
+
+kind : (a b : Bool) (x : Bool) → (a && (b && x)) ≡ true → x ≡ true
+kind true true x e = e
+kind true false x e = absurd (cc)
+kind false b x e = absurd (cc)
+
+not-foreign : (s : Settings) (n c d : ℕ) (x : Msg) → goes_to_dir x ≡ true → IfSome (line_named x) (IsLine s (Core c) (Dir d))
+    → is_foreign (record { shape = s; dir = d }) x ≡ false
+not-foreign s n c d (Skip t) g l = refl
+not-foreign s n c d (Abort t) g l = refl
+not-foreign s n c d (Probe t) g l = refl
+not-foreign s n c d (Commit t count) g l = refl
+not-foreign s n c d (LoadReq y after) g l = rw (at_home s y d l.0 l.1) refl
+not-foreign s n c d (Mark y m t) g l = rw (at_home s y d l.0 l.1) refl
+not-foreign s n c d (InvAck y keeps) g l = rw (at_home s y d l.0 l.1) refl
+not-foreign s n c d (WriteBack y m ws t) g l = rw (at_home s y d l.0 l.1) refl
+not-foreign s n c d (Flush y m ws t) g l = rw (at_home s y d l.0 l.1) refl
+not-foreign s n c d TidReq g l = absurd (cc)
+not-foreign s n c d (TidGrant t) g l = absurd (cc)
+not-foreign s n c d (Fill y ws) g l = absurd (cc)
+not-foreign s n c d (ProbeReply t v) g l = absurd (cc)
+not-foreign s n c d (DataReq y) g l = absurd (cc)
+not-foreign s n c d (Inv y m t) g l = absurd (cc)
+
+-- what is in bounds may go where it goes
+pub may-go : (s : Settings) (n : ℕ) (src dst : Node) (x : Msg) → InBounds s n src dst x → MayGo s src dst x
+unfolding fits
+may-go s n (Core c) (Dir d) x b = record {
+  link = both (nat_lt c s.cores) (nat_lt d s.dirs) (goes_to_dir x) b.fits;
+  belongs = not-foreign s n c d x (kind (nat_lt c s.cores) (nat_lt d s.dirs) (goes_to_dir x) b.fits) b.line;
+}
+may-go s n (Core c) Vendor x b = record { link = first (nat_lt c s.cores) _ b.fits; belongs = refl }
+may-go s n (Dir d) (Core c) x b = record {
+  link = swapped (nat_lt c s.cores) (nat_lt d s.dirs) (both (nat_lt c s.cores) (nat_lt d s.dirs) (goes_to_core x) b.fits);
+  belongs = refl;
+}
+may-go s n Vendor (Core c) x b = record { link = first (nat_lt c s.cores) _ b.fits; belongs = refl }
+may-go s n (Core c) (Core d) x b = let f = b.fits in absurd (cc)
+may-go s n (Dir c) (Dir d) x b = let f = b.fits in absurd (cc)
+may-go s n (Dir c) Vendor x b = let f = b.fits in absurd (cc)
+may-go s n Vendor (Dir d) x b = let f = b.fits in absurd (cc)
+may-go s n Vendor Vendor x b = let f = b.fits in absurd (cc)
+
+pub reached-may-go : (m : Machine) → IsWhole m → AllMayGo (settings_of m) (world_of m).net
+unfolding AllMayGo
+reached-may-go m w src dst k x e = may-go (settings_of m) (world_of m).next src dst x (in-bounds m w src dst k x e)
+
+-- a TID in a message is small
+pub small-tids : (m : Machine) → IsWhole m → m.events < 4194304 → (src dst : Node) (k : ℕ) (x : Msg)
+    → in_flight (world_of m).net src dst k ≡ Some x → HasSmallTids x
+unfolding history_of
+small-tids m w few src dst k x e =
+    let b = whole-bounded m w in
+    go x (in-bounds m w src dst k x e).tid b.next_most
+  where
+    small : (t next n : ℕ) → n < 4194304 → WasGranted next t → next ≤ n + 1 → t < 2 ^ 62
+    small t next n f g h = omega (arith, g.1)
+
+    go : (x : Msg) → IfSome (tid_named x) (WasGranted (world_of m).next) → (world_of m).next ≤ length w.reached.taken + 1 → HasSmallTids x
+    go (Skip t) g h = small t (world_of m).next m.events few g (subst (λ n. (world_of m).next ≤ n + 1) w.reached.count h)
+    go (Abort t) g h = small t (world_of m).next m.events few g (subst (λ n. (world_of m).next ≤ n + 1) w.reached.count h)
+    go (Commit t c) g h = small t (world_of m).next m.events few g (subst (λ n. (world_of m).next ≤ n + 1) w.reached.count h)
+    go TidReq g h = tt
+    go (TidGrant t) g h = tt
+    go (LoadReq l after) g h = tt
+    go (Fill l ws) g h = tt
+    go (Probe t) g h = tt
+    go (ProbeReply t s) g h = tt
+    go (Mark l a t) g h = tt
+    go (WriteBack l a ws t) g h = tt
+    go (Flush l a ws t) g h = tt
+    go (DataReq l) g h = tt
+    go (Inv l a t) g h = tt
+    go (InvAck l k) g h = tt
+
+-- ---- nothing stands beside the links
+
+nothing-sent : (net : Node → Node → Link) (n : Node) → sending net n (sends_of []) ≡ net
+unfolding sends_of sent_all
+nothing-sent net n = λ i src dst. (here (node_eq src n) (net src dst)) i
+  where
+    longer : (l : Link) → l ++ [] ≡ l
+    longer [] = refl
+    longer (x ∷ l) = ap (λ r. x ∷ r) (longer l)
+
+    here : (b : Bool) (l : Link) → (if b then l ++ [] else l) ≡ l
+    here true l = longer l
+    here false l = refl
+
+-- where all that was sent stands on its links these are the world's
+pub settled-net : (m : Machine) → m.unsent ≡ [] → (world_of m).net ≡ net_of m.flights
+unfolding world_of
+settled-net m e = ap (λ xs. sending (net_of m.flights) (node_of m.sender) (sends_of xs)) e ∙ nothing-sent (net_of m.flights) (node_of m.sender)
+
+pub nothing-left : {A : Type 0} → (n : ℕ) (xs : List A) → xs ≡ [] → drop n xs ≡ []
+nothing-left n xs e = ap (drop n) e ∙ none n
+  where
+    none : {A : Type 0} → (n : ℕ) → drop {A = A} n [] ≡ []
+    none zero = refl
+    none (suc n) = refl

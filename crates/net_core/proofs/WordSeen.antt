@@ -1,0 +1,148 @@
+-- A word as the commits left it, core by core.
+use Rattle.std.proofs.Common.{◌≡◌, ℕ, zero, suc, ◌+◌, ◌<◌, ◌≤◌, List, [], ◌∷◌, ◌++◌, get_or, Some, None, refl, ap}
+use Rattle.std.proofs.Common.{sym, ◌∙◌, subst, arith, append-nil}
+use Rattle.std.specs.List.{flat_map}
+use Rattle.std.proofs.lemmas.List.Concat.{flat_map-append}
+use Rattle.image_load.specs.Contents.{Contents, started}
+use Rattle.image_load.specs.Start.{Start}
+use Rattle.rv_code.specs.Machine.{first_ram, program}
+use Rattle.rv_serial.specs.Suiting.{local_at_start, world_at_start}
+use Rattle.tcc_maps.specs.Cache.{Cache, IsCache}
+use Rattle.tcc_maps.specs.Nodes.{Core, Dir, Event}
+use Rattle.tcc_maps.specs.Shape.{Shape, home}
+use Rattle.tcc_maps.specs.Words.{line_of, those}
+use Rattle.tcc_rules.specs.Seen.{Copy, IsDone, copies, copies_of, copies_on, copy_in, home_copy, newest, numbers, seen}
+use Rattle.tcc_rules.specs.State.{DirState, Link, World}
+use Rattle.tcc_rules.specs.Step.{History, run}
+use Rattle.tcc_serial.proofs.Lemmas.{runs_carry}
+use Rattle.core_bank.specs.Bank.{cores_of}
+use Rattle.dir_bank.specs.Bank.{dirs_of}
+use Rattle.in_flight.specs.Flights.{net_of}
+use Rattle.net_core.specs.Machine.{Machine, history_of, settings_of, start_of, world_of}
+use Rattle.net_core.specs.Whole.{IsWhole}
+use Rattle.net_core.proofs.Newest.{newest-append, newest-none}
+use Rattle.net_core.proofs.Reaching.{settled-net}
+
+-- ---- caches
+
+caches-after : (c : Contents) (es : List Event) (h : History)
+    → run c.settings (program (started c)) (world_at_start (started c)) es ≡ Some h → (n : ℕ) → IsCache c.settings (h.world.cores n).cache
+caches-after c es h e n =
+    let s : Start = started c in
+    (rw e at (runs_carry c.settings (program s) (local_at_start s) (first_ram s) es)).frames_stand_in_their_sets n
+
+-- the cores of a whole machine have caches
+pub whole-caches : (m : Machine) → IsWhole m → (n : ℕ) → IsCache (settings_of m) (cores_of m.cores n).cache
+unfolding history_of world_of
+whole-caches m w n = caches-after m.cores.code w.reached.taken (history_of m) w.reached.reaches n
+
+-- ---- the cores one by one
+
+numbers-more : (n : ℕ) → numbers (n + 1) ≡ numbers n ++ n ∷ []
+unfolding those
+numbers-more n = let s : n + 1 ≡ suc n = omega arith in ap numbers s
+
+-- the copies of the first cores
+abbrev pub first_copies : Machine → (word cores : ℕ) → List Copy
+first_copies m v n = flat_map (copies_of (settings_of m) (world_of m) v) (numbers n)
+
+-- the newest after these
+abbrev pub best_of : Machine → (word cores : ℕ) → Copy
+best_of m v n = newest (home_copy (settings_of m) (world_of m) v) (first_copies m v n)
+
+copies-next : (m : Machine) (v n : ℕ) → first_copies m v (n + 1) ≡ first_copies m v n ++ copies_of (settings_of m) (world_of m) v n
+copies-next m v n =
+    let own = copies_of (settings_of m) (world_of m) v in
+    ap (flat_map own) (numbers-more n)
+    ∙ (flat_map-append own (numbers n) (n ∷ []) ∙ ap (λ cs. first_copies m v n ++ cs) (append-nil (own n)))
+
+own-copies : (m : Machine) (v n : ℕ) → m.unsent ≡ [] → let c : Cache = (cores_of m.cores n).cache in
+    copies_of (settings_of m) (world_of m) v n
+    ≡ copy_in (c.value v) (c.dirty v) ++ copies_on v (net_of m.flights (Core n) (Dir (home (settings_of m) (line_of v))))
+unfolding copies_of world_of
+own-copies m v n e =
+    let c : Cache = (cores_of m.cores n).cache in
+    ap (λ net. copy_in (c.value v) (c.dirty v) ++ copies_on v (net (Core n) (Dir (home (settings_of m) (line_of v))))) (settled-net m e)
+
+-- one more core: its frame's copy, then those that it sent
+best-next : (m : Machine) (v n : ℕ) → m.unsent ≡ []
+    → let c : Cache = (cores_of m.cores n).cache in let d : ℕ = home (settings_of m) (line_of v) in
+    newest (newest (best_of m v n) (copy_in (c.value v) (c.dirty v))) (copies_on v (net_of m.flights (Core n) (Dir d)))
+    ≡ best_of m v (n + 1)
+best-next m v n e =
+    let c : Cache = (cores_of m.cores n).cache in
+    let framed : List Copy = copy_in (c.value v) (c.dirty v) in
+    let sent : List Copy = copies_on v (net_of m.flights (Core n) (Dir (home (settings_of m) (line_of v)))) in
+    let start : Copy = home_copy (settings_of m) (world_of m) v in
+    sym (newest-append (best_of m v n) framed sent)
+    ∙ (sym (newest-append start (first_copies m v n) (framed ++ sent))
+    ∙ ap (newest start) (ap (λ cs. first_copies m v n ++ cs) (sym (own-copies m v n e)) ∙ sym (copies-next m v n)))
+
+-- as the code comes to it
+pub best-more : (m now : Machine) (v n h : ℕ) (a b c : Copy) → m ≡ now → now.unsent ≡ [] → h ≡ home (settings_of m) (line_of v)
+    → a ≡ best_of now v n
+    → b ≡ newest a (copy_in ((cores_of m.cores n).cache.value v) ((cores_of m.cores n).cache.dirty v))
+    → c ≡ newest b (copies_on v (net_of m.flights (Core n) (Dir h))) → c ≡ best_of now v (n + 1)
+best-more m now v n h a b c same e at p q r =
+    subst (λ k. c ≡ best_of k v (n + 1)) same
+    (r ∙ ap (λ d. newest b (copies_on v (net_of m.flights (Core n) (Dir d)))) at
+    ∙ ap (λ x. newest x (copies_on v (net_of m.flights (Core n) (Dir (home (settings_of m) (line_of v)))))) (q
+    ∙ ap (λ x. newest x (copy_in ((cores_of m.cores n).cache.value v) ((cores_of m.cores n).cache.dirty v)))
+    (p ∙ ap (λ k. best_of k v n) (sym same)))
+    ∙ best-next m v n (ap (λ k. k.unsent) same ∙ e))
+
+-- ---- its beginning and its end
+
+-- the home's copy, before any core
+pub best-first : (m now : Machine) (v tag value : ℕ) → m ≡ now → m.dirs.settings ≡ settings_of m
+    → ((ram : ℕ → ℕ) → tag ≡ (dirs_of ram m.dirs (home m.dirs.settings (line_of v))).lines.tag (line_of v))
+    → ((ram : ℕ → ℕ) → value ≡ (dirs_of ram m.dirs (home m.dirs.settings (line_of v))).words v)
+    → record { tag = tag; value = value } ≡ best_of now v 0
+unfolding world_of home_copy those newest
+best-first m now v tag value same s t x =
+    let ram : ℕ → ℕ = first_ram (start_of m) in
+    subst (λ k. record { tag = tag; value = value } ≡ best_of k v 0) same
+    ((λ i. record { tag = t ram i; value = x ram i })
+    ∙ ap (λ q. let d : DirState = dirs_of ram m.dirs (home q (line_of v)) in record { tag = d.lines.tag (line_of v); value = d.words v }) s)
+
+pub best-last : (m : Machine) (v n : ℕ) → n ≡ (settings_of m).cores → (best_of m v n).value ≡ seen (settings_of m) (world_of m) v
+unfolding seen copies
+best-last m v n e = ap (λ k. (best_of m v k).value) e
+
+-- ---- where the machine is done
+
+link-quiet : (v : ℕ) (link : Link) → ((k : ℕ) → get_or link k None ≡ None) → copies_on v link ≡ []
+unfolding copies_on
+link-quiet v [] h = refl
+link-quiet v (None ∷ ms) h = link-quiet v ms (λ k. h (suc k))
+link-quiet v (Some m ∷ ms) h = absurd (let none = h 0 in cc)
+
+core-clean : (s : Shape) (w : World) (v c : ℕ) → IsDone s w → c < s.cores → copies_of s w v c ≡ []
+unfolding copies_of
+core-clean s w v c d l =
+    let h : ℕ = home s (line_of v) in
+    rw (d.clean c v l) (link-quiet v (w.net (Core c) (Dir h)) (d.quiet (Core c) (Dir h)))
+
+cores-clean : (s : Shape) (w : World) (v n : ℕ) → IsDone s w → n ≤ s.cores → flat_map (copies_of s w v) (numbers n) ≡ []
+unfolding those
+cores-clean s w v zero d l = refl
+cores-clean s w v (suc n) d l =
+    flat_map-append (copies_of s w v) (numbers n) (n ∷ [])
+    ∙ (λ i. cores-clean s w v n d (omega arith) i ++ (core-clean s w v n d (omega arith) i ++ []))
+
+clean-seen : (s : Shape) (w : World) (v : ℕ) → IsDone s w → (home_copy s w v).value ≡ seen s w v
+unfolding seen copies
+clean-seen s w v d =
+    ap (λ (c : Copy). c.value) (newest-none (home_copy s w v)
+    ∙ ap (newest (home_copy s w v)) (sym (cores-clean s w v s.cores d (omega arith))))
+
+-- only the home has the word
+pub done-seen : (m now : Machine) (v value : ℕ) → m ≡ now → m.dirs.settings ≡ settings_of m → IsDone (settings_of now) (world_of now)
+    → ((ram : ℕ → ℕ) → value ≡ (dirs_of ram m.dirs (home m.dirs.settings (line_of v))).words v)
+    → value ≡ seen (settings_of now) (world_of now) v
+unfolding world_of home_copy
+done-seen m now v value same s d x =
+    let ram : ℕ → ℕ = first_ram (start_of m) in
+    let here : value ≡ (home_copy (settings_of m) (world_of m) v).value =
+    x ram ∙ ap (λ q. (dirs_of ram m.dirs (home q (line_of v))).words v) s in
+    here ∙ ap (λ k. (home_copy (settings_of k) (world_of k) v).value) same ∙ clean-seen (settings_of now) (world_of now) v d

@@ -1,0 +1,10 @@
+-- The bit of the place.
+use Rattle.std.proofs.Common.{arith}
+use Rattle.std.proofs.lemmas.Nat.Bits.{shr_and_one}
+use Rattle.std.proofs.lemmas.Bool.Decides.{nat_tests}
+use Rattle.tcc_maps.specs.Masks.{has}
+use Rattle.net_core.proofs.seeing.has.Goals as goal
+
+pub returns : goal.returns
+unfolding has
+returns c = rw shr_and_one (grind (arith, nat_tests))

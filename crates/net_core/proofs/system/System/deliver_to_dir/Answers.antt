@@ -1,0 +1,161 @@
+-- A directory takes a message.
+use Rattle.std.proofs.Common.{◌≡◌, ◌≢◌, ◌∙◌, ◌+◌, ◌<◌, ap, refl, sym, subst, true, false, Some, None}
+use Rattle.std.specs.Prelude.{if◌then◌else◌}
+use Rattle.tcc_base.specs.declared.names.NodeId.TheVariants as code_node
+use Rattle.tcc_maps.specs.Bridge.{node_of}
+use Rattle.tcc_maps.specs.Nodes.{Core, Dir, Deliver, node_eq}
+use Rattle.tcc_msg.specs.Plain.{msg_of}
+use Rattle.tcc_rules.specs.DirDeliver.{dir_deliver}
+use Rattle.tcc_rules.specs.Links.{in_flight, taking}
+use Rattle.dir_bank.specs.Acted.{Acted}
+use Rattle.directory.specs.Foreign.{is_foreign}
+use Rattle.in_flight.specs.Flights.{net_of}
+use Rattle.net_core.specs.Answers.{Kept, Took, step_of}
+use Rattle.net_core.specs.Delivery.{is_consumed}
+use Rattle.net_core.specs.Inside.{machine_of}
+use Rattle.net_core.specs.Machine.{Machine, start_of}
+use Rattle.rv_code.specs.Machine.{first_ram}
+use Rattle.net_core.specs.declared.taking.Step.TheVariants.{Moved}
+use Rattle.net_core.proofs.Reaching.{nothing-left}
+use Rattle.net_core.proofs.Acted.{StaysBut, stays-kept, stays-whole}
+use Rattle.net_core.proofs.DirActed.{ActsAt, acts-took, acts-whole, belongs-there, comes-at, enabled, refused, says_taken, small-at}
+use Rattle.net_core.proofs.system.System.deliver_to_dir.Goals as goal
+
+-- ---- what is in flight belongs there
+
+pub takes-requires-clause-exists : goal.takes-requires-clause-exists
+takes-requires-clause-exists c = (comes-at _ _ _ _ _ _ c.self.view_is c.self.invariant c.requires.settled c.requires.flies).dir
+
+pub takes-requires-clause-core : goal.takes-requires-clause-core
+takes-requires-clause-core c = (comes-at _ _ _ _ _ _ c.self.view_is c.self.invariant c.requires.settled c.requires.flies).core
+
+pub deliver-requires-clause-exists : goal.deliver-requires-clause-exists
+deliver-requires-clause-exists c = (comes-at _ _ _ _ _ _ c.self.view_is c.self.invariant c.requires.settled c.requires.flies).dir
+
+pub deliver-requires-clause-core : goal.deliver-requires-clause-core
+deliver-requires-clause-core c = (comes-at _ _ _ _ _ _ c.self.view_is c.self.invariant c.requires.settled c.requires.flies).core
+
+pub deliver-requires-clause-tids : goal.deliver-requires-clause-tids
+deliver-requires-clause-tids c = small-at _ _ _ _ _ _ c.self.view_is c.self.invariant c.requires.few c.requires.settled c.requires.flies
+
+-- ---- a refusal
+
+pub returns-then-not-takes : goal.returns-then-not-takes
+returns-then-not-takes c =
+    let m = machine_of c.self.inside in
+    let settled = ap (λ x. x.unsent) c.self.view_is ∙ c.requires.settled in
+    let flies = ap (λ x. in_flight (net_of x.flights) (Core c.args.core.0) (Dir c.args.dir.0) c.args.name.seq) c.self.view_is
+    ∙ c.requires.flies in (
+      record { history = refl; events = refl; code = refl },
+      subst (λ x. step_of x (Deliver (Core c.args.core.0) (Dir c.args.dir.0) c.args.name.seq) ≡ None) c.self.view_is
+          (refused m c.args.core.0 c.args.dir.0 c.args.name.seq (msg_of c.args.msg) c.self.invariant settled flies
+          (sym (c.takes.ensures (first_ram (start_of m))) ∙ c.if-not-takes.true)),
+    )
+
+-- ---- no memory
+
+stays : (c : goal.In-Err)
+    → StaysBut (machine_of c.self.inside) (machine_of (record c.self.inside { dirs = c.deliver.new.self; out = c.deliver.new.out }))
+stays c = record {
+  code = refl;
+  cores = refl;
+  dirs = c.in-Err.ensures.unchanged (first_ram (start_of (machine_of c.self.inside)));
+  settings = c.in-Err.ensures.settings;
+  next = refl;
+  flights = refl;
+  before = ap (λ x. x.unsent) c.self.view_is ∙ c.requires.settled;
+  now = nothing-left c.self.inside.placed c.deliver.new.out.list.items (c.in-Err.ensures.unsent ∙ c.clear.ensures);
+  commits = refl;
+  events = refl;
+}
+
+pub invariant_of-self : goal.invariant_of-self
+invariant_of-self c = stays-whole (machine_of c.self.inside) _ c.self.invariant (stays c)
+
+pub returns-in-Err : goal.returns-in-Err
+returns-in-Err c =
+    let m = machine_of c.self.inside in
+    let n = machine_of (record c.self.inside { dirs = c.deliver.new.self; out = c.deliver.new.out }) in
+    let e = Deliver (Core c.args.core.0) (Dir c.args.dir.0) c.args.name.seq in
+    let settled = ap (λ x. x.unsent) c.self.view_is ∙ c.requires.settled in
+    let flies = ap (λ x. in_flight (net_of x.flights) (Core c.args.core.0) (Dir c.args.dir.0) c.args.name.seq) c.self.view_is
+    ∙ c.requires.flies in
+    subst (λ x. Kept x n × (step_of x e ≢ None)) c.self.view_is (
+      stays-kept m n (stays c),
+      enabled m c.args.core.0 c.args.dir.0 c.args.name.seq (msg_of c.args.msg) c.self.invariant settled flies
+          (sym (c.takes.ensures (first_ram (start_of m))) ∙ c.if-not-takes.false),
+    )
+
+-- ---- the event
+
+pub mark-requires-clause-exists : goal.mark-requires-clause-exists
+mark-requires-clause-exists c =
+    subst (λ s. c.args.dir.0 < s.dirs) (sym c.in-Ok.ensures.settings)
+    (comes-at _ _ _ _ _ _ c.self.view_is c.self.invariant c.requires.settled c.requires.flies).dir
+
+pub mark-requires-clause-home : goal.mark-requires-clause-home
+mark-requires-clause-home c = λ b i y fly.
+    let m = machine_of c.self.inside in
+    let settled = ap (λ x. x.unsent) c.self.view_is ∙ c.requires.settled in
+    let net = net_of c.self.inside.flights in
+    subst (λ s. is_foreign (record { shape = s; dir = c.args.dir.0 }) y ≡ false) (sym c.in-Ok.ensures.settings)
+    (belongs-there m c.take_handled.new.flights c.args.core.0 c.args.dir.0 c.args.name.seq c.in-Ok.handled c.self.invariant settled
+    (c.take_handled.ensures.net
+    ∙ (λ j. if is_consumed c.in-Ok.handled
+    then taking net (node_of (c.requires.source j)) (node_of (c.requires.destination j)) c.args.name.seq else net))
+    b i y fly).belongs
+
+abbrev after : (c : goal.After-self-in-Ok-2-1) → Machine
+after c = machine_of (record c.self.inside {
+  dirs = c.deliver.new.self;
+  flights = c.mark.new.flights;
+  sender = code_node.Dir c.args.dir;
+  out = c.deliver.new.out;
+  placed = 0;
+  events = c.self.inside.events + 1;
+})
+
+acts : (c : goal.After-self-in-Ok-2-1)
+    → ActsAt (machine_of c.self.inside) (after c) c.args.core.0 c.args.dir.0 c.args.name.seq (msg_of c.args.msg) c.in-Ok.handled
+acts c =
+    let m = machine_of c.self.inside in
+    let net = net_of c.self.inside.flights in
+    record {
+      cores = refl;
+      next = refl;
+      settings = c.in-Ok.ensures.settings;
+      settled = ap (λ x. x.unsent) c.self.view_is ∙ c.requires.settled;
+      sender = refl;
+      acted = subst (λ xs. Acted c.args.dir.0 m.dirs c.deliver.new.self xs c.deliver.new.out.list.items c.in-Ok.handled
+          (λ s. dir_deliver m.dirs.settings s c.args.core.0 (msg_of c.args.msg))) c.clear.ensures c.in-Ok.ensures.does;
+      net = c.mark.ensures.net ∙ c.take_handled.ensures.net
+          ∙ (λ j. if is_consumed c.in-Ok.handled
+          then taking net (node_of (c.requires.source j)) (node_of (c.requires.destination j)) c.args.name.seq else net);
+      flight_cores = c.mark.ensures.cores ∙ c.take_handled.ensures.cores;
+      flight_dirs = c.mark.ensures.dirs ∙ c.take_handled.ensures.dirs;
+      here = λ ram b i y l fly. c.mark.ensures.here ram b i y l
+          (subst (λ f. in_flight f (Core b) (Dir c.args.dir.0) i ≡ Some y) c.mark.ensures.net fly);
+      others = λ s e i other. c.mark.ensures.others s e i other
+          ∙ c.take_handled.ensures.others s e i (ap (λ v. node_eq e (node_of v)) c.requires.destination ∙ other);
+      commits = refl;
+      events = refl;
+    }
+
+takes-it : (c : goal.After-self-in-Ok-2-1) → says_taken (machine_of c.self.inside) c.args.core.0 c.args.dir.0 (msg_of c.args.msg) ≡ true
+takes-it c = sym (c.takes.ensures (first_ram (start_of (machine_of c.self.inside)))) ∙ c.if-not-takes.false
+
+flies : (c : goal.After-self-in-Ok-2-1)
+    → in_flight (net_of c.self.inside.flights) (Core c.args.core.0) (Dir c.args.dir.0) c.args.name.seq ≡ Some (msg_of c.args.msg)
+flies c =
+    ap (λ x. in_flight (net_of x.flights) (Core c.args.core.0) (Dir c.args.dir.0) c.args.name.seq) c.self.view_is ∙ c.requires.flies
+
+pub invariant_of-self-in-Ok : goal.invariant_of-self-in-Ok
+invariant_of-self-in-Ok c =
+    acts-whole (machine_of c.self.inside) (after c) c.args.core.0 c.args.dir.0 c.args.name.seq (msg_of c.args.msg) c.in-Ok.handled
+    c.self.invariant (subst (λ m. m.events < 4194304) (sym c.self.view_is) c.requires.few) (flies c) (takes-it c) (acts c)
+
+pub returns-in-Ok : goal.returns-in-Ok
+returns-in-Ok c =
+    subst (λ x. Took x (after c) (Deliver (Core c.args.core.0) (Dir c.args.dir.0) c.args.name.seq) Moved) c.self.view_is
+    (acts-took (machine_of c.self.inside) (after c) c.args.core.0 c.args.dir.0 c.args.name.seq (msg_of c.args.msg) c.in-Ok.handled
+    c.self.invariant (flies c) (takes-it c) (acts c))

@@ -1,0 +1,105 @@
+// A message is delivered: to a core, to a directory, or to the vendor.
+ghost use Rattle.std.specs.Prelude.{◌≡◌, ◌<◌, ℕ, [], Some, false, if◌then◌else◌};
+ghost use Rattle.tcc_maps.specs.Bridge.{node_of};
+ghost use Rattle.tcc_maps.specs.Nodes.{Node, Core, Deliver, Dir, Vendor, node_eq};
+ghost use Rattle.tcc_msg.specs.Plain.{msg_of};
+ghost use Rattle.tcc_rules.specs.Links.{in_flight, taking};
+ghost use Rattle.in_flight.specs.Flights.{is_ready, net_of};
+ghost use Rattle.net_core.specs.Answers.{Answers};
+ghost use Rattle.net_core.specs.Delivery.{is_consumed};
+
+use crate::system::System;
+use crate::taking::{Step, StepError};
+use directory::Handled;
+use in_flight::InFlight;
+use tcc_base::{CoreId, DirId, NodeId};
+use tcc_msg::{Msg, Name};
+
+/// Takes a message out, where its directory has consumed it.
+fn take_handled(flights: &mut InFlight, name: Name, handled: Handled)
+    ensures cores { flights.new.cores ≡ flights.old.cores }
+    ensures dirs { flights.new.dirs ≡ flights.old.dirs }
+    ensures net { net_of flights.new
+        ≡ (if is_consumed handled then taking (net_of flights.old) (node_of name.src) (node_of name.dst) name.seq else net_of flights.old) }
+    ensures others { (s d : Node) (k : ℕ) → node_eq d (node_of name.dst) ≡ false → is_ready flights.new s d k ≡ is_ready flights.old s d k }
+{
+    match handled {
+        Handled::Handled | Handled::Dropped => {
+            flights.take(name);
+        }
+        Handled::Waits | Handled::Asked => {}
+    }
+}
+
+impl System {
+    /// The message of that name is delivered.
+    pub(crate) fn deliver(&mut self, name: Name) -> Result<Step, StepError>
+        requires few { self.old.events < 4194304 }
+        requires settled { self.old.unsent ≡ [] }
+        ensures { Answers self.old self.new (Deliver (node_of name.src) (node_of name.dst) name.seq) result }
+    {
+        let Some(&msg) = self.flights.get(name) else {
+            return Err(StepError::Refused);
+        };
+        match (name.src, name.dst) {
+            (_, NodeId::Core(core)) => self.deliver_to_core(core, name, msg),
+            (NodeId::Core(core), NodeId::Dir(dir)) => self.deliver_to_dir(core, dir, name, msg),
+            (NodeId::Core(core), NodeId::Vendor) => self.grant(core, name, msg),
+            _ => Err(StepError::Refused),
+        }
+    }
+
+    /// A directory takes a message that is in flight to it, or asks for what it needs to take it.
+    fn deliver_to_dir(
+        &mut self,
+        core: CoreId,
+        dir: DirId,
+        name: Name,
+        msg: Msg,
+    ) -> Result<Step, StepError>
+        requires few { self.old.events < 4194304 }
+        requires settled { self.old.unsent ≡ [] }
+        requires source { name.src ≡ NodeId.Core core }
+        requires destination { name.dst ≡ NodeId.Dir dir }
+        requires flies { in_flight (net_of self.old.flights) (Core core.0) (Dir dir.0) name.seq ≡ Some (msg_of msg) }
+        ensures { Answers self.old self.new (Deliver (Core core.0) (Dir dir.0) name.seq) result }
+    {
+        if !self.dirs.takes(dir, core, &msg) {
+            return Err(StepError::Refused);
+        }
+        self.out.clear();
+        match self.dirs.deliver(dir, core, &msg, &mut self.out) {
+            Err(_) => Err(StepError::Memory),
+            Ok(handled) => {
+                take_handled(&mut self.flights, name, handled);
+                self.dirs.mark(&mut self.flights, dir);
+                self.sender = NodeId::Dir(dir);
+                self.placed = 0;
+                self.events += 1;
+                Ok(Step::Moved)
+            }
+        }
+    }
+
+    /// The vendor takes a request that is in flight to it, and sends the next TID.
+    fn grant(&mut self, core: CoreId, name: Name, msg: Msg) -> Result<Step, StepError>
+        requires few { self.old.events < 4194304 }
+        requires settled { self.old.unsent ≡ [] }
+        requires source { name.src ≡ NodeId.Core core }
+        requires destination { name.dst ≡ NodeId.Vendor }
+        requires flies { in_flight (net_of self.old.flights) (Core core.0) Vendor name.seq ≡ Some (msg_of msg) }
+        ensures { Answers self.old self.new (Deliver (Core core.0) Vendor name.seq) result }
+    {
+        self.out.clear();
+        if self.out.reserve(1).is_err() {
+            return Err(StepError::Memory);
+        }
+        let tid = self.vendor.grant();
+        self.out.hand_out(NodeId::Core(core), Msg::TidGrant { tid });
+        self.flights.take(name);
+        self.sender = NodeId::Vendor;
+        self.placed = 0;
+        self.events += 1;
+        Ok(Step::Moved)
+    }
+}

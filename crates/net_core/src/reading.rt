@@ -1,0 +1,67 @@
+// What is committed, and what the nodes hold.
+ghost use Rattle.std.specs.Prelude.{◌≡◌, ◌<◌, ◌↔◌, ◌/◌, [], IsTrue, IfOk};
+ghost use Rattle.tcc_maps.specs.Shape.{lines};
+ghost use Rattle.tcc_program.specs.Cores.{printed};
+ghost use Rattle.tcc_rules.specs.Seen.{IsDone};
+ghost use Rattle.tcc_serial.specs.Commits.{end_after};
+ghost use Rattle.net_core.specs.Machine.{settings_of, world_of};
+
+use crate::system::System;
+use reg_checkpoint::Check;
+use rv_code::Code;
+use std::alloc::Global;
+use tcc_base::{Commit, Config, CoreEnd, CoreId, List, NoMemory};
+
+impl System {
+    /// The settings.
+    pub fn config(&self) -> &Config
+        ensures { result.now ≡ settings_of self.now }
+    {
+        self.cores.code().config()
+    }
+
+    /// The program as it was loaded, and the settings.
+    pub fn code(&self) -> &Code
+        ensures { result.now ≡ self.now.cores.code }
+    {
+        self.cores.code()
+    }
+
+    /// The commits so far, by rising TID. It takes constant time.
+    pub fn commits(&self) -> &[Commit]
+        ensures { result.now ≡ self.now.commits }
+    {
+        self.commits.as_slice()
+    }
+
+    /// The registers and pc of a core as its last commit left them.
+    pub fn committed(&self, core: CoreId) -> &Check
+        requires { core.0 < (settings_of self.now).cores }
+        ensures { result.now ≡ ((world_of self.now).cores core.0).saved }
+    {
+        self.cores.committed(core)
+    }
+
+    /// Whether a core has halted, and how.
+    pub fn ended(&self, core: CoreId) -> CoreEnd
+        requires { core.0 < (settings_of self.now).cores }
+        ensures { let c = (world_of self.now).cores core.0 in result ≡ end_after c.phase c.ended }
+    {
+        self.cores.ended(core)
+    }
+
+    /// The bytes that a core's commits printed, one after another. Its time goes with the number of commits and of these bytes.
+    pub fn console(&self, alloc: Global, core: CoreId) -> Result<List<u8>, NoMemory>
+        ensures { IfOk result (λ bytes. bytes ≡ printed core.0 self.now.commits) }
+    {
+        self.commits.console(alloc, core)
+    }
+
+    /// Whether every core has halted, nothing is in flight, and no frame has a dirty word. Takes time in the number of cores where
+    /// nothing is in flight, else constant time.
+    pub fn done(&self) -> bool
+        ensures { IsTrue result ↔ IsDone (settings_of self.now) (world_of self.now) }
+    {
+        self.is_settled() && self.flights.is_empty() && self.cores.all_rest()
+    }
+}
