@@ -1,5 +1,5 @@
 -- The messages of one link looked at again, one after another.
-use Rattle.std.proofs.Common.{◌≡◌, ◌≢◌, ℕ, zero, suc, ◌+◌, ◌<◌, ◌≤◌, Bool, true, false, ◌&&◌, List, [], ◌∷◌, ◌++◌, length, Some, None, refl, ap, sym, ◌∙◌, subst, arith, inl, inr, if◌then◌else◌}
+use Rattle.std.proofs.Common.{◌≡◌, ◌≢◌, ℕ, zero, suc, ◌+◌, ◌<◌, ◌≤◌, Bool, true, false, ◌&&◌, List, [], ◌∷◌, ◌++◌, length, Option, Some, None, refl, ap, sym, ◌∙◌, subst, arith, inl, inr, if◌then◌else◌}
 use Rattle.std.specs.Prelude.{slice_get, slice_index_or, is_some, ◌==◌}
 use Rattle.std.proofs.lemmas.Bool.{cases_eq, ne_eqb}
 use Rattle.std.proofs.lemmas.Bool.Decides.{nat_tests}
@@ -123,3 +123,16 @@ marked-all x s d i old new w all e k m fly =
     let p : ℕ → Bool = λ l. is_some (in_flight (net_of old) (Core s) (Dir d) l) in
     let f = those-find p n k (link-within (net_of old (Core s) (Dir d)) k m fly) (ap (λ o. is_some o) fly) in
     w.here e f.0 k m (let h = get-within (those p n) f.0 k f.1 in omega arith) f.1 fly
+
+-- an empty link
+pub none-waiting : (f : Flights) (s d n k : ℕ) → n ≡ length (waiting_of f s d) → n ≤ 0 → in_flight (net_of f) (Core s) (Dir d) k ≡ None
+none-waiting f s d n k all none = by (in_flight (net_of f) (Core s) (Dir d) k) refl
+  where
+    by : (o : Option Msg) → in_flight (net_of f) (Core s) (Dir d) k ≡ o → o ≡ None
+    by None q = refl
+    by (Some m) q =
+        let l = net_of f (Core s) (Dir d) in
+        let p : ℕ → Bool = λ i. is_some (in_flight (net_of f) (Core s) (Dir d) i) in
+        let r = those-find p (length l) k (link-within l k m q) (ap (λ o. is_some o) q) in
+        let within = get-within (those p (length l)) r.0 k r.1 in
+        absurd (omega (arith, all, none, within))

@@ -1,5 +1,5 @@
 // Which messages in flight a directory takes.
-ghost use Rattle.std.specs.Prelude.{◌≡◌, ◌<◌, ℕ, false, ◌&&◌, Some};
+ghost use Rattle.std.specs.Prelude.{◌≡◌, ◌<◌, ◌≤◌, ℕ, false, ◌&&◌, Some, None};
 ghost use Rattle.tcc_maps.specs.Nodes.{Node, Msg as PlainMsg, Core, Dir, node_eq};
 ghost use Rattle.tcc_rules.specs.DirDeliver.{dir_deliver};
 ghost use Rattle.tcc_rules.specs.Links.{in_flight};
@@ -36,6 +36,22 @@ fn remark_link(flights: &mut InFlight, dir: &Directory, src: CoreId, dst: DirId)
     }
 }
 
+/// The first core from this one on whose link to the directory isn't empty, or the number of cores where there is none.
+fn next_busy(flights: &InFlight, dst: DirId, from: u8, cores: u8) -> u8
+    requires { from ≤ cores }
+    ensures onward { from ≤ result }
+    ensures within { result ≤ cores }
+    ensures quiet { (c k : ℕ) → from ≤ c → c < result → in_flight (net_of flights.now) (Core c) (Dir dst.0) k ≡ None }
+{
+    let to = NodeId::Dir(dst);
+    for core in from..cores {
+        if flights.waiting(NodeId::Core(CoreId(core)), to) > 0 {
+            return core;
+        }
+    }
+    cores
+}
+
 impl DirBank {
     /// Looks at all messages to a directory again, and marks those that it takes now. Takes time in their number.
     pub fn mark(&self, flights: &mut InFlight, dir: DirId)
@@ -49,8 +65,11 @@ impl DirBank {
         ensures others { (s d : Node) (k : ℕ) → node_eq d (Dir dir.0) ≡ false → is_ready flights.new s d k ≡ is_ready flights.old s d k }
     {
         let directory = &self.dirs.items[dir.0 as usize];
-        for core in 0..self.config.cores() {
+        let cores = self.config.cores();
+        let mut core = next_busy(flights, dir, 0, cores);
+        while core < cores {
             remark_link(flights, directory, CoreId(core), dir);
+            core = next_busy(flights, dir, core + 1, cores);
         }
     }
 }

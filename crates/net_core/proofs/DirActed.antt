@@ -8,7 +8,7 @@ use Rattle.tcc_base.specs.Put.{put}
 use Rattle.tcc_base.specs.Settings.{Settings}
 use Rattle.tcc_bounds.proofs.Lemmas.{fits_out}
 use Rattle.tcc_maps.specs.Bridge.{node_of}
-use Rattle.tcc_maps.specs.Nodes.{Node, Core, Dir, Vendor, Deliver, Msg, node_eq}
+use Rattle.tcc_maps.specs.Nodes.{Node, Core, Dir, Vendor, Deliver, Msg}
 use Rattle.tcc_msg.specs.Plain.{sends_of}
 use Rattle.tcc_rules.specs.DirDeliver.{Answer, dir_deliver}
 use Rattle.tcc_rules.specs.DirDeliver as rules
@@ -28,11 +28,13 @@ use Rattle.in_flight.specs.Places.{is_link}
 use Rattle.net_core.specs.Answers.{Took, step_of}
 use Rattle.net_core.specs.Delivery.{AreMarked, is_consumed, is_deliverable}
 use Rattle.net_core.specs.Machine.{Machine, settings_of, start_of, world_of}
+use Rattle.net_core.specs.Taking.{SameTaking, is_renewed}
 use Rattle.net_core.specs.Whole.{IsWhole}
 use Rattle.net_core.specs.declared.taking.Step.TheVariants.{Moved}
 use Rattle.net_core.proofs.Reaching.{in-bounds, may-go, settled-net, small-tids}
 use Rattle.net_core.proofs.Acted.{took-by, took-whole, world-is}
 use Rattle.net_core.proofs.Taken.{still-flies}
+use Rattle.net_core.proofs.TakesAlike.{taken-alike}
 
 -- ---- what the rules say
 
@@ -132,7 +134,12 @@ enabled m c d k x w settled e t = λ q.
 abbrev pub net_after : Handled → (Node → Node → Link) → (core dir k : ℕ) → Node → Node → Link
 net_after h net c d k = if is_consumed h then taking net (Core c) (Dir d) k else net
 
--- a directory acted, and what it sent doesn't stand on its links yet; messages to it are marked as it says now
+-- the state that the directory has now
+abbrev pub now_at : (m n : Machine) → (dir : ℕ) → DirState
+now_at m n d = dirs_of (first_ram (start_of m)) n.dirs d
+
+-- a directory acted, and what it sent doesn't stand on its links yet; messages to it are marked as it says now, or nothing that
+-- decides on them has changed
 pub record ActsAt (m n : Machine) (c d k : ℕ) (x : Msg) (h : Handled) : Type 0 where
   pub cores : n.cores ≡ m.cores
   pub next : n.next ≡ m.next
@@ -143,15 +150,15 @@ pub record ActsAt (m n : Machine) (c d k : ℕ) (x : Msg) (h : Handled) : Type 0
   pub net : net_of n.flights ≡ net_after h (net_of m.flights) c d k
   pub flight_cores : n.flights.cores ≡ m.flights.cores
   pub flight_dirs : n.flights.dirs ≡ m.flights.dirs
-  pub here : (ram : ℕ → ℕ) (b i : ℕ) (y : Msg) → b < n.dirs.settings.cores → in_flight (net_of n.flights) (Core b) (Dir d) i ≡ Some y
+  pub again : Bool
+  pub here : again ≡ true
+      → (ram : ℕ → ℕ) (b i : ℕ) (y : Msg) → b < n.dirs.settings.cores → in_flight (net_of n.flights) (Core b) (Dir d) i ≡ Some y
       → is_ready n.flights (Core b) (Dir d) i ≡ is_taken (dir_deliver n.dirs.settings (dirs_of ram n.dirs d) b y)
-  pub others : (s e : Node) (i : ℕ) → node_eq e (Dir d) ≡ false → is_ready n.flights s e i ≡ is_ready m.flights s e i
+  pub same : again ≡ false → SameTaking (rule_dirs m d) (now_at m n d)
+  pub others : (s e : Node) (i : ℕ) (y : Msg) → in_flight (net_of n.flights) s e i ≡ Some y → is_renewed again d e ≡ false
+      → is_ready n.flights s e i ≡ is_ready m.flights s e i
   pub commits : n.commits ≡ m.commits
   pub events : n.events ≡ m.events + 1
-
--- the state that the directory has now
-abbrev pub now_at : (m n : Machine) → (dir : ℕ) → DirState
-now_at m n d = dirs_of (first_ram (start_of m)) n.dirs d
 
 -- the directories are as before but for this one
 dirs-after : (m n : Machine) (c d k : ℕ) (x : Msg) (h : Handled) → ActsAt m n c d k x h → rule_dirs n ≡ put (rule_dirs m) d (now_at m n d)
@@ -238,20 +245,35 @@ belongs-there m f c d k h w settled net b i y fly = comes m b d i y w settled
     (stays h (net_of m.flights) c d k (Core b) (Dir d) i y (subst (λ g. in_flight g (Core b) (Dir d) i ≡ Some y) net fly))
 
 -- a link to another node
-mark-elsewhere : (m n : Machine) (c d k : ℕ) (x : Msg) (h : Handled) (s e : Node) (i : ℕ) (y : Msg) → IsWhole m → ActsAt m n c d k x h
-    → in_flight (net_of m.flights) s e i ≡ Some y → node_eq e (Dir d) ≡ false
+mark-elsewhere : (m n : Machine) (c d k : ℕ) (x : Msg) (h : Handled) (s e : Node) (i : ℕ) (y : Msg) → IsWhole m
+    → (a : ActsAt m n c d k x h) → in_flight (net_of m.flights) s e i ≡ Some y → in_flight (net_of n.flights) s e i ≡ Some y
+    → is_renewed a.again d e ≡ false
     → is_ready n.flights s e i ≡ is_deliverable (settings_of m) (rule_dirs m) s e y
 unfolding AreMarked
-mark-elsewhere m n c d k x h s e i y w a old other = a.others s e i other ∙ w.marked s e i y old
+mark-elsewhere m n c d k x h s e i y w a old now other = a.others s e i y now other ∙ w.marked s e i y old
+
+and-false : (b : Bool) → (b && false) ≡ false
+and-false true = refl
+and-false false = refl
 
 -- a link to this directory
 mark-here : (m n : Machine) (c d k : ℕ) (x : Msg) (h : Handled) (b i : ℕ) (y : Msg) → IsWhole m → ActsAt m n c d k x h
     → in_flight (net_of m.flights) (Core b) (Dir d) i ≡ Some y → in_flight (net_of n.flights) (Core b) (Dir d) i ≡ Some y
     → is_ready n.flights (Core b) (Dir d) i ≡ is_taken (dir_deliver (settings_of m) (rule_dirs n d) b y)
-mark-here m n c d k x h b i y w a old now =
-    let there = comes m b d i y w a.settled old in
-    a.here (first_ram (start_of n)) b i y (subst (λ s. b < s.cores) (sym a.settings) there.core) now
-    ∙ ap (λ s. is_taken (dir_deliver s (rule_dirs n d) b y)) (a.settings ∙ w.dirs)
+mark-here m n c d k x h b i y w a old now = by a.again refl
+  where
+    here : rule_dirs n d ≡ now_at m n d
+    here = λ j. dirs_of (first_ram (started (a.cores j).code)) n.dirs d
+
+    by : (r : Bool) → a.again ≡ r → is_ready n.flights (Core b) (Dir d) i ≡ is_taken (dir_deliver (settings_of m) (rule_dirs n d) b y)
+    by true q =
+        let there = comes m b d i y w a.settled old in
+        a.here q (first_ram (start_of n)) b i y (subst (λ s. b < s.cores) (sym a.settings) there.core) now
+        ∙ ap (λ s. is_taken (dir_deliver s (rule_dirs n d) b y)) (a.settings ∙ w.dirs)
+    by false q =
+        mark-elsewhere m n c d k x h (Core b) (Dir d) i y w a old now (ap (λ r. is_renewed r d (Dir d)) q ∙ and-false (d == d))
+        ∙ sym (taken-alike (settings_of m) (rule_dirs m d) (now_at m n d) b y (a.same q))
+        ∙ ap (λ s. is_taken (dir_deliver (settings_of m) s b y)) (sym here)
 
 -- a link to a directory
 mark-at : (m n : Machine) (c d k : ℕ) (x : Msg) (h : Handled) (b e i : ℕ) (y : Msg) → IsWhole m → ActsAt m n c d k x h
@@ -260,7 +282,7 @@ mark-at : (m n : Machine) (c d k : ℕ) (x : Msg) (h : Handled) (b e i : ℕ) (y
 mark-at m n c d k x h b e i y w a old now = by (e == d) refl
   where
     by : (t : Bool) → (e == d) ≡ t → is_ready n.flights (Core b) (Dir e) i ≡ is_taken (dir_deliver (settings_of m) (rule_dirs n e) b y)
-    by false q = mark-elsewhere m n c d k x h (Core b) (Dir e) i y w a old q
+    by false q = mark-elsewhere m n c d k x h (Core b) (Dir e) i y w a old now (ap (λ r. r && a.again) q)
         ∙ ap (λ s. is_taken (dir_deliver (settings_of m) s b y))
         (sym ((λ j. dirs-after m n c d k x h a j e) ∙ ap (λ r. if r then now_at m n d else rule_dirs m e) q))
     by true q =
@@ -281,12 +303,12 @@ marked-at : (m n : Machine) (c d k : ℕ) (x : Msg) (h : Handled) (s e : Node) (
     → in_flight (net_of m.flights) s e i ≡ Some y → in_flight (net_of n.flights) s e i ≡ Some y
     → is_ready n.flights s e i ≡ is_deliverable (settings_of m) (rule_dirs n) s e y
 marked-at m n c d k x h (Core b) (Dir e) i y w a old now = mark-at m n c d k x h b e i y w a old now
-marked-at m n c d k x h (Core b) (Core e) i y w a old now = mark-elsewhere m n c d k x h (Core b) (Core e) i y w a old refl
-marked-at m n c d k x h (Core b) Vendor i y w a old now = mark-elsewhere m n c d k x h (Core b) Vendor i y w a old refl
-marked-at m n c d k x h (Dir b) (Core e) i y w a old now = mark-elsewhere m n c d k x h (Dir b) (Core e) i y w a old refl
-marked-at m n c d k x h (Dir b) Vendor i y w a old now = mark-elsewhere m n c d k x h (Dir b) Vendor i y w a old refl
-marked-at m n c d k x h Vendor (Core e) i y w a old now = mark-elsewhere m n c d k x h Vendor (Core e) i y w a old refl
-marked-at m n c d k x h Vendor Vendor i y w a old now = mark-elsewhere m n c d k x h Vendor Vendor i y w a old refl
+marked-at m n c d k x h (Core b) (Core e) i y w a old now = mark-elsewhere m n c d k x h (Core b) (Core e) i y w a old now refl
+marked-at m n c d k x h (Core b) Vendor i y w a old now = mark-elsewhere m n c d k x h (Core b) Vendor i y w a old now refl
+marked-at m n c d k x h (Dir b) (Core e) i y w a old now = mark-elsewhere m n c d k x h (Dir b) (Core e) i y w a old now refl
+marked-at m n c d k x h (Dir b) Vendor i y w a old now = mark-elsewhere m n c d k x h (Dir b) Vendor i y w a old now refl
+marked-at m n c d k x h Vendor (Core e) i y w a old now = mark-elsewhere m n c d k x h Vendor (Core e) i y w a old now refl
+marked-at m n c d k x h Vendor Vendor i y w a old now = mark-elsewhere m n c d k x h Vendor Vendor i y w a old now refl
 marked-at m n c d k x h (Dir b) (Dir e) i y w a old now = let l = linked m (Dir b) (Dir e) i y w a.settled old in absurd (cc)
 marked-at m n c d k x h Vendor (Dir e) i y w a old now = let l = linked m Vendor (Dir e) i y w a.settled old in absurd (cc)
 

@@ -6,3 +6,4 @@ pub mod Whole
 pub mod Answers
 pub mod Inside
 pub mod Copies
+pub mod Taking

@@ -3,8 +3,8 @@ use Rattle.std.proofs.Common.{◌≡◌, ◌≢◌, ◌∙◌, ◌+◌, ◌<◌,
 use Rattle.std.specs.Prelude.{if◌then◌else◌}
 use Rattle.tcc_base.specs.declared.names.NodeId.TheVariants as code_node
 use Rattle.tcc_maps.specs.Bridge.{node_of}
-use Rattle.tcc_maps.specs.Nodes.{Core, Dir, Deliver, node_eq}
-use Rattle.tcc_msg.specs.Plain.{msg_of}
+use Rattle.tcc_maps.specs.Nodes.{Core, Dir, Deliver}
+use Rattle.tcc_msg.specs.Plain.{msg_of, sends_of}
 use Rattle.tcc_rules.specs.DirDeliver.{dir_deliver}
 use Rattle.tcc_rules.specs.Links.{in_flight, taking}
 use Rattle.dir_bank.specs.Acted.{Acted}
@@ -14,11 +14,14 @@ use Rattle.net_core.specs.Answers.{Kept, Took, step_of}
 use Rattle.net_core.specs.Delivery.{is_consumed}
 use Rattle.net_core.specs.Inside.{machine_of}
 use Rattle.net_core.specs.Machine.{Machine, start_of}
+use Rattle.net_core.specs.Taking.{SameTaking, may_matter}
 use Rattle.rv_code.specs.Machine.{first_ram}
 use Rattle.net_core.specs.declared.taking.Step.TheVariants.{Moved}
 use Rattle.net_core.proofs.Reaching.{nothing-left}
 use Rattle.net_core.proofs.Acted.{StaysBut, stays-kept, stays-whole}
-use Rattle.net_core.proofs.DirActed.{ActsAt, acts-took, acts-whole, belongs-there, comes-at, enabled, refused, says_taken, small-at}
+use Rattle.net_core.proofs.DirActed.{ActsAt, acts-took, acts-whole, belongs-there, comes-at, enabled, now_at, refused, rule_dirs}
+use Rattle.net_core.proofs.DirActed.{says_taken, small-at}
+use Rattle.net_core.proofs.Quiet.{quiet-after}
 use Rattle.net_core.proofs.system.System.deliver_to_dir.Goals as goal
 
 -- ---- what is in flight belongs there
@@ -28,6 +31,11 @@ takes-requires-clause-exists c = (comes-at _ _ _ _ _ _ c.self.view_is c.self.inv
 
 pub takes-requires-clause-core : goal.takes-requires-clause-core
 takes-requires-clause-core c = (comes-at _ _ _ _ _ _ c.self.view_is c.self.invariant c.requires.settled c.requires.flies).core
+
+pub serving-before-requires : goal.serving-before-requires
+serving-before-requires c = record {
+  exists = (comes-at _ _ _ _ _ _ c.self.view_is c.self.invariant c.requires.settled c.requires.flies).dir;
+}
 
 pub deliver-requires-clause-exists : goal.deliver-requires-clause-exists
 deliver-requires-clause-exists c = (comes-at _ _ _ _ _ _ c.self.view_is c.self.invariant c.requires.settled c.requires.flies).dir
@@ -88,13 +96,19 @@ returns-in-Err c =
 
 -- ---- the event
 
-pub mark-requires-clause-exists : goal.mark-requires-clause-exists
-mark-requires-clause-exists c =
+pub serving-requires : goal.serving-requires
+serving-requires c = record {
+  exists = subst (λ s. c.args.dir.0 < s.dirs) (sym c.in-Ok.ensures.settings)
+      (comes-at _ _ _ _ _ _ c.self.view_is c.self.invariant c.requires.settled c.requires.flies).dir;
+}
+
+pub look_again-requires-clause-exists : goal.look_again-requires-clause-exists
+look_again-requires-clause-exists c =
     subst (λ s. c.args.dir.0 < s.dirs) (sym c.in-Ok.ensures.settings)
     (comes-at _ _ _ _ _ _ c.self.view_is c.self.invariant c.requires.settled c.requires.flies).dir
 
-pub mark-requires-clause-home : goal.mark-requires-clause-home
-mark-requires-clause-home c = λ b i y fly.
+pub look_again-requires-clause-home : goal.look_again-requires-clause-home
+look_again-requires-clause-home c = λ b i y fly.
     let m = machine_of c.self.inside in
     let settled = ap (λ x. x.unsent) c.self.view_is ∙ c.requires.settled in
     let net = net_of c.self.inside.flights in
@@ -108,12 +122,24 @@ mark-requires-clause-home c = λ b i y fly.
 abbrev after : (c : goal.After-self-in-Ok-2-1) → Machine
 after c = machine_of (record c.self.inside {
   dirs = c.deliver.new.self;
-  flights = c.mark.new.flights;
+  flights = c.look_again.new.flights;
   sender = code_node.Dir c.args.dir;
   out = c.deliver.new.out;
   placed = 0;
   events = c.self.inside.events + 1;
 })
+
+-- the directory takes what it took before, where nothing was looked at again
+same-taking : (c : goal.After-self-in-Ok-2-1) → c.may_matter-again.result ≡ false
+    → SameTaking (rule_dirs (machine_of c.self.inside) c.args.dir.0) (now_at (machine_of c.self.inside) (after c) c.args.dir.0)
+same-taking c f =
+    let m = machine_of c.self.inside in
+    let ram = first_ram (start_of m) in
+    let did = c.in-Ok.ensures.does in
+    quiet-after m.dirs.settings (rule_dirs m c.args.dir.0) (now_at m (after c) c.args.dir.0) c.args.core.0 (msg_of c.args.msg)
+    c.in-Ok.handled (sends_of did.sent) (did.answer ram) (λ q. λ i. (did.still q).0 ram i c.args.dir.0)
+    ((λ i. may_matter c.in-Ok.handled (msg_of c.args.msg) (sym (c.serving-before.ensures ram) i) (sym (c.serving.ensures ram) i))
+    ∙ sym c.may_matter-again.ensures ∙ f)
 
 acts : (c : goal.After-self-in-Ok-2-1)
     → ActsAt (machine_of c.self.inside) (after c) c.args.core.0 c.args.dir.0 c.args.name.seq (msg_of c.args.msg) c.in-Ok.handled
@@ -128,15 +154,17 @@ acts c =
       sender = refl;
       acted = subst (λ xs. Acted c.args.dir.0 m.dirs c.deliver.new.self xs c.deliver.new.out.list.items c.in-Ok.handled
           (λ s. dir_deliver m.dirs.settings s c.args.core.0 (msg_of c.args.msg))) c.clear.ensures c.in-Ok.ensures.does;
-      net = c.mark.ensures.net ∙ c.take_handled.ensures.net
+      net = c.look_again.ensures.net ∙ c.take_handled.ensures.net
           ∙ (λ j. if is_consumed c.in-Ok.handled
           then taking net (node_of (c.requires.source j)) (node_of (c.requires.destination j)) c.args.name.seq else net);
-      flight_cores = c.mark.ensures.cores ∙ c.take_handled.ensures.cores;
-      flight_dirs = c.mark.ensures.dirs ∙ c.take_handled.ensures.dirs;
-      here = λ ram b i y l fly. c.mark.ensures.here ram b i y l
-          (subst (λ f. in_flight f (Core b) (Dir c.args.dir.0) i ≡ Some y) c.mark.ensures.net fly);
-      others = λ s e i other. c.mark.ensures.others s e i other
-          ∙ c.take_handled.ensures.others s e i (ap (λ v. node_eq e (node_of v)) c.requires.destination ∙ other);
+      flight_cores = c.look_again.ensures.cores ∙ c.take_handled.ensures.cores;
+      flight_dirs = c.look_again.ensures.dirs ∙ c.take_handled.ensures.dirs;
+      again = c.may_matter-again.result;
+      here = λ q ram b i y l fly. c.look_again.ensures.here q ram b i y l
+          (subst (λ f. in_flight f (Core b) (Dir c.args.dir.0) i ≡ Some y) c.look_again.ensures.net fly);
+      same = same-taking c;
+      others = λ s e i y fly other. c.look_again.ensures.others s e i other
+          ∙ c.take_handled.ensures.marks s e i y (subst (λ f. in_flight f s e i ≡ Some y) c.look_again.ensures.net fly);
       commits = refl;
       events = refl;
     }

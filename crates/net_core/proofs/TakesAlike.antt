@@ -1,0 +1,133 @@
+-- A directory takes the same messages in states that differ only where no message looks.
+use Rattle.std.proofs.Common.{◌≡◌, ℕ, Bool, true, false, ◌||◌, ◌&&◌, List, Option, Some, None, refl, sym, ◌∙◌}
+use Rattle.std.specs.Prelude.{nat_lt, nat_le, ◌==◌, if◌then◌else◌}
+use Rattle.tcc_base.specs.Settings.{Settings}
+use Rattle.tcc_maps.specs.Judge.{Judgement, judge, Takes as IsTaken, Drops as IsDropped, Waits as IsEarly}
+use Rattle.tcc_maps.specs.Lines.{has_mark}
+use Rattle.tcc_maps.specs.Masks.{full}
+use Rattle.tcc_maps.specs.Nodes.{Msg, TidReq, TidGrant, LoadReq, Fill, Skip, Probe, ProbeReply, Mark, Commit, Abort}
+use Rattle.tcc_maps.specs.Nodes.{WriteBack, Flush, DataReq, Inv, InvAck}
+use Rattle.tcc_maps.specs.Shape.{lines}
+use Rattle.tcc_maps.specs.Words.{count_below}
+use Rattle.tcc_rules.specs.DirDeliver.{Answer, abort, acknowledgement, ask_owner, commit, dir_deliver, judged}
+use Rattle.tcc_rules.specs.DirDeliver.{load_owned, load_request, mark, mark_owned, probe, skip, write_back}
+use Rattle.tcc_rules.specs.State.{DirState}
+use Rattle.directory.specs.Gives.{is_taken}
+use Rattle.net_core.specs.Taking.{SameTaking}
+
+if-taken : (b : Bool) (x y : Answer) (p q : Bool) → is_taken x ≡ p → is_taken y ≡ q → is_taken (if b then x else y) ≡ (if b then p else q)
+if-taken true x y p q e f = e
+if-taken false x y p q e f = f
+
+if-always : (b : Bool) (x y : Answer) → is_taken x ≡ true → is_taken y ≡ true → is_taken (if b then x else y) ≡ true
+if-always true x y e f = e
+if-always false x y e f = f
+
+-- ---- these are always taken
+
+skip-taken : (k : ℕ) (s : DirState) → is_taken (skip k s) ≡ true
+unfolding skip
+skip-taken k s = if-always (nat_lt k s.serving.serving) _ _ refl refl
+
+abort-taken : (k : ℕ) (s : DirState) → is_taken (abort k s) ≡ true
+unfolding abort
+abort-taken k s = if-always (nat_lt k s.serving.serving) _ _ refl (if-always (s.serving.serving == k) _ _ refl refl)
+
+acknowledgement-taken : (c l : ℕ) (keeps : Bool) (s : DirState) → is_taken (acknowledgement c l keeps s) ≡ true
+unfolding acknowledgement
+acknowledgement-taken c l keeps s = if-always (s.owed == 0) _ _ refl refl
+
+-- ---- these by what is the same
+
+probe-taken : (c k : ℕ) (s : DirState) → is_taken (probe c k s) ≡ (if nat_lt s.serving.serving k then false else true)
+unfolding probe
+probe-taken c k s = if-taken (nat_lt s.serving.serving k) _ _ false true refl refl
+
+-- a line's owner is asked once
+abbrev once : Option ℕ → (asked : Bool) → Bool
+once None asked = true
+once (Some o) asked = if asked then false else true
+
+ask-taken : (o l : ℕ) (s : DirState) → is_taken (ask_owner o l s) ≡ once (Some o) (s.lines.asked l)
+unfolding ask_owner
+ask-taken o l s = if-taken (s.lines.asked l) _ _ false true refl refl
+
+abbrev loads : (serving last mark : ℕ) → Option ℕ → Bool → Bool
+loads v last m o asked = if nat_le v last || nat_lt 0 m then false else once o asked
+
+load-taken : (c l last : ℕ) (s : DirState)
+    → is_taken (load_request c l last s) ≡ loads s.serving.serving last (s.lines.mark l) (s.lines.owner l) (s.lines.asked l)
+unfolding load_request
+load-taken c l last s =
+    if-taken (nat_le s.serving.serving last || has_mark s.lines l) _ _ false (once (s.lines.owner l) (s.lines.asked l)) refl
+    (by (s.lines.owner l))
+  where
+    by : (o : Option ℕ) → is_taken (load_owned c l s o) ≡ once o (s.lines.asked l)
+    by None = refl
+    by (Some o) = ask-taken o l s
+
+abbrev marks : (tid serving : ℕ) → (full : Bool) → Option ℕ → Bool → Bool
+marks k v f o asked = if nat_lt k v then true else (if nat_lt v k then false else (if f then true else once o asked))
+
+mark-taken : (l m k : ℕ) (s : DirState)
+    → is_taken (mark l m k s) ≡ marks k s.serving.serving (m == full) (s.lines.owner l) (s.lines.asked l)
+unfolding mark
+mark-taken l m k s =
+    if-taken (nat_lt k s.serving.serving) _ _ true _ refl
+    (if-taken (nat_lt s.serving.serving k) _ _ false _ refl
+    (if-taken (m == full) _ _ true (once (s.lines.owner l) (s.lines.asked l)) refl (by (s.lines.owner l))))
+  where
+    by : (o : Option ℕ) → is_taken (mark_owned l m s o) ≡ once o (s.lines.asked l)
+    by None = refl
+    by (Some o) = ask-taken o l s
+
+abbrev commits : Settings → (tid count serving : ℕ) → (mark : ℕ → ℕ) → Bool
+commits sh k count v mark = if v == k && count_below (λ l. nat_lt 0 (mark l)) (lines sh) == count then true else false
+
+commit-taken : (sh : Settings) (c k count : ℕ) (s : DirState)
+    → is_taken (commit sh c k count s) ≡ commits sh k count s.serving.serving s.lines.mark
+unfolding commit
+commit-taken sh c k count s =
+    if-taken (s.serving.serving == k && count_below (has_mark s.lines) (lines sh) == count) _ _ true false refl refl
+
+abbrev comes_home : Judgement → Bool
+comes_home IsEarly = false
+comes_home IsTaken = true
+comes_home IsDropped = true
+
+home-taken : (c l m : ℕ) (ws : List ℕ) (g : ℕ) (s : DirState)
+    → is_taken (write_back c l m ws g s) ≡ comes_home (judge (s.lines.owner l) (s.lines.tag l) c g)
+unfolding write_back
+home-taken c l m ws g s = by (judge (s.lines.owner l) (s.lines.tag l) c g)
+  where
+    by : (j : Judgement) → is_taken (judged l m ws s j) ≡ comes_home j
+    by IsEarly = refl
+    by IsTaken = refl
+    by IsDropped = refl
+
+home-alike : (c l m : ℕ) (ws : List ℕ) (g : ℕ) (s t : DirState) → SameTaking s t
+    → is_taken (write_back c l m ws g t) ≡ is_taken (write_back c l m ws g s)
+home-alike c l m ws g s t e =
+    home-taken c l m ws g t ∙ (λ i. comes_home (judge (e.owner i l) (e.tag i l) c g)) ∙ sym (home-taken c l m ws g s)
+
+pub taken-alike : (sh : Settings) (s t : DirState) (c : ℕ) (m : Msg) → SameTaking s t
+    → is_taken (dir_deliver sh t c m) ≡ is_taken (dir_deliver sh s c m)
+unfolding dir_deliver
+taken-alike sh s t c (Skip k) e = skip-taken k t ∙ sym (skip-taken k s)
+taken-alike sh s t c (Abort k) e = abort-taken k t ∙ sym (abort-taken k s)
+taken-alike sh s t c (InvAck l keeps) e = acknowledgement-taken c l keeps t ∙ sym (acknowledgement-taken c l keeps s)
+taken-alike sh s t c (Probe k) e = probe-taken c k t ∙ (λ i. if nat_lt (e.serving i) k then false else true) ∙ sym (probe-taken c k s)
+taken-alike sh s t c (LoadReq l last) e =
+    load-taken c l last t ∙ (λ i. loads (e.serving i) last (e.mark i l) (e.owner i l) (e.asked i l)) ∙ sym (load-taken c l last s)
+taken-alike sh s t c (Mark l m k) e =
+    mark-taken l m k t ∙ (λ i. marks k (e.serving i) (m == full) (e.owner i l) (e.asked i l)) ∙ sym (mark-taken l m k s)
+taken-alike sh s t c (Commit k count) e =
+    commit-taken sh c k count t ∙ (λ i. commits sh k count (e.serving i) (e.mark i)) ∙ sym (commit-taken sh c k count s)
+taken-alike sh s t c (WriteBack l m ws g) e = home-alike c l m ws g s t e
+taken-alike sh s t c (Flush l m ws g) e = home-alike c l m ws g s t e
+taken-alike sh s t c TidReq e = refl
+taken-alike sh s t c (TidGrant k) e = refl
+taken-alike sh s t c (Fill l ws) e = refl
+taken-alike sh s t c (ProbeReply k serving) e = refl
+taken-alike sh s t c (DataReq l) e = refl
+taken-alike sh s t c (Inv l m k) e = refl
