@@ -1,0 +1,136 @@
+-- A machine that has taken the first of some events, and what is so of all of them.
+use Rattle.std.proofs.Common.{◌≡◌, ℕ, zero, suc, ◌+◌, ◌<◌, ◌≤◌, List, [], ◌∷◌, ◌++◌, length, map, take, Option, Some, None}
+use Rattle.std.proofs.Common.{refl, ap, sym, ◌∙◌, subst, arith}
+use Rattle.std.specs.Prelude.{IsSome, slice_get}
+use Rattle.std.proofs.lemmas.List.{map-append}
+use Rattle.image_load.specs.Contents.{Contents, started}
+use Rattle.rv_code.specs.Machine.{program}
+use Rattle.rv_serial.specs.Suiting.{world_at_start}
+use Rattle.tcc_base.specs.Settings.{Settings}
+use Rattle.tcc_maps.specs.Nodes.{Event as RuleEvent}
+use Rattle.tcc_msg.specs.Plain.{event_of}
+use Rattle.tcc_msg.specs.declared.event.Event.{Event}
+use Rattle.tcc_program.specs.Program.{Program}
+use Rattle.tcc_rules.specs.Step.{History, and_then, next, recorded, run, run_from}
+use Rattle.net_core.specs.Answers.{step_of}
+use Rattle.net_core.specs.Machine.{Machine, history_of, program_of, settings_of}
+use Rattle.net_core.proofs.Lemmas.{run-on}
+use Rattle.tcc_refine.specs.Refined.{IsRefined, Refined}
+use Rattle.tcc_replay.specs.Replayed.{EqualEventsGiveEqualMachines, IsRefusedAt, TakenIsNotRefused, history_by}
+
+-- the first i were taken, from the start of what was loaded
+pub record TookFirst (r : Refined) (c : Contents) (es : List Event) (i : ℕ) : Type 0 where
+  pub taken : r.taken ≡ take i es
+  pub code : r.machine.cores.code ≡ c
+
+one-more : (es : List Event) (k : ℕ) (e : Event) → slice_get es k ≡ Some e → take (suc k) es ≡ take k es ++ e ∷ []
+one-more [] k e h = absurd (cc)
+one-more (x ∷ es) zero e h = let same : x ≡ e = cc in ap (λ y. y ∷ []) same
+one-more (x ∷ es) (suc k) e h = ap (λ ys. x ∷ ys) (one-more es k e h)
+
+next-number : (k : ℕ) → k + 1 ≡ suc k
+next-number k = omega arith
+
+pub first-longer : (es : List Event) (k : ℕ) (e : Event) → slice_get es k ≡ Some e → take (k + 1) es ≡ take k es ++ e ∷ []
+first-longer es k e h = ap (λ j. take j es) (next-number k) ∙ one-more es k e h
+
+pub took-more : (r s : Refined) (c : Contents) (es : List Event) (i : ℕ) (e : Event) → TookFirst r c es i → slice_get es i ≡ Some e
+    → s.taken ≡ r.taken ++ e ∷ [] → s.machine.cores.code ≡ r.machine.cores.code → TookFirst s c es (i + 1)
+took-more r s c es i e t at more code = record {
+  taken = more ∙ ap (λ xs. xs ++ e ∷ []) t.taken ∙ sym (first-longer es i e at);
+  code = code ∙ t.code;
+}
+
+pub took-none : (r : Refined) (c : Contents) (es : List Event) → r.taken ≡ [] → r.machine.cores.code ≡ c → TookFirst r c es 0
+took-none r c es taken code = record { taken = taken ∙ sym (take-none es); code = code }
+  where
+    take-none : (xs : List Event) → take 0 xs ≡ []
+    take-none [] = refl
+    take-none (x ∷ xs) = refl
+
+take-whole : (es : List Event) → take (length es) es ≡ es
+take-whole [] = refl
+take-whole (x ∷ es) = ap (λ xs. x ∷ xs) (take-whole es)
+
+pub took-whole : (r : Refined) (c : Contents) (es : List Event) (i : ℕ) → TookFirst r c es i → i ≡ length es → r.taken ≡ es
+took-whole r c es i t e = t.taken ∙ ap (λ k. take k es) e ∙ take-whole es
+
+first-length : (es : List Event) (i : ℕ) → i ≤ length es → length (take i es) ≡ i
+first-length es zero h = none es
+  where
+    none : (xs : List Event) → length (take 0 xs) ≡ 0
+    none [] = refl
+    none (x ∷ xs) = refl
+first-length [] (suc i) h = omega (arith, h)
+first-length (x ∷ es) (suc i) h = ap suc (first-length es i (omega (arith, h)))
+
+pub took-length : (r : Refined) (c : Contents) (es : List Event) (i : ℕ) → TookFirst r c es i → i ≤ length es → length r.taken ≡ i
+took-length r c es i t h = ap length t.taken ∙ first-length es i h
+
+-- the history of a machine by its events
+reached-by : (r : Refined) (c : Contents) (es : List Event) (i : ℕ) → IsRefined r → TookFirst r c es i
+    → history_by c (take i es) ≡ Some (history_of r.machine)
+reached-by r c es i k t =
+    subst (λ d. history_by d (take i es) ≡ Some (history_of r.machine)) t.code
+    (subst (λ xs. history_by r.machine.cores.code xs ≡ Some (history_of r.machine)) t.taken k.is_run)
+
+is-there : (o : Option History) (h : History) → o ≡ Some h → IsSome o
+is-there None h e = absurd (cc)
+is-there (Some g) h e = refl
+
+no-next : (m : Machine) (e : Event) → step_of m (event_of e) ≡ None
+    → next (settings_of m) (program_of m) (history_of m) (event_of e) ≡ None
+unfolding next history_of
+no-next m e q = ap (recorded (history_of m)) q
+
+-- what is not enabled after the first i is the first that isn't enabled at its turn
+pub refused-here : (r : Refined) (c : Contents) (es : List Event) (i : ℕ) (e : Event) → IsRefined r → TookFirst r c es i → i < length es
+    → slice_get es i ≡ Some e → step_of r.machine (event_of e) ≡ None → IsRefusedAt c es i
+refused-here r c es i e k t there at none = record {
+  there = there;
+  before = is-there (history_by c (take i es)) (history_of r.machine) (reached-by r c es i k t);
+  refused = subst (λ d. history_by d (take (i + 1) es) ≡ None) t.code
+      (ap (λ xs. history_by r.machine.cores.code xs) (first-longer es i e at ∙ ap (λ xs. xs ++ e ∷ []) (sym t.taken))
+      ∙ ap (run (settings_of r.machine) (program_of r.machine) (world_at_start (started r.machine.cores.code)))
+        (map-append event_of r.taken (e ∷ []))
+      ∙ run-on (settings_of r.machine) (program_of r.machine) (world_at_start (started r.machine.cores.code)) (map event_of r.taken) (event_of e)
+      (history_of r.machine) k.is_run
+      ∙ no-next r.machine e none);
+}
+
+-- ---- one start and one list of events, one machine
+
+same-history : (g h : History) → Some g ≡ Some h → g ≡ h
+same-history g h e = cc
+
+pub one-machine : EqualEventsGiveEqualMachines
+one-machine r s k l code taken =
+    same-history (history_of r.machine) (history_of s.machine)
+    (sym k.is_run ∙ (λ i. history_by (code i) (taken i)) ∙ l.is_run)
+
+-- ---- nothing of what was taken is refused
+
+stuck-on : (sh : Settings) (p : Program) (es : List Event) (k : ℕ) (h : History) → run_from sh p (map event_of (take k es)) h ≡ None
+    → run_from sh p (map event_of es) h ≡ None
+unfolding run_from
+stuck-on sh p [] zero h e = e
+stuck-on sh p [] (suc k) h e = e
+stuck-on sh p (x ∷ es) zero h e = absurd (cc)
+stuck-on sh p (x ∷ es) (suc k) h e =
+    go (next sh p h (event_of x)) (λ g. stuck-on sh p es k g) e
+  where
+    go : (o : Option History)
+        → ((g : History) → run_from sh p (map event_of (take k es)) g ≡ None → run_from sh p (map event_of es) g ≡ None)
+        → and_then (run_from sh p (map event_of (take k es))) o ≡ None → and_then (run_from sh p (map event_of es)) o ≡ None
+    go None rest q = refl
+    go (Some g) rest q = rest g q
+
+no-run : (c : Contents) (es : List Event) (k : ℕ) → history_by c (take k es) ≡ None → history_by c es ≡ None
+unfolding run
+no-run c es k e = stuck-on c.settings (program (started c)) es k (record { world = world_at_start (started c); commits = [] }) e
+
+pub none-refused : TakenIsNotRefused
+none-refused r k i f =
+    let none = no-run r.machine.cores.code r.taken (i + 1) f.refused in
+    let some : history_by r.machine.cores.code r.taken ≡ Some (history_of r.machine) = k.is_run in
+    absurd (cc)

@@ -1,0 +1,36 @@
+-- What the replay of a list of events answers.
+use Rattle.std.specs.Prelude.{ℕ, ◌+◌, ◌<◌, ◌≡◌, List, length, map, take, Option, IsSome, None}
+use Rattle.image_load.specs.Contents.{Contents, started}
+use Rattle.rv_code.specs.Machine.{program}
+use Rattle.rv_serial.specs.Suiting.{world_at_start}
+use Rattle.tcc_msg.specs.Plain.{event_of}
+use Rattle.tcc_msg.specs.declared.event.Event.{Event}
+use Rattle.tcc_rules.specs.Step.{History, run}
+use Rattle.net_core.specs.Machine.{history_of}
+use Rattle.tcc_refine.specs.Refined.{IsRefined, Refined}
+use Rattle.tcc_replay.specs.declared.replaying.ReplayFault.{ReplayFault}
+use Rattle.tcc_replay.specs.declared.replaying.ReplayFault.TheVariants.{Memory, Refused}
+
+-- the state and the commits to which the rules lead by these events from the start of what was loaded; None: one of them isn't
+-- enabled at its turn
+abbrev pub history_by : Contents → List Event → Option History
+history_by c es = run c.settings (program (started c)) (world_at_start (started c)) (map event_of es)
+
+-- event i, from 0, is the first that isn't enabled at its turn
+pub record IsRefusedAt (c : Contents) (es : List Event) (i : ℕ) : Type 0 where
+  pub there : i < length es
+  pub before : IsSome (history_by c (take i es))
+  pub refused : history_by c (take (i + 1) es) ≡ None
+
+abbrev pub IsReplayFault : Contents → List Event → ReplayFault → Type 0
+IsReplayFault c es (Refused i) = IsRefusedAt c es i
+IsReplayFault c es Memory = Unit {0}
+
+-- what a machine holds is told by its start and its events
+abbrev pub EqualEventsGiveEqualMachines : Type 0
+EqualEventsGiveEqualMachines = (r s : Refined) → IsRefined r → IsRefined s → r.machine.cores.code ≡ s.machine.cores.code
+    → r.taken ≡ s.taken → history_of r.machine ≡ history_of s.machine
+
+-- none of them is refused
+abbrev pub TakenIsNotRefused : Type 0
+TakenIsNotRefused = (r : Refined) → IsRefined r → (i : ℕ) → IsRefusedAt r.machine.cores.code r.taken i → ⊥

@@ -1,0 +1,10 @@
+// The machine that a list of events leads to, taken one after another.
+#![tactic(auto)]
+
+mod replaying;
+#[cfg(test)]
+mod tests;
+
+pub use replaying::{
+    ReplayFault, equal_events_give_equal_machines, replay, what_was_taken_is_not_refused,
+};
