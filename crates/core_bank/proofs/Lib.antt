@@ -6,3 +6,4 @@ pub mod Totals
 pub mod Choices
 pub mod Starts
 pub mod Resting
+pub mod Lemmas

@@ -30,7 +30,8 @@ impl DirBank {
     pub fn line_state(&self, line: LineAddr) -> LineState
         requires inside { line.0 < lines self.now.settings }
         ensures mark { (ram : ℕ → ℕ) → result.mark.0 ≡ (dirs_of ram self.now (home self.now.settings line.0)).lines.mark line.0 }
-        ensures owner { (ram : ℕ → ℕ) → option_map (λ c. c.0) result.owner ≡ (dirs_of ram self.now (home self.now.settings line.0)).lines.owner line.0 }
+        ensures owner { (ram : ℕ → ℕ) → option_map (λ c. c.0) result.owner
+            ≡ (dirs_of ram self.now (home self.now.settings line.0)).lines.owner line.0 }
         ensures asked { (ram : ℕ → ℕ) → result.asked ≡ (dirs_of ram self.now (home self.now.settings line.0)).lines.asked line.0 }
         ensures tag { (ram : ℕ → ℕ) → result.tag.0 ≡ (dirs_of ram self.now (home self.now.settings line.0)).lines.tag line.0 }
     {

@@ -18,15 +18,13 @@ use Rattle.tcc_rules.specs.State.{Link}
 use Rattle.core_bank.specs.Bank.{cores_of}
 use Rattle.core_bank.specs.Rest.{IsAtRest}
 use Rattle.in_flight.specs.Flights.{net_of}
-use Rattle.in_flight.proofs.Placing.{node_eq-own}
 use Rattle.net_core.specs.Machine.{Machine, history_of, settings_of, world_of}
 use Rattle.net_core.specs.Whole.{IsWhole}
+use Rattle.net_core.proofs.Links.Placing.{node_eq-itself}
+use Rattle.net_core.proofs.Words.Newest.{own-word}
 use Rattle.net_core.proofs.Reaching.{settled-net, whole-bounded}
 
 -- ---- one cache
-
-own-word : (w : ℕ) → word_at (line_of w) (place_of w) ≡ w
-own-word w = omega arith
 
 -- no line has a dirty word where no line in memory has one
 clean-word : (sh : Shape) (c : Cache) (v : ℕ) → CacheInMemory sh c → any_below (is_dirty c) (lines sh) ≡ false → c.dirty v ≡ None
@@ -66,7 +64,8 @@ sent-flies : (net : Node → Node → Link) (n : NodeId) (e : NodeId × Msg) (es
     → in_flight (sending net (node_of n) (sends_of (e ∷ es))) (node_of n) (node_of e.0) (length (net (node_of n) (node_of e.0)))
     ≡ Some (msg_of e.1)
 unfolding sends_of sent_all
-sent-flies net n e es = rw (node_eq-own (node_of n), node_eq-own (node_of e.0)) (behind (net (node_of n) (node_of e.0)) (msg_of e.1) _)
+sent-flies net n e es = rw (node_eq-itself (node_of n), node_eq-itself (node_of e.0))
+    (behind (net (node_of n) (node_of e.0)) (msg_of e.1) _)
 
 -- where nothing is in flight all that was sent stands on its links
 quiet-settled : (m : Machine) → ((src dst : Node) (k : ℕ) → in_flight (world_of m).net src dst k ≡ None) → m.unsent ≡ []

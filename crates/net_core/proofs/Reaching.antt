@@ -1,7 +1,7 @@
 -- What a machine that the rules have led to keeps to, and that it is still one after one more event.
 use Rattle.std.proofs.Common.{◌≡◌, ℕ, zero, suc, ◌+◌, ◌^◌, ◌<◌, ◌≤◌, Bool, true, false, ◌&&◌, List, [], ◌∷◌, ◌++◌, length, Option}
 use Rattle.std.proofs.Common.{Some, None, refl, ap, sym, ◌∙◌, subst, arith}
-use Rattle.std.specs.Prelude.{nat_lt, ◌==◌, IfSome, drop, if◌then◌else◌}
+use Rattle.std.specs.Prelude.{nat_lt, ◌==◌, IfSome, drop}
 use Rattle.std.proofs.lemmas.Bool.Decides.{nat_tests}
 use Rattle.image_load.specs.Contents.{Contents, started}
 use Rattle.rv_code.specs.Machine.{program}
@@ -10,12 +10,12 @@ use Rattle.tcc_base.specs.Settings.{Settings, IsAllowed}
 use Rattle.tcc_live.specs.Fits.{fits, goes_to_dir, goes_to_core}
 use Rattle.tcc_maps.specs.Bridge.{node_of}
 use Rattle.tcc_maps.specs.Nodes.{Node, Core, Dir, Vendor, Event, Msg, TidReq, TidGrant, LoadReq, Fill, Skip, Probe, ProbeReply, Mark}
-use Rattle.tcc_maps.specs.Nodes.{Commit, Abort, WriteBack, Flush, DataReq, Inv, InvAck, node_eq}
+use Rattle.tcc_maps.specs.Nodes.{Commit, Abort, WriteBack, Flush, DataReq, Inv, InvAck}
 use Rattle.tcc_maps.specs.Shape.{home, lines}
 use Rattle.tcc_msg.specs.Plain.{sends_of}
 use Rattle.tcc_program.specs.Program.{Program}
-use Rattle.tcc_rules.specs.Links.{in_flight, sending, sent_all}
-use Rattle.tcc_rules.specs.State.{World, Link}
+use Rattle.tcc_rules.specs.Links.{in_flight, sending}
+use Rattle.tcc_rules.specs.State.{World}
 use Rattle.tcc_rules.specs.Step.{History, and_then, next, run, run_from}
 use Rattle.tcc_bounds.specs.Bounds.{IsBounded}
 use Rattle.tcc_bounds.specs.Messages.{InBounds, IsLine, WasGranted, line_named, tid_named}
@@ -26,6 +26,7 @@ use Rattle.net_core.specs.Delivery.{AllMayGo, MayGo}
 use Rattle.net_core.specs.Machine.{Machine, history_of, program_of, settings_of, start_of, world_of}
 use Rattle.net_core.specs.Reached.{Reached}
 use Rattle.net_core.specs.Whole.{IsWhole}
+use Rattle.net_core.proofs.Links.Placing.{sending-none}
 
 -- ---- one more event
 
@@ -59,7 +60,8 @@ pub reached-on : (m n : Machine) (e : Event) → Reached m → next (settings_of
 reached-on m n e r step count code = record {
   taken = r.taken ++ e ∷ [];
   count = one-longer r.taken e ∙ ap (λ k. k + 1) r.count ∙ sym count;
-  reaches = subst (λ c. run c.settings (program (started c)) (world_at_start (started c)) (r.taken ++ e ∷ []) ≡ Some (history_of n)) (sym code)
+  reaches = subst (λ c. run c.settings (program (started c)) (world_at_start (started c)) (r.taken ++ e ∷ []) ≡ Some (history_of n))
+      (sym code)
       (run-on (settings_of m) (program_of m) (world_at_start (start_of m)) r.taken e (history_of m) r.reaches ∙ step);
 }
 
@@ -181,22 +183,11 @@ small-tids m w few src dst k x e =
 
 -- ---- nothing stands beside the links
 
-nothing-sent : (net : Node → Node → Link) (n : Node) → sending net n (sends_of []) ≡ net
-unfolding sends_of sent_all
-nothing-sent net n = λ i src dst. (here (node_eq src n) (net src dst)) i
-  where
-    longer : (l : Link) → l ++ [] ≡ l
-    longer [] = refl
-    longer (x ∷ l) = ap (λ r. x ∷ r) (longer l)
-
-    here : (b : Bool) (l : Link) → (if b then l ++ [] else l) ≡ l
-    here true l = longer l
-    here false l = refl
-
 -- where all that was sent stands on its links these are the world's
 pub settled-net : (m : Machine) → m.unsent ≡ [] → (world_of m).net ≡ net_of m.flights
 unfolding world_of
-settled-net m e = ap (λ xs. sending (net_of m.flights) (node_of m.sender) (sends_of xs)) e ∙ nothing-sent (net_of m.flights) (node_of m.sender)
+settled-net m e = ap (λ xs. sending (net_of m.flights) (node_of m.sender) (sends_of xs)) e
+    ∙ sending-none (net_of m.flights) (node_of m.sender)
 
 pub nothing-left : {A : Type 0} → (n : ℕ) (xs : List A) → xs ≡ [] → drop n xs ≡ []
 nothing-left n xs e = ap (drop n) e ∙ none n

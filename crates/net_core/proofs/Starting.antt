@@ -15,7 +15,7 @@ use Rattle.net_core.specs.Delivery.{AreMarked}
 use Rattle.net_core.specs.Machine.{Machine, history_of, settings_of, start_of, world_of}
 use Rattle.net_core.specs.Reached.{Reached, first_history}
 use Rattle.net_core.specs.Whole.{IsWhole}
-use Rattle.net_core.proofs.Unsent.{sending-none}
+use Rattle.net_core.proofs.Links.Placing.{sending-none}
 
 -- what the parts of the first machine are
 pub record IsFirst (c : Contents) (m : Machine) : Type 0 where

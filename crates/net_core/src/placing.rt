@@ -15,7 +15,8 @@ use tcc_msg::{Msg, Outgoing};
 /// Whether a message may be delivered.
 pub(crate) fn is_ready(dirs: &DirBank, src: NodeId, dst: NodeId, msg: &Msg) -> bool
     requires { MayGo dirs.now.settings (node_of src) (node_of dst) (msg_of msg.now) }
-    ensures { (ram : ℕ → ℕ) → result ≡ is_deliverable dirs.now.settings (dirs_of ram dirs.now) (node_of src) (node_of dst) (msg_of msg.now) }
+    ensures { (ram : ℕ → ℕ) → result
+        ≡ is_deliverable dirs.now.settings (dirs_of ram dirs.now) (node_of src) (node_of dst) (msg_of msg.now) }
 {
     match (src, dst) {
         (NodeId::Core(core), NodeId::Dir(dir)) => dirs.takes(dir, core, msg),
@@ -34,12 +35,15 @@ pub(crate) fn place_all(
 ) -> Result<(), NoMemory>
     requires cores { flights.old.cores ≡ dirs.now.settings.cores }
     requires dirs { flights.old.dirs ≡ dirs.now.settings.dirs }
-    requires go { AllMayGo dirs.now.settings (sending (net_of flights.old) (node_of sender) (sends_of (drop placed.old out.now.list.items))) }
+    requires go { AllMayGo dirs.now.settings (sending (net_of flights.old) (node_of sender)
+        (sends_of (drop placed.old out.now.list.items))) }
     ensures cores { flights.new.cores ≡ flights.old.cores }
     ensures dirs { flights.new.dirs ≡ flights.old.dirs }
-    ensures net { sending (net_of flights.new) (node_of sender) (sends_of (drop placed.new out.now.list.items)) ≡ sending (net_of flights.old) (node_of sender) (sends_of (drop placed.old out.now.list.items)) }
+    ensures net { sending (net_of flights.new) (node_of sender) (sends_of (drop placed.new out.now.list.items))
+        ≡ sending (net_of flights.old) (node_of sender) (sends_of (drop placed.old out.now.list.items)) }
     ensures all { OnOk result (drop placed.new out.now.list.items ≡ []) }
-    ensures marked { (ram : ℕ → ℕ) → AreMarked dirs.now.settings (dirs_of ram dirs.now) flights.old → AreMarked dirs.now.settings (dirs_of ram dirs.now) flights.new }
+    ensures marked { (ram : ℕ → ℕ) → AreMarked dirs.now.settings (dirs_of ram dirs.now) flights.old
+        → AreMarked dirs.now.settings (dirs_of ram dirs.now) flights.new }
 {
     while *placed < out.list.len() {
         let (dst, msg) = out.list[*placed];

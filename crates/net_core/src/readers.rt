@@ -69,7 +69,8 @@ impl System {
     pub fn line_state(&self, line: LineAddr) -> LineState
         requires { line.0 < lines (settings_of self.now) }
         ensures mark { let d = (world_of self.now).dirs (home (settings_of self.now) line.0) in result.mark.0 ≡ d.lines.mark line.0 }
-        ensures owner { let d = (world_of self.now).dirs (home (settings_of self.now) line.0) in option_map (λ c. c.0) result.owner ≡ d.lines.owner line.0 }
+        ensures owner { let d = (world_of self.now).dirs (home (settings_of self.now) line.0) in
+            option_map (λ c. c.0) result.owner ≡ d.lines.owner line.0 }
         ensures asked { let d = (world_of self.now).dirs (home (settings_of self.now) line.0) in result.asked ≡ d.lines.asked line.0 }
         ensures tag { let d = (world_of self.now).dirs (home (settings_of self.now) line.0) in result.tag.0 ≡ d.lines.tag line.0 }
     {

@@ -1,6 +1,6 @@
 // The machine takes events.
-ghost use Rattle.std.specs.Prelude.{◌≡◌, ◌≢◌, ◌+◌, ◌<◌, ◌≤◌, ◌↔◌, [], length, Err, IsTrue, None, Some, IsErrOf, IfOk, IfErr, OnOk};
-ghost use Rattle.std.specs.Prelude.{OnErr, is_ok, if◌then◌else◌};
+ghost use Rattle.std.specs.Prelude.{◌≡◌, ◌≢◌, ◌+◌, ◌<◌, ◌≤◌, ◌↔◌, [], length, Err, IsTrue, None, Some, IsErrOf, IfOk, IfErr, OnOk, OnErr};
+ghost use Rattle.std.specs.Prelude.{is_ok, if◌then◌else◌};
 ghost use Rattle.tcc_msg.specs.Plain.{event_of};
 ghost use Rattle.tcc_rules.specs.Step.{next};
 ghost use Rattle.net_core.specs.Answers.{Answers, Kept, Ran, StoppedAt, step_of, tid_noted, tid_told};
@@ -57,7 +57,8 @@ impl System {
     /// costs in the messages that wait for it.
     pub fn step(&mut self, e: Event) -> Result<Step, StepError>
         requires { self.old.events < 4194304 }
-        ensures next { OnOk result (next (settings_of self.old) (program_of self.old) (history_of self.old) (event_of e) ≡ Some (history_of self.new)) }
+        ensures next { OnOk result
+            (next (settings_of self.old) (program_of self.old) (history_of self.old) (event_of e) ≡ Some (history_of self.new)) }
         ensures told { IfOk result (λ s. tid_told s ≡ tid_noted (step_of self.old (event_of e))) }
         ensures refused { IsErrOf result StepError.Refused ↔ (step_of self.old (event_of e) ≡ None) }
         ensures unchanged { OnErr result (history_of self.new ≡ history_of self.old) }

@@ -2,10 +2,11 @@
 ghost use Rattle.std.specs.Prelude.{◌≡◌, [], IfOk};
 
 use crate::{Step, StepError, System};
+use directory::LineState;
 use image_load::{load, raw};
 use std::alloc::Global;
 use std::test::Fail;
-use tcc_base::{Config, CoreEnd, CoreId, DirId, List, NodeId, WordAddr};
+use tcc_base::{Config, CoreEnd, CoreId, DirId, LineAddr, List, Mask, NodeId, Tid, WordAddr};
 use tcc_msg::{Event, Name};
 
 const C0: NodeId = NodeId::Core(CoreId(0));
@@ -183,6 +184,32 @@ fn word(system: &System, w: u32) -> Option<u32> {
     Some(system.seen_word(WordAddr(w)))
 }
 
+// The useful events, where all that was sent stands on its links.
+fn useful(alloc: Global, system: &System) -> Result<List<Event>, Fail> {
+    if !system.is_settled() {
+        return Err("some messages don't stand on their links")?;
+    }
+    Ok(system.useful(alloc)?)
+}
+
+// Whether one event is useful.
+fn is_useful(system: &System, e: Event) -> Option<bool> {
+    if !system.is_settled() {
+        return None;
+    }
+    Some(system.is_useful(e))
+}
+
+// The TID that a directory serves, how many lines it has marked, and what the home of a line knows of it.
+fn known(system: &System, dir: u8, line: u32) -> Option<(u64, u32, LineState)> {
+    if dir >= system.config().dirs() || line >= system.config().words() / 8 {
+        return None;
+    }
+    let dir = DirId(dir);
+    let state = system.line_state(LineAddr(line));
+    Some((system.serving(dir).0, system.marked_lines(dir), state))
+}
+
 // Takes the useful event of number 0, where there is one.
 fn take_first(system: &mut System) -> Option<Result<Step, StepError>> {
     if !system.is_settled() || system.events() >= 1_000 {
@@ -229,6 +256,35 @@ fn a_later_tid_commits_first_at_another_directory(rt: HostRuntime) -> Result<(),
         (Some(0x8000_0000), Some(0x8000_002c))
     );
     assert_eq!(rt; (word(&system, 16), word(&system, 24)), (Some(0), Some(2)));
+    Ok(())
+}
+
+#[test]
+fn useful_events_are_told_from_others(rt: HostRuntime) -> Result<(), Fail> {
+    let mut system = begun(rt.alloc(), 2, 2, [&STORES_16, &STORES_24])?;
+    assert_eq!(rt; system.run(&CROSSED[..14]), Ok(()));
+    let listed = useful(rt.alloc(), &system)?;
+    assert_eq!(rt;
+        listed.items.as_slice(),
+        events![(e 1) (x 1 3 0) (d C0 D0 0) (d C1 D0 0) (d C1 D1 1)].as_slice()
+    );
+    assert_eq!(rt; is_useful(&system, event!(x 1 3 0)), Some(true));
+    assert_eq!(rt; is_useful(&system, event!(x 0 2 0)), Some(false));
+    assert_eq!(rt; is_useful(&system, event!(e 0)), Some(false));
+    Ok(())
+}
+
+#[test]
+fn a_home_tells_of_its_line(rt: HostRuntime) -> Result<(), Fail> {
+    let mut system = begun(rt.alloc(), 2, 2, [&STORES_24, &COPIES_24_TO_16])?;
+    assert_eq!(rt; system.run(&READER_WAITS[..22]), Ok(()));
+    let marked = LineState {
+        mark: Mask(1),
+        owner: None,
+        asked: false,
+        tag: Tid(0),
+    };
+    assert_eq!(rt; known(&system, 1, 3), Some((1, 1, marked)));
     Ok(())
 }
 

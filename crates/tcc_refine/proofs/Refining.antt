@@ -13,7 +13,7 @@ use Rattle.tcc_msg.specs.declared.event.Event.{Event as CodeEvent}
 use Rattle.tcc_rules.specs.Step.{History, next, run, run_from}
 use Rattle.net_core.specs.Machine.{Machine, history_of, program_of, settings_of, start_of}
 use Rattle.net_core.specs.Reached.{first_history}
-use Rattle.net_core.proofs.Reaching.{run-on}
+use Rattle.net_core.proofs.Lemmas.{run-on}
 use Rattle.tcc_refine.specs.Refined.{IsRefined, IsRunOf}
 
 serial-of : (c : Contents) (es : List Event) (h : History) → IsAllowed c.settings

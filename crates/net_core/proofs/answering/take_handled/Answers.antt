@@ -4,7 +4,7 @@ use Rattle.tcc_maps.specs.Bridge.{node_of}
 use Rattle.tcc_rules.specs.Links.{in_flight}
 use Rattle.in_flight.specs.Flights.{is_ready, net_of}
 use Rattle.in_flight.proofs.Lemmas.{with_mark-other}
-use Rattle.net_core.proofs.Taken.{still-flies}
+use Rattle.net_core.proofs.Events.Marks.{still-flies}
 use Rattle.net_core.proofs.answering.take_handled.Goals as goal
 
 pub returns-in-Handled-clause-marks : goal.returns-in-Handled-clause-marks

@@ -3,8 +3,8 @@ use Rattle.std.proofs.Common.{◌+◌, ◌<◌, ◌≤◌, length, drop, refl, s
 use Rattle.std.specs.Prelude.{slice_get}
 use Rattle.tcc_maps.specs.Bridge.{node_of}
 use Rattle.tcc_msg.specs.Plain.{sends_of}
-use Rattle.net_core.proofs.Sought.{sought-here, sought-none, sought-other, sought-past}
-use Rattle.net_core.proofs.Unsent.{next-first}
+use Rattle.net_core.proofs.Links.Seeking.{sought-here, sought-none, sought-other, sought-past}
+use Rattle.net_core.proofs.Links.Placing.{next-first}
 use Rattle.net_core.proofs.enabling.unsent_at.Goals as goal
 use Rattle.net_core.proofs.enabling.unsent_at.Goals.{then-same_node+else-left-eq0, else-same_node}
 

@@ -1,6 +1,6 @@
 -- One more message is put on its link.
 use Rattle.std.proofs.Common.{◌<◌, length, arith}
-use Rattle.net_core.proofs.Unsent.{next-first, next-goes, next-link, placed-step}
+use Rattle.net_core.proofs.Links.Placing.{next-first, next-goes, next-link, placed-step}
 use Rattle.net_core.proofs.placing.place_all.Goals as goal
 
 pub is_ready-ready-requires : goal.is_ready-ready-requires

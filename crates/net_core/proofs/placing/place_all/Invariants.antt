@@ -1,6 +1,6 @@
 -- The first so many messages stand on their links.
 use Rattle.std.proofs.Common.{◌-◌, length}
-use Rattle.net_core.proofs.Unsent.{Placed}
+use Rattle.net_core.proofs.Links.Placing.{Placed}
 use Rattle.net_core.proofs.placing.place_all.Given as goal
 
 abbrev pub invariant-loop-placed : goal.invariant-loop-placed

@@ -1,6 +1,6 @@
 -- The line is the word's, and the mask has its place.
 use Rattle.std.proofs.Common.{◌∙◌}
-use Rattle.net_core.proofs.Newest.{hit-elsewhere, hit-own}
+use Rattle.net_core.proofs.Words.Newest.{hit-elsewhere, hit-own}
 use Rattle.net_core.proofs.seeing.carries.Goals as goal
 
 pub returns-then-line-w : goal.returns-then-line-w

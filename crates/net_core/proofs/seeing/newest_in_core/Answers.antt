@@ -3,7 +3,7 @@ use Rattle.std.proofs.Common.{◌∙◌, ap, sym}
 use Rattle.tcc_rules.specs.Seen.{copy_in, newest}
 use Rattle.core_bank.specs.Bank.{cores_of}
 use Rattle.net_core.specs.Copies.{plain_copy}
-use Rattle.net_core.proofs.Newest.{frame-copy, newest-none, unframed}
+use Rattle.net_core.proofs.Words.Newest.{frame-copy, newest-none, unframed}
 use Rattle.net_core.proofs.seeing.newest_in_core.Goals as goal
 
 pub returns-in-Some : goal.returns-in-Some

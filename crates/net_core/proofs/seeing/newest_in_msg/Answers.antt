@@ -1,5 +1,5 @@
 -- No other message carries words home.
-use Rattle.net_core.proofs.Newest.{newest-wordless}
+use Rattle.net_core.proofs.Words.Newest.{newest-wordless}
 use Rattle.net_core.proofs.seeing.newest_in_msg.Goals as goal
 
 pub returns-in_default : goal.returns-in_default

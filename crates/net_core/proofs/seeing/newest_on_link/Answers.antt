@@ -5,7 +5,7 @@ use Rattle.tcc_msg.specs.Plain.{msg_of}
 use Rattle.tcc_rules.specs.Seen.{copy_of, newest}
 use Rattle.in_flight.specs.Flights.{net_of}
 use Rattle.net_core.specs.Copies.{plain_copy}
-use Rattle.net_core.proofs.Newest.{newest-all, newest-more, newest-none, waiting_on}
+use Rattle.net_core.proofs.Words.Newest.{newest-all, newest-more, newest-none, waiting_on}
 use Rattle.net_core.proofs.Prefixes.{none-past}
 use Rattle.net_core.proofs.seeing.newest_on_link.Goals as goal
 use Rattle.net_core.proofs.seeing.newest_on_link.Goals.{in-Some, in_default}

@@ -6,7 +6,7 @@ use Rattle.tcc_rules.specs.Seen.{newest}
 use Rattle.tcc_rules.specs.State.{Link}
 use Rattle.in_flight.specs.Flights.{net_of}
 use Rattle.net_core.specs.Copies.{plain_copy}
-use Rattle.net_core.proofs.Newest.{copy_at, waiting_on}
+use Rattle.net_core.proofs.Words.Newest.{copy_at, waiting_on}
 use Rattle.net_core.proofs.seeing.newest_on_link.Given as goal
 
 abbrev pub invariant-loop-i : goal.invariant-loop-i

@@ -1,6 +1,6 @@
 -- The word is one of them, or isn't.
 use Rattle.std.proofs.Common.{◌∙◌, sym}
-use Rattle.net_core.proofs.Newest.{newest-carried, newest-other}
+use Rattle.net_core.proofs.Words.Newest.{newest-carried, newest-other}
 use Rattle.net_core.proofs.seeing.newest_under.Goals as goal
 
 pub returns-then-carries : goal.returns-then-carries

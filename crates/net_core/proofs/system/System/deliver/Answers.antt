@@ -4,7 +4,7 @@ use Rattle.tcc_maps.specs.Bridge.{node_of}
 use Rattle.tcc_maps.specs.Nodes.{Deliver}
 use Rattle.net_core.specs.Answers.{step_of}
 use Rattle.net_core.specs.Inside.{machine_of}
-use Rattle.net_core.proofs.Ends.{absent, has-core}
+use Rattle.net_core.proofs.Events.Ends.{absent, has-core}
 use Rattle.net_core.proofs.system.System.deliver.Goals as goal
 
 -- it isn't in flight

@@ -21,15 +21,16 @@ use Rattle.net_core.specs.Inside.{machine_of}
 use Rattle.net_core.specs.Machine.{Machine, settings_of, start_of, world_of}
 use Rattle.net_core.specs.declared.taking.Step.TheVariants.{Moved}
 use Rattle.net_core.proofs.Reaching.{nothing-left, settled-net}
-use Rattle.net_core.proofs.Acted.{StaysBut, same-dirs, stays-whole, took-whole}
-use Rattle.net_core.proofs.CoreActed.{ActsFrom, CoreThere, after_core, after_none, core-there, known, refused-take, take-step}
-use Rattle.net_core.proofs.CoreActed.{took-take, unnoted-as}
-use Rattle.net_core.proofs.Taken.{marks-taken}
-use Rattle.net_core.proofs.Unnoted.{deliver-unnoted}
+use Rattle.net_core.proofs.Events.Kept.{StaysBut, same-dirs, stays-whole, took-whole}
+use Rattle.net_core.proofs.Events.Cores.{ActsFrom, CoreThere, after_core, after_none, core-there, known, refused-take, take-step, took-take}
+use Rattle.net_core.proofs.Events.Cores.{unnoted-as}
+use Rattle.net_core.proofs.Events.Marks.{marks-taken}
+use Rattle.net_core.proofs.Events.Unnoted.{deliver-unnoted}
 use Rattle.net_core.proofs.system.System.deliver_to_core.Goals as goal
 
 -- the message is in flight in the world
-flown : (m : Machine) (n : Machine) (s : Node) (c k : ℕ) (x : Msg) → m ≡ n → n.unsent ≡ [] → in_flight (net_of n.flights) s (Core c) k ≡ Some x
+flown : (m : Machine) (n : Machine) (s : Node) (c k : ℕ) (x : Msg) → m ≡ n → n.unsent ≡ []
+    → in_flight (net_of n.flights) s (Core c) k ≡ Some x
     → in_flight (world_of m).net s (Core c) k ≡ Some x
 flown m n s c k x e u f = subst (λ y. in_flight (world_of y).net s (Core c) k ≡ Some x) (sym e)
     (subst (λ net. in_flight net s (Core c) k ≡ Some x) (sym (settled-net n u)) f)
@@ -38,7 +39,8 @@ is-there : (c : goal.After-deliver-arg-2-1) → CoreThere (settings_of (machine_
 is-there c =
     let m = machine_of c.self.inside in
     core-there m c.self.invariant (node_of c.args.name.src) c.args.core.0 c.args.name.seq (msg_of c.args.msg)
-    (flown m c.args.self.now (node_of c.args.name.src) c.args.core.0 c.args.name.seq (msg_of c.args.msg) c.self.view_is c.requires.settled c.requires.flies)
+    (flown m c.args.self.now (node_of c.args.name.src) c.args.core.0 c.args.name.seq
+    (msg_of c.args.msg) c.self.view_is c.requires.settled c.requires.flies)
 
 pub deliver-requires-clause-exists : goal.deliver-requires-clause-exists
 deliver-requires-clause-exists c = (is-there c).core
@@ -89,7 +91,8 @@ returns-in-Err c =
     (subst (λ r. Answers m n e (Err r)) (sym c.refusal.ensures)
     (refused-take (Unit {0}) m n e (node_of c.args.name.src) c.args.core.0 c.args.name.seq c.in-Err.error
     (rule m c.args.name.src c.args.core c.args.msg) (stays c) c.in-Err.ensures.blocked
-    (stepped m c.args.self.now c.args.name.src c.args.core c.args.name.seq c.args.msg c.self.invariant c.self.view_is c.requires.settled c.requires.flies)))
+    (stepped m c.args.self.now c.args.name.src c.args.core c.args.name.seq c.args.msg c.self.invariant c.self.view_is
+    c.requires.settled c.requires.flies)))
 
 -- ---- the message is taken
 
@@ -121,7 +124,8 @@ took c =
     let n = after_core c.self.inside c.deliver.new.self c.deliver.new.out c.take.new.self c.args.core in
     took-take m n (event c.args.name.src c.args.core c.args.name.seq) (node_of c.args.name.src) c.args.core.0 c.args.name.seq
     c.clear.new.self c.deliver.new.out Moved (rule m c.args.name.src c.args.core c.args.msg) (acts c) c.in-Ok.ensures.does (link c)
-    (stepped m c.args.self.now c.args.name.src c.args.core c.args.name.seq c.args.msg c.self.invariant c.self.view_is c.requires.settled c.requires.flies)
+    (stepped m c.args.self.now c.args.name.src c.args.core c.args.name.seq c.args.msg c.self.invariant c.self.view_is
+    c.requires.settled c.requires.flies)
     (unnoted-as m n (rule m c.args.name.src c.args.core c.args.msg) c.args.core.0 c.clear.new.self c.deliver.new.out c.in-Ok.ensures.does
     (deliver-unnoted (settings_of m) (cores_of m.cores c.args.core.0) (node_of c.args.name.src) (msg_of c.args.msg)) refl)
 
@@ -132,9 +136,11 @@ invariant_of-self-in-Ok c =
     took-whole m n (event c.args.name.src c.args.core c.args.name.seq) Moved c.self.invariant
     (subst (λ m. m.events < 4194304) (sym c.self.view_is) c.requires.few) (took c) refl c.take.ensures.cores c.take.ensures.dirs
     (subst (λ ds. AreMarked (settings_of m) ds c.take.new.self) (sym (same-dirs m n c.in-Ok.ensures.code refl))
-    (marks-taken (settings_of m) (dirs_of (first_ram (start_of m)) m.dirs) c.self.inside.flights c.take.new.self (node_of c.args.name.src) (Core c.args.core.0)
+    (marks-taken (settings_of m) (dirs_of (first_ram (start_of m)) m.dirs) c.self.inside.flights c.take.new.self
+    (node_of c.args.name.src) (Core c.args.core.0)
     c.args.name.seq (link c)
-    (subst (λ d. is_ready c.take.new.self ≡ with_mark (is_ready c.self.inside.flights) (node_of c.args.name.src) (node_of d) c.args.name.seq false)
+    (subst (λ d. is_ready c.take.new.self ≡ with_mark (is_ready c.self.inside.flights) (node_of c.args.name.src)
+    (node_of d) c.args.name.seq false)
     c.requires.destination c.take.ensures.ready) c.self.invariant.marked))
 
 pub returns-in-Ok : goal.returns-in-Ok

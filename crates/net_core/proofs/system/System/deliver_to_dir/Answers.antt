@@ -18,10 +18,10 @@ use Rattle.net_core.specs.Taking.{SameTaking, may_matter}
 use Rattle.rv_code.specs.Machine.{first_ram}
 use Rattle.net_core.specs.declared.taking.Step.TheVariants.{Moved}
 use Rattle.net_core.proofs.Reaching.{nothing-left}
-use Rattle.net_core.proofs.Acted.{StaysBut, stays-kept, stays-whole}
-use Rattle.net_core.proofs.DirActed.{ActsAt, acts-took, acts-whole, belongs-there, comes-at, enabled, now_at, refused, rule_dirs}
-use Rattle.net_core.proofs.DirActed.{says_taken, small-at}
-use Rattle.net_core.proofs.Quiet.{quiet-after}
+use Rattle.net_core.proofs.Events.Kept.{StaysBut, stays-kept, stays-whole}
+use Rattle.net_core.proofs.Events.Directories.{ActsAt, acts-took, acts-whole, belongs-there, comes-at, enabled, now_at, refused, rule_dirs}
+use Rattle.net_core.proofs.Events.Directories.{says_taken, small-at}
+use Rattle.net_core.proofs.Events.Quiet.{quiet-after}
 use Rattle.net_core.proofs.system.System.deliver_to_dir.Goals as goal
 
 -- ---- what is in flight belongs there

@@ -7,9 +7,9 @@ use Rattle.net_core.specs.Inside.{machine_of}
 use Rattle.net_core.specs.Machine.{settings_of}
 use Rattle.net_core.specs.declared.taking.Step.TheVariants.{Moved}
 use Rattle.net_core.proofs.Reaching.{nothing-left}
-use Rattle.net_core.proofs.Acted.{StaysBut, stays-whole}
-use Rattle.net_core.proofs.CoreActed.{ActsFrom, after_core, after_none, evict-step_in, evict-unnoted, move-whole, no-evict_in}
-use Rattle.net_core.proofs.CoreActed.{refused-move, took-move, unnoted-as}
+use Rattle.net_core.proofs.Events.Kept.{StaysBut, stays-whole}
+use Rattle.net_core.proofs.Events.Cores.{ActsFrom, after_core, after_none, evict-step_in, evict-unnoted, move-whole, no-evict_in}
+use Rattle.net_core.proofs.Events.Cores.{refused-move, took-move, unnoted-as}
 use Rattle.net_core.proofs.system.System.evict.Goals as goal
 
 -- ---- a refusal
@@ -37,8 +37,10 @@ returns-in-Err c =
     let n = after_none c.self.inside c.evict.new.self c.evict.new.out in
     subst (λ x. Answers x n (Evict c.args.core.0 c.args.set c.args.way) (Err c.refusal.result)) c.self.view_is
     (subst (λ r. Answers m n (Evict c.args.core.0 c.args.set c.args.way) (Err r)) (sym c.refusal.ensures)
-    (refused-move (Unit {0}) m n (Evict c.args.core.0 c.args.set c.args.way) c.args.core.0 c.in-Err.error _ (stays c) c.in-Err.ensures.blocked
-    (evict-step_in m c.config.result.now c.args.core.0 c.args.set c.args.way (c.config.ensures ∙ ap settings_of (sym c.self.view_is)) (c.if-not-has_way.ensures.0 refl))))
+    (refused-move (Unit {0}) m n (Evict c.args.core.0 c.args.set c.args.way) c.args.core.0 c.in-Err.error _
+    (stays c) c.in-Err.ensures.blocked
+    (evict-step_in m c.config.result.now c.args.core.0 c.args.set c.args.way (c.config.ensures ∙ ap settings_of (sym c.self.view_is))
+    (c.if-not-has_way.ensures.0 refl))))
 
 -- ---- an eviction
 
@@ -61,9 +63,12 @@ took : (c : goal.After-self-in-Ok-2-1) → Took (machine_of c.self.inside)
     (Evict c.args.core.0 c.args.set c.args.way) Moved
 took c =
     let m = machine_of c.self.inside in
-    took-move m _ (Evict c.args.core.0 c.args.set c.args.way) c.args.core.0 c.clear.new.self c.evict.new.out Moved _ (acts c) c.in-Ok.ensures.does refl
-    (evict-step_in m c.config.result.now c.args.core.0 c.args.set c.args.way (c.config.ensures ∙ ap settings_of (sym c.self.view_is)) (c.if-not-has_way.ensures.0 refl))
-    (unnoted-as m (after_core c.self.inside c.evict.new.self c.evict.new.out c.self.inside.flights c.args.core) _ c.args.core.0 c.clear.new.self c.evict.new.out c.in-Ok.ensures.does (evict-unnoted _ c.args.set c.args.way _) refl)
+    took-move m _ (Evict c.args.core.0 c.args.set c.args.way) c.args.core.0 c.clear.new.self c.evict.new.out Moved _
+    (acts c) c.in-Ok.ensures.does refl
+    (evict-step_in m c.config.result.now c.args.core.0 c.args.set c.args.way (c.config.ensures ∙ ap settings_of (sym c.self.view_is))
+    (c.if-not-has_way.ensures.0 refl))
+    (unnoted-as m (after_core c.self.inside c.evict.new.self c.evict.new.out c.self.inside.flights c.args.core)
+    _ c.args.core.0 c.clear.new.self c.evict.new.out c.in-Ok.ensures.does (evict-unnoted _ c.args.set c.args.way _) refl)
 
 pub invariant_of-self-in-Ok : goal.invariant_of-self-in-Ok
 invariant_of-self-in-Ok c =
@@ -78,5 +83,6 @@ returns-in-Ok c =
 pub returns-then-not-has_way : goal.returns-then-not-has_way
 returns-then-not-has_way c = (
   record { history = refl; events = refl; code = refl },
-  no-evict_in c.args.self.now c.config.result.now c.args.core.0 c.args.set c.args.way c.config.ensures (λ h. let q = c.if-not-has_way.ensures.1 h in absurd (cc)),
+  no-evict_in c.args.self.now c.config.result.now c.args.core.0 c.args.set c.args.way c.config.ensures
+      (λ h. let q = c.if-not-has_way.ensures.1 h in absurd (cc)),
 )

@@ -14,9 +14,9 @@ use Rattle.net_core.specs.declared.system.System.TheInside.{Inside}
 use Rattle.net_core.specs.Machine.{Machine, program_of, settings_of}
 use Rattle.net_core.specs.declared.taking.Step.TheVariants as step_told
 use Rattle.net_core.proofs.Reaching.{nothing-left}
-use Rattle.net_core.proofs.Acted.{StaysBut, stays-whole}
-use Rattle.net_core.proofs.CoreActed.{ActsFrom, after_core, after_none, commit-new, exec-step_in, move-whole, no-exec, noted-as}
-use Rattle.net_core.proofs.CoreActed.{refused-move, short-attempt, told-unnoted, took-move, unnoted-as}
+use Rattle.net_core.proofs.Events.Kept.{StaysBut, stays-whole}
+use Rattle.net_core.proofs.Events.Cores.{ActsFrom, after_core, after_none, commit-new, exec-step_in, move-whole, no-exec, noted-as}
+use Rattle.net_core.proofs.Events.Cores.{refused-move, short-attempt, told-unnoted, took-move, unnoted-as}
 use Rattle.net_core.proofs.system.System.exec.Goals as goal
 
 beyond : (s t : Settings) (c n : ℕ) → s ≡ t → n ≡ s.cores → n ≤ c → c < t.cores → ⊥
@@ -26,12 +26,14 @@ pub returns-then-core-cores : goal.returns-then-core-cores
 returns-then-core-cores c = (
   record { history = refl; events = refl; code = refl },
   no-exec c.args.self.now c.args.core.0
-      (beyond c.config.result.now (settings_of c.args.self.now) c.args.core.0 c.cores.result c.config.ensures c.cores.ensures.value c.if-core-cores.true),
+      (beyond c.config.result.now (settings_of c.args.self.now) c.args.core.0 c.cores.result c.config.ensures
+      c.cores.ensures.value c.if-core-cores.true),
 )
 
 pub exec-requires-clause-short : goal.exec-requires-clause-short
 exec-requires-clause-short c =
-    short-attempt (machine_of c.self.inside) c.args.core.0 c.self.invariant (subst (λ m. m.events < 4194304) (sym c.self.view_is) c.requires.few)
+    short-attempt (machine_of c.self.inside) c.args.core.0 c.self.invariant
+    (subst (λ m. m.events < 4194304) (sym c.self.view_is) c.requires.few)
 
 -- ---- a refusal
 
@@ -110,7 +112,8 @@ took-commit c =
 pub invariant_of-self-in-Committed : goal.invariant_of-self-in-Committed
 invariant_of-self-in-Committed c =
     move-whole (machine_of c.self.inside) _ (Exec c.args.core.0) (step_told.Committed c.in-Committed.commit.tid) c.args.core.0
-    c.clear.new.self c.exec.new.out c.self.invariant (subst (λ m. m.events < 4194304) (sym c.self.view_is) c.requires.few) (committed c) (took-commit c) refl
+    c.clear.new.self c.exec.new.out c.self.invariant (subst (λ m. m.events < 4194304) (sym c.self.view_is) c.requires.few)
+    (committed c) (took-commit c) refl
 
 pub returns-in-Committed : goal.returns-in-Committed
 returns-in-Committed c =
@@ -148,7 +151,8 @@ took c =
 pub invariant_of-self-in-Stepped : goal.invariant_of-self-in-Stepped
 invariant_of-self-in-Stepped c =
     move-whole (machine_of c.self.inside) _ (Exec c.args.core.0) step_told.Moved c.args.core.0
-    c.clear.new.self c.exec.new.out c.self.invariant (subst (λ m. m.events < 4194304) (sym c.self.view_is) c.requires.few) (acts c) (took c) refl
+    c.clear.new.self c.exec.new.out c.self.invariant (subst (λ m. m.events < 4194304) (sym c.self.view_is) c.requires.few)
+    (acts c) (took c) refl
 
 pub returns-in-Stepped : goal.returns-in-Stepped
 returns-in-Stepped c =

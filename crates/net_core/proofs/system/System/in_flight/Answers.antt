@@ -6,7 +6,7 @@ use Rattle.tcc_msg.specs.Plain.{sends_of}
 use Rattle.tcc_rules.specs.Links.{in_flight}
 use Rattle.in_flight.specs.Flights.{net_of}
 use Rattle.net_core.specs.Machine.{world_of}
-use Rattle.net_core.proofs.Sought.{flies-elsewhere, flies-placed, flies-unsent}
+use Rattle.net_core.proofs.Links.Seeking.{flies-elsewhere, flies-placed, flies-unsent}
 use Rattle.net_core.proofs.system.System.in_flight.Goals as goal
 use Rattle.net_core.proofs.system.System.in_flight.Goals.{else-same_node-via-then-same_node+else-name-sent}
 use Rattle.net_core.proofs.system.System.in_flight.Goals.{else-same_node-via-else-same_node}

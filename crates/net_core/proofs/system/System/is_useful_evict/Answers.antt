@@ -1,6 +1,6 @@
 -- Each number gives the next useful eviction.
 use Rattle.std.proofs.Common.{◌∙◌, sym, arith}
-use Rattle.net_core.proofs.UsefulEvicts.{absent-useless, found-useful, more-absent}
+use Rattle.net_core.proofs.Useful.Evictions.{absent-useless, found-useful, more-absent}
 use Rattle.net_core.proofs.system.System.is_useful_evict.Goals as goal
 
 pub loop-k-preserved : goal.loop-k-preserved

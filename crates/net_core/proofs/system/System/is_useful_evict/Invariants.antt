@@ -1,5 +1,5 @@
 -- None of those before is that one.
-use Rattle.net_core.proofs.UsefulEvicts.{NotBelow}
+use Rattle.net_core.proofs.Useful.Evictions.{NotBelow}
 use Rattle.net_core.proofs.system.System.is_useful_evict.Given as goal
 
 abbrev pub invariant-loop-k : goal.invariant-loop-k

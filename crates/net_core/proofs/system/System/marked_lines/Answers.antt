@@ -17,4 +17,5 @@ returns c =
     let d = dirs_of (first_ram (start_of m)) m.dirs c.args.dir.0 in
     c.marked_lines.ensures (first_ram (start_of m))
     ∙ ap (λ (s : Settings). count_below (has_mark d.lines) (lines s)) c.self.invariant.dirs
-    ∙ ap (λ (n : Machine). count_below (has_mark (dirs_of (first_ram (start_of n)) n.dirs c.args.dir.0).lines) (lines (settings_of n))) c.self.view_is
+    ∙ ap (λ (n : Machine). count_below (has_mark (dirs_of (first_ram (start_of n)) n.dirs c.args.dir.0).lines) (lines (settings_of n)))
+    c.self.view_is

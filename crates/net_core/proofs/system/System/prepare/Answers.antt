@@ -2,8 +2,8 @@
 use Rattle.std.proofs.Common.{ap, subst, sym}
 use Rattle.net_core.specs.Answers.{Kept}
 use Rattle.net_core.specs.Inside.{machine_of}
-use Rattle.net_core.proofs.Ran.{kept-on}
-use Rattle.net_core.proofs.Acted.{room-whole, room-kept}
+use Rattle.net_core.proofs.Events.Runs.{kept-on}
+use Rattle.net_core.proofs.Events.Kept.{room-whole, room-kept}
 use Rattle.net_core.proofs.system.System.prepare.Goals as goal
 
 pub invariant_of-self : goal.invariant_of-self

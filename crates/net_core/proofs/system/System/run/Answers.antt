@@ -6,7 +6,7 @@ use Rattle.tcc_msg.specs.Plain.{event_of}
 use Rattle.tcc_msg.specs.declared.event.Event.{Event}
 use Rattle.tcc_msg.specs.declared.event.Event.TheVariants.{Exec}
 use Rattle.net_core.specs.Answers.{Ran}
-use Rattle.net_core.proofs.Ran.{answers-by, ran-more, ran-none, stopped-at}
+use Rattle.net_core.proofs.Events.Runs.{answers-by, ran-more, ran-none, stopped-at}
 use Rattle.net_core.proofs.system.System.run.Goals as goal
 
 pub loop-i-init : goal.loop-i-init
@@ -28,7 +28,8 @@ returns-in-Err-clause-stopped c =
     stopped-at c.args.self.now c.loop-i.self c.step.new.self c.loop-i.i c.args.events.now e c.in-Err.error c.loop-i.invariant
     (slice_get-get_or c.args.events.now c.loop-i.i (Exec (record { 0 = 0 })) c.loop-i-test.true)
     (answers-by c.loop-i.self c.step.new.self (event_of e) c.in-Err.error
-    (record { history = c.in-Err.ensures.unchanged; events = c.in-Err.ensures.counted; code = c.in-Err.ensures.code }) c.in-Err.ensures.refused)
+    (record { history = c.in-Err.ensures.unchanged; events = c.in-Err.ensures.counted; code = c.in-Err.ensures.code })
+    c.in-Err.ensures.refused)
 
 pub returns-in-Err-clause-code : goal.returns-in-Err-clause-code
 returns-in-Err-clause-code c = c.in-Err.ensures.code ∙ c.loop-i.invariant.code

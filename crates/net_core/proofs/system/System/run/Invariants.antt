@@ -1,5 +1,5 @@
 -- So many events were taken.
-use Rattle.net_core.proofs.Ran.{RanSo}
+use Rattle.net_core.proofs.Events.Runs.{RanSo}
 use Rattle.net_core.proofs.system.System.run.Given as goal
 
 abbrev pub invariant-loop-i : goal.invariant-loop-i

@@ -6,7 +6,7 @@ use Rattle.tcc_maps.specs.Words.{line_of}
 use Rattle.tcc_rules.specs.Seen.{Copy}
 use Rattle.net_core.specs.Copies.{plain_copy}
 use Rattle.net_core.specs.Machine.{settings_of}
-use Rattle.net_core.proofs.WordSeen.{best-first, best-last, best-more, done-seen, whole-caches}
+use Rattle.net_core.proofs.Words.Seen.{best-first, best-last, best-more, done-seen, whole-caches}
 use Rattle.net_core.proofs.system.System.seen_word.Goals as goal
 
 pub returns-then-done : goal.returns-then-done

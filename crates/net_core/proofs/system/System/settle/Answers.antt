@@ -2,7 +2,7 @@
 use Rattle.std.proofs.Common.{ap, ◌∙◌}
 use Rattle.net_core.specs.Inside.{machine_of}
 use Rattle.net_core.specs.Machine.{history_of}
-use Rattle.net_core.proofs.Flown.{flown-history, flown-whole, unsent-may-go}
+use Rattle.net_core.proofs.Links.Settling.{flown-history, flown-whole, unsent-may-go}
 use Rattle.net_core.proofs.system.System.settle.Goals as goal
 
 pub place_all-requires-clause-go : goal.place_all-requires-clause-go

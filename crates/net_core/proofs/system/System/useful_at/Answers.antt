@@ -2,7 +2,7 @@
 use Rattle.std.proofs.Common.{ap, ◌∙◌, arith}
 use Rattle.std.specs.Option.{option_map}
 use Rattle.tcc_msg.specs.Plain.{event_of}
-use Rattle.net_core.proofs.UsefulEvents.{at-evicts, at-execs, at-ready}
+use Rattle.net_core.proofs.Useful.Listed.{at-evicts, at-execs, at-ready}
 use Rattle.net_core.proofs.system.System.useful_at.Goals as goal
 
 pub returns-then-k-execs : goal.returns-then-k-execs

@@ -1,6 +1,6 @@
 -- The sum of three counts, which is that of the useful events, and small.
 use Rattle.std.proofs.Common.{refl, arith}
-use Rattle.net_core.proofs.UsefulEvents.{Tells, counts-tell}
+use Rattle.net_core.proofs.Useful.Listed.{Tells, counts-tell}
 use Rattle.net_core.proofs.system.System.useful_count.Goals as goal
 
 tells : (c : goal.After-ready_count) → Tells c.args.self.now c.exec_total.result c.evict_total.result c.ready_count.result

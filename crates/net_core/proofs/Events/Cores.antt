@@ -3,6 +3,7 @@ use Rattle.std.proofs.Common.{◌≡◌, ℕ, ◌+◌, ◌<◌, ◌≤◌, ◌�
 use Rattle.std.proofs.Common.{Option, Some, None, refl, ap, sym, ◌∙◌, subst, arith}
 use Rattle.std.specs.Prelude.{nat_lt, Err, if◌then◌else◌}
 use Rattle.std.specs.Option.{option_map}
+use Rattle.std.proofs.lemmas.Bool.{lt-ltb}
 use Rattle.std.proofs.lemmas.Bool.Decides.{nat_tests}
 use Rattle.rv_code.specs.Machine.{first_ram}
 use Rattle.tcc_base.specs.Settings.{Settings}
@@ -47,7 +48,7 @@ use Rattle.net_core.specs.declared.taking.Step.{Step as Told}
 use Rattle.net_core.specs.declared.taking.Step.TheVariants.{Moved}
 use Rattle.net_core.specs.declared.taking.Step.TheVariants as step_told
 use Rattle.net_core.proofs.Reaching.{in-bounds, settled-net, whole-bounded}
-use Rattle.net_core.proofs.Acted.{StaysBut, new-tid, same-dirs, stays-kept, took-by, took-whole, world-is}
+use Rattle.net_core.proofs.Events.Kept.{StaysBut, new-tid, same-dirs, stays-kept, took-by, took-whole, world-is}
 
 -- ---- how a system stands after a call of its cores
 
@@ -68,9 +69,6 @@ after_core s cores out flights core = machine_of (record s {
 
 -- ---- what the rules say
 
-below : (k n : ℕ) → k < n → nat_lt k n ≡ true
-below k n l = grind (arith, nat_tests)
-
 not-below : (k n : ℕ) → (k < n → ⊥) → nat_lt k n ≡ false
 not-below k n h = go (nat_lt k n) refl
   where
@@ -81,7 +79,7 @@ not-below k n h = go (nat_lt k n) refl
 pub exec-step : (m : Machine) (c : ℕ) → c < (settings_of m).cores
     → step_of m (Exec c) ≡ moved (world_of m) c (core_exec (settings_of m) (program_of m) c (cores_of m.cores c))
 unfolding step names_nodes happens world_of
-exec-step m c l = rw (below c (settings_of m).cores l) refl
+exec-step m c l = rw (lt-ltb c (settings_of m).cores l) refl
 
 pub no-exec : (m : Machine) (c : ℕ) → (c < (settings_of m).cores → ⊥) → step_of m (Exec c) ≡ None
 unfolding step names_nodes
@@ -90,7 +88,7 @@ no-exec m c l = rw (not-below c (settings_of m).cores l) refl
 pub evict-step : (m : Machine) (c x y : ℕ) → c < (settings_of m).cores → x < (settings_of m).sets → y < (settings_of m).ways
     → step_of m (Evict c x y) ≡ moved (world_of m) c (core_evict (settings_of m) x y (cores_of m.cores c))
 unfolding step names_nodes happens world_of
-evict-step m c x y l k j = rw (below c (settings_of m).cores l, below x (settings_of m).sets k, below y (settings_of m).ways j) refl
+evict-step m c x y l k j = rw (lt-ltb c (settings_of m).cores l, lt-ltb x (settings_of m).sets k, lt-ltb y (settings_of m).ways j) refl
 
 pub no-evict : (m : Machine) (c x y : ℕ) → (c < (settings_of m).cores → x < (settings_of m).sets → y < (settings_of m).ways → ⊥)
     → step_of m (Evict c x y) ≡ None
@@ -111,18 +109,20 @@ exec-step_in m s c e l = exec-step m c (subst (λ t. c < t.cores) e l)
 
 pub evict-step_in : (m : Machine) (s : Settings) (c x y : ℕ) → s ≡ settings_of m → (c < s.cores) × (x < s.sets) × (y < s.ways)
     → step_of m (Evict c x y) ≡ moved (world_of m) c (core_evict (settings_of m) x y (cores_of m.cores c))
-evict-step_in m s c x y e h = evict-step m c x y (subst (λ t. c < t.cores) e h.0) (subst (λ t. x < t.sets) e h.1) (subst (λ t. y < t.ways) e h.2)
+evict-step_in m s c x y e h = evict-step m c x y (subst (λ t. c < t.cores) e h.0) (subst (λ t. x < t.sets) e h.1)
+    (subst (λ t. y < t.ways) e h.2)
 
 pub no-evict_in : (m : Machine) (s : Settings) (c x y : ℕ) → s ≡ settings_of m → ((c < s.cores) × (x < s.sets) × (y < s.ways) → ⊥)
     → step_of m (Evict c x y) ≡ None
-no-evict_in m s c x y e h = no-evict m c x y (λ a b d. h (subst (λ t. c < t.cores) (sym e) a, subst (λ t. x < t.sets) (sym e) b, subst (λ t. y < t.ways) (sym e) d))
+no-evict_in m s c x y e h = no-evict m c x y
+    (λ a b d. h (subst (λ t. c < t.cores) (sym e) a, subst (λ t. x < t.sets) (sym e) b, subst (λ t. y < t.ways) (sym e) d))
 
 -- a message in flight to a core
 pub take-step : (m : Machine) (src : Node) (c k : ℕ) (x : Msg) → in_flight (world_of m).net src (Core c) k ≡ Some x
     → is_node (settings_of m) src ≡ true → c < (settings_of m).cores
     → step_of m (Deliver src (Core c) k) ≡ taken (world_of m) src c k (core_deliver (settings_of m) (cores_of m.cores c) src x)
 unfolding step names_nodes happens world_of
-take-step m src c k x e n l = rw (n, below c (settings_of m).cores l) (ap (if_in_flight (settings_of m) (world_of m) src (Core c) k) e)
+take-step m src c k x e n l = rw (n, lt-ltb c (settings_of m).cores l) (ap (if_in_flight (settings_of m) (world_of m) src (Core c) k) e)
 
 -- ---- no event
 
@@ -136,7 +136,8 @@ taken-none w src c k (Some o) e = absurd (cc)
 
 -- the core's refusal is that of the event
 refused-by : (A : Type 0) (m n : Machine) (e : Event) (error : CoreError) (o : Option Out) → StaysBut m n
-    → IsBlocked {A = A} (Err error) o → (o ≡ None → step_of m e ≡ None) → (step_of m e ≡ None → o ≡ None) → Answers m n e (Err (refusal_of error))
+    → IsBlocked {A = A} (Err error) o → (o ≡ None → step_of m e ≡ None) → (step_of m e ≡ None → o ≡ None)
+    → Answers m n e (Err (refusal_of error))
 refused-by A m n e Blocked o s b to from = (stays-kept m n s, to b)
 refused-by A m n e Memory o s b to from = (stays-kept m n s, λ q. b (from q))
 
@@ -163,7 +164,8 @@ pub record ActsFrom (m n : Machine) (c : ℕ) (before out : Outgoing) : Type 0 w
   pub clear : before.list.items ≡ []
   pub events : n.events ≡ m.events + 1
 
-sent-alone : (before out : Outgoing) (o : Out) → before.list.items ≡ [] → sends_of out.list.items ≡ followed (sends_of before.list.items) o.sends
+sent-alone : (before out : Outgoing) (o : Out) → before.list.items ≡ []
+    → sends_of out.list.items ≡ followed (sends_of before.list.items) o.sends
     → sends_of out.list.items ≡ o.sends
 unfolding followed sends_of
 sent-alone before out o e s = s ∙ ap (λ xs. followed (sends_of xs) o.sends) e
@@ -186,7 +188,8 @@ takes-world : (m n : Machine) (src : Node) (c k : ℕ) (before out : Outgoing) (
     → Follows o c m.cores n.cores before out → net_of n.flights ≡ taking (net_of m.flights) src (Core c) k
     → world_of n ≡ core_takes (world_of m) src c k o
 unfolding core_takes world_of
-takes-world m n src c k before out o a f flights = world-is n (core_takes (world_of m) src c k o) f.cores (same-dirs m n a.code a.dirs) a.next
+takes-world m n src c k before out o a f flights = world-is n (core_takes (world_of m) src c k o) f.cores
+    (same-dirs m n a.code a.dirs) a.next
     (links-after m n c before out o a f.sends
     ∙ ap (λ net. sending net (Core c) o.sends) (flights ∙ ap (λ net. taking net src (Core c) k) (sym (settled-net m a.settled))))
 
@@ -215,7 +218,8 @@ marks-stay m n w code dirs flights =
     subst (λ f. AreMarked (settings_of m) (dirs_of (first_ram (start_of n)) n.dirs) f) (sym flights)
     (subst (λ ds. AreMarked (settings_of m) ds m.flights) (sym (same-dirs m n code dirs)) w.marked)
 
-pub move-whole : (m n : Machine) (e : Event) (t : Told) (c : ℕ) (before out : Outgoing) → IsWhole m → m.events < 4194304 → ActsFrom m n c before out
+pub move-whole : (m n : Machine) (e : Event) (t : Told) (c : ℕ) (before out : Outgoing) → IsWhole m → m.events < 4194304
+    → ActsFrom m n c before out
     → Took m n e t → n.flights ≡ m.flights → IsWhole n
 move-whole m n e t c before out w short a k flights = took-whole m n e t w short k (ap (λ d. d.settings) a.dirs) (ap (λ f. f.cores) flights)
     (ap (λ f. f.dirs) flights) (marks-stay m n w a.code a.dirs flights)

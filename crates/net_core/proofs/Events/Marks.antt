@@ -1,6 +1,6 @@
 -- A message is taken off its link: the marks of the others stay right.
-use Rattle.std.proofs.Common.{◌≡◌, ℕ, zero, suc, Bool, true, false, ◌&&◌, [], ◌∷◌, Some, None, refl, ◌∙◌}
-use Rattle.std.proofs.Common.{subst, arith}
+use Rattle.std.proofs.Common.{◌≡◌, ℕ, zero, suc, Bool, true, false, ◌&&◌, [], ◌∷◌, Some, None, refl, ◌∙◌, subst}
+use Rattle.std.proofs.Common.{arith}
 use Rattle.std.specs.Prelude.{slice_index_or, slice_set, ◌==◌, if◌then◌else◌}
 use Rattle.std.proofs.lemmas.Bool.Decides.{nat_tests}
 use Rattle.tcc_base.specs.Settings.{Settings}
@@ -25,7 +25,8 @@ unset [] k j x e = absurd (cc)
 unset (y ∷ l) zero zero x e = absurd (cc)
 unset (y ∷ l) zero (suc j) x e = record { flies = e; apart = grind (arith, nat_tests) }
 unset (y ∷ l) (suc k) zero x e = record { flies = e; apart = grind (arith, nat_tests) }
-unset (y ∷ l) (suc k) (suc j) x e = let o = unset l k j x e in record { flies = o.flies; apart = let a = o.apart in grind (arith, nat_tests) }
+unset (y ∷ l) (suc k) (suc j) x e = let o = unset l k j x e in
+    record { flies = o.flies; apart = let a = o.apart in grind (arith, nat_tests) }
 
 pub still-flies : (net : Node → Node → Link) (src dst : Node) (k : ℕ) (s d : Node) (j : ℕ) (x : Msg)
     → in_flight (taking net src dst k) s d j ≡ Some x → Still net src dst k s d j x

@@ -10,8 +10,8 @@ use Rattle.tcc_base.specs.declared.names.NodeId.TheVariants as code_node
 use Rattle.tcc_base.specs.declared.names.Tid.{Tid}
 use Rattle.tcc_live.specs.Fits.{fits, is_request}
 use Rattle.tcc_maps.specs.Bridge.{node_of}
-use Rattle.tcc_maps.specs.Nodes.{Core, Vendor, Deliver, Msg, TidReq, TidGrant, LoadReq, Fill, Skip, Probe, ProbeReply, Mark, Commit}
-use Rattle.tcc_maps.specs.Nodes.{Abort, WriteBack, Flush, DataReq, Inv, InvAck, node_eq}
+use Rattle.tcc_maps.specs.Nodes.{Core, Vendor, Deliver, Msg, TidReq, TidGrant, LoadReq, Fill, Skip, Probe, ProbeReply, Mark, Commit, Abort}
+use Rattle.tcc_maps.specs.Nodes.{WriteBack, Flush, DataReq, Inv, InvAck, node_eq}
 use Rattle.tcc_msg.specs.Plain.{sends_of}
 use Rattle.tcc_msg.specs.declared.msg.Msg.{Msg as CodeMsg}
 use Rattle.tcc_msg.specs.declared.msg.Msg.TheVariants as code
@@ -28,8 +28,8 @@ use Rattle.net_core.specs.Machine.{Machine, history_of, settings_of, start_of, w
 use Rattle.net_core.specs.Whole.{IsWhole}
 use Rattle.net_core.specs.declared.taking.Step.TheVariants.{Moved}
 use Rattle.net_core.proofs.Reaching.{in-bounds, settled-net, whole-bounded}
-use Rattle.net_core.proofs.Acted.{same-dirs, took-by, took-whole, world-is}
-use Rattle.net_core.proofs.Taken.{marks-taken}
+use Rattle.net_core.proofs.Events.Kept.{same-dirs, took-by, took-whole, world-is}
+use Rattle.net_core.proofs.Events.Marks.{marks-taken}
 
 -- ---- what the rules say
 

@@ -18,7 +18,7 @@ use Rattle.tcc_maps.specs.Words.{line_of, place_of, those, word_at}
 use Rattle.tcc_msg.specs.Plain.{msg_of}
 use Rattle.tcc_msg.specs.declared.msg.Msg.{Msg as CodeMsg}
 use Rattle.tcc_msg.specs.declared.msg.Msg.TheVariants as code
-use Rattle.tcc_maps.proofs.Masks.{has-mask_of}
+use Rattle.tcc_maps.proofs.Lemmas.{has-mask_of}
 use Rattle.tcc_rules.specs.Seen.{Copy, copies_on, copy_in, copy_of, newer, newest}
 use Rattle.tcc_rules.specs.State.{Link}
 use Rattle.spec_cache.specs.Look.{Views}
@@ -55,7 +55,7 @@ newest-other a w l m ws g h = rw h refl
 
 -- ---- a frame
 
-own-word : (w : ℕ) → word_at (line_of w) (place_of w) ≡ w
+pub own-word : (w : ℕ) → word_at (line_of w) (place_of w) ≡ w
 own-word w = omega arith
 
 -- the frame's mask says whether the word is dirty

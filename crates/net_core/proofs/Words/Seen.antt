@@ -20,7 +20,7 @@ use Rattle.dir_bank.specs.Bank.{dirs_of}
 use Rattle.in_flight.specs.Flights.{net_of}
 use Rattle.net_core.specs.Machine.{Machine, history_of, settings_of, start_of, world_of}
 use Rattle.net_core.specs.Whole.{IsWhole}
-use Rattle.net_core.proofs.Newest.{newest-append, newest-none}
+use Rattle.net_core.proofs.Words.Newest.{newest-append, newest-none}
 use Rattle.net_core.proofs.Reaching.{settled-net}
 
 -- ---- caches

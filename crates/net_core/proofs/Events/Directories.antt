@@ -1,6 +1,7 @@
 -- The machine after a directory took a message, or asked for what it needs to take it.
 use Rattle.std.proofs.Common.{◌≡◌, ◌≢◌, ℕ, ◌+◌, ◌<◌, Bool, true, false, not, ◌&&◌, [], Some, None, refl, ap, sym, ◌∙◌, subst, arith}
-use Rattle.std.specs.Prelude.{nat_lt, ◌==◌, if◌then◌else◌}
+use Rattle.std.specs.Prelude.{◌==◌, if◌then◌else◌}
+use Rattle.std.proofs.lemmas.Bool.{lt-ltb}
 use Rattle.std.proofs.lemmas.Bool.Decides.{nat_tests}
 use Rattle.image_load.specs.Contents.{started}
 use Rattle.rv_code.specs.Machine.{first_ram}
@@ -32,9 +33,9 @@ use Rattle.net_core.specs.Taking.{SameTaking, is_renewed}
 use Rattle.net_core.specs.Whole.{IsWhole}
 use Rattle.net_core.specs.declared.taking.Step.TheVariants.{Moved}
 use Rattle.net_core.proofs.Reaching.{in-bounds, may-go, settled-net, small-tids}
-use Rattle.net_core.proofs.Acted.{took-by, took-whole, world-is}
-use Rattle.net_core.proofs.Taken.{still-flies}
-use Rattle.net_core.proofs.TakesAlike.{taken-alike}
+use Rattle.net_core.proofs.Events.Kept.{took-by, took-whole, world-is}
+use Rattle.net_core.proofs.Events.Marks.{still-flies}
+use Rattle.net_core.proofs.Events.TakesAlike.{taken-alike}
 
 -- ---- what the rules say
 
@@ -78,13 +79,10 @@ small-at m s c d k x e w few settled fly =
     (ap (λ net. in_flight net (Core c) (Dir d) k) (settled-net m (ap (λ y. y.unsent) e ∙ settled))
     ∙ ap (λ y. in_flight (net_of y.flights) (Core c) (Dir d) k) e ∙ fly)
 
-below : (k n : ℕ) → k < n → nat_lt k n ≡ true
-below k n l = grind (arith, nat_tests)
-
 step-in : (m : Machine) (c d k : ℕ) (x : Msg) → Comes (settings_of m) c d x → in_flight (world_of m).net (Core c) (Dir d) k ≡ Some x
     → step_of m (Deliver (Core c) (Dir d) k) ≡ answered (world_of m) c d k (answer_to m c d x)
 unfolding step names_nodes happens world_of
-step-in m c d k x h e = rw (below c (settings_of m).cores h.core, below d (settings_of m).dirs h.dir)
+step-in m c d k x h e = rw (lt-ltb c (settings_of m).cores h.core, lt-ltb d (settings_of m).dirs h.dir)
     (ap (if_in_flight (settings_of m) (world_of m) (Core c) (Dir d) k) e)
 
 -- a message in flight to a directory is answered by its rule

@@ -59,7 +59,11 @@ refused-exactly m o e Memory a = (λ q. absurd (cc), λ q. absurd (a.1 q))
 
 pub taken-exactly : (m o : Machine) (e : Event) (t : Told) → Took m o e t → IsErrOf (Ok t) Refused ↔ (step_of m e ≡ None)
 unfolding next history_of
-taken-exactly m o e t w = (λ q. absurd (cc), λ q. let n = w.next in let none : None ≡ Some (history_of o) = sym (nothing q) ∙ n in absurd (cc))
+taken-exactly m o e t w = (
+  λ q. absurd (cc),
+  λ q. let n = w.next in let none : None ≡ Some (history_of o) = sym (nothing q)
+      ∙ n in absurd (cc),
+)
   where
     nothing : step_of m e ≡ None → next (settings_of m) (program_of m) (history_of m) e ≡ None
     nothing q = ap (recorded (history_of m)) q
@@ -107,7 +111,8 @@ pub ran-more : (m n o : Machine) (k : ℕ) (es : List CodeEvent) (e : CodeEvent)
     → next (settings_of n) (program_of n) (history_of n) (event_of e) ≡ Some (history_of o) → o.events ≡ n.events + 1
     → o.cores.code ≡ n.cores.code → RanSo m o (k + 1) es
 ran-more m n o k es e r at step count code = record {
-  ran = ap (λ xs. run_from (settings_of m) (program_of m) xs (history_of m)) (ap (map event_of) (ap (λ j. take j es) (next-number k) ∙ one-more es k e at) ∙ map-append event_of (take k es) (e ∷ []))
+  ran = ap (λ xs. run_from (settings_of m) (program_of m) xs (history_of m))
+      (ap (map event_of) (ap (λ j. take j es) (next-number k) ∙ one-more es k e at) ∙ map-append event_of (take k es) (e ∷ []))
       ∙ after-all (settings_of m) (program_of m) (event_of e) (map event_of (take k es)) (history_of m)
       ∙ ap (and_then (λ h. next (settings_of m) (program_of m) h (event_of e))) r.ran
       ∙ same-code m n (event_of e) r.code ∙ step;
@@ -121,7 +126,8 @@ pub answers-by : (m n : Machine) (e : Event) (error : StepError) → Kept m n �
 answers-by m n e Refused k r = (k, r.0 refl)
 answers-by m n e Memory k r = (k, λ q. let p = r.1 q in absurd (cc))
 
-pub stopped-at : (m n o : Machine) (k : ℕ) (es : List CodeEvent) (e : CodeEvent) (error : StepError) → RanSo m n k es → slice_get es k ≡ Some e
+pub stopped-at : (m n o : Machine) (k : ℕ) (es : List CodeEvent) (e : CodeEvent) (error : StepError) → RanSo m n k es
+    → slice_get es k ≡ Some e
     → Answers n o (event_of e) (Err error) → StoppedAt m o k es error
 stopped-at m n o k es e Refused r at a = record {
   event = e;

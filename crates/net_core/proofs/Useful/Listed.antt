@@ -18,8 +18,7 @@ use Rattle.tcc_rules.specs.Step.{is_enabled}
 use Rattle.tcc_rules.specs.Useful.{delivers, evicts, execs, is_of_use, is_useful, useful}
 use Rattle.core_bank.specs.Bank.{cores_of}
 use Rattle.core_bank.specs.Uses.{evict_events, exec_events}
-use Rattle.core_bank.proofs.Flat.{get-left, get-right}
-use Rattle.core_bank.proofs.Limits.{evicts-fit, numbers-length}
+use Rattle.core_bank.proofs.Lemmas.{evicts-fit, get-left, get-right, numbers-length}
 use Rattle.core_node.specs.Useful.{useful_evicts}
 use Rattle.core_node.proofs.Lemmas.{useful-evicts, useful-execs}
 use Rattle.in_flight.specs.Flights.{Flights, is_ready, net_of, nodes_of, ready_list, ready_on}
@@ -28,7 +27,7 @@ use Rattle.net_core.specs.Answers.{step_of}
 use Rattle.net_core.specs.Delivery.{AreMarked}
 use Rattle.net_core.specs.Machine.{Machine, history_of, program_of, settings_of, world_of}
 use Rattle.net_core.specs.Whole.{IsWhole}
-use Rattle.net_core.proofs.Enabled.{absent-refused, flying-enabled}
+use Rattle.net_core.proofs.Useful.Enabled.{absent-refused, flying-enabled}
 use Rattle.net_core.proofs.Prefixes.{took-more}
 use Rattle.net_core.proofs.Reaching.{settled-net, whole-bounded}
 

@@ -1,6 +1,5 @@
 -- What is in flight: only that is delivered, and a core is at one end of its link.
-use Rattle.std.proofs.Common.{◌≡◌, ℕ, Bool, true, false, ◌&&◌, [], Option, Some, None, refl, ap, ◌∙◌}
-use Rattle.std.specs.Prelude.{if◌then◌else◌}
+use Rattle.std.proofs.Common.{◌≡◌, ℕ, true, [], Some, None, refl, ap, ◌∙◌}
 use Rattle.tcc_base.specs.declared.names.CoreId.{CoreId}
 use Rattle.tcc_base.specs.declared.names.NodeId.{NodeId}
 use Rattle.tcc_base.specs.declared.names.NodeId.TheVariants as code_node
@@ -8,25 +7,16 @@ use Rattle.tcc_live.specs.Fits.{fits}
 use Rattle.tcc_maps.specs.Bridge.{node_of}
 use Rattle.tcc_maps.specs.Nodes.{Node, Deliver, Msg}
 use Rattle.tcc_rules.specs.Links.{in_flight}
-use Rattle.tcc_rules.specs.Step.{Stepped, happens, if_in_flight, is_node, names_nodes, step}
 use Rattle.in_flight.specs.Flights.{net_of}
 use Rattle.net_core.specs.Answers.{step_of}
-use Rattle.net_core.specs.Machine.{Machine, settings_of, world_of}
+use Rattle.net_core.specs.Machine.{Machine, settings_of}
 use Rattle.net_core.specs.Whole.{IsWhole}
+use Rattle.net_core.proofs.Useful.Enabled.{absent-refused}
 use Rattle.net_core.proofs.Reaching.{in-bounds, settled-net}
-
-none-either : (b : Bool) (o : Option Stepped) → o ≡ None → (if b then o else None) ≡ None
-none-either true o e = e
-none-either false o e = refl
-
-absent-in : (m : Machine) (src dst : Node) (k : ℕ) → in_flight (world_of m).net src dst k ≡ None → step_of m (Deliver src dst k) ≡ None
-unfolding step names_nodes happens
-absent-in m src dst k e =
-    none-either (is_node (settings_of m) src && is_node (settings_of m) dst) _ (ap (if_in_flight (settings_of m) (world_of m) src dst k) e)
 
 pub absent : (m : Machine) (src dst : Node) (k : ℕ) → m.unsent ≡ [] → in_flight (net_of m.flights) src dst k ≡ None
     → step_of m (Deliver src dst k) ≡ None
-absent m src dst k settled e = absent-in m src dst k (ap (λ net. in_flight net src dst k) (settled-net m settled) ∙ e)
+absent m src dst k settled e = absent-refused m src dst k (ap (λ net. in_flight net src dst k) (settled-net m settled) ∙ e)
 
 -- the node is no core
 abbrev pub IsNoCore : NodeId → Type 0

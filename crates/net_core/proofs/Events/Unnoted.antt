@@ -8,7 +8,7 @@ use Rattle.tcc_rules.specs.Attempt.{Out}
 use Rattle.tcc_rules.specs.CoreDeliver.{acknowledged, core_deliver, data_request, fill, fill_awaited, grant, grant_phase, if_violated}
 use Rattle.tcc_rules.specs.CoreDeliver.{ignored, invalidate, is_violated, probe_reply, reply_phase, violated_in, without}
 use Rattle.tcc_rules.specs.State.{Awaited, CoreState, Phase, Running, AwaitTid, DoomedTid, Probing, Ready, Overflowing, Solo, Halted}
-use Rattle.net_core.proofs.CoreActed.{Unnoted}
+use Rattle.net_core.proofs.Events.Cores.{Unnoted}
 
 either : (b : Bool) (o p : Out) → o.commit ≡ None → p.commit ≡ None → (if b then o else p).commit ≡ None
 either true o p e f = e

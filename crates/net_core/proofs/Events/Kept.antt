@@ -1,6 +1,6 @@
 -- The machine after an event of one node.
-use Rattle.std.proofs.Common.{◌≡◌, ℕ, ◌+◌, ◌<◌, ◌≤◌, Bool, true, false, List, [], ◌∷◌, ◌++◌, Some}
-use Rattle.std.proofs.Common.{refl, ap, sym, ◌∙◌, subst, arith}
+use Rattle.std.proofs.Common.{◌≡◌, ℕ, ◌+◌, ◌<◌, ◌≤◌, Bool, true, false, List, [], ◌∷◌, ◌++◌, Some, refl}
+use Rattle.std.proofs.Common.{ap, sym, ◌∙◌, subst, arith}
 use Rattle.std.specs.Prelude.{nat_lt, ◌==◌, if◌then◌else◌}
 use Rattle.std.proofs.lemmas.Bool.Decides.{nat_tests}
 use Rattle.image_load.specs.Contents.{started}
@@ -39,10 +39,12 @@ pub same-dirs : (m n : Machine) → n.cores.code ≡ m.cores.code → n.dirs ≡
 same-dirs m n code dirs = λ i. dirs_of (first_ram (started (code i))) (dirs i)
 
 -- the rules' next history, where the rules' step is known
-pub next-is : (m n : Machine) (e : Event) (o : Stepped) → step_of m e ≡ Some o → world_of n ≡ o.world → n.commits ≡ and_noted o.noted m.commits
+pub next-is : (m n : Machine) (e : Event) (o : Stepped) → step_of m e ≡ Some o → world_of n ≡ o.world
+    → n.commits ≡ and_noted o.noted m.commits
     → next (settings_of m) (program_of m) (history_of m) e ≡ Some (history_of n)
 unfolding next history_of
-next-is m n e o s w cs = ap (recorded (record { world = world_of m; commits = m.commits })) s ∙ (λ i. Some (record { world = sym w i; commits = sym cs i }))
+next-is m n e o s w cs = ap (recorded (record { world = world_of m; commits = m.commits })) s
+    ∙ (λ i. Some (record { world = sym w i; commits = sym cs i }))
 
 -- the event was taken
 pub took-by : (m n : Machine) (e : Event) (o : Stepped) (t : Told) → step_of m e ≡ Some o → world_of n ≡ o.world
@@ -131,7 +133,8 @@ none-among t [] e = tt
 none-among t (c ∷ cs) e = (λ q. other q, none-among t cs (omega (arith, e)))
   where
     other : c.tid.0 ≡ t → ⊥
-    other q = let same : (c.tid.0 == t) ≡ true = grind (arith, nat_tests) in let one : num (c.tid.0 == t) ≡ 1 = rw same refl in absurd (omega (arith, e, one))
+    other q = let same : (c.tid.0 == t) ≡ true = grind (arith, nat_tests) in
+        let one : num (c.tid.0 == t) ≡ 1 = rw same refl in absurd (omega (arith, e, one))
 
 -- a commit that an event notes has a TID that no commit before it has
 pub new-tid : (m : Machine) (e : Event) (o : Stepped) (c : Commit) → IsWhole m → step_of m e ≡ Some o → o.noted ≡ Some c
@@ -140,13 +143,15 @@ unfolding next history_of started
 new-tid m e o c w s noted =
     let h : History = record { world = o.world; commits = insert_commit c m.commits } in
     let there : next (settings_of m) (program_of m) (history_of m) e ≡ Some h =
-    ap (recorded (record { world = world_of m; commits = m.commits })) s ∙ ap (λ n. Some (record { world = o.world; commits = and_noted n m.commits })) noted in
+    ap (recorded (record { world = world_of m; commits = m.commits })) s
+    ∙ ap (λ n. Some (record { world = o.world; commits = and_noted n m.commits })) noted in
     let es : List Event = w.reached.taken ++ e ∷ [] in
     let all : run (settings_of m) (program_of m) (world_at_start (start_of m)) es ≡ Some h =
     run-on (settings_of m) (program_of m) (world_at_start (start_of m)) w.reached.taken e (history_of m) w.reached.reaches ∙ there in
     let t : TidsOf (grants_of (start_of m) es) h.commits = rw all at (committed_tids_were_granted_once (start_of m) es) in
     let once : times c.tid.0 (insert_commit c m.commits) ≤ 1 = t.once c.tid.0 in
-    let sum : times c.tid.0 (insert_commit c m.commits) ≡ num (c.tid.0 == c.tid.0) + times c.tid.0 m.commits = times-insert c.tid.0 c m.commits in
+    let sum : times c.tid.0 (insert_commit c m.commits) ≡ num (c.tid.0 == c.tid.0) + times c.tid.0 m.commits =
+    times-insert c.tid.0 c m.commits in
     let own : num (c.tid.0 == c.tid.0) ≡ 1 = one c.tid.0 in
     none-among c.tid.0 m.commits (omega (arith, once, sum, own))
   where

@@ -1,6 +1,6 @@
 -- Which evictions are useful: those that a machine lists for its cores.
-use Rattle.std.proofs.Common.{◌≡◌, ℕ, zero, suc, ◌+◌, ◌<◌, Bool, true, false, inl, inr, List, [], ◌∷◌, ◌++◌, map, length, Option}
-use Rattle.std.proofs.Common.{Some, refl, ap, sym, ◌∙◌, subst, arith}
+use Rattle.std.proofs.Common.{◌≡◌, ℕ, zero, suc, ◌+◌, ◌<◌, Bool, true, false, inl, inr, List, [], ◌∷◌, ◌++◌, map, length, Option, Some}
+use Rattle.std.proofs.Common.{refl, ap, sym, ◌∙◌, subst, arith}
 use Rattle.std.specs.Prelude.{slice_get, ◌↔◌, IsTrue}
 use borrow.Author.Count.{below_more}
 use Rattle.std.specs.List.{flat_map}
@@ -12,7 +12,7 @@ use Rattle.core_bank.specs.Uses.{exec_events}
 use Rattle.in_flight.specs.Flights.{Flights, nodes_of, ready_list, ready_on}
 use Rattle.net_core.specs.Machine.{Machine, program_of, settings_of, world_of}
 use Rattle.net_core.specs.Whole.{IsWhole}
-use Rattle.net_core.proofs.UsefulEvents.{evicts_of, execs_of, useful-parts}
+use Rattle.net_core.proofs.Useful.Listed.{evicts_of, execs_of, useful-parts}
 
 -- ---- what is in a list
 
@@ -76,7 +76,8 @@ useful-listed : (m : Machine) → IsWhole m → m.unsent ≡ [] → (c x y : ℕ
     → is_useful (settings_of m) (program_of m) (world_of m) (Evict c x y) ≡ true
 useful-listed m h e c x y g =
     let all : IsIn (Evict c x y) (execs_of m ++ (evicts_of m ++ ready_list m.flights)) =
-    in-right (Evict c x y) (execs_of m) (evicts_of m ++ ready_list m.flights) (in-left (Evict c x y) (evicts_of m) (ready_list m.flights) g) in
+    in-right (Evict c x y) (execs_of m) (evicts_of m ++ ready_list m.flights)
+    (in-left (Evict c x y) (evicts_of m) (ready_list m.flights) g) in
     (useful-holds (settings_of m) (program_of m) (world_of m) (Evict c x y)).0 (subst (IsIn (Evict c x y)) (sym (useful-parts m h e)) all)
 
 listed-useful : (m : Machine) → IsWhole m → m.unsent ≡ [] → (c x y : ℕ)

@@ -1,0 +1,3 @@
+-- Words as the commits left them.
+pub mod Newest
+pub mod Seen
