@@ -7,13 +7,12 @@ use Rattle.image_load.specs.Contents.{Contents, started}
 use Rattle.rv_code.specs.Machine.{program}
 use Rattle.rv_serial.specs.Suiting.{world_at_start}
 use Rattle.tcc_base.specs.Settings.{Settings}
-use Rattle.tcc_maps.specs.Nodes.{Event as RuleEvent}
 use Rattle.tcc_msg.specs.Plain.{event_of}
 use Rattle.tcc_msg.specs.declared.event.Event.{Event}
 use Rattle.tcc_program.specs.Program.{Program}
 use Rattle.tcc_rules.specs.Step.{History, and_then, next, recorded, run, run_from}
 use Rattle.net_core.specs.Answers.{step_of}
-use Rattle.net_core.specs.Machine.{Machine, history_of, program_of, settings_of}
+use Rattle.net_core.specs.Machine.{Machine, history_of, program_of, settings_of, start_of}
 use Rattle.net_core.proofs.Lemmas.{run-on}
 use Rattle.tcc_refine.specs.Refined.{IsRefined, Refined}
 use Rattle.tcc_replay.specs.Replayed.{EqualEventsGiveEqualMachines, IsRefusedAt, TakenIsNotRefused, history_by}
@@ -91,9 +90,9 @@ refused-here r c es i e k t there at none = record {
   before = is-there (history_by c (take i es)) (history_of r.machine) (reached-by r c es i k t);
   refused = subst (λ d. history_by d (take (i + 1) es) ≡ None) t.code
       (ap (λ xs. history_by r.machine.cores.code xs) (first-longer es i e at ∙ ap (λ xs. xs ++ e ∷ []) (sym t.taken))
-      ∙ ap (run (settings_of r.machine) (program_of r.machine) (world_at_start (started r.machine.cores.code)))
-        (map-append event_of r.taken (e ∷ []))
-      ∙ run-on (settings_of r.machine) (program_of r.machine) (world_at_start (started r.machine.cores.code)) (map event_of r.taken) (event_of e)
+      ∙ ap (run (settings_of r.machine) (program_of r.machine) (world_at_start (start_of r.machine)))
+      (map-append event_of r.taken (e ∷ []))
+      ∙ run-on (settings_of r.machine) (program_of r.machine) (world_at_start (start_of r.machine)) (map event_of r.taken) (event_of e)
       (history_of r.machine) k.is_run
       ∙ no-next r.machine e none);
 }

@@ -1,12 +1,13 @@
 -- What the replay of a list of events answers.
-use Rattle.std.specs.Prelude.{ℕ, ◌+◌, ◌<◌, ◌≡◌, List, length, map, take, Option, IsSome, None}
+use Rattle.std.specs.Prelude.{ℕ, ◌+◌, ◌<◌, ◌≤◌, ◌≡◌, List, length, map, take, Option, IsSome, None}
 use Rattle.image_load.specs.Contents.{Contents, started}
 use Rattle.rv_code.specs.Machine.{program}
 use Rattle.rv_serial.specs.Suiting.{world_at_start}
+use Rattle.schedule_text.specs.WellFormed.{IsWellFormed}
 use Rattle.tcc_msg.specs.Plain.{event_of}
 use Rattle.tcc_msg.specs.declared.event.Event.{Event}
 use Rattle.tcc_rules.specs.Step.{History, run}
-use Rattle.net_core.specs.Machine.{history_of}
+use Rattle.net_core.specs.Machine.{history_of, settings_of}
 use Rattle.tcc_refine.specs.Refined.{IsRefined, Refined}
 use Rattle.tcc_replay.specs.declared.replaying.ReplayFault.{ReplayFault}
 use Rattle.tcc_replay.specs.declared.replaying.ReplayFault.TheVariants.{Memory, Refused}
@@ -34,3 +35,8 @@ EqualEventsGiveEqualMachines = (r s : Refined) → IsRefined r → IsRefined s �
 -- none of them is refused
 abbrev pub TakenIsNotRefused : Type 0
 TakenIsNotRefused = (r : Refined) → IsRefined r → (i : ℕ) → IsRefusedAt r.machine.cores.code r.taken i → ⊥
+
+-- with the machine's settings they are a well-formed schedule
+abbrev pub TakenHasText : Type 0
+TakenHasText = (r : Refined) → IsRefined r → r.machine.events ≤ 4194304
+    → IsWellFormed (record { config = settings_of r.machine; events = r.taken })

@@ -1,6 +1,6 @@
 // A list of events, taken by a machine from its start.
 ghost use Rattle.std.specs.Prelude.{◌≡◌, ◌≤◌, [], IfErr, IfOk, length};
-ghost use Rattle.tcc_replay.specs.Replayed.{EqualEventsGiveEqualMachines, IsReplayFault, TakenIsNotRefused};
+ghost use Rattle.tcc_replay.specs.Replayed.{EqualEventsGiveEqualMachines, IsReplayFault, TakenHasText, TakenIsNotRefused};
 
 use image_load::Loaded;
 use net_core::StepError;
@@ -54,4 +54,9 @@ pub fn equal_events_give_equal_machines()
 /// The events that a machine took are refused nowhere when they are replayed from the same start.
 pub fn what_was_taken_is_not_refused()
     ensures { TakenIsNotRefused }
+{}
+
+/// The events that a machine took, with its settings, are a well-formed schedule, so they have a text.
+pub fn what_was_taken_has_a_text()
+    ensures { TakenHasText }
 {}

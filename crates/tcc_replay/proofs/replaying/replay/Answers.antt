@@ -1,5 +1,5 @@
 -- One more event is taken, or the first that isn't enabled is told.
-use Rattle.std.proofs.Common.{◌≡◌, ◌∙◌, ◌<◌, ◌≤◌, length, Err, ap, sym, subst, arith}
+use Rattle.std.proofs.Common.{◌∙◌, ◌≤◌, length, Err, ap, sym, subst, arith}
 use Rattle.std.specs.Prelude.{get_or}
 use Rattle.std.proofs.lemmas.Option.{slice_get-get_or}
 use Rattle.tcc_msg.specs.declared.event.Event.{Event}
