@@ -17,17 +17,12 @@ fn takes_all_events_or_names_the_first_that_is_not_enabled(rt: HostRuntime) -> R
     let images = raw(alloc, &config, &[file])?;
     let loaded = load(alloc, &config, &images)?;
     let events = [Event::Exec(CoreId(1)), Event::Exec(CoreId(0))];
-    let machine = match replay(alloc, &loaded, &events) {
-        Ok(machine) => machine,
-        Err(_) => return Err(Fail),
-    };
+    let machine = replay(alloc, &loaded, &events)?;
     assert_eq!(rt; machine.taken(), events.as_slice());
     let refused = [Event::Exec(CoreId(1)), Event::Exec(CoreId(2))];
     match replay(alloc, &loaded, &refused) {
-        Ok(_) => Err(Fail),
-        Err(fault) => {
-            assert_eq!(rt; fault, ReplayFault::Refused(1));
-            Ok(())
-        }
+        Ok(_) => return Err("took an event that isn't enabled")?,
+        Err(fault) => assert_eq!(rt; fault, ReplayFault::Refused(1)),
     }
+    Ok(())
 }
