@@ -1,8 +1,9 @@
 -- A machine that has taken the first of some events, and what is so of all of them.
 use Rattle.std.proofs.Common.{◌≡◌, ℕ, zero, suc, ◌+◌, ◌<◌, ◌≤◌, List, [], ◌∷◌, ◌++◌, length, map, take, Option, Some, None}
 use Rattle.std.proofs.Common.{refl, ap, sym, ◌∙◌, subst, arith}
-use Rattle.std.specs.Prelude.{IsSome, slice_get}
-use Rattle.std.proofs.lemmas.List.{map-append}
+use Rattle.std.specs.Prelude.{IsSome, get_or}
+use Rattle.std.proofs.Math.Seq.{take-length, take-suc}
+use Rattle.std.proofs.lemmas.List.{length-take-le, map-append}
 use Rattle.image_load.specs.Contents.{Contents, started}
 use Rattle.rv_code.specs.Machine.{program}
 use Rattle.rv_serial.specs.Suiting.{world_at_start}
@@ -22,21 +23,13 @@ pub record TookFirst (r : Refined) (c : Contents) (es : List Event) (i : ℕ) : 
   pub taken : r.taken ≡ take i es
   pub code : r.machine.cores.code ≡ c
 
-one-more : (es : List Event) (k : ℕ) (e : Event) → slice_get es k ≡ Some e → take (suc k) es ≡ take k es ++ e ∷ []
-one-more [] k e h = absurd (cc)
-one-more (x ∷ es) zero e h = let same : x ≡ e = cc in ap (λ y. y ∷ []) same
-one-more (x ∷ es) (suc k) e h = ap (λ ys. x ∷ ys) (one-more es k e h)
+first-longer : (es : List Event) (k : ℕ) (d : Event) → k < length es → take (k + 1) es ≡ take k es ++ get_or es k d ∷ []
+first-longer es k d there = (let more : k + 1 ≡ suc k = omega arith in ap (λ j. take j es) more) ∙ take-suc es k d there
 
-next-number : (k : ℕ) → k + 1 ≡ suc k
-next-number k = omega arith
-
-pub first-longer : (es : List Event) (k : ℕ) (e : Event) → slice_get es k ≡ Some e → take (k + 1) es ≡ take k es ++ e ∷ []
-first-longer es k e h = ap (λ j. take j es) (next-number k) ∙ one-more es k e h
-
-pub took-more : (r s : Refined) (c : Contents) (es : List Event) (i : ℕ) (e : Event) → TookFirst r c es i → slice_get es i ≡ Some e
-    → s.taken ≡ r.taken ++ e ∷ [] → s.machine.cores.code ≡ r.machine.cores.code → TookFirst s c es (i + 1)
-took-more r s c es i e t at more code = record {
-  taken = more ∙ ap (λ xs. xs ++ e ∷ []) t.taken ∙ sym (first-longer es i e at);
+pub took-more : (r s : Refined) (c : Contents) (es : List Event) (i : ℕ) (d : Event) → TookFirst r c es i → i < length es
+    → s.taken ≡ r.taken ++ get_or es i d ∷ [] → s.machine.cores.code ≡ r.machine.cores.code → TookFirst s c es (i + 1)
+took-more r s c es i d t there more code = record {
+  taken = more ∙ ap (λ xs. xs ++ get_or es i d ∷ []) t.taken ∙ sym (first-longer es i d there);
   code = code ∙ t.code;
 }
 
@@ -47,24 +40,11 @@ took-none r c es taken code = record { taken = taken ∙ sym (take-none es); cod
     take-none [] = refl
     take-none (x ∷ xs) = refl
 
-take-whole : (es : List Event) → take (length es) es ≡ es
-take-whole [] = refl
-take-whole (x ∷ es) = ap (λ xs. x ∷ xs) (take-whole es)
-
 pub took-whole : (r : Refined) (c : Contents) (es : List Event) (i : ℕ) → TookFirst r c es i → i ≡ length es → r.taken ≡ es
-took-whole r c es i t e = t.taken ∙ ap (λ k. take k es) e ∙ take-whole es
-
-first-length : (es : List Event) (i : ℕ) → i ≤ length es → length (take i es) ≡ i
-first-length es zero h = none es
-  where
-    none : (xs : List Event) → length (take 0 xs) ≡ 0
-    none [] = refl
-    none (x ∷ xs) = refl
-first-length [] (suc i) h = omega (arith, h)
-first-length (x ∷ es) (suc i) h = ap suc (first-length es i (omega (arith, h)))
+took-whole r c es i t e = t.taken ∙ ap (λ k. take k es) e ∙ take-length es
 
 pub took-length : (r : Refined) (c : Contents) (es : List Event) (i : ℕ) → TookFirst r c es i → i ≤ length es → length r.taken ≡ i
-took-length r c es i t h = ap length t.taken ∙ first-length es i h
+took-length r c es i t h = ap length t.taken ∙ length-take-le i es h
 
 -- the history of a machine by its events
 reached-by : (r : Refined) (c : Contents) (es : List Event) (i : ℕ) → IsRefined r → TookFirst r c es i
@@ -83,13 +63,13 @@ unfolding next history_of
 no-next m e q = ap (recorded (history_of m)) q
 
 -- what is not enabled after the first i is the first that isn't enabled at its turn
-pub refused-here : (r : Refined) (c : Contents) (es : List Event) (i : ℕ) (e : Event) → IsRefined r → TookFirst r c es i → i < length es
-    → slice_get es i ≡ Some e → step_of r.machine (event_of e) ≡ None → IsRefusedAt c es i
-refused-here r c es i e k t there at none = record {
+pub refused-here : (r : Refined) (c : Contents) (es : List Event) (i : ℕ) (d : Event) → IsRefined r → TookFirst r c es i → i < length es
+    → step_of r.machine (event_of (get_or es i d)) ≡ None → IsRefusedAt c es i
+refused-here r c es i d k t there none = let e = get_or es i d in record {
   there = there;
   before = is-there (history_by c (take i es)) (history_of r.machine) (reached-by r c es i k t);
   refused = subst (λ d. history_by d (take (i + 1) es) ≡ None) t.code
-      (ap (λ xs. history_by r.machine.cores.code xs) (first-longer es i e at ∙ ap (λ xs. xs ++ e ∷ []) (sym t.taken))
+      (ap (λ xs. history_by r.machine.cores.code xs) (first-longer es i d there ∙ ap (λ xs. xs ++ e ∷ []) (sym t.taken))
       ∙ ap (run (settings_of r.machine) (program_of r.machine) (world_at_start (start_of r.machine)))
       (map-append event_of r.taken (e ∷ []))
       ∙ run-on (settings_of r.machine) (program_of r.machine) (world_at_start (start_of r.machine)) (map event_of r.taken) (event_of e)

@@ -1,8 +1,5 @@
 -- One more event is taken, or the first that isn't enabled is told.
 use Rattle.std.proofs.Common.{◌∙◌, ◌≤◌, length, Err, ap, sym, subst, arith}
-use Rattle.std.specs.Prelude.{get_or}
-use Rattle.std.proofs.lemmas.Option.{slice_get-get_or}
-use Rattle.tcc_msg.specs.declared.event.Event.{Event}
 use Rattle.tcc_msg.specs.declared.event.Event.TheVariants.{Exec}
 use Rattle.tcc_replay.specs.Replayed.{IsRefusedAt}
 use Rattle.tcc_replay.proofs.Prefixes.{refused-here, took-length, took-more, took-none, took-whole}
@@ -20,19 +17,16 @@ step-requires c =
 pub loop-e-preserved : goal.loop-e-preserved
 loop-e-preserved c =
     took-more c.loop-e.machine c.step.new.self c.args.loaded.now c.args.events.now c.loop-e.e-index
-    (get_or c.args.events.now c.loop-e.e-index (Exec (record { 0 = 0 }))) c.loop-e.invariant
-    (slice_get-get_or c.args.events.now c.loop-e.e-index (Exec (record { 0 = 0 })) c.loop-e-test.true)
+    (Exec (record { 0 = 0 })) c.loop-e.invariant c.loop-e-test.true
     c.in-Ok-step.ensures.taken c.in-Ok-step.ensures.code
 
 pub returns-in-Err-Refused-clause-fault : goal.returns-in-Err-Refused-clause-fault
 returns-in-Err-Refused-clause-fault c =
-    let e : Event = get_or c.args.events.now c.loop-e.e-index (Exec (record { 0 = 0 })) in
-    let at = slice_get-get_or c.args.events.now c.loop-e.e-index (Exec (record { 0 = 0 })) c.loop-e-test.true in
     let few : c.loop-e.e-index ≤ length c.args.events.now = c.loop-e.auto.e-index-end in
     let long = took-length c.loop-e.machine c.args.loaded.now c.args.events.now c.loop-e.e-index c.loop-e.invariant few in
     subst (IsRefusedAt c.args.loaded.now c.args.events.now) (sym (ap length c.taken.ensures.taken ∙ long))
-    (refused-here c.loop-e.machine c.args.loaded.now c.args.events.now c.loop-e.e-index e c.taken.ensures.refined c.loop-e.invariant
-    c.loop-e-test.true at (c.in-Err-Refused.ensures.refused.0 (ap (λ x. Err x) c.in-Err-Refused.field-0-is)))
+    (refused-here c.loop-e.machine c.args.loaded.now c.args.events.now c.loop-e.e-index (Exec (record { 0 = 0 })) c.taken.ensures.refined c.loop-e.invariant
+    c.loop-e-test.true (c.in-Err-Refused.ensures.refused.0 (ap (λ x. Err x) c.in-Err-Refused.field-0-is)))
 
 pub returns-in-Ok-settle-clause-code : goal.returns-in-Ok-settle-clause-code
 returns-in-Ok-settle-clause-code c = c.settle.ensures.code ∙ c.loop-e.invariant.code
