@@ -1,7 +1,7 @@
 // What one directory of a machine does with a message.
 ghost use Rattle.std.specs.Prelude.{◌≡◌, ◌<◌, ◌/◌, ◌↔◌, ℕ, ◌&&◌, not, true, IfOk, OnErr, Err};
 ghost use Rattle.tcc_maps.specs.Shape.{home, lines};
-ghost use Rattle.tcc_maps.specs.Words.{line_of};
+ghost use Rattle.tcc_maps.specs.Words.{eight, line_of, word_at};
 ghost use Rattle.tcc_msg.specs.Plain.{msg_of};
 ghost use Rattle.tcc_rules.specs.DirDeliver.{dir_deliver};
 ghost use Rattle.directory.specs.Foreign.{is_foreign, HasSmallTids};
@@ -52,6 +52,16 @@ impl DirBank {
     {
         let dir = self.config.home(LineAddr(w.0 / 8));
         self.dirs.items[dir.0 as usize].word(w)
+    }
+
+    /// The eight home words of a line. It takes constant time.
+    pub fn line_words(&self, line: LineAddr) -> [u32; 8]
+        requires { line.0 < lines self.now.settings }
+        ensures { (ram : ℕ → ℕ) → result
+            ≡ eight (λ k. (dirs_of ram self.now (home self.now.settings line.0)).words (word_at line.0 k)) }
+    {
+        let dir = self.config.home(line);
+        self.dirs.items[dir.0 as usize].line_words(line)
     }
 
     /// The TID of a line's last commit that has come home or is on its way there, or 0. It takes constant time.

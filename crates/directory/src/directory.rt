@@ -1,6 +1,6 @@
 // A directory: its parts, and the readers of what it knows.
 ghost use Rattle.std.specs.Prelude.{◌≡◌, ℕ, ◌^◌, ◌<◌, ◌≤◌, ◌↔◌, true, false, Err, IfOk, OnOk, OnErr, IsTrue, option_map};
-ghost use Rattle.tcc_maps.specs.Words.{count_below};
+ghost use Rattle.tcc_maps.specs.Words.{count_below, eight, word_at};
 ghost use Rattle.tcc_maps.specs.Words.{line_of as line_number};
 ghost use Rattle.tcc_maps.specs.Shape.{lines as line_count};
 ghost use Rattle.tcc_maps.specs.Lines.{has_mark};
@@ -108,6 +108,14 @@ impl Directory {
         ensures { (elsewhere : ℕ → ℕ) → result ≡ (dir_of elsewhere self.now).words w.0 }
     {
         self.words.word(w)
+    }
+
+    /// The eight home words of a line that is at home here. It takes constant time.
+    pub fn line_words(&self, line: LineAddr) -> [u32; 8]
+        requires { IsAtHome self.now.lines.place line.0 }
+        ensures { (elsewhere : ℕ → ℕ) → result ≡ eight (λ k. (dir_of elsewhere self.now).words (word_at line.0 k)) }
+    {
+        self.words.line(line)
     }
 
     /// What is known of a line that is at home here. It takes constant time.

@@ -1,3 +1,4 @@
 -- Words as the commits left them.
+pub mod Places
 pub mod Newest
 pub mod Seen

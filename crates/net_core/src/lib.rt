@@ -5,6 +5,7 @@
 mod acting;
 mod answering;
 mod choosing;
+mod copies;
 mod enabling;
 mod placing;
 mod readers;

@@ -1,5 +1,5 @@
 // Whole machines: from raw images, by events, to what the commits leave.
-ghost use Rattle.std.specs.Prelude.{◌≡◌, [], IfOk};
+ghost use Rattle.std.specs.Prelude.{◌≡◌, ◌≤◌, length, IfOk};
 
 use crate::{Step, StepError, System};
 use directory::LineState;
@@ -83,6 +83,9 @@ const STORES_SEVEN_AND_HALTS: [u32; 6] = [
     0x0000_0073,
 ];
 
+// A store beside a copy of what it stores.
+const STORE_AND_COPY: [&[u32]; 2] = [&STORES_24, &COPIES_24_TO_16];
+
 // The second core gets TID 2 first and commits first; then the first core commits TID 1.
 const CROSSED: [Event; 17] = events![
     (e 0) (e 0) (e 0) (d C0 V 0) (e 1) (e 1) (e 1) (d C1 V 0) (d V C1 0) (d V C0 0) (d C0 D1 0)
@@ -125,6 +128,18 @@ const WHOLE_LINE: [Event; 32] = events![
     (d C1 D0 3)
 ];
 
+// The beginning of READER_WAITS, and then the Probe that waits there.
+const EARLY_PROBE: [Event; 19] = events![
+    (e 1) (e 1) (d C1 D1 0) (d D1 C1 0) (e 1) (e 1) (e 0) (e 0) (e 0) (d C0 V 0) (e 1) (d C1 V 0)
+    (d V C0 0) (d C0 D0 0) (d V C1 0) (d C1 D0 0) (d D0 C1 0) (d C1 D1 1) (d C1 D1 2)
+];
+
+// The beginning of WHOLE_LINE up to the first core's Commit, and then its words, which come too early.
+const EARLY_WORDS: [Event; 11] = events![
+    (e 0) (e 0) (e 0) (d C0 V 0) (d V C0 0) (d C0 D0 0) (d D0 C0 0) (e 0) (d C0 D0 1) (x 0 4 0)
+    (d C0 D0 3)
+];
+
 // The file of these words.
 fn file(alloc: Global, words: &[u32]) -> Result<List<u8>, Fail> {
     let mut items = Vec::new(alloc);
@@ -145,29 +160,38 @@ fn begun(alloc: Global, cores: u64, dirs: u64, images: [&[u32]; 2]) -> Result<Sy
     let loaded = if second.is_empty() {
         load(alloc, &cfg, &raw(alloc, &cfg, &[first])?)?
     } else {
-        load(
-            alloc,
-            &cfg,
-            &raw(alloc, &cfg, &[first, file(alloc, second)?])?,
-        )?
+        let files = [first, file(alloc, second)?];
+        load(alloc, &cfg, &raw(alloc, &cfg, &files)?)?
     };
     Ok(System::start(alloc, &loaded)?)
 }
 
-// The commits as TID, core and number of instructions.
-fn commits(alloc: Global, system: &System) -> Result<Vec<(u64, u8, u32)>, Fail> {
-    let mut listed = Vec::new(alloc);
-    for commit in system.commits() {
-        listed.push((commit.tid.0, commit.core.0, commit.n))?;
-    }
-    Ok(listed)
+// What a machine has come to, with the words 16 and 24 and the line 4 of its memory.
+#[derive(Clone, Copy, Debug, PartialEq, Eq)]
+struct Played {
+    run: Result<(), (u64, StepError)>,
+    events: u64,
+    commits: [Option<Listed>; 3],
+    pcs: [Option<u32>; 2],
+    words: [Option<u32>; 2],
+    line: Option<[u32; 8]>,
 }
 
-// What the first load of the k-th commit, from 0, gave.
-fn loaded(system: &System, k: usize) -> Option<u32> {
+// The TID, core and number of instructions of a commit, and what its first load gave.
+#[derive(Clone, Copy, Debug, PartialEq, Eq)]
+struct Listed(u64, u8, u32, Option<u32>);
+
+// TID 1 of the first core, and TID 2 of the second, each of three instructions and without a load.
+const FIRST: Option<Listed> = Some(Listed(1, 0, 3, None));
+
+const SECOND: Option<Listed> = Some(Listed(2, 1, 3, None));
+
+// The k-th commit, from 0.
+fn commit(system: &System, k: usize) -> Option<Listed> {
     let commit = system.commits().get(k)?;
-    let load = commit.loads.items.as_slice().first()?;
-    Some(load.value)
+    let load = commit.loads.items.as_slice().first();
+    let value = load.map(|load| load.value);
+    Some(Listed(commit.tid.0, commit.core.0, commit.n, value))
 }
 
 // Where a core stands by its last commit.
@@ -182,6 +206,55 @@ fn word(system: &System, w: u32) -> Option<u32> {
         return None;
     }
     Some(system.seen_word(WordAddr(w)))
+}
+
+// The words of a line as they are committed.
+fn line(system: &System, line: u32) -> Option<[u32; 8]> {
+    if !system.is_settled() || line >= system.config().words() / 8 {
+        return None;
+    }
+    Some(system.seen_line(LineAddr(line)))
+}
+
+// The words of a line at its home, where the machine is done.
+fn home(system: &System, line: u32) -> Option<[u32; 8]> {
+    if !system.done() || line >= system.config().words() / 8 {
+        return None;
+    }
+    Some(system.home_line(LineAddr(line)))
+}
+
+// What the machine has come to by a run that ended so.
+fn come_to(system: &System, run: Result<(), (u64, StepError)>) -> Played {
+    Played {
+        run,
+        events: system.events(),
+        commits: [commit(system, 0), commit(system, 1), commit(system, 2)],
+        pcs: [pc(system, 0), pc(system, 1)],
+        words: [word(system, 16), word(system, 24)],
+        line: line(system, 4),
+    }
+}
+
+// What a machine of two cores comes to by these events, or before the one that it doesn't take.
+fn play(alloc: Global, dirs: u64, images: [&[u32]; 2], events: &[Event]) -> Result<Played, Fail>
+    requires { length events.now ≤ 1000 }
+{
+    let mut system = begun(alloc, 2, dirs, images)?;
+    let run = system.run(events);
+    Ok(come_to(&system, run))
+}
+
+// A machine that took all of so many events, made these commits, and has no word in the line 4.
+fn all_taken(events: u64, commits: [Option<Listed>; 2], pcs: [u32; 2], words: [u32; 2]) -> Played {
+    Played {
+        run: Ok(()),
+        events,
+        commits: [commits[0], commits[1], None],
+        pcs: [Some(pcs[0]), Some(pcs[1])],
+        words: [Some(words[0]), Some(words[1])],
+        line: Some([0; 8]),
+    }
 }
 
 // The useful events, where all that was sent stands on its links.
@@ -219,191 +292,204 @@ fn take_first(system: &mut System) -> Option<Result<Step, StepError>> {
     Some(system.step(e))
 }
 
-#[test]
-fn the_useful_events_lead_to_the_end(rt: HostRuntime) -> Result<(), Fail> {
-    let mut system = begun(rt.alloc(), 1, 1, [&STORES_SEVEN_AND_HALTS, &[]])?;
-    assert_eq!(rt; system.ended(CoreId(0)), CoreEnd::Run);
+// Takes the useful event of number 0, and so on while there is one.
+fn take_all(system: &mut System) -> Result<(), StepError> {
     for _ in 0..100 {
-        let Some(done) = take_first(&mut system) else {
+        let Some(done) = take_first(system) else {
             break;
         };
         done?;
     }
-    assert!(rt; system.done());
-    assert_eq!(rt; system.events(), 19);
-    assert_eq!(rt;
-        commits(rt.alloc(), &system)?.as_slice(),
-        [(1, 0, 4), (2, 0, 2)].as_slice()
-    );
-    assert_eq!(rt; system.ended(CoreId(0)), CoreEnd::Halt(0));
-    assert_eq!(rt;
-        (pc(&system, 0), word(&system, 16)),
-        (Some(0x8000_0014), Some(7))
-    );
     Ok(())
 }
 
+// What a machine of one core and one directory comes to, and the words of line 2 at its home where it is done; and how the core ended,
+// before the first event and then.
+fn played_out(
+    alloc: Global,
+    image: &[u32],
+) -> Result<(Played, Option<[u32; 8]>, [CoreEnd; 2]), Fail> {
+    let mut system = begun(alloc, 1, 1, [image, &[]])?;
+    let before = system.ended(CoreId(0));
+    take_all(&mut system)?;
+    Ok((
+        come_to(&system, Ok(())),
+        home(&system, 2),
+        [before, system.ended(CoreId(0))],
+    ))
+}
+
 #[test]
-fn a_later_tid_commits_first_at_another_directory(rt: HostRuntime) -> Result<(), Fail> {
-    let mut system = begun(rt.alloc(), 2, 2, [&STORES_16, &STORES_24])?;
-    assert_eq!(rt; system.run(&CROSSED[..14]), Ok(()));
-    assert_eq!(rt;
-        commits(rt.alloc(), &system)?.as_slice(),
-        [(2, 1, 3)].as_slice()
-    );
-    assert_eq!(rt;
-        (pc(&system, 0), pc(&system, 1)),
-        (Some(0x8000_0000), Some(0x8000_002c))
-    );
-    assert_eq!(rt; (word(&system, 16), word(&system, 24)), (Some(0), Some(2)));
+fn the_useful_events_lead_to_the_end(rt: HostRuntime) -> Result<(), Fail> {
+    let (played, home, ends) = played_out(rt.alloc(), &STORES_SEVEN_AND_HALTS)?;
+    let commits = [Some(Listed(1, 0, 4, None)), Some(Listed(2, 0, 2, None))];
+    let taken = all_taken(19, commits, [0x8000_0014, 0], [7, 0]);
+    let pcs = [taken.pcs[0], None];
+    assert_eq!(rt; played, Played { pcs, ..taken });
+    assert_eq!(rt; home, Some([7, 0, 0, 0, 0, 0, 0, 0]));
+    assert_eq!(rt; ends, [CoreEnd::Run, CoreEnd::Halt(0)]);
     Ok(())
+}
+
+// After these events of two cores and two directories: the useful events, and whether each of those that are asked for is one.
+fn told_after(
+    alloc: Global,
+    images: [&[u32]; 2],
+    events: &[Event],
+    asked: [Event; 3],
+) -> Result<(List<Event>, [Option<bool>; 3]), Fail>
+    requires { length events.now ≤ 1000 }
+{
+    let mut system = begun(alloc, 2, 2, images)?;
+    let _ = system.run(events);
+    let told = asked.map(|e| is_useful(&system, e));
+    Ok((useful(alloc, &system)?, told))
 }
 
 #[test]
 fn useful_events_are_told_from_others(rt: HostRuntime) -> Result<(), Fail> {
-    let mut system = begun(rt.alloc(), 2, 2, [&STORES_16, &STORES_24])?;
-    assert_eq!(rt; system.run(&CROSSED[..14]), Ok(()));
-    let listed = useful(rt.alloc(), &system)?;
+    let (listed, told) = told_after(
+        rt.alloc(),
+        [&STORES_16, &STORES_24],
+        &CROSSED[..14],
+        events![(x 1 3 0) (x 0 2 0) (e 0)],
+    )?;
     assert_eq!(rt;
         listed.items.as_slice(),
         events![(e 1) (x 1 3 0) (d C0 D0 0) (d C1 D0 0) (d C1 D1 1)].as_slice()
     );
-    assert_eq!(rt; is_useful(&system, event!(x 1 3 0)), Some(true));
-    assert_eq!(rt; is_useful(&system, event!(x 0 2 0)), Some(false));
-    assert_eq!(rt; is_useful(&system, event!(e 0)), Some(false));
+    assert_eq!(rt; told, [Some(true), Some(false), Some(false)]);
     Ok(())
+}
+
+// After these events of two cores and two directories: what is known at a directory, and of a line.
+fn known_after(
+    alloc: Global,
+    images: [&[u32]; 2],
+    events: &[Event],
+    dir: u8,
+    line: u32,
+) -> Result<Option<(u64, u32, LineState)>, Fail>
+    requires { length events.now ≤ 1000 }
+{
+    let mut system = begun(alloc, 2, 2, images)?;
+    match system.run(events) {
+        Ok(()) => Ok(known(&system, dir, line)),
+        Err(_) => Ok(None),
+    }
 }
 
 #[test]
 fn a_home_tells_of_its_line(rt: HostRuntime) -> Result<(), Fail> {
-    let mut system = begun(rt.alloc(), 2, 2, [&STORES_24, &COPIES_24_TO_16])?;
-    assert_eq!(rt; system.run(&READER_WAITS[..22]), Ok(()));
     let marked = LineState {
         mark: Mask(1),
         owner: None,
         asked: false,
         tag: Tid(0),
     };
-    assert_eq!(rt; known(&system, 1, 3), Some((1, 1, marked)));
+    assert_eq!(rt;
+        known_after(rt.alloc(), STORE_AND_COPY, &READER_WAITS[..22], 1, 3)?,
+        Some((1, 1, marked))
+    );
     Ok(())
 }
 
 #[test]
-fn commits_are_listed_by_tid(rt: HostRuntime) -> Result<(), Fail> {
-    let mut system = begun(rt.alloc(), 2, 2, [&STORES_16, &STORES_24])?;
-    assert_eq!(rt; system.run(&CROSSED), Ok(()));
+fn a_later_tid_commits_first_at_another_directory(rt: HostRuntime) -> Result<(), Fail> {
+    let images: [&[u32]; 2] = [&STORES_16, &STORES_24];
     assert_eq!(rt;
-        commits(rt.alloc(), &system)?.as_slice(),
-        [(1, 0, 3), (2, 1, 3)].as_slice()
+        play(rt.alloc(), 2, images, &CROSSED[..14])?,
+        all_taken(14, [SECOND, None], [0x8000_0000, 0x8000_002c], [0, 2])
     );
+    // Commits are listed by TID.
     assert_eq!(rt;
-        (pc(&system, 0), pc(&system, 1)),
-        (Some(0x8000_000c), Some(0x8000_002c))
+        play(rt.alloc(), 2, images, &CROSSED)?,
+        all_taken(17, [FIRST, SECOND], [0x8000_000c, 0x8000_002c], [2, 2])
     );
-    assert_eq!(rt; (word(&system, 16), word(&system, 24)), (Some(2), Some(2)));
     Ok(())
 }
 
 #[test]
 fn a_reader_of_what_an_earlier_tid_stores_is_violated(rt: HostRuntime) -> Result<(), Fail> {
-    let mut system = begun(rt.alloc(), 2, 2, [&STORES_24, &COPIES_24_TO_16])?;
-    assert_eq!(rt; system.run(&READER_WAITS), Ok(()));
     assert_eq!(rt;
-        commits(rt.alloc(), &system)?.as_slice(),
-        [(1, 0, 3)].as_slice()
+        play(rt.alloc(), 2, STORE_AND_COPY, &READER_WAITS)?,
+        all_taken(27, [FIRST, None], [0x8000_000c, 0x8000_0020], [0, 2])
     );
-    assert_eq!(rt;
-        (pc(&system, 0), pc(&system, 1)),
-        (Some(0x8000_000c), Some(0x8000_0020))
-    );
-    assert_eq!(rt; (word(&system, 16), word(&system, 24)), (Some(0), Some(2)));
     Ok(())
 }
 
 #[test]
 fn a_probe_of_a_tid_that_is_not_served_waits(rt: HostRuntime) -> Result<(), Fail> {
-    let mut system = begun(rt.alloc(), 2, 2, [&STORES_24, &COPIES_24_TO_16])?;
-    let mut events = READER_WAITS[..18].to_vec(rt.alloc())?;
-    events.push(event!(d C1 D1 2))?;
-    assert_eq!(rt; system.run(&events), Err((18, StepError::Refused)));
-    assert_eq!(rt; system.events(), 18);
+    let played = play(rt.alloc(), 2, STORE_AND_COPY, &EARLY_PROBE)?;
+    assert_eq!(rt; played.run, Err((18, StepError::Refused)));
+    assert_eq!(rt; played.events, 18);
     Ok(())
 }
 
 #[test]
 fn a_later_tid_may_store_to_what_an_earlier_one_read(rt: HostRuntime) -> Result<(), Fail> {
-    let mut system = begun(rt.alloc(), 2, 2, [&READS_24_STORES_16, &STORES_24])?;
-    assert_eq!(rt; system.run(&OVER_A_READ), Ok(()));
     assert_eq!(rt;
-        commits(rt.alloc(), &system)?.as_slice(),
-        [(1, 0, 4), (2, 1, 3)].as_slice()
+        play(
+            rt.alloc(),
+            2,
+            [&READS_24_STORES_16, &STORES_24],
+            &OVER_A_READ
+        )?,
+        all_taken(
+            26,
+            [Some(Listed(1, 0, 4, Some(0))), SECOND],
+            [0x8000_0010, 0x8000_002c],
+            [2, 2]
+        )
     );
-    assert_eq!(rt; loaded(&system, 0), Some(0));
-    assert_eq!(rt;
-        (pc(&system, 0), pc(&system, 1)),
-        (Some(0x8000_0010), Some(0x8000_002c))
-    );
-    assert_eq!(rt; (word(&system, 16), word(&system, 24)), (Some(2), Some(2)));
     Ok(())
 }
 
 #[test]
 fn a_violated_attempt_leaves_no_trap(rt: HostRuntime) -> Result<(), Fail> {
-    let mut system = begun(rt.alloc(), 2, 2, [&STORES_24, &BREAKS_AT_ZERO])?;
-    assert_eq!(rt; system.run(&DOOMED), Ok(()));
     assert_eq!(rt;
-        commits(rt.alloc(), &system)?.as_slice(),
-        [(1, 0, 3)].as_slice()
+        play(rt.alloc(), 2, [&STORES_24, &BREAKS_AT_ZERO], &DOOMED)?,
+        all_taken(20, [FIRST, None], [0x8000_000c, 0x8000_0020], [0, 2])
     );
-    assert_eq!(rt;
-        (pc(&system, 0), pc(&system, 1)),
-        (Some(0x8000_000c), Some(0x8000_0020))
-    );
-    assert_eq!(rt; (word(&system, 16), word(&system, 24)), (Some(0), Some(2)));
     Ok(())
 }
 
 #[test]
 fn words_that_an_invalidation_overtook_are_asked_for_again(rt: HostRuntime) -> Result<(), Fail> {
-    let mut system = begun(rt.alloc(), 2, 2, [&STORES_24, &COPIES_24_TO_16])?;
-    assert_eq!(rt; system.run(&BEFORE_THE_FILL), Ok(()));
     assert_eq!(rt;
-        commits(rt.alloc(), &system)?.as_slice(),
-        [(1, 0, 3), (2, 1, 4)].as_slice()
+        play(rt.alloc(), 2, STORE_AND_COPY, &BEFORE_THE_FILL)?,
+        all_taken(
+            33,
+            [FIRST, Some(Listed(2, 1, 4, Some(2)))],
+            [0x8000_000c, 0x8000_0030],
+            [2, 2]
+        )
     );
-    assert_eq!(rt; loaded(&system, 1), Some(2));
-    assert_eq!(rt;
-        (pc(&system, 0), pc(&system, 1)),
-        (Some(0x8000_000c), Some(0x8000_0030))
-    );
-    assert_eq!(rt; (word(&system, 16), word(&system, 24)), (Some(2), Some(2)));
     Ok(())
 }
 
 #[test]
 fn words_of_an_earlier_commit_that_come_home_late_are_dropped(rt: HostRuntime) -> Result<(), Fail> {
-    let mut system = begun(rt.alloc(), 2, 1, [&STORES_32, &STORES_32_TO_39])?;
-    assert_eq!(rt; system.run(&WHOLE_LINE), Ok(()));
-    assert_eq!(rt;
-        commits(rt.alloc(), &system)?.as_slice(),
-        [(1, 0, 3), (2, 1, 10)].as_slice()
+    let taken = all_taken(
+        32,
+        [FIRST, Some(Listed(2, 1, 10, None))],
+        [0x8000_000c, 0x8000_0048],
+        [STORES_32_TO_39[8], 0],
     );
     assert_eq!(rt;
-        (pc(&system, 0), pc(&system, 1)),
-        (Some(0x8000_000c), Some(0x8000_0048))
+        play(rt.alloc(), 1, [&STORES_32, &STORES_32_TO_39], &WHOLE_LINE)?,
+        Played {
+            line: Some([2; 8]),
+            ..taken
+        }
     );
-    for w in 32..40 {
-        assert_eq!(rt; word(&system, w), Some(2), "at {w}");
-    }
     Ok(())
 }
 
 #[test]
 fn words_do_not_come_home_before_their_commit(rt: HostRuntime) -> Result<(), Fail> {
-    let mut system = begun(rt.alloc(), 2, 1, [&STORES_32, &STORES_32_TO_39])?;
-    let mut events = WHOLE_LINE[..9].to_vec(rt.alloc())?;
-    events.extend_from_slice(&events![(x 0 4 0) (d C0 D0 3)])?;
-    assert_eq!(rt; system.run(&events), Err((10, StepError::Refused)));
-    assert_eq!(rt; system.events(), 10);
+    let played = play(rt.alloc(), 1, [&STORES_32, &STORES_32_TO_39], &EARLY_WORDS)?;
+    assert_eq!(rt; played.run, Err((10, StepError::Refused)));
+    assert_eq!(rt; played.events, 10);
     Ok(())
 }

@@ -1,23 +1,17 @@
 -- The newest of several copies of a word.
-use Rattle.std.proofs.Common.{◌≡◌, ℕ, zero, suc, ◌+◌, ◌<◌, ◌≤◌, Bool, true, false, cond, List, [], ◌∷◌, ◌++◌, take, length, Option, Some}
-use Rattle.std.proofs.Common.{None, is_some, refl, ap, sym, ◌∙◌, arith, get_or, append_assoc, append-nil, if◌then◌else◌}
+use Rattle.std.proofs.Common.{◌≡◌, ℕ, zero, suc, ◌+◌, ◌<◌, ◌≤◌, Bool, true, false, cond, List, [], ◌∷◌, ◌++◌, take, length, Option, Some, subst}
+use Rattle.std.proofs.Common.{None, is_some, subst, refl, ap, sym, ◌∙◌, arith, get_or, append_assoc, append-nil, if◌then◌else◌}
 use Rattle.std.specs.Prelude.{nat_eq, slice_get}
 use Rattle.std.specs.List.{flat_map}
 use Rattle.std.proofs.Math.Seq.{take-suc}
 use Rattle.std.proofs.lemmas.List.{take_all}
 use Rattle.std.proofs.lemmas.List.Concat.{flat_map-append}
-use Rattle.std.proofs.lemmas.Bool.{eq-eqb, ne_eqb}
-use Rattle.tcc_base.specs.declared.names.LineAddr.{LineAddr}
-use Rattle.tcc_base.specs.declared.names.Mask.{Mask}
-use Rattle.tcc_base.specs.declared.names.Tid.{Tid}
+use Rattle.std.proofs.lemmas.Bool.{eq-eqb}
 use Rattle.tcc_maps.specs.Cache.{Cache, IsCache, dirty_mask}
-use Rattle.tcc_maps.specs.Masks.{has, hit}
+use Rattle.tcc_maps.specs.Masks.{hit}
 use Rattle.tcc_maps.specs.Nodes.{Msg, WriteBack}
 use Rattle.tcc_maps.specs.Shape.{Shape}
 use Rattle.tcc_maps.specs.Words.{line_of, place_of, those, word_at}
-use Rattle.tcc_msg.specs.Plain.{msg_of}
-use Rattle.tcc_msg.specs.declared.msg.Msg.{Msg as CodeMsg}
-use Rattle.tcc_msg.specs.declared.msg.Msg.TheVariants as code
 use Rattle.tcc_maps.proofs.Lemmas.{has-mask_of}
 use Rattle.tcc_rules.specs.Seen.{Copy, copies_on, copy_in, copy_of, newer, newest}
 use Rattle.tcc_rules.specs.State.{Link}
@@ -25,33 +19,10 @@ use Rattle.spec_cache.specs.Look.{Views}
 use Rattle.spec_cache.specs.declared.frame.FrameView.{FrameView}
 use Rattle.net_core.proofs.Prefixes.{took-more}
 
-pub newest-none : (a : Copy) → a ≡ newest a []
-unfolding newest
-newest-none a = refl
-
 pub newest-append : (a : Copy) (xs ys : List Copy) → newest a (xs ++ ys) ≡ newest (newest a xs) ys
 unfolding newest
 newest-append a [] ys = refl
 newest-append a (x ∷ xs) ys = newest-append (newer a x) xs ys
-
--- whether a line's mask means the word
-pub hit-own : (l m w : ℕ) → l ≡ line_of w → has m (place_of w) ≡ hit l m w
-unfolding hit
-hit-own l m w e = rw (eq-eqb l (line_of w) e) refl
-
-pub hit-elsewhere : (l m w : ℕ) → (l ≡ line_of w → ⊥) → nat_eq l (line_of w) ≡ hit l m w
-unfolding hit
-hit-elsewhere l m w e = rw (ne_eqb l (line_of w) e) refl
-
--- where the word is one of these, and where it isn't
-pub newest-carried : (a : Copy) (w l m : ℕ) (ws : List ℕ) (g : ℕ) → hit l m w ≡ true
-    → newer a (record { tag = g; value = get_or ws (place_of w) 0 }) ≡ newest a (copy_of w (WriteBack l m ws g))
-unfolding newest
-newest-carried a w l m ws g h = rw h refl
-
-pub newest-other : (a : Copy) (w l m : ℕ) (ws : List ℕ) (g : ℕ) → hit l m w ≡ false → a ≡ newest a (copy_of w (WriteBack l m ws g))
-unfolding newest
-newest-other a w l m ws g h = rw h refl
 
 -- ---- a frame
 
@@ -67,7 +38,7 @@ hit-dirty c w =
     rw line (has-mask_of (λ k. is_some (c.dirty (word_at (line_of w) k))) (place_of w) place ∙ ap (λ v. is_some (c.dirty v)) (own-word w))
 
 -- the copy of a frame is that of its words under its mask of dirty words
-pub frame-copy : (sh : Shape) (c : Cache) (w : ℕ) (f : FrameView) → IsCache sh c → Views c (line_of w) f
+frame-copy : (sh : Shape) (c : Cache) (w : ℕ) (f : FrameView) → IsCache sh c → Views c (line_of w) f
     → copy_of w (WriteBack (line_of w) f.dirty.0 f.words f.tag.0) ≡ copy_in (c.value w) (c.dirty w)
 frame-copy sh c w f k v =
     ap (λ m. copy_of w (WriteBack (line_of w) m f.words f.tag.0)) v.dirty
@@ -83,6 +54,12 @@ frame-copy sh c w f k v =
         let value : c.value w ≡ Some (get_or f.words (place_of w) 0) = v.words w refl (k.dirty w dirty) in
         rw (value, tag) refl
 
+-- the same where the line is given
+pub frame-at : (sh : Shape) (c : Cache) (l w : ℕ) (f : FrameView) → line_of w ≡ l → IsCache sh c → Views c l f
+    → copy_of w (WriteBack l f.dirty.0 f.words f.tag.0) ≡ copy_in (c.value w) (c.dirty w)
+frame-at sh c l w f e k =
+    subst (λ m. Views c m f → copy_of w (WriteBack m f.dirty.0 f.words f.tag.0) ≡ copy_in (c.value w) (c.dirty w)) e (frame-copy sh c w f k)
+
 -- a line without a frame has no dirty word
 pub unframed : (sh : Shape) (c : Cache) (w : ℕ) → IsCache sh c → c.held (line_of w) ≡ false → c.dirty w ≡ None
 unframed sh c w k h = go (c.dirty w) refl
@@ -94,28 +71,7 @@ unframed sh c w k h = go (c.dirty w) refl
         let none : is_some (c.value w) ≡ false = ap is_some (k.valued w h) in
         absurd (cc)
 
--- ---- a message, and those on a link
-
--- only these kinds carry words
-pub newest-wordless : (a : Copy) (w : ℕ) (m : CodeMsg)
-    → ((mask : Mask) (line : LineAddr) (ws : List ℕ) (tag : Tid) → m ≡ code.WriteBack mask line ws tag → ⊥)
-    → ((mask : Mask) (line : LineAddr) (ws : List ℕ) (tag : Tid) → m ≡ code.Flush mask line ws tag → ⊥)
-    → a ≡ newest a (copy_of w (msg_of m))
-newest-wordless a w (code.WriteBack mask line ws tag) b f = absurd (b mask line ws tag refl)
-newest-wordless a w (code.Flush mask line ws tag) b f = absurd (f mask line ws tag refl)
-newest-wordless a w code.TidReq b f = newest-none a
-newest-wordless a w (code.TidGrant t) b f = newest-none a
-newest-wordless a w (code.LoadReq l t) b f = newest-none a
-newest-wordless a w (code.Fill l ws) b f = newest-none a
-newest-wordless a w (code.Skip t) b f = newest-none a
-newest-wordless a w (code.Probe t) b f = newest-none a
-newest-wordless a w (code.ProbeReply t u) b f = newest-none a
-newest-wordless a w (code.Mark l m t) b f = newest-none a
-newest-wordless a w (code.Commit t n) b f = newest-none a
-newest-wordless a w (code.Abort t) b f = newest-none a
-newest-wordless a w (code.DataReq l) b f = newest-none a
-newest-wordless a w (code.Inv l m t) b f = newest-none a
-newest-wordless a w (code.InvAck l k) b f = newest-none a
+-- ---- the messages on a link
 
 -- the copy in what stands on a link under a number
 abbrev pub copy_there : (word : ℕ) → Option Msg → List Copy

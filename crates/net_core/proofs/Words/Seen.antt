@@ -10,17 +10,18 @@ use Rattle.rv_serial.specs.Suiting.{local_at_start, world_at_start}
 use Rattle.tcc_maps.specs.Cache.{Cache, IsCache}
 use Rattle.tcc_maps.specs.Nodes.{Core, Dir, Event}
 use Rattle.tcc_maps.specs.Shape.{Shape, home}
-use Rattle.tcc_maps.specs.Words.{line_of, those}
+use Rattle.tcc_maps.specs.Words.{eight, line_of, those, word_at}
 use Rattle.tcc_rules.specs.Seen.{Copy, IsDone, copies, copies_of, copies_on, copy_in, home_copy, newest, numbers, seen}
 use Rattle.tcc_rules.specs.State.{DirState, Link, World}
 use Rattle.tcc_rules.specs.Step.{History, run}
 use Rattle.tcc_serial.proofs.Lemmas.{runs_carry}
 use Rattle.core_bank.specs.Bank.{cores_of}
-use Rattle.dir_bank.specs.Bank.{dirs_of}
+use Rattle.dir_bank.specs.Bank.{DirsData, dirs_of}
 use Rattle.in_flight.specs.Flights.{net_of}
 use Rattle.net_core.specs.Machine.{Machine, history_of, settings_of, start_of, world_of}
 use Rattle.net_core.specs.Whole.{IsWhole}
-use Rattle.net_core.proofs.Words.Newest.{newest-append, newest-none}
+use Rattle.net_core.proofs.Words.Newest.{newest-append}
+use Rattle.net_core.proofs.Words.Places.{eight-at, newest-none, placed-line}
 use Rattle.net_core.proofs.Reaching.{settled-net}
 
 -- ---- caches
@@ -146,3 +147,17 @@ done-seen m now v value same s d x =
     let here : value ≡ (home_copy (settings_of m) (world_of m) v).value =
     x ram ∙ ap (λ q. (dirs_of ram m.dirs (home q (line_of v))).words v) s in
     here ∙ ap (λ k. (home_copy (settings_of k) (world_of k) v).value) same ∙ clean-seen (settings_of now) (world_of now) v d
+
+-- ---- the home words of a line
+
+pub home-word : (ram : ℕ → ℕ) (d : DirsData) (l k : ℕ) (ws : List ℕ) → k < 8
+    → ws ≡ eight (λ j. (dirs_of ram d (home d.settings l)).words (word_at l j))
+    → get_or ws k 0 ≡ (dirs_of ram d (home d.settings (line_of (word_at l k)))).words (word_at l k)
+home-word ram d l k ws b e =
+    ap (λ xs. get_or xs k 0) e
+    ∙ (eight-at (λ j. (dirs_of ram d (home d.settings l)).words (word_at l j)) k b
+    ∙ ap (λ n. (dirs_of ram d (home d.settings n)).words (word_at l k)) (sym (placed-line l k b)))
+
+pub home-tag : (ram : ℕ → ℕ) (d : DirsData) (l k t : ℕ) → k < 8 → t ≡ (dirs_of ram d (home d.settings l)).lines.tag l
+    → t ≡ (dirs_of ram d (home d.settings (line_of (word_at l k)))).lines.tag (line_of (word_at l k))
+home-tag ram d l k t b e = e ∙ ap (λ n. (dirs_of ram d (home d.settings n)).lines.tag n) (sym (placed-line l k b))

@@ -1,21 +1,38 @@
 -- The frame's dirty words, or no frame and so no dirty word.
-use Rattle.std.proofs.Common.{◌∙◌, ap, sym}
-use Rattle.tcc_rules.specs.Seen.{copy_in, newest}
+use Rattle.std.proofs.Common.{◌∙◌, ap, sym, ℕ}
+use Rattle.tcc_maps.specs.Nodes.{WriteBack}
+use Rattle.tcc_maps.specs.Words.{word_at}
+use Rattle.tcc_rules.specs.Seen.{copy_in, copy_of, newest}
 use Rattle.core_bank.specs.Bank.{cores_of}
-use Rattle.net_core.specs.Copies.{plain_copy}
-use Rattle.net_core.proofs.Words.Newest.{frame-copy, newest-none, unframed}
+use Rattle.net_core.specs.Copies.{nth_copy}
+use Rattle.net_core.proofs.Words.Newest.{frame-at, unframed}
+use Rattle.net_core.proofs.Words.Places.{newest-empty, newest-none, placed-line}
 use Rattle.net_core.proofs.seeing.newest_in_core.Goals as goal
 
-pub returns-in-Some : goal.returns-in-Some
-returns-in-Some c =
+pub returns-then-frame-ne0 : goal.returns-then-frame-ne0
+returns-then-frame-ne0 c = λ k b.
     let cache = (cores_of c.args.cores.now c.args.core.0).cache in
-    c.newest_under.ensures
-    ∙ ap (newest (plain_copy c.args.old))
-    (frame-copy c.args.cores.now.code.settings cache c.args.w.0 c.in-Some.frame c.requires.cache c.in-Some.ensures.1)
+    c.newest_under.ensures c.args.line.0 k b
+    ∙ ap (newest (nth_copy c.args.best.now k))
+    (frame-at c.args.cores.now.code.settings cache c.args.line.0 (word_at c.args.line.0 k) c.in-Some.frame (placed-line c.args.line.0 k b)
+    c.requires.cache c.in-Some.ensures.1)
 
-pub returns-in-None : goal.returns-in-None
-returns-in-None c =
+pub returns-else-frame-ne0 : goal.returns-else-frame-ne0
+returns-else-frame-ne0 c = λ k b.
     let cache = (cores_of c.args.cores.now c.args.core.0).cache in
-    newest-none (plain_copy c.args.old)
-    ∙ ap (λ o. newest (plain_copy c.args.old) (copy_in (cache.value c.args.w.0) o))
-    (sym (unframed c.args.cores.now.code.settings cache c.args.w.0 c.requires.cache c.in-None.ensures))
+    let f = c.in-Some.frame in
+    let a = nth_copy c.args.best.now k in
+    let w : ℕ = word_at c.args.line.0 k in
+    newest-empty a c.args.line.0 k f.words f.tag.0 b
+    ∙ ap (λ m. newest a (copy_of w (WriteBack c.args.line.0 m f.words f.tag.0))) (sym c.if-frame-ne0.false)
+    ∙ ap (newest a) (frame-at c.args.cores.now.code.settings cache c.args.line.0 w f (placed-line c.args.line.0 k b) c.requires.cache c.in-Some.ensures.1)
+
+pub returns-in_default : goal.returns-in_default
+returns-in_default c = λ k b.
+    let cache = (cores_of c.args.cores.now c.args.core.0).cache in
+    let a = nth_copy c.args.best.now k in
+    let w : ℕ = word_at c.args.line.0 k in
+    newest-none a
+    ∙ ap (λ o. newest a (copy_in (cache.value w) o))
+    (sym (unframed c.args.cores.now.code.settings cache w c.requires.cache
+    (ap cache.held (placed-line c.args.line.0 k b) ∙ c.in_default.ensures)))

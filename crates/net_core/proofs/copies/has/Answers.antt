@@ -3,7 +3,7 @@ use Rattle.std.proofs.Common.{arith}
 use Rattle.std.proofs.lemmas.Nat.Bits.{shr_and_one}
 use Rattle.std.proofs.lemmas.Bool.Decides.{nat_tests}
 use Rattle.tcc_maps.specs.Masks.{has}
-use Rattle.net_core.proofs.seeing.has.Goals as goal
+use Rattle.net_core.proofs.copies.has.Goals as goal
 
 pub returns : goal.returns
 unfolding has
