@@ -3,3 +3,5 @@ pub mod Numbers
 pub mod Grammar
 pub mod Fields
 pub mod Asked
+pub mod Bounds
+pub mod Laws

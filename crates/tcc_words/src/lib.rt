@@ -4,10 +4,12 @@
 mod command;
 mod fields;
 mod grammar;
+mod laws;
 mod numbers;
 mod reading;
 #[cfg(test)]
 mod tests;
 
 pub use command::{Command, Field, Machine, Verb, WordsFault};
+pub use laws::{commands_are_in_bounds, words_ask_for_one_command};
 pub use reading::settings;

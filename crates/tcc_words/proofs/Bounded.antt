@@ -1,0 +1,80 @@
+-- The numbers of a command are those of allowed fields.
+use Rattle.std.proofs.Common.{◌≡◌, ℕ, ◌+◌, ◌%◌, ◌^◌, ◌≤◌, IsTrue, List, length, Option, Some, None, sym, subst, ◌∙◌, arith}
+use Rattle.std.specs.Int.{is_power_of_two}
+use Rattle.std.specs.Prelude.{IfSome, codes}
+use Rattle.clap.specs.Walk.{Row, Text}
+use Rattle.clap.specs.Words.{first_of}
+use Rattle.tcc_base.specs.Settings.{Settings, IsAllowed}
+use Rattle.tcc_words.proofs.OneCommand.{one-value}
+use Rattle.tcc_words.specs.Asked.{HasPlaces, HasSettings, IsCommand, IsGiven, Asks}
+use Rattle.tcc_words.specs.Bounds.{IsInBounds}
+use Rattle.tcc_words.specs.Fields.{Allows, IsValue, images_of}
+use Rattle.tcc_words.specs.Numbers.{IsNumber}
+use Rattle.tcc_words.specs.declared.command.Command.{Command}
+use Rattle.tcc_words.specs.declared.command.Command.TheVariants as command
+use Rattle.tcc_words.specs.declared.command.Field.{Field}
+use Rattle.tcc_words.specs.declared.command.Field.TheVariants.{Cores, Dirs, Sets, Ways, Ram, Base, Steps, Images, Number}
+use Rattle.tcc_words.specs.declared.command.Verb.{Verb}
+use Rattle.tcc_words.specs.declared.command.Verb.TheVariants.{Run, Replay, Serial, Trial}
+
+-- settings that stand in allowed fields are allowed
+allowed : (rows : List Row) (s : Settings) → HasSettings rows s → ((field : Field) → Allows rows field) → IsAllowed s
+allowed rows s h every =
+    let c = every Cores in
+    let d = every Dirs in
+    let e = every Sets in
+    let w = every Ways in
+    let r = every Ram in
+    let b = every Base in
+    let cores = one-value 1 (first_of (codes "cores") rows) c.0 s.cores c.1 h.cores in
+    let dirs = one-value 1 (first_of (codes "dirs") rows) d.0 s.dirs d.1 h.dirs in
+    let ways = one-value 2 (first_of (codes "ways") rows) w.0 s.ways w.1 h.ways in
+    let sets = one-value 16 (first_of (codes "sets") rows) e.0 s.sets e.1 h.sets in
+    let ram = one-value 65536 (first_of (codes "ram") rows) r.0 s.ram r.1 h.ram in
+    let base = one-value 0x80000000 (first_of (codes "base") rows) b.0 s.base b.2 h.base in
+    let of_base = one-value 65536 (first_of (codes "ram") rows) b.1 s.ram b.3 h.ram in (
+      subst (λ n. (1 ≤ n) × (n ≤ 64)) cores (c.2, c.3),
+      subst (λ n. (1 ≤ n) × (n ≤ 64)) dirs (d.2, d.3),
+      subst (λ n. IsTrue (is_power_of_two n) × (n ≤ 1024)) sets (e.2, e.3),
+      subst (λ n. (1 ≤ n) × (n ≤ 16)) ways (w.2, w.3),
+      subst (λ n. (32 ≤ n) × (n ≤ 16777216) × (n % 32 ≡ 0)) ram (r.2, r.3, r.4),
+      subst (λ n. (n % 32 ≡ 0) × (n + s.ram ≤ 2 ^ 32)) base
+          (b.4, subst (λ k. b.0 + k ≤ 2 ^ 32) of_base b.5),
+    )
+
+steps-few : (rows : List Row) (n : ℕ) → IsValue 1000000 (first_of (codes "steps") rows) n → ((field : Field) → Allows rows field)
+    → n ≤ 4194304
+steps-few rows n h every =
+    let a = every Steps in
+    subst (λ k. k ≤ 4194304) (one-value 1000000 (first_of (codes "steps") rows) a.0 n a.1 h) a.2
+
+number-fits : (text : Option Text) (n : ℕ) → ((given : Text) × (text ≡ Some given) × IsNumber given n)
+    → IfSome text (λ given. (m : ℕ) × IsNumber given m × (1 ≤ m) × (m ≤ 2047)) → (1 ≤ n) × (n ≤ 2047)
+number-fits None n (given, e, h) a = absurd (cc)
+number-fits (Some text) n (given, e, h) a =
+    let same : ◌≡◌ {A = Text} text given = cc in
+    subst (λ k. (1 ≤ k) × (k ≤ 2047)) (sym (subst (λ t. IsNumber t a.0) same a.1).value ∙ h.value) (a.2, a.3)
+
+images-some : (rows : List Row) (images : List Text) → images ≡ images_of rows → 1 ≤ length (images_of rows)
+    → ((field : Field) → Allows rows field) → (1 ≤ length images) × (length images ≤ 16)
+images-some rows images is some every = subst (λ names. (1 ≤ length names) × (length names ≤ 16)) (sym is) (some, every Images)
+
+bounded : (verb : Verb) (rows : List Row) (c : Command) → HasPlaces verb rows → ((field : Field) → Allows rows field) → Asks verb rows c
+    → IsInBounds c
+bounded Run rows (command.Run machine images steps seed threads keep) places every a =
+    let some = images-some rows images a.1 places every in
+    record { allowed = allowed rows machine.config a.0.0 every; numbers = (some.0, some.1, steps-few rows steps a.2 every) }
+bounded Replay rows (command.Replay machine schedule images) places every a =
+    record { allowed = allowed rows machine.config a.0.0 every; numbers = images-some rows images a.2 places.1 every }
+bounded Serial rows (command.Serial machine list images) places every a =
+    record { allowed = allowed rows machine.config a.0.0 every; numbers = images-some rows images a.2 places.1 every }
+bounded Trial rows (command.Trial config work number steps seed) places every a =
+    let some = number-fits (first_of (codes "number") rows) number a.2 (every Number) in
+    record { allowed = allowed rows config a.0 every; numbers = (some.0, some.1, steps-few rows steps a.3 every) }
+bounded Run rows _ places every a = absurd a
+bounded Replay rows _ places every a = absurd a
+bounded Serial rows _ places every a = absurd a
+bounded Trial rows _ places every a = absurd a
+
+pub in-bounds : (words : List Text) (c : Command) → IsCommand words c → IsInBounds c
+in-bounds words c h = bounded h.verb h.rows c h.stands.places h.allowed h.asks

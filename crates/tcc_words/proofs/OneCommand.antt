@@ -1,0 +1,185 @@
+-- Words ask for one command at most, since each of its parts is told by what clap read.
+use Rattle.std.proofs.Common.{◌≡◌, ◌↔◌, ◌&&◌, ℕ, ◌+◌, ◌==◌, Bool, true, false, IsTrue, List, [], ◌∷◌, Option, Some, None}
+use Rattle.std.proofs.Common.{MatchOption, get_or, refl, sym, ap, subst, ◌∙◌, inl, inr, if◌then◌else◌}
+use Rattle.std.specs.Prelude.{codes}
+use Rattle.std.specs.Str.Parse.{digits_value}
+use Rattle.clap.specs.Words.{Row, Text, first_of, matches_of}
+use Rattle.tcc_base.specs.Settings.{Settings}
+use Rattle.work_gen.specs.Names.{work_word}
+use Rattle.work_gen.specs.declared.work.Work.{Work}
+use Rattle.work_gen.specs.declared.work.Work.TheVariants.{Counters, Transfers, Stencil, Sharing}
+use Rattle.tcc_words.specs.Asked.{Asks, HasMachine, HasSettings, IsCommand, IsGiven, IsRefused, MayBeGiven, Stands}
+use Rattle.tcc_words.specs.Fields.{Allows, BreaksFirst, IsSaid, IsValue, default_of, field_word, order}
+use Rattle.tcc_words.specs.Grammar.{grammar}
+use Rattle.tcc_words.specs.Laws.{CommandsAreNotRefused, WordsAskForOneCommand}
+use Rattle.tcc_words.specs.Numbers.{IsNumber, digits_of, radix_of}
+use Rattle.tcc_words.specs.declared.command.Command.{Command}
+use Rattle.tcc_words.specs.declared.command.Command.TheVariants as command
+use Rattle.tcc_words.specs.declared.command.Field.{Field}
+use Rattle.tcc_words.specs.declared.command.Field.TheVariants.{Cores, Dirs, Sets, Ways, Ram, Base, Steps, Seed}
+use Rattle.tcc_words.specs.declared.command.Machine.{Machine}
+use Rattle.tcc_words.specs.declared.command.Verb.{Verb}
+use Rattle.tcc_words.specs.declared.command.Verb.TheVariants.{Run, Replay, Serial, Trial}
+use Rattle.tcc_words.specs.declared.command.WordsFault.{WordsFault}
+use Rattle.tcc_words.specs.declared.command.WordsFault.TheVariants as fault
+use Rattle.tcc_words.proofs.Standing.{stands-verb}
+
+-- ---- what stands in one field
+
+one-number : (text : Text) (m n : ℕ) → IsNumber text m → IsNumber text n → m ≡ n
+one-number text m n a b = sym a.value ∙ b.value
+
+pub one-value : (default : ℕ) (o : Option Text) (m n : ℕ) → IsValue default o m → IsValue default o n → m ≡ n
+one-value default None m n a b = a ∙ sym b
+one-value default (Some text) m n a b = one-number text m n a b
+
+one-said : (rows : List Row) (field : Field) (m n : ℕ) → IsSaid rows field m → IsSaid rows field n → m ≡ n
+one-said rows field m n a b = one-value (default_of field) (first_of (field_word field) rows) m n a b
+
+one-some : {A : Type 0} (o : Option A) (x y : A) → o ≡ Some x → o ≡ Some y → x ≡ y
+one-some o x y a b = cc
+
+one-given : (rows : List Row) (name : Text) (m n : ℕ) → IsGiven rows name m → IsGiven rows name n → m ≡ n
+one-given rows name m n a b =
+    let text : a.0 ≡ b.0 = one-some (first_of name rows) a.0 b.0 a.1 b.1 in
+    one-number b.0 m n (subst (λ (t : Text). IsNumber t m) text a.2) b.2
+
+may-be : (rows : List Row) (name : Text) (m n : Option ℕ) → MayBeGiven rows name m → MayBeGiven rows name n → m ≡ n
+may-be rows name None None a b = refl
+may-be rows name None (Some n) a b = let there = b.1 in absurd cc
+may-be rows name (Some m) None a b = let there = a.1 in absurd cc
+may-be rows name (Some m) (Some n) a b = ap (λ (k : ℕ). Some k) (one-given rows name m n a b)
+
+-- ---- the machine
+
+one-settings : (rows : List Row) (s t : Settings) → HasSettings rows s → HasSettings rows t → s ≡ t
+one-settings rows s t a b =
+    let cores = one-said rows Cores s.cores t.cores a.cores b.cores in
+    let dirs = one-said rows Dirs s.dirs t.dirs a.dirs b.dirs in
+    let sets = one-said rows Sets s.sets t.sets a.sets b.sets in
+    let ways = one-said rows Ways s.ways t.ways a.ways b.ways in
+    let ram = one-said rows Ram s.ram t.ram a.ram b.ram in
+    let base = one-said rows Base s.base t.base a.base b.base in
+    λ i. record { cores = cores i; dirs = dirs i; sets = sets i; ways = ways i; base = base i; ram = ram i }
+
+same-truth : (P : Type 0) (a b : Bool) → (IsTrue a ↔ P) → (IsTrue b ↔ P) → a ≡ b
+same-truth P true true p q = refl
+same-truth P false false p q = refl
+same-truth P true false p q = sym (q.1 (p.0 refl))
+same-truth P false true p q = p.1 (q.0 refl)
+
+one-machine : (rows : List Row) (m n : Machine) → HasMachine rows m → HasMachine rows n → m ≡ n
+one-machine rows m n a b =
+    let config = one-settings rows m.config n.config a.0 b.0 in
+    let raw = same-truth (first_of (codes "raw") rows ≡ Some (codes "true")) m.raw n.raw a.1 b.1 in
+    λ i. record { config = config i; raw = raw i }
+
+-- ---- the workload
+
+-- a number by which the names of workloads differ
+work-tag : Text → ℕ
+work-tag text = get_or text 0 0 + get_or text 1 0
+
+work-of : ℕ → Work
+work-of n = if n == 210 then Counters else (if n == 230 then Transfers else (if n == 231 then Stencil else Sharing))
+
+work-again : (w : Work) → work-of (work-tag (work_word w)) ≡ w
+unfolding work-of work-tag
+work-again Counters = refl
+work-again Transfers = refl
+work-again Stencil = refl
+work-again Sharing = refl
+
+one-work : (v w : Work) → work_word v ≡ work_word w → v ≡ w
+one-work v w e = sym (work-again v) ∙ ap (λ (t : Text). work-of (work-tag t)) e ∙ work-again w
+
+-- ---- one command
+
+one-run : (rows : List Row) (c d : Command) → Asks Run rows c → Asks Run rows d → c ≡ d
+one-run rows (command.Run m images steps seed threads keep) (command.Run n images' steps' seed' threads' keep') a b =
+    let machine = one-machine rows m n a.0 b.0 in
+    let files : images ≡ images' = a.1 ∙ sym b.1 in
+    let most = one-said rows Steps steps steps' a.2 b.2 in
+    let start = one-said rows Seed seed seed' a.3 b.3 in
+    let hosts = may-be rows _ threads threads' a.4 b.4 in
+    let kept : keep ≡ keep' = a.5 ∙ sym b.5 in
+    λ i. command.Run (machine i) (files i) (most i) (start i) (hosts i) (kept i)
+one-run rows (command.Run m images steps seed threads keep) (command.Replay n file images') a b = absurd b
+one-run rows (command.Run m images steps seed threads keep) (command.Serial n file images') a b = absurd b
+one-run rows (command.Run m images steps seed threads keep) (command.Trial config work number steps' seed') a b = absurd b
+one-run rows (command.Replay m file images) d a b = absurd a
+one-run rows (command.Serial m file images) d a b = absurd a
+one-run rows (command.Trial config work number steps seed) d a b = absurd a
+
+one-replay : (rows : List Row) (c d : Command) → Asks Replay rows c → Asks Replay rows d → c ≡ d
+one-replay rows (command.Replay m file images) (command.Replay n file' images') a b =
+    let machine = one-machine rows m n a.0 b.0 in
+    let files : file ≡ file' = one-some _ file file' a.1 b.1 in
+    let loaded : images ≡ images' = a.2 ∙ sym b.2 in
+    λ i. command.Replay (machine i) (files i) (loaded i)
+one-replay rows (command.Replay m file images) (command.Run n images' steps seed threads keep) a b = absurd b
+one-replay rows (command.Replay m file images) (command.Serial n file' images') a b = absurd b
+one-replay rows (command.Replay m file images) (command.Trial config work number steps seed) a b = absurd b
+one-replay rows (command.Run m images steps seed threads keep) d a b = absurd a
+one-replay rows (command.Serial m file images) d a b = absurd a
+one-replay rows (command.Trial config work number steps seed) d a b = absurd a
+
+one-serial : (rows : List Row) (c d : Command) → Asks Serial rows c → Asks Serial rows d → c ≡ d
+one-serial rows (command.Serial m file images) (command.Serial n file' images') a b =
+    let machine = one-machine rows m n a.0 b.0 in
+    let files : file ≡ file' = one-some _ file file' a.1 b.1 in
+    let loaded : images ≡ images' = a.2 ∙ sym b.2 in
+    λ i. command.Serial (machine i) (files i) (loaded i)
+one-serial rows (command.Serial m file images) (command.Run n images' steps seed threads keep) a b = absurd b
+one-serial rows (command.Serial m file images) (command.Replay n file' images') a b = absurd b
+one-serial rows (command.Serial m file images) (command.Trial config work number steps seed) a b = absurd b
+one-serial rows (command.Run m images steps seed threads keep) d a b = absurd a
+one-serial rows (command.Replay m file images) d a b = absurd a
+one-serial rows (command.Trial config work number steps seed) d a b = absurd a
+
+one-trial : (rows : List Row) (c d : Command) → Asks Trial rows c → Asks Trial rows d → c ≡ d
+one-trial rows (command.Trial s work number steps seed) (command.Trial t work' number' steps' seed') a b =
+    let config = one-settings rows s t a.0 b.0 in
+    let works = one-work work work' (one-some _ (work_word work) (work_word work') a.1 b.1) in
+    let numbers = one-given rows _ number number' a.2 b.2 in
+    let most = one-said rows Steps steps steps' a.3 b.3 in
+    let start = one-said rows Seed seed seed' a.4 b.4 in
+    λ i. command.Trial (config i) (works i) (numbers i) (most i) (start i)
+one-trial rows (command.Trial s work number steps seed) (command.Run m images steps' seed' threads keep) a b = absurd b
+one-trial rows (command.Trial s work number steps seed) (command.Replay m file images) a b = absurd b
+one-trial rows (command.Trial s work number steps seed) (command.Serial m file images) a b = absurd b
+one-trial rows (command.Run m images steps seed threads keep) d a b = absurd a
+one-trial rows (command.Replay m file images) d a b = absurd a
+one-trial rows (command.Serial m file images) d a b = absurd a
+
+one-asked : (verb : Verb) (rows : List Row) (c d : Command) → Asks verb rows c → Asks verb rows d → c ≡ d
+one-asked Run rows c d a b = one-run rows c d a b
+one-asked Replay rows c d a b = one-replay rows c d a b
+one-asked Serial rows c d a b = one-serial rows c d a b
+one-asked Trial rows c d a b = one-trial rows c d a b
+
+-- what words stand for
+one-reading : (words : List Text) (v w : Verb) (r s : List Row) → Stands words v r → Stands words w s → (w ≡ v) × (s ≡ r)
+one-reading words v w r s a b =
+    let verb : w ≡ v = stands-verb words v w s a.first b in
+    (verb, sym b.read ∙ ap (λ (x : Verb). matches_of (grammar x) words) verb ∙ a.read)
+
+pub one-command : WordsAskForOneCommand
+one-command words c d a b =
+    let same = one-reading words a.verb b.verb a.rows b.rows a.stands b.stands in
+    one-asked a.verb a.rows c d a.asks
+    (subst (λ (r : List Row). Asks a.verb r d) same.1 (subst (λ (v : Verb). Asks v b.rows d) same.0 b.asks))
+
+-- ---- not refused
+
+none-breaks : (rows : List Row) (fields : List Field) (field : Field) → ((f : Field) → Allows rows f) → BreaksFirst rows fields field → ⊥
+none-breaks rows [] field allowed b = b
+none-breaks rows (f ∷ later) field allowed (inl b) = b.1 (allowed f)
+none-breaks rows (f ∷ later) field allowed (inr b) = none-breaks rows later field allowed b.1
+
+pub not-refused : CommandsAreNotRefused
+not-refused words c fault.Words a f = absurd (f a.verb a.rows a.stands)
+not-refused words c (fault.Value field) a f =
+    let same = one-reading words a.verb f.0 a.rows f.1 a.stands f.2 in
+    absurd (none-breaks a.rows order field a.allowed (subst (λ (r : List Row). BreaksFirst r order field) same.1 f.3))
+not-refused words c fault.Memory a f = refl
