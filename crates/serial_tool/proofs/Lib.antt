@@ -1,0 +1,5 @@
+pub mod Numbers
+pub mod Texts
+pub mod Listing
+pub mod Running
+pub mod Turns

@@ -1,0 +1,5 @@
+-- What the contracts of this crate cite.
+pub mod Laws
+pub mod Lines
+pub mod Lists
+pub mod Runs

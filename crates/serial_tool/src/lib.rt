@@ -1,0 +1,13 @@
+// The orders that a report lists, one line each, and their execution by the plain machine.
+#![tactic(auto)]
+
+mod execution;
+mod fields;
+mod laws;
+mod reading;
+#[cfg(test)]
+mod tests;
+
+pub use execution::{Executed, run_orders};
+pub use laws::{lists_are_read_alike, lists_are_run_alike};
+pub use reading::{Listed, read_orders};
