@@ -1,5 +1,5 @@
 #!/usr/bin/env bash
-# Runs the simulator from any folder: ./tcc run FORM CORES DIRS SETS WAYS STEPS IMAGE...
+# Runs the simulator from any folder: ./tcc run [OPTION]... IMAGE...
 #
 # What runs is the proved program in release/, where that is of these sources and runs on this machine. Else it is
 # crates/tcc/out/tcc, which is proved and built first where it isn't of these sources. Words, file names, standard streams and
@@ -11,27 +11,39 @@ root=$(dirname -- "$(readlink -f -- "${BASH_SOURCE[0]}")")
 built=$root/crates/tcc/out/tcc
 
 usage() {
-    local image=$root/examples/first.bin
-    [ "$PWD" != "$root" ] || image=examples/first.bin
+    local image=$root/examples/tickets.bin
+    [ "$PWD" != "$root" ] || image=examples/tickets.bin
     cat <<END
-Usage: tcc run FORM CORES DIRS SETS WAYS STEPS IMAGE...
+Usage: tcc run    [OPTION]... IMAGE...            runs the images, and prints a report
+       tcc replay [OPTION]... SCHEDULE IMAGE...   runs a recorded schedule whole, and prints its report
+       tcc serial [OPTION]... REPORT IMAGE...     runs a report's transactions one after another, without caches
+       tcc trial  [OPTION]... KIND NUMBER         runs a workload, and prints a summary
 
-Runs images of RISC-V programs (RV32IMA) on a machine that executes nothing but transactions, and prints a report.
+RISC-V programs (RV32IMA) run on a machine that executes nothing but transactions. IMAGE... are the names of 1 to 16 files. KIND is
+counters, transfers, stencil or sharing, NUMBER how many transactions of it each core makes: 1 to 2047.
 
-  FORM      raw or elf: what all the images are
-  CORES     the number of cores: 1 to 64
-  DIRS      the number of directories: 1 to 64
-  SETS      how many sets a cache has: a power of two from 1 to 1024
-  WAYS      how many ways a set has: 1 to 16
-  STEPS     the largest number of events: 0 to 4194304
-  IMAGE...  the names of 1 to 16 files
+  --cores N      the number of cores: 1 to 64 (1)
+  --dirs N       the number of directories: 1 to 64 (1)
+  --sets N       how many sets a cache has: a power of two from 1 to 1024 (16)
+  --ways N       how many ways a set has: 1 to 16 (2)
+ run, replay and serial:
+  --ram N        the bytes of memory: a multiple of 32 from 32 to 16777216 (65536)
+  --base N       the address of the first one: a multiple of 32 (0x80000000)
+  --raw          the images are raw; without it they are ELF files
+ run and trial:
+  --steps N      the largest number of events: 0 to 4194304 (1000000)
+  --seed N       what the choice of events begins with: 0 to 18446744073709551615 (0)
+ run:
+  --record NAME  the file to which the schedule is written when the run has ended
 
-For example, at most 100 events of the raw image of examples/first.s:
+The default stands in brackets. Numbers are decimal, or hexadecimal behind 0x. Options may stand anywhere behind the command, as
+--name value or as --name=value. For example, two cores, and a record of their events:
 
-  $(printf '%q' "$0") run raw 1 1 16 2 100 $(printf '%q' "$image")
+  $(printf '%q' "$0") run --raw --cores 2 --seed 7 --record tickets.schedule $(printf '%q' "$image")
 
-The status is 0 where all cores halted and all messages and stored words came home, 1 where the events ended before, and 2 to 7 where a line on standard error says why there
-is no whole report. docs/FORMATS.md describes images, reports and statuses; README.md says what is proved of them.
+The status is 0 where all was done, and 1 where the events ended before. Else a line on standard error says why there is no whole text:
+2 words, 3 an image, 4 a schedule or a report's list, 5 a file, 6 the output, 7 memory. docs/TUTORIAL.md is a walk through the commands;
+docs/FORMATS.md describes files, texts and statuses; README.md says what is proved of them.
 END
 }
 

@@ -45,4 +45,23 @@ static inline void print_number(int value, int width)
         print_char(digits[--count]);
 }
 
+/* A number in decimal, with no place to spare. It needs no memory, so it leaves no loads in the report. */
+static inline void print_plain(unsigned value)
+{
+    unsigned unit = 1;
+
+    while (value / unit >= 10)
+        unit *= 10;
+    for (; unit; unit /= 10)
+        print_char('0' + value / unit % 10);
+}
+
+/* Waits until a word that other cores change has this value. Each look is a transaction of its own: what others commit later
+   is seen by the next one. */
+static inline void wait_for(const unsigned *word, unsigned value)
+{
+    while (*word != value)
+        commit();
+}
+
 #endif

@@ -1,14 +1,14 @@
 # Prints the squares of 1 to 5 on the console and keeps them in a table, a transaction for each; then adds the table up and
 # halts with the sum, 55, as the exit code.
 #
-#     ./tcc run raw 1 1 16 2 1000 examples/squares.bin
+#     ./tcc run --raw examples/squares.bin
 #
-# It halts after 128 events: 122 instructions and 6 commits. The console has `1 4 9 16 25 `, and the report has the last
+# All is done after 176 events, 122 of them instructions. The console has `1 4 9 16 25 `, and the report has the last
 # commit's five loads.
 #
 # A report gives the console in hexadecimal. To read it as text:
 #
-#     ./tcc run raw 1 1 16 2 1000 examples/squares.bin | sed -n 's/^console //p' | xxd -r -p
+#     ./tcc run --raw examples/squares.bin | sed -n 's/^console //p' | xxd -r -p
 #
 # The machine begins at the first word with x10 = 0 (the core's number), x11 = 1 (the number of cores) and all other registers
 # zero. An ECALL ends the transaction where x17 is 0, prints the low byte of x10 where it is 1, and ends the transaction and

@@ -1,5 +1,5 @@
 // Runs of a workload by picked schedules.
-ghost use Rattle.std.specs.Prelude.{◌≤◌};
+ghost use Rattle.std.specs.Prelude.{◌+◌, ◌≤◌};
 
 use image_load::{LoadFault, Loaded, load, raw};
 use net_core::System;
@@ -50,12 +50,29 @@ fn loaded(alloc: Global, task: &Task) -> Result<Loaded, NoMemory> {
     loaded.map_err(|_: LoadFault| NoMemory)
 }
 
+/// The machine takes so many events at most, or fewer where none is useful any more. It keeps no list of them, so that what is timed
+/// is the machine alone.
+fn take(chooser: &mut Chooser, system: &mut System, steps: u32) -> Result<(), NoMemory>
+    requires { system.old.events + steps ≤ 4194304 }
+{
+    for _ in 0..steps {
+        system.settle()?;
+        let Some(e) = chooser.next(system) else {
+            return Ok(());
+        };
+        if system.step(e).is_err() {
+            return Err(NoMemory);
+        }
+    }
+    system.settle()
+}
+
 /// A run from the start, of so many events at most.
 fn run(alloc: Global, loaded: &Loaded, seed: u64, steps: u32) -> Result<End, NoMemory>
     requires { steps ≤ 4194304 }
 {
     let mut system = System::start(alloc, loaded)?;
-    Chooser::new(seed).run(&mut system, steps)?;
+    take(&mut Chooser::new(seed), &mut system, steps)?;
     Ok(End {
         events: system.events(),
         done: system.done(),

@@ -41,7 +41,7 @@ fn writings(alloc: Global, text: &[u8], rounds: u64) -> u64 {
     let mut sum = 0u64;
     if let Ok(schedule) = read(alloc, text) {
         for _ in 0..rounds {
-            if let Ok(bytes) = write(alloc, &schedule) {
+            if let Ok(bytes) = write(alloc, &schedule.config, &schedule.events.items) {
                 sum = sum.wrapping_add(bytes.len() as u64);
             }
         }

@@ -1,15 +1,16 @@
 // The lines that every report shows: the commits, the cores as they ended, and the words that changed.
-ghost use Rattle.std.specs.Prelude.{◌≡◌, ◌++◌, ◌+◌, ◌*◌, ◌^◌, ◌<◌, ◌≤◌, OnOk, string_bytes};
+ghost use Rattle.std.specs.Prelude.{◌≡◌, [], ◌++◌, ◌+◌, ◌*◌, ◌^◌, ◌<◌, ◌≤◌, ◌==◌, if◌then◌else◌, OnOk, string_bytes};
 ghost use Rattle.std.specs.List.{flat_map};
 ghost use Rattle.report_text.specs.Ending.{shown_of};
-ghost use Rattle.report_text.specs.Text.{commit_text, register_text, registers_text, word_text, core_text, cores_text, ram_text, body_text};
-ghost use Rattle.report_text.specs.Lines.{load_line};
+ghost use Rattle.report_text.specs.Text.{commit_text, register_text, registers_text, core_text, cores_text, ram_text, body_text};
+ghost use Rattle.report_text.specs.Lines.{load_line, mem_line};
+ghost use Rattle.report_text.specs.InLines.{line_text};
 
 use crate::lines::{push_commit, push_console, push_core, push_load, push_mem, push_pc, push_reg};
 use crate::shown::{CoreShown, Ending, Words};
 use reg_checkpoint::Regs;
 use std::alloc::AllocError;
-use tcc_base::{Commit, Load, Reg, WordAddr};
+use tcc_base::{Commit, LineAddr, Load, Reg};
 
 fn push_loads(text: &mut String, loads: &[Load]) -> Result<(), AllocError>
     ensures { OnOk result (string_bytes text.new ≡ string_bytes text.old ++ flat_map load_line loads.now) }
@@ -76,22 +77,40 @@ fn push_cores(text: &mut String, cores: &[CoreShown]) -> Result<(), AllocError>
     Ok(())
 }
 
-#[tactic(auto, unfolding(crate::specs::Text::word_text))]
-fn push_word<R: Words, L: Words>(
+// The line of a word at this address, where it isn't what it was.
+fn push_word(text: &mut String, addr: u32, value: u32, old: u32) -> Result<(), AllocError>
+    ensures { OnOk result (string_bytes text.new ≡ string_bytes text.old ++ (if value == old then [] else mem_line addr value)) }
+{
+    if value != old {
+        push_mem(text, addr, value)?;
+    }
+    Ok(())
+}
+
+// The lines of those words of a line of RAM that changed.
+fn push_line<R: Words, L: Words>(
     text: &mut String,
     base: u32,
     ram: &R,
     loaded: &L,
-    w: WordAddr,
+    line: LineAddr,
 ) -> Result<(), AllocError>
-    requires in_ram { w.0 < R.count ram.now }
-    requires was_loaded { w.0 < L.count loaded.now }
-    requires fits { base + 4 * w.0 < 2 ^ 32 }
-    ensures { OnOk result (string_bytes text.new ≡ string_bytes text.old ++ word_text base (R.words ram.now) (L.words loaded.now) w.0) }
+    requires in_ram { 8 * line.0 < R.count ram.now }
+    requires was_loaded { 8 * line.0 < L.count loaded.now }
+    requires fits { base + 32 * (line.0 + 1) ≤ 2 ^ 32 }
+    ensures { OnOk result (string_bytes text.new ≡ string_bytes text.old ++ line_text base (R.words ram.now) (L.words loaded.now) line.0) }
 {
-    let value = ram.word(w);
-    if value != loaded.word(w) {
-        push_mem(text, base + 4 * w.0, value)?;
+    let now = ram.line(line);
+    let old = loaded.line(line);
+    if now != old {
+        for k in 0..8 {
+            push_word(
+                text,
+                base + 4 * (8 * line.0 + k),
+                now[k as usize],
+                old[k as usize],
+            )?;
+        }
     }
     Ok(())
 }
@@ -105,11 +124,12 @@ fn push_ram<R: Words, L: Words>(
 ) -> Result<(), AllocError>
     requires same { R.count ram.now ≡ L.count loaded.now }
     requires fits { base + 4 * R.count ram.now ≤ 2 ^ 32 }
-    ensures { OnOk result (string_bytes text.new ≡ string_bytes text.old ++ ram_text base (R.count ram.now) (R.words ram.now) (L.words loaded.now)) }
+    ensures { OnOk result (string_bytes text.new
+        ≡ string_bytes text.old ++ ram_text base (R.count ram.now) (R.words ram.now) (L.words loaded.now)) }
 {
-    let count = ram.word_count() as u32;
-    for w in 0..count {
-        push_word(text, base, ram, loaded, WordAddr(w))?;
+    let count = ram.line_count() as u32;
+    for line in 0..count {
+        push_line(text, base, ram, loaded, LineAddr(line))?;
     }
     Ok(())
 }

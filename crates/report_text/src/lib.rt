@@ -1,12 +1,15 @@
-// The text of a report, byte for byte: of the run of any machine that can show its words, and of a serial execution.
+// The text of a report, byte for byte: of the run of any machine that can show its words, of a serial execution, and of a trial.
 #![tactic(auto)]
 
 mod body;
+mod growing;
 mod lines;
 mod shown;
 #[cfg(test)]
 mod tests;
 mod texts;
+mod trials;
 
-pub use shown::{CoreShown, Ending, Words};
+pub use shown::{CoreShown, Ending, Trial, Words};
 pub use texts::{report, serial_report};
+pub use trials::trial_summary;

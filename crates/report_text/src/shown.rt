@@ -1,12 +1,14 @@
 // What a report is made from: the commits, the cores as they ended, and RAM now and as it was loaded.
-ghost use Rattle.std.specs.Prelude.{◌≡◌, ℕ, ◌<◌, length};
-ghost use Rattle.tcc_program.specs.Ram.{flat};
+ghost use Rattle.std.specs.Prelude.{◌≡◌, ℕ, ◌*◌, ◌<◌, length, map};
+ghost use Rattle.std.specs.List.{range_with_len};
+ghost use Rattle.report_text.specs.InLines.{in_lines};
 
 use reg_checkpoint::Regs;
 use std::marker::Model;
-use tcc_base::{Commit, CoreEnd, WordAddr};
+use tcc_base::{Commit, CoreEnd, LineAddr};
+use work_gen::Work;
 
-/// A memory whose words of four bytes can be read one by one.
+/// A memory of whole lines of eight words of four bytes, which can be read line by line.
 ///
 /// To a contract it is the value of each word by its number, `words`, and the number of words, `count`.
 pub trait Words {
@@ -14,43 +16,30 @@ pub trait Words {
 
     ghost count: { Self → ℕ };
 
-    /// The number of words.
-    fn word_count(&self) -> usize
-        ensures { result ≡ count self.now };
+    /// The number of lines.
+    fn line_count(&self) -> usize
+        ensures { 8 * result ≡ count self.now };
 
-    /// The value of a word, by its number from 0.
-    fn word(&self, w: WordAddr) -> u32
-        requires { w.0 < count self.now }
-        ensures { result ≡ words self.now w.0 };
+    /// The values of the eight words of a line, by its number from 0.
+    fn line(&self, line: LineAddr) -> [u32; 8]
+        requires { 8 * line.0 < count self.now }
+        ensures { result ≡ map (words self.now) (range_with_len (8 * line.0) 8) };
 }
 
-impl Words for &[u32] {
-    ghost words = { λ s. flat s.now };
+impl Words for &[[u32; 8]] {
+    ghost words = { λ s. in_lines s.now };
 
-    ghost count = { λ s. length s.now };
+    ghost count = { λ s. 8 * length s.now };
 
-    fn word_count(&self) -> usize {
+    fn line_count(&self) -> usize {
         self.len()
     }
 
-    #[tactic(auto, unfolding(tcc_program::specs::Ram::flat))]
-    fn word(&self, w: WordAddr) -> u32 {
-        self[w.0 as usize]
-    }
-}
-
-impl Words for Vec<u32> {
-    ghost words = { λ v. flat v.items };
-
-    ghost count = { λ v. length v.items };
-
-    fn word_count(&self) -> usize {
-        self.len()
-    }
-
-    #[tactic(auto, unfolding(tcc_program::specs::Ram::flat))]
-    fn word(&self, w: WordAddr) -> u32 {
-        self[w.0 as usize]
+    fn line(&self, line: LineAddr) -> [u32; 8] {
+        let words = &self[line.0 as usize];
+        [
+            words[0], words[1], words[2], words[3], words[4], words[5], words[6], words[7],
+        ]
     }
 }
 
@@ -80,6 +69,19 @@ pub struct Ending<'a, R, L> {
     pub commits: &'a [Commit],
     pub cores: &'a [CoreShown<'a>],
     pub base: u32,
+    pub ram: &'a R,
+    pub loaded: &'a L,
+}
+
+/// What the summary of a trial is made from: the workload with its number of transactions, whether the run is done, how many
+/// events it took, how many commits it made, and RAM as it is beside RAM as it was loaded.
+#[derive_where(Clone, Copy)]
+pub struct Trial<'a, R, L> {
+    pub work: Work,
+    pub number: u32,
+    pub done: bool,
+    pub events: u64,
+    pub commits: usize,
     pub ram: &'a R,
     pub loaded: &'a L,
 }

@@ -1,9 +1,12 @@
-// Reports of two small machines, letter by letter.
-use crate::{CoreShown, Ending, report, serial_report};
+// Reports of two small machines and summaries of trials, letter by letter.
+ghost use Rattle.std.specs.Prelude.{◌≡◌, ◌≤◌, length};
+
+use crate::{CoreShown, Ending, Trial, report, serial_report, trial_summary};
 use reg_checkpoint::Regs;
 use std::alloc::{AllocError, Global};
 use std::test::Fail;
-use tcc_base::{Commit, CoreEnd, CoreId, List, Load, Reg, Size, Tid};
+use tcc_base::{Commit, CoreEnd, CoreId, List, Load, NoMemory, Reg, Size, Tid};
+use work_gen::Work;
 
 fn commit(alloc: Global, tid: u64, core: u8, n: u32, loads: &[Load]) -> Result<Commit, AllocError> {
     Ok(Commit {
@@ -42,14 +45,14 @@ fn one_core_that_halts(rt: HostRuntime) -> Result<(), Fail> {
     let alloc = rt.alloc();
     let commits = vec![in alloc; commit(alloc, 1, 0, 4, &[])?, commit(alloc, 2, 0, 2, &[])?]?;
     let regs = registers(&[(5, 7), (6, 0x8000_0000), (11, 1), (17, 93)]);
-    let mut ram = [0u32; 24];
-    ram[16] = 7;
+    let mut ram = [[0u32; 8]; 3];
+    ram[2][0] = 7;
     let ending = Ending {
         commits: &commits,
         cores: &[core(CoreEnd::Halt(0), 0x8000_0014, regs, b"")],
         base: 0x8000_0000,
         ram: &ram.as_slice(),
-        loaded: &vec![in alloc; 0u32; 24]?,
+        loaded: &[[0; 8]; 3].as_slice(),
     };
     let text = report(alloc, true, 8, &ending).ok().ok_or("no memory")?;
     let want = "tcc-report 1
@@ -102,8 +105,8 @@ fn three_cores_with_loads_and_a_console(rt: HostRuntime) -> Result<(), Fail> {
             core(CoreEnd::Halt(4_294_967_295), 0xc, last, b"\x00\xff"),
         ],
         base: 0x1000,
-        ram: &[0xfeed_0001u32, 2, 0, 4].as_slice(),
-        loaded: &[0xfeed_0001u32, 1, 3, 4].as_slice(),
+        ram: &[[0xfeed_0001, 2, 0, 4, 0, 0, 0, 9]].as_slice(),
+        loaded: &[[0xfeed_0001, 1, 3, 4, 0, 0, 0, 8]].as_slice(),
     };
     let body = "commit 3 2 10
 load 00001003 1 000000fe
@@ -122,6 +125,7 @@ reg 31 ffffffff
 console 00ff
 mem 00001004 00000002
 mem 00001008 00000000
+mem 0000101c 00000009
 ";
     let text = report(alloc, false, 4_194_304, &ending)
         .ok()
@@ -133,5 +137,68 @@ mem 00001008 00000000
         text.as_str(),
         format!(in alloc; "tcc-serial 1\n{body}")?.as_str()
     );
+    Ok(())
+}
+
+// The summary of a trial of 7 transactions that took 90 events and made 30 commits.
+fn summary(
+    alloc: Global,
+    work: Work,
+    done: bool,
+    ram: &[[u32; 8]],
+    loaded: &[[u32; 8]],
+) -> Result<String, NoMemory>
+    requires same { length ram.now ≡ length loaded.now }
+    requires few { length ram.now ≤ 2 }
+{
+    trial_summary(
+        alloc,
+        &Trial {
+            work,
+            number: 7,
+            done,
+            events: 90,
+            commits: 30,
+            ram: &ram,
+            loaded: &loaded,
+        },
+    )
+}
+
+#[test]
+fn one_more_and_one_less_are_nothing(rt: HostRuntime) -> Result<(), Fail> {
+    let loaded = [[5; 8]; 2];
+    let ram = [[5, 5, 4, 5, 5, 5, 5, 5], [5, 5, 5, 5, 5, 5, 5, 6]];
+    let text = summary(rt.alloc(), Work::Transfers, true, &ram, &loaded)?;
+    let want = "tcc-trial 1
+work transfers 7
+end done
+events 90
+commits 30
+sum 00000000
+";
+    assert_eq!(rt; text.as_str(), want);
+    Ok(())
+}
+
+#[test]
+fn sums_go_round(rt: HostRuntime) -> Result<(), Fail> {
+    for (ram, loaded, sum) in [
+        ([0, 0, 0, 0, 0, 0, 0, 3], [0; 8], "00000003"),
+        ([0; 8], [0, 0, 0, 0, 0, 0, 0, 1], "ffffffff"),
+        ([0xffff_ffff; 8], [0; 8], "fffffff8"),
+        (
+            [0x8000_0000, 0x8000_0001, 0, 0, 0, 0, 0, 0],
+            [0; 8],
+            "00000001",
+        ),
+        ([0; 8], [0xffff_ffff, 2, 0, 0, 0, 0, 0, 0], "ffffffff"),
+    ] {
+        let text = summary(rt.alloc(), Work::Stencil, false, &[ram], &[loaded])?;
+        let want = format!(in rt.alloc();
+            "tcc-trial 1\nwork stencil 7\nend open\nevents 90\ncommits 30\nsum {sum}\n"
+        )?;
+        assert_eq!(rt; text.as_str(), want.as_str());
+    }
     Ok(())
 }

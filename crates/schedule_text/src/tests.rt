@@ -15,7 +15,7 @@ end 14\n";
 // What is read of a text, written again.
 fn rewritten(alloc: Global, text: &str) -> Option<Vec<u8>> {
     let schedule = read(alloc, text.as_bytes()).ok()?;
-    write(alloc, &schedule).ok()
+    write(alloc, &schedule.config, &schedule.events.items).ok()
 }
 
 // The line with which a text is refused.

@@ -7,7 +7,7 @@ ghost use Rattle.schedule_text.specs.Grammar.{version_of, version_line, config_l
 use crate::lines::version_needed;
 use std::alloc::{AllocError, Global};
 use tcc_base::{Config, NoMemory, NodeId};
-use tcc_msg::{Event, Name, Schedule};
+use tcc_msg::{Event, Name};
 
 #[tactic(auto, unfolding(crate::specs::Grammar::version_line))]
 fn push_version(text: &mut String, version: u64) -> Result<(), AllocError>
@@ -92,24 +92,24 @@ fn push_end(text: &mut String, count: usize) -> Result<(), AllocError>
     write!(text, "end {count}\n")
 }
 
-fn text_or_error(alloc: Global, s: &Schedule) -> Result<String, AllocError>
-    ensures { IfOk result (λ text. string_bytes text ≡ text_of s.now) }
+fn text_or_error(alloc: Global, config: &Config, events: &[Event]) -> Result<String, AllocError>
+    ensures { IfOk result (λ text. string_bytes text ≡ text_of (record { config = config.now; events = events.now })) }
 {
     let mut text = String::new(alloc);
-    push_version(&mut text, version_needed(&s.config))?;
-    push_config(&mut text, &s.config)?;
-    push_events(&mut text, &s.events.items)?;
-    push_end(&mut text, s.events.items.len())?;
+    push_version(&mut text, version_needed(config))?;
+    push_config(&mut text, config)?;
+    push_events(&mut text, events)?;
+    push_end(&mut text, events.len())?;
     Ok(text)
 }
 
-/// The text of a well-formed schedule: its version, its settings, a line for each event, and their number. It takes time
-/// for each byte that it writes, and fails only for want of memory.
-pub fn write(alloc: Global, s: &Schedule) -> Result<Vec<u8>, NoMemory>
-    requires { IsWellFormed s.now }
-    ensures { IfOk result (λ text. text.items ≡ text_of s.now) }
+/// The text of a well-formed schedule with these settings and events: its version, its settings, a line for each event, and their
+/// number. It takes time for each byte that it writes, and fails only for want of memory.
+pub fn write(alloc: Global, config: &Config, events: &[Event]) -> Result<Vec<u8>, NoMemory>
+    requires { IsWellFormed (record { config = config.now; events = events.now }) }
+    ensures { IfOk result (λ text. text.items ≡ text_of (record { config = config.now; events = events.now })) }
 {
-    match text_or_error(alloc, s) {
+    match text_or_error(alloc, config, events) {
         Ok(text) => Ok(text.into_bytes()),
         Err(_) => Err(NoMemory),
     }

@@ -1,21 +1,30 @@
 -- Why the program's answers are complete.
-use Rattle.std.proofs.Common.{ℕ, ◌≡◌, List, [], ◌∷◌, map, drop, get_or, Bool, true, false, Option, Some, None, Ok, Err, refl, sym, ◌∙◌}
-use Rattle.std.proofs.Common.{ap, subst, inl, inr}
-use Rattle.tcc_cli.proofs.Refused.{no_command, no_value}
-use Rattle.tcc_cli.proofs.Wording.{asked_once}
-use Rattle.tcc_cli.specs.Asked.{Asked, IsCommand}
-use Rattle.tcc_cli.specs.Images.{fault_of}
+use Rattle.std.proofs.Common.{ℕ, ◌≡◌, ◌≢◌, List, [], ◌∷◌, map, drop, get_or, Bool, true, false, Option, Some, None, Ok, Err, refl, sym, ◌∙◌}
+use Rattle.std.proofs.Common.{◌⊎◌, ap, subst, inl, inr}
+use Rattle.std.specs.Prelude.{IsSome}
+use Rattle.tcc_cli.proofs.Excluded.{excluded}
+use Rattle.tcc_cli.proofs.Facts.{Facts}
+use Rattle.tcc_cli.specs.Around.{Around}
+use Rattle.tcc_cli.specs.Commands.{IsThreaded, fault_from, files_of}
+use Rattle.tcc_cli.specs.Laws.{AnswersAreComplete, AreTold, HasNoFault, IsLeft, OthersAreRefused}
 use Rattle.tcc_cli.specs.Reading.{AreGiven}
 use Rattle.tcc_cli.specs.Refusals.{End, status_of}
-use Rattle.tcc_cli.specs.Top.{Around, Ends, IsLeft, HasNoFault, AnswersAreComplete, OthersAreRefused}
+use Rattle.tcc_cli.specs.Top.{AsksForNothing, Ends, EndsOf, IsAsked, IsTurnedAway, Started}
+use Rattle.tcc_cli.specs.Schedules.{Comes, IsFaultyLine}
 use Rattle.tcc_cli.specs.declared.refusal.ImageFault.{ImageFault}
 use Rattle.tcc_cli.specs.declared.refusal.Refusal.TheVariants as why
 use Rattle.tcc_cli.specs.declared.status.Status.{Status}
-use Rattle.tcc_cli.specs.declared.status.Status.TheVariants.{Words, Memory}
+use Rattle.tcc_cli.specs.declared.status.Status.TheVariants.{Done, Stopped, Words, Image, Schedule, Memory}
+use Rattle.tcc_words.specs.Asked.{IsCommand, IsRefused}
+use Rattle.tcc_words.specs.Bounds.{IsInBounds}
+use Rattle.tcc_words.specs.declared.command.Command.{Command}
+use Rattle.tcc_words.specs.declared.command.Field.{Field}
+use Rattle.tcc_words.specs.declared.command.WordsFault.{WordsFault}
+use Rattle.tcc_words.specs.declared.command.WordsFault.TheVariants as fault
 use Rattle.tcc_world.specs.Told.{Gives}
 
 -- files whose bytes are told have these bytes
-given-told : (told : List ℕ → Option (List ℕ)) (names files read : List (List ℕ)) → map told names ≡ map (λ file. Some file) files
+pub given-told : (told : List ℕ → Option (List ℕ)) (names files read : List (List ℕ)) → AreTold told names files
     → AreGiven told names read → read ≡ files
 unfolding AreGiven
 given-told told [] [] [] h g = refl
@@ -28,69 +37,132 @@ given-told told (n ∷ ns) (f ∷ fs) (r ∷ rs) h g =
     let first : f ≡ r = subst (λ t. Gives t r) is g.0 in
     ap (λ x. x ∷ rs) (sym first) ∙ ap (λ xs. f ∷ xs) (given-told told ns fs rs (ap (λ os. drop 1 os) h) g.1)
 
--- two readings of the same words have the same first fault
-same_fault : (words : List (List ℕ)) (w : Around) (a b : Asked) (files read : List (List ℕ)) → IsCommand words a
-    → IsCommand words b → map w.told a.images ≡ map (λ file. Some file) files → AreGiven w.told b.images read
-    → fault_of a.form a.settings files ≡ fault_of b.form b.settings read
-same_fault words w a b files read h k told given =
-    let same = asked_once words a b h k in
-    let read_is = given-told w.told b.images files read (subst (λ ns. map w.told ns ≡ map (λ file. Some file) files) same.images told) given in
-    ap (λ f. fault_of f a.settings files) same.form
-    ∙ ap (λ s. fault_of b.form s files) same.settings
-    ∙ ap (λ fs. fault_of b.form b.settings fs) (sym read_is)
+-- words that ask for a command don't ask for nothing
+asked-for : Facts → (words : List (List ℕ)) (c : Command) → IsAsked words c → AsksForNothing words → ⊥
+asked-for f words c a (inl refused) = unlike (f.not_refused words c fault.Words a.command refused)
+  where
+    unlike : fault.Words ≡ fault.Memory → ⊥
+    unlike e = absurd (cc)
+asked-for f words c a (inr (d, command, threaded)) =
+    a.one_thread (subst IsThreaded (f.one_command words d c command a.command) threaded)
 
-left-after : (x y : Option ImageFault) (status : Status) → x ≡ y → IsLeft y status → IsLeft x status
-left-after x y status e h = subst (λ f. IsLeft f status) (sym e) h
+no-value : Facts → (words : List (List ℕ)) (c : Command) (field : Field) → IsAsked words c → IsRefused words (fault.Value field) → ⊥
+no-value f words c field a refused = unlike (f.not_refused words c (fault.Value field) a.command refused)
+  where
+    unlike : fault.Value field ≡ fault.Memory → ⊥
+    unlike e = absurd (cc)
 
-memory_left : (x : Option ImageFault) (status : Status) → status ≡ Memory → IsLeft x status
-memory_left None status e = inr (inr e)
-memory_left (Some fault) status e = inr e
+none-some : (x : Option ImageFault) → x ≡ None → IsSome x → ⊥
+none-some x e h = absurd (cc)
 
-ended : (done : Bool) (status : Status) → status ≡ status_of (Ok done) → IsLeft None status
+out-of-memory : (c : Command) (files : List (List ℕ)) (status : Status) → status ≡ Memory → IsLeft c files status
+out-of-memory c files status e = record {
+  image = λ _. inr e;
+  schedule = λ _ line _. inr e;
+  neither = λ _ _. inr (inr e);
+}
+
+ended : (done : Bool) (status : Status) → status ≡ status_of (Ok done) → (status ≡ Done) ⊎ (status ≡ Stopped) ⊎ (status ≡ Memory)
 ended true status e = inl e
 ended false status e = inr (inl e)
 
-answers-left : (words : List (List ℕ)) (w : Around) (status : Status) (a : Asked) (files : List (List ℕ)) (end : End)
-    → status ≡ status_of end → Ends words w end → IsCommand words a → map w.told a.images ≡ map (λ file. Some file) files
-    → HasNoFault w → IsLeft (fault_of a.form a.settings files) status
-answers-left words w status a files (Ok done) is (b, read, begun, t) h told none =
-    left-after (fault_of a.form a.settings files) None status
-    (same_fault words w a b files read h begun.read.command told begun.read.given ∙ begun.images) (ended done status is)
-answers-left words w status a files (Err why.Words) is (bad, t) h told none = absurd (no_command words a h bad)
-answers-left words w status a files (Err (why.Value field)) is (bad, t) h told none = absurd (no_value words a field h bad)
-answers-left words w status a files (Err (why.Image fault)) is (b, read, r, first, t) h told none =
-    left-after (fault_of a.form a.settings files) (Some fault) status
-    (same_fault words w a b files read h r.command told r.given ∙ first) (inl is)
-answers-left words w status a files (Err (why.Store name)) is (b, k, first, s) h told none = absurd (none.reads name.now first.rose)
-answers-left words w status a files (Err why.Output) is (b, read, begun, part) h told none =
-    let (n, t, u, rose) = part.written in absurd (none.out rose)
-answers-left words w status a files (Err why.Memory) is t h told none = memory_left (fault_of a.form a.settings files) status is
+-- what is left to answer after each end of the command
+left : Facts → (w : Around) (status : Status) (c : Command) (files : List (List ℕ)) (end : End) → IsInBounds c → status ≡ status_of end
+    → EndsOf c w end
+    → AreTold w.files.before (files_of c) files → HasNoFault w → IsLeft c files status
+left f w status c files (Ok done) bounds is (read, text, started, comes, whole) told none =
+    let same = given-told w.files.before (files_of c) files read told started.given in
+    let images : fault_from c files ≡ None = subst (λ fs. fault_from c fs ≡ None) same started.images in
+    let here : Comes c files w.files.tells w.files.after done text =
+    subst (λ fs. Comes c fs w.files.tells w.files.after done text) same comes in
+    record {
+      image = λ bad. absurd (none-some (fault_from c files) images bad);
+      schedule = λ _ line faulty. absurd (excluded f c files w.files.tells w.files.after done text line bounds here faulty);
+      neither = λ _ _. ended done status is;
+    }
+left f w status c files (Err why.Words) bounds is e told none = absurd e
+left f w status c files (Err (why.Value field)) bounds is e told none = absurd e
+left f w status c files (Err (why.Image bad)) bounds is ((read, given, first), untouched, silent) told none =
+    let same = given-told w.files.before (files_of c) files read told given in
+    let images : fault_from c files ≡ Some bad = subst (λ fs. fault_from c fs ≡ Some bad) same first in
+    record {
+      image = λ _. inl is;
+      schedule = λ no line faulty. absurd (cc);
+      neither = λ no _. absurd (cc);
+    }
+left f w status c files (Err (why.Schedule line)) bounds is ((read, started, faulty), untouched, silent) told none =
+    let same = given-told w.files.before (files_of c) files read told started.given in
+    let images : fault_from c files ≡ None = subst (λ fs. fault_from c fs ≡ None) same started.images in
+    record {
+      image = λ bad. absurd (none-some (fault_from c files) images bad);
+      schedule = λ _ _ _. inl is;
+      neither = λ _ fine. absurd (fine line (subst (λ fs. IsFaultyLine c fs line) same faulty));
+    }
+left f w status c files (Err (why.Store name)) bounds is (inl (first, untouched), silent) told none = absurd
+    (none.reads name.now first.rose)
+left f w status c files (Err (why.Store name)) bounds is (inr (began, named, rose), silent) told none = absurd (none.writes name.now rose)
+left f w status c files (Err why.Output) bounds is (read, done, text, started, comes, cut) told none = absurd (none.out cut.3)
+left f w status c files (Err why.Memory) bounds is e told none = out-of-memory c files status is
 
-pub answers_complete : AnswersAreComplete
-answers_complete words w err status a files c h told none = answers-left words w status a files c.end c.status_is c.ends h told none
+turned-away : Facts → (words : List (List ℕ)) (status : Status) (c : Command) (files : List (List ℕ)) (end : End) → status ≡ status_of end
+    → IsTurnedAway words end → IsAsked words c → IsLeft c files status
+turned-away f words status c files (Err why.Words) is away a = absurd (asked-for f words c a away)
+turned-away f words status c files (Err (why.Value field)) is away a = absurd (no-value f words c field a away)
+turned-away f words status c files (Err why.Memory) is away a = out-of-memory c files status is
+turned-away f words status c files _ is away a = absurd away
 
--- every other end is that of a command
+-- the ends of the words are those of the one command that they ask for, or they ask for none
+pub of-command : Facts → (words : List (List ℕ)) (w : Around) (c : Command) (end : End) → IsAsked words c → Ends words w end
+    → EndsOf c w end ⊎ IsTurnedAway words end
+of-command f words w c end a (inl (d, asked, ends)) =
+    inl (subst (λ x. EndsOf x w end) (f.one_command words d c asked.command a.command) ends)
+of-command f words w c end a (inr (away, untouched, silent)) = inr away
+
+answers-left : Facts → (words : List (List ℕ)) (w : Around) (status : Status) (c : Command) (files : List (List ℕ)) (end : End)
+    → status ≡ status_of end → EndsOf c w end ⊎ IsTurnedAway words end → IsAsked words c → AreTold w.files.before (files_of c) files
+    → HasNoFault w → IsLeft c files status
+answers-left f words w status c files end is (inl ends) a told none = left f w status c files end
+    (f.in_bounds words c a.command) is ends told none
+answers-left f words w status c files end is (inr away) a told none = turned-away f words status c files end is away a
+
+pub answers_complete : Facts → AnswersAreComplete
+answers_complete f words w err status c files h a told none =
+    answers-left f words w status c files h.end h.status_is (of-command f words w c h.end a h.ends) a told none
+
+-- ---- the words are refused exactly where they ask for nothing
+
 refused_words : (words : List (List ℕ)) (w : Around) (status : Status) (end : End) → status ≡ status_of end → Ends words w end
-    → ((a : Asked) → IsCommand words a → ⊥) → status ≡ Words
-refused_words words w status (Ok done) is (b, read, begun, t) none = absurd (none b begun.read.command)
-refused_words words w status (Err why.Words) is t none = is
-refused_words words w status (Err (why.Value field)) is t none = is
-refused_words words w status (Err (why.Image fault)) is (b, read, r, first, t) none = absurd (none b r.command)
-refused_words words w status (Err (why.Store name)) is (b, k, t, s) none = absurd (none b k)
-refused_words words w status (Err why.Output) is (b, read, begun, t) none = absurd (none b begun.read.command)
-refused_words words w status (Err why.Memory) is (b, k, t) none = absurd (none b k)
+    → status ≢ Memory → ((c : Command) → IsAsked words c → ⊥) → status ≡ Words
+refused_words words w status end is (inl (d, asked, ends)) enough none = absurd (none d asked)
+refused_words words w status (Err why.Words) is (inr away) enough none = is
+refused_words words w status (Err (why.Value field)) is (inr away) enough none = is
+refused_words words w status (Err why.Memory) is (inr away) enough none = absurd (enough is)
+refused_words words w status _ is (inr away) enough none = absurd away.0
 
-no_words : (words : List (List ℕ)) (w : Around) (status : Status) (end : End) → status ≡ status_of end → Ends words w end
-    → status ≡ Words → (a : Asked) → IsCommand words a → ⊥
-no_words words w status (Ok true) is t e a h = absurd (cc)
-no_words words w status (Ok false) is t e a h = absurd (cc)
-no_words words w status (Err why.Words) is (bad, t) e a h = no_command words a h bad
-no_words words w status (Err (why.Value field)) is (bad, t) e a h = no_value words a field h bad
-no_words words w status (Err (why.Image fault)) is t e a h = absurd (cc)
-no_words words w status (Err (why.Store name)) is t e a h = absurd (cc)
-no_words words w status (Err why.Output) is t e a h = absurd (cc)
-no_words words w status (Err why.Memory) is t e a h = absurd (cc)
+command-not_words : (w : Around) (status : Status) (c : Command) (end : End) → status ≡ status_of end → EndsOf c w end
+    → status ≡ Words → ⊥
+command-not_words w status c (Ok true) is ends e = absurd (cc)
+command-not_words w status c (Ok false) is ends e = absurd (cc)
+command-not_words w status c (Err why.Words) is ends e = ends
+command-not_words w status c (Err (why.Value field)) is ends e = ends
+command-not_words w status c (Err (why.Image bad)) is ends e = absurd (cc)
+command-not_words w status c (Err (why.Schedule line)) is ends e = absurd (cc)
+command-not_words w status c (Err (why.Store name)) is ends e = absurd (cc)
+command-not_words w status c (Err why.Output) is ends e = absurd (cc)
+command-not_words w status c (Err why.Memory) is ends e = absurd (cc)
 
-pub others_refused : OthersAreRefused
-others_refused words w err status c =
-    (refused_words words w status c.end c.status_is c.ends, no_words words w status c.end c.status_is c.ends)
+away-not_words : Facts → (words : List (List ℕ)) (status : Status) (c : Command) (end : End) → status ≡ status_of end
+    → IsTurnedAway words end → IsAsked words c → status ≡ Words → ⊥
+away-not_words f words status c (Err why.Words) is away a e = asked-for f words c a away
+away-not_words f words status c (Err (why.Value field)) is away a e = no-value f words c field a away
+away-not_words f words status c (Err why.Memory) is away a e = absurd (cc)
+away-not_words f words status c _ is away a e = away
+
+no_words : Facts → (words : List (List ℕ)) (w : Around) (status : Status) (end : End) → status ≡ status_of end → Ends words w end
+    → status ≡ Words → (c : Command) → IsAsked words c → ⊥
+no_words f words w status end is (inl (d, asked, ends)) e c a = command-not_words w status d end is ends e
+no_words f words w status end is (inr (away, untouched, silent)) e c a = away-not_words f words status c end is away a e
+
+pub others_refused : Facts → OthersAreRefused
+others_refused f words w err status h enough =
+    (refused_words words w status h.end h.status_is h.ends enough, no_words f words w status h.end h.status_is h.ends)

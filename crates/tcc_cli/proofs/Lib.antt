@@ -1,12 +1,16 @@
-pub mod Complete
-pub mod Digits
-pub mod Loading
-pub mod Headline
-pub mod Pieces
-pub mod Refused
-pub mod Refusing
-pub mod Shown
-pub mod Simulated
-pub mod Starting
-pub mod Taken
-pub mod Wording
+-- The proofs of this crate.
+mod Again
+mod Comes
+mod Complete
+mod Ending
+mod Excluded
+mod Executed
+mod Facts
+mod Loading
+mod Machines
+mod Naming
+mod Pieces
+mod Refusing
+mod Shown
+mod Starting
+mod Taken

@@ -12,10 +12,11 @@ use Rattle.std.specs.Io.KnownBytes.{Appends}
 use Rattle.std.specs.Prelude.{codes}
 use Rattle.report_text.specs.Lines.{newline}
 use Rattle.tcc_cli.specs.Lines.{Written, IsCut, IsTold}
-use Rattle.tcc_cli.specs.Refusals.{reader_word, field_word, line_of}
+use Rattle.tcc_cli.specs.Refusals.{reader_word, line_of}
 use Rattle.tcc_cli.specs.declared.refusal.ImageFault.{ImageFault}
-use Rattle.tcc_cli.specs.declared.refusal.Refusal.TheVariants.{Words, Value, Image, Store, Output, Memory}
-use Rattle.tcc_cli.specs.declared.words.Field.{Field}
+use Rattle.tcc_cli.specs.declared.refusal.Refusal.TheVariants.{Words, Value, Image, Schedule, Store, Output, Memory}
+use Rattle.tcc_words.specs.Fields.{field_word}
+use Rattle.tcc_words.specs.declared.command.Field.{Field}
 use Rattle.tcc_world.proofs.Lemmas.{appends-append}
 use Rattle.tcc_world.specs.Faults.{Rose}
 
@@ -75,6 +76,10 @@ pub value_pieces : (field : Field) (word : List ℕ) → word ≡ field_word fie
     → codes "tcc: value " ++ (word ++ newline) ≡ line_of (Value field)
 unfolding line_of
 value_pieces field word e = rw e refl
+
+pub schedule_pieces : (line : ℕ) → codes "tcc: schedule line " ++ (decimal line ++ newline) ≡ line_of (Schedule line)
+unfolding line_of
+schedule_pieces line = refl
 
 pub store_pieces : (name : Bor (List ℕ)) → codes "tcc: store " ++ (name.now ++ newline) ≡ line_of (Store name)
 unfolding line_of

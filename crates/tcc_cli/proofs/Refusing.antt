@@ -1,5 +1,6 @@
 -- Why files are refused: the refusal is that of their first fault, or for want of memory.
-use Rattle.std.proofs.Common.{ℕ, ◌≡◌, ◌≢◌, ◌<◌, List, length, drop, get_or, Option, Some, None, inl, inr, ◌⊎◌, refl, sym, ◌∙◌, ap, subst}
+use Rattle.std.proofs.Common.{ℕ, ◌≡◌, ◌≢◌, ◌<◌, Bool, List, length, drop, get_or, Option}
+use Rattle.std.proofs.Common.{Some, None, inl, inr, ◌⊎◌, refl, sym, ◌∙◌, ap, subst}
 use Rattle.std.specs.Option.{option_or, option_and_then}
 use Rattle.image_elf.specs.Tests.{tests, first_fault}
 use Rattle.image_elf.specs.declared.fault.ElfFault.{ElfFault}
@@ -15,7 +16,6 @@ use Rattle.tcc_cli.specs.Reading.{RefusedImages}
 use Rattle.tcc_cli.specs.declared.refusal.ImageFault.{ImageFault}
 use Rattle.tcc_cli.specs.declared.refusal.Refusal.{Refusal}
 use Rattle.tcc_cli.specs.declared.refusal.Refusal.TheVariants as why
-use Rattle.tcc_cli.specs.declared.words.Form.{Form}
 
 is_memory : (fault : ElfFault) → (fault ≡ elf.Memory) ⊎ (fault ≢ elf.Memory)
 is_memory (elf.Short size) = inr (λ e. absurd (cc))
@@ -32,6 +32,7 @@ refused_none : (x : Option ImageFault) (r : Refusal) → RefusedImages None r �
 refused_none x why.Words h = absurd h
 refused_none x (why.Value field) h = absurd h
 refused_none x (why.Image fault) h = absurd (cc)
+refused_none x (why.Schedule line) h = absurd h
 refused_none x (why.Store name) h = absurd h
 refused_none x why.Output h = absurd h
 refused_none x why.Memory h = tt
@@ -51,7 +52,8 @@ pub refused_elf : (n : ℕ) (files : List (List ℕ)) (d file : List ℕ) (fault
 refused_elf n files d file fault r h tested is first want named =
     elim (is_memory fault) [
       | inl e ↦ refused_memory (elf_fault 0 files) r (want e)
-      | inr e ↦ refused_image (elf_fault 0 files) (elf_named n fault) r (named e) (elf_refused n files d fault h tested (sym (ap (λ b. first_fault (tests b)) is) ∙ first e))
+      | inr e ↦ refused_image (elf_fault 0 files) (elf_named n fault) r (named e) (elf_refused n files d fault h tested (sym (ap
+          (λ b. first_fault (tests b)) is) ∙ first e))
     ]
 
 refused_same : (x y : Option ImageFault) (r : Refusal) → x ≡ y → RefusedImages x r → RefusedImages y r
@@ -67,7 +69,8 @@ pub refused_load : (fault : LoadFault) (x : Option LoadFault) (r : Refusal) → 
     → RefusedImages (load_named fault) r → RefusedImages (option_and_then load_named x) r
 unfolding IsFault
 refused_load (Outside image segment) x r h is = refused_same _ _ r (sym (ap (option_and_then load_named) (h (λ e. subst IsFault e tt)))) is
-refused_load (Overlap image segment i s) x r h is = refused_same _ _ r (sym (ap (option_and_then load_named) (h (λ e. subst IsFault e tt)))) is
+refused_load (Overlap image segment i s) x r h is = refused_same _ _ r (sym (ap (option_and_then load_named) (h
+    (λ e. subst IsFault e tt)))) is
 refused_load (Entry image) x r h is = refused_same _ _ r (sym (ap (option_and_then load_named) (h (λ e. subst IsFault e tt)))) is
 refused_load Memory x r h is = refused_none (option_and_then load_named x) r is
 
@@ -76,6 +79,7 @@ pub refused_first : (x y : Option ImageFault) (r : Refusal) → RefusedImages x 
 refused_first x y why.Words h = h
 refused_first x y (why.Value field) h = h
 refused_first x y (why.Image fault) h = ap (λ f. option_or f y) h
+refused_first x y (why.Schedule line) h = h
 refused_first x y (why.Store name) h = h
 refused_first x y why.Output h = h
 refused_first x y why.Memory h = h
@@ -83,17 +87,17 @@ refused_first x y why.Memory h = h
 pub refused_second : (x y : Option ImageFault) (r : Refusal) → x ≡ None → RefusedImages y r → RefusedImages (option_or x y) r
 refused_second x y r none h = refused_same y (option_or x y) r (sym (ap (λ f. option_or f y) none)) h
 
-pub refused_form : (form : Form) (s : Settings) (files : List (List ℕ)) (r : Refusal) → RefusedImages (form_fault form s files) r
-    → RefusedImages (fault_of form s files) r
+pub refused_form : (raw : Bool) (s : Settings) (files : List (List ℕ)) (r : Refusal) → RefusedImages (form_fault raw s files) r
+    → RefusedImages (fault_of raw s files) r
 unfolding fault_of
-refused_form form s files r h =
-    refused_first (form_fault form s files) (option_and_then load_named (load_fault s (images_of form s files))) r h
+refused_form raw s files r h =
+    refused_first (form_fault raw s files) (option_and_then load_named (load_fault s (images_of raw s files))) r h
 
-pub refused_load_of : (form : Form) (s : Settings) (files : List (List ℕ)) (images : List Image) (fault : LoadFault) (r : Refusal)
-    → form_fault form s files ≡ None → images ≡ images_of form s files → (fault ≢ Memory → load_fault s images ≡ Some fault)
-    → RefusedImages (load_named fault) r → RefusedImages (fault_of form s files) r
+pub refused_load_of : (raw : Bool) (s : Settings) (files : List (List ℕ)) (images : List Image) (fault : LoadFault) (r : Refusal)
+    → form_fault raw s files ≡ None → images ≡ images_of raw s files → (fault ≢ Memory → load_fault s images ≡ Some fault)
+    → RefusedImages (load_named fault) r → RefusedImages (fault_of raw s files) r
 unfolding fault_of
-refused_load_of form s files images fault r none are h is =
-    refused_second (form_fault form s files) (option_and_then load_named (load_fault s (images_of form s files))) r none
+refused_load_of raw s files images fault r none are h is =
+    refused_second (form_fault raw s files) (option_and_then load_named (load_fault s (images_of raw s files))) r none
     (subst (λ is. RefusedImages (option_and_then load_named (load_fault s is)) r) are
     (refused_load fault (load_fault s images) r h is))

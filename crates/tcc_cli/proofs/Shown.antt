@@ -25,16 +25,14 @@ shown-at s h c ended pc regs console l e f g k =
     rw here (λ i. record { ended = e i; pc = f i; regs = g i; console = k i })
 
 -- one core more
-pub shown-more : (s : Start) (h : History) (n : ℕ) (cs : List ShownCore) (x : ShownCore)
-    → cs ≡ map (λ core. shown_core ((committed s h).cores core)) (range_with_len 0 n) → x ≡ shown_core ((committed s h).cores n)
-    → cs ++ x ∷ [] ≡ map (λ core. shown_core ((committed s h).cores core)) (range_with_len 0 (n + 1))
-shown-more s h n cs x are is =
-    ap (λ ys. ys ++ x ∷ []) are
-    ∙ ap (λ y. map (λ core. shown_core ((committed s h).cores core)) (range_with_len 0 n) ++ y ∷ []) is
-    ∙ sym (map-range_with_len_more (λ core. shown_core ((committed s h).cores core)) 0 n n (omega arith))
+pub shown-more : (f : ℕ → ShownCore) (n : ℕ) (cs : List ShownCore) (x : ShownCore) → cs ≡ map f (range_with_len 0 n) → x ≡ f n
+    → cs ++ x ∷ [] ≡ map f (range_with_len 0 (n + 1))
+shown-more f n cs x are is =
+    ap (λ ys. ys ++ x ∷ []) are ∙ ap (λ y. map f (range_with_len 0 n) ++ y ∷ []) is ∙ sym (map-range_with_len_more f 0 n n (omega arith))
 
 -- what one core more printed
-pub printed-more : (commits : List Commit) (n : ℕ) (cs : List (List ℕ)) (x : List ℕ) → cs ≡ map (λ core. printed core commits) (range_with_len 0 n)
+pub printed-more : (commits : List Commit) (n : ℕ) (cs : List (List ℕ)) (x : List ℕ)
+    → cs ≡ map (λ core. printed core commits) (range_with_len 0 n)
     → x ≡ printed n commits → cs ++ x ∷ [] ≡ map (λ core. printed core commits) (range_with_len 0 (n + 1))
 printed-more commits n cs x are is =
     ap (λ ys. ys ++ x ∷ []) are

@@ -7,7 +7,7 @@ use Rattle.rv_code.specs.Machine.{program}
 use Rattle.rv_serial.specs.Going.{RiscvPickedEndsDone}
 use Rattle.rv_serial.specs.Suiting.{world_at_start}
 use Rattle.tcc_rules.specs.Laws.{PickedEnds}
-use Rattle.tcc_cli.specs.Runs.{OpenRunsTakeAllEvents, schedule_of, the_seed}
+use Rattle.tcc_cli.specs.Runs.{OpenRunsTakeAllEvents, picked_by}
 use Rattle.tcc_pick.specs.Words.{seeded, words}
 
 pub as-many : (n : ℕ) (g : Lcg) → length (words n g) ≡ n
@@ -16,13 +16,13 @@ as-many zero g = refl
 as-many (suc n) g = ap (λ k. suc k) (as-many n (pcg32 g).1)
 
 pub open_runs : RiscvPickedEndsDone → PickedEnds → OpenRunsTakeAllEvents
-open_runs done ends s steps h allowed is_run open_end =
-    let rs = words steps (seeded the_seed) in
-    let count : length rs ≡ steps = as-many steps (seeded the_seed) in
-    let few : length (schedule_of s steps) ≤ length rs = (ends s.settings (program s) rs (world_at_start s)).0 in
-    let all : (length (schedule_of s steps) < length rs) → ⊥ =
+open_runs done ends s seed steps h allowed is_run open_end =
+    let rs = words steps (seeded seed) in
+    let count : length rs ≡ steps = as-many steps (seeded seed) in
+    let few : length (picked_by s seed steps) ≤ length rs = (ends s.settings (program s) rs (world_at_start s)).0 in
+    let all : (length (picked_by s seed steps) < length rs) → ⊥ =
     λ l. open_end (rw is_run at (done s rs allowed l)) in
-    equal (length (schedule_of s steps)) (length rs) steps count few all
+    equal (length (picked_by s seed steps)) (length rs) steps count few all
   where
     equal : (n m k : ℕ) → m ≡ k → n ≤ m → ((n < m) → ⊥) → n ≡ k
     equal n m k e l a = grind (arith)

@@ -1,10 +1,13 @@
-pub mod Asked
-pub mod Held
+pub mod Around
+pub mod Commands
+pub mod Failing
 pub mod Images
+pub mod Laws
 pub mod Lines
-pub mod Numbers
+pub mod Lists
 pub mod Reading
 pub mod Refusals
 pub mod Runs
+pub mod Schedules
 pub mod Statuses
 pub mod Top

@@ -2,7 +2,7 @@
 use Rattle.std.specs.Prelude.{ℕ, List, [], ◌∷◌, ◌++◌, ◌≡◌, ◌≢◌, Option, Some}
 use Rattle.tcc_cli.specs.declared.refusal.ImageFault.{ImageFault}
 use Rattle.tcc_cli.specs.declared.refusal.Refusal.{Refusal}
-use Rattle.tcc_cli.specs.declared.refusal.Refusal.TheVariants.{Words, Value, Image, Store, Output, Memory}
+use Rattle.tcc_cli.specs.declared.refusal.Refusal.TheVariants.{Image, Store, Memory}
 use Rattle.tcc_world.specs.Faults.{Rose}
 use Rattle.tcc_world.specs.Told.{Gives}
 
@@ -31,9 +31,6 @@ RefusedFiles told names before after _ = ⊥
 
 -- the images are refused for the first fault of their files
 abbrev pub RefusedImages : Option ImageFault → Refusal → Type 0
-RefusedImages first Words = ⊥
-RefusedImages first (Value field) = ⊥
 RefusedImages first (Image fault) = first ≡ Some fault
-RefusedImages first (Store name) = ⊥
-RefusedImages first Output = ⊥
 RefusedImages first Memory = Unit {0}
+RefusedImages first _ = ⊥

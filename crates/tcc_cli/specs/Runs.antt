@@ -1,47 +1,59 @@
--- The run that a command asks for: the schedule that a seed picks, the state to which the protocol's rules lead by it, and its report.
-use Rattle.std.specs.Prelude.{ℕ, Bool, List, length, ◌/◌, ◌≡◌, ◌↔◌, Some, IsTrue}
+-- The run of a machine by a schedule: the state to which the protocol's rules lead, what is committed there, and the text of it.
+use Rattle.std.specs.Prelude.{ℕ, Bool, List, map, length, ◌/◌, ◌≡◌, ◌↔◌, Some, IsTrue}
 use Rattle.image_load.specs.Start.{Start}
 use Rattle.report_text.specs.Plain.{shown_plain}
 use Rattle.report_text.specs.Shown.{Shown}
 use Rattle.report_text.specs.Text.{report_text}
+use Rattle.report_text.specs.Trial.{trial_text}
 use Rattle.rv_code.specs.Machine.{program}
-use Rattle.rv_serial.specs.Given.{committed}
+use Rattle.rv_serial.specs.Given.{IsSerial, committed}
 use Rattle.rv_serial.specs.Going.{picked_from}
 use Rattle.rv_serial.specs.Suiting.{world_at_start}
 use Rattle.tcc_base.specs.Settings.{IsAllowed}
-use Rattle.tcc_maps.specs.Nodes.{Event}
+use Rattle.tcc_maps.specs.Nodes as rules
+use Rattle.tcc_msg.specs.Plain.{event_of}
+use Rattle.tcc_msg.specs.declared.event.Event.{Event}
 use Rattle.tcc_rules.specs.Seen.{IsDone}
 use Rattle.tcc_rules.specs.Step.{History, run}
 use Rattle.tcc_pick.specs.Words.{seeded, words}
+use Rattle.work_gen.specs.declared.work.Work.{Work}
 
--- the seed of each run, so far
-abbrev pub the_seed : ℕ
-the_seed = 0
+-- the schedule that a seed picks: one event for each random word, or fewer where none is useful any more
+abbrev pub picked_by : Start → (seed steps : ℕ) → List rules.Event
+picked_by s seed steps = picked_from s (words steps (seeded seed))
 
--- one event for each random word, or fewer where none is useful any more
-abbrev pub schedule_of : Start → (steps : ℕ) → List Event
-schedule_of s steps = picked_from s (words steps (seeded the_seed))
+-- the rules lead by these events to this state, with these commits
+abbrev pub IsRun : Start → List rules.Event → History → Type 0
+IsRun s es h = run s.settings (program s) (world_at_start s) es ≡ Some h
 
--- the rules lead by this schedule to this state, with these commits
-abbrev pub IsRun : Start → (steps : ℕ) → History → Type 0
-IsRun s steps h = run s.settings (program s) (world_at_start s) (schedule_of s steps) ≡ Some h
+-- A run of the rules. The headline: its commits are a serial execution of the plain machine, and what is committed is that machine
+-- after them. `done` is whether every core has halted, nothing is in flight and no frame has a dirty word.
+pub record RunsTo (s : Start) (es : List Event) (done : Bool) (h : History) : Type 0 where
+  pub is_run : IsRun s (map event_of es) h
+  pub is_done : IsTrue done ↔ IsDone s.settings h.world
+  pub serial : IsSerial s h
 
 -- what is committed, as the plain machine that executed the commits
 abbrev pub shown : Start → History → Shown
 shown s h = shown_plain s.settings.cores s.settings.base (s.settings.ram / 4) s.word h.commits (committed s h)
 
-unfoldable pub text_of : Start → (done : Bool) → (events : ℕ) → History → List ℕ
-text_of s done events h = report_text done events (shown s h)
+unfoldable pub run_text : Start → (done : Bool) → (events : ℕ) → History → List ℕ
+run_text s done events h = report_text done events (shown s h)
 
--- a run with its report
-pub record Finishes (s : Start) (steps : ℕ) (done : Bool) (text : List ℕ) : Type 0 where
-  pub ends : History
-  pub is_run : IsRun s steps ends
-  pub is_done : IsTrue done ↔ IsDone s.settings ends.world
-  pub text_is : text ≡ text_of s done (length (schedule_of s steps)) ends
+unfoldable pub summary_text : Start → Work → (number : ℕ) → (done : Bool) → (events : ℕ) → History → List ℕ
+summary_text s work number done events h = trial_text (record {
+  work = work;
+  number = number;
+  done = done;
+  events = events;
+  commits = length h.commits;
+  count = s.settings.ram / 4;
+  ram = (committed s h).ram;
+  loaded = s.word;
+})
 
--- a run at whose end the machine isn't done took all the events that were asked for
+-- a picked run at whose end the machine isn't done took all the events that were asked for
 abbrev pub OpenRunsTakeAllEvents : Type 0
 OpenRunsTakeAllEvents =
-    (s : Start) (steps : ℕ) (h : History) → IsAllowed s.settings → IsRun s steps h → (IsDone s.settings h.world → ⊥)
-    → length (schedule_of s steps) ≡ steps
+    (s : Start) (seed steps : ℕ) (h : History) → IsAllowed s.settings → IsRun s (picked_by s seed steps) h
+    → (IsDone s.settings h.world → ⊥) → length (picked_by s seed steps) ≡ steps

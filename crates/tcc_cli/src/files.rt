@@ -1,29 +1,70 @@
-// The images of a command, from their files.
-ghost use Rattle.std.specs.Prelude.{◌≡◌, ◌≢◌, ◌≤◌, ℕ, List, length, map, All, IfOk, OnOk, IfErr, None};
-ghost use Rattle.image_elf.specs.Elf.{IsWithinSizes, image_of};
-ghost use Rattle.image_elf.specs.declared.fault.ElfFault.TheVariants.{Memory};
-ghost use Rattle.image_load.specs.Contents.{started};
-ghost use Rattle.tcc_cli.specs.Images.{images_of, start_of, elf_named, load_named, elf_fault, form_fault, fault_of};
-ghost use Rattle.tcc_cli.specs.Reading.{AreGiven, RefusedFiles, RefusedImages};
-ghost use Rattle.tcc_cli.specs.declared.refusal.Refusal.TheVariants as why;
+// The files of a command.
+ghost use Rattle.std.specs.Prelude.{◌≡◌, ◌∷◌, ℕ, List as Seq, map, IfOk, IfErr, MatchOption};
+ghost use Rattle.tcc_cli.specs.Commands.{files_of, image_names};
+ghost use Rattle.tcc_cli.specs.Reading.{AreGiven, RefusedFiles};
 
-use crate::refusal::{ImageFault, Refusal};
-use crate::words::Form;
-use image_elf::{ElfFault, Image, read_elf};
-use image_load::{LoadFault, Loaded, load, raw};
+use crate::refusal::Refusal;
 use std::alloc::Global;
-use tcc_base::{Config, List};
+use tcc_base::{List, NoMemory, Text};
+use tcc_words::Command;
 use tcc_world::{Store, StoreError};
+
+/// The name of the schedule or list.
+fn first_name(command: &Command) -> Option<&str>
+    ensures { MatchOption result (files_of command.now ≡ image_names command.now)
+        (λ name. files_of command.now ≡ name.now ∷ image_names command.now) }
+{
+    match command {
+        Command::Replay { schedule, .. } => Some(schedule.items.as_str()),
+        Command::Serial { list, .. } => Some(list.items.as_str()),
+        Command::Run { .. } | Command::Trial { .. } => None,
+    }
+}
+
+/// The names of the images.
+fn image_names(command: &Command) -> &[Text]
+    ensures { result.now ≡ image_names command.now }
+{
+    match command {
+        Command::Run { images, .. }
+        | Command::Replay { images, .. }
+        | Command::Serial { images, .. } => &images.items,
+        Command::Trial { .. } => &[],
+    }
+}
+
+/// The names of the files that a command reads, in order.
+pub fn names(alloc: Global, command: &Command) -> Result<Vec<&str>, NoMemory>
+    ensures { IfOk result (λ names. map (λ w. w.now) names.items ≡ files_of command.now) }
+{
+    let mut names = Vec::new(alloc);
+    if let Some(name) = first_name(command) {
+        match names.push(name) {
+            Ok(()) => {}
+            Err(_) => return Err(NoMemory),
+        }
+    }
+    for name in image_names(command) {
+        match names.push(name.items.as_str()) {
+            Ok(()) => {}
+            Err(_) => return Err(NoMemory),
+        }
+    }
+    Ok(names)
+}
 
 /// Reads files by their names, in order, and stops at the first that isn't read.
 pub fn read_files<'a, F: Store>(
     alloc: Global,
-    names: &'a [&'a str],
+    names: &[&'a str],
     files: &mut F,
 ) -> Result<Vec<List<u8>>, Refusal<'a>>
     ensures read { IfOk result (λ read. AreGiven (F.contents files.old) (map (λ w. w.now) names.now) read.items) }
-    ensures refused { IfErr result (RefusedFiles (F.contents files.old) (map (λ w. w.now) names.now) (F.failed_reads files.old) (F.failed_reads files.new)) }
-    ensures contents { (n : List ℕ) → F.contents files.new n ≡ F.contents files.old n }
+    ensures refused { IfErr result (RefusedFiles (F.contents files.old) (map (λ w. w.now) names.now)
+        (F.failed_reads files.old) (F.failed_reads files.new)) }
+    ensures contents { (n : Seq ℕ) → F.contents files.new n ≡ F.contents files.old n }
+    ensures tells { F.tells files.new ≡ F.tells files.old }
+    ensures writes { (n : Seq ℕ) → F.failed_writes files.new n ≡ F.failed_writes files.old n }
 {
     let mut read = Vec::new(alloc);
     for name in names {
@@ -38,105 +79,4 @@ pub fn read_files<'a, F: Store>(
         }
     }
     Ok(read)
-}
-
-/// A file's bytes.
-fn bytes(file: &List<u8>) -> &[u8]
-    ensures { result.now ≡ file.now }
-{
-    &file.items
-}
-
-/// What a fault of the file of that number is to the program.
-fn of_elf<'a>(number: u32, fault: ElfFault) -> Refusal<'a>
-    ensures want { fault ≡ Memory → result ≡ why.Memory }
-    ensures named { fault ≢ Memory → result ≡ why.Image (elf_named number fault) }
-{
-    if fault == ElfFault::Memory {
-        Refusal::Memory
-    } else {
-        Refusal::Image(ImageFault::of_elf(number, fault))
-    }
-}
-
-/// The images of ELF files, or the first file that is none.
-fn read_images<'a>(alloc: Global, files: &[List<u8>]) -> Result<Vec<Image>, Refusal<'a>>
-    requires few { length files.now ≤ 16 }
-    ensures images { IfOk result (λ images. images.items ≡ map image_of files.now) }
-    ensures count { IfOk result (λ images. length images.items ≡ length files.now) }
-    ensures within { IfOk result (λ images. All IsWithinSizes images.items) }
-    ensures accepted { OnOk result (elf_fault 0 files.now ≡ None) }
-    ensures refused { IfErr result (RefusedImages (elf_fault 0 files.now)) }
-{
-    let mut images = Vec::new(alloc);
-    for (number, file) in files.iter().enumerate() {
-        let image = match read_elf(alloc, bytes(file)) {
-            Ok(image) => image,
-            Err(fault) => return Err(of_elf(number as u32, fault)),
-        };
-        match images.push(image) {
-            Ok(()) => {}
-            Err(_) => return Err(Refusal::Memory),
-        }
-    }
-    Ok(images)
-}
-
-/// What a fault of laying images is to the program.
-fn of_load<'a>(fault: LoadFault) -> Refusal<'a>
-    ensures { RefusedImages (load_named fault) result }
-{
-    match ImageFault::of_load(fault) {
-        Some(fault) => Refusal::Image(fault),
-        None => Refusal::Memory,
-    }
-}
-
-/// The images that the files are.
-#[tactic(auto, unfolding(crate::specs::Images::form_fault))]
-fn images_from<'a>(
-    alloc: Global,
-    form: Form,
-    config: &Config,
-    files: &[List<u8>],
-) -> Result<Vec<Image>, Refusal<'a>>
-    requires some { 1 ≤ length files.now }
-    requires few { length files.now ≤ 16 }
-    ensures images { IfOk result (λ images. images.items ≡ images_of form config.now files.now) }
-    ensures count { IfOk result (λ images. length images.items ≡ length files.now) }
-    ensures within { IfOk result (λ images. All IsWithinSizes images.items) }
-    ensures accepted { OnOk result (form_fault form config.now files.now ≡ None) }
-    ensures refused { IfErr result (RefusedImages (form_fault form config.now files.now)) }
-{
-    match form {
-        Form::Elf => read_images(alloc, files),
-        Form::Raw => match raw(alloc, config, files) {
-            Ok(images) => Ok(images),
-            Err(fault) => Err(of_load(fault)),
-        },
-    }
-}
-
-/// The memory that the files load, or the first of them that is no image.
-pub fn lay<'a>(
-    alloc: Global,
-    form: Form,
-    config: &Config,
-    files: &[List<u8>],
-) -> Result<Loaded, Refusal<'a>>
-    requires some { 1 ≤ length files.now }
-    requires few { length files.now ≤ 16 }
-    ensures start { IfOk result (λ loaded. started loaded ≡ start_of form config.now files.now) }
-    ensures settings { IfOk result (λ loaded. loaded.settings ≡ config.now) }
-    ensures accepted { OnOk result (fault_of form config.now files.now ≡ None) }
-    ensures refused { IfErr result (RefusedImages (fault_of form config.now files.now)) }
-{
-    let images = match images_from(alloc, form, config, files) {
-        Ok(images) => images,
-        Err(refusal) => return Err(refusal),
-    };
-    match load(alloc, config, &images) {
-        Ok(loaded) => Ok(loaded),
-        Err(fault) => Err(of_load(fault)),
-    }
 }

@@ -1,22 +1,48 @@
 // What follows from the answers of the program.
+ghost use Rattle.tcc_cli.specs.Laws.{AnswersAreComplete, OthersAreRefused, ReplaysPrintTheSame};
 ghost use Rattle.tcc_cli.specs.Runs.{OpenRunsTakeAllEvents};
-ghost use Rattle.tcc_cli.specs.Top.{AnswersAreComplete, OthersAreRefused};
 
 use rv_serial::riscv_machines_are_never_stuck;
+use schedule_text::{texts_tell_schedules_apart, the_first_fault_is_one};
+use serial_tool::{lists_are_read_alike, lists_are_run_alike};
+use tcc_replay::what_runs_is_not_refused;
 use tcc_rules::a_picked_schedule_is_a_run;
+use tcc_words::{commands_are_in_bounds, words_ask_for_one_command};
 
-/// A law: where the words are a command, the files' bytes are told, and no count of faults rose, the program has run the images
-/// and written its whole report, or answered their first fault, or the status is `Memory`. And the words are refused exactly where they
-/// are no command.
+/// A law: where the words ask for a command, the files' bytes are told, and no count of faults rose, the command was carried out and its
+/// whole text written, or the first fault of the images was answered, or else that of the schedule or list, or the status is `Memory`.
+/// And the words are refused exactly where they ask for nothing, unless memory ran out.
 pub fn answers_are_complete()
     ensures command { AnswersAreComplete }
     ensures words { OthersAreRefused }
-{}
+{
+    words_ask_for_one_command();
+    commands_are_in_bounds();
+    texts_tell_schedules_apart();
+    the_first_fault_is_one();
+    lists_are_read_alike();
+    lists_are_run_alike();
+    what_runs_is_not_refused();
+}
 
-/// A law: where the machine isn't done at the end, all the events that were asked for were taken.
+/// A law: where the machine isn't done at the end of a picked run, all the events that were asked for were taken.
 pub fn open_runs_take_all_events()
     ensures { OpenRunsTakeAllEvents }
 {
     riscv_machines_are_never_stuck();
     a_picked_schedule_is_a_run();
+}
+
+/// A law: two calls, a run that is recorded and the replay of the record with the same settings and images, end alike and print the same
+/// text, where nothing fails and memory suffices.
+pub fn replays_print_the_same()
+    ensures { ReplaysPrintTheSame }
+{
+    words_ask_for_one_command();
+    commands_are_in_bounds();
+    texts_tell_schedules_apart();
+    the_first_fault_is_one();
+    lists_are_read_alike();
+    lists_are_run_alike();
+    what_runs_is_not_refused();
 }

@@ -2,18 +2,21 @@
 #![tactic(auto)]
 
 mod files;
+mod images;
+mod laid;
 mod laws;
-mod numbers;
+mod lists;
+mod records;
 mod refusal;
-mod simulation;
+mod reports;
+mod running;
+mod schedules;
 mod status;
 #[cfg(test)]
 mod tests;
 mod top;
-mod words;
 
-pub use laws::{answers_are_complete, open_runs_take_all_events};
+pub use laws::{answers_are_complete, open_runs_take_all_events, replays_print_the_same};
 pub use refusal::{ImageFault, Reader, Refusal, refuse};
 pub use status::Status;
 pub use top::tcc_main;
-pub use words::Field;

@@ -3,14 +3,14 @@ ghost use Rattle.std.specs.Prelude.{◌≡◌, ◌≤◌, OnOk, OnErr};
 ghost use Rattle.std.specs.List.{flat_map};
 ghost use Rattle.tcc_cli.specs.Images.{elf_named, load_named};
 ghost use Rattle.tcc_cli.specs.Lines.{piece_text, IsTold, IsWhole, IsCut};
-ghost use Rattle.tcc_cli.specs.Refusals.{field_word, reader_word, line_of, refusal_status};
+ghost use Rattle.tcc_cli.specs.Refusals.{reader_word, line_of, refusal_status, words_refusal};
 ghost use Rattle.tcc_cli.specs.declared.refusal.Refusal.TheVariants.{Image};
 
 use crate::status::Status;
-use crate::words::Field;
 use image_elf::ElfFault;
 use image_load::LoadFault;
 use itoa::Buffer;
+use tcc_words::{Field, WordsFault};
 use tcc_world::{Sink, SinkFailed, write_all};
 
 /// Who refuses an image.
@@ -44,21 +44,35 @@ pub enum Refusal<'a> {
     Value(Field),
     /// A file is no image.
     Image(ImageFault),
-    /// This file wasn't read.
+    /// The first line of the schedule or list, from 1, that is at fault.
+    Schedule(u64),
+    /// This file wasn't read or written.
     Store(&'a str),
-    /// The report wasn't written whole.
+    /// The text wasn't written whole.
     Output,
     /// There wasn't enough memory.
     Memory,
 }
 
 impl<'a> Refusal<'a> {
+    /// What a fault of the words is to the program.
+    pub fn of_words(fault: WordsFault) -> Refusal<'a>
+        ensures { result ≡ words_refusal fault }
+    {
+        match fault {
+            WordsFault::Words => Refusal::Words,
+            WordsFault::Value(field) => Refusal::Value(field),
+            WordsFault::Memory => Refusal::Memory,
+        }
+    }
+
     fn status(&self) -> Status
         ensures { result ≡ refusal_status self.now }
     {
         match self {
             Refusal::Words | Refusal::Value(_) => Status::Words,
             Refusal::Image(_) => Status::Image,
+            Refusal::Schedule(_) => Status::Schedule,
             Refusal::Store(_) => Status::StoreFault,
             Refusal::Output => Status::SinkFault,
             Refusal::Memory => Status::Memory,
@@ -101,8 +115,18 @@ enum Piece<'a> {
 }
 
 fn write_piece<S: Sink>(sink: &mut S, piece: &Piece) -> Result<(), SinkFailed>
-    ensures written { OnOk result (IsWhole (piece_text piece.now) (record { before = S.bytes sink.old; after = S.bytes sink.new; faults_before = S.faults sink.old; faults_after = S.faults sink.new })) }
-    ensures cut { OnErr result (IsCut (piece_text piece.now) (record { before = S.bytes sink.old; after = S.bytes sink.new; faults_before = S.faults sink.old; faults_after = S.faults sink.new })) }
+    ensures written { OnOk result (IsWhole (piece_text piece.now) (record {
+      before = S.bytes sink.old;
+      after = S.bytes sink.new;
+      faults_before = S.faults sink.old;
+      faults_after = S.faults sink.new;
+    })) }
+    ensures cut { OnErr result (IsCut (piece_text piece.now) (record {
+      before = S.bytes sink.old;
+      after = S.bytes sink.new;
+      faults_before = S.faults sink.old;
+      faults_after = S.faults sink.new;
+    })) }
     ensures faults_stay { S.faults sink.old ≤ S.faults sink.new }
 {
     match piece {
@@ -113,26 +137,18 @@ fn write_piece<S: Sink>(sink: &mut S, piece: &Piece) -> Result<(), SinkFailed>
 
 /// Writes the pieces one after the other, as far as the sink takes them. Takes no memory.
 fn write_pieces<S: Sink>(sink: &mut S, pieces: &[Piece])
-    ensures { IsTold (flat_map piece_text pieces.now) (record { before = S.bytes sink.old; after = S.bytes sink.new; faults_before = S.faults sink.old; faults_after = S.faults sink.new }) }
+    ensures { IsTold (flat_map piece_text pieces.now) (record {
+      before = S.bytes sink.old;
+      after = S.bytes sink.new;
+      faults_before = S.faults sink.old;
+      faults_after = S.faults sink.new;
+    }) }
 {
     for piece in pieces {
         match write_piece(sink, piece) {
             Ok(()) => {}
             Err(SinkFailed) => return,
         }
-    }
-}
-
-fn field_word(field: Field) -> &'static str
-    ensures { result.now ≡ field_word field }
-{
-    match field {
-        Field::Cores => "cores",
-        Field::Dirs => "dirs",
-        Field::Sets => "sets",
-        Field::Ways => "ways",
-        Field::Steps => "steps",
-        Field::Images => "images",
     }
 }
 
@@ -148,7 +164,12 @@ fn reader_word(reader: Reader) -> &'static str
 /// The line of an image's fault.
 #[tactic(auto, unfolding(crate::specs::Refusals::line_of))]
 fn write_fault<S: Sink>(sink: &mut S, fault: &ImageFault)
-    ensures { IsTold (line_of (Image fault.now)) (record { before = S.bytes sink.old; after = S.bytes sink.new; faults_before = S.faults sink.old; faults_after = S.faults sink.new }) }
+    ensures { IsTold (line_of (Image fault.now)) (record {
+      before = S.bytes sink.old;
+      after = S.bytes sink.new;
+      faults_before = S.faults sink.old;
+      faults_after = S.faults sink.new;
+    }) }
 {
     let pieces = [
         Piece::Text("tcc: image "),
@@ -166,7 +187,12 @@ fn write_fault<S: Sink>(sink: &mut S, fault: &ImageFault)
 
 #[tactic(auto, unfolding(crate::specs::Refusals::line_of))]
 fn write_line<S: Sink>(sink: &mut S, refusal: &Refusal)
-    ensures { IsTold (line_of refusal.now) (record { before = S.bytes sink.old; after = S.bytes sink.new; faults_before = S.faults sink.old; faults_after = S.faults sink.new }) }
+    ensures { IsTold (line_of refusal.now) (record {
+      before = S.bytes sink.old;
+      after = S.bytes sink.new;
+      faults_before = S.faults sink.old;
+      faults_after = S.faults sink.new;
+    }) }
 {
     match refusal {
         Refusal::Words => write_pieces(sink, &[Piece::Text("tcc: words\n")]),
@@ -174,11 +200,19 @@ fn write_line<S: Sink>(sink: &mut S, refusal: &Refusal)
             sink,
             &[
                 Piece::Text("tcc: value "),
-                Piece::Text(field_word(*field)),
+                Piece::Text(field.word()),
                 Piece::Text("\n"),
             ],
         ),
         Refusal::Image(fault) => write_fault(sink, fault),
+        Refusal::Schedule(line) => write_pieces(
+            sink,
+            &[
+                Piece::Text("tcc: schedule line "),
+                Piece::Number(*line),
+                Piece::Text("\n"),
+            ],
+        ),
         Refusal::Store(name) => write_pieces(
             sink,
             &[
@@ -198,6 +232,7 @@ fn write_line<S: Sink>(sink: &mut S, refusal: &Refusal)
 /// |---|---|
 /// | `Words`, `Value` | `tcc: words`, `tcc: value FIELD` |
 /// | `Image` | `tcc: image I elf K P` or `tcc: image I load K P`: the image's number, the fault's number and its place |
+/// | `Schedule` | `tcc: schedule line L` |
 /// | `Store` | `tcc: store NAME` |
 /// | `Output` | `tcc: output` |
 /// | `Memory` | `tcc: memory` |
@@ -205,7 +240,12 @@ fn write_line<S: Sink>(sink: &mut S, refusal: &Refusal)
 /// Where `err` fails, a first part of the line was written, and the status is the same. Takes no memory.
 pub fn refuse<E: Sink>(err: &mut E, refusal: &Refusal) -> Status
     ensures status { result ≡ refusal_status refusal.now }
-    ensures told { IsTold (line_of refusal.now) (record { before = E.bytes err.old; after = E.bytes err.new; faults_before = E.faults err.old; faults_after = E.faults err.new }) }
+    ensures told { IsTold (line_of refusal.now) (record {
+      before = E.bytes err.old;
+      after = E.bytes err.new;
+      faults_before = E.faults err.old;
+      faults_after = E.faults err.new;
+    }) }
 {
     write_line(err, refusal);
     refusal.status()

@@ -1,26 +1,46 @@
 // The program as one call: its words, files, outputs and gate in, its status out.
-ghost use Rattle.std.specs.Prelude.{◌≡◌, ℕ, List, map, IfOk, OnErr};
+ghost use Rattle.std.specs.Prelude.{◌≡◌, ◌≢◌, ◌↔◌, ℕ, List as Seq, length, map, IfErr, IfOk, IsTrue, OnErr, OnOk, None, Some};
 ghost use Rattle.std.specs.String.{string_bytes};
+ghost use Rattle.image_load.specs.Contents.{started};
+ghost use Rattle.tcc_cli.specs.Commands.{IsThreaded, fault_from, files_of, machine_of, record_of, start_from};
+ghost use Rattle.tcc_cli.specs.Failing.{IsStopped};
 ghost use Rattle.tcc_cli.specs.Lines.{IsWhole, IsCut};
-ghost use Rattle.tcc_cli.specs.Top.{Caused, Ends};
+ghost use Rattle.tcc_cli.specs.Reading.{RefusedImages};
+ghost use Rattle.tcc_cli.specs.Schedules.{Comes};
+ghost use Rattle.tcc_cli.specs.Top.{Caused, EndsOf};
+ghost use Rattle.tcc_words.specs.Bounds.{IsInBounds};
 
-use crate::files::{lay, read_files};
+use crate::files::{names, read_files};
+use crate::images::{bytes, lay};
+use crate::lists::execute;
 use crate::refusal::{Refusal, refuse};
-use crate::simulation::{Finished, simulate};
+use crate::reports::Finished;
+use crate::running::{run_again, run_recorded, run_trial};
 use crate::status::Status;
-use crate::words::read_words;
+use image_load::Loaded;
 use std::alloc::Global;
+use tcc_base::{List, NoMemory};
+use tcc_words::{Command, commands_are_in_bounds, settings};
 use tcc_world::{Gate, Sink, SinkFailed, Store, write_all};
+use work_gen::workload;
 
-/// Does what the words ask for: `run FORM CORES DIRS SETS WAYS STEPS IMAGE..` reads 1 to 16 images of the form `raw` or `elf`,
-/// runs them on CORES cores and DIRS directories for at most STEPS events, picked by seed 0, and writes the report to `out`.
+/// Does what the words ask for, and answers how that ended.
 ///
-/// `Done`: every core has halted, nothing is in flight, no frame has a dirty word, and the whole report was written. `Stopped`: STEPS
-/// events were taken and the machine isn't done, and it was. `Words`: the words
-/// are no command, or a value isn't allowed. `Image`: the files were read, and one is no image. `StoreFault`: a file wasn't read,
-/// and this is the first. `SinkFault`: `out` failed, after a first part of the report. `Memory`: there wasn't enough memory, before
-/// anything was written; no clause says that memory was short. Nothing is written to `out` with the other refusals. A refusal writes
-/// its line to `err`, as far as `err` takes it; nothing else is written there. The contents that `files` tells stay as they are.
+/// `run [..] IMAGE..` runs images for at most so many events that a seed picks, writes the schedule to a file where one is named, and then
+/// the report to `out`; `replay [..] SCHEDULE IMAGE..` runs the schedule of a file whole and writes the report; `serial [..] REPORT
+/// IMAGE..` executes the commits that a report lists on the plain machine and writes its report; `trial [..] KIND NUMBER` runs a
+/// workload and writes a summary.
+///
+/// `Done`: at the end every core has halted, nothing is in flight and no frame has a dirty word, or the list ran to its end.
+/// `Stopped`: the machine isn't done; a picked run has then taken all the events that were asked for. With both the whole text was
+/// written. `Words`: the words are no command, a value isn't allowed, or threads are asked for, which aren't there yet. `Image`: the files
+/// were read, and one isn't an image. `Schedule`: the schedule or list isn't in its grammar, has other settings than the command's, or
+/// can't be run to its end. `StoreFault`: a file wasn't read, and this is the first, or the record wasn't written. `SinkFault`: `out` failed,
+/// after a first part of the text. `Memory`: there wasn't enough memory; no clause says that memory was short.
+///
+/// Refusals come in this order: words, files that aren't read (the schedule or list first, then the images), images, the
+/// schedule or list, the record, the output. Nothing is written to `out` with a refusal but `SinkFault`. A refusal writes its line to
+/// `err`, as far as `err` takes it; nothing else is written there. Of the contents that `files` tells none changes but the record's.
 pub fn tcc_main<F: Store, O: Sink, E: Sink, G: Gate + Sync>(
     alloc: Global,
     words: &[&str],
@@ -29,66 +49,195 @@ pub fn tcc_main<F: Store, O: Sink, E: Sink, G: Gate + Sync>(
     err: &mut E,
     _gate: &G,
 ) -> Status
-    ensures caused { Caused (map (λ w. w.now) words.now)
+    ensures { Caused (map (λ w. w.now) words.now)
         (record {
-          told = F.contents files.old;
-          reads_before = F.failed_reads files.old;
-          reads_after = F.failed_reads files.new;
-          out = record { before = O.bytes out.old; after = O.bytes out.new; faults_before = O.faults out.old; faults_after = O.faults out.new };
+          files = record {
+            tells = F.tells files.old;
+            before = F.contents files.old;
+            after = F.contents files.new;
+            reads_before = F.failed_reads files.old;
+            reads_after = F.failed_reads files.new;
+            writes_before = F.failed_writes files.old;
+            writes_after = F.failed_writes files.new;
+          };
+          out = record {
+            before = O.bytes out.old;
+            after = O.bytes out.new;
+            faults_before = O.faults out.old;
+            faults_after = O.faults out.new;
+          };
         })
         (record { before = E.bytes err.old; after = E.bytes err.new; faults_before = E.faults err.old; faults_after = E.faults err.new })
         result }
-    ensures contents { (n : List ℕ) → F.contents files.new n ≡ F.contents files.old n }
 {
-    match run(alloc, words, files, out) {
-        Ok(true) => Status::Done,
-        Ok(false) => Status::Stopped,
-        Err(refusal) => refuse(err, &refusal),
+    commands_are_in_bounds();
+    match settings(alloc, words) {
+        Err(fault) => refuse(err, &Refusal::of_words(fault)),
+        Ok(command) => {
+            if is_threaded(&command) {
+                return refuse(err, &Refusal::Words);
+            }
+            match carry_out(alloc, &command, files, out) {
+                Ok(true) => Status::Done,
+                Ok(false) => Status::Stopped,
+                Err(refusal) => refuse(err, &refusal),
+            }
+        }
     }
 }
 
-/// What the words ask for, up to the written report: whether the machine is done, or why it was refused.
-fn run<'a, F: Store, O: Sink>(
+/// Does what a command asks for, up to the written text: whether what it tells of has run to its end, or why it was refused.
+fn carry_out<'a, F: Store, O: Sink>(
     alloc: Global,
-    words: &'a [&'a str],
+    command: &'a Command,
     files: &mut F,
     out: &mut O,
 ) -> Result<bool, Refusal<'a>>
-    ensures ends { Ends (map (λ w. w.now) words.now)
+    requires { IsInBounds command.now }
+    ensures ends { EndsOf command.now
         (record {
-          told = F.contents files.old;
-          reads_before = F.failed_reads files.old;
-          reads_after = F.failed_reads files.new;
-          out = record { before = O.bytes out.old; after = O.bytes out.new; faults_before = O.faults out.old; faults_after = O.faults out.new };
+          files = record {
+            tells = F.tells files.old;
+            before = F.contents files.old;
+            after = F.contents files.new;
+            reads_before = F.failed_reads files.old;
+            reads_after = F.failed_reads files.new;
+            writes_before = F.failed_writes files.old;
+            writes_after = F.failed_writes files.new;
+          };
+          out = record {
+            before = O.bytes out.old;
+            after = O.bytes out.new;
+            faults_before = O.faults out.old;
+            faults_after = O.faults out.new;
+          };
         })
         result }
-    ensures contents { (n : List ℕ) → F.contents files.new n ≡ F.contents files.old n }
+    ensures others { (n : Seq ℕ) → record_of command.now ≢ Some n → F.contents files.new n ≡ F.contents files.old n }
 {
-    let command = match read_words(words) {
-        Ok(command) => command,
-        Err(refusal) => return Err(refusal),
+    let names = match names(alloc, command) {
+        Ok(names) => names,
+        Err(NoMemory) => return Err(Refusal::Memory),
     };
-    let read = match read_files(alloc, command.images, files) {
+    let read = match read_files(alloc, &names, files) {
         Ok(read) => read,
         Err(refusal) => return Err(refusal),
     };
-    let loaded = match lay(alloc, command.form, &command.config, &read) {
+    let loaded = match load(alloc, command, &read) {
         Ok(loaded) => loaded,
         Err(refusal) => return Err(refusal),
     };
-    let finished = match simulate(alloc, &loaded, command.steps) {
+    let finished = match finish(alloc, command, &loaded, &read, files) {
         Ok(finished) => finished,
-        Err(_) => return Err(Refusal::Memory),
+        Err(refusal) => return Err(refusal),
     };
     match show(&finished, out) {
         Ok(done) => Ok(done),
-        Err(_) => Err(Refusal::Output),
+        Err(SinkFailed) => Err(Refusal::Output),
     }
 }
 
+/// Whether a command asks for host threads.
+fn is_threaded(command: &Command) -> bool
+    ensures { IsTrue result ↔ IsThreaded command.now }
+{
+    match command {
+        Command::Run { threads, .. } => threads.is_some(),
+        Command::Replay { .. } | Command::Serial { .. } | Command::Trial { .. } => false,
+    }
+}
+
+/// The memory from which a command's machine starts, where its files have these bytes; or the first image that is refused.
+fn load<'a>(alloc: Global, command: &Command, read: &[List<u8>]) -> Result<Loaded, Refusal<'a>>
+    requires bounds { IsInBounds command.now }
+    requires count { length read.now ≡ length (files_of command.now) }
+    ensures start { IfOk result (λ loaded. started loaded ≡ start_from command.now read.now) }
+    ensures settings { IfOk result (λ loaded. loaded.settings ≡ (machine_of command.now).config) }
+    ensures accepted { OnOk result (fault_from command.now read.now ≡ None) }
+    ensures refused { IfErr result (RefusedImages (fault_from command.now read.now)) }
+{
+    match command {
+        Command::Run { machine, .. } => lay(alloc, machine.raw, &machine.config, read),
+        Command::Replay { machine, .. } | Command::Serial { machine, .. } => {
+            lay(alloc, machine.raw, &machine.config, &read[1..])
+        }
+        Command::Trial {
+            config,
+            work,
+            number,
+            ..
+        } => match workload(alloc, *work, *number) {
+            Ok(items) => lay(alloc, true, config, &[List { items }]),
+            Err(NoMemory) => Err(Refusal::Memory),
+        },
+    }
+}
+
+/// Runs what a command asks for from what was loaded, and writes the record: the text to come, and whether it tells of an end.
+fn finish<'a, F: Store>(
+    alloc: Global,
+    command: &'a Command,
+    loaded: &Loaded,
+    read: &[List<u8>],
+    files: &mut F,
+) -> Result<Finished, Refusal<'a>>
+    requires bounds { IsInBounds command.now }
+    requires count { length read.now ≡ length (files_of command.now) }
+    requires start { started loaded.now ≡ start_from command.now read.now }
+    requires settings { loaded.now.settings ≡ (machine_of command.now).config }
+    ensures comes { IfOk result (λ f. Comes command.now read.now (F.tells files.old) (F.contents files.new) f.done (string_bytes f.text)) }
+    ensures refused { IfErr result (IsStopped command.now read.now (record {
+      tells = F.tells files.old;
+      before = F.contents files.old;
+      after = F.contents files.new;
+      reads_before = F.failed_reads files.old;
+      reads_after = F.failed_reads files.new;
+      writes_before = F.failed_writes files.old;
+      writes_after = F.failed_writes files.new;
+    })) }
+    ensures others { (n : Seq ℕ) → record_of command.now ≢ Some n → F.contents files.new n ≡ F.contents files.old n }
+{
+    match command {
+        Command::Run {
+            seed,
+            steps,
+            keep,
+            ..
+        } => run_recorded(alloc, loaded, *seed, *steps, keep, files),
+        Command::Replay { machine, .. } => run_again(
+            alloc,
+            loaded,
+            &machine.config,
+            bytes(&read[0]),
+        ),
+        Command::Serial { .. } => execute(alloc, loaded, bytes(&read[0])),
+        Command::Trial {
+            work,
+            number,
+            seed,
+            steps,
+            ..
+        } => match run_trial(alloc, loaded, *work, *number, *seed, *steps) {
+            Ok(finished) => Ok(finished),
+            Err(NoMemory) => Err(Refusal::Memory),
+        },
+    }
+}
+
+/// Writes a text: whether what it tells of has run to its end.
 fn show<O: Sink>(finished: &Finished, out: &mut O) -> Result<bool, SinkFailed>
-    ensures whole { IfOk result (λ done. (done ≡ finished.now.done) × IsWhole (string_bytes finished.now.text) (record { before = O.bytes out.old; after = O.bytes out.new; faults_before = O.faults out.old; faults_after = O.faults out.new })) }
-    ensures cut { OnErr result (IsCut (string_bytes finished.now.text) (record { before = O.bytes out.old; after = O.bytes out.new; faults_before = O.faults out.old; faults_after = O.faults out.new })) }
+    ensures whole { IfOk result (λ done. (done ≡ finished.now.done) × IsWhole (string_bytes finished.now.text) (record {
+      before = O.bytes out.old;
+      after = O.bytes out.new;
+      faults_before = O.faults out.old;
+      faults_after = O.faults out.new;
+    })) }
+    ensures cut { OnErr result (IsCut (string_bytes finished.now.text) (record {
+      before = O.bytes out.old;
+      after = O.bytes out.new;
+      faults_before = O.faults out.old;
+      faults_after = O.faults out.new;
+    })) }
 {
     match write_all(out, finished.text.as_bytes()) {
         Ok(()) => Ok(finished.done),

@@ -1,5 +1,5 @@
 // Useful events by random words.
-ghost use Rattle.std.specs.Prelude.{◌≡◌, ◌+◌, ◌≤◌, [], OnOk, OnErr, is_some, if◌then◌else◌};
+ghost use Rattle.std.specs.Prelude.{◌≡◌, ◌+◌, ◌≤◌, [], OnOk, OnErr, is_some, length, if◌then◌else◌};
 ghost use Rattle.std.specs.Option.{option_map};
 ghost use Rattle.rand_pcg.specs.Pcg.{pcg32};
 ghost use Rattle.tcc_msg.specs.Plain.{event_of};
@@ -7,7 +7,7 @@ ghost use Rattle.tcc_rules.specs.Picked.{chosen};
 ghost use Rattle.tcc_rules.specs.Useful.{useful};
 ghost use Rattle.net_core.specs.Machine.{program_of, settings_of, world_of};
 ghost use Rattle.tcc_pick.specs.Picking.{TookAll, TookSome, picks};
-ghost use Rattle.tcc_pick.specs.Words.{seeded};
+ghost use Rattle.tcc_pick.specs.Words.{after_words, seeded};
 
 use net_core::System;
 use rand_core::SeedableRng;
@@ -16,6 +16,7 @@ use rand_pcg::Lcg64Xsh32;
 use std::marker::Model;
 use tcc_base::NoMemory;
 use tcc_msg::Event;
+use tcc_refine::Refined;
 
 /// A chooser of events. In a clause it is its generator.
 #[derive(Drop)]
@@ -59,24 +60,27 @@ impl Chooser {
         system.useful_at(word as u64 % count)
     }
 
-    /// The machine takes the events that the next words pick, so many at most, or fewer where none is useful any more. After want of
-    /// memory it has taken the first of them.
-    pub fn run(&mut self, system: &mut System, steps: u32) -> Result<(), NoMemory>
-        requires { system.old.events + steps ≤ 4194304 }
-        ensures took { OnOk result (TookAll system.old system.new (picks steps self.old system.old)) }
-        ensures settled { OnOk result (system.new.unsent ≡ []) }
-        ensures stopped { OnErr result (TookSome system.old system.new (picks steps self.old system.old)) }
+    /// The machine takes the events that the next words pick, so many at most, or fewer where none is useful any more: one word is drawn
+    /// for each. After want of memory it has taken the first of them, and a word may be drawn for the event at which memory ran out.
+    ///
+    /// The time is that of the events, each by `next` and `Refined::step`.
+    pub fn run(&mut self, refined: &mut Refined, steps: u32) -> Result<(), NoMemory>
+        requires { refined.old.machine.events + steps ≤ 4194304 }
+        ensures took { OnOk result (TookAll refined.old refined.new (picks steps self.old refined.old.machine)) }
+        ensures settled { OnOk result (refined.new.machine.unsent ≡ []) }
+        ensures drawn { OnOk result (self.new ≡ after_words (length (picks steps self.old refined.old.machine)) self.old) }
+        ensures stopped { OnErr result (TookSome refined.old refined.new (picks steps self.old refined.old.machine)) }
     {
         for _ in 0..steps {
-            system.settle()?;
-            let Some(e) = self.next(system) else {
+            refined.settle()?;
+            let Some(e) = self.next(refined.system()) else {
                 return Ok(());
             };
-            match system.step(e) {
+            match refined.step(e) {
                 Ok(_) => {}
                 Err(_) => return Err(NoMemory),
             }
         }
-        system.settle()
+        refined.settle()
     }
 }

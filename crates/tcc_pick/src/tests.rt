@@ -1,13 +1,12 @@
 // Machines of two cores and two directories that run by a seed, with ample memory.
-ghost use Rattle.std.specs.Prelude.{◌≡◌, ◌<◌, IfOk};
-
 use crate::Chooser;
-use image_load::{load, raw};
+use image_load::{Loaded, load, raw};
 use net_core::System;
 use std::alloc::Global;
 use std::test::Fail;
-use tcc_base::{Config, CoreId, List, Tid};
+use tcc_base::{Config, List};
 use tcc_msg::Event;
+use tcc_refine::Refined;
 
 const IMAGE: [u8; 24] = [
     0x93, 0x02, 0x70, 0x00, // addi x5,x0,7
@@ -18,98 +17,142 @@ const IMAGE: [u8; 24] = [
     0x73, 0x00, 0x00, 0x00, // ecall, which halts
 ];
 
-/// The machine before its first event.
-fn begun(alloc: Global) -> Result<System, Fail>
-    ensures { IfOk result (λ s. s.events ≡ 0) }
-{
+/// What a core's number stands for where there is none.
+const NONE: u8 = 255;
+
+/// Where a machine has come to.
+#[derive(Clone, Copy, Debug, PartialEq, Eq)]
+struct State {
+    events: u64,
+    done: bool,
+    useful: u64,
+    /// Whether one more event is chosen.
+    goes_on: bool,
+    /// The cores of the first events, which execute.
+    first: [u8; 5],
+    /// The cores of the commits, by rising TID.
+    commits: [u8; 5],
+}
+
+/// The image in the memory of two cores.
+fn loaded(alloc: Global) -> Result<Loaded, Fail> {
     let config = Config::new(2, 2, 16, 2, 0x8000_0000, 65_536)?;
     let file = List {
         items: IMAGE.to_vec(alloc)?,
     };
-    let loaded = load(alloc, &config, &raw(alloc, &config, &[file])?)?;
-    Ok(System::start(alloc, &loaded)?)
+    Ok(load(alloc, &config, &raw(alloc, &config, &[file])?)?)
 }
 
-/// The next event, which the machine takes.
-fn taken(chooser: &mut Chooser, system: &mut System) -> Result<Event, Fail>
-    requires { system.old.events < 4194304 }
-{
-    system.settle()?;
-    match chooser.next(system) {
-        None => Err(Fail::from("no event is useful")),
-        Some(e) => {
-            system.step(e)?;
-            Ok(e)
-        }
+/// The core that an event executes on.
+fn executes(e: &Event) -> u8 {
+    match e {
+        Event::Exec(core) => core.0,
+        _ => NONE,
     }
 }
 
-/// How a machine ended.
-#[derive(Drop)]
-struct Row {
+/// The first events of a machine.
+fn first_events(taken: &[Event]) -> [u8; 5] {
+    let mut first = [NONE; 5];
+    for (core, e) in first.iter_mut().zip(taken) {
+        *core = executes(e);
+    }
+    first
+}
+
+/// The cores of a machine's first commits.
+fn committers(system: &System) -> [u8; 5] {
+    let mut cores = [NONE; 5];
+    for (core, commit) in cores.iter_mut().zip(system.commits()) {
+        *core = commit.core.0;
+    }
+    cores
+}
+
+/// Calls a chooser so often, each time for so many events at most, and tells where the machine is then.
+fn observe(refined: &mut Refined, seed: u64, calls: &[u8]) -> Result<State, Fail> {
+    let mut chooser = Chooser::new(seed);
+    for &steps in calls {
+        if refined.system().events() > 999 {
+            return Err("the machine took more events than it was asked for")?;
+        }
+        chooser.run(refined, u32::from(steps))?;
+    }
+    refined.settle()?;
+    let system = refined.system();
+    Ok(State {
+        events: system.events(),
+        done: system.done(),
+        useful: system.useful_count(),
+        goes_on: chooser.next(system).is_some(),
+        first: first_events(refined.taken()),
+        commits: committers(system),
+    })
+}
+
+/// The state after such calls from the machine's start.
+fn state_after(alloc: Global, loaded: &Loaded, seed: u64, calls: &[u8]) -> Result<State, Fail> {
+    let mut refined = Refined::start(alloc, loaded)?;
+    observe(&mut refined, seed, calls)
+}
+
+/// Calls of a seed's chooser, and what comes of them.
+#[derive(Clone, Copy)]
+struct Row<'a> {
     seed: u64,
-    events: u64,
-    /// The cores of the commits, by rising TID.
-    cores: [u8; 4],
+    calls: &'a [u8],
+    state: State,
 }
 
 #[test]
-fn a_seed_decides_how_a_machine_ends(rt: HostRuntime) -> Result<(), Fail> {
+fn a_seed_decides_what_comes(rt: HostRuntime) -> Result<(), Fail> {
+    let ended = State {
+        events: 44,
+        done: true,
+        useful: 0,
+        goes_on: false,
+        first: [1, 1, 1, 0, 1],
+        commits: [1, 0, 1, 0, NONE],
+    };
     let rows = [
         Row {
             seed: 0,
-            events: 44,
-            cores: [1, 0, 1, 0],
+            calls: &[100],
+            state: ended,
+        },
+        Row {
+            seed: 0,
+            calls: &[43],
+            state: State {
+                events: 43,
+                done: false,
+                useful: 1,
+                goes_on: true,
+                ..ended
+            },
+        },
+        Row {
+            seed: 0,
+            calls: &[20, 0, 23, 9],
+            state: ended,
         },
         Row {
             seed: 5,
-            events: 45,
-            cores: [0, 1, 0, 1],
+            calls: &[100],
+            state: State {
+                events: 45,
+                first: [0, 0, 1, 1, 0],
+                commits: [0, 1, 0, 1, NONE],
+                ..ended
+            },
         },
     ];
+    let loaded = loaded(rt.alloc())?;
     for row in &rows {
-        let mut system = begun(rt.alloc())?;
-        Chooser::new(row.seed).run(&mut system, 100)?;
-        assert!(rt; system.done(), "seed {}", row.seed);
-        assert_eq!(rt; system.events(), row.events);
-        let commits = system.commits();
-        assert_eq!(rt; commits.len(), 4);
-        for (k, (commit, &core)) in commits.iter().zip(&row.cores).enumerate() {
-            assert_eq!(rt;
-                (commit.tid, commit.core),
-                (Tid(k as u64 + 1), CoreId(core))
-            );
-        }
+        assert_eq!(rt;
+            state_after(rt.alloc(), &loaded, row.seed, row.calls)?,
+            row.state
+        );
     }
-    Ok(())
-}
-
-#[test]
-fn a_seed_decides_what_comes_first(rt: HostRuntime) -> Result<(), Fail> {
-    for (seed, cores) in [(0, [1, 1, 1, 0, 1]), (5, [0, 0, 1, 1, 0])] {
-        let mut system = begun(rt.alloc())?;
-        let mut chooser = Chooser::new(seed);
-        for core in cores {
-            assert!(rt; system.events() < 5);
-            assert_eq!(rt;
-                taken(&mut chooser, &mut system)?,
-                Event::Exec(CoreId(core))
-            );
-        }
-    }
-    Ok(())
-}
-
-#[test]
-fn takes_so_many_events(rt: HostRuntime) -> Result<(), Fail> {
-    let mut system = begun(rt.alloc())?;
-    let mut chooser = Chooser::new(0);
-    chooser.run(&mut system, 43)?;
-    assert!(rt; system.events() == 43 && !system.done());
-    assert_eq!(rt; system.useful_count(), 1);
-    assert!(rt; chooser.next(&system).is_some());
-    chooser.run(&mut system, 9)?;
-    assert!(rt; system.events() == 44 && system.done());
-    assert_eq!(rt; chooser.next(&system), None);
     Ok(())
 }

@@ -46,7 +46,8 @@ pub run-more : (m n : Machine) (taken : List CodeEvent) (e : CodeEvent) → IsRu
     → next (settings_of m) (program_of m) (history_of m) (event_of e) ≡ Some (history_of n) → n.cores.code ≡ m.cores.code
     → IsRunOf n (taken ++ e ∷ [])
 run-more m n taken e r step code =
-    subst (λ c. run c.settings (program (started c)) (world_at_start (started c)) (map event_of (taken ++ e ∷ [])) ≡ Some (history_of n)) (sym code)
+    subst (λ c. run c.settings (program (started c)) (world_at_start (started c)) (map event_of (taken ++ e ∷ [])) ≡ Some (history_of n))
+    (sym code)
     (ap (run (settings_of m) (program_of m) (world_at_start (start_of m))) (map-append event_of taken (e ∷ []))
     ∙ run-on (settings_of m) (program_of m) (world_at_start (start_of m)) (map event_of taken) (event_of e) (history_of m) r ∙ step)
 

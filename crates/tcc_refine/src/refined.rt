@@ -48,6 +48,7 @@ impl Refined {
         ensures code { IfOk result (λ r. r.machine.cores.code ≡ loaded.now) }
         ensures start { IfOk result (λ r. history_of r.machine ≡ first_history (started loaded.now)) }
         ensures taken { IfOk result (λ r. r.taken ≡ []) }
+        ensures settled { IfOk result (λ r. r.machine.unsent ≡ []) }
     {
         let system = System::start(alloc, loaded)?;
         settings_are_allowed(loaded.config());
@@ -75,11 +76,14 @@ impl Refined {
     /// Takes an event: `System::step`. Room in the list is made before.
     pub fn step(&mut self, e: Event) -> Result<Step, StepError>
         requires { self.old.machine.events < 4194304 }
-        ensures next { OnOk result (next (settings_of self.old.machine) (program_of self.old.machine) (history_of self.old.machine) (event_of e) ≡ Some (history_of self.new.machine)) }
+        ensures next { OnOk result
+            (next (settings_of self.old.machine) (program_of self.old.machine) (history_of self.old.machine) (event_of e)
+            ≡ Some (history_of self.new.machine)) }
         ensures told { IfOk result (λ s. tid_told s ≡ tid_noted (step_of self.old.machine (event_of e))) }
         ensures refused { IsErrOf result StepError.Refused ↔ (step_of self.old.machine (event_of e) ≡ None) }
         ensures unchanged { OnErr result (history_of self.new.machine ≡ history_of self.old.machine) }
         ensures taken { self.new.taken ≡ (if is_ok result then self.old.taken ++ e ∷ [] else self.old.taken) }
+        ensures counted { self.new.machine.events ≡ (if is_ok result then self.old.machine.events + 1 else self.old.machine.events) }
         ensures code { self.new.machine.cores.code ≡ self.old.machine.cores.code }
     {
         if self.taken.reserve(1).is_err() {
@@ -103,6 +107,7 @@ impl Refined {
         ensures settled { OnOk result (self.new.machine.unsent ≡ []) }
         ensures history { history_of self.new.machine ≡ history_of self.old.machine }
         ensures taken { self.new.taken ≡ self.old.taken }
+        ensures events { self.new.machine.events ≡ self.old.machine.events }
         ensures code { self.new.machine.cores.code ≡ self.old.machine.cores.code }
     {
         self.system.settle()

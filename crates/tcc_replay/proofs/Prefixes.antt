@@ -5,6 +5,7 @@ use Rattle.std.specs.Prelude.{IsSome, get_or}
 use Rattle.std.proofs.Math.Seq.{take-length, take-suc}
 use Rattle.std.proofs.lemmas.List.{length-take-le, map-append}
 use Rattle.image_load.specs.Contents.{Contents, started}
+use Rattle.image_load.specs.Start.{Start}
 use Rattle.rv_code.specs.Machine.{program}
 use Rattle.rv_serial.specs.Suiting.{world_at_start}
 use Rattle.tcc_base.specs.Settings.{Settings}
@@ -16,7 +17,7 @@ use Rattle.net_core.specs.Answers.{step_of}
 use Rattle.net_core.specs.Machine.{Machine, history_of, program_of, settings_of, start_of}
 use Rattle.net_core.proofs.Lemmas.{run-on}
 use Rattle.tcc_refine.specs.Refined.{IsRefined, Refined}
-use Rattle.tcc_replay.specs.Replayed.{EqualEventsGiveEqualMachines, IsRefusedAt, TakenIsNotRefused, history_by}
+use Rattle.tcc_replay.specs.Replayed.{EqualEventsGiveEqualMachines, IsRefusedAt, RunsAreNotRefused, history_by}
 
 -- the first i were taken, from the start of what was loaded
 pub record TookFirst (r : Refined) (c : Contents) (es : List Event) (i : ℕ) : Type 0 where
@@ -48,10 +49,11 @@ took-length r c es i t h = ap length t.taken ∙ length-take-le i es h
 
 -- the history of a machine by its events
 reached-by : (r : Refined) (c : Contents) (es : List Event) (i : ℕ) → IsRefined r → TookFirst r c es i
-    → history_by c (take i es) ≡ Some (history_of r.machine)
+    → history_by (started c) (take i es) ≡ Some (history_of r.machine)
+unfolding started
 reached-by r c es i k t =
-    subst (λ d. history_by d (take i es) ≡ Some (history_of r.machine)) t.code
-    (subst (λ xs. history_by r.machine.cores.code xs ≡ Some (history_of r.machine)) t.taken k.is_run)
+    subst (λ d. history_by (started d) (take i es) ≡ Some (history_of r.machine)) t.code
+    (subst (λ xs. history_by (start_of r.machine) xs ≡ Some (history_of r.machine)) t.taken k.is_run)
 
 is-there : (o : Option History) (h : History) → o ≡ Some h → IsSome o
 is-there None h e = absurd (cc)
@@ -64,12 +66,13 @@ no-next m e q = ap (recorded (history_of m)) q
 
 -- what is not enabled after the first i is the first that isn't enabled at its turn
 pub refused-here : (r : Refined) (c : Contents) (es : List Event) (i : ℕ) (d : Event) → IsRefined r → TookFirst r c es i → i < length es
-    → step_of r.machine (event_of (get_or es i d)) ≡ None → IsRefusedAt c es i
+    → step_of r.machine (event_of (get_or es i d)) ≡ None → IsRefusedAt (started c) es i
+unfolding started
 refused-here r c es i d k t there none = let e = get_or es i d in record {
   there = there;
-  before = is-there (history_by c (take i es)) (history_of r.machine) (reached-by r c es i k t);
-  refused = subst (λ d. history_by d (take (i + 1) es) ≡ None) t.code
-      (ap (λ xs. history_by r.machine.cores.code xs) (first-longer es i d there ∙ ap (λ xs. xs ++ e ∷ []) (sym t.taken))
+  before = is-there (history_by (started c) (take i es)) (history_of r.machine) (reached-by r c es i k t);
+  refused = subst (λ d. history_by (started d) (take (i + 1) es) ≡ None) t.code
+      (ap (λ xs. history_by (start_of r.machine) xs) (first-longer es i d there ∙ ap (λ xs. xs ++ e ∷ []) (sym t.taken))
       ∙ ap (run (settings_of r.machine) (program_of r.machine) (world_at_start (start_of r.machine)))
       (map-append event_of r.taken (e ∷ []))
       ∙ run-on (settings_of r.machine) (program_of r.machine) (world_at_start (start_of r.machine)) (map event_of r.taken) (event_of e)
@@ -83,11 +86,12 @@ same-history : (g h : History) → Some g ≡ Some h → g ≡ h
 same-history g h e = cc
 
 pub one-machine : EqualEventsGiveEqualMachines
+unfolding started
 one-machine r s k l code taken =
     same-history (history_of r.machine) (history_of s.machine)
-    (sym k.is_run ∙ (λ i. history_by (code i) (taken i)) ∙ l.is_run)
+    (sym k.is_run ∙ (λ i. history_by (started (code i)) (taken i)) ∙ l.is_run)
 
--- ---- nothing of what was taken is refused
+-- ---- nothing of a run is refused
 
 stuck-on : (sh : Settings) (p : Program) (es : List Event) (k : ℕ) (h : History) → run_from sh p (map event_of (take k es)) h ≡ None
     → run_from sh p (map event_of es) h ≡ None
@@ -104,12 +108,11 @@ stuck-on sh p (x ∷ es) (suc k) h e =
     go None rest q = refl
     go (Some g) rest q = rest g q
 
-no-run : (c : Contents) (es : List Event) (k : ℕ) → history_by c (take k es) ≡ None → history_by c es ≡ None
+no-run : (s : Start) (es : List Event) (k : ℕ) → history_by s (take k es) ≡ None → history_by s es ≡ None
 unfolding run
-no-run c es k e = stuck-on c.settings (program (started c)) es k (record { world = world_at_start (started c); commits = [] }) e
+no-run s es k e = stuck-on s.settings (program s) es k (record { world = world_at_start s; commits = [] }) e
 
-pub none-refused : TakenIsNotRefused
-none-refused r k i f =
-    let none = no-run r.machine.cores.code r.taken (i + 1) f.refused in
-    let some : history_by r.machine.cores.code r.taken ≡ Some (history_of r.machine) = k.is_run in
+pub none-refused : RunsAreNotRefused
+none-refused s es h i some f =
+    let none = no-run s es (i + 1) f.refused in
     absurd (cc)

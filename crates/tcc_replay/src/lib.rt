@@ -6,5 +6,6 @@ mod replaying;
 mod tests;
 
 pub use replaying::{
-    ReplayFault, equal_events_give_equal_machines, replay, what_was_taken_is_not_refused,
+    ReplayFault, equal_events_give_equal_machines, replay, what_runs_is_not_refused,
+    what_was_taken_has_a_text,
 };

@@ -1,6 +1,7 @@
 // A list of events, taken by a machine from its start.
 ghost use Rattle.std.specs.Prelude.{◌≡◌, ◌≤◌, [], IfErr, IfOk, length};
-ghost use Rattle.tcc_replay.specs.Replayed.{EqualEventsGiveEqualMachines, IsReplayFault, TakenHasText, TakenIsNotRefused};
+ghost use Rattle.image_load.specs.Contents.{started};
+ghost use Rattle.tcc_replay.specs.Replayed.{EqualEventsGiveEqualMachines, IsReplayFault, RunsAreNotRefused, TakenHasText};
 
 use image_load::Loaded;
 use net_core::StepError;
@@ -26,7 +27,7 @@ pub fn replay(alloc: Global, loaded: &Loaded, events: &[Event]) -> Result<Refine
     ensures code { IfOk result (λ r. r.machine.cores.code ≡ loaded.now) }
     ensures taken { IfOk result (λ r. r.taken ≡ events.now) }
     ensures settled { IfOk result (λ r. r.machine.unsent ≡ []) }
-    ensures fault { IfErr result (IsReplayFault loaded.now events.now) }
+    ensures fault { IfErr result (IsReplayFault (started loaded.now) events.now) }
 {
     let mut machine = match Refined::start(alloc, loaded) {
         Ok(machine) => machine,
@@ -51,9 +52,9 @@ pub fn equal_events_give_equal_machines()
     ensures { EqualEventsGiveEqualMachines }
 {}
 
-/// The events that a machine took are refused nowhere when they are replayed from the same start.
-pub fn what_was_taken_is_not_refused()
-    ensures { TakenIsNotRefused }
+/// The events of a run are refused nowhere when they are replayed from the same start.
+pub fn what_runs_is_not_refused()
+    ensures { RunsAreNotRefused }
 {}
 
 /// The events that a machine took, with its settings, are a well-formed schedule, so they have a text.

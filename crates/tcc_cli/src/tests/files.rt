@@ -1,7 +1,9 @@
 // ELF files and several images. One small ELF file was made by hand: it is run whole, cut to each length, and with single fields
 // changed.
-use super::runs::{STORE, bytes};
-use super::{AMPLE, answer, refused};
+use super::runs::{HALT, STORE};
+use super::{File, Held, Row, check};
+use std::alloc::Global;
+use std::process::Abort;
 use std::test::Fail;
 
 /// An empty header of a type that is passed over, beside one writable and executable segment of two instructions and eight
@@ -18,160 +20,136 @@ const FILE: [u8; 124] = [
     0x93, 0x08, 0xd0, 0x05, 0x73, 0, 0, 0,
 ];
 
-const ONE: [&str; 8] = ["run", "elf", "1", "1", "16", "2", "1000", "a"];
-
-const REPORT: &str =
-    "tcc-report 1\nend done\nevents 6\ncommit 1 0 2\ncore 0 halt 0\npc 80000004\nreg 11 00000001\nreg 17 0000005d\n";
-
-#[test]
-fn the_whole_file_runs(rt: HostRuntime) -> Result<(), Fail> {
-    let given = answer(rt.alloc(), &ONE, &FILE, AMPLE)?;
-    assert_eq!(rt; given.status, 0);
-    assert_eq!(rt; given.out.as_slice(), REPORT.as_bytes());
-    assert_eq!(rt; given.err.len(), 0);
-    Ok(())
+/// The program refuses these bytes as an image with this line.
+fn refused(rt: &impl Abort, alloc: Global, bytes: &[u8], text: &str) -> Result<(), Fail> {
+    let row = Row {
+        command: "run a",
+        files: &[("a", Held::Bytes(bytes))],
+        status: 3,
+        text,
+    };
+    check(rt, alloc, &row)
 }
 
 #[test]
 fn each_cut_file_is_refused(rt: HostRuntime) -> Result<(), Fail> {
     for length in 0..FILE.len() {
         let line = match length {
-            0..52 => "tcc: image 0 elf 1 52\n",
-            52..116 => "tcc: image 0 elf 1 116\n",
-            _ => "tcc: image 0 elf 1 124\n",
+            0..52 => "tcc: image 0 elf 1 52",
+            52..116 => "tcc: image 0 elf 1 116",
+            _ => "tcc: image 0 elf 1 124",
         };
-        refused(&rt, rt.alloc(), &ONE, &FILE[..length], 3, line)?;
+        refused(&rt, rt.alloc(), &FILE[..length], line)?;
     }
     Ok(())
 }
 
-/// Bytes `first` to `last` become `byte`.
-struct Change {
-    first: usize,
-    last: usize,
-    byte: u8,
-    line: &'static str,
-}
-
-const CHANGES: [Change; 11] = [
-    Change {
-        first: 0,
-        last: 0,
-        byte: 0x00,
-        line: "tcc: image 0 elf 2 0\n",
-    },
-    Change {
-        first: 4,
-        last: 4,
-        byte: 0x02,
-        line: "tcc: image 0 elf 3 4\n",
-    },
-    Change {
-        first: 18,
-        last: 18,
-        byte: 0x3e,
-        line: "tcc: image 0 elf 3 18\n",
-    },
-    Change {
-        first: 42,
-        last: 42,
-        byte: 0x38,
-        line: "tcc: image 0 elf 3 42\n",
-    },
-    Change {
-        first: 16,
-        last: 16,
-        byte: 0x03,
-        line: "tcc: image 0 elf 4 0\n",
-    },
-    Change {
-        first: 36,
-        last: 36,
-        byte: 0x01,
-        line: "tcc: image 0 elf 5 0\n",
-    },
-    Change {
-        first: 28,
-        last: 31,
-        byte: 0xff,
-        line: "tcc: image 0 elf 1 4294967359\n",
-    },
-    Change {
-        first: 84,
-        last: 84,
-        byte: 0x02,
-        line: "tcc: image 0 elf 6 0\n",
-    },
-    Change {
-        first: 104,
-        last: 104,
-        byte: 0x04,
-        line: "tcc: image 0 elf 7 1\n",
-    },
-    Change {
-        first: 92,
-        last: 95,
-        byte: 0xff,
-        line: "tcc: image 0 elf 7 1\n",
-    },
-    Change {
-        first: 24,
-        last: 24,
-        byte: 0x02,
-        line: "tcc: image 0 load 3 0\n",
-    },
+/// The first and the last of the bytes that are changed, what they become, and the line.
+const CHANGES: [(usize, usize, u8, &str); 11] = [
+    (0, 0, 0x00, "tcc: image 0 elf 2 0"),
+    (4, 4, 0x02, "tcc: image 0 elf 3 4"),
+    (18, 18, 0x3e, "tcc: image 0 elf 3 18"),
+    (42, 42, 0x38, "tcc: image 0 elf 3 42"),
+    (16, 16, 0x03, "tcc: image 0 elf 4 0"),
+    (36, 36, 0x01, "tcc: image 0 elf 5 0"),
+    (28, 31, 0xff, "tcc: image 0 elf 1 4294967359"),
+    (84, 84, 0x02, "tcc: image 0 elf 6 0"),
+    (104, 104, 0x04, "tcc: image 0 elf 7 1"),
+    (92, 95, 0xff, "tcc: image 0 elf 7 1"),
+    (24, 24, 0x02, "tcc: image 0 load 3 0"),
 ];
 
 #[test]
 fn each_changed_file_is_refused(rt: HostRuntime) -> Result<(), Fail> {
-    for change in CHANGES.iter() {
+    for (first, last, byte, line) in CHANGES {
         let mut file = FILE;
-        for at in change.first..change.last + 1 {
-            assert!(rt; at < file.len());
-            file[at] = change.byte;
+        for (at, old) in file.iter_mut().enumerate() {
+            if first <= at && at <= last {
+                *old = byte;
+            }
         }
-        refused(&rt, rt.alloc(), &ONE, &file, 3, change.line)?;
+        refused(&rt, rt.alloc(), &file, line)?;
     }
     Ok(())
 }
 
-#[test]
-fn images_that_overlap_are_refused(rt: HostRuntime) -> Result<(), Fail> {
-    let words = ["run", "elf", "1", "1", "16", "2", "1000", "a", "a"];
-    refused(&rt, rt.alloc(), &words, &FILE, 3, "tcc: image 1 load 2 1\n")
-}
+/// The file, a raw image, words to be loaded, a program that loads the first word of the third image, and files that aren't images.
+const FILES: [File; 9] = [
+    ("elf", Held::Bytes(&FILE)),
+    ("raw", Held::Image(STORE)),
+    ("halt", Held::Image(HALT)),
+    ("one", Held::Image(&[0x11111111])),
+    ("two", Held::Image(&[0x22222222])),
+    (
+        "reader",
+        Held::Image(&[0x80000337, 0x04032283, 0x05d00893, 0x00000073]),
+    ),
+    ("empty", Held::Bytes(&[])),
+    ("short", Held::Bytes(&[0x73, 0, 0])),
+    ("odd", Held::Bytes(&[0x13, 0, 0, 0, 0x73, 0])),
+];
+
+/// A command line, its status and its text.
+const ROWS: [(&str, u8, &str); 18] = [
+    ("run elf", 0, HALTED),
+    // each core begins at its own image, the third at the first
+    (
+        "run --raw --cores 3 --steps 0 reader halt",
+        1,
+        "tcc-report 1 / end open / events 0 / core 0 run / pc 80000000 / reg 11 00000003 / core 1 run / pc 80000020 /
+            reg 10 00000001 / reg 11 00000003 / core 2 run / pc 80000000 / reg 10 00000002 / reg 11 00000003",
+    ),
+    // raw images lie one behind the other, and options among them
+    (
+        "run reader --raw one --dirs 1 two",
+        0,
+        "tcc-report 1 / end done / events 13 / commit 1 0 4 / load 80000040 4 22222222 / core 0 halt 0 / pc 8000000c /
+            reg 5 22222222 / reg 6 80000000 / reg 11 00000001 / reg 17 0000005d",
+    ),
+    // sixteen images
+    (
+        "run --raw halt halt halt halt halt halt halt halt halt halt halt halt halt halt halt halt",
+        0,
+        HALTED,
+    ),
+    // an incomplete word isn't executed
+    (
+        "run --raw odd",
+        0,
+        "tcc-report 1 / end done / events 6 / commit 1 0 2 / core 0 trap 1 / pc 80000004 / reg 11 00000001",
+    ),
+    // the image's fault is the same for each command
+    ("replay raw elf", 4, "tcc: schedule line 1"),
+    ("replay raw elf raw", 3, "tcc: image 1 elf 1 52"),
+    ("serial raw empty elf", 3, "tcc: image 0 elf 1 52"),
+    ("run elf elf --cores 2", 3, "tcc: image 1 load 2 1"),
+    ("run elf empty elf", 3, "tcc: image 1 elf 1 52"),
+    // all files are looked at as ELF files before one is laid
+    ("run elf elf raw", 3, "tcc: image 2 elf 1 52"),
+    ("run --raw empty", 3, "tcc: image 0 load 3 0"),
+    ("run --raw raw short", 3, "tcc: image 1 load 3 0"),
+    ("run --raw --ram 32 raw halt", 3, "tcc: image 1 load 1 0"),
+    ("run --raw --ram 32 empty halt", 3, "tcc: image 0 load 3 0"),
+    ("run --base 0x80001000 elf", 3, "tcc: image 0 load 1 1"),
+    ("run --raw --ram 96 elf", 3, "tcc: image 0 load 1 0"),
+    // and all raw files are tested for fit
+    ("run --raw --ram 32 short halt", 3, "tcc: image 1 load 1 0"),
+];
+
+/// What a program prints that halts at once.
+const HALTED: &str =
+    "tcc-report 1 / end done / events 6 / commit 1 0 2 / core 0 halt 0 / pc 80000004 / reg 11 00000001 / reg 17 0000005d";
 
 #[test]
-fn raw_images_lie_one_after_the_other(rt: HostRuntime) -> Result<(), Fail> {
-    let image = bytes(rt.alloc(), STORE)?;
-    let one = ["run", "raw", "1", "1", "16", "2", "100", "a"];
-    let two = ["run", "raw", "1", "1", "16", "2", "100", "a", "a"];
-    let alone = answer(rt.alloc(), &one, &image, AMPLE)?;
-    let both = answer(rt.alloc(), &two, &image, AMPLE)?;
-    assert_eq!(rt; both.status, 0);
-    // the one core runs the first image
-    assert_eq!(rt; both.out.as_slice(), alone.out.as_slice());
+fn images_are_run_or_refused(rt: HostRuntime) -> Result<(), Fail> {
+    for (command, status, text) in ROWS {
+        let row = Row {
+            command,
+            files: &FILES,
+            status,
+            text,
+        };
+        check(&rt, rt.alloc(), &row)?;
+    }
     Ok(())
-}
-
-#[test]
-fn raw_files_that_are_no_images_are_refused(rt: HostRuntime) -> Result<(), Fail> {
-    let alloc = rt.alloc();
-    let words = ["run", "raw", "1", "1", "16", "2", "9", "a"];
-    let two = ["run", "raw", "1", "1", "16", "2", "9", "a", "a"];
-    let mut large = Vec::new(alloc);
-    large.resize(65_540, 0)?;
-    let mut half = Vec::new(alloc);
-    half.resize(40_000, 0)?;
-    refused(&rt, alloc, &words, &[], 3, "tcc: image 0 load 3 0\n")?;
-    refused(
-        &rt,
-        alloc,
-        &words,
-        &[115, 0, 0],
-        3,
-        "tcc: image 0 load 3 0\n",
-    )?;
-    refused(&rt, alloc, &words, &large, 3, "tcc: image 0 load 1 0\n")?;
-    refused(&rt, alloc, &two, &half, 3, "tcc: image 1 load 1 0\n")
 }

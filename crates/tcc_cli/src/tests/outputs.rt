@@ -1,84 +1,107 @@
-// Outputs that take a part of what is written, and files that aren't read.
-use super::runs::{STORE, bytes};
-use super::{AMPLE, Room, answer, refused};
-use crate::tcc_main;
+// Outputs that take a part of what is written, and files that aren't read or written.
+use super::runs::{STORE, STORE_REPORT};
+use super::{File, Held, World, answer, call, lines, over};
 use std::test::Fail;
-use tcc_world::{MapStore, OpenGate, VecSink};
 
-const WORDS: [&str; 8] = ["run", "raw", "1", "1", "16", "2", "100", "a"];
+const FILES: [File; 2] = [("a", Held::Image(STORE)), ("b", Held::Image(STORE))];
 
-#[test]
-fn a_short_output_has_the_reports_first_bytes(rt: HostRuntime) -> Result<(), Fail> {
-    let image = bytes(rt.alloc(), STORE)?;
-    let whole = answer(rt.alloc(), &WORDS, &image, AMPLE)?;
-    for out in 0..whole.out.len() {
-        let room = Room {
-            out: out as u64,
-            err: 4096,
-        };
-        let given = answer(rt.alloc(), &WORDS, &image, room)?;
-        assert_eq!(rt; given.status, 6);
-        assert_eq!(rt; given.out.as_slice(), &whole.out[..out]);
-        assert_eq!(rt; given.err.as_slice(), b"tcc: output\n".as_slice());
-    }
-    Ok(())
-}
+/// A run whose RAM is small, so that it takes little time. Its report is the same.
+const SMALL: &str = "run --raw --ram 96 a";
 
 #[test]
-fn a_short_output_for_errors_has_the_lines_first_bytes(rt: HostRuntime) -> Result<(), Fail> {
-    let line = b"tcc: image 0 elf 1 52\n";
-    let words = ["run", "elf", "1", "1", "16", "2", "100", "a"];
-    for err in 0..line.len() {
-        let room = Room {
-            out: 4096,
-            err: err as u64,
-        };
-        let given = answer(rt.alloc(), &words, &[], room)?;
-        assert_eq!(rt; given.status, 3);
-        assert_eq!(rt; given.out.len(), 0);
-        assert_eq!(rt; given.err.as_slice(), &line[..err]);
-    }
-    Ok(())
-}
-
-#[test]
-fn a_missing_file_is_named(rt: HostRuntime) -> Result<(), Fail> {
-    let image = bytes(rt.alloc(), STORE)?;
-    let words = [
-        "run",
-        "raw",
-        "1",
-        "1",
-        "16",
-        "2",
-        "100",
-        "a",
-        "no such file",
-    ];
-    refused(
-        &rt,
-        rt.alloc(),
-        &words,
-        &image,
-        5,
-        "tcc: store no such file\n",
-    )
-}
-
-#[test]
-fn a_read_that_fails_is_named(rt: HostRuntime) -> Result<(), Fail> {
+fn a_short_output_has_the_first_bytes_of_the_report(rt: HostRuntime) -> Result<(), Fail> {
     let alloc = rt.alloc();
-    let image = bytes(alloc, STORE)?;
-    let mut fails = Vec::new(alloc);
-    fails.push(1)?;
-    let mut files = MapStore::new(alloc, fails);
-    files.set("a", &image)?;
-    let mut out = VecSink::new(alloc, 4096, Vec::new(alloc))?;
-    let mut err = VecSink::new(alloc, 4096, Vec::new(alloc))?;
-    let words = ["run", "raw", "1", "1", "16", "2", "100", "a", "a"];
-    let status = tcc_main(alloc, &words, &mut files, &mut out, &mut err, &OpenGate);
-    assert_eq!(rt; status.number(), 5);
-    assert_eq!(rt; out.bytes().len(), 0);
-    assert_eq!(rt; err.bytes(), b"tcc: store a\n".as_slice());
+    let whole = call(&rt, alloc, SMALL, &over(&FILES))?;
+    assert_eq!(rt;
+        whole.out.as_slice(),
+        lines(alloc, &[STORE_REPORT])?.as_slice()
+    );
+    for room in 0..whole.out.len() {
+        let short = World {
+            out: room as u64,
+            ..over(&FILES)
+        };
+        let ended = call(&rt, alloc, SMALL, &short)?;
+        assert_eq!(rt; ended.status, 6);
+        assert_eq!(rt; ended.out.as_slice(), &whole.out[..room]);
+        assert_eq!(rt; ended.err.as_slice(), b"tcc: output\n".as_slice());
+    }
+    Ok(())
+}
+
+#[test]
+fn a_short_output_for_errors_has_the_first_bytes_of_the_line(rt: HostRuntime) -> Result<(), Fail> {
+    let line = b"tcc: store c\n";
+    for room in 0..line.len() {
+        let short = World {
+            err: room as u64,
+            ..over(&FILES)
+        };
+        let ended = call(&rt, rt.alloc(), "run --raw a c", &short)?;
+        assert_eq!(rt; ended.status, 5);
+        assert_eq!(rt; ended.out.len(), 0);
+        assert_eq!(rt; ended.err.as_slice(), &line[..room]);
+    }
+    Ok(())
+}
+
+#[test]
+fn the_status_is_the_same_where_no_line_is_written(rt: HostRuntime) -> Result<(), Fail> {
+    let deaf = World {
+        err_fails: Some(0),
+        ..over(&FILES)
+    };
+    for (command, status) in [("", 2), ("run a", 3), ("run c", 5)] {
+        let ended = call(&rt, rt.alloc(), command, &deaf)?;
+        assert_eq!(rt; ended.status, status);
+        assert_eq!(rt; ended.out.len(), 0);
+        assert_eq!(rt; ended.err.len(), 0);
+    }
+    Ok(())
+}
+
+/// The number of the call that fails, a command line, and the file that is named.
+const FAILING: [(u64, &str, &str); 8] = [
+    (9, "run --raw a no-such-file", "no-such-file"),
+    (0, "run --raw a b", "a"),
+    (1, "run --raw a b", "b"),
+    (1, "run --raw --record s a", "s"),
+    (2, "run --raw a --record t b", "t"),
+    // the schedule and the list are read first
+    (9, "replay --raw s c", "s"),
+    (9, "serial --raw c s", "c"),
+    (1, "replay a b b", "b"),
+];
+
+#[test]
+fn the_file_that_is_not_read_or_written_is_named(rt: HostRuntime) -> Result<(), Fail> {
+    let alloc = rt.alloc();
+    for (number, command, name) in FAILING {
+        let failing = World {
+            fails: Some(number),
+            ..over(&FILES)
+        };
+        let ended = call(&rt, alloc, command, &failing)?;
+        let line = format!(in alloc; "tcc: store {name}")?;
+        assert_eq!(rt; ended.status, 5, "{command}");
+        assert_eq!(rt; ended.out.len(), 0, "{command}");
+        assert_eq!(rt;
+            ended.err.as_slice(),
+            lines(alloc, &[line.as_str()])?.as_slice(),
+            "{command}"
+        );
+    }
+    Ok(())
+}
+
+#[test]
+fn a_name_stands_in_its_line_as_it_was_given(rt: HostRuntime) -> Result<(), Fail> {
+    let words = ["run", "--raw", " no such  file\n"];
+    let ended = answer(&rt, rt.alloc(), &words, &over(&FILES))?;
+    assert_eq!(rt; ended.status, 5);
+    assert_eq!(rt;
+        ended.err.as_slice(),
+        b"tcc: store  no such  file\n\n".as_slice()
+    );
     Ok(())
 }

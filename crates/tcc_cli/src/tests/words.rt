@@ -1,245 +1,200 @@
-// Words that are no command, and values that aren't allowed.
-use super::runs::{STORE, bytes};
-use super::{Room, answer, refused};
+// Words that aren't a command's, values that aren't allowed, and some that are. Where words are refused no file is looked for.
+use super::runs::{STORE, STORE_REPORT};
+use super::{Held, Row, answer, check, over};
+use std::alloc::Global;
+use std::process::Abort;
 use std::test::Fail;
 
-/// Words that don't stand as a command's words do.
-const NO_COMMANDS: [&[&str]; 6] = [
-    &[],
-    &["run"],
-    &["run", "raw", "1", "1", "16", "2", "9"],
-    &["walk", "raw", "1", "1", "16", "2", "9", "a"],
-    &["run", "hex", "1", "1", "16", "2", "9", "a"],
-    &["raw", "run", "65", "1", "16", "2", "9", "a"],
+/// Command lines whose words don't stand as a command's do.
+const WORDS: [&str; 30] = [
+    "",
+    "walk --raw a",
+    "Run --raw a",
+    "--raw run a",
+    "--help run",
+    // too few names, and too many
+    "run",
+    "run --raw",
+    "replay --raw s",
+    "serial --raw r",
+    "trial counters",
+    "trial counters 5 6",
+    // words that aren't options, and options without a value, with one that they don't have, twice or cut short
+    "run --help",
+    "run -r a",
+    "run --threshold 1 a",
+    "run a --cores",
+    "run --record",
+    "run --seed -1 a",
+    "run --raw=1 a",
+    "run --raw --raw a",
+    "run --cores 1 --cores 1 a",
+    "run --core 1 a",
+    // options of other commands
+    "replay --raw --steps 6 s a",
+    "replay --raw --record t s a",
+    "serial --raw --seed 1 r a",
+    "trial --raw counters 5",
+    "trial --ram 65536 counters 5",
+    "trial --record s counters 5",
+    // host threads
+    "run --raw --threads 2 --record s a",
+    // whatever stands in the fields
+    "run --cores 65 --sets 3 --other 1 a",
+    "walk --cores 65 a",
 ];
+
+/// Command lines with a value that isn't allowed, and the first field in which one stands.
+const VALUES: [(&str, &str); 48] = [
+    ("run --raw --cores 65 a", "cores"),
+    (
+        "run --cores 0 --dirs 0 --sets 0 --ways 0 --ram 0 --steps x a",
+        "cores",
+    ),
+    ("run --steps x --ways 0 --dirs 65 --cores 65 a", "cores"),
+    ("run --cores x2 a", "cores"),
+    ("run --cores one a", "cores"),
+    ("run --cores= a", "cores"),
+    ("run --cores - a", "cores"),
+    ("run --cores=-1 a", "cores"),
+    ("run --cores 18446744073709551617 a", "cores"),
+    ("trial --cores 0 walks 0", "cores"),
+    ("run --dirs 65 --sets 3 a", "dirs"),
+    ("run --dirs 0X2 a", "dirs"),
+    ("run --dirs 4294967297 a", "dirs"),
+    ("replay --sets 0 --dirs 0 s a", "dirs"),
+    ("run --sets 0 a", "sets"),
+    ("run --sets 3 --ways x a", "sets"),
+    ("run --sets 2048 a", "sets"),
+    ("run --sets +16 a", "sets"),
+    ("serial --ways 0 --sets 3 r a", "sets"),
+    ("run --ways 0 a", "ways"),
+    ("run --ways 17 --ram 0 a", "ways"),
+    ("run --ways two --steps x a", "ways"),
+    ("run --ways 65538 a", "ways"),
+    ("run --ram 0 a", "ram"),
+    ("run --ram 33 --base 1 a", "ram"),
+    ("run --ram 16777248 --steps x a", "ram"),
+    ("run --base 1 --steps x a", "base"),
+    ("run --base 0xffff8000 a", "base"),
+    ("run --ram 64 --base 0xffffffe0 a", "base"),
+    ("run --base 0x100000000 a", "base"),
+    ("run --raw --steps 4194305 a", "steps"),
+    ("run --steps 4194305 --seed x a", "steps"),
+    ("run --steps 0X9 a", "steps"),
+    ("run --steps 0x a", "steps"),
+    ("run --steps 0x1g a", "steps"),
+    ("run --steps=-1 a", "steps"),
+    ("run --steps 9_9 a", "steps"),
+    ("run --steps 99999999999999999999999999 a", "steps"),
+    ("trial --steps 0x400001 walks 0", "steps"),
+    ("run --seed 18446744073709551616 a", "seed"),
+    ("run --seed 0x10000000000000000 a", "seed"),
+    (
+        "run --seed= 1 2 3 4 5 6 7 8 9 10 11 12 13 14 15 16 17",
+        "seed",
+    ),
+    ("run 1 2 3 4 5 6 7 8 9 10 11 12 13 14 15 16 17", "images"),
+    (
+        "replay s 1 2 3 4 5 6 7 8 9 10 11 12 13 14 15 16 17",
+        "images",
+    ),
+    ("trial Counters 5", "kind"),
+    ("trial walks 0", "kind"),
+    ("trial counters 0", "number"),
+    ("trial sharing 2048", "number"),
+];
+
+/// The program refuses the words with this line.
+fn refused(rt: &impl Abort, alloc: Global, command: &str, text: &str) -> Result<(), Fail> {
+    let row = Row {
+        command,
+        files: &[],
+        status: 2,
+        text,
+    };
+    check(rt, alloc, &row)
+}
 
 #[test]
 fn words_are_refused(rt: HostRuntime) -> Result<(), Fail> {
-    for words in &NO_COMMANDS {
-        refused(&rt, rt.alloc(), words, &[], 2, "tcc: words\n")?;
+    for command in WORDS {
+        refused(&rt, rt.alloc(), command, "tcc: words")?;
     }
     Ok(())
 }
-
-/// The words before the images, and the field that is refused.
-struct Row {
-    cores: &'static str,
-    dirs: &'static str,
-    sets: &'static str,
-    ways: &'static str,
-    steps: &'static str,
-    field: &'static str,
-}
-
-const ROWS: [Row; 22] = [
-    Row {
-        cores: "65",
-        dirs: "1",
-        sets: "16",
-        ways: "2",
-        steps: "10",
-        field: "cores",
-    },
-    Row {
-        cores: "0",
-        dirs: "0",
-        sets: "0",
-        ways: "0",
-        steps: "x",
-        field: "cores",
-    },
-    Row {
-        cores: "x2",
-        dirs: "1",
-        sets: "16",
-        ways: "2",
-        steps: "10",
-        field: "cores",
-    },
-    Row {
-        cores: "one",
-        dirs: "1",
-        sets: "16",
-        ways: "2",
-        steps: "10",
-        field: "cores",
-    },
-    Row {
-        cores: "1",
-        dirs: "65",
-        sets: "3",
-        ways: "2",
-        steps: "10",
-        field: "dirs",
-    },
-    Row {
-        cores: "1",
-        dirs: "",
-        sets: "16",
-        ways: "2",
-        steps: "10",
-        field: "dirs",
-    },
-    Row {
-        cores: "1",
-        dirs: "1",
-        sets: "0",
-        ways: "2",
-        steps: "10",
-        field: "sets",
-    },
-    Row {
-        cores: "1",
-        dirs: "1",
-        sets: "3",
-        ways: "x",
-        steps: "10",
-        field: "sets",
-    },
-    Row {
-        cores: "1",
-        dirs: "1",
-        sets: "2048",
-        ways: "2",
-        steps: "10",
-        field: "sets",
-    },
-    Row {
-        cores: "1",
-        dirs: "1",
-        sets: "+16",
-        ways: "2",
-        steps: "10",
-        field: "sets",
-    },
-    Row {
-        cores: "1",
-        dirs: "1",
-        sets: "16",
-        ways: "0",
-        steps: "10",
-        field: "ways",
-    },
-    Row {
-        cores: "1",
-        dirs: "1",
-        sets: "16",
-        ways: "17",
-        steps: "10",
-        field: "ways",
-    },
-    Row {
-        cores: "1",
-        dirs: "1",
-        sets: "16",
-        ways: "two",
-        steps: "x",
-        field: "ways",
-    },
-    Row {
-        cores: "1",
-        dirs: "1",
-        sets: "16",
-        ways: "2",
-        steps: "4194305",
-        field: "steps",
-    },
-    Row {
-        cores: "1",
-        dirs: "1",
-        sets: "16",
-        ways: "2",
-        steps: "0X9",
-        field: "steps",
-    },
-    Row {
-        cores: "1",
-        dirs: "1",
-        sets: "16",
-        ways: "2",
-        steps: "0x",
-        field: "steps",
-    },
-    Row {
-        cores: "1",
-        dirs: "1",
-        sets: "16",
-        ways: "2",
-        steps: "9 ",
-        field: "steps",
-    },
-    Row {
-        cores: "1",
-        dirs: "1",
-        sets: "16",
-        ways: "2",
-        steps: "-1",
-        field: "steps",
-    },
-    Row {
-        cores: "1",
-        dirs: "1",
-        sets: "16",
-        ways: "2",
-        steps: "99999999999999999999999999",
-        field: "steps",
-    },
-    Row {
-        cores: "18446744073709551617",
-        dirs: "1",
-        sets: "16",
-        ways: "2",
-        steps: "9",
-        field: "cores",
-    },
-    Row {
-        cores: "1",
-        dirs: "4294967297",
-        sets: "16",
-        ways: "2",
-        steps: "9",
-        field: "dirs",
-    },
-    Row {
-        cores: "1",
-        dirs: "1",
-        sets: "16",
-        ways: "65538",
-        steps: "9",
-        field: "ways",
-    },
-];
 
 #[test]
 fn values_are_refused_by_the_first_field(rt: HostRuntime) -> Result<(), Fail> {
     let alloc = rt.alloc();
-    for row in &ROWS {
-        let words = [
-            "run", "raw", row.cores, row.dirs, row.sets, row.ways, row.steps, "a",
-        ];
-        let mut line = String::new(alloc);
-        write!(line, "tcc: value {}\n", row.field)?;
-        refused(&rt, alloc, &words, &[], 2, line.as_str())?;
+    for (command, field) in VALUES {
+        let text = format!(in alloc; "tcc: value {field}")?;
+        refused(&rt, alloc, command, text.as_str())?;
     }
     Ok(())
 }
 
+/// Values with a space or nothing in them.
 #[test]
-fn more_than_sixteen_images_are_refused(rt: HostRuntime) -> Result<(), Fail> {
-    let mut words = ["a"; 24];
-    words[..7].copy_from_slice(&["run", "raw", "1", "1", "16", "2", "9"]);
-    refused(&rt, rt.alloc(), &words, &[], 2, "tcc: value images\n")
+fn numbers_have_digits_alone(rt: HostRuntime) -> Result<(), Fail> {
+    for value in ["", " ", "9 ", " 9", "9\n"] {
+        let ended = answer(
+            &rt,
+            rt.alloc(),
+            &["run", "--raw", "--steps", value, "a"],
+            &over(&[]),
+        )?;
+        assert_eq!(rt; ended.status, 2);
+        assert_eq!(rt; ended.err.as_slice(), b"tcc: value steps\n".as_slice());
+    }
+    Ok(())
 }
 
+/// Command lines that ask for the same: options before, between and behind the images, numbers of either kind, a second image, and a
+/// name that looks like an option.
+const ALIKE: [&str; 8] = [
+    "run --raw a",
+    "run a --raw",
+    "run --steps 19 a --raw --cores=1",
+    "run a --steps=0x13 --raw --sets 0016 --ways 0x2 --ram 65536 --base=0x80000000 --seed 00",
+    "run a --raw --dirs 1 a",
+    "run --raw -- a",
+    "run --raw -- --cores",
+    "run --raw -- a --cores",
+];
+
 #[test]
-fn the_largest_values_are_taken(rt: HostRuntime) -> Result<(), Fail> {
-    let image = bytes(rt.alloc(), STORE)?;
-    let words = ["run", "raw", "0x40", "064", "1024", "0x10", "0x400000", "a"];
-    let room = Room {
-        out: 1_000_000,
-        err: 4096,
-    };
-    let given = answer(rt.alloc(), &words, &image, room)?;
-    assert_eq!(rt; given.status, 0);
+fn options_stand_anywhere(rt: HostRuntime) -> Result<(), Fail> {
+    for command in ALIKE {
+        let row = Row {
+            command,
+            files: &[("a", Held::Image(STORE)), ("--cores", Held::Image(STORE))],
+            status: 0,
+            text: STORE_REPORT,
+        };
+        check(&rt, rt.alloc(), &row)?;
+    }
+    Ok(())
+}
+
+/// The smallest and the largest values, in digits of either kind: what is missing then is the file.
+const TAKEN: [&str; 4] = [
+    "run --cores 1 --dirs 1 --sets 1 --ways 1 --ram 32 --base 0 --steps 0 --seed 0 a",
+    "run --cores 0x40 --dirs 064 --sets 1024 --ways 0x10 --ram 0x1000000 --base 0xfF000000 --steps 0x400000 --seed 0xFFffFFffFFffFFff a",
+    "replay --cores 64 --dirs 64 --sets 1024 --ways 16 --ram 16777216 --base 4278190080 a 2 3 4 5 6 7 8 9 10 11 12 13 14 15 16 17",
+    "serial --raw --base=0x00000000000000000000fFfFfFe0 --ram=32 a 2",
+];
+
+#[test]
+fn values_in_range_are_taken(rt: HostRuntime) -> Result<(), Fail> {
+    for command in TAKEN {
+        let row = Row {
+            command,
+            files: &[],
+            status: 5,
+            text: "tcc: store a",
+        };
+        check(&rt, rt.alloc(), &row)?;
+    }
     Ok(())
 }

@@ -10,6 +10,8 @@ loop-name-init g c = record {
       (none_given (g.F.Store.contents c.args.files.now));
   contents = λ n. refl;
   reads = λ n. refl;
+  tells = refl;
+  writes = λ n. refl;
 }
 
 pub loop-name-preserved : goal.loop-name-preserved
@@ -19,6 +21,8 @@ loop-name-preserved g c = record {
       (subst (λ t. Gives t c.in-Ok.items.items) (c.loop-name.invariant.contents _) c.in-Ok.ensures.bytes) c.in-Ok-push.ensures.items;
   contents = λ n. search (rules, c.loop-name.invariant.contents n, c.in-Ok.ensures.contents_stay n);
   reads = λ n. c.in-Ok.ensures.no_failure n ∙ c.loop-name.invariant.reads n;
+  tells = c.in-Ok.ensures.tells_stays ∙ c.loop-name.invariant.tells;
+  writes = λ n. c.in-Ok.ensures.writes n ∙ c.loop-name.invariant.writes n;
 }
 
 pub returns-in-Err-Failed-clause-refused : goal.returns-in-Err-Failed-clause-refused

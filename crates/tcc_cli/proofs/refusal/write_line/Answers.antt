@@ -1,5 +1,5 @@
 use Rattle.std.proofs.Common.{ap, sym, ◌∙◌}
-use Rattle.tcc_cli.proofs.Pieces.{told_same, value_pieces, store_pieces, words_piece, output_piece, memory_piece}
+use Rattle.tcc_cli.proofs.Pieces.{told_same, schedule_pieces, value_pieces, store_pieces, words_piece, output_piece, memory_piece}
 use Rattle.tcc_cli.specs.Refusals.{line_of}
 use Rattle.tcc_cli.proofs.refusal.write_line.Goals as goal
 
@@ -21,7 +21,7 @@ returns-in-Value g c =
       faults_before = g.S.Sink.faults c.args.sink.now;
       faults_after = g.S.Sink.faults c.write_pieces-in-Value.new.sink;
     })
-    (value_pieces c.in-Value.field c.field_word.result.now c.field_word.ensures ∙ ap line_of (sym c.in-Value.is)) c.write_pieces-in-Value.ensures
+    (value_pieces c.in-Value.field c.word.result.now c.word.ensures ∙ ap line_of (sym c.in-Value.is)) c.write_pieces-in-Value.ensures
 
 pub returns-in-Image : goal.returns-in-Image
 returns-in-Image g c =
@@ -32,6 +32,16 @@ returns-in-Image g c =
       faults_after = g.S.Sink.faults c.write_fault.new.sink;
     })
     (ap line_of (sym c.in-Image.is)) c.write_fault.ensures
+
+pub returns-in-Schedule : goal.returns-in-Schedule
+returns-in-Schedule g c =
+    told_same _ (line_of c.args.refusal.now) (record {
+      before = g.S.Sink.bytes c.args.sink.now;
+      after = g.S.Sink.bytes c.write_pieces-in-Schedule.new.sink;
+      faults_before = g.S.Sink.faults c.args.sink.now;
+      faults_after = g.S.Sink.faults c.write_pieces-in-Schedule.new.sink;
+    })
+    (schedule_pieces c.in-Schedule.line ∙ ap line_of (sym c.in-Schedule.is)) c.write_pieces-in-Schedule.ensures
 
 pub returns-in-Store : goal.returns-in-Store
 returns-in-Store g c =

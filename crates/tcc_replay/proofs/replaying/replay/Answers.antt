@@ -1,5 +1,6 @@
 -- One more event is taken, or the first that isn't enabled is told.
 use Rattle.std.proofs.Common.{◌∙◌, ◌≤◌, length, Err, ap, sym, subst, arith}
+use Rattle.image_load.specs.Contents.{started}
 use Rattle.tcc_msg.specs.declared.event.Event.TheVariants.{Exec}
 use Rattle.tcc_replay.specs.Replayed.{IsRefusedAt}
 use Rattle.tcc_replay.proofs.Prefixes.{refused-here, took-length, took-more, took-none, took-whole}
@@ -24,9 +25,9 @@ pub returns-in-Err-Refused-clause-fault : goal.returns-in-Err-Refused-clause-fau
 returns-in-Err-Refused-clause-fault c =
     let few : c.loop-e.e-index ≤ length c.args.events.now = c.loop-e.auto.e-index-end in
     let long = took-length c.loop-e.machine c.args.loaded.now c.args.events.now c.loop-e.e-index c.loop-e.invariant few in
-    subst (IsRefusedAt c.args.loaded.now c.args.events.now) (sym (ap length c.taken.ensures.taken ∙ long))
-    (refused-here c.loop-e.machine c.args.loaded.now c.args.events.now c.loop-e.e-index (Exec (record { 0 = 0 })) c.taken.ensures.refined c.loop-e.invariant
-    c.loop-e-test.true (c.in-Err-Refused.ensures.refused.0 (ap (λ x. Err x) c.in-Err-Refused.field-0-is)))
+    subst (IsRefusedAt (started c.args.loaded.now) c.args.events.now) (sym (ap length c.taken.ensures.taken ∙ long))
+    (refused-here c.loop-e.machine c.args.loaded.now c.args.events.now c.loop-e.e-index (Exec (record { 0 = 0 }))
+    c.taken.ensures.refined c.loop-e.invariant c.loop-e-test.true (c.in-Err-Refused.ensures.refused.0 (ap (λ x. Err x) c.in-Err-Refused.field-0-is)))
 
 pub returns-in-Ok-settle-clause-code : goal.returns-in-Ok-settle-clause-code
 returns-in-Ok-settle-clause-code c = c.settle.ensures.code ∙ c.loop-e.invariant.code

@@ -1,34 +1,52 @@
 -- The event that the next word picks is taken, or the call ends.
-use Rattle.std.proofs.Common.{◌+◌, OnOk, Ok, Err, Result, arith, sym, subst}
-use Rattle.tcc_msg.specs.Plain.{event_of}
-use Rattle.tcc_pick.proofs.Picked.{Going, going-ends, going-more, going-none, going-stops, same-by}
+use Rattle.std.proofs.Common.{◌+◌, ◌∙◌, OnOk, Ok, Err, Result, ap, arith, sym, subst}
+use Rattle.tcc_pick.proofs.Picked.{Ended, Going, chosen_at, going-ends, going-more, going-none, going-same, going-stops}
 use Rattle.tcc_pick.proofs.chooser.Chooser.run.Goals as goal
 
 pub loop-init : goal.loop-init
-loop-init c = going-none c.args.system.now c.args.self.now c.args.steps c.requires
+loop-init c = going-none c.args.refined.now c.args.self.now c.args.steps c.requires
 
-pub returns-in_default-clause-took : goal.returns-in_default-clause-took
-returns-in_default-clause-took c =
-    going-stops c.args.system.now c.loop.system c.settle.new.self c.args.self.now c.loop.self c.args.steps c.loop.counter c.loop.invariant
-    c.loop-test.true
-    (same-by c.loop.system c.settle.new.self c.in_ok-settle.ensures.history c.in_ok-settle.ensures.events c.in_ok-settle.ensures.cores)
-    (sym c.in_default.ensures.chosen)
-
+-- what the word chooses for the machine that was read, it chooses for this one
 pub loop-preserved : goal.loop-preserved
 loop-preserved c =
-    subst (λ g. Going c.args.system.now c.step.new.self c.args.self.now g c.args.steps (c.loop.counter + 1)) (sym c.in-Some.ensures.drawn)
-    (going-more c.args.system.now c.loop.system c.settle.new.self c.step.new.self c.args.self.now c.loop.self c.args.steps c.loop.counter
-    (event_of c.in-Some.e) c.loop.invariant c.loop-test.true
-    (same-by c.loop.system c.settle.new.self c.in_ok-settle.ensures.history c.in_ok-settle.ensures.events c.in_ok-settle.ensures.cores)
-    (sym c.in-Some.ensures.chosen) c.in-Ok.ensures.next c.in-Ok.ensures.counted c.in-Ok.ensures.code)
+    let put = c.in_ok-settle.ensures in
+    let did = c.in-Ok.ensures in
+    let settled = going-same c.settle.new.self c.loop.invariant
+    (record { history = put.history; taken = put.taken; events = put.events; code = put.code }) in
+    let choice = ap (chosen_at c.loop.self) (sym c.system.ensures.machine) ∙ sym c.in-Some.ensures.chosen in
+    subst (λ g. Going c.args.refined.now c.step.new.self c.args.self.now g c.args.steps (c.loop.counter + 1)) (sym c.in-Some.ensures.drawn)
+    (going-more c.step.new.self c.in-Some.e settled c.loop-test.true choice
+    (record { next = did.next; taken = did.taken; events = did.counted; code = did.code }))
+
+-- no event is useful
+stops : (c : goal.In_default) → Ended c.args.refined.now c.settle.new.self c.args.self.now c.loop.self c.args.steps
+stops c =
+    let put = c.in_ok-settle.ensures in
+    let settled = going-same c.settle.new.self c.loop.invariant
+    (record { history = put.history; taken = put.taken; events = put.events; code = put.code }) in
+    let choice = ap (chosen_at c.loop.self) (sym c.system.ensures.machine) ∙ sym c.in_default.ensures.chosen in
+    going-stops settled c.loop-test.true choice
+
+pub returns-in_default-clause-took : goal.returns-in_default-clause-took
+returns-in_default-clause-took c = (stops c).took
+
+pub returns-in_default-clause-drawn : goal.returns-in_default-clause-drawn
+returns-in_default-clause-drawn c = c.in_default.ensures.drawn ∙ (stops c).drawn
+
+-- all words are drawn
+ends : (c : goal.After-settle-2) → Ended c.args.refined.now c.settle-2.new.self c.args.self.now c.loop.self c.args.steps
+ends c =
+    let put = c.settle-2.ensures in
+    going-ends (going-same c.settle-2.new.self c.loop.invariant
+    (record { history = put.history; taken = put.taken; events = put.events; code = put.code }))
+    (omega (arith, c.loop-test.false, c.loop.auto.counter-end))
 
 on-ok : {E P : Type 0} (r : Result (Unit {0}) E) → P → OnOk r P
 on-ok (Ok x) p = p
 on-ok (Err e) p = tt
 
 pub returns-clause-took : goal.returns-clause-took
-returns-clause-took c =
-    on-ok c.settle-2.result
-    (going-ends c.args.system.now c.loop.system c.settle-2.new.self c.args.self.now c.loop.self c.args.steps c.loop.counter c.loop.invariant
-    (omega (arith, c.loop-test.false, c.loop.auto.counter-end))
-    (same-by c.loop.system c.settle-2.new.self c.settle-2.ensures.history c.settle-2.ensures.events c.settle-2.ensures.cores))
+returns-clause-took c = on-ok c.settle-2.result (ends c).took
+
+pub returns-clause-drawn : goal.returns-clause-drawn
+returns-clause-drawn c = on-ok c.settle-2.result (ends c).drawn

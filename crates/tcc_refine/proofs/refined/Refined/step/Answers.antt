@@ -13,5 +13,6 @@ invariant_of-self-in-Ok c =
     let items = c.push_reserved.ensures.items ∙ ap (λ es. es ++ c.args.e ∷ []) c.reserve.ensures.items in
     let allowed = subst (λ k. IsAllowed k.settings) (sym c.in-Ok.ensures.code) c.self.invariant.allowed in
     subst (λ es. IsRefined (record { machine = n; taken = es })) (sym items)
-    (refined-by n (old ++ c.args.e ∷ []) allowed (run-more m n old c.args.e c.self.invariant.is_run c.in-Ok.ensures.next c.in-Ok.ensures.code)
+    (refined-by n (old ++ c.args.e ∷ []) allowed
+    (run-more m n old c.args.e c.self.invariant.is_run c.in-Ok.ensures.next c.in-Ok.ensures.code)
     (count-more m n old c.args.e c.self.invariant.count c.in-Ok.ensures.counted))

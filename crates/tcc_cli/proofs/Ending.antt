@@ -1,0 +1,111 @@
+-- From the end of a command, or of the words, to the answer of the program.
+use Rattle.std.proofs.Common.{◌≡◌, ◌≢◌, ℕ, ◌<◌, List, [], ◌∷◌, ◌++◌, Bool, Option, Some, None, Ok, Err, inl, inr, refl, sym, ap, subst, ◌∙◌}
+use Rattle.image_load.specs.Contents.{Contents, started}
+use Rattle.tcc_cli.specs.Around.{Around, FilesAround, IsUntouched}
+use Rattle.tcc_cli.specs.Commands.{IsThreaded, fault_from, files_of, record_of}
+use Rattle.tcc_cli.specs.Failing.{IsNotWritten, IsStopped}
+use Rattle.tcc_cli.specs.Lines.{IsCut, IsSilent, IsTold, IsWhole, Written}
+use Rattle.tcc_cli.specs.Reading.{AreGiven, FailedFirst, RefusedFiles, RefusedImages}
+use Rattle.tcc_cli.specs.Refusals.{End, line_of, refusal_status, status_of, words_refusal}
+use Rattle.tcc_cli.specs.Schedules.{Comes}
+use Rattle.tcc_cli.specs.Top.{Caused, EndsOf, IsAsked, IsTurnedAway, Notes, Started}
+use Rattle.tcc_cli.specs.declared.refusal.ImageFault.{ImageFault}
+use Rattle.tcc_cli.specs.declared.refusal.Refusal.{Refusal}
+use Rattle.tcc_cli.specs.declared.refusal.Refusal.TheVariants as why
+use Rattle.tcc_cli.specs.declared.status.Status.{Status}
+use Rattle.tcc_world.specs.Faults.{Rose}
+use Rattle.tcc_words.specs.Asked.{IsCommand, IsRefused}
+use Rattle.tcc_words.specs.declared.command.Command.{Command}
+use Rattle.tcc_words.specs.declared.command.WordsFault.{WordsFault}
+use Rattle.tcc_words.specs.declared.command.WordsFault.TheVariants as fault
+
+away : (words : List (List ℕ)) (f : WordsFault) → IsRefused words f → IsTurnedAway words (Err (words_refusal f))
+away words fault.Words h = inl h
+away words (fault.Value field) h = h
+away words fault.Memory h = tt
+
+pub words-refused : (words : List (List ℕ)) (w : Around) (err : Written) (status : Status) (f : WordsFault) (r : Refusal)
+    → IsRefused words f → r ≡ words_refusal f → IsUntouched w.files → IsSilent w.out → status ≡ refusal_status r → IsTold (line_of r) err
+    → Caused words w err status
+words-refused words w err status f r h is untouched silent status_is told = record {
+  end = Err r;
+  status_is = status_is;
+  ends = inr (subst (λ q. IsTurnedAway words (Err q)) (sym is) (away words f h), untouched, silent);
+  notes = told;
+  others = λ n _. untouched n;
+}
+
+pub threads-refused : (words : List (List ℕ)) (w : Around) (err : Written) (status : Status) (c : Command) → IsCommand words c
+    → IsThreaded c
+    → IsUntouched w.files → IsSilent w.out → status ≡ refusal_status why.Words → IsTold (line_of why.Words) err → Caused words w err status
+threads-refused words w err status c h threaded untouched silent status_is told = record {
+  end = Err why.Words;
+  status_is = status_is;
+  ends = inr (inr (c, h, threaded), untouched, silent);
+  notes = told;
+  others = λ n _. untouched n;
+}
+
+pub command-ended : (words : List (List ℕ)) (w : Around) (err : Written) (status : Status) (c : Command) (end : End) → IsCommand words c
+    → (IsThreaded c → ⊥) → EndsOf c w end → ((n : List ℕ) → record_of c ≢ Some n → w.files.after n ≡ w.files.before n)
+    → status ≡ status_of end → Notes err end → Caused words w err status
+command-ended words w err status c end h alone ends others status_is notes =
+    let asked : IsAsked words c = record { command = h; one_thread = alone } in record {
+      end = end;
+      status_is = status_is;
+      ends = inl (c, asked, ends);
+      notes = notes;
+      others = λ n none. others n (none c asked);
+    }
+
+-- ---- the steps of a command that refuse
+
+pub no-files : (c : Command) (w : Around) (names : List (List ℕ)) (r : Refusal) → names ≡ files_of c
+    → RefusedFiles w.files.before names w.files.reads_before w.files.reads_after r → IsUntouched w.files → IsSilent w.out
+    → EndsOf c w (Err r)
+no-files c w names (why.Store name) is h untouched silent =
+    (inl (subst (λ ns. FailedFirst w.files.before ns w.files.reads_before w.files.reads_after name.now) is h, untouched), silent)
+no-files c w names why.Memory is h untouched silent = silent
+no-files c w names why.Words is h untouched silent = h
+no-files c w names (why.Value field) is h untouched silent = h
+no-files c w names (why.Image bad) is h untouched silent = absurd h
+no-files c w names (why.Schedule line) is h untouched silent = absurd h
+no-files c w names why.Output is h untouched silent = absurd h
+
+pub no-image : (x : Option ImageFault) (c : Command) (w : Around) (files : List (List ℕ)) (r : Refusal) → x ≡ fault_from c files
+    → RefusedImages x r → AreGiven w.files.before (files_of c) files → IsUntouched w.files → IsSilent w.out → EndsOf c w (Err r)
+no-image x c w files (why.Image bad) is h given untouched silent = ((files, given, sym is ∙ h), untouched, silent)
+no-image x c w files why.Memory is h given untouched silent = silent
+no-image x c w files why.Words is h given untouched silent = h
+no-image x c w files (why.Value field) is h given untouched silent = h
+no-image x c w files (why.Schedule line) is h given untouched silent = absurd h
+no-image x c w files (why.Store name) is h given untouched silent = absurd h
+no-image x c w files why.Output is h given untouched silent = absurd h
+
+-- the files and the images, where the same bytes stand in three places
+pub begun : (c : Command) (w : Around) (names read two three : List (List ℕ)) → names ≡ files_of c → AreGiven w.files.before names read
+    → two ≡ read → three ≡ read → fault_from c two ≡ None → Started c w three
+begun c w names read two three are given second third images = record {
+  given = subst (AreGiven w.files.before (files_of c)) (sym third) (subst (λ ns. AreGiven w.files.before ns read) are given);
+  images = subst (λ fs. fault_from c fs ≡ None) (second ∙ sym third) images;
+}
+
+-- a step that begins later, where nothing was written before it
+pub record IsLater (files later : FilesAround) : Type 0 where
+  pub contents : (n : List ℕ) → later.before n ≡ files.before n
+  pub writes : (n : List ℕ) → later.writes_before n ≡ files.writes_before n
+  pub after : (n : List ℕ) → files.after n ≡ later.after n
+  pub writes_after : (n : List ℕ) → later.writes_after n ≡ files.writes_after n
+
+pub stopped : (c : Command) (w : Around) (f : FilesAround) (files : List (List ℕ)) (r : Refusal) → IsLater w.files f → IsStopped c files f r
+    → Started c w files → IsSilent w.out → EndsOf c w (Err r)
+stopped c w f files (why.Schedule line) s h started silent = ((files, started, h.0), (λ n. s.after n ∙ h.1 n ∙ s.contents n), silent)
+stopped c w f files (why.Store name) s h started silent =
+    let rose = subst (λ k. Rose k (w.files.writes_after name.now)) (s.writes name.now)
+    (subst (λ k. Rose (f.writes_before name.now) k) (s.writes_after name.now) h.1) in
+    (inr ((files, started), h.0, rose), silent)
+stopped c w f files why.Memory s h started silent = silent
+stopped c w f files why.Words s h started silent = h
+stopped c w f files (why.Value field) s h started silent = h
+stopped c w f files (why.Image bad) s h started silent = absurd h
+stopped c w f files why.Output s h started silent = absurd h

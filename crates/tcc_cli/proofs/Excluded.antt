@@ -1,0 +1,64 @@
+-- What comes to an end has no faulty line.
+use Rattle.std.proofs.Common.{◌≡◌, ◌≢◌, ◌≤◌, ℕ, Bool, List, Option, Some, None, inl, inr, ap, sym, subst, ◌∙◌}
+use Rattle.image_load.specs.Start.{Start}
+use Rattle.schedule_text.specs.Faults.{IsFirstFault}
+use Rattle.schedule_text.specs.Grammar.{text_of}
+use Rattle.tcc_base.specs.Settings.{IsAllowed, Settings}
+use Rattle.tcc_cli.proofs.Comes.{start_settings}
+use Rattle.tcc_cli.proofs.Facts.{Facts}
+use Rattle.tcc_cli.specs.Commands.{head_of, start_from, tail_of}
+use Rattle.tcc_cli.specs.Images.{start_of}
+use Rattle.tcc_cli.specs.Lists.{IsExecuted, IsListFault}
+use Rattle.tcc_cli.specs.Schedules.{Comes, IsFaultyLine, IsScheduleFault, IsScheduleOf, Ran}
+use Rattle.tcc_cli.specs.Runs.{run_text}
+use Rattle.tcc_msg.specs.declared.event.Event.{Event}
+use Rattle.tcc_msg.specs.declared.event.Schedule.{Schedule}
+use Rattle.serial_tool.specs.Runs.{serial_by}
+use Rattle.tcc_replay.specs.Replayed.{history_by}
+use Rattle.tcc_words.specs.Bounds.{IsInBounds}
+use Rattle.tcc_words.specs.declared.command.Command.{Command}
+use Rattle.tcc_words.specs.declared.command.Command.TheVariants.{Run, Replay, Serial, Trial}
+
+-- two schedules of one text with the same settings have the same events
+pub same-events : Facts → (settings : Settings) (es fs : List Event) (bytes : List ℕ) → IsScheduleOf settings es bytes
+    → IsScheduleOf settings fs bytes → es ≡ fs
+same-events f settings es fs bytes a b =
+    ap (λ s. s.events) (f.one_schedule (record { config = settings; events = es })
+    (record { config = settings; events = fs }) a.formed b.formed
+    (sym a.text ∙ b.text))
+
+schedule-excluded : Facts → (s : Start) (settings : Settings) (bytes : List ℕ) (line : ℕ) (done : Bool) (text : List ℕ)
+    → Ran s (λ es. IsScheduleOf settings es bytes) (run_text s) done text → IsScheduleFault s settings bytes line → ⊥
+schedule-excluded f s settings bytes line done text ran (inl fault) =
+    f.no_faulty_line (record { config = settings; events = ran.events }) line ran.schedule.formed (subst
+    (IsFirstFault line) ran.schedule.text fault)
+schedule-excluded f s settings bytes line done text ran (inr (inl (two, other))) =
+    other.other (ap (λ x. x.config) (f.one_schedule other.schedule
+    (record { config = settings; events = ran.events }) other.formed ran.schedule.formed
+    (sym other.text ∙ ran.schedule.text)))
+schedule-excluded f s settings bytes line done text ran (inr (inr (es, i, is, refused, at))) =
+    let same = same-events f settings ran.events es bytes ran.schedule is in
+    f.runs_go_on s es ran.ends i (subst (λ xs. history_by s xs ≡ Some ran.ends) same ran.runs.is_run) refused
+
+list-excluded : Facts → (s : Start) (bytes text : List ℕ) (line : ℕ) → s.settings.cores ≤ 64 → IsExecuted s bytes text
+    → IsListFault s bytes line → ⊥
+list-excluded f s bytes text line few e (inl fault) = f.no_faulty_order s.settings.cores bytes e.orders line e.list fault
+list-excluded f s bytes text line few e (inr (orders, is, stuck)) =
+    let same = f.one_list s.settings.cores bytes orders e.orders few is e.list in
+    let none : serial_by s e.orders ≡ None = subst (λ os. serial_by s os ≡ None) same (f.stuck_has_no_run s orders line stuck) in
+    let some = e.executed in
+    absurd (cc)
+
+few-cores : (raw : Bool) (s : Settings) (files : List (List ℕ)) → IsAllowed s → (start_of raw s files).settings.cores ≤ 64
+few-cores raw s files allowed = subst (λ t. t.cores ≤ 64) (sym (start_settings raw s files)) allowed.0.1
+
+pub excluded : Facts → (c : Command) (files : List (List ℕ)) (tells : Bool) (told : List ℕ → Option (List ℕ)) (done : Bool) (text : List ℕ)
+    (line : ℕ) → IsInBounds c → Comes c files tells told done text → IsFaultyLine c files line → ⊥
+excluded f (Run machine images steps seed threads keep) files tells told done text line bounds comes fault = fault
+excluded f (Replay machine schedule images) files tells told done text line bounds comes fault =
+    schedule-excluded f (start_from (Replay machine schedule images) files) machine.config (head_of files) line done text comes fault
+excluded f (Serial machine list images) files tells told done text line bounds comes fault =
+    list-excluded f (start_from (Serial machine list images) files) (head_of files) text line (few-cores machine.raw machine.config
+    (tail_of files) bounds.allowed)
+    comes.1 fault
+excluded f (Trial config work number steps seed) files tells told done text line bounds comes fault = fault

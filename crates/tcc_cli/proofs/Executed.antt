@@ -1,0 +1,32 @@
+-- A list that is executed, and why it isn't.
+use Rattle.std.proofs.Common.{◌≡◌, ℕ, List, inl, inr, sym, subst}
+use Rattle.image_load.specs.Contents.{Contents, started}
+use Rattle.schedule_text.specs.declared.fault.TextFault.{TextFault}
+use Rattle.schedule_text.specs.declared.fault.TextFault.TheVariants.{Line, Memory}
+use Rattle.serial_tool.specs.Lists.{IsFirstFault, IsList, IsReadFault}
+use Rattle.serial_tool.specs.Runs.{IsRunFault}
+use Rattle.serial_tool.specs.declared.reading.Listed.{Listed}
+use Rattle.tcc_cli.specs.Failing.{IsListRefused, text_refusal}
+use Rattle.tcc_cli.specs.declared.refusal.Refusal.{Refusal}
+
+pub list-unread : (l : Contents) (cores : ℕ) (bytes : List ℕ) (f : TextFault) (r : Refusal) → cores ≡ l.settings.cores
+    → IsReadFault cores bytes f
+    → r ≡ text_refusal f → IsListRefused (started l) bytes r
+unfolding started
+list-unread l cores bytes (Line k) r same h is =
+    subst (IsListRefused (started l) bytes) (sym is) (inl (subst (λ n. IsFirstFault n bytes k) same h))
+list-unread l cores bytes Memory r same h is = subst (IsListRefused (started l) bytes) (sym is) tt
+
+pub list-read : (l : Contents) (cores : ℕ) (bytes : List ℕ) (orders there : List Listed) → cores ≡ l.settings.cores
+    → IsList cores bytes orders
+    → there ≡ orders → IsList (started l).settings.cores bytes there
+unfolding started
+list-read l cores bytes orders there same h is =
+    subst (λ os. IsList l.settings.cores bytes os) (sym is) (subst (λ n. IsList n bytes orders) same h)
+
+pub list-stuck : (l : Contents) (cores : ℕ) (bytes : List ℕ) (orders there : List Listed) (f : TextFault) (r : Refusal)
+    → cores ≡ l.settings.cores
+    → IsList cores bytes orders → there ≡ orders → IsRunFault (started l) there f → r ≡ text_refusal f → IsListRefused (started l) bytes r
+list-stuck l cores bytes orders there (Line k) r same h is stuck e =
+    subst (IsListRefused (started l) bytes) (sym e) (inr (there, list-read l cores bytes orders there same h is, stuck))
+list-stuck l cores bytes orders there Memory r same h is stuck e = subst (IsListRefused (started l) bytes) (sym e) tt

@@ -1,0 +1,63 @@
+-- What a command works on: its files, its machine and its images.
+use Rattle.std.specs.Prelude.{ℕ, true, List, [], ◌∷◌, Option, None, IsSome}
+use Rattle.image_load.specs.Start.{Start}
+use Rattle.tcc_cli.specs.Images.{fault_of, start_of}
+use Rattle.tcc_cli.specs.declared.refusal.ImageFault.{ImageFault}
+use Rattle.tcc_words.specs.declared.command.Command.{Command}
+use Rattle.tcc_words.specs.declared.command.Command.TheVariants.{Run, Replay, Serial, Trial}
+use Rattle.tcc_words.specs.declared.command.Machine.{Machine}
+use Rattle.work_gen.specs.Programs.{image, program}
+
+-- the names of the images
+abbrev pub image_names : Command → List (List ℕ)
+image_names (Run machine images steps seed threads keep) = images
+image_names (Replay machine schedule images) = images
+image_names (Serial machine list images) = images
+image_names (Trial config work number steps seed) = []
+
+-- the names of the files that are read, in order: the schedule or the list, and then the images
+abbrev pub files_of : Command → List (List ℕ)
+files_of (Run machine images steps seed threads keep) = images
+files_of (Replay machine schedule images) = schedule ∷ images
+files_of (Serial machine list images) = list ∷ images
+files_of (Trial config work number steps seed) = []
+
+-- the name of the file that is written
+abbrev pub record_of : Command → Option (List ℕ)
+record_of (Run machine images steps seed threads keep) = keep
+record_of _ = None
+
+-- the machine, and whether its images are raw; a workload is
+abbrev pub machine_of : Command → Machine
+machine_of (Run machine images steps seed threads keep) = machine
+machine_of (Replay machine schedule images) = machine
+machine_of (Serial machine list images) = machine
+machine_of (Trial config work number steps seed) = record { config = config; raw = true }
+
+-- the first of some files, and those after it
+abbrev pub head_of : List (List ℕ) → List ℕ
+head_of [] = []
+head_of (file ∷ files) = file
+
+abbrev pub tail_of : List (List ℕ) → List (List ℕ)
+tail_of [] = []
+tail_of (file ∷ files) = files
+
+-- the images' bytes, where the files have these
+abbrev pub images_in : Command → (files : List (List ℕ)) → List (List ℕ)
+images_in (Run machine images steps seed threads keep) files = files
+images_in (Replay machine schedule images) files = tail_of files
+images_in (Serial machine list images) files = tail_of files
+images_in (Trial config work number steps seed) files = image (program work number) ∷ []
+
+-- the start of the machine with these images, and the first of them that is no image
+abbrev pub start_from : Command → (files : List (List ℕ)) → Start
+start_from c files = start_of (machine_of c).raw (machine_of c).config (images_in c files)
+
+abbrev pub fault_from : Command → (files : List (List ℕ)) → Option ImageFault
+fault_from c files = fault_of (machine_of c).raw (machine_of c).config (images_in c files)
+
+-- a run on host threads, which isn't there yet
+abbrev pub IsThreaded : Command → Type 0
+IsThreaded (Run machine images steps seed threads keep) = IsSome threads
+IsThreaded _ = ⊥

@@ -1,0 +1,57 @@
+-- Why the steps of a command refuse to go on.
+use Rattle.std.specs.Prelude.{ℕ, List, ◌≡◌, ◌+◌, ◌<◌, ◌^◌, ◌⊎◌, Option, Some}
+use Rattle.image_load.specs.Start.{Start}
+use Rattle.tcc_base.specs.Settings.{Settings}
+use Rattle.schedule_text.specs.Faults.{IsFirstFault}
+use Rattle.schedule_text.specs.declared.fault.TextFault.{TextFault}
+use Rattle.schedule_text.specs.declared.fault.TextFault.TheVariants as text
+use Rattle.tcc_cli.specs.Around.{FilesAround, IsUntouched}
+use Rattle.tcc_cli.specs.Commands.{record_of}
+use Rattle.tcc_cli.specs.Lists.{IsListFault}
+use Rattle.tcc_cli.specs.Schedules.{HasOtherSettings, IsFaultyLine, IsScheduleFault}
+use Rattle.tcc_cli.specs.declared.refusal.Refusal.{Refusal}
+use Rattle.tcc_cli.specs.declared.refusal.Refusal.TheVariants.{Schedule, Store, Memory}
+use Rattle.tcc_replay.specs.declared.replaying.ReplayFault.{ReplayFault}
+use Rattle.tcc_replay.specs.declared.replaying.ReplayFault.TheVariants as replay
+use Rattle.tcc_words.specs.declared.command.Command.{Command}
+use Rattle.tcc_world.specs.Faults.{Rose}
+
+-- what faults of a text and of a replay are to the program; event i stands on line i + 3
+abbrev pub text_refusal : TextFault → Refusal
+text_refusal (text.Line line) = Schedule line
+text_refusal text.Memory = Memory
+
+abbrev pub replay_refusal : ReplayFault → Refusal
+replay_refusal (replay.Refused i) = Schedule (i + 3)
+replay_refusal replay.Memory = Memory
+
+abbrev pub HasLine : ReplayFault → Type 0
+HasLine (replay.Refused i) = i + 3 < 2 ^ 64
+HasLine replay.Memory = Unit {0}
+
+-- a fault of a schedule's text or settings
+abbrev pub IsReadFault : Settings → (bytes : List ℕ) → TextFault → Type 0
+IsReadFault settings bytes (text.Line line) = IsFirstFault line bytes ⊎ ((line ≡ 2) × HasOtherSettings settings bytes)
+IsReadFault settings bytes text.Memory = Unit {0}
+
+-- a schedule or a list is refused at its faulty line, or memory ran out
+abbrev pub IsScheduleRefused : Start → Settings → (bytes : List ℕ) → Refusal → Type 0
+IsScheduleRefused s settings bytes (Schedule line) = IsScheduleFault s settings bytes line
+IsScheduleRefused s settings bytes Memory = Unit {0}
+IsScheduleRefused s settings bytes _ = ⊥
+
+abbrev pub IsListRefused : Start → (bytes : List ℕ) → Refusal → Type 0
+IsListRefused s bytes (Schedule line) = IsListFault s bytes line
+IsListRefused s bytes Memory = Unit {0}
+IsListRefused s bytes _ = ⊥
+
+-- the record wasn't written
+abbrev pub IsNotWritten : (keep : Option (List ℕ)) → FilesAround → Refusal → Type 0
+IsNotWritten keep f (Store name) = (keep ≡ Some name.now) × Rose (f.writes_before name.now) (f.writes_after name.now)
+IsNotWritten keep f Memory = Unit {0}
+IsNotWritten keep f _ = ⊥
+
+-- a command stops before its text is made
+abbrev pub IsStopped : Command → (files : List (List ℕ)) → FilesAround → Refusal → Type 0
+IsStopped c files f (Schedule line) = IsFaultyLine c files line × IsUntouched f
+IsStopped c files f other = IsNotWritten (record_of c) f other

@@ -1,0 +1,70 @@
+-- What follows from the program's answers.
+use Rattle.std.specs.Prelude.{ℕ, true, List, map, Contains, Option, IsSome, ◌≡◌, ◌≢◌, ◌↔◌, ◌⊎◌, Some, None}
+use Rattle.tcc_cli.specs.Around.{Around}
+use Rattle.tcc_cli.specs.Commands.{fault_from, files_of}
+use Rattle.tcc_cli.specs.Lines.{Written, IsWhole}
+use Rattle.tcc_cli.specs.Schedules.{IsFaultyLine}
+use Rattle.tcc_cli.specs.Top.{Caused, IsAsked}
+use Rattle.tcc_cli.specs.declared.status.Status.{Status}
+use Rattle.tcc_cli.specs.declared.status.Status.TheVariants.{Done, Stopped, Words, Image, Schedule, Memory}
+use Rattle.tcc_words.specs.declared.command.Command.{Command}
+use Rattle.tcc_words.specs.declared.command.Command.TheVariants.{Run, Replay}
+use Rattle.tcc_words.specs.declared.command.Machine.{Machine}
+use Rattle.tcc_world.specs.Faults.{Rose}
+
+-- no file failed to be read or written, and the output didn't fail
+pub record HasNoFault (w : Around) : Type 0 where
+  pub reads : (name : List ℕ) → Rose (w.files.reads_before name) (w.files.reads_after name) → ⊥
+  pub writes : (name : List ℕ) → Rose (w.files.writes_before name) (w.files.writes_after name) → ⊥
+  pub out : Rose w.out.faults_before w.out.faults_after → ⊥
+
+-- the store tells the bytes of these files
+abbrev pub AreTold : (told : List ℕ → Option (List ℕ)) → (names files : List (List ℕ)) → Type 0
+AreTold told names files = map told names ≡ map (λ file. Some file) files
+
+-- what is left to answer where nothing fails; beside each stands want of memory, of which nothing more is said
+pub record IsLeft (c : Command) (files : List (List ℕ)) (status : Status) : Type 0 where
+  -- an image is refused
+  pub image : IsSome (fault_from c files) → (status ≡ Image) ⊎ (status ≡ Memory)
+  -- the images are accepted and the schedule or list is refused
+  pub schedule : fault_from c files ≡ None → (line : ℕ) → IsFaultyLine c files line → (status ≡ Schedule) ⊎ (status ≡ Memory)
+  -- neither is: the command is carried out and its whole text written
+  pub neither : fault_from c files ≡ None → ((line : ℕ) → IsFaultyLine c files line → ⊥)
+      → (status ≡ Done) ⊎ (status ≡ Stopped) ⊎ (status ≡ Memory)
+
+-- completeness: where the words ask for a command, the files' bytes are told, and nothing fails, what is left is answered
+abbrev pub AnswersAreComplete : Type 0
+AnswersAreComplete =
+    (words : List (List ℕ)) (w : Around) (err : Written) (status : Status) (c : Command) (files : List (List ℕ))
+    → Caused words w err status → IsAsked words c → AreTold w.files.before (files_of c) files → HasNoFault w → IsLeft c files status
+
+-- words that ask for nothing are refused, and no others, unless memory runs out
+abbrev pub OthersAreRefused : Type 0
+OthersAreRefused =
+    (words : List (List ℕ)) (w : Around) (err : Written) (status : Status) → Caused words w err status → status ≢ Memory
+    → ((c : Command) → IsAsked words c → ⊥) ↔ (status ≡ Words)
+
+-- one text was written whole to both outputs
+abbrev pub IsSameText : (o p : Written) → Type 0
+IsSameText o p = (text : List ℕ) × IsWhole text o × IsWhole text p
+
+-- two calls: a run that is recorded, and a replay of the record, by the same settings and with the same images, in the files as the run
+-- left them; the record isn't one of the images
+pub record ReplaysRecord (w v : Around) (run replay : List (List ℕ)) (machine : Machine) (images : List (List ℕ))
+    (name : List ℕ) : Type 0 where
+  pub steps : ℕ
+  pub seed : ℕ
+  pub first : IsAsked run (Run machine images steps seed None (Some name))
+  pub second : IsAsked replay (Replay machine name images)
+  pub left : (n : List ℕ) → v.files.before n ≡ w.files.after n
+  pub tells : w.files.tells ≡ true
+  pub files : List (List ℕ)
+  pub told : AreTold w.files.before images files
+  pub apart : Contains images name → ⊥
+
+-- the replay of a record ends as the run did and prints the same text, where nothing fails in it and memory suffices
+abbrev pub ReplaysPrintTheSame : Type 0
+ReplaysPrintTheSame =
+    (w v : Around) (run replay : List (List ℕ)) (e f : Written) (status other : Status) (machine : Machine) (images : List (List ℕ))
+    (name : List ℕ) → ReplaysRecord w v run replay machine images name → Caused run w e status → (status ≡ Done) ⊎ (status ≡ Stopped)
+    → Caused replay v f other → HasNoFault v → other ≢ Memory → (other ≡ status) × IsSameText w.out v.out

@@ -1,0 +1,78 @@
+-- Where a command's schedule comes from, what it leads to, and the text of that.
+use Rattle.std.specs.Prelude.{ℕ, Bool, true, List, map, length, ◌≡◌, ◌≢◌, ◌+◌, ◌⊎◌, Option, Some, None, if◌then◌else◌}
+use Rattle.image_load.specs.Start.{Start}
+use Rattle.schedule_text.specs.Faults.{IsFirstFault}
+use Rattle.schedule_text.specs.Grammar.{text_of}
+use Rattle.schedule_text.specs.WellFormed.{IsWellFormed}
+use Rattle.tcc_base.specs.Settings.{Settings}
+use Rattle.tcc_cli.specs.Commands.{head_of, start_from}
+use Rattle.tcc_cli.specs.Lists.{IsExecuted, IsListFault}
+use Rattle.tcc_cli.specs.Runs.{RunsTo, picked_by, run_text, summary_text}
+use Rattle.tcc_msg.specs.Plain.{event_of}
+use Rattle.tcc_msg.specs.declared.event.Event.{Event}
+use Rattle.tcc_msg.specs.declared.event.Schedule.{Schedule}
+use Rattle.tcc_replay.specs.Replayed.{IsRefusedAt}
+use Rattle.tcc_rules.specs.Step.{History}
+use Rattle.tcc_words.specs.declared.command.Command.{Command}
+use Rattle.tcc_words.specs.declared.command.Command.TheVariants.{Run, Replay, Serial, Trial}
+
+-- these bytes are the text of a schedule with these settings and events
+pub record IsScheduleOf (settings : Settings) (es : List Event) (bytes : List ℕ) : Type 0 where
+  pub formed : IsWellFormed (record { config = settings; events = es })
+  pub text : bytes ≡ text_of (record { config = settings; events = es })
+
+-- these bytes are the text of a schedule with other settings
+pub record HasOtherSettings (settings : Settings) (bytes : List ℕ) : Type 0 where
+  pub schedule : Schedule
+  pub formed : IsWellFormed schedule
+  pub text : bytes ≡ text_of schedule
+  pub other : schedule.config ≢ settings
+
+-- the record, where one is asked for, holds the text of this schedule, where the store makes known what it was given
+abbrev pub IsRecorded : (record_name : Option (List ℕ)) → (tells : Bool) → (told : List ℕ → Option (List ℕ)) → Schedule → Type 0
+IsRecorded None tells told s = Unit {0}
+IsRecorded (Some name) tells told s = IsWellFormed s × (told name ≡ (if tells then Some (text_of s) else None))
+
+-- the schedule that a seed picks, and the record of it
+abbrev pub IsPicked : Start → (seed steps : ℕ) → List Event → Type 0
+IsPicked s seed steps es = map event_of es ≡ picked_by s seed steps
+
+-- A run by such a schedule, from this start, with its end and the text of that. The headline: see `RunsTo`.
+pub record Ran (s : Start) (IsSchedule : List Event → Type 0) (text_of_end : Bool → ℕ → History
+    → List ℕ) (done : Bool) (text : List ℕ) : Type 0 where
+  pub events : List Event
+  pub ends : History
+  pub schedule : IsSchedule events
+  pub runs : RunsTo s events done ends
+  pub text_is : text ≡ text_of_end done (length events) ends
+
+-- what each command comes to, where its files have these bytes: the text that it prints, and what stands in the record then
+abbrev pub Comes : Command → (files : List (List ℕ)) → (tells : Bool) → (told : List ℕ → Option (List ℕ)) → Bool → List ℕ → Type 0
+Comes (Run machine images steps seed threads keep) files tells told done text =
+    let s = start_from (Run machine images steps seed threads keep) files in
+    Ran s (λ es. IsPicked s seed steps es × IsRecorded keep tells told (record { config = machine.config; events = es }))
+    (run_text s) done text
+Comes (Replay machine schedule images) files tells told done text =
+    let s = start_from (Replay machine schedule images) files in
+    Ran s (λ es. IsScheduleOf machine.config es (head_of files)) (run_text s) done text
+Comes (Serial machine list images) files tells told done text =
+    (done ≡ true) × IsExecuted (start_from (Serial machine list images) files) (head_of files) text
+Comes (Trial config work number steps seed) files tells told done text =
+    let s = start_from (Trial config work number steps seed) files in
+    Ran s (IsPicked s seed steps) (summary_text s work number) done text
+
+-- the line at which a schedule is refused: the first that the grammar doesn't allow, or the second where its settings aren't the
+-- command's, or that of the first event that isn't enabled at its turn
+abbrev pub IsScheduleFault : Start → Settings → (bytes : List ℕ) → (line : ℕ) → Type 0
+IsScheduleFault s settings bytes line =
+    IsFirstFault line bytes
+    ⊎ ((line ≡ 2) × HasOtherSettings settings bytes)
+    ⊎ ((es : List Event) × (i : ℕ) × IsScheduleOf settings es bytes × IsRefusedAt s es i × (line ≡ i + 3))
+
+-- the line at which the file of a command is refused
+abbrev pub IsFaultyLine : Command → (files : List (List ℕ)) → (line : ℕ) → Type 0
+IsFaultyLine (Replay machine schedule images) files line =
+    IsScheduleFault (start_from (Replay machine schedule images) files) machine.config (head_of files) line
+IsFaultyLine (Serial machine list images) files line =
+    IsListFault (start_from (Serial machine list images) files) (head_of files) line
+IsFaultyLine _ files line = ⊥

@@ -1,0 +1,62 @@
+// The file that a run is recorded in.
+ghost use Rattle.std.specs.Prelude.{◌≡◌, ◌≢◌, ◌≤◌, ℕ, List as Seq, IfErr, IfOk, OnOk, Some, length};
+ghost use Rattle.schedule_text.specs.Grammar.{text_of};
+ghost use Rattle.schedule_text.specs.WellFormed.{IsWellFormed};
+ghost use Rattle.tcc_cli.specs.Failing.{IsNotWritten};
+ghost use Rattle.net_core.specs.Machine.{settings_of};
+ghost use Rattle.tcc_cli.specs.Schedules.{IsRecorded};
+
+use crate::refusal::Refusal;
+use schedule_text::write;
+use std::alloc::Global;
+use tcc_base::{NoMemory, Text};
+use tcc_refine::Refined;
+use tcc_replay::what_was_taken_has_a_text;
+use tcc_world::{Store, StoreError};
+
+/// The text of the schedule that a machine took.
+fn schedule_text(alloc: Global, refined: &Refined) -> Result<Vec<u8>, NoMemory>
+    requires few { length refined.now.taken ≤ 4194304 }
+    ensures formed { IsWellFormed (record { config = settings_of refined.now.machine; events = refined.now.taken }) }
+    ensures text { IfOk result (λ text. text.items
+        ≡ text_of (record { config = settings_of refined.now.machine; events = refined.now.taken })) }
+{
+    what_was_taken_has_a_text();
+    write(alloc, refined.system().config(), refined.taken())
+}
+
+/// Writes the schedule that a machine took to the file of this name, where there is one.
+pub fn record<'a, F: Store>(
+    alloc: Global,
+    keep: &'a Option<Text>,
+    refined: &Refined,
+    files: &mut F,
+) -> Result<(), Refusal<'a>>
+    requires few { length refined.now.taken ≤ 4194304 }
+    ensures recorded { OnOk result (IsRecorded keep.now (F.tells files.old) (F.contents files.new)
+        (record { config = settings_of refined.now.machine; events = refined.now.taken })) }
+    ensures failed { IfErr result (IsNotWritten keep.now (record {
+      tells = F.tells files.old;
+      before = F.contents files.old;
+      after = F.contents files.new;
+      reads_before = F.failed_reads files.old;
+      reads_after = F.failed_reads files.new;
+      writes_before = F.failed_writes files.old;
+      writes_after = F.failed_writes files.new;
+    })) }
+    ensures others { (n : Seq ℕ) → keep.now ≢ Some n → F.contents files.new n ≡ F.contents files.old n }
+    ensures reads { (n : Seq ℕ) → F.failed_reads files.new n ≡ F.failed_reads files.old n }
+{
+    let Some(name) = keep else {
+        return Ok(());
+    };
+    let text = match schedule_text(alloc, refined) {
+        Ok(text) => text,
+        Err(NoMemory) => return Err(Refusal::Memory),
+    };
+    match files.write(alloc, name.items.as_str(), &text) {
+        Ok(()) => Ok(()),
+        Err(StoreError::Failed) => Err(Refusal::Store(name.items.as_str())),
+        Err(StoreError::Memory) => Err(Refusal::Memory),
+    }
+}

@@ -1,0 +1,149 @@
+// The text of a machine as it stands: the report of a run, and the summary of a workload's.
+ghost use Rattle.std.specs.Prelude.{◌≡◌, ◌/◌, [], IfOk, length, map};
+ghost use Rattle.std.specs.List.{range_with_len};
+ghost use Rattle.std.specs.String.{string_bytes};
+ghost use Rattle.image_load.specs.Contents.{started};
+ghost use Rattle.tcc_program.specs.Cores.{printed};
+ghost use Rattle.tcc_rules.specs.Seen.{seen};
+ghost use Rattle.net_core.specs.Machine.{history_of, settings_of, start_of, world_of};
+ghost use Rattle.tcc_cli.specs.Runs.{RunsTo, run_text, shown, summary_text};
+
+use crate::laid::Laid;
+use image_load::Loaded;
+use net_core::System;
+use report_text::{CoreShown, Ending, Trial, Words, report, trial_summary};
+use std::alloc::Global;
+use std::marker::Model;
+use tcc_base::{CoreId, LineAddr, List, NoMemory};
+use tcc_refine::Refined;
+use work_gen::Work;
+
+/// A text, and whether what it tells of has run to its end.
+#[derive(Debug, Drop)]
+pub struct Finished {
+    pub done: bool,
+    pub text: String,
+}
+
+/// RAM as the machine has committed it, where all that was sent stands on its links.
+#[derive(Drop)]
+struct Committed<'a> {
+    system: &'a System,
+    done: bool,
+}
+
+impl<'a> Model for Committed<'a> {
+    ghost use Rattle.std.specs.Prelude.{◌≡◌, [], IsTrue};
+    ghost use Rattle.net_core.specs.Machine.{Machine, settings_of, world_of};
+    ghost use Rattle.tcc_rules.specs.Seen.{IsDone};
+
+    ghost Value = { Machine };
+
+    ghost view = { λ c. c.system.now };
+
+    ghost invariant = { λ c. (c.system.now.unsent ≡ []) × (IsTrue c.done → IsDone (settings_of c.system.now) (world_of c.system.now)) };
+}
+
+impl<'a> Words for Committed<'a> {
+    ghost words = { λ m. seen (settings_of m) (world_of m) };
+
+    ghost count = { λ m. (settings_of m).ram / 4 };
+
+    fn line_count(&self) -> usize {
+        self.system.config().words() as usize / 8
+    }
+
+    fn line(&self, line: LineAddr) -> [u32; 8] {
+        if self.done {
+            self.system.home_line(line)
+        } else {
+            self.system.seen_line(line)
+        }
+    }
+}
+
+/// What the commits of each core printed.
+fn consoles(alloc: Global, system: &System) -> Result<List<List<u8>>, NoMemory>
+    ensures { IfOk result (λ cs. cs ≡ map (λ core. printed core system.now.commits) (range_with_len 0 (settings_of system.now).cores)) }
+{
+    let mut consoles = List::new(alloc);
+    for c in 0..system.config().cores() {
+        consoles.push(system.console(alloc, CoreId(c))?)?;
+    }
+    Ok(consoles)
+}
+
+/// The cores as their commits left them.
+fn cores<'a>(
+    alloc: Global,
+    system: &System,
+    consoles: &'a List<List<u8>>,
+) -> Result<List<CoreShown<'a>>, NoMemory>
+    requires { consoles.now ≡ map (λ core. printed core system.now.commits) (range_with_len 0 (settings_of system.now).cores) }
+    ensures { IfOk result (λ cs. cs ≡ (shown (start_of system.now) (history_of system.now)).cores) }
+{
+    let mut cores = List::new(alloc);
+    for c in 0..system.config().cores() {
+        let core = CoreId(c);
+        let check = system.committed(core);
+        cores.push(CoreShown {
+            end: system.ended(core),
+            pc: check.pc(),
+            regs: *check.regs(),
+            console: &consoles.items[c as usize].items,
+        })?;
+    }
+    Ok(cores)
+}
+
+/// The report of a machine as it stands, which began with what was loaded.
+pub fn report_of(alloc: Global, loaded: &Loaded, refined: &Refined) -> Result<Finished, NoMemory>
+    requires code { refined.now.machine.cores.code ≡ loaded.now }
+    requires settled { refined.now.machine.unsent ≡ [] }
+    ensures runs { IfOk result (λ f. RunsTo (started loaded.now) refined.now.taken f.done (history_of refined.now.machine)) }
+    ensures text { IfOk result (λ f. string_bytes f.text
+        ≡ run_text (started loaded.now) f.done (length refined.now.taken) (history_of refined.now.machine)) }
+{
+    let system = refined.system();
+    let done = system.done();
+    let consoles = consoles(alloc, system)?;
+    let cores = cores(alloc, system, &consoles)?;
+    let ending = Ending {
+        commits: system.commits(),
+        cores: &cores.items,
+        base: system.config().base(),
+        ram: &Committed { system, done },
+        loaded: &Laid { loaded },
+    };
+    let text = report(alloc, done, refined.taken().len() as u64, &ending)?;
+    Ok(Finished { done, text })
+}
+
+/// The summary of a workload's run as it stands, which began with what was loaded.
+pub fn summary_of(
+    alloc: Global,
+    loaded: &Loaded,
+    refined: &Refined,
+    work: Work,
+    number: u32,
+) -> Result<Finished, NoMemory>
+    requires code { refined.now.machine.cores.code ≡ loaded.now }
+    requires settled { refined.now.machine.unsent ≡ [] }
+    ensures runs { IfOk result (λ f. RunsTo (started loaded.now) refined.now.taken f.done (history_of refined.now.machine)) }
+    ensures text { IfOk result (λ f. string_bytes f.text
+        ≡ summary_text (started loaded.now) work number f.done (length refined.now.taken) (history_of refined.now.machine)) }
+{
+    let system = refined.system();
+    let done = system.done();
+    let trial = Trial {
+        work,
+        number,
+        done,
+        events: refined.taken().len() as u64,
+        commits: system.commits().len(),
+        ram: &Committed { system, done },
+        loaded: &Laid { loaded },
+    };
+    let text = trial_summary(alloc, &trial)?;
+    Ok(Finished { done, text })
+}

@@ -1,0 +1,95 @@
+// What each command comes to, from what was loaded.
+ghost use Rattle.std.specs.Prelude.{◌≡◌, ◌≢◌, ◌≤◌, ℕ, List as Seq, IfErr, IfOk, Some};
+ghost use Rattle.std.specs.String.{string_bytes};
+ghost use Rattle.image_load.specs.Contents.{started};
+ghost use Rattle.tcc_cli.specs.Failing.{IsNotWritten, IsScheduleRefused};
+ghost use Rattle.tcc_cli.specs.Runs.{run_text, summary_text};
+ghost use Rattle.tcc_cli.specs.Schedules.{IsPicked, IsRecorded, IsScheduleOf, Ran};
+
+use crate::records::record;
+use crate::refusal::Refusal;
+use crate::reports::{Finished, report_of, summary_of};
+use crate::schedules::{pick, run_file};
+use image_load::Loaded;
+use std::alloc::Global;
+use tcc_base::{Config, NoMemory, Text};
+use tcc_world::Store;
+use work_gen::Work;
+
+/// A run that a seed picks, its record where one is named, and its report.
+pub fn run_recorded<'a, F: Store>(
+    alloc: Global,
+    loaded: &Loaded,
+    seed: u64,
+    steps: u64,
+    keep: &'a Option<Text>,
+    files: &mut F,
+) -> Result<Finished, Refusal<'a>>
+    requires few { steps ≤ 4194304 }
+    ensures ran { IfOk result (λ f. Ran (started loaded.now)
+        (λ es. IsPicked (started loaded.now) seed steps es
+        × IsRecorded keep.now (F.tells files.old) (F.contents files.new) (record { config = loaded.now.settings; events = es }))
+        (run_text (started loaded.now)) f.done (string_bytes f.text)) }
+    ensures failed { IfErr result (IsNotWritten keep.now (record {
+      tells = F.tells files.old;
+      before = F.contents files.old;
+      after = F.contents files.new;
+      reads_before = F.failed_reads files.old;
+      reads_after = F.failed_reads files.new;
+      writes_before = F.failed_writes files.old;
+      writes_after = F.failed_writes files.new;
+    })) }
+    ensures others { (n : Seq ℕ) → keep.now ≢ Some n → F.contents files.new n ≡ F.contents files.old n }
+{
+    let refined = match pick(alloc, loaded, seed, steps) {
+        Ok(refined) => refined,
+        Err(NoMemory) => return Err(Refusal::Memory),
+    };
+    match record(alloc, keep, &refined, files) {
+        Ok(()) => {}
+        Err(refusal) => return Err(refusal),
+    }
+    match report_of(alloc, loaded, &refined) {
+        Ok(finished) => Ok(finished),
+        Err(NoMemory) => Err(Refusal::Memory),
+    }
+}
+
+/// The run of the schedule that a file holds, and its report; or the line at which the schedule is refused.
+pub fn run_again<'a>(
+    alloc: Global,
+    loaded: &Loaded,
+    config: &Config,
+    bytes: &[u8],
+) -> Result<Finished, Refusal<'a>>
+    requires { loaded.now.settings ≡ config.now }
+    ensures ran { IfOk result (λ f. Ran (started loaded.now) (λ es. IsScheduleOf config.now es bytes.now)
+        (run_text (started loaded.now)) f.done (string_bytes f.text)) }
+    ensures refused { IfErr result (IsScheduleRefused (started loaded.now) config.now bytes.now) }
+{
+    let refined = match run_file(alloc, loaded, config, bytes) {
+        Ok(refined) => refined,
+        Err(refusal) => return Err(refusal),
+    };
+    match report_of(alloc, loaded, &refined) {
+        Ok(finished) => Ok(finished),
+        Err(NoMemory) => Err(Refusal::Memory),
+    }
+}
+
+/// A workload's run that a seed picks, and its summary.
+pub fn run_trial(
+    alloc: Global,
+    loaded: &Loaded,
+    work: Work,
+    number: u32,
+    seed: u64,
+    steps: u64,
+) -> Result<Finished, NoMemory>
+    requires few { steps ≤ 4194304 }
+    ensures { IfOk result (λ f. Ran (started loaded.now) (IsPicked (started loaded.now) seed steps)
+        (summary_text (started loaded.now) work number) f.done (string_bytes f.text)) }
+{
+    let refined = pick(alloc, loaded, seed, steps)?;
+    summary_of(alloc, loaded, &refined, work, number)
+}

@@ -1,0 +1,88 @@
+// The machine after a schedule: one that a seed picks, or one that a file holds.
+ghost use Rattle.std.specs.Prelude.{◌≡◌, ◌≤◌, [], IfErr, IfOk, length, map};
+ghost use Rattle.image_load.specs.Contents.{started};
+ghost use Rattle.tcc_cli.specs.Failing.{HasLine, IsReadFault, IsScheduleRefused, replay_refusal, text_refusal};
+ghost use Rattle.tcc_cli.specs.Runs.{picked_by};
+ghost use Rattle.tcc_cli.specs.Schedules.{IsScheduleOf};
+ghost use Rattle.tcc_msg.specs.Plain.{event_of};
+
+use crate::refusal::Refusal;
+use image_load::Loaded;
+use schedule_text::{TextFault, read};
+use std::alloc::Global;
+use tcc_base::{Config, NoMemory};
+use tcc_msg::Schedule;
+use tcc_pick::Chooser;
+use tcc_refine::Refined;
+use tcc_replay::{ReplayFault, replay};
+use tcc_rules::a_picked_schedule_is_a_run;
+
+/// The machine after at most so many events that a seed picks.
+pub fn pick(alloc: Global, loaded: &Loaded, seed: u64, steps: u64) -> Result<Refined, NoMemory>
+    requires few { steps ≤ 4194304 }
+    ensures code { IfOk result (λ r. r.machine.cores.code ≡ loaded.now) }
+    ensures picked { IfOk result (λ r. map event_of r.taken ≡ picked_by (started loaded.now) seed steps) }
+    ensures few { IfOk result (λ r. length r.taken ≤ steps) }
+    ensures settled { IfOk result (λ r. r.machine.unsent ≡ []) }
+{
+    a_picked_schedule_is_a_run();
+    let mut refined = Refined::start(alloc, loaded)?;
+    Chooser::new(seed).run(&mut refined, steps as u32)?;
+    Ok(refined)
+}
+
+/// The schedule that a file holds, with these settings; or the first line at fault.
+fn schedule_in(alloc: Global, config: &Config, bytes: &[u8]) -> Result<Schedule, TextFault>
+    ensures schedule { IfOk result (λ s. IsScheduleOf config.now s.events bytes.now) }
+    ensures fault { IfErr result (IsReadFault config.now bytes.now) }
+{
+    let schedule = read(alloc, bytes)?;
+    if schedule.config != *config {
+        return Err(TextFault::Line(2));
+    }
+    Ok(schedule)
+}
+
+/// What a fault of a text is to the program.
+pub fn of_text<'a>(fault: TextFault) -> Refusal<'a>
+    ensures { result ≡ text_refusal fault }
+{
+    match fault {
+        TextFault::Line(line) => Refusal::Schedule(line),
+        TextFault::Memory => Refusal::Memory,
+    }
+}
+
+/// What a fault of a replay is to the program. The event of number i stands on line i + 3.
+fn of_replay<'a>(fault: ReplayFault) -> Refusal<'a>
+    requires { HasLine fault }
+    ensures { result ≡ replay_refusal fault }
+{
+    match fault {
+        ReplayFault::Refused(i) => Refusal::Schedule(i + 3),
+        ReplayFault::Memory => Refusal::Memory,
+    }
+}
+
+/// The machine after the schedule that a file holds, whole; or the line at which it is refused.
+pub fn run_file<'a>(
+    alloc: Global,
+    loaded: &Loaded,
+    config: &Config,
+    bytes: &[u8],
+) -> Result<Refined, Refusal<'a>>
+    requires { loaded.now.settings ≡ config.now }
+    ensures code { IfOk result (λ r. r.machine.cores.code ≡ loaded.now) }
+    ensures schedule { IfOk result (λ r. IsScheduleOf config.now r.taken bytes.now) }
+    ensures settled { IfOk result (λ r. r.machine.unsent ≡ []) }
+    ensures refused { IfErr result (IsScheduleRefused (started loaded.now) config.now bytes.now) }
+{
+    let schedule = match schedule_in(alloc, config, bytes) {
+        Ok(schedule) => schedule,
+        Err(fault) => return Err(of_text(fault)),
+    };
+    match replay(alloc, loaded, &schedule.events.items) {
+        Ok(refined) => Ok(refined),
+        Err(fault) => Err(of_replay(fault)),
+    }
+}
