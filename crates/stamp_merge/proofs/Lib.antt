@@ -1,0 +1,4 @@
+-- The proofs of this crate.
+mod Laws
+pub mod Lemmas
+mod Sorting
