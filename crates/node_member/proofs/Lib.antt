@@ -1,0 +1,6 @@
+mod Every
+mod Events
+mod Choices
+mod Taken
+mod Starts
+mod Members

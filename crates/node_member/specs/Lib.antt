@@ -1,0 +1,6 @@
+-- What the contracts of this crate cite.
+pub mod Data
+pub mod DataInside
+pub mod Own
+pub mod Placed
+pub mod Acting

@@ -1,0 +1,11 @@
+// A core, a directory or the vendor, as one member of a machine whose nodes are kept apart: it acts by the rules of its kind.
+#![tactic(auto)]
+
+mod acting;
+mod choosing;
+mod kind;
+mod member;
+#[cfg(test)]
+mod tests;
+
+pub use member::Member;
