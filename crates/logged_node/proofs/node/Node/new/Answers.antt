@@ -1,0 +1,13 @@
+-- A node that has done nothing.
+use Rattle.std.proofs.Common.{refl}
+use Rattle.logged_node.specs.Node.{last_from}
+use Rattle.logged_node.proofs.Keeping.Starting.{starts}
+use Rattle.logged_node.proofs.node.Node.new.Goals as goal
+
+pub invariant_of-result : goal.invariant_of-result
+unfolding last_from
+invariant_of-result c = record {
+  last = rw c.new.ensures.items refl;
+  node = rw (c.new-room.ensures, c.new.ensures.items, c.node.ensures.value)
+      (starts c.args.config.now c.args.member c.args.ports.items c.requires.unused c.requires.start c.requires.settings c.requires.idle);
+}

@@ -1,0 +1,13 @@
+// A node of a machine whose nodes are kept apart: a member that acts by itself, with its ends of the links to its peers, what has arrived
+// there and waits, and the log of its events.
+#![tactic(auto)]
+
+mod acting;
+mod choosing;
+mod node;
+mod peers;
+mod port;
+mod room;
+
+pub use node::{Act, Node};
+pub use port::Port;

@@ -1,0 +1,204 @@
+// A node's ends of the links to and from one peer, and the messages from there that wait.
+ghost use Rattle.std.specs.Prelude.{◌≡◌, ◌^◌, ◌<◌, ◌≤◌, ◌∷◌, ◌++◌, [], ℕ, List, length, slice_get, Some, OnOk, OnErr, IfOk, IfErr, IsTrue, max};
+ghost use Rattle.tcc_maps.specs.Bridge.{node_of};
+ghost use Rattle.tcc_maps.specs.Nodes.{Deliver};
+ghost use Rattle.tcc_msg.specs.Plain.{msg_of};
+ghost use Rattle.node_logs.specs.Carried.{IsCarried};
+ghost use Rattle.node_member.specs.Acting.{MayDo};
+ghost use Rattle.logged_node.specs.Choice.{is_ready as may_take, ready_in};
+ghost use Rattle.logged_node.specs.Deeds.{IsLetter};
+ghost use Rattle.logged_node.specs.Moves.{Takes};
+ghost use Rattle.logged_node.specs.Ports.{ArePaired, all_but};
+
+use net_links::{Inlet, Outlet, link};
+use node_logs::Mail;
+use node_member::Member;
+use std::alloc::Global;
+use std::marker::Model;
+use std::sync::Wait;
+use tcc_base::{Config, NoMemory, NodeId};
+
+/// No event has a later stamp.
+const LAST_STAMP: u64 = 0x4000_0000_0000_0000;
+
+/// A message that waits: its place in the pool, and its number on the link.
+#[derive(Clone, Copy, Debug)]
+pub(crate) struct Letter {
+    pub place: usize,
+    pub number: u64,
+    pub mail: Mail,
+}
+
+/// A node's ends of the links to and from one peer, and the pool of messages from there that have arrived and aren't handled.
+#[derive(Drop)]
+pub struct Port {
+    peer: NodeId,
+    outlet: Outlet,
+    inlet: Inlet,
+    pool: Vec<(u64, Mail)>,
+    /// How many messages were taken from the inlet.
+    taken: u64,
+}
+
+impl Model for Port {
+    ghost use Rattle.logged_node.specs.Ports.{PortData};
+
+    ghost Value = { PortData };
+
+    ghost use Rattle.logged_node.specs.PortInside.{port_of, IsPortInside};
+
+    ghost view = { port_of };
+
+    ghost invariant = { IsPortInside };
+}
+
+// Whether the member would take the message now, and there is a stamp for that.
+fn is_ready(member: &Member, last: u64, src: NodeId, mail: &Mail) -> bool
+    requires { IsCarried member.now.code.settings (node_of src) (node_of member.now.node) (msg_of mail.now.msg) }
+    ensures ready { result ≡ may_take member.now last (node_of src) mail.now }
+    ensures early { IsTrue result → max last mail.now.stamp < 2 ^ 62 }
+    ensures may { (seq : ℕ) → IsTrue result → MayDo member.now (Deliver (node_of src) (node_of member.now.node) seq) (Some (msg_of mail.now.msg)) }
+{
+    last.max(mail.stamp) < LAST_STAMP && member.takes(src, &mail.msg)
+}
+
+impl Port {
+    /// A port to this peer, from whose link nothing was taken. Takes no memory.
+    pub fn new(alloc: Global, peer: NodeId, outlet: Outlet, inlet: Inlet) -> Port
+        requires peer { inlet.ends.src ≡ peer }
+        requires unused { inlet.got ≡ [] }
+        ensures { result ≡ record { outlet = outlet; inlet = inlet; pool = [] } }
+    {
+        Port {
+            peer,
+            outlet,
+            inlet,
+            pool: Vec::new(alloc),
+            taken: 0,
+        }
+    }
+
+    /// The ports of two nodes to one another, over two new links. Takes memory for the links; where there is none to be had, nothing is
+    /// left of them.
+    pub fn pair(
+        alloc: Global,
+        config: &Config,
+        one: NodeId,
+        other: NodeId,
+    ) -> Result<(Port, Port), NoMemory>
+        ensures { IfOk result (λ p. ArePaired config.now one other p.0 p.1) }
+    {
+        let (there, arrives) = link(alloc, config, one, other)?;
+        let (back, returns) = link(alloc, config, other, one)?;
+        Ok((
+            Port::new(alloc, other, there, returns),
+            Port::new(alloc, one, back, arrives),
+        ))
+    }
+
+    /// Which node the peer is.
+    pub(crate) fn peer(&self) -> NodeId
+        ensures { result ≡ self.now.inlet.ends.src }
+    {
+        self.peer
+    }
+
+    /// Sends a message to the peer. After want of memory nothing is changed.
+    pub(crate) fn send<R: Wait>(&mut self, rt: &R, mail: Mail) -> Result<(), NoMemory>
+        requires { IsCarried self.old.outlet.ends.settings (node_of self.old.outlet.ends.src) (node_of self.old.outlet.ends.dst) (msg_of mail.msg) }
+        ensures sent { OnOk result (self.new ≡ record self.old { outlet = record self.old.outlet { sent = self.old.outlet.sent ++ mail ∷ [] } }) }
+        ensures unchanged { OnErr result (self.new ≡ self.old) }
+    {
+        self.outlet.push(rt, mail)
+    }
+
+    /// Takes the next message from the link into the pool, and tells whether there was one.
+    fn take_in<R: Wait>(&mut self, rt: &R) -> Result<bool, NoMemory>
+        ensures { Takes self.old self.new }
+    {
+        if self.taken == u64::MAX {
+            return Ok(false);
+        }
+        if self.pool.reserve(1).is_err() {
+            return Err(NoMemory);
+        }
+        let Some(mail) = self.inlet.pop(rt) else {
+            return Ok(false);
+        };
+        self.pool.push_reserved((self.taken, mail));
+        self.taken += 1;
+        Ok(true)
+    }
+
+    /// Takes all that has arrived from the link into the pool. After want of memory the rest is on the link as before.
+    pub(crate) fn gather<R: Wait>(&mut self, rt: &R) -> Result<(), NoMemory>
+        ensures { Takes self.old self.new }
+    {
+        for _ in rt.forever() {
+            if !self.take_in(rt)? {
+                break;
+            }
+        }
+        Ok(())
+    }
+
+    /// How many of the waiting messages the member would take now.
+    pub(crate) fn ready_count(&self, member: &Member, last: u64) -> usize
+        requires settings { self.now.inlet.ends.settings ≡ member.now.code.settings }
+        requires own { node_of self.now.inlet.ends.dst ≡ node_of member.now.node }
+        ensures { result ≡ length (ready_in member.now last self.now) }
+    {
+        let mut count = 0;
+        for (_, mail) in &self.pool {
+            if is_ready(member, last, self.peer, mail) {
+                count += 1;
+            }
+        }
+        count
+    }
+
+    /// The k-th of them, from 0; where there is none, how many there are.
+    pub(crate) fn ready_at(&self, member: &Member, last: u64, k: usize) -> Result<Letter, usize>
+        requires settings { self.now.inlet.ends.settings ≡ member.now.code.settings }
+        requires own { node_of self.now.inlet.ends.dst ≡ node_of member.now.node }
+        ensures letter { IfOk result (λ l. IsLetter self.now l) }
+        ensures kth { IfOk result (λ l. slice_get (ready_in member.now last self.now) k ≡ Some (l.number, l.mail)) }
+        ensures early { IfOk result (λ l. max last l.mail.stamp < 2 ^ 62) }
+        ensures may { IfOk result (λ l. MayDo member.now (Deliver (node_of self.now.inlet.ends.src) (node_of member.now.node) l.number) (Some (msg_of l.mail.msg))) }
+        ensures count { IfErr result (λ n. n ≡ length (ready_in member.now last self.now)) }
+        ensures past { IfErr result (λ n. n ≤ k) }
+    {
+        let mut count = 0;
+        for (place, (number, mail)) in self.pool.iter().enumerate() {
+            if is_ready(member, last, self.peer, mail) {
+                if count == k {
+                    return Ok(Letter {
+                        place,
+                        number: *number,
+                        mail: *mail,
+                    });
+                }
+                count += 1;
+            }
+        }
+        Err(count)
+    }
+
+    /// Takes a message out of the pool. The others stay in their order.
+    pub(crate) fn drop_letter(&mut self, letter: &Letter)
+        requires { IsLetter self.old letter.now }
+        ensures { self.new ≡ record self.old { pool = all_but letter.now.number self.old.pool } }
+    {
+        let _ = self.pool.remove(letter.place);
+    }
+
+    /// What the peer's port has taken is a beginning of what was sent here.
+    pub(crate) fn hear<R: Wait>(&mut self, rt: &R, peer: &mut Port)
+        requires { peer.old.inlet.link ≡ self.old.outlet.link }
+        ensures begins { (rest : List Mail) × (self.old.outlet.sent ≡ peer.old.inlet.got ++ rest) }
+        ensures unchanged { self.new ≡ self.old }
+        ensures peer { peer.new ≡ peer.old }
+    {
+        self.outlet.hear(rt, &mut peer.inlet);
+    }
+}
