@@ -1,0 +1,18 @@
+// All nodes of a machine with their links: in one thread, and each behind a lock of its own for any number of threads.
+#![tactic(auto)]
+
+mod closing;
+mod desk;
+mod farm;
+mod making;
+mod nodes;
+mod places;
+mod setup;
+#[cfg(test)]
+mod tests;
+mod ticket;
+
+pub use farm::Farm;
+pub use nodes::Nodes;
+pub use setup::Setup;
+pub use ticket::Ticket;
