@@ -1,0 +1,12 @@
+// Workers: threads that take turns at the nodes of a farm, and one that goes round after them.
+#![tactic(auto)]
+
+mod plan;
+mod shift;
+mod slots;
+#[cfg(test)]
+mod tests;
+mod working;
+
+pub use plan::{Ended, WorkPlan};
+pub use working::work;
