@@ -35,6 +35,7 @@ counters, transfers, stencil or sharing, NUMBER how many transactions of it each
   --seed N       what the choice of events begins with: 0 to 18446744073709551615 (0)
  run:
   --record NAME  the file to which the schedule is written when the run has ended
+  --threads N    so many host threads act on the machine at once: 1 to 16, only with --record
 
 The default stands in brackets. Numbers are decimal, or hexadecimal behind 0x. Options may stand anywhere behind the command, as
 --name value or as --name=value. For example, two cores, and a record of their events:

@@ -17,7 +17,7 @@ use Rattle.tcc_cli.specs.Lines.{IsWhole, Written}
 use Rattle.tcc_cli.specs.Refusals.{End, status_of}
 use Rattle.tcc_cli.specs.Runs.{IsRun, RunsTo, run_text}
 use Rattle.tcc_cli.specs.Schedules.{Comes, IsFaultyLine, IsPicked, IsRecorded, IsScheduleOf, Ran}
-use Rattle.tcc_cli.specs.Top.{Caused, Ends, EndsOf, IsAsked, IsTurnedAway, Started}
+use Rattle.tcc_cli.specs.Top.{Caused, Ends, EndsOf, IsTurnedAway, Started}
 use Rattle.tcc_cli.specs.declared.refusal.Refusal.TheVariants as why
 use Rattle.tcc_cli.specs.declared.status.Status.{Status}
 use Rattle.tcc_cli.specs.declared.status.Status.TheVariants.{Done, Stopped, Memory}
@@ -25,6 +25,7 @@ use Rattle.tcc_msg.specs.declared.event.Event.{Event}
 use Rattle.tcc_msg.specs.declared.event.Schedule.{Schedule}
 use Rattle.tcc_rules.specs.Seen.{IsDone}
 use Rattle.tcc_rules.specs.Step.{History}
+use Rattle.tcc_words.specs.Asked.{IsCommand}
 use Rattle.tcc_words.specs.declared.command.Command.{Command}
 use Rattle.tcc_words.specs.declared.command.Command.TheVariants.{Run, Replay}
 use Rattle.tcc_words.specs.declared.command.Machine.{Machine}
@@ -61,7 +62,7 @@ not-away words status (Err why.Memory) is away (inl e) = absurd (cc)
 not-away words status (Err why.Memory) is away (inr e) = absurd (cc)
 not-away words status _ is away e = away
 
-well : Facts → (words : List (List ℕ)) (w : Around) (err : Written) (status : Status) (c : Command) → IsAsked words c
+well : Facts → (words : List (List ℕ)) (w : Around) (err : Written) (status : Status) (c : Command) → IsCommand words c
     → Caused words w err status
     → (status ≡ Done) ⊎ (status ≡ Stopped) → EndedWell c w status
 well f words w err status c a h e = go (of-command f words w c h.end a h.ends)
@@ -138,7 +139,7 @@ after-run : (f : Facts) (w v : Around) (run replay : List (List ℕ)) (e : Writt
     (name : List ℕ) (r : ReplaysRecord w v run replay machine images name) → Caused run w e status
     → (status ≡ Done) ⊎ (status ≡ Stopped) → Left f w v machine images name r.files status
 after-run f w v run replay e status machine images name r h good =
-    let c = Run machine images r.steps r.seed None (Some name) in
+    let c = Run machine images r.steps r.seed r.threads (Some name) in
     let x = well f run w e status c r.first h good in
     let (read, text, started, ran, whole) = x.ends in
     let same = given-told w.files.before images r.files read r.told started.given in
@@ -146,7 +147,7 @@ after-run f w v run replay e status machine images name r h good =
     let bytes = text_of (record { config = machine.config; events = ran.events }) in
     let stays : (n : List ℕ) → Contains images n → w.files.after n ≡ w.files.before n = λ n here.
     h.others n (λ d asked named. other-name name n images here r.apart
-    (sym (ap record_of (f.one_command run d c asked.command r.first.command)) ∙ named)) in
+    (sym (ap record_of (f.one_command run d c asked r.first)) ∙ named)) in
     let images_told : AreTold w.files.after images r.files = images-stay w.files.before w.files.after images r.files stays r.told in
     let recorded : w.files.after name ≡ Some bytes = told-so w.files.tells (w.files.after name) bytes r.tells ran.schedule.1.1 in
     record {
@@ -198,7 +199,7 @@ prints-the-same f w v run replay e g status other machine images name r h good a
     } in
     let well_again = good-again c files other l.images_are
     (λ line faulty. excluded f c files v.files.tells v.files.after l.done l.text line
-    (f.in_bounds replay c r.second.command) ran faulty) enough
+    (f.in_bounds replay c r.second) ran faulty) enough
     (answers_complete f replay v g other c files again r.second l.told none) in
     let x = well f replay v g other c r.second again well_again in
     let (read, text, started, ran_again, whole) = x.ends in

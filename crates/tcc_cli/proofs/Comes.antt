@@ -23,35 +23,6 @@ pub start_settings : (raw : Bool) (s : Settings) (files : List (List ℕ)) → (
 unfolding start_of image_load.start
 start_settings raw s files = refl
 
-pub run-comes : (l : Contents) (machine : Machine) (images : List (List ℕ)) (steps seed : ℕ) (threads : Option ℕ) (keep : Option (List ℕ))
-    (files : List (List ℕ)) (tells : Bool) (told : List ℕ → Option (List ℕ)) (done : Bool) (text : List ℕ)
-    → started l ≡ start_from (Run machine images steps seed threads keep) files → l.settings ≡ machine.config
-    → Ran (started l) (λ es. IsPicked (started l) seed steps es × IsRecorded keep tells told (record { config = l.settings; events = es }))
-    (run_text (started l)) done text
-    → Comes (Run machine images steps seed threads keep) files tells told done text
-run-comes l machine images steps seed threads keep files tells told done text start settings ran =
-    subst (λ s. Ran s (λ es. IsPicked s seed steps es × IsRecorded keep tells told (record { config = machine.config; events = es }))
-    (run_text s) done text) start
-    (subst (λ c. Ran (started l) (λ es. IsPicked (started l) seed steps es × IsRecorded keep tells told
-    (record { config = c; events = es }))
-    (run_text (started l)) done text) settings ran)
-
-pub replay-comes : (l : Contents) (machine : Machine) (schedule : List ℕ) (images : List (List ℕ)) (files : List (List ℕ)) (bytes : List ℕ)
-    (tells : Bool) (told : List ℕ → Option (List ℕ)) (done : Bool) (text : List ℕ)
-    → started l ≡ start_from (Replay machine schedule images) files → bytes ≡ head_of files
-    → Ran (started l) (λ es. IsScheduleOf machine.config es bytes) (run_text (started l)) done text
-    → Comes (Replay machine schedule images) files tells told done text
-replay-comes l machine schedule images files bytes tells told done text start head ran =
-    subst (λ s. Ran s (λ es. IsScheduleOf machine.config es (head_of files)) (run_text s) done text) start
-    (subst (λ b. Ran (started l) (λ es. IsScheduleOf machine.config es b) (run_text (started l)) done text) head ran)
-
-pub trial-comes : (l : Contents) (c : Command) (files : List (List ℕ)) (work : Work) (number steps seed : ℕ) (done : Bool) (text : List ℕ)
-    → started l ≡ start_from c files
-    → Ran (started l) (IsPicked (started l) seed steps) (summary_text (started l) work number) done text
-    → Ran (start_from c files) (IsPicked (start_from c files) seed steps) (summary_text (start_from c files) work number) done text
-trial-comes l c files work number steps seed done text start ran =
-    subst (λ s. Ran s (IsPicked s seed steps) (summary_text s work number) done text) start ran
-
 -- a machine that was run and of which a text was made
 pub ran-so : {A E : Type 0} (s : Start) (IsSchedule : List Event → Type 0) (text_of_end : Bool → ℕ → History → List ℕ) (es : List Event)
     (h : History) (done : A → Bool) (text : A → List ℕ) (x : Result A E) → IsSchedule es → IfOk x (λ f. RunsTo s es (done f) h)

@@ -5,11 +5,11 @@ use Rattle.std.specs.Prelude.{IsSome}
 use Rattle.tcc_cli.proofs.Excluded.{excluded}
 use Rattle.tcc_cli.proofs.Facts.{Facts}
 use Rattle.tcc_cli.specs.Around.{Around}
-use Rattle.tcc_cli.specs.Commands.{IsThreaded, fault_from, files_of}
+use Rattle.tcc_cli.specs.Commands.{fault_from, files_of}
 use Rattle.tcc_cli.specs.Laws.{AnswersAreComplete, AreTold, HasNoFault, IsLeft, OthersAreRefused}
 use Rattle.tcc_cli.specs.Reading.{AreGiven}
 use Rattle.tcc_cli.specs.Refusals.{End, status_of}
-use Rattle.tcc_cli.specs.Top.{AsksForNothing, Ends, EndsOf, IsAsked, IsTurnedAway, Started}
+use Rattle.tcc_cli.specs.Top.{Ends, EndsOf, IsTurnedAway, Started}
 use Rattle.tcc_cli.specs.Schedules.{Comes, IsFaultyLine}
 use Rattle.tcc_cli.specs.declared.refusal.ImageFault.{ImageFault}
 use Rattle.tcc_cli.specs.declared.refusal.Refusal.TheVariants as why
@@ -37,17 +37,15 @@ given-told told (n ∷ ns) (f ∷ fs) (r ∷ rs) h g =
     let first : f ≡ r = subst (λ t. Gives t r) is g.0 in
     ap (λ x. x ∷ rs) (sym first) ∙ ap (λ xs. f ∷ xs) (given-told told ns fs rs (ap (λ os. drop 1 os) h) g.1)
 
--- words that ask for a command don't ask for nothing
-asked-for : Facts → (words : List (List ℕ)) (c : Command) → IsAsked words c → AsksForNothing words → ⊥
-asked-for f words c a (inl refused) = unlike (f.not_refused words c fault.Words a.command refused)
+-- words that ask for a command aren't refused
+not-refused : Facts → (words : List (List ℕ)) (c : Command) → IsCommand words c → IsRefused words fault.Words → ⊥
+not-refused f words c a refused = unlike (f.not_refused words c fault.Words a refused)
   where
     unlike : fault.Words ≡ fault.Memory → ⊥
     unlike e = absurd (cc)
-asked-for f words c a (inr (d, command, threaded)) =
-    a.one_thread (subst IsThreaded (f.one_command words d c command a.command) threaded)
 
-no-value : Facts → (words : List (List ℕ)) (c : Command) (field : Field) → IsAsked words c → IsRefused words (fault.Value field) → ⊥
-no-value f words c field a refused = unlike (f.not_refused words c (fault.Value field) a.command refused)
+no-value : Facts → (words : List (List ℕ)) (c : Command) (field : Field) → IsCommand words c → IsRefused words (fault.Value field) → ⊥
+no-value f words c field a refused = unlike (f.not_refused words c (fault.Value field) a refused)
   where
     unlike : fault.Value field ≡ fault.Memory → ⊥
     unlike e = absurd (cc)
@@ -105,34 +103,34 @@ left f w status c files (Err why.Output) bounds is (read, done, text, started, c
 left f w status c files (Err why.Memory) bounds is e told none = out-of-memory c files status is
 
 turned-away : Facts → (words : List (List ℕ)) (status : Status) (c : Command) (files : List (List ℕ)) (end : End) → status ≡ status_of end
-    → IsTurnedAway words end → IsAsked words c → IsLeft c files status
-turned-away f words status c files (Err why.Words) is away a = absurd (asked-for f words c a away)
+    → IsTurnedAway words end → IsCommand words c → IsLeft c files status
+turned-away f words status c files (Err why.Words) is away a = absurd (not-refused f words c a away)
 turned-away f words status c files (Err (why.Value field)) is away a = absurd (no-value f words c field a away)
 turned-away f words status c files (Err why.Memory) is away a = out-of-memory c files status is
 turned-away f words status c files _ is away a = absurd away
 
 -- the ends of the words are those of the one command that they ask for, or they ask for none
-pub of-command : Facts → (words : List (List ℕ)) (w : Around) (c : Command) (end : End) → IsAsked words c → Ends words w end
+pub of-command : Facts → (words : List (List ℕ)) (w : Around) (c : Command) (end : End) → IsCommand words c → Ends words w end
     → EndsOf c w end ⊎ IsTurnedAway words end
 of-command f words w c end a (inl (d, asked, ends)) =
-    inl (subst (λ x. EndsOf x w end) (f.one_command words d c asked.command a.command) ends)
+    inl (subst (λ x. EndsOf x w end) (f.one_command words d c asked a) ends)
 of-command f words w c end a (inr (away, untouched, silent)) = inr away
 
 answers-left : Facts → (words : List (List ℕ)) (w : Around) (status : Status) (c : Command) (files : List (List ℕ)) (end : End)
-    → status ≡ status_of end → EndsOf c w end ⊎ IsTurnedAway words end → IsAsked words c → AreTold w.files.before (files_of c) files
+    → status ≡ status_of end → EndsOf c w end ⊎ IsTurnedAway words end → IsCommand words c → AreTold w.files.before (files_of c) files
     → HasNoFault w → IsLeft c files status
 answers-left f words w status c files end is (inl ends) a told none = left f w status c files end
-    (f.in_bounds words c a.command) is ends told none
+    (f.in_bounds words c a) is ends told none
 answers-left f words w status c files end is (inr away) a told none = turned-away f words status c files end is away a
 
 pub answers_complete : Facts → AnswersAreComplete
 answers_complete f words w err status c files h a told none =
     answers-left f words w status c files h.end h.status_is (of-command f words w c h.end a h.ends) a told none
 
--- ---- the words are refused exactly where they ask for nothing
+-- ---- the words are refused exactly where they are no command
 
 refused_words : (words : List (List ℕ)) (w : Around) (status : Status) (end : End) → status ≡ status_of end → Ends words w end
-    → status ≢ Memory → ((c : Command) → IsAsked words c → ⊥) → status ≡ Words
+    → status ≢ Memory → ((c : Command) → IsCommand words c → ⊥) → status ≡ Words
 refused_words words w status end is (inl (d, asked, ends)) enough none = absurd (none d asked)
 refused_words words w status (Err why.Words) is (inr away) enough none = is
 refused_words words w status (Err (why.Value field)) is (inr away) enough none = is
@@ -152,14 +150,14 @@ command-not_words w status c (Err why.Output) is ends e = absurd (cc)
 command-not_words w status c (Err why.Memory) is ends e = absurd (cc)
 
 away-not_words : Facts → (words : List (List ℕ)) (status : Status) (c : Command) (end : End) → status ≡ status_of end
-    → IsTurnedAway words end → IsAsked words c → status ≡ Words → ⊥
-away-not_words f words status c (Err why.Words) is away a e = asked-for f words c a away
+    → IsTurnedAway words end → IsCommand words c → status ≡ Words → ⊥
+away-not_words f words status c (Err why.Words) is away a e = not-refused f words c a away
 away-not_words f words status c (Err (why.Value field)) is away a e = no-value f words c field a away
 away-not_words f words status c (Err why.Memory) is away a e = absurd (cc)
 away-not_words f words status c _ is away a e = away
 
 no_words : Facts → (words : List (List ℕ)) (w : Around) (status : Status) (end : End) → status ≡ status_of end → Ends words w end
-    → status ≡ Words → (c : Command) → IsAsked words c → ⊥
+    → status ≡ Words → (c : Command) → IsCommand words c → ⊥
 no_words f words w status end is (inl (d, asked, ends)) e c a = command-not_words w status d end is ends e
 no_words f words w status end is (inr (away, untouched, silent)) e c a = away-not_words f words status c end is away a e
 

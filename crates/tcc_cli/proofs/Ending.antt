@@ -2,13 +2,13 @@
 use Rattle.std.proofs.Common.{◌≡◌, ◌≢◌, ℕ, ◌<◌, List, [], ◌∷◌, ◌++◌, Bool, Option, Some, None, Ok, Err, inl, inr, refl, sym, ap, subst, ◌∙◌}
 use Rattle.image_load.specs.Contents.{Contents, started}
 use Rattle.tcc_cli.specs.Around.{Around, FilesAround, IsUntouched}
-use Rattle.tcc_cli.specs.Commands.{IsThreaded, fault_from, files_of, record_of}
+use Rattle.tcc_cli.specs.Commands.{fault_from, files_of, record_of}
 use Rattle.tcc_cli.specs.Failing.{IsNotWritten, IsStopped}
 use Rattle.tcc_cli.specs.Lines.{IsCut, IsSilent, IsTold, IsWhole, Written}
 use Rattle.tcc_cli.specs.Reading.{AreGiven, FailedFirst, RefusedFiles, RefusedImages}
 use Rattle.tcc_cli.specs.Refusals.{End, line_of, refusal_status, status_of, words_refusal}
 use Rattle.tcc_cli.specs.Schedules.{Comes}
-use Rattle.tcc_cli.specs.Top.{Caused, EndsOf, IsAsked, IsTurnedAway, Notes, Started}
+use Rattle.tcc_cli.specs.Top.{Caused, EndsOf, IsTurnedAway, Notes, Started}
 use Rattle.tcc_cli.specs.declared.refusal.ImageFault.{ImageFault}
 use Rattle.tcc_cli.specs.declared.refusal.Refusal.{Refusal}
 use Rattle.tcc_cli.specs.declared.refusal.Refusal.TheVariants as why
@@ -20,7 +20,7 @@ use Rattle.tcc_words.specs.declared.command.WordsFault.{WordsFault}
 use Rattle.tcc_words.specs.declared.command.WordsFault.TheVariants as fault
 
 away : (words : List (List ℕ)) (f : WordsFault) → IsRefused words f → IsTurnedAway words (Err (words_refusal f))
-away words fault.Words h = inl h
+away words fault.Words h = h
 away words (fault.Value field) h = h
 away words fault.Memory h = tt
 
@@ -35,52 +35,18 @@ words-refused words w err status f r h is untouched silent status_is told = reco
   others = λ n _. untouched n;
 }
 
-pub threads-refused : (words : List (List ℕ)) (w : Around) (err : Written) (status : Status) (c : Command) → IsCommand words c
-    → IsThreaded c
-    → IsUntouched w.files → IsSilent w.out → status ≡ refusal_status why.Words → IsTold (line_of why.Words) err → Caused words w err status
-threads-refused words w err status c h threaded untouched silent status_is told = record {
-  end = Err why.Words;
+pub command-ended : (words : List (List ℕ)) (w : Around) (err : Written) (status : Status) (c : Command) (end : End) → IsCommand words c
+    → EndsOf c w end → ((n : List ℕ) → record_of c ≢ Some n → w.files.after n ≡ w.files.before n)
+    → status ≡ status_of end → Notes err end → Caused words w err status
+command-ended words w err status c end h ends others status_is notes = record {
+  end = end;
   status_is = status_is;
-  ends = inr (inr (c, h, threaded), untouched, silent);
-  notes = told;
-  others = λ n _. untouched n;
+  ends = inl (c, h, ends);
+  notes = notes;
+  others = λ n none. others n (none c h);
 }
 
-pub command-ended : (words : List (List ℕ)) (w : Around) (err : Written) (status : Status) (c : Command) (end : End) → IsCommand words c
-    → (IsThreaded c → ⊥) → EndsOf c w end → ((n : List ℕ) → record_of c ≢ Some n → w.files.after n ≡ w.files.before n)
-    → status ≡ status_of end → Notes err end → Caused words w err status
-command-ended words w err status c end h alone ends others status_is notes =
-    let asked : IsAsked words c = record { command = h; one_thread = alone } in record {
-      end = end;
-      status_is = status_is;
-      ends = inl (c, asked, ends);
-      notes = notes;
-      others = λ n none. others n (none c asked);
-    }
-
--- ---- the steps of a command that refuse
-
-pub no-files : (c : Command) (w : Around) (names : List (List ℕ)) (r : Refusal) → names ≡ files_of c
-    → RefusedFiles w.files.before names w.files.reads_before w.files.reads_after r → IsUntouched w.files → IsSilent w.out
-    → EndsOf c w (Err r)
-no-files c w names (why.Store name) is h untouched silent =
-    (inl (subst (λ ns. FailedFirst w.files.before ns w.files.reads_before w.files.reads_after name.now) is h, untouched), silent)
-no-files c w names why.Memory is h untouched silent = silent
-no-files c w names why.Words is h untouched silent = h
-no-files c w names (why.Value field) is h untouched silent = h
-no-files c w names (why.Image bad) is h untouched silent = absurd h
-no-files c w names (why.Schedule line) is h untouched silent = absurd h
-no-files c w names why.Output is h untouched silent = absurd h
-
-pub no-image : (x : Option ImageFault) (c : Command) (w : Around) (files : List (List ℕ)) (r : Refusal) → x ≡ fault_from c files
-    → RefusedImages x r → AreGiven w.files.before (files_of c) files → IsUntouched w.files → IsSilent w.out → EndsOf c w (Err r)
-no-image x c w files (why.Image bad) is h given untouched silent = ((files, given, sym is ∙ h), untouched, silent)
-no-image x c w files why.Memory is h given untouched silent = silent
-no-image x c w files why.Words is h given untouched silent = h
-no-image x c w files (why.Value field) is h given untouched silent = h
-no-image x c w files (why.Schedule line) is h given untouched silent = absurd h
-no-image x c w files (why.Store name) is h given untouched silent = absurd h
-no-image x c w files why.Output is h given untouched silent = absurd h
+-- ---- the steps of a command
 
 -- the files and the images, where the same bytes stand in three places
 pub begun : (c : Command) (w : Around) (names read two three : List (List ℕ)) → names ≡ files_of c → AreGiven w.files.before names read

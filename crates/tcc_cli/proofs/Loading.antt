@@ -38,10 +38,6 @@ given_next told names d i files more file h given gives is =
     (subst (λ ns. AreGiven told ns (files ++ file ∷ [])) (sym split)
     (given_more told (now (take i names)) files (get_or names i d).now file given gives))
 
-pub given_same : (told : List ℕ → Option (List ℕ)) (names files more : List (List ℕ)) → more ≡ files → AreGiven told names files
-    → AreGiven told names more
-given_same told names files more is h = subst (λ fs. AreGiven told names fs) (sym is) h
-
 pub given_length : (told : List ℕ → Option (List ℕ)) (names files : List (List ℕ)) → AreGiven told names files
     → length names ≡ length files
 unfolding AreGiven

@@ -1,5 +1,5 @@
 -- What a command works on: its files, its machine and its images.
-use Rattle.std.specs.Prelude.{ℕ, true, List, [], ◌∷◌, Option, None, IsSome}
+use Rattle.std.specs.Prelude.{ℕ, true, List, [], ◌∷◌, Option, None}
 use Rattle.image_load.specs.Start.{Start}
 use Rattle.tcc_cli.specs.Images.{fault_of, start_of}
 use Rattle.tcc_cli.specs.declared.refusal.ImageFault.{ImageFault}
@@ -56,8 +56,3 @@ start_from c files = start_of (machine_of c).raw (machine_of c).config (images_i
 
 abbrev pub fault_from : Command → (files : List (List ℕ)) → Option ImageFault
 fault_from c files = fault_of (machine_of c).raw (machine_of c).config (images_in c files)
-
--- a run on host threads, which isn't there yet
-abbrev pub IsThreaded : Command → Type 0
-IsThreaded (Run machine images steps seed threads keep) = IsSome threads
-IsThreaded _ = ⊥

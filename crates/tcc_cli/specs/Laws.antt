@@ -1,12 +1,20 @@
 -- What follows from the program's answers.
-use Rattle.std.specs.Prelude.{ℕ, true, List, map, Contains, Option, IsSome, ◌≡◌, ◌≢◌, ◌↔◌, ◌⊎◌, Some, None}
+use Rattle.std.specs.Prelude.{ℕ, true, List, length, map, Contains, Option, IsSome, ◌≡◌, ◌≢◌, ◌↔◌, ◌⊎◌, Some, None}
+use Rattle.image_load.specs.Start.{Start}
+use Rattle.tcc_base.specs.Settings.{IsAllowed}
 use Rattle.tcc_cli.specs.Around.{Around}
 use Rattle.tcc_cli.specs.Commands.{fault_from, files_of}
 use Rattle.tcc_cli.specs.Lines.{Written, IsWhole}
-use Rattle.tcc_cli.specs.Schedules.{IsFaultyLine}
-use Rattle.tcc_cli.specs.Top.{Caused, IsAsked}
+use Rattle.tcc_cli.specs.Runs.{IsRun}
+use Rattle.tcc_cli.specs.Schedules.{IsFaultyLine, IsMade}
+use Rattle.tcc_cli.specs.Top.{Caused}
 use Rattle.tcc_cli.specs.declared.status.Status.{Status}
 use Rattle.tcc_cli.specs.declared.status.Status.TheVariants.{Done, Stopped, Words, Image, Schedule, Memory}
+use Rattle.tcc_msg.specs.Plain.{event_of}
+use Rattle.tcc_msg.specs.declared.event.Event.{Event}
+use Rattle.tcc_rules.specs.Seen.{IsDone}
+use Rattle.tcc_rules.specs.Step.{History}
+use Rattle.tcc_words.specs.Asked.{IsCommand}
 use Rattle.tcc_words.specs.declared.command.Command.{Command}
 use Rattle.tcc_words.specs.declared.command.Command.TheVariants.{Run, Replay}
 use Rattle.tcc_words.specs.declared.command.Machine.{Machine}
@@ -36,13 +44,19 @@ pub record IsLeft (c : Command) (files : List (List ℕ)) (status : Status) : Ty
 abbrev pub AnswersAreComplete : Type 0
 AnswersAreComplete =
     (words : List (List ℕ)) (w : Around) (err : Written) (status : Status) (c : Command) (files : List (List ℕ))
-    → Caused words w err status → IsAsked words c → AreTold w.files.before (files_of c) files → HasNoFault w → IsLeft c files status
+    → Caused words w err status → IsCommand words c → AreTold w.files.before (files_of c) files → HasNoFault w → IsLeft c files status
 
--- words that ask for nothing are refused, and no others, unless memory runs out
+-- words that are no command are refused, and no others, unless memory runs out
 abbrev pub OthersAreRefused : Type 0
 OthersAreRefused =
     (words : List (List ℕ)) (w : Around) (err : Written) (status : Status) → Caused words w err status → status ≢ Memory
-    → ((c : Command) → IsAsked words c → ⊥) ↔ (status ≡ Words)
+    → ((c : Command) → IsCommand words c → ⊥) ↔ (status ≡ Words)
+
+-- a run at whose end the machine isn't done took all the events that were asked for
+abbrev pub OpenRunsTakeAllEvents : Type 0
+OpenRunsTakeAllEvents =
+    (s : Start) (threads : Option ℕ) (seed steps : ℕ) (es : List Event) (h : History) → IsAllowed s.settings
+    → IsMade threads s seed steps es → IsRun s (map event_of es) h → (IsDone s.settings h.world → ⊥) → length es ≡ steps
 
 -- one text was written whole to both outputs
 abbrev pub IsSameText : (o p : Written) → Type 0
@@ -54,8 +68,9 @@ pub record ReplaysRecord (w v : Around) (run replay : List (List ℕ)) (machine 
     (name : List ℕ) : Type 0 where
   pub steps : ℕ
   pub seed : ℕ
-  pub first : IsAsked run (Run machine images steps seed None (Some name))
-  pub second : IsAsked replay (Replay machine name images)
+  pub threads : Option ℕ
+  pub first : IsCommand run (Run machine images steps seed threads (Some name))
+  pub second : IsCommand replay (Replay machine name images)
   pub left : (n : List ℕ) → v.files.before n ≡ w.files.after n
   pub tells : w.files.tells ≡ true
   pub files : List (List ℕ)

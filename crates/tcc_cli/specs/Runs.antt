@@ -51,9 +51,3 @@ summary_text s work number done events h = trial_text (record {
   ram = (committed s h).ram;
   loaded = s.word;
 })
-
--- a picked run at whose end the machine isn't done took all the events that were asked for
-abbrev pub OpenRunsTakeAllEvents : Type 0
-OpenRunsTakeAllEvents =
-    (s : Start) (seed steps : ℕ) (h : History) → IsAllowed s.settings → IsRun s (picked_by s seed steps) h
-    → (IsDone s.settings h.world → ⊥) → length (picked_by s seed steps) ≡ steps

@@ -13,6 +13,7 @@ use Rattle.tcc_msg.specs.declared.event.Event.{Event}
 use Rattle.tcc_msg.specs.declared.event.Schedule.{Schedule}
 use Rattle.tcc_replay.specs.Replayed.{IsRefusedAt}
 use Rattle.tcc_rules.specs.Step.{History}
+use Rattle.tcc_threads.specs.Joined.{IsJoined}
 use Rattle.tcc_words.specs.declared.command.Command.{Command}
 use Rattle.tcc_words.specs.declared.command.Command.TheVariants.{Run, Replay, Serial, Trial}
 
@@ -37,6 +38,11 @@ IsRecorded (Some name) tells told s = IsWellFormed s × (told name ≡ (if tells
 abbrev pub IsPicked : Start → (seed steps : ℕ) → List Event → Type 0
 IsPicked s seed steps es = map event_of es ≡ picked_by s seed steps
 
+-- the schedule of a run: the one that a seed picks, or one that host threads make
+abbrev pub IsMade : (threads : Option ℕ) → Start → (seed steps : ℕ) → List Event → Type 0
+IsMade None s seed steps es = IsPicked s seed steps es
+IsMade (Some n) s seed steps es = IsJoined s steps es
+
 -- A run by such a schedule, from this start, with its end and the text of that. The headline: see `RunsTo`.
 pub record Ran (s : Start) (IsSchedule : List Event → Type 0) (text_of_end : Bool → ℕ → History
     → List ℕ) (done : Bool) (text : List ℕ) : Type 0 where
@@ -50,7 +56,7 @@ pub record Ran (s : Start) (IsSchedule : List Event → Type 0) (text_of_end : B
 abbrev pub Comes : Command → (files : List (List ℕ)) → (tells : Bool) → (told : List ℕ → Option (List ℕ)) → Bool → List ℕ → Type 0
 Comes (Run machine images steps seed threads keep) files tells told done text =
     let s = start_from (Run machine images steps seed threads keep) files in
-    Ran s (λ es. IsPicked s seed steps es × IsRecorded keep tells told (record { config = machine.config; events = es }))
+    Ran s (λ es. IsMade threads s seed steps es × IsRecorded keep tells told (record { config = machine.config; events = es }))
     (run_text s) done text
 Comes (Replay machine schedule images) files tells told done text =
     let s = start_from (Replay machine schedule images) files in

@@ -1,7 +1,7 @@
 -- What the program's answers say: how the call ended, its cause, and what was written.
 use Rattle.std.specs.Prelude.{ℕ, Bool, List, ◌≡◌, ◌≢◌, ◌⊎◌, Some, None, Ok, Err}
 use Rattle.tcc_cli.specs.Around.{Around, IsUntouched}
-use Rattle.tcc_cli.specs.Commands.{IsThreaded, fault_from, files_of, record_of}
+use Rattle.tcc_cli.specs.Commands.{fault_from, files_of, record_of}
 use Rattle.tcc_cli.specs.Lines.{Written, IsTold, IsCut, IsWhole, IsSilent}
 use Rattle.tcc_cli.specs.Reading.{AreGiven, FailedFirst}
 use Rattle.tcc_cli.specs.Refusals.{End, line_of, status_of}
@@ -12,15 +12,6 @@ use Rattle.tcc_words.specs.Asked.{IsCommand, IsRefused}
 use Rattle.tcc_words.specs.declared.command.Command.{Command}
 use Rattle.tcc_words.specs.declared.command.WordsFault.TheVariants as fault
 use Rattle.tcc_world.specs.Faults.{Rose}
-
--- the words ask for this command, and it is one that can be carried out
-pub record IsAsked (words : List (List ℕ)) (c : Command) : Type 0 where
-  pub command : IsCommand words c
-  pub one_thread : IsThreaded c → ⊥
-
--- the words are no command, or ask for threads
-abbrev pub AsksForNothing : List (List ℕ) → Type 0
-AsksForNothing words = IsRefused words fault.Words ⊎ ((c : Command) × IsCommand words c × IsThreaded c)
 
 -- the files that a command reads were read, with these bytes where the store tells them, and the images are accepted
 pub record Started (c : Command) (w : Around) (files : List (List ℕ)) : Type 0 where
@@ -55,9 +46,9 @@ EndsOf c w (Err why.Output) =
     × Comes c files w.files.tells w.files.after done text × IsCut text w.out
 EndsOf c w (Err why.Memory) = IsSilent w.out
 
--- words that ask for nothing are refused; they may not have been read for want of memory
+-- words that are no command are refused; they may not have been read for want of memory
 abbrev pub IsTurnedAway : List (List ℕ) → End → Type 0
-IsTurnedAway words (Err why.Words) = AsksForNothing words
+IsTurnedAway words (Err why.Words) = IsRefused words fault.Words
 IsTurnedAway words (Err (why.Value field)) = IsRefused words (fault.Value field)
 IsTurnedAway words (Err why.Memory) = Unit {0}
 IsTurnedAway words _ = ⊥
@@ -65,7 +56,7 @@ IsTurnedAway words _ = ⊥
 -- the cause of each end: a command's, or the words'
 abbrev pub Ends : List (List ℕ) → Around → End → Type 0
 Ends words w end =
-    ((c : Command) × IsAsked words c × EndsOf c w end) ⊎ (IsTurnedAway words end × IsUntouched w.files × IsSilent w.out)
+    ((c : Command) × IsCommand words c × EndsOf c w end) ⊎ (IsTurnedAway words end × IsUntouched w.files × IsSilent w.out)
 
 -- what is written to the output for errors: the line of a refusal, or nothing
 abbrev pub Notes : (err : Written) → End → Type 0
@@ -75,7 +66,7 @@ Notes err (Err refusal) = IsTold (line_of refusal) err
 -- no name's contents changed but the record's
 abbrev pub OthersStay : List (List ℕ) → Around → Type 0
 OthersStay words w =
-    (name : List ℕ) → ((c : Command) → IsAsked words c → record_of c ≢ Some name)
+    (name : List ℕ) → ((c : Command) → IsCommand words c → record_of c ≢ Some name)
     → w.files.after name ≡ w.files.before name
 
 -- the status is that of an end with its cause

@@ -1,17 +1,17 @@
 // What follows from the answers of the program.
-ghost use Rattle.tcc_cli.specs.Laws.{AnswersAreComplete, OthersAreRefused, ReplaysPrintTheSame};
-ghost use Rattle.tcc_cli.specs.Runs.{OpenRunsTakeAllEvents};
+ghost use Rattle.tcc_cli.specs.Laws.{AnswersAreComplete, OpenRunsTakeAllEvents, OthersAreRefused, ReplaysPrintTheSame};
 
 use rv_serial::riscv_machines_are_never_stuck;
 use schedule_text::{texts_tell_schedules_apart, the_first_fault_is_one};
 use serial_tool::{lists_are_read_alike, lists_are_run_alike};
 use tcc_replay::what_runs_is_not_refused;
 use tcc_rules::a_picked_schedule_is_a_run;
+use tcc_threads::open_joined_runs_take_all_events;
 use tcc_words::{commands_are_in_bounds, words_ask_for_one_command};
 
 /// A law: where the words ask for a command, the files' bytes are told, and no count of faults rose, the command was carried out and its
 /// whole text written, or the first fault of the images was answered, or else that of the schedule or list, or the status is `Memory`.
-/// And the words are refused exactly where they ask for nothing, unless memory ran out.
+/// And the words are refused exactly where they are no command, unless memory ran out.
 pub fn answers_are_complete()
     ensures command { AnswersAreComplete }
     ensures words { OthersAreRefused }
@@ -25,12 +25,13 @@ pub fn answers_are_complete()
     what_runs_is_not_refused();
 }
 
-/// A law: where the machine isn't done at the end of a picked run, all the events that were asked for were taken.
+/// A law: where the machine isn't done at the end of a run, of a seed's or of threads, all the events that were asked for were taken.
 pub fn open_runs_take_all_events()
     ensures { OpenRunsTakeAllEvents }
 {
     riscv_machines_are_never_stuck();
     a_picked_schedule_is_a_run();
+    open_joined_runs_take_all_events();
 }
 
 /// A law: two calls, a run that is recorded and the replay of the record with the same settings and images, end alike and print the same

@@ -1,33 +1,37 @@
 // What each command comes to, from what was loaded.
-ghost use Rattle.std.specs.Prelude.{◌≡◌, ◌≢◌, ◌≤◌, ℕ, List as Seq, IfErr, IfOk, Some};
+ghost use Rattle.std.specs.Prelude.{◌≡◌, ◌≢◌, ◌≤◌, ℕ, List as Seq, IfErr, IfOk, IfSome, Some};
 ghost use Rattle.std.specs.String.{string_bytes};
 ghost use Rattle.image_load.specs.Contents.{started};
 ghost use Rattle.tcc_cli.specs.Failing.{IsNotWritten, IsScheduleRefused};
 ghost use Rattle.tcc_cli.specs.Runs.{run_text, summary_text};
-ghost use Rattle.tcc_cli.specs.Schedules.{IsPicked, IsRecorded, IsScheduleOf, Ran};
+ghost use Rattle.tcc_cli.specs.Schedules.{IsMade, IsPicked, IsRecorded, IsScheduleOf, Ran};
 
 use crate::records::record;
 use crate::refusal::Refusal;
 use crate::reports::{Finished, report_of, summary_of};
-use crate::schedules::{pick, run_file};
+use crate::schedules::{RunPlan, pick, run_by, run_file};
 use image_load::Loaded;
 use std::alloc::Global;
+use std::sync::Wait;
+use std::thread::Threads;
 use tcc_base::{Config, NoMemory, Text};
-use tcc_world::Store;
+use tcc_world::{Gate, Store};
 use work_gen::Work;
 
-/// A run that a seed picks, its record where one is named, and its report.
-pub fn run_recorded<'a, F: Store>(
+/// A run by a seed or by host threads, its record where one is named, and its report.
+pub fn run_recorded<'a, R: Threads + Wait + Sync, F: Store, G: Gate + Sync>(
+    rt: &R,
     alloc: Global,
     loaded: &Loaded,
-    seed: u64,
-    steps: u64,
+    plan: RunPlan,
     keep: &'a Option<Text>,
     files: &mut F,
+    gate: &G,
 ) -> Result<Finished, Refusal<'a>>
-    requires few { steps ≤ 4194304 }
+    requires few { plan.steps ≤ 4194304 }
+    requires threads { IfSome plan.threads (λ t. (1 ≤ t) × (t ≤ 16)) }
     ensures ran { IfOk result (λ f. Ran (started loaded.now)
-        (λ es. IsPicked (started loaded.now) seed steps es
+        (λ es. IsMade plan.threads (started loaded.now) plan.seed plan.steps es
         × IsRecorded keep.now (F.tells files.old) (F.contents files.new) (record { config = loaded.now.settings; events = es }))
         (run_text (started loaded.now)) f.done (string_bytes f.text)) }
     ensures failed { IfErr result (IsNotWritten keep.now (record {
@@ -41,7 +45,7 @@ pub fn run_recorded<'a, F: Store>(
     })) }
     ensures others { (n : Seq ℕ) → keep.now ≢ Some n → F.contents files.new n ≡ F.contents files.old n }
 {
-    let refined = match pick(alloc, loaded, seed, steps) {
+    let refined = match run_by(rt, alloc, loaded, plan, gate) {
         Ok(refined) => refined,
         Err(NoMemory) => return Err(Refusal::Memory),
     };

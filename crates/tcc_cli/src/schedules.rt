@@ -1,21 +1,70 @@
-// The machine after a schedule: one that a seed picks, or one that a file holds.
-ghost use Rattle.std.specs.Prelude.{◌≡◌, ◌≤◌, [], IfErr, IfOk, length, map};
+// The machine after a schedule: one that a seed picks or threads make, or one that a file holds.
+ghost use Rattle.std.specs.Prelude.{◌≡◌, ◌≤◌, [], IfErr, IfOk, IfSome, length, map};
 ghost use Rattle.image_load.specs.Contents.{started};
 ghost use Rattle.tcc_cli.specs.Failing.{HasLine, IsReadFault, IsScheduleRefused, replay_refusal, text_refusal};
 ghost use Rattle.tcc_cli.specs.Runs.{picked_by};
-ghost use Rattle.tcc_cli.specs.Schedules.{IsScheduleOf};
+ghost use Rattle.tcc_cli.specs.Schedules.{IsMade, IsScheduleOf};
 ghost use Rattle.tcc_msg.specs.Plain.{event_of};
 
 use crate::refusal::Refusal;
 use image_load::Loaded;
 use schedule_text::{TextFault, read};
 use std::alloc::Global;
+use std::sync::Wait;
+use std::thread::Threads;
 use tcc_base::{Config, NoMemory};
 use tcc_msg::Schedule;
 use tcc_pick::Chooser;
 use tcc_refine::Refined;
 use tcc_replay::{ReplayFault, replay};
 use tcc_rules::a_picked_schedule_is_a_run;
+use tcc_threads::run_threads;
+use tcc_workers::WorkPlan;
+use tcc_world::Gate;
+
+/// How the events of a run come about: at most so many, by a seed, on so many host threads or on none.
+#[derive(Clone, Copy, Debug)]
+pub struct RunPlan {
+    pub steps: u64,
+    pub seed: u64,
+    pub threads: Option<u8>,
+}
+
+/// The machine after a run. With host threads it may wait for them.
+pub fn run_by<R: Threads + Wait + Sync, G: Gate + Sync>(
+    rt: &R,
+    alloc: Global,
+    loaded: &Loaded,
+    plan: RunPlan,
+    gate: &G,
+) -> Result<Refined, NoMemory>
+    requires few { plan.steps ≤ 4194304 }
+    requires threads { IfSome plan.threads (λ t. (1 ≤ t) × (t ≤ 16)) }
+    ensures code { IfOk result (λ r. r.machine.cores.code ≡ loaded.now) }
+    ensures made { IfOk result (λ r. IsMade plan.threads (started loaded.now) plan.seed plan.steps r.taken) }
+    ensures few { IfOk result (λ r. length r.taken ≤ plan.steps) }
+    ensures settled { IfOk result (λ r. r.machine.unsent ≡ []) }
+{
+    let RunPlan {
+        steps,
+        seed,
+        threads,
+    } = plan;
+    match threads {
+        None => pick(alloc, loaded, seed, steps),
+        Some(threads) => run_threads(
+            rt,
+            alloc,
+            loaded,
+            &WorkPlan {
+                threads,
+                steps,
+                seed,
+            },
+            gate,
+        ),
+    }
+}
 
 /// The machine after at most so many events that a seed picks.
 pub fn pick(alloc: Global, loaded: &Loaded, seed: u64, steps: u64) -> Result<Refined, NoMemory>

@@ -6,14 +6,22 @@ mod records;
 mod replays;
 mod runs;
 mod serials;
+mod threads;
 mod trials;
 mod words;
 
 use crate::tcc_main;
 use std::alloc::{AllocError, Global};
 use std::process::Abort;
+use std::sync::Wait;
 use std::test::Fail;
-use tcc_world::{MapStore, OpenGate, VecSink};
+use std::thread::Threads;
+use tcc_world::{Gate, MapStore, OpenGate, VecSink};
+
+/// What a test's runtime can do: panic, wait, and start threads.
+trait Host: Abort + Threads + Wait + Sync {}
+
+impl<R: Abort + Threads + Wait + Sync> Host for R {}
 
 /// What a file holds.
 #[derive(Clone, Copy)]
@@ -140,7 +148,7 @@ fn store(alloc: Global, world: &World) -> Result<MapStore, Fail> {
 
 /// The world's files hold what they held; the record too, where the program refused.
 fn check_files(
-    rt: &impl Abort,
+    rt: &impl Host,
     alloc: Global,
     world: &World,
     files: &MapStore,
@@ -155,12 +163,18 @@ fn check_files(
     Ok(())
 }
 
-/// What the program answers to these words. The files hold what they held, but for the record.
-fn answer(rt: &impl Abort, alloc: Global, words: &[&str], world: &World) -> Result<Given, Fail> {
+/// What the program answers to these words, with a gate before each turn of a thread. The files hold what they held, but for the record.
+fn answer_at<H: Host, G: Gate + Sync>(
+    rt: &H,
+    alloc: Global,
+    words: &[&str],
+    world: &World,
+    gate: &G,
+) -> Result<Given, Fail> {
     let mut files = store(alloc, world)?;
     let mut out = VecSink::new(alloc, world.out, Vec::new(alloc))?;
     let mut err = VecSink::new(alloc, world.err, numbers(alloc, world.err_fails)?)?;
-    let status = tcc_main(alloc, words, &mut files, &mut out, &mut err, &OpenGate).number();
+    let status = tcc_main(rt, alloc, words, &mut files, &mut out, &mut err, gate).number();
     check_files(rt, alloc, world, &files, status)?;
     let record = match files.get(RECORD) {
         Some(bytes) => Some(bytes.to_vec(alloc)?),
@@ -174,15 +188,20 @@ fn answer(rt: &impl Abort, alloc: Global, words: &[&str], world: &World) -> Resu
     })
 }
 
+/// What the program answers to these words.
+fn answer(rt: &impl Host, alloc: Global, words: &[&str], world: &World) -> Result<Given, Fail> {
+    answer_at(rt, alloc, words, world, &OpenGate)
+}
+
 /// What the program answers to a command line, whose words stand between spaces.
-fn call(rt: &impl Abort, alloc: Global, command: &str, world: &World) -> Result<Given, Fail> {
+fn call(rt: &impl Host, alloc: Global, command: &str, world: &World) -> Result<Given, Fail> {
     let words: Vec<&str> = command.split_whitespace().collect(alloc)?;
     answer(rt, alloc, &words, world)
 }
 
 /// What comes of a command line over a raw image `a` and a file of this name.
 fn call_beside<'a>(
-    rt: &impl Abort,
+    rt: &impl Host,
     alloc: Global,
     command: &str,
     image: &'a [u32],
@@ -194,7 +213,7 @@ fn call_beside<'a>(
 }
 
 /// The command line gives its status and its text, and nothing else is written.
-fn check(rt: &impl Abort, alloc: Global, row: &Row) -> Result<(), Fail> {
+fn check(rt: &impl Host, alloc: Global, row: &Row) -> Result<(), Fail> {
     let ended = call(rt, alloc, row.command, &over(row.files))?;
     let text = lines(alloc, &[row.text])?;
     let (written, nothing) = match ended.status {

@@ -1,8 +1,8 @@
 // The program as one call: its words, files, outputs and gate in, its status out.
-ghost use Rattle.std.specs.Prelude.{◌≡◌, ◌≢◌, ◌↔◌, ℕ, List as Seq, length, map, IfErr, IfOk, IsTrue, OnErr, OnOk, None, Some};
+ghost use Rattle.std.specs.Prelude.{◌≡◌, ◌≢◌, ℕ, List as Seq, length, map, IfErr, IfOk, OnErr, OnOk, None, Some};
 ghost use Rattle.std.specs.String.{string_bytes};
 ghost use Rattle.image_load.specs.Contents.{started};
-ghost use Rattle.tcc_cli.specs.Commands.{IsThreaded, fault_from, files_of, machine_of, record_of, start_from};
+ghost use Rattle.tcc_cli.specs.Commands.{fault_from, files_of, machine_of, record_of, start_from};
 ghost use Rattle.tcc_cli.specs.Failing.{IsStopped};
 ghost use Rattle.tcc_cli.specs.Lines.{IsWhole, IsCut};
 ghost use Rattle.tcc_cli.specs.Reading.{RefusedImages};
@@ -16,9 +16,12 @@ use crate::lists::execute;
 use crate::refusal::{Refusal, refuse};
 use crate::reports::Finished;
 use crate::running::{run_again, run_recorded, run_trial};
+use crate::schedules::RunPlan;
 use crate::status::Status;
 use image_load::Loaded;
 use std::alloc::Global;
+use std::sync::Wait;
+use std::thread::Threads;
 use tcc_base::{List, NoMemory};
 use tcc_words::{Command, commands_are_in_bounds, settings};
 use tcc_world::{Gate, Sink, SinkFailed, Store, write_all};
@@ -26,28 +29,32 @@ use work_gen::workload;
 
 /// Does what the words ask for, and answers how that ended.
 ///
-/// `run [..] IMAGE..` runs images for at most so many events that a seed picks, writes the schedule to a file where one is named, and then
-/// the report to `out`; `replay [..] SCHEDULE IMAGE..` runs the schedule of a file whole and writes the report; `serial [..] REPORT
-/// IMAGE..` executes the commits that a report lists on the plain machine and writes its report; `trial [..] KIND NUMBER` runs a
-/// workload and writes a summary.
+/// `run [..] IMAGE..` runs images for at most so many events that a seed picks or that host threads make, writes the schedule to a file
+/// where one is named, and then the report to `out`; `replay [..] SCHEDULE IMAGE..` runs the schedule of a file whole and writes the
+/// report; `serial [..] REPORT IMAGE..` executes the commits that a report lists on the plain machine and writes its report; `trial [..]
+/// KIND NUMBER` runs a workload and writes a summary.
 ///
-/// `Done`: at the end every core has halted, nothing is in flight and no frame has a dirty word, or the list ran to its end.
-/// `Stopped`: the machine isn't done; a picked run has then taken all the events that were asked for. With both the whole text was
-/// written. `Words`: the words are no command, a value isn't allowed, or threads are asked for, which aren't there yet. `Image`: the files
-/// were read, and one isn't an image. `Schedule`: the schedule or list isn't in its grammar, has other settings than the command's, or
-/// can't be run to its end. `StoreFault`: a file wasn't read, and this is the first, or the record wasn't written. `SinkFault`: `out` failed,
-/// after a first part of the text. `Memory`: there wasn't enough memory; no clause says that memory was short.
+/// `Done`: at the end every core has halted, nothing is in flight and no frame has a dirty word, or the list ran to its end. `Stopped`: the
+/// machine isn't done; a run has then taken all the events that were asked for. With both the whole text was written. `Words`: the words
+/// are no command, or a value isn't allowed. `Image`: the files were read, and one isn't an image. `Schedule`: the schedule or list isn't
+/// in its grammar, has other settings than the command's, or can't be run to its end. `StoreFault`: a file wasn't read, and this is the
+/// first, or the record wasn't written. `SinkFault`: `out` failed, after a first part of the text. `Memory`: there wasn't enough memory; no
+/// clause says that memory was short.
 ///
-/// Refusals come in this order: words, files that aren't read (the schedule or list first, then the images), images, the
-/// schedule or list, the record, the output. Nothing is written to `out` with a refusal but `SinkFault`. A refusal writes its line to
-/// `err`, as far as `err` takes it; nothing else is written there. Of the contents that `files` tells none changes but the record's.
-pub fn tcc_main<F: Store, O: Sink, E: Sink, G: Gate + Sync>(
+/// Refusals come in this order: words, files that aren't read (the schedule or list first, then the images), images, the schedule or list,
+/// the record, the output. Nothing is written to `out` with a refusal but `SinkFault`. A refusal writes its line to `err`, as far as `err`
+/// takes it; nothing else is written there. Of the contents that `files` tells none changes but the record's.
+///
+/// With `--threads` it starts so many threads, and may wait for them and for the locks that they share: that it returns then isn't proved.
+/// Each passes the gate before each of its turns. Without `--threads` it waits for nobody.
+pub fn tcc_main<R: Threads + Wait + Sync, F: Store, O: Sink, E: Sink, G: Gate + Sync>(
+    rt: &R,
     alloc: Global,
     words: &[&str],
     files: &mut F,
     out: &mut O,
     err: &mut E,
-    _gate: &G,
+    gate: &G,
 ) -> Status
     ensures { Caused (map (λ w. w.now) words.now)
         (record {
@@ -73,25 +80,22 @@ pub fn tcc_main<F: Store, O: Sink, E: Sink, G: Gate + Sync>(
     commands_are_in_bounds();
     match settings(alloc, words) {
         Err(fault) => refuse(err, &Refusal::of_words(fault)),
-        Ok(command) => {
-            if is_threaded(&command) {
-                return refuse(err, &Refusal::Words);
-            }
-            match carry_out(alloc, &command, files, out) {
-                Ok(true) => Status::Done,
-                Ok(false) => Status::Stopped,
-                Err(refusal) => refuse(err, &refusal),
-            }
-        }
+        Ok(command) => match carry_out(rt, alloc, &command, files, out, gate) {
+            Ok(true) => Status::Done,
+            Ok(false) => Status::Stopped,
+            Err(refusal) => refuse(err, &refusal),
+        },
     }
 }
 
 /// Does what a command asks for, up to the written text: whether what it tells of has run to its end, or why it was refused.
-fn carry_out<'a, F: Store, O: Sink>(
+fn carry_out<'a, R: Threads + Wait + Sync, F: Store, O: Sink, G: Gate + Sync>(
+    rt: &R,
     alloc: Global,
     command: &'a Command,
     files: &mut F,
     out: &mut O,
+    gate: &G,
 ) -> Result<bool, Refusal<'a>>
     requires { IsInBounds command.now }
     ensures ends { EndsOf command.now
@@ -127,23 +131,13 @@ fn carry_out<'a, F: Store, O: Sink>(
         Ok(loaded) => loaded,
         Err(refusal) => return Err(refusal),
     };
-    let finished = match finish(alloc, command, &loaded, &read, files) {
+    let finished = match finish(rt, alloc, command, &loaded, &read, files, gate) {
         Ok(finished) => finished,
         Err(refusal) => return Err(refusal),
     };
     match show(&finished, out) {
         Ok(done) => Ok(done),
         Err(SinkFailed) => Err(Refusal::Output),
-    }
-}
-
-/// Whether a command asks for host threads.
-fn is_threaded(command: &Command) -> bool
-    ensures { IsTrue result ↔ IsThreaded command.now }
-{
-    match command {
-        Command::Run { threads, .. } => threads.is_some(),
-        Command::Replay { .. } | Command::Serial { .. } | Command::Trial { .. } => false,
     }
 }
 
@@ -174,12 +168,14 @@ fn load<'a>(alloc: Global, command: &Command, read: &[List<u8>]) -> Result<Loade
 }
 
 /// Runs what a command asks for from what was loaded, and writes the record: the text to come, and whether it tells of an end.
-fn finish<'a, F: Store>(
+fn finish<'a, R: Threads + Wait + Sync, F: Store, G: Gate + Sync>(
+    rt: &R,
     alloc: Global,
     command: &'a Command,
     loaded: &Loaded,
     read: &[List<u8>],
     files: &mut F,
+    gate: &G,
 ) -> Result<Finished, Refusal<'a>>
     requires bounds { IsInBounds command.now }
     requires count { length read.now ≡ length (files_of command.now) }
@@ -199,11 +195,19 @@ fn finish<'a, F: Store>(
 {
     match command {
         Command::Run {
-            seed,
             steps,
+            seed,
+            threads,
             keep,
             ..
-        } => run_recorded(alloc, loaded, *seed, *steps, keep, files),
+        } => {
+            let plan = RunPlan {
+                steps: *steps,
+                seed: *seed,
+                threads: *threads,
+            };
+            run_recorded(rt, alloc, loaded, plan, keep, files, gate)
+        }
         Command::Replay { machine, .. } => run_again(
             alloc,
             loaded,

@@ -1,19 +1,19 @@
 -- The numbers of a command are those of allowed fields.
 use Rattle.std.proofs.Common.{◌≡◌, ℕ, ◌+◌, ◌%◌, ◌^◌, ◌≤◌, IsTrue, List, length, Option, Some, None, sym, subst, ◌∙◌, arith}
 use Rattle.std.specs.Int.{is_power_of_two}
-use Rattle.std.specs.Prelude.{IfSome, codes}
+use Rattle.std.specs.Prelude.{IfSome, IsSome, codes}
 use Rattle.clap.specs.Walk.{Row, Text}
 use Rattle.clap.specs.Words.{first_of}
 use Rattle.tcc_base.specs.Settings.{Settings, IsAllowed}
 use Rattle.tcc_words.proofs.OneCommand.{one-value}
-use Rattle.tcc_words.specs.Asked.{HasPlaces, HasSettings, IsCommand, IsGiven, Asks}
+use Rattle.tcc_words.specs.Asked.{HasPlaces, HasSettings, IsCommand, IsGiven, MayBeGiven, Asks}
 use Rattle.tcc_words.specs.Bounds.{IsInBounds}
 use Rattle.tcc_words.specs.Fields.{Allows, IsValue, images_of}
 use Rattle.tcc_words.specs.Numbers.{IsNumber}
 use Rattle.tcc_words.specs.declared.command.Command.{Command}
 use Rattle.tcc_words.specs.declared.command.Command.TheVariants as command
 use Rattle.tcc_words.specs.declared.command.Field.{Field}
-use Rattle.tcc_words.specs.declared.command.Field.TheVariants.{Cores, Dirs, Sets, Ways, Ram, Base, Steps, Images, Number}
+use Rattle.tcc_words.specs.declared.command.Field.TheVariants.{Cores, Dirs, Sets, Ways, Ram, Base, Steps, Threads, Images, Number}
 use Rattle.tcc_words.specs.declared.command.Verb.{Verb}
 use Rattle.tcc_words.specs.declared.command.Verb.TheVariants.{Run, Replay, Serial, Trial}
 
@@ -55,6 +55,22 @@ number-fits (Some text) n (given, e, h) a =
     let same : ◌≡◌ {A = Text} text given = cc in
     subst (λ k. (1 ≤ k) × (k ≤ 2047)) (sym (subst (λ t. IsNumber t a.0) same a.1).value ∙ h.value) (a.2, a.3)
 
+-- threads that were given are 1 to 16, and stand with a record
+threads-fit : (text keep kept : Option Text) (n : ℕ) → ((given : Text) × (text ≡ Some given) × IsNumber given n) → kept ≡ keep
+    → IfSome text (λ given. ((m : ℕ) × IsNumber given m × (1 ≤ m) × (m ≤ 16)) × IsSome keep) → (1 ≤ n) × (n ≤ 16) × IsSome kept
+threads-fit None keep kept n (given, e, h) k a = absurd (cc)
+threads-fit (Some text) keep kept n (given, e, h) k (a, some) =
+    let same : ◌≡◌ {A = Text} text given = cc in
+    let fits = subst (λ k. (1 ≤ k) × (k ≤ 16)) (sym (subst (λ t. IsNumber t a.0) same a.1).value ∙ h.value) (a.2, a.3) in
+    (fits.0, fits.1, subst IsSome (sym k) some)
+
+threads-few : (rows : List Row) (threads : Option ℕ) (keep : Option Text) → MayBeGiven rows (codes "threads") threads
+    → keep ≡ first_of (codes "record") rows → ((field : Field) → Allows rows field)
+    → IfSome threads (λ t. (1 ≤ t) × (t ≤ 16) × IsSome keep)
+threads-few rows None keep given kept every = tt
+threads-few rows (Some t) keep given kept every =
+    threads-fit (first_of (codes "threads") rows) (first_of (codes "record") rows) keep t given kept (every Threads)
+
 images-some : (rows : List Row) (images : List Text) → images ≡ images_of rows → 1 ≤ length (images_of rows)
     → ((field : Field) → Allows rows field) → (1 ≤ length images) × (length images ≤ 16)
 images-some rows images is some every = subst (λ names. (1 ≤ length names) × (length names ≤ 16)) (sym is) (some, every Images)
@@ -63,7 +79,8 @@ bounded : (verb : Verb) (rows : List Row) (c : Command) → HasPlaces verb rows 
     → IsInBounds c
 bounded Run rows (command.Run machine images steps seed threads keep) places every a =
     let some = images-some rows images a.1 places every in
-    record { allowed = allowed rows machine.config a.0.0 every; numbers = (some.0, some.1, steps-few rows steps a.2 every) }
+    let few = threads-few rows threads keep a.4 a.5 every in
+    record { allowed = allowed rows machine.config a.0.0 every; numbers = (some.0, some.1, steps-few rows steps a.2 every, few) }
 bounded Replay rows (command.Replay machine schedule images) places every a =
     record { allowed = allowed rows machine.config a.0.0 every; numbers = images-some rows images a.2 places.1 every }
 bounded Serial rows (command.Serial machine list images) places every a =

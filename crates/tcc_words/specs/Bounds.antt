@@ -1,5 +1,5 @@
 -- The numbers of a command are within their bounds.
-use Rattle.std.specs.Prelude.{ℕ, ◌≤◌, List, length}
+use Rattle.std.specs.Prelude.{ℕ, ◌≤◌, List, length, IfSome, IsSome}
 use Rattle.clap.specs.Words.{Text}
 use Rattle.tcc_base.specs.Settings.{Settings, IsAllowed}
 use Rattle.tcc_words.specs.Asked.{IsCommand}
@@ -12,9 +12,10 @@ config_of (Replay machine schedule images) = machine.config
 config_of (Serial machine list images) = machine.config
 config_of (Trial config work number steps seed) = config
 
--- 1 to 16 images, at most 4,194,304 events, a workload's number from 1 to 2047
+-- 1 to 16 images, at most 4,194,304 events, 1 to 16 threads and only with a record, a workload's number from 1 to 2047
 abbrev pub AreNumbers : Command → Type 0
-AreNumbers (Run machine images steps seed threads keep) = (1 ≤ length images) × (length images ≤ 16) × (steps ≤ 4194304)
+AreNumbers (Run machine images steps seed threads keep) =
+    (1 ≤ length images) × (length images ≤ 16) × (steps ≤ 4194304) × IfSome threads (λ t. (1 ≤ t) × (t ≤ 16) × IsSome keep)
 AreNumbers (Replay machine schedule images) = (1 ≤ length images) × (length images ≤ 16)
 AreNumbers (Serial machine list images) = (1 ≤ length images) × (length images ≤ 16)
 AreNumbers (Trial config work number steps seed) = (1 ≤ number) × (number ≤ 2047) × (steps ≤ 4194304)

@@ -1,9 +1,8 @@
 // ELF files and several images. One small ELF file was made by hand: it is run whole, cut to each length, and with single fields
 // changed.
 use super::runs::{HALT, STORE};
-use super::{File, Held, Row, check};
+use super::{File, Held, Host, Row, check};
 use std::alloc::Global;
-use std::process::Abort;
 use std::test::Fail;
 
 /// An empty header of a type that is passed over, beside one writable and executable segment of two instructions and eight
@@ -21,7 +20,7 @@ const FILE: [u8; 124] = [
 ];
 
 /// The program refuses these bytes as an image with this line.
-fn refused(rt: &impl Abort, alloc: Global, bytes: &[u8], text: &str) -> Result<(), Fail> {
+fn refused(rt: &impl Host, alloc: Global, bytes: &[u8], text: &str) -> Result<(), Fail> {
     let row = Row {
         command: "run a",
         files: &[("a", Held::Bytes(bytes))],

@@ -1,13 +1,12 @@
 // Runs that are recorded, and replays of what they recorded.
 use super::runs::{COUNT, HALT, TWO_LINES};
-use super::{File, Held, RECORD, Row, World, call, call_beside, check, count, lines, over};
+use super::{File, Held, Host, RECORD, Row, World, call, call_beside, check, count, lines, over};
 use std::alloc::Global;
-use std::process::Abort;
 use std::str;
 use std::test::Fail;
 
 /// The words of a run that is recorded and of its replay, their image, and the status.
-const RUNS: [(&str, &str, &[u32], u8); 5] = [
+const RUNS: [(&str, &str, &[u32], u8); 8] = [
     (
         "run --raw --cores 2 --record s a",
         "replay --raw --cores 2 s a",
@@ -34,6 +33,25 @@ const RUNS: [(&str, &str, &[u32], u8); 5] = [
         TWO_LINES,
         0,
     ),
+    // by host threads: to the end, stopped at once, and more threads than nodes
+    (
+        "run --raw --threads 4 --cores 2 --record s a",
+        "replay --raw --cores 2 s a",
+        COUNT,
+        0,
+    ),
+    (
+        "run --raw --threads 2 --cores 2 --steps 0 --record s a",
+        "replay --raw --cores 2 s a",
+        HALT,
+        1,
+    ),
+    (
+        "run --raw --threads 16 --cores 2 --sets 1 --ways 1 --record s a",
+        "replay --raw --cores 2 --sets 1 --ways 1 s a",
+        TWO_LINES,
+        0,
+    ),
     // the first version of schedules hasn't so many cores
     (
         "run --raw --cores 64 --dirs 64 --seed 1 --record s a",
@@ -45,7 +63,7 @@ const RUNS: [(&str, &str, &[u32], u8); 5] = [
 
 /// The replay of the record prints the same report and has the same status. It changes no file.
 fn is_replayed(
-    rt: &impl Abort,
+    rt: &impl Host,
     alloc: Global,
     run: &str,
     replay: &str,
@@ -98,7 +116,7 @@ const KEPT: [(&str, u64, u8, &str); 10] = [
     ("run --raw --record s a c", 4096, 5, OLD),
     ("run --raw --record s --steps 4194305 a", 4096, 2, OLD),
     ("run --raw --record s --record s a", 4096, 2, OLD),
-    ("run --raw --record s --threads 2 a", 4096, 2, OLD),
+    ("run --raw --record s --threads 17 a", 4096, 2, OLD),
     ("replay --raw --record s s a", 4096, 2, OLD),
 ];
 

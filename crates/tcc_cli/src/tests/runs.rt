@@ -1,7 +1,6 @@
 // Raw images, and the reports of their runs.
-use super::{Held, Row, call, check, count, over};
+use super::{Held, Host, Row, call, check, count, over};
 use std::alloc::Global;
-use std::process::Abort;
 use std::test::Fail;
 
 /// A command line over the one image `a`, its status and its report.
@@ -13,7 +12,7 @@ pub(super) struct Run {
 }
 
 /// Each command line gives its report.
-pub(super) fn run_to_reports(rt: &impl Abort, alloc: Global, runs: &[Run]) -> Result<(), Fail> {
+pub(super) fn run_to_reports(rt: &impl Host, alloc: Global, runs: &[Run]) -> Result<(), Fail> {
     for run in runs {
         let row = Row {
             command: run.command,
@@ -261,7 +260,7 @@ const SEEDED: [Seeded; 3] = [
 
 /// With this seed and so many events the image runs to a report with the row's lines.
 fn runs_with(
-    rt: &impl Abort,
+    rt: &impl Host,
     alloc: Global,
     row: &Seeded,
     seed: u64,

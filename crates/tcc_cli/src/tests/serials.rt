@@ -2,9 +2,8 @@
 use super::atomics::ADD;
 use super::replays::{STORE_AT_64, STORE_AT_96};
 use super::runs::{COUNT, TWO_LINES};
-use super::{File, Held, Row, call, call_beside, check, over};
+use super::{File, Held, Host, Row, call, call_beside, check, over};
 use std::alloc::Global;
-use std::process::Abort;
 use std::str;
 use std::test::Fail;
 
@@ -141,7 +140,7 @@ const RUNS: [(&str, &str, &[u32]); 4] = [
 
 /// The report of a run is executed to its lines from the first commit on.
 fn is_executed(
-    rt: &impl Abort,
+    rt: &impl Host,
     alloc: Global,
     run: &str,
     serial: &str,

@@ -1,12 +1,11 @@
 // Words that aren't a command's, values that aren't allowed, and some that are. Where words are refused no file is looked for.
 use super::runs::{STORE, STORE_REPORT};
-use super::{Held, Row, answer, check, over};
+use super::{Held, Host, Row, answer, check, over};
 use std::alloc::Global;
-use std::process::Abort;
 use std::test::Fail;
 
 /// Command lines whose words don't stand as a command's do.
-const WORDS: [&str; 30] = [
+const WORDS: [&str; 29] = [
     "",
     "walk --raw a",
     "Run --raw a",
@@ -37,15 +36,13 @@ const WORDS: [&str; 30] = [
     "trial --raw counters 5",
     "trial --ram 65536 counters 5",
     "trial --record s counters 5",
-    // host threads
-    "run --raw --threads 2 --record s a",
     // whatever stands in the fields
     "run --cores 65 --sets 3 --other 1 a",
     "walk --cores 65 a",
 ];
 
 /// Command lines with a value that isn't allowed, and the first field in which one stands.
-const VALUES: [(&str, &str); 48] = [
+const VALUES: [(&str, &str); 52] = [
     ("run --raw --cores 65 a", "cores"),
     (
         "run --cores 0 --dirs 0 --sets 0 --ways 0 --ram 0 --steps x a",
@@ -94,6 +91,11 @@ const VALUES: [(&str, &str); 48] = [
         "run --seed= 1 2 3 4 5 6 7 8 9 10 11 12 13 14 15 16 17",
         "seed",
     ),
+    ("run --raw --threads 0 --record s a", "threads"),
+    ("run --raw --threads 17 --record s a", "threads"),
+    ("run --raw --threads two --record s a", "threads"),
+    // threads without a record
+    ("run --raw --threads 2 a", "threads"),
     ("run 1 2 3 4 5 6 7 8 9 10 11 12 13 14 15 16 17", "images"),
     (
         "replay s 1 2 3 4 5 6 7 8 9 10 11 12 13 14 15 16 17",
@@ -106,7 +108,7 @@ const VALUES: [(&str, &str); 48] = [
 ];
 
 /// The program refuses the words with this line.
-fn refused(rt: &impl Abort, alloc: Global, command: &str, text: &str) -> Result<(), Fail> {
+fn refused(rt: &impl Host, alloc: Global, command: &str, text: &str) -> Result<(), Fail> {
     let row = Row {
         command,
         files: &[],

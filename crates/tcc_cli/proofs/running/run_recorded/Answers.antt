@@ -1,4 +1,4 @@
--- What was picked, its record and its report.
+-- What was run, its record and its report.
 use Rattle.std.proofs.Common.{subst}
 use Rattle.net_core.specs.Machine.{history_of}
 use Rattle.tcc_cli.specs.Schedules.{IsRecorded}
@@ -9,7 +9,7 @@ returns-in-Ok-report_of-clause-ran g c = record {
   events = c.in-Ok.refined.taken;
   ends = history_of c.in-Ok.refined.machine;
   schedule = (
-    c.in-Ok.ensures.picked,
+    c.in-Ok.ensures.made,
     subst (λ k. IsRecorded c.args.keep.now (g.F.Store.tells c.args.files.now) (g.F.Store.contents c.record.new.files)
         (record { config = k.settings; events = c.in-Ok.refined.taken })) c.in-Ok.ensures.code c.in-Ok-record.ensures.recorded,
   );

@@ -15,7 +15,7 @@ load-requires-clause-count g c =
     ∙ ap length (ap (map (λ n. n.now)) c.deref.ensures.value ∙ c.in-Ok.ensures)
 
 pub finish-requires-clause-count : goal.finish-requires-clause-count
-finish-requires-clause-count g c =
+finish-requires-clause-count g c lifetimes outlive =
     ap length c.deref-3.ensures.value
     ∙ sym (given_length (g.F.Store.contents c.args.files.now) (map (λ n. n.now) c.deref.result.now) c.in-Ok-read_files.read.items
     c.in-Ok-read_files.ensures.read)

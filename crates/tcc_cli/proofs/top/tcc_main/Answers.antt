@@ -3,7 +3,7 @@ use Rattle.std.proofs.Common.{◌≡◌, Bool, true, false, Ok, refl, subst}
 use Rattle.tcc_cli.specs.Around.{Around, FilesAround}
 use Rattle.tcc_cli.specs.Lines.{Written}
 use Rattle.tcc_cli.specs.Top.{EndsOf}
-use Rattle.tcc_cli.proofs.Ending.{command-ended, threads-refused, words-refused}
+use Rattle.tcc_cli.proofs.Ending.{command-ended, words-refused}
 use Rattle.tcc_cli.proofs.top.tcc_main.Goals as goal
 
 pub returns-in-Err : goal.returns-in-Err
@@ -11,14 +11,6 @@ returns-in-Err g c =
     words-refused _ _ _ _ c.in-Err.fault c.of_words.result c.in-Err.ensures.refused c.of_words.ensures
     (λ n. refl) refl c.refuse.ensures.status
     c.refuse.ensures.told
-
-pub returns-then-is_threaded : goal.returns-then-is_threaded
-returns-then-is_threaded g c =
-    threads-refused _ _ _ _ c.in-Ok.command c.in-Ok.ensures.command (c.is_threaded.ensures.0 c.if-is_threaded.true) (λ n. refl) refl
-    c.refuse-then-is_threaded.ensures.status c.refuse-then-is_threaded.ensures.told
-
-no-both : (b : Bool) → b ≡ true → b ≡ false → ⊥
-no-both b t f = absurd (cc)
 
 pub returns-in-Ok-true : goal.returns-in-Ok-true
 returns-in-Ok-true g c =
@@ -39,7 +31,6 @@ returns-in-Ok-true g c =
     } in
     let w : Around = record { files = files; out = out } in
     command-ended _ w _ _ c.in-Ok.command (Ok true) c.in-Ok.ensures.command
-    (λ t. no-both c.is_threaded.result (c.is_threaded.ensures.1 t) c.if-is_threaded.false)
     (subst (λ d. EndsOf c.in-Ok.command w (Ok d)) c.in-Ok-true.field-0-test c.in-Ok-true.ensures.ends) c.in-Ok-true.ensures.others refl refl
 
 pub returns-in-Ok-false : goal.returns-in-Ok-false
@@ -61,5 +52,5 @@ returns-in-Ok-false g c =
     } in
     let w : Around = record { files = files; out = out } in
     command-ended _ w _ _ c.in-Ok.command (Ok false) c.in-Ok.ensures.command
-    (λ t. no-both c.is_threaded.result (c.is_threaded.ensures.1 t) c.if-is_threaded.false)
-    (subst (λ d. EndsOf c.in-Ok.command w (Ok d)) c.in-Ok-false.field-0-test c.in-Ok-false.ensures.ends) c.in-Ok-false.ensures.others refl refl
+    (subst (λ d. EndsOf c.in-Ok.command w (Ok d)) c.in-Ok-false.field-0-test c.in-Ok-false.ensures.ends) c.in-Ok-false.ensures.others refl
+    refl
