@@ -16,6 +16,8 @@ cat >refuse.c <<'C'
 #include <stdatomic.h>
 #include <stdio.h>
 #include <stdlib.h>
+#include <sys/syscall.h>
+#include <unistd.h>
 
 static atomic_long asked, refused;
 static void *(*real_malloc)(size_t);
@@ -29,13 +31,20 @@ __attribute__((constructor)) static void begin(void) {
     atomic_store(&refused, number ? atol(number) : 0);
 }
 
-/* tells how many requests there were */
+/* tells how many requests there were, however the program ends */
 __attribute__((destructor)) static void end(void) {
     FILE *file = fopen("asked", "w");
     if (file) {
         fprintf(file, "%ld\n", atomic_load(&asked));
         fclose(file);
     }
+}
+
+void _exit(int status) {
+    atomic_store(&refused, 0);
+    end();
+    syscall(SYS_exit_group, status);
+    __builtin_unreachable();
 }
 
 void *malloc(size_t size) {
