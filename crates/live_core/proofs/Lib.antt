@@ -1,0 +1,7 @@
+-- The proofs of this crate.
+mod Delivering
+mod Filtered
+mod Halting
+mod Live
+mod Rules
+mod Tables

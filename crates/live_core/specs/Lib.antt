@@ -1,0 +1,6 @@
+-- What the contracts of this crate cite.
+pub mod Reasons
+pub mod Waiting
+pub mod Plain
+pub mod Chosen
+pub mod Reached

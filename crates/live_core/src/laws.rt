@@ -1,0 +1,20 @@
+// What follows from the rules: the reasons to wait are the directory's, and no machine is stuck.
+ghost use Rattle.live_core.specs.Reached.{IsLive};
+ghost use Rattle.live_core.specs.Waiting.{ReasonsAreTheRules};
+
+use net_core::System;
+use rv_serial::riscv_machines_are_never_stuck;
+
+/// A law: what goes to a directory is taken there exactly where it has no reason to wait.
+pub fn reasons_are_the_rules()
+    ensures { ReasonsAreTheRules }
+{}
+
+/// A law: what the rules have led to is in bounds, and isn't stuck.
+pub(crate) fn machines_are_live(system: &System)
+    ensures { IsLive system.now }
+{
+    system.events();
+    system.config().cores();
+    riscv_machines_are_never_stuck();
+}
