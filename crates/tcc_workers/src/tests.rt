@@ -17,6 +17,7 @@ use std::marker::Brand;
 use std::sync::Wait;
 use std::sync::ledger::{Blank, Ledger};
 use std::test::Fail;
+use std::thread;
 use std::thread::Threads;
 use tcc_base::{Config, List, NoMemory};
 use tcc_world::{Gate, OpenGate};
@@ -62,6 +63,7 @@ impl Meeting {
             if other.load() > 0 {
                 return;
             }
+            thread::yield_now();
         }
         self.gave_up.store(true);
     }

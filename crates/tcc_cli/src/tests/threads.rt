@@ -3,6 +3,7 @@ use super::runs::{COUNT, HALT, STORE};
 use super::{Held, Row, answer_at, call, check, count, lines, over};
 use crossbeam_utils::atomic::AtomicCell;
 use std::test::Fail;
+use std::thread;
 use tcc_world::Gate;
 
 /// The report of two cores that halt at once, by one thread: core 1 commits first.
@@ -71,6 +72,7 @@ impl Meeting {
             if passes.load() > 0 {
                 return;
             }
+            thread::yield_now();
         }
         self.gave_up.store(true);
     }
