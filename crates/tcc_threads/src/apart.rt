@@ -61,7 +61,7 @@ fn logs_after<
 }
 
 /// The schedule of what the plan's threads do: each node by itself, its events in its own log, and all logs merged.
-pub fn run_apart<R: Threads + Wait + Sync, G: Gate + Sync>(
+pub(crate) fn run_apart<R: Threads + Wait + Sync, G: Gate + Sync>(
     rt: &R,
     alloc: Global,
     loaded: &Loaded,
