@@ -44,7 +44,7 @@ The default stands in brackets. Numbers are decimal, or hexadecimal behind 0x. O
 
 The status is 0 where all was done, and 1 where the events ended before. Else a line on standard error says why there is no whole text:
 2 words, 3 an image, 4 a schedule or a report's list, 5 a file, 6 the output, 7 memory. docs/TUTORIAL.md is a walk through the commands;
-docs/FORMATS.md describes files, texts and statuses; README.md says what is proved of them.
+docs/FORMATS.md describes files, texts and statuses; docs/PROVED.md says what is proved of them.
 END
 }
 
