@@ -1,6 +1,8 @@
 pub mod Asking
 pub mod Chosen
+pub mod Followed
 pub mod Lemmas
+pub mod Noting
 pub mod Ran
 pub mod Replayed
 pub mod Runs

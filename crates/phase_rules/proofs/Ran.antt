@@ -7,7 +7,7 @@ use Rattle.tcc_program.specs.Plain.{Attempt, Plain, commit_of, and_commit, after
 use Rattle.tcc_program.specs.Program.{Program}
 
 -- from the machine m each commit is a whole transaction with its loads, stores and console bytes, up to the machine e
-pub Ran : (base : ℕ) → Program → (m : Plain) → List Commit → (e : Plain) → Type 0
+unfoldable pub Ran : (base : ℕ) → Program → (m : Plain) → List Commit → (e : Plain) → Type 0
 Ran base p m [] e = m ≡ e
 Ran base p m (c ∷ cs) e =
     (d : Plain × Attempt) × (transaction base p m c.core.0 c.n ≡ Some d) × (commit_of (order_of_commit c) d.1 ≡ c) × Ran base p d.0 cs e
