@@ -1,19 +1,17 @@
 -- One more commit, the last of its core, in its place by its TID: the others keep their phases, and it has the phase that its core was in.
-use Rattle.std.specs.Prelude.{ℕ, zero, suc, ◌≡◌, ◌≢◌, ◌<◌, ◌≤◌, ◌==◌, Bool, true, false, List, [], ◌∷◌, ◌++◌, length, filter, take, drop, map, max, Option, Some, None, nat_lt, if◌then◌else◌}
+use Rattle.std.specs.Prelude.{ℕ, suc, ◌≡◌, ◌≢◌, ◌<◌, ◌≤◌, Bool, true, false, List, [], ◌∷◌, length, max, Option, Some, None, nat_lt, if◌then◌else◌}
 use Rattle.std.proofs.Common.{arith, refl, ap, sym, subst, ◌∙◌}
 use Rattle.std.proofs.lemmas.Bool.Decides.{nat_tests}
 use Rattle.tcc_base.specs.Put.{put}
 use Rattle.tcc_base.specs.declared.access.Commit.{Commit}
-use Rattle.tcc_program.specs.Orders.{order_of_commit}
-use Rattle.tcc_program.specs.Plain.{Attempt, Plain, commit_of, transaction}
+use Rattle.tcc_program.specs.Plain.{Attempt, Plain, transaction}
 use Rattle.tcc_program.specs.Program.{Program}
 use Rattle.tcc_rules.specs.Step.{insert_commit}
 use Rattle.tcc_serial.specs.Owners.{IsRising}
 use Rattle.phase_rules.specs.Laws.{put_in, place_of}
-use Rattle.phase_rules.specs.Phases.{x27, Phases, and_phase, phases_along}
+use Rattle.phase_rules.specs.Phases.{x27, Phases, phases_along}
 use Rattle.phase_rules.proofs.Followed.{put-same, put-other, along, phase_at, along-first, NoneBy, Apart, Followed, closes, followed}
 use Rattle.phase_rules.proofs.Ran.{Ran}
-use Rattle.phase_rules.proofs.Replayed.{Closes}
 
 -- no commit has its TID, and its core's commits have smaller ones
 unfoldable pub IsLast : Commit → List Commit → Type 0

@@ -1,6 +1,7 @@
 pub mod Asking
 pub mod Chosen
 pub mod Followed
+pub mod Growing
 pub mod Inserted
 pub mod Lemmas
 pub mod Noting

@@ -1,6 +1,6 @@
 -- A serial execution as the transactions of its commits, one after another.
-use Rattle.std.specs.Prelude.{ℕ, zero, suc, ◌≡◌, ◌<◌, Bool, true, false, List, [], ◌∷◌, length, map, Option, Some, None, nat_lt, if◌then◌else◌}
-use Rattle.std.proofs.Common.{arith, refl, ap, sym, ◌∙◌}
+use Rattle.std.specs.Prelude.{ℕ, ◌≡◌, Bool, true, false, List, [], ◌∷◌, map, Option, Some, None, nat_lt, if◌then◌else◌}
+use Rattle.std.proofs.Common.{refl, ap, ◌∙◌}
 use Rattle.tcc_base.specs.declared.access.Commit.{Commit}
 use Rattle.tcc_program.specs.Orders.{order_of_commit}
 use Rattle.tcc_program.specs.Plain.{Attempt, Plain, commit_of, and_commit, after_order, serial, transaction}

@@ -2,7 +2,7 @@
 // empty function; nothing here depends on code.
 #![tactic(auto)]
 
-ghost use Rattle.phase_rules.specs.Laws.{PhasedRunsAreRuns, PhasedNeverStuck, PhasedPickedEndsDone, PhasedPickedRuns, OneRequestEach};
+ghost use Rattle.phase_rules.specs.Laws.{PhasedRunsAreRuns, PhasedNeverStuck, PhasedPickedEndsDone, PhasedPickedRuns, PhasesGrow, OneRequestEach};
 
 /// A run by phases is a run of the protocol's rules, to the same state and commits.
 pub fn phased_runs_are_runs()
@@ -25,4 +25,10 @@ pub fn one_request_each()
 pub fn phased_runs_are_never_stuck()
     ensures done { PhasedNeverStuck }
     ensures picked { PhasedPickedEndsDone }
+{}
+
+/// After every run from a start with allowed settings an event that notes no commit leaves all phases as they are; a commit has the phase
+/// that its core was in, in its place by its TID, and the core's phase grows to the value of x27 at its new checkpoint.
+pub fn phases_grow()
+    ensures grow { PhasesGrow }
 {}
