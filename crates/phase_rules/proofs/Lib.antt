@@ -5,6 +5,7 @@ pub mod Growing
 pub mod Inserted
 pub mod Lemmas
 pub mod Noting
+pub mod Ordered
 pub mod Ran
 pub mod Replayed
 pub mod Runs
