@@ -1,6 +1,6 @@
 -- What an event does to the phases, after any run: nothing where it notes no commit; else the commit has the phase that its core was in,
 -- and the core's next transaction begins at the new checkpoint.
-use Rattle.std.specs.Prelude.{ℕ, ◌≡◌, ◌≢◌, ◌<◌, ◌≤◌, ◌==◌, true, List, [], ◌∷◌, ◌++◌, length, max, Contains, Option, Some, None, IfSome, nat_lt}
+use Rattle.std.specs.Prelude.{ℕ, ◌+◌, ◌≡◌, ◌≢◌, ◌<◌, ◌≤◌, ◌==◌, true, List, [], ◌∷◌, ◌++◌, length, max, Contains, Option, Some, None, IfSome, nat_lt}
 use Rattle.std.proofs.Common.{arith, refl, ap, sym, ◌∙◌}
 use Rattle.std.proofs.lemmas.Bool.Decides.{nat_tests}
 use Rattle.image_load.specs.Start.{Start}
@@ -16,7 +16,7 @@ use Rattle.tcc_maps.specs.Words.{num}
 use Rattle.tcc_rules.specs.State.{World}
 use Rattle.tcc_rules.specs.Step.{History, Stepped, step, and_noted, insert_commit, recorded, next, and_then, run_from, run}
 use Rattle.tcc_serial.specs.Invariants.{Carried, first_state}
-use Rattle.tcc_serial.specs.Owners.{Grant, IsRising, AreGranted, times, holder, LastGranted}
+use Rattle.tcc_serial.specs.Owners.{Grant, IsNumbered, IsRising, AreGranted, times, holder, LastGranted}
 use Rattle.tcc_serial.specs.Pairs.{pair}
 use Rattle.tcc_serial.specs.Tids.{has_tid}
 use Rattle.tcc_serial.specs.Ways.{Ways, first_ways, ways_from}
@@ -56,6 +56,7 @@ pub record State (s : Start) (gs : List Grant) (h : History) : Type 0 where
   pub serial : IsSerial s h
   pub rising : IsRising 0 h.commits
   pub granted : AreGranted gs h.commits
+  pub numbered : IsNumbered 1 gs × (h.world.next ≡ length gs + 1)
   pub live : (c d t : ℕ) → c < s.settings.cores → 1 ≤ holder t (pair h.world c d)
       → Contains gs (record { tid = t; core = c }) × (times t h.commits ≡ 0)
   pub last : LastGranted gs h.world
@@ -74,6 +75,7 @@ state_after s es k = go (run s.settings (program s) (world_at_start s) es) (runs
       serial = a;
       rising = b.commits_are_of_granted_tids.0;
       granted = b.commits_are_of_granted_tids.1;
+      numbered = b.granted_tids_are_those_below_next;
       live = b.live_tid_is_granted_to_its_core;
       last = b.live_tid_is_the_last_granted_to_its_core;
     }
@@ -93,7 +95,7 @@ is-last gs x (c ∷ cs) z a f = (differs, smaller, is-last gs x cs (omega (arith
     smaller e = let l : c.tid.0 ≤ x.tid.0 = f c.tid.0 (rw e at (a.0)) in
         let n : c.tid.0 ≢ x.tid.0 = differs in grind (arith, nat_tests)
 
-holds : (w : World) (c t : ℕ) → has_tid (w.cores c).phase t ≡ true → 1 ≤ holder t (pair w c 0)
+pub holds : (w : World) (c t : ℕ) → has_tid (w.cores c).phase t ≡ true → 1 ≤ holder t (pair w c 0)
 unfolding holder pair
 holds w c t e = let one : num (has_tid (w.cores c).phase t) ≡ 1 = rw e refl in omega (arith, one)
 

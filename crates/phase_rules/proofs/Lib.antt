@@ -1,9 +1,12 @@
 pub mod Asking
 pub mod Chosen
 pub mod Followed
+pub mod Granting
 pub mod Growing
+pub mod Halting
 pub mod Inserted
 pub mod Lemmas
+pub mod NeverFall
 pub mod Noting
 pub mod Ordered
 pub mod Ran

@@ -2,7 +2,7 @@
 // empty function; nothing here depends on code.
 #![tactic(auto)]
 
-ghost use Rattle.phase_rules.specs.Laws.{PhasedRunsAreRuns, PhasedNeverStuck, PhasedPickedEndsDone, PhasedPickedRuns, PhasesGrow, OneRequestEach};
+ghost use Rattle.phase_rules.specs.Laws.{PhasedRunsAreRuns, PhasesNeverFall, PhasedNeverStuck, PhasedPickedEndsDone, PhasedPickedRuns, PhasesGrow, OneRequestEach};
 
 /// A run by phases is a run of the protocol's rules, to the same state and commits.
 pub fn phased_runs_are_runs()
@@ -31,4 +31,10 @@ pub fn phased_runs_are_never_stuck()
 /// that its core was in, in its place by its TID, and the core's phase grows to the value of x27 at its new checkpoint.
 pub fn phases_grow()
     ensures grow { PhasesGrow }
+{}
+
+/// Along the rising TIDs of a run by phases, from a start with allowed settings, the phases of the commits never fall; there is one for each
+/// commit.
+pub fn phases_never_fall()
+    ensures fall { PhasesNeverFall }
 {}
