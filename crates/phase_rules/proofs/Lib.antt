@@ -13,3 +13,4 @@ pub mod Ran
 pub mod Replayed
 pub mod Runs
 pub mod Stuck
+pub mod Worked

@@ -3,6 +3,7 @@
 #![tactic(auto)]
 
 ghost use Rattle.phase_rules.specs.Laws.{PhasedRunsAreRuns, PhasesNeverFall, PhasedNeverStuck, PhasedPickedEndsDone, PhasedPickedRuns, PhasesGrow, OneRequestEach};
+ghost use Rattle.phase_rules.specs.Worked.{GoesOn, StaysInPhase, InPhaseOne, HeldBack, BothHalt};
 
 /// A run by phases is a run of the protocol's rules, to the same state and commits.
 pub fn phased_runs_are_runs()
@@ -37,4 +38,14 @@ pub fn phases_grow()
 /// commit.
 pub fn phases_never_fall()
     ensures fall { PhasesNeverFall }
+{}
+
+/// What these laws ask is met, by two images that set x27: the phases of a few transactions, the request of a core that is held back as
+/// another one is in an earlier phase, and the phases of a whole run of two cores are computed.
+pub fn worked_runs_by_phases()
+    ensures goes_on { GoesOn }
+    ensures stays { StaysInPhase }
+    ensures asks { InPhaseOne }
+    ensures held { HeldBack }
+    ensures whole { BothHalt }
 {}
