@@ -63,7 +63,7 @@ happens s h e i =
     let k = in-filter (λ e. not (is_held s h e)) e (useful s.settings (program s) h.world) i in
     let u : is_useful s.settings (program s) h.world e ≡ true = (useful-holds s.settings (program s) h.world e).0 (k.1) in
     let n : is_some (step s.settings (program s) h.world e) ≡ true =
-        and-left (is_enabled s.settings (program s) h.world e) (is_of_use s.settings (program s) h.world e) u in
+    and-left (is_enabled s.settings (program s) h.world e) (is_of_use s.settings (program s) h.world e) u in
     go (is_held s h e) (k.0) (some-recorded h (step s.settings (program s) h.world e) n)
   where
     go : (b : Bool) → not b ≡ true → is_some (next s.settings (program s) h e) ≡ true

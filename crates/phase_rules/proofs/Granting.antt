@@ -1,11 +1,10 @@
 -- What is granted by one more event: the next TID, to the core whose request is delivered; and such an event notes no commit.
 use Rattle.std.specs.Prelude.{ℕ, zero, suc, ◌≡◌, Bool, true, false, List, [], ◌∷◌, ◌++◌, Contains, Option, Some, None, IfSome, IsSome, if◌then◌else◌}
 use Rattle.std.proofs.Common.{arith, refl, ap, sym, append_assoc, ◌∙◌}
-use Rattle.std.proofs.lemmas.Bool.Decides.{nat_tests}
 use Rattle.std.proofs.lemmas.List.{append-nil}
 use Rattle.image_load.specs.Start.{Start}
 use Rattle.tcc_program.specs.Program.{Program}
-use Rattle.tcc_maps.specs.Nodes.{Core, Dir, Vendor, Event, Exec, Evict, Deliver, Msg, TidReq}
+use Rattle.tcc_maps.specs.Nodes.{Core, Vendor, Event, Deliver, Msg, TidReq}
 use Rattle.tcc_maps.specs.Shape.{Shape}
 use Rattle.tcc_rules.specs.Links.{in_flight}
 use Rattle.tcc_rules.specs.State.{World}
@@ -29,7 +28,7 @@ grants-snoc sh p (f ∷ es) e h = go (next sh p h f) (grants-snoc sh p es e)
     after : (g : History) (y : Option History)
         → IfSome y (λ r. IsSome (next sh p r e) → grants_from sh p (es ++ e ∷ []) g ≡ grants_from sh p es g ++ granted_by r.world e)
         → IfSome y (λ r. IsSome (next sh p r e)
-            → granted_by h.world f ++ grants_from sh p (es ++ e ∷ []) g ≡ (granted_by h.world f ++ grants_from sh p es g) ++ granted_by r.world e)
+        → granted_by h.world f ++ grants_from sh p (es ++ e ∷ []) g ≡ (granted_by h.world f ++ grants_from sh p es g) ++ granted_by r.world e)
     after g None k = tt
     after g (Some r) k = λ i. ap (λ gs. granted_by h.world f ++ gs) (k i)
         ∙ sym (append_assoc (granted_by h.world f) (grants_from sh p es g) (granted_by r.world e))
@@ -37,7 +36,7 @@ grants-snoc sh p (f ∷ es) e h = go (next sh p h f) (grants-snoc sh p es e)
     go : (x : Option History)
         → ((g : History) → IfSome (run_from sh p es g) (λ r. IsSome (next sh p r e) → grants_from sh p (es ++ e ∷ []) g ≡ grants_from sh p es g ++ granted_by r.world e))
         → IfSome (and_then (run_from sh p es) x) (λ r. IsSome (next sh p r e)
-            → then_grants (granted_by h.world f) (grants_from sh p (es ++ e ∷ [])) x ≡ then_grants (granted_by h.world f) (grants_from sh p es) x ++ granted_by r.world e)
+        → then_grants (granted_by h.world f) (grants_from sh p (es ++ e ∷ [])) x ≡ then_grants (granted_by h.world f) (grants_from sh p es) x ++ granted_by r.world e)
     go None k = tt
     go (Some g) k = after g (run_from sh p es g) (k g)
 

@@ -182,8 +182,7 @@ grows s gs h o k new n = go o.noted new n
         → IfSome x (NotedIn s.settings h.world) → Grows s h (record { world = o.world; commits = and_noted x h.commits }) x
     go None new n = (refl, silent s h o.world k.serial new)
     go (Some x) new n =
-        let a = added s gs h o.world x k new n in
-        (
+        let a = added s gs h o.world x k new n in (
           a.each ∙ with-phase_put_in x (phase_of s h x.core.0) 0 h.commits (phases_of s h) (counted s h k.serial) k.rising (noted-last s gs h x k n),
           a.own,
           a.others,

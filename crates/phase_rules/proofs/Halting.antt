@@ -6,7 +6,7 @@ use Rattle.tcc_program.specs.Program.{Program}
 use Rattle.tcc_maps.specs.Nodes.{Node, Core, Dir, Vendor, Event, Exec, Evict, Deliver, Msg}
 use Rattle.tcc_maps.specs.Shape.{Shape}
 use Rattle.tcc_rules.specs.State.{CoreState, Phase, Halted, World}
-use Rattle.tcc_rules.specs.Attempt.{Out, roll_back}
+use Rattle.tcc_rules.specs.Attempt.{Out}
 use Rattle.tcc_rules.specs.CoreDeliver.{core_deliver, grant, probe_reply, fill, data_request, invalidate, acknowledged, if_violated, without}
 use Rattle.tcc_rules.specs.CoreEvict.{core_evict}
 use Rattle.tcc_rules.specs.CoreExec.{core_exec}

@@ -97,8 +97,8 @@ same-first base p m c d t h i = ap (some-of d) (sym i ∙ h)
 behind-first : (base : ℕ) (p : Program) (x c : Commit) (cs ds : List Commit) (m end other : Plain) (f : ℕ → ℕ)
     → nat_lt x.tid.0 c.tid.0 ≡ false → Ran base p m (c ∷ cs) end → Ran base p m (c ∷ ds) other
     → ((d : Plain × Attempt) → Ran base p d.0 cs end → Ran base p d.0 ds other
-        → Grown x cs (along base p (put f c.core.0 (phase_at f m c.core.0)) cs d.0)
-        (along base p (put f c.core.0 (phase_at f m c.core.0)) ds d.0) end other)
+    → Grown x cs (along base p (put f c.core.0 (phase_at f m c.core.0)) cs d.0)
+    (along base p (put f c.core.0 (phase_at f m c.core.0)) ds d.0) end other)
     → Grown x (c ∷ cs) (along base p f (c ∷ cs) m) (along base p f (c ∷ ds) m) end other
 unfolding Ran
 behind-first base p x c cs ds m end other f e (d, h, v, y) (t, i, u, z) g =
@@ -120,8 +120,8 @@ grown base p x last (c ∷ cs) m end other f r k a b =
 
     go : (b : Bool) → nat_lt x.tid.0 c.tid.0 ≡ b → Ran base p m (if b then x ∷ c ∷ cs else c ∷ insert_commit x cs) other
         → ((d : Plain × Attempt) → Ran base p d.0 cs end → Ran base p d.0 (insert_commit x cs) other
-            → Grown x cs (along base p (put f c.core.0 (phase_at f m c.core.0)) cs d.0)
-            (along base p (put f c.core.0 (phase_at f m c.core.0)) (insert_commit x cs) d.0) end other)
+        → Grown x cs (along base p (put f c.core.0 (phase_at f m c.core.0)) cs d.0)
+        (along base p (put f c.core.0 (phase_at f m c.core.0)) (insert_commit x cs) d.0) end other)
         → Grown x (c ∷ cs) (along base p f (c ∷ cs) m) (along base p f (if b then x ∷ c ∷ cs else c ∷ insert_commit x cs) m) end other
     go true e z g = first-grown base p x (c ∷ cs) m end other f (none e) (rw e refl) a z
     go false e z g = behind-first base p x c cs (insert_commit x cs) m end other f e a z g

@@ -1,29 +1,26 @@
 -- Along a run by phases the phases of the commits never fall, by rising TID.
-use Rattle.std.specs.Prelude.{ℕ, zero, suc, ◌+◌, ◌≡◌, ◌≢◌, ◌<◌, ◌≤◌, ◌==◌, ◌&&◌, ◌||◌, Bool, true, false, not, List, [], ◌∷◌, ◌++◌, length, max, Contains, Option, Some, None, IfSome, IsSome, nat_lt, if◌then◌else◌}
-use Rattle.std.proofs.Common.{arith, refl, ap, sym, ◌∙◌, ◌⊎◌, inl, inr}
+use Rattle.std.specs.Prelude.{ℕ, zero, suc, ◌+◌, ◌≡◌, ◌≢◌, ◌<◌, ◌≤◌, ◌==◌, ◌&&◌, ◌||◌, Bool, true, false, not, List, [], ◌∷◌, ◌++◌, length, Contains, Option, Some, None, IfSome, nat_lt, if◌then◌else◌}
+use Rattle.std.proofs.Common.{arith, refl, ◌∙◌, ◌⊎◌, inl, inr}
 use Rattle.std.proofs.lemmas.Bool.Decides.{nat_tests}
-use Rattle.std.proofs.lemmas.List.{append-nil}
 use Rattle.std.proofs.lemmas.List.Elements.{Contains-append_cases}
 use Rattle.image_load.specs.Start.{Start}
-use Rattle.rv_code.specs.Machine.{program, first_ram}
+use Rattle.rv_code.specs.Machine.{program}
 use Rattle.tcc_base.specs.Settings.{IsAllowed}
 use Rattle.tcc_base.specs.declared.access.Commit.{Commit}
 use Rattle.tcc_maps.specs.Nodes.{Event}
 use Rattle.tcc_maps.specs.Words.{any_below}
 use Rattle.tcc_rules.specs.State.{Phase, Halted, World}
 use Rattle.tcc_rules.specs.Step.{History, Stepped, step, and_noted, recorded, next, and_then, run_from, run}
-use Rattle.tcc_serial.specs.Invariants.{first_state}
 use Rattle.tcc_serial.specs.Owners.{Grant, granted_by, grants_from, IsNumbered, AreGranted}
 use Rattle.tcc_serial.specs.Tids.{has_tid}
 use Rattle.tcc_serial.proofs.Lemmas.{numbered-most}
 use Rattle.rv_serial.specs.Given.{IsSerial, grants_of}
-use Rattle.rv_serial.specs.Suiting.{local_at_start, world_at_start}
 use Rattle.rv_serial.proofs.Lemmas.{runs_give_the_plain_machine}
 use Rattle.phase_rules.specs.Laws.{at_start, InPhases, PhasesNeverFall}
 use Rattle.phase_rules.specs.Phased.{has_halted, goes_before, is_late, is_held, phased_next, phased_from}
 use Rattle.phase_rules.specs.Phases.{phases_along, phases_in, phases_of, phase_of}
 use Rattle.phase_rules.proofs.Granting.{Granting, none-in, grants-snoc, granting, granting-silent}
-use Rattle.phase_rules.proofs.Growing.{State, state_after, run-snoc, holds, noted-last, Added, added, silent, counted}
+use Rattle.phase_rules.proofs.Growing.{State, state_after, run-snoc, holds, noted-last, added, silent, counted}
 use Rattle.phase_rules.proofs.Halting.{StayHalted, step-stays}
 use Rattle.phase_rules.proofs.Inserted.{IsLast}
 use Rattle.phase_rules.proofs.Noting.{NotedIn, step-notes}

@@ -2,7 +2,7 @@
 -- granted, and the commits with their phases.
 use Rattle.std.specs.Prelude.{ℕ, zero, suc, ◌≡◌, ◌≢◌, ◌<◌, ◌≤◌, ◌==◌, Bool, true, false, List, [], ◌∷◌, length, nat_lt, slice_index_or, if◌then◌else◌}
 use Rattle.std.specs.List.Sorted.{IsNonDecreasing}
-use Rattle.std.proofs.Common.{arith, refl, ap, sym, ◌⊎◌, inl, inr}
+use Rattle.std.proofs.Common.{arith, refl, sym, ◌⊎◌, inl, inr}
 use Rattle.std.proofs.lemmas.Bool.Decides.{nat_tests}
 use Rattle.tcc_base.specs.declared.access.Commit.{Commit}
 use Rattle.tcc_rules.specs.Step.{insert_commit}

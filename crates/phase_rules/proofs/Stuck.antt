@@ -159,9 +159,9 @@ phased_never_stuck s es k = go (phased_from s es (at_start s)) (phased_runs_are_
     reached : (h : History) → run s.settings (program s) (world_at_start s) es ≡ Some h → NoneLeft s h → IsDone s.settings h.world
     reached h e z =
         let done : DoneWhereNoneUseful s.settings (program s) h.world =
-            rw e at (no_state_is_stuck s.settings (program s) (local_at_start s) (first_ram s) es (equipped s k)) in
+        rw e at (no_state_is_stuck s.settings (program s) (local_at_start s) (first_ram s) es (equipped s k)) in
         let on : EachGoesOn s.settings (program s) h.world =
-            rw e at (each_core_goes_on s.settings (program s) (local_at_start s) (first_ram s) es (equipped s k)) in
+        rw e at (each_core_goes_on s.settings (program s) (local_at_start s) (first_ram s) es (equipped s k)) in
         done (none-useful s h on z)
 
     go : (o : Option History) → IfSome o (λ h. run s.settings (program s) (world_at_start s) es ≡ Some h) → EndsDone s o
