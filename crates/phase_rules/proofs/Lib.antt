@@ -1,16 +1,6 @@
-pub mod Asking
-pub mod Chosen
-pub mod Followed
-pub mod Granting
-pub mod Growing
-pub mod Halting
-pub mod Inserted
+-- The proofs of this crate.
 pub mod Lemmas
-pub mod NeverFall
-pub mod Noting
-pub mod Ordered
-pub mod Ran
-pub mod Replayed
-pub mod Runs
-pub mod Stuck
-pub mod Worked
+mod Serial
+mod Events
+mod Running
+mod Worked

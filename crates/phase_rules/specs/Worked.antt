@@ -27,8 +27,8 @@ numbered_file =
 -- addi x27,x0,3; ecall; addi x27,x0,1; ecall; addi x17,x0,93; ecall
 abbrev pub falling_file : List ℕ
 falling_file =
-    0x93 ∷ 0x0d ∷ 0x30 ∷ 0x00 ∷ 0x73 ∷ 0x00 ∷ 0x00 ∷ 0x00 ∷ 0x93 ∷ 0x0d ∷ 0x10 ∷ 0x00 ∷ 0x73 ∷ 0x00 ∷ 0x00 ∷ 0x00 ∷
-    0x93 ∷ 0x08 ∷ 0xd0 ∷ 0x05 ∷ 0x73 ∷ 0x00 ∷ 0x00 ∷ 0x00 ∷ []
+    0x93 ∷ 0x0d ∷ 0x30 ∷ 0x00 ∷ 0x73 ∷ 0x00 ∷ 0x00 ∷ 0x00 ∷ 0x93 ∷ 0x0d ∷ 0x10 ∷ 0x00 ∷
+    0x73 ∷ 0x00 ∷ 0x00 ∷ 0x00 ∷ 0x93 ∷ 0x08 ∷ 0xd0 ∷ 0x05 ∷ 0x73 ∷ 0x00 ∷ 0x00 ∷ 0x00 ∷ []
 
 abbrev pub numbered : Start
 numbered = start settings (raw_images settings.base (numbered_file ∷ []))
@@ -72,10 +72,12 @@ HeldBack =
 -- a whole run of both cores
 abbrev pub both_halt : List Event
 both_halt =
-    e 0 ∷ e 0 ∷ d c0 v 0 ∷ e 1 ∷ d v c0 0 ∷ d c0 d0 0 ∷ e 0 ∷ e 0 ∷ e 1 ∷ d c0 v 1 ∷ d v c0 1 ∷ d c1 v 0 ∷ d c0 d0 1 ∷
-    e 0 ∷ d v c1 0 ∷ e 1 ∷ e 0 ∷ e 1 ∷ d c1 d0 0 ∷ e 0 ∷ d c0 v 2 ∷ d v c0 2 ∷ d c0 d0 2 ∷ e 0 ∷ d c1 v 1 ∷ d v c1 1 ∷
-    e 1 ∷ d c1 d0 1 ∷ e 1 ∷ e 1 ∷ d c1 v 2 ∷ d v c1 2 ∷ e 1 ∷ d c1 d0 2 ∷ []
+    e 0 ∷ e 0 ∷ d c0 v 0 ∷ e 1 ∷ d v c0 0 ∷ d c0 d0 0 ∷ e 0 ∷ e 0 ∷ e 1 ∷ d c0 v 1 ∷ d v c0 1 ∷
+    d c1 v 0 ∷ d c0 d0 1 ∷ e 0 ∷ d v c1 0 ∷ e 1 ∷ e 0 ∷ e 1 ∷ d c1 d0 0 ∷ e 0 ∷ d c0 v 2 ∷ d v c0 2 ∷
+    d c0 d0 2 ∷ e 0 ∷ d c1 v 1 ∷ d v c1 1 ∷ e 1 ∷ d c1 d0 1 ∷ e 1 ∷ e 1 ∷ d c1 v 2 ∷ d v c1 2 ∷ e 1 ∷
+    d c1 d0 2 ∷ []
 
 abbrev pub BothHalt : Type 0
 BothHalt =
-    option_map (λ h. phases_of numbered h) (phased_from numbered both_halt (at_start numbered)) ≡ Some (0 ∷ 0 ∷ 0 ∷ 0 ∷ 1 ∷ 1 ∷ [])
+    option_map (λ h. phases_of numbered h) (phased_from numbered both_halt (at_start numbered))
+    ≡ Some (0 ∷ 0 ∷ 0 ∷ 0 ∷ 1 ∷ 1 ∷ [])

@@ -2,7 +2,8 @@
 // empty function; nothing here depends on code.
 #![tactic(auto)]
 
-ghost use Rattle.phase_rules.specs.Laws.{PhasedRunsAreRuns, PhasesNeverFall, PhasedNeverStuck, PhasedPickedEndsDone, PhasedPickedRuns, PhasesGrow, OneRequestEach};
+ghost use Rattle.phase_rules.specs.Laws.{PhasedRunsAreRuns, PhasesNeverFall, PhasedNeverStuck, PhasedPickedEndsDone, PhasedPickedRuns};
+ghost use Rattle.phase_rules.specs.Laws.{PhasesGrow, OneRequestEach};
 ghost use Rattle.phase_rules.specs.Worked.{GoesOn, StaysInPhase, InPhaseOne, HeldBack, BothHalt};
 
 /// A run by phases is a run of the protocol's rules, to the same state and commits.
@@ -34,8 +35,8 @@ pub fn phases_grow()
     ensures grow { PhasesGrow }
 {}
 
-/// Along the rising TIDs of a run by phases, from a start with allowed settings, the phases of the commits never fall; there is one for each
-/// commit.
+/// Along the rising TIDs of a run by phases, from a start with allowed settings, the phases of the commits never fall; there is one for
+/// each commit.
 pub fn phases_never_fall()
     ensures fall { PhasesNeverFall }
 {}

@@ -1,4 +1,4 @@
-use Rattle.phase_rules.proofs.NeverFall.{phases_never_fall}
+use Rattle.phase_rules.proofs.Running.NeverFall.{phases_never_fall}
 use Rattle.phase_rules.proofs.phases_never_fall.Goals as goal
 
 pub returns : goal.returns

@@ -1,6 +1,7 @@
 -- What a chooser takes of the useful events that aren't held back: a schedule that it picks by phases is a run by phases, and ends early
 -- only where none is left.
-use Rattle.std.specs.Prelude.{ℕ, zero, suc, ◌≡◌, ◌<◌, ◌%◌, Bool, true, false, not, List, [], ◌∷◌, length, filter, Option, Some, None, is_some, slice_index_or, IfSome, if◌then◌else◌}
+use Rattle.std.specs.Prelude.{ℕ, zero, suc, ◌≡◌, ◌<◌, ◌%◌, Bool, true, false, not, List, [], ◌∷◌, length, filter}
+use Rattle.std.specs.Prelude.{Option, Some, None, is_some, slice_index_or, IfSome, if◌then◌else◌}
 use Rattle.std.proofs.Common.{arith, refl, ◌⊎◌, inl, inr}
 use Rattle.image_load.specs.Start.{Start}
 use Rattle.rv_code.specs.Machine.{program}

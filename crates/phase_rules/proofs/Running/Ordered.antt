@@ -1,13 +1,14 @@
 -- What holds along a run by phases, over plain maps: of each core whether it hasn't halted and in which phase it is, the TIDs that were
 -- granted, and the commits with their phases.
-use Rattle.std.specs.Prelude.{ℕ, zero, suc, ◌≡◌, ◌≢◌, ◌<◌, ◌≤◌, ◌==◌, Bool, true, false, List, [], ◌∷◌, length, nat_lt, slice_index_or, if◌then◌else◌}
+use Rattle.std.specs.Prelude.{ℕ, zero, suc, ◌≡◌, ◌≢◌, ◌<◌, ◌≤◌, ◌==◌, Bool, true, false, List, [], ◌∷◌}
+use Rattle.std.specs.Prelude.{length, nat_lt, slice_index_or, if◌then◌else◌}
 use Rattle.std.specs.List.Sorted.{IsNonDecreasing}
 use Rattle.std.proofs.Common.{arith, refl, sym, ◌⊎◌, inl, inr}
 use Rattle.std.proofs.lemmas.Bool.Decides.{nat_tests}
 use Rattle.tcc_base.specs.declared.access.Commit.{Commit}
 use Rattle.tcc_rules.specs.Step.{insert_commit}
 use Rattle.tcc_serial.specs.Owners.{IsRising}
-use Rattle.phase_rules.proofs.Inserted.{with_phase, behind_first}
+use Rattle.phase_rules.proofs.Serial.Inserted.{with_phase, behind_first}
 
 -- lists of phases
 
@@ -62,7 +63,8 @@ at-least-with b t q (c ∷ cs) rs l k = go (nat_lt t c.tid.0) rs k (λ rs k. at-
     go false (r ∷ rs) k f = (k.0, f rs (k.1))
 
 -- where all have larger TIDs
-above-all : (t b last : ℕ) (cs : List Commit) (rs : List ℕ) → t ≤ last → length rs ≡ length cs → IsRising last cs → Above t b cs rs → AtLeast b rs
+above-all : (t b last : ℕ) (cs : List Commit) (rs : List ℕ) → t ≤ last → length rs ≡ length cs → IsRising last cs
+    → Above t b cs rs → AtLeast b rs
 unfolding IsRising Above AtLeast
 above-all t b last cs [] l e r k = tt
 above-all t b last [] (a ∷ rs) l e r k = absurd (omega (arith, e))
@@ -77,7 +79,8 @@ above-with t b x q (c ∷ cs) rs l k = go (nat_lt x.tid.0 c.tid.0) rs k (λ rs k
   where
     go : (z : Bool) (rs : List ℕ) → Above t b (c ∷ cs) rs
         → ((rs : List ℕ) → Above t b cs rs → Above t b (insert_commit x cs) (with_phase x.tid.0 q cs rs))
-        → Above t b (if z then x ∷ c ∷ cs else c ∷ insert_commit x cs) (if z then q ∷ rs else behind_first (with_phase x.tid.0 q cs) rs)
+        → Above t b (if z then x ∷ c ∷ cs else c ∷ insert_commit x cs)
+        (if z then q ∷ rs else behind_first (with_phase x.tid.0 q cs) rs)
     go true rs k f = (l, k)
     go false [] k f = tt
     go false (r ∷ rs) k f = (k.0, f rs (k.1))
@@ -98,7 +101,8 @@ rises-with x q last (c ∷ cs) (b ∷ rs) e i m a r =
         (((a.0) l, above-all x.tid.0 q c.tid.0 cs rs (omega (arith, l)) (omega (arith, e)) (i.1) (a.1)), r)
     go false y f = (at-least-with b x.tid.0 q cs rs (m.0) (r.0), f)
 
-none-from : (c t : ℕ) (x : Commit) (cs : List Commit) → NoneFrom c t (insert_commit x cs) → (x.core.0 ≡ c → x.tid.0 < t) × NoneFrom c t cs
+none-from : (c t : ℕ) (x : Commit) (cs : List Commit) → NoneFrom c t (insert_commit x cs)
+    → (x.core.0 ≡ c → x.tid.0 < t) × NoneFrom c t cs
 unfolding NoneFrom insert_commit
 none-from c t x [] k = (k.0, tt)
 none-from c t x (d ∷ cs) k = go (nat_lt x.tid.0 d.tid.0) k (none-from c t x cs)
@@ -117,7 +121,8 @@ at-least-get b [] j d l k = absurd (omega arith)
 at-least-get b (r ∷ rs) zero d l k = k.0
 at-least-get b (r ∷ rs) (suc j) d l k = at-least-get b rs j d (omega arith) (k.1)
 
-rising-get : (rs : List ℕ) → Rises rs → (i j d : ℕ) → i ≤ j → j < length rs → slice_index_or rs i d ≤ slice_index_or rs j d
+rising-get : (rs : List ℕ) → Rises rs → (i j d : ℕ) → i ≤ j → j < length rs
+    → slice_index_or rs i d ≤ slice_index_or rs j d
 unfolding Rises
 rising-get [] k i j d l n = absurd (omega arith)
 rising-get (r ∷ rs) k zero zero d l n = omega arith
@@ -128,9 +133,16 @@ rising-get (r ∷ rs) k (suc i) (suc j) d l n = rising-get rs (k.1) i j d (omega
 pub never-falls : (rs : List ℕ) → Rises rs → IsNonDecreasing rs
 never-falls rs k i j d l n = rising-get rs k i j d l n
 
+-- which cores, and which TIDs of which cores
+abbrev pub Cores : Type 1
+Cores = (core : ℕ) → Type 0
+
+abbrev pub Tids : Type 1
+Tids = (tid core : ℕ) → Type 0
+
 -- the state of a run by phases. A TID of which its core has no commit, and no later one, may still commit.
 
-pub record Ordered (cores : ℕ) (going : ℕ → Type 0) (given : ℕ → ℕ → Type 0) (phase : ℕ → ℕ) (cs : List Commit) (qs : List ℕ) : Type 0 where
+pub record Ordered (cores : ℕ) (going : Cores) (given : Tids) (phase : ℕ → ℕ) (cs : List Commit) (qs : List ℕ) : Type 0 where
   -- No commit is in a phase that is later than that of a core that goes on.
   pub behind : (c : ℕ) → c < cores → going c → AtMost (phase c) qs
   -- A core with a TID that may commit is in no later phase than one that goes on,
@@ -141,12 +153,12 @@ pub record Ordered (cores : ℕ) (going : ℕ → Type 0) (given : ℕ → ℕ �
   pub rise : Rises qs
 
 -- a TID that is granted, where its core isn't late, is above those of the commits
-pub record Fresh (cores : ℕ) (going : ℕ → Type 0) (phase : ℕ → ℕ) (cs : List Commit) (qs : List ℕ) (t c : ℕ) : Type 0 where
+pub record Fresh (cores : ℕ) (going : Cores) (phase : ℕ → ℕ) (cs : List Commit) (qs : List ℕ) (t c : ℕ) : Type 0 where
   pub first : (j : ℕ) → j < cores → going j → phase c ≤ phase j
   pub above : Above t (phase c) cs qs
 
 -- an event that notes no commit
-pub silent-keeps : (cores : ℕ) (going still : ℕ → Type 0) (given more : ℕ → ℕ → Type 0) (old new : ℕ → ℕ) (cs : List Commit) (qs : List ℕ)
+pub silent-keeps : (cores : ℕ) (going still : Cores) (given more : Tids) (old new : ℕ → ℕ) (cs : List Commit) (qs : List ℕ)
     → Ordered cores going given old cs qs
     → ((c : ℕ) → c < cores → new c ≡ old c) → ((c : ℕ) → still c → going c)
     → ((t c : ℕ) → c < cores → more t c → given t c ⊎ Fresh cores going old cs qs t c)
@@ -158,7 +170,8 @@ silent-keeps cores going still given more old new cs qs k e g f = record {
   rise = k.rise;
 }
   where
-    first : (c t j : ℕ) → c < cores → given t c ⊎ Fresh cores going old cs qs t c → NoneFrom c t cs → j < cores → going j → old c ≤ old j
+    first : (c t j : ℕ) → c < cores → given t c ⊎ Fresh cores going old cs qs t c → NoneFrom c t cs → j < cores → going j
+        → old c ≤ old j
     first c t j l (inl m) n i s = k.first c t j l m n i s
     first c t j l (inr x) n i s = x.first j i s
 
@@ -167,11 +180,12 @@ silent-keeps cores going still given more old new cs qs k e g f = record {
     above c t l (inr x) n = x.above
 
 -- a commit of a core that goes on, of the last TID that was granted to it
-pub noted-keeps : (cores : ℕ) (going still : ℕ → Type 0) (given more : ℕ → ℕ → Type 0) (old new : ℕ → ℕ) (cs : List Commit) (qs : List ℕ) (x : Commit)
-    → Ordered cores going given old cs qs → length qs ≡ length cs → IsRising 0 cs
+pub noted-keeps : (cores : ℕ) (going still : Cores) (given more : Tids) (old new : ℕ → ℕ) (cs : List Commit) (qs : List ℕ)
+    (x : Commit) → Ordered cores going given old cs qs → length qs ≡ length cs → IsRising 0 cs
     → x.core.0 < cores → going x.core.0 → given x.tid.0 x.core.0 → NoneFrom x.core.0 x.tid.0 cs
     → ((t : ℕ) → given t x.core.0 → t ≤ x.tid.0)
-    → old x.core.0 ≤ new x.core.0 → ((c : ℕ) → c < cores → c ≢ x.core.0 → new c ≡ old c) → ((c : ℕ) → still c → going c)
+    → old x.core.0 ≤ new x.core.0 → ((c : ℕ) → c < cores → c ≢ x.core.0 → new c ≡ old c)
+    → ((c : ℕ) → still c → going c)
     → ((t c : ℕ) → more t c → given t c)
     → Ordered cores still more new (insert_commit x cs) (with_phase x.tid.0 (old x.core.0) cs qs)
 noted-keeps cores going still given more old new cs qs x k len rising own on has none last up e g f = record {
@@ -193,12 +207,15 @@ noted-keeps cores going still given more old new cs qs x k len rising own on has
       where
         go : (z : Bool) → (c == x.core.0) ≡ z → old c ≤ new c
         go true y = let r : c ≡ x.core.0 = grind (arith, nat_tests) in rw r up
-        go false y = let d : c ≢ x.core.0 = λ r. absurd (let w : (c == x.core.0) ≡ true = grind (arith, nat_tests) in cc) in omega (arith, e c l d)
+        go false y =
+            let d : c ≢ x.core.0 = λ r. absurd (let w : (c == x.core.0) ≡ true = grind (arith, nat_tests) in cc) in
+            omega (arith, e c l d)
 
     other : (c t : ℕ) → given t c → (x.core.0 ≡ c → x.tid.0 < t) → c ≢ x.core.0
     other c t m n r = let l : t ≤ x.tid.0 = last t (rw r at m) in absurd (omega (arith, l, n (sym r)))
 
-    first : (c t j : ℕ) → c < cores → given t c → (x.core.0 ≡ c → x.tid.0 < t) × NoneFrom c t cs → j < cores → going j → new c ≤ new j
+    first : (c t j : ℕ) → c < cores → given t c → (x.core.0 ≡ c → x.tid.0 < t) × NoneFrom c t cs → j < cores → going j
+        → new c ≤ new j
     first c t j l m n i s = omega (arith, e c l (other c t m (n.0)), k.first c t j l m (n.1) i s, grows j i)
 
     above : (c t : ℕ) → c < cores → given t c → (x.core.0 ≡ c → x.tid.0 < t) × NoneFrom c t cs

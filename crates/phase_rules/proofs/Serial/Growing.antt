@@ -1,6 +1,7 @@
 -- What an event does to the phases, after any run: nothing where it notes no commit; else the commit has the phase that its core was in,
 -- and the core's next transaction begins at the new checkpoint.
-use Rattle.std.specs.Prelude.{ℕ, ◌+◌, ◌≡◌, ◌≢◌, ◌<◌, ◌≤◌, ◌==◌, true, List, [], ◌∷◌, ◌++◌, length, max, Contains, Option, Some, None, IfSome, nat_lt}
+use Rattle.std.specs.Prelude.{ℕ, ◌+◌, ◌≡◌, ◌≢◌, ◌<◌, ◌≤◌, ◌==◌, true, List, [], ◌∷◌, ◌++◌, length}
+use Rattle.std.specs.Prelude.{max, Contains, Option, Some, None, IfSome, nat_lt}
 use Rattle.std.proofs.Common.{arith, refl, ap, sym, ◌∙◌}
 use Rattle.std.proofs.lemmas.Bool.Decides.{nat_tests}
 use Rattle.image_load.specs.Start.{Start}
@@ -26,10 +27,10 @@ use Rattle.rv_serial.specs.Suiting.{local_at_start, world_at_start, AfterRun}
 use Rattle.rv_serial.proofs.Lemmas.{runs_give_the_plain_machine}
 use Rattle.phase_rules.specs.Laws.{Grows, PhasesGrow, noted_by}
 use Rattle.phase_rules.specs.Phases.{x27, phases_in, phases_of, phase_of}
-use Rattle.phase_rules.proofs.Followed.{phase_at}
-use Rattle.phase_rules.proofs.Inserted.{IsLast, Grown, with_phase, grown, along-count, with-phase_put_in}
-use Rattle.phase_rules.proofs.Noting.{NotedIn, step-notes}
-use Rattle.phase_rules.proofs.Ran.{Ran, ran}
+use Rattle.phase_rules.proofs.Serial.Followed.{phase_at}
+use Rattle.phase_rules.proofs.Serial.Inserted.{IsLast, Grown, with_phase, grown, along-count, with-phase_put_in}
+use Rattle.phase_rules.proofs.Events.Noting.{NotedIn, step-notes}
+use Rattle.phase_rules.proofs.Serial.Ran.{Ran, ran}
 
 -- one more event
 
@@ -99,7 +100,8 @@ pub holds : (w : World) (c t : ℕ) → has_tid (w.cores c).phase t ≡ true →
 unfolding holder pair
 holds w c t e = let one : num (has_tid (w.cores c).phase t) ≡ 1 = rw e refl in omega (arith, one)
 
-pub noted-last : (s : Start) (gs : List Grant) (h : History) (x : Commit) → State s gs h → NotedIn s.settings h.world x → IsLast x h.commits
+pub noted-last : (s : Start) (gs : List Grant) (h : History) (x : Commit) → State s gs h → NotedIn s.settings h.world x
+    → IsLast x h.commits
 noted-last s gs h x k n =
     let l = holds h.world x.core.0 x.tid.0 n.has in
     is-last gs x h.commits ((k.live x.core.0 0 x.tid.0 n.core l).1) k.granted (λ u i. k.last x.core.0 0 x.tid.0 u l i)
@@ -114,7 +116,8 @@ saved : (s : Start) (h : History) (c : ℕ) → c < s.settings.cores → ((commi
 unfolding committed
 saved s h c l = let e : nat_lt c s.settings.cores ≡ true = grind (arith, nat_tests) in rw e refl
 
-phase-at : (s : Start) (h : History) (c : ℕ) → c < s.settings.cores → phase_at (phases_in s h).last (committed s h) c ≡ phase_of s h c
+phase-at : (s : Start) (h : History) (c : ℕ) → c < s.settings.cores
+    → phase_at (phases_in s h).last (committed s h) c ≡ phase_of s h c
 unfolding phase_of
 phase-at s h c l = λ i. max ((phases_in s h).last c) (x27 (saved s h c l i))
 
@@ -158,7 +161,8 @@ same-machine : (s : Start) (h : History) (w : World) → IsSerial s h → IsSeri
 unfolding IsSerial
 same-machine s h w old new = ap (machine_of (committed s h)) (sym new ∙ old)
 
-pub silent : (s : Start) (h : History) (w : World) → IsSerial s h → IsSerial s (after_silence h w) → (c : ℕ) → c < s.settings.cores
+pub silent : (s : Start) (h : History) (w : World) → IsSerial s h → IsSerial s (after_silence h w) → (c : ℕ)
+    → c < s.settings.cores
     → phase_of s (after_silence h w) c ≡ phase_of s h c
 unfolding phase_of phases_in
 silent s h w old new c l = λ i. max ((phases_in s h).last c) (x27 (stays i))
@@ -182,11 +186,10 @@ grows s gs h o k new n = go o.noted new n
         → IfSome x (NotedIn s.settings h.world) → Grows s h (record { world = o.world; commits = and_noted x h.commits }) x
     go None new n = (refl, silent s h o.world k.serial new)
     go (Some x) new n =
-        let a = added s gs h o.world x k new n in (
-          a.each ∙ with-phase_put_in x (phase_of s h x.core.0) 0 h.commits (phases_of s h) (counted s h k.serial) k.rising (noted-last s gs h x k n),
-          a.own,
-          a.others,
-        )
+        let a = added s gs h o.world x k new n in
+        let placed = with-phase_put_in x (phase_of s h x.core.0) 0 h.commits (phases_of s h) (counted s h k.serial) k.rising
+        (noted-last s gs h x k n) in
+        (a.each ∙ placed, a.own, a.others)
 
 -- after every run
 
@@ -211,7 +214,8 @@ phases_grow s es e k = go (run_from s.settings (program s) es first) (state_afte
     first : History
     first = record { world = world_at_start s; commits = [] }
 
-    go : (o : Option History) → IfSome o (State s (grants_of s es)) → IfSome (and_then (λ g. next s.settings (program s) g e) o) (IsSerial s)
+    go : (o : Option History) → IfSome o (State s (grants_of s es))
+        → IfSome (and_then (λ g. next s.settings (program s) g e) o) (IsSerial s)
         → IfSome o (EachGrows s e)
     go None a b = tt
     go (Some h) a b = event-grows s (grants_of s es) e h a b

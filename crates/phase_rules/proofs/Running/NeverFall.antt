@@ -1,5 +1,7 @@
 -- Along a run by phases the phases of the commits never fall, by rising TID.
-use Rattle.std.specs.Prelude.{ℕ, zero, suc, ◌+◌, ◌≡◌, ◌≢◌, ◌<◌, ◌≤◌, ◌==◌, ◌&&◌, ◌||◌, Bool, true, false, not, List, [], ◌∷◌, ◌++◌, length, Contains, Option, Some, None, IfSome, nat_lt, if◌then◌else◌}
+use Rattle.std.specs.Prelude.{ℕ, zero, suc, ◌+◌, ◌≡◌, ◌≢◌, ◌<◌, ◌≤◌, ◌==◌, ◌&&◌, ◌||◌, Bool, true}
+use Rattle.std.specs.Prelude.{false, not, List, [], ◌∷◌, ◌++◌, length, Contains, Option, Some, None, IfSome, nat_lt}
+use Rattle.std.specs.Prelude.{if◌then◌else◌}
 use Rattle.std.proofs.Common.{arith, refl, ◌∙◌, ◌⊎◌, inl, inr}
 use Rattle.std.proofs.lemmas.Bool.Decides.{nat_tests}
 use Rattle.std.proofs.lemmas.List.Elements.{Contains-append_cases}
@@ -19,12 +21,12 @@ use Rattle.rv_serial.proofs.Lemmas.{runs_give_the_plain_machine}
 use Rattle.phase_rules.specs.Laws.{at_start, InPhases, PhasesNeverFall}
 use Rattle.phase_rules.specs.Phased.{has_halted, goes_before, is_late, is_held, phased_next, phased_from}
 use Rattle.phase_rules.specs.Phases.{phases_along, phases_in, phases_of, phase_of}
-use Rattle.phase_rules.proofs.Granting.{Granting, none-in, grants-snoc, granting, granting-silent}
-use Rattle.phase_rules.proofs.Growing.{State, state_after, run-snoc, holds, noted-last, added, silent, counted}
-use Rattle.phase_rules.proofs.Halting.{StayHalted, step-stays}
-use Rattle.phase_rules.proofs.Inserted.{IsLast}
-use Rattle.phase_rules.proofs.Noting.{NotedIn, step-notes}
-use Rattle.phase_rules.proofs.Ordered.{Above, NoneFrom, AtMost, Rises, Ordered, Fresh, silent-keeps, noted-keeps, never-falls}
+use Rattle.phase_rules.proofs.Events.Granting.{Granting, none-in, grants-snoc, granting, granting-silent}
+use Rattle.phase_rules.proofs.Serial.Growing.{State, state_after, run-snoc, holds, noted-last, added, silent, counted}
+use Rattle.phase_rules.proofs.Events.Halting.{StayHalted, step-stays}
+use Rattle.phase_rules.proofs.Serial.Inserted.{IsLast}
+use Rattle.phase_rules.proofs.Events.Noting.{NotedIn, step-notes}
+use Rattle.phase_rules.proofs.Running.Ordered.{Above, NoneFrom, AtMost, Rises, Ordered, Fresh, silent-keeps, noted-keeps, never-falls}
 
 abbrev Going : History → (core : ℕ) → Type 0
 Going h c = (h.world.cores c).phase ≢ Halted
@@ -56,7 +58,9 @@ none-of t (suc n) j e l = go (any_below t n) refl (t n) refl e (j == n) refl (no
     go true p b q e c r f = absurd (cc)
     go false p true q e c r f = absurd (cc)
     go false p false q e true r f = let z : j ≡ n = grind (arith, nat_tests) in rw z q
-    go false p false q e false r f = f p (let z : j ≢ n = λ y. absurd (let w : (j == n) ≡ true = grind (arith, nat_tests) in cc) in grind (arith, nat_tests))
+    go false p false q e false r f =
+        let z : j ≢ n = λ y. absurd (let w : (j == n) ≡ true = grind (arith, nat_tests) in cc) in
+        f p (grind (arith, nat_tests))
 
 goes-on : (q : Phase) → q ≢ Halted → has_halted q ≡ false
 goes-on Halted n = absurd (n refl)
@@ -72,13 +76,15 @@ not-before s h c j e n =
     go false p true q r = absurd (cc)
     go false p false q r = grind (arith, nat_tests)
 
-above-none : (gs : List Grant) (t b : ℕ) (cs : List Commit) (qs : List ℕ) → AreGranted gs cs → IsNumbered 1 gs → t ≡ length gs + 1
+above-none : (gs : List Grant) (t b : ℕ) (cs : List Commit) (qs : List ℕ) → AreGranted gs cs → IsNumbered 1 gs
+    → t ≡ length gs + 1
     → Above t b cs qs
 unfolding AreGranted Above
 above-none gs t b [] qs a n e = tt
 above-none gs t b (c ∷ cs) [] a n e = tt
 above-none gs t b (c ∷ cs) (q ∷ qs) a n e =
-    (λ l. absurd (omega (arith, l, e, numbered-most 1 gs (record { tid = c.tid.0; core = c.core.0 }) n (a.0))), above-none gs t b cs qs (a.1) n e)
+    let most = numbered-most 1 gs (record { tid = c.tid.0; core = c.core.0 }) n (a.0) in
+    (λ l. absurd (omega (arith, l, e, most)), above-none gs t b cs qs (a.1) n e)
 
 fresh : (s : Start) (gs : List Grant) (h : History) (t c : ℕ) → State s gs h → Granting s h t c
     → Fresh s.settings.cores (Going h) (phase_of s h) h.commits (phases_of s h) t c
@@ -142,13 +148,14 @@ event-ordered : (s : Start) (gs : List Grant) (h : History) (e : Event) → Stat
     → IfSome (next s.settings (program s) h e) (InOrder s (gs ++ granted_by h.world e))
 unfolding next
 event-ordered s gs h e k o held new =
-    go (step s.settings (program s) h.world e) new (step-notes s.settings (program s) h.world e) (step-stays s.settings (program s) h.world e)
-    (granting-silent s.settings (program s) h.world e)
+    go (step s.settings (program s) h.world e) new (step-notes s.settings (program s) h.world e)
+    (step-stays s.settings (program s) h.world e) (granting-silent s.settings (program s) h.world e)
   where
     more : List Grant
     more = granted_by h.world e
 
-    at : (w : World) (n : Option Commit) → IsSerial s (after_event h w n) → IfSome n (NotedIn s.settings h.world) → StayHalted h.world w
+    at : (w : World) (n : Option Commit) → IsSerial s (after_event h w n) → IfSome n (NotedIn s.settings h.world)
+        → StayHalted h.world w
         → ((g : Grant) → Contains more g → n ≡ None) → InOrder s (gs ++ more) (after_event h w n)
     at w None new n stay none = silent-ordered s gs more h w k o new stay (λ t c i. granting s h e t c held i)
     at w (Some x) new n stay none = noted-ordered s gs more h w x k o new n stay (λ g i. absurd (let z = none g i in cc))
@@ -187,7 +194,8 @@ reached-next s h e k r held =
     go (next s.settings (program s) h e) refl
     (event-ordered s (grants_of s r.events) h e (state-of s h k r) r.order held (serial-next s h e k r))
   where
-    go : (x : Option History) → next s.settings (program s) h e ≡ x → IfSome x (InOrder s (grants_of s r.events ++ granted_by h.world e))
+    go : (x : Option History) → next s.settings (program s) h e ≡ x
+        → IfSome x (InOrder s (grants_of s r.events ++ granted_by h.world e))
         → IfSome x (Reached s)
     go None n o = tt
     go (Some g) n o = record {
@@ -196,7 +204,8 @@ reached-next s h e k r held =
       order = rw (grants-next s h g e r n) o;
     }
 
-reached-after : (s : Start) (es : List Event) (h : History) → IsAllowed s.settings → Reached s h → IfSome (phased_from s es h) (Reached s)
+reached-after : (s : Start) (es : List Event) (h : History) → IsAllowed s.settings → Reached s h
+    → IfSome (phased_from s es h) (Reached s)
 unfolding phased_from phased_next
 reached-after s [] h k r = r
 reached-after s (e ∷ es) h k r =

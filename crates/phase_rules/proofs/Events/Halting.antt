@@ -7,12 +7,14 @@ use Rattle.tcc_maps.specs.Nodes.{Node, Core, Dir, Vendor, Event, Exec, Evict, De
 use Rattle.tcc_maps.specs.Shape.{Shape}
 use Rattle.tcc_rules.specs.State.{CoreState, Phase, Halted, World}
 use Rattle.tcc_rules.specs.Attempt.{Out}
-use Rattle.tcc_rules.specs.CoreDeliver.{core_deliver, grant, probe_reply, fill, data_request, invalidate, acknowledged, if_violated, without}
+use Rattle.tcc_rules.specs.CoreDeliver.{core_deliver, grant, probe_reply, fill, data_request, invalidate, acknowledged, if_violated}
+use Rattle.tcc_rules.specs.CoreDeliver.{without}
 use Rattle.tcc_rules.specs.CoreEvict.{core_evict}
 use Rattle.tcc_rules.specs.CoreExec.{core_exec}
 use Rattle.tcc_rules.specs.DirDeliver.{Answer, Waits, Drops, Asks, Takes, dir_deliver}
 use Rattle.tcc_rules.specs.Links.{in_flight}
-use Rattle.tcc_rules.specs.Step.{Stepped, core_moves, core_takes, dir_takes, dir_asks, vendor_gives, moved, taken, answered, granted, delivered, if_in_flight, names_nodes, happens, step}
+use Rattle.tcc_rules.specs.Step.{Stepped, core_moves, core_takes, dir_takes, dir_asks, vendor_gives, moved, taken, answered, granted}
+use Rattle.tcc_rules.specs.Step.{delivered, if_in_flight, names_nodes, happens, step}
 use Rattle.tcc_rules.specs.VendorDeliver.{Granted, vendor_deliver}
 
 -- the phase after an event, where it is enabled
@@ -40,7 +42,8 @@ StayHalted w v = (j : ℕ) → (w.cores j).phase ≡ Halted → (v.cores j).phas
 abbrev Stay : World → Option Stepped → Type 0
 Stay w o = IfSome o (λ t. StayHalted w t.world)
 
-put-halted : (w : World) (c : ℕ) (s : CoreState) → ((w.cores c).phase ≡ Halted → s.phase ≡ Halted) → (j : ℕ) → (w.cores j).phase ≡ Halted
+put-halted : (w : World) (c : ℕ) (s : CoreState) → ((w.cores c).phase ≡ Halted → s.phase ≡ Halted) → (j : ℕ)
+    → (w.cores j).phase ≡ Halted
     → (if j == c then s else w.cores j).phase ≡ Halted
 put-halted w c s f j e = go (j == c) refl
   where
@@ -53,7 +56,8 @@ unfolding core_moves
 moved-stays w c None f = tt
 moved-stays w c (Some o) f = put-halted w c o.core f
 
-taken-stays : (w : World) (src : Node) (c k : ℕ) (o : Option Out) → ((w.cores c).phase ≡ Halted → phase_in o ≡ Halted) → Stay w (taken w src c k o)
+taken-stays : (w : World) (src : Node) (c k : ℕ) (o : Option Out) → ((w.cores c).phase ≡ Halted → phase_in o ≡ Halted)
+    → Stay w (taken w src c k o)
 unfolding core_takes
 taken-stays w src c k None f = tt
 taken-stays w src c k (Some o) f = put-halted w c o.core f

@@ -1,5 +1,6 @@
 -- What is granted by one more event: the next TID, to the core whose request is delivered; and such an event notes no commit.
-use Rattle.std.specs.Prelude.{ℕ, zero, suc, ◌≡◌, Bool, true, false, List, [], ◌∷◌, ◌++◌, Contains, Option, Some, None, IfSome, IsSome, if◌then◌else◌}
+use Rattle.std.specs.Prelude.{ℕ, zero, suc, ◌≡◌, Bool, true, false, List, [], ◌∷◌, ◌++◌, Contains, Option, Some, None}
+use Rattle.std.specs.Prelude.{IfSome, IsSome, if◌then◌else◌}
 use Rattle.std.proofs.Common.{arith, refl, ap, sym, append_assoc, ◌∙◌}
 use Rattle.std.proofs.lemmas.List.{append-nil}
 use Rattle.image_load.specs.Start.{Start}
@@ -15,8 +16,12 @@ use Rattle.phase_rules.specs.Phased.{is_late, is_held}
 
 -- one more event along a run
 
+-- where it happens, what it grants stands behind what was granted before
+abbrev pub GrantsMore : Shape → Program → (old new : List Grant) → Event → History → Type 0
+GrantsMore sh p old new e g = IsSome (next sh p g e) → new ≡ old ++ granted_by g.world e
+
 pub grants-snoc : (sh : Shape) (p : Program) (es : List Event) (e : Event) (h : History)
-    → IfSome (run_from sh p es h) (λ g. IsSome (next sh p g e) → grants_from sh p (es ++ e ∷ []) h ≡ grants_from sh p es h ++ granted_by g.world e)
+    → IfSome (run_from sh p es h) (GrantsMore sh p (grants_from sh p es h) (grants_from sh p (es ++ e ∷ []) h) e)
 unfolding run_from grants_from
 grants-snoc sh p [] e h = go (next sh p h e)
   where
@@ -25,18 +30,22 @@ grants-snoc sh p [] e h = go (next sh p h e)
     go (Some g) i = append-nil (granted_by h.world e)
 grants-snoc sh p (f ∷ es) e h = go (next sh p h f) (grants-snoc sh p es e)
   where
-    after : (g : History) (y : Option History)
-        → IfSome y (λ r. IsSome (next sh p r e) → grants_from sh p (es ++ e ∷ []) g ≡ grants_from sh p es g ++ granted_by r.world e)
-        → IfSome y (λ r. IsSome (next sh p r e)
-        → granted_by h.world f ++ grants_from sh p (es ++ e ∷ []) g ≡ (granted_by h.world f ++ grants_from sh p es g) ++ granted_by r.world e)
-    after g None k = tt
-    after g (Some r) k = λ i. ap (λ gs. granted_by h.world f ++ gs) (k i)
-        ∙ sym (append_assoc (granted_by h.world f) (grants_from sh p es g) (granted_by r.world e))
+    gs : List Grant
+    gs = granted_by h.world f
 
-    go : (x : Option History)
-        → ((g : History) → IfSome (run_from sh p es g) (λ r. IsSome (next sh p r e) → grants_from sh p (es ++ e ∷ []) g ≡ grants_from sh p es g ++ granted_by r.world e))
-        → IfSome (and_then (run_from sh p es) x) (λ r. IsSome (next sh p r e)
-        → then_grants (granted_by h.world f) (grants_from sh p (es ++ e ∷ [])) x ≡ then_grants (granted_by h.world f) (grants_from sh p es) x ++ granted_by r.world e)
+    old : History → List Grant
+    old = grants_from sh p es
+
+    new : History → List Grant
+    new = grants_from sh p (es ++ e ∷ [])
+
+    after : (g : History) (y : Option History) → IfSome y (GrantsMore sh p (old g) (new g) e)
+        → IfSome y (GrantsMore sh p (gs ++ old g) (gs ++ new g) e)
+    after g None k = tt
+    after g (Some r) k = λ i. ap (λ more. gs ++ more) (k i) ∙ sym (append_assoc gs (old g) (granted_by r.world e))
+
+    go : (x : Option History) → ((g : History) → IfSome (run_from sh p es g) (GrantsMore sh p (old g) (new g) e))
+        → IfSome (and_then (run_from sh p es) x) (GrantsMore sh p (then_grants gs old x) (then_grants gs new x) e)
     go None k = tt
     go (Some g) k = after g (run_from sh p es g) (k g)
 
@@ -80,7 +89,8 @@ asking-silent : (sh : Shape) (w : World) (c k : ℕ) (m : Option Msg) → Silent
 asking-silent sh w c k None = tt
 asking-silent sh w c k (Some m) = granted-silent w c k (vendor_deliver w.next c m)
 
-pub granting-silent : (sh : Shape) (p : Program) (w : World) (e : Event) (g : Grant) → Contains (granted_by w e) g → Silent (step sh p w e)
+pub granting-silent : (sh : Shape) (p : Program) (w : World) (e : Event) (g : Grant) → Contains (granted_by w e) g
+    → Silent (step sh p w e)
 unfolding step happens
 granting-silent sh p w (Deliver (Core c) Vendor k) g i = go (names_nodes sh (Deliver (Core c) Vendor k))
   where
