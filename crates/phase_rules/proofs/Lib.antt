@@ -1,0 +1,6 @@
+-- The proofs of this crate.
+pub mod Lemmas
+mod Serial
+mod Events
+mod Running
+mod Worked
