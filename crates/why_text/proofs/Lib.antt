@@ -1,5 +1,5 @@
 -- The proofs of this crate.
 mod Lists
-mod Nodes
+mod Places
 mod Flying
 mod Written

@@ -1,20 +1,20 @@
--- The nodes and events of the code are shown as they are.
-use Rattle.std.proofs.Common.{◌≡◌, refl, ap}
+-- The nodes of the code are written as they are.
+use Rattle.std.proofs.Common.{◌≡◌, ℕ, ◌++◌, codes, refl}
+use Rattle.std.specs.Fmt.{decimal}
 use Rattle.tcc_base.specs.declared.names.NodeId.{NodeId}
-use Rattle.tcc_base.specs.declared.names.NodeId.TheVariants as node
+use Rattle.tcc_base.specs.declared.names.NodeId.TheVariants.{Core, Dir, Vendor}
 use Rattle.tcc_maps.specs.Bridge.{node_of}
-use Rattle.tcc_msg.specs.Plain.{event_of}
-use Rattle.tcc_msg.specs.declared.event.Event.{Event}
-use Rattle.tcc_msg.specs.declared.event.Event.TheVariants.{Deliver, Evict, Exec}
-use Rattle.tcc_msg.specs.declared.event.Name.{Name}
-use Rattle.why_text.specs.Written.{shown_event_of, shown_node_of}
+use Rattle.schedule_text.specs.Grammar.{node_word}
+use Rattle.why_text.specs.Lines.{name_words}
+use Rattle.why_text.specs.Written.{shown_node_of}
 
-pub node-shown : (n : NodeId) → shown_node_of (node_of n) ≡ n
-node-shown (node.Core c) = refl
-node-shown (node.Dir d) = refl
-node-shown node.Vendor = refl
+node-shown : (n : NodeId) → shown_node_of (node_of n) ≡ n
+node-shown (Core c) = refl
+node-shown (Dir d) = refl
+node-shown Vendor = refl
 
-pub event-shown : (e : Event) → shown_event_of (event_of e) ≡ e
-event-shown (Exec c) = refl
-event-shown (Evict c set way) = refl
-event-shown (Deliver n) = λ i. Deliver (record { src = node-shown n.src i; dst = node-shown n.dst i; seq = n.seq })
+pub name-written : (src dst : NodeId) (k : ℕ)
+    → name_words (node_of src) (node_of dst) k ≡ node_word src ++ codes " " ++ node_word dst ++ codes " " ++ decimal k
+unfolding name_words
+name-written src dst k =
+    λ i. node_word (node-shown src i) ++ codes " " ++ node_word (node-shown dst i) ++ codes " " ++ decimal k

@@ -15,11 +15,13 @@ reason_words (Asked owner) = codes "asked " ++ decimal owner
 reason_words (Count marked) = codes "count " ++ decimal marked
 reason_words (Tag tag) = codes "tag " ++ decimal tag
 
--- a message that waits: its link, its number there, and why
+-- the name of a message: its link, and its number there
+unfoldable pub name_words : (src dst : Node) → (k : ℕ) → List ℕ
+name_words src dst k = node_word (shown_node_of src) ++ codes " " ++ node_word (shown_node_of dst) ++ codes " " ++ decimal k
+
+-- a message that waits, and why
 unfoldable pub waits_line : (src dst : Node) → (k : ℕ) → Reason → List ℕ
-waits_line src dst k r =
-    codes "waits " ++ node_word (shown_node_of src) ++ codes " " ++ node_word (shown_node_of dst) ++ codes " " ++ decimal k ++ codes " "
-    ++ reason_words r ++ newline
+waits_line src dst k r = codes "waits " ++ name_words src dst k ++ codes " " ++ reason_words r ++ newline
 
 -- nothing where there is no reason to wait
 abbrev pub line_if_waiting : (src dst : Node) → (k : ℕ) → Option Reason → List ℕ

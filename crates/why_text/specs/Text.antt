@@ -18,9 +18,13 @@ use Rattle.why_text.specs.Lines.{line_if_waiting, next_line}
 unfoldable pub link_text : Shape → World → (src dst : Node) → List ℕ
 link_text sh w src dst = flat_map (λ k. line_if_waiting src dst k (reason_in sh w src dst k)) (numbers (length (w.net src dst)))
 
+-- those on all links from one node, by destination
+unfoldable pub text_from : Shape → World → (src : Node) → List ℕ
+text_from sh w src = flat_map (link_text sh w src) (nodes sh)
+
 -- all that wait, by source, destination and number
 unfoldable pub waits_text : Shape → World → List ℕ
-waits_text sh w = flat_map (λ src. flat_map (link_text sh w src) (nodes sh)) (nodes sh)
+waits_text sh w = flat_map (text_from sh w) (nodes sh)
 
 -- whether the run is done and how many events it took, as is told here; what waits in this state, and the first useful event in it
 unfoldable pub why_text : Start → (done : Bool) → (events : ℕ) → History → List ℕ

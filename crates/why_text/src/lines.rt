@@ -3,7 +3,7 @@ ghost use Rattle.std.specs.Prelude.{◌≡◌, ◌++◌, OnOk, string_bytes, opt
 ghost use Rattle.tcc_maps.specs.Bridge.{node_of};
 ghost use Rattle.tcc_msg.specs.Plain.{event_of};
 ghost use Rattle.live_core.specs.Plain.{plain_reason};
-ghost use Rattle.why_text.specs.Lines.{next_line, reason_words, waits_line};
+ghost use Rattle.why_text.specs.Lines.{name_words, next_line, reason_words, waits_line};
 
 use live_core::Reason;
 use schedule_text::{push_event, push_node};
@@ -23,6 +23,16 @@ fn push_reason(text: &mut String, reason: Reason) -> Result<(), AllocError>
     }
 }
 
+fn push_name(text: &mut String, name: Name) -> Result<(), AllocError>
+    ensures { OnOk result (string_bytes text.new
+        ≡ string_bytes text.old ++ name_words (node_of name.src) (node_of name.dst) name.seq) }
+{
+    push_node(text, name.src)?;
+    text.push_str(" ")?;
+    push_node(text, name.dst)?;
+    write!(text, " {}", name.seq)
+}
+
 /// The line of a message that waits.
 #[tactic(auto, unfolding(crate::specs::Lines::waits_line))]
 pub(crate) fn push_wait(text: &mut String, name: Name, reason: Reason) -> Result<(), AllocError>
@@ -30,10 +40,8 @@ pub(crate) fn push_wait(text: &mut String, name: Name, reason: Reason) -> Result
         ≡ string_bytes text.old ++ waits_line (node_of name.src) (node_of name.dst) name.seq (plain_reason reason)) }
 {
     text.push_str("waits ")?;
-    push_node(text, name.src)?;
+    push_name(text, name)?;
     text.push_str(" ")?;
-    push_node(text, name.dst)?;
-    write!(text, " {} ", name.seq)?;
     push_reason(text, reason)?;
     text.push_str("\n")
 }

@@ -1,12 +1,10 @@
 // The messages that wait, link by link.
 ghost use Rattle.std.specs.Prelude.{◌≡◌, [], ◌++◌, OnOk, string_bytes};
-ghost use Rattle.std.specs.List.{flat_map};
 ghost use Rattle.tcc_maps.specs.Bridge.{node_of};
-ghost use Rattle.tcc_rules.specs.Useful.{nodes};
 ghost use Rattle.net_core.specs.Machine.{settings_of, world_of};
 ghost use Rattle.live_core.specs.Waiting.{reason_in};
 ghost use Rattle.why_text.specs.Lines.{line_if_waiting};
-ghost use Rattle.why_text.specs.Text.{link_text, waits_text};
+ghost use Rattle.why_text.specs.Text.{link_text, text_from, waits_text};
 
 use crate::lines::push_wait;
 use crate::nodes::{node_at, node_count};
@@ -47,10 +45,11 @@ fn push_link(
 }
 
 /// The lines of the links from one node, by destination.
+#[tactic(auto, unfolding(crate::specs::Text::text_from))]
 fn push_links_from(text: &mut String, system: &System, src: NodeId) -> Result<(), AllocError>
     requires { system.now.unsent ≡ [] }
-    ensures { OnOk result (string_bytes text.new ≡ string_bytes text.old
-        ++ flat_map (link_text (settings_of system.now) (world_of system.now) (node_of src)) (nodes (settings_of system.now))) }
+    ensures { OnOk result (string_bytes text.new
+        ≡ string_bytes text.old ++ text_from (settings_of system.now) (world_of system.now) (node_of src)) }
 {
     let config = system.config();
     for place in 0..node_count(config) {
