@@ -1,5 +1,5 @@
 -- The messages in flight on a link are those of all that were sent there that can wait.
-use Rattle.std.proofs.Common.{◌≡◌, ℕ, Bool, true, false, List, [], length, Option, Some, None, is_some, refl, ap, ◌∙◌}
+use Rattle.std.proofs.Common.{◌≡◌, ℕ, false, List, [], length, Option, Some, None, is_some, refl}
 use Rattle.std.specs.List.{flat_map}
 use Rattle.tcc_maps.specs.Nodes.{Node, Core, Dir, Vendor, Msg}
 use Rattle.tcc_maps.specs.Shape.{Shape}

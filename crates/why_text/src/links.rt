@@ -26,12 +26,7 @@ fn push_if_waiting(text: &mut String, system: &System, name: Name) -> Result<(),
 }
 
 /// The lines of one link, by number.
-fn push_link(
-    text: &mut String,
-    system: &System,
-    src: NodeId,
-    dst: NodeId,
-) -> Result<(), AllocError>
+fn push_link(text: &mut String, system: &System, src: NodeId, dst: NodeId) -> Result<(), AllocError>
     requires { system.now.unsent ≡ [] }
     ensures { OnOk result (string_bytes text.new
         ≡ string_bytes text.old ++ link_text (settings_of system.now) (world_of system.now) (node_of src) (node_of dst)) }

@@ -115,9 +115,15 @@ fn a_probe_waits_in_the_middle_of_a_violation(rt: HostRuntime) -> Result<(), Fai
         file(rt.alloc(), &COPIES_24_TO_16)?,
     ];
     let text = told_after(rt.alloc(), READER_WAITS, &files)?;
-    assert_eq!(rt; text.as_str(), "tcc-why 1\nend open\nevents 18\nwaits c1 d1 2 early 1\nnext d c0 d1 0\n");
+    assert_eq!(rt;
+        text.as_str(),
+        "tcc-why 1\nend open\nevents 18\nwaits c1 d1 2 early 1\nnext d c0 d1 0\n"
+    );
     let text = told_after(rt.alloc(), TWO_WAIT, &files)?;
-    assert_eq!(rt; text.as_str(), "tcc-why 1\nend open\nevents 21\nwaits c0 d1 2 count 0\nwaits c1 d1 2 early 1\nnext e 0\n");
+    assert_eq!(rt;
+        text.as_str(),
+        "tcc-why 1\nend open\nevents 21\nwaits c0 d1 2 count 0\nwaits c1 d1 2 early 1\nnext e 0\n"
+    );
     Ok(())
 }
 
@@ -128,9 +134,15 @@ fn a_load_waits_for_the_line(rt: HostRuntime) -> Result<(), Fail> {
         file(rt.alloc(), &COPIES_24_TO_16)?,
     ];
     let text = told_after(rt.alloc(), LINE_IS_MARKED, &files)?;
-    assert_eq!(rt; text.as_str(), "tcc-why 1\nend open\nevents 11\nwaits c1 d1 0 marked 1\nnext e 0\n");
+    assert_eq!(rt;
+        text.as_str(),
+        "tcc-why 1\nend open\nevents 11\nwaits c1 d1 0 marked 1\nnext e 0\n"
+    );
     let text = told_after(rt.alloc(), OWNER_IS_ASKED, &files)?;
-    assert_eq!(rt; text.as_str(), "tcc-why 1\nend open\nevents 18\nwaits c1 d1 2 asked 0\nnext e 0\n");
+    assert_eq!(rt;
+        text.as_str(),
+        "tcc-why 1\nend open\nevents 18\nwaits c1 d1 2 asked 0\nnext e 0\n"
+    );
     Ok(())
 }
 
@@ -138,7 +150,10 @@ fn a_load_waits_for_the_line(rt: HostRuntime) -> Result<(), Fail> {
 fn words_wait_for_their_commit(rt: HostRuntime) -> Result<(), Fail> {
     let files = [file(rt.alloc(), &STORES_32)?];
     let text = told_after(rt.alloc(), COMES_EARLY, &files)?;
-    assert_eq!(rt; text.as_str(), "tcc-why 1\nend open\nevents 10\nwaits c0 d0 3 tag 0\nnext e 0\n");
+    assert_eq!(rt;
+        text.as_str(),
+        "tcc-why 1\nend open\nevents 10\nwaits c0 d0 3 tag 0\nnext e 0\n"
+    );
     Ok(())
 }
 
@@ -146,6 +161,9 @@ fn words_wait_for_their_commit(rt: HostRuntime) -> Result<(), Fail> {
 fn nothing_comes_after_a_run_that_is_done(rt: HostRuntime) -> Result<(), Fail> {
     let files = [file(rt.alloc(), &STORES_7_AND_EXITS)?];
     let text = told_after(rt.alloc(), ALL_DONE, &files)?;
-    assert_eq!(rt; text.as_str(), "tcc-why 1\nend done\nevents 19\nnext none\n");
+    assert_eq!(rt;
+        text.as_str(),
+        "tcc-why 1\nend done\nevents 19\nnext none\n"
+    );
     Ok(())
 }

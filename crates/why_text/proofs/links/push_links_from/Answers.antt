@@ -1,5 +1,5 @@
 -- Each destination in turn.
-use Rattle.std.proofs.Common.{length, string_bytes, ap, sym, ◌∙◌, arith}
+use Rattle.std.proofs.Common.{string_bytes, ap, sym, ◌∙◌, arith}
 use Rattle.std.specs.Prelude.{slice_get}
 use Rattle.tcc_maps.specs.Bridge.{node_of}
 use Rattle.tcc_rules.specs.Useful.{nodes}

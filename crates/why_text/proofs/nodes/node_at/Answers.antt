@@ -21,5 +21,11 @@ returns-then-place-cores-3 c =
 pub returns-else-place-cores-3 : goal.returns-else-place-cores-3
 returns-else-place-cores-3 c =
     sym (no-more c.args.config.now c.args.place
-    (omega (arith, c.cores-cores.ensures.value, c.dirs-dirs.ensures.value, c.if-place-cores.false, c.if-place-cores-2.false,
-    c.if-place-cores-3.false)))
+    (omega (
+      arith,
+      c.cores-cores.ensures.value,
+      c.dirs-dirs.ensures.value,
+      c.if-place-cores.false,
+      c.if-place-cores-2.false,
+      c.if-place-cores-3.false,
+    )))

@@ -1,6 +1,5 @@
 -- The lines, one after another.
-use Rattle.std.proofs.Common.{rules, arith}
-use Rattle.std.proofs.lemmas.Grind.{common_steps}
+use Rattle.std.proofs.Common.{rules}
 use Rattle.image_load.specs.Contents.{started}
 use Rattle.net_core.specs.Machine.{history_of}
 use Rattle.why_text.specs.Text.{why_text}
