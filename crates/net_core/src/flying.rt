@@ -15,8 +15,8 @@ impl System {
     /// constant time.
     pub fn flying(&self, src: NodeId, dst: NodeId) -> usize
         requires { self.now.unsent ≡ [] }
-        ensures { let net = (world_of self.now).net in
-            result ≡ length (those (λ k. is_some (in_flight net (node_of src) (node_of dst) k)) (length (net (node_of src) (node_of dst)))) }
+        ensures { let net = (world_of self.now).net in result
+            ≡ length (those (λ k. is_some (in_flight net (node_of src) (node_of dst) k)) (length (net (node_of src) (node_of dst)))) }
     {
         self.flights.waiting(src, dst)
     }
