@@ -40,7 +40,7 @@ pub record BusCoreInBounds (sh : Shape) (events : ℕ) (s : CoreState) : Type 0 
 pub record PacketInBounds (sh : Shape) (words : ℕ → Option ℕ) (left : ℕ → Bool) : Type 0 where
   pub some : any_below left sh.cores ≡ true
   pub cores : (c : ℕ) → left c ≡ true → c < sh.cores
-  pub words : (x : ℕ) → is_some (words x) ≡ true → WordInMemory sh x
+  pub inside : (x : ℕ) → is_some (words x) ≡ true → WordInMemory sh x
 
 -- All of it, after so many events.
 pub record IsBusBounded (sh : Shape) (events : ℕ) (h : BusHistory) : Type 0 where
