@@ -1,0 +1,196 @@
+-- What holds of one core by itself between events, of a program whose accesses lie in memory: no line is awaited, no word is dirty, its
+-- cache is consistent and of memory, and its attempt is counted.
+use Rattle.std.specs.Prelude.{ℕ, ◌+◌, ◌≡◌, ◌<◌, Bool, true, false, not, ◌==◌, ◌&&◌, ◌||◌, ◌⊎◌, List, Option, Some, None, is_some, IfSome, unwrap_or, if◌then◌else◌}
+use Rattle.std.proofs.Common.{arith, refl, ap, sym, inl, inr, subst, ◌∙◌}
+use Rattle.std.proofs.lemmas.Bool.Decides.{nat_tests}
+use Rattle.tcc_maps.specs.Cache.{Cache, IsCache, is_marked}
+use Rattle.tcc_maps.specs.CacheChange.{filled, evicted}
+use Rattle.tcc_maps.specs.Nodes.{Dir, Fill}
+use Rattle.tcc_maps.specs.Shape.{Shape, lines}
+use Rattle.tcc_maps.specs.Spilled.{spill_line}
+use Rattle.tcc_maps.specs.Words.{line_of}
+use Rattle.tcc_maps.proofs.Lemmas.{dirty-filled, dirty-evicted, held-evicted}
+use Rattle.tcc_program.specs.Program.{Need, Program}
+use Rattle.tcc_rules.specs.Attempt.{Out, moves, is_solo}
+use Rattle.tcc_rules.specs.CoreDeliver.{fill, core_deliver}
+use Rattle.tcc_rules.specs.CoreEvict.{is_awaited, evict_line, core_evict}
+use Rattle.tcc_rules.specs.CoreExec.{core_exec}
+use Rattle.tcc_rules.specs.Sends.{written_back}
+use Rattle.tcc_rules.specs.State.{CoreState, Awaited, Phase, Running, AwaitTid, Overflowing}
+use Rattle.tcc_attempt.specs.Sound.{SoundCore}
+use Rattle.tcc_attempt.proofs.Sound.{valid-held}
+use Rattle.tcc_attempt.proofs.SoundDeliver.{core_deliver-sound}
+use Rattle.tcc_attempt.proofs.SoundExec.{core_exec-sound}
+use Rattle.tcc_serial.specs.InMemory.{NeedInMemory, WordInMemory, FramesInMemory}
+use Rattle.tcc_bounds.specs.Bounds.{AttemptCounted}
+use Rattle.tcc_bounds.proofs.CoreKeeps.{exec-keeps}
+use Rattle.tcc_bounds.proofs.Counted.{weak}
+use Rattle.bus_rules.specs.Exec.{line_words, instruction}
+use Rattle.bus_serial.proofs.Did.{Did, How, Ran, Closed, Overflowed, Asked, Executed}
+use Rattle.bus_serial.proofs.Filled.{fill-is}
+use Rattle.bus_serial.proofs.Instruction.{if-at, Executes, with_words, asking, word_wanted, Once, First, instructed}
+use Rattle.bus_serial.proofs.Temp.{core_evict-sound}
+
+pub record Fine (sh : Shape) (n : ℕ) (s : CoreState) : Type 0 where
+  pub awaited : s.awaited ≡ None
+  pub clean : (x : ℕ) → s.cache.dirty x ≡ None
+  pub sound : SoundCore sh s
+  pub attempt : AttemptCounted n s
+  pub frames : FramesInMemory sh s.cache
+  pub spilled : (x : ℕ) → is_some (s.spilled x) ≡ true → WordInMemory sh x
+
+-- one event later
+pub later : (sh : Shape) (n : ℕ) (s : CoreState) → Fine sh n s → Fine sh (n + 1) s
+later sh n s k = record {
+  awaited = k.awaited;
+  clean = k.clean;
+  sound = k.sound;
+  attempt = weak n s.n s.loads s.stores s.console k.attempt;
+  frames = k.frames;
+  spilled = k.spilled;
+}
+
+-- instructions
+
+-- how an instruction leaves the phase
+pub data Ways (s t : CoreState) : Type 0 where
+  Stays : (phase : t.phase ≡ s.phase) → Ways s t
+  Closes : (runs : s.phase ≡ Running) → (phase : t.phase ≡ AwaitTid) → Ways s t
+  Overflows : (solo : is_solo s.phase ≡ false) → (phase : t.phase ≡ Overflowing None) → Ways s t
+
+pub record Left (sh : Shape) (n : ℕ) (s : CoreState) (o : Out) : Type 0 where
+  pub fine : Fine sh (n + 1) o.core
+  pub ways : Ways s o.core
+  pub quiet : o.commit ≡ None
+  pub saved : o.core.saved ≡ s.saved
+
+ways-of : (w : ℕ) (s t : CoreState) → t.awaited ≡ None → How w s t → Ways s t
+ways-of w s t n (Ran e a) = Stays e
+ways-of w s t n (Closed r e a) = Closes r e
+ways-of w s t n (Overflowed q e) = Overflows q (ap (λ (t : CoreState). t.phase) e)
+ways-of w s t n (Asked c m e) = absurd (let i = ap (λ (t : CoreState). t.awaited) e in cc)
+
+once-left : (sh : Shape) (n : ℕ) (p : Program) (c : ℕ) (s : CoreState) (o : Out) → NeedInMemory sh (p.need s.local) → Fine sh n s
+    → Once sh p c s o → Left sh n s o
+once-left sh n p c s o m k e = record {
+  fine = record {
+    awaited = e.none;
+    clean = λ x. e.executed.did.clean x (k.clean x);
+    sound = if-at (core_exec sh p c s) o (λ o. SoundCore sh o.core) e.is (core_exec-sound sh p c s k.sound);
+    attempt = (if-at (core_exec sh p c s) o (λ o. AttemptCounted (n + 1) o.core) e.is (counted (core_exec sh p c s) (exec-keeps sh n p c s m k.attempt)));
+    frames = λ l h. held l (e.executed.did.frames l h);
+    spilled = λ x h. spilt x (e.executed.did.spilled x h);
+  };
+  ways = ways-of (word_wanted sh p s) s o.core e.none e.executed.how;
+  quiet = e.executed.quiet;
+  saved = e.executed.did.saved;
+}
+  where
+    counted : (x : Option Out) → IfSome x (Rattle.tcc_bounds.proofs.CoreKeeps.CoreKeeps sh (Rattle.tcc_bounds.specs.Bounds.most_sent sh) n)
+        → IfSome x (λ o. AttemptCounted (n + 1) o.core)
+    counted None k = tt
+    counted (Some o) k = k.attempt
+
+    held : (l : ℕ) → (s.cache.held l ≡ true) ⊎ (l < lines sh) → l < lines sh
+    held l (inl h) = k.frames l h
+    held l (inr h) = h
+
+    spilt : (x : ℕ) → (is_some (s.spilled x) ≡ true) ⊎ WordInMemory sh x → WordInMemory sh x
+    spilt x (inl h) = k.spilled x h
+    spilt x (inr h) = h
+
+-- what Fill leaves of a core that is sound
+filled-sound : (sh : Shape) (l : ℕ) (ram : ℕ → ℕ) (s : CoreState) (c : Cache) → SoundCore sh (asking l s c)
+    → SoundCore sh (with_words ram l s c)
+unfolding core_deliver
+filled-sound sh l ram s c k = rw (fill-is l (line_words ram l) s c) at (core_deliver-sound sh (asking l s c) (Dir 0) (Fill l (line_words ram l)) k)
+
+-- a core with the line that it asked for
+pub filled-fine : (sh : Shape) (n : ℕ) (p : Program) (ram : ℕ → ℕ) (c : ℕ) (s : CoreState) (d : Cache) (o : Out) → Fine sh n s
+    → First sh p c s d o → Fine sh n (with_words ram (line_of (word_wanted sh p s)) s d)
+unfolding filled
+filled-fine sh n p ram c s d o k f = record {
+  awaited = refl;
+  clean = λ x. did.clean x (k.clean x);
+  sound = filled-sound sh l ram s d asked;
+  attempt = k.attempt;
+  frames = λ j h. held j (did.frames j h);
+  spilled = k.spilled;
+}
+  where
+    l : ℕ
+    l = line_of (word_wanted sh p s)
+
+    did : Did sh s (asking l s d)
+    did = rw f.asks at f.executed.did
+
+    asked : SoundCore sh (asking l s d)
+    asked = rw f.asks at (if-at (core_exec sh p c s) o (λ o. SoundCore sh o.core) f.is (core_exec-sound sh p c s k.sound))
+
+    held : (j : ℕ) → (s.cache.held j ≡ true) ⊎ (j < lines sh) → j < lines sh
+    held j (inl h) = k.frames j h
+    held j (inr h) = h
+
+pub instruction-left : (sh : Shape) (n : ℕ) (p : Program) (ram : ℕ → ℕ) (c : ℕ) (s : CoreState) → NeedInMemory sh (p.need s.local)
+    → Fine sh n s → Executes p s → IfSome (instruction sh p ram c s) (Left sh n s)
+instruction-left sh n p ram c s m k x = instructed sh p ram c s (Left sh n s) m k.awaited x
+    (λ o e. once-left sh n p c s o m k e)
+    (λ d o r f e.
+        let u = with_words ram (line_of (word_wanted sh p s)) s d in
+        let l = once-left sh n p c u r m (filled-fine sh n p ram c s d o k f) e in
+        record { fine = l.fine; ways = same s d r.core l.ways; quiet = l.quiet; saved = l.saved })
+  where
+    same : (s : CoreState) (d : Cache) (t : CoreState) → Ways (with_words ram (line_of (word_wanted sh p s)) s d) t → Ways s t
+    same s d t (Stays e) = Stays e
+    same s d t (Closes r e) = Closes r e
+    same s d t (Overflows q e) = Overflows q e
+
+-- Evict
+
+evict_line-fine : (sh : Shape) (n x y : ℕ) (s : CoreState) (o : Option ℕ) → s.cache.at x y ≡ o → Fine sh n s
+    → IfSome (evict_line sh x y s o) (λ t. SoundCore sh t.core) → IfSome (evict_line sh x y s o) (Left sh n s)
+unfolding spill_line
+evict_line-fine sh n x y s None e k q = tt
+evict_line-fine sh n x y s (Some l) e k q = go (is_awaited s.awaited l || (is_marked s.cache l && not (is_solo s.phase))) q
+  where
+    t : CoreState
+    t = record s { cache = evicted x y s.cache; spilled = spill_line l s.cache s.spilled }
+
+    clean : (v : ℕ) (b : Bool) → (if b then None else s.cache.dirty v) ≡ None
+    clean v true = refl
+    clean v false = k.clean v
+
+    fewer : (j : ℕ) (b : Bool) → (if b then false else s.cache.held j) ≡ true → s.cache.held j ≡ true
+    fewer j true h = absurd (cc)
+    fewer j false h = h
+
+    valid : (v : ℕ) (o : Option ℕ) → s.cache.value v ≡ o → is_some o ≡ true → WordInMemory sh v
+    valid v None r h = absurd (cc)
+    valid v (Some z) r h = k.frames (line_of v) (valid-held sh s.cache v z k.sound.cache r)
+
+    spilt : (v : ℕ) (b m : Bool) → s.cache.modified v ≡ m → is_some (if b && m then Some (unwrap_or (s.cache.value v) 0) else s.spilled v) ≡ true
+        → WordInMemory sh v
+    spilt v true true r h = valid v (s.cache.value v) refl (k.sound.cache.modified v r)
+    spilt v true false r h = k.spilled v h
+    spilt v false m r h = k.spilled v h
+
+    go : (b : Bool) → IfSome (if b then None else Some (moves t (written_back sh s.cache l))) (λ t. SoundCore sh t.core)
+        → IfSome (if b then None else Some (moves t (written_back sh s.cache l))) (Left sh n s)
+    go true q = tt
+    go false q = record {
+      fine = record {
+        awaited = k.awaited;
+        clean = λ v. dirty-evicted x y s.cache v l e ∙ clean v (l == line_of v);
+        sound = q;
+        attempt = weak n s.n s.loads s.stores s.console k.attempt;
+        frames = λ j h. k.frames j (fewer j (j == l) (sym (held-evicted x y s.cache j l e) ∙ h));
+        spilled = λ v h. spilt v (l == line_of v) (s.cache.modified v) refl h;
+      };
+      ways = Stays refl;
+      quiet = refl;
+      saved = refl;
+    }
+
+pub evict-left : (sh : Shape) (n x y : ℕ) (s : CoreState) → Fine sh n s → IfSome (core_evict sh x y s) (Left sh n s)
+unfolding core_evict
+evict-left sh n x y s k = evict_line-fine sh n x y s (s.cache.at x y) refl k (core_evict-sound sh x y s k.sound)

@@ -1,0 +1,9 @@
+pub mod Did
+pub mod Filled
+pub mod Instruction
+pub mod Temp
+pub mod Temp2
+pub mod Fine
+pub mod Committed
+pub mod Taken
+pub mod Events
