@@ -62,7 +62,7 @@ wanted base _ = 0
 
 -- an instruction's end
 
-finished-did : (sh : Shape) (p : Program) (need : Need) (x : ℕ) (s t : CoreState) → Did sh s t → Did sh s (finished p need x t)
+pub finished-did : (sh : Shape) (p : Program) (need : Need) (x : ℕ) (s t : CoreState) → Did sh s t → Did sh s (finished p need x t)
 unfolding finished stepped
 finished-did sh p Nothing x s t d =
     record { stays = d.stays; value = d.value; clean = d.clean; frames = d.frames; spilled = d.spilled; saved = d.saved }
@@ -285,7 +285,7 @@ goes (Halts code) = false
 goes (Traps code) = false
 goes _ = true
 
-finished-awaits : (p : Program) (need : Need) (x : ℕ) (s : CoreState) → (finished p need x s).awaited ≡ s.awaited
+pub finished-awaits : (p : Program) (need : Need) (x : ℕ) (s : CoreState) → (finished p need x s).awaited ≡ s.awaited
 unfolding finished stepped
 finished-awaits p Nothing x s = refl
 finished-awaits p _ x s = refl

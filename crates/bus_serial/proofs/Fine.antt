@@ -4,12 +4,12 @@ use Rattle.std.specs.Prelude.{ℕ, ◌+◌, ◌≡◌, ◌<◌, Bool, true, fals
 use Rattle.std.proofs.Common.{arith, refl, ap, sym, inl, inr, subst, ◌∙◌}
 use Rattle.std.proofs.lemmas.Bool.Decides.{nat_tests}
 use Rattle.tcc_maps.specs.Cache.{Cache, IsCache, is_marked}
-use Rattle.tcc_maps.specs.CacheChange.{filled, evicted}
+use Rattle.tcc_maps.specs.CacheChange.{filled, evicted, read_cleared}
 use Rattle.tcc_maps.specs.Nodes.{Dir, Fill}
 use Rattle.tcc_maps.specs.Shape.{Shape, lines}
 use Rattle.tcc_maps.specs.Spilled.{spill_line}
 use Rattle.tcc_maps.specs.Words.{line_of}
-use Rattle.tcc_maps.proofs.Lemmas.{dirty-filled, dirty-evicted, held-evicted}
+use Rattle.tcc_maps.proofs.Lemmas.{dirty-evicted, held-evicted, read_cleared-keeps}
 use Rattle.tcc_program.specs.Program.{Need, Program}
 use Rattle.tcc_rules.specs.Attempt.{Out, moves, is_solo}
 use Rattle.tcc_rules.specs.CoreDeliver.{fill, core_deliver}
@@ -17,7 +17,7 @@ use Rattle.tcc_rules.specs.CoreEvict.{is_awaited, evict_line, core_evict}
 use Rattle.tcc_rules.specs.CoreExec.{core_exec}
 use Rattle.tcc_rules.specs.Sends.{written_back}
 use Rattle.tcc_rules.specs.State.{CoreState, Awaited, Phase, Running, AwaitTid, Overflowing}
-use Rattle.tcc_attempt.specs.Sound.{SoundCore}
+use Rattle.tcc_attempt.specs.Sound.{AwaitsHeld, SoundCore}
 use Rattle.tcc_attempt.proofs.Sound.{valid-held}
 use Rattle.tcc_attempt.proofs.SoundDeliver.{core_deliver-sound}
 use Rattle.tcc_attempt.proofs.SoundExec.{core_exec-sound}
@@ -25,7 +25,7 @@ use Rattle.tcc_serial.specs.InMemory.{NeedInMemory, WordInMemory, FramesInMemory
 use Rattle.tcc_bounds.specs.Bounds.{AttemptCounted}
 use Rattle.tcc_bounds.proofs.CoreKeeps.{exec-keeps}
 use Rattle.tcc_bounds.proofs.Counted.{weak}
-use Rattle.bus_rules.specs.Exec.{line_words, instruction}
+use Rattle.bus_rules.specs.Exec.{line_words, instruction, gone_alone}
 use Rattle.bus_serial.proofs.Did.{Did, How, Ran, Closed, Overflowed, Asked, Executed}
 use Rattle.bus_serial.proofs.Filled.{fill-is}
 use Rattle.bus_serial.proofs.Instruction.{if-at, Executes, with_words, asking, word_wanted, Once, First, instructed}
@@ -194,3 +194,40 @@ evict_line-fine sh n x y s (Some l) e k q = go (is_awaited s.awaited l || (is_ma
 pub evict-left : (sh : Shape) (n x y : ℕ) (s : CoreState) → Fine sh n s → IfSome (core_evict sh x y s) (Left sh n s)
 unfolding core_evict
 evict-left sh n x y s k = evict_line-fine sh n x y s (s.cache.at x y) refl k (core_evict-sound sh x y s k.sound)
+
+evict_line-phase : (sh : Shape) (x y : ℕ) (s : CoreState) (o : Option ℕ) → IfSome (evict_line sh x y s o) (λ t. t.core.phase ≡ s.phase)
+evict_line-phase sh x y s None = tt
+evict_line-phase sh x y s (Some l) = go (is_awaited s.awaited l || (is_marked s.cache l && not (is_solo s.phase)))
+  where
+    go : (b : Bool) → IfSome (if b then None else Some (moves (record s {
+      cache = evicted x y s.cache;
+      spilled = spill_line l s.cache s.spilled;
+    }) (written_back sh s.cache l))) (λ t. t.core.phase ≡ s.phase)
+    go true = tt
+    go false = refl
+
+pub evict-phase : (sh : Shape) (x y : ℕ) (s : CoreState) → IfSome (core_evict sh x y s) (λ t. t.core.phase ≡ s.phase)
+unfolding core_evict
+evict-phase sh x y s = evict_line-phase sh x y s (s.cache.at x y)
+
+-- the core has the bus
+pub alone-fine : (sh : Shape) (n t : ℕ) (s : CoreState) → Fine sh n s → Fine sh n (gone_alone t s)
+unfolding gone_alone read_cleared
+alone-fine sh n t s k = record {
+  awaited = k.awaited;
+  clean = k.clean;
+  sound = record {
+    cache = read_cleared-keeps sh s.cache k.sound.cache;
+    awaits = awaits s.awaited k.awaited;
+    alone = λ e. absurd (cc);
+    apart = k.sound.apart;
+    unmarked = λ e. absurd (cc);
+  };
+  attempt = k.attempt;
+  frames = k.frames;
+  spilled = k.spilled;
+}
+  where
+    awaits : (o : Option Awaited) → o ≡ None → AwaitsHeld (record s.cache { read = λ v. false }) o
+    awaits None e = tt
+    awaits (Some a) e = absurd (cc)

@@ -7,3 +7,4 @@ pub mod Fine
 pub mod Committed
 pub mod Taken
 pub mod Events
+pub mod Ordered
