@@ -8,3 +8,7 @@ pub mod Committed
 pub mod Taken
 pub mod Events
 pub mod Ordered
+pub mod Runs
+pub mod Numbered
+pub mod Temp3
+pub mod Bounded
