@@ -105,6 +105,11 @@ filled-sound : (sh : Shape) (l : ℕ) (ram : ℕ → ℕ) (s : CoreState) (c : C
 unfolding core_deliver
 filled-sound sh l ram s c k = rw (fill-is l (line_words ram l) s c) at (core_deliver-sound sh (asking l s c) (Dir 0) (Fill l (line_words ram l)) k)
 
+pub first-sound : (sh : Shape) (n : ℕ) (p : Program) (c : ℕ) (s : CoreState) (d : Cache) (o : Out) → Fine sh n s → First sh p c s d o
+    → SoundCore sh (asking (line_of (word_wanted sh p s)) s d)
+first-sound sh n p c s d o k f =
+    rw f.asks at (if-at (core_exec sh p c s) o (λ o. SoundCore sh o.core) f.is (core_exec-sound sh p c s k.sound))
+
 -- a core with the line that it asked for
 pub filled-fine : (sh : Shape) (n : ℕ) (p : Program) (ram : ℕ → ℕ) (c : ℕ) (s : CoreState) (d : Cache) (o : Out) → Fine sh n s
     → First sh p c s d o → Fine sh n (with_words ram (line_of (word_wanted sh p s)) s d)
@@ -112,7 +117,7 @@ unfolding filled
 filled-fine sh n p ram c s d o k f = record {
   awaited = refl;
   clean = λ x. did.clean x (k.clean x);
-  sound = filled-sound sh l ram s d asked;
+  sound = filled-sound sh l ram s d (first-sound sh n p c s d o k f);
   attempt = k.attempt;
   frames = λ j h. held j (did.frames j h);
   spilled = k.spilled;
@@ -123,9 +128,6 @@ filled-fine sh n p ram c s d o k f = record {
 
     did : Did sh s (asking l s d)
     did = rw f.asks at f.executed.did
-
-    asked : SoundCore sh (asking l s d)
-    asked = rw f.asks at (if-at (core_exec sh p c s) o (λ o. SoundCore sh o.core) f.is (core_exec-sound sh p c s k.sound))
 
     held : (j : ℕ) → (s.cache.held j ≡ true) ⊎ (j < lines sh) → j < lines sh
     held j (inl h) = k.frames j h

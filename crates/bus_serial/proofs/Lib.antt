@@ -12,3 +12,5 @@ pub mod Runs
 pub mod Numbered
 pub mod Temp3
 pub mod Bounded
+pub mod Temp4
+pub mod Follow
