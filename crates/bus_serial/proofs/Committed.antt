@@ -11,7 +11,7 @@ use Rattle.tcc_attempt.proofs.Sound.{finished-sound, valid-held}
 use Rattle.bus_serial.proofs.Did.{did-nothing, finished-did, finished-awaits}
 use Rattle.tcc_maps.specs.Spilled.{none_spilled}
 use Rattle.tcc_rules.specs.Attempt.{Out, is_solo, finished}
-use Rattle.tcc_rules.specs.Commit.{phase_after, committed_core, commit, solo_commit, noted}
+use Rattle.tcc_rules.specs.Commit.{phase_after, ended_after, committed_core, commit, solo_commit, noted}
 use Rattle.tcc_rules.specs.State.{CoreState}
 use Rattle.tcc_attempt.specs.Sound.{AwaitsHeld, SoundCore}
 use Rattle.tcc_bounds.specs.Bounds.{AttemptCounted, CommitCounted}
@@ -82,6 +82,19 @@ out-phase sh c t s = go (is_solo s.phase)
     go : (b : Bool) → (if b then solo_commit sh c t s else commit sh c t s).core.phase ≡ phase_after s.ended
     go true = refl
     go false = refl
+
+-- the checkpoint, and how a core that has halted did
+pub record Checked (s t : CoreState) : Type 0 where
+  pub saved : t.saved ≡ s.local
+  pub ended : t.ended ≡ ended_after s.ended
+
+pub out-checked : (sh : Shape) (c t : ℕ) (s : CoreState) → Checked s (all_clean (commit_out sh c t s).core)
+unfolding all_clean commit solo_commit committed_core
+out-checked sh c t s = go (is_solo s.phase)
+  where
+    go : (b : Bool) → Checked s (all_clean (if b then solo_commit sh c t s else commit sh c t s).core)
+    go true = record { saved = refl; ended = refl }
+    go false = record { saved = refl; ended = refl }
 
 -- what is noted
 pub out-noted : (sh : Shape) (c t : ℕ) (s : CoreState) → (commit_out sh c t s).commit ≡ Some (noted t c s)

@@ -14,3 +14,9 @@ pub mod Temp3
 pub mod Bounded
 pub mod Temp4
 pub mod Follow
+pub mod FollowTake
+pub mod FollowCommit
+pub mod Transaction
+pub mod Shown
+pub mod Cores
+pub mod Serial

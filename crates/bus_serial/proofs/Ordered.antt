@@ -45,7 +45,7 @@ pub record Ordered (sh : Shape) (n : ℕ) (w : BusWorld) : Type 0 where
   pub bus : BusFits sh w.cores w.next w.bus
 
 -- one core changes
-put-all : (P : ℕ → CoreState → Type 0) (sh : Shape) (cores : ℕ → CoreState) (c : ℕ) (s : CoreState)
+pub put-all : (P : ℕ → CoreState → Type 0) (sh : Shape) (cores : ℕ → CoreState) (c : ℕ) (s : CoreState)
     → ((i : ℕ) → i < sh.cores → (i == c) ≡ false → P i (cores i)) → P c s → (i : ℕ) → i < sh.cores → P i (put cores c s i)
 put-all P sh cores c s f g i l = go (i == c) refl
   where
