@@ -3,10 +3,9 @@ use Rattle.std.specs.Prelude.{ℕ, ◌+◌, ◌≡◌, ◌<◌, ◌⊎◌, Bool,
 use Rattle.std.proofs.Common.{refl, inl, inr, ◌∙◌}
 use Rattle.tcc_maps.specs.Cache.{Cache, IsCache}
 use Rattle.tcc_maps.specs.CacheChange.{committed, words_dropped}
-use Rattle.tcc_maps.specs.Shape.{Shape, lines}
+use Rattle.tcc_maps.specs.Shape.{Shape}
 use Rattle.tcc_maps.specs.Words.{line_of, or_else}
 use Rattle.tcc_program.specs.Program.{Need, Program}
-use Rattle.tcc_serial.specs.InMemory.{WordInMemory}
 use Rattle.tcc_attempt.proofs.Sound.{finished-sound, valid-held}
 use Rattle.bus_serial.proofs.Did.{did-nothing, finished-did, finished-awaits}
 use Rattle.tcc_maps.specs.Spilled.{none_spilled}
@@ -44,10 +43,10 @@ clean-sound sh s k = record {
   unmarked = k.unmarked;
 }
 
-commit-fine : (sh : Shape) (n m c t : ℕ) (s : CoreState) → is_solo s.phase ≡ false → Fine sh n s
-    → Fine sh m (all_clean (commit sh c t s).core)
+commit-fine : (sh : Shape) (M : ℕ → Type 0) (n m c t : ℕ) (s : CoreState) → is_solo s.phase ≡ false → Fine sh M n s
+    → Fine sh M m (all_clean (commit sh c t s).core)
 unfolding all_clean commit committed_core committed
-commit-fine sh n m c t s e k = record {
+commit-fine sh M n m c t s e k = record {
   awaited = k.awaited;
   clean = λ x. refl;
   sound = clean-sound sh (commit sh c t s).core (commit-sound sh c t s e k.sound);
@@ -56,9 +55,9 @@ commit-fine sh n m c t s e k = record {
   spilled = k.spilled;
 }
 
-solo_commit-fine : (sh : Shape) (n m c t : ℕ) (s : CoreState) → Fine sh n s → Fine sh m (all_clean (solo_commit sh c t s).core)
+solo_commit-fine : (sh : Shape) (M : ℕ → Type 0) (n m c t : ℕ) (s : CoreState) → Fine sh M n s → Fine sh M m (all_clean (solo_commit sh c t s).core)
 unfolding all_clean solo_commit committed_core committed words_dropped none_spilled
-solo_commit-fine sh n m c t s k = record {
+solo_commit-fine sh M n m c t s k = record {
   awaited = k.awaited;
   clean = λ x. refl;
   sound = clean-sound sh (solo_commit sh c t s).core (solo_commit-sound sh c t s k.sound);
@@ -68,12 +67,12 @@ solo_commit-fine sh n m c t s k = record {
 }
 
 -- a commit leaves an empty attempt, whatever the count
-pub out-fine : (sh : Shape) (n m c t : ℕ) (s : CoreState) → Fine sh n s → Fine sh m (all_clean (commit_out sh c t s).core)
-out-fine sh n m c t s k = go (is_solo s.phase) refl
+pub out-fine : (sh : Shape) (M : ℕ → Type 0) (n m c t : ℕ) (s : CoreState) → Fine sh M n s → Fine sh M m (all_clean (commit_out sh c t s).core)
+out-fine sh M n m c t s k = go (is_solo s.phase) refl
   where
-    go : (b : Bool) → is_solo s.phase ≡ b → Fine sh m (all_clean (if b then solo_commit sh c t s else commit sh c t s).core)
-    go true e = solo_commit-fine sh n m c t s k
-    go false e = commit-fine sh n m c t s e k
+    go : (b : Bool) → is_solo s.phase ≡ b → Fine sh M m (all_clean (if b then solo_commit sh c t s else commit sh c t s).core)
+    go true e = solo_commit-fine sh M n m c t s k
+    go false e = commit-fine sh M n m c t s e k
 
 pub out-phase : (sh : Shape) (c t : ℕ) (s : CoreState) → (all_clean (commit_out sh c t s).core).phase ≡ phase_after s.ended
 unfolding all_clean commit solo_commit committed_core
@@ -110,10 +109,10 @@ unfolding noted
 noted-counted n t c s k = k
 
 -- an instruction that ends the transaction
-pub finished-fine : (sh : Shape) (n : ℕ) (p : Program) (need : Need) (x : ℕ) (s : CoreState) → Fine sh n s
-    → Fine sh (n + 1) (finished p need x s)
-finished-fine sh n p need x s k =
-    let d = finished-did sh p need x s s (did-nothing sh s) in
+pub finished-fine : (sh : Shape) (M : ℕ → Type 0) (n : ℕ) (p : Program) (need : Need) (x : ℕ) (s : CoreState) → Fine sh M n s
+    → Fine sh M (n + 1) (finished p need x s)
+finished-fine sh M n p need x s k =
+    let d = finished-did M p need x s s (did-nothing M s) in
     record {
       awaited = finished-awaits p need x s ∙ k.awaited;
       clean = λ v. d.clean v (k.clean v);
@@ -123,21 +122,21 @@ finished-fine sh n p need x s k =
       spilled = λ v e. spilled v (d.spilled v e);
     }
   where
-    frames : (l : ℕ) → (s.cache.held l ≡ true) ⊎ (l < lines sh) → l < lines sh
+    frames : (l : ℕ) → (s.cache.held l ≡ true) ⊎ (M l) → M l
     frames l (inl h) = k.frames l h
     frames l (inr h) = h
 
-    spilled : (v : ℕ) → (is_some (s.spilled v) ≡ true) ⊎ WordInMemory sh v → WordInMemory sh v
+    spilled : (v : ℕ) → (is_some (s.spilled v) ≡ true) ⊎ M (line_of v) → M (line_of v)
     spilled v (inl h) = k.spilled v h
     spilled v (inr h) = h
 
 -- a word that is written lies in memory
-pub written-inside : (sh : Shape) (n : ℕ) (s : CoreState) → Fine sh n s → (x : ℕ) → is_some (written s x) ≡ true → WordInMemory sh x
+pub written-inside : (sh : Shape) (M : ℕ → Type 0) (n : ℕ) (s : CoreState) → Fine sh M n s → (x : ℕ) → is_some (written s x) ≡ true → M (line_of x)
 unfolding written
-written-inside sh n s k x = go (s.spilled x) refl (s.cache.modified x) (s.cache.value x) refl
+written-inside sh M n s k x = go (s.spilled x) refl (s.cache.modified x) (s.cache.value x) refl
   where
     go : (o : Option ℕ) → s.spilled x ≡ o → (m : Bool) (v : Option ℕ) → s.cache.value x ≡ v
-        → is_some (or_else o (if m then v else None)) ≡ true → WordInMemory sh x
+        → is_some (or_else o (if m then v else None)) ≡ true → M (line_of x)
     go (Some y) e m v f h = k.spilled x (rw e refl)
     go None e true None f h = absurd (cc)
     go None e true (Some z) f h = k.frames (line_of x) (valid-held sh s.cache x z k.sound.cache f)

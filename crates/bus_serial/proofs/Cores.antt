@@ -12,12 +12,10 @@ use Rattle.tcc_rules.specs.State.{CoreState, Phase, Running, AwaitTid, DoomedTid
 use Rattle.tcc_attempt.specs.Follows.{Fits}
 use Rattle.tcc_attempt.specs.Marks.{MarksFit, owed_in}
 use Rattle.tcc_attempt.proofs.Lemmas.{finished-same}
-use Rattle.tcc_serial.specs.InMemory.{StaysInMemory}
 use Rattle.bus_rules.specs.Commit.{BusStepped, written, with_words, packet, bus_commit, all_clean, commit_out}
 use Rattle.bus_rules.specs.Exec.{instruction, gone_alone, moved}
 use Rattle.bus_rules.specs.State.{Bus, Free, Alone, Packet, BusWorld}
 use Rattle.bus_rules.specs.Take.{taken, bus_left}
-use Rattle.bus_serial.specs.Bounds.{PacketInBounds}
 use Rattle.bus_serial.proofs.Committed.{finished-fine}
 use Rattle.bus_serial.proofs.Did.{did-nothing, finished-did}
 use Rattle.bus_serial.proofs.Events.{overflows, alone_by, taken_by, Happened, Instructs, TakesBus, EndsAlone, Commits, Evicts, Takes}
@@ -27,7 +25,8 @@ use Rattle.bus_serial.proofs.Follow.{Follow, follow-over, instruction-follow, al
 use Rattle.bus_serial.proofs.FollowCommit.{pending, out-follow, others-keep, own-none}
 use Rattle.bus_serial.proofs.FollowTake.{calm, in_packet, none_gone, taken-follow}
 use Rattle.bus_serial.proofs.Instruction.{if-at, Executes}
-use Rattle.bus_serial.proofs.Ordered.{PhaseFits, Ordered, put-all}
+use Rattle.bus_serial.proofs.Ordered.{StaysIn, PacketFits, PhaseFits, Ordered, put-all}
+use Rattle.bus_serial.proofs.Bounded.{in_memory}
 
 -- each core's
 abbrev pub Followed : Shape → Program → BusWorld → Type 0
@@ -68,7 +67,7 @@ pub record Committing (sh : Shape) (ram : ℕ → ℕ) (s : CoreState) : Type 0 
   pub coherent : Coherent ram none_gone s.cache
 
 commit-followed : (sh : Shape) (n : ℕ) (p : Program) (w : BusWorld) (c : ℕ) (s : CoreState) → (w.bus ≡ Free) ⊎ (w.bus ≡ Alone c)
-    → Fine sh n s → Committing sh w.ram s → Followed sh p w → Followed sh p (bus_commit sh w c s).world
+    → Fine sh (in_memory sh) n s → Committing sh w.ram s → Followed sh p w → Followed sh p (bus_commit sh w c s).world
 unfolding bus_commit
 commit-followed sh n p w c s b f h k =
     put-all (λ i u. Follow sh p now (pending (packet sh c s) i) u) sh w.cores c (all_clean (commit_out sh c w.next s).core)
@@ -91,7 +90,7 @@ pub ends-committing : (sh : Shape) (p : Program) (need : Need) (ram : ℕ → �
     → Committing sh ram (finished p need 0 s)
 ends-committing sh p need ram s k = record {
   replied = λ d e. k.replied d (rw (finished-same p need 0 s).owing at e);
-  coherent = did-coherent sh ram none_gone s (finished p need 0 s) (finished-did sh p need 0 s s (did-nothing sh s)) k.coherent;
+  coherent = did-coherent (in_memory sh) ram none_gone s (finished p need 0 s) (finished-did (in_memory sh) p need 0 s s (did-nothing (in_memory sh) s)) k.coherent;
 }
 
 -- a packet is taken
@@ -121,7 +120,7 @@ others-pending sh c i v f left l q e = go (any_below (put left c false) sh.cores
     go false x y = none (left i) refl x
 
 taken-followed : (sh : Shape) (n : ℕ) (p : Program) (w : BusWorld) (c : ℕ) (f : ℕ → Option ℕ) (left : ℕ → Bool) → c < sh.cores
-    → w.bus ≡ Packet f left → left c ≡ true → Ordered sh n w → Followed sh p w → Followed sh p (taken_by sh w c f left).world
+    → w.bus ≡ Packet f left → left c ≡ true → Ordered sh (in_memory sh) n w → Followed sh p w → Followed sh p (taken_by sh w c f left).world
 taken-followed sh n p w c f left l b h o k =
     put-all (λ i s. Follow sh p w.ram (pending after i) s) sh w.cores c (taken sh f (w.cores c))
     (λ i j e. follow-over sh p w.ram w.ram (pending w.bus i) (pending after i) (w.cores i)
@@ -136,16 +135,16 @@ taken-followed sh n p w c f left l b h o k =
     none : w.bus ≡ Alone c → ⊥
     none e = absurd (cc)
 
-    bounds : PacketInBounds sh f left
+    bounds : PacketFits sh (in_memory sh) f left
     bounds = (rw b at o.bus)
 
 -- each event
 
-pub alone-free : (sh : Shape) (n : ℕ) (w : BusWorld) (c t : ℕ) → c < sh.cores → Ordered sh n w → (w.cores c).phase ≡ Solo t
+pub alone-free : (sh : Shape) (n : ℕ) (w : BusWorld) (c t : ℕ) → c < sh.cores → Ordered sh (in_memory sh) n w → (w.cores c).phase ≡ Solo t
     → w.bus ≡ Alone c
 alone-free sh n w c t l k e = (rw e at (k.phases c l)).0
 
-pub happened-followed : (sh : Shape) (p : Program) (n : ℕ) (w : BusWorld) (r : BusStepped) → Fits p → StaysInMemory sh p → Ordered sh n w
+pub happened-followed : (sh : Shape) (p : Program) (n : ℕ) (w : BusWorld) (r : BusStepped) → Fits p → StaysIn sh (in_memory sh) p → Ordered sh (in_memory sh) n w
     → Followed sh p w → Happened sh p w r → Followed sh p r.world
 happened-followed sh p n w r f m o k (Instructs c t l x d q e) =
     let h = if-at (instruction sh p w.ram c (w.cores c)) t (λ u. Follow sh p w.ram (pending w.bus c) u.core) d
@@ -154,13 +153,13 @@ happened-followed sh p n w r f m o k (Instructs c t l x d q e) =
 happened-followed sh p n w r f m o k (TakesBus c t l x d q b e) =
     let h = if-at (instruction sh p w.ram c (w.cores c)) t (λ u. Follow sh p w.ram (pending w.bus c) u.core) d
         (instruction-follow sh n p w.ram (pending w.bus c) c (w.cores c) f (m (w.cores c).local) (o.cores c l) x (k c l)) in
-    let a = if-at (instruction sh p w.ram c (w.cores c)) t (Left sh n (w.cores c)) d
-        (instruction-left sh n p w.ram c (w.cores c) (m (w.cores c).local) (o.cores c l) x) in
+    let a = if-at (instruction sh p w.ram c (w.cores c)) t (Left sh (in_memory sh) n (w.cores c)) d
+        (instruction-left sh (in_memory sh) n p w.ram c (w.cores c) (m (w.cores c).local) (o.cores c l) x) in
     rw e (alone-followed sh p w c t.core b k (full-phase w.next w.bus c (w.cores c) t.core (o.phases c l) q a.ways) h)
 happened-followed sh p n w r f m o k (EndsAlone c t need l q i g e) =
     let b = alone-free sh n w c t l o q in
     let h = committing sh p w c (w.cores c) (inr b) (rw q refl) (k c l) in
-    rw e (commit-followed sh (n + 1) p w c (finished p need 0 (w.cores c)) (inr b) (finished-fine sh n p need 0 (w.cores c) (o.cores c l))
+    rw e (commit-followed sh (n + 1) p w c (finished p need 0 (w.cores c)) (inr b) (finished-fine sh (in_memory sh) n p need 0 (w.cores c) (o.cores c l))
     (ends-committing sh p need w.ram (w.cores c) h) k)
 happened-followed sh p n w r f m o k (Commits c l q b e) =
     rw e (commit-followed sh n p w c (w.cores c) (inl b) (o.cores c l) (committing sh p w c (w.cores c) (inl b) (rw q refl) (k c l)) k)

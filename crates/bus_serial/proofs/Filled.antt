@@ -19,9 +19,9 @@ use Rattle.bus_serial.proofs.Did.{Did}
 abbrev pub Coherent : (ram : ℕ → ℕ) → (gone : ℕ → Bool) → Cache → Type 0
 Coherent ram gone c = (v : ℕ) → gone v ≡ false → c.modified v ≡ false → (x : ℕ) → c.value v ≡ Some x → ram v ≡ x
 
-pub did-coherent : (sh : Shape) (ram : ℕ → ℕ) (gone : ℕ → Bool) (s t : CoreState) → Did sh s t → Coherent ram gone s.cache
+pub did-coherent : (M : ℕ → Type 0) (ram : ℕ → ℕ) (gone : ℕ → Bool) (s t : CoreState) → Did M s t → Coherent ram gone s.cache
     → Coherent ram gone t.cache
-did-coherent sh ram gone s t d k v g m x e = k v g (d.stays v m) x (sym (d.value v m) ∙ e)
+did-coherent M ram gone s t d k v g m x e = k v g (d.stays v m) x (sym (d.value v m) ∙ e)
 
 some-is : (x y : ℕ) → Some x ≡ Some y → x ≡ y
 some-is x y e = ap (λ (o : Option ℕ). unwrap_or o 0) e

@@ -1,5 +1,5 @@
--- What holds of one core by itself between events, of a program whose accesses lie in memory: no line is awaited, no word is dirty, its
--- cache is consistent and of memory, and its attempt is counted.
+-- What holds of one core by itself between events, of a program whose accesses are to lines in a set: no line is awaited, no word is dirty, its
+-- cache is consistent and of those lines, and its attempt is counted.
 use Rattle.std.specs.Prelude.{ℕ, ◌+◌, ◌≡◌, ◌<◌, Bool, true, false, not, ◌==◌, ◌&&◌, ◌||◌, ◌⊎◌, List, Option, Some, None, is_some, IfSome, unwrap_or, if◌then◌else◌}
 use Rattle.std.proofs.Common.{arith, refl, ap, sym, inl, inr, subst, ◌∙◌}
 use Rattle.std.proofs.lemmas.Bool.Decides.{nat_tests}
@@ -21,27 +21,25 @@ use Rattle.tcc_attempt.specs.Sound.{AwaitsHeld, SoundCore}
 use Rattle.tcc_attempt.proofs.Sound.{valid-held}
 use Rattle.tcc_attempt.proofs.SoundDeliver.{core_deliver-sound}
 use Rattle.tcc_attempt.proofs.SoundExec.{core_exec-sound}
-use Rattle.tcc_serial.specs.InMemory.{NeedInMemory, WordInMemory, FramesInMemory}
 use Rattle.tcc_bounds.specs.Bounds.{AttemptCounted}
-use Rattle.tcc_bounds.proofs.CoreKeeps.{exec-keeps}
 use Rattle.tcc_bounds.proofs.Counted.{weak}
 use Rattle.bus_rules.specs.Exec.{line_words, instruction, gone_alone}
-use Rattle.bus_serial.proofs.Did.{Did, How, Ran, Closed, Overflowed, Asked, Executed}
+use Rattle.bus_serial.proofs.Did.{Did, How, Ran, Closed, Overflowed, Asked, Executed, NeedIn}
 use Rattle.bus_serial.proofs.Filled.{fill-is}
 use Rattle.bus_serial.proofs.Instruction.{if-at, Executes, with_words, asking, word_wanted, Once, First, instructed}
 use Rattle.bus_serial.proofs.Temp.{core_evict-sound}
 
-pub record Fine (sh : Shape) (n : ℕ) (s : CoreState) : Type 0 where
+pub record Fine (sh : Shape) (M : ℕ → Type 0) (n : ℕ) (s : CoreState) : Type 0 where
   pub awaited : s.awaited ≡ None
   pub clean : (x : ℕ) → s.cache.dirty x ≡ None
   pub sound : SoundCore sh s
   pub attempt : AttemptCounted n s
-  pub frames : FramesInMemory sh s.cache
-  pub spilled : (x : ℕ) → is_some (s.spilled x) ≡ true → WordInMemory sh x
+  pub frames : ((l : ℕ) → s.cache.held l ≡ true → M l)
+  pub spilled : (x : ℕ) → is_some (s.spilled x) ≡ true → M (line_of x)
 
 -- one event later
-pub later : (sh : Shape) (n : ℕ) (s : CoreState) → Fine sh n s → Fine sh (n + 1) s
-later sh n s k = record {
+pub later : (sh : Shape) (M : ℕ → Type 0) (n : ℕ) (s : CoreState) → Fine sh M n s → Fine sh M (n + 1) s
+later sh M n s k = record {
   awaited = k.awaited;
   clean = k.clean;
   sound = k.sound;
@@ -58,8 +56,8 @@ pub data Ways (s t : CoreState) : Type 0 where
   Closes : (runs : s.phase ≡ Running) → (phase : t.phase ≡ AwaitTid) → Ways s t
   Overflows : (solo : is_solo s.phase ≡ false) → (phase : t.phase ≡ Overflowing None) → Ways s t
 
-pub record Left (sh : Shape) (n : ℕ) (s : CoreState) (o : Out) : Type 0 where
-  pub fine : Fine sh (n + 1) o.core
+pub record Left (sh : Shape) (M : ℕ → Type 0) (n : ℕ) (s : CoreState) (o : Out) : Type 0 where
+  pub fine : Fine sh M (n + 1) o.core
   pub ways : Ways s o.core
   pub quiet : o.commit ≡ None
   pub saved : o.core.saved ≡ s.saved
@@ -70,14 +68,14 @@ ways-of w s t n (Closed r e a) = Closes r e
 ways-of w s t n (Overflowed q e) = Overflows q (ap (λ (t : CoreState). t.phase) e)
 ways-of w s t n (Asked c m e) = absurd (let i = ap (λ (t : CoreState). t.awaited) e in cc)
 
-once-left : (sh : Shape) (n : ℕ) (p : Program) (c : ℕ) (s : CoreState) (o : Out) → NeedInMemory sh (p.need s.local) → Fine sh n s
-    → Once sh p c s o → Left sh n s o
-once-left sh n p c s o m k e = record {
+once-left : (sh : Shape) (M : ℕ → Type 0) (n : ℕ) (p : Program) (c : ℕ) (s : CoreState) (o : Out) → NeedIn M sh.base (p.need s.local) → Fine sh M n s
+    → Once sh M p c s o → Left sh M n s o
+once-left sh M n p c s o m k e = record {
   fine = record {
     awaited = e.none;
     clean = λ x. e.executed.did.clean x (k.clean x);
     sound = if-at (core_exec sh p c s) o (λ o. SoundCore sh o.core) e.is (core_exec-sound sh p c s k.sound);
-    attempt = (if-at (core_exec sh p c s) o (λ o. AttemptCounted (n + 1) o.core) e.is (counted (core_exec sh p c s) (exec-keeps sh n p c s m k.attempt)));
+    attempt = e.executed.attempt n k.attempt;
     frames = λ l h. held l (e.executed.did.frames l h);
     spilled = λ x h. spilt x (e.executed.did.spilled x h);
   };
@@ -86,16 +84,11 @@ once-left sh n p c s o m k e = record {
   saved = e.executed.did.saved;
 }
   where
-    counted : (x : Option Out) → IfSome x (Rattle.tcc_bounds.proofs.CoreKeeps.CoreKeeps sh (Rattle.tcc_bounds.specs.Bounds.most_sent sh) n)
-        → IfSome x (λ o. AttemptCounted (n + 1) o.core)
-    counted None k = tt
-    counted (Some o) k = k.attempt
-
-    held : (l : ℕ) → (s.cache.held l ≡ true) ⊎ (l < lines sh) → l < lines sh
+    held : (l : ℕ) → (s.cache.held l ≡ true) ⊎ (M l) → M l
     held l (inl h) = k.frames l h
     held l (inr h) = h
 
-    spilt : (x : ℕ) → (is_some (s.spilled x) ≡ true) ⊎ WordInMemory sh x → WordInMemory sh x
+    spilt : (x : ℕ) → (is_some (s.spilled x) ≡ true) ⊎ M (line_of x) → M (line_of x)
     spilt x (inl h) = k.spilled x h
     spilt x (inr h) = h
 
@@ -105,19 +98,19 @@ filled-sound : (sh : Shape) (l : ℕ) (ram : ℕ → ℕ) (s : CoreState) (c : C
 unfolding core_deliver
 filled-sound sh l ram s c k = rw (fill-is l (line_words ram l) s c) at (core_deliver-sound sh (asking l s c) (Dir 0) (Fill l (line_words ram l)) k)
 
-pub first-sound : (sh : Shape) (n : ℕ) (p : Program) (c : ℕ) (s : CoreState) (d : Cache) (o : Out) → Fine sh n s → First sh p c s d o
+pub first-sound : (sh : Shape) (M : ℕ → Type 0) (n : ℕ) (p : Program) (c : ℕ) (s : CoreState) (d : Cache) (o : Out) → Fine sh M n s → First sh M p c s d o
     → SoundCore sh (asking (line_of (word_wanted sh p s)) s d)
-first-sound sh n p c s d o k f =
+first-sound sh M n p c s d o k f =
     rw f.asks at (if-at (core_exec sh p c s) o (λ o. SoundCore sh o.core) f.is (core_exec-sound sh p c s k.sound))
 
 -- a core with the line that it asked for
-pub filled-fine : (sh : Shape) (n : ℕ) (p : Program) (ram : ℕ → ℕ) (c : ℕ) (s : CoreState) (d : Cache) (o : Out) → Fine sh n s
-    → First sh p c s d o → Fine sh n (with_words ram (line_of (word_wanted sh p s)) s d)
+pub filled-fine : (sh : Shape) (M : ℕ → Type 0) (n : ℕ) (p : Program) (ram : ℕ → ℕ) (c : ℕ) (s : CoreState) (d : Cache) (o : Out) → Fine sh M n s
+    → First sh M p c s d o → Fine sh M n (with_words ram (line_of (word_wanted sh p s)) s d)
 unfolding filled
-filled-fine sh n p ram c s d o k f = record {
+filled-fine sh M n p ram c s d o k f = record {
   awaited = refl;
   clean = λ x. did.clean x (k.clean x);
-  sound = filled-sound sh l ram s d (first-sound sh n p c s d o k f);
+  sound = filled-sound sh l ram s d (first-sound sh M n p c s d o k f);
   attempt = k.attempt;
   frames = λ j h. held j (did.frames j h);
   spilled = k.spilled;
@@ -126,20 +119,20 @@ filled-fine sh n p ram c s d o k f = record {
     l : ℕ
     l = line_of (word_wanted sh p s)
 
-    did : Did sh s (asking l s d)
+    did : Did M s (asking l s d)
     did = rw f.asks at f.executed.did
 
-    held : (j : ℕ) → (s.cache.held j ≡ true) ⊎ (j < lines sh) → j < lines sh
+    held : (j : ℕ) → (s.cache.held j ≡ true) ⊎ (M j) → M j
     held j (inl h) = k.frames j h
     held j (inr h) = h
 
-pub instruction-left : (sh : Shape) (n : ℕ) (p : Program) (ram : ℕ → ℕ) (c : ℕ) (s : CoreState) → NeedInMemory sh (p.need s.local)
-    → Fine sh n s → Executes p s → IfSome (instruction sh p ram c s) (Left sh n s)
-instruction-left sh n p ram c s m k x = instructed sh p ram c s (Left sh n s) m k.awaited x
-    (λ o e. once-left sh n p c s o m k e)
+pub instruction-left : (sh : Shape) (M : ℕ → Type 0) (n : ℕ) (p : Program) (ram : ℕ → ℕ) (c : ℕ) (s : CoreState) → NeedIn M sh.base (p.need s.local)
+    → Fine sh M n s → Executes p s → IfSome (instruction sh p ram c s) (Left sh M n s)
+instruction-left sh M n p ram c s m k x = instructed sh M p ram c s (Left sh M n s) m k.awaited x
+    (λ o e. once-left sh M n p c s o m k e)
     (λ d o r f e.
         let u = with_words ram (line_of (word_wanted sh p s)) s d in
-        let l = once-left sh n p c u r m (filled-fine sh n p ram c s d o k f) e in
+        let l = once-left sh M n p c u r m (filled-fine sh M n p ram c s d o k f) e in
         record { fine = l.fine; ways = same s d r.core l.ways; quiet = l.quiet; saved = l.saved })
   where
     same : (s : CoreState) (d : Cache) (t : CoreState) → Ways (with_words ram (line_of (word_wanted sh p s)) s d) t → Ways s t
@@ -149,11 +142,11 @@ instruction-left sh n p ram c s m k x = instructed sh p ram c s (Left sh n s) m 
 
 -- Evict
 
-evict_line-fine : (sh : Shape) (n x y : ℕ) (s : CoreState) (o : Option ℕ) → s.cache.at x y ≡ o → Fine sh n s
-    → IfSome (evict_line sh x y s o) (λ t. SoundCore sh t.core) → IfSome (evict_line sh x y s o) (Left sh n s)
+evict_line-fine : (sh : Shape) (M : ℕ → Type 0) (n x y : ℕ) (s : CoreState) (o : Option ℕ) → s.cache.at x y ≡ o → Fine sh M n s
+    → IfSome (evict_line sh x y s o) (λ t. SoundCore sh t.core) → IfSome (evict_line sh x y s o) (Left sh M n s)
 unfolding spill_line
-evict_line-fine sh n x y s None e k q = tt
-evict_line-fine sh n x y s (Some l) e k q = go (is_awaited s.awaited l || (is_marked s.cache l && not (is_solo s.phase))) q
+evict_line-fine sh M n x y s None e k q = tt
+evict_line-fine sh M n x y s (Some l) e k q = go (is_awaited s.awaited l || (is_marked s.cache l && not (is_solo s.phase))) q
   where
     t : CoreState
     t = record s { cache = evicted x y s.cache; spilled = spill_line l s.cache s.spilled }
@@ -166,18 +159,18 @@ evict_line-fine sh n x y s (Some l) e k q = go (is_awaited s.awaited l || (is_ma
     fewer j true h = absurd (cc)
     fewer j false h = h
 
-    valid : (v : ℕ) (o : Option ℕ) → s.cache.value v ≡ o → is_some o ≡ true → WordInMemory sh v
+    valid : (v : ℕ) (o : Option ℕ) → s.cache.value v ≡ o → is_some o ≡ true → M (line_of v)
     valid v None r h = absurd (cc)
     valid v (Some z) r h = k.frames (line_of v) (valid-held sh s.cache v z k.sound.cache r)
 
     spilt : (v : ℕ) (b m : Bool) → s.cache.modified v ≡ m → is_some (if b && m then Some (unwrap_or (s.cache.value v) 0) else s.spilled v) ≡ true
-        → WordInMemory sh v
+        → M (line_of v)
     spilt v true true r h = valid v (s.cache.value v) refl (k.sound.cache.modified v r)
     spilt v true false r h = k.spilled v h
     spilt v false m r h = k.spilled v h
 
     go : (b : Bool) → IfSome (if b then None else Some (moves t (written_back sh s.cache l))) (λ t. SoundCore sh t.core)
-        → IfSome (if b then None else Some (moves t (written_back sh s.cache l))) (Left sh n s)
+        → IfSome (if b then None else Some (moves t (written_back sh s.cache l))) (Left sh M n s)
     go true q = tt
     go false q = record {
       fine = record {
@@ -193,9 +186,9 @@ evict_line-fine sh n x y s (Some l) e k q = go (is_awaited s.awaited l || (is_ma
       saved = refl;
     }
 
-pub evict-left : (sh : Shape) (n x y : ℕ) (s : CoreState) → Fine sh n s → IfSome (core_evict sh x y s) (Left sh n s)
+pub evict-left : (sh : Shape) (M : ℕ → Type 0) (n x y : ℕ) (s : CoreState) → Fine sh M n s → IfSome (core_evict sh x y s) (Left sh M n s)
 unfolding core_evict
-evict-left sh n x y s k = evict_line-fine sh n x y s (s.cache.at x y) refl k (core_evict-sound sh x y s k.sound)
+evict-left sh M n x y s k = evict_line-fine sh M n x y s (s.cache.at x y) refl k (core_evict-sound sh x y s k.sound)
 
 evict_line-phase : (sh : Shape) (x y : ℕ) (s : CoreState) (o : Option ℕ) → IfSome (evict_line sh x y s o) (λ t. t.core.phase ≡ s.phase)
 evict_line-phase sh x y s None = tt
@@ -213,9 +206,9 @@ unfolding core_evict
 evict-phase sh x y s = evict_line-phase sh x y s (s.cache.at x y)
 
 -- the core has the bus
-pub alone-fine : (sh : Shape) (n t : ℕ) (s : CoreState) → Fine sh n s → Fine sh n (gone_alone t s)
+pub alone-fine : (sh : Shape) (M : ℕ → Type 0) (n t : ℕ) (s : CoreState) → Fine sh M n s → Fine sh M n (gone_alone t s)
 unfolding gone_alone read_cleared
-alone-fine sh n t s k = record {
+alone-fine sh M n t s k = record {
   awaited = k.awaited;
   clean = k.clean;
   sound = record {

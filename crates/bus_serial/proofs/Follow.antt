@@ -29,15 +29,16 @@ use Rattle.tcc_attempt.proofs.FollowsDeliver.{core_evict-follows, core_deliver-f
 use Rattle.tcc_attempt.proofs.FollowsExec.{core_exec-follows}
 use Rattle.tcc_attempt.proofs.Marks.{core_exec-fit, none-used}
 use Rattle.tcc_attempt.proofs.MarksDeliver.{core_evict-fit, core_deliver-fit}
-use Rattle.tcc_serial.specs.InMemory.{NeedInMemory, WordInMemory}
+use Rattle.tcc_serial.specs.InMemory.{WordInMemory}
 use Rattle.bus_rules.specs.Exec.{line_words, instruction, gone_alone}
 use Rattle.bus_rules.specs.Take.{reads_some, dropped, taken}
-use Rattle.bus_serial.proofs.Did.{Did}
+use Rattle.bus_serial.proofs.Did.{Did, NeedIn}
 use Rattle.bus_serial.proofs.Filled.{Coherent, did-coherent, filled-coherent, fill-is}
 use Rattle.bus_serial.proofs.Fine.{Fine, first-sound, filled-fine}
 use Rattle.bus_serial.proofs.Instruction.{if-at, Executes, with_words, asking, word_wanted, Once, First, instructed}
 use Rattle.bus_serial.proofs.Taken.{again}
 use Rattle.bus_serial.proofs.Temp4.{rolled-follows}
+use Rattle.bus_serial.proofs.Bounded.{in_memory}
 
 -- memory has these values, but for the words that are gone
 abbrev pub AgreesBut : (gone : ℕ → Bool) → Uses → (ram : ℕ → ℕ) → Type 0
@@ -95,7 +96,7 @@ used-agrees ram gone base s (Changes addr changed) k = at-agrees ram gone s (wor
 used-agrees ram gone base s _ k = tt
 
 -- what one execution leaves of the attempt
-exec-fits : (sh : Shape) (n : ℕ) (p : Program) (c : ℕ) (s : CoreState) (us : Uses) (o : Out) → Fits p → Fine sh n s
+exec-fits : (sh : Shape) (n : ℕ) (p : Program) (c : ℕ) (s : CoreState) (us : Uses) (o : Out) → Fits p → Fine sh (in_memory sh) n s
     → core_exec sh p c s ≡ Some o → o.commit ≡ None → AttemptFits sh p s us
     → AttemptFits sh p o.core (us ++ used_by sh.base s (p.need s.local))
 exec-fits sh n p c s us o f k e q h = rw q at both
@@ -111,11 +112,11 @@ exec-fits sh n p c s us o f k e q h = rw q at both
     }
 
 once-follow : (sh : Shape) (n : ℕ) (p : Program) (ram : ℕ → ℕ) (gone : ℕ → Bool) (c : ℕ) (s : CoreState) (o : Out) → Fits p
-    → Fine sh n s → Once sh p c s o → Follow sh p ram gone s → Follow sh p ram gone o.core
+    → Fine sh (in_memory sh) n s → Once sh (in_memory sh) p c s o → Follow sh p ram gone s → Follow sh p ram gone o.core
 once-follow sh n p ram gone c s o f k e h = record {
   uses = h.uses ++ used_by sh.base s (p.need s.local);
   fits = exec-fits sh n p c s h.uses o f k e.is e.executed.quiet h.fits;
-  coherent = did-coherent sh ram gone s o.core e.executed.did h.coherent;
+  coherent = did-coherent (in_memory sh) ram gone s o.core e.executed.did h.coherent;
   agrees = agrees-append gone ram h.uses (used_by sh.base s (p.need s.local)) h.agrees
       (used-agrees ram gone sh.base s (p.need s.local) h.coherent);
 }
@@ -135,13 +136,13 @@ filled-fits sh p l ram s d us k h = rw (fill-is l (line_words ram l) s d) at bot
     }
 
 first-follow : (sh : Shape) (n : ℕ) (p : Program) (ram : ℕ → ℕ) (gone : ℕ → Bool) (c : ℕ) (s : CoreState) (d : Cache) (o : Out) → Fits p
-    → Fine sh n s → First sh p c s d o → Follow sh p ram gone s
+    → Fine sh (in_memory sh) n s → First sh (in_memory sh) p c s d o → Follow sh p ram gone s
     → Follow sh p ram gone (with_words ram (line_of (word_wanted sh p s)) s d)
 first-follow sh n p ram gone c s d o f k e h = record {
   uses = h.uses ++ used_by sh.base s (p.need s.local);
-  fits = filled-fits sh p l ram s d (h.uses ++ used_by sh.base s (p.need s.local)) (first-sound sh n p c s d o k e)
+  fits = filled-fits sh p l ram s d (h.uses ++ used_by sh.base s (p.need s.local)) (first-sound sh (in_memory sh) n p c s d o k e)
       (rw e.asks at (exec-fits sh n p c s h.uses o f k e.is e.executed.quiet h.fits));
-  coherent = filled-coherent ram gone l d (did-coherent sh ram gone s (asking l s d) did h.coherent);
+  coherent = filled-coherent ram gone l d (did-coherent (in_memory sh) ram gone s (asking l s d) did h.coherent);
   agrees = agrees-append gone ram h.uses (used_by sh.base s (p.need s.local)) h.agrees
       (used-agrees ram gone sh.base s (p.need s.local) h.coherent);
 }
@@ -149,17 +150,17 @@ first-follow sh n p ram gone c s d o f k e h = record {
     l : ℕ
     l = line_of (word_wanted sh p s)
 
-    did : Did sh s (asking l s d)
+    did : Did (in_memory sh) s (asking l s d)
     did = rw e.asks at e.executed.did
 
 pub instruction-follow : (sh : Shape) (n : ℕ) (p : Program) (ram : ℕ → ℕ) (gone : ℕ → Bool) (c : ℕ) (s : CoreState) → Fits p
-    → NeedInMemory sh (p.need s.local) → Fine sh n s → Executes p s → Follow sh p ram gone s
+    → NeedIn (in_memory sh) sh.base (p.need s.local) → Fine sh (in_memory sh) n s → Executes p s → Follow sh p ram gone s
     → IfSome (instruction sh p ram c s) (λ o. Follow sh p ram gone o.core)
-instruction-follow sh n p ram gone c s f m k x h = instructed sh p ram c s (λ o. Follow sh p ram gone o.core) m k.awaited x
+instruction-follow sh n p ram gone c s f m k x h = instructed sh (in_memory sh) p ram c s (λ o. Follow sh p ram gone o.core) m k.awaited x
     (λ o e. once-follow sh n p ram gone c s o f k e h)
     (λ d o r e g.
         let u = with_words ram (line_of (word_wanted sh p s)) s d in
-        once-follow sh n p ram gone c u r f (filled-fine sh n p ram c s d o k e) g (first-follow sh n p ram gone c s d o f k e h))
+        once-follow sh n p ram gone c u r f (filled-fine sh (in_memory sh) n p ram c s d o k e) g (first-follow sh n p ram gone c s d o f k e h))
 
 -- the core has the bus
 pub alone-follow : (sh : Shape) (p : Program) (ram : ℕ → ℕ) (gone : ℕ → Bool) (t : ℕ) (s : CoreState) → s.phase ≡ Overflowing None
@@ -194,7 +195,7 @@ evicted-coherent ram gone x y l c e k v g m z i = go (l == line_of v) (sym (modi
     go true m i = absurd (cc)
     go false m i = k v g m z i
 
-pub evict-follow : (sh : Shape) (n : ℕ) (p : Program) (ram : ℕ → ℕ) (gone : ℕ → Bool) (x y : ℕ) (s : CoreState) → Fine sh n s
+pub evict-follow : (sh : Shape) (n : ℕ) (p : Program) (ram : ℕ → ℕ) (gone : ℕ → Bool) (x y : ℕ) (s : CoreState) → Fine sh (in_memory sh) n s
     → Follow sh p ram gone s → IfSome (core_evict sh x y s) (λ o. Follow sh p ram gone o.core)
 unfolding core_evict
 evict-follow sh n p ram gone x y s k h = all (core_evict sh x y s) (core_evict-follows sh p x y s h.uses k.sound h.fits.follows)

@@ -26,6 +26,7 @@ use Rattle.bus_serial.proofs.Filled.{Coherent}
 use Rattle.bus_serial.proofs.Fine.{Fine}
 use Rattle.bus_serial.proofs.Follow.{Follow}
 use Rattle.bus_serial.proofs.FollowTake.{none_gone}
+use Rattle.bus_serial.proofs.Bounded.{in_memory}
 
 -- the words of the packet on the bus that the core is still to take
 abbrev pub pending : Bus → (core : ℕ) → (word : ℕ) → Bool
@@ -55,7 +56,7 @@ solo-coherent ram c t sh s k v g m x i = go (s.spilled v) i (s.cache.modified v)
     go None i true e = rw i refl
     go None i false e = k v refl e x i
 
-pub out-coherent : (n c t : ℕ) (ram : ℕ → ℕ) (sh : Shape) (s : CoreState) → Fine sh n s → Coherent ram none_gone s.cache
+pub out-coherent : (n c t : ℕ) (ram : ℕ → ℕ) (sh : Shape) (s : CoreState) → Fine sh (in_memory sh) n s → Coherent ram none_gone s.cache
     → Coherent (with_words (written s) ram) none_gone (all_clean (commit_out sh c t s).core).cache
 out-coherent n c t ram sh s k h = go (is_solo s.phase) refl
   where
@@ -64,7 +65,7 @@ out-coherent n c t ram sh s k h = go (is_solo s.phase) refl
     go true e = solo-coherent ram c t sh s h
     go false e = commit-coherent ram c t sh s (k.sound.alone e) h
 
-out-follows : (n c t : ℕ) (sh : Shape) (p : Program) (s : CoreState) → Fine sh n s
+out-follows : (n c t : ℕ) (sh : Shape) (p : Program) (s : CoreState) → Fine sh (in_memory sh) n s
     → Follows sh p (all_clean (commit_out sh c t s).core) []
 unfolding all_clean sees
 out-follows n c t sh p s k = go (is_solo s.phase) refl
@@ -90,7 +91,7 @@ out-bare c t sh s = go (is_solo s.phase)
     go true = record { owing = refl; awaited = refl; read = λ v. refl }
     go false = record { owing = refl; awaited = refl; read = λ v. refl }
 
-out-marks : (n c t : ℕ) (sh : Shape) (s : CoreState) → Fine sh n s → ((d : ℕ) → s.owing d ≡ true → ⊥)
+out-marks : (n c t : ℕ) (sh : Shape) (s : CoreState) → Fine sh (in_memory sh) n s → ((d : ℕ) → s.owing d ≡ true → ⊥)
     → MarksFit sh (all_clean (commit_out sh c t s).core) []
 out-marks n c t sh s k o =
     let b = out-bare c t sh s in
@@ -107,7 +108,7 @@ out-marks n c t sh s k o =
     stand d (HaltedWith code) = tt
     stand d (TrappedWith code) = tt
 
-pub out-follow : (n c t : ℕ) (sh : Shape) (p : Program) (ram : ℕ → ℕ) (s : CoreState) → Fine sh n s → ((d : ℕ) → s.owing d ≡ true → ⊥)
+pub out-follow : (n c t : ℕ) (sh : Shape) (p : Program) (ram : ℕ → ℕ) (s : CoreState) → Fine sh (in_memory sh) n s → ((d : ℕ) → s.owing d ≡ true → ⊥)
     → Coherent ram none_gone s.cache → Follow sh p (with_words (written s) ram) none_gone (all_clean (commit_out sh c t s).core)
 out-follow n c t sh p ram s k o h = record {
   uses = [];
@@ -118,10 +119,10 @@ out-follow n c t sh p ram s k o h = record {
 
 -- every other core
 
-written-some : (sh : Shape) (n : ℕ) (s : CoreState) (v : ℕ) → Fine sh n s → is_some (written s v) ≡ true → wrote_some sh s ≡ true
+written-some : (sh : Shape) (n : ℕ) (s : CoreState) (v : ℕ) → Fine sh (in_memory sh) n s → is_some (written s v) ≡ true → wrote_some sh s ≡ true
 unfolding wrote_some is_written is_modified holds any_word written
 written-some sh n s v k e =
-    any_below-at (λ l. is_modified s.cache l || holds s.spilled l) (lines sh) (line_of v) (written-inside sh n s k v e)
+    any_below-at (λ l. is_modified s.cache l || holds s.spilled l) (lines sh) (line_of v) (written-inside sh (in_memory sh) n s k v e)
     (go (s.spilled v) refl (s.cache.modified v) refl e)
   where
     i : word_at (line_of v) (v % 8) ≡ v
@@ -141,7 +142,7 @@ written-some sh n s v k e =
     go None a false b q = absurd (cc)
 
 -- a word that isn't pending for another core has its value still
-pub others-keep : (sh : Shape) (n c i : ℕ) (ram : ℕ → ℕ) (s : CoreState) → Fine sh n s → i < sh.cores → (i == c) ≡ false → (v : ℕ)
+pub others-keep : (sh : Shape) (n c i : ℕ) (ram : ℕ → ℕ) (s : CoreState) → Fine sh (in_memory sh) n s → i < sh.cores → (i == c) ≡ false → (v : ℕ)
     → pending (packet sh c s) i v ≡ false → with_words (written s) ram v ≡ ram v
 unfolding with_words
 others-keep sh n c i ram s k l q v e = go (written s v) refl (wrote_some sh s) refl (any_below (others sh c) sh.cores) refl e

@@ -22,6 +22,7 @@ use Rattle.bus_serial.proofs.Fine.{Fine}
 use Rattle.bus_serial.proofs.Follow.{AgreesBut, Follow}
 use Rattle.bus_serial.proofs.Taken.{again}
 use Rattle.bus_serial.proofs.Temp4.{rolled-follows}
+use Rattle.bus_serial.proofs.Bounded.{in_memory}
 
 -- a core that may take a packet
 abbrev pub calm : Phase → Bool
@@ -120,7 +121,7 @@ marked-follow sh p f ram s n h k g = record {
 
 -- a core that has halted has none
 halted-follow : (sh : Shape) (n : ℕ) (p : Program) (f : ℕ → Option ℕ) (ram : ℕ → ℕ) (s : CoreState) → s.phase ≡ Halted
-    → Fine sh n s → Follow sh p ram (in_packet f) s → Follow sh p ram none_gone (dropped f s)
+    → Fine sh (in_memory sh) n s → Follow sh p ram (in_packet f) s → Follow sh p ram none_gone (dropped f s)
 unfolding dropped
 halted-follow sh n p f ram s e k h = record {
   uses = [];
@@ -147,7 +148,7 @@ halted-follow sh n p f ram s e k h = record {
 
 -- an attempt begins anew
 rolled-follow : (sh : Shape) (n : ℕ) (p : Program) (f : ℕ → Option ℕ) (ram : ℕ → ℕ) (s : CoreState) → is_solo s.phase ≡ false
-    → Fine sh n s → Follow sh p ram (in_packet f) s → Follow sh p ram none_gone (dropped f (record (roll_back s) { phase = Running }))
+    → Fine sh (in_memory sh) n s → Follow sh p ram (in_packet f) s → Follow sh p ram none_gone (dropped f (record (roll_back s) { phase = Running }))
 unfolding dropped roll_back rolled_back
 rolled-follow sh n p f ram s e k h = record {
   uses = [];
@@ -169,7 +170,7 @@ rolled-follow sh n p f ram s e k h = record {
     t = record (roll_back s) { phase = Running }
 
 pub taken-follow : (sh : Shape) (n : ℕ) (p : Program) (f : ℕ → Option ℕ) (ram : ℕ → ℕ) (s : CoreState) → calm s.phase ≡ true
-    → ((x : ℕ) → is_some (f x) ≡ true → WordInMemory sh x) → Fine sh n s → Follow sh p ram (in_packet f) s
+    → ((x : ℕ) → is_some (f x) ≡ true → WordInMemory sh x) → Fine sh (in_memory sh) n s → Follow sh p ram (in_packet f) s
     → Follow sh p ram none_gone (taken sh f s)
 unfolding taken
 taken-follow sh n p f ram s q m k h = go (reads_some sh f s.cache) refl

@@ -11,9 +11,8 @@ use Rattle.tcc_rules.specs.Attempt.{Out, is_solo}
 use Rattle.tcc_rules.specs.CoreDeliver.{fill}
 use Rattle.tcc_rules.specs.CoreExec.{core_exec}
 use Rattle.tcc_rules.specs.State.{CoreState, Awaited, Phase, Running, Overflowing}
-use Rattle.tcc_serial.specs.InMemory.{NeedInMemory}
 use Rattle.bus_rules.specs.Exec.{line_words, with_line, if_executed, instruction}
-use Rattle.bus_serial.proofs.Did.{Did, How, Ran, Closed, Overflowed, Asked, Executed, wanted, goes, exec-executed}
+use Rattle.bus_serial.proofs.Did.{Did, How, Ran, Closed, Overflowed, Asked, Executed, NeedIn, wanted, goes, exec-executed}
 use Rattle.bus_serial.proofs.Filled.{filled-valid, fill-is}
 
 pub if-at : {A : Type 0} (x : Option A) (y : A) (P : A → Type 0) → x ≡ Some y → IfSome x P → P y
@@ -35,15 +34,15 @@ abbrev pub word_wanted : Shape → Program → CoreState → ℕ
 word_wanted sh p s = wanted sh.base (p.need s.local)
 
 -- what one execution does
-pub record Once (sh : Shape) (p : Program) (c : ℕ) (s : CoreState) (o : Out) : Type 0 where
+pub record Once (sh : Shape) (M : ℕ → Type 0) (p : Program) (c : ℕ) (s : CoreState) (o : Out) : Type 0 where
   pub is : core_exec sh p c s ≡ Some o
-  pub executed : Executed sh (word_wanted sh p s) s o
+  pub executed : Executed M (word_wanted sh p s) s o
   pub none : o.core.awaited ≡ None
 
 -- the first one asks
-pub record First (sh : Shape) (p : Program) (c : ℕ) (s : CoreState) (cache : Cache) (o : Out) : Type 0 where
+pub record First (sh : Shape) (M : ℕ → Type 0) (p : Program) (c : ℕ) (s : CoreState) (cache : Cache) (o : Out) : Type 0 where
   pub is : core_exec sh p c s ≡ Some o
-  pub executed : Executed sh (word_wanted sh p s) s o
+  pub executed : Executed M (word_wanted sh p s) s o
   pub asks : o.core ≡ asking (line_of (word_wanted sh p s)) s cache
 
 not-again : (sh : Shape) (p : Program) (ram : ℕ → ℕ) (s : CoreState) (c : Cache) (o : Out)
@@ -57,41 +56,41 @@ not-again sh p ram s c o (Asked d m e) = absurd (
     cc)
 
 -- to show Q of what an instruction leaves
-pub instructed : (sh : Shape) (p : Program) (ram : ℕ → ℕ) (c : ℕ) (s : CoreState) (Q : Out → Type 0)
-    → NeedInMemory sh (p.need s.local) → s.awaited ≡ None → Executes p s
-    → ((o : Out) → Once sh p c s o → Q o)
-    → ((d : Cache) (o r : Out) → First sh p c s d o → Once sh p c (with_words ram (line_of (word_wanted sh p s)) s d) r → Q r)
+pub instructed : (sh : Shape) (M : ℕ → Type 0) (p : Program) (ram : ℕ → ℕ) (c : ℕ) (s : CoreState) (Q : Out → Type 0)
+    → NeedIn M sh.base (p.need s.local) → s.awaited ≡ None → Executes p s
+    → ((o : Out) → Once sh M p c s o → Q o)
+    → ((d : Cache) (o r : Out) → First sh M p c s d o → Once sh M p c (with_words ram (line_of (word_wanted sh p s)) s d) r → Q r)
     → IfSome (instruction sh p ram c s) Q
 unfolding instruction
-instructed sh p ram c s Q m a x first again = go (core_exec sh p c s) refl (exec-executed sh p c s m a x)
+instructed sh M p ram c s Q m a x first again = go (core_exec sh p c s) refl (exec-executed sh M p c s m a x)
   where
     w : ℕ
     w = word_wanted sh p s
 
-    done : (o : Out) → core_exec sh p c s ≡ Some o → Executed sh w s o → (b : Option Awaited) → o.core.awaited ≡ b → b ≡ None
+    done : (o : Out) → core_exec sh p c s ≡ Some o → Executed M w s o → (b : Option Awaited) → o.core.awaited ≡ b → b ≡ None
         → IfSome (with_line sh p ram c o b) Q
     done o e k None q n = first o (record { is = e; executed = k; none = q })
     done o e k (Some y) q n = absurd (cc)
 
-    second : (d : Cache) (o : Out) → First sh p c s d o → (y : Option Out) → core_exec sh p c (with_words ram (line_of w) s d) ≡ y
-        → IfSome y (Executed sh w (with_words ram (line_of w) s d)) → IfSome y Q
+    second : (d : Cache) (o : Out) → First sh M p c s d o → (y : Option Out) → core_exec sh p c (with_words ram (line_of w) s d) ≡ y
+        → IfSome y (Executed M w (with_words ram (line_of w) s d)) → IfSome y Q
     second d o f None e k = tt
     second d o f (Some r) e k = again d o r f (record { is = e; executed = k; none = not-again sh p ram s d r k.how })
 
-    asks : (d : Cache) (o : Out) → First sh p c s d o → IfSome (with_line sh p ram c o o.core.awaited) Q
+    asks : (d : Cache) (o : Out) → First sh M p c s d o → IfSome (with_line sh p ram c o o.core.awaited) Q
     asks d o f =
         let y : o.core.awaited ≡ Some (record { line = line_of w; stale = false }) = ap (λ (t : CoreState). t.awaited) f.asks in
         rw y (rw f.asks (rw (fill-is (line_of w) (line_words ram (line_of w)) s d)
             (second d o f (core_exec sh p c (with_words ram (line_of w) s d)) refl
-            (exec-executed sh p c (with_words ram (line_of w) s d) m refl x))))
+            (exec-executed sh M p c (with_words ram (line_of w) s d) m refl x))))
 
-    by : (o : Out) → core_exec sh p c s ≡ Some o → Executed sh w s o → How w s o.core
+    by : (o : Out) → core_exec sh p c s ≡ Some o → Executed M w s o → How w s o.core
         → IfSome (with_line sh p ram c o o.core.awaited) Q
     by o e k (Ran f b) = done o e k o.core.awaited refl (b ∙ a)
     by o e k (Closed r f b) = done o e k o.core.awaited refl (b ∙ a)
     by o e k (Overflowed r f) = done o e k o.core.awaited refl (ap (λ (t : CoreState). t.awaited) f ∙ a)
     by o e k (Asked d n f) = asks d o (record { is = e; executed = k; asks = f })
 
-    go : (y : Option Out) → core_exec sh p c s ≡ y → IfSome y (Executed sh w s) → IfSome (if_executed sh p ram c y) Q
+    go : (y : Option Out) → core_exec sh p c s ≡ y → IfSome y (Executed M w s) → IfSome (if_executed sh p ram c y) Q
     go None e k = tt
     go (Some o) e k = by o e k k.how

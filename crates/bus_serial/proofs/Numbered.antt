@@ -74,13 +74,13 @@ commit-numbered : (sh : Shape) (n : ℕ) (w : BusWorld) (c : ℕ) (s : CoreState
 unfolding bus_commit
 commit-numbered sh n w c s cs l a k = rw (out-noted sh c w.next s) (pushed sh n w.next c s cs l (noted-counted (n + 1) w.next c s a) k)
 
-pub happened-numbered : (sh : Shape) (p : Program) (n : ℕ) (w : BusWorld) (r : BusStepped) (cs : List Noted) → Ordered sh n w
+pub happened-numbered : (sh : Shape) (M : ℕ → Type 0) (p : Program) (n : ℕ) (w : BusWorld) (r : BusStepped) (cs : List Noted) → Ordered sh M n w
     → Numbered sh n w.next cs → Happened sh p w r → Numbered sh (n + 1) r.world.next (and_noted r.noted cs)
-happened-numbered sh p n w r cs o k (Instructs c t l x d q e) = rw e (silent sh n w.next cs k)
-happened-numbered sh p n w r cs o k (TakesBus c t l x d q b e) = rw e (silent sh n w.next cs k)
-happened-numbered sh p n w r cs o k (EndsAlone c t need l q i g e) = rw e
-    (commit-numbered sh n w c (finished p need 0 (w.cores c)) cs l (finished-fine sh n p need 0 (w.cores c) (o.cores c l)).attempt k)
-happened-numbered sh p n w r cs o k (Commits c l q b e) = rw e (commit-numbered sh n w c (w.cores c) cs l
+happened-numbered sh M p n w r cs o k (Instructs c t l x d q e) = rw e (silent sh n w.next cs k)
+happened-numbered sh M p n w r cs o k (TakesBus c t l x d q b e) = rw e (silent sh n w.next cs k)
+happened-numbered sh M p n w r cs o k (EndsAlone c t need l q i g e) = rw e
+    (commit-numbered sh n w c (finished p need 0 (w.cores c)) cs l (finished-fine sh M n p need 0 (w.cores c) (o.cores c l)).attempt k)
+happened-numbered sh M p n w r cs o k (Commits c l q b e) = rw e (commit-numbered sh n w c (w.cores c) cs l
     (let a = (o.cores c l).attempt in weak n (w.cores c).n (w.cores c).loads (w.cores c).stores (w.cores c).console a) k)
-happened-numbered sh p n w r cs o k (Evicts c x y t l d e) = rw e (silent sh n w.next cs k)
-happened-numbered sh p n w r cs o k (Takes c f left l b h e) = rw e (silent sh n w.next cs k)
+happened-numbered sh M p n w r cs o k (Evicts c x y t l d e) = rw e (silent sh n w.next cs k)
+happened-numbered sh M p n w r cs o k (Takes c f left l b h e) = rw e (silent sh n w.next cs k)

@@ -28,7 +28,7 @@ use Rattle.bus_rules.specs.State.{Bus, Free, Alone, Packet, BusWorld, BusEvent, 
 use Rattle.bus_rules.specs.Step.{BusHistory, and_noted, bus_run}
 use Rattle.bus_rules.specs.Take.{taken}
 use Rattle.bus_serial.specs.Laws.{AreNumbered, BusIsSerial, BusRunsAreSerial}
-use Rattle.bus_serial.proofs.Bounded.{InOrder, events-in-order, start-in-order}
+use Rattle.bus_serial.proofs.Bounded.{in_memory, stays-in, InOrder, events-in-order, start-in-order}
 use Rattle.bus_serial.proofs.Committed.{out-phase, out-noted, out-checked, finished-fine}
 use Rattle.bus_serial.proofs.Cores.{Followed, none-pending, alone-free, happened-followed}
 use Rattle.bus_serial.proofs.Did.{did-nothing, finished-did, goes}
@@ -127,7 +127,7 @@ committed sh p entries first h c s l k r = record {
 -- a transaction that ended
 
 await-ready : (sh : Shape) (n : ℕ) (p : Program) (w : BusWorld) (c : ℕ) → (w.bus ≡ Free) ⊎ (w.bus ≡ Alone c)
-    → (w.cores c).phase ≡ AwaitTid → IsSmall w.ram → Fine sh n (w.cores c) → Follow sh p w.ram (pending w.bus c) (w.cores c)
+    → (w.cores c).phase ≡ AwaitTid → IsSmall w.ram → Fine sh (in_memory sh) n (w.cores c) → Follow sh p w.ram (pending w.bus c) (w.cores c)
     → Ready sh p w c (w.cores c)
 await-ready sh n p w c b q m f h =
     let s = w.cores c in record {
@@ -161,7 +161,7 @@ ends-claim sh p s us (Traps code) g f e o k =
 ends-claim sh p s us need g f e o k = absurd (cc)
 
 alone-ready : (sh : Shape) (n : ℕ) (p : Program) (w : BusWorld) (c t : ℕ) (need : Need) → Fits p → (w.bus ≡ Free) ⊎ (w.bus ≡ Alone c)
-    → (w.cores c).phase ≡ Solo t → p.need (w.cores c).local ≡ need → goes need ≡ false → IsSmall w.ram → Fine sh n (w.cores c)
+    → (w.cores c).phase ≡ Solo t → p.need (w.cores c).local ≡ need → goes need ≡ false → IsSmall w.ram → Fine sh (in_memory sh) n (w.cores c)
     → Follow sh p w.ram (pending w.bus c) (w.cores c) → Ready sh p w c (finished p need 0 (w.cores c))
 alone-ready sh n p w c t need f b q e g m k h =
     let s = w.cores c in
@@ -170,7 +170,7 @@ alone-ready sh n p w c t need f b q e g m k h =
     let agrees : Agrees (h.uses ++ []) w.ram = rw append-nil (agrees-all w.bus c h.uses w.ram b h.agrees) in record {
       did = now w.ram m agrees;
       ended = finished-ended p need s g;
-      cache = (finished-fine sh n p need 0 s k).sound.cache;
+      cache = (finished-fine sh (in_memory sh) n p need 0 s k).sound.cache;
       saved = finished-saved p need s;
       runs = rw q refl;
     }
@@ -178,17 +178,17 @@ alone-ready sh n p w c t need f b q e g m k h =
 -- each event
 
 happened-plainly : (sh : Shape) (p : Program) (entries : ℕ → Local) (first : ℕ → ℕ) (n : ℕ) (h : BusHistory) (r : BusStepped)
-    → Suits sh p first → Ordered sh n h.world → Followed sh p h.world → Happened sh p h.world r → Plainly sh p entries first h
+    → Suits sh p first → Ordered sh (in_memory sh) n h.world → Followed sh p h.world → Happened sh p h.world r → Plainly sh p entries first h
     → Plainly sh p entries first (stepped_to h r)
 happened-plainly sh p entries first n h r z o f (Instructs c t l x d q e) k =
     let w = h.world in
-    let a = if-at (instruction sh p w.ram c (w.cores c)) t (Left sh n (w.cores c)) d
-        (instruction-left sh n p w.ram c (w.cores c) (z.inside (w.cores c).local) (o.cores c l) x) in
+    let a = if-at (instruction sh p w.ram c (w.cores c)) t (Left sh (in_memory sh) n (w.cores c)) d
+        (instruction-left sh (in_memory sh) n p w.ram c (w.cores c) (stays-in sh p z.inside (w.cores c).local) (o.cores c l) x) in
     rw e (changed sh p entries first h c t.core w.bus k (instruction-same p (w.cores c) t.core x a.saved a.ways))
 happened-plainly sh p entries first n h r z o f (TakesBus c t l x d q b e) k =
     let w = h.world in
-    let a = if-at (instruction sh p w.ram c (w.cores c)) t (Left sh n (w.cores c)) d
-        (instruction-left sh n p w.ram c (w.cores c) (z.inside (w.cores c).local) (o.cores c l) x) in
+    let a = if-at (instruction sh p w.ram c (w.cores c)) t (Left sh (in_memory sh) n (w.cores c)) d
+        (instruction-left sh (in_memory sh) n p w.ram c (w.cores c) (stays-in sh p z.inside (w.cores c).local) (o.cores c l) x) in
     rw e (changed sh p entries first h c (gone_alone w.next t.core) (Alone c) k (alone-same p (w.cores c) t.core w.next x a.saved))
 happened-plainly sh p entries first n h r z o f (EndsAlone c t need l q i g e) k =
     rw e (committed sh p entries first h c (finished p need 0 (h.world.cores c)) l k
@@ -206,15 +206,15 @@ happened-plainly sh p entries first n h r z o f (Takes c g left l b i e) k =
 -- all of it
 
 pub record Kept (sh : Shape) (p : Program) (entries : ℕ → Local) (first : ℕ → ℕ) (n : ℕ) (h : BusHistory) : Type 0 where
-  pub order : InOrder sh n h
+  pub order : InOrder sh (in_memory sh) n h
   pub cores : Followed sh p h.world
   pub plainly : Plainly sh p entries first h
 
 events-keep : (sh : Shape) (p : Program) (entries : ℕ → Local) (first : ℕ → ℕ) → Suits sh p first
     → EventsKeep sh p (Kept sh p entries first)
 events-keep sh p entries first z n h r d k = record {
-  order = events-in-order sh p z.inside n h r d k.order;
-  cores = happened-followed sh p n h.world r z.fits z.inside k.order.world k.cores d;
+  order = events-in-order sh (in_memory sh) p (stays-in sh p z.inside) n h r d k.order;
+  cores = happened-followed sh p n h.world r z.fits (stays-in sh p z.inside) k.order.world k.cores d;
   plainly = happened-plainly sh p entries first n h r z k.order.world k.cores d k.plainly;
 }
 
@@ -245,7 +245,7 @@ start-plainly sh p entries ram m = record {
 pub runs-kept : (sh : Shape) (p : Program) (entries : ℕ → Local) (ram : ℕ → ℕ) (es : List BusEvent) → Suits sh p ram
     → IfSome (bus_run sh p (bus_start entries ram) es) (Kept sh p entries ram (length es))
 runs-kept sh p entries ram es z = run-keeps sh p (Kept sh p entries ram) (bus_start entries ram) es (events-keep sh p entries ram z) (record {
-  order = start-in-order sh entries ram;
+  order = start-in-order sh (in_memory sh) entries ram;
   cores = start-followed sh p entries ram;
   plainly = start-plainly sh p entries ram z.small;
 })

@@ -22,6 +22,7 @@ use Rattle.bus_serial.proofs.Did.{goes}
 use Rattle.bus_serial.proofs.Fine.{Fine, Ways, Stays, Closes, Overflows}
 use Rattle.bus_serial.proofs.Instruction.{Executes}
 use Rattle.bus_serial.proofs.Taken.{again}
+use Rattle.bus_serial.proofs.Bounded.{in_memory}
 
 pub record Same (s t : CoreState) : Type 0 where
   pub saved : t.saved ≡ s.saved
@@ -88,7 +89,7 @@ none-read sh f c n e =
     no true y e h = absurd (cc)
     no false y e h = absurd (cc)
 
-pub taken-same : (sh : Shape) (n : ℕ) (f : ℕ → Option ℕ) (s : CoreState) → Fine sh n s → Same s (taken sh f s)
+pub taken-same : (sh : Shape) (n : ℕ) (f : ℕ → Option ℕ) (s : CoreState) → Fine sh (in_memory sh) n s → Same s (taken sh f s)
 unfolding taken dropped roll_back
 taken-same sh n f s k = go (reads_some sh f s.cache) refl
   where

@@ -17,9 +17,9 @@ use Rattle.bus_serial.proofs.Temp.{rolled-sound}
 abbrev pub again : Bool → CoreState → CoreState
 again b s = if b then record (roll_back s) { phase = Running } else s
 
-dropped-fine : (sh : Shape) (n : ℕ) (f : ℕ → Option ℕ) (s : CoreState) → Fine sh n s → Fine sh n (dropped f s)
+dropped-fine : (sh : Shape) (M : ℕ → Type 0) (n : ℕ) (f : ℕ → Option ℕ) (s : CoreState) → Fine sh M n s → Fine sh M n (dropped f s)
 unfolding dropped
-dropped-fine sh n f s k = record {
+dropped-fine sh M n f s k = record {
   awaited = k.awaited;
   clean = k.clean;
   sound = record {
@@ -64,10 +64,10 @@ dropped-fine sh n f s k = record {
     awaits (Some a) e = absurd (cc)
 
 -- a core that isn't alone begins anew
-rolled-fine : (sh : Shape) (n : ℕ) (s : CoreState) → is_solo s.phase ≡ false → Fine sh n s
-    → Fine sh n (record (roll_back s) { phase = Running })
+rolled-fine : (sh : Shape) (M : ℕ → Type 0) (n : ℕ) (s : CoreState) → is_solo s.phase ≡ false → Fine sh M n s
+    → Fine sh M n (record (roll_back s) { phase = Running })
 unfolding roll_back rolled_back
-rolled-fine sh n s e k = record {
+rolled-fine sh M n s e k = record {
   awaited = k.awaited;
   clean = k.clean;
   sound = rolled-sound sh s Running s.spilled (k.sound.alone e) k.sound;
@@ -76,11 +76,11 @@ rolled-fine sh n s e k = record {
   spilled = k.spilled;
 }
 
-again-fine : (sh : Shape) (n : ℕ) (b : Bool) (s : CoreState) → is_solo s.phase ≡ false → Fine sh n s → Fine sh n (again b s)
-again-fine sh n true s e k = rolled-fine sh n s e k
-again-fine sh n false s e k = k
+again-fine : (sh : Shape) (M : ℕ → Type 0) (n : ℕ) (b : Bool) (s : CoreState) → is_solo s.phase ≡ false → Fine sh M n s → Fine sh M n (again b s)
+again-fine sh M n true s e k = rolled-fine sh M n s e k
+again-fine sh M n false s e k = k
 
-pub taken-fine : (sh : Shape) (n : ℕ) (f : ℕ → Option ℕ) (s : CoreState) → is_solo s.phase ≡ false → Fine sh n s
-    → Fine sh n (taken sh f s)
+pub taken-fine : (sh : Shape) (M : ℕ → Type 0) (n : ℕ) (f : ℕ → Option ℕ) (s : CoreState) → is_solo s.phase ≡ false → Fine sh M n s
+    → Fine sh M n (taken sh f s)
 unfolding taken
-taken-fine sh n f s e k = dropped-fine sh n f _ (again-fine sh n (reads_some sh f s.cache) s e k)
+taken-fine sh M n f s e k = dropped-fine sh M n f _ (again-fine sh M n (reads_some sh f s.cache) s e k)
