@@ -20,3 +20,6 @@ pub mod Transaction
 pub mod Shown
 pub mod Cores
 pub mod Serial
+pub mod Temp5
+pub mod Listed
+pub mod Live
