@@ -23,3 +23,5 @@ pub mod Serial
 pub mod Temp5
 pub mod Listed
 pub mod Live
+pub mod Picked
+pub mod Given

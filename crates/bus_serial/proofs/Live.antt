@@ -72,7 +72,7 @@ no-room sh p s a e = go s.phase
 -- an instruction, or room in a set
 instruction-or : (sh : Shape) (n : ℕ) (p : Program) (ram : ℕ → ℕ) (c : ℕ) (s : CoreState) → Fine sh any_line n s → Executes p s
     → executes s.phase ≡ true → (is_some (instruction sh p ram c s) ≡ true) ⊎ WantsSome sh s (room sh p s)
-unfolding instruction
+unfolding instruction filled
 instruction-or sh n p ram c s k x q = go (core_exec sh p c s) refl (exec-or sh p c s q k.awaited)
     (exec-executed sh any_line p c s (need-any sh.base (p.need s.local)) k.awaited x)
   where
@@ -85,12 +85,9 @@ instruction-or sh n p ram c s k x q = go (core_exec sh p c s) refl (exec-or sh p
         let u = with_words ram (line_of w) s d in
         let valid = filled-valid (line_of w) (line_words ram (line_of w)) d w refl in
         let held : d.held (line_of w) ≡ true = (first-sound sh any_line n p c s d o k f).awaits in
-        let none = no-room sh p u refl (filled-room sh (p.need s.local) u valid (held_in d held)) in
+        let none = no-room sh p u refl (filled-room sh (p.need s.local) u valid held) in
         by u none (exec-or sh p c u q refl)
       where
-        held_in : (d : Cache) → d.held (line_of w) ≡ true → (filled (line_of w) (line_words ram (line_of w)) d).held (line_of w) ≡ true
-        held_in d h = Rattle.tcc_maps.proofs.Readers.held-filled (line_of w) (line_words ram (line_of w)) d (line_of w) ∙ h
-
         by : (u : CoreState) → room sh p u ≡ None → (is_some (core_exec sh p c u) ≡ true) ⊎ WantsSome sh u (room sh p u)
             → is_some (core_exec sh p c u) ≡ true
         by u e (inl i) = i

@@ -250,7 +250,7 @@ runs-kept sh p entries ram es z = run-keeps sh p (Kept sh p entries ram) (bus_st
   plainly = start-plainly sh p entries ram z.small;
 })
 
-is-serial : (sh : Shape) (p : Program) (entries : ℕ → Local) (ram : ℕ → ℕ) (n : ℕ) (h : BusHistory) → Kept sh p entries ram n h
+pub is-serial : (sh : Shape) (p : Program) (entries : ℕ → Local) (ram : ℕ → ℕ) (n : ℕ) (h : BusHistory) → Kept sh p entries ram n h
     → BusIsSerial sh p entries ram h
 is-serial sh p entries ram n h k = record {
   plain = k.plainly.plain;
