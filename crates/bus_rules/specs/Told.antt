@@ -1,5 +1,5 @@
 -- What is compared of a schedule that is worked by hand: all that can be told apart from outside, and what may happen next.
-use Rattle.std.specs.Prelude.{ℕ, ◌≡◌, ◌/◌, Bool, List, [], map, filter, Some, option_map}
+use Rattle.std.specs.Prelude.{ℕ, ◌≡◌, ◌/◌, List, [], map, filter, Some, option_map}
 use Rattle.tcc_base.specs.declared.access.Commit.{Commit as Noted}
 use Rattle.tcc_maps.specs.Shape.{Shape}
 use Rattle.tcc_rules.specs.Needs.{Codes, needs, entry}

@@ -1,21 +1,19 @@
 -- Every state that a run reaches is in bounds.
-use Rattle.std.specs.Prelude.{ℕ, ◌+◌, ◌≡◌, ◌<◌, ◌≤◌, Bool, true, List, [], length, Option, Some, None, IfSome, Contains}
+use Rattle.std.specs.Prelude.{ℕ, ◌≡◌, ◌<◌, Bool, true, List, [], length, Option, Some, None, IfSome}
 use Rattle.std.proofs.Common.{arith, refl}
-use Rattle.image_load.specs.Start.{Start}
 use Rattle.rv_code.specs.Machine.{program, first_ram}
 use Rattle.rv_serial.specs.Suiting.{local_at_start}
 use Rattle.rv_serial.proofs.Lemmas.{riscv_programs_suit}
 use Rattle.tcc_maps.specs.Shape.{Shape, lines}
 use Rattle.tcc_program.specs.Cores.{AreBy}
-use Rattle.tcc_program.specs.Program.{Local, Need, Nothing, Loads, Stores, Changes, Prints, Ends, Halts, Traps, Program}
-use Rattle.tcc_rules.specs.State.{CoreState, Phase, Running, AwaitTid, DoomedTid, Probing, Ready, Overflowing, Solo, Halted}
+use Rattle.tcc_program.specs.Program.{Local, Need, Loads, Stores, Changes, Program}
+use Rattle.tcc_rules.specs.State.{Phase, Running, AwaitTid, Solo, Halted}
 use Rattle.tcc_serial.specs.InMemory.{NeedInMemory, StaysInMemory}
-use Rattle.bus_rules.specs.State.{Bus, Free, Alone, Packet, BusWorld, BusEvent, bus_start}
+use Rattle.bus_rules.specs.State.{Bus, BusWorld, BusEvent, bus_start}
 use Rattle.bus_rules.specs.Step.{BusHistory, bus_run}
 use Rattle.bus_serial.specs.Bounds.{is_of_bus, BusCoreInBounds, PacketInBounds, IsBusBounded, BusRunsAreBounded, RiscvBusRunsAreBounded}
 use Rattle.bus_serial.specs.Laws.{AreNumbered}
 use Rattle.bus_serial.proofs.Did.{NeedIn}
-use Rattle.bus_serial.proofs.Fine.{Fine}
 use Rattle.bus_serial.proofs.Numbered.{Numbered, happened-numbered}
 use Rattle.bus_serial.proofs.Ordered.{StaysIn, PacketFits, PhaseFits, Ordered, happened-ordered, start-ordered}
 use Rattle.bus_serial.proofs.Runs.{EventsKeep, run-keeps}

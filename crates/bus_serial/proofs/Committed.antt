@@ -1,7 +1,7 @@
 -- A core that commits, by itself.
-use Rattle.std.specs.Prelude.{ℕ, ◌+◌, ◌≡◌, ◌<◌, ◌⊎◌, Bool, true, false, Option, Some, None, is_some, if◌then◌else◌}
+use Rattle.std.specs.Prelude.{ℕ, ◌+◌, ◌≡◌, ◌⊎◌, Bool, true, false, Option, Some, None, is_some, if◌then◌else◌}
 use Rattle.std.proofs.Common.{refl, inl, inr, ◌∙◌}
-use Rattle.tcc_maps.specs.Cache.{Cache, IsCache}
+use Rattle.tcc_maps.specs.Cache.{Cache}
 use Rattle.tcc_maps.specs.CacheChange.{committed, words_dropped}
 use Rattle.tcc_maps.specs.Shape.{Shape}
 use Rattle.tcc_maps.specs.Words.{line_of, or_else}
@@ -9,7 +9,7 @@ use Rattle.tcc_program.specs.Program.{Need, Program}
 use Rattle.tcc_attempt.proofs.Sound.{finished-sound, valid-held}
 use Rattle.bus_serial.proofs.Did.{did-nothing, finished-did, finished-awaits}
 use Rattle.tcc_maps.specs.Spilled.{none_spilled}
-use Rattle.tcc_rules.specs.Attempt.{Out, is_solo, finished}
+use Rattle.tcc_rules.specs.Attempt.{is_solo, finished}
 use Rattle.tcc_rules.specs.Commit.{phase_after, ended_after, committed_core, commit, solo_commit, noted}
 use Rattle.tcc_rules.specs.State.{CoreState}
 use Rattle.tcc_attempt.specs.Sound.{AwaitsHeld, SoundCore}

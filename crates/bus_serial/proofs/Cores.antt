@@ -1,16 +1,15 @@
 -- Each event keeps each core's attempt what the plain machine does over memory, but for words of a packet that the core is still to take.
-use Rattle.std.specs.Prelude.{ℕ, ◌+◌, ◌≡◌, ◌<◌, Bool, true, false, ◌==◌, ◌&&◌, Option, Some, None, is_some, if◌then◌else◌}
-use Rattle.std.proofs.Common.{arith, refl, ap, sym, ◌∙◌, inl, inr, ◌⊎◌}
-use Rattle.std.proofs.lemmas.Bool.Decides.{nat_tests}
+use Rattle.std.specs.Prelude.{ℕ, ◌+◌, ◌≡◌, ◌<◌, Bool, true, false, ◌==◌, ◌&&◌, Option, None, is_some, if◌then◌else◌}
+use Rattle.std.proofs.Common.{refl, ◌∙◌, inl, inr, ◌⊎◌}
 use Rattle.tcc_maps.specs.Shape.{Shape}
 use Rattle.tcc_maps.specs.Words.{put, any_below}
 use Rattle.tcc_maps.proofs.Lemmas.{any_below-at}
 use Rattle.tcc_program.specs.Program.{Need, Program}
-use Rattle.tcc_rules.specs.Attempt.{Out, is_solo, finished}
+use Rattle.tcc_rules.specs.Attempt.{finished}
 use Rattle.tcc_rules.specs.CoreEvict.{core_evict}
-use Rattle.tcc_rules.specs.State.{CoreState, Phase, Running, AwaitTid, DoomedTid, Probing, Ready, Overflowing, Solo, Halted}
+use Rattle.tcc_rules.specs.State.{CoreState, Phase, Running, AwaitTid, Overflowing, Solo, Halted}
 use Rattle.tcc_attempt.specs.Follows.{Fits}
-use Rattle.tcc_attempt.specs.Marks.{MarksFit, owed_in}
+use Rattle.tcc_attempt.specs.Marks.{owed_in}
 use Rattle.tcc_attempt.proofs.Lemmas.{finished-same}
 use Rattle.bus_rules.specs.Commit.{BusStepped, written, with_words, packet, bus_commit, all_clean, commit_out}
 use Rattle.bus_rules.specs.Exec.{instruction, gone_alone, moved}
@@ -22,9 +21,9 @@ use Rattle.bus_serial.proofs.Events.{overflows, alone_by, taken_by, Happened, In
 use Rattle.bus_serial.proofs.Filled.{Coherent, did-coherent}
 use Rattle.bus_serial.proofs.Fine.{Fine, Ways, Stays, Closes, Overflows, Left, instruction-left}
 use Rattle.bus_serial.proofs.Follow.{Follow, follow-over, instruction-follow, alone-follow, evict-follow}
-use Rattle.bus_serial.proofs.FollowCommit.{pending, out-follow, others-keep, own-none}
+use Rattle.bus_serial.proofs.FollowCommit.{pending, out-follow, others-keep}
 use Rattle.bus_serial.proofs.FollowTake.{calm, in_packet, none_gone, taken-follow}
-use Rattle.bus_serial.proofs.Instruction.{if-at, Executes}
+use Rattle.bus_serial.proofs.Instruction.{if-at}
 use Rattle.bus_serial.proofs.Ordered.{StaysIn, PacketFits, PhaseFits, Ordered, put-all}
 use Rattle.bus_serial.proofs.Bounded.{in_memory}
 
@@ -57,7 +56,7 @@ alone-followed : (sh : Shape) (p : Program) (w : BusWorld) (c : ℕ) (t : CoreSt
 alone-followed sh p w c t b k e h =
     put-all (λ i s. Follow sh p w.ram (pending (Alone c) i) s) sh w.cores c (gone_alone w.next t)
     (λ i l q. follow-over sh p w.ram w.ram (pending w.bus i) (pending (Alone c) i) (w.cores i)
-        (λ v g. (none-pending w.bus c i v (inl b), refl)) (k i l))
+    (λ v g. (none-pending w.bus c i v (inl b), refl)) (k i l))
     (alone-follow sh p w.ram (pending (Alone c) c) w.next t e
     (follow-over sh p w.ram w.ram (pending w.bus c) (pending (Alone c) c) t (λ v g. (none-pending w.bus c c v (inl b), refl)) h))
 
@@ -72,9 +71,9 @@ unfolding bus_commit
 commit-followed sh n p w c s b f h k =
     put-all (λ i u. Follow sh p now (pending (packet sh c s) i) u) sh w.cores c (all_clean (commit_out sh c w.next s).core)
     (λ i l e. follow-over sh p w.ram now (pending w.bus i) (pending (packet sh c s) i) (w.cores i)
-        (λ v g. (none-pending w.bus c i v b, others-keep sh n c i w.ram s f l e v g)) (k i l))
+    (λ v g. (none-pending w.bus c i v b, others-keep sh n c i w.ram s f l e v g)) (k i l))
     (follow-over sh p now now none_gone (pending (packet sh c s) c) (all_clean (commit_out sh c w.next s).core)
-        (λ v g. (refl, refl)) (out-follow n c w.next sh p w.ram s f h.replied h.coherent))
+    (λ v g. (refl, refl)) (out-follow n c w.next sh p w.ram s f h.replied h.coherent))
   where
     now : ℕ → ℕ
     now = with_words (written s) w.ram
@@ -124,10 +123,10 @@ taken-followed : (sh : Shape) (n : ℕ) (p : Program) (w : BusWorld) (c : ℕ) (
 taken-followed sh n p w c f left l b h o k =
     put-all (λ i s. Follow sh p w.ram (pending after i) s) sh w.cores c (taken sh f (w.cores c))
     (λ i j e. follow-over sh p w.ram w.ram (pending w.bus i) (pending after i) (w.cores i)
-        (λ v g. (rw b (others-pending sh c i v f left j e g), refl)) (k i j))
+    (λ v g. (rw b (others-pending sh c i v f left j e g), refl)) (k i j))
     (follow-over sh p w.ram w.ram none_gone (pending after c) (taken sh f (w.cores c)) (λ v g. (refl, refl))
-        (taken-follow sh n p f w.ram (w.cores c) (calm-phase w.next w.bus c (w.cores c).phase none (o.phases c l)) bounds.inside (o.cores c l)
-        (follow-over sh p w.ram w.ram (pending w.bus c) (in_packet f) (w.cores c) (λ v g. (rw (b, h, g) refl, refl)) (k c l))))
+    (taken-follow sh n p f w.ram (w.cores c) (calm-phase w.next w.bus c (w.cores c).phase none (o.phases c l)) bounds.inside (o.cores c l)
+    (follow-over sh p w.ram w.ram (pending w.bus c) (in_packet f) (w.cores c) (λ v g. (rw (b, h, g) refl, refl)) (k c l))))
   where
     after : Bus
     after = bus_left sh f (put left c false)
@@ -148,13 +147,13 @@ pub happened-followed : (sh : Shape) (p : Program) (n : ℕ) (w : BusWorld) (r :
     → Followed sh p w → Happened sh p w r → Followed sh p r.world
 happened-followed sh p n w r f m o k (Instructs c t l x d q e) =
     let h = if-at (instruction sh p w.ram c (w.cores c)) t (λ u. Follow sh p w.ram (pending w.bus c) u.core) d
-        (instruction-follow sh n p w.ram (pending w.bus c) c (w.cores c) f (m (w.cores c).local) (o.cores c l) x (k c l)) in
+    (instruction-follow sh n p w.ram (pending w.bus c) c (w.cores c) f (m (w.cores c).local) (o.cores c l) x (k c l)) in
     rw e (moved-followed sh p w c t.core k h)
 happened-followed sh p n w r f m o k (TakesBus c t l x d q b e) =
     let h = if-at (instruction sh p w.ram c (w.cores c)) t (λ u. Follow sh p w.ram (pending w.bus c) u.core) d
-        (instruction-follow sh n p w.ram (pending w.bus c) c (w.cores c) f (m (w.cores c).local) (o.cores c l) x (k c l)) in
+    (instruction-follow sh n p w.ram (pending w.bus c) c (w.cores c) f (m (w.cores c).local) (o.cores c l) x (k c l)) in
     let a = if-at (instruction sh p w.ram c (w.cores c)) t (Left sh (in_memory sh) n (w.cores c)) d
-        (instruction-left sh (in_memory sh) n p w.ram c (w.cores c) (m (w.cores c).local) (o.cores c l) x) in
+    (instruction-left sh (in_memory sh) n p w.ram c (w.cores c) (m (w.cores c).local) (o.cores c l) x) in
     rw e (alone-followed sh p w c t.core b k (full-phase w.next w.bus c (w.cores c) t.core (o.phases c l) q a.ways) h)
 happened-followed sh p n w r f m o k (EndsAlone c t need l q i g e) =
     let b = alone-free sh n w c t l o q in
@@ -165,6 +164,6 @@ happened-followed sh p n w r f m o k (Commits c l q b e) =
     rw e (commit-followed sh n p w c (w.cores c) (inl b) (o.cores c l) (committing sh p w c (w.cores c) (inl b) (rw q refl) (k c l)) k)
 happened-followed sh p n w r f m o k (Evicts c x y t l d e) =
     let h = if-at (core_evict sh x y (w.cores c)) t (λ u. Follow sh p w.ram (pending w.bus c) u.core) d
-        (evict-follow sh n p w.ram (pending w.bus c) x y (w.cores c) (o.cores c l) (k c l)) in
+    (evict-follow sh n p w.ram (pending w.bus c) x y (w.cores c) (o.cores c l) (k c l)) in
     rw e (moved-followed sh p w c t.core k h)
 happened-followed sh p n w r f m o k (Takes c g left l b h e) = rw e (taken-followed sh n p w c g left l b h o k)

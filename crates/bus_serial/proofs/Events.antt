@@ -1,18 +1,17 @@
 -- What can happen in one event, with what is known where it does.
-use Rattle.std.specs.Prelude.{ℕ, ◌≡◌, ◌<◌, Bool, true, false, ◌&&◌, ◌⊎◌, Option, Some, None, is_some, IfSome, nat_lt, if◌then◌else◌}
+use Rattle.std.specs.Prelude.{ℕ, ◌≡◌, ◌<◌, Bool, true, false, ◌&&◌, Option, Some, None, IfSome, nat_lt, if◌then◌else◌}
 use Rattle.std.proofs.Common.{arith, refl, inl, inr}
 use Rattle.std.proofs.lemmas.Bool.Decides.{nat_tests}
 use Rattle.tcc_maps.specs.Shape.{Shape}
 use Rattle.tcc_maps.specs.Words.{put}
 use Rattle.tcc_program.specs.Program.{Need, Nothing, Loads, Stores, Changes, Prints, Ends, Halts, Traps, Program}
-use Rattle.tcc_rules.specs.Attempt.{Out, finished, is_solo}
+use Rattle.tcc_rules.specs.Attempt.{Out, finished}
 use Rattle.tcc_rules.specs.CoreEvict.{core_evict}
 use Rattle.tcc_rules.specs.State.{CoreState, Phase, Running, AwaitTid, DoomedTid, Probing, Ready, Overflowing, Solo, Halted}
-use Rattle.tcc_rules.proofs.Lemmas.{and-left}
 use Rattle.bus_rules.specs.Commit.{BusStepped, bus_commit}
 use Rattle.bus_rules.specs.Exec.{instruction, when_free, gone_alone, moved, executed, goes_on, exec_alone, exec_in, bus_exec}
 use Rattle.bus_rules.specs.State.{Bus, Free, Alone, Packet, BusWorld, BusEvent, Exec, Evict, Take}
-use Rattle.bus_rules.specs.Step.{evicted, bus_names, bus_happens, bus_step}
+use Rattle.bus_rules.specs.Step.{evicted, bus_names, bus_step}
 use Rattle.bus_rules.specs.Take.{taken, bus_left, take_from, bus_take}
 use Rattle.bus_serial.proofs.Did.{goes}
 use Rattle.bus_serial.proofs.Instruction.{Executes}

@@ -1,15 +1,14 @@
 -- What a cache has of memory: each valid word that isn't modified has memory's value, unless it is of a packet that is still to be taken.
 -- A line that is filled from memory keeps this.
-use Rattle.std.specs.Prelude.{ℕ, zero, suc, ◌≡◌, ◌<◌, ◌%◌, Bool, true, false, ◌==◌, List, get_or, Option, Some, None, is_some, unwrap_or, if◌then◌else◌}
+use Rattle.std.specs.Prelude.{ℕ, zero, suc, ◌≡◌, ◌<◌, Bool, true, false, ◌==◌, List, get_or, Option, Some, None, is_some, unwrap_or, if◌then◌else◌}
 use Rattle.std.proofs.Common.{arith, refl, sym, ap, ◌∙◌}
 use Rattle.std.proofs.lemmas.Bool.Decides.{nat_tests}
 use Rattle.tcc_maps.specs.Cache.{Cache}
 use Rattle.tcc_maps.specs.CacheChange.{filled}
-use Rattle.tcc_maps.specs.Shape.{Shape}
 use Rattle.tcc_maps.specs.Words.{line_of, place_of, word_at, eight}
 use Rattle.tcc_maps.proofs.Lemmas.{value-filled, modified-filled}
-use Rattle.tcc_rules.specs.Attempt.{Out, moves}
-use Rattle.tcc_rules.specs.CoreDeliver.{ignored, fill_awaited, fill}
+use Rattle.tcc_rules.specs.Attempt.{moves}
+use Rattle.tcc_rules.specs.CoreDeliver.{ignored, fill}
 use Rattle.tcc_rules.specs.Sends.{nothing}
 use Rattle.tcc_rules.specs.State.{CoreState}
 use Rattle.bus_rules.specs.Exec.{line_words}

@@ -1,22 +1,21 @@
 -- What holds of one core by itself between events, of a program whose accesses are to lines in a set: no line is awaited, no word is dirty, its
 -- cache is consistent and of those lines, and its attempt is counted.
-use Rattle.std.specs.Prelude.{ℕ, ◌+◌, ◌≡◌, ◌<◌, Bool, true, false, not, ◌==◌, ◌&&◌, ◌||◌, ◌⊎◌, List, Option, Some, None, is_some, IfSome, unwrap_or, if◌then◌else◌}
-use Rattle.std.proofs.Common.{arith, refl, ap, sym, inl, inr, subst, ◌∙◌}
-use Rattle.std.proofs.lemmas.Bool.Decides.{nat_tests}
-use Rattle.tcc_maps.specs.Cache.{Cache, IsCache, is_marked}
+use Rattle.std.specs.Prelude.{ℕ, ◌+◌, ◌≡◌, Bool, true, false, not, ◌==◌, ◌&&◌, ◌||◌, ◌⊎◌, Option, Some, None, is_some, IfSome, unwrap_or, if◌then◌else◌}
+use Rattle.std.proofs.Common.{refl, ap, sym, inl, inr, ◌∙◌}
+use Rattle.tcc_maps.specs.Cache.{Cache, is_marked}
 use Rattle.tcc_maps.specs.CacheChange.{filled, evicted, read_cleared}
 use Rattle.tcc_maps.specs.Nodes.{Dir, Fill}
-use Rattle.tcc_maps.specs.Shape.{Shape, lines}
+use Rattle.tcc_maps.specs.Shape.{Shape}
 use Rattle.tcc_maps.specs.Spilled.{spill_line}
 use Rattle.tcc_maps.specs.Words.{line_of}
 use Rattle.tcc_maps.proofs.Lemmas.{dirty-evicted, held-evicted, read_cleared-keeps}
-use Rattle.tcc_program.specs.Program.{Need, Program}
+use Rattle.tcc_program.specs.Program.{Program}
 use Rattle.tcc_rules.specs.Attempt.{Out, moves, is_solo}
-use Rattle.tcc_rules.specs.CoreDeliver.{fill, core_deliver}
+use Rattle.tcc_rules.specs.CoreDeliver.{core_deliver}
 use Rattle.tcc_rules.specs.CoreEvict.{is_awaited, evict_line, core_evict}
 use Rattle.tcc_rules.specs.CoreExec.{core_exec}
 use Rattle.tcc_rules.specs.Sends.{written_back}
-use Rattle.tcc_rules.specs.State.{CoreState, Awaited, Phase, Running, AwaitTid, Overflowing}
+use Rattle.tcc_rules.specs.State.{CoreState, Awaited, Running, AwaitTid, Overflowing}
 use Rattle.tcc_attempt.specs.Sound.{AwaitsHeld, SoundCore}
 use Rattle.tcc_attempt.proofs.Sound.{valid-held}
 use Rattle.tcc_attempt.proofs.SoundDeliver.{core_deliver-sound}
@@ -24,7 +23,7 @@ use Rattle.tcc_attempt.proofs.SoundExec.{core_exec-sound}
 use Rattle.tcc_bounds.specs.Bounds.{AttemptCounted}
 use Rattle.tcc_bounds.proofs.Counted.{weak}
 use Rattle.bus_rules.specs.Exec.{line_words, instruction, gone_alone}
-use Rattle.bus_serial.proofs.Did.{Did, How, Ran, Closed, Overflowed, Asked, Executed, NeedIn}
+use Rattle.bus_serial.proofs.Did.{Did, How, Ran, Closed, Overflowed, Asked, NeedIn}
 use Rattle.bus_serial.proofs.Filled.{fill-is}
 use Rattle.bus_serial.proofs.Instruction.{if-at, Executes, with_words, asking, word_wanted, Once, First, instructed}
 use Rattle.bus_serial.proofs.Temp.{core_evict-sound}
@@ -131,9 +130,9 @@ pub instruction-left : (sh : Shape) (M : ℕ → Type 0) (n : ℕ) (p : Program)
 instruction-left sh M n p ram c s m k x = instructed sh M p ram c s (Left sh M n s) m k.awaited x
     (λ o e. once-left sh M n p c s o m k e)
     (λ d o r f e.
-        let u = with_words ram (line_of (word_wanted sh p s)) s d in
-        let l = once-left sh M n p c u r m (filled-fine sh M n p ram c s d o k f) e in
-        record { fine = l.fine; ways = same s d r.core l.ways; quiet = l.quiet; saved = l.saved })
+    let u = with_words ram (line_of (word_wanted sh p s)) s d in
+    let l = once-left sh M n p c u r m (filled-fine sh M n p ram c s d o k f) e in
+    record { fine = l.fine; ways = same s d r.core l.ways; quiet = l.quiet; saved = l.saved })
   where
     same : (s : CoreState) (d : Cache) (t : CoreState) → Ways (with_words ram (line_of (word_wanted sh p s)) s d) t → Ways s t
     same s d t (Stays e) = Stays e

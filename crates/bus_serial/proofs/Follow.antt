@@ -1,43 +1,38 @@
 -- A core's attempt and memory: the attempt is what the plain machine does over a memory that has the words which it used, and memory has
 -- them, but for words of a packet that the core is still to take.
-use Rattle.std.specs.Prelude.{ℕ, ◌≡◌, ◌<◌, ◌%◌, Bool, true, false, not, ◌==◌, ◌&&◌, ◌||◌, List, [], ◌∷◌, ◌++◌, Option, Some, None, is_some, unwrap_or, IfSome, if◌then◌else◌}
-use Rattle.std.proofs.Common.{arith, refl, ap, sym, subst, ◌∙◌}
-use Rattle.std.proofs.lemmas.Bool.Decides.{nat_tests}
+use Rattle.std.specs.Prelude.{ℕ, ◌≡◌, Bool, true, false, not, ◌==◌, ◌&&◌, ◌||◌, [], ◌∷◌, ◌++◌, Option, Some, None, IfSome, if◌then◌else◌}
+use Rattle.std.proofs.Common.{refl, sym, ◌∙◌}
 use Rattle.tcc_base.specs.declared.access.Size.TheVariants.{Byte, Half, Word}
 use Rattle.tcc_maps.specs.Cache.{Cache}
-use Rattle.tcc_maps.specs.CacheChange.{evicted, filled, read_cleared, rolled_back}
+use Rattle.tcc_maps.specs.CacheChange.{evicted, read_cleared}
 use Rattle.tcc_maps.specs.Nodes.{Dir, Fill}
-use Rattle.tcc_maps.specs.Shape.{Shape, lines}
+use Rattle.tcc_maps.specs.Shape.{Shape}
 use Rattle.tcc_maps.specs.Spilled.{spill_line}
-use Rattle.tcc_maps.specs.Words.{line_of, word_at, any_word}
-use Rattle.tcc_maps.proofs.Lemmas.{any_below-at, modified-evicted, value-evicted, read-rolled_back}
+use Rattle.tcc_maps.specs.Words.{line_of}
+use Rattle.tcc_maps.proofs.Lemmas.{modified-evicted, value-evicted}
 use Rattle.tcc_program.specs.Plain.{Goes}
-use Rattle.tcc_program.specs.Program.{Need, Nothing, Loads, Stores, Changes, Prints, Ends, Halts, Traps, Program}
+use Rattle.tcc_program.specs.Program.{Need, Loads, Stores, Changes, Program}
 use Rattle.tcc_program.specs.Ram.{word_of}
-use Rattle.tcc_rules.specs.Attempt.{Out, moves, is_solo, roll_back}
+use Rattle.tcc_rules.specs.Attempt.{Out, moves, is_solo}
 use Rattle.tcc_rules.specs.CoreDeliver.{fill, core_deliver}
 use Rattle.tcc_rules.specs.CoreEvict.{is_awaited, evict_line, core_evict}
 use Rattle.tcc_rules.specs.CoreExec.{core_exec}
 use Rattle.tcc_rules.specs.Sends.{written_back}
-use Rattle.tcc_rules.specs.State.{CoreState, Awaited, Phase, Running, AwaitTid, DoomedTid, Probing, Ready, Overflowing, Solo, Halted}
+use Rattle.tcc_rules.specs.State.{CoreState, Overflowing, Solo}
 use Rattle.tcc_attempt.specs.Follows.{Uses, Fits, Follows, EndFits, sees, used_in, used_at, used_by}
-use Rattle.tcc_attempt.specs.Marks.{UseStands, AllStand, UsesStand, MarksFit, AttemptFits, OnlyUsed, owed_in, awaits_in}
+use Rattle.tcc_attempt.specs.Marks.{MarksFit, AttemptFits, owed_in}
 use Rattle.tcc_attempt.specs.Sound.{SoundCore}
 use Rattle.tcc_attempt.specs.Views.{uses_after}
-use Rattle.tcc_attempt.proofs.Follows.{with_words as with_cache, follows-same, follows-into, is_live}
+use Rattle.tcc_attempt.proofs.Follows.{follows-into}
 use Rattle.tcc_attempt.proofs.FollowsDeliver.{core_evict-follows, core_deliver-follows}
 use Rattle.tcc_attempt.proofs.FollowsExec.{core_exec-follows}
-use Rattle.tcc_attempt.proofs.Marks.{core_exec-fit, none-used}
+use Rattle.tcc_attempt.proofs.Marks.{core_exec-fit}
 use Rattle.tcc_attempt.proofs.MarksDeliver.{core_evict-fit, core_deliver-fit}
-use Rattle.tcc_serial.specs.InMemory.{WordInMemory}
 use Rattle.bus_rules.specs.Exec.{line_words, instruction, gone_alone}
-use Rattle.bus_rules.specs.Take.{reads_some, dropped, taken}
 use Rattle.bus_serial.proofs.Did.{Did, NeedIn}
 use Rattle.bus_serial.proofs.Filled.{Coherent, did-coherent, filled-coherent, fill-is}
 use Rattle.bus_serial.proofs.Fine.{Fine, first-sound, filled-fine}
 use Rattle.bus_serial.proofs.Instruction.{if-at, Executes, with_words, asking, word_wanted, Once, First, instructed}
-use Rattle.bus_serial.proofs.Taken.{again}
-use Rattle.bus_serial.proofs.Temp4.{rolled-follows}
 use Rattle.bus_serial.proofs.Bounded.{in_memory}
 
 -- memory has these values, but for the words that are gone
@@ -159,8 +154,8 @@ pub instruction-follow : (sh : Shape) (n : ℕ) (p : Program) (ram : ℕ → ℕ
 instruction-follow sh n p ram gone c s f m k x h = instructed sh (in_memory sh) p ram c s (λ o. Follow sh p ram gone o.core) m k.awaited x
     (λ o e. once-follow sh n p ram gone c s o f k e h)
     (λ d o r e g.
-        let u = with_words ram (line_of (word_wanted sh p s)) s d in
-        once-follow sh n p ram gone c u r f (filled-fine sh (in_memory sh) n p ram c s d o k e) g (first-follow sh n p ram gone c s d o f k e h))
+    let u = with_words ram (line_of (word_wanted sh p s)) s d in
+    once-follow sh n p ram gone c u r f (filled-fine sh (in_memory sh) n p ram c s d o k e) g (first-follow sh n p ram gone c s d o f k e h))
 
 -- the core has the bus
 pub alone-follow : (sh : Shape) (p : Program) (ram : ℕ → ℕ) (gone : ℕ → Bool) (t : ℕ) (s : CoreState) → s.phase ≡ Overflowing None

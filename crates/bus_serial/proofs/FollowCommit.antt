@@ -1,21 +1,21 @@
 -- A commit: memory takes what the attempt wrote, the core has memory's values after it, and every other core has them but for the words of
 -- the packet.
-use Rattle.std.specs.Prelude.{ℕ, ◌+◌, ◌≡◌, ◌<◌, ◌%◌, Bool, true, false, not, ◌==◌, ◌&&◌, ◌||◌, [], Option, Some, None, is_some, unwrap_or, nat_lt, if◌then◌else◌}
-use Rattle.std.proofs.Common.{arith, refl, ap, sym, subst, ◌∙◌}
+use Rattle.std.specs.Prelude.{ℕ, ◌≡◌, ◌<◌, ◌%◌, Bool, true, false, ◌==◌, ◌&&◌, ◌||◌, [], Option, Some, None, is_some, unwrap_or, nat_lt, if◌then◌else◌}
+use Rattle.std.proofs.Common.{arith, refl, ap, ◌∙◌}
 use Rattle.std.proofs.lemmas.Bool.Decides.{nat_tests}
 use Rattle.tcc_maps.specs.Cache.{Cache, is_modified}
 use Rattle.tcc_maps.specs.CacheChange.{committed, words_dropped}
 use Rattle.tcc_maps.specs.Shape.{Shape, lines}
-use Rattle.tcc_maps.specs.Spilled.{holds, none_spilled}
+use Rattle.tcc_maps.specs.Spilled.{holds}
 use Rattle.tcc_maps.specs.Words.{line_of, word_at, any_word, any_below, or_else}
 use Rattle.tcc_maps.proofs.Lemmas.{any_below-at}
 use Rattle.tcc_program.specs.Plain.{Outcome, Goes, Ended, Halted as HaltedWith, Trapped as TrappedWith}
 use Rattle.tcc_program.specs.Program.{Program}
-use Rattle.tcc_rules.specs.Attempt.{Out, is_solo}
+use Rattle.tcc_rules.specs.Attempt.{is_solo}
 use Rattle.tcc_rules.specs.Commit.{phase_after, committed_core, commit, solo_commit, is_written}
-use Rattle.tcc_rules.specs.State.{CoreState, Phase, Running, Halted}
+use Rattle.tcc_rules.specs.State.{CoreState}
 use Rattle.tcc_attempt.specs.Follows.{Follows, sees}
-use Rattle.tcc_attempt.specs.Marks.{UsesStand, MarksFit, AttemptFits}
+use Rattle.tcc_attempt.specs.Marks.{UsesStand, MarksFit}
 use Rattle.tcc_attempt.proofs.Follows.{follows-same}
 use Rattle.tcc_attempt.proofs.FollowsExec.{commit-follows, solo_commit-follows}
 use Rattle.tcc_attempt.proofs.Marks.{none-used}

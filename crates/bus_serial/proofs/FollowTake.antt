@@ -1,17 +1,16 @@
 -- A core that takes a packet: its attempt used no word of it, or begins anew; what stays in its cache has memory's values.
-use Rattle.std.specs.Prelude.{ℕ, ◌≡◌, ◌<◌, ◌%◌, Bool, true, false, not, ◌&&◌, [], ◌∷◌, Option, Some, None, is_some, unwrap_or, if◌then◌else◌}
-use Rattle.std.proofs.Common.{arith, refl, ap, sym, subst, ◌∙◌}
+use Rattle.std.specs.Prelude.{ℕ, ◌≡◌, ◌%◌, Bool, true, false, not, ◌&&◌, [], ◌∷◌, Option, Some, None, is_some, unwrap_or, if◌then◌else◌}
+use Rattle.std.proofs.Common.{arith, refl, ap, ◌∙◌}
 use Rattle.tcc_maps.specs.Cache.{Cache}
 use Rattle.tcc_maps.specs.CacheChange.{rolled_back}
 use Rattle.tcc_maps.specs.Shape.{Shape, lines}
 use Rattle.tcc_maps.specs.Words.{line_of, word_at, any_word}
 use Rattle.tcc_maps.proofs.Lemmas.{any_below-at}
-use Rattle.tcc_program.specs.Plain.{Goes}
 use Rattle.tcc_program.specs.Program.{Program}
 use Rattle.tcc_rules.specs.Attempt.{is_solo, roll_back}
 use Rattle.tcc_rules.specs.State.{CoreState, Phase, Running, AwaitTid, Halted}
-use Rattle.tcc_attempt.specs.Follows.{Uses, Follows, EndFits, FollowsIn, sees}
-use Rattle.tcc_attempt.specs.Marks.{UseStands, AllStand, UsesStand, MarksFit, AttemptFits}
+use Rattle.tcc_attempt.specs.Follows.{Uses, FollowsIn, sees}
+use Rattle.tcc_attempt.specs.Marks.{AllStand, UsesStand}
 use Rattle.tcc_attempt.specs.Sound.{is_idle}
 use Rattle.tcc_attempt.proofs.Follows.{with_words as with_cache, follows-same}
 use Rattle.tcc_attempt.proofs.Marks.{none-used}

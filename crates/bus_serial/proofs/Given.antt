@@ -1,5 +1,5 @@
 -- The same of the RISC-V programs that the machine runs: they suit, so what is committed is the plain machine, and no state is stuck.
-use Rattle.std.specs.Prelude.{ℕ, ◌≡◌, ◌<◌, ◌≤◌, Bool, true, false, List, length, map, Option, Some, None, IfSome, IsTrue, nat_lt, if◌then◌else◌}
+use Rattle.std.specs.Prelude.{ℕ, ◌≡◌, ◌<◌, ◌≤◌, Bool, true, false, length, map, Option, Some, None, IfSome, IsTrue, nat_lt, if◌then◌else◌}
 use Rattle.std.specs.Int.{is_power_of_two}
 use Rattle.std.specs.Int.RustNames.{count_ones}
 use Rattle.std.proofs.Common.{arith, refl, ap, sym, ◌∙◌}
@@ -18,7 +18,6 @@ use Rattle.tcc_program.proofs.Lemmas.{consoles_are_printed, serial_takes_its_cor
 use Rattle.tcc_serial.specs.Commits.{plain_start as protocol_plain}
 use Rattle.tcc_serial.specs.NotedBy.{is_core, AreByCores}
 use Rattle.tcc_serial.specs.Shown.{shown_core}
-use Rattle.bus_rules.specs.State.{BusEvent, bus_start}
 use Rattle.bus_rules.specs.Step.{BusHistory, bus_run}
 use Rattle.bus_serial.specs.Given.{bus_at_start, bus_committed, BusSerial, BusRunsGiveThePlainMachine, BusTidsCount, RiscvBusNeverStuck, RiscvBusPickedEndsDone}
 use Rattle.bus_serial.specs.Laws.{HasCaches, AreNumbered, BusIsSerial}

@@ -1,18 +1,17 @@
 -- An instruction of the bus machine is one of the core's, or one that asks for a line, which comes from memory, and then one more, which
 -- doesn't ask again.
-use Rattle.std.specs.Prelude.{ℕ, ◌≡◌, Bool, true, false, ◌&&◌, ◌⊎◌, Option, Some, None, is_some, IfSome}
+use Rattle.std.specs.Prelude.{ℕ, ◌≡◌, true, false, ◌&&◌, ◌⊎◌, Option, Some, None, IfSome}
 use Rattle.std.proofs.Common.{refl, ap, ◌∙◌}
 use Rattle.tcc_maps.specs.Cache.{Cache}
 use Rattle.tcc_maps.specs.CacheChange.{filled}
 use Rattle.tcc_maps.specs.Shape.{Shape}
 use Rattle.tcc_maps.specs.Words.{line_of}
-use Rattle.tcc_program.specs.Program.{Need, Program}
+use Rattle.tcc_program.specs.Program.{Program}
 use Rattle.tcc_rules.specs.Attempt.{Out, is_solo}
-use Rattle.tcc_rules.specs.CoreDeliver.{fill}
 use Rattle.tcc_rules.specs.CoreExec.{core_exec}
-use Rattle.tcc_rules.specs.State.{CoreState, Awaited, Phase, Running, Overflowing}
+use Rattle.tcc_rules.specs.State.{CoreState, Awaited, Running}
 use Rattle.bus_rules.specs.Exec.{line_words, with_line, if_executed, instruction}
-use Rattle.bus_serial.proofs.Did.{Did, How, Ran, Closed, Overflowed, Asked, Executed, NeedIn, wanted, goes, exec-executed}
+use Rattle.bus_serial.proofs.Did.{How, Ran, Closed, Overflowed, Asked, Executed, NeedIn, wanted, goes, exec-executed}
 use Rattle.bus_serial.proofs.Filled.{filled-valid, fill-is}
 
 pub if-at : {A : Type 0} (x : Option A) (y : A) (P : A → Type 0) → x ≡ Some y → IfSome x P → P y
@@ -81,8 +80,8 @@ instructed sh M p ram c s Q m a x first again = go (core_exec sh p c s) refl (ex
     asks d o f =
         let y : o.core.awaited ≡ Some (record { line = line_of w; stale = false }) = ap (λ (t : CoreState). t.awaited) f.asks in
         rw y (rw f.asks (rw (fill-is (line_of w) (line_words ram (line_of w)) s d)
-            (second d o f (core_exec sh p c (with_words ram (line_of w) s d)) refl
-            (exec-executed sh M p c (with_words ram (line_of w) s d) m refl x))))
+        (second d o f (core_exec sh p c (with_words ram (line_of w) s d)) refl
+        (exec-executed sh M p c (with_words ram (line_of w) s d) m refl x))))
 
     by : (o : Out) → core_exec sh p c s ≡ Some o → Executed M w s o → How w s o.core
         → IfSome (with_line sh p ram c o o.core.awaited) Q

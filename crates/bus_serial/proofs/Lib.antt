@@ -25,3 +25,4 @@ pub mod Listed
 pub mod Live
 pub mod Picked
 pub mod Given
+pub mod Lemmas

@@ -1,5 +1,5 @@
 -- No state is stuck: a core takes the packet, or the core that is alone goes on, or any core that hasn't halted does.
-use Rattle.std.specs.Prelude.{ℕ, ◌≡◌, ◌<◌, ◌≤◌, ◌%◌, Bool, true, false, not, ◌==◌, ◌&&◌, ◌||◌, List, [], length, Option, Some, None, is_some, IfSome, nat_lt, if◌then◌else◌}
+use Rattle.std.specs.Prelude.{ℕ, ◌≡◌, ◌<◌, Bool, true, false, ◌==◌, ◌&&◌, [], length, Option, Some, None, is_some, IfSome, nat_lt}
 use Rattle.std.proofs.Common.{arith, refl, ap, sym, inl, inr, ◌∙◌, ◌⊎◌}
 use Rattle.std.proofs.lemmas.Bool.Decides.{nat_tests}
 use Rattle.tcc_base.specs.declared.access.Size.TheVariants.{Byte, Half, Word}
@@ -8,31 +8,27 @@ use Rattle.tcc_maps.specs.CacheChange.{filled}
 use Rattle.tcc_maps.specs.Shape.{Shape, set_of}
 use Rattle.tcc_maps.specs.Words.{line_of}
 use Rattle.tcc_maps.proofs.Lemmas.{any_below-found}
-use Rattle.tcc_program.specs.Program.{Local, Need, Nothing, Loads, Stores, Changes, Prints, Ends, Halts, Traps, Program}
+use Rattle.tcc_program.specs.Program.{Need, Nothing, Loads, Stores, Changes, Prints, Ends, Halts, Traps, Program}
 use Rattle.tcc_rules.specs.Attempt.{Out, is_solo}
-use Rattle.tcc_rules.specs.CoreDeliver.{fill}
 use Rattle.tcc_rules.specs.CoreEvict.{core_evict}
 use Rattle.tcc_rules.specs.CoreExec.{core_exec}
-use Rattle.tcc_rules.specs.State.{CoreState, Awaited, Phase, Running, AwaitTid, DoomedTid, Probing, Ready, Overflowing, Solo, Halted}
-use Rattle.tcc_rules.specs.Useful.{is_set, room_for_line, room_for_word, room_for_store, room_for_need, room_unless_awaiting, room_in_phase, room}
-use Rattle.tcc_attempt.specs.Sound.{SoundCore}
+use Rattle.tcc_rules.specs.State.{CoreState, Awaited, Phase, Running, AwaitTid, Overflowing, Solo, Halted}
+use Rattle.tcc_rules.specs.Useful.{room_for_line, room_for_word, room_for_store, room_for_need, room_unless_awaiting, room_in_phase, room}
 use Rattle.tcc_serial.specs.OneCore.{executes}
-use Rattle.bus_rules.specs.Commit.{BusStepped}
-use Rattle.bus_rules.specs.Exec.{line_words, with_line, if_executed, instruction, when_free, executed, goes_on, exec_alone, exec_in, bus_exec}
-use Rattle.bus_rules.specs.State.{Bus, Free, Alone, Packet, BusWorld, BusEvent, Exec, Evict, Take, bus_start}
-use Rattle.bus_rules.specs.Step.{BusHistory, evicted, bus_names, bus_happens, bus_step, bus_run}
-use Rattle.bus_rules.specs.Take.{take_from, bus_take}
-use Rattle.bus_rules.specs.Useful.{is_of_use, bus_is_useful, bus_useful, is_packet, BusIsDone}
+use Rattle.bus_rules.specs.Exec.{line_words, with_line, if_executed, instruction, executed, goes_on, exec_alone, exec_in, bus_exec}
+use Rattle.bus_rules.specs.State.{Bus, Free, Alone, Packet, BusWorld, Exec, Evict, Take, bus_start}
+use Rattle.bus_rules.specs.Step.{BusHistory, evicted, bus_names, bus_step, bus_run}
+use Rattle.bus_rules.specs.Take.{bus_take}
+use Rattle.bus_rules.specs.Useful.{bus_is_useful, bus_useful, BusIsDone}
 use Rattle.bus_serial.specs.Laws.{HasCaches, BusNeverStuck}
 use Rattle.bus_serial.proofs.Bounded.{InOrder, runs-in-order}
-use Rattle.bus_serial.proofs.Did.{How, Ran, Closed, Overflowed, Asked, Executed, NeedIn, wanted, goes, exec-executed}
-use Rattle.bus_serial.proofs.Events.{overflows}
+use Rattle.bus_serial.proofs.Did.{How, Ran, Closed, Overflowed, Asked, Executed, NeedIn, wanted, exec-executed}
 use Rattle.bus_serial.proofs.Filled.{filled-valid, fill-is}
 use Rattle.bus_serial.proofs.Fine.{Fine, Ways, Stays, Closes, Overflows, Left, first-sound, instruction-left}
-use Rattle.bus_serial.proofs.Instruction.{if-at, Executes, with_words, asking, word_wanted, First}
+use Rattle.bus_serial.proofs.Instruction.{Executes, with_words, word_wanted, First}
 use Rattle.bus_serial.proofs.Listed.{NoneUseful, none-useful}
-use Rattle.bus_serial.proofs.Ordered.{StaysIn, PacketFits, PhaseFits, BusFits, Ordered}
-use Rattle.bus_serial.proofs.Temp5.{WantsSome, Emptied, exec-or, emptied}
+use Rattle.bus_serial.proofs.Ordered.{PacketFits, PhaseFits, BusFits, Ordered}
+use Rattle.bus_serial.proofs.Temp5.{WantsSome, exec-or, emptied}
 
 -- every line
 abbrev pub any_line : ℕ → Type 0

@@ -1,21 +1,20 @@
 -- The commits along a run: their TIDs count from 1, and they are few, small and by cores of the machine.
-use Rattle.std.specs.Prelude.{ℕ, ◌+◌, ◌≡◌, ◌<◌, ◌≤◌, Bool, true, List, [], ◌∷◌, ◌++◌, map, length, Option, Some, None, Contains, nat_lt}
-use Rattle.std.proofs.Common.{arith, refl, ap, sym, ◌∙◌, ◌⊎◌, inl, inr, subst}
+use Rattle.std.specs.Prelude.{ℕ, ◌+◌, ◌≡◌, ◌<◌, ◌≤◌, List, [], ◌∷◌, ◌++◌, length, Contains}
+use Rattle.std.proofs.Common.{arith, ◌∙◌, ◌⊎◌, inl, inr, subst}
 use Rattle.std.proofs.lemmas.Bool.Decides.{nat_tests}
 use Rattle.std.proofs.lemmas.List.{length-append}
 use Rattle.std.proofs.lemmas.List.Elements.{Contains-push_cases}
 use Rattle.tcc_base.specs.declared.access.Commit.{Commit as Noted}
 use Rattle.tcc_maps.specs.Shape.{Shape}
 use Rattle.tcc_program.specs.Cores.{AreBy}
-use Rattle.tcc_program.specs.Orders.{order_of_commit}
 use Rattle.tcc_program.specs.Program.{Program}
 use Rattle.tcc_rules.specs.Attempt.{finished}
 use Rattle.tcc_rules.specs.Commit.{noted}
 use Rattle.tcc_rules.specs.State.{CoreState}
-use Rattle.tcc_serial.specs.NotedBy.{is_core, AreByCores}
+use Rattle.tcc_serial.specs.NotedBy.{AreByCores}
 use Rattle.tcc_bounds.specs.Bounds.{AttemptCounted, CommitCounted}
 use Rattle.tcc_bounds.proofs.Counted.{weak}
-use Rattle.bus_rules.specs.Commit.{BusStepped, bus_commit, commit_out}
+use Rattle.bus_rules.specs.Commit.{BusStepped, bus_commit}
 use Rattle.bus_rules.specs.State.{BusWorld}
 use Rattle.bus_rules.specs.Step.{and_noted}
 use Rattle.bus_serial.specs.Laws.{AreNumbered}

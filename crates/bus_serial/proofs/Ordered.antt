@@ -1,16 +1,16 @@
 -- What holds between the cores and the bus: the core that has the bus is alone, and no other is; a packet is of words of memory, and some
 -- core is still to take it.
-use Rattle.std.specs.Prelude.{ℕ, ◌+◌, ◌≡◌, ◌<◌, Bool, true, false, not, ◌==◌, ◌&&◌, Option, Some, None, is_some, IfSome, nat_lt, if◌then◌else◌}
+use Rattle.std.specs.Prelude.{ℕ, ◌+◌, ◌≡◌, ◌<◌, Bool, true, false, not, ◌==◌, ◌&&◌, Option, is_some, nat_lt, if◌then◌else◌}
 use Rattle.std.proofs.Common.{arith, refl, ap, sym, inl, inr, ◌∙◌, ◌⊎◌}
 use Rattle.std.proofs.lemmas.Bool.Decides.{nat_tests}
 use Rattle.tcc_maps.specs.Shape.{Shape}
 use Rattle.tcc_maps.specs.Words.{put, any_below, line_of}
 use Rattle.tcc_program.specs.Plain.{Outcome, Goes, Ended, Halted as HaltedWith, Trapped as TrappedWith}
-use Rattle.tcc_program.specs.Program.{Need, Program, Local}
-use Rattle.tcc_rules.specs.Attempt.{Out, is_solo, finished}
+use Rattle.tcc_program.specs.Program.{Program, Local}
+use Rattle.tcc_rules.specs.Attempt.{is_solo, finished}
 use Rattle.tcc_rules.specs.Commit.{phase_after}
 use Rattle.tcc_rules.specs.CoreEvict.{core_evict}
-use Rattle.tcc_rules.specs.State.{CoreState, Phase, Running, AwaitTid, DoomedTid, Probing, Ready, Overflowing, Solo, Halted, core_start}
+use Rattle.tcc_rules.specs.State.{CoreState, Phase, Running, AwaitTid, Solo, Halted, core_start}
 use Rattle.tcc_attempt.proofs.SoundDeliver.{start-sound}
 use Rattle.tcc_bounds.proofs.Counted.{none}
 use Rattle.bus_rules.specs.Commit.{BusStepped, written, wrote_some, others, packet, bus_commit, all_clean, commit_out}
@@ -21,7 +21,7 @@ use Rattle.bus_serial.proofs.Did.{NeedIn}
 use Rattle.bus_serial.proofs.Committed.{out-fine, out-phase, finished-fine, written-inside}
 use Rattle.bus_serial.proofs.Events.{overflows, alone_by, taken_by, Happened, Instructs, TakesBus, EndsAlone, Commits, Evicts, Takes}
 use Rattle.bus_serial.proofs.Fine.{Fine, later, Ways, Stays, Closes, Overflows, Left, instruction-left, evict-left, evict-phase, alone-fine}
-use Rattle.bus_serial.proofs.Instruction.{if-at, Executes}
+use Rattle.bus_serial.proofs.Instruction.{if-at}
 use Rattle.bus_serial.proofs.Taken.{again, taken-fine}
 
 -- a program whose accesses are to these lines
@@ -222,11 +222,11 @@ pub happened-ordered : (sh : Shape) (M : ℕ → Type 0) (p : Program) (n : ℕ)
     → Happened sh p w r → Ordered sh M (n + 1) r.world
 happened-ordered sh M p n w r m k (Instructs c o l x d q e) =
     let f = if-at (instruction sh p w.ram c (w.cores c)) o (Left sh M n (w.cores c)) d
-        (instruction-left sh M n p w.ram c (w.cores c) (m (w.cores c).local) (k.cores c l) x) in
+    (instruction-left sh M n p w.ram c (w.cores c) (m (w.cores c).local) (k.cores c l) x) in
     rw e (moved-ordered sh M n w c o.core l k f.fine (goes-ways (w.cores c) o.core q f.ways))
 happened-ordered sh M p n w r m k (TakesBus c o l x d q b e) =
     let f = if-at (instruction sh p w.ram c (w.cores c)) o (Left sh M n (w.cores c)) d
-        (instruction-left sh M n p w.ram c (w.cores c) (m (w.cores c).local) (k.cores c l) x) in
+    (instruction-left sh M n p w.ram c (w.cores c) (m (w.cores c).local) (k.cores c l) x) in
     rw e (alone-ordered sh M n w c o.core l b k f.fine)
 happened-ordered sh M p n w r m k (EndsAlone c t need l q i g e) =
     rw e (commit-ordered sh M n (n + 1) w c (finished p need 0 (w.cores c)) (inr ((alone-bus sh M n w c t l k q).0)) k

@@ -1,14 +1,14 @@
 -- A picked schedule is a run, and a chooser stops early only where no event is useful.
-use Rattle.std.specs.Prelude.{ℕ, zero, suc, ◌≡◌, ◌<◌, ◌≤◌, ◌%◌, Bool, true, false, ◌&&◌, List, [], ◌∷◌, length, filter, slice_index_or, Option, Some, None, is_some, IfSome, if◌then◌else◌}
-use Rattle.std.proofs.Common.{arith, refl, ap}
+use Rattle.std.specs.Prelude.{ℕ, zero, suc, ◌≡◌, ◌<◌, ◌%◌, Bool, true, false, List, [], ◌∷◌, length, filter, slice_index_or, Option, Some, None, is_some, IfSome, if◌then◌else◌}
+use Rattle.std.proofs.Common.{arith, refl}
 use Rattle.tcc_maps.specs.Shape.{Shape}
 use Rattle.tcc_program.specs.Program.{Program}
 use Rattle.tcc_rules.proofs.Lemmas.{and-left}
 use Rattle.bus_rules.specs.State.{BusWorld, BusEvent, bus_start}
 use Rattle.bus_rules.specs.Commit.{BusStepped}
 use Rattle.bus_rules.specs.Step.{BusHistory, recorded, bus_step, bus_next, and_then, bus_from, bus_run}
-use Rattle.bus_rules.specs.Useful.{is_of_use, bus_is_useful, bus_execs, bus_evicts, bus_takes, bus_useful, bus_chosen, after_event, bus_pick, bus_picked, BusIsDone}
-use Rattle.bus_serial.specs.Laws.{HasCaches, first_bus_history, BusPickedEndsDone}
+use Rattle.bus_rules.specs.Useful.{is_of_use, bus_is_useful, bus_useful, bus_chosen, after_event, bus_pick, bus_picked, BusIsDone}
+use Rattle.bus_serial.specs.Laws.{first_bus_history, BusPickedEndsDone}
 use Rattle.bus_serial.proofs.Listed.{Each}
 use Rattle.bus_serial.proofs.Live.{bus_never_stuck}
 

@@ -1,38 +1,34 @@
 -- Every state that a run reaches is what a serial execution gives: a commit happens where no packet is on the bus, so memory has all words
 -- that its attempt used, and the attempt is a transaction of the plain machine.
-use Rattle.std.specs.Prelude.{ℕ, ◌+◌, ◌≡◌, ◌<◌, ◌^◌, Bool, true, false, ◌==◌, List, [], ◌∷◌, ◌++◌, map, length, Option, Some, None, is_some, IfSome, IsSomeAnd, if◌then◌else◌}
+use Rattle.std.specs.Prelude.{ℕ, ◌≡◌, ◌<◌, ◌^◌, Bool, true, false, ◌==◌, List, [], ◌∷◌, ◌++◌, map, length, Option, Some, None, IfSome, if◌then◌else◌}
 use Rattle.std.proofs.Common.{arith, refl, ap, sym, subst, append-nil, ◌∙◌, inl, inr, ◌⊎◌}
 use Rattle.std.proofs.lemmas.Bool.Decides.{nat_tests}
-use Rattle.tcc_base.specs.declared.access.Commit.{Commit as Noted}
-use Rattle.tcc_base.specs.declared.access.CoreEnd.TheVariants.{Run}
 use Rattle.tcc_maps.specs.Cache.{IsCache}
 use Rattle.tcc_maps.specs.Shape.{Shape}
 use Rattle.tcc_maps.specs.Words.{put}
 use Rattle.tcc_program.specs.Orders.{order_of_commit, last_tid}
-use Rattle.tcc_program.specs.Plain.{Attempt, Plain, PlainCore, Goes, closed, serial}
-use Rattle.tcc_program.specs.Program.{Local, Need, Nothing, Loads, Stores, Changes, Prints, Ends, Halts, Traps, Program}
+use Rattle.tcc_program.specs.Plain.{Plain, Goes, closed, serial}
+use Rattle.tcc_program.specs.Program.{Local, Need, Nothing, Ends, Halts, Traps, Program}
 use Rattle.tcc_rules.specs.Attempt.{Out, finished}
-use Rattle.tcc_rules.specs.Commit.{noted}
 use Rattle.tcc_rules.specs.CoreEvict.{core_evict}
-use Rattle.tcc_rules.specs.State.{CoreState, Phase, Running, AwaitTid, Solo, Halted, core_start}
-use Rattle.tcc_attempt.specs.Follows.{Uses, Agrees, IsSmall, NeedFits, Fits, Follows, EndFits, HasEnded, Reaches, sees}
-use Rattle.tcc_attempt.specs.Marks.{MarksFit, AttemptFits}
-use Rattle.tcc_attempt.proofs.Follows.{Claim, TakesOld, seen_after, finished-claims, in-to, is_live}
+use Rattle.tcc_rules.specs.State.{CoreState, AwaitTid, Solo, core_start}
+use Rattle.tcc_attempt.specs.Follows.{Uses, Agrees, IsSmall, NeedFits, Fits, HasEnded}
+use Rattle.tcc_attempt.proofs.Follows.{Claim, finished-claims, in-to}
 use Rattle.tcc_attempt.proofs.FollowsRun.{start-follows}
-use Rattle.tcc_attempt.proofs.Marks.{none-used, finished-same}
+use Rattle.tcc_attempt.proofs.Marks.{none-used}
 use Rattle.tcc_serial.specs.Aim.{Suits}
-use Rattle.tcc_serial.specs.Commits.{CommitsSerial, CoreSerial, plain_start, end_after}
+use Rattle.tcc_serial.specs.Commits.{CommitsSerial, CoreSerial, plain_start}
 use Rattle.bus_rules.specs.Commit.{BusStepped, written, with_words, bus_commit, all_clean, commit_out}
-use Rattle.bus_rules.specs.Exec.{instruction, moved, gone_alone}
-use Rattle.bus_rules.specs.State.{Bus, Free, Alone, Packet, BusWorld, BusEvent, bus_start}
-use Rattle.bus_rules.specs.Step.{BusHistory, and_noted, bus_run}
+use Rattle.bus_rules.specs.Exec.{instruction, gone_alone}
+use Rattle.bus_rules.specs.State.{Bus, Free, Alone, BusWorld, BusEvent, bus_start}
+use Rattle.bus_rules.specs.Step.{BusHistory, bus_run}
 use Rattle.bus_rules.specs.Take.{taken}
-use Rattle.bus_serial.specs.Laws.{AreNumbered, BusIsSerial, BusRunsAreSerial}
+use Rattle.bus_serial.specs.Laws.{BusIsSerial, BusRunsAreSerial}
 use Rattle.bus_serial.proofs.Bounded.{in_memory, stays-in, InOrder, events-in-order, start-in-order}
 use Rattle.bus_serial.proofs.Committed.{out-phase, out-noted, out-checked, finished-fine}
 use Rattle.bus_serial.proofs.Cores.{Followed, none-pending, alone-free, happened-followed}
-use Rattle.bus_serial.proofs.Did.{did-nothing, finished-did, goes}
-use Rattle.bus_serial.proofs.Events.{alone_by, taken_by, Happened, Instructs, TakesBus, EndsAlone, Commits, Evicts, Takes}
+use Rattle.bus_serial.proofs.Did.{goes}
+use Rattle.bus_serial.proofs.Events.{Happened, Instructs, TakesBus, EndsAlone, Commits, Evicts, Takes}
 use Rattle.bus_serial.proofs.Fine.{Fine, Left, instruction-left}
 use Rattle.bus_serial.proofs.Follow.{AgreesBut, Follow}
 use Rattle.bus_serial.proofs.FollowCommit.{pending}
@@ -40,7 +36,7 @@ use Rattle.bus_serial.proofs.Instruction.{if-at}
 use Rattle.bus_serial.proofs.Ordered.{Ordered}
 use Rattle.bus_serial.proofs.Runs.{stepped_to, EventsKeep, run-keeps}
 use Rattle.bus_serial.proofs.Shown.{Same, same-serial, has_halted, end-runs, instruction-same, alone-same, evict-same, taken-same}
-use Rattle.bus_serial.proofs.Transaction.{PlainDid, Stands, Transacted, transacts, seen-written, end-is, commits-push, last-push}
+use Rattle.bus_serial.proofs.Transaction.{PlainDid, Transacted, transacts, seen-written, end-is, commits-push, last-push}
 
 -- the commits are a serial execution, and what is committed is the plain machine after them
 pub record Plainly (sh : Shape) (p : Program) (entries : ℕ → Local) (first : ℕ → ℕ) (h : BusHistory) : Type 0 where
@@ -183,12 +179,12 @@ happened-plainly : (sh : Shape) (p : Program) (entries : ℕ → Local) (first :
 happened-plainly sh p entries first n h r z o f (Instructs c t l x d q e) k =
     let w = h.world in
     let a = if-at (instruction sh p w.ram c (w.cores c)) t (Left sh (in_memory sh) n (w.cores c)) d
-        (instruction-left sh (in_memory sh) n p w.ram c (w.cores c) (stays-in sh p z.inside (w.cores c).local) (o.cores c l) x) in
+    (instruction-left sh (in_memory sh) n p w.ram c (w.cores c) (stays-in sh p z.inside (w.cores c).local) (o.cores c l) x) in
     rw e (changed sh p entries first h c t.core w.bus k (instruction-same p (w.cores c) t.core x a.saved a.ways))
 happened-plainly sh p entries first n h r z o f (TakesBus c t l x d q b e) k =
     let w = h.world in
     let a = if-at (instruction sh p w.ram c (w.cores c)) t (Left sh (in_memory sh) n (w.cores c)) d
-        (instruction-left sh (in_memory sh) n p w.ram c (w.cores c) (stays-in sh p z.inside (w.cores c).local) (o.cores c l) x) in
+    (instruction-left sh (in_memory sh) n p w.ram c (w.cores c) (stays-in sh p z.inside (w.cores c).local) (o.cores c l) x) in
     rw e (changed sh p entries first h c (gone_alone w.next t.core) (Alone c) k (alone-same p (w.cores c) t.core w.next x a.saved))
 happened-plainly sh p entries first n h r z o f (EndsAlone c t need l q i g e) k =
     rw e (committed sh p entries first h c (finished p need 0 (h.world.cores c)) l k

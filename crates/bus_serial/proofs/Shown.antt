@@ -1,19 +1,19 @@
 -- What is committed of a core stays where it doesn't commit: its checkpoint, and whether and how it has halted.
-use Rattle.std.specs.Prelude.{ℕ, ◌≡◌, ◌<◌, Bool, true, false, not, ◌&&◌, ◌||◌, Option, Some, None, is_some, IfSome, if◌then◌else◌}
-use Rattle.std.proofs.Common.{arith, refl, ap, sym, ◌∙◌, inl, inr, ◌⊎◌}
+use Rattle.std.specs.Prelude.{ℕ, ◌≡◌, Bool, true, false, not, ◌&&◌, ◌||◌, Option, Some, None, is_some, IfSome, if◌then◌else◌}
+use Rattle.std.proofs.Common.{refl, ap, sym, ◌∙◌, inl, inr, ◌⊎◌}
 use Rattle.tcc_base.specs.declared.access.CoreEnd.TheVariants.{Run}
 use Rattle.tcc_maps.specs.Cache.{Cache, is_marked}
 use Rattle.tcc_maps.specs.CacheChange.{evicted}
 use Rattle.tcc_maps.specs.Shape.{Shape, lines}
 use Rattle.tcc_maps.specs.Spilled.{spill_line}
-use Rattle.tcc_maps.specs.Words.{any_word, any_below, word_at}
+use Rattle.tcc_maps.specs.Words.{any_word, word_at}
 use Rattle.tcc_maps.proofs.Lemmas.{any_below-found}
 use Rattle.tcc_program.specs.Plain.{Outcome, PlainCore}
 use Rattle.tcc_program.specs.Program.{Program}
-use Rattle.tcc_rules.specs.Attempt.{Out, moves, is_solo, roll_back}
+use Rattle.tcc_rules.specs.Attempt.{moves, is_solo, roll_back}
 use Rattle.tcc_rules.specs.CoreEvict.{is_awaited, evict_line, core_evict}
 use Rattle.tcc_rules.specs.Sends.{written_back}
-use Rattle.tcc_rules.specs.State.{CoreState, Phase, Running, AwaitTid, DoomedTid, Probing, Ready, Overflowing, Solo, Halted}
+use Rattle.tcc_rules.specs.State.{CoreState, Phase, Running, Halted}
 use Rattle.tcc_attempt.specs.Sound.{is_idle}
 use Rattle.tcc_serial.specs.Commits.{CoreSerial, end_after}
 use Rattle.bus_rules.specs.Exec.{gone_alone}

@@ -1,16 +1,15 @@
 -- A core that takes a packet, by itself.
-use Rattle.std.specs.Prelude.{ℕ, ◌+◌, ◌≡◌, Bool, true, false, not, ◌&&◌, Option, Some, None, is_some, if◌then◌else◌}
+use Rattle.std.specs.Prelude.{ℕ, ◌≡◌, Bool, true, false, not, ◌&&◌, Option, Some, None, is_some, if◌then◌else◌}
 use Rattle.std.proofs.Common.{refl}
-use Rattle.tcc_maps.specs.Cache.{Cache, IsCache}
+use Rattle.tcc_maps.specs.Cache.{IsCache}
 use Rattle.tcc_maps.specs.CacheChange.{rolled_back}
 use Rattle.tcc_maps.specs.Shape.{Shape}
 use Rattle.tcc_rules.specs.Attempt.{roll_back, is_solo}
-use Rattle.tcc_rules.specs.State.{CoreState, Awaited, Phase, Running}
-use Rattle.tcc_attempt.specs.Sound.{AwaitsHeld, SoundCore}
-use Rattle.tcc_bounds.specs.Bounds.{AttemptCounted}
+use Rattle.tcc_rules.specs.State.{CoreState, Awaited, Running}
+use Rattle.tcc_attempt.specs.Sound.{AwaitsHeld}
 use Rattle.tcc_bounds.proofs.Counted.{rolled}
 use Rattle.bus_rules.specs.Take.{reads_some, dropped, taken}
-use Rattle.bus_serial.proofs.Fine.{Fine, later}
+use Rattle.bus_serial.proofs.Fine.{Fine}
 use Rattle.bus_serial.proofs.Temp.{rolled-sound}
 
 -- the attempt begins anew, where it does

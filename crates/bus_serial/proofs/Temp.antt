@@ -1,31 +1,19 @@
 -- TEMPORARY: Evict and messages keep what holds of a core, so every event of the machine does.
-use Rattle.std.proofs.Common.{◌≡◌, ℕ, ◌%◌, Bool, true, false, not, cond, ◌&&◌, ◌||◌, ⊎_elim, List, [], ◌∷◌, Option, Some, None, is_some, refl, ap, sym, ◌∙◌, subst, arith}
-use Rattle.std.specs.Prelude.{IfSome, ◌==◌, nat_lt}
+use Rattle.std.proofs.Common.{◌≡◌, ℕ, ◌%◌, Bool, true, false, not, cond, ◌&&◌, ◌||◌, ⊎_elim, Option, Some, None, is_some, refl, ap, sym, ◌∙◌, subst, arith}
 use Rattle.std.proofs.lemmas.Bool.{cases_Bool, cases_eq}
 use Rattle.std.proofs.lemmas.Bool.Decides.{nat_tests}
-use Rattle.tcc_base.specs.Put.{put}
-use Rattle.tcc_program.specs.Program.{Local, Program}
-use Rattle.tcc_maps.specs.Words.{line_of, word_at, any_word, any_below}
-use Rattle.tcc_maps.specs.Nodes.{Node, Core, Dir, Vendor, Msg, TidReq, TidGrant, LoadReq, Fill, Skip, Probe, ProbeReply, Mark, Commit, Abort, WriteBack, Flush, DataReq, Inv, InvAck, Event, Exec, Evict, Deliver}
+use Rattle.tcc_maps.specs.Words.{line_of, word_at, any_word}
 use Rattle.tcc_maps.specs.Shape.{Shape}
-use Rattle.tcc_maps.specs.Cache.{Cache, is_marked, empty_cache}
-use Rattle.tcc_maps.specs.CacheChange.{filled, invalidated, cleaned, evicted, rolled_back, read_cleared}
-use Rattle.tcc_maps.specs.Spilled.{spill_line, none_spilled}
-use Rattle.tcc_maps.proofs.Lemmas.{empty-keeps, evicted-keeps, filled-keeps, invalidated-keeps, cleaned-keeps, rolled_back-keeps, read_cleared-keeps, any_below-at, held-evicted, modified-evicted, dirty-evicted, read-evicted, read-filled, modified-filled, dirty-filled, held-invalidated, read-invalidated, modified-invalidated, dirty-invalidated, held-cleaned, read-cleaned, modified-cleaned, dirty-cleaned, held-rolled_back, read-rolled_back, modified-rolled_back, held-read_cleared, modified-read_cleared, dirty-read_cleared}
-use Rattle.tcc_rules.specs.State.{CoreState, Awaited, Phase, Running, AwaitTid, DoomedTid, Probing, Ready, Overflowing, Solo, Halted, World, core_start, start}
-use Rattle.tcc_rules.specs.Links.{in_flight}
-use Rattle.tcc_rules.specs.Sends.{nothing, to, marks_for, written_back}
-use Rattle.tcc_rules.specs.Attempt.{Out, moves, is_solo, roll_back}
-use Rattle.tcc_rules.specs.CoreExec.{core_exec}
+use Rattle.tcc_maps.specs.Cache.{Cache, is_marked}
+use Rattle.tcc_maps.specs.CacheChange.{evicted, rolled_back}
+use Rattle.tcc_maps.specs.Spilled.{spill_line}
+use Rattle.tcc_maps.proofs.Lemmas.{evicted-keeps, rolled_back-keeps, any_below-at, held-evicted, modified-evicted, dirty-evicted, read-evicted, held-rolled_back, read-rolled_back, modified-rolled_back}
+use Rattle.tcc_rules.specs.State.{CoreState, Awaited, Phase}
+use Rattle.tcc_rules.specs.Sends.{written_back}
+use Rattle.tcc_rules.specs.Attempt.{moves, is_solo, roll_back}
 use Rattle.tcc_rules.specs.CoreEvict.{is_awaited, evict_line, core_evict}
-use Rattle.tcc_rules.specs.CoreDeliver.{ignored, grant_phase, grant, probing, is_probed, replied, all_replied, when_ready, when_alone, reply_phase, probe_reply, fill_awaited, fill, data_request, violated_in, if_violated, staled, without, is_violated, acknowledged, invalidate, from_dir, from_vendor, core_deliver}
-use Rattle.tcc_rules.specs.DirDeliver.{Answer, Waits, Drops, Asks, Takes, dir_deliver}
-use Rattle.tcc_rules.specs.VendorDeliver.{Granted, vendor_deliver}
-use Rattle.tcc_rules.specs.Step.{Stepped, History, core_moves, core_takes, dir_takes, dir_asks, vendor_gives, moved, taken, answered, granted, delivered, if_in_flight, names_nodes, happens, step, recorded, and_noted, next, and_then, run_from, run}
-use Rattle.tcc_attempt.specs.Sound.{AwaitsHeld, is_idle, SoundCore}
-use Rattle.tcc_rules.proofs.Lemmas.{if-step}
+use Rattle.tcc_attempt.specs.Sound.{AwaitsHeld, SoundCore}
 use Rattle.tcc_attempt.proofs.Sound.{OutSound}
-use Rattle.tcc_attempt.proofs.SoundExec.{core_exec-sound}
 
 -- the awaited line stays where the cache keeps its frames
 awaits-same : (c d : Cache) (o : Option Awaited) → ((l : ℕ) → d.held l ≡ c.held l) → AwaitsHeld c o → AwaitsHeld d o
@@ -106,4 +94,3 @@ rolled-sound sh s q sp f k = record {
   apart = λ v w i j. absurd (let n : is_some (sp v) ≡ false = ap is_some (f v) in cc);
   unmarked = λ i w. (read-rolled_back s.cache w, modified-rolled_back s.cache w);
 }
-

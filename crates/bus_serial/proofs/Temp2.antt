@@ -1,24 +1,14 @@
 -- TEMPORARY: Exec and Evict keep what holds of a core.
-use Rattle.std.proofs.Common.{◌≡◌, ℕ, Bool, true, false, cond, ⊎_elim, Option, Some, None, is_some, refl, ap, ◌∙◌}
-use Rattle.std.proofs.lemmas.Bool.{cases_Bool}
-use Rattle.tcc_base.specs.declared.access.Size.{Size}
-use Rattle.tcc_base.specs.declared.access.Size.TheVariants.{Byte, Half, Word}
-use Rattle.tcc_program.specs.Program.{Need, Nothing, Loads, Stores, Changes, Prints, Ends, Halts, Traps, Program}
-use Rattle.tcc_program.specs.Ram.{word_of}
-use Rattle.tcc_maps.specs.Words.{line_of}
-use Rattle.tcc_maps.specs.Shape.{Shape, set_of}
-use Rattle.tcc_maps.specs.Cache.{Cache, free_way}
+use Rattle.std.proofs.Common.{◌≡◌, ℕ, false, Option, Some, None, is_some, refl, ap, ◌∙◌}
+use Rattle.tcc_maps.specs.Shape.{Shape}
+use Rattle.tcc_maps.specs.Cache.{Cache}
 use Rattle.tcc_maps.specs.CacheChange.{committed, words_dropped}
-use Rattle.tcc_maps.specs.Spilled.{holds, none_spilled}
+use Rattle.tcc_maps.specs.Spilled.{none_spilled}
 use Rattle.tcc_maps.proofs.Lemmas.{committed-keeps, words_dropped-keeps, read-committed, modified-committed, held-committed, held-words_dropped}
-use Rattle.tcc_rules.specs.State.{CoreState, Awaited, Phase, Running, AwaitTid, DoomedTid, Probing, Ready, Overflowing, Solo, Halted}
-use Rattle.tcc_rules.specs.Sends.{nothing, flushed}
-use Rattle.tcc_rules.specs.Attempt.{Out, moves, is_solo, is_running, finished, new_word}
+use Rattle.tcc_rules.specs.State.{CoreState, Awaited}
+use Rattle.tcc_rules.specs.Attempt.{is_solo}
 use Rattle.tcc_rules.specs.Commit.{committed_core, commit, solo_commit}
-use Rattle.tcc_rules.specs.Execute.{place, full_set, used, load_valid, load_spilled, load, buffered, framed, word_store, also_read, change_valid, change_spilled, partial_store, close, store, execute_need, execute}
-use Rattle.tcc_rules.specs.CoreExec.{unless_awaiting, exec_phase, core_exec}
-use Rattle.tcc_attempt.specs.Sound.{AwaitsHeld, is_idle, SoundCore}
-use Rattle.tcc_attempt.proofs.Sound.{finished-sound, holds-none, valid-held, MayAct, OutSound, used-sound, buffered-sound, framed-sound, fetch-sound, full_set-sound, place-sound, place-held}
+use Rattle.tcc_attempt.specs.Sound.{AwaitsHeld, SoundCore}
 
 committed-awaits : (t : ℕ) (c : Cache) (o : Option Awaited) → AwaitsHeld c o → AwaitsHeld (committed t c) o
 committed-awaits t c None h = tt
@@ -48,4 +38,3 @@ solo_commit-sound sh id t s k = record {
   apart = λ v w i j. absurd (cc);
   unmarked = λ i w. (read-committed t (words_dropped s.spilled s.cache) w, modified-committed t (words_dropped s.spilled s.cache) w);
 }
-

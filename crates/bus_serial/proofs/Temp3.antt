@@ -27,4 +27,3 @@ kept_in_frames sh c k f = record {
     read : (x : ℕ) → c.read x ≡ true → (b : Bool) → c.held (line_of x) ≡ b → WordInMemory sh x
     read x e true q = f (line_of x) q
     read x e false q = absurd (let n = k.unread x q in cc)
-

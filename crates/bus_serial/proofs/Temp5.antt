@@ -10,7 +10,7 @@ use Rattle.tcc_maps.specs.Shape.{Shape, set_of}
 use Rattle.tcc_maps.specs.Cache.{Cache, free_way, way_marked, all_marked, is_marked}
 use Rattle.tcc_maps.specs.Spilled.{holds}
 use Rattle.tcc_maps.proofs.Lemmas.{LowestIs, lowest-is}
-use Rattle.tcc_rules.specs.State.{CoreState, Awaited, Phase, Running, Solo, World}
+use Rattle.tcc_rules.specs.State.{CoreState, Awaited, Phase, Running, Solo}
 use Rattle.tcc_rules.specs.Attempt.{is_solo}
 use Rattle.tcc_rules.specs.CoreEvict.{core_evict}
 use Rattle.tcc_rules.specs.CoreExec.{unless_awaiting, exec_phase, core_exec}
@@ -180,4 +180,3 @@ emptied sh l s r n a v = go (is_solo s.phase) refl
         let m : all_marked sh s.cache x ≡ false = (let q = v.loose in grind (arith, nat_tests)) in
         let w = unmarked-way (λ y. way_marked s.cache (s.cache.at x y)) sh.ways m in
         record { way = w.0; below = w.1; evicts = evicts sh x w.0 s a (taken-way sh s.cache x w.0 v.full (w.1)) (inr (w.2)) }
-

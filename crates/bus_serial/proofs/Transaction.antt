@@ -1,20 +1,20 @@
 -- A commit is a transaction of the plain machine.
-use Rattle.std.specs.Prelude.{ℕ, ◌+◌, ◌≡◌, ◌<◌, ◌^◌, Bool, true, false, ◌==◌, List, [], ◌∷◌, ◌++◌, map, Option, Some, None, is_some, IsSomeAnd, unwrap_or, nat_lt, if◌then◌else◌}
-use Rattle.std.proofs.Common.{arith, refl, ap, sym, subst, ◌∙◌}
+use Rattle.std.specs.Prelude.{ℕ, ◌≡◌, ◌<◌, Bool, true, false, List, [], ◌∷◌, ◌++◌, map, Option, Some, None, is_some, IsSomeAnd, unwrap_or, if◌then◌else◌}
+use Rattle.std.proofs.Common.{arith, refl, ap, sym, ◌∙◌}
 use Rattle.std.proofs.lemmas.Bool.Decides.{nat_tests}
 use Rattle.tcc_base.specs.declared.access.Commit.{Commit as Noted}
 use Rattle.tcc_base.specs.declared.access.CoreEnd.{CoreEnd}
-use Rattle.tcc_base.specs.declared.access.CoreEnd.TheVariants.{Run, Halt, Trap}
+use Rattle.tcc_base.specs.declared.access.CoreEnd.TheVariants.{Run}
 use Rattle.tcc_maps.specs.Cache.{IsCache}
 use Rattle.tcc_maps.specs.Shape.{Shape}
-use Rattle.tcc_maps.specs.Words.{put, or_else}
+use Rattle.tcc_maps.specs.Words.{or_else}
 use Rattle.tcc_program.specs.Orders.{order_of_commit, last_tid}
-use Rattle.tcc_program.specs.Plain.{Attempt, Outcome, Goes, Ended, Halted as HaltedWith, Trapped as TrappedWith, Plain, PlainCore, begun, steps, closed, end_of, close, close_if, if_runs, transaction, Order, commit_of, serial}
+use Rattle.tcc_program.specs.Plain.{Attempt, Outcome, Goes, Ended, Halted as HaltedWith, Trapped as TrappedWith, Plain, begun, steps, closed, end_of, transaction, commit_of}
 use Rattle.tcc_program.specs.Program.{Local, Program}
 use Rattle.tcc_program.proofs.Lemmas.{serial-snoc, last_tid-snoc}
 use Rattle.tcc_rules.specs.Commit.{noted, phase_after, ended_after}
 use Rattle.tcc_rules.specs.State.{CoreState}
-use Rattle.tcc_attempt.specs.Follows.{IsSmall, Reaches, HasEnded, sees}
+use Rattle.tcc_attempt.specs.Follows.{Reaches, HasEnded, sees}
 use Rattle.tcc_serial.specs.Commits.{CommitsSerial, plain_start, end_after}
 use Rattle.bus_rules.specs.Commit.{written, with_words}
 

@@ -10,7 +10,7 @@ use Rattle.tcc_rules.specs.State.{CoreState, Phase, Running, AwaitTid, Solo, Hal
 use Rattle.tcc_attempt.specs.Sound.{SoundCore}
 use Rattle.tcc_serial.specs.InMemory.{WordInMemory, StaysInMemory}
 use Rattle.tcc_bounds.specs.Bounds.{AttemptCounted, CommitCounted, CacheInMemory}
-use Rattle.bus_rules.specs.State.{Bus, Alone, Packet, BusWorld, BusEvent, bus_start}
+use Rattle.bus_rules.specs.State.{Alone, Packet, BusEvent, bus_start}
 use Rattle.bus_rules.specs.Step.{BusHistory, bus_run}
 use Rattle.bus_serial.specs.Given.{AfterBusRun}
 
