@@ -13,7 +13,7 @@ use Rattle.bus_rules.specs.State.{Bus, BusWorld, BusEvent, bus_start}
 use Rattle.bus_rules.specs.Step.{BusHistory, bus_run}
 use Rattle.bus_serial.specs.Bounds.{is_of_bus, BusCoreInBounds, PacketInBounds, IsBusBounded, BusRunsAreBounded, RiscvBusRunsAreBounded}
 use Rattle.bus_serial.specs.Laws.{AreNumbered}
-use Rattle.bus_serial.proofs.Did.{NeedIn}
+use Rattle.bus_serial.proofs.Did.{LineSet, NeedIn}
 use Rattle.bus_serial.proofs.Numbered.{Numbered, happened-numbered}
 use Rattle.bus_serial.proofs.Ordered.{StaysIn, PacketFits, PhaseFits, Ordered, happened-ordered, start-ordered}
 use Rattle.bus_serial.proofs.Runs.{EventsKeep, run-keeps}
@@ -33,24 +33,25 @@ stays-in sh p m l = go (p.need l) (m l)
     go _ k = tt
 
 -- all of it
-pub record InOrder (sh : Shape) (M : ℕ → Type 0) (n : ℕ) (h : BusHistory) : Type 0 where
+pub record InOrder (sh : Shape) (M : LineSet) (n : ℕ) (h : BusHistory) : Type 0 where
   pub world : Ordered sh M n h.world
   pub commits : Numbered sh n h.world.next h.commits
 
-pub events-in-order : (sh : Shape) (M : ℕ → Type 0) (p : Program) → StaysIn sh M p → EventsKeep sh p (InOrder sh M)
+pub events-in-order : (sh : Shape) (M : LineSet) (p : Program) → StaysIn sh M p → EventsKeep sh p (InOrder sh M)
 events-in-order sh M p m n h r d k = record {
   world = happened-ordered sh M p n h.world r m k.world d;
   commits = happened-numbered sh M p n h.world r h.commits k.world k.commits d;
 }
 
-pub start-in-order : (sh : Shape) (M : ℕ → Type 0) (entries : ℕ → Local) (ram : ℕ → ℕ) → InOrder sh M 0 (record { world = bus_start entries ram; commits = [] })
+pub start-in-order : (sh : Shape) (M : LineSet) (entries : ℕ → Local) (ram : ℕ → ℕ)
+    → InOrder sh M 0 (record { world = bus_start entries ram; commits = [] })
 unfolding AreNumbered AreBy bus_start
 start-in-order sh M entries ram = record {
   world = start-ordered sh M entries ram;
   commits = record { next = refl; number = omega arith; counted = λ x c. absurd (omega (arith, c.1)); tids = tt; by = tt };
 }
 
-pub runs-in-order : (sh : Shape) (M : ℕ → Type 0) (p : Program) (entries : ℕ → Local) (ram : ℕ → ℕ) (es : List BusEvent) → StaysIn sh M p
+pub runs-in-order : (sh : Shape) (M : LineSet) (p : Program) (entries : ℕ → Local) (ram : ℕ → ℕ) (es : List BusEvent) → StaysIn sh M p
     → IfSome (bus_run sh p (bus_start entries ram) es) (InOrder sh M (length es))
 runs-in-order sh M p entries ram es m =
     run-keeps sh p (InOrder sh M) (bus_start entries ram) es (events-in-order sh M p m) (start-in-order sh M entries ram)
@@ -89,7 +90,8 @@ bounded sh n h k = record {
 }
 
 pub bus_runs_are_bounded : BusRunsAreBounded
-bus_runs_are_bounded sh p entries ram es m = go (bus_run sh p (bus_start entries ram) es) (runs-in-order sh (in_memory sh) p entries ram es (stays-in sh p m))
+bus_runs_are_bounded sh p entries ram es m =
+    go (bus_run sh p (bus_start entries ram) es) (runs-in-order sh (in_memory sh) p entries ram es (stays-in sh p m))
   where
     go : (o : Option BusHistory) → IfSome o (InOrder sh (in_memory sh) (length es)) → IfSome o (IsBusBounded sh (length es))
     go None k = tt

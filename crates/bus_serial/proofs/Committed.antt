@@ -7,11 +7,11 @@ use Rattle.tcc_maps.specs.Shape.{Shape}
 use Rattle.tcc_maps.specs.Words.{line_of, or_else}
 use Rattle.tcc_program.specs.Program.{Need, Program}
 use Rattle.tcc_attempt.proofs.Sound.{finished-sound, valid-held}
-use Rattle.bus_serial.proofs.Did.{did-nothing, finished-did, finished-awaits}
+use Rattle.bus_serial.proofs.Did.{LineSet, did-nothing, finished-did, finished-awaits}
 use Rattle.tcc_maps.specs.Spilled.{none_spilled}
 use Rattle.tcc_rules.specs.Attempt.{is_solo, finished}
 use Rattle.tcc_rules.specs.Commit.{phase_after, ended_after, committed_core, commit, solo_commit, noted}
-use Rattle.tcc_rules.specs.State.{CoreState}
+use Rattle.tcc_rules.specs.State.{CoreState, Awaited}
 use Rattle.tcc_attempt.specs.Sound.{AwaitsHeld, SoundCore}
 use Rattle.tcc_bounds.specs.Bounds.{AttemptCounted, CommitCounted}
 use Rattle.tcc_bounds.proofs.Counted.{finishes, none}
@@ -19,7 +19,8 @@ use Rattle.bus_rules.specs.Commit.{written, all_clean, commit_out}
 use Rattle.bus_serial.proofs.Fine.{Fine}
 use Rattle.bus_serial.proofs.Temp2.{commit-sound, solo_commit-sound}
 
-clean-awaits : (c : Cache) (o : Option Rattle.tcc_rules.specs.State.Awaited) → AwaitsHeld c o → AwaitsHeld (record c { dirty = λ w. None }) o
+clean-awaits : (c : Cache) (o : Option Awaited) → AwaitsHeld c o
+    → AwaitsHeld (record c { dirty = λ w. None }) o
 clean-awaits c None h = tt
 clean-awaits c (Some a) h = h
 
@@ -43,7 +44,7 @@ clean-sound sh s k = record {
   unmarked = k.unmarked;
 }
 
-commit-fine : (sh : Shape) (M : ℕ → Type 0) (n m c t : ℕ) (s : CoreState) → is_solo s.phase ≡ false → Fine sh M n s
+commit-fine : (sh : Shape) (M : LineSet) (n m c t : ℕ) (s : CoreState) → is_solo s.phase ≡ false → Fine sh M n s
     → Fine sh M m (all_clean (commit sh c t s).core)
 unfolding all_clean commit committed_core committed
 commit-fine sh M n m c t s e k = record {
@@ -55,7 +56,8 @@ commit-fine sh M n m c t s e k = record {
   spilled = k.spilled;
 }
 
-solo_commit-fine : (sh : Shape) (M : ℕ → Type 0) (n m c t : ℕ) (s : CoreState) → Fine sh M n s → Fine sh M m (all_clean (solo_commit sh c t s).core)
+solo_commit-fine : (sh : Shape) (M : LineSet) (n m c t : ℕ) (s : CoreState) → Fine sh M n s
+    → Fine sh M m (all_clean (solo_commit sh c t s).core)
 unfolding all_clean solo_commit committed_core committed words_dropped none_spilled
 solo_commit-fine sh M n m c t s k = record {
   awaited = k.awaited;
@@ -67,7 +69,7 @@ solo_commit-fine sh M n m c t s k = record {
 }
 
 -- a commit leaves an empty attempt, whatever the count
-pub out-fine : (sh : Shape) (M : ℕ → Type 0) (n m c t : ℕ) (s : CoreState) → Fine sh M n s → Fine sh M m (all_clean (commit_out sh c t s).core)
+pub out-fine : (sh : Shape) (M : LineSet) (n m c t : ℕ) (s : CoreState) → Fine sh M n s → Fine sh M m (all_clean (commit_out sh c t s).core)
 out-fine sh M n m c t s k = go (is_solo s.phase) refl
   where
     go : (b : Bool) → is_solo s.phase ≡ b → Fine sh M m (all_clean (if b then solo_commit sh c t s else commit sh c t s).core)
@@ -109,7 +111,7 @@ unfolding noted
 noted-counted n t c s k = k
 
 -- an instruction that ends the transaction
-pub finished-fine : (sh : Shape) (M : ℕ → Type 0) (n : ℕ) (p : Program) (need : Need) (x : ℕ) (s : CoreState) → Fine sh M n s
+pub finished-fine : (sh : Shape) (M : LineSet) (n : ℕ) (p : Program) (need : Need) (x : ℕ) (s : CoreState) → Fine sh M n s
     → Fine sh M (n + 1) (finished p need x s)
 finished-fine sh M n p need x s k =
     let d = finished-did M p need x s s (did-nothing M s) in
@@ -131,7 +133,8 @@ finished-fine sh M n p need x s k =
     spilled v (inr h) = h
 
 -- a word that is written lies in memory
-pub written-inside : (sh : Shape) (M : ℕ → Type 0) (n : ℕ) (s : CoreState) → Fine sh M n s → (x : ℕ) → is_some (written s x) ≡ true → M (line_of x)
+pub written-inside : (sh : Shape) (M : LineSet) (n : ℕ) (s : CoreState) → Fine sh M n s → (x : ℕ) → is_some (written s x) ≡ true
+    → M (line_of x)
 unfolding written
 written-inside sh M n s k x = go (s.spilled x) refl (s.cache.modified x) (s.cache.value x) refl
   where

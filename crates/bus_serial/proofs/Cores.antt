@@ -89,7 +89,8 @@ pub ends-committing : (sh : Shape) (p : Program) (need : Need) (ram : ℕ → �
     → Committing sh ram (finished p need 0 s)
 ends-committing sh p need ram s k = record {
   replied = λ d e. k.replied d (rw (finished-same p need 0 s).owing at e);
-  coherent = did-coherent (in_memory sh) ram none_gone s (finished p need 0 s) (finished-did (in_memory sh) p need 0 s s (did-nothing (in_memory sh) s)) k.coherent;
+  coherent = did-coherent (in_memory sh) ram none_gone s (finished p need 0 s)
+      (finished-did (in_memory sh) p need 0 s s (did-nothing (in_memory sh) s)) k.coherent;
 }
 
 -- a packet is taken
@@ -143,7 +144,8 @@ pub alone-free : (sh : Shape) (n : ℕ) (w : BusWorld) (c t : ℕ) → c < sh.co
     → w.bus ≡ Alone c
 alone-free sh n w c t l k e = (rw e at (k.phases c l)).0
 
-pub happened-followed : (sh : Shape) (p : Program) (n : ℕ) (w : BusWorld) (r : BusStepped) → Fits p → StaysIn sh (in_memory sh) p → Ordered sh (in_memory sh) n w
+pub happened-followed : (sh : Shape) (p : Program) (n : ℕ) (w : BusWorld) (r : BusStepped) → Fits p → StaysIn sh (in_memory sh) p
+    → Ordered sh (in_memory sh) n w
     → Followed sh p w → Happened sh p w r → Followed sh p r.world
 happened-followed sh p n w r f m o k (Instructs c t l x d q e) =
     let h = if-at (instruction sh p w.ram c (w.cores c)) t (λ u. Follow sh p w.ram (pending w.bus c) u.core) d
@@ -158,7 +160,8 @@ happened-followed sh p n w r f m o k (TakesBus c t l x d q b e) =
 happened-followed sh p n w r f m o k (EndsAlone c t need l q i g e) =
     let b = alone-free sh n w c t l o q in
     let h = committing sh p w c (w.cores c) (inr b) (rw q refl) (k c l) in
-    rw e (commit-followed sh (n + 1) p w c (finished p need 0 (w.cores c)) (inr b) (finished-fine sh (in_memory sh) n p need 0 (w.cores c) (o.cores c l))
+    rw e (commit-followed sh (n + 1) p w c (finished p need 0 (w.cores c)) (inr b)
+    (finished-fine sh (in_memory sh) n p need 0 (w.cores c) (o.cores c l))
     (ends-committing sh p need w.ram (w.cores c) h) k)
 happened-followed sh p n w r f m o k (Commits c l q b e) =
     rw e (commit-followed sh n p w c (w.cores c) (inl b) (o.cores c l) (committing sh p w c (w.cores c) (inl b) (rw q refl) (k c l)) k)

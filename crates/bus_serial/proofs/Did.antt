@@ -1,5 +1,6 @@
 -- What an instruction leaves of its core beside the attempt: values and marks in the cache, frames, spilled words, and the phase.
-use Rattle.std.specs.Prelude.{ℕ, ◌+◌, ◌≡◌, Bool, true, false, not, ◌==◌, ◌&&◌, ◌||◌, ◌⊎◌, Option, Some, None, is_some, IfSome, if◌then◌else◌}
+use Rattle.std.specs.Prelude.{ℕ, ◌+◌, ◌≡◌, Bool, true, false, not, ◌==◌, ◌&&◌, ◌||◌, ◌⊎◌, Option, Some, None, is_some, IfSome}
+use Rattle.std.specs.Prelude.{if◌then◌else◌}
 use Rattle.std.proofs.Common.{arith, refl, inl, inr}
 use Rattle.std.proofs.lemmas.Bool.Decides.{nat_tests}
 use Rattle.tcc_base.specs.declared.access.Size.TheVariants.{Byte, Half, Word}
@@ -12,15 +13,20 @@ use Rattle.tcc_maps.specs.CacheChange.{marked, stored, placed, placed_at}
 use Rattle.tcc_maps.specs.Spilled.{holds}
 use Rattle.tcc_rules.specs.State.{CoreState, Awaited, Phase, Running, AwaitTid, Overflowing, Solo}
 use Rattle.tcc_rules.specs.Attempt.{Out, moves, is_solo, is_running, new_word, finished, stepped}
-use Rattle.tcc_rules.specs.Execute.{ask, place, overflow, full_set, fetch, used, load_valid, load_spilled, load, buffered, framed, word_store, also_read, change_valid, change_spilled, partial_store, close, execute_need, execute}
+use Rattle.tcc_rules.specs.Execute.{ask, place, overflow, full_set, fetch, used, load_valid, load_spilled, load, buffered, framed}
+use Rattle.tcc_rules.specs.Execute.{word_store, also_read, change_valid, change_spilled, partial_store, close, execute_need, execute}
 use Rattle.tcc_rules.specs.CoreExec.{unless_awaiting, exec_phase, core_exec}
 use Rattle.tcc_rules.specs.Sends.{Sends, nothing, flushed}
 use Rattle.tcc_bounds.specs.Bounds.{AttemptCounted}
 use Rattle.tcc_bounds.proofs.Counted.{weak, finishes, marked_read}
 
+-- a set of lines
+abbrev pub LineSet : Type 1
+LineSet = ℕ → Type 0
+
 -- from one state of a core to another: no word but a modified one gets another value or loses its mark, no word becomes dirty, and new
 -- frames and newly spilled words are of lines in a set
-pub record Did (M : ℕ → Type 0) (s t : CoreState) : Type 0 where
+pub record Did (M : LineSet) (s t : CoreState) : Type 0 where
   pub stays : (v : ℕ) → t.cache.modified v ≡ false → s.cache.modified v ≡ false
   pub value : (v : ℕ) → t.cache.modified v ≡ false → t.cache.value v ≡ s.cache.value v
   pub clean : (v : ℕ) → s.cache.dirty v ≡ None → t.cache.dirty v ≡ None
@@ -28,7 +34,7 @@ pub record Did (M : ℕ → Type 0) (s t : CoreState) : Type 0 where
   pub spilled : (v : ℕ) → is_some (t.spilled v) ≡ true → (is_some (s.spilled v) ≡ true) ⊎ M (line_of v)
   pub saved : t.saved ≡ s.saved
 
-pub did-nothing : (M : ℕ → Type 0) (s : CoreState) → Did M s s
+pub did-nothing : (M : LineSet) (s : CoreState) → Did M s s
 did-nothing M s = record {
   stays = λ v e. e;
   value = λ v e. refl;
@@ -46,14 +52,14 @@ pub data How (w : ℕ) (s t : CoreState) : Type 0 where
   Asked : (cache : Cache) → (missing : s.cache.value w ≡ None)
       → (is : t ≡ record s { cache = cache; awaited = Some (record { line = line_of w; stale = false }) }) → How w s t
 
-pub record Executed (M : ℕ → Type 0) (w : ℕ) (s : CoreState) (o : Out) : Type 0 where
+pub record Executed (M : LineSet) (w : ℕ) (s : CoreState) (o : Out) : Type 0 where
   pub did : Did M s o.core
   pub how : How w s o.core
   pub quiet : o.commit ≡ None
   pub attempt : (n : ℕ) → AttemptCounted n s → AttemptCounted (n + 1) o.core
 
 -- the lines that an instruction accesses are in a set
-abbrev pub NeedIn : (M : ℕ → Type 0) → (base : ℕ) → Need → Type 0
+abbrev pub NeedIn : (M : LineSet) → (base : ℕ) → Need → Type 0
 NeedIn M base (Loads addr size) = M (line_of (word_of base addr))
 NeedIn M base (Stores addr size value) = M (line_of (word_of base addr))
 NeedIn M base (Changes addr changed) = M (line_of (word_of base addr))
@@ -68,7 +74,7 @@ wanted base _ = 0
 
 -- an instruction's end
 
-pub finished-did : (M : ℕ → Type 0) (p : Program) (need : Need) (x : ℕ) (s t : CoreState) → Did M s t → Did M s (finished p need x t)
+pub finished-did : (M : LineSet) (p : Program) (need : Need) (x : ℕ) (s t : CoreState) → Did M s t → Did M s (finished p need x t)
 unfolding finished stepped
 finished-did M p Nothing x s t d =
     record { stays = d.stays; value = d.value; clean = d.clean; frames = d.frames; spilled = d.spilled; saved = d.saved }
@@ -81,7 +87,7 @@ unfolding finished stepped
 finished-how p Nothing x w s t e a = Ran e a
 finished-how p _ x w s t e a = Ran e a
 
-ends : (M : ℕ → Type 0) (p : Program) (need : Need) (x w : ℕ) (s t : CoreState) (sends : Sends) → Did M s t → t.phase ≡ s.phase
+ends : (M : LineSet) (p : Program) (need : Need) (x w : ℕ) (s t : CoreState) (sends : Sends) → Did M s t → t.phase ≡ s.phase
     → t.awaited ≡ s.awaited → ((n : ℕ) → AttemptCounted n s → AttemptCounted n t)
     → Executed M w s (moves (finished p need x t) sends)
 ends M p need x w s t sends d e a g = record {
@@ -93,7 +99,7 @@ ends M p need x w s t sends d e a g = record {
 
 -- what changes in a core before that
 
-used-did : (M : ℕ → Type 0) (w : ℕ) (s : CoreState) → Did M s (used w s)
+used-did : (M : LineSet) (w : ℕ) (s : CoreState) → Did M s (used w s)
 unfolding used marked
 used-did M w s = go (is_running s.phase)
   where
@@ -117,7 +123,7 @@ used-phase w s = go (is_running s.phase)
     go true = (refl, refl)
     go false = (refl, refl)
 
-buffered-did : (M : ℕ → Type 0) (w x : ℕ) (s : CoreState) → M (line_of w) → Did M s (buffered w x s)
+buffered-did : (M : LineSet) (w x : ℕ) (s : CoreState) → M (line_of w) → Did M s (buffered w x s)
 unfolding buffered
 buffered-did M w x s m = record {
   stays = λ v e. e;
@@ -133,7 +139,7 @@ buffered-did M w x s m = record {
     go v true q e = let i : v ≡ w = grind (arith, nat_tests) in inr (rw i m)
     go v false q e = inl e
 
-framed-did : (M : ℕ → Type 0) (w x : ℕ) (also : Bool) (s t : CoreState) → Did M s t → Did M s (framed w x also t)
+framed-did : (M : LineSet) (w x : ℕ) (also : Bool) (s t : CoreState) → Did M s t → Did M s (framed w x also t)
 unfolding framed stored
 framed-did M w x also s t d = record {
   stays = λ v e. d.stays v (other v (v == w) e);
@@ -158,7 +164,7 @@ framed-did M w x also s t d = record {
     wiped v true e = refl
     wiped v false e = e
 
-place-did : (sh : Shape) (M : ℕ → Type 0) (l : ℕ) (s : CoreState) → M l → Did M s (place sh l s)
+place-did : (sh : Shape) (M : LineSet) (l : ℕ) (s : CoreState) → M l → Did M s (place sh l s)
 unfolding place placed placed_at
 place-did sh M l s m = go (free_way sh s.cache (set_of sh l))
   where
@@ -186,7 +192,7 @@ place-did sh M l s m = go (free_way sh s.cache (set_of sh l))
 
 -- asking for a line, or for the bus
 
-asked : (sh : Shape) (M : ℕ → Type 0) (w : ℕ) (s : CoreState) (c : Cache) → s.cache.value w ≡ None → Did M s (record s { cache = c })
+asked : (sh : Shape) (M : LineSet) (w : ℕ) (s : CoreState) (c : Cache) → s.cache.value w ≡ None → Did M s (record s { cache = c })
     → Executed M w s (ask sh (line_of w) (record s { cache = c }))
 unfolding ask
 asked sh M w s c n d = record {
@@ -196,7 +202,7 @@ asked sh M w s c n d = record {
   attempt = λ n k. weak n s.n s.loads s.stores s.console k;
 }
 
-full : (sh : Shape) (M : ℕ → Type 0) (l w : ℕ) (s : CoreState) → IfSome (full_set sh l s) (Executed M w s)
+full : (sh : Shape) (M : LineSet) (l w : ℕ) (s : CoreState) → IfSome (full_set sh l s) (Executed M w s)
 unfolding full_set overflow
 full sh M l w s = go (is_solo s.phase) refl (not (all_marked sh s.cache (set_of sh l)))
   where
@@ -217,7 +223,7 @@ full sh M l w s = go (is_solo s.phase) refl (not (all_marked sh s.cache (set_of 
       attempt = λ n k. weak n s.n s.loads s.stores s.console k;
     }
 
-fetches : (sh : Shape) (M : ℕ → Type 0) (w : ℕ) (s : CoreState) → M (line_of w) → s.cache.value w ≡ None
+fetches : (sh : Shape) (M : LineSet) (w : ℕ) (s : CoreState) → M (line_of w) → s.cache.value w ≡ None
     → IfSome (fetch sh (line_of w) s) (Executed M w s)
 unfolding fetch place
 fetches sh M w s m n = go (s.cache.held (line_of w)) (is_some (free_way sh s.cache (set_of sh (line_of w))))
@@ -231,31 +237,33 @@ fetches sh M w s m n = go (s.cache.held (line_of w)) (is_some (free_way sh s.cac
 
 -- by what the instruction needs
 
-loads : (sh : Shape) (M : ℕ → Type 0) (p : Program) (need : Need) (w : ℕ) (s : CoreState) → M (line_of w)
+loads : (sh : Shape) (M : LineSet) (p : Program) (need : Need) (w : ℕ) (s : CoreState) → M (line_of w)
     → IfSome (load sh p need w s) (Executed M w s)
 unfolding load
 loads sh M p need w s m = go (s.spilled w)
   where
     valid : (o : Option ℕ) → s.cache.value w ≡ o → IfSome (load_valid sh p need w s o) (Executed M w s)
-    valid (Some x) e = let q = used-phase w s in ends M p need x w s (used w s) nothing (used-did M w s) q.0 q.1 (λ n k. marked_read n w s k)
+    valid (Some x) e =
+        let q = used-phase w s in ends M p need x w s (used w s) nothing (used-did M w s) q.0 q.1 (λ n k. marked_read n w s k)
     valid None e = fetches sh M w s m e
 
     go : (o : Option ℕ) → IfSome (load_spilled sh p need w s o) (Executed M w s)
     go (Some x) = ends M p need x w s s nothing (did-nothing M s) refl refl (λ n k. k)
     go None = valid (s.cache.value w) refl
 
-buffers : (sh : Shape) (M : ℕ → Type 0) (p : Program) (need : Need) (w x y : ℕ) (s : CoreState) → M (line_of w)
+buffers : (sh : Shape) (M : LineSet) (p : Program) (need : Need) (w x y : ℕ) (s : CoreState) → M (line_of w)
     → Executed M w s (moves (finished p need y (buffered w x s)) nothing)
 unfolding buffered
 buffers sh M p need w x y s m = ends M p need y w s (buffered w x s) nothing (buffered-did M w x s m) refl refl (λ n k. k)
 
-frames : (sh : Shape) (M : ℕ → Type 0) (p : Program) (need : Need) (w x y : ℕ) (also : Bool) (s : CoreState) (c : Cache) (sends : Sends)
+frames : (sh : Shape) (M : LineSet) (p : Program) (need : Need) (w x y : ℕ) (also : Bool) (s : CoreState) (c : Cache) (sends : Sends)
     → Did M s (record s { cache = c }) → Executed M w s (moves (finished p need y (framed w x also (record s { cache = c }))) sends)
 unfolding framed
 frames sh M p need w x y also s c sends d =
-    ends M p need y w s (framed w x also (record s { cache = c })) sends (framed-did M w x also s (record s { cache = c }) d) refl refl (λ n k. k)
+    let t = record s { cache = c } in
+    ends M p need y w s (framed w x also t) sends (framed-did M w x also s t d) refl refl (λ n k. k)
 
-partly : (sh : Shape) (M : ℕ → Type 0) (p : Program) (need : Need) (w : ℕ) (s : CoreState) → M (line_of w)
+partly : (sh : Shape) (M : LineSet) (p : Program) (need : Need) (w : ℕ) (s : CoreState) → M (line_of w)
     → IfSome (partial_store sh p need w s) (Executed M w s)
 unfolding partial_store
 partly sh M p need w s m = go (s.spilled w)
@@ -275,7 +283,7 @@ partly sh M p need w s m = go (s.spilled w)
     go (Some x) = buffers sh M p need w (new_word need x) x s m
     go None = valid (s.cache.value w) refl
 
-wholly : (sh : Shape) (M : ℕ → Type 0) (p : Program) (need : Need) (w x : ℕ) (s : CoreState) → M (line_of w)
+wholly : (sh : Shape) (M : LineSet) (p : Program) (need : Need) (w x : ℕ) (s : CoreState) → M (line_of w)
     → IfSome (word_store sh p need w x s) (Executed M w s)
 unfolding word_store place
 wholly sh M p need w x s m = go (holds s.spilled (line_of w)) (s.cache.held (line_of w))
@@ -303,7 +311,7 @@ unfolding finished stepped
 finished-awaits p Nothing x s = refl
 finished-awaits p _ x s = refl
 
-closes : (sh : Shape) (M : ℕ → Type 0) (p : Program) (id w : ℕ) (need : Need) (s : CoreState) (q : Phase) → s.phase ≡ q → q ≡ Running
+closes : (sh : Shape) (M : LineSet) (p : Program) (id w : ℕ) (need : Need) (s : CoreState) (q : Phase) → s.phase ≡ q → q ≡ Running
     → Executed M w s (close sh id q (finished p need 0 s))
 closes sh M p id w need s Running e r =
     let d = finished-did M p need 0 s s (did-nothing M s) in
@@ -315,7 +323,7 @@ closes sh M p id w need s Running e r =
     }
 closes sh M p id w need s q e r = absurd (cc)
 
-needs : (sh : Shape) (M : ℕ → Type 0) (p : Program) (id : ℕ) (s : CoreState) (need : Need) → NeedIn M sh.base need
+needs : (sh : Shape) (M : LineSet) (p : Program) (id : ℕ) (s : CoreState) (need : Need) → NeedIn M sh.base need
     → (s.phase ≡ Running) ⊎ (goes need ≡ true) → IfSome (execute_need sh p id s need) (Executed M (wanted sh.base need) s)
 needs sh M p id s Nothing m g = ends M p Nothing 0 0 s s nothing (did-nothing M s) refl refl (λ n k. k)
 needs sh M p id s (Prints byte) m g = ends M p (Prints byte) 0 0 s s nothing (did-nothing M s) refl refl (λ n k. k)
@@ -330,7 +338,7 @@ needs sh M p id s (Traps code) m (inl e) = closes sh M p id 0 (Traps code) s s.p
 needs sh M p id s need m (inr e) = absurd (cc)
 
 -- an instruction of a core that runs, or of one that is alone and doesn't end its transaction
-pub exec-executed : (sh : Shape) (M : ℕ → Type 0) (p : Program) (id : ℕ) (s : CoreState) → NeedIn M sh.base (p.need s.local) → s.awaited ≡ None
+pub exec-executed : (sh : Shape) (M : LineSet) (p : Program) (id : ℕ) (s : CoreState) → NeedIn M sh.base (p.need s.local) → s.awaited ≡ None
     → (s.phase ≡ Running) ⊎ ((is_solo s.phase && goes (p.need s.local)) ≡ true)
     → IfSome (core_exec sh p id s) (Executed M (wanted sh.base (p.need s.local)) s)
 unfolding core_exec execute

@@ -1,6 +1,7 @@
 -- What a cache has of memory: each valid word that isn't modified has memory's value, unless it is of a packet that is still to be taken.
 -- A line that is filled from memory keeps this.
-use Rattle.std.specs.Prelude.{ℕ, zero, suc, ◌≡◌, ◌<◌, Bool, true, false, ◌==◌, List, get_or, Option, Some, None, is_some, unwrap_or, if◌then◌else◌}
+use Rattle.std.specs.Prelude.{ℕ, zero, suc, ◌≡◌, ◌<◌, Bool, true, false, ◌==◌, List, get_or, Option, Some, None, is_some, unwrap_or}
+use Rattle.std.specs.Prelude.{if◌then◌else◌}
 use Rattle.std.proofs.Common.{arith, refl, sym, ap, ◌∙◌}
 use Rattle.std.proofs.lemmas.Bool.Decides.{nat_tests}
 use Rattle.tcc_maps.specs.Cache.{Cache}
@@ -12,13 +13,13 @@ use Rattle.tcc_rules.specs.CoreDeliver.{ignored, fill}
 use Rattle.tcc_rules.specs.Sends.{nothing}
 use Rattle.tcc_rules.specs.State.{CoreState}
 use Rattle.bus_rules.specs.Exec.{line_words}
-use Rattle.bus_serial.proofs.Did.{Did}
+use Rattle.bus_serial.proofs.Did.{LineSet, Did}
 
 -- gone: the words of the packet
 abbrev pub Coherent : (ram : ℕ → ℕ) → (gone : ℕ → Bool) → Cache → Type 0
 Coherent ram gone c = (v : ℕ) → gone v ≡ false → c.modified v ≡ false → (x : ℕ) → c.value v ≡ Some x → ram v ≡ x
 
-pub did-coherent : (M : ℕ → Type 0) (ram : ℕ → ℕ) (gone : ℕ → Bool) (s t : CoreState) → Did M s t → Coherent ram gone s.cache
+pub did-coherent : (M : LineSet) (ram : ℕ → ℕ) (gone : ℕ → Bool) (s t : CoreState) → Did M s t → Coherent ram gone s.cache
     → Coherent ram gone t.cache
 did-coherent M ram gone s t d k v g m x e = k v g (d.stays v m) x (sym (d.value v m) ∙ e)
 

@@ -1,6 +1,7 @@
--- What holds of one core by itself between events, of a program whose accesses are to lines in a set: no line is awaited, no word is dirty, its
--- cache is consistent and of those lines, and its attempt is counted.
-use Rattle.std.specs.Prelude.{ℕ, ◌+◌, ◌≡◌, Bool, true, false, not, ◌==◌, ◌&&◌, ◌||◌, ◌⊎◌, Option, Some, None, is_some, IfSome, unwrap_or, if◌then◌else◌}
+-- What holds of one core by itself between events, of a program whose accesses are to lines in a set: no line is awaited, no word is
+-- dirty, its cache is consistent and of those lines, and its attempt is counted.
+use Rattle.std.specs.Prelude.{ℕ, ◌+◌, ◌≡◌, Bool, true, false, not, ◌==◌, ◌&&◌, ◌||◌, ◌⊎◌, Option, Some, None, is_some, IfSome}
+use Rattle.std.specs.Prelude.{unwrap_or, if◌then◌else◌}
 use Rattle.std.proofs.Common.{refl, ap, sym, inl, inr, ◌∙◌}
 use Rattle.tcc_maps.specs.Cache.{Cache, is_marked}
 use Rattle.tcc_maps.specs.CacheChange.{filled, evicted, read_cleared}
@@ -23,12 +24,12 @@ use Rattle.tcc_attempt.proofs.SoundExec.{core_exec-sound}
 use Rattle.tcc_bounds.specs.Bounds.{AttemptCounted}
 use Rattle.tcc_bounds.proofs.Counted.{weak}
 use Rattle.bus_rules.specs.Exec.{line_words, instruction, gone_alone}
-use Rattle.bus_serial.proofs.Did.{Did, How, Ran, Closed, Overflowed, Asked, NeedIn}
+use Rattle.bus_serial.proofs.Did.{LineSet, Did, How, Ran, Closed, Overflowed, Asked, NeedIn}
 use Rattle.bus_serial.proofs.Filled.{fill-is}
 use Rattle.bus_serial.proofs.Instruction.{if-at, Executes, with_words, asking, word_wanted, Once, First, instructed}
 use Rattle.bus_serial.proofs.Temp.{core_evict-sound}
 
-pub record Fine (sh : Shape) (M : ℕ → Type 0) (n : ℕ) (s : CoreState) : Type 0 where
+pub record Fine (sh : Shape) (M : LineSet) (n : ℕ) (s : CoreState) : Type 0 where
   pub awaited : s.awaited ≡ None
   pub clean : (x : ℕ) → s.cache.dirty x ≡ None
   pub sound : SoundCore sh s
@@ -37,7 +38,7 @@ pub record Fine (sh : Shape) (M : ℕ → Type 0) (n : ℕ) (s : CoreState) : Ty
   pub spilled : (x : ℕ) → is_some (s.spilled x) ≡ true → M (line_of x)
 
 -- one event later
-pub later : (sh : Shape) (M : ℕ → Type 0) (n : ℕ) (s : CoreState) → Fine sh M n s → Fine sh M (n + 1) s
+pub later : (sh : Shape) (M : LineSet) (n : ℕ) (s : CoreState) → Fine sh M n s → Fine sh M (n + 1) s
 later sh M n s k = record {
   awaited = k.awaited;
   clean = k.clean;
@@ -55,7 +56,7 @@ pub data Ways (s t : CoreState) : Type 0 where
   Closes : (runs : s.phase ≡ Running) → (phase : t.phase ≡ AwaitTid) → Ways s t
   Overflows : (solo : is_solo s.phase ≡ false) → (phase : t.phase ≡ Overflowing None) → Ways s t
 
-pub record Left (sh : Shape) (M : ℕ → Type 0) (n : ℕ) (s : CoreState) (o : Out) : Type 0 where
+pub record Left (sh : Shape) (M : LineSet) (n : ℕ) (s : CoreState) (o : Out) : Type 0 where
   pub fine : Fine sh M (n + 1) o.core
   pub ways : Ways s o.core
   pub quiet : o.commit ≡ None
@@ -67,7 +68,8 @@ ways-of w s t n (Closed r e a) = Closes r e
 ways-of w s t n (Overflowed q e) = Overflows q (ap (λ (t : CoreState). t.phase) e)
 ways-of w s t n (Asked c m e) = absurd (let i = ap (λ (t : CoreState). t.awaited) e in cc)
 
-once-left : (sh : Shape) (M : ℕ → Type 0) (n : ℕ) (p : Program) (c : ℕ) (s : CoreState) (o : Out) → NeedIn M sh.base (p.need s.local) → Fine sh M n s
+once-left : (sh : Shape) (M : LineSet) (n : ℕ) (p : Program) (c : ℕ) (s : CoreState) (o : Out) → NeedIn M sh.base (p.need s.local)
+    → Fine sh M n s
     → Once sh M p c s o → Left sh M n s o
 once-left sh M n p c s o m k e = record {
   fine = record {
@@ -95,15 +97,18 @@ once-left sh M n p c s o m k e = record {
 filled-sound : (sh : Shape) (l : ℕ) (ram : ℕ → ℕ) (s : CoreState) (c : Cache) → SoundCore sh (asking l s c)
     → SoundCore sh (with_words ram l s c)
 unfolding core_deliver
-filled-sound sh l ram s c k = rw (fill-is l (line_words ram l) s c) at (core_deliver-sound sh (asking l s c) (Dir 0) (Fill l (line_words ram l)) k)
+filled-sound sh l ram s c k =
+    rw (fill-is l (line_words ram l) s c) at (core_deliver-sound sh (asking l s c) (Dir 0) (Fill l (line_words ram l)) k)
 
-pub first-sound : (sh : Shape) (M : ℕ → Type 0) (n : ℕ) (p : Program) (c : ℕ) (s : CoreState) (d : Cache) (o : Out) → Fine sh M n s → First sh M p c s d o
+pub first-sound : (sh : Shape) (M : LineSet) (n : ℕ) (p : Program) (c : ℕ) (s : CoreState) (d : Cache) (o : Out) → Fine sh M n s
+    → First sh M p c s d o
     → SoundCore sh (asking (line_of (word_wanted sh p s)) s d)
 first-sound sh M n p c s d o k f =
     rw f.asks at (if-at (core_exec sh p c s) o (λ o. SoundCore sh o.core) f.is (core_exec-sound sh p c s k.sound))
 
 -- a core with the line that it asked for
-pub filled-fine : (sh : Shape) (M : ℕ → Type 0) (n : ℕ) (p : Program) (ram : ℕ → ℕ) (c : ℕ) (s : CoreState) (d : Cache) (o : Out) → Fine sh M n s
+pub filled-fine : (sh : Shape) (M : LineSet) (n : ℕ) (p : Program) (ram : ℕ → ℕ) (c : ℕ) (s : CoreState) (d : Cache) (o : Out)
+    → Fine sh M n s
     → First sh M p c s d o → Fine sh M n (with_words ram (line_of (word_wanted sh p s)) s d)
 unfolding filled
 filled-fine sh M n p ram c s d o k f = record {
@@ -125,7 +130,8 @@ filled-fine sh M n p ram c s d o k f = record {
     held j (inl h) = k.frames j h
     held j (inr h) = h
 
-pub instruction-left : (sh : Shape) (M : ℕ → Type 0) (n : ℕ) (p : Program) (ram : ℕ → ℕ) (c : ℕ) (s : CoreState) → NeedIn M sh.base (p.need s.local)
+pub instruction-left : (sh : Shape) (M : LineSet) (n : ℕ) (p : Program) (ram : ℕ → ℕ) (c : ℕ) (s : CoreState)
+    → NeedIn M sh.base (p.need s.local)
     → Fine sh M n s → Executes p s → IfSome (instruction sh p ram c s) (Left sh M n s)
 instruction-left sh M n p ram c s m k x = instructed sh M p ram c s (Left sh M n s) m k.awaited x
     (λ o e. once-left sh M n p c s o m k e)
@@ -141,7 +147,7 @@ instruction-left sh M n p ram c s m k x = instructed sh M p ram c s (Left sh M n
 
 -- Evict
 
-evict_line-fine : (sh : Shape) (M : ℕ → Type 0) (n x y : ℕ) (s : CoreState) (o : Option ℕ) → s.cache.at x y ≡ o → Fine sh M n s
+evict_line-fine : (sh : Shape) (M : LineSet) (n x y : ℕ) (s : CoreState) (o : Option ℕ) → s.cache.at x y ≡ o → Fine sh M n s
     → IfSome (evict_line sh x y s o) (λ t. SoundCore sh t.core) → IfSome (evict_line sh x y s o) (Left sh M n s)
 unfolding spill_line
 evict_line-fine sh M n x y s None e k q = tt
@@ -162,7 +168,8 @@ evict_line-fine sh M n x y s (Some l) e k q = go (is_awaited s.awaited l || (is_
     valid v None r h = absurd (cc)
     valid v (Some z) r h = k.frames (line_of v) (valid-held sh s.cache v z k.sound.cache r)
 
-    spilt : (v : ℕ) (b m : Bool) → s.cache.modified v ≡ m → is_some (if b && m then Some (unwrap_or (s.cache.value v) 0) else s.spilled v) ≡ true
+    spilt : (v : ℕ) (b m : Bool) → s.cache.modified v ≡ m
+        → is_some (if b && m then Some (unwrap_or (s.cache.value v) 0) else s.spilled v) ≡ true
         → M (line_of v)
     spilt v true true r h = valid v (s.cache.value v) refl (k.sound.cache.modified v r)
     spilt v true false r h = k.spilled v h
@@ -185,7 +192,7 @@ evict_line-fine sh M n x y s (Some l) e k q = go (is_awaited s.awaited l || (is_
       saved = refl;
     }
 
-pub evict-left : (sh : Shape) (M : ℕ → Type 0) (n x y : ℕ) (s : CoreState) → Fine sh M n s → IfSome (core_evict sh x y s) (Left sh M n s)
+pub evict-left : (sh : Shape) (M : LineSet) (n x y : ℕ) (s : CoreState) → Fine sh M n s → IfSome (core_evict sh x y s) (Left sh M n s)
 unfolding core_evict
 evict-left sh M n x y s k = evict_line-fine sh M n x y s (s.cache.at x y) refl k (core_evict-sound sh x y s k.sound)
 
@@ -205,7 +212,7 @@ unfolding core_evict
 evict-phase sh x y s = evict_line-phase sh x y s (s.cache.at x y)
 
 -- the core has the bus
-pub alone-fine : (sh : Shape) (M : ℕ → Type 0) (n t : ℕ) (s : CoreState) → Fine sh M n s → Fine sh M n (gone_alone t s)
+pub alone-fine : (sh : Shape) (M : LineSet) (n t : ℕ) (s : CoreState) → Fine sh M n s → Fine sh M n (gone_alone t s)
 unfolding gone_alone read_cleared
 alone-fine sh M n t s k = record {
   awaited = k.awaited;

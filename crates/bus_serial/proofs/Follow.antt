@@ -155,7 +155,8 @@ instruction-follow sh n p ram gone c s f m k x h = instructed sh (in_memory sh) 
     (λ o e. once-follow sh n p ram gone c s o f k e h)
     (λ d o r e g.
     let u = with_words ram (line_of (word_wanted sh p s)) s d in
-    once-follow sh n p ram gone c u r f (filled-fine sh (in_memory sh) n p ram c s d o k e) g (first-follow sh n p ram gone c s d o f k e h))
+    once-follow sh n p ram gone c u r f (filled-fine sh (in_memory sh) n p ram c s d o k e) g
+    (first-follow sh n p ram gone c s d o f k e h))
 
 -- the core has the bus
 pub alone-follow : (sh : Shape) (p : Program) (ram : ℕ → ℕ) (gone : ℕ → Bool) (t : ℕ) (s : CoreState) → s.phase ≡ Overflowing None
@@ -184,7 +185,8 @@ alone-follow sh p ram gone t s e h = record {
 
 evicted-coherent : (ram : ℕ → ℕ) (gone : ℕ → Bool) (x y l : ℕ) (c : Cache) → c.at x y ≡ Some l → Coherent ram gone c
     → Coherent ram gone (evicted x y c)
-evicted-coherent ram gone x y l c e k v g m z i = go (l == line_of v) (sym (modified-evicted x y c v l e) ∙ m) (sym (value-evicted x y c v l e) ∙ i)
+evicted-coherent ram gone x y l c e k v g m z i =
+    go (l == line_of v) (sym (modified-evicted x y c v l e) ∙ m) (sym (value-evicted x y c v l e) ∙ i)
   where
     go : (b : Bool) → (if b then false else c.modified v) ≡ false → (if b then None else c.value v) ≡ Some z → ram v ≡ z
     go true m i = absurd (cc)

@@ -1,6 +1,7 @@
 -- A commit: memory takes what the attempt wrote, the core has memory's values after it, and every other core has them but for the words of
 -- the packet.
-use Rattle.std.specs.Prelude.{ℕ, ◌≡◌, ◌<◌, ◌%◌, Bool, true, false, ◌==◌, ◌&&◌, ◌||◌, [], Option, Some, None, is_some, unwrap_or, nat_lt, if◌then◌else◌}
+use Rattle.std.specs.Prelude.{ℕ, ◌≡◌, ◌<◌, ◌%◌, Bool, true, false, ◌==◌, ◌&&◌, ◌||◌, [], Option, Some, None, is_some, unwrap_or, nat_lt}
+use Rattle.std.specs.Prelude.{if◌then◌else◌}
 use Rattle.std.proofs.Common.{arith, refl, ap, ◌∙◌}
 use Rattle.std.proofs.lemmas.Bool.Decides.{nat_tests}
 use Rattle.tcc_maps.specs.Cache.{Cache, is_modified}
@@ -108,7 +109,8 @@ out-marks n c t sh s k o =
     stand d (HaltedWith code) = tt
     stand d (TrappedWith code) = tt
 
-pub out-follow : (n c t : ℕ) (sh : Shape) (p : Program) (ram : ℕ → ℕ) (s : CoreState) → Fine sh (in_memory sh) n s → ((d : ℕ) → s.owing d ≡ true → ⊥)
+pub out-follow : (n c t : ℕ) (sh : Shape) (p : Program) (ram : ℕ → ℕ) (s : CoreState) → Fine sh (in_memory sh) n s → ((d : ℕ)
+    → s.owing d ≡ true → ⊥)
     → Coherent ram none_gone s.cache → Follow sh p (with_words (written s) ram) none_gone (all_clean (commit_out sh c t s).core)
 out-follow n c t sh p ram s k o h = record {
   uses = [];
@@ -119,7 +121,8 @@ out-follow n c t sh p ram s k o h = record {
 
 -- every other core
 
-written-some : (sh : Shape) (n : ℕ) (s : CoreState) (v : ℕ) → Fine sh (in_memory sh) n s → is_some (written s v) ≡ true → wrote_some sh s ≡ true
+written-some : (sh : Shape) (n : ℕ) (s : CoreState) (v : ℕ) → Fine sh (in_memory sh) n s → is_some (written s v) ≡ true
+    → wrote_some sh s ≡ true
 unfolding wrote_some is_written is_modified holds any_word written
 written-some sh n s v k e =
     any_below-at (λ l. is_modified s.cache l || holds s.spilled l) (lines sh) (line_of v) (written-inside sh (in_memory sh) n s k v e)
@@ -142,7 +145,8 @@ written-some sh n s v k e =
     go None a false b q = absurd (cc)
 
 -- a word that isn't pending for another core has its value still
-pub others-keep : (sh : Shape) (n c i : ℕ) (ram : ℕ → ℕ) (s : CoreState) → Fine sh (in_memory sh) n s → i < sh.cores → (i == c) ≡ false → (v : ℕ)
+pub others-keep : (sh : Shape) (n c i : ℕ) (ram : ℕ → ℕ) (s : CoreState) → Fine sh (in_memory sh) n s → i < sh.cores
+    → (i == c) ≡ false → (v : ℕ)
     → pending (packet sh c s) i v ≡ false → with_words (written s) ram v ≡ ram v
 unfolding with_words
 others-keep sh n c i ram s k l q v e = go (written s v) refl (wrote_some sh s) refl (any_below (others sh c) sh.cores) refl e
@@ -153,7 +157,11 @@ others-keep sh n c i ram s k l q v e = go (written s v) refl (wrote_some sh s) r
     go : (o : Option ℕ) → written s v ≡ o → (a : Bool) → wrote_some sh s ≡ a → (b : Bool) → any_below (others sh c) sh.cores ≡ b
         → pending (if a && b then Packet (written s) (others sh c) else Free) i v ≡ false → unwrap_or o (ram v) ≡ ram v
     go None x a y b z e = refl
-    go (Some u) x true y true z e = absurd (let h = here in let w = ap is_some x in let j : (others sh c i && is_some (written s v)) ≡ false = e in grind (arith, nat_tests))
+    go (Some u) x true y true z e = absurd (
+        let h = here in
+        let w = ap is_some x in
+        let j : (others sh c i && is_some (written s v)) ≡ false = e in
+        grind (arith, nat_tests))
     go (Some u) x false y b z e = absurd (let w = written-some sh n s v k (ap is_some x) in cc)
     go (Some u) x true y false z e = absurd (let w = any_below-at (others sh c) sh.cores i l here in cc)
 

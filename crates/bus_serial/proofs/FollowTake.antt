@@ -147,7 +147,8 @@ halted-follow sh n p f ram s e k h = record {
 
 -- an attempt begins anew
 rolled-follow : (sh : Shape) (n : ℕ) (p : Program) (f : ℕ → Option ℕ) (ram : ℕ → ℕ) (s : CoreState) → is_solo s.phase ≡ false
-    → Fine sh (in_memory sh) n s → Follow sh p ram (in_packet f) s → Follow sh p ram none_gone (dropped f (record (roll_back s) { phase = Running }))
+    → Fine sh (in_memory sh) n s → Follow sh p ram (in_packet f) s
+    → Follow sh p ram none_gone (dropped f (record (roll_back s) { phase = Running }))
 unfolding dropped roll_back rolled_back
 rolled-follow sh n p f ram s e k h = record {
   uses = [];

@@ -19,7 +19,8 @@ use Rattle.tcc_serial.specs.Commits.{plain_start as protocol_plain}
 use Rattle.tcc_serial.specs.NotedBy.{is_core, AreByCores}
 use Rattle.tcc_serial.specs.Shown.{shown_core}
 use Rattle.bus_rules.specs.Step.{BusHistory, bus_run}
-use Rattle.bus_serial.specs.Given.{bus_at_start, bus_committed, BusSerial, BusRunsGiveThePlainMachine, BusTidsCount, RiscvBusNeverStuck, RiscvBusPickedEndsDone}
+use Rattle.bus_serial.specs.Given.{bus_at_start, bus_committed, BusSerial, BusRunsGiveThePlainMachine, BusTidsCount, RiscvBusNeverStuck}
+use Rattle.bus_serial.specs.Given.{RiscvBusPickedEndsDone}
 use Rattle.bus_serial.specs.Laws.{HasCaches, AreNumbered, BusIsSerial}
 use Rattle.bus_serial.proofs.Live.{bus_never_stuck}
 use Rattle.bus_serial.proofs.Picked.{bus_picked_ends_done}

@@ -11,7 +11,7 @@ use Rattle.tcc_rules.specs.Attempt.{Out, is_solo}
 use Rattle.tcc_rules.specs.CoreExec.{core_exec}
 use Rattle.tcc_rules.specs.State.{CoreState, Awaited, Running}
 use Rattle.bus_rules.specs.Exec.{line_words, with_line, if_executed, instruction}
-use Rattle.bus_serial.proofs.Did.{How, Ran, Closed, Overflowed, Asked, Executed, NeedIn, wanted, goes, exec-executed}
+use Rattle.bus_serial.proofs.Did.{LineSet, How, Ran, Closed, Overflowed, Asked, Executed, NeedIn, wanted, goes, exec-executed}
 use Rattle.bus_serial.proofs.Filled.{filled-valid, fill-is}
 
 pub if-at : {A : Type 0} (x : Option A) (y : A) (P : A → Type 0) → x ≡ Some y → IfSome x P → P y
@@ -33,13 +33,13 @@ abbrev pub word_wanted : Shape → Program → CoreState → ℕ
 word_wanted sh p s = wanted sh.base (p.need s.local)
 
 -- what one execution does
-pub record Once (sh : Shape) (M : ℕ → Type 0) (p : Program) (c : ℕ) (s : CoreState) (o : Out) : Type 0 where
+pub record Once (sh : Shape) (M : LineSet) (p : Program) (c : ℕ) (s : CoreState) (o : Out) : Type 0 where
   pub is : core_exec sh p c s ≡ Some o
   pub executed : Executed M (word_wanted sh p s) s o
   pub none : o.core.awaited ≡ None
 
 -- the first one asks
-pub record First (sh : Shape) (M : ℕ → Type 0) (p : Program) (c : ℕ) (s : CoreState) (cache : Cache) (o : Out) : Type 0 where
+pub record First (sh : Shape) (M : LineSet) (p : Program) (c : ℕ) (s : CoreState) (cache : Cache) (o : Out) : Type 0 where
   pub is : core_exec sh p c s ≡ Some o
   pub executed : Executed M (word_wanted sh p s) s o
   pub asks : o.core ≡ asking (line_of (word_wanted sh p s)) s cache
@@ -55,7 +55,7 @@ not-again sh p ram s c o (Asked d m e) = absurd (
     cc)
 
 -- to show Q of what an instruction leaves
-pub instructed : (sh : Shape) (M : ℕ → Type 0) (p : Program) (ram : ℕ → ℕ) (c : ℕ) (s : CoreState) (Q : Out → Type 0)
+pub instructed : (sh : Shape) (M : LineSet) (p : Program) (ram : ℕ → ℕ) (c : ℕ) (s : CoreState) (Q : Out → Type 0)
     → NeedIn M sh.base (p.need s.local) → s.awaited ≡ None → Executes p s
     → ((o : Out) → Once sh M p c s o → Q o)
     → ((d : Cache) (o r : Out) → First sh M p c s d o → Once sh M p c (with_words ram (line_of (word_wanted sh p s)) s d) r → Q r)

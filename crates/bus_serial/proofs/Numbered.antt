@@ -21,6 +21,7 @@ use Rattle.bus_serial.specs.Laws.{AreNumbered}
 use Rattle.bus_serial.proofs.Committed.{out-noted, noted-counted, finished-fine}
 use Rattle.bus_serial.proofs.Events.{Happened, Instructs, TakesBus, EndsAlone, Commits, Evicts, Takes}
 use Rattle.bus_serial.proofs.Ordered.{Ordered}
+use Rattle.bus_serial.proofs.Did.{LineSet}
 
 -- after so many events, where t is the next TID
 pub record Numbered (sh : Shape) (n t : ℕ) (cs : List Noted) : Type 0 where
@@ -73,7 +74,8 @@ commit-numbered : (sh : Shape) (n : ℕ) (w : BusWorld) (c : ℕ) (s : CoreState
 unfolding bus_commit
 commit-numbered sh n w c s cs l a k = rw (out-noted sh c w.next s) (pushed sh n w.next c s cs l (noted-counted (n + 1) w.next c s a) k)
 
-pub happened-numbered : (sh : Shape) (M : ℕ → Type 0) (p : Program) (n : ℕ) (w : BusWorld) (r : BusStepped) (cs : List Noted) → Ordered sh M n w
+pub happened-numbered : (sh : Shape) (M : LineSet) (p : Program) (n : ℕ) (w : BusWorld) (r : BusStepped) (cs : List Noted)
+    → Ordered sh M n w
     → Numbered sh n w.next cs → Happened sh p w r → Numbered sh (n + 1) r.world.next (and_noted r.noted cs)
 happened-numbered sh M p n w r cs o k (Instructs c t l x d q e) = rw e (silent sh n w.next cs k)
 happened-numbered sh M p n w r cs o k (TakesBus c t l x d q b e) = rw e (silent sh n w.next cs k)

@@ -17,7 +17,7 @@ use Rattle.bus_rules.specs.Commit.{BusStepped, written, wrote_some, others, pack
 use Rattle.bus_rules.specs.Exec.{instruction, gone_alone, moved}
 use Rattle.bus_rules.specs.State.{Bus, Free, Alone, Packet, BusWorld, bus_start}
 use Rattle.bus_rules.specs.Take.{reads_some, dropped, taken, bus_left}
-use Rattle.bus_serial.proofs.Did.{NeedIn}
+use Rattle.bus_serial.proofs.Did.{LineSet, NeedIn}
 use Rattle.bus_serial.proofs.Committed.{out-fine, out-phase, finished-fine, written-inside}
 use Rattle.bus_serial.proofs.Events.{overflows, alone_by, taken_by, Happened, Instructs, TakesBus, EndsAlone, Commits, Evicts, Takes}
 use Rattle.bus_serial.proofs.Fine.{Fine, later, Ways, Stays, Closes, Overflows, Left, instruction-left, evict-left, evict-phase, alone-fine}
@@ -25,11 +25,11 @@ use Rattle.bus_serial.proofs.Instruction.{if-at}
 use Rattle.bus_serial.proofs.Taken.{again, taken-fine}
 
 -- a program whose accesses are to these lines
-abbrev pub StaysIn : Shape → (M : ℕ → Type 0) → Program → Type 0
+abbrev pub StaysIn : Shape → (M : LineSet) → Program → Type 0
 StaysIn sh M p = (l : Local) → NeedIn M sh.base (p.need l)
 
 -- a packet of words of these lines, which a core is still to take
-pub record PacketFits (sh : Shape) (M : ℕ → Type 0) (f : ℕ → Option ℕ) (left : ℕ → Bool) : Type 0 where
+pub record PacketFits (sh : Shape) (M : LineSet) (f : ℕ → Option ℕ) (left : ℕ → Bool) : Type 0 where
   pub some : any_below left sh.cores ≡ true
   pub cores : (c : ℕ) → left c ≡ true → c < sh.cores
   pub inside : (x : ℕ) → is_some (f x) ≡ true → M (line_of x)
@@ -42,13 +42,13 @@ PhaseFits n b c (Solo t) = (b ≡ Alone c) × (t ≡ n)
 PhaseFits n b c Halted = Unit {0}
 PhaseFits n b c _ = ⊥
 
-abbrev pub BusFits : Shape → (M : ℕ → Type 0) → (ℕ → CoreState) → (next : ℕ) → Bus → Type 0
+abbrev pub BusFits : Shape → (M : LineSet) → (ℕ → CoreState) → (next : ℕ) → Bus → Type 0
 BusFits sh M cores n Free = Unit {0}
 BusFits sh M cores n (Alone c) = (c < sh.cores) × ((cores c).phase ≡ Solo n)
 BusFits sh M cores n (Packet f left) = PacketFits sh M f left
 
 -- after so many events
-pub record Ordered (sh : Shape) (M : ℕ → Type 0) (n : ℕ) (w : BusWorld) : Type 0 where
+pub record Ordered (sh : Shape) (M : LineSet) (n : ℕ) (w : BusWorld) : Type 0 where
   pub cores : (c : ℕ) → c < sh.cores → Fine sh M n (w.cores c)
   pub phases : (c : ℕ) → c < sh.cores → PhaseFits w.next w.bus c (w.cores c).phase
   pub bus : BusFits sh M w.cores w.next w.bus
@@ -93,7 +93,8 @@ goes-ways s t q (Stays e) = inl e
 goes-ways s t q (Closes r e) = inr (r, e)
 goes-ways s t q (Overflows n e) = absurd (let i : overflows t.phase ≡ true = rw e refl in cc)
 
-moved-ordered : (sh : Shape) (M : ℕ → Type 0) (n : ℕ) (w : BusWorld) (c : ℕ) (t : CoreState) → c < sh.cores → Ordered sh M n w → Fine sh M (n + 1) t
+moved-ordered : (sh : Shape) (M : LineSet) (n : ℕ) (w : BusWorld) (c : ℕ) (t : CoreState) → c < sh.cores → Ordered sh M n w
+    → Fine sh M (n + 1) t
     → GoesOn (w.cores c) t → Ordered sh M (n + 1) (moved w c t).world
 moved-ordered sh M n w c t l k f g = record {
   cores = put-all (λ i s. Fine sh M (n + 1) s) sh w.cores c t (λ i j e. later sh M n (w.cores i) (k.cores i j)) f;
@@ -112,11 +113,15 @@ moved-ordered sh M n w c t l k f g = record {
       where
         at : (b : Bool) → (d == c) ≡ b → GoesOn (w.cores c) t → (if b then t else w.cores d).phase ≡ Solo w.next
         at true e (inl q) = let i : d ≡ c = grind (arith, nat_tests) in q ∙ (rw i at (h.1))
-        at true e (inr q) = absurd (let i : d ≡ c = grind (arith, nat_tests) in let j : (w.cores c).phase ≡ Solo w.next = rw i at (h.1) in let m = q.0 in cc)
+        at true e (inr q) = absurd (
+            let i : d ≡ c = grind (arith, nat_tests) in
+            let j : (w.cores c).phase ≡ Solo w.next = rw i at (h.1) in
+            let m = q.0 in
+            cc)
         at false e g = h.1
 
 -- a core gets the bus
-alone-ordered : (sh : Shape) (M : ℕ → Type 0) (n : ℕ) (w : BusWorld) (c : ℕ) (t : CoreState) → c < sh.cores → w.bus ≡ Free → Ordered sh M n w
+alone-ordered : (sh : Shape) (M : LineSet) (n : ℕ) (w : BusWorld) (c : ℕ) (t : CoreState) → c < sh.cores → w.bus ≡ Free → Ordered sh M n w
     → Fine sh M (n + 1) t → Ordered sh M (n + 1) (alone_by w c t).world
 unfolding gone_alone
 alone-ordered sh M n w c t l b k f = record {
@@ -139,7 +144,8 @@ after-fits n b c Ended = tt
 after-fits n b c (HaltedWith code) = tt
 after-fits n b c (TrappedWith code) = tt
 
-packet-fits : (sh : Shape) (M : ℕ → Type 0) (n m c : ℕ) (s : CoreState) (cores : ℕ → CoreState) → Fine sh M n s → BusFits sh M cores m (packet sh c s)
+packet-fits : (sh : Shape) (M : LineSet) (n m c : ℕ) (s : CoreState) (cores : ℕ → CoreState) → Fine sh M n s
+    → BusFits sh M cores m (packet sh c s)
 packet-fits sh M n m c s cores k = go (wrote_some sh s) (any_below (others sh c) sh.cores) refl
   where
     go : (a b : Bool) → any_below (others sh c) sh.cores ≡ b
@@ -152,7 +158,7 @@ packet-fits sh M n m c s cores k = go (wrote_some sh s) (any_below (others sh c)
     go true false e = tt
     go false b e = tt
 
-commit-ordered : (sh : Shape) (M : ℕ → Type 0) (n m : ℕ) (w : BusWorld) (c : ℕ) (s : CoreState) → (w.bus ≡ Free) ⊎ (w.bus ≡ Alone c)
+commit-ordered : (sh : Shape) (M : LineSet) (n m : ℕ) (w : BusWorld) (c : ℕ) (s : CoreState) → (w.bus ≡ Free) ⊎ (w.bus ≡ Alone c)
     → Ordered sh M n w → Fine sh M m s → Ordered sh M (n + 1) (bus_commit sh w c s).world
 unfolding bus_commit
 commit-ordered sh M n m w c s b k f = record {
@@ -172,7 +178,7 @@ commit-ordered sh M n m w c s b k f = record {
 
 -- a packet is taken
 
-left-fits : (sh : Shape) (M : ℕ → Type 0) (n c : ℕ) (cores : ℕ → CoreState) (f : ℕ → Option ℕ) (left : ℕ → Bool) → PacketFits sh M f left
+left-fits : (sh : Shape) (M : LineSet) (n c : ℕ) (cores : ℕ → CoreState) (f : ℕ → Option ℕ) (left : ℕ → Bool) → PacketFits sh M f left
     → BusFits sh M cores n (bus_left sh f (put left c false))
 left-fits sh M n c cores f left k = go (any_below (put left c false) sh.cores) refl
   where
@@ -194,7 +200,7 @@ taken-phase sh f s n m b d c q k = go (reads_some sh f s.cache)
     go true = tt
     go false = fits-any n m b d c s.phase q k
 
-taken-ordered : (sh : Shape) (M : ℕ → Type 0) (n : ℕ) (w : BusWorld) (c : ℕ) (f : ℕ → Option ℕ) (left : ℕ → Bool) → c < sh.cores
+taken-ordered : (sh : Shape) (M : LineSet) (n : ℕ) (w : BusWorld) (c : ℕ) (f : ℕ → Option ℕ) (left : ℕ → Bool) → c < sh.cores
     → w.bus ≡ Packet f left → Ordered sh M n w → Ordered sh M (n + 1) (taken_by sh w c f left).world
 taken-ordered sh M n w c f left l b k = record {
   cores = put-all (λ i s. Fine sh M (n + 1) s) sh w.cores c (taken sh f (w.cores c)) (λ i j e. later sh M n (w.cores i) (k.cores i j))
@@ -214,11 +220,11 @@ taken-ordered sh M n w c f left l b k = record {
 
 -- each event
 
-alone-bus : (sh : Shape) (M : ℕ → Type 0) (n : ℕ) (w : BusWorld) (c t : ℕ) → c < sh.cores → Ordered sh M n w → (w.cores c).phase ≡ Solo t
+alone-bus : (sh : Shape) (M : LineSet) (n : ℕ) (w : BusWorld) (c t : ℕ) → c < sh.cores → Ordered sh M n w → (w.cores c).phase ≡ Solo t
     → (w.bus ≡ Alone c) × (t ≡ w.next)
 alone-bus sh M n w c t l k e = (rw e at (k.phases c l))
 
-pub happened-ordered : (sh : Shape) (M : ℕ → Type 0) (p : Program) (n : ℕ) (w : BusWorld) (r : BusStepped) → StaysIn sh M p → Ordered sh M n w
+pub happened-ordered : (sh : Shape) (M : LineSet) (p : Program) (n : ℕ) (w : BusWorld) (r : BusStepped) → StaysIn sh M p → Ordered sh M n w
     → Happened sh p w r → Ordered sh M (n + 1) r.world
 happened-ordered sh M p n w r m k (Instructs c o l x d q e) =
     let f = if-at (instruction sh p w.ram c (w.cores c)) o (Left sh M n (w.cores c)) d
@@ -238,7 +244,7 @@ happened-ordered sh M p n w r m k (Evicts c x y o l d e) =
     rw e (moved-ordered sh M n w c o.core l k f.fine (inl q))
 happened-ordered sh M p n w r m k (Takes c f left l b h e) = rw e (taken-ordered sh M n w c f left l b k)
 
-pub start-ordered : (sh : Shape) (M : ℕ → Type 0) (entries : ℕ → Local) (ram : ℕ → ℕ) → Ordered sh M 0 (bus_start entries ram)
+pub start-ordered : (sh : Shape) (M : LineSet) (entries : ℕ → Local) (ram : ℕ → ℕ) → Ordered sh M 0 (bus_start entries ram)
 unfolding bus_start core_start Rattle.tcc_maps.specs.Cache.empty_cache Rattle.tcc_maps.specs.Spilled.none_spilled
 start-ordered sh M entries ram = record {
   cores = λ c l. record {

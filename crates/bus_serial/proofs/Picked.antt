@@ -1,5 +1,6 @@
 -- A picked schedule is a run, and a chooser stops early only where no event is useful.
-use Rattle.std.specs.Prelude.{ℕ, zero, suc, ◌≡◌, ◌<◌, ◌%◌, Bool, true, false, List, [], ◌∷◌, length, filter, slice_index_or, Option, Some, None, is_some, IfSome, if◌then◌else◌}
+use Rattle.std.specs.Prelude.{ℕ, zero, suc, ◌≡◌, ◌<◌, ◌%◌, Bool, true, false, List, [], ◌∷◌, length, filter, slice_index_or, Option}
+use Rattle.std.specs.Prelude.{Some, None, is_some, IfSome, if◌then◌else◌}
 use Rattle.std.proofs.Common.{arith, refl}
 use Rattle.tcc_maps.specs.Shape.{Shape}
 use Rattle.tcc_program.specs.Program.{Program}

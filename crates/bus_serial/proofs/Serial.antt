@@ -1,6 +1,7 @@
 -- Every state that a run reaches is what a serial execution gives: a commit happens where no packet is on the bus, so memory has all words
 -- that its attempt used, and the attempt is a transaction of the plain machine.
-use Rattle.std.specs.Prelude.{ℕ, ◌≡◌, ◌<◌, ◌^◌, Bool, true, false, ◌==◌, List, [], ◌∷◌, ◌++◌, map, length, Option, Some, None, IfSome, if◌then◌else◌}
+use Rattle.std.specs.Prelude.{ℕ, ◌≡◌, ◌<◌, ◌^◌, Bool, true, false, ◌==◌, List, [], ◌∷◌, ◌++◌, map, length, Option, Some, None, IfSome}
+use Rattle.std.specs.Prelude.{if◌then◌else◌}
 use Rattle.std.proofs.Common.{arith, refl, ap, sym, subst, append-nil, ◌∙◌, inl, inr, ◌⊎◌}
 use Rattle.std.proofs.lemmas.Bool.Decides.{nat_tests}
 use Rattle.tcc_maps.specs.Cache.{IsCache}
@@ -108,7 +109,8 @@ committed sh p entries first h c s l k r = record {
     own : CoreSerial t (record { local = d.attempt.local; ended = d.end; console = (k.plain.cores c).console ++ d.attempt.console })
     own = record {
       local = d.reaches.local ∙ sym (out-checked sh c h.world.next s).saved;
-      ended = rw (out-phase sh c h.world.next s, (out-checked sh c h.world.next s).ended) (end-is s.ended d.end (rw d.reaches.outcome at d.ends));
+      ended = rw (out-phase sh c h.world.next s, (out-checked sh c h.world.next s).ended)
+          (end-is s.ended d.end (rw d.reaches.outcome at d.ends));
     }
 
     go : (i : ℕ) (b : Bool) → (i == c) ≡ b → CoreSerial (h.world.cores i) (k.plain.cores i)
@@ -157,7 +159,8 @@ ends-claim sh p s us (Traps code) g f e o k =
 ends-claim sh p s us need g f e o k = absurd (cc)
 
 alone-ready : (sh : Shape) (n : ℕ) (p : Program) (w : BusWorld) (c t : ℕ) (need : Need) → Fits p → (w.bus ≡ Free) ⊎ (w.bus ≡ Alone c)
-    → (w.cores c).phase ≡ Solo t → p.need (w.cores c).local ≡ need → goes need ≡ false → IsSmall w.ram → Fine sh (in_memory sh) n (w.cores c)
+    → (w.cores c).phase ≡ Solo t → p.need (w.cores c).local ≡ need → goes need ≡ false → IsSmall w.ram
+    → Fine sh (in_memory sh) n (w.cores c)
     → Follow sh p w.ram (pending w.bus c) (w.cores c) → Ready sh p w c (finished p need 0 (w.cores c))
 alone-ready sh n p w c t need f b q e g m k h =
     let s = w.cores c in
@@ -174,7 +177,8 @@ alone-ready sh n p w c t need f b q e g m k h =
 -- each event
 
 happened-plainly : (sh : Shape) (p : Program) (entries : ℕ → Local) (first : ℕ → ℕ) (n : ℕ) (h : BusHistory) (r : BusStepped)
-    → Suits sh p first → Ordered sh (in_memory sh) n h.world → Followed sh p h.world → Happened sh p h.world r → Plainly sh p entries first h
+    → Suits sh p first → Ordered sh (in_memory sh) n h.world → Followed sh p h.world → Happened sh p h.world r
+    → Plainly sh p entries first h
     → Plainly sh p entries first (stepped_to h r)
 happened-plainly sh p entries first n h r z o f (Instructs c t l x d q e) k =
     let w = h.world in
@@ -220,7 +224,12 @@ start-followed sh p entries ram c l = record {
   uses = [];
   fits = record {
     follows = start-follows sh p (entries c);
-    marks = record { stand = tt; used = none-used (core_start (entries c)).cache (λ v. refl); awaits = λ e. refl; owes = λ d e. absurd (cc) };
+    marks = record {
+      stand = tt;
+      used = none-used (core_start (entries c)).cache (λ v. refl);
+      awaits = λ e. refl;
+      owes = λ d e. absurd (cc);
+    };
   };
   coherent = λ v g m x e. absurd (cc);
   agrees = tt;
@@ -240,11 +249,12 @@ start-plainly sh p entries ram m = record {
 
 pub runs-kept : (sh : Shape) (p : Program) (entries : ℕ → Local) (ram : ℕ → ℕ) (es : List BusEvent) → Suits sh p ram
     → IfSome (bus_run sh p (bus_start entries ram) es) (Kept sh p entries ram (length es))
-runs-kept sh p entries ram es z = run-keeps sh p (Kept sh p entries ram) (bus_start entries ram) es (events-keep sh p entries ram z) (record {
-  order = start-in-order sh (in_memory sh) entries ram;
-  cores = start-followed sh p entries ram;
-  plainly = start-plainly sh p entries ram z.small;
-})
+runs-kept sh p entries ram es z =
+    run-keeps sh p (Kept sh p entries ram) (bus_start entries ram) es (events-keep sh p entries ram z) (record {
+      order = start-in-order sh (in_memory sh) entries ram;
+      cores = start-followed sh p entries ram;
+      plainly = start-plainly sh p entries ram z.small;
+    })
 
 pub is-serial : (sh : Shape) (p : Program) (entries : ℕ → Local) (ram : ℕ → ℕ) (n : ℕ) (h : BusHistory) → Kept sh p entries ram n h
     → BusIsSerial sh p entries ram h

@@ -11,12 +11,13 @@ use Rattle.tcc_bounds.proofs.Counted.{rolled}
 use Rattle.bus_rules.specs.Take.{reads_some, dropped, taken}
 use Rattle.bus_serial.proofs.Fine.{Fine}
 use Rattle.bus_serial.proofs.Temp.{rolled-sound}
+use Rattle.bus_serial.proofs.Did.{LineSet}
 
 -- the attempt begins anew, where it does
 abbrev pub again : Bool → CoreState → CoreState
 again b s = if b then record (roll_back s) { phase = Running } else s
 
-dropped-fine : (sh : Shape) (M : ℕ → Type 0) (n : ℕ) (f : ℕ → Option ℕ) (s : CoreState) → Fine sh M n s → Fine sh M n (dropped f s)
+dropped-fine : (sh : Shape) (M : LineSet) (n : ℕ) (f : ℕ → Option ℕ) (s : CoreState) → Fine sh M n s → Fine sh M n (dropped f s)
 unfolding dropped
 dropped-fine sh M n f s k = record {
   awaited = k.awaited;
@@ -63,7 +64,7 @@ dropped-fine sh M n f s k = record {
     awaits (Some a) e = absurd (cc)
 
 -- a core that isn't alone begins anew
-rolled-fine : (sh : Shape) (M : ℕ → Type 0) (n : ℕ) (s : CoreState) → is_solo s.phase ≡ false → Fine sh M n s
+rolled-fine : (sh : Shape) (M : LineSet) (n : ℕ) (s : CoreState) → is_solo s.phase ≡ false → Fine sh M n s
     → Fine sh M n (record (roll_back s) { phase = Running })
 unfolding roll_back rolled_back
 rolled-fine sh M n s e k = record {
@@ -75,11 +76,12 @@ rolled-fine sh M n s e k = record {
   spilled = k.spilled;
 }
 
-again-fine : (sh : Shape) (M : ℕ → Type 0) (n : ℕ) (b : Bool) (s : CoreState) → is_solo s.phase ≡ false → Fine sh M n s → Fine sh M n (again b s)
+again-fine : (sh : Shape) (M : LineSet) (n : ℕ) (b : Bool) (s : CoreState) → is_solo s.phase ≡ false → Fine sh M n s
+    → Fine sh M n (again b s)
 again-fine sh M n true s e k = rolled-fine sh M n s e k
 again-fine sh M n false s e k = k
 
-pub taken-fine : (sh : Shape) (M : ℕ → Type 0) (n : ℕ) (f : ℕ → Option ℕ) (s : CoreState) → is_solo s.phase ≡ false → Fine sh M n s
+pub taken-fine : (sh : Shape) (M : LineSet) (n : ℕ) (f : ℕ → Option ℕ) (s : CoreState) → is_solo s.phase ≡ false → Fine sh M n s
     → Fine sh M n (taken sh f s)
 unfolding taken
 taken-fine sh M n f s e k = dropped-fine sh M n f _ (again-fine sh M n (reads_some sh f s.cache) s e k)

@@ -1,5 +1,6 @@
 -- A commit is a transaction of the plain machine.
-use Rattle.std.specs.Prelude.{ℕ, ◌≡◌, ◌<◌, Bool, true, false, List, [], ◌∷◌, ◌++◌, map, Option, Some, None, is_some, IsSomeAnd, unwrap_or, if◌then◌else◌}
+use Rattle.std.specs.Prelude.{ℕ, ◌≡◌, ◌<◌, Bool, true, false, List, [], ◌∷◌, ◌++◌, map, Option, Some, None, is_some, IsSomeAnd}
+use Rattle.std.specs.Prelude.{unwrap_or, if◌then◌else◌}
 use Rattle.std.proofs.Common.{arith, refl, ap, sym, ◌∙◌}
 use Rattle.std.proofs.lemmas.Bool.Decides.{nat_tests}
 use Rattle.tcc_base.specs.declared.access.Commit.{Commit as Noted}
@@ -9,7 +10,8 @@ use Rattle.tcc_maps.specs.Cache.{IsCache}
 use Rattle.tcc_maps.specs.Shape.{Shape}
 use Rattle.tcc_maps.specs.Words.{or_else}
 use Rattle.tcc_program.specs.Orders.{order_of_commit, last_tid}
-use Rattle.tcc_program.specs.Plain.{Attempt, Outcome, Goes, Ended, Halted as HaltedWith, Trapped as TrappedWith, Plain, begun, steps, closed, end_of, transaction, commit_of}
+use Rattle.tcc_program.specs.Plain.{Attempt, Outcome, Goes, Ended, Halted as HaltedWith, Trapped as TrappedWith, Plain, begun, steps}
+use Rattle.tcc_program.specs.Plain.{closed, end_of, transaction, commit_of}
 use Rattle.tcc_program.specs.Program.{Local, Program}
 use Rattle.tcc_program.proofs.Lemmas.{serial-snoc, last_tid-snoc}
 use Rattle.tcc_rules.specs.Commit.{noted, phase_after, ended_after}

@@ -21,7 +21,8 @@ bus_at_start s = record { world = bus_start (local_at_start s) (first_ram s); co
 abbrev pub AfterBusRun : Start → List BusEvent → (BusHistory → Type 0) → Type 0
 AfterBusRun s es P = IfSome (bus_run s.settings (program s) (bus_at_start s).world es) P
 
--- what is committed, as a plain machine: memory, and of each core the checkpoint, whether and how it has halted, and what its commits printed
+-- what is committed, as a plain machine: memory, and of each core the checkpoint, whether and how it has halted, and what its commits
+-- printed
 unfoldable pub bus_committed : Start → BusHistory → Plain
 bus_committed s h = record {
   ram = h.world.ram;

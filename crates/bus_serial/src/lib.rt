@@ -1,5 +1,5 @@
-// Runs of the machine with one bus: they are serial, and never stuck. Each law is the contract of an empty function; nothing here depends on
-// code.
+// Runs of the machine with one bus: they are serial, and never stuck. Each law is the contract of an empty function; nothing here depends
+// on code.
 #![tactic(auto)]
 
 ghost use Rattle.bus_serial.specs.Bounds.{BusRunsAreBounded, RiscvBusRunsAreBounded};
