@@ -9,6 +9,7 @@ use Rattle.tcc_program.specs.Cores.{AreBy}
 use Rattle.tcc_program.specs.Program.{Local, Need, Loads, Stores, Changes, Program}
 use Rattle.tcc_rules.specs.State.{Phase, Running, AwaitTid, Solo, Halted}
 use Rattle.tcc_serial.specs.InMemory.{NeedInMemory, StaysInMemory}
+use Rattle.tcc_bounds.proofs.Lemmas.{kept_in_frames}
 use Rattle.bus_rules.specs.State.{Bus, BusWorld, BusEvent, bus_start}
 use Rattle.bus_rules.specs.Step.{BusHistory, bus_run}
 use Rattle.bus_serial.specs.Bounds.{is_of_bus, BusCoreInBounds, PacketInBounds, IsBusBounded, BusRunsAreBounded, RiscvBusRunsAreBounded}
@@ -17,7 +18,6 @@ use Rattle.bus_serial.proofs.Did.{LineSet, NeedIn}
 use Rattle.bus_serial.proofs.Numbered.{Numbered, happened-numbered}
 use Rattle.bus_serial.proofs.Ordered.{StaysIn, PacketFits, PhaseFits, Ordered, happened-ordered, start-ordered}
 use Rattle.bus_serial.proofs.Runs.{EventsKeep, run-keeps}
-use Rattle.bus_serial.proofs.Temp3.{kept_in_frames}
 
 -- the lines of memory
 abbrev pub in_memory : Shape → ℕ → Type 0

@@ -18,7 +18,7 @@ use Rattle.tcc_rules.specs.Execute.{word_store, also_read, change_valid, change_
 use Rattle.tcc_rules.specs.CoreExec.{unless_awaiting, exec_phase, core_exec}
 use Rattle.tcc_rules.specs.Sends.{Sends, nothing, flushed}
 use Rattle.tcc_bounds.specs.Bounds.{AttemptCounted}
-use Rattle.tcc_bounds.proofs.Counted.{weak, finishes, marked_read}
+use Rattle.tcc_bounds.proofs.Lemmas.{finishes, marked_read, weak}
 
 -- a set of lines
 abbrev pub LineSet : Type 1

@@ -17,9 +17,7 @@ use Rattle.tcc_rules.specs.Commit.{phase_after, committed_core, commit, solo_com
 use Rattle.tcc_rules.specs.State.{CoreState}
 use Rattle.tcc_attempt.specs.Follows.{Follows, sees}
 use Rattle.tcc_attempt.specs.Marks.{UsesStand, MarksFit}
-use Rattle.tcc_attempt.proofs.Follows.{follows-same}
-use Rattle.tcc_attempt.proofs.FollowsExec.{commit-follows, solo_commit-follows}
-use Rattle.tcc_attempt.proofs.Marks.{none-used}
+use Rattle.tcc_attempt.proofs.Lemmas.{commit-follows, follows-same, none-used, solo_commit-follows}
 use Rattle.bus_rules.specs.Commit.{written, with_words, wrote_some, all_clean, commit_out, others, packet}
 use Rattle.bus_rules.specs.State.{Bus, Free, Alone, Packet}
 use Rattle.bus_serial.proofs.Committed.{out-phase, written-inside}

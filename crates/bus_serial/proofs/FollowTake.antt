@@ -12,15 +12,13 @@ use Rattle.tcc_rules.specs.State.{CoreState, Phase, Running, AwaitTid, Halted}
 use Rattle.tcc_attempt.specs.Follows.{Uses, FollowsIn, sees}
 use Rattle.tcc_attempt.specs.Marks.{AllStand, UsesStand}
 use Rattle.tcc_attempt.specs.Sound.{is_idle}
-use Rattle.tcc_attempt.proofs.Follows.{with_words as with_cache, follows-same}
-use Rattle.tcc_attempt.proofs.Marks.{none-used}
 use Rattle.tcc_serial.specs.InMemory.{WordInMemory}
+use Rattle.tcc_attempt.proofs.Lemmas.{follows-same, none-used, rolled-follows, with_words as with_cache}
 use Rattle.bus_rules.specs.Take.{reads_some, dropped, taken}
 use Rattle.bus_serial.proofs.Filled.{Coherent}
 use Rattle.bus_serial.proofs.Fine.{Fine}
 use Rattle.bus_serial.proofs.Follow.{AgreesBut, Follow}
 use Rattle.bus_serial.proofs.Taken.{again}
-use Rattle.bus_serial.proofs.Temp4.{rolled-follows}
 use Rattle.bus_serial.proofs.Bounded.{in_memory}
 
 -- a core that may take a packet

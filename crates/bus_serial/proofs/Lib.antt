@@ -1,8 +1,6 @@
 pub mod Did
 pub mod Filled
 pub mod Instruction
-pub mod Temp
-pub mod Temp2
 pub mod Fine
 pub mod Committed
 pub mod Taken
@@ -10,9 +8,7 @@ pub mod Events
 pub mod Ordered
 pub mod Runs
 pub mod Numbered
-pub mod Temp3
 pub mod Bounded
-pub mod Temp4
 pub mod Follow
 pub mod FollowTake
 pub mod FollowCommit
@@ -20,7 +16,6 @@ pub mod Transaction
 pub mod Shown
 pub mod Cores
 pub mod Serial
-pub mod Temp5
 pub mod Listed
 pub mod Live
 pub mod Picked

@@ -15,6 +15,7 @@ use Rattle.tcc_rules.specs.CoreExec.{core_exec}
 use Rattle.tcc_rules.specs.State.{CoreState, Awaited, Phase, Running, AwaitTid, Overflowing, Solo, Halted}
 use Rattle.tcc_rules.specs.Useful.{room_for_line, room_for_word, room_for_store, room_for_need, room_unless_awaiting, room_in_phase, room}
 use Rattle.tcc_serial.specs.OneCore.{executes}
+use Rattle.tcc_live.proofs.Lemmas.{WantsSome, emptied, exec-or}
 use Rattle.bus_rules.specs.Exec.{line_words, with_line, if_executed, instruction, executed, goes_on, exec_alone, exec_in, bus_exec}
 use Rattle.bus_rules.specs.State.{Bus, Free, Alone, Packet, BusWorld, Exec, Evict, Take, bus_start}
 use Rattle.bus_rules.specs.Step.{BusHistory, evicted, bus_names, bus_step, bus_run}
@@ -28,7 +29,6 @@ use Rattle.bus_serial.proofs.Fine.{Fine, Ways, Stays, Closes, Overflows, Left, f
 use Rattle.bus_serial.proofs.Instruction.{Executes, with_words, word_wanted, First}
 use Rattle.bus_serial.proofs.Listed.{NoneUseful, none-useful}
 use Rattle.bus_serial.proofs.Ordered.{PacketFits, PhaseFits, BusFits, Ordered}
-use Rattle.bus_serial.proofs.Temp5.{WantsSome, exec-or, emptied}
 
 -- every line
 abbrev pub any_line : ℕ → Type 0

@@ -13,7 +13,7 @@ use Rattle.tcc_rules.specs.Commit.{noted}
 use Rattle.tcc_rules.specs.State.{CoreState}
 use Rattle.tcc_serial.specs.NotedBy.{AreByCores}
 use Rattle.tcc_bounds.specs.Bounds.{AttemptCounted, CommitCounted}
-use Rattle.tcc_bounds.proofs.Counted.{weak}
+use Rattle.tcc_bounds.proofs.Lemmas.{weak}
 use Rattle.bus_rules.specs.Commit.{BusStepped, bus_commit}
 use Rattle.bus_rules.specs.State.{BusWorld}
 use Rattle.bus_rules.specs.Step.{and_noted}

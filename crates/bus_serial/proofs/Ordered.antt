@@ -11,8 +11,8 @@ use Rattle.tcc_rules.specs.Attempt.{is_solo, finished}
 use Rattle.tcc_rules.specs.Commit.{phase_after}
 use Rattle.tcc_rules.specs.CoreEvict.{core_evict}
 use Rattle.tcc_rules.specs.State.{CoreState, Phase, Running, AwaitTid, Solo, Halted, core_start}
-use Rattle.tcc_attempt.proofs.SoundDeliver.{start-sound}
-use Rattle.tcc_bounds.proofs.Counted.{none}
+use Rattle.tcc_attempt.proofs.Lemmas.{start-sound}
+use Rattle.tcc_bounds.proofs.Lemmas.{none}
 use Rattle.bus_rules.specs.Commit.{BusStepped, written, wrote_some, others, packet, bus_commit, all_clean, commit_out}
 use Rattle.bus_rules.specs.Exec.{instruction, gone_alone, moved}
 use Rattle.bus_rules.specs.State.{Bus, Free, Alone, Packet, BusWorld, bus_start}

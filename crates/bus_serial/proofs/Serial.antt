@@ -14,11 +14,9 @@ use Rattle.tcc_rules.specs.Attempt.{Out, finished}
 use Rattle.tcc_rules.specs.CoreEvict.{core_evict}
 use Rattle.tcc_rules.specs.State.{CoreState, AwaitTid, Solo, core_start}
 use Rattle.tcc_attempt.specs.Follows.{Uses, Agrees, IsSmall, NeedFits, Fits, HasEnded}
-use Rattle.tcc_attempt.proofs.Follows.{Claim, finished-claims, in-to}
-use Rattle.tcc_attempt.proofs.FollowsRun.{start-follows}
-use Rattle.tcc_attempt.proofs.Marks.{none-used}
 use Rattle.tcc_serial.specs.Aim.{Suits}
 use Rattle.tcc_serial.specs.Commits.{CommitsSerial, CoreSerial, plain_start}
+use Rattle.tcc_attempt.proofs.Lemmas.{Claim, finished-claims, in-to, none-used, start-follows}
 use Rattle.bus_rules.specs.Commit.{BusStepped, written, with_words, bus_commit, all_clean, commit_out}
 use Rattle.bus_rules.specs.Exec.{instruction, gone_alone}
 use Rattle.bus_rules.specs.State.{Bus, Free, Alone, BusWorld, BusEvent, bus_start}

@@ -7,10 +7,10 @@ use Rattle.tcc_maps.specs.Shape.{Shape}
 use Rattle.tcc_rules.specs.Attempt.{roll_back, is_solo}
 use Rattle.tcc_rules.specs.State.{CoreState, Awaited, Running}
 use Rattle.tcc_attempt.specs.Sound.{AwaitsHeld}
-use Rattle.tcc_bounds.proofs.Counted.{rolled}
+use Rattle.tcc_attempt.proofs.Lemmas.{rolled-sound}
+use Rattle.tcc_bounds.proofs.Lemmas.{rolled}
 use Rattle.bus_rules.specs.Take.{reads_some, dropped, taken}
 use Rattle.bus_serial.proofs.Fine.{Fine}
-use Rattle.bus_serial.proofs.Temp.{rolled-sound}
 use Rattle.bus_serial.proofs.Did.{LineSet}
 
 -- the attempt begins anew, where it does
