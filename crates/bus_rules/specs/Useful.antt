@@ -1,6 +1,7 @@
 -- The events that can happen and are worth choosing, in the order in which a chooser counts them, the schedule that it takes, and when the
 -- machine is done.
-use Rattle.std.specs.Prelude.{ℕ, ◌<◌, ◌≡◌, ◌%◌, Bool, true, false, List, [], ◌∷◌, ◌++◌, map, filter, length, slice_index_or, Option, Some, None, is_some, ◌&&◌}
+use Rattle.std.specs.Prelude.{ℕ, ◌<◌, ◌≡◌, ◌%◌, Bool, true, false, List, [], ◌∷◌, ◌++◌, map, filter, length, slice_index_or, Option}
+use Rattle.std.specs.Prelude.{Some, None, is_some, ◌&&◌}
 use Rattle.std.specs.List.{flat_map}
 use Rattle.tcc_maps.specs.Shape.{Shape}
 use Rattle.tcc_program.specs.Program.{Program}

@@ -149,7 +149,7 @@ unfolding without
 without-follows sh p l m s us a = follows-same sh p s us (invalidated l m s.cache) s.spilled (staled l s.awaited) s.owing (invalidated-seen l m s) a
 
 -- rolled back
-rolled-follows : (sh : Shape) (p : Program) (s : CoreState) (q : Phase) (sp : ℕ → Option ℕ) → ((w : ℕ) → sp w ≡ None) → EndFits q Goes → Follows sh p (record (roll_back s) { phase = q; spilled = sp }) []
+pub rolled-follows : (sh : Shape) (p : Program) (s : CoreState) (q : Phase) (sp : ℕ → Option ℕ) → ((w : ℕ) → sp w ≡ None) → EndFits q Goes → Follows sh p (record (roll_back s) { phase = q; spilled = sp }) []
 unfolding roll_back sees
 rolled-follows sh p s q sp f e = record {
   ends = e;

@@ -92,7 +92,7 @@ evict_line-sound sh x y s (Some l) e k = at (is_awaited s.awaited l || (is_marke
           unmarked = λ i w. let a = k.unmarked i w in (read-evicted x y s.cache w l e ∙ grind (arith, nat_tests), modified-evicted x y s.cache w l e ∙ grind (arith, nat_tests));
         }
 
-core_evict-sound : (sh : Shape) (x y : ℕ) (s : CoreState) → SoundCore sh s → OutSound sh (core_evict sh x y s)
+pub core_evict-sound : (sh : Shape) (x y : ℕ) (s : CoreState) → SoundCore sh s → OutSound sh (core_evict sh x y s)
 unfolding core_evict
 core_evict-sound sh x y s k = evict_line-sound sh x y s (s.cache.at x y) refl k
 
@@ -212,7 +212,7 @@ without-sound sh l m s k = record {
 }
 
 -- rolled back, the core may go into any phase but Solo, where it has spilled nothing
-rolled-sound : (sh : Shape) (s : CoreState) (q : Phase) (sp : ℕ → Option ℕ) → ((w : ℕ) → sp w ≡ None) → SoundCore sh s → SoundCore sh (record (roll_back s) { phase = q; spilled = sp })
+pub rolled-sound : (sh : Shape) (s : CoreState) (q : Phase) (sp : ℕ → Option ℕ) → ((w : ℕ) → sp w ≡ None) → SoundCore sh s → SoundCore sh (record (roll_back s) { phase = q; spilled = sp })
 unfolding roll_back
 rolled-sound sh s q sp f k = record {
   cache = rolled_back-keeps sh s.cache k.cache;

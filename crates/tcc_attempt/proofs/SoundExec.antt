@@ -82,7 +82,7 @@ dropped-awaits f c None h = tt
 dropped-awaits f c (Some a) h = held-words_dropped f c a.line ∙ h
 
 -- a core that isn't alone commits: it has spilled nothing
-commit-sound : (sh : Shape) (id t : ℕ) (s : CoreState) → is_solo s.phase ≡ false → SoundCore sh s → SoundCore sh (commit sh id t s).core
+pub commit-sound : (sh : Shape) (id t : ℕ) (s : CoreState) → is_solo s.phase ≡ false → SoundCore sh s → SoundCore sh (commit sh id t s).core
 unfolding commit committed_core
 commit-sound sh id t s h k = record {
   cache = committed-keeps sh t s.cache k.cache;
@@ -92,7 +92,7 @@ commit-sound sh id t s h k = record {
   unmarked = λ i w. (read-committed t s.cache w, modified-committed t s.cache w);
 }
 
-solo_commit-sound : (sh : Shape) (id t : ℕ) (s : CoreState) → SoundCore sh s → SoundCore sh (solo_commit sh id t s).core
+pub solo_commit-sound : (sh : Shape) (id t : ℕ) (s : CoreState) → SoundCore sh s → SoundCore sh (solo_commit sh id t s).core
 unfolding solo_commit committed_core none_spilled
 solo_commit-sound sh id t s k = record {
   cache = committed-keeps sh t (words_dropped s.spilled s.cache) (words_dropped-keeps sh s.spilled s.cache k.cache);

@@ -25,7 +25,7 @@ use Rattle.tcc_bounds.proofs.Steps.{Counts, each-at, runs-count}
 
 -- cores
 
-kept_in_frames : (sh : Shape) (c : Cache) → IsCache sh c → FramesInMemory sh c → CacheInMemory sh c
+pub kept_in_frames : (sh : Shape) (c : Cache) → IsCache sh c → FramesInMemory sh c → CacheInMemory sh c
 kept_in_frames sh c k f = record {
   at = λ s y l e. f l ((k.placed s y l e).2);
   held = f;

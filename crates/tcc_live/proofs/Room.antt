@@ -21,10 +21,10 @@ use Rattle.tcc_live.specs.Progress.{IsEquipped}
 use Rattle.tcc_live.proofs.Events.{Moves, exec_moves, evict_moves}
 
 -- the room that is wanted is in the line's set, where no way is free, and the core is alone or some way is unmarked
-record Wants (sh : Shape) (l : ℕ) (s : CoreState) (wanted : Option ℕ) : Type 0 where
-  room : wanted ≡ Some (set_of sh l)
-  full : is_some (free_way sh s.cache (set_of sh l)) ≡ false
-  loose : (is_solo s.phase || not (all_marked sh s.cache (set_of sh l))) ≡ true
+pub record Wants (sh : Shape) (l : ℕ) (s : CoreState) (wanted : Option ℕ) : Type 0 where
+  pub room : wanted ≡ Some (set_of sh l)
+  pub full : is_some (free_way sh s.cache (set_of sh l)) ≡ false
+  pub loose : (is_solo s.phase || not (all_marked sh s.cache (set_of sh l))) ≡ true
 
 full-or : (sh : Shape) (l : ℕ) (s : CoreState) → s.cache.held l ≡ false → is_some (free_way sh s.cache (set_of sh l)) ≡ false
     → (is_some (full_set sh l s) ≡ true) ⊎ Wants sh l s (room_for_line sh l s)
@@ -86,9 +86,9 @@ word-or sh p need w x s = go (holds s.spilled (line_of w)) refl (s.cache.held (l
     go false e false f false g = rw (e, f, g) (full-or sh (line_of w) s f g)
 
 -- an instruction is executed, or wants room
-record WantsSome (sh : Shape) (s : CoreState) (wanted : Option ℕ) : Type 0 where
-  line : ℕ
-  wants : Wants sh line s wanted
+pub record WantsSome (sh : Shape) (s : CoreState) (wanted : Option ℕ) : Type 0 where
+  pub line : ℕ
+  pub wants : Wants sh line s wanted
 
 some-line : (sh : Shape) (l : ℕ) (s : CoreState) (wanted : Option ℕ) (done : Bool) → (done ≡ true) ⊎ Wants sh l s wanted
     → (done ≡ true) ⊎ WantsSome sh s wanted
@@ -116,7 +116,7 @@ need-or sh p c s Ends = inl refl
 need-or sh p c s (Halts code) = inl refl
 need-or sh p c s (Traps code) = inl refl
 
-exec-or : (sh : Shape) (p : Program) (c : ℕ) (s : CoreState) → executes s.phase ≡ true → s.awaited ≡ None
+pub exec-or : (sh : Shape) (p : Program) (c : ℕ) (s : CoreState) → executes s.phase ≡ true → s.awaited ≡ None
     → (is_some (core_exec sh p c s) ≡ true) ⊎ WantsSome sh s (room sh p s)
 unfolding core_exec execute room
 exec-or sh p c s x a = in_phase s.phase x
@@ -164,12 +164,12 @@ evicts sh x y s a h u = go (s.cache.at x y) refl u
     go (Some l) e (inr v) = let m : is_marked s.cache l ≡ false = v in rw (e, a, m) refl
 
 -- the way that is emptied
-record Emptied (sh : Shape) (x : ℕ) (s : CoreState) : Type 0 where
-  way : ℕ
-  below : way < sh.ways
-  evicts : is_some (core_evict sh x way s) ≡ true
+pub record Emptied (sh : Shape) (x : ℕ) (s : CoreState) : Type 0 where
+  pub way : ℕ
+  pub below : way < sh.ways
+  pub evicts : is_some (core_evict sh x way s) ≡ true
 
-emptied : (sh : Shape) (l : ℕ) (s : CoreState) (r : Option ℕ) → 1 ≤ sh.ways → s.awaited ≡ None → Wants sh l s r → Emptied sh (set_of sh l) s
+pub emptied : (sh : Shape) (l : ℕ) (s : CoreState) (r : Option ℕ) → 1 ≤ sh.ways → s.awaited ≡ None → Wants sh l s r → Emptied sh (set_of sh l) s
 unfolding all_marked
 emptied sh l s r n a v = go (is_solo s.phase) refl
   where
