@@ -14,7 +14,9 @@ reads_some sh f c = any_below (any_word (λ w. is_some (f w) && c.read w)) (line
 
 -- the packet's words that aren't modified become invalid
 unfoldable pub dropped : (words : ℕ → Option ℕ) → CoreState → CoreState
-dropped f s = record s { cache = record s.cache { value = λ w. if is_some (f w) && not (s.cache.modified w) then None else s.cache.value w } }
+dropped f s = record s {
+  cache = record s.cache { value = λ w. if is_some (f w) && not (s.cache.modified w) then None else s.cache.value w };
+}
 
 unfoldable pub taken : Shape → (words : ℕ → Option ℕ) → CoreState → CoreState
 taken sh f s = dropped f (if reads_some sh f s.cache then record (roll_back s) { phase = Running } else s)

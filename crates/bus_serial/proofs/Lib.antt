@@ -1,23 +1,7 @@
-pub mod Did
-pub mod Filled
-pub mod Instruction
-pub mod Fine
-pub mod Committed
-pub mod Taken
-pub mod Events
-pub mod Ordered
-pub mod Runs
-pub mod Numbered
-pub mod Bounded
-pub mod Follow
-pub mod FollowTake
-pub mod FollowCommit
-pub mod Transaction
-pub mod Shown
-pub mod Cores
-pub mod Serial
-pub mod Listed
-pub mod Live
-pub mod Picked
-pub mod Given
+-- The proofs of this crate.
 pub mod Lemmas
+mod OneCore
+mod InOrder
+mod Memory
+mod Serial
+mod Going

@@ -169,7 +169,8 @@ pub record Emptied (sh : Shape) (x : ℕ) (s : CoreState) : Type 0 where
   pub below : way < sh.ways
   pub evicts : is_some (core_evict sh x way s) ≡ true
 
-pub emptied : (sh : Shape) (l : ℕ) (s : CoreState) (r : Option ℕ) → 1 ≤ sh.ways → s.awaited ≡ None → Wants sh l s r → Emptied sh (set_of sh l) s
+pub emptied : (sh : Shape) (l : ℕ) (s : CoreState) (r : Option ℕ) → 1 ≤ sh.ways → s.awaited ≡ None → Wants sh l s r
+    → Emptied sh (set_of sh l) s
 unfolding all_marked
 emptied sh l s r n a v = go (is_solo s.phase) refl
   where

@@ -1,4 +1,4 @@
-use Rattle.bus_serial.proofs.Serial.{bus_runs_are_serial}
+use Rattle.bus_serial.proofs.Serial.Commits.{bus_runs_are_serial}
 use Rattle.bus_serial.proofs.bus_runs_are_serial.Goals as goal
 
 pub returns : goal.returns

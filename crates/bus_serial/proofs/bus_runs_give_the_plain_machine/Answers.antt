@@ -1,4 +1,4 @@
-use Rattle.bus_serial.proofs.Given.{bus_runs_give_the_plain_machine, bus_tids_count}
+use Rattle.bus_serial.proofs.Serial.Given.{bus_runs_give_the_plain_machine, bus_tids_count}
 use Rattle.bus_serial.proofs.bus_runs_give_the_plain_machine.Goals as goal
 
 pub returns : goal.returns

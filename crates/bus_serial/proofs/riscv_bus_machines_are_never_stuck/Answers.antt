@@ -1,4 +1,4 @@
-use Rattle.bus_serial.proofs.Given.{riscv_bus_never_stuck, riscv_bus_picked_ends_done}
+use Rattle.bus_serial.proofs.Serial.Given.{riscv_bus_never_stuck, riscv_bus_picked_ends_done}
 use Rattle.bus_serial.proofs.riscv_bus_machines_are_never_stuck.Goals as goal
 
 pub returns : goal.returns

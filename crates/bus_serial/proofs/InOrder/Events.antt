@@ -13,8 +13,8 @@ use Rattle.bus_rules.specs.Exec.{instruction, when_free, gone_alone, moved, exec
 use Rattle.bus_rules.specs.State.{Bus, Free, Alone, Packet, BusWorld, BusEvent, Exec, Evict, Take}
 use Rattle.bus_rules.specs.Step.{evicted, bus_names, bus_step}
 use Rattle.bus_rules.specs.Take.{taken, bus_left, take_from, bus_take}
-use Rattle.bus_serial.proofs.Did.{goes}
-use Rattle.bus_serial.proofs.Instruction.{Executes}
+use Rattle.bus_serial.proofs.OneCore.Did.{goes}
+use Rattle.bus_serial.proofs.OneCore.Instruction.{Executes}
 
 abbrev pub overflows : Phase → Bool
 overflows (Overflowing t) = true

@@ -20,12 +20,12 @@ use Rattle.tcc_attempt.specs.Marks.{UsesStand, MarksFit}
 use Rattle.tcc_attempt.proofs.Lemmas.{commit-follows, follows-same, none-used, solo_commit-follows}
 use Rattle.bus_rules.specs.Commit.{written, with_words, wrote_some, all_clean, commit_out, others, packet}
 use Rattle.bus_rules.specs.State.{Bus, Free, Alone, Packet}
-use Rattle.bus_serial.proofs.Committed.{out-phase, written-inside}
-use Rattle.bus_serial.proofs.Filled.{Coherent}
-use Rattle.bus_serial.proofs.Fine.{Fine}
-use Rattle.bus_serial.proofs.Follow.{Follow}
-use Rattle.bus_serial.proofs.FollowTake.{none_gone}
-use Rattle.bus_serial.proofs.Bounded.{in_memory}
+use Rattle.bus_serial.proofs.OneCore.Committed.{out-phase, written-inside}
+use Rattle.bus_serial.proofs.OneCore.Filled.{Coherent}
+use Rattle.bus_serial.proofs.OneCore.Fine.{Fine}
+use Rattle.bus_serial.proofs.Memory.Follow.{Follow}
+use Rattle.bus_serial.proofs.Memory.Take.{none_gone}
+use Rattle.bus_serial.proofs.InOrder.Bounded.{in_memory}
 
 -- the words of the packet on the bus that the core is still to take
 abbrev pub pending : Bus → (core : ℕ) → (word : ℕ) → Bool

@@ -15,17 +15,17 @@ use Rattle.bus_rules.specs.Commit.{BusStepped, written, with_words, packet, bus_
 use Rattle.bus_rules.specs.Exec.{instruction, gone_alone, moved}
 use Rattle.bus_rules.specs.State.{Bus, Free, Alone, Packet, BusWorld}
 use Rattle.bus_rules.specs.Take.{taken, bus_left}
-use Rattle.bus_serial.proofs.Committed.{finished-fine}
-use Rattle.bus_serial.proofs.Did.{did-nothing, finished-did}
-use Rattle.bus_serial.proofs.Events.{overflows, alone_by, taken_by, Happened, Instructs, TakesBus, EndsAlone, Commits, Evicts, Takes}
-use Rattle.bus_serial.proofs.Filled.{Coherent, did-coherent}
-use Rattle.bus_serial.proofs.Fine.{Fine, Ways, Stays, Closes, Overflows, Left, instruction-left}
-use Rattle.bus_serial.proofs.Follow.{Follow, follow-over, instruction-follow, alone-follow, evict-follow}
-use Rattle.bus_serial.proofs.FollowCommit.{pending, out-follow, others-keep}
-use Rattle.bus_serial.proofs.FollowTake.{calm, in_packet, none_gone, taken-follow}
-use Rattle.bus_serial.proofs.Instruction.{if-at}
-use Rattle.bus_serial.proofs.Ordered.{StaysIn, PacketFits, PhaseFits, Ordered, put-all}
-use Rattle.bus_serial.proofs.Bounded.{in_memory}
+use Rattle.bus_serial.proofs.OneCore.Committed.{finished-fine}
+use Rattle.bus_serial.proofs.OneCore.Did.{did-nothing, finished-did}
+use Rattle.bus_serial.proofs.InOrder.Events.{overflows, alone_by, taken_by, Happened, Instructs, TakesBus, EndsAlone, Commits, Evicts, Takes}
+use Rattle.bus_serial.proofs.OneCore.Filled.{Coherent, did-coherent}
+use Rattle.bus_serial.proofs.OneCore.Fine.{Fine, Ways, Stays, Closes, Overflows, Left, instruction-left}
+use Rattle.bus_serial.proofs.Memory.Follow.{Follow, follow-over, instruction-follow, alone-follow, evict-follow}
+use Rattle.bus_serial.proofs.Memory.Commit.{pending, out-follow, others-keep}
+use Rattle.bus_serial.proofs.Memory.Take.{calm, in_packet, none_gone, taken-follow}
+use Rattle.bus_serial.proofs.OneCore.Instruction.{if-at}
+use Rattle.bus_serial.proofs.InOrder.Ordered.{StaysIn, PacketFits, PhaseFits, Ordered, put-all}
+use Rattle.bus_serial.proofs.InOrder.Bounded.{in_memory}
 
 -- each core's
 abbrev pub Followed : Shape → Program → BusWorld → Type 0

@@ -10,8 +10,8 @@ use Rattle.tcc_attempt.specs.Sound.{AwaitsHeld}
 use Rattle.tcc_attempt.proofs.Lemmas.{rolled-sound}
 use Rattle.tcc_bounds.proofs.Lemmas.{rolled}
 use Rattle.bus_rules.specs.Take.{reads_some, dropped, taken}
-use Rattle.bus_serial.proofs.Fine.{Fine}
-use Rattle.bus_serial.proofs.Did.{LineSet}
+use Rattle.bus_serial.proofs.OneCore.Fine.{Fine}
+use Rattle.bus_serial.proofs.OneCore.Did.{LineSet}
 
 -- the attempt begins anew, where it does
 abbrev pub again : Bool → CoreState → CoreState

@@ -22,9 +22,9 @@ use Rattle.bus_rules.specs.Step.{BusHistory, bus_run}
 use Rattle.bus_serial.specs.Given.{bus_at_start, bus_committed, BusSerial, BusRunsGiveThePlainMachine, BusTidsCount, RiscvBusNeverStuck}
 use Rattle.bus_serial.specs.Given.{RiscvBusPickedEndsDone}
 use Rattle.bus_serial.specs.Laws.{HasCaches, AreNumbered, BusIsSerial}
-use Rattle.bus_serial.proofs.Live.{bus_never_stuck}
-use Rattle.bus_serial.proofs.Picked.{bus_picked_ends_done}
-use Rattle.bus_serial.proofs.Serial.{Kept, is-serial, runs-kept, bus_runs_are_serial}
+use Rattle.bus_serial.proofs.Going.Live.{bus_never_stuck}
+use Rattle.bus_serial.proofs.Going.Picked.{bus_picked_ends_done}
+use Rattle.bus_serial.proofs.Serial.Commits.{Kept, is-serial, runs-kept, bus_runs_are_serial}
 
 -- the machine of the theorem, where all numbers are cores
 abbrev all_cores : Start → Plain

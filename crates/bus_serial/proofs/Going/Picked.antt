@@ -10,8 +10,8 @@ use Rattle.bus_rules.specs.Commit.{BusStepped}
 use Rattle.bus_rules.specs.Step.{BusHistory, recorded, bus_step, bus_next, and_then, bus_from, bus_run}
 use Rattle.bus_rules.specs.Useful.{is_of_use, bus_is_useful, bus_useful, bus_chosen, after_event, bus_pick, bus_picked, BusIsDone}
 use Rattle.bus_serial.specs.Laws.{first_bus_history, BusPickedEndsDone}
-use Rattle.bus_serial.proofs.Listed.{Each}
-use Rattle.bus_serial.proofs.Live.{bus_never_stuck}
+use Rattle.bus_serial.proofs.Going.Listed.{Each}
+use Rattle.bus_serial.proofs.Going.Live.{bus_never_stuck}
 
 -- each that passes the test
 each-passes : {A : Type 0} (p : A → Bool) (xs : List A) → Each (λ x. p x ≡ true) (filter p xs)

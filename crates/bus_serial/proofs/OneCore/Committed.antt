@@ -8,7 +8,7 @@ use Rattle.tcc_maps.specs.Words.{line_of, or_else}
 use Rattle.tcc_program.specs.Program.{Need, Program}
 use Rattle.tcc_attempt.proofs.Lemmas.{commit-sound, finished-sound, solo_commit-sound, valid-held}
 use Rattle.tcc_bounds.proofs.Lemmas.{finishes, none}
-use Rattle.bus_serial.proofs.Did.{LineSet, did-nothing, finished-did, finished-awaits}
+use Rattle.bus_serial.proofs.OneCore.Did.{LineSet, did-nothing, finished-did, finished-awaits}
 use Rattle.tcc_maps.specs.Spilled.{none_spilled}
 use Rattle.tcc_rules.specs.Attempt.{is_solo, finished}
 use Rattle.tcc_rules.specs.Commit.{phase_after, ended_after, committed_core, commit, solo_commit, noted}
@@ -16,7 +16,7 @@ use Rattle.tcc_rules.specs.State.{CoreState, Awaited}
 use Rattle.tcc_attempt.specs.Sound.{AwaitsHeld, SoundCore}
 use Rattle.tcc_bounds.specs.Bounds.{AttemptCounted, CommitCounted}
 use Rattle.bus_rules.specs.Commit.{written, all_clean, commit_out}
-use Rattle.bus_serial.proofs.Fine.{Fine}
+use Rattle.bus_serial.proofs.OneCore.Fine.{Fine}
 
 clean-awaits : (c : Cache) (o : Option Awaited) → AwaitsHeld c o
     → AwaitsHeld (record c { dirty = λ w. None }) o

@@ -23,13 +23,14 @@ use Rattle.tcc_attempt.specs.Follows.{Uses, Fits, Follows, EndFits, sees, used_i
 use Rattle.tcc_attempt.specs.Marks.{MarksFit, AttemptFits, owed_in}
 use Rattle.tcc_attempt.specs.Sound.{SoundCore}
 use Rattle.tcc_attempt.specs.Views.{uses_after}
-use Rattle.tcc_attempt.proofs.Lemmas.{core_deliver-fit, core_deliver-follows, core_evict-fit, core_evict-follows, core_exec-fit, core_exec-follows, follows-into}
+use Rattle.tcc_attempt.proofs.Lemmas.{core_deliver-fit, core_deliver-follows, core_evict-fit, core_evict-follows, core_exec-fit}
+use Rattle.tcc_attempt.proofs.Lemmas.{core_exec-follows, follows-into}
 use Rattle.bus_rules.specs.Exec.{line_words, instruction, gone_alone}
-use Rattle.bus_serial.proofs.Did.{Did, NeedIn}
-use Rattle.bus_serial.proofs.Filled.{Coherent, did-coherent, filled-coherent, fill-is}
-use Rattle.bus_serial.proofs.Fine.{Fine, first-sound, filled-fine}
-use Rattle.bus_serial.proofs.Instruction.{if-at, Executes, with_words, asking, word_wanted, Once, First, instructed}
-use Rattle.bus_serial.proofs.Bounded.{in_memory}
+use Rattle.bus_serial.proofs.OneCore.Did.{Did, NeedIn}
+use Rattle.bus_serial.proofs.OneCore.Filled.{Coherent, did-coherent, filled-coherent, fill-is}
+use Rattle.bus_serial.proofs.OneCore.Fine.{Fine, first-sound, filled-fine}
+use Rattle.bus_serial.proofs.OneCore.Instruction.{if-at, Executes, with_words, asking, word_wanted, Once, First, instructed}
+use Rattle.bus_serial.proofs.InOrder.Bounded.{in_memory}
 
 -- memory has these values, but for the words that are gone
 abbrev pub AgreesBut : (gone : ℕ → Bool) → Uses → (ram : ℕ → ℕ) → Type 0

@@ -22,13 +22,13 @@ use Rattle.bus_rules.specs.Step.{BusHistory, evicted, bus_names, bus_step, bus_r
 use Rattle.bus_rules.specs.Take.{bus_take}
 use Rattle.bus_rules.specs.Useful.{bus_is_useful, bus_useful, BusIsDone}
 use Rattle.bus_serial.specs.Laws.{HasCaches, BusNeverStuck}
-use Rattle.bus_serial.proofs.Bounded.{InOrder, runs-in-order}
-use Rattle.bus_serial.proofs.Did.{How, Ran, Closed, Overflowed, Asked, Executed, NeedIn, wanted, exec-executed}
-use Rattle.bus_serial.proofs.Filled.{filled-valid, fill-is}
-use Rattle.bus_serial.proofs.Fine.{Fine, Ways, Stays, Closes, Overflows, Left, first-sound, instruction-left}
-use Rattle.bus_serial.proofs.Instruction.{Executes, with_words, word_wanted, First}
-use Rattle.bus_serial.proofs.Listed.{NoneUseful, none-useful}
-use Rattle.bus_serial.proofs.Ordered.{PacketFits, PhaseFits, BusFits, Ordered}
+use Rattle.bus_serial.proofs.InOrder.Bounded.{InOrder, runs-in-order}
+use Rattle.bus_serial.proofs.OneCore.Did.{How, Ran, Closed, Overflowed, Asked, Executed, NeedIn, wanted, exec-executed}
+use Rattle.bus_serial.proofs.OneCore.Filled.{filled-valid, fill-is}
+use Rattle.bus_serial.proofs.OneCore.Fine.{Fine, Ways, Stays, Closes, Overflows, Left, first-sound, instruction-left}
+use Rattle.bus_serial.proofs.OneCore.Instruction.{Executes, with_words, word_wanted, First}
+use Rattle.bus_serial.proofs.Going.Listed.{NoneUseful, none-useful}
+use Rattle.bus_serial.proofs.InOrder.Ordered.{PacketFits, PhaseFits, BusFits, Ordered}
 
 -- every line
 abbrev pub any_line : ℕ → Type 0

@@ -13,7 +13,7 @@ use Rattle.tcc_rules.specs.CoreDeliver.{ignored, fill}
 use Rattle.tcc_rules.specs.Sends.{nothing}
 use Rattle.tcc_rules.specs.State.{CoreState}
 use Rattle.bus_rules.specs.Exec.{line_words}
-use Rattle.bus_serial.proofs.Did.{LineSet, Did}
+use Rattle.bus_serial.proofs.OneCore.Did.{LineSet, Did}
 
 -- gone: the words of the packet
 abbrev pub Coherent : (ram : ℕ → ℕ) → (gone : ℕ → Bool) → Cache → Type 0

@@ -6,7 +6,7 @@ use Rattle.tcc_program.specs.Program.{Program}
 use Rattle.bus_rules.specs.Commit.{BusStepped}
 use Rattle.bus_rules.specs.State.{BusWorld, BusEvent}
 use Rattle.bus_rules.specs.Step.{BusHistory, and_noted, recorded, bus_step, bus_next, and_then, bus_from, bus_run}
-use Rattle.bus_serial.proofs.Events.{Happened, bus-happened}
+use Rattle.bus_serial.proofs.InOrder.Events.{Happened, bus-happened}
 
 abbrev pub stepped_to : BusHistory → BusStepped → BusHistory
 stepped_to h r = record { world = r.world; commits = and_noted r.noted h.commits }

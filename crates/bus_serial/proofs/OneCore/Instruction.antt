@@ -11,8 +11,8 @@ use Rattle.tcc_rules.specs.Attempt.{Out, is_solo}
 use Rattle.tcc_rules.specs.CoreExec.{core_exec}
 use Rattle.tcc_rules.specs.State.{CoreState, Awaited, Running}
 use Rattle.bus_rules.specs.Exec.{line_words, with_line, if_executed, instruction}
-use Rattle.bus_serial.proofs.Did.{LineSet, How, Ran, Closed, Overflowed, Asked, Executed, NeedIn, wanted, goes, exec-executed}
-use Rattle.bus_serial.proofs.Filled.{filled-valid, fill-is}
+use Rattle.bus_serial.proofs.OneCore.Did.{LineSet, How, Ran, Closed, Overflowed, Asked, Executed, NeedIn, wanted, goes, exec-executed}
+use Rattle.bus_serial.proofs.OneCore.Filled.{filled-valid, fill-is}
 
 pub if-at : {A : Type 0} (x : Option A) (y : A) (P : A → Type 0) → x ≡ Some y → IfSome x P → P y
 if-at x y P e h = rw e at h

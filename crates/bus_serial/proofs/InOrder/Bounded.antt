@@ -14,10 +14,10 @@ use Rattle.bus_rules.specs.State.{Bus, BusWorld, BusEvent, bus_start}
 use Rattle.bus_rules.specs.Step.{BusHistory, bus_run}
 use Rattle.bus_serial.specs.Bounds.{is_of_bus, BusCoreInBounds, PacketInBounds, IsBusBounded, BusRunsAreBounded, RiscvBusRunsAreBounded}
 use Rattle.bus_serial.specs.Laws.{AreNumbered}
-use Rattle.bus_serial.proofs.Did.{LineSet, NeedIn}
-use Rattle.bus_serial.proofs.Numbered.{Numbered, happened-numbered}
-use Rattle.bus_serial.proofs.Ordered.{StaysIn, PacketFits, PhaseFits, Ordered, happened-ordered, start-ordered}
-use Rattle.bus_serial.proofs.Runs.{EventsKeep, run-keeps}
+use Rattle.bus_serial.proofs.OneCore.Did.{LineSet, NeedIn}
+use Rattle.bus_serial.proofs.InOrder.Numbered.{Numbered, happened-numbered}
+use Rattle.bus_serial.proofs.InOrder.Ordered.{StaysIn, PacketFits, PhaseFits, Ordered, happened-ordered, start-ordered}
+use Rattle.bus_serial.proofs.InOrder.Runs.{EventsKeep, run-keeps}
 
 -- the lines of memory
 abbrev pub in_memory : Shape → ℕ → Type 0

@@ -17,12 +17,12 @@ use Rattle.bus_rules.specs.Commit.{BusStepped, written, wrote_some, others, pack
 use Rattle.bus_rules.specs.Exec.{instruction, gone_alone, moved}
 use Rattle.bus_rules.specs.State.{Bus, Free, Alone, Packet, BusWorld, bus_start}
 use Rattle.bus_rules.specs.Take.{reads_some, dropped, taken, bus_left}
-use Rattle.bus_serial.proofs.Did.{LineSet, NeedIn}
-use Rattle.bus_serial.proofs.Committed.{out-fine, out-phase, finished-fine, written-inside}
-use Rattle.bus_serial.proofs.Events.{overflows, alone_by, taken_by, Happened, Instructs, TakesBus, EndsAlone, Commits, Evicts, Takes}
-use Rattle.bus_serial.proofs.Fine.{Fine, later, Ways, Stays, Closes, Overflows, Left, instruction-left, evict-left, evict-phase, alone-fine}
-use Rattle.bus_serial.proofs.Instruction.{if-at}
-use Rattle.bus_serial.proofs.Taken.{again, taken-fine}
+use Rattle.bus_serial.proofs.OneCore.Did.{LineSet, NeedIn}
+use Rattle.bus_serial.proofs.OneCore.Committed.{out-fine, out-phase, finished-fine, written-inside}
+use Rattle.bus_serial.proofs.InOrder.Events.{overflows, alone_by, taken_by, Happened, Instructs, TakesBus, EndsAlone, Commits, Evicts, Takes}
+use Rattle.bus_serial.proofs.OneCore.Fine.{Fine, later, Ways, Stays, Closes, Overflows, Left, instruction-left, evict-left, evict-phase, alone-fine}
+use Rattle.bus_serial.proofs.OneCore.Instruction.{if-at}
+use Rattle.bus_serial.proofs.OneCore.Taken.{again, taken-fine}
 
 -- a program whose accesses are to these lines
 abbrev pub StaysIn : Shape → (M : LineSet) → Program → Type 0

@@ -18,11 +18,11 @@ use Rattle.tcc_attempt.specs.Sound.{is_idle}
 use Rattle.tcc_serial.specs.Commits.{CoreSerial, end_after}
 use Rattle.bus_rules.specs.Exec.{gone_alone}
 use Rattle.bus_rules.specs.Take.{reads_some, dropped, taken}
-use Rattle.bus_serial.proofs.Did.{goes}
-use Rattle.bus_serial.proofs.Fine.{Fine, Ways, Stays, Closes, Overflows}
-use Rattle.bus_serial.proofs.Instruction.{Executes}
-use Rattle.bus_serial.proofs.Taken.{again}
-use Rattle.bus_serial.proofs.Bounded.{in_memory}
+use Rattle.bus_serial.proofs.OneCore.Did.{goes}
+use Rattle.bus_serial.proofs.OneCore.Fine.{Fine, Ways, Stays, Closes, Overflows}
+use Rattle.bus_serial.proofs.OneCore.Instruction.{Executes}
+use Rattle.bus_serial.proofs.OneCore.Taken.{again}
+use Rattle.bus_serial.proofs.InOrder.Bounded.{in_memory}
 
 pub record Same (s t : CoreState) : Type 0 where
   pub saved : t.saved ≡ s.saved

@@ -22,9 +22,9 @@ use Rattle.tcc_bounds.specs.Bounds.{AttemptCounted}
 use Rattle.tcc_attempt.proofs.Lemmas.{core_deliver-sound, core_evict-sound, core_exec-sound, valid-held}
 use Rattle.tcc_bounds.proofs.Lemmas.{weak}
 use Rattle.bus_rules.specs.Exec.{line_words, instruction, gone_alone}
-use Rattle.bus_serial.proofs.Did.{LineSet, Did, How, Ran, Closed, Overflowed, Asked, NeedIn}
-use Rattle.bus_serial.proofs.Filled.{fill-is}
-use Rattle.bus_serial.proofs.Instruction.{if-at, Executes, with_words, asking, word_wanted, Once, First, instructed}
+use Rattle.bus_serial.proofs.OneCore.Did.{LineSet, Did, How, Ran, Closed, Overflowed, Asked, NeedIn}
+use Rattle.bus_serial.proofs.OneCore.Filled.{fill-is}
+use Rattle.bus_serial.proofs.OneCore.Instruction.{if-at, Executes, with_words, asking, word_wanted, Once, First, instructed}
 
 pub record Fine (sh : Shape) (M : LineSet) (n : ℕ) (s : CoreState) : Type 0 where
   pub awaited : s.awaited ≡ None

@@ -18,10 +18,10 @@ use Rattle.bus_rules.specs.Commit.{BusStepped, bus_commit}
 use Rattle.bus_rules.specs.State.{BusWorld}
 use Rattle.bus_rules.specs.Step.{and_noted}
 use Rattle.bus_serial.specs.Laws.{AreNumbered}
-use Rattle.bus_serial.proofs.Committed.{out-noted, noted-counted, finished-fine}
-use Rattle.bus_serial.proofs.Events.{Happened, Instructs, TakesBus, EndsAlone, Commits, Evicts, Takes}
-use Rattle.bus_serial.proofs.Ordered.{Ordered}
-use Rattle.bus_serial.proofs.Did.{LineSet}
+use Rattle.bus_serial.proofs.OneCore.Committed.{out-noted, noted-counted, finished-fine}
+use Rattle.bus_serial.proofs.InOrder.Events.{Happened, Instructs, TakesBus, EndsAlone, Commits, Evicts, Takes}
+use Rattle.bus_serial.proofs.InOrder.Ordered.{Ordered}
+use Rattle.bus_serial.proofs.OneCore.Did.{LineSet}
 
 -- after so many events, where t is the next TID
 pub record Numbered (sh : Shape) (n t : ℕ) (cs : List Noted) : Type 0 where

@@ -15,11 +15,11 @@ use Rattle.tcc_attempt.specs.Sound.{is_idle}
 use Rattle.tcc_serial.specs.InMemory.{WordInMemory}
 use Rattle.tcc_attempt.proofs.Lemmas.{follows-same, none-used, rolled-follows, with_words as with_cache}
 use Rattle.bus_rules.specs.Take.{reads_some, dropped, taken}
-use Rattle.bus_serial.proofs.Filled.{Coherent}
-use Rattle.bus_serial.proofs.Fine.{Fine}
-use Rattle.bus_serial.proofs.Follow.{AgreesBut, Follow}
-use Rattle.bus_serial.proofs.Taken.{again}
-use Rattle.bus_serial.proofs.Bounded.{in_memory}
+use Rattle.bus_serial.proofs.OneCore.Filled.{Coherent}
+use Rattle.bus_serial.proofs.OneCore.Fine.{Fine}
+use Rattle.bus_serial.proofs.Memory.Follow.{AgreesBut, Follow}
+use Rattle.bus_serial.proofs.OneCore.Taken.{again}
+use Rattle.bus_serial.proofs.InOrder.Bounded.{in_memory}
 
 -- a core that may take a packet
 abbrev pub calm : Phase → Bool
