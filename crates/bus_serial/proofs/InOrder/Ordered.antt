@@ -19,8 +19,10 @@ use Rattle.bus_rules.specs.State.{Bus, Free, Alone, Packet, BusWorld, bus_start}
 use Rattle.bus_rules.specs.Take.{reads_some, dropped, taken, bus_left}
 use Rattle.bus_serial.proofs.OneCore.Did.{LineSet, NeedIn}
 use Rattle.bus_serial.proofs.OneCore.Committed.{out-fine, out-phase, finished-fine, written-inside}
-use Rattle.bus_serial.proofs.InOrder.Events.{overflows, alone_by, taken_by, Happened, Instructs, TakesBus, EndsAlone, Commits, Evicts, Takes}
-use Rattle.bus_serial.proofs.OneCore.Fine.{Fine, later, Ways, Stays, Closes, Overflows, Left, instruction-left, evict-left, evict-phase, alone-fine}
+use Rattle.bus_serial.proofs.InOrder.Events.{overflows, alone_by, taken_by, Happened, Instructs}
+use Rattle.bus_serial.proofs.InOrder.Events.{TakesBus, EndsAlone, Commits, Evicts, Takes}
+use Rattle.bus_serial.proofs.OneCore.Fine.{Fine, later, Ways, Stays, Closes}
+use Rattle.bus_serial.proofs.OneCore.Fine.{Overflows, Left, instruction-left, evict-left, evict-phase, alone-fine}
 use Rattle.bus_serial.proofs.OneCore.Instruction.{if-at}
 use Rattle.bus_serial.proofs.OneCore.Taken.{again, taken-fine}
 

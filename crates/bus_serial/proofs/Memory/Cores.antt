@@ -17,7 +17,8 @@ use Rattle.bus_rules.specs.State.{Bus, Free, Alone, Packet, BusWorld}
 use Rattle.bus_rules.specs.Take.{taken, bus_left}
 use Rattle.bus_serial.proofs.OneCore.Committed.{finished-fine}
 use Rattle.bus_serial.proofs.OneCore.Did.{did-nothing, finished-did}
-use Rattle.bus_serial.proofs.InOrder.Events.{overflows, alone_by, taken_by, Happened, Instructs, TakesBus, EndsAlone, Commits, Evicts, Takes}
+use Rattle.bus_serial.proofs.InOrder.Events.{overflows, alone_by, taken_by, Happened, Instructs}
+use Rattle.bus_serial.proofs.InOrder.Events.{TakesBus, EndsAlone, Commits, Evicts, Takes}
 use Rattle.bus_serial.proofs.OneCore.Filled.{Coherent, did-coherent}
 use Rattle.bus_serial.proofs.OneCore.Fine.{Fine, Ways, Stays, Closes, Overflows, Left, instruction-left}
 use Rattle.bus_serial.proofs.Memory.Follow.{Follow, follow-over, instruction-follow, alone-follow, evict-follow}
