@@ -1,0 +1,2 @@
+// Machines that run by phases: a core's request for a TID waits while another core that hasn't halted is in an earlier phase.
+#![tactic(auto)]
