@@ -1,2 +1,4 @@
 -- The proofs of this crate.
 mod Order
+mod Places
+mod Requests

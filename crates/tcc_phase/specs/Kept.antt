@@ -1,22 +1,13 @@
 -- What is kept beside a machine says what the rules of phases say of its run.
-use Rattle.std.specs.Prelude.{ℕ, zero, suc, ◌≡◌, ◌<◌, ◌≤◌, List, [], ◌∷◌, Option, Some, None, get_or, take, length}
+use Rattle.std.specs.Prelude.{ℕ, ◌≡◌, ◌<◌, ◌≤◌, get_or, take, length}
 use Rattle.image_load.specs.Start.{Start}
 use Rattle.rv_code.specs.Machine.{program}
 use Rattle.tcc_maps.specs.Nodes.{Core, Vendor}
 use Rattle.tcc_maps.specs.Words.{those}
-use Rattle.tcc_rules.specs.State.{Link}
 use Rattle.tcc_rules.specs.Step.{History}
 use Rattle.phase_rules.specs.Phases.{phase_of, phases_of}
-use Rattle.tcc_phase.specs.Ledger.{IsEven, is_waiting}
+use Rattle.tcc_phase.specs.Requests.{IsAsked, IsEven, is_waiting}
 use Rattle.tcc_phase.specs.declared.ledger.Ledger.{Ledger}
-
--- the first n messages on the link were delivered, and at most one was sent behind them
-unfoldable pub IsAsked : Link → (n : ℕ) → Type 0
-IsAsked [] n = n ≡ 0
-IsAsked (None ∷ ms) zero = ⊥
-IsAsked (None ∷ ms) (suc n) = IsAsked ms n
-IsAsked (Some m ∷ ms) zero = ms ≡ []
-IsAsked (Some m ∷ ms) (suc n) = ⊥
 
 -- a row for each core
 pub record HasRows (n : ℕ) (l : Ledger) : Type 0 where

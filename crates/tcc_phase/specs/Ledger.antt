@@ -1,52 +1,11 @@
--- What is kept beside a machine that runs by phases: each core's phase, how many of its requests were delivered, and who is held back.
-use Rattle.std.specs.Prelude.{ℕ, ◌≡◌, ◌<◌, ◌≤◌, ◌+◌, ◌×◌, Bool, true, false, not, ◌&&◌, ◌||◌, ◌==◌, List, length, get_or, max, Option, Some, None, IfSome, is_some, slice_get, slice_set, nat_lt, if◌then◌else◌}
-use Rattle.tcc_base.specs.Settings.{Settings}
+-- What an event that was taken changes of the phases that are kept beside a machine.
+use Rattle.std.specs.Prelude.{ℕ, ◌≡◌, ◌<◌, ◌≤◌, List, length, get_or, max, Some, IfSome, slice_get, slice_set}
 use Rattle.tcc_base.specs.declared.access.Commit.{Commit}
-use Rattle.tcc_maps.specs.Nodes.{Core, Vendor, Event, Exec, Evict, Deliver}
-use Rattle.tcc_maps.specs.Words.{any_below}
-use Rattle.tcc_program.specs.Program.{Program}
-use Rattle.tcc_rules.specs.State.{World}
-use Rattle.tcc_rules.specs.Step.{step}
 use Rattle.phase_rules.specs.Laws.{place_of, put_in}
-use Rattle.phase_rules.specs.Phased.{has_halted}
 use Rattle.phase_rules.specs.Phases.{x27}
 use Rattle.net_core.specs.Machine.{Machine, world_of}
 use Rattle.net_core.specs.declared.taking.Step.{Step}
 use Rattle.net_core.specs.declared.taking.Step.TheVariants.{Moved, Committed}
-
--- the delivery of a core's next request
-abbrev pub request : (asked : List ℕ) → (core : ℕ) → Event
-request asked c = Deliver (Core c) Vendor (get_or asked c 0)
-
--- there is such a phase, and it is an earlier one
-abbrev pub is_below : Option ℕ → (phase : ℕ) → Bool
-is_below None q = false
-is_below (Some p) q = nat_lt p q
-
--- there is such a phase before q, or this one is
-abbrev pub either_below : Option ℕ → (phase q : ℕ) → Bool
-either_below least p q = is_below least q || nat_lt p q
-
--- one of the first n cores hasn't halted and is in an earlier phase
-unfoldable pub is_behind : (n : ℕ) → World → (own : List ℕ) → (phase : ℕ) → Bool
-is_behind n w own q = any_below (λ j. not (has_halted (w.cores j).phase) && nat_lt (get_or own j 0) q) n
-
--- the core is late, and its request is in flight
-unfoldable pub is_waiting : Settings → Program → World → (own asked : List ℕ) → (core : ℕ) → Bool
-is_waiting s p w own asked c = is_behind s.cores w own (get_or own c 0) && is_some (step s p w (request asked c))
-
--- all these cores are in one phase, unless it is said that they may not be
-abbrev pub IsEven : (uneven : Bool) → (own : List ℕ) → (n : ℕ) → Type 0
-IsEven uneven own n = uneven ≡ false → (c d : ℕ) → c < n → d < n → get_or own c 0 ≡ get_or own d 0
-
--- the event delivers a message from core c to the vendor
-abbrev pub asks : (core : ℕ) → Event → Bool
-asks c (Deliver (Core d) Vendor k) = c == d
-asks c _ = false
-
--- one more delivery from its core, where the event is one
-abbrev pub Counts : Event → (old new : List ℕ) → Type 0
-Counts e old new = (c : ℕ) → c < length old → get_or new c 0 ≡ (if asks c e then get_or old c 0 + 1 else get_or old c 0)
 
 -- a commit has the phase that its core was in, in its place by its TID, and its core's phase is then that of its checkpoint where this
 -- is greater

@@ -1,6 +1,7 @@
 -- What the contracts of this crate cite.
 pub mod Phased
 pub mod Answers
+pub mod Requests
 pub mod Ledger
 pub mod Kept
 pub mod Choosing

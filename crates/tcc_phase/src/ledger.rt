@@ -9,7 +9,8 @@ ghost use Rattle.phase_rules.specs.Phases.{x27};
 ghost use Rattle.net_core.specs.Answers.{step_of};
 ghost use Rattle.net_core.specs.Machine.{program_of, settings_of, world_of};
 ghost use Rattle.tcc_phase.specs.Kept.{HasRows};
-ghost use Rattle.tcc_phase.specs.Ledger.{Counts, IsEven, IsListed, Notes, either_below, is_behind, is_below, is_waiting, request};
+ghost use Rattle.tcc_phase.specs.Ledger.{IsListed, Notes};
+ghost use Rattle.tcc_phase.specs.Requests.{Counts, IsEven, either_below, is_behind, is_below, is_waiting, request};
 
 use live_core::has_halted;
 use net_core::{Step, System};

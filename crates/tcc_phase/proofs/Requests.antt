@@ -1,0 +1,4 @@
+-- Requests for TIDs that are held back.
+pub mod Asked
+pub mod Behind
+pub mod Listed
