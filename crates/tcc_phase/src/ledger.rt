@@ -15,7 +15,7 @@ ghost use Rattle.tcc_phase.specs.Requests.{Counts, IsEven, either_below, is_behi
 use live_core::has_halted;
 use net_core::{Step, System};
 use reg_checkpoint::Check;
-use std::alloc::Global;
+use std::alloc::{AllocError, Global};
 use tcc_base::{Commit, CoreId, NoMemory, NodeId, Reg, Tid};
 use tcc_msg::{Event, Name};
 
@@ -127,7 +127,7 @@ fn is_uneven(own: &[u32]) -> bool
 
 impl Ledger {
     /// That of a machine before its first event, in which all cores are in phase 0.
-    pub fn start(alloc: Global, cores: u8) -> Result<Ledger, NoMemory>
+    pub fn start(alloc: Global, cores: u8) -> Result<Ledger, AllocError>
         ensures each { IfOk result (λ l. l.each.items ≡ []) }
         ensures own { IfOk result (λ l. l.own.items ≡ replicate cores 0) }
         ensures asked { IfOk result (λ l. l.asked.items ≡ replicate cores 0) }

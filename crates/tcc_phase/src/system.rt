@@ -44,7 +44,7 @@ impl PhaseSystem {
         ensures settled { IfOk result (λ p. p.refined.machine.unsent ≡ []) }
     {
         let refined = Refined::start(alloc, loaded)?;
-        let ledger = Ledger::start(alloc, loaded.config().cores())?;
+        let ledger = Ledger::start(alloc, loaded.config().cores()).map_err(|_| NoMemory)?;
         refined.taken();
         Ok(PhaseSystem { refined, ledger })
     }
