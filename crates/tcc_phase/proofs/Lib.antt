@@ -1,4 +1,5 @@
 -- The proofs of this crate.
+mod Rows
 mod Keeping
 mod Order
 mod Places

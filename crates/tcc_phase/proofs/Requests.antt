@@ -2,3 +2,4 @@
 pub mod Asked
 pub mod Behind
 pub mod Listed
+pub mod Those

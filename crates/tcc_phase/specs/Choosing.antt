@@ -1,11 +1,10 @@
 -- How many of the useful events that are held back stand among the first ones.
-use Rattle.std.specs.Prelude.{ℕ, ◌≡◌, ◌+◌, ◌×◌, filter, length, take}
+use Rattle.std.specs.Prelude.{ℕ, ◌≡◌, ◌+◌, List, filter, length, take}
 use Rattle.rv_code.specs.Machine.{program}
 use Rattle.tcc_rules.specs.Useful.{useful}
 use Rattle.phase_rules.specs.Phased.{is_held}
 use Rattle.net_core.specs.Machine.{Machine, history_of, start_of}
 use Rattle.tcc_maps.specs.Nodes.{Event}
-use Rattle.std.specs.Prelude.{List}
 
 -- all useful events
 unfoldable pub all_in : Machine → List Event

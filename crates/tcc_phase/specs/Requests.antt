@@ -29,6 +29,10 @@ is_behind n w own q = any_below (λ j. not (has_halted (w.cores j).phase) && nat
 unfoldable pub is_waiting : Settings → Program → World → (own asked : List ℕ) → (core : ℕ) → Bool
 is_waiting s p w own asked c = is_behind s.cores w own (get_or own c 0) && is_some (step s p w (request asked c))
 
+-- the core is in a later phase than this one, and its request is in flight
+unfoldable pub is_above : Settings → Program → World → (least : ℕ) → (own asked : List ℕ) → (core : ℕ) → Bool
+is_above s p w least own asked c = nat_lt least (get_or own c 0) && is_some (step s p w (request asked c))
+
 -- all these cores are in one phase, unless it is said that they may not be
 abbrev pub IsEven : (uneven : Bool) → (own : List ℕ) → (n : ℕ) → Type 0
 IsEven uneven own n = uneven ≡ false → (c d : ℕ) → c < n → d < n → get_or own c 0 ≡ get_or own d 0

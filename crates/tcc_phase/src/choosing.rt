@@ -35,6 +35,7 @@ impl PhaseSystem {
         requires { self.now.refined.machine.unsent ≡ [] }
         ensures { result ≡ length (useful_in self.now.refined.machine) }
     {
+        useful_events_are_listed();
         self.refined.system().useful_count() - self.ledger.count as u64
     }
 

@@ -1,16 +1,15 @@
 // What is kept beside the machine: the commits' phases, each core's phase and requests, and who is held back.
-ghost use Rattle.std.specs.Prelude.{◌≡◌, ◌<◌, ◌≤◌, ◌+◌, ◌^◌, ◌↔◌, [], IfOk, OnOk, OnErr, get_or, length, replicate, take, false, is_some, nat_lt, ◌&&◌, vec_capacity, ℕ};
+ghost use Rattle.std.specs.Prelude.{◌≡◌, ◌<◌, ◌≤◌, ◌+◌, ◌^◌, [], IfOk, OnOk, get_or, length, replicate, take, false, vec_capacity, ℕ};
 ghost use Rattle.tcc_maps.specs.Nodes.{Core, Deliver, Vendor};
 ghost use Rattle.tcc_maps.specs.Words.{those};
 ghost use Rattle.tcc_msg.specs.Plain.{event_of};
 ghost use Rattle.tcc_serial.specs.Owners.{IsRising};
 ghost use Rattle.phase_rules.specs.Laws.{place_of};
 ghost use Rattle.phase_rules.specs.Phases.{x27};
-ghost use Rattle.net_core.specs.Answers.{step_of};
 ghost use Rattle.net_core.specs.Machine.{program_of, settings_of, world_of};
 ghost use Rattle.tcc_phase.specs.Kept.{HasRows};
 ghost use Rattle.tcc_phase.specs.Ledger.{IsListed, Notes};
-ghost use Rattle.tcc_phase.specs.Requests.{Counts, IsEven, either_below, is_behind, is_below, is_waiting, request};
+ghost use Rattle.tcc_phase.specs.Requests.{Counts, IsEven, either_below, is_above, is_behind, is_below, is_waiting};
 
 use live_core::has_halted;
 use net_core::{Step, System};
@@ -80,20 +79,29 @@ fn request(core: u8, seq: u64) -> Event
     })
 }
 
+/// Whether a core is in a phase above the least one, and its request is in flight.
+fn is_above(system: &System, least: u32, own: &[u32], asked: &[u64], core: u8) -> bool
+    requires own { core < length own.now }
+    requires asked { core < length asked.now }
+    ensures { result ≡ is_above (settings_of system.now) (program_of system.now) (world_of system.now) least own.now asked.now core }
+{
+    let row = core as usize;
+    least < own[row] && system.enabled(request(core, asked[row]))
+}
+
 /// Lists the cores of a phase above the least one whose requests are in flight, and tells how many these are.
 fn hold(system: &System, least: u32, own: &[u32], asked: &[u64], held: &mut [u8]) -> usize
     requires own { length own.now ≡ (settings_of system.now).cores }
     requires asked { length asked.now ≡ (settings_of system.now).cores }
     requires held { length held.old ≡ (settings_of system.now).cores }
-    ensures listed { take result held.new
-        ≡ those (λ c. nat_lt least (get_or own.now c 0) && is_some (step_of system.now (request asked.now c))) (settings_of system.now).cores }
+    ensures listed { take result held.new ≡ those (is_above (settings_of system.now) (program_of system.now) (world_of system.now) least
+        own.now asked.now) (settings_of system.now).cores }
     ensures length { length held.new ≡ length held.old }
     ensures few { result ≤ (settings_of system.now).cores }
 {
     let mut count = 0;
     for core in 0..system.config().cores() {
-        let row = core as usize;
-        if least < own[row] && system.enabled(request(core, asked[row])) {
+        if is_above(system, least, own, asked, core) {
             held[count] = core;
             count += 1;
         }

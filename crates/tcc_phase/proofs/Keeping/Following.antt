@@ -4,6 +4,7 @@ use Rattle.std.specs.Prelude.{IfSome, nat_lt, option_map, slice_get}
 use Rattle.std.proofs.lemmas.Bool.Decides.{nat_tests}
 use Rattle.image_load.specs.Start.{Start}
 use Rattle.rv_code.specs.Machine.{program}
+use Rattle.rv_serial.specs.Given.{TidsOf, grants_of}
 use Rattle.rv_serial.specs.Suiting.{world_at_start}
 use Rattle.rv_serial.proofs.Lemmas.{committed_tids_were_granted_once}
 use Rattle.tcc_base.specs.Settings.{IsAllowed}
@@ -84,10 +85,11 @@ module _ (s : Start) (allowed : IsAllowed s.settings) (es : List Event) (h : His
       subst (λ o. IfSome o (λ (x : History). (c : ℕ) → AtMostOne (x.world.net (Core c) Vendor))) ran (one_request_each s es allowed) c
 
   pub rising : IsRising 0 h.commits
-  rising = (subst (λ o. IfSome o (λ (x : History). IsRising 0 x.commits)) ran (weaker (run s.settings (program s) (world_at_start s) es)
-  (committed_tids_were_granted_once s es)))
+  rising =
+      subst (λ o. IfSome o (λ (x : History). IsRising 0 x.commits)) ran
+      (weaker (run s.settings (program s) (world_at_start s) es) (committed_tids_were_granted_once s es))
     where
-      weaker : (o : Option History) → IfSome o _ → IfSome o (λ (x : History). IsRising 0 x.commits)
+      weaker : (o : Option History) → IfSome o (λ (x : History). TidsOf (grants_of s es) x.commits) → IfSome o (λ (x : History). IsRising 0 x.commits)
       weaker None t = tt
       weaker (Some x) t = t.rising
 

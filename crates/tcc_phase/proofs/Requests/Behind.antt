@@ -1,10 +1,10 @@
 -- Which cores are late, by the phases that are kept.
 use Rattle.std.proofs.Common.{◌≡◌, ℕ, zero, suc, ◌+◌, ◌<◌, ◌≤◌, Bool, true, false, ◌&&◌, ◌||◌, ◌==◌, List, Option, Some, None, refl, ap, sym, ◌∙◌, subst, arith}
-use Rattle.std.specs.Prelude.{get_or, not, nat_lt}
+use Rattle.std.specs.Prelude.{◌↔◌, IsTrue, get_or, not, nat_lt}
 use Rattle.std.proofs.lemmas.Bool.Decides.{nat_tests}
 use Rattle.image_load.specs.Start.{Start}
 use Rattle.tcc_maps.specs.Words.{any_below}
-use Rattle.tcc_rules.specs.State.{World}
+use Rattle.tcc_rules.specs.State.{Halted, Phase, World}
 use Rattle.tcc_rules.specs.Step.{History}
 use Rattle.phase_rules.specs.Phased.{goes_before, has_halted, is_late}
 use Rattle.phase_rules.specs.Phases.{phase_of}
@@ -74,3 +74,9 @@ pub behind-running : (n : ℕ) (w : World) (own : List ℕ) (least : Option ℕ)
     → is_behind n w own q ≡ is_below least q → is_behind (suc n) w own q ≡ either_below least (get_or own n 0) q
 unfolding is_behind any_below
 behind-running n w own least q t e = rw t (ap (λ b. b || nat_lt (get_or own n 0) q) e)
+
+-- what the code knows of a core that has halted
+pub halted-is : (b : Bool) (q : Phase) → IsTrue b ↔ (q ≡ Halted) → has_halted q ≡ b
+halted-is true q h = ap has_halted (h.0 refl)
+halted-is false Halted h = absurd (let t = h.1 refl in cc)
+halted-is false q h = refl
