@@ -10,7 +10,8 @@ use Rattle.tcc_program.specs.Program.{Program}
 unfoldable pub Ran : (base : ℕ) → Program → (m : Plain) → List Commit → (e : Plain) → Type 0
 Ran base p m [] e = m ≡ e
 Ran base p m (c ∷ cs) e =
-    (d : Plain × Attempt) × (transaction base p m c.core.0 c.n ≡ Some d) × (commit_of (order_of_commit c) d.1 ≡ c) × Ran base p d.0 cs e
+    (d : Plain × Attempt) × (transaction base p m c.core.0 c.n ≡ Some d) × (commit_of (order_of_commit c) d.1 ≡ c)
+    × Ran base p d.0 cs e
 
 -- what an execution gives
 
@@ -38,8 +39,10 @@ ran base p last (c ∷ cs) m e q =
     go (nat_lt last c.tid.0) (transaction base p m c.core.0 c.n) refl q (λ k. ran base p c.tid.0 cs k e)
   where
     more : (d : Plain × Attempt) → transaction base p m c.core.0 c.n ≡ Some d → (y : Option (Plain × List Commit))
-        → serial base p c.tid.0 (map order_of_commit cs) d.0 ≡ y → and_commit (commit_of (order_of_commit c) d.1) y ≡ Some (e, c ∷ cs)
-        → ((k : Plain) → serial base p c.tid.0 (map order_of_commit cs) k ≡ Some (e, cs) → Ran base p k cs e) → Ran base p m (c ∷ cs) e
+        → serial base p c.tid.0 (map order_of_commit cs) d.0 ≡ y
+        → and_commit (commit_of (order_of_commit c) d.1) y ≡ Some (e, c ∷ cs)
+        → ((k : Plain) → serial base p c.tid.0 (map order_of_commit cs) k ≡ Some (e, cs) → Ran base p k cs e)
+        → Ran base p m (c ∷ cs) e
     more d h None s q f = absurd (cc)
     more d h (Some r) s q f =
         let same : commit_of (order_of_commit c) d.1 ≡ c = ap (λ o. first_of c (commits_of o)) q in
@@ -49,7 +52,8 @@ ran base p last (c ∷ cs) m e q =
 
     go : (b : Bool) (t : Option (Plain × Attempt)) → transaction base p m c.core.0 c.n ≡ t
         → (if b then after_order (serial base p c.tid.0 (map order_of_commit cs)) (order_of_commit c) t else None) ≡ Some (e, c ∷ cs)
-        → ((k : Plain) → serial base p c.tid.0 (map order_of_commit cs) k ≡ Some (e, cs) → Ran base p k cs e) → Ran base p m (c ∷ cs) e
+        → ((k : Plain) → serial base p c.tid.0 (map order_of_commit cs) k ≡ Some (e, cs) → Ran base p k cs e)
+        → Ran base p m (c ∷ cs) e
     go false t h q f = absurd (cc)
     go true None h q f = absurd (cc)
     go true (Some d) h q f = more d h (serial base p c.tid.0 (map order_of_commit cs) d.0) refl q f

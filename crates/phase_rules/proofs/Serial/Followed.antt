@@ -1,5 +1,6 @@
 -- The same commits from two machines that differ in one core that none of them is of: the same phases, and all other cores alike.
-use Rattle.std.specs.Prelude.{ℕ, ◌≡◌, ◌≢◌, ◌==◌, Bool, true, false, List, [], ◌∷◌, map, max, Some, if◌then◌else◌}
+use Rattle.std.specs.Prelude.{ℕ, ◌≡◌, ◌≢◌, ◌==◌, Bool, true, false, List, [], ◌∷◌, map, max, Some}
+use Rattle.std.specs.Prelude.{if◌then◌else◌}
 use Rattle.std.proofs.Common.{arith, refl, ap, sym, ◌∙◌}
 use Rattle.std.proofs.lemmas.Bool.Decides.{nat_tests}
 use Rattle.tcc_base.specs.Put.{put}
@@ -8,8 +9,8 @@ use Rattle.tcc_program.specs.Orders.{order_of_commit}
 use Rattle.tcc_program.specs.Plain.{Attempt, Plain, commit_of, transaction}
 use Rattle.tcc_program.specs.Program.{Program}
 use Rattle.phase_rules.specs.Phases.{x27, Phases, and_phase, phases_along}
-use Rattle.phase_rules.proofs.Ran.{Ran}
-use Rattle.phase_rules.proofs.Replayed.{Closes, Alike, transaction-closes, transactions-alike}
+use Rattle.phase_rules.proofs.Serial.Ran.{Ran}
+use Rattle.phase_rules.proofs.Serial.Replayed.{Closes, Alike, transaction-closes, transactions-alike}
 
 -- maps
 
@@ -58,19 +59,22 @@ pub record Followed (x : ℕ) (here there : Phases) (m end other : Plain) (f g :
   pub locals : (c : ℕ) → c ≢ x → (end.cores c).local ≡ (other.cores c).local
   pub still : (end.cores x).local ≡ (m.cores x).local
 
-pub closes : (base : ℕ) (p : Program) (m : Plain) (core n : ℕ) (d : Plain × Attempt) → transaction base p m core n ≡ Some d → Closes m core d
+pub closes : (base : ℕ) (p : Program) (m : Plain) (core n : ℕ) (d : Plain × Attempt) → transaction base p m core n ≡ Some d
+    → Closes m core d
 closes base p m core n d h = rw h at (transaction-closes base p m core n)
 
 alike : (base : ℕ) (p : Program) (m k : Plain) (core n : ℕ) (d f : Plain × Attempt) → transaction base p m core n ≡ Some d
     → transaction base p k core n ≡ Some f → (m.cores core).local ≡ (k.cores core).local → Alike d f
 alike base p m k core n d f h i e = rw (h, i) at (transactions-alike base p m k core n e)
 
-same-loads : (c : Commit) (a b : Attempt) → commit_of (order_of_commit c) a ≡ c → commit_of (order_of_commit c) b ≡ c → a.loads ≡ b.loads
+same-loads : (c : Commit) (a b : Attempt) → commit_of (order_of_commit c) a ≡ c → commit_of (order_of_commit c) b ≡ c
+    → a.loads ≡ b.loads
 unfolding commit_of
 same-loads c a b e f = ap (λ x. x.loads) e ∙ sym (ap (λ x. x.loads) f)
 
 -- after one commit of another core
-apart-after : (base : ℕ) (p : Program) (x : ℕ) (c : Commit) (m k : Plain) (f g : ℕ → ℕ) (d t : Plain × Attempt) → c.core.0 ≢ x → Apart x m k f g
+apart-after : (base : ℕ) (p : Program) (x : ℕ) (c : Commit) (m k : Plain) (f g : ℕ → ℕ) (d t : Plain × Attempt)
+    → c.core.0 ≢ x → Apart x m k f g
     → transaction base p m c.core.0 c.n ≡ Some d → transaction base p k c.core.0 c.n ≡ Some t
     → commit_of (order_of_commit c) d.1 ≡ c → commit_of (order_of_commit c) t.1 ≡ c
     → Apart x d.0 t.0 (put f c.core.0 (phase_at f m c.core.0)) (put g c.core.0 (phase_at g k c.core.0))
@@ -105,7 +109,8 @@ apart-after base p x c m k f g d t n a h i e u = record {
     last j true q l = phase
     last j false q l = a.lasts j l
 
-pub followed : (base : ℕ) (p : Program) (cs : List Commit) (x : ℕ) (m k end other : Plain) (f g : ℕ → ℕ) → NoneBy x cs → Apart x m k f g
+pub followed : (base : ℕ) (p : Program) (cs : List Commit) (x : ℕ) (m k end other : Plain) (f g : ℕ → ℕ) → NoneBy x cs
+    → Apart x m k f g
     → Ran base p m cs end → Ran base p k cs other
     → Followed x (along base p f cs m) (along base p g cs k) m end other f g
 unfolding NoneBy Ran phases_along
@@ -134,7 +139,8 @@ followed base p (c ∷ cs) x m k end other f g n a (d, h, e, r) (t, i, u, q) =
     next = put g c.core.0 (phase_at g k c.core.0)
 
     first : Followed x (along base p last cs d.0) (along base p next cs t.0) d.0 end other last next
-        → Followed x (and_phase (phase_at f m c.core.0) (along base p last cs d.0)) (and_phase (phase_at g k c.core.0) (along base p next cs t.0)) m end other f g
+        → Followed x (and_phase (phase_at f m c.core.0) (along base p last cs d.0))
+        (and_phase (phase_at g k c.core.0) (along base p next cs t.0)) m end other f g
     first more = record {
       each = λ i. phase i ∷ more.each i;
       lasts = more.lasts;

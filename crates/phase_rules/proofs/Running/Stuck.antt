@@ -1,5 +1,6 @@
 -- No state that a run by phases reaches is stuck: of the cores that haven't halted one in the earliest phase goes on.
-use Rattle.std.specs.Prelude.{ℕ, IsTrue, zero, suc, ◌≡◌, ◌≢◌, ◌<◌, ◌≤◌, Bool, true, false, not, ◌==◌, ◌&&◌, ◌||◌, nat_lt, List, [], ◌∷◌, Option, Some, None, IfSome}
+use Rattle.std.specs.Prelude.{ℕ, IsTrue, zero, suc, ◌≡◌, ◌≢◌, ◌<◌, ◌≤◌, Bool, true, false, not, ◌==◌, ◌&&◌}
+use Rattle.std.specs.Prelude.{◌||◌, nat_lt, List, [], ◌∷◌, Option, Some, None, IfSome}
 use Rattle.std.proofs.Common.{arith, refl, ◌⊎◌, inl, inr}
 use Rattle.std.specs.Int.{is_power_of_two}
 use Rattle.std.specs.Int.RustNames.{count_ones}
@@ -23,8 +24,8 @@ use Rattle.rv_serial.proofs.Lemmas.{riscv_programs_suit}
 use Rattle.phase_rules.specs.Laws.{PhasedNeverStuck, PhasedPickedEndsDone, at_start}
 use Rattle.phase_rules.specs.Phased.{has_halted, goes_before, is_late, is_held, phased_from, phased_useful, phased_picked}
 use Rattle.phase_rules.specs.Phases.{phase_of}
-use Rattle.phase_rules.proofs.Chosen.{fails-each, picks}
-use Rattle.phase_rules.proofs.Runs.{phased_runs_are_runs}
+use Rattle.phase_rules.proofs.Running.Chosen.{fails-each, picks}
+use Rattle.phase_rules.proofs.Running.Runs.{phased_runs_are_runs}
 
 positive : (n : ℕ) → IsTrue (is_power_of_two n) → 1 ≤ n
 positive n h = let e : count_ones n ≡ 1 = grind (arith, nat_tests) in omega (arith, ones_le_self n)
@@ -91,7 +92,8 @@ held-is-late s h c _ p x = absurd (cc)
 abbrev NoneLeft : Start → History → Type 0
 NoneLeft s h = phased_useful s h ≡ []
 
-all-held : (s : Start) (h : History) (e : Event) → NoneLeft s h → IsIn e (useful s.settings (program s) h.world) → is_held s h e ≡ true
+all-held : (s : Start) (h : History) (e : Event) → NoneLeft s h → IsIn e (useful s.settings (program s) h.world)
+    → is_held s h e ≡ true
 unfolding phased_useful
 all-held s h e z i = go (is_held s h e) (fails-each (λ e. not (is_held s h e)) e (useful s.settings (program s) h.world) z i)
   where
@@ -100,7 +102,8 @@ all-held s h e z i = go (is_held s h e) (fails-each (λ e. not (is_held s h e)) 
     go false q = absurd (cc)
 
 -- no core in a phase below n goes on
-none-goes : (n : ℕ) (s : Start) (h : History) → EachGoesOn s.settings (program s) h.world → NoneLeft s h → (c : ℕ) → c < s.settings.cores
+none-goes : (n : ℕ) (s : Start) (h : History) → EachGoesOn s.settings (program s) h.world → NoneLeft s h → (c : ℕ)
+    → c < s.settings.cores
     → phase_of s h c < n → (h.world.cores c).phase ≢ Halted → ⊥
 unfolding is_late
 none-goes zero s h g z c l b u = omega (arith, b)
@@ -124,7 +127,8 @@ all-halted s h g z c l = go (halted-or (h.world.cores c).phase)
     go (inr u) = absurd (none-goes (suc (phase_of s h c)) s h g z c l (omega arith) u)
 
 -- where all have halted nothing is held back
-none-held : (s : Start) (h : History) → ((c : ℕ) → c < s.settings.cores → (h.world.cores c).phase ≡ Halted) → (e : Event) → is_held s h e ≡ false
+none-held : (s : Start) (h : History) → ((c : ℕ) → c < s.settings.cores → (h.world.cores c).phase ≡ Halted) → (e : Event)
+    → is_held s h e ≡ false
 unfolding is_held is_late
 none-held s h a (Deliver (Core c) Vendor k) = none-below (goes_before s h c) s.settings.cores (λ j l. at j (a j l))
   where
@@ -159,9 +163,9 @@ phased_never_stuck s es k = go (phased_from s es (at_start s)) (phased_runs_are_
     reached : (h : History) → run s.settings (program s) (world_at_start s) es ≡ Some h → NoneLeft s h → IsDone s.settings h.world
     reached h e z =
         let done : DoneWhereNoneUseful s.settings (program s) h.world =
-            rw e at (no_state_is_stuck s.settings (program s) (local_at_start s) (first_ram s) es (equipped s k)) in
+        rw e at (no_state_is_stuck s.settings (program s) (local_at_start s) (first_ram s) es (equipped s k)) in
         let on : EachGoesOn s.settings (program s) h.world =
-            rw e at (each_core_goes_on s.settings (program s) (local_at_start s) (first_ram s) es (equipped s k)) in
+        rw e at (each_core_goes_on s.settings (program s) (local_at_start s) (first_ram s) es (equipped s k)) in
         done (none-useful s h on z)
 
     go : (o : Option History) → IfSome o (λ h. run s.settings (program s) (world_at_start s) es ≡ Some h) → EndsDone s o

@@ -1,6 +1,7 @@
 -- What a chooser takes of the useful events that aren't held back: a schedule that it picks by phases is a run by phases, and ends early
 -- only where none is left.
-use Rattle.std.specs.Prelude.{ℕ, zero, suc, ◌≡◌, ◌<◌, ◌%◌, Bool, true, false, not, List, [], ◌∷◌, length, filter, Option, Some, None, is_some, slice_index_or, IfSome, if◌then◌else◌}
+use Rattle.std.specs.Prelude.{ℕ, zero, suc, ◌≡◌, ◌<◌, ◌%◌, Bool, true, false, not, List, [], ◌∷◌, length, filter}
+use Rattle.std.specs.Prelude.{Option, Some, None, is_some, slice_index_or, IfSome, if◌then◌else◌}
 use Rattle.std.proofs.Common.{arith, refl, ◌⊎◌, inl, inr}
 use Rattle.image_load.specs.Start.{Start}
 use Rattle.rv_code.specs.Machine.{program}
@@ -63,7 +64,7 @@ happens s h e i =
     let k = in-filter (λ e. not (is_held s h e)) e (useful s.settings (program s) h.world) i in
     let u : is_useful s.settings (program s) h.world e ≡ true = (useful-holds s.settings (program s) h.world e).0 (k.1) in
     let n : is_some (step s.settings (program s) h.world e) ≡ true =
-        and-left (is_enabled s.settings (program s) h.world e) (is_of_use s.settings (program s) h.world e) u in
+    and-left (is_enabled s.settings (program s) h.world e) (is_of_use s.settings (program s) h.world e) u in
     go (is_held s h e) (k.0) (some-recorded h (step s.settings (program s) h.world e) n)
   where
     go : (b : Bool) → not b ≡ true → is_some (next s.settings (program s) h e) ≡ true

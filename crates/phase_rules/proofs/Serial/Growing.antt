@@ -1,6 +1,7 @@
 -- What an event does to the phases, after any run: nothing where it notes no commit; else the commit has the phase that its core was in,
 -- and the core's next transaction begins at the new checkpoint.
-use Rattle.std.specs.Prelude.{ℕ, ◌≡◌, ◌≢◌, ◌<◌, ◌≤◌, ◌==◌, true, List, [], ◌∷◌, ◌++◌, length, max, Contains, Option, Some, None, IfSome, nat_lt}
+use Rattle.std.specs.Prelude.{ℕ, ◌+◌, ◌≡◌, ◌≢◌, ◌<◌, ◌≤◌, ◌==◌, true, List, [], ◌∷◌, ◌++◌, length}
+use Rattle.std.specs.Prelude.{max, Contains, Option, Some, None, IfSome, nat_lt}
 use Rattle.std.proofs.Common.{arith, refl, ap, sym, ◌∙◌}
 use Rattle.std.proofs.lemmas.Bool.Decides.{nat_tests}
 use Rattle.image_load.specs.Start.{Start}
@@ -16,7 +17,7 @@ use Rattle.tcc_maps.specs.Words.{num}
 use Rattle.tcc_rules.specs.State.{World}
 use Rattle.tcc_rules.specs.Step.{History, Stepped, step, and_noted, insert_commit, recorded, next, and_then, run_from, run}
 use Rattle.tcc_serial.specs.Invariants.{Carried, first_state}
-use Rattle.tcc_serial.specs.Owners.{Grant, IsRising, AreGranted, times, holder, LastGranted}
+use Rattle.tcc_serial.specs.Owners.{Grant, IsNumbered, IsRising, AreGranted, times, holder, LastGranted}
 use Rattle.tcc_serial.specs.Pairs.{pair}
 use Rattle.tcc_serial.specs.Tids.{has_tid}
 use Rattle.tcc_serial.specs.Ways.{Ways, first_ways, ways_from}
@@ -26,10 +27,10 @@ use Rattle.rv_serial.specs.Suiting.{local_at_start, world_at_start, AfterRun}
 use Rattle.rv_serial.proofs.Lemmas.{runs_give_the_plain_machine}
 use Rattle.phase_rules.specs.Laws.{Grows, PhasesGrow, noted_by}
 use Rattle.phase_rules.specs.Phases.{x27, phases_in, phases_of, phase_of}
-use Rattle.phase_rules.proofs.Followed.{phase_at}
-use Rattle.phase_rules.proofs.Inserted.{IsLast, Grown, with_phase, grown, along-count, with-phase_put_in}
-use Rattle.phase_rules.proofs.Noting.{NotedIn, step-notes}
-use Rattle.phase_rules.proofs.Ran.{Ran, ran}
+use Rattle.phase_rules.proofs.Serial.Followed.{phase_at}
+use Rattle.phase_rules.proofs.Serial.Inserted.{IsLast, Grown, with_phase, grown, along-count, with-phase_put_in}
+use Rattle.phase_rules.proofs.Events.Noting.{NotedIn, step-notes}
+use Rattle.phase_rules.proofs.Serial.Ran.{Ran, ran}
 
 -- one more event
 
@@ -56,6 +57,7 @@ pub record State (s : Start) (gs : List Grant) (h : History) : Type 0 where
   pub serial : IsSerial s h
   pub rising : IsRising 0 h.commits
   pub granted : AreGranted gs h.commits
+  pub numbered : IsNumbered 1 gs × (h.world.next ≡ length gs + 1)
   pub live : (c d t : ℕ) → c < s.settings.cores → 1 ≤ holder t (pair h.world c d)
       → Contains gs (record { tid = t; core = c }) × (times t h.commits ≡ 0)
   pub last : LastGranted gs h.world
@@ -74,6 +76,7 @@ state_after s es k = go (run s.settings (program s) (world_at_start s) es) (runs
       serial = a;
       rising = b.commits_are_of_granted_tids.0;
       granted = b.commits_are_of_granted_tids.1;
+      numbered = b.granted_tids_are_those_below_next;
       live = b.live_tid_is_granted_to_its_core;
       last = b.live_tid_is_the_last_granted_to_its_core;
     }
@@ -93,11 +96,12 @@ is-last gs x (c ∷ cs) z a f = (differs, smaller, is-last gs x cs (omega (arith
     smaller e = let l : c.tid.0 ≤ x.tid.0 = f c.tid.0 (rw e at (a.0)) in
         let n : c.tid.0 ≢ x.tid.0 = differs in grind (arith, nat_tests)
 
-holds : (w : World) (c t : ℕ) → has_tid (w.cores c).phase t ≡ true → 1 ≤ holder t (pair w c 0)
+pub holds : (w : World) (c t : ℕ) → has_tid (w.cores c).phase t ≡ true → 1 ≤ holder t (pair w c 0)
 unfolding holder pair
 holds w c t e = let one : num (has_tid (w.cores c).phase t) ≡ 1 = rw e refl in omega (arith, one)
 
-pub noted-last : (s : Start) (gs : List Grant) (h : History) (x : Commit) → State s gs h → NotedIn s.settings h.world x → IsLast x h.commits
+pub noted-last : (s : Start) (gs : List Grant) (h : History) (x : Commit) → State s gs h → NotedIn s.settings h.world x
+    → IsLast x h.commits
 noted-last s gs h x k n =
     let l = holds h.world x.core.0 x.tid.0 n.has in
     is-last gs x h.commits ((k.live x.core.0 0 x.tid.0 n.core l).1) k.granted (λ u i. k.last x.core.0 0 x.tid.0 u l i)
@@ -112,7 +116,8 @@ saved : (s : Start) (h : History) (c : ℕ) → c < s.settings.cores → ((commi
 unfolding committed
 saved s h c l = let e : nat_lt c s.settings.cores ≡ true = grind (arith, nat_tests) in rw e refl
 
-phase-at : (s : Start) (h : History) (c : ℕ) → c < s.settings.cores → phase_at (phases_in s h).last (committed s h) c ≡ phase_of s h c
+phase-at : (s : Start) (h : History) (c : ℕ) → c < s.settings.cores
+    → phase_at (phases_in s h).last (committed s h) c ≡ phase_of s h c
 unfolding phase_of
 phase-at s h c l = λ i. max ((phases_in s h).last c) (x27 (saved s h c l i))
 
@@ -156,7 +161,8 @@ same-machine : (s : Start) (h : History) (w : World) → IsSerial s h → IsSeri
 unfolding IsSerial
 same-machine s h w old new = ap (machine_of (committed s h)) (sym new ∙ old)
 
-pub silent : (s : Start) (h : History) (w : World) → IsSerial s h → IsSerial s (after_silence h w) → (c : ℕ) → c < s.settings.cores
+pub silent : (s : Start) (h : History) (w : World) → IsSerial s h → IsSerial s (after_silence h w) → (c : ℕ)
+    → c < s.settings.cores
     → phase_of s (after_silence h w) c ≡ phase_of s h c
 unfolding phase_of phases_in
 silent s h w old new c l = λ i. max ((phases_in s h).last c) (x27 (stays i))
@@ -181,11 +187,9 @@ grows s gs h o k new n = go o.noted new n
     go None new n = (refl, silent s h o.world k.serial new)
     go (Some x) new n =
         let a = added s gs h o.world x k new n in
-        (
-          a.each ∙ with-phase_put_in x (phase_of s h x.core.0) 0 h.commits (phases_of s h) (counted s h k.serial) k.rising (noted-last s gs h x k n),
-          a.own,
-          a.others,
-        )
+        let placed = with-phase_put_in x (phase_of s h x.core.0) 0 h.commits (phases_of s h) (counted s h k.serial) k.rising
+        (noted-last s gs h x k n) in
+        (a.each ∙ placed, a.own, a.others)
 
 -- after every run
 
@@ -210,7 +214,8 @@ phases_grow s es e k = go (run_from s.settings (program s) es first) (state_afte
     first : History
     first = record { world = world_at_start s; commits = [] }
 
-    go : (o : Option History) → IfSome o (State s (grants_of s es)) → IfSome (and_then (λ g. next s.settings (program s) g e) o) (IsSerial s)
+    go : (o : Option History) → IfSome o (State s (grants_of s es))
+        → IfSome (and_then (λ g. next s.settings (program s) g e) o) (IsSerial s)
         → IfSome o (EachGrows s e)
     go None a b = tt
     go (Some h) a b = event-grows s (grants_of s es) e h a b

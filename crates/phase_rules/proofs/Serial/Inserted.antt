@@ -1,5 +1,6 @@
 -- One more commit, the last of its core, in its place by its TID: the others keep their phases, and it has the phase that its core was in.
-use Rattle.std.specs.Prelude.{ℕ, suc, ◌≡◌, ◌≢◌, ◌<◌, ◌≤◌, Bool, true, false, List, [], ◌∷◌, length, max, Option, Some, None, nat_lt, if◌then◌else◌}
+use Rattle.std.specs.Prelude.{ℕ, suc, ◌≡◌, ◌≢◌, ◌<◌, ◌≤◌, Bool, true, false, List, [], ◌∷◌, length, max}
+use Rattle.std.specs.Prelude.{Option, Some, None, nat_lt, if◌then◌else◌}
 use Rattle.std.proofs.Common.{arith, refl, ap, sym, subst, ◌∙◌}
 use Rattle.std.proofs.lemmas.Bool.Decides.{nat_tests}
 use Rattle.tcc_base.specs.Put.{put}
@@ -10,8 +11,8 @@ use Rattle.tcc_rules.specs.Step.{insert_commit}
 use Rattle.tcc_serial.specs.Owners.{IsRising}
 use Rattle.phase_rules.specs.Laws.{put_in, place_of}
 use Rattle.phase_rules.specs.Phases.{x27, Phases, phases_along}
-use Rattle.phase_rules.proofs.Followed.{put-same, put-other, along, phase_at, along-first, NoneBy, Apart, Followed, closes, followed}
-use Rattle.phase_rules.proofs.Ran.{Ran}
+use Rattle.phase_rules.proofs.Serial.Followed.{put-same, put-other, along, phase_at, along-first, NoneBy, Apart, Followed, closes, followed}
+use Rattle.phase_rules.proofs.Serial.Ran.{Ran}
 
 -- no commit has its TID, and its core's commits have smaller ones
 unfoldable pub IsLast : Commit → List Commit → Type 0
@@ -72,9 +73,10 @@ first-grown base p x cs m end other f n w r (d, h, e, t) =
     phase = λ i. max (sym both.here_last i) (x27 (sym both.still i))
 
 -- it is put behind the first
-behind-grown : (base : ℕ) (p : Program) (x c : Commit) (cs ds : List Commit) (m end other : Plain) (f : ℕ → ℕ) (d : Plain × Attempt)
-    → nat_lt x.tid.0 c.tid.0 ≡ false → transaction base p m c.core.0 c.n ≡ Some d
-    → Grown x cs (along base p (put f c.core.0 (phase_at f m c.core.0)) cs d.0) (along base p (put f c.core.0 (phase_at f m c.core.0)) ds d.0) end other
+behind-grown : (base : ℕ) (p : Program) (x c : Commit) (cs ds : List Commit) (m end other : Plain) (f : ℕ → ℕ)
+    (d : Plain × Attempt) → nat_lt x.tid.0 c.tid.0 ≡ false → transaction base p m c.core.0 c.n ≡ Some d
+    → Grown x cs (along base p (put f c.core.0 (phase_at f m c.core.0)) cs d.0)
+    (along base p (put f c.core.0 (phase_at f m c.core.0)) ds d.0) end other
     → Grown x (c ∷ cs) (along base p f (c ∷ cs) m) (along base p f (c ∷ ds) m) end other
 unfolding with_phase
 behind-grown base p x c cs ds m end other f d e h g =
@@ -97,15 +99,16 @@ same-first base p m c d t h i = ap (some-of d) (sym i ∙ h)
 behind-first : (base : ℕ) (p : Program) (x c : Commit) (cs ds : List Commit) (m end other : Plain) (f : ℕ → ℕ)
     → nat_lt x.tid.0 c.tid.0 ≡ false → Ran base p m (c ∷ cs) end → Ran base p m (c ∷ ds) other
     → ((d : Plain × Attempt) → Ran base p d.0 cs end → Ran base p d.0 ds other
-        → Grown x cs (along base p (put f c.core.0 (phase_at f m c.core.0)) cs d.0)
-        (along base p (put f c.core.0 (phase_at f m c.core.0)) ds d.0) end other)
+    → Grown x cs (along base p (put f c.core.0 (phase_at f m c.core.0)) cs d.0)
+    (along base p (put f c.core.0 (phase_at f m c.core.0)) ds d.0) end other)
     → Grown x (c ∷ cs) (along base p f (c ∷ cs) m) (along base p f (c ∷ ds) m) end other
 unfolding Ran
 behind-first base p x c cs ds m end other f e (d, h, v, y) (t, i, u, z) g =
     behind-grown base p x c cs ds m end other f d e h
     (g d y (subst (λ w. Ran base p w.0 ds other) (same-first base p m c d t h i) z))
 
-pub grown : (base : ℕ) (p : Program) (x : Commit) (last : ℕ) (cs : List Commit) (m end other : Plain) (f : ℕ → ℕ) → IsRising last cs
+pub grown : (base : ℕ) (p : Program) (x : Commit) (last : ℕ) (cs : List Commit) (m end other : Plain) (f : ℕ → ℕ)
+    → IsRising last cs
     → IsLast x cs → Ran base p m cs end → Ran base p m (insert_commit x cs) other
     → Grown x cs (along base p f cs m) (along base p f (insert_commit x cs) m) end other
 unfolding insert_commit IsRising IsLast with_phase NoneBy
@@ -120,9 +123,10 @@ grown base p x last (c ∷ cs) m end other f r k a b =
 
     go : (b : Bool) → nat_lt x.tid.0 c.tid.0 ≡ b → Ran base p m (if b then x ∷ c ∷ cs else c ∷ insert_commit x cs) other
         → ((d : Plain × Attempt) → Ran base p d.0 cs end → Ran base p d.0 (insert_commit x cs) other
-            → Grown x cs (along base p (put f c.core.0 (phase_at f m c.core.0)) cs d.0)
-            (along base p (put f c.core.0 (phase_at f m c.core.0)) (insert_commit x cs) d.0) end other)
-        → Grown x (c ∷ cs) (along base p f (c ∷ cs) m) (along base p f (if b then x ∷ c ∷ cs else c ∷ insert_commit x cs) m) end other
+        → Grown x cs (along base p (put f c.core.0 (phase_at f m c.core.0)) cs d.0)
+        (along base p (put f c.core.0 (phase_at f m c.core.0)) (insert_commit x cs) d.0) end other)
+        → Grown x (c ∷ cs) (along base p f (c ∷ cs) m)
+        (along base p f (if b then x ∷ c ∷ cs else c ∷ insert_commit x cs) m) end other
     go true e z g = first-grown base p x (c ∷ cs) m end other f (none e) (rw e refl) a z
     go false e z g = behind-first base p x c cs (insert_commit x cs) m end other f e a z g
 
@@ -149,7 +153,8 @@ none-smaller t last (c ∷ cs) l r =
     let e : nat_lt c.tid.0 t ≡ false = let k = r.0 in grind (arith, nat_tests) in
     rw e (none-smaller t c.tid.0 cs (omega (arith, l, r.0)) (r.1))
 
-pub with-phase_put_in : (x : Commit) (q last : ℕ) (cs : List Commit) (rs : List ℕ) → length rs ≡ length cs → IsRising last cs → IsLast x cs
+pub with-phase_put_in : (x : Commit) (q last : ℕ) (cs : List Commit) (rs : List ℕ) → length rs ≡ length cs → IsRising last cs
+    → IsLast x cs
     → with_phase x.tid.0 q cs rs ≡ put_in (place_of x.tid.0 cs) q rs
 unfolding with_phase IsRising IsLast
 with-phase_put_in x q last [] rs e r k = refl

@@ -102,7 +102,8 @@ pub record NotedIn (sh : Shape) (w : World) (x : Noted) : Type 0 where
 abbrev pub NotedBy : Shape → World → Option Stepped → Type 0
 NotedBy sh w o = IfSome o (λ t. IfSome t.noted (NotedIn sh w))
 
-noted-in : (sh : Shape) (w : World) (c : ℕ) (n : Option Noted) → c < sh.cores → Notes c (w.cores c).phase n → IfSome n (NotedIn sh w)
+noted-in : (sh : Shape) (w : World) (c : ℕ) (n : Option Noted) → c < sh.cores → Notes c (w.cores c).phase n
+    → IfSome n (NotedIn sh w)
 noted-in sh w c None l k = tt
 noted-in sh w c (Some x) l k = record { core = rw k.core l; has = rw k.core k.has }
 
@@ -111,7 +112,8 @@ moved-notes : (sh : Shape) (w : World) (c : ℕ) (o : Option Out) → c < sh.cor
 moved-notes sh w c None l k = tt
 moved-notes sh w c (Some o) l k = noted-in sh w c o.commit l k
 
-taken-notes : (sh : Shape) (w : World) (src : Node) (c k : ℕ) (o : Option Out) → commit_in o ≡ None → NotedBy sh w (taken w src c k o)
+taken-notes : (sh : Shape) (w : World) (src : Node) (c k : ℕ) (o : Option Out) → commit_in o ≡ None
+    → NotedBy sh w (taken w src c k o)
 taken-notes sh w src c k None e = tt
 taken-notes sh w src c k (Some o) e = rw e tt
 
@@ -144,7 +146,8 @@ step-notes sh p w (Exec c) = go (nat_lt c sh.cores) refl
     go false e = tt
 step-notes sh p w (Evict c x y) = go (nat_lt c sh.cores) refl (nat_lt x sh.sets && nat_lt y sh.ways)
   where
-    go : (b : Bool) → nat_lt c sh.cores ≡ b → (a : Bool) → NotedBy sh w (if b && a then moved w c (core_evict sh x y (w.cores c)) else None)
+    go : (b : Bool) → nat_lt c sh.cores ≡ b → (a : Bool)
+        → NotedBy sh w (if b && a then moved w c (core_evict sh x y (w.cores c)) else None)
     go true e true = moved-notes sh w c (core_evict sh x y (w.cores c)) (grind (arith, nat_tests))
         (nothing c (w.cores c).phase _ (quiet-evict sh x y (w.cores c)))
     go true e false = tt
