@@ -3,3 +3,4 @@ pub mod Asked
 pub mod Behind
 pub mod Listed
 pub mod Those
+pub mod Waiting

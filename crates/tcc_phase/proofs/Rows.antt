@@ -1,5 +1,5 @@
 -- The useful events that aren't held back, by number.
-use Rattle.std.proofs.Common.{◌≡◌, ℕ, zero, suc, ◌+◌, ◌-◌, ◌<◌, ◌≤◌, Bool, true, false, List, [], ◌∷◌, length, map, Option, Some, None, refl, ap, sym, ◌∙◌, subst, add-one, arith}
+use Rattle.std.proofs.Common.{◌≡◌, ℕ, zero, suc, ◌+◌, ◌-◌, ◌<◌, ◌≤◌, Bool, true, false, List, [], ◌∷◌, length, map, Option, Some, None, refl, ap, sym, ◌∙◌, subst, arith}
 use Rattle.std.specs.Prelude.{filter, get_or, not, option_map, slice_get, take}
 use Rattle.std.proofs.lemmas.Option.{slice_get-get_or, slice_get-map}
 use Rattle.std.proofs.lemmas.List.{length-map, length-take, get_or-take}
@@ -25,6 +25,9 @@ use Rattle.tcc_phase.proofs.Requests.Those.{those-below}
 pub all-is : (m : Machine) → useful (settings_of m) (program_of m) (world_of m) ≡ all_in m
 unfolding all_in started history_of
 all-is m = refl
+
+next-one : (n : ℕ) → n + 1 ≡ suc n
+next-one n = omega arith
 
 module _ (m : Machine) (l : Ledger) (kept : IsKept (start_of m) (history_of m) m.events l) (holds : UsefulHolds) (ordered : UsefulOrdered) where
   abbrev held : Event → Bool
@@ -84,17 +87,17 @@ module _ (m : Machine) (l : Ledger) (kept : IsKept (start_of m) (history_of m) m
     pub passes : (e : Event) → slice_get (all_in m) (k + j) ≡ Some e → before e own_request ≡ false → j < passed_by m (k + j + 1)
     unfolding passed_by
     passes e at b =
-        subst (λ n. j < left_out held (all_in m) n) (sym (add-one {k + j}))
+        subst (λ n. j < left_out held (all_in m) n) (sym (next-one (k + j)))
         (stands-behind held (all_in m) (k + j) j e own_request all-ordered at (row-is j h) b)
 
     pub not-yet : (e : Event) → slice_get (all_in m) (k + j) ≡ Some e → before e own_request ≡ true → passed_by m (k + j + 1) ≤ j
     unfolding passed_by
     not-yet e at b =
-        subst (λ n. left_out held (all_in m) n ≤ j) (sym (add-one {k + j}))
+        subst (λ n. left_out held (all_in m) n ≤ j) (sym (next-one (k + j)))
         (stands-before held (all_in m) (k + j) j e own_request all-ordered at (row-is j h) b)
 
     pub all-passed : slice_get (all_in m) (k + j) ≡ None → j < passed_by m (k + j + 1)
     unfolding passed_by
     all-passed at =
-        subst (λ n. j < left_out held (all_in m) n) (sym (add-one {k + j}))
+        subst (λ n. j < left_out held (all_in m) n) (sym (next-one (k + j)))
         (let a = out-all held (all_in m) (k + j) at in let b = count-is in omega (arith, a, b, h))

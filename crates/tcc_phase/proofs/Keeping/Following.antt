@@ -17,8 +17,7 @@ use Rattle.tcc_serial.specs.Owners.{IsRising}
 use Rattle.tcc_serial.proofs.Lemmas.{commits_are_by_cores}
 use Rattle.phase_rules.specs.Laws.{Grows, InPhases, at_start, noted_by}
 use Rattle.phase_rules.specs.Phased.{is_held, phased_from, phased_next}
-use Rattle.phase_rules.proofs.Lemmas.{one_request_each, phased_runs_are_runs, phases_grow}
-use Rattle.tcc_phase.proofs.Keeping.Laws.{phases_never_fall}
+use Rattle.phase_rules.proofs.Lemmas.{one_request_each, phased_runs_are_runs, phases_grow, phases_never_fall}
 use Rattle.tcc_phase.proofs.Requests.Asked.{AtMostOne}
 
 after-all : (s : Start) (e : Event) (es : List Event) (h : History)

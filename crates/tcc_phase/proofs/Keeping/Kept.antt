@@ -26,7 +26,7 @@ use Rattle.tcc_phase.specs.Kept.{HasRows, IsKept}
 use Rattle.tcc_phase.specs.Ledger.{IsListed, Notes}
 use Rattle.tcc_phase.specs.Requests.{Counts, IsAsked, IsEven, asks, is_waiting}
 use Rattle.tcc_phase.specs.declared.ledger.Ledger.{Ledger}
-use Rattle.tcc_phase.proofs.Keeping.Following.{Did, by-cores, did, grown, next-is, one-each, phased-on, rising}
+use Rattle.tcc_phase.proofs.Keeping.Following.{Did, by-cores, did, grown, in-phases, next-is, one-each, phased-on, rising}
 use Rattle.tcc_phase.proofs.Places.{at-place, by-core, place-insert, place-most}
 use Rattle.tcc_phase.proofs.Requests.Asked.{asked-after}
 
@@ -93,9 +93,9 @@ module _ (s : Start) (allowed : IsAllowed s.settings) (es : List Event) (e : Eve
   noted o x e w = subst (Grows s h g) e w
 
 -- the phases that are kept beside the machine are those of the rules
-pub record HasPhases (s : Start) (h : History) (each own : List ℕ) : Type 0 where
-  pub each : each ≡ phases_of s h
-  pub own : (c : ℕ) → c < s.settings.cores → get_or own c 0 ≡ phase_of s h c
+pub record HasPhases (s : Start) (h : History) (phases own : List ℕ) : Type 0 where
+  pub all : phases ≡ phases_of s h
+  pub each : (c : ℕ) → c < s.settings.cores → get_or own c 0 ≡ phase_of s h c
 
 module _ (m n : Machine) (allowed : IsAllowed (settings_of m)) (es : List Event) (e : Event)
     (from : phased_from (start_of m) es (at_start (start_of m)) ≡ Some (history_of m))
@@ -111,3 +111,39 @@ module _ (m n : Machine) (allowed : IsAllowed (settings_of m)) (es : List Event)
   tells-of : tid_told done ≡ option_map (λ c. c.tid) done-by.out.noted
   unfolding started history_of
   tells-of = tells ∙ ap tid_noted done-by.step
+
+  pub now-rising : IsRising 0 n.commits
+  unfolding history_of
+  now-rising = rises (start_of m) fits es e (history_of m) (history_of n) from to
+
+  -- the commit that is told stands in its place
+  pub now-listed : (phases : List ℕ) → phases ≡ phases_of (start_of m) (history_of m) → IsListed n done phases (settings_of m).cores
+  unfolding started history_of
+  now-listed phases q = go done tells-of
+    where
+      go : (d : Step) → tid_told d ≡ option_map (λ c. c.tid) done-by.out.noted → IsListed n d phases (settings_of m).cores
+      go Moved r = tt
+      go (Committed t) r =
+          let w = told t done-by.out.noted r in
+          let count = (in-phases (start_of m) fits es (history_of m) from).count in
+          let most = place-most w.commit.tid.0 m.commits in
+          let at = place (start_of m) fits es e (history_of m) (history_of n) from to t w in
+          (
+            w.commit,
+            stands (start_of m) fits es e (history_of m) (history_of n) from to t w,
+            of-core (start_of m) fits es e (history_of m) (history_of n) from to t w,
+            rw q (rw count (rw at most)),
+          )
+
+  grows-so : Grows (start_of m) (history_of m) (history_of n) done-by.out.noted
+  grows-so = grows (start_of m) fits es e (history_of m) (history_of n) from to
+
+  pub now-phases : (phases own more next : List ℕ) → HasPhases (start_of m) (history_of m) phases own → length own ≡ (settings_of m).cores
+      → Notes n done phases own more next → HasPhases (start_of m) (history_of n) more next
+  unfolding started history_of
+  now-phases phases own more next was rows notes = go done tells-of notes
+    where
+      go : (d : Step) → tid_told d ≡ option_map (λ c. c.tid) done-by.out.noted → Notes n d phases own more next
+          → HasPhases (start_of m) (history_of n) more next
+      go Moved r k = ?
+      go (Committed t) r k = ?

@@ -17,13 +17,15 @@ loop-core-preserved c =
     let i = c.loop-core.invariant in
     elim c.if-is_above.branch [
       | then-is_above w ↦
-          let room : c.loop-core.count < length c.loop-core.held = ? in
+          let cores : c.cores-core-end.result ≡ (settings_of m).cores = c.cores-core-end.ensures.value ∙ ap (λ k. k.cores) c.config.ensures in
+          let room : c.loop-core.count < length c.loop-core.held =
+          omega (arith, i.0, i.1, cores, c.requires.held, c.loop-core-test.true, c.loop-core.auto.core-end) in
           rw (w.held-is, w.count-is) (
             omega (arith, i.0),
-            length-set c.loop-core.held c.loop-core.count c.loop-core.core ∙ i.1.0,
-            those-more p c.loop-core.held c.loop-core.count c.loop-core.core (sym c.is_above.ensures ∙ w.if-is_above.true) room i.1.1,
+            length-set c.loop-core.held c.loop-core.count c.loop-core.core ∙ i.1,
+            those-more p c.loop-core.held c.loop-core.count c.loop-core.core (sym c.is_above.ensures ∙ w.if-is_above.true) room i.2,
           )
       | else-is_above w ↦
           rw (w.held-is, w.count-is)
-          (omega (arith, i.0), i.1.0, i.1.1 ∙ sym (those-same p c.loop-core.core (sym c.is_above.ensures ∙ w.if-is_above.false)))
+          (omega (arith, i.0), i.1, i.2 ∙ sym (those-same p c.loop-core.core (sym c.is_above.ensures ∙ w.if-is_above.false)))
     ]
