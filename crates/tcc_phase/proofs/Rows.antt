@@ -2,7 +2,7 @@
 use Rattle.std.proofs.Common.{◌≡◌, ℕ, zero, suc, ◌+◌, ◌-◌, ◌<◌, ◌≤◌, Bool, true, false, List, [], ◌∷◌, length, map, Option, Some, None, refl, ap, sym, ◌∙◌, subst, arith}
 use Rattle.std.specs.Prelude.{filter, get_or, not, option_map, slice_get, take}
 use Rattle.std.proofs.lemmas.Option.{slice_get-get_or, slice_get-map}
-use Rattle.std.proofs.lemmas.List.{length-map, length-take, get_or-take}
+use Rattle.std.proofs.lemmas.List.{length-map, length-take-le, get_or-take}
 use Rattle.image_load.specs.Contents.{started}
 use Rattle.rv_code.specs.Machine.{program}
 use Rattle.tcc_maps.specs.Nodes.{Event}
@@ -44,7 +44,7 @@ module _ (m : Machine) (l : Ledger) (kept : IsKept (start_of m) (history_of m) m
       (behind-late (start_of m) (history_of m) l.own.items kept.own) kept.asked
 
   count-is : length (filter held (all_in m)) ≡ l.count
-  count-is = ap length (sym listed) ∙ length-map (take l.count l.held.items) (request l.asked.items) ∙ length-take l.count l.held.items rows
+  count-is = ap length (sym listed) ∙ length-map (take l.count l.held.items) (request l.asked.items) ∙ length-take-le l.count l.held.items rows
 
   pub held-many : held_in m ≡ l.count
   unfolding held_in
@@ -66,14 +66,14 @@ module _ (m : Machine) (l : Ledger) (kept : IsKept (start_of m) (history_of m) m
       ∙ ap Some (get_or-take l.count l.held.items j 0 h))
     where
       within : (j : ℕ) → j < l.count → j < length (take l.count l.held.items)
-      within j h = let a = length-take l.count l.held.items rows in omega (arith, a, h)
+      within j h = let a = length-take-le l.count l.held.items rows in omega (arith, a, h)
 
   -- its request
   row-is : (j : ℕ) → j < l.count → slice_get (filter held (all_in m)) j ≡ Some (request l.asked.items (get_or l.held.items j 0))
   row-is j h =
       ap (λ xs. slice_get xs j) (sym listed) ∙ slice_get-map (request l.asked.items) (take l.count l.held.items) j
       ∙ ap (option_map (request l.asked.items))
-      (slice_get-get_or (take l.count l.held.items) j 0 (let a = length-take l.count l.held.items rows in omega (arith, a, h))
+      (slice_get-get_or (take l.count l.held.items) j 0 (let a = length-take-le l.count l.held.items rows in omega (arith, a, h))
       ∙ ap Some (get_or-take l.count l.held.items j 0 h))
 
   all-ordered : IsOrdered (all_in m)

@@ -1,5 +1,5 @@
 -- What the calls that take events by phases answer.
-use Rattle.std.specs.Prelude.{ℕ, ◌≡◌, ◌≢◌, List, map, take, Option, Some, None, slice_get}
+use Rattle.std.specs.Prelude.{ℕ, ◌≡◌, ◌≢◌, Bool, true, false, List, map, take, Option, Some, None, slice_get}
 use Rattle.tcc_maps.specs.Nodes.{Event}
 use Rattle.tcc_msg.specs.Plain.{event_of}
 use Rattle.tcc_msg.specs.declared.event.Event.{Event as CodeEvent}
@@ -12,6 +12,11 @@ use Rattle.net_core.specs.declared.taking.StepError.TheVariants.{Refused, Memory
 -- what the rules of phases make of an event in this state; None: it isn't enabled, or it is held back
 abbrev pub next_of : Machine → Event → Option History
 next_of m e = phased_next (start_of m) (history_of m) e
+
+-- why there is no memory for an event, or it isn't enabled
+abbrev pub cause_of : (enabled : Bool) → StepError
+cause_of true = Memory
+cause_of false = Refused
 
 -- the first n of these events, one after another
 abbrev pub Ran : (old new : Machine) → (n : ℕ) → List CodeEvent → Type 0

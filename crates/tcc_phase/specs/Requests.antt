@@ -37,6 +37,11 @@ is_above s p w least own asked c = nat_lt least (get_or own c 0) && is_some (ste
 abbrev pub IsEven : (uneven : Bool) → (own : List ℕ) → (n : ℕ) → Type 0
 IsEven uneven own n = uneven ≡ false → (c d : ℕ) → c < n → d < n → get_or own c 0 ≡ get_or own d 0
 
+-- the core whose message to the vendor the event delivers
+abbrev pub asker : Event → Option ℕ
+asker (Deliver (Core c) Vendor k) = Some c
+asker _ = None
+
 -- the event delivers a message from core c to the vendor
 abbrev pub asks : (core : ℕ) → Event → Bool
 asks c (Deliver (Core d) Vendor k) = c == d

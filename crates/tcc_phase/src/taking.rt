@@ -1,16 +1,45 @@
 // The machine takes events, each of which is enabled and isn't held back.
-ghost use Rattle.std.specs.Prelude.{◌≡◌, ◌+◌, ◌<◌, ◌≤◌, ◌↔◌, ◌++◌, [], ◌∷◌, IfErr, IfOk, IsErrOf, None, OnErr, OnOk, Some, is_ok, is_some};
+ghost use Rattle.std.specs.Prelude.{◌≡◌, ◌+◌, ◌<◌, ◌≤◌, ◌↔◌, ◌++◌, [], ◌∷◌, IfErr, IfOk, IsErrOf, None, OnErr, OnOk, Some, is_ok, is_some, option_map};
 ghost use Rattle.std.specs.Prelude.{length, if◌then◌else◌};
 ghost use Rattle.tcc_msg.specs.Plain.{event_of};
 ghost use Rattle.tcc_rules.specs.Step.{next};
 ghost use Rattle.net_core.specs.Answers.{step_of, tid_noted, tid_told};
 ghost use Rattle.net_core.specs.Machine.{history_of, program_of, settings_of};
-ghost use Rattle.tcc_phase.specs.Answers.{Ran, StoppedAt, next_of};
+ghost use Rattle.tcc_phase.specs.Answers.{Ran, StoppedAt, cause_of, next_of};
+ghost use Rattle.tcc_phase.specs.Requests.{asker};
 
 use crate::system::PhaseSystem;
-use net_core::{Step, StepError};
-use tcc_base::{NoMemory, NodeId};
+use net_core::{Step, StepError, System};
+use tcc_base::{CoreId, NoMemory, NodeId};
 use tcc_msg::{Event, Name};
+use tcc_rules::an_event_acts_on_one_node;
+
+/// The core whose message to the vendor the event delivers, if it is such an event.
+fn asker(e: Event) -> Option<CoreId>
+    ensures { option_map (λ c. c.0) result ≡ asker (event_of e) }
+{
+    match e {
+        Event::Deliver(
+            Name {
+                src: NodeId::Core(core),
+                dst: NodeId::Vendor,
+                ..
+            },
+        ) => Some(core),
+        _ => None,
+    }
+}
+
+/// Why an event isn't taken that isn't held back, where there is no memory for it.
+fn cause(system: &System, e: Event) -> StepError
+    ensures { result ≡ cause_of (is_some (step_of system.now (event_of e))) }
+{
+    if system.enabled(e) {
+        StepError::Memory
+    } else {
+        StepError::Refused
+    }
+}
 
 impl PhaseSystem {
     /// Whether an event, which may name anything, is held back.
@@ -20,15 +49,9 @@ impl PhaseSystem {
             (history_of self.now.refined.machine) (event_of e)) }
     {
         let system = self.refined.system();
-        match e {
-            Event::Deliver(
-                Name {
-                    src: NodeId::Core(core),
-                    dst: NodeId::Vendor,
-                    ..
-                },
-            ) => core.0 < system.config().cores() && self.ledger.is_late(system, core),
-            _ => false,
+        match asker(e) {
+            Some(core) => core.0 < system.config().cores() && self.ledger.is_late(system, core),
+            None => false,
         }
     }
 
@@ -60,12 +83,9 @@ impl PhaseSystem {
             return Err(StepError::Refused);
         }
         if self.ledger.reserve().is_err() {
-            return Err(if self.refined.system().enabled(e) {
-                StepError::Memory
-            } else {
-                StepError::Refused
-            });
+            return Err(cause(self.refined.system(), e));
         }
+        an_event_acts_on_one_node();
         match self.refined.step(e) {
             Err(error) => Err(error),
             Ok(done) => {

@@ -1,7 +1,8 @@
 -- The numbers below a bound that pass, listed one after another.
 use Rattle.std.proofs.Common.{◌≡◌, ℕ, zero, suc, ◌+◌, ◌<◌, Bool, true, false, cond, List, [], ◌∷◌, ◌++◌, append-nil, length, refl, ap, sym, ◌∙◌, add-one, arith}
-use Rattle.std.specs.Prelude.{Option, Some, None, set, slice_get, take}
+use Rattle.std.specs.Prelude.{Option, Some, None, drop, set, slice_get, take}
 use Rattle.std.proofs.lemmas.List.{take_more_set}
+use Rattle.std.proofs.Math.Seq.{take-length}
 use Rattle.tcc_maps.specs.Words.{those}
 
 pub those-first : (p : ℕ → Bool) → [] ≡ those p 0
@@ -54,3 +55,14 @@ those-below p (suc n) x j e = parts (p n) (those p n) j (λ j e. those-below p n
     parts false [] j h e = absurd (cc)
     parts b (y ∷ ys) zero h e = let l = h 0 e in omega (arith, l)
     parts b (y ∷ ys) (suc j) h e = parts b ys j (λ i q. h (suc i) q) e
+
+-- a list that is written over as a whole
+none-left : (xs ys : List ℕ) → length xs ≡ length ys → drop (length xs) ys ≡ []
+none-left [] [] e = refl
+none-left [] (y ∷ ys) e = absurd (omega (arith, e))
+none-left (x ∷ xs) [] e = absurd (omega (arith, e))
+none-left (x ∷ xs) (y ∷ ys) e = none-left xs ys (omega (arith, e))
+
+pub written-over : (n : ℕ) (xs ys : List ℕ) → length xs ≡ length ys → n ≡ length ys → take n (xs ++ drop (length xs) ys) ≡ xs
+written-over n xs ys e l =
+    ap (λ zs. take n (xs ++ zs)) (none-left xs ys e) ∙ ap (take n) (append-nil xs) ∙ ap (λ k. take k xs) (l ∙ sym e) ∙ take-length xs

@@ -12,11 +12,23 @@ use Rattle.tcc_phase.specs.Requests.{request}
 use Rattle.tcc_phase.proofs.Rows.{all-is, all-passed, core-below, held-many, not-yet, passes}
 use Rattle.tcc_phase.proofs.system.PhaseSystem.is_passed.Goals as goal
 
-row : (c : goal.After-useful_events_are_listed) → c.args.row < c.self.inside.ledger.count
-row c = ?
+row : (c : goal.After-self) → c.args.row < c.self.inside.ledger.count
+row c =
+    let m : Machine = c.self.inside.refined.machine in
+    let a = held-many m c.self.inside.ledger c.self.invariant.kept c.useful_events_are_listed.ensures.holds
+    c.useful_events_are_listed.ensures.ordered in
+    let b : c.args.row < held_in m = rw c.self.view_is c.requires.row in
+    omega (arith, a, b)
 
 pub index-core-requires : goal.index-core-requires
-index-core-requires c = ?
+index-core-requires c =
+    let a = row c in
+    let b = c.self.invariant.kept.count in
+    let r = c.self.invariant.kept.rows.held in
+    omega (arith, a, b, r, c.self.inside.ledger.held.ok)
+
+core : (c : goal.After-index-core) → c.index-core.result.now ≡ get_or c.self.inside.ledger.held.items c.args.row 0
+core c = ?
 
 pub index-seq-requires : goal.index-seq-requires
 index-seq-requires c = ?
