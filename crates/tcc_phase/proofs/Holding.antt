@@ -14,6 +14,7 @@ use Rattle.net_core.specs.declared.taking.StepError.{StepError}
 use Rattle.net_core.specs.declared.taking.StepError.TheVariants.{Memory, Refused}
 use Rattle.tcc_phase.specs.Answers.{cause_of, next_of}
 use Rattle.tcc_phase.specs.Kept.{HasRows, IsKept}
+use Rattle.tcc_phase.specs.Phased.{PhaseMachine}
 use Rattle.tcc_phase.specs.Requests.{IsEven, asker, is_behind}
 use Rattle.tcc_phase.specs.declared.ledger.Ledger.{Ledger}
 use Rattle.tcc_phase.proofs.Requests.Behind.{behind-late}
@@ -145,3 +146,9 @@ refused-so m e x free q = go (step_of m e) refl x q
 pub refused-as : (m : Machine) (e : Event) (x : StepError) → next_of m e ≡ goes m e → IsErrOf {T = Told} (Err x) Refused ↔ (step_of m e ≡ None)
     → IsErrOf {T = Told} (Err x) Refused ↔ (next_of m e ≡ None)
 refused-as m e x free r = (λ q. free ∙ goes-none m e (r.0 q), λ q. r.1 (none-goes m e (sym free ∙ q)))
+
+pub free-in : (p q : PhaseMachine) (e : Event) (b : Bool) → p ≡ q → Holds q.refined.machine e b → b ≡ false
+    → next_of p.refined.machine e ≡ goes p.refined.machine e
+free-in p q e b v h f =
+    subst (λ (x : PhaseMachine). next_of x.refined.machine e ≡ goes x.refined.machine e) (sym v)
+    (h ∙ ap (λ t. if t then None else goes q.refined.machine e) f)

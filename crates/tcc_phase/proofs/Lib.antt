@@ -1,5 +1,6 @@
 -- The proofs of this crate.
 mod Rows
+mod Runs
 mod Holding
 mod Keeping
 mod Order

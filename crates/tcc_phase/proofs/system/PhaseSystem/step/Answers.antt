@@ -1,6 +1,6 @@
 -- One event more by phases.
 use Rattle.std.proofs.Common.{◌≡◌, ℕ, ◌+◌, ◌<◌, ◌≤◌, ◌++◌, ◌∷◌, [], Bool, true, false, length, map, Option, Some, None, refl, ap, sym, ◌∙◌, subst, arith}
-use Rattle.std.specs.Prelude.{if◌then◌else◌, is_some}
+use Rattle.std.specs.Prelude.{◌↔◌, Err, IsErrOf, if◌then◌else◌, is_some}
 use Rattle.std.proofs.lemmas.List.{map-append}
 use Rattle.image_load.specs.Contents.{started}
 use Rattle.tcc_base.specs.Settings.{IsAllowed}
@@ -10,12 +10,14 @@ use Rattle.phase_rules.specs.Laws.{at_start}
 use Rattle.phase_rules.specs.Phased.{phased_from, phased_next}
 use Rattle.net_core.specs.Answers.{step_of}
 use Rattle.net_core.specs.Machine.{Machine, history_of, settings_of, start_of}
+use Rattle.net_core.specs.declared.taking.Step.{Step as Told}
+use Rattle.net_core.specs.declared.taking.StepError.TheVariants.{Refused}
 use Rattle.tcc_phase.specs.Answers.{cause_of, next_of}
 use Rattle.tcc_phase.specs.Kept.{IsKept}
 use Rattle.tcc_phase.specs.Ledger.{IsListed}
-use Rattle.tcc_phase.specs.Phased.{IsPhased}
+use Rattle.tcc_phase.specs.Phased.{IsPhased, PhaseMachine}
 use Rattle.tcc_phase.specs.declared.ledger.Ledger.{Ledger}
-use Rattle.tcc_phase.proofs.Holding.{even-by, goes, refused-as, refused-so, rows-by}
+use Rattle.tcc_phase.proofs.Holding.{even-by, free-in, goes, refused-as, refused-so, rows-by}
 use Rattle.tcc_phase.proofs.Keeping.Kept.{Noted, in-phases-of, kept-each, kept-next, now-listed, now-rising, phased-after}
 use Rattle.tcc_phase.proofs.system.PhaseSystem.step.Goals as goal
 
@@ -28,14 +30,19 @@ returns-then-is_err-clause-refused c =
     (c.cause.ensures
     ∙ ap (λ (x : Machine). cause_of (is_some (step_of x e))) (c.system.ensures.machine ∙ ap (λ p. p.refined.machine) c.self.view_is))
 
-free : (c : goal.After-step) → next_of c.self.inside.refined.machine (event_of c.args.e) ≡ goes c.self.inside.refined.machine (event_of c.args.e)
-free c =
-    let e = event_of c.args.e in
-    rw c.self.view_is (c.holds_back.ensures ∙ ap (λ b. if b then None else goes c.args.self.now.refined.machine e) c.if-holds_back.false)
-
 pub returns-in-Err-clause-refused : goal.returns-in-Err-clause-refused
 returns-in-Err-clause-refused c =
-    rw (← c.self.view_is) (refused-as c.self.inside.refined.machine (event_of c.args.e) c.in-Err.error (free c) c.in-Err.ensures.refused)
+    let e = event_of c.args.e in
+    let m : Machine = c.args.self.now.refined.machine in
+    refused-as m e c.in-Err.error (c.holds_back.ensures ∙ ap (λ b. if b then None else goes m e) c.if-holds_back.false)
+    (subst (λ (p : PhaseMachine). IsErrOf {T = Told} (Err c.in-Err.error) Refused ↔ (step_of p.refined.machine e ≡ None)) c.self.view_is
+    c.in-Err.ensures.refused)
+
+free : (c : goal.After-system-in-Ok) → next_of c.self.inside.refined.machine (event_of c.args.e)
+    ≡ goes c.self.inside.refined.machine (event_of c.args.e)
+free c =
+    free-in (record { refined = c.self.inside.refined }) c.args.self.now (event_of c.args.e) c.holds_back.result c.self.view_is
+    c.holds_back.ensures c.if-holds_back.false
 
 to : (c : goal.After-system-in-Ok) → next_of c.self.inside.refined.machine (event_of c.args.e) ≡ Some (history_of c.step.new.self.machine)
 to c = free c ∙ c.in-Ok.ensures.next
