@@ -171,3 +171,9 @@ module _ (m : Machine) where
       kth (is_held (start_of m) (history_of m)) (useful (start_of m).settings (program (start_of m)) (history_of m).world) k i (k + i) refl h.0
       (subst (λ n. left_out (is_held (start_of m) (history_of m))
       (useful (start_of m).settings (program (start_of m)) (history_of m).world) n ≡ i) (next-one (k + i)) h.1)
+
+pub at-number : (m n : Machine) (o : Option Event) (k i : ℕ) → n ≡ m
+    → o ≡ slice_get (useful (settings_of n) (program_of n) (world_of n)) (k + i) → IsPassed m k i → o ≡ slice_get (useful_in m) k
+at-number m n o k i same e p =
+    e ∙ ap (λ (x : Machine). slice_get (useful (settings_of x) (program_of x) (world_of x)) (k + i)) same
+    ∙ ap (λ es. slice_get es (k + i)) (all-is m) ∙ sym (kth-is m k i p)

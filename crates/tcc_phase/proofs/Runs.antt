@@ -1,5 +1,5 @@
 -- Events taken by phases one after another.
-use Rattle.std.proofs.Common.{◌≡◌, ◌≢◌, ℕ, zero, suc, ◌+◌, ◌↔◌, List, [], ◌∷◌, ◌++◌, map, take, Option, Some, None, Err, IsErrOf, refl, ap, sym, ◌∙◌, arith}
+use Rattle.std.proofs.Common.{◌≡◌, ◌≢◌, ℕ, zero, suc, ◌+◌, ◌<◌, ◌↔◌, length, List, [], ◌∷◌, ◌++◌, map, take, Option, Some, None, Err, IsErrOf, refl, ap, sym, ◌∙◌, arith}
 use Rattle.std.specs.Prelude.{slice_get}
 use Rattle.std.proofs.lemmas.List.{map-append}
 use Rattle.image_load.specs.Contents.{started}
@@ -80,3 +80,8 @@ pub one-listed : (us : List Event) (es more : List CodeEvent) (k : ℕ) (e : Cod
     → slice_get us k ≡ Some (event_of e) → more ≡ es ++ e ∷ [] → map event_of more ≡ take (k + 1) us
 one-listed us es more k e so at m =
     ap (map event_of) m ∙ (map-append event_of es (e ∷ []) ∙ (ap (λ ys. ys ++ event_of e ∷ []) so ∙ sym (took-more us k (event_of e) at)))
+
+pub none-past : (us : List Event) (k : ℕ) → slice_get us k ≡ None → k < length us → ⊥
+none-past [] k e l = omega (arith, l)
+none-past (x ∷ us) zero e l = cc
+none-past (x ∷ us) (suc k) e l = none-past us k e (omega (arith, l))

@@ -59,9 +59,11 @@ impl PhaseSystem {
     /// How many that are held back stand before the k-th useful event that isn't.
     fn passed(&self, k: u64) -> usize
         requires settled { self.now.refined.machine.unsent ≡ [] }
-        requires there { k < length (useful_in self.now.refined.machine) }
-        ensures { IsPassed self.now.refined.machine k result }
+        requires few { k + held_in self.now.refined.machine < 2 ^ 64 }
+        ensures passed { IsPassed self.now.refined.machine k result }
+        ensures few { result ≤ held_in self.now.refined.machine }
     {
+        useful_events_are_listed();
         let mut low = 0;
         let mut high = self.ledger.count;
         while low < high {
@@ -81,7 +83,9 @@ impl PhaseSystem {
         requires { self.now.refined.machine.unsent ≡ [] }
         ensures { option_map event_of result ≡ slice_get (useful_in self.now.refined.machine) k }
     {
-        if k >= self.useful_count() {
+        useful_events_are_listed();
+        let all = self.refined.system().useful_count();
+        if k >= all - self.ledger.count as u64 {
             return None;
         }
         self.refined.system().useful_at(k + self.passed(k) as u64)

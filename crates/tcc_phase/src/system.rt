@@ -44,7 +44,9 @@ impl PhaseSystem {
         ensures settled { IfOk result (λ p. p.refined.machine.unsent ≡ []) }
     {
         let refined = Refined::start(alloc, loaded)?;
-        let ledger = Ledger::start(alloc, loaded.config().cores()).map_err(|_| NoMemory)?;
+        let Ok(ledger) = Ledger::start(alloc, loaded.config().cores()) else {
+            return Err(NoMemory);
+        };
         refined.taken();
         Ok(PhaseSystem { refined, ledger })
     }

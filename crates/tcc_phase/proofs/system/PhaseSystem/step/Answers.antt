@@ -83,11 +83,15 @@ pub invariant_of-self-in-Ok : goal.invariant_of-self-in-Ok
 invariant_of-self-in-Ok c =
     let m : Machine = c.self.inside.refined.machine in
     let n : Machine = c.step.new.self.machine in
+    let to-n = free-in (record { refined = c.self.inside.refined }) c.args.self.now (event_of c.args.e) c.holds_back.result c.self.view_is
+    c.holds_back.ensures c.if-holds_back.false ∙ c.in-Ok.ensures.next in
+    let kept-1 = subst (IsKept (start_of m) (history_of m) m.events) (sym c.reserve.ensures.others)
+    (kept-each (start_of m) (history_of m) m.events c.self.inside.ledger c.reserve.new.self.each c.reserve.ensures.each c.self.invariant.kept) in
     let es = map event_of c.self.inside.refined.taken in
     let e = event_of c.args.e in
     let code = c.in-Ok.ensures.code in
     let allowed = subst (λ k. IsAllowed k.settings) (sym code) c.self.invariant.allowed in
-    let from = phased-after m n c.self.inside.refined.taken c.step.new.self.taken c.args.e c.self.invariant.phased.from (to c) code
+    let from = phased-after m n c.self.inside.refined.taken c.step.new.self.taken c.args.e c.self.invariant.phased.from to-n code
     c.in-Ok.ensures.taken in
     let w = subst (λ (x : Machine). Noted x e c.in-Ok.done c.reserve.new.self c.note.new.self) c.system-in-Ok.ensures.machine (record {
       rows = c.note.ensures.rows;
@@ -100,6 +104,6 @@ invariant_of-self-in-Ok c =
     record {
       allowed = allowed;
       phased = record { from = from; in_phases = in-phases-of n c.step.new.self.taken allowed from };
-      kept = kept-next m n c.self.invariant.allowed es e c.self.invariant.phased.from (to c) c.in-Ok.done c.in-Ok.ensures.told
-          c.an_event_acts_on_one_node.ensures c.reserve.new.self c.note.new.self (kept c) w c.in-Ok.ensures.counted code;
+      kept = kept-next m n c.self.invariant.allowed es e c.self.invariant.phased.from to-n c.in-Ok.done c.in-Ok.ensures.told
+          c.an_event_acts_on_one_node.ensures c.reserve.new.self c.note.new.self kept-1 w c.in-Ok.ensures.counted code;
     }
