@@ -6,6 +6,8 @@ mod ledger;
 mod running;
 mod system;
 mod taking;
+#[cfg(test)]
+mod tests;
 
 pub use running::phase_run;
 pub use system::PhaseSystem;

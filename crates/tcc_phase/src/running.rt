@@ -57,8 +57,9 @@ pub fn phase_run(
         let Some(e) = pick(&mut words, &system) else {
             return Ok(system);
         };
-        if system.step(e).is_err() {
-            return Err(NoMemory);
+        match system.step(e) {
+            Ok(_) => {}
+            Err(_) => return Err(NoMemory),
         }
     }
     system.settle()?;

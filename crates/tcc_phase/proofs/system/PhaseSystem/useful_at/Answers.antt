@@ -11,6 +11,15 @@ use Rattle.tcc_phase.specs.Phased.{PhaseMachine, useful_in}
 use Rattle.tcc_phase.proofs.Rows.{all-is, at-number, held-many, useful-many}
 use Rattle.tcc_phase.proofs.system.PhaseSystem.useful_at.Goals as goal
 
+pub overflow_sub-all : goal.overflow_sub-all
+overflow_sub-all c =
+    let m : Machine = c.self.inside.refined.machine in
+    let laws = c.useful_events_are_listed.ensures in
+    let many = c.useful_count-all.ensures
+    ∙ ap (λ (x : Machine). length (useful (settings_of x) (program_of x) (world_of x))) c.system.ensures.machine ∙ ap length (all-is m) in
+    let all = useful-many m c.self.inside.ledger c.self.invariant.kept laws.holds laws.ordered in
+    omega (arith, many, all)
+
 pub overflow_add-k : goal.overflow_add-k
 overflow_add-k c =
     let m : Machine = c.self.inside.refined.machine in
