@@ -21,19 +21,26 @@ const OWN_PHASE: [u32; 5] = [
 
 const C1: NodeId = NodeId::Core(CoreId(1));
 
-const fn delivered(src: NodeId, dst: NodeId, seq: u64) -> Event {
-    Event::Deliver(Name { src, dst, seq })
+// The delivery of a message.
+macro_rules! delivered {
+    ($src:expr, $dst:expr, $seq:literal) => {
+        Event::Deliver(Name {
+            src: $src,
+            dst: $dst,
+            seq: $seq,
+        })
+    };
 }
 
 // The second core commits once, is then in phase 1, and asks for its next TID.
 const TOO_EARLY: [Event; 7] = [
     Event::Exec(CoreId(1)),
     Event::Exec(CoreId(1)),
-    delivered(C1, NodeId::Vendor, 0),
-    delivered(NodeId::Vendor, C1, 0),
+    delivered!(C1, NodeId::Vendor, 0),
+    delivered!(NodeId::Vendor, C1, 0),
     Event::Exec(CoreId(1)),
     Event::Exec(CoreId(1)),
-    delivered(C1, NodeId::Vendor, 1),
+    delivered!(C1, NodeId::Vendor, 1),
 ];
 
 /// The image in the memory of so many cores.
