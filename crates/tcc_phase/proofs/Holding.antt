@@ -29,7 +29,8 @@ pub rows-of : (m n : Machine) (l : Ledger) → n ≡ m → IsKept (start_of m) (
 unfolding started
 rows-of m n l e kept = subst (λ x. HasRows (settings_of x).cores l) (sym e) kept.rows
 
-pub even-of : (m n : Machine) (l : Ledger) → n ≡ m → IsKept (start_of m) (history_of m) m.events l → IsEven l.uneven l.own.items (settings_of n).cores
+pub even-of : (m n : Machine) (l : Ledger) → n ≡ m → IsKept (start_of m) (history_of m) m.events l
+    → IsEven l.uneven l.own.items (settings_of n).cores
 unfolding started
 even-of m n l e kept = subst (λ x. IsEven l.uneven l.own.items (settings_of x).cores) (sym e) kept.even
 
@@ -143,7 +144,8 @@ refused-so m e x free q = go (step_of m e) refl x q
     go (Some o) s Refused q = absurd (cc)
     go (Some o) s Memory q = (λ r. absurd (cc), λ r. let n = none-goes m e (sym free ∙ r) in absurd (cc))
 
-pub refused-as : (m : Machine) (e : Event) (x : StepError) → next_of m e ≡ goes m e → IsErrOf {T = Told} (Err x) Refused ↔ (step_of m e ≡ None)
+pub refused-as : (m : Machine) (e : Event) (x : StepError) → next_of m e ≡ goes m e
+    → IsErrOf {T = Told} (Err x) Refused ↔ (step_of m e ≡ None)
     → IsErrOf {T = Told} (Err x) Refused ↔ (next_of m e ≡ None)
 refused-as m e x free r = (λ q. free ∙ goes-none m e (r.0 q), λ q. r.1 (none-goes m e (sym free ∙ q)))
 

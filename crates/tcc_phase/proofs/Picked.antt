@@ -1,5 +1,6 @@
 -- The events that random words pick by phases, one after another.
-use Rattle.std.proofs.Common.{◌≡◌, ℕ, suc, ◌+◌, ◌-◌, ◌<◌, ◌≤◌, List, [], ◌∷◌, ◌++◌, length, map, append-nil, append_assoc, Option, Some, None, refl, ap, sym, ◌∙◌, subst, arith}
+use Rattle.std.proofs.Common.{◌≡◌, ℕ, suc, ◌+◌, ◌-◌, ◌<◌, ◌≤◌, List, [], ◌∷◌, ◌++◌, length, map, append-nil, append_assoc, Option, Some}
+use Rattle.std.proofs.Common.{None, refl, ap, sym, ◌∙◌, subst, arith}
 use Rattle.std.proofs.lemmas.List.{map-append, length_push}
 use Rattle.image_load.specs.Contents.{Contents, started}
 use Rattle.image_load.specs.Start.{Start}
@@ -62,7 +63,8 @@ going-first c p f g all code first none events words-same = record {
 -- nothing but where messages stand has changed
 pub going-same : {c : Contents} {p : PhaseMachine} {f g : Lcg} {all i : ℕ} (q : PhaseMachine) → Going c p f g all i
     → history_of q.refined.machine ≡ history_of p.refined.machine → q.refined.taken ≡ p.refined.taken
-    → q.refined.machine.events ≡ p.refined.machine.events → q.refined.machine.cores.code ≡ p.refined.machine.cores.code → Going c q f g all i
+    → q.refined.machine.events ≡ p.refined.machine.events → q.refined.machine.cores.code ≡ p.refined.machine.cores.code
+        → Going c q f g all i
 going-same {c} {p} {f} {g} {all} {i} q s h t e k = record {
   code = k ∙ s.code;
   rest = s.rest ∙ (λ j. map event_of (sym t j) ++ phased_picked (started c) (words (all - i) g) (sym h j));
@@ -74,7 +76,8 @@ fewer : (all i : ℕ) → i < all → all - i ≡ suc (all - (i + 1))
 fewer all i h = omega (arith, h)
 
 -- one word more
-pub going-more : {c : Contents} {p : PhaseMachine} {f g : Lcg} {all i : ℕ} (q : PhaseMachine) (e : CodeEvent) → Going c p f g all i → i < all
+pub going-more : {c : Contents} {p : PhaseMachine} {f g : Lcg} {all i : ℕ} (q : PhaseMachine) (e : CodeEvent) → Going c p f g all i
+    → i < all
     → chosen (pcg32 g).0 (useful_in p.refined.machine) ≡ Some (event_of e)
     → next_of p.refined.machine (event_of e) ≡ Some (history_of q.refined.machine) → q.refined.taken ≡ p.refined.taken ++ e ∷ []
     → q.refined.machine.events ≡ p.refined.machine.events + 1 → q.refined.machine.cores.code ≡ p.refined.machine.cores.code

@@ -1,5 +1,6 @@
 -- A commit's place among those of smaller TIDs.
-use Rattle.std.proofs.Common.{◌≡◌, ℕ, zero, suc, ◌+◌, ◌<◌, ◌≤◌, Bool, true, false, cond, List, [], ◌∷◌, length, Option, Some, None, refl, ap, sym, ◌∙◌, subst, arith}
+use Rattle.std.proofs.Common.{◌≡◌, ℕ, zero, suc, ◌+◌, ◌<◌, ◌≤◌, Bool, true, false, cond, List, [], ◌∷◌, length, Option, Some, None, refl}
+use Rattle.std.proofs.Common.{ap, sym, ◌∙◌, subst, arith}
 use Rattle.std.specs.Prelude.{filter, nat_lt, slice_get}
 use Rattle.std.proofs.lemmas.Bool.Decides.{nat_tests}
 use Rattle.tcc_base.specs.declared.access.Commit.{Commit}
@@ -31,7 +32,8 @@ place-insert x [] = rw (itself x.tid.0) refl
 place-insert x (d ∷ ds) = go (nat_lt x.tid.0 d.tid.0) (place-insert x ds)
   where
     rest : (t : Bool) → place_of x.tid.0 (insert_commit x ds) ≡ place_of x.tid.0 ds
-        → length (cond t (d ∷ filter (λ c. nat_lt c.tid.0 x.tid.0) (insert_commit x ds)) (filter (λ c. nat_lt c.tid.0 x.tid.0) (insert_commit x ds)))
+        → length (cond t (d ∷ filter (λ c. nat_lt c.tid.0 x.tid.0) (insert_commit x ds)) (filter (λ c. nat_lt c.tid.0 x.tid.0)
+            (insert_commit x ds)))
         ≡ length (cond t (d ∷ filter (λ c. nat_lt c.tid.0 x.tid.0) ds) (filter (λ c. nat_lt c.tid.0 x.tid.0) ds))
     rest true e = ap suc e
     rest false e = e
@@ -46,7 +48,8 @@ unfolding IsRising insert_commit
 above b x [] r = r.0
 above b x (d ∷ ds) r = go (nat_lt x.tid.0 d.tid.0) r (λ r. above d.tid.0 x ds r)
   where
-    go : (a : Bool) → IsRising b (cond a (x ∷ d ∷ ds) (d ∷ insert_commit x ds)) → (IsRising d.tid.0 (insert_commit x ds) → d.tid.0 < x.tid.0)
+    go : (a : Bool) → IsRising b (cond a (x ∷ d ∷ ds) (d ∷ insert_commit x ds)) → (IsRising d.tid.0 (insert_commit x ds)
+        → d.tid.0 < x.tid.0)
         → b < x.tid.0
     go true r f = r.0
     go false r f = let p = r.0 in let q = f r.1 in omega (arith, p, q)
@@ -65,7 +68,8 @@ at-place b x (d ∷ ds) r = go (nat_lt x.tid.0 d.tid.0) refl r (λ r. at-place d
     go false q r f =
         let below = above d.tid.0 x ds r.1 in
         let t : nat_lt d.tid.0 x.tid.0 ≡ true = grind (arith, nat_tests) in
-        ap (λ y. slice_get (d ∷ insert_commit x ds) (length (cond y (d ∷ filter (λ c. nat_lt c.tid.0 x.tid.0) ds) (filter (λ c. nat_lt c.tid.0 x.tid.0) ds)))) t
+        ap (λ y. slice_get (d ∷ insert_commit x ds) (length (cond y (d ∷ filter (λ c. nat_lt c.tid.0 x.tid.0) ds) (filter (λ c. nat_lt
+            c.tid.0 x.tid.0) ds)))) t
         ∙ f r.1
 
 pub place-most : (t : ℕ) (cs : List Commit) → place_of t cs ≤ length cs

@@ -1,5 +1,6 @@
 -- The useful events that aren't held back, by number.
-use Rattle.std.proofs.Common.{◌≡◌, ℕ, zero, suc, ◌+◌, ◌-◌, ◌<◌, ◌≤◌, Bool, true, false, List, [], ◌∷◌, length, map, Option, Some, None, refl, ap, sym, ◌∙◌, subst, arith}
+use Rattle.std.proofs.Common.{◌≡◌, ℕ, zero, suc, ◌+◌, ◌-◌, ◌<◌, ◌≤◌, Bool, true, false, List, [], ◌∷◌, length, map, Option, Some, None}
+use Rattle.std.proofs.Common.{refl, ap, sym, ◌∙◌, subst, arith}
 use Rattle.std.specs.Prelude.{filter, get_or, not, option_map, slice_get, take}
 use Rattle.std.proofs.lemmas.Option.{slice_get-get_or, slice_get-map}
 use Rattle.std.proofs.lemmas.List.{get_or-take, get_or_read, length-map, length-take-le}
@@ -31,7 +32,8 @@ all-is m = refl
 next-one : (n : ℕ) → n + 1 ≡ suc n
 next-one n = omega arith
 
-module _ (m : Machine) (l : Ledger) (kept : IsKept (start_of m) (history_of m) m.events l) (holds : UsefulHolds) (ordered : UsefulOrdered) where
+module _ (m : Machine) (l : Ledger) (kept : IsKept (start_of m) (history_of m) m.events l) (holds : UsefulHolds) (ordered :
+    UsefulOrdered) where
   abbrev held : Event → Bool
   held = is_held (start_of m) (history_of m)
 
@@ -46,7 +48,8 @@ module _ (m : Machine) (l : Ledger) (kept : IsKept (start_of m) (history_of m) m
       (behind-late (start_of m) (history_of m) l.own.items kept.own) kept.asked
 
   count-is : length (filter held (all_in m)) ≡ l.count
-  count-is = ap length (sym listed) ∙ length-map (take l.count l.held.items) (request l.asked.items) ∙ length-take-le l.count l.held.items rows
+  count-is = ap length (sym listed) ∙ length-map (take l.count l.held.items) (request l.asked.items)
+      ∙ length-take-le l.count l.held.items rows
 
   pub held-many : held_in m ≡ l.count
   unfolding held_in
@@ -168,7 +171,8 @@ module _ (m : Machine) where
   pub kth-is : (k i : ℕ) → IsPassed m k i → slice_get (useful_in m) k ≡ slice_get (all_in m) (k + i)
   unfolding passed_by phased_useful all_in
   kth-is k i h =
-      kth (is_held (start_of m) (history_of m)) (useful (start_of m).settings (program (start_of m)) (history_of m).world) k i (k + i) refl h.0
+      kth (is_held (start_of m) (history_of m)) (useful (start_of m).settings (program (start_of m)) (history_of m).world) k i (k + i)
+          refl h.0
       (subst (λ n. left_out (is_held (start_of m) (history_of m))
       (useful (start_of m).settings (program (start_of m)) (history_of m).world) n ≡ i) (next-one (k + i)) h.1)
 

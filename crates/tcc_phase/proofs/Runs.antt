@@ -1,5 +1,6 @@
 -- Events taken by phases one after another.
-use Rattle.std.proofs.Common.{◌≡◌, ◌≢◌, ℕ, zero, suc, ◌+◌, ◌<◌, ◌↔◌, length, List, [], ◌∷◌, ◌++◌, map, take, Option, Some, None, Err, IsErrOf, refl, ap, sym, ◌∙◌, arith}
+use Rattle.std.proofs.Common.{◌≡◌, ◌≢◌, ℕ, zero, suc, ◌+◌, ◌<◌, ◌↔◌, length, List, [], ◌∷◌, ◌++◌, map, take, Option, Some, None, Err}
+use Rattle.std.proofs.Common.{IsErrOf, refl, ap, sym, ◌∙◌, arith}
 use Rattle.std.specs.Prelude.{slice_get}
 use Rattle.std.proofs.lemmas.List.{map-append}
 use Rattle.image_load.specs.Contents.{started}
@@ -47,7 +48,8 @@ ran-more m n o k es e r at step count code = record {
 same-next : (n o : Machine) (e : Event) → history_of o ≡ history_of n → o.cores.code ≡ n.cores.code → next_of o e ≡ next_of n e
 same-next n o e h c = λ i. phased_next (started (c i)) (h i) e
 
-pub stopped-at : (m n o : Machine) (k : ℕ) (es : List CodeEvent) (e : CodeEvent) (error : StepError) → RanSo m n k es → slice_get es k ≡ Some e
+pub stopped-at : (m n o : Machine) (k : ℕ) (es : List CodeEvent) (e : CodeEvent) (error : StepError) → RanSo m n k es
+    → slice_get es k ≡ Some e
     → history_of o ≡ history_of n → o.cores.code ≡ n.cores.code → IsErrOf {T = Told} (Err error) Refused ↔ (next_of n (event_of e) ≡ None)
     → StoppedAt m o k es error
 stopped-at m n o k es e Refused r at h c a = record {

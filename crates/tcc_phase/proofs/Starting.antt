@@ -1,5 +1,6 @@
 -- Before the first event all cores are in phase 0, and nobody has asked.
-use Rattle.std.proofs.Common.{◌≡◌, ℕ, zero, suc, ◌<◌, ◌≤◌, ◌&&◌, Bool, false, List, [], ◌∷◌, length, map, Option, Some, refl, ap, sym, ◌∙◌, subst, arith}
+use Rattle.std.proofs.Common.{◌≡◌, ℕ, zero, suc, ◌<◌, ◌≤◌, ◌&&◌, Bool, false, List, [], ◌∷◌, length, map, Option, Some, refl, ap, sym}
+use Rattle.std.proofs.Common.{◌∙◌, subst, arith}
 use Rattle.std.specs.Prelude.{get_or, is_some, replicate, take}
 use Rattle.image_load.specs.Contents.{Contents, started}
 use Rattle.image_load.specs.Start.{Start}
@@ -64,7 +65,8 @@ kept-at s events l f = record {
   few = λ c. let z = asked-zero c in omega (arith, z);
   even = even;
   held = ap (λ k. take k l.held.items) f.none
-      ∙ sym (those-none _ s.settings.cores (λ c h. ap (λ b. b && is_some (step s.settings (program s) (at_start s).world (request l.asked.items c)))
+      ∙ sym (those-none _ s.settings.cores (λ c h. ap (λ b. b && is_some (step s.settings (program s) (at_start s).world (request
+          l.asked.items c)))
       (even-none s.settings.cores (at_start s).world l.own.items c (λ q. even f.even) h)));
   count = let z = f.none in omega (arith, z);
 }
@@ -85,7 +87,8 @@ kept-first c m l code first f =
     subst (λ k. IsKept (started k) (history_of m) m.events l) (sym code)
     (subst (λ h. IsKept (started c) h m.events l) (sym first) (kept-at (started c) m.events l f))
 
-pub phased-first : (c : Contents) (m : Machine) (es : List CodeEvent) → m.cores.code ≡ c → history_of m ≡ first_history (started c) → es ≡ []
+pub phased-first : (c : Contents) (m : Machine) (es : List CodeEvent) → m.cores.code ≡ c → history_of m ≡ first_history (started c)
+    → es ≡ []
     → phased_from (start_of m) (map event_of es) (at_start (start_of m)) ≡ Some (history_of m)
 unfolding phased_from
 phased-first c m es code first none =

@@ -1,5 +1,6 @@
 -- One event more in a run by phases.
-use Rattle.std.proofs.Common.{◌≡◌, ℕ, suc, ◌+◌, ◌<◌, ◌≤◌, Bool, true, false, cond, List, [], ◌∷◌, ◌++◌, length, map, Option, Some, None, refl, ap, sym, ◌∙◌, subst, arith}
+use Rattle.std.proofs.Common.{◌≡◌, ℕ, suc, ◌+◌, ◌<◌, ◌≤◌, Bool, true, false, cond, List, [], ◌∷◌, ◌++◌, length, map, Option, Some, None}
+use Rattle.std.proofs.Common.{refl, ap, sym, ◌∙◌, subst, arith}
 use Rattle.std.specs.Prelude.{IfSome, nat_lt, option_map, slice_get}
 use Rattle.std.proofs.lemmas.Bool.Decides.{nat_tests}
 use Rattle.image_load.specs.Start.{Start}
@@ -88,12 +89,14 @@ module _ (s : Start) (allowed : IsAllowed s.settings) (es : List Event) (h : His
       subst (λ o. IfSome o (λ (x : History). IsRising 0 x.commits)) ran
       (weaker (run s.settings (program s) (world_at_start s) es) (committed_tids_were_granted_once s es))
     where
-      weaker : (o : Option History) → IfSome o (λ (x : History). TidsOf (grants_of s es) x.commits) → IfSome o (λ (x : History). IsRising 0 x.commits)
+      weaker : (o : Option History) → IfSome o (λ (x : History). TidsOf (grants_of s es) x.commits)
+          → IfSome o (λ (x : History). IsRising 0 x.commits)
       weaker None t = tt
       weaker (Some x) t = t.rising
 
   pub by-cores : AreByCores s.settings h.commits
-  by-cores = subst (λ o. IfSome o (λ (x : History). AreByCores s.settings x.commits)) ran (commits_are_by_cores s.settings (program s) _ _ es)
+  by-cores = subst (λ o. IfSome o (λ (x : History). AreByCores s.settings x.commits)) ran (commits_are_by_cores s.settings (program s) _
+      _ es)
 
   pub grown : (e : Event) (g : History) → next s.settings (program s) h e ≡ Some g
       → Grows s h g (noted_by (step s.settings (program s) h.world e))

@@ -1,5 +1,6 @@
 -- What is kept beside a machine is so after one more event.
-use Rattle.std.proofs.Common.{◌≡◌, ◌≢◌, ℕ, zero, suc, ◌+◌, ◌<◌, ◌≤◌, ◌^◌, Bool, true, false, cond, ◌==◌, List, [], ◌∷◌, ◌++◌, length, map, Option, Some, None, refl, ap, sym, ◌∙◌, subst, arith}
+use Rattle.std.proofs.Common.{◌≡◌, ◌≢◌, ℕ, zero, suc, ◌+◌, ◌<◌, ◌≤◌, ◌^◌, Bool, true, false, cond, ◌==◌, List, [], ◌∷◌, ◌++◌, length, map}
+use Rattle.std.proofs.Common.{Option, Some, None, refl, ap, sym, ◌∙◌, subst, arith}
 use Rattle.std.specs.Global.{Vec}
 use Rattle.std.specs.Prelude.{IfSome, get_or, max, nat_lt, option_map, set, slice_get, slice_set, take, if◌then◌else◌}
 use Rattle.std.proofs.lemmas.Bool.Decides.{nat_tests}
@@ -89,7 +90,8 @@ module _ (s : Start) (allowed : IsAllowed s.settings) (es : List Event) (e : Eve
   -- ---- the phases
 
   -- where no commit was told
-  unnoted : (o : Option Commit) → o ≡ None → Grows s h g o → (phases_of s g ≡ phases_of s h) × ((c : ℕ) → c < s.settings.cores → phase_of s g c ≡ phase_of s h c)
+  unnoted : (o : Option Commit) → o ≡ None → Grows s h g o → (phases_of s g ≡ phases_of s h) × ((c : ℕ) → c < s.settings.cores
+      → phase_of s g c ≡ phase_of s h c)
   unnoted o e w = subst (Grows s h g) e w
 
   noted : (o : Option Commit) (x : Commit) → o ≡ Some x → Grows s h g o → Grows s h g (Some x)
@@ -119,7 +121,8 @@ pub record Noted (n : Machine) (e : Event) (done : Step) (l k : Ledger) : Type 0
   pub even : IsEven k.uneven k.own.items (settings_of n).cores
   pub asked : Counts e l.asked.items k.asked.items
   pub notes : Notes n done l.each.items l.own.items k.each.items k.own.items
-  pub held : take k.count k.held.items ≡ those (is_waiting (settings_of n) (program_of n) (world_of n) k.own.items k.asked.items) (settings_of n).cores
+  pub held : take k.count k.held.items ≡ those (is_waiting (settings_of n) (program_of n) (world_of n) k.own.items k.asked.items)
+      (settings_of n).cores
   pub count : k.count ≤ (settings_of n).cores
 
 -- room for one more phase changes nothing
@@ -185,7 +188,8 @@ module _ (m n : Machine) (allowed : IsAllowed (settings_of m)) (es : List Event)
       go : (d : Step) → tid_told d ≡ option_map (λ c. c.tid) done-by.out.noted → Notes n d phases own more next
           → HasPhases (start_of m) (history_of n) more next
       go Moved r k =
-          let w = unnoted (start_of m) fits es e (history_of m) (history_of n) from to done-by.out.noted (none-told done-by.out.noted r) grows-so in
+          let w = unnoted (start_of m) fits es e (history_of m) (history_of n) from to done-by.out.noted (none-told done-by.out.noted r)
+              grows-so in
           record {
             all = k.0 ∙ was.all ∙ sym w.0;
             each = λ c l. ap (λ xs. get_or xs c 0) k.1 ∙ was.each c l ∙ sym (w.1 c l);
@@ -254,15 +258,18 @@ module _ (m n : Machine) (allowed : IsAllowed (settings_of m)) (es : List Event)
             omega (arith, p)
 
     held-now : take k.count k.held.items
-        ≡ those (is_waiting (start_of m).settings (program (start_of m)) (history_of n).world k.own.items k.asked.items) (start_of m).settings.cores
+        ≡ those (is_waiting (start_of m).settings (program (start_of m)) (history_of n).world k.own.items k.asked.items) (start_of
+            m).settings.cores
     unfolding started history_of
     held-now =
         w.held
-        ∙ (λ i. those (is_waiting (code i).settings (program (started (code i))) (world_of n) k.own.items k.asked.items) (code i).settings.cores)
+        ∙ (λ i. those (is_waiting (code i).settings (program (started (code i))) (world_of n) k.own.items k.asked.items) (code
+            i).settings.cores)
 
     phases-now : HasPhases (start_of m) (history_of n) k.each.items k.own.items
     unfolding started
-    phases-now = now-phases l.each.items l.own.items k.each.items k.own.items (record { all = kept.each; each = kept.own }) kept.rows.own w.notes
+    phases-now = now-phases l.each.items l.own.items k.each.items k.own.items (record { all = kept.each; each = kept.own }) kept.rows.own
+        w.notes
 
     kept-m : IsKept (start_of m) (history_of n) n.events k
     kept-m = record {

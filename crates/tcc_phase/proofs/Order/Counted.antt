@@ -1,5 +1,6 @@
 -- Of a list in order some events are left out: which one is the k-th that isn't.
-use Rattle.std.proofs.Common.{◌≡◌, ℕ, zero, suc, ◌+◌, ◌-◌, ◌<◌, ◌≤◌, Bool, true, false, cond, List, [], ◌∷◌, length, take, Option, Some, None, refl, ap, sym, ◌∙◌, subst, arith, inl, inr, ⊎_elim}
+use Rattle.std.proofs.Common.{◌≡◌, ℕ, zero, suc, ◌+◌, ◌-◌, ◌<◌, ◌≤◌, Bool, true, false, cond, List, [], ◌∷◌, length, take, Option, Some}
+use Rattle.std.proofs.Common.{None, refl, ap, sym, ◌∙◌, subst, arith, inl, inr, ⊎_elim}
 use Rattle.std.specs.Prelude.{filter, not, slice_get}
 use Rattle.tcc_maps.specs.Nodes.{Event}
 use Rattle.tcc_rules.specs.Laws.{IsIn, IsBeforeAll, IsOrdered}
@@ -86,7 +87,8 @@ kth p (x ∷ es) k i (suc n) s a b = go (λ k i. kth p es k i n) (p x) a b
     first f (suc k) s a b = f k i (omega (arith, s)) a b
 
     go : ((k i : ℕ) → n ≡ k + i → left_out p es n ≡ i → left_out p es (suc n) ≡ i
-        → slice_get (filter (λ e. not (p e)) es) k ≡ slice_get es n) → (t : Bool) → length (cond t (x ∷ filter p (take n es)) (filter p (take n es))) ≡ i
+        → slice_get (filter (λ e. not (p e)) es) k ≡ slice_get es n) → (t : Bool)
+            → length (cond t (x ∷ filter p (take n es)) (filter p (take n es))) ≡ i
         → length (cond t (x ∷ filter p (take (suc n) es)) (filter p (take (suc n) es))) ≡ i
         → slice_get (cond (not t) (x ∷ filter (λ e. not (p e)) es) (filter (λ e. not (p e)) es)) k ≡ slice_get es n
     go f true a b = f k (i - 1) (omega (arith, s, a)) (omega (arith, a)) (omega (arith, b))
@@ -110,12 +112,14 @@ stands-before p (x ∷ es) zero j e h o a b l = go (p x) j b
     same = cc
 
     go : (t : Bool) (j : ℕ) → slice_get (cond t (x ∷ filter p es) (filter p es)) j ≡ Some h → length (cond t (x ∷ []) []) ≤ j
-    go true zero q = let s : x ≡ h = cc in absurd (not-itself x (subst (λ y. before x y ≡ true) (sym s) (subst (λ y. before y h ≡ true) (sym same) l)))
+    go true zero q = let s : x ≡ h = cc in
+    absurd (not-itself x (subst (λ y. before x y ≡ true) (sym s) (subst (λ y. before y h ≡ true) (sym same) l)))
     go true (suc j) q = omega arith
     go false j q = omega arith
 stands-before p (x ∷ es) (suc n) j e h o a b l = go (λ j q. stands-before p es n j e h o.1 a q l) (p x) j b
   where
-    go : ((j : ℕ) → slice_get (filter p es) j ≡ Some h → left_out p es (suc n) ≤ j) → (t : Bool) (j : ℕ) → slice_get (cond t (x ∷ filter p es) (filter p es)) j ≡ Some h
+    go : ((j : ℕ) → slice_get (filter p es) j ≡ Some h → left_out p es (suc n) ≤ j) → (t : Bool) (j : ℕ)
+        → slice_get (cond t (x ∷ filter p es) (filter p es)) j ≡ Some h
         → length (cond t (x ∷ filter p (take (suc n) es)) (filter p (take (suc n) es))) ≤ j
     go f true zero q =
         let s : x ≡ h = cc in
@@ -141,7 +145,8 @@ stands-behind p (x ∷ es) zero j e h o a b l = go (p x) j b
     go false j q = absurd (behind (filter p es) j (filter-before p x es o.0) q)
 stands-behind p (x ∷ es) (suc n) j e h o a b l = go (λ j q. stands-behind p es n j e h o.1 a q l) (p x) j b
   where
-    go : ((j : ℕ) → slice_get (filter p es) j ≡ Some h → j < left_out p es (suc n)) → (t : Bool) (j : ℕ) → slice_get (cond t (x ∷ filter p es) (filter p es)) j ≡ Some h
+    go : ((j : ℕ) → slice_get (filter p es) j ≡ Some h → j < left_out p es (suc n)) → (t : Bool) (j : ℕ)
+        → slice_get (cond t (x ∷ filter p es) (filter p es)) j ≡ Some h
         → j < length (cond t (x ∷ filter p (take (suc n) es)) (filter p (take (suc n) es)))
     go f true zero q = omega arith
     go f true (suc j) q = let r = f j q in omega (arith, r)

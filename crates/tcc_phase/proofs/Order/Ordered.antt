@@ -1,5 +1,6 @@
 -- Events in their order: which of two stands first, and that two such lists of the same events are one.
-use Rattle.std.proofs.Common.{◌≡◌, ℕ, ◌<◌, Bool, true, false, cond, ◌&&◌, ◌||◌, ◌==◌, List, [], ◌∷◌, refl, ap, sym, ◌∙◌, subst, arith, inl, inr, ⊎_elim}
+use Rattle.std.proofs.Common.{◌≡◌, ℕ, ◌<◌, Bool, true, false, cond, ◌&&◌, ◌||◌, ◌==◌, List, [], ◌∷◌, refl, ap, sym, ◌∙◌, subst, arith}
+use Rattle.std.proofs.Common.{inl, inr, ⊎_elim}
 use Rattle.std.specs.Prelude.{◌↔◌, nat_lt, filter}
 use Rattle.std.proofs.lemmas.Bool.Decides.{nat_tests}
 use Rattle.tcc_maps.specs.Nodes.{Node, Core, Dir, Vendor, Event, Exec, Evict, Deliver, node_eq}
@@ -38,7 +39,8 @@ node-turned Vendor (Dir d) = refl
 node-turned Vendor Vendor = refl
 
 -- of lexicographic orders
-pairs-once : (a b c d e f : Bool) → (a ≡ true → d ≡ true → ⊥) → (b ≡ true → d ≡ true → ⊥) → (e ≡ true → a ≡ true → ⊥) → (c ≡ true → f ≡ true → ⊥)
+pairs-once : (a b c d e f : Bool) → (a ≡ true → d ≡ true → ⊥) → (b ≡ true → d ≡ true → ⊥) → (e ≡ true → a ≡ true → ⊥) → (c ≡ true
+    → f ≡ true → ⊥)
     → (a || (b && c)) ≡ true → (d || (e && f)) ≡ true → ⊥
 pairs-once true b c true e f x y z w p q = x refl refl
 pairs-once true b c false true f x y z w p q = z refl refl
@@ -77,7 +79,8 @@ before-in e f [] b i = absurd i
 before-in e f (x ∷ es) b i = ⊎_elim (λ (s : x ≡ f). subst (λ y. before e y ≡ true) s b.0) (λ j. before-in e f es b.1 j) i
 
 -- two lists in order that hold the same events are one
-pub same-events : (xs ys : List Event) → IsOrdered xs → IsOrdered ys → ((e : Event) → IsIn e xs → IsIn e ys) → ((e : Event) → IsIn e ys → IsIn e xs)
+pub same-events : (xs ys : List Event) → IsOrdered xs → IsOrdered ys → ((e : Event) → IsIn e xs → IsIn e ys) → ((e : Event) → IsIn e ys
+    → IsIn e xs)
     → xs ≡ ys
 same-events [] [] a b f g = refl
 same-events [] (y ∷ ys) a b f g = absurd (g y (inl refl))

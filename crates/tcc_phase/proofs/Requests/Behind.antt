@@ -1,5 +1,6 @@
 -- Which cores are late, by the phases that are kept.
-use Rattle.std.proofs.Common.{◌≡◌, ℕ, zero, suc, ◌+◌, ◌<◌, ◌≤◌, Bool, true, false, ◌&&◌, ◌||◌, ◌==◌, List, Option, Some, None, refl, ap, sym, ◌∙◌, subst, arith}
+use Rattle.std.proofs.Common.{◌≡◌, ℕ, zero, suc, ◌+◌, ◌<◌, ◌≤◌, Bool, true, false, ◌&&◌, ◌||◌, ◌==◌, List, Option, Some, None, refl, ap}
+use Rattle.std.proofs.Common.{sym, ◌∙◌, subst, arith}
 use Rattle.std.specs.Prelude.{◌↔◌, IsTrue, get_or, not, nat_lt}
 use Rattle.std.proofs.lemmas.Bool.Decides.{nat_tests}
 use Rattle.image_load.specs.Start.{Start}
@@ -43,7 +44,8 @@ pub behind-late : (s : Start) (h : History) (own : List ℕ) → ((j : ℕ) → 
     → (c : ℕ) → c < s.settings.cores → is_late s h c ≡ is_behind s.settings.cores h.world own (get_or own c 0)
 unfolding is_late is_behind
 behind-late s h own e c l =
-    any-same (goes_before s h c) (λ j. not (has_halted (h.world.cores j).phase) && nat_lt (get_or own j 0) (get_or own c 0)) s.settings.cores
+    any-same (goes_before s h c) (λ j. not (has_halted (h.world.cores j).phase) && nat_lt (get_or own j 0) (get_or own c 0))
+        s.settings.cores
     (λ j m. itself (not (has_halted (h.world.cores j).phase)) j c (phase_of s h j) (phase_of s h c) (λ q. ap (phase_of s h) q)
     ∙ (λ i. not (has_halted (h.world.cores j).phase) && nat_lt (sym (e j m) i) (sym (e c l) i)))
 

@@ -1,5 +1,6 @@
 -- The numbers below a bound that pass, listed one after another.
-use Rattle.std.proofs.Common.{◌≡◌, ℕ, zero, suc, ◌+◌, ◌<◌, Bool, true, false, cond, List, [], ◌∷◌, ◌++◌, append-nil, length, refl, ap, sym, ◌∙◌, add-one, arith}
+use Rattle.std.proofs.Common.{◌≡◌, ℕ, zero, suc, ◌+◌, ◌<◌, Bool, true, false, cond, List, [], ◌∷◌, ◌++◌, append-nil, length, refl, ap}
+use Rattle.std.proofs.Common.{sym, ◌∙◌, add-one, arith}
 use Rattle.std.specs.Prelude.{Option, Some, None, drop, set, slice_get, take}
 use Rattle.std.proofs.lemmas.List.{take_more_set}
 use Rattle.std.proofs.Math.Seq.{take-length}
@@ -50,7 +51,8 @@ those-below p (suc n) x j e = parts (p n) (those p n) j (λ j e. those-below p n
     last zero e = let s : n ≡ x = cc in omega (arith, s)
     last (suc j) e = absurd (cc)
 
-    parts : (b : Bool) (xs : List ℕ) (j : ℕ) → ((j : ℕ) → slice_get xs j ≡ Some x → x < n) → slice_get (xs ++ cond b (n ∷ []) []) j ≡ Some x → x < suc n
+    parts : (b : Bool) (xs : List ℕ) (j : ℕ) → ((j : ℕ) → slice_get xs j ≡ Some x → x < n)
+        → slice_get (xs ++ cond b (n ∷ []) []) j ≡ Some x → x < suc n
     parts true [] j h e = last j e
     parts false [] j h e = absurd (cc)
     parts b (y ∷ ys) zero h e = let l = h 0 e in omega (arith, l)

@@ -1,5 +1,6 @@
 -- One core after another.
-use Rattle.std.proofs.Common.{◌≡◌, ℕ, suc, ◌+◌, ◌<◌, ◌≤◌, Bool, true, false, List, [], ◌∷◌, ◌++◌, length, take, refl, ap, sym, ◌∙◌, subst, arith}
+use Rattle.std.proofs.Common.{◌≡◌, ℕ, suc, ◌+◌, ◌<◌, ◌≤◌, Bool, true, false, List, [], ◌∷◌, ◌++◌, length, take, refl, ap, sym, ◌∙◌, subst}
+use Rattle.std.proofs.Common.{arith}
 use Rattle.std.proofs.lemmas.List.{length-set}
 use Rattle.net_core.specs.Machine.{program_of, settings_of, world_of}
 use Rattle.tcc_phase.specs.Requests.{is_above}
@@ -17,7 +18,8 @@ loop-core-preserved c =
     let i = c.loop-core.invariant in
     elim c.if-is_above.branch [
       | then-is_above w ↦
-          let cores : c.cores-core-end.result ≡ (settings_of m).cores = c.cores-core-end.ensures.value ∙ ap (λ k. k.cores) c.config.ensures in
+          let cores : c.cores-core-end.result ≡ (settings_of m).cores = c.cores-core-end.ensures.value
+              ∙ ap (λ k. k.cores) c.config.ensures in
           let room : c.loop-core.count < length c.loop-core.held =
           omega (arith, i.0, i.1, cores, c.requires.held, c.loop-core-test.true, c.loop-core.auto.core-end) in
           rw (w.held-is, w.count-is) (

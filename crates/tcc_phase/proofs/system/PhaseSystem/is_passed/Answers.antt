@@ -59,7 +59,8 @@ returns-in-Some-clause-passed c = λ q.
     let at = found-at m c.system.result.now c.useful_at.result (Some c.in-Some.e) (c.args.k + c.args.row) c.system.ensures.machine
     c.useful_at.ensures c.in-Some.is in
     subst (λ (p : PhaseMachine). c.args.row < passed_by p.refined.machine (c.args.k + c.args.row + 1)) c.self.view_is
-    (passed-if m l c.self.invariant.kept laws.holds laws.ordered c.args.k c.args.row (below c) (event_of c.in-Some.e) c.index-core.result.now
+    (passed-if m l c.self.invariant.kept laws.holds laws.ordered c.args.k c.args.row (below c) (event_of c.in-Some.e)
+        c.index-core.result.now
     c.index-seq.result.now c.stands_before.result c.index-core.ensures c.index-seq.ensures at c.stands_before.ensures q)
 
 pub returns-in-Some-clause-not_yet : goal.returns-in-Some-clause-not_yet
@@ -70,7 +71,8 @@ returns-in-Some-clause-not_yet c = λ q.
     let at = found-at m c.system.result.now c.useful_at.result (Some c.in-Some.e) (c.args.k + c.args.row) c.system.ensures.machine
     c.useful_at.ensures c.in-Some.is in
     subst (λ (p : PhaseMachine). passed_by p.refined.machine (c.args.k + c.args.row + 1) ≤ c.args.row) c.self.view_is
-    (not_yet-if m l c.self.invariant.kept laws.holds laws.ordered c.args.k c.args.row (below c) (event_of c.in-Some.e) c.index-core.result.now
+    (not_yet-if m l c.self.invariant.kept laws.holds laws.ordered c.args.k c.args.row (below c) (event_of c.in-Some.e)
+        c.index-core.result.now
     c.index-seq.result.now c.stands_before.result c.index-core.ensures c.index-seq.ensures at c.stands_before.ensures q)
 
 pub returns-in-None-clause-passed : goal.returns-in-None-clause-passed

@@ -1,5 +1,6 @@
 -- One event more by phases.
-use Rattle.std.proofs.Common.{◌≡◌, ℕ, ◌+◌, ◌<◌, ◌≤◌, ◌++◌, ◌∷◌, [], Bool, true, false, length, map, Option, Some, None, refl, ap, sym, ◌∙◌, subst, arith}
+use Rattle.std.proofs.Common.{◌≡◌, ℕ, ◌+◌, ◌<◌, ◌≤◌, ◌++◌, ◌∷◌, [], Bool, true, false, length, map, Option, Some, None, refl, ap, sym}
+use Rattle.std.proofs.Common.{◌∙◌, subst, arith}
 use Rattle.std.specs.Prelude.{◌↔◌, Err, IsErrOf, if◌then◌else◌, is_some}
 use Rattle.std.proofs.lemmas.List.{map-append}
 use Rattle.image_load.specs.Contents.{started}
@@ -52,7 +53,8 @@ kept : (c : goal.After-system-in-Ok) → IsKept (start_of c.self.inside.refined.
 kept c =
     let m : Machine = c.self.inside.refined.machine in
     subst (IsKept (start_of m) (history_of m) m.events) (sym c.reserve.ensures.others)
-    (kept-each (start_of m) (history_of m) m.events c.self.inside.ledger c.reserve.new.self.each c.reserve.ensures.each c.self.invariant.kept)
+    (kept-each (start_of m) (history_of m) m.events c.self.inside.ledger c.reserve.new.self.each c.reserve.ensures.each
+        c.self.invariant.kept)
 
 same-code : (c : goal.After-system-in-Ok) → c.system-in-Ok.result.now.cores.code ≡ c.self.inside.refined.machine.cores.code
 same-code c = ap (λ (x : Machine). x.cores.code) c.system-in-Ok.ensures.machine ∙ c.in-Ok.ensures.code
@@ -86,7 +88,8 @@ invariant_of-self-in-Ok c =
     let to-n = free-in (record { refined = c.self.inside.refined }) c.args.self.now (event_of c.args.e) c.holds_back.result c.self.view_is
     c.holds_back.ensures c.if-holds_back.false ∙ c.in-Ok.ensures.next in
     let kept-1 = subst (IsKept (start_of m) (history_of m) m.events) (sym c.reserve.ensures.others)
-    (kept-each (start_of m) (history_of m) m.events c.self.inside.ledger c.reserve.new.self.each c.reserve.ensures.each c.self.invariant.kept) in
+    (kept-each (start_of m) (history_of m) m.events c.self.inside.ledger c.reserve.new.self.each c.reserve.ensures.each
+        c.self.invariant.kept) in
     let es = map event_of c.self.inside.refined.taken in
     let e = event_of c.args.e in
     let code = c.in-Ok.ensures.code in
