@@ -113,7 +113,7 @@ stands-before p (x ∷ es) zero j e h o a b l = go (p x) j b
 
     go : (t : Bool) (j : ℕ) → slice_get (cond t (x ∷ filter p es) (filter p es)) j ≡ Some h → length (cond t (x ∷ []) []) ≤ j
     go true zero q = let s : x ≡ h = cc in
-    absurd (not-itself x (subst (λ y. before x y ≡ true) (sym s) (subst (λ y. before y h ≡ true) (sym same) l)))
+        absurd (not-itself x (subst (λ y. before x y ≡ true) (sym s) (subst (λ y. before y h ≡ true) (sym same) l)))
     go true (suc j) q = omega arith
     go false j q = omega arith
 stands-before p (x ∷ es) (suc n) j e h o a b l = go (λ j q. stands-before p es n j e h o.1 a q l) (p x) j b
