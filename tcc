@@ -16,6 +16,7 @@ usage() {
     cat <<END
 Usage: tcc run    [OPTION]... IMAGE...            runs the images, and prints a report
        tcc replay [OPTION]... SCHEDULE IMAGE...   runs a recorded schedule whole, and prints its report
+       tcc why    [OPTION]... SCHEDULE IMAGE...   runs a schedule, and prints which messages wait then, and for what
        tcc serial [OPTION]... REPORT IMAGE...     runs a report's transactions one after another, without caches
        tcc trial  [OPTION]... KIND NUMBER         runs a workload, and prints a summary
 
@@ -26,7 +27,7 @@ counters, transfers, stencil or sharing, NUMBER how many transactions of it each
   --dirs N       the number of directories: 1 to 64 (1)
   --sets N       how many sets a cache has: a power of two from 1 to 1024 (16)
   --ways N       how many ways a set has: 1 to 16 (2)
- run, replay and serial:
+ run, replay, why and serial:
   --ram N        the bytes of memory: a multiple of 32 from 32 to 16777216 (65536)
   --base N       the address of the first one: a multiple of 32 (0x80000000)
   --raw          the images are raw; without it they are ELF files
