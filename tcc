@@ -15,7 +15,9 @@ usage() {
     [ "$PWD" != "$root" ] || image=examples/tickets.bin
     cat <<END
 Usage: tcc run    [OPTION]... IMAGE...            runs the images, and prints a report
+       tcc phases [OPTION]... IMAGE...            runs them so that earlier phases commit first, and prints the phases and a report
        tcc replay [OPTION]... SCHEDULE IMAGE...   runs a recorded schedule whole, and prints its report
+       tcc why    [OPTION]... SCHEDULE IMAGE...   runs a schedule, and prints which messages wait then, and for what
        tcc serial [OPTION]... REPORT IMAGE...     runs a report's transactions one after another, without caches
        tcc trial  [OPTION]... KIND NUMBER         runs a workload, and prints a summary
 
@@ -26,15 +28,16 @@ counters, transfers, stencil or sharing, NUMBER how many transactions of it each
   --dirs N       the number of directories: 1 to 64 (1)
   --sets N       how many sets a cache has: a power of two from 1 to 1024 (16)
   --ways N       how many ways a set has: 1 to 16 (2)
- run, replay and serial:
+ run, phases, replay, why and serial:
   --ram N        the bytes of memory: a multiple of 32 from 32 to 16777216 (65536)
   --base N       the address of the first one: a multiple of 32 (0x80000000)
   --raw          the images are raw; without it they are ELF files
- run and trial:
+ run, phases and trial:
   --steps N      the largest number of events: 0 to 4194304 (1000000)
   --seed N       what the choice of events begins with: 0 to 18446744073709551615 (0)
- run:
+ run and phases:
   --record NAME  the file to which the schedule is written when the run has ended
+ run:
   --threads N    so many host threads act on the machine at once: 1 to 16, only with --record
 
 The default stands in brackets. Numbers are decimal, or hexadecimal behind 0x. Options may stand anywhere behind the command, as
