@@ -1,0 +1,12 @@
+pub mod Asking
+pub mod Chosen
+pub mod Followed
+pub mod Growing
+pub mod Inserted
+pub mod Lemmas
+pub mod Noting
+pub mod Ordered
+pub mod Ran
+pub mod Replayed
+pub mod Runs
+pub mod Stuck

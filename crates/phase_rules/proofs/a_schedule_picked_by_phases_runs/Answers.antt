@@ -1,0 +1,5 @@
+use Rattle.phase_rules.proofs.Chosen.{a_schedule_picked_by_phases_runs}
+use Rattle.phase_rules.proofs.a_schedule_picked_by_phases_runs.Goals as goal
+
+pub returns : goal.returns
+returns c = record { runs = a_schedule_picked_by_phases_runs }

@@ -1,0 +1,5 @@
+use Rattle.phase_rules.proofs.Asking.{one_request_each}
+use Rattle.phase_rules.proofs.one_request_each.Goals as goal
+
+pub returns : goal.returns
+returns c = record { one = one_request_each }

@@ -1,0 +1,5 @@
+use Rattle.phase_rules.proofs.Runs.{phased_runs_are_runs}
+use Rattle.phase_rules.proofs.phased_runs_are_runs.Goals as goal
+
+pub returns : goal.returns
+returns c = record { runs = phased_runs_are_runs }
