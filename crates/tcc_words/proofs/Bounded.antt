@@ -1,12 +1,12 @@
 -- The numbers of a command are those of allowed fields.
-use Rattle.std.proofs.Common.{◌≡◌, ℕ, ◌+◌, ◌%◌, ◌^◌, ◌≤◌, IsTrue, List, length, Option, Some, None, sym, subst, ◌∙◌, arith}
+use Rattle.std.proofs.Common.{◌≡◌, ℕ, ◌+◌, ◌%◌, ◌^◌, ◌≤◌, IsTrue, List, length, Option, Some, None, sym, subst, ◌∙◌}
 use Rattle.std.specs.Int.{is_power_of_two}
 use Rattle.std.specs.Prelude.{IfSome, IsSome, codes}
 use Rattle.clap.specs.Walk.{Row, Text}
 use Rattle.clap.specs.Words.{first_of}
 use Rattle.tcc_base.specs.Settings.{Settings, IsAllowed}
 use Rattle.tcc_words.proofs.OneCommand.{one-value}
-use Rattle.tcc_words.specs.Asked.{HasPlaces, HasSettings, IsCommand, IsGiven, MayBeGiven, Asks}
+use Rattle.tcc_words.specs.Asked.{HasPlaces, HasSettings, IsCommand, MayBeGiven, Asks}
 use Rattle.tcc_words.specs.Bounds.{IsInBounds}
 use Rattle.tcc_words.specs.Fields.{Allows, IsValue, images_of}
 use Rattle.tcc_words.specs.Numbers.{IsNumber}

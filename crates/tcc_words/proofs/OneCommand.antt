@@ -1,18 +1,17 @@
 -- Words ask for one command at most, since each of its parts is told by what clap read.
-use Rattle.std.proofs.Common.{◌≡◌, ◌↔◌, ◌&&◌, ℕ, ◌+◌, ◌==◌, Bool, true, false, IsTrue, List, [], ◌∷◌, Option, Some, None}
-use Rattle.std.proofs.Common.{MatchOption, get_or, refl, sym, ap, subst, ◌∙◌, inl, inr, if◌then◌else◌}
+use Rattle.std.proofs.Common.{◌≡◌, ◌↔◌, ℕ, ◌+◌, ◌==◌, Bool, true, false, IsTrue, List, [], ◌∷◌, Option, Some, None}
+use Rattle.std.proofs.Common.{get_or, refl, sym, ap, subst, ◌∙◌, inl, inr, if◌then◌else◌}
 use Rattle.std.specs.Prelude.{codes}
-use Rattle.std.specs.Str.Parse.{digits_value}
 use Rattle.clap.specs.Words.{Row, Text, first_of, matches_of}
 use Rattle.tcc_base.specs.Settings.{Settings}
 use Rattle.work_gen.specs.Names.{work_word}
 use Rattle.work_gen.specs.declared.work.Work.{Work}
 use Rattle.work_gen.specs.declared.work.Work.TheVariants.{Counters, Transfers, Stencil, Sharing}
-use Rattle.tcc_words.specs.Asked.{Asks, HasMachine, HasSettings, IsCommand, IsGiven, IsRefused, MayBeGiven, Stands}
+use Rattle.tcc_words.specs.Asked.{Asks, HasMachine, HasSettings, IsGiven, MayBeGiven, Stands}
 use Rattle.tcc_words.specs.Fields.{Allows, BreaksFirst, IsSaid, IsValue, default_of, field_word, order}
 use Rattle.tcc_words.specs.Grammar.{grammar}
 use Rattle.tcc_words.specs.Laws.{CommandsAreNotRefused, WordsAskForOneCommand}
-use Rattle.tcc_words.specs.Numbers.{IsNumber, digits_of, radix_of}
+use Rattle.tcc_words.specs.Numbers.{IsNumber}
 use Rattle.tcc_words.specs.declared.command.Command.{Command}
 use Rattle.tcc_words.specs.declared.command.Command.TheVariants as command
 use Rattle.tcc_words.specs.declared.command.Field.{Field}
@@ -20,7 +19,6 @@ use Rattle.tcc_words.specs.declared.command.Field.TheVariants.{Cores, Dirs, Sets
 use Rattle.tcc_words.specs.declared.command.Machine.{Machine}
 use Rattle.tcc_words.specs.declared.command.Verb.{Verb}
 use Rattle.tcc_words.specs.declared.command.Verb.TheVariants.{Run, Replay, Serial, Trial, Why, Phases}
-use Rattle.tcc_words.specs.declared.command.WordsFault.{WordsFault}
 use Rattle.tcc_words.specs.declared.command.WordsFault.TheVariants as fault
 use Rattle.tcc_words.proofs.Standing.{stands-verb}
 

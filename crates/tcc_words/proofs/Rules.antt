@@ -3,7 +3,7 @@ use Rattle.std.proofs.Common.{◌≡◌, true, List, [], ◌∷◌, ◌++◌, re
 use Rattle.clap.specs.Words.{App, Rule, Text, is_simple, with_rule}
 use Rattle.clap.specs.Faults.{is_simple_and_free}
 use Rattle.clap.specs.Simple.{on_top}
-use Rattle.tcc_words.specs.Grammar.{event_rules, grammar, memory_rules, node_rules, option, place, places, plain, rules, verb_word}
+use Rattle.tcc_words.specs.Grammar.{event_rules, grammar, memory_rules, node_rules, option, place, plain, rules, verb_word}
 use Rattle.tcc_words.specs.Grammar.{file_rules, record_rules, with_rules}
 use Rattle.tcc_words.specs.declared.command.Verb.{Verb}
 use Rattle.tcc_words.specs.declared.command.Verb.TheVariants.{Run, Replay, Serial, Trial, Why, Phases}

@@ -1,5 +1,5 @@
 -- The numbers of a command are within their bounds.
-use Rattle.std.specs.Prelude.{ℕ, ◌≤◌, List, length, IfSome, IsSome}
+use Rattle.std.specs.Prelude.{◌≤◌, List, length, IfSome, IsSome}
 use Rattle.clap.specs.Words.{Text}
 use Rattle.tcc_base.specs.Settings.{Settings, IsAllowed}
 use Rattle.tcc_words.specs.Asked.{IsCommand}

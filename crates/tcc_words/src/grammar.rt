@@ -2,7 +2,8 @@
 ghost use Rattle.std.specs.Prelude.{◌≡◌, map, IfOk, IfErr, []};
 ghost use Rattle.clap.specs.Words.{app_of, rule_of, rows_of, found_of, matches_of, with_rule};
 ghost use Rattle.clap.specs.Faults.{fault_of};
-ghost use Rattle.tcc_words.specs.Grammar.{IsRefusal, grammar, option, flag, place, places, plain, verb_word, with_rules, node_rules, memory_rules, event_rules, record_rules, file_rules};
+ghost use Rattle.tcc_words.specs.Grammar.{IsRefusal, grammar, option, flag, place, places, plain, verb_word, with_rules};
+ghost use Rattle.tcc_words.specs.Grammar.{event_rules, file_rules, memory_rules, node_rules, record_rules};
 
 use crate::command::{Verb, WordsFault};
 use clap::error::ErrorKind;
