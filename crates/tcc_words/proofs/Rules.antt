@@ -28,7 +28,8 @@ four_rules a r s t u =
     let all : (((a.top.rules ++ r ∷ []) ++ s ∷ []) ++ t ∷ []) ++ u ∷ [] ≡ a.top.rules ++ r ∷ s ∷ t ∷ u ∷ [] = simp append_assoc in
     ap (put_rules a) all
 
-pub filed_rules : (a : App) (more : List Rule) (r s : Rule) → with_rule (with_rule (with_rules more a) r) s ≡ with_rules (more ++ r ∷ s ∷ []) a
+pub filed_rules : (a : App) (more : List Rule) (r s : Rule)
+    → with_rule (with_rule (with_rules more a) r) s ≡ with_rules (more ++ r ∷ s ∷ []) a
 unfolding put_rules
 filed_rules a more r s =
     let all : ((a.top.rules ++ more) ++ r ∷ []) ++ s ∷ [] ≡ a.top.rules ++ (more ++ r ∷ s ∷ []) = simp append_assoc in

@@ -34,4 +34,5 @@ returns-in_ok-kind-in-Trial c =
 pub returns-in_ok-events-in-Phases : goal.returns-in_ok-events-in-Phases
 returns-in_ok-events-in-Phases c =
     IfOk-weaker c.with_record-in-Phases.result _ _ (λ m h. phases_made c.args.verb c.args.name.now _ _ _ _ _ c.in-Phases.is c.requires
-    c.bare.ensures c.in_ok-nodes.ensures c.in_ok-machine-in-Phases.ensures c.in_ok-events-in-Phases.ensures h) c.with_record-in-Phases.ensures
+    c.bare.ensures c.in_ok-nodes.ensures c.in_ok-machine-in-Phases.ensures c.in_ok-events-in-Phases.ensures h)
+    c.with_record-in-Phases.ensures
