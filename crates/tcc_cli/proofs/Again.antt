@@ -244,8 +244,8 @@ prints-the-same f w v recorded replay e g status other (Phases machine images st
     let s = start_of machine.raw machine.config r.files in
     let same = given-told w.files.before images r.files read r.told started.given in
     let l = left-by w v machine images name read r.files keep
-    (IsPhasePicked (start_of machine.raw machine.config read) seed steps) (phases_text (start_of machine.raw machine.config read)) x.done text
-    same started.images r.named r.tells (r.left name) (images-told f w v recorded replay e status c name r h) ran.ran in
+    (IsPhasePicked (start_of machine.raw machine.config read) seed steps) (phases_text (start_of machine.raw machine.config read)) x.done
+    text same started.images r.named r.tells (r.left name) (images-told f w v recorded replay e status c name r h) ran.ran in
     let a = run-again f v replay g other machine images name r.files _ x.done text l r.second again none enough in
     let is : text ≡ phases_text s x.done (length l.events) l.ends =
     subst (λ fs. text ≡ phases_text (start_of machine.raw machine.config fs) x.done (length l.events) l.ends) same l.text_is in

@@ -87,6 +87,7 @@ open_phased done some are_runs s seed steps es h allowed picked is_run open_end 
     let ps = phased_by s seed steps in
     let there = subst (λ fs. IsRun s fs h) picked is_run in
     let all : (length ps < length rs) → ⊥ =
-    λ l. open_end (done_there s ps h (phased_from s ps (at_start s)) (some s rs (at_start s)) (done s rs allowed l) (are_runs s ps) there) in
+    λ l. open_end (done_there s ps h (phased_from s ps (at_start s)) (some s rs (at_start s)) (done s rs allowed l)
+    (are_runs s ps) there) in
     same-count es ∙ ap length picked
     ∙ as_many_as (length ps) (length rs) steps (as-many steps (seeded seed)) (phased_few s rs (at_start s)) all

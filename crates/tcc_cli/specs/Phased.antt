@@ -25,7 +25,8 @@ IsPhasePicked s seed steps es = map event_of es ≡ phased_by s seed steps
 -- the line of a commit and its phase
 unfoldable pub phase_line : Commit → (phase : ℕ) → List ℕ
 phase_line c q =
-    codes "commit " ++ decimal c.tid.0 ++ codes " " ++ decimal c.core.0 ++ codes " " ++ decimal c.n ++ codes " phase " ++ decimal q ++ newline
+    codes "commit " ++ decimal c.tid.0 ++ codes " " ++ decimal c.core.0 ++ codes " " ++ decimal c.n ++ codes " phase "
+    ++ decimal q ++ newline
 
 -- those of commits, one phase for each
 unfoldable pub phase_lines : List Commit → (phases : List ℕ) → List ℕ
