@@ -7,6 +7,7 @@ mod answering;
 mod choosing;
 mod copies;
 mod enabling;
+mod flying;
 mod placing;
 mod readers;
 mod reading;

@@ -10,6 +10,7 @@ mod tests;
 mod texts;
 mod trials;
 
+pub use lines::{push_end, push_events};
 pub use shown::{CoreShown, Ending, Trial, Words};
 pub use texts::{report, serial_report};
 pub use trials::trial_summary;

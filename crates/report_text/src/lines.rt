@@ -6,6 +6,7 @@ ghost use Rattle.std.specs.List.{flat_map};
 use std::alloc::AllocError;
 use tcc_base::{Commit, CoreEnd, Load};
 
+/// Appends the line that says whether a run is done. After want of memory a part of it may stand there.
 #[tactic(auto, unfolding(crate::specs::Lines::end_line))]
 pub fn push_end(text: &mut String, done: bool) -> Result<(), AllocError>
     ensures { OnOk result (string_bytes text.new ≡ string_bytes text.old ++ end_line done) }
@@ -13,6 +14,7 @@ pub fn push_end(text: &mut String, done: bool) -> Result<(), AllocError>
     text.push_str(if done { "end done\n" } else { "end open\n" })
 }
 
+/// Appends the line that says how many events a run took. After want of memory a part of it may stand there.
 #[tactic(auto, unfolding(crate::specs::Lines::events_line))]
 pub fn push_events(text: &mut String, events: u64) -> Result<(), AllocError>
     ensures { OnOk result (string_bytes text.new ≡ string_bytes text.old ++ events_line events) }

@@ -43,8 +43,9 @@ fn push_config(text: &mut String, config: &Config) -> Result<(), AllocError>
     )
 }
 
+/// Appends a node, as it stands in an event's line. After want of memory a part of it may stand there.
 #[tactic(auto, unfolding(crate::specs::Grammar::node_word))]
-fn push_node(text: &mut String, node: NodeId) -> Result<(), AllocError>
+pub fn push_node(text: &mut String, node: NodeId) -> Result<(), AllocError>
     ensures { OnOk result (string_bytes text.new ≡ string_bytes text.old ++ node_word node) }
 {
     match node {
@@ -65,8 +66,9 @@ fn push_deliver(text: &mut String, name: &Name) -> Result<(), AllocError>
     write!(text, " {}\n", name.seq)
 }
 
+/// Appends the line of an event. After want of memory a part of it may stand there.
 #[tactic(auto, unfolding(crate::specs::Grammar::event_line))]
-fn push_event(text: &mut String, event: &Event) -> Result<(), AllocError>
+pub fn push_event(text: &mut String, event: &Event) -> Result<(), AllocError>
     ensures { OnOk result (string_bytes text.new ≡ string_bytes text.old ++ event_line event.now) }
 {
     match event {

@@ -1,5 +1,5 @@
 -- A machine with what was sent held in another way: the same messages are in flight.
-use Rattle.std.proofs.Common.{◌≡◌, ℕ, List, refl, ap, sym, ◌∙◌, subst}
+use Rattle.std.proofs.Common.{◌≡◌, ℕ, List, [], refl, ap, sym, ◌∙◌, subst}
 use Rattle.rv_code.specs.Machine.{first_ram}
 use Rattle.tcc_base.specs.declared.names.NodeId.{NodeId}
 use Rattle.tcc_maps.specs.Bridge.{node_of}
@@ -14,7 +14,7 @@ use Rattle.in_flight.specs.Flights.{Flights, net_of}
 use Rattle.net_core.specs.Delivery.{AllMayGo, AreMarked}
 use Rattle.net_core.specs.Machine.{Machine, history_of, start_of, world_of}
 use Rattle.net_core.specs.Whole.{IsWhole}
-use Rattle.net_core.proofs.Reaching.{reached-may-go, reached-same}
+use Rattle.net_core.proofs.Reaching.{reached-may-go, reached-same, settled-net}
 
 -- these flights, and these messages that don't stand on their links
 abbrev pub with_flights : Machine → Flights → List (NodeId × Msg) → Machine
@@ -51,3 +51,7 @@ flown-whole m f xs w net cores dirs marked = record {
       (marked (first_ram (start_of m))
       (subst (λ s. AreMarked s (dirs_of (first_ram (start_of m)) m.dirs) m.flights) (sym w.dirs) w.marked));
 }
+
+-- where all that was sent stands on its links, these are the machine's
+pub settled-links : (m now : Machine) → m ≡ now → now.unsent ≡ [] → net_of m.flights ≡ (world_of now).net
+settled-links m now v e = sym (settled-net m (ap (λ n. n.unsent) v ∙ e)) ∙ ap (λ n. (world_of n).net) v

@@ -1,0 +1,4 @@
+-- What the contracts of this crate cite.
+pub mod Written
+pub mod Lines
+pub mod Text

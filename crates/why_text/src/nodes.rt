@@ -1,0 +1,30 @@
+// The nodes of a machine in their order: cores by number, directories by number, the vendor.
+ghost use Rattle.std.specs.Prelude.{◌≡◌, length, option_map, slice_get};
+ghost use Rattle.tcc_maps.specs.Bridge.{node_of};
+ghost use Rattle.tcc_rules.specs.Useful.{nodes};
+
+use tcc_base::{Config, CoreId, DirId, NodeId};
+
+/// How many nodes there are.
+pub(crate) fn node_count(config: &Config) -> usize
+    ensures { result ≡ length (nodes config.now) }
+{
+    config.cores() as usize + config.dirs() as usize + 1
+}
+
+/// The node at this place, from 0; `None` exactly where there are no more nodes.
+pub(crate) fn node_at(config: &Config, place: usize) -> Option<NodeId>
+    ensures { option_map node_of result ≡ slice_get (nodes config.now) place }
+{
+    let cores = config.cores() as usize;
+    let dirs = config.dirs() as usize;
+    if place < cores {
+        Some(NodeId::Core(CoreId(place as u8)))
+    } else if place - cores < dirs {
+        Some(NodeId::Dir(DirId((place - cores) as u8)))
+    } else if place - cores == dirs {
+        Some(NodeId::Vendor)
+    } else {
+        None
+    }
+}
