@@ -1,12 +1,6 @@
-pub mod Asking
-pub mod Chosen
-pub mod Followed
-pub mod Growing
-pub mod Inserted
+-- The proofs of this crate.
 pub mod Lemmas
-pub mod Noting
-pub mod Ordered
-pub mod Ran
-pub mod Replayed
-pub mod Runs
-pub mod Stuck
+mod Serial
+mod Events
+mod Running
+mod Worked

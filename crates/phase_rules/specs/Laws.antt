@@ -1,5 +1,6 @@
 -- What is claimed of runs by phases, from each start with allowed settings.
-use Rattle.std.specs.Prelude.{ℕ, ◌≡◌, ◌≢◌, ◌<◌, List, [], ◌∷◌, ◌++◌, length, take, drop, filter, max, nat_lt, Option, Some, None, IfSome, IsSome}
+use Rattle.std.specs.Prelude.{ℕ, ◌≡◌, ◌≢◌, ◌<◌, List, [], ◌∷◌, ◌++◌, length, take, drop, filter, max, nat_lt}
+use Rattle.std.specs.Prelude.{Option, Some, None, IfSome, IsSome}
 use Rattle.std.specs.List.Sorted.{IsNonDecreasing}
 use Rattle.image_load.specs.Start.{Start}
 use Rattle.rv_code.specs.Machine.{program}
@@ -8,6 +9,7 @@ use Rattle.tcc_base.specs.declared.access.Commit.{Commit}
 use Rattle.tcc_maps.specs.Nodes.{Core, Vendor, Event}
 use Rattle.tcc_rules.specs.Links.{in_flight}
 use Rattle.tcc_rules.specs.Seen.{IsDone}
+use Rattle.tcc_rules.specs.State.{World}
 use Rattle.tcc_rules.specs.Step.{History, Stepped, step, next, run}
 use Rattle.rv_serial.specs.Suiting.{world_at_start, AfterRun}
 use Rattle.phase_rules.specs.Phased.{phased_from, phased_picked, phased_useful}
@@ -75,10 +77,14 @@ noted_by (Some o) = o.noted
 abbrev pub PhasesGrow : Type 0
 PhasesGrow =
     (s : Start) (es : List Event) (e : Event) → IsAllowed s.settings
-    → AfterRun s es (λ h. IfSome (next s.settings (program s) h e) (λ g. Grows s h g (noted_by (step s.settings (program s) h.world e))))
+    → AfterRun s es (λ h. IfSome (next s.settings (program s) h e)
+    (λ g. Grows s h g (noted_by (step s.settings (program s) h.world e))))
 
--- After every run a core has at most one message to the vendor in flight.
+-- a core has at most one message to the vendor in flight
+abbrev pub AsksOnce : World → Type 0
+AsksOnce w =
+    (c k l : ℕ) → IsSome (in_flight w.net (Core c) Vendor k) → IsSome (in_flight w.net (Core c) Vendor l) → k ≡ l
+
+-- So it is after every run.
 abbrev pub OneRequestEach : Type 0
-OneRequestEach =
-    (s : Start) (es : List Event) → IsAllowed s.settings
-    → AfterRun s es (λ h. (c k l : ℕ) → IsSome (in_flight h.world.net (Core c) Vendor k) → IsSome (in_flight h.world.net (Core c) Vendor l) → k ≡ l)
+OneRequestEach = (s : Start) (es : List Event) → IsAllowed s.settings → AfterRun s es (λ h. AsksOnce h.world)

@@ -2,3 +2,4 @@
 pub mod Phases
 pub mod Phased
 pub mod Laws
+pub mod Worked

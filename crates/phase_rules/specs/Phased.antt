@@ -1,6 +1,7 @@
 -- Runs in which earlier phases commit before later ones: a core's request for a TID is held back while another core that hasn't halted is
 -- in an earlier phase. All other events happen as they do without phases.
-use Rattle.std.specs.Prelude.{ℕ, Bool, true, false, not, List, [], ◌∷◌, filter, Option, Some, None, nat_lt, ◌==◌, ◌&&◌, if◌then◌else◌}
+use Rattle.std.specs.Prelude.{ℕ, Bool, true, false, not, List, [], ◌∷◌, filter, Option, Some, None, nat_lt, ◌==◌, ◌&&◌}
+use Rattle.std.specs.Prelude.{if◌then◌else◌}
 use Rattle.image_load.specs.Start.{Start}
 use Rattle.rv_code.specs.Machine.{program}
 use Rattle.tcc_maps.specs.Nodes.{Core, Vendor, Event, Deliver}

@@ -2,7 +2,9 @@
 // empty function; nothing here depends on code.
 #![tactic(auto)]
 
-ghost use Rattle.phase_rules.specs.Laws.{PhasedRunsAreRuns, PhasedNeverStuck, PhasedPickedEndsDone, PhasedPickedRuns, PhasesGrow, OneRequestEach};
+ghost use Rattle.phase_rules.specs.Laws.{PhasedRunsAreRuns, PhasesNeverFall, PhasedNeverStuck, PhasedPickedEndsDone, PhasedPickedRuns};
+ghost use Rattle.phase_rules.specs.Laws.{PhasesGrow, OneRequestEach};
+ghost use Rattle.phase_rules.specs.Worked.{GoesOn, StaysInPhase, InPhaseOne, HeldBack, BothHalt};
 
 /// A run by phases is a run of the protocol's rules, to the same state and commits.
 pub fn phased_runs_are_runs()
@@ -31,4 +33,20 @@ pub fn phased_runs_are_never_stuck()
 /// that its core was in, in its place by its TID, and the core's phase grows to the value of x27 at its new checkpoint.
 pub fn phases_grow()
     ensures grow { PhasesGrow }
+{}
+
+/// Along the rising TIDs of a run by phases, from a start with allowed settings, the phases of the commits never fall; there is one for
+/// each commit.
+pub fn phases_never_fall()
+    ensures fall { PhasesNeverFall }
+{}
+
+/// What these laws ask is met, by two images that set x27: the phases of a few transactions, the request of a core that is held back as
+/// another one is in an earlier phase, and the phases of a whole run of two cores are computed.
+pub fn worked_runs_by_phases()
+    ensures goes_on { GoesOn }
+    ensures stays { StaysInPhase }
+    ensures asks { InPhaseOne }
+    ensures held { HeldBack }
+    ensures whole { BothHalt }
 {}

@@ -1,4 +1,4 @@
-use Rattle.phase_rules.proofs.Chosen.{a_schedule_picked_by_phases_runs}
+use Rattle.phase_rules.proofs.Running.Chosen.{a_schedule_picked_by_phases_runs}
 use Rattle.phase_rules.proofs.a_schedule_picked_by_phases_runs.Goals as goal
 
 pub returns : goal.returns

@@ -1,4 +1,4 @@
-use Rattle.phase_rules.proofs.Asking.{one_request_each}
+use Rattle.phase_rules.proofs.Events.Asking.{one_request_each}
 use Rattle.phase_rules.proofs.one_request_each.Goals as goal
 
 pub returns : goal.returns

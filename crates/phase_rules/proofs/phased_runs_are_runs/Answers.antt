@@ -1,4 +1,4 @@
-use Rattle.phase_rules.proofs.Runs.{phased_runs_are_runs}
+use Rattle.phase_rules.proofs.Running.Runs.{phased_runs_are_runs}
 use Rattle.phase_rules.proofs.phased_runs_are_runs.Goals as goal
 
 pub returns : goal.returns

@@ -1,0 +1,11 @@
+-- The proofs of this crate.
+mod Rows
+mod Runs
+mod Starting
+mod Chosen
+mod Holding
+mod Picked
+mod Keeping
+mod Order
+mod Places
+mod Requests

@@ -1,0 +1,3 @@
+-- Lists of events in their order.
+pub mod Ordered
+pub mod Counted

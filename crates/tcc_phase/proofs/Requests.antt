@@ -1,0 +1,6 @@
+-- Requests for TIDs that are held back.
+pub mod Asked
+pub mod Behind
+pub mod Listed
+pub mod Those
+pub mod Waiting

@@ -1,0 +1,93 @@
+-- Before the first event all cores are in phase 0, and nobody has asked.
+use Rattle.std.proofs.Common.{◌≡◌, ℕ, zero, suc, ◌<◌, ◌≤◌, ◌&&◌, Bool, false, List, [], ◌∷◌, length, map, Option, Some, refl, ap, sym, ◌∙◌, subst, arith}
+use Rattle.std.specs.Prelude.{get_or, is_some, replicate, take}
+use Rattle.image_load.specs.Contents.{Contents, started}
+use Rattle.image_load.specs.Start.{Start}
+use Rattle.rv_code.specs.Machine.{program, start_regs}
+use Rattle.tcc_base.specs.Settings.{IsAllowed}
+use Rattle.tcc_maps.specs.Nodes.{Core, Vendor}
+use Rattle.tcc_maps.specs.Words.{those}
+use Rattle.tcc_msg.specs.Plain.{event_of}
+use Rattle.tcc_msg.specs.declared.event.Event.{Event as CodeEvent}
+use Rattle.tcc_program.specs.Registers.{register, written, zeroed}
+use Rattle.tcc_rules.specs.State.{core_start, start}
+use Rattle.tcc_rules.specs.Step.{History, step}
+use Rattle.phase_rules.specs.Laws.{at_start}
+use Rattle.phase_rules.specs.Phased.{phased_from}
+use Rattle.phase_rules.specs.Phases.{phase_of, phases_along, phases_in, phases_of}
+use Rattle.net_core.specs.Machine.{Machine, history_of, settings_of, start_of}
+use Rattle.net_core.specs.Reached.{first_history}
+use Rattle.tcc_phase.specs.Kept.{HasRows, IsKept}
+use Rattle.tcc_phase.specs.Phased.{IsPhased}
+use Rattle.tcc_phase.specs.Requests.{IsAsked, is_behind, is_waiting, request}
+use Rattle.tcc_phase.specs.declared.ledger.Ledger.{Ledger}
+use Rattle.tcc_phase.proofs.Keeping.Kept.{in-phases-of}
+use Rattle.tcc_phase.proofs.Requests.Asked.{asked-none}
+use Rattle.tcc_phase.proofs.Requests.Behind.{even-none}
+use Rattle.tcc_phase.proofs.Requests.Those.{those-none}
+
+zeros : (n c : ℕ) → ◌≡◌ {A = ℕ} (get_or (replicate n 0) c 0) 0
+zeros zero zero = refl
+zeros zero (suc c) = refl
+zeros (suc n) zero = refl
+zeros (suc n) (suc c) = zeros n c
+
+no-phases : (s : Start) → phases_of s (at_start s) ≡ []
+unfolding phases_of phases_in phases_along
+no-phases s = refl
+
+first-phase : (s : Start) (c : ℕ) → phase_of s (at_start s) c ≡ 0
+unfolding phase_of phases_in phases_along start core_start start_regs register written zeroed
+first-phase s c = refl
+
+nothing-sent : (s : Start) (c : ℕ) → (at_start s).world.net (Core c) Vendor ≡ []
+unfolding start
+nothing-sent s c = refl
+
+-- what is kept at the start
+pub record IsFirst (n : ℕ) (l : Ledger) : Type 0 where
+  pub each : l.each.items ≡ []
+  pub own : l.own.items ≡ replicate n 0
+  pub asked : l.asked.items ≡ replicate n 0
+  pub rows : HasRows n l
+  pub none : l.count ≡ 0
+  pub even : l.uneven ≡ false
+
+kept-at : (s : Start) (events : ℕ) (l : Ledger) → IsFirst s.settings.cores l → IsKept s (at_start s) events l
+unfolding is_waiting
+kept-at s events l f = record {
+  rows = f.rows;
+  each = f.each ∙ sym (no-phases s);
+  own = λ c h. own-zero c ∙ sym (first-phase s c);
+  asked = λ c h. subst (λ link. IsAsked link (get_or l.asked.items c 0)) (sym (nothing-sent s c))
+      (subst (IsAsked []) (sym (asked-zero c)) asked-none);
+  few = λ c. let z = asked-zero c in omega (arith, z);
+  even = even;
+  held = ap (λ k. take k l.held.items) f.none
+      ∙ sym (those-none _ s.settings.cores (λ c h. ap (λ b. b && is_some (step s.settings (program s) (at_start s).world (request l.asked.items c)))
+      (even-none s.settings.cores (at_start s).world l.own.items c (λ q. even f.even) h)));
+  count = let z = f.none in omega (arith, z);
+}
+  where
+    own-zero : (c : ℕ) → get_or l.own.items c 0 ≡ 0
+    own-zero c = ap (λ xs. get_or xs c 0) f.own ∙ zeros s.settings.cores c
+
+    asked-zero : (c : ℕ) → get_or l.asked.items c 0 ≡ 0
+    asked-zero c = ap (λ xs. get_or xs c 0) f.asked ∙ zeros s.settings.cores c
+
+    even : l.uneven ≡ false → (c d : ℕ) → c < s.settings.cores → d < s.settings.cores → get_or l.own.items c 0 ≡ get_or l.own.items d 0
+    even q c d h k = own-zero c ∙ sym (own-zero d)
+
+pub kept-first : (c : Contents) (m : Machine) (l : Ledger) → m.cores.code ≡ c → history_of m ≡ first_history (started c)
+    → IsFirst c.settings.cores l → IsKept (start_of m) (history_of m) m.events l
+unfolding started
+kept-first c m l code first f =
+    subst (λ k. IsKept (started k) (history_of m) m.events l) (sym code)
+    (subst (λ h. IsKept (started c) h m.events l) (sym first) (kept-at (started c) m.events l f))
+
+pub phased-first : (c : Contents) (m : Machine) (es : List CodeEvent) → m.cores.code ≡ c → history_of m ≡ first_history (started c) → es ≡ []
+    → phased_from (start_of m) (map event_of es) (at_start (start_of m)) ≡ Some (history_of m)
+unfolding phased_from
+phased-first c m es code first none =
+    ap (λ xs. phased_from (start_of m) (map event_of xs) (at_start (start_of m))) none
+    ∙ ap (λ k. Some (at_start (started k))) code ∙ ap Some (sym first)

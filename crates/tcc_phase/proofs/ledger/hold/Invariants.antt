@@ -1,0 +1,11 @@
+-- Those of the cores so far are listed.
+use Rattle.std.proofs.Common.{◌≡◌, ◌≤◌, length, take}
+use Rattle.tcc_maps.specs.Words.{those}
+use Rattle.net_core.specs.Machine.{program_of, settings_of, world_of}
+use Rattle.tcc_phase.specs.Requests.{is_above}
+use Rattle.tcc_phase.proofs.ledger.hold.Given as goal
+
+abbrev pub invariant-loop-core : goal.invariant-loop-core
+invariant-loop-core l =
+    (l.count ≤ l.core) × (length l.held ≡ length l.fn.held)
+    × (take l.count l.held ≡ those (is_above (settings_of l.system) (program_of l.system) (world_of l.system) l.least l.own l.asked) l.core)

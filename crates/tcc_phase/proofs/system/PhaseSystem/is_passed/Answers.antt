@@ -1,0 +1,87 @@
+-- The event at the row's place tells.
+use Rattle.std.proofs.Common.{◌≡◌, ◌+◌, ◌<◌, ◌≤◌, Bool, true, false, length, Option, Some, None, ap, sym, ◌∙◌, subst, arith}
+use Rattle.std.specs.Prelude.{get_or, not, slice_get}
+use Rattle.std.proofs.lemmas.List.{get_or_read}
+use Rattle.image_load.specs.Contents.{started}
+use Rattle.tcc_maps.specs.Nodes.{Core, Deliver, Event, Vendor}
+use Rattle.tcc_msg.specs.Plain.{event_of}
+use Rattle.tcc_rules.specs.Useful.{before, useful}
+use Rattle.net_core.specs.Machine.{Machine, program_of, settings_of, start_of, world_of}
+use Rattle.tcc_phase.specs.Choosing.{all_in, held_in, passed_by}
+use Rattle.tcc_phase.specs.Phased.{PhaseMachine}
+use Rattle.tcc_phase.specs.declared.ledger.Ledger.{Ledger}
+use Rattle.tcc_phase.proofs.Rows.{all-passed, core-row, found-at, held-many, not_yet-if, passed-if}
+use Rattle.tcc_phase.proofs.system.PhaseSystem.is_passed.Goals as goal
+
+row : (c : goal.After-self) → c.args.row < c.self.inside.ledger.count
+row c =
+    let m : Machine = c.self.inside.refined.machine in
+    let a = held-many m c.self.inside.ledger c.self.invariant.kept c.useful_events_are_listed.ensures.holds
+    c.useful_events_are_listed.ensures.ordered in
+    let b : c.args.row < held_in m =
+    subst (λ (p : PhaseMachine). c.args.row < held_in p.refined.machine) (sym c.self.view_is) c.requires.row in
+    omega (arith, a, b)
+
+pub index-core-requires : goal.index-core-requires
+index-core-requires c =
+    let a = row c in
+    let b = c.self.invariant.kept.count in
+    let r = c.self.invariant.kept.rows.held in
+    omega (arith, a, b, r, c.self.inside.ledger.held.ok)
+
+pub index-seq-requires : goal.index-seq-requires
+index-seq-requires c =
+    let m : Machine = c.self.inside.refined.machine in
+    let l : Ledger = c.self.inside.ledger in
+    let laws = c.useful_events_are_listed.ensures in
+    let a = held-many m l c.self.invariant.kept laws.holds laws.ordered in
+    let b : c.args.row < held_in m =
+    subst (λ (p : PhaseMachine). c.args.row < held_in p.refined.machine) (sym c.self.view_is) c.requires.row in
+    let h : c.args.row < l.count = omega (arith, a, b) in
+    let r = core-row m l c.self.invariant.kept laws.holds laws.ordered c.args.k c.args.row h c.index-core.result.now c.index-core.ensures in
+    omega (arith, r, l.asked.ok)
+
+below : (c : goal.After-stands_before) → c.args.row < c.self.inside.ledger.count
+below c =
+    let m : Machine = c.self.inside.refined.machine in
+    let l : Ledger = c.self.inside.ledger in
+    let laws = c.useful_events_are_listed.ensures in
+    let a = held-many m l c.self.invariant.kept laws.holds laws.ordered in
+    let b : c.args.row < held_in m =
+    subst (λ (p : PhaseMachine). c.args.row < held_in p.refined.machine) (sym c.self.view_is) c.requires.row in
+    omega (arith, a, b)
+
+pub returns-in-Some-clause-passed : goal.returns-in-Some-clause-passed
+returns-in-Some-clause-passed c = λ q.
+    let m : Machine = c.self.inside.refined.machine in
+    let l : Ledger = c.self.inside.ledger in
+    let laws = c.useful_events_are_listed.ensures in
+    let at = found-at m c.system.result.now c.useful_at.result (Some c.in-Some.e) (c.args.k + c.args.row) c.system.ensures.machine
+    c.useful_at.ensures c.in-Some.is in
+    subst (λ (p : PhaseMachine). c.args.row < passed_by p.refined.machine (c.args.k + c.args.row + 1)) c.self.view_is
+    (passed-if m l c.self.invariant.kept laws.holds laws.ordered c.args.k c.args.row (below c) (event_of c.in-Some.e) c.index-core.result.now
+    c.index-seq.result.now c.stands_before.result c.index-core.ensures c.index-seq.ensures at c.stands_before.ensures q)
+
+pub returns-in-Some-clause-not_yet : goal.returns-in-Some-clause-not_yet
+returns-in-Some-clause-not_yet c = λ q.
+    let m : Machine = c.self.inside.refined.machine in
+    let l : Ledger = c.self.inside.ledger in
+    let laws = c.useful_events_are_listed.ensures in
+    let at = found-at m c.system.result.now c.useful_at.result (Some c.in-Some.e) (c.args.k + c.args.row) c.system.ensures.machine
+    c.useful_at.ensures c.in-Some.is in
+    subst (λ (p : PhaseMachine). passed_by p.refined.machine (c.args.k + c.args.row + 1) ≤ c.args.row) c.self.view_is
+    (not_yet-if m l c.self.invariant.kept laws.holds laws.ordered c.args.k c.args.row (below c) (event_of c.in-Some.e) c.index-core.result.now
+    c.index-seq.result.now c.stands_before.result c.index-core.ensures c.index-seq.ensures at c.stands_before.ensures q)
+
+pub returns-in-None-clause-passed : goal.returns-in-None-clause-passed
+returns-in-None-clause-passed c = λ q.
+    let m : Machine = c.self.inside.refined.machine in
+    let l : Ledger = c.self.inside.ledger in
+    let laws = c.useful_events_are_listed.ensures in
+    let a = held-many m l c.self.invariant.kept laws.holds laws.ordered in
+    let b : c.args.row < held_in m =
+    subst (λ (p : PhaseMachine). c.args.row < held_in p.refined.machine) (sym c.self.view_is) c.requires.row in
+    let at = found-at m c.system.result.now c.useful_at.result None (c.args.k + c.args.row) c.system.ensures.machine c.useful_at.ensures
+    c.in-None.is in
+    subst (λ (p : PhaseMachine). c.args.row < passed_by p.refined.machine (c.args.k + c.args.row + 1)) c.self.view_is
+    (all-passed m l c.self.invariant.kept laws.holds laws.ordered c.args.k c.args.row (omega (arith, a, b)) at)

@@ -1,0 +1,8 @@
+-- What the contracts of this crate cite.
+pub mod Phased
+pub mod Answers
+pub mod Requests
+pub mod Ledger
+pub mod Kept
+pub mod Choosing
+pub mod Inside

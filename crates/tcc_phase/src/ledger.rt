@@ -1,0 +1,268 @@
+// What is kept beside the machine: the commits' phases, each core's phase and requests, and who is held back.
+ghost use Rattle.std.specs.Prelude.{◌≡◌, ◌<◌, ◌≤◌, ◌+◌, ◌^◌, [], IfOk, OnOk, get_or, length, replicate, take, false, vec_capacity, ℕ};
+ghost use Rattle.tcc_maps.specs.Nodes.{Core, Deliver, Vendor};
+ghost use Rattle.tcc_maps.specs.Words.{those};
+ghost use Rattle.tcc_msg.specs.Plain.{event_of};
+ghost use Rattle.tcc_serial.specs.Owners.{IsRising};
+ghost use Rattle.phase_rules.specs.Laws.{place_of};
+ghost use Rattle.phase_rules.specs.Phases.{x27};
+ghost use Rattle.net_core.specs.Machine.{program_of, settings_of, world_of};
+ghost use Rattle.tcc_phase.specs.Kept.{HasRows};
+ghost use Rattle.tcc_phase.specs.Ledger.{IsListed, Notes};
+ghost use Rattle.tcc_phase.specs.Requests.{Counts, IsEven, either_below, is_above, is_behind, is_below, is_waiting};
+
+use live_core::has_halted;
+use net_core::{Step, System};
+use reg_checkpoint::Check;
+use std::alloc::{AllocError, Global};
+use tcc_base::{Commit, CoreId, NoMemory, NodeId, Reg, Tid};
+use tcc_msg::{Event, Name};
+
+/// The records of a machine that runs by phases.
+#[derive(Debug, Drop)]
+pub(crate) struct Ledger {
+    /// The phase of each commit, by rising TID.
+    pub each: Vec<u32>,
+    /// The phase that each core is in.
+    pub own: Vec<u32>,
+    /// How many of its requests for a TID were delivered, for each core. It is the number of its next one.
+    pub asked: Vec<u64>,
+    /// The first `count` of these are the cores whose requests are in flight and held back, rising.
+    pub held: Vec<u8>,
+    pub count: usize,
+    /// Whether the cores may be in different phases. Where not, none is late.
+    pub uneven: bool,
+}
+
+/// What a program has set as its phase: x27.
+fn phase_in(check: &Check) -> u32
+    ensures { result ≡ x27 check.now }
+{
+    match Reg::new(27) {
+        Some(x27) => check.regs().get(x27),
+        None => 0,
+    }
+}
+
+/// The lesser of a phase and of one that may be there.
+fn lesser(least: Option<u32>, phase: u32) -> Option<u32>
+    ensures { (q : ℕ) → is_below result q ≡ either_below least phase q }
+{
+    match least {
+        Some(other) => Some(other.min(phase)),
+        None => Some(phase),
+    }
+}
+
+/// The least phase of the cores that haven't halted.
+fn earliest(system: &System, own: &[u32]) -> Option<u32>
+    requires { length own.now ≡ (settings_of system.now).cores }
+    ensures { (q : ℕ) → is_behind (settings_of system.now).cores (world_of system.now) own.now q ≡ is_below result q }
+{
+    let mut least = None;
+    for core in 0..system.config().cores() {
+        if !has_halted(system, CoreId(core)) {
+            least = lesser(least, own[core as usize]);
+        }
+    }
+    least
+}
+
+/// The request of that number of a core.
+fn request(core: u8, seq: u64) -> Event
+    ensures { event_of result ≡ Deliver (Core core) Vendor seq }
+{
+    Event::Deliver(Name {
+        src: NodeId::Core(CoreId(core)),
+        dst: NodeId::Vendor,
+        seq,
+    })
+}
+
+/// Whether a core is in a phase above the least one, and its request is in flight.
+fn is_above(system: &System, least: u32, own: &[u32], asked: &[u64], core: u8) -> bool
+    requires own { core < length own.now }
+    requires asked { core < length asked.now }
+    ensures { result ≡ is_above (settings_of system.now) (program_of system.now) (world_of system.now) least own.now asked.now core }
+{
+    let row = core as usize;
+    least < own[row] && system.enabled(request(core, asked[row]))
+}
+
+/// Lists the cores of a phase above the least one whose requests are in flight, and tells how many these are.
+fn hold(system: &System, least: u32, own: &[u32], asked: &[u64], held: &mut [u8]) -> usize
+    requires own { length own.now ≡ (settings_of system.now).cores }
+    requires asked { length asked.now ≡ (settings_of system.now).cores }
+    requires held { length held.old ≡ (settings_of system.now).cores }
+    ensures listed { take result held.new ≡ those (is_above (settings_of system.now) (program_of system.now) (world_of system.now) least
+        own.now asked.now) (settings_of system.now).cores }
+    ensures length { length held.new ≡ length held.old }
+    ensures few { result ≤ (settings_of system.now).cores }
+{
+    let mut count = 0;
+    for core in 0..system.config().cores() {
+        if is_above(system, least, own, asked, core) {
+            held[count] = core;
+            count += 1;
+        }
+    }
+    count
+}
+
+/// How many commits have a smaller TID. It is looked for from the end.
+pub(crate) fn place_of(commits: &[Commit], tid: Tid) -> usize
+    requires { IsRising 0 commits.now }
+    ensures { result ≡ place_of tid.0 commits.now }
+{
+    let mut at = commits.len();
+    while at > 0 && tid.0 <= commits[at - 1].tid.0 {
+        at -= 1;
+    }
+    at
+}
+
+/// Whether some two of the cores are in different phases.
+fn is_uneven(own: &[u32]) -> bool
+    ensures { IsEven result own.now (length own.now) }
+{
+    for phase in own {
+        if *phase != own[0] {
+            return true;
+        }
+    }
+    false
+}
+
+impl Ledger {
+    /// That of a machine before its first event, in which all cores are in phase 0.
+    pub fn start(alloc: Global, cores: u8) -> Result<Ledger, AllocError>
+        ensures each { IfOk result (λ l. l.each.items ≡ []) }
+        ensures own { IfOk result (λ l. l.own.items ≡ replicate cores 0) }
+        ensures asked { IfOk result (λ l. l.asked.items ≡ replicate cores 0) }
+        ensures rows { IfOk result (λ l. HasRows cores l) }
+        ensures none { IfOk result (λ l. l.count ≡ 0) }
+        ensures even { IfOk result (λ l. l.uneven ≡ false) }
+    {
+        let cores = cores as usize;
+        Ok(Ledger {
+            each: Vec::new(alloc),
+            own: vec![in alloc; 0; cores]?,
+            asked: vec![in alloc; 0; cores]?,
+            held: vec![in alloc; 0; cores]?,
+            count: 0,
+            uneven: false,
+        })
+    }
+
+    /// The phase above which a core is late, if one may be.
+    fn limit(&self, system: &System) -> Option<u32>
+        requires rows { HasRows (settings_of system.now).cores self.now }
+        requires even { IsEven self.now.uneven self.now.own.items (settings_of system.now).cores }
+        ensures { (c : ℕ) → c < (settings_of system.now).cores →
+            is_behind (settings_of system.now).cores (world_of system.now) self.now.own.items (get_or self.now.own.items c 0)
+            ≡ is_below result (get_or self.now.own.items c 0) }
+    {
+        if !self.uneven {
+            return None;
+        }
+        earliest(system, &self.own)
+    }
+
+    /// Whether a core that hasn't halted is in an earlier phase than this one.
+    pub fn is_late(&self, system: &System, core: CoreId) -> bool
+        requires core { core.0 < (settings_of system.now).cores }
+        requires rows { HasRows (settings_of system.now).cores self.now }
+        requires even { IsEven self.now.uneven self.now.own.items (settings_of system.now).cores }
+        ensures { result
+            ≡ is_behind (settings_of system.now).cores (world_of system.now) self.now.own.items (get_or self.now.own.items core.0 0) }
+    {
+        match self.limit(system) {
+            Some(least) => least < self.own[core.0 as usize],
+            None => false,
+        }
+    }
+
+    /// Notes a delivery to the vendor, where the event is one.
+    fn note_delivery(&mut self, e: Event)
+        requires { (c : ℕ) → get_or self.old.asked.items c 0 < 2 ^ 63 }
+        ensures asked { Counts (event_of e) self.old.asked.items self.new.asked.items }
+        ensures rows { length self.new.asked.items ≡ length self.old.asked.items }
+        ensures others { self.new ≡ record self.old { asked = self.new.asked } }
+    {
+        if let Event::Deliver(
+            Name {
+                src: NodeId::Core(core),
+                dst: NodeId::Vendor,
+                ..
+            },
+        ) = e
+        {
+            let row = core.0 as usize;
+            if row < self.asked.len() {
+                self.asked[row] += 1;
+            }
+        }
+    }
+
+    /// Notes a commit, where one was told: its core's phase in its place, and the phase that the core is in behind it.
+    fn note_commit(&mut self, system: &System, done: Step)
+        requires own { length self.old.own.items ≡ (settings_of system.now).cores }
+        requires rising { IsRising 0 system.now.commits }
+        requires listed { IsListed system.now done self.old.each.items (settings_of system.now).cores }
+        requires room { length self.old.each.items < vec_capacity self.old.each }
+        ensures notes { Notes system.now done self.old.each.items self.old.own.items self.new.each.items self.new.own.items }
+        ensures even { IsEven self.old.uneven self.old.own.items (settings_of system.now).cores →
+            IsEven self.new.uneven self.new.own.items (settings_of system.now).cores }
+        ensures own { length self.new.own.items ≡ length self.old.own.items }
+        ensures others { self.new ≡ record self.old { each = self.new.each; own = self.new.own; uneven = self.new.uneven } }
+    {
+        let Step::Committed(tid) = done else {
+            return;
+        };
+        let at = place_of(system.commits(), tid);
+        let core = system.commits()[at].core;
+        let row = core.0 as usize;
+        let phase = self.own[row];
+        match self.each.insert(at, phase) {
+            Ok(()) => {}
+            Err(_) => unreachable!(),
+        }
+        self.own[row] = phase.max(phase_in(system.committed(core)));
+        self.uneven = is_uneven(&self.own);
+    }
+
+    /// Makes room for one more commit's phase, so that `note` takes no memory. Nothing else is changed, also after want of memory.
+    pub fn reserve(&mut self) -> Result<(), NoMemory>
+        ensures room { OnOk result (length self.new.each.items < vec_capacity self.new.each) }
+        ensures each { self.new.each.items ≡ self.old.each.items }
+        ensures others { self.new ≡ record self.old { each = self.new.each } }
+    {
+        self.each.reserve(1).map_err(|_| NoMemory)
+    }
+
+    /// Notes what an event did, once the machine has taken it, and sees who is held back then. Where all cores are in one phase and
+    /// nothing is committed it takes constant time, else time in the number of cores, and for each late one in the logarithm of what is
+    /// in flight.
+    pub fn note(&mut self, system: &System, e: Event, done: Step)
+        requires rows { HasRows (settings_of system.now).cores self.old }
+        requires even { IsEven self.old.uneven self.old.own.items (settings_of system.now).cores }
+        requires few { (c : ℕ) → get_or self.old.asked.items c 0 < 2 ^ 63 }
+        requires rising { IsRising 0 system.now.commits }
+        requires listed { IsListed system.now done self.old.each.items (settings_of system.now).cores }
+        requires room { length self.old.each.items < vec_capacity self.old.each }
+        ensures rows { HasRows (settings_of system.now).cores self.new }
+        ensures even { IsEven self.new.uneven self.new.own.items (settings_of system.now).cores }
+        ensures asked { Counts (event_of e) self.old.asked.items self.new.asked.items }
+        ensures notes { Notes system.now done self.old.each.items self.old.own.items self.new.each.items self.new.own.items }
+        ensures held { take self.new.count self.new.held.items ≡ those (is_waiting (settings_of system.now) (program_of system.now)
+            (world_of system.now) self.new.own.items self.new.asked.items) (settings_of system.now).cores }
+        ensures count { self.new.count ≤ (settings_of system.now).cores }
+    {
+        self.note_delivery(e);
+        self.note_commit(system, done);
+        self.count = match self.limit(system) {
+            Some(least) => hold(system, least, &self.own, &self.asked, &mut self.held),
+            None => 0,
+        };
+    }
+}

@@ -1,0 +1,13 @@
+// Machines that run by phases: a core's request for a TID waits while another core that hasn't halted is in an earlier phase.
+#![tactic(auto)]
+
+mod choosing;
+mod ledger;
+mod running;
+mod system;
+mod taking;
+#[cfg(test)]
+mod tests;
+
+pub use running::phase_run;
+pub use system::PhaseSystem;
