@@ -1,23 +1,26 @@
 -- Why the replay of a record prints what the run has printed.
 use Rattle.std.proofs.Common.{ℕ, zero, suc, arith, ◌≡◌, ◌≢◌, ◌↔◌, List, [], ◌∷◌, map}
 use Rattle.std.proofs.Common.{Bool, true, false, Option, Some, None, Ok, Err, IsTrue, refl, sym, ◌∙◌}
-use Rattle.std.proofs.Common.{◌⊎◌, ap, subst, inl, inr, length, drop, get_or, if◌then◌else◌}
+use Rattle.std.proofs.Common.{◌⊎◌, ap, subst, inl, inr, length, if◌then◌else◌}
 use Rattle.std.specs.Prelude.{Contains}
 use Rattle.image_load.specs.Start.{Start}
+use Rattle.phase_rules.specs.Phases.{phases_of}
 use Rattle.schedule_text.specs.Grammar.{text_of}
-use Rattle.schedule_text.specs.WellFormed.{IsWellFormed}
 use Rattle.tcc_base.specs.Settings.{Settings}
 use Rattle.tcc_cli.proofs.Complete.{answers_complete, given-told, of-command}
 use Rattle.tcc_cli.proofs.Excluded.{excluded, same-events}
 use Rattle.tcc_cli.proofs.Facts.{Facts}
 use Rattle.tcc_cli.specs.Around.{Around}
-use Rattle.tcc_cli.specs.Commands.{fault_from, files_of, record_of, start_from}
-use Rattle.tcc_cli.specs.Laws.{AreTold, HasNoFault, IsLeft, IsSameText, ReplaysPrintTheSame, ReplaysRecord}
+use Rattle.tcc_cli.specs.Commands.{fault_from, image_names, record_of}
+use Rattle.tcc_cli.specs.Images.{fault_of, start_of}
+use Rattle.tcc_cli.specs.Laws.{AreTold, HasNoFault, IsLeft, IsSameReport, ReplaysPrintTheSame, ReplaysRecord}
 use Rattle.tcc_cli.specs.Lines.{IsWhole, Written}
 use Rattle.tcc_cli.specs.Refusals.{End, status_of}
-use Rattle.tcc_cli.specs.Runs.{IsRun, RunsTo, run_text}
-use Rattle.tcc_cli.specs.Schedules.{Comes, IsFaultyLine, IsPicked, IsRecorded, IsScheduleOf, Ran}
-use Rattle.tcc_cli.specs.Top.{Caused, Ends, EndsOf, IsTurnedAway, Started}
+use Rattle.tcc_cli.specs.Phased.{IsPhasePicked, phases_text}
+use Rattle.tcc_cli.specs.Runs.{RunsTo, run_text}
+use Rattle.tcc_cli.specs.Comes.{Comes, IsFaultyLine}
+use Rattle.tcc_cli.specs.Schedules.{IsMade, IsRecorded, IsScheduleOf, Ran}
+use Rattle.tcc_cli.specs.Top.{Caused, EndsOf, IsTurnedAway}
 use Rattle.tcc_cli.specs.declared.refusal.Refusal.TheVariants as why
 use Rattle.tcc_cli.specs.declared.status.Status.{Status}
 use Rattle.tcc_cli.specs.declared.status.Status.TheVariants.{Done, Stopped, Memory}
@@ -27,7 +30,7 @@ use Rattle.tcc_rules.specs.Seen.{IsDone}
 use Rattle.tcc_rules.specs.Step.{History}
 use Rattle.tcc_words.specs.Asked.{IsCommand}
 use Rattle.tcc_words.specs.declared.command.Command.{Command}
-use Rattle.tcc_words.specs.declared.command.Command.TheVariants.{Run, Replay}
+use Rattle.tcc_words.specs.declared.command.Command.TheVariants.{Run, Replay, Phases}
 use Rattle.tcc_words.specs.declared.command.Machine.{Machine}
 
 -- how a command ended that wasn't refused
@@ -105,74 +108,72 @@ one-end s es d e g h a b =
         no t = absurd (cc)
 
 -- and so are their texts
-one-text : Facts → (s : Start) (settings : Settings) (es : List Event) (bytes : List ℕ) (d e : Bool) (h : History) (t u : List ℕ)
-    → IsScheduleOf settings es bytes → RunsTo s es d h → t ≡ run_text s d (length es) h
-    → Ran s (λ fs. IsScheduleOf settings fs bytes) (run_text s) e u → (d ≡ e) × (t ≡ u)
-one-text f s settings es bytes d e h t u is runs text ran =
+one-text : Facts → (s : Start) (settings : Settings) (es : List Event) (bytes : List ℕ) (d e : Bool) (h : History) (u : List ℕ)
+    → IsScheduleOf settings es bytes → RunsTo s es d h → Ran s (λ fs. IsScheduleOf settings fs bytes) (run_text s) e u
+    → (d ≡ e) × (u ≡ run_text s d (length es) h)
+one-text f s settings es bytes d e h u is runs ran =
     let events : ran.events ≡ es = same-events f settings ran.events es bytes ran.schedule is in
     let one = one-end s es d e h ran.ends runs (subst (λ xs. RunsTo s xs e ran.ends) events ran.runs) in
-    (one.0, text ∙ (λ i. run_text s (one.0 i) (length (sym events i)) (one.1 i)) ∙ sym ran.text_is)
+    (one.0, ran.text_is ∙ sym (λ i. run_text s (one.0 i) (length (sym events i)) (one.1 i)))
 
--- what the first call left
-record Left (f : Facts) (w v : Around) (machine : Machine) (images : List (List ℕ)) (name : List ℕ) (files : List (List ℕ))
-    (status : Status)
-    : Type 0 where
-  done : Bool
-  text : List ℕ
+-- what the first call left, whose text is this one of its end
+record Left (v : Around) (machine : Machine) (images : List (List ℕ)) (name : List ℕ) (files : List (List ℕ))
+    (text_of_end : Bool → ℕ → History → List ℕ) (done : Bool) (text : List ℕ) : Type 0 where
   events : List Event
   ends : History
   bytes : List ℕ
-  status_is : status ≡ status_of (Ok done)
-  whole : IsWhole text w.out
   schedule : IsScheduleOf machine.config events bytes
-  images_are : fault_from (Run machine images 0 0 None None) files ≡ None
-  runs : RunsTo (start_from (Replay machine name images) (bytes ∷ files)) events done ends
-  text_is : text ≡ run_text (start_from (Replay machine name images) (bytes ∷ files)) done (length events) ends
+  images_are : fault_of machine.raw machine.config files ≡ None
+  runs : RunsTo (start_of machine.raw machine.config files) events done ends
+  text_is : text ≡ text_of_end done (length events) ends
   told : AreTold v.files.before (name ∷ images) (bytes ∷ files)
 
 other-name : (name n : List ℕ) (images : List (List ℕ)) → Contains images n → (Contains images name → ⊥) → Some name ≢ Some n
 other-name name n images here apart e =
     let same : n ≡ name = cc in apart (subst (Contains images) same here)
 
-after-run : (f : Facts) (w v : Around) (run replay : List (List ℕ)) (e : Written) (status : Status) (machine : Machine) (images : List
-    (List ℕ))
-    (name : List ℕ) (r : ReplaysRecord w v run replay machine images name) → Caused run w e status
-    → (status ≡ Done) ⊎ (status ≡ Stopped) → Left f w v machine images name r.files status
-after-run f w v run replay e status machine images name r h good =
-    let c = Run machine images r.steps r.seed r.threads (Some name) in
-    let x = well f run w e status c r.first h good in
-    let (read, text, started, ran, whole) = x.ends in
-    let same = given-told w.files.before images r.files read r.told started.given in
-    let s = start_from c r.files in
-    let bytes = text_of (record { config = machine.config; events = ran.events }) in
-    let stays : (n : List ℕ) → Contains images n → w.files.after n ≡ w.files.before n = λ n here.
-    h.others n (λ d asked named. other-name name n images here r.apart
-    (sym (ap record_of (f.one_command run d c asked r.first)) ∙ named)) in
-    let images_told : AreTold w.files.after images r.files = images-stay w.files.before w.files.after images r.files stays r.told in
-    let recorded : w.files.after name ≡ Some bytes = told-so w.files.tells (w.files.after name) bytes r.tells ran.schedule.1.1 in
+same-map : (p q : List ℕ → Option (List ℕ)) (ns : List (List ℕ)) → ((n : List ℕ) → p n ≡ q n) → map p ns ≡ map q ns
+same-map p q [] h = refl
+same-map p q (n ∷ ns) h = (let first = h n in let rest = same-map p q ns h in λ i. first i ∷ rest i)
+
+-- the images are as they were
+images-told : Facts → (w v : Around) (recorded replay : List (List ℕ)) (e : Written) (status : Status) (c : Command) (name : List ℕ)
+    (r : ReplaysRecord w v recorded replay c name) → Caused recorded w e status → AreTold v.files.before (image_names c) r.files
+images-told f w v recorded replay e status c name r h =
+    let stays : (n : List ℕ) → Contains (image_names c) n → w.files.after n ≡ w.files.before n = λ n here.
+    h.others n (λ d asked named. other-name name n (image_names c) here r.apart
+    (sym r.named ∙ sym (ap record_of (f.one_command recorded d c asked r.first)) ∙ named)) in
+    same-map v.files.before w.files.after (image_names c) r.left
+    ∙ images-stay w.files.before w.files.after (image_names c) r.files stays r.told
+
+-- a run whose record the store told
+left-by : (w v : Around) (machine : Machine) (images : List (List ℕ)) (name : List ℕ) (read files : List (List ℕ))
+    (keep : Option (List ℕ)) (IsSchedule : List Event → Type 0) (text_of_end : Bool → ℕ → History → List ℕ) (done : Bool) (text : List ℕ)
+    → read ≡ files → fault_of machine.raw machine.config read ≡ None → keep ≡ Some name → w.files.tells ≡ true
+    → v.files.before name ≡ w.files.after name → AreTold v.files.before images files
+    → Ran (start_of machine.raw machine.config read) (λ es. IsSchedule es
+    × IsRecorded keep w.files.tells w.files.after (record { config = machine.config; events = es })) text_of_end done text
+    → Left v machine images name files text_of_end done text
+left-by w v machine images name read files keep IsSchedule text_of_end done text same accepted named tells left told ran =
+    let schedule : Schedule = record { config = machine.config; events = ran.events } in
+    let recorded = subst (λ k. IsRecorded k w.files.tells w.files.after schedule) named ran.schedule.1 in
+    let there : w.files.after name ≡ Some (text_of schedule) =
+    told-so w.files.tells (w.files.after name) (text_of schedule) tells recorded.1 in
     record {
-      done = x.done;
-      text = text;
       events = ran.events;
       ends = ran.ends;
-      bytes = bytes;
-      status_is = x.status_is;
-      whole = whole;
-      schedule = record { formed = ran.schedule.1.0; text = refl };
-      images_are = subst (λ fs. fault_from c fs ≡ None) same started.images;
-      runs = subst (λ fs. RunsTo (start_from c fs) ran.events x.done ran.ends) same ran.runs;
-      text_is = subst (λ fs. text ≡ run_text (start_from c fs) x.done (length ran.events) ran.ends) same ran.text_is;
-      told = (λ i. (r.left name ∙ recorded) i ∷ (same-map v.files.before w.files.after images r.left ∙ images_told) i);
+      bytes = text_of schedule;
+      schedule = record { formed = recorded.0; text = refl };
+      images_are = subst (λ fs. fault_of machine.raw machine.config fs ≡ None) same accepted;
+      runs = subst (λ fs. RunsTo (start_of machine.raw machine.config fs) ran.events done ran.ends) same ran.runs;
+      text_is = ran.text_is;
+      told = (λ i. (left ∙ there) i ∷ told i);
     }
   where
     told-so : (tells : Bool) (after : Option (List ℕ)) (bytes : List ℕ) → tells ≡ true → after ≡ (if tells then Some bytes else None)
         → after ≡ Some bytes
     told-so true after bytes t q = q
     told-so false after bytes t q = absurd (cc)
-
-    same-map : (p q : List ℕ → Option (List ℕ)) (ns : List (List ℕ)) → ((n : List ℕ) → p n ≡ q n) → map p ns ≡ map q ns
-    same-map p q [] h = refl
-    same-map p q (n ∷ ns) h = (let first = h n in let rest = same-map p q ns h in λ i. first i ∷ rest i)
 
 -- the replay isn't refused
 good-again : (c : Command) (files : List (List ℕ)) (status : Status) → fault_from c files ≡ None
@@ -184,27 +185,72 @@ good-again c files status images fine enough h = go (h.neither images fine)
     go (inr (inl e)) = inr e
     go (inr (inr e)) = absurd (enough e)
 
-pub prints-the-same : Facts → ReplaysPrintTheSame
-prints-the-same f w v run replay e g status other machine images name r h good again none enough =
-    let l = after-run f w v run replay e status machine images name r h good in
+-- the replay of what was left: it ends alike, and prints the report
+record Again (s : Start) (events : List Event) (ends : History) (done : Bool) (v : Around) (other : Status) : Type 0 where
+  status_is : other ≡ status_of (Ok done)
+  whole : IsWhole (run_text s done (length events) ends) v.out
+
+run-again : Facts → (v : Around) (replay : List (List ℕ)) (g : Written) (other : Status) (machine : Machine) (images : List (List ℕ))
+    (name : List ℕ) (files : List (List ℕ)) (text_of_end : Bool → ℕ → History → List ℕ) (done : Bool) (text : List ℕ)
+    (l : Left v machine images name files text_of_end done text) → IsCommand replay (Replay machine name images)
+    → Caused replay v g other → HasNoFault v → other ≢ Memory
+    → Again (start_of machine.raw machine.config files) l.events l.ends done v other
+run-again f v replay g other machine images name files text_of_end done text l asked again none enough =
     let c = Replay machine name images in
-    let files = l.bytes ∷ r.files in
-    let s = start_from c files in
-    let ran : Comes c files v.files.tells v.files.after l.done l.text = record {
+    let all = l.bytes ∷ files in
+    let s = start_of machine.raw machine.config files in
+    let ran : Comes c all v.files.tells v.files.after done (run_text s done (length l.events) l.ends) = record {
       events = l.events;
       ends = l.ends;
       schedule = l.schedule;
       runs = l.runs;
-      text_is = l.text_is;
+      text_is = refl;
     } in
-    let well_again = good-again c files other l.images_are
-    (λ line faulty. excluded f c files v.files.tells v.files.after l.done l.text line
-    (f.in_bounds replay c r.second) ran faulty) enough
-    (answers_complete f replay v g other c files again r.second l.told none) in
-    let x = well f replay v g other c r.second again well_again in
-    let (read, text, started, ran_again, whole) = x.ends in
-    let same = given-told v.files.before (name ∷ images) files read l.told started.given in
-    let one = one-text f s machine.config l.events l.bytes l.done x.done l.ends l.text text l.schedule l.runs l.text_is
-    (subst (λ fs. Comes c fs v.files.tells v.files.after x.done text) same ran_again) in
-    let same_text : IsSameText w.out v.out = (l.text, l.whole, subst (λ t. IsWhole t v.out) (sym one.1) whole) in
-    (x.status_is ∙ ap (λ d. status_of (Ok d)) (sym one.0) ∙ sym l.status_is, same_text)
+    let well_again = good-again c all other l.images_are
+    (λ line faulty. excluded f c all v.files.tells v.files.after done (run_text s done (length l.events) l.ends) line
+    (f.in_bounds replay c asked) ran faulty) enough
+    (answers_complete f replay v g other c all again asked l.told none) in
+    let x = well f replay v g other c asked again well_again in
+    let (read, u, started, ran_again, whole) = x.ends in
+    let same = given-told v.files.before (name ∷ images) all read l.told started.given in
+    let one = one-text f s machine.config l.events l.bytes done x.done l.ends u l.schedule l.runs
+    (subst (λ fs. Comes c fs v.files.tells v.files.after x.done u) same ran_again) in
+    record { status_is = x.status_is ∙ ap (λ d. status_of (Ok d)) (sym one.0); whole = subst (λ t. IsWhole t v.out) one.1 whole }
+
+report-behind : (s : Start) (done : Bool) (events : ℕ) (h : History) (text : List ℕ) (o p : Written) → text ≡ phases_text s done events h
+    → IsWhole text o → IsWhole (run_text s done events h) p → IsSameReport o p
+unfolding phases_text
+report-behind s done events h text o p is first second =
+    (h.commits, phases_of s h, run_text s done events h, subst (λ t. IsWhole t o) is first, second)
+
+pub prints-the-same : Facts → ReplaysPrintTheSame
+prints-the-same f w v recorded replay e g status other (Run machine images steps seed threads keep) name r h good again none enough =
+    let c = Run machine images steps seed threads keep in
+    let x = well f recorded w e status c r.first h good in
+    let (read, text, started, ran, whole) = x.ends in
+    let s = start_of machine.raw machine.config r.files in
+    let same = given-told w.files.before images r.files read r.told started.given in
+    let l = left-by w v machine images name read r.files keep
+    (IsMade threads (start_of machine.raw machine.config read) seed steps) (run_text (start_of machine.raw machine.config read)) x.done text
+    same started.images r.named r.tells (r.left name) (images-told f w v recorded replay e status c name r h) ran in
+    let a = run-again f v replay g other machine images name r.files _ x.done text l r.second again none enough in
+    let is : text ≡ run_text s x.done (length l.events) l.ends =
+    subst (λ fs. text ≡ run_text (start_of machine.raw machine.config fs) x.done (length l.events) l.ends) same l.text_is in
+    (a.status_is ∙ sym x.status_is, (text, whole, subst (λ t. IsWhole t v.out) (sym is) a.whole))
+prints-the-same f w v recorded replay e g status other (Phases machine images steps seed keep) name r h good again none enough =
+    let c = Phases machine images steps seed keep in
+    let x = well f recorded w e status c r.first h good in
+    let (read, text, started, ran, whole) = x.ends in
+    let s = start_of machine.raw machine.config r.files in
+    let same = given-told w.files.before images r.files read r.told started.given in
+    let l = left-by w v machine images name read r.files keep
+    (IsPhasePicked (start_of machine.raw machine.config read) seed steps) (phases_text (start_of machine.raw machine.config read)) x.done
+    text same started.images r.named r.tells (r.left name) (images-told f w v recorded replay e status c name r h) ran.ran in
+    let a = run-again f v replay g other machine images name r.files _ x.done text l r.second again none enough in
+    let is : text ≡ phases_text s x.done (length l.events) l.ends =
+    subst (λ fs. text ≡ phases_text (start_of machine.raw machine.config fs) x.done (length l.events) l.ends) same l.text_is in
+    (a.status_is ∙ sym x.status_is, report-behind s x.done (length l.events) l.ends text w.out v.out is whole a.whole)
+prints-the-same f w v recorded replay e g status other _ name r h good again none enough = absurd (unlike r.named)
+  where
+    unlike : ◌≡◌ {A = Option (List ℕ)} None (Some name) → ⊥
+    unlike q = absurd (cc)

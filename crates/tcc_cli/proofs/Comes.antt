@@ -1,23 +1,19 @@
 -- What each command comes to, from the start that its files give.
 use Rattle.std.proofs.Common.{◌≡◌, ℕ, Bool, List, Option, Result, Ok, Err, IfOk, length, refl, sym, ◌∙◌, ap, subst}
-use Rattle.image_load.specs.Contents.{Contents, started}
 use Rattle.image_load.specs.Start as image_load
 use Rattle.image_load.specs.Start.{Start}
 use Rattle.tcc_base.specs.Settings.{Settings}
-use Rattle.tcc_cli.specs.Commands.{head_of, start_from}
-use Rattle.tcc_cli.specs.Failing.{IsListRefused, IsScheduleRefused, IsStopped}
+use Rattle.tcc_cli.specs.Comes.{Comes}
+use Rattle.tcc_cli.specs.Commands.{machine_of, start_from}
 use Rattle.tcc_cli.specs.Images.{start_of}
-use Rattle.tcc_cli.specs.Lists.{IsExecuted}
-use Rattle.tcc_cli.specs.Runs.{RunsTo, run_text, summary_text}
+use Rattle.tcc_cli.specs.Runs.{RunsTo}
 use Rattle.tcc_msg.specs.declared.event.Event.{Event}
 use Rattle.tcc_rules.specs.Step.{History}
-use Rattle.tcc_cli.specs.Schedules.{Comes, IsPicked, IsRecorded, IsScheduleOf, Ran}
-use Rattle.tcc_cli.specs.declared.refusal.Refusal.{Refusal}
-use Rattle.tcc_cli.specs.declared.refusal.Refusal.TheVariants as why
+use Rattle.tcc_cli.specs.Phased.{IsPhasePicked, RanInPhases}
+use Rattle.tcc_cli.specs.Schedules.{IsRecorded, Ran}
 use Rattle.tcc_words.specs.declared.command.Command.{Command}
-use Rattle.tcc_words.specs.declared.command.Command.TheVariants.{Run, Replay, Serial, Trial}
+use Rattle.tcc_words.specs.declared.command.Command.TheVariants.{Phases}
 use Rattle.tcc_words.specs.declared.command.Machine.{Machine}
-use Rattle.work_gen.specs.declared.work.Work.{Work}
 
 pub start_settings : (raw : Bool) (s : Settings) (files : List (List ℕ)) → (start_of raw s files).settings ≡ s
 unfolding start_of image_load.start
@@ -35,3 +31,21 @@ ran-so s IsSchedule text_of_end es h done text (Ok f) is runs told = record {
   text_is = told;
 }
 ran-so s IsSchedule text_of_end es h done text (Err e) is runs told = tt
+
+-- and a run by phases
+pub phased-comes : {A E : Type 0} (c : Command) (machine : Machine) (images : List (List ℕ)) (steps seed : ℕ) (keep : Option (List ℕ))
+    (x : Result A E) (done : A → Bool) (text : A → List ℕ) (s : Start) (settings : Settings) (tells : Bool)
+    (told : List ℕ → Option (List ℕ)) (files : List (List ℕ)) → c ≡ Phases machine images steps seed keep → s ≡ start_from c files
+    → settings ≡ (machine_of c).config
+    → IfOk x (λ f. RanInPhases s (λ es. IsPhasePicked s seed steps es
+    × IsRecorded keep tells told (record { config = settings; events = es })) (done f) (text f))
+    → IfOk x (λ f. Comes c files tells told (done f) (text f))
+phased-comes c machine images steps seed keep (Ok f) done text s settings tells told files is from config ran =
+    let one = ap (λ d. start_from d files) is in
+    let two = ap (λ d. (machine_of d).config) is in
+    let here = subst (λ q. RanInPhases s (λ es. IsPhasePicked s seed steps es
+    × IsRecorded keep tells told (record { config = q; events = es })) (done f) (text f)) (config ∙ two) ran in
+    let there = subst (λ q. RanInPhases q (λ es. IsPhasePicked q seed steps es
+    × IsRecorded keep tells told (record { config = machine.config; events = es })) (done f) (text f)) (from ∙ one) here in
+    subst (λ d. Comes d files tells told (done f) (text f)) (sym is) there
+phased-comes c machine images steps seed keep (Err e) done text s settings tells told files is from config ran = tt

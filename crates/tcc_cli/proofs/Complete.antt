@@ -1,5 +1,5 @@
 -- Why the program's answers are complete.
-use Rattle.std.proofs.Common.{ℕ, ◌≡◌, ◌≢◌, List, [], ◌∷◌, map, drop, get_or, Bool, true, false, Option, Some, None, Ok, Err, refl, sym, ◌∙◌}
+use Rattle.std.proofs.Common.{ℕ, ◌≡◌, ◌≢◌, List, [], ◌∷◌, drop, get_or, Bool, true, false, Option, Some, None, Ok, Err, refl, sym, ◌∙◌}
 use Rattle.std.proofs.Common.{◌⊎◌, ap, subst, inl, inr}
 use Rattle.std.specs.Prelude.{IsSome}
 use Rattle.tcc_cli.proofs.Excluded.{excluded}
@@ -9,17 +9,16 @@ use Rattle.tcc_cli.specs.Commands.{fault_from, files_of}
 use Rattle.tcc_cli.specs.Laws.{AnswersAreComplete, AreTold, HasNoFault, IsLeft, OthersAreRefused}
 use Rattle.tcc_cli.specs.Reading.{AreGiven}
 use Rattle.tcc_cli.specs.Refusals.{End, status_of}
-use Rattle.tcc_cli.specs.Top.{Ends, EndsOf, IsTurnedAway, Started}
-use Rattle.tcc_cli.specs.Schedules.{Comes, IsFaultyLine}
+use Rattle.tcc_cli.specs.Top.{Ends, EndsOf, IsTurnedAway}
+use Rattle.tcc_cli.specs.Comes.{Comes, IsFaultyLine}
 use Rattle.tcc_cli.specs.declared.refusal.ImageFault.{ImageFault}
 use Rattle.tcc_cli.specs.declared.refusal.Refusal.TheVariants as why
 use Rattle.tcc_cli.specs.declared.status.Status.{Status}
-use Rattle.tcc_cli.specs.declared.status.Status.TheVariants.{Done, Stopped, Words, Image, Schedule, Memory}
+use Rattle.tcc_cli.specs.declared.status.Status.TheVariants.{Done, Stopped, Words, Memory}
 use Rattle.tcc_words.specs.Asked.{IsCommand, IsRefused}
 use Rattle.tcc_words.specs.Bounds.{IsInBounds}
 use Rattle.tcc_words.specs.declared.command.Command.{Command}
 use Rattle.tcc_words.specs.declared.command.Field.{Field}
-use Rattle.tcc_words.specs.declared.command.WordsFault.{WordsFault}
 use Rattle.tcc_words.specs.declared.command.WordsFault.TheVariants as fault
 use Rattle.tcc_world.specs.Told.{Gives}
 

@@ -1,15 +1,13 @@
 -- From the end of a command, or of the words, to the answer of the program.
-use Rattle.std.proofs.Common.{◌≡◌, ◌≢◌, ℕ, ◌<◌, List, [], ◌∷◌, ◌++◌, Bool, Option, Some, None, Ok, Err, inl, inr, refl, sym, ap, subst, ◌∙◌}
-use Rattle.image_load.specs.Contents.{Contents, started}
+use Rattle.std.proofs.Common.{◌≡◌, ◌≢◌, ℕ, List, Some, None, Err, inl, inr, sym, subst, ◌∙◌}
+use Rattle.image_load.specs.Contents.{started}
 use Rattle.tcc_cli.specs.Around.{Around, FilesAround, IsUntouched}
 use Rattle.tcc_cli.specs.Commands.{fault_from, files_of, record_of}
-use Rattle.tcc_cli.specs.Failing.{IsNotWritten, IsStopped}
-use Rattle.tcc_cli.specs.Lines.{IsCut, IsSilent, IsTold, IsWhole, Written}
-use Rattle.tcc_cli.specs.Reading.{AreGiven, FailedFirst, RefusedFiles, RefusedImages}
+use Rattle.tcc_cli.specs.Failing.{IsStopped}
+use Rattle.tcc_cli.specs.Lines.{IsSilent, IsTold, Written}
+use Rattle.tcc_cli.specs.Reading.{AreGiven}
 use Rattle.tcc_cli.specs.Refusals.{End, line_of, refusal_status, status_of, words_refusal}
-use Rattle.tcc_cli.specs.Schedules.{Comes}
 use Rattle.tcc_cli.specs.Top.{Caused, EndsOf, IsTurnedAway, Notes, Started}
-use Rattle.tcc_cli.specs.declared.refusal.ImageFault.{ImageFault}
 use Rattle.tcc_cli.specs.declared.refusal.Refusal.{Refusal}
 use Rattle.tcc_cli.specs.declared.refusal.Refusal.TheVariants as why
 use Rattle.tcc_cli.specs.declared.status.Status.{Status}

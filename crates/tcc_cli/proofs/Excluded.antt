@@ -1,23 +1,24 @@
 -- What comes to an end has no faulty line.
-use Rattle.std.proofs.Common.{◌≡◌, ◌≢◌, ◌≤◌, ℕ, Bool, List, Option, Some, None, inl, inr, ap, sym, subst, ◌∙◌}
+use Rattle.std.proofs.Common.{◌≡◌, ◌≤◌, ℕ, Bool, List, Option, Some, None, inl, inr, ap, sym, subst, ◌∙◌}
 use Rattle.image_load.specs.Start.{Start}
 use Rattle.schedule_text.specs.Faults.{IsFirstFault}
-use Rattle.schedule_text.specs.Grammar.{text_of}
 use Rattle.tcc_base.specs.Settings.{IsAllowed, Settings}
 use Rattle.tcc_cli.proofs.Comes.{start_settings}
 use Rattle.tcc_cli.proofs.Facts.{Facts}
 use Rattle.tcc_cli.specs.Commands.{head_of, start_from, tail_of}
 use Rattle.tcc_cli.specs.Images.{start_of}
 use Rattle.tcc_cli.specs.Lists.{IsExecuted, IsListFault}
-use Rattle.tcc_cli.specs.Schedules.{Comes, IsFaultyLine, IsScheduleFault, IsScheduleOf, Ran}
+use Rattle.tcc_cli.specs.Comes.{Comes, IsFaultyLine}
+use Rattle.tcc_cli.specs.Schedules.{IsScheduleFault, IsScheduleOf, Ran}
 use Rattle.tcc_cli.specs.Runs.{run_text}
+use Rattle.why_text.specs.Text.{why_text}
 use Rattle.tcc_msg.specs.declared.event.Event.{Event}
-use Rattle.tcc_msg.specs.declared.event.Schedule.{Schedule}
 use Rattle.serial_tool.specs.Runs.{serial_by}
 use Rattle.tcc_replay.specs.Replayed.{history_by}
+use Rattle.tcc_rules.specs.Step.{History}
 use Rattle.tcc_words.specs.Bounds.{IsInBounds}
 use Rattle.tcc_words.specs.declared.command.Command.{Command}
-use Rattle.tcc_words.specs.declared.command.Command.TheVariants.{Run, Replay, Serial, Trial}
+use Rattle.tcc_words.specs.declared.command.Command.TheVariants.{Replay, Serial, Why}
 
 -- two schedules of one text with the same settings have the same events
 pub same-events : Facts → (settings : Settings) (es fs : List Event) (bytes : List ℕ) → IsScheduleOf settings es bytes
@@ -27,16 +28,17 @@ same-events f settings es fs bytes a b =
     (record { config = settings; events = fs }) a.formed b.formed
     (sym a.text ∙ b.text))
 
-schedule-excluded : Facts → (s : Start) (settings : Settings) (bytes : List ℕ) (line : ℕ) (done : Bool) (text : List ℕ)
-    → Ran s (λ es. IsScheduleOf settings es bytes) (run_text s) done text → IsScheduleFault s settings bytes line → ⊥
-schedule-excluded f s settings bytes line done text ran (inl fault) =
+schedule-excluded : Facts → (s : Start) (settings : Settings) (bytes : List ℕ) (line : ℕ) (text_of_end : Bool → ℕ → History → List ℕ)
+    (done : Bool) (text : List ℕ) → Ran s (λ es. IsScheduleOf settings es bytes) text_of_end done text
+    → IsScheduleFault s settings bytes line → ⊥
+schedule-excluded f s settings bytes line text_of_end done text ran (inl fault) =
     f.no_faulty_line (record { config = settings; events = ran.events }) line ran.schedule.formed (subst
     (IsFirstFault line) ran.schedule.text fault)
-schedule-excluded f s settings bytes line done text ran (inr (inl (two, other))) =
+schedule-excluded f s settings bytes line text_of_end done text ran (inr (inl (two, other))) =
     other.other (ap (λ x. x.config) (f.one_schedule other.schedule
     (record { config = settings; events = ran.events }) other.formed ran.schedule.formed
     (sym other.text ∙ ran.schedule.text)))
-schedule-excluded f s settings bytes line done text ran (inr (inr (es, i, is, refused, at))) =
+schedule-excluded f s settings bytes line text_of_end done text ran (inr (inr (es, i, is, refused, at))) =
     let same = same-events f settings ran.events es bytes ran.schedule is in
     f.runs_go_on s es ran.ends i (subst (λ xs. history_by s xs ≡ Some ran.ends) same ran.runs.is_run) refused
 
@@ -54,11 +56,14 @@ few-cores raw s files allowed = subst (λ t. t.cores ≤ 64) (sym (start_setting
 
 pub excluded : Facts → (c : Command) (files : List (List ℕ)) (tells : Bool) (told : List ℕ → Option (List ℕ)) (done : Bool) (text : List ℕ)
     (line : ℕ) → IsInBounds c → Comes c files tells told done text → IsFaultyLine c files line → ⊥
-excluded f (Run machine images steps seed threads keep) files tells told done text line bounds comes fault = fault
 excluded f (Replay machine schedule images) files tells told done text line bounds comes fault =
-    schedule-excluded f (start_from (Replay machine schedule images) files) machine.config (head_of files) line done text comes fault
+    let s = start_from (Replay machine schedule images) files in
+    schedule-excluded f s machine.config (head_of files) line (run_text s) done text comes fault
 excluded f (Serial machine list images) files tells told done text line bounds comes fault =
     list-excluded f (start_from (Serial machine list images) files) (head_of files) text line (few-cores machine.raw machine.config
     (tail_of files) bounds.allowed)
     comes.1 fault
-excluded f (Trial config work number steps seed) files tells told done text line bounds comes fault = fault
+excluded f (Why machine schedule images) files tells told done text line bounds comes fault =
+    let s = start_from (Why machine schedule images) files in
+    schedule-excluded f s machine.config (head_of files) line (why_text s) done text comes fault
+excluded f _ files tells told done text line bounds comes fault = fault

@@ -1,5 +1,5 @@
 -- The laws of words, texts, lists and runs from which the program's laws follow.
-use Rattle.std.proofs.Common.{◌≡◌, ℕ, List, None}
+use Rattle.std.proofs.Common.{◌≡◌, ℕ, List}
 use Rattle.schedule_text.specs.Faults.{IsFirstFault}
 use Rattle.schedule_text.specs.Grammar.{text_of}
 use Rattle.schedule_text.specs.WellFormed.{IsWellFormed}

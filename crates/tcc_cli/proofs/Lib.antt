@@ -9,6 +9,7 @@ mod Facts
 mod Loading
 mod Machines
 mod Naming
+mod Numbered
 mod Pieces
 mod Refusing
 mod Shown

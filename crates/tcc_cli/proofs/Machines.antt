@@ -1,5 +1,5 @@
 -- A machine that was run, and what that is to the start from which it began.
-use Rattle.std.proofs.Common.{◌≡◌, ℕ, ◌+◌, ◌≤◌, ◌↔◌, Bool, List, [], ◌++◌, length, map, Some, IsTrue, ap, sym, ◌∙◌, subst, arith}
+use Rattle.std.proofs.Common.{◌≡◌, ℕ, ◌+◌, ◌≤◌, ◌↔◌, Bool, [], ◌++◌, length, map, Some, IsTrue, ap, sym, ◌∙◌, subst, arith}
 use Rattle.std.proofs.lemmas.List.{length-map}
 use Rattle.image_load.specs.Contents.{Contents, started}
 use Rattle.rand_pcg.specs.Lcg.{Lcg}

@@ -4,7 +4,7 @@ use Rattle.image_load.specs.Start.{Start}
 use Rattle.tcc_cli.specs.Images.{fault_of, start_of}
 use Rattle.tcc_cli.specs.declared.refusal.ImageFault.{ImageFault}
 use Rattle.tcc_words.specs.declared.command.Command.{Command}
-use Rattle.tcc_words.specs.declared.command.Command.TheVariants.{Run, Replay, Serial, Trial}
+use Rattle.tcc_words.specs.declared.command.Command.TheVariants.{Run, Replay, Serial, Trial, Why, Phases}
 use Rattle.tcc_words.specs.declared.command.Machine.{Machine}
 use Rattle.work_gen.specs.Programs.{image, program}
 
@@ -14,6 +14,8 @@ image_names (Run machine images steps seed threads keep) = images
 image_names (Replay machine schedule images) = images
 image_names (Serial machine list images) = images
 image_names (Trial config work number steps seed) = []
+image_names (Why machine schedule images) = images
+image_names (Phases machine images steps seed keep) = images
 
 -- the names of the files that are read, in order: the schedule or the list, and then the images
 abbrev pub files_of : Command → List (List ℕ)
@@ -21,10 +23,13 @@ files_of (Run machine images steps seed threads keep) = images
 files_of (Replay machine schedule images) = schedule ∷ images
 files_of (Serial machine list images) = list ∷ images
 files_of (Trial config work number steps seed) = []
+files_of (Why machine schedule images) = schedule ∷ images
+files_of (Phases machine images steps seed keep) = images
 
 -- the name of the file that is written
 abbrev pub record_of : Command → Option (List ℕ)
 record_of (Run machine images steps seed threads keep) = keep
+record_of (Phases machine images steps seed keep) = keep
 record_of _ = None
 
 -- the machine, and whether its images are raw; a workload is
@@ -33,6 +38,8 @@ machine_of (Run machine images steps seed threads keep) = machine
 machine_of (Replay machine schedule images) = machine
 machine_of (Serial machine list images) = machine
 machine_of (Trial config work number steps seed) = record { config = config; raw = true }
+machine_of (Why machine schedule images) = machine
+machine_of (Phases machine images steps seed keep) = machine
 
 -- the first of some files, and those after it
 abbrev pub head_of : List (List ℕ) → List ℕ
@@ -49,6 +56,8 @@ images_in (Run machine images steps seed threads keep) files = files
 images_in (Replay machine schedule images) files = tail_of files
 images_in (Serial machine list images) files = tail_of files
 images_in (Trial config work number steps seed) files = image (program work number) ∷ []
+images_in (Why machine schedule images) files = tail_of files
+images_in (Phases machine images steps seed keep) files = files
 
 -- the start of the machine with these images, and the first of them that is no image
 abbrev pub start_from : Command → (files : List (List ℕ)) → Start

@@ -6,9 +6,10 @@ use Rattle.schedule_text.specs.Faults.{IsFirstFault}
 use Rattle.schedule_text.specs.declared.fault.TextFault.{TextFault}
 use Rattle.schedule_text.specs.declared.fault.TextFault.TheVariants as text
 use Rattle.tcc_cli.specs.Around.{FilesAround, IsUntouched}
+use Rattle.tcc_cli.specs.Comes.{IsFaultyLine}
 use Rattle.tcc_cli.specs.Commands.{record_of}
 use Rattle.tcc_cli.specs.Lists.{IsListFault}
-use Rattle.tcc_cli.specs.Schedules.{HasOtherSettings, IsFaultyLine, IsScheduleFault}
+use Rattle.tcc_cli.specs.Schedules.{HasOtherSettings, IsScheduleFault}
 use Rattle.tcc_cli.specs.declared.refusal.Refusal.{Refusal}
 use Rattle.tcc_cli.specs.declared.refusal.Refusal.TheVariants.{Schedule, Store, Memory}
 use Rattle.tcc_replay.specs.declared.replaying.ReplayFault.{ReplayFault}

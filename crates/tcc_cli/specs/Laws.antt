@@ -2,11 +2,14 @@
 use Rattle.std.specs.Prelude.{ℕ, true, List, length, map, Contains, Option, IsSome, ◌≡◌, ◌≢◌, ◌↔◌, ◌⊎◌, Some, None}
 use Rattle.image_load.specs.Start.{Start}
 use Rattle.tcc_base.specs.Settings.{IsAllowed}
+use Rattle.tcc_base.specs.declared.access.Commit.{Commit}
 use Rattle.tcc_cli.specs.Around.{Around}
-use Rattle.tcc_cli.specs.Commands.{fault_from, files_of}
+use Rattle.tcc_cli.specs.Comes.{IsFaultyLine}
+use Rattle.tcc_cli.specs.Commands.{fault_from, files_of, image_names, machine_of, record_of}
 use Rattle.tcc_cli.specs.Lines.{Written, IsWhole}
+use Rattle.tcc_cli.specs.Phased.{IsPhasePicked, phases_and}
 use Rattle.tcc_cli.specs.Runs.{IsRun}
-use Rattle.tcc_cli.specs.Schedules.{IsFaultyLine, IsMade}
+use Rattle.tcc_cli.specs.Schedules.{IsMade}
 use Rattle.tcc_cli.specs.Top.{Caused}
 use Rattle.tcc_cli.specs.declared.status.Status.{Status}
 use Rattle.tcc_cli.specs.declared.status.Status.TheVariants.{Done, Stopped, Words, Image, Schedule, Memory}
@@ -16,8 +19,7 @@ use Rattle.tcc_rules.specs.Seen.{IsDone}
 use Rattle.tcc_rules.specs.Step.{History}
 use Rattle.tcc_words.specs.Asked.{IsCommand}
 use Rattle.tcc_words.specs.declared.command.Command.{Command}
-use Rattle.tcc_words.specs.declared.command.Command.TheVariants.{Run, Replay}
-use Rattle.tcc_words.specs.declared.command.Machine.{Machine}
+use Rattle.tcc_words.specs.declared.command.Command.TheVariants.{Replay, Phases}
 use Rattle.tcc_world.specs.Faults.{Rose}
 
 -- no file failed to be read or written, and the output didn't fail
@@ -58,28 +60,41 @@ OpenRunsTakeAllEvents =
     (s : Start) (threads : Option ℕ) (seed steps : ℕ) (es : List Event) (h : History) → IsAllowed s.settings
     → IsMade threads s seed steps es → IsRun s (map event_of es) h → (IsDone s.settings h.world → ⊥) → length es ≡ steps
 
+-- and so did a run by phases
+abbrev pub OpenPhasedRunsTakeAllEvents : Type 0
+OpenPhasedRunsTakeAllEvents =
+    (s : Start) (seed steps : ℕ) (es : List Event) (h : History) → IsAllowed s.settings → IsPhasePicked s seed steps es
+    → IsRun s (map event_of es) h → (IsDone s.settings h.world → ⊥) → length es ≡ steps
+
+-- two calls: a run that is recorded, and a replay of the record, by the same settings and with the same images, in the files as the run
+-- left them; the record isn't one of the images
+pub record ReplaysRecord (w v : Around) (recorded replay : List (List ℕ)) (c : Command) (name : List ℕ) : Type 0 where
+  pub first : IsCommand recorded c
+  pub named : record_of c ≡ Some name
+  pub second : IsCommand replay (Replay (machine_of c) name (image_names c))
+  pub left : (n : List ℕ) → v.files.before n ≡ w.files.after n
+  pub tells : w.files.tells ≡ true
+  pub files : List (List ℕ)
+  pub told : AreTold w.files.before (image_names c) files
+  pub apart : Contains (image_names c) name → ⊥
+
 -- one text was written whole to both outputs
 abbrev pub IsSameText : (o p : Written) → Type 0
 IsSameText o p = (text : List ℕ) × IsWhole text o × IsWhole text p
 
--- two calls: a run that is recorded, and a replay of the record, by the same settings and with the same images, in the files as the run
--- left them; the record isn't one of the images
-pub record ReplaysRecord (w v : Around) (run replay : List (List ℕ)) (machine : Machine) (images : List (List ℕ))
-    (name : List ℕ) : Type 0 where
-  pub steps : ℕ
-  pub seed : ℕ
-  pub threads : Option ℕ
-  pub first : IsCommand run (Run machine images steps seed threads (Some name))
-  pub second : IsCommand replay (Replay machine name images)
-  pub left : (n : List ℕ) → v.files.before n ≡ w.files.after n
-  pub tells : w.files.tells ≡ true
-  pub files : List (List ℕ)
-  pub told : AreTold w.files.before images files
-  pub apart : Contains images name → ⊥
+-- the report that stands behind phases of commits in what was written to the first was written whole to the second
+abbrev pub IsSameReport : (o p : Written) → Type 0
+IsSameReport o p =
+    (commits : List Commit) × (phases : List ℕ) × (report : List ℕ) × IsWhole (phases_and commits phases report) o × IsWhole report p
 
--- the replay of a record ends as the run did and prints the same text, where nothing fails in it and memory suffices
+-- what a run and the replay of its record print: the same, but for the phases of a run by phases
+abbrev pub IsPrintedAgain : Command → (o p : Written) → Type 0
+IsPrintedAgain (Phases machine images steps seed keep) o p = IsSameReport o p
+IsPrintedAgain _ o p = IsSameText o p
+
+-- the replay of a record ends as the run did and prints the same report, where nothing fails in it and memory suffices
 abbrev pub ReplaysPrintTheSame : Type 0
 ReplaysPrintTheSame =
-    (w v : Around) (run replay : List (List ℕ)) (e f : Written) (status other : Status) (machine : Machine) (images : List (List ℕ))
-    (name : List ℕ) → ReplaysRecord w v run replay machine images name → Caused run w e status → (status ≡ Done) ⊎ (status ≡ Stopped)
-    → Caused replay v f other → HasNoFault v → other ≢ Memory → (other ≡ status) × IsSameText w.out v.out
+    (w v : Around) (recorded replay : List (List ℕ)) (e f : Written) (status other : Status) (c : Command) (name : List ℕ)
+    → ReplaysRecord w v recorded replay c name → Caused recorded w e status → (status ≡ Done) ⊎ (status ≡ Stopped)
+    → Caused replay v f other → HasNoFault v → other ≢ Memory → (other ≡ status) × IsPrintedAgain c w.out v.out

@@ -1,10 +1,12 @@
 pub mod Around
+pub mod Comes
 pub mod Commands
 pub mod Failing
 pub mod Images
 pub mod Laws
 pub mod Lines
 pub mod Lists
+pub mod Phased
 pub mod Reading
 pub mod Refusals
 pub mod Runs

@@ -9,7 +9,6 @@ use Rattle.rv_code.specs.Machine.{program}
 use Rattle.rv_serial.specs.Given.{IsSerial, committed}
 use Rattle.rv_serial.specs.Going.{picked_from}
 use Rattle.rv_serial.specs.Suiting.{world_at_start}
-use Rattle.tcc_base.specs.Settings.{IsAllowed}
 use Rattle.tcc_maps.specs.Nodes as rules
 use Rattle.tcc_msg.specs.Plain.{event_of}
 use Rattle.tcc_msg.specs.declared.event.Event.{Event}

@@ -1,21 +1,17 @@
--- Where a command's schedule comes from, what it leads to, and the text of that.
-use Rattle.std.specs.Prelude.{ℕ, Bool, true, List, map, length, ◌≡◌, ◌≢◌, ◌+◌, ◌⊎◌, Option, Some, None, if◌then◌else◌}
+-- Where a schedule comes from, what it leads to, and the text of that.
+use Rattle.std.specs.Prelude.{ℕ, Bool, List, map, length, ◌≡◌, ◌≢◌, ◌+◌, ◌⊎◌, Option, Some, None, if◌then◌else◌}
 use Rattle.image_load.specs.Start.{Start}
 use Rattle.schedule_text.specs.Faults.{IsFirstFault}
 use Rattle.schedule_text.specs.Grammar.{text_of}
 use Rattle.schedule_text.specs.WellFormed.{IsWellFormed}
 use Rattle.tcc_base.specs.Settings.{Settings}
-use Rattle.tcc_cli.specs.Commands.{head_of, start_from}
-use Rattle.tcc_cli.specs.Lists.{IsExecuted, IsListFault}
-use Rattle.tcc_cli.specs.Runs.{RunsTo, picked_by, run_text, summary_text}
+use Rattle.tcc_cli.specs.Runs.{RunsTo, picked_by}
 use Rattle.tcc_msg.specs.Plain.{event_of}
 use Rattle.tcc_msg.specs.declared.event.Event.{Event}
 use Rattle.tcc_msg.specs.declared.event.Schedule.{Schedule}
 use Rattle.tcc_replay.specs.Replayed.{IsRefusedAt}
 use Rattle.tcc_rules.specs.Step.{History}
 use Rattle.tcc_threads.specs.Joined.{IsJoined}
-use Rattle.tcc_words.specs.declared.command.Command.{Command}
-use Rattle.tcc_words.specs.declared.command.Command.TheVariants.{Run, Replay, Serial, Trial}
 
 -- these bytes are the text of a schedule with these settings and events
 pub record IsScheduleOf (settings : Settings) (es : List Event) (bytes : List ℕ) : Type 0 where
@@ -52,21 +48,6 @@ pub record Ran (s : Start) (IsSchedule : List Event → Type 0) (text_of_end : B
   pub runs : RunsTo s events done ends
   pub text_is : text ≡ text_of_end done (length events) ends
 
--- what each command comes to, where its files have these bytes: the text that it prints, and what stands in the record then
-abbrev pub Comes : Command → (files : List (List ℕ)) → (tells : Bool) → (told : List ℕ → Option (List ℕ)) → Bool → List ℕ → Type 0
-Comes (Run machine images steps seed threads keep) files tells told done text =
-    let s = start_from (Run machine images steps seed threads keep) files in
-    Ran s (λ es. IsMade threads s seed steps es × IsRecorded keep tells told (record { config = machine.config; events = es }))
-    (run_text s) done text
-Comes (Replay machine schedule images) files tells told done text =
-    let s = start_from (Replay machine schedule images) files in
-    Ran s (λ es. IsScheduleOf machine.config es (head_of files)) (run_text s) done text
-Comes (Serial machine list images) files tells told done text =
-    (done ≡ true) × IsExecuted (start_from (Serial machine list images) files) (head_of files) text
-Comes (Trial config work number steps seed) files tells told done text =
-    let s = start_from (Trial config work number steps seed) files in
-    Ran s (IsPicked s seed steps) (summary_text s work number) done text
-
 -- the line at which a schedule is refused: the first that the grammar doesn't allow, or the second where its settings aren't the
 -- command's, or that of the first event that isn't enabled at its turn
 abbrev pub IsScheduleFault : Start → Settings → (bytes : List ℕ) → (line : ℕ) → Type 0
@@ -74,11 +55,3 @@ IsScheduleFault s settings bytes line =
     IsFirstFault line bytes
     ⊎ ((line ≡ 2) × HasOtherSettings settings bytes)
     ⊎ ((es : List Event) × (i : ℕ) × IsScheduleOf settings es bytes × IsRefusedAt s es i × (line ≡ i + 3))
-
--- the line at which the file of a command is refused
-abbrev pub IsFaultyLine : Command → (files : List (List ℕ)) → (line : ℕ) → Type 0
-IsFaultyLine (Replay machine schedule images) files line =
-    IsScheduleFault (start_from (Replay machine schedule images) files) machine.config (head_of files) line
-IsFaultyLine (Serial machine list images) files line =
-    IsListFault (start_from (Serial machine list images) files) (head_of files) line
-IsFaultyLine _ files line = ⊥

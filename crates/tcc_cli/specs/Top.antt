@@ -1,11 +1,11 @@
 -- What the program's answers say: how the call ended, its cause, and what was written.
 use Rattle.std.specs.Prelude.{ℕ, Bool, List, ◌≡◌, ◌≢◌, ◌⊎◌, Some, None, Ok, Err}
 use Rattle.tcc_cli.specs.Around.{Around, IsUntouched}
+use Rattle.tcc_cli.specs.Comes.{Comes, IsFaultyLine}
 use Rattle.tcc_cli.specs.Commands.{fault_from, files_of, record_of}
 use Rattle.tcc_cli.specs.Lines.{Written, IsTold, IsCut, IsWhole, IsSilent}
 use Rattle.tcc_cli.specs.Reading.{AreGiven, FailedFirst}
 use Rattle.tcc_cli.specs.Refusals.{End, line_of, status_of}
-use Rattle.tcc_cli.specs.Schedules.{Comes, IsFaultyLine}
 use Rattle.tcc_cli.specs.declared.refusal.Refusal.TheVariants as why
 use Rattle.tcc_cli.specs.declared.status.Status.{Status}
 use Rattle.tcc_words.specs.Asked.{IsCommand, IsRefused}

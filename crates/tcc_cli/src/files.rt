@@ -15,9 +15,11 @@ fn first_name(command: &Command) -> Option<&str>
         (λ name. files_of command.now ≡ name.now ∷ image_names command.now) }
 {
     match command {
-        Command::Replay { schedule, .. } => Some(schedule.items.as_str()),
+        Command::Replay { schedule, .. } | Command::Why { schedule, .. } => {
+            Some(schedule.items.as_str())
+        }
         Command::Serial { list, .. } => Some(list.items.as_str()),
-        Command::Run { .. } | Command::Trial { .. } => None,
+        Command::Run { .. } | Command::Trial { .. } | Command::Phases { .. } => None,
     }
 }
 
@@ -28,7 +30,9 @@ fn image_names(command: &Command) -> &[Text]
     match command {
         Command::Run { images, .. }
         | Command::Replay { images, .. }
-        | Command::Serial { images, .. } => &images.items,
+        | Command::Serial { images, .. }
+        | Command::Why { images, .. }
+        | Command::Phases { images, .. } => &images.items,
         Command::Trial { .. } => &[],
     }
 }

@@ -1,6 +1,10 @@
 // What follows from the answers of the program.
-ghost use Rattle.tcc_cli.specs.Laws.{AnswersAreComplete, OpenRunsTakeAllEvents, OthersAreRefused, ReplaysPrintTheSame};
+ghost use Rattle.tcc_cli.specs.Laws.{AnswersAreComplete, OpenPhasedRunsTakeAllEvents, OpenRunsTakeAllEvents, OthersAreRefused};
+ghost use Rattle.tcc_cli.specs.Laws.{ReplaysPrintTheSame};
 
+use phase_rules::{
+    a_schedule_picked_by_phases_runs, phased_runs_are_never_stuck, phased_runs_are_runs,
+};
 use rv_serial::riscv_machines_are_never_stuck;
 use schedule_text::{texts_tell_schedules_apart, the_first_fault_is_one};
 use serial_tool::{lists_are_read_alike, lists_are_run_alike};
@@ -25,17 +29,22 @@ pub fn answers_are_complete()
     what_runs_is_not_refused();
 }
 
-/// A law: where the machine isn't done at the end of a run, of a seed's or of threads, all the events that were asked for were taken.
+/// A law: where the machine isn't done at the end of a run, of a seed's, of threads or by phases, all the events that were asked for were
+/// taken.
 pub fn open_runs_take_all_events()
-    ensures { OpenRunsTakeAllEvents }
+    ensures runs { OpenRunsTakeAllEvents }
+    ensures phased { OpenPhasedRunsTakeAllEvents }
 {
     riscv_machines_are_never_stuck();
     a_picked_schedule_is_a_run();
     open_joined_runs_take_all_events();
+    phased_runs_are_never_stuck();
+    phased_runs_are_runs();
+    a_schedule_picked_by_phases_runs();
 }
 
 /// A law: two calls, a run that is recorded and the replay of the record with the same settings and images, end alike and print the same
-/// text, where nothing fails and memory suffices.
+/// text, where nothing fails and memory suffices. Of a run by phases that is the report which stands behind the phases.
 pub fn replays_print_the_same()
     ensures { ReplaysPrintTheSame }
 {

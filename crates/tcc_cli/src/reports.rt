@@ -1,4 +1,4 @@
-// The text of a machine as it stands: the report of a run, and the summary of a workload's.
+// The text of a machine as it stands: the report of a run, the summary of a workload's, and why messages wait.
 ghost use Rattle.std.specs.Prelude.{◌≡◌, ◌/◌, [], IfOk, length, map};
 ghost use Rattle.std.specs.List.{range_with_len};
 ghost use Rattle.std.specs.String.{string_bytes};
@@ -7,6 +7,7 @@ ghost use Rattle.tcc_program.specs.Cores.{printed};
 ghost use Rattle.tcc_rules.specs.Seen.{seen};
 ghost use Rattle.net_core.specs.Machine.{history_of, settings_of, start_of, world_of};
 ghost use Rattle.tcc_cli.specs.Runs.{RunsTo, run_text, shown, summary_text};
+ghost use Rattle.why_text.specs.Text.{why_text};
 
 use crate::laid::Laid;
 use image_load::Loaded;
@@ -16,6 +17,7 @@ use std::alloc::Global;
 use std::marker::Model;
 use tcc_base::{CoreId, LineAddr, List, NoMemory};
 use tcc_refine::Refined;
+use why_text::why;
 use work_gen::Work;
 
 /// A text, and whether what it tells of has run to its end.
@@ -145,5 +147,19 @@ pub fn summary_of(
         loaded: &Laid { loaded },
     };
     let text = trial_summary(alloc, &trial)?;
+    Ok(Finished { done, text })
+}
+
+/// Why messages wait in a machine as it stands, which began with what was loaded.
+pub fn waits_of(alloc: Global, loaded: &Loaded, refined: &Refined) -> Result<Finished, NoMemory>
+    requires code { refined.now.machine.cores.code ≡ loaded.now }
+    requires settled { refined.now.machine.unsent ≡ [] }
+    ensures runs { IfOk result (λ f. RunsTo (started loaded.now) refined.now.taken f.done (history_of refined.now.machine)) }
+    ensures text { IfOk result (λ f. string_bytes f.text
+        ≡ why_text (started loaded.now) f.done (length refined.now.taken) (history_of refined.now.machine)) }
+{
+    let system = refined.system();
+    let done = system.done();
+    let text = why(alloc, done, refined.taken().len() as u64, system)?;
     Ok(Finished { done, text })
 }

@@ -3,18 +3,22 @@ ghost use Rattle.std.specs.Prelude.{◌≡◌, ◌≢◌, ◌≤◌, ℕ, List a
 ghost use Rattle.std.specs.String.{string_bytes};
 ghost use Rattle.image_load.specs.Contents.{started};
 ghost use Rattle.tcc_cli.specs.Failing.{IsNotWritten, IsScheduleRefused};
+ghost use Rattle.tcc_cli.specs.Phased.{IsPhasePicked, RanInPhases};
 ghost use Rattle.tcc_cli.specs.Runs.{run_text, summary_text};
 ghost use Rattle.tcc_cli.specs.Schedules.{IsMade, IsPicked, IsRecorded, IsScheduleOf, Ran};
+ghost use Rattle.why_text.specs.Text.{why_text};
 
+use crate::phases::phases_of;
 use crate::records::record;
 use crate::refusal::Refusal;
-use crate::reports::{Finished, report_of, summary_of};
+use crate::reports::{Finished, report_of, summary_of, waits_of};
 use crate::schedules::{RunPlan, pick, run_by, run_file};
 use image_load::Loaded;
 use std::alloc::Global;
 use std::sync::Wait;
 use std::thread::Threads;
 use tcc_base::{Config, NoMemory, Text};
+use tcc_phase::phase_run;
 use tcc_world::{Gate, Store};
 use work_gen::Work;
 
@@ -76,6 +80,67 @@ pub fn run_again<'a>(
         Err(refusal) => return Err(refusal),
     };
     match report_of(alloc, loaded, &refined) {
+        Ok(finished) => Ok(finished),
+        Err(NoMemory) => Err(Refusal::Memory),
+    }
+}
+
+/// The run of the schedule that a file holds, and why messages wait at its end; or the line at which the schedule is refused.
+pub fn run_and_tell<'a>(
+    alloc: Global,
+    loaded: &Loaded,
+    config: &Config,
+    bytes: &[u8],
+) -> Result<Finished, Refusal<'a>>
+    requires { loaded.now.settings ≡ config.now }
+    ensures ran { IfOk result (λ f. Ran (started loaded.now) (λ es. IsScheduleOf config.now es bytes.now)
+        (why_text (started loaded.now)) f.done (string_bytes f.text)) }
+    ensures refused { IfErr result (IsScheduleRefused (started loaded.now) config.now bytes.now) }
+{
+    let refined = match run_file(alloc, loaded, config, bytes) {
+        Ok(refined) => refined,
+        Err(refusal) => return Err(refusal),
+    };
+    match waits_of(alloc, loaded, &refined) {
+        Ok(finished) => Ok(finished),
+        Err(NoMemory) => Err(Refusal::Memory),
+    }
+}
+
+/// A run by phases that a seed picks, its record where one is named, and its phases with its report.
+pub fn run_phased<'a, F: Store>(
+    alloc: Global,
+    loaded: &Loaded,
+    steps: u64,
+    seed: u64,
+    keep: &'a Option<Text>,
+    files: &mut F,
+) -> Result<Finished, Refusal<'a>>
+    requires few { steps ≤ 4194304 }
+    ensures ran { IfOk result (λ f. RanInPhases (started loaded.now)
+        (λ es. IsPhasePicked (started loaded.now) seed steps es
+        × IsRecorded keep.now (F.tells files.old) (F.contents files.new) (record { config = loaded.now.settings; events = es }))
+        f.done (string_bytes f.text)) }
+    ensures failed { IfErr result (IsNotWritten keep.now (record {
+      tells = F.tells files.old;
+      before = F.contents files.old;
+      after = F.contents files.new;
+      reads_before = F.failed_reads files.old;
+      reads_after = F.failed_reads files.new;
+      writes_before = F.failed_writes files.old;
+      writes_after = F.failed_writes files.new;
+    })) }
+    ensures others { (n : Seq ℕ) → keep.now ≢ Some n → F.contents files.new n ≡ F.contents files.old n }
+{
+    let system = match phase_run(alloc, loaded, seed, steps) {
+        Ok(system) => system,
+        Err(NoMemory) => return Err(Refusal::Memory),
+    };
+    match record(alloc, keep, system.inner(), files) {
+        Ok(()) => {}
+        Err(refusal) => return Err(refusal),
+    }
+    match phases_of(alloc, loaded, &system) {
         Ok(finished) => Ok(finished),
         Err(NoMemory) => Err(Refusal::Memory),
     }

@@ -2,12 +2,14 @@
 mod atomics;
 mod files;
 mod outputs;
+mod phases;
 mod records;
 mod replays;
 mod runs;
 mod serials;
 mod threads;
 mod trials;
+mod waits;
 mod words;
 
 use crate::tcc_main;

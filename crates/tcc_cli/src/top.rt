@@ -6,7 +6,7 @@ ghost use Rattle.tcc_cli.specs.Commands.{fault_from, files_of, machine_of, recor
 ghost use Rattle.tcc_cli.specs.Failing.{IsStopped};
 ghost use Rattle.tcc_cli.specs.Lines.{IsWhole, IsCut};
 ghost use Rattle.tcc_cli.specs.Reading.{RefusedImages};
-ghost use Rattle.tcc_cli.specs.Schedules.{Comes};
+ghost use Rattle.tcc_cli.specs.Comes.{Comes};
 ghost use Rattle.tcc_cli.specs.Top.{Caused, EndsOf};
 ghost use Rattle.tcc_words.specs.Bounds.{IsInBounds};
 
@@ -15,7 +15,7 @@ use crate::images::{bytes, lay};
 use crate::lists::execute;
 use crate::refusal::{Refusal, refuse};
 use crate::reports::Finished;
-use crate::running::{run_again, run_recorded, run_trial};
+use crate::running::{run_again, run_and_tell, run_phased, run_recorded, run_trial};
 use crate::schedules::RunPlan;
 use crate::status::Status;
 use image_load::Loaded;
@@ -32,7 +32,9 @@ use work_gen::workload;
 /// `run [..] IMAGE..` runs images for at most so many events that a seed picks or that host threads make, writes the schedule to a file
 /// where one is named, and then the report to `out`; `replay [..] SCHEDULE IMAGE..` runs the schedule of a file whole and writes the
 /// report; `serial [..] REPORT IMAGE..` executes the commits that a report lists on the plain machine and writes its report; `trial [..]
-/// KIND NUMBER` runs a workload and writes a summary.
+/// KIND NUMBER` runs a workload and writes a summary; `why [..] SCHEDULE IMAGE..` runs the schedule of a file whole and writes why each
+/// message waits that is in flight then, and what can happen next; `phases [..] IMAGE..` runs images as `run` does by a seed, but holds
+/// back the requests of later phases, and writes the phase of each commit and then the report.
 ///
 /// `Done`: at the end every core has halted, nothing is in flight and no frame has a dirty word, or the list ran to its end. `Stopped`: the
 /// machine isn't done; a run has then taken all the events that were asked for. With both the whole text was written. `Words`: the words
@@ -151,8 +153,12 @@ fn load<'a>(alloc: Global, command: &Command, read: &[List<u8>]) -> Result<Loade
     ensures refused { IfErr result (RefusedImages (fault_from command.now read.now)) }
 {
     match command {
-        Command::Run { machine, .. } => lay(alloc, machine.raw, &machine.config, read),
-        Command::Replay { machine, .. } | Command::Serial { machine, .. } => {
+        Command::Run { machine, .. } | Command::Phases { machine, .. } => {
+            lay(alloc, machine.raw, &machine.config, read)
+        }
+        Command::Replay { machine, .. }
+        | Command::Serial { machine, .. }
+        | Command::Why { machine, .. } => {
             lay(alloc, machine.raw, &machine.config, &read[1..])
         }
         Command::Trial {
@@ -215,6 +221,18 @@ fn finish<'a, R: Threads + Wait + Sync, F: Store, G: Gate + Sync>(
             bytes(&read[0]),
         ),
         Command::Serial { .. } => execute(alloc, loaded, bytes(&read[0])),
+        Command::Why { machine, .. } => run_and_tell(
+            alloc,
+            loaded,
+            &machine.config,
+            bytes(&read[0]),
+        ),
+        Command::Phases {
+            steps,
+            seed,
+            keep,
+            ..
+        } => run_phased(alloc, loaded, *steps, *seed, keep, files),
         Command::Trial {
             work,
             number,

@@ -1,12 +1,12 @@
 -- The numbers of a command are those of allowed fields.
-use Rattle.std.proofs.Common.{◌≡◌, ℕ, ◌+◌, ◌%◌, ◌^◌, ◌≤◌, IsTrue, List, length, Option, Some, None, sym, subst, ◌∙◌, arith}
+use Rattle.std.proofs.Common.{◌≡◌, ℕ, ◌+◌, ◌%◌, ◌^◌, ◌≤◌, IsTrue, List, length, Option, Some, None, sym, subst, ◌∙◌}
 use Rattle.std.specs.Int.{is_power_of_two}
 use Rattle.std.specs.Prelude.{IfSome, IsSome, codes}
 use Rattle.clap.specs.Walk.{Row, Text}
 use Rattle.clap.specs.Words.{first_of}
 use Rattle.tcc_base.specs.Settings.{Settings, IsAllowed}
 use Rattle.tcc_words.proofs.OneCommand.{one-value}
-use Rattle.tcc_words.specs.Asked.{HasPlaces, HasSettings, IsCommand, IsGiven, MayBeGiven, Asks}
+use Rattle.tcc_words.specs.Asked.{HasPlaces, HasSettings, IsCommand, MayBeGiven, Asks}
 use Rattle.tcc_words.specs.Bounds.{IsInBounds}
 use Rattle.tcc_words.specs.Fields.{Allows, IsValue, images_of}
 use Rattle.tcc_words.specs.Numbers.{IsNumber}
@@ -15,7 +15,7 @@ use Rattle.tcc_words.specs.declared.command.Command.TheVariants as command
 use Rattle.tcc_words.specs.declared.command.Field.{Field}
 use Rattle.tcc_words.specs.declared.command.Field.TheVariants.{Cores, Dirs, Sets, Ways, Ram, Base, Steps, Threads, Images, Number}
 use Rattle.tcc_words.specs.declared.command.Verb.{Verb}
-use Rattle.tcc_words.specs.declared.command.Verb.TheVariants.{Run, Replay, Serial, Trial}
+use Rattle.tcc_words.specs.declared.command.Verb.TheVariants.{Run, Replay, Serial, Trial, Why, Phases}
 
 -- settings that stand in allowed fields are allowed
 allowed : (rows : List Row) (s : Settings) → HasSettings rows s → ((field : Field) → Allows rows field) → IsAllowed s
@@ -88,10 +88,17 @@ bounded Serial rows (command.Serial machine list images) places every a =
 bounded Trial rows (command.Trial config work number steps seed) places every a =
     let some = number-fits (first_of (codes "number") rows) number a.2 (every Number) in
     record { allowed = allowed rows config a.0 every; numbers = (some.0, some.1, steps-few rows steps a.3 every) }
+bounded Why rows (command.Why machine schedule images) places every a =
+    record { allowed = allowed rows machine.config a.0.0 every; numbers = images-some rows images a.2 places.1 every }
+bounded Phases rows (command.Phases machine images steps seed keep) places every a =
+    let some = images-some rows images a.1 places every in
+    record { allowed = allowed rows machine.config a.0.0 every; numbers = (some.0, some.1, steps-few rows steps a.2 every) }
 bounded Run rows _ places every a = absurd a
 bounded Replay rows _ places every a = absurd a
 bounded Serial rows _ places every a = absurd a
 bounded Trial rows _ places every a = absurd a
+bounded Why rows _ places every a = absurd a
+bounded Phases rows _ places every a = absurd a
 
 pub in-bounds : (words : List Text) (c : Command) → IsCommand words c → IsInBounds c
 in-bounds words c h = bounded h.verb h.rows c h.stands.places h.allowed h.asks

@@ -1,26 +1,24 @@
 -- Words ask for one command at most, since each of its parts is told by what clap read.
-use Rattle.std.proofs.Common.{◌≡◌, ◌↔◌, ◌&&◌, ℕ, ◌+◌, ◌==◌, Bool, true, false, IsTrue, List, [], ◌∷◌, Option, Some, None}
-use Rattle.std.proofs.Common.{MatchOption, get_or, refl, sym, ap, subst, ◌∙◌, inl, inr, if◌then◌else◌}
+use Rattle.std.proofs.Common.{◌≡◌, ◌↔◌, ℕ, ◌+◌, ◌==◌, Bool, true, false, IsTrue, List, [], ◌∷◌, Option, Some, None}
+use Rattle.std.proofs.Common.{get_or, refl, sym, ap, subst, ◌∙◌, inl, inr, if◌then◌else◌}
 use Rattle.std.specs.Prelude.{codes}
-use Rattle.std.specs.Str.Parse.{digits_value}
 use Rattle.clap.specs.Words.{Row, Text, first_of, matches_of}
 use Rattle.tcc_base.specs.Settings.{Settings}
 use Rattle.work_gen.specs.Names.{work_word}
 use Rattle.work_gen.specs.declared.work.Work.{Work}
 use Rattle.work_gen.specs.declared.work.Work.TheVariants.{Counters, Transfers, Stencil, Sharing}
-use Rattle.tcc_words.specs.Asked.{Asks, HasMachine, HasSettings, IsCommand, IsGiven, IsRefused, MayBeGiven, Stands}
+use Rattle.tcc_words.specs.Asked.{Asks, HasMachine, HasSettings, IsGiven, MayBeGiven, Stands}
 use Rattle.tcc_words.specs.Fields.{Allows, BreaksFirst, IsSaid, IsValue, default_of, field_word, order}
 use Rattle.tcc_words.specs.Grammar.{grammar}
 use Rattle.tcc_words.specs.Laws.{CommandsAreNotRefused, WordsAskForOneCommand}
-use Rattle.tcc_words.specs.Numbers.{IsNumber, digits_of, radix_of}
+use Rattle.tcc_words.specs.Numbers.{IsNumber}
 use Rattle.tcc_words.specs.declared.command.Command.{Command}
 use Rattle.tcc_words.specs.declared.command.Command.TheVariants as command
 use Rattle.tcc_words.specs.declared.command.Field.{Field}
 use Rattle.tcc_words.specs.declared.command.Field.TheVariants.{Cores, Dirs, Sets, Ways, Ram, Base, Steps, Seed}
 use Rattle.tcc_words.specs.declared.command.Machine.{Machine}
 use Rattle.tcc_words.specs.declared.command.Verb.{Verb}
-use Rattle.tcc_words.specs.declared.command.Verb.TheVariants.{Run, Replay, Serial, Trial}
-use Rattle.tcc_words.specs.declared.command.WordsFault.{WordsFault}
+use Rattle.tcc_words.specs.declared.command.Verb.TheVariants.{Run, Replay, Serial, Trial, Why, Phases}
 use Rattle.tcc_words.specs.declared.command.WordsFault.TheVariants as fault
 use Rattle.tcc_words.proofs.Standing.{stands-verb}
 
@@ -104,12 +102,8 @@ one-run rows (command.Run m images steps seed threads keep) (command.Run n image
     let hosts = may-be rows _ threads threads' a.4 b.4 in
     let kept : keep ≡ keep' = a.5 ∙ sym b.5 in
     λ i. command.Run (machine i) (files i) (most i) (start i) (hosts i) (kept i)
-one-run rows (command.Run m images steps seed threads keep) (command.Replay n file images') a b = absurd b
-one-run rows (command.Run m images steps seed threads keep) (command.Serial n file images') a b = absurd b
-one-run rows (command.Run m images steps seed threads keep) (command.Trial config work number steps' seed') a b = absurd b
-one-run rows (command.Replay m file images) d a b = absurd a
-one-run rows (command.Serial m file images) d a b = absurd a
-one-run rows (command.Trial config work number steps seed) d a b = absurd a
+one-run rows (command.Run m images steps seed threads keep) _ a b = absurd b
+one-run rows _ d a b = absurd a
 
 one-replay : (rows : List Row) (c d : Command) → Asks Replay rows c → Asks Replay rows d → c ≡ d
 one-replay rows (command.Replay m file images) (command.Replay n file' images') a b =
@@ -117,12 +111,8 @@ one-replay rows (command.Replay m file images) (command.Replay n file' images') 
     let files : file ≡ file' = one-some _ file file' a.1 b.1 in
     let loaded : images ≡ images' = a.2 ∙ sym b.2 in
     λ i. command.Replay (machine i) (files i) (loaded i)
-one-replay rows (command.Replay m file images) (command.Run n images' steps seed threads keep) a b = absurd b
-one-replay rows (command.Replay m file images) (command.Serial n file' images') a b = absurd b
-one-replay rows (command.Replay m file images) (command.Trial config work number steps seed) a b = absurd b
-one-replay rows (command.Run m images steps seed threads keep) d a b = absurd a
-one-replay rows (command.Serial m file images) d a b = absurd a
-one-replay rows (command.Trial config work number steps seed) d a b = absurd a
+one-replay rows (command.Replay m file images) _ a b = absurd b
+one-replay rows _ d a b = absurd a
 
 one-serial : (rows : List Row) (c d : Command) → Asks Serial rows c → Asks Serial rows d → c ≡ d
 one-serial rows (command.Serial m file images) (command.Serial n file' images') a b =
@@ -130,12 +120,8 @@ one-serial rows (command.Serial m file images) (command.Serial n file' images') 
     let files : file ≡ file' = one-some _ file file' a.1 b.1 in
     let loaded : images ≡ images' = a.2 ∙ sym b.2 in
     λ i. command.Serial (machine i) (files i) (loaded i)
-one-serial rows (command.Serial m file images) (command.Run n images' steps seed threads keep) a b = absurd b
-one-serial rows (command.Serial m file images) (command.Replay n file' images') a b = absurd b
-one-serial rows (command.Serial m file images) (command.Trial config work number steps seed) a b = absurd b
-one-serial rows (command.Run m images steps seed threads keep) d a b = absurd a
-one-serial rows (command.Replay m file images) d a b = absurd a
-one-serial rows (command.Trial config work number steps seed) d a b = absurd a
+one-serial rows (command.Serial m file images) _ a b = absurd b
+one-serial rows _ d a b = absurd a
 
 one-trial : (rows : List Row) (c d : Command) → Asks Trial rows c → Asks Trial rows d → c ≡ d
 one-trial rows (command.Trial s work number steps seed) (command.Trial t work' number' steps' seed') a b =
@@ -145,18 +131,36 @@ one-trial rows (command.Trial s work number steps seed) (command.Trial t work' n
     let most = one-said rows Steps steps steps' a.3 b.3 in
     let start = one-said rows Seed seed seed' a.4 b.4 in
     λ i. command.Trial (config i) (works i) (numbers i) (most i) (start i)
-one-trial rows (command.Trial s work number steps seed) (command.Run m images steps' seed' threads keep) a b = absurd b
-one-trial rows (command.Trial s work number steps seed) (command.Replay m file images) a b = absurd b
-one-trial rows (command.Trial s work number steps seed) (command.Serial m file images) a b = absurd b
-one-trial rows (command.Run m images steps seed threads keep) d a b = absurd a
-one-trial rows (command.Replay m file images) d a b = absurd a
-one-trial rows (command.Serial m file images) d a b = absurd a
+one-trial rows (command.Trial s work number steps seed) _ a b = absurd b
+one-trial rows _ d a b = absurd a
+
+one-why : (rows : List Row) (c d : Command) → Asks Why rows c → Asks Why rows d → c ≡ d
+one-why rows (command.Why m file images) (command.Why n file' images') a b =
+    let machine = one-machine rows m n a.0 b.0 in
+    let files : file ≡ file' = one-some _ file file' a.1 b.1 in
+    let loaded : images ≡ images' = a.2 ∙ sym b.2 in
+    λ i. command.Why (machine i) (files i) (loaded i)
+one-why rows (command.Why m file images) _ a b = absurd b
+one-why rows _ d a b = absurd a
+
+one-phases : (rows : List Row) (c d : Command) → Asks Phases rows c → Asks Phases rows d → c ≡ d
+one-phases rows (command.Phases m images steps seed keep) (command.Phases n images' steps' seed' keep') a b =
+    let machine = one-machine rows m n a.0 b.0 in
+    let files : images ≡ images' = a.1 ∙ sym b.1 in
+    let most = one-said rows Steps steps steps' a.2 b.2 in
+    let start = one-said rows Seed seed seed' a.3 b.3 in
+    let kept : keep ≡ keep' = a.4 ∙ sym b.4 in
+    λ i. command.Phases (machine i) (files i) (most i) (start i) (kept i)
+one-phases rows (command.Phases m images steps seed keep) _ a b = absurd b
+one-phases rows _ d a b = absurd a
 
 one-asked : (verb : Verb) (rows : List Row) (c d : Command) → Asks verb rows c → Asks verb rows d → c ≡ d
 one-asked Run rows c d a b = one-run rows c d a b
 one-asked Replay rows c d a b = one-replay rows c d a b
 one-asked Serial rows c d a b = one-serial rows c d a b
 one-asked Trial rows c d a b = one-trial rows c d a b
+one-asked Why rows c d a b = one-why rows c d a b
+one-asked Phases rows c d a b = one-phases rows c d a b
 
 -- what words stand for
 one-reading : (words : List Text) (v w : Verb) (r s : List Row) → Stands words v r → Stands words w s → (w ≡ v) × (s ≡ r)

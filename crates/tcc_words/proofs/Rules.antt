@@ -3,10 +3,10 @@ use Rattle.std.proofs.Common.{◌≡◌, true, List, [], ◌∷◌, ◌++◌, re
 use Rattle.clap.specs.Words.{App, Rule, Text, is_simple, with_rule}
 use Rattle.clap.specs.Faults.{is_simple_and_free}
 use Rattle.clap.specs.Simple.{on_top}
-use Rattle.tcc_words.specs.Grammar.{event_rules, grammar, memory_rules, node_rules, option, place, places, plain, rules, verb_word}
-use Rattle.tcc_words.specs.Grammar.{with_rules}
+use Rattle.tcc_words.specs.Grammar.{event_rules, grammar, memory_rules, node_rules, option, place, plain, rules, verb_word}
+use Rattle.tcc_words.specs.Grammar.{file_rules, record_rules, with_rules}
 use Rattle.tcc_words.specs.declared.command.Verb.{Verb}
-use Rattle.tcc_words.specs.declared.command.Verb.TheVariants.{Run, Replay, Serial, Trial}
+use Rattle.tcc_words.specs.declared.command.Verb.TheVariants.{Run, Replay, Serial, Trial, Why, Phases}
 
 put_rules : App → List Rule → App
 put_rules a rs = on_top (λ s. record s { rules = rs }) a
@@ -28,21 +28,32 @@ four_rules a r s t u =
     let all : (((a.top.rules ++ r ∷ []) ++ s ∷ []) ++ t ∷ []) ++ u ∷ [] ≡ a.top.rules ++ r ∷ s ∷ t ∷ u ∷ [] = simp append_assoc in
     ap (put_rules a) all
 
+pub filed_rules : (a : App) (more : List Rule) (r s : Rule)
+    → with_rule (with_rule (with_rules more a) r) s ≡ with_rules (more ++ r ∷ s ∷ []) a
+unfolding put_rules
+filed_rules a more r s =
+    let all : ((a.top.rules ++ more) ++ r ∷ []) ++ s ∷ [] ≡ a.top.rules ++ (more ++ r ∷ s ∷ []) = simp append_assoc in
+    ap (put_rules a) all
+
 -- the grammars, by the steps in which they are made
-pub run_made : (verb : Verb) (name : Text) (bare nodes machine events threads record_to made : App) → verb ≡ Run → name ≡ verb_word verb
+pub run_made : (verb : Verb) (name : Text) (bare nodes machine events threads made : App) → verb ≡ Run → name ≡ verb_word verb
     → bare ≡ plain name [] → nodes ≡ with_rules node_rules bare → machine ≡ with_rules memory_rules nodes
     → events ≡ with_rules event_rules machine → threads ≡ with_rule events (option (codes "threads"))
-    → record_to ≡ with_rule threads (option (codes "record")) → made ≡ with_rule record_to (places (codes "image")) → made ≡ grammar verb
+    → made ≡ with_rules record_rules threads → made ≡ grammar verb
 unfolding grammar
-run_made verb name bare nodes machine events threads record_to made v n e0 e1 e2 e3 e4 e5 e6 = rw (e6, e5, e4, e3, e2, e1, e0, n, v) refl
+run_made verb name bare nodes machine events threads made v n e0 e1 e2 e3 e4 e5 = rw (e5, e4, e3, e2, e1, e0, n, v) refl
 
-pub filed_made : (verb : Verb) (name file : Text) (bare nodes machine filed made : App)
-    → rules verb ≡ node_rules ++ memory_rules ++ place file ∷ places (codes "image") ∷ []
-    → name ≡ verb_word verb → bare ≡ plain name [] → nodes ≡ with_rules node_rules bare → machine ≡ with_rules memory_rules nodes
-    → filed ≡ with_rule machine (place file) → made ≡ with_rule filed (places (codes "image")) → made ≡ grammar verb
+pub phases_made : (verb : Verb) (name : Text) (bare nodes machine events made : App) → verb ≡ Phases → name ≡ verb_word verb
+    → bare ≡ plain name [] → nodes ≡ with_rules node_rules bare → machine ≡ with_rules memory_rules nodes
+    → events ≡ with_rules event_rules machine → made ≡ with_rules record_rules events → made ≡ grammar verb
 unfolding grammar
-filed_made verb name file bare nodes machine filed made r n e0 e1 e2 e3 e4 =
-    rw (e4, e3, e2, e1, e0, n) (ap (plain (verb_word verb)) (sym r))
+phases_made verb name bare nodes machine events made v n e0 e1 e2 e3 e4 = rw (e4, e3, e2, e1, e0, n, v) refl
+
+pub filed_made : (verb : Verb) (name file : Text) (bare nodes made : App) → rules verb ≡ node_rules ++ file_rules file
+    → name ≡ verb_word verb → bare ≡ plain name [] → nodes ≡ with_rules node_rules bare → made ≡ with_rules (file_rules file) nodes
+    → made ≡ grammar verb
+unfolding grammar
+filed_made verb name file bare nodes made r n e0 e1 e2 = rw (e2, e1, e0, n) (ap (plain (verb_word verb)) (sym r))
 
 pub trial_made : (verb : Verb) (name : Text) (bare nodes events kind made : App) → verb ≡ Trial → name ≡ verb_word verb
     → bare ≡ plain name [] → nodes ≡ with_rules node_rules bare → events ≡ with_rules event_rules nodes
@@ -56,6 +67,8 @@ grammar-simple Run = refl
 grammar-simple Replay = refl
 grammar-simple Serial = refl
 grammar-simple Trial = refl
+grammar-simple Why = refl
+grammar-simple Phases = refl
 
 pub grammar-free : (verb : Verb) → is_simple_and_free (grammar verb) ≡ true
 unfolding grammar
@@ -63,3 +76,5 @@ grammar-free Run = refl
 grammar-free Replay = refl
 grammar-free Serial = refl
 grammar-free Trial = refl
+grammar-free Why = refl
+grammar-free Phases = refl

@@ -1,5 +1,5 @@
 -- Words stand for one command at most.
-use Rattle.std.proofs.Common.{◌≡◌, ℕ, ◌+◌, List, [], ◌∷◌, Some, map, get_or, refl, sym, ap, subst, ◌∙◌, arith}
+use Rattle.std.proofs.Common.{◌≡◌, ℕ, ◌==◌, if◌then◌else◌, List, [], ◌∷◌, Some, map, get_or, refl, sym, ap, subst, ◌∙◌}
 use Rattle.std.specs.Prelude.{option_map, slice_get}
 use Rattle.std.specs.Borrow.{Bor}
 use Rattle.clap.specs.Faults.{fault_of}
@@ -10,30 +10,28 @@ use Rattle.tcc_words.specs.Grammar.{IsRefusal, grammar, verb_word}
 use Rattle.tcc_words.specs.declared.command.WordsFault.{WordsFault}
 use Rattle.tcc_words.specs.declared.command.WordsFault.TheVariants as fault
 use Rattle.tcc_words.specs.declared.command.Verb.{Verb}
-use Rattle.tcc_words.specs.declared.command.Verb.TheVariants.{Run, Replay, Serial, Trial}
+use Rattle.tcc_words.specs.declared.command.Verb.TheVariants.{Run, Replay, Serial, Trial, Why, Phases}
 
--- a number by which the names of commands differ
+-- the names of commands differ in their third letters
 tag : Text → ℕ
-tag text = get_or text 0 0 + get_or text 1 0
+tag text = get_or text 2 0
+
+tagged : ℕ → Verb
+tagged n =
+    if n == 110 then Run else if n == 112 then Replay else if n == 114 then Serial else if n == 105 then Trial
+    else if n == 121 then Why else Phases
+
+tagged-again : (v : Verb) → tagged (tag (verb_word v)) ≡ v
+unfolding tag tagged
+tagged-again Run = refl
+tagged-again Replay = refl
+tagged-again Serial = refl
+tagged-again Trial = refl
+tagged-again Why = refl
+tagged-again Phases = refl
 
 verb-same : (v w : Verb) → verb_word v ≡ verb_word w → v ≡ w
-unfolding tag
-verb-same Run Run e = refl
-verb-same Run Replay e = let n : ◌≡◌ {A = ℕ} 231 215 = ap tag e in absurd (omega arith)
-verb-same Run Serial e = let n : ◌≡◌ {A = ℕ} 231 216 = ap tag e in absurd (omega arith)
-verb-same Run Trial e = let n : ◌≡◌ {A = ℕ} 231 230 = ap tag e in absurd (omega arith)
-verb-same Replay Run e = let n : ◌≡◌ {A = ℕ} 215 231 = ap tag e in absurd (omega arith)
-verb-same Replay Replay e = refl
-verb-same Replay Serial e = let n : ◌≡◌ {A = ℕ} 215 216 = ap tag e in absurd (omega arith)
-verb-same Replay Trial e = let n : ◌≡◌ {A = ℕ} 215 230 = ap tag e in absurd (omega arith)
-verb-same Serial Run e = let n : ◌≡◌ {A = ℕ} 216 231 = ap tag e in absurd (omega arith)
-verb-same Serial Replay e = let n : ◌≡◌ {A = ℕ} 216 215 = ap tag e in absurd (omega arith)
-verb-same Serial Serial e = refl
-verb-same Serial Trial e = let n : ◌≡◌ {A = ℕ} 216 230 = ap tag e in absurd (omega arith)
-verb-same Trial Run e = let n : ◌≡◌ {A = ℕ} 230 231 = ap tag e in absurd (omega arith)
-verb-same Trial Replay e = let n : ◌≡◌ {A = ℕ} 230 215 = ap tag e in absurd (omega arith)
-verb-same Trial Serial e = let n : ◌≡◌ {A = ℕ} 230 216 = ap tag e in absurd (omega arith)
-verb-same Trial Trial e = refl
+verb-same v w e = sym (tagged-again v) ∙ ap (λ (text : Text). tagged (tag text)) e ∙ tagged-again w
 
 some-same : (a b : Text) → Some a ≡ Some b → a ≡ b
 some-same a b e = cc

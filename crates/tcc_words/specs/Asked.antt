@@ -16,7 +16,7 @@ use Rattle.tcc_words.specs.declared.command.Field.{Field}
 use Rattle.tcc_words.specs.declared.command.Field.TheVariants.{Cores, Dirs, Sets, Ways, Ram, Base, Steps, Seed}
 use Rattle.tcc_words.specs.declared.command.Machine.{Machine}
 use Rattle.tcc_words.specs.declared.command.Verb.{Verb}
-use Rattle.tcc_words.specs.declared.command.Verb.TheVariants.{Run, Replay, Serial, Trial}
+use Rattle.tcc_words.specs.declared.command.Verb.TheVariants.{Run, Replay, Serial, Trial, Why, Phases}
 use Rattle.tcc_words.specs.declared.command.WordsFault.{WordsFault}
 use Rattle.tcc_words.specs.declared.command.WordsFault.TheVariants as fault
 
@@ -26,6 +26,8 @@ HasPlaces Run rows = 1 ≤ length (images_of rows)
 HasPlaces Replay rows = IsSome (first_of (codes "schedule") rows) × (1 ≤ length (images_of rows))
 HasPlaces Serial rows = IsSome (first_of (codes "report") rows) × (1 ≤ length (images_of rows))
 HasPlaces Trial rows = IsSome (first_of (codes "kind") rows) × IsSome (first_of (codes "number") rows)
+HasPlaces Why rows = IsSome (first_of (codes "schedule") rows) × (1 ≤ length (images_of rows))
+HasPlaces Phases rows = 1 ≤ length (images_of rows)
 
 -- the first word names a command, and clap takes the words after it; these are the options and places that it reads
 pub record Stands (words : List Text) (verb : Verb) (rows : List Row) : Type 0 where
@@ -70,6 +72,11 @@ Asks Serial rows (command.Serial machine report images) =
 Asks Trial rows (command.Trial config work number steps seed) =
     HasSettings rows config × (first_of (codes "kind") rows ≡ Some (work_word work)) × IsGiven rows (codes "number") number
     × IsSaid rows Steps steps × IsSaid rows Seed seed
+Asks Why rows (command.Why machine schedule images) =
+    HasMachine rows machine × (first_of (codes "schedule") rows ≡ Some schedule) × (images ≡ images_of rows)
+Asks Phases rows (command.Phases machine images steps seed keep) =
+    HasMachine rows machine × (images ≡ images_of rows) × IsSaid rows Steps steps × IsSaid rows Seed seed
+    × (keep ≡ first_of (codes "record") rows)
 Asks _ _ _ = ⊥
 
 -- what stands in the fields, where all of it is allowed

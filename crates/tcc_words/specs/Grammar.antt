@@ -7,7 +7,7 @@ use Rattle.clap.specs.declared.builder.action.ArgAction.TheVariants.{Append, Set
 use Rattle.tcc_words.specs.declared.command.WordsFault.{WordsFault}
 use Rattle.tcc_words.specs.declared.command.WordsFault.TheVariants as fault
 use Rattle.tcc_words.specs.declared.command.Verb.{Verb}
-use Rattle.tcc_words.specs.declared.command.Verb.TheVariants.{Run, Replay, Serial, Trial}
+use Rattle.tcc_words.specs.declared.command.Verb.TheVariants.{Run, Replay, Serial, Trial, Why, Phases}
 
 -- the first word of a command
 abbrev pub verb_word : Verb → Text
@@ -15,6 +15,8 @@ verb_word Run = codes "run"
 verb_word Replay = codes "replay"
 verb_word Serial = codes "serial"
 verb_word Trial = codes "trial"
+verb_word Why = codes "why"
+verb_word Phases = codes "phases"
 
 -- an option with a value, `--name value` or `--name=value`, at most once
 abbrev pub option : Text → Rule
@@ -41,13 +43,22 @@ memory_rules = option (codes "ram") ∷ option (codes "base") ∷ flag (codes "r
 abbrev pub event_rules : List Rule
 event_rules = option (codes "steps") ∷ option (codes "seed") ∷ []
 
+-- the option of the record and the images of a run, and the file and the images of what works on a file
+abbrev pub record_rules : List Rule
+record_rules = option (codes "record") ∷ places (codes "image") ∷ []
+
+abbrev pub file_rules : Text → List Rule
+file_rules file = memory_rules ++ place file ∷ places (codes "image") ∷ []
+
 -- run [..] IMAGE...    replay [..] SCHEDULE IMAGE...    serial [..] REPORT IMAGE...    trial [..] KIND NUMBER
+-- why [..] SCHEDULE IMAGE...    phases [..] IMAGE...
 abbrev pub rules : Verb → List Rule
-rules Run =
-    node_rules ++ memory_rules ++ event_rules ++ option (codes "threads") ∷ option (codes "record") ∷ places (codes "image") ∷ []
-rules Replay = node_rules ++ memory_rules ++ place (codes "schedule") ∷ places (codes "image") ∷ []
-rules Serial = node_rules ++ memory_rules ++ place (codes "report") ∷ places (codes "image") ∷ []
+rules Run = node_rules ++ memory_rules ++ event_rules ++ option (codes "threads") ∷ record_rules
+rules Replay = node_rules ++ file_rules (codes "schedule")
+rules Serial = node_rules ++ file_rules (codes "report")
 rules Trial = node_rules ++ event_rules ++ place (codes "kind") ∷ place (codes "number") ∷ []
+rules Why = node_rules ++ file_rules (codes "schedule")
+rules Phases = node_rules ++ memory_rules ++ event_rules ++ record_rules
 
 -- a simple command of clap's, without help
 abbrev pub plain : Text → List Rule → App

@@ -17,6 +17,10 @@ pub enum Verb {
     Serial,
     /// Runs a workload on the machine.
     Trial,
+    /// Runs a schedule that was recorded, and tells what waits at its end.
+    Why,
+    /// Runs images on the machine, earlier phases before later ones.
+    Phases,
 }
 
 impl Verb {
@@ -29,6 +33,8 @@ impl Verb {
             Verb::Replay => "replay",
             Verb::Serial => "serial",
             Verb::Trial => "trial",
+            Verb::Why => "why",
+            Verb::Phases => "phases",
         }
     }
 
@@ -41,6 +47,8 @@ impl Verb {
             "replay" => Some(Verb::Replay),
             "serial" => Some(Verb::Serial),
             "trial" => Some(Verb::Trial),
+            "why" => Some(Verb::Why),
+            "phases" => Some(Verb::Phases),
             _ => None,
         }
     }
@@ -86,6 +94,21 @@ pub enum Command {
         number: u32,
         steps: u64,
         seed: u64,
+    },
+    /// Run the schedule of a file whole, and tell why each message waits that is in flight at its end.
+    Why {
+        machine: Machine,
+        schedule: Text,
+        images: List<Text>,
+    },
+    /// Run the images for at most `steps` events, chosen by `seed` among those that hold back the requests of later phases. The
+    /// schedule is written to the file `keep`, where there is one.
+    Phases {
+        machine: Machine,
+        images: List<Text>,
+        steps: u64,
+        seed: u64,
+        keep: Option<Text>,
     },
 }
 

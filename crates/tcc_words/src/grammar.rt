@@ -2,7 +2,8 @@
 ghost use Rattle.std.specs.Prelude.{◌≡◌, map, IfOk, IfErr, []};
 ghost use Rattle.clap.specs.Words.{app_of, rule_of, rows_of, found_of, matches_of, with_rule};
 ghost use Rattle.clap.specs.Faults.{fault_of};
-ghost use Rattle.tcc_words.specs.Grammar.{IsRefusal, grammar, option, flag, place, places, plain, verb_word, with_rules, node_rules, memory_rules, event_rules};
+ghost use Rattle.tcc_words.specs.Grammar.{IsRefusal, grammar, option, flag, place, places, plain, verb_word, with_rules};
+ghost use Rattle.tcc_words.specs.Grammar.{event_rules, file_rules, memory_rules, node_rules, record_rules};
 
 use crate::command::{Verb, WordsFault};
 use clap::error::ErrorKind;
@@ -44,23 +45,19 @@ fn grammar<'a>(alloc: Global, verb: Verb, name: &'a str) -> Result<clap::Command
             let machine = with_memory(alloc, nodes)?;
             let events = with_events(alloc, machine)?;
             let threads = with_option(alloc, events, "threads")?;
-            let record = with_option(alloc, threads, "record")?;
-            with_places(alloc, record, "image")
+            with_record(alloc, threads)
         }
-        Verb::Replay => {
-            let machine = with_memory(alloc, nodes)?;
-            let schedule = with_place(alloc, machine, "schedule")?;
-            with_places(alloc, schedule, "image")
-        }
-        Verb::Serial => {
-            let machine = with_memory(alloc, nodes)?;
-            let report = with_place(alloc, machine, "report")?;
-            with_places(alloc, report, "image")
-        }
+        Verb::Replay | Verb::Why => with_file(alloc, nodes, "schedule"),
+        Verb::Serial => with_file(alloc, nodes, "report"),
         Verb::Trial => {
             let events = with_events(alloc, nodes)?;
             let kind = with_place(alloc, events, "kind")?;
             with_place(alloc, kind, "number")
+        }
+        Verb::Phases => {
+            let machine = with_memory(alloc, nodes)?;
+            let events = with_events(alloc, machine)?;
+            with_record(alloc, events)
         }
     }
 }
@@ -106,6 +103,30 @@ fn with_events<'a>(
 {
     let steps = with_option(alloc, command, "steps")?;
     with_option(alloc, steps, "seed")
+}
+
+/// The option of the record, and the images.
+fn with_record<'a>(
+    alloc: Global,
+    command: clap::Command<'a>,
+) -> Result<clap::Command<'a>, AllocError>
+    ensures { IfOk result (λ c. app_of c ≡ with_rules record_rules (app_of command.entry)) }
+{
+    let record = with_option(alloc, command, "record")?;
+    with_places(alloc, record, "image")
+}
+
+/// The options of memory, the place of a file and the images.
+fn with_file<'a>(
+    alloc: Global,
+    command: clap::Command<'a>,
+    name: &'a str,
+) -> Result<clap::Command<'a>, AllocError>
+    ensures { IfOk result (λ c. app_of c ≡ with_rules (file_rules name.entry.now) (app_of command.entry)) }
+{
+    let machine = with_memory(alloc, command)?;
+    let file = with_place(alloc, machine, name)?;
+    with_places(alloc, file, "image")
 }
 
 /// An option with a value.

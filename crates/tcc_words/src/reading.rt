@@ -1,5 +1,5 @@
 // From words to a command.
-ghost use Rattle.std.specs.Prelude.{◌≡◌, ◌↔◌, ◌≤◌, length, List as Seq, map, Some, IfOk, IfErr, IsSome, IsTrue};
+ghost use Rattle.std.specs.Prelude.{◌≡◌, ◌↔◌, ◌≤◌, codes, length, List as Seq, map, Some, IfOk, IfErr, IsSome, IsTrue};
 ghost use Rattle.clap.specs.Words.{Row, first_of, found_of, rows_of};
 ghost use Rattle.tcc_words.specs.Fields.{images_of};
 ghost use Rattle.tcc_words.specs.declared.command.Verb.TheVariants.{Trial};
@@ -46,8 +46,8 @@ fn has_places(verb: Verb, matches: &ArgMatches) -> bool
     ensures { IsTrue result ↔ HasPlaces verb (rows_of (found_of matches.now)) }
 {
     match verb {
-        Verb::Run => has_images(matches),
-        Verb::Replay => text(matches, "schedule").is_some() && has_images(matches),
+        Verb::Run | Verb::Phases => has_images(matches),
+        Verb::Replay | Verb::Why => text(matches, "schedule").is_some() && has_images(matches),
         Verb::Serial => text(matches, "report").is_some() && has_images(matches),
         Verb::Trial => text(matches, "kind").is_some() && text(matches, "number").is_some(),
     }
@@ -81,10 +81,7 @@ fn command(
             steps: values.steps,
             seed: values.seed,
             threads: values.threads,
-            keep: match text(matches, "record") {
-                Some(name) => Some(owned(alloc, name)?),
-                None => None,
-            },
+            keep: record_name(alloc, matches)?,
         }),
         Verb::Replay => Ok(Command::Replay {
             machine: machine(matches, values.config),
@@ -97,6 +94,18 @@ fn command(
             images: image_names(alloc, matches)?,
         }),
         Verb::Trial => Ok(trial(values)),
+        Verb::Why => Ok(Command::Why {
+            machine: machine(matches, values.config),
+            schedule: given(alloc, matches, "schedule")?,
+            images: image_names(alloc, matches)?,
+        }),
+        Verb::Phases => Ok(Command::Phases {
+            machine: machine(matches, values.config),
+            images: image_names(alloc, matches)?,
+            steps: values.steps,
+            seed: values.seed,
+            keep: record_name(alloc, matches)?,
+        }),
     }
 }
 
@@ -137,6 +146,16 @@ fn given(alloc: Global, matches: &ArgMatches, name: &str) -> Result<Text, NoMemo
     match text(matches, name) {
         Some(text) => owned(alloc, text),
         None => unreachable!(),
+    }
+}
+
+/// The name of the file for the schedule, where it is given.
+fn record_name(alloc: Global, matches: &ArgMatches) -> Result<Option<Text>, NoMemory>
+    ensures { IfOk result (λ keep. keep ≡ first_of (codes "record") (rows_of (found_of matches.now))) }
+{
+    match text(matches, "record") {
+        Some(name) => Ok(Some(owned(alloc, name)?)),
+        None => Ok(None),
     }
 }
 

@@ -93,11 +93,57 @@ fn a_replay_has_its_schedule_first(rt: HostRuntime) {
 }
 
 #[test]
+fn why_has_its_schedule_first(rt: HostRuntime) {
+    let words = ["why", "--raw", "s", "--cores=2", "x", "y"];
+    let Ok(
+        Command::Why {
+            machine,
+            schedule,
+            images,
+        },
+    ) = settings(rt.alloc(), words.as_slice())
+    else {
+        panic!(rt; "these words are a command");
+    };
+    assert!(rt; machine.raw && machine.config.cores() == 2);
+    assert!(rt; schedule.items.as_str() == "s" && images.items.len() == 2);
+}
+
+#[test]
+fn phases_are_a_run_without_threads(rt: HostRuntime) {
+    let words = [
+        "phases",
+        "--seed",
+        "3",
+        "--record",
+        "r",
+        "a",
+        "--steps=7",
+    ];
+    let Ok(
+        Command::Phases {
+            images,
+            steps,
+            seed,
+            keep,
+            ..
+        },
+    ) = settings(rt.alloc(), words.as_slice())
+    else {
+        panic!(rt; "these words are a command");
+    };
+    assert!(rt; images.items.len() == 1 && steps == 7 && seed == 3);
+    assert!(rt; keep.is_some_and(|name| name.items.as_str() == "r"));
+}
+
+#[test]
 fn words_that_are_no_command(rt: HostRuntime) {
     is_refused(&rt, rt.alloc(), &[], WordsFault::Words);
     is_refused(&rt, rt.alloc(), &["walk", "a"], WordsFault::Words);
     is_refused(&rt, rt.alloc(), &["run"], WordsFault::Words);
     is_refused(&rt, rt.alloc(), &["replay", "s"], WordsFault::Words);
+    is_refused(&rt, rt.alloc(), &["why", "s"], WordsFault::Words);
+    is_refused(&rt, rt.alloc(), &["phases"], WordsFault::Words);
 }
 
 #[test]
@@ -119,6 +165,18 @@ fn words_that_clap_refuses(rt: HostRuntime) {
         &rt,
         rt.alloc(),
         &["replay", "--seed", "1", "s", "a"],
+        WordsFault::Words,
+    );
+    is_refused(
+        &rt,
+        rt.alloc(),
+        &["why", "--steps", "1", "s", "a"],
+        WordsFault::Words,
+    );
+    is_refused(
+        &rt,
+        rt.alloc(),
+        &["phases", "--threads", "2", "--record", "r", "a"],
         WordsFault::Words,
     );
 }

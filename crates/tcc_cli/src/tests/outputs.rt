@@ -61,7 +61,7 @@ fn the_status_is_the_same_where_no_line_is_written(rt: HostRuntime) -> Result<()
 }
 
 /// The number of the call that fails, a command line, and the file that is named.
-const FAILING: [(u64, &str, &str); 8] = [
+const FAILING: [(u64, &str, &str); 11] = [
     (9, "run --raw a no-such-file", "no-such-file"),
     (0, "run --raw a b", "a"),
     (1, "run --raw a b", "b"),
@@ -71,6 +71,9 @@ const FAILING: [(u64, &str, &str); 8] = [
     (9, "replay --raw s c", "s"),
     (9, "serial --raw c s", "c"),
     (1, "replay a b b", "b"),
+    (0, "why --raw a b", "a"),
+    (9, "why --raw a c", "c"),
+    (1, "phases --raw --record s a", "s"),
 ];
 
 #[test]

@@ -11,7 +11,7 @@ pub(super) const STORE_AT_64: &[u32] = &[0x80000337, 0x04b32023, 0x00000073];
 pub(super) const STORE_AT_96: &[u32] = &[0x80000337, 0x06b32023, 0x00000073];
 
 /// Copies the word at 80000060 to 80000040.
-const COPY: &[u32] = &[0x80000337, 0x06032283, 0x04532023, 0x00000073];
+pub(super) const COPY: &[u32] = &[0x80000337, 0x06032283, 0x04532023, 0x00000073];
 
 /// Loads the word at 80000060, and stores 2 at 80000040.
 const LOAD_AND_STORE: &[u32] = &[0x80000337, 0x06032283, 0x04b32023, 0x00000073];
@@ -39,7 +39,7 @@ pub(super) const TIDS: &str =
     "e 0 / e 0 / e 0 / d c0 v 0 / e 1 / e 1 / e 1 / d c1 v 0 / d v c1 0 / d v c0 0 / d c0 d1 0 / d c1 d1 0 / d d1 c1 0 / e 1";
 
 /// The second core reads what the first is to write, and its Mark and its Probe wait.
-const WAITS: &str =
+pub(super) const WAITS: &str =
     "e 1 / e 1 / d c1 d1 0 / d d1 c1 0 / e 1 / e 1 / e 0 / e 0 / e 0 / d c0 v 0 / e 1 / d c1 v 0 / d v c0 0 / d c0 d0 0 /
         d v c1 0 / d c1 d0 0 / d d0 c1 0 / d c1 d1 1";
 

@@ -5,7 +5,7 @@ use std::alloc::Global;
 use std::test::Fail;
 
 /// Command lines whose words don't stand as a command's do.
-const WORDS: [&str; 29] = [
+const WORDS: [&str; 34] = [
     "",
     "walk --raw a",
     "Run --raw a",
@@ -18,6 +18,8 @@ const WORDS: [&str; 29] = [
     "serial --raw r",
     "trial counters",
     "trial counters 5 6",
+    "why --raw s",
+    "phases --raw",
     // words that aren't options, and options without a value, with one that they don't have, twice or cut short
     "run --help",
     "run -r a",
@@ -36,6 +38,9 @@ const WORDS: [&str; 29] = [
     "trial --raw counters 5",
     "trial --ram 65536 counters 5",
     "trial --record s counters 5",
+    "why --raw --steps 6 s a",
+    "why --raw --record t s a",
+    "phases --raw --record s --threads 2 a",
     // whatever stands in the fields
     "run --cores 65 --sets 3 --other 1 a",
     "walk --cores 65 a",

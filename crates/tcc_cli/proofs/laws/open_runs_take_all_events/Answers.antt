@@ -1,8 +1,13 @@
--- From the laws of picked and of joined schedules.
-use Rattle.tcc_cli.proofs.Taken.{open_runs}
+-- From the laws of picked and of joined schedules, and of those picked by phases.
+use Rattle.tcc_cli.proofs.Taken.{open_phased, open_runs}
 use Rattle.tcc_cli.proofs.laws.open_runs_take_all_events.Goals as goal
 
-pub returns : goal.returns
-returns c =
+pub returns-clause-runs : goal.returns-clause-runs
+returns-clause-runs c =
     open_runs c.riscv_machines_are_never_stuck.ensures.picked c.a_picked_schedule_is_a_run.ensures.ends
     c.open_joined_runs_take_all_events.ensures
+
+pub returns-clause-phased : goal.returns-clause-phased
+returns-clause-phased c =
+    open_phased c.phased_runs_are_never_stuck.ensures.picked c.a_schedule_picked_by_phases_runs.ensures.runs
+    c.phased_runs_are_runs.ensures.runs

@@ -4,7 +4,7 @@ use Rattle.std.specs.String.{string_bytes}
 use Rattle.tcc_cli.proofs.Ending.{IsLater, begun, stopped}
 use Rattle.tcc_cli.proofs.Loading.{given_length}
 use Rattle.tcc_cli.specs.Around.{Around, FilesAround}
-use Rattle.tcc_cli.specs.Schedules.{Comes}
+use Rattle.tcc_cli.specs.Comes.{Comes}
 use Rattle.tcc_cli.proofs.top.carry_out.Goals as goal
 
 pub load-requires-clause-count : goal.load-requires-clause-count

@@ -1,5 +1,5 @@
 -- From the end of the command, or of the words, to the answer.
-use Rattle.std.proofs.Common.{◌≡◌, Bool, true, false, Ok, refl, subst}
+use Rattle.std.proofs.Common.{true, false, Ok, refl, subst}
 use Rattle.tcc_cli.specs.Around.{Around, FilesAround}
 use Rattle.tcc_cli.specs.Lines.{Written}
 use Rattle.tcc_cli.specs.Top.{EndsOf}

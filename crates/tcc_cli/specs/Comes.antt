@@ -1,0 +1,42 @@
+-- What each command comes to, and where its file is refused.
+use Rattle.std.specs.Prelude.{ℕ, Bool, true, List, ◌≡◌, Option}
+use Rattle.tcc_cli.specs.Commands.{head_of, start_from}
+use Rattle.tcc_cli.specs.Lists.{IsExecuted, IsListFault}
+use Rattle.tcc_cli.specs.Phased.{IsPhasePicked, RanInPhases}
+use Rattle.tcc_cli.specs.Runs.{run_text, summary_text}
+use Rattle.tcc_cli.specs.Schedules.{IsMade, IsPicked, IsRecorded, IsScheduleFault, IsScheduleOf, Ran}
+use Rattle.tcc_words.specs.declared.command.Command.{Command}
+use Rattle.tcc_words.specs.declared.command.Command.TheVariants.{Run, Replay, Serial, Trial, Why, Phases}
+use Rattle.why_text.specs.Text.{why_text}
+
+-- what each command comes to, where its files have these bytes: the text that it prints, and what stands in the record then
+abbrev pub Comes : Command → (files : List (List ℕ)) → (tells : Bool) → (told : List ℕ → Option (List ℕ)) → Bool → List ℕ → Type 0
+Comes (Run machine images steps seed threads keep) files tells told done text =
+    let s = start_from (Run machine images steps seed threads keep) files in
+    Ran s (λ es. IsMade threads s seed steps es × IsRecorded keep tells told (record { config = machine.config; events = es }))
+    (run_text s) done text
+Comes (Replay machine schedule images) files tells told done text =
+    let s = start_from (Replay machine schedule images) files in
+    Ran s (λ es. IsScheduleOf machine.config es (head_of files)) (run_text s) done text
+Comes (Serial machine list images) files tells told done text =
+    (done ≡ true) × IsExecuted (start_from (Serial machine list images) files) (head_of files) text
+Comes (Trial config work number steps seed) files tells told done text =
+    let s = start_from (Trial config work number steps seed) files in
+    Ran s (IsPicked s seed steps) (summary_text s work number) done text
+Comes (Why machine schedule images) files tells told done text =
+    let s = start_from (Why machine schedule images) files in
+    Ran s (λ es. IsScheduleOf machine.config es (head_of files)) (why_text s) done text
+Comes (Phases machine images steps seed keep) files tells told done text =
+    let s = start_from (Phases machine images steps seed keep) files in
+    RanInPhases s (λ es. IsPhasePicked s seed steps es × IsRecorded keep tells told (record { config = machine.config; events = es }))
+    done text
+
+-- the line at which the file of a command is refused
+abbrev pub IsFaultyLine : Command → (files : List (List ℕ)) → (line : ℕ) → Type 0
+IsFaultyLine (Replay machine schedule images) files line =
+    IsScheduleFault (start_from (Replay machine schedule images) files) machine.config (head_of files) line
+IsFaultyLine (Serial machine list images) files line =
+    IsListFault (start_from (Serial machine list images) files) (head_of files) line
+IsFaultyLine (Why machine schedule images) files line =
+    IsScheduleFault (start_from (Why machine schedule images) files) machine.config (head_of files) line
+IsFaultyLine _ files line = ⊥
