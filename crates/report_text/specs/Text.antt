@@ -46,10 +46,6 @@ body_text s = flat_map commit_text s.commits ++ cores_text 0 s.cores ++ ram_text
 unfoldable pub report_text : (done : Bool) → (events : ℕ) → Shown → List ℕ
 report_text done events s = codes "tcc-report 1" ++ newline ++ end_line done ++ events_line events ++ body_text s
 
--- the same of the machine with one bus
-unfoldable pub bus_text : (done : Bool) → (events : ℕ) → Shown → List ℕ
-bus_text done events s = codes "tcc-bus 1" ++ newline ++ end_line done ++ events_line events ++ body_text s
-
 -- the report of a serial execution
 unfoldable pub serial_text : Shown → List ℕ
 serial_text s = codes "tcc-serial 1" ++ newline ++ body_text s
