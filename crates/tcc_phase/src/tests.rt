@@ -131,7 +131,10 @@ fn too_early(machine: &mut PhaseSystem) -> Option<(Result<(), (u64, StepError)>,
 fn a_request_of_a_later_phase_is_refused(rt: HostRuntime) -> Result<(), Fail> {
     let loaded = loaded(rt.alloc(), 2)?;
     let mut machine = PhaseSystem::start(rt.alloc(), &loaded)?;
-    assert_eq!(rt; too_early(&mut machine), Some((Err((6, StepError::Refused)), 1)));
+    assert_eq!(rt;
+        too_early(&mut machine),
+        Some((Err((6, StepError::Refused)), 1))
+    );
     assert_eq!(rt; takes(rt.alloc(), &loaded, &TOO_EARLY)?, true);
     Ok(())
 }
