@@ -1,9 +1,7 @@
 -- Whether an event is held back, by what is kept beside the machine.
-use Rattle.std.proofs.Common.{◌≡◌, ℕ, ◌<◌, Bool, true, false, Option, Some, None, refl, ap, sym, ◌∙◌, subst, arith}
-use Rattle.std.specs.Prelude.{◌↔◌, Err, IsErrOf, get_or, is_some, nat_lt, if◌then◌else◌, ◌&&◌}
-use Rattle.std.proofs.lemmas.Bool.Decides.{nat_tests}
+use Rattle.std.proofs.Common.{◌≡◌, ℕ, ◌<◌, Bool, true, false, Option, Some, None, refl, ap, sym, ◌∙◌, subst}
+use Rattle.std.specs.Prelude.{◌↔◌, Err, IsErrOf, get_or, is_some, nat_lt, if◌then◌else◌}
 use Rattle.image_load.specs.Contents.{started}
-use Rattle.rv_code.specs.Machine.{program}
 use Rattle.tcc_maps.specs.Nodes.{Core, Deliver, Dir, Event, Evict, Exec, Vendor}
 use Rattle.tcc_rules.specs.Step.{History, Stepped, names_nodes, next, recorded, step}
 use Rattle.phase_rules.specs.Phased.{is_held, phased_next}

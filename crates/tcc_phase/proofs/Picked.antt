@@ -1,6 +1,6 @@
 -- The events that random words pick by phases, one after another.
-use Rattle.std.proofs.Common.{◌≡◌, ℕ, suc, ◌+◌, ◌-◌, ◌<◌, ◌≤◌, List, [], ◌∷◌, ◌++◌, length, map, append-nil, append_assoc, Option, Some}
-use Rattle.std.proofs.Common.{None, refl, ap, sym, ◌∙◌, subst, arith}
+use Rattle.std.proofs.Common.{◌≡◌, ℕ, suc, ◌+◌, ◌-◌, ◌<◌, [], ◌∷◌, ◌++◌, length, map, append-nil, append_assoc, Some, None, refl, ap, sym}
+use Rattle.std.proofs.Common.{◌∙◌, arith}
 use Rattle.std.proofs.lemmas.List.{map-append, length_push}
 use Rattle.image_load.specs.Contents.{Contents, started}
 use Rattle.image_load.specs.Start.{Start}
@@ -14,7 +14,7 @@ use Rattle.tcc_rules.specs.Picked.{chosen}
 use Rattle.tcc_rules.specs.Step.{History}
 use Rattle.phase_rules.specs.Laws.{at_start}
 use Rattle.phase_rules.specs.Phased.{after_event, phased_next, phased_picked, phased_useful, pick}
-use Rattle.net_core.specs.Machine.{Machine, history_of, start_of}
+use Rattle.net_core.specs.Machine.{history_of}
 use Rattle.net_core.specs.Reached.{first_history}
 use Rattle.tcc_pick.specs.Words.{words}
 use Rattle.tcc_phase.specs.Answers.{next_of}

@@ -1,13 +1,12 @@
 -- The useful events that aren't held back, by number.
-use Rattle.std.proofs.Common.{◌≡◌, ℕ, zero, suc, ◌+◌, ◌-◌, ◌<◌, ◌≤◌, Bool, true, false, List, [], ◌∷◌, length, map, Option, Some, None}
-use Rattle.std.proofs.Common.{refl, ap, sym, ◌∙◌, subst, arith}
+use Rattle.std.proofs.Common.{◌≡◌, ℕ, suc, ◌+◌, ◌<◌, ◌≤◌, Bool, true, false, List, length, map, Option, Some, None, refl, ap, sym, ◌∙◌}
+use Rattle.std.proofs.Common.{subst, arith}
 use Rattle.std.specs.Prelude.{filter, get_or, not, option_map, slice_get, take}
 use Rattle.std.proofs.lemmas.Option.{slice_get-get_or, slice_get-map}
 use Rattle.std.proofs.lemmas.List.{get_or-take, get_or_read, length-map, length-take-le}
 use Rattle.image_load.specs.Contents.{started}
 use Rattle.rv_code.specs.Machine.{program}
 use Rattle.tcc_maps.specs.Nodes.{Core, Deliver, Event, Vendor}
-use Rattle.tcc_maps.specs.Words.{those}
 use Rattle.tcc_msg.specs.Plain.{event_of}
 use Rattle.tcc_msg.specs.declared.event.Event.{Event as CodeEvent}
 use Rattle.tcc_rules.specs.Laws.{IsOrdered, UsefulHolds, UsefulOrdered}
@@ -15,7 +14,7 @@ use Rattle.tcc_rules.specs.Useful.{before, useful}
 use Rattle.phase_rules.specs.Phased.{is_held, phased_useful}
 use Rattle.net_core.specs.Machine.{Machine, history_of, program_of, settings_of, start_of, world_of}
 use Rattle.tcc_phase.specs.Choosing.{IsPassed, all_in, held_in, passed_by}
-use Rattle.tcc_phase.specs.Kept.{HasRows, IsKept}
+use Rattle.tcc_phase.specs.Kept.{IsKept}
 use Rattle.tcc_phase.specs.Phased.{useful_in}
 use Rattle.tcc_phase.specs.Requests.{is_waiting, request}
 use Rattle.tcc_phase.specs.declared.ledger.Ledger.{Ledger}

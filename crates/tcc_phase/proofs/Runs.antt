@@ -1,6 +1,6 @@
 -- Events taken by phases one after another.
-use Rattle.std.proofs.Common.{◌≡◌, ◌≢◌, ℕ, zero, suc, ◌+◌, ◌<◌, ◌↔◌, length, List, [], ◌∷◌, ◌++◌, map, take, Option, Some, None, Err}
-use Rattle.std.proofs.Common.{IsErrOf, refl, ap, sym, ◌∙◌, arith}
+use Rattle.std.proofs.Common.{◌≡◌, ℕ, zero, suc, ◌+◌, ◌<◌, ◌↔◌, length, List, [], ◌∷◌, ◌++◌, map, take, Some, None, Err, IsErrOf, refl}
+use Rattle.std.proofs.Common.{ap, sym, ◌∙◌, arith}
 use Rattle.std.specs.Prelude.{slice_get}
 use Rattle.std.proofs.lemmas.List.{map-append}
 use Rattle.image_load.specs.Contents.{started}

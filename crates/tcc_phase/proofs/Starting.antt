@@ -1,28 +1,23 @@
 -- Before the first event all cores are in phase 0, and nobody has asked.
-use Rattle.std.proofs.Common.{◌≡◌, ℕ, zero, suc, ◌<◌, ◌≤◌, ◌&&◌, Bool, false, List, [], ◌∷◌, length, map, Option, Some, refl, ap, sym}
-use Rattle.std.proofs.Common.{◌∙◌, subst, arith}
+use Rattle.std.proofs.Common.{◌≡◌, ℕ, zero, suc, ◌<◌, ◌&&◌, false, List, [], map, Some, refl, ap, sym, ◌∙◌, subst, arith}
 use Rattle.std.specs.Prelude.{get_or, is_some, replicate, take}
 use Rattle.image_load.specs.Contents.{Contents, started}
 use Rattle.image_load.specs.Start.{Start}
 use Rattle.rv_code.specs.Machine.{program, start_regs}
-use Rattle.tcc_base.specs.Settings.{IsAllowed}
 use Rattle.tcc_maps.specs.Nodes.{Core, Vendor}
-use Rattle.tcc_maps.specs.Words.{those}
 use Rattle.tcc_msg.specs.Plain.{event_of}
 use Rattle.tcc_msg.specs.declared.event.Event.{Event as CodeEvent}
 use Rattle.tcc_program.specs.Registers.{register, written, zeroed}
 use Rattle.tcc_rules.specs.State.{core_start, start}
-use Rattle.tcc_rules.specs.Step.{History, step}
+use Rattle.tcc_rules.specs.Step.{step}
 use Rattle.phase_rules.specs.Laws.{at_start}
 use Rattle.phase_rules.specs.Phased.{phased_from}
 use Rattle.phase_rules.specs.Phases.{phase_of, phases_along, phases_in, phases_of}
-use Rattle.net_core.specs.Machine.{Machine, history_of, settings_of, start_of}
+use Rattle.net_core.specs.Machine.{Machine, history_of, start_of}
 use Rattle.net_core.specs.Reached.{first_history}
 use Rattle.tcc_phase.specs.Kept.{HasRows, IsKept}
-use Rattle.tcc_phase.specs.Phased.{IsPhased}
-use Rattle.tcc_phase.specs.Requests.{IsAsked, is_behind, is_waiting, request}
+use Rattle.tcc_phase.specs.Requests.{IsAsked, is_waiting, request}
 use Rattle.tcc_phase.specs.declared.ledger.Ledger.{Ledger}
-use Rattle.tcc_phase.proofs.Keeping.Kept.{in-phases-of}
 use Rattle.tcc_phase.proofs.Requests.Asked.{asked-none}
 use Rattle.tcc_phase.proofs.Requests.Behind.{even-none}
 use Rattle.tcc_phase.proofs.Requests.Those.{those-none}

@@ -1,8 +1,8 @@
 -- Requests for TIDs: which cores are late by the phases that are kept, and which requests are in flight.
-use Rattle.std.specs.Prelude.{ℕ, zero, suc, ◌≡◌, ◌<◌, ◌+◌, Bool, true, false, not, ◌&&◌, ◌||◌, ◌==◌, List, [], ◌∷◌, length, get_or}
-use Rattle.std.specs.Prelude.{Option, Some, None, is_some, nat_lt, if◌then◌else◌}
+use Rattle.std.specs.Prelude.{ℕ, zero, suc, ◌≡◌, ◌<◌, ◌+◌, Bool, false, not, ◌&&◌, ◌||◌, ◌==◌, List, [], ◌∷◌, length, get_or, Option}
+use Rattle.std.specs.Prelude.{Some, None, is_some, nat_lt, if◌then◌else◌}
 use Rattle.tcc_base.specs.Settings.{Settings}
-use Rattle.tcc_maps.specs.Nodes.{Core, Vendor, Event, Exec, Evict, Deliver}
+use Rattle.tcc_maps.specs.Nodes.{Core, Vendor, Event, Deliver}
 use Rattle.tcc_maps.specs.Words.{any_below}
 use Rattle.tcc_program.specs.Program.{Program}
 use Rattle.tcc_rules.specs.State.{Link, World}

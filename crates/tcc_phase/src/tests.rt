@@ -131,7 +131,10 @@ fn too_early(machine: &mut PhaseSystem) -> Option<(Result<(), (u64, StepError)>,
 fn a_request_of_a_later_phase_is_refused(rt: HostRuntime) -> Result<(), Fail> {
     let loaded = loaded(rt.alloc(), 2)?;
     let mut machine = PhaseSystem::start(rt.alloc(), &loaded)?;
-    assert_eq!(rt; too_early(&mut machine), Some((Err((6, StepError::Refused)), 1)));
+    assert_eq!(rt;
+        too_early(&mut machine),
+        Some((Err((6, StepError::Refused)), 1))
+    );
     assert_eq!(rt; takes(rt.alloc(), &loaded, &TOO_EARLY)?, true);
     Ok(())
 }
@@ -139,6 +142,13 @@ fn a_request_of_a_later_phase_is_refused(rt: HostRuntime) -> Result<(), Fail> {
 #[test]
 fn four_cores_come_to_the_end(rt: HostRuntime) -> Result<(), Fail> {
     let state = state_after(rt.alloc(), 4, 7)?;
-    assert_eq!(rt; (state.done, state.commits, state.phases, state.is_run), (true, 12, [0, 0, 0, 0, 0, 0], true));
+    let ended = State {
+        events: state.events,
+        done: true,
+        commits: 12,
+        phases: [0; 6],
+        is_run: true,
+    };
+    assert_eq!(rt; state, ended);
     Ok(())
 }

@@ -1,18 +1,14 @@
 -- One event more in a run by phases.
-use Rattle.std.proofs.Common.{◌≡◌, ℕ, suc, ◌+◌, ◌<◌, ◌≤◌, Bool, true, false, cond, List, [], ◌∷◌, ◌++◌, length, map, Option, Some, None}
-use Rattle.std.proofs.Common.{refl, ap, sym, ◌∙◌, subst, arith}
-use Rattle.std.specs.Prelude.{IfSome, nat_lt, option_map, slice_get}
-use Rattle.std.proofs.lemmas.Bool.Decides.{nat_tests}
+use Rattle.std.proofs.Common.{◌≡◌, ℕ, Bool, true, false, cond, List, [], ◌∷◌, ◌++◌, Option, Some, None, refl, ap, sym, ◌∙◌, subst}
+use Rattle.std.specs.Prelude.{IfSome}
 use Rattle.image_load.specs.Start.{Start}
 use Rattle.rv_code.specs.Machine.{program}
 use Rattle.rv_serial.specs.Given.{TidsOf, grants_of}
 use Rattle.rv_serial.specs.Suiting.{world_at_start}
 use Rattle.rv_serial.proofs.Lemmas.{committed_tids_were_granted_once}
 use Rattle.tcc_base.specs.Settings.{IsAllowed}
-use Rattle.tcc_base.specs.declared.access.Commit.{Commit}
-use Rattle.tcc_base.specs.declared.names.Tid.{Tid}
 use Rattle.tcc_maps.specs.Nodes.{Core, Vendor, Event}
-use Rattle.tcc_rules.specs.Step.{History, Stepped, and_noted, and_then, insert_commit, next, recorded, run, step}
+use Rattle.tcc_rules.specs.Step.{History, Stepped, and_noted, and_then, next, recorded, run, step}
 use Rattle.tcc_serial.specs.NotedBy.{AreByCores}
 use Rattle.tcc_serial.specs.Owners.{IsRising}
 use Rattle.tcc_serial.proofs.Lemmas.{commits_are_by_cores}

@@ -1,8 +1,8 @@
 -- What is kept beside a machine is so after one more event.
-use Rattle.std.proofs.Common.{◌≡◌, ◌≢◌, ℕ, zero, suc, ◌+◌, ◌<◌, ◌≤◌, ◌^◌, Bool, true, false, cond, ◌==◌, List, [], ◌∷◌, ◌++◌, length, map}
-use Rattle.std.proofs.Common.{Option, Some, None, refl, ap, sym, ◌∙◌, subst, arith}
+use Rattle.std.proofs.Common.{◌≡◌, ◌≢◌, ℕ, ◌+◌, ◌<◌, ◌≤◌, Bool, true, false, ◌==◌, List, [], ◌∷◌, ◌++◌, length, map, Option, Some, None}
+use Rattle.std.proofs.Common.{refl, ap, sym, ◌∙◌, subst, arith}
 use Rattle.std.specs.Global.{Vec}
-use Rattle.std.specs.Prelude.{IfSome, get_or, max, nat_lt, option_map, set, slice_get, slice_set, take, if◌then◌else◌}
+use Rattle.std.specs.Prelude.{IfSome, get_or, max, nat_lt, option_map, slice_get, slice_set, take, if◌then◌else◌}
 use Rattle.std.proofs.lemmas.Bool.Decides.{nat_tests}
 use Rattle.std.proofs.lemmas.List.{get_or-set_other, get_or-set_same, get_or_past, map-append}
 use Rattle.image_load.specs.Contents.{started}
@@ -169,8 +169,7 @@ module _ (m n : Machine) (allowed : IsAllowed (settings_of m)) (es : List Event)
           let w = told t done-by.out.noted r in
           let count = (in-phases (start_of m) fits es (history_of m) from).count in
           let most = place-most w.commit.tid.0 m.commits in
-          let at = place (start_of m) fits es e (history_of m) (history_of n) from to t w in
-          (
+          let at = place (start_of m) fits es e (history_of m) (history_of n) from to t w in (
             w.commit,
             stands (start_of m) fits es e (history_of m) (history_of n) from to t w,
             of-core (start_of m) fits es e (history_of m) (history_of n) from to t w,

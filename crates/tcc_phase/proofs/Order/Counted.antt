@@ -1,11 +1,11 @@
 -- Of a list in order some events are left out: which one is the k-th that isn't.
-use Rattle.std.proofs.Common.{◌≡◌, ℕ, zero, suc, ◌+◌, ◌-◌, ◌<◌, ◌≤◌, Bool, true, false, cond, List, [], ◌∷◌, length, take, Option, Some}
-use Rattle.std.proofs.Common.{None, refl, ap, sym, ◌∙◌, subst, arith, inl, inr, ⊎_elim}
+use Rattle.std.proofs.Common.{◌≡◌, ℕ, zero, suc, ◌+◌, ◌-◌, ◌<◌, ◌≤◌, Bool, true, false, cond, List, [], ◌∷◌, length, take, Some, None}
+use Rattle.std.proofs.Common.{refl, ap, sym, subst, arith, inl, inr}
 use Rattle.std.specs.Prelude.{filter, not, slice_get}
 use Rattle.tcc_maps.specs.Nodes.{Event}
 use Rattle.tcc_rules.specs.Laws.{IsIn, IsBeforeAll, IsOrdered}
 use Rattle.tcc_rules.specs.Useful.{before}
-use Rattle.tcc_phase.proofs.Order.Ordered.{before-in, before-once, not-itself, filter-before, filter-in}
+use Rattle.tcc_phase.proofs.Order.Ordered.{before-in, before-once, not-itself, filter-before}
 
 -- how many of the first n are left out
 abbrev pub left_out : (p : Event → Bool) → List Event → (n : ℕ) → ℕ
@@ -93,7 +93,6 @@ kth p (x ∷ es) k i (suc n) s a b = go (λ k i. kth p es k i n) (p x) a b
         → slice_get (cond (not t) (x ∷ filter (λ e. not (p e)) es) (filter (λ e. not (p e)) es)) k ≡ slice_get es n
     go f true a b = f k (i - 1) (omega (arith, s, a)) (omega (arith, a)) (omega (arith, b))
     go f false a b = first f k s a b
-
 
 -- ---- by order
 

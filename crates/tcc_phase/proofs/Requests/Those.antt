@@ -1,7 +1,7 @@
 -- The numbers below a bound that pass, listed one after another.
 use Rattle.std.proofs.Common.{◌≡◌, ℕ, zero, suc, ◌+◌, ◌<◌, Bool, true, false, cond, List, [], ◌∷◌, ◌++◌, append-nil, length, refl, ap}
 use Rattle.std.proofs.Common.{sym, ◌∙◌, add-one, arith}
-use Rattle.std.specs.Prelude.{Option, Some, None, drop, set, slice_get, take}
+use Rattle.std.specs.Prelude.{Some, drop, set, slice_get, take}
 use Rattle.std.proofs.lemmas.List.{take_more_set}
 use Rattle.std.proofs.Math.Seq.{take-length}
 use Rattle.tcc_maps.specs.Words.{those}

@@ -1,5 +1,5 @@
 -- Which cores wait, by the least phase of those that haven't halted.
-use Rattle.std.proofs.Common.{◌≡◌, ℕ, ◌<◌, ◌&&◌, Bool, false, List, [], Option, Some, None, refl, ap, sym, ◌∙◌}
+use Rattle.std.proofs.Common.{◌≡◌, ℕ, ◌<◌, ◌&&◌, List, [], Option, Some, None, ap, sym}
 use Rattle.std.specs.Prelude.{get_or, is_some}
 use Rattle.tcc_base.specs.Settings.{Settings}
 use Rattle.tcc_maps.specs.Words.{those}

@@ -1,5 +1,5 @@
 -- From the end on none is smaller, up to the first that is.
-use Rattle.std.proofs.Common.{◌≡◌, ◌+◌, ◌-◌, ◌<◌, ◌≤◌, length, refl, sym, subst, arith}
+use Rattle.std.proofs.Common.{◌-◌, ◌<◌, ◌≤◌, length, refl, sym, subst, arith}
 use Rattle.std.proofs.lemmas.Option.{slice_get_read}
 use Rattle.tcc_base.specs.declared.access.Commit.{Commit}
 use Rattle.tcc_phase.proofs.Places.{first-smaller, last-smaller, place-most}

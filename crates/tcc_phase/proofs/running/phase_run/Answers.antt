@@ -1,9 +1,6 @@
 -- The event that the next word picks is taken, or the run ends.
-use Rattle.std.proofs.Common.{◌≡◌, ◌+◌, ◌∙◌, ap, arith, sym, subst}
-use Rattle.rand_pcg.specs.Pcg.{pcg32}
+use Rattle.std.proofs.Common.{◌+◌, arith, sym, subst}
 use Rattle.tcc_pick.specs.Words.{seeded}
-use Rattle.tcc_rules.specs.Picked.{chosen}
-use Rattle.tcc_phase.specs.Phased.{PhaseMachine, useful_in}
 use Rattle.tcc_phase.proofs.Picked.{Going, going-ends, going-more, going-same, going-stops}
 use Rattle.tcc_phase.proofs.running.phase_run.Goals as goal
 

@@ -1,7 +1,5 @@
 -- In one phase none is late.
-use Rattle.std.proofs.Common.{◌≡◌, false, subst}
 use Rattle.net_core.specs.Machine.{settings_of, world_of}
-use Rattle.tcc_phase.specs.Requests.{IsEven}
 use Rattle.tcc_phase.proofs.Requests.Behind.{even-none}
 use Rattle.tcc_phase.proofs.ledger.Ledger.limit.Goals as goal
 

@@ -1,9 +1,8 @@
 -- Those that wait are those above the least phase whose requests are in flight.
-use Rattle.std.proofs.Common.{◌≡◌, ℕ, ◌<◌, ◌&&◌, Bool, false, List, [], length, take, Option, Some, None, refl, ap, sym, ◌∙◌, subst}
-use Rattle.std.specs.Prelude.{get_or, is_some}
+use Rattle.std.proofs.Common.{length, take, ap, ◌∙◌, subst}
 use Rattle.tcc_maps.specs.Words.{those}
 use Rattle.net_core.specs.Machine.{program_of, settings_of, world_of}
-use Rattle.tcc_phase.specs.Requests.{is_above, is_behind, is_below, is_waiting}
+use Rattle.tcc_phase.specs.Requests.{is_above}
 use Rattle.tcc_phase.specs.declared.ledger.Ledger.{Ledger}
 use Rattle.tcc_phase.proofs.Requests.Those.{written-over}
 use Rattle.tcc_phase.proofs.Requests.Waiting.{Limits, waiting-above, waiting-none}

@@ -1,5 +1,5 @@
 -- What isn't held back is enabled where the machine's own event is.
-use Rattle.std.proofs.Common.{◌≡◌, Bool, true, false, Option, None, ap, sym, ◌∙◌, subst}
+use Rattle.std.proofs.Common.{None, ap, sym, ◌∙◌}
 use Rattle.std.specs.Prelude.{is_some, if◌then◌else◌}
 use Rattle.tcc_msg.specs.Plain.{event_of}
 use Rattle.net_core.specs.Answers.{step_of}

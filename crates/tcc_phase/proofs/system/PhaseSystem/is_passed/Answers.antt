@@ -1,13 +1,8 @@
 -- The event at the row's place tells.
-use Rattle.std.proofs.Common.{◌≡◌, ◌+◌, ◌<◌, ◌≤◌, Bool, true, false, length, Option, Some, None, ap, sym, ◌∙◌, subst, arith}
-use Rattle.std.specs.Prelude.{get_or, not, slice_get}
-use Rattle.std.proofs.lemmas.List.{get_or_read}
-use Rattle.image_load.specs.Contents.{started}
-use Rattle.tcc_maps.specs.Nodes.{Core, Deliver, Event, Vendor}
+use Rattle.std.proofs.Common.{◌+◌, ◌<◌, ◌≤◌, Some, None, sym, subst, arith}
 use Rattle.tcc_msg.specs.Plain.{event_of}
-use Rattle.tcc_rules.specs.Useful.{before, useful}
-use Rattle.net_core.specs.Machine.{Machine, program_of, settings_of, start_of, world_of}
-use Rattle.tcc_phase.specs.Choosing.{all_in, held_in, passed_by}
+use Rattle.net_core.specs.Machine.{Machine}
+use Rattle.tcc_phase.specs.Choosing.{held_in, passed_by}
 use Rattle.tcc_phase.specs.Phased.{PhaseMachine}
 use Rattle.tcc_phase.specs.declared.ledger.Ledger.{Ledger}
 use Rattle.tcc_phase.proofs.Rows.{all-passed, core-row, found-at, held-many, not_yet-if, passed-if}

@@ -1,5 +1,5 @@
 -- The search ends where both numbers meet.
-use Rattle.std.proofs.Common.{◌≡◌, ◌+◌, ◌-◌, ◌/◌, ◌<◌, ◌≤◌, refl, ap, sym, ◌∙◌, subst, arith}
+use Rattle.std.proofs.Common.{◌≡◌, ◌+◌, ◌≤◌, subst, arith}
 use Rattle.net_core.specs.Machine.{Machine}
 use Rattle.tcc_phase.specs.Choosing.{held_in, passed_by}
 use Rattle.tcc_phase.specs.Phased.{PhaseMachine}

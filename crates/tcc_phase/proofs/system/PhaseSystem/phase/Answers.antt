@@ -1,9 +1,8 @@
 -- The core's own phase.
-use Rattle.std.proofs.Common.{◌≡◌, ◌<◌, length, ap, sym, ◌∙◌, subst, arith}
+use Rattle.std.proofs.Common.{◌<◌, sym, ◌∙◌, subst, arith}
 use Rattle.std.proofs.lemmas.List.{get_or_read}
 use Rattle.image_load.specs.Contents.{started}
-use Rattle.phase_rules.specs.Phases.{phase_of}
-use Rattle.net_core.specs.Machine.{history_of, settings_of, start_of}
+use Rattle.net_core.specs.Machine.{settings_of}
 use Rattle.tcc_phase.proofs.system.PhaseSystem.phase.Goals as goal
 
 pub index-requires : goal.index-requires

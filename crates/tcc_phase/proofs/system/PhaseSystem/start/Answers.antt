@@ -1,7 +1,7 @@
 -- The first machine.
-use Rattle.std.proofs.Common.{◌≡◌, ap, sym, ◌∙◌, subst}
+use Rattle.std.proofs.Common.{ap, ◌∙◌, subst}
 use Rattle.image_load.specs.Contents.{Contents}
-use Rattle.tcc_base.specs.Settings.{IsAllowed, Settings}
+use Rattle.tcc_base.specs.Settings.{Settings}
 use Rattle.net_core.specs.Machine.{Machine}
 use Rattle.tcc_phase.specs.declared.ledger.Ledger.{Ledger}
 use Rattle.tcc_phase.proofs.Keeping.Kept.{in-phases-of}

@@ -1,14 +1,9 @@
 -- One event more by phases.
-use Rattle.std.proofs.Common.{◌≡◌, ℕ, ◌+◌, ◌<◌, ◌≤◌, ◌++◌, ◌∷◌, [], Bool, true, false, length, map, Option, Some, None, refl, ap, sym}
-use Rattle.std.proofs.Common.{◌∙◌, subst, arith}
+use Rattle.std.proofs.Common.{◌≡◌, map, Some, None, ap, sym, ◌∙◌, subst}
 use Rattle.std.specs.Prelude.{◌↔◌, Err, IsErrOf, if◌then◌else◌, is_some}
-use Rattle.std.proofs.lemmas.List.{map-append}
-use Rattle.image_load.specs.Contents.{started}
 use Rattle.tcc_base.specs.Settings.{IsAllowed}
 use Rattle.tcc_msg.specs.Plain.{event_of}
 use Rattle.tcc_serial.specs.Owners.{IsRising}
-use Rattle.phase_rules.specs.Laws.{at_start}
-use Rattle.phase_rules.specs.Phased.{phased_from, phased_next}
 use Rattle.net_core.specs.Answers.{step_of}
 use Rattle.net_core.specs.Machine.{Machine, history_of, settings_of, start_of}
 use Rattle.net_core.specs.declared.taking.Step.{Step as Told}
@@ -16,7 +11,7 @@ use Rattle.net_core.specs.declared.taking.StepError.TheVariants.{Refused}
 use Rattle.tcc_phase.specs.Answers.{cause_of, next_of}
 use Rattle.tcc_phase.specs.Kept.{IsKept}
 use Rattle.tcc_phase.specs.Ledger.{IsListed}
-use Rattle.tcc_phase.specs.Phased.{IsPhased, PhaseMachine}
+use Rattle.tcc_phase.specs.Phased.{PhaseMachine}
 use Rattle.tcc_phase.specs.declared.ledger.Ledger.{Ledger}
 use Rattle.tcc_phase.proofs.Holding.{even-by, free-in, goes, refused-as, refused-so, rows-by}
 use Rattle.tcc_phase.proofs.Keeping.Kept.{Noted, in-phases-of, kept-each, kept-next, now-listed, now-rising, phased-after}
