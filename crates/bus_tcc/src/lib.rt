@@ -1,0 +1,14 @@
+// The machine with one bus: cores, one memory, and a bus that an arbiter gives to one core at a time, as one object whose events are
+// taken one by one.
+#![tactic(auto)]
+
+mod bus;
+mod choosing;
+mod event;
+mod readers;
+mod stepping;
+mod system;
+
+pub use bus::{Bus, CoreSet, Packet};
+pub use event::{BusError, BusEvent, BusStep};
+pub use system::BusSystem;
