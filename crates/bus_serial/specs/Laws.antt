@@ -51,4 +51,4 @@ abbrev pub BusPickedEndsDone : Type 0
 BusPickedEndsDone =
     (sh : Shape) (p : Program) (entries : ℕ → Local) (ram : ℕ → ℕ) (rs : List ℕ) → HasCaches sh
     → let es = bus_picked sh p rs (first_bus_history entries ram) in
-      length es < length rs → IfSome (bus_run sh p (bus_start entries ram) es) (λ h. BusIsDone sh h.world)
+    length es < length rs → IfSome (bus_run sh p (bus_start entries ram) es) (λ h. BusIsDone sh h.world)

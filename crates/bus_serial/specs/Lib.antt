@@ -1,3 +1,4 @@
 -- What the contracts of this crate cite.
 pub mod Laws
 pub mod Given
+pub mod Bounds

@@ -1,5 +1,8 @@
 -- What the contracts of this crate cite.
 pub mod Machine
+pub mod Bank
+pub mod BankInside
+pub mod Whole
 pub mod Inside
 pub mod Answers
 pub mod Chosen

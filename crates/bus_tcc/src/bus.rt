@@ -1,5 +1,8 @@
 // The bus: who has it, and the packet that is on it.
-use commit_engine::DirSet;
+ghost use Rattle.std.specs.Prelude.{◌≡◌};
+ghost use Rattle.bus_rules.specs.Useful.{is_packet};
+ghost use Rattle.bus_tcc.specs.Machine.{bus_of};
+
 use tcc_base::{CoreId, List, Tagged};
 
 /// A set of cores: bit `c` of `bits` stands for core `c`.
@@ -23,4 +26,16 @@ pub enum Bus {
     Alone(CoreId),
     /// The cores that are left take this packet.
     Packet(Packet),
+}
+
+impl Bus {
+    /// Whether a packet is on it.
+    pub fn is_packet(&self) -> bool
+        ensures { result ≡ is_packet (bus_of self.now) }
+    {
+        match self {
+            Bus::Packet(_) => true,
+            Bus::Free | Bus::Alone(_) => false,
+        }
+    }
 }

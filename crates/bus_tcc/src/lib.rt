@@ -2,6 +2,7 @@
 // taken one by one.
 #![tactic(auto)]
 
+mod bank;
 mod bus;
 mod choosing;
 mod event;

@@ -3,13 +3,12 @@ ghost use Rattle.std.specs.Prelude.{◌≡◌, ◌<◌, ℕ, IfOk, length, get_o
 ghost use Rattle.image_load.specs.Contents.{started};
 ghost use Rattle.rv_code.specs.Machine.{first_ram};
 ghost use Rattle.bus_serial.specs.Given.{bus_at_start};
-ghost use Rattle.bus_tcc.specs.Inside.{BusReached};
+ghost use Rattle.bus_tcc.specs.Whole.{BusReached};
 ghost use Rattle.bus_tcc.specs.Machine.{bus_history_of};
 
+use crate::bank::BusBank;
 use crate::bus::Bus;
 use commit_list::CommitList;
-use core_bank::start_cores;
-use core_node::CoreNode;
 use image_load::Loaded;
 use rv_code::Code;
 use std::alloc::Global;
@@ -21,8 +20,7 @@ use tcc_msg::Outgoing;
 /// leads to from the start: `events` says so.
 #[derive(Debug, Drop)]
 pub struct BusSystem {
-    pub(crate) code: Code,
-    pub(crate) cores: List<CoreNode>,
+    pub(crate) cores: BusBank,
     /// Memory, by word.
     pub(crate) ram: List<u32>,
     pub(crate) bus: Bus,
@@ -68,10 +66,8 @@ impl BusSystem {
         ensures events { IfOk result (λ m. m.events ≡ 0) }
     {
         let code = Code::new(alloc, loaded.copy()?)?;
-        let cores = start_cores(alloc, &code)?;
         Ok(BusSystem {
-            code,
-            cores,
+            cores: BusBank::start(alloc, code)?,
             ram: start_words(alloc, loaded)?,
             bus: Bus::Free,
             next: Tid(1),

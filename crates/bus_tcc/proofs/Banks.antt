@@ -1,0 +1,106 @@
+-- A bank of cores, one of which is read or acts.
+use Rattle.std.proofs.Common.{◌≡◌, ◌≢◌, ℕ, ◌<◌, ◌≤◌, List, length, get_or, Option, Some, None, Result, Ok, Err, OnOk, OnErr, refl, ap, sym, ◌∙◌, subst, arith}
+use Rattle.std.specs.Prelude.{slice_get, slice_set}
+use Rattle.std.proofs.lemmas.Option.{slice_get_read}
+use Rattle.image_load.specs.Contents.{Contents}
+use Rattle.tcc_base.specs.Put.{put}
+use Rattle.tcc_base.specs.Settings.{Settings, IsAllowed}
+use Rattle.tcc_rules.specs.Attempt.{Out}
+use Rattle.tcc_rules.specs.State.{CoreState}
+use Rattle.tcc_msg.specs.declared.outgoing.Outgoing.{Outgoing}
+use Rattle.core_node.specs.Answers.{Happened}
+use Rattle.core_node.specs.AtHand.{Leaves}
+use Rattle.core_node.specs.View.{core_of, Stays}
+use Rattle.core_node.specs.declared.state.Core.{Core}
+use Rattle.core_bank.proofs.Lemmas.{cores-at, cores-put, cores-with, put-same}
+use Rattle.core_bank.specs.Bank.{CoresData, cores_of}
+use Rattle.core_bank.specs.BankInside.{AreCores}
+use Rattle.bus_tcc.specs.Bank.{Acted}
+use Rattle.bus_tcc.specs.BankInside.{IsBank, bank_of}
+use Rattle.bus_tcc.specs.declared.bank.BusBank.TheInside.{Inside}
+
+-- a whole bank is seen as these data, and this is its core of that number
+pub record IsCoreOf (b : Inside) (now : CoresData) (c : ℕ) (x : Core) : Type 0 where
+  pub whole : IsBank b
+  pub seen : bank_of b ≡ now
+  pub exists : c < b.code.settings.cores
+  pub at : x ≡ get_or b.cores c x
+
+-- so it is told at a step of the code
+pub here : (a b : Inside) (now : CoresData) (c : ℕ) (x : Core) → a ≡ b → IsBank b → bank_of b ≡ now → c < now.code.settings.cores
+    → x ≡ get_or a.cores c x → IsCoreOf a now c x
+here a b now c x e w v l q = record {
+  whole = subst IsBank (sym e) w;
+  seen = ap bank_of e ∙ v;
+  exists = subst (λ d. c < d.code.settings.cores) (sym (ap bank_of e ∙ v)) l;
+  at = q;
+}
+
+is_there : (b : Inside) (now : CoresData) (c : ℕ) (x : Core) → IsCoreOf b now c x → slice_get b.cores c ≡ Some x
+is_there b now c x h = slice_get_read b.cores b.code.settings.cores c x (sym h.whole.cores.count) h.exists h.at
+
+pub own-config : (b : Inside) (now : CoresData) (c : ℕ) (x : Core) → IsCoreOf b now c x → x.config ≡ b.code.settings
+own-config b now c x h = (h.whole.cores.each c x (is_there b now c x h)).0
+
+pub config-here : (b : Inside) (now : CoresData) (c : ℕ) (x : Core) → IsCoreOf b now c x → x.config ≡ now.code.settings
+config-here b now c x h = own-config b now c x h ∙ ap (λ d. d.code.settings) h.seen
+
+pub id-here : (b : Inside) (now : CoresData) (c : ℕ) (x : Core) → IsCoreOf b now c x → x.id ≡ record { 0 = c }
+id-here b now c x h = (h.whole.cores.each c x (is_there b now c x h)).1
+
+pub state-here : (b : Inside) (now : CoresData) (c : ℕ) (x : Core) → IsCoreOf b now c x → core_of x ≡ cores_of now c
+state-here b now c x h = sym (cores-at (bank_of b) c x (is_there b now c x h)) ∙ ap (λ d. cores_of d c) h.seen
+
+within : (b : Inside) (now : CoresData) (c : ℕ) (x : Core) → IsCoreOf b now c x → c < length b.cores
+within b now c x h = rw h.whole.cores.count h.exists
+
+abbrev pub with_core : (b : Inside) (c : ℕ) (x : Core) → Inside
+with_core b c x = record { code = b.code; cores = slice_set b.cores c x }
+
+-- one of its cores acted
+pub acted-whole : (b : Inside) (now : CoresData) (c : ℕ) (old new : Core) → IsCoreOf b now c old → Stays old new
+    → IsBank (with_core b c new)
+acted-whole b now c old new h t = record {
+  allowed = h.whole.allowed;
+  cores = cores-with b.code.settings b.cores c new h.whole.cores (within b now c old h) (t.config ∙ own-config b now c old h)
+      (t.id ∙ id-here b now c old h);
+}
+
+pub cores-acted : (b : Inside) (now : CoresData) (c : ℕ) (old new : Core) → IsCoreOf b now c old
+    → cores_of (bank_of (with_core b c new)) ≡ put (cores_of now) c (core_of new)
+cores-acted b now c old new h =
+    cores-put (bank_of b) c new (within b now c old h) ∙ ap (λ d. put (cores_of d) c (core_of new)) h.seen
+
+-- a rule of the core's own settings and state is one of the bank's
+pub same-rule : {A : Type 0} → (rule : Settings → CoreState → A) (b : Inside) (now : CoresData) (c : ℕ) (x : Core) → IsCoreOf b now c x
+    → rule x.config (core_of x) ≡ rule now.code.settings (cores_of now c)
+same-rule rule b now c x h =
+    ap (λ s. rule s (core_of x)) (config-here b now c x h) ∙ ap (rule now.code.settings) (state-here b now c x h)
+
+happened-leaves : (o : Option Out) (before out : Outgoing) (new : Core) → Happened o before new out → Leaves o (core_of new)
+happened-leaves None before out new h = h
+happened-leaves (Some o) before out new h = h.core
+
+left : (o : Option Out) (c : ℕ) (now after : CoresData) (s : CoreState) → cores_of after ≡ put (cores_of now) c s → Leaves o s
+    → Acted o c now after
+left None c now after s e h = h
+left (Some o) c now after s e h = e ∙ ap (put (cores_of now) c) h
+
+pub leaves-does : {A E : Type 0} → (r : Result A E) (o p : Option Out) (b : Inside) (now : CoresData) (c : ℕ) (old new : Core)
+    → IsCoreOf b now c old → o ≡ p → OnOk r (Leaves o (core_of new)) → OnOk r (Acted p c now (bank_of (with_core b c new)))
+leaves-does (Ok x) o p b now c old new h e d =
+    left p c now (bank_of (with_core b c new)) (core_of new) (cores-acted b now c old new h) (rw (sym e) d)
+leaves-does (Err x) o p b now c old new h e d = record {}
+
+pub acted-does : {A E : Type 0} → (r : Result A E) (o p : Option Out) (b : Inside) (now : CoresData) (c : ℕ) (old new : Core)
+    (before out : Outgoing) → IsCoreOf b now c old → o ≡ p → OnOk r (Happened o before new out)
+    → OnOk r (Acted p c now (bank_of (with_core b c new)))
+acted-does (Ok x) o p b now c old new before out h e d =
+    leaves-does {A = Unit {0}} {E = Unit {0}} (Ok (record {})) o p b now c old new h e (happened-leaves o before out new d)
+acted-does (Err x) o p b now c old new before out h e d = record {}
+
+pub acted-unchanged : {A E : Type 0} → (r : Result A E) (b : Inside) (now : CoresData) (c : ℕ) (old new : Core)
+    → IsCoreOf b now c old → OnErr r (core_of new ≡ core_of old) → OnErr r (cores_of (bank_of (with_core b c new)) ≡ cores_of now)
+acted-unchanged (Ok x) b now c old new h e = record {}
+acted-unchanged (Err x) b now c old new h e =
+    cores-acted b now c old new h ∙ put-same (cores_of now) c (core_of new) (e ∙ state-here b now c old h)

@@ -1,0 +1,6 @@
+-- The proofs of this crate.
+pub mod Lemmas
+mod Banks
+mod Reaching
+mod Starting
+mod Events
