@@ -13,9 +13,11 @@ pub mod Fetches
 pub mod Finished
 pub mod Handed
 pub mod Lemmas
+pub mod Lined
 pub mod Listed
 pub mod Loaded
 pub mod Needed
+pub mod Overflows
 pub mod Placed
 pub mod Programs
 pub mod Rooms
