@@ -1,3 +1,4 @@
+pub mod AloneWith
 pub mod Asked
 pub mod AtOnce
 pub mod Blocked
@@ -26,3 +27,4 @@ pub mod Stored
 pub mod Unnoted
 pub mod Used
 pub mod Worlds
+pub mod Written

@@ -13,7 +13,7 @@ ghost use Rattle.tcc_rules.specs.CoreDeliver.{without as struck};
 ghost use Rattle.tcc_rules.specs.CoreExec.{core_exec};
 ghost use Rattle.tcc_rules.specs.State.{Running, Solo};
 ghost use Rattle.core_node.specs.Answers.{IsBlocked, IsMemory};
-ghost use Rattle.core_node.specs.AtHand.{Leaves, ends_by, exec_with, executes, goes_alone, line_at};
+ghost use Rattle.core_node.specs.AtHand.{Leaves, ends_by, exec_with, executes, goes_alone, line_at, lines_told};
 ghost use Rattle.core_node.specs.View.{core_of, IsCore, Stays};
 
 use crate::at_hand::{ends, exec_from};
@@ -24,9 +24,10 @@ use crate::node::CoreNode;
 use crate::overflowing::overflows;
 use crate::rolling::roll_back;
 use crate::state::Core;
+use crate::writing::written;
 use commit_engine::Phase;
 use rv_code::Code;
-use tcc_base::{Commit, LineAddr, Mask, Tid};
+use tcc_base::{Commit, LineAddr, List, Mask, Tagged, Tid};
 use tcc_msg::Outgoing;
 
 /// The core is alone by this TID, and reads without marks.
@@ -146,5 +147,15 @@ impl CoreNode {
         ensures unchanged { OnErr result (core_of self.new ≡ core_of self.old) }
     {
         exec_from(&mut self.core, code, ram, out)
+    }
+
+    /// All lines that the attempt has written, each with the mask of these words, what the core has of it and this TID. Takes time in
+    /// RAM's lines.
+    pub fn written(&self, tid: Tid) -> Result<List<Tagged>, CoreError>
+        requires small { lines self.now.config < 536870911 }
+        ensures lines { IfOk result (λ ts. ts ≡ lines_told self.now.config tid.0 (core_of self.now)) }
+        ensures cause { OnErr result (IsMemory result) }
+    {
+        written(&self.core, tid)
     }
 }

@@ -23,6 +23,7 @@ mod state;
 mod storing;
 mod useful;
 mod waiting;
+mod writing;
 
 pub use delivering::CoreError;
 pub use exec::Executed;
