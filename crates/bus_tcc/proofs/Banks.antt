@@ -1,6 +1,7 @@
 -- A bank of cores, one of which is read or acts.
-use Rattle.std.proofs.Common.{◌≡◌, ◌≢◌, ℕ, ◌<◌, ◌≤◌, List, length, get_or, Option, Some, None, Result, Ok, Err, OnOk, OnErr, refl, ap, sym, ◌∙◌, subst, arith}
+use Rattle.std.proofs.Common.{◌≡◌, ◌≢◌, ℕ, ◌+◌, ◌<◌, ◌≤◌, List, length, get_or, inl, inr, Option, Some, None, Result, Ok, Err, OnOk, OnErr, refl, ap, sym, ◌∙◌, subst, arith}
 use Rattle.std.specs.Prelude.{slice_get, slice_set}
+use Rattle.std.proofs.lemmas.Bool.{cases_eq}
 use Rattle.std.proofs.lemmas.Option.{slice_get_read}
 use Rattle.image_load.specs.Contents.{Contents}
 use Rattle.tcc_base.specs.Put.{put}
@@ -9,7 +10,6 @@ use Rattle.tcc_rules.specs.Attempt.{Out}
 use Rattle.tcc_rules.specs.State.{CoreState}
 use Rattle.tcc_msg.specs.declared.outgoing.Outgoing.{Outgoing}
 use Rattle.core_node.specs.Answers.{Happened}
-use Rattle.core_node.specs.AtHand.{Leaves}
 use Rattle.core_node.specs.View.{core_of, Stays}
 use Rattle.core_node.specs.declared.state.Core.{Core}
 use Rattle.core_bank.proofs.Lemmas.{cores-at, cores-put, cores-with, put-same}
@@ -57,6 +57,23 @@ within b now c x h = rw h.whole.cores.count h.exists
 abbrev pub with_core : (b : Inside) (c : ℕ) (x : Core) → Inside
 with_core b c x = record { code = b.code; cores = slice_set b.cores c x }
 
+-- a core that a loop over a bank's cores comes to
+pub come-to : (a b : Inside) (now : CoresData) (cs : List Core) (c : ℕ) (x : Core) → a ≡ b → IsBank b → bank_of b ≡ now → cs ≡ a.cores
+    → c < length cs → x ≡ get_or cs c x → IsCoreOf a now c x
+come-to a b now cs c x e h v same l q =
+    let count : length cs ≡ now.code.settings.cores =
+    ap length same ∙ ap (λ i. length i.cores) e ∙ h.cores.count ∙ ap (λ d. d.code.settings.cores) v in
+    here a b now c x e h v (rw (sym count) l) (subst (λ ys. x ≡ get_or ys c x) same q)
+
+pub among : (b : Inside) (now : CoresData) (c : ℕ) (x : Core) → IsCoreOf b now c x → c < now.code.settings.cores
+among b now c x h = subst (λ d. c < d.code.settings.cores) h.seen h.exists
+
+pub one-more : (P : ℕ → Type 0) (n : ℕ) → ((j : ℕ) → j < n → P j) → P n → (j : ℕ) → j < n + 1 → P j
+one-more P n h r j l = elim (cases_eq j n) [
+  | inl e ↦ subst P (sym e) r
+  | inr m ↦ h j (omega arith)
+]
+
 -- one of its cores acted
 pub acted-whole : (b : Inside) (now : CoresData) (c : ℕ) (old new : Core) → IsCoreOf b now c old → Stays old new
     → IsBank (with_core b c new)
@@ -77,26 +94,16 @@ pub same-rule : {A : Type 0} → (rule : Settings → CoreState → A) (b : Insi
 same-rule rule b now c x h =
     ap (λ s. rule s (core_of x)) (config-here b now c x h) ∙ ap (rule now.code.settings) (state-here b now c x h)
 
-happened-leaves : (o : Option Out) (before out : Outgoing) (new : Core) → Happened o before new out → Leaves o (core_of new)
-happened-leaves None before out new h = h
-happened-leaves (Some o) before out new h = h.core
-
-left : (o : Option Out) (c : ℕ) (now after : CoresData) (s : CoreState) → cores_of after ≡ put (cores_of now) c s → Leaves o s
-    → Acted o c now after
-left None c now after s e h = h
-left (Some o) c now after s e h = e ∙ ap (put (cores_of now) c) h
-
-pub leaves-does : {A E : Type 0} → (r : Result A E) (o p : Option Out) (b : Inside) (now : CoresData) (c : ℕ) (old new : Core)
-    → IsCoreOf b now c old → o ≡ p → OnOk r (Leaves o (core_of new)) → OnOk r (Acted p c now (bank_of (with_core b c new)))
-leaves-does (Ok x) o p b now c old new h e d =
-    left p c now (bank_of (with_core b c new)) (core_of new) (cores-acted b now c old new h) (rw (sym e) d)
-leaves-does (Err x) o p b now c old new h e d = record {}
+left : (o : Option Out) (c : ℕ) (now after : CoresData) (new : Core) (before out : Outgoing)
+    → cores_of after ≡ put (cores_of now) c (core_of new) → Happened o before new out → Acted o c now after
+left None c now after new before out e h = h
+left (Some o) c now after new before out e h = e ∙ ap (put (cores_of now) c) h.core
 
 pub acted-does : {A E : Type 0} → (r : Result A E) (o p : Option Out) (b : Inside) (now : CoresData) (c : ℕ) (old new : Core)
     (before out : Outgoing) → IsCoreOf b now c old → o ≡ p → OnOk r (Happened o before new out)
     → OnOk r (Acted p c now (bank_of (with_core b c new)))
 acted-does (Ok x) o p b now c old new before out h e d =
-    leaves-does {A = Unit {0}} {E = Unit {0}} (Ok (record {})) o p b now c old new h e (happened-leaves o before out new d)
+    left p c now (bank_of (with_core b c new)) new before out (cores-acted b now c old new h) (rw (sym e) d)
 acted-does (Err x) o p b now c old new before out h e d = record {}
 
 pub acted-unchanged : {A E : Type 0} → (r : Result A E) (b : Inside) (now : CoresData) (c : ℕ) (old new : Core)

@@ -19,7 +19,9 @@ use Rattle.core_node.specs.declared.delivering.CoreError.TheVariants as core_err
 use Rattle.bus_tcc.specs.Answers.{Answers, Kept, Took, bus_step_of, refusal_of, tid_noted, tid_told}
 use Rattle.bus_tcc.specs.Bank.{Acted}
 use Rattle.bus_tcc.specs.Machine.{BusMachine, bus_history_of, bus_of, bus_program_of, bus_settings_of, bus_world_of, word_in}
+use Rattle.bus_tcc.specs.Inside.{machine_of}
 use Rattle.bus_tcc.specs.Whole.{AreBefore, IsBusWhole}
+use Rattle.bus_tcc.specs.declared.system.BusSystem.TheInside.{Inside}
 use Rattle.bus_tcc.specs.declared.event.BusStep.{BusStep as Told}
 use Rattle.bus_tcc.specs.declared.event.BusStep.TheVariants.{Moved}
 use Rattle.bus_tcc.proofs.Reaching.{reached-on, reached-same}
@@ -125,10 +127,10 @@ evicted-some : (w : BusWorld) (c : ℕ) (o : Option Out) → o ≢ None → evic
 evicted-some w c None n = absurd (n refl)
 evicted-some w c (Some o) n = λ q. absurd (cc)
 
-pub refused-move : {A : Type 0} → (m n : BusMachine) (e : BusEvent) (c : ℕ) (error : CoreError) (o : Option Out) → StaysBut m n
+pub refused-move : (A : Type 0) (m n : BusMachine) (e : BusEvent) (c : ℕ) (error : CoreError) (o : Option Out) → StaysBut m n
     → IsBlocked {A = A} (Err error) o → bus_step_of m e ≡ evicted (bus_world_of m) c o → Answers m n e (Err (refusal_of error))
-refused-move m n e c core_error.Blocked o s b is = (stays-kept m n s, is ∙ evicted-none (bus_world_of m) c o b)
-refused-move m n e c core_error.Memory o s b is = (stays-kept m n s, λ q. evicted-some (bus_world_of m) c o b (sym is ∙ q))
+refused-move A m n e c core_error.Blocked o s b is = (stays-kept m n s, is ∙ evicted-none (bus_world_of m) c o b)
+refused-move A m n e c core_error.Memory o s b is = (stays-kept m n s, λ q. evicted-some (bus_world_of m) c o b (sym is ∙ q))
 
 -- ---- an eviction
 
@@ -152,3 +154,11 @@ no-evict m s c x y e h =
     by true a true b false d o = refl
     by true a false b r d o = refl
     by false a q b r d o = refl
+
+-- ---- what is held after one core of the machine acted
+
+abbrev pub after_core : Inside → CoresData → BusMachine
+after_core s b = record (machine_of s) { code = b.code; cores = b.cores; events = s.events + 1 }
+
+abbrev pub after_none : Inside → CoresData → BusMachine
+after_none s b = record (machine_of s) { code = b.code; cores = b.cores }

@@ -1,17 +1,11 @@
 // The cores of the machine.
 ghost use Rattle.std.specs.Prelude.{◌≡◌, ◌<◌, ◌↔◌, ℕ, IsTrue, IfOk, OnOk, OnErr, Some};
 ghost use Rattle.image_load.specs.Contents.{started};
-ghost use Rattle.rv_code.specs.Machine.{program};
-ghost use Rattle.tcc_base.specs.Put.{put};
-ghost use Rattle.tcc_rules.specs.Commit.{commit as commit_rule};
 ghost use Rattle.tcc_rules.specs.CoreEvict.{core_evict};
-ghost use Rattle.tcc_rules.specs.CoreExec.{core_exec};
 ghost use Rattle.tcc_rules.specs.State.{Halted};
-ghost use Rattle.core_node.specs.Answers.{IsBlocked, IsMemory};
-ghost use Rattle.core_node.specs.AtHand.{exec_with, executes, goes_alone, line_at};
+ghost use Rattle.core_node.specs.Answers.{IsBlocked};
 ghost use Rattle.core_node.specs.View.{core_of};
 ghost use Rattle.core_bank.specs.Bank.{cores_of, first_core};
-ghost use Rattle.bus_rules.specs.Exec.{gone_alone};
 ghost use Rattle.bus_tcc.specs.Bank.{Acted};
 
 use commit_engine::Phase;
@@ -20,7 +14,7 @@ use core_node::{CoreError, CoreNode};
 use rv_code::Code;
 use std::alloc::Global;
 use std::marker::Model;
-use tcc_base::{CoreId, List, NoMemory, Tid};
+use tcc_base::{CoreId, List, NoMemory};
 use tcc_msg::Outgoing;
 
 /// All cores of a machine with the program that they run. In a clause `cores_of` makes of it the states of the rules by core.
@@ -86,10 +80,17 @@ impl BusBank {
         ensures { IsTrue result ↔ ((c : ℕ) → c < self.now.code.settings.cores → (cores_of self.now c).phase ≡ Halted) }
     {
         for core in &self.cores.items {
-            if core.phase() != Phase::Halted {
+            if !halted(core) {
                 return false;
             }
         }
         true
     }
+}
+
+/// Whether a core has halted.
+fn halted(core: &CoreNode) -> bool
+    ensures { IsTrue result ↔ ((core_of core.now).phase ≡ Halted) }
+{
+    core.phase() == Phase::Halted
 }

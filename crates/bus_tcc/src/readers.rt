@@ -3,6 +3,8 @@ ghost use Rattle.std.specs.Prelude.{◌≡◌, ◌<◌, ◌/◌, ◌*◌, ◌↔
 ghost use Rattle.bus_rules.specs.Exec.{line_words};
 ghost use Rattle.bus_rules.specs.Useful.{BusIsDone};
 ghost use Rattle.core_node.specs.View.{core_of};
+ghost use Rattle.rv_plain.specs.Attempts.{outcome_of};
+ghost use Rattle.tcc_rules.specs.State.{Halted};
 ghost use Rattle.bus_tcc.specs.Machine.{bus_settings_of, bus_world_of, word_in};
 ghost use Rattle.tcc_program.specs.Cores.{printed};
 ghost use Rattle.tcc_serial.specs.Commits.{end_after};
@@ -61,17 +63,15 @@ impl BusSystem {
         end_of(self.cores.core(core))
     }
 
-    /// A word of memory. It takes constant time.
+    /// A word of memory, zero beyond it. It takes constant time.
     pub fn word(&self, w: WordAddr) -> u32
-        requires { w.0 < (bus_settings_of self.now).ram / 4 }
         ensures { result ≡ (bus_world_of self.now).ram w.0 }
     {
-        self.ram.items[w.0 as usize]
+        word_at(&self.ram, w.0 as usize)
     }
 
-    /// The eight words of a line of memory. It takes constant time.
+    /// The eight words of a line of memory, zero beyond it. It takes constant time.
     pub fn line(&self, line: LineAddr) -> [u32; 8]
-        requires { 8 * line.0 < (bus_settings_of self.now).ram / 4 }
         ensures { result ≡ line_words (bus_world_of self.now).ram line.0 }
     {
         words_of_line(&self.ram, line)
@@ -90,12 +90,19 @@ fn end_of(core: &CoreNode) -> CoreEnd
     ensures { result ≡ end_after (core_of core.now).phase (core_of core.now).ended }
 {
     match core.phase() {
-        Phase::Halted => match core.ended() {
-            Outcome::Halted(code) => CoreEnd::Halt(code),
-            Outcome::Trapped(code) => CoreEnd::Trap(code),
-            Outcome::Goes | Outcome::Ended => CoreEnd::Run,
-        },
+        Phase::Halted => end_by(core.ended()),
         _ => CoreEnd::Run,
+    }
+}
+
+/// How a core that halted did.
+fn end_by(outcome: Outcome) -> CoreEnd
+    ensures { result ≡ end_after Halted (outcome_of outcome) }
+{
+    match outcome {
+        Outcome::Halted(code) => CoreEnd::Halt(code),
+        Outcome::Trapped(code) => CoreEnd::Trap(code),
+        Outcome::Goes | Outcome::Ended => CoreEnd::Run,
     }
 }
 

@@ -2,6 +2,7 @@
 ghost use Rattle.std.specs.Prelude.{◌≡◌, ◌<◌, ℕ, IfOk, length, get_or, ◌/◌};
 ghost use Rattle.image_load.specs.Contents.{started};
 ghost use Rattle.rv_code.specs.Machine.{first_ram};
+ghost use Rattle.tcc_base.specs.Settings.{IsAllowed};
 ghost use Rattle.bus_serial.specs.Given.{bus_at_start};
 ghost use Rattle.bus_tcc.specs.Whole.{BusReached};
 ghost use Rattle.bus_tcc.specs.Machine.{bus_history_of};
@@ -13,7 +14,7 @@ use image_load::Loaded;
 use rv_code::Code;
 use std::alloc::Global;
 use std::marker::Model;
-use tcc_base::{Config, List, NoMemory, Tid, WordAddr};
+use tcc_base::{List, NoMemory, Tid, WordAddr};
 use tcc_msg::Outgoing;
 
 /// The machine. In a clause `bus_history_of` makes of it the state of the rules with the commits so far, which some list of events
@@ -46,11 +47,13 @@ impl Model for BusSystem {
 
 /// The words that were loaded.
 fn start_words(alloc: Global, loaded: &Loaded) -> Result<List<u32>, NoMemory>
+    ensures allowed { IfOk result (λ _. IsAllowed loaded.now.settings) }
     ensures count { IfOk result (λ ws. length ws ≡ loaded.now.settings.ram / 4) }
     ensures words { IfOk result (λ ws. (w : ℕ) → get_or ws w 0 ≡ first_ram (started loaded.now) w) }
 {
     let mut words = List::new(alloc);
-    for w in 0..loaded.config().words() {
+    let count = loaded.config().words();
+    for w in 0..count {
         words.push(loaded.word(WordAddr(w)))?;
     }
     Ok(words)
