@@ -1,7 +1,6 @@
 -- Commit: memory takes what the attempt wrote, and a packet of it goes to all other cores.
-use Rattle.std.specs.Prelude.{ℕ, ◌+◌, Bool, not, Option, Some, None, unwrap_or, nat_lt, ◌==◌, ◌&&◌, if◌then◌else◌}
+use Rattle.std.specs.Prelude.{ℕ, ◌+◌, Bool, not, Option, None, unwrap_or, nat_lt, ◌==◌, ◌&&◌, if◌then◌else◌}
 use Rattle.tcc_base.specs.declared.access.Commit.{Commit as Noted}
-use Rattle.tcc_maps.specs.Cache.{Cache}
 use Rattle.tcc_maps.specs.Shape.{Shape, lines}
 use Rattle.tcc_maps.specs.Words.{put, any_below, or_else}
 use Rattle.tcc_rules.specs.Attempt.{Out, is_solo}

@@ -7,7 +7,7 @@ use Rattle.tcc_program.specs.Program.{Need, Ends, Halts, Traps, Program}
 use Rattle.tcc_rules.specs.Attempt.{Out, finished}
 use Rattle.tcc_rules.specs.CoreDeliver.{fill}
 use Rattle.tcc_rules.specs.CoreExec.{core_exec}
-use Rattle.tcc_rules.specs.State.{CoreState, Awaited, Phase, Running, AwaitTid, DoomedTid, Probing, Ready, Overflowing, Solo, Halted}
+use Rattle.tcc_rules.specs.State.{CoreState, Awaited, Phase, Running, AwaitTid, Overflowing, Solo}
 use Rattle.bus_rules.specs.Commit.{BusStepped, bus_commit}
 use Rattle.bus_rules.specs.State.{Bus, Free, Alone, Packet, BusWorld}
 

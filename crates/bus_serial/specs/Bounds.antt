@@ -10,7 +10,7 @@ use Rattle.tcc_rules.specs.State.{CoreState, Phase, Running, AwaitTid, Solo, Hal
 use Rattle.tcc_attempt.specs.Sound.{SoundCore}
 use Rattle.tcc_serial.specs.InMemory.{WordInMemory, StaysInMemory}
 use Rattle.tcc_bounds.specs.Bounds.{AttemptCounted, CommitCounted, CacheInMemory}
-use Rattle.bus_rules.specs.State.{Bus, Alone, Packet, BusWorld, BusEvent, bus_start}
+use Rattle.bus_rules.specs.State.{Alone, Packet, BusEvent, bus_start}
 use Rattle.bus_rules.specs.Step.{BusHistory, bus_run}
 use Rattle.bus_serial.specs.Given.{AfterBusRun}
 
@@ -47,7 +47,7 @@ pub record IsBusBounded (sh : Shape) (events : ℕ) (h : BusHistory) : Type 0 wh
   pub cores : (c : ℕ) → c < sh.cores → BusCoreInBounds sh events (h.world.cores c)
   -- The core that has the bus is alone under the next TID, and a core that is alone has the bus.
   pub alone : (c : ℕ) → h.world.bus ≡ Alone c → (c < sh.cores) × ((h.world.cores c).phase ≡ Solo h.world.next)
-  pub solo : (c t : ℕ) → (h.world.cores c).phase ≡ Solo t → (h.world.bus ≡ Alone c) × (t ≡ h.world.next)
+  pub solo : (c t : ℕ) → c < sh.cores → (h.world.cores c).phase ≡ Solo t → (h.world.bus ≡ Alone c) × (t ≡ h.world.next)
   pub packet : (f : ℕ → Option ℕ) (left : ℕ → Bool) → h.world.bus ≡ Packet f left → PacketInBounds sh f left
   -- The next TID is the number of the next commit, from 1.
   pub next : h.world.next ≡ length h.commits + 1

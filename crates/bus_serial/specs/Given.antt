@@ -1,5 +1,5 @@
 -- The same of the RISC-V programs that the machine runs, from each start with allowed settings, as one equation.
-use Rattle.std.specs.Prelude.{ℕ, ◌≡◌, ◌<◌, ◌≤◌, List, [], map, length, Some, IfSome, nat_lt, if◌then◌else◌}
+use Rattle.std.specs.Prelude.{ℕ, ◌≡◌, ◌<◌, List, [], map, length, Some, IfSome, nat_lt, if◌then◌else◌}
 use Rattle.image_load.specs.Start.{Start}
 use Rattle.rv_code.specs.Machine.{program, first_ram}
 use Rattle.rv_plain.specs.Machine.{plain_start, no_core}
@@ -8,7 +8,7 @@ use Rattle.tcc_base.specs.Settings.{IsAllowed}
 use Rattle.tcc_program.specs.Orders.{order_of_commit}
 use Rattle.tcc_program.specs.Plain.{Plain, serial}
 use Rattle.tcc_serial.specs.Shown.{shown_core}
-use Rattle.bus_rules.specs.State.{BusWorld, BusEvent, bus_start}
+use Rattle.bus_rules.specs.State.{BusEvent, bus_start}
 use Rattle.bus_rules.specs.Step.{BusHistory, bus_run}
 use Rattle.bus_rules.specs.Useful.{BusIsDone, bus_picked, bus_useful}
 use Rattle.bus_serial.specs.Laws.{AreNumbered}

@@ -1,12 +1,12 @@
 -- What is claimed of every run of the machine with one bus, for every program whose accesses fit and lie in memory.
-use Rattle.std.specs.Prelude.{ℕ, ◌≡◌, ◌<◌, ◌≤◌, ◌+◌, List, [], ◌∷◌, length, Option, IfSome}
+use Rattle.std.specs.Prelude.{ℕ, ◌≡◌, ◌<◌, ◌≤◌, ◌+◌, List, [], ◌∷◌, length, IfSome}
 use Rattle.tcc_base.specs.declared.access.Commit.{Commit as Noted}
 use Rattle.tcc_maps.specs.Shape.{Shape}
 use Rattle.tcc_program.specs.Plain.{Plain}
 use Rattle.tcc_program.specs.Program.{Local, Program}
 use Rattle.tcc_serial.specs.Aim.{Suits}
 use Rattle.tcc_serial.specs.Commits.{CommitsSerial, CoreSerial}
-use Rattle.bus_rules.specs.State.{BusWorld, BusEvent, bus_start}
+use Rattle.bus_rules.specs.State.{BusEvent, bus_start}
 use Rattle.bus_rules.specs.Step.{BusHistory, bus_run}
 use Rattle.bus_rules.specs.Useful.{BusIsDone, bus_picked, bus_useful}
 

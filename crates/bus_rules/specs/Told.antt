@@ -1,0 +1,47 @@
+-- What is compared of a schedule that is worked by hand: all that can be told apart from outside, and what may happen next.
+use Rattle.std.specs.Prelude.{ℕ, ◌≡◌, ◌/◌, List, [], map, filter, Some, option_map}
+use Rattle.tcc_base.specs.declared.access.Commit.{Commit as Noted}
+use Rattle.tcc_maps.specs.Shape.{Shape}
+use Rattle.tcc_rules.specs.Needs.{Codes, needs, entry}
+use Rattle.tcc_rules.specs.Rows.{Pairs, changed}
+use Rattle.tcc_rules.specs.Seen.{numbers}
+use Rattle.tcc_rules.specs.Told.{ToldCore, told_core, first_words}
+use Rattle.bus_rules.specs.State.{Bus, Free, Alone, Packet, BusEvent, Exec, Evict, Take, bus_start}
+use Rattle.bus_rules.specs.Step.{BusHistory, bus_run}
+use Rattle.bus_rules.specs.Useful.{bus_useful}
+
+-- the commits, the cores, the words of memory that aren't as they were loaded, the cores that are still to take the packet, and the
+-- useful events
+pub record BusTold : Type 0 where
+  pub commits : List Noted
+  pub cores : List ToldCore
+  pub words : Pairs
+  pub left : List ℕ
+  pub useful : List BusEvent
+
+abbrev pub left_of : Shape → Bus → List ℕ
+left_of sh Free = []
+left_of sh (Alone c) = []
+left_of sh (Packet f left) = filter left (numbers sh.cores)
+
+unfoldable pub bus_told : Shape → Codes → BusHistory → BusTold
+bus_told sh codes h = record {
+  commits = h.commits;
+  cores = map (λ c. told_core sh (h.world.cores c)) (numbers sh.cores);
+  words = changed first_words h.world.ram (numbers (sh.ram / 4));
+  left = left_of sh h.world.bus;
+  useful = bus_useful sh (needs codes) h.world;
+}
+
+-- every event is enabled where it comes, and this is told at the end
+abbrev pub BusTells : Shape → Codes → List BusEvent → BusTold → Type 0
+BusTells sh codes es t = option_map (bus_told sh codes) (bus_run sh (needs codes) (bus_start entry first_words) es) ≡ Some t
+
+abbrev pub e : (core : ℕ) → BusEvent
+e c = Exec c
+
+abbrev pub x : (core set way : ℕ) → BusEvent
+x c s y = Evict c s y
+
+abbrev pub t : (core : ℕ) → BusEvent
+t c = Take c

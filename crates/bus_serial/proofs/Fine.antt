@@ -1,0 +1,227 @@
+-- What holds of one core by itself between events, of a program whose accesses are to lines in a set: no line is awaited, no word is dirty, its
+-- cache is consistent and of those lines, and its attempt is counted.
+use Rattle.std.specs.Prelude.{ℕ, ◌+◌, ◌≡◌, Bool, true, false, not, ◌==◌, ◌&&◌, ◌||◌, ◌⊎◌, Option, Some, None, is_some, IfSome, unwrap_or, if◌then◌else◌}
+use Rattle.std.proofs.Common.{refl, ap, sym, inl, inr, ◌∙◌}
+use Rattle.tcc_maps.specs.Cache.{Cache, is_marked}
+use Rattle.tcc_maps.specs.CacheChange.{filled, evicted, read_cleared}
+use Rattle.tcc_maps.specs.Nodes.{Dir, Fill}
+use Rattle.tcc_maps.specs.Shape.{Shape}
+use Rattle.tcc_maps.specs.Spilled.{spill_line}
+use Rattle.tcc_maps.specs.Words.{line_of}
+use Rattle.tcc_maps.proofs.Lemmas.{dirty-evicted, held-evicted, read_cleared-keeps}
+use Rattle.tcc_program.specs.Program.{Program}
+use Rattle.tcc_rules.specs.Attempt.{Out, moves, is_solo}
+use Rattle.tcc_rules.specs.CoreDeliver.{core_deliver}
+use Rattle.tcc_rules.specs.CoreEvict.{is_awaited, evict_line, core_evict}
+use Rattle.tcc_rules.specs.CoreExec.{core_exec}
+use Rattle.tcc_rules.specs.Sends.{written_back}
+use Rattle.tcc_rules.specs.State.{CoreState, Awaited, Running, AwaitTid, Overflowing}
+use Rattle.tcc_attempt.specs.Sound.{AwaitsHeld, SoundCore}
+use Rattle.tcc_attempt.proofs.Sound.{valid-held}
+use Rattle.tcc_attempt.proofs.SoundDeliver.{core_deliver-sound}
+use Rattle.tcc_attempt.proofs.SoundExec.{core_exec-sound}
+use Rattle.tcc_bounds.specs.Bounds.{AttemptCounted}
+use Rattle.tcc_bounds.proofs.Counted.{weak}
+use Rattle.bus_rules.specs.Exec.{line_words, instruction, gone_alone}
+use Rattle.bus_serial.proofs.Did.{Did, How, Ran, Closed, Overflowed, Asked, NeedIn}
+use Rattle.bus_serial.proofs.Filled.{fill-is}
+use Rattle.bus_serial.proofs.Instruction.{if-at, Executes, with_words, asking, word_wanted, Once, First, instructed}
+use Rattle.bus_serial.proofs.Temp.{core_evict-sound}
+
+pub record Fine (sh : Shape) (M : ℕ → Type 0) (n : ℕ) (s : CoreState) : Type 0 where
+  pub awaited : s.awaited ≡ None
+  pub clean : (x : ℕ) → s.cache.dirty x ≡ None
+  pub sound : SoundCore sh s
+  pub attempt : AttemptCounted n s
+  pub frames : ((l : ℕ) → s.cache.held l ≡ true → M l)
+  pub spilled : (x : ℕ) → is_some (s.spilled x) ≡ true → M (line_of x)
+
+-- one event later
+pub later : (sh : Shape) (M : ℕ → Type 0) (n : ℕ) (s : CoreState) → Fine sh M n s → Fine sh M (n + 1) s
+later sh M n s k = record {
+  awaited = k.awaited;
+  clean = k.clean;
+  sound = k.sound;
+  attempt = weak n s.n s.loads s.stores s.console k.attempt;
+  frames = k.frames;
+  spilled = k.spilled;
+}
+
+-- instructions
+
+-- how an instruction leaves the phase
+pub data Ways (s t : CoreState) : Type 0 where
+  Stays : (phase : t.phase ≡ s.phase) → Ways s t
+  Closes : (runs : s.phase ≡ Running) → (phase : t.phase ≡ AwaitTid) → Ways s t
+  Overflows : (solo : is_solo s.phase ≡ false) → (phase : t.phase ≡ Overflowing None) → Ways s t
+
+pub record Left (sh : Shape) (M : ℕ → Type 0) (n : ℕ) (s : CoreState) (o : Out) : Type 0 where
+  pub fine : Fine sh M (n + 1) o.core
+  pub ways : Ways s o.core
+  pub quiet : o.commit ≡ None
+  pub saved : o.core.saved ≡ s.saved
+
+ways-of : (w : ℕ) (s t : CoreState) → t.awaited ≡ None → How w s t → Ways s t
+ways-of w s t n (Ran e a) = Stays e
+ways-of w s t n (Closed r e a) = Closes r e
+ways-of w s t n (Overflowed q e) = Overflows q (ap (λ (t : CoreState). t.phase) e)
+ways-of w s t n (Asked c m e) = absurd (let i = ap (λ (t : CoreState). t.awaited) e in cc)
+
+once-left : (sh : Shape) (M : ℕ → Type 0) (n : ℕ) (p : Program) (c : ℕ) (s : CoreState) (o : Out) → NeedIn M sh.base (p.need s.local) → Fine sh M n s
+    → Once sh M p c s o → Left sh M n s o
+once-left sh M n p c s o m k e = record {
+  fine = record {
+    awaited = e.none;
+    clean = λ x. e.executed.did.clean x (k.clean x);
+    sound = if-at (core_exec sh p c s) o (λ o. SoundCore sh o.core) e.is (core_exec-sound sh p c s k.sound);
+    attempt = e.executed.attempt n k.attempt;
+    frames = λ l h. held l (e.executed.did.frames l h);
+    spilled = λ x h. spilt x (e.executed.did.spilled x h);
+  };
+  ways = ways-of (word_wanted sh p s) s o.core e.none e.executed.how;
+  quiet = e.executed.quiet;
+  saved = e.executed.did.saved;
+}
+  where
+    held : (l : ℕ) → (s.cache.held l ≡ true) ⊎ (M l) → M l
+    held l (inl h) = k.frames l h
+    held l (inr h) = h
+
+    spilt : (x : ℕ) → (is_some (s.spilled x) ≡ true) ⊎ M (line_of x) → M (line_of x)
+    spilt x (inl h) = k.spilled x h
+    spilt x (inr h) = h
+
+-- what Fill leaves of a core that is sound
+filled-sound : (sh : Shape) (l : ℕ) (ram : ℕ → ℕ) (s : CoreState) (c : Cache) → SoundCore sh (asking l s c)
+    → SoundCore sh (with_words ram l s c)
+unfolding core_deliver
+filled-sound sh l ram s c k = rw (fill-is l (line_words ram l) s c) at (core_deliver-sound sh (asking l s c) (Dir 0) (Fill l (line_words ram l)) k)
+
+pub first-sound : (sh : Shape) (M : ℕ → Type 0) (n : ℕ) (p : Program) (c : ℕ) (s : CoreState) (d : Cache) (o : Out) → Fine sh M n s → First sh M p c s d o
+    → SoundCore sh (asking (line_of (word_wanted sh p s)) s d)
+first-sound sh M n p c s d o k f =
+    rw f.asks at (if-at (core_exec sh p c s) o (λ o. SoundCore sh o.core) f.is (core_exec-sound sh p c s k.sound))
+
+-- a core with the line that it asked for
+pub filled-fine : (sh : Shape) (M : ℕ → Type 0) (n : ℕ) (p : Program) (ram : ℕ → ℕ) (c : ℕ) (s : CoreState) (d : Cache) (o : Out) → Fine sh M n s
+    → First sh M p c s d o → Fine sh M n (with_words ram (line_of (word_wanted sh p s)) s d)
+unfolding filled
+filled-fine sh M n p ram c s d o k f = record {
+  awaited = refl;
+  clean = λ x. did.clean x (k.clean x);
+  sound = filled-sound sh l ram s d (first-sound sh M n p c s d o k f);
+  attempt = k.attempt;
+  frames = λ j h. held j (did.frames j h);
+  spilled = k.spilled;
+}
+  where
+    l : ℕ
+    l = line_of (word_wanted sh p s)
+
+    did : Did M s (asking l s d)
+    did = rw f.asks at f.executed.did
+
+    held : (j : ℕ) → (s.cache.held j ≡ true) ⊎ (M j) → M j
+    held j (inl h) = k.frames j h
+    held j (inr h) = h
+
+pub instruction-left : (sh : Shape) (M : ℕ → Type 0) (n : ℕ) (p : Program) (ram : ℕ → ℕ) (c : ℕ) (s : CoreState) → NeedIn M sh.base (p.need s.local)
+    → Fine sh M n s → Executes p s → IfSome (instruction sh p ram c s) (Left sh M n s)
+instruction-left sh M n p ram c s m k x = instructed sh M p ram c s (Left sh M n s) m k.awaited x
+    (λ o e. once-left sh M n p c s o m k e)
+    (λ d o r f e.
+    let u = with_words ram (line_of (word_wanted sh p s)) s d in
+    let l = once-left sh M n p c u r m (filled-fine sh M n p ram c s d o k f) e in
+    record { fine = l.fine; ways = same s d r.core l.ways; quiet = l.quiet; saved = l.saved })
+  where
+    same : (s : CoreState) (d : Cache) (t : CoreState) → Ways (with_words ram (line_of (word_wanted sh p s)) s d) t → Ways s t
+    same s d t (Stays e) = Stays e
+    same s d t (Closes r e) = Closes r e
+    same s d t (Overflows q e) = Overflows q e
+
+-- Evict
+
+evict_line-fine : (sh : Shape) (M : ℕ → Type 0) (n x y : ℕ) (s : CoreState) (o : Option ℕ) → s.cache.at x y ≡ o → Fine sh M n s
+    → IfSome (evict_line sh x y s o) (λ t. SoundCore sh t.core) → IfSome (evict_line sh x y s o) (Left sh M n s)
+unfolding spill_line
+evict_line-fine sh M n x y s None e k q = tt
+evict_line-fine sh M n x y s (Some l) e k q = go (is_awaited s.awaited l || (is_marked s.cache l && not (is_solo s.phase))) q
+  where
+    t : CoreState
+    t = record s { cache = evicted x y s.cache; spilled = spill_line l s.cache s.spilled }
+
+    clean : (v : ℕ) (b : Bool) → (if b then None else s.cache.dirty v) ≡ None
+    clean v true = refl
+    clean v false = k.clean v
+
+    fewer : (j : ℕ) (b : Bool) → (if b then false else s.cache.held j) ≡ true → s.cache.held j ≡ true
+    fewer j true h = absurd (cc)
+    fewer j false h = h
+
+    valid : (v : ℕ) (o : Option ℕ) → s.cache.value v ≡ o → is_some o ≡ true → M (line_of v)
+    valid v None r h = absurd (cc)
+    valid v (Some z) r h = k.frames (line_of v) (valid-held sh s.cache v z k.sound.cache r)
+
+    spilt : (v : ℕ) (b m : Bool) → s.cache.modified v ≡ m → is_some (if b && m then Some (unwrap_or (s.cache.value v) 0) else s.spilled v) ≡ true
+        → M (line_of v)
+    spilt v true true r h = valid v (s.cache.value v) refl (k.sound.cache.modified v r)
+    spilt v true false r h = k.spilled v h
+    spilt v false m r h = k.spilled v h
+
+    go : (b : Bool) → IfSome (if b then None else Some (moves t (written_back sh s.cache l))) (λ t. SoundCore sh t.core)
+        → IfSome (if b then None else Some (moves t (written_back sh s.cache l))) (Left sh M n s)
+    go true q = tt
+    go false q = record {
+      fine = record {
+        awaited = k.awaited;
+        clean = λ v. dirty-evicted x y s.cache v l e ∙ clean v (l == line_of v);
+        sound = q;
+        attempt = weak n s.n s.loads s.stores s.console k.attempt;
+        frames = λ j h. k.frames j (fewer j (j == l) (sym (held-evicted x y s.cache j l e) ∙ h));
+        spilled = λ v h. spilt v (l == line_of v) (s.cache.modified v) refl h;
+      };
+      ways = Stays refl;
+      quiet = refl;
+      saved = refl;
+    }
+
+pub evict-left : (sh : Shape) (M : ℕ → Type 0) (n x y : ℕ) (s : CoreState) → Fine sh M n s → IfSome (core_evict sh x y s) (Left sh M n s)
+unfolding core_evict
+evict-left sh M n x y s k = evict_line-fine sh M n x y s (s.cache.at x y) refl k (core_evict-sound sh x y s k.sound)
+
+evict_line-phase : (sh : Shape) (x y : ℕ) (s : CoreState) (o : Option ℕ) → IfSome (evict_line sh x y s o) (λ t. t.core.phase ≡ s.phase)
+evict_line-phase sh x y s None = tt
+evict_line-phase sh x y s (Some l) = go (is_awaited s.awaited l || (is_marked s.cache l && not (is_solo s.phase)))
+  where
+    go : (b : Bool) → IfSome (if b then None else Some (moves (record s {
+      cache = evicted x y s.cache;
+      spilled = spill_line l s.cache s.spilled;
+    }) (written_back sh s.cache l))) (λ t. t.core.phase ≡ s.phase)
+    go true = tt
+    go false = refl
+
+pub evict-phase : (sh : Shape) (x y : ℕ) (s : CoreState) → IfSome (core_evict sh x y s) (λ t. t.core.phase ≡ s.phase)
+unfolding core_evict
+evict-phase sh x y s = evict_line-phase sh x y s (s.cache.at x y)
+
+-- the core has the bus
+pub alone-fine : (sh : Shape) (M : ℕ → Type 0) (n t : ℕ) (s : CoreState) → Fine sh M n s → Fine sh M n (gone_alone t s)
+unfolding gone_alone read_cleared
+alone-fine sh M n t s k = record {
+  awaited = k.awaited;
+  clean = k.clean;
+  sound = record {
+    cache = read_cleared-keeps sh s.cache k.sound.cache;
+    awaits = awaits s.awaited k.awaited;
+    alone = λ e. absurd (cc);
+    apart = k.sound.apart;
+    unmarked = λ e. absurd (cc);
+  };
+  attempt = k.attempt;
+  frames = k.frames;
+  spilled = k.spilled;
+}
+  where
+    awaits : (o : Option Awaited) → o ≡ None → AwaitsHeld (record s.cache { read = λ v. false }) o
+    awaits None e = tt
+    awaits (Some a) e = absurd (cc)

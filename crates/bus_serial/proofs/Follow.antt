@@ -1,0 +1,213 @@
+-- A core's attempt and memory: the attempt is what the plain machine does over a memory that has the words which it used, and memory has
+-- them, but for words of a packet that the core is still to take.
+use Rattle.std.specs.Prelude.{ℕ, ◌≡◌, Bool, true, false, not, ◌==◌, ◌&&◌, ◌||◌, [], ◌∷◌, ◌++◌, Option, Some, None, IfSome, if◌then◌else◌}
+use Rattle.std.proofs.Common.{refl, sym, ◌∙◌}
+use Rattle.tcc_base.specs.declared.access.Size.TheVariants.{Byte, Half, Word}
+use Rattle.tcc_maps.specs.Cache.{Cache}
+use Rattle.tcc_maps.specs.CacheChange.{evicted, read_cleared}
+use Rattle.tcc_maps.specs.Nodes.{Dir, Fill}
+use Rattle.tcc_maps.specs.Shape.{Shape}
+use Rattle.tcc_maps.specs.Spilled.{spill_line}
+use Rattle.tcc_maps.specs.Words.{line_of}
+use Rattle.tcc_maps.proofs.Lemmas.{modified-evicted, value-evicted}
+use Rattle.tcc_program.specs.Plain.{Goes}
+use Rattle.tcc_program.specs.Program.{Need, Loads, Stores, Changes, Program}
+use Rattle.tcc_program.specs.Ram.{word_of}
+use Rattle.tcc_rules.specs.Attempt.{Out, moves, is_solo}
+use Rattle.tcc_rules.specs.CoreDeliver.{fill, core_deliver}
+use Rattle.tcc_rules.specs.CoreEvict.{is_awaited, evict_line, core_evict}
+use Rattle.tcc_rules.specs.CoreExec.{core_exec}
+use Rattle.tcc_rules.specs.Sends.{written_back}
+use Rattle.tcc_rules.specs.State.{CoreState, Overflowing, Solo}
+use Rattle.tcc_attempt.specs.Follows.{Uses, Fits, Follows, EndFits, sees, used_in, used_at, used_by}
+use Rattle.tcc_attempt.specs.Marks.{MarksFit, AttemptFits, owed_in}
+use Rattle.tcc_attempt.specs.Sound.{SoundCore}
+use Rattle.tcc_attempt.specs.Views.{uses_after}
+use Rattle.tcc_attempt.proofs.Follows.{follows-into}
+use Rattle.tcc_attempt.proofs.FollowsDeliver.{core_evict-follows, core_deliver-follows}
+use Rattle.tcc_attempt.proofs.FollowsExec.{core_exec-follows}
+use Rattle.tcc_attempt.proofs.Marks.{core_exec-fit}
+use Rattle.tcc_attempt.proofs.MarksDeliver.{core_evict-fit, core_deliver-fit}
+use Rattle.bus_rules.specs.Exec.{line_words, instruction, gone_alone}
+use Rattle.bus_serial.proofs.Did.{Did, NeedIn}
+use Rattle.bus_serial.proofs.Filled.{Coherent, did-coherent, filled-coherent, fill-is}
+use Rattle.bus_serial.proofs.Fine.{Fine, first-sound, filled-fine}
+use Rattle.bus_serial.proofs.Instruction.{if-at, Executes, with_words, asking, word_wanted, Once, First, instructed}
+use Rattle.bus_serial.proofs.Bounded.{in_memory}
+
+-- memory has these values, but for the words that are gone
+abbrev pub AgreesBut : (gone : ℕ → Bool) → Uses → (ram : ℕ → ℕ) → Type 0
+AgreesBut gone [] ram = Unit {0}
+AgreesBut gone (u ∷ us) ram = (gone u.0 ≡ false → ram u.0 ≡ u.1) × AgreesBut gone us ram
+
+-- gone: the words of the packet that the core is still to take
+pub record Follow (sh : Shape) (p : Program) (ram : ℕ → ℕ) (gone : ℕ → Bool) (s : CoreState) : Type 0 where
+  pub uses : Uses
+  pub fits : AttemptFits sh p s uses
+  pub coherent : Coherent ram gone s.cache
+  pub agrees : AgreesBut gone uses ram
+
+-- memory changes, or other words are gone
+
+agrees-over : (ram now : ℕ → ℕ) (gone left : ℕ → Bool) (us : Uses)
+    → ((v : ℕ) → left v ≡ false → (gone v ≡ false) × (now v ≡ ram v)) → AgreesBut gone us ram → AgreesBut left us now
+agrees-over ram now gone left [] f k = tt
+agrees-over ram now gone left (u ∷ us) f k =
+    (λ e. let q = f u.0 e in q.1 ∙ k.0 (q.0), agrees-over ram now gone left us f (k.1))
+
+pub follow-over : (sh : Shape) (p : Program) (ram now : ℕ → ℕ) (gone left : ℕ → Bool) (s : CoreState)
+    → ((v : ℕ) → left v ≡ false → (gone v ≡ false) × (now v ≡ ram v)) → Follow sh p ram gone s → Follow sh p now left s
+follow-over sh p ram now gone left s f k = record {
+  uses = k.uses;
+  fits = k.fits;
+  coherent = λ v e m x i. let q = f v e in q.1 ∙ k.coherent v (q.0) m x i;
+  agrees = agrees-over ram now gone left k.uses f k.agrees;
+}
+
+-- instructions
+
+agrees-append : (gone : ℕ → Bool) (ram : ℕ → ℕ) (us vs : Uses) → AgreesBut gone us ram → AgreesBut gone vs ram
+    → AgreesBut gone (us ++ vs) ram
+agrees-append gone ram [] vs h k = k
+agrees-append gone ram (u ∷ us) vs h k = (h.0, agrees-append gone ram us vs (h.1) k)
+
+at-agrees : (ram : ℕ → ℕ) (gone : ℕ → Bool) (s : CoreState) (w : ℕ) → Coherent ram gone s.cache → AgreesBut gone (used_at s w) ram
+at-agrees ram gone s w k = go (s.spilled w) (s.cache.modified w) refl (s.cache.value w) refl
+  where
+    go : (o : Option ℕ) (m : Bool) → s.cache.modified w ≡ m → (v : Option ℕ) → s.cache.value w ≡ v
+        → AgreesBut gone (used_in w o m v) ram
+    go (Some x) m e v f = tt
+    go None true e v f = tt
+    go None false e None f = tt
+    go None false e (Some x) f = (λ g. k w g e x f, tt)
+
+used-agrees : (ram : ℕ → ℕ) (gone : ℕ → Bool) (base : ℕ) (s : CoreState) (need : Need) → Coherent ram gone s.cache
+    → AgreesBut gone (used_by base s need) ram
+used-agrees ram gone base s (Loads addr size) k = at-agrees ram gone s (word_of base addr) k
+used-agrees ram gone base s (Stores addr Word value) k = tt
+used-agrees ram gone base s (Stores addr Half value) k = at-agrees ram gone s (word_of base addr) k
+used-agrees ram gone base s (Stores addr Byte value) k = at-agrees ram gone s (word_of base addr) k
+used-agrees ram gone base s (Changes addr changed) k = at-agrees ram gone s (word_of base addr) k
+used-agrees ram gone base s _ k = tt
+
+-- what one execution leaves of the attempt
+exec-fits : (sh : Shape) (n : ℕ) (p : Program) (c : ℕ) (s : CoreState) (us : Uses) (o : Out) → Fits p → Fine sh (in_memory sh) n s
+    → core_exec sh p c s ≡ Some o → o.commit ≡ None → AttemptFits sh p s us
+    → AttemptFits sh p o.core (us ++ used_by sh.base s (p.need s.local))
+exec-fits sh n p c s us o f k e q h = rw q at both
+  where
+    new : Uses
+    new = us ++ used_by sh.base s (p.need s.local)
+
+    both : AttemptFits sh p o.core (uses_after o new)
+    both = record {
+      follows = if-at (core_exec sh p c s) o (λ t. Follows sh p t.core (uses_after t new)) e
+          (core_exec-follows sh p c s us f k.sound h.follows);
+      marks = if-at (core_exec sh p c s) o (λ t. MarksFit sh t.core (uses_after t new)) e (core_exec-fit sh p c s us k.sound h.marks);
+    }
+
+once-follow : (sh : Shape) (n : ℕ) (p : Program) (ram : ℕ → ℕ) (gone : ℕ → Bool) (c : ℕ) (s : CoreState) (o : Out) → Fits p
+    → Fine sh (in_memory sh) n s → Once sh (in_memory sh) p c s o → Follow sh p ram gone s → Follow sh p ram gone o.core
+once-follow sh n p ram gone c s o f k e h = record {
+  uses = h.uses ++ used_by sh.base s (p.need s.local);
+  fits = exec-fits sh n p c s h.uses o f k e.is e.executed.quiet h.fits;
+  coherent = did-coherent (in_memory sh) ram gone s o.core e.executed.did h.coherent;
+  agrees = agrees-append gone ram h.uses (used_by sh.base s (p.need s.local)) h.agrees
+      (used-agrees ram gone sh.base s (p.need s.local) h.coherent);
+}
+
+filled-fits : (sh : Shape) (p : Program) (l : ℕ) (ram : ℕ → ℕ) (s : CoreState) (d : Cache) (us : Uses) → SoundCore sh (asking l s d)
+    → AttemptFits sh p (asking l s d) us → AttemptFits sh p (with_words ram l s d) us
+unfolding core_deliver
+filled-fits sh p l ram s d us k h = rw (fill-is l (line_words ram l) s d) at both
+  where
+    t : CoreState
+    t = asking l s d
+
+    both : AttemptFits sh p (fill l (line_words ram l) t).core us
+    both = record {
+      follows = core_deliver-follows sh p t us (Dir 0) (Fill l (line_words ram l)) k h.follows;
+      marks = core_deliver-fit sh t us (Dir 0) (Fill l (line_words ram l)) h.marks;
+    }
+
+first-follow : (sh : Shape) (n : ℕ) (p : Program) (ram : ℕ → ℕ) (gone : ℕ → Bool) (c : ℕ) (s : CoreState) (d : Cache) (o : Out) → Fits p
+    → Fine sh (in_memory sh) n s → First sh (in_memory sh) p c s d o → Follow sh p ram gone s
+    → Follow sh p ram gone (with_words ram (line_of (word_wanted sh p s)) s d)
+first-follow sh n p ram gone c s d o f k e h = record {
+  uses = h.uses ++ used_by sh.base s (p.need s.local);
+  fits = filled-fits sh p l ram s d (h.uses ++ used_by sh.base s (p.need s.local)) (first-sound sh (in_memory sh) n p c s d o k e)
+      (rw e.asks at (exec-fits sh n p c s h.uses o f k e.is e.executed.quiet h.fits));
+  coherent = filled-coherent ram gone l d (did-coherent (in_memory sh) ram gone s (asking l s d) did h.coherent);
+  agrees = agrees-append gone ram h.uses (used_by sh.base s (p.need s.local)) h.agrees
+      (used-agrees ram gone sh.base s (p.need s.local) h.coherent);
+}
+  where
+    l : ℕ
+    l = line_of (word_wanted sh p s)
+
+    did : Did (in_memory sh) s (asking l s d)
+    did = rw e.asks at e.executed.did
+
+pub instruction-follow : (sh : Shape) (n : ℕ) (p : Program) (ram : ℕ → ℕ) (gone : ℕ → Bool) (c : ℕ) (s : CoreState) → Fits p
+    → NeedIn (in_memory sh) sh.base (p.need s.local) → Fine sh (in_memory sh) n s → Executes p s → Follow sh p ram gone s
+    → IfSome (instruction sh p ram c s) (λ o. Follow sh p ram gone o.core)
+instruction-follow sh n p ram gone c s f m k x h = instructed sh (in_memory sh) p ram c s (λ o. Follow sh p ram gone o.core) m k.awaited x
+    (λ o e. once-follow sh n p ram gone c s o f k e h)
+    (λ d o r e g.
+    let u = with_words ram (line_of (word_wanted sh p s)) s d in
+    once-follow sh n p ram gone c u r f (filled-fine sh (in_memory sh) n p ram c s d o k e) g (first-follow sh n p ram gone c s d o f k e h))
+
+-- the core has the bus
+pub alone-follow : (sh : Shape) (p : Program) (ram : ℕ → ℕ) (gone : ℕ → Bool) (t : ℕ) (s : CoreState) → s.phase ≡ Overflowing None
+    → Follow sh p ram gone s → Follow sh p ram gone (gone_alone t s)
+unfolding gone_alone read_cleared sees
+alone-follow sh p ram gone t s e h = record {
+  uses = h.uses;
+  fits = record {
+    follows = follows-into sh p s h.uses (read_cleared s.cache) s.spilled (Solo t) s.awaited s.owing (λ r v. refl) (rw e refl)
+        (ends h.fits.follows.ends) h.fits.follows;
+    marks = record {
+      stand = λ v. refl;
+      used = λ v r. absurd (cc);
+      awaits = λ q. absurd (cc);
+      owes = λ d o. absurd (let i = (h.fits.marks.owes d o).0 in let j : owed_in s.phase ≡ false = rw e refl in cc);
+    };
+  };
+  coherent = h.coherent;
+  agrees = h.agrees;
+}
+  where
+    ends : EndFits s.phase s.ended → s.ended ≡ Goes
+    ends k = (rw e at k)
+
+-- Evict
+
+evicted-coherent : (ram : ℕ → ℕ) (gone : ℕ → Bool) (x y l : ℕ) (c : Cache) → c.at x y ≡ Some l → Coherent ram gone c
+    → Coherent ram gone (evicted x y c)
+evicted-coherent ram gone x y l c e k v g m z i = go (l == line_of v) (sym (modified-evicted x y c v l e) ∙ m) (sym (value-evicted x y c v l e) ∙ i)
+  where
+    go : (b : Bool) → (if b then false else c.modified v) ≡ false → (if b then None else c.value v) ≡ Some z → ram v ≡ z
+    go true m i = absurd (cc)
+    go false m i = k v g m z i
+
+pub evict-follow : (sh : Shape) (n : ℕ) (p : Program) (ram : ℕ → ℕ) (gone : ℕ → Bool) (x y : ℕ) (s : CoreState) → Fine sh (in_memory sh) n s
+    → Follow sh p ram gone s → IfSome (core_evict sh x y s) (λ o. Follow sh p ram gone o.core)
+unfolding core_evict
+evict-follow sh n p ram gone x y s k h = all (core_evict sh x y s) (core_evict-follows sh p x y s h.uses k.sound h.fits.follows)
+    (core_evict-fit sh x y s h.uses h.fits.marks) (caches (s.cache.at x y) refl)
+  where
+    caches : (o : Option ℕ) → s.cache.at x y ≡ o → IfSome (evict_line sh x y s o) (λ o. Coherent ram gone o.core.cache)
+    caches None e = tt
+    caches (Some l) e = go (is_awaited s.awaited l || (Rattle.tcc_maps.specs.Cache.is_marked s.cache l && not (is_solo s.phase)))
+      where
+        go : (b : Bool) → IfSome (if b then None else Some (moves (record s {
+          cache = evicted x y s.cache;
+          spilled = spill_line l s.cache s.spilled;
+        }) (written_back sh s.cache l))) (λ o. Coherent ram gone o.core.cache)
+        go true = tt
+        go false = evicted-coherent ram gone x y l s.cache e h.coherent
+
+    all : (o : Option Out) → IfSome o (λ t. Follows sh p t.core h.uses) → IfSome o (λ t. MarksFit sh t.core h.uses)
+        → IfSome o (λ t. Coherent ram gone t.core.cache) → IfSome o (λ t. Follow sh p ram gone t.core)
+    all None a b c = tt
+    all (Some t) a b c = record { uses = h.uses; fits = record { follows = a; marks = b }; coherent = c; agrees = h.agrees }

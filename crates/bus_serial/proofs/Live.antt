@@ -1,0 +1,276 @@
+-- No state is stuck: a core takes the packet, or the core that is alone goes on, or any core that hasn't halted does.
+use Rattle.std.specs.Prelude.{ℕ, ◌≡◌, ◌<◌, Bool, true, false, ◌==◌, ◌&&◌, [], length, Option, Some, None, is_some, IfSome, nat_lt}
+use Rattle.std.proofs.Common.{arith, refl, ap, sym, inl, inr, ◌∙◌, ◌⊎◌}
+use Rattle.std.proofs.lemmas.Bool.Decides.{nat_tests}
+use Rattle.tcc_base.specs.declared.access.Size.TheVariants.{Byte, Half, Word}
+use Rattle.tcc_maps.specs.Cache.{Cache}
+use Rattle.tcc_maps.specs.CacheChange.{filled}
+use Rattle.tcc_maps.specs.Shape.{Shape, set_of}
+use Rattle.tcc_maps.specs.Words.{line_of}
+use Rattle.tcc_maps.proofs.Lemmas.{any_below-found}
+use Rattle.tcc_program.specs.Program.{Need, Nothing, Loads, Stores, Changes, Prints, Ends, Halts, Traps, Program}
+use Rattle.tcc_rules.specs.Attempt.{Out, is_solo}
+use Rattle.tcc_rules.specs.CoreEvict.{core_evict}
+use Rattle.tcc_rules.specs.CoreExec.{core_exec}
+use Rattle.tcc_rules.specs.State.{CoreState, Awaited, Phase, Running, AwaitTid, Overflowing, Solo, Halted}
+use Rattle.tcc_rules.specs.Useful.{room_for_line, room_for_word, room_for_store, room_for_need, room_unless_awaiting, room_in_phase, room}
+use Rattle.tcc_serial.specs.OneCore.{executes}
+use Rattle.bus_rules.specs.Exec.{line_words, with_line, if_executed, instruction, executed, goes_on, exec_alone, exec_in, bus_exec}
+use Rattle.bus_rules.specs.State.{Bus, Free, Alone, Packet, BusWorld, Exec, Evict, Take, bus_start}
+use Rattle.bus_rules.specs.Step.{BusHistory, evicted, bus_names, bus_step, bus_run}
+use Rattle.bus_rules.specs.Take.{bus_take}
+use Rattle.bus_rules.specs.Useful.{bus_is_useful, bus_useful, BusIsDone}
+use Rattle.bus_serial.specs.Laws.{HasCaches, BusNeverStuck}
+use Rattle.bus_serial.proofs.Bounded.{InOrder, runs-in-order}
+use Rattle.bus_serial.proofs.Did.{How, Ran, Closed, Overflowed, Asked, Executed, NeedIn, wanted, exec-executed}
+use Rattle.bus_serial.proofs.Filled.{filled-valid, fill-is}
+use Rattle.bus_serial.proofs.Fine.{Fine, Ways, Stays, Closes, Overflows, Left, first-sound, instruction-left}
+use Rattle.bus_serial.proofs.Instruction.{Executes, with_words, word_wanted, First}
+use Rattle.bus_serial.proofs.Listed.{NoneUseful, none-useful}
+use Rattle.bus_serial.proofs.Ordered.{PacketFits, PhaseFits, BusFits, Ordered}
+use Rattle.bus_serial.proofs.Temp5.{WantsSome, exec-or, emptied}
+
+-- every line
+abbrev pub any_line : ℕ → Type 0
+any_line l = Unit {0}
+
+need-any : (base : ℕ) (n : Need) → NeedIn any_line base n
+need-any base (Loads addr size) = tt
+need-any base (Stores addr size value) = tt
+need-any base (Changes addr changed) = tt
+need-any base _ = tt
+
+-- a core with the line that it asked for wants no room
+filled-room : (sh : Shape) (n : Need) (s : CoreState) → is_some (s.cache.value (wanted sh.base n)) ≡ true
+    → s.cache.held (line_of (wanted sh.base n)) ≡ true → room_for_need sh s n ≡ None
+unfolding room_for_word room_for_store room_for_line
+filled-room sh Nothing s v h = refl
+filled-room sh (Loads addr size) s v h = rw v (grind (arith, nat_tests))
+filled-room sh (Stores addr Word x) s v h = rw h (grind (arith, nat_tests))
+filled-room sh (Stores addr Half x) s v h = rw v (grind (arith, nat_tests))
+filled-room sh (Stores addr Byte x) s v h = rw v (grind (arith, nat_tests))
+filled-room sh (Changes addr f) s v h = rw v (grind (arith, nat_tests))
+filled-room sh _ s v h = refl
+
+no-room : (sh : Shape) (p : Program) (s : CoreState) → s.awaited ≡ None → room_for_need sh s (p.need s.local) ≡ None → room sh p s ≡ None
+unfolding room
+no-room sh p s a e = go s.phase
+  where
+    at : (o : Option Awaited) → room_unless_awaiting sh p s o ≡ None
+    at (Some x) = refl
+    at None = e
+
+    go : (q : Phase) → room_in_phase sh p s q ≡ None
+    go Running = at s.awaited
+    go (Solo t) = at s.awaited
+    go _ = refl
+
+-- an instruction, or room in a set
+instruction-or : (sh : Shape) (n : ℕ) (p : Program) (ram : ℕ → ℕ) (c : ℕ) (s : CoreState) → Fine sh any_line n s → Executes p s
+    → executes s.phase ≡ true → (is_some (instruction sh p ram c s) ≡ true) ⊎ WantsSome sh s (room sh p s)
+unfolding instruction filled
+instruction-or sh n p ram c s k x q = go (core_exec sh p c s) refl (exec-or sh p c s q k.awaited)
+    (exec-executed sh any_line p c s (need-any sh.base (p.need s.local)) k.awaited x)
+  where
+    w : ℕ
+    w = word_wanted sh p s
+
+    second : (d : Cache) (o : Out) → First sh any_line p c s d o
+        → let u = with_words ram (line_of w) s d in is_some (core_exec sh p c u) ≡ true
+    second d o f =
+        let u = with_words ram (line_of w) s d in
+        let valid = filled-valid (line_of w) (line_words ram (line_of w)) d w refl in
+        let held : d.held (line_of w) ≡ true = (first-sound sh any_line n p c s d o k f).awaits in
+        let none = no-room sh p u refl (filled-room sh (p.need s.local) u valid held) in
+        by u none (exec-or sh p c u q refl)
+      where
+        by : (u : CoreState) → room sh p u ≡ None → (is_some (core_exec sh p c u) ≡ true) ⊎ WantsSome sh u (room sh p u)
+            → is_some (core_exec sh p c u) ≡ true
+        by u e (inl i) = i
+        by u e (inr m) = absurd (let j = m.wants.room in cc)
+
+    one : (o : Out) → (b : Option Awaited) → o.core.awaited ≡ b → b ≡ None → is_some (with_line sh p ram c o b) ≡ true
+    one o None e f = refl
+    one o (Some y) e f = absurd (cc)
+
+    asks : (d : Cache) (o : Out) → First sh any_line p c s d o → is_some (with_line sh p ram c o o.core.awaited) ≡ true
+    asks d o f =
+        let y : o.core.awaited ≡ Some (record { line = line_of w; stale = false }) = ap (λ (t : CoreState). t.awaited) f.asks in
+        rw y (rw f.asks (rw (fill-is (line_of w) (line_words ram (line_of w)) s d) (second d o f)))
+
+    by : (o : Out) → core_exec sh p c s ≡ Some o → Executed any_line w s o → How w s o.core
+        → is_some (with_line sh p ram c o o.core.awaited) ≡ true
+    by o e z (Ran i a) = one o o.core.awaited refl (a ∙ k.awaited)
+    by o e z (Closed r i a) = one o o.core.awaited refl (a ∙ k.awaited)
+    by o e z (Overflowed m i) = one o o.core.awaited refl (ap (λ (t : CoreState). t.awaited) i ∙ k.awaited)
+    by o e z (Asked d m i) = asks d o (record { is = e; executed = z; asks = i })
+
+    go : (y : Option Out) → core_exec sh p c s ≡ y → (is_some y ≡ true) ⊎ WantsSome sh s (room sh p s) → IfSome y (Executed any_line w s)
+        → (is_some (if_executed sh p ram c y) ≡ true) ⊎ WantsSome sh s (room sh p s)
+    go y e (inr m) z = inr m
+    go None e (inl i) z = absurd (cc)
+    go (Some o) e (inl i) z = inl (by o e z z.how)
+
+-- with the bus free, or as the core that has it, an instruction is one event
+goes-on : (sh : Shape) (n : ℕ) (p : Program) (w : BusWorld) (c : ℕ) → Fine sh any_line n (w.cores c) → Executes p (w.cores c)
+    → (w.bus ≡ Free) ⊎ (is_solo (w.cores c).phase ≡ true) → is_some (instruction sh p w.ram c (w.cores c)) ≡ true
+    → PhaseFits w.next w.bus c (w.cores c).phase
+    → is_some (goes_on w c (instruction sh p w.ram c (w.cores c))) ≡ true
+goes-on sh n p w c k x b i f = go (instruction sh p w.ram c (w.cores c)) i
+    (instruction-left sh any_line n p w.ram c (w.cores c) (need-any sh.base (p.need (w.cores c).local)) k x)
+  where
+    not-full : (o : Out) → Left sh any_line n (w.cores c) o → is_solo (w.cores c).phase ≡ true → Ways (w.cores c) o.core
+        → (t : Option ℕ) → o.core.phase ≡ Overflowing t → ⊥
+    not-full o l s (Stays e) t q = no (w.cores c).phase f (sym e ∙ q)
+      where
+        no : (q : Phase) → PhaseFits w.next w.bus c q → q ≡ Overflowing t → ⊥
+        no (Overflowing u) k e = k
+        no q k e = absurd (cc)
+    not-full o l s (Closes r e) t q = absurd (cc)
+    not-full o l s (Overflows m e) t q = absurd (cc)
+
+    by : (o : Out) → Left sh any_line n (w.cores c) o → (q : Phase) → o.core.phase ≡ q → is_some (executed w c o q) ≡ true
+    by o l (Overflowing t) q = free b
+      where
+        free : (w.bus ≡ Free) ⊎ (is_solo (w.cores c).phase ≡ true) → is_some (executed w c o (Overflowing t)) ≡ true
+        free (inl e) = rw e refl
+        free (inr s) = absurd (not-full o l s l.ways t q)
+    by o l _ q = refl
+
+    go : (y : Option Out) → is_some y ≡ true → IfSome y (Left sh any_line n (w.cores c)) → is_some (goes_on w c y) ≡ true
+    go None i l = absurd (cc)
+    go (Some o) i l = by o l o.core.phase refl
+
+-- a core that runs with the bus free, or is alone: it executes, or wants room
+exec-some : (sh : Shape) (n : ℕ) (p : Program) (w : BusWorld) (c : ℕ) → Fine sh any_line n (w.cores c)
+    → PhaseFits w.next w.bus c (w.cores c).phase → ((w.cores c).phase ≡ Running) ⊎ (is_solo (w.cores c).phase ≡ true)
+    → (w.bus ≡ Free) ⊎ (is_solo (w.cores c).phase ≡ true)
+    → (is_some (bus_exec sh p w c) ≡ true) ⊎ WantsSome sh (w.cores c) (room sh p (w.cores c))
+unfolding bus_exec
+exec-some sh n p w c k f r b = go s.phase refl r
+  where
+    s : CoreState
+    s = w.cores c
+
+    either : Executes p s → executes s.phase ≡ true
+        → (is_some (goes_on w c (instruction sh p w.ram c s)) ≡ true) ⊎ WantsSome sh s (room sh p s)
+    either x q = by (instruction-or sh n p w.ram c s k x q)
+      where
+        by : (is_some (instruction sh p w.ram c s) ≡ true) ⊎ WantsSome sh s (room sh p s)
+            → (is_some (goes_on w c (instruction sh p w.ram c s)) ≡ true) ⊎ WantsSome sh s (room sh p s)
+        by (inl i) = inl (goes-on sh n p w c k x b i f)
+        by (inr m) = inr m
+
+    alone : (t : ℕ) → s.phase ≡ Solo t → (m : Need) → p.need s.local ≡ m
+        → (is_some (exec_alone sh p w c s m) ≡ true) ⊎ WantsSome sh s (room sh p s)
+    alone t e Ends g = inl refl
+    alone t e (Halts code) g = inl refl
+    alone t e (Traps code) g = inl refl
+    alone t e Nothing g = either (inr (rw (e, g) refl)) (rw e refl)
+    alone t e (Loads addr size) g = either (inr (rw (e, g) refl)) (rw e refl)
+    alone t e (Stores addr size x) g = either (inr (rw (e, g) refl)) (rw e refl)
+    alone t e (Changes addr h) g = either (inr (rw (e, g) refl)) (rw e refl)
+    alone t e (Prints byte) g = either (inr (rw (e, g) refl)) (rw e refl)
+
+    go : (q : Phase) → s.phase ≡ q → (q ≡ Running) ⊎ (is_solo q ≡ true)
+        → (is_some (exec_in sh p w c s q) ≡ true) ⊎ WantsSome sh s (room sh p s)
+    go Running e x = either (inl e) (rw e refl)
+    go (Solo t) e x = alone t e (p.need s.local) refl
+    go q e (inl x) = absurd (cc)
+    go q e (inr x) = absurd (cc)
+
+-- useful events
+
+exec-useful : (sh : Shape) (p : Program) (w : BusWorld) (c : ℕ) → c < sh.cores → is_some (bus_exec sh p w c) ≡ true
+    → bus_is_useful sh p w (Exec c) ≡ true
+unfolding bus_is_useful bus_step bus_names
+exec-useful sh p w c l e = let q : nat_lt c sh.cores ≡ true = grind (arith, nat_tests) in rw (q, e) refl
+
+take-useful : (sh : Shape) (p : Program) (w : BusWorld) (c : ℕ) → c < sh.cores → is_some (bus_take sh w c) ≡ true
+    → bus_is_useful sh p w (Take c) ≡ true
+unfolding bus_is_useful bus_step bus_names
+take-useful sh p w c l e = let q : nat_lt c sh.cores ≡ true = grind (arith, nat_tests) in rw (q, e) refl
+
+evict-useful : (sh : Shape) (p : Program) (w : BusWorld) (c x y : ℕ) → c < sh.cores → x < sh.sets → y < sh.ways
+    → is_some (core_evict sh x y (w.cores c)) ≡ true → room sh p (w.cores c) ≡ Some x → bus_is_useful sh p w (Evict c x y) ≡ true
+unfolding bus_is_useful bus_step bus_names
+evict-useful sh p w c x y l i j e r =
+    let q : (nat_lt c sh.cores && (nat_lt x sh.sets && nat_lt y sh.ways)) ≡ true = grind (arith, nat_tests) in
+    rw (q, r) (go (core_evict sh x y (w.cores c)) e)
+  where
+    go : (o : Option Out) → is_some o ≡ true → (is_some (evicted w c o) && (x == x)) ≡ true
+    go None e = absurd (cc)
+    go (Some o) e = grind (arith, nat_tests)
+
+-- a core that executes has a useful event
+moves : (sh : Shape) (n : ℕ) (p : Program) (w : BusWorld) (c : ℕ) → HasCaches sh → c < sh.cores → NoneUseful sh p w
+    → Fine sh any_line n (w.cores c) → PhaseFits w.next w.bus c (w.cores c).phase
+    → ((w.cores c).phase ≡ Running) ⊎ (is_solo (w.cores c).phase ≡ true) → (w.bus ≡ Free) ⊎ (is_solo (w.cores c).phase ≡ true) → ⊥
+moves sh n p w c h l u k f r b = go (exec-some sh n p w c k f r b)
+  where
+    go : (is_some (bus_exec sh p w c) ≡ true) ⊎ WantsSome sh (w.cores c) (room sh p (w.cores c)) → ⊥
+    go (inl e) = let i = exec-useful sh p w c l e in let j = u.execs c l in absurd (cc)
+    go (inr m) =
+        let e = emptied sh m.line (w.cores c) (room sh p (w.cores c)) (h.1) k.awaited m.wants in
+        let s = h.0 in
+        let x : set_of sh m.line < sh.sets = omega arith in
+        let i = evict-useful sh p w c (set_of sh m.line) e.way l x e.below e.evicts m.wants.room in
+        let j = u.evicts c (set_of sh m.line) e.way l x e.below in
+        absurd (cc)
+
+-- what isn't stuck
+
+free-halts : (sh : Shape) (n : ℕ) (p : Program) (w : BusWorld) → HasCaches sh → Ordered sh any_line n w → NoneUseful sh p w → w.bus ≡ Free
+    → (c : ℕ) → c < sh.cores → (w.cores c).phase ≡ Halted
+unfolding bus_exec
+free-halts sh n p w h k u b c l = go (w.cores c).phase refl (k.phases c l)
+  where
+    ends : (w.cores c).phase ≡ AwaitTid → is_some (bus_exec sh p w c) ≡ true
+    ends e = rw (e, b) refl
+
+    go : (q : Phase) → (w.cores c).phase ≡ q → PhaseFits w.next w.bus c q → q ≡ Halted
+    go Halted e f = refl
+    go Running e f = absurd (moves sh n p w c h l u (k.cores c l) (k.phases c l) (inl e) (inl b))
+    go AwaitTid e f = absurd (let i = exec-useful sh p w c l (ends e) in let j = u.execs c l in cc)
+    go (Solo t) e f = absurd (let i = f.0 in cc)
+    go _ e f = absurd f
+
+packet-goes : (sh : Shape) (p : Program) (w : BusWorld) (f : ℕ → Option ℕ) (left : ℕ → Bool) → NoneUseful sh p w
+    → w.bus ≡ Packet f left → PacketFits sh any_line f left → ⊥
+unfolding bus_take
+packet-goes sh p w f left u b k =
+    let a = any_below-found left sh.cores k.some in
+    let e : is_some (bus_take sh w a.0) ≡ true = (let q = a.2 in rw (b, q) refl) in
+    let i = take-useful sh p w a.0 (a.1) e in
+    let j = u.takes a.0 (a.1) in
+    absurd (cc)
+
+not-stuck : (sh : Shape) (n : ℕ) (p : Program) (h : BusHistory) → HasCaches sh → InOrder sh any_line n h
+    → bus_useful sh p h.world ≡ [] → BusIsDone sh h.world
+not-stuck sh n p h s k e = go h.world.bus refl
+  where
+    w : BusWorld
+    w = h.world
+
+    o : Ordered sh any_line n w
+    o = k.world
+
+    u : NoneUseful sh p w
+    u = none-useful sh p w e
+
+    go : (b : Bus) → w.bus ≡ b → BusIsDone sh w
+    go Free q = record { halted = free-halts sh n p w s o u q; quiet = rw q refl }
+    go (Alone c) q = absurd (
+        let a : BusFits sh any_line w.cores w.next (Alone c) = rw q at o.bus in
+        let r : is_solo (w.cores c).phase ≡ true = rw (a.1) refl in
+        moves sh n p w c s (a.0) u (o.cores c (a.0)) (o.phases c (a.0)) (inr r) (inr r))
+    go (Packet f left) q = absurd (packet-goes sh p w f left u q (rw q at o.bus))
+
+pub bus_never_stuck : BusNeverStuck
+bus_never_stuck sh p entries ram es s = go (bus_run sh p (bus_start entries ram) es)
+    (runs-in-order sh any_line p entries ram es (λ l. need-any sh.base (p.need l)))
+  where
+    go : (o : Option BusHistory) → IfSome o (InOrder sh any_line (length es))
+        → IfSome o (λ h. bus_useful sh p h.world ≡ [] → BusIsDone sh h.world)
+    go None k = tt
+    go (Some h) k = λ e. not-stuck sh (length es) p h s k e
