@@ -10,6 +10,7 @@ use Rattle.tcc_rules.specs.Attempt.{Out}
 use Rattle.tcc_rules.specs.State.{CoreState}
 use Rattle.tcc_msg.specs.declared.outgoing.Outgoing.{Outgoing}
 use Rattle.core_node.specs.Answers.{Happened}
+use Rattle.core_node.specs.AtHand.{Leaves}
 use Rattle.core_node.specs.View.{core_of, Stays}
 use Rattle.core_node.specs.declared.state.Core.{Core}
 use Rattle.core_bank.proofs.Lemmas.{cores-at, cores-put, cores-with, put-same}
@@ -94,17 +95,28 @@ pub same-rule : {A : Type 0} → (rule : Settings → CoreState → A) (b : Insi
 same-rule rule b now c x h =
     ap (λ s. rule s (core_of x)) (config-here b now c x h) ∙ ap (rule now.code.settings) (state-here b now c x h)
 
-left : (o : Option Out) (c : ℕ) (now after : CoresData) (new : Core) (before out : Outgoing)
-    → cores_of after ≡ put (cores_of now) c (core_of new) → Happened o before new out → Acted o c now after
-left None c now after new before out e h = h
-left (Some o) c now after new before out e h = e ∙ ap (put (cores_of now) c) h.core
+left : (o : Option Out) (c : ℕ) (now after : CoresData) (s : CoreState) → cores_of after ≡ put (cores_of now) c s → Leaves o s
+    → Acted o c now after
+left None c now after s e h = h
+left (Some o) c now after s e h = e ∙ ap (put (cores_of now) c) h
+
+-- what an event of the core leaves is what one of the bank does
+pub leaves-does : {A E : Type 0} → (r : Result A E) (o p : Option Out) (b : Inside) (now : CoresData) (c : ℕ) (old new : Core)
+    → IsCoreOf b now c old → o ≡ p → OnOk r (Leaves o (core_of new)) → OnOk r (Acted p c now (bank_of (with_core b c new)))
+leaves-does (Ok x) o p b now c old new h e d =
+    left p c now (bank_of (with_core b c new)) (core_of new) (cores-acted b now c old new h) (rw (sym e) d)
+leaves-does (Err x) o p b now c old new h e d = record {}
+
+happened-leaves : {A E : Type 0} → (r : Result A E) (o : Option Out) (before out : Outgoing) (new : Core)
+    → OnOk r (Happened o before new out) → OnOk r (Leaves o (core_of new))
+happened-leaves (Ok x) None before out new h = h
+happened-leaves (Ok x) (Some o) before out new h = h.core
+happened-leaves (Err x) o before out new h = h
 
 pub acted-does : {A E : Type 0} → (r : Result A E) (o p : Option Out) (b : Inside) (now : CoresData) (c : ℕ) (old new : Core)
     (before out : Outgoing) → IsCoreOf b now c old → o ≡ p → OnOk r (Happened o before new out)
     → OnOk r (Acted p c now (bank_of (with_core b c new)))
-acted-does (Ok x) o p b now c old new before out h e d =
-    left p c now (bank_of (with_core b c new)) new before out (cores-acted b now c old new h) (rw (sym e) d)
-acted-does (Err x) o p b now c old new before out h e d = record {}
+acted-does r o p b now c old new before out h e d = leaves-does r o p b now c old new h e (happened-leaves r o before out new d)
 
 pub acted-unchanged : {A E : Type 0} → (r : Result A E) (b : Inside) (now : CoresData) (c : ℕ) (old new : Core)
     → IsCoreOf b now c old → OnErr r (core_of new ≡ core_of old) → OnErr r (cores_of (bank_of (with_core b c new)) ≡ cores_of now)

@@ -4,3 +4,4 @@ mod Banks
 mod Reaching
 mod Starting
 mod Events
+mod Instructions

@@ -1,5 +1,5 @@
 -- The machine with one bus as plain data, and the state of the rules that it stands for.
-use Rattle.std.specs.Prelude.{ℕ, List, [], ◌∷◌, get_or, Option, Some, None, if◌then◌else◌}
+use Rattle.std.specs.Prelude.{ℕ, Bool, true, false, List, [], ◌∷◌, get_or, Option, Some, None, if◌then◌else◌}
 use Rattle.image_load.specs.Contents.{Contents, started}
 use Rattle.image_load.specs.Start.{Start}
 use Rattle.rv_code.specs.Machine.{program}
@@ -69,3 +69,8 @@ abbrev pub bus_event_of : BusEvent → rules.BusEvent
 bus_event_of (Exec c) = rules.Exec c.0
 bus_event_of (Evict c set way) = rules.Evict c.0 set way
 bus_event_of (Take c) = rules.Take c.0
+
+abbrev pub is_free : rules.Bus → Bool
+is_free rules.Free = true
+is_free (rules.Alone c) = false
+is_free (rules.Packet words left) = false

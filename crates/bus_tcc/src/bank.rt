@@ -1,20 +1,25 @@
 // The cores of the machine.
-ghost use Rattle.std.specs.Prelude.{◌≡◌, ◌<◌, ◌↔◌, ℕ, IsTrue, IfOk, OnOk, OnErr, Some};
+ghost use Rattle.std.specs.Prelude.{◌≡◌, ◌<◌, ◌↔◌, ℕ, true, IsTrue, IfOk, OnOk, OnErr, Some, None};
 ghost use Rattle.image_load.specs.Contents.{started};
 ghost use Rattle.tcc_rules.specs.CoreEvict.{core_evict};
 ghost use Rattle.tcc_rules.specs.State.{Halted};
 ghost use Rattle.core_node.specs.Answers.{IsBlocked};
 ghost use Rattle.core_node.specs.View.{core_of};
 ghost use Rattle.core_bank.specs.Bank.{cores_of, first_core};
-ghost use Rattle.bus_tcc.specs.Bank.{Acted};
+ghost use Rattle.bus_rules.specs.Exec.{instruction};
+ghost use Rattle.bus_tcc.specs.Bank.{Acted, ExecutedAt};
+ghost use Rattle.bus_tcc.specs.Machine.{word_in};
+ghost use Rattle.core_node.specs.AtHand.{executes};
+ghost use Rattle.rv_code.specs.Machine.{program};
 
+use crate::executing::execute_one;
 use commit_engine::Phase;
 use core_bank::start_cores;
 use core_node::{CoreError, CoreNode};
 use rv_code::Code;
 use std::alloc::Global;
 use std::marker::Model;
-use tcc_base::{CoreId, List, NoMemory};
+use tcc_base::{CoreId, List, NoMemory, Tid};
 use tcc_msg::Outgoing;
 
 /// All cores of a machine with the program that they run. In a clause `cores_of` makes of it the states of the rules by core.
@@ -73,6 +78,33 @@ impl BusBank {
         ensures unchanged { OnErr result (cores_of self.new ≡ cores_of self.old) }
     {
         self.cores.items[core.0 as usize].evict(set, way, out)
+    }
+
+    /// A core that runs or is alone executes: one that finds its set full of marked lines goes alone by this TID. Says whether it is
+    /// alone then. After an error the cores are as before.
+    pub fn execute(
+        &mut self,
+        core: CoreId,
+        ram: &[u32],
+        tid: Tid,
+        out: &mut Outgoing,
+    ) -> Result<bool, CoreError>
+        requires exists { core.0 < self.old.code.settings.cores }
+        requires short { (cores_of self.old core.0).n < 4194304 }
+        requires executes { executes (cores_of self.old core.0).phase ≡ true }
+        requires idle { (cores_of self.old core.0).awaited ≡ None }
+        ensures does { IfOk result (λ alone. ExecutedAt alone tid.0 (instruction self.old.code.settings (program (started self.old.code)) (word_in ram.now) core.0 (cores_of self.old core.0)) core.0 self.old self.new) }
+        ensures blocked { IsBlocked result (instruction self.old.code.settings (program (started self.old.code)) (word_in ram.now) core.0 (cores_of self.old core.0)) }
+        ensures code { self.new.code ≡ self.old.code }
+        ensures unchanged { OnErr result (cores_of self.new ≡ cores_of self.old) }
+    {
+        execute_one(
+            &mut self.cores.items[core.0 as usize],
+            &self.code,
+            ram,
+            tid,
+            out,
+        )
     }
 
     /// Whether every core has halted. Takes time in the number of cores.

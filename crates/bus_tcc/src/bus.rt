@@ -1,7 +1,7 @@
 // The bus: who has it, and the packet that is on it.
 ghost use Rattle.std.specs.Prelude.{◌≡◌};
 ghost use Rattle.bus_rules.specs.Useful.{is_packet};
-ghost use Rattle.bus_tcc.specs.Machine.{bus_of};
+ghost use Rattle.bus_tcc.specs.Machine.{bus_of, is_free};
 
 use tcc_base::{CoreId, List, Tagged};
 
@@ -36,6 +36,16 @@ impl Bus {
         match self {
             Bus::Packet(_) => true,
             Bus::Free | Bus::Alone(_) => false,
+        }
+    }
+
+    /// Whether nobody has it.
+    pub fn is_free(&self) -> bool
+        ensures { result ≡ is_free (bus_of self.now) }
+    {
+        match self {
+            Bus::Free => true,
+            Bus::Alone(_) | Bus::Packet(_) => false,
         }
     }
 }

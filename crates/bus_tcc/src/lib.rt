@@ -6,6 +6,8 @@ mod bank;
 mod bus;
 mod choosing;
 mod event;
+mod exec;
+mod executing;
 mod readers;
 mod stepping;
 mod system;

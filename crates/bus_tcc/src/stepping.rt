@@ -11,7 +11,7 @@ use core_node::CoreError;
 use tcc_base::{Config, CoreId};
 
 /// Why an event of a core wasn't taken.
-fn refusal(error: CoreError) -> BusError
+pub(crate) fn refusal(error: CoreError) -> BusError
     ensures { result ≡ refusal_of error }
 {
     match error {

@@ -175,13 +175,13 @@ asks-none sh p f id (Some o) e = by o.core.awaited e
 
 -- ---- one that asks for a line
 
-abbrev framed_cache : Shape → (line : ℕ) → Cache → Cache
+abbrev pub framed_cache : Shape → (line : ℕ) → Cache → Cache
 framed_cache sh l c = if c.held l then c else placed sh l c
 
-abbrev with_frame : Shape → (line : ℕ) → CoreState → CoreState
+abbrev pub with_frame : Shape → (line : ℕ) → CoreState → CoreState
 with_frame sh l s = record s { cache = framed_cache sh l s.cache }
 
-fetch-asks : (sh : Shape) (l : ℕ) (s : CoreState) → (s.cache.held l || is_some (free_way sh s.cache (set_of sh l))) ≡ true
+pub fetch-asks : (sh : Shape) (l : ℕ) (s : CoreState) → (s.cache.held l || is_some (free_way sh s.cache (set_of sh l))) ≡ true
     → fetch sh l s ≡ Some (ask sh l (with_frame sh l s))
 unfolding fetch place
 fetch-asks sh l s e = by (s.cache.held l) (is_some (free_way sh s.cache (set_of sh l))) _ e
@@ -271,7 +271,7 @@ lacks-so sh w s e = by (s.spilled w) refl (s.cache.value w) refl e
     by None a (Some y) b q = cc
     by None a None b q = record { spilled = a; value = b; frame = q }
 
-lacks-some : (b : Bool) (v w : ℕ) → (if b then Some v else None) ≡ Some w → (b ≡ true) × (v ≡ w)
+pub lacks-some : (b : Bool) (v w : ℕ) → (if b then Some v else None) ≡ Some w → (b ≡ true) × (v ≡ w)
 lacks-some true v w e = (refl, cc)
 lacks-some false v w e = cc
 
@@ -328,7 +328,7 @@ exec-executes sh p id s e a = by s.phase e
     by (Overflows t) h = cc
     by Halted h = cc
 
-lined-phase : (sh : Shape) (l : ℕ) (ws : List ℕ) (s : CoreState) → (lined sh l ws s).phase ≡ s.phase
+pub lined-phase : (sh : Shape) (l : ℕ) (ws : List ℕ) (s : CoreState) → (lined sh l ws s).phase ≡ s.phase
 unfolding lined
 lined-phase sh l ws s = refl
 
@@ -530,7 +530,7 @@ exec-with_none sh p f id s e a n = asks-none sh p f id (core_exec sh p id s)
 pub trap-lacks : (sh : Shape) (s : CoreState) (n : Need) (cause : ℕ) → n ≡ Traps cause → need_lacks sh s n ≡ None
 trap-lacks sh s n cause e = ap (need_lacks sh s) e
 
-lined-local : (sh : Shape) (l : ℕ) (ws : List ℕ) (s : CoreState) → (lined sh l ws s).local ≡ s.local
+pub lined-local : (sh : Shape) (l : ℕ) (ws : List ℕ) (s : CoreState) → (lined sh l ws s).local ≡ s.local
 unfolding lined
 lined-local sh l ws s = refl
 

@@ -164,7 +164,7 @@ close-alone sh id (Ready u) t = refl
 close-alone sh id (Overflowing u) t = refl
 close-alone sh id Halted t = refl
 
-need-alone : (sh : Shape) (p : Program) (id : ℕ) (s : CoreState) (need : Need) → overflows s.phase ≡ false
+pub need-alone : (sh : Shape) (p : Program) (id : ℕ) (s : CoreState) (need : Need) → overflows s.phase ≡ false
     → Same (execute_need sh p id s need) (need_overflows sh s need && not (is_solo s.phase))
 need-alone sh p id s Nothing e = finished-stays p Nothing 0 s e
 need-alone sh p id s (Loads addr size) e = load-alone sh p (Loads addr size) (word_of sh.base addr) s e
