@@ -1,6 +1,6 @@
 -- A bank of cores, one of which is read or acts.
-use Rattle.std.proofs.Common.{◌≡◌, ◌≢◌, ℕ, ◌+◌, ◌<◌, ◌≤◌, List, length, get_or, inl, inr, Option, Some, None, Result, Ok, Err, OnOk, OnErr, refl, ap, sym, ◌∙◌, subst, arith}
-use Rattle.std.specs.Prelude.{slice_get, slice_set}
+use Rattle.std.proofs.Common.{◌≡◌, ◌≢◌, ℕ, ◌+◌, ◌<◌, ◌≤◌, Bool, List, length, get_or, inl, inr, Option, Some, None, Result, Ok, Err, OnOk, OnErr, refl, ap, sym, ◌∙◌, subst, arith}
+use Rattle.std.specs.Prelude.{IfOk, slice_get, slice_set}
 use Rattle.std.proofs.lemmas.Bool.{cases_eq}
 use Rattle.std.proofs.lemmas.Option.{slice_get_read}
 use Rattle.image_load.specs.Contents.{Contents}
@@ -11,12 +11,16 @@ use Rattle.tcc_rules.specs.State.{CoreState}
 use Rattle.tcc_msg.specs.declared.outgoing.Outgoing.{Outgoing}
 use Rattle.core_node.specs.Answers.{Happened}
 use Rattle.core_node.specs.AtHand.{Leaves}
-use Rattle.core_node.specs.View.{core_of, Stays}
+use Rattle.core_node.specs.View.{core_of}
 use Rattle.core_node.specs.declared.state.Core.{Core}
 use Rattle.core_bank.proofs.Lemmas.{cores-at, cores-put, cores-with, put-same}
 use Rattle.core_bank.specs.Bank.{CoresData, cores_of}
 use Rattle.core_bank.specs.BankInside.{AreCores}
-use Rattle.bus_tcc.specs.Bank.{Acted}
+use Rattle.bus_rules.specs.Exec.{instruction}
+use Rattle.image_load.specs.Contents.{started}
+use Rattle.rv_code.specs.Machine.{program}
+use Rattle.bus_tcc.specs.Bank.{Acted, Executed, ExecutedAt}
+use Rattle.bus_tcc.specs.Machine.{word_in}
 use Rattle.bus_tcc.specs.BankInside.{IsBank, bank_of}
 use Rattle.bus_tcc.specs.declared.bank.BusBank.TheInside.{Inside}
 
@@ -76,12 +80,12 @@ one-more P n h r j l = elim (cases_eq j n) [
 ]
 
 -- one of its cores acted
-pub acted-whole : (b : Inside) (now : CoresData) (c : ℕ) (old new : Core) → IsCoreOf b now c old → Stays old new
-    → IsBank (with_core b c new)
-acted-whole b now c old new h t = record {
+pub acted-whole : (b : Inside) (now : CoresData) (c : ℕ) (old new : Core) → IsCoreOf b now c old → new.config ≡ old.config
+    → new.id ≡ old.id → IsBank (with_core b c new)
+acted-whole b now c old new h config id = record {
   allowed = h.whole.allowed;
-  cores = cores-with b.code.settings b.cores c new h.whole.cores (within b now c old h) (t.config ∙ own-config b now c old h)
-      (t.id ∙ id-here b now c old h);
+  cores = cores-with b.code.settings b.cores c new h.whole.cores (within b now c old h) (config ∙ own-config b now c old h)
+      (id ∙ id-here b now c old h);
 }
 
 pub cores-acted : (b : Inside) (now : CoresData) (c : ℕ) (old new : Core) → IsCoreOf b now c old
@@ -123,3 +127,25 @@ pub acted-unchanged : {A E : Type 0} → (r : Result A E) (b : Inside) (now : Co
 acted-unchanged (Ok x) b now c old new h e = record {}
 acted-unchanged (Err x) b now c old new h e =
     cores-acted b now c old new h ∙ put-same (cores_of now) c (core_of new) (e ∙ state-here b now c old h)
+
+-- an instruction of the core is one of the bank's
+pub same-instruction : (b : Inside) (now : CoresData) (c : ℕ) (x : Core) (ws : List ℕ) → IsCoreOf b now c x
+    → instruction x.config (program (started b.code)) (word_in ws) x.id.0 (core_of x)
+    ≡ instruction now.code.settings (program (started now.code)) (word_in ws) c (cores_of now c)
+same-instruction b now c x ws h =
+    same-rule (λ s y. instruction s (program (started b.code)) (word_in ws) x.id.0 y) b now c x h
+    ∙ ap (λ i. instruction now.code.settings (program (started b.code)) (word_in ws) i.0 (cores_of now c)) (id-here b now c x h)
+    ∙ ap (λ d. instruction now.code.settings (program (started d.code)) (word_in ws) c (cores_of now c)) h.seen
+
+ran : (a : Bool) (t : ℕ) (o : Option Out) (c : ℕ) (now after : CoresData) (s : CoreState) → cores_of after ≡ put (cores_of now) c s
+    → Executed a t o s → ExecutedAt a t o c now after
+ran a t None c now after s e h = h
+ran a t (Some o) c now after s e h = (h.0, e ∙ ap (put (cores_of now) c) h.1)
+
+pub executed-does : {E : Type 0} (r : Result Bool E) (t : ℕ) (o p : Option Out) (b : Inside) (now : CoresData) (c : ℕ) (old new : Core)
+    → IsCoreOf b now c old → o ≡ p → IfOk r (λ a. Executed a t o (core_of new))
+    → IfOk r (λ a. ExecutedAt a t p c now (bank_of (with_core b c new)))
+executed-does (Ok a) t o p b now c old new h e d =
+    ran a t p c now (bank_of (with_core b c new)) (core_of new) (cores-acted b now c old new h)
+    (subst (λ q. Executed a t q (core_of new)) e d)
+executed-does (Err x) t o p b now c old new h e d = record {}

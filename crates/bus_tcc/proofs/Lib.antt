@@ -4,4 +4,6 @@ mod Banks
 mod Reaching
 mod Starting
 mod Events
+mod Bounds
+mod Taken
 mod Instructions

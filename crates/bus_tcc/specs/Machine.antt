@@ -1,14 +1,13 @@
 -- The machine with one bus as plain data, and the state of the rules that it stands for.
-use Rattle.std.specs.Prelude.{ℕ, Bool, true, false, List, [], ◌∷◌, get_or, Option, Some, None, if◌then◌else◌}
+use Rattle.std.specs.Prelude.{ℕ, Bool, true, false, List, get_or}
 use Rattle.image_load.specs.Contents.{Contents, started}
 use Rattle.image_load.specs.Start.{Start}
 use Rattle.rv_code.specs.Machine.{program}
 use Rattle.tcc_base.specs.Settings.{Settings}
 use Rattle.tcc_base.specs.declared.access.Commit.{Commit}
-use Rattle.tcc_base.specs.declared.access.Tagged.{Tagged}
-use Rattle.tcc_maps.specs.Masks.{has, hit}
-use Rattle.tcc_maps.specs.Words.{place_of}
+use Rattle.tcc_maps.specs.Masks.{has}
 use Rattle.tcc_program.specs.Program.{Program}
+use Rattle.core_node.specs.AtHand.{words_in}
 use Rattle.core_node.specs.declared.state.Core.{Core}
 use Rattle.core_bank.specs.Bank.{cores_of}
 use Rattle.bus_rules.specs.State as rules
@@ -38,11 +37,6 @@ bus_settings_of m = m.code.settings
 
 abbrev pub bus_program_of : BusMachine → Program
 bus_program_of m = program (bus_start_of m)
-
--- the words of a packet, each in the first of its lines that has it
-unfoldable pub words_in : List Tagged → (word : ℕ) → Option ℕ
-words_in [] w = None
-words_in (t ∷ ts) w = if hit t.line.0 t.mask.0 w then Some (get_or t.words (place_of w) 0) else words_in ts w
 
 abbrev pub bus_of : Bus → rules.Bus
 bus_of Free = rules.Free

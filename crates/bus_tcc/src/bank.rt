@@ -9,7 +9,8 @@ ghost use Rattle.core_bank.specs.Bank.{cores_of, first_core};
 ghost use Rattle.bus_rules.specs.Exec.{instruction};
 ghost use Rattle.bus_tcc.specs.Bank.{Acted, ExecutedAt};
 ghost use Rattle.bus_tcc.specs.Machine.{word_in};
-ghost use Rattle.core_node.specs.AtHand.{executes};
+ghost use Rattle.core_node.specs.AtHand.{executes, goes_alone};
+ghost use Rattle.tcc_rules.specs.CoreExec.{core_exec};
 ghost use Rattle.rv_code.specs.Machine.{program};
 
 use crate::executing::execute_one;
@@ -59,6 +60,14 @@ impl BusBank {
         ensures state { core_of result.now ≡ cores_of self.now core.0 }
     {
         &self.cores.items[core.0 as usize]
+    }
+
+    /// Whether an execution would make the core wait to go on alone.
+    pub fn overflows(&self, core: CoreId) -> bool
+        requires { core.0 < self.now.code.settings.cores }
+        ensures { result ≡ goes_alone (core_exec self.now.code.settings (program (started self.now.code)) core.0 (cores_of self.now core.0)) }
+    {
+        self.core(core).overflows(&self.code)
     }
 
     /// A core empties a way: `CoreNode::evict` for the core of that number.

@@ -132,3 +132,10 @@ fn word_at(ram: &List<u32>, at: usize) -> u32
         None => 0,
     }
 }
+
+/// The words of memory.
+pub(crate) fn words_of(ram: &List<u32>) -> &[u32]
+    ensures { result.now ≡ ram.now }
+{
+    &ram.items
+}

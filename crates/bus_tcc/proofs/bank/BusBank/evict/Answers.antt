@@ -9,7 +9,7 @@ pub invariant_of-self : goal.invariant_of-self
 invariant_of-self c =
     let h = here _ c.self.inside _ c.args.core.0 _ c.self-inside.view_is c.self.invariant c.self.view_is c.requires.exists
     c.index_mut.ensures.value in
-    acted-whole _ _ _ _ _ h c.evict.ensures.stays
+    acted-whole _ _ _ _ _ h c.evict.ensures.stays.config c.evict.ensures.stays.id
 
 pub returns-clause-does : goal.returns-clause-does
 returns-clause-does c =
