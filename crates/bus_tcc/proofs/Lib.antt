@@ -6,4 +6,5 @@ mod Starting
 mod Events
 mod Bounds
 mod Taken
+mod Takes
 mod Instructions

@@ -119,10 +119,10 @@ or-left : (a b : Bool) → a ≡ true → (a || b) ≡ true
 or-left true b e = refl
 or-left false b e = cc
 
-place-back : (w : ℕ) → word_at (line_of w) (place_of w) ≡ w
+pub place-back : (w : ℕ) → word_at (line_of w) (place_of w) ≡ w
 place-back w = omega arith
 
-any-at : (p : ℕ → Bool) (w : ℕ) → p w ≡ true → any_word p (line_of w) ≡ true
+pub any-at : (p : ℕ → Bool) (w : ℕ) → p w ≡ true → any_word p (line_of w) ≡ true
 unfolding any_word
 any-at p w e = any_below-at (λ k. p (word_at (line_of w) k)) 8 (place_of w) (omega arith) (ap p (place-back w) ∙ e)
 

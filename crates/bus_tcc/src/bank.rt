@@ -9,18 +9,21 @@ ghost use Rattle.core_bank.specs.Bank.{cores_of, first_core};
 ghost use Rattle.bus_rules.specs.Exec.{instruction};
 ghost use Rattle.bus_tcc.specs.Bank.{Acted, ExecutedAt};
 ghost use Rattle.bus_tcc.specs.Machine.{word_in};
+ghost use Rattle.bus_tcc.specs.Taking.{took};
+ghost use Rattle.tcc_base.specs.Put.{put};
 ghost use Rattle.core_node.specs.AtHand.{executes, goes_alone};
 ghost use Rattle.tcc_rules.specs.CoreExec.{core_exec};
 ghost use Rattle.rv_code.specs.Machine.{program};
 
 use crate::executing::execute_one;
+use crate::taking::take_lines;
 use commit_engine::Phase;
 use core_bank::start_cores;
 use core_node::{CoreError, CoreNode};
 use rv_code::Code;
 use std::alloc::Global;
 use std::marker::Model;
-use tcc_base::{CoreId, List, NoMemory, Tid};
+use tcc_base::{CoreId, List, NoMemory, Tagged, Tid};
 use tcc_msg::Outgoing;
 
 /// All cores of a machine with the program that they run. In a clause `cores_of` makes of it the states of the rules by core.
@@ -114,6 +117,15 @@ impl BusBank {
             tid,
             out,
         )
+    }
+
+    /// A core takes the lines of a packet. Takes time in these lines, and where the core begins anew in its cache's frames.
+    pub fn take(&mut self, core: CoreId, lines: &[Tagged])
+        requires exists { core.0 < self.old.code.settings.cores }
+        ensures does { cores_of self.new ≡ put (cores_of self.old) core.0 (took lines.now (cores_of self.old core.0)) }
+        ensures code { self.new.code ≡ self.old.code }
+    {
+        take_lines(&mut self.cores.items[core.0 as usize], lines);
     }
 
     /// Whether every core has halted. Takes time in the number of cores.

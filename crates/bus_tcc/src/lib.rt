@@ -11,6 +11,7 @@ mod executing;
 mod readers;
 mod stepping;
 mod system;
+mod take;
 mod taking;
 
 pub use bus::{Bus, CoreSet, Packet};
