@@ -7,4 +7,6 @@ mod Events
 mod Bounds
 mod Taken
 mod Takes
+mod Writes
+mod Cleaned
 mod Instructions

@@ -2,6 +2,7 @@
 pub mod Machine
 pub mod Bank
 pub mod BankInside
+pub mod Cleaning
 pub mod Left
 pub mod Taking
 pub mod Whole

@@ -5,6 +5,7 @@
 mod bank;
 mod bus;
 mod choosing;
+mod cleaning;
 mod event;
 mod exec;
 mod executing;
