@@ -8,5 +8,6 @@ mod Bounds
 mod Taken
 mod Takes
 mod Writes
+mod Stores
 mod Cleaned
 mod Instructions

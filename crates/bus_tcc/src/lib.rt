@@ -11,6 +11,7 @@ mod exec;
 mod executing;
 mod readers;
 mod stepping;
+mod storing;
 mod system;
 mod take;
 mod taking;

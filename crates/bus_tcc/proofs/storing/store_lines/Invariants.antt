@@ -1,0 +1,9 @@
+-- The lines from the last one on are stored.
+use Rattle.bus_tcc.proofs.Stores.{StoredFrom}
+use Rattle.bus_tcc.proofs.storing.store_lines.Given as goal
+
+abbrev pub invariant-loop-left : goal.invariant-loop-left
+invariant-loop-left l = StoredFrom l.lines l.left l.fn.ram l.ram
+
+abbrev pub decreases-loop-left : goal.decreases-loop-left
+decreases-loop-left l = l.left
