@@ -4,7 +4,6 @@
 
 mod bank;
 mod bus;
-mod choosing;
 mod cleaning;
 mod event;
 mod exec;

@@ -1,1 +1,0 @@
-// Which events are enabled and useful.
