@@ -1,11 +1,10 @@
 -- A bank of cores, one of which is read or acts.
-use Rattle.std.proofs.Common.{◌≡◌, ◌≢◌, ℕ, ◌+◌, ◌<◌, ◌≤◌, Bool, List, length, get_or, inl, inr, Option, Some, None, Result, Ok, Err, OnOk, OnErr, refl, ap, sym, ◌∙◌, subst, arith}
+use Rattle.std.proofs.Common.{◌≡◌, ℕ, ◌+◌, ◌<◌, Bool, List, length, get_or, inl, inr, Option, Some, None, Result, Ok, Err, OnOk, OnErr, ap, sym, ◌∙◌, subst, arith}
 use Rattle.std.specs.Prelude.{IfOk, slice_get, slice_set}
 use Rattle.std.proofs.lemmas.Bool.{cases_eq}
 use Rattle.std.proofs.lemmas.Option.{slice_get_read}
-use Rattle.image_load.specs.Contents.{Contents}
 use Rattle.tcc_base.specs.Put.{put}
-use Rattle.tcc_base.specs.Settings.{Settings, IsAllowed}
+use Rattle.tcc_base.specs.Settings.{Settings}
 use Rattle.tcc_rules.specs.Attempt.{Out}
 use Rattle.tcc_rules.specs.State.{CoreState}
 use Rattle.tcc_msg.specs.declared.outgoing.Outgoing.{Outgoing}
@@ -15,7 +14,6 @@ use Rattle.core_node.specs.View.{core_of}
 use Rattle.core_node.specs.declared.state.Core.{Core}
 use Rattle.core_bank.proofs.Lemmas.{cores-at, cores-put, cores-with, put-same}
 use Rattle.core_bank.specs.Bank.{CoresData, cores_of}
-use Rattle.core_bank.specs.BankInside.{AreCores}
 use Rattle.bus_rules.specs.Exec.{instruction}
 use Rattle.image_load.specs.Contents.{started}
 use Rattle.rv_code.specs.Machine.{program}

@@ -1,16 +1,14 @@
 -- The machine after an event.
-use Rattle.std.proofs.Common.{◌≡◌, ◌≢◌, ℕ, ◌+◌, ◌<◌, Bool, true, false, ◌&&◌, List, length, Option, Some, None, refl, ap, sym, ◌∙◌, subst, arith}
+use Rattle.std.proofs.Common.{◌≡◌, ◌≢◌, ℕ, ◌+◌, ◌<◌, Bool, true, false, ◌&&◌, length, Option, Some, None, refl, ap, sym, ◌∙◌, subst, arith}
 use Rattle.std.specs.Prelude.{nat_lt, if◌then◌else◌, Contains, Err}
-use Rattle.std.specs.Option.{option_map}
 use Rattle.std.proofs.lemmas.Bool.{lt-ltb}
 use Rattle.std.proofs.lemmas.Bool.Decides.{nat_tests}
-use Rattle.tcc_base.specs.Put.{put}
 use Rattle.tcc_base.specs.Settings.{Settings}
 use Rattle.tcc_rules.specs.Attempt.{Out}
 use Rattle.tcc_rules.specs.CoreEvict.{core_evict}
 use Rattle.bus_rules.specs.Commit.{BusStepped}
 use Rattle.bus_rules.specs.Exec.{moved}
-use Rattle.bus_rules.specs.State.{BusEvent, BusWorld, Exec, Evict, Take}
+use Rattle.bus_rules.specs.State.{BusEvent, BusWorld, Evict}
 use Rattle.bus_rules.specs.Step.{and_noted, bus_names, bus_next, bus_step, evicted, recorded}
 use Rattle.core_bank.specs.Bank.{CoresData, cores_of}
 use Rattle.core_node.specs.Answers.{IsBlocked}

@@ -1,8 +1,6 @@
 -- An instruction with its line at hand, and what the machine is after it.
-use Rattle.std.proofs.Common.{◌≡◌, ◌≢◌, ℕ, ◌+◌, ◌<◌, ◌≤◌, Bool, true, false, not, ◌&&◌, List, length, Option, Some, None, Result, Ok, Err, OnOk, OnErr, refl, ap, sym, ◌∙◌, subst, arith}
+use Rattle.std.proofs.Common.{◌≡◌, ◌≢◌, ℕ, ◌+◌, ◌<◌, Bool, true, false, not, ◌&&◌, List, length, Option, Some, None, Err, refl, ap, sym, ◌∙◌, subst}
 use Rattle.std.specs.Prelude.{if◌then◌else◌, Contains}
-use Rattle.image_load.specs.Contents.{started}
-use Rattle.rv_code.specs.Machine.{program}
 use Rattle.tcc_base.specs.Put.{put}
 use Rattle.tcc_maps.specs.Shape.{Shape}
 use Rattle.tcc_program.specs.Program.{Program}
@@ -15,7 +13,7 @@ use Rattle.core_node.specs.AtHand.{Leaves, exec_with, executes, goes_alone, line
 use Rattle.core_node.specs.Executing.{overflows}
 use Rattle.bus_rules.specs.Commit.{BusStepped}
 use Rattle.bus_rules.specs.Exec.{executed, goes_on, gone_alone, if_executed, instruction, line_words, moved, when_free, with_line}
-use Rattle.bus_rules.specs.State.{Bus, BusEvent, BusWorld, Exec, Free, Alone, Packet}
+use Rattle.bus_rules.specs.State.{Bus, BusWorld, Exec, Free, Alone, Packet}
 use Rattle.bus_tcc.specs.Bank.{Executed, ExecutedAt, gone_if}
 use Rattle.core_node.specs.declared.delivering.CoreError.{CoreError}
 use Rattle.core_node.specs.declared.delivering.CoreError.TheVariants as core_error

@@ -1,5 +1,5 @@
 -- The first machine is that of the rules' start.
-use Rattle.std.proofs.Common.{◌≡◌, ℕ, zero, suc, ◌+◌, ◌/◌, ◌%◌, ◌<◌, ◌≤◌, Bool, true, false, if◌then◌else◌, inl, inr, List, [], ◌∷◌, ◌++◌, length-append, length, get_or, Some, None, refl, ap, sym, ◌∙◌, subst, arith}
+use Rattle.std.proofs.Common.{◌≡◌, ℕ, zero, suc, ◌+◌, ◌/◌, ◌%◌, ◌<◌, ◌≤◌, Bool, true, false, if◌then◌else◌, inl, inr, List, [], ◌∷◌, ◌++◌, length-append, length, get_or, Some, refl, ap, sym, ◌∙◌, subst, arith}
 use Rattle.std.specs.Prelude.{Contains, nat_lt}
 use Rattle.std.proofs.lemmas.Bool.{cases_lt}
 use Rattle.std.proofs.lemmas.Bool.Decides.{nat_tests}
@@ -7,11 +7,11 @@ use Rattle.tcc_base.specs.declared.access.Commit.{Commit}
 use Rattle.image_load.specs.Contents.{Contents, started}
 use Rattle.rv_code.specs.Machine.{first_ram}
 use Rattle.tcc_base.specs.Settings.{IsAllowed}
-use Rattle.bus_rules.specs.State.{Free as NoneHas, bus_start}
+use Rattle.bus_rules.specs.State.{bus_start}
 use Rattle.bus_rules.specs.Step.{bus_from, bus_run}
 use Rattle.bus_serial.specs.Given.{bus_at_start}
 use Rattle.core_bank.specs.Bank.{cores_of, first_core}
-use Rattle.bus_tcc.specs.Machine.{BusMachine, bus_history_of, bus_of, bus_settings_of, bus_start_of, bus_world_of, word_in}
+use Rattle.bus_tcc.specs.Machine.{BusMachine, bus_history_of, bus_of, bus_start_of, bus_world_of}
 use Rattle.bus_tcc.specs.Whole.{BusReached, IsBusWhole}
 use Rattle.bus_tcc.specs.declared.bus.Bus.TheVariants.{Free}
 

@@ -1,6 +1,6 @@
 -- Words that go to memory.
-use Rattle.std.proofs.Common.{◌≡◌, ℕ, zero, suc, ◌+◌, ◌*◌, ◌<◌, ◌≤◌, ◌/◌, ◌%◌, Bool, true, false, ◌&&◌, List, [], ◌∷◌, get_or, drop, length, Option, Some, None}
-use Rattle.std.proofs.Common.{inl, inr, refl, ap, sym, ◌∙◌, subst, arith}
+use Rattle.std.proofs.Common.{◌≡◌, ℕ, zero, suc, ◌+◌, ◌*◌, ◌<◌, ◌≤◌, Bool, true, false, ◌&&◌, List, [], ◌∷◌, get_or, drop, length, Option, Some}
+use Rattle.std.proofs.Common.{inl, inr, refl, ap, sym, ◌∙◌, arith}
 use Rattle.std.specs.Prelude.{◌==◌, nat_lt, slice_set, unwrap_or, if◌then◌else◌}
 use Rattle.std.proofs.lemmas.Bool.{cases_eq}
 use Rattle.std.proofs.lemmas.Bool.Decides.{nat_tests}
@@ -14,7 +14,6 @@ use Rattle.tcc_maps.specs.Words.{line_of, place_of}
 use Rattle.bus_rules.specs.Commit.{with_words}
 use Rattle.core_node.specs.AtHand.{words_in}
 use Rattle.bus_tcc.specs.Machine.{word_in}
-use Rattle.bus_tcc.specs.Storing.{AreInside}
 
 -- the first k words of a line have gone to memory
 pub record Stored (t : Tagged) (k : ℕ) (old now : List ℕ) : Type 0 where

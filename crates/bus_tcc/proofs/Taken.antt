@@ -1,5 +1,5 @@
 -- A packet is taken line by line.
-use Rattle.std.proofs.Common.{◌≡◌, ℕ, ◌+◌, ◌*◌, ◌<◌, ◌≤◌, ◌⊎◌, inl, inr, ◌/◌, ◌%◌, Bool, true, false, not, ◌||◌, ◌&&◌, if◌then◌else◌, List, [], ◌∷◌, get_or, drop, length, suc, Option, Some, None, is_some}
+use Rattle.std.proofs.Common.{◌≡◌, ℕ, ◌+◌, ◌<◌, ◌≤◌, ◌⊎◌, inl, inr, Bool, true, false, not, ◌||◌, ◌&&◌, if◌then◌else◌, List, [], ◌∷◌, get_or, drop, length, suc, Option, Some, None, is_some}
 use Rattle.std.proofs.Common.{refl, ap, sym, ◌∙◌, subst, arith}
 use Rattle.std.specs.Prelude.{◌==◌}
 use Rattle.std.proofs.Math.ListN.{drop_of_length-le}
@@ -10,9 +10,9 @@ use Rattle.tcc_maps.proofs.Lemmas.{any_below-at, any_below-found}
 use Rattle.tcc_maps.specs.Cache.{Cache}
 use Rattle.tcc_maps.specs.CacheChange.{invalidated, rolled_back}
 use Rattle.tcc_maps.specs.CacheLook.{reads_masked}
-use Rattle.tcc_maps.specs.Masks.{has, hit}
+use Rattle.tcc_maps.specs.Masks.{hit}
 use Rattle.tcc_maps.specs.Shape.{Shape, lines}
-use Rattle.tcc_maps.specs.Words.{any_below, any_word, line_of, place_of, word_at}
+use Rattle.tcc_maps.specs.Words.{any_word, line_of, place_of, word_at}
 use Rattle.tcc_rules.specs.Attempt.{roll_back}
 use Rattle.tcc_rules.specs.CoreDeliver.{without}
 use Rattle.tcc_rules.specs.State.{CoreState, Running}
@@ -181,11 +181,11 @@ reads-same : (sh : Shape) (ts : List Tagged) (c : Cache) → InMemory sh ts → 
 unfolding reads_some any_word
 reads-same sh ts c mem = same-truth (reads_any ts c) _
     (λ e. let r = reads-found ts c e in
-        any_below-at (any_word (λ w. is_some (words_in ts w) && c.read w)) (lines sh) (line_of r.0) (mem r.0 r.1)
-        (any-at (λ w. is_some (words_in ts w) && c.read w) r.0 (and-both _ _ r.1 r.2)))
+    any_below-at (any_word (λ w. is_some (words_in ts w) && c.read w)) (lines sh) (line_of r.0) (mem r.0 r.1)
+    (any-at (λ w. is_some (words_in ts w) && c.read w) r.0 (and-both _ _ r.1 r.2)))
     (λ e. let l = any_below-found (any_word (λ w. is_some (words_in ts w) && c.read w)) (lines sh) e in
-        let k = any_below-found (λ k. is_some (words_in ts (word_at l.0 k)) && c.read (word_at l.0 k)) 8 l.2 in
-        reads-there ts c (word_at l.0 k.0) (and-left _ _ k.2) (and-right _ _ k.2))
+    let k = any_below-found (λ k. is_some (words_in ts (word_at l.0 k)) && c.read (word_at l.0 k)) 8 l.2 in
+    reads-there ts c (word_at l.0 k.0) (and-left _ _ k.2) (and-right _ _ k.2))
 
 pub took-taken : (sh : Shape) (ts : List Tagged) (s : CoreState) → IsClean s → InMemory sh ts → took ts s ≡ taken sh (words_in ts) s
 unfolding taken

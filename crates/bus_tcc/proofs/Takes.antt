@@ -7,7 +7,6 @@ use Rattle.tcc_base.specs.Put.{put}
 use Rattle.tcc_base.specs.declared.access.Tagged.{Tagged}
 use Rattle.tcc_maps.specs.Shape.{Shape, lines}
 use Rattle.tcc_maps.specs.Words.{line_of}
-use Rattle.tcc_rules.specs.State.{CoreState}
 use Rattle.bus_rules.specs.Commit.{BusStepped}
 use Rattle.bus_rules.specs.State.{Bus, BusWorld, Take, Free, Alone, Packet}
 use Rattle.bus_rules.specs.Step.{bus_names, bus_step}

@@ -1,5 +1,5 @@
 -- The lines that an attempt has written, as its words.
-use Rattle.std.proofs.Common.{◌≡◌, ℕ, zero, suc, ◌+◌, ◌*◌, ◌<◌, ◌≤◌, ◌/◌, ◌%◌, Bool, true, false, ◌||◌, ◌&&◌, List, [], ◌∷◌, ◌++◌, map, get_or, Option, Some, None, is_some}
+use Rattle.std.proofs.Common.{◌≡◌, ℕ, zero, suc, ◌<◌, Bool, true, false, ◌||◌, List, [], ◌∷◌, ◌++◌, map, get_or, Option, Some, None, is_some}
 use Rattle.std.proofs.Common.{inl, inr, refl, ap, sym, ◌∙◌, subst, arith}
 use Rattle.std.specs.Prelude.{◌==◌, cond, nat_lt, unwrap_or, if◌then◌else◌}
 use Rattle.std.proofs.lemmas.List.{map-append}
@@ -7,10 +7,10 @@ use Rattle.std.proofs.lemmas.Bool.{cases_eq}
 use Rattle.std.proofs.lemmas.Bool.Decides.{nat_tests}
 use Rattle.tcc_base.specs.declared.access.Tagged.{Tagged}
 use Rattle.tcc_maps.proofs.Lemmas.{has-mask_of}
-use Rattle.tcc_maps.specs.Cache.{Cache, is_modified}
-use Rattle.tcc_maps.specs.Masks.{has, hit, mask_of}
+use Rattle.tcc_maps.specs.Cache.{is_modified}
+use Rattle.tcc_maps.specs.Masks.{hit}
 use Rattle.tcc_maps.specs.Shape.{Shape, lines}
-use Rattle.tcc_maps.specs.Spilled.{Spilled, holds}
+use Rattle.tcc_maps.specs.Spilled.{holds}
 use Rattle.tcc_maps.specs.Words.{any_word, eight, line_of, or_else, place_of, those, word_at}
 use Rattle.tcc_rules.specs.Commit.{is_written, written_mask}
 use Rattle.tcc_rules.specs.State.{CoreState}

@@ -1,5 +1,5 @@
 -- What the calls that take events answer.
-use Rattle.std.specs.Prelude.{ℕ, ◌+◌, ◌≡◌, ◌≢◌, Option, Some, None, option_map, Result, Ok, Err}
+use Rattle.std.specs.Prelude.{◌+◌, ◌≡◌, ◌≢◌, Option, Some, None, option_map, Result, Ok, Err}
 use Rattle.tcc_base.specs.declared.names.Tid.{Tid}
 use Rattle.bus_rules.specs.Commit.{BusStepped}
 use Rattle.bus_rules.specs.State.{BusEvent}

@@ -1,5 +1,5 @@
 -- An instruction of a core.
-use Rattle.std.proofs.Common.{◌≢◌, Bool, None, Err, ◌∙◌, ap, sym, subst}
+use Rattle.std.proofs.Common.{◌≢◌, Bool, None, Err, subst}
 use Rattle.image_load.specs.Contents.{started}
 use Rattle.rv_code.specs.Machine.{program}
 use Rattle.core_node.specs.Answers.{IsBlocked}

@@ -1,5 +1,5 @@
 -- All lines are stored.
-use Rattle.std.proofs.Common.{◌≡◌, ◌+◌, ◌-◌, ◌<◌, ◌≤◌, [], length, subst, arith}
+use Rattle.std.proofs.Common.{◌≡◌, ◌+◌, ◌-◌, ◌<◌, [], length, subst, arith}
 use Rattle.tcc_base.specs.declared.access.Tagged.{Tagged}
 use Rattle.bus_tcc.proofs.Stores.{StoredFrom, from-first, from-last, from-next}
 use Rattle.bus_tcc.proofs.storing.store_lines.Goals as goal

@@ -1,5 +1,5 @@
 -- A core executes.
-use Rattle.std.proofs.Common.{◌≡◌, Bool, true, false, refl, sym, subst, Err}
+use Rattle.std.proofs.Common.{Bool, true, false, refl, sym, subst, Err}
 use Rattle.bus_rules.specs.Exec.{instruction}
 use Rattle.bus_rules.specs.State.{Exec}
 use Rattle.core_bank.specs.Bank.{cores_of}
@@ -67,7 +67,7 @@ returns-in-Err c =
     (subst (λ r. Answers m k (Exec n) (Err r)) (sym c.refusal.ensures)
     (refused-execution Bool m k n c.in-Err.error (instruction_of m n) (stays c)
     (subst (λ ws. IsBlocked {A = Bool} (Err c.in-Err.error)
-        (instruction (bus_settings_of m) (bus_program_of m) (word_in ws) n (cores_of (bank_in m) n))) c.words_of.ensures c.in-Err.ensures.blocked)
+    (instruction (bus_settings_of m) (bus_program_of m) (word_in ws) n (cores_of (bank_in m) n))) c.words_of.ensures c.in-Err.ensures.blocked)
     a.goes_on (free-where m n c.self.invariant a.exists a.runs b)))
 
 -- ---- an execution
@@ -94,7 +94,7 @@ took c =
     let b = barred-as m c.args.self.now n c.is_barred.result false c.self.view_is c.is_barred.ensures c.if-is_barred.false in
     executed-took m (after c) n c.in-Ok.alone (instruction_of m n) (executed c) a.goes_on
     (subst (λ ws. ExecutedAt c.in-Ok.alone m.next
-        (instruction (bus_settings_of m) (bus_program_of m) (word_in ws) n (cores_of (bank_in m) n)) n (bank_in m) (bank_in (after c)))
+    (instruction (bus_settings_of m) (bus_program_of m) (word_in ws) n (cores_of (bank_in m) n)) n (bank_in m) (bank_in (after c)))
     c.words_of.ensures c.in-Ok.ensures.does)
     (free-where m n c.self.invariant a.exists a.runs b)
 

@@ -12,4 +12,4 @@ unfolding bus_world_of
 returns c =
     c.is_barred_by.ensures ∙ (λ i. not (c.is_free.ensures i) && c.overflows.ensures i)
     ∙ ap (λ m. not (is_free (bus_of m.bus))
-        && goes_alone (core_exec (bus_settings_of m) (bus_program_of m) c.args.core.0 (cores_of (bank_in m) c.args.core.0))) c.self.view_is
+    && goes_alone (core_exec (bus_settings_of m) (bus_program_of m) c.args.core.0 (cores_of (bank_in m) c.args.core.0))) c.self.view_is

@@ -1,5 +1,5 @@
 -- The first machine.
-use Rattle.std.proofs.Common.{refl, ap, ◌∙◌, subst}
+use Rattle.std.proofs.Common.{refl, ap, ◌∙◌}
 use Rattle.image_load.specs.Contents.{started}
 use Rattle.core_bank.specs.Bank.{first_core}
 use Rattle.bus_tcc.specs.Machine.{BusMachine}
