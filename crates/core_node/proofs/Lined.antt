@@ -1,6 +1,6 @@
 -- An instruction that asks for a line, and is executed again once the line has come; and one that asks for none.
 use Rattle.std.proofs.Common.{◌≡◌, ◌≢◌, ℕ, Bool, true, false, not, is_some, ◌||◌, ◌&&◌, if◌then◌else◌, Option, Some, None, Result, Ok, Err, OnOk, OnErr, List, refl, ap, subst, sym, ◌∙◌, arith}
-use Rattle.std.specs.Prelude.{◌==◌, get_or, unwrap_or}
+use Rattle.std.specs.Prelude.{◌==◌, get_or}
 use Rattle.std.proofs.lemmas.Bool.Decides.{nat_tests}
 use Rattle.tcc_base.specs.declared.access.Size.{Size}
 use Rattle.tcc_base.specs.declared.access.Size.TheVariants.{Byte, Half, Word}
@@ -19,7 +19,7 @@ use Rattle.tcc_program.specs.Program.{Need, Nothing, Loads, Stores, Changes, Pri
 use Rattle.tcc_program.specs.Ram.{word_of}
 use Rattle.tcc_maps.specs.Cache.{Cache, free_way, all_marked}
 use Rattle.tcc_maps.specs.CacheChange.{filled, marked, placed, placed_at}
-use Rattle.tcc_maps.specs.CacheLook.{Look, Hit, Miss, NeedsRoom, Overflow, look_line, look_load, look_value}
+use Rattle.tcc_maps.specs.CacheLook.{Look, Miss, NeedsRoom, Overflow, look_line, look_load, look_value}
 use Rattle.tcc_maps.specs.Shape.{Shape, set_of}
 use Rattle.tcc_maps.specs.Spilled.{holds}
 use Rattle.tcc_maps.specs.Words.{line_of, place_of}
@@ -29,9 +29,9 @@ use Rattle.tcc_rules.specs.CoreDeliver.{fill}
 use Rattle.tcc_rules.specs.CoreExec.{core_exec, exec_phase, unless_awaiting}
 use Rattle.tcc_rules.specs.Execute.{ask, fetch, full_set, load, load_spilled, load_valid, overflow, place, used, buffered, framed}
 use Rattle.tcc_rules.specs.Execute.{word_store, partial_store, change_spilled, change_valid, also_read, close, execute, execute_need}
-use Rattle.tcc_rules.specs.Sends.{Sends, nothing}
+use Rattle.tcc_rules.specs.Sends.{Sends}
 use Rattle.tcc_rules.specs.State.{CoreState, Awaited, Phase, Running, AwaitTid, DoomedTid, Probing, Ready, Overflowing as Overflows, Solo, Halted}
-use Rattle.core_node.specs.AtHand.{Leaves, changed, exec_with, executes, lacking, lined, need_lacks, with_awaited, word_lacks}
+use Rattle.core_node.specs.AtHand.{Leaves, changed, exec_with, executes, lined, need_lacks, with_awaited, word_lacks}
 use Rattle.core_node.specs.Answers.{IsBlocked, IsMemory}
 use Rattle.core_node.specs.declared.delivering.CoreError.{CoreError}
 use Rattle.core_node.specs.declared.delivering.CoreError.TheVariants.{Blocked, Memory}

@@ -1,8 +1,8 @@
-use Rattle.std.proofs.Common.{is_some, refl, ap, sym, ◌∙◌}
+use Rattle.std.proofs.Common.{ap, sym, ◌∙◌}
 use Rattle.tcc_maps.specs.Spilled.{holds}
 use Rattle.tcc_maps.specs.Words.{line_of, place_of}
 use Rattle.std.specs.Prelude.{get_or}
-use Rattle.tcc_rules.specs.Execute.{also_read, buffered, framed}
+use Rattle.tcc_rules.specs.Execute.{buffered, framed}
 use Rattle.tcc_rules.specs.Attempt.{finished, new_word}
 use Rattle.tcc_rules.specs.State.{CoreState}
 use Rattle.rv_exec.specs.Needs.{need_of}

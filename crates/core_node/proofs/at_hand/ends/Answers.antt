@@ -1,4 +1,4 @@
-use Rattle.std.proofs.Common.{true, ap, ◌∙◌, sym}
+use Rattle.std.proofs.Common.{ap, ◌∙◌, sym}
 use Rattle.image_load.specs.Contents.{started}
 use Rattle.core_node.specs.AtHand.{ends_by}
 use Rattle.core_node.proofs.at_hand.ends.Goals as goal

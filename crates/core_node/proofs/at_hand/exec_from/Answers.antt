@@ -1,4 +1,4 @@
-use Rattle.std.proofs.Common.{◌≡◌, None, Some, refl, ap, sym, ◌∙◌, subst, OnOk}
+use Rattle.std.proofs.Common.{ap, sym, ◌∙◌, subst, OnOk}
 use Rattle.image_load.specs.Contents.{started}
 use Rattle.rv_code.specs.Machine.{program}
 use Rattle.rv_code.specs.Served.{IsServed}

@@ -1,6 +1,4 @@
-use Rattle.std.proofs.Common.{◌≡◌, Result, Ok, Err, OnOk}
 use Rattle.rv_plain.specs.Attempts.{alone}
-use Rattle.core_node.specs.AtHand.{Leaves}
 use Rattle.core_node.specs.View.{core_of}
 use Rattle.core_node.proofs.Lined.{change-leaves, lacking-goes-on, lacking-word, load-leaves, on-ok, served-aligned}
 use Rattle.core_node.proofs.at_hand.execute_with_line.Goals as goal

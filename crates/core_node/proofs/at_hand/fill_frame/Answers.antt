@@ -1,6 +1,5 @@
-use Rattle.std.proofs.Common.{true, false, refl, ap, sym, ◌∙◌}
-use Rattle.tcc_maps.specs.Cache.{Cache}
-use Rattle.tcc_maps.specs.CacheChange.{filled, placed}
+use Rattle.std.proofs.Common.{ap, sym, ◌∙◌}
+use Rattle.tcc_maps.specs.CacheChange.{filled}
 use Rattle.tcc_rules.specs.Execute.{place}
 use Rattle.tcc_rules.specs.State.{CoreState}
 use Rattle.spec_cache.specs.Held.{maps}

@@ -9,4 +9,4 @@ returns c =
     let first : 8 * c.args.line.0 ≡ 8 * c.args.line.0 + 0 = omega arith in
     let zero = c.word_at.ensures ∙ ap (λ n. get_or c.args.ram.now n 0) first in
     λ i. zero i ∷ c.word_at-2.ensures i ∷ c.word_at-3.ensures i ∷ c.word_at-4.ensures i ∷ c.word_at-5.ensures i ∷ c.word_at-6.ensures i
-        ∷ c.word_at-7.ensures i ∷ c.word_at-8.ensures i ∷ []
+    ∷ c.word_at-7.ensures i ∷ c.word_at-8.ensures i ∷ []

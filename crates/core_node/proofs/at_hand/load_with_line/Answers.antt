@@ -1,4 +1,4 @@
-use Rattle.std.proofs.Common.{is_some, refl, ap, sym, ◌∙◌}
+use Rattle.std.proofs.Common.{is_some, refl, ap, ◌∙◌}
 use Rattle.tcc_maps.specs.Words.{line_of}
 use Rattle.tcc_rules.specs.Execute.{used}
 use Rattle.tcc_rules.specs.State.{CoreState}

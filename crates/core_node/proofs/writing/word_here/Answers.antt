@@ -1,4 +1,4 @@
-use Rattle.std.proofs.Common.{refl, ap, ◌∙◌, sym}
+use Rattle.std.proofs.Common.{refl}
 use Rattle.core_node.specs.View.{core_of}
 use Rattle.core_node.proofs.Loaded.{not_found, valid_hit}
 use Rattle.core_node.proofs.writing.word_here.Goals as goal

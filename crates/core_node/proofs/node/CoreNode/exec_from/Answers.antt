@@ -1,4 +1,4 @@
-use Rattle.std.proofs.Common.{◌≡◌, Option, Some, None, refl, ap, sym, ◌∙◌}
+use Rattle.std.proofs.Common.{◌≡◌, Option, Some, None, refl, ap, ◌∙◌}
 use Rattle.commit_engine.specs.Engine.{phase_of}
 use Rattle.core_node.specs.AtHand.{executes}
 use Rattle.core_node.specs.View.{awaited_of, core_of}
