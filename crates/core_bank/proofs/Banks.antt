@@ -44,7 +44,7 @@ cores-put b c x h = λ i j. (here j) i
       | inr n ↦ rw (ne_eqb j c n) (ap (core_or (first_core (started b.code) j)) (get-set_other b.cores c j x n))
     ]
 
-put-same : {A : Type 0} (f : ℕ → A) (c : ℕ) (x : A) → x ≡ f c → put f c x ≡ f
+pub put-same : {A : Type 0} (f : ℕ → A) (c : ℕ) (x : A) → x ≡ f c → put f c x ≡ f
 put-same f c x e = λ i j. (here j) i
   where
     here : (j : ℕ) → (if j == c then x else f j) ≡ f j
@@ -92,7 +92,7 @@ state-here b now c x h = sym (cores-at (bank_of b) c x (is_there b now c x h)) �
 abbrev pub with_core : (b : Inside) (c : ℕ) (x : Core) (execs evicts : List ℕ) → Inside
 with_core b c x es vs = record { code = b.code; cores = slice_set b.cores c x; execs = es; evicts = vs }
 
-cores-with : (s : Settings) (cs : List Core) (c : ℕ) (x : Core) → AreCores s cs → c < length cs → x.config ≡ s → x.id ≡ record { 0 = c }
+pub cores-with : (s : Settings) (cs : List Core) (c : ℕ) (x : Core) → AreCores s cs → c < length cs → x.config ≡ s → x.id ≡ record { 0 = c }
     → AreCores s (slice_set cs c x)
 cores-with s cs c x h l e n = record {
   count = length-set cs c x ∙ h.count;

@@ -52,7 +52,7 @@ pub(crate) fn recount(
 }
 
 /// All cores, at their entries.
-pub(crate) fn start_cores(alloc: Global, code: &Code) -> Result<List<CoreNode>, NoMemory>
+pub fn start_cores(alloc: Global, code: &Code) -> Result<List<CoreNode>, NoMemory>
     ensures cores { IfOk result (λ cs. AreCores code.now.settings cs) }
     ensures start { IfOk result (λ cs. cores_of (record { code = code.now; cores = cs }) ≡ first_core (started code.now)) }
 {

@@ -10,3 +10,4 @@ mod reading;
 mod tests;
 
 pub use bank::CoreBank;
+pub use counting::start_cores;

@@ -1,2 +1,4 @@
--- What other crates may cite: the useful events of a machine's cores are those of each core.
+-- What other crates may cite: the useful events of a machine's cores are those of each core, and an execution with its line at hand makes
+-- the core wait to go on alone where one without does.
 pub use Rattle.core_node.proofs.Worlds.{useful-evicts, useful-execs}
+pub use Rattle.core_node.proofs.AloneWith.{alone-with}

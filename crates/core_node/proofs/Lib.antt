@@ -1,3 +1,4 @@
+pub mod AloneWith
 pub mod Asked
 pub mod AtOnce
 pub mod Blocked
@@ -13,9 +14,11 @@ pub mod Fetches
 pub mod Finished
 pub mod Handed
 pub mod Lemmas
+pub mod Lined
 pub mod Listed
 pub mod Loaded
 pub mod Needed
+pub mod Overflows
 pub mod Placed
 pub mod Programs
 pub mod Rooms
@@ -24,3 +27,4 @@ pub mod Stored
 pub mod Unnoted
 pub mod Used
 pub mod Worlds
+pub mod Written

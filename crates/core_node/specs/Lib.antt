@@ -3,3 +3,4 @@ pub mod Answers
 pub mod Executing
 pub mod Waiting
 pub mod Useful
+pub mod AtHand

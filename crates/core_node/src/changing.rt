@@ -53,7 +53,7 @@ pub(crate) fn new_word(need: Need, word: u32) -> u32
 }
 
 /// The instruction, which found `word`, is done, and its new value goes into the overflow buffer.
-fn finish_buffered(
+pub(crate) fn finish_buffered(
     core: &mut Core,
     inst: &Inst,
     need: Need,
@@ -184,7 +184,7 @@ pub(crate) fn word_store(
 
 /// Whether a word that was found is read: not where it was modified before or the core is alone.
 #[tactic(auto, unfolding(crate::specs::View::core_of))]
-fn reads_too(core: &Core, w: WordAddr) -> bool
+pub(crate) fn reads_too(core: &Core, w: WordAddr) -> bool
     ensures { result ≡ also_read w.0 (core_of core.now) }
 {
     runs(core.phase) && !core.cache.is_modified(w)

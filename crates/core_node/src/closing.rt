@@ -29,7 +29,7 @@ use tcc_base::{Commit, LineAddr, Mask, NodeId, Tid};
 use tcc_msg::{Msg, Outgoing};
 
 /// All lines that the core has written, each with the mask of the words.
-fn solo_marks(core: &Core) -> Result<Vec<(LineAddr, Mask)>, CoreError>
+pub(crate) fn solo_marks(core: &Core) -> Result<Vec<(LineAddr, Mask)>, CoreError>
     ensures marks { IfOk result (λ v. map mark_of v.items ≡ solo_list core.now.config (maps core.now.cache) (words_of core.now.spilled)) }
     ensures cause { OnErr result (IsMemory result) }
 {

@@ -77,7 +77,11 @@ fn exec_unless_awaiting(
 }
 
 /// The commit of a transaction whose directories all serve its TID.
-fn commit_ready(core: &mut Core, tid: Tid, out: &mut Outgoing) -> Result<Option<Commit>, CoreError>
+pub(crate) fn commit_ready(
+    core: &mut Core,
+    tid: Tid,
+    out: &mut Outgoing,
+) -> Result<Option<Commit>, CoreError>
     requires whole { IsCore core.old }
     ensures does { OnOk result (Happened (Some (commit_rule core.old.config core.old.id.0 tid.0 (core_of core.old))) out.old core.new out.new) }
     ensures noted { IfOk result (λ c. Notes c (Some (commit_rule core.old.config core.old.id.0 tid.0 (core_of core.old)))) }

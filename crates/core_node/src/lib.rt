@@ -1,6 +1,8 @@
 // A core as a pure machine over messages: what it executes, evicts and answers, as the rules say.
 #![tactic(auto)]
 
+mod at_hand;
+mod bus;
 mod changing;
 mod closing;
 mod committing;
@@ -14,12 +16,14 @@ mod loading;
 mod messages;
 mod missing;
 mod node;
+mod overflowing;
 mod quick;
 mod rolling;
 mod state;
 mod storing;
 mod useful;
 mod waiting;
+mod writing;
 
 pub use delivering::CoreError;
 pub use exec::Executed;

@@ -94,7 +94,7 @@ pub(crate) fn staled(line: LineAddr, awaited: Option<Awaited>) -> Option<Awaited
 /// The masked words that aren't modified are dropped, and an awaited line becomes stale. Says whether a masked word was
 /// marked read.
 #[tactic(auto, unfolding(crate::specs::View::core_of, tcc_rules::specs::CoreDeliver::without, tcc_maps::specs::CacheChange::invalidated))]
-fn strike(core: &mut Core, line: LineAddr, mask: Mask) -> bool
+pub(crate) fn strike(core: &mut Core, line: LineAddr, mask: Mask) -> bool
     requires { IsCore core.old }
     ensures does { core_of core.new ≡ struck line.0 mask.0 (core_of core.old) }
     ensures read { result ≡ reads_masked line.0 mask.0 (maps core.old.cache) }

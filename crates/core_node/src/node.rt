@@ -41,7 +41,7 @@ use tcc_msg::{Msg, Outgoing};
 /// A core. Contracts speak of the state of the rules that it stands for.
 #[derive(Debug, Drop)]
 pub struct CoreNode {
-    core: Core,
+    pub(crate) core: Core,
 }
 
 impl Model for CoreNode {

@@ -1,0 +1,220 @@
+-- An instruction with its line at hand, and what the machine is after it.
+use Rattle.std.proofs.Common.{◌≡◌, ◌≢◌, ℕ, ◌+◌, ◌<◌, Bool, true, false, not, ◌&&◌, List, length, Option, Some, None, Err, refl, ap, sym, ◌∙◌, subst}
+use Rattle.std.specs.Prelude.{if◌then◌else◌, Contains}
+use Rattle.tcc_base.specs.Put.{put}
+use Rattle.tcc_maps.specs.Shape.{Shape}
+use Rattle.tcc_program.specs.Program.{Program}
+use Rattle.tcc_rules.specs.Attempt.{Out}
+use Rattle.tcc_rules.specs.CoreExec.{core_exec}
+use Rattle.tcc_rules.specs.State.{CoreState, Awaited, Phase, Running, AwaitTid, DoomedTid, Probing, Ready, Overflowing, Solo, Halted}
+use Rattle.core_node.proofs.Lemmas.{alone-with}
+use Rattle.core_node.specs.Answers.{IsBlocked}
+use Rattle.core_node.specs.AtHand.{Leaves, exec_with, executes, goes_alone, line_at, with_awaited}
+use Rattle.core_node.specs.Executing.{overflows}
+use Rattle.bus_rules.specs.Commit.{BusStepped}
+use Rattle.bus_rules.specs.Exec.{executed, goes_on, gone_alone, if_executed, instruction, line_words, moved, when_free, with_line}
+use Rattle.bus_rules.specs.State.{Bus, BusWorld, Exec, Free, Alone, Packet}
+use Rattle.bus_tcc.specs.Bank.{Executed, ExecutedAt, gone_if}
+use Rattle.core_node.specs.declared.delivering.CoreError.{CoreError}
+use Rattle.core_node.specs.declared.delivering.CoreError.TheVariants as core_error
+use Rattle.bus_tcc.specs.Answers.{Answers, Took, bus_step_of, refusal_of}
+use Rattle.bus_tcc.specs.Machine.{BusMachine, bus_of, bus_program_of, bus_settings_of, bus_world_of, is_free, word_in}
+use Rattle.core_bank.specs.Bank.{CoresData, cores_of}
+use Rattle.bus_tcc.specs.Inside.{machine_of}
+use Rattle.bus_tcc.specs.declared.bus.Bus.{Bus as CodeBus}
+use Rattle.bus_tcc.specs.declared.system.BusSystem.TheInside.{Inside}
+use Rattle.bus_tcc.specs.Whole.{IsBusWhole}
+use Rattle.bus_tcc.specs.declared.event.BusError.TheVariants.{Refused}
+use Rattle.bus_tcc.specs.declared.event.BusStep.TheVariants.{Moved}
+use Rattle.bus_tcc.proofs.Bounds.{core-bounded}
+use Rattle.bus_tcc.proofs.Events.{StaysBut, bank_in, stays-kept, took-by, took-whole, world-is}
+
+-- the rules' instruction is an execution with its line at hand
+pub as-instruction : (sh : Shape) (p : Program) (ws : List ℕ) (c : ℕ) (s : CoreState)
+    → exec_with sh p (line_at ws) c (core_exec sh p c s) ≡ instruction sh p (word_in ws) c s
+unfolding instruction line_words
+as-instruction sh p ws c s = by (core_exec sh p c s)
+  where
+    by_line : (o : Out) (a : Option Awaited) → with_awaited sh p (line_at ws) c o a ≡ with_line sh p (word_in ws) c o a
+    by_line o None = refl
+    by_line o (Some a) = refl
+
+    by : (o : Option Out) → exec_with sh p (line_at ws) c o ≡ if_executed sh p (word_in ws) c o
+    by None = refl
+    by (Some o) = by_line o o.core.awaited
+
+-- it makes a core wait to go on alone where an execution would
+pub instruction-alone : (sh : Shape) (p : Program) (ws : List ℕ) (c : ℕ) (s : CoreState) → executes s.phase ≡ true → s.awaited ≡ None
+    → goes_alone (instruction sh p (word_in ws) c s) ≡ goes_alone (core_exec sh p c s)
+instruction-alone sh p ws c s e a = ap goes_alone (sym (as-instruction sh p ws c s)) ∙ alone-with sh p (line_at ws) c s e a
+
+-- ---- what the rules make of it
+
+executed-moves : (w : BusWorld) (c : ℕ) (o : Out) (q : Phase) → overflows q ≡ false → executed w c o q ≡ Some (moved w c o.core)
+executed-moves w c o (Overflowing t) e = cc
+executed-moves w c o Running e = refl
+executed-moves w c o AwaitTid e = refl
+executed-moves w c o DoomedTid e = refl
+executed-moves w c o (Probing t) e = refl
+executed-moves w c o (Ready t) e = refl
+executed-moves w c o (Solo t) e = refl
+executed-moves w c o Halted e = refl
+
+-- the state in which a core has taken the bus
+abbrev pub taken_bus : BusWorld → (core : ℕ) → Out → BusStepped
+taken_bus w c o = record { world = record w { cores = put w.cores c (gone_alone w.next o.core); bus = Alone c }; noted = None }
+
+executed-takes : (w : BusWorld) (c : ℕ) (o : Out) (q : Phase) → overflows q ≡ true → executed w c o q ≡ when_free w.bus (taken_bus w c o)
+executed-takes w c o (Overflowing t) e = refl
+executed-takes w c o Running e = cc
+executed-takes w c o AwaitTid e = cc
+executed-takes w c o DoomedTid e = cc
+executed-takes w c o (Probing t) e = cc
+executed-takes w c o (Ready t) e = cc
+executed-takes w c o (Solo t) e = cc
+executed-takes w c o Halted e = cc
+
+free-so : {A : Type 0} → (b : Bus) (x : A) → is_free b ≡ true → when_free b x ≡ Some x
+free-so Free x e = refl
+free-so (Alone c) x e = cc
+free-so (Packet f left) x e = cc
+
+busy-so : {A : Type 0} → (b : Bus) (x : A) → is_free b ≡ false → when_free b x ≡ None
+busy-so Free x e = cc
+busy-so (Alone c) x e = refl
+busy-so (Packet f left) x e = refl
+
+-- a core that would take a bus that isn't free can't
+pub goes-barred : (w : BusWorld) (c : ℕ) (o : Option Out) → goes_alone o ≡ true → is_free w.bus ≡ false → goes_on w c o ≡ None
+goes-barred w c None e f = cc
+goes-barred w c (Some o) e f = executed-takes w c o o.core.phase e ∙ busy-so w.bus (taken_bus w c o) f
+
+pub goes-moves : (w : BusWorld) (c : ℕ) (o : Out) → overflows o.core.phase ≡ false → goes_on w c (Some o) ≡ Some (moved w c o.core)
+goes-moves w c o e = executed-moves w c o o.core.phase e
+
+pub goes-takes : (w : BusWorld) (c : ℕ) (o : Out) → overflows o.core.phase ≡ true → is_free w.bus ≡ true
+    → goes_on w c (Some o) ≡ Some (taken_bus w c o)
+goes-takes w c o e f = executed-takes w c o o.core.phase e ∙ free-so w.bus (taken_bus w c o) f
+
+goes-none : (w : BusWorld) (c : ℕ) (o : Option Out) → o ≡ None → goes_on w c o ≡ None
+goes-none w c o e = ap (goes_on w c) e
+
+-- ---- the machine after it
+
+-- the machine has executed an instruction of a core, which has gone alone or not
+pub record HasExecuted (m n : BusMachine) (c : ℕ) (alone : Bool) : Type 0 where
+  pub code : n.code ≡ m.code
+  pub ram : n.ram ≡ m.ram
+  pub next : n.next ≡ m.next
+  pub bus : bus_of n.bus ≡ (if alone then Alone c else bus_of m.bus)
+  pub commits : n.commits ≡ m.commits
+  pub events : n.events ≡ m.events + 1
+
+pub executed-took : (m n : BusMachine) (c : ℕ) (alone : Bool) (o : Option Out) → HasExecuted m n c alone
+    → bus_step_of m (Exec c) ≡ goes_on (bus_world_of m) c o → ExecutedAt alone m.next o c (bank_in m) (bank_in n)
+    → (goes_alone o ≡ true → is_free (bus_of m.bus) ≡ true) → Took m n (Exec c) Moved
+unfolding bus_world_of
+executed-took m n c alone None h is x free = absurd x
+executed-took m n c false (Some o) h is x free =
+    took-by m n (Exec c) (moved (bus_world_of m) c o.core) Moved (is ∙ goes-moves (bus_world_of m) c o (sym x.0))
+    (world-is n (moved (bus_world_of m) c o.core).world x.1 (ap word_in h.ram) h.next h.bus) h.commits refl h.events h.code
+executed-took m n c true (Some o) h is x free =
+    took-by m n (Exec c) (taken_bus (bus_world_of m) c o) Moved (is ∙ goes-takes (bus_world_of m) c o (sym x.0) (free (sym x.0)))
+    (world-is n (taken_bus (bus_world_of m) c o).world x.1 (ap word_in h.ram) h.next h.bus) h.commits refl h.events h.code
+
+pub executed-whole : (m n : BusMachine) (c : ℕ) (alone : Bool) → IsBusWhole m → HasExecuted m n c alone → Took m n (Exec c) Moved → IsBusWhole n
+executed-whole m n c alone w h k = took-whole m n (Exec c) Moved w k (ap length h.ram)
+    (λ d i. subst (λ t. d.tid.0 < t) (sym h.next) (w.noted d (subst (λ cs. Contains cs d) h.commits i)))
+
+-- ---- where it isn't enabled
+
+goes-some : (w : BusWorld) (c : ℕ) (o : Option Out) → o ≢ None → (goes_alone o ≡ true → is_free w.bus ≡ true) → goes_on w c o ≢ None
+goes-some w c None n free = absurd (n refl)
+goes-some w c (Some o) n free = by (overflows o.core.phase) refl
+  where
+    by : (b : Bool) → overflows o.core.phase ≡ b → goes_on w c (Some o) ≢ None
+    by false e = λ q. let is = sym (goes-moves w c o e) ∙ q in absurd (cc)
+    by true e = λ q. let is = sym (goes-takes w c o e (free e)) ∙ q in absurd (cc)
+
+pub refused-execution : (A : Type 0) (m n : BusMachine) (c : ℕ) (error : CoreError) (o : Option Out) → StaysBut m n
+    → IsBlocked {A = A} (Err error) o → bus_step_of m (Exec c) ≡ goes_on (bus_world_of m) c o
+    → (goes_alone o ≡ true → is_free (bus_of m.bus) ≡ true) → Answers m n (Exec c) (Err (refusal_of error))
+unfolding bus_world_of
+refused-execution A m n c core_error.Blocked o s b is free = (stays-kept m n s, is ∙ goes-none (bus_world_of m) c o b)
+refused-execution A m n c core_error.Memory o s b is free =
+    (stays-kept m n s, λ q. goes-some (bus_world_of m) c o b free (sym is ∙ q))
+
+pub barred-free : (f o : Bool) → (not f && o) ≡ false → o ≡ true → f ≡ true
+barred-free true o e q = refl
+barred-free false true e q = cc
+barred-free false false e q = cc
+
+pub barred-so : (f o : Bool) → (not f && o) ≡ true → (f ≡ false) × (o ≡ true)
+barred-so true o e = cc
+barred-so false true e = (refl, refl)
+barred-so false false e = cc
+
+abbrev pub after_execution : Inside → CoresData → CodeBus → BusMachine
+after_execution s b bus = record (machine_of s) { code = b.code; cores = b.cores; bus = bus; events = s.events + 1 }
+
+-- what a core has done that executed, and then went alone or not
+pub ran-so : (o p : Option Out) (t : ℕ) (alone : Bool) (mid new : CoreState) → o ≡ p → Leaves o mid → alone ≡ overflows mid.phase
+    → new ≡ gone_if alone t mid → Executed alone t p new
+ran-so o None t alone mid new e h a n = subst (λ q. Leaves q mid) e h
+ran-so o (Some q) t alone mid new e h a n =
+    let same : mid ≡ q.core = subst (λ y. Leaves y mid) e h in (a ∙ ap (λ s. overflows s.phase) same, n ∙ ap (gone_if alone t) same)
+
+-- whether a core would take a bus that isn't free
+abbrev pub barred : BusMachine → (core : ℕ) → Bool
+barred m c =
+    not (is_free (bus_of m.bus)) && goes_alone (core_exec (bus_settings_of m) (bus_program_of m) c (cores_of (bank_in m) c))
+
+-- an instruction of the machine
+abbrev pub instruction_of : BusMachine → (core : ℕ) → Option Out
+instruction_of m c = instruction (bus_settings_of m) (bus_program_of m) (word_in m.ram) c (cores_of (bank_in m) c)
+
+alone-so : (m : BusMachine) (c : ℕ) → IsBusWhole m → c < (bus_settings_of m).cores → executes (cores_of (bank_in m) c).phase ≡ true
+    → goes_alone (instruction_of m c) ≡ goes_alone (core_exec (bus_settings_of m) (bus_program_of m) c (cores_of (bank_in m) c))
+alone-so m c w l e =
+    instruction-alone (bus_settings_of m) (bus_program_of m) m.ram c (cores_of (bank_in m) c) e (core-bounded m w c l).awaited
+
+-- where it isn't barred the bus is free for one that takes it
+pub free-where : (m : BusMachine) (c : ℕ) → IsBusWhole m → c < (bus_settings_of m).cores → executes (cores_of (bank_in m) c).phase ≡ true
+    → barred m c ≡ false → goes_alone (instruction_of m c) ≡ true → is_free (bus_of m.bus) ≡ true
+free-where m c w l e b q = barred-free (is_free (bus_of m.bus)) _ b (sym (alone-so m c w l e) ∙ q)
+
+pub barred-where : (m : BusMachine) (c : ℕ) → IsBusWhole m → c < (bus_settings_of m).cores → executes (cores_of (bank_in m) c).phase ≡ true
+    → barred m c ≡ true → goes_on (bus_world_of m) c (instruction_of m c) ≡ None
+unfolding bus_world_of
+barred-where m c w l e b =
+    let q = barred-so (is_free (bus_of m.bus)) _ b in goes-barred (bus_world_of m) c _ (alone-so m c w l e ∙ q.1) q.0
+
+-- what is asked of a machine of which a core executes
+pub record Asked (m : BusMachine) (c : ℕ) : Type 0 where
+  pub few : m.events < 4194304
+  pub exists : c < (bus_settings_of m).cores
+  pub runs : executes (cores_of (bank_in m) c).phase ≡ true
+  pub goes_on : bus_step_of m (Exec c) ≡ goes_on (bus_world_of m) c (instruction_of m c)
+
+pub asked-of : (m : BusMachine) (c : ℕ) → m.events < 4194304 → c < (bus_settings_of m).cores
+    → executes ((bus_world_of m).cores c).phase ≡ true
+    → bus_step_of m (Exec c)
+    ≡ goes_on (bus_world_of m) c (instruction (bus_settings_of m) (bus_program_of m) (bus_world_of m).ram c ((bus_world_of m).cores c))
+    → Asked m c
+unfolding bus_world_of
+asked-of m c f l e g = record { few = f; exists = l; runs = e; goes_on = g }
+
+pub barred-answers : (m : BusMachine) (c : ℕ) → IsBusWhole m → Asked m c → barred m c ≡ true
+    → Answers m m (Exec c) (Err Refused)
+barred-answers m c w a b = (record { history = refl; events = refl; code = refl }, a.goes_on ∙ barred-where m c w a.exists a.runs b)
+
+barred-is : (m : BusMachine) (c : ℕ) (b : Bool)
+    → b ≡ (not (is_free (bus_world_of m).bus) && goes_alone (core_exec (bus_settings_of m) (bus_program_of m) c ((bus_world_of m).cores c)))
+    → b ≡ barred m c
+unfolding bus_world_of
+barred-is m c b e = e
+
+pub barred-as : (m n : BusMachine) (c : ℕ) (b d : Bool) → m ≡ n
+    → b ≡ (not (is_free (bus_world_of n).bus) && goes_alone (core_exec (bus_settings_of n) (bus_program_of n) c ((bus_world_of n).cores c)))
+    → b ≡ d → barred m c ≡ d
+barred-as m n c b d same e q = ap (λ x. barred x c) same ∙ sym (barred-is n c b e) ∙ q

@@ -1,0 +1,13 @@
+-- The proofs of this crate.
+pub mod Lemmas
+mod Banks
+mod Reaching
+mod Starting
+mod Events
+mod Bounds
+mod Taken
+mod Takes
+mod Writes
+mod Stores
+mod Cleaned
+mod Instructions

@@ -1,0 +1,10 @@
+-- What a core knows of lines once memory has them.
+use Rattle.std.specs.Prelude.{List, [], ◌∷◌}
+use Rattle.tcc_base.specs.declared.access.Tagged.{Tagged}
+use Rattle.tcc_maps.specs.CacheChange.{cleaned}
+use Rattle.tcc_rules.specs.State.{CoreState}
+
+-- none of their words is dirty
+unfoldable pub cleaned_by : List Tagged → CoreState → CoreState
+cleaned_by [] s = s
+cleaned_by (t ∷ ts) s = cleaned_by ts (record s { cache = cleaned t.line.0 s.cache })

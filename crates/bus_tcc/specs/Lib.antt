@@ -1,0 +1,12 @@
+-- What the contracts of this crate cite.
+pub mod Machine
+pub mod Bank
+pub mod BankInside
+pub mod Cleaning
+pub mod Left
+pub mod Storing
+pub mod Taking
+pub mod Whole
+pub mod Inside
+pub mod Answers
+pub mod Chosen

@@ -1,0 +1,65 @@
+// A core executes.
+ghost use Rattle.std.specs.Prelude.{◌≡◌, ◌<◌, ◌&&◌, not, true, if◌then◌else◌};
+ghost use Rattle.bus_rules.specs.Exec.{goes_on, instruction};
+ghost use Rattle.bus_rules.specs.State.{Alone, Exec};
+ghost use Rattle.core_node.specs.AtHand.{executes, goes_alone};
+ghost use Rattle.tcc_rules.specs.CoreExec.{core_exec};
+ghost use Rattle.bus_tcc.specs.Answers.{Answers, bus_step_of};
+ghost use Rattle.bus_tcc.specs.Machine.{bus_of, bus_program_of, bus_settings_of, bus_world_of, is_free};
+
+use crate::bus::Bus;
+use crate::event::{BusError, BusStep};
+use crate::readers::words_of;
+use crate::stepping::refusal;
+use crate::system::BusSystem;
+use tcc_base::CoreId;
+
+fn is_barred_by(free: bool, overflows: bool) -> bool
+    ensures { result ≡ (not free && overflows) }
+{
+    !free && overflows
+}
+
+/// A core that has gone alone has the bus.
+fn take_if(bus: &mut Bus, alone: bool, core: CoreId)
+    ensures { bus_of bus.new ≡ (if alone then Alone core.0 else bus_of bus.old) }
+{
+    if alone {
+        *bus = Bus::Alone(core);
+    }
+}
+
+impl BusSystem {
+    /// Whether a core would take the bus, and that isn't free.
+    fn is_barred(&self, core: CoreId) -> bool
+        requires { core.0 < (bus_settings_of self.now).cores }
+        ensures { result ≡ (not (is_free (bus_world_of self.now).bus) && goes_alone (core_exec (bus_settings_of self.now) (bus_program_of self.now) core.0 ((bus_world_of self.now).cores core.0))) }
+    {
+        is_barred_by(self.bus.is_free(), self.cores.overflows(core))
+    }
+
+    /// An instruction of a core that runs or is alone, and doesn't end a transaction alone.
+    pub(crate) fn execute(&mut self, core: CoreId) -> Result<BusStep, BusError>
+        requires few { self.old.events < 4194304 }
+        requires exists { core.0 < (bus_settings_of self.old).cores }
+        requires executes { executes ((bus_world_of self.old).cores core.0).phase ≡ true }
+        requires goes_on { bus_step_of self.old (Exec core.0) ≡ goes_on (bus_world_of self.old) core.0 (instruction (bus_settings_of self.old) (bus_program_of self.old) (bus_world_of self.old).ram core.0 ((bus_world_of self.old).cores core.0)) }
+        ensures { Answers self.old self.new (Exec core.0) result }
+    {
+        if self.is_barred(core) {
+            return Err(BusError::Refused);
+        }
+        self.out.clear();
+        match self
+            .cores
+            .execute(core, words_of(&self.ram), self.next, &mut self.out)
+        {
+            Err(error) => Err(refusal(error)),
+            Ok(alone) => {
+                take_if(&mut self.bus, alone, core);
+                self.events += 1;
+                Ok(BusStep::Moved)
+            }
+        }
+    }
+}

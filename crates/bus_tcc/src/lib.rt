@@ -1,0 +1,20 @@
+// The machine with one bus: cores, one memory, and a bus that an arbiter gives to one core at a time, as one object whose events are
+// taken one by one.
+#![tactic(auto)]
+
+mod bank;
+mod bus;
+mod cleaning;
+mod event;
+mod exec;
+mod executing;
+mod readers;
+mod stepping;
+mod storing;
+mod system;
+mod take;
+mod taking;
+
+pub use bus::{Bus, CoreSet, Packet};
+pub use event::{BusError, BusEvent, BusStep};
+pub use system::BusSystem;

@@ -1,0 +1,28 @@
+// A core takes the packet that is on the bus.
+ghost use Rattle.std.specs.Prelude.{◌<◌};
+ghost use Rattle.bus_rules.specs.State.{Take};
+ghost use Rattle.bus_tcc.specs.Answers.{Answers};
+
+use crate::event::{BusError, BusStep};
+use crate::system::BusSystem;
+use tcc_base::CoreId;
+
+impl BusSystem {
+    /// A core takes the packet.
+    pub(crate) fn take(&mut self, core: CoreId) -> Result<BusStep, BusError>
+        requires { self.old.events < 4194304 }
+        ensures { Answers self.old self.new (Take core.0) result }
+    {
+        let cores = self.config().cores();
+        if core.0 >= cores {
+            return Err(BusError::Refused);
+        }
+        if !self.bus.is_left(core) {
+            return Err(BusError::Refused);
+        }
+        self.cores.take(core, self.bus.lines());
+        self.bus.leave(core, cores);
+        self.events += 1;
+        Ok(BusStep::Moved)
+    }
+}

@@ -1,0 +1,7 @@
+use Rattle.std.proofs.Common.{sym, ◌∙◌}
+use Rattle.tcc_rules.specs.Commit.{commit}
+use Rattle.core_node.proofs.node.CoreNode.commit.Goals as goal
+
+pub unreachable-requires : goal.unreachable-requires
+unfolding commit
+unreachable-requires c = let none = sym c.in-None.is ∙ c.in_ok-commit.ensures.noted in cc
