@@ -1,5 +1,6 @@
 -- An instruction with its line at hand, and what the machine is after it.
-use Rattle.std.proofs.Common.{◌≡◌, ◌≢◌, ℕ, ◌+◌, ◌<◌, Bool, true, false, not, ◌&&◌, List, length, Option, Some, None, Err, refl, ap, sym, ◌∙◌, subst}
+use Rattle.std.proofs.Common.{◌≡◌, ◌≢◌, ℕ, ◌+◌, ◌<◌, Bool, true, false, not, ◌&&◌, List, length, Option, Some, None, Err, refl, ap, sym}
+use Rattle.std.proofs.Common.{◌∙◌, subst}
 use Rattle.std.specs.Prelude.{if◌then◌else◌, Contains}
 use Rattle.tcc_base.specs.Put.{put}
 use Rattle.tcc_maps.specs.Shape.{Shape}
@@ -122,7 +123,8 @@ executed-took m n c true (Some o) h is x free =
     took-by m n (Exec c) (taken_bus (bus_world_of m) c o) Moved (is ∙ goes-takes (bus_world_of m) c o (sym x.0) (free (sym x.0)))
     (world-is n (taken_bus (bus_world_of m) c o).world x.1 (ap word_in h.ram) h.next h.bus) h.commits refl h.events h.code
 
-pub executed-whole : (m n : BusMachine) (c : ℕ) (alone : Bool) → IsBusWhole m → HasExecuted m n c alone → Took m n (Exec c) Moved → IsBusWhole n
+pub executed-whole : (m n : BusMachine) (c : ℕ) (alone : Bool) → IsBusWhole m → HasExecuted m n c alone → Took m n (Exec c) Moved
+    → IsBusWhole n
 executed-whole m n c alone w h k = took-whole m n (Exec c) Moved w k (ap length h.ram)
     (λ d i. subst (λ t. d.tid.0 < t) (sym h.next) (w.noted d (subst (λ cs. Contains cs d) h.commits i)))
 

@@ -42,7 +42,8 @@ pub reached-on : (m n : BusMachine) (e : BusEvent) → BusReached m
 reached-on m n e r step count code = record {
   taken = r.taken ++ e ∷ [];
   count = one-longer r.taken e ∙ ap (λ k. k + 1) r.count ∙ sym count;
-  reaches = subst (λ c. bus_run c.settings (program (started c)) (bus_at_start (started c)).world (r.taken ++ e ∷ []) ≡ Some (bus_history_of n))
+  reaches = subst (λ c. bus_run c.settings (program (started c)) (bus_at_start (started c)).world (r.taken ++ e ∷ []) ≡ Some
+      (bus_history_of n))
       (sym code)
       (run-on (bus_settings_of m) (bus_program_of m) (bus_at_start (bus_start_of m)).world r.taken e (bus_history_of m) r.reaches ∙ step);
 }
@@ -53,6 +54,7 @@ pub reached-same : (m n : BusMachine) → BusReached m → bus_history_of n ≡ 
 reached-same m n r same count code = record {
   taken = r.taken;
   count = r.count ∙ sym count;
-  reaches = subst (λ c. bus_run c.settings (program (started c)) (bus_at_start (started c)).world r.taken ≡ Some (bus_history_of n)) (sym code)
+  reaches = subst (λ c. bus_run c.settings (program (started c)) (bus_at_start (started c)).world r.taken ≡ Some (bus_history_of n)) (sym
+      code)
       (r.reaches ∙ ap (λ h. Some h) (sym same));
 }

@@ -1,5 +1,6 @@
 -- Words that go to memory.
-use Rattle.std.proofs.Common.{◌≡◌, ℕ, zero, suc, ◌+◌, ◌*◌, ◌<◌, ◌≤◌, Bool, true, false, ◌&&◌, List, [], ◌∷◌, get_or, drop, length, Option, Some}
+use Rattle.std.proofs.Common.{◌≡◌, ℕ, zero, suc, ◌+◌, ◌*◌, ◌<◌, ◌≤◌, Bool, true, false, ◌&&◌, List, [], ◌∷◌, get_or, drop, length, Option}
+use Rattle.std.proofs.Common.{Some}
 use Rattle.std.proofs.Common.{inl, inr, refl, ap, sym, ◌∙◌, arith}
 use Rattle.std.specs.Prelude.{◌==◌, nat_lt, slice_set, unwrap_or, if◌then◌else◌}
 use Rattle.std.proofs.lemmas.Bool.{cases_eq}
@@ -94,7 +95,8 @@ stored-next t k x old now new false h l room d v e = record {
   where
     word : (w : ℕ) → (hit t.line.0 t.mask.0 w && nat_lt (place_of w) (k + 1)) ≡ (hit t.line.0 t.mask.0 w && nat_lt (place_of w) k)
     word w = elim (cases_eq w (8 * t.line.0 + k)) [
-      | inl q ↦ (let out : hit t.line.0 t.mask.0 w ≡ false = ap (hit t.line.0 t.mask.0) q ∙ hit-at t.line.0 t.mask.0 k l ∙ sym d in rw out refl)
+      | inl q ↦ (let out : hit t.line.0 t.mask.0 w ≡ false = ap (hit t.line.0 t.mask.0) q ∙ hit-at t.line.0 t.mask.0 k l
+          ∙ sym d in rw out refl)
       | inr n ↦ elsewhere t.line.0 t.mask.0 k w l n
     ]
 
@@ -116,7 +118,8 @@ pub record StoredFrom (ts : List Tagged) (i : ℕ) (old now : List ℕ) : Type 0
 
 pub from-last : (ts : List Tagged) (old : List ℕ) → StoredFrom ts (length ts) old old
 unfolding with_words words_in
-from-last ts old = record { count = refl; words = sym (ap (λ xs. with_words (words_in xs) (word_in old)) (drop_of_length-le ts (omega arith))) }
+from-last ts old = record { count = refl; words = sym (ap (λ xs. with_words (words_in xs) (word_in old)) (drop_of_length-le ts (omega
+    arith))) }
 
 unwrapped : (h : Bool) (x : ℕ) (o : Option ℕ) (r : ℕ) → (if h then x else unwrap_or o r) ≡ unwrap_or (if h then Some x else o) r
 unwrapped true x o r = refl
@@ -124,7 +127,8 @@ unwrapped false x o r = refl
 
 pub from-next : (ts : List Tagged) (i : ℕ) (d : Tagged) (old now new : List ℕ) → StoredFrom ts (i + 1) old now → i < length ts
     → length new ≡ length now
-    → ((w : ℕ) → get_or new w 0 ≡ (if hit (get_or ts i d).line.0 (get_or ts i d).mask.0 w then get_or (get_or ts i d).words (place_of w) 0 else get_or now w 0))
+    → ((w : ℕ) → get_or new w 0 ≡ (if hit (get_or ts i d).line.0 (get_or ts i d).mask.0 w then get_or (get_or ts i d).words (place_of w)
+        0 else get_or now w 0))
     → StoredFrom ts i old new
 unfolding with_words words_in
 from-next ts i d old now new h l c n =

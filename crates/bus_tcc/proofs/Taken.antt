@@ -1,5 +1,6 @@
 -- A packet is taken line by line.
-use Rattle.std.proofs.Common.{◌≡◌, ℕ, ◌+◌, ◌<◌, ◌≤◌, ◌⊎◌, inl, inr, Bool, true, false, not, ◌||◌, ◌&&◌, if◌then◌else◌, List, [], ◌∷◌, get_or, drop, length, suc, Option, Some, None, is_some}
+use Rattle.std.proofs.Common.{◌≡◌, ℕ, ◌+◌, ◌<◌, ◌≤◌, ◌⊎◌, inl, inr, Bool, true, false, not, ◌||◌, ◌&&◌, if◌then◌else◌, List, [], ◌∷◌}
+use Rattle.std.proofs.Common.{get_or, drop, length, suc, Option, Some, None, is_some}
 use Rattle.std.proofs.Common.{refl, ap, sym, ◌∙◌, subst, arith}
 use Rattle.std.specs.Prelude.{◌==◌}
 use Rattle.std.proofs.Math.ListN.{drop_of_length-le}
@@ -23,7 +24,8 @@ use Rattle.bus_tcc.specs.Taking.{reads_any, struck_by, took}
 -- ---- the words that are dropped
 
 drops-word : (h m : Bool) (o : Option ℕ) (v : Option ℕ) (x : ℕ)
-    → (if is_some o && not m then None else if h && not m then None else v) ≡ (if is_some (if h then Some x else o) && not m then None else v)
+    → (if is_some o && not m then None else if h && not m then None else v) ≡ (if is_some (if h then Some x else o) && not m then None
+        else v)
 drops-word true true None v x = refl
 drops-word true true (Some y) v x = refl
 drops-word true false None v x = refl
@@ -60,7 +62,8 @@ one-dropped : (t : Tagged) (ts : List Tagged) (s : CoreState) → IsClean s
 unfolding dropped words_in without invalidated
 one-dropped t ts s h = λ i. record s {
   cache = record s.cache {
-    value = λ w. drops-word (hit t.line.0 t.mask.0 w) (s.cache.modified w) (words_in ts w) (s.cache.value w) (get_or t.words (place_of w) 0) i;
+    value = λ w. drops-word (hit t.line.0 t.mask.0 w) (s.cache.modified w) (words_in ts w) (s.cache.value w) (get_or t.words (place_of w)
+        0) i;
     dirty = λ w. ((without-clean t.line.0 t.mask.0 s h).dirty ∙ sym h.dirty) i w;
   };
   awaited = ((without-clean t.line.0 t.mask.0 s h).awaited ∙ sym h.awaited) i;
@@ -74,7 +77,8 @@ struck-dropped (t ∷ ts) s h =
 
 -- ---- the attempt begins anew
 
-back-word : (f m : Bool) (v : Option ℕ) → (if m then None else if f && not m then None else v) ≡ (if f && not false then None else if m then None else v)
+back-word : (f m : Bool) (v : Option ℕ)
+    → (if m then None else if f && not m then None else v) ≡ (if f && not false then None else if m then None else v)
 back-word true true v = refl
 back-word true false v = refl
 back-word false true v = refl

@@ -1,5 +1,6 @@
 -- The machine after a core took the packet that is on the bus.
-use Rattle.std.proofs.Common.{◌≡◌, ℕ, ◌+◌, ◌<◌, ◌≤◌, Bool, true, false, List, length, Option, Some, None, is_some, refl, ap, sym, ◌∙◌, subst, arith}
+use Rattle.std.proofs.Common.{◌≡◌, ℕ, ◌+◌, ◌<◌, ◌≤◌, Bool, true, false, List, length, Option, Some, None, is_some, refl, ap, sym, ◌∙◌}
+use Rattle.std.proofs.Common.{subst, arith}
 use Rattle.std.specs.Prelude.{Contains, nat_lt, if◌then◌else◌}
 use Rattle.std.proofs.lemmas.Bool.{lt-ltb}
 use Rattle.std.proofs.lemmas.Bool.Decides.{nat_tests}
@@ -60,7 +61,8 @@ pub not-left : (m : BusMachine) (c : ℕ) → c < (bus_settings_of m).cores → 
 not-left m c l e = take-step m c l ∙ from-none (bus_settings_of m) (bus_world_of m) c (bus_of m.bus) e
 
 -- the words of the packet are of memory
-packet-inside : (m : BusMachine) → IsBusWhole m → (x : ℕ) → is_some (packet_words (bus_of m.bus) x) ≡ true → line_of x < lines (bus_settings_of m)
+packet-inside : (m : BusMachine) → IsBusWhole m → (x : ℕ) → is_some (packet_words (bus_of m.bus) x) ≡ true
+    → line_of x < lines (bus_settings_of m)
 unfolding bus_history_of bus_world_of
 packet-inside m w x e = by (bus_of m.bus) refl e
   where

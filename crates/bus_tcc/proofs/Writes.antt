@@ -1,5 +1,6 @@
 -- The lines that an attempt has written, as its words.
-use Rattle.std.proofs.Common.{◌≡◌, ℕ, zero, suc, ◌<◌, Bool, true, false, ◌||◌, List, [], ◌∷◌, ◌++◌, map, get_or, Option, Some, None, is_some}
+use Rattle.std.proofs.Common.{◌≡◌, ℕ, zero, suc, ◌<◌, Bool, true, false, ◌||◌, List, [], ◌∷◌, ◌++◌, map, get_or, Option, Some, None}
+use Rattle.std.proofs.Common.{is_some}
 use Rattle.std.proofs.Common.{inl, inr, refl, ap, sym, ◌∙◌, subst, arith}
 use Rattle.std.specs.Prelude.{◌==◌, cond, nat_lt, unwrap_or, if◌then◌else◌}
 use Rattle.std.proofs.lemmas.List.{map-append}
@@ -53,7 +54,8 @@ hit-own : (s : CoreState) (w : ℕ) → hit (line_of w) (written_mask s.cache s.
 unfolding hit written_mask
 hit-own s w =
     let own : (line_of w == line_of w) ≡ true = grind (arith, nat_tests) in
-    rw own (has-mask_of (λ k. s.cache.modified (word_at (line_of w) k) || is_some (s.spilled (word_at (line_of w) k))) (place_of w) (omega arith)
+    rw own (has-mask_of (λ k. s.cache.modified (word_at (line_of w) k) || is_some (s.spilled (word_at (line_of w) k))) (place_of w)
+        (omega arith)
     ∙ ap (wrote_it s) (place-back w))
 
 hit-other : (l m w : ℕ) → (l ≡ line_of w → ⊥) → hit l m w ≡ false
@@ -114,7 +116,8 @@ below-lines : (s : CoreState) (t w n : ℕ)
 unfolding those
 below-lines s t w zero = let no : nat_lt (line_of w) 0 ≡ false = grind (arith, nat_tests) in rw no (no-lines w)
 below-lines s t w (suc n) =
-    ap (λ ts. words_in ts w) (map-append (the_line s t) (those (is_written s.cache s.spilled) n) (cond (is_written s.cache s.spilled n) (n ∷ []) []))
+    ap (λ ts. words_in ts w) (map-append (the_line s t) (those (is_written s.cache s.spilled) n) (cond (is_written s.cache s.spilled n)
+        (n ∷ []) []))
     ∙ both-words (map (the_line s t) (those (is_written s.cache s.spilled) n)) _ w
     ∙ ap (λ o. or_else o (words_in (map (the_line s t) (cond (is_written s.cache s.spilled n) (n ∷ []) [])) w)) (below-lines s t w n)
     ∙ last
@@ -129,7 +132,8 @@ below-lines s t w (suc n) =
           (one-own s t w (is_written s.cache s.spilled (line_of w)) refl) in
           rw (no, yes) own)
       | inr d ↦ (let same : nat_lt (line_of w) (suc n) ≡ nat_lt (line_of w) n = grind (arith, nat_tests) in
-          rw same (ap (or_else (if nat_lt (line_of w) n then told_word s w else None)) (one-other s t n w (is_written s.cache s.spilled n) d)
+          rw same (ap (or_else (if nat_lt (line_of w) n then told_word s w else None)) (one-other s t n w (is_written s.cache s.spilled
+              n) d)
           ∙ or-none _))
     ]
 
@@ -141,7 +145,8 @@ told-words : (sh : Shape) (s : CoreState) (t w : ℕ)
     → words_in (lines_told sh t s) w ≡ (if nat_lt (line_of w) (lines sh) then told_word s w else None)
 unfolding lines_told solo_list
 told-words sh s t w =
-    ap (λ ts. words_in ts w) (map-twice (line_told s t) (λ l. (l, written_mask s.cache s.spilled l)) (those (is_written s.cache s.spilled) (lines sh)))
+    ap (λ ts. words_in ts w) (map-twice (line_told s t) (λ l. (l, written_mask s.cache s.spilled l)) (those (is_written s.cache
+        s.spilled) (lines sh)))
     ∙ below-lines s t w (lines sh)
 
 told-written : (o : Option ℕ) (b : Bool) (v : Option ℕ) → (b ≡ true → is_some v ≡ true)

@@ -23,4 +23,5 @@ Executed alone t (Some o) new = (alone ≡ overflows o.core.phase) × (new ≡ g
 -- the same of one core of a bank, whose others are as before
 abbrev pub ExecutedAt : (alone : Bool) → (tid : ℕ) → Option Out → (core : ℕ) → (old new : CoresData) → Type 0
 ExecutedAt alone t None core old new = ⊥
-ExecutedAt alone t (Some o) core old new = (alone ≡ overflows o.core.phase) × (cores_of new ≡ put (cores_of old) core (gone_if alone t o.core))
+ExecutedAt alone t (Some o) core old new = (alone ≡ overflows o.core.phase)
+    × (cores_of new ≡ put (cores_of old) core (gone_if alone t o.core))

@@ -1,5 +1,6 @@
 -- An execution with its line at hand makes the core wait to go on alone where one without does.
-use Rattle.std.proofs.Common.{◌≡◌, ℕ, Bool, true, false, not, ◌||◌, ◌&&◌, if◌then◌else◌, Option, Some, None, List, refl, ap, sym, ◌∙◌, subst}
+use Rattle.std.proofs.Common.{◌≡◌, ℕ, Bool, true, false, not, ◌||◌, ◌&&◌, if◌then◌else◌, Option, Some, None, List, refl, ap, sym, ◌∙◌}
+use Rattle.std.proofs.Common.{subst}
 use Rattle.tcc_base.specs.declared.access.Size.TheVariants.{Byte, Half, Word}
 use Rattle.tcc_maps.specs.Shape.{Shape}
 use Rattle.tcc_maps.specs.Words.{line_of}
@@ -10,7 +11,8 @@ use Rattle.tcc_rules.specs.Execute.{ask, execute, execute_need, fetch}
 use Rattle.tcc_rules.specs.State.{CoreState, Phase, Running, AwaitTid, DoomedTid, Probing, Ready, Overflowing, Solo, Halted}
 use Rattle.core_node.specs.AtHand.{exec_with, executes, goes_alone, lined, need_lacks, need_overflows, word_overflows}
 use Rattle.core_node.specs.Executing.{overflows}
-use Rattle.core_node.proofs.Lined.{exec-executes, exec-lined, exec-with_none, fetch-asks, lacks-some, lined-local, lined-phase, lined-value, need-asks, with_frame, Lacks}
+use Rattle.core_node.proofs.Lined.{exec-executes, exec-lined, exec-with_none, fetch-asks, lacks-some, lined-local, lined-phase}
+use Rattle.core_node.proofs.Lined.{lined-value, need-asks, with_frame, Lacks}
 use Rattle.core_node.proofs.Overflows.{need-alone}
 
 not-waiting : (q : Phase) → executes q ≡ true → overflows q ≡ false
@@ -32,7 +34,8 @@ word-lined : (sh : Shape) (w : ℕ) (ws : List ℕ) (s : CoreState) → Lacks sh
 unfolding word_overflows
 word-lined sh w ws s l = rw (lined-value sh w ws s l.value) (or-some _ _)
 
-by-word : (sh : Shape) (w v : ℕ) (ws : List ℕ) (s : CoreState) → Lacks sh w s → v ≡ w → word_overflows sh v (lined sh (line_of w) ws s) ≡ false
+by-word : (sh : Shape) (w v : ℕ) (ws : List ℕ) (s : CoreState) → Lacks sh w s → v ≡ w
+    → word_overflows sh v (lined sh (line_of w) ws s) ≡ false
 by-word sh w v ws s l e = subst (λ u. word_overflows sh u (lined sh (line_of w) ws s) ≡ false) (sym e) (word-lined sh w ws s l)
 
 need-lined : (sh : Shape) (s : CoreState) (need : Need) (w : ℕ) (ws : List ℕ) → Lacks sh w s → need_lacks sh s need ≡ Some w

@@ -1,5 +1,6 @@
 -- An instruction that asks for a line, and is executed again once the line has come; and one that asks for none.
-use Rattle.std.proofs.Common.{◌≡◌, ◌≢◌, ℕ, Bool, true, false, not, is_some, ◌||◌, ◌&&◌, if◌then◌else◌, Option, Some, None, Result, Ok, Err, OnOk, OnErr, List, refl, ap, subst, sym, ◌∙◌, arith}
+use Rattle.std.proofs.Common.{◌≡◌, ◌≢◌, ℕ, Bool, true, false, not, is_some, ◌||◌, ◌&&◌, if◌then◌else◌, Option, Some, None, Result, Ok}
+use Rattle.std.proofs.Common.{Err, OnOk, OnErr, List, refl, ap, subst, sym, ◌∙◌, arith}
 use Rattle.std.specs.Prelude.{◌==◌, get_or}
 use Rattle.std.proofs.lemmas.Bool.Decides.{nat_tests}
 use Rattle.tcc_base.specs.declared.access.Size.{Size}
@@ -30,7 +31,8 @@ use Rattle.tcc_rules.specs.CoreExec.{core_exec, exec_phase, unless_awaiting}
 use Rattle.tcc_rules.specs.Execute.{ask, fetch, full_set, load, load_spilled, load_valid, overflow, place, used, buffered, framed}
 use Rattle.tcc_rules.specs.Execute.{word_store, partial_store, change_spilled, change_valid, also_read, close, execute, execute_need}
 use Rattle.tcc_rules.specs.Sends.{Sends}
-use Rattle.tcc_rules.specs.State.{CoreState, Awaited, Phase, Running, AwaitTid, DoomedTid, Probing, Ready, Overflowing as Overflows, Solo, Halted}
+use Rattle.tcc_rules.specs.State.{CoreState, Awaited, Phase, Running, AwaitTid, DoomedTid, Probing, Ready, Overflowing as Overflows, Solo}
+use Rattle.tcc_rules.specs.State.{Halted}
 use Rattle.core_node.specs.AtHand.{Leaves, changed, exec_with, executes, lined, need_lacks, with_awaited, word_lacks}
 use Rattle.core_node.specs.Answers.{IsBlocked, IsMemory}
 use Rattle.core_node.specs.declared.delivering.CoreError.{CoreError}
@@ -72,10 +74,12 @@ used-awaited w s = by (is_running s.phase)
     by false = refl
 
 -- a full set
-fetch-idle : (sh : Shape) (l : ℕ) (s : CoreState) → s.awaited ≡ None → (s.cache.held l || is_some (free_way sh s.cache (set_of sh l))) ≡ false
+fetch-idle : (sh : Shape) (l : ℕ) (s : CoreState) → s.awaited ≡ None
+    → (s.cache.held l || is_some (free_way sh s.cache (set_of sh l))) ≡ false
     → awaits (fetch sh l s) ≡ false
 unfolding fetch full_set overflow
-fetch-idle sh l s e g = by (s.cache.held l) (is_some (free_way sh s.cache (set_of sh l))) (is_solo s.phase || not (all_marked sh s.cache (set_of sh l))) _ _ _
+fetch-idle sh l s e g = by (s.cache.held l) (is_some (free_way sh s.cache (set_of sh l))) (is_solo s.phase || not (all_marked sh s.cache
+    (set_of sh l))) _ _ _
     (ap is_some e) g
   where
     by : (h f a : Bool) (x y z : Out) → is_some z.core.awaited ≡ false → (h || f) ≡ false
@@ -86,7 +90,8 @@ fetch-idle sh l s e g = by (s.cache.held l) (is_some (free_way sh s.cache (set_o
     by false false false x y z p q = p
 
 abbrev lacks_by : Shape → (word : ℕ) → CoreState → (spilled valid : Option ℕ) → Bool
-lacks_by sh w s o v = if is_some o || is_some v then false else s.cache.held (line_of w) || is_some (free_way sh s.cache (set_of sh (line_of w)))
+lacks_by sh w s o v = if is_some o || is_some v then false else s.cache.held (line_of w) || is_some (free_way sh s.cache (set_of sh
+    (line_of w)))
 
 load-idle : (sh : Shape) (p : Program) (need : Need) (w : ℕ) (s : CoreState) → s.awaited ≡ None → word_lacks sh w s ≡ false
     → awaits (load sh p need w s) ≡ false
@@ -358,7 +363,8 @@ unfolding lined
 lined-spilled sh l ws s = refl
 
 pub lined-load : (sh : Shape) (p : Program) (need : Need) (w : ℕ) (ws : List ℕ) (s : CoreState) → Lacks sh w s
-    → Leaves (load sh p need w (lined sh (line_of w) ws s)) (finished p need (get_or ws (place_of w) 0) (used w (lined sh (line_of w) ws s)))
+    → Leaves (load sh p need w (lined sh (line_of w) ws s)) (finished p need (get_or ws (place_of w) 0) (used w (lined sh (line_of w) ws
+        s)))
 lined-load sh p need w ws s l =
     let t = lined sh (line_of w) ws s in
     let found = valid_loads sh p need w (get_or ws (place_of w) 0) t (ap (λ f. f w) (lined-spilled sh (line_of w) ws s) ∙ l.spilled)

@@ -80,7 +80,8 @@ used-phase w s = by (is_running s.phase)
 fetch-alone : (sh : Shape) (l : ℕ) (s : CoreState) → overflows s.phase ≡ false
     → Same (fetch sh l s) (line_overflows sh l s && not (is_solo s.phase))
 unfolding fetch full_set ask place overflow
-fetch-alone sh l s e = by (s.cache.held l) (is_some (free_way sh s.cache (set_of sh l))) (all_marked sh s.cache (set_of sh l)) (is_solo s.phase)
+fetch-alone sh l s e = by (s.cache.held l) (is_some (free_way sh s.cache (set_of sh l))) (all_marked sh s.cache (set_of sh l)) (is_solo
+    s.phase)
     _ _ _ e e refl
   where
     by : (h f m a : Bool) (x y z : Out) → overflows x.core.phase ≡ false → overflows y.core.phase ≡ false → overflows z.core.phase ≡ true
@@ -135,7 +136,8 @@ store-alone sh p need w x s e =
     (all_marked sh s.cache (set_of sh (line_of w))) (is_solo s.phase) _ _ _ _
     (finished-stays p need x _ e) (finished-stays p need x _ e) (finished-stays p need x _ e) refl
   where
-    by : (k h f m a : Bool) (t u v z : Out) → overflows t.core.phase ≡ false → overflows u.core.phase ≡ false → overflows v.core.phase ≡ false
+    by : (k h f m a : Bool) (t u v z : Out) → overflows t.core.phase ≡ false → overflows u.core.phase ≡ false
+        → overflows v.core.phase ≡ false
         → overflows z.core.phase ≡ true
         → Same (if k then Some t else if h then Some u else if f then Some v else if a || not m then None else Some z)
         ((if k then false else not (h || f) && m) && not a)

@@ -1,5 +1,6 @@
 -- What a core does where memory is at hand: a line that it asks for comes at once, and what it writes is told by line.
-use Rattle.std.specs.Prelude.{ℕ, ◌≡◌, Bool, true, false, not, ◌&&◌, ◌||◌, List, [], ◌∷◌, map, get_or, unwrap_or, Option, Some, None, is_some, if◌then◌else◌}
+use Rattle.std.specs.Prelude.{ℕ, ◌≡◌, Bool, true, false, not, ◌&&◌, ◌||◌, List, [], ◌∷◌, map, get_or, unwrap_or, Option, Some, None}
+use Rattle.std.specs.Prelude.{is_some, if◌then◌else◌}
 use Rattle.tcc_base.specs.declared.access.Size.TheVariants.{Byte, Half, Word}
 use Rattle.tcc_base.specs.declared.access.Tagged.{Tagged}
 use Rattle.tcc_base.specs.declared.names.WordAddr.{WordAddr}

@@ -8,5 +8,6 @@ unfolding cleaned
 returns-clause-stays c = record {
   config = refl;
   id = refl;
-  whole = whole_cache c.args.core.now c.take_dirty.new.self c.requires.whole c.take_dirty.ensures.config (rw c.take_dirty.ensures.maps refl);
+  whole = whole_cache c.args.core.now c.take_dirty.new.self c.requires.whole c.take_dirty.ensures.config (rw c.take_dirty.ensures.maps
+      refl);
 }

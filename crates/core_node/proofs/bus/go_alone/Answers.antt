@@ -6,5 +6,6 @@ use Rattle.core_node.proofs.bus.go_alone.Goals as goal
 pub returns-clause-stays : goal.returns-clause-stays
 unfolding read_cleared
 returns-clause-stays c =
-    let h = whole_cache c.args.core.now c.clear_read.new.self c.requires.whole c.clear_read.ensures.config (rw c.clear_read.ensures.maps refl) in
+    let h = whole_cache c.args.core.now c.clear_read.new.self c.requires.whole c.clear_read.ensures.config (rw c.clear_read.ensures.maps
+        refl) in
     record { config = refl; id = refl; whole = record { cache = h.cache; awaited = h.awaited; after = h.after } }

@@ -5,7 +5,8 @@ use Rattle.bus_tcc.specs.Answers.{Answers, Took}
 use Rattle.bus_tcc.specs.Inside.{machine_of}
 use Rattle.bus_tcc.specs.Machine.{bus_settings_of}
 use Rattle.bus_tcc.specs.declared.event.BusStep.TheVariants.{Moved}
-use Rattle.bus_tcc.proofs.Events.{MovesOne, StaysBut, after_core, after_none, evict-step, moved-took, moved-whole, no-evict, refused-move, stays-whole}
+use Rattle.bus_tcc.proofs.Events.{MovesOne, StaysBut, after_core, after_none, evict-step, moved-took, moved-whole, no-evict, refused-move}
+use Rattle.bus_tcc.proofs.Events.{stays-whole}
 use Rattle.bus_tcc.proofs.system.BusSystem.evict.Goals as goal
 
 pub returns-then-not-has_way : goal.returns-then-not-has_way
@@ -64,4 +65,5 @@ invariant_of-self-in-Ok c =
 
 pub returns-in-Ok : goal.returns-in-Ok
 returns-in-Ok c =
-    subst (λ x. Took x (after_core c.self.inside c.evict.new.self) (Evict c.args.core.0 c.args.set c.args.way) Moved) c.self.view_is (took c)
+    subst (λ x. Took x (after_core c.self.inside c.evict.new.self) (Evict c.args.core.0 c.args.set c.args.way) Moved) c.self.view_is
+        (took c)

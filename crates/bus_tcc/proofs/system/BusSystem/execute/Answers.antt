@@ -12,7 +12,8 @@ use Rattle.bus_tcc.specs.declared.event.BusError.TheVariants.{Refused}
 use Rattle.bus_tcc.specs.declared.event.BusStep.TheVariants.{Moved}
 use Rattle.bus_tcc.proofs.Bounds.{core-bounded, short-attempt}
 use Rattle.bus_tcc.proofs.Events.{StaysBut, after_none, bank_in, stays-whole}
-use Rattle.bus_tcc.proofs.Instructions.{Asked, HasExecuted, after_execution, asked-of, barred-answers, barred-as, executed-took, executed-whole}
+use Rattle.bus_tcc.proofs.Instructions.{Asked, HasExecuted, after_execution, asked-of, barred-answers, barred-as, executed-took}
+use Rattle.bus_tcc.proofs.Instructions.{executed-whole}
 use Rattle.bus_tcc.proofs.Instructions.{free-where, instruction_of, refused-execution}
 use Rattle.bus_tcc.proofs.system.BusSystem.execute.Goals as goal
 
@@ -67,7 +68,8 @@ returns-in-Err c =
     (subst (λ r. Answers m k (Exec n) (Err r)) (sym c.refusal.ensures)
     (refused-execution Bool m k n c.in-Err.error (instruction_of m n) (stays c)
     (subst (λ ws. IsBlocked {A = Bool} (Err c.in-Err.error)
-    (instruction (bus_settings_of m) (bus_program_of m) (word_in ws) n (cores_of (bank_in m) n))) c.words_of.ensures c.in-Err.ensures.blocked)
+    (instruction (bus_settings_of m) (bus_program_of m) (word_in ws) n (cores_of (bank_in m) n))) c.words_of.ensures
+        c.in-Err.ensures.blocked)
     a.goes_on (free-where m n c.self.invariant a.exists a.runs b)))
 
 -- ---- an execution
