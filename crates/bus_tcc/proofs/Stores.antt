@@ -118,8 +118,11 @@ pub record StoredFrom (ts : List Tagged) (i : ℕ) (old now : List ℕ) : Type 0
 
 pub from-last : (ts : List Tagged) (old : List ℕ) → StoredFrom ts (length ts) old old
 unfolding with_words words_in
-from-last ts old = record { count = refl; words = sym (ap (λ xs. with_words (words_in xs) (word_in old)) (drop_of_length-le ts (omega
-    arith))) }
+from-last ts old = record {
+  count = refl;
+  words = sym (ap (λ xs. with_words (words_in xs) (word_in old)) (drop_of_length-le ts (omega
+      arith)));
+}
 
 unwrapped : (h : Bool) (x : ℕ) (o : Option ℕ) (r : ℕ) → (if h then x else unwrap_or o r) ≡ unwrap_or (if h then Some x else o) r
 unwrapped true x o r = refl
@@ -128,7 +131,7 @@ unwrapped false x o r = refl
 pub from-next : (ts : List Tagged) (i : ℕ) (d : Tagged) (old now new : List ℕ) → StoredFrom ts (i + 1) old now → i < length ts
     → length new ≡ length now
     → ((w : ℕ) → get_or new w 0 ≡ (if hit (get_or ts i d).line.0 (get_or ts i d).mask.0 w then get_or (get_or ts i d).words (place_of w)
-        0 else get_or now w 0))
+    0 else get_or now w 0))
     → StoredFrom ts i old new
 unfolding with_words words_in
 from-next ts i d old now new h l c n =

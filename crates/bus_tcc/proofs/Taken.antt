@@ -25,7 +25,7 @@ use Rattle.bus_tcc.specs.Taking.{reads_any, struck_by, took}
 
 drops-word : (h m : Bool) (o : Option ℕ) (v : Option ℕ) (x : ℕ)
     → (if is_some o && not m then None else if h && not m then None else v) ≡ (if is_some (if h then Some x else o) && not m then None
-        else v)
+    else v)
 drops-word true true None v x = refl
 drops-word true true (Some y) v x = refl
 drops-word true false None v x = refl

@@ -55,7 +55,7 @@ unfolding hit written_mask
 hit-own s w =
     let own : (line_of w == line_of w) ≡ true = grind (arith, nat_tests) in
     rw own (has-mask_of (λ k. s.cache.modified (word_at (line_of w) k) || is_some (s.spilled (word_at (line_of w) k))) (place_of w)
-        (omega arith)
+    (omega arith)
     ∙ ap (wrote_it s) (place-back w))
 
 hit-other : (l m w : ℕ) → (l ≡ line_of w → ⊥) → hit l m w ≡ false
@@ -117,7 +117,7 @@ unfolding those
 below-lines s t w zero = let no : nat_lt (line_of w) 0 ≡ false = grind (arith, nat_tests) in rw no (no-lines w)
 below-lines s t w (suc n) =
     ap (λ ts. words_in ts w) (map-append (the_line s t) (those (is_written s.cache s.spilled) n) (cond (is_written s.cache s.spilled n)
-        (n ∷ []) []))
+    (n ∷ []) []))
     ∙ both-words (map (the_line s t) (those (is_written s.cache s.spilled) n)) _ w
     ∙ ap (λ o. or_else o (words_in (map (the_line s t) (cond (is_written s.cache s.spilled n) (n ∷ []) [])) w)) (below-lines s t w n)
     ∙ last
@@ -133,7 +133,7 @@ below-lines s t w (suc n) =
           rw (no, yes) own)
       | inr d ↦ (let same : nat_lt (line_of w) (suc n) ≡ nat_lt (line_of w) n = grind (arith, nat_tests) in
           rw same (ap (or_else (if nat_lt (line_of w) n then told_word s w else None)) (one-other s t n w (is_written s.cache s.spilled
-              n) d)
+          n) d)
           ∙ or-none _))
     ]
 
@@ -146,7 +146,7 @@ told-words : (sh : Shape) (s : CoreState) (t w : ℕ)
 unfolding lines_told solo_list
 told-words sh s t w =
     ap (λ ts. words_in ts w) (map-twice (line_told s t) (λ l. (l, written_mask s.cache s.spilled l)) (those (is_written s.cache
-        s.spilled) (lines sh)))
+    s.spilled) (lines sh)))
     ∙ below-lines s t w (lines sh)
 
 told-written : (o : Option ℕ) (b : Bool) (v : Option ℕ) → (b ≡ true → is_some v ≡ true)

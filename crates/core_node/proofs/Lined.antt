@@ -364,7 +364,7 @@ lined-spilled sh l ws s = refl
 
 pub lined-load : (sh : Shape) (p : Program) (need : Need) (w : ℕ) (ws : List ℕ) (s : CoreState) → Lacks sh w s
     → Leaves (load sh p need w (lined sh (line_of w) ws s)) (finished p need (get_or ws (place_of w) 0) (used w (lined sh (line_of w) ws
-        s)))
+    s)))
 lined-load sh p need w ws s l =
     let t = lined sh (line_of w) ws s in
     let found = valid_loads sh p need w (get_or ws (place_of w) 0) t (ap (λ f. f w) (lined-spilled sh (line_of w) ws s) ∙ l.spilled)

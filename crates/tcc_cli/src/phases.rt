@@ -53,11 +53,7 @@ fn in_front(
 }
 
 /// The phases and the report of a machine as it stands after a run by phases, which began with what was loaded.
-pub fn phases_of(
-    alloc: Global,
-    loaded: &Loaded,
-    system: &PhaseSystem,
-) -> Result<Finished, NoMemory>
+pub fn phases_of(alloc: Global, loaded: &Loaded, system: &PhaseSystem) -> Result<Finished, NoMemory>
     requires code { system.now.refined.machine.cores.code ≡ loaded.now }
     requires settled { system.now.refined.machine.unsent ≡ [] }
     ensures phases { InPhases (started loaded.now) (history_of system.now.refined.machine) }

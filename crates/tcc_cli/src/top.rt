@@ -158,9 +158,7 @@ fn load<'a>(alloc: Global, command: &Command, read: &[List<u8>]) -> Result<Loade
         }
         Command::Replay { machine, .. }
         | Command::Serial { machine, .. }
-        | Command::Why { machine, .. } => {
-            lay(alloc, machine.raw, &machine.config, &read[1..])
-        }
+        | Command::Why { machine, .. } => { lay(alloc, machine.raw, &machine.config, &read[1..]) }
         Command::Trial {
             config,
             work,

@@ -64,7 +64,7 @@ going-first c p f g all code first none events words-same = record {
 pub going-same : {c : Contents} {p : PhaseMachine} {f g : Lcg} {all i : ℕ} (q : PhaseMachine) → Going c p f g all i
     → history_of q.refined.machine ≡ history_of p.refined.machine → q.refined.taken ≡ p.refined.taken
     → q.refined.machine.events ≡ p.refined.machine.events → q.refined.machine.cores.code ≡ p.refined.machine.cores.code
-        → Going c q f g all i
+    → Going c q f g all i
 going-same {c} {p} {f} {g} {all} {i} q s h t e k = record {
   code = k ∙ s.code;
   rest = s.rest ∙ (λ j. map event_of (sym t j) ++ phased_picked (started c) (words (all - i) g) (sym h j));

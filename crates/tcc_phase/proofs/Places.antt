@@ -33,7 +33,7 @@ place-insert x (d ∷ ds) = go (nat_lt x.tid.0 d.tid.0) (place-insert x ds)
   where
     rest : (t : Bool) → place_of x.tid.0 (insert_commit x ds) ≡ place_of x.tid.0 ds
         → length (cond t (d ∷ filter (λ c. nat_lt c.tid.0 x.tid.0) (insert_commit x ds)) (filter (λ c. nat_lt c.tid.0 x.tid.0)
-            (insert_commit x ds)))
+        (insert_commit x ds)))
         ≡ length (cond t (d ∷ filter (λ c. nat_lt c.tid.0 x.tid.0) ds) (filter (λ c. nat_lt c.tid.0 x.tid.0) ds))
     rest true e = ap suc e
     rest false e = e
@@ -69,7 +69,7 @@ at-place b x (d ∷ ds) r = go (nat_lt x.tid.0 d.tid.0) refl r (λ r. at-place d
         let below = above d.tid.0 x ds r.1 in
         let t : nat_lt d.tid.0 x.tid.0 ≡ true = grind (arith, nat_tests) in
         ap (λ y. slice_get (d ∷ insert_commit x ds) (length (cond y (d ∷ filter (λ c. nat_lt c.tid.0 x.tid.0) ds) (filter (λ c. nat_lt
-            c.tid.0 x.tid.0) ds)))) t
+        c.tid.0 x.tid.0) ds)))) t
         ∙ f r.1
 
 pub place-most : (t : ℕ) (cs : List Commit) → place_of t cs ≤ length cs

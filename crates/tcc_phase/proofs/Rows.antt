@@ -171,7 +171,7 @@ module _ (m : Machine) where
   unfolding passed_by phased_useful all_in
   kth-is k i h =
       kth (is_held (start_of m) (history_of m)) (useful (start_of m).settings (program (start_of m)) (history_of m).world) k i (k + i)
-          refl h.0
+      refl h.0
       (subst (λ n. left_out (is_held (start_of m) (history_of m))
       (useful (start_of m).settings (program (start_of m)) (history_of m).world) n ≡ i) (next-one (k + i)) h.1)
 

@@ -61,7 +61,7 @@ kept-at s events l f = record {
   even = even;
   held = ap (λ k. take k l.held.items) f.none
       ∙ sym (those-none _ s.settings.cores (λ c h. ap (λ b. b && is_some (step s.settings (program s) (at_start s).world (request
-          l.asked.items c)))
+      l.asked.items c)))
       (even-none s.settings.cores (at_start s).world l.own.items c (λ q. even f.even) h)));
   count = let z = f.none in omega (arith, z);
 }

@@ -111,15 +111,7 @@ fn why_has_its_schedule_first(rt: HostRuntime) {
 
 #[test]
 fn phases_are_a_run_without_threads(rt: HostRuntime) {
-    let words = [
-        "phases",
-        "--seed",
-        "3",
-        "--record",
-        "r",
-        "a",
-        "--steps=7",
-    ];
+    let words = ["phases", "--seed", "3", "--record", "r", "a", "--steps=7"];
     let Ok(
         Command::Phases {
             images,

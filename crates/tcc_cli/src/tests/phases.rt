@@ -28,11 +28,7 @@ const RUNS: [(&str, u8, &str); 7] = [
     ),
     ("phases a", 3, "tcc: image 0 elf 1 52"),
     ("phases --raw c", 5, "tcc: store c"),
-    (
-        "phases --raw --threads 2 --record s a",
-        2,
-        "tcc: words",
-    ),
+    ("phases --raw --threads 2 --record s a", 2, "tcc: words"),
     ("phases --raw --steps 4194305 a", 2, "tcc: value steps"),
 ];
 

@@ -188,7 +188,7 @@ module _ (m n : Machine) (allowed : IsAllowed (settings_of m)) (es : List Event)
           → HasPhases (start_of m) (history_of n) more next
       go Moved r k =
           let w = unnoted (start_of m) fits es e (history_of m) (history_of n) from to done-by.out.noted (none-told done-by.out.noted r)
-              grows-so in
+          grows-so in
           record {
             all = k.0 ∙ was.all ∙ sym w.0;
             each = λ c l. ap (λ xs. get_or xs c 0) k.1 ∙ was.each c l ∙ sym (w.1 c l);
@@ -258,12 +258,12 @@ module _ (m n : Machine) (allowed : IsAllowed (settings_of m)) (es : List Event)
 
     held-now : take k.count k.held.items
         ≡ those (is_waiting (start_of m).settings (program (start_of m)) (history_of n).world k.own.items k.asked.items) (start_of
-            m).settings.cores
+        m).settings.cores
     unfolding started history_of
     held-now =
         w.held
         ∙ (λ i. those (is_waiting (code i).settings (program (started (code i))) (world_of n) k.own.items k.asked.items) (code
-            i).settings.cores)
+        i).settings.cores)
 
     phases-now : HasPhases (start_of m) (history_of n) k.each.items k.own.items
     unfolding started

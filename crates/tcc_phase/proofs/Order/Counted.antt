@@ -88,7 +88,7 @@ kth p (x ∷ es) k i (suc n) s a b = go (λ k i. kth p es k i n) (p x) a b
 
     go : ((k i : ℕ) → n ≡ k + i → left_out p es n ≡ i → left_out p es (suc n) ≡ i
         → slice_get (filter (λ e. not (p e)) es) k ≡ slice_get es n) → (t : Bool)
-            → length (cond t (x ∷ filter p (take n es)) (filter p (take n es))) ≡ i
+        → length (cond t (x ∷ filter p (take n es)) (filter p (take n es))) ≡ i
         → length (cond t (x ∷ filter p (take (suc n) es)) (filter p (take (suc n) es))) ≡ i
         → slice_get (cond (not t) (x ∷ filter (λ e. not (p e)) es) (filter (λ e. not (p e)) es)) k ≡ slice_get es n
     go f true a b = f k (i - 1) (omega (arith, s, a)) (omega (arith, a)) (omega (arith, b))

@@ -44,7 +44,7 @@ pub behind-late : (s : Start) (h : History) (own : List ℕ) → ((j : ℕ) → 
 unfolding is_late is_behind
 behind-late s h own e c l =
     any-same (goes_before s h c) (λ j. not (has_halted (h.world.cores j).phase) && nat_lt (get_or own j 0) (get_or own c 0))
-        s.settings.cores
+    s.settings.cores
     (λ j m. itself (not (has_halted (h.world.cores j).phase)) j c (phase_of s h j) (phase_of s h c) (λ q. ap (phase_of s h) q)
     ∙ (λ i. not (has_halted (h.world.cores j).phase) && nat_lt (sym (e j m) i) (sym (e c l) i)))
 

@@ -24,4 +24,4 @@ pub returns-in-Ok-clause-blocked : goal.returns-in-Ok-clause-blocked
 returns-in-Ok-clause-blocked c =
     let k = c.args.core.now in
     subst (λ o. o ≢ None) (as-instruction k.config (program (started c.args.code.now)) c.args.ram.now k.id.0 (core_of k))
-        c.in-Ok.ensures.blocked
+    c.in-Ok.ensures.blocked

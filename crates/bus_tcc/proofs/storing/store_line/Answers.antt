@@ -9,7 +9,7 @@ loop-k-init c = stored-first _ _
 pub loop-k-preserved : goal.loop-k-preserved
 loop-k-preserved c =
     stored-next c.args.line.now c.loop-k.k _ c.args.ram.now c.loop-k.ram c.store_if.new.ram c.holds.result c.loop-k.invariant
-        c.loop-k-test.true
+    c.loop-k-test.true
     c.requires c.holds.ensures refl c.store_if.ensures
 
 pub returns : goal.returns

@@ -12,7 +12,7 @@ loop-line-preserved c = record {
   so_far = subst (Strikes c.args.lines.now (c.loop-line.line-index + 1) (core_of c.args.core.now) (core_of c.strike-hit.new.self))
       (sym c.either-read.ensures)
       (strikes-next c.args.lines.now c.loop-line.line-index _ (core_of c.args.core.now) (core_of c.loop-line.core) (core_of
-          c.strike-hit.new.self)
+      c.strike-hit.new.self)
       c.loop-line.read c.strike-hit.result c.loop-line.invariant.so_far c.loop-line-test.true c.strike-hit.ensures.does
       c.strike-hit.ensures.read);
   config = c.strike-hit.ensures.stays.config ∙ c.loop-line.invariant.config;

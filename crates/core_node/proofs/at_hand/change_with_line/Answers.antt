@@ -29,7 +29,7 @@ fill_frame-requires-2-clause-found c =
     let k = c.args.core.now in
     let m = c.finish.new.core in
     rw c.line_of_word-line.ensures (miss-after k.config m.config c.args.w.0 (core_of k) (core_of m) c.requires.lacks
-        c.in-Ok.ensures.stays.config
+    c.in-Ok.ensures.stays.config
     (ap (λ (s : CoreState). s.cache) c.in-Ok.ensures.does ∙ cache-finished (alone c.args.inst.now) (need_of c.args.need) _ (core_of k)))
 
 pub returns-then-holds-clause-does : goal.returns-then-holds-clause-does

@@ -29,7 +29,7 @@ returns-in_default c =
     let p = program (started c.args.code.now) in
     let none = trap-lacks k.config (core_of k) (p.need k.state) c.in_default.field-0 c.in_default.ensures in
     let same = exec-with_none k.config p (line_at c.args.ram.now) k.id.0 (core_of k) c.requires.executes (ap awaited_of c.requires.idle)
-        none in
+    none in
     record {
       does = subst (λ o. OnOk c.exec_plainly.result (Leaves o (core_of c.exec_plainly.new.core))) (sym same) c.exec_plainly.ensures.does;
       blocked = subst (IsBlocked c.exec_plainly.result) (sym same) c.exec_plainly.ensures.blocked;
@@ -45,7 +45,7 @@ returns-in-None c =
     let r = c.exec_plainly-in-None.result in
     let none = ap (need_lacks k.config (core_of k)) (c.in-Ok.ensures.need ∙ sym c.plan-need.ensures.need) ∙ sym c.in-None.ensures.word in
     let same = exec-with_none k.config p (line_at c.args.ram.now) k.id.0 (core_of k) c.requires.executes (ap awaited_of c.requires.idle)
-        none in
+    none in
     record {
       does = subst (λ o. OnOk r (Leaves o (core_of c.exec_plainly-in-None.new.core))) (sym same) c.exec_plainly-in-None.ensures.does;
       blocked = subst (IsBlocked r) (sym same) c.exec_plainly-in-None.ensures.blocked;
@@ -62,14 +62,14 @@ returns-in-Some c =
     let n = need_of c.plan-need.result in
     let words = c.line_at-words.ensures ∙ ap (line_at c.args.ram.now) c.line_of_word.ensures in
     let same = exec-with_line k.config (started c.args.code.now) (line_at c.args.ram.now) k.id.0 (core_of k) c.in-Ok.inst n w
-        c.requires.executes
+    c.requires.executes
     (ap awaited_of c.requires.idle) c.in-Ok.ensures c.plan-need.ensures.need (sym c.in-Some.ensures.word)
     ∙ ap (λ ws. execute_need k.config (alone c.in-Ok.inst) k.id.0 (lined k.config (line_of w) ws (core_of k)) n) (sym words) in
     record {
       does = subst (λ o. OnOk r (Leaves o (core_of c.execute_with_line.new.core))) (sym same) c.execute_with_line.ensures.does;
       blocked = subst (IsBlocked r) (sym same) (blocked-some r _
           (need-some k.config (alone c.in-Ok.inst) k.id.0 (core_of k) c.plan-need.result w c.line_at-words.result (sym
-              c.in-Some.ensures.word))
+          c.in-Some.ensures.word))
           c.execute_with_line.ensures.cause);
       stays = c.execute_with_line.ensures.stays;
       unchanged = c.execute_with_line.ensures.unchanged;

@@ -32,7 +32,7 @@ returns-in-Load-clause-does c =
     let k = c.args.core.now in
     on-ok c.load_with_line.result
     (load-leaves k.config (alone c.args.inst.now) k.id.0 (core_of k) (core_of c.load_with_line.new.core) c.args.need c.in-Load.addr
-        c.in-Load.size
+    c.in-Load.size
     c.args.w.0 c.args.words.now c.in-Load.is c.requires.lacks) c.load_with_line.ensures.does
 
 pub returns-in_ok-make_room-in_default : goal.returns-in_ok-make_room-in_default

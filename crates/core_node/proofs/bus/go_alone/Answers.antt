@@ -7,5 +7,5 @@ pub returns-clause-stays : goal.returns-clause-stays
 unfolding read_cleared
 returns-clause-stays c =
     let h = whole_cache c.args.core.now c.clear_read.new.self c.requires.whole c.clear_read.ensures.config (rw c.clear_read.ensures.maps
-        refl) in
+    refl) in
     record { config = refl; id = refl; whole = record { cache = h.cache; awaited = h.awaited; after = h.after } }

@@ -17,6 +17,6 @@ unfolding core_of
 returns-else-holds c =
     let k = c.args.core.now in
     full_store k.config c.args.w.0 (core_of k) c.is_full_of_marks.result (look_of c.look_store.result) (sym c.holds.ensures
-        ∙ c.if-holds.false)
+    ∙ c.if-holds.false)
     c.is_full_of_marks.ensures
     (c.look_store.ensures ∙ ap (λ (s : Settings). look_store s c.args.w.0 true (maps k.cache)) c.requires.cache)

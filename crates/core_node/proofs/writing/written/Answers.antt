@@ -18,7 +18,7 @@ line_here-requires-clause-exists c =
 pub loop-line-preserved : goal.loop-line-preserved
 loop-line-preserved c =
     c.in-Ok.ensures ∙ told-more (core_of c.args.core.now) c.args.tid.0 c.deref-line-items.result.now c.loop-line.line-index _
-        c.loop-line.told
+    c.loop-line.told
     c.line_here.result c.loop-line-test.true c.loop-line.invariant c.line_here.ensures
 
 pub returns-clause-lines : goal.returns-clause-lines
@@ -27,4 +27,4 @@ returns-clause-lines c =
     let k = c.args.core.now in
     told-all k.config (core_of k) c.args.tid.0 c.deref-line-items.result.now c.loop-line.line-index c.loop-line.told
     (ap (map mark_of) c.deref-line-items.ensures.value
-        ∙ c.in_ok-marks.ensures.marks) (omega (arith, c.loop-line-test.false)) c.loop-line.invariant
+    ∙ c.in_ok-marks.ensures.marks) (omega (arith, c.loop-line-test.false)) c.loop-line.invariant

@@ -19,7 +19,7 @@ loop-core-preserved c = λ q.
       | then-not-has_halted v ↦
           rw (add-one, v.least-is)
           (behind-running n w own c.loop-core.least q (is ∙ v.if-not-has_halted.true) (c.loop-core.invariant q)
-              ∙ sym (v.lesser-least.ensures q))
+          ∙ sym (v.lesser-least.ensures q))
       | else-not-has_halted v ↦
           rw (add-one, v.least-is) (behind-halted n w own c.loop-core.least q (is ∙ v.if-not-has_halted.false) (c.loop-core.invariant q))
     ]

@@ -18,7 +18,7 @@ loop-core-preserved c =
     elim c.if-is_above.branch [
       | then-is_above w ↦
           let cores : c.cores-core-end.result ≡ (settings_of m).cores = c.cores-core-end.ensures.value
-              ∙ ap (λ k. k.cores) c.config.ensures in
+          ∙ ap (λ k. k.cores) c.config.ensures in
           let room : c.loop-core.count < length c.loop-core.held =
           omega (arith, i.0, i.1, cores, c.requires.held, c.loop-core-test.true, c.loop-core.auto.core-end) in
           rw (w.held-is, w.count-is) (

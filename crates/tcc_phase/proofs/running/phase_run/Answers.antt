@@ -10,7 +10,7 @@ loop-preserved c =
     let did = c.in-Ok.ensures in
     let settled = going-same c.settle.new.self c.loop.invariant put.history put.taken put.events put.code in
     subst (λ g. Going c.args.loaded.now c.step.new.self (seeded c.args.seed) g c.args.steps (c.loop.counter + 1)) (sym
-        c.in-Some.ensures.drawn)
+    c.in-Some.ensures.drawn)
     (going-more c.step.new.self c.in-Some.e settled c.loop-test.true (sym c.in-Some.ensures.chosen) did.next did.taken did.counted did.code)
 
 -- no event is left

@@ -21,4 +21,4 @@ returns c =
     ∙ ap (λ i. goes_alone (core_exec now.code.settings p i.0 (core_of x))) c.core.ensures.id
     ∙ ap (λ y. goes_alone (core_exec now.code.settings p c.args.core.0 y)) c.core.ensures.state
     ∙ ap (λ d. goes_alone (core_exec now.code.settings (program (started d.code)) c.args.core.0 (cores_of now c.args.core.0)))
-        c.self.view_is
+    c.self.view_is

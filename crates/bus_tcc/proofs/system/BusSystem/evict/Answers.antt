@@ -66,4 +66,4 @@ invariant_of-self-in-Ok c =
 pub returns-in-Ok : goal.returns-in-Ok
 returns-in-Ok c =
     subst (λ x. Took x (after_core c.self.inside c.evict.new.self) (Evict c.args.core.0 c.args.set c.args.way) Moved) c.self.view_is
-        (took c)
+    (took c)

@@ -69,7 +69,7 @@ returns-in-Err c =
     (refused-execution Bool m k n c.in-Err.error (instruction_of m n) (stays c)
     (subst (λ ws. IsBlocked {A = Bool} (Err c.in-Err.error)
     (instruction (bus_settings_of m) (bus_program_of m) (word_in ws) n (cores_of (bank_in m) n))) c.words_of.ensures
-        c.in-Err.ensures.blocked)
+    c.in-Err.ensures.blocked)
     a.goes_on (free-where m n c.self.invariant a.exists a.runs b)))
 
 -- ---- an execution

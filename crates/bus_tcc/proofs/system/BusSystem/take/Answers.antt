@@ -21,7 +21,7 @@ returns-then-not-is_left c =
     let m = machine_of c.self.inside in
     let n = c.args.core.0 in
     let same = c.cores-cores.ensures.value ∙ ap (λ s. s.cores) c.config.ensures
-        ∙ ap (λ x. (bus_settings_of x).cores) (sym c.self.view_is) in
+    ∙ ap (λ x. (bus_settings_of x).cores) (sym c.self.view_is) in
     let l = subst (λ k. n < k) same c.if-core-cores.false in
     subst (λ x. Kept x x × (bus_step_of x (Take n) ≡ None)) c.self.view_is (
       record { history = refl; events = refl; code = refl },
@@ -33,7 +33,7 @@ invariant_of-self c =
     let m = machine_of c.self.inside in
     let n = c.args.core.0 in
     let same = c.cores-cores.ensures.value ∙ ap (λ s. s.cores) c.config.ensures
-        ∙ ap (λ x. (bus_settings_of x).cores) (sym c.self.view_is) in
+    ∙ ap (λ x. (bus_settings_of x).cores) (sym c.self.view_is) in
     let l = subst (λ k. n < k) same c.if-core-cores.false in
     let k = after_take c.self.inside c.take.new.self c.leave.new.self in
     let lines : TookLines m k n c.lines.result.now = record {
@@ -54,7 +54,7 @@ returns c =
     let m = machine_of c.self.inside in
     let n = c.args.core.0 in
     let same = c.cores-cores.ensures.value ∙ ap (λ s. s.cores) c.config.ensures
-        ∙ ap (λ x. (bus_settings_of x).cores) (sym c.self.view_is) in
+    ∙ ap (λ x. (bus_settings_of x).cores) (sym c.self.view_is) in
     let l = subst (λ k. n < k) same c.if-core-cores.false in
     let k = after_take c.self.inside c.take.new.self c.leave.new.self in
     let lines : TookLines m k n c.lines.result.now = record {

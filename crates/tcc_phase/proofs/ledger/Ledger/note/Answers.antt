@@ -17,7 +17,7 @@ returns-clause-held c = elim c.match-limit.branch [
       rw (w.self-is, w.self2-is)
       (ap (take w.hold-self.result)
       (written-over k.held.len w.hold-self.new.held k.held.items (w.hold-self.ensures.length
-          ∙ ap length w.deref_mut.ensures.value) k.held.ok.0)
+      ∙ ap length w.deref_mut.ensures.value) k.held.ok.0)
       ∙ w.hold-self.ensures.listed
       ∙ (λ i. those (is_above (settings_of m) (program_of m) (world_of m) w.in-Some.least (w.deref.ensures.value i)
       (w.deref-in-Some.ensures.value i)) (settings_of m).cores)

@@ -55,7 +55,7 @@ returns-in-Some-clause-passed c = λ q.
     c.useful_at.ensures c.in-Some.is in
     subst (λ (p : PhaseMachine). c.args.row < passed_by p.refined.machine (c.args.k + c.args.row + 1)) c.self.view_is
     (passed-if m l c.self.invariant.kept laws.holds laws.ordered c.args.k c.args.row (below c) (event_of c.in-Some.e)
-        c.index-core.result.now
+    c.index-core.result.now
     c.index-seq.result.now c.stands_before.result c.index-core.ensures c.index-seq.ensures at c.stands_before.ensures q)
 
 pub returns-in-Some-clause-not_yet : goal.returns-in-Some-clause-not_yet
@@ -67,7 +67,7 @@ returns-in-Some-clause-not_yet c = λ q.
     c.useful_at.ensures c.in-Some.is in
     subst (λ (p : PhaseMachine). passed_by p.refined.machine (c.args.k + c.args.row + 1) ≤ c.args.row) c.self.view_is
     (not_yet-if m l c.self.invariant.kept laws.holds laws.ordered c.args.k c.args.row (below c) (event_of c.in-Some.e)
-        c.index-core.result.now
+    c.index-core.result.now
     c.index-seq.result.now c.stands_before.result c.index-core.ensures c.index-seq.ensures at c.stands_before.ensures q)
 
 pub returns-in-None-clause-passed : goal.returns-in-None-clause-passed

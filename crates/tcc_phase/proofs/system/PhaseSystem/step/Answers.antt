@@ -49,7 +49,7 @@ kept c =
     let m : Machine = c.self.inside.refined.machine in
     subst (IsKept (start_of m) (history_of m) m.events) (sym c.reserve.ensures.others)
     (kept-each (start_of m) (history_of m) m.events c.self.inside.ledger c.reserve.new.self.each c.reserve.ensures.each
-        c.self.invariant.kept)
+    c.self.invariant.kept)
 
 same-code : (c : goal.After-system-in-Ok) → c.system-in-Ok.result.now.cores.code ≡ c.self.inside.refined.machine.cores.code
 same-code c = ap (λ (x : Machine). x.cores.code) c.system-in-Ok.ensures.machine ∙ c.in-Ok.ensures.code
@@ -84,7 +84,7 @@ invariant_of-self-in-Ok c =
     c.holds_back.ensures c.if-holds_back.false ∙ c.in-Ok.ensures.next in
     let kept-1 = subst (IsKept (start_of m) (history_of m) m.events) (sym c.reserve.ensures.others)
     (kept-each (start_of m) (history_of m) m.events c.self.inside.ledger c.reserve.new.self.each c.reserve.ensures.each
-        c.self.invariant.kept) in
+    c.self.invariant.kept) in
     let es = map event_of c.self.inside.refined.taken in
     let e = event_of c.args.e in
     let code = c.in-Ok.ensures.code in
