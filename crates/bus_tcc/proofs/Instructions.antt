@@ -75,12 +75,12 @@ executed-takes w c o (Ready t) e = cc
 executed-takes w c o (Solo t) e = cc
 executed-takes w c o Halted e = cc
 
-free-so : {A : Type 0} → (b : Bus) (x : A) → is_free b ≡ true → when_free b x ≡ Some x
+pub free-so : {A : Type 0} → (b : Bus) (x : A) → is_free b ≡ true → when_free b x ≡ Some x
 free-so Free x e = refl
 free-so (Alone c) x e = cc
 free-so (Packet f left) x e = cc
 
-busy-so : {A : Type 0} → (b : Bus) (x : A) → is_free b ≡ false → when_free b x ≡ None
+pub busy-so : {A : Type 0} → (b : Bus) (x : A) → is_free b ≡ false → when_free b x ≡ None
 busy-so Free x e = cc
 busy-so (Alone c) x e = refl
 busy-so (Packet f left) x e = refl

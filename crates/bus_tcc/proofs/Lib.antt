@@ -11,3 +11,7 @@ mod Writes
 mod Stores
 mod Cleaned
 mod Instructions
+mod Commits
+mod BankCommits
+mod Published
+mod ByPhase

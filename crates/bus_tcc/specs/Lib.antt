@@ -3,6 +3,7 @@ pub mod Machine
 pub mod Bank
 pub mod BankInside
 pub mod Cleaning
+pub mod Committing
 pub mod Left
 pub mod Storing
 pub mod Taking

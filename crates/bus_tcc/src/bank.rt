@@ -2,11 +2,13 @@
 ghost use Rattle.std.specs.Prelude.{◌≡◌, ◌<◌, ◌↔◌, ℕ, true, IsTrue, IfOk, OnOk, OnErr, Some, None};
 ghost use Rattle.image_load.specs.Contents.{started};
 ghost use Rattle.tcc_rules.specs.CoreEvict.{core_evict};
-ghost use Rattle.tcc_rules.specs.State.{Halted};
-ghost use Rattle.core_node.specs.Answers.{IsBlocked};
+ghost use Rattle.tcc_rules.specs.State.{AwaitTid, Halted};
+ghost use Rattle.core_node.specs.Answers.{IsBlocked, IsMemory};
 ghost use Rattle.core_node.specs.View.{core_of};
 ghost use Rattle.core_bank.specs.Bank.{cores_of, first_core};
+ghost use Rattle.bus_rules.specs.Commit.{all_clean, commit_out};
 ghost use Rattle.bus_rules.specs.Exec.{instruction};
+ghost use Rattle.bus_tcc.specs.Committing.{CanCommit, IsCommitOf};
 ghost use Rattle.bus_tcc.specs.Bank.{Acted, ExecutedAt};
 ghost use Rattle.bus_tcc.specs.Machine.{word_in};
 ghost use Rattle.bus_tcc.specs.Taking.{took};
@@ -15,6 +17,7 @@ ghost use Rattle.core_node.specs.AtHand.{executes, goes_alone};
 ghost use Rattle.tcc_rules.specs.CoreExec.{core_exec};
 ghost use Rattle.rv_code.specs.Machine.{program};
 
+use crate::committing::{Written, commit_one};
 use crate::executing::execute_one;
 use crate::taking::take_lines;
 use commit_engine::Phase;
@@ -117,6 +120,25 @@ impl BusBank {
             tid,
             out,
         )
+    }
+
+    /// A core that waits for the bus commits by this TID, and says what it wrote. After want of memory the cores are as before.
+    pub(crate) fn commit(
+        &mut self,
+        core: CoreId,
+        tid: Tid,
+        out: &mut Outgoing,
+    ) -> Result<Written, CoreError>
+        requires exists { core.0 < self.old.code.settings.cores }
+        requires waits { (cores_of self.old core.0).phase ≡ AwaitTid }
+        requires can { CanCommit self.old.code.settings (cores_of self.old core.0) }
+        ensures does { OnOk result (cores_of self.new ≡ put (cores_of self.old) core.0 (all_clean (commit_out self.old.code.settings core.0 tid.0 (cores_of self.old core.0)).core)) }
+        ensures wrote { IfOk result (λ w. IsCommitOf self.old.code.settings core.0 tid.0 (cores_of self.old core.0) w) }
+        ensures cause { OnErr result (IsMemory result) }
+        ensures code { self.new.code ≡ self.old.code }
+        ensures unchanged { OnErr result (cores_of self.new ≡ cores_of self.old) }
+    {
+        commit_one(&mut self.cores.items[core.0 as usize], tid, out)
     }
 
     /// A core takes the lines of a packet. Takes time in these lines, and where the core begins anew in its cache's frames.

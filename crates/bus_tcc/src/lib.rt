@@ -5,15 +5,19 @@
 mod bank;
 mod bus;
 mod cleaning;
+mod commit;
+mod committing;
 mod event;
 mod exec;
 mod executing;
+mod publishing;
 mod readers;
 mod stepping;
 mod storing;
 mod system;
 mod take;
 mod taking;
+mod together;
 
 pub use bus::{Bus, CoreSet, Packet};
 pub use event::{BusError, BusEvent, BusStep};

@@ -7,7 +7,7 @@ ghost use Rattle.core_node.specs.AtHand.{words_in};
 ghost use Rattle.bus_tcc.specs.Machine.{word_in};
 ghost use Rattle.bus_tcc.specs.Storing.{AreInside};
 
-use tcc_base::Tagged;
+use tcc_base::{List, Tagged};
 
 /// Whether a mask holds the word at a place.
 fn holds(mask: u8, k: usize) -> bool
@@ -50,4 +50,13 @@ pub(crate) fn store_lines(ram: &mut [u32], lines: &[Tagged])
         left -= 1;
         store_line(ram, &lines[left]);
     }
+}
+
+/// The same of all memory.
+pub(crate) fn store_all(ram: &mut List<u32>, lines: &[Tagged])
+    requires { AreInside (length ram.old) lines.now }
+    ensures count { length ram.new ≡ length ram.old }
+    ensures words { word_in ram.new ≡ with_words (words_in lines.now) (word_in ram.old) }
+{
+    store_lines(&mut ram.items, lines);
 }

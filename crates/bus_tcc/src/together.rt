@@ -1,0 +1,32 @@
+// A core that isn't alone.
+ghost use Rattle.std.specs.Prelude.{◌≡◌, ◌<◌, false};
+ghost use Rattle.tcc_rules.specs.Attempt.{is_solo};
+ghost use Rattle.bus_rules.specs.State.{Exec};
+ghost use Rattle.bus_tcc.specs.Answers.{Answers};
+ghost use Rattle.bus_tcc.specs.Machine.{bus_settings_of, bus_world_of};
+
+use crate::event::{BusError, BusStep};
+use crate::system::BusSystem;
+use commit_engine::Phase;
+use tcc_base::CoreId;
+
+impl BusSystem {
+    /// A core that isn't alone executes, or commits where its transaction has ended.
+    pub(crate) fn exec_together(&mut self, core: CoreId) -> Result<BusStep, BusError>
+        requires few { self.old.events < 4194304 }
+        requires exists { core.0 < (bus_settings_of self.old).cores }
+        requires together { is_solo ((bus_world_of self.old).cores core.0).phase ≡ false }
+        ensures { Answers self.old self.new (Exec core.0) result }
+    {
+        match self.cores.core(core).phase() {
+            Phase::Running => self.execute(core),
+            Phase::AwaitTid => self.commit(core),
+            Phase::DoomedTid => Err(BusError::Refused),
+            Phase::Probing(_) => Err(BusError::Refused),
+            Phase::Ready(_) => Err(BusError::Refused),
+            Phase::Overflowing(_) => Err(BusError::Refused),
+            Phase::Solo(_) => Err(BusError::Refused),
+            Phase::Halted => Err(BusError::Refused),
+        }
+    }
+}
