@@ -1,4 +1,5 @@
--- No state is stuck.
+-- No state is stuck, and when an instruction of a core in bounds can be executed.
 pub mod Listed
 pub mod Live
+pub mod Enabled
 pub mod Picked
