@@ -1,11 +1,11 @@
 -- An instruction of a core in bounds: it can be executed where the core by itself executes, and a core that is alone doesn't wait for that.
-use Rattle.std.specs.Prelude.{ℕ, ◌≡◌, Bool, true, false, Option, Some, None, is_some, IfSome}
+use Rattle.std.specs.Prelude.{ℕ, ◌≡◌, true, Option, Some, None, is_some, IfSome}
 use Rattle.std.proofs.Common.{refl, ap, sym, ◌∙◌}
 use Rattle.tcc_maps.specs.Shape.{Shape}
 use Rattle.tcc_program.specs.Program.{Program}
 use Rattle.tcc_rules.specs.Attempt.{Out, is_solo}
 use Rattle.tcc_rules.specs.CoreExec.{core_exec}
-use Rattle.tcc_rules.specs.State.{CoreState, Phase, Overflowing, Solo}
+use Rattle.tcc_rules.specs.State.{CoreState, Solo}
 use Rattle.tcc_serial.specs.OneCore.{executes}
 use Rattle.bus_rules.specs.Exec.{if_executed, instruction}
 use Rattle.bus_serial.specs.Bounds.{BusCoreInBounds}
