@@ -5,6 +5,6 @@ pub use Rattle.bus_serial.proofs.Serial.Given.{bus_runs_give_the_plain_machine, 
 pub use Rattle.bus_serial.proofs.Serial.Given.{riscv_bus_never_stuck, riscv_bus_picked_ends_done}
 pub use Rattle.bus_serial.proofs.Going.Live.{bus_never_stuck}
 pub use Rattle.bus_serial.proofs.Going.Enabled.{alone-stays, instruction-some}
-pub use Rattle.bus_serial.proofs.Going.Parts.{room-below, useful-by_core}
+pub use Rattle.bus_serial.proofs.Going.Parts.{evicts_in, flat-same, one_if, room-below, useful-by_core}
 pub use Rattle.bus_serial.proofs.Going.Picked.{picked-is_run, bus_picked_ends_done}
 pub use Rattle.bus_serial.proofs.Serial.Commits.{bus_runs_are_serial}

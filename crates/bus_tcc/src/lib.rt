@@ -7,6 +7,7 @@ mod bus;
 mod cleaning;
 mod commit;
 mod committing;
+mod counts;
 mod event;
 mod exec;
 mod executing;
@@ -18,6 +19,7 @@ mod system;
 mod take;
 mod taking;
 mod together;
+mod uses;
 
 pub use bus::{Bus, CoreSet, Packet};
 pub use event::{BusError, BusEvent, BusStep};

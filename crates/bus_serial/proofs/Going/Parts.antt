@@ -44,7 +44,7 @@ filter-flat : {A B : Type 0} (t : B → Bool) (g : A → List B) (xs : List A)
 filter-flat t g [] = refl
 filter-flat t g (x ∷ xs) = filter-append t (g x) (flat_map g xs) ∙ ap (λ ys. filter t (g x) ++ ys) (filter-flat t g xs)
 
-flat-same : {A : Type 0} (f g : ℕ → List A) (n : ℕ) → ((k : ℕ) → k < n → f k ≡ g k) → flat_map f (numbers n) ≡ flat_map g (numbers n)
+pub flat-same : {A : Type 0} (f g : ℕ → List A) (n : ℕ) → ((k : ℕ) → k < n → f k ≡ g k) → flat_map f (numbers n) ≡ flat_map g (numbers n)
 unfolding those
 flat-same f g zero h = refl
 flat-same f g (suc n) h =
