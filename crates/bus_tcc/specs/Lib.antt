@@ -13,3 +13,4 @@ pub mod Inside
 pub mod Answers
 pub mod Chosen
 pub mod Uses
+pub mod Parts
