@@ -21,3 +21,4 @@ mod Using
 mod Counting
 mod Enabling
 mod Choices
+mod Others

@@ -10,6 +10,7 @@ mod commit;
 mod committing;
 mod counts;
 mod ending;
+mod engine;
 mod event;
 mod exec;
 mod executing;
@@ -22,6 +23,7 @@ mod system;
 mod take;
 mod taking;
 mod together;
+mod useful;
 mod uses;
 
 pub use bus::{Bus, CoreSet, Packet};
