@@ -7,8 +7,6 @@ mod bytes;
 mod memory;
 mod plain;
 mod serial;
-#[cfg(test)]
-mod tests;
 
 pub use attempt::{Attempt, Outcome};
 pub use bytes::{read as read_part, replace as replace_part};

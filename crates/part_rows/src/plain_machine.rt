@@ -1,8 +1,8 @@
 // Transactions of a program of six instructions, alone and one after another.
 ghost use Rattle.std.specs.Prelude.{◌≡◌, ◌<◌, IfSome};
 
-use crate::{Order, Plain, PlainFault, SerialFault};
 use image_load::{load, raw};
+use rv_plain::{Order, Plain, PlainFault, SerialFault};
 use std::alloc::Global;
 use std::test::Fail;
 use tcc_base::{Config, CoreEnd, CoreId, List, Reg, Size, Stored, Tid, WordAddr};

@@ -1,7 +1,7 @@
 // Whole machines: from raw images, by events, to what the commits leave.
 ghost use Rattle.std.specs.Prelude.{◌≡◌, ◌≤◌, length, IfOk};
 
-use crate::{Step, StepError, System};
+use net_core::{Step, StepError, System};
 use directory::LineState;
 use image_load::{load, raw};
 use std::alloc::Global;

@@ -2,7 +2,7 @@
 ghost use Rattle.std.specs.Prelude.{◌<◌};
 ghost use Rattle.dir_lines.specs.Home.{IsAtHome};
 
-use crate::{DirLines, LineRecord, Lines, MapLines, PageLines};
+use dir_lines::{DirLines, LineRecord, Lines, MapLines, PageLines};
 use std::test::Fail;
 use tcc_base::{Config, CoreId, DirId, LineAddr, Mask, Tid};
 

@@ -1,7 +1,7 @@
 // A commit of a core among others and of one that is alone, with three directories of which one was not written.
 ghost use Rattle.std.specs.Prelude.{◌≡◌};
 
-use super::{
+use commit_engine::{
     note_commit, send_commits, send_solo, solo_homes, solo_marks_into, solo_room, written_homes,
 };
 use overflow_buf::OverflowBuf;

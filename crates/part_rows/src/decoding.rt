@@ -3,7 +3,7 @@
 // The words are those that GNU as 2.40 makes of these instructions with -march=rv32ima.
 ghost use Rattle.std.specs.Prelude.{◌<◌};
 
-use crate::{AmoOp, Cond, ImmOp, Inst, LoadKind, RegOp, decode, encode};
+use rv_decode::{AmoOp, Cond, ImmOp, Inst, LoadKind, RegOp, decode, encode};
 use std::process::Abort;
 use tcc_base::{Reg, Size};
 

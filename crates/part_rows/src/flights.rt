@@ -1,5 +1,5 @@
 // Messages sent, marked, listed and taken, with ample memory.
-use crate::{InFlight, Lane};
+use in_flight::{InFlight, Lane};
 use std::test::Fail;
 use tcc_base::{CoreId, DirId, NoMemory, NodeId, Tid};
 use tcc_msg::{Msg, Name};

@@ -1,5 +1,5 @@
 // A bank of two directories, with ample memory.
-use crate::DirBank;
+use dir_bank::DirBank;
 use directory::Handled;
 use image_load::{load, raw};
 use std::test::Fail;

@@ -1,7 +1,7 @@
 // What a core that has just begun does with messages and with a frame to empty, a load, and an end with its commit.
 ghost use Rattle.std.specs.Prelude.{◌≡◌, IfOk};
 
-use crate::{CoreError, CoreNode, Executed};
+use core_node::{CoreError, CoreNode, Executed};
 use commit_engine::Phase;
 use image_load::{load, raw};
 use rv_code::Code;

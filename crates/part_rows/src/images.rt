@@ -2,8 +2,8 @@
 ghost use Rattle.std.specs.Prelude.{◌≡◌, IfOk, IfSome};
 ghost use Rattle.image_elf.specs.Elf.{IsWithinSizes};
 
-use super::{LoadFault, load, raw};
 use image_elf::{Image, Segment};
+use image_load::{LoadFault, load, raw};
 use std::alloc::{AllocError, Global};
 use std::test::Fail;
 use tcc_base::{Config, CoreId, List, WordAddr};

@@ -1,7 +1,7 @@
 // A machine in the middle of a violation: which messages wait and why, and what is found to happen next.
 ghost use Rattle.std.specs.Prelude.{◌≡◌, ◌≤◌, IfOk, length};
 
-use crate::{Reason, find, find_for, has_halted, waits_because};
+use live_core::{Reason, find, find_for, has_halted, waits_because};
 use image_load::{load, raw};
 use net_core::System;
 use std::alloc::Global;

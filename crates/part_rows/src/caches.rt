@@ -1,5 +1,5 @@
 // Both forms of the frames driven by the same calls, and a cache that is filled, rolled back and committed.
-use super::{
+use spec_cache::{
     Evicted, FrameView, Frames, Invalidated, ListFrames, Look, SetFrames, SpecCache, Wants,
 };
 use std::test::Fail;
