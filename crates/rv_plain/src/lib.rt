@@ -10,5 +10,5 @@ mod serial;
 
 pub use attempt::{Attempt, Outcome};
 pub use bytes::{read as read_part, replace as replace_part};
-pub use memory::Memory;
+pub use memory::BufferedRam;
 pub use plain::{CoreState, Done, Order, Plain, PlainFault, SerialFault};

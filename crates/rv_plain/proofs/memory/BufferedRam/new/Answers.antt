@@ -1,7 +1,7 @@
 use Rattle.std.proofs.Common.{◌≡◌, ◌<◌, ◌/◌, ◌%◌, ◌^◌, ℕ, length, slice_index, arith}
 use Rattle.image_load.specs.Contents.{started}
 use Rattle.rv_plain.proofs.Starts.{flat-first}
-use Rattle.rv_plain.proofs.memory.Memory.new.Goals as goal
+use Rattle.rv_plain.proofs.memory.BufferedRam.new.Goals as goal
 
 pub returns-clause-ram : goal.returns-clause-ram
 unfolding started

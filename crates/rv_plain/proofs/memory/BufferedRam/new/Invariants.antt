@@ -1,6 +1,6 @@
 use Rattle.std.proofs.Common.{◌≡◌, ℕ, ◌<◌, ◌%◌, ◌^◌, length, slice_index}
 use Rattle.image_load.specs.Contents.{started}
-use Rattle.rv_plain.proofs.memory.Memory.new.Given as goal
+use Rattle.rv_plain.proofs.memory.BufferedRam.new.Given as goal
 
 abbrev pub invariant-loop-w : goal.invariant-loop-w
 invariant-loop-w l =
