@@ -19,6 +19,8 @@ mod storing;
 mod system;
 mod take;
 mod taking;
+#[cfg(test)]
+mod tests;
 mod together;
 
 pub use bus::{Bus, CoreSet, Packet};
