@@ -7,16 +7,20 @@ mod bus;
 mod cleaning;
 mod commit;
 mod committing;
+mod ending;
 mod event;
 mod exec;
 mod executing;
 mod publishing;
 mod readers;
+mod step;
 mod stepping;
 mod storing;
 mod system;
 mod take;
 mod taking;
+#[cfg(test)]
+mod tests;
 mod together;
 
 pub use bus::{Bus, CoreSet, Packet};
