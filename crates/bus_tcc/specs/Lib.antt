@@ -11,3 +11,4 @@ pub mod Whole
 pub mod Inside
 pub mod Answers
 pub mod Chosen
+pub mod Refined
