@@ -12,6 +12,7 @@ mod Writes
 mod Stores
 mod Cleaned
 mod Instructions
+mod Endings
 mod Commits
 mod BankCommits
 mod Published

@@ -4,6 +4,7 @@ pub mod Bank
 pub mod BankInside
 pub mod Cleaning
 pub mod Committing
+pub mod Ending
 pub mod Left
 pub mod Storing
 pub mod Taking
