@@ -12,3 +12,4 @@ pub mod Whole
 pub mod Inside
 pub mod Answers
 pub mod Chosen
+pub mod Refined
