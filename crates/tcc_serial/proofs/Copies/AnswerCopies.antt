@@ -1,16 +1,7 @@
 -- Each answer of a directory leaves the copies of a line similar, but that a Commit takes the lines over that it stored.
-use Rattle.std.specs.Prelude.{ℕ, ◌+◌, ◌≡◌, ◌<◌, ◌≤◌, ◌⊎◌, ◌==◌, ◌&&◌, Bool, true, false, List, Some, None, if◌then◌else◌}
-use Rattle.std.proofs.Common.{arith, refl, ap, sym, ◌∙◌, inl, inr}
-use Rattle.std.proofs.lemmas.Bool.{cases_eq}
-use Rattle.std.proofs.lemmas.Bool.Decides.{nat_tests}
-use Rattle.tcc_base.specs.declared.access.Commit.{Commit as Noted}
-use Rattle.tcc_maps.specs.Words.{num}
-use Rattle.tcc_maps.specs.Nodes.{Msg}
-use Rattle.tcc_rules.specs.State.{DirState}
-use Rattle.tcc_serial.specs.Count.{Kind, Commits, CopyOf, CopyMask, live, passes}
-use Rattle.tcc_serial.specs.Pairs.{Pair}
-use Rattle.tcc_serial.specs.Standing.{is_this}
-use Rattle.tcc_serial.specs.Wrote.{wrote_line}
+use Rattle.tcc_serial.proofs.Names.{ℕ, ◌+◌, ◌≡◌, ◌<◌, ◌≤◌, ◌⊎◌, ◌==◌, ◌&&◌, Bool, true, false, List, Some, None, if◌then◌else◌, arith, refl}
+use Rattle.tcc_serial.proofs.Names.{ap, sym, ◌∙◌, inl, inr, cases_eq, nat_tests, Noted, num, Msg, DirState, Kind, Commits, CopyOf, CopyMask}
+use Rattle.tcc_serial.proofs.Names.{live, passes, Pair, is_this, wrote_line}
 use Rattle.tcc_serial.proofs.Copies.DirCopies.{Similar}
 use Rattle.tcc_serial.proofs.Marks.DirRecords.{NoCommit}
 use Rattle.tcc_serial.proofs.Copies.PairCopies.{LineCopies, of-line}

@@ -1,20 +1,10 @@
 -- A commit makes one copy of each line that it stored, with its TID and of the stored words: in the frame, or sent from the overflow
 -- buffer.
-use Rattle.std.specs.Prelude.{ℕ, ◌≡◌, ◌<◌, ◌==◌, ◌&&◌, ◌||◌, Bool, true, false, not, Option, Some, None, is_some, if◌then◌else◌}
-use Rattle.std.proofs.Common.{arith, refl, sym, ◌∙◌}
-use Rattle.tcc_maps.specs.Words.{num, any_word, word_at}
-use Rattle.tcc_maps.specs.Masks.{mask_of}
-use Rattle.tcc_maps.specs.Nodes.{Dir}
-use Rattle.tcc_maps.specs.Shape.{Shape, home, lines}
-use Rattle.tcc_maps.specs.Cache.{Cache, is_modified, modified_mask}
-use Rattle.tcc_maps.specs.CacheChange.{committed, words_dropped}
-use Rattle.tcc_maps.specs.Spilled.{Spilled, holds, spilled_mask}
-use Rattle.tcc_maps.proofs.Lemmas.{any_below-at}
-use Rattle.tcc_rules.specs.State.{CoreState, Ready}
-use Rattle.tcc_rules.specs.Commit.{commit, committed_core, noted, solo_commit, commit_sends, is_written, written_mask}
-use Rattle.tcc_serial.specs.OneCore.{OneCore, Words}
-use Rattle.tcc_serial.specs.Stored.{stores_in}
-use Rattle.tcc_serial.specs.Wrote.{names_line}
+use Rattle.tcc_serial.proofs.Names.{ℕ, ◌≡◌, ◌<◌, ◌==◌, ◌&&◌, ◌||◌, Bool, true, false, not, Option, Some, None, is_some, if◌then◌else◌}
+use Rattle.tcc_serial.proofs.Names.{arith, refl, sym, ◌∙◌, num, any_word, word_at, mask_of, Dir, Shape, home, lines, Cache, is_modified}
+use Rattle.tcc_serial.proofs.Names.{modified_mask, committed, words_dropped, Spilled, holds, spilled_mask, any_below-at, CoreState, Ready}
+use Rattle.tcc_serial.proofs.Names.{commit, committed_core, noted, solo_commit, commit_sends, is_written, written_mask, OneCore, Words}
+use Rattle.tcc_serial.proofs.Names.{stores_in, names_line}
 use Rattle.tcc_serial.proofs.Copies.CopySends.{few-masks, commit-copies, solo-copies, solo-wrong}
 use Rattle.tcc_serial.proofs.Copies.CoreCopies.{Conserves}
 use Rattle.tcc_serial.proofs.Copies.DirtyFrames.{wrong-copy, IsClean, clean-frame, in-line, committed-frame}

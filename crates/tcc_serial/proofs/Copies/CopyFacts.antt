@@ -1,18 +1,8 @@
 -- The facts of the list on copies, from what is kept of each line in memory; and that the start has it.
-use Rattle.std.specs.Prelude.{ℕ, ◌≡◌, ◌<◌, ◌==◌, ◌&&◌, Bool, true, false, not, List, []}
-use Rattle.std.proofs.Common.{arith, refl}
-use Rattle.std.proofs.lemmas.Bool.Decides.{nat_tests}
-use Rattle.tcc_base.specs.declared.access.Commit.{Commit as Noted}
-use Rattle.tcc_program.specs.Program.{Local}
-use Rattle.tcc_maps.specs.Words.{num, any_below, any_word}
-use Rattle.tcc_maps.specs.Cache.{Cache, empty_cache, is_dirty, dirty_tag, dirty_mask}
-use Rattle.tcc_maps.specs.Lines.{no_lines}
-use Rattle.tcc_maps.specs.Shape.{Shape}
-use Rattle.tcc_rules.specs.State.{World, start, core_start, dir_start}
-use Rattle.tcc_serial.specs.Copies.{copies_with, AboveOf, KeptAbove, OwnedOf, KeptOwned}
-use Rattle.tcc_serial.specs.Count.{live}
-use Rattle.tcc_serial.specs.Pairs.{Pair, pair}
-use Rattle.tcc_serial.specs.Wrote.{wrote, wrote_line, wrote_mask}
+use Rattle.tcc_serial.proofs.Names.{ℕ, ◌≡◌, ◌<◌, ◌==◌, ◌&&◌, Bool, true, false, not, List, [], arith, refl, nat_tests, Noted, Local, num}
+use Rattle.tcc_serial.proofs.Names.{any_below, any_word, Cache, empty_cache, is_dirty, dirty_tag, dirty_mask, no_lines, Shape, World, start}
+use Rattle.tcc_serial.proofs.Names.{core_start, dir_start, copies_with, AboveOf, KeptAbove, OwnedOf, KeptOwned, live, Pair, pair, wrote}
+use Rattle.tcc_serial.proofs.Names.{wrote_line, wrote_mask}
 use Rattle.tcc_serial.proofs.Copies.DirtyFrames.{frame_copy, frame_wrong}
 use Rattle.tcc_serial.proofs.Copies.LinesKept.{KeptLines}
 use Rattle.tcc_serial.proofs.Copies.PairCopies.{line_copies, line_wrong, LineCopies}

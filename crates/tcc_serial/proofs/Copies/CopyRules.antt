@@ -1,29 +1,18 @@
 -- What a core's events do to the copies of a line: all keep them, but that a commit makes new ones, and that an invalidation of the line
 -- may leave fewer in the frame.
-use Rattle.std.specs.Prelude.{ℕ, ◌+◌, ◌≡◌, ◌<◌, ◌≤◌, ◌⊎◌, ◌==◌, ◌&&◌, ◌||◌, Bool, true, false, not, List, [], ◌∷◌, Option, Some, None, IfSome, if◌then◌else◌}
-use Rattle.std.proofs.Common.{arith, refl, ap, sym, ◌∙◌, inl, inr}
-use Rattle.std.proofs.lemmas.Bool.{cases_eq}
-use Rattle.std.proofs.lemmas.Bool.Decides.{nat_tests}
-use Rattle.tcc_base.specs.declared.access.Size.TheVariants.{Byte, Half, Word}
-use Rattle.tcc_program.specs.Program.{Program, Need, Nothing, Loads, Stores, Changes, Prints, Ends, Halts, Traps}
-use Rattle.tcc_program.specs.Ram.{word_of}
-use Rattle.tcc_maps.specs.Words.{line_of, word_at}
-use Rattle.tcc_maps.specs.Masks.{hit}
-use Rattle.tcc_maps.specs.Nodes.{Dir, Vendor, Msg, TidReq, TidGrant, LoadReq, Fill, Skip, Probe, ProbeReply, Mark, Commit, Abort, WriteBack, Flush, DataReq, Inv, InvAck}
-use Rattle.tcc_maps.specs.Shape.{Shape, home, lines}
-use Rattle.tcc_maps.specs.Cache.{Cache, IsCache, is_marked, keeps, modified_mask, written_lines}
-use Rattle.tcc_maps.specs.CacheChange.{evicted, filled, cleaned, invalidated, rolled_back, read_cleared}
-use Rattle.tcc_maps.specs.Spilled.{spill_line}
-use Rattle.tcc_rules.specs.State.{CoreState, Awaited, Phase, Running, AwaitTid, DoomedTid, Probing, Ready, Overflowing, Solo, Halted}
-use Rattle.tcc_rules.specs.Sends.{nothing, to, written_back, marks_for, abort_written, skip_all, probe_all}
-use Rattle.tcc_rules.specs.Attempt.{Out, moves, finished, stepped, is_solo, roll_back}
-use Rattle.tcc_rules.specs.CoreDeliver.{grant, grant_phase, grant_sends, from_dir, probe_reply, reply_phase, ignored, replied, all_replied, when_ready, when_alone, fill, fill_awaited, data_request, invalidate, acknowledged, without, violated_in, if_violated, is_violated}
-use Rattle.tcc_rules.specs.CoreExec.{core_exec, exec_phase, unless_awaiting}
-use Rattle.tcc_rules.specs.CoreEvict.{core_evict, evict_line, is_awaited}
-use Rattle.tcc_rules.specs.Execute.{close, execute_need, execute}
-use Rattle.tcc_maps.proofs.Lemmas.{dirty-evicted}
-use Rattle.tcc_serial.specs.Count.{CopyOf, among, passes}
-use Rattle.tcc_serial.specs.OneCore.{OneCore, Words}
+use Rattle.tcc_serial.proofs.Names.{ℕ, ◌+◌, ◌≡◌, ◌<◌, ◌≤◌, ◌⊎◌, ◌==◌, ◌&&◌, ◌||◌, Bool, true, false, not, List, [], ◌∷◌, Option, Some, None}
+use Rattle.tcc_serial.proofs.Names.{IfSome, if◌then◌else◌, arith, refl, ap, sym, ◌∙◌, inl, inr, cases_eq, nat_tests, Byte, Half, Word}
+use Rattle.tcc_serial.proofs.Names.{Program, Need, Nothing, Loads, Stores, Changes, Prints, Ends, Halts, Traps, word_of, line_of, word_at}
+use Rattle.tcc_serial.proofs.Names.{hit, Dir, Vendor, Msg, TidReq, TidGrant, LoadReq, Fill, Skip, Probe, ProbeReply, Mark, Commit, Abort}
+use Rattle.tcc_serial.proofs.Names.{WriteBack, Flush, DataReq, Inv, InvAck, Shape, home, lines, Cache, IsCache, is_marked, keeps}
+use Rattle.tcc_serial.proofs.Names.{modified_mask, written_lines, evicted, filled, cleaned, invalidated, rolled_back, read_cleared}
+use Rattle.tcc_serial.proofs.Names.{spill_line, CoreState, Awaited, Phase, Running, AwaitTid, DoomedTid, Probing, Ready, Overflowing, Solo}
+use Rattle.tcc_serial.proofs.Names.{Halted, nothing, to, written_back, marks_for, abort_written, skip_all, probe_all, Out, moves, finished}
+use Rattle.tcc_serial.proofs.Names.{stepped, is_solo, roll_back, grant, grant_phase, grant_sends, from_dir, probe_reply, reply_phase}
+use Rattle.tcc_serial.proofs.Names.{ignored, replied, all_replied, when_ready, when_alone, fill, fill_awaited, data_request, invalidate}
+use Rattle.tcc_serial.proofs.Names.{acknowledged, without, violated_in, if_violated, is_violated, core_exec, exec_phase, unless_awaiting}
+use Rattle.tcc_serial.proofs.Names.{core_evict, evict_line, is_awaited, close, execute_need, execute, dirty-evicted, CopyOf, among, passes}
+use Rattle.tcc_serial.proofs.Names.{OneCore, Words}
 use Rattle.tcc_serial.proofs.Copies.CommitCopies.{ready-copies, alone-copies}
 use Rattle.tcc_serial.proofs.Copies.CopySends.{flushed-leaves, back-home-leaves}
 use Rattle.tcc_serial.proofs.Copies.CoreCopies.{Conserves, conserves-still, conserves-sent, loaded, partly, wholly}

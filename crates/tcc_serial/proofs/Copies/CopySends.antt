@@ -1,17 +1,11 @@
 -- The copies of a line among what a core sends: the dirty words that leave a frame, and the spilled words of a commit.
-use Rattle.std.specs.Prelude.{ℕ, zero, suc, ◌+◌, ◌≡◌, ◌<◌, ◌≤◌, ◌==◌, ◌&&◌, Bool, true, false, not, cond, List, [], ◌∷◌, ◌++◌, Some, None, nat_lt, if◌then◌else◌}
-use Rattle.std.specs.List.{flat_map}
-use Rattle.std.proofs.Common.{arith, refl, ◌∙◌}
-use Rattle.std.proofs.lemmas.Bool.Decides.{nat_tests}
-use Rattle.std.proofs.lemmas.Grind.{flat_map-append}
-use Rattle.tcc_maps.specs.Words.{num, those, count_below}
-use Rattle.tcc_maps.specs.Nodes.{Dir, Msg, Skip, Mark, Commit, WriteBack, Flush}
-use Rattle.tcc_maps.specs.Shape.{Shape, home, lines}
-use Rattle.tcc_maps.specs.Cache.{Cache, is_dirty, dirty_tag, dirty_mask, dirty_words, dirty_copy}
-use Rattle.tcc_maps.specs.Spilled.{Spilled, holds, spilled_mask, spilled_words}
-use Rattle.tcc_rules.specs.Commit.{commit_sends, solo_sends, solo_marks, solo_backs, solo_writes_at, is_written, written_mask}
-use Rattle.tcc_rules.specs.Sends.{to, flush, write_back, flushed, written_back}
-use Rattle.tcc_serial.specs.Count.{CopyOf, CopyMask, among, passes}
+use Rattle.tcc_serial.proofs.Names.{ℕ, zero, suc, ◌+◌, ◌≡◌, ◌<◌, ◌≤◌, ◌==◌, ◌&&◌, Bool, true, false, not, cond, List, [], ◌∷◌, ◌++◌, Some}
+use Rattle.tcc_serial.proofs.Names.{None, nat_lt, if◌then◌else◌, flat_map, arith, refl, ◌∙◌, nat_tests, flat_map-append, num, those}
+use Rattle.tcc_serial.proofs.Names.{count_below, Dir, Msg, Skip, Mark, Commit, WriteBack, Flush, Shape, home, lines, Cache, is_dirty}
+use Rattle.tcc_serial.proofs.Names.{dirty_tag, dirty_mask, dirty_words, dirty_copy, Spilled, holds, spilled_mask, spilled_words}
+use Rattle.tcc_serial.proofs.Names.{commit_sends, solo_sends, solo_marks, solo_backs, solo_writes_at, is_written, written_mask, to, flush}
+use Rattle.tcc_serial.proofs.Names.{flushed, written_back, CopyOf, CopyMask, among, passes}
+use Rattle.tcc_rules.specs.Sends.{write_back}
 use Rattle.tcc_serial.proofs.Copies.DirtyFrames.{frame_copy, frame_wrong}
 use Rattle.tcc_serial.proofs.Counts.Links.{among-append}
 use Rattle.tcc_serial.proofs.Counts.Sent.{among-flat_map_none}

@@ -1,24 +1,13 @@
 -- A core's instructions and evictions keep the copies of each line: dirty words that leave a frame are sent home, and a commit makes one
 -- copy of each line that it stored.
-use Rattle.std.specs.Prelude.{ℕ, ◌+◌, ◌≡◌, ◌<◌, ◌⊎◌, ◌==◌, ◌&&◌, ◌||◌, Bool, true, false, not, [], ◌∷◌, Option, Some, None, IfSome, is_some, if◌then◌else◌}
-use Rattle.std.proofs.Common.{arith, refl, ap, sym, ◌∙◌, inl, inr}
-use Rattle.std.proofs.lemmas.Bool.{cases_eq}
-use Rattle.std.proofs.lemmas.Bool.Decides.{nat_tests}
-use Rattle.tcc_base.specs.declared.access.Commit.{Commit as Noted}
-use Rattle.tcc_program.specs.Program.{Program, Need, Nothing, Loads, Stores, Changes, Prints, Ends, Halts, Traps}
-use Rattle.tcc_maps.specs.Words.{num, line_of, word_at}
-use Rattle.tcc_maps.specs.Nodes.{Dir, Vendor, TidReq, LoadReq}
-use Rattle.tcc_maps.specs.Shape.{Shape, home, set_of}
-use Rattle.tcc_maps.specs.Cache.{Cache, IsCache, free_way, all_marked}
-use Rattle.tcc_maps.specs.CacheChange.{marked, stored, placed, placed_at}
-use Rattle.tcc_maps.specs.Spilled.{holds}
-use Rattle.tcc_rules.specs.State.{CoreState, Overflowing}
-use Rattle.tcc_rules.specs.Sends.{nothing, to, flushed}
-use Rattle.tcc_rules.specs.Attempt.{Out, moves, finished, stepped, is_running, is_solo, new_word}
-use Rattle.tcc_rules.specs.Execute.{ask, place, overflow, full_set, fetch, used, load_valid, load_spilled, load, buffered, framed, word_store, also_read, change_valid, change_spilled, partial_store}
-use Rattle.tcc_serial.specs.Count.{CopyOf, CopyMask, among, passes}
-use Rattle.tcc_serial.specs.Stored.{stores_in}
-use Rattle.tcc_serial.specs.Wrote.{names_line}
+use Rattle.tcc_serial.proofs.Names.{ℕ, ◌+◌, ◌≡◌, ◌<◌, ◌⊎◌, ◌==◌, ◌&&◌, ◌||◌, Bool, true, false, not, [], ◌∷◌, Option, Some, None, IfSome}
+use Rattle.tcc_serial.proofs.Names.{is_some, if◌then◌else◌, arith, refl, ap, sym, ◌∙◌, inl, inr, cases_eq, nat_tests, Noted, Program, Need}
+use Rattle.tcc_serial.proofs.Names.{Nothing, Loads, Stores, Changes, Prints, Ends, Halts, Traps, num, line_of, word_at, Dir, Vendor, TidReq}
+use Rattle.tcc_serial.proofs.Names.{LoadReq, Shape, home, set_of, Cache, IsCache, free_way, all_marked, marked, stored, placed, placed_at}
+use Rattle.tcc_serial.proofs.Names.{holds, CoreState, Overflowing, nothing, to, flushed, Out, moves, finished, stepped, is_running, is_solo}
+use Rattle.tcc_serial.proofs.Names.{new_word, ask, place, overflow, full_set, fetch, used, load_valid, load_spilled, load, buffered, framed}
+use Rattle.tcc_serial.proofs.Names.{word_store, also_read, change_valid, change_spilled, partial_store, CopyOf, CopyMask, among, passes}
+use Rattle.tcc_serial.proofs.Names.{stores_in, names_line}
 use Rattle.tcc_serial.proofs.Copies.CopySends.{Leaves, few-masks, flushed-leaves}
 use Rattle.tcc_serial.proofs.Copies.DirtyFrames.{frame_copy, frame_wrong, wrong-copy, SameDirty, same-frame, clean-frame, in-line}
 

@@ -1,12 +1,6 @@
 -- What a directory's answer does, between a core and the line's home, to the copies of a line.
-use Rattle.std.specs.Prelude.{ℕ, ◌+◌, ◌≡◌, ◌<◌, ◌≤◌, ◌==◌, Bool, true, false, cond, List, Some}
-use Rattle.std.proofs.Common.{arith, refl, sym, ◌∙◌}
-use Rattle.tcc_base.specs.declared.access.Commit.{Commit as Noted}
-use Rattle.tcc_maps.specs.Words.{num}
-use Rattle.tcc_serial.specs.Count.{Commits, CopyOf, CopyMask, live}
-use Rattle.tcc_serial.specs.Pairs.{Pair}
-use Rattle.tcc_serial.specs.Standing.{is_this}
-use Rattle.tcc_serial.specs.Wrote.{wrote_line, wrote_mask}
+use Rattle.tcc_serial.proofs.Names.{ℕ, ◌+◌, ◌≡◌, ◌<◌, ◌≤◌, ◌==◌, Bool, true, false, cond, List, Some, arith, refl, sym, ◌∙◌, Noted, num}
+use Rattle.tcc_serial.proofs.Names.{Commits, CopyOf, CopyMask, live, Pair, is_this, wrote_line, wrote_mask}
 use Rattle.tcc_serial.proofs.Copies.DirtyFrames.{frame_copy, frame_wrong}
 use Rattle.tcc_serial.proofs.Copies.PairCopies.{line_copies, line_wrong, LineCopies, of-line, of-wrong, few-wrong, same-cond}
 

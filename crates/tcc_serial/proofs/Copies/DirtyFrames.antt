@@ -1,11 +1,8 @@
 -- The copies of a line in a core's frame, by the dirty words of the line.
-use Rattle.std.specs.Prelude.{ℕ, ◌+◌, ◌≡◌, ◌<◌, ◌≤◌, ◌⊎◌, ◌==◌, ◌&&◌, ◌||◌, Bool, true, false, not, Option, Some, None, is_some, unwrap_or, if◌then◌else◌}
-use Rattle.std.proofs.Common.{arith, refl, sym, ◌∙◌, inl, inr}
-use Rattle.tcc_maps.specs.Words.{num, any_below, any_word, word_at, line_of, or_else}
-use Rattle.tcc_maps.specs.Masks.{mask_of}
-use Rattle.tcc_maps.specs.Shape.{Shape}
-use Rattle.tcc_maps.specs.Cache.{Cache, IsCache, is_dirty, is_modified, dirty_tag, dirty_mask, modified_mask, first_of_line}
-use Rattle.tcc_maps.proofs.Lemmas.{any_below-found, any_below-at}
+use Rattle.tcc_serial.proofs.Names.{ℕ, ◌+◌, ◌≡◌, ◌<◌, ◌≤◌, ◌⊎◌, ◌==◌, ◌&&◌, ◌||◌, Bool, true, false, not, Option, Some, None, is_some}
+use Rattle.tcc_serial.proofs.Names.{unwrap_or, if◌then◌else◌, arith, refl, sym, ◌∙◌, inl, inr, num, any_below, any_word, word_at, line_of}
+use Rattle.tcc_serial.proofs.Names.{or_else, mask_of, Shape, Cache, IsCache, is_dirty, is_modified, dirty_tag, dirty_mask, modified_mask}
+use Rattle.tcc_serial.proofs.Names.{first_of_line, any_below-found, any_below-at}
 
 -- 1 where the line's frame is dirty with this tag, and where it is so with another mask
 unfoldable pub frame_copy : Cache → (line tag : ℕ) → ℕ

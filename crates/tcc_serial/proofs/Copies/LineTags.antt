@@ -1,26 +1,9 @@
 -- What the tag of a line is: below the TID of each commit that isn't settled yet, and the served TID while the line's invalidations go out.
-use Rattle.std.specs.Prelude.{ℕ, ◌+◌, ◌-◌, ◌≡◌, ◌<◌, ◌≤◌, ◌⊎◌, ◌==◌, ◌&&◌, ◌||◌, max, cond, Bool, true, false, nat_lt, List, [], ◌∷◌, Contains, Some}
-use Rattle.std.proofs.Common.{arith, refl, ap, sym, ◌∙◌, inl, inr}
-use Rattle.std.proofs.lemmas.Bool.{cases_lt}
-use Rattle.std.proofs.lemmas.Bool.Decides.{nat_tests}
-use Rattle.tcc_base.specs.declared.access.Commit.{Commit as Noted}
-use Rattle.tcc_maps.specs.Words.{num}
-use Rattle.tcc_maps.specs.Lines.{has_mark}
-use Rattle.tcc_maps.specs.Nodes.{Core, Dir, Inv}
-use Rattle.tcc_maps.specs.Shape.{Shape, home, lines}
-use Rattle.tcc_rules.specs.State.{DirState, World}
-use Rattle.tcc_rules.specs.Links.{in_flight}
-use Rattle.tcc_rules.specs.Step.{History}
-use Rattle.tcc_serial.specs.Copies.{settled_in_line, KeptTags}
-use Rattle.tcc_serial.specs.Count.{Commits, Invs, InvOf, live, passes}
-use Rattle.tcc_serial.specs.Kept.{KeptAll}
-use Rattle.tcc_serial.specs.Named.{KeptNamed}
-use Rattle.tcc_serial.specs.Owed.{due, OwedAt}
-use Rattle.tcc_serial.specs.Owners.{Grant, times}
-use Rattle.tcc_serial.specs.Pairs.{pair, share}
-use Rattle.tcc_serial.specs.Standing.{is_settled, is_applied, CommitsStand}
-use Rattle.tcc_serial.specs.Stored.{SettledCommit, KeptStored}
-use Rattle.tcc_serial.specs.Wrote.{names_line, last_of}
+use Rattle.tcc_serial.proofs.Names.{ℕ, ◌+◌, ◌-◌, ◌≡◌, ◌<◌, ◌≤◌, ◌⊎◌, ◌==◌, ◌&&◌, ◌||◌, max, cond, Bool, true, false, nat_lt, List, [], ◌∷◌}
+use Rattle.tcc_serial.proofs.Names.{Contains, Some, arith, refl, ap, sym, ◌∙◌, inl, inr, cases_lt, nat_tests, Noted, num, has_mark, Core}
+use Rattle.tcc_serial.proofs.Names.{Dir, Inv, Shape, home, lines, DirState, World, in_flight, History, settled_in_line, KeptTags, Commits}
+use Rattle.tcc_serial.proofs.Names.{Invs, InvOf, live, passes, KeptAll, KeptNamed, due, OwedAt, Grant, times, pair, share, is_settled}
+use Rattle.tcc_serial.proofs.Names.{is_applied, CommitsStand, SettledCommit, KeptStored, names_line, last_of}
 use Rattle.tcc_serial.proofs.Tids.LastOf.{last-most, last-least}
 use Rattle.tcc_serial.proofs.Counts.Links.{total-le}
 use Rattle.tcc_serial.proofs.Copies.TagsKept.{stored-home, stored-in, applied-served, none-sent}

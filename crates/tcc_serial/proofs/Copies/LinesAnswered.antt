@@ -1,23 +1,8 @@
 -- Every answer of a directory keeps the copies of each line in memory.
-use Rattle.std.specs.Prelude.{ℕ, ◌+◌, ◌≡◌, ◌<◌, ◌⊎◌, ◌==◌, ◌&&◌, Bool, true, false, cond, nat_lt, List, [], Contains, Some}
-use Rattle.std.proofs.Common.{arith, refl, ap, sym, subst, ◌∙◌, inl, inr}
-use Rattle.std.proofs.lemmas.Bool.{cases_eq}
-use Rattle.std.proofs.lemmas.Bool.Decides.{nat_tests}
-use Rattle.tcc_base.specs.declared.access.Commit.{Commit as Noted}
-use Rattle.tcc_maps.specs.Words.{num}
-use Rattle.tcc_maps.specs.Lines.{has_mark}
-use Rattle.tcc_maps.specs.Nodes.{Core, Dir, Msg}
-use Rattle.tcc_maps.specs.Shape.{Shape, home, lines}
-use Rattle.tcc_rules.specs.State.{DirState}
-use Rattle.tcc_rules.specs.Links.{in_flight}
-use Rattle.tcc_rules.specs.Sends.{Sends}
-use Rattle.tcc_rules.specs.Step.{dir_takes, dir_asks, History}
-use Rattle.tcc_serial.specs.Count.{Commits, CopyOf, live, passes}
-use Rattle.tcc_serial.specs.Owners.{Grant}
-use Rattle.tcc_serial.specs.Pairs.{Pair, pair, after_answer, out_taken}
-use Rattle.tcc_serial.specs.Standing.{is_applied}
-use Rattle.tcc_serial.specs.Ways.{Ways}
-use Rattle.tcc_serial.specs.Wrote.{names_line, wrote_line}
+use Rattle.tcc_serial.proofs.Names.{ℕ, ◌+◌, ◌≡◌, ◌<◌, ◌⊎◌, ◌==◌, ◌&&◌, Bool, true, false, cond, nat_lt, List, [], Contains, Some, arith}
+use Rattle.tcc_serial.proofs.Names.{refl, ap, sym, subst, ◌∙◌, inl, inr, cases_eq, nat_tests, Noted, num, has_mark, Core, Dir, Msg, Shape}
+use Rattle.tcc_serial.proofs.Names.{home, lines, DirState, in_flight, Sends, dir_takes, dir_asks, History, Commits, CopyOf, live, passes}
+use Rattle.tcc_serial.proofs.Names.{Grant, Pair, pair, after_answer, out_taken, is_applied, Ways, names_line, wrote_line}
 use Rattle.tcc_serial.proofs.Copies.AnswerCopies.{Answered, none-passes, still-similar, dropped-similar, came-similar}
 use Rattle.tcc_serial.proofs.Copies.DirCopies.{similar-copies, taken-copies}
 use Rattle.tcc_serial.proofs.Marks.OwesByCommit.{CountsMarked}

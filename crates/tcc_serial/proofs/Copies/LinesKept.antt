@@ -1,22 +1,9 @@
 -- Every event keeps the copies of each line in memory: the owner's one with the line's tag, and those of commits on their way with a
 -- larger one.
-use Rattle.std.specs.Prelude.{ℕ, ◌+◌, ◌≡◌, ◌<◌, ◌≤◌, ◌==◌, false, List, Option, Some, None, IfSome}
-use Rattle.std.proofs.Common.{arith, refl, ap, sym, subst, inl, inr}
-use Rattle.std.proofs.lemmas.Bool.Decides.{nat_tests}
-use Rattle.tcc_base.specs.declared.access.Commit.{Commit as Noted}
-use Rattle.tcc_maps.specs.Words.{num}
-use Rattle.tcc_maps.specs.Nodes.{Core, Dir}
-use Rattle.tcc_maps.specs.Shape.{Shape, home, lines}
-use Rattle.tcc_rules.specs.State.{World}
-use Rattle.tcc_rules.specs.Attempt.{Out}
-use Rattle.tcc_rules.specs.Step.{core_moves, History, and_noted, insert_commit}
-use Rattle.tcc_serial.specs.Copies.{KeptTags, KeptLineOwners}
-use Rattle.tcc_serial.specs.Count.{Commits, live, among}
-use Rattle.tcc_serial.specs.Kept.{KeptRun}
-use Rattle.tcc_serial.specs.Owners.{Grant, times}
-use Rattle.tcc_serial.specs.Pairs.{Pair, pair, after_move, share}
-use Rattle.tcc_serial.specs.Tids.{part}
-use Rattle.tcc_serial.specs.Ways.{Ways, part_in}
+use Rattle.tcc_serial.proofs.Names.{ℕ, ◌+◌, ◌≡◌, ◌<◌, ◌≤◌, ◌==◌, false, List, Option, Some, None, IfSome, arith, refl, ap, sym, subst, inl}
+use Rattle.tcc_serial.proofs.Names.{inr, nat_tests, Noted, num, Core, Dir, Shape, home, lines, World, Out, core_moves, History, and_noted}
+use Rattle.tcc_serial.proofs.Names.{insert_commit, KeptTags, KeptLineOwners, Commits, live, among, KeptRun, Grant, times, Pair, pair}
+use Rattle.tcc_serial.proofs.Names.{after_move, share, part, Ways, part_in}
 use Rattle.tcc_serial.proofs.Serving.CommitSteps.{ofs-resolve}
 use Rattle.tcc_serial.proofs.Marks.CoreAfter.{AfterStep}
 use Rattle.tcc_serial.proofs.Copies.CoreCopies.{Conserves}

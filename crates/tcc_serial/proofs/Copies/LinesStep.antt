@@ -1,20 +1,8 @@
 -- Every event keeps the copies of each line in memory, each kind of event by itself.
-use Rattle.std.specs.Prelude.{ℕ, ◌≡◌, ◌<◌, ◌≤◌, List, Option, Some, None, IfSome}
-use Rattle.std.proofs.Common.{arith, refl, sym, subst}
-use Rattle.tcc_program.specs.Program.{Program}
-use Rattle.tcc_maps.specs.Nodes.{Core, Dir, Vendor, Msg, Event}
-use Rattle.tcc_maps.specs.Shape.{Shape}
-use Rattle.tcc_rules.specs.Links.{in_flight}
-use Rattle.tcc_rules.specs.Attempt.{Out}
-use Rattle.tcc_rules.specs.CoreExec.{core_exec}
-use Rattle.tcc_rules.specs.CoreEvict.{core_evict}
-use Rattle.tcc_rules.specs.CoreDeliver.{from_dir, grant}
-use Rattle.tcc_rules.specs.DirDeliver.{Answer, Waits, Drops, Asks, Takes, dir_deliver}
-use Rattle.tcc_rules.specs.Step.{core_moves, core_takes, History, and_noted, step}
-use Rattle.tcc_serial.specs.Count.{Commits, among}
-use Rattle.tcc_serial.specs.Owners.{Grant}
-use Rattle.tcc_serial.specs.Pairs.{pair, grant_taken, back_taken, after_grant, after_other_grant}
-use Rattle.tcc_serial.specs.Ways.{Ways}
+use Rattle.tcc_serial.proofs.Names.{ℕ, ◌≡◌, ◌<◌, ◌≤◌, List, Option, Some, None, IfSome, arith, refl, sym, subst, Program, Core, Dir, Vendor}
+use Rattle.tcc_serial.proofs.Names.{Msg, Event, Shape, in_flight, Out, core_exec, core_evict, from_dir, grant, Answer, Waits, Drops, Asks}
+use Rattle.tcc_serial.proofs.Names.{Takes, dir_deliver, core_moves, core_takes, History, and_noted, step, Commits, among, Grant, pair}
+use Rattle.tcc_serial.proofs.Names.{grant_taken, back_taken, after_grant, after_other_grant, Ways}
 use Rattle.tcc_serial.proofs.Serving.CommitOwners.{CommitsNoted, noted-exec, noted-evict, noted-grant, noted-back}
 use Rattle.tcc_serial.proofs.Marks.CoreAfter.{AfterStep, Stays, after-exec, after-evict, after-grant, after-back}
 use Rattle.tcc_serial.proofs.Copies.CoreCopies.{Conserves}

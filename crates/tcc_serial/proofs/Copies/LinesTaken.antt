@@ -1,21 +1,8 @@
 -- Every message that is taken keeps the copies of each line in memory.
-use Rattle.std.specs.Prelude.{ℕ, ◌%◌, ◌≡◌, ◌<◌, ◌≤◌, ◌⊎◌, ◌==◌, Bool, true, false, not, cond, List, Option, Some, None}
-use Rattle.std.proofs.Common.{arith, refl, ap, sym, ◌∙◌, inl, inr}
-use Rattle.std.proofs.lemmas.Bool.{cases_lt}
-use Rattle.std.proofs.lemmas.Bool.Decides.{nat_tests}
-use Rattle.tcc_base.specs.declared.access.Commit.{Commit as Noted}
-use Rattle.tcc_maps.specs.Words.{num}
-use Rattle.tcc_maps.specs.Nodes.{Core, Dir, Msg, Inv}
-use Rattle.tcc_maps.specs.Shape.{Shape, home, lines}
-use Rattle.tcc_rules.specs.Links.{in_flight}
-use Rattle.tcc_rules.specs.Attempt.{Out}
-use Rattle.tcc_rules.specs.Step.{History}
-use Rattle.tcc_serial.specs.Count.{Commits, InvsAway, live, among, passes}
-use Rattle.tcc_serial.specs.Owners.{Grant}
-use Rattle.tcc_serial.specs.Pairs.{Pair, pair, after_move}
-use Rattle.tcc_serial.specs.Standing.{is_this}
-use Rattle.tcc_serial.specs.Ways.{Ways}
-use Rattle.tcc_serial.specs.Wrote.{wrote_line}
+use Rattle.tcc_serial.proofs.Names.{ℕ, ◌%◌, ◌≡◌, ◌<◌, ◌≤◌, ◌⊎◌, ◌==◌, Bool, true, false, not, cond, List, Option, Some, None, arith, refl}
+use Rattle.tcc_serial.proofs.Names.{ap, sym, ◌∙◌, inl, inr, cases_lt, nat_tests, Noted, num, Core, Dir, Msg, Inv, Shape, home, lines}
+use Rattle.tcc_serial.proofs.Names.{in_flight, Out, History, Commits, InvsAway, live, among, passes, Grant, Pair, pair, after_move, is_this}
+use Rattle.tcc_serial.proofs.Names.{Ways, wrote_line}
 use Rattle.tcc_serial.proofs.Serving.CommitSteps.{commits_served}
 use Rattle.tcc_serial.proofs.Copies.CopyRules.{BackStep, Kept, Invalidates}
 use Rattle.tcc_serial.proofs.Copies.DirCopies.{similar-copies}

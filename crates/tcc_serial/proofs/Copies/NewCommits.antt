@@ -1,23 +1,8 @@
 -- A commit that is noted by an event isn't applied anywhere yet.
-use Rattle.std.specs.Prelude.{ℕ, ◌≡◌, ◌<◌, ◌≤◌, ◌⊎◌, Bool, true, false, List, [], ◌∷◌, Option, Some, IfSome, if◌then◌else◌}
-use Rattle.std.proofs.Common.{arith, refl, ap, sym, ◌∙◌, inl, inr}
-use Rattle.tcc_base.specs.declared.access.Commit.{Commit as Noted}
-use Rattle.tcc_maps.specs.Words.{num}
-use Rattle.tcc_maps.specs.Cache.{writes_at}
-use Rattle.tcc_maps.specs.Nodes.{Dir, Msg}
-use Rattle.tcc_maps.specs.Shape.{Shape}
-use Rattle.tcc_rules.specs.Attempt.{Out}
-use Rattle.tcc_rules.specs.Sends.{Sends}
-use Rattle.tcc_rules.specs.Step.{History, Stepped}
-use Rattle.tcc_serial.specs.Count.{Resolves, Commits, among}
-use Rattle.tcc_serial.specs.Kept.{KeptRun}
-use Rattle.tcc_serial.specs.Owners.{Grant, times, holder}
-use Rattle.tcc_serial.specs.Pairs.{pair, share}
-use Rattle.tcc_serial.specs.Standing.{is_applied}
-use Rattle.tcc_serial.specs.Tids.{has_tid, part, handled}
-use Rattle.tcc_serial.specs.Told.{live_way}
-use Rattle.tcc_serial.specs.Ways.{Ways, Committed, Skipped, part_in}
-use Rattle.tcc_serial.specs.Stored.{stores_at}
+use Rattle.tcc_serial.proofs.Names.{ℕ, ◌≡◌, ◌<◌, ◌≤◌, ◌⊎◌, Bool, true, false, List, [], ◌∷◌, Option, Some, IfSome, if◌then◌else◌, arith}
+use Rattle.tcc_serial.proofs.Names.{refl, ap, sym, ◌∙◌, inl, inr, Noted, num, writes_at, Dir, Msg, Shape, Out, Sends, History, Stepped}
+use Rattle.tcc_serial.proofs.Names.{Resolves, Commits, among, KeptRun, Grant, times, holder, pair, share, is_applied, has_tid, part}
+use Rattle.tcc_serial.proofs.Names.{handled, live_way, Ways, Committed, Skipped, part_in, stores_at}
 use Rattle.tcc_serial.proofs.Ways.ByCore.{ByCore, Still, Moved}
 use Rattle.tcc_serial.proofs.Ways.CoreSkips.{TellsCommit}
 use Rattle.tcc_serial.proofs.Counts.Links.{total-le}

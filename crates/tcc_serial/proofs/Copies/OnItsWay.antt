@@ -1,21 +1,8 @@
 -- A commit is on its way to each directory where it stored, or applied there.
-use Rattle.std.specs.Prelude.{ℕ, zero, suc, ◌+◌, ◌≡◌, ◌<◌, ◌≤◌, ◌⊎◌, ◌==◌, ◌&&◌, ◌||◌, Bool, true, false, nat_lt, if◌then◌else◌, List}
-use Rattle.std.proofs.Common.{arith, refl, ap, sym, subst, ◌∙◌, inl, inr}
-use Rattle.std.proofs.lemmas.Bool.{cases_eq, cases_lt}
-use Rattle.std.proofs.lemmas.Bool.Decides.{nat_tests}
-use Rattle.tcc_maps.specs.Words.{num}
-use Rattle.tcc_maps.specs.Nodes.{Core, Dir}
-use Rattle.tcc_maps.specs.Shape.{Shape}
-use Rattle.tcc_rules.specs.DirDeliver.{total}
-use Rattle.tcc_rules.specs.State.{DirState}
-use Rattle.tcc_rules.specs.Step.{History}
-use Rattle.tcc_serial.specs.Count.{Commits, live}
-use Rattle.tcc_serial.specs.Kept.{KeptRun}
-use Rattle.tcc_serial.specs.Owners.{Grant}
-use Rattle.tcc_serial.specs.Pairs.{pair, share}
-use Rattle.tcc_serial.specs.Standing.{is_applied, CommitsStand}
-use Rattle.tcc_serial.specs.Stored.{stores_at}
-use Rattle.tcc_serial.specs.Ways.{Skipped, Committed, Ways, part_in, kept_in, WayAt}
+use Rattle.tcc_serial.proofs.Names.{ℕ, zero, suc, ◌+◌, ◌≡◌, ◌<◌, ◌≤◌, ◌⊎◌, ◌==◌, ◌&&◌, ◌||◌, Bool, true, false, nat_lt, if◌then◌else◌, List}
+use Rattle.tcc_serial.proofs.Names.{arith, refl, ap, sym, subst, ◌∙◌, inl, inr, cases_eq, cases_lt, nat_tests, num, Core, Dir, Shape, total}
+use Rattle.tcc_serial.proofs.Names.{DirState, History, Commits, live, KeptRun, Grant, pair, share, is_applied, CommitsStand, stores_at}
+use Rattle.tcc_serial.proofs.Names.{Skipped, Committed, Ways, part_in, kept_in, WayAt}
 use Rattle.tcc_serial.proofs.Tids.Commits.{granted-once}
 use Rattle.tcc_serial.proofs.Counts.Links.{total-zero}
 use Rattle.tcc_serial.proofs.Tids.ListedCommits.{granted-at, positive-committed}

@@ -1,21 +1,8 @@
 -- What each kind of event does, between a core and the line's home, to the copies of a line.
-use Rattle.std.specs.Prelude.{ℕ, ◌+◌, ◌≡◌, ◌<◌, ◌≤◌, ◌⊎◌, ◌==◌, ◌&&◌, Bool, true, false, not, cond, List, [], ◌∷◌, Some, None}
-use Rattle.std.proofs.Common.{arith, refl, ◌∙◌, inl, inr}
-use Rattle.std.proofs.lemmas.Bool.{cases_eq}
-use Rattle.std.proofs.lemmas.Bool.Decides.{nat_tests}
-use Rattle.tcc_base.specs.declared.access.Commit.{Commit as Noted}
-use Rattle.tcc_maps.specs.Words.{num}
-use Rattle.tcc_maps.specs.Nodes.{Dir}
-use Rattle.tcc_maps.specs.Shape.{Shape, home}
-use Rattle.tcc_rules.specs.State.{Link}
-use Rattle.tcc_rules.specs.Attempt.{Out}
-use Rattle.tcc_rules.specs.Step.{insert_commit}
-use Rattle.tcc_serial.specs.Count.{Commits, CopyOf, CopyMask, live, among}
-use Rattle.tcc_serial.specs.Owners.{times}
-use Rattle.tcc_serial.specs.Pairs.{Pair, after_move}
-use Rattle.tcc_serial.specs.Standing.{is_this}
-use Rattle.tcc_serial.specs.Stored.{stores_in}
-use Rattle.tcc_serial.specs.Wrote.{names_line, wrote_line, wrote_mask}
+use Rattle.tcc_serial.proofs.Names.{ℕ, ◌+◌, ◌≡◌, ◌<◌, ◌≤◌, ◌⊎◌, ◌==◌, ◌&&◌, Bool, true, false, not, cond, List, [], ◌∷◌, Some, None, arith}
+use Rattle.tcc_serial.proofs.Names.{refl, ◌∙◌, inl, inr, cases_eq, nat_tests, Noted, num, Dir, Shape, home, Link, Out, insert_commit}
+use Rattle.tcc_serial.proofs.Names.{Commits, CopyOf, CopyMask, live, among, times, Pair, after_move, is_this, stores_in, names_line}
+use Rattle.tcc_serial.proofs.Names.{wrote_line, wrote_mask}
 use Rattle.tcc_serial.proofs.Copies.CoreCopies.{Conserves}
 use Rattle.tcc_serial.proofs.Copies.CopySends.{mask-copy}
 use Rattle.tcc_serial.proofs.Copies.DirtyFrames.{frame_copy, frame_wrong, wrong-copy}

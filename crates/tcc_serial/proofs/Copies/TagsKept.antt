@@ -1,34 +1,12 @@
 -- Every event keeps that the tag of a line in memory is the greatest TID that is settled at its home and stored in it.
-use Rattle.std.specs.Prelude.{ℕ, ◌+◌, ◌≡◌, ◌<◌, ◌≤◌, ◌⊎◌, ◌==◌, ◌&&◌, Bool, true, false, nat_lt, List, [], Contains, Option, Some, None, IfSome, max, cond, set, if◌then◌else◌}
-use Rattle.std.proofs.Common.{arith, refl, ap, sym, subst, ◌∙◌, inl, inr}
-use Rattle.std.proofs.lemmas.Bool.{cases_eq}
-use Rattle.std.proofs.lemmas.Bool.Decides.{nat_tests}
-use Rattle.tcc_base.specs.declared.access.Commit.{Commit as Noted}
-use Rattle.tcc_program.specs.Program.{Program, Local}
-use Rattle.tcc_maps.specs.Words.{num, any_word}
-use Rattle.tcc_maps.specs.Lines.{has_mark, no_lines}
-use Rattle.tcc_maps.specs.Nodes.{Core, Dir, Msg, Event}
-use Rattle.tcc_maps.specs.Shape.{Shape, home, lines}
-use Rattle.tcc_maps.proofs.Lemmas.{any_below-at}
-use Rattle.tcc_rules.specs.State.{DirState, World, start, dir_start}
-use Rattle.tcc_rules.specs.Links.{in_flight}
-use Rattle.tcc_rules.specs.Sends.{Sends}
-use Rattle.tcc_rules.specs.Attempt.{Out}
-use Rattle.tcc_rules.specs.CoreExec.{core_exec}
-use Rattle.tcc_rules.specs.CoreEvict.{core_evict}
-use Rattle.tcc_rules.specs.CoreDeliver.{from_dir}
-use Rattle.tcc_rules.specs.DirDeliver.{Answer, Waits, Drops, Asks, Takes, dir_deliver}
-use Rattle.tcc_rules.specs.Step.{core_moves, core_takes, dir_takes, dir_asks, vendor_gives, History, Stepped, and_noted, insert_commit, step}
-use Rattle.tcc_serial.specs.Copies.{settled_in_line, KeptTags}
-use Rattle.tcc_serial.specs.Count.{Kind, Commits, live, passes}
-use Rattle.tcc_serial.specs.Kept.{KeptAll, KeptRun}
-use Rattle.tcc_serial.specs.Pairs.{pair}
-use Rattle.tcc_serial.specs.Owners.{Grant}
-use Rattle.tcc_serial.specs.Standing.{is_settled, is_applied, CommitsStand}
-use Rattle.tcc_serial.specs.Stored.{stored_mask, stores_at, SettledCommit}
-use Rattle.tcc_serial.specs.Uses.{stores_word}
-use Rattle.tcc_serial.specs.Ways.{Ways}
-use Rattle.tcc_serial.specs.Wrote.{names_line, last_of}
+use Rattle.tcc_serial.proofs.Names.{ℕ, ◌+◌, ◌≡◌, ◌<◌, ◌≤◌, ◌⊎◌, ◌==◌, ◌&&◌, Bool, true, false, nat_lt, List, [], Contains, Option, Some}
+use Rattle.tcc_serial.proofs.Names.{None, IfSome, max, cond, set, if◌then◌else◌, arith, refl, ap, sym, subst, ◌∙◌, inl, inr, cases_eq}
+use Rattle.tcc_serial.proofs.Names.{nat_tests, Noted, Program, Local, num, any_word, has_mark, no_lines, Core, Dir, Msg, Event, Shape, home}
+use Rattle.tcc_serial.proofs.Names.{lines, any_below-at, DirState, World, start, dir_start, in_flight, Sends, Out, core_exec, core_evict}
+use Rattle.tcc_serial.proofs.Names.{from_dir, Answer, Waits, Drops, Asks, Takes, dir_deliver, core_moves, core_takes, dir_takes, dir_asks}
+use Rattle.tcc_serial.proofs.Names.{vendor_gives, History, Stepped, and_noted, insert_commit, step, settled_in_line, KeptTags, Kind}
+use Rattle.tcc_serial.proofs.Names.{Commits, live, passes, KeptAll, KeptRun, pair, Grant, is_settled, is_applied, CommitsStand, stored_mask}
+use Rattle.tcc_serial.proofs.Names.{stores_at, SettledCommit, stores_word, Ways, names_line, last_of}
 use Rattle.tcc_serial.proofs.Marks.AfterKept.{last-insert}
 use Rattle.tcc_serial.proofs.Tids.Commits.{granted-once}
 use Rattle.tcc_serial.proofs.Counts.Nums.{num-same}

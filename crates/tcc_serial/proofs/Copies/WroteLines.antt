@@ -1,15 +1,8 @@
 -- Which lines a core's commit with a TID stored, by the list of commits.
-use Rattle.std.specs.Prelude.{ℕ, zero, suc, ◌≡◌, ◌<◌, ◌==◌, ◌&&◌, ◌||◌, Bool, true, false, List, [], ◌∷◌, length, Contains, slice_index_or, nat_lt, if◌then◌else◌}
-use Rattle.std.proofs.Common.{arith, refl, ap, ◌∙◌}
-use Rattle.std.proofs.lemmas.Bool.Decides.{nat_tests}
-use Rattle.tcc_base.specs.declared.access.Commit.{Commit as Noted}
-use Rattle.tcc_maps.specs.Words.{num, any_below, any_word, word_at}
-use Rattle.tcc_maps.specs.Masks.{mask_of}
-use Rattle.tcc_rules.specs.Step.{insert_commit}
-use Rattle.tcc_serial.specs.Owners.{times}
-use Rattle.tcc_serial.specs.Stored.{stores_in}
-use Rattle.tcc_serial.specs.Uses.{stores_word}
-use Rattle.tcc_serial.specs.Wrote.{names_line, wrote, wrote_line, wrote_mask}
+use Rattle.tcc_serial.proofs.Names.{ℕ, zero, suc, ◌≡◌, ◌<◌, ◌==◌, ◌&&◌, ◌||◌, Bool, true, false, List, [], ◌∷◌, length, Contains}
+use Rattle.tcc_serial.proofs.Names.{slice_index_or, nat_lt, if◌then◌else◌, arith, refl, ap, ◌∙◌, nat_tests, Noted, num, any_below, any_word}
+use Rattle.tcc_serial.proofs.Names.{word_at, mask_of, insert_commit, times, stores_in, stores_word, names_line, wrote, wrote_line}
+use Rattle.tcc_serial.proofs.Names.{wrote_mask}
 
 -- the commit is this core's with this TID
 abbrev pub is_of : (core tid : ℕ) → Noted → Bool

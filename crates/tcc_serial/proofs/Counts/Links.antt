@@ -1,13 +1,6 @@
 -- What sending and taking do to the number of messages of a kind.
-use Rattle.std.specs.Prelude.{ℕ, zero, suc, ◌+◌, ◌≡◌, ◌<◌, ◌≤◌, ◌≢◌, List, [], ◌∷◌, ◌++◌, set, get_or, Some, None}
-use Rattle.std.proofs.Common.{arith, refl, ap, ◌⊎◌, inl, inr}
-use Rattle.std.proofs.lemmas.Bool.{cases_eq}
-use Rattle.tcc_maps.specs.Words.{num}
-use Rattle.tcc_maps.specs.Nodes.{Msg}
-use Rattle.tcc_rules.specs.State.{Link}
-use Rattle.tcc_rules.specs.Links.{sent_all}
-use Rattle.tcc_rules.specs.DirDeliver.{total}
-use Rattle.tcc_serial.specs.Count.{Kind, live, among, passes}
+use Rattle.tcc_serial.proofs.Names.{ℕ, zero, suc, ◌+◌, ◌≡◌, ◌<◌, ◌≤◌, ◌≢◌, List, [], ◌∷◌, ◌++◌, set, get_or, Some, None, arith, refl, ap}
+use Rattle.tcc_serial.proofs.Names.{◌⊎◌, inl, inr, cases_eq, num, Msg, Link, sent_all, total, Kind, live, among, passes}
 
 pub live-append : (k : Kind) (l m : Link) → live k (l ++ m) ≡ live k l + live k m
 unfolding live

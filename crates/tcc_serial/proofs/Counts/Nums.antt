@@ -1,7 +1,5 @@
 -- A truth value as a number, which is 1 or 0.
-use Rattle.std.specs.Prelude.{◌≡◌, ◌≤◌, Bool, true, false}
-use Rattle.std.proofs.Common.{arith, refl}
-use Rattle.tcc_maps.specs.Words.{num}
+use Rattle.tcc_serial.proofs.Names.{◌≡◌, ◌≤◌, Bool, true, false, arith, refl, num}
 
 pub num-few : (b : Bool) → num b ≤ 1
 num-few true = omega arith

@@ -1,17 +1,10 @@
 -- What each kind of event does to the pairs of a core and a directory, to what holds of them, and to sums over the cores.
-use Rattle.std.specs.Prelude.{ℕ, ◌+◌, ◌≡◌, ◌<◌, Bool, true, false, List, [], ◌∷◌, ◌++◌, ◌==◌, ◌&&◌}
-use Rattle.std.proofs.Common.{arith, refl, ap, sym, subst, ◌∙◌, ◌⊎◌, inl, inr}
-use Rattle.std.proofs.lemmas.Bool.Decides.{nat_tests}
-use Rattle.std.proofs.lemmas.Bool.{cases_eq}
-use Rattle.tcc_maps.specs.Nodes.{Node, Core, Dir, Vendor, Msg, TidGrant}
-use Rattle.tcc_rules.specs.DirDeliver.{total}
-use Rattle.tcc_rules.specs.State.{DirState, World, Link}
-use Rattle.tcc_rules.specs.Links.{sent_all}
-use Rattle.tcc_rules.specs.Sends.{to}
-use Rattle.tcc_rules.specs.Attempt.{Out}
+use Rattle.tcc_serial.proofs.Names.{ℕ, ◌+◌, ◌≡◌, ◌<◌, Bool, true, false, List, [], ◌∷◌, ◌++◌, ◌==◌, ◌&&◌, arith, refl, ap, sym, subst, ◌∙◌}
+use Rattle.tcc_serial.proofs.Names.{◌⊎◌, inl, inr, nat_tests, cases_eq, Node, Core, Dir, Vendor, Msg, TidGrant, total, DirState, World}
+use Rattle.tcc_serial.proofs.Names.{Link, sent_all, to, Out, core_moves, core_takes, dir_takes, dir_asks, vendor_gives, Pair, pair}
+use Rattle.tcc_serial.proofs.Names.{after_move, grant_taken, back_taken, after_answer, out_taken, after_grant, after_other_grant, share}
+use Rattle.tcc_serial.proofs.Names.{sum_of}
 use Rattle.tcc_rules.specs.VendorDeliver.{Granted}
-use Rattle.tcc_rules.specs.Step.{core_moves, core_takes, dir_takes, dir_asks, vendor_gives}
-use Rattle.tcc_serial.specs.Pairs.{Pair, pair, after_move, grant_taken, back_taken, after_answer, out_taken, after_grant, after_other_grant, share, sum_of}
 use Rattle.tcc_serial.proofs.Counts.Links.{total-same, total-at, total-plus}
 
 pub same : (c : ℕ) → (c == c) ≡ true

@@ -1,17 +1,10 @@
 -- How many messages of a kind a rule sends.
-use Rattle.std.specs.Prelude.{ℕ, zero, suc, ◌+◌, ◌≡◌, ◌<◌, ◌≤◌, Bool, true, false, List, [], ◌∷◌, ◌++◌, ◌==◌, ◌&&◌, nat_lt, if◌then◌else◌}
-use Rattle.std.specs.List.{flat_map}
-use Rattle.std.proofs.Common.{arith, refl}
-use Rattle.std.proofs.lemmas.Bool.Decides.{nat_tests}
-use Rattle.tcc_maps.specs.Words.{num, those, count_below}
-use Rattle.tcc_maps.specs.Nodes.{Dir, Msg, Skip, Commit, Mark, WriteBack}
-use Rattle.tcc_maps.specs.Shape.{Shape, home, lines}
-use Rattle.tcc_maps.specs.Cache.{Cache, writes_at, modified_mask, written_lines}
-use Rattle.tcc_maps.specs.Spilled.{Spilled, holds, spilled_mask, spilled_words}
-use Rattle.tcc_rules.specs.Sends.{skip_all, probe_all, abort_written, marks_for}
-use Rattle.tcc_rules.specs.Commit.{commit_sends, solo_sends, solo_marks, solo_backs, solo_writes_at, is_written, written_mask}
-use Rattle.tcc_rules.specs.CoreDeliver.{grant_sends}
-use Rattle.tcc_serial.specs.Count.{Kind, Resolves, Protocol, among, passes}
+use Rattle.tcc_serial.proofs.Names.{ℕ, zero, suc, ◌+◌, ◌≡◌, ◌<◌, ◌≤◌, Bool, true, false, List, [], ◌∷◌, ◌++◌, ◌==◌, ◌&&◌, nat_lt}
+use Rattle.tcc_serial.proofs.Names.{if◌then◌else◌, flat_map, arith, refl, nat_tests, num, those, count_below, Dir, Msg, Skip, Commit, Mark}
+use Rattle.tcc_serial.proofs.Names.{WriteBack, Shape, home, lines, Cache, writes_at, modified_mask, written_lines, Spilled, holds}
+use Rattle.tcc_serial.proofs.Names.{spilled_mask, spilled_words, skip_all, probe_all, abort_written, marks_for, commit_sends, solo_sends}
+use Rattle.tcc_serial.proofs.Names.{solo_marks, solo_backs, solo_writes_at, is_written, written_mask, grant_sends, Kind, Resolves, Protocol}
+use Rattle.tcc_serial.proofs.Names.{among, passes}
 use Rattle.tcc_serial.proofs.Counts.Links.{among-append, among-fewer}
 
 pub among-flat_map_none : (k : Kind) (f : ℕ → List Msg) → ((l : ℕ) → among k (f l) ≡ 0) → (xs : List ℕ) → among k (flat_map f xs) ≡ 0

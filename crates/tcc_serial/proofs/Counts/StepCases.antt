@@ -1,21 +1,11 @@
 -- What is to be shown of a step, by the kind of its event.
-use Rattle.std.specs.Prelude.{ℕ, ◌≡◌, ◌<◌, ◌&&◌, Bool, true, false, List, [], ◌∷◌, Option, Some, None, IfSome, nat_lt, if◌then◌else◌}
-use Rattle.std.proofs.Common.{arith, refl}
-use Rattle.std.proofs.lemmas.Bool.Decides.{nat_tests}
-use Rattle.tcc_program.specs.Program.{Program}
-use Rattle.tcc_maps.specs.Nodes.{Node, Core, Dir, Vendor, Event, Exec, Evict, Deliver, Msg, TidReq, TidGrant, LoadReq, Fill, Skip, Probe, ProbeReply, Mark, Commit, Abort, WriteBack, Flush, DataReq, Inv, InvAck}
-use Rattle.tcc_maps.specs.Shape.{Shape}
-use Rattle.tcc_rules.specs.State.{World}
-use Rattle.tcc_rules.specs.Links.{in_flight}
-use Rattle.tcc_rules.specs.Attempt.{Out}
-use Rattle.tcc_rules.specs.Sends.{Sends, nothing}
-use Rattle.tcc_rules.specs.CoreExec.{core_exec}
-use Rattle.tcc_rules.specs.CoreEvict.{core_evict}
-use Rattle.tcc_rules.specs.CoreDeliver.{core_deliver, from_dir, grant}
-use Rattle.tcc_rules.specs.DirDeliver.{Answer, Waits, Drops, Asks, Takes, dir_deliver}
-use Rattle.tcc_rules.specs.Step.{Stepped, core_moves, core_takes, dir_takes, dir_asks, vendor_gives, step, moved, taken, answered, delivered, if_in_flight, happens, names_nodes, is_node}
-use Rattle.tcc_serial.specs.Owners.{Grant, grant_for, granted_by}
-use Rattle.tcc_serial.specs.Ways.{sends_of, sends_for, sent_by}
+use Rattle.tcc_serial.proofs.Names.{ℕ, ◌≡◌, ◌<◌, ◌&&◌, Bool, true, false, List, [], ◌∷◌, Option, Some, None, IfSome, nat_lt, if◌then◌else◌}
+use Rattle.tcc_serial.proofs.Names.{arith, refl, nat_tests, Program, Node, Core, Dir, Vendor, Event, Exec, Evict, Deliver, Msg, TidReq}
+use Rattle.tcc_serial.proofs.Names.{TidGrant, LoadReq, Fill, Skip, Probe, ProbeReply, Mark, Commit, Abort, WriteBack, Flush, DataReq, Inv}
+use Rattle.tcc_serial.proofs.Names.{InvAck, Shape, World, in_flight, Out, Sends, nothing, core_exec, core_evict, core_deliver, from_dir}
+use Rattle.tcc_serial.proofs.Names.{grant, Answer, Waits, Drops, Asks, Takes, dir_deliver, Stepped, core_moves, core_takes, dir_takes}
+use Rattle.tcc_serial.proofs.Names.{dir_asks, vendor_gives, step, moved, taken, answered, delivered, if_in_flight, happens, names_nodes}
+use Rattle.tcc_serial.proofs.Names.{is_node, Grant, grant_for, granted_by, sends_of, sends_for, sent_by}
 use Rattle.tcc_serial.proofs.Counts.PairFrames.{given}
 
 -- R holds of what an answer makes of the world

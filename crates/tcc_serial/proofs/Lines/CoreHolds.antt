@@ -1,27 +1,15 @@
 -- By an instruction, an eviction or a grant a core comes to hold a line only by a commit that stored in it.
-use Rattle.std.specs.Prelude.{ℕ, ◌≡◌, ◌⊎◌, ◌&&◌, ◌||◌, Bool, true, false, not, [], ◌∷◌, Option, Some, None, IfSome, is_some, if◌then◌else◌}
-use Rattle.std.proofs.Common.{refl, sym, ◌∙◌, inl, inr}
-use Rattle.tcc_base.specs.declared.access.Commit.{Commit as Noted}
-use Rattle.tcc_base.specs.declared.access.Size.TheVariants.{Byte, Half, Word}
-use Rattle.tcc_program.specs.Program.{Program, Need, Nothing, Loads, Stores, Changes, Prints, Ends, Halts, Traps}
-use Rattle.tcc_program.specs.Ram.{word_of}
-use Rattle.tcc_maps.specs.Words.{line_of}
-use Rattle.tcc_maps.specs.Nodes.{Vendor, TidReq}
-use Rattle.tcc_maps.specs.Shape.{Shape, set_of}
-use Rattle.tcc_maps.specs.Cache.{Cache, is_marked, is_modified, free_way, all_marked}
-use Rattle.tcc_maps.specs.CacheChange.{marked, placed, placed_at, evicted}
-use Rattle.tcc_maps.specs.Spilled.{holds, spill_line}
-use Rattle.tcc_rules.specs.State.{CoreState, Awaited, Phase, Running, AwaitTid, DoomedTid, Probing, Ready, Overflowing, Solo, Halted}
-use Rattle.tcc_rules.specs.Sends.{Sends, nothing, to, flushed, written_back}
-use Rattle.tcc_rules.specs.Attempt.{Out, moves, finished, stepped, is_running, is_solo, new_word}
-use Rattle.tcc_rules.specs.Commit.{commit, committed_core, noted, solo_commit, is_written}
-use Rattle.tcc_rules.specs.CoreDeliver.{grant, grant_phase}
-use Rattle.tcc_rules.specs.CoreExec.{core_exec, exec_phase, unless_awaiting}
-use Rattle.tcc_rules.specs.CoreEvict.{core_evict, evict_line, is_awaited}
-use Rattle.tcc_rules.specs.Execute.{ask, place, overflow, full_set, fetch, used, load_valid, load_spilled, load, buffered, framed, word_store, also_read, change_valid, change_spilled, partial_store, close, execute_need, execute}
-use Rattle.tcc_serial.specs.Copies.{keeps_unmodified, is_fresh}
-use Rattle.tcc_serial.specs.OneCore.{OneCore, Words, executes as acting}
-use Rattle.tcc_serial.specs.Wrote.{names_line}
+use Rattle.tcc_serial.proofs.Names.{ℕ, ◌≡◌, ◌⊎◌, ◌&&◌, ◌||◌, Bool, true, false, not, [], ◌∷◌, Option, Some, None, IfSome, is_some}
+use Rattle.tcc_serial.proofs.Names.{if◌then◌else◌, refl, sym, ◌∙◌, inl, inr, Noted, Byte, Half, Word, Program, Need, Nothing, Loads, Stores}
+use Rattle.tcc_serial.proofs.Names.{Changes, Prints, Ends, Halts, Traps, word_of, line_of, Vendor, TidReq, Shape, set_of, Cache, is_marked}
+use Rattle.tcc_serial.proofs.Names.{is_modified, free_way, all_marked, marked, placed, placed_at, evicted, holds, spill_line, CoreState}
+use Rattle.tcc_serial.proofs.Names.{Awaited, Phase, Running, AwaitTid, DoomedTid, Probing, Ready, Overflowing, Solo, Halted, Sends, nothing}
+use Rattle.tcc_serial.proofs.Names.{to, flushed, written_back, Out, moves, finished, stepped, is_running, is_solo, new_word, commit}
+use Rattle.tcc_serial.proofs.Names.{committed_core, noted, solo_commit, is_written, grant, grant_phase, core_exec, exec_phase}
+use Rattle.tcc_serial.proofs.Names.{unless_awaiting, core_evict, evict_line, is_awaited, ask, place, overflow, full_set, fetch, used}
+use Rattle.tcc_serial.proofs.Names.{load_valid, load_spilled, load, buffered, framed, word_store, also_read, change_valid, change_spilled}
+use Rattle.tcc_serial.proofs.Names.{partial_store, close, execute_need, execute, keeps_unmodified, is_fresh, OneCore, Words, acting}
+use Rattle.tcc_serial.proofs.Names.{names_line}
 use Rattle.tcc_serial.proofs.Copies.CoreCopies.{finished-cache}
 use Rattle.tcc_serial.proofs.Lines.HeldWords.{Fewer, fewer-kept, fewer-marked, fewer-stored, fewer-evicted, kept-committed, kept-alone}
 use Rattle.tcc_serial.proofs.Marks.StoredMasks.{unspilled, modified-line, written-line}

@@ -1,20 +1,13 @@
 -- By a message a core comes to hold a line only by the Fill that it awaits; and where it says that it keeps no word it holds none.
-use Rattle.std.specs.Prelude.{ℕ, ◌/◌, ◌≡◌, ◌⊎◌, ◌==◌, ◌&&◌, ◌||◌, Bool, true, false, not, List, [], ◌∷◌, Option, Some, None, IfSome, is_some, if◌then◌else◌}
-use Rattle.std.proofs.Common.{arith, refl, sym, inl, inr}
-use Rattle.std.proofs.lemmas.Bool.Decides.{nat_tests}
-use Rattle.tcc_maps.specs.Words.{num, any_word, word_at}
-use Rattle.tcc_maps.specs.Nodes.{Dir, Msg, TidReq, TidGrant, LoadReq, Fill, Skip, Probe, ProbeReply, Mark, Commit, Abort, WriteBack, Flush, DataReq, Inv, InvAck}
-use Rattle.tcc_maps.specs.Shape.{Shape, home}
-use Rattle.tcc_maps.specs.Cache.{Cache, keeps}
-use Rattle.tcc_maps.specs.CacheChange.{filled, cleaned, read_cleared}
-use Rattle.tcc_maps.proofs.Lemmas.{any_below-found, any_below-at}
-use Rattle.tcc_rules.specs.State.{CoreState, Awaited, Phase, Running, AwaitTid, DoomedTid, Probing, Ready, Overflowing, Solo, Halted}
-use Rattle.tcc_rules.specs.Sends.{nothing, to, marks_for, abort_written, skip_all}
-use Rattle.tcc_rules.specs.Attempt.{Out, moves, roll_back}
-use Rattle.tcc_rules.specs.CoreDeliver.{from_dir, probe_reply, reply_phase, ignored, replied, all_replied, when_ready, when_alone, fill, fill_awaited, data_request, invalidate, acknowledged, without, staled, violated_in, if_violated, is_violated}
-use Rattle.tcc_rules.specs.CoreEvict.{is_awaited}
-use Rattle.tcc_serial.specs.Copies.{keeps_unmodified, is_fresh}
-use Rattle.tcc_serial.specs.Count.{FillOf, GoneOf, InvOf, among, passes}
+use Rattle.tcc_serial.proofs.Names.{ℕ, ◌/◌, ◌≡◌, ◌⊎◌, ◌==◌, ◌&&◌, ◌||◌, Bool, true, false, not, List, [], ◌∷◌, Option, Some, None, IfSome}
+use Rattle.tcc_serial.proofs.Names.{is_some, if◌then◌else◌, arith, refl, sym, inl, inr, nat_tests, num, any_word, word_at, Dir, Msg, TidReq}
+use Rattle.tcc_serial.proofs.Names.{TidGrant, LoadReq, Fill, Skip, Probe, ProbeReply, Mark, Commit, Abort, WriteBack, Flush, DataReq, Inv}
+use Rattle.tcc_serial.proofs.Names.{InvAck, Shape, home, Cache, keeps, filled, cleaned, read_cleared, any_below-found, any_below-at}
+use Rattle.tcc_serial.proofs.Names.{CoreState, Awaited, Phase, Running, AwaitTid, DoomedTid, Probing, Ready, Overflowing, Solo, Halted}
+use Rattle.tcc_serial.proofs.Names.{nothing, to, marks_for, abort_written, skip_all, Out, moves, roll_back, from_dir, probe_reply}
+use Rattle.tcc_serial.proofs.Names.{reply_phase, ignored, replied, all_replied, when_ready, when_alone, fill, fill_awaited, data_request}
+use Rattle.tcc_serial.proofs.Names.{invalidate, acknowledged, without, staled, violated_in, if_violated, is_violated, is_awaited}
+use Rattle.tcc_serial.proofs.Names.{keeps_unmodified, is_fresh, FillOf, GoneOf, InvOf, among, passes}
 use Rattle.tcc_serial.proofs.Lines.HeldWords.{Fewer, is_kept, fewer-kept, fewer-invalidated, fewer-rolled, fewer-cleared}
 use Rattle.tcc_serial.proofs.Counts.Links.{among-append}
 

@@ -1,19 +1,14 @@
 -- What a directory's rules do to the lines of which it has asked the owner: it asks with a request, and a line that stays asked keeps its
 -- owner, whose words don't come by this message.
-use Rattle.std.specs.Prelude.{ℕ, ◌-◌, ◌≡◌, ◌≤◌, ◌⊎◌, Bool, true, false, List, [], ◌∷◌, ◌==◌, ◌&&◌, ◌||◌, Option, Some, None, nat_lt, nat_le, if◌then◌else◌}
-use Rattle.std.proofs.Common.{arith, refl, sym, ap, ◌∙◌, inl, inr}
-use Rattle.std.proofs.lemmas.Bool.Decides.{nat_tests}
-use Rattle.tcc_maps.specs.Words.{count_below}
-use Rattle.tcc_maps.specs.Masks.{full}
-use Rattle.tcc_maps.specs.Lines.{has_mark, with_asked, with_mark, with_sharer, with_owner, unmarked}
-use Rattle.tcc_maps.specs.Judge.{Judgement, judge, Takes as IsTaken, Drops as IsDropped, Waits as IsEarly}
-use Rattle.tcc_maps.specs.Serving.{skipped, kept}
-use Rattle.tcc_maps.specs.Nodes.{Core, Msg, TidReq, TidGrant, LoadReq, Fill, Skip, Probe, ProbeReply, Mark, Commit, Abort, WriteBack, Flush, DataReq, Inv, InvAck}
-use Rattle.tcc_maps.specs.Shape.{Shape, lines}
-use Rattle.tcc_rules.specs.State.{DirState}
-use Rattle.tcc_rules.specs.Sends.{Sends, nothing, to}
-use Rattle.tcc_rules.specs.DirDeliver.{Answer, Waits, Drops, Asks, Takes, skip, abort, commit, acknowledgement, dir_deliver, moved_on, settled, owned, owed_by, invalidations, unless_keeps, ask_owner, load_owned, load_request, marking, mark_owned, mark, judged, write_back, came_home, probe}
-use Rattle.tcc_serial.specs.Count.{CopyOf, DataOf, among, passes}
+use Rattle.tcc_serial.proofs.Names.{ℕ, ◌-◌, ◌≡◌, ◌≤◌, ◌⊎◌, Bool, true, false, List, [], ◌∷◌, ◌==◌, ◌&&◌, ◌||◌, Option, Some, None, nat_lt}
+use Rattle.tcc_serial.proofs.Names.{nat_le, if◌then◌else◌, arith, refl, sym, ap, ◌∙◌, inl, inr, nat_tests, count_below, full, has_mark}
+use Rattle.tcc_serial.proofs.Names.{with_asked, with_mark, with_sharer, with_owner, unmarked, Judgement, judge, IsTaken, IsDropped, IsEarly}
+use Rattle.tcc_serial.proofs.Names.{skipped, kept, Core, Msg, TidReq, TidGrant, LoadReq, Fill, Skip, Probe, ProbeReply, Mark, Commit, Abort}
+use Rattle.tcc_serial.proofs.Names.{WriteBack, Flush, DataReq, Inv, InvAck, Shape, lines, DirState, Sends, nothing, to, Answer, Waits}
+use Rattle.tcc_serial.proofs.Names.{Drops, Asks, Takes, skip, abort, acknowledgement, dir_deliver, moved_on, settled, owned, owed_by}
+use Rattle.tcc_serial.proofs.Names.{invalidations, unless_keeps, ask_owner, load_owned, load_request, marking, mark_owned, mark, judged}
+use Rattle.tcc_serial.proofs.Names.{write_back, came_home, probe, CopyOf, DataOf, among, passes}
+use Rattle.tcc_rules.specs.DirDeliver.{commit}
 use Rattle.tcc_serial.proofs.Marks.DirRecords.{NoCopy}
 
 -- the line stays asked, of the same owner, and the message isn't its copy

@@ -1,27 +1,12 @@
 -- Every event keeps that of an asked line the request is in flight to the owner, or its words are on their way from the owner.
-use Rattle.std.specs.Prelude.{ℕ, ◌+◌, ◌≡◌, ◌<◌, ◌≤◌, ◌⊎◌, ◌==◌, ◌&&◌, Bool, true, false, List, [], Option, Some, None, IfSome}
-use Rattle.std.proofs.Common.{arith, refl, ap, sym, subst, ◌∙◌, inl, inr}
-use Rattle.std.proofs.lemmas.Bool.Decides.{nat_tests}
-use Rattle.tcc_base.specs.declared.access.Commit.{Commit as Noted}
-use Rattle.tcc_program.specs.Program.{Program, Local}
-use Rattle.tcc_maps.specs.Words.{num, line_of, word_at}
-use Rattle.tcc_maps.specs.CacheChange.{cleaned}
-use Rattle.tcc_maps.specs.Lines.{no_lines}
-use Rattle.tcc_maps.specs.Nodes.{Core, Dir, Vendor, Msg, TidReq, TidGrant, LoadReq, Fill, Skip, Probe, ProbeReply, Mark, Commit, Abort, WriteBack, Flush, DataReq, Inv, InvAck, Event}
-use Rattle.tcc_maps.specs.Shape.{Shape, home, lines}
-use Rattle.tcc_rules.specs.State.{CoreState, World, start, dir_start}
-use Rattle.tcc_rules.specs.Links.{in_flight}
-use Rattle.tcc_rules.specs.Sends.{Sends}
-use Rattle.tcc_rules.specs.Attempt.{Out}
-use Rattle.tcc_rules.specs.CoreExec.{core_exec}
-use Rattle.tcc_rules.specs.CoreEvict.{core_evict}
-use Rattle.tcc_rules.specs.CoreDeliver.{from_dir, grant, data_request}
-use Rattle.tcc_rules.specs.DirDeliver.{Answer, Waits, Drops, Asks, Takes, dir_deliver}
-use Rattle.tcc_rules.specs.Step.{core_moves, core_takes, dir_takes, dir_asks, vendor_gives, and_noted, step}
-use Rattle.tcc_serial.specs.Copies.{GetsOf, KeptGets}
-use Rattle.tcc_serial.specs.Count.{CopyOf, DataOf, live, among, passes}
-use Rattle.tcc_serial.specs.Pairs.{Pair, pair, after_move, back_taken, out_taken, after_answer}
-use Rattle.tcc_serial.specs.Standing.{is_this}
+use Rattle.tcc_serial.proofs.Names.{ℕ, ◌+◌, ◌≡◌, ◌<◌, ◌≤◌, ◌⊎◌, ◌==◌, ◌&&◌, Bool, true, false, List, [], Option, Some, None, IfSome, arith}
+use Rattle.tcc_serial.proofs.Names.{refl, ap, sym, subst, ◌∙◌, inl, inr, nat_tests, Noted, Program, Local, num, line_of, word_at, cleaned}
+use Rattle.tcc_serial.proofs.Names.{no_lines, Core, Dir, Vendor, Msg, TidReq, TidGrant, LoadReq, Fill, Skip, Probe, ProbeReply, Mark}
+use Rattle.tcc_serial.proofs.Names.{Commit, Abort, WriteBack, Flush, DataReq, Inv, InvAck, Event, Shape, home, lines, CoreState, World}
+use Rattle.tcc_serial.proofs.Names.{start, dir_start, in_flight, Sends, Out, core_exec, core_evict, from_dir, grant, data_request, Answer}
+use Rattle.tcc_serial.proofs.Names.{Waits, Drops, Asks, Takes, dir_deliver, core_moves, core_takes, dir_takes, dir_asks, vendor_gives}
+use Rattle.tcc_serial.proofs.Names.{and_noted, step, GetsOf, KeptGets, CopyOf, DataOf, live, among, passes, Pair, pair, after_move}
+use Rattle.tcc_serial.proofs.Names.{back_taken, out_taken, after_answer, is_this}
 use Rattle.tcc_serial.proofs.Lines.DirGets.{StaysAsked, GetsBy, dir-gets}
 use Rattle.tcc_serial.proofs.Marks.DirRecords.{RecordsBy, dir-records}
 use Rattle.tcc_serial.proofs.Copies.DirtyFrames.{frame_copy, clean-frame, in-line}

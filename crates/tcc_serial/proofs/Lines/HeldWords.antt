@@ -1,14 +1,8 @@
 -- Which changes of a cache keep what a core holds of a line: valid words that aren't modified or are marked read.
-use Rattle.std.specs.Prelude.{ℕ, ◌≡◌, ◌<◌, ◌⊎◌, ◌==◌, ◌&&◌, ◌||◌, Bool, true, false, not, Option, Some, None, is_some, if◌then◌else◌}
-use Rattle.std.proofs.Common.{arith, refl, inl, inr}
-use Rattle.std.proofs.lemmas.Bool.Decides.{nat_tests}
-use Rattle.tcc_maps.specs.Words.{any_below, any_word, word_at, line_of}
-use Rattle.tcc_maps.specs.Masks.{hit}
-use Rattle.tcc_maps.specs.Cache.{Cache, is_modified}
-use Rattle.tcc_maps.specs.CacheChange.{marked, stored, invalidated, evicted, evicted_line, rolled_back, read_cleared, committed, words_dropped}
-use Rattle.tcc_maps.specs.Spilled.{Spilled}
-use Rattle.tcc_maps.proofs.Lemmas.{any_below-found, any_below-at}
-use Rattle.tcc_serial.specs.Copies.{keeps_unmodified}
+use Rattle.tcc_serial.proofs.Names.{ℕ, ◌≡◌, ◌<◌, ◌⊎◌, ◌==◌, ◌&&◌, ◌||◌, Bool, true, false, not, Option, Some, None, is_some, if◌then◌else◌}
+use Rattle.tcc_serial.proofs.Names.{arith, refl, inl, inr, nat_tests, any_below, any_word, word_at, line_of, hit, Cache, is_modified}
+use Rattle.tcc_serial.proofs.Names.{marked, stored, invalidated, evicted, evicted_line, rolled_back, read_cleared, committed, words_dropped}
+use Rattle.tcc_serial.proofs.Names.{Spilled, any_below-found, any_below-at, keeps_unmodified}
 
 -- the word is valid, and not modified or marked read
 abbrev pub is_kept : Cache → (word : ℕ) → Bool

@@ -1,30 +1,16 @@
 -- Every event keeps that the owner of a line is the core that the line's tag was granted to.
-use Rattle.std.specs.Prelude.{ℕ, ◌-◌, ◌≡◌, ◌≤◌, ◌⊎◌, Bool, true, false, List, [], ◌∷◌, ◌++◌, Contains, ◌==◌, ◌&&◌, ◌||◌, Option, Some, None, IfSome, nat_lt, nat_le, if◌then◌else◌}
-use Rattle.std.proofs.Common.{arith, refl, ap, inl, inr}
-use Rattle.std.proofs.lemmas.Bool.Decides.{nat_tests}
-use Rattle.std.proofs.lemmas.List.{append-nil}
-use Rattle.std.proofs.lemmas.List.Elements.{Contains-append_left}
-use Rattle.tcc_program.specs.Program.{Program, Local}
-use Rattle.tcc_maps.specs.Words.{num, count_below}
-use Rattle.tcc_maps.specs.Masks.{full}
-use Rattle.tcc_maps.specs.Lines.{has_mark, with_asked, with_mark, with_sharer, with_owner, unmarked, no_lines}
-use Rattle.tcc_maps.specs.Judge.{Judgement, judge, Takes as IsTaken, Drops as IsDropped, Waits as IsEarly}
-use Rattle.tcc_maps.specs.Serving.{skipped, kept}
-use Rattle.tcc_maps.specs.Nodes.{Core, Dir, Event, Msg, TidReq, TidGrant, LoadReq, Fill, Skip, Probe, ProbeReply, Mark, Commit, Abort, WriteBack, Flush, DataReq, Inv, InvAck}
-use Rattle.tcc_maps.specs.Shape.{Shape, lines}
-use Rattle.tcc_rules.specs.State.{DirState, World, start, dir_start}
-use Rattle.tcc_rules.specs.Links.{in_flight}
-use Rattle.tcc_rules.specs.Attempt.{Out}
-use Rattle.tcc_rules.specs.CoreExec.{core_exec}
-use Rattle.tcc_rules.specs.CoreEvict.{core_evict}
-use Rattle.tcc_rules.specs.CoreDeliver.{from_dir}
-use Rattle.tcc_rules.specs.Sends.{nothing, to}
-use Rattle.tcc_rules.specs.DirDeliver.{Answer, Waits, Drops, Asks, Takes, skip, abort, commit, acknowledgement, dir_deliver, moved_on, settled, owned, owed_by, invalidations, unless_keeps, ask_owner, load_owned, load_request, marking, mark_owned, mark, judged, write_back, came_home, probe}
-use Rattle.tcc_rules.specs.Step.{core_moves, core_takes, dir_takes, dir_asks, vendor_gives, step}
-use Rattle.tcc_serial.specs.Pairs.{Pair, pair}
-use Rattle.tcc_serial.specs.Copies.{KeptLineOwners}
-use Rattle.tcc_serial.specs.Count.{Commits, live, passes}
-use Rattle.tcc_serial.specs.Owners.{Grant, granted_by, SparesCommitter}
+use Rattle.tcc_serial.proofs.Names.{ℕ, ◌-◌, ◌≡◌, ◌≤◌, ◌⊎◌, Bool, true, false, List, [], ◌∷◌, ◌++◌, Contains, ◌==◌, ◌&&◌, ◌||◌, Option, Some}
+use Rattle.tcc_serial.proofs.Names.{None, IfSome, nat_lt, nat_le, if◌then◌else◌, arith, refl, ap, inl, inr, nat_tests, append-nil}
+use Rattle.tcc_serial.proofs.Names.{Contains-append_left, Program, Local, num, count_below, full, has_mark, with_asked, with_mark}
+use Rattle.tcc_serial.proofs.Names.{with_sharer, with_owner, unmarked, no_lines, Judgement, judge, IsTaken, IsDropped, IsEarly, skipped}
+use Rattle.tcc_serial.proofs.Names.{kept, Core, Dir, Event, Msg, TidReq, TidGrant, LoadReq, Fill, Skip, Probe, ProbeReply, Mark, Commit}
+use Rattle.tcc_serial.proofs.Names.{Abort, WriteBack, Flush, DataReq, Inv, InvAck, Shape, lines, DirState, World, start, dir_start}
+use Rattle.tcc_serial.proofs.Names.{in_flight, Out, core_exec, core_evict, from_dir, nothing, to, Answer, Waits, Drops, Asks, Takes, skip}
+use Rattle.tcc_serial.proofs.Names.{abort, acknowledgement, dir_deliver, moved_on, settled, owned, owed_by, invalidations, unless_keeps}
+use Rattle.tcc_serial.proofs.Names.{ask_owner, load_owned, load_request, marking, mark_owned, mark, judged, write_back, came_home, probe}
+use Rattle.tcc_serial.proofs.Names.{core_moves, core_takes, dir_takes, dir_asks, vendor_gives, step, Pair, pair, KeptLineOwners, Commits}
+use Rattle.tcc_serial.proofs.Names.{live, passes, Grant, granted_by, SparesCommitter}
+use Rattle.tcc_rules.specs.DirDeliver.{commit}
 use Rattle.tcc_serial.proofs.Counts.Links.{live-takes}
 use Rattle.tcc_serial.proofs.Counts.PairFrames.{pairs_dir, pairs_asks}
 use Rattle.tcc_serial.proofs.Counts.StepCases.{OfAnswer, step_cases}

@@ -1,11 +1,7 @@
 -- What each kind of event does, between a core and the line's home, to that a core which holds a line is one of its sharers.
-use Rattle.std.specs.Prelude.{ℕ, ◌≡◌, ◌≤◌, ◌⊎◌, ◌&&◌, ◌||◌, Bool, true, false, nat_lt, List}
-use Rattle.std.proofs.Common.{arith, refl, ap, sym, ◌∙◌, inl, inr}
-use Rattle.std.proofs.lemmas.Bool.Decides.{nat_tests}
-use Rattle.tcc_base.specs.declared.access.Commit.{Commit as Noted}
-use Rattle.tcc_serial.specs.Copies.{keeps_unmodified, is_fresh, holds_line, CommitsLine, SharerOf}
-use Rattle.tcc_serial.specs.Count.{FillOf, GoneOf, live}
-use Rattle.tcc_serial.specs.Pairs.{Pair}
+use Rattle.tcc_serial.proofs.Names.{ℕ, ◌≡◌, ◌≤◌, ◌⊎◌, ◌&&◌, ◌||◌, Bool, true, false, nat_lt, List, arith, refl, ap, sym, ◌∙◌, inl, inr}
+use Rattle.tcc_serial.proofs.Names.{nat_tests, Noted, keeps_unmodified, is_fresh, holds_line, CommitsLine, SharerOf, FillOf, GoneOf, live}
+use Rattle.tcc_serial.proofs.Names.{Pair}
 
 -- a core holds a line by a word that it keeps, or by a Fill that it will take
 pub holds-cases : (l : ℕ) (v : Pair) → holds_line l v ≡ true → (keeps_unmodified v.core.cache l ≡ true) ⊎ ((is_fresh v.core.awaited ≡ true) × (1 ≤ live (FillOf l) v.back))

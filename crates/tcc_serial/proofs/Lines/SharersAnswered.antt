@@ -1,22 +1,8 @@
 -- Every answer of a directory keeps that a core which holds a line is one of its sharers, or its Commit of the line is in flight.
-use Rattle.std.specs.Prelude.{ℕ, ◌+◌, ◌≡◌, ◌<◌, ◌≤◌, ◌⊎◌, ◌==◌, ◌&&◌, Bool, true, false, List, [], ◌∷◌, Some, None}
-use Rattle.std.proofs.Common.{arith, refl, ap, sym, subst, ◌∙◌, inl, inr}
-use Rattle.std.proofs.lemmas.Bool.{cases_lt}
-use Rattle.std.proofs.lemmas.Bool.Decides.{nat_tests}
-use Rattle.tcc_maps.specs.Words.{num}
-use Rattle.tcc_maps.specs.Lines.{has_mark}
-use Rattle.tcc_maps.specs.Nodes.{Core, Dir, Msg}
-use Rattle.tcc_maps.specs.Shape.{Shape, home, lines}
-use Rattle.tcc_rules.specs.State.{DirState, Link}
-use Rattle.tcc_rules.specs.Sends.{Sends}
-use Rattle.tcc_rules.specs.Links.{in_flight}
-use Rattle.tcc_rules.specs.Step.{History}
-use Rattle.tcc_serial.specs.Copies.{CommitsLine, SharerOf}
-use Rattle.tcc_serial.specs.Count.{Kind, FillOf, GoneOf, AckOf, Commits, live, among, passes}
-use Rattle.tcc_serial.specs.Owners.{Grant}
-use Rattle.tcc_serial.specs.Pairs.{Pair, pair}
-use Rattle.tcc_serial.specs.Ways.{Ways}
-use Rattle.tcc_serial.specs.Wrote.{wrote_line}
+use Rattle.tcc_serial.proofs.Names.{ℕ, ◌+◌, ◌≡◌, ◌<◌, ◌≤◌, ◌⊎◌, ◌==◌, ◌&&◌, Bool, true, false, List, [], ◌∷◌, Some, None, arith, refl, ap}
+use Rattle.tcc_serial.proofs.Names.{sym, subst, ◌∙◌, inl, inr, cases_lt, nat_tests, num, has_mark, Core, Dir, Msg, Shape, home, lines}
+use Rattle.tcc_serial.proofs.Names.{DirState, Link, Sends, in_flight, History, CommitsLine, SharerOf, Kind, FillOf, GoneOf, AckOf, Commits}
+use Rattle.tcc_serial.proofs.Names.{live, among, passes, Grant, Pair, pair, Ways, wrote_line}
 use Rattle.tcc_serial.proofs.Marks.DirRecords.{Records, Still, Came, Settles}
 use Rattle.tcc_serial.proofs.Lines.DirSharers.{Shares}
 use Rattle.tcc_serial.proofs.Copies.LinesAnswered.{writer-line, commit-passes}

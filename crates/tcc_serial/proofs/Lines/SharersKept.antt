@@ -1,22 +1,9 @@
 -- Every event keeps that a core which holds a line in memory is one of its sharers, or its Commit of the line is in flight.
-use Rattle.std.specs.Prelude.{ℕ, ◌≡◌, ◌<◌, ◌≤◌, ◌⊎◌, ◌==◌, true, false, List, Option, Some, None, is_some}
-use Rattle.std.proofs.Common.{arith, refl, sym, subst, ◌∙◌, inl, inr}
-use Rattle.std.proofs.lemmas.Bool.Decides.{nat_tests}
-use Rattle.tcc_base.specs.declared.access.Commit.{Commit as Noted}
-use Rattle.tcc_maps.specs.Words.{line_of}
-use Rattle.tcc_maps.specs.Nodes.{Core, Dir, Msg}
-use Rattle.tcc_maps.specs.Shape.{Shape, home, lines}
-use Rattle.tcc_rules.specs.State.{CoreState, DirState, Phase, Running, AwaitTid, DoomedTid, Probing, Ready, Overflowing, Solo, Halted, World}
-use Rattle.tcc_rules.specs.Links.{in_flight}
-use Rattle.tcc_rules.specs.Sends.{Sends}
-use Rattle.tcc_rules.specs.Attempt.{Out}
-use Rattle.tcc_rules.specs.Step.{core_moves, dir_takes, History, and_noted, insert_commit}
-use Rattle.tcc_serial.specs.Copies.{KeptLoading, KeptSharers, SharerOf, CommitsLine}
-use Rattle.tcc_serial.specs.OneCore.{OneCore, executes as acting}
-use Rattle.tcc_serial.specs.Owners.{Grant}
-use Rattle.tcc_serial.specs.Pairs.{Pair, pair, after_answer, out_taken}
-use Rattle.tcc_serial.specs.Tids.{has_tid}
-use Rattle.tcc_serial.specs.Ways.{Ways}
+use Rattle.tcc_serial.proofs.Names.{ℕ, ◌≡◌, ◌<◌, ◌≤◌, ◌⊎◌, ◌==◌, true, false, List, Option, Some, None, is_some, arith, refl, sym, subst}
+use Rattle.tcc_serial.proofs.Names.{◌∙◌, inl, inr, nat_tests, Noted, line_of, Core, Dir, Msg, Shape, home, lines, CoreState, DirState}
+use Rattle.tcc_serial.proofs.Names.{Phase, Running, AwaitTid, DoomedTid, Probing, Ready, Overflowing, Solo, Halted, World, in_flight, Sends}
+use Rattle.tcc_serial.proofs.Names.{Out, core_moves, dir_takes, History, and_noted, insert_commit, KeptLoading, KeptSharers, SharerOf}
+use Rattle.tcc_serial.proofs.Names.{CommitsLine, OneCore, acting, Grant, Pair, pair, after_answer, out_taken, has_tid, Ways}
 use Rattle.tcc_serial.proofs.Marks.CoreAfter.{AfterStep}
 use Rattle.tcc_serial.proofs.OneCore.CoreReads.{ValidOrPassed}
 use Rattle.tcc_serial.proofs.Lines.CoreHolds.{ReadsValid}

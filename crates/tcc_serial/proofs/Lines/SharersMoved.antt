@@ -1,24 +1,9 @@
 -- Every event of a core keeps that a core which holds a line is one of its sharers, or its Commit of the line is in flight.
-use Rattle.std.specs.Prelude.{ℕ, ◌+◌, ◌≡◌, ◌<◌, ◌≤◌, ◌⊎◌, ◌==◌, ◌&&◌, Bool, true, false, List, [], ◌∷◌, Option, Some, None, IfSome, nat_lt}
-use Rattle.std.proofs.Common.{arith, refl, ap, sym, subst, ◌∙◌, inl, inr}
-use Rattle.std.proofs.lemmas.Bool.{cases_lt}
-use Rattle.std.proofs.lemmas.Bool.Decides.{nat_tests}
-use Rattle.tcc_base.specs.declared.access.Commit.{Commit as Noted}
-use Rattle.tcc_maps.specs.Words.{num}
-use Rattle.tcc_maps.specs.Nodes.{Core, Dir, Msg}
-use Rattle.tcc_maps.specs.Shape.{Shape, home, lines}
-use Rattle.tcc_rules.specs.State.{DirState}
-use Rattle.tcc_rules.specs.Attempt.{Out}
-use Rattle.tcc_rules.specs.Step.{History, and_noted, insert_commit}
-use Rattle.tcc_serial.specs.Copies.{KeptLoading, keeps_unmodified, is_fresh, holds_line, CommitsLine, SharerOf}
-use Rattle.tcc_serial.specs.Count.{LoadOf, FillOf, GoneOf, Commits, CommitsAbove, live, among}
-use Rattle.tcc_serial.specs.Owed.{due}
-use Rattle.tcc_serial.specs.Owners.{Grant}
-use Rattle.tcc_serial.specs.Pairs.{Pair, pair, after_move, share}
-use Rattle.tcc_serial.specs.Standing.{is_applied}
-use Rattle.tcc_serial.specs.Stored.{stores_at}
-use Rattle.tcc_serial.specs.Ways.{Ways}
-use Rattle.tcc_serial.specs.Wrote.{names_line, wrote_line}
+use Rattle.tcc_serial.proofs.Names.{ℕ, ◌+◌, ◌≡◌, ◌<◌, ◌≤◌, ◌⊎◌, ◌==◌, ◌&&◌, Bool, true, false, List, [], ◌∷◌, Option, Some, None, IfSome}
+use Rattle.tcc_serial.proofs.Names.{nat_lt, arith, refl, ap, sym, subst, ◌∙◌, inl, inr, cases_lt, nat_tests, Noted, num, Core, Dir, Msg}
+use Rattle.tcc_serial.proofs.Names.{Shape, home, lines, DirState, Out, History, and_noted, insert_commit, KeptLoading, keeps_unmodified}
+use Rattle.tcc_serial.proofs.Names.{is_fresh, holds_line, CommitsLine, SharerOf, LoadOf, FillOf, GoneOf, Commits, CommitsAbove, live, among}
+use Rattle.tcc_serial.proofs.Names.{due, Grant, Pair, pair, after_move, share, is_applied, stores_at, Ways, names_line, wrote_line}
 use Rattle.tcc_serial.proofs.Marks.CoreAfter.{AfterStep}
 use Rattle.tcc_serial.proofs.Lines.CoreHolds.{Holds, StoredLine}
 use Rattle.tcc_serial.proofs.Ways.CoreSkips.{TellsCommit}

@@ -1,14 +1,6 @@
 -- At the start no core holds a line.
-use Rattle.std.specs.Prelude.{ℕ, ◌≡◌, false, []}
-use Rattle.std.proofs.Common.{refl}
-use Rattle.tcc_program.specs.Program.{Local}
-use Rattle.tcc_maps.specs.Words.{any_below, any_word}
-use Rattle.tcc_maps.specs.Cache.{empty_cache}
-use Rattle.tcc_maps.specs.Shape.{Shape}
-use Rattle.tcc_rules.specs.State.{start, core_start}
-use Rattle.tcc_serial.specs.Copies.{KeptSharers, keeps_unmodified, holds_line}
-use Rattle.tcc_serial.specs.Count.{live}
-use Rattle.tcc_serial.specs.Pairs.{pair}
+use Rattle.tcc_serial.proofs.Names.{ℕ, ◌≡◌, false, [], refl, Local, any_below, any_word, empty_cache, Shape, start, core_start, KeptSharers}
+use Rattle.tcc_serial.proofs.Names.{keeps_unmodified, holds_line, live, pair}
 
 empty-keeps : (l : ℕ) → keeps_unmodified empty_cache l ≡ false
 unfolding keeps_unmodified empty_cache any_word any_below

@@ -1,30 +1,12 @@
 -- Every event keeps that a core which holds a line in memory is one of its sharers, each kind of event by itself.
-use Rattle.std.specs.Prelude.{ℕ, ◌≡◌, ◌<◌, ◌≤◌, ◌⊎◌, ◌==◌, ◌&&◌, Bool, true, false, List, [], ◌∷◌, Option, Some, None, IfSome}
-use Rattle.std.proofs.Common.{arith, refl, ap, sym, subst, ◌∙◌, inl, inr}
-use Rattle.tcc_base.specs.declared.access.Commit.{Commit as Noted}
-use Rattle.tcc_program.specs.Program.{Program}
-use Rattle.tcc_maps.specs.Words.{num}
-use Rattle.tcc_maps.specs.Nodes.{Core, Dir, Vendor, Msg, TidGrant, Event}
-use Rattle.tcc_maps.specs.Shape.{Shape}
-use Rattle.tcc_rules.specs.State.{DirState}
-use Rattle.tcc_rules.specs.Sends.{Sends}
-use Rattle.tcc_maps.specs.Lines.{has_mark}
-use Rattle.std.proofs.lemmas.Bool.{cases_lt}
-use Rattle.tcc_rules.specs.Links.{in_flight}
-use Rattle.tcc_rules.specs.Attempt.{Out}
-use Rattle.tcc_rules.specs.CoreExec.{core_exec}
-use Rattle.tcc_rules.specs.CoreEvict.{core_evict}
-use Rattle.tcc_rules.specs.CoreDeliver.{from_dir, grant}
-use Rattle.tcc_rules.specs.DirDeliver.{Answer, Waits, Drops, Asks, Takes, dir_deliver}
-use Rattle.tcc_rules.specs.Step.{core_moves, core_takes, dir_takes, dir_asks, History, and_noted, step}
-use Rattle.tcc_serial.specs.Named.{KeptNamed}
-use Rattle.tcc_serial.specs.Copies.{KeptLoading, KeptHomes, KeptSharers, LoadingOf, SharerOf}
-use Rattle.tcc_serial.specs.Count.{Kind, Commits, GoneOf, AckOf, Acks, InvOf, InvsAway, FillOf, live, among, passes}
-use Rattle.tcc_serial.specs.Owners.{Grant}
-use Rattle.tcc_serial.specs.Pairs.{Pair, pair, after_move, grant_taken, back_taken, after_answer, out_taken, after_grant, after_other_grant}
-use Rattle.tcc_serial.specs.Standing.{is_applied}
-use Rattle.tcc_serial.specs.Stored.{stores_at}
-use Rattle.tcc_serial.specs.Ways.{Ways}
+use Rattle.tcc_serial.proofs.Names.{ℕ, ◌≡◌, ◌<◌, ◌≤◌, ◌⊎◌, ◌==◌, ◌&&◌, Bool, true, false, List, [], ◌∷◌, Option, Some, None, IfSome, arith}
+use Rattle.tcc_serial.proofs.Names.{refl, ap, sym, subst, ◌∙◌, inl, inr, Noted, Program, num, Core, Dir, Vendor, Msg, TidGrant, Event}
+use Rattle.tcc_serial.proofs.Names.{Shape, DirState, Sends, has_mark, cases_lt, in_flight, Out, core_exec, core_evict, from_dir, grant}
+use Rattle.tcc_serial.proofs.Names.{Answer, Waits, Drops, Asks, Takes, dir_deliver, core_moves, core_takes, dir_takes, dir_asks, History}
+use Rattle.tcc_serial.proofs.Names.{and_noted, step, KeptNamed, KeptLoading, KeptHomes, KeptSharers, LoadingOf, SharerOf, Kind, Commits}
+use Rattle.tcc_serial.proofs.Names.{GoneOf, AckOf, Acks, InvOf, InvsAway, FillOf, live, among, passes, Grant, Pair, pair, after_move}
+use Rattle.tcc_serial.proofs.Names.{grant_taken, back_taken, after_answer, out_taken, after_grant, after_other_grant, is_applied, stores_at}
+use Rattle.tcc_serial.proofs.Names.{Ways}
 use Rattle.tcc_serial.proofs.Serving.CommitOwners.{CommitsNoted, noted-exec, noted-evict}
 use Rattle.tcc_serial.proofs.Marks.CoreAfter.{AfterStep, Stays, after-exec, after-evict, after-grant, after-back}
 use Rattle.tcc_serial.proofs.Serving.CoreCommits.{Served, served-exec, served-evict, served-grant}

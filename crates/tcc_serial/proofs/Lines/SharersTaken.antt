@@ -1,18 +1,9 @@
 -- A message that a core takes keeps that a core which holds a line is one of its sharers, or its Commit of the line is in flight.
-use Rattle.std.specs.Prelude.{ℕ, ◌+◌, ◌%◌, ◌≡◌, ◌≤◌, ◌⊎◌, ◌==◌, Bool, true, false, not, List, Some}
-use Rattle.std.proofs.Common.{arith, refl, ap, sym, ◌∙◌, inl, inr}
-use Rattle.std.proofs.lemmas.Bool.Decides.{nat_tests}
-use Rattle.tcc_base.specs.declared.access.Commit.{Commit as Noted}
-use Rattle.tcc_maps.specs.Words.{num}
-use Rattle.tcc_maps.specs.Nodes.{Core, Dir, Msg, TidReq, TidGrant, LoadReq, Fill, Skip, Probe, ProbeReply, Mark, Commit, Abort, WriteBack, Flush, DataReq, Inv, InvAck}
-use Rattle.tcc_maps.specs.Shape.{Shape, home}
-use Rattle.tcc_rules.specs.Attempt.{Out}
-use Rattle.tcc_rules.specs.CoreEvict.{is_awaited}
-use Rattle.tcc_rules.specs.Links.{in_flight}
-use Rattle.tcc_rules.specs.State.{World}
-use Rattle.tcc_serial.specs.Copies.{KeptHomes, LoadingOf, SharerOf, CommitsLine, holds_line, keeps_unmodified, is_fresh}
-use Rattle.tcc_serial.specs.Count.{LoadOf, FillOf, GoneOf, InvOf, LinesAway, Commits, live, among, passes}
-use Rattle.tcc_serial.specs.Pairs.{Pair, pair, after_move}
+use Rattle.tcc_serial.proofs.Names.{ℕ, ◌+◌, ◌%◌, ◌≡◌, ◌≤◌, ◌⊎◌, ◌==◌, Bool, true, false, not, List, Some, arith, refl, ap, sym, ◌∙◌, inl}
+use Rattle.tcc_serial.proofs.Names.{inr, nat_tests, Noted, num, Core, Dir, Msg, TidReq, TidGrant, LoadReq, Fill, Skip, Probe, ProbeReply}
+use Rattle.tcc_serial.proofs.Names.{Mark, Commit, Abort, WriteBack, Flush, DataReq, Inv, InvAck, Shape, home, Out, is_awaited, in_flight}
+use Rattle.tcc_serial.proofs.Names.{World, KeptHomes, LoadingOf, SharerOf, CommitsLine, holds_line, keeps_unmodified, is_fresh, LoadOf}
+use Rattle.tcc_serial.proofs.Names.{FillOf, GoneOf, InvOf, LinesAway, Commits, live, among, passes, Pair, pair, after_move}
 use Rattle.tcc_serial.proofs.Lines.CoreHoldsTakes.{HoldsTaken, Gone}
 use Rattle.tcc_serial.proofs.Counts.Links.{live-sends}
 use Rattle.tcc_serial.proofs.Lines.PairSharers.{holds-cases, holds-kept, holds-fill, sharer-moved}

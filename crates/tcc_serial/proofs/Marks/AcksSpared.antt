@@ -1,29 +1,10 @@
 -- Every event keeps that no acknowledgement is in flight from the core that the served TID was granted to.
-use Rattle.std.specs.Prelude.{ℕ, ◌≡◌, ◌<◌, ◌≤◌, List, [], ◌∷◌, ◌++◌, Contains, Option, Some, None, IfSome}
-use Rattle.std.proofs.Common.{arith, refl, ap, sym, subst, ◌⊎◌, inl, inr}
-use Rattle.std.proofs.lemmas.Bool.{cases_eq, cases_lt}
-use Rattle.std.proofs.lemmas.Bool.Decides.{nat_tests}
-use Rattle.std.proofs.lemmas.List.{append-nil}
-use Rattle.std.proofs.lemmas.List.Elements.{Contains-append_cases}
-use Rattle.tcc_program.specs.Program.{Program, Local}
-use Rattle.tcc_maps.specs.Words.{num}
-use Rattle.tcc_maps.specs.Nodes.{Core, Dir, Msg, Event}
-use Rattle.tcc_maps.specs.Shape.{Shape}
-use Rattle.tcc_rules.specs.State.{DirState, World, start}
-use Rattle.tcc_rules.specs.Links.{in_flight}
-use Rattle.tcc_rules.specs.Sends.{Sends}
-use Rattle.tcc_rules.specs.Attempt.{Out}
-use Rattle.tcc_rules.specs.CoreExec.{core_exec}
-use Rattle.tcc_rules.specs.CoreEvict.{core_evict}
-use Rattle.tcc_rules.specs.CoreDeliver.{from_dir, grant}
-use Rattle.tcc_rules.specs.DirDeliver.{Answer, Waits, Drops, Asks, Takes, dir_deliver}
-use Rattle.tcc_rules.specs.Step.{core_moves, core_takes, dir_takes, dir_asks, step}
-use Rattle.tcc_serial.specs.Count.{Invs, Acks, Any, live, passes}
-use Rattle.tcc_serial.specs.Kept.{Kept, KeptTold}
-use Rattle.tcc_serial.specs.Owed.{due}
-use Rattle.tcc_serial.specs.Owners.{Grant, granted_by, SparesCommitter}
-use Rattle.tcc_serial.specs.Pairs.{Pair, pair, after_answer, out_taken, share}
-use Rattle.tcc_serial.specs.Tids.{handled}
+use Rattle.tcc_serial.proofs.Names.{ℕ, ◌≡◌, ◌<◌, ◌≤◌, List, [], ◌∷◌, ◌++◌, Contains, Option, Some, None, IfSome, arith, refl, ap, sym}
+use Rattle.tcc_serial.proofs.Names.{subst, ◌⊎◌, inl, inr, cases_eq, cases_lt, nat_tests, append-nil, Contains-append_cases, Program, Local}
+use Rattle.tcc_serial.proofs.Names.{num, Core, Dir, Msg, Event, Shape, DirState, World, start, in_flight, Sends, Out, core_exec, core_evict}
+use Rattle.tcc_serial.proofs.Names.{from_dir, grant, Answer, Waits, Drops, Asks, Takes, dir_deliver, core_moves, core_takes, dir_takes}
+use Rattle.tcc_serial.proofs.Names.{dir_asks, step, Invs, Acks, Any, live, passes, Kept, KeptTold, due, Grant, granted_by, SparesCommitter}
+use Rattle.tcc_serial.proofs.Names.{Pair, pair, after_answer, out_taken, share, handled}
 use Rattle.tcc_serial.proofs.Tids.Commits.{only-one}
 use Rattle.tcc_serial.proofs.Serving.CoreDue.{CleanOut, clean-exec, clean-evict, clean-grant}
 use Rattle.tcc_serial.proofs.Serving.DirDue.{Due, DueBy, dir-due, still-due}
@@ -31,7 +12,8 @@ use Rattle.tcc_serial.proofs.Serving.KeptSteps.{core_of_out, once_at}
 use Rattle.tcc_serial.proofs.Counts.Links.{live-sends, live-takes, total-le, live-fewer}
 use Rattle.tcc_serial.proofs.Marks.NamedKept.{passed-away}
 use Rattle.tcc_serial.proofs.Serving.OwedSteps.{BackDue, back-due, marks_home, acks_owed}
-use Rattle.tcc_serial.proofs.Counts.PairFrames.{dir-own, dir-other, asks-own, pairs_move, pairs_grant, pairs_back, pairs_dir, pairs_asks, pairs_vendor}
+use Rattle.tcc_serial.proofs.Counts.PairFrames.{dir-own, dir-other, asks-own, pairs_move, pairs_grant, pairs_back, pairs_dir, pairs_asks}
+use Rattle.tcc_serial.proofs.Counts.PairFrames.{pairs_vendor}
 use Rattle.tcc_serial.proofs.Counts.StepCases.{OfAnswer, step_cases}
 
 abbrev pub UnackedOf : Shape → List Grant → (core dir : ℕ) → Pair → Type 0

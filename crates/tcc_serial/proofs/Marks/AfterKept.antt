@@ -1,33 +1,17 @@
 -- Every event keeps that a core notes of each directory the greatest TID of its commits that stored there.
-use Rattle.std.specs.Prelude.{ℕ, max, cond, ◌≡◌, ◌<◌, ◌≤◌, ◌⊎◌, ◌==◌, ◌&&◌, Bool, true, false, List, [], ◌∷◌, Contains, Option, Some, None, IfSome, nat_lt, if◌then◌else◌}
-use Rattle.std.proofs.Common.{arith, refl, ap, sym, subst, ◌∙◌, inl, inr}
-use Rattle.std.proofs.lemmas.Bool.{cases_eq}
-use Rattle.std.proofs.lemmas.Bool.Decides.{nat_tests}
-use Rattle.tcc_base.specs.declared.access.Commit.{Commit as Noted}
-use Rattle.tcc_program.specs.Program.{Program, Local}
-use Rattle.tcc_maps.specs.Nodes.{Core, Dir, Vendor, Event, Msg}
-use Rattle.tcc_maps.specs.Shape.{Shape}
-use Rattle.tcc_rules.specs.State.{DirState, World, Link, start, core_start}
-use Rattle.tcc_rules.specs.Links.{in_flight}
-use Rattle.tcc_rules.specs.Sends.{Sends}
-use Rattle.tcc_rules.specs.Attempt.{Out}
-use Rattle.tcc_rules.specs.CoreExec.{core_exec}
-use Rattle.tcc_rules.specs.CoreEvict.{core_evict}
-use Rattle.tcc_rules.specs.CoreDeliver.{from_dir, grant}
-use Rattle.tcc_rules.specs.DirDeliver.{Answer, Waits, Drops, Asks, Takes, dir_deliver}
-use Rattle.tcc_rules.specs.Step.{core_moves, core_takes, dir_takes, step, and_noted, insert_commit}
-use Rattle.tcc_serial.specs.Copies.{AfterOf, KeptAfter, KeptLoading, stored_there}
-use Rattle.tcc_serial.specs.Count.{LoadOf, LoadNot, live}
-use Rattle.tcc_serial.specs.OneCore.{KeptCores}
-use Rattle.tcc_serial.specs.Owners.{Grant, AreGranted, holder, KeptOwners, LastGranted}
-use Rattle.tcc_serial.specs.Pairs.{Pair, pair, after_move}
-use Rattle.tcc_serial.specs.Stored.{stores_at}
-use Rattle.tcc_serial.specs.Wrote.{last_of}
+use Rattle.tcc_serial.proofs.Names.{ℕ, max, cond, ◌≡◌, ◌<◌, ◌≤◌, ◌⊎◌, ◌==◌, ◌&&◌, Bool, true, false, List, [], ◌∷◌, Contains, Option, Some}
+use Rattle.tcc_serial.proofs.Names.{None, IfSome, nat_lt, if◌then◌else◌, arith, refl, ap, sym, subst, ◌∙◌, inl, inr, cases_eq, nat_tests}
+use Rattle.tcc_serial.proofs.Names.{Noted, Program, Local, Core, Dir, Vendor, Event, Msg, Shape, DirState, World, Link, start, core_start}
+use Rattle.tcc_serial.proofs.Names.{in_flight, Sends, Out, core_exec, core_evict, from_dir, grant, Answer, Waits, Drops, Asks, Takes}
+use Rattle.tcc_serial.proofs.Names.{dir_deliver, core_moves, core_takes, dir_takes, step, and_noted, insert_commit, AfterOf, KeptAfter}
+use Rattle.tcc_serial.proofs.Names.{KeptLoading, stored_there, LoadOf, LoadNot, live, KeptCores, Grant, AreGranted, holder, KeptOwners}
+use Rattle.tcc_serial.proofs.Names.{LastGranted, Pair, pair, after_move, stores_at, last_of}
 use Rattle.tcc_serial.proofs.Marks.CoreAfter.{no-load, Stays, Commits_now, AfterStep, after-exec, after-evict, after-grant, after-back}
 use Rattle.tcc_serial.proofs.Tids.CoreOwners.{KeepsHolder, noted_tid, none, holder-exec, holder-evict}
 use Rattle.tcc_serial.proofs.Counts.Links.{live-sends, live-takes}
 use Rattle.tcc_serial.proofs.Serving.OwnerSteps.{holder-moved}
-use Rattle.tcc_serial.proofs.Counts.PairFrames.{either, moves-own, moves-other, pairs_move, pairs_grant, pairs_back, pairs_dir, pairs_asks, pairs_vendor}
+use Rattle.tcc_serial.proofs.Counts.PairFrames.{either, moves-own, moves-other, pairs_move, pairs_grant, pairs_back, pairs_dir, pairs_asks}
+use Rattle.tcc_serial.proofs.Counts.PairFrames.{pairs_vendor}
 use Rattle.tcc_serial.proofs.Counts.StepCases.{OfAnswer, step_cases}
 
 -- the last commit, with one more

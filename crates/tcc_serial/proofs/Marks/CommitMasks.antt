@@ -1,26 +1,14 @@
 -- What a core has marked, or marks, by a TID that it commits is what the commit stored.
-use Rattle.std.specs.Prelude.{ℕ, ◌+◌, ◌≡◌, ◌≤◌, Bool, true, false, not, List, [], ◌∷◌, ◌++◌, ◌==◌, ◌&&◌, Option, Some, None, IfSome, nat_lt, if◌then◌else◌}
-use Rattle.std.specs.List.{flat_map}
-use Rattle.std.proofs.Common.{arith, refl, sym, ap, ◌∙◌, ◌⊎◌, inl, inr}
-use Rattle.std.proofs.lemmas.Bool.Decides.{nat_tests}
-use Rattle.tcc_base.specs.declared.access.Commit.{Commit as Noted}
-use Rattle.tcc_program.specs.Program.{Program}
-use Rattle.tcc_maps.specs.Words.{num, those, any_below, count_below}
-use Rattle.tcc_maps.specs.Nodes.{Dir, Msg, Skip, Mark, Commit, WriteBack, ProbeReply, TidReq, TidGrant, LoadReq, Fill, Probe, Abort, Flush, DataReq, Inv, InvAck}
-use Rattle.tcc_maps.specs.Shape.{Shape, home, lines}
-use Rattle.tcc_maps.specs.Cache.{Cache, is_modified, modified_mask, writes_at}
-use Rattle.tcc_maps.specs.Spilled.{Spilled, holds, spilled_mask, spilled_words}
-use Rattle.tcc_rules.specs.State.{CoreState, Awaited, Phase, Running, AwaitTid, DoomedTid, Probing, Ready, Overflowing, Solo, Halted}
-use Rattle.tcc_rules.specs.Attempt.{Out}
-use Rattle.tcc_rules.specs.Commit.{noted, commit, commit_sends, solo_sends, solo_marks, solo_backs, solo_writes_at, is_written, written_mask}
-use Rattle.tcc_rules.specs.CoreExec.{core_exec, exec_phase, unless_awaiting}
-use Rattle.tcc_rules.specs.CoreEvict.{core_evict}
-use Rattle.tcc_rules.specs.CoreDeliver.{from_dir, probe_reply, fill, data_request, invalidate}
-use Rattle.tcc_serial.specs.Count.{Commits, AnyCommit, CommitOf, MarkOf, MarkMask, among, passes}
-use Rattle.tcc_serial.specs.Marks.{has_marked, stores_line, marked_by}
-use Rattle.tcc_serial.specs.OneCore.{OneCore}
-use Rattle.tcc_serial.specs.Stored.{stores_in, stored_mask, stores_at}
-use Rattle.tcc_serial.specs.Tids.{has_tid}
+use Rattle.tcc_serial.proofs.Names.{ℕ, ◌+◌, ◌≡◌, ◌≤◌, Bool, true, false, not, List, [], ◌∷◌, ◌++◌, ◌==◌, ◌&&◌, Option, Some, None, IfSome}
+use Rattle.tcc_serial.proofs.Names.{nat_lt, if◌then◌else◌, flat_map, arith, refl, sym, ap, ◌∙◌, ◌⊎◌, inl, inr, nat_tests, Noted, Program}
+use Rattle.tcc_serial.proofs.Names.{num, those, any_below, count_below, Dir, Msg, Skip, Mark, Commit, WriteBack, ProbeReply, TidReq}
+use Rattle.tcc_serial.proofs.Names.{TidGrant, LoadReq, Fill, Probe, Abort, Flush, DataReq, Inv, InvAck, Shape, home, lines, Cache}
+use Rattle.tcc_serial.proofs.Names.{is_modified, modified_mask, writes_at, Spilled, holds, spilled_mask, spilled_words, CoreState, Awaited}
+use Rattle.tcc_serial.proofs.Names.{Phase, Running, AwaitTid, DoomedTid, Probing, Ready, Overflowing, Solo, Halted, Out, noted, commit}
+use Rattle.tcc_serial.proofs.Names.{commit_sends, solo_sends, solo_marks, solo_backs, solo_writes_at, is_written, written_mask, core_exec}
+use Rattle.tcc_serial.proofs.Names.{exec_phase, unless_awaiting, core_evict, from_dir, probe_reply, fill, data_request, invalidate, Commits}
+use Rattle.tcc_serial.proofs.Names.{AnyCommit, CommitOf, MarkOf, MarkMask, among, passes, has_marked, stores_line, marked_by, OneCore}
+use Rattle.tcc_serial.proofs.Names.{stores_in, stored_mask, stores_at, has_tid}
 use Rattle.tcc_serial.proofs.Counts.Links.{among-append}
 use Rattle.tcc_serial.proofs.Counts.Sent.{among-flat_map_none}
 use Rattle.tcc_serial.proofs.OneCore.Executes.{Acts, Steady, Executed, Goes_on, Overflows, Asks_tid, Alone, executed}
@@ -32,7 +20,8 @@ use Rattle.tcc_serial.proofs.Marks.CoreMarking.{mine, told-commit, has-ready}
 use Rattle.tcc_serial.proofs.Marks.CoreMarkingTakes.{unmarked}
 use Rattle.tcc_serial.proofs.Marks.CoreMasks.{own-mask, few-masked}
 use Rattle.tcc_serial.proofs.OneCore.NotedCommits.{Notes, exec-notes}
-use Rattle.tcc_serial.proofs.Marks.StoredMasks.{unspilled, stored-line, stored-any, stored-cases, modified-line, modified-stored, written-line, written-stored}
+use Rattle.tcc_serial.proofs.Marks.StoredMasks.{unspilled, stored-line, stored-any, stored-cases, modified-line, modified-stored}
+use Rattle.tcc_serial.proofs.Marks.StoredMasks.{written-line, written-stored}
 
 -- A core notes a commit that stored at the directory, and what this stored are the masks of the Marks that it has sent, and of those that it sends with it.
 pub record Storing (sh : Shape) (c d t : ℕ) (s : CoreState) (o : Out) : Type 0 where

@@ -1,29 +1,21 @@
 -- What a core's step does to the TIDs that it notes of its last commit at each directory.
-use Rattle.std.specs.Prelude.{ℕ, ◌≡◌, ◌⊎◌, Bool, true, false, not, List, [], ◌∷◌, ◌==◌, ◌&&◌, ◌||◌, Option, Some, None, IfSome, is_some, if◌then◌else◌}
-use Rattle.std.proofs.Common.{arith, refl, ◌∙◌, inl, inr}
-use Rattle.std.proofs.lemmas.Bool.Decides.{nat_tests}
-use Rattle.tcc_base.specs.declared.access.Commit.{Commit as Noted}
-use Rattle.tcc_base.specs.declared.access.Size.TheVariants.{Byte, Half, Word}
-use Rattle.tcc_program.specs.Program.{Program, Need, Nothing, Loads, Stores, Changes, Prints, Ends, Halts, Traps}
-use Rattle.tcc_program.specs.Ram.{word_of}
-use Rattle.tcc_maps.specs.Words.{num, line_of}
-use Rattle.tcc_maps.specs.Nodes.{Dir, Vendor, Msg, TidReq, TidGrant, LoadReq, Fill, Skip, Probe, ProbeReply, Mark, Commit, Abort, WriteBack, Flush, DataReq, Inv, InvAck}
-use Rattle.tcc_maps.specs.Shape.{Shape, home, set_of}
-use Rattle.tcc_maps.specs.Cache.{keeps, free_way, all_marked, is_marked}
-use Rattle.tcc_maps.specs.CacheChange.{marked, evicted, filled, read_cleared}
-use Rattle.tcc_maps.specs.Spilled.{holds, spill_line}
-use Rattle.tcc_rules.specs.State.{CoreState, Awaited, Phase, Running, AwaitTid, DoomedTid, Probing, Ready, Overflowing, Solo, Halted}
-use Rattle.tcc_rules.specs.Sends.{Sends, nothing, to, flushed, written_back, marks_for}
-use Rattle.tcc_rules.specs.Attempt.{Out, moves, finished, stepped, is_running, is_solo, new_word, roll_back}
-use Rattle.tcc_rules.specs.Commit.{commit, noted, after_commit, commit_sends, committed_core, solo_commit, solo_sends, solo_writes_at}
-use Rattle.tcc_rules.specs.Execute.{ask, place, overflow, full_set, fetch, used, load_valid, load_spilled, load, buffered, framed, word_store, also_read, change_valid, change_spilled, partial_store, close, execute_need, execute}
-use Rattle.tcc_rules.specs.CoreExec.{core_exec, exec_phase, unless_awaiting}
-use Rattle.tcc_rules.specs.CoreEvict.{core_evict, evict_line, is_awaited}
-use Rattle.tcc_rules.specs.CoreDeliver.{grant, grant_phase, from_dir, probe_reply, reply_phase, replied, all_replied, when_ready, when_alone, ignored, fill, fill_awaited, data_request, invalidate, acknowledged, if_violated, violated_in, is_violated, without}
-use Rattle.tcc_serial.specs.Count.{LoadOf, LoadNot, among, passes}
-use Rattle.tcc_serial.specs.OneCore.{OneCore, executes}
-use Rattle.tcc_serial.specs.Stored.{stores_at}
-use Rattle.tcc_serial.proofs.OneCore.CoreAwaits.{Free, free-nothing, free-flushed, free-written, free-commit, free-solo, free-grants, free-skips, free-probes, free-aborts, free-marks}
+use Rattle.tcc_serial.proofs.Names.{ℕ, ◌≡◌, ◌⊎◌, Bool, true, false, not, List, [], ◌∷◌, ◌==◌, ◌&&◌, ◌||◌, Option, Some, None, IfSome}
+use Rattle.tcc_serial.proofs.Names.{is_some, if◌then◌else◌, arith, refl, ◌∙◌, inl, inr, nat_tests, Noted, Byte, Half, Word, Program, Need}
+use Rattle.tcc_serial.proofs.Names.{Nothing, Loads, Stores, Changes, Prints, Ends, Halts, Traps, word_of, num, line_of, Dir, Vendor, Msg}
+use Rattle.tcc_serial.proofs.Names.{TidReq, TidGrant, LoadReq, Fill, Skip, Probe, ProbeReply, Mark, Commit, Abort, WriteBack, Flush}
+use Rattle.tcc_serial.proofs.Names.{DataReq, Inv, InvAck, Shape, home, set_of, keeps, free_way, all_marked, is_marked, marked, evicted}
+use Rattle.tcc_serial.proofs.Names.{filled, read_cleared, holds, spill_line, CoreState, Awaited, Phase, Running, AwaitTid, DoomedTid}
+use Rattle.tcc_serial.proofs.Names.{Probing, Ready, Overflowing, Solo, Halted, Sends, nothing, to, flushed, written_back, marks_for, Out}
+use Rattle.tcc_serial.proofs.Names.{moves, finished, stepped, is_running, is_solo, new_word, roll_back, commit, noted, after_commit}
+use Rattle.tcc_serial.proofs.Names.{commit_sends, committed_core, solo_commit, solo_sends, solo_writes_at, ask, place, overflow, full_set}
+use Rattle.tcc_serial.proofs.Names.{fetch, used, load_valid, load_spilled, load, buffered, framed, word_store, also_read, change_valid}
+use Rattle.tcc_serial.proofs.Names.{change_spilled, partial_store, close, execute_need, execute, core_exec, exec_phase, unless_awaiting}
+use Rattle.tcc_serial.proofs.Names.{core_evict, evict_line, is_awaited, grant, grant_phase, from_dir, probe_reply, reply_phase, replied}
+use Rattle.tcc_serial.proofs.Names.{all_replied, when_ready, when_alone, ignored, fill, fill_awaited, data_request, invalidate}
+use Rattle.tcc_serial.proofs.Names.{acknowledged, if_violated, violated_in, is_violated, without, LoadOf, LoadNot, among, passes, OneCore}
+use Rattle.tcc_serial.proofs.Names.{executes, stores_at}
+use Rattle.tcc_serial.proofs.OneCore.CoreAwaits.{Free, free-nothing, free-flushed, free-written, free-commit, free-solo, free-grants}
+use Rattle.tcc_serial.proofs.OneCore.CoreAwaits.{free-skips, free-probes, free-aborts, free-marks}
 use Rattle.tcc_serial.proofs.Counts.Links.{among-append}
 use Rattle.tcc_serial.proofs.Marks.StoredMasks.{stored-solo, stored-written}
 

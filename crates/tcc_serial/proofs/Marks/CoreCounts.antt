@@ -1,30 +1,18 @@
 -- A Commit that a core sends counts the Marks that it has sent, or sends with it.
-use Rattle.std.specs.Prelude.{ℕ, zero, suc, ◌+◌, ◌≡◌, ◌<◌, ◌≤◌, Bool, true, false, List, [], ◌∷◌, ◌++◌, ◌==◌, ◌&&◌, Option, Some, None, IfSome, nat_lt, if◌then◌else◌}
-use Rattle.std.specs.List.{flat_map}
-use Rattle.std.proofs.Common.{arith, refl, ◌∙◌}
-use Rattle.std.proofs.lemmas.Bool.Decides.{nat_tests}
-use Rattle.tcc_program.specs.Program.{Program}
-use Rattle.tcc_maps.specs.Words.{num, those, count_below}
-use Rattle.tcc_maps.specs.Nodes.{Dir, Msg, Skip, Mark, Commit, WriteBack, InvAck, ProbeReply, TidReq, TidGrant, LoadReq, Fill, Probe, Abort, Flush, DataReq, Inv}
-use Rattle.tcc_maps.specs.Shape.{Shape, home, lines}
-use Rattle.tcc_maps.specs.Cache.{Cache, is_modified, writes_at}
-use Rattle.tcc_maps.specs.Spilled.{Spilled, holds, spilled_mask, spilled_words}
-use Rattle.tcc_rules.specs.State.{CoreState, Awaited, Phase, Running, AwaitTid, DoomedTid, Probing, Ready, Overflowing, Solo, Halted}
-use Rattle.tcc_rules.specs.Sends.{to, marks_for}
-use Rattle.tcc_rules.specs.Attempt.{Out}
-use Rattle.tcc_rules.specs.Commit.{commit, commit_sends, solo_sends, solo_marks, solo_backs, solo_writes_at, is_written, written_mask}
-use Rattle.tcc_rules.specs.CoreExec.{core_exec, exec_phase, unless_awaiting}
-use Rattle.tcc_rules.specs.CoreEvict.{core_evict}
-use Rattle.tcc_rules.specs.CoreDeliver.{from_dir, grant, grant_phase, probe_reply, fill, data_request, invalidate}
-use Rattle.tcc_rules.specs.DirDeliver.{total}
-use Rattle.tcc_serial.specs.Count.{Kind, MarkOf, AnyCommit, CommitOf, among, passes}
-use Rattle.tcc_serial.specs.Marks.{has_marked, stores_line, marked_by}
-use Rattle.tcc_serial.specs.Probes.{may_commit}
-use Rattle.tcc_serial.specs.Tids.{has_tid}
+use Rattle.tcc_serial.proofs.Names.{ℕ, zero, suc, ◌+◌, ◌≡◌, ◌<◌, ◌≤◌, Bool, true, false, List, [], ◌∷◌, ◌++◌, ◌==◌, ◌&&◌, Option, Some}
+use Rattle.tcc_serial.proofs.Names.{None, IfSome, nat_lt, if◌then◌else◌, flat_map, arith, refl, ◌∙◌, nat_tests, Program, num, those}
+use Rattle.tcc_serial.proofs.Names.{count_below, Dir, Msg, Skip, Mark, Commit, WriteBack, InvAck, ProbeReply, TidReq, TidGrant, LoadReq}
+use Rattle.tcc_serial.proofs.Names.{Fill, Probe, Abort, Flush, DataReq, Inv, Shape, home, lines, Cache, is_modified, writes_at, Spilled}
+use Rattle.tcc_serial.proofs.Names.{holds, spilled_mask, spilled_words, CoreState, Awaited, Phase, Running, AwaitTid, DoomedTid, Probing}
+use Rattle.tcc_serial.proofs.Names.{Ready, Overflowing, Solo, Halted, to, marks_for, Out, commit, commit_sends, solo_sends, solo_marks}
+use Rattle.tcc_serial.proofs.Names.{solo_backs, solo_writes_at, is_written, written_mask, core_exec, exec_phase, unless_awaiting}
+use Rattle.tcc_serial.proofs.Names.{core_evict, from_dir, grant, grant_phase, probe_reply, fill, data_request, invalidate, total, Kind}
+use Rattle.tcc_serial.proofs.Names.{MarkOf, AnyCommit, CommitOf, among, passes, has_marked, stores_line, marked_by, may_commit, has_tid}
 use Rattle.tcc_serial.proofs.Counts.Links.{among-append, total-same, among-fewer}
 use Rattle.tcc_serial.proofs.Counts.Sent.{among-flat_map_none}
 use Rattle.tcc_serial.proofs.OneCore.Executes.{Acts, Steady, Executed, Goes_on, Overflows, Asks_tid, Alone, executed}
-use Rattle.tcc_serial.proofs.OneCore.CoreSteps.{evict-steady, fill-steady, data-steady, Hurt, Unhurt, Rolled, Doomed, Aborted, Gave_up, Invalidated, invalidate-cases, Replied, Ignored, Probed, Left_alone, reply-cases}
+use Rattle.tcc_serial.proofs.OneCore.CoreSteps.{evict-steady, fill-steady, data-steady, Hurt, Unhurt, Rolled, Doomed, Aborted, Gave_up}
+use Rattle.tcc_serial.proofs.OneCore.CoreSteps.{Invalidated, invalidate-cases, Replied, Ignored, Probed, Left_alone, reply-cases}
 use Rattle.tcc_serial.proofs.Serving.CoreCommits.{few-commits, free-abort, free-skip, free-probe, free-grants, free-to, free-marks}
 use Rattle.tcc_serial.proofs.Marks.CoreMarks.{one-mark, marks-only}
 use Rattle.tcc_serial.proofs.Marks.CoreMarking.{mine, self, told-commit, has-ready}

@@ -1,24 +1,19 @@
 -- What each message to a core does to its Marks, Skips and the words on its TID.
-use Rattle.std.specs.Prelude.{ℕ, ◌+◌, ◌≡◌, ◌<◌, ◌≤◌, Bool, true, false, not, List, [], ◌∷◌, ◌++◌, ◌==◌, ◌&&◌, Some, None, IfSome, if◌then◌else◌}
-use Rattle.std.proofs.Common.{arith, refl, sym, ap, ◌∙◌, ◌⊎◌, inl, inr}
-use Rattle.std.proofs.lemmas.Bool.{cases_eq}
-use Rattle.std.proofs.lemmas.Bool.Decides.{nat_tests}
-use Rattle.tcc_base.specs.Put.{put}
-use Rattle.tcc_maps.specs.Words.{num, any_below}
-use Rattle.tcc_maps.specs.Nodes.{Dir, Msg, InvAck, ProbeReply, TidReq, TidGrant, LoadReq, Fill, Skip, Probe, Mark, Commit, Abort, WriteBack, Flush, DataReq, Inv}
-use Rattle.tcc_maps.specs.Shape.{Shape, home, lines}
-use Rattle.tcc_maps.specs.Cache.{Cache, is_modified, modified_mask, written_lines, writes_at}
-use Rattle.tcc_rules.specs.State.{CoreState, Phase, Running, AwaitTid, DoomedTid, Probing, Ready, Overflowing, Solo, Halted}
-use Rattle.tcc_rules.specs.Sends.{to, marks_for, skip_all, abort_written, probe_all}
-use Rattle.tcc_rules.specs.Attempt.{Out}
-use Rattle.tcc_rules.specs.CoreDeliver.{from_dir, all_replied, probe_reply, fill, data_request, invalidate, ignored, grant, grant_phase, grant_sends, is_probed, probing}
-use Rattle.tcc_serial.specs.Count.{Resolves, Marks, MarkOf, EmptyMarks, Skips, among, passes}
-use Rattle.tcc_serial.specs.Marks.{has_marked, stores_line, marked_by}
-use Rattle.tcc_serial.specs.Tids.{has_tid, opens, waits_for_tid}
-use Rattle.tcc_serial.proofs.OneCore.CoreSteps.{fill-steady, data-steady, ignored-steady, Hurt, Unhurt, Rolled, Doomed, Aborted, Gave_up, Invalidated, invalidate-cases, Replied, Ignored, Probed, Left_alone, reply-cases}
+use Rattle.tcc_serial.proofs.Names.{ℕ, ◌+◌, ◌≡◌, ◌<◌, ◌≤◌, Bool, true, false, not, List, [], ◌∷◌, ◌++◌, ◌==◌, ◌&&◌, Some, None, IfSome}
+use Rattle.tcc_serial.proofs.Names.{if◌then◌else◌, arith, refl, sym, ap, ◌∙◌, ◌⊎◌, inl, inr, cases_eq, nat_tests, put, num, any_below, Dir}
+use Rattle.tcc_serial.proofs.Names.{Msg, InvAck, ProbeReply, TidReq, TidGrant, LoadReq, Fill, Skip, Probe, Mark, Commit, Abort, WriteBack}
+use Rattle.tcc_serial.proofs.Names.{Flush, DataReq, Inv, Shape, home, lines, Cache, is_modified, modified_mask, written_lines, writes_at}
+use Rattle.tcc_serial.proofs.Names.{CoreState, Phase, Running, AwaitTid, DoomedTid, Probing, Ready, Overflowing, Solo, Halted, to}
+use Rattle.tcc_serial.proofs.Names.{marks_for, skip_all, abort_written, probe_all, Out, from_dir, all_replied, probe_reply, fill}
+use Rattle.tcc_serial.proofs.Names.{data_request, invalidate, ignored, grant, grant_phase, grant_sends, is_probed, probing, Resolves, Marks}
+use Rattle.tcc_serial.proofs.Names.{MarkOf, EmptyMarks, Skips, among, passes, has_marked, stores_line, marked_by, has_tid, opens}
+use Rattle.tcc_serial.proofs.Names.{waits_for_tid}
+use Rattle.tcc_serial.proofs.OneCore.CoreSteps.{fill-steady, data-steady, ignored-steady, Hurt, Unhurt, Rolled, Doomed, Aborted, Gave_up}
+use Rattle.tcc_serial.proofs.OneCore.CoreSteps.{Invalidated, invalidate-cases, Replied, Ignored, Probed, Left_alone, reply-cases}
 use Rattle.tcc_serial.proofs.Counts.Links.{among-append}
 use Rattle.tcc_serial.proofs.Marks.CoreMarks.{marks-for, marks-only, full-for, stores-writes}
-use Rattle.tcc_serial.proofs.Marks.CoreMarking.{Marking, Unsaid, unsaid-nothing, unsaid-append, acked, silent, silent-none, marking-steady, last-words, is-tid, swap, mine, self, told-abort, told-skip, marked-same, stores-same}
+use Rattle.tcc_serial.proofs.Marks.CoreMarking.{Marking, Unsaid, unsaid-nothing, unsaid-append, acked, silent, silent-none, marking-steady}
+use Rattle.tcc_serial.proofs.Marks.CoreMarking.{last-words, is-tid, swap, mine, self, told-abort, told-skip, marked-same, stores-same}
 use Rattle.tcc_serial.proofs.Counts.Nums.{num-few, num-one}
 
 -- before an acknowledgement

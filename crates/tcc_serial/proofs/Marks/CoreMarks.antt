@@ -1,21 +1,11 @@
 -- A core sends a Mark of each line that it stores to a directory that replies, and Skips and Marks to none at once.
-use Rattle.std.specs.Prelude.{ℕ, zero, suc, ◌+◌, ◌≡◌, ◌<◌, ◌≤◌, Bool, true, false, List, [], ◌∷◌, ◌++◌, ◌==◌, ◌&&◌, ◌||◌, is_some, nat_lt, if◌then◌else◌}
-use Rattle.std.specs.List.{flat_map}
-use Rattle.std.proofs.Common.{arith, refl, ◌⊎◌, inl, inr}
-use Rattle.std.proofs.lemmas.Bool.{cases_eq}
-use Rattle.std.proofs.lemmas.Bool.Decides.{nat_tests}
-use Rattle.std.proofs.lemmas.Grind.{flat_map-append}
-use Rattle.tcc_maps.specs.Words.{num, those, count_below, any_word, word_at}
-use Rattle.tcc_maps.specs.Masks.{mask_of}
-use Rattle.tcc_maps.specs.Nodes.{Dir, Msg, Skip, Mark, Commit, WriteBack}
-use Rattle.tcc_maps.specs.Shape.{Shape, home, lines}
-use Rattle.tcc_maps.specs.Cache.{Cache, is_modified, modified_mask, written_lines, writes_at}
-use Rattle.tcc_maps.specs.Spilled.{Spilled, holds, spilled_mask, spilled_words}
-use Rattle.tcc_maps.proofs.Lemmas.{any_below-at, any_below-found}
-use Rattle.tcc_rules.specs.Sends.{marks_for}
-use Rattle.tcc_rules.specs.Commit.{solo_sends, solo_marks, solo_backs, solo_writes_at, is_written, written_mask}
-use Rattle.tcc_serial.specs.Count.{Kind, Resolves, Marks, MarkOf, EmptyMarks, Skips, among, passes}
-use Rattle.tcc_serial.specs.Marks.{stores_line}
+use Rattle.tcc_serial.proofs.Names.{ℕ, zero, suc, ◌+◌, ◌≡◌, ◌<◌, ◌≤◌, Bool, true, false, List, [], ◌∷◌, ◌++◌, ◌==◌, ◌&&◌, ◌||◌, is_some}
+use Rattle.tcc_serial.proofs.Names.{nat_lt, if◌then◌else◌, flat_map, arith, refl, ◌⊎◌, inl, inr, cases_eq, nat_tests, flat_map-append, num}
+use Rattle.tcc_serial.proofs.Names.{those, count_below, any_word, word_at, mask_of, Dir, Msg, Skip, Mark, Commit, WriteBack, Shape, home}
+use Rattle.tcc_serial.proofs.Names.{lines, Cache, is_modified, modified_mask, written_lines, writes_at, Spilled, holds, spilled_mask}
+use Rattle.tcc_serial.proofs.Names.{spilled_words, any_below-at, any_below-found, marks_for, solo_sends, solo_marks, solo_backs}
+use Rattle.tcc_serial.proofs.Names.{solo_writes_at, is_written, written_mask, Kind, Resolves, Marks, MarkOf, EmptyMarks, Skips, among}
+use Rattle.tcc_serial.proofs.Names.{passes, stores_line}
 use Rattle.tcc_serial.proofs.Counts.Links.{among-append}
 use Rattle.tcc_serial.proofs.Counts.Sent.{among-flat_map_none}
 

@@ -1,28 +1,18 @@
 -- The Marks that a core sends have as masks the words that it has modified, and these stay while it has its TID.
-use Rattle.std.specs.Prelude.{ℕ, ◌≡◌, ◌≤◌, Bool, true, false, not, List, [], ◌∷◌, ◌==◌, ◌&&◌, Option, Some, None, IfSome, if◌then◌else◌}
-use Rattle.std.proofs.Common.{arith, refl, ap, ◌⊎◌, inl, inr}
-use Rattle.std.proofs.lemmas.Bool.{cases_eq}
-use Rattle.std.proofs.lemmas.Bool.Decides.{nat_tests}
-use Rattle.tcc_program.specs.Program.{Program}
-use Rattle.tcc_maps.specs.Words.{num, word_at}
-use Rattle.tcc_maps.specs.Masks.{mask_of}
-use Rattle.tcc_maps.specs.Nodes.{Dir, Msg, InvAck, ProbeReply, TidReq, TidGrant, LoadReq, Fill, Skip, Probe, Mark, Commit, Abort, WriteBack, Flush, DataReq, Inv}
-use Rattle.tcc_maps.specs.Shape.{Shape, home}
-use Rattle.tcc_maps.specs.Cache.{Cache, modified_mask, written_lines}
-use Rattle.tcc_rules.specs.State.{CoreState, Awaited, Phase, Running, AwaitTid, DoomedTid, Probing, Ready, Overflowing, Solo, Halted, Link}
-use Rattle.tcc_rules.specs.Sends.{to, marks_for}
-use Rattle.tcc_rules.specs.Attempt.{Out}
-use Rattle.tcc_rules.specs.Commit.{commit, committed_core, phase_after}
-use Rattle.tcc_rules.specs.CoreExec.{core_exec, exec_phase, unless_awaiting}
-use Rattle.tcc_rules.specs.CoreEvict.{core_evict}
-use Rattle.tcc_rules.specs.CoreDeliver.{from_dir, probe_reply, fill, data_request, invalidate, ignored}
-use Rattle.tcc_serial.specs.Count.{MarkOf, MarkMask, live, among, passes}
-use Rattle.tcc_serial.specs.Marks.{has_marked, marked_by}
-use Rattle.tcc_serial.specs.Tids.{has_tid}
+use Rattle.tcc_serial.proofs.Names.{ℕ, ◌≡◌, ◌≤◌, Bool, true, false, not, List, [], ◌∷◌, ◌==◌, ◌&&◌, Option, Some, None, IfSome}
+use Rattle.tcc_serial.proofs.Names.{if◌then◌else◌, arith, refl, ap, ◌⊎◌, inl, inr, cases_eq, nat_tests, Program, num, word_at, mask_of, Dir}
+use Rattle.tcc_serial.proofs.Names.{Msg, InvAck, ProbeReply, TidReq, TidGrant, LoadReq, Fill, Skip, Probe, Mark, Commit, Abort, WriteBack}
+use Rattle.tcc_serial.proofs.Names.{Flush, DataReq, Inv, Shape, home, Cache, modified_mask, written_lines, CoreState, Awaited, Phase}
+use Rattle.tcc_serial.proofs.Names.{Running, AwaitTid, DoomedTid, Probing, Ready, Overflowing, Solo, Halted, Link, to, marks_for, Out}
+use Rattle.tcc_serial.proofs.Names.{commit, committed_core, phase_after, core_exec, exec_phase, unless_awaiting, core_evict, from_dir}
+use Rattle.tcc_serial.proofs.Names.{probe_reply, fill, data_request, invalidate, ignored, MarkOf, MarkMask, live, among, passes, has_marked}
+use Rattle.tcc_serial.proofs.Names.{marked_by, has_tid}
 use Rattle.tcc_serial.proofs.Counts.Sent.{among-flat_map_none}
 use Rattle.tcc_serial.proofs.Tids.CoreProbing.{tid-after}
 use Rattle.tcc_serial.proofs.OneCore.Executes.{Acts, Steady, Executed, Goes_on, Overflows, Asks_tid, Alone, executed}
-use Rattle.tcc_serial.proofs.OneCore.CoreSteps.{evict-steady, fill-steady, data-steady, ignored-steady, Hurt, Unhurt, Rolled, Doomed, Aborted, Gave_up, Invalidated, invalidate-cases, Replied, Ignored, Probed, Left_alone, reply-cases}
+use Rattle.tcc_serial.proofs.OneCore.CoreSteps.{evict-steady, fill-steady, data-steady, ignored-steady, Hurt, Unhurt, Rolled, Doomed}
+use Rattle.tcc_serial.proofs.OneCore.CoreSteps.{Aborted, Gave_up, Invalidated, invalidate-cases, Replied, Ignored, Probed, Left_alone}
+use Rattle.tcc_serial.proofs.OneCore.CoreSteps.{reply-cases}
 use Rattle.tcc_serial.proofs.Marks.CoreMarking.{Unsaid, unsaid-quiet, unsaid-nothing, unsaid-append, acked, idle}
 use Rattle.tcc_serial.proofs.Marks.CoreMarkingTakes.{unmarked}
 use Rattle.tcc_serial.proofs.Counts.Links.{among-fewer, live-fewer}

@@ -1,21 +1,9 @@
 -- Every event keeps that a Commit counts its Marks, and that none is in flight while acknowledgements are owed.
-use Rattle.std.specs.Prelude.{ℕ, ◌+◌, ◌≡◌, ◌<◌, ◌≤◌, Bool, true, false, List, ◌==◌, ◌&&◌, Contains, nat_lt, nat_le}
-use Rattle.std.proofs.Common.{arith, refl, ap, ◌⊎◌, inl, inr}
-use Rattle.std.proofs.lemmas.Bool.{cases_lt}
-use Rattle.std.proofs.lemmas.Bool.Decides.{nat_tests}
-use Rattle.tcc_maps.specs.Words.{num}
-use Rattle.tcc_maps.specs.Lines.{has_mark}
-use Rattle.tcc_maps.specs.Nodes.{Dir, Msg, Skip}
-use Rattle.tcc_maps.specs.Shape.{Shape, lines}
-use Rattle.tcc_maps.specs.Cache.{writes_at}
-use Rattle.tcc_rules.specs.State.{DirState, World, Link}
-use Rattle.tcc_rules.specs.Attempt.{Out}
-use Rattle.tcc_serial.specs.Count.{Kind, Resolves, MarkOf, EmptyMarks, AnyCommit, CommitOf, live, among, passes}
-use Rattle.tcc_serial.specs.Marks.{marks_of, MarksOf}
-use Rattle.tcc_serial.specs.Counted.{CountsMarks, CountedOf}
-use Rattle.tcc_serial.specs.Owners.{Grant}
-use Rattle.tcc_serial.specs.Pairs.{Pair, pair, share, after_move, grant_taken, after_answer}
-use Rattle.tcc_serial.specs.Tids.{opens, part, handled, KeptTids}
+use Rattle.tcc_serial.proofs.Names.{ℕ, ◌+◌, ◌≡◌, ◌<◌, ◌≤◌, Bool, true, false, List, ◌==◌, ◌&&◌, Contains, nat_lt, nat_le, arith, refl, ap}
+use Rattle.tcc_serial.proofs.Names.{◌⊎◌, inl, inr, cases_lt, nat_tests, num, has_mark, Dir, Msg, Skip, Shape, lines, writes_at, DirState}
+use Rattle.tcc_serial.proofs.Names.{World, Link, Out, Kind, Resolves, MarkOf, EmptyMarks, AnyCommit, CommitOf, live, among, passes}
+use Rattle.tcc_serial.proofs.Names.{marks_of, MarksOf, CountsMarks, CountedOf, Grant, Pair, pair, share, after_move, grant_taken}
+use Rattle.tcc_serial.proofs.Names.{after_answer, opens, part, handled, KeptTids}
 use Rattle.tcc_serial.proofs.Counts.Links.{live-sends, total-le}
 use Rattle.tcc_serial.proofs.Marks.CoreCounts.{few-any}
 use Rattle.tcc_serial.proofs.Marks.DirMarks.{Marked}

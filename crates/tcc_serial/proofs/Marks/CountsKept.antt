@@ -1,33 +1,15 @@
 -- Every event keeps that a Commit counts its Marks, and that none is in flight while acknowledgements are owed.
-use Rattle.std.specs.Prelude.{ℕ, ◌≡◌, ◌<◌, ◌≤◌, true, false, List, [], Option, Some, None, IfSome, set}
-use Rattle.std.proofs.Common.{arith, refl, ap, subst, ◌∙◌, ◌⊎◌, inl, inr}
-use Rattle.std.proofs.lemmas.Bool.{cases_eq, cases_lt}
-use Rattle.std.proofs.lemmas.Bool.Decides.{nat_tests}
-use Rattle.tcc_base.specs.declared.access.Commit.{Commit as Noted}
-use Rattle.tcc_program.specs.Program.{Program, Local}
-use Rattle.tcc_maps.specs.Words.{num, count_below}
-use Rattle.tcc_maps.specs.Lines.{has_mark}
-use Rattle.tcc_maps.specs.Nodes.{Core, Dir, Msg, TidReq, Skip, Commit, Event}
-use Rattle.tcc_maps.specs.Shape.{Shape, lines}
-use Rattle.tcc_rules.specs.State.{DirState, World, Phase, Running, AwaitTid, DoomedTid, Probing, Ready, Overflowing, Solo, Halted, start, dir_start}
-use Rattle.tcc_rules.specs.Links.{in_flight}
-use Rattle.tcc_rules.specs.Sends.{Sends}
-use Rattle.tcc_rules.specs.Attempt.{Out}
-use Rattle.tcc_rules.specs.CoreExec.{core_exec}
-use Rattle.tcc_rules.specs.CoreEvict.{core_evict}
-use Rattle.tcc_rules.specs.CoreDeliver.{from_dir, grant}
-use Rattle.tcc_rules.specs.DirDeliver.{Answer, Waits, Drops, Asks, Takes, dir_deliver}
-use Rattle.tcc_rules.specs.Step.{core_moves, core_takes, dir_takes, dir_asks, step}
-use Rattle.tcc_serial.specs.Count.{Resolves, MarkOf, EmptyMarks, CommitOf, Acks, live, passes}
-use Rattle.tcc_serial.specs.Marks.{marks_of, KeptMarks}
-use Rattle.tcc_serial.specs.Counted.{CountedOf, KeptCounted}
-use Rattle.tcc_serial.specs.OneCore.{KeptCores, awaits_replies}
-use Rattle.tcc_serial.specs.Owners.{Grant, KeptOwners}
-use Rattle.tcc_serial.specs.Pairs.{Pair, pair, after_move, back_taken, after_grant, after_other_grant}
-use Rattle.tcc_serial.specs.Probes.{may_commit}
-use Rattle.tcc_serial.specs.Kept.{Kept, KeptTold}
+use Rattle.tcc_serial.proofs.Names.{ℕ, ◌≡◌, ◌<◌, ◌≤◌, true, false, List, [], Option, Some, None, IfSome, set, arith, refl, ap, subst, ◌∙◌}
+use Rattle.tcc_serial.proofs.Names.{◌⊎◌, inl, inr, cases_eq, cases_lt, nat_tests, Noted, Program, Local, num, count_below, has_mark, Core}
+use Rattle.tcc_serial.proofs.Names.{Dir, Msg, TidReq, Skip, Commit, Event, Shape, lines, DirState, World, Phase, Running, AwaitTid}
+use Rattle.tcc_serial.proofs.Names.{DoomedTid, Probing, Ready, Overflowing, Solo, Halted, start, dir_start, in_flight, Sends, Out}
+use Rattle.tcc_serial.proofs.Names.{core_exec, core_evict, from_dir, grant, Answer, Waits, Drops, Asks, Takes, dir_deliver, core_moves}
+use Rattle.tcc_serial.proofs.Names.{core_takes, dir_takes, dir_asks, step, Resolves, MarkOf, EmptyMarks, CommitOf, Acks, live, passes}
+use Rattle.tcc_serial.proofs.Names.{marks_of, KeptMarks, CountedOf, KeptCounted, KeptCores, awaits_replies, Grant, KeptOwners, Pair, pair}
+use Rattle.tcc_serial.proofs.Names.{after_move, back_taken, after_grant, after_other_grant, may_commit, Kept, KeptTold}
 use Rattle.tcc_serial.proofs.Counts.Links.{live-takes}
-use Rattle.tcc_serial.proofs.Counts.PairFrames.{dir-own, dir-other, asks-own, pairs_move, pairs_grant, pairs_back, pairs_dir, pairs_asks, pairs_vendor}
+use Rattle.tcc_serial.proofs.Counts.PairFrames.{dir-own, dir-other, asks-own, pairs_move, pairs_grant, pairs_back, pairs_dir, pairs_asks}
+use Rattle.tcc_serial.proofs.Counts.PairFrames.{pairs_vendor}
 use Rattle.tcc_serial.proofs.Counts.StepCases.{OfAnswer, step_cases}
 use Rattle.tcc_serial.proofs.Tids.TidSteps.{granted_waits, live-some}
 use Rattle.tcc_serial.proofs.Serving.KeptSteps.{core_of_back, core_of_out, once_at}

@@ -1,20 +1,14 @@
 -- What a directory's rules do to the tags and owners of its lines: a Commit of the served TID takes the marked lines over, and the
 -- owner's words that come home leave their line without owner.
-use Rattle.std.specs.Prelude.{ℕ, ◌-◌, ◌≡◌, ◌≤◌, Bool, true, false, List, [], ◌∷◌, ◌==◌, ◌&&◌, ◌||◌, Option, Some, None, nat_lt, nat_le, if◌then◌else◌}
-use Rattle.std.proofs.Common.{arith, refl}
-use Rattle.std.proofs.lemmas.Bool.Decides.{nat_tests}
-use Rattle.tcc_maps.specs.Words.{count_below}
-use Rattle.tcc_maps.specs.Masks.{full}
-use Rattle.tcc_maps.specs.Lines.{has_mark, with_asked, with_mark, with_sharer, with_owner, unmarked}
-use Rattle.tcc_maps.specs.Judge.{judge, is_owner, Takes as IsTaken, Drops as IsDropped, Waits as IsEarly}
-use Rattle.tcc_maps.specs.Serving.{skipped, kept}
-use Rattle.tcc_maps.specs.Nodes.{Core, Msg, TidReq, TidGrant, LoadReq, Fill, Skip, Probe, ProbeReply, Mark, Commit, Abort, WriteBack, Flush, DataReq, Inv, InvAck}
-use Rattle.tcc_maps.specs.Shape.{Shape, lines}
-use Rattle.tcc_rules.specs.State.{DirState}
-use Rattle.tcc_rules.specs.Sends.{nothing, to}
-use Rattle.tcc_rules.specs.DirDeliver.{Answer, Waits, Drops, Asks, Takes, skip, abort, commit, acknowledgement, dir_deliver, moved_on, settled, owned, owed_by, invalidations, unless_keeps, ask_owner, load_owned, load_request, marking, mark_owned, mark, judged, write_back, came_home, probe}
-use Rattle.tcc_serial.specs.Count.{Commits, CopyOf, passes}
-use Rattle.tcc_serial.specs.Standing.{is_this}
+use Rattle.tcc_serial.proofs.Names.{ℕ, ◌-◌, ◌≡◌, ◌≤◌, Bool, true, false, List, [], ◌∷◌, ◌==◌, ◌&&◌, ◌||◌, Option, Some, None, nat_lt}
+use Rattle.tcc_serial.proofs.Names.{nat_le, if◌then◌else◌, arith, refl, nat_tests, count_below, full, has_mark, with_asked, with_mark}
+use Rattle.tcc_serial.proofs.Names.{with_sharer, with_owner, unmarked, judge, is_owner, IsTaken, IsDropped, IsEarly, skipped, kept, Core}
+use Rattle.tcc_serial.proofs.Names.{Msg, TidReq, TidGrant, LoadReq, Fill, Skip, Probe, ProbeReply, Mark, Commit, Abort, WriteBack, Flush}
+use Rattle.tcc_serial.proofs.Names.{DataReq, Inv, InvAck, Shape, lines, DirState, nothing, to, Answer, Waits, Drops, Asks, Takes, skip}
+use Rattle.tcc_serial.proofs.Names.{abort, acknowledgement, dir_deliver, moved_on, settled, owned, owed_by, invalidations, unless_keeps}
+use Rattle.tcc_serial.proofs.Names.{ask_owner, load_owned, load_request, marking, mark_owned, mark, judged, write_back, came_home, probe}
+use Rattle.tcc_serial.proofs.Names.{Commits, CopyOf, passes, is_this}
+use Rattle.tcc_rules.specs.DirDeliver.{commit}
 use Rattle.tcc_serial.proofs.Marks.OwesByCommit.{CountsMarked}
 
 abbrev pub NoCommit : Msg → Type 0

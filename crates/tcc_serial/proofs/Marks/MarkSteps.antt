@@ -1,23 +1,12 @@
 -- Every event keeps that the Marks of a TID are those of the lines that its core stores.
-use Rattle.std.specs.Prelude.{ℕ, ◌+◌, ◌≡◌, ◌<◌, ◌≤◌, Bool, true, false, not, List, [], ◌∷◌, ◌++◌, ◌==◌, ◌&&◌, Contains, Some, None, nat_lt, nat_le, slice_index_or, slice_set}
-use Rattle.std.proofs.Common.{arith, refl, ap, ◌∙◌, ◌⊎◌, inl, inr}
-use Rattle.std.proofs.lemmas.Bool.{cases_lt}
-use Rattle.std.proofs.lemmas.Bool.Decides.{nat_tests}
-use Rattle.std.proofs.lemmas.List.Elements.{Contains-append_left}
-use Rattle.tcc_base.specs.declared.access.Commit.{Commit as Noted}
-use Rattle.tcc_maps.specs.Words.{num}
-use Rattle.tcc_maps.specs.Lines.{has_mark}
-use Rattle.tcc_maps.specs.Nodes.{Core, Dir, Vendor, Msg, TidGrant, Skip}
-use Rattle.tcc_maps.specs.Shape.{Shape}
-use Rattle.tcc_maps.specs.Cache.{writes_at}
-use Rattle.tcc_rules.specs.State.{CoreState, DirState, World, Link, Phase, Running, AwaitTid, DoomedTid, Probing, Ready, Overflowing, Solo, Halted}
-use Rattle.tcc_rules.specs.Links.{in_flight}
-use Rattle.tcc_serial.specs.Count.{Kind, Grants, Resolves, AnyResolve, Marks, MarkOf, EmptyMarks, Skips, live, among, passes}
-use Rattle.tcc_serial.specs.Marks.{marks_of, has_marked, stores_line, marked_by, MarksOf, KeptMarks}
-use Rattle.tcc_serial.specs.Owners.{Grant, holder, KeptOwners}
-use Rattle.tcc_serial.specs.Pairs.{Pair, pair, share, after_answer, after_grant, after_other_grant}
-use Rattle.tcc_serial.specs.Tids.{has_tid, opens, part, handled, KeptTids}
-use Rattle.tcc_serial.specs.Kept.{KeptTold}
+use Rattle.tcc_serial.proofs.Names.{ℕ, ◌+◌, ◌≡◌, ◌<◌, ◌≤◌, Bool, true, false, not, List, [], ◌∷◌, ◌++◌, ◌==◌, ◌&&◌, Contains, Some, None}
+use Rattle.tcc_serial.proofs.Names.{nat_lt, nat_le, slice_index_or, slice_set, arith, refl, ap, ◌∙◌, ◌⊎◌, inl, inr, cases_lt, nat_tests}
+use Rattle.tcc_serial.proofs.Names.{Contains-append_left, Noted, num, has_mark, Core, Dir, Vendor, Msg, TidGrant, Skip, Shape, writes_at}
+use Rattle.tcc_serial.proofs.Names.{CoreState, DirState, World, Link, Phase, Running, AwaitTid, DoomedTid, Probing, Ready, Overflowing}
+use Rattle.tcc_serial.proofs.Names.{Solo, Halted, in_flight, Kind, Grants, Resolves, AnyResolve, Marks, MarkOf, EmptyMarks, Skips, live}
+use Rattle.tcc_serial.proofs.Names.{among, passes, marks_of, has_marked, stores_line, marked_by, MarksOf, KeptMarks, Grant, holder}
+use Rattle.tcc_serial.proofs.Names.{KeptOwners, Pair, pair, share, after_answer, after_grant, after_other_grant, has_tid, opens, part}
+use Rattle.tcc_serial.proofs.Names.{handled, KeptTids, KeptTold}
 use Rattle.tcc_serial.proofs.Counts.Links.{live-sends, live-takes, total-le}
 use Rattle.tcc_serial.proofs.Tids.TidSteps.{live-some}
 use Rattle.tcc_serial.proofs.Marks.CoreMarks.{stores-writes}

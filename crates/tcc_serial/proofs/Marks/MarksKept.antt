@@ -1,29 +1,11 @@
 -- Every event keeps that the Marks of a TID are those of the lines that its core stores.
-use Rattle.std.specs.Prelude.{ℕ, ◌+◌, ◌≡◌, ◌<◌, ◌≤◌, Bool, true, false, List, [], ◌∷◌, ◌++◌, Contains, Option, Some, None, IfSome, nat_le, set}
-use Rattle.std.proofs.Common.{arith, refl, ap, ◌⊎◌, inl, inr}
-use Rattle.std.proofs.lemmas.List.{append-nil}
-use Rattle.tcc_base.specs.declared.access.Commit.{Commit as Noted}
-use Rattle.tcc_program.specs.Program.{Program, Local}
-use Rattle.tcc_maps.specs.Words.{num}
-use Rattle.tcc_maps.specs.Lines.{has_mark, no_lines}
-use Rattle.tcc_maps.specs.Nodes.{Core, Dir, Vendor, Msg, TidReq, TidGrant, Skip, Event}
-use Rattle.tcc_maps.specs.Shape.{Shape}
-use Rattle.tcc_maps.specs.Cache.{writes_at}
-use Rattle.tcc_rules.specs.State.{DirState, World, start, core_start, dir_start}
-use Rattle.tcc_rules.specs.Links.{in_flight}
-use Rattle.tcc_rules.specs.Sends.{Sends}
-use Rattle.tcc_rules.specs.Attempt.{Out}
-use Rattle.tcc_rules.specs.CoreExec.{core_exec}
-use Rattle.tcc_rules.specs.CoreEvict.{core_evict}
-use Rattle.tcc_rules.specs.CoreDeliver.{from_dir, grant}
-use Rattle.tcc_rules.specs.DirDeliver.{Answer, Waits, Drops, Asks, Takes, dir_deliver}
-use Rattle.tcc_rules.specs.Step.{core_moves, core_takes, dir_takes, dir_asks, step}
-use Rattle.tcc_serial.specs.Count.{Grants, MarkOf, EmptyMarks, live, passes}
-use Rattle.tcc_serial.specs.Marks.{marks_of, MarksOf, KeptMarks}
-use Rattle.tcc_serial.specs.Owners.{Grant, granted_by, KeptOwners}
-use Rattle.tcc_serial.specs.Pairs.{Pair, pair, after_move, back_taken}
-use Rattle.tcc_serial.specs.Tids.{has_tid, opens}
-use Rattle.tcc_serial.specs.Kept.{Kept, KeptTold}
+use Rattle.tcc_serial.proofs.Names.{ℕ, ◌+◌, ◌≡◌, ◌<◌, ◌≤◌, Bool, true, false, List, [], ◌∷◌, ◌++◌, Contains, Option, Some, None, IfSome}
+use Rattle.tcc_serial.proofs.Names.{nat_le, set, arith, refl, ap, ◌⊎◌, inl, inr, append-nil, Noted, Program, Local, num, has_mark, no_lines}
+use Rattle.tcc_serial.proofs.Names.{Core, Dir, Vendor, Msg, TidReq, TidGrant, Skip, Event, Shape, writes_at, DirState, World, start}
+use Rattle.tcc_serial.proofs.Names.{core_start, dir_start, in_flight, Sends, Out, core_exec, core_evict, from_dir, grant, Answer, Waits}
+use Rattle.tcc_serial.proofs.Names.{Drops, Asks, Takes, dir_deliver, core_moves, core_takes, dir_takes, dir_asks, step, Grants, MarkOf}
+use Rattle.tcc_serial.proofs.Names.{EmptyMarks, live, passes, marks_of, MarksOf, KeptMarks, Grant, granted_by, KeptOwners, Pair, pair}
+use Rattle.tcc_serial.proofs.Names.{after_move, back_taken, has_tid, opens, Kept, KeptTold}
 use Rattle.tcc_serial.proofs.Counts.Links.{live-takes}
 use Rattle.tcc_serial.proofs.Counts.PairFrames.{same, pairs_move, pairs_grant, pairs_back, pairs_dir, pairs_asks, pairs_vendor}
 use Rattle.tcc_serial.proofs.Counts.StepCases.{OfAnswer, step_cases}
@@ -34,7 +16,8 @@ use Rattle.tcc_serial.proofs.Marks.CoreMarking.{Marking, marking-exec, marking-e
 use Rattle.tcc_serial.proofs.Marks.CoreMarkingTakes.{marking-back, granting}
 use Rattle.tcc_serial.proofs.Marks.DirMarks.{Marked, Stays, MarkedBy, dir-marked}
 use Rattle.tcc_serial.proofs.Marks.PairMarks.{kinds, marks-moved, marks-granted}
-use Rattle.tcc_serial.proofs.Marks.MarkSteps.{marks-answered, marks-given, marks-next, has-alone, is-granted, has-granted, open-untold, open-ahead, taken-less, empty-one, skip-unmarked}
+use Rattle.tcc_serial.proofs.Marks.MarkSteps.{marks-answered, marks-given, marks-next, has-alone, is-granted, has-granted, open-untold}
+use Rattle.tcc_serial.proofs.Marks.MarkSteps.{open-ahead, taken-less, empty-one, skip-unmarked}
 use Rattle.tcc_serial.proofs.Serving.OwnerSteps.{grant-alone}
 
 -- a Mark of a TID comes from one core, to which the TID was granted

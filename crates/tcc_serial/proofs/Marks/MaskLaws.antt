@@ -1,26 +1,11 @@
 -- The laws on the marks of directories, from the invariants.
-use Rattle.std.specs.Prelude.{ℕ, zero, suc, ◌≡◌, ◌<◌, ◌≤◌, Bool, true, false, not, List, [], ◌∷◌, ◌==◌, ◌&&◌, Contains, Option, Some, None, IfSome, length, slice_index_or, nat_lt, nat_le}
-use Rattle.std.proofs.Common.{arith, refl, sym, ap, subst, ◌∙◌, ◌⊎◌, inl, inr}
-use Rattle.std.proofs.lemmas.Bool.{cases_eq, cases_lt}
-use Rattle.std.proofs.lemmas.Bool.Decides.{nat_tests}
-use Rattle.tcc_base.specs.declared.access.Commit.{Commit as Noted}
-use Rattle.tcc_maps.specs.Words.{num, count_below}
-use Rattle.tcc_maps.specs.Cache.{modified_mask}
-use Rattle.tcc_maps.specs.Lines.{has_mark}
-use Rattle.tcc_maps.specs.Nodes.{Core, Dir, Msg}
-use Rattle.tcc_maps.specs.Shape.{Shape, lines}
-use Rattle.tcc_rules.specs.State.{CoreState, World, Link, start}
-use Rattle.tcc_rules.specs.Step.{History, run}
-use Rattle.tcc_serial.specs.Count.{Any, Commits, CommitOf, live, passes}
-use Rattle.tcc_serial.specs.Counted.{CountsMarks}
-use Rattle.tcc_serial.specs.Kept.{KeptAll}
-use Rattle.tcc_serial.specs.Laws.{Always}
-use Rattle.tcc_serial.specs.Marks.{marks_of, has_marked, stores_line, marked_by, KeptMarks}
-use Rattle.tcc_serial.specs.Masked.{wrong_marks, KeptMasks}
-use Rattle.tcc_serial.specs.MaskLaws.{AlwaysSince, MarkedByServed, MarksOfCommits}
-use Rattle.tcc_serial.specs.Owners.{Grant, grants_from, IsRising}
-use Rattle.tcc_serial.specs.Pairs.{Pair, pair}
-use Rattle.tcc_serial.specs.Stored.{stored_mask, stores_at, MarkedWith, KeptStored}
+use Rattle.tcc_serial.proofs.Names.{ℕ, zero, suc, ◌≡◌, ◌<◌, ◌≤◌, Bool, true, false, not, List, [], ◌∷◌, ◌==◌, ◌&&◌, Contains, Option, Some}
+use Rattle.tcc_serial.proofs.Names.{None, IfSome, length, slice_index_or, nat_lt, nat_le, arith, refl, sym, ap, subst, ◌∙◌, ◌⊎◌, inl, inr}
+use Rattle.tcc_serial.proofs.Names.{cases_eq, cases_lt, nat_tests, Noted, num, count_below, modified_mask, has_mark, Core, Dir, Msg, Shape}
+use Rattle.tcc_serial.proofs.Names.{lines, CoreState, World, Link, start, History, run, Any, Commits, CommitOf, live, passes, CountsMarks}
+use Rattle.tcc_serial.proofs.Names.{KeptAll, Always, marks_of, has_marked, stores_line, marked_by, KeptMarks, wrong_marks, KeptMasks}
+use Rattle.tcc_serial.proofs.Names.{AlwaysSince, MarkedByServed, MarksOfCommits, Grant, grants_from, IsRising, Pair, pair, stored_mask}
+use Rattle.tcc_serial.proofs.Names.{stores_at, MarkedWith, KeptStored}
 use Rattle.tcc_serial.proofs.Run.AllInvariants.{run-all}
 use Rattle.tcc_serial.proofs.Tids.TidSteps.{inside_from}
 use Rattle.tcc_serial.proofs.Counts.Links.{total-same, live-fewer}

@@ -1,31 +1,11 @@
 -- Every event keeps that the Marks of a core's TID have the words that the core has modified as their masks.
-use Rattle.std.specs.Prelude.{ℕ, ◌+◌, ◌≡◌, ◌<◌, ◌≤◌, Bool, true, false, not, List, [], ◌==◌, ◌&&◌, Contains, Option, Some, None, IfSome, nat_lt, set, if◌then◌else◌}
-use Rattle.std.proofs.Common.{arith, refl, ◌⊎◌, inl, inr}
-use Rattle.std.proofs.lemmas.Bool.{cases_eq}
-use Rattle.std.proofs.lemmas.Bool.Decides.{nat_tests}
-use Rattle.tcc_base.specs.declared.access.Commit.{Commit as Noted}
-use Rattle.tcc_program.specs.Program.{Program, Local}
-use Rattle.tcc_maps.specs.Words.{num}
-use Rattle.tcc_maps.specs.Cache.{modified_mask}
-use Rattle.tcc_maps.specs.Lines.{has_mark}
-use Rattle.tcc_maps.specs.Nodes.{Core, Dir, Vendor, Msg, TidGrant, Skip, Mark, Event}
-use Rattle.tcc_maps.specs.Shape.{Shape}
-use Rattle.tcc_rules.specs.State.{DirState, World, Link, start, core_start}
-use Rattle.tcc_rules.specs.Links.{in_flight}
-use Rattle.tcc_rules.specs.Sends.{Sends}
-use Rattle.tcc_rules.specs.Attempt.{Out}
-use Rattle.tcc_rules.specs.CoreExec.{core_exec}
-use Rattle.tcc_rules.specs.CoreEvict.{core_evict}
-use Rattle.tcc_rules.specs.CoreDeliver.{from_dir, grant}
-use Rattle.tcc_rules.specs.DirDeliver.{Answer, Waits, Drops, Asks, Takes, dir_deliver}
-use Rattle.tcc_rules.specs.Step.{core_moves, core_takes, dir_takes, step}
-use Rattle.tcc_serial.specs.Count.{Grants, MarkOf, MarkMask, live, passes}
-use Rattle.tcc_serial.specs.Marks.{marks_of, marked_by, MarksOf, KeptMarks}
-use Rattle.tcc_serial.specs.Masked.{wrong_marks, MaskedOf, KeptMasks}
-use Rattle.tcc_serial.specs.Owners.{Grant, KeptOwners}
-use Rattle.tcc_serial.specs.Pairs.{Pair, pair, after_move, grant_taken, after_answer}
-use Rattle.tcc_serial.specs.Tids.{has_tid}
-use Rattle.tcc_serial.specs.Kept.{Kept, KeptTold}
+use Rattle.tcc_serial.proofs.Names.{ℕ, ◌+◌, ◌≡◌, ◌<◌, ◌≤◌, Bool, true, false, not, List, [], ◌==◌, ◌&&◌, Contains, Option, Some, None}
+use Rattle.tcc_serial.proofs.Names.{IfSome, nat_lt, set, if◌then◌else◌, arith, refl, ◌⊎◌, inl, inr, cases_eq, nat_tests, Noted, Program}
+use Rattle.tcc_serial.proofs.Names.{Local, num, modified_mask, has_mark, Core, Dir, Vendor, Msg, TidGrant, Skip, Mark, Event, Shape}
+use Rattle.tcc_serial.proofs.Names.{DirState, World, Link, start, core_start, in_flight, Sends, Out, core_exec, core_evict, from_dir, grant}
+use Rattle.tcc_serial.proofs.Names.{Answer, Waits, Drops, Asks, Takes, dir_deliver, core_moves, core_takes, dir_takes, step, Grants, MarkOf}
+use Rattle.tcc_serial.proofs.Names.{MarkMask, live, passes, marks_of, marked_by, MarksOf, KeptMarks, wrong_marks, MaskedOf, KeptMasks}
+use Rattle.tcc_serial.proofs.Names.{Grant, KeptOwners, Pair, pair, after_move, grant_taken, after_answer, has_tid, Kept, KeptTold}
 use Rattle.tcc_serial.proofs.Counts.Links.{live-sends, live-takes}
 use Rattle.tcc_serial.proofs.Counts.PairFrames.{pairs_move, pairs_grant, pairs_back, pairs_dir, pairs_asks, pairs_vendor}
 use Rattle.tcc_serial.proofs.Counts.StepCases.{OfAnswer, step_cases}

@@ -1,29 +1,14 @@
 -- Every event keeps that invalidations in flight name marked lines with their masks, once each.
-use Rattle.std.specs.Prelude.{ℕ, ◌+◌, ◌≡◌, ◌<◌, ◌≤◌, Bool, true, false, List, [], ◌==◌, ◌&&◌, Option, Some, None, IfSome, nat_lt, set}
-use Rattle.std.proofs.Common.{arith, refl, sym, ap, subst, ◌∙◌, ◌⊎◌, inl, inr}
-use Rattle.std.proofs.lemmas.Bool.{cases_lt}
-use Rattle.std.proofs.lemmas.Bool.Decides.{nat_tests}
-use Rattle.tcc_program.specs.Program.{Program, Local}
-use Rattle.tcc_maps.specs.Words.{num}
-use Rattle.tcc_maps.specs.Nodes.{Core, Dir, Msg, Mark, Event}
-use Rattle.tcc_maps.specs.Shape.{Shape}
-use Rattle.tcc_rules.specs.State.{DirState, World, Link, start}
-use Rattle.tcc_rules.specs.Links.{in_flight}
-use Rattle.tcc_rules.specs.Sends.{Sends}
-use Rattle.tcc_rules.specs.Attempt.{Out}
-use Rattle.tcc_rules.specs.CoreExec.{core_exec}
-use Rattle.tcc_rules.specs.CoreEvict.{core_evict}
-use Rattle.tcc_rules.specs.CoreDeliver.{from_dir, grant}
-use Rattle.tcc_rules.specs.DirDeliver.{Answer, Waits, Drops, Asks, Takes, dir_deliver}
-use Rattle.tcc_rules.specs.Step.{core_moves, core_takes, dir_takes, step}
-use Rattle.tcc_serial.specs.Count.{Resolves, MarkOf, Invs, InvsAway, Acks, InvOf, InvMask, AckOf, live, among, passes}
-use Rattle.tcc_serial.specs.Counted.{KeptCounted}
-use Rattle.tcc_serial.specs.Named.{NamedOf, KeptNamed}
-use Rattle.tcc_serial.specs.Owed.{due}
-use Rattle.tcc_serial.specs.Pairs.{Pair, pair, share, after_move, grant_taken, back_taken, after_answer}
-use Rattle.tcc_serial.specs.Kept.{Kept, KeptTold}
+use Rattle.tcc_serial.proofs.Names.{ℕ, ◌+◌, ◌≡◌, ◌<◌, ◌≤◌, Bool, true, false, List, [], ◌==◌, ◌&&◌, Option, Some, None, IfSome, nat_lt, set}
+use Rattle.tcc_serial.proofs.Names.{arith, refl, sym, ap, subst, ◌∙◌, ◌⊎◌, inl, inr, cases_lt, nat_tests, Program, Local, num, Core, Dir}
+use Rattle.tcc_serial.proofs.Names.{Msg, Mark, Event, Shape, DirState, World, Link, start, in_flight, Sends, Out, core_exec, core_evict}
+use Rattle.tcc_serial.proofs.Names.{from_dir, grant, Answer, Waits, Drops, Asks, Takes, dir_deliver, core_moves, core_takes, dir_takes}
+use Rattle.tcc_serial.proofs.Names.{step, Resolves, MarkOf, Invs, InvsAway, Acks, InvOf, InvMask, AckOf, live, among, passes, KeptCounted}
+use Rattle.tcc_serial.proofs.Names.{NamedOf, KeptNamed, due, Pair, pair, share, after_move, grant_taken, back_taken, after_answer, Kept}
+use Rattle.tcc_serial.proofs.Names.{KeptTold}
 use Rattle.tcc_serial.proofs.Counts.Links.{live-sends, live-takes, total-le}
-use Rattle.tcc_serial.proofs.Counts.PairFrames.{same, dir-own, dir-other, pairs_move, pairs_grant, pairs_back, pairs_dir, pairs_asks, pairs_vendor}
+use Rattle.tcc_serial.proofs.Counts.PairFrames.{same, dir-own, dir-other, pairs_move, pairs_grant, pairs_back, pairs_dir, pairs_asks}
+use Rattle.tcc_serial.proofs.Counts.PairFrames.{pairs_vendor}
 use Rattle.tcc_serial.proofs.Counts.StepCases.{OfAnswer, step_cases}
 use Rattle.tcc_serial.proofs.Tids.TidSteps.{live-some}
 use Rattle.tcc_serial.proofs.Serving.KeptSteps.{core_of_out, once_at}

@@ -1,20 +1,12 @@
 -- What nodes send of invalidations and acknowledgements, line by line.
-use Rattle.std.specs.Prelude.{ℕ, zero, suc, ◌+◌, ◌≡◌, ◌≤◌, Bool, true, false, not, List, [], ◌∷◌, ◌==◌, ◌&&◌, Some, None, IfSome, nat_lt, if◌then◌else◌}
-use Rattle.std.specs.List.{flat_map}
-use Rattle.std.proofs.Common.{arith, refl, ◌⊎◌, inl, inr}
-use Rattle.std.proofs.lemmas.Bool.{cases_eq}
-use Rattle.std.proofs.lemmas.Bool.Decides.{nat_tests}
-use Rattle.std.proofs.lemmas.Grind.{flat_map-append}
-use Rattle.tcc_maps.specs.Words.{num, those, count_below}
-use Rattle.tcc_maps.specs.Lines.{Lines, has_mark}
-use Rattle.tcc_maps.specs.Nodes.{Core, Dir, Msg, TidReq, TidGrant, LoadReq, Fill, Skip, Probe, ProbeReply, Mark, Commit, Abort, WriteBack, Flush, DataReq, Inv, InvAck}
-use Rattle.tcc_maps.specs.Shape.{Shape, home, lines}
-use Rattle.tcc_rules.specs.State.{CoreState, DirState, Link}
-use Rattle.tcc_rules.specs.Sends.{to}
-use Rattle.tcc_rules.specs.Attempt.{Out}
-use Rattle.tcc_rules.specs.CoreDeliver.{from_dir, probe_reply, fill, data_request, invalidate}
-use Rattle.tcc_rules.specs.DirDeliver.{Answer, Waits, Drops, Asks, Takes, commit, dir_deliver, settled, owned, owed_by, invalidations, invs_to, is_invalidated}
-use Rattle.tcc_serial.specs.Count.{Invs, InvsAway, Acks, InvOf, InvMask, AckOf, Resolves, Commits, live, among, passes}
+use Rattle.tcc_serial.proofs.Names.{ℕ, zero, suc, ◌+◌, ◌≡◌, ◌≤◌, Bool, true, false, not, List, [], ◌∷◌, ◌==◌, ◌&&◌, Some, None, IfSome}
+use Rattle.tcc_serial.proofs.Names.{nat_lt, if◌then◌else◌, flat_map, arith, refl, ◌⊎◌, inl, inr, cases_eq, nat_tests, flat_map-append, num}
+use Rattle.tcc_serial.proofs.Names.{those, count_below, Lines, has_mark, Core, Dir, Msg, TidReq, TidGrant, LoadReq, Fill, Skip, Probe}
+use Rattle.tcc_serial.proofs.Names.{ProbeReply, Mark, Commit, Abort, WriteBack, Flush, DataReq, Inv, InvAck, Shape, home, lines, CoreState}
+use Rattle.tcc_serial.proofs.Names.{DirState, Link, to, Out, from_dir, probe_reply, fill, data_request, invalidate, Answer, Waits, Drops}
+use Rattle.tcc_serial.proofs.Names.{Asks, Takes, dir_deliver, settled, owned, owed_by, invalidations, invs_to, is_invalidated, Invs}
+use Rattle.tcc_serial.proofs.Names.{InvsAway, Acks, InvOf, InvMask, AckOf, Resolves, Commits, live, among, passes}
+use Rattle.tcc_rules.specs.DirDeliver.{commit}
 use Rattle.tcc_serial.proofs.Counts.Links.{among-append}
 use Rattle.tcc_serial.proofs.Counts.Sent.{among-flat_map_none}
 use Rattle.tcc_serial.proofs.OneCore.CoreSteps.{fill-steady, data-steady, Invalidated, invalidate-cases, reply-cases}

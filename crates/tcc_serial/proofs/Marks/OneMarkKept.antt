@@ -1,28 +1,10 @@
 -- Every event keeps that the Marks of a TID at a directory are of different lines.
-use Rattle.std.specs.Prelude.{ℕ, ◌+◌, ◌≡◌, ◌<◌, ◌≤◌, false, ◌==◌, ◌&&◌, List, [], Contains, Option, Some, None, IfSome, set}
-use Rattle.std.proofs.Common.{arith, refl, ◌⊎◌, inl, inr}
-use Rattle.std.proofs.lemmas.Bool.{cases_lt}
-use Rattle.tcc_base.specs.declared.access.Commit.{Commit as Noted}
-use Rattle.tcc_program.specs.Program.{Program, Local}
-use Rattle.tcc_maps.specs.Words.{num}
-use Rattle.tcc_maps.specs.Lines.{has_mark, no_lines}
-use Rattle.tcc_maps.specs.Nodes.{Core, Dir, Msg, Skip, Event}
-use Rattle.tcc_maps.specs.Serving.{first_serving}
-use Rattle.tcc_maps.specs.Shape.{Shape}
-use Rattle.tcc_rules.specs.State.{DirState, World, Link, start, dir_start}
-use Rattle.tcc_rules.specs.Links.{in_flight}
-use Rattle.tcc_rules.specs.Sends.{Sends}
-use Rattle.tcc_rules.specs.Attempt.{Out}
-use Rattle.tcc_rules.specs.CoreExec.{core_exec}
-use Rattle.tcc_rules.specs.CoreEvict.{core_evict}
-use Rattle.tcc_rules.specs.CoreDeliver.{from_dir, grant}
-use Rattle.tcc_rules.specs.DirDeliver.{Answer, Waits, Drops, Asks, Takes, dir_deliver}
-use Rattle.tcc_rules.specs.Step.{core_moves, core_takes, dir_takes, step}
-use Rattle.tcc_serial.specs.Count.{MarkOf, live, among, passes}
-use Rattle.tcc_serial.specs.Marks.{marks_of, MarksOf, KeptMarks, OneMark}
-use Rattle.tcc_serial.specs.Owners.{KeptOwners, Grant}
-use Rattle.tcc_serial.specs.Pairs.{Pair, pair, after_move, grant_taken, after_answer}
-use Rattle.tcc_serial.specs.Kept.{Kept, KeptTold}
+use Rattle.tcc_serial.proofs.Names.{ℕ, ◌+◌, ◌≡◌, ◌<◌, ◌≤◌, false, ◌==◌, ◌&&◌, List, [], Contains, Option, Some, None, IfSome, set, arith}
+use Rattle.tcc_serial.proofs.Names.{refl, ◌⊎◌, inl, inr, cases_lt, Noted, Program, Local, num, has_mark, no_lines, Core, Dir, Msg, Skip}
+use Rattle.tcc_serial.proofs.Names.{Event, first_serving, Shape, DirState, World, Link, start, dir_start, in_flight, Sends, Out, core_exec}
+use Rattle.tcc_serial.proofs.Names.{core_evict, from_dir, grant, Answer, Waits, Drops, Asks, Takes, dir_deliver, core_moves, core_takes}
+use Rattle.tcc_serial.proofs.Names.{dir_takes, step, MarkOf, live, among, passes, marks_of, MarksOf, KeptMarks, OneMark, KeptOwners, Grant}
+use Rattle.tcc_serial.proofs.Names.{Pair, pair, after_move, grant_taken, after_answer, Kept, KeptTold}
 use Rattle.tcc_serial.proofs.Counts.Links.{live-sends, live-takes}
 use Rattle.tcc_serial.proofs.Counts.PairFrames.{pairs_move, pairs_grant, pairs_back, pairs_dir, pairs_asks, pairs_vendor}
 use Rattle.tcc_serial.proofs.Counts.StepCases.{OfAnswer, step_cases}

@@ -1,17 +1,12 @@
 -- A directory owes more than it did only by a Commit that counts the lines that are marked.
-use Rattle.std.specs.Prelude.{ℕ, ◌-◌, ◌≡◌, ◌≤◌, Bool, true, false, List, [], ◌∷◌, ◌==◌, ◌&&◌, ◌||◌, Option, Some, None, nat_lt, nat_le, if◌then◌else◌}
-use Rattle.std.proofs.Common.{arith, refl, ◌⊎◌, inl, inr}
-use Rattle.std.proofs.lemmas.Bool.Decides.{nat_tests}
-use Rattle.tcc_maps.specs.Words.{count_below}
-use Rattle.tcc_maps.specs.Masks.{full}
-use Rattle.tcc_maps.specs.Lines.{has_mark, with_asked}
-use Rattle.tcc_maps.specs.Judge.{Judgement, judge, Takes as IsTaken, Drops as IsDropped, Waits as IsEarly}
-use Rattle.tcc_maps.specs.Serving.{skipped, kept}
-use Rattle.tcc_maps.specs.Nodes.{Core, Msg, TidReq, TidGrant, LoadReq, Fill, Skip, Probe, ProbeReply, Mark, Commit, Abort, WriteBack, Flush, DataReq, Inv, InvAck}
-use Rattle.tcc_maps.specs.Shape.{Shape, lines}
-use Rattle.tcc_rules.specs.State.{DirState}
-use Rattle.tcc_rules.specs.Sends.{nothing, to}
-use Rattle.tcc_rules.specs.DirDeliver.{Answer, Waits, Drops, Asks, Takes, skip, abort, commit, acknowledgement, dir_deliver, moved_on, settled, owned, owed_by, invalidations, unless_keeps, ask_owner, load_owned, load_request, marking, mark_owned, mark, judged, write_back, came_home, probe}
+use Rattle.tcc_serial.proofs.Names.{ℕ, ◌-◌, ◌≡◌, ◌≤◌, Bool, true, false, List, [], ◌∷◌, ◌==◌, ◌&&◌, ◌||◌, Option, Some, None, nat_lt}
+use Rattle.tcc_serial.proofs.Names.{nat_le, if◌then◌else◌, arith, refl, ◌⊎◌, inl, inr, nat_tests, count_below, full, has_mark, with_asked}
+use Rattle.tcc_serial.proofs.Names.{Judgement, judge, IsTaken, IsDropped, IsEarly, skipped, kept, Core, Msg, TidReq, TidGrant, LoadReq}
+use Rattle.tcc_serial.proofs.Names.{Fill, Skip, Probe, ProbeReply, Mark, Commit, Abort, WriteBack, Flush, DataReq, Inv, InvAck, Shape}
+use Rattle.tcc_serial.proofs.Names.{lines, DirState, nothing, to, Answer, Waits, Drops, Asks, Takes, skip, abort, acknowledgement}
+use Rattle.tcc_serial.proofs.Names.{dir_deliver, moved_on, settled, owned, owed_by, invalidations, unless_keeps, ask_owner, load_owned}
+use Rattle.tcc_serial.proofs.Names.{load_request, marking, mark_owned, mark, judged, write_back, came_home, probe}
+use Rattle.tcc_rules.specs.DirDeliver.{commit}
 
 -- a Commit of the served TID that counts the marked lines
 abbrev pub CountsMarked : Shape → DirState → Msg → Type 0

@@ -1,21 +1,9 @@
 -- How each kind of event keeps what is known of the Marks between a core and a directory.
-use Rattle.std.specs.Prelude.{ℕ, ◌+◌, ◌≡◌, ◌<◌, ◌≤◌, Bool, true, false, List, ◌++◌, ◌==◌, ◌&&◌, Contains, Some, None, nat_lt, nat_le, slice_index_or, if◌then◌else◌}
-use Rattle.std.proofs.Common.{arith, refl, ap, subst, ◌⊎◌, inl, inr}
-use Rattle.std.proofs.lemmas.Bool.{cases_eq, cases_lt}
-use Rattle.std.proofs.lemmas.Bool.Decides.{nat_tests}
-use Rattle.tcc_maps.specs.Words.{num}
-use Rattle.tcc_maps.specs.Lines.{has_mark}
-use Rattle.tcc_maps.specs.Nodes.{Dir, Msg, TidGrant, Mark, Skip}
-use Rattle.tcc_maps.specs.Shape.{Shape}
-use Rattle.tcc_maps.specs.Cache.{writes_at}
-use Rattle.tcc_rules.specs.State.{DirState, Link}
-use Rattle.tcc_rules.specs.Attempt.{Out}
-use Rattle.tcc_rules.specs.Links.{sent_all}
-use Rattle.tcc_serial.specs.Count.{Grants, Resolves, Marks, MarkOf, EmptyMarks, Skips, live, among, passes}
-use Rattle.tcc_serial.specs.Marks.{marks_of, MarksOf}
-use Rattle.tcc_serial.specs.Owners.{Grant}
-use Rattle.tcc_serial.specs.Pairs.{Pair, after_move, grant_taken}
-use Rattle.tcc_serial.specs.Tids.{has_tid, opens}
+use Rattle.tcc_serial.proofs.Names.{ℕ, ◌+◌, ◌≡◌, ◌<◌, ◌≤◌, Bool, true, false, List, ◌++◌, ◌==◌, ◌&&◌, Contains, Some, None, nat_lt, nat_le}
+use Rattle.tcc_serial.proofs.Names.{slice_index_or, if◌then◌else◌, arith, refl, ap, subst, ◌⊎◌, inl, inr, cases_eq, cases_lt, nat_tests}
+use Rattle.tcc_serial.proofs.Names.{num, has_mark, Dir, Msg, TidGrant, Mark, Skip, Shape, writes_at, DirState, Link, Out, sent_all, Grants}
+use Rattle.tcc_serial.proofs.Names.{Resolves, Marks, MarkOf, EmptyMarks, Skips, live, among, passes, marks_of, MarksOf, Grant, Pair}
+use Rattle.tcc_serial.proofs.Names.{after_move, grant_taken, has_tid, opens}
 use Rattle.tcc_serial.proofs.Counts.Links.{live-sends, live-takes, live-fewer}
 use Rattle.tcc_serial.proofs.Marks.CoreMarking.{Marking, few}
 use Rattle.tcc_serial.proofs.Marks.CoreMarkingTakes.{Granting}

@@ -1,25 +1,11 @@
 -- How each kind of event keeps, between a core and a directory, that a Commit in flight is of a commit that stored what was marked.
-use Rattle.std.specs.Prelude.{ℕ, zero, suc, ◌+◌, ◌≡◌, ◌<◌, ◌≤◌, Bool, true, false, not, List, [], ◌∷◌, ◌++◌, ◌==◌, ◌&&◌, Contains, Option, Some, None, length, slice_index_or, nat_lt, if◌then◌else◌}
-use Rattle.std.proofs.Common.{arith, refl, ◌∙◌, ◌⊎◌, inl, inr}
-use Rattle.std.proofs.lemmas.Bool.{cases_eq, cases_lt}
-use Rattle.std.proofs.lemmas.Bool.Decides.{nat_tests}
-use Rattle.tcc_base.specs.declared.access.Commit.{Commit as Noted}
-use Rattle.tcc_maps.specs.Words.{num}
-use Rattle.tcc_maps.specs.Cache.{modified_mask, writes_at}
-use Rattle.tcc_maps.specs.Lines.{has_mark}
-use Rattle.tcc_maps.specs.Nodes.{Dir, Msg, Skip}
-use Rattle.tcc_maps.specs.Shape.{Shape}
-use Rattle.tcc_rules.specs.State.{DirState, Link}
-use Rattle.tcc_rules.specs.Attempt.{Out}
-use Rattle.tcc_rules.specs.Links.{sent_all}
-use Rattle.tcc_rules.specs.Step.{insert_commit, and_noted}
-use Rattle.tcc_serial.specs.Count.{Kind, Resolves, Commits, AnyCommit, MarkOf, MarkMask, EmptyMarks, live, among, passes}
-use Rattle.tcc_serial.specs.Marks.{marks_of, marked_by, MarksOf}
-use Rattle.tcc_serial.specs.Masked.{wrong_marks, MaskedOf}
-use Rattle.tcc_serial.specs.Owners.{Grant}
-use Rattle.tcc_serial.specs.Pairs.{Pair, after_move, grant_taken, after_answer}
-use Rattle.tcc_serial.specs.Stored.{stored_mask, MarkedWith, MarkedCommit, SettledCommit, StoredOf}
-use Rattle.tcc_serial.specs.Tids.{opens}
+use Rattle.tcc_serial.proofs.Names.{ℕ, zero, suc, ◌+◌, ◌≡◌, ◌<◌, ◌≤◌, Bool, true, false, not, List, [], ◌∷◌, ◌++◌, ◌==◌, ◌&&◌, Contains}
+use Rattle.tcc_serial.proofs.Names.{Option, Some, None, length, slice_index_or, nat_lt, if◌then◌else◌, arith, refl, ◌∙◌, ◌⊎◌, inl, inr}
+use Rattle.tcc_serial.proofs.Names.{cases_eq, cases_lt, nat_tests, Noted, num, modified_mask, writes_at, has_mark, Dir, Msg, Skip, Shape}
+use Rattle.tcc_serial.proofs.Names.{DirState, Link, Out, sent_all, insert_commit, and_noted, Kind, Resolves, Commits, AnyCommit, MarkOf}
+use Rattle.tcc_serial.proofs.Names.{MarkMask, EmptyMarks, live, among, passes, marks_of, marked_by, MarksOf, wrong_marks, MaskedOf, Grant}
+use Rattle.tcc_serial.proofs.Names.{Pair, after_move, grant_taken, after_answer, stored_mask, MarkedWith, MarkedCommit, SettledCommit}
+use Rattle.tcc_serial.proofs.Names.{StoredOf, opens}
 use Rattle.tcc_serial.proofs.Counts.Links.{live-sends}
 use Rattle.tcc_serial.proofs.Serving.CommitOwners.{few-of}
 use Rattle.tcc_serial.proofs.Serving.CommitSteps.{ofs-resolve}

@@ -1,25 +1,15 @@
 -- Every event keeps that a line which is marked in part has no owner.
-use Rattle.std.specs.Prelude.{ℕ, ◌-◌, ◌≡◌, Bool, true, false, List, [], ◌∷◌, ◌==◌, ◌&&◌, ◌||◌, Option, Some, None, IfSome, nat_lt, nat_le, if◌then◌else◌}
-use Rattle.std.proofs.Common.{arith, refl, ◌⊎◌, inl, inr}
-use Rattle.std.proofs.lemmas.Bool.Decides.{nat_tests}
-use Rattle.tcc_program.specs.Program.{Program, Local}
-use Rattle.tcc_maps.specs.Words.{count_below}
-use Rattle.tcc_maps.specs.Masks.{full}
-use Rattle.tcc_maps.specs.Lines.{has_mark, with_asked, with_mark, with_sharer, with_owner, unmarked, no_lines}
-use Rattle.tcc_maps.specs.Judge.{Judgement, judge, Takes as IsTaken, Drops as IsDropped, Waits as IsEarly}
-use Rattle.tcc_maps.specs.Serving.{skipped, kept}
-use Rattle.tcc_maps.specs.Nodes.{Core, Dir, Event, Msg, TidReq, TidGrant, LoadReq, Fill, Skip, Probe, ProbeReply, Mark, Commit, Abort, WriteBack, Flush, DataReq, Inv, InvAck}
-use Rattle.tcc_maps.specs.Shape.{Shape, lines}
-use Rattle.tcc_rules.specs.State.{DirState, World, start, dir_start}
-use Rattle.tcc_rules.specs.Attempt.{Out}
-use Rattle.tcc_rules.specs.CoreExec.{core_exec}
-use Rattle.tcc_rules.specs.CoreEvict.{core_evict}
-use Rattle.tcc_rules.specs.CoreDeliver.{from_dir}
-use Rattle.tcc_rules.specs.Sends.{nothing, to}
-use Rattle.tcc_rules.specs.DirDeliver.{Answer, Waits, Drops, Asks, Takes, skip, abort, commit, acknowledgement, dir_deliver, moved_on, settled, owned, owed_by, invalidations, unless_keeps, ask_owner, load_owned, load_request, marking, mark_owned, mark, judged, write_back, came_home, probe}
-use Rattle.tcc_rules.specs.Step.{core_moves, core_takes, dir_takes, dir_asks, vendor_gives, step}
-use Rattle.tcc_serial.specs.Pairs.{Pair, pair}
-use Rattle.tcc_serial.specs.Partly.{WhollyOrHome, KeptWhole}
+use Rattle.tcc_serial.proofs.Names.{ℕ, ◌-◌, ◌≡◌, Bool, true, false, List, [], ◌∷◌, ◌==◌, ◌&&◌, ◌||◌, Option, Some, None, IfSome, nat_lt}
+use Rattle.tcc_serial.proofs.Names.{nat_le, if◌then◌else◌, arith, refl, ◌⊎◌, inl, inr, nat_tests, Program, Local, count_below, full}
+use Rattle.tcc_serial.proofs.Names.{has_mark, with_asked, with_mark, with_sharer, with_owner, unmarked, no_lines, Judgement, judge, IsTaken}
+use Rattle.tcc_serial.proofs.Names.{IsDropped, IsEarly, skipped, kept, Core, Dir, Event, Msg, TidReq, TidGrant, LoadReq, Fill, Skip, Probe}
+use Rattle.tcc_serial.proofs.Names.{ProbeReply, Mark, Commit, Abort, WriteBack, Flush, DataReq, Inv, InvAck, Shape, lines, DirState, World}
+use Rattle.tcc_serial.proofs.Names.{start, dir_start, Out, core_exec, core_evict, from_dir, nothing, to, Answer, Waits, Drops, Asks, Takes}
+use Rattle.tcc_serial.proofs.Names.{skip, abort, acknowledgement, dir_deliver, moved_on, settled, owned, owed_by, invalidations}
+use Rattle.tcc_serial.proofs.Names.{unless_keeps, ask_owner, load_owned, load_request, marking, mark_owned, mark, judged, write_back}
+use Rattle.tcc_serial.proofs.Names.{came_home, probe, core_moves, core_takes, dir_takes, dir_asks, vendor_gives, step, Pair, pair}
+use Rattle.tcc_serial.proofs.Names.{WhollyOrHome, KeptWhole}
+use Rattle.tcc_rules.specs.DirDeliver.{commit}
 use Rattle.tcc_serial.proofs.Counts.PairFrames.{pairs_dir, pairs_asks}
 use Rattle.tcc_serial.proofs.Counts.StepCases.{OfAnswer, step_cases}
 

@@ -1,30 +1,11 @@
 -- Every event keeps that a word which is marked read is valid, or its home has passed the core's TID.
-use Rattle.std.specs.Prelude.{ℕ, ◌≡◌, ◌<◌, ◌≤◌, ◌==◌, not, true, List, [], Contains, Option, Some, None, IfSome, is_some}
-use Rattle.std.proofs.Common.{arith, sym, ◌∙◌, ◌⊎◌, inl, inr}
-use Rattle.std.proofs.lemmas.Bool.{cases_eq}
-use Rattle.std.proofs.lemmas.Bool.Decides.{nat_tests}
-use Rattle.tcc_base.specs.declared.access.Commit.{Commit as Noted}
-use Rattle.tcc_program.specs.Program.{Program, Local}
-use Rattle.tcc_maps.specs.Words.{num}
-use Rattle.tcc_maps.specs.Nodes.{Core, Dir, Msg, TidReq, TidGrant, LoadReq, Fill, Skip, Probe, ProbeReply, Mark, Commit, Abort, WriteBack, Flush, DataReq, Inv, InvAck, Event}
-use Rattle.tcc_maps.specs.Shape.{Shape, home}
-use Rattle.tcc_maps.specs.Cache.{empty_cache}
-use Rattle.tcc_rules.specs.State.{CoreState, World, start, core_start}
-use Rattle.tcc_rules.specs.Links.{in_flight}
-use Rattle.tcc_rules.specs.Attempt.{Out}
-use Rattle.tcc_rules.specs.CoreExec.{core_exec}
-use Rattle.tcc_rules.specs.CoreEvict.{core_evict}
-use Rattle.tcc_rules.specs.CoreDeliver.{from_dir, grant}
-use Rattle.tcc_rules.specs.DirDeliver.{Answer, Waits, Drops, Asks, Takes, dir_deliver}
-use Rattle.tcc_rules.specs.Step.{core_moves, core_takes, step}
-use Rattle.tcc_serial.specs.Count.{Invs, InvsNot, passes}
-use Rattle.tcc_serial.specs.Kept.{Kept, KeptTold}
-use Rattle.tcc_serial.specs.OneCore.{KeptCores}
-use Rattle.tcc_serial.specs.Owners.{Grant, KeptOwners, LastGranted, SparesCommitter, holder}
-use Rattle.tcc_serial.specs.Pairs.{Pair, pair}
-use Rattle.tcc_serial.specs.Standing.{IsBound}
-use Rattle.tcc_serial.specs.Tids.{has_tid}
-use Rattle.tcc_serial.specs.Values.{IsPassed, ReadWords}
+use Rattle.tcc_serial.proofs.Names.{ℕ, ◌≡◌, ◌<◌, ◌≤◌, ◌==◌, not, true, List, [], Contains, Option, Some, None, IfSome, is_some, arith, sym}
+use Rattle.tcc_serial.proofs.Names.{◌∙◌, ◌⊎◌, inl, inr, cases_eq, nat_tests, Noted, Program, Local, num, Core, Dir, Msg, TidReq, TidGrant}
+use Rattle.tcc_serial.proofs.Names.{LoadReq, Fill, Skip, Probe, ProbeReply, Mark, Commit, Abort, WriteBack, Flush, DataReq, Inv, InvAck}
+use Rattle.tcc_serial.proofs.Names.{Event, Shape, home, empty_cache, CoreState, World, start, core_start, in_flight, Out, core_exec}
+use Rattle.tcc_serial.proofs.Names.{core_evict, from_dir, grant, Answer, Waits, Drops, Asks, Takes, dir_deliver, core_moves, core_takes}
+use Rattle.tcc_serial.proofs.Names.{step, Invs, InvsNot, passes, Kept, KeptTold, KeptCores, Grant, KeptOwners, LastGranted, SparesCommitter}
+use Rattle.tcc_serial.proofs.Names.{holder, Pair, pair, IsBound, has_tid, IsPassed, ReadWords}
 use Rattle.tcc_serial.proofs.OneCore.CoreReads.{Reading, ValidOrPassed, ReadOf, read-kept, reading-exec, reading-evict}
 use Rattle.tcc_serial.proofs.OneCore.CoreReadsTakes.{PassesTid, Admits, reading-grant, reads-back}
 use Rattle.tcc_serial.proofs.Serving.DirProbes.{RisesBy, dir-rises}

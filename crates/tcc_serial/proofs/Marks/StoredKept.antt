@@ -1,33 +1,15 @@
 -- Every event keeps that a TID that commits has marked what its commit stored, also while acknowledgements of it are owed.
-use Rattle.std.specs.Prelude.{ℕ, ◌+◌, ◌≡◌, ◌<◌, ◌≤◌, false, List, [], Option, Some, None, IfSome, set}
-use Rattle.std.proofs.Common.{arith, refl, sym, ap, subst, ◌∙◌, ◌⊎◌, inl, inr}
-use Rattle.std.proofs.lemmas.Bool.Decides.{nat_tests}
-use Rattle.tcc_base.specs.declared.access.Commit.{Commit as Noted}
-use Rattle.tcc_program.specs.Program.{Program, Local}
-use Rattle.tcc_maps.specs.Words.{num, count_below}
-use Rattle.tcc_maps.specs.Lines.{has_mark}
-use Rattle.tcc_maps.specs.Nodes.{Core, Dir, Msg, TidReq, Skip, Commit, Event}
-use Rattle.tcc_maps.specs.Shape.{Shape, lines}
-use Rattle.tcc_rules.specs.State.{DirState, World, start, dir_start}
-use Rattle.tcc_rules.specs.Links.{in_flight}
-use Rattle.tcc_rules.specs.Sends.{Sends}
-use Rattle.tcc_rules.specs.Attempt.{Out}
-use Rattle.tcc_rules.specs.CoreExec.{core_exec}
-use Rattle.tcc_rules.specs.CoreEvict.{core_evict}
-use Rattle.tcc_rules.specs.CoreDeliver.{from_dir, grant}
-use Rattle.tcc_rules.specs.DirDeliver.{Answer, Waits, Drops, Asks, Takes, dir_deliver}
-use Rattle.tcc_rules.specs.Step.{core_moves, core_takes, dir_takes, dir_asks, and_noted, step}
-use Rattle.tcc_serial.specs.Count.{Resolves, Commits, CommitOf, MarkOf, MarkMask, EmptyMarks, Acks, live, passes}
-use Rattle.tcc_serial.specs.Counted.{KeptCounted}
-use Rattle.tcc_serial.specs.Marks.{marks_of, KeptMarks}
-use Rattle.tcc_serial.specs.Masked.{wrong_marks, MaskedOf, KeptMasks}
-use Rattle.tcc_serial.specs.OneCore.{KeptCores}
-use Rattle.tcc_serial.specs.Owners.{KeptOwners, Grant}
-use Rattle.tcc_serial.specs.Pairs.{Pair, pair, after_move, back_taken, after_grant, after_other_grant}
-use Rattle.tcc_serial.specs.Stored.{MarkedCommit, SettledCommit, StoredOf, KeptStored}
-use Rattle.tcc_serial.specs.Kept.{Kept, KeptTold}
+use Rattle.tcc_serial.proofs.Names.{ℕ, ◌+◌, ◌≡◌, ◌<◌, ◌≤◌, false, List, [], Option, Some, None, IfSome, set, arith, refl, sym, ap, subst}
+use Rattle.tcc_serial.proofs.Names.{◌∙◌, ◌⊎◌, inl, inr, nat_tests, Noted, Program, Local, num, count_below, has_mark, Core, Dir, Msg}
+use Rattle.tcc_serial.proofs.Names.{TidReq, Skip, Commit, Event, Shape, lines, DirState, World, start, dir_start, in_flight, Sends, Out}
+use Rattle.tcc_serial.proofs.Names.{core_exec, core_evict, from_dir, grant, Answer, Waits, Drops, Asks, Takes, dir_deliver, core_moves}
+use Rattle.tcc_serial.proofs.Names.{core_takes, dir_takes, dir_asks, and_noted, step, Resolves, Commits, CommitOf, MarkOf, MarkMask}
+use Rattle.tcc_serial.proofs.Names.{EmptyMarks, Acks, live, passes, KeptCounted, marks_of, KeptMarks, wrong_marks, MaskedOf, KeptMasks}
+use Rattle.tcc_serial.proofs.Names.{KeptCores, KeptOwners, Grant, Pair, pair, after_move, back_taken, after_grant, after_other_grant}
+use Rattle.tcc_serial.proofs.Names.{MarkedCommit, SettledCommit, StoredOf, KeptStored, Kept, KeptTold}
 use Rattle.tcc_serial.proofs.Counts.Links.{live-takes}
-use Rattle.tcc_serial.proofs.Counts.PairFrames.{dir-own, dir-other, asks-own, pairs_move, pairs_grant, pairs_back, pairs_dir, pairs_asks, pairs_vendor}
+use Rattle.tcc_serial.proofs.Counts.PairFrames.{dir-own, dir-other, asks-own, pairs_move, pairs_grant, pairs_back, pairs_dir, pairs_asks}
+use Rattle.tcc_serial.proofs.Counts.PairFrames.{pairs_vendor}
 use Rattle.tcc_serial.proofs.Counts.StepCases.{OfAnswer, step_cases}
 use Rattle.tcc_serial.proofs.Tids.TidSteps.{granted_waits, live-some}
 use Rattle.tcc_serial.proofs.Serving.KeptSteps.{core_of_back, core_of_out, once_at}

@@ -1,19 +1,10 @@
 -- The masks of the words that an attempt's stores name are those of the words that are modified or spilled; so a core stores at a
 -- directory where its stores do.
-use Rattle.std.specs.Prelude.{ℕ, zero, suc, ◌≡◌, ◌<◌, Bool, true, false, List, ◌==◌, ◌&&◌, ◌||◌, Option, None, is_some, nat_lt, if◌then◌else◌}
-use Rattle.std.proofs.Common.{arith, refl, sym, ap, ◌∙◌, ◌⊎◌, inl, inr}
-use Rattle.std.proofs.lemmas.Bool.Decides.{nat_tests}
-use Rattle.tcc_base.specs.declared.access.Stored.{Stored}
-use Rattle.tcc_maps.specs.Words.{num, any_below, any_word, word_at}
-use Rattle.tcc_maps.specs.Masks.{mask_of}
-use Rattle.tcc_maps.specs.Shape.{Shape, home, lines}
-use Rattle.tcc_maps.specs.Cache.{Cache, is_modified, modified_mask, writes_at}
-use Rattle.tcc_maps.specs.Spilled.{Spilled, holds}
-use Rattle.tcc_maps.proofs.Lemmas.{any_below-found, any_below-at}
-use Rattle.tcc_rules.specs.Commit.{is_written, written_mask, solo_writes_at}
-use Rattle.tcc_serial.specs.OneCore.{Words}
-use Rattle.tcc_serial.specs.Stored.{stores_in, stored_mask, stores_at}
-use Rattle.tcc_serial.specs.Uses.{stores_word}
+use Rattle.tcc_serial.proofs.Names.{ℕ, zero, suc, ◌≡◌, ◌<◌, Bool, true, false, List, ◌==◌, ◌&&◌, ◌||◌, Option, None, is_some, nat_lt}
+use Rattle.tcc_serial.proofs.Names.{if◌then◌else◌, arith, refl, sym, ap, ◌∙◌, ◌⊎◌, inl, inr, nat_tests, Stored, num, any_below, any_word}
+use Rattle.tcc_serial.proofs.Names.{word_at, mask_of, Shape, home, lines, Cache, is_modified, modified_mask, writes_at, Spilled, holds}
+use Rattle.tcc_serial.proofs.Names.{any_below-found, any_below-at, is_written, written_mask, solo_writes_at, Words, stores_in, stored_mask}
+use Rattle.tcc_serial.proofs.Names.{stores_at, stores_word}
 use Rattle.tcc_serial.proofs.Marks.CoreMarks.{some-mask}
 use Rattle.tcc_serial.proofs.Counts.Nums.{num-same}
 

@@ -1,27 +1,22 @@
 -- What a core sends about lines goes to their homes, and names some word where it names words.
-use Rattle.std.specs.Prelude.{ℕ, ◌%◌, ◌≡◌, ◌<◌, Bool, true, false, not, List, [], ◌∷◌, ◌++◌, ◌==◌, ◌&&◌, ◌||◌, cond, Option, Some, None, IfSome, is_some, nat_lt, if◌then◌else◌}
-use Rattle.std.specs.List.{flat_map}
-use Rattle.std.proofs.Common.{arith, refl}
-use Rattle.tcc_maps.proofs.Lemmas.{any_below-found}
-use Rattle.std.proofs.lemmas.Bool.Decides.{nat_tests}
-use Rattle.tcc_base.specs.declared.access.Size.TheVariants.{Byte, Half, Word}
-use Rattle.tcc_program.specs.Program.{Program, Need, Nothing, Loads, Stores, Changes, Prints, Ends, Halts, Traps}
-use Rattle.tcc_program.specs.Ram.{word_of}
-use Rattle.tcc_maps.specs.Words.{num, those, count_below, line_of, any_word, word_at}
-use Rattle.tcc_maps.specs.Nodes.{Dir, Vendor, Msg, TidReq, TidGrant, LoadReq, Fill, Skip, Probe, ProbeReply, Mark, Commit, Abort, WriteBack, Flush, DataReq, Inv, InvAck}
-use Rattle.tcc_maps.specs.Shape.{Shape, home, set_of, lines}
-use Rattle.tcc_maps.specs.Cache.{Cache, keeps, is_dirty, dirty_mask, dirty_copy, dirty_words, dirty_tag, free_way, all_marked, is_modified, is_marked, modified_mask, written_lines, writes_at}
-use Rattle.tcc_maps.specs.CacheChange.{evicted, filled}
-use Rattle.tcc_maps.specs.Spilled.{Spilled, holds, spill_line, spilled_mask, spilled_words}
-use Rattle.tcc_rules.specs.State.{CoreState, Awaited, Phase, Running, AwaitTid, DoomedTid, Probing, Ready, Overflowing, Solo, Halted}
-use Rattle.tcc_rules.specs.Sends.{Sends, nothing, to, flush, flushed, write_back, written_back, skip_all, probe_all, abort_written, marks_for}
-use Rattle.tcc_rules.specs.Attempt.{Out, moves, finished, is_solo, new_word}
-use Rattle.tcc_rules.specs.Commit.{commit, commit_sends, solo_commit, solo_sends, solo_marks, solo_backs, solo_writes_at, is_written, written_mask}
-use Rattle.tcc_rules.specs.Execute.{ask, place, overflow, full_set, fetch, load_valid, load_spilled, load, buffered, framed, word_store, also_read, change_valid, change_spilled, partial_store, close, execute_need, execute}
-use Rattle.tcc_rules.specs.CoreExec.{core_exec, exec_phase, unless_awaiting}
-use Rattle.tcc_rules.specs.CoreEvict.{core_evict, evict_line, is_awaited}
-use Rattle.tcc_rules.specs.CoreDeliver.{grant, grant_phase, grant_sends, from_dir, probe_reply, reply_phase, replied, when_ready, when_alone, ignored, fill, fill_awaited, data_request, invalidate, acknowledged, if_violated, violated_in, is_violated, without}
-use Rattle.tcc_serial.specs.Count.{LinesAway, NoWord, among, passes}
+use Rattle.tcc_serial.proofs.Names.{ℕ, ◌%◌, ◌≡◌, ◌<◌, Bool, true, false, not, List, [], ◌∷◌, ◌++◌, ◌==◌, ◌&&◌, ◌||◌, cond, Option, Some}
+use Rattle.tcc_serial.proofs.Names.{None, IfSome, is_some, nat_lt, if◌then◌else◌, flat_map, arith, refl, any_below-found, nat_tests, Byte}
+use Rattle.tcc_serial.proofs.Names.{Half, Word, Program, Need, Nothing, Loads, Stores, Changes, Prints, Ends, Halts, Traps, word_of, num}
+use Rattle.tcc_serial.proofs.Names.{those, count_below, line_of, any_word, word_at, Dir, Vendor, Msg, TidReq, TidGrant, LoadReq, Fill, Skip}
+use Rattle.tcc_serial.proofs.Names.{Probe, ProbeReply, Mark, Commit, Abort, WriteBack, Flush, DataReq, Inv, InvAck, Shape, home, set_of}
+use Rattle.tcc_serial.proofs.Names.{lines, Cache, keeps, is_dirty, dirty_mask, dirty_copy, dirty_words, dirty_tag, free_way, all_marked}
+use Rattle.tcc_serial.proofs.Names.{is_modified, is_marked, modified_mask, written_lines, writes_at, evicted, filled, Spilled, holds}
+use Rattle.tcc_serial.proofs.Names.{spill_line, spilled_mask, spilled_words, CoreState, Awaited, Phase, Running, AwaitTid, DoomedTid}
+use Rattle.tcc_serial.proofs.Names.{Probing, Ready, Overflowing, Solo, Halted, Sends, nothing, to, flush, flushed, written_back, skip_all}
+use Rattle.tcc_serial.proofs.Names.{probe_all, abort_written, marks_for, Out, moves, finished, is_solo, new_word, commit, commit_sends}
+use Rattle.tcc_serial.proofs.Names.{solo_commit, solo_sends, solo_marks, solo_backs, solo_writes_at, is_written, written_mask, ask, place}
+use Rattle.tcc_serial.proofs.Names.{overflow, full_set, fetch, load_valid, load_spilled, load, buffered, framed, word_store, also_read}
+use Rattle.tcc_serial.proofs.Names.{change_valid, change_spilled, partial_store, close, execute_need, execute, core_exec, exec_phase}
+use Rattle.tcc_serial.proofs.Names.{unless_awaiting, core_evict, evict_line, is_awaited, grant, grant_phase, grant_sends, from_dir}
+use Rattle.tcc_serial.proofs.Names.{probe_reply, reply_phase, replied, when_ready, when_alone, ignored, fill, fill_awaited, data_request}
+use Rattle.tcc_serial.proofs.Names.{invalidate, acknowledged, if_violated, violated_in, is_violated, without, LinesAway, NoWord, among}
+use Rattle.tcc_serial.proofs.Names.{passes}
+use Rattle.tcc_rules.specs.Sends.{write_back}
 use Rattle.tcc_serial.proofs.Counts.Links.{among-append}
 use Rattle.tcc_serial.proofs.Serving.CoreDue.{among-those_none}
 use Rattle.tcc_serial.proofs.Marks.CoreMarks.{some-mask, modified-full, written-full, holds-found}

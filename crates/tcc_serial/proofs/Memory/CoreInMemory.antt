@@ -1,27 +1,15 @@
 -- Each of a core's rules keeps that its frames and what its attempt used lie in memory, where the next instruction's access does.
-use Rattle.std.specs.Prelude.{ℕ, ◌≡◌, ◌<◌, Bool, true, false, not, ◌||◌, ◌==◌, List, [], ◌∷◌, ◌++◌, Option, Some, None, IfSome, is_some, if◌then◌else◌}
-use Rattle.std.proofs.Common.{arith, refl}
-use Rattle.std.proofs.lemmas.Bool.Decides.{nat_tests}
-use Rattle.tcc_base.specs.declared.access.Size.TheVariants.{Byte, Half, Word}
-use Rattle.tcc_base.specs.declared.access.Load.{Load}
-use Rattle.tcc_base.specs.declared.access.Stored.{Stored}
-use Rattle.tcc_program.specs.Program.{Program, Need, Nothing, Loads, Stores, Changes, Prints, Ends, Halts, Traps}
-use Rattle.tcc_program.specs.Plain.{load_of, store_of}
-use Rattle.tcc_program.specs.Ram.{word_of, part}
-use Rattle.tcc_maps.specs.Words.{line_of}
-use Rattle.tcc_maps.specs.Nodes.{Vendor, TidReq}
-use Rattle.tcc_maps.specs.Shape.{Shape, set_of, lines}
-use Rattle.tcc_maps.specs.Cache.{Cache, free_way, all_marked}
-use Rattle.tcc_maps.specs.CacheChange.{marked, stored, placed, placed_at, committed, words_dropped}
-use Rattle.tcc_maps.specs.Spilled.{holds}
-use Rattle.tcc_rules.specs.State.{CoreState, Awaited, Phase, Running, AwaitTid, DoomedTid, Probing, Ready, Overflowing, Solo, Halted, World}
-use Rattle.tcc_rules.specs.Sends.{nothing, to, flushed}
-use Rattle.tcc_rules.specs.Attempt.{Out, moves, finished, stepped, is_running, is_solo, new_word}
-use Rattle.tcc_rules.specs.Commit.{noted, commit, committed_core, solo_commit}
-use Rattle.tcc_rules.specs.Execute.{ask, place, overflow, full_set, fetch, used, load_valid, load_spilled, load, buffered, framed, word_store, also_read, change_valid, change_spilled, partial_store, close, execute_need, execute}
-use Rattle.tcc_rules.specs.CoreExec.{core_exec, exec_phase, unless_awaiting}
-use Rattle.tcc_serial.specs.InMemory.{WordInMemory, NeedInMemory, StaysInMemory, FramesInMemory, AccessesInMemory}
-use Rattle.tcc_serial.specs.Uses.{loads_word, stores_word}
+use Rattle.tcc_serial.proofs.Names.{ℕ, ◌≡◌, ◌<◌, Bool, true, false, not, ◌||◌, ◌==◌, List, [], ◌∷◌, ◌++◌, Option, Some, None, IfSome}
+use Rattle.tcc_serial.proofs.Names.{is_some, if◌then◌else◌, arith, refl, nat_tests, Byte, Half, Word, Load, Stored, Program, Need, Nothing}
+use Rattle.tcc_serial.proofs.Names.{Loads, Stores, Changes, Prints, Ends, Halts, Traps, load_of, store_of, word_of, line_of, Vendor, TidReq}
+use Rattle.tcc_serial.proofs.Names.{Shape, set_of, lines, Cache, free_way, all_marked, marked, stored, placed, placed_at, committed}
+use Rattle.tcc_serial.proofs.Names.{words_dropped, holds, CoreState, Awaited, Phase, Running, AwaitTid, DoomedTid, Probing, Ready}
+use Rattle.tcc_serial.proofs.Names.{Overflowing, Solo, Halted, World, nothing, to, flushed, Out, moves, finished, stepped, is_running}
+use Rattle.tcc_serial.proofs.Names.{is_solo, new_word, noted, commit, committed_core, solo_commit, ask, place, overflow, full_set, fetch}
+use Rattle.tcc_serial.proofs.Names.{used, load_valid, load_spilled, load, buffered, framed, word_store, also_read, change_valid}
+use Rattle.tcc_serial.proofs.Names.{change_spilled, partial_store, close, execute_need, execute, core_exec, exec_phase, unless_awaiting}
+use Rattle.tcc_serial.proofs.Names.{WordInMemory, NeedInMemory, StaysInMemory, FramesInMemory, AccessesInMemory, loads_word, stores_word}
+use Rattle.tcc_program.specs.Ram.{part}
 use Rattle.tcc_serial.proofs.OneCore.MemoryStays.{loads_word-append}
 use Rattle.tcc_serial.proofs.OneCore.UsedWords.{stores_word-append}
 

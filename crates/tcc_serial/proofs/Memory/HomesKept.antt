@@ -1,30 +1,18 @@
 -- Every event keeps that records and messages are at home.
-use Rattle.std.specs.Prelude.{ℕ, ◌-◌, ◌%◌, ◌≡◌, ◌<◌, ◌⊎◌, Bool, true, false, not, List, [], ◌∷◌, ◌++◌, ◌==◌, ◌&&◌, ◌||◌, Option, Some, None, IfSome, nat_lt, nat_le, if◌then◌else◌}
-use Rattle.std.proofs.Common.{arith, refl, ap, inl, inr}
-use Rattle.std.proofs.lemmas.Bool.{cases_eq}
-use Rattle.std.proofs.lemmas.Bool.Decides.{nat_tests}
-use Rattle.tcc_program.specs.Program.{Program, Local}
-use Rattle.tcc_maps.specs.Words.{num, count_below}
-use Rattle.tcc_maps.specs.Masks.{full}
-use Rattle.tcc_maps.specs.Lines.{Lines, has_mark, no_lines, unmarked, with_asked, with_mark, with_sharer, with_owner}
-use Rattle.tcc_maps.specs.Judge.{Judgement, judge, Takes as IsTaken, Drops as IsDropped, Waits as IsEarly}
-use Rattle.tcc_maps.specs.Serving.{skipped, kept}
-use Rattle.tcc_maps.specs.Nodes.{Core, Dir, Event, Msg, TidReq, TidGrant, LoadReq, Fill, Skip, Probe, ProbeReply, Mark, Commit, Abort, WriteBack, Flush, DataReq, Inv, InvAck}
-use Rattle.tcc_maps.specs.Shape.{Shape, home, lines}
-use Rattle.tcc_rules.specs.State.{DirState, World, start, dir_start}
-use Rattle.tcc_rules.specs.Links.{in_flight, sent_all}
-use Rattle.tcc_rules.specs.Attempt.{Out}
-use Rattle.tcc_rules.specs.CoreExec.{core_exec}
-use Rattle.tcc_rules.specs.CoreEvict.{core_evict}
-use Rattle.tcc_rules.specs.CoreDeliver.{from_dir, grant}
-use Rattle.tcc_rules.specs.Sends.{Sends, nothing, to}
-use Rattle.tcc_rules.specs.DirDeliver.{Answer, Waits, Drops, Asks, Takes, skip, abort, commit, acknowledgement, dir_deliver, moved_on, settled, owned, owed_by, invalidations, is_invalidated, invs_to, unless_keeps, ask_owner, line_words, load_owned, load_request, marking, mark_owned, mark, judged, write_back, came_home, probe}
-use Rattle.tcc_rules.specs.Step.{core_moves, core_takes, dir_takes, step}
-use Rattle.tcc_serial.specs.Copies.{IsUnknown, HomeOf, KeptHomes}
-use Rattle.tcc_serial.specs.Count.{LinesAway, NoWord, live, among, passes}
-use Rattle.tcc_serial.specs.Kept.{Kept}
-use Rattle.tcc_serial.specs.Pairs.{Pair, pair, after_answer, out_taken}
-use Rattle.tcc_serial.proofs.Memory.CoreHomes.{Homely, HomelyOut, homely-none, homely-those, homes-exec, homes-evict, homes-grant, homes-back}
+use Rattle.tcc_serial.proofs.Names.{ℕ, ◌-◌, ◌%◌, ◌≡◌, ◌<◌, ◌⊎◌, Bool, true, false, not, List, [], ◌∷◌, ◌++◌, ◌==◌, ◌&&◌, ◌||◌, Option, Some}
+use Rattle.tcc_serial.proofs.Names.{None, IfSome, nat_lt, nat_le, if◌then◌else◌, arith, refl, ap, inl, inr, cases_eq, nat_tests, Program}
+use Rattle.tcc_serial.proofs.Names.{Local, num, count_below, full, Lines, has_mark, no_lines, unmarked, with_asked, with_mark, with_sharer}
+use Rattle.tcc_serial.proofs.Names.{with_owner, Judgement, judge, IsTaken, IsDropped, IsEarly, skipped, kept, Core, Dir, Event, Msg, TidReq}
+use Rattle.tcc_serial.proofs.Names.{TidGrant, LoadReq, Fill, Skip, Probe, ProbeReply, Mark, Commit, Abort, WriteBack, Flush, DataReq, Inv}
+use Rattle.tcc_serial.proofs.Names.{InvAck, Shape, home, lines, DirState, World, start, dir_start, in_flight, sent_all, Out, core_exec}
+use Rattle.tcc_serial.proofs.Names.{core_evict, from_dir, grant, Sends, nothing, to, Answer, Waits, Drops, Asks, Takes, skip, abort}
+use Rattle.tcc_serial.proofs.Names.{acknowledgement, dir_deliver, moved_on, settled, owned, owed_by, invalidations, is_invalidated, invs_to}
+use Rattle.tcc_serial.proofs.Names.{unless_keeps, ask_owner, line_words, load_owned, load_request, marking, mark_owned, mark, judged}
+use Rattle.tcc_serial.proofs.Names.{write_back, came_home, probe, core_moves, core_takes, dir_takes, step, IsUnknown, HomeOf, KeptHomes}
+use Rattle.tcc_serial.proofs.Names.{LinesAway, NoWord, live, among, passes, Kept, Pair, pair, after_answer, out_taken}
+use Rattle.tcc_rules.specs.DirDeliver.{commit}
+use Rattle.tcc_serial.proofs.Memory.CoreHomes.{Homely, HomelyOut, homely-none, homely-those, homes-exec, homes-evict, homes-grant}
+use Rattle.tcc_serial.proofs.Memory.CoreHomes.{homes-back}
 use Rattle.tcc_serial.proofs.Serving.KeptSteps.{core_of_out}
 use Rattle.tcc_serial.proofs.Counts.Links.{live-sends, live-takes}
 use Rattle.tcc_serial.proofs.Counts.PairFrames.{pairs_move, pairs_grant, pairs_back, pairs_dir, pairs_asks, pairs_vendor}

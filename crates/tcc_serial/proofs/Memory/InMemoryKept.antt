@@ -1,21 +1,10 @@
 -- Along every run of a program whose accesses lie in memory, frames and what was loaded and stored lie there too.
-use Rattle.std.specs.Prelude.{ℕ, ◌==◌, Bool, true, false, List, [], ◌∷◌, Contains, Option, Some, None, IfSome, if◌then◌else◌}
-use Rattle.std.proofs.Common.{arith, ◌⊎◌, ◌≡◌, inl, inr, subst}
-use Rattle.tcc_base.specs.declared.access.Commit.{Commit as Noted}
-use Rattle.tcc_program.specs.Program.{Program, Local}
-use Rattle.tcc_maps.specs.Nodes.{Dir, Event}
-use Rattle.tcc_maps.specs.Shape.{Shape}
-use Rattle.tcc_maps.specs.Cache.{empty_cache}
-use Rattle.tcc_rules.specs.State.{CoreState, World, start, core_start}
-use Rattle.tcc_rules.specs.Attempt.{Out}
-use Rattle.tcc_rules.specs.CoreExec.{core_exec}
-use Rattle.tcc_rules.specs.CoreEvict.{core_evict}
-use Rattle.tcc_rules.specs.CoreDeliver.{from_dir, grant}
-use Rattle.tcc_rules.specs.DirDeliver.{Answer, Waits, Drops, Asks, Takes, dir_deliver}
-use Rattle.tcc_rules.specs.Step.{core_moves, core_takes, dir_takes, dir_asks, vendor_gives, Stepped, step, History, and_noted, recorded, next, and_then, run_from, run}
-use Rattle.tcc_serial.specs.InMemory.{StaysInMemory, AccessesInMemory, CommitsInMemory}
-use Rattle.tcc_serial.specs.Invariants.{first_state}
-use Rattle.tcc_serial.specs.OneCore.{KeptCores}
+use Rattle.tcc_serial.proofs.Names.{ℕ, ◌==◌, Bool, true, false, List, [], ◌∷◌, Contains, Option, Some, None, IfSome, if◌then◌else◌, arith}
+use Rattle.tcc_serial.proofs.Names.{◌⊎◌, ◌≡◌, inl, inr, subst, Noted, Program, Local, Dir, Event, Shape, empty_cache, CoreState, World}
+use Rattle.tcc_serial.proofs.Names.{start, core_start, Out, core_exec, core_evict, from_dir, grant, Answer, Waits, Drops, Asks, Takes}
+use Rattle.tcc_serial.proofs.Names.{dir_deliver, core_moves, core_takes, dir_takes, dir_asks, vendor_gives, Stepped, step, History}
+use Rattle.tcc_serial.proofs.Names.{and_noted, recorded, next, and_then, run_from, run, StaysInMemory, AccessesInMemory, CommitsInMemory}
+use Rattle.tcc_serial.proofs.Names.{first_state, KeptCores}
 use Rattle.tcc_serial.proofs.OneCore.CoreAlone.{step-cores, start-cores}
 use Rattle.tcc_serial.proofs.Memory.CoreInMemory.{CoreInMemory, CoresInMemory, OutInMemory, nothing-used, exec-memory}
 use Rattle.tcc_serial.proofs.Memory.InMemoryTakes.{evict-memory, grant-memory, back-memory}

@@ -1,16 +1,12 @@
 -- Evict and messages keep that a core's frames and what its attempt used lie in memory.
-use Rattle.std.specs.Prelude.{ℕ, ◌≡◌, Bool, true, false, not, ◌&&◌, ◌||◌, ◌==◌, List, Option, Some, None, IfSome, if◌then◌else◌}
-use Rattle.std.proofs.Common.{refl}
-use Rattle.tcc_maps.specs.Nodes.{Dir, Msg, TidReq, TidGrant, LoadReq, Fill, Skip, Probe, ProbeReply, Mark, Commit, Abort, WriteBack, Flush, DataReq, Inv, InvAck}
-use Rattle.tcc_maps.specs.Shape.{Shape}
-use Rattle.tcc_maps.specs.Cache.{Cache, is_marked}
-use Rattle.tcc_maps.specs.CacheChange.{filled, cleaned, invalidated, read_cleared, rolled_back, evicted, evicted_line}
-use Rattle.tcc_maps.specs.Spilled.{spill_line}
-use Rattle.tcc_rules.specs.State.{CoreState, Awaited, Phase, Running, AwaitTid, DoomedTid, Probing, Ready, Overflowing, Solo, Halted}
-use Rattle.tcc_rules.specs.Sends.{nothing, to, marks_for, written_back}
-use Rattle.tcc_rules.specs.Attempt.{moves, is_solo, roll_back}
-use Rattle.tcc_rules.specs.CoreEvict.{core_evict, evict_line, is_awaited}
-use Rattle.tcc_rules.specs.CoreDeliver.{ignored, grant, grant_phase, probe_reply, reply_phase, replied, all_replied, when_ready, when_alone, fill, fill_awaited, data_request, invalidate, acknowledged, if_violated, is_violated, violated_in, without, from_dir}
+use Rattle.tcc_serial.proofs.Names.{ℕ, ◌≡◌, Bool, true, false, not, ◌&&◌, ◌||◌, ◌==◌, List, Option, Some, None, IfSome, if◌then◌else◌, refl}
+use Rattle.tcc_serial.proofs.Names.{Dir, Msg, TidReq, TidGrant, LoadReq, Fill, Skip, Probe, ProbeReply, Mark, Commit, Abort, WriteBack}
+use Rattle.tcc_serial.proofs.Names.{Flush, DataReq, Inv, InvAck, Shape, Cache, is_marked, filled, cleaned, invalidated, read_cleared}
+use Rattle.tcc_serial.proofs.Names.{rolled_back, evicted, evicted_line, spill_line, CoreState, Awaited, Phase, Running, AwaitTid, DoomedTid}
+use Rattle.tcc_serial.proofs.Names.{Probing, Ready, Overflowing, Solo, Halted, nothing, to, marks_for, written_back, moves, is_solo}
+use Rattle.tcc_serial.proofs.Names.{roll_back, core_evict, evict_line, is_awaited, ignored, grant, grant_phase, probe_reply, reply_phase}
+use Rattle.tcc_serial.proofs.Names.{replied, all_replied, when_ready, when_alone, fill, fill_awaited, data_request, invalidate}
+use Rattle.tcc_serial.proofs.Names.{acknowledged, if_violated, is_violated, violated_in, without, from_dir}
 use Rattle.tcc_serial.proofs.Memory.CoreInMemory.{CoreInMemory, OutInMemory, same-memory, nothing-used}
 
 evicted-frames : (x y : ℕ) (c : Cache) (k : ℕ) → (evicted x y c).held k ≡ true → c.held k ≡ true

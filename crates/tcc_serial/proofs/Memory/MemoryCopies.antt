@@ -1,21 +1,8 @@
 -- Every event keeps that words on their way home are of lines of memory.
-use Rattle.std.specs.Prelude.{ℕ, ◌≡◌, ◌≤◌, [], ◌++◌, Option, Some, None, IfSome}
-use Rattle.std.proofs.Common.{arith, refl}
-use Rattle.tcc_program.specs.Program.{Program, Local}
-use Rattle.tcc_maps.specs.Nodes.{Core, Dir, Event, Msg}
-use Rattle.tcc_maps.specs.Shape.{Shape, lines}
-use Rattle.tcc_rules.specs.State.{DirState, World, start}
-use Rattle.tcc_rules.specs.Attempt.{Out}
-use Rattle.tcc_rules.specs.CoreExec.{core_exec}
-use Rattle.tcc_rules.specs.CoreEvict.{core_evict}
-use Rattle.tcc_rules.specs.CoreDeliver.{from_dir, grant}
-use Rattle.tcc_rules.specs.DirDeliver.{Answer, Waits, Drops, Asks, Takes, dir_deliver}
-use Rattle.tcc_rules.specs.Links.{in_flight, sent_all}
-use Rattle.tcc_rules.specs.Sends.{Sends}
-use Rattle.tcc_rules.specs.Step.{core_moves, core_takes, dir_takes, step}
-use Rattle.tcc_serial.specs.Count.{CopyOf, live}
-use Rattle.tcc_serial.specs.OneCore.{KeptCores}
-use Rattle.tcc_serial.specs.Pairs.{Pair, pair}
+use Rattle.tcc_serial.proofs.Names.{ℕ, ◌≡◌, ◌≤◌, [], ◌++◌, Option, Some, None, IfSome, arith, refl, Program, Local, Core, Dir, Event, Msg}
+use Rattle.tcc_serial.proofs.Names.{Shape, lines, DirState, World, start, Out, core_exec, core_evict, from_dir, grant, Answer, Waits, Drops}
+use Rattle.tcc_serial.proofs.Names.{Asks, Takes, dir_deliver, in_flight, sent_all, Sends, core_moves, core_takes, dir_takes, step, CopyOf}
+use Rattle.tcc_serial.proofs.Names.{live, KeptCores, Pair, pair}
 use Rattle.tcc_serial.proofs.Memory.CoreInMemory.{CoresInMemory}
 use Rattle.tcc_serial.proofs.Counts.Links.{live-sends, live-takes}
 use Rattle.tcc_serial.proofs.Memory.MemorySends.{SendsInMemory, exec-sends, evict-sends, grant-sent, back-sends}

@@ -1,19 +1,9 @@
 -- What lies in memory is found at its home.
-use Rattle.std.specs.Prelude.{ℕ, suc, ◌≡◌, ◌<◌, ◌==◌, ◌&&◌, ◌||◌, Bool, true, false, List, [], ◌∷◌, is_some}
-use Rattle.std.proofs.Common.{arith, refl, sym, ◌∙◌}
-use Rattle.std.proofs.lemmas.Bool.Decides.{nat_tests}
-use Rattle.tcc_base.specs.declared.access.Commit.{Commit as Noted}
-use Rattle.tcc_base.specs.declared.access.Stored.{Stored}
-use Rattle.tcc_maps.specs.Words.{any_below, any_word, line_of, place_of, word_at}
-use Rattle.tcc_maps.specs.Shape.{Shape, home, lines}
-use Rattle.tcc_maps.specs.Cache.{is_modified, writes_at, reads_at}
-use Rattle.tcc_maps.proofs.Lemmas.{any_below-found, any_below-at}
-use Rattle.tcc_serial.specs.AtHomes.{AccessesAtHomes, MarksAtHomes, WrittenInMemory}
-use Rattle.tcc_serial.specs.InMemory.{WordInMemory, CommitsInMemory}
-use Rattle.tcc_serial.specs.Stored.{stores_at}
-use Rattle.tcc_serial.specs.Uses.{loads_word, stores_word}
-use Rattle.tcc_serial.specs.Worked.{loads_at}
-use Rattle.tcc_serial.specs.Wrote.{names_line, wrote, wrote_line}
+use Rattle.tcc_serial.proofs.Names.{ℕ, suc, ◌≡◌, ◌<◌, ◌==◌, ◌&&◌, ◌||◌, Bool, true, false, List, [], ◌∷◌, is_some, arith, refl, sym, ◌∙◌}
+use Rattle.tcc_serial.proofs.Names.{nat_tests, Noted, Stored, any_below, any_word, line_of, place_of, word_at, Shape, home, lines}
+use Rattle.tcc_serial.proofs.Names.{is_modified, writes_at, reads_at, any_below-found, any_below-at, AccessesAtHomes, MarksAtHomes}
+use Rattle.tcc_serial.proofs.Names.{WrittenInMemory, WordInMemory, CommitsInMemory, stores_at, loads_word, stores_word, loads_at}
+use Rattle.tcc_serial.proofs.Names.{names_line, wrote, wrote_line}
 use Rattle.tcc_serial.proofs.Marks.StoredMasks.{stored-any, stored-line}
 
 -- a line has a word with p where one of its words has it

@@ -1,21 +1,9 @@
 -- Every event keeps what holds of each core by itself, and so does every run.
-use Rattle.std.specs.Prelude.{ℕ, ◌==◌, Bool, true, false, List, [], ◌∷◌, Option, Some, None, IfSome, if◌then◌else◌}
-use Rattle.std.proofs.Common.{refl}
-use Rattle.tcc_program.specs.Program.{Program, Local}
-use Rattle.tcc_maps.specs.Nodes.{Dir, Event}
-use Rattle.tcc_maps.specs.Shape.{Shape}
-use Rattle.tcc_maps.specs.Cache.{empty_cache}
-use Rattle.tcc_maps.specs.Spilled.{none_spilled}
-use Rattle.tcc_maps.proofs.Lemmas.{empty-keeps}
-use Rattle.tcc_rules.specs.State.{CoreState, World, start, core_start}
-use Rattle.tcc_rules.specs.Attempt.{Out}
-use Rattle.tcc_rules.specs.CoreExec.{core_exec}
-use Rattle.tcc_rules.specs.CoreEvict.{core_evict}
-use Rattle.tcc_rules.specs.CoreDeliver.{from_dir, grant}
-use Rattle.tcc_rules.specs.DirDeliver.{Answer, Waits, Drops, Asks, Takes, dir_deliver}
-use Rattle.tcc_rules.specs.Step.{core_moves, core_takes, dir_takes, dir_asks, vendor_gives, Stepped, step, History, and_noted, recorded, next, and_then, run_from, run}
-use Rattle.tcc_serial.specs.OneCore.{OneCore, KeptCores}
-use Rattle.tcc_serial.specs.Laws.{Always}
+use Rattle.tcc_serial.proofs.Names.{ℕ, ◌==◌, Bool, true, false, List, [], ◌∷◌, Option, Some, None, IfSome, if◌then◌else◌, refl, Program}
+use Rattle.tcc_serial.proofs.Names.{Local, Dir, Event, Shape, empty_cache, none_spilled, empty-keeps, CoreState, World, start, core_start}
+use Rattle.tcc_serial.proofs.Names.{Out, core_exec, core_evict, from_dir, grant, Answer, Waits, Drops, Asks, Takes, dir_deliver, core_moves}
+use Rattle.tcc_serial.proofs.Names.{core_takes, dir_takes, dir_asks, vendor_gives, Stepped, step, History, and_noted, recorded, next}
+use Rattle.tcc_serial.proofs.Names.{and_then, run_from, run, OneCore, KeptCores, Always}
 use Rattle.tcc_serial.proofs.Counts.StepCases.{OfAnswer, step_cases}
 use Rattle.tcc_serial.proofs.OneCore.WordsKept.{words-none}
 use Rattle.tcc_serial.proofs.OneCore.OneCoreExec.{exec_one}

@@ -1,26 +1,22 @@
 -- What a core's step does to its load requests and to the line that it awaits.
-use Rattle.std.specs.Prelude.{ℕ, ◌+◌, ◌≡◌, ◌≤◌, Bool, true, false, not, List, [], ◌∷◌, ◌++◌, ◌==◌, ◌&&◌, ◌||◌, Option, Some, None, IfSome, is_some, nat_lt, if◌then◌else◌}
-use Rattle.std.specs.List.{flat_map}
-use Rattle.std.proofs.Common.{arith, refl, ◌∙◌}
-use Rattle.std.proofs.lemmas.Bool.Decides.{nat_tests}
-use Rattle.tcc_base.specs.declared.access.Size.TheVariants.{Byte, Half, Word}
-use Rattle.tcc_program.specs.Program.{Program, Need, Nothing, Loads, Stores, Changes, Prints, Ends, Halts, Traps}
-use Rattle.tcc_program.specs.Ram.{word_of}
-use Rattle.tcc_maps.specs.Words.{num, those, count_below, line_of}
-use Rattle.tcc_maps.specs.Nodes.{Dir, Vendor, Msg, TidReq, TidGrant, LoadReq, Fill, Skip, Probe, ProbeReply, Mark, Commit, Abort, WriteBack, Flush, DataReq, Inv, InvAck, Tagged}
-use Rattle.tcc_maps.specs.Shape.{Shape, home, set_of, lines}
-use Rattle.tcc_maps.specs.Cache.{Cache, keeps, dirty_copy, free_way, all_marked, is_modified, is_marked, modified_mask, written_lines, writes_at}
-use Rattle.tcc_maps.specs.CacheChange.{marked, evicted, read_cleared}
-use Rattle.tcc_maps.specs.Spilled.{Spilled, holds, spill_line, spilled_mask, spilled_words}
-use Rattle.tcc_rules.specs.State.{CoreState, Awaited, Phase, Running, AwaitTid, DoomedTid, Probing, Ready, Overflowing, Solo, Halted}
-use Rattle.tcc_rules.specs.Sends.{Sends, nothing, to, flush, flushed, write_back, written_back, skip_all, probe_all, abort_written, marks_for}
-use Rattle.tcc_rules.specs.Attempt.{Out, moves, finished, stepped, is_running, is_solo, new_word, roll_back}
-use Rattle.tcc_rules.specs.Commit.{commit, commit_sends, committed_core, solo_commit, solo_sends, solo_marks, solo_backs, solo_writes_at, is_written, written_mask}
-use Rattle.tcc_rules.specs.Execute.{ask, place, overflow, full_set, fetch, used, load_valid, load_spilled, load, buffered, framed, word_store, also_read, change_valid, change_spilled, partial_store, close, execute_need, execute}
-use Rattle.tcc_rules.specs.CoreExec.{core_exec, exec_phase, unless_awaiting}
-use Rattle.tcc_rules.specs.CoreEvict.{core_evict, evict_line, is_awaited}
-use Rattle.tcc_rules.specs.CoreDeliver.{grant, grant_phase, grant_sends, from_dir, probe_reply, reply_phase, replied, all_replied, when_ready, when_alone, ignored, fill, fill_awaited, data_request, invalidate, acknowledged, if_violated, violated_in, is_violated, without, staled}
-use Rattle.tcc_serial.specs.Count.{LoadOf, FillOf, among, passes}
+use Rattle.tcc_serial.proofs.Names.{ℕ, ◌+◌, ◌≡◌, ◌≤◌, Bool, true, false, not, List, [], ◌∷◌, ◌++◌, ◌==◌, ◌&&◌, ◌||◌, Option, Some, None}
+use Rattle.tcc_serial.proofs.Names.{IfSome, is_some, nat_lt, if◌then◌else◌, flat_map, arith, refl, ◌∙◌, nat_tests, Byte, Half, Word}
+use Rattle.tcc_serial.proofs.Names.{Program, Need, Nothing, Loads, Stores, Changes, Prints, Ends, Halts, Traps, word_of, num, those}
+use Rattle.tcc_serial.proofs.Names.{count_below, line_of, Dir, Vendor, Msg, TidReq, TidGrant, LoadReq, Fill, Skip, Probe, ProbeReply, Mark}
+use Rattle.tcc_serial.proofs.Names.{Commit, Abort, WriteBack, Flush, DataReq, Inv, InvAck, Tagged, Shape, home, set_of, lines, Cache, keeps}
+use Rattle.tcc_serial.proofs.Names.{dirty_copy, free_way, all_marked, is_modified, is_marked, modified_mask, written_lines, writes_at}
+use Rattle.tcc_serial.proofs.Names.{marked, evicted, read_cleared, Spilled, holds, spill_line, spilled_mask, spilled_words, CoreState}
+use Rattle.tcc_serial.proofs.Names.{Awaited, Phase, Running, AwaitTid, DoomedTid, Probing, Ready, Overflowing, Solo, Halted, Sends, nothing}
+use Rattle.tcc_serial.proofs.Names.{to, flush, flushed, written_back, skip_all, probe_all, abort_written, marks_for, Out, moves, finished}
+use Rattle.tcc_serial.proofs.Names.{stepped, is_running, is_solo, new_word, roll_back, commit, commit_sends, committed_core, solo_commit}
+use Rattle.tcc_serial.proofs.Names.{solo_sends, solo_marks, solo_backs, solo_writes_at, is_written, written_mask, ask, place, overflow}
+use Rattle.tcc_serial.proofs.Names.{full_set, fetch, used, load_valid, load_spilled, load, buffered, framed, word_store, also_read}
+use Rattle.tcc_serial.proofs.Names.{change_valid, change_spilled, partial_store, close, execute_need, execute, core_exec, exec_phase}
+use Rattle.tcc_serial.proofs.Names.{unless_awaiting, core_evict, evict_line, is_awaited, grant, grant_phase, grant_sends, from_dir}
+use Rattle.tcc_serial.proofs.Names.{probe_reply, reply_phase, replied, all_replied, when_ready, when_alone, ignored, fill, fill_awaited}
+use Rattle.tcc_serial.proofs.Names.{data_request, invalidate, acknowledged, if_violated, violated_in, is_violated, without, staled, LoadOf}
+use Rattle.tcc_serial.proofs.Names.{FillOf, among, passes}
+use Rattle.tcc_rules.specs.Sends.{write_back}
 use Rattle.tcc_serial.proofs.Counts.Links.{among-append}
 use Rattle.tcc_serial.proofs.Counts.Sent.{among-flat_map_none}
 

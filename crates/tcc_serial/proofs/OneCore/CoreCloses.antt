@@ -1,24 +1,15 @@
 -- A core's event leaves its checkpoint and its end, or commits an attempt that the plain machine gives over its view.
-use Rattle.std.specs.Prelude.{ℕ, suc, ◌≡◌, Bool, true, false, not, ◌||◌, Option, Some, None, IfSome, IsSomeAnd, is_some, if◌then◌else◌}
-use Rattle.std.proofs.Common.{arith, refl, sym, ap, subst, ◌∙◌, ◌⊎◌, inl, inr}
-use Rattle.tcc_base.specs.declared.access.CoreEnd.TheVariants.{Run}
-use Rattle.tcc_base.specs.declared.access.Size.TheVariants.{Byte, Half, Word}
-use Rattle.tcc_program.specs.Plain.{Attempt, Outcome, Goes, begun, steps, then_step, when_going, plain_step}
-use Rattle.tcc_program.specs.Program.{Program, Need, Nothing, Loads, Stores, Changes, Prints, Ends, Halts, Traps}
-use Rattle.tcc_program.specs.Ram.{word_of}
-use Rattle.tcc_maps.specs.Words.{line_of}
-use Rattle.tcc_maps.specs.Shape.{Shape, set_of}
-use Rattle.tcc_maps.specs.Cache.{free_way, all_marked}
-use Rattle.tcc_maps.specs.CacheChange.{marked}
-use Rattle.tcc_maps.specs.Spilled.{holds}
-use Rattle.tcc_rules.specs.State.{CoreState, Awaited, Phase, Running, AwaitTid, DoomedTid, Probing, Ready, Overflowing, Solo, Halted}
-use Rattle.tcc_rules.specs.Sends.{Sends, nothing, flushed}
-use Rattle.tcc_rules.specs.Attempt.{Out, moves, finished, stepped, new_word, is_solo, is_running}
-use Rattle.tcc_rules.specs.Commit.{noted, commit, committed_core, solo_commit, phase_after, ended_after}
-use Rattle.tcc_rules.specs.CoreExec.{core_exec, exec_phase, unless_awaiting}
-use Rattle.tcc_rules.specs.Execute.{ask, place, overflow, full_set, fetch, used, load_valid, load_spilled, load, buffered, framed, word_store, also_read, change_valid, change_spilled, partial_store, close, execute_need, execute}
-use Rattle.tcc_attempt.specs.Follows.{Uses, Agrees, IsSmall, Reaches, EndFits, HasEnded, FollowsIn, Follows}
-use Rattle.tcc_serial.specs.Commits.{end_after}
+use Rattle.tcc_serial.proofs.Names.{ℕ, suc, ◌≡◌, Bool, true, false, not, ◌||◌, Option, Some, None, IfSome, IsSomeAnd, is_some}
+use Rattle.tcc_serial.proofs.Names.{if◌then◌else◌, arith, refl, sym, ap, subst, ◌∙◌, ◌⊎◌, inl, inr, Run, Byte, Half, Word, Attempt, Outcome}
+use Rattle.tcc_serial.proofs.Names.{Goes, begun, steps, then_step, when_going, plain_step, Program, Need, Nothing, Loads, Stores, Changes}
+use Rattle.tcc_serial.proofs.Names.{Prints, Ends, Halts, Traps, word_of, line_of, Shape, set_of, free_way, all_marked, marked, holds}
+use Rattle.tcc_serial.proofs.Names.{CoreState, Awaited, Phase, Running, AwaitTid, DoomedTid, Probing, Ready, Overflowing, Solo, Halted}
+use Rattle.tcc_serial.proofs.Names.{Sends, nothing, flushed, Out, moves, finished, stepped, new_word, is_solo, is_running, noted, commit}
+use Rattle.tcc_serial.proofs.Names.{committed_core, solo_commit, phase_after, ended_after, core_exec, exec_phase, unless_awaiting, ask}
+use Rattle.tcc_serial.proofs.Names.{place, overflow, full_set, fetch, used, load_valid, load_spilled, load, buffered, framed, word_store}
+use Rattle.tcc_serial.proofs.Names.{also_read, change_valid, change_spilled, partial_store, close, execute_need, execute, Uses, Agrees}
+use Rattle.tcc_serial.proofs.Names.{IsSmall, Reaches, EndFits, HasEnded, FollowsIn, end_after}
+use Rattle.tcc_attempt.specs.Follows.{Follows}
 use Rattle.tcc_serial.proofs.OneCore.Executes.{Acts}
 
 -- how the plain machine's transaction leaves the core

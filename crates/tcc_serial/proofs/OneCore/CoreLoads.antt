@@ -1,28 +1,15 @@
 -- Each of a core's rules keeps that the words which its attempt loaded are marked read or modified, unless it is alone.
-use Rattle.std.specs.Prelude.{ℕ, ◌≡◌, Bool, true, false, not, ◌&&◌, ◌||◌, ◌==◌, [], ◌∷◌, ◌++◌, Option, Some, None, IfSome, is_some, if◌then◌else◌}
-use Rattle.std.proofs.Common.{arith, refl, sym, ◌∙◌, ◌⊎◌, inl, inr}
-use Rattle.std.proofs.lemmas.Bool.Decides.{nat_tests}
-use Rattle.tcc_base.specs.declared.access.Size.TheVariants.{Byte, Half, Word}
-use Rattle.tcc_base.specs.declared.access.Load.{Load}
-use Rattle.tcc_program.specs.Program.{Program, Need, Nothing, Loads, Stores, Changes, Prints, Ends, Halts, Traps}
-use Rattle.tcc_program.specs.Plain.{load_of}
-use Rattle.tcc_program.specs.Ram.{word_of, part}
-use Rattle.tcc_maps.specs.Words.{line_of}
-use Rattle.tcc_maps.specs.Nodes.{Vendor, TidReq}
-use Rattle.tcc_maps.specs.Shape.{Shape, set_of}
-use Rattle.tcc_maps.specs.Cache.{Cache, free_way, all_marked, is_marked}
-use Rattle.tcc_maps.specs.CacheChange.{marked, stored, placed, evicted}
-use Rattle.tcc_maps.specs.Spilled.{holds, spill_line}
-use Rattle.tcc_rules.specs.State.{CoreState, Awaited, Phase, Running, AwaitTid, DoomedTid, Probing, Ready, Overflowing, Solo, Halted}
-use Rattle.tcc_rules.specs.Sends.{nothing, flushed, to, written_back}
-use Rattle.tcc_rules.specs.Attempt.{Out, moves, finished, stepped, is_running, is_solo, new_word}
-use Rattle.tcc_rules.specs.Commit.{noted, commit, committed_core}
-use Rattle.tcc_rules.specs.Execute.{ask, place, overflow, full_set, fetch, used, load_valid, load_spilled, load, buffered, framed, word_store, also_read, change_valid, change_spilled, partial_store, close, execute_need, execute}
-use Rattle.tcc_rules.specs.CoreExec.{core_exec, exec_phase, unless_awaiting}
-use Rattle.tcc_rules.specs.CoreEvict.{core_evict, evict_line, is_awaited}
-use Rattle.tcc_serial.specs.OneCore.{OneCore}
-use Rattle.tcc_serial.specs.Uses.{loads_word}
-use Rattle.tcc_serial.specs.Worked.{LoadsMarked}
+use Rattle.tcc_serial.proofs.Names.{ℕ, ◌≡◌, Bool, true, false, not, ◌&&◌, ◌||◌, ◌==◌, [], ◌∷◌, ◌++◌, Option, Some, None, IfSome, is_some}
+use Rattle.tcc_serial.proofs.Names.{if◌then◌else◌, arith, refl, sym, ◌∙◌, ◌⊎◌, inl, inr, nat_tests, Byte, Half, Word, Load, Program, Need}
+use Rattle.tcc_serial.proofs.Names.{Nothing, Loads, Stores, Changes, Prints, Ends, Halts, Traps, load_of, word_of, line_of, Vendor, TidReq}
+use Rattle.tcc_serial.proofs.Names.{Shape, set_of, Cache, free_way, all_marked, is_marked, marked, stored, placed, evicted, holds}
+use Rattle.tcc_serial.proofs.Names.{spill_line, CoreState, Awaited, Phase, Running, AwaitTid, DoomedTid, Probing, Ready, Overflowing, Solo}
+use Rattle.tcc_serial.proofs.Names.{Halted, nothing, flushed, to, written_back, Out, moves, finished, stepped, is_running, is_solo}
+use Rattle.tcc_serial.proofs.Names.{new_word, noted, commit, committed_core, ask, place, overflow, full_set, fetch, used, load_valid}
+use Rattle.tcc_serial.proofs.Names.{load_spilled, load, buffered, framed, word_store, also_read, change_valid, change_spilled}
+use Rattle.tcc_serial.proofs.Names.{partial_store, close, execute_need, execute, core_exec, exec_phase, unless_awaiting, core_evict}
+use Rattle.tcc_serial.proofs.Names.{evict_line, is_awaited, OneCore, loads_word, LoadsMarked}
+use Rattle.tcc_program.specs.Ram.{part}
 use Rattle.tcc_serial.proofs.OneCore.CoreSteps.{evicted-modified}
 use Rattle.tcc_serial.proofs.OneCore.Executes.{Executed, Goes_on, Overflows, Asks_tid, Alone, executed}
 use Rattle.tcc_serial.proofs.OneCore.MemoryStays.{loads_word-append}

@@ -1,14 +1,11 @@
 -- Each message keeps that the words which a core's attempt loaded are marked read or modified, unless it is alone.
-use Rattle.std.specs.Prelude.{ℕ, ◌≡◌, Bool, true, false, ◌&&◌, ◌==◌, List, Option, Some, None, IfSome, if◌then◌else◌}
-use Rattle.std.proofs.Common.{refl}
-use Rattle.tcc_maps.specs.Nodes.{Dir, Msg, TidReq, TidGrant, LoadReq, Fill, Skip, Probe, ProbeReply, Mark, Commit, Abort, WriteBack, Flush, DataReq, Inv, InvAck}
-use Rattle.tcc_maps.specs.Shape.{Shape}
-use Rattle.tcc_maps.specs.CacheChange.{filled, cleaned, invalidated, read_cleared}
-use Rattle.tcc_rules.specs.State.{CoreState, Awaited, Phase, Running, AwaitTid, DoomedTid, Probing, Ready, Overflowing, Solo, Halted}
-use Rattle.tcc_rules.specs.Sends.{nothing, to, marks_for}
-use Rattle.tcc_rules.specs.Attempt.{moves, roll_back}
-use Rattle.tcc_rules.specs.CoreDeliver.{ignored, grant, grant_phase, probe_reply, reply_phase, replied, all_replied, when_ready, when_alone, fill, fill_awaited, data_request, invalidate, acknowledged, if_violated, is_violated, violated_in, without, from_dir}
-use Rattle.tcc_serial.specs.Worked.{LoadsMarked}
+use Rattle.tcc_serial.proofs.Names.{ℕ, ◌≡◌, Bool, true, false, ◌&&◌, ◌==◌, List, Option, Some, None, IfSome, if◌then◌else◌, refl, Dir, Msg}
+use Rattle.tcc_serial.proofs.Names.{TidReq, TidGrant, LoadReq, Fill, Skip, Probe, ProbeReply, Mark, Commit, Abort, WriteBack, Flush}
+use Rattle.tcc_serial.proofs.Names.{DataReq, Inv, InvAck, Shape, filled, cleaned, invalidated, read_cleared, CoreState, Awaited, Phase}
+use Rattle.tcc_serial.proofs.Names.{Running, AwaitTid, DoomedTid, Probing, Ready, Overflowing, Solo, Halted, nothing, to, marks_for, moves}
+use Rattle.tcc_serial.proofs.Names.{roll_back, ignored, grant, grant_phase, probe_reply, reply_phase, replied, all_replied, when_ready}
+use Rattle.tcc_serial.proofs.Names.{when_alone, fill, fill_awaited, data_request, invalidate, acknowledged, if_violated, is_violated}
+use Rattle.tcc_serial.proofs.Names.{violated_in, without, from_dir, LoadsMarked}
 use Rattle.tcc_serial.proofs.OneCore.CoreLoads.{touched, Loading, Empty, Alone_now, loads-marked, kept, either-way}
 
 still : (sh : Shape) (s : CoreState) → Loading sh s s

@@ -1,26 +1,16 @@
 -- What a core's rules do to what it knows of the directories that it asked.
-use Rattle.std.specs.Prelude.{ℕ, ◌≡◌, ◌<◌, ◌≤◌, Bool, true, false, ◌==◌, ◌&&◌, ◌||◌, Option, Some, None, IfSome, nat_lt, if◌then◌else◌}
-use Rattle.std.proofs.Common.{arith, refl, sym, ap₂, ◌∙◌, ◌⊎◌, inl, inr}
-use Rattle.std.proofs.lemmas.Bool.{cases_eq}
-use Rattle.std.proofs.lemmas.Bool.Decides.{nat_tests}
-use Rattle.tcc_base.specs.Put.{put}
-use Rattle.tcc_program.specs.Program.{Program}
-use Rattle.tcc_program.specs.Plain.{Outcome, Goes, Ended, Halted as HaltedWith, Trapped as TrappedWith}
-use Rattle.tcc_maps.specs.Words.{any_below}
-use Rattle.tcc_maps.proofs.Lemmas.{any_below-at}
-use Rattle.tcc_maps.specs.Nodes.{Msg, TidReq, TidGrant, LoadReq, Fill, Skip, Probe, ProbeReply, Mark, Commit, Abort, WriteBack, Flush, DataReq, Inv, InvAck}
-use Rattle.tcc_maps.specs.Shape.{Shape}
-use Rattle.tcc_maps.specs.Cache.{Cache, writes_at, reads_at}
-use Rattle.tcc_rules.specs.State.{CoreState, Awaited, Phase, Running, AwaitTid, DoomedTid, Probing, Ready, Overflowing, Solo, Halted}
-use Rattle.tcc_rules.specs.Attempt.{Out}
-use Rattle.tcc_rules.specs.Commit.{commit, committed_core, phase_after}
-use Rattle.tcc_rules.specs.CoreExec.{core_exec, exec_phase, unless_awaiting}
-use Rattle.tcc_rules.specs.CoreEvict.{core_evict}
-use Rattle.tcc_rules.specs.CoreDeliver.{grant, grant_phase, from_dir, probing, is_probed, probe_reply, all_replied, fill, data_request, invalidate}
-use Rattle.tcc_serial.specs.Count.{RepliesAbove, passes}
-use Rattle.tcc_serial.specs.Probes.{tid_of, asks_dir, may_commit, Reached}
+use Rattle.tcc_serial.proofs.Names.{ℕ, ◌≡◌, ◌<◌, ◌≤◌, Bool, true, false, ◌==◌, ◌&&◌, ◌||◌, Option, Some, None, IfSome, nat_lt}
+use Rattle.tcc_serial.proofs.Names.{if◌then◌else◌, arith, refl, sym, ap₂, ◌∙◌, ◌⊎◌, inl, inr, cases_eq, nat_tests, put, Program, Outcome}
+use Rattle.tcc_serial.proofs.Names.{Goes, Ended, HaltedWith, TrappedWith, any_below, any_below-at, Msg, TidReq, TidGrant, LoadReq, Fill}
+use Rattle.tcc_serial.proofs.Names.{Skip, Probe, ProbeReply, Mark, Commit, Abort, WriteBack, Flush, DataReq, Inv, InvAck, Shape, Cache}
+use Rattle.tcc_serial.proofs.Names.{writes_at, reads_at, CoreState, Awaited, Phase, Running, AwaitTid, DoomedTid, Probing, Ready}
+use Rattle.tcc_serial.proofs.Names.{Overflowing, Solo, Halted, Out, commit, committed_core, phase_after, core_exec, exec_phase}
+use Rattle.tcc_serial.proofs.Names.{unless_awaiting, core_evict, grant, grant_phase, from_dir, probing, is_probed, probe_reply, all_replied}
+use Rattle.tcc_serial.proofs.Names.{fill, data_request, invalidate, RepliesAbove, passes, tid_of, asks_dir, may_commit, Reached}
 use Rattle.tcc_serial.proofs.OneCore.Executes.{Acts, Steady, Executed, Goes_on, Overflows, Asks_tid, Alone, executed}
-use Rattle.tcc_serial.proofs.OneCore.CoreSteps.{writes_at-same, reads_at-same, evict-steady, fill-steady, data-steady, Hurt, Unhurt, Rolled, Doomed, Aborted, Gave_up, Invalidated, invalidate-cases, Replied, Ignored, Probed, Left_alone, reply-cases}
+use Rattle.tcc_serial.proofs.OneCore.CoreSteps.{writes_at-same, reads_at-same, evict-steady, fill-steady, data-steady, Hurt, Unhurt, Rolled}
+use Rattle.tcc_serial.proofs.OneCore.CoreSteps.{Doomed, Aborted, Gave_up, Invalidated, invalidate-cases, Replied, Ignored, Probed}
+use Rattle.tcc_serial.proofs.OneCore.CoreSteps.{Left_alone, reply-cases}
 
 -- a core in this phase asks none
 pub none-asked : (sh : Shape) (d x : ℕ) (s : CoreState) (q : Phase) → s.phase ≡ q → ((b : Bool) → asks_dir q b ≡ false) → may_commit q ≡ false → Reached sh d x s

@@ -1,26 +1,14 @@
 -- What each of a core's rules does to the words that are marked read: they are valid, or as they were, or their marks are cleared.
-use Rattle.std.specs.Prelude.{ℕ, ◌≡◌, ◌<◌, Bool, true, false, not, ◌&&◌, ◌||◌, ◌==◌, [], ◌∷◌, Option, Some, None, IfSome, is_some, if◌then◌else◌}
-use Rattle.std.proofs.Common.{arith, refl, sym, subst, ◌∙◌, ◌⊎◌, inl, inr}
-use Rattle.std.proofs.lemmas.Bool.Decides.{nat_tests}
-use Rattle.tcc_base.specs.declared.access.Size.TheVariants.{Byte, Half, Word}
-use Rattle.tcc_program.specs.Program.{Program, Need, Nothing, Loads, Stores, Changes, Prints, Ends, Halts, Traps}
-use Rattle.tcc_program.specs.Ram.{word_of}
-use Rattle.tcc_maps.specs.Words.{line_of}
-use Rattle.tcc_maps.specs.Nodes.{Vendor, TidReq}
-use Rattle.tcc_maps.specs.Shape.{Shape, home, set_of}
-use Rattle.tcc_maps.specs.Cache.{Cache, free_way, all_marked, is_marked}
-use Rattle.tcc_maps.specs.CacheChange.{marked, stored, placed, evicted, evicted_line, committed}
-use Rattle.tcc_maps.specs.Spilled.{holds, spill_line}
-use Rattle.tcc_maps.proofs.Lemmas.{value-placed, read-placed}
-use Rattle.tcc_rules.specs.State.{CoreState, Awaited, Phase, Running, AwaitTid, DoomedTid, Probing, Ready, Overflowing, Solo, Halted}
-use Rattle.tcc_rules.specs.Sends.{nothing, flushed, to, written_back}
-use Rattle.tcc_rules.specs.Attempt.{moves, finished, is_running, is_solo, new_word}
-use Rattle.tcc_rules.specs.Commit.{commit, committed_core, solo_commit}
-use Rattle.tcc_rules.specs.Execute.{ask, place, overflow, full_set, fetch, used, load_valid, load_spilled, load, buffered, framed, word_store, also_read, change_valid, change_spilled, partial_store, close, execute_need, execute}
-use Rattle.tcc_rules.specs.CoreExec.{core_exec, exec_phase, unless_awaiting}
-use Rattle.tcc_rules.specs.CoreEvict.{core_evict, evict_line, is_awaited}
-use Rattle.tcc_attempt.proofs.Lemmas.{SameBut, finished-same}
-use Rattle.tcc_serial.specs.Tids.{has_tid}
+use Rattle.tcc_serial.proofs.Names.{ℕ, ◌≡◌, ◌<◌, Bool, true, false, not, ◌&&◌, ◌||◌, ◌==◌, [], ◌∷◌, Option, Some, None, IfSome, is_some}
+use Rattle.tcc_serial.proofs.Names.{if◌then◌else◌, arith, refl, sym, subst, ◌∙◌, ◌⊎◌, inl, inr, nat_tests, Byte, Half, Word, Program, Need}
+use Rattle.tcc_serial.proofs.Names.{Nothing, Loads, Stores, Changes, Prints, Ends, Halts, Traps, word_of, line_of, Vendor, TidReq, Shape}
+use Rattle.tcc_serial.proofs.Names.{home, set_of, Cache, free_way, all_marked, is_marked, marked, stored, placed, evicted, evicted_line}
+use Rattle.tcc_serial.proofs.Names.{committed, holds, spill_line, value-placed, read-placed, CoreState, Awaited, Phase, Running, AwaitTid}
+use Rattle.tcc_serial.proofs.Names.{DoomedTid, Probing, Ready, Overflowing, Solo, Halted, nothing, flushed, to, written_back, moves}
+use Rattle.tcc_serial.proofs.Names.{finished, is_running, is_solo, new_word, commit, committed_core, solo_commit, ask, place, overflow}
+use Rattle.tcc_serial.proofs.Names.{full_set, fetch, used, load_valid, load_spilled, load, buffered, framed, word_store, also_read}
+use Rattle.tcc_serial.proofs.Names.{change_valid, change_spilled, partial_store, close, execute_need, execute, core_exec, exec_phase}
+use Rattle.tcc_serial.proofs.Names.{unless_awaiting, core_evict, evict_line, is_awaited, SameBut, finished-same, has_tid}
 use Rattle.tcc_serial.proofs.OneCore.Executes.{Acts}
 
 -- a word that is marked read in the cache d is valid there, or it is marked and valid in d as it was in c

@@ -1,22 +1,16 @@
 -- What each message to a core does to the words that are marked read.
-use Rattle.std.specs.Prelude.{ℕ, ◌≡◌, ◌<◌, ◌≤◌, Bool, true, false, not, ◌&&◌, ◌==◌, List, Option, Some, None, IfSome, is_some, unwrap_or, get_or, if◌then◌else◌}
-use Rattle.std.proofs.Common.{arith, refl, sym, ◌⊎◌, inl, inr}
-use Rattle.std.proofs.lemmas.Bool.Decides.{nat_tests}
-use Rattle.tcc_maps.specs.Words.{line_of, place_of}
-use Rattle.tcc_maps.specs.Masks.{hit}
-use Rattle.tcc_maps.specs.Nodes.{Dir, Msg, TidReq, TidGrant, LoadReq, Fill, Skip, Probe, ProbeReply, Mark, Commit, Abort, WriteBack, Flush, DataReq, Inv, InvAck}
-use Rattle.tcc_maps.specs.Shape.{Shape, home}
-use Rattle.tcc_maps.specs.Cache.{Cache}
-use Rattle.tcc_maps.specs.CacheChange.{filled, cleaned, invalidated, rolled_back, read_cleared}
+use Rattle.tcc_serial.proofs.Names.{ℕ, ◌≡◌, ◌<◌, ◌≤◌, Bool, true, false, not, ◌&&◌, ◌==◌, List, Option, Some, None, IfSome, is_some}
+use Rattle.tcc_serial.proofs.Names.{unwrap_or, get_or, if◌then◌else◌, arith, refl, sym, ◌⊎◌, inl, inr, nat_tests, line_of, place_of, hit}
+use Rattle.tcc_serial.proofs.Names.{Dir, Msg, TidReq, TidGrant, LoadReq, Fill, Skip, Probe, ProbeReply, Mark, Commit, Abort, WriteBack}
+use Rattle.tcc_serial.proofs.Names.{Flush, DataReq, Inv, InvAck, Shape, home, Cache, filled, cleaned, invalidated, rolled_back}
+use Rattle.tcc_serial.proofs.Names.{read_cleared, CoreState, Awaited, Phase, Running, AwaitTid, DoomedTid, Probing, Ready, Overflowing}
+use Rattle.tcc_serial.proofs.Names.{Solo, Halted, nothing, to, marks_for, moves, roll_back, ignored, grant, grant_phase, probe_reply}
+use Rattle.tcc_serial.proofs.Names.{reply_phase, replied, all_replied, when_ready, when_alone, fill, fill_awaited, data_request, invalidate}
+use Rattle.tcc_serial.proofs.Names.{acknowledged, if_violated, is_violated, is_above, violated_in, without, from_dir, OneCore, has_tid}
+use Rattle.tcc_serial.proofs.Names.{hit-line, hit-reads}
 use Rattle.tcc_maps.specs.CacheLook.{reads_masked}
-use Rattle.tcc_rules.specs.State.{CoreState, Awaited, Phase, Running, AwaitTid, DoomedTid, Probing, Ready, Overflowing, Solo, Halted}
-use Rattle.tcc_rules.specs.Sends.{nothing, to, marks_for}
-use Rattle.tcc_rules.specs.Attempt.{moves, roll_back}
-use Rattle.tcc_rules.specs.CoreDeliver.{ignored, grant, grant_phase, probe_reply, reply_phase, replied, all_replied, when_ready, when_alone, fill, fill_awaited, data_request, invalidate, acknowledged, if_violated, is_violated, is_above, violated_in, without, from_dir}
-use Rattle.tcc_serial.specs.OneCore.{OneCore}
-use Rattle.tcc_serial.specs.Tids.{has_tid}
-use Rattle.tcc_serial.proofs.OneCore.CoreReads.{Reads, Reading, Cleared, ValidOrPassed, ReadOf, read-kept, reads-same, as-before, tid-kept, no-tid}
-use Rattle.tcc_attempt.proofs.Lemmas.{hit-line, hit-reads}
+use Rattle.tcc_serial.proofs.OneCore.CoreReads.{Reads, Reading, Cleared, ValidOrPassed, ReadOf, read-kept, reads-same, as-before, tid-kept}
+use Rattle.tcc_serial.proofs.OneCore.CoreReads.{no-tid}
 
 same : (s : CoreState) → Reading s s
 same s = as-before s s refl (reads-same s.cache)

@@ -1,18 +1,12 @@
 -- What comes to a core leaves its checkpoint and its end, and so does an eviction: only an instruction commits.
-use Rattle.std.specs.Prelude.{ℕ, List, ◌≡◌, Bool, true, false, not, ◌==◌, ◌&&◌, ◌||◌, Option, Some, None, IfSome, if◌then◌else◌}
-use Rattle.std.proofs.Common.{refl}
-use Rattle.tcc_maps.specs.Words.{any_below}
-use Rattle.tcc_maps.specs.Nodes.{Dir, Msg, TidReq, TidGrant, LoadReq, Fill, Skip, Probe, ProbeReply, Mark, Commit, Abort, WriteBack, Flush, DataReq, Inv, InvAck}
-use Rattle.tcc_maps.specs.Shape.{Shape}
-use Rattle.tcc_maps.specs.Cache.{is_marked}
-use Rattle.tcc_maps.specs.CacheChange.{filled, evicted, read_cleared}
-use Rattle.tcc_maps.specs.Spilled.{spill_line}
-use Rattle.tcc_rules.specs.State.{CoreState, Awaited, Phase, Running, AwaitTid, DoomedTid, Probing, Ready, Overflowing, Solo, Halted}
-use Rattle.tcc_rules.specs.Sends.{nothing, to, marks_for, written_back}
-use Rattle.tcc_rules.specs.Attempt.{Out, moves, is_solo, roll_back}
-use Rattle.tcc_rules.specs.CoreEvict.{core_evict, evict_line, is_awaited}
-use Rattle.tcc_rules.specs.CoreDeliver.{grant, grant_phase, from_dir, probe_reply, reply_phase, when_ready, when_alone, replied, all_replied, fill, fill_awaited, data_request, invalidate, acknowledged, if_violated, is_violated, violated_in, without, ignored, probing, is_probed}
-use Rattle.tcc_serial.specs.Commits.{end_after}
+use Rattle.tcc_serial.proofs.Names.{ℕ, List, ◌≡◌, Bool, true, false, not, ◌==◌, ◌&&◌, ◌||◌, Option, Some, None, IfSome, if◌then◌else◌, refl}
+use Rattle.tcc_serial.proofs.Names.{any_below, Dir, Msg, TidReq, TidGrant, LoadReq, Fill, Skip, Probe, ProbeReply, Mark, Commit, Abort}
+use Rattle.tcc_serial.proofs.Names.{WriteBack, Flush, DataReq, Inv, InvAck, Shape, is_marked, filled, evicted, read_cleared, spill_line}
+use Rattle.tcc_serial.proofs.Names.{CoreState, Awaited, Phase, Running, AwaitTid, DoomedTid, Probing, Ready, Overflowing, Solo, Halted}
+use Rattle.tcc_serial.proofs.Names.{nothing, to, marks_for, written_back, Out, moves, is_solo, roll_back, core_evict, evict_line}
+use Rattle.tcc_serial.proofs.Names.{is_awaited, grant, grant_phase, from_dir, probe_reply, reply_phase, when_ready, when_alone, replied}
+use Rattle.tcc_serial.proofs.Names.{all_replied, fill, fill_awaited, data_request, invalidate, acknowledged, if_violated, is_violated}
+use Rattle.tcc_serial.proofs.Names.{violated_in, without, ignored, probing, is_probed, end_after}
 
 pub record Rests (s : CoreState) (o : Out) : Type 0 where
   pub commit : o.commit ≡ None

@@ -1,21 +1,15 @@
 -- What a core's rules leave alone: evictions, fills, data requests, invalidations.
-use Rattle.std.specs.Prelude.{ℕ, ◌+◌, ◌≡◌, ◌*◌, ◌%◌, Bool, true, false, not, List, [], ◌∷◌, ◌++◌, ◌==◌, ◌&&◌, ◌||◌, Option, Some, None, IfSome, if◌then◌else◌}
-use Rattle.std.proofs.Common.{arith, refl, sym, ap, ◌⊎◌, inl, inr}
-use Rattle.std.proofs.lemmas.Bool.Decides.{nat_tests}
-use Rattle.tcc_base.specs.Put.{put}
-use Rattle.tcc_maps.specs.Words.{any_word, any_below, line_of}
-use Rattle.tcc_maps.specs.Nodes.{Node, Dir, Vendor, Tagged, InvAck, Abort}
-use Rattle.tcc_maps.specs.Shape.{Shape, home, lines}
-use Rattle.tcc_maps.specs.Cache.{Cache, writes_at, reads_at, is_modified, is_marked, keeps, dirty_copy}
-use Rattle.tcc_maps.specs.CacheChange.{evicted, evicted_line, filled, cleaned, invalidated, read_cleared}
-use Rattle.tcc_maps.specs.Spilled.{spill_line}
-use Rattle.tcc_maps.proofs.Lemmas.{any_below-at}
-use Rattle.tcc_rules.specs.State.{CoreState, Awaited, Phase, Running, AwaitTid, DoomedTid, Probing, Ready, Overflowing, Solo, Halted}
-use Rattle.tcc_rules.specs.Sends.{Sends, nothing, to, flushed, write_back, written_back, abort_written, skip_all, to_dirs, when, marks_for}
-use Rattle.tcc_rules.specs.Attempt.{Out, moves, is_solo, roll_back}
-use Rattle.tcc_rules.specs.CoreEvict.{core_evict, evict_line, is_awaited}
-use Rattle.tcc_rules.specs.CoreDeliver.{ignored, fill, fill_awaited, data_request, invalidate, acknowledged, if_violated, is_violated, violated_in, without, probe_reply, reply_phase, replied, all_replied, when_ready, when_alone}
-use Rattle.tcc_serial.specs.Count.{Protocol, among, passes}
+use Rattle.tcc_serial.proofs.Names.{ℕ, ◌+◌, ◌≡◌, ◌*◌, ◌%◌, Bool, true, false, not, List, [], ◌∷◌, ◌++◌, ◌==◌, ◌&&◌, ◌||◌, Option, Some}
+use Rattle.tcc_serial.proofs.Names.{None, IfSome, if◌then◌else◌, arith, refl, sym, ap, ◌⊎◌, inl, inr, nat_tests, put, any_word, any_below}
+use Rattle.tcc_serial.proofs.Names.{line_of, Node, Dir, Vendor, Tagged, InvAck, Abort, Shape, home, lines, Cache, writes_at, reads_at}
+use Rattle.tcc_serial.proofs.Names.{is_modified, is_marked, keeps, dirty_copy, evicted, evicted_line, filled, cleaned, invalidated}
+use Rattle.tcc_serial.proofs.Names.{read_cleared, spill_line, any_below-at, CoreState, Awaited, Phase, Running, AwaitTid, DoomedTid}
+use Rattle.tcc_serial.proofs.Names.{Probing, Ready, Overflowing, Solo, Halted, Sends, nothing, to, flushed, written_back, abort_written}
+use Rattle.tcc_serial.proofs.Names.{skip_all, to_dirs, when, marks_for, Out, moves, is_solo, roll_back, core_evict, evict_line, is_awaited}
+use Rattle.tcc_serial.proofs.Names.{ignored, fill, fill_awaited, data_request, invalidate, acknowledged, if_violated, is_violated}
+use Rattle.tcc_serial.proofs.Names.{violated_in, without, probe_reply, reply_phase, replied, all_replied, when_ready, when_alone, Protocol}
+use Rattle.tcc_serial.proofs.Names.{among, passes}
+use Rattle.tcc_rules.specs.Sends.{write_back}
 use Rattle.tcc_serial.proofs.OneCore.Executes.{Acts, Steady, flushed-quiet}
 
 -- written and read directories depend on the modified and the read words alone

@@ -1,21 +1,13 @@
 -- What executing an instruction may come to, as far as TIDs and messages about them go.
-use Rattle.std.specs.Prelude.{ℕ, ◌≡◌, Bool, true, false, not, [], ◌∷◌, ◌==◌, ◌||◌, Option, Some, None, IfSome, is_some, if◌then◌else◌}
-use Rattle.std.proofs.Common.{refl, ap₂, ◌∙◌}
-use Rattle.tcc_base.specs.declared.access.Size.TheVariants.{Byte, Half, Word}
-use Rattle.tcc_program.specs.Program.{Program, Need, Nothing, Loads, Stores, Changes, Prints, Ends, Halts, Traps}
-use Rattle.tcc_program.specs.Ram.{word_of}
-use Rattle.tcc_maps.specs.Words.{line_of}
-use Rattle.tcc_maps.specs.Nodes.{Dir, Vendor, TidReq, Tagged, LoadReq}
-use Rattle.tcc_maps.specs.Shape.{Shape, home, set_of}
-use Rattle.tcc_maps.specs.Cache.{Cache, dirty_copy, free_way, all_marked}
-use Rattle.tcc_maps.specs.CacheChange.{marked}
-use Rattle.tcc_maps.specs.Spilled.{holds}
-use Rattle.tcc_rules.specs.State.{CoreState, Phase, Running, AwaitTid, DoomedTid, Probing, Ready, Overflowing, Solo, Halted}
-use Rattle.tcc_rules.specs.Sends.{Sends, nothing, to, flush, flushed}
-use Rattle.tcc_rules.specs.Attempt.{Out, moves, finished, stepped, is_running, is_solo, new_word}
-use Rattle.tcc_rules.specs.Commit.{noted, phase_after, committed_core, solo_commit, solo_sends}
-use Rattle.tcc_rules.specs.Execute.{ask, place, overflow, full_set, fetch, used, load_valid, load_spilled, load, buffered, framed, word_store, also_read, change_valid, change_spilled, partial_store, close, execute_need, execute}
-use Rattle.tcc_serial.specs.Count.{Protocol, among, passes}
+use Rattle.tcc_serial.proofs.Names.{ℕ, ◌≡◌, Bool, true, false, not, [], ◌∷◌, ◌==◌, ◌||◌, Option, Some, None, IfSome, is_some, if◌then◌else◌}
+use Rattle.tcc_serial.proofs.Names.{refl, ap₂, ◌∙◌, Byte, Half, Word, Program, Need, Nothing, Loads, Stores, Changes, Prints, Ends, Halts}
+use Rattle.tcc_serial.proofs.Names.{Traps, word_of, line_of, Dir, Vendor, TidReq, Tagged, LoadReq, Shape, home, set_of, Cache, dirty_copy}
+use Rattle.tcc_serial.proofs.Names.{free_way, all_marked, marked, holds, CoreState, Phase, Running, AwaitTid, DoomedTid, Probing, Ready}
+use Rattle.tcc_serial.proofs.Names.{Overflowing, Solo, Halted, Sends, nothing, to, flush, flushed, Out, moves, finished, stepped}
+use Rattle.tcc_serial.proofs.Names.{is_running, is_solo, new_word, noted, phase_after, committed_core, solo_commit, solo_sends, ask, place}
+use Rattle.tcc_serial.proofs.Names.{overflow, full_set, fetch, used, load_valid, load_spilled, load, buffered, framed, word_store}
+use Rattle.tcc_serial.proofs.Names.{also_read, change_valid, change_spilled, partial_store, close, execute_need, execute, Protocol, among}
+use Rattle.tcc_serial.proofs.Names.{passes}
 
 -- a core executes in these phases
 abbrev pub Acts : Phase → Type 0

@@ -1,16 +1,13 @@
 -- Instructions whose accesses are aligned leave words of 32 bits, and each word that they use is named by their loads or stores.
-use Rattle.std.specs.Prelude.{ℕ, zero, suc, ◌≡◌, ◌<◌, ◌%◌, ◌^◌, Bool, true, false, not, ◌&&◌, ◌||◌, ◌==◌, List, [], ◌∷◌, ◌++◌, Option, Some, None, IfSome, if◌then◌else◌}
-use Rattle.std.proofs.Common.{arith, refl}
+use Rattle.tcc_serial.proofs.Names.{ℕ, zero, suc, ◌≡◌, ◌<◌, ◌%◌, ◌^◌, Bool, true, false, not, ◌&&◌, ◌||◌, ◌==◌, List, [], ◌∷◌, ◌++◌, Option}
+use Rattle.tcc_serial.proofs.Names.{Some, None, IfSome, if◌then◌else◌, arith, refl, Load, Size, Word, Need, Nothing, Loads, Stores, Changes}
+use Rattle.tcc_serial.proofs.Names.{Prints, Ends, Halts, Traps, Program, Attempt, Outcome, Goes, Ended, Trapped, steps, plain_step}
+use Rattle.tcc_serial.proofs.Names.{when_going, then_step, word_of, patched, loaded, loads_word, stores_word, stores_whole, is_whole}
+use Rattle.tcc_serial.proofs.Names.{reads_word, uses_next, uses, AlignedNeed, Aligned, IsMemory, patched-small}
 use Rattle.tcc_base.specs.Bytes.{bytes_of}
-use Rattle.tcc_base.specs.declared.access.Load.{Load}
-use Rattle.tcc_base.specs.declared.access.Size.{Size}
-use Rattle.tcc_base.specs.declared.access.Size.TheVariants.{Word}
-use Rattle.tcc_program.specs.Program.{Need, Nothing, Loads, Stores, Changes, Prints, Ends, Halts, Traps, Program}
-use Rattle.tcc_program.specs.Plain.{Attempt, Outcome, Goes, Ended, Halted, Trapped, steps, stepped, plain_step, when_going, then_step}
-use Rattle.tcc_program.specs.Ram.{word_of, patched, loaded, stored}
-use Rattle.tcc_serial.specs.Uses.{loads_word, stores_word, stores_whole, is_whole, reads_word, uses_next, uses, AlignedNeed, Aligned, IsMemory}
+use Rattle.tcc_program.specs.Plain.{Halted, stepped}
+use Rattle.tcc_program.specs.Ram.{stored}
 use Rattle.tcc_serial.proofs.OneCore.UsedWords.{stored-put, stores_word-append}
-use Rattle.tcc_attempt.proofs.Lemmas.{patched-small}
 
 stored-memory : (base : ℕ) (ram : ℕ → ℕ) (addr : ℕ) (size : Size) (value : ℕ) → IsMemory ram → addr % bytes_of size ≡ 0 → IsMemory (stored base ram addr size value)
 stored-memory base ram addr size value m e w = rw stored-put (go (word_of base addr == w))

@@ -1,19 +1,11 @@
 -- A commit notes the loads and the stores of the attempt, and leaves none.
-use Rattle.std.specs.Prelude.{ℕ, [], ◌≡◌, Bool, true, false, not, ◌||◌, Option, Some, None, IfSome, is_some, if◌then◌else◌}
-use Rattle.std.proofs.Common.{refl}
-use Rattle.tcc_base.specs.declared.access.Size.TheVariants.{Byte, Half, Word}
-use Rattle.tcc_program.specs.Program.{Program, Need, Nothing, Loads, Stores, Changes, Prints, Ends, Halts, Traps}
-use Rattle.tcc_program.specs.Ram.{word_of}
-use Rattle.tcc_maps.specs.Words.{line_of}
-use Rattle.tcc_maps.specs.Shape.{Shape, set_of}
-use Rattle.tcc_maps.specs.Cache.{free_way, all_marked}
-use Rattle.tcc_maps.specs.Spilled.{holds}
-use Rattle.tcc_rules.specs.State.{CoreState, Awaited, Phase, Running, AwaitTid, DoomedTid, Probing, Ready, Overflowing, Solo, Halted}
-use Rattle.tcc_rules.specs.Sends.{nothing, flushed}
-use Rattle.tcc_rules.specs.Attempt.{Out, moves, finished, stepped, new_word, is_solo}
-use Rattle.tcc_rules.specs.Commit.{noted, commit, committed_core, solo_commit}
-use Rattle.tcc_rules.specs.CoreExec.{core_exec, exec_phase, unless_awaiting}
-use Rattle.tcc_rules.specs.Execute.{ask, place, overflow, full_set, fetch, load_valid, load_spilled, load, buffered, framed, word_store, also_read, change_valid, change_spilled, partial_store, close, execute_need, execute}
+use Rattle.tcc_serial.proofs.Names.{ℕ, [], ◌≡◌, Bool, true, false, not, ◌||◌, Option, Some, None, IfSome, is_some, if◌then◌else◌, refl}
+use Rattle.tcc_serial.proofs.Names.{Byte, Half, Word, Program, Need, Nothing, Loads, Stores, Changes, Prints, Ends, Halts, Traps, word_of}
+use Rattle.tcc_serial.proofs.Names.{line_of, Shape, set_of, free_way, all_marked, holds, CoreState, Awaited, Phase, Running, AwaitTid}
+use Rattle.tcc_serial.proofs.Names.{DoomedTid, Probing, Ready, Overflowing, Solo, Halted, nothing, flushed, Out, moves, finished, stepped}
+use Rattle.tcc_serial.proofs.Names.{new_word, is_solo, noted, commit, committed_core, solo_commit, core_exec, exec_phase, unless_awaiting}
+use Rattle.tcc_serial.proofs.Names.{ask, place, overflow, full_set, fetch, load_valid, load_spilled, load, buffered, framed, word_store}
+use Rattle.tcc_serial.proofs.Names.{also_read, change_valid, change_spilled, partial_store, close, execute_need, execute}
 
 -- what is noted are these loads and stores
 abbrev pub Notes : CoreState → Out → Type 0

@@ -1,28 +1,17 @@
 -- Executing an instruction keeps what holds of a core by itself.
-use Rattle.std.specs.Prelude.{ℕ, ◌*◌, ◌+◌, ◌≡◌, Bool, true, false, not, ◌&&◌, ◌||◌, ◌==◌, [], ◌∷◌, ◌++◌, Option, Some, None, IfSome, is_some, if◌then◌else◌}
-use Rattle.std.proofs.Common.{arith, refl, sym, ap, subst, ◌∙◌}
-use Rattle.std.proofs.lemmas.Bool.Decides.{nat_tests}
-use Rattle.tcc_base.specs.declared.access.Size.TheVariants.{Byte, Half, Word}
-use Rattle.tcc_base.specs.declared.access.Stored.{Stored}
-use Rattle.tcc_program.specs.Program.{Program, Need, Nothing, Loads, Stores, Changes, Prints, Ends, Halts, Traps}
-use Rattle.tcc_program.specs.Plain.{store_of}
-use Rattle.tcc_program.specs.Ram.{word_of, part}
-use Rattle.tcc_maps.specs.Words.{line_of, any_word}
-use Rattle.tcc_maps.specs.Shape.{Shape, set_of}
-use Rattle.tcc_maps.specs.Cache.{Cache, free_way, all_marked}
-use Rattle.tcc_maps.specs.CacheChange.{marked, placed, placed_at, committed, words_dropped}
-use Rattle.tcc_maps.specs.Spilled.{Spilled, none_spilled, holds}
-use Rattle.tcc_maps.proofs.Lemmas.{words_dropped-keeps, any_below-found}
-use Rattle.tcc_rules.specs.State.{CoreState, Awaited, Phase, Running, AwaitTid, DoomedTid, Probing, Ready, Overflowing, Solo, Halted}
-use Rattle.tcc_rules.specs.Sends.{nothing, flushed}
-use Rattle.tcc_rules.specs.Attempt.{moves, finished, stepped, is_running, is_solo, new_word}
-use Rattle.tcc_rules.specs.Commit.{commit, committed_core, phase_after, solo_commit}
-use Rattle.tcc_rules.specs.Execute.{ask, place, overflow, full_set, fetch, used, load_valid, load_spilled, load, buffered, framed, word_store, also_read, change_valid, change_spilled, partial_store, close, execute_need, execute}
-use Rattle.tcc_rules.specs.CoreExec.{core_exec, exec_phase, unless_awaiting}
-use Rattle.tcc_serial.specs.OneCore.{Words, OneCore, Empty, executes, rests}
+use Rattle.tcc_serial.proofs.Names.{ℕ, ◌*◌, ◌+◌, ◌≡◌, Bool, true, false, not, ◌&&◌, ◌||◌, ◌==◌, [], ◌∷◌, ◌++◌, Option, Some, None, IfSome}
+use Rattle.tcc_serial.proofs.Names.{is_some, if◌then◌else◌, arith, refl, sym, ap, subst, ◌∙◌, nat_tests, Byte, Half, Word, Stored, Program}
+use Rattle.tcc_serial.proofs.Names.{Need, Nothing, Loads, Stores, Changes, Prints, Ends, Halts, Traps, store_of, word_of, line_of, any_word}
+use Rattle.tcc_serial.proofs.Names.{Shape, set_of, Cache, free_way, all_marked, marked, placed, placed_at, committed, words_dropped}
+use Rattle.tcc_serial.proofs.Names.{Spilled, none_spilled, holds, words_dropped-keeps, any_below-found, CoreState, Awaited, Phase, Running}
+use Rattle.tcc_serial.proofs.Names.{AwaitTid, DoomedTid, Probing, Ready, Overflowing, Solo, Halted, nothing, flushed, moves, finished}
+use Rattle.tcc_serial.proofs.Names.{stepped, is_running, is_solo, new_word, commit, committed_core, phase_after, solo_commit, ask, place}
+use Rattle.tcc_serial.proofs.Names.{overflow, full_set, fetch, used, load_valid, load_spilled, load, buffered, framed, word_store}
+use Rattle.tcc_serial.proofs.Names.{also_read, change_valid, change_spilled, partial_store, close, execute_need, execute, core_exec}
+use Rattle.tcc_serial.proofs.Names.{exec_phase, unless_awaiting, Words, OneCore, Empty, executes, rests, valid-held}
+use Rattle.tcc_program.specs.Ram.{part}
 use Rattle.tcc_serial.proofs.OneCore.Executes.{Acts}
 use Rattle.tcc_serial.proofs.OneCore.WordsKept.{words-marked, words-placed, words-stored, words-buffered, words-committed}
-use Rattle.tcc_attempt.proofs.Lemmas.{valid-held}
 
 acts-execute : (q : Phase) → Acts q → executes q ≡ true
 acts-execute Running a = refl

@@ -1,23 +1,17 @@
 -- Evictions and messages keep what holds of a core by itself.
-use Rattle.std.specs.Prelude.{ℕ, ◌≡◌, ◌<◌, ◌≤◌, Bool, true, false, not, ◌&&◌, ◌||◌, ◌==◌, List, [], Option, Some, None, IfSome, nat_lt, if◌then◌else◌}
-use Rattle.std.proofs.Common.{arith, refl, sym, ap, subst, ◌∙◌, ◌⊎◌, inl, inr}
-use Rattle.std.proofs.lemmas.Bool.{cases_lt}
-use Rattle.std.proofs.lemmas.Bool.Decides.{nat_tests}
-use Rattle.tcc_base.specs.Put.{put}
-use Rattle.tcc_maps.specs.Words.{any_below, line_of}
+use Rattle.tcc_serial.proofs.Names.{ℕ, ◌≡◌, ◌<◌, ◌≤◌, Bool, true, false, not, ◌&&◌, ◌||◌, ◌==◌, List, [], Option, Some, None, IfSome}
+use Rattle.tcc_serial.proofs.Names.{nat_lt, if◌then◌else◌, arith, refl, sym, ap, subst, ◌∙◌, ◌⊎◌, inl, inr, cases_lt, nat_tests, put}
+use Rattle.tcc_serial.proofs.Names.{any_below, line_of, Dir, Msg, TidReq, TidGrant, LoadReq, Fill, Skip, Probe, ProbeReply, Mark, Commit}
+use Rattle.tcc_serial.proofs.Names.{Abort, WriteBack, Flush, DataReq, Inv, InvAck, Shape, Cache, is_marked, evicted, evicted_line, filled}
+use Rattle.tcc_serial.proofs.Names.{invalidated, cleaned, rolled_back, read_cleared, none_spilled, spill_line, CoreState, Awaited, Phase}
+use Rattle.tcc_serial.proofs.Names.{Running, AwaitTid, DoomedTid, Probing, Ready, Overflowing, Solo, Halted, nothing, to, marks_for}
+use Rattle.tcc_serial.proofs.Names.{written_back, moves, is_solo, roll_back, core_evict, evict_line, is_awaited, ignored, grant}
+use Rattle.tcc_serial.proofs.Names.{grant_phase, is_probed, probing, probe_reply, reply_phase, replied, all_replied, when_ready, when_alone}
+use Rattle.tcc_serial.proofs.Names.{fill, fill_awaited, data_request, invalidate, acknowledged, if_violated, is_violated, violated_in}
+use Rattle.tcc_serial.proofs.Names.{without, staled, from_dir, Words, OneCore, Empty, executes, awaits_replies, rests}
 use Rattle.tcc_serial.proofs.OneCore.CoreProbes.{none-below, all-replied}
-use Rattle.tcc_maps.specs.Nodes.{Dir, Msg, TidReq, TidGrant, LoadReq, Fill, Skip, Probe, ProbeReply, Mark, Commit, Abort, WriteBack, Flush, DataReq, Inv, InvAck}
-use Rattle.tcc_maps.specs.Shape.{Shape}
-use Rattle.tcc_maps.specs.Cache.{Cache, is_marked}
-use Rattle.tcc_maps.specs.CacheChange.{evicted, evicted_line, filled, invalidated, cleaned, rolled_back, read_cleared}
-use Rattle.tcc_maps.specs.Spilled.{none_spilled, spill_line}
-use Rattle.tcc_rules.specs.State.{CoreState, Awaited, Phase, Running, AwaitTid, DoomedTid, Probing, Ready, Overflowing, Solo, Halted}
-use Rattle.tcc_rules.specs.Sends.{nothing, to, marks_for, written_back}
-use Rattle.tcc_rules.specs.Attempt.{moves, is_solo, roll_back}
-use Rattle.tcc_rules.specs.CoreEvict.{core_evict, evict_line, is_awaited}
-use Rattle.tcc_rules.specs.CoreDeliver.{ignored, grant, grant_phase, is_probed, probing, probe_reply, reply_phase, replied, all_replied, when_ready, when_alone, fill, fill_awaited, data_request, invalidate, acknowledged, if_violated, is_violated, violated_in, without, staled, from_dir}
-use Rattle.tcc_serial.specs.OneCore.{Words, OneCore, Empty, executes, awaits_replies, rests}
-use Rattle.tcc_serial.proofs.OneCore.WordsKept.{words-evicted, words-evicted_unmarked, words-filled, words-invalidated, words-cleaned, words-rolled, words-alone}
+use Rattle.tcc_serial.proofs.OneCore.WordsKept.{words-evicted, words-evicted_unmarked, words-filled, words-invalidated, words-cleaned}
+use Rattle.tcc_serial.proofs.OneCore.WordsKept.{words-rolled, words-alone}
 
 -- a line that isn't awaited keeps its frame where another is emptied
 evicted-held : (c : Cache) (s y l m : ℕ) → c.at s y ≡ Some l → (m == l) ≡ false → c.held m ≡ true → (evicted s y c).held m ≡ true

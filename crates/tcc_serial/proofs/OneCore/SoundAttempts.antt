@@ -1,18 +1,9 @@
 -- An attempt whose view is current is sound, and else it is doomed.
-use Rattle.std.specs.Prelude.{ℕ, ◌≡◌, ◌<◌, ◌≤◌, ◌⊎◌, List, [], ◌∷◌, Option, Some, None, IsSomeAnd}
-use Rattle.std.proofs.Common.{arith, refl, sym, inl, inr}
-use Rattle.tcc_base.specs.declared.access.Commit.{Commit as Noted}
-use Rattle.tcc_program.specs.Plain.{begun, steps}
-use Rattle.tcc_program.specs.Program.{Program}
-use Rattle.tcc_maps.specs.Words.{line_of}
-use Rattle.tcc_maps.specs.Shape.{Shape, home}
-use Rattle.tcc_rules.specs.State.{CoreState, Phase, Running, AwaitTid, DoomedTid, Probing, Ready, Overflowing, Solo, Halted, World}
-use Rattle.tcc_attempt.specs.Follows.{Uses, Agrees, IsSmall, Reaches, FollowsIn}
-use Rattle.tcc_serial.specs.Owners.{holder}
-use Rattle.tcc_serial.specs.Pairs.{pair}
+use Rattle.tcc_serial.proofs.Names.{ℕ, ◌≡◌, ◌<◌, ◌≤◌, ◌⊎◌, List, [], ◌∷◌, Option, Some, None, IsSomeAnd, arith, refl, sym, inl, inr, Noted}
+use Rattle.tcc_serial.proofs.Names.{begun, steps, Program, line_of, Shape, home, CoreState, Phase, Running, AwaitTid, DoomedTid, Probing}
+use Rattle.tcc_serial.proofs.Names.{Ready, Overflowing, Solo, Halted, World, Uses, Agrees, IsSmall, Reaches, FollowsIn, holder, pair}
+use Rattle.tcc_serial.proofs.Names.{IsBound, value_at, IsDoomed, EachUse}
 use Rattle.tcc_serial.specs.Sound.{values_for, Doomed, SoundOrDoomed, AttemptsSound}
-use Rattle.tcc_serial.specs.Standing.{IsBound}
-use Rattle.tcc_serial.specs.Values.{value_at, IsDoomed, EachUse}
 
 -- the bound is the core's alone
 bound-at : (w : World) (c d e : ℕ) (b : Option ℕ) → IsBound b (pair w c d) → IsBound b (pair w c e)

@@ -1,15 +1,13 @@
 -- Instructions over two memories that agree on the words used give the same.
-use Rattle.std.specs.Prelude.{ℕ, zero, suc, ◌≡◌, ◌<◌, ◌%◌, ◌^◌, Bool, true, false, not, ◌&&◌, ◌||◌, ◌==◌, List, [], ◌∷◌, ◌++◌, Option, Some, None, MatchOption, if◌then◌else◌}
-use Rattle.std.proofs.Common.{arith, refl, ap, sym, ◌∙◌}
-use Rattle.std.proofs.lemmas.Bool.Decides.{nat_tests}
+use Rattle.tcc_serial.proofs.Names.{ℕ, zero, suc, ◌≡◌, ◌<◌, ◌%◌, ◌^◌, Bool, true, false, not, ◌&&◌, ◌||◌, ◌==◌, List, [], ◌∷◌, ◌++◌, Option}
+use Rattle.tcc_serial.proofs.Names.{Some, None, MatchOption, if◌then◌else◌, arith, refl, ap, sym, ◌∙◌, nat_tests, Size, Byte, Half, Word}
+use Rattle.tcc_serial.proofs.Names.{Stored, Local, Need, Nothing, Loads, Stores, Changes, Prints, Ends, Halts, Traps, Program, Attempt}
+use Rattle.tcc_serial.proofs.Names.{Outcome, Goes, Ended, Trapped, steps, begun, plain_step, when_going, then_step, store_of, word_of}
+use Rattle.tcc_serial.proofs.Names.{unit_of, patched, loaded, stores_word, stores_whole, is_whole, reads_word, uses_next, uses, AlignedNeed}
+use Rattle.tcc_serial.proofs.Names.{Aligned, IsMemory, Follows, AgreeOnUsed}
 use Rattle.tcc_base.specs.Bytes.{bytes_of}
-use Rattle.tcc_base.specs.declared.access.Size.{Size}
-use Rattle.tcc_base.specs.declared.access.Size.TheVariants.{Byte, Half, Word}
-use Rattle.tcc_base.specs.declared.access.Stored.{Stored}
-use Rattle.tcc_program.specs.Program.{Local, Need, Nothing, Loads, Stores, Changes, Prints, Ends, Halts, Traps, Program}
-use Rattle.tcc_program.specs.Plain.{Attempt, Outcome, Goes, Ended, Halted, Trapped, steps, begun, stepped, plain_step, when_going, then_step, store_of}
-use Rattle.tcc_program.specs.Ram.{word_of, unit_of, patched, loaded, stored}
-use Rattle.tcc_serial.specs.Uses.{stores_word, stores_whole, is_whole, reads_word, uses_next, uses, AlignedNeed, Aligned, IsMemory, Follows, AgreeOnUsed}
+use Rattle.tcc_program.specs.Plain.{Halted, stepped}
+use Rattle.tcc_program.specs.Ram.{stored}
 
 -- what a whole store leaves doesn't depend on the word's old value
 patched-whole : (word addr value : ℕ) → word < 2 ^ 32 → addr % 4 ≡ 0 → patched word addr Word value ≡ value % 2 ^ 32

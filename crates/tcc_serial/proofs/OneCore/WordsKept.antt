@@ -1,22 +1,13 @@
 -- What each change of a cache or of the overflow buffer does to the words of an attempt.
-use Rattle.std.specs.Prelude.{ℕ, ◌+◌, ◌*◌, ◌%◌, ◌≡◌, Bool, true, false, not, ◌&&◌, ◌||◌, ◌==◌, List, [], ◌∷◌, ◌++◌, Option, Some, None, is_some, unwrap_or, if◌then◌else◌}
-use Rattle.std.proofs.Common.{arith, refl, sym, ap, ◌∙◌}
-use Rattle.std.proofs.lemmas.Bool.Decides.{nat_tests}
-use Rattle.tcc_base.specs.Put.{put}
-use Rattle.tcc_base.specs.declared.access.Stored.{Stored}
-use Rattle.tcc_program.specs.Ram.{word_of}
-use Rattle.tcc_maps.specs.Words.{line_of, any_word, any_below}
-use Rattle.tcc_maps.specs.Shape.{Shape, set_of}
-use Rattle.tcc_maps.specs.Cache.{Cache, IsCache, free_way, is_marked}
-use Rattle.tcc_maps.specs.CacheChange.{marked, stored, placed, placed_at, filled, invalidated, cleaned, evicted, evicted_line, rolled_back, read_cleared, committed}
-use Rattle.tcc_maps.specs.Spilled.{Spilled, spill_line, holds}
-use Rattle.tcc_maps.proofs.Lemmas.{any_below-at, marked-keeps, stored-keeps, placed-keeps, filled-keeps, invalidated-keeps, cleaned-keeps, evicted-keeps, rolled_back-keeps, read_cleared-keeps, committed-keeps}
-use Rattle.tcc_serial.specs.Uses.{stores_word}
-use Rattle.tcc_serial.specs.OneCore.{Words}
+use Rattle.tcc_serial.proofs.Names.{ℕ, ◌+◌, ◌*◌, ◌%◌, ◌≡◌, Bool, true, false, not, ◌&&◌, ◌||◌, ◌==◌, List, [], ◌∷◌, ◌++◌, Option, Some}
+use Rattle.tcc_serial.proofs.Names.{None, is_some, unwrap_or, if◌then◌else◌, arith, refl, sym, ap, ◌∙◌, nat_tests, put, Stored, word_of}
+use Rattle.tcc_serial.proofs.Names.{line_of, any_word, any_below, Shape, set_of, Cache, IsCache, free_way, is_marked, marked, stored}
+use Rattle.tcc_serial.proofs.Names.{placed, placed_at, filled, invalidated, cleaned, evicted, evicted_line, rolled_back, read_cleared}
+use Rattle.tcc_serial.proofs.Names.{committed, Spilled, spill_line, holds, any_below-at, marked-keeps, stored-keeps, placed-keeps}
+use Rattle.tcc_serial.proofs.Names.{filled-keeps, invalidated-keeps, cleaned-keeps, evicted-keeps, rolled_back-keeps, read_cleared-keeps}
+use Rattle.tcc_serial.proofs.Names.{committed-keeps, stores_word, Words, hit, valid-held}
 use Rattle.tcc_serial.proofs.OneCore.UsedWords.{stores_word-append}
 use Rattle.tcc_serial.proofs.OneCore.CoreSteps.{unmarked-word}
-use Rattle.tcc_maps.specs.Masks.{hit}
-use Rattle.tcc_attempt.proofs.Lemmas.{valid-held}
 
 -- a line of which nothing is spilled
 unspilled : (sp : Spilled) (l v : ℕ) → holds sp l ≡ false → line_of v ≡ l → is_some (sp v) ≡ true → ⊥

@@ -1,19 +1,9 @@
 -- What a core that may commit sees at its TID: the commits before it, all of which have come to the homes of the words that it used.
-use Rattle.std.specs.Prelude.{ℕ, ◌≡◌, ◌<◌, ◌≤◌, ◌⊎◌, Bool, true, false, ◌==◌, ◌&&◌, ◌||◌, List, [], ◌∷◌, ◌++◌, map, Option, Some, nat_lt, if◌then◌else◌}
-use Rattle.std.proofs.Common.{arith, refl, sym, ap, ◌∙◌, inl, inr}
-use Rattle.std.proofs.lemmas.Bool.Decides.{nat_tests}
-use Rattle.tcc_base.specs.declared.access.Commit.{Commit as Noted}
-use Rattle.tcc_maps.specs.Words.{num, line_of}
-use Rattle.tcc_maps.specs.Nodes.{Msg}
-use Rattle.tcc_maps.specs.Shape.{Shape, home}
-use Rattle.tcc_program.specs.Orders.{order_of_commit, last_tid}
-use Rattle.tcc_rules.specs.State.{DirState, World}
-use Rattle.tcc_attempt.specs.Follows.{Uses, Agrees}
-use Rattle.tcc_serial.specs.Count.{InvBelow, InvsNot, live, passes}
-use Rattle.tcc_serial.specs.Owners.{IsRising, times}
-use Rattle.tcc_serial.specs.Pairs.{pair}
-use Rattle.tcc_serial.specs.Standing.{is_applied, is_this}
-use Rattle.tcc_serial.specs.Values.{counts, after_commits, after_stores, value_at, IsDoomed, EachUse}
+use Rattle.tcc_serial.proofs.Names.{ℕ, ◌≡◌, ◌<◌, ◌≤◌, ◌⊎◌, Bool, true, false, ◌==◌, ◌&&◌, ◌||◌, List, [], ◌∷◌, ◌++◌, map, Option, Some}
+use Rattle.tcc_serial.proofs.Names.{nat_lt, if◌then◌else◌, arith, refl, sym, ap, ◌∙◌, inl, inr, nat_tests, Noted, num, line_of, Msg, Shape}
+use Rattle.tcc_serial.proofs.Names.{home, order_of_commit, last_tid, DirState, World, Uses, Agrees, InvBelow, InvsNot, live, passes}
+use Rattle.tcc_serial.proofs.Names.{IsRising, times, pair, is_applied, is_this, counts, after_commits, after_stores, value_at, IsDoomed}
+use Rattle.tcc_serial.proofs.Names.{EachUse}
 use Rattle.tcc_serial.proofs.Counts.Links.{live-fewer}
 use Rattle.tcc_serial.proofs.Order.CutCommits.{before, behind, cut-joined, Each, each-then, behind-larger, before-smaller}
 use Rattle.tcc_serial.proofs.Order.SerialParts.{all_stores}

@@ -1,39 +1,17 @@
 -- A core that commits has what its transaction needs to be inserted: every directory where it worked has reached its TID.
-use Rattle.std.specs.Prelude.{ℕ, ◌≡◌, ◌<◌, ◌≤◌, Bool, true, false, ◌==◌, ◌||◌, List, [], ◌∷◌, map, Contains, Some, None, is_some}
-use Rattle.std.proofs.Common.{arith, refl, sym, ap, subst, ◌∙◌, ◌⊎◌, inl, inr}
-use Rattle.std.proofs.lemmas.Bool.Decides.{nat_tests}
-use Rattle.tcc_base.specs.declared.access.Commit.{Commit as Noted}
-use Rattle.tcc_base.specs.declared.access.CoreEnd.TheVariants.{Run}
-use Rattle.tcc_program.specs.Orders.{order_of_commit}
-use Rattle.tcc_program.specs.Plain.{Plain, Outcome, serial}
-use Rattle.tcc_program.specs.Program.{Local, Program, Need, Nothing, Loads, Stores, Changes, Prints, Ends, Halts, Traps}
-use Rattle.tcc_maps.specs.Words.{num, line_of}
-use Rattle.tcc_maps.specs.Cache.{writes_at, reads_at}
-use Rattle.tcc_maps.specs.Shape.{Shape, home}
-use Rattle.tcc_rules.specs.State.{CoreState, Phase, Ready, Solo, World}
-use Rattle.tcc_rules.specs.Attempt.{Out, is_solo}
-use Rattle.tcc_rules.specs.Step.{History}
-use Rattle.tcc_attempt.specs.Follows.{Uses, Agrees, NeedFits, Fits}
-use Rattle.tcc_attempt.specs.Marks.{AllStand, UsesStand}
-use Rattle.tcc_serial.specs.Aim.{Suits}
-use Rattle.tcc_serial.specs.AtHomes.{UsedAtHomes, MarkedAtHomes}
-use Rattle.tcc_serial.specs.Commits.{plain_start, end_after}
-use Rattle.tcc_serial.specs.Invariants.{Invariants}
-use Rattle.tcc_serial.specs.Owners.{Grant, times, holder}
-use Rattle.tcc_serial.specs.Pairs.{pair}
-use Rattle.tcc_serial.specs.Probes.{asks_dir, may_commit, tid_of}
-use Rattle.tcc_serial.specs.Tids.{has_tid}
-use Rattle.tcc_serial.specs.Told.{live_way}
-use Rattle.tcc_serial.specs.Uses.{loads_word, stores_word, Aligned, AlignedNeed, IsMemory}
-use Rattle.tcc_serial.specs.Values.{EachUse}
-use Rattle.tcc_serial.specs.WayLaws.{is_given_up}
-use Rattle.tcc_serial.specs.Ways.{Untold, Ways}
-use Rattle.tcc_serial.specs.Worked.{worked_at}
+use Rattle.tcc_serial.proofs.Names.{ℕ, ◌≡◌, ◌<◌, ◌≤◌, Bool, true, false, ◌==◌, ◌||◌, List, [], ◌∷◌, map, Contains, Some, None, is_some}
+use Rattle.tcc_serial.proofs.Names.{arith, refl, sym, ap, subst, ◌∙◌, ◌⊎◌, inl, inr, nat_tests, Noted, Run, order_of_commit, Plain, Outcome}
+use Rattle.tcc_serial.proofs.Names.{serial, Local, Program, Need, Nothing, Loads, Stores, Changes, Prints, Ends, Halts, Traps, num, line_of}
+use Rattle.tcc_serial.proofs.Names.{writes_at, reads_at, Shape, home, CoreState, Phase, Ready, Solo, World, Out, is_solo, History, Uses}
+use Rattle.tcc_serial.proofs.Names.{Agrees, NeedFits, Fits, AllStand, UsesStand, Suits, UsedAtHomes, MarkedAtHomes, plain_start, end_after}
+use Rattle.tcc_serial.proofs.Names.{Invariants, Grant, times, holder, pair, asks_dir, may_commit, tid_of, has_tid, live_way, loads_word}
+use Rattle.tcc_serial.proofs.Names.{stores_word, Aligned, AlignedNeed, IsMemory, EachUse, is_given_up, Untold, Ways, worked_at}
 use Rattle.tcc_serial.proofs.Order.BelowBound.{home-below, agrees-before}
 use Rattle.tcc_serial.proofs.Order.ClosedInserted.{CanClose, ClosedSerial, closed-serial}
 use Rattle.tcc_serial.proofs.Tids.Commits.{numbered-least}
 use Rattle.tcc_serial.proofs.OneCore.CoreCloses.{Closing}
-use Rattle.tcc_serial.proofs.Order.CutCommits.{before, behind, cut-joined, Each, each-listed, each-behind, each-both, each-then, behind-larger, orders-another, touch-none}
+use Rattle.tcc_serial.proofs.Order.CutCommits.{before, behind, cut-joined, Each, each-listed, each-behind, each-both, each-then}
+use Rattle.tcc_serial.proofs.Order.CutCommits.{behind-larger, orders-another, touch-none}
 use Rattle.tcc_serial.proofs.Order.InsertedOrders.{serial-memory}
 use Rattle.tcc_serial.proofs.Tids.ListedCommits.{granted-at}
 use Rattle.tcc_serial.proofs.Memory.MemoryHomes.{accesses_at_homes, marks_at_homes}

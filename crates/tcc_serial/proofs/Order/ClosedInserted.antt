@@ -1,21 +1,10 @@
 -- The transaction of a core that commits, inserted into the serial execution at its TID.
-use Rattle.std.specs.Prelude.{ℕ, ◌≡◌, ◌≤◌, ◌≢◌, true, false, List, ◌∷◌, ◌++◌, map, Option, Some, None, IsSomeAnd}
-use Rattle.std.proofs.Common.{refl, sym, ap, subst, ◌∙◌}
-use Rattle.std.proofs.lemmas.List.{map-append}
-use Rattle.tcc_base.specs.declared.access.Commit.{Commit as Noted}
-use Rattle.tcc_base.specs.declared.access.CoreEnd.{CoreEnd}
-use Rattle.tcc_base.specs.declared.access.CoreEnd.TheVariants.{Run, Halt, Trap}
-use Rattle.tcc_program.specs.Orders.{order_of_commit, last_tid}
-use Rattle.tcc_program.specs.Plain.{Attempt, Plain, Order, Outcome, Goes, Ended, Halted as HaltedWith, Trapped as TrappedWith, begun, steps, closed, end_of, transaction, commit_of, serial}
-use Rattle.tcc_program.specs.Program.{Local, Program}
-use Rattle.tcc_rules.specs.State.{CoreState}
-use Rattle.tcc_rules.specs.Commit.{noted, phase_after, ended_after}
-use Rattle.tcc_rules.specs.Step.{insert_commit}
-use Rattle.tcc_attempt.specs.Follows.{HasEnded}
-use Rattle.tcc_serial.specs.Commits.{end_after}
-use Rattle.tcc_serial.specs.Insertion.{commits_touch, orders_core, Again, Inserted, CanInsert}
-use Rattle.tcc_serial.specs.Owners.{times}
-use Rattle.tcc_serial.specs.Uses.{stores_word, Aligned, IsMemory}
+use Rattle.tcc_serial.proofs.Names.{ℕ, ◌≡◌, ◌≤◌, ◌≢◌, true, false, List, ◌∷◌, ◌++◌, map, Option, Some, None, IsSomeAnd, refl, sym, ap}
+use Rattle.tcc_serial.proofs.Names.{subst, ◌∙◌, map-append, Noted, CoreEnd, Run, Halt, Trap, order_of_commit, last_tid, Attempt, Plain}
+use Rattle.tcc_serial.proofs.Names.{Order, Outcome, Goes, Ended, HaltedWith, TrappedWith, begun, steps, closed, end_of, transaction}
+use Rattle.tcc_serial.proofs.Names.{commit_of, serial, Local, Program, CoreState, noted, phase_after, ended_after, insert_commit, HasEnded}
+use Rattle.tcc_serial.proofs.Names.{end_after, commits_touch, orders_core, Again, Inserted, CanInsert, times, stores_word, Aligned}
+use Rattle.tcc_serial.proofs.Names.{IsMemory}
 use Rattle.tcc_serial.proofs.OneCore.CoreCloses.{Gives}
 use Rattle.tcc_serial.proofs.Order.CutCommits.{before, behind, cut-inserted, behind-below, before-smaller}
 use Rattle.tcc_serial.proofs.Order.BelowBound.{last-below}

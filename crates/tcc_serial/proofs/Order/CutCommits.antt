@@ -1,14 +1,7 @@
 -- The commits cut at a TID: those before it and those behind it, and a commit of this TID between them.
-use Rattle.std.specs.Prelude.{ℕ, suc, ◌≡◌, ◌<◌, ◌≤◌, Bool, true, false, ◌==◌, ◌||◌, List, [], ◌∷◌, ◌++◌, map, Contains, nat_lt, if◌then◌else◌}
-use Rattle.std.proofs.Common.{arith, refl, ap}
-use Rattle.std.proofs.lemmas.Bool.Decides.{nat_tests}
-use Rattle.tcc_base.specs.declared.access.Commit.{Commit as Noted}
-use Rattle.tcc_maps.specs.Words.{num}
-use Rattle.tcc_program.specs.Orders.{order_of_commit}
-use Rattle.tcc_rules.specs.Step.{insert_commit}
-use Rattle.tcc_serial.specs.Insertion.{commits_touch, orders_core, IsBelow}
-use Rattle.tcc_serial.specs.Owners.{IsRising, times}
-use Rattle.tcc_serial.specs.Uses.{loads_word, stores_word}
+use Rattle.tcc_serial.proofs.Names.{ℕ, suc, ◌≡◌, ◌<◌, ◌≤◌, Bool, true, false, ◌==◌, ◌||◌, List, [], ◌∷◌, ◌++◌, map, Contains, nat_lt}
+use Rattle.tcc_serial.proofs.Names.{if◌then◌else◌, arith, refl, ap, nat_tests, Noted, num, order_of_commit, insert_commit, commits_touch}
+use Rattle.tcc_serial.proofs.Names.{orders_core, IsBelow, IsRising, times, loads_word, stores_word}
 
 unfoldable pub before : (tid : ℕ) → List Noted → List Noted
 before t [] = []

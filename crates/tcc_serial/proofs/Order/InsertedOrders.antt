@@ -1,14 +1,10 @@
 -- A serial execution in two parts, and one more transaction between them.
-use Rattle.std.specs.Prelude.{ℕ, ◌≡◌, ◌<◌, ◌≢◌, Bool, true, false, List, [], ◌∷◌, ◌++◌, Option, Some, None, IfSome, nat_lt, if◌then◌else◌}
-use Rattle.std.proofs.Common.{arith, refl, ap, sym, ◌∙◌}
-use Rattle.std.proofs.lemmas.Bool.Decides.{nat_tests}
+use Rattle.tcc_serial.proofs.Names.{ℕ, ◌≡◌, ◌<◌, ◌≢◌, Bool, true, false, List, [], ◌∷◌, ◌++◌, Option, Some, None, IfSome, nat_lt}
+use Rattle.tcc_serial.proofs.Names.{if◌then◌else◌, arith, refl, ap, sym, ◌∙◌, nat_tests, last_tid, Program, Attempt, Plain, transaction}
+use Rattle.tcc_serial.proofs.Names.{Order, commit_of, and_commit, after_order, serial, stores_word, Aligned, IsMemory, commits_store}
+use Rattle.tcc_serial.proofs.Names.{commits_touch, orders_core, IsBelow, Again, Inserted, CanInsert}
 use Rattle.tcc_base.specs.declared.access.Commit.{Commit}
 use Rattle.tcc_program.proofs.Lemmas.{serial-append}
-use Rattle.tcc_program.specs.Orders.{last_tid}
-use Rattle.tcc_program.specs.Program.{Program}
-use Rattle.tcc_program.specs.Plain.{Attempt, Plain, transaction, Order, commit_of, and_commit, after_order, serial}
-use Rattle.tcc_serial.specs.Uses.{stores_word, Aligned, IsMemory}
-use Rattle.tcc_serial.specs.Insertion.{commits_store, commits_touch, orders_core, IsBelow, Again, Inserted, CanInsert}
 use Rattle.tcc_serial.proofs.Order.SerialAgain.{Twice, TwiceIf, transaction_twice, serial_again, commits_touch-store}
 
 pub orders_joined : (base : ℕ) (p : Program) (last : ℕ) (early late : List Order) (o : Order) (m start done end : Plain) (a : Attempt) (before after : List Commit) → CanInsert base p last early late o m start done end a before after → serial base p last (early ++ late) m ≡ Some (end, before ++ after)

@@ -1,15 +1,11 @@
 -- The same orders from another machine that agrees on the cores and words that they touch.
-use Rattle.std.specs.Prelude.{ℕ, ◌≡◌, ◌≢◌, Bool, true, false, ◌||◌, ◌==◌, List, [], ◌∷◌, Option, Some, None, MatchOption, IfSome, nat_lt, if◌then◌else◌}
-use Rattle.std.proofs.Common.{arith, refl, sym, subst, ◌∙◌}
-use Rattle.std.proofs.lemmas.Bool.Decides.{nat_tests}
-use Rattle.tcc_base.specs.Put.{put}
+use Rattle.tcc_serial.proofs.Names.{ℕ, ◌≡◌, ◌≢◌, Bool, true, false, ◌||◌, ◌==◌, List, [], ◌∷◌, Option, Some, None, MatchOption, IfSome}
+use Rattle.tcc_serial.proofs.Names.{nat_lt, if◌then◌else◌, arith, refl, sym, subst, ◌∙◌, nat_tests, put, CoreEnd, Run, Halt, Trap, Local}
+use Rattle.tcc_serial.proofs.Names.{Program, Attempt, Outcome, Goes, Ended, Trapped, steps, begun, Plain, closed, end_of, close_if, if_runs}
+use Rattle.tcc_serial.proofs.Names.{transaction, Order, commit_of, and_commit, after_order, serial, loads_word, stores_word, uses, Aligned}
+use Rattle.tcc_serial.proofs.Names.{IsMemory, Follows, AgreeOnUsed, commits_store, commits_touch, orders_core, Again}
 use Rattle.tcc_base.specs.declared.access.Commit.{Commit}
-use Rattle.tcc_base.specs.declared.access.CoreEnd.{CoreEnd}
-use Rattle.tcc_base.specs.declared.access.CoreEnd.TheVariants.{Run, Halt, Trap}
-use Rattle.tcc_program.specs.Program.{Local, Program}
-use Rattle.tcc_program.specs.Plain.{Attempt, Outcome, Goes, Ended, Halted, Trapped, steps, begun, Plain, closed, end_of, close, close_if, if_runs, transaction, Order, commit_of, and_commit, after_order, serial}
-use Rattle.tcc_serial.specs.Uses.{loads_word, stores_word, uses, Aligned, IsMemory, Follows, AgreeOnUsed}
-use Rattle.tcc_serial.specs.Insertion.{commits_store, commits_touch, orders_core, Again}
+use Rattle.tcc_program.specs.Plain.{Halted, close}
 use Rattle.tcc_serial.proofs.OneCore.UsedWords.{steps_follow}
 use Rattle.tcc_serial.proofs.OneCore.MemoryStays.{steps-memory, uses-named}
 

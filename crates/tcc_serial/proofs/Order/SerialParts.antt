@@ -1,18 +1,12 @@
 -- The serial execution that gave the commits, cut in two, and what it makes of each word.
-use Rattle.std.specs.Prelude.{ℕ, zero, suc, ◌≡◌, Bool, true, false, ◌==◌, List, [], ◌∷◌, ◌++◌, map, Option, Some, None, IfSome, nat_lt, if◌then◌else◌}
-use Rattle.std.proofs.Common.{arith, refl, ap, ap₂, sym, ◌∙◌}
-use Rattle.std.proofs.lemmas.Bool.Decides.{nat_tests}
-use Rattle.tcc_base.specs.declared.access.Commit.{Commit as Noted}
-use Rattle.tcc_base.specs.declared.access.Size.{Size}
-use Rattle.tcc_base.specs.declared.access.Stored.{Stored}
-use Rattle.tcc_base.specs.declared.access.Size.TheVariants.{Word}
-use Rattle.tcc_base.specs.declared.access.CoreEnd.{CoreEnd}
-use Rattle.tcc_base.specs.declared.access.CoreEnd.TheVariants.{Run, Halt, Trap}
-use Rattle.tcc_program.specs.Orders.{order_of_commit, last_tid}
-use Rattle.tcc_program.specs.Plain.{Attempt, Plain, Order, Outcome, Goes, Ended, Halted as HaltedWith, Trapped as TrappedWith, store_of, begun, steps, then_step, when_going, plain_step, stepped, transaction, close_if, close, closed, end_of, if_runs, commit_of, and_commit, after_order, serial}
-use Rattle.tcc_program.specs.Program.{Local, Program, Need, Nothing, Loads, Stores, Changes, Prints, Ends, Halts, Traps}
-use Rattle.tcc_program.specs.Ram.{word_of, patched, loaded, stored}
-use Rattle.tcc_serial.specs.Values.{after_stores}
+use Rattle.tcc_serial.proofs.Names.{ℕ, zero, suc, ◌≡◌, Bool, true, false, ◌==◌, List, [], ◌∷◌, ◌++◌, map, Option, Some, None, IfSome}
+use Rattle.tcc_serial.proofs.Names.{nat_lt, if◌then◌else◌, arith, refl, ap, ap₂, sym, ◌∙◌, nat_tests, Noted, Size, Stored, Word, CoreEnd}
+use Rattle.tcc_serial.proofs.Names.{Run, Halt, Trap, order_of_commit, last_tid, Attempt, Plain, Order, Outcome, Goes, Ended, HaltedWith}
+use Rattle.tcc_serial.proofs.Names.{TrappedWith, store_of, begun, steps, then_step, when_going, plain_step, transaction, close_if, closed}
+use Rattle.tcc_serial.proofs.Names.{end_of, if_runs, commit_of, and_commit, after_order, serial, Local, Program, Need, Nothing, Loads}
+use Rattle.tcc_serial.proofs.Names.{Stores, Changes, Prints, Ends, Halts, Traps, word_of, patched, loaded, after_stores}
+use Rattle.tcc_program.specs.Plain.{stepped, close}
+use Rattle.tcc_program.specs.Ram.{stored}
 use Rattle.tcc_serial.proofs.OneCore.UsedWords.{stored-put}
 
 -- cut in two

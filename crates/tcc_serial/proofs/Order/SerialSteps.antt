@@ -1,22 +1,10 @@
 -- Each event keeps the commits serial: an instruction that commits inserts its transaction, and no other event commits.
-use Rattle.std.specs.Prelude.{ℕ, ◌≡◌, ◌<◌, ◌≢◌, Bool, true, false, ◌==◌, List, [], Option, Some, None, IfSome, if◌then◌else◌}
-use Rattle.std.proofs.Common.{arith, refl, sym, subst, ◌∙◌}
-use Rattle.std.proofs.lemmas.Bool.Decides.{nat_tests}
-use Rattle.tcc_base.specs.declared.access.Commit.{Commit as Noted}
-use Rattle.tcc_program.specs.Plain.{Plain}
-use Rattle.tcc_program.specs.Program.{Local, Program}
-use Rattle.tcc_maps.specs.Nodes.{Core, Dir, Vendor, Msg, TidReq, TidGrant}
-use Rattle.tcc_maps.specs.Shape.{Shape}
-use Rattle.tcc_rules.specs.State.{CoreState, World}
-use Rattle.tcc_rules.specs.Links.{in_flight}
-use Rattle.tcc_rules.specs.Attempt.{Out}
-use Rattle.tcc_rules.specs.CoreExec.{core_exec}
-use Rattle.tcc_rules.specs.CoreEvict.{core_evict}
-use Rattle.tcc_rules.specs.CoreDeliver.{from_dir, grant}
-use Rattle.tcc_rules.specs.DirDeliver.{Answer, Waits, Drops, Asks, Takes, dir_deliver}
-use Rattle.tcc_rules.specs.Step.{History, Stepped, and_noted, recorded, next, step, core_moves, core_takes, dir_takes, dir_asks, vendor_gives}
-use Rattle.tcc_serial.specs.Commits.{plain_start, CommitsSerial, CoreSerial, CoresSerial}
-use Rattle.tcc_serial.specs.SerialKept.{IsSerial, EventsKeepSerial}
+use Rattle.tcc_serial.proofs.Names.{ℕ, ◌≡◌, ◌<◌, ◌≢◌, Bool, true, false, ◌==◌, List, [], Option, Some, None, IfSome, if◌then◌else◌, arith}
+use Rattle.tcc_serial.proofs.Names.{refl, sym, subst, ◌∙◌, nat_tests, Noted, Plain, Local, Program, Core, Dir, Vendor, Msg, TidReq}
+use Rattle.tcc_serial.proofs.Names.{TidGrant, Shape, CoreState, World, in_flight, Out, core_exec, core_evict, from_dir, grant, Answer}
+use Rattle.tcc_serial.proofs.Names.{Waits, Drops, Asks, Takes, dir_deliver, History, Stepped, and_noted, recorded, next, step, core_moves}
+use Rattle.tcc_serial.proofs.Names.{core_takes, dir_takes, dir_asks, vendor_gives, plain_start, CommitsSerial, CoreSerial, CoresSerial}
+use Rattle.tcc_serial.proofs.Names.{IsSerial, EventsKeepSerial}
 use Rattle.tcc_serial.proofs.Order.ClosedCores.{closed-core}
 use Rattle.tcc_serial.proofs.Order.ClosedInserted.{ClosedSerial}
 use Rattle.tcc_serial.proofs.OneCore.CoreCloses.{Closing, Leaves, Stays, Closes, exec-leaves}

@@ -1,22 +1,11 @@
 -- The whole list along every run, from what each event keeps of it; and so every run is serial.
-use Rattle.std.specs.Prelude.{ℕ, ◌≡◌, List, [], ◌∷◌, ◌++◌, Option, Some, None, IfSome}
-use Rattle.std.proofs.Common.{refl, subst, sym, append_assoc}
-use Rattle.std.proofs.lemmas.List.{append-nil}
-use Rattle.tcc_program.specs.Plain.{Plain}
-use Rattle.tcc_program.specs.Program.{Local, Program}
-use Rattle.tcc_maps.specs.Nodes.{Event}
-use Rattle.tcc_maps.specs.Shape.{Shape}
-use Rattle.tcc_rules.specs.State.{start}
-use Rattle.tcc_rules.specs.Step.{History, next, and_then, run_from, run}
-use Rattle.tcc_attempt.specs.Views.{Views, no_views, views_after, views_from}
-use Rattle.tcc_serial.specs.Aim.{Suits, AllHold, IsSerialExecution, RunsAreSerial}
-use Rattle.tcc_serial.specs.Commits.{plain_start}
-use Rattle.tcc_serial.specs.Invariants.{Carried, CarriedInMemory, CarriedViews, Invariants, first_state}
+use Rattle.tcc_serial.proofs.Names.{ℕ, ◌≡◌, List, [], ◌∷◌, ◌++◌, Option, Some, None, IfSome, refl, subst, sym, append_assoc, append-nil}
+use Rattle.tcc_serial.proofs.Names.{Plain, Local, Program, Event, Shape, start, History, next, and_then, run_from, run, Views, no_views}
+use Rattle.tcc_serial.proofs.Names.{views_after, views_from, Suits, AllHold, IsSerialExecution, RunsAreSerial, plain_start, Carried}
+use Rattle.tcc_serial.proofs.Names.{CarriedInMemory, CarriedViews, Invariants, first_state, Grant, granted_by, grants_from, IsSerial}
+use Rattle.tcc_serial.proofs.Names.{UnmodifiedWords, FilledWords, ViewedWords, HaltedUsesNone, Ways, first_ways, sent_by, ways_after}
+use Rattle.tcc_serial.proofs.Names.{ways_from}
 use Rattle.tcc_serial.specs.KeepsHomes.{HomesHold}
-use Rattle.tcc_serial.specs.Owners.{Grant, granted_by, grants_from}
-use Rattle.tcc_serial.specs.SerialKept.{IsSerial}
-use Rattle.tcc_serial.specs.Values.{UnmodifiedWords, FilledWords, ViewedWords, HaltedUsesNone}
-use Rattle.tcc_serial.specs.Ways.{Ways, first_ways, sent_by, ways_after, ways_from}
 use Rattle.tcc_serial.proofs.Values.FramedSteps.{words_kept}
 use Rattle.tcc_serial.proofs.Run.FactsOfRuns.{runs_carry}
 use Rattle.tcc_serial.proofs.Run.FromMemory.{runs_stay_in_memory}

@@ -1,28 +1,12 @@
 -- All invariants together, through every event and along every run.
-use Rattle.std.specs.Prelude.{ℕ, List, [], ◌∷◌, ◌++◌, Option, Some, None, IfSome}
-use Rattle.std.proofs.Common.{arith, refl, sym, append_assoc}
-use Rattle.std.proofs.lemmas.List.{append-nil}
-use Rattle.tcc_program.specs.Program.{Program, Local}
-use Rattle.tcc_maps.specs.Nodes.{Event}
-use Rattle.tcc_maps.specs.Shape.{Shape}
-use Rattle.tcc_rules.specs.State.{World, start, core_start}
-use Rattle.tcc_rules.specs.Step.{Stepped, step, History, and_noted, recorded, next, and_then, run_from, run}
-use Rattle.tcc_serial.specs.Count.{live}
-use Rattle.tcc_serial.specs.Pairs.{pair}
-use Rattle.tcc_serial.specs.Tids.{has_tid}
-use Rattle.tcc_serial.specs.Counted.{KeptCounted}
-use Rattle.tcc_serial.specs.Partly.{KeptWhole}
+use Rattle.tcc_serial.proofs.Names.{ℕ, List, [], ◌∷◌, ◌++◌, Option, Some, None, IfSome, arith, refl, sym, append_assoc, append-nil, Program}
+use Rattle.tcc_serial.proofs.Names.{Local, Event, Shape, World, start, core_start, Stepped, step, History, and_noted, recorded, next}
+use Rattle.tcc_serial.proofs.Names.{and_then, run_from, run, live, pair, has_tid, KeptCounted, KeptWhole, KeptNamed, KeptMarks, KeptMasks}
+use Rattle.tcc_serial.proofs.Names.{KeptStored, KeptCores, KeptCommitting, Grant, granted_by, then_grants, grants_from, KeptOwners}
+use Rattle.tcc_serial.proofs.Names.{LastGranted, SparesCommitter, Kept, KeptTold, KeptAll, Always, HoldsLast, SparesItsCommitter}
+use Rattle.tcc_serial.proofs.Names.{MarksAreStored}
 use Rattle.tcc_serial.specs.Asked.{KeptAsked}
-use Rattle.tcc_serial.specs.Named.{KeptNamed}
-use Rattle.tcc_serial.specs.Marks.{KeptMarks}
-use Rattle.tcc_serial.specs.Masked.{KeptMasks}
-use Rattle.tcc_serial.specs.Stored.{KeptStored}
-use Rattle.tcc_serial.specs.OneCore.{KeptCores}
-use Rattle.tcc_serial.specs.Committing.{KeptCommitting}
 use Rattle.tcc_serial.specs.Probing.{KeptProbing, OneProbe}
-use Rattle.tcc_serial.specs.Owners.{Grant, granted_by, then_grants, grants_from, KeptOwners, LastGranted, SparesCommitter}
-use Rattle.tcc_serial.specs.Kept.{Kept, KeptTold, KeptAll}
-use Rattle.tcc_serial.specs.Laws.{Always, HoldsLast, SparesItsCommitter, MarksAreStored}
 use Rattle.tcc_serial.proofs.Serving.KeptSteps.{step-kept, start-all}
 use Rattle.tcc_serial.proofs.Serving.OwnerSteps.{step-owners, start-owners}
 use Rattle.tcc_serial.proofs.OneCore.CoreAlone.{step-cores, start-cores}

@@ -1,18 +1,8 @@
 -- The laws of every run, from the invariants.
-use Rattle.std.specs.Prelude.{ℕ, ◌≡◌, ◌<◌, ◌≤◌, ◌==◌, ◌&&◌, ◌||◌, Bool, true, false, Option, Some, None, IfSome, nat_lt}
-use Rattle.std.proofs.Common.{arith, refl}
-use Rattle.std.proofs.lemmas.Bool.Decides.{nat_tests}
-use Rattle.tcc_maps.specs.Words.{num}
-use Rattle.tcc_maps.specs.Shape.{Shape}
-use Rattle.tcc_maps.specs.Cache.{writes_at, reads_at}
-use Rattle.tcc_rules.specs.State.{World, start, Phase, Running, AwaitTid, DoomedTid, Probing, Ready, Overflowing, Solo, Halted}
-use Rattle.tcc_rules.specs.Step.{History, run}
-use Rattle.tcc_serial.specs.Pairs.{pair, share}
-use Rattle.tcc_serial.specs.Tids.{opens, part, handled, ResolvedAt}
-use Rattle.tcc_serial.specs.Kept.{Kept}
-use Rattle.tcc_serial.specs.Laws.{Always, OneWay, OneRequest, Passed, NeverPasses, OwedInFlight, Served}
-use Rattle.tcc_serial.specs.Probes.{tid_of, asks_dir}
-use Rattle.tcc_serial.specs.Owed.{KeptOwed}
+use Rattle.tcc_serial.proofs.Names.{ℕ, ◌≡◌, ◌<◌, ◌≤◌, ◌==◌, ◌&&◌, ◌||◌, Bool, true, false, Option, Some, None, IfSome, nat_lt, arith, refl}
+use Rattle.tcc_serial.proofs.Names.{nat_tests, num, Shape, writes_at, reads_at, World, start, Phase, Running, AwaitTid, DoomedTid, Probing}
+use Rattle.tcc_serial.proofs.Names.{Ready, Overflowing, Solo, Halted, History, run, pair, share, opens, part, handled, ResolvedAt, Kept}
+use Rattle.tcc_serial.proofs.Names.{Always, OneWay, OneRequest, Passed, NeverPasses, OwedInFlight, Served, tid_of, asks_dir, KeptOwed}
 use Rattle.tcc_serial.proofs.Counts.Links.{total-le}
 use Rattle.tcc_serial.proofs.Serving.KeptSteps.{run-kept}
 

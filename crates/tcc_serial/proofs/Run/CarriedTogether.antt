@@ -1,14 +1,7 @@
 -- What is carried along every run together with all else.
-use Rattle.std.specs.Prelude.{ℕ, List, [], ◌++◌, Option, Some, None, IfSome}
-use Rattle.tcc_program.specs.Program.{Program, Local}
-use Rattle.tcc_maps.specs.Nodes.{Event}
-use Rattle.tcc_maps.specs.Shape.{Shape}
-use Rattle.tcc_rules.specs.Step.{Stepped, step, History, and_noted, recorded, run_from, run}
-use Rattle.tcc_serial.specs.Copies.{KeptHomes, KeptLineOwners, KeptLoading, KeptAfter}
-use Rattle.tcc_serial.specs.Invariants.{first_state}
-use Rattle.tcc_serial.specs.Kept.{KeptAll, KeptTold}
-use Rattle.tcc_serial.specs.Marks.{OneMark}
-use Rattle.tcc_serial.specs.Owners.{Grant, granted_by, grants_from}
+use Rattle.tcc_serial.proofs.Names.{ℕ, List, [], ◌++◌, Option, Some, None, IfSome, Program, Local, Event, Shape, Stepped, step, History}
+use Rattle.tcc_serial.proofs.Names.{and_noted, recorded, run_from, run, KeptHomes, KeptLineOwners, KeptLoading, KeptAfter, first_state}
+use Rattle.tcc_serial.proofs.Names.{KeptAll, KeptTold, OneMark, Grant, granted_by, grants_from}
 use Rattle.tcc_serial.proofs.Run.AllInvariants.{step-all, run-all}
 use Rattle.tcc_serial.proofs.Serving.ProbeOwners.{KeptProbed, step-probed, start-probed}
 use Rattle.tcc_serial.proofs.Lines.LoadsKept.{step-loading, start-loading}

@@ -1,22 +1,11 @@
 -- What is proved of lines and their copies, carried along every run together with all else.
-use Rattle.std.specs.Prelude.{◌<◌, ◌≡◌, true, false, ℕ, List, [], ◌∷◌, ◌++◌, Option, Some, None, IfSome}
-use Rattle.std.proofs.Common.{sym, append_assoc}
-use Rattle.std.proofs.lemmas.List.{append-nil}
-use Rattle.tcc_program.specs.Program.{Program, Local}
-use Rattle.tcc_maps.specs.Nodes.{Event}
-use Rattle.tcc_maps.specs.Shape.{Shape}
-use Rattle.tcc_rules.specs.State.{start}
-use Rattle.tcc_rules.specs.Step.{Stepped, step, History, and_noted, recorded, next, and_then, run_from, run}
-use Rattle.tcc_serial.specs.Copies.{KeptTags, KeptGets, KeptLoading, KeptSharers}
-use Rattle.tcc_serial.specs.Standing.{is_applied}
-use Rattle.tcc_serial.specs.Stored.{stores_at}
+use Rattle.tcc_serial.proofs.Names.{◌<◌, ◌≡◌, true, false, ℕ, List, [], ◌∷◌, ◌++◌, Option, Some, None, IfSome, sym, append_assoc}
+use Rattle.tcc_serial.proofs.Names.{append-nil, Program, Local, Event, Shape, start, Stepped, step, History, and_noted, recorded, next}
+use Rattle.tcc_serial.proofs.Names.{and_then, run_from, run, KeptTags, KeptGets, KeptLoading, KeptSharers, is_applied, stores_at, Noted}
+use Rattle.tcc_serial.proofs.Names.{first_state, KeptRun, Grant, granted_by, then_grants, grants_from, Ways, ways_after, sent_by, then_ways}
+use Rattle.tcc_serial.proofs.Names.{ways_from, first_ways}
 use Rattle.tcc_serial.proofs.Lines.SharersStep.{step-sharers}
 use Rattle.tcc_serial.proofs.Lines.SharersStart.{start-sharers}
-use Rattle.tcc_base.specs.declared.access.Commit.{Commit as Noted}
-use Rattle.tcc_serial.specs.Invariants.{first_state}
-use Rattle.tcc_serial.specs.Kept.{KeptRun}
-use Rattle.tcc_serial.specs.Owners.{Grant, granted_by, then_grants, grants_from}
-use Rattle.tcc_serial.specs.Ways.{Ways, ways_after, sent_by, then_ways, ways_from, first_ways}
 use Rattle.tcc_serial.proofs.Ways.ByCore.{ByCore}
 use Rattle.tcc_serial.proofs.Copies.CopyFacts.{start-lines}
 use Rattle.tcc_serial.proofs.Lines.GetsKept.{step-gets, start-gets}

@@ -1,12 +1,8 @@
 -- The program that counts suits, and its run is computed by the definitions alone.
-use Rattle.std.specs.Prelude.{ℕ}
-use Rattle.std.proofs.Common.{arith, refl}
+use Rattle.tcc_serial.proofs.Names.{ℕ, arith, refl, word_of, NeedFits, NeedInMemory}
 use Rattle.tcc_program.specs.Cores.{printed}
-use Rattle.tcc_program.specs.Ram.{word_of}
-use Rattle.tcc_attempt.specs.Follows.{NeedFits}
-use Rattle.tcc_serial.specs.Counter.{two_cores, Inst, Passes, Gets, Counts, Puts, PutsBeside, Says, Finishes, Stops, at_pc, register, inst_need}
-use Rattle.tcc_serial.specs.Counter.{counting, CountingSuits, GoesAlone, HasRead, IsViolated, CountsOn, NothingIsLeft}
-use Rattle.tcc_serial.specs.InMemory.{NeedInMemory}
+use Rattle.tcc_serial.specs.Counter.{two_cores, Inst, Passes, Gets, Counts, Puts, PutsBeside, Says, Finishes, Stops, at_pc, register}
+use Rattle.tcc_serial.specs.Counter.{inst_need, counting, CountingSuits, GoesAlone, HasRead, IsViolated, CountsOn, NothingIsLeft}
 use Rattle.tcc_serial.specs.Shown.{changed, shown}
 use Rattle.tcc_rules.proofs.Lemmas.{computed}
 

@@ -1,24 +1,11 @@
 -- The facts of the list that are proved of every run, from what is carried together along it.
-use Rattle.std.specs.Prelude.{ℕ, zero, suc, ◌+◌, ◌≡◌, ◌<◌, ◌≤◌, ◌==◌, ◌&&◌, Bool, true, false, not, List, Contains, Option, Some, None, IfSome, nat_le}
-use Rattle.std.proofs.Common.{arith, refl}
-use Rattle.std.proofs.lemmas.Bool.Decides.{nat_tests}
-use Rattle.tcc_program.specs.Program.{Local, Program}
-use Rattle.tcc_maps.specs.Nodes.{Event}
-use Rattle.tcc_maps.specs.Words.{num}
-use Rattle.tcc_maps.specs.Shape.{Shape, home}
-use Rattle.tcc_maps.specs.Cache.{Cache, IsCache}
-use Rattle.tcc_maps.specs.Lines.{has_mark}
-use Rattle.tcc_rules.specs.State.{CoreState, Halted, World, start}
-use Rattle.tcc_rules.specs.Step.{History, run}
-use Rattle.tcc_serial.specs.Alone.{IsApart, PhaseFits}
-use Rattle.tcc_serial.specs.Count.{Grants, Marks, MarkOf, Probes, Replies, live}
-use Rattle.tcc_serial.specs.Invariants.{Carried, RunsCarry, first_state}
-use Rattle.tcc_serial.specs.Kept.{KeptAll}
-use Rattle.tcc_serial.specs.Marks.{marks_of, marked_by, has_marked, stores_line}
-use Rattle.tcc_serial.specs.OneCore.{OneCore, Empty}
-use Rattle.tcc_serial.specs.Owners.{Grant, grants_from, times, holder}
-use Rattle.tcc_serial.specs.Pairs.{pair, share}
-use Rattle.tcc_serial.specs.Standing.{CommitsStand, MarksWait}
+use Rattle.tcc_serial.proofs.Names.{ℕ, zero, suc, ◌+◌, ◌≡◌, ◌<◌, ◌≤◌, ◌==◌, ◌&&◌, Bool, true, false, not, List, Contains, Option, Some}
+use Rattle.tcc_serial.proofs.Names.{None, IfSome, nat_le, arith, refl, nat_tests, Local, Program, Event, num, Shape, home, Cache, IsCache}
+use Rattle.tcc_serial.proofs.Names.{has_mark, CoreState, Halted, World, start, History, run, IsApart, PhaseFits, Grants, Marks, MarkOf}
+use Rattle.tcc_serial.proofs.Names.{Probes, Replies, live, Carried, RunsCarry, first_state, KeptAll, marks_of, marked_by, has_marked}
+use Rattle.tcc_serial.proofs.Names.{stores_line, OneCore, Empty, Grant, grants_from, times, holder, pair, share, CommitsStand, MarksWait}
+use Rattle.tcc_serial.proofs.Names.{MarkedByServed, MarksOfCommits, Ways, first_ways, ways_from, UntoldWhereOpen, UntoldIsLive, AllWaysFit}
+use Rattle.tcc_serial.proofs.Names.{GivenUpOnce, LiveIsOpen, CommittedWhereStored, SmallerAreGivenUp, WorkIsReached}
 use Rattle.tcc_serial.proofs.Run.AllInvariants.{one_probe_from}
 use Rattle.tcc_serial.proofs.Run.CopiesKept.{KeptCopies, run-copies}
 use Rattle.tcc_serial.proofs.Copies.CopyFacts.{above-from, owned-from}
@@ -30,10 +17,8 @@ use Rattle.tcc_serial.proofs.Marks.MaskLaws.{marked_by_served, marks_of_commits}
 use Rattle.tcc_serial.proofs.Marks.ReadsKept.{read-words}
 use Rattle.tcc_serial.proofs.Ways.RunWays.{told_from}
 use Rattle.tcc_serial.proofs.Ways.SmallerTids.{smaller_are_given_up, work_is_reached}
-use Rattle.tcc_serial.proofs.Ways.WayFacts.{untold_where_open, untold_is_live, all_ways_fit, given_up_once, live_is_open, committed_where_stored}
-use Rattle.tcc_serial.specs.MaskLaws.{MarkedByServed, MarksOfCommits}
-use Rattle.tcc_serial.specs.Ways.{Ways, first_ways, ways_from}
-use Rattle.tcc_serial.specs.WayLaws.{UntoldWhereOpen, UntoldIsLive, AllWaysFit, GivenUpOnce, LiveIsOpen, CommittedWhereStored, SmallerAreGivenUp, WorkIsReached}
+use Rattle.tcc_serial.proofs.Ways.WayFacts.{untold_where_open, untold_is_live, all_ways_fit, given_up_once, live_is_open}
+use Rattle.tcc_serial.proofs.Ways.WayFacts.{committed_where_stored}
 use Rattle.tcc_serial.proofs.Counts.Links.{total-le}
 
 -- one core

@@ -1,18 +1,8 @@
 -- The facts of the list that are proved of every run of a program whose accesses lie in memory.
-use Rattle.std.specs.Prelude.{ℕ, ◌≡◌, ◌<◌, ◌≤◌, Bool, true, false, ◌==◌, ◌&&◌, ◌||◌, List, Option, Some, None, IfSome, is_some}
-use Rattle.std.proofs.Common.{arith, refl, sym, ◌∙◌, ◌⊎◌, inl, inr}
-use Rattle.std.proofs.lemmas.Bool.{cases_lt}
-use Rattle.std.proofs.lemmas.Bool.Decides.{nat_tests}
-use Rattle.tcc_maps.specs.Shape.{Shape, home, lines}
-use Rattle.tcc_maps.specs.Words.{num}
-use Rattle.tcc_rules.specs.State.{Awaited, start}
-use Rattle.tcc_rules.specs.CoreEvict.{is_awaited}
-use Rattle.tcc_rules.specs.Step.{History, run}
-use Rattle.tcc_serial.specs.InMemory.{AttemptInMemory, LoadsInMemory, CopiesInMemory}
-use Rattle.tcc_serial.specs.Invariants.{Carried, CarriedInMemory, RunsStayInMemory, first_state}
-use Rattle.tcc_serial.specs.Owners.{Grant, grants_from}
-use Rattle.tcc_serial.specs.Pairs.{pair}
-use Rattle.tcc_serial.specs.Ways.{Ways, first_ways, ways_from}
+use Rattle.tcc_serial.proofs.Names.{ℕ, ◌≡◌, ◌<◌, ◌≤◌, Bool, true, false, ◌==◌, ◌&&◌, ◌||◌, List, Option, Some, None, IfSome, is_some, arith}
+use Rattle.tcc_serial.proofs.Names.{refl, sym, ◌∙◌, ◌⊎◌, inl, inr, cases_lt, nat_tests, Shape, home, lines, num, Awaited, start, is_awaited}
+use Rattle.tcc_serial.proofs.Names.{History, run, AttemptInMemory, LoadsInMemory, CopiesInMemory, Carried, CarriedInMemory}
+use Rattle.tcc_serial.proofs.Names.{RunsStayInMemory, first_state, Grant, grants_from, pair, Ways, first_ways, ways_from}
 use Rattle.tcc_serial.proofs.Run.FactsOfRuns.{runs_carry}
 use Rattle.tcc_serial.proofs.Memory.InMemoryKept.{KeptInMemory, run-memory}
 

@@ -1,14 +1,6 @@
 -- The facts of the list that are proved of every run of a program that fits: what tcc_attempt says of each core's attempt and its view.
-use Rattle.std.specs.Prelude.{ℕ, Option, Some, None, IfSome}
-use Rattle.tcc_maps.specs.Shape.{Shape}
-use Rattle.tcc_rules.specs.State.{CoreState, start}
-use Rattle.tcc_rules.specs.Step.{History, run}
-use Rattle.tcc_attempt.specs.Follows.{Uses}
-use Rattle.tcc_attempt.specs.Marks.{MarksFit, AttemptFits}
-use Rattle.tcc_attempt.specs.Views.{Views, no_views, views_from}
-use Rattle.tcc_attempt.proofs.Lemmas.{attempts-fit}
-use Rattle.tcc_serial.specs.Alone.{ReadFits}
-use Rattle.tcc_serial.specs.Invariants.{CarriedViews, RunsCarryViews, first_state}
+use Rattle.tcc_serial.proofs.Names.{ℕ, Option, Some, None, IfSome, Shape, CoreState, start, History, run, Uses, MarksFit, AttemptFits}
+use Rattle.tcc_serial.proofs.Names.{Views, no_views, views_from, attempts-fit, ReadFits, CarriedViews, RunsCarryViews, first_state}
 
 read-fits : (sh : Shape) (s : CoreState) (us : Uses) → MarksFit sh s us → ReadFits s us
 read-fits sh s us k = record { stand = k.stand; used = λ a x e. k.used x e }

@@ -1,20 +1,9 @@
 -- Every commit is by a core of the machine.
-use Rattle.std.specs.Prelude.{ℕ, ◌≡◌, ◌<◌, Bool, true, false, List, [], ◌∷◌, Option, Some, None, IfSome, nat_lt, if◌then◌else◌}
-use Rattle.std.proofs.Common.{arith}
-use Rattle.std.proofs.lemmas.Bool.Decides.{nat_tests}
-use Rattle.tcc_base.specs.declared.access.Commit.{Commit as Noted}
+use Rattle.tcc_serial.proofs.Names.{ℕ, ◌≡◌, ◌<◌, Bool, true, false, List, [], ◌∷◌, Option, Some, None, IfSome, nat_lt, if◌then◌else◌, arith}
+use Rattle.tcc_serial.proofs.Names.{nat_tests, Noted, Program, Event, TidGrant, Shape, CoreState, World, start, Out, core_exec, core_evict}
+use Rattle.tcc_serial.proofs.Names.{from_dir, grant, Answer, Waits, Drops, Asks, Takes, dir_deliver, Stepped, step, History, insert_commit}
+use Rattle.tcc_serial.proofs.Names.{and_noted, recorded, next, and_then, run_from, run, Kept}
 use Rattle.tcc_program.specs.Cores.{AreBy}
-use Rattle.tcc_program.specs.Program.{Program}
-use Rattle.tcc_maps.specs.Nodes.{Event, TidGrant}
-use Rattle.tcc_maps.specs.Shape.{Shape}
-use Rattle.tcc_rules.specs.State.{CoreState, World, start}
-use Rattle.tcc_rules.specs.Attempt.{Out}
-use Rattle.tcc_rules.specs.CoreExec.{core_exec}
-use Rattle.tcc_rules.specs.CoreEvict.{core_evict}
-use Rattle.tcc_rules.specs.CoreDeliver.{from_dir, grant}
-use Rattle.tcc_rules.specs.DirDeliver.{Answer, Waits, Drops, Asks, Takes, dir_deliver}
-use Rattle.tcc_rules.specs.Step.{Stepped, step, History, insert_commit, and_noted, recorded, next, and_then, run_from, run}
-use Rattle.tcc_serial.specs.Kept.{Kept}
 use Rattle.tcc_serial.specs.NotedBy.{is_core, AreByCores, CommitsAreByCores}
 use Rattle.tcc_serial.proofs.Tids.CoreOwners.{KeepsHolder, holder-exec, holder-evict, holder-grant, holder-back}
 use Rattle.tcc_serial.proofs.Serving.KeptSteps.{core_of_grant, core_of_back, step-kept, start-all}

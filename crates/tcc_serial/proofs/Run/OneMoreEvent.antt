@@ -1,14 +1,7 @@
 -- A run with one more event behind it: the state, the grants, the ways and the views are those of the run, and then the event's.
-use Rattle.std.specs.Prelude.{◌≡◌, List, [], ◌∷◌, ◌++◌, Option, Some, None}
-use Rattle.std.proofs.Common.{refl, ap, subst, sym, ◌∙◌, append_assoc}
-use Rattle.std.proofs.lemmas.List.{append-nil}
-use Rattle.tcc_program.specs.Program.{Program}
-use Rattle.tcc_maps.specs.Nodes.{Event}
-use Rattle.tcc_maps.specs.Shape.{Shape}
-use Rattle.tcc_rules.specs.Step.{History, next, and_then, run_from}
-use Rattle.tcc_attempt.specs.Views.{Views, views_after, views_from}
-use Rattle.tcc_serial.specs.Owners.{granted_by, grants_from}
-use Rattle.tcc_serial.specs.Ways.{Ways, sent_by, ways_after, ways_from}
+use Rattle.tcc_serial.proofs.Names.{◌≡◌, List, [], ◌∷◌, ◌++◌, Option, Some, None, refl, ap, subst, sym, ◌∙◌, append_assoc, append-nil}
+use Rattle.tcc_serial.proofs.Names.{Program, Event, Shape, History, next, and_then, run_from, Views, views_after, views_from, granted_by}
+use Rattle.tcc_serial.proofs.Names.{grants_from, Ways, sent_by, ways_after, ways_from}
 
 -- from first through es to h, and by e to g
 pub record OneMore (sh : Shape) (p : Program) (es : List Event) (e : Event) (ys : Ways) (vs : Views) (first h g : History) : Type 0 where

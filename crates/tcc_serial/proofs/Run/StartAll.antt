@@ -1,29 +1,13 @@
 -- The start has every invariant of the list.
-use Rattle.std.specs.Prelude.{ℕ, ◌≡◌, List, [], ◌∷◌, Some, None}
-use Rattle.std.specs.List.{flat_map}
-use Rattle.std.proofs.Common.{refl, ap, ◌∙◌, inl}
-use Rattle.tcc_program.specs.Plain.{serial}
-use Rattle.tcc_program.specs.Program.{Local, Program}
-use Rattle.tcc_maps.specs.Serving.{is_skipped, first_serving}
-use Rattle.tcc_maps.specs.Shape.{Shape}
-use Rattle.tcc_maps.specs.Cache.{empty_cache}
-use Rattle.tcc_maps.specs.Lines.{no_lines}
-use Rattle.tcc_rules.specs.Seen.{Copy, seen, home_copy, copies, copies_of, copies_on, newest, numbers}
-use Rattle.tcc_rules.specs.State.{core_start, dir_start, vendor_start, start}
-use Rattle.tcc_serial.specs.Alone.{ReadFits}
-use Rattle.tcc_serial.specs.Commits.{CoresSerial, SeenSerial, plain_start}
-use Rattle.tcc_serial.specs.Count.{live}
-use Rattle.tcc_serial.specs.Invariants.{Carried, StartHasAll, first_state}
-use Rattle.tcc_serial.specs.Marks.{marks_of}
-use Rattle.tcc_serial.specs.Pairs.{pair}
-use Rattle.tcc_serial.specs.Ways.{first_ways, ways_from}
-use Rattle.tcc_serial.specs.Owners.{grants_from}
-use Rattle.tcc_rules.specs.Step.{run, run_from}
-use Rattle.tcc_serial.specs.Values.{HomeWords, CopiesAbove, UnmodifiedWords, FilledWords, CopiesHave, value_at, after_commits}
+use Rattle.tcc_serial.proofs.Names.{ℕ, ◌≡◌, List, [], ◌∷◌, Some, None, flat_map, refl, ap, ◌∙◌, inl, serial, Local, Program, is_skipped}
+use Rattle.tcc_serial.proofs.Names.{first_serving, Shape, empty_cache, no_lines, Copy, seen, home_copy, copies, copies_of, copies_on}
+use Rattle.tcc_serial.proofs.Names.{newest, numbers, core_start, dir_start, vendor_start, start, ReadFits, CoresSerial, SeenSerial}
+use Rattle.tcc_serial.proofs.Names.{plain_start, live, Carried, StartHasAll, first_state, marks_of, pair, first_ways, ways_from}
+use Rattle.tcc_serial.proofs.Names.{grants_from, run, run_from, HomeWords, CopiesAbove, UnmodifiedWords, FilledWords, CopiesHave, value_at}
+use Rattle.tcc_serial.proofs.Names.{after_commits, start-follows}
 use Rattle.tcc_serial.proofs.Run.FactsOfRuns.{runs_carry}
 use Rattle.tcc_serial.proofs.Run.FromMemory.{carried-memory}
 use Rattle.tcc_serial.proofs.Memory.InMemoryKept.{start-memory}
-use Rattle.tcc_attempt.proofs.Lemmas.{start-follows}
 
 -- no core has a TID and nothing is in flight
 

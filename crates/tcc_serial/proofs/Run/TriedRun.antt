@@ -1,26 +1,16 @@
 -- The runs on which the list was tried, computed by the definitions alone.
+use Rattle.tcc_serial.proofs.Names.{line_of, World, arith, refl, inl, inr, nat_tests, passes, live, pair, stores_word, stores_in}
+use Rattle.tcc_serial.proofs.Names.{stored_mask, stores_at, names_line, wrote, wrote_line, wrote_mask, last_of, is_settled, is_applied}
+use Rattle.tcc_serial.proofs.Names.{settled_in_line, stored_there, copies_with, keeps_unmodified, holds_line, HomeWords, after_stores}
+use Rattle.tcc_serial.proofs.Names.{counts, after_commits, value_at, word_copies, Noted, Shape, home, ℕ, zero, suc, ◌≡◌, ◌<◌, ◌≤◌, ◌⊎◌}
+use Rattle.tcc_serial.proofs.Names.{◌==◌, false, true, List, None}
 use Rattle.tcc_rules.proofs.Lemmas.{computed}
-use Rattle.tcc_maps.specs.Words.{line_of}
 use Rattle.tcc_program.specs.Registers.{zeroed, register, written}
 use Rattle.tcc_rules.specs.Rows.{padded, both_words, both_code}
 use Rattle.tcc_rules.specs.Small.{at_pc, address, call_need, small, entry}
-use Rattle.tcc_rules.specs.State.{World}
-use Rattle.std.proofs.Common.{arith, refl, inl, inr}
-use Rattle.std.proofs.lemmas.Bool.Decides.{nat_tests}
-use Rattle.tcc_serial.specs.Count.{passes, live}
-use Rattle.tcc_serial.specs.Pairs.{pair}
-use Rattle.tcc_serial.specs.Uses.{stores_word}
-use Rattle.tcc_serial.specs.Stored.{stores_in, stored_mask, stores_at}
-use Rattle.tcc_serial.specs.Wrote.{names_line, wrote, wrote_line, wrote_mask, last_of}
-use Rattle.tcc_serial.specs.Standing.{is_settled, is_applied}
-use Rattle.tcc_serial.specs.Copies.{settled_in_line, stored_there, copies_with, keeps_unmodified, holds_line}
-use Rattle.tcc_serial.specs.Values.{HomeWords, after_stores, counts, after_commits, value_at, word_copies}
-use Rattle.tcc_serial.specs.Tried.{tag_test, after_test, loading_test, above_test, owned_test, sharer_test, line_test, home_test}
-use Rattle.tcc_serial.specs.Tried.{copy_test, frame_test, word_test, tests, along, tried, tried_ram, tried_end, with_word}
-use Rattle.tcc_serial.specs.Tried.{TriedFill, TriedRead, TriedOwner, TriedAlone, TriedFails}
-use Rattle.tcc_base.specs.declared.access.Commit.{Commit as Noted}
-use Rattle.tcc_maps.specs.Shape.{Shape, home}
-use Rattle.std.specs.Prelude.{ℕ, zero, suc, ◌≡◌, ◌<◌, ◌≤◌, ◌⊎◌, ◌==◌, false, true, List, None}
+use Rattle.tcc_serial.specs.Tried.{tag_test, after_test, loading_test, above_test, owned_test, sharer_test, line_test, home_test, copy_test}
+use Rattle.tcc_serial.specs.Tried.{frame_test, word_test, tests, along, tried, tried_ram, tried_end, with_word, TriedFill, TriedRead}
+use Rattle.tcc_serial.specs.Tried.{TriedOwner, TriedAlone, TriedFails}
 
 -- all that the runs compute with, and what is counted at their ends
 unfoldable run_computed : Type 0

@@ -1,26 +1,18 @@
 -- What a core sends a Commit of is what it notes the commit of.
-use Rattle.std.specs.Prelude.{ℕ, ◌≡◌, ◌≤◌, Bool, true, false, List, [], ◌∷◌, ◌++◌, ◌==◌, ◌&&◌, Option, Some, None, IfSome, nat_lt, if◌then◌else◌}
-use Rattle.std.specs.List.{flat_map}
-use Rattle.std.proofs.Common.{arith, refl}
-use Rattle.std.proofs.lemmas.Bool.Decides.{nat_tests}
-use Rattle.tcc_program.specs.Program.{Program}
-use Rattle.tcc_maps.specs.Words.{num, those, count_below}
-use Rattle.tcc_maps.specs.Nodes.{Dir, Msg, TidReq, TidGrant, LoadReq, Fill, Skip, Probe, ProbeReply, Mark, Commit, Abort, WriteBack, Flush, DataReq, Inv, InvAck}
-use Rattle.tcc_maps.specs.Shape.{Shape, home, lines}
-use Rattle.tcc_maps.specs.Cache.{Cache, is_modified, writes_at}
-use Rattle.tcc_maps.specs.Spilled.{Spilled, holds, spilled_mask, spilled_words}
-use Rattle.tcc_rules.specs.State.{CoreState, Awaited, Phase, Running, AwaitTid, DoomedTid, Probing, Ready, Overflowing, Solo, Halted}
-use Rattle.tcc_rules.specs.Sends.{to, marks_for}
-use Rattle.tcc_rules.specs.Attempt.{Out}
-use Rattle.tcc_rules.specs.Commit.{commit, commit_sends, noted, solo_sends, solo_marks, solo_backs, solo_writes_at, is_written, written_mask}
-use Rattle.tcc_rules.specs.CoreExec.{core_exec, exec_phase, unless_awaiting}
-use Rattle.tcc_rules.specs.CoreEvict.{core_evict}
-use Rattle.tcc_rules.specs.CoreDeliver.{grant, grant_phase, from_dir, probe_reply, ignored, fill, data_request, invalidate}
-use Rattle.tcc_serial.specs.Count.{Commits, AnyCommit, among, passes}
+use Rattle.tcc_serial.proofs.Names.{ℕ, ◌≡◌, ◌≤◌, Bool, true, false, List, [], ◌∷◌, ◌++◌, ◌==◌, ◌&&◌, Option, Some, None, IfSome, nat_lt}
+use Rattle.tcc_serial.proofs.Names.{if◌then◌else◌, flat_map, arith, refl, nat_tests, Program, num, those, count_below, Dir, Msg, TidReq}
+use Rattle.tcc_serial.proofs.Names.{TidGrant, LoadReq, Fill, Skip, Probe, ProbeReply, Mark, Commit, Abort, WriteBack, Flush, DataReq, Inv}
+use Rattle.tcc_serial.proofs.Names.{InvAck, Shape, home, lines, Cache, is_modified, writes_at, Spilled, holds, spilled_mask, spilled_words}
+use Rattle.tcc_serial.proofs.Names.{CoreState, Awaited, Phase, Running, AwaitTid, DoomedTid, Probing, Ready, Overflowing, Solo, Halted, to}
+use Rattle.tcc_serial.proofs.Names.{marks_for, Out, commit, commit_sends, noted, solo_sends, solo_marks, solo_backs, solo_writes_at}
+use Rattle.tcc_serial.proofs.Names.{is_written, written_mask, core_exec, exec_phase, unless_awaiting, core_evict, grant, grant_phase}
+use Rattle.tcc_serial.proofs.Names.{from_dir, probe_reply, ignored, fill, data_request, invalidate, Commits, AnyCommit, among, passes}
 use Rattle.tcc_serial.proofs.Counts.Links.{among-append, among-fewer}
 use Rattle.tcc_serial.proofs.Counts.Sent.{among-flat_map_none}
 use Rattle.tcc_serial.proofs.OneCore.Executes.{Acts, Steady, Executed, Goes_on, Overflows, Asks_tid, Alone, executed}
-use Rattle.tcc_serial.proofs.OneCore.CoreSteps.{evict-steady, ignored-steady, fill-steady, data-steady, Hurt, Unhurt, Rolled, Doomed, Aborted, Gave_up, Invalidated, invalidate-cases, Replied, Ignored, Probed, Left_alone, reply-cases}
+use Rattle.tcc_serial.proofs.OneCore.CoreSteps.{evict-steady, ignored-steady, fill-steady, data-steady, Hurt, Unhurt, Rolled, Doomed}
+use Rattle.tcc_serial.proofs.OneCore.CoreSteps.{Aborted, Gave_up, Invalidated, invalidate-cases, Replied, Ignored, Probed, Left_alone}
+use Rattle.tcc_serial.proofs.OneCore.CoreSteps.{reply-cases}
 use Rattle.tcc_serial.proofs.Serving.CoreCommits.{few-commits, free-abort, free-skip, free-probe, free-grants, free-to, free-marks}
 use Rattle.tcc_serial.proofs.Tids.CoreOwners.{noted_tid}
 

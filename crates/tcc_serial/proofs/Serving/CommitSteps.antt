@@ -1,27 +1,11 @@
 -- Every event keeps that a Commit in flight is of the served TID, and so does every run.
-use Rattle.std.specs.Prelude.{ℕ, ◌≡◌, ◌<◌, ◌≤◌, List, [], ◌∷◌, Option, Some, None, IfSome, nat_lt, slice_index_or}
-use Rattle.std.proofs.Common.{arith, refl, ◌⊎◌, inl, inr}
-use Rattle.std.proofs.lemmas.Bool.{cases_order}
-use Rattle.std.proofs.lemmas.Bool.Decides.{nat_tests}
-use Rattle.tcc_program.specs.Program.{Program, Local}
-use Rattle.tcc_maps.specs.Words.{num}
-use Rattle.tcc_maps.specs.Nodes.{Core, Dir, Event, Msg}
-use Rattle.tcc_maps.specs.Shape.{Shape}
-use Rattle.tcc_rules.specs.State.{DirState, World, Link, start}
-use Rattle.tcc_rules.specs.Links.{in_flight}
-use Rattle.tcc_rules.specs.Sends.{Sends}
-use Rattle.tcc_rules.specs.Attempt.{Out}
-use Rattle.tcc_rules.specs.CoreExec.{core_exec}
-use Rattle.tcc_rules.specs.CoreEvict.{core_evict}
-use Rattle.tcc_rules.specs.CoreDeliver.{from_dir, grant}
-use Rattle.tcc_rules.specs.DirDeliver.{Answer, Waits, Drops, Asks, Takes, dir_deliver}
-use Rattle.tcc_rules.specs.Step.{core_moves, core_takes, dir_takes, Stepped, step, History, and_noted, recorded, next, and_then, run_from, run}
-use Rattle.tcc_serial.specs.Count.{Resolves, Commits, CommitsAbove, live, passes}
-use Rattle.tcc_serial.specs.Pairs.{Pair, pair, after_move, grant_taken, back_taken, after_answer, out_taken, share}
-use Rattle.tcc_serial.specs.Tids.{part, handled}
-use Rattle.tcc_serial.specs.Kept.{Kept}
-use Rattle.tcc_serial.specs.Laws.{Always}
-use Rattle.tcc_serial.specs.Committing.{CommittingOf, KeptCommitting, CommitsAreServed}
+use Rattle.tcc_serial.proofs.Names.{ℕ, ◌≡◌, ◌<◌, ◌≤◌, List, [], ◌∷◌, Option, Some, None, IfSome, nat_lt, slice_index_or, arith, refl, ◌⊎◌}
+use Rattle.tcc_serial.proofs.Names.{inl, inr, cases_order, nat_tests, Program, Local, num, Core, Dir, Event, Msg, Shape, DirState, World}
+use Rattle.tcc_serial.proofs.Names.{Link, start, in_flight, Sends, Out, core_exec, core_evict, from_dir, grant, Answer, Waits, Drops, Asks}
+use Rattle.tcc_serial.proofs.Names.{Takes, dir_deliver, core_moves, core_takes, dir_takes, Stepped, step, History, and_noted, recorded}
+use Rattle.tcc_serial.proofs.Names.{next, and_then, run_from, run, Resolves, Commits, CommitsAbove, live, passes, Pair, pair, after_move}
+use Rattle.tcc_serial.proofs.Names.{grant_taken, back_taken, after_answer, out_taken, share, part, handled, Kept, Always, CommittingOf}
+use Rattle.tcc_serial.proofs.Names.{KeptCommitting, CommitsAreServed}
 use Rattle.tcc_serial.proofs.Counts.Links.{live-sends, live-takes, total-le, live-fewer}
 use Rattle.tcc_serial.proofs.Counts.PairFrames.{pairs_move, pairs_grant, pairs_back, pairs_dir, pairs_asks, pairs_vendor}
 use Rattle.tcc_serial.proofs.Counts.StepCases.{OfAnswer, step_cases}

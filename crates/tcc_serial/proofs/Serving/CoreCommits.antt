@@ -1,27 +1,20 @@
 -- A core sends a Commit only to directories that have reached its TID.
-use Rattle.std.specs.Prelude.{ℕ, ◌≡◌, ◌<◌, ◌≤◌, Bool, true, false, List, [], ◌∷◌, ◌++◌, ◌==◌, ◌&&◌, Option, Some, None, IfSome, nat_lt, if◌then◌else◌}
-use Rattle.std.specs.List.{flat_map}
-use Rattle.std.proofs.Common.{arith, refl}
-use Rattle.std.proofs.lemmas.Bool.Decides.{nat_tests}
-use Rattle.tcc_program.specs.Program.{Program}
-use Rattle.tcc_maps.specs.Words.{num, those, count_below}
-use Rattle.tcc_maps.specs.Nodes.{Dir, Msg, TidReq, TidGrant, LoadReq, Fill, Skip, Probe, ProbeReply, Mark, Commit, Abort, WriteBack, Flush, DataReq, Inv, InvAck}
-use Rattle.tcc_maps.specs.Shape.{Shape, home, lines}
-use Rattle.tcc_maps.specs.Cache.{Cache, is_modified, modified_mask, written_lines, writes_at}
-use Rattle.tcc_maps.specs.Spilled.{Spilled, holds, spilled_mask, spilled_words}
-use Rattle.tcc_rules.specs.State.{CoreState, Awaited, Phase, Running, AwaitTid, DoomedTid, Probing, Ready, Overflowing, Solo, Halted, Link}
-use Rattle.tcc_rules.specs.Sends.{to, marks_for, skip_all, probe_all, abort_written}
-use Rattle.tcc_rules.specs.Attempt.{Out}
-use Rattle.tcc_rules.specs.Commit.{commit, commit_sends, solo_sends, solo_marks, solo_backs, solo_writes_at, is_written, written_mask}
-use Rattle.tcc_rules.specs.CoreExec.{core_exec, exec_phase, unless_awaiting}
-use Rattle.tcc_rules.specs.CoreEvict.{core_evict}
-use Rattle.tcc_rules.specs.CoreDeliver.{grant, grant_phase, grant_sends, from_dir, probe_reply, ignored, fill, data_request, invalidate}
-use Rattle.tcc_serial.specs.Count.{CommitsAbove, AnyCommit, Protocol, among, live, passes}
-use Rattle.tcc_serial.specs.Probes.{Reached}
+use Rattle.tcc_serial.proofs.Names.{ℕ, ◌≡◌, ◌<◌, ◌≤◌, Bool, true, false, List, [], ◌∷◌, ◌++◌, ◌==◌, ◌&&◌, Option, Some, None, IfSome}
+use Rattle.tcc_serial.proofs.Names.{nat_lt, if◌then◌else◌, flat_map, arith, refl, nat_tests, Program, num, those, count_below, Dir, Msg}
+use Rattle.tcc_serial.proofs.Names.{TidReq, TidGrant, LoadReq, Fill, Skip, Probe, ProbeReply, Mark, Commit, Abort, WriteBack, Flush}
+use Rattle.tcc_serial.proofs.Names.{DataReq, Inv, InvAck, Shape, home, lines, Cache, is_modified, modified_mask, written_lines, writes_at}
+use Rattle.tcc_serial.proofs.Names.{Spilled, holds, spilled_mask, spilled_words, CoreState, Awaited, Phase, Running, AwaitTid, DoomedTid}
+use Rattle.tcc_serial.proofs.Names.{Probing, Ready, Overflowing, Solo, Halted, Link, to, marks_for, skip_all, probe_all, abort_written, Out}
+use Rattle.tcc_serial.proofs.Names.{commit, commit_sends, solo_sends, solo_marks, solo_backs, solo_writes_at, is_written, written_mask}
+use Rattle.tcc_serial.proofs.Names.{core_exec, exec_phase, unless_awaiting, core_evict, grant, grant_phase, grant_sends, from_dir}
+use Rattle.tcc_serial.proofs.Names.{probe_reply, ignored, fill, data_request, invalidate, CommitsAbove, AnyCommit, Protocol, among, live}
+use Rattle.tcc_serial.proofs.Names.{passes, Reached}
 use Rattle.tcc_serial.proofs.Counts.Links.{among-append, among-fewer, live-fewer}
 use Rattle.tcc_serial.proofs.Counts.Sent.{among-flat_map_none}
 use Rattle.tcc_serial.proofs.OneCore.Executes.{Acts, Steady, Executed, Goes_on, Overflows, Asks_tid, Alone, executed}
-use Rattle.tcc_serial.proofs.OneCore.CoreSteps.{evict-steady, ignored-steady, fill-steady, data-steady, Hurt, Unhurt, Rolled, Doomed, Aborted, Gave_up, Invalidated, invalidate-cases, Replied, Ignored, Probed, Left_alone, reply-cases}
+use Rattle.tcc_serial.proofs.OneCore.CoreSteps.{evict-steady, ignored-steady, fill-steady, data-steady, Hurt, Unhurt, Rolled, Doomed}
+use Rattle.tcc_serial.proofs.OneCore.CoreSteps.{Aborted, Gave_up, Invalidated, invalidate-cases, Replied, Ignored, Probed, Left_alone}
+use Rattle.tcc_serial.proofs.OneCore.CoreSteps.{reply-cases}
 
 -- no Commit of a TID above x
 abbrev pub Served : (dir x : ℕ) → Out → Type 0

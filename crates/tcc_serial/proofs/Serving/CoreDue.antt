@@ -1,27 +1,20 @@
 -- A core acknowledges nothing but an invalidation, and marks lines at their homes alone.
-use Rattle.std.specs.Prelude.{ℕ, zero, suc, ◌≡◌, ◌≤◌, ◌%◌, Bool, true, false, List, [], ◌∷◌, ◌++◌, ◌==◌, ◌&&◌, Option, Some, None, IfSome, nat_lt, cond, if◌then◌else◌}
-use Rattle.std.specs.List.{flat_map}
-use Rattle.std.proofs.Common.{arith, refl}
-use Rattle.std.proofs.lemmas.Bool.Decides.{nat_tests}
-use Rattle.std.proofs.lemmas.Grind.{flat_map-append}
-use Rattle.tcc_program.specs.Program.{Program}
-use Rattle.tcc_maps.specs.Words.{num, those, count_below}
-use Rattle.tcc_maps.specs.Nodes.{Dir, Msg, TidReq, TidGrant, LoadReq, Fill, Skip, Probe, ProbeReply, Mark, Commit, Abort, WriteBack, Flush, DataReq, Inv, InvAck}
-use Rattle.tcc_maps.specs.Shape.{Shape, home, lines}
-use Rattle.tcc_maps.specs.Cache.{Cache, is_modified, modified_mask, written_lines}
-use Rattle.tcc_maps.specs.Spilled.{Spilled, holds, spilled_mask, spilled_words}
-use Rattle.tcc_rules.specs.State.{CoreState, Awaited, Phase, Running, AwaitTid, DoomedTid, Probing, Ready, Overflowing, Solo, Halted}
-use Rattle.tcc_rules.specs.Sends.{Sends, to, marks_for, skip_all, probe_all, abort_written}
-use Rattle.tcc_rules.specs.Attempt.{Out}
-use Rattle.tcc_rules.specs.Commit.{commit, commit_sends, solo_sends, solo_marks, solo_backs, solo_writes_at, is_written, written_mask}
-use Rattle.tcc_rules.specs.CoreExec.{core_exec, exec_phase, unless_awaiting}
-use Rattle.tcc_rules.specs.CoreEvict.{core_evict}
-use Rattle.tcc_rules.specs.CoreDeliver.{grant, grant_phase, grant_sends, from_dir, probe_reply, ignored, fill, data_request, invalidate}
-use Rattle.tcc_serial.specs.Count.{Kind, Acks, MarksAway, AnyResolve, Protocol, among, passes}
+use Rattle.tcc_serial.proofs.Names.{ℕ, zero, suc, ◌≡◌, ◌≤◌, ◌%◌, Bool, true, false, List, [], ◌∷◌, ◌++◌, ◌==◌, ◌&&◌, Option, Some, None}
+use Rattle.tcc_serial.proofs.Names.{IfSome, nat_lt, cond, if◌then◌else◌, flat_map, arith, refl, nat_tests, flat_map-append, Program, num}
+use Rattle.tcc_serial.proofs.Names.{those, count_below, Dir, Msg, TidReq, TidGrant, LoadReq, Fill, Skip, Probe, ProbeReply, Mark, Commit}
+use Rattle.tcc_serial.proofs.Names.{Abort, WriteBack, Flush, DataReq, Inv, InvAck, Shape, home, lines, Cache, is_modified, modified_mask}
+use Rattle.tcc_serial.proofs.Names.{written_lines, Spilled, holds, spilled_mask, spilled_words, CoreState, Awaited, Phase, Running}
+use Rattle.tcc_serial.proofs.Names.{AwaitTid, DoomedTid, Probing, Ready, Overflowing, Solo, Halted, Sends, to, marks_for, skip_all}
+use Rattle.tcc_serial.proofs.Names.{probe_all, abort_written, Out, commit, commit_sends, solo_sends, solo_marks, solo_backs, solo_writes_at}
+use Rattle.tcc_serial.proofs.Names.{is_written, written_mask, core_exec, exec_phase, unless_awaiting, core_evict, grant, grant_phase}
+use Rattle.tcc_serial.proofs.Names.{grant_sends, from_dir, probe_reply, ignored, fill, data_request, invalidate, Kind, Acks, MarksAway}
+use Rattle.tcc_serial.proofs.Names.{AnyResolve, Protocol, among, passes}
 use Rattle.tcc_serial.proofs.Counts.Links.{among-append}
 use Rattle.tcc_serial.proofs.Counts.Sent.{among-flat_map_none}
 use Rattle.tcc_serial.proofs.OneCore.Executes.{Acts, Steady, Executed, Goes_on, Overflows, Asks_tid, Alone, executed}
-use Rattle.tcc_serial.proofs.OneCore.CoreSteps.{evict-steady, ignored-steady, fill-steady, data-steady, Hurt, Unhurt, Rolled, Doomed, Aborted, Gave_up, Invalidated, invalidate-cases, Replied, Ignored, Probed, Left_alone, reply-cases}
+use Rattle.tcc_serial.proofs.OneCore.CoreSteps.{evict-steady, ignored-steady, fill-steady, data-steady, Hurt, Unhurt, Rolled, Doomed}
+use Rattle.tcc_serial.proofs.OneCore.CoreSteps.{Aborted, Gave_up, Invalidated, invalidate-cases, Replied, Ignored, Probed, Left_alone}
+use Rattle.tcc_serial.proofs.OneCore.CoreSteps.{reply-cases}
 
 -- no acknowledgement, no mark of a line that is at home elsewhere, and no word on a TID to a directory that the machine
 -- doesn't have

@@ -1,20 +1,15 @@
 -- What a directory's rules do to what it is owed and to what it sends about marked lines.
-use Rattle.std.specs.Prelude.{ℕ, zero, suc, ◌+◌, ◌-◌, ◌≡◌, ◌≤◌, ◌%◌, Bool, true, false, not, List, [], ◌∷◌, ◌==◌, ◌&&◌, ◌||◌, Option, Some, None, nat_lt, nat_le, cond, if◌then◌else◌}
-use Rattle.std.specs.List.{flat_map}
-use Rattle.std.proofs.Common.{arith, refl, ◌∙◌, ◌⊎◌, inl, inr}
-use Rattle.std.proofs.lemmas.Bool.Decides.{nat_tests}
-use Rattle.std.proofs.lemmas.Grind.{flat_map-append}
-use Rattle.tcc_maps.specs.Words.{num, count_below, those}
-use Rattle.tcc_maps.specs.Masks.{full}
-use Rattle.tcc_maps.specs.Lines.{Lines, has_mark, with_asked, with_owner, with_sharer, with_mark, unmarked}
-use Rattle.tcc_maps.specs.Judge.{Judgement, judge, Takes as IsTaken, Drops as IsDropped, Waits as IsEarly}
-use Rattle.tcc_maps.specs.Serving.{advance, skipped, kept}
-use Rattle.tcc_maps.specs.Nodes.{Core, Msg, TidReq, TidGrant, LoadReq, Fill, Skip, Probe, ProbeReply, Mark, Commit, Abort, WriteBack, Flush, DataReq, Inv, InvAck}
-use Rattle.tcc_maps.specs.Shape.{Shape, home, lines}
-use Rattle.tcc_rules.specs.State.{DirState}
-use Rattle.tcc_rules.specs.Sends.{Sends, nothing, to}
-use Rattle.tcc_rules.specs.DirDeliver.{total, Answer, Waits, Drops, Asks, Takes, skip, abort, commit, acknowledgement, dir_deliver, moved_on, settled, owned, owed_by, invalidations, invs_to, is_invalidated, unless_keeps, ask_owner, load_owned, load_request, line_words, marking, mark_owned, mark, judged, write_back, came_home, probe}
-use Rattle.tcc_serial.specs.Count.{Invs, InvsNot, InvsAway, Acks, MarksAway, Resolves, among, passes}
+use Rattle.tcc_serial.proofs.Names.{ℕ, zero, suc, ◌+◌, ◌-◌, ◌≡◌, ◌≤◌, ◌%◌, Bool, true, false, not, List, [], ◌∷◌, ◌==◌, ◌&&◌, ◌||◌, Option}
+use Rattle.tcc_serial.proofs.Names.{Some, None, nat_lt, nat_le, cond, if◌then◌else◌, flat_map, arith, refl, ◌∙◌, ◌⊎◌, inl, inr, nat_tests}
+use Rattle.tcc_serial.proofs.Names.{flat_map-append, num, count_below, those, full, Lines, has_mark, with_asked, with_owner, with_sharer}
+use Rattle.tcc_serial.proofs.Names.{with_mark, unmarked, Judgement, judge, IsTaken, IsDropped, IsEarly, advance, skipped, kept, Core, Msg}
+use Rattle.tcc_serial.proofs.Names.{TidReq, TidGrant, LoadReq, Fill, Skip, Probe, ProbeReply, Mark, Commit, Abort, WriteBack, Flush}
+use Rattle.tcc_serial.proofs.Names.{DataReq, Inv, InvAck, Shape, home, lines, DirState, Sends, nothing, to, total, Answer, Waits, Drops}
+use Rattle.tcc_serial.proofs.Names.{Asks, Takes, skip, abort, acknowledgement, dir_deliver, moved_on, settled, owned, owed_by}
+use Rattle.tcc_serial.proofs.Names.{invalidations, invs_to, is_invalidated, unless_keeps, ask_owner, load_owned, load_request, line_words}
+use Rattle.tcc_serial.proofs.Names.{marking, mark_owned, mark, judged, write_back, came_home, probe, Invs, InvsNot, InvsAway, Acks}
+use Rattle.tcc_serial.proofs.Names.{MarksAway, Resolves, among, passes}
+use Rattle.tcc_rules.specs.DirDeliver.{commit}
 use Rattle.tcc_serial.proofs.Counts.Links.{among-append, total-zero, total-same, among-fewer}
 use Rattle.tcc_serial.proofs.Counts.Sent.{among-flat_map_none}
 use Rattle.tcc_serial.proofs.Serving.CoreDue.{among-those_none}

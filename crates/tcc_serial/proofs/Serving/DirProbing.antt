@@ -1,18 +1,13 @@
 -- A directory replies to a probe where it takes it, and to nothing else.
-use Rattle.std.specs.Prelude.{ℕ, ◌-◌, ◌≡◌, Bool, true, false, List, [], ◌∷◌, ◌==◌, ◌&&◌, ◌||◌, Option, Some, None, nat_lt, nat_le, if◌then◌else◌}
-use Rattle.std.proofs.Common.{arith, refl}
-use Rattle.std.proofs.lemmas.Bool.Decides.{nat_tests}
-use Rattle.tcc_maps.specs.Words.{num, count_below, those}
-use Rattle.tcc_maps.specs.Masks.{full}
-use Rattle.tcc_maps.specs.Lines.{Lines, has_mark, with_asked}
-use Rattle.tcc_maps.specs.Judge.{Judgement, judge, Takes as IsTaken, Drops as IsDropped, Waits as IsEarly}
-use Rattle.tcc_maps.specs.Serving.{skipped, kept}
-use Rattle.tcc_maps.specs.Nodes.{Core, Msg, TidReq, TidGrant, LoadReq, Fill, Skip, Probe, ProbeReply, Mark, Commit, Abort, WriteBack, Flush, DataReq, Inv, InvAck}
-use Rattle.tcc_maps.specs.Shape.{Shape, lines}
-use Rattle.tcc_rules.specs.State.{DirState}
-use Rattle.tcc_rules.specs.Sends.{Sends, nothing, to}
-use Rattle.tcc_rules.specs.DirDeliver.{Answer, Waits, Drops, Asks, Takes, skip, abort, commit, acknowledgement, dir_deliver, moved_on, settled, owned, owed_by, invalidations, invs_to, is_invalidated, unless_keeps, ask_owner, load_owned, load_request, line_words, marking, mark_owned, mark, judged, write_back, probe}
-use Rattle.tcc_serial.specs.Count.{Probes, Replies, among, passes}
+use Rattle.tcc_serial.proofs.Names.{ℕ, ◌-◌, ◌≡◌, Bool, true, false, List, [], ◌∷◌, ◌==◌, ◌&&◌, ◌||◌, Option, Some, None, nat_lt, nat_le}
+use Rattle.tcc_serial.proofs.Names.{if◌then◌else◌, arith, refl, nat_tests, num, count_below, those, full, Lines, has_mark, with_asked}
+use Rattle.tcc_serial.proofs.Names.{Judgement, judge, IsTaken, IsDropped, IsEarly, skipped, kept, Core, Msg, TidReq, TidGrant, LoadReq}
+use Rattle.tcc_serial.proofs.Names.{Fill, Skip, Probe, ProbeReply, Mark, Commit, Abort, WriteBack, Flush, DataReq, Inv, InvAck, Shape}
+use Rattle.tcc_serial.proofs.Names.{lines, DirState, Sends, nothing, to, Answer, Waits, Drops, Asks, Takes, skip, abort, acknowledgement}
+use Rattle.tcc_serial.proofs.Names.{dir_deliver, moved_on, settled, owned, owed_by, invalidations, invs_to, is_invalidated, unless_keeps}
+use Rattle.tcc_serial.proofs.Names.{ask_owner, load_owned, load_request, line_words, marking, mark_owned, mark, judged, write_back, probe}
+use Rattle.tcc_serial.proofs.Names.{Probes, Replies, among, passes}
+use Rattle.tcc_rules.specs.DirDeliver.{commit}
 use Rattle.tcc_serial.proofs.Counts.Sent.{among-flat_map_none}
 
 -- the reply to a probe that was taken, to its core alone

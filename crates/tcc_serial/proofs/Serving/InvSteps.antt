@@ -1,30 +1,13 @@
 -- Every event keeps that no invalidation goes to the core that committed.
-use Rattle.std.specs.Prelude.{ℕ, ◌≡◌, ◌<◌, ◌≤◌, true, List, [], ◌∷◌, ◌++◌, Contains, Option, Some, None, IfSome}
-use Rattle.std.proofs.Common.{arith, refl, sym, ap, ◌∙◌, ◌⊎◌, inl, inr}
-use Rattle.std.proofs.lemmas.Bool.{cases_eq, cases_lt}
-use Rattle.std.proofs.lemmas.Bool.Decides.{nat_tests}
-use Rattle.std.proofs.lemmas.List.{append-nil}
-use Rattle.std.proofs.lemmas.List.Elements.{Contains-append_left, Contains-append_cases}
-use Rattle.tcc_base.specs.declared.access.Commit.{Commit as Noted}
-use Rattle.tcc_program.specs.Program.{Program}
-use Rattle.tcc_maps.specs.Words.{num}
-use Rattle.tcc_maps.specs.Nodes.{Core, Dir, Msg, Event}
-use Rattle.tcc_maps.specs.Shape.{Shape}
-use Rattle.tcc_rules.specs.State.{CoreState, DirState, World, Phase, Running, AwaitTid, DoomedTid, Probing, Ready, Overflowing, Solo, Halted}
-use Rattle.tcc_rules.specs.Links.{in_flight, sent_all}
-use Rattle.tcc_rules.specs.Sends.{Sends}
-use Rattle.tcc_rules.specs.Attempt.{Out}
-use Rattle.tcc_rules.specs.CoreExec.{core_exec}
-use Rattle.tcc_rules.specs.CoreEvict.{core_evict}
-use Rattle.tcc_rules.specs.CoreDeliver.{from_dir, grant, grant_phase}
-use Rattle.tcc_rules.specs.DirDeliver.{Answer, Waits, Drops, Asks, Takes, dir_deliver}
-use Rattle.tcc_rules.specs.Step.{core_moves, core_takes, dir_takes, dir_asks, vendor_gives, step}
-use Rattle.tcc_serial.specs.Count.{Invs, InvsNot, Commits, Acks, live, among, passes}
-use Rattle.tcc_serial.specs.Pairs.{Pair, pair, after_move, grant_taken, back_taken, after_answer, out_taken, share}
-use Rattle.tcc_serial.specs.Tids.{handled}
-use Rattle.tcc_serial.specs.Owed.{due}
-use Rattle.tcc_serial.specs.Kept.{Kept, KeptTold}
-use Rattle.tcc_serial.specs.Owners.{Grant, granted_by, IsNumbered, holder, KeptOwners, SparedOf, SparesCommitter}
+use Rattle.tcc_serial.proofs.Names.{ℕ, ◌≡◌, ◌<◌, ◌≤◌, true, List, [], ◌∷◌, ◌++◌, Contains, Option, Some, None, IfSome, arith, refl, sym, ap}
+use Rattle.tcc_serial.proofs.Names.{◌∙◌, ◌⊎◌, inl, inr, cases_eq, cases_lt, nat_tests, append-nil, Contains-append_left}
+use Rattle.tcc_serial.proofs.Names.{Contains-append_cases, Noted, Program, num, Core, Dir, Msg, Event, Shape, CoreState, DirState, World}
+use Rattle.tcc_serial.proofs.Names.{Phase, Running, AwaitTid, DoomedTid, Probing, Ready, Overflowing, Solo, Halted, in_flight, sent_all}
+use Rattle.tcc_serial.proofs.Names.{Sends, Out, core_exec, core_evict, from_dir, grant, grant_phase, Answer, Waits, Drops, Asks, Takes}
+use Rattle.tcc_serial.proofs.Names.{dir_deliver, core_moves, core_takes, dir_takes, dir_asks, vendor_gives, step, Invs, InvsNot, Commits}
+use Rattle.tcc_serial.proofs.Names.{Acks, live, among, passes, Pair, pair, after_move, grant_taken, back_taken, after_answer, out_taken}
+use Rattle.tcc_serial.proofs.Names.{share, handled, due, Kept, KeptTold, Grant, granted_by, IsNumbered, holder, KeptOwners, SparedOf}
+use Rattle.tcc_serial.proofs.Names.{SparesCommitter}
 use Rattle.tcc_serial.proofs.Counts.Links.{live-sends, live-takes, total-le}
 use Rattle.tcc_serial.proofs.Counts.PairFrames.{same, given, pairs_move, pairs_grant, pairs_back, pairs_dir, pairs_asks, pairs_vendor}
 use Rattle.tcc_serial.proofs.Counts.StepCases.{OfAnswer, step_cases}

@@ -1,38 +1,24 @@
 -- Every event keeps the invariants, and so does every run.
-use Rattle.std.specs.Prelude.{ℕ, ◌+◌, ◌≡◌, ◌<◌, ◌≤◌, List, [], ◌∷◌, Option, Some, None, IfSome}
-use Rattle.std.proofs.Common.{arith, ◌⊎◌, inl, inr}
-use Rattle.std.proofs.lemmas.Bool.{cases_lt}
-use Rattle.std.proofs.lemmas.Bool.Decides.{nat_tests}
-use Rattle.tcc_program.specs.Program.{Program, Local}
-use Rattle.tcc_maps.specs.Serving.{Serving}
-use Rattle.tcc_maps.specs.Words.{num}
-use Rattle.tcc_maps.specs.Nodes.{Core, Dir, Vendor, Msg, TidReq, TidGrant, Event}
-use Rattle.tcc_maps.specs.Shape.{Shape}
-use Rattle.tcc_rules.specs.State.{World, start}
-use Rattle.tcc_rules.specs.Links.{in_flight}
-use Rattle.tcc_rules.specs.Attempt.{Out}
-use Rattle.tcc_rules.specs.CoreExec.{core_exec}
-use Rattle.tcc_rules.specs.CoreEvict.{core_evict}
-use Rattle.tcc_rules.specs.CoreDeliver.{from_dir, grant}
-use Rattle.tcc_rules.specs.DirDeliver.{Answer, Waits, Drops, Asks, Takes, dir_deliver}
-use Rattle.tcc_rules.specs.Step.{core_moves, core_takes, Stepped, step, History, and_noted, recorded, next, and_then, run_from, run}
-use Rattle.tcc_serial.specs.Count.{Acks, Resolves, AnyResolve, Any, live, passes}
-use Rattle.tcc_serial.specs.Pairs.{pair}
-use Rattle.tcc_serial.specs.Tids.{handled, KeptTids}
+use Rattle.tcc_serial.proofs.Names.{ℕ, ◌+◌, ◌≡◌, ◌<◌, ◌≤◌, List, [], ◌∷◌, Option, Some, None, IfSome, arith, ◌⊎◌, inl, inr, cases_lt}
+use Rattle.tcc_serial.proofs.Names.{nat_tests, Program, Local, Serving, num, Core, Dir, Vendor, Msg, TidReq, TidGrant, Event, Shape, World}
+use Rattle.tcc_serial.proofs.Names.{start, in_flight, Out, core_exec, core_evict, from_dir, grant, Answer, Waits, Drops, Asks, Takes}
+use Rattle.tcc_serial.proofs.Names.{dir_deliver, core_moves, core_takes, Stepped, step, History, and_noted, recorded, next, and_then}
+use Rattle.tcc_serial.proofs.Names.{run_from, run, Acks, Resolves, AnyResolve, Any, live, passes, pair, handled, KeptTids, KeptOwed}
+use Rattle.tcc_serial.proofs.Names.{KeptTold, Kept, KeptProbes}
 use Rattle.tcc_serial.proofs.Counts.StepCases.{OfAnswer, step_cases}
 use Rattle.tcc_serial.proofs.Tids.CoreTids.{KeepsPart, part-exec, part-evict, part-back}
 use Rattle.tcc_serial.proofs.Tids.CoreRequests.{KeepsRequests, requests-exec, requests-evict, requests-back}
 use Rattle.tcc_serial.proofs.Tids.DirTids.{HandledBy, OnceAt, dir-handled, skipped-above}
-use Rattle.tcc_serial.specs.Owed.{KeptOwed}
-use Rattle.tcc_serial.specs.Kept.{KeptTold, Kept}
 use Rattle.tcc_serial.proofs.Serving.CoreDue.{CleanOut, clean-exec, clean-evict, clean-grant}
 use Rattle.tcc_serial.proofs.Serving.DirDue.{DueBy, dir-due, still-due}
-use Rattle.tcc_serial.proofs.Serving.OwedSteps.{move-owed, grant-owed, backs-owed, dir-owed, asks-owed, vendor-owed, start-owed, marks_home, acks_owed}
-use Rattle.tcc_serial.proofs.Tids.TidSteps.{move-kept, grant-kept, back-kept, dir-kept, asks-kept, vendor-kept, start-kept, inside_from, any-one, live-some, once-there, no_sends}
-use Rattle.tcc_serial.specs.Probes.{KeptProbes}
+use Rattle.tcc_serial.proofs.Serving.OwedSteps.{move-owed, grant-owed, backs-owed, dir-owed, asks-owed, vendor-owed, start-owed, marks_home}
+use Rattle.tcc_serial.proofs.Serving.OwedSteps.{acks_owed}
+use Rattle.tcc_serial.proofs.Tids.TidSteps.{move-kept, grant-kept, back-kept, dir-kept, asks-kept, vendor-kept, start-kept, inside_from}
+use Rattle.tcc_serial.proofs.Tids.TidSteps.{any-one, live-some, once-there, no_sends}
 use Rattle.tcc_serial.proofs.OneCore.CoreProbes.{StaysReached, asked-exec, asked-evict, asked-grant}
 use Rattle.tcc_serial.proofs.Serving.DirProbes.{RisesBy, dir-rises, rises-still}
-use Rattle.tcc_serial.proofs.Serving.ProbeSteps.{move-probes, grant-probes, backs-probes, dir-probes, asks-probes, vendor-probes, start-probes}
+use Rattle.tcc_serial.proofs.Serving.ProbeSteps.{move-probes, grant-probes, backs-probes, dir-probes, asks-probes, vendor-probes}
+use Rattle.tcc_serial.proofs.Serving.ProbeSteps.{start-probes}
 use Rattle.tcc_serial.proofs.Counts.Inside.{AnswersInside, dir-inside}
 
 -- the core that a message comes from or goes to is one of the machine

@@ -1,27 +1,11 @@
 -- Every event keeps that a core's TID is the last that was granted to it.
-use Rattle.std.specs.Prelude.{ℕ, ◌+◌, ◌≡◌, ◌≤◌, ◌==◌, Bool, true, false, List, [], ◌∷◌, ◌++◌, Contains, Option, Some, None, IfSome, slice_index_or}
-use Rattle.std.proofs.Common.{arith, refl, sym, ap, ◌⊎◌, inl, inr}
-use Rattle.std.proofs.lemmas.Bool.{cases_eq}
-use Rattle.std.proofs.lemmas.Bool.Decides.{nat_tests}
-use Rattle.std.proofs.lemmas.List.{append-nil}
-use Rattle.std.proofs.lemmas.List.Elements.{Contains-append_cases}
-use Rattle.tcc_base.specs.declared.access.Commit.{Commit as Noted}
-use Rattle.tcc_program.specs.Program.{Program}
-use Rattle.tcc_maps.specs.Words.{num}
-use Rattle.tcc_maps.specs.Nodes.{Core, Dir, Vendor, Msg, TidReq, Event}
-use Rattle.tcc_maps.specs.Shape.{Shape}
-use Rattle.tcc_rules.specs.State.{World, Link, Phase, Running, AwaitTid, DoomedTid, Probing, Ready, Overflowing, Solo, Halted}
-use Rattle.tcc_rules.specs.Links.{in_flight}
-use Rattle.tcc_rules.specs.Attempt.{Out}
-use Rattle.tcc_rules.specs.CoreExec.{core_exec}
-use Rattle.tcc_rules.specs.CoreEvict.{core_evict}
-use Rattle.tcc_rules.specs.CoreDeliver.{from_dir, grant}
-use Rattle.tcc_rules.specs.DirDeliver.{Answer, Waits, Drops, Asks, Takes, dir_deliver}
-use Rattle.tcc_rules.specs.Step.{core_moves, core_takes, step}
-use Rattle.tcc_serial.specs.Count.{Asks as AsksTid, Grants, AnyGrant, live, passes}
-use Rattle.tcc_serial.specs.Pairs.{Pair, pair, after_grant, after_other_grant}
-use Rattle.tcc_serial.specs.Tids.{has_tid, waits_for_tid, RequestOf, KeptTids}
-use Rattle.tcc_serial.specs.Owners.{Grant, granted_by, holder, KeptOwners, LastGranted}
+use Rattle.tcc_serial.proofs.Names.{ℕ, ◌+◌, ◌≡◌, ◌≤◌, ◌==◌, Bool, true, false, List, [], ◌∷◌, ◌++◌, Contains, Option, Some, None, IfSome}
+use Rattle.tcc_serial.proofs.Names.{slice_index_or, arith, refl, sym, ap, ◌⊎◌, inl, inr, cases_eq, nat_tests, append-nil}
+use Rattle.tcc_serial.proofs.Names.{Contains-append_cases, Noted, Program, num, Core, Dir, Vendor, Msg, TidReq, Event, Shape, World, Link}
+use Rattle.tcc_serial.proofs.Names.{Phase, Running, AwaitTid, DoomedTid, Probing, Ready, Overflowing, Solo, Halted, in_flight, Out}
+use Rattle.tcc_serial.proofs.Names.{core_exec, core_evict, from_dir, grant, Answer, Waits, Drops, Asks, Takes, dir_deliver, core_moves}
+use Rattle.tcc_serial.proofs.Names.{core_takes, step, AsksTid, Grants, AnyGrant, live, passes, Pair, pair, after_grant, after_other_grant}
+use Rattle.tcc_serial.proofs.Names.{has_tid, waits_for_tid, RequestOf, KeptTids, Grant, granted_by, holder, KeptOwners, LastGranted}
 use Rattle.tcc_serial.proofs.Counts.Links.{live-takes, live-fewer}
 use Rattle.tcc_serial.proofs.Counts.PairFrames.{pairs_move, pairs_grant, pairs_back, pairs_dir, pairs_asks, pairs_vendor}
 use Rattle.tcc_serial.proofs.Counts.StepCases.{OfAnswer, step_cases}

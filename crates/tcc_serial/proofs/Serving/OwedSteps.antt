@@ -1,25 +1,16 @@
 -- Each kind of event keeps what is owed equal to what is in flight.
-use Rattle.std.specs.Prelude.{ℕ, ◌+◌, ◌≡◌, ◌<◌, ◌≤◌, ◌%◌, Bool, true, false, List, ◌++◌, ◌==◌, Option, Some, None, IfSome, set, slice_index_or}
-use Rattle.std.proofs.Common.{arith, refl, sym, ◌∙◌, ◌⊎◌, inl, inr}
-use Rattle.std.proofs.lemmas.Bool.{cases_lt, cases_eq}
-use Rattle.std.proofs.lemmas.Bool.Decides.{nat_tests}
-use Rattle.tcc_program.specs.Program.{Local}
-use Rattle.tcc_maps.specs.Words.{num}
-use Rattle.tcc_maps.specs.Lines.{no_lines}
-use Rattle.tcc_maps.specs.Nodes.{Core, Dir, Vendor, Msg, TidReq, TidGrant, LoadReq, Fill, Skip, Probe, ProbeReply, Mark, Commit, Abort, WriteBack, Flush, DataReq, Inv, InvAck}
-use Rattle.tcc_maps.specs.Shape.{Shape, home}
-use Rattle.tcc_rules.specs.State.{CoreState, DirState, World, Link, start, dir_start}
-use Rattle.tcc_rules.specs.Links.{in_flight, sent_all}
-use Rattle.tcc_rules.specs.Sends.{Sends}
-use Rattle.tcc_rules.specs.Attempt.{Out}
-use Rattle.tcc_rules.specs.CoreDeliver.{from_dir}
-use Rattle.tcc_rules.specs.Step.{core_moves, core_takes, dir_takes, dir_asks, vendor_gives}
-use Rattle.tcc_serial.specs.Count.{Invs, InvsNot, InvsAway, Acks, MarksAway, AnyResolve, Any, live, among, passes}
-use Rattle.tcc_serial.specs.Pairs.{Pair, pair, after_move, grant_taken, back_taken, after_answer, out_taken, after_grant, after_other_grant, share}
-use Rattle.tcc_serial.specs.Tids.{KeptTids}
-use Rattle.tcc_serial.specs.Owed.{due, OwedAt, AtHomeOf, KeptOwed}
+use Rattle.tcc_serial.proofs.Names.{ℕ, ◌+◌, ◌≡◌, ◌<◌, ◌≤◌, ◌%◌, Bool, true, false, List, ◌++◌, ◌==◌, Option, Some, None, IfSome, set}
+use Rattle.tcc_serial.proofs.Names.{slice_index_or, arith, refl, sym, ◌∙◌, ◌⊎◌, inl, inr, cases_lt, cases_eq, nat_tests, Local, num}
+use Rattle.tcc_serial.proofs.Names.{no_lines, Core, Dir, Vendor, Msg, TidReq, TidGrant, LoadReq, Fill, Skip, Probe, ProbeReply, Mark}
+use Rattle.tcc_serial.proofs.Names.{Commit, Abort, WriteBack, Flush, DataReq, Inv, InvAck, Shape, home, CoreState, DirState, World, Link}
+use Rattle.tcc_serial.proofs.Names.{start, dir_start, in_flight, sent_all, Sends, Out, from_dir, core_moves, core_takes, dir_takes}
+use Rattle.tcc_serial.proofs.Names.{dir_asks, vendor_gives, Invs, InvsNot, InvsAway, Acks, MarksAway, AnyResolve, Any, live, among, passes}
+use Rattle.tcc_serial.proofs.Names.{Pair, pair, after_move, grant_taken, back_taken, after_answer, out_taken, after_grant}
+use Rattle.tcc_serial.proofs.Names.{after_other_grant, share, KeptTids, due, OwedAt, AtHomeOf, KeptOwed}
 use Rattle.tcc_serial.proofs.Counts.Links.{live-sends, live-takes, total-le, total-zero, live-fewer}
-use Rattle.tcc_serial.proofs.Counts.PairFrames.{same, differ, given, pairs_move, pairs_grant, pairs_back, pairs_dir, pairs_asks, pairs_vendor, sum_move, sum_grant, sum_back, sum_back_away, sum_dir, sum_dir_away, sum_asks_here, sum_asks_away, sum_vendor}
+use Rattle.tcc_serial.proofs.Counts.PairFrames.{same, differ, given, pairs_move, pairs_grant, pairs_back, pairs_dir, pairs_asks}
+use Rattle.tcc_serial.proofs.Counts.PairFrames.{pairs_vendor, sum_move, sum_grant, sum_back, sum_back_away, sum_dir, sum_dir_away}
+use Rattle.tcc_serial.proofs.Counts.PairFrames.{sum_asks_here, sum_asks_away, sum_vendor}
 use Rattle.tcc_serial.proofs.Serving.CoreDue.{Clean, CleanOut, AcksHome, acks-back}
 use Rattle.tcc_serial.proofs.Serving.DirDue.{Due, nots-invs, at-home}
 

@@ -1,29 +1,18 @@
 -- Every event keeps which directories owe a core replies: those that it asked, while it waits, and then some does.
-use Rattle.std.specs.Prelude.{ℕ, ◌≡◌, ◌<◌, ◌⊎◌, ◌==◌, ◌&&◌, ◌||◌, Bool, true, false, Option, Some, None, IfSome, nat_lt, if◌then◌else◌}
-use Rattle.std.proofs.Common.{arith, refl, ap₂, inl, inr}
-use Rattle.std.proofs.lemmas.Bool.{cases_eq}
-use Rattle.std.proofs.lemmas.Bool.Decides.{nat_tests}
-use Rattle.tcc_program.specs.Program.{Program, Local}
-use Rattle.tcc_program.specs.Plain.{Outcome, Goes, Ended, Halted as HaltedWith, Trapped as TrappedWith}
-use Rattle.tcc_maps.specs.Words.{put, any_below}
-use Rattle.tcc_maps.specs.Nodes.{Dir, Event, Msg, TidReq, TidGrant, LoadReq, Fill, Skip, Probe, ProbeReply, Mark, Commit, Abort, WriteBack, Flush, DataReq, Inv, InvAck}
-use Rattle.tcc_maps.specs.Shape.{Shape}
-use Rattle.tcc_maps.specs.Cache.{writes_at, reads_at}
-use Rattle.tcc_maps.proofs.Lemmas.{any_below-at}
-use Rattle.tcc_rules.specs.State.{CoreState, Awaited, World, Phase, Running, AwaitTid, DoomedTid, Probing, Ready, Overflowing, Solo, Halted, start, core_start}
-use Rattle.tcc_rules.specs.Attempt.{Out}
-use Rattle.tcc_rules.specs.Commit.{commit, committed_core, phase_after}
-use Rattle.tcc_rules.specs.CoreExec.{core_exec, exec_phase, unless_awaiting}
-use Rattle.tcc_rules.specs.CoreEvict.{core_evict}
-use Rattle.tcc_rules.specs.CoreDeliver.{from_dir, grant, grant_phase, is_probed, probing, all_replied, fill, data_request, invalidate, probe_reply}
-use Rattle.tcc_rules.specs.DirDeliver.{Answer, Waits, Drops, Asks, Takes, dir_deliver}
-use Rattle.tcc_rules.specs.Execute.{execute}
-use Rattle.tcc_rules.specs.Step.{core_moves, core_takes, dir_takes, dir_asks, vendor_gives, step}
-use Rattle.tcc_serial.specs.Alone.{OwingFits}
-use Rattle.tcc_serial.specs.OneCore.{awaits_replies}
-use Rattle.tcc_serial.specs.Probes.{asks_dir}
+use Rattle.tcc_serial.proofs.Names.{ℕ, ◌≡◌, ◌<◌, ◌⊎◌, ◌==◌, ◌&&◌, ◌||◌, Bool, true, false, Option, Some, None, IfSome, nat_lt}
+use Rattle.tcc_serial.proofs.Names.{if◌then◌else◌, arith, refl, ap₂, inl, inr, cases_eq, nat_tests, Program, Local, Outcome, Goes, Ended}
+use Rattle.tcc_serial.proofs.Names.{HaltedWith, TrappedWith, any_below, Dir, Event, Msg, TidReq, TidGrant, LoadReq, Fill, Skip, Probe}
+use Rattle.tcc_serial.proofs.Names.{ProbeReply, Mark, Commit, Abort, WriteBack, Flush, DataReq, Inv, InvAck, Shape, writes_at, reads_at}
+use Rattle.tcc_serial.proofs.Names.{any_below-at, CoreState, Awaited, World, Phase, Running, AwaitTid, DoomedTid, Probing, Ready}
+use Rattle.tcc_serial.proofs.Names.{Overflowing, Solo, Halted, start, core_start, Out, commit, committed_core, phase_after, core_exec}
+use Rattle.tcc_serial.proofs.Names.{exec_phase, unless_awaiting, core_evict, from_dir, grant, grant_phase, is_probed, probing, all_replied}
+use Rattle.tcc_serial.proofs.Names.{fill, data_request, invalidate, probe_reply, Answer, Waits, Drops, Asks, Takes, dir_deliver, execute}
+use Rattle.tcc_serial.proofs.Names.{core_moves, core_takes, dir_takes, dir_asks, vendor_gives, step, OwingFits, awaits_replies, asks_dir}
+use Rattle.tcc_maps.specs.Words.{put}
 use Rattle.tcc_serial.proofs.OneCore.CoreProbes.{none-below, all-replied}
-use Rattle.tcc_serial.proofs.OneCore.CoreSteps.{writes_at-same, reads_at-same, evict-steady, fill-steady, data-steady, Hurt, Unhurt, Rolled, Doomed, Aborted, Gave_up, Invalidated, invalidate-cases, Replied, Ignored, Probed, Left_alone, reply-cases}
+use Rattle.tcc_serial.proofs.OneCore.CoreSteps.{writes_at-same, reads_at-same, evict-steady, fill-steady, data-steady, Hurt, Unhurt, Rolled}
+use Rattle.tcc_serial.proofs.OneCore.CoreSteps.{Doomed, Aborted, Gave_up, Invalidated, invalidate-cases, Replied, Ignored, Probed}
+use Rattle.tcc_serial.proofs.OneCore.CoreSteps.{Left_alone, reply-cases}
 use Rattle.tcc_serial.proofs.OneCore.Executes.{Acts, Steady, Executed, Goes_on, Overflows, Asks_tid, Alone, executed}
 use Rattle.tcc_serial.proofs.Counts.StepCases.{OfAnswer, step_cases}
 

@@ -1,33 +1,18 @@
 -- Each kind of event keeps who has which TID, and the list of commits.
-use Rattle.std.specs.Prelude.{ℕ, ◌+◌, ◌≡◌, ◌<◌, ◌≤◌, ◌==◌, false, List, [], ◌∷◌, ◌++◌, Contains, Option, Some, None, IfSome, slice_index_or, nat_le}
-use Rattle.std.proofs.Common.{arith, refl, sym, ap, subst, append_assoc, ◌∙◌, ◌⊎◌, inl, inr}
-use Rattle.std.proofs.lemmas.Bool.{cases_eq}
-use Rattle.std.proofs.lemmas.Bool.Decides.{nat_tests}
-use Rattle.std.proofs.lemmas.List.{append-nil, length-append}
-use Rattle.std.proofs.lemmas.List.Elements.{Contains-append_left, Contains-append_right}
-use Rattle.tcc_base.specs.declared.access.Commit.{Commit as Noted}
-use Rattle.tcc_program.specs.Program.{Program, Local}
-use Rattle.tcc_maps.specs.Words.{num}
-use Rattle.tcc_maps.specs.Nodes.{Core, Dir, Vendor, TidReq, TidGrant, Event}
-use Rattle.tcc_maps.specs.Shape.{Shape}
-use Rattle.tcc_rules.specs.State.{DirState, World, start, core_start, vendor_start}
-use Rattle.tcc_rules.specs.Links.{in_flight}
-use Rattle.tcc_rules.specs.Sends.{Sends}
-use Rattle.tcc_rules.specs.Attempt.{Out}
-use Rattle.tcc_rules.specs.CoreExec.{core_exec}
-use Rattle.tcc_rules.specs.CoreEvict.{core_evict}
-use Rattle.tcc_rules.specs.CoreDeliver.{from_dir, grant}
-use Rattle.tcc_rules.specs.DirDeliver.{Answer, Waits, Drops, Asks, Takes, dir_deliver}
-use Rattle.tcc_rules.specs.Step.{core_moves, core_takes, dir_takes, dir_asks, vendor_gives, Stepped, step, History, and_noted, recorded, next, and_then, run_from, run}
-use Rattle.tcc_serial.specs.Count.{Grants, live, among, passes}
-use Rattle.tcc_serial.specs.Pairs.{Pair, pair, after_move, grant_taken, after_grant, after_other_grant, share, sum_of}
-use Rattle.tcc_serial.specs.Tids.{has_tid, KeptTids}
-use Rattle.tcc_serial.specs.Owners.{Grant, granted_by, then_grants, grants_from, IsNumbered, IsRising, AreGranted, times, holder, KeptOwners}
+use Rattle.tcc_serial.proofs.Names.{ℕ, ◌+◌, ◌≡◌, ◌<◌, ◌≤◌, ◌==◌, false, List, [], ◌∷◌, ◌++◌, Contains, Option, Some, None, IfSome}
+use Rattle.tcc_serial.proofs.Names.{slice_index_or, nat_le, arith, refl, sym, ap, subst, append_assoc, ◌∙◌, ◌⊎◌, inl, inr, cases_eq}
+use Rattle.tcc_serial.proofs.Names.{nat_tests, append-nil, length-append, Contains-append_left, Contains-append_right, Noted, Program}
+use Rattle.tcc_serial.proofs.Names.{Local, num, Core, Dir, Vendor, TidReq, TidGrant, Event, Shape, DirState, World, start, core_start}
+use Rattle.tcc_serial.proofs.Names.{vendor_start, in_flight, Sends, Out, core_exec, core_evict, from_dir, grant, Answer, Waits, Drops, Asks}
+use Rattle.tcc_serial.proofs.Names.{Takes, dir_deliver, core_moves, core_takes, dir_takes, dir_asks, vendor_gives, Stepped, step, History}
+use Rattle.tcc_serial.proofs.Names.{and_noted, recorded, next, and_then, run_from, run, Grants, live, among, passes, Pair, pair, after_move}
+use Rattle.tcc_serial.proofs.Names.{grant_taken, after_grant, after_other_grant, share, sum_of, has_tid, KeptTids, Grant, granted_by}
+use Rattle.tcc_serial.proofs.Names.{then_grants, grants_from, IsNumbered, IsRising, AreGranted, times, holder, KeptOwners, Kept}
 use Rattle.tcc_serial.proofs.Counts.Links.{live-sends, live-takes, total-le, total-zero, total-same}
-use Rattle.tcc_serial.specs.Kept.{Kept}
 use Rattle.tcc_serial.proofs.Counts.StepCases.{OfAnswer, step_cases}
 use Rattle.tcc_serial.proofs.Serving.KeptSteps.{core_of_grant, core_of_back, core_of_ask, step-kept, start-all}
-use Rattle.tcc_serial.proofs.Counts.PairFrames.{given, pairs_move, pairs_grant, pairs_back, pairs_vendor, sum_move, sum_grant, sum_back, sum_back_away, sum_vendor}
+use Rattle.tcc_serial.proofs.Counts.PairFrames.{given, pairs_move, pairs_grant, pairs_back, pairs_vendor, sum_move, sum_grant, sum_back}
+use Rattle.tcc_serial.proofs.Counts.PairFrames.{sum_back_away, sum_vendor}
 use Rattle.tcc_serial.proofs.Tids.CoreOwners.{KeepsHolder, noted_tid, none, holder-exec, holder-evict, holder-grant, holder-back}
 use Rattle.tcc_serial.proofs.Tids.Commits.{times-insert, insert-rising, insert-granted, granted-more, numbered-more, numbered-least}
 

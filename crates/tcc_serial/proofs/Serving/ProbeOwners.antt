@@ -1,30 +1,15 @@
 -- Every event keeps that a probe or reply in flight is of a TID that was granted to its core.
-use Rattle.std.specs.Prelude.{ℕ, ◌+◌, ◌≡◌, ◌≤◌, ◌==◌, List, [], ◌∷◌, ◌++◌, Contains, Option, Some, None, IfSome}
-use Rattle.std.proofs.Common.{arith, refl, sym, ◌⊎◌, inl, inr}
-use Rattle.std.proofs.lemmas.Bool.{cases_eq}
-use Rattle.std.proofs.lemmas.Bool.Decides.{nat_tests}
-use Rattle.std.proofs.lemmas.List.{append-nil}
-use Rattle.std.proofs.lemmas.List.Elements.{Contains-append_left}
-use Rattle.tcc_base.specs.declared.access.Commit.{Commit as Noted}
-use Rattle.tcc_program.specs.Program.{Program, Local}
-use Rattle.tcc_maps.specs.Words.{num}
-use Rattle.tcc_maps.specs.Nodes.{Core, Dir, Vendor, Event, Msg, TidReq, TidGrant, LoadReq, Fill, Skip, Probe, ProbeReply, Mark, Commit, Abort, WriteBack, Flush, DataReq, Inv, InvAck}
-use Rattle.tcc_maps.specs.Shape.{Shape}
-use Rattle.tcc_rules.specs.State.{CoreState, World, start}
-use Rattle.tcc_rules.specs.Links.{in_flight, sent_all}
-use Rattle.tcc_rules.specs.Attempt.{Out}
-use Rattle.tcc_rules.specs.CoreExec.{core_exec}
-use Rattle.tcc_rules.specs.CoreEvict.{core_evict}
-use Rattle.tcc_rules.specs.CoreDeliver.{from_dir, grant, ignored, fill, data_request, invalidate, probe_reply}
-use Rattle.tcc_rules.specs.Sends.{marks_for}
-use Rattle.tcc_rules.specs.DirDeliver.{Answer, Waits, Drops, Asks, Takes, dir_deliver}
-use Rattle.tcc_rules.specs.Step.{core_moves, core_takes, step}
-use Rattle.tcc_serial.specs.Count.{Grants, Probes, Replies, live, among, passes}
-use Rattle.tcc_serial.specs.Kept.{Kept}
-use Rattle.tcc_serial.specs.Owners.{Grant, granted_by, holder, KeptOwners}
-use Rattle.tcc_serial.specs.Pairs.{Pair, pair}
-use Rattle.tcc_serial.proofs.Tids.CoreProbing.{Unprobed, unprobed-steady, unprobed-exec, unprobed-evict, unprobed-hurt, granted, none-marks, none-to}
-use Rattle.tcc_serial.proofs.OneCore.CoreSteps.{fill-steady, data-steady, invalidate-cases, Replied, Ignored, Probed, Left_alone, reply-cases}
+use Rattle.tcc_serial.proofs.Names.{ℕ, ◌+◌, ◌≡◌, ◌≤◌, ◌==◌, List, [], ◌∷◌, ◌++◌, Contains, Option, Some, None, IfSome, arith, refl, sym}
+use Rattle.tcc_serial.proofs.Names.{◌⊎◌, inl, inr, cases_eq, nat_tests, append-nil, Contains-append_left, Noted, Program, Local, num, Core}
+use Rattle.tcc_serial.proofs.Names.{Dir, Vendor, Event, Msg, TidReq, TidGrant, LoadReq, Fill, Skip, Probe, ProbeReply, Mark, Commit, Abort}
+use Rattle.tcc_serial.proofs.Names.{WriteBack, Flush, DataReq, Inv, InvAck, Shape, CoreState, World, start, in_flight, sent_all, Out}
+use Rattle.tcc_serial.proofs.Names.{core_exec, core_evict, from_dir, grant, ignored, fill, data_request, invalidate, probe_reply, marks_for}
+use Rattle.tcc_serial.proofs.Names.{Answer, Waits, Drops, Asks, Takes, dir_deliver, core_moves, core_takes, step, Grants, Probes, Replies}
+use Rattle.tcc_serial.proofs.Names.{live, among, passes, Kept, Grant, granted_by, holder, KeptOwners, Pair, pair}
+use Rattle.tcc_serial.proofs.Tids.CoreProbing.{Unprobed, unprobed-steady, unprobed-exec, unprobed-evict, unprobed-hurt, granted, none-marks}
+use Rattle.tcc_serial.proofs.Tids.CoreProbing.{none-to}
+use Rattle.tcc_serial.proofs.OneCore.CoreSteps.{fill-steady, data-steady, invalidate-cases, Replied, Ignored, Probed, Left_alone}
+use Rattle.tcc_serial.proofs.OneCore.CoreSteps.{reply-cases}
 use Rattle.tcc_serial.proofs.Serving.DirProbing.{RepliesBy, dir-replies, none-replied}
 use Rattle.tcc_serial.proofs.Counts.Links.{live-sends, live-takes}
 use Rattle.tcc_serial.proofs.Counts.PairFrames.{pairs_move, pairs_grant, pairs_back, pairs_dir, pairs_asks, pairs_vendor}

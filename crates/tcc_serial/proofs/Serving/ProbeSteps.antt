@@ -1,19 +1,8 @@
 -- Each kind of event keeps what is known of the directories that a core asked.
-use Rattle.std.specs.Prelude.{ℕ, ◌+◌, ◌≡◌, ◌≤◌, Bool, true, false, Option, Some, None, IfSome, set}
-use Rattle.std.proofs.Common.{arith, refl}
-use Rattle.tcc_program.specs.Program.{Local}
-use Rattle.tcc_maps.specs.Words.{num}
-use Rattle.tcc_maps.specs.Nodes.{Core, Dir, Vendor, Msg}
-use Rattle.tcc_maps.specs.Shape.{Shape}
-use Rattle.tcc_rules.specs.State.{CoreState, DirState, World, Running, start, core_start}
-use Rattle.tcc_rules.specs.Links.{in_flight}
-use Rattle.tcc_rules.specs.Sends.{Sends}
-use Rattle.tcc_rules.specs.Attempt.{Out}
-use Rattle.tcc_rules.specs.CoreDeliver.{from_dir}
-use Rattle.tcc_rules.specs.Step.{core_moves, core_takes, dir_takes, dir_asks, vendor_gives}
-use Rattle.tcc_serial.specs.Count.{RepliesAbove, live, passes}
-use Rattle.tcc_serial.specs.Pairs.{Pair, pair, after_move, grant_taken, after_answer, out_taken}
-use Rattle.tcc_serial.specs.Probes.{Reached, ReachedOf, KeptProbes}
+use Rattle.tcc_serial.proofs.Names.{ℕ, ◌+◌, ◌≡◌, ◌≤◌, Bool, true, false, Option, Some, None, IfSome, set, arith, refl, Local, num, Core}
+use Rattle.tcc_serial.proofs.Names.{Dir, Vendor, Msg, Shape, CoreState, DirState, World, Running, start, core_start, in_flight, Sends, Out}
+use Rattle.tcc_serial.proofs.Names.{from_dir, core_moves, core_takes, dir_takes, dir_asks, vendor_gives, RepliesAbove, live, passes, Pair}
+use Rattle.tcc_serial.proofs.Names.{pair, after_move, grant_taken, after_answer, out_taken, Reached, ReachedOf, KeptProbes}
 use Rattle.tcc_serial.proofs.Counts.Links.{live-sends, live-takes}
 use Rattle.tcc_serial.proofs.Counts.PairFrames.{given, pairs_move, pairs_grant, pairs_back, pairs_dir, pairs_asks, pairs_vendor}
 use Rattle.tcc_serial.proofs.OneCore.CoreProbes.{StaysReached, none-asked, asked-back}

@@ -1,37 +1,23 @@
 -- Every event keeps that one probe or reply is in flight for each directory that owes one, and so does every run.
-use Rattle.std.specs.Prelude.{ℕ, ◌+◌, ◌≡◌, ◌≤◌, ◌==◌, Bool, true, false, List, [], ◌∷◌, Option, Some, None, IfSome, nat_le, slice_index_or, if◌then◌else◌}
-use Rattle.std.proofs.Common.{arith, refl, sym, ap, subst, ◌∙◌, ◌⊎◌, inl, inr}
-use Rattle.std.proofs.lemmas.Bool.{cases_eq}
-use Rattle.std.proofs.lemmas.Bool.Decides.{nat_tests}
-use Rattle.tcc_base.specs.Put.{put}
-use Rattle.tcc_program.specs.Program.{Program}
-use Rattle.tcc_maps.specs.Words.{num}
-use Rattle.tcc_maps.specs.Nodes.{Core, Dir, Event, Msg, TidReq, TidGrant, LoadReq, Fill, Skip, Probe, ProbeReply, Mark, Commit, Abort, WriteBack, Flush, DataReq, Inv, InvAck}
-use Rattle.tcc_maps.specs.Shape.{Shape}
-use Rattle.tcc_rules.specs.State.{CoreState, DirState, World, Phase, Running, AwaitTid, DoomedTid, Probing, Ready, Overflowing, Solo, Halted}
-use Rattle.tcc_rules.specs.Links.{in_flight}
-use Rattle.tcc_rules.specs.Sends.{Sends, marks_for}
-use Rattle.tcc_rules.specs.Attempt.{Out}
-use Rattle.tcc_rules.specs.CoreExec.{core_exec}
-use Rattle.tcc_rules.specs.CoreEvict.{core_evict}
-use Rattle.tcc_rules.specs.CoreDeliver.{from_dir, grant, probe_reply, all_replied, fill, data_request, invalidate}
-use Rattle.tcc_rules.specs.DirDeliver.{Answer, Waits, Drops, Asks, Takes, dir_deliver}
-use Rattle.tcc_rules.specs.Step.{core_moves, core_takes, dir_takes, step}
-use Rattle.tcc_serial.specs.Count.{Grants, Probes, Replies, live, among, passes}
-use Rattle.tcc_serial.specs.Pairs.{Pair, pair, after_move, grant_taken, back_taken, after_answer, out_taken, after_grant, after_other_grant}
-use Rattle.tcc_serial.specs.Tids.{has_tid}
-use Rattle.tcc_base.specs.declared.access.Commit.{Commit as Noted}
-use Rattle.tcc_serial.specs.Kept.{Kept}
-use Rattle.tcc_serial.specs.OneCore.{OneCore, KeptCores}
-use Rattle.tcc_serial.specs.Owners.{Grant, KeptOwners}
+use Rattle.tcc_serial.proofs.Names.{ℕ, ◌+◌, ◌≡◌, ◌≤◌, ◌==◌, Bool, true, false, List, [], ◌∷◌, Option, Some, None, IfSome, nat_le}
+use Rattle.tcc_serial.proofs.Names.{slice_index_or, if◌then◌else◌, arith, refl, sym, ap, subst, ◌∙◌, ◌⊎◌, inl, inr, cases_eq, nat_tests}
+use Rattle.tcc_serial.proofs.Names.{put, Program, num, Core, Dir, Event, Msg, TidReq, TidGrant, LoadReq, Fill, Skip, Probe, ProbeReply}
+use Rattle.tcc_serial.proofs.Names.{Mark, Commit, Abort, WriteBack, Flush, DataReq, Inv, InvAck, Shape, CoreState, DirState, World, Phase}
+use Rattle.tcc_serial.proofs.Names.{Running, AwaitTid, DoomedTid, Probing, Ready, Overflowing, Solo, Halted, in_flight, Sends, marks_for}
+use Rattle.tcc_serial.proofs.Names.{Out, core_exec, core_evict, from_dir, grant, probe_reply, all_replied, fill, data_request, invalidate}
+use Rattle.tcc_serial.proofs.Names.{Answer, Waits, Drops, Asks, Takes, dir_deliver, core_moves, core_takes, dir_takes, step, Grants, Probes}
+use Rattle.tcc_serial.proofs.Names.{Replies, live, among, passes, Pair, pair, after_move, grant_taken, back_taken, after_answer, out_taken}
+use Rattle.tcc_serial.proofs.Names.{after_grant, after_other_grant, has_tid, Noted, Kept, OneCore, KeptCores, Grant, KeptOwners}
+use Rattle.tcc_serial.specs.Probing.{ProbingOf, KeptProbing}
 use Rattle.tcc_serial.proofs.Counts.StepCases.{OfAnswer, step_cases}
 use Rattle.tcc_serial.proofs.Serving.KeptSteps.{core_of_grant}
 use Rattle.tcc_serial.proofs.Tids.TidSteps.{granted_waits, is_mine, not_mine}
-use Rattle.tcc_serial.specs.Probing.{ProbingOf, KeptProbing}
 use Rattle.tcc_serial.proofs.Counts.Links.{live-sends, live-takes}
 use Rattle.tcc_serial.proofs.Counts.PairFrames.{pairs_move, pairs_grant, pairs_back, pairs_dir, pairs_asks, pairs_vendor}
-use Rattle.tcc_serial.proofs.OneCore.CoreSteps.{fill-steady, data-steady, invalidate-cases, Replied, Ignored, Probed, Left_alone, reply-cases}
-use Rattle.tcc_serial.proofs.Tids.CoreProbing.{Unprobed, unprobed-steady, unprobed-exec, unprobed-evict, unprobed-hurt, Granted, granted, none-marks, none-to}
+use Rattle.tcc_serial.proofs.OneCore.CoreSteps.{fill-steady, data-steady, invalidate-cases, Replied, Ignored, Probed, Left_alone}
+use Rattle.tcc_serial.proofs.OneCore.CoreSteps.{reply-cases}
+use Rattle.tcc_serial.proofs.Tids.CoreProbing.{Unprobed, unprobed-steady, unprobed-exec, unprobed-evict, unprobed-hurt, Granted, granted}
+use Rattle.tcc_serial.proofs.Tids.CoreProbing.{none-marks, none-to}
 use Rattle.tcc_serial.proofs.Serving.DirProbing.{Replying, RepliesBy, dir-replies, none-replied}
 use Rattle.tcc_serial.proofs.Serving.OwnerSteps.{grant-alone}
 

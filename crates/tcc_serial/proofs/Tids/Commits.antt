@@ -1,12 +1,7 @@
 -- A further commit in the list of commits, and a further grant.
-use Rattle.std.specs.Prelude.{ℕ, zero, suc, ◌+◌, ◌≡◌, ◌<◌, ◌≤◌, Bool, true, false, ◌==◌, List, [], ◌∷◌, ◌++◌, length, Contains, slice_index_or, nat_lt, if◌then◌else◌}
-use Rattle.std.proofs.Common.{arith, refl, sym, ap, ◌∙◌}
-use Rattle.std.proofs.lemmas.Bool.Decides.{nat_tests}
-use Rattle.std.proofs.lemmas.List.Elements.{Contains-append_left}
-use Rattle.tcc_base.specs.declared.access.Commit.{Commit as Noted}
-use Rattle.tcc_maps.specs.Words.{num}
-use Rattle.tcc_rules.specs.Step.{insert_commit}
-use Rattle.tcc_serial.specs.Owners.{Grant, IsNumbered, IsRising, AreGranted, times}
+use Rattle.tcc_serial.proofs.Names.{ℕ, zero, suc, ◌+◌, ◌≡◌, ◌<◌, ◌≤◌, Bool, true, false, ◌==◌, List, [], ◌∷◌, ◌++◌, length, Contains}
+use Rattle.tcc_serial.proofs.Names.{slice_index_or, nat_lt, if◌then◌else◌, arith, refl, sym, ap, ◌∙◌, nat_tests, Contains-append_left}
+use Rattle.tcc_serial.proofs.Names.{Noted, num, insert_commit, Grant, IsNumbered, IsRising, AreGranted, times}
 
 pub times-insert : (t : ℕ) (n : Noted) (cs : List Noted) → times t (insert_commit n cs) ≡ times t cs + num (n.tid.0 == t)
 unfolding times insert_commit

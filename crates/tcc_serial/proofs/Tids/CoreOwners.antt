@@ -1,22 +1,15 @@
 -- A core has no TID but one that it was granted, and what it commits is the TID that it had.
-use Rattle.std.specs.Prelude.{ℕ, ◌+◌, ◌≡◌, ◌≤◌, Bool, true, false, ◌==◌, Option, Some, None, IfSome, if◌then◌else◌}
-use Rattle.std.proofs.Common.{arith, refl}
-use Rattle.std.proofs.lemmas.Bool.Decides.{nat_tests}
-use Rattle.tcc_base.specs.Put.{put}
-use Rattle.tcc_base.specs.declared.access.Commit.{Commit as Noted}
-use Rattle.tcc_program.specs.Program.{Program}
-use Rattle.tcc_maps.specs.Words.{num, any_below}
-use Rattle.tcc_maps.specs.Nodes.{Msg, TidReq, TidGrant, LoadReq, Fill, Skip, Probe, ProbeReply, Mark, Commit, Abort, WriteBack, Flush, DataReq, Inv, InvAck}
-use Rattle.tcc_maps.specs.Shape.{Shape}
-use Rattle.tcc_rules.specs.State.{CoreState, Awaited, Phase, Running, AwaitTid, DoomedTid, Probing, Ready, Overflowing, Solo, Halted}
-use Rattle.tcc_rules.specs.Attempt.{Out}
-use Rattle.tcc_rules.specs.Commit.{commit, committed_core, noted, phase_after}
-use Rattle.tcc_rules.specs.CoreExec.{core_exec, exec_phase, unless_awaiting}
-use Rattle.tcc_rules.specs.CoreEvict.{core_evict}
-use Rattle.tcc_rules.specs.CoreDeliver.{grant, grant_phase, from_dir, is_probed, probe_reply, ignored, all_replied, fill, data_request, invalidate}
-use Rattle.tcc_serial.specs.Tids.{has_tid}
+use Rattle.tcc_serial.proofs.Names.{ℕ, ◌+◌, ◌≡◌, ◌≤◌, Bool, true, false, ◌==◌, Option, Some, None, IfSome, if◌then◌else◌, arith, refl}
+use Rattle.tcc_serial.proofs.Names.{nat_tests, put, Noted, Program, num, any_below, Msg, TidReq, TidGrant, LoadReq, Fill, Skip, Probe}
+use Rattle.tcc_serial.proofs.Names.{ProbeReply, Mark, Commit, Abort, WriteBack, Flush, DataReq, Inv, InvAck, Shape, CoreState, Awaited}
+use Rattle.tcc_serial.proofs.Names.{Phase, Running, AwaitTid, DoomedTid, Probing, Ready, Overflowing, Solo, Halted, Out, commit}
+use Rattle.tcc_serial.proofs.Names.{committed_core, noted, phase_after, core_exec, exec_phase, unless_awaiting, core_evict, grant}
+use Rattle.tcc_serial.proofs.Names.{grant_phase, from_dir, is_probed, probe_reply, ignored, all_replied, fill, data_request, invalidate}
+use Rattle.tcc_serial.proofs.Names.{has_tid}
 use Rattle.tcc_serial.proofs.OneCore.Executes.{Acts, Steady, Executed, Goes_on, Overflows, Asks_tid, Alone, executed}
-use Rattle.tcc_serial.proofs.OneCore.CoreSteps.{evict-steady, ignored-steady, fill-steady, data-steady, Hurt, Unhurt, Rolled, Doomed, Aborted, Gave_up, Invalidated, invalidate-cases, Replied, Ignored, Probed, Left_alone, reply-cases}
+use Rattle.tcc_serial.proofs.OneCore.CoreSteps.{evict-steady, ignored-steady, fill-steady, data-steady, Hurt, Unhurt, Rolled, Doomed}
+use Rattle.tcc_serial.proofs.OneCore.CoreSteps.{Aborted, Gave_up, Invalidated, invalidate-cases, Replied, Ignored, Probed, Left_alone}
+use Rattle.tcc_serial.proofs.OneCore.CoreSteps.{reply-cases}
 use Rattle.tcc_serial.proofs.Tids.CoreProbing.{tid-after, tid-probing}
 
 -- the TID of a commit

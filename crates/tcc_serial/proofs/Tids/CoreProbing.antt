@@ -1,24 +1,13 @@
 -- A core sends a probe only where it takes a grant, and to each directory that owes a reply from then on.
-use Rattle.std.specs.Prelude.{ℕ, ◌≡◌, ◌≤◌, Bool, true, false, List, [], ◌∷◌, ◌++◌, ◌==◌, ◌&&◌, Option, Some, None, IfSome, nat_lt, if◌then◌else◌}
-use Rattle.std.specs.List.{flat_map}
-use Rattle.std.proofs.Common.{arith, refl, sym, ap, ◌∙◌}
-use Rattle.std.proofs.lemmas.Bool.Decides.{nat_tests}
-use Rattle.tcc_program.specs.Program.{Program}
-use Rattle.tcc_program.specs.Plain.{Outcome, Goes, Ended, Halted as HaltedWith, Trapped as TrappedWith}
-use Rattle.tcc_maps.specs.Words.{num, those, count_below, any_below}
-use Rattle.tcc_maps.specs.Nodes.{Dir, Msg, Skip, Mark, Commit, WriteBack, InvAck}
-use Rattle.tcc_maps.specs.Shape.{Shape, home, lines}
-use Rattle.tcc_maps.specs.Cache.{Cache, modified_mask, written_lines}
-use Rattle.tcc_maps.specs.Spilled.{Spilled, holds, spilled_mask, spilled_words}
-use Rattle.tcc_rules.specs.State.{CoreState, Awaited, Phase, Running, AwaitTid, DoomedTid, Probing, Ready, Overflowing, Solo, Halted}
-use Rattle.tcc_rules.specs.Sends.{to, marks_for, skip_all, probe_all, abort_written}
-use Rattle.tcc_rules.specs.Attempt.{Out}
-use Rattle.tcc_rules.specs.Commit.{commit, committed_core, phase_after, commit_sends, solo_sends, solo_marks, solo_backs, solo_writes_at, is_written, written_mask}
-use Rattle.tcc_rules.specs.CoreExec.{core_exec, exec_phase, unless_awaiting}
-use Rattle.tcc_rules.specs.CoreEvict.{core_evict}
-use Rattle.tcc_rules.specs.CoreDeliver.{grant, grant_phase, grant_sends, is_probed, probing}
-use Rattle.tcc_serial.specs.Count.{Probes, Protocol, among, passes}
-use Rattle.tcc_serial.specs.Tids.{has_tid, waits_for_tid}
+use Rattle.tcc_serial.proofs.Names.{ℕ, ◌≡◌, ◌≤◌, Bool, true, false, List, [], ◌∷◌, ◌++◌, ◌==◌, ◌&&◌, Option, Some, None, IfSome, nat_lt}
+use Rattle.tcc_serial.proofs.Names.{if◌then◌else◌, flat_map, arith, refl, sym, ap, ◌∙◌, nat_tests, Program, Outcome, Goes, Ended}
+use Rattle.tcc_serial.proofs.Names.{HaltedWith, TrappedWith, num, those, count_below, any_below, Dir, Msg, Skip, Mark, Commit, WriteBack}
+use Rattle.tcc_serial.proofs.Names.{InvAck, Shape, home, lines, Cache, modified_mask, written_lines, Spilled, holds, spilled_mask}
+use Rattle.tcc_serial.proofs.Names.{spilled_words, CoreState, Awaited, Phase, Running, AwaitTid, DoomedTid, Probing, Ready, Overflowing}
+use Rattle.tcc_serial.proofs.Names.{Solo, Halted, to, marks_for, skip_all, probe_all, abort_written, Out, commit, committed_core}
+use Rattle.tcc_serial.proofs.Names.{phase_after, commit_sends, solo_sends, solo_marks, solo_backs, solo_writes_at, is_written, written_mask}
+use Rattle.tcc_serial.proofs.Names.{core_exec, exec_phase, unless_awaiting, core_evict, grant, grant_phase, grant_sends, is_probed, probing}
+use Rattle.tcc_serial.proofs.Names.{Probes, Protocol, among, passes, has_tid, waits_for_tid}
 use Rattle.tcc_serial.proofs.Counts.Links.{among-append, among-fewer}
 use Rattle.tcc_serial.proofs.Counts.Sent.{among-flat_map_none}
 use Rattle.tcc_serial.proofs.OneCore.Executes.{Acts, Steady, Executed, Goes_on, Overflows, Asks_tid, Alone, executed}

@@ -1,23 +1,17 @@
 -- What a core's rules do to its requests for a TID.
-use Rattle.std.specs.Prelude.{ℕ, ◌+◌, ◌≡◌, Bool, true, false, Option, Some, None, IfSome, if◌then◌else◌}
-use Rattle.std.proofs.Common.{refl, inl, inr}
-use Rattle.tcc_program.specs.Program.{Program}
-use Rattle.tcc_program.specs.Plain.{Outcome, Goes, Ended, Halted as HaltedWith, Trapped as TrappedWith}
-use Rattle.tcc_base.specs.Put.{put}
-use Rattle.tcc_maps.specs.Words.{num, any_below}
-use Rattle.tcc_maps.specs.Nodes.{Vendor, Msg, TidReq, TidGrant, LoadReq, Fill, Skip, Probe, ProbeReply, Mark, Commit, Abort, WriteBack, Flush, DataReq, Inv, InvAck}
-use Rattle.tcc_maps.specs.Shape.{Shape}
-use Rattle.tcc_rules.specs.State.{CoreState, Awaited, Phase, Running, AwaitTid, DoomedTid, Probing, Ready, Overflowing, Solo, Halted}
-use Rattle.tcc_rules.specs.Sends.{skip_all, probe_all}
-use Rattle.tcc_rules.specs.Attempt.{Out}
-use Rattle.tcc_rules.specs.Commit.{commit, committed_core, commit_sends, phase_after, solo_sends}
-use Rattle.tcc_rules.specs.CoreExec.{core_exec, exec_phase, unless_awaiting}
-use Rattle.tcc_rules.specs.CoreEvict.{core_evict}
-use Rattle.tcc_rules.specs.CoreDeliver.{grant, grant_phase, grant_sends, from_dir, probing, is_probed, probe_reply, ignored, all_replied, fill, data_request, invalidate}
-use Rattle.tcc_serial.specs.Count.{Asks, among, passes}
-use Rattle.tcc_serial.specs.Tids.{waits_for_tid}
+use Rattle.tcc_serial.proofs.Names.{ℕ, ◌+◌, ◌≡◌, Bool, true, false, Option, Some, None, IfSome, if◌then◌else◌, refl, inl, inr, Program}
+use Rattle.tcc_serial.proofs.Names.{Outcome, Goes, Ended, HaltedWith, TrappedWith, put, num, any_below, Vendor, Msg, TidReq, TidGrant}
+use Rattle.tcc_serial.proofs.Names.{LoadReq, Fill, Skip, Probe, ProbeReply, Mark, Commit, Abort, WriteBack, Flush, DataReq, Inv, InvAck}
+use Rattle.tcc_serial.proofs.Names.{Shape, CoreState, Awaited, Phase, Running, AwaitTid, DoomedTid, Probing, Ready, Overflowing, Solo}
+use Rattle.tcc_serial.proofs.Names.{Halted, skip_all, probe_all, Out, commit, committed_core, commit_sends, phase_after, solo_sends}
+use Rattle.tcc_serial.proofs.Names.{core_exec, exec_phase, unless_awaiting, core_evict, grant, grant_phase, grant_sends, from_dir, probing}
+use Rattle.tcc_serial.proofs.Names.{is_probed, probe_reply, ignored, all_replied, fill, data_request, invalidate, among, passes}
+use Rattle.tcc_serial.proofs.Names.{waits_for_tid}
+use Rattle.tcc_serial.specs.Count.{Asks}
 use Rattle.tcc_serial.proofs.OneCore.Executes.{Acts, Steady, Executed, Goes_on, Overflows, Asks_tid, Alone, executed}
-use Rattle.tcc_serial.proofs.OneCore.CoreSteps.{evict-steady, ignored-steady, fill-steady, data-steady, Hurt, Unhurt, Rolled, Doomed, Aborted, Gave_up, Invalidated, invalidate-cases, Replied, Ignored, Probed, Left_alone, reply-cases}
+use Rattle.tcc_serial.proofs.OneCore.CoreSteps.{evict-steady, ignored-steady, fill-steady, data-steady, Hurt, Unhurt, Rolled, Doomed}
+use Rattle.tcc_serial.proofs.OneCore.CoreSteps.{Aborted, Gave_up, Invalidated, invalidate-cases, Replied, Ignored, Probed, Left_alone}
+use Rattle.tcc_serial.proofs.OneCore.CoreSteps.{reply-cases}
 
 -- a core's step with `got` grants taken keeps its requests
 abbrev pub KeepsRequests : (got : ℕ) → CoreState → Out → Type 0

@@ -1,27 +1,19 @@
 -- What a core's rules do to its part of a TID.
-use Rattle.std.specs.Prelude.{ℕ, ◌+◌, ◌≡◌, ◌<◌, Bool, true, false, List, [], ◌∷◌, ◌==◌, ◌&&◌, Option, Some, None, IfSome, if◌then◌else◌}
-use Rattle.std.proofs.Common.{arith, refl, ap, ◌⊎◌, inl, inr}
-use Rattle.std.proofs.lemmas.Bool.Decides.{nat_tests}
-use Rattle.tcc_program.specs.Program.{Program}
-use Rattle.tcc_program.specs.Plain.{Outcome, Goes, Ended, Halted as HaltedWith, Trapped as TrappedWith}
-use Rattle.tcc_maps.specs.Words.{num, any_below}
-use Rattle.tcc_maps.specs.Nodes.{Dir, Msg, TidReq, TidGrant, LoadReq, Fill, Skip, Probe, ProbeReply, Mark, Commit, Abort, WriteBack, Flush, DataReq, Inv, InvAck}
-use Rattle.tcc_maps.specs.Shape.{Shape, home}
-use Rattle.tcc_maps.specs.Cache.{writes_at}
-use Rattle.tcc_maps.specs.CacheChange.{read_cleared}
-use Rattle.tcc_rules.specs.State.{CoreState, Awaited, Phase, Running, AwaitTid, DoomedTid, Probing, Ready, Overflowing, Solo, Halted}
-use Rattle.tcc_rules.specs.Sends.{Sends, nothing, to, marks_for}
-use Rattle.tcc_rules.specs.Attempt.{Out, moves}
-use Rattle.tcc_rules.specs.Commit.{commit, committed_core, phase_after}
-use Rattle.tcc_rules.specs.CoreExec.{core_exec, exec_phase, unless_awaiting}
-use Rattle.tcc_rules.specs.CoreEvict.{core_evict}
-use Rattle.tcc_rules.specs.CoreDeliver.{grant, grant_phase, from_dir, probing, is_probed, probe_reply, reply_phase, ignored, replied, all_replied, when_ready, when_alone, fill, data_request, invalidate}
-use Rattle.tcc_serial.specs.Count.{Resolves, among, passes}
-use Rattle.tcc_serial.specs.Tids.{opens, waits_for_tid}
+use Rattle.tcc_serial.proofs.Names.{ℕ, ◌+◌, ◌≡◌, ◌<◌, Bool, true, false, List, [], ◌∷◌, ◌==◌, ◌&&◌, Option, Some, None, IfSome}
+use Rattle.tcc_serial.proofs.Names.{if◌then◌else◌, arith, refl, ap, ◌⊎◌, inl, inr, nat_tests, Program, Outcome, Goes, Ended, HaltedWith}
+use Rattle.tcc_serial.proofs.Names.{TrappedWith, num, any_below, Dir, Msg, TidReq, TidGrant, LoadReq, Fill, Skip, Probe, ProbeReply, Mark}
+use Rattle.tcc_serial.proofs.Names.{Commit, Abort, WriteBack, Flush, DataReq, Inv, InvAck, Shape, home, writes_at, read_cleared, CoreState}
+use Rattle.tcc_serial.proofs.Names.{Awaited, Phase, Running, AwaitTid, DoomedTid, Probing, Ready, Overflowing, Solo, Halted, Sends, nothing}
+use Rattle.tcc_serial.proofs.Names.{to, marks_for, Out, moves, commit, committed_core, phase_after, core_exec, exec_phase, unless_awaiting}
+use Rattle.tcc_serial.proofs.Names.{core_evict, grant, grant_phase, from_dir, probing, is_probed, probe_reply, reply_phase, ignored}
+use Rattle.tcc_serial.proofs.Names.{replied, all_replied, when_ready, when_alone, fill, data_request, invalidate, Resolves, among, passes}
+use Rattle.tcc_serial.proofs.Names.{opens, waits_for_tid}
 use Rattle.tcc_serial.proofs.Counts.Links.{among-append}
-use Rattle.tcc_serial.proofs.Counts.Sent.{resolves-commit_sends, resolves-abort_written, resolves-skip_all, resolves-probe_all, resolves-grant_sends, resolves-marks_for, resolves-solo_sends, among-quiet}
+use Rattle.tcc_serial.proofs.Counts.Sent.{resolves-commit_sends, resolves-abort_written, resolves-skip_all, resolves-probe_all}
+use Rattle.tcc_serial.proofs.Counts.Sent.{resolves-grant_sends, resolves-marks_for, resolves-solo_sends, among-quiet}
 use Rattle.tcc_serial.proofs.OneCore.Executes.{Acts, Steady, Executed, Goes_on, Overflows, Asks_tid, Alone, executed}
-use Rattle.tcc_serial.proofs.OneCore.CoreSteps.{writes_at-same, evict-steady, ignored-steady, fill-steady, data-steady, Hurt, Unhurt, Rolled, Doomed, Aborted, Gave_up, Invalidated, invalidate-cases}
+use Rattle.tcc_serial.proofs.OneCore.CoreSteps.{writes_at-same, evict-steady, ignored-steady, fill-steady, data-steady, Hurt, Unhurt}
+use Rattle.tcc_serial.proofs.OneCore.CoreSteps.{Rolled, Doomed, Aborted, Gave_up, Invalidated, invalidate-cases}
 
 -- a core's step with `got` of the TID taken from the vendor's link keeps its part of it
 abbrev pub KeepsPart : Shape → (dir tid got : ℕ) → CoreState → Out → Type 0

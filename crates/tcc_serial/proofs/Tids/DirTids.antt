@@ -1,20 +1,13 @@
 -- What a directory's rules do to the TIDs that it has handled.
-use Rattle.std.specs.Prelude.{ℕ, ◌+◌, ◌-◌, ◌≡◌, ◌<◌, ◌≤◌, Bool, true, false, List, [], ◌∷◌, ◌==◌, ◌&&◌, ◌||◌, nat_lt, nat_le, Option, Some, None, if◌then◌else◌}
-use Rattle.std.proofs.Common.{arith, refl, ap}
-use Rattle.std.proofs.lemmas.Bool.Decides.{nat_tests}
-use Rattle.tcc_maps.specs.Words.{num, count_below}
-use Rattle.tcc_maps.specs.Lines.{has_mark, with_asked}
-use Rattle.tcc_maps.specs.Masks.{full}
-use Rattle.tcc_maps.specs.Judge.{Judgement, judge, Takes as IsTaken, Drops as IsDropped, Waits as IsEarly}
-use Rattle.tcc_maps.specs.Serving.{Serving, advance, kept, skipped, is_skipped}
-use Rattle.tcc_maps.specs.Nodes.{Core, Msg, TidReq, TidGrant, LoadReq, Fill, Skip, Probe, ProbeReply, Mark, Commit, Abort, WriteBack, Flush, DataReq, Inv, InvAck}
-use Rattle.tcc_maps.specs.Shape.{Shape, lines}
-use Rattle.tcc_maps.proofs.Lemmas.{advance-rises, advance-past, advance-stops, advance-keeps, kept-skips}
-use Rattle.tcc_rules.specs.State.{DirState}
-use Rattle.tcc_rules.specs.DirDeliver.{Answer, Waits, Drops, Asks, Takes, skip, abort, commit, acknowledgement, dir_deliver, moved_on, settled, owned, owed_by, invalidations, unless_keeps, ask_owner, load_owned, load_request, marking, mark_owned, mark, judged, write_back, came_home, probe}
-use Rattle.tcc_rules.specs.Sends.{nothing, to}
-use Rattle.tcc_serial.specs.Count.{Resolves, passes}
-use Rattle.tcc_serial.specs.Tids.{handled}
+use Rattle.tcc_serial.proofs.Names.{ℕ, ◌+◌, ◌-◌, ◌≡◌, ◌<◌, ◌≤◌, Bool, true, false, List, [], ◌∷◌, ◌==◌, ◌&&◌, ◌||◌, nat_lt, nat_le, Option}
+use Rattle.tcc_serial.proofs.Names.{Some, None, if◌then◌else◌, arith, refl, ap, nat_tests, num, count_below, has_mark, with_asked, full}
+use Rattle.tcc_serial.proofs.Names.{Judgement, judge, IsTaken, IsDropped, IsEarly, Serving, advance, kept, skipped, is_skipped, Core, Msg}
+use Rattle.tcc_serial.proofs.Names.{TidReq, TidGrant, LoadReq, Fill, Skip, Probe, ProbeReply, Mark, Commit, Abort, WriteBack, Flush}
+use Rattle.tcc_serial.proofs.Names.{DataReq, Inv, InvAck, Shape, lines, advance-rises, advance-past, advance-stops, advance-keeps}
+use Rattle.tcc_serial.proofs.Names.{kept-skips, DirState, Answer, Waits, Drops, Asks, Takes, skip, abort, acknowledgement, dir_deliver}
+use Rattle.tcc_serial.proofs.Names.{moved_on, settled, owned, owed_by, invalidations, unless_keeps, ask_owner, load_owned, load_request}
+use Rattle.tcc_serial.proofs.Names.{marking, mark_owned, mark, judged, write_back, came_home, probe, nothing, to, Resolves, passes, handled}
+use Rattle.tcc_rules.specs.DirDeliver.{commit}
 
 pub skipped-above : (s : Serving) (t : ℕ) → is_skipped s t ≡ true → s.serving < t
 unfolding is_skipped

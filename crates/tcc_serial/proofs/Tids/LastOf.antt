@@ -1,8 +1,6 @@
 -- The greatest TID of the commits that pass a test.
-use Rattle.std.specs.Prelude.{ℕ, zero, suc, max, cond, ◌≡◌, ◌≤◌, Bool, true, false, List, [], ◌∷◌, length, Contains, slice_index_or}
-use Rattle.std.proofs.Common.{arith, refl, ap}
-use Rattle.tcc_base.specs.declared.access.Commit.{Commit as Noted}
-use Rattle.tcc_serial.specs.Wrote.{last_of}
+use Rattle.tcc_serial.proofs.Names.{ℕ, zero, suc, max, cond, ◌≡◌, ◌≤◌, Bool, true, false, List, [], ◌∷◌, length, Contains, slice_index_or}
+use Rattle.tcc_serial.proofs.Names.{arith, refl, ap, Noted, last_of}
 
 later : (m : Noted) (cs : List Noted) (x : Noted) → Contains cs x → Contains (m ∷ cs) x
 later m cs x k = (suc k.0, omega (arith, k.1), k.2)

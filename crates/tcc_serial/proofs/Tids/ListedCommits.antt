@@ -1,14 +1,7 @@
 -- Which commits are listed after a further one, and that TIDs count from 1.
-use Rattle.std.specs.Prelude.{ℕ, zero, suc, ◌≡◌, ◌<◌, ◌≤◌, Bool, true, false, List, [], ◌∷◌, length, Contains, slice_index_or, nat_lt, if◌then◌else◌}
-use Rattle.std.proofs.Common.{arith, ap, ◌⊎◌, inl, inr}
-use Rattle.tcc_base.specs.declared.access.Commit.{Commit as Noted}
-use Rattle.tcc_maps.specs.Words.{num}
-use Rattle.tcc_rules.specs.State.{World}
-use Rattle.tcc_maps.specs.Shape.{Shape}
-use Rattle.tcc_rules.specs.Step.{insert_commit}
-use Rattle.tcc_serial.specs.Owners.{Grant, AreGranted, holder, KeptOwners}
-use Rattle.tcc_serial.specs.Pairs.{pair}
-use Rattle.tcc_serial.specs.Tids.{has_tid}
+use Rattle.tcc_serial.proofs.Names.{ℕ, zero, suc, ◌≡◌, ◌<◌, ◌≤◌, Bool, true, false, List, [], ◌∷◌, length, Contains, slice_index_or, nat_lt}
+use Rattle.tcc_serial.proofs.Names.{if◌then◌else◌, arith, ap, ◌⊎◌, inl, inr, Noted, num, World, Shape, insert_commit, Grant, AreGranted}
+use Rattle.tcc_serial.proofs.Names.{holder, KeptOwners, pair, has_tid}
 use Rattle.tcc_serial.proofs.Tids.Commits.{numbered-least}
 
 contains-cases : (x n : Noted) (xs : List Noted) → Contains (x ∷ xs) n → (x ≡ n) ⊎ Contains xs n

@@ -1,27 +1,16 @@
 -- Each kind of event keeps the invariants.
-use Rattle.std.specs.Prelude.{ℕ, ◌+◌, ◌≡◌, ◌<◌, ◌≤◌, Bool, true, false, List, [], ◌∷◌, ◌==◌, Some, None, nat_le, slice_index_or}
-use Rattle.std.proofs.Common.{arith, refl, sym, subst, ◌⊎◌, inl, inr}
-use Rattle.std.proofs.lemmas.Bool.{cases_lt, cases_eq}
-use Rattle.std.proofs.lemmas.Bool.Decides.{nat_tests}
-use Rattle.tcc_program.specs.Program.{Local}
-use Rattle.tcc_maps.specs.Serving.{first_serving}
-use Rattle.tcc_maps.specs.Lines.{no_lines}
-use Rattle.tcc_maps.proofs.Lemmas.{first-skips}
-use Rattle.tcc_maps.specs.Words.{num}
-use Rattle.tcc_maps.specs.Nodes.{Core, Dir, Vendor, Msg, TidReq, TidGrant}
-use Rattle.tcc_maps.specs.Shape.{Shape}
-use Rattle.tcc_rules.specs.State.{DirState, World, Link, start, core_start, dir_start, vendor_start}
-use Rattle.tcc_rules.specs.Links.{in_flight}
-use Rattle.tcc_rules.specs.Sends.{Sends}
-use Rattle.tcc_rules.specs.Attempt.{Out}
-use Rattle.tcc_rules.specs.CoreDeliver.{grant}
-use Rattle.tcc_rules.specs.DirDeliver.{total}
-use Rattle.tcc_rules.specs.Step.{core_moves, core_takes, dir_takes, dir_asks, vendor_gives}
-use Rattle.tcc_serial.specs.Count.{Kind, Asks as AsksTid, Grants, AnyGrant, Resolves, Any, live, among, passes}
-use Rattle.tcc_serial.specs.Pairs.{Pair, pair, after_move, grant_taken, back_taken, after_answer, out_taken, after_grant, after_other_grant, share}
-use Rattle.tcc_serial.specs.Tids.{waits_for_tid, opens, part, handled, ResolvedAt, RequestOf, InsideOf, KeptTids}
+use Rattle.tcc_serial.proofs.Names.{ℕ, ◌+◌, ◌≡◌, ◌<◌, ◌≤◌, Bool, true, false, List, [], ◌∷◌, ◌==◌, Some, None, nat_le, slice_index_or}
+use Rattle.tcc_serial.proofs.Names.{arith, refl, sym, subst, ◌⊎◌, inl, inr, cases_lt, cases_eq, nat_tests, Local, first_serving, no_lines}
+use Rattle.tcc_serial.proofs.Names.{first-skips, num, Core, Dir, Vendor, Msg, TidReq, TidGrant, Shape, DirState, World, Link, start}
+use Rattle.tcc_serial.proofs.Names.{core_start, dir_start, vendor_start, in_flight, Sends, Out, grant, total, core_moves, core_takes}
+use Rattle.tcc_serial.proofs.Names.{dir_takes, dir_asks, vendor_gives, Kind, AsksTid, Grants, AnyGrant, Resolves, Any, live, among, passes}
+use Rattle.tcc_serial.proofs.Names.{Pair, pair, after_move, grant_taken, back_taken, after_answer, out_taken, after_grant}
+use Rattle.tcc_serial.proofs.Names.{after_other_grant, share, waits_for_tid, opens, part, handled, ResolvedAt, RequestOf, InsideOf}
+use Rattle.tcc_serial.proofs.Names.{KeptTids}
 use Rattle.tcc_serial.proofs.Counts.Links.{live-sends, live-takes, total-le, total-zero}
-use Rattle.tcc_serial.proofs.Counts.PairFrames.{same, differ, given, pairs_move, pairs_grant, pairs_back, pairs_dir, pairs_asks, pairs_vendor, sum_move, sum_grant, sum_back, sum_back_away, sum_dir, sum_dir_away, sum_asks, sum_vendor}
+use Rattle.tcc_serial.proofs.Counts.PairFrames.{same, differ, given, pairs_move, pairs_grant, pairs_back, pairs_dir, pairs_asks}
+use Rattle.tcc_serial.proofs.Counts.PairFrames.{pairs_vendor, sum_move, sum_grant, sum_back, sum_back_away, sum_dir, sum_dir_away, sum_asks}
+use Rattle.tcc_serial.proofs.Counts.PairFrames.{sum_vendor}
 use Rattle.tcc_serial.proofs.Tids.CoreTids.{KeepsPart, part-grant}
 use Rattle.tcc_serial.proofs.Tids.CoreRequests.{KeepsRequests, requests-grant}
 

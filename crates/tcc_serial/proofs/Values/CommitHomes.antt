@@ -1,29 +1,10 @@
 -- A core's commit keeps the values of home words and of copies: its new copies have the words as their core sees them.
-use Rattle.std.specs.Prelude.{ℕ, zero, suc, ◌≡◌, ◌<◌, ◌==◌, ◌||◌, Bool, true, false, cond, List, Option, Some, None, is_some, unwrap_or}
-use Rattle.std.proofs.Common.{arith, refl, ap, sym, subst, ◌∙◌, inl, inr}
-use Rattle.std.proofs.lemmas.Bool.Decides.{nat_tests}
-use Rattle.tcc_base.specs.declared.access.Commit.{Commit as Noted}
-use Rattle.tcc_program.specs.Plain.{Plain}
-use Rattle.tcc_program.specs.Program.{Local, Program}
-use Rattle.tcc_maps.specs.Words.{num, line_of}
-use Rattle.tcc_maps.specs.Nodes.{Core, Dir}
-use Rattle.tcc_maps.specs.Shape.{Shape, home, lines}
-use Rattle.tcc_rules.specs.State.{CoreState, DirState, World}
-use Rattle.tcc_rules.specs.Attempt.{Out}
-use Rattle.tcc_rules.specs.Commit.{noted}
-use Rattle.tcc_rules.specs.Step.{History, and_noted, insert_commit, core_moves}
-use Rattle.tcc_attempt.specs.Follows.{Uses, sees}
-use Rattle.tcc_serial.specs.Aim.{Suits}
-use Rattle.tcc_serial.specs.Copies.{copies_with, AboveOf}
-use Rattle.tcc_serial.specs.Count.{CopyWord, CopyNot, Commits, live, among}
-use Rattle.tcc_serial.specs.Invariants.{Invariants}
-use Rattle.tcc_serial.specs.Owners.{Grant}
-use Rattle.tcc_serial.specs.Pairs.{Pair, pair, after_move}
-use Rattle.tcc_serial.specs.Standing.{is_this, is_applied}
-use Rattle.tcc_serial.specs.Uses.{stores_word}
-use Rattle.tcc_serial.specs.Values.{after_stores, counts, word_copies, CopiesHave}
-use Rattle.tcc_serial.specs.Ways.{Ways}
-use Rattle.tcc_serial.specs.Wrote.{wrote_line}
+use Rattle.tcc_serial.proofs.Names.{ℕ, zero, suc, ◌≡◌, ◌<◌, ◌==◌, ◌||◌, Bool, true, false, cond, List, Option, Some, None, is_some}
+use Rattle.tcc_serial.proofs.Names.{unwrap_or, arith, refl, ap, sym, subst, ◌∙◌, inl, inr, nat_tests, Noted, Plain, Local, Program, num}
+use Rattle.tcc_serial.proofs.Names.{line_of, Core, Dir, Shape, home, lines, CoreState, DirState, World, Out, noted, History, and_noted}
+use Rattle.tcc_serial.proofs.Names.{insert_commit, core_moves, Uses, sees, Suits, copies_with, AboveOf, CopyWord, CopyNot, Commits, live}
+use Rattle.tcc_serial.proofs.Names.{among, Invariants, Grant, Pair, pair, after_move, is_this, is_applied, stores_word, after_stores}
+use Rattle.tcc_serial.proofs.Names.{counts, word_copies, CopiesHave, Ways, wrote_line}
 use Rattle.tcc_serial.proofs.Order.ClosedCores.{Stand, stand}
 use Rattle.tcc_serial.proofs.Order.CutCommits.{each-listed}
 use Rattle.tcc_serial.proofs.Values.CommitWords.{CommitsWord, CommitsWords}

@@ -1,28 +1,15 @@
 -- What a commit does to one word: where it didn't store it nothing; where it did, the frame's word is dirty with the commit's TID, or
 -- the spilled word is sent with it, as they were.
-use Rattle.std.specs.Prelude.{ℕ, ◌≡◌, ◌==◌, ◌&&◌, ◌||◌, ◌++◌, Bool, true, false, not, [], ◌∷◌, Option, Some, None, IfSome, is_some, unwrap_or, get_or, nat_lt, if◌then◌else◌}
-use Rattle.std.specs.List.{flat_map}
-use Rattle.std.proofs.Common.{arith, refl, ap, sym, ◌∙◌}
-use Rattle.std.proofs.lemmas.Bool.Decides.{nat_tests}
-use Rattle.tcc_base.specs.declared.access.Commit.{Commit as Noted}
-use Rattle.tcc_base.specs.declared.access.Size.TheVariants.{Byte, Half, Word}
-use Rattle.tcc_program.specs.Program.{Program, Need, Nothing, Loads, Stores, Changes, Prints, Ends, Halts, Traps}
-use Rattle.tcc_program.specs.Ram.{word_of}
-use Rattle.tcc_maps.specs.Words.{line_of, place_of, word_at, those, count_below}
-use Rattle.tcc_maps.specs.Masks.{has, hit}
-use Rattle.tcc_maps.specs.Nodes.{Dir, Skip, Mark, Commit, WriteBack}
-use Rattle.tcc_maps.specs.Shape.{Shape, home, lines}
-use Rattle.tcc_maps.specs.Cache.{Cache, IsCache}
-use Rattle.tcc_maps.specs.CacheChange.{committed, words_dropped}
-use Rattle.tcc_maps.specs.Spilled.{Spilled, holds, spilled_mask, spilled_words}
-use Rattle.tcc_maps.proofs.Lemmas.{has-mask_of}
-use Rattle.tcc_rules.specs.State.{CoreState, Awaited, Phase, Running, AwaitTid, DoomedTid, Probing, Ready, Overflowing, Solo, Halted}
-use Rattle.tcc_rules.specs.Sends.{nothing}
-use Rattle.tcc_rules.specs.Attempt.{Out, moves, finished, stepped, is_solo}
-use Rattle.tcc_rules.specs.Commit.{noted, committed_core, commit, solo_commit, solo_sends, solo_marks, solo_backs, solo_writes_at, is_written, written_mask}
-use Rattle.tcc_rules.specs.CoreExec.{core_exec, exec_phase, unless_awaiting}
-use Rattle.tcc_rules.specs.Execute.{load, word_store, partial_store, close, execute_need, execute}
-use Rattle.tcc_serial.specs.Count.{Kind, CopyWord, CopyNot, among, passes}
+use Rattle.tcc_serial.proofs.Names.{ℕ, ◌≡◌, ◌==◌, ◌&&◌, ◌||◌, ◌++◌, Bool, true, false, not, [], ◌∷◌, Option, Some, None, IfSome, is_some}
+use Rattle.tcc_serial.proofs.Names.{unwrap_or, get_or, nat_lt, if◌then◌else◌, flat_map, arith, refl, ap, sym, ◌∙◌, nat_tests, Noted, Byte}
+use Rattle.tcc_serial.proofs.Names.{Half, Word, Program, Need, Nothing, Loads, Stores, Changes, Prints, Ends, Halts, Traps, word_of}
+use Rattle.tcc_serial.proofs.Names.{line_of, place_of, word_at, those, count_below, has, hit, Dir, Skip, Mark, Commit, WriteBack, Shape}
+use Rattle.tcc_serial.proofs.Names.{home, lines, Cache, IsCache, committed, words_dropped, Spilled, holds, spilled_mask, spilled_words}
+use Rattle.tcc_serial.proofs.Names.{has-mask_of, CoreState, Awaited, Phase, Running, AwaitTid, DoomedTid, Probing, Ready, Overflowing, Solo}
+use Rattle.tcc_serial.proofs.Names.{Halted, nothing, Out, moves, finished, stepped, is_solo, noted, committed_core, commit, solo_commit}
+use Rattle.tcc_serial.proofs.Names.{solo_sends, solo_marks, solo_backs, solo_writes_at, is_written, written_mask, core_exec, exec_phase}
+use Rattle.tcc_serial.proofs.Names.{unless_awaiting, load, word_store, partial_store, close, execute_need, execute, Kind, CopyWord, CopyNot}
+use Rattle.tcc_serial.proofs.Names.{among, passes}
 use Rattle.tcc_serial.proofs.Copies.CopySends.{commit-copies}
 use Rattle.tcc_serial.proofs.Values.CoreWords.{Quietly, loaded, partly, wholly}
 use Rattle.tcc_serial.proofs.Counts.Links.{among-append}

@@ -1,25 +1,14 @@
 -- What a core's instructions and evictions do to a word's copies: where nothing is committed they are as many as before, with their values.
-use Rattle.std.specs.Prelude.{ℕ, ◌≡◌, ◌==◌, ◌&&◌, ◌||◌, Bool, true, false, not, [], ◌∷◌, Option, Some, None, IfSome, is_some, if◌then◌else◌}
-use Rattle.std.proofs.Common.{arith, refl, ap, sym, ◌∙◌}
-use Rattle.std.proofs.lemmas.Bool.Decides.{nat_tests}
-use Rattle.tcc_base.specs.declared.access.Size.TheVariants.{Byte, Half, Word}
-use Rattle.tcc_program.specs.Program.{Program, Need, Nothing, Loads, Stores, Changes, Prints, Ends, Halts, Traps}
-use Rattle.tcc_program.specs.Ram.{word_of}
-use Rattle.tcc_maps.specs.Words.{line_of}
-use Rattle.tcc_maps.specs.Nodes.{Dir, Vendor, TidReq, LoadReq}
-use Rattle.tcc_maps.specs.Shape.{Shape, home, set_of}
-use Rattle.tcc_maps.specs.Cache.{IsCache, free_way, all_marked, is_marked}
-use Rattle.tcc_maps.specs.CacheChange.{marked, stored, placed, placed_at, evicted}
-use Rattle.tcc_maps.specs.Spilled.{holds, spill_line}
-use Rattle.tcc_maps.proofs.Lemmas.{dirty-evicted, value-evicted}
-use Rattle.tcc_rules.specs.State.{CoreState, Awaited, Phase, Running, AwaitTid, DoomedTid, Probing, Ready, Overflowing, Solo, Halted}
-use Rattle.tcc_rules.specs.Sends.{nothing, to, flushed, written_back}
-use Rattle.tcc_rules.specs.Attempt.{Out, moves, finished, is_running, is_solo, new_word}
-use Rattle.tcc_rules.specs.Commit.{commit, solo_commit}
-use Rattle.tcc_rules.specs.CoreExec.{core_exec, exec_phase, unless_awaiting}
-use Rattle.tcc_rules.specs.CoreEvict.{core_evict, evict_line, is_awaited}
-use Rattle.tcc_rules.specs.Execute.{ask, place, overflow, full_set, fetch, used, load_valid, load_spilled, load, buffered, framed, word_store, also_read, change_valid, change_spilled, partial_store, close, execute_need, execute}
-use Rattle.tcc_serial.specs.Count.{CopyOf, among, passes}
+use Rattle.tcc_serial.proofs.Names.{ℕ, ◌≡◌, ◌==◌, ◌&&◌, ◌||◌, Bool, true, false, not, [], ◌∷◌, Option, Some, None, IfSome, is_some}
+use Rattle.tcc_serial.proofs.Names.{if◌then◌else◌, arith, refl, ap, sym, ◌∙◌, nat_tests, Byte, Half, Word, Program, Need, Nothing, Loads}
+use Rattle.tcc_serial.proofs.Names.{Stores, Changes, Prints, Ends, Halts, Traps, word_of, line_of, Dir, Vendor, TidReq, LoadReq, Shape}
+use Rattle.tcc_serial.proofs.Names.{home, set_of, IsCache, free_way, all_marked, is_marked, marked, stored, placed, placed_at, evicted}
+use Rattle.tcc_serial.proofs.Names.{holds, spill_line, dirty-evicted, value-evicted, CoreState, Awaited, Phase, Running, AwaitTid}
+use Rattle.tcc_serial.proofs.Names.{DoomedTid, Probing, Ready, Overflowing, Solo, Halted, nothing, to, flushed, written_back, Out, moves}
+use Rattle.tcc_serial.proofs.Names.{finished, is_running, is_solo, new_word, commit, solo_commit, core_exec, exec_phase, unless_awaiting}
+use Rattle.tcc_serial.proofs.Names.{core_evict, evict_line, is_awaited, ask, place, overflow, full_set, fetch, used, load_valid}
+use Rattle.tcc_serial.proofs.Names.{load_spilled, load, buffered, framed, word_store, also_read, change_valid, change_spilled}
+use Rattle.tcc_serial.proofs.Names.{partial_store, close, execute_need, execute, CopyOf, among, passes}
 use Rattle.tcc_serial.proofs.Copies.CoreCopies.{finished-cache, placed-dirty, used-dirty, unheld-clean}
 use Rattle.tcc_serial.proofs.Values.WordSends.{Carries, word-still, word-sent, flushed-words, back-home-words}
 

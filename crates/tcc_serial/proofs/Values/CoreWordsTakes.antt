@@ -1,19 +1,13 @@
 -- What a message does to a word's copies at the core that takes it: it keeps them, or is an invalidation of the word's line, which may
 -- take the word from the frame.
-use Rattle.std.specs.Prelude.{ℕ, ◌≡◌, ◌⊎◌, ◌==◌, ◌&&◌, Bool, true, false, not, List, [], Option, Some, None, IfSome, is_some, unwrap_or, get_or, if◌then◌else◌}
-use Rattle.std.proofs.Common.{refl, sym, ◌∙◌, inl, inr}
-use Rattle.std.proofs.lemmas.Bool.{cases_eq}
-use Rattle.tcc_maps.specs.Words.{line_of, place_of}
-use Rattle.tcc_maps.specs.Masks.{hit}
-use Rattle.tcc_maps.specs.Nodes.{Dir, Msg, TidReq, TidGrant, LoadReq, Fill, Skip, Probe, ProbeReply, Mark, Commit, Abort, WriteBack, Flush, DataReq, Inv, InvAck}
-use Rattle.tcc_maps.specs.Shape.{Shape, home}
-use Rattle.tcc_maps.specs.Cache.{IsCache}
-use Rattle.tcc_maps.specs.CacheChange.{filled, cleaned, invalidated, rolled_back, read_cleared}
-use Rattle.tcc_rules.specs.State.{CoreState, Awaited, Phase, Running, AwaitTid, DoomedTid, Probing, Ready, Overflowing, Solo, Halted}
-use Rattle.tcc_rules.specs.Sends.{nothing, to, marks_for}
-use Rattle.tcc_rules.specs.Attempt.{Out, moves, roll_back}
-use Rattle.tcc_rules.specs.CoreDeliver.{grant, grant_phase, from_dir, probe_reply, reply_phase, ignored, replied, all_replied, when_ready, when_alone, fill, fill_awaited, data_request, invalidate, acknowledged, without, violated_in, if_violated, is_violated}
-use Rattle.tcc_serial.specs.Count.{CopyOf, among, passes}
+use Rattle.tcc_serial.proofs.Names.{ℕ, ◌≡◌, ◌⊎◌, ◌==◌, ◌&&◌, Bool, true, false, not, List, [], Option, Some, None, IfSome, is_some}
+use Rattle.tcc_serial.proofs.Names.{unwrap_or, get_or, if◌then◌else◌, refl, sym, ◌∙◌, inl, inr, cases_eq, line_of, place_of, hit, Dir, Msg}
+use Rattle.tcc_serial.proofs.Names.{TidReq, TidGrant, LoadReq, Fill, Skip, Probe, ProbeReply, Mark, Commit, Abort, WriteBack, Flush}
+use Rattle.tcc_serial.proofs.Names.{DataReq, Inv, InvAck, Shape, home, IsCache, filled, cleaned, invalidated, rolled_back, read_cleared}
+use Rattle.tcc_serial.proofs.Names.{CoreState, Awaited, Phase, Running, AwaitTid, DoomedTid, Probing, Ready, Overflowing, Solo, Halted}
+use Rattle.tcc_serial.proofs.Names.{nothing, to, marks_for, Out, moves, roll_back, grant, grant_phase, from_dir, probe_reply, reply_phase}
+use Rattle.tcc_serial.proofs.Names.{ignored, replied, all_replied, when_ready, when_alone, fill, fill_awaited, data_request, invalidate}
+use Rattle.tcc_serial.proofs.Names.{acknowledged, without, violated_in, if_violated, is_violated, CopyOf, among, passes}
 use Rattle.tcc_serial.proofs.Copies.CopyRules.{grants-none, skips-none, probes-none, aborts-none, marks-none, acked-none, missed}
 use Rattle.tcc_serial.proofs.Values.CoreWords.{carries-still}
 use Rattle.tcc_serial.proofs.Values.WordSends.{WordCarried, Carries, word-still, word-sent, flushed-words}

@@ -1,26 +1,14 @@
 -- A core's events and the words in its frames and in the Fills to it: what fades keeps its value, an invalidation takes its words, and
 -- a Fill brings what was on its way.
-use Rattle.std.specs.Prelude.{ℕ, ◌≡◌, ◌≤◌, ◌⊎◌, Bool, true, false, not, ◌==◌, ◌&&◌, ◌||◌, List, Option, Some, None, set, get_or}
-use Rattle.std.proofs.Common.{arith, refl, sym, ◌∙◌, inl, inr}
-use Rattle.std.proofs.lemmas.Bool.Decides.{nat_tests}
-use Rattle.tcc_maps.specs.Words.{num, line_of, place_of}
-use Rattle.tcc_maps.specs.Masks.{hit}
-use Rattle.tcc_maps.specs.Nodes.{Msg, Fill, Inv}
-use Rattle.tcc_maps.specs.Shape.{Shape, home}
-use Rattle.tcc_rules.specs.State.{Awaited}
-use Rattle.tcc_rules.specs.Attempt.{Out}
-use Rattle.tcc_rules.specs.CoreDeliver.{staled}
-use Rattle.tcc_rules.specs.CoreEvict.{is_awaited}
-use Rattle.tcc_serial.specs.Copies.{LoadingOf}
-use Rattle.tcc_serial.specs.Count.{FillOf, FillNot, InvWord, live, passes}
-use Rattle.tcc_serial.specs.Pairs.{Pair, after_move, back_taken}
-use Rattle.tcc_serial.specs.Values.{is_stale}
+use Rattle.tcc_serial.proofs.Names.{ℕ, ◌≡◌, ◌≤◌, ◌⊎◌, Bool, true, false, not, ◌==◌, ◌&&◌, ◌||◌, List, Option, Some, None, set, get_or}
+use Rattle.tcc_serial.proofs.Names.{arith, refl, sym, ◌∙◌, inl, inr, nat_tests, num, line_of, place_of, hit, Msg, Fill, Inv, Shape, home}
+use Rattle.tcc_serial.proofs.Names.{Awaited, Out, staled, is_awaited, LoadingOf, FillOf, FillNot, InvWord, live, passes, Pair, after_move}
+use Rattle.tcc_serial.proofs.Names.{back_taken, is_stale, hit-line}
 use Rattle.tcc_serial.proofs.Counts.Links.{live-takes}
 use Rattle.tcc_serial.proofs.Tids.TidSteps.{live-some}
 use Rattle.tcc_serial.proofs.Values.FramedWords.{HeldOf, few-not}
 use Rattle.tcc_serial.proofs.Values.FramedCores.{Fading}
 use Rattle.tcc_serial.proofs.Values.FramedBacks.{Invalidates, Fills}
-use Rattle.tcc_attempt.proofs.Lemmas.{hit-line}
 
 -- the frames fade, and the link from the home stays
 pub held-fades : (x y : ℕ) (v w : Pair) → w.back ≡ v.back → Fading v.core w.core → HeldOf x y v → HeldOf x y w

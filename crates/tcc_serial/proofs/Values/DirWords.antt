@@ -1,19 +1,13 @@
 -- What a directory's rules do to a home word: it stays, and no copy of it is consumed; or a copy with its line's tag comes home.
-use Rattle.std.specs.Prelude.{ℕ, ◌-◌, ◌≡◌, Bool, true, false, not, List, [], ◌∷◌, ◌==◌, ◌&&◌, ◌||◌, Option, Some, None, nat_lt, nat_le, get_or, if◌then◌else◌}
-use Rattle.std.proofs.Common.{arith, refl, ◌∙◌}
-use Rattle.std.proofs.lemmas.Bool.Decides.{nat_tests}
-use Rattle.tcc_maps.specs.Words.{count_below, line_of, place_of}
-use Rattle.tcc_maps.specs.Masks.{full, hit}
-use Rattle.tcc_maps.specs.Lines.{has_mark, with_asked, with_mark, with_sharer, unmarked}
-use Rattle.tcc_maps.specs.Judge.{judge, is_owner, Takes as IsTaken, Drops as IsDropped, Waits as IsEarly}
-use Rattle.tcc_maps.specs.Serving.{skipped, kept}
-use Rattle.tcc_maps.specs.Nodes.{Core, Msg, TidReq, TidGrant, LoadReq, Fill, Skip, Probe, ProbeReply, Mark, Commit, Abort, WriteBack, Flush, DataReq, Inv, InvAck}
-use Rattle.tcc_maps.specs.Shape.{Shape, lines}
-use Rattle.tcc_rules.specs.State.{DirState}
-use Rattle.tcc_rules.specs.Sends.{nothing, to}
-use Rattle.tcc_rules.specs.DirDeliver.{Answer, Waits, Drops, Asks, Takes, skip, abort, commit, acknowledgement, dir_deliver, moved_on, settled, owned, owed_by, invalidations, unless_keeps, ask_owner, load_owned, load_request, marking, mark_owned, mark, judged, write_back, came_home, probe}
-use Rattle.tcc_serial.specs.Count.{CopyWord, CopyNot, passes}
-use Rattle.tcc_attempt.proofs.Lemmas.{hit-line}
+use Rattle.tcc_serial.proofs.Names.{ℕ, ◌-◌, ◌≡◌, Bool, true, false, not, List, [], ◌∷◌, ◌==◌, ◌&&◌, ◌||◌, Option, Some, None, nat_lt}
+use Rattle.tcc_serial.proofs.Names.{nat_le, get_or, if◌then◌else◌, arith, refl, ◌∙◌, nat_tests, count_below, line_of, place_of, full, hit}
+use Rattle.tcc_serial.proofs.Names.{has_mark, with_asked, with_mark, with_sharer, unmarked, judge, is_owner, IsTaken, IsDropped, IsEarly}
+use Rattle.tcc_serial.proofs.Names.{skipped, kept, Core, Msg, TidReq, TidGrant, LoadReq, Fill, Skip, Probe, ProbeReply, Mark, Commit, Abort}
+use Rattle.tcc_serial.proofs.Names.{WriteBack, Flush, DataReq, Inv, InvAck, Shape, lines, DirState, nothing, to, Answer, Waits, Drops, Asks}
+use Rattle.tcc_serial.proofs.Names.{Takes, skip, abort, acknowledgement, dir_deliver, moved_on, settled, owned, owed_by, invalidations}
+use Rattle.tcc_serial.proofs.Names.{unless_keeps, ask_owner, load_owned, load_request, marking, mark_owned, mark, judged, write_back}
+use Rattle.tcc_serial.proofs.Names.{came_home, probe, CopyWord, CopyNot, passes, hit-line}
+use Rattle.tcc_rules.specs.DirDeliver.{commit}
 
 pub data HomeBy (s : DirState) (m : Msg) (x : ℕ) (new : DirState) : Type 0 where
   Left : new.words x ≡ s.words x → ((t : ℕ) → passes (CopyWord x t) m ≡ false) → HomeBy s m x new

@@ -1,26 +1,10 @@
 -- Where a directory takes a message, each word in a frame or a Fill has its value still, or is invalidated.
-use Rattle.std.specs.Prelude.{ℕ, ◌+◌, ◌≡◌, ◌<◌, ◌≤◌, Bool, true, false, not, ◌==◌, ◌&&◌, ◌||◌, List, [], Contains, Option, Some, None, nat_lt}
-use Rattle.std.proofs.Common.{arith, refl, ap, subst, ◌∙◌, inl, inr}
-use Rattle.std.proofs.lemmas.Bool.Decides.{nat_tests}
-use Rattle.tcc_base.specs.declared.access.Commit.{Commit as Noted}
-use Rattle.tcc_maps.specs.Words.{num, line_of}
-use Rattle.tcc_maps.specs.Cache.{IsCache}
-use Rattle.tcc_maps.specs.Nodes.{Msg, Core, Dir, LoadReq}
-use Rattle.tcc_maps.specs.Shape.{Shape, home, lines}
-use Rattle.tcc_rules.specs.State.{DirState, World}
-use Rattle.tcc_rules.specs.Links.{in_flight}
-use Rattle.tcc_rules.specs.Sends.{Sends}
-use Rattle.tcc_rules.specs.DirDeliver.{Answer, Waits, Drops, Asks, Takes}
-use Rattle.tcc_rules.specs.Step.{dir_takes, dir_asks}
-use Rattle.tcc_serial.specs.Copies.{KeptAfter, KeptOwned, stored_there}
-use Rattle.tcc_serial.specs.Count.{FillOf, FillNot, LoadOf, LoadNot, Commits, live, among, passes}
-use Rattle.tcc_serial.specs.InMemory.{CommitsInMemory, LoadsInMemory}
-use Rattle.tcc_serial.specs.Pairs.{pair}
-use Rattle.tcc_serial.specs.Standing.{is_this, is_applied, CommitsStand}
-use Rattle.tcc_serial.specs.Stored.{stores_at}
-use Rattle.tcc_serial.specs.Uses.{stores_word}
-use Rattle.tcc_serial.specs.Values.{counts, value_at, word_copies, HomeWords}
-use Rattle.tcc_serial.specs.Wrote.{last_of}
+use Rattle.tcc_serial.proofs.Names.{ℕ, ◌+◌, ◌≡◌, ◌<◌, ◌≤◌, Bool, true, false, not, ◌==◌, ◌&&◌, ◌||◌, List, [], Contains, Option, Some, None}
+use Rattle.tcc_serial.proofs.Names.{nat_lt, arith, refl, ap, subst, ◌∙◌, inl, inr, nat_tests, Noted, num, line_of, IsCache, Msg, Core, Dir}
+use Rattle.tcc_serial.proofs.Names.{LoadReq, Shape, home, lines, DirState, World, in_flight, Sends, Answer, Waits, Drops, Asks, Takes}
+use Rattle.tcc_serial.proofs.Names.{dir_takes, dir_asks, KeptAfter, KeptOwned, stored_there, FillOf, FillNot, LoadOf, LoadNot, Commits}
+use Rattle.tcc_serial.proofs.Names.{live, among, passes, CommitsInMemory, LoadsInMemory, pair, is_this, is_applied, CommitsStand, stores_at}
+use Rattle.tcc_serial.proofs.Names.{stores_word, counts, value_at, word_copies, HomeWords, last_of}
 use Rattle.tcc_serial.proofs.Tids.LastOf.{last-least}
 use Rattle.tcc_serial.proofs.Lines.LoadsKept.{FillsBy}
 use Rattle.tcc_serial.proofs.Memory.MemoryHomes.{accesses_at_homes}

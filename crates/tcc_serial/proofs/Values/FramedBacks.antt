@@ -1,19 +1,13 @@
 -- What each message to a core does to the words in its frames: a Fill brings those that aren't valid, an invalidation takes those of its
 -- mask that aren't modified, and no other changes any.
-use Rattle.std.specs.Prelude.{ℕ, ◌≡◌, ◌⊎◌, Bool, true, false, not, ◌&&◌, ◌||◌, ◌==◌, List, Option, Some, None, IfSome, unwrap_or, get_or, if◌then◌else◌}
-use Rattle.std.proofs.Common.{refl, sym, subst, ◌∙◌, inl, inr, true≢false}
-use Rattle.tcc_maps.specs.Words.{line_of, place_of}
-use Rattle.tcc_maps.specs.Masks.{hit}
-use Rattle.tcc_maps.specs.Nodes.{Dir, Msg, TidReq, TidGrant, LoadReq, Fill, Skip, Probe, ProbeReply, Mark, Commit, Abort, WriteBack, Flush, DataReq, Inv, InvAck}
-use Rattle.tcc_maps.specs.Shape.{Shape}
-use Rattle.tcc_maps.specs.Cache.{Cache}
-use Rattle.tcc_maps.specs.CacheChange.{filled, cleaned, invalidated, rolled_back, read_cleared}
-use Rattle.tcc_rules.specs.State.{CoreState, Awaited, Phase, Running, AwaitTid, DoomedTid, Probing, Ready, Overflowing, Solo, Halted}
-use Rattle.tcc_rules.specs.Sends.{nothing, to, marks_for}
-use Rattle.tcc_rules.specs.Attempt.{Out, moves, roll_back}
-use Rattle.tcc_rules.specs.CoreDeliver.{ignored, grant, grant_phase, probe_reply, reply_phase, replied, all_replied, when_ready, when_alone, fill, fill_awaited, data_request, invalidate, acknowledged, if_violated, is_violated, violated_in, staled, without, from_dir}
-use Rattle.tcc_serial.specs.Count.{InvWord, passes}
-use Rattle.tcc_serial.specs.Values.{is_stale}
+use Rattle.tcc_serial.proofs.Names.{ℕ, ◌≡◌, ◌⊎◌, Bool, true, false, not, ◌&&◌, ◌||◌, ◌==◌, List, Option, Some, None, IfSome, unwrap_or}
+use Rattle.tcc_serial.proofs.Names.{get_or, if◌then◌else◌, refl, sym, subst, ◌∙◌, inl, inr, true≢false, line_of, place_of, hit, Dir, Msg}
+use Rattle.tcc_serial.proofs.Names.{TidReq, TidGrant, LoadReq, Fill, Skip, Probe, ProbeReply, Mark, Commit, Abort, WriteBack, Flush}
+use Rattle.tcc_serial.proofs.Names.{DataReq, Inv, InvAck, Shape, Cache, filled, cleaned, invalidated, rolled_back, read_cleared, CoreState}
+use Rattle.tcc_serial.proofs.Names.{Awaited, Phase, Running, AwaitTid, DoomedTid, Probing, Ready, Overflowing, Solo, Halted, nothing, to}
+use Rattle.tcc_serial.proofs.Names.{marks_for, Out, moves, roll_back, ignored, grant, grant_phase, probe_reply, reply_phase, replied}
+use Rattle.tcc_serial.proofs.Names.{all_replied, when_ready, when_alone, fill, fill_awaited, data_request, invalidate, acknowledged}
+use Rattle.tcc_serial.proofs.Names.{if_violated, is_violated, violated_in, staled, without, from_dir, InvWord, passes, is_stale}
 use Rattle.tcc_serial.proofs.Values.FramedCores.{Fades, Fading, fades-same, fading}
 
 -- a core that commits nothing, in which words fade

@@ -1,24 +1,15 @@
 -- What each of a core's rules does to the words in its frames: no valid word that isn't modified gets another value, but where the core
 -- commits, and where a Fill comes.
-use Rattle.std.specs.Prelude.{ℕ, ◌≡◌, ◌⊎◌, Bool, true, false, not, ◌&&◌, ◌||◌, ◌==◌, Option, Some, None, IfSome, is_some, if◌then◌else◌}
-use Rattle.std.proofs.Common.{refl, sym, subst, ap, ◌∙◌, inl, inr, true≢false}
-use Rattle.tcc_base.specs.declared.access.Size.TheVariants.{Byte, Half, Word}
-use Rattle.tcc_program.specs.Program.{Program, Need, Nothing, Loads, Stores, Changes, Prints, Ends, Halts, Traps}
-use Rattle.tcc_program.specs.Ram.{word_of}
-use Rattle.tcc_maps.specs.Words.{line_of}
-use Rattle.tcc_maps.specs.Shape.{Shape, set_of}
-use Rattle.tcc_maps.specs.Cache.{Cache, free_way, all_marked, is_marked}
-use Rattle.tcc_maps.specs.CacheChange.{marked, stored, placed, placed_at, evicted, evicted_line, committed, words_dropped}
-use Rattle.tcc_maps.specs.Spilled.{holds, spill_line}
-use Rattle.tcc_rules.specs.State.{CoreState, Awaited, Phase, Running, AwaitTid, DoomedTid, Probing, Ready, Overflowing, Solo, Halted}
-use Rattle.tcc_rules.specs.Sends.{Sends, nothing, flushed, written_back}
-use Rattle.tcc_rules.specs.Attempt.{Out, moves, finished, stepped, is_running, is_solo, new_word}
-use Rattle.tcc_rules.specs.Commit.{noted, commit, committed_core, solo_commit}
-use Rattle.tcc_rules.specs.Execute.{ask, place, overflow, full_set, fetch, used, load_valid, load_spilled, load, buffered, framed, word_store, also_read, change_valid, change_spilled, partial_store, close, execute_need, execute}
-use Rattle.tcc_rules.specs.CoreExec.{core_exec, exec_phase, unless_awaiting}
-use Rattle.tcc_rules.specs.CoreEvict.{core_evict, evict_line, is_awaited}
-use Rattle.tcc_attempt.proofs.Lemmas.{SameBut, finished-same}
-use Rattle.tcc_serial.specs.Values.{is_stale}
+use Rattle.tcc_serial.proofs.Names.{ℕ, ◌≡◌, ◌⊎◌, Bool, true, false, not, ◌&&◌, ◌||◌, ◌==◌, Option, Some, None, IfSome, is_some}
+use Rattle.tcc_serial.proofs.Names.{if◌then◌else◌, refl, sym, subst, ap, ◌∙◌, inl, inr, true≢false, Byte, Half, Word, Program, Need}
+use Rattle.tcc_serial.proofs.Names.{Nothing, Loads, Stores, Changes, Prints, Ends, Halts, Traps, word_of, line_of, Shape, set_of, Cache}
+use Rattle.tcc_serial.proofs.Names.{free_way, all_marked, is_marked, marked, stored, placed, placed_at, evicted, evicted_line, committed}
+use Rattle.tcc_serial.proofs.Names.{words_dropped, holds, spill_line, CoreState, Awaited, Phase, Running, AwaitTid, DoomedTid, Probing}
+use Rattle.tcc_serial.proofs.Names.{Ready, Overflowing, Solo, Halted, Sends, nothing, flushed, written_back, Out, moves, finished, stepped}
+use Rattle.tcc_serial.proofs.Names.{is_running, is_solo, new_word, noted, commit, committed_core, solo_commit, ask, place, overflow}
+use Rattle.tcc_serial.proofs.Names.{full_set, fetch, used, load_valid, load_spilled, load, buffered, framed, word_store, also_read}
+use Rattle.tcc_serial.proofs.Names.{change_valid, change_spilled, partial_store, close, execute_need, execute, core_exec, exec_phase}
+use Rattle.tcc_serial.proofs.Names.{unless_awaiting, core_evict, evict_line, is_awaited, SameBut, finished-same, is_stale}
 use Rattle.tcc_serial.proofs.OneCore.Executes.{Acts}
 
 -- a valid word that isn't modified is as it was

@@ -1,24 +1,11 @@
 -- What directories do to the words in frames and Fills: a Fill brings the words as they are, and a word that a commit stored is
 -- invalidated at each core that holds it.
-use Rattle.std.specs.Prelude.{ℕ, zero, suc, ◌≡◌, ◌<◌, Bool, true, false, not, ◌==◌, ◌&&◌, ◌||◌, List, [], ◌∷◌, Contains, Option, Some, None, get_or, nat_le, set, if◌then◌else◌}
-use Rattle.std.proofs.Common.{arith, refl, ap, subst, ◌∙◌, inr}
-use Rattle.std.proofs.lemmas.Bool.Decides.{nat_tests}
-use Rattle.tcc_base.specs.declared.access.Commit.{Commit as Noted}
-use Rattle.tcc_maps.specs.Words.{num, eight, line_of, place_of, word_at}
-use Rattle.tcc_maps.specs.Lines.{has_mark, with_asked}
-use Rattle.tcc_maps.specs.Nodes.{Msg, Core, Dir, Fill, DataReq}
-use Rattle.tcc_maps.specs.Shape.{Shape, home}
-use Rattle.tcc_rules.specs.State.{DirState, Link, World}
-use Rattle.tcc_rules.specs.Links.{in_flight}
-use Rattle.tcc_rules.specs.Sends.{Sends, to}
-use Rattle.tcc_rules.specs.DirDeliver.{Answer, Waits, Drops, Asks, Takes, ask_owner, line_words, load_owned, load_request}
-use Rattle.tcc_rules.specs.Step.{dir_takes, dir_asks}
-use Rattle.tcc_serial.specs.Count.{FillNot, Commits, live, among, passes}
-use Rattle.tcc_serial.specs.InMemory.{CommitsInMemory}
-use Rattle.tcc_serial.specs.Pairs.{pair, after_answer}
-use Rattle.tcc_serial.specs.Standing.{CommitsStand}
-use Rattle.tcc_serial.specs.Uses.{stores_word}
-use Rattle.tcc_serial.specs.Values.{value_at}
+use Rattle.tcc_serial.proofs.Names.{ℕ, zero, suc, ◌≡◌, ◌<◌, Bool, true, false, not, ◌==◌, ◌&&◌, ◌||◌, List, [], ◌∷◌, Contains, Option, Some}
+use Rattle.tcc_serial.proofs.Names.{None, get_or, nat_le, set, if◌then◌else◌, arith, refl, ap, subst, ◌∙◌, inr, nat_tests, Noted, num}
+use Rattle.tcc_serial.proofs.Names.{eight, line_of, place_of, word_at, has_mark, with_asked, Msg, Core, Dir, Fill, DataReq, Shape, home}
+use Rattle.tcc_serial.proofs.Names.{DirState, Link, World, in_flight, Sends, to, Answer, Waits, Drops, Asks, Takes, ask_owner, line_words}
+use Rattle.tcc_serial.proofs.Names.{load_owned, load_request, dir_takes, dir_asks, FillNot, Commits, live, among, passes, CommitsInMemory}
+use Rattle.tcc_serial.proofs.Names.{pair, after_answer, CommitsStand, stores_word, value_at}
 use Rattle.tcc_serial.proofs.Counts.Links.{live-takes}
 use Rattle.tcc_serial.proofs.Counts.PairFrames.{same, either, dir-own, dir-other, pairs_dir, pairs_asks}
 use Rattle.tcc_serial.proofs.Values.FramedWords.{HeldOf, HeldAt, KeptHeld, IsSteady, held-answered, value-stays}

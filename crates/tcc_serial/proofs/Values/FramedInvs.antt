@@ -1,34 +1,15 @@
 -- Where a directory takes a Commit, each word that the commit stored is invalidated at every other core that holds it, and all other
 -- words have their values still.
-use Rattle.std.specs.Prelude.{ℕ, zero, suc, ◌+◌, ◌≡◌, ◌<◌, ◌≤◌, ◌⊎◌, Bool, true, false, cond, ◌==◌, ◌&&◌, List, [], ◌∷◌, Contains, Option, Some, None, nat_lt, if◌then◌else◌}
-use Rattle.std.specs.List.{flat_map}
-use Rattle.std.proofs.Common.{arith, refl, sym, ap, ◌∙◌, inl, inr}
-use Rattle.std.proofs.lemmas.Bool.{cases_eq}
-use Rattle.std.proofs.lemmas.Bool.Decides.{nat_tests}
-use Rattle.std.proofs.lemmas.Grind.{flat_map-append}
-use Rattle.tcc_base.specs.declared.access.Commit.{Commit as Noted}
-use Rattle.tcc_maps.specs.Words.{num, line_of, place_of, word_at, those, count_below}
-use Rattle.tcc_maps.specs.Lines.{Lines, has_mark}
-use Rattle.tcc_maps.specs.Masks.{has, hit, mask_of}
-use Rattle.tcc_maps.specs.Nodes.{Msg, Core, Dir, Commit, Inv}
-use Rattle.tcc_maps.specs.Shape.{Shape, home, lines}
-use Rattle.tcc_maps.proofs.Lemmas.{has-mask_of}
-use Rattle.tcc_rules.specs.State.{Awaited, DirState, Link, World}
-use Rattle.tcc_rules.specs.CoreEvict.{is_awaited}
-use Rattle.tcc_rules.specs.Links.{in_flight}
-use Rattle.tcc_rules.specs.DirDeliver.{Answer, Waits, Drops, Asks, Takes, commit, settled, owned, owed_by, invalidations, invs_to, is_invalidated}
-use Rattle.tcc_rules.specs.Step.{dir_takes}
-use Rattle.tcc_serial.specs.Committing.{CommitsAreServed}
-use Rattle.tcc_serial.specs.Copies.{KeptLoading, KeptSharers, CommitsLine, SharerOf, keeps_unmodified, holds_line, is_fresh}
-use Rattle.tcc_serial.specs.Count.{Kind, FillOf, FillNot, InvWord, LoadOf, Commits, live, among, passes}
-use Rattle.tcc_serial.specs.Counted.{KeptCounted}
-use Rattle.tcc_serial.specs.InMemory.{CommitsInMemory}
-use Rattle.tcc_serial.specs.Owners.{IsRising}
-use Rattle.tcc_serial.specs.Pairs.{Pair, pair, after_answer}
-use Rattle.tcc_serial.specs.Standing.{CommitsStand}
-use Rattle.tcc_serial.specs.Stored.{stores_in, stored_mask, SettledCommit, KeptStored}
-use Rattle.tcc_serial.specs.Uses.{stores_word}
-use Rattle.tcc_serial.specs.Values.{value_at, is_stale}
+use Rattle.tcc_serial.proofs.Names.{ℕ, zero, suc, ◌+◌, ◌≡◌, ◌<◌, ◌≤◌, ◌⊎◌, Bool, true, false, cond, ◌==◌, ◌&&◌, List, [], ◌∷◌, Contains}
+use Rattle.tcc_serial.proofs.Names.{Option, Some, None, nat_lt, if◌then◌else◌, flat_map, arith, refl, sym, ap, ◌∙◌, inl, inr, cases_eq}
+use Rattle.tcc_serial.proofs.Names.{nat_tests, flat_map-append, Noted, num, line_of, place_of, word_at, those, count_below, Lines, has_mark}
+use Rattle.tcc_serial.proofs.Names.{has, hit, mask_of, Msg, Core, Dir, Commit, Inv, Shape, home, lines, has-mask_of, Awaited, DirState}
+use Rattle.tcc_serial.proofs.Names.{Link, World, is_awaited, in_flight, Answer, Waits, Drops, Asks, Takes, settled, owned, owed_by}
+use Rattle.tcc_serial.proofs.Names.{invalidations, invs_to, is_invalidated, dir_takes, CommitsAreServed, KeptLoading, KeptSharers}
+use Rattle.tcc_serial.proofs.Names.{CommitsLine, SharerOf, keeps_unmodified, holds_line, is_fresh, Kind, FillOf, FillNot, InvWord, LoadOf}
+use Rattle.tcc_serial.proofs.Names.{Commits, live, among, passes, KeptCounted, CommitsInMemory, IsRising, Pair, pair, after_answer}
+use Rattle.tcc_serial.proofs.Names.{CommitsStand, stores_in, stored_mask, SettledCommit, KeptStored, stores_word, value_at, is_stale}
+use Rattle.tcc_rules.specs.DirDeliver.{commit}
 use Rattle.tcc_serial.proofs.Marks.CoreMarks.{some-mask}
 use Rattle.tcc_serial.proofs.Marks.OwesByCommit.{CountsMarked}
 use Rattle.tcc_serial.proofs.Counts.Links.{live-sends, among-append}

@@ -1,34 +1,14 @@
 -- Each event keeps that words in frames and Fills have their values, or are invalidated.
-use Rattle.std.specs.Prelude.{ℕ, ◌≡◌, ◌<◌, ◌≤◌, ◌⊎◌, Bool, true, false, ◌==◌, ◌||◌, ◌++◌, List, Contains, Option, Some, None, IfSome, is_some, nat_lt, get_or}
-use Rattle.std.proofs.Common.{arith, refl, sym, ap, subst, ◌∙◌, inl, inr}
-use Rattle.std.proofs.lemmas.Bool.Decides.{nat_tests}
-use Rattle.tcc_base.specs.declared.access.Commit.{Commit as Noted}
-use Rattle.tcc_program.specs.Plain.{Plain}
-use Rattle.tcc_program.specs.Program.{Local, Program}
-use Rattle.tcc_maps.specs.Words.{line_of}
-use Rattle.tcc_maps.specs.Nodes.{Core, Dir, Vendor, Msg, TidReq, TidGrant, LoadReq, Fill, Skip, Probe, ProbeReply, Mark, Commit, Abort, WriteBack, Flush, DataReq, Inv, InvAck, Event}
-use Rattle.tcc_maps.specs.Shape.{Shape, home}
-use Rattle.tcc_rules.specs.State.{Awaited, CoreState, DirState, Phase, Ready, Solo, World}
-use Rattle.tcc_rules.specs.Attempt.{Out, is_solo}
-use Rattle.tcc_rules.specs.Commit.{noted}
-use Rattle.tcc_rules.specs.CoreDeliver.{from_dir, grant}
-use Rattle.tcc_rules.specs.CoreEvict.{core_evict, is_awaited}
-use Rattle.tcc_rules.specs.CoreExec.{core_exec}
-use Rattle.tcc_rules.specs.DirDeliver.{dir_deliver}
-use Rattle.tcc_rules.specs.Links.{in_flight}
-use Rattle.tcc_rules.specs.Step.{History, Stepped, step, next, recorded, and_noted, insert_commit, core_moves, core_takes}
-use Rattle.tcc_attempt.specs.Follows.{Uses, sees}
-use Rattle.tcc_serial.specs.Aim.{Suits}
-use Rattle.tcc_serial.specs.Copies.{LoadingOf}
-use Rattle.tcc_serial.specs.Count.{LinesAway, LoadOf, InvWord, Commits, live, passes}
-use Rattle.tcc_serial.specs.Invariants.{Carried, Invariants}
-use Rattle.tcc_serial.specs.OneCore.{executes}
-use Rattle.tcc_serial.specs.Owners.{Grant, granted_by}
-use Rattle.tcc_serial.specs.Pairs.{Pair, pair, after_move, back_taken, grant_taken, after_grant, after_other_grant}
-use Rattle.tcc_serial.specs.Standing.{is_applied, CommitsStand}
-use Rattle.tcc_serial.specs.Uses.{stores_word}
-use Rattle.tcc_serial.specs.Values.{after_stores, counts, value_at, UnmodifiedWords, FilledWords}
-use Rattle.tcc_serial.specs.Ways.{Ways, ways_after, sent_by}
+use Rattle.tcc_serial.proofs.Names.{ℕ, ◌≡◌, ◌<◌, ◌≤◌, ◌⊎◌, Bool, true, false, ◌==◌, ◌||◌, ◌++◌, List, Contains, Option, Some, None, IfSome}
+use Rattle.tcc_serial.proofs.Names.{is_some, nat_lt, get_or, arith, refl, sym, ap, subst, ◌∙◌, inl, inr, nat_tests, Noted, Plain, Local}
+use Rattle.tcc_serial.proofs.Names.{Program, line_of, Core, Dir, Vendor, Msg, TidReq, TidGrant, LoadReq, Fill, Skip, Probe, ProbeReply}
+use Rattle.tcc_serial.proofs.Names.{Mark, Commit, Abort, WriteBack, Flush, DataReq, Inv, InvAck, Event, Shape, home, Awaited, CoreState}
+use Rattle.tcc_serial.proofs.Names.{DirState, Phase, Ready, Solo, World, Out, is_solo, noted, from_dir, grant, core_evict, is_awaited}
+use Rattle.tcc_serial.proofs.Names.{core_exec, dir_deliver, in_flight, History, Stepped, step, next, recorded, and_noted, insert_commit}
+use Rattle.tcc_serial.proofs.Names.{core_moves, core_takes, Uses, sees, Suits, LoadingOf, LinesAway, LoadOf, InvWord, Commits, live, passes}
+use Rattle.tcc_serial.proofs.Names.{Carried, Invariants, executes, Grant, granted_by, Pair, pair, after_move, back_taken, grant_taken}
+use Rattle.tcc_serial.proofs.Names.{after_grant, after_other_grant, is_applied, CommitsStand, stores_word, after_stores, counts, value_at}
+use Rattle.tcc_serial.proofs.Names.{UnmodifiedWords, FilledWords, Ways, ways_after, sent_by}
 use Rattle.tcc_serial.specs.KeepsWords.{EventsKeepWords}
 use Rattle.tcc_serial.proofs.Order.ClosedCores.{Stand, stand}
 use Rattle.tcc_serial.proofs.Lines.LoadsKept.{dir-fills}

@@ -1,21 +1,9 @@
 -- A word in a core's frames and in the Fills on their way to the core: it has its value, or an invalidation of it is on its way too.
-use Rattle.std.specs.Prelude.{ℕ, ◌≡◌, ◌<◌, ◌≤◌, ◌⊎◌, Bool, true, false, not, ◌&&◌, ◌||◌, List, Contains, Option, Some, None, is_some}
-use Rattle.std.proofs.Common.{arith, refl, inl, inr}
-use Rattle.std.proofs.lemmas.Bool.Decides.{nat_tests}
-use Rattle.tcc_base.specs.declared.access.Commit.{Commit as Noted}
-use Rattle.tcc_maps.specs.Words.{num, line_of, place_of, word_at, any_word}
-use Rattle.tcc_maps.specs.Nodes.{Msg, Core, Dir}
-use Rattle.tcc_maps.specs.Shape.{Shape, home}
-use Rattle.tcc_maps.proofs.Lemmas.{any_below-at}
-use Rattle.tcc_rules.specs.State.{DirState, Link, World}
-use Rattle.tcc_serial.specs.Copies.{keeps_unmodified}
-use Rattle.tcc_serial.specs.Count.{FillOf, FillNot, InvWord, Commits, live, among, passes}
-use Rattle.tcc_serial.specs.InMemory.{CommitsInMemory}
-use Rattle.tcc_serial.specs.Pairs.{Pair, pair, after_answer}
-use Rattle.tcc_serial.specs.Standing.{is_this, is_applied, CommitsStand}
-use Rattle.tcc_serial.specs.Stored.{stores_at}
-use Rattle.tcc_serial.specs.Uses.{stores_word}
-use Rattle.tcc_serial.specs.Values.{counts, value_at, is_stale}
+use Rattle.tcc_serial.proofs.Names.{ℕ, ◌≡◌, ◌<◌, ◌≤◌, ◌⊎◌, Bool, true, false, not, ◌&&◌, ◌||◌, List, Contains, Option, Some, None, is_some}
+use Rattle.tcc_serial.proofs.Names.{arith, refl, inl, inr, nat_tests, Noted, num, line_of, place_of, word_at, any_word, Msg, Core, Dir}
+use Rattle.tcc_serial.proofs.Names.{Shape, home, any_below-at, DirState, Link, World, keeps_unmodified, FillOf, FillNot, InvWord, Commits}
+use Rattle.tcc_serial.proofs.Names.{live, among, passes, CommitsInMemory, Pair, pair, after_answer, is_this, is_applied, CommitsStand}
+use Rattle.tcc_serial.proofs.Names.{stores_at, stores_word, counts, value_at, is_stale}
 use Rattle.tcc_serial.proofs.Counts.Links.{live-sends, live-fewer, among-fewer}
 use Rattle.tcc_serial.proofs.Memory.MemoryHomes.{accesses_at_homes}
 use Rattle.tcc_serial.proofs.Counts.Nums.{num-same}

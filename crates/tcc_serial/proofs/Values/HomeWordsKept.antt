@@ -1,23 +1,9 @@
 -- Every event keeps the values of home words and of copies on their way home.
-use Rattle.std.specs.Prelude.{ℕ, ◌≡◌, ◌<◌, ◌⊎◌, ◌++◌, List, Option, Some, None, IfSome}
-use Rattle.std.proofs.Common.{refl, inl, inr}
-use Rattle.tcc_program.specs.Plain.{Plain}
-use Rattle.tcc_program.specs.Program.{Local, Program}
-use Rattle.tcc_maps.specs.Nodes.{Dir, Event}
-use Rattle.tcc_maps.specs.Shape.{Shape}
-use Rattle.tcc_rules.specs.State.{CoreState, World}
-use Rattle.tcc_rules.specs.Attempt.{Out}
-use Rattle.tcc_rules.specs.CoreExec.{core_exec}
-use Rattle.tcc_rules.specs.CoreEvict.{core_evict}
-use Rattle.tcc_rules.specs.CoreDeliver.{from_dir}
-use Rattle.tcc_rules.specs.DirDeliver.{Answer, Waits, Drops, Asks, Takes, dir_deliver}
-use Rattle.tcc_rules.specs.Step.{History, Stepped, step, next, recorded, and_noted, core_moves, core_takes}
-use Rattle.tcc_attempt.specs.Follows.{Uses}
-use Rattle.tcc_serial.specs.Aim.{Suits}
-use Rattle.tcc_serial.specs.Invariants.{Carried, Invariants}
+use Rattle.tcc_serial.proofs.Names.{ℕ, ◌≡◌, ◌<◌, ◌⊎◌, ◌++◌, List, Option, Some, None, IfSome, refl, inl, inr, Plain, Local, Program, Dir}
+use Rattle.tcc_serial.proofs.Names.{Event, Shape, CoreState, World, Out, core_exec, core_evict, from_dir, Answer, Waits, Drops, Asks, Takes}
+use Rattle.tcc_serial.proofs.Names.{dir_deliver, History, Stepped, step, next, recorded, and_noted, core_moves, core_takes, Uses, Suits}
+use Rattle.tcc_serial.proofs.Names.{Carried, Invariants, Grant, granted_by, Ways, ways_after, sent_by}
 use Rattle.tcc_serial.specs.KeepsHomes.{HomesHold, EventsKeepHomes}
-use Rattle.tcc_serial.specs.Owners.{Grant, granted_by}
-use Rattle.tcc_serial.specs.Ways.{Ways, ways_after, sent_by}
 use Rattle.tcc_serial.proofs.Values.CommitHomes.{commit-keeps}
 use Rattle.tcc_serial.proofs.Values.CommitWords.{CommitsWords, commits-exec}
 use Rattle.tcc_serial.proofs.OneCore.CoreStays.{Rests, evict-rests, grant-rests, back-rests}

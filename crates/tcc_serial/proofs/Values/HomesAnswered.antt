@@ -1,25 +1,11 @@
 -- What a directory or the vendor does keeps the values of home words and of copies on their way home.
-use Rattle.std.specs.Prelude.{ℕ, ◌≡◌, ◌<◌, ◌⊎◌, ◌==◌, ◌&&◌, Bool, true, false, List, [], Option, Some, None, IfSome, nat_lt, if◌then◌else◌}
-use Rattle.std.proofs.Common.{arith, refl, ap, sym, subst, ◌∙◌, inl, inr}
-use Rattle.std.proofs.lemmas.Bool.{cases_eq}
-use Rattle.std.proofs.lemmas.Bool.Decides.{nat_tests}
-use Rattle.tcc_program.specs.Plain.{Plain}
-use Rattle.tcc_program.specs.Program.{Program, Local}
-use Rattle.tcc_maps.specs.Words.{num, line_of}
-use Rattle.tcc_maps.specs.Nodes.{Core, Dir, Vendor, Event, Exec, Evict, Deliver, Msg, TidReq, TidGrant, LoadReq, Fill, Skip, Probe, ProbeReply, Mark, Commit, Abort, WriteBack, Flush, DataReq, Inv, InvAck}
-use Rattle.tcc_maps.specs.Shape.{Shape, home}
-use Rattle.tcc_rules.specs.State.{DirState, World}
-use Rattle.tcc_rules.specs.Links.{in_flight}
-use Rattle.tcc_rules.specs.Sends.{Sends}
-use Rattle.tcc_rules.specs.DirDeliver.{Answer, Waits, Drops, Asks, Takes, dir_deliver}
-use Rattle.tcc_rules.specs.Step.{History, Stepped, step, happens, names_nodes, if_in_flight, delivered, dir_takes, dir_asks, vendor_gives}
-use Rattle.tcc_attempt.specs.Follows.{Uses}
-use Rattle.tcc_serial.specs.Count.{CopyWord, CopyOf, passes}
-use Rattle.tcc_serial.specs.Invariants.{Invariants}
-use Rattle.tcc_serial.specs.Owners.{Grant}
-use Rattle.tcc_serial.specs.Pairs.{pair}
-use Rattle.tcc_serial.specs.Standing.{CommitsStand}
-use Rattle.tcc_serial.specs.Ways.{Ways}
+use Rattle.tcc_serial.proofs.Names.{ℕ, ◌≡◌, ◌<◌, ◌⊎◌, ◌==◌, ◌&&◌, Bool, true, false, List, [], Option, Some, None, IfSome, nat_lt}
+use Rattle.tcc_serial.proofs.Names.{if◌then◌else◌, arith, refl, ap, sym, subst, ◌∙◌, inl, inr, cases_eq, nat_tests, Plain, Program, Local}
+use Rattle.tcc_serial.proofs.Names.{num, line_of, Core, Dir, Vendor, Event, Exec, Evict, Deliver, Msg, TidReq, TidGrant, LoadReq, Fill}
+use Rattle.tcc_serial.proofs.Names.{Skip, Probe, ProbeReply, Mark, Commit, Abort, WriteBack, Flush, DataReq, Inv, InvAck, Shape, home}
+use Rattle.tcc_serial.proofs.Names.{DirState, World, in_flight, Sends, Answer, Waits, Drops, Asks, Takes, dir_deliver, History, Stepped}
+use Rattle.tcc_serial.proofs.Names.{step, happens, names_nodes, if_in_flight, delivered, dir_takes, dir_asks, vendor_gives, Uses, CopyWord}
+use Rattle.tcc_serial.proofs.Names.{CopyOf, passes, Invariants, Grant, pair, CommitsStand, Ways}
 use Rattle.tcc_serial.proofs.Marks.DirRecords.{NoCopy, Stays, Records, Still, Came, Settles, Dropped, RecordsBy}
 use Rattle.tcc_serial.proofs.Values.DirWords.{HomeBy, Left, Home, WordsBy}
 use Rattle.tcc_serial.proofs.Counts.PairFrames.{given, and-false}

@@ -1,17 +1,10 @@
 -- Every event that commits nothing keeps the values of home words and of copies on their way home.
-use Rattle.std.specs.Prelude.{ℕ, ◌≡◌, ◌<◌, ◌&&◌, Bool, true, false, Option, Some, None, IfSome, nat_lt, if◌then◌else◌}
-use Rattle.std.proofs.Common.{refl}
-use Rattle.tcc_program.specs.Program.{Program}
-use Rattle.tcc_maps.specs.Nodes.{Node, Core, Dir, Vendor, Event, Exec, Evict, Deliver, Msg, TidReq, TidGrant, LoadReq, Fill, Skip, Probe, ProbeReply, Mark, Commit, Abort, WriteBack, Flush, DataReq, Inv, InvAck}
-use Rattle.tcc_maps.specs.Shape.{Shape}
-use Rattle.tcc_rules.specs.Links.{in_flight}
-use Rattle.tcc_rules.specs.Attempt.{Out}
-use Rattle.tcc_rules.specs.CoreExec.{core_exec}
-use Rattle.tcc_rules.specs.CoreEvict.{core_evict}
-use Rattle.tcc_rules.specs.CoreDeliver.{core_deliver, from_dir, from_vendor, grant}
-use Rattle.tcc_rules.specs.DirDeliver.{Answer, Waits, Drops, Asks, Takes, dir_deliver}
-use Rattle.tcc_rules.specs.Step.{History, Stepped, step, happens, names_nodes, is_node, if_in_flight, moved, taken, core_moves, core_takes}
-use Rattle.tcc_serial.specs.Standing.{CommitsStand}
+use Rattle.tcc_serial.proofs.Names.{ℕ, ◌≡◌, ◌<◌, ◌&&◌, Bool, true, false, Option, Some, None, IfSome, nat_lt, if◌then◌else◌, refl, Program}
+use Rattle.tcc_serial.proofs.Names.{Node, Core, Dir, Vendor, Event, Exec, Evict, Deliver, Msg, TidReq, TidGrant, LoadReq, Fill, Skip, Probe}
+use Rattle.tcc_serial.proofs.Names.{ProbeReply, Mark, Commit, Abort, WriteBack, Flush, DataReq, Inv, InvAck, Shape, in_flight, Out}
+use Rattle.tcc_serial.proofs.Names.{core_exec, core_evict, core_deliver, from_dir, from_vendor, grant, Answer, Waits, Drops, Asks, Takes}
+use Rattle.tcc_serial.proofs.Names.{dir_deliver, History, Stepped, step, happens, names_nodes, is_node, if_in_flight, moved, taken}
+use Rattle.tcc_serial.proofs.Names.{core_moves, core_takes, CommitsStand}
 use Rattle.tcc_serial.proofs.Values.CoreWords.{Uncommitted, Quietly, words-exec, words-evict}
 use Rattle.tcc_serial.proofs.Values.CoreWordsTakes.{WordBack, words-grant, words-back}
 use Rattle.tcc_serial.proofs.Marks.DirRecords.{dir-records}

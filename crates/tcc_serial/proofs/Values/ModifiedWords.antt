@@ -1,31 +1,11 @@
 -- What a core that may commit has made of a word: its stores over the word as the core sees it.
-use Rattle.std.specs.Prelude.{ℕ, zero, suc, ◌+◌, ◌≡◌, ◌<◌, ◌≤◌, ◌⊎◌, Bool, true, false, ◌==◌, ◌&&◌, ◌||◌, List, [], ◌∷◌, map, length, slice_index_or, Contains, Option, Some, None, IfSome, IsSomeAnd, is_some, nat_lt}
-use Rattle.std.proofs.Common.{arith, refl, sym, ap, subst, ◌∙◌, inl, inr, true≢false}
-use Rattle.std.proofs.lemmas.Bool.{cases_eq, cases_lt}
-use Rattle.std.proofs.lemmas.Bool.Decides.{nat_tests}
-use Rattle.tcc_base.specs.declared.access.Commit.{Commit as Noted}
-use Rattle.tcc_program.specs.Orders.{order_of_commit}
-use Rattle.tcc_program.specs.Plain.{Attempt, Plain, serial, begun, steps}
-use Rattle.tcc_program.specs.Program.{Local, Program}
-use Rattle.tcc_maps.specs.Words.{num, line_of}
-use Rattle.tcc_maps.specs.Cache.{writes_at}
-use Rattle.tcc_maps.specs.Shape.{Shape, home}
-use Rattle.tcc_rules.specs.State.{CoreState, DirState, Phase, Ready, Solo, Halted}
-use Rattle.tcc_rules.specs.Attempt.{is_solo}
-use Rattle.tcc_rules.specs.Step.{History}
-use Rattle.tcc_attempt.specs.Follows.{Uses, Agrees, Reaches, sees}
-use Rattle.tcc_serial.specs.Aim.{Suits}
-use Rattle.tcc_serial.specs.AtHomes.{MarkedAtHomes}
-use Rattle.tcc_serial.specs.Commits.{plain_start}
-use Rattle.tcc_serial.specs.Invariants.{Invariants}
-use Rattle.tcc_serial.specs.Owners.{Grant, times}
-use Rattle.tcc_serial.specs.Pairs.{pair}
-use Rattle.tcc_serial.specs.Standing.{is_applied}
-use Rattle.tcc_serial.specs.Tids.{opens}
-use Rattle.tcc_serial.specs.Uses.{stores_word, IsMemory}
-use Rattle.tcc_serial.specs.Values.{after_stores, counts, value_at}
-use Rattle.tcc_serial.specs.WayLaws.{Settled}
-use Rattle.tcc_serial.specs.Ways.{Ways}
+use Rattle.tcc_serial.proofs.Names.{ℕ, zero, suc, ◌+◌, ◌≡◌, ◌<◌, ◌≤◌, ◌⊎◌, Bool, true, false, ◌==◌, ◌&&◌, ◌||◌, List, [], ◌∷◌, map, length}
+use Rattle.tcc_serial.proofs.Names.{slice_index_or, Contains, Option, Some, None, IfSome, IsSomeAnd, is_some, nat_lt, arith, refl, sym, ap}
+use Rattle.tcc_serial.proofs.Names.{subst, ◌∙◌, inl, inr, true≢false, cases_eq, cases_lt, nat_tests, Noted, order_of_commit, Attempt, Plain}
+use Rattle.tcc_serial.proofs.Names.{serial, begun, steps, Local, Program, num, line_of, writes_at, Shape, home, CoreState, DirState, Phase}
+use Rattle.tcc_serial.proofs.Names.{Ready, Solo, Halted, is_solo, History, Uses, Agrees, Reaches, sees, Suits, MarkedAtHomes, plain_start}
+use Rattle.tcc_serial.proofs.Names.{Invariants, Grant, times, pair, is_applied, opens, stores_word, IsMemory, after_stores, counts}
+use Rattle.tcc_serial.proofs.Names.{value_at, Settled, Ways}
 use Rattle.tcc_serial.proofs.Order.BelowBound.{home-below, agrees-before, value-before}
 use Rattle.tcc_serial.proofs.Order.ClosedCores.{May, may-bound, may-commits, Stand, stand, view-stands, uses-reached, fits-aligned}
 use Rattle.tcc_serial.proofs.Order.CutCommits.{before, behind, cut-joined}

@@ -1,19 +1,10 @@
 -- What is seen of a word is the value of its copies with the greatest tag, where they all have one value.
-use Rattle.std.specs.Prelude.{ℕ, zero, suc, ◌+◌, ◌≡◌, ◌<◌, ◌≤◌, Bool, true, false, not, ◌==◌, ◌&&◌, List, [], ◌∷◌, ◌++◌, get_or, Option, Some, None, unwrap_or, nat_le, if◌then◌else◌}
-use Rattle.std.specs.List.{flat_map}
-use Rattle.std.proofs.Common.{arith, refl, ap, ◌⊎◌, inl, inr}
-use Rattle.std.proofs.lemmas.Bool.Decides.{nat_tests}
-use Rattle.std.proofs.lemmas.Grind.{flat_map-append}
-use Rattle.tcc_maps.specs.Words.{num, those, line_of, place_of}
-use Rattle.tcc_maps.specs.Masks.{hit}
-use Rattle.tcc_maps.specs.Nodes.{Core, Dir, Msg, TidReq, TidGrant, LoadReq, Fill, Skip, Probe, ProbeReply, Mark, Commit, Abort, WriteBack, Flush, DataReq, Inv, InvAck}
-use Rattle.tcc_maps.specs.Shape.{Shape, home}
-use Rattle.tcc_rules.specs.State.{World, Link}
-use Rattle.tcc_rules.specs.Seen.{Copy, numbers, copy_of, copies_on, copy_in, copies_of, copies, newest, home_copy, seen}
-use Rattle.tcc_serial.specs.Count.{CopyWord, CopyNot, live, passes}
-use Rattle.tcc_serial.specs.Pairs.{pair}
-use Rattle.tcc_serial.specs.Standing.{is_this}
-use Rattle.tcc_serial.specs.Values.{word_copies, CopiesHave}
+use Rattle.tcc_serial.proofs.Names.{ℕ, zero, suc, ◌+◌, ◌≡◌, ◌<◌, ◌≤◌, Bool, true, false, not, ◌==◌, ◌&&◌, List, [], ◌∷◌, ◌++◌, get_or}
+use Rattle.tcc_serial.proofs.Names.{Option, Some, None, unwrap_or, nat_le, if◌then◌else◌, flat_map, arith, refl, ap, ◌⊎◌, inl, inr}
+use Rattle.tcc_serial.proofs.Names.{nat_tests, flat_map-append, num, those, line_of, place_of, hit, Core, Dir, Msg, TidReq, TidGrant}
+use Rattle.tcc_serial.proofs.Names.{LoadReq, Fill, Skip, Probe, ProbeReply, Mark, Commit, Abort, WriteBack, Flush, DataReq, Inv, InvAck}
+use Rattle.tcc_serial.proofs.Names.{Shape, home, World, Link, Copy, numbers, copy_of, copies_on, copy_in, copies_of, copies, newest}
+use Rattle.tcc_serial.proofs.Names.{home_copy, seen, CopyWord, CopyNot, live, passes, pair, is_this, word_copies, CopiesHave}
 
 -- no copy has a greater tag, and those with this one have the value
 unfoldable Top : (tag value : ℕ) → List Copy → Type 0

@@ -1,23 +1,11 @@
 -- Facts on one word for what is seen of it: which commits stored it, and what its copies say of them.
-use Rattle.std.specs.Prelude.{ℕ, zero, suc, ◌≡◌, ◌<◌, ◌≤◌, Bool, true, false, not, cond, max, ◌==◌, ◌&&◌, ◌||◌, List, [], ◌∷◌, length, Contains, Option, Some, None, slice_index_or, is_some, if◌then◌else◌}
-use Rattle.std.proofs.Common.{arith, refl, sym, ap, ◌∙◌, ◌⊎◌, inl, inr}
-use Rattle.std.proofs.lemmas.Bool.Decides.{nat_tests}
-use Rattle.tcc_base.specs.declared.access.Commit.{Commit as Noted}
-use Rattle.tcc_maps.specs.Words.{num, line_of, place_of, word_at}
-use Rattle.tcc_maps.specs.Masks.{has, hit}
-use Rattle.tcc_maps.specs.Nodes.{Msg, TidReq, TidGrant, LoadReq, Fill, Skip, Probe, ProbeReply, Mark, Commit, Abort, WriteBack, Flush, DataReq, Inv, InvAck}
-use Rattle.tcc_maps.specs.Shape.{Shape}
-use Rattle.tcc_maps.specs.Cache.{IsCache, is_dirty, dirty_tag, dirty_mask}
-use Rattle.tcc_maps.proofs.Lemmas.{has-mask_of}
-use Rattle.tcc_rules.specs.State.{DirState}
-use Rattle.tcc_serial.specs.Copies.{AboveOf}
-use Rattle.tcc_serial.specs.Count.{CopyMask, CopyWord, passes}
-use Rattle.tcc_serial.specs.Owners.{IsRising}
-use Rattle.tcc_serial.specs.Pairs.{Pair}
-use Rattle.tcc_serial.specs.Standing.{is_this}
-use Rattle.tcc_serial.specs.Uses.{stores_word}
-use Rattle.tcc_serial.specs.Values.{after_stores, counts, after_commits, word_copies}
-use Rattle.tcc_serial.specs.Wrote.{wrote, wrote_mask, last_of}
+use Rattle.tcc_serial.proofs.Names.{ℕ, zero, suc, ◌≡◌, ◌<◌, ◌≤◌, Bool, true, false, not, cond, max, ◌==◌, ◌&&◌, ◌||◌, List, [], ◌∷◌, length}
+use Rattle.tcc_serial.proofs.Names.{Contains, Option, Some, None, slice_index_or, is_some, if◌then◌else◌, arith, refl, sym, ap, ◌∙◌, ◌⊎◌}
+use Rattle.tcc_serial.proofs.Names.{inl, inr, nat_tests, Noted, num, line_of, place_of, word_at, has, hit, Msg, TidReq, TidGrant, LoadReq}
+use Rattle.tcc_serial.proofs.Names.{Fill, Skip, Probe, ProbeReply, Mark, Commit, Abort, WriteBack, Flush, DataReq, Inv, InvAck, Shape}
+use Rattle.tcc_serial.proofs.Names.{IsCache, is_dirty, dirty_tag, dirty_mask, has-mask_of, DirState, AboveOf, CopyMask, CopyWord, passes}
+use Rattle.tcc_serial.proofs.Names.{IsRising, Pair, is_this, stores_word, after_stores, counts, after_commits, word_copies, wrote}
+use Rattle.tcc_serial.proofs.Names.{wrote_mask, last_of}
 use Rattle.tcc_serial.proofs.Order.CutCommits.{Each}
 use Rattle.tcc_serial.proofs.Copies.DirtyFrames.{some-dirty, tag-of}
 use Rattle.tcc_serial.proofs.Counts.Links.{live-fewer}

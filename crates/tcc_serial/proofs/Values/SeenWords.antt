@@ -1,29 +1,12 @@
 -- What is seen of a word is its value after all commits: its copy with the greatest tag is of the commit whose Commit is in flight, if
 -- that stored the word, and else it has the line's tag or is the word at home.
-use Rattle.std.specs.Prelude.{ℕ, zero, suc, ◌+◌, ◌≡◌, ◌<◌, ◌≤◌, Bool, true, false, cond, ◌==◌, ◌&&◌, ◌||◌, List, map, Contains, Option, Some, None, is_some, nat_lt, nat_le}
-use Rattle.std.proofs.Common.{arith, refl, sym, ap, subst, ◌∙◌, ◌⊎◌, inl, inr}
-use Rattle.std.proofs.lemmas.Bool.Decides.{nat_tests}
-use Rattle.tcc_base.specs.declared.access.Commit.{Commit as Noted}
-use Rattle.tcc_program.specs.Orders.{order_of_commit}
-use Rattle.tcc_maps.specs.Words.{num, line_of}
-use Rattle.tcc_maps.specs.Nodes.{Core, Dir}
-use Rattle.tcc_maps.specs.Shape.{Shape, home, lines}
-use Rattle.tcc_rules.specs.Seen.{seen}
-use Rattle.tcc_rules.specs.State.{DirState, World}
-use Rattle.tcc_rules.specs.Step.{History}
-use Rattle.tcc_serial.specs.Commits.{plain_start}
-use Rattle.tcc_serial.specs.Copies.{AboveOf, copies_with, settled_in_line}
-use Rattle.tcc_serial.specs.Count.{Commits, CopyOf, live}
-use Rattle.tcc_serial.specs.Invariants.{Carried, CarriedInMemory}
-use Rattle.tcc_serial.specs.Owners.{Grant}
-use Rattle.tcc_serial.specs.Pairs.{pair}
-use Rattle.tcc_serial.specs.SerialKept.{SeenFollows}
-use Rattle.tcc_serial.specs.Standing.{is_settled, is_applied, is_this}
-use Rattle.tcc_serial.specs.Stored.{MarkedCommit, stores_at}
-use Rattle.tcc_serial.specs.Uses.{stores_word}
-use Rattle.tcc_serial.specs.Values.{counts, value_at, word_copies, CopiesHave, HomeWords, CopiesAbove}
-use Rattle.tcc_serial.specs.Ways.{Ways, Committed}
-use Rattle.tcc_serial.specs.Wrote.{names_line, wrote, wrote_line, wrote_mask}
+use Rattle.tcc_serial.proofs.Names.{ℕ, zero, suc, ◌+◌, ◌≡◌, ◌<◌, ◌≤◌, Bool, true, false, cond, ◌==◌, ◌&&◌, ◌||◌, List, map, Contains}
+use Rattle.tcc_serial.proofs.Names.{Option, Some, None, is_some, nat_lt, nat_le, arith, refl, sym, ap, subst, ◌∙◌, ◌⊎◌, inl, inr, nat_tests}
+use Rattle.tcc_serial.proofs.Names.{Noted, order_of_commit, num, line_of, Core, Dir, Shape, home, lines, seen, DirState, World, History}
+use Rattle.tcc_serial.proofs.Names.{plain_start, AboveOf, copies_with, settled_in_line, Commits, CopyOf, live, Carried, CarriedInMemory}
+use Rattle.tcc_serial.proofs.Names.{Grant, pair, SeenFollows, is_settled, is_applied, is_this, MarkedCommit, stores_at, stores_word, counts}
+use Rattle.tcc_serial.proofs.Names.{value_at, word_copies, CopiesHave, HomeWords, CopiesAbove, Ways, Committed, names_line, wrote}
+use Rattle.tcc_serial.proofs.Names.{wrote_line, wrote_mask}
 use Rattle.tcc_serial.proofs.Order.BelowBound.{home-below}
 use Rattle.tcc_serial.proofs.Tids.Commits.{numbered-least, granted-once}
 use Rattle.tcc_serial.proofs.Order.CutCommits.{each-listed}

@@ -1,15 +1,8 @@
 -- What a word's value becomes where commits count otherwise, and where one more is inserted.
-use Rattle.std.specs.Prelude.{ℕ, zero, suc, ◌≡◌, ◌<◌, ◌⊎◌, Bool, true, false, ◌==◌, ◌||◌, List, [], ◌∷◌, length, Contains, Option, slice_index_or, nat_lt, if◌then◌else◌}
-use Rattle.std.proofs.Common.{arith, refl, sym, ap, ◌∙◌, inl, inr, true≢false}
-use Rattle.std.proofs.lemmas.Bool.Decides.{nat_tests}
-use Rattle.tcc_base.specs.declared.access.Commit.{Commit as Noted}
-use Rattle.tcc_base.specs.declared.access.Stored.{Stored}
-use Rattle.tcc_program.specs.Ram.{word_of, patched}
-use Rattle.tcc_rules.specs.State.{DirState}
-use Rattle.tcc_rules.specs.Step.{insert_commit}
-use Rattle.tcc_serial.specs.Owners.{IsRising}
-use Rattle.tcc_serial.specs.Uses.{stores_word}
-use Rattle.tcc_serial.specs.Values.{after_stores, counts, after_commits, value_at}
+use Rattle.tcc_serial.proofs.Names.{ℕ, zero, suc, ◌≡◌, ◌<◌, ◌⊎◌, Bool, true, false, ◌==◌, ◌||◌, List, [], ◌∷◌, length, Contains, Option}
+use Rattle.tcc_serial.proofs.Names.{slice_index_or, nat_lt, if◌then◌else◌, arith, refl, sym, ap, ◌∙◌, inl, inr, true≢false, nat_tests}
+use Rattle.tcc_serial.proofs.Names.{Noted, Stored, word_of, patched, DirState, insert_commit, IsRising, stores_word, after_stores, counts}
+use Rattle.tcc_serial.proofs.Names.{after_commits, value_at}
 
 -- stores that don't name the word leave it
 pub after_stores-other : (base : ℕ) (ss : List Stored) (x y : ℕ) → stores_word base ss x ≡ false → after_stores base ss x y ≡ y

@@ -1,19 +1,9 @@
 -- The copies of a word: no more than those of its line, and all of them where the copies have the word in their mask.
-use Rattle.std.specs.Prelude.{ℕ, ◌+◌, ◌≡◌, ◌≤◌, ◌==◌, ◌&&◌, Bool, true, false, not, List, [], ◌∷◌, Option, Some, None, is_some}
-use Rattle.std.proofs.Common.{arith, refl, sym, ◌∙◌}
-use Rattle.std.proofs.lemmas.Bool.Decides.{nat_tests}
-use Rattle.tcc_maps.specs.Words.{num, line_of, place_of, word_at}
-use Rattle.tcc_maps.specs.Masks.{has, hit}
-use Rattle.tcc_maps.specs.Nodes.{Msg, TidReq, TidGrant, LoadReq, Fill, Skip, Probe, ProbeReply, Mark, Commit, Abort, WriteBack, Flush, DataReq, Inv, InvAck}
-use Rattle.tcc_maps.specs.Shape.{Shape}
-use Rattle.tcc_maps.specs.Cache.{Cache, IsCache, is_dirty, dirty_tag, dirty_mask}
-use Rattle.tcc_maps.proofs.Lemmas.{has-mask_of}
-use Rattle.tcc_rules.specs.State.{Link}
-use Rattle.tcc_serial.specs.Copies.{copies_with}
-use Rattle.tcc_serial.specs.Count.{CopyOf, CopyMask, CopyWord, CopyNot, live, among, passes}
-use Rattle.tcc_serial.specs.Pairs.{Pair}
-use Rattle.tcc_serial.specs.Standing.{is_this}
-use Rattle.tcc_serial.specs.Values.{word_copies, CopiesHave}
+use Rattle.tcc_serial.proofs.Names.{ℕ, ◌+◌, ◌≡◌, ◌≤◌, ◌==◌, ◌&&◌, Bool, true, false, not, List, [], ◌∷◌, Option, Some, None, is_some, arith}
+use Rattle.tcc_serial.proofs.Names.{refl, sym, ◌∙◌, nat_tests, num, line_of, place_of, word_at, has, hit, Msg, TidReq, TidGrant, LoadReq}
+use Rattle.tcc_serial.proofs.Names.{Fill, Skip, Probe, ProbeReply, Mark, Commit, Abort, WriteBack, Flush, DataReq, Inv, InvAck, Shape}
+use Rattle.tcc_serial.proofs.Names.{Cache, IsCache, is_dirty, dirty_tag, dirty_mask, has-mask_of, Link, copies_with, CopyOf, CopyMask}
+use Rattle.tcc_serial.proofs.Names.{CopyWord, CopyNot, live, among, passes, Pair, is_this, word_copies, CopiesHave}
 use Rattle.tcc_serial.proofs.Copies.DirtyFrames.{some-dirty, tag-of}
 use Rattle.tcc_serial.proofs.Counts.Links.{live-fewer, among-fewer}
 

@@ -1,19 +1,10 @@
 -- The dirty words of a line that leave its frame go home as they are: what this is for the copies of one word.
-use Rattle.std.specs.Prelude.{ℕ, zero, suc, ◌+◌, ◌≡◌, ◌<◌, ◌⊎◌, ◌==◌, ◌&&◌, Bool, true, false, not, cond, List, [], ◌∷◌, Option, Some, None, is_some, unwrap_or, get_or, if◌then◌else◌}
-use Rattle.std.proofs.Common.{arith, refl, ap, sym, ◌∙◌, inl, inr}
-use Rattle.std.proofs.lemmas.Bool.{cases_eq}
-use Rattle.std.proofs.lemmas.Bool.Decides.{nat_tests}
-use Rattle.tcc_maps.specs.Words.{num, eight, line_of, place_of, word_at}
-use Rattle.tcc_maps.specs.Masks.{has, hit}
-use Rattle.tcc_maps.specs.Nodes.{Dir, Msg, WriteBack, Flush}
-use Rattle.tcc_maps.specs.Shape.{Shape, home}
-use Rattle.tcc_maps.specs.Cache.{Cache, IsCache, is_dirty, dirty_tag, dirty_mask, dirty_words, dirty_copy}
-use Rattle.tcc_maps.proofs.Lemmas.{has-mask_of}
-use Rattle.tcc_rules.specs.State.{CoreState}
-use Rattle.tcc_rules.specs.Attempt.{Out}
-use Rattle.tcc_rules.specs.Sends.{to, flush, write_back, flushed, written_back}
-use Rattle.tcc_serial.specs.Count.{CopyOf, CopyWord, CopyNot, among, passes}
-use Rattle.tcc_serial.specs.Standing.{is_this}
+use Rattle.tcc_serial.proofs.Names.{ℕ, zero, suc, ◌+◌, ◌≡◌, ◌<◌, ◌⊎◌, ◌==◌, ◌&&◌, Bool, true, false, not, cond, List, [], ◌∷◌, Option, Some}
+use Rattle.tcc_serial.proofs.Names.{None, is_some, unwrap_or, get_or, if◌then◌else◌, arith, refl, ap, sym, ◌∙◌, inl, inr, cases_eq}
+use Rattle.tcc_serial.proofs.Names.{nat_tests, num, eight, line_of, place_of, word_at, has, hit, Dir, Msg, WriteBack, Flush, Shape, home}
+use Rattle.tcc_serial.proofs.Names.{Cache, IsCache, is_dirty, dirty_tag, dirty_mask, dirty_words, dirty_copy, has-mask_of, CoreState, Out}
+use Rattle.tcc_serial.proofs.Names.{to, flush, flushed, written_back, CopyOf, CopyWord, CopyNot, among, passes, is_this}
+use Rattle.tcc_rules.specs.Sends.{write_back}
 use Rattle.tcc_serial.proofs.Values.WordCopies.{among-words, among-others, dirty-line, at-place}
 
 -- what an event of a core does to a word: its copies are as many, in the frame and sent, and each has the value that it had

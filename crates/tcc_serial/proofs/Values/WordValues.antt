@@ -1,19 +1,8 @@
 -- The values of one word at its home and in its copies, and what keeps them.
-use Rattle.std.specs.Prelude.{ℕ, ◌≡◌, ◌<◌, ◌≤◌, ◌⊎◌, Bool, true, false, List, Contains, Option, Some, None}
-use Rattle.std.proofs.Common.{arith, refl, ap, sym, ◌∙◌, inl, inr}
-use Rattle.tcc_base.specs.declared.access.Commit.{Commit as Noted}
-use Rattle.tcc_maps.specs.Words.{line_of}
-use Rattle.tcc_maps.specs.Nodes.{Core, Dir}
-use Rattle.tcc_maps.specs.Shape.{Shape, home}
-use Rattle.tcc_rules.specs.State.{World}
-use Rattle.tcc_serial.specs.Count.{Kind, Commits, CopyWord, CopyNot, live}
-use Rattle.tcc_serial.specs.InMemory.{CommitsInMemory}
-use Rattle.tcc_serial.specs.Pairs.{Pair, pair}
-use Rattle.tcc_serial.specs.Standing.{is_applied, CommitsStand}
-use Rattle.tcc_serial.specs.Stored.{stores_at}
-use Rattle.tcc_serial.specs.Uses.{stores_word}
-use Rattle.tcc_serial.specs.Values.{counts, value_at, word_copies, CopiesHave, HomeWords, CopiesAbove}
-use Rattle.tcc_serial.specs.Wrote.{names_line}
+use Rattle.tcc_serial.proofs.Names.{ℕ, ◌≡◌, ◌<◌, ◌≤◌, ◌⊎◌, Bool, true, false, List, Contains, Option, Some, None, arith, refl, ap, sym, ◌∙◌}
+use Rattle.tcc_serial.proofs.Names.{inl, inr, Noted, line_of, Core, Dir, Shape, home, World, Kind, Commits, CopyWord, CopyNot, live}
+use Rattle.tcc_serial.proofs.Names.{CommitsInMemory, Pair, pair, is_applied, CommitsStand, stores_at, stores_word, counts, value_at}
+use Rattle.tcc_serial.proofs.Names.{word_copies, CopiesHave, HomeWords, CopiesAbove, names_line}
 use Rattle.tcc_serial.proofs.Memory.MemoryHomes.{line-has}
 use Rattle.tcc_serial.proofs.Counts.Nums.{num-same}
 use Rattle.tcc_serial.proofs.Copies.TagsKept.{stored-home}

@@ -1,32 +1,16 @@
 -- The answers of a directory that leave the tag of a word's line keep the word's values: no copy with this tag is consumed, or it comes home.
-use Rattle.std.specs.Prelude.{ℕ, ◌≡◌, ◌<◌, ◌≤◌, ◌==◌, ◌&&◌, Bool, true, false, Some, None}
-use Rattle.std.proofs.Common.{arith, refl, ap}
-use Rattle.std.proofs.lemmas.Bool.Decides.{nat_tests}
-use Rattle.tcc_maps.specs.Words.{num, line_of}
-use Rattle.tcc_maps.specs.Nodes.{Core, Dir, Msg}
-use Rattle.tcc_maps.specs.Cache.{IsCache}
-use Rattle.tcc_maps.specs.Shape.{Shape, home}
-use Rattle.tcc_rules.specs.State.{World}
-use Rattle.tcc_rules.specs.Links.{in_flight}
-use Rattle.tcc_rules.specs.Step.{History}
-use Rattle.tcc_serial.specs.Committing.{CommitsAreServed}
-use Rattle.tcc_serial.specs.Copies.{copies_with, KeptTags, KeptAbove, KeptOwned}
-use Rattle.tcc_serial.specs.Count.{Commits, Invs, CopyOf, CopyWord, CopyNot, live, passes}
-use Rattle.tcc_serial.specs.InMemory.{CommitsInMemory, CopiesInMemory}
-use Rattle.tcc_serial.specs.Laws.{OwedInFlight}
-use Rattle.tcc_serial.specs.Named.{KeptNamed}
-use Rattle.tcc_serial.specs.MaskLaws.{MarksOfCommits}
-use Rattle.tcc_serial.specs.Owners.{IsRising}
-use Rattle.tcc_serial.specs.Pairs.{pair}
-use Rattle.tcc_serial.specs.Partly.{KeptWhole}
-use Rattle.tcc_serial.specs.Standing.{is_this, CommitsStand}
-use Rattle.tcc_serial.specs.Stored.{KeptStored}
+use Rattle.tcc_serial.proofs.Names.{ℕ, ◌≡◌, ◌<◌, ◌≤◌, ◌==◌, ◌&&◌, Bool, true, false, Some, None, arith, refl, ap, nat_tests, num, line_of}
+use Rattle.tcc_serial.proofs.Names.{Core, Dir, Msg, IsCache, Shape, home, World, in_flight, History, CommitsAreServed, copies_with}
+use Rattle.tcc_serial.proofs.Names.{KeptTags, KeptAbove, KeptOwned, Commits, Invs, CopyOf, CopyWord, CopyNot, live, passes, CommitsInMemory}
+use Rattle.tcc_serial.proofs.Names.{CopiesInMemory, OwedInFlight, KeptNamed, MarksOfCommits, IsRising, pair, KeptWhole, is_this}
+use Rattle.tcc_serial.proofs.Names.{CommitsStand, KeptStored}
 use Rattle.tcc_serial.proofs.Marks.DirRecords.{NoCommit, Dropped}
 use Rattle.tcc_serial.proofs.Values.DirWords.{HomeBy, Left, Home}
 use Rattle.tcc_serial.proofs.Copies.TagsKept.{Consumes}
 use Rattle.tcc_serial.proofs.Tids.TidSteps.{live-some}
 use Rattle.tcc_serial.proofs.Values.WordCopies.{word-line}
-use Rattle.tcc_serial.proofs.Values.WordValues.{value_of, tag_of, ValuesAt, KeptValues, SameCommits, same-value, stands-keep, quiet-keep, same-values}
+use Rattle.tcc_serial.proofs.Values.WordValues.{value_of, tag_of, ValuesAt, KeptValues, SameCommits, same-value, stands-keep, quiet-keep}
+use Rattle.tcc_serial.proofs.Values.WordValues.{same-values}
 
 -- what the proofs take from the list
 pub record Known (sh : Shape) (ram : ℕ → ℕ) (h : History) : Type 0 where

@@ -1,23 +1,9 @@
 -- What a core's event does to the values of a word, where nothing is committed: its copies with the line's tag or a larger one stay.
-use Rattle.std.specs.Prelude.{ℕ, ◌+◌, ◌%◌, ◌≡◌, ◌<◌, ◌≤◌, ◌==◌, ◌++◌, Bool, true, false, not, List, Option, Some, None}
-use Rattle.std.proofs.Common.{arith, refl, ap, sym, subst, ◌∙◌}
-use Rattle.std.proofs.lemmas.Bool.Decides.{nat_tests}
-use Rattle.tcc_base.specs.declared.access.Commit.{Commit as Noted}
-use Rattle.tcc_maps.specs.Words.{num, line_of}
-use Rattle.tcc_maps.specs.Lines.{has_mark}
-use Rattle.tcc_maps.specs.Nodes.{Core, Dir, Vendor, Msg, Inv}
-use Rattle.tcc_maps.specs.Shape.{Shape, home, lines}
-use Rattle.tcc_rules.specs.State.{World}
-use Rattle.tcc_rules.specs.Links.{in_flight, sent_all}
-use Rattle.tcc_rules.specs.Attempt.{Out}
-use Rattle.tcc_rules.specs.Step.{History, core_moves, core_takes}
-use Rattle.tcc_serial.specs.Copies.{copies_with}
-use Rattle.tcc_serial.specs.Count.{CopyOf, CopyWord, CopyNot, Invs, InvOf, InvsAway, live, among, passes}
-use Rattle.tcc_serial.specs.Owed.{due}
-use Rattle.tcc_serial.specs.Pairs.{Pair, pair, share, after_move, grant_taken, back_taken}
-use Rattle.tcc_serial.specs.Standing.{is_this}
-use Rattle.tcc_serial.specs.Stored.{SettledCommit}
-use Rattle.tcc_serial.specs.Values.{value_at, word_copies, CopiesHave}
+use Rattle.tcc_serial.proofs.Names.{ℕ, ◌+◌, ◌%◌, ◌≡◌, ◌<◌, ◌≤◌, ◌==◌, ◌++◌, Bool, true, false, not, List, Option, Some, None, arith, refl}
+use Rattle.tcc_serial.proofs.Names.{ap, sym, subst, ◌∙◌, nat_tests, Noted, num, line_of, has_mark, Core, Dir, Vendor, Msg, Inv, Shape, home}
+use Rattle.tcc_serial.proofs.Names.{lines, World, in_flight, sent_all, Out, History, core_moves, core_takes, copies_with, CopyOf, CopyWord}
+use Rattle.tcc_serial.proofs.Names.{CopyNot, Invs, InvOf, InvsAway, live, among, passes, due, Pair, pair, share, after_move, grant_taken}
+use Rattle.tcc_serial.proofs.Names.{back_taken, is_this, SettledCommit, value_at, word_copies, CopiesHave}
 use Rattle.tcc_serial.proofs.Values.CoreWordsTakes.{WordBack, Carried, Lost}
 use Rattle.tcc_serial.proofs.Counts.Links.{live-sends, total-le}
 use Rattle.tcc_serial.proofs.Copies.LineTags.{Invalidating, inv-tag-of}

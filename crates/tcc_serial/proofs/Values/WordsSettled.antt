@@ -1,28 +1,11 @@
 -- A Commit that a directory handles keeps the values of each word: its core's copies have the stored words as they are from now on for
 -- all, and the words of a marked line that it didn't store are at home.
-use Rattle.std.specs.Prelude.{ℕ, ◌+◌, ◌≡◌, ◌<◌, ◌≤◌, ◌⊎◌, ◌==◌, ◌&&◌, ◌||◌, Bool, true, false, cond, nat_lt, List, Contains, Option, Some, None, if◌then◌else◌}
-use Rattle.std.proofs.Common.{arith, refl, ap, sym, ◌∙◌, inl, inr}
-use Rattle.std.proofs.lemmas.Bool.{cases_eq, cases_lt}
-use Rattle.std.proofs.lemmas.Bool.Decides.{nat_tests}
-use Rattle.tcc_base.specs.declared.access.Commit.{Commit as Noted}
-use Rattle.tcc_base.specs.declared.access.Stored.{Stored}
-use Rattle.tcc_maps.specs.Words.{num, count_below, line_of, place_of, word_at}
-use Rattle.tcc_maps.specs.Lines.{has_mark}
-use Rattle.tcc_maps.specs.Masks.{has, full, mask_of}
-use Rattle.tcc_maps.specs.Nodes.{Core, Dir, Msg}
-use Rattle.tcc_maps.specs.Shape.{Shape, home, lines}
-use Rattle.tcc_maps.proofs.Lemmas.{has-mask_of}
-use Rattle.tcc_rules.specs.State.{World}
-use Rattle.tcc_rules.specs.Links.{in_flight}
-use Rattle.tcc_rules.specs.Step.{History}
-use Rattle.tcc_serial.specs.Copies.{copies_with, AboveOf}
-use Rattle.tcc_serial.specs.Count.{Commits, CommitOf, CopyOf, CopyWord, CopyNot, live, passes}
-use Rattle.tcc_serial.specs.Pairs.{pair}
-use Rattle.tcc_serial.specs.Standing.{is_applied, is_this}
-use Rattle.tcc_serial.specs.Stored.{MarkedCommit, stores_at, stores_in, stored_mask}
-use Rattle.tcc_serial.specs.Uses.{stores_word}
-use Rattle.tcc_serial.specs.Values.{counts, word_copies, CopiesHave}
-use Rattle.tcc_serial.specs.Wrote.{names_line, wrote, wrote_line, wrote_mask}
+use Rattle.tcc_serial.proofs.Names.{ℕ, ◌+◌, ◌≡◌, ◌<◌, ◌≤◌, ◌⊎◌, ◌==◌, ◌&&◌, ◌||◌, Bool, true, false, cond, nat_lt, List, Contains, Option}
+use Rattle.tcc_serial.proofs.Names.{Some, None, if◌then◌else◌, arith, refl, ap, sym, ◌∙◌, inl, inr, cases_eq, cases_lt, nat_tests, Noted}
+use Rattle.tcc_serial.proofs.Names.{Stored, num, count_below, line_of, place_of, word_at, has_mark, has, full, mask_of, Core, Dir, Msg}
+use Rattle.tcc_serial.proofs.Names.{Shape, home, lines, has-mask_of, World, in_flight, History, copies_with, AboveOf, Commits, CommitOf}
+use Rattle.tcc_serial.proofs.Names.{CopyOf, CopyWord, CopyNot, live, passes, pair, is_applied, is_this, MarkedCommit, stores_at, stores_in}
+use Rattle.tcc_serial.proofs.Names.{stored_mask, stores_word, counts, word_copies, CopiesHave, names_line, wrote, wrote_line, wrote_mask}
 use Rattle.tcc_serial.proofs.Marks.OwesByCommit.{CountsMarked}
 use Rattle.tcc_serial.proofs.Marks.DirRecords.{NoCopy}
 use Rattle.tcc_serial.proofs.Copies.LinesAnswered.{marked-line, writer-line, other-writer, commit-passes}
@@ -36,7 +19,8 @@ use Rattle.tcc_serial.proofs.Tids.TidSteps.{live-some}
 use Rattle.tcc_serial.proofs.Values.ValueAt.{value-alike, rising-above}
 use Rattle.tcc_serial.proofs.Values.WordCopies.{none-copied, few-copies, copy-has, word-line}
 use Rattle.tcc_serial.proofs.Values.WordsAnswered.{Known, Answers, unconsumed}
-use Rattle.tcc_serial.proofs.Values.WordValues.{value_of, tag_of, ValuesAt, have-still, same-copies, SameCommits, same-value, stored-at-home, quiet-keep}
+use Rattle.tcc_serial.proofs.Values.WordValues.{value_of, tag_of, ValuesAt, have-still, same-copies, SameCommits, same-value}
+use Rattle.tcc_serial.proofs.Values.WordValues.{stored-at-home, quiet-keep}
 use Rattle.tcc_serial.proofs.Copies.WroteLines.{wrote-at}
 
 -- the commit whose Commit is taken

@@ -1,31 +1,11 @@
 -- What a directory's answer does to the values that cores see: only a Commit that it takes changes them, and this dooms.
-use Rattle.std.specs.Prelude.{ℕ, ◌≡◌, ◌<◌, ◌≤◌, ◌⊎◌, ◌==◌, ◌&&◌, ◌||◌, not, Bool, true, false, List, Contains, Option, Some, None, is_some, nat_lt, set}
-use Rattle.std.proofs.Common.{arith, refl, ap, sym, subst, ◌∙◌, inl, inr, true≢false}
-use Rattle.std.proofs.lemmas.Bool.{cases_eq}
-use Rattle.std.proofs.lemmas.Bool.Decides.{nat_tests}
-use Rattle.tcc_base.specs.declared.access.Commit.{Commit as Noted}
-use Rattle.tcc_maps.specs.Words.{num, line_of, place_of, word_at, any_word, count_below}
-use Rattle.tcc_maps.specs.Masks.{hit}
-use Rattle.tcc_maps.specs.Lines.{has_mark}
-use Rattle.tcc_maps.specs.Nodes.{Core, Dir, Msg}
-use Rattle.tcc_maps.specs.Shape.{Shape, home, lines}
-use Rattle.tcc_maps.proofs.Lemmas.{has-mask_of, any_below-at}
-use Rattle.tcc_rules.specs.State.{DirState, World}
-use Rattle.tcc_rules.specs.Links.{in_flight}
-use Rattle.tcc_rules.specs.DirDeliver.{is_invalidated, invs_to, invalidations}
-use Rattle.tcc_rules.specs.Sends.{Sends}
-use Rattle.tcc_rules.specs.Step.{History, dir_takes}
-use Rattle.tcc_serial.specs.Copies.{CommitsLine, keeps_unmodified, holds_line}
-use Rattle.tcc_serial.specs.Count.{Commits, CommitOf, passes, live, among}
-use Rattle.tcc_serial.specs.InMemory.{CommitsInMemory}
-use Rattle.tcc_serial.specs.Invariants.{Carried}
-use Rattle.tcc_serial.specs.Owners.{Grant}
-use Rattle.tcc_serial.specs.Pairs.{Pair, pair}
-use Rattle.tcc_serial.specs.Standing.{is_applied, is_this, CommitsStand}
-use Rattle.tcc_serial.specs.Stored.{stored_mask, stores_in, MarkedCommit}
-use Rattle.tcc_serial.specs.Uses.{stores_word}
-use Rattle.tcc_serial.specs.Values.{is_below, counts, value_at, dooms, IsPassed}
-use Rattle.tcc_serial.specs.Ways.{Ways}
+use Rattle.tcc_serial.proofs.Names.{ℕ, ◌≡◌, ◌<◌, ◌≤◌, ◌⊎◌, ◌==◌, ◌&&◌, ◌||◌, not, Bool, true, false, List, Contains, Option, Some, None}
+use Rattle.tcc_serial.proofs.Names.{is_some, nat_lt, set, arith, refl, ap, sym, subst, ◌∙◌, inl, inr, true≢false, cases_eq, nat_tests}
+use Rattle.tcc_serial.proofs.Names.{Noted, num, line_of, place_of, word_at, any_word, count_below, hit, has_mark, Core, Dir, Msg, Shape}
+use Rattle.tcc_serial.proofs.Names.{home, lines, has-mask_of, any_below-at, DirState, World, in_flight, is_invalidated, invs_to}
+use Rattle.tcc_serial.proofs.Names.{invalidations, Sends, History, dir_takes, CommitsLine, keeps_unmodified, holds_line, Commits, CommitOf}
+use Rattle.tcc_serial.proofs.Names.{passes, live, among, CommitsInMemory, Carried, Grant, Pair, pair, is_applied, is_this, CommitsStand}
+use Rattle.tcc_serial.proofs.Names.{stored_mask, stores_in, MarkedCommit, stores_word, is_below, counts, value_at, dooms, IsPassed, Ways}
 use Rattle.tcc_serial.proofs.Tids.Commits.{granted-once}
 use Rattle.tcc_serial.proofs.Counts.Links.{live-takes}
 use Rattle.tcc_serial.proofs.Tids.ListedCommits.{granted-at}

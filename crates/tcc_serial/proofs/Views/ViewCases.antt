@@ -1,21 +1,10 @@
 -- What is to be shown of a step and of the views after it, by the kind of its event.
-use Rattle.std.specs.Prelude.{ℕ, ◌≡◌, ◌<◌, ◌&&◌, Bool, true, false, Option, Some, None, IfSome, nat_lt, if◌then◌else◌}
-use Rattle.std.proofs.Common.{arith, refl}
-use Rattle.std.proofs.lemmas.Bool.Decides.{nat_tests}
-use Rattle.tcc_base.specs.Put.{put}
-use Rattle.tcc_program.specs.Program.{Program}
-use Rattle.tcc_maps.specs.Nodes.{Node, Core, Dir, Vendor, Event, Exec, Evict, Deliver, Msg, TidReq, TidGrant, LoadReq, Fill, Skip, Probe, ProbeReply, Mark, Commit, Abort, WriteBack, Flush, DataReq, Inv, InvAck}
-use Rattle.tcc_maps.specs.Shape.{Shape}
-use Rattle.tcc_rules.specs.State.{World}
-use Rattle.tcc_rules.specs.Links.{in_flight}
-use Rattle.tcc_rules.specs.Attempt.{Out}
-use Rattle.tcc_rules.specs.CoreExec.{core_exec}
-use Rattle.tcc_rules.specs.CoreEvict.{core_evict}
-use Rattle.tcc_rules.specs.CoreDeliver.{core_deliver, from_dir, grant}
-use Rattle.tcc_rules.specs.DirDeliver.{dir_deliver}
-use Rattle.tcc_rules.specs.Step.{Stepped, core_moves, core_takes, vendor_gives, step, moved, taken, delivered, if_in_flight, happens, names_nodes, is_node}
-use Rattle.tcc_attempt.specs.Follows.{Uses, used_by}
-use Rattle.tcc_attempt.specs.Views.{Views, uses_executed, uses_delivered, views_delivered, views_after}
+use Rattle.tcc_serial.proofs.Names.{ℕ, ◌≡◌, ◌<◌, ◌&&◌, Bool, true, false, Option, Some, None, IfSome, nat_lt, if◌then◌else◌, arith, refl}
+use Rattle.tcc_serial.proofs.Names.{nat_tests, put, Program, Node, Core, Dir, Vendor, Event, Exec, Evict, Deliver, Msg, TidReq, TidGrant}
+use Rattle.tcc_serial.proofs.Names.{LoadReq, Fill, Skip, Probe, ProbeReply, Mark, Commit, Abort, WriteBack, Flush, DataReq, Inv, InvAck}
+use Rattle.tcc_serial.proofs.Names.{Shape, World, in_flight, Out, core_exec, core_evict, core_deliver, from_dir, grant, dir_deliver}
+use Rattle.tcc_serial.proofs.Names.{Stepped, core_moves, core_takes, vendor_gives, step, moved, taken, delivered, if_in_flight, happens}
+use Rattle.tcc_serial.proofs.Names.{names_nodes, is_node, Uses, used_by, Views, uses_executed, uses_delivered, views_delivered, views_after}
 use Rattle.tcc_serial.proofs.Counts.PairFrames.{given}
 use Rattle.tcc_serial.proofs.Counts.StepCases.{OfAnswer, step_answer}
 

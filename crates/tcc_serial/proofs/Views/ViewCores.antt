@@ -1,26 +1,16 @@
 -- What each of a core's rules does to its TID, its halt and its view.
-use Rattle.std.specs.Prelude.{ℕ, ◌+◌, ◌≡◌, ◌⊎◌, ◌==◌, Bool, true, false, [], ◌∷◌, ◌++◌, Option, Some, None, IfSome, if◌then◌else◌}
-use Rattle.std.proofs.Common.{arith, refl, ap, sym, ◌∙◌, inl, inr}
-use Rattle.tcc_base.specs.Put.{put}
-use Rattle.tcc_base.specs.declared.access.Commit.{Commit as Noted}
-use Rattle.tcc_base.specs.declared.access.Size.TheVariants.{Byte, Half, Word}
-use Rattle.tcc_program.specs.Program.{Program, Need, Nothing, Loads, Stores, Changes, Prints, Ends, Halts, Traps}
-use Rattle.tcc_program.specs.Ram.{word_of}
-use Rattle.tcc_maps.specs.Words.{num, any_below}
-use Rattle.tcc_maps.specs.Nodes.{Msg, TidReq, TidGrant, LoadReq, Fill, Skip, Probe, ProbeReply, Mark, Commit, Abort, WriteBack, Flush, DataReq, Inv, InvAck}
-use Rattle.tcc_maps.specs.Shape.{Shape}
-use Rattle.tcc_rules.specs.State.{CoreState, Awaited, Phase, Running, AwaitTid, DoomedTid, Probing, Ready, Overflowing, Solo, Halted}
-use Rattle.tcc_rules.specs.Attempt.{Out, roll_back}
-use Rattle.tcc_rules.specs.Commit.{commit, noted}
-use Rattle.tcc_rules.specs.CoreExec.{core_exec, exec_phase, unless_awaiting}
-use Rattle.tcc_rules.specs.CoreEvict.{core_evict}
-use Rattle.tcc_rules.specs.CoreDeliver.{grant, grant_phase, probing, is_probed, from_dir, is_violated, invalidate, acknowledged, if_violated, violated_in, ignored, without, probe_reply, all_replied, fill, data_request}
-use Rattle.tcc_attempt.specs.Follows.{Uses, used_in, used_at, used_by}
-use Rattle.tcc_attempt.specs.Views.{uses_delivered, uses_violated, rolls_back}
-use Rattle.tcc_serial.specs.Tids.{has_tid, waits_for_tid}
-use Rattle.tcc_serial.specs.Values.{EachUse}
+use Rattle.tcc_serial.proofs.Names.{ℕ, ◌+◌, ◌≡◌, ◌⊎◌, ◌==◌, Bool, true, false, [], ◌∷◌, ◌++◌, Option, Some, None, IfSome, if◌then◌else◌}
+use Rattle.tcc_serial.proofs.Names.{arith, refl, ap, sym, ◌∙◌, inl, inr, put, Noted, Byte, Half, Word, Program, Need, Nothing, Loads}
+use Rattle.tcc_serial.proofs.Names.{Stores, Changes, Prints, Ends, Halts, Traps, word_of, num, any_below, Msg, TidReq, TidGrant, LoadReq}
+use Rattle.tcc_serial.proofs.Names.{Fill, Skip, Probe, ProbeReply, Mark, Commit, Abort, WriteBack, Flush, DataReq, Inv, InvAck, Shape}
+use Rattle.tcc_serial.proofs.Names.{CoreState, Awaited, Phase, Running, AwaitTid, DoomedTid, Probing, Ready, Overflowing, Solo, Halted, Out}
+use Rattle.tcc_serial.proofs.Names.{roll_back, commit, noted, core_exec, exec_phase, unless_awaiting, core_evict, grant, grant_phase}
+use Rattle.tcc_serial.proofs.Names.{probing, is_probed, from_dir, is_violated, invalidate, acknowledged, if_violated, violated_in, ignored}
+use Rattle.tcc_serial.proofs.Names.{without, probe_reply, all_replied, fill, data_request, Uses, used_in, used_at, used_by, uses_delivered}
+use Rattle.tcc_serial.proofs.Names.{uses_violated, rolls_back, has_tid, waits_for_tid, EachUse}
 use Rattle.tcc_serial.proofs.Tids.CoreProbing.{tid-probing}
-use Rattle.tcc_serial.proofs.OneCore.CoreSteps.{evict-steady, ignored-steady, fill-steady, data-steady, Replied, Ignored, Probed, Left_alone, reply-cases}
+use Rattle.tcc_serial.proofs.OneCore.CoreSteps.{evict-steady, ignored-steady, fill-steady, data-steady, Replied, Ignored, Probed}
+use Rattle.tcc_serial.proofs.OneCore.CoreSteps.{Left_alone, reply-cases}
 use Rattle.tcc_serial.proofs.OneCore.Executes.{Acts, Steady, Executed, Goes_on, Overflows, Asks_tid, Alone, executed}
 use Rattle.tcc_serial.proofs.OneCore.NotedCommits.{Notes, exec-notes}
 

@@ -1,26 +1,11 @@
 -- What a directory takes leaves every core's view near: each used word has its value, or it is doomed.
-use Rattle.std.specs.Prelude.{ℕ, ◌≡◌, ◌<◌, ◌==◌, ◌&&◌, Bool, true, false, List, [], Some, if◌then◌else◌}
-use Rattle.std.proofs.Common.{arith, refl, ap, inl}
-use Rattle.std.proofs.lemmas.Bool.Decides.{nat_tests}
-use Rattle.tcc_base.specs.declared.access.Commit.{Commit as Noted}
-use Rattle.tcc_maps.specs.Words.{num, count_below}
-use Rattle.tcc_maps.specs.Lines.{has_mark}
-use Rattle.tcc_maps.specs.Nodes.{Core, Dir, Msg, TidReq, TidGrant, LoadReq, Fill, Skip, Probe, ProbeReply, Mark, Commit, Abort, WriteBack, Flush, DataReq, Inv, InvAck}
-use Rattle.tcc_maps.specs.Shape.{Shape, lines}
-use Rattle.tcc_rules.specs.State.{DirState, World}
-use Rattle.tcc_rules.specs.Links.{in_flight}
-use Rattle.tcc_rules.specs.Sends.{Sends}
-use Rattle.tcc_rules.specs.DirDeliver.{Answer, Waits, Drops, Asks, Takes, commit, settled, owned, owed_by, invalidations, dir_deliver}
-use Rattle.tcc_rules.specs.Step.{History, dir_takes, dir_asks}
-use Rattle.tcc_attempt.specs.Follows.{Uses}
-use Rattle.tcc_serial.specs.Count.{Commits, CommitOf, passes, live}
-use Rattle.tcc_serial.specs.InMemory.{CommitsInMemory}
-use Rattle.tcc_serial.specs.Invariants.{Carried}
-use Rattle.tcc_serial.specs.Owners.{Grant}
-use Rattle.tcc_serial.specs.Pairs.{pair, out_taken}
-use Rattle.tcc_serial.specs.Standing.{CommitsStand}
-use Rattle.tcc_serial.specs.Values.{EachUse}
-use Rattle.tcc_serial.specs.Ways.{Ways}
+use Rattle.tcc_serial.proofs.Names.{ℕ, ◌≡◌, ◌<◌, ◌==◌, ◌&&◌, Bool, true, false, List, [], Some, if◌then◌else◌, arith, refl, ap, inl}
+use Rattle.tcc_serial.proofs.Names.{nat_tests, Noted, num, count_below, has_mark, Core, Dir, Msg, TidReq, TidGrant, LoadReq, Fill, Skip}
+use Rattle.tcc_serial.proofs.Names.{Probe, ProbeReply, Mark, Commit, Abort, WriteBack, Flush, DataReq, Inv, InvAck, Shape, lines, DirState}
+use Rattle.tcc_serial.proofs.Names.{World, in_flight, Sends, Answer, Waits, Drops, Asks, Takes, settled, owned, owed_by, invalidations}
+use Rattle.tcc_serial.proofs.Names.{dir_deliver, History, dir_takes, dir_asks, Uses, Commits, CommitOf, passes, live, CommitsInMemory}
+use Rattle.tcc_serial.proofs.Names.{Carried, Grant, pair, out_taken, CommitsStand, EachUse, Ways}
+use Rattle.tcc_rules.specs.DirDeliver.{commit}
 use Rattle.tcc_serial.proofs.Counts.PairFrames.{AllPairs, same, pairs_dir, pairs_asks, asks-own}
 use Rattle.tcc_serial.proofs.Counts.StepCases.{OfAnswer}
 use Rattle.tcc_serial.proofs.Tids.TidSteps.{live-some}

@@ -1,27 +1,10 @@
 -- What the proof on views asks of a state: the bound of a core, directories that serve an open TID, and what dooms a viewed word.
-use Rattle.std.specs.Prelude.{ℕ, ◌≡◌, ◌<◌, ◌≤◌, ◌⊎◌, ◌==◌, Bool, true, false, List, [], ◌∷◌, Contains, Option, Some, None, is_some}
-use Rattle.std.proofs.Common.{arith, refl, ap, inl, inr}
-use Rattle.std.proofs.lemmas.Bool.{cases_lt}
-use Rattle.std.proofs.lemmas.Bool.Decides.{nat_tests}
-use Rattle.tcc_maps.specs.Words.{num, line_of}
-use Rattle.tcc_maps.specs.Nodes.{Core, Dir, Msg}
-use Rattle.tcc_maps.specs.Cache.{Cache, writes_at}
-use Rattle.tcc_maps.specs.Shape.{Shape, home}
-use Rattle.tcc_rules.specs.State.{Phase, Running, AwaitTid, DoomedTid, Probing, Ready, Overflowing, Solo, Halted, Link, World}
-use Rattle.tcc_rules.specs.Attempt.{is_solo}
-use Rattle.tcc_rules.specs.Step.{History}
-use Rattle.tcc_attempt.specs.Follows.{Uses}
-use Rattle.tcc_attempt.specs.Marks.{AllStand, UsesStand}
-use Rattle.tcc_serial.specs.Count.{Invs, InvsNot, InvWord, InvBelow, passes, live}
-use Rattle.tcc_serial.specs.Invariants.{Carried}
-use Rattle.tcc_serial.specs.Owed.{due}
-use Rattle.tcc_serial.specs.Owners.{Grant, times, holder}
-use Rattle.tcc_serial.specs.Pairs.{pair, share}
-use Rattle.tcc_serial.specs.Standing.{IsBound, is_applied}
-use Rattle.tcc_serial.specs.Tids.{has_tid, opens}
-use Rattle.tcc_serial.specs.Values.{dooms, EachUse, IsPassed, IsDoomed}
-use Rattle.tcc_serial.specs.Ways.{Ways}
-use Rattle.tcc_serial.specs.WayLaws.{Settled}
+use Rattle.tcc_serial.proofs.Names.{ℕ, ◌≡◌, ◌<◌, ◌≤◌, ◌⊎◌, ◌==◌, Bool, true, false, List, [], ◌∷◌, Contains, Option, Some, None, is_some}
+use Rattle.tcc_serial.proofs.Names.{arith, refl, ap, inl, inr, cases_lt, nat_tests, num, line_of, Core, Dir, Msg, Cache, writes_at, Shape}
+use Rattle.tcc_serial.proofs.Names.{home, Phase, Running, AwaitTid, DoomedTid, Probing, Ready, Overflowing, Solo, Halted, Link, World}
+use Rattle.tcc_serial.proofs.Names.{is_solo, History, Uses, AllStand, UsesStand, Invs, InvsNot, InvWord, InvBelow, passes, live, Carried}
+use Rattle.tcc_serial.proofs.Names.{due, Grant, times, holder, pair, share, IsBound, is_applied, has_tid, opens, dooms, EachUse, IsPassed}
+use Rattle.tcc_serial.proofs.Names.{IsDoomed, Ways, Settled}
 use Rattle.tcc_serial.proofs.Tids.Commits.{numbered-least}
 use Rattle.tcc_serial.proofs.Counts.Links.{live-fewer, total-le}
 

@@ -1,14 +1,7 @@
 -- Where a directory takes a Commit, a use of a stored word by another core is doomed, unless the core's bound is below the commit.
-use Rattle.std.specs.Prelude.{ℕ, zero, suc, ◌+◌, ◌≡◌, ◌<◌, ◌≤◌, ◌⊎◌, Bool, true, cond, [], ◌∷◌, Option, Some, None}
-use Rattle.std.specs.List.{flat_map}
-use Rattle.std.proofs.Common.{arith, refl, inl, inr}
-use Rattle.std.proofs.lemmas.Bool.{cases_eq}
-use Rattle.std.proofs.lemmas.Grind.{flat_map-append}
-use Rattle.tcc_maps.specs.Words.{num, line_of, those}
-use Rattle.tcc_maps.specs.Masks.{hit}
-use Rattle.tcc_maps.specs.Nodes.{Msg, Inv}
-use Rattle.tcc_serial.specs.Count.{Kind, passes, among}
-use Rattle.tcc_serial.specs.Values.{is_below, dooms}
+use Rattle.tcc_serial.proofs.Names.{ℕ, zero, suc, ◌+◌, ◌≡◌, ◌<◌, ◌≤◌, ◌⊎◌, Bool, true, cond, [], ◌∷◌, Option, Some, None, flat_map, arith}
+use Rattle.tcc_serial.proofs.Names.{refl, inl, inr, cases_eq, flat_map-append, num, line_of, those, hit, Msg, Inv, Kind, passes, among}
+use Rattle.tcc_serial.proofs.Names.{is_below, dooms}
 use Rattle.tcc_serial.proofs.Counts.Links.{among-append}
 
 -- what is sent for one of the lines

@@ -1,21 +1,9 @@
 -- What each kind of event does to a core's view, as a pair of the core and a directory sees it.
-use Rattle.std.specs.Prelude.{ℕ, ◌+◌, ◌≡◌, ◌<◌, ◌≤◌, ◌⊎◌, ◌==◌, ◌++◌, false, List, [], Option, Some, None, slice_index_or}
-use Rattle.std.proofs.Common.{arith, refl, ap, ◌∙◌, inl, inr}
-use Rattle.std.proofs.lemmas.Bool.Decides.{nat_tests}
-use Rattle.tcc_base.specs.declared.access.Commit.{Commit as Noted}
-use Rattle.tcc_maps.specs.Words.{num, line_of}
-use Rattle.tcc_maps.specs.Nodes.{Msg, TidGrant}
-use Rattle.tcc_maps.specs.Shape.{Shape, home}
-use Rattle.tcc_rules.specs.State.{CoreState, DirState, Halted}
-use Rattle.tcc_rules.specs.Links.{sent_all}
-use Rattle.tcc_rules.specs.Attempt.{Out}
-use Rattle.tcc_attempt.specs.Follows.{Uses}
-use Rattle.tcc_serial.specs.Count.{Grants, passes, live, among}
-use Rattle.tcc_serial.specs.Owners.{holder}
-use Rattle.tcc_serial.specs.Pairs.{Pair, after_move, grant_taken, back_taken, after_answer, out_taken, after_grant, after_other_grant}
-use Rattle.tcc_serial.specs.Standing.{IsBound}
-use Rattle.tcc_serial.specs.Tids.{has_tid}
-use Rattle.tcc_serial.specs.Values.{value_at, dooms, EachUse}
+use Rattle.tcc_serial.proofs.Names.{ℕ, ◌+◌, ◌≡◌, ◌<◌, ◌≤◌, ◌⊎◌, ◌==◌, ◌++◌, false, List, [], Option, Some, None, slice_index_or, arith}
+use Rattle.tcc_serial.proofs.Names.{refl, ap, ◌∙◌, inl, inr, nat_tests, Noted, num, line_of, Msg, TidGrant, Shape, home, CoreState}
+use Rattle.tcc_serial.proofs.Names.{DirState, Halted, sent_all, Out, Uses, Grants, passes, live, among, holder, Pair, after_move}
+use Rattle.tcc_serial.proofs.Names.{grant_taken, back_taken, after_answer, out_taken, after_grant, after_other_grant, IsBound, has_tid}
+use Rattle.tcc_serial.proofs.Names.{value_at, dooms, EachUse}
 use Rattle.tcc_serial.proofs.Counts.Links.{live-sends, live-takes}
 use Rattle.tcc_serial.proofs.Serving.OwnerSteps.{holder-given}
 use Rattle.tcc_serial.proofs.Views.ViewCores.{Keeps}

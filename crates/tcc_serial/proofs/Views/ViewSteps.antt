@@ -1,29 +1,11 @@
 -- What a core does, and what the vendor grants, leaves every core's view near: each used word has its value, or it is doomed.
-use Rattle.std.specs.Prelude.{ℕ, ◌≡◌, ◌<◌, ◌≤◌, ◌⊎◌, ◌==◌, ◌&&◌, ◌||◌, Bool, true, false, List, [], ◌++◌, Option, Some, None, IfSome, is_some}
-use Rattle.std.proofs.Common.{arith, refl, sym, subst, ◌∙◌, inl, inr}
-use Rattle.tcc_base.specs.Put.{put}
-use Rattle.tcc_base.specs.declared.access.Commit.{Commit as Noted}
-use Rattle.tcc_program.specs.Program.{Program}
-use Rattle.tcc_maps.specs.Words.{num, line_of}
-use Rattle.tcc_maps.specs.Cache.{writes_at}
-use Rattle.tcc_maps.specs.Shape.{Shape, home}
-use Rattle.tcc_rules.specs.State.{CoreState, Phase, Running, AwaitTid, DoomedTid, Probing, Ready, Overflowing, Solo, Halted, World}
-use Rattle.tcc_rules.specs.Attempt.{Out}
-use Rattle.tcc_rules.specs.CoreExec.{core_exec}
-use Rattle.tcc_rules.specs.CoreEvict.{core_evict}
-use Rattle.tcc_rules.specs.Step.{History, core_moves, and_noted, insert_commit}
-use Rattle.tcc_attempt.specs.Follows.{Uses}
-use Rattle.tcc_attempt.specs.Views.{Views, uses_executed}
-use Rattle.tcc_serial.specs.Count.{InvWord, live}
-use Rattle.tcc_serial.specs.Invariants.{Carried, CarriedInMemory}
-use Rattle.tcc_serial.specs.Owners.{Grant, holder}
-use Rattle.tcc_serial.specs.Pairs.{Pair, pair, after_move}
-use Rattle.tcc_serial.specs.Probes.{may_commit}
-use Rattle.tcc_serial.specs.Standing.{IsBound, is_applied}
-use Rattle.tcc_serial.specs.Tids.{has_tid, opens, waits_for_tid, RequestOf}
-use Rattle.tcc_serial.specs.Uses.{stores_word}
-use Rattle.tcc_serial.specs.Values.{is_below, counts, value_at, dooms, UnmodifiedWords}
-use Rattle.tcc_serial.specs.Ways.{Ways}
+use Rattle.tcc_serial.proofs.Names.{ℕ, ◌≡◌, ◌<◌, ◌≤◌, ◌⊎◌, ◌==◌, ◌&&◌, ◌||◌, Bool, true, false, List, [], ◌++◌, Option, Some, None, IfSome}
+use Rattle.tcc_serial.proofs.Names.{is_some, arith, refl, sym, subst, ◌∙◌, inl, inr, put, Noted, Program, num, line_of, writes_at, Shape}
+use Rattle.tcc_serial.proofs.Names.{home, CoreState, Phase, Running, AwaitTid, DoomedTid, Probing, Ready, Overflowing, Solo, Halted, World}
+use Rattle.tcc_serial.proofs.Names.{Out, core_exec, core_evict, History, core_moves, and_noted, insert_commit, Uses, Views, uses_executed}
+use Rattle.tcc_serial.proofs.Names.{InvWord, live, Carried, CarriedInMemory, Grant, holder, Pair, pair, after_move, may_commit, IsBound}
+use Rattle.tcc_serial.proofs.Names.{is_applied, has_tid, opens, waits_for_tid, RequestOf, stores_word, is_below, counts, value_at, dooms}
+use Rattle.tcc_serial.proofs.Names.{UnmodifiedWords, Ways}
 use Rattle.tcc_serial.proofs.OneCore.Executes.{Acts}
 use Rattle.tcc_serial.proofs.Serving.LastSteps.{grant-any}
 use Rattle.tcc_serial.proofs.Memory.MemoryHomes.{marks_at_homes}

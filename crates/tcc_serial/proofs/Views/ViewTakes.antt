@@ -1,27 +1,11 @@
 -- What a core takes from the vendor and from directories, and what the vendor grants, leaves every core's view near.
-use Rattle.std.specs.Prelude.{ℕ, ◌≡◌, ◌<◌, ◌≤◌, ◌⊎◌, ◌&&◌, Bool, true, false, List, [], Option, Some, None, IfSome, nat_lt}
-use Rattle.std.proofs.Common.{arith, refl, ap, sym, subst, ◌∙◌, inl, inr}
-use Rattle.std.proofs.lemmas.Bool.Decides.{nat_tests}
-use Rattle.tcc_maps.specs.Words.{num}
-use Rattle.tcc_maps.specs.Masks.{hit}
+use Rattle.tcc_serial.proofs.Names.{ℕ, ◌≡◌, ◌<◌, ◌≤◌, ◌⊎◌, ◌&&◌, Bool, true, false, List, [], Option, Some, None, IfSome, nat_lt, arith}
+use Rattle.tcc_serial.proofs.Names.{refl, ap, sym, subst, ◌∙◌, inl, inr, nat_tests, num, hit, Core, Dir, Vendor, Msg, TidReq, TidGrant}
+use Rattle.tcc_serial.proofs.Names.{LoadReq, Fill, Skip, Probe, ProbeReply, Mark, Commit, Abort, WriteBack, Flush, DataReq, Inv, InvAck}
+use Rattle.tcc_serial.proofs.Names.{Shape, put, DoomedTid, in_flight, Out, from_dir, grant, is_violated, is_above, History, core_takes}
+use Rattle.tcc_serial.proofs.Names.{vendor_gives, and_noted, Uses, Views, uses_delivered, Invs, InvWord, passes, live, Carried, Grant, Pair}
+use Rattle.tcc_serial.proofs.Names.{pair, after_move, grant_taken, back_taken, IsBound, value_at, dooms, Ways, hit-line, hit-reads}
 use Rattle.tcc_maps.specs.CacheLook.{reads_masked}
-use Rattle.tcc_maps.specs.Nodes.{Core, Dir, Vendor, Msg, TidReq, TidGrant, LoadReq, Fill, Skip, Probe, ProbeReply, Mark, Commit, Abort, WriteBack, Flush, DataReq, Inv, InvAck}
-use Rattle.tcc_maps.specs.Shape.{Shape}
-use Rattle.tcc_base.specs.Put.{put}
-use Rattle.tcc_rules.specs.State.{DoomedTid}
-use Rattle.tcc_rules.specs.Links.{in_flight}
-use Rattle.tcc_rules.specs.Attempt.{Out}
-use Rattle.tcc_rules.specs.CoreDeliver.{from_dir, grant, is_violated, is_above}
-use Rattle.tcc_rules.specs.Step.{History, core_takes, vendor_gives, and_noted}
-use Rattle.tcc_attempt.specs.Follows.{Uses}
-use Rattle.tcc_attempt.specs.Views.{Views, uses_delivered}
-use Rattle.tcc_serial.specs.Count.{Invs, InvWord, passes, live}
-use Rattle.tcc_serial.specs.Invariants.{Carried}
-use Rattle.tcc_serial.specs.Owners.{Grant}
-use Rattle.tcc_serial.specs.Pairs.{Pair, pair, after_move, grant_taken, back_taken}
-use Rattle.tcc_serial.specs.Standing.{IsBound}
-use Rattle.tcc_serial.specs.Values.{value_at, dooms}
-use Rattle.tcc_serial.specs.Ways.{Ways}
 use Rattle.tcc_serial.proofs.OneCore.CoreReadsTakes.{tid-ahead}
 use Rattle.tcc_serial.proofs.Serving.LastSteps.{asking-none}
 use Rattle.tcc_serial.proofs.Counts.PairFrames.{given, pairs_grant, pairs_back, pairs_vendor}
@@ -32,7 +16,6 @@ use Rattle.tcc_serial.proofs.Views.ViewFacts.{bound-own, few-doom, solo-undoomed
 use Rattle.tcc_serial.proofs.Views.ViewPairs.{ViewOf, view-empty, view-moves, view-takes, view-grants, view-other, view-given}
 use Rattle.tcc_serial.proofs.Views.ViewSteps.{put-own, near-put}
 use Rattle.tcc_serial.proofs.Views.ViewValues.{value-bounded, listed-below, word-next}
-use Rattle.tcc_attempt.proofs.Lemmas.{hit-line, hit-reads}
 
 -- a grant
 

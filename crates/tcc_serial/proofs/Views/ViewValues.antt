@@ -1,22 +1,9 @@
 -- Where a word keeps its value for a core: bounds above all commits that count, and directories that apply the same commits.
-use Rattle.std.specs.Prelude.{ℕ, zero, suc, ◌+◌, ◌≡◌, ◌<◌, ◌≤◌, ◌⊎◌, ◌==◌, ◌&&◌, ◌||◌, Bool, true, false, List, [], ◌∷◌, length, Contains, Some, None, nat_lt, slice_index_or}
-use Rattle.std.proofs.Common.{arith, refl, ap, inl, inr}
-use Rattle.std.proofs.lemmas.Bool.{cases_lt}
-use Rattle.std.proofs.lemmas.Bool.Decides.{nat_tests}
-use Rattle.tcc_base.specs.declared.access.Commit.{Commit as Noted}
-use Rattle.tcc_maps.specs.Words.{num}
-use Rattle.tcc_maps.specs.Nodes.{Core, Dir, Msg}
-use Rattle.tcc_maps.specs.Shape.{Shape}
-use Rattle.tcc_rules.specs.State.{DirState, Solo, Link, World}
-use Rattle.tcc_rules.specs.Step.{History}
-use Rattle.tcc_serial.specs.Count.{Commits, InvWord, InvBelow, InvsNot, passes, live}
-use Rattle.tcc_serial.specs.Invariants.{Carried}
-use Rattle.tcc_serial.specs.Owners.{Grant, times, holder}
-use Rattle.tcc_serial.specs.Pairs.{pair}
-use Rattle.tcc_serial.specs.Standing.{is_applied, is_this, CommitsStand}
-use Rattle.tcc_serial.specs.Stored.{stores_at}
-use Rattle.tcc_serial.specs.Values.{counts, value_at}
-use Rattle.tcc_serial.specs.Ways.{Ways}
+use Rattle.tcc_serial.proofs.Names.{ℕ, zero, suc, ◌+◌, ◌≡◌, ◌<◌, ◌≤◌, ◌⊎◌, ◌==◌, ◌&&◌, ◌||◌, Bool, true, false, List, [], ◌∷◌, length}
+use Rattle.tcc_serial.proofs.Names.{Contains, Some, None, nat_lt, slice_index_or, arith, refl, ap, inl, inr, cases_lt, nat_tests, Noted}
+use Rattle.tcc_serial.proofs.Names.{num, Core, Dir, Msg, Shape, DirState, Solo, Link, World, History, Commits, InvWord, InvBelow, InvsNot}
+use Rattle.tcc_serial.proofs.Names.{passes, live, Carried, Grant, times, holder, pair, is_applied, is_this, CommitsStand, stores_at, counts}
+use Rattle.tcc_serial.proofs.Names.{value_at, Ways}
 use Rattle.tcc_serial.proofs.Tids.Commits.{numbered-most}
 use Rattle.tcc_serial.proofs.Tids.ListedCommits.{granted-at}
 use Rattle.tcc_serial.proofs.Values.ValueAt.{value-alike}

@@ -1,27 +1,11 @@
 -- Every event keeps that a viewed word has the value that it has for its core, or that the attempt is doomed.
-use Rattle.std.specs.Prelude.{ℕ, ◌≡◌, ◌≤◌, ◌⊎◌, List, [], ◌++◌, Option, Some, None, IfSome}
-use Rattle.std.proofs.Common.{subst, inl, inr}
-use Rattle.tcc_base.specs.Put.{put}
-use Rattle.tcc_program.specs.Program.{Program}
-use Rattle.tcc_maps.specs.Words.{line_of}
-use Rattle.tcc_maps.specs.Nodes.{Dir, Vendor}
-use Rattle.tcc_maps.specs.Shape.{Shape, home}
-use Rattle.tcc_rules.specs.State.{DoomedTid}
-use Rattle.tcc_rules.specs.Attempt.{Out}
-use Rattle.tcc_rules.specs.CoreExec.{core_exec}
-use Rattle.tcc_rules.specs.CoreEvict.{core_evict}
-use Rattle.tcc_rules.specs.CoreDeliver.{from_dir, grant}
-use Rattle.tcc_rules.specs.DirDeliver.{Answer, Waits, Drops, Asks, Takes, dir_deliver}
-use Rattle.tcc_rules.specs.Step.{History, Stepped, core_moves, core_takes, dir_takes, dir_asks, vendor_gives, step, next, recorded, and_noted}
-use Rattle.tcc_attempt.specs.Marks.{UsesStand}
-use Rattle.tcc_attempt.specs.Views.{Views, uses_executed, uses_delivered, views_after}
-use Rattle.tcc_serial.specs.Count.{live}
-use Rattle.tcc_serial.specs.Invariants.{Carried, CarriedViews}
+use Rattle.tcc_serial.proofs.Names.{ℕ, ◌≡◌, ◌≤◌, ◌⊎◌, List, [], ◌++◌, Option, Some, None, IfSome, subst, inl, inr, put, Program, line_of}
+use Rattle.tcc_serial.proofs.Names.{Dir, Vendor, Shape, home, DoomedTid, Out, core_exec, core_evict, from_dir, grant, Answer, Waits, Drops}
+use Rattle.tcc_serial.proofs.Names.{Asks, Takes, dir_deliver, History, Stepped, core_moves, core_takes, dir_takes, dir_asks, vendor_gives}
+use Rattle.tcc_serial.proofs.Names.{step, next, recorded, and_noted, UsesStand, Views, uses_executed, uses_delivered, views_after, live}
+use Rattle.tcc_serial.proofs.Names.{Carried, CarriedViews, Grant, granted_by, pair, value_at, dooms, IsDoomed, ViewedWords, HaltedUsesNone}
+use Rattle.tcc_serial.proofs.Names.{Ways, sent_by, ways_after}
 use Rattle.tcc_serial.specs.KeepsViews.{KeepsViews}
-use Rattle.tcc_serial.specs.Owners.{Grant, granted_by}
-use Rattle.tcc_serial.specs.Pairs.{pair}
-use Rattle.tcc_serial.specs.Values.{value_at, dooms, IsDoomed, ViewedWords, HaltedUsesNone}
-use Rattle.tcc_serial.specs.Ways.{Ways, sent_by, ways_after}
 use Rattle.tcc_serial.proofs.Counts.PairFrames.{AllPairs, given}
 use Rattle.tcc_serial.proofs.Counts.StepCases.{OfAnswer}
 use Rattle.tcc_serial.proofs.Views.ViewCases.{new_uses, view_cases}

@@ -1,29 +1,18 @@
 -- What each of a core's rules says of its TID: where it goes on with it, it has skipped it at directories where it writes nothing;
 -- and where it commits, it has spoken at each directory.
-use Rattle.std.specs.Prelude.{ℕ, ◌≡◌, ◌<◌, ◌≤◌, Bool, true, false, not, [], ◌∷◌, ◌++◌, ◌==◌, ◌&&◌, ◌||◌, Option, Some, None, IfSome, nat_lt, if◌then◌else◌}
-use Rattle.std.proofs.Common.{arith, refl, sym, ◌⊎◌, inl, inr}
-use Rattle.std.proofs.lemmas.Bool.Decides.{nat_tests}
-use Rattle.tcc_base.specs.declared.access.Commit.{Commit as Noted}
-use Rattle.tcc_program.specs.Program.{Program}
-use Rattle.tcc_program.specs.Plain.{Outcome, Goes, Ended, Halted as HaltedWith, Trapped as TrappedWith}
-use Rattle.tcc_maps.specs.Words.{any_below}
-use Rattle.tcc_maps.specs.Nodes.{Dir, Msg, TidReq, TidGrant, LoadReq, Fill, Skip, Probe, ProbeReply, Mark, Commit, Abort, WriteBack, Flush, DataReq, Inv, InvAck}
-use Rattle.tcc_maps.specs.Shape.{Shape}
-use Rattle.tcc_maps.specs.Cache.{Cache, writes_at, reads_at}
-use Rattle.tcc_rules.specs.State.{CoreState, Awaited, Phase, Running, AwaitTid, DoomedTid, Probing, Ready, Overflowing, Solo, Halted}
-use Rattle.tcc_rules.specs.Attempt.{Out}
-use Rattle.tcc_rules.specs.Commit.{commit, committed_core, noted, phase_after}
-use Rattle.tcc_rules.specs.CoreExec.{core_exec, exec_phase, unless_awaiting}
-use Rattle.tcc_rules.specs.CoreEvict.{core_evict}
-use Rattle.tcc_rules.specs.CoreDeliver.{grant, grant_phase, grant_sends, from_dir, probing, is_probed, probe_reply, ignored, all_replied, fill, data_request, invalidate}
-use Rattle.tcc_base.specs.Put.{put}
-use Rattle.tcc_serial.specs.Count.{Skips, among, passes}
-use Rattle.tcc_serial.specs.OneCore.{Words, OneCore}
-use Rattle.tcc_serial.specs.Tids.{has_tid}
-use Rattle.tcc_serial.specs.Ways.{Untold, told_by}
-use Rattle.tcc_serial.specs.Told.{live_way, commit_way}
+use Rattle.tcc_serial.proofs.Names.{ℕ, ◌≡◌, ◌<◌, ◌≤◌, Bool, true, false, not, [], ◌∷◌, ◌++◌, ◌==◌, ◌&&◌, ◌||◌, Option, Some, None, IfSome}
+use Rattle.tcc_serial.proofs.Names.{nat_lt, if◌then◌else◌, arith, refl, sym, ◌⊎◌, inl, inr, nat_tests, Noted, Program, Outcome, Goes, Ended}
+use Rattle.tcc_serial.proofs.Names.{HaltedWith, TrappedWith, any_below, Dir, Msg, TidReq, TidGrant, LoadReq, Fill, Skip, Probe, ProbeReply}
+use Rattle.tcc_serial.proofs.Names.{Mark, Commit, Abort, WriteBack, Flush, DataReq, Inv, InvAck, Shape, Cache, writes_at, reads_at}
+use Rattle.tcc_serial.proofs.Names.{CoreState, Awaited, Phase, Running, AwaitTid, DoomedTid, Probing, Ready, Overflowing, Solo, Halted, Out}
+use Rattle.tcc_serial.proofs.Names.{commit, committed_core, noted, phase_after, core_exec, exec_phase, unless_awaiting, core_evict, grant}
+use Rattle.tcc_serial.proofs.Names.{grant_phase, grant_sends, from_dir, probing, is_probed, probe_reply, ignored, all_replied, fill}
+use Rattle.tcc_serial.proofs.Names.{data_request, invalidate, put, Skips, among, passes, Words, OneCore, has_tid, Untold, told_by, live_way}
+use Rattle.tcc_serial.proofs.Names.{commit_way}
 use Rattle.tcc_serial.proofs.OneCore.Executes.{Acts, Steady, Executed, Goes_on, Overflows, Asks_tid, Alone, executed}
-use Rattle.tcc_serial.proofs.OneCore.CoreSteps.{writes_at-same, evict-steady, ignored-steady, fill-steady, data-steady, Hurt, Unhurt, Rolled, Doomed, Aborted, Gave_up, Invalidated, invalidate-cases, Replied, Ignored, Probed, Left_alone, reply-cases}
+use Rattle.tcc_serial.proofs.OneCore.CoreSteps.{writes_at-same, evict-steady, ignored-steady, fill-steady, data-steady, Hurt, Unhurt}
+use Rattle.tcc_serial.proofs.OneCore.CoreSteps.{Rolled, Doomed, Aborted, Gave_up, Invalidated, invalidate-cases, Replied, Ignored, Probed}
+use Rattle.tcc_serial.proofs.OneCore.CoreSteps.{Left_alone, reply-cases}
 use Rattle.tcc_serial.proofs.Ways.CoreTells.{solo-told, ready-told}
 use Rattle.tcc_serial.proofs.Marks.StoredMasks.{stored-solo, stored-written}
 use Rattle.tcc_serial.proofs.OneCore.NotedCommits.{Notes, executed-notes}

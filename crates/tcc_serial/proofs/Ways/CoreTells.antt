@@ -1,16 +1,9 @@
 -- What a core with a TID says of it: it skips it at directories where it writes nothing, and commits it where it has stored.
-use Rattle.std.specs.Prelude.{ℕ, ◌≡◌, ◌<◌, Bool, true, false, List, [], ◌∷◌, ◌++◌, ◌==◌, ◌&&◌, nat_lt, if◌then◌else◌}
-use Rattle.std.specs.List.{flat_map}
-use Rattle.std.proofs.Common.{arith, refl}
-use Rattle.std.proofs.lemmas.Bool.Decides.{nat_tests}
-use Rattle.tcc_maps.specs.Words.{num, those, count_below}
-use Rattle.tcc_maps.specs.Nodes.{Dir, Msg, Skip, Mark, Commit, WriteBack}
-use Rattle.tcc_maps.specs.Shape.{Shape, home, lines}
-use Rattle.tcc_maps.specs.Cache.{Cache, writes_at, is_modified}
-use Rattle.tcc_maps.specs.Spilled.{Spilled, holds, spilled_mask, spilled_words}
-use Rattle.tcc_rules.specs.Commit.{commit_sends, solo_sends, solo_marks, solo_backs, solo_writes_at, is_written, written_mask}
-use Rattle.tcc_serial.specs.Count.{Kind, Skips, Aborts, Commits, among, passes}
-use Rattle.tcc_serial.specs.Ways.{Way, Untold, Skipped, Committed, told_by}
+use Rattle.tcc_serial.proofs.Names.{ℕ, ◌≡◌, ◌<◌, Bool, true, false, List, [], ◌∷◌, ◌++◌, ◌==◌, ◌&&◌, nat_lt, if◌then◌else◌, flat_map, arith}
+use Rattle.tcc_serial.proofs.Names.{refl, nat_tests, num, those, count_below, Dir, Msg, Skip, Mark, Commit, WriteBack, Shape, home, lines}
+use Rattle.tcc_serial.proofs.Names.{Cache, writes_at, is_modified, Spilled, holds, spilled_mask, spilled_words, commit_sends, solo_sends}
+use Rattle.tcc_serial.proofs.Names.{solo_marks, solo_backs, solo_writes_at, is_written, written_mask, Kind, Skips, Aborts, Commits, among}
+use Rattle.tcc_serial.proofs.Names.{passes, Way, Untold, Skipped, Committed, told_by}
 use Rattle.tcc_serial.proofs.Counts.Links.{among-append}
 use Rattle.tcc_serial.proofs.Counts.Sent.{among-flat_map_none}
 use Rattle.tcc_serial.proofs.Ways.WayParts.{told-skip, told-commit}

@@ -1,18 +1,8 @@
 -- The ways in which each TID was given to each directory, through every event and along every run.
-use Rattle.std.specs.Prelude.{ℕ, List, [], ◌∷◌, ◌++◌, Option, Some, None, IfSome}
-use Rattle.std.proofs.Common.{arith, sym, append_assoc}
-use Rattle.std.proofs.lemmas.List.{append-nil}
-use Rattle.tcc_program.specs.Program.{Program, Local}
-use Rattle.tcc_maps.specs.Nodes.{Event}
-use Rattle.tcc_maps.specs.Shape.{Shape}
-use Rattle.tcc_rules.specs.State.{start, core_start}
-use Rattle.tcc_rules.specs.Step.{Stepped, step, History, and_noted, recorded, next, and_then, run_from, run}
-use Rattle.tcc_serial.specs.Kept.{KeptTold, KeptAll, KeptRun}
-use Rattle.tcc_serial.specs.Owners.{Grant, granted_by, then_grants, grants_from}
-use Rattle.tcc_serial.specs.Tids.{has_tid}
-use Rattle.tcc_serial.specs.Uses.{loads_word}
-use Rattle.tcc_serial.specs.Ways.{Ways, ways_after, sent_by, then_ways, ways_from, first_ways, KeptWays}
-use Rattle.tcc_serial.specs.WayLaws.{AlwaysTold}
+use Rattle.tcc_serial.proofs.Names.{ℕ, List, [], ◌∷◌, ◌++◌, Option, Some, None, IfSome, arith, sym, append_assoc, append-nil, Program}
+use Rattle.tcc_serial.proofs.Names.{Local, Event, Shape, start, core_start, Stepped, step, History, and_noted, recorded, next, and_then}
+use Rattle.tcc_serial.proofs.Names.{run_from, run, KeptTold, KeptAll, KeptRun, Grant, granted_by, then_grants, grants_from, has_tid}
+use Rattle.tcc_serial.proofs.Names.{loads_word, Ways, ways_after, sent_by, then_ways, ways_from, first_ways, KeptWays, AlwaysTold}
 use Rattle.tcc_serial.proofs.Run.AllInvariants.{step-all, all-at-start}
 use Rattle.tcc_serial.proofs.Ways.ByCore.{ByCore}
 use Rattle.tcc_serial.proofs.Ways.ToldSteps.{Speaks, step-speaks, step-live-out, step-committed-out}

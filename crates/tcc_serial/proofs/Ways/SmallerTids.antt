@@ -1,18 +1,8 @@
 -- What became of the TIDs below a committed one.
-use Rattle.std.specs.Prelude.{ℕ, zero, suc, ◌≡◌, ◌<◌, ◌≤◌, true, List, Contains}
-use Rattle.std.proofs.Common.{arith, refl, ◌⊎◌, inl, inr}
-use Rattle.std.proofs.lemmas.Bool.Decides.{nat_tests}
-use Rattle.tcc_base.specs.declared.access.Commit.{Commit as Noted}
-use Rattle.tcc_maps.specs.Shape.{Shape}
-use Rattle.tcc_rules.specs.State.{World}
-use Rattle.tcc_rules.specs.Step.{History}
-use Rattle.tcc_serial.specs.Committing.{CommitsAreServed}
-use Rattle.tcc_serial.specs.Kept.{KeptRun}
-use Rattle.tcc_serial.specs.Owners.{Grant, times}
-use Rattle.tcc_serial.specs.Pairs.{pair, share}
-use Rattle.tcc_serial.specs.Ways.{Committed, Ways, part_in, kept_in, WayAt}
-use Rattle.tcc_serial.specs.WayLaws.{AlwaysTold, is_given_up, Settled, SmallerAreResolved, SmallerAreGivenUp, WorkIsReached}
-use Rattle.tcc_serial.specs.Worked.{worked_at}
+use Rattle.tcc_serial.proofs.Names.{ℕ, zero, suc, ◌≡◌, ◌<◌, ◌≤◌, true, List, Contains, arith, refl, ◌⊎◌, inl, inr, nat_tests, Noted, Shape}
+use Rattle.tcc_serial.proofs.Names.{World, History, CommitsAreServed, KeptRun, Grant, times, pair, share, Committed, Ways, part_in, kept_in}
+use Rattle.tcc_serial.proofs.Names.{WayAt, AlwaysTold, is_given_up, Settled, SmallerAreResolved, SmallerAreGivenUp, WorkIsReached}
+use Rattle.tcc_serial.proofs.Names.{worked_at}
 use Rattle.tcc_serial.proofs.Serving.CommitSteps.{commits_served}
 use Rattle.tcc_serial.proofs.Ways.RunWays.{told_from}
 use Rattle.tcc_serial.proofs.Ways.WayFacts.{some-part, passed-way, none-sent}

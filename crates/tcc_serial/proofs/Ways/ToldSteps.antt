@@ -1,29 +1,12 @@
 -- Every event keeps what the ways say of a core's TID, and of a committed one.
-use Rattle.std.specs.Prelude.{ℕ, zero, suc, ◌≡◌, ◌<◌, ◌≤◌, Bool, true, false, List, ◌==◌, Contains, Option, Some, None, IfSome, nat_lt, if◌then◌else◌}
-use Rattle.std.proofs.Common.{arith, refl, sym, ap, ◌∙◌, ◌⊎◌, inl, inr}
-use Rattle.std.proofs.lemmas.Bool.Decides.{nat_tests}
-use Rattle.tcc_base.specs.declared.access.Commit.{Commit as Noted}
-use Rattle.tcc_program.specs.Program.{Program}
-use Rattle.tcc_maps.specs.Words.{num}
-use Rattle.tcc_maps.specs.Nodes.{Core, Dir, Vendor, Msg, TidGrant, Event}
-use Rattle.tcc_maps.specs.Cache.{writes_at}
-use Rattle.tcc_maps.specs.Shape.{Shape}
-use Rattle.tcc_rules.specs.State.{Phase, Running, AwaitTid, DoomedTid, Probing, Ready, Overflowing, Solo, Halted, World}
-use Rattle.tcc_rules.specs.Links.{in_flight}
-use Rattle.tcc_rules.specs.Sends.{Sends}
-use Rattle.tcc_rules.specs.Attempt.{Out}
-use Rattle.tcc_rules.specs.CoreExec.{core_exec}
-use Rattle.tcc_rules.specs.CoreEvict.{core_evict}
-use Rattle.tcc_rules.specs.CoreDeliver.{from_dir, grant}
-use Rattle.tcc_rules.specs.Step.{Stepped, step, and_noted}
-use Rattle.tcc_serial.specs.Count.{Grants, Resolves, Skips, Aborts, Commits, among, passes}
-use Rattle.tcc_serial.specs.OneCore.{KeptCores}
-use Rattle.tcc_serial.specs.Owners.{Grant, times, KeptOwners}
-use Rattle.tcc_serial.specs.Pairs.{pair, share}
-use Rattle.tcc_serial.specs.Tids.{has_tid, opens, ResolvedAt, KeptTids}
-use Rattle.tcc_serial.specs.Ways.{Way, Untold, Skipped, Aborted, Committed, Ways, told_by, ways_after, sent_by, part_in, WayAt, KeptWays}
-use Rattle.tcc_serial.specs.Stored.{stores_at}
-use Rattle.tcc_serial.specs.Told.{live_way, KeptLive, commit_way, KeptCommitted}
+use Rattle.tcc_serial.proofs.Names.{ℕ, zero, suc, ◌≡◌, ◌<◌, ◌≤◌, Bool, true, false, List, ◌==◌, Contains, Option, Some, None, IfSome}
+use Rattle.tcc_serial.proofs.Names.{nat_lt, if◌then◌else◌, arith, refl, sym, ap, ◌∙◌, ◌⊎◌, inl, inr, nat_tests, Noted, Program, num, Core}
+use Rattle.tcc_serial.proofs.Names.{Dir, Vendor, Msg, TidGrant, Event, writes_at, Shape, Phase, Running, AwaitTid, DoomedTid, Probing}
+use Rattle.tcc_serial.proofs.Names.{Ready, Overflowing, Solo, Halted, World, in_flight, Sends, Out, core_exec, core_evict, from_dir, grant}
+use Rattle.tcc_serial.proofs.Names.{Stepped, step, and_noted, Grants, Resolves, Skips, Aborts, Commits, among, passes, KeptCores, Grant}
+use Rattle.tcc_serial.proofs.Names.{times, KeptOwners, pair, share, has_tid, opens, ResolvedAt, KeptTids, Way, Untold, Skipped, Aborted}
+use Rattle.tcc_serial.proofs.Names.{Committed, Ways, told_by, ways_after, sent_by, part_in, WayAt, KeptWays, stores_at, live_way, KeptLive}
+use Rattle.tcc_serial.proofs.Names.{commit_way, KeptCommitted}
 use Rattle.tcc_serial.proofs.Counts.Links.{total-le}
 use Rattle.tcc_serial.proofs.Ways.ByCore.{ByCore, Still, Moved, by_core}
 use Rattle.tcc_serial.proofs.Tids.ListedCommits.{inserted, positive-held, positive-committed}

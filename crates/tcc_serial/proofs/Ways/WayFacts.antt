@@ -1,22 +1,10 @@
 -- What the invariants on ways say in words.
-use Rattle.std.specs.Prelude.{ℕ, zero, suc, ◌+◌, ◌≡◌, ◌<◌, ◌≤◌, Bool, true, false, ◌==◌, ◌&&◌, List, nat_lt, nat_le}
-use Rattle.std.proofs.Common.{arith, refl, ap, ◌⊎◌, inl, inr}
-use Rattle.std.proofs.lemmas.Bool.Decides.{nat_tests}
-use Rattle.tcc_maps.specs.Words.{num}
-use Rattle.tcc_maps.specs.Nodes.{Core, Dir}
-use Rattle.tcc_maps.specs.Serving.{is_skipped}
-use Rattle.tcc_maps.specs.Cache.{writes_at}
-use Rattle.tcc_maps.specs.Shape.{Shape}
-use Rattle.tcc_rules.specs.DirDeliver.{total}
-use Rattle.tcc_rules.specs.State.{Phase, Running, AwaitTid, DoomedTid, Probing, Ready, Overflowing, Solo, Halted, World}
-use Rattle.tcc_rules.specs.Step.{History}
-use Rattle.tcc_serial.specs.Count.{Commits, live}
-use Rattle.tcc_serial.specs.Kept.{KeptRun}
-use Rattle.tcc_serial.specs.Owners.{Grant, holder}
-use Rattle.tcc_serial.specs.Pairs.{pair, share, sum_of}
-use Rattle.tcc_serial.specs.Tids.{has_tid, opens, ResolvedAt}
-use Rattle.tcc_serial.specs.Ways.{Way, Untold, Skipped, Aborted, Committed, Ways, part_in, kept_in, WayAt}
-use Rattle.tcc_serial.specs.WayLaws.{AlwaysTold, is_untold, is_given_up, UntoldWhereOpen, UntoldIsLive, Settled, WaysFit, AllWaysFit, given_up_by, GivenUpOnce, LiveIsOpen, CommittedWhereStored}
+use Rattle.tcc_serial.proofs.Names.{ℕ, zero, suc, ◌+◌, ◌≡◌, ◌<◌, ◌≤◌, Bool, true, false, ◌==◌, ◌&&◌, List, nat_lt, nat_le, arith, refl, ap}
+use Rattle.tcc_serial.proofs.Names.{◌⊎◌, inl, inr, nat_tests, num, Core, Dir, is_skipped, writes_at, Shape, total, Phase, Running, AwaitTid}
+use Rattle.tcc_serial.proofs.Names.{DoomedTid, Probing, Ready, Overflowing, Solo, Halted, World, History, Commits, live, KeptRun, Grant}
+use Rattle.tcc_serial.proofs.Names.{holder, pair, share, sum_of, has_tid, opens, ResolvedAt, Way, Untold, Skipped, Aborted, Committed, Ways}
+use Rattle.tcc_serial.proofs.Names.{part_in, kept_in, WayAt, AlwaysTold, is_untold, is_given_up, UntoldWhereOpen, UntoldIsLive, Settled}
+use Rattle.tcc_serial.proofs.Names.{WaysFit, AllWaysFit, given_up_by, GivenUpOnce, LiveIsOpen, CommittedWhereStored}
 use Rattle.tcc_serial.proofs.Tids.DirTids.{skipped-above}
 use Rattle.tcc_serial.proofs.Counts.Links.{total-le, total-zero}
 use Rattle.tcc_serial.proofs.Tids.ListedCommits.{positive-granted}

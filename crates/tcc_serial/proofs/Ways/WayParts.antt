@@ -1,17 +1,8 @@
 -- Where a TID is, split by the ways, and what its core's messages make of it.
-use Rattle.std.specs.Prelude.{ℕ, zero, suc, ◌+◌, ◌≡◌, ◌≤◌, Bool, true, false, List, [], ◌∷◌, ◌==◌, ◌&&◌, Some, None, nat_lt, nat_le, if◌then◌else◌}
-use Rattle.std.proofs.Common.{arith, refl}
-use Rattle.std.proofs.lemmas.Bool.Decides.{nat_tests}
-use Rattle.tcc_maps.specs.Words.{num}
-use Rattle.tcc_maps.specs.Serving.{is_skipped}
-use Rattle.tcc_maps.specs.Nodes.{Msg}
-use Rattle.tcc_maps.specs.Shape.{Shape}
-use Rattle.tcc_rules.specs.DirDeliver.{total}
-use Rattle.tcc_rules.specs.State.{World, Link}
-use Rattle.tcc_serial.specs.Count.{Kind, Resolves, Skips, Aborts, Commits, live, among, passes}
-use Rattle.tcc_serial.specs.Pairs.{Pair, pair, share, sum_of}
-use Rattle.tcc_serial.specs.Tids.{part, handled, ResolvedAt}
-use Rattle.tcc_serial.specs.Ways.{Way, Untold, Skipped, Aborted, Committed, told_by, part_in, kept_in, WayAt}
+use Rattle.tcc_serial.proofs.Names.{ℕ, zero, suc, ◌+◌, ◌≡◌, ◌≤◌, Bool, true, false, List, [], ◌∷◌, ◌==◌, ◌&&◌, Some, None, nat_lt, nat_le}
+use Rattle.tcc_serial.proofs.Names.{if◌then◌else◌, arith, refl, nat_tests, num, is_skipped, Msg, Shape, total, World, Link, Kind, Resolves}
+use Rattle.tcc_serial.proofs.Names.{Skips, Aborts, Commits, live, among, passes, Pair, pair, share, sum_of, part, handled, ResolvedAt, Way}
+use Rattle.tcc_serial.proofs.Names.{Untold, Skipped, Aborted, Committed, told_by, part_in, kept_in, WayAt}
 
 -- a word on a TID is a Skip, an Abort or a Commit
 

@@ -1,28 +1,15 @@
 -- Every event keeps that each TID is where its way puts it.
-use Rattle.std.specs.Prelude.{ℕ, ◌+◌, ◌≡◌, ◌<◌, true, List, [], ◌∷◌, ◌==◌, Option, Some, None, IfSome, nat_le, slice_index_or}
-use Rattle.std.proofs.Common.{arith, refl, sym, subst, ◌⊎◌, inl, inr}
-use Rattle.std.proofs.lemmas.Bool.{cases_eq}
-use Rattle.std.proofs.lemmas.Bool.Decides.{nat_tests}
-use Rattle.tcc_program.specs.Program.{Program, Local}
-use Rattle.tcc_maps.specs.Words.{num}
-use Rattle.tcc_maps.specs.Nodes.{Core, Dir, Vendor, Msg, TidReq, TidGrant, Event}
-use Rattle.tcc_maps.specs.Shape.{Shape}
-use Rattle.tcc_rules.specs.State.{DirState, World, start, core_start, vendor_start}
-use Rattle.tcc_rules.specs.Links.{in_flight}
-use Rattle.tcc_rules.specs.Sends.{Sends, nothing}
-use Rattle.tcc_rules.specs.Attempt.{Out}
-use Rattle.tcc_rules.specs.CoreExec.{core_exec}
-use Rattle.tcc_rules.specs.CoreEvict.{core_evict}
-use Rattle.tcc_rules.specs.CoreDeliver.{from_dir, grant}
-use Rattle.tcc_rules.specs.DirDeliver.{Answer, Waits, Drops, Asks, Takes, dir_deliver, total}
-use Rattle.tcc_rules.specs.Step.{core_moves, core_takes, dir_takes, dir_asks, vendor_gives, step}
-use Rattle.tcc_serial.specs.Count.{Grants, Skips, Aborts, Commits, live, among, passes}
-use Rattle.tcc_serial.specs.Pairs.{Pair, pair, after_move, grant_taken, back_taken, after_answer, out_taken, after_grant, after_other_grant, share}
-use Rattle.tcc_serial.specs.Tids.{opens, ResolvedAt}
-use Rattle.tcc_serial.specs.Kept.{Kept, KeptTold}
-use Rattle.tcc_serial.specs.Ways.{Way, Untold, Skipped, Aborted, Committed, Ways, told_by, ways_after, sent_by, first_ways, part_in, kept_in, WayAt, KeptWays}
+use Rattle.tcc_serial.proofs.Names.{ℕ, ◌+◌, ◌≡◌, ◌<◌, true, List, [], ◌∷◌, ◌==◌, Option, Some, None, IfSome, nat_le, slice_index_or, arith}
+use Rattle.tcc_serial.proofs.Names.{refl, sym, subst, ◌⊎◌, inl, inr, cases_eq, nat_tests, Program, Local, num, Core, Dir, Vendor, Msg}
+use Rattle.tcc_serial.proofs.Names.{TidReq, TidGrant, Event, Shape, DirState, World, start, core_start, vendor_start, in_flight, Sends}
+use Rattle.tcc_serial.proofs.Names.{nothing, Out, core_exec, core_evict, from_dir, grant, Answer, Waits, Drops, Asks, Takes, dir_deliver}
+use Rattle.tcc_serial.proofs.Names.{total, core_moves, core_takes, dir_takes, dir_asks, vendor_gives, step, Grants, Skips, Aborts, Commits}
+use Rattle.tcc_serial.proofs.Names.{live, among, passes, Pair, pair, after_move, grant_taken, back_taken, after_answer, out_taken}
+use Rattle.tcc_serial.proofs.Names.{after_grant, after_other_grant, share, opens, ResolvedAt, Kept, KeptTold, Way, Untold, Skipped, Aborted}
+use Rattle.tcc_serial.proofs.Names.{Committed, Ways, told_by, ways_after, sent_by, first_ways, part_in, kept_in, WayAt, KeptWays}
 use Rattle.tcc_serial.proofs.Counts.Links.{live-sends, live-takes, total-zero}
-use Rattle.tcc_serial.proofs.Counts.PairFrames.{same, differ, given, sum_move, sum_grant, sum_back, sum_back_away, sum_dir, sum_dir_away, sum_asks, sum_vendor}
+use Rattle.tcc_serial.proofs.Counts.PairFrames.{same, differ, given, sum_move, sum_grant, sum_back, sum_back_away, sum_dir, sum_dir_away}
+use Rattle.tcc_serial.proofs.Counts.PairFrames.{sum_asks, sum_vendor}
 use Rattle.tcc_serial.proofs.Tids.CoreTids.{KeepsPart, part-exec, part-evict, part-grant, part-back}
 use Rattle.tcc_serial.proofs.Counts.StepCases.{OfAnswer, sent_cases}
 use Rattle.tcc_serial.proofs.Tids.TidSteps.{granted_waits}

@@ -1,38 +1,22 @@
 -- Every event keeps that a directory where a commit loaded or stored has reached its TID.
-use Rattle.std.specs.Prelude.{ℕ, ◌≡◌, ◌<◌, ◌≤◌, Bool, true, false, ◌&&◌, ◌||◌, ◌==◌, List, Contains, Option, Some, None, IfSome, if◌then◌else◌}
-use Rattle.std.proofs.Common.{arith, refl, ◌∙◌, ◌⊎◌, inl, inr}
-use Rattle.std.proofs.lemmas.Bool.Decides.{nat_tests}
-use Rattle.tcc_base.specs.declared.access.Commit.{Commit as Noted}
-use Rattle.tcc_program.specs.Program.{Program}
-use Rattle.tcc_maps.specs.Words.{any_below, any_word, word_at}
-use Rattle.tcc_maps.specs.Nodes.{Dir, Msg, Event, TidReq, TidGrant, LoadReq, Fill, Skip, Probe, ProbeReply, Mark, Commit, Abort, WriteBack, Flush, DataReq, Inv, InvAck}
-use Rattle.tcc_maps.specs.Shape.{Shape, home, lines}
-use Rattle.tcc_maps.specs.Cache.{writes_at, reads_at, is_modified}
-use Rattle.tcc_maps.proofs.Lemmas.{any_below-at, any_below-found}
-use Rattle.tcc_rules.specs.State.{CoreState, Awaited, DirState, Phase, Running, AwaitTid, DoomedTid, Probing, Ready, Overflowing, Solo, Halted, World}
-use Rattle.tcc_rules.specs.Attempt.{Out}
-use Rattle.tcc_rules.specs.Sends.{Sends}
-use Rattle.tcc_rules.specs.Commit.{commit, noted}
-use Rattle.tcc_rules.specs.CoreExec.{core_exec, exec_phase, unless_awaiting}
-use Rattle.tcc_rules.specs.CoreEvict.{core_evict}
-use Rattle.tcc_rules.specs.CoreDeliver.{grant, grant_phase, from_dir, probe_reply}
-use Rattle.tcc_rules.specs.DirDeliver.{Answer, Waits, Drops, Asks, Takes, dir_deliver}
-use Rattle.tcc_rules.specs.Step.{core_moves, core_takes, dir_takes, dir_asks, vendor_gives, Stepped, step, and_noted}
-use Rattle.tcc_serial.specs.Kept.{Kept}
-use Rattle.tcc_serial.specs.OneCore.{OneCore, KeptCores}
-use Rattle.tcc_serial.specs.Pairs.{pair}
-use Rattle.tcc_serial.specs.Probes.{Reached}
-use Rattle.tcc_serial.specs.Stored.{stores_at}
-use Rattle.tcc_serial.specs.Uses.{loads_word}
-use Rattle.tcc_serial.specs.Ways.{sent_by}
-use Rattle.tcc_serial.specs.Worked.{LoadsMarked, KeptLoads, loads_at, worked_at, KeptWorked}
+use Rattle.tcc_serial.proofs.Names.{ℕ, ◌≡◌, ◌<◌, ◌≤◌, Bool, true, false, ◌&&◌, ◌||◌, ◌==◌, List, Contains, Option, Some, None, IfSome}
+use Rattle.tcc_serial.proofs.Names.{if◌then◌else◌, arith, refl, ◌∙◌, ◌⊎◌, inl, inr, nat_tests, Noted, Program, any_below, any_word, word_at}
+use Rattle.tcc_serial.proofs.Names.{Dir, Msg, Event, TidReq, TidGrant, LoadReq, Fill, Skip, Probe, ProbeReply, Mark, Commit, Abort}
+use Rattle.tcc_serial.proofs.Names.{WriteBack, Flush, DataReq, Inv, InvAck, Shape, home, lines, writes_at, reads_at, is_modified}
+use Rattle.tcc_serial.proofs.Names.{any_below-at, any_below-found, CoreState, Awaited, DirState, Phase, Running, AwaitTid, DoomedTid}
+use Rattle.tcc_serial.proofs.Names.{Probing, Ready, Overflowing, Solo, Halted, World, Out, Sends, commit, noted, core_exec, exec_phase}
+use Rattle.tcc_serial.proofs.Names.{unless_awaiting, core_evict, grant, grant_phase, from_dir, probe_reply, Answer, Waits, Drops, Asks}
+use Rattle.tcc_serial.proofs.Names.{Takes, dir_deliver, core_moves, core_takes, dir_takes, dir_asks, vendor_gives, Stepped, step, and_noted}
+use Rattle.tcc_serial.proofs.Names.{Kept, OneCore, KeptCores, pair, Reached, stores_at, loads_word, sent_by, LoadsMarked, KeptLoads}
+use Rattle.tcc_serial.proofs.Names.{loads_at, worked_at, KeptWorked}
 use Rattle.tcc_serial.proofs.Ways.ByCore.{ByCore, Still, Moved, by_core}
 use Rattle.tcc_serial.proofs.OneCore.CoreLoads.{loads-exec, loads-evict}
 use Rattle.tcc_serial.proofs.OneCore.CoreLoadsTakes.{loads-grant, loads-back}
 use Rattle.tcc_serial.proofs.Marks.StoredMasks.{stored-written}
 use Rattle.tcc_serial.proofs.Serving.DirProbes.{RisesBy, dir-rises}
 use Rattle.tcc_serial.proofs.OneCore.Executes.{Acts, Steady, Executed, Goes_on, Overflows, Asks_tid, Alone, executed}
-use Rattle.tcc_serial.proofs.OneCore.CoreSteps.{evict-steady, fill-steady, data-steady, invalidate-cases, Replied, Ignored, Probed, Left_alone, reply-cases}
+use Rattle.tcc_serial.proofs.OneCore.CoreSteps.{evict-steady, fill-steady, data-steady, invalidate-cases, Replied, Ignored, Probed}
+use Rattle.tcc_serial.proofs.OneCore.CoreSteps.{Left_alone, reply-cases}
 use Rattle.tcc_serial.proofs.Tids.ListedCommits.{inserted}
 use Rattle.tcc_serial.proofs.Counts.StepCases.{OfAnswer, step_cases}
 
