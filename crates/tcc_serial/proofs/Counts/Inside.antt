@@ -19,10 +19,9 @@ abbrev pub SendsInside : Shape → Sends → Type 0
 SendsInside sh sends = (j : ℕ) → sh.cores ≤ j → among Any (sends (Core j)) ≡ 0
 
 abbrev pub AnswersInside : Shape → Answer → Type 0
-AnswersInside sh Waits = Unit {0}
-AnswersInside sh Drops = Unit {0}
 AnswersInside sh (Asks new sends) = SendsInside sh sends × OwnersInside sh new
 AnswersInside sh (Takes new sends) = SendsInside sh sends × OwnersInside sh new
+AnswersInside sh _ = Unit {0}
 
 quiet-inside : (sh : Shape) → SendsInside sh nothing
 unfolding among
@@ -159,9 +158,4 @@ dir-inside sh s c (Commit u n) i h = commit-inside sh c u n s i h
 dir-inside sh s c (InvAck l b) i h = ack-inside sh c l b s h
 dir-inside sh s c (WriteBack l k ws g) i h = back-inside sh c l k ws g s h
 dir-inside sh s c (Flush l k ws g) i h = back-inside sh c l k ws g s h
-dir-inside sh s c TidReq i h = tt
-dir-inside sh s c (TidGrant u) i h = tt
-dir-inside sh s c (Fill l ws) i h = tt
-dir-inside sh s c (ProbeReply u v) i h = tt
-dir-inside sh s c (DataReq l) i h = tt
-dir-inside sh s c (Inv l k u) i h = tt
+dir-inside sh s c _ i h = tt

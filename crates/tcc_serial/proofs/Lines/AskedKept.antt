@@ -14,10 +14,9 @@ use Rattle.tcc_serial.proofs.Counts.PairFrames.{pairs_dir, pairs_asks}
 use Rattle.tcc_serial.proofs.Counts.StepCases.{OfAnswer, step_cases}
 
 abbrev pub AskedBy : Answer → Type 0
-AskedBy Waits = Unit {0}
-AskedBy Drops = Unit {0}
 AskedBy (Asks new sends) = AskedOwned new
 AskedBy (Takes new sends) = AskedOwned new
+AskedBy _ = Unit {0}
 
 moved-asked : (s : DirState) → AskedOwned s → AskedOwned (moved_on s)
 unfolding moved_on unmarked
@@ -136,12 +135,7 @@ dir-asked sh s c (Commit u n) h = commit-asked sh c u n s h
 dir-asked sh s c (InvAck l b) h = ack-asked c l b s h
 dir-asked sh s c (WriteBack l k ws g) h = back-asked c l k ws g s h
 dir-asked sh s c (Flush l k ws g) h = back-asked c l k ws g s h
-dir-asked sh s c TidReq h = tt
-dir-asked sh s c (TidGrant u) h = tt
-dir-asked sh s c (Fill l ws) h = tt
-dir-asked sh s c (ProbeReply u v) h = tt
-dir-asked sh s c (DataReq l) h = tt
-dir-asked sh s c (Inv l k u) h = tt
+dir-asked sh s c _ h = tt
 
 pub step-asked : (sh : Shape) (p : Program) (w : World) (e : Event) → KeptAsked sh w → IfSome (step sh p w e) (λ o. KeptAsked sh o.world)
 unfolding pair core_moves core_takes vendor_gives

@@ -20,10 +20,9 @@ abbrev pub OwnsFrom : DirState → (core : ℕ) → Msg → DirState → Type 0
 OwnsFrom old c m new = (l j : ℕ) → new.lines.owner l ≡ Some j → ((old.lines.owner l ≡ Some j) × (new.lines.tag l ≡ old.lines.tag l)) ⊎ ((j ≡ c) × (passes (Commits (new.lines.tag l)) m ≡ true))
 
 abbrev pub OwnsBy : DirState → (core : ℕ) → Msg → Answer → Type 0
-OwnsBy old c m Waits = Unit {0}
-OwnsBy old c m Drops = Unit {0}
 OwnsBy old c m (Asks new sends) = OwnsFrom old c m new
 OwnsBy old c m (Takes new sends) = OwnsFrom old c m new
+OwnsBy old c m _ = Unit {0}
 
 same-owns : (s : DirState) (c : ℕ) (m : Msg) → OwnsFrom s c m s
 same-owns s c m l j e = inl (e, refl)
@@ -144,12 +143,7 @@ dir-owns sh s c (Commit u n) = commit-owns sh c u n s
 dir-owns sh s c (InvAck l b) = ack-owns c l b (InvAck l b) s
 dir-owns sh s c (WriteBack l k ws g) = back-owns c l k ws g (WriteBack l k ws g) s
 dir-owns sh s c (Flush l k ws g) = back-owns c l k ws g (Flush l k ws g) s
-dir-owns sh s c TidReq = tt
-dir-owns sh s c (TidGrant u) = tt
-dir-owns sh s c (Fill l ws) = tt
-dir-owns sh s c (ProbeReply u v) = tt
-dir-owns sh s c (DataReq l) = tt
-dir-owns sh s c (Inv l k u) = tt
+dir-owns sh s c _ = tt
 
 -- the owners of one directory's lines
 abbrev LineOwners : List Grant → DirState → Type 0

@@ -136,12 +136,7 @@ dir-fills sh s c (Commit u n) = commit-fills sh c u n s
 dir-fills sh s c (InvAck k b) = ack-fills c k b s
 dir-fills sh s c (WriteBack k n ws g) = back-fills c k n ws g (WriteBack k n ws g) s (λ l. refl)
 dir-fills sh s c (Flush k n ws g) = back-fills c k n ws g (Flush k n ws g) s (λ l. refl)
-dir-fills sh s c TidReq = tt
-dir-fills sh s c (TidGrant u) = tt
-dir-fills sh s c (Fill k ws) = tt
-dir-fills sh s c (ProbeReply u v) = tt
-dir-fills sh s c (DataReq k) = tt
-dir-fills sh s c (Inv k n u) = tt
+dir-fills sh s c _ = tt
 
 -- nothing is no Fill
 none-fills : (l : ℕ) → among (FillOf l) [] ≡ 0

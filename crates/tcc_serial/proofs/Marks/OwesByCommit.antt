@@ -13,10 +13,9 @@ abbrev pub CountsMarked : Shape → DirState → Msg → Type 0
 CountsMarked sh s m = m ≡ Commit s.serving.serving (count_below (has_mark s.lines) (lines sh))
 
 abbrev pub OwesBy : Shape → DirState → Msg → Answer → Type 0
-OwesBy sh s m Waits = Unit {0}
-OwesBy sh s m Drops = Unit {0}
 OwesBy sh s m (Asks new sends) = new.owed ≤ s.owed
 OwesBy sh s m (Takes new sends) = (new.owed ≤ s.owed) ⊎ CountsMarked sh s m
+OwesBy sh s m _ = Unit {0}
 
 settled-owed : (s : DirState) → (settled s).owed ≤ s.owed
 unfolding settled moved_on
@@ -116,9 +115,4 @@ dir-owes sh s c (Commit u n) = commit-owes sh c u n s
 dir-owes sh s c (InvAck l b) = ack-owes sh c l b s
 dir-owes sh s c (WriteBack l k ws g) = back-owes sh c l k ws g s (WriteBack l k ws g)
 dir-owes sh s c (Flush l k ws g) = back-owes sh c l k ws g s (Flush l k ws g)
-dir-owes sh s c TidReq = tt
-dir-owes sh s c (TidGrant u) = tt
-dir-owes sh s c (Fill l ws) = tt
-dir-owes sh s c (ProbeReply u v) = tt
-dir-owes sh s c (DataReq l) = tt
-dir-owes sh s c (Inv l k u) = tt
+dir-owes sh s c _ = tt

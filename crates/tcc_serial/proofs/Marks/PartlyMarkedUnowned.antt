@@ -14,10 +14,9 @@ use Rattle.tcc_serial.proofs.Counts.PairFrames.{pairs_dir, pairs_asks}
 use Rattle.tcc_serial.proofs.Counts.StepCases.{OfAnswer, step_cases}
 
 abbrev pub WhollyBy : Answer → Type 0
-WhollyBy Waits = Unit {0}
-WhollyBy Drops = Unit {0}
 WhollyBy (Asks new sends) = WhollyOrHome new
 WhollyBy (Takes new sends) = WhollyOrHome new
+WhollyBy _ = Unit {0}
 
 moved-whole : (s : DirState) → WhollyOrHome (moved_on s)
 unfolding moved_on unmarked
@@ -139,12 +138,7 @@ dir-whole sh s c (Commit u n) h = commit-whole sh c u n s
 dir-whole sh s c (InvAck l b) h = ack-whole c l b s
 dir-whole sh s c (WriteBack l k ws g) h = back-whole c l k ws g s h
 dir-whole sh s c (Flush l k ws g) h = back-whole c l k ws g s h
-dir-whole sh s c TidReq h = tt
-dir-whole sh s c (TidGrant u) h = tt
-dir-whole sh s c (Fill l ws) h = tt
-dir-whole sh s c (ProbeReply u v) h = tt
-dir-whole sh s c (DataReq l) h = tt
-dir-whole sh s c (Inv l k u) h = tt
+dir-whole sh s c _ h = tt
 
 pub step-whole : (sh : Shape) (p : Program) (w : World) (e : Event) → KeptWhole sh w → IfSome (step sh p w e) (λ o. KeptWhole sh o.world)
 unfolding pair core_moves core_takes vendor_gives

@@ -31,10 +31,9 @@ pub record Answers (sh : Shape) (d : ℕ) (new : DirState) (sends : Sends) : Typ
   pub homely : (j : ℕ) → Homely sh d (sends (Core j))
 
 abbrev pub HomesBy : Shape → (dir : ℕ) → Answer → Type 0
-HomesBy sh d Waits = Unit {0}
-HomesBy sh d Drops = Unit {0}
 HomesBy sh d (Asks new sends) = Answers sh d new sends
 HomesBy sh d (Takes new sends) = Answers sh d new sends
+HomesBy sh d _ = Unit {0}
 
 quietly : (sh : Shape) (d : ℕ) (new : DirState) → LinesHome sh d new.lines → Answers sh d new nothing
 quietly sh d new h = record { lines = h; homely = λ j. homely-none sh d }
@@ -274,12 +273,7 @@ dir-homes sh d s c (Commit u n) l a h = commit-home sh d c u n s l h
 dir-homes sh d s c (InvAck k b) l a h = ack-home sh d c k b s h
 dir-homes sh d s c (WriteBack k n ws g) l a h = back-home sh d c k n ws g s h
 dir-homes sh d s c (Flush k n ws g) l a h = back-home sh d c k n ws g s h
-dir-homes sh d s c TidReq l a h = tt
-dir-homes sh d s c (TidGrant u) l a h = tt
-dir-homes sh d s c (Fill k ws) l a h = tt
-dir-homes sh d s c (ProbeReply u v) l a h = tt
-dir-homes sh d s c (DataReq k) l a h = tt
-dir-homes sh d s c (Inv k n u) l a h = tt
+dir-homes sh d s c _ l a h = tt
 
 -- every event
 
