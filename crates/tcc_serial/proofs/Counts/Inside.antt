@@ -8,7 +8,7 @@ use Rattle.tcc_serial.proofs.Names.{Asks, Takes, skip, abort, acknowledgement, d
 use Rattle.tcc_serial.proofs.Names.{invalidations, invs_to, is_invalidated, unless_keeps, ask_owner, load_owned, load_request, line_words}
 use Rattle.tcc_serial.proofs.Names.{marking, mark_owned, mark, judged, write_back, came_home, probe, Any, among}
 use Rattle.tcc_rules.specs.DirDeliver.{commit}
-use Rattle.tcc_serial.proofs.Counts.Sent.{those-none}
+use Rattle.tcc_serial.proofs.Counts.Links.{those-none}
 
 -- owners are cores of the machine
 abbrev pub OwnersInside : Shape → DirState → Type 0

@@ -10,7 +10,7 @@ use Rattle.tcc_serial.proofs.Names.{invalidations, invs_to, is_invalidated, unle
 use Rattle.tcc_serial.proofs.Names.{marking, mark_owned, mark, judged, write_back, came_home, probe, FillOf, GoneOf, among, passes}
 use Rattle.tcc_rules.specs.DirDeliver.{commit}
 use Rattle.tcc_serial.proofs.Marks.OwesByCommit.{CountsMarked}
-use Rattle.tcc_serial.proofs.Counts.Sent.{among-flat_map_none}
+use Rattle.tcc_serial.proofs.Counts.Links.{among-flat_map_none}
 
 pub record Shares (sh : Shape) (s : DirState) (c : ℕ) (m : Msg) (new : DirState) (sends : Sends) : Type 0 where
   pub kept : (l j : ℕ) → s.lines.sharers l j ≡ true → (new.lines.sharers l j ≡ true) ⊎ ((j ≡ c) × (passes (GoneOf l) m ≡ true))

@@ -13,7 +13,7 @@ use Rattle.tcc_serial.proofs.Copies.DirtyFrames.{frame_copy, clean-frame, in-lin
 use Rattle.tcc_serial.proofs.Copies.LinesKept.{KeptLines}
 use Rattle.tcc_serial.proofs.Counts.Links.{live-sends, live-takes}
 use Rattle.tcc_serial.proofs.Copies.PairCopies.{LineCopies, of-line}
-use Rattle.tcc_serial.proofs.Counts.PairFrames.{given, back-own, pairs_move, pairs_grant, pairs_back, pairs_dir, pairs_asks, pairs_vendor}
+use Rattle.tcc_serial.proofs.Counts.StepCases.{given, back-own, pairs_move, pairs_grant, pairs_back, pairs_dir, pairs_asks, pairs_vendor}
 use Rattle.tcc_serial.proofs.Counts.StepCases.{OfAnswer, step_cases}
 
 abbrev pub GetsAt : Shape → (core dir : ℕ) → Pair → Type 0

@@ -12,8 +12,7 @@ use Rattle.tcc_serial.proofs.Names.{core_moves, core_takes, dir_takes, dir_asks,
 use Rattle.tcc_serial.proofs.Names.{live, passes, Grant, granted_by, SparesCommitter}
 use Rattle.tcc_rules.specs.DirDeliver.{commit}
 use Rattle.tcc_serial.proofs.Counts.Links.{live-takes}
-use Rattle.tcc_serial.proofs.Counts.PairFrames.{pairs_dir, pairs_asks}
-use Rattle.tcc_serial.proofs.Counts.StepCases.{OfAnswer, step_cases}
+use Rattle.tcc_serial.proofs.Counts.StepCases.{pairs_dir, pairs_asks, OfAnswer, step_cases}
 
 -- A line's owner was its owner before, with the same tag, or it is the core whose Commit the directory takes, with this TID.
 abbrev pub OwnsFrom : DirState → (core : ℕ) → Msg → DirState → Type 0

@@ -10,9 +10,8 @@ use Rattle.tcc_serial.proofs.Names.{line_words, load_owned, load_request, markin
 use Rattle.tcc_serial.proofs.Names.{core_takes, step, LoadingOf, KeptLoading, LoadOf, FillOf, live, among, passes, Pair, pair}
 use Rattle.tcc_rules.specs.DirDeliver.{commit}
 use Rattle.tcc_serial.proofs.OneCore.CoreAwaits.{LoadsStep, LoadsBack, loads-exec, loads-evict, loads-grant, loads-back}
-use Rattle.tcc_serial.proofs.Counts.Links.{live-sends, live-takes}
-use Rattle.tcc_serial.proofs.Counts.PairFrames.{same, differ, pairs_move, pairs_grant, pairs_back, pairs_dir, pairs_asks, pairs_vendor}
-use Rattle.tcc_serial.proofs.Counts.Sent.{among-flat_map_none}
+use Rattle.tcc_serial.proofs.Counts.Links.{live-sends, live-takes, among-flat_map_none}
+use Rattle.tcc_serial.proofs.Counts.StepCases.{same, differ, pairs_move, pairs_grant, pairs_back, pairs_dir, pairs_asks, pairs_vendor}
 use Rattle.tcc_serial.proofs.Counts.StepCases.{OfAnswer, step_cases}
 use Rattle.tcc_serial.proofs.Tids.TidSteps.{live-some}
 

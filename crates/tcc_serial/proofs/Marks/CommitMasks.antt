@@ -9,8 +9,7 @@ use Rattle.tcc_serial.proofs.Names.{commit_sends, solo_sends, solo_marks, solo_b
 use Rattle.tcc_serial.proofs.Names.{exec_phase, unless_awaiting, core_evict, from_dir, probe_reply, fill, data_request, invalidate, Commits}
 use Rattle.tcc_serial.proofs.Names.{AnyCommit, CommitOf, MarkOf, MarkMask, among, passes, has_marked, stores_line, marked_by, OneCore}
 use Rattle.tcc_serial.proofs.Names.{stores_in, stored_mask, stores_at, has_tid}
-use Rattle.tcc_serial.proofs.Counts.Links.{among-append}
-use Rattle.tcc_serial.proofs.Counts.Sent.{among-flat_map_none}
+use Rattle.tcc_serial.proofs.Counts.Links.{among-append, among-flat_map_none}
 use Rattle.tcc_serial.proofs.OneCore.Executes.{Acts, Steady, Executed, Goes_on, Overflows, Asks_tid, Alone, executed}
 use Rattle.tcc_serial.proofs.OneCore.CoreSteps.{evict-steady, fill-steady, data-steady, invalidate-cases, reply-cases}
 use Rattle.tcc_serial.proofs.Serving.CoreCommits.{few-commits}

@@ -10,11 +10,10 @@ use Rattle.tcc_serial.proofs.Names.{MarkOf, EmptyMarks, Skips, among, passes, ha
 use Rattle.tcc_serial.proofs.Names.{waits_for_tid}
 use Rattle.tcc_serial.proofs.OneCore.CoreSteps.{fill-steady, data-steady, ignored-steady, Hurt, Unhurt, Rolled, Doomed, Aborted, Gave_up}
 use Rattle.tcc_serial.proofs.OneCore.CoreSteps.{Invalidated, invalidate-cases, Replied, Ignored, Probed, Left_alone, reply-cases}
-use Rattle.tcc_serial.proofs.Counts.Links.{among-append}
+use Rattle.tcc_serial.proofs.Counts.Links.{among-append, num-few, num-one}
 use Rattle.tcc_serial.proofs.Marks.CoreMarks.{marks-for, marks-only, full-for, stores-writes}
 use Rattle.tcc_serial.proofs.Marks.CoreMarking.{Marking, Unsaid, unsaid-nothing, unsaid-append, acked, silent, silent-none, marking-steady}
 use Rattle.tcc_serial.proofs.Marks.CoreMarking.{last-words, is-tid, swap, mine, self, told-abort, told-skip, marked-same, stores-same}
-use Rattle.tcc_serial.proofs.Counts.Nums.{num-few, num-one}
 
 -- before an acknowledgement
 

@@ -10,9 +10,8 @@ use Rattle.tcc_serial.proofs.Run.AllInvariants.{run-all}
 use Rattle.tcc_serial.proofs.Tids.TidSteps.{inside_from}
 use Rattle.tcc_serial.proofs.Counts.Links.{total-same, live-fewer}
 use Rattle.tcc_serial.proofs.Marks.CoreCounts.{total-num}
-use Rattle.tcc_serial.proofs.Marks.PairCounts.{none-away}
-use Rattle.tcc_serial.proofs.Marks.PairStored.{taken-marks}
-use Rattle.tcc_serial.proofs.Marks.StoredKept.{one-commit}
+use Rattle.tcc_serial.proofs.Marks.CountsKept.{none-away}
+use Rattle.tcc_serial.proofs.Marks.StoredKept.{taken-marks, one-commit}
 
 -- a TID is that of one commit
 

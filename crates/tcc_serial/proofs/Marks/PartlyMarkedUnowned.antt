@@ -10,8 +10,7 @@ use Rattle.tcc_serial.proofs.Names.{unless_keeps, ask_owner, load_owned, load_re
 use Rattle.tcc_serial.proofs.Names.{came_home, probe, core_moves, core_takes, dir_takes, dir_asks, vendor_gives, step, Pair, pair}
 use Rattle.tcc_serial.proofs.Names.{WhollyOrHome, KeptWhole}
 use Rattle.tcc_rules.specs.DirDeliver.{commit}
-use Rattle.tcc_serial.proofs.Counts.PairFrames.{pairs_dir, pairs_asks}
-use Rattle.tcc_serial.proofs.Counts.StepCases.{OfAnswer, step_cases}
+use Rattle.tcc_serial.proofs.Counts.StepCases.{pairs_dir, pairs_asks, OfAnswer, step_cases}
 
 abbrev pub WhollyBy : Answer → Type 0
 WhollyBy (Asks new sends) = WhollyOrHome new

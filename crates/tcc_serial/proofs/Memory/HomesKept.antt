@@ -15,8 +15,8 @@ use Rattle.tcc_serial.proofs.Memory.CoreHomes.{Homely, HomelyOut, homely-none, h
 use Rattle.tcc_serial.proofs.Memory.CoreHomes.{homes-back}
 use Rattle.tcc_serial.proofs.Serving.KeptSteps.{core_of_out}
 use Rattle.tcc_serial.proofs.Counts.Links.{live-sends, live-takes}
-use Rattle.tcc_serial.proofs.Counts.PairFrames.{pairs_move, pairs_grant, pairs_back, pairs_dir, pairs_asks, pairs_vendor}
-use Rattle.tcc_serial.proofs.Counts.StepCases.{OfAnswer, step_cases}
+use Rattle.tcc_serial.proofs.Counts.StepCases.{pairs_move, pairs_grant, pairs_back, pairs_dir, pairs_asks, pairs_vendor, OfAnswer}
+use Rattle.tcc_serial.proofs.Counts.StepCases.{step_cases}
 use Rattle.tcc_serial.proofs.Tids.TidSteps.{live-some}
 use Rattle.tcc_serial.proofs.Serving.DirDue.{at-home}
 

@@ -8,12 +8,10 @@ use Rattle.tcc_serial.proofs.Names.{MarksAreStored}
 use Rattle.tcc_serial.specs.Asked.{KeptAsked}
 use Rattle.tcc_serial.specs.Probing.{KeptProbing, OneProbe}
 use Rattle.tcc_serial.proofs.Serving.KeptSteps.{step-kept, start-all}
-use Rattle.tcc_serial.proofs.Serving.OwnerSteps.{step-owners, start-owners}
+use Rattle.tcc_serial.proofs.Serving.OwnerSteps.{step-owners, start-owners, step-last}
 use Rattle.tcc_serial.proofs.OneCore.CoreAlone.{step-cores, start-cores}
-use Rattle.tcc_serial.proofs.Serving.CommitSteps.{step-committing, start-committing}
+use Rattle.tcc_serial.proofs.Serving.CommitSteps.{step-committing, start-committing, step-spared}
 use Rattle.tcc_serial.proofs.Serving.ProbingSteps.{step-probing}
-use Rattle.tcc_serial.proofs.Serving.LastSteps.{step-last}
-use Rattle.tcc_serial.proofs.Serving.InvSteps.{step-spared}
 use Rattle.tcc_serial.proofs.Marks.MarksKept.{step-marks, start-marks}
 use Rattle.tcc_serial.proofs.Marks.CountsKept.{step-counted, start-counted}
 use Rattle.tcc_serial.proofs.Lines.AskedKept.{step-asked, start-asked}

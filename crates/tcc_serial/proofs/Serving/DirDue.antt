@@ -10,8 +10,7 @@ use Rattle.tcc_serial.proofs.Names.{invalidations, invs_to, is_invalidated, unle
 use Rattle.tcc_serial.proofs.Names.{marking, mark_owned, mark, judged, write_back, came_home, probe, Invs, InvsNot, InvsAway, Acks}
 use Rattle.tcc_serial.proofs.Names.{MarksAway, Resolves, among, passes}
 use Rattle.tcc_rules.specs.DirDeliver.{commit}
-use Rattle.tcc_serial.proofs.Counts.Links.{among-append, total-zero, total-same, among-fewer}
-use Rattle.tcc_serial.proofs.Counts.Sent.{among-flat_map_none}
+use Rattle.tcc_serial.proofs.Counts.Links.{among-append, total-zero, total-same, among-fewer, among-flat_map_none}
 use Rattle.tcc_serial.proofs.Serving.CoreDue.{among-those_none}
 use Rattle.tcc_serial.proofs.Tids.DirTids.{OnceAt, unserved}
 

@@ -9,7 +9,7 @@ use Rattle.tcc_serial.proofs.Names.{unless_keeps, ask_owner, load_owned, load_re
 use Rattle.tcc_serial.proofs.Names.{write_back, probe, Invs, Commits, among, passes}
 use Rattle.tcc_rules.specs.DirDeliver.{commit}
 use Rattle.tcc_serial.proofs.Serving.DirDue.{to-quiet, none-quiet}
-use Rattle.tcc_serial.proofs.Counts.Sent.{those-none}
+use Rattle.tcc_serial.proofs.Counts.Links.{those-none}
 
 -- no invalidation, or those of a Commit of the served TID, none of them to its core
 abbrev pub Quiet : Sends → Type 0

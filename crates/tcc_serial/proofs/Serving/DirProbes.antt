@@ -8,8 +8,7 @@ use Rattle.tcc_serial.proofs.Names.{Drops, Asks, Takes, skip, abort, acknowledge
 use Rattle.tcc_serial.proofs.Names.{invalidations, invs_to, is_invalidated, unless_keeps, ask_owner, load_owned, load_request, line_words}
 use Rattle.tcc_serial.proofs.Names.{marking, mark_owned, mark, judged, write_back, came_home, probe, RepliesAbove, among, live, passes}
 use Rattle.tcc_rules.specs.DirDeliver.{commit}
-use Rattle.tcc_serial.proofs.Counts.Sent.{among-flat_map_none}
-use Rattle.tcc_serial.proofs.Counts.Links.{live-fewer}
+use Rattle.tcc_serial.proofs.Counts.Links.{among-flat_map_none, live-fewer}
 
 -- no reply of a TID above the served one
 pub record Rises (s new : DirState) (sends : Sends) : Type 0 where

@@ -8,7 +8,7 @@ use Rattle.tcc_serial.proofs.Names.{dir_deliver, moved_on, settled, owned, owed_
 use Rattle.tcc_serial.proofs.Names.{ask_owner, load_owned, load_request, line_words, marking, mark_owned, mark, judged, write_back, probe}
 use Rattle.tcc_serial.proofs.Names.{Probes, Replies, among, passes}
 use Rattle.tcc_rules.specs.DirDeliver.{commit}
-use Rattle.tcc_serial.proofs.Counts.Sent.{among-flat_map_none}
+use Rattle.tcc_serial.proofs.Counts.Links.{among-flat_map_none}
 
 -- the reply to a probe that was taken, to its core alone
 pub record Replying (m : Msg) (c : ℕ) (sends : Sends) : Type 0 where

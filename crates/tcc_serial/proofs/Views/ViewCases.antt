@@ -5,8 +5,7 @@ use Rattle.tcc_serial.proofs.Names.{LoadReq, Fill, Skip, Probe, ProbeReply, Mark
 use Rattle.tcc_serial.proofs.Names.{Shape, World, in_flight, Out, core_exec, core_evict, core_deliver, from_dir, grant, dir_deliver}
 use Rattle.tcc_serial.proofs.Names.{Stepped, core_moves, core_takes, vendor_gives, step, moved, taken, delivered, if_in_flight, happens}
 use Rattle.tcc_serial.proofs.Names.{names_nodes, is_node, Uses, used_by, Views, uses_executed, uses_delivered, views_delivered, views_after}
-use Rattle.tcc_serial.proofs.Counts.PairFrames.{given}
-use Rattle.tcc_serial.proofs.Counts.StepCases.{OfAnswer, step_answer}
+use Rattle.tcc_serial.proofs.Counts.StepCases.{given, OfAnswer, step_answer}
 
 -- the words that a core's instruction adds to its view
 abbrev pub new_uses : Shape → Program → World → ℕ → Uses

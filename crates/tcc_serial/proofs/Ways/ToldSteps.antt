@@ -9,7 +9,7 @@ use Rattle.tcc_serial.proofs.Names.{Committed, Ways, told_by, ways_after, sent_b
 use Rattle.tcc_serial.proofs.Names.{commit_way, KeptCommitted}
 use Rattle.tcc_serial.proofs.Counts.Links.{total-le}
 use Rattle.tcc_serial.proofs.Ways.ByCore.{ByCore, Still, Moved, by_core}
-use Rattle.tcc_serial.proofs.Tids.ListedCommits.{inserted, positive-held, positive-committed}
+use Rattle.tcc_serial.proofs.Tids.Commits.{inserted, positive-held, positive-committed}
 use Rattle.tcc_serial.proofs.Serving.CommitOwners.{CommitsNoted, noted-exec, noted-evict, noted-grant, noted-back}
 use Rattle.tcc_serial.proofs.Serving.OwnerSteps.{times-noted}
 use Rattle.tcc_serial.proofs.Ways.CoreSkips.{skips_here, Tells, TellsCommit, tells-exec, tells-evict, tells-grant, tells-back}

@@ -17,7 +17,7 @@ use Rattle.tcc_serial.proofs.Serving.DirProbes.{RisesBy, dir-rises}
 use Rattle.tcc_serial.proofs.OneCore.Executes.{Acts, Steady, Executed, Goes_on, Overflows, Asks_tid, Alone, executed}
 use Rattle.tcc_serial.proofs.OneCore.CoreSteps.{evict-steady, fill-steady, data-steady, invalidate-cases, Replied, Ignored, Probed}
 use Rattle.tcc_serial.proofs.OneCore.CoreSteps.{Left_alone, reply-cases}
-use Rattle.tcc_serial.proofs.Tids.ListedCommits.{inserted}
+use Rattle.tcc_serial.proofs.Tids.Commits.{inserted}
 use Rattle.tcc_serial.proofs.Counts.StepCases.{OfAnswer, step_cases}
 
 -- a core that loaded a word of a line has marked words at its home
