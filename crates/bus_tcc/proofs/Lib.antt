@@ -17,3 +17,6 @@ mod Commits
 mod BankCommits
 mod Published
 mod ByPhase
+mod Numbers
+mod Using
+mod Counting

@@ -12,4 +12,4 @@ pub mod Whole
 pub mod Inside
 pub mod Answers
 pub mod Chosen
-pub mod Refined
+pub mod Uses

@@ -7,6 +7,7 @@ mod bus;
 mod cleaning;
 mod commit;
 mod committing;
+mod counts;
 mod ending;
 mod event;
 mod exec;
@@ -22,6 +23,7 @@ mod taking;
 #[cfg(test)]
 mod tests;
 mod together;
+mod uses;
 
 pub use bus::{Bus, CoreSet, Packet};
 pub use event::{BusError, BusEvent, BusStep};
