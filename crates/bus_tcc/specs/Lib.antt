@@ -12,4 +12,5 @@ pub mod Whole
 pub mod Inside
 pub mod Answers
 pub mod Chosen
+pub mod Refined
 pub mod Uses
