@@ -1,8 +1,8 @@
 // What a core that has just begun does with messages and with a frame to empty, a load, and an end with its commit.
 ghost use Rattle.std.specs.Prelude.{◌≡◌, IfOk};
 
-use core_node::{CoreError, CoreNode, Executed};
 use commit_engine::Phase;
+use core_node::{CoreError, CoreNode, Executed};
 use image_load::{load, raw};
 use rv_code::Code;
 use std::alloc::Global;

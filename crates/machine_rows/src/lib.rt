@@ -1,4 +1,4 @@
-// Tests of nodes, of all cores and all directories together, and of the machine that they make, by their public calls.
+// Tests of a core, of all cores and all directories together, and of the machine that they make, by their public calls.
 #![tactic(auto)]
 
 #[cfg(test)]
@@ -7,8 +7,6 @@ mod core_banks;
 mod cores;
 #[cfg(test)]
 mod dir_banks;
-#[cfg(test)]
-mod directories;
 #[cfg(test)]
 mod systems;
 #[cfg(test)]

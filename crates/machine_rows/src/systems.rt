@@ -1,9 +1,9 @@
 // Whole machines: from raw images, by events, to what the commits leave.
 ghost use Rattle.std.specs.Prelude.{◌≡◌, ◌≤◌, length, IfOk};
 
-use net_core::{Step, StepError, System};
 use directory::LineState;
 use image_load::{load, raw};
+use net_core::{Step, StepError, System};
 use std::alloc::Global;
 use std::test::Fail;
 use tcc_base::{Config, CoreEnd, CoreId, DirId, LineAddr, List, Mask, NodeId, Tid, WordAddr};

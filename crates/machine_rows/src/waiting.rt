@@ -1,8 +1,8 @@
 // A machine in the middle of a violation: which messages wait and why, and what is found to happen next.
 ghost use Rattle.std.specs.Prelude.{◌≡◌, ◌≤◌, IfOk, length};
 
-use live_core::{Reason, find, find_for, has_halted, waits_because};
 use image_load::{load, raw};
+use live_core::{Reason, find, find_for, has_halted, waits_because};
 use net_core::System;
 use std::alloc::Global;
 use std::test::Fail;

@@ -3,7 +3,7 @@ ghost use Rattle.std.specs.Prelude.{◌≡◌, true, IfOk};
 ghost use Rattle.directory.specs.Foreign.{HasSmallTids};
 ghost use Rattle.tcc_msg.specs.Plain.{msg_of};
 
-use directory::{Cause, DirError, Directory, Handled, LineState};
+use crate::{Cause, DirError, Directory, Handled, LineState};
 use image_load::{Loaded, load, raw};
 use std::alloc::Global;
 use std::test::Fail;
