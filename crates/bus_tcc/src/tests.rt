@@ -3,7 +3,7 @@ use crate::{BusError, BusEvent, BusSystem};
 use image_load::{load, raw};
 use std::alloc::Global;
 use std::test::Fail;
-use tcc_base::{Config, CoreId, List, WordAddr};
+use tcc_base::{Config, CoreEnd, CoreId, List, Reg, WordAddr};
 
 // An event: a core executes, it empties a way of a set, or it takes the packet.
 macro_rules! event {
@@ -88,14 +88,17 @@ struct Row<'a> {
 #[derive(Clone, Copy, Debug, PartialEq, Eq)]
 struct Listed(u64, u8, u32);
 
+/// The pc and x5 of a core by its last commit, and how it stands then.
+#[derive(Clone, Copy, Debug, PartialEq, Eq)]
+struct Stands(u32, u32, CoreEnd);
+
 /// Where a machine has come to.
 #[derive(Clone, Copy, Debug, PartialEq, Eq)]
 struct State {
     events: u64,
     done: bool,
     commits: [Option<Listed>; 2],
-    /// The committed pcs of the cores.
-    pcs: [Option<u32>; 2],
+    cores: [Option<Stands>; 2],
     /// The words 16 and 24 of memory.
     words: [u32; 2],
     /// What the first core's commits printed first.
@@ -156,10 +159,15 @@ fn commit(system: &BusSystem, k: usize) -> Option<Listed> {
     Some(Listed(commit.tid.0, commit.core.0, commit.n))
 }
 
-/// Where a core stands by its last commit.
-fn pc(system: &BusSystem, core: u8) -> Option<u32> {
-    let exists = core < system.config().cores();
-    exists.then(|| system.committed(CoreId(core)).pc())
+/// How a core stands by its last commit.
+fn standing(system: &BusSystem, core: u8) -> Option<Stands> {
+    let x5 = Reg::new(5)?;
+    if core >= system.config().cores() {
+        return None;
+    }
+    let check = system.committed(CoreId(core));
+    let end = system.ended(CoreId(core));
+    Some(Stands(check.pc(), check.regs().get(x5), end))
 }
 
 /// Where the machine has come to.
@@ -169,7 +177,7 @@ fn come_to(alloc: Global, system: &BusSystem) -> Result<State, Fail> {
         events: system.events(),
         done: system.done(),
         commits: [commit(system, 0), commit(system, 1)],
-        pcs: [pc(system, 0), pc(system, 1)],
+        cores: [standing(system, 0), standing(system, 1)],
         words: [system.word(WordAddr(16)), system.word(WordAddr(24))],
         printed: console.items.first().copied(),
     })
@@ -194,7 +202,7 @@ fn events_are_taken_or_refused(rt: HostRuntime) -> Result<(), Fail> {
         events: 0,
         done: false,
         commits: [None; 2],
-        pcs: [Some(0x8000_0000); 2],
+        cores: [Some(Stands(0x8000_0000, 0, CoreEnd::Run)); 2],
         words: [0; 2],
         printed: None,
     };
@@ -209,7 +217,7 @@ fn events_are_taken_or_refused(rt: HostRuntime) -> Result<(), Fail> {
             events: 11,
             done: true,
             commits: [Some(Listed(1, 0, 4)), Some(Listed(2, 0, 5))],
-            pcs: [Some(0x8000_0020), None],
+            cores: [Some(Stands(0x8000_0020, 7, CoreEnd::Halt(65))), None],
             words: [7, 0],
             printed: Some(65),
         },
@@ -223,7 +231,7 @@ fn events_are_taken_or_refused(rt: HostRuntime) -> Result<(), Fail> {
             state: State {
                 events: 9,
                 commits: [Some(Listed(1, 1, 4)), None],
-                pcs: [Some(0x8000_0000), Some(0x8000_0010)],
+                cores: [start.cores[0], Some(Stands(0x8000_0010, 7, CoreEnd::Run))],
                 words: [7, 0],
                 ..start
             },
@@ -237,7 +245,10 @@ fn events_are_taken_or_refused(rt: HostRuntime) -> Result<(), Fail> {
             state: State {
                 events: 15,
                 commits: [Some(Listed(1, 1, 5)), Some(Listed(2, 0, 5))],
-                pcs: [Some(0x8000_0014); 2],
+                cores: [
+                    Some(Stands(0x8000_0014, 2, CoreEnd::Run)),
+                    Some(Stands(0x8000_0014, 1, CoreEnd::Run)),
+                ],
                 words: [2, 0],
                 ..start
             },
@@ -251,7 +262,7 @@ fn events_are_taken_or_refused(rt: HostRuntime) -> Result<(), Fail> {
             refused: &events![(e 0) (t 0)],
             state: State {
                 events: 4,
-                pcs: [Some(0x8000_0000), None],
+                cores: [start.cores[0], None],
                 ..start
             },
             ..one
@@ -265,7 +276,7 @@ fn events_are_taken_or_refused(rt: HostRuntime) -> Result<(), Fail> {
             state: State {
                 events: 7,
                 commits: [Some(Listed(1, 0, 5)), None],
-                pcs: [Some(0x8000_0014), None],
+                cores: [Some(Stands(0x8000_0014, 7, CoreEnd::Run)), None],
                 words: [7, 7],
                 ..start
             },
