@@ -8,15 +8,17 @@ use Rattle.tcc_program.specs.Program.{Need, Nothing, Loads, Stores, Changes, Pri
 use Rattle.tcc_program.specs.Ram.{word_of}
 use Rattle.tcc_maps.specs.Nodes.{Node, Core, Dir, Vendor, Event, Exec, Evict, Deliver, Msg, node_eq}
 use Rattle.tcc_maps.specs.Shape.{Shape}
-use Rattle.tcc_rules.specs.State.{CoreState, Awaited, Phase, Running, AwaitTid, DoomedTid, Probing, Ready, Overflowing, Solo, Halted, Link, World}
+use Rattle.tcc_rules.specs.State.{CoreState, Awaited, Link, World}
+use Rattle.tcc_rules.specs.State.{Phase, Running, AwaitTid, DoomedTid, Probing, Ready, Overflowing, Solo, Halted}
 use Rattle.tcc_rules.specs.Attempt.{Out, finished, roll_back, stepped}
 use Rattle.tcc_rules.specs.Commit.{commit, solo_commit}
-use Rattle.tcc_rules.specs.CoreDeliver.{core_deliver, grant, grant_sends, probe_reply, fill, data_request, invalidate, acknowledged, if_violated}
-use Rattle.tcc_rules.specs.CoreDeliver.{without}
+use Rattle.tcc_rules.specs.CoreDeliver.{core_deliver, grant, grant_sends, probe_reply, fill, data_request, invalidate, acknowledged}
+use Rattle.tcc_rules.specs.CoreDeliver.{if_violated, without}
 use Rattle.tcc_rules.specs.CoreEvict.{core_evict}
 use Rattle.tcc_rules.specs.CoreExec.{core_exec, exec_phase, unless_awaiting}
 use Rattle.tcc_rules.specs.DirDeliver.{Answer, Waits, Drops, Asks, Takes, dir_deliver}
-use Rattle.tcc_rules.specs.Execute.{overflow, full_set, ask, fetch, place, load, used, word_store, partial_store, buffered, framed, close, execute_need, execute}
+use Rattle.tcc_rules.specs.Execute.{overflow, full_set, ask, fetch, place, load, used, word_store, partial_store, buffered, framed}
+use Rattle.tcc_rules.specs.Execute.{close, execute_need, execute}
 use Rattle.tcc_rules.specs.Links.{in_flight, sent_all, taking}
 use Rattle.tcc_rules.specs.Sends.{written_back, flushed, skip_all, probe_all, abort_written}
 use Rattle.tcc_rules.specs.Step.{Stepped, core_moves, core_takes, dir_takes, dir_asks, vendor_gives, moved, taken, answered, granted}
