@@ -20,3 +20,5 @@ mod ByPhase
 mod Numbers
 mod Using
 mod Counting
+mod Enabling
+mod Choices

@@ -185,3 +185,7 @@ no-more t i n k left h e = sym (slice_get_past (filter t (numbers n)) k (rw (←
 
 pub counted-below : (t : ℕ → Bool) (n count : ℕ) → count ≡ length (filter t (numbers n)) → count ≤ n
 counted-below t n count e = omega (arith, e, count-most t n)
+
+pub none-pass : (t : ℕ → Bool) (xs : List ℕ) → ((k : ℕ) → t k ≡ false) → [] ≡ filter t xs
+none-pass t [] h = refl
+none-pass t (x ∷ xs) h = rw (h x) (none-pass t xs h)

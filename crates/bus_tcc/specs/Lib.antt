@@ -14,3 +14,4 @@ pub mod Answers
 pub mod Chosen
 pub mod Refined
 pub mod Uses
+pub mod Parts

@@ -4,6 +4,7 @@
 
 mod bank;
 mod bus;
+mod choosing;
 mod cleaning;
 mod commit;
 mod committing;
