@@ -25,6 +25,7 @@ pub mod CoreSteps
 pub mod Inside
 pub mod CoreTids
 pub mod DirTids
+pub mod DirOutcome
 pub mod CoreProbes
 pub mod DirProbes
 pub mod DirRecords
