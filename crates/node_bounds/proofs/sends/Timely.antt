@@ -20,9 +20,9 @@ use Rattle.tcc_rules.specs.Sends.{Sends, nothing, to, when, skip_all, probe_all,
 use Rattle.tcc_rules.specs.State.{CoreState, Awaited, Phase, Running, AwaitTid, DoomedTid, Ready, Overflowing, Solo}
 use Rattle.tcc_serial.specs.Count.{Protocol, among, passes}
 use Rattle.tcc_serial.specs.Tids.{has_tid}
-use Rattle.tcc_serial.proofs.CoreSteps.{evict-steady, fill-steady, data-steady, Hurt, Unhurt, Rolled, Doomed, Aborted, Gave_up, Invalidated}
-use Rattle.tcc_serial.proofs.CoreSteps.{invalidate-cases, Replied, Ignored, Probed, Left_alone, reply-cases}
-use Rattle.tcc_serial.proofs.Executes.{Acts, Steady, Executed, Goes_on, Overflows, Asks_tid, Alone, executed}
+use Rattle.tcc_serial.proofs.Lemmas.{evict-steady, fill-steady, data-steady, Hurt, Unhurt, Rolled, Doomed, Aborted, Gave_up, Invalidated}
+use Rattle.tcc_serial.proofs.Lemmas.{invalidate-cases, Replied, Ignored, Probed, Left_alone, reply-cases, Acts, Steady, Executed, Goes_on}
+use Rattle.tcc_serial.proofs.Lemmas.{Overflows, Asks_tid, Alone, executed}
 use Rattle.tcc_bounds.specs.Messages.{WasGranted, tid_named}
 use Rattle.node_bounds.proofs.sends.Each.{Each, each-none, each-one, each-append, each-when, each-flat}
 

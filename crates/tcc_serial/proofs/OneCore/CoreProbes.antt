@@ -1,0 +1,202 @@
+-- What a core's rules do to what it knows of the directories that it asked.
+use Rattle.tcc_serial.proofs.Names.{ℕ, ◌≡◌, ◌<◌, ◌≤◌, Bool, true, false, ◌==◌, ◌&&◌, ◌||◌, Option, Some, None, IfSome, nat_lt}
+use Rattle.tcc_serial.proofs.Names.{if◌then◌else◌, arith, refl, sym, ap₂, ◌∙◌, ◌⊎◌, inl, inr, cases_eq, nat_tests, put, Program, Outcome}
+use Rattle.tcc_serial.proofs.Names.{Goes, Ended, HaltedWith, TrappedWith, any_below, any_below-at, Msg, TidReq, TidGrant, LoadReq, Fill}
+use Rattle.tcc_serial.proofs.Names.{Skip, Probe, ProbeReply, Mark, Commit, Abort, WriteBack, Flush, DataReq, Inv, InvAck, Shape, Cache}
+use Rattle.tcc_serial.proofs.Names.{writes_at, reads_at, CoreState, Awaited, Phase, Running, AwaitTid, DoomedTid, Probing, Ready}
+use Rattle.tcc_serial.proofs.Names.{Overflowing, Solo, Halted, Out, commit, committed_core, phase_after, core_exec, exec_phase}
+use Rattle.tcc_serial.proofs.Names.{unless_awaiting, core_evict, grant, grant_phase, from_dir, probing, is_probed, probe_reply, all_replied}
+use Rattle.tcc_serial.proofs.Names.{fill, data_request, invalidate, RepliesAbove, passes, tid_of, asks_dir, may_commit, Reached}
+use Rattle.tcc_serial.proofs.OneCore.Executes.{Acts, Steady, Executed, Goes_on, Overflows, Asks_tid, Alone, executed}
+use Rattle.tcc_serial.proofs.OneCore.CoreSteps.{writes_at-same, reads_at-same, evict-steady, fill-steady, data-steady, Hurt, Unhurt, Rolled}
+use Rattle.tcc_serial.proofs.OneCore.CoreSteps.{Doomed, Aborted, Gave_up, Invalidated, invalidate-cases, Replied, Ignored, Probed}
+use Rattle.tcc_serial.proofs.OneCore.CoreSteps.{Left_alone, reply-cases}
+
+-- a core in this phase asks none
+pub none-asked : (sh : Shape) (d x : ℕ) (s : CoreState) (q : Phase) → s.phase ≡ q → ((b : Bool) → asks_dir q b ≡ false) → may_commit q ≡ false → Reached sh d x s
+none-asked sh d x s q e a m = record {
+  reached = λ l h o. let n : asks_dir s.phase (writes_at sh s.cache d || reads_at sh s.cache d) ≡ false = rw e (a _) in absurd (cc);
+  replied = λ l h. let n : may_commit s.phase ≡ false = rw e m in absurd (cc);
+}
+
+-- the same phase, the same replies and the same directories
+same-asked : (sh : Shape) (d x : ℕ) (s r : CoreState) → r.phase ≡ s.phase → r.owing ≡ s.owing → asks_dir s.phase (writes_at sh r.cache d || reads_at sh r.cache d) ≡ asks_dir s.phase (writes_at sh s.cache d || reads_at sh s.cache d) → Reached sh d x s → Reached sh d x r
+same-asked sh d x s r e f g h = record {
+  reached = λ l a o. rw e (h.reached l (sym g ∙ (rw e at a)) (rw f at o));
+  replied = λ l m. rw f (h.replied l (rw e at m));
+}
+
+acts-asked : (q : Phase) (a b : Bool) → ((Acts q → ⊥) → a ≡ b) → asks_dir q a ≡ asks_dir q b
+acts-asked Running a b h = refl
+acts-asked (Solo t) a b h = refl
+acts-asked AwaitTid a b h = refl
+acts-asked DoomedTid a b h = refl
+acts-asked (Probing t) a b h = h (λ x. x)
+acts-asked (Ready t) a b h = h (λ x. x)
+acts-asked (Overflowing None) a b h = refl
+acts-asked (Overflowing (Some t)) a b h = refl
+acts-asked Halted a b h = refl
+
+asked-steady : (sh : Shape) (d x : ℕ) (s : CoreState) (o : Out) → Steady s o → Reached sh d x s → Reached sh d x o.core
+asked-steady sh d x s o y h = same-asked sh d x s o.core (y.phase) (y.owing)
+    (acts-asked s.phase _ _ (λ n. ap₂ (λ a b. a || b) (writes_at-same sh o.core.cache s.cache d (y.modified n)) (reads_at-same sh o.core.cache s.cache d (y.read n)))) h
+
+asked-after : (sh : Shape) (d x : ℕ) (r : CoreState) (e : Outcome) → r.phase ≡ phase_after e → Reached sh d x r
+asked-after sh d x r Goes q = none-asked sh d x r Running q (λ b. refl) refl
+asked-after sh d x r Ended q = none-asked sh d x r Running q (λ b. refl) refl
+asked-after sh d x r (HaltedWith k) q = none-asked sh d x r Halted q (λ b. refl) refl
+asked-after sh d x r (TrappedWith k) q = none-asked sh d x r Halted q (λ b. refl) refl
+
+asked-executed : (sh : Shape) (c d x : ℕ) (s : CoreState) (o : Out) → Executed sh c s o → Reached sh d x s → Reached sh d x o.core
+asked-executed sh c d x s o (Goes_on y) h = asked-steady sh d x s o y h
+asked-executed sh c d x s o (Overflows r ph ow cm ve di) h = none-asked sh d x o.core (Overflowing None) ph (λ b. refl) refl
+asked-executed sh c d x s o (Asks_tid r ph ow cm ve di) h = none-asked sh d x o.core AwaitTid ph (λ b. refl) refl
+asked-executed sh c d x s o (Alone u r q ph ow cm se) h = asked-after sh d x o.core r.ended ph
+
+abbrev pub StaysReached : Shape → (dir serving : ℕ) → CoreState → Option Out → Type 0
+StaysReached sh d x s y = IfSome y (λ o. Reached sh d x o.core)
+
+pub asked-exec : (sh : Shape) (p : Program) (c d x : ℕ) (s : CoreState) → Reached sh d x s → StaysReached sh d x s (core_exec sh p c s)
+unfolding core_exec commit committed_core
+asked-exec sh p c d x s h = go s.phase refl
+  where
+    weaken : (y : Option Out) → IfSome y (λ o. Executed sh c s o) → StaysReached sh d x s y
+    weaken None e = tt
+    weaken (Some o) e = asked-executed sh c d x s o e h
+
+    awaiting : (a : Option Awaited) → Acts s.phase → StaysReached sh d x s (unless_awaiting sh p c s a)
+    awaiting (Some y) a = tt
+    awaiting None a = weaken _ (executed sh p c s a)
+
+    go : (q : Phase) → s.phase ≡ q → StaysReached sh d x s (exec_phase sh p c s q)
+    go Running e = awaiting s.awaited (rw e tt)
+    go (Solo u) e = awaiting s.awaited (rw e tt)
+    go (Ready u) e = asked-after sh d x _ s.ended refl
+    go AwaitTid e = tt
+    go DoomedTid e = tt
+    go (Probing u) e = tt
+    go (Overflowing u) e = tt
+    go Halted e = tt
+
+pub asked-evict : (sh : Shape) (x' y d x : ℕ) (s : CoreState) → Reached sh d x s → StaysReached sh d x s (core_evict sh x' y s)
+asked-evict sh x' y d x s h = go (core_evict sh x' y s) (evict-steady sh x' y s)
+  where
+    go : (a : Option Out) → IfSome a (λ o. Steady s o) → StaysReached sh d x s a
+    go None e = tt
+    go (Some o) e = asked-steady sh d x s o e h
+
+probed-owes : (sh : Shape) (c : Cache) (d : ℕ) → d < sh.dirs → (writes_at sh c d || reads_at sh c d) ≡ true → is_probed sh c d ≡ false → ⊥
+unfolding is_probed
+probed-owes sh c d l a o = go (nat_lt d sh.dirs) (grind (arith, nat_tests)) o
+  where
+    go : (b : Bool) → b ≡ true → (b && (writes_at sh c d || reads_at sh c d)) ≡ false → ⊥
+    go true q o = cc
+    go false q o = cc
+
+-- where a test holds of none below, it doesn't hold of one
+pub none-below : (p : ℕ → Bool) (n k : ℕ) → k < n → any_below p n ≡ false → p k ≡ false
+none-below p n k l q = go (p k) refl
+  where
+    go : (b : Bool) → p k ≡ b → p k ≡ false
+    go false e = e
+    go true e = let a : any_below p n ≡ true = any_below-at p n k l e in absurd (cc)
+
+pub asked-grant : (sh : Shape) (u d x : ℕ) (s : CoreState) → Reached sh d x s → Reached sh d x (grant sh u s).core
+unfolding grant
+asked-grant sh u d x s h = go s.phase
+  where
+    owes : d < sh.dirs → (writes_at sh s.cache d || reads_at sh s.cache d) ≡ true → is_probed sh s.cache d ≡ false → ⊥
+    owes l a o = probed-owes sh s.cache d l a o
+
+    probed : (b : Bool) → any_below (is_probed sh s.cache) sh.dirs ≡ b → Reached sh d x (record s { owing = is_probed sh s.cache; phase = probing b u })
+    probed true q = record { reached = λ l a o. absurd (owes l a o); replied = λ l m. absurd (cc) }
+    probed false q = record { reached = λ l a o. absurd (owes l a o); replied = λ l m. none-below (is_probed sh s.cache) sh.dirs d l q }
+
+    go : (q : Phase) → Reached sh d x (grant_phase sh u s q).core
+    go AwaitTid = probed (any_below (is_probed sh s.cache) sh.dirs) refl
+    go DoomedTid = none-asked sh d x _ Running refl (λ b. refl) refl
+    go (Overflowing None) = record { reached = λ l a o. absurd (grind (arith, nat_tests)); replied = λ l m. absurd (cc) }
+    go (Overflowing (Some v)) = h
+    go Running = h
+    go (Probing v) = h
+    go (Ready v) = h
+    go (Solo v) = h
+    go Halted = h
+
+-- a reply of a directory that has reached the TID
+
+put-away : (f : ℕ → Bool) (e d : ℕ) (x : Bool) → (d ≡ e → ⊥) → put f e x d ≡ f d
+put-away f e d x q = let b : (d == e) ≡ false = grind (arith, nat_tests) in rw b refl
+
+pub all-replied : (sh : Shape) (f : ℕ → Bool) (d : ℕ) → d < sh.dirs → all_replied sh f ≡ true → f d ≡ false
+all-replied sh f d l q = none-below f sh.dirs d l (go (any_below f sh.dirs) refl)
+  where
+    go : (b : Bool) → any_below f sh.dirs ≡ b → any_below f sh.dirs ≡ false
+    go false e = e
+    go true e = let n : all_replied sh f ≡ false = rw e refl in absurd (cc)
+
+-- one more directory has replied, and its TID is u
+one_replied : (sh : Shape) (e d x u : ℕ) (s r : CoreState) (go wait : Phase) → (d ≡ e → u ≤ x) → r.phase ≡ (if all_replied sh (put s.owing e false) then go else wait) → r.owing ≡ put s.owing e false
+    → tid_of go ≡ u → tid_of wait ≡ u → tid_of s.phase ≡ u → may_commit wait ≡ false
+    → (asks_dir go (writes_at sh r.cache d || reads_at sh r.cache d) ≡ true → asks_dir s.phase (writes_at sh s.cache d || reads_at sh s.cache d) ≡ true)
+    → (asks_dir wait (writes_at sh r.cache d || reads_at sh r.cache d) ≡ true → asks_dir s.phase (writes_at sh s.cache d || reads_at sh s.cache d) ≡ true)
+    → Reached sh d x s → Reached sh d x r
+one_replied sh e d x u s r go wait f ph ow tg tw ts mw ag aw h = by (all_replied sh (put s.owing e false)) refl
+  where
+    low : (q : Phase) → tid_of q ≡ u → (asks_dir q (writes_at sh r.cache d || reads_at sh r.cache d) ≡ true → asks_dir s.phase (writes_at sh s.cache d || reads_at sh s.cache d) ≡ true) → d < sh.dirs → asks_dir q (writes_at sh r.cache d || reads_at sh r.cache d) ≡ true → put s.owing e false d ≡ false → tid_of q ≤ x
+    low q t a l k o = rw t (at (cases_eq d e))
+      where
+        at : (d ≡ e) ⊎ (d ≡ e → ⊥) → u ≤ x
+        at (inl i) = f i
+        at (inr i) = let z = h.reached l (a k) (rw (put-away s.owing e d false i) at o) in omega arith
+
+    by : (b : Bool) → all_replied sh (put s.owing e false) ≡ b → Reached sh d x r
+    by true q =
+        let p : r.phase ≡ go = rw q at ph in
+        record {
+          reached = λ l k o. rw p (low go tg ag l (rw p at k) (rw ow at o));
+          replied = λ l m. rw ow (all-replied sh (put s.owing e false) d l q);
+        }
+    by false q =
+        let p : r.phase ≡ wait = rw q at ph in
+        record {
+          reached = λ l k o. rw p (low wait tw aw l (rw p at k) (rw ow at o));
+          replied = λ l m. let n : may_commit r.phase ≡ false = rw p mw in absurd (cc);
+        }
+
+asked-replied : (sh : Shape) (e u d x : ℕ) (s : CoreState) (o : Out) → (d ≡ e → u ≤ x) → Replied sh e u s o → Reached sh d x s → Reached sh d x o.core
+asked-replied sh e u d x s o f (Ignored q n) h = rw q h
+asked-replied sh e u d x s o f (Probed g w ph ow ca se cm) h = one_replied sh e d x u s o.core (Ready u) (Probing u) f ph ow refl refl (rw g refl) refl (λ k. rw g (rw ca at k)) (λ k. rw g (rw ca at k)) h
+asked-replied sh e u d x s o f (Left_alone g w ph ow mo se cm) h = one_replied sh e d x u s o.core (Solo u) (Overflowing (Some u)) f ph ow refl refl (rw g refl) refl (λ k. rw g refl) (λ k. rw g refl) h
+
+asked-hurt : (sh : Shape) (l d x : ℕ) (s : CoreState) (o : Out) → Invalidated sh l s o → Reached sh d x s → Reached sh d x o.core
+asked-hurt sh l d x s o i h = go i.hurt
+  where
+    go : Hurt sh s o.core i.sends → Reached sh d x o.core
+    go (Unhurt ph ow mo re se) = same-asked sh d x s o.core ph ow (acts-asked s.phase _ _ (λ n. ap₂ (λ a b. a || b) (writes_at-same sh o.core.cache s.cache d mo) (reads_at-same sh o.core.cache s.cache d re))) h
+    go (Rolled ph ph' ow se) = none-asked sh d x o.core Running ph' (λ b. refl) refl
+    go (Doomed ph ph' ow se) = none-asked sh d x o.core DoomedTid ph' (λ b. refl) refl
+    go (Aborted u ph ph' ow se) = none-asked sh d x o.core Running ph' (λ b. refl) refl
+    go (Gave_up u ph ph' ow se) = none-asked sh d x o.core Running ph' (λ b. refl) refl
+
+-- x is what directory d serves; a reply of e is of a TID that e has reached
+pub asked-back : (sh : Shape) (e d x : ℕ) (s : CoreState) (m : Msg) → (d ≡ e → passes (RepliesAbove x) m ≡ false) → Reached sh d x s → StaysReached sh d x s (from_dir sh e s m)
+unfolding passes
+asked-back sh e d x s (ProbeReply u v) f h = asked-replied sh e u d x s (probe_reply sh e u s) (λ q. low (f q)) (reply-cases sh e u s) h
+  where
+    low : nat_lt x u ≡ false → u ≤ x
+    low k = grind (arith, nat_tests)
+asked-back sh e d x s (Fill l ws) f h = asked-steady sh d x s (fill l ws s) (fill-steady l ws s) h
+asked-back sh e d x s (DataReq l) f h = asked-steady sh d x s (data_request sh l s) (data-steady sh l s) h
+asked-back sh e d x s (Inv l m u) f h = asked-hurt sh l d x s (invalidate sh l m u s) (invalidate-cases sh l m u s) h
+asked-back sh e d x s TidReq f h = tt
+asked-back sh e d x s (TidGrant u) f h = tt
+asked-back sh e d x s (LoadReq l a) f h = tt
+asked-back sh e d x s (Skip u) f h = tt
+asked-back sh e d x s (Probe u) f h = tt
+asked-back sh e d x s (Mark l m u) f h = tt
+asked-back sh e d x s (Commit u n) f h = tt
+asked-back sh e d x s (Abort u) f h = tt
+asked-back sh e d x s (WriteBack l m ws u) f h = tt
+asked-back sh e d x s (Flush l m ws u) f h = tt
+asked-back sh e d x s (InvAck l b) f h = tt
