@@ -14,6 +14,8 @@ use Rattle.tcc_rules.specs.DirDeliver.{commit}
 use Rattle.tcc_serial.proofs.Counts.Links.{live-takes}
 use Rattle.tcc_serial.proofs.Counts.PairFrames.{pairs_dir, pairs_asks}
 use Rattle.tcc_serial.proofs.Counts.StepCases.{OfAnswer, step_cases}
+use Rattle.tcc_serial.proofs.Counts.DirOutcome.{Outcome, Waiting, Spent, AsksOwner, TakesSkip, TakesAbort, TakesProbe, TakesLoad, TakesMark, TakesCommit, TakesAck, TakesCopy, IsSpent, SkipPassed, AbortPassed, MarkPassed, NoneOwed, CopyPassed, IsCopy, Wants, ToLoad, ToMark, outcome, among-to, among-none, none-to, none-invalidations}
+use Rattle.tcc_serial.proofs.Counts.PairFrames.{same}
 
 -- A line's owner was its owner before, with the same tag, or it is the core whose Commit the directory takes, with this TID.
 abbrev pub OwnsFrom : DirState → (core : ℕ) → Msg → DirState → Type 0
@@ -25,131 +27,30 @@ OwnsBy old c m Drops = Unit {0}
 OwnsBy old c m (Asks new sends) = OwnsFrom old c m new
 OwnsBy old c m (Takes new sends) = OwnsFrom old c m new
 
-same-owns : (s : DirState) (c : ℕ) (m : Msg) → OwnsFrom s c m s
-same-owns s c m l j e = inl (e, refl)
-
-moved-owns : (old s : DirState) (c : ℕ) (m : Msg) → OwnsFrom old c m s → OwnsFrom old c m (moved_on s)
-unfolding moved_on unmarked
-moved-owns old s c m h = h
-
-settled-owns : (old s : DirState) (c : ℕ) (m : Msg) → OwnsFrom old c m s → OwnsFrom old c m (settled s)
-unfolding settled
-settled-owns old s c m h = go (s.owed == 0)
-  where
-    go : (b : Bool) → OwnsFrom old c m (if b then moved_on s else s)
-    go true = moved-owns old s c m h
-    go false = h
-
-owner-owns : (o l c : ℕ) (m : Msg) (s : DirState) → OwnsBy s c m (ask_owner o l s)
-unfolding ask_owner with_asked
-owner-owns o l c m s = go (s.lines.asked l)
-  where
-    go : (b : Bool) → OwnsBy s c m (if b then Waits else Asks (record s { lines = with_asked l true s.lines }) (to (Core o) (DataReq l ∷ [])))
-    go true = tt
-    go false = λ x j e. inl (e, refl)
-
-skip-owns : (u c : ℕ) (m : Msg) (s : DirState) → OwnsBy s c m (skip u s)
-unfolding skip
-skip-owns u c m s = go (nat_lt u s.serving.serving)
-  where
-    go : (a : Bool) → OwnsBy s c m (if a then Drops else Takes (record s { serving = skipped u s.serving }) nothing)
-    go true = tt
-    go false = λ x j e. inl (e, refl)
-
-abort-owns : (u c : ℕ) (m : Msg) (s : DirState) → OwnsBy s c m (abort u s)
-unfolding abort
-abort-owns u c m s = go (nat_lt u s.serving.serving) (s.serving.serving == u)
-  where
-    go : (a b : Bool) → OwnsBy s c m (if a then Drops else (if b then Takes (moved_on s) nothing else Takes (record s { serving = kept u s.serving }) nothing))
-    go true b = tt
-    go false true = moved-owns s s c m (same-owns s c m)
-    go false false = λ x j e. inl (e, refl)
-
-probe-owns : (c u : ℕ) (m : Msg) (s : DirState) → OwnsBy s c m (probe c u s)
-unfolding probe
-probe-owns c u m s = go (nat_lt s.serving.serving u)
-  where
-    go : (b : Bool) → OwnsBy s c m (if b then Waits else Takes s (to (Core c) (ProbeReply u s.serving.serving ∷ [])))
-    go true = tt
-    go false = same-owns s c m
-
-load-owns : (c l a : ℕ) (m : Msg) (s : DirState) → OwnsBy s c m (load_request c l a s)
-unfolding load_request with_sharer
-load-owns c l a m s = go (nat_le s.serving.serving a || has_mark s.lines l) (s.lines.owner l)
-  where
-    go : (b : Bool) (o : Option ℕ) → OwnsBy s c m (if b then Waits else load_owned c l s o)
-    go true o = tt
-    go false (Some o) = owner-owns o l c m s
-    go false None = λ x j e. inl (e, refl)
-
-mark-owns : (l k u c : ℕ) (m : Msg) (s : DirState) → OwnsBy s c m (mark l k u s)
-unfolding mark with_mark
-mark-owns l k u c m s = go (nat_lt u s.serving.serving) (nat_lt s.serving.serving u) (k == full) (s.lines.owner l)
-  where
-    go : (a b x : Bool) (o : Option ℕ) → OwnsBy s c m (if a then Drops else (if b then Waits else (if x then marking l k s else mark_owned l k s o)))
-    go true b x o = tt
-    go false true x o = tt
-    go false false true o = λ x j e. inl (e, refl)
-    go false false false None = λ x j e. inl (e, refl)
-    go false false false (Some o) = owner-owns o l c m s
-
-commit-owns : (sh : Shape) (c u n : ℕ) (s : DirState) → OwnsBy s c (Commit u n) (commit sh c u n s)
-unfolding commit owned passes
-commit-owns sh c u n s = go (s.serving.serving == u && count_below (has_mark s.lines) (lines sh) == n)
-  where
-    self : (u == u) ≡ true
-    self = grind (arith, nat_tests)
-
-    one : (x j : ℕ) (b : Bool) → (if b then Some c else s.lines.owner x) ≡ Some j → ((s.lines.owner x ≡ Some j) × ((if b then u else s.lines.tag x) ≡ s.lines.tag x)) ⊎ ((j ≡ c) × ((u == (if b then u else s.lines.tag x)) ≡ true))
-    one x j true e = inr (cc, self)
-    one x j false e = inl (e, refl)
-
-    go : (b : Bool) → OwnsBy s c (Commit u n) (if b then Takes (settled (record s { lines = owned c u s.lines; owed = owed_by sh s.lines c })) (invalidations sh s.lines c u) else Waits)
-    go false = tt
-    go true = settled-owns s (record s { lines = owned c u s.lines; owed = owed_by sh s.lines c }) c (Commit u n) (λ x j e. one x j (has_mark s.lines x) e)
-
-ack-owns : (c l : ℕ) (b : Bool) (m : Msg) (s : DirState) → OwnsBy s c m (acknowledgement c l b s)
-unfolding acknowledgement with_sharer
-ack-owns c l b m s = go (s.owed == 0)
-  where
-    keeps : (y : Bool) → OwnsFrom s c m (record s { lines = unless_keeps y c l s.lines; owed = s.owed - 1 })
-    keeps true = λ x j e. inl (e, refl)
-    keeps false = λ x j e. inl (e, refl)
-
-    go : (a : Bool) → OwnsBy s c m (if a then Drops else Takes (settled (record s { lines = unless_keeps b c l s.lines; owed = s.owed - 1 })) nothing)
-    go true = tt
-    go false = settled-owns s (record s { lines = unless_keeps b c l s.lines; owed = s.owed - 1 }) c m (keeps b)
-
-back-owns : (c l k : ℕ) (ws : List ℕ) (g : ℕ) (m : Msg) (s : DirState) → OwnsBy s c m (write_back c l k ws g s)
-unfolding write_back came_home with_asked with_owner
-back-owns c l k ws g m s = go (judge (s.lines.owner l) (s.lines.tag l) c g)
-  where
-    one : (x j : ℕ) (b : Bool) → (if b then None else s.lines.owner x) ≡ Some j → s.lines.owner x ≡ Some j
-    one x j true e = absurd (cc)
-    one x j false e = e
-
-    go : (y : Judgement) → OwnsBy s c m (judged l k ws s y)
-    go IsEarly = tt
-    go IsTaken = λ x j e. inl (one x j (x == l) e, refl)
-    go IsDropped = tt
-
 dir-owns : (sh : Shape) (s : DirState) (c : ℕ) (m : Msg) → OwnsBy s c m (dir_deliver sh s c m)
-unfolding dir_deliver
-dir-owns sh s c (Skip u) = skip-owns u c (Skip u) s
-dir-owns sh s c (Abort u) = abort-owns u c (Abort u) s
-dir-owns sh s c (Probe u) = probe-owns c u (Probe u) s
-dir-owns sh s c (LoadReq l x) = load-owns c l x (LoadReq l x) s
-dir-owns sh s c (Mark l k u) = mark-owns l k u c (Mark l k u) s
-dir-owns sh s c (Commit u n) = commit-owns sh c u n s
-dir-owns sh s c (InvAck l b) = ack-owns c l b (InvAck l b) s
-dir-owns sh s c (WriteBack l k ws g) = back-owns c l k ws g (WriteBack l k ws g) s
-dir-owns sh s c (Flush l k ws g) = back-owns c l k ws g (Flush l k ws g) s
-dir-owns sh s c TidReq = tt
-dir-owns sh s c (TidGrant u) = tt
-dir-owns sh s c (Fill l ws) = tt
-dir-owns sh s c (ProbeReply u v) = tt
-dir-owns sh s c (DataReq l) = tt
-dir-owns sh s c (Inv l k u) = tt
+unfolding passes
+dir-owns sh s c m = go (outcome sh s c m)
+  where
+    taken : (x j : ℕ) (b : Bool) → (if b then Some c else s.lines.owner x) ≡ Some j → ((s.lines.owner x ≡ Some j) × ((if b then s.serving.serving else s.lines.tag x) ≡ s.lines.tag x)) ⊎ ((j ≡ c) × ((s.serving.serving == (if b then s.serving.serving else s.lines.tag x)) ≡ true))
+    taken x j true e = inr (cc, same s.serving.serving)
+    taken x j false e = inl (e, refl)
+
+    came : (x j : ℕ) (b : Bool) → (if b then None else s.lines.owner x) ≡ Some j → s.lines.owner x ≡ Some j
+    came x j true e = absurd (cc)
+    came x j false e = e
+
+    go : {m : Msg} {a : Answer} → Outcome sh s c m a → OwnsBy s c m a
+    go (Waiting m) = tt
+    go (Spent m i) = tt
+    go (AsksOwner m l o w e) = λ x j q. inl (q, refl)
+    go (TakesSkip u b e i) = λ x j q. inl (q, refl)
+    go (TakesAbort u b e i) = λ x j q. inl (q, refl)
+    go (TakesProbe t i) = λ x j q. inl (q, refl)
+    go (TakesLoad l k i e o) = λ x j q. inl (q, refl)
+    go (TakesMark l k i) = λ x j q. inl (q, refl)
+    go (TakesCommit b e) = λ x j q. taken x j (has_mark s.lines x) q
+    go (TakesAck l k b i e) = λ x j q. inl (q, refl)
+    go (TakesCopy m l k ws g y e o) = λ x j q. inl (came x j (x == l) q, refl)
 
 -- the owners of one directory's lines
 abbrev LineOwners : List Grant → DirState → Type 0

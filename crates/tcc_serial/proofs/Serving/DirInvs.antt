@@ -8,7 +8,6 @@ use Rattle.tcc_serial.proofs.Names.{acknowledgement, dir_deliver, moved_on, sett
 use Rattle.tcc_serial.proofs.Names.{unless_keeps, ask_owner, load_owned, load_request, line_words, marking, mark_owned, mark, judged}
 use Rattle.tcc_serial.proofs.Names.{write_back, probe, Invs, Commits, among, passes}
 use Rattle.tcc_rules.specs.DirDeliver.{commit}
-use Rattle.tcc_serial.proofs.Serving.DirDue.{to-quiet, none-quiet}
 use Rattle.tcc_serial.proofs.Counts.Sent.{those-none}
 use Rattle.tcc_serial.proofs.Counts.DirOutcome.{Outcome, Waiting, Spent, AsksOwner, TakesSkip, TakesAbort, TakesProbe, TakesLoad, TakesMark, TakesCommit, TakesAck, TakesCopy, IsSpent, SkipPassed, AbortPassed, MarkPassed, NoneOwed, CopyPassed, IsCopy, Wants, ToLoad, ToMark, outcome, among-to, among-none, none-to, none-invalidations}
 use Rattle.tcc_serial.proofs.Counts.PairFrames.{same}
