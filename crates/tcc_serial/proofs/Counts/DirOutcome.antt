@@ -1,12 +1,13 @@
 -- What a directory does with a message: each outcome with the whole new state and what is sent. All else about its rules is shown of these.
-use Rattle.tcc_serial.proofs.Names.{ℕ, ◌-◌, ◌≡◌, ◌<◌, ◌≤◌, ◌⊎◌, Bool, true, false, List, [], ◌∷◌, get_or, ◌==◌, ◌&&◌, ◌||◌, not, Option, Some}
-use Rattle.tcc_serial.proofs.Names.{None, nat_lt, nat_le, if◌then◌else◌, arith, refl, inl, inr, nat_tests, num, count_below, those, place_of}
-use Rattle.tcc_serial.proofs.Names.{hit, full, Lines, has_mark, with_asked, with_mark, with_sharer, with_owner, unmarked, judge, is_owner}
-use Rattle.tcc_serial.proofs.Names.{IsTaken, IsDropped, IsEarly, advance, skipped, kept, Core, Msg, TidReq, TidGrant, LoadReq, Fill, Skip}
-use Rattle.tcc_serial.proofs.Names.{Probe, ProbeReply, Mark, Commit, Abort, WriteBack, Flush, DataReq, Inv, InvAck, Shape, lines, DirState}
-use Rattle.tcc_serial.proofs.Names.{nothing, to, Answer, Waits, Drops, Asks, Takes, skip, abort, acknowledgement, dir_deliver, moved_on, settled}
-use Rattle.tcc_serial.proofs.Names.{owned, owed_by, invalidations, invs_to, is_invalidated, unless_keeps, ask_owner, load_owned, load_request}
-use Rattle.tcc_serial.proofs.Names.{line_words, marking, mark_owned, mark, judged, write_back, came_home, probe, Kind, among, passes}
+use Rattle.tcc_serial.proofs.Names.{ℕ, ◌-◌, ◌≡◌, ◌<◌, ◌≤◌, ◌⊎◌, Bool, true, false, List, [], ◌∷◌, get_or, ◌==◌, ◌&&◌, ◌||◌, not, Option}
+use Rattle.tcc_serial.proofs.Names.{Some, None, nat_lt, nat_le, if◌then◌else◌, arith, refl, inl, inr, nat_tests, num, count_below, those}
+use Rattle.tcc_serial.proofs.Names.{place_of, hit, full, Lines, has_mark, with_asked, with_mark, with_sharer, with_owner, unmarked, judge}
+use Rattle.tcc_serial.proofs.Names.{is_owner, IsTaken, IsDropped, IsEarly, advance, skipped, kept, Core, Msg, TidReq, TidGrant, LoadReq}
+use Rattle.tcc_serial.proofs.Names.{Fill, Skip, Probe, ProbeReply, Mark, Commit, Abort, WriteBack, Flush, DataReq, Inv, InvAck, Shape}
+use Rattle.tcc_serial.proofs.Names.{lines, DirState, nothing, to, Answer, Waits, Drops, Asks, Takes, skip, abort, acknowledgement}
+use Rattle.tcc_serial.proofs.Names.{dir_deliver, moved_on, settled, owned, owed_by, invalidations, invs_to, is_invalidated, unless_keeps}
+use Rattle.tcc_serial.proofs.Names.{ask_owner, load_owned, load_request, line_words, marking, mark_owned, mark, judged, write_back}
+use Rattle.tcc_serial.proofs.Names.{came_home, probe, Kind, among, passes}
 use Rattle.tcc_rules.specs.DirDeliver.{commit}
 use Rattle.tcc_serial.proofs.Counts.Sent.{among-flat_map_none}
 

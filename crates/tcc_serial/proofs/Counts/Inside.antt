@@ -1,15 +1,11 @@
 -- No message goes to a core that the machine doesn't have, and none of them owns a line.
-use Rattle.tcc_serial.proofs.Names.{ℕ, ◌-◌, ◌≡◌, ◌<◌, ◌≤◌, Bool, true, false, List, [], ◌∷◌, ◌==◌, ◌&&◌, ◌||◌, Option, Some, None, nat_lt}
-use Rattle.tcc_serial.proofs.Names.{nat_le, if◌then◌else◌, arith, refl, nat_tests, count_below, full, Lines, has_mark, with_asked}
-use Rattle.tcc_serial.proofs.Names.{with_owner, with_sharer, with_mark, unmarked, Judgement, judge, IsTaken, IsDropped, IsEarly, Core, Msg}
-use Rattle.tcc_serial.proofs.Names.{TidReq, TidGrant, LoadReq, Fill, Skip, Probe, ProbeReply, Mark, Commit, Abort, WriteBack, Flush}
-use Rattle.tcc_serial.proofs.Names.{DataReq, Inv, InvAck, skipped, kept, Shape, lines, DirState, Sends, nothing, to, Answer, Waits, Drops}
-use Rattle.tcc_serial.proofs.Names.{Asks, Takes, skip, abort, acknowledgement, dir_deliver, moved_on, settled, owned, owed_by}
-use Rattle.tcc_serial.proofs.Names.{invalidations, invs_to, is_invalidated, unless_keeps, ask_owner, load_owned, load_request, line_words}
-use Rattle.tcc_serial.proofs.Names.{marking, mark_owned, mark, judged, write_back, came_home, probe, Any, among}
-use Rattle.tcc_rules.specs.DirDeliver.{commit}
+use Rattle.tcc_serial.proofs.Names.{ℕ, ◌≡◌, ◌<◌, ◌≤◌, Bool, true, false, [], ◌∷◌, ◌==◌, Some, None, nat_lt, if◌then◌else◌, arith, refl}
+use Rattle.tcc_serial.proofs.Names.{nat_tests, Lines, has_mark, Core, Msg, Fill, ProbeReply, DataReq, Shape, lines, DirState, Sends}
+use Rattle.tcc_serial.proofs.Names.{nothing, to, Answer, Waits, Drops, Asks, Takes, dir_deliver, invalidations, invs_to, is_invalidated}
+use Rattle.tcc_serial.proofs.Names.{line_words, Any, among}
+use Rattle.tcc_serial.proofs.Counts.DirOutcome.{Outcome, Waiting, Spent, AsksOwner, TakesSkip, TakesAbort, TakesProbe, TakesLoad, TakesMark}
+use Rattle.tcc_serial.proofs.Counts.DirOutcome.{TakesCommit, TakesAck, TakesCopy, outcome}
 use Rattle.tcc_serial.proofs.Counts.Sent.{those-none}
-use Rattle.tcc_serial.proofs.Counts.DirOutcome.{Outcome, Waiting, Spent, AsksOwner, TakesSkip, TakesAbort, TakesProbe, TakesLoad, TakesMark, TakesCommit, TakesAck, TakesCopy, IsSpent, SkipPassed, AbortPassed, MarkPassed, NoneOwed, CopyPassed, IsCopy, Wants, ToLoad, ToMark, outcome, among-to, among-none, none-to, none-invalidations}
 
 -- owners are cores of the machine
 abbrev pub OwnersInside : Shape → DirState → Type 0

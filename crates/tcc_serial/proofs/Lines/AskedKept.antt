@@ -1,18 +1,13 @@
 -- Every event keeps that a line whose data was asked for has an owner.
-use Rattle.tcc_serial.proofs.Names.{ℕ, ◌-◌, ◌≡◌, Bool, true, false, List, [], ◌∷◌, ◌==◌, ◌&&◌, ◌||◌, Option, Some, None, IfSome, is_some}
-use Rattle.tcc_serial.proofs.Names.{nat_lt, nat_le, if◌then◌else◌, arith, refl, nat_tests, Program, Local, count_below, full, has_mark}
-use Rattle.tcc_serial.proofs.Names.{with_asked, with_mark, with_sharer, with_owner, unmarked, no_lines, Judgement, judge, IsTaken}
-use Rattle.tcc_serial.proofs.Names.{IsDropped, IsEarly, skipped, kept, Core, Dir, Event, Msg, TidReq, TidGrant, LoadReq, Fill, Skip, Probe}
-use Rattle.tcc_serial.proofs.Names.{ProbeReply, Mark, Commit, Abort, WriteBack, Flush, DataReq, Inv, InvAck, Shape, lines, DirState, World}
-use Rattle.tcc_serial.proofs.Names.{start, dir_start, Out, core_exec, core_evict, from_dir, nothing, to, Answer, Waits, Drops, Asks, Takes}
-use Rattle.tcc_serial.proofs.Names.{skip, abort, acknowledgement, dir_deliver, moved_on, settled, owned, owed_by, invalidations}
-use Rattle.tcc_serial.proofs.Names.{unless_keeps, ask_owner, load_owned, load_request, marking, mark_owned, mark, judged, write_back}
-use Rattle.tcc_serial.proofs.Names.{came_home, probe, core_moves, core_takes, dir_takes, dir_asks, vendor_gives, step, Pair, pair}
-use Rattle.tcc_rules.specs.DirDeliver.{commit}
-use Rattle.tcc_serial.specs.Asked.{AskedOwned, KeptAsked}
+use Rattle.tcc_serial.proofs.Names.{ℕ, ◌≡◌, Bool, true, false, [], ◌==◌, Option, Some, None, IfSome, is_some, if◌then◌else◌, arith, refl}
+use Rattle.tcc_serial.proofs.Names.{nat_tests, Program, Local, has_mark, no_lines, Dir, Event, Msg, Shape, DirState, World, start}
+use Rattle.tcc_serial.proofs.Names.{dir_start, Out, core_exec, core_evict, from_dir, Answer, Waits, Drops, Asks, Takes, dir_deliver}
+use Rattle.tcc_serial.proofs.Names.{core_moves, core_takes, dir_takes, dir_asks, vendor_gives, step, Pair, pair}
+use Rattle.tcc_serial.proofs.Counts.DirOutcome.{Outcome, Waiting, Spent, AsksOwner, TakesSkip, TakesAbort, TakesProbe, TakesLoad, TakesMark}
+use Rattle.tcc_serial.proofs.Counts.DirOutcome.{TakesCommit, TakesAck, TakesCopy, outcome}
 use Rattle.tcc_serial.proofs.Counts.PairFrames.{pairs_dir, pairs_asks}
 use Rattle.tcc_serial.proofs.Counts.StepCases.{OfAnswer, step_cases}
-use Rattle.tcc_serial.proofs.Counts.DirOutcome.{Outcome, Waiting, Spent, AsksOwner, TakesSkip, TakesAbort, TakesProbe, TakesLoad, TakesMark, TakesCommit, TakesAck, TakesCopy, IsSpent, SkipPassed, AbortPassed, MarkPassed, NoneOwed, CopyPassed, IsCopy, Wants, ToLoad, ToMark, outcome, among-to, among-none, none-to, none-invalidations}
+use Rattle.tcc_serial.specs.Asked.{AskedOwned, KeptAsked}
 
 abbrev pub AskedBy : Answer → Type 0
 AskedBy Waits = Unit {0}

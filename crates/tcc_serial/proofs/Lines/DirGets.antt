@@ -1,16 +1,10 @@
 -- What a directory's rules do to the lines of which it has asked the owner: it asks with a request, and a line that stays asked keeps its
 -- owner, whose words don't come by this message.
-use Rattle.tcc_serial.proofs.Names.{ℕ, ◌-◌, ◌≡◌, ◌≤◌, ◌⊎◌, Bool, true, false, List, [], ◌∷◌, ◌==◌, ◌&&◌, ◌||◌, Option, Some, None, nat_lt}
-use Rattle.tcc_serial.proofs.Names.{nat_le, if◌then◌else◌, arith, refl, sym, ap, ◌∙◌, inl, inr, nat_tests, count_below, full, has_mark}
-use Rattle.tcc_serial.proofs.Names.{with_asked, with_mark, with_sharer, with_owner, unmarked, Judgement, judge, IsTaken, IsDropped, IsEarly}
-use Rattle.tcc_serial.proofs.Names.{skipped, kept, Core, Msg, TidReq, TidGrant, LoadReq, Fill, Skip, Probe, ProbeReply, Mark, Commit, Abort}
-use Rattle.tcc_serial.proofs.Names.{WriteBack, Flush, DataReq, Inv, InvAck, Shape, lines, DirState, Sends, nothing, to, Answer, Waits}
-use Rattle.tcc_serial.proofs.Names.{Drops, Asks, Takes, skip, abort, acknowledgement, dir_deliver, moved_on, settled, owned, owed_by}
-use Rattle.tcc_serial.proofs.Names.{invalidations, unless_keeps, ask_owner, load_owned, load_request, marking, mark_owned, mark, judged}
-use Rattle.tcc_serial.proofs.Names.{write_back, came_home, probe, CopyOf, DataOf, among, passes}
-use Rattle.tcc_rules.specs.DirDeliver.{commit}
-use Rattle.tcc_serial.proofs.Marks.DirRecords.{NoCopy}
-use Rattle.tcc_serial.proofs.Counts.DirOutcome.{Outcome, Waiting, Spent, AsksOwner, TakesSkip, TakesAbort, TakesProbe, TakesLoad, TakesMark, TakesCommit, TakesAck, TakesCopy, IsSpent, SkipPassed, AbortPassed, MarkPassed, NoneOwed, CopyPassed, IsCopy, Wants, ToLoad, ToMark, outcome, among-to, among-none, none-to, none-invalidations}
+use Rattle.tcc_serial.proofs.Names.{ℕ, ◌≡◌, ◌≤◌, ◌⊎◌, Bool, true, false, List, [], ◌∷◌, ◌==◌, Some, None, if◌then◌else◌, arith, refl, sym}
+use Rattle.tcc_serial.proofs.Names.{ap, ◌∙◌, inl, inr, nat_tests, has_mark, Core, Msg, DataReq, Shape, DirState, Sends, to, Answer, Waits}
+use Rattle.tcc_serial.proofs.Names.{Drops, Asks, Takes, dir_deliver, CopyOf, DataOf, among, passes}
+use Rattle.tcc_serial.proofs.Counts.DirOutcome.{Outcome, Waiting, Spent, AsksOwner, TakesSkip, TakesAbort, TakesProbe, TakesLoad, TakesMark}
+use Rattle.tcc_serial.proofs.Counts.DirOutcome.{TakesCommit, TakesAck, TakesCopy, IsCopy, outcome, among-to}
 use Rattle.tcc_serial.proofs.Counts.PairFrames.{same}
 
 -- the line stays asked, of the same owner, and the message isn't its copy

@@ -1,19 +1,13 @@
 -- What a directory's rules do to the sharers of its lines: a Fill goes to a sharer, a commit is one of its lines, and a core is a sharer
 -- no more only where it says that it keeps no word.
-use Rattle.tcc_serial.proofs.Names.{ℕ, ◌-◌, ◌≡◌, ◌≤◌, ◌⊎◌, Bool, true, false, List, [], ◌∷◌, ◌==◌, ◌&&◌, ◌||◌, Option, Some, None, nat_lt}
-use Rattle.tcc_serial.proofs.Names.{nat_le, if◌then◌else◌, arith, refl, inl, inr, nat_tests, num, count_below, those, full, Lines, has_mark}
-use Rattle.tcc_serial.proofs.Names.{with_asked, with_mark, with_sharer, with_owner, unmarked, Judgement, judge, IsTaken, IsDropped, IsEarly}
-use Rattle.tcc_serial.proofs.Names.{skipped, kept, Core, Msg, TidReq, TidGrant, LoadReq, Fill, Skip, Probe, ProbeReply, Mark, Commit, Abort}
-use Rattle.tcc_serial.proofs.Names.{WriteBack, Flush, DataReq, Inv, InvAck, Shape, lines, DirState, Sends, nothing, to, Answer, Waits}
-use Rattle.tcc_serial.proofs.Names.{Drops, Asks, Takes, skip, abort, acknowledgement, dir_deliver, moved_on, settled, owned, owed_by}
-use Rattle.tcc_serial.proofs.Names.{invalidations, invs_to, is_invalidated, unless_keeps, ask_owner, load_owned, load_request, line_words}
-use Rattle.tcc_serial.proofs.Names.{marking, mark_owned, mark, judged, write_back, came_home, probe, FillOf, GoneOf, among, passes}
-use Rattle.tcc_rules.specs.DirDeliver.{commit}
-use Rattle.tcc_serial.proofs.Marks.OwesByCommit.{CountsMarked}
-use Rattle.tcc_serial.proofs.Counts.Sent.{among-flat_map_none}
-use Rattle.tcc_serial.proofs.Counts.DirOutcome.{Outcome, Waiting, Spent, AsksOwner, TakesSkip, TakesAbort, TakesProbe, TakesLoad, TakesMark, TakesCommit, TakesAck, TakesCopy, IsSpent, SkipPassed, AbortPassed, MarkPassed, NoneOwed, CopyPassed, IsCopy, Wants, ToLoad, ToMark, outcome, among-to, among-none, none-to, none-invalidations}
+use Rattle.tcc_serial.proofs.Names.{ℕ, ◌≡◌, ◌≤◌, ◌⊎◌, Bool, true, false, [], ◌==◌, ◌&&◌, if◌then◌else◌, arith, refl, inl, inr, nat_tests}
+use Rattle.tcc_serial.proofs.Names.{num, has_mark, Core, Msg, Fill, ProbeReply, DataReq, Shape, DirState, Sends, Answer, Waits, Drops, Asks}
+use Rattle.tcc_serial.proofs.Names.{Takes, dir_deliver, line_words, FillOf, GoneOf, among, passes, AnyCommit, not}
+use Rattle.tcc_serial.proofs.Counts.DirOutcome.{Outcome, Waiting, Spent, AsksOwner, TakesSkip, TakesAbort, TakesProbe, TakesLoad, TakesMark}
+use Rattle.tcc_serial.proofs.Counts.DirOutcome.{TakesCommit, TakesAck, TakesCopy, ToLoad, ToMark, outcome, among-to, among-none, none-to}
+use Rattle.tcc_serial.proofs.Counts.DirOutcome.{none-invalidations}
 use Rattle.tcc_serial.proofs.Counts.PairFrames.{same}
-use Rattle.tcc_serial.proofs.Names.{AnyCommit, not}
+use Rattle.tcc_serial.proofs.Marks.OwesByCommit.{CountsMarked}
 
 pub record Shares (sh : Shape) (s : DirState) (c : ℕ) (m : Msg) (new : DirState) (sends : Sends) : Type 0 where
   pub kept : (l j : ℕ) → s.lines.sharers l j ≡ true → (new.lines.sharers l j ≡ true) ⊎ ((j ≡ c) × (passes (GoneOf l) m ≡ true))

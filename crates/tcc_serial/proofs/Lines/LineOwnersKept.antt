@@ -1,21 +1,15 @@
 -- Every event keeps that the owner of a line is the core that the line's tag was granted to.
-use Rattle.tcc_serial.proofs.Names.{ℕ, ◌-◌, ◌≡◌, ◌≤◌, ◌⊎◌, Bool, true, false, List, [], ◌∷◌, ◌++◌, Contains, ◌==◌, ◌&&◌, ◌||◌, Option, Some}
-use Rattle.tcc_serial.proofs.Names.{None, IfSome, nat_lt, nat_le, if◌then◌else◌, arith, refl, ap, inl, inr, nat_tests, append-nil}
-use Rattle.tcc_serial.proofs.Names.{Contains-append_left, Program, Local, num, count_below, full, has_mark, with_asked, with_mark}
-use Rattle.tcc_serial.proofs.Names.{with_sharer, with_owner, unmarked, no_lines, Judgement, judge, IsTaken, IsDropped, IsEarly, skipped}
-use Rattle.tcc_serial.proofs.Names.{kept, Core, Dir, Event, Msg, TidReq, TidGrant, LoadReq, Fill, Skip, Probe, ProbeReply, Mark, Commit}
-use Rattle.tcc_serial.proofs.Names.{Abort, WriteBack, Flush, DataReq, Inv, InvAck, Shape, lines, DirState, World, start, dir_start}
-use Rattle.tcc_serial.proofs.Names.{in_flight, Out, core_exec, core_evict, from_dir, nothing, to, Answer, Waits, Drops, Asks, Takes, skip}
-use Rattle.tcc_serial.proofs.Names.{abort, acknowledgement, dir_deliver, moved_on, settled, owned, owed_by, invalidations, unless_keeps}
-use Rattle.tcc_serial.proofs.Names.{ask_owner, load_owned, load_request, marking, mark_owned, mark, judged, write_back, came_home, probe}
-use Rattle.tcc_serial.proofs.Names.{core_moves, core_takes, dir_takes, dir_asks, vendor_gives, step, Pair, pair, KeptLineOwners, Commits}
-use Rattle.tcc_serial.proofs.Names.{live, passes, Grant, granted_by, SparesCommitter}
-use Rattle.tcc_rules.specs.DirDeliver.{commit}
+use Rattle.tcc_serial.proofs.Names.{ℕ, ◌≡◌, ◌≤◌, ◌⊎◌, Bool, true, false, List, [], ◌∷◌, ◌++◌, Contains, ◌==◌, Option, Some, None, IfSome}
+use Rattle.tcc_serial.proofs.Names.{if◌then◌else◌, arith, refl, ap, inl, inr, append-nil, Contains-append_left, Program, Local, num}
+use Rattle.tcc_serial.proofs.Names.{has_mark, no_lines, Core, Dir, Event, Msg, Shape, DirState, World, start, dir_start, in_flight, Out}
+use Rattle.tcc_serial.proofs.Names.{core_exec, core_evict, from_dir, Answer, Waits, Drops, Asks, Takes, dir_deliver, core_moves, core_takes}
+use Rattle.tcc_serial.proofs.Names.{dir_takes, dir_asks, vendor_gives, step, Pair, pair, KeptLineOwners, Commits, live, passes, Grant}
+use Rattle.tcc_serial.proofs.Names.{granted_by, SparesCommitter}
+use Rattle.tcc_serial.proofs.Counts.DirOutcome.{Outcome, Waiting, Spent, AsksOwner, TakesSkip, TakesAbort, TakesProbe, TakesLoad, TakesMark}
+use Rattle.tcc_serial.proofs.Counts.DirOutcome.{TakesCommit, TakesAck, TakesCopy, outcome}
 use Rattle.tcc_serial.proofs.Counts.Links.{live-takes}
-use Rattle.tcc_serial.proofs.Counts.PairFrames.{pairs_dir, pairs_asks}
+use Rattle.tcc_serial.proofs.Counts.PairFrames.{pairs_dir, pairs_asks, same}
 use Rattle.tcc_serial.proofs.Counts.StepCases.{OfAnswer, step_cases}
-use Rattle.tcc_serial.proofs.Counts.DirOutcome.{Outcome, Waiting, Spent, AsksOwner, TakesSkip, TakesAbort, TakesProbe, TakesLoad, TakesMark, TakesCommit, TakesAck, TakesCopy, IsSpent, SkipPassed, AbortPassed, MarkPassed, NoneOwed, CopyPassed, IsCopy, Wants, ToLoad, ToMark, outcome, among-to, among-none, none-to, none-invalidations}
-use Rattle.tcc_serial.proofs.Counts.PairFrames.{same}
 
 -- A line's owner was its owner before, with the same tag, or it is the core whose Commit the directory takes, with this TID.
 abbrev pub OwnsFrom : DirState → (core : ℕ) → Msg → DirState → Type 0

@@ -1,21 +1,17 @@
 -- Every event keeps that one load request or Fill is in flight exactly for the line that a core awaits.
-use Rattle.tcc_serial.proofs.Names.{ℕ, ◌-◌, ◌≡◌, Bool, true, false, List, [], ◌∷◌, ◌==◌, ◌&&◌, ◌||◌, Option, Some, None, IfSome, nat_lt}
-use Rattle.tcc_serial.proofs.Names.{nat_le, if◌then◌else◌, arith, refl, Program, Local, num, those, count_below, full, has_mark, with_asked}
-use Rattle.tcc_serial.proofs.Names.{Judgement, judge, IsTaken, IsDropped, IsEarly, skipped, kept, Core, Dir, Event, Msg, TidReq, TidGrant}
-use Rattle.tcc_serial.proofs.Names.{LoadReq, Fill, Skip, Probe, ProbeReply, Mark, Commit, Abort, WriteBack, Flush, DataReq, Inv, InvAck}
-use Rattle.tcc_serial.proofs.Names.{Shape, lines, DirState, World, start, core_start, in_flight, Out, core_exec, core_evict, from_dir}
-use Rattle.tcc_serial.proofs.Names.{grant, nothing, to, Answer, Waits, Drops, Asks, Takes, skip, abort, acknowledgement, dir_deliver}
-use Rattle.tcc_serial.proofs.Names.{moved_on, settled, owned, owed_by, invalidations, is_invalidated, invs_to, unless_keeps, ask_owner}
-use Rattle.tcc_serial.proofs.Names.{line_words, load_owned, load_request, marking, mark_owned, mark, judged, write_back, probe, core_moves}
-use Rattle.tcc_serial.proofs.Names.{core_takes, step, LoadingOf, KeptLoading, LoadOf, FillOf, live, among, passes, Pair, pair}
-use Rattle.tcc_rules.specs.DirDeliver.{commit}
-use Rattle.tcc_serial.proofs.OneCore.CoreAwaits.{LoadsStep, LoadsBack, loads-exec, loads-evict, loads-grant, loads-back}
+use Rattle.tcc_serial.proofs.Names.{ℕ, ◌≡◌, Bool, true, false, [], ◌==◌, ◌&&◌, Option, Some, None, IfSome, arith, refl, Program, Local, num}
+use Rattle.tcc_serial.proofs.Names.{Core, Dir, Event, Msg, Fill, Skip, ProbeReply, Mark, Abort, DataReq, InvAck, Shape, DirState, World}
+use Rattle.tcc_serial.proofs.Names.{start, core_start, in_flight, Out, core_exec, core_evict, from_dir, grant, Answer, Waits, Drops, Asks}
+use Rattle.tcc_serial.proofs.Names.{Takes, dir_deliver, line_words, core_moves, core_takes, step, LoadingOf, KeptLoading, LoadOf, FillOf}
+use Rattle.tcc_serial.proofs.Names.{live, among, passes, Pair, pair}
+use Rattle.tcc_serial.proofs.Counts.DirOutcome.{Outcome, Waiting, Spent, AsksOwner, TakesSkip, TakesAbort, TakesProbe, TakesLoad, TakesMark}
+use Rattle.tcc_serial.proofs.Counts.DirOutcome.{TakesCommit, TakesAck, TakesCopy, IsSpent, SkipPassed, AbortPassed, MarkPassed, NoneOwed}
+use Rattle.tcc_serial.proofs.Counts.DirOutcome.{CopyPassed, outcome, among-to, none-to, none-invalidations}
 use Rattle.tcc_serial.proofs.Counts.Links.{live-sends, live-takes}
 use Rattle.tcc_serial.proofs.Counts.PairFrames.{same, differ, pairs_move, pairs_grant, pairs_back, pairs_dir, pairs_asks, pairs_vendor}
-use Rattle.tcc_serial.proofs.Counts.Sent.{among-flat_map_none}
 use Rattle.tcc_serial.proofs.Counts.StepCases.{OfAnswer, step_cases}
+use Rattle.tcc_serial.proofs.OneCore.CoreAwaits.{LoadsStep, LoadsBack, loads-exec, loads-evict, loads-grant, loads-back}
 use Rattle.tcc_serial.proofs.Tids.TidSteps.{live-some}
-use Rattle.tcc_serial.proofs.Counts.DirOutcome.{Outcome, Waiting, Spent, AsksOwner, TakesSkip, TakesAbort, TakesProbe, TakesLoad, TakesMark, TakesCommit, TakesAck, TakesCopy, IsSpent, SkipPassed, AbortPassed, MarkPassed, NoneOwed, CopyPassed, IsCopy, Wants, ToLoad, ToMark, outcome, among-to, among-none, none-to, none-invalidations}
 
 -- a load request is answered by one Fill to its core, or stays, and no other message brings one
 abbrev pub FillsBy : (core : ℕ) → Msg → Answer → Type 0

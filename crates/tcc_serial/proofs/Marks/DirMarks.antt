@@ -1,15 +1,11 @@
 -- What a directory's rules do to its marks: it marks a line by the served TID, and clears all marks where it moves on; a Skip
 -- moves it on without.
-use Rattle.tcc_serial.proofs.Names.{ℕ, ◌-◌, ◌≡◌, ◌<◌, Bool, true, false, List, [], ◌∷◌, ◌==◌, ◌&&◌, ◌||◌, Option, Some, None, nat_lt}
-use Rattle.tcc_serial.proofs.Names.{nat_le, if◌then◌else◌, arith, refl, nat_tests, count_below, full, has_mark, with_asked, with_mark}
-use Rattle.tcc_serial.proofs.Names.{with_sharer, with_owner, unmarked, Judgement, judge, IsTaken, IsDropped, IsEarly, advance, skipped}
-use Rattle.tcc_serial.proofs.Names.{kept, Core, Msg, TidReq, TidGrant, LoadReq, Fill, Skip, Probe, ProbeReply, Mark, Commit, Abort}
-use Rattle.tcc_serial.proofs.Names.{WriteBack, Flush, DataReq, Inv, InvAck, Shape, lines, advance-rises, DirState, nothing, to, Answer}
-use Rattle.tcc_serial.proofs.Names.{Waits, Drops, Asks, Takes, skip, abort, acknowledgement, dir_deliver, moved_on, settled, owned, owed_by}
-use Rattle.tcc_serial.proofs.Names.{invalidations, unless_keeps, ask_owner, load_owned, load_request, marking, mark_owned, mark, judged}
-use Rattle.tcc_serial.proofs.Names.{write_back, came_home, probe, MarkOf, passes}
-use Rattle.tcc_rules.specs.DirDeliver.{commit}
-use Rattle.tcc_serial.proofs.Counts.DirOutcome.{Outcome, Waiting, Spent, AsksOwner, TakesSkip, TakesAbort, TakesProbe, TakesLoad, TakesMark, TakesCommit, TakesAck, TakesCopy, IsSpent, SkipPassed, AbortPassed, MarkPassed, NoneOwed, CopyPassed, IsCopy, Wants, ToLoad, ToMark, outcome, among-to, among-none, none-to, none-invalidations}
+use Rattle.tcc_serial.proofs.Names.{ℕ, ◌≡◌, ◌<◌, Bool, true, false, ◌==◌, if◌then◌else◌, arith, refl, nat_tests, advance, kept, Msg}
+use Rattle.tcc_serial.proofs.Names.{LoadReq, Skip, Probe, Mark, Abort, Shape, advance-rises, DirState, Answer, Waits, Drops, Asks, Takes}
+use Rattle.tcc_serial.proofs.Names.{dir_deliver, MarkOf, passes}
+use Rattle.tcc_serial.proofs.Counts.DirOutcome.{Outcome, Waiting, Spent, AsksOwner, TakesSkip, TakesAbort, TakesProbe, TakesLoad, TakesMark}
+use Rattle.tcc_serial.proofs.Counts.DirOutcome.{TakesCommit, TakesAck, TakesCopy, IsSpent, SkipPassed, AbortPassed, MarkPassed, NoneOwed}
+use Rattle.tcc_serial.proofs.Counts.DirOutcome.{CopyPassed, outcome}
 
 -- a message that is no Mark
 abbrev NoMark : Msg → Type 0

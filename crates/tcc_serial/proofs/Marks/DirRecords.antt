@@ -1,17 +1,12 @@
 -- What a directory's rules do to the tags and owners of its lines: a Commit of the served TID takes the marked lines over, and the
 -- owner's words that come home leave their line without owner.
-use Rattle.tcc_serial.proofs.Names.{ℕ, ◌-◌, ◌≡◌, ◌≤◌, Bool, true, false, List, [], ◌∷◌, ◌==◌, ◌&&◌, ◌||◌, Option, Some, None, nat_lt}
-use Rattle.tcc_serial.proofs.Names.{nat_le, if◌then◌else◌, arith, refl, nat_tests, count_below, full, has_mark, with_asked, with_mark}
-use Rattle.tcc_serial.proofs.Names.{with_sharer, with_owner, unmarked, judge, is_owner, IsTaken, IsDropped, IsEarly, skipped, kept, Core}
-use Rattle.tcc_serial.proofs.Names.{Msg, TidReq, TidGrant, LoadReq, Fill, Skip, Probe, ProbeReply, Mark, Commit, Abort, WriteBack, Flush}
-use Rattle.tcc_serial.proofs.Names.{DataReq, Inv, InvAck, Shape, lines, DirState, nothing, to, Answer, Waits, Drops, Asks, Takes, skip}
-use Rattle.tcc_serial.proofs.Names.{abort, acknowledgement, dir_deliver, moved_on, settled, owned, owed_by, invalidations, unless_keeps}
-use Rattle.tcc_serial.proofs.Names.{ask_owner, load_owned, load_request, marking, mark_owned, mark, judged, write_back, came_home, probe}
-use Rattle.tcc_serial.proofs.Names.{Commits, CopyOf, passes, is_this}
-use Rattle.tcc_rules.specs.DirDeliver.{commit}
+use Rattle.tcc_serial.proofs.Names.{ℕ, ◌≡◌, ◌≤◌, Bool, true, false, ◌==◌, ◌&&◌, Some, None, if◌then◌else◌, arith, refl, nat_tests, has_mark}
+use Rattle.tcc_serial.proofs.Names.{is_owner, Msg, Skip, Mark, Abort, InvAck, Shape, DirState, Answer, Waits, Drops, Asks, Takes}
+use Rattle.tcc_serial.proofs.Names.{dir_deliver, Commits, CopyOf, passes, is_this, ◌∙◌}
+use Rattle.tcc_serial.proofs.Counts.DirOutcome.{Outcome, Waiting, Spent, AsksOwner, TakesSkip, TakesAbort, TakesProbe, TakesLoad, TakesMark}
+use Rattle.tcc_serial.proofs.Counts.DirOutcome.{TakesCommit, TakesAck, TakesCopy, IsSpent, SkipPassed, AbortPassed, MarkPassed, NoneOwed}
+use Rattle.tcc_serial.proofs.Counts.DirOutcome.{CopyPassed, outcome}
 use Rattle.tcc_serial.proofs.Marks.OwesByCommit.{CountsMarked}
-use Rattle.tcc_serial.proofs.Counts.DirOutcome.{Outcome, Waiting, Spent, AsksOwner, TakesSkip, TakesAbort, TakesProbe, TakesLoad, TakesMark, TakesCommit, TakesAck, TakesCopy, IsSpent, SkipPassed, AbortPassed, MarkPassed, NoneOwed, CopyPassed, IsCopy, Wants, ToLoad, ToMark, outcome, among-to, among-none, none-to, none-invalidations}
-use Rattle.tcc_serial.proofs.Names.{◌∙◌}
 
 abbrev pub NoCommit : Msg → Type 0
 NoCommit m = (t : ℕ) → passes (Commits t) m ≡ false

@@ -1,25 +1,21 @@
 -- Every event keeps that records and messages are at home.
-use Rattle.tcc_serial.proofs.Names.{ℕ, ◌-◌, ◌%◌, ◌≡◌, ◌<◌, ◌⊎◌, Bool, true, false, not, List, [], ◌∷◌, ◌++◌, ◌==◌, ◌&&◌, ◌||◌, Option, Some}
-use Rattle.tcc_serial.proofs.Names.{None, IfSome, nat_lt, nat_le, if◌then◌else◌, arith, refl, ap, inl, inr, cases_eq, nat_tests, Program}
-use Rattle.tcc_serial.proofs.Names.{Local, num, count_below, full, Lines, has_mark, no_lines, unmarked, with_asked, with_mark, with_sharer}
-use Rattle.tcc_serial.proofs.Names.{with_owner, Judgement, judge, IsTaken, IsDropped, IsEarly, skipped, kept, Core, Dir, Event, Msg, TidReq}
-use Rattle.tcc_serial.proofs.Names.{TidGrant, LoadReq, Fill, Skip, Probe, ProbeReply, Mark, Commit, Abort, WriteBack, Flush, DataReq, Inv}
-use Rattle.tcc_serial.proofs.Names.{InvAck, Shape, home, lines, DirState, World, start, dir_start, in_flight, sent_all, Out, core_exec}
-use Rattle.tcc_serial.proofs.Names.{core_evict, from_dir, grant, Sends, nothing, to, Answer, Waits, Drops, Asks, Takes, skip, abort}
-use Rattle.tcc_serial.proofs.Names.{acknowledgement, dir_deliver, moved_on, settled, owned, owed_by, invalidations, is_invalidated, invs_to}
-use Rattle.tcc_serial.proofs.Names.{unless_keeps, ask_owner, line_words, load_owned, load_request, marking, mark_owned, mark, judged}
-use Rattle.tcc_serial.proofs.Names.{write_back, came_home, probe, core_moves, core_takes, dir_takes, step, IsUnknown, HomeOf, KeptHomes}
-use Rattle.tcc_serial.proofs.Names.{LinesAway, NoWord, live, among, passes, Kept, Pair, pair, after_answer, out_taken}
-use Rattle.tcc_rules.specs.DirDeliver.{commit}
-use Rattle.tcc_serial.proofs.Memory.CoreHomes.{Homely, HomelyOut, homely-none, homely-those, homes-exec, homes-evict, homes-grant}
-use Rattle.tcc_serial.proofs.Memory.CoreHomes.{homes-back}
-use Rattle.tcc_serial.proofs.Serving.KeptSteps.{core_of_out}
+use Rattle.tcc_serial.proofs.Names.{ℕ, ◌%◌, ◌≡◌, ◌<◌, ◌⊎◌, Bool, true, false, not, List, [], ◌∷◌, ◌++◌, ◌==◌, ◌&&◌, Option, Some, None}
+use Rattle.tcc_serial.proofs.Names.{IfSome, nat_lt, if◌then◌else◌, arith, refl, ap, inl, inr, cases_eq, nat_tests, Program, Local, num}
+use Rattle.tcc_serial.proofs.Names.{Lines, has_mark, no_lines, Core, Dir, Event, Msg, Fill, ProbeReply, DataReq, Inv, Shape, home, lines}
+use Rattle.tcc_serial.proofs.Names.{DirState, World, start, dir_start, in_flight, sent_all, Out, core_exec, core_evict, from_dir, grant}
+use Rattle.tcc_serial.proofs.Names.{Sends, nothing, to, Answer, Waits, Drops, Asks, Takes, dir_deliver, invalidations, is_invalidated}
+use Rattle.tcc_serial.proofs.Names.{invs_to, line_words, core_moves, core_takes, dir_takes, step, IsUnknown, HomeOf, KeptHomes, LinesAway}
+use Rattle.tcc_serial.proofs.Names.{NoWord, live, among, passes, Kept, Pair, pair, after_answer, out_taken}
+use Rattle.tcc_serial.proofs.Counts.DirOutcome.{Outcome, Waiting, Spent, AsksOwner, TakesSkip, TakesAbort, TakesProbe, TakesLoad, TakesMark}
+use Rattle.tcc_serial.proofs.Counts.DirOutcome.{TakesCommit, TakesAck, TakesCopy, Wants, ToLoad, ToMark, outcome}
 use Rattle.tcc_serial.proofs.Counts.Links.{live-sends, live-takes}
 use Rattle.tcc_serial.proofs.Counts.PairFrames.{pairs_move, pairs_grant, pairs_back, pairs_dir, pairs_asks, pairs_vendor}
 use Rattle.tcc_serial.proofs.Counts.StepCases.{OfAnswer, step_cases}
-use Rattle.tcc_serial.proofs.Tids.TidSteps.{live-some}
+use Rattle.tcc_serial.proofs.Memory.CoreHomes.{Homely, HomelyOut, homely-none, homely-those, homes-exec, homes-evict, homes-grant}
+use Rattle.tcc_serial.proofs.Memory.CoreHomes.{homes-back}
 use Rattle.tcc_serial.proofs.Serving.DirDue.{at-home}
-use Rattle.tcc_serial.proofs.Counts.DirOutcome.{Outcome, Waiting, Spent, AsksOwner, TakesSkip, TakesAbort, TakesProbe, TakesLoad, TakesMark, TakesCommit, TakesAck, TakesCopy, IsSpent, SkipPassed, AbortPassed, MarkPassed, NoneOwed, CopyPassed, IsCopy, Wants, ToLoad, ToMark, outcome, among-to, among-none, none-to, none-invalidations}
+use Rattle.tcc_serial.proofs.Serving.KeptSteps.{core_of_out}
+use Rattle.tcc_serial.proofs.Tids.TidSteps.{live-some}
 
 -- what a directory knows is of lines at home there, and of cores that the machine has
 pub record LinesHome (sh : Shape) (d : ℕ) (ls : Lines) : Type 0 where

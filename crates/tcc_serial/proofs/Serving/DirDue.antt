@@ -1,21 +1,18 @@
 -- What a directory's rules do to what it is owed and to what it sends about marked lines.
-use Rattle.tcc_serial.proofs.Names.{ℕ, zero, suc, ◌+◌, ◌-◌, ◌≡◌, ◌≤◌, ◌%◌, Bool, true, false, not, List, [], ◌∷◌, ◌==◌, ◌&&◌, ◌||◌, Option}
-use Rattle.tcc_serial.proofs.Names.{Some, None, nat_lt, nat_le, cond, if◌then◌else◌, flat_map, arith, refl, ◌∙◌, ◌⊎◌, inl, inr, nat_tests}
-use Rattle.tcc_serial.proofs.Names.{flat_map-append, num, count_below, those, full, Lines, has_mark, with_asked, with_owner, with_sharer}
-use Rattle.tcc_serial.proofs.Names.{with_mark, unmarked, Judgement, judge, IsTaken, IsDropped, IsEarly, advance, skipped, kept, Core, Msg}
-use Rattle.tcc_serial.proofs.Names.{TidReq, TidGrant, LoadReq, Fill, Skip, Probe, ProbeReply, Mark, Commit, Abort, WriteBack, Flush}
-use Rattle.tcc_serial.proofs.Names.{DataReq, Inv, InvAck, Shape, home, lines, DirState, Sends, nothing, to, total, Answer, Waits, Drops}
-use Rattle.tcc_serial.proofs.Names.{Asks, Takes, skip, abort, acknowledgement, dir_deliver, moved_on, settled, owned, owed_by}
-use Rattle.tcc_serial.proofs.Names.{invalidations, invs_to, is_invalidated, unless_keeps, ask_owner, load_owned, load_request, line_words}
-use Rattle.tcc_serial.proofs.Names.{marking, mark_owned, mark, judged, write_back, came_home, probe, Invs, InvsNot, InvsAway, Acks}
-use Rattle.tcc_serial.proofs.Names.{MarksAway, Resolves, among, passes}
-use Rattle.tcc_rules.specs.DirDeliver.{commit}
+use Rattle.tcc_serial.proofs.Names.{ℕ, zero, suc, ◌+◌, ◌-◌, ◌≡◌, ◌≤◌, ◌%◌, Bool, true, false, not, List, [], ◌∷◌, ◌==◌, nat_lt, cond}
+use Rattle.tcc_serial.proofs.Names.{if◌then◌else◌, flat_map, arith, refl, ◌⊎◌, inl, inr, nat_tests, flat_map-append, num, count_below}
+use Rattle.tcc_serial.proofs.Names.{those, Lines, has_mark, advance, kept, Core, Msg, Fill, Skip, ProbeReply, Commit, Abort, DataReq, Inv}
+use Rattle.tcc_serial.proofs.Names.{Shape, home, lines, DirState, Sends, nothing, total, Answer, Waits, Drops, Asks, Takes, dir_deliver}
+use Rattle.tcc_serial.proofs.Names.{owed_by, invalidations, invs_to, is_invalidated, line_words, Invs, InvsNot, InvsAway, Acks, MarksAway}
+use Rattle.tcc_serial.proofs.Names.{Resolves, among, passes}
+use Rattle.tcc_serial.proofs.Counts.DirOutcome.{Outcome, Waiting, Spent, AsksOwner, TakesSkip, TakesAbort, TakesProbe, TakesLoad, TakesMark}
+use Rattle.tcc_serial.proofs.Counts.DirOutcome.{TakesCommit, TakesAck, TakesCopy, IsSpent, SkipPassed, AbortPassed, MarkPassed, NoneOwed}
+use Rattle.tcc_serial.proofs.Counts.DirOutcome.{CopyPassed, outcome, among-none, none-to}
 use Rattle.tcc_serial.proofs.Counts.Links.{among-append, total-zero, total-same, among-fewer}
+use Rattle.tcc_serial.proofs.Counts.PairFrames.{same}
 use Rattle.tcc_serial.proofs.Counts.Sent.{among-flat_map_none}
 use Rattle.tcc_serial.proofs.Serving.CoreDue.{among-those_none}
 use Rattle.tcc_serial.proofs.Tids.DirTids.{OnceAt, unserved}
-use Rattle.tcc_serial.proofs.Counts.DirOutcome.{Outcome, Waiting, Spent, AsksOwner, TakesSkip, TakesAbort, TakesProbe, TakesLoad, TakesMark, TakesCommit, TakesAck, TakesCopy, IsSpent, SkipPassed, AbortPassed, MarkPassed, NoneOwed, CopyPassed, IsCopy, Wants, ToLoad, ToMark, outcome, among-to, among-none, none-to, none-invalidations}
-use Rattle.tcc_serial.proofs.Counts.PairFrames.{same}
 
 -- the invalidations in what is sent to all cores
 abbrev pub invs_sent : Shape → Sends → ℕ

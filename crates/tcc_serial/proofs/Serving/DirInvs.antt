@@ -1,16 +1,12 @@
 -- A directory sends invalidations only where it takes the Commit of the served TID, and none to the core that commits.
-use Rattle.tcc_serial.proofs.Names.{ℕ, ◌-◌, ◌≡◌, Bool, true, false, not, List, [], ◌∷◌, ◌==◌, ◌&&◌, ◌||◌, Option, Some, None, nat_lt}
-use Rattle.tcc_serial.proofs.Names.{nat_le, if◌then◌else◌, arith, refl, ◌⊎◌, inl, inr, nat_tests, count_below, full, Lines, has_mark}
-use Rattle.tcc_serial.proofs.Names.{with_asked, Judgement, judge, IsTaken, IsDropped, IsEarly, skipped, kept, Core, Msg, TidReq, TidGrant}
-use Rattle.tcc_serial.proofs.Names.{LoadReq, Fill, Skip, Probe, ProbeReply, Mark, Commit, Abort, WriteBack, Flush, DataReq, Inv, InvAck}
-use Rattle.tcc_serial.proofs.Names.{Shape, lines, DirState, Sends, nothing, to, Answer, Waits, Drops, Asks, Takes, skip, abort}
-use Rattle.tcc_serial.proofs.Names.{acknowledgement, dir_deliver, moved_on, settled, owned, owed_by, invalidations, invs_to, is_invalidated}
-use Rattle.tcc_serial.proofs.Names.{unless_keeps, ask_owner, load_owned, load_request, line_words, marking, mark_owned, mark, judged}
-use Rattle.tcc_serial.proofs.Names.{write_back, probe, Invs, Commits, among, passes}
-use Rattle.tcc_rules.specs.DirDeliver.{commit}
-use Rattle.tcc_serial.proofs.Counts.Sent.{those-none}
-use Rattle.tcc_serial.proofs.Counts.DirOutcome.{Outcome, Waiting, Spent, AsksOwner, TakesSkip, TakesAbort, TakesProbe, TakesLoad, TakesMark, TakesCommit, TakesAck, TakesCopy, IsSpent, SkipPassed, AbortPassed, MarkPassed, NoneOwed, CopyPassed, IsCopy, Wants, ToLoad, ToMark, outcome, among-to, among-none, none-to, none-invalidations}
+use Rattle.tcc_serial.proofs.Names.{ℕ, ◌≡◌, Bool, true, false, not, ◌==◌, ◌&&◌, nat_lt, arith, refl, ◌⊎◌, inl, inr, nat_tests, Lines}
+use Rattle.tcc_serial.proofs.Names.{has_mark, Core, Msg, Fill, ProbeReply, DataReq, Shape, lines, DirState, Sends, nothing, Answer, Waits}
+use Rattle.tcc_serial.proofs.Names.{Drops, Asks, Takes, dir_deliver, invalidations, invs_to, is_invalidated, line_words, Invs, Commits}
+use Rattle.tcc_serial.proofs.Names.{among, passes}
+use Rattle.tcc_serial.proofs.Counts.DirOutcome.{Outcome, Waiting, Spent, AsksOwner, TakesSkip, TakesAbort, TakesProbe, TakesLoad, TakesMark}
+use Rattle.tcc_serial.proofs.Counts.DirOutcome.{TakesCommit, TakesAck, TakesCopy, outcome, among-none, none-to}
 use Rattle.tcc_serial.proofs.Counts.PairFrames.{same}
+use Rattle.tcc_serial.proofs.Counts.Sent.{those-none}
 
 -- no invalidation, or those of a Commit of the served TID, none of them to its core
 abbrev pub Quiet : Sends → Type 0

@@ -1,17 +1,10 @@
 -- The served TID only rises, and a directory replies to a probe once it has reached its TID.
-use Rattle.tcc_serial.proofs.Names.{ℕ, ◌-◌, ◌≡◌, ◌≤◌, Bool, true, false, List, [], ◌∷◌, ◌==◌, ◌&&◌, ◌||◌, Option, Some, None, nat_lt}
-use Rattle.tcc_serial.proofs.Names.{nat_le, if◌then◌else◌, arith, refl, nat_tests, num, count_below, those, full, Lines, has_mark}
-use Rattle.tcc_serial.proofs.Names.{with_asked, with_sharer, Judgement, judge, IsTaken, IsDropped, IsEarly, advance, skipped, kept}
-use Rattle.tcc_serial.proofs.Names.{advance-rises, Core, Msg, TidReq, TidGrant, LoadReq, Fill, Skip, Probe, ProbeReply, Mark, Commit, Abort}
-use Rattle.tcc_serial.proofs.Names.{WriteBack, Flush, DataReq, Inv, InvAck, Shape, lines, DirState, Link, Sends, nothing, to, Answer, Waits}
-use Rattle.tcc_serial.proofs.Names.{Drops, Asks, Takes, skip, abort, acknowledgement, dir_deliver, moved_on, settled, owned, owed_by}
-use Rattle.tcc_serial.proofs.Names.{invalidations, invs_to, is_invalidated, unless_keeps, ask_owner, load_owned, load_request, line_words}
-use Rattle.tcc_serial.proofs.Names.{marking, mark_owned, mark, judged, write_back, came_home, probe, RepliesAbove, among, live, passes}
-use Rattle.tcc_rules.specs.DirDeliver.{commit}
-use Rattle.tcc_serial.proofs.Counts.Sent.{among-flat_map_none}
+use Rattle.tcc_serial.proofs.Names.{ℕ, ◌≡◌, ◌≤◌, Bool, true, false, [], if◌then◌else◌, arith, refl, nat_tests, num, advance, kept}
+use Rattle.tcc_serial.proofs.Names.{advance-rises, Core, Msg, Fill, ProbeReply, DataReq, Shape, DirState, Link, Sends, nothing, Answer}
+use Rattle.tcc_serial.proofs.Names.{Waits, Drops, Asks, Takes, dir_deliver, line_words, RepliesAbove, among, live, passes, Serving}
+use Rattle.tcc_serial.proofs.Counts.DirOutcome.{Outcome, Waiting, Spent, AsksOwner, TakesSkip, TakesAbort, TakesProbe, TakesLoad, TakesMark}
+use Rattle.tcc_serial.proofs.Counts.DirOutcome.{TakesCommit, TakesAck, TakesCopy, outcome, among-none, none-to, none-invalidations}
 use Rattle.tcc_serial.proofs.Counts.Links.{live-fewer}
-use Rattle.tcc_serial.proofs.Counts.DirOutcome.{Outcome, Waiting, Spent, AsksOwner, TakesSkip, TakesAbort, TakesProbe, TakesLoad, TakesMark, TakesCommit, TakesAck, TakesCopy, IsSpent, SkipPassed, AbortPassed, MarkPassed, NoneOwed, CopyPassed, IsCopy, Wants, ToLoad, ToMark, outcome, among-to, among-none, none-to, none-invalidations}
-use Rattle.tcc_serial.proofs.Names.{Serving}
 
 -- no reply of a TID above the served one
 pub record Rises (s new : DirState) (sends : Sends) : Type 0 where

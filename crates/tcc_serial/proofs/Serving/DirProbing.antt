@@ -1,15 +1,10 @@
 -- A directory replies to a probe where it takes it, and to nothing else.
-use Rattle.tcc_serial.proofs.Names.{ℕ, ◌-◌, ◌≡◌, Bool, true, false, List, [], ◌∷◌, ◌==◌, ◌&&◌, ◌||◌, Option, Some, None, nat_lt, nat_le}
-use Rattle.tcc_serial.proofs.Names.{if◌then◌else◌, arith, refl, nat_tests, num, count_below, those, full, Lines, has_mark, with_asked}
-use Rattle.tcc_serial.proofs.Names.{Judgement, judge, IsTaken, IsDropped, IsEarly, skipped, kept, Core, Msg, TidReq, TidGrant, LoadReq}
-use Rattle.tcc_serial.proofs.Names.{Fill, Skip, Probe, ProbeReply, Mark, Commit, Abort, WriteBack, Flush, DataReq, Inv, InvAck, Shape}
-use Rattle.tcc_serial.proofs.Names.{lines, DirState, Sends, nothing, to, Answer, Waits, Drops, Asks, Takes, skip, abort, acknowledgement}
-use Rattle.tcc_serial.proofs.Names.{dir_deliver, moved_on, settled, owned, owed_by, invalidations, invs_to, is_invalidated, unless_keeps}
-use Rattle.tcc_serial.proofs.Names.{ask_owner, load_owned, load_request, line_words, marking, mark_owned, mark, judged, write_back, probe}
-use Rattle.tcc_serial.proofs.Names.{Probes, Replies, among, passes}
-use Rattle.tcc_rules.specs.DirDeliver.{commit}
-use Rattle.tcc_serial.proofs.Counts.Sent.{among-flat_map_none}
-use Rattle.tcc_serial.proofs.Counts.DirOutcome.{Outcome, Waiting, Spent, AsksOwner, TakesSkip, TakesAbort, TakesProbe, TakesLoad, TakesMark, TakesCommit, TakesAck, TakesCopy, IsSpent, SkipPassed, AbortPassed, MarkPassed, NoneOwed, CopyPassed, IsCopy, Wants, ToLoad, ToMark, outcome, among-to, among-none, none-to, none-invalidations}
+use Rattle.tcc_serial.proofs.Names.{ℕ, ◌≡◌, false, [], refl, num, Core, Msg, LoadReq, Fill, Skip, ProbeReply, Mark, Abort, DataReq, InvAck}
+use Rattle.tcc_serial.proofs.Names.{Shape, DirState, Sends, nothing, Answer, Waits, Drops, Asks, Takes, dir_deliver, line_words, Probes}
+use Rattle.tcc_serial.proofs.Names.{Replies, among, passes}
+use Rattle.tcc_serial.proofs.Counts.DirOutcome.{Outcome, Waiting, Spent, AsksOwner, TakesSkip, TakesAbort, TakesProbe, TakesLoad, TakesMark}
+use Rattle.tcc_serial.proofs.Counts.DirOutcome.{TakesCommit, TakesAck, TakesCopy, IsSpent, SkipPassed, AbortPassed, MarkPassed, NoneOwed}
+use Rattle.tcc_serial.proofs.Counts.DirOutcome.{CopyPassed, outcome, among-to, among-none, none-to, none-invalidations}
 use Rattle.tcc_serial.proofs.Counts.PairFrames.{same, differ}
 
 -- the reply to a probe that was taken, to its core alone

@@ -1,14 +1,11 @@
 -- What a directory's rules do to the TIDs that it has handled.
-use Rattle.tcc_serial.proofs.Names.{ℕ, ◌+◌, ◌-◌, ◌≡◌, ◌<◌, ◌≤◌, Bool, true, false, List, [], ◌∷◌, ◌==◌, ◌&&◌, ◌||◌, nat_lt, nat_le, Option}
-use Rattle.tcc_serial.proofs.Names.{Some, None, if◌then◌else◌, arith, refl, ap, nat_tests, num, count_below, has_mark, with_asked, full}
-use Rattle.tcc_serial.proofs.Names.{Judgement, judge, IsTaken, IsDropped, IsEarly, Serving, advance, kept, skipped, is_skipped, Core, Msg}
-use Rattle.tcc_serial.proofs.Names.{TidReq, TidGrant, LoadReq, Fill, Skip, Probe, ProbeReply, Mark, Commit, Abort, WriteBack, Flush}
-use Rattle.tcc_serial.proofs.Names.{DataReq, Inv, InvAck, Shape, lines, advance-rises, advance-past, advance-stops, advance-keeps}
-use Rattle.tcc_serial.proofs.Names.{kept-skips, DirState, Answer, Waits, Drops, Asks, Takes, skip, abort, acknowledgement, dir_deliver}
-use Rattle.tcc_serial.proofs.Names.{moved_on, settled, owned, owed_by, invalidations, unless_keeps, ask_owner, load_owned, load_request}
-use Rattle.tcc_serial.proofs.Names.{marking, mark_owned, mark, judged, write_back, came_home, probe, nothing, to, Resolves, passes, handled}
-use Rattle.tcc_rules.specs.DirDeliver.{commit}
-use Rattle.tcc_serial.proofs.Counts.DirOutcome.{Outcome, Waiting, Spent, AsksOwner, TakesSkip, TakesAbort, TakesProbe, TakesLoad, TakesMark, TakesCommit, TakesAck, TakesCopy, IsSpent, SkipPassed, AbortPassed, MarkPassed, NoneOwed, CopyPassed, IsCopy, Wants, ToLoad, ToMark, outcome, among-to, among-none, none-to, none-invalidations}
+use Rattle.tcc_serial.proofs.Names.{ℕ, ◌+◌, ◌-◌, ◌≡◌, ◌<◌, ◌≤◌, Bool, true, false, ◌==◌, ◌||◌, nat_lt, if◌then◌else◌, arith, refl, ap}
+use Rattle.tcc_serial.proofs.Names.{nat_tests, num, count_below, has_mark, Serving, advance, kept, is_skipped, Msg, Skip, Commit, Abort}
+use Rattle.tcc_serial.proofs.Names.{Shape, lines, advance-rises, advance-past, advance-stops, advance-keeps, kept-skips, DirState, Answer}
+use Rattle.tcc_serial.proofs.Names.{Waits, Drops, Asks, Takes, dir_deliver, owed_by, Resolves, passes, handled}
+use Rattle.tcc_serial.proofs.Counts.DirOutcome.{Outcome, Waiting, Spent, AsksOwner, TakesSkip, TakesAbort, TakesProbe, TakesLoad, TakesMark}
+use Rattle.tcc_serial.proofs.Counts.DirOutcome.{TakesCommit, TakesAck, TakesCopy, IsSpent, SkipPassed, AbortPassed, MarkPassed, NoneOwed}
+use Rattle.tcc_serial.proofs.Counts.DirOutcome.{CopyPassed, outcome}
 use Rattle.tcc_serial.proofs.Counts.PairFrames.{same}
 
 pub skipped-above : (s : Serving) (t : ℕ) → is_skipped s t ≡ true → s.serving < t

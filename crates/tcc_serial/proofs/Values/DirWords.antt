@@ -1,14 +1,9 @@
 -- What a directory's rules do to a home word: it stays, and no copy of it is consumed; or a copy with its line's tag comes home.
-use Rattle.tcc_serial.proofs.Names.{ℕ, ◌-◌, ◌≡◌, Bool, true, false, not, List, [], ◌∷◌, ◌==◌, ◌&&◌, ◌||◌, Option, Some, None, nat_lt}
-use Rattle.tcc_serial.proofs.Names.{nat_le, get_or, if◌then◌else◌, arith, refl, ◌∙◌, nat_tests, count_below, line_of, place_of, full, hit}
-use Rattle.tcc_serial.proofs.Names.{has_mark, with_asked, with_mark, with_sharer, unmarked, judge, is_owner, IsTaken, IsDropped, IsEarly}
-use Rattle.tcc_serial.proofs.Names.{skipped, kept, Core, Msg, TidReq, TidGrant, LoadReq, Fill, Skip, Probe, ProbeReply, Mark, Commit, Abort}
-use Rattle.tcc_serial.proofs.Names.{WriteBack, Flush, DataReq, Inv, InvAck, Shape, lines, DirState, nothing, to, Answer, Waits, Drops, Asks}
-use Rattle.tcc_serial.proofs.Names.{Takes, skip, abort, acknowledgement, dir_deliver, moved_on, settled, owned, owed_by, invalidations}
-use Rattle.tcc_serial.proofs.Names.{unless_keeps, ask_owner, load_owned, load_request, marking, mark_owned, mark, judged, write_back}
-use Rattle.tcc_serial.proofs.Names.{came_home, probe, CopyWord, CopyNot, passes, hit-line}
-use Rattle.tcc_rules.specs.DirDeliver.{commit}
-use Rattle.tcc_serial.proofs.Counts.DirOutcome.{Outcome, Waiting, Spent, AsksOwner, TakesSkip, TakesAbort, TakesProbe, TakesLoad, TakesMark, TakesCommit, TakesAck, TakesCopy, IsSpent, SkipPassed, AbortPassed, MarkPassed, NoneOwed, CopyPassed, IsCopy, Wants, ToLoad, ToMark, outcome, among-to, among-none, none-to, none-invalidations}
+use Rattle.tcc_serial.proofs.Names.{ℕ, ◌≡◌, Bool, true, false, not, List, ◌==◌, get_or, if◌then◌else◌, arith, refl, ◌∙◌, nat_tests, line_of}
+use Rattle.tcc_serial.proofs.Names.{place_of, hit, Msg, Shape, DirState, Answer, Waits, Drops, Asks, Takes, dir_deliver, CopyWord, CopyNot}
+use Rattle.tcc_serial.proofs.Names.{passes, hit-line}
+use Rattle.tcc_serial.proofs.Counts.DirOutcome.{Outcome, Waiting, Spent, AsksOwner, TakesSkip, TakesAbort, TakesProbe, TakesLoad, TakesMark}
+use Rattle.tcc_serial.proofs.Counts.DirOutcome.{TakesCommit, TakesAck, TakesCopy, IsCopy, outcome}
 
 pub data HomeBy (s : DirState) (m : Msg) (x : ℕ) (new : DirState) : Type 0 where
   Left : new.words x ≡ s.words x → ((t : ℕ) → passes (CopyWord x t) m ≡ false) → HomeBy s m x new

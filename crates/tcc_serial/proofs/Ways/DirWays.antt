@@ -1,18 +1,13 @@
 -- What a directory keeps as skipped is a TID of which a Skip or an Abort came, and it is owed acknowledgements only for one whose
 -- Commit came.
-use Rattle.tcc_serial.proofs.Names.{ℕ, ◌+◌, ◌-◌, ◌≡◌, ◌<◌, ◌≤◌, Bool, true, false, List, [], ◌∷◌, ◌==◌, ◌&&◌, ◌||◌, nat_lt, nat_le, Option}
-use Rattle.tcc_serial.proofs.Names.{Some, None, if◌then◌else◌, arith, refl, nat_tests, num, count_below, has_mark, with_asked, full}
-use Rattle.tcc_serial.proofs.Names.{Judgement, judge, IsTaken, IsDropped, IsEarly, Serving, advance, kept, skipped, is_skipped, Core, Msg}
-use Rattle.tcc_serial.proofs.Names.{TidReq, TidGrant, LoadReq, Fill, Skip, Probe, ProbeReply, Mark, Commit, Abort, WriteBack, Flush}
-use Rattle.tcc_serial.proofs.Names.{DataReq, Inv, InvAck, Shape, lines, advance-rises, kept-skips, DirState, Answer, Waits, Drops, Asks}
-use Rattle.tcc_serial.proofs.Names.{Takes, skip, abort, acknowledgement, dir_deliver, moved_on, settled, owned, owed_by, invalidations}
-use Rattle.tcc_serial.proofs.Names.{unless_keeps, ask_owner, load_owned, load_request, marking, mark_owned, mark, judged, write_back}
-use Rattle.tcc_serial.proofs.Names.{came_home, probe, nothing, to, Skips, Aborts, Commits, passes}
-use Rattle.tcc_rules.specs.DirDeliver.{commit}
-use Rattle.tcc_serial.proofs.Tids.DirTids.{OnceAt, unserved, advance-count}
-use Rattle.tcc_serial.proofs.Counts.DirOutcome.{Outcome, Waiting, Spent, AsksOwner, TakesSkip, TakesAbort, TakesProbe, TakesLoad, TakesMark, TakesCommit, TakesAck, TakesCopy, IsSpent, SkipPassed, AbortPassed, MarkPassed, NoneOwed, CopyPassed, IsCopy, Wants, ToLoad, ToMark, outcome, among-to, among-none, none-to, none-invalidations}
+use Rattle.tcc_serial.proofs.Names.{ℕ, ◌+◌, ◌-◌, ◌≡◌, ◌<◌, ◌≤◌, Bool, true, false, ◌==◌, ◌&&◌, nat_lt, if◌then◌else◌, arith, refl}
+use Rattle.tcc_serial.proofs.Names.{nat_tests, num, Serving, advance, kept, is_skipped, Msg, LoadReq, Skip, Probe, Mark, Abort, InvAck}
+use Rattle.tcc_serial.proofs.Names.{Shape, advance-rises, kept-skips, DirState, Answer, Waits, Drops, Asks, Takes, dir_deliver, owed_by}
+use Rattle.tcc_serial.proofs.Names.{Skips, Aborts, Commits, passes, Resolves}
+use Rattle.tcc_serial.proofs.Counts.DirOutcome.{Outcome, Waiting, Spent, AsksOwner, TakesSkip, TakesAbort, TakesProbe, TakesLoad, TakesMark}
+use Rattle.tcc_serial.proofs.Counts.DirOutcome.{TakesCommit, TakesAck, TakesCopy, outcome}
 use Rattle.tcc_serial.proofs.Counts.PairFrames.{same}
-use Rattle.tcc_serial.proofs.Names.{Resolves}
+use Rattle.tcc_serial.proofs.Tids.DirTids.{OnceAt, unserved, advance-count}
 
 -- the directory serves the TID, and is owed acknowledgements for it
 abbrev pub owes : DirState → (tid : ℕ) → ℕ
