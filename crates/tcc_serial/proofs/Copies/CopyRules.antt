@@ -33,13 +33,7 @@ ended sh l s r e = conserves-still sh l s (moves (record r { phase = AwaitTid })
 
 closed : (sh : Shape) (l id : ℕ) (q : Phase) (b : Bool) (s r : CoreState) → InMemory sh l → r.cache ≡ s.cache → Words sh b r.cache r.spilled r.stores → Conserves sh l s (close sh id q r)
 closed sh l id (Solo t) b s r m e w = let x = alone-copies sh b l id t r (m.line) (m.home) w in record { copies = λ u. rw (sym e) (x.copies u); wrong = λ u n. rw (sym e) (x.wrong u n) }
-closed sh l id Running b s r m e w = ended sh l s r e
-closed sh l id AwaitTid b s r m e w = ended sh l s r e
-closed sh l id DoomedTid b s r m e w = ended sh l s r e
-closed sh l id (Probing t) b s r m e w = ended sh l s r e
-closed sh l id (Ready t) b s r m e w = ended sh l s r e
-closed sh l id (Overflowing t) b s r m e w = ended sh l s r e
-closed sh l id Halted b s r m e w = ended sh l s r e
+closed sh l id _ b s r m e w = ended sh l s r e
 
 executes : (sh : Shape) (l : ℕ) (p : Program) (id : ℕ) (s : CoreState) → InMemory sh l → OneCore sh s → IfSome (execute sh p id s) (Conserves sh l s)
 unfolding execute finished stepped among
@@ -257,14 +251,4 @@ copies-back sh l e s (ProbeReply t v) h = Kept (reply-copies sh l e t s)
 copies-back sh l e s (Fill k ws) h = Kept (fill-copies sh l k ws s)
 copies-back sh l e s (DataReq k) h = Kept (data-copies sh l k s)
 copies-back sh l e s (Inv k m u) h = invalid-copies sh l k m u s h
-copies-back sh l e s TidReq h = tt
-copies-back sh l e s (TidGrant t) h = tt
-copies-back sh l e s (LoadReq x a) h = tt
-copies-back sh l e s (Skip t) h = tt
-copies-back sh l e s (Probe t) h = tt
-copies-back sh l e s (Mark x m t) h = tt
-copies-back sh l e s (Commit t n) h = tt
-copies-back sh l e s (Abort t) h = tt
-copies-back sh l e s (WriteBack x m ws t) h = tt
-copies-back sh l e s (Flush x m ws t) h = tt
-copies-back sh l e s (InvAck x b) h = tt
+copies-back sh l e s _ h = tt

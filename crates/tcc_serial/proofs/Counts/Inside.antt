@@ -16,10 +16,9 @@ abbrev pub SendsInside : Shape → Sends → Type 0
 SendsInside sh sends = (j : ℕ) → sh.cores ≤ j → among Any (sends (Core j)) ≡ 0
 
 abbrev pub AnswersInside : Shape → Answer → Type 0
-AnswersInside sh Waits = Unit {0}
-AnswersInside sh Drops = Unit {0}
 AnswersInside sh (Asks new sends) = SendsInside sh sends × OwnersInside sh new
 AnswersInside sh (Takes new sends) = SendsInside sh sends × OwnersInside sh new
+AnswersInside sh _ = Unit {0}
 
 quiet-inside : (sh : Shape) → SendsInside sh nothing
 unfolding among
@@ -44,6 +43,7 @@ invalidations-inside sh ls c t j l = rw (those-none (is_invalidated sh ls c j) (
     none k = is_invalidated-outside sh ls c j k outside
 
 pub dir-inside : (sh : Shape) (s : DirState) (c : ℕ) (m : Msg) → c < sh.cores → OwnersInside sh s → AnswersInside sh (dir_deliver sh s c m)
+<<<<<<< HEAD
 dir-inside sh s c m l h = go (outcome sh s c m)
   where
     taken : (x o : ℕ) (b : Bool) → (if b then Some c else s.lines.owner x) ≡ Some o → o < sh.cores
@@ -66,3 +66,16 @@ dir-inside sh s c m l h = go (outcome sh s c m)
     go (TakesCommit b e) = (invalidations-inside sh s.lines c s.serving.serving, λ x o q. taken x o (has_mark s.lines x) q)
     go (TakesAck k x b i e) = (quiet-inside sh, h)
     go (TakesCopy m k n ws g y e o) = (quiet-inside sh, λ x o q. came x o (x == k) q)
+=======
+unfolding dir_deliver
+dir-inside sh s c (Skip u) i h = skip-inside sh u s h
+dir-inside sh s c (Abort u) i h = abort-inside sh u s h
+dir-inside sh s c (Probe u) i h = probe-inside sh c u s i h
+dir-inside sh s c (LoadReq l a) i h = load-inside sh c l a s i h
+dir-inside sh s c (Mark l k u) i h = mark-inside sh l k u s h
+dir-inside sh s c (Commit u n) i h = commit-inside sh c u n s i h
+dir-inside sh s c (InvAck l b) i h = ack-inside sh c l b s h
+dir-inside sh s c (WriteBack l k ws g) i h = back-inside sh c l k ws g s h
+dir-inside sh s c (Flush l k ws g) i h = back-inside sh c l k ws g s h
+dir-inside sh s c _ i h = tt
+>>>>>>> d44addaf3ee64b4f00b5bf5044d851cc1b82ede7

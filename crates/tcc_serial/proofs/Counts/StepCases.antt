@@ -17,9 +17,7 @@ OfAnswer w c d k R (Takes s sends) = R (dir_takes w c d k s sends)
 
 pub step_answer : (w : World) (c d k : ℕ) (R : Stepped → Type 0) (a : Answer) → OfAnswer w c d k (λ v. R (record { world = v; noted = None })) a → IfSome (answered w c d k a) R
 step_answer w c d k R Waits h = tt
-step_answer w c d k R Drops h = h
-step_answer w c d k R (Asks s sends) h = h
-step_answer w c d k R (Takes s sends) h = h
+step_answer w c d k R _ h = h
 
 step_moved : (w : World) (c : ℕ) (R : Sends → Stepped → Type 0) (o : Option Out) → IfSome o (λ x. R x.sends (record { world = core_moves w c x; noted = x.commit })) → IfSome (moved w c o) (R (sends_of o))
 step_moved w c R None h = tt

@@ -30,17 +30,7 @@ asked-clean sh e l s (DataReq k) q = clean-frame (cleaned k s.cache) l (λ i j. 
 asked-clean sh e l s (ProbeReply t v) q = absurd (cc)
 asked-clean sh e l s (Fill k ws) q = absurd (cc)
 asked-clean sh e l s (Inv k m u) q = absurd (cc)
-asked-clean sh e l s TidReq q = tt
-asked-clean sh e l s (TidGrant t) q = tt
-asked-clean sh e l s (LoadReq k a) q = tt
-asked-clean sh e l s (Skip t) q = tt
-asked-clean sh e l s (Probe t) q = tt
-asked-clean sh e l s (Mark k m t) q = tt
-asked-clean sh e l s (Commit t n) q = tt
-asked-clean sh e l s (Abort t) q = tt
-asked-clean sh e l s (WriteBack k m ws t) q = tt
-asked-clean sh e l s (Flush k m ws t) q = tt
-asked-clean sh e l s (InvAck k b) q = tt
+asked-clean sh e l s _ q = tt
 
 -- the request is taken: then the owner's one copy is on its way
 gets-answered : (base : ℕ) (cs : List Noted) (c l : ℕ) (v : Pair) → LineCopies base cs c l v → ((t : ℕ) → frame_copy v.core.cache l t ≡ 0) → GetsOf c l v

@@ -16,12 +16,12 @@ abbrev pub OwnsFrom : DirState → (core : ℕ) → Msg → DirState → Type 0
 OwnsFrom old c m new = (l j : ℕ) → new.lines.owner l ≡ Some j → ((old.lines.owner l ≡ Some j) × (new.lines.tag l ≡ old.lines.tag l)) ⊎ ((j ≡ c) × (passes (Commits (new.lines.tag l)) m ≡ true))
 
 abbrev pub OwnsBy : DirState → (core : ℕ) → Msg → Answer → Type 0
-OwnsBy old c m Waits = Unit {0}
-OwnsBy old c m Drops = Unit {0}
 OwnsBy old c m (Asks new sends) = OwnsFrom old c m new
 OwnsBy old c m (Takes new sends) = OwnsFrom old c m new
+OwnsBy old c m _ = Unit {0}
 
 dir-owns : (sh : Shape) (s : DirState) (c : ℕ) (m : Msg) → OwnsBy s c m (dir_deliver sh s c m)
+<<<<<<< HEAD
 unfolding passes
 dir-owns sh s c m = go (outcome sh s c m)
   where
@@ -45,6 +45,19 @@ dir-owns sh s c m = go (outcome sh s c m)
     go (TakesCommit b e) = λ x j q. taken x j (has_mark s.lines x) q
     go (TakesAck l k b i e) = λ x j q. inl (q, refl)
     go (TakesCopy m l k ws g y e o) = λ x j q. inl (came x j (x == l) q, refl)
+=======
+unfolding dir_deliver
+dir-owns sh s c (Skip u) = skip-owns u c (Skip u) s
+dir-owns sh s c (Abort u) = abort-owns u c (Abort u) s
+dir-owns sh s c (Probe u) = probe-owns c u (Probe u) s
+dir-owns sh s c (LoadReq l x) = load-owns c l x (LoadReq l x) s
+dir-owns sh s c (Mark l k u) = mark-owns l k u c (Mark l k u) s
+dir-owns sh s c (Commit u n) = commit-owns sh c u n s
+dir-owns sh s c (InvAck l b) = ack-owns c l b (InvAck l b) s
+dir-owns sh s c (WriteBack l k ws g) = back-owns c l k ws g (WriteBack l k ws g) s
+dir-owns sh s c (Flush l k ws g) = back-owns c l k ws g (Flush l k ws g) s
+dir-owns sh s c _ = tt
+>>>>>>> d44addaf3ee64b4f00b5bf5044d851cc1b82ede7
 
 -- the owners of one directory's lines
 abbrev LineOwners : List Grant → DirState → Type 0

@@ -12,20 +12,7 @@ use Rattle.tcc_serial.proofs.Tids.TidSteps.{live-some}
 fill-away : (n e l : ℕ) (m : Msg) → passes (FillOf l) m ≡ true → passes (LinesAway n e) m ≡ not ((l % n) == e)
 unfolding passes
 fill-away n e l (Fill k ws) q = let y : k ≡ l = grind (arith, nat_tests) in rw y refl
-fill-away n e l TidReq q = absurd (cc)
-fill-away n e l (TidGrant t) q = absurd (cc)
-fill-away n e l (LoadReq k a) q = absurd (cc)
-fill-away n e l (Skip t) q = absurd (cc)
-fill-away n e l (Probe t) q = absurd (cc)
-fill-away n e l (ProbeReply t v) q = absurd (cc)
-fill-away n e l (Mark k m t) q = absurd (cc)
-fill-away n e l (Commit t k) q = absurd (cc)
-fill-away n e l (Abort t) q = absurd (cc)
-fill-away n e l (WriteBack k m ws t) q = absurd (cc)
-fill-away n e l (Flush k m ws t) q = absurd (cc)
-fill-away n e l (DataReq k) q = absurd (cc)
-fill-away n e l (Inv k m t) q = absurd (cc)
-fill-away n e l (InvAck k b) q = absurd (cc)
+fill-away n e l _ q = absurd (cc)
 
 -- a Fill comes from the line's home
 fill-home : (sh : Shape) (w : World) (c e k l : ℕ) (m : Msg) → KeptHomes sh w → in_flight w.net (Dir e) (Core c) k ≡ Some m → passes (FillOf l) m ≡ true → home sh l ≡ e

@@ -93,14 +93,9 @@ asks-counted sh gs w d s sends a h z u o = pairs_asks (λ j e v. (t : ℕ) → j
     new = dir_asks w d s sends
 
 waits-not : (q : Phase) → may_commit q ≡ true → awaits_replies q ≡ false
-waits-not (Ready t) e = refl
-waits-not (Solo t) e = refl
-waits-not Running e = refl
-waits-not AwaitTid e = refl
-waits-not DoomedTid e = refl
-waits-not Halted e = refl
 waits-not (Probing t) e = absurd (cc)
 waits-not (Overflowing t) e = absurd (cc)
+waits-not _ e = refl
 
 taken-back : (sh : Shape) (d t k : ℕ) (v : Pair) → CountedOf sh d t v → CountedOf sh d t (back_taken v k)
 unfolding marks_of

@@ -53,17 +53,7 @@ acks-line sh e d l s (ProbeReply u v) h = none-of l d sh ((probe_reply sh e u s)
 acks-line sh e d l s (Fill k ws) h = none-of l d sh ((fill k ws s).sends (Dir d)) _ (clean-steady sh s (fill k ws s) (fill-steady k ws s) d)
 acks-line sh e d l s (DataReq k) h = none-of l d sh ((data_request sh k s).sends (Dir d)) _ (clean-steady sh s (data_request sh k s) (data-steady sh k s) d)
 acks-line sh e d l s (Inv k m u) h = let q : home sh k ≡ e = at-home sh e k m u h in rw (← q) (acks-of sh k l d s (invalidate sh k m u s) (invalidate-cases sh k m u s))
-acks-line sh e d l s TidReq h = tt
-acks-line sh e d l s (TidGrant u) h = tt
-acks-line sh e d l s (LoadReq k a) h = tt
-acks-line sh e d l s (Skip u) h = tt
-acks-line sh e d l s (Probe u) h = tt
-acks-line sh e d l s (Mark k m u) h = tt
-acks-line sh e d l s (Commit u n) h = tt
-acks-line sh e d l s (Abort u) h = tt
-acks-line sh e d l s (WriteBack k m ws u) h = tt
-acks-line sh e d l s (Flush k m ws u) h = tt
-acks-line sh e d l s (InvAck k b) h = tt
+acks-line sh e d l s _ h = tt
 
 -- a directory invalidates marked lines, once each and with their masks, where it takes a Commit, and else none
 
@@ -101,10 +91,9 @@ names-invs sh ls c u j l = (omega (arith, one-inv (is_invalidated sh ls c j) ls.
     marked = grind arith
 
 abbrev pub NamesBy : DirState → Msg → Answer → Type 0
-NamesBy s m Waits = Unit {0}
-NamesBy s m Drops = Unit {0}
 NamesBy s m (Asks new sends) = Quiet sends
 NamesBy s m (Takes new sends) = Quiet sends ⊎ ((passes (Resolves s.serving.serving) m ≡ true) × ((j : ℕ) → Names s.lines (sends (Core j))))
+NamesBy s m _ = Unit {0}
 
 names-commit : (sh : Shape) (c u n : ℕ) (s : DirState) → NamesBy s (Commit u n) (commit sh c u n s)
 unfolding commit passes
@@ -120,11 +109,10 @@ unfolding dir_deliver
 names-of sh c u n s = names-commit sh c u n s
 
 names-quiet : (s : DirState) (c : ℕ) (m : Msg) (a : Answer) → passes (Commits s.serving.serving) m ≡ false → SparesBy s c m a → NamesBy s m a
-names-quiet s c m Waits h u = tt
-names-quiet s c m Drops h u = tt
 names-quiet s c m (Asks new sends) h u = u
 names-quiet s c m (Takes new sends) h (inl q) = inl q
 names-quiet s c m (Takes new sends) h (inr q) = absurd (let z = q.1 in cc)
+names-quiet s c m _ h u = tt
 
 pub dir-names : (sh : Shape) (s : DirState) (c : ℕ) (m : Msg) → NamesBy s m (dir_deliver sh s c m)
 unfolding passes

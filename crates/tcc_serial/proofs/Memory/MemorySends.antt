@@ -204,13 +204,7 @@ wholly sh p w x need s f = go (holds s.spilled (line_of w)) (s.cache.held (line_
 closed : (sh : Shape) (c : ℕ) (q : Phase) (r : CoreState) → SendsInMemory sh (close sh c q r).sends
 unfolding solo_commit
 closed sh c (Solo t) r = solo-memory sh r.cache r.spilled t
-closed sh c Running r = λ d. none-outside sh
-closed sh c AwaitTid r = λ d. none-outside sh
-closed sh c DoomedTid r = λ d. none-outside sh
-closed sh c (Probing t) r = λ d. none-outside sh
-closed sh c (Ready t) r = λ d. none-outside sh
-closed sh c (Overflowing t) r = λ d. none-outside sh
-closed sh c Halted r = λ d. none-outside sh
+closed sh c _ r = λ d. none-outside sh
 
 executes : (sh : Shape) (p : Program) (c : ℕ) (s : CoreState) → IsCache sh s.cache → FramesInMemory sh s.cache → IfSome (execute sh p c s) (λ o. SendsInMemory sh o.sends)
 unfolding execute
@@ -338,14 +332,4 @@ back-sends sh e s (ProbeReply t v) i f = reply-sends sh e t s
 back-sends sh e s (Fill k ws) i f = fill-sends sh k ws s
 back-sends sh e s (DataReq k) i f = flushed-memory sh s.cache k i f
 back-sends sh e s (Inv k m u) i f = invalid-sends sh k m u s
-back-sends sh e s TidReq i f = tt
-back-sends sh e s (TidGrant t) i f = tt
-back-sends sh e s (LoadReq l a) i f = tt
-back-sends sh e s (Skip t) i f = tt
-back-sends sh e s (Probe t) i f = tt
-back-sends sh e s (Mark l m t) i f = tt
-back-sends sh e s (Commit t n) i f = tt
-back-sends sh e s (Abort t) i f = tt
-back-sends sh e s (WriteBack l m ws t) i f = tt
-back-sends sh e s (Flush l m ws t) i f = tt
-back-sends sh e s (InvAck l b) i f = tt
+back-sends sh e s _ i f = tt

@@ -19,12 +19,7 @@ stored-memory base ram addr size value m e w = rw stored-put (go (word_of base a
 stepped-memory : (base : ℕ) (p : Program) (a : Attempt) (need : Need) → IsMemory a.ram → AlignedNeed need → IsMemory (stepped base p a need).ram
 stepped-memory base p a (Stores addr size value) m e = stored-memory base a.ram addr size value m e
 stepped-memory base p a (Changes addr changed) m e = stored-memory base a.ram addr Word (changed (loaded base a.ram addr Word)) m e
-stepped-memory base p a Nothing m e = m
-stepped-memory base p a (Loads addr size) m e = m
-stepped-memory base p a (Prints byte) m e = m
-stepped-memory base p a Ends m e = m
-stepped-memory base p a (Halts code) m e = m
-stepped-memory base p a (Traps code) m e = m
+stepped-memory base p a _ m e = m
 
 then-memory : (base : ℕ) (p : Program) (o : Option Attempt) → Aligned p → IfSome o (λ a. IsMemory a.ram) → IfSome (then_step base p o) (λ a. IsMemory a.ram)
 unfolding plain_step
@@ -86,11 +81,7 @@ unfolding loads_word stores_word
 named-stepped base p a (Loads addr size) w h = rw loads_word-append (into_first (loads_word base a.loads w) (stores_word base a.stores w) (word_of base addr == w) h)
 named-stepped base p a (Stores addr size value) w h = rw stores_word-append (into_second (loads_word base a.loads w) (stores_word base a.stores w) (reads_word base (Stores addr size value) w) (word_of base addr == w) (λ q. second (not (is_whole size)) (word_of base addr == w) q) h)
 named-stepped base p a (Changes addr changed) w h = rw (loads_word-append, stores_word-append) (into_both (loads_word base a.loads w) (stores_word base a.stores w) (word_of base addr == w) h)
-named-stepped base p a Nothing w h = into_none _ h
-named-stepped base p a (Prints byte) w h = into_none _ h
-named-stepped base p a Ends w h = into_none _ h
-named-stepped base p a (Halts code) w h = into_none _ h
-named-stepped base p a (Traps code) w h = into_none _ h
+named-stepped base p a _ w h = into_none _ h
 
 -- each word that the instructions use is named by the loads or stores
 abbrev Names : (base : ℕ) → ℕ → Bool → Option Attempt → Type 0

@@ -73,13 +73,7 @@ wholly-notes sh p need w x s = go (holds s.spilled (line_of w)) (s.cache.held (l
 closed-notes : (sh : Shape) (id : ℕ) (s r : CoreState) (q : Phase) → r.stores ≡ s.stores → r.loads ≡ s.loads → Notes s (close sh id q r)
 unfolding solo_commit committed_core noted
 closed-notes sh id s r (Solo t) e f = (e, f, refl)
-closed-notes sh id s r Running e f = tt
-closed-notes sh id s r AwaitTid e f = tt
-closed-notes sh id s r DoomedTid e f = tt
-closed-notes sh id s r (Probing t) e f = tt
-closed-notes sh id s r (Ready t) e f = tt
-closed-notes sh id s r (Overflowing t) e f = tt
-closed-notes sh id s r Halted e f = tt
+closed-notes sh id s r _ e f = tt
 
 pub executed-notes : (sh : Shape) (p : Program) (id : ℕ) (s : CoreState) → IfSome (execute sh p id s) (Notes s)
 unfolding execute finished stepped

@@ -134,10 +134,8 @@ follow_step base p here there a ram (Changes addr changed) ap mh mt al reads =
     let v : loaded base ram addr Word ≡ loaded base a.ram addr Word = same_loaded base ram a.ram addr Word e in
     let q = apart-stored base here there a ram addr Word (changed (loaded base a.ram addr Word)) ap (rw e refl) in
     follows_from base here there (stepped base p a (Changes addr changed)) (stored base ram addr Word (changed (loaded base a.ram addr Word))) _ (record { stored = q.stored; kept_here = q.kept_here; kept_there = q.kept_there }) (rw v refl)
-follow_step base p here there a ram (Prints byte) ap mh mt al reads = follows_from base here there (stepped base p a (Prints byte)) ram _ (record { stored = ap.stored; kept_here = ap.kept_here; kept_there = ap.kept_there }) refl
 follow_step base p here there a ram Ends ap mh mt al reads = follows_from base here there (stepped base p a Ends) ram _ (record { stored = ap.stored; kept_here = ap.kept_here; kept_there = ap.kept_there }) refl
-follow_step base p here there a ram (Halts code) ap mh mt al reads = follows_from base here there (stepped base p a (Halts code)) ram _ (record { stored = ap.stored; kept_here = ap.kept_here; kept_there = ap.kept_there }) refl
-follow_step base p here there a ram (Traps code) ap mh mt al reads = follows_from base here there (stepped base p a (Traps code)) ram _ (record { stored = ap.stored; kept_here = ap.kept_here; kept_there = ap.kept_there }) refl
+follow_step base p here there a ram x ap mh mt al reads = follows_from base here there (stepped base p a x) ram _ (record { stored = ap.stored; kept_here = ap.kept_here; kept_there = ap.kept_there }) refl
 
 -- one more instruction, where the words that it uses agree
 follow_then : (base : ℕ) (p : Program) (here there : ℕ → ℕ) (a : Attempt) (other : Option Attempt) → Aligned p → IsMemory here → IsMemory there

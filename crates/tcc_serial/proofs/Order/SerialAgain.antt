@@ -70,8 +70,7 @@ closes_twice base p here there core (Some a) other e m mo f = go a.outcome refl
 
 run_twice : (base : ℕ) (p : Program) (here there : Plain) (core : ℕ) (x : CoreEnd) (one other : Option (Plain × Attempt)) → TwiceIf base p here there core one other → TwiceIf base p here there core (if_runs x one) (if_runs x other)
 run_twice base p here there core Run one other t = t
-run_twice base p here there core (Halt code) one other t = tt
-run_twice base p here there core (Trap code) one other t = tt
+run_twice base p here there core _ one other t = tt
 
 -- where the words named agree, the words used agree
 follows_named : (base : ℕ) (p : Program) (n : ℕ) (l : Local) (here there : ℕ → ℕ) → Aligned p → IsMemory here → IsMemory there

@@ -68,14 +68,9 @@ stored-holds base addr size value x y ram ss h = stored-put base ram addr size v
     go false q = h
 
 stepped-holds : (base : ℕ) (p : Program) (x y : ℕ) (a : Attempt) (need : Need) → Holds base x y a → Holds base x y (stepped base p a need)
-stepped-holds base p x y a Nothing h = h
-stepped-holds base p x y a (Loads addr size) h = h
 stepped-holds base p x y a (Stores addr size value) h = stored-holds base addr size value x y a.ram a.stores h
 stepped-holds base p x y a (Changes addr changed) h = stored-holds base addr Word (changed (loaded base a.ram addr Word)) x y a.ram a.stores h
-stepped-holds base p x y a (Prints byte) h = h
-stepped-holds base p x y a Ends h = h
-stepped-holds base p x y a (Halts code) h = h
-stepped-holds base p x y a (Traps code) h = h
+stepped-holds base p x y a _ h = h
 
 then-holds : (base : ℕ) (p : Program) (x y : ℕ) (o : Option Attempt) → IfSome o (Holds base x y) → IfSome (then_step base p o) (Holds base x y)
 unfolding plain_step

@@ -22,12 +22,7 @@ unfolding waits_for_tid has_tid
 waits-none AwaitTid t h = refl
 waits-none DoomedTid t h = refl
 waits-none (Overflowing None) t h = refl
-waits-none (Overflowing (Some u)) t h = absurd (cc)
-waits-none Running t h = absurd (cc)
-waits-none (Probing u) t h = absurd (cc)
-waits-none (Ready u) t h = absurd (cc)
-waits-none (Solo u) t h = absurd (cc)
-waits-none Halted t h = absurd (cc)
+waits-none _ t h = absurd (cc)
 
 grants-any : (t : ℕ) (m : Msg) → num (passes (Grants t) m) ≤ num (passes AnyGrant m)
 unfolding passes

@@ -71,17 +71,7 @@ back-due sh e s (ProbeReply u v) a = back-clean sh e (ProbeReply u v) _ refl (λ
 back-due sh e s (Fill l ws) a = back-clean sh e (Fill l ws) _ refl (λ d. acks-back sh e d s (Fill l ws))
 back-due sh e s (DataReq l) a = back-clean sh e (DataReq l) _ refl (λ d. acks-back sh e d s (DataReq l))
 back-due sh e s (Inv l k u) a = back-inv sh e l k u _ (at-home (l % sh.dirs) e a) (λ d. acks-back sh e d s (Inv l k u))
-back-due sh e s TidReq a = tt
-back-due sh e s (TidGrant u) a = tt
-back-due sh e s (LoadReq l x) a = tt
-back-due sh e s (Skip u) a = tt
-back-due sh e s (Probe u) a = tt
-back-due sh e s (Mark l m u) a = tt
-back-due sh e s (Commit u n) a = tt
-back-due sh e s (Abort u) a = tt
-back-due sh e s (WriteBack l m ws u) a = tt
-back-due sh e s (Flush l m ws u) a = tt
-back-due sh e s (InvAck l b) a = tt
+back-due sh e s _ a = tt
 
 due-back : (v : Pair) (e k : ℕ) (m : Msg) (o : Out) → slice_index_or v.back k None ≡ Some m → among Acks (o.sends (Dir e)) ≡ num (passes Invs m) → due (after_move (back_taken v k) o e) + 0 ≡ due v + 0
 unfolding due

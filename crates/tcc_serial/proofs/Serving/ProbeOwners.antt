@@ -46,17 +46,7 @@ back-quiet sh e s (ProbeReply u v) = reply-quiet sh e u s (probe_reply sh e u s)
 back-quiet sh e s (Fill l ws) = (unprobed-steady s (fill l ws s) (fill-steady l ws s)).sent
 back-quiet sh e s (DataReq l) = (unprobed-steady s (data_request sh l s) (data-steady sh l s)).sent
 back-quiet sh e s (Inv l m u) = (unprobed-hurt sh l s (invalidate sh l m u s) (invalidate-cases sh l m u s)).sent
-back-quiet sh e s TidReq = tt
-back-quiet sh e s (TidGrant t) = tt
-back-quiet sh e s (LoadReq l a) = tt
-back-quiet sh e s (Skip t) = tt
-back-quiet sh e s (Probe t) = tt
-back-quiet sh e s (Mark l m t) = tt
-back-quiet sh e s (Commit t n) = tt
-back-quiet sh e s (Abort t) = tt
-back-quiet sh e s (WriteBack l m ws t) = tt
-back-quiet sh e s (Flush l m ws t) = tt
-back-quiet sh e s (InvAck l b) = tt
+back-quiet sh e s _ = tt
 
 -- a grant that is taken was on its way to this core
 taken-granted : (sh : Shape) (gs : List Grant) (w : World) (cs : List Noted) (c k u : ℕ) → KeptOwners sh gs w cs → in_flight w.net Vendor (Core c) k ≡ Some (TidGrant u) → Contains gs (record { tid = u; core = c })

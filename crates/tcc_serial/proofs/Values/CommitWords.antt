@@ -132,13 +132,7 @@ solo-words sh id t s r e f n q x = rw (sym (noted-tid t id r n q), sym e, sym f)
 
 closed-words : (sh : Shape) (id : ℕ) (q : Phase) (s r : CoreState) → r.cache ≡ s.cache → r.spilled ≡ s.spilled → CommitsWords sh s (close sh id q r)
 closed-words sh id (Solo t) s r e f = solo-words sh id t s r e f
-closed-words sh id Running s r e f = none-noted sh s (close sh id Running r) refl
-closed-words sh id AwaitTid s r e f = none-noted sh s (close sh id AwaitTid r) refl
-closed-words sh id DoomedTid s r e f = none-noted sh s (close sh id DoomedTid r) refl
-closed-words sh id (Probing t) s r e f = none-noted sh s (close sh id (Probing t) r) refl
-closed-words sh id (Ready t) s r e f = none-noted sh s (close sh id (Ready t) r) refl
-closed-words sh id (Overflowing t) s r e f = none-noted sh s (close sh id (Overflowing t) r) refl
-closed-words sh id Halted s r e f = none-noted sh s (close sh id Halted r) refl
+closed-words sh id x s r e f = none-noted sh s (close sh id x r) refl
 
 executed-words : (sh : Shape) (p : Program) (id : ℕ) (s : CoreState) → IsCache sh s.cache → IfSome (execute sh p id s) (CommitsWords sh s)
 unfolding execute finished stepped

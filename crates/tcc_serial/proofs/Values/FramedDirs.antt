@@ -13,15 +13,8 @@ use Rattle.tcc_serial.proofs.Values.FramedWords.{HeldOf, HeldAt, KeptHeld, IsSte
 -- one word of a list of eight
 get_or-eight : (f : ℕ → ℕ) (k : ℕ) → k < 8 → get_or (eight f) k 0 ≡ f k
 unfolding eight
-get_or-eight f zero h = refl
-get_or-eight f (suc zero) h = refl
-get_or-eight f (suc (suc zero)) h = refl
-get_or-eight f (suc (suc (suc zero))) h = refl
-get_or-eight f (suc (suc (suc (suc zero)))) h = refl
-get_or-eight f (suc (suc (suc (suc (suc zero))))) h = refl
-get_or-eight f (suc (suc (suc (suc (suc (suc zero)))))) h = refl
-get_or-eight f (suc (suc (suc (suc (suc (suc (suc zero))))))) h = refl
 get_or-eight f (suc (suc (suc (suc (suc (suc (suc (suc k)))))))) h = absurd (omega arith)
+get_or-eight f _ h = refl
 
 -- a Fill of a line of no owner, whose words are those at home; the core's last commit there is passed
 pub record Filling (l a : ℕ) (s new : DirState) (ms : List Msg) : Type 0 where
@@ -32,10 +25,8 @@ pub record Filling (l a : ℕ) (s new : DirState) (ms : List Msg) : Type 0 where
   pub words : (x y : ℕ) → (l ≡ line_of x → s.words x ≡ y) → among (FillNot x y) ms ≡ 0
 
 abbrev pub FillsHome : (core line after : ℕ) → DirState → Answer → Type 0
-FillsHome c l a s Waits = Unit {0}
-FillsHome c l a s Drops = Unit {0}
-FillsHome c l a s (Asks new sends) = Unit {0}
 FillsHome c l a s (Takes new sends) = Filling l a s new (sends (Core c))
+FillsHome c l a s _ = Unit {0}
 
 filled-word : (s : DirState) (l x y : ℕ) → (l ≡ line_of x → s.words x ≡ y) → (l == line_of x && not (get_or (line_words s l) (place_of x) 0 == y)) ≡ false
 unfolding line_words

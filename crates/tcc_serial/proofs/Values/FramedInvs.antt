@@ -25,9 +25,8 @@ use Rattle.tcc_serial.proofs.Values.FramedDirs.{value-taken, commits-other, comm
 -- a Commit that is taken is of the served TID and counts the marked lines, and brings the invalidations of these lines
 abbrev pub Invalidates : Shape → (core : ℕ) → DirState → Msg → Answer → Type 0
 Invalidates sh c s m Waits = Unit {0}
-Invalidates sh c s m Drops = ⊥
-Invalidates sh c s m (Asks new sends) = ⊥
 Invalidates sh c s m (Takes new sends) = CountsMarked sh s m × ((j : ℕ) → sends (Core j) ≡ invs_to sh s.lines c s.serving.serving j)
+Invalidates sh c s m _ = ⊥
 
 pub commit-invalidates : (sh : Shape) (c u n : ℕ) (s : DirState) → Invalidates sh c s (Commit u n) (commit sh c u n s)
 unfolding commit invalidations

@@ -116,11 +116,9 @@ granted sh ram h c k b e x el q = same-values sh ram h.world (vendor_gives h.wor
 
 -- a message is delivered to a directory or to the vendor
 abbrev pub IsAnswered : Event → Type 0
-IsAnswered (Exec c) = ⊥
-IsAnswered (Evict c x y) = ⊥
-IsAnswered (Deliver src (Core c) k) = ⊥
 IsAnswered (Deliver src (Dir d) k) = Unit {0}
 IsAnswered (Deliver src Vendor k) = Unit {0}
+IsAnswered _ = ⊥
 
 pub answer_cases : (sh : Shape) (p : Program) (w : World) (e : Event) (R : Stepped → Type 0) → IsAnswered e
     → ((c d k : ℕ) (m : Msg) → c < sh.cores → d < sh.dirs → in_flight w.net (Core c) (Dir d) k ≡ Some m → OfAnswer w c d k (λ v. R (record { world = v; noted = None })) (dir_deliver sh (w.dirs d) c m))

@@ -37,20 +37,7 @@ taken-keeps sh ram h c d k m (Some o) b i f = λ n s. alike-keeps sh ram h.world
 grant-keeps : (sh : Shape) (ram : ℕ → ℕ) (h : History) (c k : ℕ) (m : Msg) → Known sh ram h → IfSome (taken h.world Vendor c k (from_vendor sh (h.world.cores c) m)) (KeepsValues sh ram h)
 unfolding core_takes
 grant-keeps sh ram h c k (TidGrant t) b = λ n s. alike-keeps sh ram h.world (core_takes h.world Vendor c k (grant sh t (h.world.cores c))) h.commits refl (granted-alike sh h.world c k (grant sh t (h.world.cores c)) (words-grant sh t (h.world.cores c))) b.values
-grant-keeps sh ram h c k TidReq b = tt
-grant-keeps sh ram h c k (LoadReq l a) b = tt
-grant-keeps sh ram h c k (Fill l ws) b = tt
-grant-keeps sh ram h c k (Skip t) b = tt
-grant-keeps sh ram h c k (Probe t) b = tt
-grant-keeps sh ram h c k (ProbeReply t s) b = tt
-grant-keeps sh ram h c k (Mark l m t) b = tt
-grant-keeps sh ram h c k (Commit t n) b = tt
-grant-keeps sh ram h c k (Abort t) b = tt
-grant-keeps sh ram h c k (WriteBack l m ws t) b = tt
-grant-keeps sh ram h c k (Flush l m ws t) b = tt
-grant-keeps sh ram h c k (DataReq l) b = tt
-grant-keeps sh ram h c k (Inv l m t) b = tt
-grant-keeps sh ram h c k (InvAck l y) b = tt
+grant-keeps sh ram h c k _ b = tt
 
 -- an event that isn't enabled has nothing to show
 enabled : (R : Stepped → Type 0) (b : Bool) (x : Option Stepped) → IfSome x R → IfSome (if b then x else None) R
@@ -60,9 +47,7 @@ enabled R false x h = tt
 -- what a directory answers commits nothing
 answer-keeps : (sh : Shape) (ram : ℕ → ℕ) (h : History) (c d k : ℕ) (a : Answer) → OfAnswer h.world c d k (λ v. CommitsStand sh v h.commits → KeptValues sh ram v h.commits) a → OfAnswer h.world c d k (λ v. KeepsValues sh ram h (record { world = v; noted = None })) a
 answer-keeps sh ram h c d k Waits f = tt
-answer-keeps sh ram h c d k Drops f = λ n. f
-answer-keeps sh ram h c d k (Asks s sends) f = λ n. f
-answer-keeps sh ram h c d k (Takes s sends) f = λ n. f
+answer-keeps sh ram h c d k _ f = λ n. f
 
 answer-values : (sh : Shape) (ram : ℕ → ℕ) (h : History) → Known sh ram h → (c d k : ℕ) (m : Msg) → c < sh.cores → d < sh.dirs → in_flight h.world.net (Core c) (Dir d) k ≡ Some m → OfAnswer h.world c d k (λ v. KeepsValues sh ram h (record { world = v; noted = None })) (dir_deliver sh (h.world.dirs d) c m)
 answer-values sh ram h b c d k m cl dl i = answer-keeps sh ram h c d k (dir_deliver sh (h.world.dirs d) c m) (answered sh ram h c d k m (dir_deliver sh (h.world.dirs d) c m) b cl dl i (dir-records sh (h.world.dirs d) c m) (λ x. dir-words sh x (h.world.dirs d) c m))

@@ -124,19 +124,7 @@ outside : (x t n : ℕ) → has n (place_of x) ≡ false → (m : Msg) → num (
 unfolding passes hit
 outside x t n h (WriteBack k m ws g) = out-of-mask k m n x (g == t) h (m == n) refl
 outside x t n h (Flush k m ws g) = out-of-mask k m n x (g == t) h (m == n) refl
-outside x t n h TidReq = omega arith
-outside x t n h (TidGrant u) = omega arith
-outside x t n h (LoadReq l a) = omega arith
-outside x t n h (Fill l ws) = omega arith
-outside x t n h (Skip u) = omega arith
-outside x t n h (Probe u) = omega arith
-outside x t n h (ProbeReply u s) = omega arith
-outside x t n h (Mark l m u) = omega arith
-outside x t n h (Commit u k) = omega arith
-outside x t n h (Abort u) = omega arith
-outside x t n h (DataReq l) = omega arith
-outside x t n h (Inv l m u) = omega arith
-outside x t n h (InvAck l b) = omega arith
+outside x t n h _ = omega arith
 
 -- a word that wasn't written has none
 pub unwritten-none : (sh : Shape) (ns : List Noted) (c x t : ℕ) (v : Pair) → IsCache sh v.core.cache → AboveOf sh.base ns c (line_of x) t v → wrote sh.base ns c t x ≡ false → word_copies x t v ≡ 0

@@ -18,19 +18,7 @@ pub word-line : (x t : ℕ) (m : Msg) → num (passes (CopyWord x t) m) ≤ num 
 unfolding passes hit
 word-line x t (WriteBack k m ws g) = back-line (k == line_of x) (has m (place_of x)) (g == t)
 word-line x t (Flush k m ws g) = back-line (k == line_of x) (has m (place_of x)) (g == t)
-word-line x t TidReq = omega arith
-word-line x t (TidGrant u) = omega arith
-word-line x t (LoadReq l a) = omega arith
-word-line x t (Fill l ws) = omega arith
-word-line x t (Skip u) = omega arith
-word-line x t (Probe u) = omega arith
-word-line x t (ProbeReply u s) = omega arith
-word-line x t (Mark l m u) = omega arith
-word-line x t (Commit u n) = omega arith
-word-line x t (Abort u) = omega arith
-word-line x t (DataReq l) = omega arith
-word-line x t (Inv l m u) = omega arith
-word-line x t (InvAck l b) = omega arith
+word-line x t _ = omega arith
 
 pub few-words : (x t : ℕ) (l : Link) → live (CopyWord x t) l ≤ live (CopyOf (line_of x) t) l
 few-words x t l = live-fewer (CopyWord x t) (CopyOf (line_of x) t) (word-line x t) l
@@ -68,19 +56,7 @@ line-word : (x t n : ℕ) → has n (place_of x) ≡ true → (m : Msg) → num 
 unfolding passes hit
 line-word x t n h (WriteBack k m ws g) = in-mask k m n x (g == t) h (m == n) refl
 line-word x t n h (Flush k m ws g) = in-mask k m n x (g == t) h (m == n) refl
-line-word x t n h TidReq = omega arith
-line-word x t n h (TidGrant u) = omega arith
-line-word x t n h (LoadReq l a) = omega arith
-line-word x t n h (Fill l ws) = omega arith
-line-word x t n h (Skip u) = omega arith
-line-word x t n h (Probe u) = omega arith
-line-word x t n h (ProbeReply u s) = omega arith
-line-word x t n h (Mark l m u) = omega arith
-line-word x t n h (Commit u k) = omega arith
-line-word x t n h (Abort u) = omega arith
-line-word x t n h (DataReq l) = omega arith
-line-word x t n h (Inv l m u) = omega arith
-line-word x t n h (InvAck l b) = omega arith
+line-word x t n h _ = omega arith
 
 live-words : (x t n : ℕ) → has n (place_of x) ≡ true → (l : Link) → live (CopyOf (line_of x) t) l ≤ live (CopyWord x t) l + live (CopyMask (line_of x) t n) l
 unfolding live

@@ -44,15 +44,8 @@ leaves-none sh k x c h q = record { same = λ e t. rw (word-clean sh k x c h q e
 
 pub get-eight : (f : ℕ → ℕ) (k : ℕ) → k < 8 → get_or (eight f) k 0 ≡ f k
 unfolding eight
-get-eight f zero i = refl
-get-eight f (suc zero) i = refl
-get-eight f (suc (suc zero)) i = refl
-get-eight f (suc (suc (suc zero))) i = refl
-get-eight f (suc (suc (suc (suc zero)))) i = refl
-get-eight f (suc (suc (suc (suc (suc zero))))) i = refl
-get-eight f (suc (suc (suc (suc (suc (suc zero)))))) i = refl
-get-eight f (suc (suc (suc (suc (suc (suc (suc zero))))))) i = refl
 get-eight f (suc (suc (suc (suc (suc (suc (suc (suc k)))))))) i = absurd (omega (arith, i))
+get-eight f _ i = refl
 
 -- the mask and the words of the line's copy, at the word's place
 mask-at : (c : Cache) (x : ℕ) → has (dirty_mask c (line_of x)) (place_of x) ≡ is_some (c.dirty x)

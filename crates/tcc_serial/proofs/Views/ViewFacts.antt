@@ -61,13 +61,7 @@ unowed-none sh gs ys h k c d l e = omega (arith, e, k.owed_counts_invs_and_acks.
 
 pub solo-tid : (q : Phase) → is_solo q ≡ true → (t : ℕ) × (q ≡ Solo t)
 solo-tid (Solo t) e = (t, refl)
-solo-tid Running e = absurd (cc)
-solo-tid AwaitTid e = absurd (cc)
-solo-tid DoomedTid e = absurd (cc)
-solo-tid (Probing t) e = absurd (cc)
-solo-tid (Ready t) e = absurd (cc)
-solo-tid (Overflowing t) e = absurd (cc)
-solo-tid Halted e = absurd (cc)
+solo-tid _ e = absurd (cc)
 
 pub solo-holds : (q : Phase) (t : ℕ) → q ≡ Solo t → has_tid q t ≡ true
 unfolding has_tid
@@ -138,15 +132,13 @@ alone-seen c t [] = tt
 alone-seen c t (u ∷ us) = (inr refl, alone-seen c t us)
 
 pub uses-seen : (c : Cache) (q : Phase) (us : Uses) → UsesStand c us q → (q ≡ Halted → us ≡ []) → EachUse (IsSeen c q) us
-uses-seen c Running us s n = stand-seen false c Running us s
-uses-seen c AwaitTid us s n = stand-seen false c AwaitTid us s
-uses-seen c (Overflowing None) us s n = stand-seen false c (Overflowing None) us s
 uses-seen c (Overflowing (Some t)) us s n = stand-seen true c (Overflowing (Some t)) us s
 uses-seen c (Probing t) us s n = stand-seen true c (Probing t) us s
 uses-seen c (Ready t) us s n = stand-seen true c (Ready t) us s
 uses-seen c (Solo t) us s n = alone-seen c t us
 uses-seen c DoomedTid us s n = rw s tt
 uses-seen c Halted us s n = let e = n refl in rw e tt
+uses-seen c x us s n = stand-seen false c x us s
 
 -- a used word that an invalidation dooms
 

@@ -17,9 +17,7 @@ use Rattle.tcc_serial.proofs.Counts.Nums.{num-one}
 untold-at : (sh : Shape) (w : World) (d t : ℕ) (y : Way) → ResolvedAt sh w d t → WayAt sh w d t y → parts_in Untold sh w d t + num (nat_le w.next t) ≡ num (is_untold y)
 unfolding kept_in
 untold-at sh w d t Untold r h = h
-untold-at sh w d t Skipped r h = omega (arith, h, resolved-split sh w d t r)
-untold-at sh w d t Aborted r h = omega (arith, h, resolved-split sh w d t r)
-untold-at sh w d t Committed r h = omega (arith, h, resolved-split sh w d t r)
+untold-at sh w d t _ r h = omega (arith, h, resolved-split sh w d t r)
 
 pub untold_where_open : AlwaysTold UntoldWhereOpen
 untold_where_open = told_from UntoldWhereOpen (λ sh gs ys h k d t l p. untold-at sh h.world d t (ys d t) (k.all.kept.told.tids.resolved d t l) (k.ways d t l p))
@@ -39,11 +37,7 @@ unfolding opens has_tid
 opens-has (Probing u) b t = grind (arith, nat_tests)
 opens-has (Ready u) b t = grind (arith, nat_tests)
 opens-has (Overflowing u) b t = grind (arith, nat_tests)
-opens-has (Solo u) b t = omega arith
-opens-has Running b t = omega arith
-opens-has AwaitTid b t = omega arith
-opens-has DoomedTid b t = omega arith
-opens-has Halted b t = omega arith
+opens-has _ b t = omega arith
 
 untold-live : (sh : Shape) (w : World) (d t : ℕ) (y : Way) → WayAt sh w d t y → y ≡ Untold → t < w.next → (c : ℕ) × (c < sh.cores) × (1 ≤ holder t (pair w c d))
 unfolding kept_in part_in holder pair share
@@ -51,9 +45,7 @@ untold-live sh w d t Untold h e l =
     let n : num (nat_le w.next t) ≡ 0 = grind (arith, nat_tests) in
     let r = some-part (share (part_in Untold sh d t) w d) sh.cores (omega (arith, h, n)) in
     (r.0, r.1, omega (arith, r.2, opens-has (w.cores r.0).phase (writes_at sh (w.cores r.0).cache d) t))
-untold-live sh w d t Skipped h e l = absurd (cc)
-untold-live sh w d t Aborted h e l = absurd (cc)
-untold-live sh w d t Committed h e l = absurd (cc)
+untold-live sh w d t _ h e l = absurd (cc)
 
 pub untold_is_live : AlwaysTold UntoldIsLive
 untold_is_live = told_from UntoldIsLive (λ sh gs ys h k d t l p m e. untold-live sh h.world d t (ys d t) (k.ways d t l p) e m)
@@ -155,10 +147,9 @@ given-split sh w d t (suc n) = omega (arith, given-split sh w d t n)
 
 given-once : (sh : Shape) (w : World) (d t : ℕ) (y : Way) → ResolvedAt sh w d t → WayAt sh w d t y → is_given_up y ≡ true → sum_of (given_up_by t) sh.cores w d + num (is_skipped (w.dirs d).serving t) + num (nat_lt t (w.dirs d).serving.serving) ≡ 1
 unfolding kept_in
-given-once sh w d t Untold r h g = absurd (cc)
 given-once sh w d t Skipped r h g = omega (arith, h, given-split sh w d t sh.cores, resolved-split sh w d t r)
 given-once sh w d t Aborted r h g = omega (arith, h, given-split sh w d t sh.cores, resolved-split sh w d t r)
-given-once sh w d t Committed r h g = absurd (cc)
+given-once sh w d t _ r h g = absurd (cc)
 
 pub given_up_once : AlwaysTold GivenUpOnce
 given_up_once = told_from GivenUpOnce (λ sh gs ys h k d t l p g. given-once sh h.world d t (ys d t) (k.all.kept.told.tids.resolved d t l) (k.ways d t l p) g)
