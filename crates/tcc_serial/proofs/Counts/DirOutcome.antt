@@ -175,12 +175,7 @@ outcome sh s c (Commit t n) = commit-outcome sh s c t n
 outcome sh s c (InvAck l b) = ack-outcome sh s c l b
 outcome sh s c (WriteBack l k ws g) = back-outcome sh s c l k ws g (WriteBack l k ws g) (record { alike = λ q. refl })
 outcome sh s c (Flush l k ws g) = back-outcome sh s c l k ws g (Flush l k ws g) (record { alike = λ q. flush-alike q l k ws g })
-outcome sh s c TidReq = Waiting TidReq
-outcome sh s c (TidGrant t) = Waiting (TidGrant t)
-outcome sh s c (Fill l ws) = Waiting (Fill l ws)
-outcome sh s c (ProbeReply t v) = Waiting (ProbeReply t v)
-outcome sh s c (DataReq l) = Waiting (DataReq l)
-outcome sh s c (Inv l k t) = Waiting (Inv l k t)
+outcome sh s c m = Waiting m
 
 -- what is sent, by kind
 

@@ -43,7 +43,6 @@ invalidations-inside sh ls c t j l = rw (those-none (is_invalidated sh ls c j) (
     none k = is_invalidated-outside sh ls c j k outside
 
 pub dir-inside : (sh : Shape) (s : DirState) (c : ℕ) (m : Msg) → c < sh.cores → OwnersInside sh s → AnswersInside sh (dir_deliver sh s c m)
-<<<<<<< HEAD
 dir-inside sh s c m l h = go (outcome sh s c m)
   where
     taken : (x o : ℕ) (b : Bool) → (if b then Some c else s.lines.owner x) ≡ Some o → o < sh.cores
@@ -58,24 +57,8 @@ dir-inside sh s c m l h = go (outcome sh s c m)
     go (Waiting m) = tt
     go (Spent m i) = tt
     go (AsksOwner m k o w e) = (to-inside sh o (DataReq k) (h k o e), h)
-    go (TakesSkip u b e i) = (quiet-inside sh, h)
-    go (TakesAbort u b e i) = (quiet-inside sh, h)
     go (TakesProbe t i) = (to-inside sh c (ProbeReply t s.serving.serving) l, h)
     go (TakesLoad k x i e o) = (to-inside sh c (Fill k (line_words s k)) l, h)
-    go (TakesMark k n i) = (quiet-inside sh, h)
     go (TakesCommit b e) = (invalidations-inside sh s.lines c s.serving.serving, λ x o q. taken x o (has_mark s.lines x) q)
-    go (TakesAck k x b i e) = (quiet-inside sh, h)
     go (TakesCopy m k n ws g y e o) = (quiet-inside sh, λ x o q. came x o (x == k) q)
-=======
-unfolding dir_deliver
-dir-inside sh s c (Skip u) i h = skip-inside sh u s h
-dir-inside sh s c (Abort u) i h = abort-inside sh u s h
-dir-inside sh s c (Probe u) i h = probe-inside sh c u s i h
-dir-inside sh s c (LoadReq l a) i h = load-inside sh c l a s i h
-dir-inside sh s c (Mark l k u) i h = mark-inside sh l k u s h
-dir-inside sh s c (Commit u n) i h = commit-inside sh c u n s i h
-dir-inside sh s c (InvAck l b) i h = ack-inside sh c l b s h
-dir-inside sh s c (WriteBack l k ws g) i h = back-inside sh c l k ws g s h
-dir-inside sh s c (Flush l k ws g) i h = back-inside sh c l k ws g s h
-dir-inside sh s c _ i h = tt
->>>>>>> d44addaf3ee64b4f00b5bf5044d851cc1b82ede7
+    go _ = (quiet-inside sh, h)

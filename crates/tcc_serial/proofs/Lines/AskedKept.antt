@@ -15,7 +15,6 @@ AskedBy (Takes new sends) = AskedOwned new
 AskedBy _ = Unit {0}
 
 pub dir-asked : (sh : Shape) (s : DirState) (c : ℕ) (m : Msg) → AskedOwned s → AskedBy (dir_deliver sh s c m)
-<<<<<<< HEAD
 dir-asked sh s c m h = go (outcome sh s c m)
   where
     asked : (l o : ℕ) → s.lines.owner l ≡ Some o → (x : ℕ) (b : Bool) → (x == l) ≡ b → (if b then true else s.lines.asked x) ≡ true → is_some (s.lines.owner x) ≡ true
@@ -34,27 +33,9 @@ dir-asked sh s c m h = go (outcome sh s c m)
     go (Waiting m) = tt
     go (Spent m i) = tt
     go (AsksOwner m l o w e) = λ x a. asked l o e x (x == l) refl a
-    go (TakesSkip u b e i) = h
-    go (TakesAbort u b e i) = h
-    go (TakesProbe t i) = h
-    go (TakesLoad l k i e o) = h
-    go (TakesMark l k i) = h
     go (TakesCommit b e) = λ x a. taken x (has_mark s.lines x) a
-    go (TakesAck l k b i e) = h
     go (TakesCopy m l k ws g y e o) = λ x a. came x (x == l) a
-=======
-unfolding dir_deliver
-dir-asked sh s c (Skip u) h = skip-asked u s h
-dir-asked sh s c (Abort u) h = abort-asked u s h
-dir-asked sh s c (Probe u) h = probe-asked c u s h
-dir-asked sh s c (LoadReq l x) h = load-asked c l x s h
-dir-asked sh s c (Mark l k u) h = mark-asked l k u s h
-dir-asked sh s c (Commit u n) h = commit-asked sh c u n s h
-dir-asked sh s c (InvAck l b) h = ack-asked c l b s h
-dir-asked sh s c (WriteBack l k ws g) h = back-asked c l k ws g s h
-dir-asked sh s c (Flush l k ws g) h = back-asked c l k ws g s h
-dir-asked sh s c _ h = tt
->>>>>>> d44addaf3ee64b4f00b5bf5044d851cc1b82ede7
+    go _ = h
 
 pub step-asked : (sh : Shape) (p : Program) (w : World) (e : Event) → KeptAsked sh w → IfSome (step sh p w e) (λ o. KeptAsked sh o.world)
 unfolding pair core_moves core_takes vendor_gives

@@ -19,10 +19,9 @@ abbrev pub AskedNow : DirState → Sends → DirState → (line : ℕ) → Type 
 AskedNow s sends new l = (s.lines.asked l ≡ true) ⊎ ((j : ℕ) → s.lines.owner l ≡ Some j → 1 ≤ among (DataOf l) (sends (Core j)))
 
 abbrev pub GetsBy : DirState → Msg → Answer → Type 0
-GetsBy s m Waits = Unit {0}
-GetsBy s m Drops = Unit {0}
 GetsBy s m (Asks new sends) = (l : ℕ) → new.lines.asked l ≡ true → AskedNow s sends new l
 GetsBy s m (Takes new sends) = (l : ℕ) → new.lines.asked l ≡ true → StaysAsked s m new l
+GetsBy s m _ = Unit {0}
 
 pub dir-gets : (sh : Shape) (s : DirState) (c : ℕ) (m : Msg) → GetsBy s m (dir_deliver sh s c m)
 unfolding passes
@@ -45,11 +44,6 @@ dir-gets sh s c m = go (outcome sh s c m)
     go (Waiting m) = tt
     go (Spent m i) = tt
     go (AsksOwner m l o w e) = λ x r. sent l o e x (x == l) refl r
-    go (TakesSkip u b e h) = λ x r. record { asked = r; owner = refl; tag = refl; other = refl }
-    go (TakesAbort u b e h) = λ x r. record { asked = r; owner = refl; tag = refl; other = refl }
-    go (TakesProbe t h) = λ x r. record { asked = r; owner = refl; tag = refl; other = refl }
-    go (TakesLoad l k h e o) = λ x r. record { asked = r; owner = refl; tag = refl; other = refl }
-    go (TakesMark l k h) = λ x r. record { asked = r; owner = refl; tag = refl; other = refl }
     go (TakesCommit b e) = λ x r. taken x (has_mark s.lines x) refl r _ _ refl refl refl
-    go (TakesAck l k b h e) = λ x r. record { asked = r; owner = refl; tag = refl; other = refl }
     go (TakesCopy m l k ws g y e o) = λ x r. came m l k ws g y x (x == l) refl r _ refl refl
+    go _ = λ x r. record { asked = r; owner = refl; tag = refl; other = refl }

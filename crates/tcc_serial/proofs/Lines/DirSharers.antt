@@ -15,10 +15,9 @@ pub record Shares (sh : Shape) (s : DirState) (c : ℕ) (m : Msg) (new : DirStat
   pub taken : (l : ℕ) → CountsMarked sh s m → has_mark s.lines l ≡ true → new.lines.sharers l c ≡ true
 
 abbrev pub SharesBy : Shape → DirState → (core : ℕ) → Msg → Answer → Type 0
-SharesBy sh s c m Waits = Unit {0}
-SharesBy sh s c m Drops = Unit {0}
 SharesBy sh s c m (Asks new sends) = Shares sh s c m new sends
 SharesBy sh s c m (Takes new sends) = Shares sh s c m new sends
+SharesBy sh s c m _ = Unit {0}
 
 pub dir-shares : (sh : Shape) (s : DirState) (c : ℕ) (m : Msg) → SharesBy sh s c m (dir_deliver sh s c m)
 unfolding passes
@@ -52,15 +51,12 @@ dir-shares sh s c m = go (outcome sh s c m)
     go (Spent m i) = tt
     go (AsksOwner m l o (ToLoad a) e) = same-shares (λ x j. refl) (λ x j. none-to (FillOf x) o j (DataReq l) refl) (λ q. absurd (cc))
     go (AsksOwner m l o (ToMark k) e) = same-shares (λ x j. refl) (λ x j. none-to (FillOf x) o j (DataReq l) refl) (λ q. absurd (cc))
-    go (TakesSkip u b e h) = same-shares (λ x j. refl) none (λ q. absurd (cc))
-    go (TakesAbort u b e h) = same-shares (λ x j. refl) none (λ q. absurd (cc))
     go (TakesProbe t h) = same-shares (λ x j. refl) (λ x j. none-to (FillOf x) c j (ProbeReply t s.serving.serving) refl) (λ q. absurd (cc))
     go (TakesLoad l k h e o) = record {
       kept = λ x j q. inl (more (x == l && j == c) (s.lines.sharers x j) q);
       filled = λ x j q. filled l x j (j == c) (l == x) refl refl e (rw (among-to (FillOf x) c j (Fill l (line_words s l))) at q);
       taken = λ x q r. absurd (cc);
     }
-    go (TakesMark l k h) = same-shares (λ x j. refl) none (λ q. absurd (cc))
     go (TakesCommit b e) = record {
       kept = λ x j q. inl (more (has_mark s.lines x && j == c) (s.lines.sharers x j) q);
       filled = λ x j q. absurd (omega (arith, q, none-invalidations (FillOf x) (λ l k t. refl) sh s.lines c s.serving.serving j));
@@ -71,3 +67,4 @@ dir-shares sh s c m = go (outcome sh s c m)
       where
         not_counts : {m : Msg} → CountsMarked sh s m → passes AnyCommit m ≡ false → ⊥
         not_counts q f = absurd (cc)
+    go _ = same-shares (λ x j. refl) none (λ q. absurd (cc))

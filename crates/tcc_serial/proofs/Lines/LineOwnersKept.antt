@@ -21,7 +21,6 @@ OwnsBy old c m (Takes new sends) = OwnsFrom old c m new
 OwnsBy old c m _ = Unit {0}
 
 dir-owns : (sh : Shape) (s : DirState) (c : ℕ) (m : Msg) → OwnsBy s c m (dir_deliver sh s c m)
-<<<<<<< HEAD
 unfolding passes
 dir-owns sh s c m = go (outcome sh s c m)
   where
@@ -36,28 +35,9 @@ dir-owns sh s c m = go (outcome sh s c m)
     go : {m : Msg} {a : Answer} → Outcome sh s c m a → OwnsBy s c m a
     go (Waiting m) = tt
     go (Spent m i) = tt
-    go (AsksOwner m l o w e) = λ x j q. inl (q, refl)
-    go (TakesSkip u b e i) = λ x j q. inl (q, refl)
-    go (TakesAbort u b e i) = λ x j q. inl (q, refl)
-    go (TakesProbe t i) = λ x j q. inl (q, refl)
-    go (TakesLoad l k i e o) = λ x j q. inl (q, refl)
-    go (TakesMark l k i) = λ x j q. inl (q, refl)
     go (TakesCommit b e) = λ x j q. taken x j (has_mark s.lines x) q
-    go (TakesAck l k b i e) = λ x j q. inl (q, refl)
     go (TakesCopy m l k ws g y e o) = λ x j q. inl (came x j (x == l) q, refl)
-=======
-unfolding dir_deliver
-dir-owns sh s c (Skip u) = skip-owns u c (Skip u) s
-dir-owns sh s c (Abort u) = abort-owns u c (Abort u) s
-dir-owns sh s c (Probe u) = probe-owns c u (Probe u) s
-dir-owns sh s c (LoadReq l x) = load-owns c l x (LoadReq l x) s
-dir-owns sh s c (Mark l k u) = mark-owns l k u c (Mark l k u) s
-dir-owns sh s c (Commit u n) = commit-owns sh c u n s
-dir-owns sh s c (InvAck l b) = ack-owns c l b (InvAck l b) s
-dir-owns sh s c (WriteBack l k ws g) = back-owns c l k ws g (WriteBack l k ws g) s
-dir-owns sh s c (Flush l k ws g) = back-owns c l k ws g (Flush l k ws g) s
-dir-owns sh s c _ = tt
->>>>>>> d44addaf3ee64b4f00b5bf5044d851cc1b82ede7
+    go _ = λ x j q. inl (q, refl)
 
 -- the owners of one directory's lines
 abbrev LineOwners : List Grant → DirState → Type 0

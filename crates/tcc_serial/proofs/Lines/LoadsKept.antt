@@ -30,7 +30,6 @@ unfolding among
 quiet c m l j h = omega (arith, and-none (j == c) (passes (LoadOf l) m) h)
 
 pub dir-fills : (sh : Shape) (s : DirState) (c : ℕ) (m : Msg) → FillsBy c m (dir_deliver sh s c m)
-<<<<<<< HEAD
 unfolding passes
 dir-fills sh s c m = go (outcome sh s c m)
   where
@@ -53,19 +52,6 @@ dir-fills sh s c m = go (outcome sh s c m)
     go (TakesCommit b e) = λ l j. omega (arith, none-invalidations (FillOf l) (λ x y z. refl) sh s.lines c s.serving.serving j, and-none (j == c) false refl)
     go (TakesAck k x b i e) = λ l j. quiet c (InvAck k x) l j refl
     go (TakesCopy m k n ws g y e o) = λ l j. quiet c m l j (y.alike (LoadOf l))
-=======
-unfolding dir_deliver passes
-dir-fills sh s c (Skip u) = skip-fills u c s
-dir-fills sh s c (Abort u) = abort-fills u c s
-dir-fills sh s c (Probe u) = probe-fills c u s
-dir-fills sh s c (LoadReq k a) = load-fills c k a s
-dir-fills sh s c (Mark k n u) = mark-fills k n u c s
-dir-fills sh s c (Commit u n) = commit-fills sh c u n s
-dir-fills sh s c (InvAck k b) = ack-fills c k b s
-dir-fills sh s c (WriteBack k n ws g) = back-fills c k n ws g (WriteBack k n ws g) s (λ l. refl)
-dir-fills sh s c (Flush k n ws g) = back-fills c k n ws g (Flush k n ws g) s (λ l. refl)
-dir-fills sh s c _ = tt
->>>>>>> d44addaf3ee64b4f00b5bf5044d851cc1b82ede7
 
 -- nothing is no Fill
 none-fills : (l : ℕ) → among (FillOf l) [] ≡ 0

@@ -14,31 +14,11 @@ OwesBy sh s m (Takes new sends) = (new.owed ≤ s.owed) ⊎ CountsMarked sh s m
 OwesBy sh s m _ = Unit {0}
 
 pub dir-owes : (sh : Shape) (s : DirState) (c : ℕ) (m : Msg) → OwesBy sh s m (dir_deliver sh s c m)
-<<<<<<< HEAD
 dir-owes sh s c m = go (outcome sh s c m)
   where
     go : {m : Msg} {a : Answer} → Outcome sh s c m a → OwesBy sh s m a
     go (Waiting m) = tt
     go (Spent m i) = tt
     go (AsksOwner m l o w e) = omega arith
-    go (TakesSkip t b e h) = inl (omega arith)
-    go (TakesAbort t b e h) = inl (omega arith)
-    go (TakesProbe t h) = inl (omega arith)
-    go (TakesLoad l k h e o) = inl (omega arith)
-    go (TakesMark l k h) = inl (omega arith)
     go (TakesCommit b e) = inr refl
-    go (TakesAck l k b h e) = inl (omega arith)
-    go (TakesCopy m l k ws g y e o) = inl (omega arith)
-=======
-unfolding dir_deliver
-dir-owes sh s c (Skip u) = skip-owes sh u s
-dir-owes sh s c (Abort u) = abort-owes sh u s
-dir-owes sh s c (Probe u) = probe-owes sh c u s
-dir-owes sh s c (LoadReq l x) = load-owes sh c l x s
-dir-owes sh s c (Mark l k u) = mark-owes sh l k u s
-dir-owes sh s c (Commit u n) = commit-owes sh c u n s
-dir-owes sh s c (InvAck l b) = ack-owes sh c l b s
-dir-owes sh s c (WriteBack l k ws g) = back-owes sh c l k ws g s (WriteBack l k ws g)
-dir-owes sh s c (Flush l k ws g) = back-owes sh c l k ws g s (Flush l k ws g)
-dir-owes sh s c _ = tt
->>>>>>> d44addaf3ee64b4f00b5bf5044d851cc1b82ede7
+    go _ = inl (omega arith)

@@ -15,7 +15,6 @@ WhollyBy (Takes new sends) = WhollyOrHome new
 WhollyBy _ = Unit {0}
 
 pub dir-whole : (sh : Shape) (s : DirState) (c : ℕ) (m : Msg) → WhollyOrHome s → WhollyBy (dir_deliver sh s c m)
-<<<<<<< HEAD
 dir-whole sh s c m h = go (outcome sh s c m)
   where
     unmarks : (x : ℕ) (b : Bool) → s.owed ≡ 0 → nat_lt 0 (if b then 0 else s.lines.mark x) ≡ true → ((if b then 0 else s.lines.mark x) ≡ full) ⊎ (s.lines.owner x ≡ None)
@@ -39,28 +38,12 @@ dir-whole sh s c m h = go (outcome sh s c m)
     go : {m : Msg} {a : Answer} → Outcome sh s c m a → WhollyBy a
     go (Waiting m) = tt
     go (Spent m i) = tt
-    go (AsksOwner m l o w e) = h
-    go (TakesSkip u b e i) = h
     go (TakesAbort u b e i) = λ x o n. unmarks x b o n
-    go (TakesProbe t i) = h
-    go (TakesLoad l k i e o) = h
     go (TakesMark l k i) = λ x o n. marks l k i x (x == l) refl o n
     go (TakesCommit b e) = λ x o n. settled x (owed_by sh s.lines c) b e o n
     go (TakesAck l k b i e) = λ x o n. settled x (s.owed - 1) b e o n
     go (TakesCopy m l k ws g y e o) = λ x o n. came x (x == l) (h x o n)
-=======
-unfolding dir_deliver
-dir-whole sh s c (Skip u) h = skip-whole u s h
-dir-whole sh s c (Abort u) h = abort-whole u s h
-dir-whole sh s c (Probe u) h = probe-whole c u s h
-dir-whole sh s c (LoadReq l x) h = load-whole c l x s h
-dir-whole sh s c (Mark l k u) h = mark-whole l k u s h
-dir-whole sh s c (Commit u n) h = commit-whole sh c u n s
-dir-whole sh s c (InvAck l b) h = ack-whole c l b s
-dir-whole sh s c (WriteBack l k ws g) h = back-whole c l k ws g s h
-dir-whole sh s c (Flush l k ws g) h = back-whole c l k ws g s h
-dir-whole sh s c _ h = tt
->>>>>>> d44addaf3ee64b4f00b5bf5044d851cc1b82ede7
+    go _ = h
 
 pub step-whole : (sh : Shape) (p : Program) (w : World) (e : Event) → KeptWhole sh w → IfSome (step sh p w e) (λ o. KeptWhole sh o.world)
 unfolding pair core_moves core_takes vendor_gives

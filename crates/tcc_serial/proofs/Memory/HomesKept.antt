@@ -28,10 +28,9 @@ pub record Answers (sh : Shape) (d : ℕ) (new : DirState) (sends : Sends) : Typ
   pub homely : (j : ℕ) → Homely sh d (sends (Core j))
 
 abbrev pub HomesBy : Shape → (dir : ℕ) → Answer → Type 0
-HomesBy sh d Waits = Unit {0}
-HomesBy sh d Drops = Unit {0}
 HomesBy sh d (Asks new sends) = Answers sh d new sends
 HomesBy sh d (Takes new sends) = Answers sh d new sends
+HomesBy sh d _ = Unit {0}
 
 quietly : (sh : Shape) (d : ℕ) (new : DirState) → LinesHome sh d new.lines → Answers sh d new nothing
 quietly sh d new h = record { lines = h; homely = λ j. homely-none sh d }
@@ -119,8 +118,6 @@ dir-homes sh d s c m cl aw h = go (outcome sh s c m) aw
     inv j l q = let m = marked (nat_lt j sh.cores) (nat_lt 0 (s.lines.mark l)) (s.lines.sharers l j) (not (j == c)) q in one-inv sh d l (s.lines.mark l) s.serving.serving (marked-here sh d l s.lines h m) m
 
     go : {m : Msg} {a : Answer} → Outcome sh s c m a → passes (LinesAway sh.dirs d) m ≡ false → HomesBy sh d a
-    go (Waiting m) a = tt
-    go (Spent m i) a = tt
     go (AsksOwner m l o w e) a = let p = wants w a in record {
       lines = record { known = λ x n. let u = h.known x n in record { sharers = u.sharers; owner = u.owner; tag = u.tag; asked = rw (other sh d l x p n) u.asked; mark = u.mark }; sharers = h.sharers; owners = h.owners };
       homely = λ j. one-to sh d o j (DataReq l) (one-data sh d l p);
@@ -151,6 +148,7 @@ dir-homes sh d s c m cl aw h = go (outcome sh s c m) aw
       sharers = h.sharers;
       owners = λ x j q. less x j (x == l) q;
     })
+    go _ a = tt
 
 -- every event
 

@@ -16,10 +16,9 @@ abbrev pub SparesOwn : DirState → (core : ℕ) → Msg → Sends → Type 0
 SparesOwn s c m sends = Quiet sends ⊎ ((among Invs (sends (Core c)) ≡ 0) × (passes (Commits s.serving.serving) m ≡ true))
 
 abbrev pub SparesBy : DirState → (core : ℕ) → Msg → Answer → Type 0
-SparesBy s c m Waits = Unit {0}
-SparesBy s c m Drops = Unit {0}
 SparesBy s c m (Asks new sends) = Quiet sends
 SparesBy s c m (Takes new sends) = SparesOwn s c m sends
+SparesBy s c m _ = Unit {0}
 
 own-spared : (sh : Shape) (ls : Lines) (c k : ℕ) → is_invalidated sh ls c c k ≡ false
 unfolding is_invalidated

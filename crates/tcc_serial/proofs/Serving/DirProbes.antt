@@ -12,10 +12,9 @@ pub record Rises (s new : DirState) (sends : Sends) : Type 0 where
   pub replies : (j : ℕ) → among (RepliesAbove new.serving.serving) (sends (Core j)) ≡ 0
 
 abbrev pub RisesBy : DirState → Answer → Type 0
-RisesBy s Waits = Unit {0}
-RisesBy s Drops = Unit {0}
 RisesBy s (Asks new sends) = Rises s new sends
 RisesBy s (Takes new sends) = Rises s new sends
+RisesBy s _ = Unit {0}
 
 pub rises-still : (s : DirState) → Rises s s (λ dst. [])
 unfolding among

@@ -104,9 +104,7 @@ dir-handled sh s c m t = go (outcome sh s c m)
     go (AsksOwner m l o w e) h = refl
     go (TakesSkip u b e l) h = resolved (Skip u) u b e l (same u) refl h
     go (TakesAbort u b e l) h = resolved (Abort u) u b e l (same u) refl h
-    go (TakesProbe u l) h = omega arith
-    go (TakesLoad l k i e o) h = omega arith
-    go (TakesMark l k i) h = omega arith
     go (TakesCommit b e) h = let o : s.owed ≡ 0 = unserved s (Commit s.serving.serving (count_below (has_mark s.lines) (lines sh))) h (same s.serving.serving) in rw o (settled b (owed_by sh s.lines c) e)
     go (TakesAck l k b i e) h = omega (arith, settled b (s.owed - 1) e, owed-handled s.serving s.owed t i)
     go (TakesCopy m l k ws g y e o) h = rw (y.alike (Resolves t)) (omega arith)
+    go _ h = omega arith

@@ -10,10 +10,9 @@ pub data HomeBy (s : DirState) (m : Msg) (x : ℕ) (new : DirState) : Type 0 whe
   Home : passes (CopyWord x (s.lines.tag (line_of x))) m ≡ true → ((y : ℕ) → passes (CopyNot x (s.lines.tag (line_of x)) y) m ≡ not (new.words x == y)) → HomeBy s m x new
 
 abbrev pub WordsBy : DirState → Msg → (word : ℕ) → Answer → Type 0
-WordsBy s m x Waits = Unit {0}
-WordsBy s m x Drops = Unit {0}
 WordsBy s m x (Asks new sends) = new.words x ≡ s.words x
 WordsBy s m x (Takes new sends) = HomeBy s m x new
+WordsBy s m x _ = Unit {0}
 
 pub dir-words : (sh : Shape) (x : ℕ) (s : DirState) (c : ℕ) (m : Msg) → WordsBy s m x (dir_deliver sh s c m)
 unfolding passes

@@ -18,10 +18,9 @@ pub record Heard (s : DirState) (m : Msg) (t : ℕ) (new : DirState) : Type 0 wh
   pub owed : owes new t ≤ owes s t + num (passes (Commits t) m)
 
 abbrev pub HeardBy : DirState → Msg → (tid : ℕ) → Answer → Type 0
-HeardBy s m t Waits = Unit {0}
-HeardBy s m t Drops = Unit {0}
 HeardBy s m t (Asks new sends) = (new.serving ≡ s.serving) × (new.owed ≡ s.owed)
 HeardBy s m t (Takes new sends) = Heard s m t new
+HeardBy s m t _ = Unit {0}
 
 heard-same : (s : DirState) (m : Msg) (t : ℕ) (new : DirState) → new.serving ≡ s.serving → new.owed ≡ s.owed → Heard s m t new
 heard-same s m t new e f = record { keeps = rw e (omega arith); owed = rw (e, f) (omega arith) }
@@ -53,8 +52,6 @@ dir-heard sh s c m t = go (outcome sh s c m)
     settled m false n e l new f g = record { keeps = rw f (omega arith); owed = rw (f, g) l }
 
     go : {m : Msg} {a : Answer} → Outcome sh s c m a → OnceAt s m → HeardBy s m t a
-    go (Waiting m) h = tt
-    go (Spent m i) h = tt
     go (AsksOwner m l o w e) h = (refl, refl)
     go (TakesSkip u b e l) h = given (Skip u) u b e l (same u) (omega arith) h _ refl refl
     go (TakesAbort u b e l) h = given (Abort u) u b e l (same u) (omega arith) h _ refl refl
@@ -64,3 +61,4 @@ dir-heard sh s c m t = go (outcome sh s c m)
     go (TakesCommit b e) h = settled _ b (owed_by sh s.lines c) e (grind (arith, nat_tests)) _ refl refl
     go (TakesAck l k b i e) h = settled (InvAck l k) b (s.owed - 1) e (grind (arith, nat_tests)) _ refl refl
     go (TakesCopy m l k ws g y e o) h = heard-same s m t _ refl refl
+    go _ h = tt
