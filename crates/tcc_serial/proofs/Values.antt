@@ -20,7 +20,6 @@ pub mod CoreWords
 pub mod CoreWordsTakes
 pub mod CommitWords
 pub mod HomesAnswered
-pub mod HomesStep
 pub mod CommitHomes
 pub mod HomeWordsKept
 pub mod NewestCopy

@@ -6,7 +6,7 @@ use Rattle.tcc_serial.proofs.Names.{Takes, dir_deliver, line_words, core_moves, 
 use Rattle.tcc_serial.proofs.Names.{live, among, passes, Pair, pair}
 use Rattle.tcc_serial.proofs.Counts.DirOutcome.{Outcome, Waiting, Spent, AsksOwner, TakesSkip, TakesAbort, TakesProbe, TakesLoad, TakesMark}
 use Rattle.tcc_serial.proofs.Counts.DirOutcome.{TakesCommit, TakesAck, TakesCopy, IsSpent, SkipPassed, AbortPassed, MarkPassed, NoneOwed}
-use Rattle.tcc_serial.proofs.Counts.DirOutcome.{CopyPassed, outcome, among-to, none-to, none-invalidations}
+use Rattle.tcc_serial.proofs.Counts.DirOutcome.{CopyPassed, outcome, among-none, among-to, none-to, none-invalidations}
 use Rattle.tcc_serial.proofs.Counts.Links.{live-sends, live-takes}
 use Rattle.tcc_serial.proofs.Counts.PairFrames.{same, differ, pairs_move, pairs_grant, pairs_back, pairs_dir, pairs_asks, pairs_vendor}
 use Rattle.tcc_serial.proofs.Counts.StepCases.{OfAnswer, step_cases}
@@ -34,24 +34,18 @@ unfolding passes
 dir-fills sh s c m = go (outcome sh s c m)
   where
     spent : {m : Msg} → IsSpent s c m → (l : ℕ) → passes (LoadOf l) m ≡ false
-    spent (SkipPassed u i) l = refl
-    spent (AbortPassed u i) l = refl
-    spent (MarkPassed k n u i) l = refl
-    spent (NoneOwed k b i) l = refl
     spent (CopyPassed m k n ws g y i e) l = y.alike (LoadOf l)
+    spent _ l = refl
 
     go : {m : Msg} {a : Answer} → Outcome sh s c m a → FillsBy c m a
     go (Waiting m) = tt
     go (Spent m i) = spent i
     go (AsksOwner m k o w e) = λ l j. none-to (FillOf l) o j (DataReq k) refl
-    go (TakesSkip u b e i) = λ l j. quiet c (Skip u) l j refl
-    go (TakesAbort u b e i) = λ l j. quiet c (Abort u) l j refl
     go (TakesProbe t i) = λ l j. among-to (FillOf l) c j (ProbeReply t s.serving.serving)
     go (TakesLoad k x i e o) = λ l j. among-to (FillOf l) c j (Fill k (line_words s k))
-    go (TakesMark k n i) = λ l j. quiet c (Mark k n s.serving.serving) l j refl
     go (TakesCommit b e) = λ l j. omega (arith, none-invalidations (FillOf l) (λ x y z. refl) sh s.lines c s.serving.serving j, and-none (j == c) false refl)
-    go (TakesAck k x b i e) = λ l j. quiet c (InvAck k x) l j refl
     go (TakesCopy m k n ws g y e o) = λ l j. quiet c m l j (y.alike (LoadOf l))
+    go _ = λ l j. omega (arith, among-none (FillOf l), and-none (j == c) false refl)
 
 -- nothing is no Fill
 none-fills : (l : ℕ) → among (FillOf l) [] ≡ 0

@@ -32,11 +32,9 @@ dir-marked sh s c m = go (outcome sh s c m)
     none m n t l q = let x = n t l in absurd (cc)
 
     spent : {m : Msg} → IsSpent s c m → (t l : ℕ) → passes (MarkOf t l) m ≡ true → t < s.serving.serving
-    spent (SkipPassed u i) t l q = absurd (cc)
-    spent (AbortPassed u i) t l q = absurd (cc)
     spent (MarkPassed k n u i) t l q = grind (arith, nat_tests)
-    spent (NoneOwed k b i) t l q = absurd (cc)
-    spent (CopyPassed m k n ws g y i e) t l q = none _ (λ t l. y.alike (MarkOf t l)) t l q
+    spent (CopyPassed m k n ws g y i e) t l q = none m (λ t l. y.alike (MarkOf t l)) t l q
+    spent _ t l q = absurd (cc)
 
     settled : {m : Msg} (b : Bool) → NoMark m → (new : DirState) → new.serving ≡ (if b then advance s.serving else s.serving) → ((x : ℕ) → new.lines.mark x ≡ (if b then 0 else s.lines.mark x)) → Marked s m new
     settled true n new e f = Clears (rw e (advance-rises s.serving)) f n
@@ -47,12 +45,9 @@ dir-marked sh s c m = go (outcome sh s c m)
     go (Spent m i) = spent i
     go (AsksOwner m l o w e) = (refl, λ x. refl)
     go (TakesSkip u true e h) = let i : s.serving.serving ≡ u = grind (arith, nat_tests) in Skipped (rw i refl) (λ x. refl)
-    go (TakesSkip u false e h) = Stays refl (λ x. refl) (none (Skip u) (λ t x. refl))
     go (TakesAbort u true e h) = settled true (λ t x. refl) _ refl (λ x. refl)
-    go (TakesAbort u false e h) = Stays refl (λ x. refl) (none (Abort u) (λ t x. refl))
-    go (TakesProbe t h) = Stays refl (λ x. refl) (none (Probe t) (λ t x. refl))
-    go (TakesLoad l k h e o) = Stays refl (λ x. refl) (none (LoadReq l k) (λ t x. refl))
     go (TakesMark l k h) = Marks l k refl refl (λ x. refl)
     go (TakesCommit b e) = settled b (λ t x. refl) _ refl (λ x. refl)
     go (TakesAck l k b h e) = settled b (λ t x. refl) _ refl (λ x. refl)
     go (TakesCopy m l k ws g y e o) = Stays refl (λ x. refl) (none m (λ t x. y.alike (MarkOf t x)))
+    go _ = Stays refl (λ x. refl) (λ t x q. absurd (cc))

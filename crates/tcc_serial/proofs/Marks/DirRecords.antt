@@ -56,15 +56,12 @@ dir-records sh s c m = go (outcome sh s c m)
     late k l t g false z y h = absurd (cc)
 
     spent : {m : Msg} → IsSpent s c m → Dropped s c m
-    spent (SkipPassed u i) = no-copy s c (Skip u) (λ t. refl) (λ l t. refl)
-    spent (AbortPassed u i) = no-copy s c (Abort u) (λ t. refl) (λ l t. refl)
-    spent (MarkPassed k n u i) = no-copy s c (Mark k n u) (λ t. refl) (λ l t. refl)
-    spent (NoneOwed k b i) = no-copy s c (InvAck k b) (λ t. refl) (λ l t. refl)
     spent (CopyPassed m k n ws g y i e) = record {
       commit = λ t. y.alike (Commits t);
       late = λ l t q. late k l t g (k == l) refl (rw (y.alike (CopyOf l t)) at q) i;
       other = λ l q. other k l g (k == l) refl (rw (y.alike (CopyOf l (s.lines.tag l))) at q) e;
     }
+    spent _ = record { commit = λ t. refl; late = λ l t q. absurd (cc); other = λ l q. absurd (cc) }
 
     go : {m : Msg} {a : Answer} → Outcome sh s c m a → RecordsBy sh s c m a
     go (Waiting m) = tt

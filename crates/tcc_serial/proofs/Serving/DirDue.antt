@@ -121,11 +121,9 @@ dir-due sh d s c m h k = go (outcome sh s c m) h
     marks l n e x false q r = k x r
 
     spent : {m : Msg} → IsSpent s c m → num (passes Acks m) ≤ s.owed → num (passes Acks m) ≡ 0
-    spent (SkipPassed u i) o = refl
-    spent (AbortPassed u i) o = refl
-    spent (MarkPassed l n u i) o = refl
     spent (NoneOwed l b i) o = omega (arith, o, i)
     spent (CopyPassed m l n ws g y i e) o = rw (y.alike Acks) refl
+    spent _ o = refl
 
     go : {m : Msg} {a : Answer} → Outcome sh s c m a → OnceAt s m → passes (MarksAway sh.dirs d) m ≡ false → num (passes Acks m) ≤ s.owed → DueBy sh d s (num (passes Acks m)) a
     go (Waiting m) h a o = tt

@@ -35,18 +35,11 @@ pub dir-spares : (sh : Shape) (s : DirState) (c : ℕ) (m : Msg) → SparesBy s 
 unfolding passes
 dir-spares sh s c m = go (outcome sh s c m)
   where
-    none : Quiet nothing
-    none j = among-none Invs
-
     go : {m : Msg} {a : Answer} → Outcome sh s c m a → SparesBy s c m a
     go (Waiting q) = tt
     go (Spent q h) = tt
     go (AsksOwner q l o w e) = λ j. none-to Invs o j (DataReq l) refl
-    go (TakesSkip t b e h) = inl none
-    go (TakesAbort t b e h) = inl none
     go (TakesProbe t h) = inl (λ j. none-to Invs c j (ProbeReply t s.serving.serving) refl)
     go (TakesLoad l k h e o) = inl (λ j. none-to Invs c j (Fill l (line_words s l)) refl)
-    go (TakesMark l k h) = inl none
     go (TakesCommit b e) = inr (spares-invalidations sh s.lines c s.serving.serving, same s.serving.serving)
-    go (TakesAck l k b h e) = inl none
-    go (TakesCopy q l k ws g y e o) = inl none
+    go _ = inl (λ j. among-none Invs)

@@ -28,28 +28,19 @@ dir-replies sh s c m = go (outcome sh s c m)
     quiet : (m : Msg) (sends : Sends) → ((t : ℕ) → passes (Probes t) m ≡ false) → ((j t : ℕ) → among (Replies t) (sends (Core j)) ≡ 0) → Replying m c sends
     quiet m sends n h = record { own = λ t. rw (n t) (h c t); others = λ j t x. h j t }
 
-    none : (j t : ℕ) → among (Replies t) [] ≡ 0
-    none j t = among-none (Replies t)
-
     spent : {m : Msg} → IsSpent s c m → (t : ℕ) → num (passes (Probes t) m) ≡ 0
-    spent (SkipPassed u h) t = refl
-    spent (AbortPassed u h) t = refl
-    spent (MarkPassed l k u h) t = refl
-    spent (NoneOwed l b h) t = refl
     spent (CopyPassed m l k ws g y h e) t = rw (y.alike (Probes t)) refl
+    spent _ t = refl
 
     go : {m : Msg} {a : Answer} → Outcome sh s c m a → RepliesBy m c a
     go (Waiting q) = tt
     go (Spent q h) = spent h
     go (AsksOwner q l o w e) = λ j t. none-to (Replies t) o j (DataReq l) refl
-    go (TakesSkip t b e h) = quiet (Skip t) nothing (λ t. refl) none
-    go (TakesAbort t b e h) = quiet (Abort t) nothing (λ t. refl) none
     go (TakesProbe u h) = record {
       own = λ t. rw (among-to (Replies t) c c (ProbeReply u s.serving.serving), same c) refl;
       others = λ j t n. rw (among-to (Replies t) c j (ProbeReply u s.serving.serving), differ j c n) refl;
     }
     go (TakesLoad l k h e o) = quiet (LoadReq l k) _ (λ t. refl) (λ j t. none-to (Replies t) c j (Fill l (line_words s l)) refl)
-    go (TakesMark l k h) = quiet (Mark l k s.serving.serving) nothing (λ t. refl) none
     go (TakesCommit b e) = quiet _ _ (λ t. refl) (λ j t. none-invalidations (Replies t) (λ x y z. refl) sh s.lines c s.serving.serving j)
-    go (TakesAck l k b h e) = quiet (InvAck l k) nothing (λ t. refl) none
-    go (TakesCopy q l k ws g y e o) = quiet q nothing (λ t. y.alike (Probes t)) none
+    go (TakesCopy m l k ws g y e o) = quiet m nothing (λ t. y.alike (Probes t)) (λ j t. among-none (Replies t))
+    go _ = record { own = λ t. among-none (Replies t); others = λ j t n. among-none (Replies t) }

@@ -90,9 +90,8 @@ dir-handled sh s c m t = go (outcome sh s c m)
     spent : {m : Msg} → IsSpent s c m → OnceAt s m → num (passes (Resolves t) m) ≡ 0
     spent (SkipPassed u l) h = absurd (passed_twice s (Skip u) u h (same u) l)
     spent (AbortPassed u l) h = absurd (passed_twice s (Abort u) u h (same u) l)
-    spent (MarkPassed l k u i) h = refl
-    spent (NoneOwed l b i) h = refl
     spent (CopyPassed m l k ws g y i e) h = rw (y.alike (Resolves t)) refl
+    spent _ h = refl
 
     resolved : (m : Msg) (u : ℕ) (b : Bool) → (s.serving.serving == u) ≡ b → s.serving.serving ≤ u → passes (Resolves u) m ≡ true → num (passes (Resolves t) m) ≡ num (u == t) → OnceAt s m → handled (if b then advance s.serving else kept u s.serving) s.owed t ≡ handled s.serving s.owed t + num (passes (Resolves t) m)
     resolved m u true e l p q h = resolved_served s m u t h (grind (arith, nat_tests)) p q
@@ -101,7 +100,6 @@ dir-handled sh s c m t = go (outcome sh s c m)
     go : {m : Msg} {a : Answer} → Outcome sh s c m a → OnceAt s m → HandledBy s m t a
     go (Waiting m) h = tt
     go (Spent m i) h = spent i h
-    go (AsksOwner m l o w e) h = refl
     go (TakesSkip u b e l) h = resolved (Skip u) u b e l (same u) refl h
     go (TakesAbort u b e l) h = resolved (Abort u) u b e l (same u) refl h
     go (TakesCommit b e) h = let o : s.owed ≡ 0 = unserved s (Commit s.serving.serving (count_below (has_mark s.lines) (lines sh))) h (same s.serving.serving) in rw o (settled b (owed_by sh s.lines c) e)

@@ -28,14 +28,8 @@ dir-words sh x s c m = go (outcome sh s c m)
         Home (y.alike (CopyWord x (s.lines.tag (line_of x))) ∙ rw (h, r) refl) (λ v. y.alike (CopyNot x (s.lines.tag (line_of x)) v) ∙ rw (h, r, w) refl)
 
     go : {m : Msg} {a : Answer} → Outcome sh s c m a → WordsBy s m x a
-    go (Waiting q) = tt
-    go (Spent q h) = tt
-    go (AsksOwner q l o w e) = refl
-    go (TakesSkip t b e h) = Left refl (λ t. refl)
-    go (TakesAbort t b e h) = Left refl (λ t. refl)
-    go (TakesProbe t h) = Left refl (λ t. refl)
-    go (TakesLoad l k h e o) = Left refl (λ t. refl)
-    go (TakesMark l k h) = Left refl (λ t. refl)
-    go (TakesCommit b e) = Left refl (λ t. refl)
-    go (TakesAck l k b h e) = Left refl (λ t. refl)
-    go (TakesCopy q l k ws g y e o) = home l k ws g y e (hit l k x) refl _ refl
+    go (Waiting m) = tt
+    go (Spent m h) = tt
+    go (AsksOwner m l o w e) = refl
+    go (TakesCopy m l k ws g y e o) = home l k ws g y e (hit l k x) refl _ refl
+    go _ = Left refl (λ t. refl)

@@ -11,7 +11,7 @@ use Rattle.tcc_serial.proofs.Serving.LastSteps.{grant-any}
 use Rattle.tcc_serial.proofs.Memory.MemoryHomes.{marks_at_homes}
 use Rattle.tcc_serial.proofs.Counts.PairFrames.{same, differ, either, pairs_move}
 use Rattle.tcc_serial.proofs.Values.ValueAt.{IsSilent, value-skip}
-use Rattle.tcc_serial.proofs.Views.ViewCases.{new_uses}
+use Rattle.tcc_serial.proofs.Counts.StepCases.{new_uses}
 use Rattle.tcc_serial.proofs.Views.ViewCores.{Keeps, Exec, Goes, Commits, exec-view, used-each, each-append, evict-view}
 use Rattle.tcc_serial.proofs.Views.ViewDirs.{AllNear}
 use Rattle.tcc_serial.proofs.Views.ViewFacts.{bound-own, open-served, served-unapplied, solo-holds, solo-undoomed, each-one}

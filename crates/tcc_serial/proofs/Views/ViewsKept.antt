@@ -8,7 +8,7 @@ use Rattle.tcc_serial.proofs.Names.{Ways, sent_by, ways_after}
 use Rattle.tcc_serial.specs.KeepsViews.{KeepsViews}
 use Rattle.tcc_serial.proofs.Counts.PairFrames.{AllPairs, given}
 use Rattle.tcc_serial.proofs.Counts.StepCases.{OfAnswer}
-use Rattle.tcc_serial.proofs.Views.ViewCases.{new_uses, view_cases}
+use Rattle.tcc_serial.proofs.Counts.StepCases.{new_uses, event_cases}
 use Rattle.tcc_serial.proofs.Views.ViewFacts.{IsSeen, doomed-again, uses-seen, each-two, each-one}
 use Rattle.tcc_serial.proofs.Views.ViewPairs.{NearAt, ViewOf}
 use Rattle.tcc_serial.proofs.Views.ViewDirs.{AllNear, AllSeen, NearAfter, answered-views}
@@ -48,12 +48,12 @@ Keeping sh p ram h vs o = (gs : List Grant) (ys : Ways) → Carried sh gs ys (Af
 
 pub keeps_views : KeepsViews
 unfolding next
-keeps_views sh p entries ram gs ys views m h e k = recording (step sh p h.world e) (view_cases sh p h.world views e (Keeping sh p ram h)
+keeps_views sh p entries ram gs ys views m h e k = recording (step sh p h.world e) (event_cases sh p h.world views e (λ v x g. Keeping sh p ram h v)
     (λ c l. each (core_exec sh p c (h.world.cores c)) (λ o. put views c (uses_executed (Some o) (views c) (new_uses sh p h.world c))) (λ o. record { world = core_moves h.world c o; noted = o.commit }) (exec-views sh p gs ys ram views h k.carried k.carried_in_memory k.unmodified_word_is_current_or_inv_in_flight near c l))
     (λ c x y l. each (core_evict sh x y (h.world.cores c)) (λ o. views) (λ o. record { world = core_moves h.world c o; noted = o.commit }) (evict-views sh ram views h near c x y))
     (λ c i t q. after (put views c (views c)) (record { world = core_takes h.world Vendor c i (grant sh t (h.world.cores c)); noted = (grant sh t (h.world.cores c)).commit }) (grant-views sh gs ys ram views h k.carried near doomed c i t q))
     (λ c d i x q. each (from_dir sh d (h.world.cores c) x) (λ o. put views c (uses_delivered (h.world.cores c) x (views c))) (λ o. record { world = core_takes h.world (Dir d) c i o; noted = o.commit }) (back-views sh gs ys ram views h k.carried seen near doomed c d i x q))
-    (λ c d i x l q. answered c d i (dir_deliver sh (h.world.dirs d) c x) (answered-views sh gs ys ram views h c d i x k.carried k.carried_in_memory.commits_stay_in_memory seen near l q))
+    (λ c d i x l y q. answered c d i (dir_deliver sh (h.world.dirs d) c x) (answered-views sh gs ys ram views h c d i x k.carried k.carried_in_memory.commits_stay_in_memory seen near l q))
     (λ c i q. after views (record { world = vendor_gives h.world c i (given h.world c); noted = None }) (vendor-views sh gs ys ram views h k.carried near c i q)))
   where
     near : AllNear sh ram h.commits views h.world

@@ -52,13 +52,11 @@ dir-heard sh s c m t = go (outcome sh s c m)
     settled m false n e l new f g = record { keeps = rw f (omega arith); owed = rw (f, g) l }
 
     go : {m : Msg} {a : Answer} → Outcome sh s c m a → OnceAt s m → HeardBy s m t a
+    go (Waiting m) h = tt
+    go (Spent m i) h = tt
     go (AsksOwner m l o w e) h = (refl, refl)
     go (TakesSkip u b e l) h = given (Skip u) u b e l (same u) (omega arith) h _ refl refl
     go (TakesAbort u b e l) h = given (Abort u) u b e l (same u) (omega arith) h _ refl refl
-    go (TakesProbe u l) h = heard-still s (Probe u) t
-    go (TakesLoad l k i e o) h = heard-same s (LoadReq l k) t _ refl refl
-    go (TakesMark l k i) h = heard-same s (Mark l k s.serving.serving) t _ refl refl
     go (TakesCommit b e) h = settled _ b (owed_by sh s.lines c) e (grind (arith, nat_tests)) _ refl refl
     go (TakesAck l k b i e) h = settled (InvAck l k) b (s.owed - 1) e (grind (arith, nat_tests)) _ refl refl
-    go (TakesCopy m l k ws g y e o) h = heard-same s m t _ refl refl
-    go _ h = tt
+    go _ h = record { keeps = omega arith; owed = omega arith }
