@@ -9,7 +9,7 @@ use Rattle.tcc_serial.proofs.Names.{dir_deliver, moved_on, settled, owned, owed_
 use Rattle.tcc_serial.proofs.Names.{ask_owner, load_owned, load_request, line_words, marking, mark_owned, mark, judged, write_back}
 use Rattle.tcc_serial.proofs.Names.{came_home, probe, Kind, among, passes}
 use Rattle.tcc_rules.specs.DirDeliver.{commit}
-use Rattle.tcc_serial.proofs.Counts.Sent.{among-flat_map_none}
+use Rattle.tcc_serial.proofs.Counts.Links.{among-flat_map_none}
 
 -- a WriteBack or Flush, which count alike
 pub record IsCopy (m : Msg) (l k : ℕ) (ws : List ℕ) (g : ℕ) : Type 0 where

@@ -5,7 +5,7 @@ use Rattle.tcc_serial.proofs.Names.{ap, ◌∙◌, inl, inr, nat_tests, has_mark
 use Rattle.tcc_serial.proofs.Names.{Drops, Asks, Takes, dir_deliver, CopyOf, DataOf, among, passes}
 use Rattle.tcc_serial.proofs.Counts.DirOutcome.{Outcome, Waiting, Spent, AsksOwner, TakesSkip, TakesAbort, TakesProbe, TakesLoad, TakesMark}
 use Rattle.tcc_serial.proofs.Counts.DirOutcome.{TakesCommit, TakesAck, TakesCopy, IsCopy, outcome, among-to}
-use Rattle.tcc_serial.proofs.Counts.PairFrames.{same}
+use Rattle.tcc_serial.proofs.Counts.StepCases.{same}
 
 -- the line stays asked, of the same owner, and the message isn't its copy
 pub record StaysAsked (s : DirState) (m : Msg) (new : DirState) (l : ℕ) : Type 0 where

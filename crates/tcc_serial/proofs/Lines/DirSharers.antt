@@ -6,7 +6,8 @@ use Rattle.tcc_serial.proofs.Names.{Takes, dir_deliver, line_words, FillOf, Gone
 use Rattle.tcc_serial.proofs.Counts.DirOutcome.{Outcome, Waiting, Spent, AsksOwner, TakesSkip, TakesAbort, TakesProbe, TakesLoad, TakesMark}
 use Rattle.tcc_serial.proofs.Counts.DirOutcome.{TakesCommit, TakesAck, TakesCopy, ToLoad, ToMark, outcome, among-to, among-none, none-to}
 use Rattle.tcc_serial.proofs.Counts.DirOutcome.{none-invalidations}
-use Rattle.tcc_serial.proofs.Counts.PairFrames.{same}
+use Rattle.tcc_serial.proofs.Counts.Links.{among-flat_map_none}
+use Rattle.tcc_serial.proofs.Counts.StepCases.{same}
 use Rattle.tcc_serial.proofs.Marks.OwesByCommit.{CountsMarked}
 
 pub record Shares (sh : Shape) (s : DirState) (c : ℕ) (m : Msg) (new : DirState) (sends : Sends) : Type 0 where

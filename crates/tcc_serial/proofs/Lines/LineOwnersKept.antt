@@ -8,8 +8,7 @@ use Rattle.tcc_serial.proofs.Names.{granted_by, SparesCommitter}
 use Rattle.tcc_serial.proofs.Counts.DirOutcome.{Outcome, Waiting, Spent, AsksOwner, TakesSkip, TakesAbort, TakesProbe, TakesLoad, TakesMark}
 use Rattle.tcc_serial.proofs.Counts.DirOutcome.{TakesCommit, TakesAck, TakesCopy, outcome}
 use Rattle.tcc_serial.proofs.Counts.Links.{live-takes}
-use Rattle.tcc_serial.proofs.Counts.PairFrames.{pairs_dir, pairs_asks, same}
-use Rattle.tcc_serial.proofs.Counts.StepCases.{OfAnswer, step_cases}
+use Rattle.tcc_serial.proofs.Counts.StepCases.{pairs_dir, pairs_asks, same, OfAnswer, step_cases}
 
 -- A line's owner was its owner before, with the same tag, or it is the core whose Commit the directory takes, with this TID.
 abbrev pub OwnsFrom : DirState → (core : ℕ) → Msg → DirState → Type 0

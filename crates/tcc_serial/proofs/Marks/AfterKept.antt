@@ -6,13 +6,12 @@ use Rattle.tcc_serial.proofs.Names.{in_flight, Sends, Out, core_exec, core_evict
 use Rattle.tcc_serial.proofs.Names.{dir_deliver, core_moves, core_takes, dir_takes, step, and_noted, insert_commit, AfterOf, KeptAfter}
 use Rattle.tcc_serial.proofs.Names.{KeptLoading, stored_there, LoadOf, LoadNot, live, KeptCores, Grant, AreGranted, holder, KeptOwners}
 use Rattle.tcc_serial.proofs.Names.{LastGranted, Pair, pair, after_move, stores_at, last_of}
-use Rattle.tcc_serial.proofs.Marks.CoreAfter.{no-load, Stays, Commits_now, AfterStep, after-exec, after-evict, after-grant, after-back}
-use Rattle.tcc_serial.proofs.Tids.CoreOwners.{KeepsHolder, noted_tid, none, holder-exec, holder-evict}
 use Rattle.tcc_serial.proofs.Counts.Links.{live-sends, live-takes}
+use Rattle.tcc_serial.proofs.Counts.StepCases.{either, moves-own, moves-other, pairs_move, pairs_grant, pairs_back, pairs_dir, pairs_asks}
+use Rattle.tcc_serial.proofs.Counts.StepCases.{pairs_vendor, OfAnswer, step_cases}
+use Rattle.tcc_serial.proofs.Marks.CoreAfter.{no-load, Stays, Commits_now, AfterStep, after-exec, after-evict, after-grant, after-back}
 use Rattle.tcc_serial.proofs.Serving.OwnerSteps.{holder-moved}
-use Rattle.tcc_serial.proofs.Counts.PairFrames.{either, moves-own, moves-other, pairs_move, pairs_grant, pairs_back, pairs_dir, pairs_asks}
-use Rattle.tcc_serial.proofs.Counts.PairFrames.{pairs_vendor}
-use Rattle.tcc_serial.proofs.Counts.StepCases.{OfAnswer, step_cases}
+use Rattle.tcc_serial.proofs.Tids.CoreOwners.{KeepsHolder, noted_tid, none, holder-exec, holder-evict}
 
 -- the last commit, with one more
 

@@ -9,19 +9,18 @@ use Rattle.tcc_serial.proofs.Names.{commit_sends, solo_sends, solo_marks, solo_b
 use Rattle.tcc_serial.proofs.Names.{exec_phase, unless_awaiting, core_evict, from_dir, probe_reply, fill, data_request, invalidate, Commits}
 use Rattle.tcc_serial.proofs.Names.{AnyCommit, CommitOf, MarkOf, MarkMask, among, passes, has_marked, stores_line, marked_by, OneCore}
 use Rattle.tcc_serial.proofs.Names.{stores_in, stored_mask, stores_at, has_tid}
-use Rattle.tcc_serial.proofs.Counts.Links.{among-append}
-use Rattle.tcc_serial.proofs.Counts.Sent.{among-flat_map_none}
-use Rattle.tcc_serial.proofs.OneCore.Executes.{Acts, Steady, Executed, Goes_on, Overflows, Asks_tid, Alone, executed}
-use Rattle.tcc_serial.proofs.OneCore.CoreSteps.{evict-steady, fill-steady, data-steady, invalidate-cases, reply-cases}
-use Rattle.tcc_serial.proofs.Serving.CoreCommits.{few-commits}
-use Rattle.tcc_serial.proofs.Serving.CommitOwners.{few-of}
+use Rattle.tcc_serial.proofs.Counts.Links.{among-append, among-flat_map_none}
 use Rattle.tcc_serial.proofs.Marks.CoreCounts.{is-commit, is-alone, has-solo, no-commits, free-hurt, free-replied}
 use Rattle.tcc_serial.proofs.Marks.CoreMarking.{mine, told-commit, has-ready}
 use Rattle.tcc_serial.proofs.Marks.CoreMarkingTakes.{unmarked}
 use Rattle.tcc_serial.proofs.Marks.CoreMasks.{own-mask, few-masked}
-use Rattle.tcc_serial.proofs.OneCore.NotedCommits.{Notes, exec-notes}
 use Rattle.tcc_serial.proofs.Marks.StoredMasks.{unspilled, stored-line, stored-any, stored-cases, modified-line, modified-stored}
 use Rattle.tcc_serial.proofs.Marks.StoredMasks.{written-line, written-stored}
+use Rattle.tcc_serial.proofs.OneCore.CoreSteps.{evict-steady, fill-steady, data-steady, invalidate-cases, reply-cases}
+use Rattle.tcc_serial.proofs.OneCore.Executes.{Acts, Steady, Executed, Goes_on, Overflows, Asks_tid, Alone, executed}
+use Rattle.tcc_serial.proofs.OneCore.NotedCommits.{Notes, exec-notes}
+use Rattle.tcc_serial.proofs.Serving.CommitOwners.{few-of}
+use Rattle.tcc_serial.proofs.Serving.CoreCommits.{few-commits}
 
 -- A core notes a commit that stored at the directory, and what this stored are the masks of the Marks that it has sent, and of those that it sends with it.
 pub record Storing (sh : Shape) (c d t : ℕ) (s : CoreState) (o : Out) : Type 0 where

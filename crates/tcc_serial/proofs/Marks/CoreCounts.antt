@@ -8,14 +8,13 @@ use Rattle.tcc_serial.proofs.Names.{Ready, Overflowing, Solo, Halted, to, marks_
 use Rattle.tcc_serial.proofs.Names.{solo_backs, solo_writes_at, is_written, written_mask, core_exec, exec_phase, unless_awaiting}
 use Rattle.tcc_serial.proofs.Names.{core_evict, from_dir, grant, grant_phase, probe_reply, fill, data_request, invalidate, total, Kind}
 use Rattle.tcc_serial.proofs.Names.{MarkOf, AnyCommit, CommitOf, among, passes, has_marked, stores_line, marked_by, may_commit, has_tid}
-use Rattle.tcc_serial.proofs.Counts.Links.{among-append, total-same, among-fewer}
-use Rattle.tcc_serial.proofs.Counts.Sent.{among-flat_map_none}
-use Rattle.tcc_serial.proofs.OneCore.Executes.{Acts, Steady, Executed, Goes_on, Overflows, Asks_tid, Alone, executed}
+use Rattle.tcc_serial.proofs.Counts.Links.{among-append, total-same, among-fewer, among-flat_map_none}
+use Rattle.tcc_serial.proofs.Marks.CoreMarking.{mine, self, told-commit, has-ready}
+use Rattle.tcc_serial.proofs.Marks.CoreMarks.{one-mark, marks-only}
 use Rattle.tcc_serial.proofs.OneCore.CoreSteps.{evict-steady, fill-steady, data-steady, Hurt, Unhurt, Rolled, Doomed, Aborted, Gave_up}
 use Rattle.tcc_serial.proofs.OneCore.CoreSteps.{Invalidated, invalidate-cases, Replied, Ignored, Probed, Left_alone, reply-cases}
+use Rattle.tcc_serial.proofs.OneCore.Executes.{Acts, Steady, Executed, Goes_on, Overflows, Asks_tid, Alone, executed}
 use Rattle.tcc_serial.proofs.Serving.CoreCommits.{few-commits, free-abort, free-skip, free-probe, free-grants, free-to, free-marks}
-use Rattle.tcc_serial.proofs.Marks.CoreMarks.{one-mark, marks-only}
-use Rattle.tcc_serial.proofs.Marks.CoreMarking.{mine, self, told-commit, has-ready}
 
 -- the Marks of a TID that a core has sent and sends
 abbrev marks_after : Shape → (dir tid : ℕ) → CoreState → Out → ℕ → ℕ

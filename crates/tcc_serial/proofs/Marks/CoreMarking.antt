@@ -6,12 +6,11 @@ use Rattle.tcc_serial.proofs.Names.{AwaitTid, DoomedTid, Probing, Ready, Overflo
 use Rattle.tcc_serial.proofs.Names.{commit, committed_core, phase_after, commit_sends, solo_sends, core_exec, exec_phase, unless_awaiting}
 use Rattle.tcc_serial.proofs.Names.{core_evict, Resolves, Protocol, Marks, MarkOf, EmptyMarks, Skips, among, passes, has_marked}
 use Rattle.tcc_serial.proofs.Names.{stores_line, marked_by, has_tid, opens}
-use Rattle.tcc_serial.proofs.Counts.Links.{among-append}
-use Rattle.tcc_serial.proofs.Tids.CoreProbing.{tid-after}
-use Rattle.tcc_serial.proofs.OneCore.Executes.{Acts, Steady, Executed, Goes_on, Overflows, Asks_tid, Alone, executed}
-use Rattle.tcc_serial.proofs.OneCore.CoreSteps.{evict-steady}
+use Rattle.tcc_serial.proofs.Counts.Links.{among-append, num-few}
 use Rattle.tcc_serial.proofs.Marks.CoreMarks.{solo-mark, solo-full, solo-skips, solo-owned}
-use Rattle.tcc_serial.proofs.Counts.Nums.{num-few}
+use Rattle.tcc_serial.proofs.OneCore.CoreSteps.{evict-steady}
+use Rattle.tcc_serial.proofs.OneCore.Executes.{Acts, Steady, Executed, Goes_on, Overflows, Asks_tid, Alone, executed}
+use Rattle.tcc_serial.proofs.Tids.CoreProbing.{tid-after}
 
 -- A core speaks only of its TID. While it keeps it, it has sent a Mark of each line that it has to; it marks a line once, only where
 -- the TID is open, and skips only where it has sent no Mark.

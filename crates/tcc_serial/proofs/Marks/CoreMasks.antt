@@ -7,15 +7,14 @@ use Rattle.tcc_serial.proofs.Names.{Running, AwaitTid, DoomedTid, Probing, Ready
 use Rattle.tcc_serial.proofs.Names.{commit, committed_core, phase_after, core_exec, exec_phase, unless_awaiting, core_evict, from_dir}
 use Rattle.tcc_serial.proofs.Names.{probe_reply, fill, data_request, invalidate, ignored, MarkOf, MarkMask, live, among, passes, has_marked}
 use Rattle.tcc_serial.proofs.Names.{marked_by, has_tid}
-use Rattle.tcc_serial.proofs.Counts.Sent.{among-flat_map_none}
-use Rattle.tcc_serial.proofs.Tids.CoreProbing.{tid-after}
-use Rattle.tcc_serial.proofs.OneCore.Executes.{Acts, Steady, Executed, Goes_on, Overflows, Asks_tid, Alone, executed}
+use Rattle.tcc_serial.proofs.Counts.Links.{among-flat_map_none, among-fewer, live-fewer}
+use Rattle.tcc_serial.proofs.Marks.CoreMarking.{Unsaid, unsaid-quiet, unsaid-nothing, unsaid-append, acked, idle}
+use Rattle.tcc_serial.proofs.Marks.CoreMarkingTakes.{unmarked}
 use Rattle.tcc_serial.proofs.OneCore.CoreSteps.{evict-steady, fill-steady, data-steady, ignored-steady, Hurt, Unhurt, Rolled, Doomed}
 use Rattle.tcc_serial.proofs.OneCore.CoreSteps.{Aborted, Gave_up, Invalidated, invalidate-cases, Replied, Ignored, Probed, Left_alone}
 use Rattle.tcc_serial.proofs.OneCore.CoreSteps.{reply-cases}
-use Rattle.tcc_serial.proofs.Marks.CoreMarking.{Unsaid, unsaid-quiet, unsaid-nothing, unsaid-append, acked, idle}
-use Rattle.tcc_serial.proofs.Marks.CoreMarkingTakes.{unmarked}
-use Rattle.tcc_serial.proofs.Counts.Links.{among-fewer, live-fewer}
+use Rattle.tcc_serial.proofs.OneCore.Executes.{Acts, Steady, Executed, Goes_on, Overflows, Asks_tid, Alone, executed}
+use Rattle.tcc_serial.proofs.Tids.CoreProbing.{tid-after}
 
 -- While a core keeps its TID, what it marks has the mask of the line's modified words, and these stay where it has marked.
 pub record Masking (sh : Shape) (d t l : ℕ) (s : CoreState) (o : Out) : Type 0 where

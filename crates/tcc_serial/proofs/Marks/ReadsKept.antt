@@ -6,12 +6,12 @@ use Rattle.tcc_serial.proofs.Names.{Event, Shape, home, empty_cache, CoreState, 
 use Rattle.tcc_serial.proofs.Names.{core_evict, from_dir, grant, Answer, Waits, Drops, Asks, Takes, dir_deliver, core_moves, core_takes}
 use Rattle.tcc_serial.proofs.Names.{step, Invs, InvsNot, passes, Kept, KeptTold, KeptCores, Grant, KeptOwners, LastGranted, SparesCommitter}
 use Rattle.tcc_serial.proofs.Names.{holder, Pair, pair, IsBound, has_tid, IsPassed, ReadWords}
+use Rattle.tcc_serial.proofs.Counts.StepCases.{pairs_move, pairs_grant, pairs_back, pairs_dir, pairs_asks, pairs_vendor, OfAnswer}
+use Rattle.tcc_serial.proofs.Counts.StepCases.{step_cases}
+use Rattle.tcc_serial.proofs.Marks.NamedKept.{passed-away}
 use Rattle.tcc_serial.proofs.OneCore.CoreReads.{Reading, ValidOrPassed, ReadOf, read-kept, reading-exec, reading-evict}
 use Rattle.tcc_serial.proofs.OneCore.CoreReadsTakes.{PassesTid, Admits, reading-grant, reads-back}
 use Rattle.tcc_serial.proofs.Serving.DirProbes.{RisesBy, dir-rises}
-use Rattle.tcc_serial.proofs.Marks.NamedKept.{passed-away}
-use Rattle.tcc_serial.proofs.Counts.PairFrames.{pairs_move, pairs_grant, pairs_back, pairs_dir, pairs_asks, pairs_vendor}
-use Rattle.tcc_serial.proofs.Counts.StepCases.{OfAnswer, step_cases}
 use Rattle.tcc_serial.proofs.Tids.TidSteps.{live-some}
 
 abbrev pub KeptReads : Shape → World → Type 0

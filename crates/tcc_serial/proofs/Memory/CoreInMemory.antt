@@ -10,8 +10,7 @@ use Rattle.tcc_serial.proofs.Names.{used, load_valid, load_spilled, load, buffer
 use Rattle.tcc_serial.proofs.Names.{change_spilled, partial_store, close, execute_need, execute, core_exec, exec_phase, unless_awaiting}
 use Rattle.tcc_serial.proofs.Names.{WordInMemory, NeedInMemory, StaysInMemory, FramesInMemory, AccessesInMemory, loads_word, stores_word}
 use Rattle.tcc_program.specs.Ram.{part}
-use Rattle.tcc_serial.proofs.OneCore.MemoryStays.{loads_word-append}
-use Rattle.tcc_serial.proofs.OneCore.UsedWords.{stores_word-append}
+use Rattle.tcc_serial.proofs.OneCore.UsedWords.{loads_word-append, stores_word-append}
 
 -- what a core holds lies in memory
 pub record CoreInMemory (sh : Shape) (s : CoreState) : Type 0 where

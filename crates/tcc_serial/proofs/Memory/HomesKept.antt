@@ -9,8 +9,8 @@ use Rattle.tcc_serial.proofs.Names.{NoWord, live, among, passes, Kept, Pair, pai
 use Rattle.tcc_serial.proofs.Counts.DirOutcome.{Outcome, Waiting, Spent, AsksOwner, TakesSkip, TakesAbort, TakesProbe, TakesLoad, TakesMark}
 use Rattle.tcc_serial.proofs.Counts.DirOutcome.{TakesCommit, TakesAck, TakesCopy, Wants, ToLoad, ToMark, outcome}
 use Rattle.tcc_serial.proofs.Counts.Links.{live-sends, live-takes}
-use Rattle.tcc_serial.proofs.Counts.PairFrames.{pairs_move, pairs_grant, pairs_back, pairs_dir, pairs_asks, pairs_vendor}
-use Rattle.tcc_serial.proofs.Counts.StepCases.{OfAnswer, step_cases}
+use Rattle.tcc_serial.proofs.Counts.StepCases.{pairs_move, pairs_grant, pairs_back, pairs_dir, pairs_asks, pairs_vendor, OfAnswer}
+use Rattle.tcc_serial.proofs.Counts.StepCases.{step_cases}
 use Rattle.tcc_serial.proofs.Memory.CoreHomes.{Homely, HomelyOut, homely-none, homely-those, homes-exec, homes-evict, homes-grant}
 use Rattle.tcc_serial.proofs.Memory.CoreHomes.{homes-back}
 use Rattle.tcc_serial.proofs.Serving.DirDue.{at-home}

@@ -17,8 +17,7 @@ use Rattle.tcc_serial.proofs.Names.{probe_reply, reply_phase, replied, all_repli
 use Rattle.tcc_serial.proofs.Names.{data_request, invalidate, acknowledged, if_violated, violated_in, is_violated, without, staled, LoadOf}
 use Rattle.tcc_serial.proofs.Names.{FillOf, among, passes}
 use Rattle.tcc_rules.specs.Sends.{write_back}
-use Rattle.tcc_serial.proofs.Counts.Links.{among-append}
-use Rattle.tcc_serial.proofs.Counts.Sent.{among-flat_map_none}
+use Rattle.tcc_serial.proofs.Counts.Links.{among-append, among-flat_map_none}
 
 -- the core awaits the line, whose home is the directory
 abbrev pub awaits_at : Shape → (dir line : ℕ) → Option Awaited → ℕ

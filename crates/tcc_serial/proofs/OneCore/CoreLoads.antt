@@ -12,9 +12,9 @@ use Rattle.tcc_serial.proofs.Names.{evict_line, is_awaited, OneCore, loads_word,
 use Rattle.tcc_program.specs.Ram.{part}
 use Rattle.tcc_serial.proofs.OneCore.CoreSteps.{evicted-modified}
 use Rattle.tcc_serial.proofs.OneCore.Executes.{Executed, Goes_on, Overflows, Asks_tid, Alone, executed}
-use Rattle.tcc_serial.proofs.OneCore.MemoryStays.{loads_word-append}
 use Rattle.tcc_serial.proofs.OneCore.NotedCommits.{Notes, executed-notes}
 use Rattle.tcc_serial.proofs.OneCore.OneCoreExec.{held-word}
+use Rattle.tcc_serial.proofs.OneCore.UsedWords.{loads_word-append}
 use Rattle.tcc_serial.proofs.OneCore.WordsKept.{placed-marks}
 
 -- the word is marked read or modified

@@ -9,12 +9,11 @@ use Rattle.tcc_serial.proofs.Names.{commit, commit_sends, solo_sends, solo_marks
 use Rattle.tcc_serial.proofs.Names.{core_exec, exec_phase, unless_awaiting, core_evict, grant, grant_phase, grant_sends, from_dir}
 use Rattle.tcc_serial.proofs.Names.{probe_reply, ignored, fill, data_request, invalidate, CommitsAbove, AnyCommit, Protocol, among, live}
 use Rattle.tcc_serial.proofs.Names.{passes, Reached}
-use Rattle.tcc_serial.proofs.Counts.Links.{among-append, among-fewer, live-fewer}
-use Rattle.tcc_serial.proofs.Counts.Sent.{among-flat_map_none}
-use Rattle.tcc_serial.proofs.OneCore.Executes.{Acts, Steady, Executed, Goes_on, Overflows, Asks_tid, Alone, executed}
+use Rattle.tcc_serial.proofs.Counts.Links.{among-append, among-fewer, live-fewer, among-flat_map_none}
 use Rattle.tcc_serial.proofs.OneCore.CoreSteps.{evict-steady, ignored-steady, fill-steady, data-steady, Hurt, Unhurt, Rolled, Doomed}
 use Rattle.tcc_serial.proofs.OneCore.CoreSteps.{Aborted, Gave_up, Invalidated, invalidate-cases, Replied, Ignored, Probed, Left_alone}
 use Rattle.tcc_serial.proofs.OneCore.CoreSteps.{reply-cases}
+use Rattle.tcc_serial.proofs.OneCore.Executes.{Acts, Steady, Executed, Goes_on, Overflows, Asks_tid, Alone, executed}
 
 -- no Commit of a TID above x
 abbrev pub Served : (dir x : ℕ) → Out → Type 0

@@ -9,12 +9,11 @@ use Rattle.tcc_serial.proofs.Names.{probe_all, abort_written, Out, commit, commi
 use Rattle.tcc_serial.proofs.Names.{is_written, written_mask, core_exec, exec_phase, unless_awaiting, core_evict, grant, grant_phase}
 use Rattle.tcc_serial.proofs.Names.{grant_sends, from_dir, probe_reply, ignored, fill, data_request, invalidate, Kind, Acks, MarksAway}
 use Rattle.tcc_serial.proofs.Names.{AnyResolve, Protocol, among, passes}
-use Rattle.tcc_serial.proofs.Counts.Links.{among-append}
-use Rattle.tcc_serial.proofs.Counts.Sent.{among-flat_map_none}
-use Rattle.tcc_serial.proofs.OneCore.Executes.{Acts, Steady, Executed, Goes_on, Overflows, Asks_tid, Alone, executed}
+use Rattle.tcc_serial.proofs.Counts.Links.{among-append, among-flat_map_none}
 use Rattle.tcc_serial.proofs.OneCore.CoreSteps.{evict-steady, ignored-steady, fill-steady, data-steady, Hurt, Unhurt, Rolled, Doomed}
 use Rattle.tcc_serial.proofs.OneCore.CoreSteps.{Aborted, Gave_up, Invalidated, invalidate-cases, Replied, Ignored, Probed, Left_alone}
 use Rattle.tcc_serial.proofs.OneCore.CoreSteps.{reply-cases}
+use Rattle.tcc_serial.proofs.OneCore.Executes.{Acts, Steady, Executed, Goes_on, Overflows, Asks_tid, Alone, executed}
 
 -- no acknowledgement, no mark of a line that is at home elsewhere, and no word on a TID to a directory that the machine
 -- doesn't have

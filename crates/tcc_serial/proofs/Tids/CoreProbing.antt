@@ -8,10 +8,9 @@ use Rattle.tcc_serial.proofs.Names.{Solo, Halted, to, marks_for, skip_all, probe
 use Rattle.tcc_serial.proofs.Names.{phase_after, commit_sends, solo_sends, solo_marks, solo_backs, solo_writes_at, is_written, written_mask}
 use Rattle.tcc_serial.proofs.Names.{core_exec, exec_phase, unless_awaiting, core_evict, grant, grant_phase, grant_sends, is_probed, probing}
 use Rattle.tcc_serial.proofs.Names.{Probes, Protocol, among, passes, has_tid, waits_for_tid}
-use Rattle.tcc_serial.proofs.Counts.Links.{among-append, among-fewer}
-use Rattle.tcc_serial.proofs.Counts.Sent.{among-flat_map_none}
-use Rattle.tcc_serial.proofs.OneCore.Executes.{Acts, Steady, Executed, Goes_on, Overflows, Asks_tid, Alone, executed}
+use Rattle.tcc_serial.proofs.Counts.Links.{among-append, among-fewer, among-flat_map_none}
 use Rattle.tcc_serial.proofs.OneCore.CoreSteps.{evict-steady, Hurt, Unhurt, Rolled, Doomed, Aborted, Gave_up, Invalidated}
+use Rattle.tcc_serial.proofs.OneCore.Executes.{Acts, Steady, Executed, Goes_on, Overflows, Asks_tid, Alone, executed}
 
 -- no probe is sent, and a TID that the core has then it had before, owed the same replies
 pub record Unprobed (s : CoreState) (o : Out) : Type 0 where

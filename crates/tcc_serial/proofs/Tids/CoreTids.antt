@@ -8,12 +8,11 @@ use Rattle.tcc_serial.proofs.Names.{to, marks_for, Out, moves, commit, committed
 use Rattle.tcc_serial.proofs.Names.{core_evict, grant, grant_phase, from_dir, probing, is_probed, probe_reply, reply_phase, ignored}
 use Rattle.tcc_serial.proofs.Names.{replied, all_replied, when_ready, when_alone, fill, data_request, invalidate, Resolves, among, passes}
 use Rattle.tcc_serial.proofs.Names.{opens, waits_for_tid}
-use Rattle.tcc_serial.proofs.Counts.Links.{among-append}
-use Rattle.tcc_serial.proofs.Counts.Sent.{resolves-commit_sends, resolves-abort_written, resolves-skip_all, resolves-probe_all}
-use Rattle.tcc_serial.proofs.Counts.Sent.{resolves-grant_sends, resolves-marks_for, resolves-solo_sends, among-quiet}
-use Rattle.tcc_serial.proofs.OneCore.Executes.{Acts, Steady, Executed, Goes_on, Overflows, Asks_tid, Alone, executed}
+use Rattle.tcc_serial.proofs.Counts.Links.{among-append, resolves-commit_sends, resolves-abort_written, resolves-skip_all}
+use Rattle.tcc_serial.proofs.Counts.Links.{resolves-probe_all, resolves-grant_sends, resolves-marks_for, resolves-solo_sends, among-quiet}
 use Rattle.tcc_serial.proofs.OneCore.CoreSteps.{writes_at-same, evict-steady, ignored-steady, fill-steady, data-steady, Hurt, Unhurt}
 use Rattle.tcc_serial.proofs.OneCore.CoreSteps.{Rolled, Doomed, Aborted, Gave_up, Invalidated, invalidate-cases}
+use Rattle.tcc_serial.proofs.OneCore.Executes.{Acts, Steady, Executed, Goes_on, Overflows, Asks_tid, Alone, executed}
 
 -- a core's step with `got` of the TID taken from the vendor's link keeps its part of it
 abbrev pub KeepsPart : Shape → (dir tid got : ℕ) → CoreState → Out → Type 0

@@ -6,7 +6,7 @@ use Rattle.tcc_serial.proofs.Names.{Waits, Drops, Asks, Takes, dir_deliver, owed
 use Rattle.tcc_serial.proofs.Counts.DirOutcome.{Outcome, Waiting, Spent, AsksOwner, TakesSkip, TakesAbort, TakesProbe, TakesLoad, TakesMark}
 use Rattle.tcc_serial.proofs.Counts.DirOutcome.{TakesCommit, TakesAck, TakesCopy, IsSpent, SkipPassed, AbortPassed, MarkPassed, NoneOwed}
 use Rattle.tcc_serial.proofs.Counts.DirOutcome.{CopyPassed, outcome}
-use Rattle.tcc_serial.proofs.Counts.PairFrames.{same}
+use Rattle.tcc_serial.proofs.Counts.StepCases.{same}
 
 pub skipped-above : (s : Serving) (t : ℕ) → is_skipped s t ≡ true → s.serving < t
 unfolding is_skipped

@@ -11,11 +11,9 @@ use Rattle.tcc_serial.proofs.Names.{solo_sends, solo_marks, solo_backs, solo_wri
 use Rattle.tcc_serial.proofs.Names.{unless_awaiting, load, word_store, partial_store, close, execute_need, execute, Kind, CopyWord, CopyNot}
 use Rattle.tcc_serial.proofs.Names.{among, passes}
 use Rattle.tcc_serial.proofs.Copies.CopySends.{commit-copies}
+use Rattle.tcc_serial.proofs.Counts.Links.{among-append, among-flat_map_none}
 use Rattle.tcc_serial.proofs.Values.CoreWords.{Quietly, loaded, partly, wholly}
-use Rattle.tcc_serial.proofs.Counts.Links.{among-append}
-use Rattle.tcc_serial.proofs.Counts.Sent.{among-flat_map_none}
-use Rattle.tcc_serial.proofs.Values.WordCopies.{among-words, among-others, at-place}
-use Rattle.tcc_serial.proofs.Values.WordSends.{get-eight}
+use Rattle.tcc_serial.proofs.Values.WordCopies.{among-words, among-others, at-place, get-eight}
 
 pub record CommitsWord (sh : Shape) (x t : ℕ) (c : Cache) (sp : Spilled) (o : Out) : Type 0 where
   pub left : c.modified x ≡ false → sp x ≡ None → (o.core.cache.dirty x ≡ c.dirty x) × ((o.core.cache.value x ≡ c.value x) × ((u d : ℕ) → among (CopyWord x u) (o.sends (Dir d)) ≡ 0))

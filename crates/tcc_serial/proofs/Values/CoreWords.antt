@@ -10,7 +10,7 @@ use Rattle.tcc_serial.proofs.Names.{core_evict, evict_line, is_awaited, ask, pla
 use Rattle.tcc_serial.proofs.Names.{load_spilled, load, buffered, framed, word_store, also_read, change_valid, change_spilled}
 use Rattle.tcc_serial.proofs.Names.{partial_store, close, execute_need, execute, CopyOf, among, passes}
 use Rattle.tcc_serial.proofs.Copies.CoreCopies.{finished-cache, placed-dirty, used-dirty, unheld-clean}
-use Rattle.tcc_serial.proofs.Values.WordSends.{Carries, word-still, word-sent, flushed-words, back-home-words}
+use Rattle.tcc_serial.proofs.Values.WordCopies.{Carries, word-still, word-sent, flushed-words, back-home-words}
 
 -- no dirty word changes, and no copy is sent
 pub carries-still : (sh : Shape) (s : CoreState) (o : Out) → ((v : ℕ) → o.core.cache.dirty v ≡ s.cache.dirty v) → ((v : ℕ) → is_some (s.cache.dirty v) ≡ true → o.core.cache.value v ≡ s.cache.value v) → ((l t : ℕ) → among (CopyOf l t) (o.sends (Dir (home sh l))) ≡ 0) → Carries sh s o

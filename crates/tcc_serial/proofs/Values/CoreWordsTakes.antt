@@ -10,7 +10,7 @@ use Rattle.tcc_serial.proofs.Names.{ignored, replied, all_replied, when_ready, w
 use Rattle.tcc_serial.proofs.Names.{acknowledged, without, violated_in, if_violated, is_violated, CopyOf, among, passes}
 use Rattle.tcc_serial.proofs.Copies.CopyRules.{grants-none, skips-none, probes-none, aborts-none, marks-none, acked-none, missed}
 use Rattle.tcc_serial.proofs.Values.CoreWords.{carries-still}
-use Rattle.tcc_serial.proofs.Values.WordSends.{WordCarried, Carries, word-still, word-sent, flushed-words}
+use Rattle.tcc_serial.proofs.Values.WordCopies.{WordCarried, Carries, word-still, word-sent, flushed-words}
 
 quiet : (sh : Shape) (s : CoreState) → Carries sh s (ignored s)
 unfolding among

@@ -6,17 +6,15 @@ use Rattle.tcc_serial.proofs.Names.{Out, core_exec, core_evict, History, core_mo
 use Rattle.tcc_serial.proofs.Names.{InvWord, live, Carried, CarriedInMemory, Grant, holder, Pair, pair, after_move, may_commit, IsBound}
 use Rattle.tcc_serial.proofs.Names.{is_applied, has_tid, opens, waits_for_tid, RequestOf, stores_word, is_below, counts, value_at, dooms}
 use Rattle.tcc_serial.proofs.Names.{UnmodifiedWords, Ways}
+use Rattle.tcc_serial.proofs.Counts.StepCases.{same, differ, either, pairs_move, new_uses}
+use Rattle.tcc_serial.proofs.Memory.MemorySends.{marks_at_homes}
 use Rattle.tcc_serial.proofs.OneCore.Executes.{Acts}
-use Rattle.tcc_serial.proofs.Serving.LastSteps.{grant-any}
-use Rattle.tcc_serial.proofs.Memory.MemoryHomes.{marks_at_homes}
-use Rattle.tcc_serial.proofs.Counts.PairFrames.{same, differ, either, pairs_move}
+use Rattle.tcc_serial.proofs.Serving.OwnerSteps.{grant-any}
 use Rattle.tcc_serial.proofs.Values.ValueAt.{IsSilent, value-skip}
-use Rattle.tcc_serial.proofs.Counts.StepCases.{new_uses}
 use Rattle.tcc_serial.proofs.Views.ViewCores.{Keeps, Exec, Goes, Commits, exec-view, used-each, each-append, evict-view}
 use Rattle.tcc_serial.proofs.Views.ViewDirs.{AllNear}
-use Rattle.tcc_serial.proofs.Views.ViewFacts.{bound-own, open-served, served-unapplied, solo-holds, solo-undoomed, each-one}
+use Rattle.tcc_serial.proofs.Views.ViewFacts.{bound-own, open-served, served-unapplied, solo-holds, solo-undoomed, each-one, solo-value}
 use Rattle.tcc_serial.proofs.Views.ViewPairs.{NearAt, ViewOf, view-empty, view-moves}
-use Rattle.tcc_serial.proofs.Views.ViewValues.{solo-value}
 
 -- the views where one core's has changed
 

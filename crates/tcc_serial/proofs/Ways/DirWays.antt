@@ -6,7 +6,7 @@ use Rattle.tcc_serial.proofs.Names.{Shape, advance-rises, kept-skips, DirState, 
 use Rattle.tcc_serial.proofs.Names.{Skips, Aborts, Commits, passes, Resolves}
 use Rattle.tcc_serial.proofs.Counts.DirOutcome.{Outcome, Waiting, Spent, AsksOwner, TakesSkip, TakesAbort, TakesProbe, TakesLoad, TakesMark}
 use Rattle.tcc_serial.proofs.Counts.DirOutcome.{TakesCommit, TakesAck, TakesCopy, outcome}
-use Rattle.tcc_serial.proofs.Counts.PairFrames.{same}
+use Rattle.tcc_serial.proofs.Counts.StepCases.{same}
 use Rattle.tcc_serial.proofs.Tids.DirTids.{OnceAt, unserved, advance-count}
 
 -- the directory serves the TID, and is owed acknowledgements for it

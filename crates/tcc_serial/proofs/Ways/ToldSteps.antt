@@ -8,13 +8,13 @@ use Rattle.tcc_serial.proofs.Names.{times, KeptOwners, pair, share, has_tid, ope
 use Rattle.tcc_serial.proofs.Names.{Committed, Ways, told_by, ways_after, sent_by, part_in, WayAt, KeptWays, stores_at, live_way, KeptLive}
 use Rattle.tcc_serial.proofs.Names.{commit_way, KeptCommitted}
 use Rattle.tcc_serial.proofs.Counts.Links.{total-le}
-use Rattle.tcc_serial.proofs.Ways.ByCore.{ByCore, Still, Moved, by_core}
-use Rattle.tcc_serial.proofs.Tids.ListedCommits.{inserted, positive-held, positive-committed}
 use Rattle.tcc_serial.proofs.Serving.CommitOwners.{CommitsNoted, noted-exec, noted-evict, noted-grant, noted-back}
 use Rattle.tcc_serial.proofs.Serving.OwnerSteps.{times-noted}
-use Rattle.tcc_serial.proofs.Ways.CoreSkips.{skips_here, Tells, TellsCommit, tells-exec, tells-evict, tells-grant, tells-back}
+use Rattle.tcc_serial.proofs.Tids.Commits.{inserted, positive-held, positive-committed}
 use Rattle.tcc_serial.proofs.Tids.CoreTids.{KeepsPart, part-exec, part-evict, part-grant, part-back}
 use Rattle.tcc_serial.proofs.Tids.TidSteps.{granted_waits, live-some}
+use Rattle.tcc_serial.proofs.Ways.ByCore.{ByCore, Still, Moved, by_core}
+use Rattle.tcc_serial.proofs.Ways.CoreSkips.{skips_here, Tells, TellsCommit, tells-exec, tells-evict, tells-grant, tells-back}
 use Rattle.tcc_serial.proofs.Ways.WayParts.{in-way, told-none, told-skip, told-nothing}
 
 -- what a core's rule says, and of which TIDs it speaks

@@ -8,14 +8,13 @@ use Rattle.tcc_serial.proofs.Names.{live, among, passes, Pair, pair, after_move,
 use Rattle.tcc_serial.proofs.Names.{after_grant, after_other_grant, share, opens, ResolvedAt, Kept, KeptTold, Way, Untold, Skipped, Aborted}
 use Rattle.tcc_serial.proofs.Names.{Committed, Ways, told_by, ways_after, sent_by, first_ways, part_in, kept_in, WayAt, KeptWays}
 use Rattle.tcc_serial.proofs.Counts.Links.{live-sends, live-takes, total-zero}
-use Rattle.tcc_serial.proofs.Counts.PairFrames.{same, differ, given, sum_move, sum_grant, sum_back, sum_back_away, sum_dir, sum_dir_away}
-use Rattle.tcc_serial.proofs.Counts.PairFrames.{sum_asks, sum_vendor}
-use Rattle.tcc_serial.proofs.Tids.CoreTids.{KeepsPart, part-exec, part-evict, part-grant, part-back}
-use Rattle.tcc_serial.proofs.Counts.StepCases.{OfAnswer, sent_cases}
-use Rattle.tcc_serial.proofs.Tids.TidSteps.{granted_waits}
+use Rattle.tcc_serial.proofs.Counts.StepCases.{same, differ, given, sum_move, sum_grant, sum_back, sum_back_away, sum_dir, sum_dir_away}
+use Rattle.tcc_serial.proofs.Counts.StepCases.{sum_asks, sum_vendor, OfAnswer, sent_cases}
 use Rattle.tcc_serial.proofs.Serving.KeptSteps.{core_of_grant, core_of_back, core_of_out, core_of_ask, once_at}
-use Rattle.tcc_serial.proofs.Ways.WayParts.{parts_in, resolved-split, gained, lost, told-moved, told-nothing}
+use Rattle.tcc_serial.proofs.Tids.CoreTids.{KeepsPart, part-exec, part-evict, part-grant, part-back}
+use Rattle.tcc_serial.proofs.Tids.TidSteps.{granted_waits}
 use Rattle.tcc_serial.proofs.Ways.DirWays.{Heard, HeardBy, heard-still, dir-heard}
+use Rattle.tcc_serial.proofs.Ways.WayParts.{parts_in, resolved-split, gained, lost, told-moved, told-nothing}
 
 -- a core's step
 

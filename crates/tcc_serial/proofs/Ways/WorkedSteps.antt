@@ -9,16 +9,16 @@ use Rattle.tcc_serial.proofs.Names.{unless_awaiting, core_evict, grant, grant_ph
 use Rattle.tcc_serial.proofs.Names.{Takes, dir_deliver, core_moves, core_takes, dir_takes, dir_asks, vendor_gives, Stepped, step, and_noted}
 use Rattle.tcc_serial.proofs.Names.{Kept, OneCore, KeptCores, pair, Reached, stores_at, loads_word, sent_by, LoadsMarked, KeptLoads}
 use Rattle.tcc_serial.proofs.Names.{loads_at, worked_at, KeptWorked}
-use Rattle.tcc_serial.proofs.Ways.ByCore.{ByCore, Still, Moved, by_core}
+use Rattle.tcc_serial.proofs.Counts.StepCases.{OfAnswer, step_cases}
+use Rattle.tcc_serial.proofs.Marks.StoredMasks.{stored-written}
 use Rattle.tcc_serial.proofs.OneCore.CoreLoads.{loads-exec, loads-evict}
 use Rattle.tcc_serial.proofs.OneCore.CoreLoadsTakes.{loads-grant, loads-back}
-use Rattle.tcc_serial.proofs.Marks.StoredMasks.{stored-written}
-use Rattle.tcc_serial.proofs.Serving.DirProbes.{RisesBy, dir-rises}
-use Rattle.tcc_serial.proofs.OneCore.Executes.{Acts, Steady, Executed, Goes_on, Overflows, Asks_tid, Alone, executed}
 use Rattle.tcc_serial.proofs.OneCore.CoreSteps.{evict-steady, fill-steady, data-steady, invalidate-cases, Replied, Ignored, Probed}
 use Rattle.tcc_serial.proofs.OneCore.CoreSteps.{Left_alone, reply-cases}
-use Rattle.tcc_serial.proofs.Tids.ListedCommits.{inserted}
-use Rattle.tcc_serial.proofs.Counts.StepCases.{OfAnswer, step_cases}
+use Rattle.tcc_serial.proofs.OneCore.Executes.{Acts, Steady, Executed, Goes_on, Overflows, Asks_tid, Alone, executed}
+use Rattle.tcc_serial.proofs.Serving.DirProbes.{RisesBy, dir-rises}
+use Rattle.tcc_serial.proofs.Tids.Commits.{inserted}
+use Rattle.tcc_serial.proofs.Ways.ByCore.{ByCore, Still, Moved, by_core}
 
 -- a core that loaded a word of a line has marked words at its home
 loaded-touches : (sh : Shape) (s : CoreState) (d : ℕ) → ((w : ℕ) → loads_word sh.base s.loads w ≡ true → (s.cache.read w || s.cache.modified w) ≡ true) → loads_at sh d s.loads ≡ true → (writes_at sh s.cache d || reads_at sh s.cache d) ≡ true
