@@ -36,7 +36,6 @@ pub owned-from : (sh : Shape) (cs : List Noted) (w : World) → KeptLines sh cs 
 owned-from sh cs w k c d l cl dl ll e = owned-one sh.base cs c l (pair w c d) (k c d l cl dl ll e)
 
 -- at the start
-
 no-line : (base c t l : ℕ) → wrote_line base [] c t l ≡ false
 unfolding wrote_line any_word any_below wrote
 no-line base c t l = refl

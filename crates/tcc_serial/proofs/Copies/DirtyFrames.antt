@@ -90,7 +90,6 @@ fewer-frame sh c e l h f t = go (is_dirty e l) refl
     go true q = let x = dirty-found e l q in let y = found x.0 (x.1) (x.2) (f x.0 (x.1)) in rw (y.0, y.1) (omega arith)
 
 -- where the modified words become dirty
-
 none-modified : (c : Cache) (l : ℕ) → is_modified c l ≡ false → (k : ℕ) → k < 8 → c.modified (word_at l k) ≡ false
 unfolding is_modified any_word
 none-modified c l e k i = go (c.modified (word_at l k)) refl

@@ -341,7 +341,9 @@ pub record Invalidating (sh : Shape) (h : History) (c d l : ℕ) : Type 0 where
 
 pub inv-tag-of : (sh : Shape) (h : History) (c d k l m u : ℕ) → ((d : ℕ) → OwedAt sh h.world d) → KeptNamed sh h.world → KeptStored sh h.commits h.world → CommitsStand sh h.world h.commits → KeptTags sh h.world h.commits → c < sh.cores → d < sh.dirs → l < lines sh → home sh l ≡ d → in_flight h.world.net (Dir d) (Core c) k ≡ Some (Inv l m u) → Invalidating sh h c d l
 unfolding pair passes due share settled_in_line is_settled
-inv-tag-of sh h c d k l m u owes named stored a g cl dl ll e i = record { tag = omega (arith, most, least); sent = invs }
+inv-tag-of sh h c d k l m u owes named stored a g cl dl ll e i =
+    let most : s.lines.tag l ≤ s.serving.serving = tag-served sh w h.commits d l a g dl ll e in
+    record { tag = omega (arith, most, least); sent = invs }
   where
     w : World
     w = h.world
@@ -373,9 +375,6 @@ inv-tag-of sh h c d k l m u owes named stored a g cl dl ll e i = record { tag = 
 
     least : s.serving.serving ≤ s.lines.tag l
     least = omega (arith, n.tid, last-least (settled_in_line sh w d l) h.commits n.commit (n.noted) settled, g d l dl ll e)
-
-    most : s.lines.tag l ≤ s.serving.serving
-    most = tag-served sh w h.commits d l a g dl ll e
 
 pub inv-tag : (sh : Shape) (gs : List Grant) (h : History) (c d k l m u : ℕ) → KeptAll sh gs h → CommitsStand sh h.world h.commits → KeptTags sh h.world h.commits → c < sh.cores → d < sh.dirs → l < lines sh → home sh l ≡ d → in_flight h.world.net (Dir d) (Core c) k ≡ Some (Inv l m u) → Invalidating sh h c d l
 inv-tag sh gs h c d k l m u r = inv-tag-of sh h c d k l m u r.kept.told.owed.owed r.named r.stored

@@ -21,7 +21,6 @@ abbrev pub is_of : (core tid : ℕ) → Noted → Bool
 is_of c t n = (n.core.0 == c) && (n.tid.0 == t)
 
 -- with one more commit
-
 or-swap : (a b c : Bool) → (a || (b || c)) ≡ (b || (a || c))
 or-swap true true c = refl
 or-swap true false c = refl
@@ -92,7 +91,6 @@ wrote-other base n cs c t l e = record { line = same-line (wrote base (insert_co
         go false b q = refl
 
 -- where no commit of the list is this core's with this TID, nothing is stored; where one is, its words are
-
 wrote-never : (base : ℕ) (cs : List Noted) (c t w : ℕ) → ((x : Noted) → Contains cs x → is_of c t x ≡ false) → wrote base cs c t w ≡ false
 unfolding wrote
 wrote-never base [] c t w h = refl
@@ -172,10 +170,9 @@ on-its-way sh gs ys h k n d i dl s = omega (arith, place, one, applied-or (h.wor
     t = n.tid.0
 
     way : ys d t ≡ Committed
-    way = k.committed.stored n d i dl ∙ told (stores_at sh d n.stores) s
-      where
-        told : (b : Bool) → b ≡ true → (if b then Committed else Skipped) ≡ Committed
-        told b e = rw e refl
+    way =
+        let told : (b : Bool) → b ≡ true → (if b then Committed else Skipped) ≡ Committed = λ b e. rw e refl in
+        k.committed.stored n d i dl ∙ told (stores_at sh d n.stores) s
 
     place : WayAt sh h.world d t Committed
     place = subst (WayAt sh h.world d t) way (k.ways d t dl (positive-committed sh gs h.world h.commits n k.all.owners i))
@@ -203,11 +200,10 @@ uncommitted sh gs ys h c t k l e = let one : num (has_tid (h.world.cores c).phas
 
 -- it sends a Commit to each directory where it stored
 pub commit-sent : (sh : Shape) (gs : List Grant) (ys : Ways) (h : History) (c d : ℕ) (s : Out) (n : Noted) → KeptRun sh gs ys h → c < sh.cores → TellsCommit sh (h.world.cores c) s n → d < sh.dirs → stores_at sh d n.stores ≡ true → 1 ≤ among (Commits n.tid.0) (s.sends (Dir d))
-commit-sent sh gs ys h c d s n k cl a dl e = go (told-committed (s.sends (Dir d)) n.tid.0 (live_way (h.world.cores c).phase (writes_at sh (h.world.cores c).cache d)) (a.told d dl ∙ there (stores_at sh d n.stores) e))
+commit-sent sh gs ys h c d s n k cl a dl e =
+    let there : (b : Bool) → b ≡ true → (if b then Committed else Skipped) ≡ Committed = λ b q. rw q refl in
+    go (told-committed (s.sends (Dir d)) n.tid.0 (live_way (h.world.cores c).phase (writes_at sh (h.world.cores c).cache d)) (a.told d dl ∙ there (stores_at sh d n.stores) e))
   where
-    there : (b : Bool) → b ≡ true → (if b then Committed else Skipped) ≡ Committed
-    there b q = rw q refl
-
     go : (live_way (h.world.cores c).phase (writes_at sh (h.world.cores c).cache d) ≡ Committed) ⊎ (1 ≤ among (Commits n.tid.0) (s.sends (Dir d))) → 1 ≤ among (Commits n.tid.0) (s.sends (Dir d))
     go (inl q) = absurd (omega (arith, uncommitted sh gs ys h c n.tid.0 k cl (a.has), k.committed.only d n.tid.0 dl (k.live c d n.tid.0 cl dl (a.has) ∙ q)))
     go (inr q) = q

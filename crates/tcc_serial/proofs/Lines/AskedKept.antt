@@ -9,10 +9,10 @@ use Rattle.tcc_serial.proofs.Names.{ProbeReply, Mark, Commit, Abort, WriteBack, 
 use Rattle.tcc_serial.proofs.Names.{abort, acknowledgement, moved_on, settled, owned, owed_by, invalidations, unless_keeps, ask_owner}
 use Rattle.tcc_serial.proofs.Names.{load_owned, load_request, marking, mark_owned, mark, judged, write_back, came_home, probe}
 use Rattle.tcc_rules.specs.DirDeliver.{commit}
+use Rattle.tcc_serial.specs.Asked.{AskedOwned, KeptAsked}
 use Rattle.tcc_serial.proofs.Counts.DirOutcome.{Outcome, Waiting, Spent, AsksOwner, TakesSkip, TakesAbort, TakesProbe, TakesLoad, TakesMark}
 use Rattle.tcc_serial.proofs.Counts.DirOutcome.{TakesCommit, TakesAck, TakesCopy, outcome}
 use Rattle.tcc_serial.proofs.Counts.StepCases.{pairs_dir, pairs_asks, OfAnswer, step_cases}
-use Rattle.tcc_serial.specs.Asked.{AskedOwned, KeptAsked}
 
 abbrev pub AskedBy : Answer → Type 0
 AskedBy (Asks new sends) = AskedOwned new

@@ -86,7 +86,6 @@ fewer-evicted x y l c = go (c.at x y)
     go (Some k) j i q = one (c.value (word_at l j)) (c.modified (word_at l j)) (c.read (word_at l j)) (k == line_of (word_at l j)) q
 
 -- what a commit adds to what is kept was modified
-
 abbrev KeptOrModified : Cache → Cache → (line : ℕ) → Type 0
 KeptOrModified c e l = (k : ℕ) → k < 8 → is_kept e (word_at l k) ≡ true → (is_kept c (word_at l k) ≡ true) ⊎ (c.modified (word_at l k) ≡ true)
 

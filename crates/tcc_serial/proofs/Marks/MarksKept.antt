@@ -68,7 +68,6 @@ marks-moved sh gs c d t l v o y cl alone mine free h = record {
         omega (arith, h.skipped dl b, unmarked dl b (cases_lt 0 (among (MarkOf t l) (o.sends (Dir d)))), live-sends (MarkOf t l) v.out (o.sends (Dir d)))
 
 -- a core takes its grant
-
 granted-here : (sh : Shape) (gs : List Grant) (c d u l k : ℕ) (v : Pair) (o : Out) → slice_index_or v.grants k None ≡ Some (TidGrant u) → num (nat_le v.next u) + live (Grants u) v.grants ≤ 1 → Contains gs (record { tid = u; core = c }) → Granting sh u d u l o → MarksOf sh gs c d u l v → MarksOf sh gs c d u l (after_move (grant_taken v k) o d)
 unfolding marks_of
 granted-here sh gs c d u l k v o i one mine y h = record {
@@ -100,7 +99,6 @@ marks-granted sh gs c d t l k u v o i one mine y h = go (cases_eq u t)
     }
 
 -- a directory answers
-
 pub is-skip : (u : ℕ) → num (passes (Skips u) (Skip u)) ≡ 1
 unfolding passes
 is-skip u = grind (arith, nat_tests)
@@ -162,16 +160,11 @@ holds s new m t l x y b (Clears e f g) q k nonempty once reached z = rw (f l) (g
     go : (s.serving.serving ≡ t) ⊎ (s.serving.serving ≡ t → ⊥) → y + num (new.serving.serving == t && nat_lt 0 0) ≡ b
     go (inl p) = omega (arith, none, n, q, z, zero-or (cases_lt 0 b) p)
     go (inr p) = let r : (s.serving.serving == t) ≡ false = grind (arith, nat_tests) in let w : num (s.serving.serving == t && has_mark s.lines l) ≡ 0 = rw r refl in omega (arith, none, n, q, z, w)
-holds s new m t l x y b (Skipped e f) q k nonempty once reached z = rw (f l) (omega (arith, n, q, z, was, now))
-  where
-    n : num (passes (MarkOf t l) m) ≡ 0
-    n = rw e (no-mark t l s.serving.serving)
-
-    was : num (s.serving.serving == t && has_mark s.lines l) ≡ 0
-    was = rw (k e) (grind arith)
-
-    now : num (new.serving.serving == t && has_mark s.lines l) ≡ 0
-    now = rw (k e) (grind arith)
+holds s new m t l x y b (Skipped e f) q k nonempty once reached z =
+    let n : num (passes (MarkOf t l) m) ≡ 0 = rw e (no-mark t l s.serving.serving) in
+    let was : num (s.serving.serving == t && has_mark s.lines l) ≡ 0 = rw (k e) (grind arith) in
+    let now : num (new.serving.serving == t && has_mark s.lines l) ≡ 0 = rw (k e) (grind arith) in
+    rw (f l) (omega (arith, n, q, z, was, now))
 holds s new m t l x y b (IsMarked a i e g f) q k nonempty once reached z = rw (g, f l) (go (cases_eq l a))
   where
     go : (l ≡ a) ⊎ (l ≡ a → ⊥) → y + num (s.serving.serving == t && nat_lt 0 (if l == a then i else s.lines.mark l)) ≡ b
@@ -182,10 +175,9 @@ holds s new m t l x y b (IsMarked a i e g f) q k nonempty once reached z = rw (g
         some = some-word a i s.serving.serving (rw e at nonempty)
 
         here : (s.serving.serving ≡ t) ⊎ (s.serving.serving ≡ t → ⊥) → y + num (s.serving.serving == t && nat_lt 0 (if l == a then i else s.lines.mark l)) ≡ b
-        here (inr n) = let r : (s.serving.serving == t) ≡ false = grind (arith, nat_tests) in let p : num (passes (MarkOf t l) m) ≡ 0 = rw e (other-tid t l a i s.serving.serving n) in rw r (omega (arith, p, q, z, no-more r))
-          where
-            no-more : (s.serving.serving == t) ≡ false → num (s.serving.serving == t && has_mark s.lines l) ≡ 0
-            no-more r = rw r refl
+        here (inr n) =
+            let no-more : (s.serving.serving == t) ≡ false → num (s.serving.serving == t && has_mark s.lines l) ≡ 0 = λ r. rw r refl in
+            let r : (s.serving.serving == t) ≡ false = grind (arith, nat_tests) in let p : num (passes (MarkOf t l) m) ≡ 0 = rw e (other-tid t l a i s.serving.serving n) in rw r (omega (arith, p, q, z, no-more r))
         here (inl r) =
             let p : num (passes (MarkOf t l) m) ≡ 1 = rw (e, r, c) (is-mark t a i) in
             let u : (l == a) ≡ true = grind (arith, nat_tests) in
@@ -241,7 +233,6 @@ marks-answered sh gs j d t l v m s ms k y less eqn skip has reached nonempty h =
     one = at-most-one sh v.core d l
 
 -- the vendor grants
-
 pub marks-given : (sh : Shape) (gs hs : List Grant) (c d t l k : ℕ) (v : Pair) → MarksOf sh gs c d t l v → MarksOf sh (gs ++ hs) c d t l (after_grant v k)
 unfolding marks_of passes among
 marks-given sh gs hs c d t l k v h = record {
@@ -263,7 +254,6 @@ marks-next sh gs hs c d t l v h = record {
 }
 
 -- what else is known of a TID that a core has
-
 pub has-alone : (sh : Shape) (gs : List Grant) (w : World) (cs : List Noted) (c t : ℕ) → KeptOwners sh gs w cs → c < sh.cores → has_tid (w.cores c).phase t ≡ true → num (nat_le w.next t) + live (Grants t) (w.net Vendor (Core c)) ≡ 0
 unfolding share holder pair
 has-alone sh gs w cs c t k l h = let n : num (has_tid (w.cores c).phase t) ≡ 1 = ap num h in omega (arith, n, k.once t, total-le (share (holder t) w 0) sh.cores c l)
@@ -322,13 +312,10 @@ unmarked-of s l x z = go (has_mark s.lines l) refl
 -- where the served TID is skipped, nothing is marked
 pub skip-unmarked : (sh : Shape) (gs : List Grant) (w : World) (c d k : ℕ) (m : Msg) (l : ℕ) → KeptTold sh w → KeptMarks sh gs w → in_flight w.net (Core c) (Dir d) k ≡ Some m → m ≡ Skip (w.dirs d).serving.serving → has_mark (w.dirs d).lines l ≡ false
 unfolding marks_of pair
-skip-unmarked sh gs w c d k m l z h i e = unmarked-of (w.dirs d) l (live (MarkOf u l) (w.net (Core c) (Dir d))) ((h c d u l).skipped (inside-dirs sh w c d k u z j) (omega (arith, live-some (Skips u) (w.net (Core c) (Dir d)) k (Skip u) j, is-skip u)))
-  where
-    u : ℕ
-    u = (w.dirs d).serving.serving
-
-    j : in_flight w.net (Core c) (Dir d) k ≡ Some (Skip u)
-    j = i ∙ ap (λ y. Some y) e
+skip-unmarked sh gs w c d k m l z h i e =
+    let u : ℕ = (w.dirs d).serving.serving in
+    let j : in_flight w.net (Core c) (Dir d) k ≡ Some (Skip u) = i ∙ ap (λ y. Some y) e in
+    unmarked-of (w.dirs d) l (live (MarkOf u l) (w.net (Core c) (Dir d))) ((h c d u l).skipped (inside-dirs sh w c d k u z j) (omega (arith, live-some (Skips u) (w.net (Core c) (Dir d)) k (Skip u) j, is-skip u)))
 
 -- a Mark of a TID comes from one core, to which the TID was granted
 pub only-there : (sh : Shape) (gs : List Grant) (w : World) (cs : List Noted) (c j d k t l : ℕ) (m : Msg) → KeptOwners sh gs w cs → KeptMarks sh gs w → in_flight w.net (Core c) (Dir d) k ≡ Some m → (j ≡ c → ⊥)

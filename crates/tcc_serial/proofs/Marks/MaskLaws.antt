@@ -14,7 +14,6 @@ use Rattle.tcc_serial.proofs.Run.AllInvariants.{run-all}
 use Rattle.tcc_serial.proofs.Tids.TidSteps.{inside_from}
 
 -- a TID is that of one commit
-
 rising-at : (last k : ℕ) (cs : List Noted) (x : Noted) → IsRising last cs → k < length cs → slice_index_or cs k x ≡ x → last < x.tid.0
 unfolding IsRising
 rising-at last k [] x h l e = absurd (omega arith)
@@ -71,7 +70,6 @@ served-marks sh gs w m q = record {
     granted d l h (inr x) = let n : num (nat_le w.next (w.dirs d).serving.serving) ≡ 1 = grind (arith, nat_tests) in absurd (omega (arith, marked-one l (pair w 0 d) h, (m 0 d (w.dirs d).serving.serving l).fresh (omega (arith, n))))
 
 -- the commits of the list
-
 one-any : (t : ℕ) (m : Msg) → num (passes (Commits t) m) ≤ num (passes Any m)
 unfolding passes
 one-any t m = grind (arith, nat_tests)
@@ -120,7 +118,6 @@ commits-marks sh gs h k = record { stored = stored; counted = counted; sent = se
         subst (λ z. (w.dirs d).lines.mark l ≡ stored_mask sh d z.stores l) (same-commit h.commits y.commit x (k.owners.rising) (y.noted) c (y.tid ∙ e)) (y.marks l)
 
 -- along every run
-
 from_all : (P : Shape → List Noted → World → Type 0) → ((sh : Shape) (gs : List Grant) (h : History) → KeptAll sh gs h → P sh h.commits h.world) → AlwaysSince P
 from_all P f sh p entries ram es = go (run sh p (start entries ram) es) (run-all sh p entries ram es)
   where

@@ -94,7 +94,7 @@ reply-memory sh d u s k = go s.phase
 -- a Fill gives a frame its words and places none
 fill-memory : (sh : Shape) (l : ℕ) (ws : List ℕ) (s : CoreState) → CoreInMemory sh s → OutInMemory sh (fill l ws s)
 unfolding fill filled
-fill-memory sh l ws s k = go s.awaited
+fill-memory sh l ws s k = elim s.awaited as (λ a. OutInMemory sh (fill_awaited l ws s a)) [ None ↦ (k, tt) | Some a ↦ one a (a.line == l) ]
   where
     words : (b : Bool) → CoreInMemory sh (record s { cache = (if b then s.cache else filled l ws s.cache); awaited = None })
     words true = same-memory sh s _ refl refl refl k
@@ -103,10 +103,6 @@ fill-memory sh l ws s k = go s.awaited
     one : (a : Awaited) (b : Bool) → OutInMemory sh (if b then moves (record s { cache = (if a.stale then s.cache else filled l ws s.cache); awaited = None }) nothing else ignored s)
     one a true = (words a.stale, tt)
     one a false = (k, tt)
-
-    go : (a : Option Awaited) → OutInMemory sh (fill_awaited l ws s a)
-    go None = (k, tt)
-    go (Some a) = one a (a.line == l)
 
 data-memory : (sh : Shape) (l : ℕ) (s : CoreState) → CoreInMemory sh s → OutInMemory sh (data_request sh l s)
 unfolding data_request cleaned
@@ -209,11 +205,7 @@ step-memory sh p w e i k = step_cases sh p w e (λ g o. StepInMemory sh o)
     (λ c n q. (k, tt))
   where
     put : (c : ℕ) (s : CoreState) → CoreInMemory sh s → (j : ℕ) → CoreInMemory sh (if j == c then s else w.cores j)
-    put c s h j = go (j == c)
-      where
-        go : (b : Bool) → CoreInMemory sh (if b then s else w.cores j)
-        go true = h
-        go false = k j
+    put c s h j = elim (j == c) as (λ b. CoreInMemory sh (if b then s else w.cores j)) [ true ↦ h | false ↦ k j ]
 
     moved : (c : ℕ) (x : Option Out) → IfSome x (OutInMemory sh) → IfSome x (λ o. StepInMemory sh (record { world = core_moves w c o; noted = o.commit }))
     moved c None h = tt

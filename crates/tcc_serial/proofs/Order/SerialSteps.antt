@@ -147,7 +147,6 @@ fits-aligned p f l = go (p.need l) (f l)
     go (Traps k) h = tt
 
 -- in the phases in which a core commits
-
 abbrev pub May : (t : ℕ) → Phase → Type 0
 May t q = (q ≡ Ready t) ⊎ (q ≡ Solo t)
 

@@ -16,7 +16,6 @@ use Rattle.tcc_serial.proofs.Values.ValueAt.{IsAlike, value-alike}
 use Rattle.tcc_serial.proofs.Values.WordCopies.{few-copies}
 
 -- messages that are neither a load request nor a Commit
-
 none-among : (x y : ℕ) → among (FillNot x y) [] ≡ 0
 unfolding among
 none-among x y = refl

@@ -10,6 +10,7 @@ use Rattle.tcc_serial.proofs.Names.{CopiesHave, wrote_line, ◌&&◌, nat_lt, if
 use Rattle.tcc_serial.proofs.Names.{TidGrant, LoadReq, Fill, Skip, Probe, ProbeReply, Mark, Commit, Abort, WriteBack, Flush, DataReq, Inv}
 use Rattle.tcc_serial.proofs.Names.{InvAck, in_flight, core_deliver, from_vendor, grant, happens, names_nodes, is_node, if_in_flight, moved}
 use Rattle.tcc_serial.proofs.Names.{taken, CommitsStand, IsCache}
+use Rattle.tcc_serial.specs.KeepsHomes.{HomesHold, EventsKeepHomes}
 use Rattle.tcc_serial.proofs.Copies.TagsKept.{untagged}
 use Rattle.tcc_serial.proofs.Counts.Links.{live-sends}
 use Rattle.tcc_serial.proofs.Counts.StepCases.{either, moves-own, moves-other, OfAnswer, step_cases, node_cases}
@@ -30,8 +31,6 @@ use Rattle.tcc_serial.proofs.Values.ValueAt.{IsSilent, value-skip}
 use Rattle.tcc_serial.proofs.Values.WordCopies.{among-others, few-others, none-copied}
 use Rattle.tcc_serial.proofs.Values.WordValues.{value_of, tag_of, ValuesAt, KeptValues, values-of, Known, from-values}
 use Rattle.tcc_serial.proofs.Values.WordsMoved.{Alike, moved-alike, granted-alike, taken-alike, alike-keeps}
-use Rattle.tcc_serial.specs.KeepsHomes.{HomesHold, EventsKeepHomes}
-
 
 -- A core's commit keeps the values of home words and of copies: its new copies have the words as their core sees them.
 
@@ -234,7 +233,6 @@ commit-keeps sh p entries ram gs ys views m h c o u k l g f = subst (λ q. KeptV
             }))
 
 -- Every event that commits nothing keeps the values of home words and of copies on their way home.
-
 
 -- what is shown of an event
 abbrev KeepsValues : Shape → (ram : ℕ → ℕ) → History → Stepped → Type 0

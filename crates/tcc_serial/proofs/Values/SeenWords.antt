@@ -37,7 +37,6 @@ after-all base s c b x (n ∷ ns) y h = ap (after_commits base s c b x ns) (one 
     one (inr e) = silent e (counts s c b n)
 
 -- commits
-
 above-first : (last : ℕ) (ns : List Noted) (n : Noted) → IsRising last ns → (k : ℕ) → k < length ns → slice_index_or ns k n ≡ n → last < n.tid.0
 unfolding IsRising
 above-first last [] n r k l e = absurd (omega (arith, l))
@@ -105,7 +104,6 @@ wrote-none base (n ∷ ns) c t x h = rw (wrote-none base ns c t x (h.1)) (go (n.
     go false false q = refl
 
 -- copies above the line's tag have just the words that were written
-
 at-place : (x : ℕ) → word_at (line_of x) (place_of x) ≡ x
 at-place x = omega arith
 
@@ -330,7 +328,6 @@ other-word sh ram gs ys ends h x c n k i f s = settled-word sh ram gs ys ends h 
         (wrote-none sh.base h.commits e g x (each-listed (λ m. m.tid.0 ≡ g → stores_word sh.base m.stores x ≡ false) h.commits (λ m j u. ap (λ z. stores_word sh.base z.stores x) (one-commit 0 h.commits m n (k.carried.commits_are_of_granted_tids.0) j (f.listed) (u ∙ (sym y ∙ sym (f.tid)))) ∙ s)))
 
 -- it stored the word: its TID is the greatest
-
 coming-below : (sh : Shape) (ram : ℕ → ℕ) (gs : List Grant) (ys : Ways) (ends : ℕ → ℕ) (h : History) (x c : ℕ) (n : Noted) → Known sh ram gs ys ends h → line_of x < lines sh → Coming sh h x c n → (at sh h.world x).lines.tag (line_of x) < (at sh h.world x).serving.serving
 unfolding settled_in_line is_settled is_applied pair
 coming-below sh ram gs ys ends h x c n k i f = subst (λ q. q < (at sh h.world x).serving.serving) (sym (k.carried.line_tag_is_the_last_settled_writer (home sh (line_of x)) (line_of x) (home-below sh x k.dirs) i refl))
@@ -380,11 +377,7 @@ stored-word sh ram gs ys ends h x c n k i f s = record {
     later e g l u false q = grind (arith, nat_tests)
 
     counted : (m : Noted) → Contains h.commits m → (is_applied (at sh h.world x) m.tid.0 ≡ true) ⊎ Flying sh h.world x m.tid.0 → (is_this (Some c) m.core.0 || is_applied (at sh h.world x) m.tid.0) ≡ true
-    counted m j (inl e) = rw e (either (is_this (Some c) m.core.0))
-      where
-        either : (b : Bool) → (b || true) ≡ true
-        either true = refl
-        either false = refl
+    counted m j (inl e) = rw e ((elim (is_this (Some c) m.core.0) as (λ b. (b || true) ≡ true) [ true ↦ refl | false ↦ refl ]))
     counted m j (inr y) = let o : m.core.0 ≡ c = ap (λ z. z.core.0) (only-coming sh ram gs ys ends h x c (y.0) n m k f j (y.1) (y.2)) ∙ f.core in let q : (c == m.core.0) ≡ true = grind (arith, nat_tests) in rw q refl
 
     value : value_at sh.base ram h.commits (at sh h.world x) (Some c) None x ≡ ends x
@@ -418,7 +411,6 @@ stored-word sh ram gs ys ends h x c n k i f s = record {
     )
 
 -- any word
-
 coming : (sh : Shape) (h : History) (x c : ℕ) → c < sh.cores → 1 ≤ live (Commits (at sh h.world x).serving.serving) (h.world.net (Core c) (Dir (home sh (line_of x)))) → (m : MarkedCommit sh h.commits c (home sh (line_of x)) (at sh h.world x).serving.serving (pair h.world c (home sh (line_of x)))) → Coming sh h x c m.commit
 coming sh h x c l s m = record { below = l; sent = s; listed = m.noted; tid = m.tid; core = m.core }
 

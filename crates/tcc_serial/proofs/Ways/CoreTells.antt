@@ -47,11 +47,10 @@ solo-said sh c sp u d k a l = go (nat_lt d sh.dirs) (grind (arith, nat_tests)) (
 
 pub solo-told : (sh : Shape) (c : Cache) (sp : Spilled) (u d : ℕ) (y : Way) → d < sh.dirs → told_by (solo_sends sh c sp u (Dir d)) u y ≡ (if solo_writes_at sh c sp d then Committed else Skipped)
 unfolding passes
-solo-told sh c sp u d y l = go (solo_writes_at sh c sp d) (solo-said sh c sp u d (Skips u) (skips-apart u) l) (solo-said sh c sp u d (Aborts u) (aborts-apart u) l) (solo-said sh c sp u d (Commits u) (commits-apart u) l)
+solo-told sh c sp u d y l =
+    let n : ℕ = count_below (λ l. d == home sh l && is_written c sp l) (lines sh) in
+    go (solo_writes_at sh c sp d) (solo-said sh c sp u d (Skips u) (skips-apart u) l) (solo-said sh c sp u d (Aborts u) (aborts-apart u) l) (solo-said sh c sp u d (Commits u) (commits-apart u) l)
   where
-    n : ℕ
-    n = count_below (λ l. d == home sh l && is_written c sp l) (lines sh)
-
     ms : List Msg
     ms = solo_sends sh c sp u (Dir d)
 
