@@ -10,11 +10,7 @@ use Rattle.tcc_serial.proofs.Copies.PairCopies.{line_copies, line_wrong, LineCop
 -- no frame that is dirty with the tag has another mask
 right-mask : (c : Cache) (l t n : ℕ) → frame_wrong c l t n ≡ 0 → is_dirty c l ≡ true → dirty_tag c l ≡ t → dirty_mask c l ≡ n
 unfolding frame_wrong
-right-mask c l t n z d e = go (dirty_mask c l == n) refl
-  where
-    go : (b : Bool) → (dirty_mask c l == n) ≡ b → dirty_mask c l ≡ n
-    go true q = grind (arith, nat_tests)
-    go false q = absurd (let y : (dirty_tag c l == t) ≡ true = grind (arith, nat_tests) in let o : num ((is_dirty c l && dirty_tag c l == t) && not (dirty_mask c l == n)) ≡ 1 = rw (d, y, q) refl in omega (arith, z, o))
+right-mask c l t n z d e = grind (arith, nat_tests)
 
 above-one : (base : ℕ) (cs : List Noted) (c l t : ℕ) (v : Pair) → LineCopies base cs c l v → v.dir.lines.tag l < t → AboveOf base cs c l t v
 unfolding copies_with line_copies line_wrong frame_copy

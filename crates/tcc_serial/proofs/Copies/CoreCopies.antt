@@ -68,19 +68,11 @@ done sh l p need x s r h = conserves-still sh l s (moves (finished p need x r) n
 
 pub placed-dirty : (sh : Shape) (k : ℕ) (s : CoreState) (v : ℕ) → (place sh k s).cache.dirty v ≡ s.cache.dirty v
 unfolding place placed placed_at
-placed-dirty sh k s v = go (free_way sh s.cache (set_of sh k))
-  where
-    go : (a : Option ℕ) → (placed_at a (set_of sh k) k s.cache).dirty v ≡ s.cache.dirty v
-    go None = refl
-    go (Some y) = refl
+placed-dirty sh k s v = grind (arith, nat_tests)
 
 pub used-dirty : (w : ℕ) (s : CoreState) (v : ℕ) → (used w s).cache.dirty v ≡ s.cache.dirty v
 unfolding used marked
-used-dirty w s v = go (is_running s.phase)
-  where
-    go : (b : Bool) → (if b then record s { cache = marked w s.cache } else s).cache.dirty v ≡ s.cache.dirty v
-    go true = refl
-    go false = refl
+used-dirty w s v = grind (arith, nat_tests)
 
 asked : (sh : Shape) (l k : ℕ) (s r : CoreState) → ((v : ℕ) → r.cache.dirty v ≡ s.cache.dirty v) → Conserves sh l s (ask sh k r)
 unfolding ask among passes
@@ -146,11 +138,7 @@ partly sh l p w need s = go (s.spilled w)
 
 -- a line without a frame has no dirty word
 pub unheld-clean : (sh : Shape) (c : Cache) (v : ℕ) → IsCache sh c → c.held (line_of v) ≡ false → c.dirty v ≡ None
-unheld-clean sh c v h e = go (c.dirty v) refl
-  where
-    go : (a : Option ℕ) → c.dirty v ≡ a → a ≡ None
-    go None q = refl
-    go (Some t) q = absurd (let y : is_some (c.value v) ≡ true = h.dirty v (rw q refl) in let z : is_some (c.value v) ≡ false = rw (h.valued v e) refl in cc)
+unheld-clean sh c v h e = grind (arith, nat_tests)
 
 new-frame : (sh : Shape) (l : ℕ) (p : Program) (w x : ℕ) (need : Need) (s : CoreState) → IsCache sh s.cache → s.cache.held (line_of w) ≡ false → Conserves sh l s (moves (finished p need x (framed w x false (place sh (line_of w) s))) nothing)
 unfolding framed stored

@@ -67,11 +67,7 @@ pub wrote-new : (base : ℕ) (n : Noted) (cs : List Noted) (c t l : ℕ) → n.c
 wrote-new base n cs c t l e f z = wrote-all base (insert_commit n cs) c t l n (λ w. wrote-insert base n cs c t w ∙ rw (wrote-none base cs c t w z, e, f) (own (stores_word base n.stores w)))
   where
     own : (b : Bool) → (((c == c) && ((t == t) && b)) || false) ≡ b
-    own b = let y : (c == c) ≡ true = grind (arith, nat_tests) in let z : (t == t) ≡ true = grind (arith, nat_tests) in rw (y, z) (go b)
-      where
-        go : (b : Bool) → (b || false) ≡ b
-        go true = refl
-        go false = refl
+    own b = grind (arith, nat_tests)
 
 -- what another one stored stays
 pub record SameWrote (base : ℕ) (cs ds : List Noted) (c t l : ℕ) : Type 0 where
@@ -114,10 +110,7 @@ wrote-unknown base cs c t l z = line-never base cs c t l (λ w. wrote-none base 
 pub wrote-at : (base : ℕ) (cs : List Noted) (n : Noted) (w k : ℕ) → stores_word base n.stores w ≡ true → k < length cs → slice_index_or cs k n ≡ n → wrote base cs n.core.0 n.tid.0 w ≡ true
 unfolding wrote
 wrote-at base [] n w k s i e = absurd (omega (arith, i))
-wrote-at base (x ∷ cs) n w zero s i e = here x e
-  where
-    here : (x : Noted) → x ≡ n → (((x.core.0 == n.core.0) && ((x.tid.0 == n.tid.0) && stores_word base x.stores w)) || wrote base cs n.core.0 n.tid.0 w) ≡ true
-    here x e = let y : (n.core.0 == n.core.0) ≡ true = grind (arith, nat_tests) in let z : (n.tid.0 == n.tid.0) ≡ true = grind (arith, nat_tests) in rw (e, y, z, s) refl
+wrote-at base (x ∷ cs) n w zero s i e = grind (arith, nat_tests)
 wrote-at base (x ∷ cs) n w (suc k) s i e = rw (wrote-at base cs n w k s (omega (arith, i)) e) (go ((x.core.0 == n.core.0) && ((x.tid.0 == n.tid.0) && stores_word base x.stores w)))
   where
     go : (b : Bool) → (b || true) ≡ true
@@ -156,11 +149,7 @@ total-only f (suc n) c h z = go (cases_eq n c) (λ g. total-only f n c (λ j l i
 
 pub applied-or : (s : DirState) (t : ℕ) → num (is_applied s t) ≡ num (nat_lt t s.serving.serving) + num ((t == s.serving.serving) && nat_lt 0 s.owed)
 unfolding is_applied
-applied-or s t = go (nat_lt t s.serving.serving) refl
-  where
-    go : (b : Bool) → nat_lt t s.serving.serving ≡ b → num (b || ((t == s.serving.serving) && nat_lt 0 s.owed)) ≡ num b + num ((t == s.serving.serving) && nat_lt 0 s.owed)
-    go true q = let e : (t == s.serving.serving) ≡ false = grind (arith, nat_tests) in rw e refl
-    go false q = omega arith
+applied-or s t = grind (arith, nat_tests)
 
 pub on-its-way : (sh : Shape) (gs : List Grant) (ys : Ways) (h : History) → KeptRun sh gs ys h → CommitsStand sh h.world h.commits
 unfolding share part_in kept_in pair

@@ -49,11 +49,7 @@ holds-kept l v q = rw q refl
 
 pub holds-fill : (l : ℕ) (v : Pair) → is_fresh v.core.awaited ≡ true → 1 ≤ live (FillOf l) v.back → holds_line l v ≡ true
 unfolding holds_line
-holds-fill l v q i = let y : nat_lt 0 (live (FillOf l) v.back) ≡ true = grind (arith, nat_tests) in rw (q, y) (last (keeps_unmodified v.core.cache l))
-  where
-    last : (b : Bool) → (b || true) ≡ true
-    last true = refl
-    last false = refl
+holds-fill l v q i = grind (arith, nat_tests)
 
 -- a core's event: what it holds it held before, or it has committed the line and has acknowledged nothing of it
 pub sharer-moved : (base : ℕ) (cs ds : List Noted) (c l : ℕ) (v w : Pair) → w.dir ≡ v.dir
@@ -307,10 +303,7 @@ moved-sharers sh gs ys h c o b ld t a f j d = either j c
   where
     unlike : (x : Noted) → o.commit ≡ Some x → (j ≡ c → ⊥) → AfterStep sh c (h.world.cores c) o → (x.core.0 == j) ≡ false
     unlike x q n (inl y) = absurd (let z = sym (y.commit) ∙ q in cc)
-    unlike x q n (inr y) = same-core (sym (y.commit) ∙ q)
-      where
-        same-core : Some y.noted ≡ Some x → (x.core.0 == j) ≡ false
-        same-core z = let p : y.noted ≡ x = cc in let r : x.core.0 ≡ c = rw p at (y.core) in grind (arith, nat_tests)
+    unlike x q n (inr y) = grind (arith, nat_tests)
 
 -- A message that a core takes keeps that a core which holds a line is one of its sharers, or its Commit of the line is in flight.
 fill-away : (n e l : ℕ) (m : Msg) → passes (FillOf l) m ≡ true → passes (LinesAway n e) m ≡ not ((l % n) == e)

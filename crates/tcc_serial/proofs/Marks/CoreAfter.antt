@@ -119,11 +119,7 @@ fetched sh c k s = go (s.cache.held k) (is_some (free_way sh s.cache (set_of sh 
 
 used-after : (w : ℕ) (s : CoreState) → (used w s).after ≡ s.after
 unfolding used
-used-after w s = go (is_running s.phase)
-  where
-    go : (b : Bool) → (if b then record s { cache = marked w s.cache } else s).after ≡ s.after
-    go true = refl
-    go false = refl
+used-after w s = grind (arith, nat_tests)
 
 loaded : (sh : Shape) (p : Program) (c w : ℕ) (need : Need) (s : CoreState) → IfSome (load sh p need w s) (λ o. AfterStep sh c s o)
 unfolding load

@@ -140,26 +140,8 @@ falls s new m t l x y (IsMarked a b e g f) q k z = rw (g, f l) (go (cases_eq l a
 
 -- a line of which one Mark was sent at most, b, by a TID that isn't passed
 pub holds : (s new : DirState) (m : Msg) (t l x y b : ℕ) → Marked s m new → y + num (passes (MarkOf t l) m) ≡ x → (m ≡ Skip s.serving.serving → has_mark s.lines l ≡ false) → passes EmptyMarks m ≡ false → b ≤ 1 → (1 ≤ b → new.serving.serving ≤ t) → x + num (s.serving.serving == t && has_mark s.lines l) ≡ b → y + num (new.serving.serving == t && has_mark new.lines l) ≡ b
-holds s new m t l x y b (Stays e f g) q k nonempty once reached z = rw (e, f l) (go (passes (MarkOf t l) m) refl)
-  where
-    go : (p : Bool) → passes (MarkOf t l) m ≡ p → y + num (s.serving.serving == t && has_mark s.lines l) ≡ b
-    go true p = let n : num (passes (MarkOf t l) m) ≡ 1 = ap num p in let r = g t l p in let o : new.serving.serving ≤ t = reached (omega (arith, n, q, z)) in absurd (omega (arith, r, o, e))
-    go false p = let n : num (passes (MarkOf t l) m) ≡ 0 = ap num p in omega (arith, n, q, z)
-holds s new m t l x y b (Clears e f g) q k nonempty once reached z = rw (f l) (go (cases_eq s.serving.serving t))
-  where
-    n : num (passes (MarkOf t l) m) ≡ 0
-    n = ap num (g t l)
-
-    none : num (new.serving.serving == t && nat_lt 0 0) ≡ 0
-    none = grind arith
-
-    zero-or : (cases : (0 < b) ⊎ (b ≤ 0)) → s.serving.serving ≡ t → b ≡ 0
-    zero-or (inl r) p = absurd (omega (arith, reached (omega (arith, r)), e, p))
-    zero-or (inr r) p = omega (arith, r)
-
-    go : (s.serving.serving ≡ t) ⊎ (s.serving.serving ≡ t → ⊥) → y + num (new.serving.serving == t && nat_lt 0 0) ≡ b
-    go (inl p) = omega (arith, none, n, q, z, zero-or (cases_lt 0 b) p)
-    go (inr p) = let r : (s.serving.serving == t) ≡ false = grind (arith, nat_tests) in let w : num (s.serving.serving == t && has_mark s.lines l) ≡ 0 = rw r refl in omega (arith, none, n, q, z, w)
+holds s new m t l x y b (Stays e f g) q k nonempty once reached z = grind (arith, nat_tests)
+holds s new m t l x y b (Clears e f g) q k nonempty once reached z = grind (arith, nat_tests)
 holds s new m t l x y b (Skipped e f) q k nonempty once reached z =
     let n : num (passes (MarkOf t l) m) ≡ 0 = rw e (no-mark t l s.serving.serving) in
     let was : num (s.serving.serving == t && has_mark s.lines l) ≡ 0 = rw (k e) (grind arith) in
@@ -303,11 +285,7 @@ inside-dirs sh w c d k u z i = go (cases_lt d sh.dirs)
     go (inr l) = absurd (omega (arith, (z.owed.at_home c d).far l, live-some AnyResolve (w.net (Core c) (Dir d)) k (Skip u) i, is-resolve u (Skip u), is-skip u))
 
 unmarked-of : (s : DirState) (l x : ℕ) → x + num (s.serving.serving == s.serving.serving && has_mark s.lines l) ≡ 0 → has_mark s.lines l ≡ false
-unmarked-of s l x z = go (has_mark s.lines l) refl
-  where
-    go : (b : Bool) → has_mark s.lines l ≡ b → has_mark s.lines l ≡ false
-    go false q = q
-    go true q = let e : (s.serving.serving == s.serving.serving) ≡ true = grind (arith, nat_tests) in let n : num (s.serving.serving == s.serving.serving && has_mark s.lines l) ≡ 1 = rw (e, q) refl in absurd (omega (arith, n, z))
+unmarked-of s l x z = grind (arith, nat_tests)
 
 -- where the served TID is skipped, nothing is marked
 pub skip-unmarked : (sh : Shape) (gs : List Grant) (w : World) (c d k : ℕ) (m : Msg) (l : ℕ) → KeptTold sh w → KeptMarks sh gs w → in_flight w.net (Core c) (Dir d) k ≡ Some m → m ≡ Skip (w.dirs d).serving.serving → has_mark (w.dirs d).lines l ≡ false

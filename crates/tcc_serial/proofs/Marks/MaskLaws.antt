@@ -38,24 +38,11 @@ marked-one l v h = let e : (v.dir.serving.serving == v.dir.serving.serving) ≡ 
 
 marked-right : (l q : ℕ) (v : Pair) → has_mark v.dir.lines l ≡ true → wrong_marks v.dir.serving.serving l q v ≡ 0 → v.dir.lines.mark l ≡ q
 unfolding wrong_marks
-marked-right l q v h z = go (cases_eq (v.dir.lines.mark l) q)
-  where
-    e : (v.dir.serving.serving == v.dir.serving.serving) ≡ true
-    e = grind (arith, nat_tests)
-
-    go : (v.dir.lines.mark l ≡ q) ⊎ (v.dir.lines.mark l ≡ q → ⊥) → v.dir.lines.mark l ≡ q
-    go (inl i) = i
-    go (inr n) = let b : (v.dir.lines.mark l == q) ≡ false = grind (arith, nat_tests) in let o : num (v.dir.serving.serving == v.dir.serving.serving && (has_mark v.dir.lines l && not (v.dir.lines.mark l == q))) ≡ 1 = rw (e, h, b) refl in absurd (omega (arith, z, o))
+marked-right l q v h z = grind (arith, nat_tests)
 
 marked-stores : (sh : Shape) (s : CoreState) (d l : ℕ) → 1 ≤ marked_by sh s d l → stores_line sh s.cache d l ≡ true
 unfolding marked_by
-marked-stores sh s d l x = go (has_marked s.phase) (s.owing d) (stores_line sh s.cache d l) x
-  where
-    go : (a b c : Bool) → 1 ≤ num (a && (not b && c)) → c ≡ true
-    go true false true x = refl
-    go true false false x = absurd (omega (arith, x))
-    go true true c x = absurd (omega (arith, x))
-    go false b c x = absurd (omega (arith, x))
+marked-stores sh s d l x = grind (arith, nat_tests)
 
 served-marks : (sh : Shape) (gs : List Grant) (w : World) → KeptMarks sh gs w → KeptMasks sh w → MarkedByServed sh w
 unfolding pair

@@ -1,11 +1,11 @@
 -- Along every run of a program whose accesses lie in memory, frames and what was loaded and stored lie there too.
-use Rattle.tcc_serial.proofs.Names.{ℕ, ◌≡◌, Bool, true, false, not, ◌&&◌, ◌||◌, ◌==◌, List, Option, Some, None, IfSome, if◌then◌else◌, refl}
-use Rattle.tcc_serial.proofs.Names.{Dir, Msg, TidReq, TidGrant, LoadReq, Fill, Skip, Probe, ProbeReply, Mark, Commit, Abort, WriteBack}
-use Rattle.tcc_serial.proofs.Names.{Flush, DataReq, Inv, InvAck, Shape, Cache, is_marked, filled, cleaned, invalidated, read_cleared}
-use Rattle.tcc_serial.proofs.Names.{rolled_back, evicted, evicted_line, spill_line, CoreState, Awaited, Phase, Running, AwaitTid, DoomedTid}
-use Rattle.tcc_serial.proofs.Names.{Probing, Ready, Overflowing, Solo, Halted, nothing, to, marks_for, written_back, moves, is_solo}
-use Rattle.tcc_serial.proofs.Names.{roll_back, core_evict, evict_line, is_awaited, ignored, grant, grant_phase, probe_reply, reply_phase}
-use Rattle.tcc_serial.proofs.Names.{replied, all_replied, when_ready, when_alone, fill, fill_awaited, data_request, invalidate}
+use Rattle.tcc_serial.proofs.Names.{nat_tests, ℕ, ◌≡◌, Bool, true, false, not, ◌&&◌, ◌||◌, ◌==◌, List, Option, Some, None, IfSome}
+use Rattle.tcc_serial.proofs.Names.{if◌then◌else◌, refl, Dir, Msg, TidReq, TidGrant, LoadReq, Fill, Skip, Probe, ProbeReply, Mark, Commit}
+use Rattle.tcc_serial.proofs.Names.{Abort, WriteBack, Flush, DataReq, Inv, InvAck, Shape, Cache, is_marked, filled, cleaned, invalidated}
+use Rattle.tcc_serial.proofs.Names.{read_cleared, rolled_back, evicted, evicted_line, spill_line, CoreState, Awaited, Phase, Running}
+use Rattle.tcc_serial.proofs.Names.{AwaitTid, DoomedTid, Probing, Ready, Overflowing, Solo, Halted, nothing, to, marks_for, written_back}
+use Rattle.tcc_serial.proofs.Names.{moves, is_solo, roll_back, core_evict, evict_line, is_awaited, ignored, grant, grant_phase, probe_reply}
+use Rattle.tcc_serial.proofs.Names.{reply_phase, replied, all_replied, when_ready, when_alone, fill, fill_awaited, data_request, invalidate}
 use Rattle.tcc_serial.proofs.Names.{acknowledged, if_violated, is_violated, violated_in, without, from_dir, ◌≤◌, [], ◌++◌, arith, Program}
 use Rattle.tcc_serial.proofs.Names.{Local, Core, Event, lines, DirState, World, start, Out, core_exec, Answer, Waits, Drops, Asks, Takes}
 use Rattle.tcc_serial.proofs.Names.{dir_deliver, in_flight, sent_all, Sends, core_moves, core_takes, dir_takes, step, CopyOf, live}
@@ -23,15 +23,7 @@ use Rattle.tcc_serial.proofs.Tids.Commits.{inserted}
 -- Evict and messages keep that a core's frames and what its attempt used lie in memory.
 evicted-frames : (x y : ℕ) (c : Cache) (k : ℕ) → (evicted x y c).held k ≡ true → c.held k ≡ true
 unfolding evicted evicted_line
-evicted-frames x y c k e = go (c.at x y) e
-  where
-    at : (b : Bool) → (if b then false else c.held k) ≡ true → c.held k ≡ true
-    at true e = absurd (cc)
-    at false e = e
-
-    go : (a : Option ℕ) → (evicted_line a x y c).held k ≡ true → c.held k ≡ true
-    go None e = e
-    go (Some l) e = at (k == l) e
+evicted-frames x y c k e = grind (arith, nat_tests)
 
 pub evict-memory : (sh : Shape) (x y : ℕ) (s : CoreState) → CoreInMemory sh s → IfSome (core_evict sh x y s) (OutInMemory sh)
 unfolding core_evict

@@ -154,11 +154,7 @@ fetched sh k s n = go (s.cache.held k) (is_some (free_way sh s.cache (set_of sh 
 
 used-awaits : (w : ℕ) (s : CoreState) → (used w s).awaited ≡ s.awaited
 unfolding used
-used-awaits w s = go (is_running s.phase)
-  where
-    go : (b : Bool) → (if b then record s { cache = marked w s.cache } else s).awaited ≡ s.awaited
-    go true = refl
-    go false = refl
+used-awaits w s = grind (arith, nat_tests)
 
 loaded : (sh : Shape) (p : Program) (w : ℕ) (need : Need) (s : CoreState) → s.awaited ≡ None → IfSome (load sh p need w s) (λ o. LoadsStep sh s o)
 unfolding load

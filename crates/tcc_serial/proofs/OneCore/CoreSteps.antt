@@ -42,12 +42,7 @@ unmarked-word c l v h e = go (c.modified v) (c.read v) refl refl
 
 written_back-quiet : (sh : Shape) (c : Cache) (l d : ℕ) → among Protocol (written_back sh c l (Dir d)) ≡ 0
 unfolding written_back among passes
-written_back-quiet sh c l d = go (d == home sh l) (dirty_copy c l)
-  where
-    go : (b : Bool) (t : Option Tagged) → among Protocol (if b then write_back t else []) ≡ 0
-    go false t = refl
-    go true None = refl
-    go true (Some t) = refl
+written_back-quiet sh c l d = grind (arith, nat_tests)
 
 pub evicted-modified : (x y l : ℕ) (c : Cache) → c.at x y ≡ Some l → is_marked c l ≡ false → (v : ℕ) → ((evicted x y c).modified v ≡ c.modified v) × ((evicted x y c).read v ≡ c.read v)
 unfolding evicted evicted_line

@@ -1,13 +1,13 @@
 -- What executing an instruction may come to, as far as TIDs and messages about them go.
-use Rattle.tcc_serial.proofs.Names.{ℕ, ◌≡◌, Bool, true, false, not, [], ◌∷◌, ◌==◌, ◌||◌, Option, Some, None, IfSome, is_some, if◌then◌else◌}
-use Rattle.tcc_serial.proofs.Names.{refl, ap₂, ◌∙◌, Byte, Half, Word, Program, Need, Nothing, Loads, Stores, Changes, Prints, Ends, Halts}
-use Rattle.tcc_serial.proofs.Names.{Traps, word_of, line_of, Dir, Vendor, TidReq, Tagged, LoadReq, Shape, home, set_of, Cache, dirty_copy}
-use Rattle.tcc_serial.proofs.Names.{free_way, all_marked, marked, holds, CoreState, Phase, Running, AwaitTid, DoomedTid, Probing, Ready}
-use Rattle.tcc_serial.proofs.Names.{Overflowing, Solo, Halted, Sends, nothing, to, flush, flushed, Out, moves, finished, stepped}
-use Rattle.tcc_serial.proofs.Names.{is_running, is_solo, new_word, noted, phase_after, committed_core, solo_commit, solo_sends, ask, place}
-use Rattle.tcc_serial.proofs.Names.{overflow, full_set, fetch, used, load_valid, load_spilled, load, buffered, framed, word_store}
-use Rattle.tcc_serial.proofs.Names.{also_read, change_valid, change_spilled, partial_store, close, execute_need, execute, Protocol, among}
-use Rattle.tcc_serial.proofs.Names.{passes}
+use Rattle.tcc_serial.proofs.Names.{arith, nat_tests, ℕ, ◌≡◌, Bool, true, false, not, [], ◌∷◌, ◌==◌, ◌||◌, Option, Some, None, IfSome}
+use Rattle.tcc_serial.proofs.Names.{is_some, if◌then◌else◌, refl, ap₂, ◌∙◌, Byte, Half, Word, Program, Need, Nothing, Loads, Stores}
+use Rattle.tcc_serial.proofs.Names.{Changes, Prints, Ends, Halts, Traps, word_of, line_of, Dir, Vendor, TidReq, Tagged, LoadReq, Shape}
+use Rattle.tcc_serial.proofs.Names.{home, set_of, Cache, dirty_copy, free_way, all_marked, marked, holds, CoreState, Phase, Running}
+use Rattle.tcc_serial.proofs.Names.{AwaitTid, DoomedTid, Probing, Ready, Overflowing, Solo, Halted, Sends, nothing, to, flush, flushed, Out}
+use Rattle.tcc_serial.proofs.Names.{moves, finished, stepped, is_running, is_solo, new_word, noted, phase_after, committed_core}
+use Rattle.tcc_serial.proofs.Names.{solo_commit, solo_sends, ask, place, overflow, full_set, fetch, used, load_valid, load_spilled, load}
+use Rattle.tcc_serial.proofs.Names.{buffered, framed, word_store, also_read, change_valid, change_spilled, partial_store, close}
+use Rattle.tcc_serial.proofs.Names.{execute_need, execute, Protocol, among, passes}
 
 -- a core executes in these phases
 abbrev pub Acts : Phase → Type 0
@@ -53,12 +53,7 @@ finished-rest p (Traps k) x s = record { phase = refl; owing = refl; cache = ref
 -- the words of a line that go home count for nothing here
 pub flushed-quiet : (sh : Shape) (c : Cache) (l d : ℕ) → among Protocol (flushed sh c l (Dir d)) ≡ 0
 unfolding flushed among passes
-flushed-quiet sh c l d = go (d == home sh l) (dirty_copy c l)
-  where
-    go : (b : Bool) (t : Option Tagged) → among Protocol (if b then flush t else []) ≡ 0
-    go false t = refl
-    go true None = refl
-    go true (Some t) = refl
+flushed-quiet sh c l d = grind (arith, nat_tests)
 
 -- a finished instruction
 done : (sh : Shape) (p : Program) (c : ℕ) (need : Need) (x : ℕ) (s r : CoreState) (sends : Sends) → Acts s.phase → r.phase ≡ s.phase → r.owing ≡ s.owing → sends Vendor ≡ [] → ((d : ℕ) → among Protocol (sends (Dir d)) ≡ 0) → Executed sh c s (moves (finished p need x r) sends)

@@ -163,11 +163,7 @@ full sh l s a h n = go s.phase refl a (all_marked sh s.cache (set_of sh l))
 
 placed-held : (sh : Shape) (l : ℕ) (c : Cache) → is_some (free_way sh c (set_of sh l)) ≡ true → (placed sh l c).held l ≡ true
 unfolding placed placed_at
-placed-held sh l c e = go (free_way sh c (set_of sh l)) e
-  where
-    go : (y : Option ℕ) → is_some y ≡ true → (placed_at y (set_of sh l) l c).held l ≡ true
-    go None q = absurd (cc)
-    go (Some y) q = let b : (l == l) ≡ true = grind (arith, nat_tests) in rw b refl
+placed-held sh l c e = grind (arith, nat_tests)
 
 fetched : (sh : Shape) (l : ℕ) (s : CoreState) → Acts s.phase → OneCore sh s → s.awaited ≡ None → IfSome (fetch sh l s) (λ o. OneCore sh o.core)
 unfolding fetch place

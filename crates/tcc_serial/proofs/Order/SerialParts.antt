@@ -253,17 +253,7 @@ after-uncounted base s c b x (e ∷ es) y h = rw (h.0) (after-uncounted base s c
 
 counts-before : (s : DirState) (c : Option ℕ) (t : ℕ) (n : Noted) → t ≤ s.serving.serving → n.tid.0 < t → counts s c (Some t) n ≡ true
 unfolding counts is_applied
-counts-before s c t n l h = go (is_this c n.core.0)
-  where
-    below : nat_lt n.tid.0 t ≡ true
-    below = grind (arith, nat_tests)
-
-    passed : nat_lt n.tid.0 s.serving.serving ≡ true
-    passed = grind (arith, nat_tests)
-
-    go : (b : Bool) → (nat_lt n.tid.0 t && (b || (nat_lt n.tid.0 s.serving.serving || (n.tid.0 == s.serving.serving && nat_lt 0 s.owed)))) ≡ true
-    go true = rw below refl
-    go false = rw (below, passed) refl
+counts-before s c t n l h = grind (arith, nat_tests)
 
 counts-behind : (s : DirState) (c : Option ℕ) (t : ℕ) (n : Noted) → t < n.tid.0 → counts s c (Some t) n ≡ false
 unfolding counts

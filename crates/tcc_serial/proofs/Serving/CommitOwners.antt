@@ -34,12 +34,7 @@ noted-steady s o y = noted-free o (λ d. omega (arith, few-commits (o.sends (Dir
 
 of-commit : (sh : Shape) (c : Cache) (u d t : ℕ) → among (Commits t) (commit_sends sh c u (Dir d)) ≤ num (u == t)
 unfolding commit_sends among passes
-of-commit sh c u d t = go (nat_lt d sh.dirs) (writes_at sh c d)
-  where
-    go : (a b : Bool) → among (Commits t) (if a then (if b then Commit u (count_below (λ l. d == home sh l && is_modified c l) (lines sh)) ∷ [] else []) else []) ≤ num (u == t)
-    go false b = omega arith
-    go true false = omega arith
-    go true true = omega arith
+of-commit sh c u d t = grind (arith, nat_tests)
 
 of-solo : (sh : Shape) (c : Cache) (sp : Spilled) (u d t : ℕ) → among (Commits t) (solo_sends sh c sp u (Dir d)) ≤ num (u == t)
 unfolding solo_sends solo_marks solo_backs among passes

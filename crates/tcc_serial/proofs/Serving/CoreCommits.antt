@@ -41,15 +41,7 @@ served-steady d x s o y = served-free d x o (omega (arith, few-commits (o.sends 
 
 served-commit : (sh : Shape) (c : Cache) (t d x : ℕ) → (d < sh.dirs → writes_at sh c d ≡ true → t ≤ x) → among (CommitsAbove x) (commit_sends sh c t (Dir d)) ≡ 0
 unfolding commit_sends among passes
-served-commit sh c t d x h = go (nat_lt d sh.dirs) refl (writes_at sh c d) refl
-  where
-    n : ℕ
-    n = count_below (λ l. d == home sh l && is_modified c l) (lines sh)
-
-    go : (a : Bool) → nat_lt d sh.dirs ≡ a → (b : Bool) → writes_at sh c d ≡ b → among (CommitsAbove x) (if a then (if b then Commit t n ∷ [] else []) else []) ≡ 0
-    go false p b q = refl
-    go true p false q = refl
-    go true p true q = let l : t ≤ x = h (grind (arith, nat_tests)) q in grind (arith, nat_tests)
+served-commit sh c t d x h = grind (arith, nat_tests)
 
 served-solo : (sh : Shape) (c : Cache) (sp : Spilled) (t d x : ℕ) → (d < sh.dirs → t ≤ x) → among (CommitsAbove x) (solo_sends sh c sp t (Dir d)) ≡ 0
 unfolding solo_sends solo_marks solo_backs among passes
@@ -87,11 +79,7 @@ free-grants sh c t d = grind arith
 
 pub free-to : (h d : ℕ) (ms : List Msg) → among AnyCommit ms ≡ 0 → among AnyCommit (to (Dir h) ms (Dir d)) ≡ 0
 unfolding among
-free-to h d ms e = go (d == h)
-  where
-    go : (b : Bool) → among AnyCommit (if b then ms else []) ≡ 0
-    go true = e
-    go false = refl
+free-to h d ms e = grind (arith, nat_tests)
 
 pub free-marks : (sh : Shape) (c : Cache) (t e : ℕ) → among AnyCommit (marks_for sh c t e) ≡ 0
 unfolding marks_for among passes

@@ -67,11 +67,7 @@ numbered-most n gs g h c = numbered-below n c.0 gs g h (c.1) (c.2)
 
 -- what a list of one holds
 pub only-one : (g x : Grant) → Contains (g ∷ []) x → g ≡ x
-only-one g x c = go c.0 (c.1) (c.2)
-  where
-    go : (k : ℕ) → k < 1 → slice_index_or (g ∷ []) k x ≡ x → g ≡ x
-    go zero l e = e
-    go (suc k) l e = absurd (omega arith)
+only-one g x c = grind (arith, nat_tests)
 
 unique-at : (n i j : ℕ) (gs : List Grant) (g h : Grant) → IsNumbered n gs → g.tid ≡ h.tid → i < length gs → slice_index_or gs i g ≡ g → j < length gs → slice_index_or gs j h ≡ h → g ≡ h
 unfolding IsNumbered

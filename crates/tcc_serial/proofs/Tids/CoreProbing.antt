@@ -67,11 +67,7 @@ none-marks sh c u e t = among-flat_map_none (Probes t) (λ l. Mark l (modified_m
 
 pub none-to : (t h d : ℕ) (ms : List Msg) → among (Probes t) ms ≡ 0 → among (Probes t) (to (Dir h) ms (Dir d)) ≡ 0
 unfolding among
-none-to t h d ms e = go (d == h)
-  where
-    go : (b : Bool) → among (Probes t) (if b then ms else []) ≡ 0
-    go true = e
-    go false = refl
+none-to t h d ms e = grind (arith, nat_tests)
 
 pub tid-after : (e : Outcome) (t : ℕ) → has_tid (phase_after e) t ≡ false
 unfolding has_tid

@@ -115,11 +115,7 @@ part-grant sh u d t s l w = go s.phase refl w
 
 resolves-to : (t h d : ℕ) (ms : List Msg) → among (Resolves t) ms ≡ 0 → among (Resolves t) (to (Dir h) ms (Dir d)) ≡ 0
 unfolding among
-resolves-to t h d ms e = go (d == h)
-  where
-    go : (b : Bool) → among (Resolves t) (if b then ms else []) ≡ 0
-    go true = e
-    go false = refl
+resolves-to t h d ms e = grind (arith, nat_tests)
 
 part-reply : (sh : Shape) (e u d t : ℕ) (s : CoreState) → KeepsPart sh d t 0 s (probe_reply sh e u s)
 unfolding probe_reply opens among

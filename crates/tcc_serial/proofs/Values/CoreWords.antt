@@ -27,19 +27,11 @@ done sh p need x s r e f = (refl, carries-still sh s (moves (finished p need x r
 
 placed-value : (sh : Shape) (k : ℕ) (s : CoreState) (v : ℕ) → (place sh k s).cache.value v ≡ s.cache.value v
 unfolding place placed placed_at
-placed-value sh k s v = go (free_way sh s.cache (set_of sh k))
-  where
-    go : (a : Option ℕ) → (placed_at a (set_of sh k) k s.cache).value v ≡ s.cache.value v
-    go None = refl
-    go (Some y) = refl
+placed-value sh k s v = grind (arith, nat_tests)
 
 used-value : (w : ℕ) (s : CoreState) (v : ℕ) → (used w s).cache.value v ≡ s.cache.value v
 unfolding used marked
-used-value w s v = go (is_running s.phase)
-  where
-    go : (b : Bool) → (if b then record s { cache = marked w s.cache } else s).cache.value v ≡ s.cache.value v
-    go true = refl
-    go false = refl
+used-value w s v = grind (arith, nat_tests)
 
 asked : (sh : Shape) (k : ℕ) (s r : CoreState) → ((v : ℕ) → r.cache.dirty v ≡ s.cache.dirty v) → ((v : ℕ) → r.cache.value v ≡ s.cache.value v) → Quietly sh s (ask sh k r)
 unfolding ask among passes

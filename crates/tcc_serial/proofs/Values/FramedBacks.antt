@@ -1,13 +1,14 @@
 -- What each message to a core does to the words in its frames: a Fill brings those that aren't valid, an invalidation takes those of its
 -- mask that aren't modified, and no other changes any.
-use Rattle.tcc_serial.proofs.Names.{ℕ, ◌≡◌, ◌⊎◌, Bool, true, false, not, ◌&&◌, ◌||◌, ◌==◌, List, Option, Some, None, IfSome, unwrap_or}
-use Rattle.tcc_serial.proofs.Names.{get_or, if◌then◌else◌, refl, sym, subst, ◌∙◌, inl, inr, true≢false, line_of, place_of, hit, Dir, Msg}
-use Rattle.tcc_serial.proofs.Names.{TidReq, TidGrant, LoadReq, Fill, Skip, Probe, ProbeReply, Mark, Commit, Abort, WriteBack, Flush}
-use Rattle.tcc_serial.proofs.Names.{DataReq, Inv, InvAck, Shape, Cache, filled, cleaned, invalidated, rolled_back, read_cleared, CoreState}
-use Rattle.tcc_serial.proofs.Names.{Awaited, Phase, Running, AwaitTid, DoomedTid, Probing, Ready, Overflowing, Solo, Halted, nothing, to}
-use Rattle.tcc_serial.proofs.Names.{marks_for, Out, moves, roll_back, ignored, grant, grant_phase, probe_reply, reply_phase, replied}
-use Rattle.tcc_serial.proofs.Names.{all_replied, when_ready, when_alone, fill, fill_awaited, data_request, invalidate, acknowledged}
-use Rattle.tcc_serial.proofs.Names.{if_violated, is_violated, violated_in, staled, without, from_dir, InvWord, passes, is_stale}
+use Rattle.tcc_serial.proofs.Names.{arith, nat_tests, ℕ, ◌≡◌, ◌⊎◌, Bool, true, false, not, ◌&&◌, ◌||◌, ◌==◌, List, Option, Some, None}
+use Rattle.tcc_serial.proofs.Names.{IfSome, unwrap_or, get_or, if◌then◌else◌, refl, sym, subst, ◌∙◌, inl, inr, true≢false, line_of}
+use Rattle.tcc_serial.proofs.Names.{place_of, hit, Dir, Msg, TidReq, TidGrant, LoadReq, Fill, Skip, Probe, ProbeReply, Mark, Commit, Abort}
+use Rattle.tcc_serial.proofs.Names.{WriteBack, Flush, DataReq, Inv, InvAck, Shape, Cache, filled, cleaned, invalidated, rolled_back}
+use Rattle.tcc_serial.proofs.Names.{read_cleared, CoreState, Awaited, Phase, Running, AwaitTid, DoomedTid, Probing, Ready, Overflowing}
+use Rattle.tcc_serial.proofs.Names.{Solo, Halted, nothing, to, marks_for, Out, moves, roll_back, ignored, grant, grant_phase, probe_reply}
+use Rattle.tcc_serial.proofs.Names.{reply_phase, replied, all_replied, when_ready, when_alone, fill, fill_awaited, data_request, invalidate}
+use Rattle.tcc_serial.proofs.Names.{acknowledged, if_violated, is_violated, violated_in, staled, without, from_dir, InvWord, passes}
+use Rattle.tcc_serial.proofs.Names.{is_stale}
 use Rattle.tcc_serial.proofs.Values.FramedCores.{Fades, Fading, fades-same, fading}
 
 -- a core that commits nothing, in which words fade
@@ -91,11 +92,7 @@ fades-rolled c d x h y = go (d.modified x) refl
 
 staled-fresh : (l : ℕ) (a : Option Awaited) → is_stale (staled l a) ≡ false → is_stale a ≡ false
 staled-fresh l None h = refl
-staled-fresh l (Some a) h = go (a.line == l) h
-  where
-    go : (b : Bool) → (b || a.stale) ≡ false → a.stale ≡ false
-    go true q = absurd (true≢false q)
-    go false q = q
+staled-fresh l (Some a) h = grind (arith, nat_tests)
 
 -- what an invalidation does: its words have no valid copy that isn't modified, and an awaited line of its line is stale
 pub record Invalidates (l m : ℕ) (s : CoreState) (o : Out) : Type 0 where

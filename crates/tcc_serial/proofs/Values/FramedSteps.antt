@@ -114,11 +114,7 @@ committed sh p entries ram gs ys views m h c o u k held l g = subst (λ q. KeptH
     home-of x = home sh (line_of x)
 
     spilled : (x : ℕ) → (is_solo s.phase ≡ true → s.spilled x ≡ None) → s.spilled x ≡ None
-    spilled x f = go (is_solo s.phase) refl
-      where
-        go : (b : Bool) → is_solo s.phase ≡ b → s.spilled x ≡ None
-        go true q = f q
-        go false q = (k.carried.marks_fit_the_phase c).spilled q x
+    spilled x f = grind (arith, nat_tests)
 
     framed : (x z : ℕ) → s.cache.value x ≡ Some z → s.spilled x ≡ None → (b : Bool) → s.cache.modified x ≡ b → HeldOf x (value_at sh.base ram h.commits (h.world.dirs (home-of x)) (Some c) None x) (pair h.world c (home-of x)) → (z ≡ value_at sh.base ram cs (h.world.dirs (home-of x)) (Some c) None x) ⊎ (1 ≤ live (InvWord x) (pair h.world c (home-of x)).back)
     framed x z v n true q f =

@@ -67,11 +67,7 @@ stored-others sh x d g u o v w m z n = record {
   where
     clean : (k : Option ℕ) → o.core.cache.dirty x ≡ k → num (is_this k g) ≡ 0
     clean None q = refl
-    clean (Some k) q = let i : k ≡ u = (w.framed k m q).0 in let j : (k == g) ≡ false = which (k == g) refl i in rw j refl
-      where
-        which : (b : Bool) → (k == g) ≡ b → k ≡ u → b ≡ false
-        which false r i = refl
-        which true r i = absurd (n (sym i ∙ (grind (arith, nat_tests))))
+    clean (Some k) q = grind (arith, nat_tests)
 
 -- and new ones of the commit, as the core sees it
 new-copies : (sh : Shape) (x d u y : ℕ) (ram : ℕ → ℕ) (o : Out) (v : Pair) → CommitsWord sh x u v.core.cache v.core.spilled o → (v.core.cache.modified x || is_some (v.core.spilled x)) ≡ true → (v.core.cache.modified x ≡ true → is_some (v.core.cache.value x) ≡ true) → word_copies x u v ≡ 0 → sees v.core ram x ≡ y → CopiesHave x u y (after_move v o d)

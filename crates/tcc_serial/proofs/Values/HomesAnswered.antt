@@ -96,11 +96,7 @@ applied-after sh ram h c d k m v s y i t = go (c == y.core.0) refl
         let w : (d == d) ≡ true = grind (arith, nat_tests) in
         let o : num ((y.core.0 == c && d == d) && passes (Commits y.tid.0) m) ≡ 1 = rw (z, w, p) refl in
         omega (arith, o, net, one)
-    gone e false q = late (cases_lt 0 before)
-      where
-        late : (0 < before) ⊎ (before ≤ 0) → after ≡ 0
-        late (inr l) = omega (arith, l, net)
-        late (inl l) = absurd (let f : 1 ≤ live (Commits y.tid.0) (h.world.net (Core c) (Dir d)) = rw e (omega (arith, l)) in let w = s.known.served c d y.tid.0 s.core s.dir f in let x : (u == y.tid.0) ≡ true = grind (arith, nat_tests) in cc)
+    gone e false q = grind (arith, nat_tests)
 
     go : (b : Bool) → (c == y.core.0) ≡ b → is_applied (v.dirs d) y.tid.0 ≡ (b || is_applied (h.world.dirs d) y.tid.0)
     go true q = let e : c ≡ y.core.0 = grind (arith, nat_tests) in num-same (is_applied (v.dirs d) y.tid.0) true (omega (arith, then-one, gone e (u == y.tid.0) refl))

@@ -65,11 +65,7 @@ one-copy x t y k n ws g true e f z = ((low (nat_le g t) refl, has, tt), omega ar
     low false q = absurd (let l : t < g = grind (arith, nat_tests) in let i : (g == g) ≡ true = grind (arith, nat_tests) in let o : num (true && (g == g)) ≡ 1 = rw i refl in omega (arith, f l, o))
 
     has : g ≡ t → get_or ws (place_of x) 0 ≡ y
-    has i = go (get_or ws (place_of x) 0 == y) refl
-      where
-        go : (c : Bool) → (get_or ws (place_of x) 0 == y) ≡ c → get_or ws (place_of x) 0 ≡ y
-        go true q = grind (arith, nat_tests)
-        go false q = absurd (let j : (g == t) ≡ true = grind (arith, nat_tests) in let o : num ((true && (g == t)) && not (get_or ws (place_of x) 0 == y)) ≡ 1 = rw (j, q) refl in omega (arith, z, o))
+    has i = grind (arith, nat_tests)
 
 on-way : (x t y : ℕ) (m : Msg) → ((g : ℕ) → t < g → num (passes (CopyWord x g) m) ≡ 0) → num (passes (CopyNot x t y) m) ≡ 0 → Top t y (copy_of x m) × (tagged t (copy_of x m) ≡ num (passes (CopyWord x t) m))
 unfolding passes Top tagged

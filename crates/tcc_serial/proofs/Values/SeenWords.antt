@@ -95,11 +95,7 @@ wrote-none base [] c t x h = refl
 wrote-none base (n ∷ ns) c t x h = rw (wrote-none base ns c t x (h.1)) (go (n.core.0 == c) (n.tid.0 == t) refl)
   where
     go : (a b : Bool) → (n.tid.0 == t) ≡ b → ((a && (b && stores_word base n.stores x)) || false) ≡ false
-    go a true q = let i : n.tid.0 ≡ t = grind (arith, nat_tests) in rw (h.0 i) (none a)
-      where
-        none : (a : Bool) → ((a && (true && false)) || false) ≡ false
-        none true = refl
-        none false = refl
+    go a true q = grind (arith, nat_tests)
     go true false q = refl
     go false false q = refl
 
@@ -112,19 +108,8 @@ unfolding wrote_mask
 mask-wrote base ns c t x = has-mask_of (λ k. wrote base ns c t (word_at (line_of x) k)) (place_of x) (omega arith) ∙ ap (wrote base ns c t) (at-place x)
 
 out-of-mask : (k m n x : ℕ) (c : Bool) → has n (place_of x) ≡ false → (d : Bool) → (m == n) ≡ d → num (((k == line_of x) && has m (place_of x)) && c) ≤ num (((k == line_of x) && c) && not d)
-out-of-mask k m n x c h true q = let e : m ≡ n = grind (arith, nat_tests) in rw (e, h) (go (k == line_of x))
-  where
-    go : (a : Bool) → num ((a && false) && c) ≤ num ((a && c) && false)
-    go true = omega arith
-    go false = omega arith
-out-of-mask k m n x c h false q = go (k == line_of x) (has m (place_of x)) c
-  where
-    go : (a b c : Bool) → num ((a && b) && c) ≤ num ((a && c) && true)
-    go true true true = omega arith
-    go true true false = omega arith
-    go true false true = omega arith
-    go true false false = omega arith
-    go false b c = omega arith
+out-of-mask k m n x c h true q = grind (arith, nat_tests)
+out-of-mask k m n x c h false q = grind (arith, nat_tests)
 
 outside : (x t n : ℕ) → has n (place_of x) ≡ false → (m : Msg) → num (passes (CopyWord x t) m) ≤ num (passes (CopyMask (line_of x) t n) m)
 unfolding passes hit
@@ -191,11 +176,7 @@ Flying sh w x t = (c : ℕ) × (c < sh.cores) × (1 ≤ live (Commits t) (w.net 
 is-applied : (s : DirState) (t : ℕ) → ((t < s.serving.serving) ⊎ ((s.serving.serving ≡ t) × (1 ≤ s.owed))) → is_applied s t ≡ true
 unfolding is_applied
 is-applied s t (inl l) = let q : nat_lt t s.serving.serving ≡ true = grind (arith, nat_tests) in rw q refl
-is-applied s t (inr e) = let q : (t == s.serving.serving) ≡ true = (let i : s.serving.serving ≡ t = e.0 in grind (arith, nat_tests)) in let r : nat_lt 0 s.owed ≡ true = (let i : 1 ≤ s.owed = e.1 in grind (arith, nat_tests)) in rw (q, r) (either (nat_lt t s.serving.serving))
-  where
-    either : (b : Bool) → (b || true) ≡ true
-    either true = refl
-    either false = refl
+is-applied s t (inr e) = grind (arith, nat_tests)
 
 -- a commit that stored the word is applied at its home, or on its way there
 applied-or-flying : (sh : Shape) (ram : ℕ → ℕ) (gs : List Grant) (ys : Ways) (ends : ℕ → ℕ) (h : History) (x : ℕ) (n : Noted) → Known sh ram gs ys ends h → Contains h.commits n → stores_word sh.base n.stores x ≡ true → (is_applied (at sh h.world x) n.tid.0 ≡ true) ⊎ Flying sh h.world x n.tid.0
@@ -254,21 +235,13 @@ outside-word sh ram gs ys ends h x k out = settled-word sh ram gs ys ends h x k 
 
     framed : (c g : ℕ) (o : Option ℕ) → (h.world.cores c).cache.dirty x ≡ o → num (is_this o g) ≡ 0
     framed c g None e = refl
-    framed c g (Some t) e = absurd (out (k.inside.frames_are_of_lines_in_memory c (line_of x) (held ((h.world.cores c).cache.held (line_of x)) refl)))
-      where
-        held : (b : Bool) → (h.world.cores c).cache.held (line_of x) ≡ b → (h.world.cores c).cache.held (line_of x) ≡ true
-        held true q = q
-        held false q = absurd (let v : (h.world.cores c).cache.value x ≡ None = (k.carried.frames_stand_in_their_sets c).valued x q in let s : is_some ((h.world.cores c).cache.value x) ≡ true = (k.carried.modified_and_dirty_words_are_valid_and_apart c).dirty x (rw e refl) in let z : is_some ((h.world.cores c).cache.value x) ≡ false = rw v refl in cc)
+    framed c g (Some t) e = grind (arith, nat_tests)
 
 -- a copy above the line's tag is of the served TID
 above-none : (sh : Shape) (ram : ℕ → ℕ) (gs : List Grant) (ys : Ways) (ends : ℕ → ℕ) (h : History) (x c g : ℕ) → Known sh ram gs ys ends h → line_of x < lines sh → c < sh.cores → (at sh h.world x).lines.tag (line_of x) < g
     → live (Commits g) (h.world.net (Core c) (Dir (home sh (line_of x)))) ≡ 0 → copies_with (line_of x) g (pair h.world c (home sh (line_of x))) ≡ 0
 unfolding pair
-above-none sh ram gs ys ends h x c g k i l t z = (k.carried.copy_above_the_tag_is_of_a_commit_in_flight c (home sh (line_of x)) (line_of x) g l (home-below sh x k.dirs) i refl t).one ∙ rw z (go (wrote_line sh.base h.commits c g (line_of x)))
-  where
-    go : (b : Bool) → cond {A = ℕ} b 0 0 ≡ 0
-    go true = refl
-    go false = refl
+above-none sh ram gs ys ends h x c g k i l t z = grind (arith, nat_tests)
 
 -- no Commit is on its way there
 quiet-word : (sh : Shape) (ram : ℕ → ℕ) (gs : List Grant) (ys : Ways) (ends : ℕ → ℕ) (h : History) (x : ℕ) → Known sh ram gs ys ends h → line_of x < lines sh

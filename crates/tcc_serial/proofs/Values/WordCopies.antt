@@ -42,19 +42,8 @@ among-others x t y ms = among-fewer (CopyNot x t y) (CopyWord x t) (other-word x
 
 -- a copy of the line has the word, or another mask than one with the word
 in-mask : (k m n x : ℕ) (c : Bool) → has n (place_of x) ≡ true → (d : Bool) → (m == n) ≡ d → num ((k == line_of x) && c) ≤ num (((k == line_of x) && has m (place_of x)) && c) + num (((k == line_of x) && c) && not d)
-in-mask k m n x c h true q = let e : m ≡ n = grind (arith, nat_tests) in rw (e, h) (go (k == line_of x))
-  where
-    go : (a : Bool) → num (a && c) ≤ num ((a && true) && c) + num ((a && c) && false)
-    go true = omega arith
-    go false = omega arith
-in-mask k m n x c h false q = go (k == line_of x) (has m (place_of x)) c
-  where
-    go : (a b c : Bool) → num (a && c) ≤ num ((a && b) && c) + num ((a && c) && true)
-    go true true true = omega arith
-    go true true false = omega arith
-    go true false true = omega arith
-    go true false false = omega arith
-    go false b c = omega arith
+in-mask k m n x c h true q = grind (arith, nat_tests)
+in-mask k m n x c h false q = grind (arith, nat_tests)
 
 line-word : (x t n : ℕ) → has n (place_of x) ≡ true → (m : Msg) → num (passes (CopyOf (line_of x) t) m) ≤ num (passes (CopyWord x t) m) + num (passes (CopyMask (line_of x) t n) m)
 unfolding passes hit

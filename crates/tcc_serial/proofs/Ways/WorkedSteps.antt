@@ -120,11 +120,7 @@ step-later sh p w e = step_cases sh p w e (λ g o. Later w o.world)
     taken c d k (Some o) = λ e. omega arith
 
     put : (e : ℕ) (s : DirState) → (w.dirs e).serving.serving ≤ s.serving.serving → (d : ℕ) → (w.dirs d).serving.serving ≤ (if d == e then s else w.dirs d).serving.serving
-    put e s l d = go (d == e) refl
-      where
-        go : (b : Bool) → (d == e) ≡ b → (w.dirs d).serving.serving ≤ (if b then s else w.dirs d).serving.serving
-        go true q = let i : d ≡ e = grind (arith, nat_tests) in rw i l
-        go false q = omega arith
+    put e s l d = grind (arith, nat_tests)
 
     answered : (c d k : ℕ) (a : Answer) → RisesBy (w.dirs d) a → OfAnswer w c d k (λ v. Later w v) a
     answered c d k Waits r = tt
@@ -143,18 +139,7 @@ none-evict sh x y s = go (core_evict sh x y s) (evict-steady sh x y s)
 
 none-grant : (sh : Shape) (u : ℕ) (s : CoreState) → (grant sh u s).commit ≡ None
 unfolding grant
-none-grant sh u s = go s.phase
-  where
-    go : (q : Phase) → (grant_phase sh u s q).commit ≡ None
-    go AwaitTid = refl
-    go DoomedTid = refl
-    go (Overflowing None) = refl
-    go (Overflowing (Some v)) = refl
-    go Running = refl
-    go (Probing v) = refl
-    go (Ready v) = refl
-    go (Solo v) = refl
-    go Halted = refl
+none-grant sh u s = grind (arith, nat_tests)
 
 none-replied : (sh : Shape) (e u : ℕ) (s : CoreState) (o : Out) → Replied sh e u s o → o.commit ≡ None
 none-replied sh e u s o (Ignored q n) = rw q refl
