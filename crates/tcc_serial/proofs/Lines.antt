@@ -5,13 +5,8 @@ pub mod LoadsKept
 pub mod HeldWords
 pub mod CoreHolds
 pub mod CoreHoldsTakes
-pub mod SharersStart
 pub mod SharersStep
-pub mod SharersTaken
 pub mod SharersKept
-pub mod SharersMoved
-pub mod SharersAnswered
-pub mod PairSharers
 pub mod DirSharers
 pub mod DirGets
 pub mod GetsKept

@@ -2,8 +2,5 @@
 pub mod CoreHomes
 pub mod HomesKept
 pub mod CoreInMemory
-pub mod InMemoryTakes
 pub mod InMemoryKept
 pub mod MemorySends
-pub mod MemoryCopies
-pub mod MemoryHomes

@@ -5,7 +5,6 @@ pub mod Executes
 pub mod CoreSteps
 pub mod UsedWords
 pub mod WordsKept
-pub mod MemoryStays
 pub mod CoreProbes
 pub mod OneCoreExec
 pub mod OneCoreTakes

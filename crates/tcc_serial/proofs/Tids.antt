@@ -6,5 +6,3 @@ pub mod TidSteps
 pub mod CoreRequests
 pub mod CoreProbing
 pub mod CoreOwners
-pub mod LastOf
-pub mod ListedCommits

@@ -8,5 +8,3 @@ pub mod DirWays
 pub mod WaySteps
 pub mod ToldSteps
 pub mod WorkedSteps
-pub mod SmallerTids
-pub mod RunWays

@@ -7,8 +7,7 @@ use Rattle.tcc_serial.proofs.Names.{commit_sends, solo_sends, solo_marks, solo_b
 use Rattle.tcc_serial.proofs.Names.{flushed, written_back, CopyOf, CopyMask, among, passes}
 use Rattle.tcc_rules.specs.Sends.{write_back}
 use Rattle.tcc_serial.proofs.Copies.DirtyFrames.{frame_copy, frame_wrong}
-use Rattle.tcc_serial.proofs.Counts.Links.{among-append}
-use Rattle.tcc_serial.proofs.Counts.Sent.{among-flat_map_none}
+use Rattle.tcc_serial.proofs.Counts.Links.{among-append, among-flat_map_none}
 
 pub mask-copy : (l t n : ℕ) (m : Msg) → num (passes (CopyMask l t n) m) ≤ num (passes (CopyOf l t) m)
 unfolding passes

@@ -9,15 +9,13 @@ use Rattle.tcc_serial.proofs.Marks.CoreAfter.{AfterStep}
 use Rattle.tcc_serial.proofs.Copies.CoreCopies.{Conserves}
 use Rattle.tcc_serial.proofs.Ways.CoreSkips.{TellsCommit}
 use Rattle.tcc_serial.proofs.Copies.CopyRules.{InMemory}
-use Rattle.tcc_serial.proofs.Copies.LineTags.{untagged}
+use Rattle.tcc_serial.proofs.Copies.TagsKept.{untagged, stored-home}
 use Rattle.tcc_serial.proofs.Counts.Links.{total-le}
-use Rattle.tcc_serial.proofs.Tids.ListedCommits.{positive-held}
-use Rattle.tcc_serial.proofs.Copies.NewCommits.{uncommitted, commit-sent, few-resolves}
+use Rattle.tcc_serial.proofs.Tids.Commits.{positive-held}
+use Rattle.tcc_serial.proofs.Copies.WroteLines.{uncommitted, commit-sent, few-resolves, SameWrote, wrote-other}
 use Rattle.tcc_serial.proofs.Copies.PairCopies.{LineCopies, copies-moved, NewCommit, copies-committed}
-use Rattle.tcc_serial.proofs.Counts.PairFrames.{either, moves-own, moves-other}
-use Rattle.tcc_serial.proofs.Copies.TagsKept.{stored-home}
+use Rattle.tcc_serial.proofs.Counts.StepCases.{either, moves-own, moves-other}
 use Rattle.tcc_serial.proofs.Ways.ToldSteps.{Speaks}
-use Rattle.tcc_serial.proofs.Copies.WroteLines.{SameWrote, wrote-other}
 use Rattle.tcc_serial.proofs.OneCore.Said.{quiet}
 
 -- the copies of a line between a core and a directory, where it is a line in memory and at home there

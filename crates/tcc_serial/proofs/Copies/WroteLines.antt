@@ -1,8 +1,20 @@
--- Which lines a core's commit with a TID stored, by the list of commits.
+-- Which lines a core's commit with a TID stored, and that the commit is on its way there, or applied.
 use Rattle.tcc_serial.proofs.Names.{ℕ, zero, suc, ◌≡◌, ◌<◌, ◌==◌, ◌&&◌, ◌||◌, Bool, true, false, List, [], ◌∷◌, length, Contains}
 use Rattle.tcc_serial.proofs.Names.{slice_index_or, nat_lt, if◌then◌else◌, arith, refl, ap, ◌∙◌, nat_tests, Noted, num, any_below, any_word}
 use Rattle.tcc_serial.proofs.Names.{word_at, mask_of, insert_commit, times, stores_in, stores_word, names_line, wrote, wrote_line}
-use Rattle.tcc_serial.proofs.Names.{wrote_mask}
+use Rattle.tcc_serial.proofs.Names.{wrote_mask, ◌+◌, ◌≤◌, ◌⊎◌, sym, subst, inl, inr, cases_eq, cases_lt, Core, Dir, Shape, total, DirState}
+use Rattle.tcc_serial.proofs.Names.{History, Commits, live, KeptRun, Grant, pair, share, is_applied, CommitsStand, stores_at, Skipped}
+use Rattle.tcc_serial.proofs.Names.{Committed, Ways, part_in, kept_in, WayAt, Option, Some, IfSome, writes_at, Msg, Out, Sends, Stepped}
+use Rattle.tcc_serial.proofs.Names.{Resolves, among, holder, has_tid, part, handled, live_way}
+use Rattle.tcc_serial.proofs.Counts.Links.{total-zero, total-le}
+use Rattle.tcc_serial.proofs.Marks.MaskLaws.{few-any}
+use Rattle.tcc_serial.proofs.Serving.CommitSteps.{of-resolves}
+use Rattle.tcc_serial.proofs.Tids.Commits.{granted-once, granted-at, positive-committed}
+use Rattle.tcc_serial.proofs.Ways.ByCore.{ByCore, Still, Moved}
+use Rattle.tcc_serial.proofs.Ways.CoreSkips.{TellsCommit}
+use Rattle.tcc_serial.proofs.Ways.ToldSteps.{Speaks, told-committed}
+
+-- Which lines a core's commit with a TID stored, by the list of commits.
 
 -- the commit is this core's with this TID
 abbrev pub is_of : (core tid : ℕ) → Noted → Bool
@@ -131,3 +143,95 @@ wrote-listed base cs n l k h = wrote-all base cs n.core.0 n.tid.0 l n (λ w. go 
     go : (w : ℕ) (b : Bool) → stores_word base n.stores w ≡ b → wrote base cs n.core.0 n.tid.0 w ≡ b
     go w true s = wrote-at base cs n w k.0 s (k.1) (k.2)
     go w false s = wrote-only base cs n n.core.0 n.tid.0 w s h
+
+-- A commit is on its way to each directory where it stored, or applied there.
+
+-- the only number of a sum that isn't zero
+total-only : (f : ℕ → ℕ) (n c : ℕ) → ((j : ℕ) → j < n → (j ≡ c → ⊥) → f j ≡ 0) → (n ≤ c → f c ≡ 0) → total f n ≡ f c
+unfolding total
+total-only f zero c h z = sym (z (omega arith))
+total-only f (suc n) c h z = go (cases_eq n c) (λ g. total-only f n c (λ j l i. h j (omega arith) i) g)
+  where
+    go : (n ≡ c) ⊎ (n ≡ c → ⊥) → ((n ≤ c → f c ≡ 0) → total f n ≡ f c) → total f n + f n ≡ f c
+    go (inl e) g = let y : f n ≡ f c = ap f e in omega (arith, y, total-zero f n (λ j l. h j (omega arith) (λ i. omega (arith, i, e, l))))
+    go (inr e) g = omega (arith, h n (omega arith) e, g (λ l. z (omega (arith, l, e))))
+
+pub applied-or : (s : DirState) (t : ℕ) → num (is_applied s t) ≡ num (nat_lt t s.serving.serving) + num ((t == s.serving.serving) && nat_lt 0 s.owed)
+unfolding is_applied
+applied-or s t = go (nat_lt t s.serving.serving) refl
+  where
+    go : (b : Bool) → nat_lt t s.serving.serving ≡ b → num (b || ((t == s.serving.serving) && nat_lt 0 s.owed)) ≡ num b + num ((t == s.serving.serving) && nat_lt 0 s.owed)
+    go true q = let e : (t == s.serving.serving) ≡ false = grind (arith, nat_tests) in rw e refl
+    go false q = omega arith
+
+pub on-its-way : (sh : Shape) (gs : List Grant) (ys : Ways) (h : History) → KeptRun sh gs ys h → CommitsStand sh h.world h.commits
+unfolding share part_in kept_in pair
+on-its-way sh gs ys h k n d i dl s = omega (arith, place, one, applied-or (h.world.dirs d) n.tid.0)
+  where
+    t : ℕ
+    t = n.tid.0
+
+    way : ys d t ≡ Committed
+    way = k.committed.stored n d i dl ∙ told (stores_at sh d n.stores) s
+      where
+        told : (b : Bool) → b ≡ true → (if b then Committed else Skipped) ≡ Committed
+        told b e = rw e refl
+
+    place : WayAt sh h.world d t Committed
+    place = subst (WayAt sh h.world d t) way (k.ways d t dl (positive-committed sh gs h.world h.commits n k.all.owners i))
+
+    other : (j : ℕ) → (j ≡ n.core.0 → ⊥) → live (Commits t) (h.world.net (Core j) (Dir d)) ≡ 0
+    other j e = go (cases_lt 0 (live (Commits t) (h.world.net (Core j) (Dir d))))
+      where
+        go : (0 < live (Commits t) (h.world.net (Core j) (Dir d))) ⊎ (live (Commits t) (h.world.net (Core j) (Dir d)) ≤ 0) → live (Commits t) (h.world.net (Core j) (Dir d)) ≡ 0
+        go (inl l) = absurd (e (granted-once 1 gs t j n.core.0 (k.all.owners.numbered) ((k.all.spared j d).owner t (omega (arith, l))) (granted-at gs h.commits n (k.all.owners.granted) i)))
+        go (inr l) = omega (arith, l)
+
+    one : total (share (part_in Committed sh d t) h.world d) sh.cores ≡ live (Commits t) (h.world.net (Core n.core.0) (Dir d))
+    one = total-only (share (part_in Committed sh d t) h.world d) sh.cores n.core.0 (λ j l e. other j e) (λ l. omega (arith, (k.all.kept.told.tids.inside n.core.0 d).out l, few-any t (h.world.net (Core n.core.0) (Dir d))))
+
+-- A commit that is noted by an event isn't applied anywhere yet.
+pub few-resolves : (t : ℕ) (ms : List Msg) → among (Commits t) ms ≤ among (Resolves t) ms
+unfolding among
+few-resolves t [] = omega arith
+few-resolves t (m ∷ ms) = omega (arith, of-resolves t m, few-resolves t ms)
+
+-- a TID that a core has is of no commit yet
+pub uncommitted : (sh : Shape) (gs : List Grant) (ys : Ways) (h : History) (c t : ℕ) → KeptRun sh gs ys h → c < sh.cores → has_tid (h.world.cores c).phase t ≡ true → times t h.commits ≡ 0
+unfolding share holder pair
+uncommitted sh gs ys h c t k l e = let one : num (has_tid (h.world.cores c).phase t) ≡ 1 = ap num e in omega (arith, one, k.all.owners.once t, total-le (share (holder t) h.world 0) sh.cores c l)
+
+-- it sends a Commit to each directory where it stored
+pub commit-sent : (sh : Shape) (gs : List Grant) (ys : Ways) (h : History) (c d : ℕ) (s : Out) (n : Noted) → KeptRun sh gs ys h → c < sh.cores → TellsCommit sh (h.world.cores c) s n → d < sh.dirs → stores_at sh d n.stores ≡ true → 1 ≤ among (Commits n.tid.0) (s.sends (Dir d))
+commit-sent sh gs ys h c d s n k cl a dl e = go (told-committed (s.sends (Dir d)) n.tid.0 (live_way (h.world.cores c).phase (writes_at sh (h.world.cores c).cache d)) (a.told d dl ∙ there (stores_at sh d n.stores) e))
+  where
+    there : (b : Bool) → b ≡ true → (if b then Committed else Skipped) ≡ Committed
+    there b q = rw q refl
+
+    go : (live_way (h.world.cores c).phase (writes_at sh (h.world.cores c).cache d) ≡ Committed) ⊎ (1 ≤ among (Commits n.tid.0) (s.sends (Dir d))) → 1 ≤ among (Commits n.tid.0) (s.sends (Dir d))
+    go (inl q) = absurd (omega (arith, uncommitted sh gs ys h c n.tid.0 k cl (a.has), k.committed.only d n.tid.0 dl (k.live c d n.tid.0 cl dl (a.has) ∙ q)))
+    go (inr q) = q
+
+pub new-commit : (sh : Shape) (gs : List Grant) (ys : Ways) (h : History) (x : Sends) (o : Stepped) → KeptRun sh gs ys h → ByCore sh h.world (Speaks sh h.world) x o → (n : Noted) (d : ℕ) → o.noted ≡ Some n → d < sh.dirs → stores_at sh d n.stores ≡ true → is_applied (h.world.dirs d) n.tid.0 ≡ false
+unfolding share part part_in handled pair
+new-commit sh gs ys h x o k (Still e i q) n d z dl st = absurd (let y = sym q ∙ z in cc)
+new-commit sh gs ys h x o k (Moved c s cl u f i q) n d z dl st = go (is_applied (h.world.dirs d) n.tid.0) refl
+  where
+    t : ℕ
+    t = n.tid.0
+
+    tells : TellsCommit sh (h.world.cores c) s n
+    tells = of s.commit (sym q ∙ z) (u.tells.commits)
+      where
+        of : (a : Option Noted) → a ≡ Some n → IfSome a (TellsCommit sh (h.world.cores c) s) → TellsCommit sh (h.world.cores c) s n
+        of a e y = rw e at y
+
+    unhandled : num (is_applied (h.world.dirs d) t) ≤ 0
+    unhandled = place (commit-sent sh gs ys h c d s n k cl tells dl st)
+      where
+        place : 1 ≤ among (Commits t) (s.sends (Dir d)) → num (is_applied (h.world.dirs d) t) ≤ 0
+        place l = omega (arith, l, few-resolves t (s.sends (Dir d)), u.untold d t dl, total-le (share (part sh d t) h.world d) sh.cores c cl, k.all.kept.told.tids.resolved d t dl, applied-or (h.world.dirs d) t)
+
+    go : (b : Bool) → is_applied (h.world.dirs d) t ≡ b → b ≡ false
+    go false e = refl
+    go true e = absurd (let y : num (is_applied (h.world.dirs d) t) ≡ 1 = ap num e in omega (arith, y, unhandled))

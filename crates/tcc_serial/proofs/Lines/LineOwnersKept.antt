@@ -1,155 +1,42 @@
 -- Every event keeps that the owner of a line is the core that the line's tag was granted to.
-use Rattle.tcc_serial.proofs.Names.{ℕ, ◌-◌, ◌≡◌, ◌≤◌, ◌⊎◌, Bool, true, false, List, [], ◌∷◌, ◌++◌, Contains, ◌==◌, ◌&&◌, ◌||◌, Option, Some}
-use Rattle.tcc_serial.proofs.Names.{None, IfSome, nat_lt, nat_le, if◌then◌else◌, arith, refl, ap, inl, inr, nat_tests, append-nil}
-use Rattle.tcc_serial.proofs.Names.{Contains-append_left, Program, Local, num, count_below, full, has_mark, with_asked, with_mark}
-use Rattle.tcc_serial.proofs.Names.{with_sharer, with_owner, unmarked, no_lines, Judgement, judge, IsTaken, IsDropped, IsEarly, skipped}
-use Rattle.tcc_serial.proofs.Names.{kept, Core, Dir, Event, Msg, TidReq, TidGrant, LoadReq, Fill, Skip, Probe, ProbeReply, Mark, Commit}
-use Rattle.tcc_serial.proofs.Names.{Abort, WriteBack, Flush, DataReq, Inv, InvAck, Shape, lines, DirState, World, start, dir_start}
-use Rattle.tcc_serial.proofs.Names.{in_flight, Out, core_exec, core_evict, from_dir, nothing, to, Answer, Waits, Drops, Asks, Takes, skip}
-use Rattle.tcc_serial.proofs.Names.{abort, acknowledgement, dir_deliver, moved_on, settled, owned, owed_by, invalidations, unless_keeps}
-use Rattle.tcc_serial.proofs.Names.{ask_owner, load_owned, load_request, marking, mark_owned, mark, judged, write_back, came_home, probe}
-use Rattle.tcc_serial.proofs.Names.{core_moves, core_takes, dir_takes, dir_asks, vendor_gives, step, Pair, pair, KeptLineOwners, Commits}
-use Rattle.tcc_serial.proofs.Names.{live, passes, Grant, granted_by, SparesCommitter}
-use Rattle.tcc_rules.specs.DirDeliver.{commit}
+use Rattle.tcc_serial.proofs.Names.{ℕ, ◌≡◌, ◌≤◌, ◌⊎◌, Bool, true, false, List, [], ◌∷◌, ◌++◌, Contains, ◌==◌, Option, Some, None, IfSome}
+use Rattle.tcc_serial.proofs.Names.{if◌then◌else◌, arith, refl, ap, inl, inr, append-nil, Contains-append_left, Program, Local, num}
+use Rattle.tcc_serial.proofs.Names.{has_mark, no_lines, Core, Dir, Event, Msg, Shape, DirState, World, start, dir_start, in_flight, Out}
+use Rattle.tcc_serial.proofs.Names.{core_exec, core_evict, from_dir, Answer, Waits, Drops, Asks, Takes, dir_deliver, core_moves, core_takes}
+use Rattle.tcc_serial.proofs.Names.{dir_takes, dir_asks, vendor_gives, step, Pair, pair, KeptLineOwners, Commits, live, passes, Grant}
+use Rattle.tcc_serial.proofs.Names.{granted_by, SparesCommitter}
+use Rattle.tcc_serial.proofs.Counts.DirOutcome.{Outcome, Waiting, Spent, AsksOwner, TakesSkip, TakesAbort, TakesProbe, TakesLoad, TakesMark}
+use Rattle.tcc_serial.proofs.Counts.DirOutcome.{TakesCommit, TakesAck, TakesCopy, outcome}
 use Rattle.tcc_serial.proofs.Counts.Links.{live-takes}
-use Rattle.tcc_serial.proofs.Counts.PairFrames.{pairs_dir, pairs_asks}
-use Rattle.tcc_serial.proofs.Counts.StepCases.{OfAnswer, step_cases}
+use Rattle.tcc_serial.proofs.Counts.StepCases.{pairs_dir, pairs_asks, same, OfAnswer, step_cases}
 
 -- A line's owner was its owner before, with the same tag, or it is the core whose Commit the directory takes, with this TID.
 abbrev pub OwnsFrom : DirState → (core : ℕ) → Msg → DirState → Type 0
 OwnsFrom old c m new = (l j : ℕ) → new.lines.owner l ≡ Some j → ((old.lines.owner l ≡ Some j) × (new.lines.tag l ≡ old.lines.tag l)) ⊎ ((j ≡ c) × (passes (Commits (new.lines.tag l)) m ≡ true))
 
 abbrev pub OwnsBy : DirState → (core : ℕ) → Msg → Answer → Type 0
-OwnsBy old c m Waits = Unit {0}
-OwnsBy old c m Drops = Unit {0}
 OwnsBy old c m (Asks new sends) = OwnsFrom old c m new
 OwnsBy old c m (Takes new sends) = OwnsFrom old c m new
-
-same-owns : (s : DirState) (c : ℕ) (m : Msg) → OwnsFrom s c m s
-same-owns s c m l j e = inl (e, refl)
-
-moved-owns : (old s : DirState) (c : ℕ) (m : Msg) → OwnsFrom old c m s → OwnsFrom old c m (moved_on s)
-unfolding moved_on unmarked
-moved-owns old s c m h = h
-
-settled-owns : (old s : DirState) (c : ℕ) (m : Msg) → OwnsFrom old c m s → OwnsFrom old c m (settled s)
-unfolding settled
-settled-owns old s c m h = go (s.owed == 0)
-  where
-    go : (b : Bool) → OwnsFrom old c m (if b then moved_on s else s)
-    go true = moved-owns old s c m h
-    go false = h
-
-owner-owns : (o l c : ℕ) (m : Msg) (s : DirState) → OwnsBy s c m (ask_owner o l s)
-unfolding ask_owner with_asked
-owner-owns o l c m s = go (s.lines.asked l)
-  where
-    go : (b : Bool) → OwnsBy s c m (if b then Waits else Asks (record s { lines = with_asked l true s.lines }) (to (Core o) (DataReq l ∷ [])))
-    go true = tt
-    go false = λ x j e. inl (e, refl)
-
-skip-owns : (u c : ℕ) (m : Msg) (s : DirState) → OwnsBy s c m (skip u s)
-unfolding skip
-skip-owns u c m s = go (nat_lt u s.serving.serving)
-  where
-    go : (a : Bool) → OwnsBy s c m (if a then Drops else Takes (record s { serving = skipped u s.serving }) nothing)
-    go true = tt
-    go false = λ x j e. inl (e, refl)
-
-abort-owns : (u c : ℕ) (m : Msg) (s : DirState) → OwnsBy s c m (abort u s)
-unfolding abort
-abort-owns u c m s = go (nat_lt u s.serving.serving) (s.serving.serving == u)
-  where
-    go : (a b : Bool) → OwnsBy s c m (if a then Drops else (if b then Takes (moved_on s) nothing else Takes (record s { serving = kept u s.serving }) nothing))
-    go true b = tt
-    go false true = moved-owns s s c m (same-owns s c m)
-    go false false = λ x j e. inl (e, refl)
-
-probe-owns : (c u : ℕ) (m : Msg) (s : DirState) → OwnsBy s c m (probe c u s)
-unfolding probe
-probe-owns c u m s = go (nat_lt s.serving.serving u)
-  where
-    go : (b : Bool) → OwnsBy s c m (if b then Waits else Takes s (to (Core c) (ProbeReply u s.serving.serving ∷ [])))
-    go true = tt
-    go false = same-owns s c m
-
-load-owns : (c l a : ℕ) (m : Msg) (s : DirState) → OwnsBy s c m (load_request c l a s)
-unfolding load_request with_sharer
-load-owns c l a m s = go (nat_le s.serving.serving a || has_mark s.lines l) (s.lines.owner l)
-  where
-    go : (b : Bool) (o : Option ℕ) → OwnsBy s c m (if b then Waits else load_owned c l s o)
-    go true o = tt
-    go false (Some o) = owner-owns o l c m s
-    go false None = λ x j e. inl (e, refl)
-
-mark-owns : (l k u c : ℕ) (m : Msg) (s : DirState) → OwnsBy s c m (mark l k u s)
-unfolding mark with_mark
-mark-owns l k u c m s = go (nat_lt u s.serving.serving) (nat_lt s.serving.serving u) (k == full) (s.lines.owner l)
-  where
-    go : (a b x : Bool) (o : Option ℕ) → OwnsBy s c m (if a then Drops else (if b then Waits else (if x then marking l k s else mark_owned l k s o)))
-    go true b x o = tt
-    go false true x o = tt
-    go false false true o = λ x j e. inl (e, refl)
-    go false false false None = λ x j e. inl (e, refl)
-    go false false false (Some o) = owner-owns o l c m s
-
-commit-owns : (sh : Shape) (c u n : ℕ) (s : DirState) → OwnsBy s c (Commit u n) (commit sh c u n s)
-unfolding commit owned passes
-commit-owns sh c u n s = go (s.serving.serving == u && count_below (has_mark s.lines) (lines sh) == n)
-  where
-    self : (u == u) ≡ true
-    self = grind (arith, nat_tests)
-
-    one : (x j : ℕ) (b : Bool) → (if b then Some c else s.lines.owner x) ≡ Some j → ((s.lines.owner x ≡ Some j) × ((if b then u else s.lines.tag x) ≡ s.lines.tag x)) ⊎ ((j ≡ c) × ((u == (if b then u else s.lines.tag x)) ≡ true))
-    one x j true e = inr (cc, self)
-    one x j false e = inl (e, refl)
-
-    go : (b : Bool) → OwnsBy s c (Commit u n) (if b then Takes (settled (record s { lines = owned c u s.lines; owed = owed_by sh s.lines c })) (invalidations sh s.lines c u) else Waits)
-    go false = tt
-    go true = settled-owns s (record s { lines = owned c u s.lines; owed = owed_by sh s.lines c }) c (Commit u n) (λ x j e. one x j (has_mark s.lines x) e)
-
-ack-owns : (c l : ℕ) (b : Bool) (m : Msg) (s : DirState) → OwnsBy s c m (acknowledgement c l b s)
-unfolding acknowledgement with_sharer
-ack-owns c l b m s = go (s.owed == 0)
-  where
-    keeps : (y : Bool) → OwnsFrom s c m (record s { lines = unless_keeps y c l s.lines; owed = s.owed - 1 })
-    keeps true = λ x j e. inl (e, refl)
-    keeps false = λ x j e. inl (e, refl)
-
-    go : (a : Bool) → OwnsBy s c m (if a then Drops else Takes (settled (record s { lines = unless_keeps b c l s.lines; owed = s.owed - 1 })) nothing)
-    go true = tt
-    go false = settled-owns s (record s { lines = unless_keeps b c l s.lines; owed = s.owed - 1 }) c m (keeps b)
-
-back-owns : (c l k : ℕ) (ws : List ℕ) (g : ℕ) (m : Msg) (s : DirState) → OwnsBy s c m (write_back c l k ws g s)
-unfolding write_back came_home with_asked with_owner
-back-owns c l k ws g m s = go (judge (s.lines.owner l) (s.lines.tag l) c g)
-  where
-    one : (x j : ℕ) (b : Bool) → (if b then None else s.lines.owner x) ≡ Some j → s.lines.owner x ≡ Some j
-    one x j true e = absurd (cc)
-    one x j false e = e
-
-    go : (y : Judgement) → OwnsBy s c m (judged l k ws s y)
-    go IsEarly = tt
-    go IsTaken = λ x j e. inl (one x j (x == l) e, refl)
-    go IsDropped = tt
+OwnsBy old c m _ = Unit {0}
 
 dir-owns : (sh : Shape) (s : DirState) (c : ℕ) (m : Msg) → OwnsBy s c m (dir_deliver sh s c m)
-unfolding dir_deliver
-dir-owns sh s c (Skip u) = skip-owns u c (Skip u) s
-dir-owns sh s c (Abort u) = abort-owns u c (Abort u) s
-dir-owns sh s c (Probe u) = probe-owns c u (Probe u) s
-dir-owns sh s c (LoadReq l x) = load-owns c l x (LoadReq l x) s
-dir-owns sh s c (Mark l k u) = mark-owns l k u c (Mark l k u) s
-dir-owns sh s c (Commit u n) = commit-owns sh c u n s
-dir-owns sh s c (InvAck l b) = ack-owns c l b (InvAck l b) s
-dir-owns sh s c (WriteBack l k ws g) = back-owns c l k ws g (WriteBack l k ws g) s
-dir-owns sh s c (Flush l k ws g) = back-owns c l k ws g (Flush l k ws g) s
-dir-owns sh s c TidReq = tt
-dir-owns sh s c (TidGrant u) = tt
-dir-owns sh s c (Fill l ws) = tt
-dir-owns sh s c (ProbeReply u v) = tt
-dir-owns sh s c (DataReq l) = tt
-dir-owns sh s c (Inv l k u) = tt
+unfolding passes
+dir-owns sh s c m = go (outcome sh s c m)
+  where
+    taken : (x j : ℕ) (b : Bool) → (if b then Some c else s.lines.owner x) ≡ Some j → ((s.lines.owner x ≡ Some j) × ((if b then s.serving.serving else s.lines.tag x) ≡ s.lines.tag x)) ⊎ ((j ≡ c) × ((s.serving.serving == (if b then s.serving.serving else s.lines.tag x)) ≡ true))
+    taken x j true e = inr (cc, same s.serving.serving)
+    taken x j false e = inl (e, refl)
+
+    came : (x j : ℕ) (b : Bool) → (if b then None else s.lines.owner x) ≡ Some j → s.lines.owner x ≡ Some j
+    came x j true e = absurd (cc)
+    came x j false e = e
+
+    go : {m : Msg} {a : Answer} → Outcome sh s c m a → OwnsBy s c m a
+    go (Waiting m) = tt
+    go (Spent m i) = tt
+    go (TakesCommit b e) = λ x j q. taken x j (has_mark s.lines x) q
+    go (TakesCopy m l k ws g y e o) = λ x j q. inl (came x j (x == l) q, refl)
+    go _ = λ x j q. inl (q, refl)
 
 -- the owners of one directory's lines
 abbrev LineOwners : List Grant → DirState → Type 0

@@ -1,35 +1,47 @@
 -- Every event keeps that a core which holds a line in memory is one of its sharers, each kind of event by itself.
-use Rattle.tcc_serial.proofs.Names.{ℕ, ◌≡◌, ◌<◌, ◌≤◌, ◌⊎◌, ◌==◌, ◌&&◌, Bool, true, false, List, [], ◌∷◌, Option, Some, None, IfSome, arith}
-use Rattle.tcc_serial.proofs.Names.{refl, ap, sym, subst, ◌∙◌, inl, inr, Noted, Program, num, Core, Dir, Vendor, Msg, TidGrant, Event}
-use Rattle.tcc_serial.proofs.Names.{Shape, DirState, Sends, has_mark, cases_lt, in_flight, Out, core_exec, core_evict, from_dir, grant}
-use Rattle.tcc_serial.proofs.Names.{Answer, Waits, Drops, Asks, Takes, dir_deliver, core_moves, core_takes, dir_takes, dir_asks, History}
-use Rattle.tcc_serial.proofs.Names.{and_noted, step, KeptNamed, KeptLoading, KeptHomes, KeptSharers, LoadingOf, SharerOf, Kind, Commits}
-use Rattle.tcc_serial.proofs.Names.{GoneOf, AckOf, Acks, InvOf, InvsAway, FillOf, live, among, passes, Grant, Pair, pair, after_move}
-use Rattle.tcc_serial.proofs.Names.{grant_taken, back_taken, after_answer, out_taken, after_grant, after_other_grant, is_applied, stores_at}
-use Rattle.tcc_serial.proofs.Names.{Ways}
-use Rattle.tcc_serial.proofs.Serving.CommitOwners.{CommitsNoted, noted-exec, noted-evict}
-use Rattle.tcc_serial.proofs.Marks.CoreAfter.{AfterStep, Stays, after-exec, after-evict, after-grant, after-back}
-use Rattle.tcc_serial.proofs.Serving.CoreCommits.{Served, served-exec, served-evict, served-grant}
-use Rattle.tcc_serial.proofs.Serving.CoreDue.{CleanOut, clean-exec, clean-evict, clean-grant}
-use Rattle.tcc_serial.proofs.Lines.CoreHolds.{Holds, holds-exec, holds-evict, holds-grant}
-use Rattle.tcc_serial.proofs.Lines.CoreHoldsTakes.{HoldsTaken, holds-back}
-use Rattle.tcc_serial.proofs.Ways.CoreSkips.{Tells, tells-exec, tells-evict}
-use Rattle.tcc_serial.proofs.Tids.CoreTids.{KeepsPart, part-exec, part-evict}
-use Rattle.tcc_serial.proofs.Marks.DirRecords.{NoCommit, RecordsBy, dir-records}
-use Rattle.tcc_serial.proofs.Lines.DirSharers.{Shares, SharesBy, dir-shares}
+use Rattle.tcc_serial.proofs.Names.{ℕ, ◌≡◌, false, [], refl, Local, any_below, any_word, empty_cache, Shape, start, core_start, KeptSharers}
+use Rattle.tcc_serial.proofs.Names.{keeps_unmodified, holds_line, live, pair, ◌<◌, ◌≤◌, ◌⊎◌, ◌==◌, ◌&&◌, Bool, true, List, ◌∷◌, Option}
+use Rattle.tcc_serial.proofs.Names.{Some, None, IfSome, arith, ap, sym, subst, ◌∙◌, inl, inr, Noted, Program, num, Core, Dir, Vendor, Msg}
+use Rattle.tcc_serial.proofs.Names.{TidGrant, Event, DirState, Sends, has_mark, cases_lt, in_flight, Out, core_exec, core_evict, from_dir}
+use Rattle.tcc_serial.proofs.Names.{grant, Answer, Waits, Drops, Asks, Takes, dir_deliver, core_moves, core_takes, dir_takes, dir_asks}
+use Rattle.tcc_serial.proofs.Names.{History, and_noted, step, KeptNamed, KeptLoading, KeptHomes, LoadingOf, SharerOf, Kind, Commits, GoneOf}
+use Rattle.tcc_serial.proofs.Names.{AckOf, Acks, InvOf, InvsAway, FillOf, among, passes, Grant, Pair, after_move, grant_taken, back_taken}
+use Rattle.tcc_serial.proofs.Names.{after_answer, out_taken, after_grant, after_other_grant, is_applied, stores_at, Ways}
 use Rattle.tcc_serial.proofs.Copies.LinesKept.{Before}
 use Rattle.tcc_serial.proofs.Counts.Links.{live-sends, live-takes}
-use Rattle.tcc_serial.proofs.Marks.NamedSends.{lines-among, acks-line}
-use Rattle.tcc_serial.proofs.Counts.PairFrames.{back-own, back-away, pairs_grant, pairs_back, pairs_dir, pairs_asks, pairs_vendor}
-use Rattle.tcc_serial.proofs.Lines.PairSharers.{sharer-answered}
+use Rattle.tcc_serial.proofs.Counts.StepCases.{back-own, back-away, pairs_grant, pairs_back, pairs_dir, pairs_asks, pairs_vendor, OfAnswer}
+use Rattle.tcc_serial.proofs.Counts.StepCases.{step_cases}
+use Rattle.tcc_serial.proofs.Lines.CoreHolds.{Holds, holds-exec, holds-evict, holds-grant}
+use Rattle.tcc_serial.proofs.Lines.CoreHoldsTakes.{HoldsTaken, holds-back}
+use Rattle.tcc_serial.proofs.Lines.DirSharers.{Shares, SharesBy, dir-shares}
+use Rattle.tcc_serial.proofs.Lines.SharersKept.{sharer-answered, gone-ack, gone-acks, SharersAt, reads-valid, dir-sharers, moved-sharers}
+use Rattle.tcc_serial.proofs.Lines.SharersKept.{own-sharers, back-sharers}
+use Rattle.tcc_serial.proofs.Marks.CoreAfter.{AfterStep, Stays, after-exec, after-evict, after-grant, after-back}
+use Rattle.tcc_serial.proofs.Marks.DirRecords.{NoCommit, RecordsBy, dir-records}
+use Rattle.tcc_serial.proofs.Marks.NamedKept.{lines-among, acks-line}
 use Rattle.tcc_serial.proofs.Marks.ReadsKept.{KeptReads}
-use Rattle.tcc_serial.proofs.Lines.SharersAnswered.{gone-ack, gone-acks}
-use Rattle.tcc_serial.proofs.Lines.SharersKept.{SharersAt, reads-valid, dir-sharers, moved-sharers}
-use Rattle.tcc_serial.proofs.Lines.SharersMoved.{own-sharers}
-use Rattle.tcc_serial.proofs.Lines.SharersTaken.{back-sharers}
-use Rattle.tcc_serial.proofs.Counts.StepCases.{OfAnswer, step_cases}
+use Rattle.tcc_serial.proofs.Serving.CommitOwners.{CommitsNoted, noted-exec, noted-evict}
+use Rattle.tcc_serial.proofs.Serving.CoreCommits.{Served, served-exec, served-evict, served-grant}
+use Rattle.tcc_serial.proofs.Serving.CoreDue.{CleanOut, clean-exec, clean-evict, clean-grant}
+use Rattle.tcc_serial.proofs.Tids.CoreTids.{KeepsPart, part-exec, part-evict}
 use Rattle.tcc_serial.proofs.Tids.TidSteps.{live-some}
+use Rattle.tcc_serial.proofs.Ways.CoreSkips.{Tells, tells-exec, tells-evict}
 use Rattle.tcc_serial.proofs.Ways.ToldSteps.{speaks, grant-speaks}
+
+-- At the start no core holds a line.
+empty-keeps : (l : ℕ) → keeps_unmodified empty_cache l ≡ false
+unfolding keeps_unmodified empty_cache any_word any_below
+empty-keeps l = refl
+
+holds-none : (entries : ℕ → Local) (ram : ℕ → ℕ) (c d l : ℕ) → holds_line l (pair (start entries ram) c d) ≡ false
+unfolding start core_start pair holds_line live
+holds-none entries ram c d l = rw (empty-keeps l) refl
+
+pub start-sharers : (sh : Shape) (entries : ℕ → Local) (ram : ℕ → ℕ) → KeptSharers sh (start entries ram) []
+start-sharers sh entries ram c d l a b i e = record {
+  shares = λ x. absurd (let y = holds-none entries ram c d l in cc);
+  stays = λ x. absurd (let y = holds-none entries ram c d l in cc);
+}
 
 gone-among : (l : ℕ) (ms : List Msg) → among (GoneOf l) ms ≤ among (AckOf l) ms
 unfolding among

@@ -11,9 +11,8 @@ use Rattle.tcc_serial.proofs.Marks.CoreAfter.{no-load, Stays, Notes_commit, Afte
 use Rattle.tcc_serial.proofs.Tids.CoreOwners.{KeepsHolder, noted_tid, none, holder-exec, holder-evict}
 use Rattle.tcc_serial.proofs.Counts.Links.{live-sends, live-takes}
 use Rattle.tcc_serial.proofs.Serving.OwnerSteps.{holder-moved}
-use Rattle.tcc_serial.proofs.Counts.PairFrames.{either, moves-own, moves-other, pairs_move, pairs_grant, pairs_back, pairs_dir}
-use Rattle.tcc_serial.proofs.Counts.PairFrames.{pairs_asks, pairs_vendor}
-use Rattle.tcc_serial.proofs.Counts.StepCases.{OfAnswer, step_cases}
+use Rattle.tcc_serial.proofs.Counts.StepCases.{either, moves-own, moves-other, pairs_move, pairs_grant, pairs_back, pairs_dir, pairs_asks}
+use Rattle.tcc_serial.proofs.Counts.StepCases.{pairs_vendor, OfAnswer, step_cases}
 use Rattle.tcc_serial.proofs.OneCore.Said.{quiet}
 use Rattle.tcc_serial.proofs.OneCore.Outcomes.{granted, out}
 

@@ -8,8 +8,7 @@ use Rattle.tcc_serial.proofs.Names.{solo_marks, solo_backs, solo_writes_at, is_w
 use Rattle.tcc_serial.proofs.Names.{probe_reply, fill, data_request, invalidate, Commits, AnyCommit, CommitOf, MarkOf, MarkMask, among}
 use Rattle.tcc_serial.proofs.Names.{passes, has_marked, stores_line, marked_by, OneCore, stores_in, stored_mask, stores_at, has_tid}
 use Rattle.tcc_serial.proofs.Names.{nothing, stored}
-use Rattle.tcc_serial.proofs.Counts.Links.{among-append}
-use Rattle.tcc_serial.proofs.Counts.Sent.{among-flat_map_none}
+use Rattle.tcc_serial.proofs.Counts.Links.{among-append, among-flat_map_none}
 use Rattle.tcc_serial.proofs.OneCore.Executes.{Steady, Executed, Goes_on, Overflows, Asks_tid, Alone, did-executed}
 use Rattle.tcc_serial.proofs.OneCore.CoreSteps.{fill-steady, data-steady, invalidate-cases, reply-cases, steady-emptied}
 use Rattle.tcc_serial.proofs.Serving.CoreCommits.{few-commits}

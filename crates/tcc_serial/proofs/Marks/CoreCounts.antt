@@ -8,8 +8,7 @@ use Rattle.tcc_serial.proofs.Names.{commit, commit_sends, solo_sends, solo_marks
 use Rattle.tcc_serial.proofs.Names.{core_exec, core_evict, from_dir, grant, grant_phase, probe_reply, fill, data_request, invalidate}
 use Rattle.tcc_serial.proofs.Names.{total, Kind, MarkOf, AnyCommit, CommitOf, among, passes, has_marked, stores_line, marked_by}
 use Rattle.tcc_serial.proofs.Names.{may_commit, has_tid, kept, marked, skipped}
-use Rattle.tcc_serial.proofs.Counts.Links.{among-append, total-same, among-fewer}
-use Rattle.tcc_serial.proofs.Counts.Sent.{among-flat_map_none}
+use Rattle.tcc_serial.proofs.Counts.Links.{among-append, total-same, among-fewer, among-flat_map_none}
 use Rattle.tcc_serial.proofs.OneCore.Executes.{Steady, Executed, Goes_on, Overflows, Asks_tid, Alone, did-executed}
 use Rattle.tcc_serial.proofs.OneCore.CoreSteps.{fill-steady, data-steady, Hurt, Unhurt, Rolled, Doomed, Aborted, Gave_up, Invalidated}
 use Rattle.tcc_serial.proofs.OneCore.CoreSteps.{invalidate-cases, Replied, Ignored, Probed, Left_alone, reply-cases, steady-emptied}

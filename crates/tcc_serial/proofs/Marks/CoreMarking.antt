@@ -5,11 +5,10 @@ use Rattle.tcc_serial.proofs.Names.{InvAck, Shape, home, lines, Cache, writes_at
 use Rattle.tcc_serial.proofs.Names.{Overflowing, Solo, to, skip_all, abort_written, Out, commit, committed_core, phase_after}
 use Rattle.tcc_serial.proofs.Names.{commit_sends, solo_sends, core_exec, core_evict, Resolves, Protocol, Marks, MarkOf, EmptyMarks, Skips}
 use Rattle.tcc_serial.proofs.Names.{among, passes, has_marked, stores_line, marked_by, has_tid, opens, kept, owned, skipped}
-use Rattle.tcc_serial.proofs.Counts.Links.{among-append}
+use Rattle.tcc_serial.proofs.Counts.Links.{among-append, num-few}
 use Rattle.tcc_serial.proofs.Tids.CoreProbing.{tid-after}
 use Rattle.tcc_serial.proofs.OneCore.Executes.{Steady, Executed, Goes_on, Overflows, Asks_tid, Alone, did-executed}
 use Rattle.tcc_serial.proofs.Marks.CoreMarks.{solo-mark, solo-full, solo-skips, solo-owned}
-use Rattle.tcc_serial.proofs.Counts.Nums.{num-few}
 use Rattle.tcc_serial.proofs.OneCore.Said.{quiet}
 use Rattle.tcc_serial.proofs.OneCore.Outcomes.{Acts, Commits_now, Did, each-exec, out, each-evict, emptied}
 use Rattle.tcc_serial.proofs.OneCore.CoreSteps.{steady-emptied}

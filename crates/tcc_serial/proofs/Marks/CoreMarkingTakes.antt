@@ -8,13 +8,12 @@ use Rattle.tcc_serial.proofs.Names.{marks_for, skip_all, abort_written, probe_al
 use Rattle.tcc_serial.proofs.Names.{data_request, invalidate, ignored, grant, grant_phase, grant_sends, is_probed, probing, Resolves, Marks}
 use Rattle.tcc_serial.proofs.Names.{MarkOf, EmptyMarks, Skips, among, passes, has_marked, stores_line, marked_by, has_tid, opens}
 use Rattle.tcc_serial.proofs.Names.{waits_for_tid}
-use Rattle.tcc_serial.proofs.OneCore.CoreSteps.{fill-steady, data-steady, ignored-steady, Hurt, Unhurt, Rolled, Doomed, Aborted, Gave_up}
-use Rattle.tcc_serial.proofs.OneCore.CoreSteps.{Invalidated, invalidate-cases, Replied, Ignored, Probed, Left_alone, reply-cases}
-use Rattle.tcc_serial.proofs.Counts.Links.{among-append}
-use Rattle.tcc_serial.proofs.Marks.CoreMarks.{marks-for, marks-only, full-for, stores-writes}
+use Rattle.tcc_serial.proofs.Counts.Links.{among-append, num-few, num-one}
 use Rattle.tcc_serial.proofs.Marks.CoreMarking.{Marking, Unsaid, unsaid-nothing, unsaid-append, acked, silent, silent-none, marking-steady}
 use Rattle.tcc_serial.proofs.Marks.CoreMarking.{last-words, is-tid, swap, mine, self, told-abort, told-skip, marked-same, stores-same}
-use Rattle.tcc_serial.proofs.Counts.Nums.{num-few, num-one}
+use Rattle.tcc_serial.proofs.Marks.CoreMarks.{marks-for, marks-only, full-for, stores-writes}
+use Rattle.tcc_serial.proofs.OneCore.CoreSteps.{fill-steady, data-steady, ignored-steady, Hurt, Unhurt, Rolled, Doomed, Aborted, Gave_up}
+use Rattle.tcc_serial.proofs.OneCore.CoreSteps.{Invalidated, invalidate-cases, Replied, Ignored, Probed, Left_alone, reply-cases}
 
 -- before an acknowledgement
 

@@ -6,8 +6,7 @@ use Rattle.tcc_serial.proofs.Names.{lines, Cache, is_modified, modified_mask, wr
 use Rattle.tcc_serial.proofs.Names.{spilled_words, any_below-at, any_below-found, marks_for, solo_sends, solo_marks, solo_backs}
 use Rattle.tcc_serial.proofs.Names.{solo_writes_at, is_written, written_mask, Kind, Resolves, Marks, MarkOf, EmptyMarks, Skips, among}
 use Rattle.tcc_serial.proofs.Names.{passes, stores_line}
-use Rattle.tcc_serial.proofs.Counts.Links.{among-append}
-use Rattle.tcc_serial.proofs.Counts.Sent.{among-flat_map_none}
+use Rattle.tcc_serial.proofs.Counts.Links.{among-append, among-flat_map_none}
 
 -- marks of some lines, one each
 pub one-mark : (p : ℕ → Bool) (f : ℕ → ℕ) (u t l n : ℕ) → among (MarkOf t l) (flat_map (λ k. Mark k (f k) u ∷ []) (those p n)) ≡ num ((u == t) && (nat_lt l n && p l))

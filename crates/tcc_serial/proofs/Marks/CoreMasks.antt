@@ -5,7 +5,7 @@ use Rattle.tcc_serial.proofs.Names.{ProbeReply, Fill, Mark, DataReq, Inv, Shape,
 use Rattle.tcc_serial.proofs.Names.{Phase, Running, AwaitTid, DoomedTid, Overflowing, Link, to, marks_for, Out, commit, committed_core}
 use Rattle.tcc_serial.proofs.Names.{phase_after, core_exec, core_evict, from_dir, probe_reply, fill, data_request, invalidate, ignored}
 use Rattle.tcc_serial.proofs.Names.{MarkOf, MarkMask, live, among, passes, has_marked, marked_by, has_tid, kept}
-use Rattle.tcc_serial.proofs.Counts.Sent.{among-flat_map_none}
+use Rattle.tcc_serial.proofs.Counts.Links.{among-flat_map_none, among-fewer, live-fewer}
 use Rattle.tcc_serial.proofs.Tids.CoreProbing.{tid-after}
 use Rattle.tcc_serial.proofs.OneCore.Executes.{Steady, Executed, Goes_on, Overflows, Asks_tid, Alone, did-executed}
 use Rattle.tcc_serial.proofs.OneCore.CoreSteps.{fill-steady, data-steady, ignored-steady, Hurt, Unhurt, Rolled, Doomed, Aborted, Gave_up}
@@ -13,7 +13,6 @@ use Rattle.tcc_serial.proofs.OneCore.CoreSteps.{Invalidated, invalidate-cases, R
 use Rattle.tcc_serial.proofs.OneCore.CoreSteps.{steady-emptied}
 use Rattle.tcc_serial.proofs.Marks.CoreMarking.{Unsaid, unsaid-quiet, unsaid-nothing, unsaid-append, acked, idle}
 use Rattle.tcc_serial.proofs.Marks.CoreMarkingTakes.{unmarked}
-use Rattle.tcc_serial.proofs.Counts.Links.{among-fewer, live-fewer}
 use Rattle.tcc_serial.proofs.OneCore.Outcomes.{Commits_now, Did, each-exec, out, each-evict, emptied}
 
 -- While a core keeps its TID, what it marks has the mask of the line's modified words, and these stay where it has marked.

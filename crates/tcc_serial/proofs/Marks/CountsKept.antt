@@ -1,31 +1,181 @@
 -- Every event keeps that a Commit counts its Marks, and that none is in flight while acknowledgements are owed.
-use Rattle.tcc_serial.proofs.Names.{ℕ, ◌≡◌, ◌<◌, ◌≤◌, true, false, List, [], Option, Some, None, IfSome, set, arith, refl, ap, subst, ◌∙◌}
-use Rattle.tcc_serial.proofs.Names.{◌⊎◌, inl, inr, cases_eq, cases_lt, nat_tests, Noted, Program, Local, num, count_below, has_mark, Core}
-use Rattle.tcc_serial.proofs.Names.{Dir, Msg, TidReq, Skip, Commit, Event, Shape, lines, DirState, World, Phase, Running, AwaitTid}
-use Rattle.tcc_serial.proofs.Names.{DoomedTid, Probing, Ready, Overflowing, Solo, Halted, start, dir_start, in_flight, Sends, Out}
-use Rattle.tcc_serial.proofs.Names.{core_exec, core_evict, from_dir, grant, Answer, Waits, Drops, Asks, Takes, dir_deliver, core_moves}
-use Rattle.tcc_serial.proofs.Names.{core_takes, dir_takes, dir_asks, step, Resolves, MarkOf, EmptyMarks, CommitOf, Acks, live, passes}
-use Rattle.tcc_serial.proofs.Names.{marks_of, KeptMarks, CountedOf, KeptCounted, KeptCores, awaits_replies, Grant, KeptOwners, Pair, pair}
-use Rattle.tcc_serial.proofs.Names.{after_move, back_taken, after_grant, after_other_grant, may_commit, Kept, KeptTold}
-use Rattle.tcc_serial.proofs.Counts.Links.{live-takes}
-use Rattle.tcc_serial.proofs.Counts.PairFrames.{dir-own, dir-other, asks-own, pairs_move, pairs_grant, pairs_back, pairs_dir, pairs_asks}
-use Rattle.tcc_serial.proofs.Counts.PairFrames.{pairs_vendor}
-use Rattle.tcc_serial.proofs.Counts.StepCases.{OfAnswer, step_cases}
-use Rattle.tcc_serial.proofs.Tids.TidSteps.{granted_waits, live-some}
-use Rattle.tcc_serial.proofs.Serving.KeptSteps.{core_of_back, core_of_out, once_at}
-use Rattle.tcc_serial.proofs.Tids.Commits.{granted-once}
-use Rattle.tcc_serial.proofs.Serving.DirDue.{Due, DueBy, dir-due, still-due}
-use Rattle.tcc_serial.proofs.Serving.OwedSteps.{marks_home, acks_owed}
+use Rattle.tcc_serial.proofs.Names.{ℕ, ◌+◌, ◌≡◌, ◌<◌, ◌≤◌, true, false, List, ◌++◌, ◌==◌, ◌&&◌, nat_lt, arith, refl, ◌∙◌, ◌⊎◌, inl, inr}
+use Rattle.tcc_serial.proofs.Names.{cases_lt, nat_tests, num, count_below, has_mark, Dir, Msg, Skip, Shape, lines, writes_at, DirState}
+use Rattle.tcc_serial.proofs.Names.{Link, Out, total, sent_all, Resolves, MarkOf, EmptyMarks, CommitOf, live, among, passes, marks_of}
+use Rattle.tcc_serial.proofs.Names.{marked_by, MarksOf, CountsMarks, CountedOf, Grant, Pair, after_move, after_answer, opens, Bool}
+use Rattle.tcc_serial.proofs.Names.{Contains, nat_le, ap, World, Kind, AnyCommit, pair, share, grant_taken, part, handled, KeptTids, []}
+use Rattle.tcc_serial.proofs.Names.{Option, Some, None, IfSome, set, subst, cases_eq, Noted, Program, Local, Core, TidReq, Commit, Event}
+use Rattle.tcc_serial.proofs.Names.{Phase, Running, AwaitTid, DoomedTid, Probing, Ready, Overflowing, Solo, Halted, start, dir_start}
+use Rattle.tcc_serial.proofs.Names.{in_flight, Sends, core_exec, core_evict, from_dir, grant, Answer, Waits, Drops, Asks, Takes}
+use Rattle.tcc_serial.proofs.Names.{dir_deliver, core_moves, core_takes, dir_takes, dir_asks, step, Acks, KeptMarks, KeptCounted, KeptCores}
+use Rattle.tcc_serial.proofs.Names.{awaits_replies, KeptOwners, back_taken, after_grant, after_other_grant, may_commit, Kept, KeptTold}
+use Rattle.tcc_serial.proofs.Counts.Links.{live-sends, total-same, total-plus, total-le, live-fewer, live-takes}
+use Rattle.tcc_serial.proofs.Counts.StepCases.{dir-own, dir-other, asks-own, pairs_move, pairs_grant, pairs_back, pairs_dir, pairs_asks}
+use Rattle.tcc_serial.proofs.Counts.StepCases.{pairs_vendor, OfAnswer, step_cases}
+use Rattle.tcc_serial.proofs.Marks.CoreCounts.{Counts, CountsAll, total-num, few-any, counts-exec, counts-evict, counts-grant, counts-back}
 use Rattle.tcc_serial.proofs.Marks.CoreMarking.{Marking, marking-exec, marking-evict}
 use Rattle.tcc_serial.proofs.Marks.CoreMarkingTakes.{marking-back, granting}
-use Rattle.tcc_serial.proofs.Marks.CoreCounts.{CountsAll, counts-exec, counts-evict, counts-grant, counts-back}
 use Rattle.tcc_serial.proofs.Marks.DirMarks.{Marked, Stays, MarkedBy, dir-marked}
+use Rattle.tcc_serial.proofs.Marks.MarksKept.{holds, kinds, open-untold, taken-less, empty-one, skip-unmarked, only-there, no-request}
+use Rattle.tcc_serial.proofs.Marks.MarksKept.{no-empty, taken-back as back-marks}
 use Rattle.tcc_serial.proofs.Marks.OwesByCommit.{CountsMarked, OwesBy, dir-owes}
-use Rattle.tcc_serial.proofs.Marks.PairMarks.{kinds}
-use Rattle.tcc_serial.proofs.Marks.MarkSteps.{open-untold, taken-less, empty-one, skip-unmarked}
-use Rattle.tcc_serial.proofs.Marks.MarksKept.{only-there, no-request, no-empty, taken-back as back-marks}
-use Rattle.tcc_serial.proofs.Marks.PairCounts.{counted-moved, none-away, is-word}
-use Rattle.tcc_serial.proofs.Marks.CountSteps.{open-unowed, told-ahead, counted-answered, counted-granted}
+use Rattle.tcc_serial.proofs.Serving.DirDue.{Due, DueBy, dir-due, still-due}
+use Rattle.tcc_serial.proofs.Serving.KeptSteps.{core_of_back, core_of_out, once_at, marks_home, acks_owed}
+use Rattle.tcc_serial.proofs.Tids.Commits.{granted-once}
+use Rattle.tcc_serial.proofs.Tids.TidSteps.{granted_waits, live-some}
+
+-- How each kind of event keeps that a Commit counts its Marks, between a core and a directory.
+one-resolve : (t n : ℕ) (m : Msg) → num (passes (CommitOf t n) m) ≤ num (passes (Resolves t) m)
+unfolding passes
+one-resolve t n m = grind (arith, nat_tests)
+
+-- a Commit is a word on its TID
+pub is-word : (t n : ℕ) (k : Link) → live (CommitOf t n) k ≤ live (Resolves t) k
+is-word t n k = live-fewer (CommitOf t n) (Resolves t) (one-resolve t n) k
+
+-- the same Marks are counted
+pub same-counts : (sh : Shape) (n t : ℕ) (v w : Pair) → ((l : ℕ) → marks_of t l w ≡ marks_of t l v) → CountsMarks sh n t v → CountsMarks sh n t w
+same-counts sh n t v w f h = record {
+  each = λ l. omega (arith, f l, h.each l);
+  sum = total-same (λ l. marks_of t l w) (λ l. marks_of t l v) (lines sh) (λ l x. f l) ∙ h.sum;
+}
+
+pub none-sent : (t l d : ℕ) (v : Pair) (o : Out) → among (MarkOf t l) (o.sends (Dir d)) ≡ 0 → marks_of t l (after_move v o d) ≡ marks_of t l v
+unfolding marks_of
+none-sent t l d v o z = omega (arith, z, live-sends (MarkOf t l) v.out (o.sends (Dir d)))
+
+all-sent : (sh : Shape) (t l d : ℕ) (v : Pair) (o : Out) → marks_of t l v ≡ marked_by sh v.core d l → marks_of t l (after_move v o d) ≡ among (MarkOf t l) (o.sends (Dir d)) + marked_by sh v.core d l
+unfolding marks_of
+all-sent sh t l d v o z = omega (arith, z, live-sends (MarkOf t l) v.out (o.sends (Dir d)))
+
+-- a core moves
+pub counted-moved : (sh : Shape) (gs : List Grant) (c d t : ℕ) (v : Pair) (o : Out) → c < sh.cores → ((u l : ℕ) → Marking sh d u l v.core o) → CountsAll sh d t v.core o → ((l : ℕ) → MarksOf sh gs c d t l v)
+    → (d < sh.dirs → opens v.core.phase (writes_at sh v.core.cache d) t ≡ true → live (Resolves t) v.out ≡ 0)
+    → (d < sh.dirs → opens v.core.phase (writes_at sh v.core.cache d) v.dir.serving.serving ≡ true → v.dir.owed ≡ 0)
+    → CountedOf sh d t v → CountedOf sh d t (after_move v o d)
+counted-moved sh gs c d t v o cl y k m free unowed h = record {
+  counted = λ n dl x. counted n dl x (cases_lt 0 (among (CommitOf t n) (o.sends (Dir d))));
+  settled = λ l dl x. omega (arith, h.settled l dl x, live-sends (MarkOf v.dir.serving.serving l) v.out (o.sends (Dir d)), quiet l dl x (cases_lt 0 (among (MarkOf v.dir.serving.serving l) (o.sends (Dir d)))));
+}
+  where
+    quiet : (l : ℕ) → d < sh.dirs → 1 ≤ v.dir.owed → (0 < among (MarkOf v.dir.serving.serving l) (o.sends (Dir d))) ⊎ (among (MarkOf v.dir.serving.serving l) (o.sends (Dir d)) ≤ 0) → among (MarkOf v.dir.serving.serving l) (o.sends (Dir d)) ≡ 0
+    quiet l dl x (inl z) = absurd (omega (arith, x, unowed dl ((y v.dir.serving.serving l).opened (omega (arith, z)))))
+    quiet l dl x (inr z) = omega (arith, z)
+
+    told : (n l : ℕ) → d < sh.dirs → 1 ≤ live (CommitOf t n) v.out → (0 < among (MarkOf t l) (o.sends (Dir d))) ⊎ (among (MarkOf t l) (o.sends (Dir d)) ≤ 0) → among (MarkOf t l) (o.sends (Dir d)) ≡ 0
+    told n l dl x (inl z) = absurd (omega (arith, x, free dl ((y t l).opened (omega (arith, z))), is-word t n v.out))
+    told n l dl x (inr z) = omega (arith, z)
+
+    sums : (n : ℕ) → d < sh.dirs → Counts sh d t n v.core o → CountsMarks sh n t (after_move v o d)
+    sums n dl a = record {
+      each = λ l. omega (arith, all-sent sh t l d v o ((m l).held cl dl (a.held)), a.each l);
+      sum = total-same (λ l. marks_of t l (after_move v o d)) (λ l. among (MarkOf t l) (o.sends (Dir d)) + marked_by sh v.core d l) (lines sh) (λ l x. all-sent sh t l d v o ((m l).held cl dl (a.held))) ∙ a.sum;
+    }
+
+    counted : (n : ℕ) → d < sh.dirs → 1 ≤ live (CommitOf t n) (v.out ++ sent_all (o.sends (Dir d))) → (0 < among (CommitOf t n) (o.sends (Dir d))) ⊎ (among (CommitOf t n) (o.sends (Dir d)) ≤ 0) → CountsMarks sh n t (after_move v o d)
+    counted n dl x (inl z) = sums n dl (k n (omega (arith, z)))
+    counted n dl x (inr z) =
+        let b : 1 ≤ live (CommitOf t n) v.out = omega (arith, x, z, live-sends (CommitOf t n) v.out (o.sends (Dir d))) in
+        same-counts sh n t v (after_move v o d) (λ l. none-sent t l d v o (told n l dl b (cases_lt 0 (among (MarkOf t l) (o.sends (Dir d)))))) (h.counted n dl b)
+
+-- a directory answers: of a TID whose Commit is in flight the Marks stay, in flight or handled
+pub marks-stay : (sh : Shape) (d t l : ℕ) (v : Pair) (m : Msg) (s : DirState) (ms : List Msg) (k : Link) → Marked v.dir m s
+    → (live (MarkOf t l) k + num (passes (MarkOf t l) m) ≡ live (MarkOf t l) v.out)
+    → (m ≡ Skip v.dir.serving.serving → has_mark v.dir.lines l ≡ false)
+    → passes EmptyMarks m ≡ false → s.serving.serving ≤ t → marks_of t l v ≤ 1 → marks_of t l (after_answer (record v { out = k }) s ms) ≡ marks_of t l v
+unfolding marks_of
+marks-stay sh d t l v m s ms k y eqn skip nonempty ahead one = holds v.dir s m t l (live (MarkOf t l) v.out) (live (MarkOf t l) k) (live (MarkOf t l) v.out + num (v.dir.serving.serving == t && has_mark v.dir.lines l)) y eqn skip nonempty one (λ x. ahead) refl
+
+-- where a Commit counts the marked lines, none of its Marks is in flight
+pub none-away : (sh : Shape) (l : ℕ) (v : Pair) → CountsMarks sh (count_below (has_mark v.dir.lines) (lines sh)) v.dir.serving.serving v → live (MarkOf v.dir.serving.serving l) v.out ≡ 0
+unfolding marks_of
+none-away sh l v h = go (cases_lt l (lines sh))
+  where
+    u : ℕ
+    u = v.dir.serving.serving
+
+    self : (u == u) ≡ true
+    self = grind (arith, nat_tests)
+
+    split : (x : ℕ) → x < lines sh → live (MarkOf u x) v.out + num (u == u && has_mark v.dir.lines x) ≡ live (MarkOf u x) v.out + num (has_mark v.dir.lines x)
+    split x z = rw self refl
+
+    sum : total (λ x. live (MarkOf u x) v.out) (lines sh) ≡ 0
+    sum =
+        let a = total-plus (λ x. live (MarkOf u x) v.out) (λ x. num (has_mark v.dir.lines x)) (λ x. live (MarkOf u x) v.out + num (u == u && has_mark v.dir.lines x)) (lines sh) split in
+        omega (arith, a, h.sum, total-num (has_mark v.dir.lines) (lines sh))
+
+    go : (l < lines sh) ⊎ (lines sh ≤ l) → live (MarkOf u l) v.out ≡ 0
+    go (inl z) = omega (arith, sum, total-le (λ x. live (MarkOf u x) v.out) (lines sh) l z)
+    go (inr z) = let b : num (nat_lt l (lines sh)) ≡ 0 = grind (arith, nat_tests) in omega (arith, b, h.each l)
+
+-- a TID that a core has open isn't owed anything for
+pub open-unowed : (sh : Shape) (w : World) (c d : ℕ) → KeptTids sh w → c < sh.cores → d < sh.dirs → opens (w.cores c).phase (writes_at sh (w.cores c).cache d) (w.dirs d).serving.serving ≡ true → (w.dirs d).owed ≡ 0
+unfolding share part pair handled
+open-unowed sh w c d k l x h = go (cases_lt 0 (w.dirs d).owed)
+  where
+    t : ℕ
+    t = (w.dirs d).serving.serving
+
+    go : (0 < (w.dirs d).owed) ⊎ ((w.dirs d).owed ≤ 0) → (w.dirs d).owed ≡ 0
+    go (inr q) = omega (arith, q)
+    go (inl q) =
+        let n : num (opens (w.cores c).phase (writes_at sh (w.cores c).cache d) t) ≡ 1 = ap num h in
+        let b : num ((t == t) && nat_lt 0 (w.dirs d).owed) ≡ 1 = grind (arith, nat_tests) in
+        absurd (omega (arith, n, b, k.resolved d t x, total-le (share (part sh d t) w d) sh.cores c l))
+
+-- a TID of which a word is in flight isn't passed
+pub told-ahead : (sh : Shape) (w : World) (c d t : ℕ) → KeptTids sh w → c < sh.cores → d < sh.dirs → 1 ≤ live (Resolves t) (pair w c d).out → (pair w c d).dir.serving.serving ≤ t
+unfolding share part pair handled
+told-ahead sh w c d t k l x h = go (cases_lt t (w.dirs d).serving.serving)
+  where
+    go : (t < (w.dirs d).serving.serving) ⊎ ((w.dirs d).serving.serving ≤ t) → (w.dirs d).serving.serving ≤ t
+    go (inr q) = q
+    go (inl q) =
+        let b : num (nat_lt t (w.dirs d).serving.serving) ≡ 1 = grind (arith, nat_tests) in
+        absurd (omega (arith, h, b, k.resolved d t x, total-le (share (part sh d t) w d) sh.cores c l))
+
+below-one : (sh : Shape) (n t l : ℕ) (v : Pair) → CountsMarks sh n t v → marks_of t l v ≤ 1
+below-one sh n t l v h = go (nat_lt l (lines sh)) refl
+  where
+    go : (b : Bool) → nat_lt l (lines sh) ≡ b → marks_of t l v ≤ 1
+    go true q = let z : num (nat_lt l (lines sh)) ≡ 1 = ap num q in omega (arith, z, h.each l)
+    go false q = let z : num (nat_lt l (lines sh)) ≡ 0 = ap num q in omega (arith, z, h.each l)
+
+-- what a directory's answer does to a pair
+pub counted-answered : (sh : Shape) (gs : List Grant) (j d t : ℕ) (v : Pair) (m : Msg) (s : DirState) (ms : List Msg) (k : Link) → Marked v.dir m s
+    → ((x : Kind) → live x k ≤ live x v.out)
+    → ((l : ℕ) → (Contains gs (record { tid = t; core = j })) ⊎ (1 ≤ num (nat_le v.next t)) → live (MarkOf t l) k + num (passes (MarkOf t l) m) ≡ live (MarkOf t l) v.out)
+    → ((l : ℕ) → m ≡ Skip v.dir.serving.serving → has_mark v.dir.lines l ≡ false)
+    → passes EmptyMarks m ≡ false
+    → (d < sh.dirs → 1 ≤ live (Resolves t) k → s.serving.serving ≤ t)
+    → ((s.serving.serving ≡ v.dir.serving.serving) ⊎ (s.owed ≡ 0))
+    → ((1 ≤ s.owed → 1 ≤ v.dir.owed) ⊎ ((l : ℕ) → d < sh.dirs → live (MarkOf v.dir.serving.serving l) v.out ≡ 0))
+    → MarksOf sh gs j d t 0 v → CountedOf sh d t v → CountedOf sh d t (after_answer (record v { out = k }) s ms)
+counted-answered sh gs j d t v m s ms k y less eqn skip nonempty ahead serves owes g h = record { counted = counted; settled = λ l dl x. settled l dl x serves owes }
+  where
+    counted : (n : ℕ) → d < sh.dirs → 1 ≤ live (CommitOf t n) k → CountsMarks sh n t (after_answer (record v { out = k }) s ms)
+    counted n dl x =
+        let a : 1 ≤ live (Resolves t) k = omega (arith, x, is-word t n k) in
+        let b : CountsMarks sh n t v = h.counted n dl (omega (arith, x, less (CommitOf t n))) in
+        let c : Contains gs (record { tid = t; core = j }) = g.owner (omega (arith, a, less (Resolves t))) in
+        same-counts sh n t v (after_answer (record v { out = k }) s ms) (λ l. marks-stay sh d t l v m s ms k y (eqn l (inl c)) (skip l) nonempty (ahead dl a) (below-one sh n t l v b)) b
+
+    settled : (l : ℕ) → d < sh.dirs → 1 ≤ s.owed → (s.serving.serving ≡ v.dir.serving.serving) ⊎ (s.owed ≡ 0) → (1 ≤ s.owed → 1 ≤ v.dir.owed) ⊎ ((l : ℕ) → d < sh.dirs → live (MarkOf v.dir.serving.serving l) v.out ≡ 0) → live (MarkOf s.serving.serving l) k ≡ 0
+    settled l dl x (inr z) r = absurd (omega (arith, x, z))
+    settled l dl x (inl z) (inl r) = rw z (omega (arith, h.settled l dl (r x), less (MarkOf v.dir.serving.serving l)))
+    settled l dl x (inl z) (inr r) = rw z (omega (arith, r l dl, less (MarkOf v.dir.serving.serving l)))
+
+none-granted : (t l d k : ℕ) (v : Pair) (o : Out) → among (MarkOf t l) (o.sends (Dir d)) ≡ 0 → marks_of t l (after_move (grant_taken v k) o d) ≡ marks_of t l v
+unfolding marks_of
+none-granted t l d k v o z = omega (arith, z, live-sends (MarkOf t l) v.out (o.sends (Dir d)))
+
+-- a grant sends none of these
+pub counted-granted : (sh : Shape) (d t k : ℕ) (v : Pair) (o : Out) → ((u l : ℕ) → among (MarkOf u l) (o.sends (Dir d)) ≡ 0) → among AnyCommit (o.sends (Dir d)) ≡ 0 → CountedOf sh d t v → CountedOf sh d t (after_move (grant_taken v k) o d)
+counted-granted sh d t k v o f z h = record {
+  counted = λ n dl x. same-counts sh n t v (after_move (grant_taken v k) o d) (λ l. none-granted t l d k v o (f t l)) (h.counted n dl (omega (arith, x, z, few-any t n (o.sends (Dir d)), live-sends (CommitOf t n) v.out (o.sends (Dir d)))));
+  settled = λ l dl x. omega (arith, h.settled l dl x, f v.dir.serving.serving l, live-sends (MarkOf v.dir.serving.serving l) v.out (o.sends (Dir d)));
+}
 
 pub is-commit : (u n : ℕ) → num (passes (CommitOf u n) (Commit u n)) ≡ 1
 unfolding passes
@@ -93,14 +243,9 @@ asks-counted sh gs w d s sends a h z u o = pairs_asks (λ j e v. (t : ℕ) → j
     new = dir_asks w d s sends
 
 waits-not : (q : Phase) → may_commit q ≡ true → awaits_replies q ≡ false
-waits-not (Ready t) e = refl
-waits-not (Solo t) e = refl
-waits-not Running e = refl
-waits-not AwaitTid e = refl
-waits-not DoomedTid e = refl
-waits-not Halted e = refl
 waits-not (Probing t) e = absurd (cc)
 waits-not (Overflowing t) e = absurd (cc)
+waits-not _ e = refl
 
 taken-back : (sh : Shape) (d t k : ℕ) (v : Pair) → CountedOf sh d t v → CountedOf sh d t (back_taken v k)
 unfolding marks_of

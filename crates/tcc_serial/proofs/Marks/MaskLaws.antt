@@ -6,13 +6,12 @@ use Rattle.tcc_serial.proofs.Names.{lines, CoreState, World, Link, start, Histor
 use Rattle.tcc_serial.proofs.Names.{KeptAll, Always, marks_of, has_marked, stores_line, marked_by, KeptMarks, wrong_marks, KeptMasks}
 use Rattle.tcc_serial.proofs.Names.{AlwaysSince, MarkedByServed, MarksOfCommits, Grant, grants_from, IsRising, Pair, pair, stored_mask}
 use Rattle.tcc_serial.proofs.Names.{stores_at, MarkedWith, KeptStored}
-use Rattle.tcc_serial.proofs.Run.AllInvariants.{run-all}
-use Rattle.tcc_serial.proofs.Tids.TidSteps.{inside_from}
 use Rattle.tcc_serial.proofs.Counts.Links.{total-same, live-fewer}
 use Rattle.tcc_serial.proofs.Marks.CoreCounts.{total-num}
-use Rattle.tcc_serial.proofs.Marks.PairCounts.{none-away}
-use Rattle.tcc_serial.proofs.Marks.PairStored.{taken-marks}
-use Rattle.tcc_serial.proofs.Marks.StoredKept.{one-commit}
+use Rattle.tcc_serial.proofs.Marks.CountsKept.{none-away}
+use Rattle.tcc_serial.proofs.Marks.StoredKept.{taken-marks, one-commit}
+use Rattle.tcc_serial.proofs.Run.AllInvariants.{run-all}
+use Rattle.tcc_serial.proofs.Tids.TidSteps.{inside_from}
 
 -- a TID is that of one commit
 

@@ -1,26 +1,156 @@
 -- Every event keeps that invalidations in flight name marked lines with their masks, once each.
-use Rattle.tcc_serial.proofs.Names.{ℕ, ◌+◌, ◌≡◌, ◌<◌, ◌≤◌, Bool, true, false, List, [], ◌==◌, ◌&&◌, Option, Some, None, IfSome, nat_lt, set}
-use Rattle.tcc_serial.proofs.Names.{arith, refl, sym, ap, subst, ◌∙◌, ◌⊎◌, inl, inr, cases_lt, nat_tests, Program, Local, num, Core, Dir}
-use Rattle.tcc_serial.proofs.Names.{Msg, Mark, Event, Shape, DirState, World, Link, start, in_flight, Sends, Out, core_exec, core_evict}
-use Rattle.tcc_serial.proofs.Names.{from_dir, grant, Answer, Waits, Drops, Asks, Takes, dir_deliver, core_moves, core_takes, dir_takes}
-use Rattle.tcc_serial.proofs.Names.{step, Resolves, MarkOf, Invs, InvsAway, Acks, InvOf, InvMask, AckOf, live, among, passes, KeptCounted}
-use Rattle.tcc_serial.proofs.Names.{NamedOf, KeptNamed, due, Pair, pair, share, after_move, grant_taken, back_taken, after_answer, Kept}
-use Rattle.tcc_serial.proofs.Names.{KeptTold}
-use Rattle.tcc_serial.proofs.Counts.Links.{live-sends, live-takes, total-le}
-use Rattle.tcc_serial.proofs.Counts.PairFrames.{same, dir-own, dir-other, pairs_move, pairs_grant, pairs_back, pairs_dir, pairs_asks}
-use Rattle.tcc_serial.proofs.Counts.PairFrames.{pairs_vendor}
-use Rattle.tcc_serial.proofs.Counts.StepCases.{OfAnswer, step_cases}
-use Rattle.tcc_serial.proofs.Tids.TidSteps.{live-some}
-use Rattle.tcc_serial.proofs.Serving.KeptSteps.{core_of_out, once_at}
-use Rattle.tcc_serial.proofs.Serving.CoreDue.{Clean, CleanOut, clean-exec, clean-evict, clean-grant}
-use Rattle.tcc_serial.proofs.Serving.DirDue.{Due, DueBy, dir-due, still-due, none-quiet}
-use Rattle.tcc_serial.proofs.Tids.DirTids.{unserved}
-use Rattle.tcc_serial.proofs.Serving.OwedSteps.{marks_home, acks_owed}
+use Rattle.tcc_serial.proofs.Names.{ℕ, zero, suc, ◌+◌, ◌≡◌, ◌≤◌, Bool, true, false, not, List, [], ◌∷◌, ◌==◌, ◌&&◌, Some, None, IfSome}
+use Rattle.tcc_serial.proofs.Names.{nat_lt, if◌then◌else◌, flat_map, arith, refl, ◌⊎◌, inl, inr, cases_eq, nat_tests, flat_map-append, num}
+use Rattle.tcc_serial.proofs.Names.{those, count_below, Lines, has_mark, Core, Dir, Msg, TidReq, TidGrant, LoadReq, Fill, Skip, Probe}
+use Rattle.tcc_serial.proofs.Names.{ProbeReply, Mark, Commit, Abort, WriteBack, Flush, DataReq, Inv, InvAck, Shape, home, lines, CoreState}
+use Rattle.tcc_serial.proofs.Names.{DirState, Link, to, Out, from_dir, probe_reply, fill, data_request, invalidate, Answer, Waits, Drops}
+use Rattle.tcc_serial.proofs.Names.{Asks, Takes, dir_deliver, settled, owned, owed_by, invalidations, invs_to, is_invalidated, Invs}
+use Rattle.tcc_serial.proofs.Names.{InvsAway, Acks, InvOf, InvMask, AckOf, Resolves, Commits, live, among, passes, ◌<◌, Option, set, sym}
+use Rattle.tcc_serial.proofs.Names.{ap, subst, ◌∙◌, cases_lt, Program, Local, Event, World, start, in_flight, Sends, core_exec, core_evict}
+use Rattle.tcc_serial.proofs.Names.{grant, core_moves, core_takes, dir_takes, step, MarkOf, KeptCounted, NamedOf, KeptNamed, due, Pair}
+use Rattle.tcc_serial.proofs.Names.{pair, share, after_move, grant_taken, back_taken, after_answer, Kept, KeptTold, ◌++◌, Contains}
+use Rattle.tcc_serial.proofs.Names.{append-nil, Contains-append_cases, dir_asks, Any, Grant, granted_by, SparesCommitter, out_taken}
+use Rattle.tcc_serial.proofs.Names.{handled}
+use Rattle.tcc_rules.specs.DirDeliver.{commit}
+use Rattle.tcc_serial.proofs.Counts.Links.{among-append, among-flat_map_none, live-sends, live-takes, total-le, live-fewer}
+use Rattle.tcc_serial.proofs.Counts.StepCases.{same, dir-own, dir-other, pairs_move, pairs_grant, pairs_back, pairs_dir, pairs_asks}
+use Rattle.tcc_serial.proofs.Counts.StepCases.{pairs_vendor, OfAnswer, step_cases, asks-own}
 use Rattle.tcc_serial.proofs.Marks.DirMarks.{Marked, Stays, Clears, Skipped, Marks as IsMarked, MarkedBy, dir-marked}
+use Rattle.tcc_serial.proofs.Marks.MarksKept.{taken-less, is-mark}
 use Rattle.tcc_serial.proofs.Marks.OwesByCommit.{CountsMarked, OwesBy, dir-owes}
-use Rattle.tcc_serial.proofs.Marks.MarkSteps.{taken-less}
-use Rattle.tcc_serial.proofs.Marks.NamedSends.{lines-live, lines-among, acks-line, Names, NamesBy, dir-names}
-use Rattle.tcc_serial.proofs.Marks.PairMarks.{is-mark}
+use Rattle.tcc_serial.proofs.OneCore.CoreSteps.{fill-steady, data-steady, Invalidated, invalidate-cases, reply-cases}
+use Rattle.tcc_serial.proofs.Serving.CoreDue.{Clean, clean-hurt, clean-replied, clean-steady, CleanOut, clean-exec, clean-evict}
+use Rattle.tcc_serial.proofs.Serving.CoreDue.{clean-grant}
+use Rattle.tcc_serial.proofs.Serving.DirDue.{Due, DueBy, dir-due, still-due, none-quiet}
+use Rattle.tcc_serial.proofs.Serving.DirInvs.{Quiet, SparesBy, dir-spares}
+use Rattle.tcc_serial.proofs.Serving.KeptSteps.{core_of_out, once_at, marks_home, acks_owed, BackDue, back-due}
+use Rattle.tcc_serial.proofs.Tids.Commits.{only-one}
+use Rattle.tcc_serial.proofs.Tids.DirTids.{unserved}
+use Rattle.tcc_serial.proofs.Tids.TidSteps.{live-some}
+
+-- What nodes send of invalidations and acknowledgements, line by line.
+
+-- kinds, line by line
+
+line-kinds : (l m : ℕ) (x : Msg) → (num (passes (InvOf l) x) ≤ num (passes Invs x)) × (num (passes (InvMask l m) x) ≤ num (passes Invs x)) × (num (passes (AckOf l) x) ≤ num (passes Acks x))
+unfolding passes
+line-kinds l m x = (grind (arith, nat_tests), grind (arith, nat_tests), grind (arith, nat_tests))
+
+pub lines-live : (l m : ℕ) (k : Link) → (live (InvOf l) k ≤ live Invs k) × (live (InvMask l m) k ≤ live Invs k) × (live (AckOf l) k ≤ live Acks k)
+unfolding live
+lines-live l m [] = (omega arith, omega arith, omega arith)
+lines-live l m (None ∷ k) = lines-live l m k
+lines-live l m (Some x ∷ k) = let r = lines-live l m k in let o = line-kinds l m x in (omega (arith, r.0, o.0), omega (arith, r.1, o.1), omega (arith, r.2, o.2))
+
+pub lines-among : (l m : ℕ) (k : List Msg) → (among (InvOf l) k ≤ among Invs k) × (among (InvMask l m) k ≤ among Invs k) × (among (AckOf l) k ≤ among Acks k)
+unfolding among
+lines-among l m [] = (omega arith, omega arith, omega arith)
+lines-among l m (x ∷ k) = let r = lines-among l m k in let o = line-kinds l m x in (omega (arith, r.0, o.0), omega (arith, r.1, o.1), omega (arith, r.2, o.2))
+
+-- a core acknowledges the line of an invalidation, to the directory that it came from
+
+acks-of : (sh : Shape) (k l d : ℕ) (s : CoreState) (o : Out) → Invalidated sh k s o → among (AckOf l) (o.sends (Dir d)) ≤ num ((d == home sh k) && (k == l))
+unfolding among passes
+acks-of sh k l d s o i = rw (i.dirs d) (omega (arith, among-append (AckOf l) (i.sends (Dir d)) (to (Dir (home sh k)) (InvAck k i.kept ∷ []) (Dir d)), (clean-hurt sh s o.core i.sends d i.hurt).acks, (lines-among l 0 (i.sends (Dir d))).2, one (d == home sh k)))
+  where
+    one : (b : Bool) → among (AckOf l) (if b then InvAck k i.kept ∷ [] else []) ≤ num (b && (k == l))
+    one true = omega arith
+    one false = omega arith
+
+at-home : (sh : Shape) (e k m u : ℕ) → passes (InvsAway sh.dirs e) (Inv k m u) ≡ false → home sh k ≡ e
+unfolding passes
+at-home sh e k m u h = grind (arith, nat_tests)
+
+none-of : (l d : ℕ) (sh : Shape) (ms : List Msg) (n : ℕ) → Clean sh d ms → among (AckOf l) ms ≤ n
+none-of l d sh ms n c = omega (arith, c.acks, (lines-among l 0 ms).2)
+
+pub acks-line : (sh : Shape) (e d l : ℕ) (s : CoreState) (m : Msg) → passes (InvsAway sh.dirs e) m ≡ false → IfSome (from_dir sh e s m) (λ o. among (AckOf l) (o.sends (Dir d)) ≤ num ((d == e) && passes (InvOf l) m))
+unfolding passes
+acks-line sh e d l s (ProbeReply u v) h = none-of l d sh ((probe_reply sh e u s).sends (Dir d)) _ (clean-replied sh e u s (probe_reply sh e u s) (reply-cases sh e u s) d)
+acks-line sh e d l s (Fill k ws) h = none-of l d sh ((fill k ws s).sends (Dir d)) _ (clean-steady sh s (fill k ws s) (fill-steady k ws s) d)
+acks-line sh e d l s (DataReq k) h = none-of l d sh ((data_request sh k s).sends (Dir d)) _ (clean-steady sh s (data_request sh k s) (data-steady sh k s) d)
+acks-line sh e d l s (Inv k m u) h = let q : home sh k ≡ e = at-home sh e k m u h in rw (← q) (acks-of sh k l d s (invalidate sh k m u s) (invalidate-cases sh k m u s))
+acks-line sh e d l s _ h = tt
+
+-- a directory invalidates marked lines, once each and with their masks, where it takes a Commit, and else none
+
+one-inv : (p : ℕ → Bool) (f : ℕ → ℕ) (u l n : ℕ) → among (InvOf l) (flat_map (λ k. Inv k (f k) u ∷ []) (those p n)) ≤ num (p l)
+unfolding among passes those
+one-inv p f u l n = exact n (one n)
+  where
+    exact : (n : ℕ) → among (InvOf l) (flat_map (λ k. Inv k (f k) u ∷ []) (those p n)) ≡ num (nat_lt l n && p l) → among (InvOf l) (flat_map (λ k. Inv k (f k) u ∷ []) (those p n)) ≤ num (p l)
+    exact n e = let z : num (nat_lt l n && p l) ≤ num (p l) = grind (arith, nat_tests) in omega (arith, e, z)
+
+    one : (n : ℕ) → among (InvOf l) (flat_map (λ k. Inv k (f k) u ∷ []) (those p n)) ≡ num (nat_lt l n && p l)
+    one zero = grind (arith, nat_tests)
+    one (suc n) = rw (flat_map-append, among-append, one n) (go (p n) refl)
+      where
+        go : (b : Bool) → p n ≡ b → num (nat_lt l n && p l) + among (InvOf l) (flat_map (λ k. Inv k (f k) u ∷ []) (if b then n ∷ [] else [])) ≡ num (nat_lt l (suc n) && p l)
+        go b q = grind (arith, nat_tests)
+
+own-mask : (f : ℕ → ℕ) (u l k : ℕ) → num (passes (InvMask l (f l)) (Inv k (f k) u)) ≡ 0
+unfolding passes
+own-mask f u l k = go (cases_eq k l)
+  where
+    go : (k ≡ l) ⊎ (k ≡ l → ⊥) → num ((k == l) && not (f k == f l)) ≡ 0
+    go (inl e) = rw e (grind (arith, nat_tests))
+    go (inr n) = grind (arith, nat_tests)
+
+-- what is sent to core j
+abbrev pub Names : Lines → List Msg → Type 0
+Names ls ms = (l : ℕ) → (among (InvOf l) ms ≤ num (has_mark ls l)) × (among (InvMask l (ls.mark l)) ms ≡ 0)
+
+names-invs : (sh : Shape) (ls : Lines) (c u j : ℕ) → Names ls (invalidations sh ls c u (Core j))
+unfolding invalidations invs_to among is_invalidated
+names-invs sh ls c u j l = (omega (arith, one-inv (is_invalidated sh ls c j) ls.mark u l (lines sh), marked), among-flat_map_none (InvMask l (ls.mark l)) (λ k. Inv k (ls.mark k) u ∷ []) (λ k. omega (arith, own-mask ls.mark u l k)) (those (is_invalidated sh ls c j) (lines sh)))
+  where
+    marked : num (is_invalidated sh ls c j l) ≤ num (has_mark ls l)
+    marked = grind arith
+
+abbrev pub NamesBy : DirState → Msg → Answer → Type 0
+NamesBy s m (Asks new sends) = Quiet sends
+NamesBy s m (Takes new sends) = Quiet sends ⊎ ((passes (Resolves s.serving.serving) m ≡ true) × ((j : ℕ) → Names s.lines (sends (Core j))))
+NamesBy s m _ = Unit {0}
+
+names-commit : (sh : Shape) (c u n : ℕ) (s : DirState) → NamesBy s (Commit u n) (commit sh c u n s)
+unfolding commit passes
+names-commit sh c u n s = go (s.serving.serving == u) refl (count_below (has_mark s.lines) (lines sh) == n)
+  where
+    go : (a : Bool) → (s.serving.serving == u) ≡ a → (b : Bool) → NamesBy s (Commit u n) (if a && b then Takes (settled (record s { lines = owned c u s.lines; owed = owed_by sh s.lines c })) (invalidations sh s.lines c u) else Waits)
+    go false q b = tt
+    go true q false = tt
+    go true q true = inr (let e : (u == s.serving.serving) ≡ true = grind (arith, nat_tests) in e, names-invs sh s.lines c u)
+
+names-of : (sh : Shape) (c u n : ℕ) (s : DirState) → NamesBy s (Commit u n) (dir_deliver sh s c (Commit u n))
+unfolding dir_deliver
+names-of sh c u n s = names-commit sh c u n s
+
+names-quiet : (s : DirState) (c : ℕ) (m : Msg) (a : Answer) → passes (Commits s.serving.serving) m ≡ false → SparesBy s c m a → NamesBy s m a
+names-quiet s c m (Asks new sends) h u = u
+names-quiet s c m (Takes new sends) h (inl q) = inl q
+names-quiet s c m (Takes new sends) h (inr q) = absurd (let z = q.1 in cc)
+names-quiet s c m _ h u = tt
+
+pub dir-names : (sh : Shape) (s : DirState) (c : ℕ) (m : Msg) → NamesBy s m (dir_deliver sh s c m)
+unfolding passes
+dir-names sh s c m = go m (dir-spares sh s c m)
+  where
+    go : (m : Msg) → SparesBy s c m (dir_deliver sh s c m) → NamesBy s m (dir_deliver sh s c m)
+    go (Commit u n) h = names-of sh c u n s
+    go (Skip u) h = names-quiet s c (Skip u) _ refl h
+    go (Abort u) h = names-quiet s c (Abort u) _ refl h
+    go (Probe u) h = names-quiet s c (Probe u) _ refl h
+    go (LoadReq l a) h = names-quiet s c (LoadReq l a) _ refl h
+    go (Mark l k u) h = names-quiet s c (Mark l k u) _ refl h
+    go (InvAck l b) h = names-quiet s c (InvAck l b) _ refl h
+    go (WriteBack l k ws g) h = names-quiet s c (WriteBack l k ws g) _ refl h
+    go (Flush l k ws g) h = names-quiet s c (Flush l k ws g) _ refl h
+    go TidReq h = names-quiet s c TidReq _ refl h
+    go (TidGrant u) h = names-quiet s c (TidGrant u) _ refl h
+    go (Fill l ws) h = names-quiet s c (Fill l ws) _ refl h
+    go (ProbeReply u v) h = names-quiet s c (ProbeReply u v) _ refl h
+    go (DataReq l) h = names-quiet s c (DataReq l) _ refl h
+    go (Inv l k u) h = names-quiet s c (Inv l k u) _ refl h
 
 -- a core moves: so many acknowledgements as invalidations that it took
 named-moved : (l d got : ℕ) (v : Pair) (o : Out) (k : Link) → among (AckOf l) (o.sends (Dir d)) ≤ got → live (InvOf l) k + got ≤ live (InvOf l) v.back → live (InvMask l (v.dir.lines.mark l)) k ≤ live (InvMask l (v.dir.lines.mark l)) v.back → NamedOf l v → NamedOf l (after_move (record v { back = k }) o d)
@@ -158,3 +288,84 @@ step-named sh p w e z g h = step_cases sh p w e (λ x o. KeptTold sh o.world →
 pub start-named : (sh : Shape) (entries : ℕ → Local) (ram : ℕ → ℕ) → KeptNamed sh (start entries ram)
 unfolding start pair live
 start-named sh entries ram c d l x y = record { one = omega arith; mask = refl }
+
+-- Every event keeps that no acknowledgement is in flight from the core that the served TID was granted to.
+abbrev pub UnackedOf : Shape → List Grant → (core dir : ℕ) → Pair → Type 0
+UnackedOf sh gs c d v = d < sh.dirs → Contains gs (record { tid = v.dir.serving.serving; core = c }) → live Acks v.out ≡ 0
+
+abbrev pub KeptUnacked : Shape → List Grant → World → Type 0
+KeptUnacked sh gs w = (c d : ℕ) → UnackedOf sh gs c d (pair w c d)
+
+acks-any : (m : Msg) → num (passes Acks m) ≤ num (passes Any m)
+unfolding passes
+acks-any m = grind (arith, nat_tests)
+
+-- where nothing is owed, no acknowledgement is in flight
+no-acks : (sh : Shape) (w : World) (j d : ℕ) → KeptTold sh w → (pair w j d).dir.owed ≡ 0 → live Acks (pair w j d).out ≡ 0
+unfolding share due pair
+no-acks sh w j d k z = go (cases_lt j sh.cores)
+  where
+    go : (j < sh.cores) ⊎ (sh.cores ≤ j) → live Acks (w.net (Core j) (Dir d)) ≡ 0
+    go (inl l) = omega (arith, k.owed.owed d, total-le (share due w d) sh.cores j l)
+    go (inr l) = omega (arith, (k.tids.inside j d).out l, live-fewer Acks Any acks-any (w.net (Core j) (Dir d)))
+
+-- a directory whose TID isn't granted yet is owed nothing
+next-unacked : (sh : Shape) (w : World) (j d : ℕ) → KeptTold sh w → d < sh.dirs → (w.dirs d).serving.serving ≡ w.next → live Acks (pair w j d).out ≡ 0
+unfolding handled pair
+next-unacked sh w j d k l e = go (cases_eq (w.dirs d).owed 0)
+  where
+    go : ((w.dirs d).owed ≡ 0) ⊎ ((w.dirs d).owed ≡ 0 → ⊥) → live Acks (w.net (Core j) (Dir d)) ≡ 0
+    go (inl z) = no-acks sh w j d k z
+    go (inr n) = let r = k.tids.resolved d (w.dirs d).serving.serving l in absurd (grind (arith, nat_tests))
+
+-- a directory's answer: it serves the same TID, and no acknowledgement comes with it, or it is owed nothing
+unacked-answered : (sh : Shape) (gs : List Grant) (c d : ℕ) (v q : Pair) {B : Type 0} → ((q.dir.serving.serving ≡ v.dir.serving.serving) × B) ⊎ (q.dir.owed ≡ 0) → live Acks q.out ≤ live Acks v.out → (q.dir.owed ≡ 0 → live Acks q.out ≡ 0) → UnackedOf sh gs c d v → UnackedOf sh gs c d q
+unacked-answered sh gs c d v q (inl e) f z h l g = omega (arith, f, h l (rw (e.0) at g))
+unacked-answered sh gs c d v q (inr e) f z h l g = z e
+
+dir-unacked : (sh : Shape) (gs : List Grant) (w : World) (c e k ack : ℕ) (m : Msg) (s : DirState) (sends : Sends) → KeptUnacked sh gs w → KeptTold sh (dir_takes w c e k s sends) → in_flight w.net (Core c) (Dir e) k ≡ Some m → Due sh e (w.dirs e) ack s sends → KeptUnacked sh gs (dir_takes w c e k s sends)
+unfolding pair
+dir-unacked sh gs w c e k ack m s sends h z i u = pairs_dir (UnackedOf sh gs) w c e k s sends
+    (unacked-answered sh gs c e (pair w c e) (after_answer (out_taken (pair w c e) k) s (sends (Core c))) (u.served) (omega (arith, live-takes Acks (w.net (Core c) (Dir e)) k m i)) (subst (λ q. q.dir.owed ≡ 0 → live Acks q.out ≡ 0) (dir-own w c e k s sends) (no-acks sh (dir_takes w c e k s sends) c e z)) (h c e))
+    (λ j n. unacked-answered sh gs j e (pair w j e) (after_answer (pair w j e) s (sends (Core j))) (u.served) (omega arith) (subst (λ q. q.dir.owed ≡ 0 → live Acks q.out ≡ 0) (dir-other w c e k s sends j n) (no-acks sh (dir_takes w c e k s sends) j e z)) (h j e)) h
+
+pub step-unacked : (sh : Shape) (p : Program) (gs : List Grant) (w : World) (e : Event) → Kept sh w → SparesCommitter sh gs w → KeptUnacked sh gs w → IfSome (step sh p w e) (λ o. KeptTold sh o.world → KeptUnacked sh (gs ++ granted_by w e) o.world)
+unfolding pair
+step-unacked sh p gs w e z y h = step_cases sh p w e (λ g o. KeptTold sh o.world → KeptUnacked sh (gs ++ g) o.world)
+    (λ c l. moved c (core_exec sh p c (w.cores c)) (clean-exec sh p c (w.cores c)))
+    (λ c a b l. moved c (core_evict sh a b (w.cores c)) (clean-evict sh a b (w.cores c)))
+    (λ c k u i n. rw append-nil (pairs_grant P w c k (grant sh u (w.cores c)) (λ d l g. omega (arith, h c d l g, (clean-grant sh u (w.cores c) d).acks, live-sends Acks (w.net (Core c) (Dir d)) ((grant sh u (w.cores c)).sends (Dir d)))) h))
+    (λ c d k m i. taken c d k m i (from_dir sh d (w.cores c) m) (back-due sh d (w.cores c) m (passed-away sh w c d k m z.told i)))
+    (λ c d k m i. answered c d k m i (dir_deliver sh (w.dirs d) c m)
+    (dir-due sh d (w.dirs d) c m (once_at sh w c d k m z.told i) ((z.told.owed.at_home c d).marked) (marks_home sh w c d k m z.told.owed i) (acks_owed sh w c d k m z.told.owed (core_of_out sh w c d k m z.told.tids i) i)))
+    (λ c k i n. pairs_vendor (UnackedOf sh (gs ++ record { tid = w.next; core = c } ∷ [])) w c k (λ d l g. more c c d l (Contains-append_cases gs (one c) (record { tid = (w.dirs d).serving.serving; core = c }) g)) (λ j d q l g. more c j d l (Contains-append_cases gs (one c) (record { tid = (w.dirs d).serving.serving; core = j }) g)))
+  where
+    P : ℕ → ℕ → Pair → Type 0
+    P = UnackedOf sh gs
+
+    one : ℕ → List Grant
+    one c = record { tid = w.next; core = c } ∷ []
+
+    more : (c j d : ℕ) → d < sh.dirs → Contains gs (record { tid = (w.dirs d).serving.serving; core = j }) ⊎ Contains (one c) (record { tid = (w.dirs d).serving.serving; core = j }) → live Acks (w.net (Core j) (Dir d)) ≡ 0
+    more c j d l (inl a) = h j d l a
+    more c j d l (inr a) = next-unacked sh w j d z.told l (sym (ap (λ r. r.tid) (only-one (record { tid = w.next; core = c }) (record { tid = (w.dirs d).serving.serving; core = j }) a)))
+
+    moved : (c : ℕ) (x : Option Out) → IfSome x (λ o. CleanOut sh o) → IfSome x (λ o. KeptTold sh (core_moves w c o) → KeptUnacked sh (gs ++ []) (core_moves w c o))
+    moved c None a = tt
+    moved c (Some o) a = λ n. rw append-nil (pairs_move P w c o (λ d l g. omega (arith, h c d l g, (a d).acks, live-sends Acks (w.net (Core c) (Dir d)) (o.sends (Dir d)))) h)
+
+    taken : (c d k : ℕ) (m : Msg) → in_flight w.net (Dir d) (Core c) k ≡ Some m → (x : Option Out) → IfSome x (λ o. BackDue sh d m o) → IfSome x (λ o. KeptTold sh (core_takes w (Dir d) c k o) → KeptUnacked sh (gs ++ []) (core_takes w (Dir d) c k o))
+    taken c d k m i None a = tt
+    taken c d k m i (Some o) a = λ n. rw append-nil (pairs_back P w d c k o
+        (λ l g. omega (arith, h c d l g, (y c d).own l g, a.here, live-takes Invs (w.net (Dir d) (Core c)) k m i, live-sends Acks (w.net (Core c) (Dir d)) (o.sends (Dir d))))
+        (λ b q l g. omega (arith, h c b l g, a.away b q, live-sends Acks (w.net (Core c) (Dir b)) (o.sends (Dir b)))) h)
+
+    answered : (c d k : ℕ) (m : Msg) → in_flight w.net (Core c) (Dir d) k ≡ Some m → (a : Answer) → DueBy sh d (w.dirs d) (num (passes Acks m)) a → OfAnswer w c d k (λ v. KeptTold sh v → KeptUnacked sh (gs ++ []) v) a
+    answered c d k m i Waits u = tt
+    answered c d k m i Drops u = λ n. rw append-nil (dir-unacked sh gs w c d k 0 m (w.dirs d) (λ dst. []) h n i (still-due sh d (w.dirs d) ((z.told.owed.at_home c d).marked)))
+    answered c d k m i (Asks s sends) u = λ n. rw append-nil (pairs_asks P w d s sends (λ j. unacked-answered sh gs j d (pair w j d) (after_answer (pair w j d) s (sends (Core j))) (u.served) (omega arith) (subst (λ q. q.dir.owed ≡ 0 → live Acks q.out ≡ 0) (asks-own w d s sends j) (no-acks sh (dir_asks w d s sends) j d n)) (h j d)) h)
+    answered c d k m i (Takes s sends) u = λ n. rw append-nil (dir-unacked sh gs w c d k (num (passes Acks m)) m s sends h n i u)
+
+pub start-unacked : (sh : Shape) (entries : ℕ → Local) (ram : ℕ → ℕ) → KeptUnacked sh [] (start entries ram)
+unfolding start pair live
+start-unacked sh entries ram c d l g = refl

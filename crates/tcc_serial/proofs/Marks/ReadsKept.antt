@@ -6,12 +6,12 @@ use Rattle.tcc_serial.proofs.Names.{Event, Shape, home, empty_cache, CoreState, 
 use Rattle.tcc_serial.proofs.Names.{core_evict, from_dir, grant, Answer, Waits, Drops, Asks, Takes, dir_deliver, core_moves, core_takes}
 use Rattle.tcc_serial.proofs.Names.{step, Invs, InvsNot, passes, Kept, KeptTold, KeptCores, Grant, KeptOwners, LastGranted, SparesCommitter}
 use Rattle.tcc_serial.proofs.Names.{holder, Pair, pair, IsBound, has_tid, IsPassed, ReadWords}
+use Rattle.tcc_serial.proofs.Counts.StepCases.{pairs_move, pairs_grant, pairs_back, pairs_dir, pairs_asks, pairs_vendor, OfAnswer}
+use Rattle.tcc_serial.proofs.Counts.StepCases.{step_cases}
+use Rattle.tcc_serial.proofs.Marks.NamedKept.{passed-away}
 use Rattle.tcc_serial.proofs.OneCore.CoreReads.{Reading, ValidOrPassed, ReadOf, read-kept, reading-exec, reading-evict}
 use Rattle.tcc_serial.proofs.OneCore.CoreReadsTakes.{PassesTid, Admits, reading-grant, reads-back}
 use Rattle.tcc_serial.proofs.Serving.DirProbes.{RisesBy, dir-rises}
-use Rattle.tcc_serial.proofs.Marks.NamedKept.{passed-away}
-use Rattle.tcc_serial.proofs.Counts.PairFrames.{pairs_move, pairs_grant, pairs_back, pairs_dir, pairs_asks, pairs_vendor}
-use Rattle.tcc_serial.proofs.Counts.StepCases.{OfAnswer, step_cases}
 use Rattle.tcc_serial.proofs.Tids.TidSteps.{live-some}
 
 abbrev pub KeptReads : Shape → World → Type 0
@@ -60,20 +60,7 @@ inv-passes sh gs w cs c e k l m u d b z y s i a t h n = rw q (go (cases_eq t u))
 
 admitted : (sh : Shape) (gs : List Grant) (w : World) (cs : List Noted) (c e k : ℕ) (m : Msg) (d : ℕ) → d < sh.dirs → KeptTold sh w → KeptOwners sh gs w cs → SparesCommitter sh gs w → in_flight w.net (Dir e) (Core c) k ≡ Some m → Admits sh (w.cores c) d (w.dirs d).serving.serving m
 admitted sh gs w cs c e k (Inv l m u) d b z y s i = inv-passes sh gs w cs c e k l m u d b z y s i
-admitted sh gs w cs c e k TidReq d b z y s i = tt
-admitted sh gs w cs c e k (TidGrant t) d b z y s i = tt
-admitted sh gs w cs c e k (LoadReq l a) d b z y s i = tt
-admitted sh gs w cs c e k (Fill l ws) d b z y s i = tt
-admitted sh gs w cs c e k (Skip t) d b z y s i = tt
-admitted sh gs w cs c e k (Probe t) d b z y s i = tt
-admitted sh gs w cs c e k (ProbeReply t x) d b z y s i = tt
-admitted sh gs w cs c e k (Mark l m t) d b z y s i = tt
-admitted sh gs w cs c e k (Commit t n) d b z y s i = tt
-admitted sh gs w cs c e k (Abort t) d b z y s i = tt
-admitted sh gs w cs c e k (WriteBack l m ws t) d b z y s i = tt
-admitted sh gs w cs c e k (Flush l m ws t) d b z y s i = tt
-admitted sh gs w cs c e k (DataReq l) d b z y s i = tt
-admitted sh gs w cs c e k (InvAck l n) d b z y s i = tt
+admitted sh gs w cs c e k _ d b z y s i = tt
 
 -- what a directory serves only rises
 read-rises : (sh : Shape) (d a b : ℕ) (s : CoreState) → a ≤ b → ReadOf sh d a s → ReadOf sh d b s

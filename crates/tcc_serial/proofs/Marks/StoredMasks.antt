@@ -5,8 +5,8 @@ use Rattle.tcc_serial.proofs.Names.{if◌then◌else◌, arith, refl, sym, ap, �
 use Rattle.tcc_serial.proofs.Names.{word_at, mask_of, Shape, home, lines, Cache, is_modified, modified_mask, writes_at, Spilled, holds}
 use Rattle.tcc_serial.proofs.Names.{any_below-found, any_below-at, is_written, written_mask, solo_writes_at, Words, stores_in, stored_mask}
 use Rattle.tcc_serial.proofs.Names.{stores_at, stores_word}
+use Rattle.tcc_serial.proofs.Counts.Links.{num-same}
 use Rattle.tcc_serial.proofs.Marks.CoreMarks.{some-mask}
-use Rattle.tcc_serial.proofs.Counts.Nums.{num-same}
 
 -- a mask has a word exactly where one of its places has p
 no-mask : (p : ℕ → Bool) → ((k : ℕ) → k < 8 → p k ≡ false) → mask_of p ≡ 0

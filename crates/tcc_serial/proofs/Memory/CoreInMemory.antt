@@ -6,8 +6,7 @@ use Rattle.tcc_serial.proofs.Names.{committed, words_dropped, CoreState, World, 
 use Rattle.tcc_serial.proofs.Names.{core_exec, WordInMemory, NeedInMemory, StaysInMemory, FramesInMemory, AccessesInMemory, loads_word}
 use Rattle.tcc_serial.proofs.Names.{stores_word, loaded}
 use Rattle.tcc_program.specs.Ram.{part}
-use Rattle.tcc_serial.proofs.OneCore.MemoryStays.{loads_word-append}
-use Rattle.tcc_serial.proofs.OneCore.UsedWords.{stores_word-append}
+use Rattle.tcc_serial.proofs.OneCore.UsedWords.{loads_word-append, stores_word-append}
 use Rattle.tcc_serial.proofs.OneCore.Outcomes.{AccessAt, Acting, Buffers, Commits_now, Did, Ends_alone, Finds, Frames, Frames_anew}
 use Rattle.tcc_serial.proofs.OneCore.Outcomes.{Misses_anew, Reads, Storing, each-exec, out, stores-access}
 

@@ -1,16 +1,99 @@
 -- Along every run of a program whose accesses lie in memory, frames and what was loaded and stored lie there too.
-use Rattle.tcc_serial.proofs.Names.{ℕ, ◌==◌, Bool, true, false, List, [], ◌∷◌, Contains, Option, Some, None, IfSome, if◌then◌else◌, arith}
-use Rattle.tcc_serial.proofs.Names.{◌⊎◌, ◌≡◌, inl, inr, subst, Noted, Program, Local, Dir, Event, Shape, empty_cache, CoreState, World}
-use Rattle.tcc_serial.proofs.Names.{start, core_start, Out, core_exec, core_evict, from_dir, grant, Answer, Waits, Drops, Asks, Takes}
-use Rattle.tcc_serial.proofs.Names.{dir_deliver, core_moves, core_takes, dir_takes, dir_asks, vendor_gives, Stepped, step, History}
-use Rattle.tcc_serial.proofs.Names.{and_noted, recorded, next, and_then, run_from, run, StaysInMemory, AccessesInMemory, CommitsInMemory}
-use Rattle.tcc_serial.proofs.Names.{first_state, KeptCores}
+use Rattle.tcc_serial.proofs.Names.{ℕ, ◌≡◌, Bool, true, false, ◌==◌, List, Option, Some, None, IfSome, if◌then◌else◌, refl, Dir, Msg}
+use Rattle.tcc_serial.proofs.Names.{Shape, Cache, filled, cleaned, invalidated, read_cleared, rolled_back, evicted, evicted_line}
+use Rattle.tcc_serial.proofs.Names.{CoreState, core_evict, grant, from_dir, ◌≤◌, [], ◌++◌, arith, Program, Local, Core, Event, lines}
+use Rattle.tcc_serial.proofs.Names.{DirState, World, start, Out, core_exec, Answer, Waits, Drops, Asks, Takes, dir_deliver, in_flight}
+use Rattle.tcc_serial.proofs.Names.{sent_all, Sends, core_moves, core_takes, dir_takes, step, CopyOf, live, KeptCores, Pair, pair, ◌∷◌}
+use Rattle.tcc_serial.proofs.Names.{Contains, ◌⊎◌, inl, inr, subst, Noted, empty_cache, core_start, dir_asks, vendor_gives, Stepped}
+use Rattle.tcc_serial.proofs.Names.{History, and_noted, recorded, next, and_then, run_from, run, StaysInMemory, AccessesInMemory}
+use Rattle.tcc_serial.proofs.Names.{CommitsInMemory, first_state, answered, commit, copies, moved, noted, put, taken}
+use Rattle.tcc_serial.proofs.Counts.Links.{live-sends, live-takes}
+use Rattle.tcc_serial.proofs.Counts.StepCases.{pairs_move, pairs_grant, pairs_back, pairs_dir, pairs_asks, pairs_vendor, OfAnswer}
+use Rattle.tcc_serial.proofs.Counts.StepCases.{step_cases}
+use Rattle.tcc_serial.proofs.Memory.CoreInMemory.{CoreInMemory, OutInMemory, same-memory, nothing-used, CoresInMemory, exec-memory}
+use Rattle.tcc_serial.proofs.Memory.MemorySends.{SendsInMemory, exec-sends, evict-sends, grant-sent, back-sends}
 use Rattle.tcc_serial.proofs.OneCore.CoreAlone.{step-cores, start-cores}
-use Rattle.tcc_serial.proofs.Memory.CoreInMemory.{CoreInMemory, CoresInMemory, OutInMemory, nothing-used, exec-memory}
-use Rattle.tcc_serial.proofs.Memory.InMemoryTakes.{evict-memory, grant-memory, back-memory}
-use Rattle.tcc_serial.proofs.Tids.ListedCommits.{inserted}
-use Rattle.tcc_serial.proofs.Memory.MemoryCopies.{NoCopiesOutside, step-copies, start-copies}
-use Rattle.tcc_serial.proofs.Counts.StepCases.{OfAnswer, step_cases}
+use Rattle.tcc_serial.proofs.Tids.Commits.{inserted}
+use Rattle.tcc_serial.proofs.OneCore.Outcomes.{Given_none, Granted, Heard, Hurt_alone, Hurt_probing, Hurt_running, Hurt_waiting}
+use Rattle.tcc_serial.proofs.OneCore.Outcomes.{each-back, each-evict, each-grant, granted, heard, out}
+
+-- Evict and messages keep that a core's frames and what its attempt used lie in memory.
+evicted-frames : (x y : ℕ) (c : Cache) (k : ℕ) → (evicted x y c).held k ≡ true → c.held k ≡ true
+unfolding evicted evicted_line
+evicted-frames x y c k e = go (c.at x y) e
+  where
+    at : (b : Bool) → (if b then false else c.held k) ≡ true → c.held k ≡ true
+    at true e = absurd (cc)
+    at false e = e
+
+    go : (a : Option ℕ) → (evicted_line a x y c).held k ≡ true → c.held k ≡ true
+    go None e = e
+    go (Some l) e = at (k == l) e
+
+pub evict-memory : (sh : Shape) (x y : ℕ) (s : CoreState) → CoreInMemory sh s → IfSome (core_evict sh x y s) (OutInMemory sh)
+evict-memory sh x y s k = each-evict sh x y s (OutInMemory sh) (λ l e a m. (record { frames = λ m e. k.frames m (evicted-frames x y s.cache m e); accesses = k.accesses }, tt))
+
+pub grant-memory : (sh : Shape) (u : ℕ) (s : CoreState) → CoreInMemory sh s → OutInMemory sh (grant sh u s)
+grant-memory sh u s k = each-grant sh u s (OutInMemory sh) go
+  where
+    go : (x : Granted sh u s) → OutInMemory sh (granted x)
+    go (Given_none e) = (k, tt)
+    go _ = (same-memory sh s _ refl refl refl k, tt)
+
+-- a Fill places no frame; a core that rolls back keeps its frames, and its attempt is empty
+pub back-memory : (sh : Shape) (d : ℕ) (s : CoreState) (m : Msg) → CoreInMemory sh s → IfSome (from_dir sh d s m) (OutInMemory sh)
+unfolding filled cleaned invalidated rolled_back read_cleared
+back-memory sh d s m k = each-back sh d s (λ m o. OutInMemory sh o) go m
+  where
+    go : (x : Heard sh d s) → OutInMemory sh (heard x)
+    go (Hurt_running l m u v q) = (record { frames = k.frames; accesses = nothing-used sh }, tt)
+    go (Hurt_waiting l m u v q) = (record { frames = k.frames; accesses = nothing-used sh }, tt)
+    go (Hurt_probing l m u t v q) = (record { frames = k.frames; accesses = nothing-used sh }, tt)
+    go (Hurt_alone l m u t v q) = (record { frames = k.frames; accesses = nothing-used sh }, tt)
+    go _ = (same-memory sh s _ refl refl refl k, tt)
+
+-- Every event keeps that words on their way home are of lines of memory.
+
+-- no words of a line outside memory are in flight
+abbrev pub NoCopiesOutside : Shape → World → Type 0
+NoCopiesOutside sh w = (c d l t : ℕ) → lines sh ≤ l → live (CopyOf l t) (pair w c d).out ≡ 0
+
+pub step-copies : (sh : Shape) (p : Program) (w : World) (e : Event) → KeptCores sh w → CoresInMemory sh w → NoCopiesOutside sh w → IfSome (step sh p w e) (λ o. NoCopiesOutside sh o.world)
+unfolding pair
+step-copies sh p w e a k h = step_cases sh p w e (λ g o. NoCopiesOutside sh o.world)
+    (λ c l. moved c (core_exec sh p c (w.cores c)) (exec-sends sh p c (w.cores c) (a c).words.cache (k c).frames))
+    (λ c x y l. moved c (core_evict sh x y (w.cores c)) (evict-sends sh x y (w.cores c) (a c).words.cache (k c).frames))
+    (λ c n t q. pairs_grant P w c n (grant sh t (w.cores c)) (sent c (grant sh t (w.cores c)) (grant-sent sh t (w.cores c))) h)
+    (λ c d n m q. taken c d n (from_dir sh d (w.cores c) m) (back-sends sh d (w.cores c) m (a c).words.cache (k c).frames))
+    (λ c d n m q. answered c d n m q (dir_deliver sh (w.dirs d) c m))
+    (λ c n q. pairs_vendor P w c n (λ d. h c d) (λ j d i. h j d))
+  where
+    P : ℕ → ℕ → Pair → Type 0
+    P c d v = (l t : ℕ) → lines sh ≤ l → live (CopyOf l t) v.out ≡ 0
+
+    sent : (c : ℕ) (o : Out) → SendsInMemory sh o.sends → (d : ℕ) → P c d (record (pair w c d) { core = o.core; out = w.net (Core c) (Dir d) ++ sent_all (o.sends (Dir d)) })
+    sent c o f d l t i = omega (arith, h c d l t i, f d l t i, live-sends (CopyOf l t) (w.net (Core c) (Dir d)) (o.sends (Dir d)))
+
+    moved : (c : ℕ) (x : Option Out) → IfSome x (λ o. SendsInMemory sh o.sends) → IfSome x (λ o. NoCopiesOutside sh (core_moves w c o))
+    moved c None f = tt
+    moved c (Some o) f = pairs_move P w c o (sent c o f) h
+
+    taken : (c d n : ℕ) (x : Option Out) → IfSome x (λ o. SendsInMemory sh o.sends) → IfSome x (λ o. NoCopiesOutside sh (core_takes w (Dir d) c n o))
+    taken c d n None f = tt
+    taken c d n (Some o) f = pairs_back P w d c n o (sent c o f d) (λ b i. sent c o f b) h
+
+    consumed : (c d n : ℕ) (m : Msg) (s : DirState) (sends : Sends) → in_flight w.net (Core c) (Dir d) n ≡ Some m → NoCopiesOutside sh (dir_takes w c d n s sends)
+    consumed c d n m s sends q = pairs_dir P w c d n s sends (λ l t i. omega (arith, h c d l t i, live-takes (CopyOf l t) (w.net (Core c) (Dir d)) n m q)) (λ j i. h j d) h
+
+    answered : (c d n : ℕ) (m : Msg) → in_flight w.net (Core c) (Dir d) n ≡ Some m → (x : Answer) → OfAnswer w c d n (λ v. NoCopiesOutside sh v) x
+    answered c d n m q Waits = tt
+    answered c d n m q Drops = consumed c d n m (w.dirs d) (λ dst. []) q
+    answered c d n m q (Asks s sends) = pairs_asks P w d s sends (λ j. h j d) h
+    answered c d n m q (Takes s sends) = consumed c d n m s sends q
+
+pub start-copies : (sh : Shape) (entries : ℕ → Local) (ram : ℕ → ℕ) → NoCopiesOutside sh (start entries ram)
+unfolding start pair live
+start-copies sh entries ram c d l t i = refl
 
 pub record KeptInMemory (sh : Shape) (h : History) : Type 0 where
   pub alone : KeptCores sh h.world

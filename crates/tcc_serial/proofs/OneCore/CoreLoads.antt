@@ -5,7 +5,7 @@ use Rattle.tcc_serial.proofs.Names.{Shape, Cache, is_marked, marked, stored, pla
 use Rattle.tcc_serial.proofs.Names.{commit, committed_core, core_exec, core_evict, OneCore, loads_word, LoadsMarked, loaded}
 use Rattle.tcc_program.specs.Ram.{part}
 use Rattle.tcc_serial.proofs.OneCore.CoreSteps.{evicted-modified}
-use Rattle.tcc_serial.proofs.OneCore.MemoryStays.{loads_word-append}
+use Rattle.tcc_serial.proofs.OneCore.UsedWords.{loads_word-append}
 use Rattle.tcc_serial.proofs.OneCore.WordsKept.{placed-marks}
 use Rattle.tcc_serial.proofs.OneCore.Outcomes.{Acts, Buffers, Commits_now, Did, Ends_alone, Ends_run, Finds, Frames, Frames_anew}
 use Rattle.tcc_serial.proofs.OneCore.Outcomes.{Misses_anew, Reads, Room_wanted, Storing, each-evict, each-exec, emptied, out}

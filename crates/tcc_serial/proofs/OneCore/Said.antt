@@ -7,8 +7,7 @@ use Rattle.tcc_serial.proofs.Names.{CoreState, Sends, nothing, to, flush, flushe
 use Rattle.tcc_serial.proofs.Names.{marks_for, commit_sends, solo_sends, solo_marks, solo_backs, solo_writes_at, is_written, written_mask}
 use Rattle.tcc_serial.proofs.Names.{grant_sends, Kind, among, passes, mark}
 use Rattle.tcc_rules.specs.Sends.{write_back}
-use Rattle.tcc_serial.proofs.Counts.Links.{among-append}
-use Rattle.tcc_serial.proofs.Counts.Sent.{among-flat_map_none}
+use Rattle.tcc_serial.proofs.Counts.Links.{among-append, among-flat_map_none}
 
 -- what a core sends with one event
 pub data Said : Type 0 where

@@ -29,14 +29,8 @@ agrees-or sh ram w cs c b (u ∷ us) l f = go ((f (home sh (line_of u.0)) (home-
     go (inl e) (inl a) = inl (sym e, a)
 
 pub follows-in : (sh : Shape) (p : Program) (s : CoreState) (us : Uses) (q : Phase) → (q ≡ Halted → ⊥) → FollowsIn sh p s us q → (ram : ℕ → ℕ) → IsSmall ram → Agrees us ram → IsSomeAnd (steps sh.base p s.n (begun s.saved ram)) (Reaches s ram)
-follows-in sh p s us Running h f = f
-follows-in sh p s us AwaitTid h f = f
-follows-in sh p s us DoomedTid h f = f
-follows-in sh p s us (Probing t) h f = f
-follows-in sh p s us (Ready t) h f = f
-follows-in sh p s us (Overflowing t) h f = f
-follows-in sh p s us (Solo t) h f = f
 follows-in sh p s us Halted h f = absurd (h refl)
+follows-in sh p s us _ h f = f
 
 pub attempts_sound : AttemptsSound
 attempts_sound sh p entries ram gs ys views m h k c b l n bound runs small =

@@ -1,13 +1,125 @@
--- The serial execution that gave the commits, cut in two, and what it makes of each word.
-use Rattle.tcc_serial.proofs.Names.{ℕ, zero, suc, ◌≡◌, Bool, true, false, ◌==◌, List, [], ◌∷◌, ◌++◌, map, Option, Some, None, IfSome}
-use Rattle.tcc_serial.proofs.Names.{nat_lt, if◌then◌else◌, arith, refl, ap, ap₂, sym, ◌∙◌, nat_tests, Noted, Size, Stored, Word, CoreEnd}
-use Rattle.tcc_serial.proofs.Names.{Run, Halt, Trap, order_of_commit, last_tid, Attempt, Plain, Order, Outcome, Goes, Ended, HaltedWith}
-use Rattle.tcc_serial.proofs.Names.{TrappedWith, store_of, begun, steps, then_step, when_going, plain_step, transaction, close_if, closed}
-use Rattle.tcc_serial.proofs.Names.{end_of, if_runs, commit_of, and_commit, after_order, serial, Local, Program, Need, Nothing, Loads}
-use Rattle.tcc_serial.proofs.Names.{Stores, Changes, Prints, Ends, Halts, Traps, word_of, patched, loaded, after_stores}
+-- The serial execution that gave the commits, cut in two at a TID, and what a core sees there that may commit.
+use Rattle.tcc_serial.proofs.Names.{ℕ, suc, ◌≡◌, ◌<◌, ◌≤◌, Bool, true, false, ◌==◌, ◌||◌, List, [], ◌∷◌, ◌++◌, map, Contains, nat_lt}
+use Rattle.tcc_serial.proofs.Names.{if◌then◌else◌, arith, refl, ap, nat_tests, Noted, num, order_of_commit, insert_commit, commits_touch}
+use Rattle.tcc_serial.proofs.Names.{orders_core, IsBelow, IsRising, times, loads_word, stores_word, zero, Option, Some, None, IfSome, ap₂}
+use Rattle.tcc_serial.proofs.Names.{sym, ◌∙◌, Size, Stored, Word, CoreEnd, Run, Halt, Trap, last_tid, Attempt, Plain, Order, Outcome, Goes}
+use Rattle.tcc_serial.proofs.Names.{Ended, HaltedWith, TrappedWith, store_of, begun, steps, then_step, when_going, plain_step, transaction}
+use Rattle.tcc_serial.proofs.Names.{close_if, closed, end_of, if_runs, commit_of, and_commit, after_order, serial, Local, Program, Need}
+use Rattle.tcc_serial.proofs.Names.{Nothing, Loads, Stores, Changes, Prints, Ends, Halts, Traps, word_of, patched, loaded, after_stores}
+use Rattle.tcc_serial.proofs.Names.{◌⊎◌, ◌&&◌, inl, inr, line_of, Msg, Shape, home, DirState, World, Uses, Agrees, InvBelow, InvsNot, live}
+use Rattle.tcc_serial.proofs.Names.{passes, pair, is_applied, is_this, counts, after_commits, value_at, IsDoomed, EachUse}
 use Rattle.tcc_program.specs.Plain.{stepped, close}
 use Rattle.tcc_program.specs.Ram.{stored}
+use Rattle.tcc_serial.proofs.Counts.Links.{live-fewer}
 use Rattle.tcc_serial.proofs.OneCore.UsedWords.{stored-put}
+
+-- The commits cut at a TID: those before it and those behind it, and a commit of this TID between them.
+unfoldable pub before : (tid : ℕ) → List Noted → List Noted
+before t [] = []
+before t (n ∷ ns) = if nat_lt t n.tid.0 then [] else n ∷ before t ns
+
+unfoldable pub behind : (tid : ℕ) → List Noted → List Noted
+behind t [] = []
+behind t (n ∷ ns) = if nat_lt t n.tid.0 then n ∷ ns else behind t ns
+
+pub cut-joined : (t : ℕ) (ns : List Noted) → ns ≡ before t ns ++ behind t ns
+unfolding before behind
+cut-joined t [] = refl
+cut-joined t (n ∷ ns) = go (nat_lt t n.tid.0) (cut-joined t ns)
+  where
+    go : (b : Bool) → ns ≡ before t ns ++ behind t ns → n ∷ ns ≡ (if b then [] else n ∷ before t ns) ++ (if b then n ∷ ns else behind t ns)
+    go true e = refl
+    go false e = ap (λ q. n ∷ q) e
+
+pub cut-inserted : (x : Noted) (ns : List Noted) → insert_commit x ns ≡ before x.tid.0 ns ++ x ∷ behind x.tid.0 ns
+unfolding before behind insert_commit
+cut-inserted x [] = refl
+cut-inserted x (n ∷ ns) = go (nat_lt x.tid.0 n.tid.0) (cut-inserted x ns)
+  where
+    go : (b : Bool) → insert_commit x ns ≡ before x.tid.0 ns ++ x ∷ behind x.tid.0 ns → (if b then x ∷ n ∷ ns else n ∷ insert_commit x ns) ≡ (if b then [] else n ∷ before x.tid.0 ns) ++ x ∷ (if b then n ∷ ns else behind x.tid.0 ns)
+    go true e = refl
+    go false e = ap (λ q. n ∷ q) e
+
+-- each of the commits
+
+unfoldable pub Each : (Noted → Type 0) → List Noted → Type 0
+Each P [] = Unit {0}
+Each P (n ∷ ns) = P n × Each P ns
+
+pub each-listed : (P : Noted → Type 0) (ns : List Noted) → ((n : Noted) → Contains ns n → P n) → Each P ns
+unfolding Each
+each-listed P [] h = tt
+each-listed P (n ∷ ns) h = (h n (0, omega arith, refl), each-listed P ns (λ k c. h k (suc c.0, omega (arith, c.1), c.2)))
+
+pub each-behind : (P : Noted → Type 0) (t : ℕ) (ns : List Noted) → Each P ns → Each P (behind t ns)
+unfolding Each behind
+each-behind P t [] h = tt
+each-behind P t (n ∷ ns) h = go (nat_lt t n.tid.0) (each-behind P t ns (h.1))
+  where
+    go : (b : Bool) → Each P (behind t ns) → Each P (if b then n ∷ ns else behind t ns)
+    go true e = h
+    go false e = e
+
+pub each-both : (P Q : Noted → Type 0) (ns : List Noted) → Each P ns → Each Q ns → Each (λ n. P n × Q n) ns
+unfolding Each
+each-both P Q [] h k = tt
+each-both P Q (n ∷ ns) h k = ((h.0, k.0), each-both P Q ns (h.1) (k.1))
+
+pub each-then : (P Q : Noted → Type 0) (ns : List Noted) → ((n : Noted) → P n → Q n) → Each P ns → Each Q ns
+unfolding Each
+each-then P Q [] f h = tt
+each-then P Q (n ∷ ns) f h = (f n (h.0), each-then P Q ns f (h.1))
+
+-- by rising TID: those behind it are larger, those before it smaller where none has it
+
+above-last : (t last : ℕ) (ns : List Noted) → t ≤ last → IsRising last ns → Each (λ n. t < n.tid.0) ns
+unfolding Each IsRising
+above-last t last [] l r = tt
+above-last t last (n ∷ ns) l r = let q : last < n.tid.0 = r.0 in (omega (arith, l, q), above-last t n.tid.0 ns (omega (arith, l, q)) (r.1))
+
+pub behind-larger : (t last : ℕ) (ns : List Noted) → IsRising last ns → Each (λ n. t < n.tid.0) (behind t ns)
+unfolding Each IsRising behind
+behind-larger t last [] r = tt
+behind-larger t last (n ∷ ns) r = go (nat_lt t n.tid.0) refl (behind-larger t n.tid.0 ns (r.1))
+  where
+    go : (b : Bool) → nat_lt t n.tid.0 ≡ b → Each (λ k. t < k.tid.0) (behind t ns) → Each (λ k. t < k.tid.0) (if b then n ∷ ns else behind t ns)
+    go true q e = let l : t < n.tid.0 = grind (arith, nat_tests) in (l, above-last t n.tid.0 ns (omega (arith, l)) (r.1))
+    go false q e = e
+
+pub before-smaller : (t : ℕ) (ns : List Noted) → times t ns ≡ 0 → Each (λ n. n.tid.0 < t) (before t ns)
+unfolding Each before times
+before-smaller t [] z = tt
+before-smaller t (n ∷ ns) z = go (nat_lt t n.tid.0) refl (before-smaller t ns (omega (arith, z)))
+  where
+    smaller : nat_lt t n.tid.0 ≡ false → num (n.tid.0 == t) ≡ 0 → n.tid.0 < t
+    smaller q k = grind (arith, nat_tests)
+
+    go : (b : Bool) → nat_lt t n.tid.0 ≡ b → Each (λ k. k.tid.0 < t) (before t ns) → Each (λ k. k.tid.0 < t) (if b then [] else n ∷ before t ns)
+    go true q e = tt
+    go false q e = (smaller q (omega (arith, z)), e)
+
+-- as orders
+
+pub behind-below : (t : ℕ) (ns : List Noted) → IsBelow t (map order_of_commit (behind t ns))
+unfolding behind
+behind-below t [] = tt
+behind-below t (n ∷ ns) = go (nat_lt t n.tid.0) refl (behind-below t ns)
+  where
+    go : (b : Bool) → nat_lt t n.tid.0 ≡ b → IsBelow t (map order_of_commit (behind t ns)) → IsBelow t (map order_of_commit (if b then n ∷ ns else behind t ns))
+    go true q e = grind (arith, nat_tests)
+    go false q e = e
+
+pub orders-another : (c : ℕ) (ns : List Noted) → Each (λ n. (n.core.0 == c) ≡ false) ns → orders_core (map order_of_commit ns) c ≡ false
+unfolding Each orders_core
+orders-another c [] h = refl
+orders-another c (n ∷ ns) h = rw (h.0) (orders-another c ns (h.1))
+
+pub touch-none : (base w : ℕ) (ns : List Noted) → Each (λ n. (loads_word base n.loads w || stores_word base n.stores w) ≡ false) ns → commits_touch base ns w ≡ false
+unfolding Each commits_touch
+touch-none base w [] h = refl
+touch-none base w (n ∷ ns) h = rw (h.0) (touch-none base w ns (h.1))
+
+-- The serial execution that gave the commits, cut in two, and what it makes of each word.
 
 -- cut in two
 
@@ -68,14 +180,9 @@ stored-holds base addr size value x y ram ss h = stored-put base ram addr size v
     go false q = h
 
 stepped-holds : (base : ℕ) (p : Program) (x y : ℕ) (a : Attempt) (need : Need) → Holds base x y a → Holds base x y (stepped base p a need)
-stepped-holds base p x y a Nothing h = h
-stepped-holds base p x y a (Loads addr size) h = h
 stepped-holds base p x y a (Stores addr size value) h = stored-holds base addr size value x y a.ram a.stores h
 stepped-holds base p x y a (Changes addr changed) h = stored-holds base addr Word (changed (loaded base a.ram addr Word)) x y a.ram a.stores h
-stepped-holds base p x y a (Prints byte) h = h
-stepped-holds base p x y a Ends h = h
-stepped-holds base p x y a (Halts code) h = h
-stepped-holds base p x y a (Traps code) h = h
+stepped-holds base p x y a _ h = h
 
 then-holds : (base : ℕ) (p : Program) (x y : ℕ) (o : Option Attempt) → IfSome o (Holds base x y) → IfSome (then_step base p o) (Holds base x y)
 unfolding plain_step
@@ -126,3 +233,81 @@ serial-holds base p last (o ∷ os) m x = go (nat_lt last o.tid) (transaction ba
     go false t e h = tt
     go true None e h = tt
     go true (Some d) e h = more d e (serial base p o.tid os d.0) (h d.0)
+
+-- What a core that may commit sees at its TID: the commits before it, all of which have come to the homes of the words that it used.
+
+-- every word has a home
+pub home-below : (sh : Shape) (x : ℕ) → 1 ≤ sh.dirs → home sh (line_of x) < sh.dirs
+home-below sh x h = omega arith
+
+-- commits that count, and those that don't
+
+after-append : (base : ℕ) (s : DirState) (c b : Option ℕ) (x : ℕ) (es ls : List Noted) (y : ℕ) → after_commits base s c b x (es ++ ls) y ≡ after_commits base s c b x ls (after_commits base s c b x es y)
+unfolding after_commits
+after-append base s c b x [] ls y = refl
+after-append base s c b x (e ∷ es) ls y = after-append base s c b x es ls (if counts s c b e then after_stores base e.stores x y else y)
+
+after-counted : (base : ℕ) (s : DirState) (c b : Option ℕ) (x : ℕ) (es : List Noted) (y : ℕ) → Each (λ n. counts s c b n ≡ true) es → after_commits base s c b x es y ≡ all_stores base x es y
+unfolding after_commits all_stores Each
+after-counted base s c b x [] y h = refl
+after-counted base s c b x (e ∷ es) y h = rw (h.0) (after-counted base s c b x es (after_stores base e.stores x y) (h.1))
+
+after-uncounted : (base : ℕ) (s : DirState) (c b : Option ℕ) (x : ℕ) (es : List Noted) (y : ℕ) → Each (λ n. counts s c b n ≡ false) es → after_commits base s c b x es y ≡ y
+unfolding after_commits Each
+after-uncounted base s c b x [] y h = refl
+after-uncounted base s c b x (e ∷ es) y h = rw (h.0) (after-uncounted base s c b x es y (h.1))
+
+counts-before : (s : DirState) (c : Option ℕ) (t : ℕ) (n : Noted) → t ≤ s.serving.serving → n.tid.0 < t → counts s c (Some t) n ≡ true
+unfolding counts is_applied
+counts-before s c t n l h = go (is_this c n.core.0)
+  where
+    below : nat_lt n.tid.0 t ≡ true
+    below = grind (arith, nat_tests)
+
+    passed : nat_lt n.tid.0 s.serving.serving ≡ true
+    passed = grind (arith, nat_tests)
+
+    go : (b : Bool) → (nat_lt n.tid.0 t && (b || (nat_lt n.tid.0 s.serving.serving || (n.tid.0 == s.serving.serving && nat_lt 0 s.owed)))) ≡ true
+    go true = rw below refl
+    go false = rw (below, passed) refl
+
+counts-behind : (s : DirState) (c : Option ℕ) (t : ℕ) (n : Noted) → t < n.tid.0 → counts s c (Some t) n ≡ false
+unfolding counts
+counts-behind s c t n h = let e : nat_lt n.tid.0 t ≡ false = grind (arith, nat_tests) in rw e refl
+
+-- a word at a home that has reached the TID
+pub value-before : (base : ℕ) (ram : ℕ → ℕ) (cs : List Noted) (s : DirState) (c : Option ℕ) (t x : ℕ) → IsRising 0 cs → times t cs ≡ 0 → t ≤ s.serving.serving → value_at base ram cs s c (Some t) x ≡ all_stores base x (before t cs) (ram x)
+unfolding value_at
+value-before base ram cs s c t x r z l =
+    ap (λ q. after_commits base s c (Some t) x q (ram x)) (cut-joined t cs)
+    ∙ (after-append base s c (Some t) x (before t cs) (behind t cs) (ram x)
+    ∙ (after-uncounted base s c (Some t) x (behind t cs) (after_commits base s c (Some t) x (before t cs) (ram x)) (each-then (λ n. t < n.tid.0) (λ n. counts s c (Some t) n ≡ false) (behind t cs) (counts-behind s c t) (behind-larger t 0 cs r))
+    ∙ after-counted base s c (Some t) x (before t cs) (ram x) (each-then (λ n. n.tid.0 < t) (λ n. counts s c (Some t) n ≡ true) (before t cs) (λ n. counts-before s c t n l) (before-smaller t cs z))))
+
+-- there nothing dooms
+below-other : (x t s : ℕ) (m : Msg) → t ≤ s → num (passes (InvBelow x t) m) ≤ num (passes (InvsNot s) m)
+unfolding passes
+below-other x t s m l = grind (arith, nat_tests)
+
+pub undoomed : (w : World) (c d t x : ℕ) → t ≤ (w.dirs d).serving.serving → live (InvsNot (w.dirs d).serving.serving) (pair w c d).back ≡ 0 → IsDoomed (Some t) x (pair w c d) → ⊥
+undoomed w c d t x l z h = omega (arith, z, h.hit, live-fewer (InvBelow x t) (InvsNot (w.dirs d).serving.serving) (λ m. below-other x t (w.dirs d).serving.serving m l) (pair w c d).back)
+
+-- so the view is what the commits before left
+pub agrees-before : (sh : Shape) (ram there : ℕ → ℕ) (w : World) (cs : List Noted) (c t : ℕ) (us : Uses) → 1 ≤ sh.dirs → IsRising 0 cs → times t cs ≡ 0
+    → ((x : ℕ) → there x ≡ all_stores sh.base x (before t cs) (ram x))
+    → ((d : ℕ) → live (InvsNot (w.dirs d).serving.serving) (pair w c d).back ≡ 0)
+    → EachUse (λ x y. t ≤ (w.dirs (home sh (line_of x))).serving.serving) us
+    → ((d : ℕ) → d < sh.dirs → EachUse (λ x y. home sh (line_of x) ≡ d → (y ≡ value_at sh.base ram cs (w.dirs d) (Some c) (Some t) x) ⊎ IsDoomed (Some t) x (pair w c d)) us)
+    → Agrees us there
+agrees-before sh ram there w cs c t [] i r z is free l v = tt
+agrees-before sh ram there w cs c t (u ∷ us) i r z is free l v = (go ((v (home sh (line_of u.0)) (home-below sh u.0 i)).0 refl), agrees-before sh ram there w cs c t us i r z is free (l.1) (λ d k. (v d k).1))
+  where
+    go : (u.1 ≡ value_at sh.base ram cs (w.dirs (home sh (line_of u.0))) (Some c) (Some t) u.0) ⊎ IsDoomed (Some t) u.0 (pair w c (home sh (line_of u.0))) → there u.0 ≡ u.1
+    go (inl e) = is u.0 ∙ sym (e ∙ value-before sh.base ram cs (w.dirs (home sh (line_of u.0))) (Some c) t u.0 r z (l.0))
+    go (inr h) = absurd (undoomed w c (home sh (line_of u.0)) t u.0 (l.0) (free (home sh (line_of u.0))) h)
+
+-- the last TID before it
+pub last-below : (t last : ℕ) (ns : List Noted) → last < t → Each (λ n. n.tid.0 < t) ns → last_tid last (map order_of_commit ns) < t
+unfolding Each
+last-below t last [] l h = l
+last-below t last (n ∷ ns) l h = last-below t n.tid.0 ns (h.0) (h.1)

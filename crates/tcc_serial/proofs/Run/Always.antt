@@ -60,11 +60,7 @@ opens-asks (Probing u) a b t o = asked a b u t o
 opens-asks (Ready u) a b t o = asked a b u t o
 opens-asks (Overflowing (Some u)) a b t o = (refl, grind (arith, nat_tests))
 opens-asks (Solo u) a b t o = (refl, grind (arith, nat_tests))
-opens-asks (Overflowing None) a b t o = absurd (cc)
-opens-asks Running a b t o = absurd (cc)
-opens-asks AwaitTid a b t o = absurd (cc)
-opens-asks DoomedTid a b t o = absurd (cc)
-opens-asks Halted a b t o = absurd (cc)
+opens-asks _ a b t o = absurd (cc)
 
 -- a directory that has replied serves the TID that is open there
 serves : (sh : Shape) (w : World) (c d t : ℕ) → Kept sh w → c < sh.cores → d < sh.dirs → opens (w.cores c).phase (writes_at sh (w.cores c).cache d) t ≡ true → (w.cores c).owing d ≡ false → (w.dirs d).serving.serving ≡ t

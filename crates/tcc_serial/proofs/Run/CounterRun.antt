@@ -7,25 +7,17 @@ use Rattle.tcc_serial.specs.Shown.{changed, shown}
 use Rattle.tcc_rules.proofs.Lemmas.{computed}
 
 inst-fits : (i : Inst) (value : ℕ) → NeedFits (inst_need i value)
-inst-fits Passes y = tt
 inst-fits Gets y = refl
-inst-fits Counts y = tt
 inst-fits Puts y = (refl, omega arith)
 inst-fits PutsBeside y = (refl, omega arith)
-inst-fits Says y = tt
-inst-fits Finishes y = tt
-inst-fits (Stops code) y = tt
+inst-fits _ y = tt
 
 inst-inside : (i : Inst) (value : ℕ) → NeedInMemory two_cores (inst_need i value)
 unfolding word_of
-inst-inside Passes y = tt
 inst-inside Gets y = omega arith
-inst-inside Counts y = tt
 inst-inside Puts y = omega arith
 inst-inside PutsBeside y = omega arith
-inst-inside Says y = tt
-inst-inside Finishes y = tt
-inst-inside (Stops code) y = tt
+inst-inside _ y = tt
 
 pub counting_suits : CountingSuits
 unfolding counting

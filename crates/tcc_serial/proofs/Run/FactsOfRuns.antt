@@ -5,21 +5,22 @@ use Rattle.tcc_serial.proofs.Names.{has_mark, CoreState, Halted, World, start, H
 use Rattle.tcc_serial.proofs.Names.{Probes, Replies, live, Carried, RunsCarry, first_state, KeptAll, marks_of, marked_by, has_marked}
 use Rattle.tcc_serial.proofs.Names.{stores_line, OneCore, Empty, Grant, grants_from, times, holder, pair, share, CommitsStand, MarksWait}
 use Rattle.tcc_serial.proofs.Names.{MarkedByServed, MarksOfCommits, Ways, first_ways, ways_from, UntoldWhereOpen, UntoldIsLive, AllWaysFit}
-use Rattle.tcc_serial.proofs.Names.{GivenUpOnce, LiveIsOpen, CommittedWhereStored, SmallerAreGivenUp, WorkIsReached}
-use Rattle.tcc_serial.proofs.Run.AllInvariants.{one_probe_from}
-use Rattle.tcc_serial.proofs.Run.CopiesKept.{KeptCopies, run-copies}
+use Rattle.tcc_serial.proofs.Names.{GivenUpOnce, LiveIsOpen, CommittedWhereStored, SmallerAreGivenUp, WorkIsReached, ◌||◌, is_some, sym}
+use Rattle.tcc_serial.proofs.Names.{◌∙◌, ◌⊎◌, inl, inr, cases_lt, lines, Awaited, is_awaited, AttemptInMemory, LoadsInMemory}
+use Rattle.tcc_serial.proofs.Names.{CopiesInMemory, CarriedInMemory, RunsStayInMemory, Uses, MarksFit, AttemptFits, Views, no_views}
+use Rattle.tcc_serial.proofs.Names.{views_from, attempts-fit, ReadFits, CarriedViews, RunsCarryViews}
 use Rattle.tcc_serial.proofs.Copies.CopyFacts.{above-from, owned-from}
-use Rattle.tcc_serial.proofs.Run.CarriedTogether.{KeptMore}
-use Rattle.tcc_serial.proofs.Copies.OnItsWay.{on-its-way}
-use Rattle.tcc_serial.proofs.Run.Always.{passed, owed_from, served_from}
-use Rattle.tcc_serial.proofs.Serving.CommitSteps.{commits_served}
+use Rattle.tcc_serial.proofs.Copies.WroteLines.{on-its-way}
+use Rattle.tcc_serial.proofs.Counts.Links.{total-le}
 use Rattle.tcc_serial.proofs.Marks.MaskLaws.{marked_by_served, marks_of_commits}
 use Rattle.tcc_serial.proofs.Marks.ReadsKept.{read-words}
-use Rattle.tcc_serial.proofs.Ways.RunWays.{told_from}
-use Rattle.tcc_serial.proofs.Ways.SmallerTids.{smaller_are_given_up, work_is_reached}
-use Rattle.tcc_serial.proofs.Ways.WayFacts.{untold_where_open, untold_is_live, all_ways_fit, given_up_once, live_is_open}
-use Rattle.tcc_serial.proofs.Ways.WayFacts.{committed_where_stored}
-use Rattle.tcc_serial.proofs.Counts.Links.{total-le}
+use Rattle.tcc_serial.proofs.Memory.InMemoryKept.{KeptInMemory, run-memory}
+use Rattle.tcc_serial.proofs.Run.AllInvariants.{one_probe_from}
+use Rattle.tcc_serial.proofs.Run.Always.{passed, owed_from, served_from}
+use Rattle.tcc_serial.proofs.Run.CarriedTogether.{KeptCopies, run-copies, KeptMore}
+use Rattle.tcc_serial.proofs.Serving.CommitSteps.{commits_served}
+use Rattle.tcc_serial.proofs.Ways.WayFacts.{told_from, smaller_are_given_up, work_is_reached, untold_where_open, untold_is_live}
+use Rattle.tcc_serial.proofs.Ways.WayFacts.{all_ways_fit, given_up_once, live_is_open, committed_where_stored}
 
 -- one core
 
@@ -178,3 +179,73 @@ runs_carry sh p entries ram es = go (run sh p (start entries ram) es) (run-copie
     go : (x : Option History) → IfSome x (λ h. KeptCopies sh gs ys h) → IfSome x (λ h. Told sh ys h) → IfSome x (λ h. Carried sh gs ys h)
     go None k t = tt
     go (Some h) k t = carried sh gs ys h k t
+
+-- The facts of the list that are proved of every run of a program whose accesses lie in memory.
+attempt-memory : (sh : Shape) (gs : List Grant) (ys : Ways) (h : History) → Carried sh gs ys h → KeptInMemory sh h → (c : ℕ) → AttemptInMemory sh (h.world.cores c)
+attempt-memory sh gs ys h k m c = record {
+  accesses = (m.cores c).accesses;
+  spilled = λ x e. (m.cores c).accesses.stored x (sym (k.stored_words_are_those_named c x) ∙ either ((h.world.cores c).cache.modified x) (is_some ((h.world.cores c).spilled x)) e);
+  awaited = λ a e. (m.cores c).frames a.line ((k.awaited_line_has_a_frame c a e).1);
+}
+  where
+    either : (a b : Bool) → b ≡ true → (a || b) ≡ true
+    either true b e = refl
+    either false b e = e
+
+loads-memory : (sh : Shape) (gs : List Grant) (ys : Ways) (h : History) → Carried sh gs ys h → KeptInMemory sh h → LoadsInMemory sh h.world
+unfolding pair
+loads-memory sh gs ys h k m c d l i = go (h.world.cores c).awaited refl (omega (arith, i, k.one_load_request_or_fill c d l))
+  where
+    line : (a : Awaited) → (h.world.cores c).awaited ≡ Some a → (b e : Bool) → (a.line == l) ≡ b → 1 ≤ num (b && e) → l < lines sh
+    line a q true e r n = let j : a.line ≡ l = grind (arith, nat_tests) in rw j at ((attempt-memory sh gs ys h k m c).awaited a q)
+    line a q false e r n = absurd (omega arith)
+
+    go : (a : Option Awaited) → (h.world.cores c).awaited ≡ a → 1 ≤ num (is_awaited a l && (home sh l == d)) → l < lines sh
+    go None q n = absurd (omega arith)
+    go (Some a) q n = line a q (a.line == l) (home sh l == d) refl n
+
+copies-memory : (sh : Shape) (h : History) → KeptInMemory sh h → CopiesInMemory sh h.world
+copies-memory sh h m c d l t i = go (cases_lt l (lines sh))
+  where
+    go : (l < lines sh) ⊎ (lines sh ≤ l) → l < lines sh
+    go (inl q) = q
+    go (inr q) = absurd (omega (arith, i, m.copies c d l t q))
+
+pub carried-memory : (sh : Shape) (gs : List Grant) (ys : Ways) (h : History) → Carried sh gs ys h → KeptInMemory sh h → CarriedInMemory sh h
+carried-memory sh gs ys h k m = record {
+  frames_are_of_lines_in_memory = λ c l e. (m.cores c).frames l e;
+  attempts_stay_in_memory = attempt-memory sh gs ys h k m;
+  loads_in_flight_are_of_lines_in_memory = loads-memory sh gs ys h k m;
+  copies_in_flight_are_of_lines_in_memory = copies-memory sh h m;
+  commits_stay_in_memory = m.commits;
+}
+
+pub runs_stay_in_memory : RunsStayInMemory
+runs_stay_in_memory sh p entries ram es i = go (run sh p (start entries ram) es) (runs_carry sh p entries ram es) (run-memory sh p entries ram es i)
+  where
+    gs : List Grant
+    gs = grants_from sh p es (first_state entries ram)
+
+    ys : Ways
+    ys = ways_from sh p es first_ways (first_state entries ram)
+
+    go : (x : Option History) → IfSome x (λ h. Carried sh gs ys h) → IfSome x (λ h. KeptInMemory sh h) → IfSome x (λ h. CarriedInMemory sh h)
+    go None k m = tt
+    go (Some h) k m = carried-memory sh gs ys h k m
+
+-- The facts of the list that are proved of every run of a program that fits: what tcc_attempt says of each core's attempt and its view.
+read-fits : (sh : Shape) (s : CoreState) (us : Uses) → MarksFit sh s us → ReadFits s us
+read-fits sh s us k = record { stand = k.stand; used = λ a x e. k.used x e }
+
+pub runs_carry_views : RunsCarryViews
+runs_carry_views sh p entries ram es f = go (run sh p (start entries ram) es) (attempts-fit sh p entries ram es f)
+  where
+    vs : Views
+    vs = views_from sh p es no_views (first_state entries ram)
+
+    go : (x : Option History) → IfSome x (λ h. (c : ℕ) → AttemptFits sh p (h.world.cores c) (vs c)) → IfSome x (λ h. CarriedViews sh p vs h)
+    go None k = tt
+    go (Some h) k = record {
+      attempt_follows_from_its_view = λ c. (k c).follows;
+      read_marks_are_the_view = λ c. read-fits sh (h.world.cores c) (vs c) (k c).marks;
+    }

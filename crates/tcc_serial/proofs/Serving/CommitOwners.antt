@@ -7,8 +7,7 @@ use Rattle.tcc_serial.proofs.Names.{AwaitTid, DoomedTid, Probing, Ready, Overflo
 use Rattle.tcc_serial.proofs.Names.{commit_sends, noted, solo_sends, solo_marks, solo_backs, solo_writes_at, is_written, written_mask}
 use Rattle.tcc_serial.proofs.Names.{core_exec, core_evict, grant, grant_phase, from_dir, probe_reply, ignored, fill, data_request}
 use Rattle.tcc_serial.proofs.Names.{invalidate, Commits, AnyCommit, among, passes, kept}
-use Rattle.tcc_serial.proofs.Counts.Links.{among-append, among-fewer}
-use Rattle.tcc_serial.proofs.Counts.Sent.{among-flat_map_none}
+use Rattle.tcc_serial.proofs.Counts.Links.{among-append, among-fewer, among-flat_map_none}
 use Rattle.tcc_serial.proofs.OneCore.Executes.{Steady, Executed, Goes_on, Overflows, Asks_tid, Alone, did-executed}
 use Rattle.tcc_serial.proofs.OneCore.CoreSteps.{ignored-steady, fill-steady, data-steady, Hurt, Unhurt, Rolled, Doomed, Aborted, Gave_up}
 use Rattle.tcc_serial.proofs.OneCore.CoreSteps.{Invalidated, invalidate-cases, Replied, Ignored, Probed, Left_alone, reply-cases}

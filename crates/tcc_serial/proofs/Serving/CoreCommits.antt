@@ -8,8 +8,7 @@ use Rattle.tcc_serial.proofs.Names.{marks_for, skip_all, probe_all, abort_writte
 use Rattle.tcc_serial.proofs.Names.{solo_backs, solo_writes_at, is_written, written_mask, core_exec, core_evict, grant, grant_phase}
 use Rattle.tcc_serial.proofs.Names.{grant_sends, from_dir, probe_reply, ignored, fill, data_request, invalidate, CommitsAbove, AnyCommit}
 use Rattle.tcc_serial.proofs.Names.{Protocol, among, live, passes, Reached, kept, replied}
-use Rattle.tcc_serial.proofs.Counts.Links.{among-append, among-fewer, live-fewer}
-use Rattle.tcc_serial.proofs.Counts.Sent.{among-flat_map_none}
+use Rattle.tcc_serial.proofs.Counts.Links.{among-append, among-fewer, live-fewer, among-flat_map_none}
 use Rattle.tcc_serial.proofs.OneCore.Executes.{Steady, Executed, Goes_on, Overflows, Asks_tid, Alone, did-executed}
 use Rattle.tcc_serial.proofs.OneCore.CoreSteps.{ignored-steady, fill-steady, data-steady, Hurt, Unhurt, Rolled, Doomed, Aborted, Gave_up}
 use Rattle.tcc_serial.proofs.OneCore.CoreSteps.{Invalidated, invalidate-cases, Replied, Ignored, Probed, Left_alone, reply-cases}

@@ -8,8 +8,7 @@ use Rattle.tcc_serial.proofs.Names.{Halted, Sends, to, marks_for, skip_all, prob
 use Rattle.tcc_serial.proofs.Names.{solo_sends, solo_marks, solo_backs, solo_writes_at, is_written, written_mask, core_exec, core_evict}
 use Rattle.tcc_serial.proofs.Names.{grant, grant_phase, grant_sends, from_dir, probe_reply, ignored, fill, data_request, invalidate, Kind}
 use Rattle.tcc_serial.proofs.Names.{Acks, MarksAway, AnyResolve, Protocol, among, passes, kept}
-use Rattle.tcc_serial.proofs.Counts.Links.{among-append}
-use Rattle.tcc_serial.proofs.Counts.Sent.{among-flat_map_none}
+use Rattle.tcc_serial.proofs.Counts.Links.{among-append, among-flat_map_none}
 use Rattle.tcc_serial.proofs.OneCore.Executes.{Steady, Executed, Goes_on, Overflows, Asks_tid, Alone, did-executed}
 use Rattle.tcc_serial.proofs.OneCore.CoreSteps.{ignored-steady, fill-steady, data-steady, Hurt, Unhurt, Rolled, Doomed, Aborted, Gave_up}
 use Rattle.tcc_serial.proofs.OneCore.CoreSteps.{Invalidated, invalidate-cases, Replied, Ignored, Probed, Left_alone, reply-cases}

@@ -7,8 +7,7 @@ use Rattle.tcc_serial.proofs.Names.{AwaitTid, DoomedTid, Probing, Ready, Overflo
 use Rattle.tcc_serial.proofs.Names.{abort_written, Out, commit, committed_core, phase_after, commit_sends, solo_sends, solo_marks}
 use Rattle.tcc_serial.proofs.Names.{solo_backs, solo_writes_at, is_written, written_mask, core_exec, core_evict, grant, grant_phase}
 use Rattle.tcc_serial.proofs.Names.{grant_sends, is_probed, probing, Probes, Protocol, among, passes, has_tid, waits_for_tid, kept}
-use Rattle.tcc_serial.proofs.Counts.Links.{among-append, among-fewer}
-use Rattle.tcc_serial.proofs.Counts.Sent.{among-flat_map_none}
+use Rattle.tcc_serial.proofs.Counts.Links.{among-append, among-fewer, among-flat_map_none}
 use Rattle.tcc_serial.proofs.OneCore.Executes.{Steady, Executed, Goes_on, Overflows, Asks_tid, Alone, did-executed}
 use Rattle.tcc_serial.proofs.OneCore.CoreSteps.{Hurt, Unhurt, Rolled, Doomed, Aborted, Gave_up, Invalidated, steady-emptied}
 use Rattle.tcc_serial.proofs.OneCore.Said.{quiet}

@@ -6,9 +6,8 @@ use Rattle.tcc_serial.proofs.Names.{AwaitTid, DoomedTid, Probing, Ready, Overflo
 use Rattle.tcc_serial.proofs.Names.{moves, commit, committed_core, phase_after, core_exec, core_evict, grant, grant_phase, from_dir}
 use Rattle.tcc_serial.proofs.Names.{probing, is_probed, probe_reply, reply_phase, ignored, replied, all_replied, when_ready, when_alone}
 use Rattle.tcc_serial.proofs.Names.{fill, data_request, invalidate, Resolves, among, passes, opens, waits_for_tid, kept}
-use Rattle.tcc_serial.proofs.Counts.Links.{among-append}
-use Rattle.tcc_serial.proofs.Counts.Sent.{resolves-commit_sends, resolves-abort_written, resolves-skip_all, resolves-probe_all}
-use Rattle.tcc_serial.proofs.Counts.Sent.{resolves-grant_sends, resolves-marks_for, resolves-solo_sends, among-quiet}
+use Rattle.tcc_serial.proofs.Counts.Links.{among-append, resolves-commit_sends, resolves-abort_written, resolves-skip_all}
+use Rattle.tcc_serial.proofs.Counts.Links.{resolves-probe_all, resolves-grant_sends, resolves-marks_for, resolves-solo_sends, among-quiet}
 use Rattle.tcc_serial.proofs.OneCore.Executes.{Steady, Executed, Goes_on, Overflows, Asks_tid, Alone, did-executed}
 use Rattle.tcc_serial.proofs.OneCore.CoreSteps.{ignored-steady, fill-steady, data-steady, Hurt, Unhurt, Rolled, Doomed, Aborted, Gave_up}
 use Rattle.tcc_serial.proofs.OneCore.CoreSteps.{Invalidated, invalidate-cases, steady-emptied}

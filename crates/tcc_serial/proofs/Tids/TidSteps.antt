@@ -8,11 +8,11 @@ use Rattle.tcc_serial.proofs.Names.{Pair, pair, after_move, grant_taken, back_ta
 use Rattle.tcc_serial.proofs.Names.{after_other_grant, share, waits_for_tid, opens, part, handled, ResolvedAt, RequestOf, InsideOf}
 use Rattle.tcc_serial.proofs.Names.{KeptTids}
 use Rattle.tcc_serial.proofs.Counts.Links.{live-sends, live-takes, total-le, total-zero}
-use Rattle.tcc_serial.proofs.Counts.PairFrames.{same, differ, given, pairs_move, pairs_grant, pairs_back, pairs_dir, pairs_asks}
-use Rattle.tcc_serial.proofs.Counts.PairFrames.{pairs_vendor, sum_move, sum_grant, sum_back, sum_back_away, sum_dir, sum_dir_away, sum_asks}
-use Rattle.tcc_serial.proofs.Counts.PairFrames.{sum_vendor}
-use Rattle.tcc_serial.proofs.Tids.CoreTids.{KeepsPart, part-grant}
+use Rattle.tcc_serial.proofs.Counts.StepCases.{same, differ, given, pairs_move, pairs_grant, pairs_back, pairs_dir, pairs_asks}
+use Rattle.tcc_serial.proofs.Counts.StepCases.{pairs_vendor, sum_move, sum_grant, sum_back, sum_back_away, sum_dir, sum_dir_away, sum_asks}
+use Rattle.tcc_serial.proofs.Counts.StepCases.{sum_vendor}
 use Rattle.tcc_serial.proofs.Tids.CoreRequests.{KeepsRequests, requests-grant}
+use Rattle.tcc_serial.proofs.Tids.CoreTids.{KeepsPart, part-grant}
 
 -- a message in flight is counted
 pub live-some : (k : Kind) (l : Link) (i : ℕ) (m : Msg) → slice_index_or l i None ≡ Some m → num (passes k m) ≤ live k l

@@ -8,10 +8,8 @@ use Rattle.tcc_serial.proofs.Names.{spilled_mask, spilled_words, has-mask_of, Co
 use Rattle.tcc_serial.proofs.Names.{solo_sends, solo_marks, solo_backs, solo_writes_at, is_written, written_mask, core_exec, Kind}
 use Rattle.tcc_serial.proofs.Names.{CopyWord, CopyNot, among, passes, framed, mark, skip}
 use Rattle.tcc_serial.proofs.Copies.CopySends.{commit-copies}
-use Rattle.tcc_serial.proofs.Counts.Links.{among-append}
-use Rattle.tcc_serial.proofs.Counts.Sent.{among-flat_map_none}
-use Rattle.tcc_serial.proofs.Values.WordCopies.{among-words, among-others, at-place}
-use Rattle.tcc_serial.proofs.Values.WordSends.{get-eight}
+use Rattle.tcc_serial.proofs.Counts.Links.{among-append, among-flat_map_none}
+use Rattle.tcc_serial.proofs.Values.WordCopies.{among-words, among-others, at-place, get-eight}
 use Rattle.tcc_serial.proofs.OneCore.Outcomes.{Commits_now, Did, Ends_alone, after_end, each-exec, out}
 
 pub record CommitsWord (sh : Shape) (x t : ℕ) (c : Cache) (sp : Spilled) (o : Out) : Type 0 where

@@ -4,7 +4,7 @@ use Rattle.tcc_serial.proofs.Names.{is_some, if◌then◌else◌, arith, refl, a
 use Rattle.tcc_serial.proofs.Names.{IsCache, free_way, placed, placed_at, dirty-evicted, value-evicted, CoreState, nothing, flushed, Out}
 use Rattle.tcc_serial.proofs.Names.{moves, commit, core_exec, core_evict, CopyOf, among, passes, Cache}
 use Rattle.tcc_serial.proofs.Copies.CoreCopies.{framed-dirty, placed-dirty, unheld-clean}
-use Rattle.tcc_serial.proofs.Values.WordSends.{Carries, word-still, word-sent, flushed-words, back-home-words}
+use Rattle.tcc_serial.proofs.Values.WordCopies.{Carries, word-still, word-sent, flushed-words, back-home-words}
 use Rattle.tcc_serial.proofs.OneCore.Said.{Requests, Silent, quiet, say}
 use Rattle.tcc_serial.proofs.OneCore.Outcomes.{Commits_now, Did, Ends_alone, Frames, Frames_anew, Misses_anew, after_store, awaiting}
 use Rattle.tcc_serial.proofs.OneCore.Outcomes.{each-evict, each-exec, emptied, out, said}

@@ -6,7 +6,7 @@ use Rattle.tcc_serial.proofs.Names.{Dir, Msg, Inv, Shape, home, IsCache, filled,
 use Rattle.tcc_serial.proofs.Names.{Out, grant, from_dir, CopyOf, among, passes, ap, kept}
 use Rattle.tcc_serial.proofs.Copies.CopyRules.{missed}
 use Rattle.tcc_serial.proofs.Values.CoreWords.{carries-still}
-use Rattle.tcc_serial.proofs.Values.WordSends.{WordCarried, Carries, word-still, word-sent, flushed-words}
+use Rattle.tcc_serial.proofs.Values.WordCopies.{WordCarried, Carries, word-still, word-sent, flushed-words}
 use Rattle.tcc_serial.proofs.OneCore.Said.{Flushes, Silent, Unheard, quiet, say}
 use Rattle.tcc_serial.proofs.OneCore.Outcomes.{Fills, Given_none, Granted, Hands_out, Heard, Hurt_alone, Hurt_probing, Hurt_running}
 use Rattle.tcc_serial.proofs.OneCore.Outcomes.{Hurt_waiting, Hurt_none, each-back, each-grant, granted, granted_said, heard, heard-quiet}

@@ -5,16 +5,15 @@ use Rattle.tcc_serial.proofs.Names.{LoadReq, Shape, home, lines, DirState, World
 use Rattle.tcc_serial.proofs.Names.{dir_takes, dir_asks, KeptAfter, KeptOwned, stored_there, FillOf, FillNot, LoadOf, LoadNot, Commits}
 use Rattle.tcc_serial.proofs.Names.{live, among, passes, CommitsInMemory, LoadsInMemory, pair, is_this, is_applied, CommitsStand, stores_at}
 use Rattle.tcc_serial.proofs.Names.{stores_word, counts, value_at, word_copies, HomeWords, last_of}
-use Rattle.tcc_serial.proofs.Tids.LastOf.{last-least}
+use Rattle.tcc_serial.proofs.Counts.StepCases.{same, differ, either, asks-own, OfAnswer}
 use Rattle.tcc_serial.proofs.Lines.LoadsKept.{FillsBy}
-use Rattle.tcc_serial.proofs.Memory.MemoryHomes.{accesses_at_homes}
-use Rattle.tcc_serial.proofs.Counts.PairFrames.{same, differ, either, asks-own}
-use Rattle.tcc_serial.proofs.Counts.StepCases.{OfAnswer}
+use Rattle.tcc_serial.proofs.Memory.MemorySends.{accesses_at_homes}
+use Rattle.tcc_serial.proofs.Tids.Commits.{last-least}
 use Rattle.tcc_serial.proofs.Tids.TidSteps.{live-some}
+use Rattle.tcc_serial.proofs.Values.FramedWords.{KeptHeld, few-sent, held-answered, value-stays, FillsHome, value-taken, steady-taken}
+use Rattle.tcc_serial.proofs.Values.FramedWords.{held-taken, held-asked}
 use Rattle.tcc_serial.proofs.Values.ValueAt.{IsAlike, value-alike}
 use Rattle.tcc_serial.proofs.Values.WordCopies.{few-copies}
-use Rattle.tcc_serial.proofs.Values.FramedWords.{KeptHeld, few-sent, held-answered, value-stays}
-use Rattle.tcc_serial.proofs.Values.FramedDirs.{FillsHome, value-taken, steady-taken, held-taken, held-asked}
 
 -- messages that are neither a load request nor a Commit
 

@@ -9,21 +9,19 @@ use Rattle.tcc_serial.proofs.Names.{core_moves, core_takes, Uses, sees, Suits, L
 use Rattle.tcc_serial.proofs.Names.{Carried, Invariants, executes, Grant, granted_by, Pair, pair, after_move, back_taken, grant_taken}
 use Rattle.tcc_serial.proofs.Names.{after_grant, after_other_grant, is_applied, CommitsStand, stores_word, after_stores, counts, value_at}
 use Rattle.tcc_serial.proofs.Names.{UnmodifiedWords, FilledWords, Ways, ways_after, sent_by}
-use Rattle.tcc_serial.specs.KeepsWords.{EventsKeepWords}
-use Rattle.tcc_serial.proofs.Order.ClosedCores.{Stand, stand}
+use Rattle.tcc_serial.proofs.Counts.StepCases.{either, moves-own, moves-other, pairs_move, pairs_grant, pairs_back, pairs_vendor, OfAnswer}
+use Rattle.tcc_serial.proofs.Counts.StepCases.{node_cases}
 use Rattle.tcc_serial.proofs.Lines.LoadsKept.{dir-fills}
-use Rattle.tcc_serial.proofs.Values.ModifiedWords.{Serves, stored-served, stored-seen}
-use Rattle.tcc_serial.proofs.Counts.PairFrames.{either, moves-own, moves-other, pairs_move, pairs_grant, pairs_back, pairs_vendor}
-use Rattle.tcc_serial.proofs.Counts.StepCases.{OfAnswer, node_cases}
+use Rattle.tcc_serial.proofs.Order.SerialSteps.{Stand, stand}
 use Rattle.tcc_serial.proofs.Tids.TidSteps.{live-some}
-use Rattle.tcc_serial.proofs.Values.ValueAt.{IsSilent, with_commit, value-skip, value-insert}
-use Rattle.tcc_serial.proofs.Values.FramedWords.{HeldOf, HeldAt, KeptHeld, few-not}
-use Rattle.tcc_serial.proofs.Values.FramedDirs.{load-home}
-use Rattle.tcc_serial.proofs.Values.DirsKeepFramed.{answered-quietly, answered-load}
-use Rattle.tcc_serial.proofs.Values.FramedInvs.{answered-commit, commit-invalidates}
-use Rattle.tcc_serial.proofs.Values.FramedCores.{Closing, Framing, Stays, Closes, fades-same, fading, framing-exec, fading-evict}
-use Rattle.tcc_serial.proofs.Values.FramedBacks.{Coming, Quiet, Takes, Brings, Rests, comes-back, fading-grant}
 use Rattle.tcc_serial.proofs.Values.CoresKeepFramed.{no-fill, held-fades, held-quietly, held-invalid, held-filled, held-elsewhere}
+use Rattle.tcc_serial.proofs.Values.DirsKeepFramed.{answered-quietly, answered-load}
+use Rattle.tcc_serial.proofs.Values.FramedBacks.{Coming, Quiet, Takes, Brings, Rests, comes-back, fading-grant}
+use Rattle.tcc_serial.proofs.Values.FramedCores.{Closing, Framing, Stays, Closes, fades-same, fading, framing-exec, fading-evict}
+use Rattle.tcc_serial.proofs.Values.FramedWords.{HeldOf, HeldAt, KeptHeld, few-not, load-home, answered-commit, commit-invalidates}
+use Rattle.tcc_serial.proofs.Values.ModifiedWords.{Serves, stored-served, stored-seen}
+use Rattle.tcc_serial.proofs.Values.ValueAt.{IsSilent, with_commit, value-skip, value-insert}
+use Rattle.tcc_serial.specs.KeepsWords.{EventsKeepWords}
 
 -- a core commits
 

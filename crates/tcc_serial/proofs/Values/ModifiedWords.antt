@@ -6,13 +6,12 @@ use Rattle.tcc_serial.proofs.Names.{serial, begun, steps, Local, Program, num, l
 use Rattle.tcc_serial.proofs.Names.{Ready, Solo, Halted, is_solo, History, Uses, Agrees, Reaches, sees, Suits, MarkedAtHomes, plain_start}
 use Rattle.tcc_serial.proofs.Names.{Invariants, Grant, times, pair, is_applied, opens, stores_word, IsMemory, after_stores, counts}
 use Rattle.tcc_serial.proofs.Names.{value_at, Settled, Ways}
-use Rattle.tcc_serial.proofs.Order.BelowBound.{home-below, agrees-before, value-before}
-use Rattle.tcc_serial.proofs.Order.ClosedCores.{May, may-bound, may-commits, Stand, stand, view-stands, uses-reached, fits-aligned}
-use Rattle.tcc_serial.proofs.Order.CutCommits.{before, behind, cut-joined}
-use Rattle.tcc_serial.proofs.Order.InsertedOrders.{serial-memory}
-use Rattle.tcc_serial.proofs.Memory.MemoryHomes.{marks_at_homes}
-use Rattle.tcc_serial.proofs.Order.SerialParts.{SerialCut, Holds, serial-cut, serial-holds, steps-hold, all_stores}
+use Rattle.tcc_serial.proofs.Memory.MemorySends.{marks_at_homes}
 use Rattle.tcc_serial.proofs.OneCore.SoundAttempts.{follows-in}
+use Rattle.tcc_serial.proofs.Order.InsertedOrders.{serial-memory}
+use Rattle.tcc_serial.proofs.Order.SerialParts.{home-below, agrees-before, value-before, before, behind, cut-joined, SerialCut, Holds}
+use Rattle.tcc_serial.proofs.Order.SerialParts.{serial-cut, serial-holds, steps-hold, all_stores}
+use Rattle.tcc_serial.proofs.Order.SerialSteps.{May, may-bound, may-commits, Stand, stand, view-stands, uses-reached, fits-aligned}
 use Rattle.tcc_serial.proofs.Values.ValueAt.{value-alike}
 
 -- the home of a word that the core stored serves its TID, and is owed nothing

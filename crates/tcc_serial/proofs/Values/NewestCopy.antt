@@ -75,19 +75,7 @@ on-way : (x t y : ℕ) (m : Msg) → ((g : ℕ) → t < g → num (passes (CopyW
 unfolding passes Top tagged
 on-way x t y (WriteBack k n ws g) f z = one-copy x t y k n ws g (hit k n x) refl (f g) z
 on-way x t y (Flush k n ws g) f z = one-copy x t y k n ws g (hit k n x) refl (f g) z
-on-way x t y TidReq f z = (tt, refl)
-on-way x t y (TidGrant u) f z = (tt, refl)
-on-way x t y (LoadReq l a) f z = (tt, refl)
-on-way x t y (Fill l ws) f z = (tt, refl)
-on-way x t y (Skip u) f z = (tt, refl)
-on-way x t y (Probe u) f z = (tt, refl)
-on-way x t y (ProbeReply u s) f z = (tt, refl)
-on-way x t y (Mark l m u) f z = (tt, refl)
-on-way x t y (Commit u k) f z = (tt, refl)
-on-way x t y (Abort u) f z = (tt, refl)
-on-way x t y (DataReq l) f z = (tt, refl)
-on-way x t y (Inv l m u) f z = (tt, refl)
-on-way x t y (InvAck l b) f z = (tt, refl)
+on-way x t y _ f z = (tt, refl)
 
 on-link : (x t y : ℕ) (l : Link) → ((g : ℕ) → t < g → live (CopyWord x g) l ≡ 0) → live (CopyNot x t y) l ≡ 0 → Top t y (copies_on x l) × (tagged t (copies_on x l) ≡ live (CopyWord x t) l)
 unfolding live copies_on Top tagged

@@ -1,11 +1,16 @@
--- The copies of a word: no more than those of its line, and all of them where the copies have the word in their mask.
+-- The copies of a word: no more than those of its line, and those that leave a frame go home as they are.
 use Rattle.tcc_serial.proofs.Names.{ℕ, ◌+◌, ◌≡◌, ◌≤◌, ◌==◌, ◌&&◌, Bool, true, false, not, List, [], ◌∷◌, Option, Some, None, is_some, arith}
 use Rattle.tcc_serial.proofs.Names.{refl, sym, ◌∙◌, nat_tests, num, line_of, place_of, word_at, has, hit, Msg, TidReq, TidGrant, LoadReq}
 use Rattle.tcc_serial.proofs.Names.{Fill, Skip, Probe, ProbeReply, Mark, Commit, Abort, WriteBack, Flush, DataReq, Inv, InvAck, Shape}
 use Rattle.tcc_serial.proofs.Names.{Cache, IsCache, is_dirty, dirty_tag, dirty_mask, has-mask_of, Link, copies_with, CopyOf, CopyMask}
-use Rattle.tcc_serial.proofs.Names.{CopyWord, CopyNot, live, among, passes, Pair, is_this, word_copies, CopiesHave}
+use Rattle.tcc_serial.proofs.Names.{CopyWord, CopyNot, live, among, passes, Pair, is_this, word_copies, CopiesHave, zero, suc, ◌<◌, ◌⊎◌}
+use Rattle.tcc_serial.proofs.Names.{cond, unwrap_or, get_or, if◌then◌else◌, ap, inl, inr, cases_eq, eight, Dir, home, dirty_words}
+use Rattle.tcc_serial.proofs.Names.{dirty_copy, CoreState, Out, to, flush, flushed, written_back}
+use Rattle.tcc_rules.specs.Sends.{write_back}
 use Rattle.tcc_serial.proofs.Copies.DirtyFrames.{some-dirty, tag-of}
 use Rattle.tcc_serial.proofs.Counts.Links.{live-fewer, among-fewer}
+
+-- The copies of a word: no more than those of its line, and all of them where the copies have the word in their mask.
 
 -- in messages
 
@@ -18,19 +23,7 @@ pub word-line : (x t : ℕ) (m : Msg) → num (passes (CopyWord x t) m) ≤ num 
 unfolding passes hit
 word-line x t (WriteBack k m ws g) = back-line (k == line_of x) (has m (place_of x)) (g == t)
 word-line x t (Flush k m ws g) = back-line (k == line_of x) (has m (place_of x)) (g == t)
-word-line x t TidReq = omega arith
-word-line x t (TidGrant u) = omega arith
-word-line x t (LoadReq l a) = omega arith
-word-line x t (Fill l ws) = omega arith
-word-line x t (Skip u) = omega arith
-word-line x t (Probe u) = omega arith
-word-line x t (ProbeReply u s) = omega arith
-word-line x t (Mark l m u) = omega arith
-word-line x t (Commit u n) = omega arith
-word-line x t (Abort u) = omega arith
-word-line x t (DataReq l) = omega arith
-word-line x t (Inv l m u) = omega arith
-word-line x t (InvAck l b) = omega arith
+word-line x t _ = omega arith
 
 pub few-words : (x t : ℕ) (l : Link) → live (CopyWord x t) l ≤ live (CopyOf (line_of x) t) l
 few-words x t l = live-fewer (CopyWord x t) (CopyOf (line_of x) t) (word-line x t) l
@@ -68,19 +61,7 @@ line-word : (x t n : ℕ) → has n (place_of x) ≡ true → (m : Msg) → num 
 unfolding passes hit
 line-word x t n h (WriteBack k m ws g) = in-mask k m n x (g == t) h (m == n) refl
 line-word x t n h (Flush k m ws g) = in-mask k m n x (g == t) h (m == n) refl
-line-word x t n h TidReq = omega arith
-line-word x t n h (TidGrant u) = omega arith
-line-word x t n h (LoadReq l a) = omega arith
-line-word x t n h (Fill l ws) = omega arith
-line-word x t n h (Skip u) = omega arith
-line-word x t n h (Probe u) = omega arith
-line-word x t n h (ProbeReply u s) = omega arith
-line-word x t n h (Mark l m u) = omega arith
-line-word x t n h (Commit u k) = omega arith
-line-word x t n h (Abort u) = omega arith
-line-word x t n h (DataReq l) = omega arith
-line-word x t n h (Inv l m u) = omega arith
-line-word x t n h (InvAck l b) = omega arith
+line-word x t n h _ = omega arith
 
 live-words : (x t n : ℕ) → has n (place_of x) ≡ true → (l : Link) → live (CopyOf (line_of x) t) l ≤ live (CopyWord x t) l + live (CopyMask (line_of x) t n) l
 unfolding live
@@ -137,3 +118,122 @@ copy-has sh x t n v h i f z = omega (arith, live-words x t n i v.out, z, framed 
     framed true true p q = let e : dirty_tag c l ≡ t = grind (arith, nat_tests) in omega (arith, tagged (c.dirty x) refl (mask-dirty c x n i (f p e)) e)
     framed true false p q = omega arith
     framed false b p q = omega arith
+
+-- The dirty words of a line that leave its frame go home as they are: what this is for the copies of one word.
+
+-- what an event of a core does to a word: its copies are as many, in the frame and sent, and each has the value that it had
+
+pub record WordCarried (sh : Shape) (x : ℕ) (s : CoreState) (o : Out) : Type 0 where
+  pub copies : (t : ℕ) → num (is_this (o.core.cache.dirty x) t) + among (CopyWord x t) (o.sends (Dir (home sh (line_of x)))) ≡ num (is_this (s.cache.dirty x) t)
+  pub framed : (t : ℕ) → o.core.cache.dirty x ≡ Some t → (s.cache.dirty x ≡ Some t) × (o.core.cache.value x ≡ s.cache.value x)
+  pub sent : (t y : ℕ) → (s.cache.dirty x ≡ Some t → s.cache.value x ≡ Some y) → among (CopyNot x t y) (o.sends (Dir (home sh (line_of x)))) ≡ 0
+
+abbrev pub Carries : Shape → CoreState → Out → Type 0
+Carries sh s o = (x : ℕ) → WordCarried sh x s o
+
+-- no dirty word changes, and none is sent
+pub word-still : (sh : Shape) (x : ℕ) (s : CoreState) (o : Out) → o.core.cache.dirty x ≡ s.cache.dirty x → (is_some (s.cache.dirty x) ≡ true → o.core.cache.value x ≡ s.cache.value x) → ((t : ℕ) → among (CopyOf (line_of x) t) (o.sends (Dir (home sh (line_of x)))) ≡ 0) → WordCarried sh x s o
+word-still sh x s o e f z = record {
+  copies = λ t. rw e (omega (arith, z t, among-words x t (o.sends (Dir (home sh (line_of x))))));
+  framed = λ t q. (sym e ∙ q, f (rw (sym e ∙ q) refl));
+  sent = λ t y q. omega (arith, z t, among-words x t (o.sends (Dir (home sh (line_of x)))), among-others x t y (o.sends (Dir (home sh (line_of x)))));
+}
+
+-- what leaves a frame of line k is the frame's copy of the word
+pub record WordLeaves (k x : ℕ) (c : Cache) (ms : List Msg) : Type 0 where
+  pub same : k ≡ line_of x → (t : ℕ) → among (CopyWord x t) ms ≡ num (is_this (c.dirty x) t)
+  pub other : (k ≡ line_of x → ⊥) → (t : ℕ) → among (CopyWord x t) ms ≡ 0
+  pub right : (t y : ℕ) → (c.dirty x ≡ Some t → c.value x ≡ Some y) → among (CopyNot x t y) ms ≡ 0
+
+word-clean : (sh : Shape) (k x : ℕ) (c : Cache) → IsCache sh c → is_dirty c k ≡ false → k ≡ line_of x → c.dirty x ≡ None
+word-clean sh k x c h q e = go (c.dirty x) refl
+  where
+    go : (o : Option ℕ) → c.dirty x ≡ o → o ≡ None
+    go None r = refl
+    go (Some t) r = absurd (let d = dirty-line sh c x t h r in let y : is_dirty c (line_of x) ≡ false = rw e at q in let z = d.0 in cc)
+
+leaves-none : (sh : Shape) (k x : ℕ) (c : Cache) → IsCache sh c → is_dirty c k ≡ false → WordLeaves k x c []
+unfolding among
+leaves-none sh k x c h q = record { same = λ e t. rw (word-clean sh k x c h q e) refl; other = λ e t. refl; right = λ t y f. refl }
+
+pub get-eight : (f : ℕ → ℕ) (k : ℕ) → k < 8 → get_or (eight f) k 0 ≡ f k
+unfolding eight
+get-eight f (suc (suc (suc (suc (suc (suc (suc (suc k)))))))) i = absurd (omega (arith, i))
+get-eight f _ i = refl
+
+-- the mask and the words of the line's copy, at the word's place
+mask-at : (c : Cache) (x : ℕ) → has (dirty_mask c (line_of x)) (place_of x) ≡ is_some (c.dirty x)
+unfolding dirty_mask
+mask-at c x = rw (at-place x) at (has-mask_of (λ k. is_some (c.dirty (word_at (line_of x) k))) (place_of x) (omega arith))
+
+value-at : (c : Cache) (x t y : ℕ) → c.dirty x ≡ Some t → c.value x ≡ Some y → get_or (dirty_words c (line_of x)) (place_of x) 0 ≡ y
+unfolding dirty_words
+value-at c x t y d v =
+    let e : get_or (eight (λ k. if is_some (c.dirty (word_at (line_of x) k)) then unwrap_or (c.value (word_at (line_of x) k)) 0 else 0)) (place_of x) 0 ≡ (if is_some (c.dirty x) then unwrap_or (c.value x) 0 else 0) = rw (at-place x) at (get-eight (λ k. if is_some (c.dirty (word_at (line_of x) k)) then unwrap_or (c.value (word_at (line_of x) k)) 0 else 0) (place_of x) (omega arith)) in
+    e ∙ rw (d, v) refl
+
+-- one message of the frame's words
+leaves-one : (sh : Shape) (k x : ℕ) (c : Cache) (m : Msg) → IsCache sh c → ((t : ℕ) → passes (CopyWord x t) m ≡ (hit k (dirty_mask c k) x && (dirty_tag c k == t))) → ((t y : ℕ) → passes (CopyNot x t y) m ≡ ((hit k (dirty_mask c k) x && (dirty_tag c k == t)) && not (get_or (dirty_words c k) (place_of x) 0 == y))) → WordLeaves k x c (m ∷ [])
+unfolding among hit
+leaves-one sh k x c m h f g = record { same = λ e t. here e t (c.dirty x) refl; other = λ n t. (let y : (k == line_of x) ≡ false = grind (arith, nat_tests) in rw (f t, y) refl); right = λ t y q. right t y q (cases_eq k (line_of x)) }
+  where
+    here : k ≡ line_of x → (t : ℕ) (o : Option ℕ) → c.dirty x ≡ o → num (passes (CopyWord x t) m) + 0 ≡ num (is_this o t)
+    here e t None r = let y : (line_of x == line_of x) ≡ true = grind (arith, nat_tests) in rw (f t, e, y, mask-at c x, r) refl
+    here e t (Some u) r = let y : (line_of x == line_of x) ≡ true = grind (arith, nat_tests) in let d = dirty-line sh c x u h r in rw (f t, e, y, mask-at c x, r, d.1) (omega arith)
+
+    wrong : (t y : ℕ) (o : Option ℕ) → c.dirty x ≡ o → (o ≡ Some t → c.value x ≡ Some y) → num (((true && is_some o) && (dirty_tag c (line_of x) == t)) && not (get_or (dirty_words c (line_of x)) (place_of x) 0 == y)) ≡ 0
+    wrong t y None r q = refl
+    wrong t y (Some u) r q = tagged (u == t) refl
+      where
+        tagged : (b : Bool) → (u == t) ≡ b → num ((dirty_tag c (line_of x) == t) && not (get_or (dirty_words c (line_of x)) (place_of x) 0 == y)) ≡ 0
+        tagged false z = let d = dirty-line sh c x u h r in rw (d.1, z) refl
+        tagged true z = let w : u ≡ t = grind (arith, nat_tests) in let n : (y == y) ≡ true = grind (arith, nat_tests) in rw (value-at c x u y r (q (ap (λ i. Some i) w)), n) (never (dirty_tag c (line_of x) == t))
+          where
+            never : (b : Bool) → num (b && false) ≡ 0
+            never true = refl
+            never false = refl
+
+    right : (t y : ℕ) → (c.dirty x ≡ Some t → c.value x ≡ Some y) → (k ≡ line_of x) ⊎ (k ≡ line_of x → ⊥) → num (passes (CopyNot x t y) m) + 0 ≡ 0
+    right t y q (inr n) = let z : (k == line_of x) ≡ false = grind (arith, nat_tests) in rw (g t y, z) refl
+    right t y q (inl e) = let z : (line_of x == line_of x) ≡ true = grind (arith, nat_tests) in rw (g t y, e, z, mask-at c x) (omega (arith, wrong t y (c.dirty x) refl q))
+
+flush-leaves : (sh : Shape) (k x : ℕ) (c : Cache) → IsCache sh c → WordLeaves k x c (flush (dirty_copy c k))
+unfolding dirty_copy passes
+flush-leaves sh k x c h = go (is_dirty c k) refl
+  where
+    go : (b : Bool) → is_dirty c k ≡ b → WordLeaves k x c (flush (cond b (Some (record { line = k; mask = dirty_mask c k; words = dirty_words c k; tag = dirty_tag c k })) None))
+    go false q = leaves-none sh k x c h q
+    go true q = leaves-one sh k x c (Flush k (dirty_mask c k) (dirty_words c k) (dirty_tag c k)) h (λ t. refl) (λ t y. refl)
+
+back-leaves : (sh : Shape) (k x : ℕ) (c : Cache) → IsCache sh c → WordLeaves k x c (write_back (dirty_copy c k))
+unfolding dirty_copy passes
+back-leaves sh k x c h = go (is_dirty c k) refl
+  where
+    go : (b : Bool) → is_dirty c k ≡ b → WordLeaves k x c (write_back (cond b (Some (record { line = k; mask = dirty_mask c k; words = dirty_words c k; tag = dirty_tag c k })) None))
+    go false q = leaves-none sh k x c h q
+    go true q = leaves-one sh k x c (WriteBack k (dirty_mask c k) (dirty_words c k) (dirty_tag c k)) h (λ t. refl) (λ t y. refl)
+
+-- they go to the line's home
+at-home : (sh : Shape) (k x : ℕ) (c : Cache) (ms : List Msg) → WordLeaves k x c ms → WordLeaves k x c (to (Dir (home sh k)) ms (Dir (home sh (line_of x))))
+unfolding among
+at-home sh k x c ms h = go (home sh (line_of x) == home sh k) refl
+  where
+    go : (b : Bool) → (home sh (line_of x) == home sh k) ≡ b → WordLeaves k x c (if b then ms else [])
+    go true q = h
+    go false q = record { same = λ e. absurd (let y : (home sh (line_of x) == home sh k) ≡ true = rw e (grind (arith, nat_tests)) in cc); other = λ e t. refl; right = λ t y f. refl }
+
+pub flushed-words : (sh : Shape) (k x : ℕ) (c : Cache) → IsCache sh c → WordLeaves k x c (flushed sh c k (Dir (home sh (line_of x))))
+unfolding flushed
+flushed-words sh k x c h = at-home sh k x c (flush (dirty_copy c k)) (flush-leaves sh k x c h)
+
+pub back-home-words : (sh : Shape) (k x : ℕ) (c : Cache) → IsCache sh c → WordLeaves k x c (written_back sh c k (Dir (home sh (line_of x))))
+unfolding written_back
+back-home-words sh k x c h = at-home sh k x c (write_back (dirty_copy c k)) (back-leaves sh k x c h)
+
+-- the dirty words of line k are sent, and become clean
+pub word-sent : (sh : Shape) (k x : ℕ) (s : CoreState) (o : Out) → o.core.cache.dirty x ≡ (if k == line_of x then None else s.cache.dirty x) → ((k ≡ line_of x → ⊥) → o.core.cache.value x ≡ s.cache.value x) → WordLeaves k x s.cache (o.sends (Dir (home sh (line_of x)))) → WordCarried sh x s o
+word-sent sh k x s o e f h = go (k == line_of x) refl
+  where
+    go : (b : Bool) → (k == line_of x) ≡ b → WordCarried sh x s o
+    go true q = let d : o.core.cache.dirty x ≡ None = e ∙ rw q refl in let l : k ≡ line_of x = grind (arith, nat_tests) in record { copies = λ t. rw d (omega (arith, h.same l t)); framed = λ t r. absurd (let z = sym d ∙ r in cc); sent = h.right }
+    go false q = let d : o.core.cache.dirty x ≡ s.cache.dirty x = e ∙ rw q refl in let n : (k ≡ line_of x → ⊥) = λ l. (let z : (k == line_of x) ≡ true = grind (arith, nat_tests) in cc) in record { copies = λ t. rw d (omega (arith, h.other n t)); framed = λ t r. (sym d ∙ r, f n); sent = h.right }

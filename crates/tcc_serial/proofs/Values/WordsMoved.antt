@@ -4,16 +4,14 @@ use Rattle.tcc_serial.proofs.Names.{ap, sym, subst, ◌∙◌, nat_tests, Noted,
 use Rattle.tcc_serial.proofs.Names.{lines, World, in_flight, sent_all, Out, History, core_moves, core_takes, copies_with, CopyOf, CopyWord}
 use Rattle.tcc_serial.proofs.Names.{CopyNot, Invs, InvOf, InvsAway, live, among, passes, due, Pair, pair, share, after_move, grant_taken}
 use Rattle.tcc_serial.proofs.Names.{back_taken, is_this, SettledCommit, value_at, word_copies, CopiesHave}
-use Rattle.tcc_serial.proofs.Values.CoreWordsTakes.{WordBack, Carried, Lost}
+use Rattle.tcc_serial.proofs.Copies.TagsKept.{Invalidating, inv-tag-of}
 use Rattle.tcc_serial.proofs.Counts.Links.{live-sends, total-le}
-use Rattle.tcc_serial.proofs.Copies.LineTags.{Invalidating, inv-tag-of}
-use Rattle.tcc_serial.proofs.Counts.PairFrames.{AllPairs, pairs_move, pairs_grant, pairs_back}
+use Rattle.tcc_serial.proofs.Counts.StepCases.{AllPairs, pairs_move, pairs_grant, pairs_back}
 use Rattle.tcc_serial.proofs.Tids.TidSteps.{live-some}
-use Rattle.tcc_serial.proofs.Values.WordCopies.{few-copies, among-words, among-others}
-use Rattle.tcc_serial.proofs.Values.WordSends.{WordCarried, Carries}
-use Rattle.tcc_serial.proofs.Values.WordsAnswered.{Known}
-use Rattle.tcc_serial.proofs.Values.WordsSettled.{mask-inside}
-use Rattle.tcc_serial.proofs.Values.WordValues.{value_of, tag_of, KeptValues}
+use Rattle.tcc_serial.proofs.Values.CoreWordsTakes.{WordBack, Carried, Lost}
+use Rattle.tcc_serial.proofs.Values.HomesAnswered.{mask-inside}
+use Rattle.tcc_serial.proofs.Values.WordCopies.{few-copies, among-words, among-others, WordCarried, Carries}
+use Rattle.tcc_serial.proofs.Values.WordValues.{Known, value_of, tag_of, KeptValues}
 
 -- the word has as many copies with tag g, and each copy its value
 pub record Alike (x g : ℕ) (a b : Pair) : Type 0 where

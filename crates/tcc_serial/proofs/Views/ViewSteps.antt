@@ -7,16 +7,14 @@ use Rattle.tcc_serial.proofs.Names.{uses_executed, InvWord, live, Carried, Carri
 use Rattle.tcc_serial.proofs.Names.{may_commit, IsBound, is_applied, has_tid, opens, waits_for_tid, RequestOf, stores_word, is_below}
 use Rattle.tcc_serial.proofs.Names.{counts, value_at, dooms, UnmodifiedWords, Ways, commit, holds, replied}
 use Rattle.tcc_serial.proofs.OneCore.Outcomes.{Acts}
-use Rattle.tcc_serial.proofs.Serving.LastSteps.{grant-any}
-use Rattle.tcc_serial.proofs.Memory.MemoryHomes.{marks_at_homes}
-use Rattle.tcc_serial.proofs.Counts.PairFrames.{same, differ, either, pairs_move}
+use Rattle.tcc_serial.proofs.Serving.OwnerSteps.{grant-any}
+use Rattle.tcc_serial.proofs.Memory.MemorySends.{marks_at_homes}
+use Rattle.tcc_serial.proofs.Counts.StepCases.{same, differ, either, pairs_move, new_uses}
 use Rattle.tcc_serial.proofs.Values.ValueAt.{IsSilent, value-skip}
-use Rattle.tcc_serial.proofs.Views.ViewCases.{new_uses}
 use Rattle.tcc_serial.proofs.Views.ViewCores.{Keeps, Exec, Goes, Commits, exec-view, used-each, each-append, evict-view}
 use Rattle.tcc_serial.proofs.Views.ViewDirs.{AllNear}
-use Rattle.tcc_serial.proofs.Views.ViewFacts.{bound-own, open-served, served-unapplied, solo-holds, solo-undoomed, each-one}
+use Rattle.tcc_serial.proofs.Views.ViewFacts.{bound-own, open-served, served-unapplied, solo-holds, solo-undoomed, each-one, solo-value}
 use Rattle.tcc_serial.proofs.Views.ViewPairs.{NearAt, ViewOf, view-empty, view-moves}
-use Rattle.tcc_serial.proofs.Views.ViewValues.{solo-value}
 
 -- the views where one core's has changed
 

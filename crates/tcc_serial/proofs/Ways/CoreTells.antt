@@ -4,8 +4,7 @@ use Rattle.tcc_serial.proofs.Names.{refl, nat_tests, num, those, count_below, Di
 use Rattle.tcc_serial.proofs.Names.{Cache, writes_at, is_modified, Spilled, holds, spilled_mask, spilled_words, commit_sends, solo_sends}
 use Rattle.tcc_serial.proofs.Names.{solo_marks, solo_backs, solo_writes_at, is_written, written_mask, Kind, Skips, Aborts, Commits, among}
 use Rattle.tcc_serial.proofs.Names.{passes, Way, Untold, Skipped, Committed, told_by}
-use Rattle.tcc_serial.proofs.Counts.Links.{among-append}
-use Rattle.tcc_serial.proofs.Counts.Sent.{among-flat_map_none}
+use Rattle.tcc_serial.proofs.Counts.Links.{among-append, among-flat_map_none}
 use Rattle.tcc_serial.proofs.Ways.WayParts.{told-skip, told-commit}
 
 -- what it sends as it commits

@@ -8,13 +8,13 @@ use Rattle.tcc_serial.proofs.Names.{times, KeptOwners, pair, share, has_tid, ope
 use Rattle.tcc_serial.proofs.Names.{Committed, Ways, told_by, ways_after, sent_by, part_in, WayAt, KeptWays, stores_at, live_way, KeptLive}
 use Rattle.tcc_serial.proofs.Names.{commit_way, KeptCommitted}
 use Rattle.tcc_serial.proofs.Counts.Links.{total-le}
-use Rattle.tcc_serial.proofs.Ways.ByCore.{ByCore, Still, Moved, by_core}
-use Rattle.tcc_serial.proofs.Tids.ListedCommits.{inserted, positive-held, positive-committed}
 use Rattle.tcc_serial.proofs.Serving.CommitOwners.{CommitsNoted, noted-exec, noted-evict, noted-grant, noted-back}
 use Rattle.tcc_serial.proofs.Serving.OwnerSteps.{times-noted}
-use Rattle.tcc_serial.proofs.Ways.CoreSkips.{skips_here, Tells, TellsCommit, tells-exec, tells-evict, tells-grant, tells-back}
+use Rattle.tcc_serial.proofs.Tids.Commits.{inserted, positive-held, positive-committed}
 use Rattle.tcc_serial.proofs.Tids.CoreTids.{KeepsPart, part-exec, part-evict, part-grant, part-back}
 use Rattle.tcc_serial.proofs.Tids.TidSteps.{granted_waits, live-some}
+use Rattle.tcc_serial.proofs.Ways.ByCore.{ByCore, Still, Moved, by_core}
+use Rattle.tcc_serial.proofs.Ways.CoreSkips.{skips_here, Tells, TellsCommit, tells-exec, tells-evict, tells-grant, tells-back}
 use Rattle.tcc_serial.proofs.Ways.WayParts.{in-way, told-none, told-skip, told-nothing}
 
 -- what a core's rule says, and of which TIDs it speaks
@@ -69,11 +69,7 @@ live-cases (Ready u) true t h = inl (grind arith, refl)
 live-cases (Ready u) false t h = inr (grind arith, refl)
 live-cases (Overflowing (Some u)) b t h = inl (h, refl)
 live-cases (Solo u) b t h = inl (h, refl)
-live-cases (Overflowing None) b t h = absurd (cc)
-live-cases Running b t h = absurd (cc)
-live-cases AwaitTid b t h = absurd (cc)
-live-cases DoomedTid b t h = absurd (cc)
-live-cases Halted b t h = absurd (cc)
+live-cases _ b t h = absurd (cc)
 
 skips-live : (q : Phase) (b : Bool) (t : ℕ) → skips_here q b t ≡ true → (has_tid q t ≡ true) × (live_way q b ≡ Skipped)
 unfolding has_tid live_way
@@ -81,12 +77,7 @@ skips-live (Probing u) true t h = absurd (grind arith)
 skips-live (Probing u) false t h = (grind arith, refl)
 skips-live (Ready u) true t h = absurd (grind arith)
 skips-live (Ready u) false t h = (grind arith, refl)
-skips-live (Overflowing u) b t h = absurd (cc)
-skips-live (Solo u) b t h = absurd (cc)
-skips-live Running b t h = absurd (cc)
-skips-live AwaitTid b t h = absurd (cc)
-skips-live DoomedTid b t h = absurd (cc)
-skips-live Halted b t h = absurd (cc)
+skips-live _ b t h = absurd (cc)
 
 pub step-live-out : (sh : Shape) (gs hs : List Grant) (ys : Ways) (w : World) (cs ds : List Noted) (x : Sends) (o : Stepped) → KeptTids sh w → KeptOwners sh gs w cs → KeptWays sh ys w → KeptLive sh ys w → ByCore sh w (Speaks sh w) x o → KeptTids sh o.world → KeptOwners sh hs o.world ds → KeptWays sh (ways_after x ys) o.world → KeptLive sh (ways_after x ys) o.world
 unfolding part_in pair

@@ -8,14 +8,13 @@ use Rattle.tcc_serial.proofs.Names.{live, among, passes, Pair, pair, after_move,
 use Rattle.tcc_serial.proofs.Names.{after_grant, after_other_grant, share, opens, ResolvedAt, Kept, KeptTold, Way, Untold, Skipped, Aborted}
 use Rattle.tcc_serial.proofs.Names.{Committed, Ways, told_by, ways_after, sent_by, first_ways, part_in, kept_in, WayAt, KeptWays}
 use Rattle.tcc_serial.proofs.Counts.Links.{live-sends, live-takes, total-zero}
-use Rattle.tcc_serial.proofs.Counts.PairFrames.{same, differ, given, sum_move, sum_grant, sum_back, sum_back_away, sum_dir, sum_dir_away}
-use Rattle.tcc_serial.proofs.Counts.PairFrames.{sum_asks, sum_vendor}
-use Rattle.tcc_serial.proofs.Tids.CoreTids.{KeepsPart, part-exec, part-evict, part-grant, part-back}
-use Rattle.tcc_serial.proofs.Counts.StepCases.{OfAnswer, sent_cases}
-use Rattle.tcc_serial.proofs.Tids.TidSteps.{granted_waits}
+use Rattle.tcc_serial.proofs.Counts.StepCases.{same, differ, given, sum_move, sum_grant, sum_back, sum_back_away, sum_dir, sum_dir_away}
+use Rattle.tcc_serial.proofs.Counts.StepCases.{sum_asks, sum_vendor, OfAnswer, sent_cases}
 use Rattle.tcc_serial.proofs.Serving.KeptSteps.{core_of_grant, core_of_back, core_of_out, core_of_ask, once_at}
-use Rattle.tcc_serial.proofs.Ways.WayParts.{parts_in, resolved-split, gained, lost, told-moved, told-nothing}
+use Rattle.tcc_serial.proofs.Tids.CoreTids.{KeepsPart, part-exec, part-evict, part-grant, part-back}
+use Rattle.tcc_serial.proofs.Tids.TidSteps.{granted_waits}
 use Rattle.tcc_serial.proofs.Ways.DirWays.{Heard, HeardBy, heard-still, dir-heard}
+use Rattle.tcc_serial.proofs.Ways.WayParts.{parts_in, resolved-split, gained, lost, told-moved, told-nothing}
 
 -- a core's step
 
@@ -46,9 +45,7 @@ way-granted sh w c k u d t o y l i q r h = told-moved sh w (core_takes w Vendor 
 part-taken : (sh : Shape) (d t k : ℕ) (v : Pair) (z : Way) → part_in z sh d t (back_taken v k) ≡ part_in z sh d t v
 unfolding part_in
 part-taken sh d t k v Untold = refl
-part-taken sh d t k v Skipped = refl
-part-taken sh d t k v Aborted = refl
-part-taken sh d t k v Committed = refl
+part-taken sh d t k v _ = refl
 
 way-back : (sh : Shape) (w : World) (e c k d t : ℕ) (o : Out) (y : Way) → c < sh.cores → KeepsPart sh d t 0 (w.cores c) o → ResolvedAt sh w d t → WayAt sh w d t y → WayAt sh (core_takes w (Dir e) c k o) d t (told_by (o.sends (Dir d)) t y)
 unfolding core_takes pair
@@ -78,9 +75,7 @@ part-answered sh d t k m v s ms e Committed = omega (arith, live-takes (Commits 
 part-still : (sh : Shape) (d t : ℕ) (v : Pair) (s : DirState) (ms : List Msg) (z : Way) → part_in z sh d t (after_answer v s ms) ≡ part_in z sh d t v
 unfolding part_in
 part-still sh d t v s ms Untold = refl
-part-still sh d t v s ms Skipped = refl
-part-still sh d t v s ms Aborted = refl
-part-still sh d t v s ms Committed = refl
+part-still sh d t v s ms _ = refl
 
 -- what was on its way is kept now
 way-heard : (sh : Shape) (w v : World) (d t : ℕ) (m : Msg) (y : Way) → v.next ≡ w.next → ((z : Way) → parts_in z sh v d t + took m t z ≡ parts_in z sh w d t) → Heard (w.dirs d) m t (v.dirs d) → ResolvedAt sh w d t → ResolvedAt sh v d t → WayAt sh w d t y → WayAt sh v d t y
@@ -119,9 +114,8 @@ way-dir sh w c e k m s sends d t y l i u r z h = go (cases_eq d e)
 kept-same : (n : ℕ) (s new : DirState) (t : ℕ) (y : Way) → new.serving ≡ s.serving → new.owed ≡ s.owed → kept_in y n new t ≡ kept_in y n s t
 unfolding kept_in
 kept-same n s new t Untold e f = refl
-kept-same n s new t Skipped e f = rw e refl
-kept-same n s new t Aborted e f = rw e refl
 kept-same n s new t Committed e f = rw (e, f) refl
+kept-same n s new t _ e f = rw e refl
 
 way-asks : (sh : Shape) (w : World) (e : ℕ) (s : DirState) (sends : Sends) (d t : ℕ) (y : Way) → s.serving ≡ (w.dirs e).serving → s.owed ≡ (w.dirs e).owed → WayAt sh w d t y → WayAt sh (dir_asks w e s sends) d t y
 unfolding pair dir_asks
@@ -142,9 +136,7 @@ way-asks sh w e s sends d t y f g h = go (cases_eq d e)
 part-next : (sh : Shape) (d t : ℕ) (v : Pair) (z : Way) → part_in z sh d t (after_other_grant v) ≡ part_in z sh d t v
 unfolding part_in
 part-next sh d t v Untold = refl
-part-next sh d t v Skipped = refl
-part-next sh d t v Aborted = refl
-part-next sh d t v Committed = refl
+part-next sh d t v _ = refl
 
 -- what is on its way now, and was not granted before
 abbrev given_to : (next tid : ℕ) → Way → ℕ
@@ -154,9 +146,7 @@ given_to n t _ = 0
 part-given : (sh : Shape) (d t k : ℕ) (v : Pair) (z : Way) → part_in z sh d t (after_grant v k) + 0 ≡ part_in z sh d t v + given_to v.next t z
 unfolding part_in passes among
 part-given sh d t k v Untold = omega (arith, live-sends (Grants t) v.grants (TidGrant v.next ∷ []))
-part-given sh d t k v Skipped = refl
-part-given sh d t k v Aborted = refl
-part-given sh d t k v Committed = refl
+part-given sh d t k v _ = refl
 
 way-vendor : (sh : Shape) (w : World) (c k d t : ℕ) (y : Way) → c < sh.cores → WayAt sh w d t y → WayAt sh (vendor_gives w c k (given w c)) d t y
 unfolding pair vendor_gives kept_in

@@ -16,7 +16,7 @@ use Rattle.tcc_serial.proofs.Serving.DirProbes.{RisesBy, dir-rises}
 use Rattle.tcc_serial.proofs.OneCore.Executes.{Executed, Goes_on, Overflows, Asks_tid, Alone, did-executed}
 use Rattle.tcc_serial.proofs.OneCore.CoreSteps.{fill-steady, data-steady, invalidate-cases, Replied, Ignored, Probed, Left_alone}
 use Rattle.tcc_serial.proofs.OneCore.CoreSteps.{reply-cases, steady-emptied}
-use Rattle.tcc_serial.proofs.Tids.ListedCommits.{inserted}
+use Rattle.tcc_serial.proofs.Tids.Commits.{inserted}
 use Rattle.tcc_serial.proofs.Counts.StepCases.{OfAnswer, step_cases}
 use Rattle.tcc_serial.proofs.OneCore.Said.{quiet}
 use Rattle.tcc_serial.proofs.OneCore.Outcomes.{Commits_now, Did, each-exec, out, each-evict}
