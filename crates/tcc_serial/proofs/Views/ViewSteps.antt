@@ -1,15 +1,15 @@
 -- What a core does, and what the vendor grants, leaves every core's view near: each used word has its value, or it is doomed.
-use Rattle.tcc_serial.proofs.Names.{nat_tests, ℕ, ◌≡◌, ◌<◌, ◌≤◌, ◌⊎◌, ◌==◌, ◌&&◌, ◌||◌, Bool, true, false, List, [], ◌++◌, Option, Some}
-use Rattle.tcc_serial.proofs.Names.{None, IfSome, is_some, arith, refl, sym, subst, ◌∙◌, inl, inr, put, Noted, Program, num, line_of}
-use Rattle.tcc_serial.proofs.Names.{writes_at, Shape, home, CoreState, Phase, Running, AwaitTid, DoomedTid, Probing, Ready, Overflowing}
-use Rattle.tcc_serial.proofs.Names.{Solo, Halted, World, Out, core_exec, core_evict, History, core_moves, and_noted, insert_commit, Uses}
-use Rattle.tcc_serial.proofs.Names.{Views, uses_executed, InvWord, live, Carried, CarriedInMemory, Grant, holder, Pair, pair, after_move}
+use Rattle.tcc_serial.proofs.Names.{ℕ, ◌≡◌, ◌<◌, ◌≤◌, ◌⊎◌, ◌==◌, ◌&&◌, ◌||◌, Bool, true, false, List, [], ◌++◌, Option, Some, None}
+use Rattle.tcc_serial.proofs.Names.{IfSome, is_some, arith, refl, sym, subst, ◌∙◌, inl, inr, put, Noted, Program, num, line_of, writes_at}
+use Rattle.tcc_serial.proofs.Names.{Shape, home, CoreState, Phase, Running, AwaitTid, DoomedTid, Probing, Ready, Overflowing, Solo}
+use Rattle.tcc_serial.proofs.Names.{Halted, World, Out, core_exec, core_evict, History, core_moves, and_noted, insert_commit, Uses, Views}
+use Rattle.tcc_serial.proofs.Names.{uses_executed, InvWord, live, Carried, CarriedInMemory, Grant, holder, Pair, pair, after_move}
 use Rattle.tcc_serial.proofs.Names.{may_commit, IsBound, is_applied, has_tid, opens, waits_for_tid, RequestOf, stores_word, is_below}
-use Rattle.tcc_serial.proofs.Names.{counts, value_at, dooms, UnmodifiedWords, Ways}
-use Rattle.tcc_serial.proofs.Counts.StepCases.{same, differ, either, pairs_move, new_uses}
-use Rattle.tcc_serial.proofs.Memory.MemorySends.{marks_at_homes}
-use Rattle.tcc_serial.proofs.OneCore.Executes.{Acts}
+use Rattle.tcc_serial.proofs.Names.{counts, value_at, dooms, UnmodifiedWords, Ways, commit, holds, replied}
+use Rattle.tcc_serial.proofs.OneCore.Outcomes.{Acts}
 use Rattle.tcc_serial.proofs.Serving.OwnerSteps.{grant-any}
+use Rattle.tcc_serial.proofs.Memory.MemorySends.{marks_at_homes}
+use Rattle.tcc_serial.proofs.Counts.StepCases.{same, differ, either, pairs_move, new_uses}
 use Rattle.tcc_serial.proofs.Values.ValueAt.{IsSilent, value-skip}
 use Rattle.tcc_serial.proofs.Views.ViewCores.{Keeps, Exec, Goes, Commits, exec-view, used-each, each-append, evict-view}
 use Rattle.tcc_serial.proofs.Views.ViewDirs.{AllNear}
@@ -79,7 +79,15 @@ unapplied sh gs ys h k m c d t x cl dl ph e s = served-unapplied h.world d t (op
     commits (inr q) = rw q refl
 
     modified : (h.world.cores c).phase ≡ Ready t → (h.world.cores c).cache.modified x ≡ true
-    modified q = grind (arith, nat_tests)
+    modified q =
+        let a : (h.world.cores c).spilled x ≡ None = (k.marks_fit_the_phase c).spilled (rw q refl) x in
+        let o : ((h.world.cores c).cache.modified x || is_some ((h.world.cores c).spilled x)) ≡ true = k.stored_words_are_those_named c x ∙ s in
+        let n : is_some ((h.world.cores c).spilled x) ≡ false = rw a refl in
+        only ((h.world.cores c).cache.modified x) (is_some ((h.world.cores c).spilled x)) o n
+      where
+        only : (a b : Bool) → (a || b) ≡ true → b ≡ false → a ≡ true
+        only true b o n = refl
+        only false b o n = absurd (cc)
 
     opened : ((h.world.cores c).phase ≡ Ready t) ⊎ ((h.world.cores c).phase ≡ Solo t) → opens (h.world.cores c).phase (writes_at sh (h.world.cores c).cache d) t ≡ true
     opened (inl q) =
