@@ -266,12 +266,7 @@ reads-valid sh w c h k n q x r = go (w.cores c).phase refl
     go : (p : Phase) → s.phase ≡ p → is_some (s.cache.value x) ≡ true
     go Running e = valid e (k c (home sh (line_of x)) (home-below sh (line_of x) n) x refl r)
     go (Solo t) e = absurd (let y = h.words.unread_alone (rw e refl) x in cc)
-    go AwaitTid e = absurd (let y : acting AwaitTid ≡ true = rw e at q in cc)
-    go DoomedTid e = absurd (let y : acting DoomedTid ≡ true = rw e at q in cc)
-    go (Probing t) e = absurd (let y : acting (Probing t) ≡ true = rw e at q in cc)
-    go (Ready t) e = absurd (let y : acting (Ready t) ≡ true = rw e at q in cc)
-    go (Overflowing t) e = absurd (let y : acting (Overflowing t) ≡ true = rw e at q in cc)
-    go Halted e = absurd (let y : acting Halted ≡ true = rw e at q in cc)
+    go m e = absurd (let y : acting m ≡ true = rw e at q in cc)
 
 abbrev pub SharersAt : Shape → List Noted → (core dir : ℕ) → Pair → Type 0
 SharersAt sh cs c d v = (l : ℕ) → c < sh.cores → d < sh.dirs → l < lines sh → home sh l ≡ d → SharerOf sh.base cs c l v

@@ -207,17 +207,7 @@ marking-back sh e d t l s (ProbeReply u v) = marking-replied sh e u d t l s (pro
 marking-back sh e d t l s (Fill k ws) = marking-steady sh d t l s (fill k ws s) (fill-steady k ws s)
 marking-back sh e d t l s (DataReq k) = marking-steady sh d t l s (data_request sh k s) (data-steady sh k s)
 marking-back sh e d t l s (Inv k m u) = marking-hurt sh k d t l s (invalidate sh k m u s) (invalidate-cases sh k m u s)
-marking-back sh e d t l s TidReq = tt
-marking-back sh e d t l s (TidGrant u) = tt
-marking-back sh e d t l s (LoadReq k a) = tt
-marking-back sh e d t l s (Skip u) = tt
-marking-back sh e d t l s (Probe u) = tt
-marking-back sh e d t l s (Mark k m u) = tt
-marking-back sh e d t l s (Commit u n) = tt
-marking-back sh e d t l s (Abort u) = tt
-marking-back sh e d t l s (WriteBack k m ws u) = tt
-marking-back sh e d t l s (Flush k m ws u) = tt
-marking-back sh e d t l s (InvAck k b) = tt
+marking-back sh e d t l s _ = tt
 
 -- A grant: no Mark goes out, and only the TID that came is spoken of.
 pub record Granting (sh : Shape) (u d t l : ℕ) (o : Out) : Type 0 where
@@ -269,9 +259,4 @@ granting sh u d t l s w = go s.phase w
     go AwaitTid h = let f = told-grant sh s.cache u d t l in record { words = f.0; marks = f.1; owned = λ n. f.2 (other n); kept = λ x y. (tid-probing (any_below (is_probed sh s.cache) sh.dirs) u t y, quiet (probing (any_below (is_probed sh s.cache) sh.dirs) u) (is_probed sh s.cache d) x refl) }
     go DoomedTid h = let f = told-skip sh u d t l in record { words = f.0; marks = f.1; owned = λ n. f.2 (other n); kept = λ x y. absurd (cc) }
     go (Overflowing None) h = let f = told-probe sh u d t l in record { words = f.0; marks = f.1; owned = λ n. f.2; kept = λ x y. (same y, refl) }
-    go (Overflowing (Some v)) h = absurd (cc)
-    go Running h = absurd (cc)
-    go (Probing v) h = absurd (cc)
-    go (Ready v) h = absurd (cc)
-    go (Solo v) h = absurd (cc)
-    go Halted h = absurd (cc)
+    go _ h = absurd (cc)

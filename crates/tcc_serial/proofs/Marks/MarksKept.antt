@@ -10,7 +10,7 @@ use Rattle.tcc_serial.proofs.Names.{pair, share, after_answer, after_grant, afte
 use Rattle.tcc_serial.proofs.Names.{IfSome, set, append-nil, Program, Local, no_lines, TidReq, Event, start, core_start, dir_start, Sends}
 use Rattle.tcc_serial.proofs.Names.{core_exec, core_evict, from_dir, grant, Answer, Waits, Drops, Asks, Takes, dir_deliver, core_moves}
 use Rattle.tcc_serial.proofs.Names.{core_takes, dir_takes, dir_asks, step, granted_by, back_taken, Kept}
-use Rattle.tcc_serial.proofs.Counts.Links.{live-sends, live-takes, live-fewer, total-le}
+use Rattle.tcc_serial.proofs.Counts.Links.{live-sends, live-takes, live-fewer, total-le, none-taken}
 use Rattle.tcc_serial.proofs.Counts.StepCases.{same, pairs_move, pairs_grant, pairs_back, pairs_dir, pairs_asks, pairs_vendor, OfAnswer}
 use Rattle.tcc_serial.proofs.Counts.StepCases.{step_cases}
 use Rattle.tcc_serial.proofs.Marks.CoreMarking.{Marking, few, at-most-one, marking-exec, marking-evict}
@@ -178,13 +178,9 @@ marked-opens sh s d t l h m = go s.phase refl h m
     go : (q : Phase) → s.phase ≡ q → has_tid q t ≡ true → 1 ≤ num (has_marked q && (not (s.owing d) && stores_line sh s.cache d l)) → opens q (writes_at sh s.cache d) t ≡ true
     go (Probing u) e x y = rw (x, writes (stores_line sh s.cache d l) refl y) refl
     go (Ready u) e x y = rw (x, writes (stores_line sh s.cache d l) refl y) refl
-    go (Overflowing None) e x y = absurd (cc)
     go (Overflowing (Some u)) e x y = absurd (omega (arith, y))
     go (Solo u) e x y = absurd (omega (arith, y))
-    go Running e x y = absurd (cc)
-    go AwaitTid e x y = absurd (cc)
-    go DoomedTid e x y = absurd (cc)
-    go Halted e x y = absurd (cc)
+    go _ e x y = absurd (cc)
 
 -- what a directory's answer does to a pair: what is in flight to it is what was, but for m perhaps
 pub marks-answered : (sh : Shape) (gs : List Grant) (j d t l : ℕ) (v : Pair) (m : Msg) (s : DirState) (ms : List Msg) (k : Link) → Marked v.dir m s
@@ -266,11 +262,7 @@ pub taken-less : (k : ℕ) (x : Kind) (l : Link) (m : Msg) → slice_index_or l 
 taken-less k x l m i = omega (arith, live-takes x l k m i)
 
 pub empty-one : (l : Link) (k : ℕ) (m : Msg) → slice_index_or l k None ≡ Some m → live EmptyMarks l ≡ 0 → passes EmptyMarks m ≡ false
-empty-one l k m i z = go (passes EmptyMarks m) refl
-  where
-    go : (b : Bool) → passes EmptyMarks m ≡ b → passes EmptyMarks m ≡ false
-    go false q = q
-    go true q = let n : num (passes EmptyMarks m) ≡ 1 = ap num q in absurd (omega (arith, n, z, live-some EmptyMarks l k m i))
+empty-one l k m i z = none-taken EmptyMarks l k m i z
 
 is-resolve : (t : ℕ) (m : Msg) → num (passes (Skips t) m) ≤ num (passes AnyResolve m)
 unfolding passes

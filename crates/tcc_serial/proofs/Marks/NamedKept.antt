@@ -12,7 +12,7 @@ use Rattle.tcc_serial.proofs.Names.{pair, share, after_move, grant_taken, back_t
 use Rattle.tcc_serial.proofs.Names.{append-nil, Contains-append_cases, dir_asks, Any, Grant, granted_by, SparesCommitter, out_taken}
 use Rattle.tcc_serial.proofs.Names.{handled}
 use Rattle.tcc_rules.specs.DirDeliver.{commit}
-use Rattle.tcc_serial.proofs.Counts.Links.{among-append, among-flat_map_none, live-sends, live-takes, total-le, live-fewer}
+use Rattle.tcc_serial.proofs.Counts.Links.{among-append, among-flat_map_none, live-sends, live-takes, total-le, live-fewer, none-taken}
 use Rattle.tcc_serial.proofs.Counts.StepCases.{same, dir-own, dir-other, pairs_move, pairs_grant, pairs_back, pairs_dir, pairs_asks}
 use Rattle.tcc_serial.proofs.Counts.StepCases.{pairs_vendor, OfAnswer, step_cases, asks-own}
 use Rattle.tcc_serial.proofs.Marks.DirMarks.{Marked, Stays, Clears, Skipped, Marks as IsMarked, MarkedBy, dir-marked}
@@ -129,20 +129,7 @@ dir-names sh s c m = go m (dir-spares sh s c m)
   where
     go : (m : Msg) → SparesBy s c m (dir_deliver sh s c m) → NamesBy s m (dir_deliver sh s c m)
     go (Commit u n) h = names-of sh c u n s
-    go (Skip u) h = names-quiet s c (Skip u) _ refl h
-    go (Abort u) h = names-quiet s c (Abort u) _ refl h
-    go (Probe u) h = names-quiet s c (Probe u) _ refl h
-    go (LoadReq l a) h = names-quiet s c (LoadReq l a) _ refl h
-    go (Mark l k u) h = names-quiet s c (Mark l k u) _ refl h
-    go (InvAck l b) h = names-quiet s c (InvAck l b) _ refl h
-    go (WriteBack l k ws g) h = names-quiet s c (WriteBack l k ws g) _ refl h
-    go (Flush l k ws g) h = names-quiet s c (Flush l k ws g) _ refl h
-    go TidReq h = names-quiet s c TidReq _ refl h
-    go (TidGrant u) h = names-quiet s c (TidGrant u) _ refl h
-    go (Fill l ws) h = names-quiet s c (Fill l ws) _ refl h
-    go (ProbeReply u v) h = names-quiet s c (ProbeReply u v) _ refl h
-    go (DataReq l) h = names-quiet s c (DataReq l) _ refl h
-    go (Inv l k u) h = names-quiet s c (Inv l k u) _ refl h
+    go m h = names-quiet s c m _ refl h
 
 -- a core moves: so many acknowledgements as invalidations that it took
 named-moved : (l d got : ℕ) (v : Pair) (o : Out) (k : Link) → among (AckOf l) (o.sends (Dir d)) ≤ got → live (InvOf l) k + got ≤ live (InvOf l) v.back → live (InvMask l (v.dir.lines.mark l)) k ≤ live (InvMask l (v.dir.lines.mark l)) v.back → NamedOf l v → NamedOf l (after_move (record v { back = k }) o d)
@@ -243,11 +230,7 @@ away-back e d c l w m o n a h = let b : (d == e) ≡ false = grind (arith, nat_t
 
 pub passed-away : (sh : Shape) (w : World) (c e k : ℕ) (m : Msg) → KeptTold sh w → in_flight w.net (Dir e) (Core c) k ≡ Some m → passes (InvsAway sh.dirs e) m ≡ false
 unfolding pair
-passed-away sh w c e k m z i = go (passes (InvsAway sh.dirs e) m) refl
-  where
-    go : (b : Bool) → passes (InvsAway sh.dirs e) m ≡ b → passes (InvsAway sh.dirs e) m ≡ false
-    go false q = q
-    go true q = let n : num (passes (InvsAway sh.dirs e) m) ≡ 1 = ap num q in absurd (omega (arith, n, (z.owed.at_home c e).invs, live-some (InvsAway sh.dirs e) (w.net (Dir e) (Core c)) k m i))
+passed-away sh w c e k m z i = none-taken (InvsAway sh.dirs e) (w.net (Dir e) (Core c)) k m i ((z.owed.at_home c e).invs)
 
 pub step-named : (sh : Shape) (p : Program) (w : World) (e : Event) → Kept sh w → KeptCounted sh w → KeptNamed sh w → IfSome (step sh p w e) (λ o. KeptTold sh o.world → KeptNamed sh o.world)
 unfolding pair

@@ -8,7 +8,7 @@ use Rattle.tcc_serial.proofs.Names.{invs_to, line_words, core_moves, core_takes,
 use Rattle.tcc_serial.proofs.Names.{NoWord, live, among, passes, Kept, Pair, pair, after_answer, out_taken}
 use Rattle.tcc_serial.proofs.Counts.DirOutcome.{Outcome, Waiting, Spent, AsksOwner, TakesSkip, TakesAbort, TakesProbe, TakesLoad, TakesMark}
 use Rattle.tcc_serial.proofs.Counts.DirOutcome.{TakesCommit, TakesAck, TakesCopy, Wants, ToLoad, ToMark, outcome}
-use Rattle.tcc_serial.proofs.Counts.Links.{live-sends, live-takes}
+use Rattle.tcc_serial.proofs.Counts.Links.{live-sends, live-takes, none-taken}
 use Rattle.tcc_serial.proofs.Counts.StepCases.{pairs_move, pairs_grant, pairs_back, pairs_dir, pairs_asks, pairs_vendor, OfAnswer}
 use Rattle.tcc_serial.proofs.Counts.StepCases.{step_cases}
 use Rattle.tcc_serial.proofs.Memory.CoreHomes.{Homely, HomelyOut, homely-none, homely-those, homes-exec, homes-evict, homes-grant}
@@ -163,11 +163,7 @@ step-homes sh p w e z h = step_cases sh p w e (λ g o. KeptHomes sh o.world)
     home-lines c d = lines-of sh d (pair w c d) (h c d)
 
     passed : (c d k : ℕ) (m : Msg) → in_flight w.net (Core c) (Dir d) k ≡ Some m → passes (LinesAway sh.dirs d) m ≡ false
-    passed c d k m i = go (passes (LinesAway sh.dirs d) m) refl
-      where
-        go : (b : Bool) → passes (LinesAway sh.dirs d) m ≡ b → b ≡ false
-        go false q = refl
-        go true q = let n : num (passes (LinesAway sh.dirs d) m) ≡ 1 = ap num q in absurd (omega (arith, n, (h c d 0).out, live-some (LinesAway sh.dirs d) (w.net (Core c) (Dir d)) k m i))
+    passed c d k m i = none-taken (LinesAway sh.dirs d) (w.net (Core c) (Dir d)) k m i ((h c d 0).out)
 
     sent : (c d : ℕ) (o : Out) → HomelyOut sh o.sends → (l : ℕ) → HomeOf sh d l (record (pair w c d) { core = o.core; out = w.net (Core c) (Dir d) ++ sent_all (o.sends (Dir d)) })
     sent c d o a l = home-of sh d (record (pair w c d) { core = o.core; out = w.net (Core c) (Dir d) ++ sent_all (o.sends (Dir d)) }) (home-lines c d)

@@ -33,9 +33,7 @@ step-cores sh p w e k = step_cases sh p w e (λ g o. KeptCores sh o.world)
 
     answered : (c d i : ℕ) (a : Answer) → OfAnswer w c d i (λ v. KeptCores sh v) a
     answered c d i Waits = tt
-    answered c d i Drops = k
-    answered c d i (Asks s sends) = k
-    answered c d i (Takes s sends) = k
+    answered c d i _ = k
 
 pub start-cores : (sh : Shape) (entries : ℕ → Local) (ram : ℕ → ℕ) → KeptCores sh (start entries ram)
 unfolding start core_start empty_cache none_spilled

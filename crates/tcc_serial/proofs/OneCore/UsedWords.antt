@@ -152,9 +152,7 @@ follow_then base p here there a other al mh mt f agree = rw (f.same) (go a.outco
 
     go : (o : Outcome) → MatchOption (when_going base p a o) (when_going base p (record a { ram = f.ram }) o ≡ None) (λ b. Follows base here there b (when_going base p (record a { ram = f.ram }) o))
     go Goes = follow_step base p here there a f.ram (p.need a.local) apart mh mt (al a.local) (same_word base here there a f.ram (p.need a.local) apart agree)
-    go Ended = refl
-    go (Halted code) = refl
-    go (Trapped code) = refl
+    go _ = refl
 
 abbrev Following : (base : ℕ) (here there : ℕ → ℕ) → Option Attempt → Option Attempt → Type 0
 Following base here there one other = MatchOption one (other ≡ None) (λ a. Follows base here there a other)
@@ -196,9 +194,7 @@ then-memory base p (Some a) al m = go a.outcome
   where
     go : (o : Outcome) → IfSome (when_going base p a o) (λ b. IsMemory b.ram)
     go Goes = stepped-memory base p a (p.need a.local) m (al a.local)
-    go Ended = tt
-    go (Halted code) = tt
-    go (Trapped code) = tt
+    go _ = tt
 
 pub steps-memory : (base : ℕ) (p : Program) (n : ℕ) (a : Attempt) → Aligned p → IsMemory a.ram → IfSome (steps base p n a) (λ b. IsMemory b.ram)
 unfolding steps
@@ -266,9 +262,7 @@ then-names base p w used (Some a) n u = go a.outcome
 
     go : (o : Outcome) → IfSome (when_going base p a o) (λ b. (loads_word base b.loads w || stores_word base b.stores w) ≡ true)
     go Goes = named-stepped base p a (p.need a.local) w (weaker used (reads_word base (p.need a.local) w) (not (stores_whole base a.stores w)) n u)
-    go Ended = tt
-    go (Halted code) = tt
-    go (Trapped code) = tt
+    go _ = tt
 
 pub uses-named : (base : ℕ) (p : Program) (n : ℕ) (a : Attempt) (w : ℕ) → Names base w (uses base p n a w) (steps base p n a)
 unfolding uses steps

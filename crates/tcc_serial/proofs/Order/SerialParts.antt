@@ -186,9 +186,7 @@ then-holds base p x y (Some a) h = go a.outcome
   where
     go : (o : Outcome) → IfSome (when_going base p a o) (Holds base x y)
     go Goes = stepped-holds base p x y a (p.need a.local) h
-    go Ended = tt
-    go (HaltedWith code) = tt
-    go (TrappedWith code) = tt
+    go _ = tt
 
 pub steps-hold : (base : ℕ) (p : Program) (n : ℕ) (l : Local) (ram : ℕ → ℕ) (x : ℕ) → IfSome (steps base p n (begun l ram)) (Holds base x (ram x))
 unfolding steps begun after_stores
@@ -206,8 +204,7 @@ transaction-holds base p m core n x = go (m.cores core).ended (steps base p n (b
     go : (e : CoreEnd) (o : Option Attempt) → IfSome o (Holds base x (m.ram x)) → IfSome (if_runs e (close_if m core o)) (λ d. d.0.ram x ≡ after_stores base d.1.stores x (m.ram x))
     go Run None h = tt
     go Run (Some a) h = one a (end_of a.outcome) h
-    go (Halt k) o h = tt
-    go (Trap k) o h = tt
+    go _ o h = tt
 
 -- a word after the stores of all these commits
 unfoldable pub all_stores : (base x : ℕ) → List Noted → ℕ → ℕ

@@ -137,14 +137,10 @@ pub fits-aligned : (p : Program) → Fits p → Aligned p
 fits-aligned p f l = go (p.need l) (f l)
   where
     go : (n : Need) → NeedFits n → AlignedNeed n
-    go Nothing h = tt
     go (Loads a z) h = h
     go (Stores a z v) h = h.0
     go (Changes a g) h = h
-    go (Prints b) h = tt
-    go Ends h = tt
-    go (Halts k) h = tt
-    go (Traps k) h = tt
+    go _ h = tt
 
 -- in the phases in which a core commits
 abbrev pub May : (t : ℕ) → Phase → Type 0

@@ -215,13 +215,9 @@ idle_of sh s e t h k = go s.phase refl k
     go : (q : Phase) → s.phase ≡ q → has_tid q t ≡ true → ((s.phase ≡ Probing t) ⊎ (s.phase ≡ Overflowing (Some t))) ⊎ (s.owing e ≡ false)
     go (Probing u) g x = inl (inl (g ∙ ap Probing (same u x)))
     go (Overflowing (Some u)) g x = inl (inr (g ∙ ap (λ y. Overflowing (Some y)) (same u x)))
-    go (Overflowing None) g x = absurd (cc)
     go (Ready u) g x = inr (h.owing e (rw g refl))
     go (Solo u) g x = inr (h.owing e (rw g refl))
-    go Running g x = absurd (cc)
-    go AwaitTid g x = absurd (cc)
-    go DoomedTid g x = absurd (cc)
-    go Halted g x = absurd (cc)
+    go _ g x = absurd (cc)
 
 -- a directory answers
 probing-answered : (v : Pair) (s : DirState) (ms : List Msg) (d t : ℕ) → among (Replies t) ms ≡ 0 → ProbingOf d t v → ProbingOf d t (after_answer v s ms)
@@ -299,17 +295,7 @@ step-probing sh p gs w cs e z y x h = step_cases sh p w e (λ g o. KeptProbing o
     taken c d k (Fill l ws) i = quiet c d k (Fill l ws) _ i (no-reply_fill l ws) (unprobed-steady (w.cores c) (fill l ws (w.cores c)) (fill-steady l ws (w.cores c)))
     taken c d k (DataReq l) i = quiet c d k (DataReq l) _ i (no-reply_data l) (unprobed-steady (w.cores c) (data_request sh l (w.cores c)) (data-steady sh l (w.cores c)))
     taken c d k (Inv l m u) i = quiet c d k (Inv l m u) _ i (no-reply_inv l m u) (unprobed-hurt sh l (w.cores c) (invalidate sh l m u (w.cores c)) (invalidate-cases sh l m u (w.cores c)))
-    taken c d k TidReq i = tt
-    taken c d k (TidGrant u) i = tt
-    taken c d k (LoadReq l a) i = tt
-    taken c d k (Skip u) i = tt
-    taken c d k (Probe u) i = tt
-    taken c d k (Mark l m u) i = tt
-    taken c d k (Commit u n) i = tt
-    taken c d k (Abort u) i = tt
-    taken c d k (WriteBack l m ws u) i = tt
-    taken c d k (Flush l m ws u) i = tt
-    taken c d k (InvAck l b) i = tt
+    taken c d k _ i = tt
 
     dir : (c d k : ℕ) (m : Msg) (s : DirState) (sends : Sends) → in_flight w.net (Core c) (Dir d) k ≡ Some m → Replying m c sends → KeptProbing (dir_takes w c d k s sends)
     dir c d k m s sends i u = pairs_dir P w c d k s sends (λ t. probing-exchanged (pair w c d) s (sends (Core c)) d t k m i (u.own t) (h c d t)) (λ j n t. probing-answered (pair w j d) s (sends (Core j)) d t (u.others j t n) (h j d t)) h

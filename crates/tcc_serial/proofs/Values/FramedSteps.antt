@@ -225,19 +225,7 @@ step-held sh p entries ram gs ys views m h e u k held = node_cases sh p w e (λ 
         (dir_deliver sh (w.dirs d) c (LoadReq l a)) (dir-fills sh (w.dirs d) c (LoadReq l a)) (load-home c l a (w.dirs d))
     answered c d n (Commit t b) cl dl i = answered-commit sh ram w h.commits c d n (Commit t b) (k.carried_in_memory.commits_stay_in_memory) (k.carried.commit_is_on_its_way_or_applied) held (k.carried.commits_are_of_granted_tids.0) (k.carried.committing_tid_is_served) (k.carried.marks_sent_are_in_flight_or_handled.1) (k.carried.marks_sent_are_the_lines_stored.2) (k.carried.one_load_request_or_fill) (k.carried.holder_is_a_sharer) cl dl i (λ l. refl)
         (dir_deliver sh (w.dirs d) c (Commit t b)) (dir-fills sh (w.dirs d) c (Commit t b)) (commit-invalidates sh c t b (w.dirs d))
-    answered c d n TidReq cl dl i = quiet c d n TidReq i (λ t. refl) (λ l. refl)
-    answered c d n (TidGrant t) cl dl i = quiet c d n (TidGrant t) i (λ t. refl) (λ l. refl)
-    answered c d n (Fill l ws) cl dl i = quiet c d n (Fill l ws) i (λ t. refl) (λ l. refl)
-    answered c d n (Skip t) cl dl i = quiet c d n (Skip t) i (λ t. refl) (λ l. refl)
-    answered c d n (Probe t) cl dl i = quiet c d n (Probe t) i (λ t. refl) (λ l. refl)
-    answered c d n (ProbeReply t s) cl dl i = quiet c d n (ProbeReply t s) i (λ t. refl) (λ l. refl)
-    answered c d n (Mark l a t) cl dl i = quiet c d n (Mark l a t) i (λ t. refl) (λ l. refl)
-    answered c d n (Abort t) cl dl i = quiet c d n (Abort t) i (λ t. refl) (λ l. refl)
-    answered c d n (WriteBack l a ws t) cl dl i = quiet c d n (WriteBack l a ws t) i (λ t. refl) (λ l. refl)
-    answered c d n (Flush l a ws t) cl dl i = quiet c d n (Flush l a ws t) i (λ t. refl) (λ l. refl)
-    answered c d n (DataReq l) cl dl i = quiet c d n (DataReq l) i (λ t. refl) (λ l. refl)
-    answered c d n (Inv l a t) cl dl i = quiet c d n (Inv l a t) i (λ t. refl) (λ l. refl)
-    answered c d n (InvAck l b) cl dl i = quiet c d n (InvAck l b) i (λ t. refl) (λ l. refl)
+    answered c d n m cl dl i = quiet c d n m i (λ t. refl) (λ l. refl)
 
 -- in the list's terms
 held-all : (sh : Shape) (ram : ℕ → ℕ) (w : World) (cs : List Noted) → UnmodifiedWords sh ram w cs → FilledWords sh ram w cs → KeptHeld sh ram w cs

@@ -83,8 +83,7 @@ new-copies sh x d u y ram o v w m valid none s = record {
 
     modified : (b : Bool) (k : Option ℕ) → (b || is_some k) ≡ true → k ≡ None → b ≡ true
     modified true k e q = refl
-    modified false None e q = absurd (cc)
-    modified false (Some k) e q = absurd (cc)
+    modified false _ e q = absurd (cc)
 
     framed : (k : Option ℕ) → v.core.cache.value x ≡ k → v.core.spilled x ≡ None → k ≡ Some y
     framed None q z = absurd (let i = valid (modified (v.core.cache.modified x) (v.core.spilled x) m z) in let j : is_some (v.core.cache.value x) ≡ false = rw q refl in cc)

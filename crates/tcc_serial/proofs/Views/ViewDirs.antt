@@ -308,17 +308,10 @@ answered-views sh gs ys ram vs h c d k m y mem q near cl i = go m i
 
     go : (m : Msg) → in_flight h.world.net (Core c) (Dir d) k ≡ Some m → OfAnswer h.world c d k (NearAfter sh ram h.commits vs) (dir_deliver sh (h.world.dirs d) c m)
     go (Commit u n) i = commit-views sh gs ys ram vs h c d k u n y mem q near cl i
-    go (Skip u) i = plain (Skip u) i (λ t. refl)
-    go (Abort u) i = plain (Abort u) i (λ t. refl)
-    go (Probe u) i = plain (Probe u) i (λ t. refl)
-    go (LoadReq l a) i = plain (LoadReq l a) i (λ t. refl)
-    go (Mark l x u) i = plain (Mark l x u) i (λ t. refl)
-    go (InvAck l b) i = plain (InvAck l b) i (λ t. refl)
-    go (WriteBack l x ws g) i = plain (WriteBack l x ws g) i (λ t. refl)
-    go (Flush l x ws g) i = plain (Flush l x ws g) i (λ t. refl)
     go TidReq i = tt
     go (TidGrant u) i = tt
     go (Fill l ws) i = tt
     go (ProbeReply u v) i = tt
     go (DataReq l) i = tt
     go (Inv l x u) i = tt
+    go m i = plain m i (λ t. refl)

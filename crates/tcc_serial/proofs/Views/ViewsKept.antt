@@ -86,20 +86,7 @@ spares sh gs ys h k' c d k x y m b cl dl i v g s = go m i v
 
     go : (m : Msg) → in_flight h.world.net (Dir d) (Core c) k ≡ Some m → Spares (h.world.cores c) m → passes (dooms b x) m ≡ false
     go (Inv l n u) i v = spares-inv sh gs ys h k' c d k l n u x y b cl dl i v g s
-    go TidReq i v = other TidReq refl
-    go (TidGrant u) i v = other (TidGrant u) refl
-    go (LoadReq l a) i v = other (LoadReq l a) refl
-    go (Fill l ws) i v = other (Fill l ws) refl
-    go (Skip u) i v = other (Skip u) refl
-    go (Probe u) i v = other (Probe u) refl
-    go (ProbeReply u w) i v = other (ProbeReply u w) refl
-    go (Mark l n u) i v = other (Mark l n u) refl
-    go (Commit u n) i v = other (Commit u n) refl
-    go (Abort u) i v = other (Abort u) refl
-    go (WriteBack l n ws u) i v = other (WriteBack l n ws u) refl
-    go (Flush l n ws u) i v = other (Flush l n ws u) refl
-    go (DataReq l) i v = other (DataReq l) refl
-    go (InvAck l a) i v = other (InvAck l a) refl
+    go m i v = other m refl
 
 -- a message of a directory
 pub back-views : (sh : Shape) (gs : List Grant) (ys : Ways) (ram : ℕ → ℕ) (vs : Views) (h : History) → Carried sh gs ys h → AllSeen vs h.world → AllNear sh ram h.commits vs h.world → ((c : ℕ) → (h.world.cores c).phase ≡ DoomedTid → vs c ≡ []) → (c d k : ℕ) (m : Msg) → in_flight h.world.net (Dir d) (Core c) k ≡ Some m

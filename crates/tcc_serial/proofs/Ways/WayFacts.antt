@@ -133,10 +133,9 @@ kept-way sh w d t y r h k = go y h
     one = ap num k
 
     go : (y : Way) → WayAt sh w d t y → is_given_up y ≡ true
-    go Untold h = absurd (omega (arith, h, one, resolved-split sh w d t r))
     go Skipped h = refl
     go Aborted h = refl
-    go Committed h = absurd (omega (arith, h, one, resolved-split sh w d t r))
+    go _ h = absurd (omega (arith, h, one, resolved-split sh w d t r))
 
 pub passed-way : (sh : Shape) (w : World) (d t : ℕ) (y : Way) → ResolvedAt sh w d t → WayAt sh w d t y → t < (w.dirs d).serving.serving → (is_given_up y ≡ true) ⊎ ((y ≡ Committed) × (parts_in Committed sh w d t ≡ 0))
 unfolding kept_in
@@ -147,9 +146,8 @@ passed-way sh w d t y r h k = go y h
 
     go : (y : Way) → WayAt sh w d t y → (is_given_up y ≡ true) ⊎ ((y ≡ Committed) × (parts_in Committed sh w d t ≡ 0))
     go Untold h = absurd (omega (arith, h, one, resolved-split sh w d t r))
-    go Skipped h = inl refl
-    go Aborted h = inl refl
     go Committed h = inr (refl, omega (arith, h, one))
+    go _ h = inl refl
 
 owed-way : (sh : Shape) (w : World) (d t : ℕ) (y : Way) → ResolvedAt sh w d t → WayAt sh w d t y → (w.dirs d).serving.serving ≡ t → 1 ≤ (w.dirs d).owed → (y ≡ Committed) × (parts_in Committed sh w d t ≡ 0)
 unfolding kept_in
@@ -159,10 +157,8 @@ owed-way sh w d t y r h k o = go y h
     one = grind (arith, nat_tests)
 
     go : (y : Way) → WayAt sh w d t y → (y ≡ Committed) × (parts_in Committed sh w d t ≡ 0)
-    go Untold h = absurd (omega (arith, h, one, resolved-split sh w d t r))
-    go Skipped h = absurd (omega (arith, h, one, resolved-split sh w d t r))
-    go Aborted h = absurd (omega (arith, h, one, resolved-split sh w d t r))
     go Committed h = (refl, omega (arith, h, one))
+    go _ h = absurd (omega (arith, h, one, resolved-split sh w d t r))
 
 settled-way : (sh : Shape) (w : World) (d t : ℕ) → WayAt sh w d t Committed → parts_in Committed sh w d t ≡ 0 → (t < (w.dirs d).serving.serving) ⊎ (((w.dirs d).serving.serving ≡ t) × (1 ≤ (w.dirs d).owed))
 unfolding kept_in

@@ -112,18 +112,14 @@ in-way sh w d t y z r h l = go y z h l
 
     go : (y z : Way) → WayAt sh w d t y → 1 ≤ parts_in z sh w d t → y ≡ z
     go Untold Untold h l = refl
-    go Untold Skipped h l = absurd (omega (arith, h, l, was))
-    go Untold Aborted h l = absurd (omega (arith, h, l, was))
     go Untold Committed h l = absurd (omega (arith, h, l, was))
     go Skipped Untold h l = absurd (omega (arith, h, l, was))
     go Skipped Skipped h l = refl
-    go Skipped Aborted h l = absurd (omega (arith, h, l, was))
     go Skipped Committed h l = absurd (omega (arith, h, l, was))
     go Aborted Untold h l = absurd (omega (arith, h, l, was))
-    go Aborted Skipped h l = absurd (omega (arith, h, l, was))
     go Aborted Aborted h l = refl
     go Aborted Committed h l = absurd (omega (arith, h, l, was))
     go Committed Untold h l = absurd (omega (arith, h, l, was))
-    go Committed Skipped h l = absurd (omega (arith, h, l, was))
-    go Committed Aborted h l = absurd (omega (arith, h, l, was))
     go Committed Committed h l = refl
+    go _ Skipped h l = absurd (omega (arith, h, l, was))
+    go _ Aborted h l = absurd (omega (arith, h, l, was))

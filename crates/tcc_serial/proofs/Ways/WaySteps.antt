@@ -155,9 +155,7 @@ way-vendor sh w c k d t y l h = go y h
 
     go : (z : Way) → WayAt sh w d t z → WayAt sh (vendor_gives w c k (given w c)) d t z
     go Untold q = let b : num (nat_le w.next t) ≡ num (nat_le (w.next + 1) t) + num (w.next == t) = grind (arith, nat_tests) in omega (arith, q, sum Untold)
-    go Skipped q = omega (arith, q, sum Skipped)
-    go Aborted q = omega (arith, q, sum Aborted)
-    go Committed q = omega (arith, q, sum Committed)
+    go m q = omega (arith, q, sum m)
 
 -- every event
 pub step-ways : (sh : Shape) (p : Program) (ys : Ways) (w : World) (e : Event) → Kept sh w → KeptWays sh ys w → IfSome (step sh p w e) (λ o. KeptTold sh o.world → KeptWays sh (ways_after (sent_by sh p w e) ys) o.world)
