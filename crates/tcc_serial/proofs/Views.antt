@@ -1,5 +1,4 @@
 -- What a core sees at its bound: each used word has its value, or the attempt is doomed.
-pub mod ViewCases
 pub mod ViewFacts
 pub mod ViewCores
 pub mod ViewPairs

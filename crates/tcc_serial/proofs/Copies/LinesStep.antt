@@ -6,27 +6,27 @@ use Rattle.tcc_serial.proofs.Names.{Ways, wrote_line, ◌+◌, ◌&&◌, nat_lt,
 use Rattle.tcc_serial.proofs.Names.{dir_takes, dir_asks, CopyOf, after_answer, out_taken, is_applied, names_line, IfSome, Program, Vendor}
 use Rattle.tcc_serial.proofs.Names.{Event, core_exec, core_evict, from_dir, grant, Answer, Waits, Drops, Asks, Takes, dir_deliver}
 use Rattle.tcc_serial.proofs.Names.{core_moves, core_takes, and_noted, step, grant_taken, back_taken, after_grant, after_other_grant}
-use Rattle.tcc_serial.proofs.Serving.CommitSteps.{commits_served}
+use Rattle.tcc_serial.proofs.Copies.AnswerCopies.{Answered, none-passes, still-similar, dropped-similar, came-similar}
 use Rattle.tcc_serial.proofs.Copies.CopyRules.{BackStep, Kept, Invalidates, InMemory, copies-exec, copies-evict, copies-grant, copies-back}
+use Rattle.tcc_serial.proofs.Copies.CoreCopies.{Conserves}
 use Rattle.tcc_serial.proofs.Copies.DirCopies.{similar-copies, taken-copies}
 use Rattle.tcc_serial.proofs.Copies.LinesKept.{Before, CopiesAt, KeptLines, moved-lines}
+use Rattle.tcc_serial.proofs.Copies.PairCopies.{line_copies, LineCopies, copies-moved, copies-lost}
 use Rattle.tcc_serial.proofs.Copies.TagsKept.{Invalidating, inv-tag, tag-below, stored-home, stored-in, TakenCommit, taken-commit}
 use Rattle.tcc_serial.proofs.Copies.WroteLines.{on-its-way, wrote-listed, no-writer}
-use Rattle.tcc_serial.proofs.Copies.PairCopies.{line_copies, LineCopies, copies-moved, copies-lost}
-use Rattle.tcc_serial.proofs.Tids.TidSteps.{live-some}
-use Rattle.tcc_serial.proofs.Copies.AnswerCopies.{Answered, none-passes, still-similar, dropped-similar, came-similar}
-use Rattle.tcc_serial.proofs.Marks.OwesByCommit.{CountsMarked}
-use Rattle.tcc_serial.proofs.Marks.DirRecords.{Stays, Records, Still, Came, Settles, Dropped, RecordsBy, dir-records}
 use Rattle.tcc_serial.proofs.Counts.Links.{live-takes}
-use Rattle.tcc_serial.proofs.Tids.Commits.{positive-committed}
 use Rattle.tcc_serial.proofs.Counts.StepCases.{same, differ, pairs_dir, pairs_asks, pairs_grant, pairs_back, pairs_vendor, OfAnswer}
 use Rattle.tcc_serial.proofs.Counts.StepCases.{step_cases}
-use Rattle.tcc_serial.proofs.Serving.CommitOwners.{CommitsNoted, noted-exec, noted-evict, noted-grant, noted-back}
 use Rattle.tcc_serial.proofs.Marks.CoreAfter.{AfterStep, Stays as AfterStays, after-exec, after-evict, after-grant, after-back}
-use Rattle.tcc_serial.proofs.Copies.CoreCopies.{Conserves}
-use Rattle.tcc_serial.proofs.Ways.CoreSkips.{Tells, tells-exec, tells-evict}
-use Rattle.tcc_serial.proofs.Tids.CoreTids.{KeepsPart, part-exec, part-evict}
+use Rattle.tcc_serial.proofs.Marks.DirRecords.{Stays, Records, Still, Came, Settles, Dropped, RecordsBy, dir-records}
+use Rattle.tcc_serial.proofs.Marks.OwesByCommit.{CountsMarked}
+use Rattle.tcc_serial.proofs.Serving.CommitOwners.{CommitsNoted, noted-exec, noted-evict, noted-grant, noted-back}
+use Rattle.tcc_serial.proofs.Serving.CommitSteps.{commits_served}
 use Rattle.tcc_serial.proofs.Serving.KeptSteps.{core_of_back}
+use Rattle.tcc_serial.proofs.Tids.Commits.{positive-committed}
+use Rattle.tcc_serial.proofs.Tids.CoreTids.{KeepsPart, part-exec, part-evict}
+use Rattle.tcc_serial.proofs.Tids.TidSteps.{live-some}
+use Rattle.tcc_serial.proofs.Ways.CoreSkips.{Tells, tells-exec, tells-evict}
 use Rattle.tcc_serial.proofs.Ways.ToldSteps.{speaks}
 
 -- Every message that is taken keeps the copies of each line in memory.
@@ -178,7 +178,6 @@ answer-lines sh gs ys h c d k j l mine m s w b i z jl dl ll e a (Settles q g f n
     }) (b.lines j d l jl dl ll e)
 
 -- with the world's frames
-
 pub dir-lines : (sh : Shape) (gs : List Grant) (ys : Ways) (h : History) (c d k : ℕ) (m : Msg) (s : DirState) (sends : Sends) → Before sh gs ys h → in_flight h.world.net (Core c) (Dir d) k ≡ Some m → Records sh (h.world.dirs d) c m s → KeptLines sh h.commits (dir_takes h.world c d k s sends)
 unfolding pair
 dir-lines sh gs ys h c d k m s sends b i r = pairs_dir (CopiesAt sh h.commits) h.world c d k s sends

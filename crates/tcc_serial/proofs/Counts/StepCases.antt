@@ -1,13 +1,14 @@
 -- What is to be shown of a step, by the kind of its event, and what each kind does to the pairs of a core and a directory.
-use Rattle.tcc_serial.proofs.Names.{ℕ, ◌+◌, ◌≡◌, ◌<◌, Bool, true, false, List, [], ◌∷◌, ◌++◌, ◌==◌, ◌&&◌, arith, refl, ap, sym, subst, ◌∙◌}
-use Rattle.tcc_serial.proofs.Names.{◌⊎◌, inl, inr, nat_tests, cases_eq, Node, Core, Dir, Vendor, Msg, TidGrant, total, DirState, World}
-use Rattle.tcc_serial.proofs.Names.{Link, sent_all, to, Out, core_moves, core_takes, dir_takes, dir_asks, vendor_gives, Pair, pair}
+use Rattle.tcc_serial.proofs.Names.{DirState, from_dir, ℕ, ◌+◌, ◌≡◌, ◌<◌, Bool, true, false, List, [], ◌∷◌, ◌++◌, ◌==◌, ◌&&◌, arith, refl}
+use Rattle.tcc_serial.proofs.Names.{ap, sym, subst, ◌∙◌, ◌⊎◌, inl, inr, nat_tests, cases_eq, Node, Core, Dir, Vendor, Msg, TidGrant, total}
+use Rattle.tcc_serial.proofs.Names.{World, Link, sent_all, to, Out, core_moves, core_takes, dir_takes, dir_asks, vendor_gives, Pair, pair}
 use Rattle.tcc_serial.proofs.Names.{after_move, grant_taken, back_taken, after_answer, out_taken, after_grant, after_other_grant, share}
 use Rattle.tcc_serial.proofs.Names.{sum_of, Option, Some, None, IfSome, nat_lt, if◌then◌else◌, Program, Event, Exec, Evict, Deliver, TidReq}
 use Rattle.tcc_serial.proofs.Names.{LoadReq, Fill, Skip, Probe, ProbeReply, Mark, Commit, Abort, WriteBack, Flush, DataReq, Inv, InvAck}
-use Rattle.tcc_serial.proofs.Names.{Shape, in_flight, Sends, nothing, core_exec, core_evict, core_deliver, from_dir, grant, Answer, Waits}
-use Rattle.tcc_serial.proofs.Names.{Drops, Asks, Takes, dir_deliver, Stepped, step, moved, taken, answered, delivered, if_in_flight}
-use Rattle.tcc_serial.proofs.Names.{happens, names_nodes, is_node, Grant, grant_for, granted_by, sends_of, sends_for, sent_by}
+use Rattle.tcc_serial.proofs.Names.{Shape, in_flight, Sends, nothing, core_exec, core_evict, core_deliver, grant, Answer, Waits, Drops}
+use Rattle.tcc_serial.proofs.Names.{Asks, Takes, dir_deliver, Stepped, step, moved, taken, answered, delivered, if_in_flight, happens}
+use Rattle.tcc_serial.proofs.Names.{names_nodes, is_node, Grant, grant_for, granted_by, sends_of, sends_for, sent_by, Uses, used_by, Views}
+use Rattle.tcc_serial.proofs.Names.{uses_executed, uses_delivered, views_delivered, views_after, put}
 use Rattle.tcc_rules.specs.VendorDeliver.{Granted}
 use Rattle.tcc_serial.proofs.Counts.Links.{total-same, total-at, total-plus}
 
@@ -27,7 +28,6 @@ append-none [] = refl
 append-none (x ∷ l) = rw (append-none l) refl
 
 -- a core moves
-
 pub moves-own : (w : World) (c : ℕ) (o : Out) (d : ℕ) → pair (core_moves w c o) c d ≡ after_move (pair w c d) o d
 unfolding pair core_moves
 moves-own w c o d = rw (same c) refl
@@ -37,7 +37,6 @@ unfolding pair core_moves
 moves-other w c o j d h = rw (differ j c h) refl
 
 -- a core takes a grant
-
 grant-own : (w : World) (c k : ℕ) (o : Out) (d : ℕ) → pair (core_takes w Vendor c k o) c d ≡ after_move (grant_taken (pair w c d) k) o d
 unfolding pair core_takes
 grant-own w c k o d = rw (same c) refl
@@ -47,7 +46,6 @@ unfolding pair core_takes
 grant-other w c k o j d h = rw (differ j c h) refl
 
 -- a core takes a message of directory e
-
 pub back-own : (w : World) (c k : ℕ) (o : Out) (d : ℕ) → pair (core_takes w (Dir d) c k o) c d ≡ after_move (back_taken (pair w c d) k) o d
 unfolding pair core_takes
 back-own w c k o d = rw (same c) (rw (same d) refl)
@@ -61,7 +59,6 @@ unfolding pair core_takes
 back-other w e c k o j d h = rw (differ j c h) (rw (and-false (d == e)) refl)
 
 -- directory e takes a message of core c
-
 pub dir-own : (w : World) (c d k : ℕ) (s : DirState) (sends : Node → List Msg) → pair (dir_takes w c d k s sends) c d ≡ after_answer (out_taken (pair w c d) k) s (sends (Core c))
 unfolding pair dir_takes
 dir-own w c d k s sends = rw (same c) (rw (same d) refl)
@@ -97,13 +94,8 @@ unfolding pair vendor_gives sent_all
 vendor-other w c k j d h = rw (differ j c h) (rw (append-none (w.net Vendor (Core j))) refl)
 
 -- what holds of all pairs
-
 pub either : {A : Type 0} → (j c : ℕ) → (j ≡ c → A) → ((j ≡ c → ⊥) → A) → A
-either {A = A} j c f g = go (cases_eq j c)
-  where
-    go : (j ≡ c) ⊎ (j ≡ c → ⊥) → A
-    go (inl e) = f e
-    go (inr h) = g h
+either {A = A} j c f g = elim (cases_eq j c) [ inl e ↦ f e | inr h ↦ g h ]
 
 abbrev pub AllPairs : (ℕ → ℕ → Pair → Type 0) → World → Type 0
 AllPairs P w = (c d : ℕ) → P c d (pair w c d)
@@ -143,7 +135,6 @@ pairs_vendor P w c k own others j d = either j c
     (λ h. subst (P j d) (sym (vendor-other w c k j d h)) (others j d h))
 
 -- sums over the cores
-
 shares_at : (f : Pair → ℕ) (n : ℕ) (v w : World) (c d x y : ℕ) → c < n → f (pair v c d) + x ≡ f (pair w c d) + y → ((j : ℕ) → (j ≡ c → ⊥) → pair v j d ≡ pair w j d) → sum_of f n v d + x ≡ sum_of f n w d + y
 unfolding share
 shares_at f n v w c d x y l e others = omega (arith, total-at (share f v d) (share f w d) n c l (λ j h. ap f (others j h)))
@@ -208,7 +199,7 @@ pub step_answer : (w : World) (c d k : ℕ) (R : Stepped → Type 0) (a : Answer
 step_answer w c d k R Waits h = tt
 step_answer w c d k R _ h = h
 
-step_moved : (w : World) (c : ℕ) (R : Sends → Stepped → Type 0) (o : Option Out) → IfSome o (λ x. R x.sends (record { world = core_moves w c x; noted = x.commit })) → IfSome (moved w c o) (R (sends_of o))
+step_moved : (w : World) (c : ℕ) (R : Option Out → Stepped → Type 0) (o : Option Out) → IfSome o (λ x. R (Some x) (record { world = core_moves w c x; noted = x.commit })) → IfSome (moved w c o) (R o)
 step_moved w c R None h = tt
 step_moved w c R (Some x) h = h
 
@@ -216,97 +207,107 @@ step_taken : (w : World) (src : Node) (c k : ℕ) (R : Sends → Stepped → Typ
 step_taken w src c k R None h = tt
 step_taken w src c k R (Some x) h = h
 
--- each kind of event by itself; R takes what the event's core sends, what is granted, and the state after it
-pub node_cases : (sh : Shape) (p : Program) (w : World) (e : Event) (R : Sends → List Grant → Stepped → Type 0)
-    → ((c : ℕ) → c < sh.cores → IfSome (core_exec sh p c (w.cores c)) (λ o. R o.sends [] (record { world = core_moves w c o; noted = o.commit })))
-    → ((c x y : ℕ) → c < sh.cores → IfSome (core_evict sh x y (w.cores c)) (λ o. R o.sends [] (record { world = core_moves w c o; noted = o.commit })))
-    → ((c k t : ℕ) → in_flight w.net Vendor (Core c) k ≡ Some (TidGrant t) → R (grant sh t (w.cores c)).sends [] (record { world = core_takes w Vendor c k (grant sh t (w.cores c)); noted = (grant sh t (w.cores c)).commit }))
-    → ((c d k : ℕ) (m : Msg) → in_flight w.net (Dir d) (Core c) k ≡ Some m → IfSome (from_dir sh d (w.cores c) m) (λ o. R o.sends [] (record { world = core_takes w (Dir d) c k o; noted = o.commit })))
-    → ((c d k : ℕ) (m : Msg) → c < sh.cores → d < sh.dirs → in_flight w.net (Core c) (Dir d) k ≡ Some m → OfAnswer w c d k (λ v. R nothing [] (record { world = v; noted = None })) (dir_deliver sh (w.dirs d) c m))
-    → ((c k : ℕ) → in_flight w.net (Core c) Vendor k ≡ Some TidReq → R nothing (record { tid = w.next; core = c } ∷ []) (record { world = vendor_gives w c k (given w c); noted = None }))
-    → IfSome (step sh p w e) (R (sent_by sh p w e) (granted_by w e))
+-- the words that a core's instruction adds to its view
+abbrev pub new_uses : Shape → Program → World → ℕ → Uses
+new_uses sh p w c = used_by sh.base (w.cores c) (p.need (w.cores c).local)
+
+-- what a directory's answers have to give: with the nodes of the machine, and without
+abbrev pub Answering : Shape → World → (World → Type 0) → Type 0
+Answering sh w R = (c d k : ℕ) (m : Msg) → c < sh.cores → d < sh.dirs → in_flight w.net (Core c) (Dir d) k ≡ Some m → OfAnswer w c d k R (dir_deliver sh (w.dirs d) c m)
+
+abbrev pub AnsweringAll : Shape → World → (World → Type 0) → Type 0
+AnsweringAll sh w R = (c d k : ℕ) (m : Msg) → in_flight w.net (Core c) (Dir d) k ≡ Some m → OfAnswer w c d k R (dir_deliver sh (w.dirs d) c m)
+
+-- G from each kind of event by itself; R takes the views after it, what the event's core sends, what is granted, and the state after it
+abbrev pub FromEvents : Shape → Program → World → Views → (Views → Sends → List Grant → Stepped → Type 0) → ((World → Type 0) → Type 0) → Type 0 → Type 0
+FromEvents sh p w vs R Dirs G = ((c : ℕ) → c < sh.cores → IfSome (core_exec sh p c (w.cores c)) (λ o. R (put vs c (uses_executed (Some o) (vs c) (new_uses sh p w c))) o.sends [] (record { world = core_moves w c o; noted = o.commit })))
+    → ((c x y : ℕ) → c < sh.cores → IfSome (core_evict sh x y (w.cores c)) (λ o. R vs o.sends [] (record { world = core_moves w c o; noted = o.commit })))
+    → ((c k t : ℕ) → in_flight w.net Vendor (Core c) k ≡ Some (TidGrant t) → R (put vs c (vs c)) (grant sh t (w.cores c)).sends [] (record { world = core_takes w Vendor c k (grant sh t (w.cores c)); noted = (grant sh t (w.cores c)).commit }))
+    → ((c d k : ℕ) (m : Msg) → in_flight w.net (Dir d) (Core c) k ≡ Some m → IfSome (from_dir sh d (w.cores c) m) (λ o. R (put vs c (uses_delivered (w.cores c) m (vs c))) o.sends [] (record { world = core_takes w (Dir d) c k o; noted = o.commit })))
+    → Dirs (λ v. R vs nothing [] (record { world = v; noted = None }))
+    → ((c k : ℕ) → in_flight w.net (Core c) Vendor k ≡ Some TidReq → R vs nothing (record { tid = w.next; core = c } ∷ []) (record { world = vendor_gives w c k (given w c); noted = None }))
+    → G
+
+pub event_cases : (sh : Shape) (p : Program) (w : World) (vs : Views) (e : Event) (R : Views → Sends → List Grant → Stepped → Type 0) → FromEvents sh p w vs R (Answering sh w) (IfSome (step sh p w e) (R (views_after sh p w e vs) (sent_by sh p w e) (granted_by w e)))
 unfolding step happens names_nodes core_deliver
-node_cases sh p w (Exec c) R ex ev gr fr di ve = go (nat_lt c sh.cores) refl
+event_cases sh p w vs (Exec c) R ex ev gr fr di ve = go (nat_lt c sh.cores) refl
   where
-    go : (b : Bool) → nat_lt c sh.cores ≡ b → IfSome (if b then moved w c (core_exec sh p c (w.cores c)) else None) (R (sends_of (core_exec sh p c (w.cores c))) [])
+    T : Option Out → Stepped → Type 0
+    T o = R (put vs c (uses_executed o (vs c) (new_uses sh p w c))) (sends_of o) []
+
+    go : (b : Bool) → nat_lt c sh.cores ≡ b → IfSome (if b then moved w c (core_exec sh p c (w.cores c)) else None) (T (core_exec sh p c (w.cores c)))
     go false q = tt
-    go true q = step_moved w c (λ x. R x []) (core_exec sh p c (w.cores c)) (ex c (grind (arith, nat_tests)))
-node_cases sh p w (Evict c x y) R ex ev gr fr di ve = go (nat_lt c sh.cores) refl (nat_lt x sh.sets && nat_lt y sh.ways)
+    go true q = step_moved w c T (core_exec sh p c (w.cores c)) (ex c (grind (arith, nat_tests)))
+event_cases sh p w vs (Evict c x y) R ex ev gr fr di ve = go (nat_lt c sh.cores) refl (nat_lt x sh.sets && nat_lt y sh.ways)
   where
-    go : (b : Bool) → nat_lt c sh.cores ≡ b → (d : Bool) → IfSome (if b && d then moved w c (core_evict sh x y (w.cores c)) else None) (R (sends_of (core_evict sh x y (w.cores c))) [])
-    go false q d = tt
+    go : (b : Bool) → nat_lt c sh.cores ≡ b → (d : Bool) → IfSome (if b && d then moved w c (core_evict sh x y (w.cores c)) else None) (R vs (sends_of (core_evict sh x y (w.cores c))) [])
+    go true q true = step_moved w c (λ o. R vs (sends_of o) []) (core_evict sh x y (w.cores c)) (ev c x y (grind (arith, nat_tests)))
     go true q false = tt
-    go true q true = step_moved w c (λ x. R x []) (core_evict sh x y (w.cores c)) (ev c x y (grind (arith, nat_tests)))
-node_cases sh p w (Deliver src dst k) R ex ev gr fr di ve = guarded (is_node sh src && is_node sh dst) refl
+    go false q d = tt
+event_cases sh p w vs (Deliver src dst k) R ex ev gr fr di ve = guarded (is_node sh src && is_node sh dst) refl
   where
-    vendor_core : (c : ℕ) (m : Msg) → in_flight w.net Vendor (Core c) k ≡ Some m → IfSome (delivered sh w Vendor (Core c) k m) (R (sends_for sh (w.cores c) Vendor (Some m)) [])
+    vendor_core : (c : ℕ) (m : Msg) → in_flight w.net Vendor (Core c) k ≡ Some m → IfSome (delivered sh w Vendor (Core c) k m) (R (put vs c (uses_delivered (w.cores c) m (vs c))) (sends_for sh (w.cores c) Vendor (Some m)) [])
     vendor_core c (TidGrant t) q = gr c k t q
-    vendor_core c TidReq q = tt
-    vendor_core c (LoadReq l a) q = tt
-    vendor_core c (Fill l ws) q = tt
-    vendor_core c (Skip t) q = tt
-    vendor_core c (Probe t) q = tt
-    vendor_core c (ProbeReply t s) q = tt
-    vendor_core c (Mark l m t) q = tt
-    vendor_core c (Commit t n) q = tt
-    vendor_core c (Abort t) q = tt
-    vendor_core c (WriteBack l m ws t) q = tt
-    vendor_core c (Flush l m ws t) q = tt
-    vendor_core c (DataReq l) q = tt
-    vendor_core c (Inv l m t) q = tt
-    vendor_core c (InvAck l b) q = tt
+    vendor_core c _ q = tt
 
-    core_vendor : (c : ℕ) (m : Msg) → in_flight w.net (Core c) Vendor k ≡ Some m → IfSome (delivered sh w (Core c) Vendor k m) (R nothing (grant_for w.next c (Some m)))
+    core_vendor : (c : ℕ) (m : Msg) → in_flight w.net (Core c) Vendor k ≡ Some m → IfSome (delivered sh w (Core c) Vendor k m) (R vs nothing (grant_for w.next c (Some m)))
     core_vendor c TidReq q = ve c k q
-    core_vendor c (TidGrant t) q = tt
-    core_vendor c (LoadReq l a) q = tt
-    core_vendor c (Fill l ws) q = tt
-    core_vendor c (Skip t) q = tt
-    core_vendor c (Probe t) q = tt
-    core_vendor c (ProbeReply t s) q = tt
-    core_vendor c (Mark l m t) q = tt
-    core_vendor c (Commit t n) q = tt
-    core_vendor c (Abort t) q = tt
-    core_vendor c (WriteBack l m ws t) q = tt
-    core_vendor c (Flush l m ws t) q = tt
-    core_vendor c (DataReq l) q = tt
-    core_vendor c (Inv l m t) q = tt
-    core_vendor c (InvAck l b) q = tt
+    core_vendor c _ q = tt
 
-    go : (src dst : Node) (x : Option Msg) → (is_node sh src && is_node sh dst) ≡ true → in_flight w.net src dst k ≡ x → IfSome (if_in_flight sh w src dst k x) (R (sent_by sh p w (Deliver src dst k)) (granted_by w (Deliver src dst k)))
+    go : (src dst : Node) (x : Option Msg) → (is_node sh src && is_node sh dst) ≡ true → in_flight w.net src dst k ≡ x → IfSome (if_in_flight sh w src dst k x) (R (views_after sh p w (Deliver src dst k) vs) (sent_by sh p w (Deliver src dst k)) (granted_by w (Deliver src dst k)))
     go src dst None n q = tt
-    go (Core c) (Core e) (Some m) n q = tt
-    go (Dir d) (Core c) (Some m) n q = rw q (step_taken w (Dir d) c k (λ x. R x []) (from_dir sh d (w.cores c) m) (fr c d k m q))
+    go (Dir d) (Core c) (Some m) n q = rw q (step_taken w (Dir d) c k (λ x. R (put vs c (uses_delivered (w.cores c) m (vs c))) x []) (from_dir sh d (w.cores c) m) (fr c d k m q))
     go Vendor (Core c) (Some m) n q = rw q (vendor_core c m q)
-    go (Core c) (Dir d) (Some m) n q = step_answer w c d k (R nothing []) (dir_deliver sh (w.dirs d) c m) (di c d k m (grind (arith, nat_tests)) (grind (arith, nat_tests)) q)
-    go (Dir e) (Dir d) (Some m) n q = tt
-    go Vendor (Dir d) (Some m) n q = tt
+    go (Core c) (Dir d) (Some m) n q = step_answer w c d k (R vs nothing []) (dir_deliver sh (w.dirs d) c m) (di c d k m (grind (arith, nat_tests)) (grind (arith, nat_tests)) q)
     go (Core c) Vendor (Some m) n q = rw q (core_vendor c m q)
-    go (Dir d) Vendor (Some m) n q = tt
-    go Vendor Vendor (Some m) n q = tt
+    go src dst x n q = tt
 
-    guarded : (b : Bool) → (is_node sh src && is_node sh dst) ≡ b → IfSome (if b then if_in_flight sh w src dst k (in_flight w.net src dst k) else None) (R (sent_by sh p w (Deliver src dst k)) (granted_by w (Deliver src dst k)))
+    guarded : (b : Bool) → (is_node sh src && is_node sh dst) ≡ b → IfSome (if b then if_in_flight sh w src dst k (in_flight w.net src dst k) else None) (R (views_after sh p w (Deliver src dst k) vs) (sent_by sh p w (Deliver src dst k)) (granted_by w (Deliver src dst k)))
     guarded false n = tt
     guarded true n = go src dst (in_flight w.net src dst k) n refl
 
--- the same where the node that a directory hears doesn't matter
-pub sent_cases : (sh : Shape) (p : Program) (w : World) (e : Event) (R : Sends → List Grant → Stepped → Type 0)
-    → ((c : ℕ) → c < sh.cores → IfSome (core_exec sh p c (w.cores c)) (λ o. R o.sends [] (record { world = core_moves w c o; noted = o.commit })))
-    → ((c x y : ℕ) → c < sh.cores → IfSome (core_evict sh x y (w.cores c)) (λ o. R o.sends [] (record { world = core_moves w c o; noted = o.commit })))
-    → ((c k t : ℕ) → in_flight w.net Vendor (Core c) k ≡ Some (TidGrant t) → R (grant sh t (w.cores c)).sends [] (record { world = core_takes w Vendor c k (grant sh t (w.cores c)); noted = (grant sh t (w.cores c)).commit }))
-    → ((c d k : ℕ) (m : Msg) → in_flight w.net (Dir d) (Core c) k ≡ Some m → IfSome (from_dir sh d (w.cores c) m) (λ o. R o.sends [] (record { world = core_takes w (Dir d) c k o; noted = o.commit })))
-    → ((c d k : ℕ) (m : Msg) → in_flight w.net (Core c) (Dir d) k ≡ Some m → OfAnswer w c d k (λ v. R nothing [] (record { world = v; noted = None })) (dir_deliver sh (w.dirs d) c m))
-    → ((c k : ℕ) → in_flight w.net (Core c) Vendor k ≡ Some TidReq → R nothing (record { tid = w.next; core = c } ∷ []) (record { world = vendor_gives w c k (given w c); noted = None }))
-    → IfSome (step sh p w e) (R (sent_by sh p w e) (granted_by w e))
+-- the same where the views don't matter
+pub node_cases : (sh : Shape) (p : Program) (w : World) (e : Event) (R : Sends → List Grant → Stepped → Type 0) → FromEvents sh p w (λ c. []) (λ v. R) (Answering sh w) (IfSome (step sh p w e) (R (sent_by sh p w e) (granted_by w e)))
+node_cases sh p w e R = event_cases sh p w (λ c. []) e (λ v. R)
+
+-- nor the node that a directory hears
+pub sent_cases : (sh : Shape) (p : Program) (w : World) (e : Event) (R : Sends → List Grant → Stepped → Type 0) → FromEvents sh p w (λ c. []) (λ v. R) (AnsweringAll sh w) (IfSome (step sh p w e) (R (sent_by sh p w e) (granted_by w e)))
 sent_cases sh p w e R ex ev gr fr di ve = node_cases sh p w e R ex ev gr fr (λ c d k m a b i. di c d k m i) ve
 
--- the same where what is sent doesn't matter
-pub step_cases : (sh : Shape) (p : Program) (w : World) (e : Event) (R : List Grant → Stepped → Type 0)
-    → ((c : ℕ) → c < sh.cores → IfSome (core_exec sh p c (w.cores c)) (λ o. R [] (record { world = core_moves w c o; noted = o.commit })))
-    → ((c x y : ℕ) → c < sh.cores → IfSome (core_evict sh x y (w.cores c)) (λ o. R [] (record { world = core_moves w c o; noted = o.commit })))
-    → ((c k t : ℕ) → in_flight w.net Vendor (Core c) k ≡ Some (TidGrant t) → R [] (record { world = core_takes w Vendor c k (grant sh t (w.cores c)); noted = (grant sh t (w.cores c)).commit }))
-    → ((c d k : ℕ) (m : Msg) → in_flight w.net (Dir d) (Core c) k ≡ Some m → IfSome (from_dir sh d (w.cores c) m) (λ o. R [] (record { world = core_takes w (Dir d) c k o; noted = o.commit })))
-    → ((c d k : ℕ) (m : Msg) → in_flight w.net (Core c) (Dir d) k ≡ Some m → OfAnswer w c d k (λ v. R [] (record { world = v; noted = None })) (dir_deliver sh (w.dirs d) c m))
-    → ((c k : ℕ) → in_flight w.net (Core c) Vendor k ≡ Some TidReq → R (record { tid = w.next; core = c } ∷ []) (record { world = vendor_gives w c k (given w c); noted = None }))
-    → IfSome (step sh p w e) (R (granted_by w e))
+-- nor what is sent
+pub step_cases : (sh : Shape) (p : Program) (w : World) (e : Event) (R : List Grant → Stepped → Type 0) → FromEvents sh p w (λ c. []) (λ v x. R) (AnsweringAll sh w) (IfSome (step sh p w e) (R (granted_by w e)))
 step_cases sh p w e R = sent_cases sh p w e (λ x. R)
+
+-- what holds of each directory, where each answer leaves it so
+abbrev pub Leaves : (DirState → Type 0) → Answer → Type 0
+Leaves P (Asks new sends) = P new
+Leaves P (Takes new sends) = P new
+Leaves P _ = Unit {0}
+
+pub dirs_step : (sh : Shape) (p : Program) (w : World) (e : Event) (P : DirState → Type 0) → ((d : ℕ) → P (w.dirs d)) → ((c d k : ℕ) (m : Msg) → in_flight w.net (Core c) (Dir d) k ≡ Some m → Leaves P (dir_deliver sh (w.dirs d) c m)) → IfSome (step sh p w e) (λ o. (d : ℕ) → P (o.world.dirs d))
+unfolding core_moves core_takes dir_takes dir_asks vendor_gives
+dirs_step sh p w e P h f = step_cases sh p w e (λ g o. (d : ℕ) → P (o.world.dirs d))
+    (λ c l. moved c (core_exec sh p c (w.cores c)))
+    (λ c x y l. moved c (core_evict sh x y (w.cores c)))
+    (λ c k t i. h)
+    (λ c d k m i. taken c d k (from_dir sh d (w.cores c) m))
+    (λ c d k m i. answered c d k (dir_deliver sh (w.dirs d) c m) (f c d k m i))
+    (λ c k i. h)
+  where
+    moved : (c : ℕ) (q : Option Out) → IfSome q (λ o. (d : ℕ) → P ((core_moves w c o).dirs d))
+    moved c None = tt
+    moved c (Some o) = h
+
+    taken : (c d k : ℕ) (q : Option Out) → IfSome q (λ o. (x : ℕ) → P ((core_takes w (Dir d) c k o).dirs x))
+    taken c d k None = tt
+    taken c d k (Some o) = h
+
+    at : (s : DirState) (x : ℕ) → P s → (b : Bool) → P (if b then s else w.dirs x)
+    at s x u true = u
+    at s x u false = h x
+
+    answered : (c d k : ℕ) (a : Answer) → Leaves P a → OfAnswer w c d k (λ v. (x : ℕ) → P (v.dirs x)) a
+    answered c d k Waits u = tt
+    answered c d k Drops u = λ x. at (w.dirs d) x (h d) (x == d)
+    answered c d k (Asks s sends) u = λ x. at s x u (x == d)
+    answered c d k (Takes s sends) u = λ x. at s x u (x == d)

@@ -7,14 +7,14 @@ use Rattle.tcc_serial.proofs.Names.{start, dir_start, in_flight, Sends, Out, cor
 use Rattle.tcc_serial.proofs.Names.{Waits, Drops, Asks, Takes, dir_deliver, core_moves, core_takes, dir_takes, dir_asks, vendor_gives}
 use Rattle.tcc_serial.proofs.Names.{and_noted, step, GetsOf, KeptGets, CopyOf, DataOf, live, among, passes, Pair, pair, after_move}
 use Rattle.tcc_serial.proofs.Names.{back_taken, out_taken, after_answer, is_this}
-use Rattle.tcc_serial.proofs.Lines.DirGets.{StaysAsked, GetsBy, dir-gets}
-use Rattle.tcc_serial.proofs.Marks.DirRecords.{RecordsBy, dir-records}
 use Rattle.tcc_serial.proofs.Copies.DirtyFrames.{frame_copy, clean-frame, in-line}
 use Rattle.tcc_serial.proofs.Copies.LinesKept.{KeptLines}
-use Rattle.tcc_serial.proofs.Counts.Links.{live-sends, live-takes}
 use Rattle.tcc_serial.proofs.Copies.PairCopies.{LineCopies, of-line}
+use Rattle.tcc_serial.proofs.Counts.Links.{live-sends, live-takes}
 use Rattle.tcc_serial.proofs.Counts.StepCases.{given, back-own, pairs_move, pairs_grant, pairs_back, pairs_dir, pairs_asks, pairs_vendor}
 use Rattle.tcc_serial.proofs.Counts.StepCases.{OfAnswer, step_cases}
+use Rattle.tcc_serial.proofs.Lines.DirGets.{StaysAsked, GetsBy, dir-gets}
+use Rattle.tcc_serial.proofs.Marks.DirRecords.{RecordsBy, dir-records}
 
 abbrev pub GetsAt : Shape → (core dir : ℕ) → Pair → Type 0
 GetsAt sh c d v = (l : ℕ) → c < sh.cores → d < sh.dirs → l < lines sh → home sh l ≡ d → GetsOf c l v

@@ -10,19 +10,19 @@ use Rattle.tcc_serial.proofs.Names.{in_flight, Sends, core_exec, core_evict, fro
 use Rattle.tcc_serial.proofs.Names.{dir_deliver, core_moves, core_takes, dir_takes, dir_asks, step, Acks, KeptMarks, KeptCounted, KeptCores}
 use Rattle.tcc_serial.proofs.Names.{awaits_replies, KeptOwners, back_taken, after_grant, after_other_grant, may_commit, Kept, KeptTold}
 use Rattle.tcc_serial.proofs.Counts.Links.{live-sends, total-same, total-plus, total-le, live-fewer, live-takes}
-use Rattle.tcc_serial.proofs.Marks.CoreMarking.{Marking, marking-exec, marking-evict}
+use Rattle.tcc_serial.proofs.Counts.StepCases.{dir-own, dir-other, asks-own, pairs_move, pairs_grant, pairs_back, pairs_dir, pairs_asks}
+use Rattle.tcc_serial.proofs.Counts.StepCases.{pairs_vendor, OfAnswer, step_cases}
 use Rattle.tcc_serial.proofs.Marks.CoreCounts.{Counts, CountsAll, total-num, few-any, counts-exec, counts-evict, counts-grant, counts-back}
+use Rattle.tcc_serial.proofs.Marks.CoreMarking.{Marking, marking-exec, marking-evict}
+use Rattle.tcc_serial.proofs.Marks.CoreMarkingTakes.{marking-back, granting}
 use Rattle.tcc_serial.proofs.Marks.DirMarks.{Marked, Stays, MarkedBy, dir-marked}
 use Rattle.tcc_serial.proofs.Marks.MarksKept.{holds, kinds, open-untold, taken-less, empty-one, skip-unmarked, only-there, no-request}
 use Rattle.tcc_serial.proofs.Marks.MarksKept.{no-empty, taken-back as back-marks}
-use Rattle.tcc_serial.proofs.Counts.StepCases.{dir-own, dir-other, asks-own, pairs_move, pairs_grant, pairs_back, pairs_dir, pairs_asks}
-use Rattle.tcc_serial.proofs.Counts.StepCases.{pairs_vendor, OfAnswer, step_cases}
-use Rattle.tcc_serial.proofs.Tids.TidSteps.{granted_waits, live-some}
+use Rattle.tcc_serial.proofs.Marks.OwesByCommit.{CountsMarked, OwesBy, dir-owes}
+use Rattle.tcc_serial.proofs.Serving.DirDue.{Due, DueBy, dir-due, still-due}
 use Rattle.tcc_serial.proofs.Serving.KeptSteps.{core_of_back, core_of_out, once_at, marks_home, acks_owed}
 use Rattle.tcc_serial.proofs.Tids.Commits.{granted-once}
-use Rattle.tcc_serial.proofs.Serving.DirDue.{Due, DueBy, dir-due, still-due}
-use Rattle.tcc_serial.proofs.Marks.CoreMarkingTakes.{marking-back, granting}
-use Rattle.tcc_serial.proofs.Marks.OwesByCommit.{CountsMarked, OwesBy, dir-owes}
+use Rattle.tcc_serial.proofs.Tids.TidSteps.{granted_waits, live-some}
 
 -- How each kind of event keeps that a Commit counts its Marks, between a core and a directory.
 one-resolve : (t n : ℕ) (m : Msg) → num (passes (CommitOf t n) m) ≤ num (passes (Resolves t) m)
@@ -136,11 +136,7 @@ told-ahead sh w c d t k l x h = go (cases_lt t (w.dirs d).serving.serving)
         absurd (omega (arith, h, b, k.resolved d t x, total-le (share (part sh d t) w d) sh.cores c l))
 
 below-one : (sh : Shape) (n t l : ℕ) (v : Pair) → CountsMarks sh n t v → marks_of t l v ≤ 1
-below-one sh n t l v h = go (nat_lt l (lines sh)) refl
-  where
-    go : (b : Bool) → nat_lt l (lines sh) ≡ b → marks_of t l v ≤ 1
-    go true q = let z : num (nat_lt l (lines sh)) ≡ 1 = ap num q in omega (arith, z, h.each l)
-    go false q = let z : num (nat_lt l (lines sh)) ≡ 0 = ap num q in omega (arith, z, h.each l)
+below-one sh n t l v h = grind (arith, nat_tests)
 
 -- what a directory's answer does to a pair
 pub counted-answered : (sh : Shape) (gs : List Grant) (j d t : ℕ) (v : Pair) (m : Msg) (s : DirState) (ms : List Msg) (k : Link) → Marked v.dir m s

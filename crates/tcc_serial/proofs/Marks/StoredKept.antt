@@ -11,30 +11,29 @@ use Rattle.tcc_serial.proofs.Names.{Drops, Asks, Takes, dir_deliver, core_moves,
 use Rattle.tcc_serial.proofs.Names.{KeptCounted, KeptMarks, KeptMasks, KeptCores, KeptOwners, pair, back_taken, after_grant}
 use Rattle.tcc_serial.proofs.Names.{after_other_grant, KeptStored, Kept, KeptTold}
 use Rattle.tcc_serial.proofs.Counts.Links.{live-sends, num-few, live-takes}
-use Rattle.tcc_serial.proofs.Serving.CommitOwners.{few-of}
-use Rattle.tcc_serial.proofs.Serving.CommitSteps.{ofs-resolve}
-use Rattle.tcc_serial.proofs.Marks.CoreMarking.{Marking, marking-exec, marking-evict}
-use Rattle.tcc_serial.proofs.Marks.CoreMasks.{few-masked, passes-masked}
-use Rattle.tcc_serial.proofs.Marks.CommitMasks.{Storing, StoresAll, storing-exec, storing-evict, storing-back}
-use Rattle.tcc_serial.proofs.Marks.DirMarks.{Marked, Stays, MarkedBy, dir-marked}
-use Rattle.tcc_serial.proofs.Marks.CountsKept.{none-sent, marks-stay, told-ahead, is-commit, none-away}
-use Rattle.tcc_serial.proofs.Marks.MasksKept.{wrong-few, wrong-falls, masked-there}
 use Rattle.tcc_serial.proofs.Counts.StepCases.{dir-own, dir-other, asks-own, pairs_move, pairs_grant, pairs_back, pairs_dir, pairs_asks}
 use Rattle.tcc_serial.proofs.Counts.StepCases.{pairs_vendor, OfAnswer, step_cases}
-use Rattle.tcc_serial.proofs.Tids.TidSteps.{granted_waits, live-some}
-use Rattle.tcc_serial.proofs.Serving.KeptSteps.{core_of_back, core_of_out, once_at, marks_home, acks_owed}
-use Rattle.tcc_serial.proofs.Serving.DirDue.{Due, DueBy, dir-due, still-due}
-use Rattle.tcc_serial.proofs.Marks.CoreMarkingTakes.{marking-back, granting}
+use Rattle.tcc_serial.proofs.Marks.CommitMasks.{Storing, StoresAll, storing-exec, storing-evict, storing-back}
 use Rattle.tcc_serial.proofs.Marks.CoreCounts.{counts-grant}
-use Rattle.tcc_serial.proofs.Marks.OwesByCommit.{CountsMarked, OwesBy, dir-owes}
+use Rattle.tcc_serial.proofs.Marks.CoreMarking.{Marking, marking-exec, marking-evict}
+use Rattle.tcc_serial.proofs.Marks.CoreMarkingTakes.{marking-back, granting}
+use Rattle.tcc_serial.proofs.Marks.CoreMasks.{few-masked, passes-masked}
+use Rattle.tcc_serial.proofs.Marks.CountsKept.{none-sent, marks-stay, told-ahead, is-commit, none-away}
+use Rattle.tcc_serial.proofs.Marks.DirMarks.{Marked, Stays, MarkedBy, dir-marked}
 use Rattle.tcc_serial.proofs.Marks.MarksKept.{open-untold, taken-less, empty-one, skip-unmarked, only-there, no-request, no-empty}
 use Rattle.tcc_serial.proofs.Marks.MarksKept.{taken-back as back-marks}
+use Rattle.tcc_serial.proofs.Marks.MasksKept.{wrong-few, wrong-falls, masked-there}
 use Rattle.tcc_serial.proofs.Marks.NamedKept.{marks-same}
+use Rattle.tcc_serial.proofs.Marks.OwesByCommit.{CountsMarked, OwesBy, dir-owes}
+use Rattle.tcc_serial.proofs.Serving.CommitOwners.{few-of}
+use Rattle.tcc_serial.proofs.Serving.CommitSteps.{ofs-resolve}
+use Rattle.tcc_serial.proofs.Serving.DirDue.{Due, DueBy, dir-due, still-due}
+use Rattle.tcc_serial.proofs.Serving.KeptSteps.{core_of_back, core_of_out, once_at, marks_home, acks_owed}
+use Rattle.tcc_serial.proofs.Tids.TidSteps.{granted_waits, live-some}
 
 -- How each kind of event keeps, between a core and a directory, that a Commit in flight is of a commit that stored what was marked.
 
 -- a further commit in the list
-
 insert-has : (n : Noted) (cs : List Noted) → Contains (insert_commit n cs) n
 unfolding insert_commit
 insert-has n [] = (0, omega arith, refl)
@@ -142,7 +141,6 @@ stored-granted sh cs c d t k v o f z h = record {
     h' = stored-more sh cs o.commit c d t v h
 
 -- a directory answers
-
 pub stored-answered : (sh : Shape) (gs : List Grant) (cs : List Noted) (j d t : ℕ) (v : Pair) (m : Msg) (s : DirState) (ms : List Msg) (k : Link) → Marked v.dir m s
     → ((x : Kind) → live x k ≤ live x v.out)
     → ((l : ℕ) → Contains gs (record { tid = t; core = j }) → live (MarkOf t l) k + num (passes (MarkOf t l) m) ≡ live (MarkOf t l) v.out)
@@ -182,11 +180,7 @@ taken-marks l q v z h = is (v.dir.serving.serving == v.dir.serving.serving) (gri
   where
     is : (b : Bool) → b ≡ true → num (b && has_mark v.dir.lines l) ≡ num (nat_lt 0 q) → num (b && (has_mark v.dir.lines l && not (v.dir.lines.mark l == q))) ≡ 0 → v.dir.lines.mark l ≡ q
     is false e x y = absurd (cc)
-    is true e x y = go (cases_eq (v.dir.lines.mark l) q)
-      where
-        go : (v.dir.lines.mark l ≡ q) ⊎ (v.dir.lines.mark l ≡ q → ⊥) → v.dir.lines.mark l ≡ q
-        go (inl i) = i
-        go (inr n) = absurd (grind (arith, nat_tests))
+    is true e x y = elim (cases_eq (v.dir.lines.mark l) q) [ inl i ↦ i | inr n ↦ absurd (grind (arith, nat_tests)) ]
 
 pub one-commit : (u n : ℕ) (m : Msg) → num (passes (CommitOf u n) m) ≤ num (passes (Commits u) m)
 unfolding passes

@@ -12,11 +12,11 @@ use Rattle.tcc_serial.proofs.Names.{dir_deliver, in_flight, sent_all, Sends, cor
 use Rattle.tcc_serial.proofs.Names.{KeptCores, Pair, pair, ◌∷◌, Contains, ◌⊎◌, inl, inr, subst, Noted, empty_cache, core_start, dir_asks}
 use Rattle.tcc_serial.proofs.Names.{vendor_gives, Stepped, History, and_noted, recorded, next, and_then, run_from, run, StaysInMemory}
 use Rattle.tcc_serial.proofs.Names.{AccessesInMemory, CommitsInMemory, first_state}
-use Rattle.tcc_serial.proofs.Memory.CoreInMemory.{CoreInMemory, OutInMemory, same-memory, nothing-used, CoresInMemory, exec-memory}
 use Rattle.tcc_serial.proofs.Counts.Links.{live-sends, live-takes}
-use Rattle.tcc_serial.proofs.Memory.MemorySends.{SendsInMemory, exec-sends, evict-sends, grant-sent, back-sends}
 use Rattle.tcc_serial.proofs.Counts.StepCases.{pairs_move, pairs_grant, pairs_back, pairs_dir, pairs_asks, pairs_vendor, OfAnswer}
 use Rattle.tcc_serial.proofs.Counts.StepCases.{step_cases}
+use Rattle.tcc_serial.proofs.Memory.CoreInMemory.{CoreInMemory, OutInMemory, same-memory, nothing-used, CoresInMemory, exec-memory}
+use Rattle.tcc_serial.proofs.Memory.MemorySends.{SendsInMemory, exec-sends, evict-sends, grant-sent, back-sends}
 use Rattle.tcc_serial.proofs.OneCore.CoreAlone.{step-cores, start-cores}
 use Rattle.tcc_serial.proofs.Tids.Commits.{inserted}
 
@@ -53,12 +53,7 @@ grant-memory sh u s k = go s.phase
     go AwaitTid = (same-memory sh s _ refl refl refl k, tt)
     go DoomedTid = (same-memory sh s _ refl refl refl k, tt)
     go (Overflowing None) = (same-memory sh s _ refl refl refl k, tt)
-    go (Overflowing (Some v)) = (k, tt)
-    go Running = (k, tt)
-    go (Probing v) = (k, tt)
-    go (Ready v) = (k, tt)
-    go (Solo v) = (k, tt)
-    go Halted = (k, tt)
+    go _ = (k, tt)
 
 reply-memory : (sh : Shape) (d u : ℕ) (s : CoreState) → CoreInMemory sh s → OutInMemory sh (probe_reply sh d u s)
 unfolding probe_reply read_cleared
@@ -83,13 +78,7 @@ reply-memory sh d u s k = go s.phase
     go : (q : Phase) → OutInMemory sh (reply_phase sh d u s q)
     go (Probing v) = probed (v == u && s.owing d)
     go (Overflowing (Some v)) = over (v == u && s.owing d)
-    go (Overflowing None) = (k, tt)
-    go Running = (k, tt)
-    go AwaitTid = (k, tt)
-    go DoomedTid = (k, tt)
-    go (Ready v) = (k, tt)
-    go (Solo v) = (k, tt)
-    go Halted = (k, tt)
+    go _ = (k, tt)
 
 -- a Fill gives a frame its words and places none
 fill-memory : (sh : Shape) (l : ℕ) (ws : List ℕ) (s : CoreState) → CoreInMemory sh s → OutInMemory sh (fill l ws s)
@@ -225,9 +214,7 @@ step-memory sh p w e i k = step_cases sh p w e (λ g o. StepInMemory sh o)
 
     answered : (c d n : ℕ) (a : Answer) → OfAnswer w c d n (λ v. StepInMemory sh (record { world = v; noted = None })) a
     answered c d n Waits = tt
-    answered c d n Drops = (k, tt)
-    answered c d n (Asks s sends) = (k, tt)
-    answered c d n (Takes s sends) = (k, tt)
+    answered c d n _ = (k, tt)
 
 noted-memory : (sh : Shape) (a : Option Noted) (cs : List Noted) → IfSome a (λ n. AccessesInMemory sh n.loads n.stores) → CommitsInMemory sh cs → CommitsInMemory sh (and_noted a cs)
 noted-memory sh None cs a k = k

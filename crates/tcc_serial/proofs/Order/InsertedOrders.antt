@@ -6,8 +6,8 @@ use Rattle.tcc_serial.proofs.Names.{transaction, Order, commit_of, and_commit, a
 use Rattle.tcc_serial.proofs.Names.{IsMemory, Follows, AgreeOnUsed, commits_store, commits_touch, orders_core, Again, ◌<◌, ◌++◌, ap}
 use Rattle.tcc_serial.proofs.Names.{last_tid, IsBelow, Inserted, CanInsert}
 use Rattle.tcc_base.specs.declared.access.Commit.{Commit}
-use Rattle.tcc_program.specs.Plain.{Halted, close}
 use Rattle.tcc_program.proofs.Lemmas.{serial-append}
+use Rattle.tcc_program.specs.Plain.{Halted, close}
 use Rattle.tcc_serial.proofs.OneCore.UsedWords.{steps_follow, steps-memory, uses-named}
 
 -- The same orders from another machine that agrees on the cores and words that they touch.
@@ -97,7 +97,6 @@ transaction_twice base p here there core n al mh mt e = rw e (run_twice base p h
     (follows_named base p n (here.cores core).local here.ram there.ram al mh mt)))
 
 -- the orders from two machines
-
 pub commits_touch-store : (base : ℕ) (cs : List Commit) (w : ℕ) → commits_touch base cs w ≡ false → commits_store base cs w ≡ false
 unfolding commits_touch commits_store
 commits_touch-store base [] w h = refl

@@ -13,15 +13,15 @@ use Rattle.tcc_serial.proofs.Names.{IfSome, if◌then◌else◌, Core, Dir, Vend
 use Rattle.tcc_serial.proofs.Names.{from_dir, grant, Answer, Waits, Drops, Asks, Takes, dir_deliver, Stepped, and_noted, recorded, next}
 use Rattle.tcc_serial.proofs.Names.{step, core_moves, core_takes, dir_takes, dir_asks, vendor_gives, CommitsSerial, CoreSerial, CoresSerial}
 use Rattle.tcc_serial.proofs.Names.{IsSerial, EventsKeepSerial}
+use Rattle.tcc_serial.proofs.Counts.StepCases.{given, OfAnswer, step_cases}
+use Rattle.tcc_serial.proofs.Memory.MemorySends.{accesses_at_homes, marks_at_homes}
 use Rattle.tcc_serial.proofs.OneCore.CoreCloses.{Gives, Closing, Leaves, Stays, Closes, exec-leaves}
+use Rattle.tcc_serial.proofs.OneCore.CoreStays.{Rests, evict-rests, grant-rests, back-rests}
+use Rattle.tcc_serial.proofs.Order.InsertedOrders.{order_inserted, put-same, serial_again, serial-memory}
 use Rattle.tcc_serial.proofs.Order.SerialParts.{before, behind, cut-inserted, behind-below, before-smaller, last-below, SerialCut}
 use Rattle.tcc_serial.proofs.Order.SerialParts.{home-below, agrees-before, cut-joined, Each, each-listed, each-behind, each-both, each-then}
 use Rattle.tcc_serial.proofs.Order.SerialParts.{behind-larger, orders-another, touch-none, serial-cut, serial-holds, all_stores}
-use Rattle.tcc_serial.proofs.Order.InsertedOrders.{order_inserted, put-same, serial_again, serial-memory}
 use Rattle.tcc_serial.proofs.Tids.Commits.{numbered-least, granted-at}
-use Rattle.tcc_serial.proofs.Memory.MemorySends.{accesses_at_homes, marks_at_homes}
-use Rattle.tcc_serial.proofs.OneCore.CoreStays.{Rests, evict-rests, grant-rests, back-rests}
-use Rattle.tcc_serial.proofs.Counts.StepCases.{given, OfAnswer, step_cases}
 
 -- The transaction of a core that commits, inserted into the serial execution at its TID.
 
@@ -137,17 +137,12 @@ pub fits-aligned : (p : Program) → Fits p → Aligned p
 fits-aligned p f l = go (p.need l) (f l)
   where
     go : (n : Need) → NeedFits n → AlignedNeed n
-    go Nothing h = tt
     go (Loads a z) h = h
     go (Stores a z v) h = h.0
     go (Changes a g) h = h
-    go (Prints b) h = tt
-    go Ends h = tt
-    go (Halts k) h = tt
-    go (Traps k) h = tt
+    go _ h = tt
 
 -- in the phases in which a core commits
-
 abbrev pub May : (t : ℕ) → Phase → Type 0
 May t q = (q ≡ Ready t) ⊎ (q ≡ Solo t)
 
@@ -228,17 +223,7 @@ stand sh p entries ram gs ys views m h c t u k l y = record {
 
     -- a word that it stores is modified, unless it is alone
     modified : (x : ℕ) → stores_word sh.base s.stores x ≡ true → is_solo s.phase ≡ false → s.cache.modified x ≡ true
-    modified x e q = go (s.cache.modified x) refl
-      where
-        named : (s.cache.modified x || is_some (s.spilled x)) ≡ true
-        named = k.carried.stored_words_are_those_named c x ∙ e
-
-        none : s.spilled x ≡ None
-        none = (k.carried.marks_fit_the_phase c).spilled q x
-
-        go : (b : Bool) → s.cache.modified x ≡ b → s.cache.modified x ≡ true
-        go true g = g
-        go false g = absurd (let n : (s.cache.modified x || is_some (s.spilled x)) ≡ true = named in let z : s.spilled x ≡ None = none in let y : (s.cache.modified x || is_some (s.spilled x)) ≡ false = rw (g, z) refl in cc)
+    modified x e q = grind (arith, nat_tests)
 
     untold : (x : ℕ) → stores_word sh.base s.stores x ≡ true → ys (home sh (line_of x)) t ≡ Untold
     untold x e = k.carried.live_tid_is_open_where_it_must_be.held c (home sh (line_of x)) t l (home-below sh x (u.dirs)) has ∙ may-untold t s.phase (writes_at sh s.cache (home sh (line_of x))) y (λ q. marked.modified x (modified x e q))

@@ -7,18 +7,18 @@ use Rattle.tcc_serial.proofs.Names.{LastGranted, SparesCommitter, Kept, KeptTold
 use Rattle.tcc_serial.proofs.Names.{MarksAreStored}
 use Rattle.tcc_serial.specs.Asked.{KeptAsked}
 use Rattle.tcc_serial.specs.Probing.{KeptProbing, OneProbe}
-use Rattle.tcc_serial.proofs.Serving.KeptSteps.{step-kept, start-all}
-use Rattle.tcc_serial.proofs.Serving.OwnerSteps.{step-owners, start-owners, step-last}
+use Rattle.tcc_serial.proofs.Lines.AskedKept.{step-asked, start-asked}
+use Rattle.tcc_serial.proofs.Marks.CountsKept.{step-counted, start-counted}
+use Rattle.tcc_serial.proofs.Marks.MarksKept.{step-marks, start-marks}
+use Rattle.tcc_serial.proofs.Marks.MasksKept.{step-masks, start-masks}
+use Rattle.tcc_serial.proofs.Marks.NamedKept.{step-named, start-named}
+use Rattle.tcc_serial.proofs.Marks.PartlyMarkedUnowned.{step-whole, start-whole}
+use Rattle.tcc_serial.proofs.Marks.StoredKept.{step-stored, start-stored}
 use Rattle.tcc_serial.proofs.OneCore.CoreAlone.{step-cores, start-cores}
 use Rattle.tcc_serial.proofs.Serving.CommitSteps.{step-committing, start-committing, step-spared}
+use Rattle.tcc_serial.proofs.Serving.KeptSteps.{step-kept, start-all}
+use Rattle.tcc_serial.proofs.Serving.OwnerSteps.{step-owners, start-owners, step-last}
 use Rattle.tcc_serial.proofs.Serving.ProbingSteps.{step-probing}
-use Rattle.tcc_serial.proofs.Marks.MarksKept.{step-marks, start-marks}
-use Rattle.tcc_serial.proofs.Marks.CountsKept.{step-counted, start-counted}
-use Rattle.tcc_serial.proofs.Lines.AskedKept.{step-asked, start-asked}
-use Rattle.tcc_serial.proofs.Marks.PartlyMarkedUnowned.{step-whole, start-whole}
-use Rattle.tcc_serial.proofs.Marks.NamedKept.{step-named, start-named}
-use Rattle.tcc_serial.proofs.Marks.MasksKept.{step-masks, start-masks}
-use Rattle.tcc_serial.proofs.Marks.StoredKept.{step-stored, start-stored}
 
 start-probing : (entries : ℕ → Local) (ram : ℕ → ℕ) → KeptProbing (start entries ram)
 unfolding start core_start pair live has_tid

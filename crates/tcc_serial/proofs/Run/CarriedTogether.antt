@@ -4,26 +4,26 @@ use Rattle.tcc_serial.proofs.Names.{and_noted, recorded, run_from, run, KeptHome
 use Rattle.tcc_serial.proofs.Names.{KeptAll, KeptTold, OneMark, Grant, granted_by, grants_from, ◌<◌, ◌≡◌, true, false, ◌∷◌, sym}
 use Rattle.tcc_serial.proofs.Names.{append_assoc, append-nil, start, next, and_then, KeptTags, KeptGets, KeptSharers, is_applied, stores_at}
 use Rattle.tcc_serial.proofs.Names.{Noted, KeptRun, then_grants, Ways, ways_after, sent_by, then_ways, ways_from, first_ways}
-use Rattle.tcc_serial.proofs.Run.AllInvariants.{step-all, run-all}
-use Rattle.tcc_serial.proofs.Serving.ProbingSteps.{KeptProbed, step-probed, start-probed}
-use Rattle.tcc_serial.proofs.Lines.LoadsKept.{step-loading, start-loading}
-use Rattle.tcc_serial.proofs.Serving.OwingKept.{KeptOwing, step-owing, start-owing}
-use Rattle.tcc_serial.proofs.Marks.NamedKept.{KeptUnacked, step-unacked, start-unacked}
-use Rattle.tcc_serial.proofs.Memory.HomesKept.{step-homes, start-homes}
-use Rattle.tcc_serial.proofs.Marks.AfterKept.{step-after, start-after}
-use Rattle.tcc_serial.proofs.Lines.LineOwnersKept.{step-line-owners, start-line-owners}
-use Rattle.tcc_serial.proofs.Marks.MasksKept.{step-one-mark, start-one-mark}
-use Rattle.tcc_serial.proofs.Marks.ReadsKept.{KeptReads, step-reads, start-reads}
-use Rattle.tcc_serial.proofs.Lines.SharersStep.{step-sharers, start-sharers}
-use Rattle.tcc_serial.proofs.Ways.ByCore.{ByCore}
 use Rattle.tcc_serial.proofs.Copies.CopyFacts.{start-lines}
-use Rattle.tcc_serial.proofs.Lines.GetsKept.{step-gets, start-gets}
 use Rattle.tcc_serial.proofs.Copies.LinesKept.{KeptLines}
 use Rattle.tcc_serial.proofs.Copies.LinesStep.{step-lines}
-use Rattle.tcc_serial.proofs.Copies.WroteLines.{new-commit, on-its-way}
-use Rattle.tcc_serial.proofs.Ways.WayFacts.{step-run, start-run}
 use Rattle.tcc_serial.proofs.Copies.TagsKept.{TagStep, tag-step, tags-out, start-tags}
+use Rattle.tcc_serial.proofs.Copies.WroteLines.{new-commit, on-its-way}
+use Rattle.tcc_serial.proofs.Lines.GetsKept.{step-gets, start-gets}
+use Rattle.tcc_serial.proofs.Lines.LineOwnersKept.{step-line-owners, start-line-owners}
+use Rattle.tcc_serial.proofs.Lines.LoadsKept.{step-loading, start-loading}
+use Rattle.tcc_serial.proofs.Lines.SharersStep.{step-sharers, start-sharers}
+use Rattle.tcc_serial.proofs.Marks.AfterKept.{step-after, start-after}
+use Rattle.tcc_serial.proofs.Marks.MasksKept.{step-one-mark, start-one-mark}
+use Rattle.tcc_serial.proofs.Marks.NamedKept.{KeptUnacked, step-unacked, start-unacked}
+use Rattle.tcc_serial.proofs.Marks.ReadsKept.{KeptReads, step-reads, start-reads}
+use Rattle.tcc_serial.proofs.Memory.HomesKept.{step-homes, start-homes}
+use Rattle.tcc_serial.proofs.Run.AllInvariants.{step-all, run-all}
+use Rattle.tcc_serial.proofs.Serving.OwingKept.{KeptOwing, step-owing, start-owing}
+use Rattle.tcc_serial.proofs.Serving.ProbingSteps.{KeptProbed, step-probed, start-probed}
+use Rattle.tcc_serial.proofs.Ways.ByCore.{ByCore}
 use Rattle.tcc_serial.proofs.Ways.ToldSteps.{Speaks, step-speaks}
+use Rattle.tcc_serial.proofs.Ways.WayFacts.{step-run, start-run}
 
 pub record KeptMore (sh : Shape) (gs : List Grant) (h : History) : Type 0 where
   pub all : KeptAll sh gs h

@@ -1,16 +1,20 @@
 -- What a directory's rules do to what it is owed and to what it sends about marked lines.
-use Rattle.tcc_serial.proofs.Names.{ℕ, zero, suc, ◌+◌, ◌-◌, ◌≡◌, ◌≤◌, ◌%◌, Bool, true, false, not, List, [], ◌∷◌, ◌==◌, ◌&&◌, ◌||◌, Option}
-use Rattle.tcc_serial.proofs.Names.{Some, None, nat_lt, nat_le, cond, if◌then◌else◌, flat_map, arith, refl, ◌∙◌, ◌⊎◌, inl, inr, nat_tests}
-use Rattle.tcc_serial.proofs.Names.{flat_map-append, num, count_below, those, full, Lines, has_mark, with_asked, with_owner, with_sharer}
-use Rattle.tcc_serial.proofs.Names.{with_mark, unmarked, Judgement, judge, IsTaken, IsDropped, IsEarly, advance, skipped, kept, Core, Msg}
-use Rattle.tcc_serial.proofs.Names.{TidReq, TidGrant, LoadReq, Fill, Skip, Probe, ProbeReply, Mark, Commit, Abort, WriteBack, Flush}
-use Rattle.tcc_serial.proofs.Names.{DataReq, Inv, InvAck, Shape, home, lines, DirState, Sends, nothing, to, total, Answer, Waits, Drops}
-use Rattle.tcc_serial.proofs.Names.{Asks, Takes, skip, abort, acknowledgement, dir_deliver, moved_on, settled, owned, owed_by}
-use Rattle.tcc_serial.proofs.Names.{invalidations, invs_to, is_invalidated, unless_keeps, ask_owner, load_owned, load_request, line_words}
-use Rattle.tcc_serial.proofs.Names.{marking, mark_owned, mark, judged, write_back, came_home, probe, Invs, InvsNot, InvsAway, Acks}
-use Rattle.tcc_serial.proofs.Names.{MarksAway, Resolves, among, passes}
+use Rattle.tcc_serial.proofs.Names.{ℕ, zero, suc, ◌+◌, ◌-◌, ◌≡◌, ◌≤◌, ◌%◌, Bool, true, false, not, List, [], ◌∷◌, ◌==◌, nat_lt, cond}
+use Rattle.tcc_serial.proofs.Names.{if◌then◌else◌, flat_map, arith, refl, ◌⊎◌, inl, inr, nat_tests, flat_map-append, num, count_below}
+use Rattle.tcc_serial.proofs.Names.{those, Lines, has_mark, advance, kept, Core, Msg, Fill, Skip, ProbeReply, Commit, Abort, DataReq, Inv}
+use Rattle.tcc_serial.proofs.Names.{Shape, home, lines, DirState, Sends, nothing, total, Answer, Waits, Drops, Asks, Takes, dir_deliver}
+use Rattle.tcc_serial.proofs.Names.{owed_by, invalidations, invs_to, is_invalidated, line_words, Invs, InvsNot, InvsAway, Acks, MarksAway}
+use Rattle.tcc_serial.proofs.Names.{Resolves, among, passes, ◌&&◌, ◌||◌, Option, Some, None, nat_le, ◌∙◌, full, with_asked, with_owner}
+use Rattle.tcc_serial.proofs.Names.{with_sharer, with_mark, unmarked, Judgement, judge, IsTaken, IsDropped, IsEarly, skipped, TidReq}
+use Rattle.tcc_serial.proofs.Names.{TidGrant, LoadReq, Probe, Mark, WriteBack, Flush, InvAck, to, skip, abort, acknowledgement, moved_on}
+use Rattle.tcc_serial.proofs.Names.{settled, owned, unless_keeps, ask_owner, load_owned, load_request, marking, mark_owned, mark, judged}
+use Rattle.tcc_serial.proofs.Names.{write_back, came_home, probe}
 use Rattle.tcc_rules.specs.DirDeliver.{commit}
+use Rattle.tcc_serial.proofs.Counts.DirOutcome.{Outcome, Waiting, Spent, AsksOwner, TakesSkip, TakesAbort, TakesProbe, TakesLoad, TakesMark}
+use Rattle.tcc_serial.proofs.Counts.DirOutcome.{TakesCommit, TakesAck, TakesCopy, IsSpent, SkipPassed, AbortPassed, MarkPassed, NoneOwed}
+use Rattle.tcc_serial.proofs.Counts.DirOutcome.{CopyPassed, outcome, among-none, none-to}
 use Rattle.tcc_serial.proofs.Counts.Links.{among-append, total-zero, total-same, among-fewer, among-flat_map_none}
+use Rattle.tcc_serial.proofs.Counts.StepCases.{same}
 use Rattle.tcc_serial.proofs.Serving.CoreDue.{among-those_none}
 use Rattle.tcc_serial.proofs.Tids.DirTids.{OnceAt, unserved}
 
@@ -65,116 +69,7 @@ quiet-due sh d s new sends e f q m = record {
     served (inl x) = inl (x, λ j. omega (arith, q j, few-nots s.serving.serving (sends (Core j))))
     served (inr x) = inr x
 
-pub to-quiet : (c : ℕ) (m : Msg) → passes Invs m ≡ false → (j : ℕ) → among Invs (to (Core c) (m ∷ []) (Core j)) ≡ 0
-unfolding among
-to-quiet c m e j = go (j == c)
-  where
-    go : (b : Bool) → among Invs (if b then m ∷ [] else []) ≡ 0
-    go true = rw e refl
-    go false = refl
-
-pub none-quiet : (j : ℕ) → among Invs [] ≡ 0
-unfolding among
-none-quiet j = refl
-
-unmarked-home : (sh : Shape) (d : ℕ) (s : DirState) → MarkedHome sh d (moved_on s)
-unfolding moved_on unmarked
-unmarked-home sh d s l e = absurd (cc)
-
-moved_on-owed : (s : DirState) → (moved_on s).owed ≡ s.owed
-unfolding moved_on
-moved_on-owed s = refl
-
-skip-passes : (u : ℕ) → passes (Resolves u) (Skip u) ≡ true
-unfolding passes
-skip-passes u = grind (arith, nat_tests)
-
-abort-passes : (u : ℕ) → passes (Resolves u) (Abort u) ≡ true
-unfolding passes
-abort-passes u = grind (arith, nat_tests)
-
-commit-passes : (s : DirState) (u n : ℕ) → s.serving.serving ≡ u → passes (Resolves s.serving.serving) (Commit u n) ≡ true
-unfolding passes
-commit-passes s u n e = rw e (grind (arith, nat_tests))
-
-skip-due : (sh : Shape) (d u : ℕ) (s : DirState) → OnceAt s (Skip u) → MarkedHome sh d s → DueBy sh d s 0 (skip u s)
-unfolding skip skipped kept
-skip-due sh d u s h m = go (nat_lt u s.serving.serving) (s.serving.serving == u) refl
-  where
-    zero-owed : (s.serving.serving == u) ≡ true → s.owed ≡ 0
-    zero-owed q = let e : s.serving.serving ≡ u = grind (arith, nat_tests) in unserved s (Skip u) h (rw e (skip-passes u))
-
-    go : (a b : Bool) → (s.serving.serving == u) ≡ b → DueBy sh d s 0 (if a then Drops else Takes (record s { serving = (if a then s.serving else (if b then advance s.serving else kept u s.serving)) }) nothing)
-    go true b q = refl
-    go false true q = quiet-due sh d s (record s { serving = advance s.serving }) nothing refl (inr (zero-owed q)) none-quiet m
-    go false false q = quiet-due sh d s (record s { serving = kept u s.serving }) nothing refl (inl refl) none-quiet m
-
-abort-due : (sh : Shape) (d u : ℕ) (s : DirState) → OnceAt s (Abort u) → MarkedHome sh d s → DueBy sh d s 0 (abort u s)
-unfolding abort kept
-abort-due sh d u s h m = go (nat_lt u s.serving.serving) (s.serving.serving == u) refl
-  where
-    zero-owed : (s.serving.serving == u) ≡ true → s.owed ≡ 0
-    zero-owed q = let e : s.serving.serving ≡ u = grind (arith, nat_tests) in unserved s (Abort u) h (rw e (abort-passes u))
-
-    go : (a b : Bool) → (s.serving.serving == u) ≡ b → DueBy sh d s 0 (if a then Drops else (if b then Takes (moved_on s) nothing else Takes (record s { serving = kept u s.serving }) nothing))
-    go true b q = refl
-    go false true q = quiet-due sh d s (moved_on s) nothing (moved_on-owed s) (inr (moved_on-owed s ∙ zero-owed q)) none-quiet (unmarked-home sh d s)
-    go false false q = quiet-due sh d s (record s { serving = kept u s.serving }) nothing refl (inl refl) none-quiet m
-
-probe-due : (sh : Shape) (d c u : ℕ) (s : DirState) → MarkedHome sh d s → DueBy sh d s 0 (probe c u s)
-unfolding probe passes
-probe-due sh d c u s m = go (nat_lt s.serving.serving u)
-  where
-    go : (b : Bool) → DueBy sh d s 0 (if b then Waits else Takes s (to (Core c) (ProbeReply u s.serving.serving ∷ [])))
-    go true = tt
-    go false = quiet-due sh d s s (to (Core c) (ProbeReply u s.serving.serving ∷ [])) refl (inl refl) (to-quiet c (ProbeReply u s.serving.serving) refl) m
-
-asked-due : (sh : Shape) (d o l : ℕ) (s : DirState) → MarkedHome sh d s → (ack : ℕ) → DueBy sh d s ack (ask_owner o l s)
-unfolding ask_owner with_asked passes
-asked-due sh d o l s m ack = go (s.lines.asked l)
-  where
-    go : (b : Bool) → DueBy sh d s ack (if b then Waits else Asks (record s { lines = with_asked l true s.lines }) (to (Core o) (DataReq l ∷ [])))
-    go true = tt
-    go false = quiet-due sh d s (record s { lines = with_asked l true s.lines }) (to (Core o) (DataReq l ∷ [])) refl (inl refl) (to-quiet o (DataReq l) refl) m
-
-load-due : (sh : Shape) (d c l a : ℕ) (s : DirState) → MarkedHome sh d s → DueBy sh d s 0 (load_request c l a s)
-unfolding load_request with_sharer passes
-load-due sh d c l a s m = go (nat_le s.serving.serving a || has_mark s.lines l) (s.lines.owner l)
-  where
-    go : (b : Bool) (o : Option ℕ) → DueBy sh d s 0 (if b then Waits else load_owned c l s o)
-    go true o = tt
-    go false (Some o) = asked-due sh d o l s m 0
-    go false None = quiet-due sh d s (record s { lines = with_sharer l c true s.lines }) (to (Core c) (Fill l (line_words s l) ∷ [])) refl (inl refl) (to-quiet c (Fill l (line_words s l)) refl) m
-
-mark-due : (sh : Shape) (d l k u : ℕ) (s : DirState) → home sh l ≡ d → MarkedHome sh d s → DueBy sh d s 0 (mark l k u s)
-unfolding mark with_mark
-mark-due sh d l k u s e m = go (nat_lt u s.serving.serving) (nat_lt s.serving.serving u) (k == full) (s.lines.owner l)
-  where
-    one : (l' : ℕ) (b : Bool) → (l' == l) ≡ b → nat_lt 0 (if b then k else s.lines.mark l') ≡ true → home sh l' ≡ d
-    one l' true q h = let i : l' ≡ l = grind (arith, nat_tests) in rw i e
-    one l' false q h = m l' h
-
-    marked : DueBy sh d s 0 (marking l k s)
-    marked = quiet-due sh d s (record s { lines = with_mark l k s.lines }) nothing refl (inl refl) none-quiet (λ l' h. one l' (l' == l) refl h)
-
-    go : (a b x : Bool) (o : Option ℕ) → DueBy sh d s 0 (if a then Drops else (if b then Waits else (if x then marking l k s else mark_owned l k s o)))
-    go true b x o = refl
-    go false true x o = tt
-    go false false true o = marked
-    go false false false None = marked
-    go false false false (Some o) = asked-due sh d o l s m 0
-
-back-due : (sh : Shape) (d c l k : ℕ) (ws : List ℕ) (g : ℕ) (s : DirState) → MarkedHome sh d s → DueBy sh d s 0 (write_back c l k ws g s)
-unfolding write_back came_home with_asked with_owner
-back-due sh d c l k ws g s m = go (judge (s.lines.owner l) (s.lines.tag l) c g)
-  where
-    go : (j : Judgement) → DueBy sh d s 0 (judged l k ws s j)
-    go IsEarly = tt
-    go IsTaken = quiet-due sh d s (came_home l k ws s) nothing refl (inl refl) none-quiet m
-    go IsDropped = refl
-
 -- a commit's invalidations are as many as are owed for it
-
 invs-those : (f : ℕ → ℕ) (t : ℕ) (p : ℕ → Bool) (n : ℕ) → among Invs (flat_map (λ l. Inv l (f l) t ∷ []) (those p n)) ≡ count_below p n
 unfolding among passes those count_below
 invs-those f t p zero = refl
@@ -200,84 +95,61 @@ aways-sent : (sh : Shape) (d : ℕ) (ls : Lines) (c u j : ℕ) → ((l : ℕ) �
 unfolding invalidations invs_to among passes
 aways-sent sh d ls c u j m = among-those_none (InvsAway sh.dirs d) (λ l. Inv l (ls.mark l) u ∷ []) (is_invalidated sh ls c j) (lines sh) (λ l q. let e : l % sh.dirs ≡ d = m l (is_invalidated-marked sh ls c j l q) in let b : ((l % sh.dirs) == d) ≡ true = grind (arith, nat_tests) in rw b refl)
 
-settled-due : (sh : Shape) (d ack : ℕ) (s new : DirState) (sends : Sends) → Due sh d s ack new sends → Due sh d s ack (settled new) sends
-unfolding settled
-settled-due sh d ack s new sends due = go (new.owed == 0) refl
-  where
-    go : (b : Bool) → (new.owed == 0) ≡ b → Due sh d s ack (if b then moved_on new else new) sends
-    go false q = due
-    go true q = record {
-      owed = rw (moved_on-owed new) (due.owed);
-      served = inr (moved_on-owed new ∙ grind (arith, nat_tests));
-      invs = due.invs;
-      marked = unmarked-home sh d new;
-    }
-
-commit-sent : (sh : Shape) (d c u : ℕ) (s : DirState) → s.serving.serving ≡ u → s.owed ≡ 0 → MarkedHome sh d s → Due sh d s 0 (record s { lines = owned c u s.lines; owed = owed_by sh s.lines c }) (invalidations sh s.lines c u)
-unfolding owned
-commit-sent sh d c u s e o m = record {
-  owed = rw o (omega (arith, invs-invalidations sh s.lines c u));
-  served = inl (refl, λ j. nots j);
-  invs = λ j. aways j;
-  marked = m;
-}
-  where
-    nots : (j : ℕ) → among (InvsNot s.serving.serving) (invalidations sh s.lines c u (Core j)) ≡ 0
-    nots j = rw e (nots-sent sh s.lines c u j)
-
-    aways : (j : ℕ) → among (InvsAway sh.dirs d) (invalidations sh s.lines c u (Core j)) ≡ 0
-    aways j = aways-sent sh d s.lines c u j m
-
-commit-due : (sh : Shape) (d c u n : ℕ) (s : DirState) → OnceAt s (Commit u n) → MarkedHome sh d s → DueBy sh d s 0 (commit sh c u n s)
-unfolding commit
-commit-due sh d c u n s h m = go (s.serving.serving == u) refl (count_below (has_mark s.lines) (lines sh) == n)
-  where
-    go : (a : Bool) → (s.serving.serving == u) ≡ a → (b : Bool) → DueBy sh d s 0 (if a && b then Takes (settled (record s { lines = owned c u s.lines; owed = owed_by sh s.lines c })) (invalidations sh s.lines c u) else Waits)
-    go false q b = tt
-    go true q false = tt
-    go true q true = settled-due sh d 0 s (record s { lines = owned c u s.lines; owed = owed_by sh s.lines c }) (invalidations sh s.lines c u) (commit-sent sh d c u s (grind (arith, nat_tests)) (unserved s (Commit u n) h (commit-passes s u n (grind (arith, nat_tests)))) m)
-
-ack-due : (sh : Shape) (d c l : ℕ) (b : Bool) (s : DirState) → MarkedHome sh d s → 1 ≤ s.owed → DueBy sh d s 1 (acknowledgement c l b s)
-unfolding acknowledgement with_sharer
-ack-due sh d c l b s m o = go (s.owed == 0) refl
-  where
-    kept_lines : (b : Bool) → MarkedHome sh d (record s { lines = unless_keeps b c l s.lines; owed = s.owed - 1 })
-    kept_lines true = m
-    kept_lines false = m
-
-    new : DirState
-    new = record s { lines = unless_keeps b c l s.lines; owed = s.owed - 1 }
-
-    go : (a : Bool) → (s.owed == 0) ≡ a → DueBy sh d s 1 (if a then Drops else Takes (settled new) nothing)
-    go true q = absurd (grind (arith, nat_tests))
-    go false q = settled-due sh d 1 s new nothing (record {
-      owed = omega (arith, none-sent sh nothing none-quiet);
-      served = inl (refl, λ j. omega (arith, none-quiet j, few-nots s.serving.serving []));
-      invs = λ j. omega (arith, none-quiet j, few-aways sh.dirs d []);
-      marked = kept_lines b;
-    })
-
 pub at-home : (h d : ℕ) → not (h == d) ≡ false → h ≡ d
 at-home h d e = grind (arith, nat_tests)
 
+pub none-quiet : (j : ℕ) → among Invs [] ≡ 0
+none-quiet j = among-none Invs
+
 -- whether a message is an acknowledgement
 pub dir-due : (sh : Shape) (d : ℕ) (s : DirState) (c : ℕ) (m : Msg) → OnceAt s m → MarkedHome sh d s → passes (MarksAway sh.dirs d) m ≡ false → num (passes Acks m) ≤ s.owed → DueBy sh d s (num (passes Acks m)) (dir_deliver sh s c m)
-unfolding dir_deliver passes
-dir-due sh d s c (Skip u) h m a o = skip-due sh d u s h m
-dir-due sh d s c (Abort u) h m a o = abort-due sh d u s h m
-dir-due sh d s c (Probe u) h m a o = probe-due sh d c u s m
-dir-due sh d s c (LoadReq l x) h m a o = load-due sh d c l x s m
-dir-due sh d s c (Mark l k u) h m a o = mark-due sh d l k u s (at-home (l % sh.dirs) d a) m
-dir-due sh d s c (Commit u n) h m a o = commit-due sh d c u n s h m
-dir-due sh d s c (InvAck l b) h m a o = ack-due sh d c l b s m o
-dir-due sh d s c (WriteBack l k ws g) h m a o = back-due sh d c l k ws g s m
-dir-due sh d s c (Flush l k ws g) h m a o = back-due sh d c l k ws g s m
-dir-due sh d s c TidReq h m a o = tt
-dir-due sh d s c (TidGrant u) h m a o = tt
-dir-due sh d s c (Fill l ws) h m a o = tt
-dir-due sh d s c (ProbeReply u v) h m a o = tt
-dir-due sh d s c (DataReq l) h m a o = tt
-dir-due sh d s c (Inv l k u) h m a o = tt
+unfolding passes kept
+dir-due sh d s c m h k = go (outcome sh s c m) h
+  where
+    -- where the served TID is resolved nothing is owed
+    given : (m : Msg) (u : ℕ) (b : Bool) → (s.serving.serving == u) ≡ b → passes (Resolves u) m ≡ true → OnceAt s m → ((if b then advance s.serving else kept u s.serving).serving ≡ s.serving.serving) ⊎ (s.owed ≡ 0)
+    given m u true e p h = let i : s.serving.serving ≡ u = grind (arith, nat_tests) in inr (unserved s m h (rw i p))
+    given m u false e p h = inl refl
+
+    settled : (b : Bool) (n : ℕ) (sends : Sends) → (n == 0) ≡ b → ((j : ℕ) → among (InvsNot s.serving.serving) (sends (Core j)) ≡ 0) → (((if b then advance s.serving else s.serving).serving ≡ s.serving.serving) × ((j : ℕ) → among (InvsNot s.serving.serving) (sends (Core j)) ≡ 0)) ⊎ (n ≡ 0)
+    settled true n sends e q = inr (grind (arith, nat_tests))
+    settled false n sends e q = inl (refl, q)
+
+    unmarks : (b : Bool) (x : ℕ) → nat_lt 0 (if b then 0 else s.lines.mark x) ≡ true → home sh x ≡ d
+    unmarks true x q = absurd (cc)
+    unmarks false x q = k x q
+
+    marks : (l n : ℕ) → home sh l ≡ d → (x : ℕ) (b : Bool) → (x == l) ≡ b → nat_lt 0 (if b then n else s.lines.mark x) ≡ true → home sh x ≡ d
+    marks l n e x true q r = let i : x ≡ l = grind (arith, nat_tests) in rw i e
+    marks l n e x false q r = k x r
+
+    spent : {m : Msg} → IsSpent s c m → num (passes Acks m) ≤ s.owed → num (passes Acks m) ≡ 0
+    spent (NoneOwed l b i) o = omega (arith, o, i)
+    spent (CopyPassed m l n ws g y i e) o = rw (y.alike Acks) refl
+    spent _ o = refl
+
+    go : {m : Msg} {a : Answer} → Outcome sh s c m a → OnceAt s m → passes (MarksAway sh.dirs d) m ≡ false → num (passes Acks m) ≤ s.owed → DueBy sh d s (num (passes Acks m)) a
+    go (Waiting m) h a o = tt
+    go (Spent m i) h a o = spent i o
+    go (AsksOwner m l x w e) h a o = quiet-due sh d s _ _ refl (inl refl) (λ j. none-to Invs x j (DataReq l) refl) k
+    go (TakesSkip u b e i) h a o = quiet-due sh d s _ nothing refl (given (Skip u) u b e (same u) h) none-quiet k
+    go (TakesAbort u b e i) h a o = quiet-due sh d s _ nothing refl (given (Abort u) u b e (same u) h) none-quiet (unmarks b)
+    go (TakesProbe u i) h a o = quiet-due sh d s s _ refl (inl refl) (λ j. none-to Invs c j (ProbeReply u s.serving.serving) refl) k
+    go (TakesLoad l x i e n) h a o = quiet-due sh d s _ _ refl (inl refl) (λ j. none-to Invs c j (Fill l (line_words s l)) refl) k
+    go (TakesMark l n i) h a o = quiet-due sh d s _ nothing refl (inl refl) none-quiet (λ x q. marks l n (at-home (l % sh.dirs) d a) x (x == l) refl q)
+    go (TakesCommit b e) h a o = let z : s.owed ≡ 0 = unserved s (Commit s.serving.serving (count_below (has_mark s.lines) (lines sh))) h (same s.serving.serving) in record {
+      owed = omega (arith, z, invs-invalidations sh s.lines c s.serving.serving);
+      served = settled b (owed_by sh s.lines c) (invalidations sh s.lines c s.serving.serving) e (λ j. nots-sent sh s.lines c s.serving.serving j);
+      invs = λ j. aways-sent sh d s.lines c s.serving.serving j k;
+      marked = unmarks b;
+    }
+    go (TakesAck l x b i e) h a o = record {
+      owed = omega (arith, none-sent sh nothing none-quiet);
+      served = settled b (s.owed - 1) nothing e (λ j. among-none (InvsNot s.serving.serving));
+      invs = λ j. among-none (InvsAway sh.dirs d);
+      marked = unmarks b;
+    }
+    go (TakesCopy m l n ws g y e x) h a o = rw (y.alike Acks) (quiet-due sh d s _ nothing refl (inl refl) none-quiet k)
 
 -- a message that is dropped leaves all as it was
 pub still-due : (sh : Shape) (d : ℕ) (s : DirState) → MarkedHome sh d s → Due sh d s 0 s (λ dst. [])

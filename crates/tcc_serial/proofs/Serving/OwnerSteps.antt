@@ -14,9 +14,9 @@ use Rattle.tcc_serial.proofs.Counts.Links.{live-sends, live-takes, total-le, tot
 use Rattle.tcc_serial.proofs.Counts.StepCases.{OfAnswer, step_cases, given, pairs_move, pairs_grant, pairs_back, pairs_vendor, sum_move}
 use Rattle.tcc_serial.proofs.Counts.StepCases.{sum_grant, sum_back, sum_back_away, sum_vendor, pairs_dir, pairs_asks}
 use Rattle.tcc_serial.proofs.Serving.KeptSteps.{core_of_grant, core_of_back, core_of_ask, step-kept, start-all}
-use Rattle.tcc_serial.proofs.Tids.CoreOwners.{KeepsHolder, noted_tid, none, holder-exec, holder-evict, holder-grant, holder-back}
 use Rattle.tcc_serial.proofs.Tids.Commits.{times-insert, insert-rising, insert-granted, granted-more, numbered-more, numbered-least}
 use Rattle.tcc_serial.proofs.Tids.Commits.{numbered-most, only-one}
+use Rattle.tcc_serial.proofs.Tids.CoreOwners.{KeepsHolder, noted_tid, none, holder-exec, holder-evict, holder-grant, holder-back}
 
 -- a core's part after its step
 pub holder-moved : (v : Pair) (o : Out) (d t c : ℕ) → KeepsHolder c none v.core o → holder t (after_move v o d) + noted_tid t o.commit ≤ holder t v
@@ -118,7 +118,6 @@ unfolding dir_asks pair holder
 asks-owners sh gs w cs e s sends h = same-owners sh gs w (dir_asks w e s sends) cs h refl (λ t j d. refl)
 
 -- the vendor grants a TID
-
 pub holder-given : (v : Pair) (k t : ℕ) → holder t (after_grant v k) + 0 ≡ holder t v + num (v.next == t)
 unfolding holder passes among
 holder-given v k t = omega (arith, live-sends (Grants t) v.grants (TidGrant v.next ∷ []))
@@ -164,7 +163,6 @@ start-owners sh entries ram = record {
 }
 
 -- every event keeps who has which TID
-
 pub step-owners : (sh : Shape) (p : Program) (gs : List Grant) (w : World) (cs : List Noted) (e : Event) → KeptTids sh w → KeptOwners sh gs w cs → IfSome (step sh p w e) (λ o. KeptOwners sh (gs ++ granted_by w e) o.world (and_noted o.noted cs))
 step-owners sh p gs w cs e z h = step_cases sh p w e (λ g o. KeptOwners sh (gs ++ g) o.world (and_noted o.noted cs))
     (λ c l. moved c l (core_exec sh p c (w.cores c)) (holder-exec sh p c (w.cores c)))
@@ -189,7 +187,6 @@ step-owners sh p gs w cs e z h = step_cases sh p w e (λ g o. KeptOwners sh (gs 
     answered c d k (Takes s sends) = rw append-nil (dir-owners sh gs w cs c d k s sends h)
 
 -- and so does every run
-
 run_from-owners : (sh : Shape) (p : Program) (es : List Event) (gs : List Grant) (h : History) → Kept sh h.world → KeptOwners sh gs h.world h.commits → IfSome (run_from sh p es h) (λ r. KeptOwners sh (gs ++ grants_from sh p es h) r.world r.commits)
 unfolding run_from grants_from next
 run_from-owners sh p [] gs h k o = rw append-nil o

@@ -1,36 +1,36 @@
 -- Every event keeps the values of home words and of copies on their way home.
-use Rattle.tcc_serial.proofs.Names.{ℕ, zero, suc, ◌≡◌, ◌<◌, ◌==◌, ◌||◌, Bool, true, false, cond, List, Option, Some, None, is_some}
-use Rattle.tcc_serial.proofs.Names.{unwrap_or, arith, refl, ap, sym, subst, ◌∙◌, inl, inr, nat_tests, Noted, Plain, Local, Program, num}
-use Rattle.tcc_serial.proofs.Names.{line_of, Core, Dir, Shape, home, lines, CoreState, DirState, World, Out, noted, History, and_noted}
-use Rattle.tcc_serial.proofs.Names.{insert_commit, core_moves, Uses, sees, Suits, copies_with, AboveOf, CopyWord, CopyNot, Commits, live}
-use Rattle.tcc_serial.proofs.Names.{among, Invariants, Grant, Pair, pair, after_move, is_this, is_applied, stores_word, after_stores}
-use Rattle.tcc_serial.proofs.Names.{counts, word_copies, CopiesHave, Ways, wrote_line, ◌&&◌, IfSome, nat_lt, if◌then◌else◌, Node, Vendor}
-use Rattle.tcc_serial.proofs.Names.{Event, Exec, Evict, Deliver, Msg, TidReq, TidGrant, LoadReq, Fill, Skip, Probe, ProbeReply, Mark}
-use Rattle.tcc_serial.proofs.Names.{Commit, Abort, WriteBack, Flush, DataReq, Inv, InvAck, in_flight, core_exec, core_evict, core_deliver}
-use Rattle.tcc_serial.proofs.Names.{from_dir, from_vendor, grant, Answer, Waits, Drops, Asks, Takes, dir_deliver, Stepped, step, happens}
-use Rattle.tcc_serial.proofs.Names.{names_nodes, is_node, if_in_flight, moved, taken, core_takes, CommitsStand, ◌⊎◌, ◌++◌, next, recorded}
-use Rattle.tcc_serial.proofs.Names.{Carried, granted_by, ways_after, sent_by}
+use Rattle.tcc_serial.proofs.Names.{ℕ, ◌≡◌, Noted, ◌<◌, ◌⊎◌, ◌++◌, List, Option, Some, None, IfSome, refl, inl, inr, Plain, Local, Program}
+use Rattle.tcc_serial.proofs.Names.{Dir, Event, Shape, CoreState, World, Out, core_exec, core_evict, from_dir, Answer, Waits, Drops, Asks}
+use Rattle.tcc_serial.proofs.Names.{Takes, dir_deliver, History, Stepped, step, next, recorded, and_noted, core_moves, core_takes, Uses}
+use Rattle.tcc_serial.proofs.Names.{Suits, Carried, Invariants, Grant, granted_by, Ways, ways_after, sent_by, zero, suc, ◌==◌, ◌||◌, Bool}
+use Rattle.tcc_serial.proofs.Names.{true, false, cond, is_some, unwrap_or, arith, ap, sym, subst, ◌∙◌, nat_tests, num, line_of, Core, home}
+use Rattle.tcc_serial.proofs.Names.{lines, DirState, noted, insert_commit, sees, copies_with, AboveOf, CopyWord, CopyNot, Commits, live}
+use Rattle.tcc_serial.proofs.Names.{among, Pair, pair, after_move, is_this, is_applied, stores_word, after_stores, counts, word_copies}
+use Rattle.tcc_serial.proofs.Names.{CopiesHave, wrote_line, ◌&&◌, nat_lt, if◌then◌else◌, Node, Vendor, Exec, Evict, Deliver, Msg, TidReq}
+use Rattle.tcc_serial.proofs.Names.{TidGrant, LoadReq, Fill, Skip, Probe, ProbeReply, Mark, Commit, Abort, WriteBack, Flush, DataReq, Inv}
+use Rattle.tcc_serial.proofs.Names.{InvAck, in_flight, core_deliver, from_vendor, grant, happens, names_nodes, is_node, if_in_flight, moved}
+use Rattle.tcc_serial.proofs.Names.{taken, CommitsStand, IsCache}
 use Rattle.tcc_serial.specs.KeepsHomes.{HomesHold, EventsKeepHomes}
-use Rattle.tcc_serial.proofs.Order.SerialSteps.{Stand, stand}
-use Rattle.tcc_serial.proofs.Order.SerialParts.{each-listed}
-use Rattle.tcc_serial.proofs.Values.CommitWords.{CommitsWord, CommitsWords, commits-exec}
-use Rattle.tcc_serial.proofs.Values.FramedCores.{Closing, Framing, Stays, Closes, framing-exec}
-use Rattle.tcc_serial.proofs.Values.FramedSteps.{seen-framed, value-own, value-else}
 use Rattle.tcc_serial.proofs.Copies.TagsKept.{untagged}
 use Rattle.tcc_serial.proofs.Counts.Links.{live-sends}
+use Rattle.tcc_serial.proofs.Counts.StepCases.{either, moves-own, moves-other, OfAnswer, step_cases, node_cases}
+use Rattle.tcc_serial.proofs.Marks.DirRecords.{dir-records}
+use Rattle.tcc_serial.proofs.OneCore.CoreStays.{Rests, evict-rests, grant-rests, back-rests}
+use Rattle.tcc_serial.proofs.Order.SerialParts.{each-listed}
+use Rattle.tcc_serial.proofs.Order.SerialSteps.{Stand, stand}
+use Rattle.tcc_serial.proofs.Values.CommitWords.{CommitsWord, CommitsWords, commits-exec}
+use Rattle.tcc_serial.proofs.Values.CoreWords.{Uncommitted, Quietly, words-exec, words-evict}
+use Rattle.tcc_serial.proofs.Values.CoreWordsTakes.{WordBack, words-grant, words-back}
+use Rattle.tcc_serial.proofs.Values.DirWords.{dir-words}
+use Rattle.tcc_serial.proofs.Values.FramedCores.{Closing, Framing, Stays, Closes, framing-exec}
+use Rattle.tcc_serial.proofs.Values.FramedSteps.{seen-framed, value-own, value-else}
+use Rattle.tcc_serial.proofs.Values.HomesAnswered.{answered, granted, known}
 use Rattle.tcc_serial.proofs.Values.ModifiedWords.{Serves, stored-served, stored-seen, times-listed}
-use Rattle.tcc_serial.proofs.Counts.StepCases.{either, moves-own, moves-other, OfAnswer, step_cases}
 use Rattle.tcc_serial.proofs.Values.SeenWords.{wrote-none, unwritten-none}
 use Rattle.tcc_serial.proofs.Values.ValueAt.{IsSilent, value-skip}
 use Rattle.tcc_serial.proofs.Values.WordCopies.{among-others, few-others, none-copied}
-use Rattle.tcc_serial.proofs.Values.WordsMoved.{Alike, moved-alike, granted-alike, taken-alike, alike-keeps}
 use Rattle.tcc_serial.proofs.Values.WordValues.{value_of, tag_of, ValuesAt, KeptValues, values-of, Known, from-values}
-use Rattle.tcc_serial.proofs.Values.CoreWords.{Uncommitted, Quietly, words-exec, words-evict}
-use Rattle.tcc_serial.proofs.Values.CoreWordsTakes.{WordBack, words-grant, words-back}
-use Rattle.tcc_serial.proofs.Marks.DirRecords.{dir-records}
-use Rattle.tcc_serial.proofs.Values.DirWords.{dir-words}
-use Rattle.tcc_serial.proofs.Values.HomesAnswered.{answered, granted, answer_cases, known}
-use Rattle.tcc_serial.proofs.OneCore.CoreStays.{Rests, evict-rests, grant-rests, back-rests}
+use Rattle.tcc_serial.proofs.Values.WordsMoved.{Alike, moved-alike, granted-alike, taken-alike, alike-keeps}
 
 -- A core's commit keeps the values of home words and of copies: its new copies have the words as their core sees them.
 
@@ -67,11 +67,7 @@ stored-others sh x d g u o v w m z n = record {
   where
     clean : (k : Option ℕ) → o.core.cache.dirty x ≡ k → num (is_this k g) ≡ 0
     clean None q = refl
-    clean (Some k) q = let i : k ≡ u = (w.framed k m q).0 in let j : (k == g) ≡ false = which (k == g) refl i in rw j refl
-      where
-        which : (b : Bool) → (k == g) ≡ b → k ≡ u → b ≡ false
-        which false r i = refl
-        which true r i = absurd (n (sym i ∙ (grind (arith, nat_tests))))
+    clean (Some k) q = grind (arith, nat_tests)
 
 -- and new ones of the commit, as the core sees it
 new-copies : (sh : Shape) (x d u y : ℕ) (ram : ℕ → ℕ) (o : Out) (v : Pair) → CommitsWord sh x u v.core.cache v.core.spilled o → (v.core.cache.modified x || is_some (v.core.spilled x)) ≡ true → (v.core.cache.modified x ≡ true → is_some (v.core.cache.value x) ≡ true) → word_copies x u v ≡ 0 → sees v.core ram x ≡ y → CopiesHave x u y (after_move v o d)
@@ -87,8 +83,7 @@ new-copies sh x d u y ram o v w m valid none s = record {
 
     modified : (b : Bool) (k : Option ℕ) → (b || is_some k) ≡ true → k ≡ None → b ≡ true
     modified true k e q = refl
-    modified false None e q = absurd (cc)
-    modified false (Some k) e q = absurd (cc)
+    modified false _ e q = absurd (cc)
 
     framed : (k : Option ℕ) → v.core.cache.value x ≡ k → v.core.spilled x ≡ None → k ≡ Some y
     framed None q z = absurd (let i = valid (modified (v.core.cache.modified x) (v.core.spilled x) m z) in let j : is_some (v.core.cache.value x) ≡ false = rw q refl in cc)
@@ -235,92 +230,45 @@ commit-keeps sh p entries ram gs ys views m h c o u k l g f = subst (λ q. KeptV
 -- Every event that commits nothing keeps the values of home words and of copies on their way home.
 
 -- what is shown of an event
-abbrev pub KeepsValues : Shape → (ram : ℕ → ℕ) → History → Stepped → Type 0
-KeepsValues sh ram h o = o.noted ≡ None → CommitsStand sh o.world h.commits → KeptValues sh ram o.world h.commits
+abbrev KeepsValues : Shape → (ram : ℕ → ℕ) → History → Stepped → Type 0
+KeepsValues sh ram h o = CommitsStand sh o.world (and_noted o.noted h.commits) → KeptValues sh ram o.world (and_noted o.noted h.commits)
 
-exec-keeps : (sh : Shape) (ram : ℕ → ℕ) (h : History) (c : ℕ) (x : Option Out) → Known sh ram h → IfSome x (Uncommitted sh (h.world.cores c)) → IfSome (moved h.world c x) (KeepsValues sh ram h)
-unfolding core_moves
-exec-keeps sh ram h c None b f = tt
-exec-keeps sh ram h c (Some o) b f = λ n s. alike-keeps sh ram h.world (core_moves h.world c o) h.commits refl (moved-alike sh h.world c o (f n)) b.values
-
-evict-keeps : (sh : Shape) (ram : ℕ → ℕ) (h : History) (c : ℕ) (x : Option Out) → Known sh ram h → IfSome x (Quietly sh (h.world.cores c)) → IfSome (moved h.world c x) (KeepsValues sh ram h)
-unfolding core_moves
-evict-keeps sh ram h c None b f = tt
-evict-keeps sh ram h c (Some o) b f = λ n s. alike-keeps sh ram h.world (core_moves h.world c o) h.commits refl (moved-alike sh h.world c o f.1) b.values
-
-taken-keeps : (sh : Shape) (ram : ℕ → ℕ) (h : History) (c d k : ℕ) (m : Msg) (x : Option Out) → Known sh ram h → in_flight h.world.net (Dir d) (Core c) k ≡ Some m → ((y : ℕ) → IfSome x (WordBack sh y (h.world.cores c) m)) → IfSome (taken h.world (Dir d) c k x) (KeepsValues sh ram h)
-unfolding core_takes
-taken-keeps sh ram h c d k m None b i f = tt
-taken-keeps sh ram h c d k m (Some o) b i f = λ n s. alike-keeps sh ram h.world (core_takes h.world (Dir d) c k o) h.commits refl (taken-alike sh ram h c d k m o b i f) b.values
-
-grant-keeps : (sh : Shape) (ram : ℕ → ℕ) (h : History) (c k : ℕ) (m : Msg) → Known sh ram h → IfSome (taken h.world Vendor c k (from_vendor sh (h.world.cores c) m)) (KeepsValues sh ram h)
-unfolding core_takes
-grant-keeps sh ram h c k (TidGrant t) b = λ n s. alike-keeps sh ram h.world (core_takes h.world Vendor c k (grant sh t (h.world.cores c))) h.commits refl (granted-alike sh h.world c k (grant sh t (h.world.cores c)) (words-grant sh t (h.world.cores c))) b.values
-grant-keeps sh ram h c k _ b = tt
-
--- an event that isn't enabled has nothing to show
-enabled : (R : Stepped → Type 0) (b : Bool) (x : Option Stepped) → IfSome x R → IfSome (if b then x else None) R
-enabled R true x h = h
-enabled R false x h = tt
-
--- what a directory answers commits nothing
-answer-keeps : (sh : Shape) (ram : ℕ → ℕ) (h : History) (c d k : ℕ) (a : Answer) → OfAnswer h.world c d k (λ v. CommitsStand sh v h.commits → KeptValues sh ram v h.commits) a → OfAnswer h.world c d k (λ v. KeepsValues sh ram h (record { world = v; noted = None })) a
-answer-keeps sh ram h c d k Waits f = tt
-answer-keeps sh ram h c d k _ f = λ n. f
-
-answer-values : (sh : Shape) (ram : ℕ → ℕ) (h : History) → Known sh ram h → (c d k : ℕ) (m : Msg) → c < sh.cores → d < sh.dirs → in_flight h.world.net (Core c) (Dir d) k ≡ Some m → OfAnswer h.world c d k (λ v. KeepsValues sh ram h (record { world = v; noted = None })) (dir_deliver sh (h.world.dirs d) c m)
-answer-values sh ram h b c d k m cl dl i = answer-keeps sh ram h c d k (dir_deliver sh (h.world.dirs d) c m) (answered sh ram h c d k m (dir_deliver sh (h.world.dirs d) c m) b cl dl i (dir-records sh (h.world.dirs d) c m) (λ x. dir-words sh x (h.world.dirs d) c m))
-
-pub step-values : (sh : Shape) (p : Program) (ram : ℕ → ℕ) (h : History) (e : Event) → Known sh ram h → IfSome (step sh p h.world e) (KeepsValues sh ram h)
-unfolding step happens names_nodes core_deliver
-step-values sh p ram h (Exec c) b = enabled (KeepsValues sh ram h) (nat_lt c sh.cores) (moved h.world c (core_exec sh p c (h.world.cores c))) (exec-keeps sh ram h c (core_exec sh p c (h.world.cores c)) b (words-exec sh p c (h.world.cores c) (b.caches c)))
-step-values sh p ram h (Evict c x y) b = enabled (KeepsValues sh ram h) (nat_lt c sh.cores && (nat_lt x sh.sets && nat_lt y sh.ways)) (moved h.world c (core_evict sh x y (h.world.cores c))) (evict-keeps sh ram h c (core_evict sh x y (h.world.cores c)) b (words-evict sh x y (h.world.cores c) (b.caches c)))
-step-values sh p ram h (Deliver src (Core c) k) b = enabled (KeepsValues sh ram h) (is_node sh src && nat_lt c sh.cores) (if_in_flight sh h.world src (Core c) k (in_flight h.world.net src (Core c) k)) (go src (in_flight h.world.net src (Core c) k) refl)
-  where
-    go : (src : Node) (x : Option Msg) → in_flight h.world.net src (Core c) k ≡ x → IfSome (if_in_flight sh h.world src (Core c) k x) (KeepsValues sh ram h)
-    go src None i = tt
-    go (Core j) (Some m) i = tt
-    go (Dir d) (Some m) i = taken-keeps sh ram h c d k m (from_dir sh d (h.world.cores c) m) b i (λ y. words-back sh y d (h.world.cores c) m (b.caches c))
-    go Vendor (Some m) i = grant-keeps sh ram h c k m b
-step-values sh p ram h (Deliver src (Dir d) k) b = answer_cases sh p h.world (Deliver src (Dir d) k) (KeepsValues sh ram h) tt (answer-values sh ram h b) (λ c i n s. granted sh ram h c i b)
-step-values sh p ram h (Deliver src Vendor k) b = answer_cases sh p h.world (Deliver src Vendor k) (KeepsValues sh ram h) tt (answer-values sh ram h b) (λ c i n s. granted sh ram h c i b)
-
--- nothing is noted, or the commit keeps the values
-abbrev NotesWell : Shape → (ram : ℕ → ℕ) → History → Stepped → Type 0
-NotesWell sh ram h o = (o.noted ≡ None) ⊎ KeptValues sh ram o.world (and_noted o.noted h.commits)
-
-notes-well : (sh : Shape) (p : Program) (entries : ℕ → Local) (ram : ℕ → ℕ) (gs : List Grant) (ys : Ways) (views : ℕ → Uses) (m : Plain) (h : History) (e : Event) → Suits sh p ram → Invariants sh p entries ram gs ys views m h → IfSome (step sh p h.world e) (NotesWell sh ram h)
-notes-well sh p entries ram gs ys views m h e u k = step_cases sh p w e (λ g o. NotesWell sh ram h o)
-    (λ c l. executed c l (core_exec sh p c (w.cores c)) (framing-exec sh p c (w.cores c)) (commits-exec sh p c (w.cores c) (k.carried.frames_stand_in_their_sets c) ((k.carried.marks_fit_the_phase c).spilled)))
-    (λ c x y l. rested (core_evict sh x y (w.cores c)) (w.cores c) (λ o. core_moves w c o) (evict-rests sh x y (w.cores c)))
-    (λ c n t q. inl ((grant-rests sh t (w.cores c)).commit))
-    (λ c d n a q. rested (from_dir sh d (w.cores c) a) (w.cores c) (λ o. core_takes w (Dir d) c n o) (back-rests sh d (w.cores c) a))
-    (λ c d n a q. answered c d n (dir_deliver sh (w.dirs d) c a))
-    (λ c n q. inl refl)
+step-values : (sh : Shape) (p : Program) (entries : ℕ → Local) (ram : ℕ → ℕ) (gs : List Grant) (ys : Ways) (views : ℕ → Uses) (m : Plain) (h : History) (e : Event) → Suits sh p ram → Invariants sh p entries ram gs ys views m h → IfSome (step sh p h.world e) (KeepsValues sh ram h)
+unfolding core_moves core_takes
+step-values sh p entries ram gs ys views m h e u k = node_cases sh p w e (λ x g o. KeepsValues sh ram h o)
+    (λ c l. executed c l (core_exec sh p c (w.cores c)) (framing-exec sh p c (w.cores c)) (commits-exec sh p c (w.cores c) (b.caches c) ((k.carried.marks_fit_the_phase c).spilled)) (words-exec sh p c (w.cores c) (b.caches c)))
+    (λ c x y l. evicted c (core_evict sh x y (w.cores c)) (words-evict sh x y (w.cores c) (b.caches c)))
+    (λ c n t i. let o = grant sh t (w.cores c) in quietly o.commit (core_takes w Vendor c n o) (grant-rests sh t (w.cores c)).commit (alike-keeps sh ram w (core_takes w Vendor c n o) h.commits refl (granted-alike sh w c n o (words-grant sh t (w.cores c))) b.values))
+    (λ c d n a i. taken c d n a i (from_dir sh d (w.cores c) a) (back-rests sh d (w.cores c) a) (λ y. words-back sh y d (w.cores c) a (b.caches c)))
+    (λ c d n a cl dl i. answered sh ram h c d n a (dir_deliver sh (w.dirs d) c a) b cl dl i (dir-records sh (w.dirs d) c a) (λ x. dir-words sh x (w.dirs d) c a))
+    (λ c n i s. granted sh ram h c n b)
   where
     w : World
     w = h.world
 
-    executed : (c : ℕ) → c < sh.cores → (x : Option Out) → IfSome x (Framing c (w.cores c)) → IfSome x (CommitsWords sh (w.cores c)) → IfSome x (λ o. NotesWell sh ram h (record { world = core_moves w c o; noted = o.commit }))
-    executed c l None f g = tt
-    executed c l (Some o) (Stays n f) g = inl n
-    executed c l (Some o) (Closes f) g = inr (commit-keeps sh p entries ram gs ys views m h c o u k l f g)
+    b : Known sh ram h
+    b = known sh p entries ram gs ys views m h k
 
-    rested : (x : Option Out) (s : CoreState) (v : Out → World) → IfSome x (Rests s) → IfSome x (λ o. NotesWell sh ram h (record { world = v o; noted = o.commit }))
-    rested None s v f = tt
-    rested (Some o) s v f = inl f.commit
+    quietly : (n : Option Noted) (v : World) → n ≡ None → KeptValues sh ram v h.commits → KeepsValues sh ram h (record { world = v; noted = n })
+    quietly n v e f = rw e (λ s. f)
 
-    answered : (c d n : ℕ) (a : Answer) → OfAnswer w c d n (λ v. NotesWell sh ram h (record { world = v; noted = None })) a
-    answered c d n Waits = tt
-    answered c d n Drops = inl refl
-    answered c d n (Asks s sends) = inl refl
-    answered c d n (Takes s sends) = inl refl
+    executed : (c : ℕ) → c < sh.cores → (x : Option Out) → IfSome x (Framing c (w.cores c)) → IfSome x (CommitsWords sh (w.cores c)) → IfSome x (Uncommitted sh (w.cores c)) → IfSome x (λ o. KeepsValues sh ram h (record { world = core_moves w c o; noted = o.commit }))
+    executed c l None f g a = tt
+    executed c l (Some o) (Stays n f) g a = quietly o.commit (core_moves w c o) n (alike-keeps sh ram w (core_moves w c o) h.commits refl (moved-alike sh w c o (a n)) b.values)
+    executed c l (Some o) (Closes f) g a = λ s. commit-keeps sh p entries ram gs ys views m h c o u k l f g
+
+    evicted : (c : ℕ) (x : Option Out) → IfSome x (Quietly sh (w.cores c)) → IfSome x (λ o. KeepsValues sh ram h (record { world = core_moves w c o; noted = o.commit }))
+    evicted c None a = tt
+    evicted c (Some o) a = quietly o.commit (core_moves w c o) (a.0) (alike-keeps sh ram w (core_moves w c o) h.commits refl (moved-alike sh w c o (a.1)) b.values)
+
+    taken : (c d n : ℕ) (a : Msg) → in_flight w.net (Dir d) (Core c) n ≡ Some a → (x : Option Out) → IfSome x (Rests (w.cores c)) → ((y : ℕ) → IfSome x (WordBack sh y (w.cores c) a)) → IfSome x (λ o. KeepsValues sh ram h (record { world = core_takes w (Dir d) c n o; noted = o.commit }))
+    taken c d n a i None r f = tt
+    taken c d n a i (Some o) r f = quietly o.commit (core_takes w (Dir d) c n o) r.commit (alike-keeps sh ram w (core_takes w (Dir d) c n o) h.commits refl (taken-alike sh ram h c d n a o b i f) b.values)
 
 pub homes_kept : EventsKeepHomes
 unfolding next
-homes_kept sh p entries ram gs ys views m h e u k = go (step sh p h.world e) (step-values sh p ram h e (known sh p entries ram gs ys views m h k)) (notes-well sh p entries ram gs ys views m h e u k)
+homes_kept sh p entries ram gs ys views m h e u k = go (step sh p h.world e) (step-values sh p entries ram gs ys views m h e u k)
   where
-    go : (x : Option Stepped) → IfSome x (KeepsValues sh ram h) → IfSome x (NotesWell sh ram h) → IfSome (recorded h x) (λ g. Carried sh (gs ++ granted_by h.world e) (ways_after (sent_by sh p h.world e) ys) g → HomesHold sh ram g)
-    go None a b = tt
-    go (Some o) a (inr v) = λ c. from-values sh ram o.world (and_noted o.noted h.commits) v
-    go (Some o) a (inl n) = λ c. from-values sh ram o.world (and_noted o.noted h.commits) (rw n (a n (rw n at (c.commit_is_on_its_way_or_applied))))
+    go : (x : Option Stepped) → IfSome x (KeepsValues sh ram h) → IfSome (recorded h x) (λ g. Carried sh (gs ++ granted_by h.world e) (ways_after (sent_by sh p h.world e) ys) g → HomesHold sh ram g)
+    go None a = tt
+    go (Some o) a = λ c. from-values sh ram o.world (and_noted o.noted h.commits) (a c.commit_is_on_its_way_or_applied)

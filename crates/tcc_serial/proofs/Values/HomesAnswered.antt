@@ -9,23 +9,23 @@ use Rattle.tcc_serial.proofs.Names.{[], IfSome, subst, Plain, Program, Local, Ve
 use Rattle.tcc_serial.proofs.Names.{LoadReq, Fill, Skip, Probe, ProbeReply, Mark, Commit, Abort, WriteBack, Flush, DataReq, Inv, InvAck}
 use Rattle.tcc_serial.proofs.Names.{DirState, Sends, Answer, Waits, Drops, Asks, Takes, dir_deliver, Stepped, step, happens, names_nodes}
 use Rattle.tcc_serial.proofs.Names.{if_in_flight, delivered, dir_takes, dir_asks, vendor_gives, Uses, Invariants, Grant, CommitsStand, Ways}
-use Rattle.tcc_serial.proofs.Marks.OwesByCommit.{CountsMarked}
-use Rattle.tcc_serial.proofs.Marks.DirRecords.{NoCopy, Stays, Records, Still, Came, Settles, Dropped, RecordsBy}
 use Rattle.tcc_serial.proofs.Copies.LinesStep.{marked-line, writer-line, other-writer, commit-passes}
 use Rattle.tcc_serial.proofs.Copies.TagsKept.{tag-below, applied-owed, TakenCommit, takes-consumes}
-use Rattle.tcc_serial.proofs.Marks.MaskLaws.{same-commit}
-use Rattle.tcc_serial.proofs.Memory.MemorySends.{line-has}
+use Rattle.tcc_serial.proofs.Copies.WroteLines.{wrote-at}
 use Rattle.tcc_serial.proofs.Counts.Links.{num-same}
+use Rattle.tcc_serial.proofs.Counts.StepCases.{given, and-false, OfAnswer, step_answer}
+use Rattle.tcc_serial.proofs.Marks.DirRecords.{NoCopy, Stays, Records, Still, Came, Settles, Dropped, RecordsBy}
+use Rattle.tcc_serial.proofs.Marks.MaskLaws.{same-commit}
+use Rattle.tcc_serial.proofs.Marks.OwesByCommit.{CountsMarked}
 use Rattle.tcc_serial.proofs.Marks.StoredMasks.{stored-line, stored-cases}
+use Rattle.tcc_serial.proofs.Memory.MemorySends.{line-has}
 use Rattle.tcc_serial.proofs.Tids.TidSteps.{live-some}
+use Rattle.tcc_serial.proofs.Values.DirWords.{HomeBy, Left, Home, WordsBy}
 use Rattle.tcc_serial.proofs.Values.ValueAt.{value-alike, rising-above}
 use Rattle.tcc_serial.proofs.Values.WordCopies.{none-copied, few-copies, copy-has, word-line}
 use Rattle.tcc_serial.proofs.Values.WordValues.{Known, Answers, unconsumed, value_of, tag_of, ValuesAt, have-still, same-copies}
 use Rattle.tcc_serial.proofs.Values.WordValues.{SameCommits, same-value, stored-at-home, quiet-keep, taken-values, dropped-values}
 use Rattle.tcc_serial.proofs.Values.WordValues.{away-values, KeptValues, values-of, same-values}
-use Rattle.tcc_serial.proofs.Copies.WroteLines.{wrote-at}
-use Rattle.tcc_serial.proofs.Values.DirWords.{HomeBy, Left, Home, WordsBy}
-use Rattle.tcc_serial.proofs.Counts.StepCases.{given, and-false, OfAnswer, step_answer}
 
 -- A Commit that a directory handles keeps the values of each word: its core's copies have the stored words as they are from now on for
 -- all, and the words of a marked line that it didn't store are at home.
@@ -96,11 +96,7 @@ applied-after sh ram h c d k m v s y i t = go (c == y.core.0) refl
         let w : (d == d) ≡ true = grind (arith, nat_tests) in
         let o : num ((y.core.0 == c && d == d) && passes (Commits y.tid.0) m) ≡ 1 = rw (z, w, p) refl in
         omega (arith, o, net, one)
-    gone e false q = late (cases_lt 0 before)
-      where
-        late : (0 < before) ⊎ (before ≤ 0) → after ≡ 0
-        late (inr l) = omega (arith, l, net)
-        late (inl l) = absurd (let f : 1 ≤ live (Commits y.tid.0) (h.world.net (Core c) (Dir d)) = rw e (omega (arith, l)) in let w = s.known.served c d y.tid.0 s.core s.dir f in let x : (u == y.tid.0) ≡ true = grind (arith, nat_tests) in cc)
+    gone e false q = grind (arith, nat_tests)
 
     go : (b : Bool) → (c == y.core.0) ≡ b → is_applied (v.dirs d) y.tid.0 ≡ (b || is_applied (h.world.dirs d) y.tid.0)
     go true q = let e : c ≡ y.core.0 = grind (arith, nat_tests) in num-same (is_applied (v.dirs d) y.tid.0) true (omega (arith, then-one, gone e (u == y.tid.0) refl))
@@ -165,10 +161,9 @@ unmarked-values sh ram h c d k x m v s e t r = quiet-keep sh ram h.world v h.com
 -- the commit's mask has the words that it stored
 wrote-has : (sh : Shape) (h : History) (c d x : ℕ) → (t : TakenCommit sh h.commits h.world c d) → stores_word sh.base t.settled.commit.stores x ≡ true → has (wrote_mask sh.base h.commits c (h.world.dirs d).serving.serving (line_of x)) (place_of x) ≡ true
 unfolding wrote_mask
-wrote-has sh h c d x t q = has-mask_of (λ k. wrote sh.base h.commits c (h.world.dirs d).serving.serving (word_at (line_of x) k)) (place_of x) (omega arith) ∙ rw (at-place x, sym (t.core), sym (t.settled.tid)) (wrote-at sh.base h.commits t.settled.commit x t.settled.noted.0 q (t.settled.noted.1) (t.settled.noted.2))
-  where
-    at-place : (x : ℕ) → word_at (line_of x) (place_of x) ≡ x
-    at-place x = omega arith
+wrote-has sh h c d x t q =
+    let at-place : (x : ℕ) → word_at (line_of x) (place_of x) ≡ x = λ x. omega arith in
+    has-mask_of (λ k. wrote sh.base h.commits c (h.world.dirs d).serving.serving (word_at (line_of x) k)) (place_of x) (omega arith) ∙ rw (at-place x, sym (t.core), sym (t.settled.tid)) (wrote-at sh.base h.commits t.settled.commit x t.settled.noted.0 q (t.settled.noted.1) (t.settled.noted.2))
 
 -- so that the core's copy has each of them
 stored-copied : (sh : Shape) (ram : ℕ → ℕ) (h : History) (c d x : ℕ) → Known sh ram h → c < sh.cores → d < sh.dirs → home sh (line_of x) ≡ d → (t : TakenCommit sh h.commits h.world c d) → line_of x < lines sh → has_mark (h.world.dirs d).lines (line_of x) ≡ true → tag_of h.world d x < (h.world.dirs d).serving.serving → stores_word sh.base t.settled.commit.stores x ≡ true → 1 ≤ word_copies x (h.world.dirs d).serving.serving (pair h.world c d)
@@ -310,7 +305,6 @@ known sh p entries ram gs ys views m h k = record {
 }
 
 -- a directory's answer
-
 here : (d : ℕ) (s : DirState) (f : ℕ → DirState) → (if d == d then s else f d) ≡ s
 here d s f = let y : (d == d) ≡ true = grind (arith, nat_tests) in rw y refl
 
@@ -383,73 +377,3 @@ answered sh ram h c d k m (Takes s sends) b cl dl i r f = λ t. takes sh ram h c
 pub granted : (sh : Shape) (ram : ℕ → ℕ) (h : History) (c k : ℕ) → Known sh ram h → KeptValues sh ram (vendor_gives h.world c k (given h.world c)) h.commits
 unfolding vendor_gives
 granted sh ram h c k b e x el q = same-values sh ram h.world (vendor_gives h.world c k (given h.world c)) h.commits e x refl refl (λ l j. rw (and-false (j == c)) refl) (b.values e x el q)
-
--- the events that a directory or the vendor answers
-
--- a message is delivered to a directory or to the vendor
-abbrev pub IsAnswered : Event → Type 0
-IsAnswered (Deliver src (Dir d) k) = Unit {0}
-IsAnswered (Deliver src Vendor k) = Unit {0}
-IsAnswered _ = ⊥
-
-pub answer_cases : (sh : Shape) (p : Program) (w : World) (e : Event) (R : Stepped → Type 0) → IsAnswered e
-    → ((c d k : ℕ) (m : Msg) → c < sh.cores → d < sh.dirs → in_flight w.net (Core c) (Dir d) k ≡ Some m → OfAnswer w c d k (λ v. R (record { world = v; noted = None })) (dir_deliver sh (w.dirs d) c m))
-    → ((c k : ℕ) → R (record { world = vendor_gives w c k (given w c); noted = None }))
-    → IfSome (step sh p w e) R
-unfolding step happens names_nodes
-answer_cases sh p w (Exec c) R a f g = absurd a
-answer_cases sh p w (Evict c x y) R a f g = absurd a
-answer_cases sh p w (Deliver src (Core c) k) R a f g = absurd a
-answer_cases sh p w (Deliver (Core c) (Dir d) k) R a f g = go (nat_lt c sh.cores) (nat_lt d sh.dirs) refl refl (in_flight w.net (Core c) (Dir d) k) refl
-  where
-    go : (y z : Bool) → nat_lt c sh.cores ≡ y → nat_lt d sh.dirs ≡ z → (x : Option Msg) → in_flight w.net (Core c) (Dir d) k ≡ x → IfSome (if y && z then if_in_flight sh w (Core c) (Dir d) k x else None) R
-    go false z q r x i = tt
-    go true false q r x i = tt
-    go true true q r None i = tt
-    go true true q r (Some m) i = step_answer w c d k R (dir_deliver sh (w.dirs d) c m) (f c d k m (grind (arith, nat_tests)) (grind (arith, nat_tests)) i)
-answer_cases sh p w (Deliver (Dir e) (Dir d) k) R a f g = go (nat_lt e sh.dirs && nat_lt d sh.dirs) (in_flight w.net (Dir e) (Dir d) k)
-  where
-    go : (y : Bool) (x : Option Msg) → IfSome (if y then if_in_flight sh w (Dir e) (Dir d) k x else None) R
-    go false x = tt
-    go true None = tt
-    go true (Some m) = tt
-answer_cases sh p w (Deliver Vendor (Dir d) k) R a f g = go (nat_lt d sh.dirs) (in_flight w.net Vendor (Dir d) k)
-  where
-    go : (y : Bool) (x : Option Msg) → IfSome (if true && y then if_in_flight sh w Vendor (Dir d) k x else None) R
-    go false x = tt
-    go true None = tt
-    go true (Some m) = tt
-answer_cases sh p w (Deliver (Core c) Vendor k) R a f g = go (nat_lt c sh.cores && true) (in_flight w.net (Core c) Vendor k)
-  where
-    asked : (m : Msg) → IfSome (delivered sh w (Core c) Vendor k m) R
-    asked TidReq = g c k
-    asked (TidGrant t) = tt
-    asked (LoadReq l a) = tt
-    asked (Fill l ws) = tt
-    asked (Skip t) = tt
-    asked (Probe t) = tt
-    asked (ProbeReply t s) = tt
-    asked (Mark l m t) = tt
-    asked (Commit t n) = tt
-    asked (Abort t) = tt
-    asked (WriteBack l m ws t) = tt
-    asked (Flush l m ws t) = tt
-    asked (DataReq l) = tt
-    asked (Inv l m t) = tt
-    asked (InvAck l b) = tt
-
-    go : (y : Bool) (x : Option Msg) → IfSome (if y then if_in_flight sh w (Core c) Vendor k x else None) R
-    go false x = tt
-    go true None = tt
-    go true (Some m) = asked m
-answer_cases sh p w (Deliver (Dir d) Vendor k) R a f g = go (nat_lt d sh.dirs && true) (in_flight w.net (Dir d) Vendor k)
-  where
-    go : (y : Bool) (x : Option Msg) → IfSome (if y then if_in_flight sh w (Dir d) Vendor k x else None) R
-    go false x = tt
-    go true None = tt
-    go true (Some m) = tt
-answer_cases sh p w (Deliver Vendor Vendor k) R a f g = go (in_flight w.net Vendor Vendor k)
-  where
-    go : (x : Option Msg) → IfSome (if true && true then if_in_flight sh w Vendor Vendor k x else None) R
-    go None = tt
-    go (Some m) = tt

@@ -5,13 +5,13 @@ use Rattle.tcc_serial.proofs.Names.{CommitsInMemory, Pair, pair, is_applied, Com
 use Rattle.tcc_serial.proofs.Names.{word_copies, CopiesHave, HomeWords, CopiesAbove, names_line, ◌==◌, ◌&&◌, nat_tests, num, Msg, IsCache}
 use Rattle.tcc_serial.proofs.Names.{in_flight, History, CommitsAreServed, copies_with, KeptTags, KeptAbove, KeptOwned, Invs, CopyOf, passes}
 use Rattle.tcc_serial.proofs.Names.{CopiesInMemory, OwedInFlight, KeptNamed, MarksOfCommits, IsRising, KeptWhole, is_this, KeptStored}
-use Rattle.tcc_serial.proofs.Memory.MemorySends.{line-has}
-use Rattle.tcc_serial.proofs.Counts.Links.{num-same}
 use Rattle.tcc_serial.proofs.Copies.TagsKept.{stored-home, Consumes}
-use Rattle.tcc_serial.proofs.Values.ValueAt.{value-alike}
+use Rattle.tcc_serial.proofs.Counts.Links.{num-same}
 use Rattle.tcc_serial.proofs.Marks.DirRecords.{NoCommit, Dropped}
-use Rattle.tcc_serial.proofs.Values.DirWords.{HomeBy, Left, Home}
+use Rattle.tcc_serial.proofs.Memory.MemorySends.{line-has}
 use Rattle.tcc_serial.proofs.Tids.TidSteps.{live-some}
+use Rattle.tcc_serial.proofs.Values.DirWords.{HomeBy, Left, Home}
+use Rattle.tcc_serial.proofs.Values.ValueAt.{value-alike}
 use Rattle.tcc_serial.proofs.Values.WordCopies.{word-line}
 
 -- one word, at its home
@@ -38,7 +38,6 @@ pub from-values : (sh : Shape) (ram : ℕ → ℕ) (w : World) (cs : List Noted)
 from-values sh ram w cs k = (record { at_home = λ d x dl e. (k d x dl e).at_home; in_copies = λ c d x cl dl e. (k d x dl e).in_copies c cl }, λ c d x t cl dl e i. (k d x dl e).above c t cl i)
 
 -- an event that leaves the cores, the line's tag and the word's values
-
 pub record Stands (sh : Shape) (ram : ℕ → ℕ) (w v : World) (cs : List Noted) (d x : ℕ) : Type 0 where
   pub cores : v.cores ≡ w.cores
   pub tag : tag_of v d x ≡ tag_of w d x
