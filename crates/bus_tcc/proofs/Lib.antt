@@ -5,6 +5,7 @@ mod Reaching
 mod Starting
 mod Events
 mod Bounds
+mod Refining
 mod Taken
 mod Takes
 mod Writes

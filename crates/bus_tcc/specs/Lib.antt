@@ -12,5 +12,6 @@ pub mod Whole
 pub mod Inside
 pub mod Answers
 pub mod Chosen
+pub mod Refined
 pub mod Uses
 pub mod Parts

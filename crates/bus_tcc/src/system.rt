@@ -6,6 +6,7 @@ ghost use Rattle.bus_rules.specs.Useful.{BusIsDone};
 ghost use Rattle.bus_serial.specs.Given.{bus_at_start};
 ghost use Rattle.bus_tcc.specs.Answers.{Answers};
 ghost use Rattle.bus_tcc.specs.Machine.{bus_event_of, bus_history_of, bus_settings_of, bus_world_of};
+ghost use Rattle.bus_tcc.specs.Refined.{IsBusRefined};
 ghost use Rattle.bus_tcc.specs.Parts.{CountedBut, CountedIn, core_named};
 ghost use Rattle.bus_tcc.specs.Whole.{BusReached};
 ghost use Rattle.tcc_program.specs.Cores.{printed};
@@ -114,7 +115,8 @@ impl BusSystem {
 
     /// The commits so far, by rising TID. It takes constant time.
     pub fn commits(&self) -> &[Commit]
-        ensures { result.now ≡ self.now.commits }
+        ensures commits { result.now ≡ self.now.commits }
+        ensures refined { IsBusRefined self.now }
     {
         self.engine.commits()
     }
