@@ -59,5 +59,6 @@ pub bank-can : (b : Inside) (now : CoresData) (c : ℕ) (x : Core) → IsCoreOf 
 bank-can b now c x h k = all-own (λ p s y. CanCommit s y) b now c x h k
 
 pub bank-may : (t : ℕ) (b : Inside) (now : CoresData) (c : ℕ) (x : Core) → IsCoreOf b now c x
-    → CommitsBy (program_in now) t (cores_of now c) (cores_of now c).phase → CommitsBy (program_in (bank_of b)) t (core_of x) (core_of x).phase
+    → CommitsBy (program_in now) t (cores_of now c) (cores_of now c).phase
+    → CommitsBy (program_in (bank_of b)) t (core_of x) (core_of x).phase
 bank-may t b now c x h k = all-own (λ p s y. CommitsBy p t y y.phase) b now c x h k

@@ -22,6 +22,8 @@ mod storing;
 mod system;
 mod take;
 mod taking;
+#[cfg(test)]
+mod tests;
 mod together;
 mod useful;
 mod uses;

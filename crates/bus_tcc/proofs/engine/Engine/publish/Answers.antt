@@ -94,7 +94,8 @@ insert-requires-clause-new c =
     let m = machine_of c.self.inside in
     let n = c.args.core.0 in
     subst (HasNone c.in-Ok-commit.field-0.commit.tid.0) (sym c.reserve.ensures.unchanged)
-    (new-tid m n (at_commit (bus_program_of m) (cores_of (bank_in m) n)) c.in-Ok-commit.field-0 c.self.invariant c.in-Ok-commit.ensures.wrote)
+    (new-tid m n (at_commit (bus_program_of m) (cores_of (bank_in m) n)) c.in-Ok-commit.field-0 c.self.invariant
+    c.in-Ok-commit.ensures.wrote)
 
 pub overflow_add-self : goal.overflow_add-self
 overflow_add-self c =
