@@ -1,6 +1,6 @@
 -- No packet is left to nobody.
-use Rattle.std.proofs.Common.{refl, ap, sym, ◌∙◌}
-use Rattle.std.specs.Prelude.{filter, slice_get}
+use Rattle.std.proofs.Common.{ap}
+use Rattle.std.specs.Prelude.{slice_get}
 use Rattle.tcc_rules.specs.Seen.{numbers}
 use Rattle.bus_tcc.specs.Left.{is_left}
 use Rattle.bus_tcc.specs.Machine.{bus_of}

@@ -1,6 +1,5 @@
 -- No packet is left to nobody.
-use Rattle.std.proofs.Common.{length, refl, ap, sym, ◌∙◌}
-use Rattle.std.specs.Prelude.{filter}
+use Rattle.std.proofs.Common.{length, ap}
 use Rattle.tcc_rules.specs.Seen.{numbers}
 use Rattle.bus_tcc.specs.Left.{is_left}
 use Rattle.bus_tcc.specs.Machine.{bus_of}
