@@ -181,7 +181,11 @@ take-at m now k count o v e q =
 
 ways-most : (sh : Shape) (s : CoreState) (o : Option ℕ) → length (ways_in sh s o) ≤ sh.ways
 ways-most sh s None = omega arith
-ways-most sh s (Some x) = omega (arith, length-map {B = ℕ × ℕ} (loose_ways sh s x) (λ y. (x, y)), count-most (λ y. is_some (core_evict sh x y s)) sh.ways)
+ways-most sh s (Some x) = omega (
+  arith,
+  length-map {B = ℕ × ℕ} (loose_ways sh s x) (λ y. (x, y)),
+  count-most (λ y. is_some (core_evict sh x y s)) sh.ways,
+)
 
 evicts-few : (m : BusMachine) → IsBusWhole m → (c : ℕ) → length (evicts_at m c) ≤ 16
 unfolding room_ways

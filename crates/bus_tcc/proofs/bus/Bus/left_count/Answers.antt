@@ -8,8 +8,10 @@ use Rattle.bus_tcc.proofs.bus.Bus.left_count.Goals as goal
 
 pub returns-in-Free : goal.returns-in-Free
 returns-in-Free c =
-    ap (λ xs. length xs) (none-pass (is_left (bus_of c.args.self.now)) (numbers c.args.count) (λ k. ap (λ b. is_left (bus_of b) k) c.in-Free.is))
+    ap length
+    (none-pass (is_left (bus_of c.args.self.now)) (numbers c.args.count) (λ k. ap (λ b. is_left (bus_of b) k) c.in-Free.is))
 
 pub returns-in-Alone : goal.returns-in-Alone
 returns-in-Alone c =
-    ap (λ xs. length xs) (none-pass (is_left (bus_of c.args.self.now)) (numbers c.args.count) (λ k. ap (λ b. is_left (bus_of b) k) c.in-Alone.is))
+    ap length
+    (none-pass (is_left (bus_of c.args.self.now)) (numbers c.args.count) (λ k. ap (λ b. is_left (bus_of b) k) c.in-Alone.is))
