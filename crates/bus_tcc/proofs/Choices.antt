@@ -9,13 +9,12 @@ use Rattle.image_load.specs.Contents.{Contents, started}
 use Rattle.rv_code.specs.Machine.{program}
 use Rattle.tcc_base.specs.Settings.{Settings}
 use Rattle.tcc_maps.specs.Shape.{Shape}
-use Rattle.tcc_program.specs.Program.{Program}
 use Rattle.tcc_rules.specs.CoreEvict.{core_evict}
 use Rattle.tcc_rules.specs.Seen.{numbers}
 use Rattle.tcc_rules.specs.State.{CoreState}
 use Rattle.tcc_rules.specs.Useful.{room}
 use Rattle.core_bank.specs.Bank.{cores_of}
-use Rattle.core_bank.proofs.Lemmas.{get-left, get-right, numbers-length}
+use Rattle.core_bank.proofs.Lemmas.{get-left, get-right}
 use Rattle.sum_tree.specs.Falls.{FallsAt}
 use Rattle.bus_rules.specs.State.{BusEvent, Exec, Evict, Take}
 use Rattle.bus_tcc.specs.Answers.{bus_step_of}
@@ -182,7 +181,11 @@ take-at m now k count o v e q =
 
 ways-most : (sh : Shape) (s : CoreState) (o : Option ℕ) → length (ways_in sh s o) ≤ sh.ways
 ways-most sh s None = omega arith
-ways-most sh s (Some x) = omega (arith, length-map {B = ℕ × ℕ} (loose_ways sh s x) (λ y. (x, y)), count-most (λ y. is_some (core_evict sh x y s)) sh.ways)
+ways-most sh s (Some x) = omega (
+  arith,
+  length-map {B = ℕ × ℕ} (loose_ways sh s x) (λ y. (x, y)),
+  count-most (λ y. is_some (core_evict sh x y s)) sh.ways,
+)
 
 evicts-few : (m : BusMachine) → IsBusWhole m → (c : ℕ) → length (evicts_at m c) ≤ 16
 unfolding room_ways

@@ -1,7 +1,7 @@
 -- Which events of a machine are enabled, from what its cores may do by themselves, and the three parts of its useful events.
-use Rattle.std.proofs.Common.{◌≡◌, ℕ, ◌<◌, ◌≤◌, Bool, true, false, not, ◌&&◌, ◌||◌, List, [], ◌∷◌, ◌++◌, map, Option, Some, None, is_some}
+use Rattle.std.proofs.Common.{◌≡◌, ℕ, ◌<◌, ◌≤◌, Bool, true, false, not, ◌&&◌, ◌||◌, ◌++◌, map, Option, Some, None, is_some}
 use Rattle.std.proofs.Common.{refl, ap, sym, ◌∙◌, inl, inr, arith, if◌then◌else◌}
-use Rattle.std.specs.Prelude.{filter, IfSome, nat_lt}
+use Rattle.std.specs.Prelude.{IfSome, nat_lt}
 use Rattle.std.specs.List.{flat_map}
 use Rattle.std.proofs.lemmas.Bool.{lt-ltb}
 use Rattle.std.proofs.lemmas.Bool.Decides.{nat_tests}
@@ -19,7 +19,7 @@ use Rattle.core_node.specs.AtHand.{goes_alone}
 use Rattle.core_node.specs.Executing.{overflows}
 use Rattle.bus_rules.specs.Commit.{BusStepped}
 use Rattle.bus_rules.specs.Exec.{bus_exec, exec_alone, executed, goes_on, when_free}
-use Rattle.bus_rules.specs.State.{Bus, BusEvent, BusWorld, Exec, Evict, Take, Free, Alone, Packet}
+use Rattle.bus_rules.specs.State.{Bus, BusWorld, Exec, Evict, Take, Free, Alone, Packet}
 use Rattle.bus_rules.specs.Step.{bus_names, bus_step, evicted}
 use Rattle.bus_rules.specs.Take.{bus_take, take_from}
 use Rattle.bus_serial.proofs.Lemmas.{alone-stays, evicts_in, flat-same, goes, instruction-some, one_if, positive, useful-by_core}

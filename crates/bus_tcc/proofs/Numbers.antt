@@ -1,6 +1,6 @@
 -- The numbers below a bound that pass a test, as a loop counts and seeks them, and lists by number, as their lengths find what is in them.
-use Rattle.std.proofs.Common.{◌≡◌, ℕ, zero, suc, ◌+◌, ◌*◌, ◌<◌, ◌≤◌, Bool, true, false, cond, if◌then◌else◌, List, [], ◌∷◌, ◌++◌, map, length}
-use Rattle.std.proofs.Common.{◌-◌, append-nil, length-append, take, take_all, Option, Some, None, refl, ap, sym, ◌∙◌, arith, inl, inr}
+use Rattle.std.proofs.Common.{◌≡◌, ℕ, zero, suc, ◌+◌, ◌*◌, ◌<◌, ◌≤◌, Bool, true, false, cond, if◌then◌else◌, List, [], ◌∷◌, ◌++◌, map}
+use Rattle.std.proofs.Common.{length, ◌-◌, append-nil, length-append, take, take_all, Some, None, refl, ap, sym, ◌∙◌, arith, inl, inr}
 use Rattle.std.specs.Prelude.{get_or, slice_get, sum}
 use Rattle.std.specs.List.{filter, flat_map}
 use Rattle.std.proofs.lemmas.Bool.{cases_eq, cases_lt}
@@ -114,11 +114,11 @@ earlier f i zero r l h = absurd (omega arith)
 earlier f i (suc n) r l h = elim (cases_eq i n) [
   | inl q ↦ rw (← q) (omega (arith, h, length-append (flat_map f (numbers i)) (f i), ap length (flat-more f i)))
   | inr m ↦ omega (
-      arith,
-      earlier f i n r (omega arith) h,
-      length-append (flat_map f (numbers n)) (f n),
-      ap length (flat-more f n),
-    )
+    arith,
+    earlier f i n r (omega arith) h,
+    length-append (flat_map f (numbers n)) (f n),
+    ap length (flat-more f n),
+  )
 ]
 
 -- element r of the i-th list

@@ -1,5 +1,5 @@
 -- An event changes no core but the one that it names.
-use Rattle.std.proofs.Common.{◌≡◌, ◌≢◌, ℕ, ◌<◌, Bool, true, false, Option, Some, None, Result, Ok, Err, refl, ap, sym, ◌∙◌, subst}
+use Rattle.std.proofs.Common.{◌≡◌, ◌≢◌, ℕ, Bool, true, false, Option, Some, None, Result, Ok, Err, refl, ap, sym, ◌∙◌, subst}
 use Rattle.std.specs.Prelude.{IfSome, if◌then◌else◌}
 use Rattle.std.proofs.lemmas.Bool.{ne_eqb}
 use Rattle.image_load.specs.Contents.{started}
@@ -7,7 +7,7 @@ use Rattle.rv_code.specs.Machine.{program}
 use Rattle.tcc_base.specs.Put.{put}
 use Rattle.tcc_maps.specs.Shape.{Shape}
 use Rattle.tcc_program.specs.Program.{Need, Nothing, Loads, Stores, Changes, Prints, Ends, Halts, Traps, Program}
-use Rattle.tcc_rules.specs.Attempt.{Out, finished}
+use Rattle.tcc_rules.specs.Attempt.{Out}
 use Rattle.tcc_rules.specs.CoreEvict.{core_evict}
 use Rattle.tcc_rules.specs.State.{CoreState, Phase, Running, AwaitTid, DoomedTid, Probing, Ready, Overflowing, Solo, Halted}
 use Rattle.bus_rules.specs.Commit.{BusStepped, bus_commit}
@@ -15,7 +15,7 @@ use Rattle.bus_rules.specs.Exec.{bus_exec, exec_alone, exec_in, executed, goes_o
 use Rattle.bus_rules.specs.State.{Bus, BusEvent, BusWorld, Exec, Evict, Take, Free, Alone, Packet}
 use Rattle.bus_rules.specs.Step.{BusHistory, bus_happens, bus_names, bus_next, bus_step, evicted, recorded}
 use Rattle.bus_rules.specs.Take.{bus_take, take_from}
-use Rattle.bus_tcc.specs.Answers.{Answers, Kept, Took}
+use Rattle.bus_tcc.specs.Answers.{Answers, Kept}
 use Rattle.bus_tcc.specs.Machine.{BusMachine, bus_history_of, bus_program_of, bus_settings_of, bus_world_of}
 use Rattle.bus_tcc.specs.Parts.{CountedBut, CountedIn, core_named}
 use Rattle.bus_tcc.specs.Uses.{AreCountedBut}

@@ -1,6 +1,6 @@
 -- What each core may do next, by itself, and the counts of that by core.
-use Rattle.std.specs.Prelude.{ℕ, ◌≡◌, ◌≢◌, ◌<◌, Bool, true, false, not, ◌&&◌, ◌||◌, List, [], ◌∷◌, map, filter, length, get_or, Option, Some, None}
-use Rattle.std.specs.Prelude.{is_some, if◌then◌else◌}
+use Rattle.std.specs.Prelude.{ℕ, ◌≡◌, ◌≢◌, ◌<◌, Bool, true, false, not, ◌&&◌, ◌||◌, List, [], map, filter, length, get_or, Option, Some}
+use Rattle.std.specs.Prelude.{None, is_some, if◌then◌else◌}
 use Rattle.tcc_maps.specs.Shape.{Shape}
 use Rattle.tcc_program.specs.Program.{Program}
 use Rattle.tcc_rules.specs.CoreEvict.{core_evict}

@@ -8,9 +8,9 @@ ghost use Rattle.bus_tcc.specs.Parts.{CountedIn, evicts_of, execs_of, takes_of};
 ghost use Rattle.bus_tcc.specs.Whole.{IsBusWhole};
 
 use crate::counts::Counts;
+use crate::engine::Engine;
 use crate::event::BusEvent;
 use crate::stepping::has_way;
-use crate::engine::Engine;
 use crate::uses::way_at;
 use tcc_base::CoreId;
 

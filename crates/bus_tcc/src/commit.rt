@@ -8,11 +8,11 @@ ghost use Rattle.bus_tcc.specs.Ending.{CommitsBy, at_commit};
 ghost use Rattle.bus_tcc.specs.Machine.{bus_program_of, bus_settings_of, bus_world_of};
 
 use crate::committing::{Written, tagged};
+use crate::engine::Engine;
 use crate::event::{BusError, BusStep};
 use crate::publishing::bus_with;
 use crate::stepping::refusal;
 use crate::storing::store_all;
-use crate::engine::Engine;
 use tcc_base::{CoreId, Tid};
 
 impl Engine {

@@ -8,10 +8,10 @@ ghost use Rattle.bus_tcc.specs.Answers.{Answers, bus_step_of};
 ghost use Rattle.bus_tcc.specs.Machine.{bus_of, bus_program_of, bus_settings_of, bus_world_of, is_free};
 
 use crate::bus::Bus;
+use crate::engine::Engine;
 use crate::event::{BusError, BusStep};
 use crate::readers::words_of;
 use crate::stepping::refusal;
-use crate::engine::Engine;
 use tcc_base::CoreId;
 
 fn is_barred_by(free: bool, overflows: bool) -> bool

@@ -6,8 +6,8 @@ ghost use Rattle.bus_tcc.specs.Answers.{Answers};
 ghost use Rattle.bus_tcc.specs.Machine.{bus_event_of, bus_settings_of, bus_world_of};
 
 use crate::ending::is_alone;
-use crate::event::{BusError, BusEvent, BusStep};
 use crate::engine::Engine;
+use crate::event::{BusError, BusEvent, BusStep};
 use tcc_base::CoreId;
 
 impl Engine {

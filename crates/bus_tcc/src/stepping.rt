@@ -5,8 +5,8 @@ ghost use Rattle.bus_rules.specs.Step.{bus_next};
 ghost use Rattle.bus_tcc.specs.Answers.{Answers, bus_step_of, refusal_of, tid_noted, tid_told};
 ghost use Rattle.bus_tcc.specs.Machine.{bus_event_of, bus_history_of, bus_program_of, bus_settings_of};
 
-use crate::event::{BusError, BusEvent, BusStep};
 use crate::engine::Engine;
+use crate::event::{BusError, BusEvent, BusStep};
 use core_node::CoreError;
 use tcc_base::{Config, CoreId};
 

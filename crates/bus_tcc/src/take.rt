@@ -3,8 +3,8 @@ ghost use Rattle.std.specs.Prelude.{◌<◌};
 ghost use Rattle.bus_rules.specs.State.{Take};
 ghost use Rattle.bus_tcc.specs.Answers.{Answers};
 
-use crate::event::{BusError, BusStep};
 use crate::engine::Engine;
+use crate::event::{BusError, BusStep};
 use tcc_base::CoreId;
 
 impl Engine {

@@ -103,6 +103,9 @@ struct State {
     words: [u32; 2],
     /// What the first core's commits printed first.
     printed: Option<u8>,
+    /// How many events are useful, and the first three.
+    useful: u64,
+    first: [Option<BusEvent>; 3],
 }
 
 /// The file of these words.
@@ -136,6 +139,9 @@ fn take(system: &mut BusSystem, event: BusEvent) -> Result<(), BusError> {
 /// Takes all of these events.
 fn take_all(system: &mut BusSystem, events: &[BusEvent]) -> Result<(), Fail> {
     for &event in events {
+        if !system.enabled(event) {
+            return Err("an event wasn't enabled")?;
+        }
         let Ok(()) = take(system, event) else {
             return Err("an event wasn't taken")?;
         };
@@ -146,7 +152,7 @@ fn take_all(system: &mut BusSystem, events: &[BusEvent]) -> Result<(), Fail> {
 /// Takes none of these events.
 fn refuse_all(system: &mut BusSystem, events: &[BusEvent]) -> Result<(), Fail> {
     for &event in events {
-        if take(system, event) != Err(BusError::Refused) {
+        if system.enabled(event) || take(system, event) != Err(BusError::Refused) {
             return Err("an event wasn't refused")?;
         }
     }
@@ -173,6 +179,7 @@ fn standing(system: &BusSystem, core: u8) -> Option<Stands> {
 /// Where the machine has come to.
 fn come_to(alloc: Global, system: &BusSystem) -> Result<State, Fail> {
     let console = system.console(alloc, CoreId(0))?;
+    let useful = system.useful(alloc)?;
     Ok(State {
         events: system.events(),
         done: system.done(),
@@ -180,6 +187,12 @@ fn come_to(alloc: Global, system: &BusSystem) -> Result<State, Fail> {
         cores: [standing(system, 0), standing(system, 1)],
         words: [system.word(WordAddr(16)), system.word(WordAddr(24))],
         printed: console.items.first().copied(),
+        useful: system.useful_count(),
+        first: [
+            system.useful_at(0),
+            useful.items.get(1).copied(),
+            useful.items.get(2).copied(),
+        ],
     })
 }
 
@@ -205,6 +218,8 @@ fn events_are_taken_or_refused(rt: HostRuntime) -> Result<(), Fail> {
         cores: [Some(Stands(0x8000_0000, 0, CoreEnd::Run)); 2],
         words: [0; 2],
         printed: None,
+        useful: 1,
+        first: [Some(event!(e 0)), None, None],
     };
     let one = Row {
         cores: 1,
@@ -220,6 +235,8 @@ fn events_are_taken_or_refused(rt: HostRuntime) -> Result<(), Fail> {
             cores: [Some(Stands(0x8000_0020, 7, CoreEnd::Halt(65))), None],
             words: [7, 0],
             printed: Some(65),
+            useful: 0,
+            first: [None; 3],
         },
     };
     let rows = [
@@ -233,6 +250,8 @@ fn events_are_taken_or_refused(rt: HostRuntime) -> Result<(), Fail> {
                 commits: [Some(Listed(1, 1, 4)), None],
                 cores: [start.cores[0], Some(Stands(0x8000_0010, 7, CoreEnd::Run))],
                 words: [7, 0],
+                useful: 2,
+                first: [Some(event!(e 1)), Some(event!(t 0)), None],
                 ..start
             },
             ..one
@@ -250,6 +269,8 @@ fn events_are_taken_or_refused(rt: HostRuntime) -> Result<(), Fail> {
                     Some(Stands(0x8000_0014, 1, CoreEnd::Run)),
                 ],
                 words: [2, 0],
+                useful: 3,
+                first: [Some(event!(e 0)), Some(event!(e 1)), Some(event!(t 1))],
                 ..start
             },
             ..one
@@ -263,6 +284,7 @@ fn events_are_taken_or_refused(rt: HostRuntime) -> Result<(), Fail> {
             state: State {
                 events: 4,
                 cores: [start.cores[0], None],
+                first: [Some(event!(x 0 0 0)), None, None],
                 ..start
             },
             ..one

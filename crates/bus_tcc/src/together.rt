@@ -5,8 +5,8 @@ ghost use Rattle.bus_rules.specs.State.{Exec};
 ghost use Rattle.bus_tcc.specs.Answers.{Answers};
 ghost use Rattle.bus_tcc.specs.Machine.{bus_settings_of, bus_world_of};
 
-use crate::event::{BusError, BusStep};
 use crate::engine::Engine;
+use crate::event::{BusError, BusStep};
 use commit_engine::Phase;
 use tcc_base::CoreId;
 

@@ -2,7 +2,6 @@
 use Rattle.std.proofs.Common.{ap, sym, ◌∙◌, is_some, subst, ◌<◌}
 use Rattle.tcc_rules.specs.CoreEvict.{core_evict}
 use Rattle.core_bank.specs.Bank.{cores_of}
-use Rattle.bus_tcc.specs.Inside.{machine_of}
 use Rattle.bus_tcc.specs.Machine.{bus_settings_of}
 use Rattle.bus_tcc.proofs.Enabling.{evict-enabled}
 use Rattle.bus_tcc.proofs.Events.{bank_in, no-evict}

@@ -1,6 +1,5 @@
 -- By the core's count.
 use Rattle.std.proofs.Common.{ap, sym, ◌∙◌, is_some, subst, ◌<◌}
-use Rattle.bus_tcc.specs.Machine.{bus_settings_of}
 use Rattle.bus_tcc.specs.Whole.{IsBusWhole}
 use Rattle.bus_tcc.proofs.Choices.{exec-allowed, free-of}
 use Rattle.bus_tcc.proofs.Enabling.{no-exec}

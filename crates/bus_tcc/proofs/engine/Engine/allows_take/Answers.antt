@@ -1,7 +1,7 @@
 -- By the packet that is on the bus.
 use Rattle.std.proofs.Common.{ap, sym, ◌∙◌, is_some, subst, ◌<◌}
 use Rattle.bus_tcc.specs.Left.{is_left}
-use Rattle.bus_tcc.specs.Machine.{bus_of, bus_settings_of, bus_world_of}
+use Rattle.bus_tcc.specs.Machine.{bus_of, bus_world_of}
 use Rattle.bus_tcc.proofs.Enabling.{take-enabled}
 use Rattle.bus_tcc.proofs.Takes.{no-core}
 use Rattle.bus_tcc.proofs.engine.Engine.allows_take.Goals as goal

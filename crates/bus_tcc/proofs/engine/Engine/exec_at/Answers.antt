@@ -16,8 +16,8 @@ returns-in_err-core c =
 
 pub returns : goal.returns
 returns c = exec-found c.args.self.now c.args.counts.now _ c.args.k c.in_ok-core.core _ (record {
-      free = c.is_free.result;
-      is = free-of _ c.args.self.now _ c.self.view_is c.is_free.ensures;
-      counted = c.requires;
-      same = c.execs.ensures;
-    }) c.in_ok-core.ensures.falls
+  free = c.is_free.result;
+  is = free-of _ c.args.self.now _ c.self.view_is c.is_free.ensures;
+  counted = c.requires;
+  same = c.execs.ensures;
+}) c.in_ok-core.ensures.falls
