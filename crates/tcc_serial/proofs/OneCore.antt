@@ -1,4 +1,6 @@
 -- One core by itself: what each of its rules does to its cache, its attempt and what it asks.
+pub mod Said
+pub mod Outcomes
 pub mod Executes
 pub mod CoreSteps
 pub mod UsedWords

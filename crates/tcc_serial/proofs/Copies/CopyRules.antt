@@ -3,23 +3,20 @@ use Rattle.tcc_serial.proofs.Names.{ℕ, ◌≡◌, ◌<◌, ◌==◌, ◌&&◌,
 use Rattle.tcc_serial.proofs.Names.{arith, refl, sym, ◌∙◌, num, any_word, word_at, mask_of, Dir, Shape, home, lines, Cache, is_modified}
 use Rattle.tcc_serial.proofs.Names.{modified_mask, committed, words_dropped, Spilled, holds, spilled_mask, any_below-at, CoreState, Ready}
 use Rattle.tcc_serial.proofs.Names.{commit, committed_core, noted, solo_commit, commit_sends, is_written, written_mask, OneCore, Words}
-use Rattle.tcc_serial.proofs.Names.{stores_in, names_line, ◌+◌, ◌≤◌, ◌⊎◌, List, [], ◌∷◌, IfSome, ap, inl, inr, cases_eq, nat_tests, Byte}
-use Rattle.tcc_serial.proofs.Names.{Half, Word, Program, Need, Nothing, Loads, Stores, Changes, Prints, Ends, Halts, Traps, word_of}
-use Rattle.tcc_serial.proofs.Names.{line_of, hit, Vendor, Msg, TidReq, TidGrant, LoadReq, Fill, Skip, Probe, ProbeReply, Mark, Commit}
-use Rattle.tcc_serial.proofs.Names.{Abort, WriteBack, Flush, DataReq, Inv, InvAck, IsCache, is_marked, keeps, written_lines, evicted}
-use Rattle.tcc_serial.proofs.Names.{filled, cleaned, invalidated, rolled_back, read_cleared, spill_line, Awaited, Phase, Running, AwaitTid}
-use Rattle.tcc_serial.proofs.Names.{DoomedTid, Probing, Overflowing, Solo, Halted, nothing, to, written_back, marks_for, abort_written}
-use Rattle.tcc_serial.proofs.Names.{skip_all, probe_all, Out, moves, finished, stepped, is_solo, roll_back, grant, grant_phase, grant_sends}
-use Rattle.tcc_serial.proofs.Names.{from_dir, probe_reply, reply_phase, ignored, replied, all_replied, when_ready, when_alone, fill}
-use Rattle.tcc_serial.proofs.Names.{fill_awaited, data_request, invalidate, acknowledged, without, violated_in, if_violated, is_violated}
-use Rattle.tcc_serial.proofs.Names.{core_exec, exec_phase, unless_awaiting, core_evict, evict_line, is_awaited, close, execute_need}
-use Rattle.tcc_serial.proofs.Names.{execute, dirty-evicted, CopyOf, among, passes}
+use Rattle.tcc_serial.proofs.Names.{stores_in, names_line, ◌+◌, ◌≤◌, ◌⊎◌, IfSome, inl, inr, cases_eq, nat_tests, Program, word_of}
+use Rattle.tcc_serial.proofs.Names.{line_of, hit, Msg, Inv, IsCache, filled, cleaned, invalidated, rolled_back, read_cleared, nothing}
+use Rattle.tcc_serial.proofs.Names.{Out, moves, is_solo, grant, from_dir, core_exec, core_evict, dirty-evicted, CopyOf, among, passes}
+use Rattle.tcc_serial.proofs.Names.{stored, marked, copies, placed}
 use Rattle.tcc_serial.proofs.Copies.CopySends.{few-masks, commit-copies, solo-copies, solo-wrong, flushed-leaves, back-home-leaves}
-use Rattle.tcc_serial.proofs.Copies.CoreCopies.{Conserves, conserves-still, conserves-sent, loaded, partly, wholly}
+use Rattle.tcc_serial.proofs.Copies.CoreCopies.{Conserves, conserves-still, conserves-sent, framed-dirty, placed-dirty}
 use Rattle.tcc_serial.proofs.Copies.DirtyFrames.{wrong-copy, IsClean, clean-frame, in-line, committed-frame, frame_copy, fewer-frame}
-use Rattle.tcc_serial.proofs.Counts.Links.{among-append, among-flat_map_none}
 use Rattle.tcc_serial.proofs.Marks.CoreMarks.{holds-found}
 use Rattle.tcc_serial.proofs.Marks.StoredMasks.{unspilled, modified-line, modified-stored, written-line, written-stored}
+use Rattle.tcc_serial.proofs.OneCore.Said.{Flushes, Requests, Silent, Unheard, quiet, say}
+use Rattle.tcc_serial.proofs.OneCore.Outcomes.{Commits_now, Did, Ends_alone, Frames, Frames_anew, Given_none, Granted, Hands_out, Heard}
+use Rattle.tcc_serial.proofs.OneCore.Outcomes.{Hurt_alone, Hurt_probing, Hurt_running, Hurt_waiting, Misses_anew, Hurt_none, after_end}
+use Rattle.tcc_serial.proofs.OneCore.Outcomes.{after_store, awaiting, each-back, each-evict, each-exec, each-grant, emptied, granted}
+use Rattle.tcc_serial.proofs.OneCore.Outcomes.{granted_said, heard, heard-quiet, heard_said, hears_ack, message, out, said}
 
 -- A commit makes one copy of each line that it stored, with its TID and of the stored words: in the frame, or sent from the overflow
 -- buffer.
@@ -121,100 +118,28 @@ pub record InMemory (sh : Shape) (l : ℕ) : Type 0 where
 
 -- executing
 
-ended : (sh : Shape) (l : ℕ) (s r : CoreState) → (r.cache ≡ s.cache) → Conserves sh l s (moves (record r { phase = AwaitTid }) (to Vendor (TidReq ∷ [])))
-unfolding among
-ended sh l s r e = conserves-still sh l s (moves (record r { phase = AwaitTid }) (to Vendor (TidReq ∷ []))) refl (λ k i. ap (λ c. c.dirty (word_at l k)) e) (λ t. refl)
-
-closed : (sh : Shape) (l id : ℕ) (q : Phase) (b : Bool) (s r : CoreState) → InMemory sh l → r.cache ≡ s.cache → Words sh b r.cache r.spilled r.stores → Conserves sh l s (close sh id q r)
-closed sh l id (Solo t) b s r m e w = let x = alone-copies sh b l id t r (m.line) (m.home) w in record { copies = λ u. rw (sym e) (x.copies u); wrong = λ u n. rw (sym e) (x.wrong u n) }
-closed sh l id _ b s r m e w = ended sh l s r e
-
-executes : (sh : Shape) (l : ℕ) (p : Program) (id : ℕ) (s : CoreState) → InMemory sh l → OneCore sh s → IfSome (execute sh p id s) (Conserves sh l s)
-unfolding execute finished stepped among
-executes sh l p id s m h = go (p.need s.local)
-  where
-    go : (x : Need) → IfSome (execute_need sh p id s x) (Conserves sh l s)
-    go Nothing = conserves-still sh l s (moves (finished p Nothing 0 s) nothing) refl (λ k i. refl) (λ t. refl)
-    go (Prints b) = conserves-still sh l s (moves (finished p (Prints b) 0 s) nothing) refl (λ k i. refl) (λ t. refl)
-    go (Loads a z) = loaded sh l p (word_of sh.base a) (Loads a z) s
-    go (Stores a Byte v) = partly sh l p (word_of sh.base a) (Stores a Byte v) s
-    go (Stores a Half v) = partly sh l p (word_of sh.base a) (Stores a Half v) s
-    go (Stores a Word v) = wholly sh l p (word_of sh.base a) v (Stores a Word v) s h.words.cache
-    go (Changes a f) = partly sh l p (word_of sh.base a) (Changes a f) s
-    go Ends = closed sh l id s.phase (is_solo s.phase) s (finished p Ends 0 s) m refl h.words
-    go (Halts k) = closed sh l id s.phase (is_solo s.phase) s (finished p (Halts k) 0 s) m refl h.words
-    go (Traps k) = closed sh l id s.phase (is_solo s.phase) s (finished p (Traps k) 0 s) m refl h.words
-
 pub copies-exec : (sh : Shape) (l : ℕ) (p : Program) (id : ℕ) (s : CoreState) → InMemory sh l → OneCore sh s → IfSome (core_exec sh p id s) (Conserves sh l s)
-unfolding core_exec
-copies-exec sh l p id s m h = go s.phase refl
+unfolding passes marked stored
+copies-exec sh l p id s m h = each-exec sh p id s (Conserves sh l s) go
   where
-    acts : (a : Option Awaited) → IfSome (unless_awaiting sh p id s a) (Conserves sh l s)
-    acts None = executes sh l p id s m h
-    acts (Some a) = tt
+    w : ℕ → ℕ
+    w a = word_of sh.base a
 
-    go : (q : Phase) → s.phase ≡ q → IfSome (exec_phase sh p id s q) (Conserves sh l s)
-    go Running e = acts s.awaited
-    go (Solo t) e = acts s.awaited
-    go (Ready t) e = ready-copies sh l id t s e h
-    go AwaitTid e = tt
-    go DoomedTid e = tt
-    go (Probing t) e = tt
-    go (Overflowing t) e = tt
-    go Halted e = tt
+    frames : (a y : ℕ) (also : Bool) (r : CoreState) → ((v : ℕ) → r.cache.dirty v ≡ (if line_of (w a) == line_of v then None else s.cache.dirty v)) → Conserves sh l s (moves r (say sh s (Flushes (line_of (w a)))))
+    frames a y also r e = conserves-sent sh l (line_of (w a)) s (moves r (say sh s (Flushes (line_of (w a))))) refl e (flushed-leaves sh l (line_of (w a)) s.cache)
+
+    go : (x : Did sh p id s) → Conserves sh l s (out x)
+    go (Frames a y also n k g i f) = frames a y also (after_store s a k (stored (w a) y also s.cache) s.spilled) (λ v. refl)
+    go (Frames_anew a y n k g i q f h2) = conserves-still sh l s (moves (after_store s a k (stored (w a) y false (placed sh (line_of (w a)) s.cache)) s.spilled) nothing) refl (λ j i. framed-dirty sh (w a) y s.cache (h.words.cache) q (word_at l j)) (λ t. quiet sh s (CopyOf l t) Silent (λ y. refl) (home sh l))
+    go (Misses_anew a n g i q f) = conserves-still sh l s (moves (record s { awaited = awaiting (line_of (w a)); cache = placed sh (line_of (w a)) s.cache }) (say sh s (Requests (line_of (w a))))) refl (λ j i. placed-dirty sh (line_of (w a)) s.cache (word_at l j)) (λ t. quiet sh s (CopyOf l t) (Requests (line_of (w a))) (λ y. refl) (home sh l))
+    go (Ends_alone t b e f r i) = let x = alone-copies sh (is_solo s.phase) l id t (after_end s b e) (m.line) (m.home) (h.words) in record { copies = x.copies; wrong = x.wrong }
+    go (Commits_now t e) = ready-copies sh l id t s e h
+    go x = conserves-still sh l s (out x) refl (λ k i. refl) (λ t. quiet sh s (CopyOf l t) (said x) (λ y. refl) (home sh l))
 
 pub copies-evict : (sh : Shape) (l x y : ℕ) (s : CoreState) → IfSome (core_evict sh x y s) (Conserves sh l s)
-unfolding core_evict
-copies-evict sh l x y s = go (s.cache.at x y) refl
-  where
-    gone : (k : ℕ) → s.cache.at x y ≡ Some k → Conserves sh l s (moves (record s { cache = evicted x y s.cache; spilled = spill_line k s.cache s.spilled }) (written_back sh s.cache k))
-    gone k e = conserves-sent sh l k s (moves (record s { cache = evicted x y s.cache; spilled = spill_line k s.cache s.spilled }) (written_back sh s.cache k)) refl (λ v. dirty-evicted x y s.cache v k e) (back-home-leaves sh l k s.cache)
-
-    kept : (k : ℕ) → s.cache.at x y ≡ Some k → (b : Bool) → IfSome (if b then None else Some (moves (record s { cache = evicted x y s.cache; spilled = spill_line k s.cache s.spilled }) (written_back sh s.cache k))) (Conserves sh l s)
-    kept k e true = tt
-    kept k e false = gone k e
-
-    go : (a : Option ℕ) → s.cache.at x y ≡ a → IfSome (evict_line sh x y s a) (Conserves sh l s)
-    go None e = tt
-    go (Some k) e = kept k e (is_awaited s.awaited k || (is_marked s.cache k && not (is_solo s.phase)))
+copies-evict sh l x y s = each-evict sh x y s (Conserves sh l s) (λ k e a m. conserves-sent sh l k s (emptied sh x y k s) refl (λ v. dirty-evicted x y s.cache v k e) (back-home-leaves sh l k s.cache))
 
 -- messages
-
-quiet : (sh : Shape) (l : ℕ) (s : CoreState) → Conserves sh l s (ignored s)
-unfolding among
-quiet sh l s = conserves-still sh l s (ignored s) refl (λ k i. refl) (λ t. refl)
-
-pub grants-none : (sh : Shape) (c : Cache) (l u t d : ℕ) → among (CopyOf l t) (grant_sends sh c u (Dir d)) ≡ 0
-unfolding grant_sends among passes
-grants-none sh c l u t d = grind (arith, nat_tests)
-
-pub skips-none : (sh : Shape) (l u t d : ℕ) → among (CopyOf l t) (skip_all sh u (Dir d)) ≡ 0
-unfolding skip_all among passes
-skips-none sh l u t d = grind (arith, nat_tests)
-
-pub probes-none : (sh : Shape) (l u t d : ℕ) → among (CopyOf l t) (probe_all sh u (Dir d)) ≡ 0
-unfolding probe_all among passes
-probes-none sh l u t d = grind (arith, nat_tests)
-
-pub aborts-none : (sh : Shape) (c : Cache) (l u t d : ℕ) → among (CopyOf l t) (abort_written sh c u (Dir d)) ≡ 0
-unfolding abort_written among passes
-aborts-none sh c l u t d = grind (arith, nat_tests)
-
-pub marks-none : (sh : Shape) (c : Cache) (l u t e : ℕ) → among (CopyOf l t) (marks_for sh c u e) ≡ 0
-unfolding marks_for among passes
-marks-none sh c l u t e = among-flat_map_none (CopyOf l t) (λ k. Mark k (modified_mask c k) u ∷ []) (λ k. refl) (written_lines sh c e)
-
-pub acked-none : (sh : Shape) (l k t : ℕ) (o : Out) → among (CopyOf l t) (o.sends (Dir (home sh l))) ≡ 0 → among (CopyOf l t) ((acknowledged sh k o).sends (Dir (home sh l))) ≡ 0
-unfolding acknowledged among passes
-acked-none sh l k t o z = rw among-append (omega (arith, z, one (home sh l == home sh k)))
-  where
-    one : (b : Bool) → among (CopyOf l t) (if b then InvAck k (keeps o.core.cache k) ∷ [] else []) ≡ 0
-    one true = refl
-    one false = refl
-
-pub acked-commit : (sh : Shape) (k : ℕ) (o : Out) → (acknowledged sh k o).commit ≡ o.commit
-unfolding acknowledged
-acked-commit sh k o = refl
 
 -- a word of another line isn't hit
 pub missed : (k m l w : ℕ) → line_of w ≡ l → (k ≡ l → ⊥) → hit k m w ≡ false
@@ -222,127 +147,52 @@ unfolding hit
 missed k m l w e n = let z : (k == line_of w) ≡ false = rw e (grind (arith, nat_tests)) in rw z refl
 
 pub copies-grant : (sh : Shape) (l u : ℕ) (s : CoreState) → Conserves sh l s (grant sh u s)
-unfolding grant
-copies-grant sh l u s = go s.phase
+unfolding passes
+copies-grant sh l u s = each-grant sh u s (Conserves sh l s) go
   where
-    go : (q : Phase) → Conserves sh l s (grant_phase sh u s q)
-    go AwaitTid = conserves-still sh l s (grant_phase sh u s AwaitTid) refl (λ k i. refl) (λ t. grants-none sh s.cache l u t (home sh l))
-    go DoomedTid = conserves-still sh l s (grant_phase sh u s DoomedTid) refl (λ k i. refl) (λ t. skips-none sh l u t (home sh l))
-    go (Overflowing None) = conserves-still sh l s (grant_phase sh u s (Overflowing None)) refl (λ k i. refl) (λ t. probes-none sh l u t (home sh l))
-    go (Overflowing (Some v)) = quiet sh l s
-    go Running = quiet sh l s
-    go (Probing v) = quiet sh l s
-    go (Ready v) = quiet sh l s
-    go (Solo v) = quiet sh l s
-    go Halted = quiet sh l s
+    go : (x : Granted sh u s) → Conserves sh l s (granted x)
+    go (Given_none e) = conserves-still sh l s (moves s nothing) refl (λ k i. refl) (λ t. quiet sh s (CopyOf l t) Silent (λ y. refl) (home sh l))
+    go x = conserves-still sh l s (granted x) refl (λ k i. refl) (λ t. quiet sh s (CopyOf l t) (granted_said x) (λ y. refl) (home sh l))
 
 -- a message to a core keeps the copies, or it invalidates the line and no copy is new
 pub data BackStep (sh : Shape) (l : ℕ) (s : CoreState) (m : Msg) (o : Out) : Type 0 where
   Kept : Conserves sh l s o → BackStep sh l s m o
   Invalidates : (k u : ℕ) → m ≡ Inv l k u → o.commit ≡ None → ((t : ℕ) → frame_copy o.core.cache l t + among (CopyOf l t) (o.sends (Dir (home sh l))) ≤ frame_copy s.cache l t) → BackStep sh l s m o
 
-reply-copies : (sh : Shape) (l e u : ℕ) (s : CoreState) → Conserves sh l s (probe_reply sh e u s)
-unfolding probe_reply among read_cleared
-reply-copies sh l e u s = go s.phase
+pub copies-back : (sh : Shape) (l e : ℕ) (s : CoreState) (m : Msg) → IsCache sh s.cache → IfSome (from_dir sh e s m) (BackStep sh l s m)
+unfolding invalidated rolled_back cleaned filled read_cleared passes
+copies-back sh l e s m h = each-back sh e s (BackStep sh l s) go m
   where
-    marks : (t : ℕ) (b : Bool) → among (CopyOf l t) (if b then marks_for sh s.cache u e else []) ≡ 0
-    marks t true = marks-none sh s.cache l u t e
-    marks t false = refl
-
-    ready : (b : Bool) → Conserves sh l s (moves (if b then record (replied e s) { phase = Ready u } else replied e s) (to (Dir e) (marks_for sh s.cache u e)))
-    ready true = conserves-still sh l s (moves (record (replied e s) { phase = Ready u }) (to (Dir e) (marks_for sh s.cache u e))) refl (λ k i. refl) (λ t. marks t (home sh l == e))
-    ready false = conserves-still sh l s (moves (replied e s) (to (Dir e) (marks_for sh s.cache u e))) refl (λ k i. refl) (λ t. marks t (home sh l == e))
-
-    alone : (b : Bool) → Conserves sh l s (moves (if b then record (replied e s) { phase = Solo u; cache = read_cleared s.cache } else replied e s) nothing)
-    alone true = conserves-still sh l s (moves (record (replied e s) { phase = Solo u; cache = read_cleared s.cache }) nothing) refl (λ k i. refl) (λ t. refl)
-    alone false = conserves-still sh l s (moves (replied e s) nothing) refl (λ k i. refl) (λ t. refl)
-
-    probed : (b : Bool) → Conserves sh l s (if b then moves (when_ready sh u (replied e s)) (to (Dir e) (marks_for sh s.cache u e)) else ignored s)
-    probed true = ready (all_replied sh (replied e s).owing)
-    probed false = quiet sh l s
-
-    over : (b : Bool) → Conserves sh l s (if b then moves (when_alone sh u (replied e s)) nothing else ignored s)
-    over true = alone (all_replied sh (replied e s).owing)
-    over false = quiet sh l s
-
-    go : (q : Phase) → Conserves sh l s (reply_phase sh e u s q)
-    go (Probing v) = probed (v == u && s.owing e)
-    go (Overflowing (Some v)) = over (v == u && s.owing e)
-    go (Overflowing None) = quiet sh l s
-    go Running = quiet sh l s
-    go AwaitTid = quiet sh l s
-    go DoomedTid = quiet sh l s
-    go (Ready v) = quiet sh l s
-    go (Solo v) = quiet sh l s
-    go Halted = quiet sh l s
-
-fill-copies : (sh : Shape) (l k : ℕ) (ws : List ℕ) (s : CoreState) → Conserves sh l s (fill k ws s)
-unfolding fill filled among
-fill-copies sh l k ws s = go s.awaited
-  where
-    fresh : (b : Bool) → Conserves sh l s (moves (record s { cache = (if b then s.cache else filled k ws s.cache); awaited = None }) nothing)
-    fresh true = conserves-still sh l s (moves (record s { cache = s.cache; awaited = None }) nothing) refl (λ j i. refl) (λ t. refl)
-    fresh false = conserves-still sh l s (moves (record s { cache = filled k ws s.cache; awaited = None }) nothing) refl (λ j i. refl) (λ t. refl)
-
-    one : (a : Awaited) (b : Bool) → Conserves sh l s (if b then moves (record s { cache = (if a.stale then s.cache else filled k ws s.cache); awaited = None }) nothing else ignored s)
-    one a true = fresh a.stale
-    one a false = quiet sh l s
-
-    go : (a : Option Awaited) → Conserves sh l s (fill_awaited k ws s a)
-    go None = quiet sh l s
-    go (Some a) = one a (a.line == k)
-
-data-copies : (sh : Shape) (l k : ℕ) (s : CoreState) → Conserves sh l s (data_request sh k s)
-unfolding data_request cleaned
-data-copies sh l k s = conserves-sent sh l k s (data_request sh k s) refl (λ v. refl) (flushed-leaves sh l k s.cache)
-
--- after an invalidation and perhaps a roll back
-invalid-copies : (sh : Shape) (l k m u : ℕ) (s : CoreState) → IsCache sh s.cache → BackStep sh l s (Inv k m u) (invalidate sh k m u s)
-unfolding invalidate if_violated without roll_back rolled_back invalidated among passes acknowledged
-invalid-copies sh l k m u s h = go (is_violated k m u s) s.phase
-  where
-    r : CoreState
-    r = without k m s
-
-    away : (k ≡ l → ⊥) → (j : ℕ) → j < 8 → r.cache.dirty (word_at l j) ≡ s.cache.dirty (word_at l j)
-    away n j i = let z : line_of (word_at l j) ≡ l = in-line l j i in none (hit k m (word_at l j)) (s.cache.modified (word_at l j)) (missed k m l (word_at l j) z n)
+    away : (k m : ℕ) → (k ≡ l → ⊥) → (j : ℕ) → j < 8 → (invalidated k m s.cache).dirty (word_at l j) ≡ s.cache.dirty (word_at l j)
+    away k m n j i = let z : line_of (word_at l j) ≡ l = in-line l j i in none (hit k m (word_at l j)) (s.cache.modified (word_at l j)) (missed k m l (word_at l j) z n)
       where
         none : (a b : Bool) → a ≡ false → (if a && not b then None else s.cache.dirty (word_at l j)) ≡ s.cache.dirty (word_at l j)
         none true b e = absurd (cc)
         none false b e = refl
 
-    here : (j : ℕ) → j < 8 → (r.cache.dirty (word_at l j) ≡ None) ⊎ (r.cache.dirty (word_at l j) ≡ s.cache.dirty (word_at l j))
-    here j i = one (hit k m (word_at l j) && not (s.cache.modified (word_at l j)))
+    here : (k m j : ℕ) → j < 8 → ((invalidated k m s.cache).dirty (word_at l j) ≡ None) ⊎ ((invalidated k m s.cache).dirty (word_at l j) ≡ s.cache.dirty (word_at l j))
+    here k m j i = one (hit k m (word_at l j) && not (s.cache.modified (word_at l j)))
       where
         one : (a : Bool) → ((if a then None else s.cache.dirty (word_at l j)) ≡ None) ⊎ ((if a then None else s.cache.dirty (word_at l j)) ≡ s.cache.dirty (word_at l j))
         one true = inl refl
         one false = inr refl
 
-    step : (o : Out) → o.commit ≡ None → ((v : ℕ) → o.core.cache.dirty v ≡ r.cache.dirty v) → ((t : ℕ) → among (CopyOf l t) (o.sends (Dir (home sh l))) ≡ 0) → BackStep sh l s (Inv k m u) (acknowledged sh k o)
-    step o e f z = cases (cases_eq k l)
+    -- after an invalidation and perhaps a roll back
+    hurt : (k m u : ℕ) (x : Heard sh e s) → (heard x).commit ≡ None → ((v : ℕ) → (heard x).core.cache.dirty v ≡ (invalidated k m s.cache).dirty v) → ((t : ℕ) → among (CopyOf l t) ((heard x).sends (Dir (home sh l))) ≡ 0) → BackStep sh l s (Inv k m u) (heard x)
+    hurt k m u x n f told = cases (cases_eq k l)
       where
-        told : (t : ℕ) → among (CopyOf l t) ((acknowledged sh k o).sends (Dir (home sh l))) ≡ 0
-        told t = acked-none sh l k t o (z t)
+        cases : (k ≡ l) ⊎ (k ≡ l → ⊥) → BackStep sh l s (Inv k m u) (heard x)
+        cases (inl q) = Invalidates m u (rw q refl) n (λ t. omega (arith, told t, fewer-frame sh s.cache (heard x).core.cache l h (λ j i. rw (f (word_at l j)) (here k m j i)) t))
+        cases (inr q) = Kept (conserves-still sh l s (heard x) n (λ j i. f (word_at l j) ∙ away k m q j i) told)
 
-        cases : (k ≡ l) ⊎ (k ≡ l → ⊥) → BackStep sh l s (Inv k m u) (acknowledged sh k o)
-        cases (inl q) = Invalidates m u (rw q refl) (acked-commit sh k o ∙ e) (λ t. omega (arith, told t, fewer-frame sh s.cache (acknowledged sh k o).core.cache l h (λ j i. rw (f (word_at l j)) (here j i)) t))
-        cases (inr q) = Kept (conserves-still sh l s (acknowledged sh k o) (acked-commit sh k o ∙ e) (λ j i. f (word_at l j) ∙ away q j i) told)
+    none : (x : Heard sh e s) → ((t : ℕ) → Unheard (CopyOf l t) (heard_said x)) → ((t : ℕ) (b : Bool) → hears_ack (CopyOf l t) x b ≡ false) → (t : ℕ) → among (CopyOf l t) ((heard x).sends (Dir (home sh l))) ≡ 0
+    none x f g t = heard-quiet (CopyOf l t) x (f t) (g t) (home sh l)
 
-    go : (b : Bool) (q : Phase) → BackStep sh l s (Inv k m u) (acknowledged sh k (if b then violated_in sh r q else ignored r))
-    go false q = step (ignored r) refl (λ v. refl) (λ t. refl)
-    go true Running = step (violated_in sh r Running) refl (λ v. refl) (λ t. refl)
-    go true AwaitTid = step (violated_in sh r AwaitTid) refl (λ v. refl) (λ t. refl)
-    go true (Overflowing None) = step (violated_in sh r (Overflowing None)) refl (λ v. refl) (λ t. refl)
-    go true (Probing x) = step (violated_in sh r (Probing x)) refl (λ v. refl) (λ t. aborts-none sh r.cache l x t (home sh l))
-    go true (Ready x) = step (violated_in sh r (Ready x)) refl (λ v. refl) (λ t. aborts-none sh r.cache l x t (home sh l))
-    go true (Overflowing (Some x)) = step (violated_in sh r (Overflowing (Some x))) refl (λ v. refl) (λ t. skips-none sh l x t (home sh l))
-    go true (Solo x) = step (violated_in sh r (Solo x)) refl (λ v. refl) (λ t. skips-none sh l x t (home sh l))
-    go true DoomedTid = step (ignored r) refl (λ v. refl) (λ t. refl)
-    go true Halted = step (ignored r) refl (λ v. refl) (λ t. refl)
-
-pub copies-back : (sh : Shape) (l e : ℕ) (s : CoreState) (m : Msg) → IsCache sh s.cache → IfSome (from_dir sh e s m) (BackStep sh l s m)
-copies-back sh l e s (ProbeReply t v) h = Kept (reply-copies sh l e t s)
-copies-back sh l e s (Fill k ws) h = Kept (fill-copies sh l k ws s)
-copies-back sh l e s (DataReq k) h = Kept (data-copies sh l k s)
-copies-back sh l e s (Inv k m u) h = invalid-copies sh l k m u s h
-copies-back sh l e s _ h = tt
+    go : (x : Heard sh e s) → BackStep sh l s (message x) (heard x)
+    go (Hands_out k) = Kept (conserves-sent sh l k s (moves (record s { cache = cleaned k s.cache }) (say sh s (Flushes k))) refl (λ v. refl) (flushed-leaves sh l k s.cache))
+    go (Hurt_none k m u n) = hurt k m u (Hurt_none k m u n) refl (λ v. refl) (none (Hurt_none k m u n) (λ t y. refl) (λ t b. refl))
+    go (Hurt_running k m u v q) = hurt k m u (Hurt_running k m u v q) refl (λ v. refl) (none (Hurt_running k m u v q) (λ t y. refl) (λ t b. refl))
+    go (Hurt_waiting k m u v q) = hurt k m u (Hurt_waiting k m u v q) refl (λ v. refl) (none (Hurt_waiting k m u v q) (λ t y. refl) (λ t b. refl))
+    go (Hurt_probing k m u t v q) = hurt k m u (Hurt_probing k m u t v q) refl (λ v. refl) (none (Hurt_probing k m u t v q) (λ t y. refl) (λ t b. refl))
+    go (Hurt_alone k m u t v q) = hurt k m u (Hurt_alone k m u t v q) refl (λ v. refl) (none (Hurt_alone k m u t v q) (λ t y. refl) (λ t b. refl))
+    go x = Kept (conserves-still sh l s (heard x) refl (λ j i. refl) (none x (λ t y. refl) (λ t b. refl)))

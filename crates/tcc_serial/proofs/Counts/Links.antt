@@ -58,7 +58,6 @@ among-append k [] b = omega arith
 among-append k (m ∷ a) b = omega (arith, among-append k a b)
 
 -- where each message of a kind is one of another, there are no more of them
-
 pub live-fewer : (a b : Kind) → ((m : Msg) → num (passes a m) ≤ num (passes b m)) → (l : Link) → live a l ≤ live b l
 unfolding live
 live-fewer a b h [] = omega arith
@@ -71,7 +70,6 @@ among-fewer a b h [] = omega arith
 among-fewer a b h (m ∷ ms) = omega (arith, h m, among-fewer a b h ms)
 
 -- sums
-
 pub total-same : (f g : ℕ → ℕ) (n : ℕ) → ((j : ℕ) → j < n → f j ≡ g j) → total f n ≡ total g n
 unfolding total
 total-same f g zero h = refl

@@ -28,7 +28,6 @@ append-none [] = refl
 append-none (x ∷ l) = rw (append-none l) refl
 
 -- a core moves
-
 pub moves-own : (w : World) (c : ℕ) (o : Out) (d : ℕ) → pair (core_moves w c o) c d ≡ after_move (pair w c d) o d
 unfolding pair core_moves
 moves-own w c o d = rw (same c) refl
@@ -38,7 +37,6 @@ unfolding pair core_moves
 moves-other w c o j d h = rw (differ j c h) refl
 
 -- a core takes a grant
-
 grant-own : (w : World) (c k : ℕ) (o : Out) (d : ℕ) → pair (core_takes w Vendor c k o) c d ≡ after_move (grant_taken (pair w c d) k) o d
 unfolding pair core_takes
 grant-own w c k o d = rw (same c) refl
@@ -48,7 +46,6 @@ unfolding pair core_takes
 grant-other w c k o j d h = rw (differ j c h) refl
 
 -- a core takes a message of directory e
-
 pub back-own : (w : World) (c k : ℕ) (o : Out) (d : ℕ) → pair (core_takes w (Dir d) c k o) c d ≡ after_move (back_taken (pair w c d) k) o d
 unfolding pair core_takes
 back-own w c k o d = rw (same c) (rw (same d) refl)
@@ -62,7 +59,6 @@ unfolding pair core_takes
 back-other w e c k o j d h = rw (differ j c h) (rw (and-false (d == e)) refl)
 
 -- directory e takes a message of core c
-
 pub dir-own : (w : World) (c d k : ℕ) (s : DirState) (sends : Node → List Msg) → pair (dir_takes w c d k s sends) c d ≡ after_answer (out_taken (pair w c d) k) s (sends (Core c))
 unfolding pair dir_takes
 dir-own w c d k s sends = rw (same c) (rw (same d) refl)
@@ -98,13 +94,8 @@ unfolding pair vendor_gives sent_all
 vendor-other w c k j d h = rw (differ j c h) (rw (append-none (w.net Vendor (Core j))) refl)
 
 -- what holds of all pairs
-
 pub either : {A : Type 0} → (j c : ℕ) → (j ≡ c → A) → ((j ≡ c → ⊥) → A) → A
-either {A = A} j c f g = go (cases_eq j c)
-  where
-    go : (j ≡ c) ⊎ (j ≡ c → ⊥) → A
-    go (inl e) = f e
-    go (inr h) = g h
+either {A = A} j c f g = elim (cases_eq j c) [ inl e ↦ f e | inr h ↦ g h ]
 
 abbrev pub AllPairs : (ℕ → ℕ → Pair → Type 0) → World → Type 0
 AllPairs P w = (c d : ℕ) → P c d (pair w c d)
@@ -144,7 +135,6 @@ pairs_vendor P w c k own others j d = either j c
     (λ h. subst (P j d) (sym (vendor-other w c k j d h)) (others j d h))
 
 -- sums over the cores
-
 shares_at : (f : Pair → ℕ) (n : ℕ) (v w : World) (c d x y : ℕ) → c < n → f (pair v c d) + x ≡ f (pair w c d) + y → ((j : ℕ) → (j ≡ c → ⊥) → pair v j d ≡ pair w j d) → sum_of f n v d + x ≡ sum_of f n w d + y
 unfolding share
 shares_at f n v w c d x y l e others = omega (arith, total-at (share f v d) (share f w d) n c l (λ j h. ap f (others j h)))

@@ -1,17 +1,20 @@
 -- Every event keeps that a core notes of each directory the greatest TID of its commits that stored there.
-use Rattle.tcc_serial.proofs.Names.{ℕ, max, cond, ◌≡◌, ◌<◌, ◌≤◌, ◌⊎◌, ◌==◌, ◌&&◌, Bool, true, false, List, [], ◌∷◌, Contains, Option, Some}
-use Rattle.tcc_serial.proofs.Names.{None, IfSome, nat_lt, if◌then◌else◌, arith, refl, ap, sym, subst, ◌∙◌, inl, inr, cases_eq, nat_tests}
-use Rattle.tcc_serial.proofs.Names.{Noted, Program, Local, Core, Dir, Vendor, Event, Msg, Shape, DirState, World, Link, start, core_start}
-use Rattle.tcc_serial.proofs.Names.{in_flight, Sends, Out, core_exec, core_evict, from_dir, grant, Answer, Waits, Drops, Asks, Takes}
-use Rattle.tcc_serial.proofs.Names.{dir_deliver, core_moves, core_takes, dir_takes, step, and_noted, insert_commit, AfterOf, KeptAfter}
-use Rattle.tcc_serial.proofs.Names.{KeptLoading, stored_there, LoadOf, LoadNot, live, KeptCores, Grant, AreGranted, holder, KeptOwners}
-use Rattle.tcc_serial.proofs.Names.{LastGranted, Pair, pair, after_move, stores_at, last_of}
+use Rattle.tcc_serial.proofs.Names.{ℕ, max, cond, ◌≡◌, ◌<◌, ◌≤◌, ◌⊎◌, ◌==◌, ◌&&◌, Bool, true, false, List, [], ◌∷◌, Contains, Option}
+use Rattle.tcc_serial.proofs.Names.{Some, None, IfSome, nat_lt, if◌then◌else◌, arith, refl, ap, sym, subst, ◌∙◌, inl, inr, cases_eq}
+use Rattle.tcc_serial.proofs.Names.{nat_tests, Noted, Program, Local, Core, Dir, Vendor, Event, Msg, Shape, DirState, World, Link, start}
+use Rattle.tcc_serial.proofs.Names.{core_start, in_flight, Sends, Out, core_exec, core_evict, from_dir, grant, Answer, Waits, Drops, Asks}
+use Rattle.tcc_serial.proofs.Names.{Takes, dir_deliver, core_moves, core_takes, dir_takes, step, and_noted, insert_commit, AfterOf}
+use Rattle.tcc_serial.proofs.Names.{KeptAfter, KeptLoading, stored_there, LoadOf, LoadNot, live, KeptCores, Grant, AreGranted, holder}
+use Rattle.tcc_serial.proofs.Names.{KeptOwners, LastGranted, Pair, pair, after_move, stores_at, last_of, answered, commit, moved, noted}
+use Rattle.tcc_serial.proofs.Names.{taken}
+use Rattle.tcc_serial.proofs.Marks.CoreAfter.{no-load, Stays, Notes_commit, AfterStep, after-exec, after-evict, after-grant, after-back}
+use Rattle.tcc_serial.proofs.Tids.CoreOwners.{KeepsHolder, noted_tid, none, holder-exec, holder-evict}
 use Rattle.tcc_serial.proofs.Counts.Links.{live-sends, live-takes}
+use Rattle.tcc_serial.proofs.Serving.OwnerSteps.{holder-moved}
 use Rattle.tcc_serial.proofs.Counts.StepCases.{either, moves-own, moves-other, pairs_move, pairs_grant, pairs_back, pairs_dir, pairs_asks}
 use Rattle.tcc_serial.proofs.Counts.StepCases.{pairs_vendor, OfAnswer, step_cases}
-use Rattle.tcc_serial.proofs.Marks.CoreAfter.{no-load, Stays, Commits_now, AfterStep, after-exec, after-evict, after-grant, after-back}
-use Rattle.tcc_serial.proofs.Serving.OwnerSteps.{holder-moved}
-use Rattle.tcc_serial.proofs.Tids.CoreOwners.{KeepsHolder, noted_tid, none, holder-exec, holder-evict}
+use Rattle.tcc_serial.proofs.OneCore.Said.{quiet}
+use Rattle.tcc_serial.proofs.OneCore.Outcomes.{granted, out}
 
 -- the last commit, with one more
 
@@ -53,7 +56,7 @@ stays-after sh cs c d v o y h = record {
 }
 
 -- a core that commits, whose commits so far have smaller TIDs
-commits-after : (sh : Shape) (cs : List Noted) (c d : ℕ) (v : Pair) (o : Out) (y : Commits_now sh c v.core o) → last_of (stored_there sh c d) cs ≤ y.noted.tid.0 → ((l : ℕ) → live (LoadOf l) v.out ≡ 0) → AfterOf sh cs c d v → AfterOf sh (insert_commit y.noted cs) c d (after_move v o d)
+commits-after : (sh : Shape) (cs : List Noted) (c d : ℕ) (v : Pair) (o : Out) (y : Notes_commit sh c v.core o) → last_of (stored_there sh c d) cs ≤ y.noted.tid.0 → ((l : ℕ) → live (LoadOf l) v.out ≡ 0) → AfterOf sh cs c d v → AfterOf sh (insert_commit y.noted cs) c d (after_move v o d)
 unfolding stored_there
 commits-after sh cs c d v o y b n h = record {
   last = y.after d ∙ (go (stores_at sh d y.noted.stores) refl ∙ sym (last-insert (stored_there sh c d) y.noted cs));
@@ -101,17 +104,13 @@ step-after sh p gs w cs e y k g ld h = step_cases sh p w e (λ x o. KeptAfter sh
     lower : (c t : ℕ) → 1 ≤ holder t (pair w c 0) → (d : ℕ) → last_of (stored_there sh c d) cs ≤ t
     lower c t x d = last-below sh gs c d t cs (y.granted) (λ u q. g c 0 t u x q)
 
-    commits : (c : ℕ) (o : Out) (q : Commits_now sh c (w.cores c) o) → 1 ≤ holder q.noted.tid.0 (pair w c 0) → KeptAfter sh (core_moves w c o) (insert_commit q.noted cs)
+    commits : (c : ℕ) (o : Out) (q : Notes_commit sh c (w.cores c) o) → 1 ≤ holder q.noted.tid.0 (pair w c 0) → KeptAfter sh (core_moves w c o) (insert_commit q.noted cs)
     commits c o q x j d cl dl = either j c
         (λ i. rw i (subst (AfterOf sh (insert_commit q.noted cs) c d) (sym (moves-own w c o d)) (commits-after sh cs c d (pair w c d) o q (lower c q.noted.tid.0 x d) (idle c d q.idle) (h c d (rw (sym i) cl) dl))))
         (λ n. subst (AfterOf sh (insert_commit q.noted cs) j d) (sym (moves-other w c o j d n)) (other-after sh cs q.noted j d (pair w j d) (away j n) (h j d cl dl)))
       where
         away : (j : ℕ) → (j ≡ c → ⊥) → (q.noted.core.0 == j) ≡ false
-        away j n = go (cases_eq q.noted.core.0 j)
-          where
-            go : (q.noted.core.0 ≡ j) ⊎ (q.noted.core.0 ≡ j → ⊥) → (q.noted.core.0 == j) ≡ false
-            go (inl i) = absurd (n (sym i ∙ q.core))
-            go (inr i) = grind (arith, nat_tests)
+        away j n = grind (arith, nat_tests)
 
     noted-one : (n : Noted) → noted_tid n.tid.0 (Some n) ≡ 1
     noted-one n = let z : (n.tid.0 == n.tid.0) ≡ true = grind (arith, nat_tests) in rw z refl

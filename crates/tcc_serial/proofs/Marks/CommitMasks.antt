@@ -1,26 +1,27 @@
 -- What a core has marked, or marks, by a TID that it commits is what the commit stored.
-use Rattle.tcc_serial.proofs.Names.{ℕ, ◌+◌, ◌≡◌, ◌≤◌, Bool, true, false, not, List, [], ◌∷◌, ◌++◌, ◌==◌, ◌&&◌, Option, Some, None, IfSome}
-use Rattle.tcc_serial.proofs.Names.{nat_lt, if◌then◌else◌, flat_map, arith, refl, sym, ap, ◌∙◌, ◌⊎◌, inl, inr, nat_tests, Noted, Program}
-use Rattle.tcc_serial.proofs.Names.{num, those, any_below, count_below, Dir, Msg, Skip, Mark, Commit, WriteBack, ProbeReply, TidReq}
-use Rattle.tcc_serial.proofs.Names.{TidGrant, LoadReq, Fill, Probe, Abort, Flush, DataReq, Inv, InvAck, Shape, home, lines, Cache}
-use Rattle.tcc_serial.proofs.Names.{is_modified, modified_mask, writes_at, Spilled, holds, spilled_mask, spilled_words, CoreState, Awaited}
-use Rattle.tcc_serial.proofs.Names.{Phase, Running, AwaitTid, DoomedTid, Probing, Ready, Overflowing, Solo, Halted, Out, noted, commit}
-use Rattle.tcc_serial.proofs.Names.{commit_sends, solo_sends, solo_marks, solo_backs, solo_writes_at, is_written, written_mask, core_exec}
-use Rattle.tcc_serial.proofs.Names.{exec_phase, unless_awaiting, core_evict, from_dir, probe_reply, fill, data_request, invalidate, Commits}
-use Rattle.tcc_serial.proofs.Names.{AnyCommit, CommitOf, MarkOf, MarkMask, among, passes, has_marked, stores_line, marked_by, OneCore}
-use Rattle.tcc_serial.proofs.Names.{stores_in, stored_mask, stores_at, has_tid}
+use Rattle.tcc_serial.proofs.Names.{ℕ, ◌+◌, ◌≡◌, ◌≤◌, Bool, true, false, not, List, [], ◌∷◌, ◌++◌, ◌==◌, ◌&&◌, Some, IfSome, nat_lt}
+use Rattle.tcc_serial.proofs.Names.{if◌then◌else◌, flat_map, arith, refl, sym, ap, ◌∙◌, ◌⊎◌, inl, inr, nat_tests, Noted, Program, num}
+use Rattle.tcc_serial.proofs.Names.{those, any_below, count_below, Dir, Msg, Skip, Mark, Commit, WriteBack, ProbeReply, Fill, DataReq}
+use Rattle.tcc_serial.proofs.Names.{Inv, Shape, home, lines, Cache, is_modified, modified_mask, writes_at, Spilled, holds, spilled_mask}
+use Rattle.tcc_serial.proofs.Names.{spilled_words, CoreState, Phase, Ready, Solo, Out, noted, commit, commit_sends, solo_sends}
+use Rattle.tcc_serial.proofs.Names.{solo_marks, solo_backs, solo_writes_at, is_written, written_mask, core_exec, core_evict, from_dir}
+use Rattle.tcc_serial.proofs.Names.{probe_reply, fill, data_request, invalidate, Commits, AnyCommit, CommitOf, MarkOf, MarkMask, among}
+use Rattle.tcc_serial.proofs.Names.{passes, has_marked, stores_line, marked_by, OneCore, stores_in, stored_mask, stores_at, has_tid}
+use Rattle.tcc_serial.proofs.Names.{nothing, stored}
 use Rattle.tcc_serial.proofs.Counts.Links.{among-append, among-flat_map_none}
+use Rattle.tcc_serial.proofs.OneCore.Executes.{Steady, Executed, Goes_on, Overflows, Asks_tid, Alone, did-executed}
+use Rattle.tcc_serial.proofs.OneCore.CoreSteps.{fill-steady, data-steady, invalidate-cases, reply-cases, steady-emptied}
+use Rattle.tcc_serial.proofs.Serving.CoreCommits.{few-commits}
+use Rattle.tcc_serial.proofs.Serving.CommitOwners.{few-of}
 use Rattle.tcc_serial.proofs.Marks.CoreCounts.{is-commit, is-alone, has-solo, no-commits, free-hurt, free-replied}
 use Rattle.tcc_serial.proofs.Marks.CoreMarking.{mine, told-commit, has-ready}
 use Rattle.tcc_serial.proofs.Marks.CoreMarkingTakes.{unmarked}
 use Rattle.tcc_serial.proofs.Marks.CoreMasks.{own-mask, few-masked}
+use Rattle.tcc_serial.proofs.OneCore.NotedCommits.{Notes, did-notes}
 use Rattle.tcc_serial.proofs.Marks.StoredMasks.{unspilled, stored-line, stored-any, stored-cases, modified-line, modified-stored}
 use Rattle.tcc_serial.proofs.Marks.StoredMasks.{written-line, written-stored}
-use Rattle.tcc_serial.proofs.OneCore.CoreSteps.{evict-steady, fill-steady, data-steady, invalidate-cases, reply-cases}
-use Rattle.tcc_serial.proofs.OneCore.Executes.{Acts, Steady, Executed, Goes_on, Overflows, Asks_tid, Alone, executed}
-use Rattle.tcc_serial.proofs.OneCore.NotedCommits.{Notes, exec-notes}
-use Rattle.tcc_serial.proofs.Serving.CommitOwners.{few-of}
-use Rattle.tcc_serial.proofs.Serving.CoreCommits.{few-commits}
+use Rattle.tcc_serial.proofs.OneCore.Said.{quiet}
+use Rattle.tcc_serial.proofs.OneCore.Outcomes.{Commits_now, Did, each-exec, out, each-evict, emptied}
 
 -- A core notes a commit that stored at the directory, and what this stored are the masks of the Marks that it has sent, and of those that it sends with it.
 pub record Storing (sh : Shape) (c d t : ℕ) (s : CoreState) (o : Out) : Type 0 where
@@ -67,15 +68,7 @@ commit-some t (m ∷ ms) x = go (passes (Commits t) m) refl (commit-some t ms)
 
 commit-writes : (sh : Shape) (c : Cache) (u d t : ℕ) → 1 ≤ among (Commits t) (commit_sends sh c u (Dir d)) → any_below (λ l. d == home sh l && is_modified c l) (lines sh) ≡ true
 unfolding commit_sends writes_at among passes
-commit-writes sh c u d t x = go (nat_lt d sh.dirs) (any_below p (lines sh)) x
-  where
-    p : ℕ → Bool
-    p l = d == home sh l && is_modified c l
-
-    go : (a b : Bool) → 1 ≤ among (Commits t) (if a then (if b then Commit u (count_below p (lines sh)) ∷ [] else []) else []) → b ≡ true
-    go true true y = refl
-    go true false y = absurd (omega (arith, y))
-    go false b y = absurd (omega (arith, y))
+commit-writes sh c u d t x = grind (arith, nat_tests)
 
 storing-ready : (sh : Shape) (c d t u : ℕ) (s : CoreState) → s.phase ≡ Ready u → OneCore sh s → StoresAll sh c d t s (commit sh c u s)
 unfolding commit noted marked_by has_marked stores_line
@@ -193,47 +186,18 @@ storing-executed sh c d t s o h (Asks_tid r ph ow cm ve di) n = storing-none sh 
 storing-executed sh c d t s o h (Alone u r q ph ow cm se) n = let m : (r.stores ≡ s.stores) × (r.loads ≡ s.loads) × (o.core.loads ≡ []) = rw cm at n in storing-alone sh c d t u s r o q cm (m.0) se h
 
 pub storing-exec : (sh : Shape) (p : Program) (c d t : ℕ) (s : CoreState) → OneCore sh s → IfSome (core_exec sh p c s) (λ o. StoresAll sh c d t s o)
-unfolding core_exec
-storing-exec sh p c d t s h = go s.phase refl (exec-notes sh p c s)
+storing-exec sh p c d t s h = each-exec sh p c s (λ o. StoresAll sh c d t s o) go
   where
-    weaken : (x : Option Out) → IfSome x (λ o. Executed sh c s o) → IfSome x (λ o. Notes s o) → IfSome x (λ o. StoresAll sh c d t s o)
-    weaken None y n = tt
-    weaken (Some o) y n = storing-executed sh c d t s o h y n
-
-    awaiting : (a : Option Awaited) → Acts s.phase → IfSome (unless_awaiting sh p c s a) (λ o. Notes s o) → IfSome (unless_awaiting sh p c s a) (λ o. StoresAll sh c d t s o)
-    awaiting (Some x) a n = tt
-    awaiting None a n = weaken _ (executed sh p c s a) n
-
-    go : (q : Phase) → s.phase ≡ q → IfSome (exec_phase sh p c s q) (λ o. Notes s o) → IfSome (exec_phase sh p c s q) (λ o. StoresAll sh c d t s o)
-    go Running e n = awaiting s.awaited (rw e tt) n
-    go (Solo u) e n = awaiting s.awaited (rw e tt) n
-    go (Ready u) e n = storing-ready sh c d t u s e h
-    go AwaitTid e n = tt
-    go DoomedTid e n = tt
-    go (Probing u) e n = tt
-    go (Overflowing u) e n = tt
-    go Halted e n = tt
+    go : (x : Did sh p c s) → StoresAll sh c d t s (out x)
+    go (Commits_now u e) = storing-ready sh c d t u s e h
+    go x = storing-executed sh c d t s (out x) h (did-executed x) (did-notes x)
 
 pub storing-evict : (sh : Shape) (x y c d t : ℕ) (s : CoreState) → IfSome (core_evict sh x y s) (λ o. StoresAll sh c d t s o)
-storing-evict sh x y c d t s = go (core_evict sh x y s) (evict-steady sh x y s)
-  where
-    go : (a : Option Out) → IfSome a (λ o. Steady s o) → IfSome a (λ o. StoresAll sh c d t s o)
-    go None h = tt
-    go (Some o) h = storing-steady sh c d t s o h
+storing-evict sh x y c d t s = each-evict sh x y s (λ o. StoresAll sh c d t s o) (λ k q u z. storing-steady sh c d t s (emptied sh x y k s) (steady-emptied sh x y s k q u z))
 
 pub storing-back : (sh : Shape) (e c d t : ℕ) (s : CoreState) (m : Msg) → IfSome (from_dir sh e s m) (λ o. StoresAll sh c d t s o)
 storing-back sh e c d t s (ProbeReply u v) = storing-none sh c d t s (probe_reply sh e u s) (free-replied sh e u d s (probe_reply sh e u s) (reply-cases sh e u s))
 storing-back sh e c d t s (Fill k ws) = storing-steady sh c d t s (fill k ws s) (fill-steady k ws s)
 storing-back sh e c d t s (DataReq k) = storing-steady sh c d t s (data_request sh k s) (data-steady sh k s)
 storing-back sh e c d t s (Inv k m u) = storing-none sh c d t s (invalidate sh k m u s) (free-hurt sh k d s (invalidate sh k m u s) (invalidate-cases sh k m u s))
-storing-back sh e c d t s TidReq = tt
-storing-back sh e c d t s (TidGrant u) = tt
-storing-back sh e c d t s (LoadReq k a) = tt
-storing-back sh e c d t s (Skip u) = tt
-storing-back sh e c d t s (Probe u) = tt
-storing-back sh e c d t s (Mark k m u) = tt
-storing-back sh e c d t s (Commit u n) = tt
-storing-back sh e c d t s (Abort u) = tt
-storing-back sh e c d t s (WriteBack k m ws u) = tt
-storing-back sh e c d t s (Flush k m ws u) = tt
-storing-back sh e c d t s (InvAck k b) = tt
+storing-back sh e c d t s _ = tt

@@ -1,20 +1,22 @@
 -- A Commit that a core sends counts the Marks that it has sent, or sends with it.
-use Rattle.tcc_serial.proofs.Names.{ℕ, zero, suc, ◌+◌, ◌≡◌, ◌<◌, ◌≤◌, Bool, true, false, List, [], ◌∷◌, ◌++◌, ◌==◌, ◌&&◌, Option, Some}
-use Rattle.tcc_serial.proofs.Names.{None, IfSome, nat_lt, if◌then◌else◌, flat_map, arith, refl, ◌∙◌, nat_tests, Program, num, those}
-use Rattle.tcc_serial.proofs.Names.{count_below, Dir, Msg, Skip, Mark, Commit, WriteBack, InvAck, ProbeReply, TidReq, TidGrant, LoadReq}
-use Rattle.tcc_serial.proofs.Names.{Fill, Probe, Abort, Flush, DataReq, Inv, Shape, home, lines, Cache, is_modified, writes_at, Spilled}
-use Rattle.tcc_serial.proofs.Names.{holds, spilled_mask, spilled_words, CoreState, Awaited, Phase, Running, AwaitTid, DoomedTid, Probing}
-use Rattle.tcc_serial.proofs.Names.{Ready, Overflowing, Solo, Halted, to, marks_for, Out, commit, commit_sends, solo_sends, solo_marks}
-use Rattle.tcc_serial.proofs.Names.{solo_backs, solo_writes_at, is_written, written_mask, core_exec, exec_phase, unless_awaiting}
-use Rattle.tcc_serial.proofs.Names.{core_evict, from_dir, grant, grant_phase, probe_reply, fill, data_request, invalidate, total, Kind}
-use Rattle.tcc_serial.proofs.Names.{MarkOf, AnyCommit, CommitOf, among, passes, has_marked, stores_line, marked_by, may_commit, has_tid}
+use Rattle.tcc_serial.proofs.Names.{ℕ, zero, suc, ◌+◌, ◌≡◌, ◌<◌, ◌≤◌, Bool, true, false, List, [], ◌∷◌, ◌++◌, ◌==◌, ◌&&◌, Some, None}
+use Rattle.tcc_serial.proofs.Names.{IfSome, nat_lt, if◌then◌else◌, flat_map, arith, refl, ◌∙◌, nat_tests, Program, num, those}
+use Rattle.tcc_serial.proofs.Names.{count_below, Dir, Msg, Skip, Mark, Commit, WriteBack, InvAck, ProbeReply, Fill, DataReq, Inv, Shape}
+use Rattle.tcc_serial.proofs.Names.{home, lines, Cache, is_modified, writes_at, Spilled, holds, spilled_mask, spilled_words, CoreState}
+use Rattle.tcc_serial.proofs.Names.{Phase, Running, AwaitTid, DoomedTid, Probing, Ready, Overflowing, Solo, Halted, to, marks_for, Out}
+use Rattle.tcc_serial.proofs.Names.{commit, commit_sends, solo_sends, solo_marks, solo_backs, solo_writes_at, is_written, written_mask}
+use Rattle.tcc_serial.proofs.Names.{core_exec, core_evict, from_dir, grant, grant_phase, probe_reply, fill, data_request, invalidate}
+use Rattle.tcc_serial.proofs.Names.{total, Kind, MarkOf, AnyCommit, CommitOf, among, passes, has_marked, stores_line, marked_by}
+use Rattle.tcc_serial.proofs.Names.{may_commit, has_tid, kept, marked, skipped}
 use Rattle.tcc_serial.proofs.Counts.Links.{among-append, total-same, among-fewer, among-flat_map_none}
-use Rattle.tcc_serial.proofs.Marks.CoreMarking.{mine, self, told-commit, has-ready}
-use Rattle.tcc_serial.proofs.Marks.CoreMarks.{one-mark, marks-only}
-use Rattle.tcc_serial.proofs.OneCore.CoreSteps.{evict-steady, fill-steady, data-steady, Hurt, Unhurt, Rolled, Doomed, Aborted, Gave_up}
-use Rattle.tcc_serial.proofs.OneCore.CoreSteps.{Invalidated, invalidate-cases, Replied, Ignored, Probed, Left_alone, reply-cases}
-use Rattle.tcc_serial.proofs.OneCore.Executes.{Acts, Steady, Executed, Goes_on, Overflows, Asks_tid, Alone, executed}
+use Rattle.tcc_serial.proofs.OneCore.Executes.{Steady, Executed, Goes_on, Overflows, Asks_tid, Alone, did-executed}
+use Rattle.tcc_serial.proofs.OneCore.CoreSteps.{fill-steady, data-steady, Hurt, Unhurt, Rolled, Doomed, Aborted, Gave_up, Invalidated}
+use Rattle.tcc_serial.proofs.OneCore.CoreSteps.{invalidate-cases, Replied, Ignored, Probed, Left_alone, reply-cases, steady-emptied}
 use Rattle.tcc_serial.proofs.Serving.CoreCommits.{few-commits, free-abort, free-skip, free-probe, free-grants, free-to, free-marks}
+use Rattle.tcc_serial.proofs.Marks.CoreMarks.{one-mark, marks-only}
+use Rattle.tcc_serial.proofs.Marks.CoreMarking.{mine, self, told-commit, has-ready}
+use Rattle.tcc_serial.proofs.OneCore.Said.{quiet}
+use Rattle.tcc_serial.proofs.OneCore.Outcomes.{Commits_now, Did, each-exec, out, each-evict, emptied}
 
 -- the Marks of a TID that a core has sent and sends
 abbrev marks_after : Shape → (dir tid : ℕ) → CoreState → Out → ℕ → ℕ
@@ -147,33 +149,14 @@ counts-executed sh c d t s o (Alone u r q ph ow cm se) = λ n x. alone n (is-alo
     alone n f = counts-lines sh d t n s o p (mine u t s.phase (has-solo u s.phase q) (f.0)) (f.1) (λ l. rw (se, q) (omega (arith, f.2 l)))
 
 pub counts-exec : (sh : Shape) (p : Program) (c d t : ℕ) (s : CoreState) → (may_commit s.phase ≡ true → s.owing d ≡ false) → IfSome (core_exec sh p c s) (λ o. CountsAll sh d t s o)
-unfolding core_exec
-counts-exec sh p c d t s f = go s.phase refl
+counts-exec sh p c d t s f = each-exec sh p c s (λ o. CountsAll sh d t s o) go
   where
-    weaken : (x : Option Out) → IfSome x (λ o. Executed sh c s o) → IfSome x (λ o. CountsAll sh d t s o)
-    weaken None h = tt
-    weaken (Some o) h = counts-executed sh c d t s o h
-
-    awaiting : (a : Option Awaited) → Acts s.phase → IfSome (unless_awaiting sh p c s a) (λ o. CountsAll sh d t s o)
-    awaiting (Some x) a = tt
-    awaiting None a = weaken _ (executed sh p c s a)
-
-    go : (q : Phase) → s.phase ≡ q → IfSome (exec_phase sh p c s q) (λ o. CountsAll sh d t s o)
-    go Running e = awaiting s.awaited (rw e tt)
-    go (Solo u) e = awaiting s.awaited (rw e tt)
-    go (Ready u) e = counts-ready sh c d t u s e (f (rw e refl))
-    go AwaitTid e = tt
-    go DoomedTid e = tt
-    go (Probing u) e = tt
-    go (Overflowing u) e = tt
-    go Halted e = tt
+    go : (x : Did sh p c s) → CountsAll sh d t s (out x)
+    go (Commits_now u e) = counts-ready sh c d t u s e (f (rw e refl))
+    go x = counts-executed sh c d t s (out x) (did-executed x)
 
 pub counts-evict : (sh : Shape) (x y d t : ℕ) (s : CoreState) → IfSome (core_evict sh x y s) (λ o. CountsAll sh d t s o)
-counts-evict sh x y d t s = go (core_evict sh x y s) (evict-steady sh x y s)
-  where
-    go : (a : Option Out) → IfSome a (λ o. Steady s o) → IfSome a (λ o. CountsAll sh d t s o)
-    go None h = tt
-    go (Some o) h = counts-steady sh d t s o h
+counts-evict sh x y d t s = each-evict sh x y s (λ o. CountsAll sh d t s o) (λ k q u z. counts-steady sh d t s (emptied sh x y k s) (steady-emptied sh x y s k q u z))
 
 pub counts-grant : (sh : Shape) (u d : ℕ) (s : CoreState) → among AnyCommit ((grant sh u s).sends (Dir d)) ≡ 0
 unfolding grant
@@ -211,14 +194,4 @@ counts-back sh e d t s (ProbeReply u v) = counts-none sh d t s (probe_reply sh e
 counts-back sh e d t s (Fill k ws) = counts-steady sh d t s (fill k ws s) (fill-steady k ws s)
 counts-back sh e d t s (DataReq k) = counts-steady sh d t s (data_request sh k s) (data-steady sh k s)
 counts-back sh e d t s (Inv k m u) = counts-none sh d t s (invalidate sh k m u s) (free-hurt sh k d s (invalidate sh k m u s) (invalidate-cases sh k m u s))
-counts-back sh e d t s TidReq = tt
-counts-back sh e d t s (TidGrant u) = tt
-counts-back sh e d t s (LoadReq k a) = tt
-counts-back sh e d t s (Skip u) = tt
-counts-back sh e d t s (Probe u) = tt
-counts-back sh e d t s (Mark k m u) = tt
-counts-back sh e d t s (Commit u n) = tt
-counts-back sh e d t s (Abort u) = tt
-counts-back sh e d t s (WriteBack k m ws u) = tt
-counts-back sh e d t s (Flush k m ws u) = tt
-counts-back sh e d t s (InvAck k b) = tt
+counts-back sh e d t s _ = tt

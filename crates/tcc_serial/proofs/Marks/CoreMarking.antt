@@ -1,16 +1,17 @@
 -- What each of a core's rules does to its Marks, Skips and the words on its TID.
-use Rattle.tcc_serial.proofs.Names.{ℕ, ◌+◌, ◌≡◌, ◌≤◌, Bool, true, false, not, List, [], ◌∷◌, ◌++◌, ◌==◌, ◌&&◌, Option, Some, None, IfSome}
-use Rattle.tcc_serial.proofs.Names.{nat_lt, if◌then◌else◌, arith, refl, ap, ◌⊎◌, inl, inr, cases_eq, nat_tests, Program, num, any_word, Dir}
-use Rattle.tcc_serial.proofs.Names.{Msg, InvAck, Shape, home, lines, Cache, writes_at, is_modified, CoreState, Awaited, Phase, Running}
-use Rattle.tcc_serial.proofs.Names.{AwaitTid, DoomedTid, Probing, Ready, Overflowing, Solo, Halted, to, skip_all, abort_written, Out}
-use Rattle.tcc_serial.proofs.Names.{commit, committed_core, phase_after, commit_sends, solo_sends, core_exec, exec_phase, unless_awaiting}
-use Rattle.tcc_serial.proofs.Names.{core_evict, Resolves, Protocol, Marks, MarkOf, EmptyMarks, Skips, among, passes, has_marked}
-use Rattle.tcc_serial.proofs.Names.{stores_line, marked_by, has_tid, opens}
+use Rattle.tcc_serial.proofs.Names.{ℕ, ◌+◌, ◌≡◌, ◌≤◌, Bool, true, false, not, List, [], ◌∷◌, ◌++◌, ◌==◌, ◌&&◌, None, IfSome, nat_lt}
+use Rattle.tcc_serial.proofs.Names.{if◌then◌else◌, arith, refl, ap, ◌⊎◌, inl, inr, cases_eq, nat_tests, Program, num, any_word, Dir, Msg}
+use Rattle.tcc_serial.proofs.Names.{InvAck, Shape, home, lines, Cache, writes_at, is_modified, CoreState, Phase, Running, AwaitTid, Ready}
+use Rattle.tcc_serial.proofs.Names.{Overflowing, Solo, to, skip_all, abort_written, Out, commit, committed_core, phase_after}
+use Rattle.tcc_serial.proofs.Names.{commit_sends, solo_sends, core_exec, core_evict, Resolves, Protocol, Marks, MarkOf, EmptyMarks, Skips}
+use Rattle.tcc_serial.proofs.Names.{among, passes, has_marked, stores_line, marked_by, has_tid, opens, kept, owned, skipped}
 use Rattle.tcc_serial.proofs.Counts.Links.{among-append, num-few}
-use Rattle.tcc_serial.proofs.Marks.CoreMarks.{solo-mark, solo-full, solo-skips, solo-owned}
-use Rattle.tcc_serial.proofs.OneCore.CoreSteps.{evict-steady}
-use Rattle.tcc_serial.proofs.OneCore.Executes.{Acts, Steady, Executed, Goes_on, Overflows, Asks_tid, Alone, executed}
 use Rattle.tcc_serial.proofs.Tids.CoreProbing.{tid-after}
+use Rattle.tcc_serial.proofs.OneCore.Executes.{Steady, Executed, Goes_on, Overflows, Asks_tid, Alone, did-executed}
+use Rattle.tcc_serial.proofs.Marks.CoreMarks.{solo-mark, solo-full, solo-skips, solo-owned}
+use Rattle.tcc_serial.proofs.OneCore.Said.{quiet}
+use Rattle.tcc_serial.proofs.OneCore.Outcomes.{Acts, Commits_now, Did, each-exec, out, each-evict, emptied}
+use Rattle.tcc_serial.proofs.OneCore.CoreSteps.{steady-emptied}
 
 -- A core speaks only of its TID. While it keeps it, it has sent a Mark of each line that it has to; it marks a line once, only where
 -- the TID is open, and skips only where it has sent no Mark.
@@ -88,22 +89,13 @@ stores-same sh a b d l h = ap (λ m. nat_lt l (lines sh) && (d == home sh l && a
 
 pub marked-same : (sh : Shape) (s r : CoreState) (d l : ℕ) → r.phase ≡ s.phase → r.owing d ≡ s.owing d → (has_marked s.phase ≡ true → stores_line sh r.cache d l ≡ stores_line sh s.cache d l) → marked_by sh s d l ≡ marked_by sh r d l
 unfolding marked_by
-marked-same sh s r d l p q h = rw (p, q) (go (has_marked s.phase) refl)
-  where
-    go : (b : Bool) → has_marked s.phase ≡ b → num (b && (not (s.owing d) && stores_line sh s.cache d l)) ≡ num (b && (not (s.owing d) && stores_line sh r.cache d l))
-    go false e = refl
-    go true e = rw (h e) refl
+marked-same sh s r d l p q h = grind (arith, nat_tests)
 
 pub idle : (q : Phase) → has_marked q ≡ true → Acts q → ⊥
 unfolding has_marked
 idle Running e a = cc
 idle (Solo t) e a = cc
-idle (Probing t) e a = a
-idle (Ready t) e a = a
-idle AwaitTid e a = a
-idle DoomedTid e a = a
-idle (Overflowing t) e a = a
-idle Halted e a = a
+idle _ e a = a
 
 pub marking-steady : (sh : Shape) (d t l : ℕ) (s : CoreState) (o : Out) → Steady s o → Marking sh d t l s o
 marking-steady sh d t l s o y = silent sh d t l s o (unsaid-quiet t l (o.sends (Dir d)) (y.quiet d)) (λ x. (rw y.phase at x, marked-same sh s o.core d l (y.phase) (ap (λ f. f d) (y.owing)) (λ m. stores-same sh o.core.cache s.cache d l (y.modified (idle s.phase m)))))
@@ -200,33 +192,15 @@ marking-executed sh c d t l s o (Alone u r q ph ow cm se) = record {
     one x (inr n) = let b : (u == t) ≡ false = grind (arith, nat_tests) in let z : num (u == t) ≡ 0 = ap num b in absurd (omega (arith, x, z, solo-mark sh s.cache s.spilled u d t l))
 
 pub marking-exec : (sh : Shape) (p : Program) (c d t l : ℕ) (s : CoreState) → IfSome (core_exec sh p c s) (λ o. Marking sh d t l s o)
-unfolding core_exec commit committed_core
-marking-exec sh p c d t l s = go s.phase refl
+unfolding commit committed_core
+marking-exec sh p c d t l s = each-exec sh p c s (λ o. Marking sh d t l s o) go
   where
-    weaken : (x : Option Out) → IfSome x (λ o. Executed sh c s o) → IfSome x (λ o. Marking sh d t l s o)
-    weaken None h = tt
-    weaken (Some o) h = marking-executed sh c d t l s o h
-
-    awaiting : (a : Option Awaited) → Acts s.phase → IfSome (unless_awaiting sh p c s a) (λ o. Marking sh d t l s o)
-    awaiting (Some x) a = tt
-    awaiting None a = weaken _ (executed sh p c s a)
-
     ready : (u : ℕ) → s.phase ≡ Ready u → Marking sh d t l s (commit sh c u s)
     ready u e = let f = told-commit sh s.cache u d t l in last-words sh d t l u s (commit sh c u s) (phase_after s.ended) refl (tid-after s.ended t) (λ z. mine u t s.phase (has-ready u s.phase e) z) (f.0) (f.1) (is-tid u t _ (swap (cases_eq u t)) (f.3)) (λ x. absurd (omega (arith, x, f.2)))
 
-    go : (q : Phase) → s.phase ≡ q → IfSome (exec_phase sh p c s q) (λ o. Marking sh d t l s o)
-    go Running e = awaiting s.awaited (rw e tt)
-    go (Solo u) e = awaiting s.awaited (rw e tt)
-    go (Ready u) e = ready u e
-    go AwaitTid e = tt
-    go DoomedTid e = tt
-    go (Probing u) e = tt
-    go (Overflowing u) e = tt
-    go Halted e = tt
+    go : (x : Did sh p c s) → Marking sh d t l s (out x)
+    go (Commits_now u e) = ready u e
+    go x = marking-executed sh c d t l s (out x) (did-executed x)
 
 pub marking-evict : (sh : Shape) (x y d t l : ℕ) (s : CoreState) → IfSome (core_evict sh x y s) (λ o. Marking sh d t l s o)
-marking-evict sh x y d t l s = go (core_evict sh x y s) (evict-steady sh x y s)
-  where
-    go : (a : Option Out) → IfSome a (λ o. Steady s o) → IfSome a (λ o. Marking sh d t l s o)
-    go None h = tt
-    go (Some o) h = marking-steady sh d t l s o h
+marking-evict sh x y d t l s = each-evict sh x y s (λ o. Marking sh d t l s o) (λ k q u z. marking-steady sh d t l s (emptied sh x y k s) (steady-emptied sh x y s k q u z))

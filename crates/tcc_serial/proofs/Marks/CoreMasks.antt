@@ -1,20 +1,19 @@
 -- The Marks that a core sends have as masks the words that it has modified, and these stay while it has its TID.
-use Rattle.tcc_serial.proofs.Names.{ℕ, ◌≡◌, ◌≤◌, Bool, true, false, not, List, [], ◌∷◌, ◌==◌, ◌&&◌, Option, Some, None, IfSome}
-use Rattle.tcc_serial.proofs.Names.{if◌then◌else◌, arith, refl, ap, ◌⊎◌, inl, inr, cases_eq, nat_tests, Program, num, word_at, mask_of, Dir}
-use Rattle.tcc_serial.proofs.Names.{Msg, InvAck, ProbeReply, TidReq, TidGrant, LoadReq, Fill, Skip, Probe, Mark, Commit, Abort, WriteBack}
-use Rattle.tcc_serial.proofs.Names.{Flush, DataReq, Inv, Shape, home, Cache, modified_mask, written_lines, CoreState, Awaited, Phase}
-use Rattle.tcc_serial.proofs.Names.{Running, AwaitTid, DoomedTid, Probing, Ready, Overflowing, Solo, Halted, Link, to, marks_for, Out}
-use Rattle.tcc_serial.proofs.Names.{commit, committed_core, phase_after, core_exec, exec_phase, unless_awaiting, core_evict, from_dir}
-use Rattle.tcc_serial.proofs.Names.{probe_reply, fill, data_request, invalidate, ignored, MarkOf, MarkMask, live, among, passes, has_marked}
-use Rattle.tcc_serial.proofs.Names.{marked_by, has_tid}
+use Rattle.tcc_serial.proofs.Names.{ℕ, ◌≡◌, ◌≤◌, Bool, true, false, not, List, [], ◌∷◌, ◌==◌, ◌&&◌, None, IfSome, if◌then◌else◌, arith}
+use Rattle.tcc_serial.proofs.Names.{refl, ap, ◌⊎◌, inl, inr, cases_eq, nat_tests, Program, num, word_at, mask_of, Dir, Msg, InvAck}
+use Rattle.tcc_serial.proofs.Names.{ProbeReply, Fill, Mark, DataReq, Inv, Shape, home, Cache, modified_mask, written_lines, CoreState}
+use Rattle.tcc_serial.proofs.Names.{Phase, Running, AwaitTid, DoomedTid, Overflowing, Link, to, marks_for, Out, commit, committed_core}
+use Rattle.tcc_serial.proofs.Names.{phase_after, core_exec, core_evict, from_dir, probe_reply, fill, data_request, invalidate, ignored}
+use Rattle.tcc_serial.proofs.Names.{MarkOf, MarkMask, live, among, passes, has_marked, marked_by, has_tid, kept}
 use Rattle.tcc_serial.proofs.Counts.Links.{among-flat_map_none, among-fewer, live-fewer}
+use Rattle.tcc_serial.proofs.Tids.CoreProbing.{tid-after}
+use Rattle.tcc_serial.proofs.OneCore.Executes.{Steady, Executed, Goes_on, Overflows, Asks_tid, Alone, did-executed}
+use Rattle.tcc_serial.proofs.OneCore.CoreSteps.{fill-steady, data-steady, ignored-steady, Hurt, Unhurt, Rolled, Doomed, Aborted, Gave_up}
+use Rattle.tcc_serial.proofs.OneCore.CoreSteps.{Invalidated, invalidate-cases, Replied, Ignored, Probed, Left_alone, reply-cases}
+use Rattle.tcc_serial.proofs.OneCore.CoreSteps.{steady-emptied}
 use Rattle.tcc_serial.proofs.Marks.CoreMarking.{Unsaid, unsaid-quiet, unsaid-nothing, unsaid-append, acked, idle}
 use Rattle.tcc_serial.proofs.Marks.CoreMarkingTakes.{unmarked}
-use Rattle.tcc_serial.proofs.OneCore.CoreSteps.{evict-steady, fill-steady, data-steady, ignored-steady, Hurt, Unhurt, Rolled, Doomed}
-use Rattle.tcc_serial.proofs.OneCore.CoreSteps.{Aborted, Gave_up, Invalidated, invalidate-cases, Replied, Ignored, Probed, Left_alone}
-use Rattle.tcc_serial.proofs.OneCore.CoreSteps.{reply-cases}
-use Rattle.tcc_serial.proofs.OneCore.Executes.{Acts, Steady, Executed, Goes_on, Overflows, Asks_tid, Alone, executed}
-use Rattle.tcc_serial.proofs.Tids.CoreProbing.{tid-after}
+use Rattle.tcc_serial.proofs.OneCore.Outcomes.{Commits_now, Did, each-exec, out, each-evict, emptied}
 
 -- While a core keeps its TID, what it marks has the mask of the line's modified words, and these stay where it has marked.
 pub record Masking (sh : Shape) (d t l : ℕ) (s : CoreState) (o : Out) : Type 0 where
@@ -39,11 +38,7 @@ passes-masked t l q m z = omega (arith, z, one-masked t l q m)
 -- Marks of lines whose masks are f
 pub own-mask : (f : ℕ → ℕ) (t u l k : ℕ) → num (passes (MarkMask t l (f l)) (Mark k (f k) u)) ≡ 0
 unfolding passes
-own-mask f t u l k = go (cases_eq k l)
-  where
-    go : (k ≡ l) ⊎ (k ≡ l → ⊥) → num ((u == t) && ((k == l) && not (f k == f l))) ≡ 0
-    go (inl e) = rw e (grind (arith, nat_tests))
-    go (inr n) = grind (arith, nat_tests)
+own-mask f t u l k = grind (arith, nat_tests)
 
 masked-for : (sh : Shape) (c : Cache) (u e t l : ℕ) → among (MarkMask t l (modified_mask c l)) (marks_for sh c u e) ≡ 0
 unfolding marks_for among
@@ -81,33 +76,15 @@ masking-executed sh c d t l s o (Asks_tid r ph ow cm ve di) = gone sh d t l s o 
 masking-executed sh c d t l s o (Alone u r q ph ow cm se) = gone sh d t l s o (phase_after r.ended) ph (tid-after r.ended t)
 
 pub masking-exec : (sh : Shape) (p : Program) (c d t l : ℕ) (s : CoreState) → IfSome (core_exec sh p c s) (λ o. Masking sh d t l s o)
-unfolding core_exec commit committed_core
-masking-exec sh p c d t l s = go s.phase refl
+unfolding commit committed_core
+masking-exec sh p c d t l s = each-exec sh p c s (λ o. Masking sh d t l s o) go
   where
-    weaken : (x : Option Out) → IfSome x (λ o. Executed sh c s o) → IfSome x (λ o. Masking sh d t l s o)
-    weaken None h = tt
-    weaken (Some o) h = masking-executed sh c d t l s o h
-
-    awaiting : (a : Option Awaited) → Acts s.phase → IfSome (unless_awaiting sh p c s a) (λ o. Masking sh d t l s o)
-    awaiting (Some x) a = tt
-    awaiting None a = weaken _ (executed sh p c s a)
-
-    go : (q : Phase) → s.phase ≡ q → IfSome (exec_phase sh p c s q) (λ o. Masking sh d t l s o)
-    go Running e = awaiting s.awaited (rw e tt)
-    go (Solo u) e = awaiting s.awaited (rw e tt)
-    go (Ready u) e = gone sh d t l s (commit sh c u s) (phase_after s.ended) refl (tid-after s.ended t)
-    go AwaitTid e = tt
-    go DoomedTid e = tt
-    go (Probing u) e = tt
-    go (Overflowing u) e = tt
-    go Halted e = tt
+    go : (x : Did sh p c s) → Masking sh d t l s (out x)
+    go (Commits_now u e) = gone sh d t l s (commit sh c u s) (phase_after s.ended) refl (tid-after s.ended t)
+    go x = masking-executed sh c d t l s (out x) (did-executed x)
 
 pub masking-evict : (sh : Shape) (x y d t l : ℕ) (s : CoreState) → IfSome (core_evict sh x y s) (λ o. Masking sh d t l s o)
-masking-evict sh x y d t l s = go (core_evict sh x y s) (evict-steady sh x y s)
-  where
-    go : (a : Option Out) → IfSome a (λ o. Steady s o) → IfSome a (λ o. Masking sh d t l s o)
-    go None h = tt
-    go (Some o) h = masking-steady sh d t l s o h
+masking-evict sh x y d t l s = each-evict sh x y s (λ o. Masking sh d t l s o) (λ k q u z. masking-steady sh d t l s (emptied sh x y k s) (steady-emptied sh x y s k q u z))
 
 masking-hurt : (sh : Shape) (x d t l : ℕ) (s : CoreState) (o : Out) → Invalidated sh x s o → Masking sh d t l s o
 unfolding has_tid
@@ -140,14 +117,4 @@ masking-back sh e d t l s (ProbeReply u v) = masking-replied sh e u d t l s (pro
 masking-back sh e d t l s (Fill k ws) = masking-steady sh d t l s (fill k ws s) (fill-steady k ws s)
 masking-back sh e d t l s (DataReq k) = masking-steady sh d t l s (data_request sh k s) (data-steady sh k s)
 masking-back sh e d t l s (Inv k m u) = masking-hurt sh k d t l s (invalidate sh k m u s) (invalidate-cases sh k m u s)
-masking-back sh e d t l s TidReq = tt
-masking-back sh e d t l s (TidGrant u) = tt
-masking-back sh e d t l s (LoadReq k a) = tt
-masking-back sh e d t l s (Skip u) = tt
-masking-back sh e d t l s (Probe u) = tt
-masking-back sh e d t l s (Mark k m u) = tt
-masking-back sh e d t l s (Commit u n) = tt
-masking-back sh e d t l s (Abort u) = tt
-masking-back sh e d t l s (WriteBack k m ws u) = tt
-masking-back sh e d t l s (Flush k m ws u) = tt
-masking-back sh e d t l s (InvAck k b) = tt
+masking-back sh e d t l s _ = tt

@@ -136,11 +136,7 @@ told-ahead sh w c d t k l x h = go (cases_lt t (w.dirs d).serving.serving)
         absurd (omega (arith, h, b, k.resolved d t x, total-le (share (part sh d t) w d) sh.cores c l))
 
 below-one : (sh : Shape) (n t l : ℕ) (v : Pair) → CountsMarks sh n t v → marks_of t l v ≤ 1
-below-one sh n t l v h = go (nat_lt l (lines sh)) refl
-  where
-    go : (b : Bool) → nat_lt l (lines sh) ≡ b → marks_of t l v ≤ 1
-    go true q = let z : num (nat_lt l (lines sh)) ≡ 1 = ap num q in omega (arith, z, h.each l)
-    go false q = let z : num (nat_lt l (lines sh)) ≡ 0 = ap num q in omega (arith, z, h.each l)
+below-one sh n t l v h = grind (arith, nat_tests)
 
 -- what a directory's answer does to a pair
 pub counted-answered : (sh : Shape) (gs : List Grant) (j d t : ℕ) (v : Pair) (m : Msg) (s : DirState) (ms : List Msg) (k : Link) → Marked v.dir m s

@@ -69,7 +69,6 @@ marks-moved sh gs c d t l v o y cl alone mine free h = record {
         omega (arith, h.skipped dl b, unmarked dl b (cases_lt 0 (among (MarkOf t l) (o.sends (Dir d)))), live-sends (MarkOf t l) v.out (o.sends (Dir d)))
 
 -- a core takes its grant
-
 granted-here : (sh : Shape) (gs : List Grant) (c d u l k : ℕ) (v : Pair) (o : Out) → slice_index_or v.grants k None ≡ Some (TidGrant u) → num (nat_le v.next u) + live (Grants u) v.grants ≤ 1 → Contains gs (record { tid = u; core = c }) → Granting sh u d u l o → MarksOf sh gs c d u l v → MarksOf sh gs c d u l (after_move (grant_taken v k) o d)
 unfolding marks_of
 granted-here sh gs c d u l k v o i one mine y h = record {
@@ -101,7 +100,6 @@ marks-granted sh gs c d t l k u v o i one mine y h = go (cases_eq u t)
     }
 
 -- a directory answers
-
 pub is-skip : (u : ℕ) → num (passes (Skips u) (Skip u)) ≡ 1
 unfolding passes
 is-skip u = grind (arith, nat_tests)
@@ -169,7 +167,6 @@ marks-answered sh gs j d t l v m s ms k y less eqn skip has reached nonempty h =
     one = at-most-one sh v.core d l
 
 -- the vendor grants
-
 pub marks-given : (sh : Shape) (gs hs : List Grant) (c d t l k : ℕ) (v : Pair) → MarksOf sh gs c d t l v → MarksOf sh (gs ++ hs) c d t l (after_grant v k)
 unfolding marks_of passes among
 marks-given sh gs hs c d t l k v h = record {
@@ -191,7 +188,6 @@ marks-next sh gs hs c d t l v h = record {
 }
 
 -- what else is known of a TID that a core has
-
 pub has-alone : (sh : Shape) (gs : List Grant) (w : World) (cs : List Noted) (c t : ℕ) → KeptOwners sh gs w cs → c < sh.cores → has_tid (w.cores c).phase t ≡ true → num (nat_le w.next t) + live (Grants t) (w.net Vendor (Core c)) ≡ 0
 unfolding share holder pair
 has-alone sh gs w cs c t k l h = let n : num (has_tid (w.cores c).phase t) ≡ 1 = ap num h in omega (arith, n, k.once t, total-le (share (holder t) w 0) sh.cores c l)
@@ -237,22 +233,15 @@ inside-dirs sh w c d k u z i = go (cases_lt d sh.dirs)
     go (inr l) = absurd (omega (arith, (z.owed.at_home c d).far l, live-some AnyResolve (w.net (Core c) (Dir d)) k (Skip u) i, is-resolve u (Skip u), is-skip u))
 
 unmarked-of : (s : DirState) (l x : ℕ) → x + num (s.serving.serving == s.serving.serving && has_mark s.lines l) ≡ 0 → has_mark s.lines l ≡ false
-unmarked-of s l x z = go (has_mark s.lines l) refl
-  where
-    go : (b : Bool) → has_mark s.lines l ≡ b → has_mark s.lines l ≡ false
-    go false q = q
-    go true q = let e : (s.serving.serving == s.serving.serving) ≡ true = grind (arith, nat_tests) in let n : num (s.serving.serving == s.serving.serving && has_mark s.lines l) ≡ 1 = rw (e, q) refl in absurd (omega (arith, n, z))
+unmarked-of s l x z = grind (arith, nat_tests)
 
 -- where the served TID is skipped, nothing is marked
 pub skip-unmarked : (sh : Shape) (gs : List Grant) (w : World) (c d k : ℕ) (m : Msg) (l : ℕ) → KeptTold sh w → KeptMarks sh gs w → in_flight w.net (Core c) (Dir d) k ≡ Some m → m ≡ Skip (w.dirs d).serving.serving → has_mark (w.dirs d).lines l ≡ false
 unfolding marks_of pair
-skip-unmarked sh gs w c d k m l z h i e = unmarked-of (w.dirs d) l (live (MarkOf u l) (w.net (Core c) (Dir d))) ((h c d u l).skipped (inside-dirs sh w c d k u z j) (omega (arith, live-some (Skips u) (w.net (Core c) (Dir d)) k (Skip u) j, is-skip u)))
-  where
-    u : ℕ
-    u = (w.dirs d).serving.serving
-
-    j : in_flight w.net (Core c) (Dir d) k ≡ Some (Skip u)
-    j = i ∙ ap (λ y. Some y) e
+skip-unmarked sh gs w c d k m l z h i e =
+    let u : ℕ = (w.dirs d).serving.serving in
+    let j : in_flight w.net (Core c) (Dir d) k ≡ Some (Skip u) = i ∙ ap (λ y. Some y) e in
+    unmarked-of (w.dirs d) l (live (MarkOf u l) (w.net (Core c) (Dir d))) ((h c d u l).skipped (inside-dirs sh w c d k u z j) (omega (arith, live-some (Skips u) (w.net (Core c) (Dir d)) k (Skip u) j, is-skip u)))
 
 -- a Mark of a TID comes from one core, to which the TID was granted
 pub only-there : (sh : Shape) (gs : List Grant) (w : World) (cs : List Noted) (c j d k t l : ℕ) (m : Msg) → KeptOwners sh gs w cs → KeptMarks sh gs w → in_flight w.net (Core c) (Dir d) k ≡ Some m → (j ≡ c → ⊥)

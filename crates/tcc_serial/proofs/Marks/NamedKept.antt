@@ -34,7 +34,6 @@ use Rattle.tcc_serial.proofs.Tids.TidSteps.{live-some}
 -- What nodes send of invalidations and acknowledgements, line by line.
 
 -- kinds, line by line
-
 line-kinds : (l m : ℕ) (x : Msg) → (num (passes (InvOf l) x) ≤ num (passes Invs x)) × (num (passes (InvMask l m) x) ≤ num (passes Invs x)) × (num (passes (AckOf l) x) ≤ num (passes Acks x))
 unfolding passes
 line-kinds l m x = (grind (arith, nat_tests), grind (arith, nat_tests), grind (arith, nat_tests))
@@ -46,7 +45,6 @@ pub lines-among : (l m : ℕ) (k : List Msg) → (among (InvOf l) k ≤ among In
 lines-among l m k = (among-fewer (InvOf l) Invs (λ x. (line-kinds l m x).0) k, among-fewer (InvMask l m) Invs (λ x. (line-kinds l m x).1) k, among-fewer (AckOf l) Acks (λ x. (line-kinds l m x).2) k)
 
 -- a core acknowledges the line of an invalidation, to the directory that it came from
-
 acks-of : (sh : Shape) (k l d : ℕ) (s : CoreState) (o : Out) → Invalidated sh k s o → among (AckOf l) (o.sends (Dir d)) ≤ num ((d == home sh k) && (k == l))
 unfolding among passes
 acks-of sh k l d s o i = rw (i.dirs d) (omega (arith, among-append (AckOf l) (i.sends (Dir d)) (to (Dir (home sh k)) (InvAck k i.kept ∷ []) (Dir d)), (clean-hurt sh s o.core i.sends d i.hurt).acks, (lines-among l 0 (i.sends (Dir d))).2, one (d == home sh k)))
@@ -71,7 +69,6 @@ acks-line sh e d l s (Inv k m u) h = let q : home sh k ≡ e = at-home sh e k m 
 acks-line sh e d l s _ h = tt
 
 -- a directory invalidates marked lines, once each and with their masks, where it takes a Commit, and else none
-
 one-inv : (p : ℕ → Bool) (f : ℕ → ℕ) (u l n : ℕ) → among (InvOf l) (flat_map (λ k. Inv k (f k) u ∷ []) (those p n)) ≤ num (p l)
 unfolding among passes those
 one-inv p f u l n = exact n (one n)
@@ -88,11 +85,7 @@ one-inv p f u l n = exact n (one n)
 
 own-mask : (f : ℕ → ℕ) (u l k : ℕ) → num (passes (InvMask l (f l)) (Inv k (f k) u)) ≡ 0
 unfolding passes
-own-mask f u l k = go (cases_eq k l)
-  where
-    go : (k ≡ l) ⊎ (k ≡ l → ⊥) → num ((k == l) && not (f k == f l)) ≡ 0
-    go (inl e) = rw e (grind (arith, nat_tests))
-    go (inr n) = grind (arith, nat_tests)
+own-mask f u l k = elim (cases_eq k l) [ inl e ↦ rw e (grind (arith, nat_tests)) | inr n ↦ grind (arith, nat_tests) ]
 
 -- what is sent to core j
 abbrev pub Names : Lines → List Msg → Type 0
@@ -100,10 +93,9 @@ Names ls ms = (l : ℕ) → (among (InvOf l) ms ≤ num (has_mark ls l)) × (amo
 
 names-invs : (sh : Shape) (ls : Lines) (c u j : ℕ) → Names ls (invalidations sh ls c u (Core j))
 unfolding invalidations invs_to among is_invalidated
-names-invs sh ls c u j l = (omega (arith, one-inv (is_invalidated sh ls c j) ls.mark u l (lines sh), marked), among-flat_map_none (InvMask l (ls.mark l)) (λ k. Inv k (ls.mark k) u ∷ []) (λ k. omega (arith, own-mask ls.mark u l k)) (those (is_invalidated sh ls c j) (lines sh)))
-  where
-    marked : num (is_invalidated sh ls c j l) ≤ num (has_mark ls l)
-    marked = grind arith
+names-invs sh ls c u j l =
+    let marked : num (is_invalidated sh ls c j l) ≤ num (has_mark ls l) = grind arith in
+    (omega (arith, one-inv (is_invalidated sh ls c j) ls.mark u l (lines sh), marked), among-flat_map_none (InvMask l (ls.mark l)) (λ k. Inv k (ls.mark k) u ∷ []) (λ k. omega (arith, own-mask ls.mark u l k)) (those (is_invalidated sh ls c j) (lines sh)))
 
 abbrev pub NamesBy : DirState → Msg → Answer → Type 0
 NamesBy s m (Asks new sends) = Quiet sends

@@ -1,16 +1,16 @@
 -- What a core's rules do to what it knows of the directories that it asked.
 use Rattle.tcc_serial.proofs.Names.{ℕ, ◌≡◌, ◌<◌, ◌≤◌, Bool, true, false, ◌==◌, ◌&&◌, ◌||◌, Option, Some, None, IfSome, nat_lt}
 use Rattle.tcc_serial.proofs.Names.{if◌then◌else◌, arith, refl, sym, ap₂, ◌∙◌, ◌⊎◌, inl, inr, cases_eq, nat_tests, put, Program, Outcome}
-use Rattle.tcc_serial.proofs.Names.{Goes, Ended, HaltedWith, TrappedWith, any_below, any_below-at, Msg, TidReq, TidGrant, LoadReq, Fill}
-use Rattle.tcc_serial.proofs.Names.{Skip, Probe, ProbeReply, Mark, Commit, Abort, WriteBack, Flush, DataReq, Inv, InvAck, Shape, Cache}
-use Rattle.tcc_serial.proofs.Names.{writes_at, reads_at, CoreState, Awaited, Phase, Running, AwaitTid, DoomedTid, Probing, Ready}
-use Rattle.tcc_serial.proofs.Names.{Overflowing, Solo, Halted, Out, commit, committed_core, phase_after, core_exec, exec_phase}
-use Rattle.tcc_serial.proofs.Names.{unless_awaiting, core_evict, grant, grant_phase, from_dir, probing, is_probed, probe_reply, all_replied}
-use Rattle.tcc_serial.proofs.Names.{fill, data_request, invalidate, RepliesAbove, passes, tid_of, asks_dir, may_commit, Reached}
-use Rattle.tcc_serial.proofs.OneCore.Executes.{Acts, Steady, Executed, Goes_on, Overflows, Asks_tid, Alone, executed}
-use Rattle.tcc_serial.proofs.OneCore.CoreSteps.{writes_at-same, reads_at-same, evict-steady, fill-steady, data-steady, Hurt, Unhurt, Rolled}
-use Rattle.tcc_serial.proofs.OneCore.CoreSteps.{Doomed, Aborted, Gave_up, Invalidated, invalidate-cases, Replied, Ignored, Probed}
-use Rattle.tcc_serial.proofs.OneCore.CoreSteps.{Left_alone, reply-cases}
+use Rattle.tcc_serial.proofs.Names.{HaltedWith, TrappedWith, any_below, any_below-at, Msg, Fill, ProbeReply, DataReq, Inv, Shape, Cache}
+use Rattle.tcc_serial.proofs.Names.{writes_at, reads_at, CoreState, Phase, Running, AwaitTid, DoomedTid, Probing, Ready, Overflowing}
+use Rattle.tcc_serial.proofs.Names.{Solo, Halted, Out, commit, committed_core, phase_after, core_exec, core_evict, grant, grant_phase}
+use Rattle.tcc_serial.proofs.Names.{from_dir, probing, is_probed, probe_reply, all_replied, fill, data_request, invalidate, RepliesAbove}
+use Rattle.tcc_serial.proofs.Names.{passes, tid_of, asks_dir, may_commit, Reached, replied}
+use Rattle.tcc_serial.proofs.OneCore.Executes.{Steady, Executed, Goes_on, Overflows, Asks_tid, Alone, did-executed}
+use Rattle.tcc_serial.proofs.OneCore.CoreSteps.{reads_at-same, fill-steady, data-steady, Hurt, Unhurt, Rolled, Doomed, Aborted, Gave_up}
+use Rattle.tcc_serial.proofs.OneCore.CoreSteps.{Invalidated, invalidate-cases, Replied, Ignored, Probed, Left_alone, reply-cases}
+use Rattle.tcc_serial.proofs.OneCore.CoreSteps.{steady-emptied}
+use Rattle.tcc_serial.proofs.OneCore.Outcomes.{Acts, Commits_now, Did, each-exec, out, each-evict, emptied, writes_at-same}
 
 -- a core in this phase asks none
 pub none-asked : (sh : Shape) (d x : ℕ) (s : CoreState) (q : Phase) → s.phase ≡ q → ((b : Bool) → asks_dir q b ≡ false) → may_commit q ≡ false → Reached sh d x s
@@ -27,25 +27,19 @@ same-asked sh d x s r e f g h = record {
 }
 
 acts-asked : (q : Phase) (a b : Bool) → ((Acts q → ⊥) → a ≡ b) → asks_dir q a ≡ asks_dir q b
-acts-asked Running a b h = refl
-acts-asked (Solo t) a b h = refl
-acts-asked AwaitTid a b h = refl
-acts-asked DoomedTid a b h = refl
 acts-asked (Probing t) a b h = h (λ x. x)
 acts-asked (Ready t) a b h = h (λ x. x)
 acts-asked (Overflowing None) a b h = refl
-acts-asked (Overflowing (Some t)) a b h = refl
-acts-asked Halted a b h = refl
+acts-asked _ a b h = refl
 
 asked-steady : (sh : Shape) (d x : ℕ) (s : CoreState) (o : Out) → Steady s o → Reached sh d x s → Reached sh d x o.core
 asked-steady sh d x s o y h = same-asked sh d x s o.core (y.phase) (y.owing)
     (acts-asked s.phase _ _ (λ n. ap₂ (λ a b. a || b) (writes_at-same sh o.core.cache s.cache d (y.modified n)) (reads_at-same sh o.core.cache s.cache d (y.read n)))) h
 
 asked-after : (sh : Shape) (d x : ℕ) (r : CoreState) (e : Outcome) → r.phase ≡ phase_after e → Reached sh d x r
-asked-after sh d x r Goes q = none-asked sh d x r Running q (λ b. refl) refl
-asked-after sh d x r Ended q = none-asked sh d x r Running q (λ b. refl) refl
 asked-after sh d x r (HaltedWith k) q = none-asked sh d x r Halted q (λ b. refl) refl
 asked-after sh d x r (TrappedWith k) q = none-asked sh d x r Halted q (λ b. refl) refl
+asked-after sh d x r _ q = none-asked sh d x r Running q (λ b. refl) refl
 
 asked-executed : (sh : Shape) (c d x : ℕ) (s : CoreState) (o : Out) → Executed sh c s o → Reached sh d x s → Reached sh d x o.core
 asked-executed sh c d x s o (Goes_on y) h = asked-steady sh d x s o y h
@@ -57,33 +51,15 @@ abbrev pub StaysReached : Shape → (dir serving : ℕ) → CoreState → Option
 StaysReached sh d x s y = IfSome y (λ o. Reached sh d x o.core)
 
 pub asked-exec : (sh : Shape) (p : Program) (c d x : ℕ) (s : CoreState) → Reached sh d x s → StaysReached sh d x s (core_exec sh p c s)
-unfolding core_exec commit committed_core
-asked-exec sh p c d x s h = go s.phase refl
+unfolding commit committed_core
+asked-exec sh p c d x s h = each-exec sh p c s (λ o. Reached sh d x o.core) go
   where
-    weaken : (y : Option Out) → IfSome y (λ o. Executed sh c s o) → StaysReached sh d x s y
-    weaken None e = tt
-    weaken (Some o) e = asked-executed sh c d x s o e h
-
-    awaiting : (a : Option Awaited) → Acts s.phase → StaysReached sh d x s (unless_awaiting sh p c s a)
-    awaiting (Some y) a = tt
-    awaiting None a = weaken _ (executed sh p c s a)
-
-    go : (q : Phase) → s.phase ≡ q → StaysReached sh d x s (exec_phase sh p c s q)
-    go Running e = awaiting s.awaited (rw e tt)
-    go (Solo u) e = awaiting s.awaited (rw e tt)
-    go (Ready u) e = asked-after sh d x _ s.ended refl
-    go AwaitTid e = tt
-    go DoomedTid e = tt
-    go (Probing u) e = tt
-    go (Overflowing u) e = tt
-    go Halted e = tt
+    go : (y : Did sh p c s) → Reached sh d x (out y).core
+    go (Commits_now u e) = asked-after sh d x _ s.ended refl
+    go y = asked-executed sh c d x s (out y) (did-executed y) h
 
 pub asked-evict : (sh : Shape) (x' y d x : ℕ) (s : CoreState) → Reached sh d x s → StaysReached sh d x s (core_evict sh x' y s)
-asked-evict sh x' y d x s h = go (core_evict sh x' y s) (evict-steady sh x' y s)
-  where
-    go : (a : Option Out) → IfSome a (λ o. Steady s o) → StaysReached sh d x s a
-    go None e = tt
-    go (Some o) e = asked-steady sh d x s o e h
+asked-evict sh x' y d x s h = each-evict sh x' y s (λ o. Reached sh d x o.core) (λ k q u z. asked-steady sh d x s (emptied sh x' y k s) (steady-emptied sh x' y s k q u z) h)
 
 probed-owes : (sh : Shape) (c : Cache) (d : ℕ) → d < sh.dirs → (writes_at sh c d || reads_at sh c d) ≡ true → is_probed sh c d ≡ false → ⊥
 unfolding is_probed
@@ -144,11 +120,7 @@ one_replied : (sh : Shape) (e d x u : ℕ) (s r : CoreState) (go wait : Phase) �
 one_replied sh e d x u s r go wait f ph ow tg tw ts mw ag aw h = by (all_replied sh (put s.owing e false)) refl
   where
     low : (q : Phase) → tid_of q ≡ u → (asks_dir q (writes_at sh r.cache d || reads_at sh r.cache d) ≡ true → asks_dir s.phase (writes_at sh s.cache d || reads_at sh s.cache d) ≡ true) → d < sh.dirs → asks_dir q (writes_at sh r.cache d || reads_at sh r.cache d) ≡ true → put s.owing e false d ≡ false → tid_of q ≤ x
-    low q t a l k o = rw t (at (cases_eq d e))
-      where
-        at : (d ≡ e) ⊎ (d ≡ e → ⊥) → u ≤ x
-        at (inl i) = f i
-        at (inr i) = let z = h.reached l (a k) (rw (put-away s.owing e d false i) at o) in omega arith
+    low q t a l k o = grind (arith, nat_tests)
 
     by : (b : Bool) → all_replied sh (put s.owing e false) ≡ b → Reached sh d x r
     by true q =
@@ -189,14 +161,4 @@ asked-back sh e d x s (ProbeReply u v) f h = asked-replied sh e u d x s (probe_r
 asked-back sh e d x s (Fill l ws) f h = asked-steady sh d x s (fill l ws s) (fill-steady l ws s) h
 asked-back sh e d x s (DataReq l) f h = asked-steady sh d x s (data_request sh l s) (data-steady sh l s) h
 asked-back sh e d x s (Inv l m u) f h = asked-hurt sh l d x s (invalidate sh l m u s) (invalidate-cases sh l m u s) h
-asked-back sh e d x s TidReq f h = tt
-asked-back sh e d x s (TidGrant u) f h = tt
-asked-back sh e d x s (LoadReq l a) f h = tt
-asked-back sh e d x s (Skip u) f h = tt
-asked-back sh e d x s (Probe u) f h = tt
-asked-back sh e d x s (Mark l m u) f h = tt
-asked-back sh e d x s (Commit u n) f h = tt
-asked-back sh e d x s (Abort u) f h = tt
-asked-back sh e d x s (WriteBack l m ws u) f h = tt
-asked-back sh e d x s (Flush l m ws u) f h = tt
-asked-back sh e d x s (InvAck l b) f h = tt
+asked-back sh e d x s _ f h = tt

@@ -1,22 +1,19 @@
 -- What a core's rules leave alone: evictions, fills, data requests, invalidations.
-use Rattle.tcc_serial.proofs.Names.{ℕ, ◌+◌, ◌≡◌, ◌*◌, ◌%◌, Bool, true, false, not, List, [], ◌∷◌, ◌++◌, ◌==◌, ◌&&◌, ◌||◌, Option, Some}
-use Rattle.tcc_serial.proofs.Names.{None, IfSome, if◌then◌else◌, arith, refl, sym, ap, ◌⊎◌, inl, inr, nat_tests, put, any_word, any_below}
-use Rattle.tcc_serial.proofs.Names.{line_of, Node, Dir, Vendor, Tagged, InvAck, Abort, Shape, home, lines, Cache, writes_at, reads_at}
-use Rattle.tcc_serial.proofs.Names.{is_modified, is_marked, keeps, dirty_copy, evicted, evicted_line, filled, cleaned, invalidated}
-use Rattle.tcc_serial.proofs.Names.{read_cleared, spill_line, any_below-at, CoreState, Awaited, Phase, Running, AwaitTid, DoomedTid}
-use Rattle.tcc_serial.proofs.Names.{Probing, Ready, Overflowing, Solo, Halted, Sends, nothing, to, flushed, written_back, abort_written}
-use Rattle.tcc_serial.proofs.Names.{skip_all, to_dirs, when, marks_for, Out, moves, is_solo, roll_back, core_evict, evict_line, is_awaited}
-use Rattle.tcc_serial.proofs.Names.{ignored, fill, fill_awaited, data_request, invalidate, acknowledged, if_violated, is_violated}
-use Rattle.tcc_serial.proofs.Names.{violated_in, without, probe_reply, reply_phase, replied, all_replied, when_ready, when_alone, Protocol}
-use Rattle.tcc_serial.proofs.Names.{among, passes}
-use Rattle.tcc_rules.specs.Sends.{write_back}
-use Rattle.tcc_serial.proofs.OneCore.Executes.{Acts, Steady, flushed-quiet}
+use Rattle.tcc_serial.proofs.Names.{ℕ, ◌+◌, ◌≡◌, ◌*◌, ◌%◌, Bool, true, false, List, [], ◌∷◌, ◌++◌, ◌==◌, ◌&&◌, ◌||◌, Option, Some, None}
+use Rattle.tcc_serial.proofs.Names.{IfSome, if◌then◌else◌, arith, refl, sym, ap, ◌⊎◌, inl, inr, nat_tests, put, any_word, any_below}
+use Rattle.tcc_serial.proofs.Names.{line_of, Node, Dir, Vendor, InvAck, Shape, home, lines, Cache, reads_at, is_marked, keeps, evicted}
+use Rattle.tcc_serial.proofs.Names.{evicted_line, filled, cleaned, invalidated, read_cleared, any_below-at, CoreState, Awaited, Phase}
+use Rattle.tcc_serial.proofs.Names.{Running, AwaitTid, DoomedTid, Probing, Ready, Overflowing, Solo, Sends, nothing, to, flushed}
+use Rattle.tcc_serial.proofs.Names.{written_back, abort_written, skip_all, marks_for, Out, moves, is_solo, core_evict, is_awaited}
+use Rattle.tcc_serial.proofs.Names.{ignored, fill, fill_awaited, data_request, invalidate, probe_reply, all_replied, Protocol, among}
+use Rattle.tcc_serial.proofs.Names.{passes, commit, kept, marked, unmarked, Inv, Msg, ProbeReply}
+use Rattle.tcc_serial.proofs.OneCore.Executes.{Steady, flushed-quiet}
+use Rattle.tcc_serial.proofs.OneCore.Said.{quiet, Empties, Aborts_all, Said, Silent, Skips_all, say}
+use Rattle.tcc_serial.proofs.OneCore.Outcomes.{Acts, acked, each-evict, emptied, Heard, Hurt_alone, Hurt_none, Hurt_probing, Hurt_running}
+use Rattle.tcc_serial.proofs.OneCore.Outcomes.{Hurt_waiting, Ignores_reply, Last_probing, Last_room, Reply_probing, Reply_room, each-back}
+use Rattle.tcc_serial.proofs.OneCore.Outcomes.{heard, message}
 
 -- written and read directories depend on the modified and the read words alone
-pub writes_at-same : (sh : Shape) (a b : Cache) (d : ℕ) → ((v : ℕ) → a.modified v ≡ b.modified v) → writes_at sh a d ≡ writes_at sh b d
-unfolding writes_at is_modified
-writes_at-same sh a b d h = ap (λ m. any_below (λ l. d == home sh l && any_word m l) (lines sh)) (λ i v. h v i)
-
 pub reads_at-same : (sh : Shape) (a b : Cache) (d : ℕ) → ((v : ℕ) → a.read v ≡ b.read v) → reads_at sh a d ≡ reads_at sh b d
 unfolding reads_at
 reads_at-same sh a b d h = ap (λ m. any_below (λ l. d == home sh l && any_word m l) (lines sh)) (λ i v. h v i)
@@ -40,15 +37,6 @@ unmarked-word c l v h e = go (c.modified v) (c.read v) refl refl
     go a true q q' = absurd (marked (rw q' refl))
     go true false q q' = absurd (marked (rw (q', q) refl))
 
-written_back-quiet : (sh : Shape) (c : Cache) (l d : ℕ) → among Protocol (written_back sh c l (Dir d)) ≡ 0
-unfolding written_back among passes
-written_back-quiet sh c l d = go (d == home sh l) (dirty_copy c l)
-  where
-    go : (b : Bool) (t : Option Tagged) → among Protocol (if b then write_back t else []) ≡ 0
-    go false t = refl
-    go true None = refl
-    go true (Some t) = refl
-
 pub evicted-modified : (x y l : ℕ) (c : Cache) → c.at x y ≡ Some l → is_marked c l ≡ false → (v : ℕ) → ((evicted x y c).modified v ≡ c.modified v) × ((evicted x y c).read v ≡ c.read v)
 unfolding evicted evicted_line
 evicted-modified x y l c e m v = rw e (go (l == line_of v) refl)
@@ -57,43 +45,28 @@ evicted-modified x y l c e m v = rw e (go (l == line_of v) refl)
     go false q = (refl, refl)
     go true q = let u = unmarked-word c l v m (grind (arith, nat_tests)) in (sym (u.0), sym (u.1))
 
-pub evict-steady : (sh : Shape) (x y : ℕ) (s : CoreState) → IfSome (core_evict sh x y s) (λ o. Steady s o)
-unfolding core_evict written_back
-evict-steady sh x y s = go (s.cache.at x y) refl
+pub steady-emptied : (sh : Shape) (x y : ℕ) (s : CoreState) (l : ℕ) → s.cache.at x y ≡ Some l → is_awaited s.awaited l ≡ false → (is_marked s.cache l ≡ false) ⊎ (is_solo s.phase ≡ true) → Steady s (emptied sh x y l s)
+unfolding written_back passes
+steady-emptied sh x y s l e i m = record {
+  phase = refl;
+  owing = refl;
+  commit = refl;
+  vendor = refl;
+  quiet = λ d. quiet sh s Protocol (Empties l) (λ y. refl) d;
+  modified = λ h v. (evicted-modified x y l s.cache e (unmarked h m) v).0;
+  read = λ h v. (evicted-modified x y l s.cache e (unmarked h m) v).1;
+}
   where
-    out : ℕ → Out
-    out l = moves (record s { cache = evicted x y s.cache; spilled = spill_line l s.cache s.spilled }) (written_back sh s.cache l)
-
     solo : (q : Phase) → s.phase ≡ q → is_solo q ≡ true → Acts s.phase
     solo (Solo t) e h = rw e tt
-    solo Running e h = absurd (cc)
-    solo AwaitTid e h = absurd (cc)
-    solo DoomedTid e h = absurd (cc)
-    solo (Probing t) e h = absurd (cc)
-    solo (Ready t) e h = absurd (cc)
-    solo (Overflowing t) e h = absurd (cc)
-    solo Halted e h = absurd (cc)
+    solo _ e h = absurd (cc)
 
-    steady : (l : ℕ) → s.cache.at x y ≡ Some l → ((Acts s.phase → ⊥) → is_marked s.cache l ≡ false) → Steady s (out l)
-    steady l e m = record {
-      phase = refl;
-      owing = refl;
-      commit = refl;
-      vendor = refl;
-      quiet = λ d. written_back-quiet sh s.cache l d;
-      modified = λ h v. (evicted-modified x y l s.cache e (m h) v).0;
-      read = λ h v. (evicted-modified x y l s.cache e (m h) v).1;
-    }
+    unmarked : (Acts s.phase → ⊥) → (is_marked s.cache l ≡ false) ⊎ (is_solo s.phase ≡ true) → is_marked s.cache l ≡ false
+    unmarked h (inl z) = z
+    unmarked h (inr z) = absurd (h (solo s.phase refl z))
 
-    kept : (l : ℕ) → s.cache.at x y ≡ Some l → (a m b : Bool) → is_marked s.cache l ≡ m → is_solo s.phase ≡ b → IfSome (if a || (m && not b) then None else Some (out l)) (λ o. Steady s o)
-    kept l e true m b f g = tt
-    kept l e false false b f g = steady l e (λ h. f)
-    kept l e false true false f g = tt
-    kept l e false true true f g = steady l e (λ h. absurd (h (solo s.phase refl g)))
-
-    go : (a : Option ℕ) → s.cache.at x y ≡ a → IfSome (evict_line sh x y s a) (λ o. Steady s o)
-    go None e = tt
-    go (Some l) e = kept l e (is_awaited s.awaited l) (is_marked s.cache l) (is_solo s.phase) refl refl
+pub evict-steady : (sh : Shape) (x y : ℕ) (s : CoreState) → IfSome (core_evict sh x y s) (λ o. Steady s o)
+evict-steady sh x y s = each-evict sh x y s (Steady s) (steady-emptied sh x y s)
 
 pub ignored-steady : (s : CoreState) → Steady s (ignored s)
 unfolding among
@@ -127,10 +100,6 @@ pub data Hurt (sh : Shape) (s r : CoreState) (sends : Sends) : Type 0 where
   Aborted : (t : ℕ) → (s.phase ≡ Probing t) ⊎ (s.phase ≡ Ready t) → r.phase ≡ Running → r.owing ≡ (λ d. false) → sends ≡ abort_written sh s.cache t → Hurt sh s r sends
   Gave_up : (t : ℕ) → (s.phase ≡ Overflowing (Some t)) ⊎ (s.phase ≡ Solo t) → r.phase ≡ Running → r.owing ≡ (λ d. false) → sends ≡ skip_all sh t → Hurt sh s r sends
 
-aborts-same : (sh : Shape) (a b : Cache) (t : ℕ) → ((d : ℕ) → writes_at sh a d ≡ writes_at sh b d) → abort_written sh a t ≡ abort_written sh b t
-unfolding abort_written
-aborts-same sh a b t h = ap {A = ℕ → Bool} (λ w. to_dirs sh (λ d. when (w d) (Abort t ∷ []))) (λ i d. h d i)
-
 -- the acknowledgement stands behind all else
 pub record Invalidated (sh : Shape) (l : ℕ) (s : CoreState) (o : Out) : Type 0 where
   pub sends : Sends
@@ -140,78 +109,37 @@ pub record Invalidated (sh : Shape) (l : ℕ) (s : CoreState) (o : Out) : Type 0
   pub vendor : o.sends Vendor ≡ []
   pub commit : o.commit ≡ None
 
-pub invalidate-cases : (sh : Shape) (l m u : ℕ) (s : CoreState) → Invalidated sh l s (invalidate sh l m u s)
-unfolding invalidate acknowledged if_violated without invalidated roll_back skip_all abort_written
-invalidate-cases sh l m u s = go (is_violated l m u s) s.phase refl
-  where
-    r : CoreState
-    r = without l m s
-
-    acked : (o : Out) → o.commit ≡ None → o.sends Vendor ≡ [] → Hurt sh s o.core o.sends → Invalidated sh l s (acknowledged sh l o)
-    acked o c v h = record { sends = o.sends; kept = keeps o.core.cache l; hurt = h; dirs = λ d. refl; vendor = rw v refl; commit = c }
-
-    unhurt : Invalidated sh l s (acknowledged sh l (ignored r))
-    unhurt = acked (ignored r) refl refl (Unhurt refl refl (λ v. refl) (λ v. refl) (λ n. refl))
-
-    go : (b : Bool) (q : Phase) → s.phase ≡ q → Invalidated sh l s (acknowledged sh l (if b then violated_in sh r q else ignored r))
-    go false q e = unhurt
-    go true Running e = acked (violated_in sh r Running) refl refl (Rolled e e refl (λ n. refl))
-    go true AwaitTid e = acked (violated_in sh r AwaitTid) refl refl (Doomed (inl e) refl refl (λ n. refl))
-    go true (Overflowing None) e = acked (violated_in sh r (Overflowing None)) refl refl (Doomed (inr e) refl refl (λ n. refl))
-    go true (Probing t) e = acked (violated_in sh r (Probing t)) refl refl (Aborted t (inl e) refl refl (aborts-same sh r.cache s.cache t (λ d. writes_at-same sh r.cache s.cache d (λ v. refl))))
-    go true (Ready t) e = acked (violated_in sh r (Ready t)) refl refl (Aborted t (inr e) refl refl (aborts-same sh r.cache s.cache t (λ d. writes_at-same sh r.cache s.cache d (λ v. refl))))
-    go true (Overflowing (Some t)) e = acked (violated_in sh r (Overflowing (Some t))) refl refl (Gave_up t (inl e) refl refl refl)
-    go true (Solo t) e = acked (violated_in sh r (Solo t)) refl refl (Gave_up t (inr e) refl refl refl)
-    go true DoomedTid e = unhurt
-    go true Halted e = unhurt
-
 -- what a reply comes to: it isn't the one that the core waits for, or one less is owed
 pub data Replied (sh : Shape) (e u : ℕ) (s : CoreState) (o : Out) : Type 0 where
   Ignored : o ≡ ignored s → ((s.phase ≡ Probing u) ⊎ (s.phase ≡ Overflowing (Some u)) → s.owing e ≡ false) → Replied sh e u s o
   Probed : s.phase ≡ Probing u → s.owing e ≡ true → o.core.phase ≡ (if all_replied sh (put s.owing e false) then Ready u else Probing u) → o.core.owing ≡ put s.owing e false → o.core.cache ≡ s.cache → o.sends ≡ to (Dir e) (marks_for sh s.cache u e) → o.commit ≡ None → Replied sh e u s o
   Left_alone : s.phase ≡ Overflowing (Some u) → s.owing e ≡ true → o.core.phase ≡ (if all_replied sh (put s.owing e false) then Solo u else Overflowing (Some u)) → o.core.owing ≡ put s.owing e false → ((v : ℕ) → o.core.cache.modified v ≡ s.cache.modified v) → o.sends ≡ nothing → o.commit ≡ None → Replied sh e u s o
 
-abbrev expects : Phase → ℕ → Bool
-expects (Probing v) u = v == u
-expects (Overflowing (Some v)) u = v == u
-expects _ u = false
+-- what such a message comes to
+abbrev Back : Shape → (dir : ℕ) → CoreState → Msg → Out → Type 0
+Back sh e s (ProbeReply u v) o = Replied sh e u s o
+Back sh e s (Inv l m u) o = Invalidated sh l s o
+Back sh e s _ o = Unit {0}
 
-expected : (u : ℕ) (q : Phase) → (q ≡ Probing u) ⊎ (q ≡ Overflowing (Some u)) → expects q u ≡ true
-expected u q (inl e) = rw e (grind (arith, nat_tests))
-expected u q (inr e) = rw e (grind (arith, nat_tests))
+invalidated-acked : (sh : Shape) (l : ℕ) (s r : CoreState) (q : Said) → say sh s q Vendor ≡ [] → Hurt sh s r (say sh s q) → Invalidated sh l s (acked sh l r (say sh s q))
+invalidated-acked sh l s r q v h = record { sends = say sh s q; kept = keeps r.cache l; hurt = h; dirs = λ d. refl; vendor = rw v refl; commit = refl }
 
-unexpected : (u : ℕ) (s : CoreState) (q : Phase) → s.phase ≡ q → expects q u ≡ false → (s.phase ≡ Probing u) ⊎ (s.phase ≡ Overflowing (Some u)) → ⊥
-unexpected u s q g h x = let y : expects s.phase u ≡ true = expected u s.phase x in let z : expects s.phase u ≡ expects q u = ap (λ p. expects p u) g in cc
+back-case : {sh : Shape} {e : ℕ} {s : CoreState} (x : Heard sh e s) → Back sh e s (message x) (heard x)
+unfolding read_cleared invalidated skip_all abort_written
+back-case (Ignores_reply u v n) = Ignored refl n
+back-case (Reply_probing u v q o r) = Probed q o (rw r q) refl refl refl refl
+back-case (Last_probing u v q o r) = Probed q o (rw r refl) refl refl refl refl
+back-case (Reply_room u v q o r) = Left_alone q o (rw r q) refl (λ v. refl) refl refl
+back-case (Last_room u v q o r) = Left_alone q o (rw r refl) refl (λ v. refl) refl refl
+back-case {sh} {e} {s} (Hurt_none l m u n) = invalidated-acked sh l s _ Silent refl (Unhurt refl refl (λ v. refl) (λ v. refl) (λ n. refl))
+back-case {sh} {e} {s} (Hurt_running l m u v q) = invalidated-acked sh l s _ Silent refl (Rolled q refl refl (λ n. refl))
+back-case {sh} {e} {s} (Hurt_waiting l m u v q) = invalidated-acked sh l s _ Silent refl (Doomed q refl refl (λ n. refl))
+back-case {sh} {e} {s} (Hurt_probing l m u t v q) = invalidated-acked sh l s _ (Aborts_all t) refl (Aborted t q refl refl refl)
+back-case {sh} {e} {s} (Hurt_alone l m u t v q) = invalidated-acked sh l s _ (Skips_all t) refl (Gave_up t q refl refl refl)
+back-case _ = tt
 
 pub reply-cases : (sh : Shape) (e u : ℕ) (s : CoreState) → Replied sh e u s (probe_reply sh e u s)
-unfolding probe_reply read_cleared
-reply-cases sh e u s = go s.phase refl
-  where
-    ready : (b : Bool) → all_replied sh (put s.owing e false) ≡ b → s.phase ≡ Probing u → s.owing e ≡ true → Replied sh e u s (moves (if b then record (replied e s) { phase = Ready u } else replied e s) (to (Dir e) (marks_for sh s.cache u e)))
-    ready true q g h = Probed g h (rw q refl) refl refl refl refl
-    ready false q g h = Probed g h (rw q g) refl refl refl refl
+reply-cases sh e u s = each-back sh e s (Back sh e s) back-case (ProbeReply u 0)
 
-    alone : (b : Bool) → all_replied sh (put s.owing e false) ≡ b → s.phase ≡ Overflowing (Some u) → s.owing e ≡ true → Replied sh e u s (moves (if b then record (replied e s) { phase = Solo u; cache = read_cleared s.cache } else replied e s) nothing)
-    alone true q g h = Left_alone g h (rw q refl) refl (λ v. refl) refl refl
-    alone false q g h = Left_alone g h (rw q g) refl (λ v. refl) refl refl
-
-    probed : (v : ℕ) → s.phase ≡ Probing v → (a b : Bool) → (v == u) ≡ a → s.owing e ≡ b → Replied sh e u s (if a && b then moves (when_ready sh u (replied e s)) (to (Dir e) (marks_for sh s.cache u e)) else ignored s)
-    probed v g true true h f = let i : v ≡ u = grind (arith, nat_tests) in ready (all_replied sh (put s.owing e false)) refl (rw i at g) f
-    probed v g true false h f = Ignored refl (λ x. f)
-    probed v g false b h f = Ignored refl (λ x. absurd (unexpected u s (Probing v) g h x))
-
-    over : (v : ℕ) → s.phase ≡ Overflowing (Some v) → (a b : Bool) → (v == u) ≡ a → s.owing e ≡ b → Replied sh e u s (if a && b then moves (when_alone sh u (replied e s)) nothing else ignored s)
-    over v g true true h f = let i : v ≡ u = grind (arith, nat_tests) in alone (all_replied sh (put s.owing e false)) refl (rw i at g) f
-    over v g true false h f = Ignored refl (λ x. f)
-    over v g false b h f = Ignored refl (λ x. absurd (unexpected u s (Overflowing (Some v)) g h x))
-
-    go : (q : Phase) → s.phase ≡ q → Replied sh e u s (reply_phase sh e u s q)
-    go (Probing v) g = probed v g (v == u) (s.owing e) refl refl
-    go (Overflowing (Some v)) g = over v g (v == u) (s.owing e) refl refl
-    go (Overflowing None) g = Ignored refl (λ x. absurd (unexpected u s _ g refl x))
-    go Running g = Ignored refl (λ x. absurd (unexpected u s _ g refl x))
-    go AwaitTid g = Ignored refl (λ x. absurd (unexpected u s _ g refl x))
-    go DoomedTid g = Ignored refl (λ x. absurd (unexpected u s _ g refl x))
-    go (Ready v) g = Ignored refl (λ x. absurd (unexpected u s _ g refl x))
-    go (Solo v) g = Ignored refl (λ x. absurd (unexpected u s _ g refl x))
-    go Halted g = Ignored refl (λ x. absurd (unexpected u s _ g refl x))
+pub invalidate-cases : (sh : Shape) (l m u : ℕ) (s : CoreState) → Invalidated sh l s (invalidate sh l m u s)
+invalidate-cases sh l m u s = each-back sh 0 s (Back sh 0 s) back-case (Inv l m u)

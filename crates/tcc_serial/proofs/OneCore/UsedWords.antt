@@ -172,11 +172,7 @@ steps_follow base p zero l here there al mh mt agree = record { ram = there; sam
 steps_follow base p (suc n) l here there al mh mt agree =
     then_follow base p here there (steps base p n (begun l here)) (steps base p n (begun l there)) al mh mt
     (steps_follow base p n l here there al mh mt (λ w u. agree w (rw u refl)))
-    (λ w u. agree w (rw u (either (uses base p n (begun l here) w))))
-  where
-    either : (b : Bool) → (b || true) ≡ true
-    either true = refl
-    either false = refl
+    (λ w u. agree w (rw u ((elim (uses base p n (begun l here) w) as (λ b. (b || true) ≡ true) [ true ↦ refl | false ↦ refl ]))))
 
 -- Instructions whose accesses are aligned leave words of 32 bits, and each word that they use is named by their loads or stores.
 stored-memory : (base : ℕ) (ram : ℕ → ℕ) (addr : ℕ) (size : Size) (value : ℕ) → IsMemory ram → addr % bytes_of size ≡ 0 → IsMemory (stored base ram addr size value)
@@ -206,7 +202,6 @@ steps-memory base p zero a al m = m
 steps-memory base p (suc n) a al m = then-memory base p (steps base p n a) al (steps-memory base p n a al m)
 
 -- used words are named
-
 pub loads_word-append : (base : ℕ) (a b : List Load) (w : ℕ) → loads_word base (a ++ b) w ≡ (loads_word base a w || loads_word base b w)
 unfolding loads_word
 loads_word-append base [] b w = refl

@@ -1,19 +1,21 @@
 -- What a core sends a Commit of is what it notes the commit of.
-use Rattle.tcc_serial.proofs.Names.{ℕ, ◌≡◌, ◌≤◌, Bool, true, false, List, [], ◌∷◌, ◌++◌, ◌==◌, ◌&&◌, Option, Some, None, IfSome, nat_lt}
-use Rattle.tcc_serial.proofs.Names.{if◌then◌else◌, flat_map, arith, refl, nat_tests, Program, num, those, count_below, Dir, Msg, TidReq}
-use Rattle.tcc_serial.proofs.Names.{TidGrant, LoadReq, Fill, Skip, Probe, ProbeReply, Mark, Commit, Abort, WriteBack, Flush, DataReq, Inv}
-use Rattle.tcc_serial.proofs.Names.{InvAck, Shape, home, lines, Cache, is_modified, writes_at, Spilled, holds, spilled_mask, spilled_words}
-use Rattle.tcc_serial.proofs.Names.{CoreState, Awaited, Phase, Running, AwaitTid, DoomedTid, Probing, Ready, Overflowing, Solo, Halted, to}
-use Rattle.tcc_serial.proofs.Names.{marks_for, Out, commit, commit_sends, noted, solo_sends, solo_marks, solo_backs, solo_writes_at}
-use Rattle.tcc_serial.proofs.Names.{is_written, written_mask, core_exec, exec_phase, unless_awaiting, core_evict, grant, grant_phase}
-use Rattle.tcc_serial.proofs.Names.{from_dir, probe_reply, ignored, fill, data_request, invalidate, Commits, AnyCommit, among, passes}
+use Rattle.tcc_serial.proofs.Names.{ℕ, ◌≡◌, ◌≤◌, Bool, true, false, List, [], ◌∷◌, ◌++◌, ◌==◌, ◌&&◌, Some, None, IfSome, nat_lt}
+use Rattle.tcc_serial.proofs.Names.{if◌then◌else◌, flat_map, arith, refl, nat_tests, Program, num, those, count_below, Dir, Msg, Fill}
+use Rattle.tcc_serial.proofs.Names.{Skip, ProbeReply, Mark, Commit, WriteBack, DataReq, Inv, InvAck, Shape, home, lines, Cache}
+use Rattle.tcc_serial.proofs.Names.{is_modified, writes_at, Spilled, holds, spilled_mask, spilled_words, CoreState, Phase, Running}
+use Rattle.tcc_serial.proofs.Names.{AwaitTid, DoomedTid, Probing, Ready, Overflowing, Solo, Halted, to, marks_for, Out, commit}
+use Rattle.tcc_serial.proofs.Names.{commit_sends, noted, solo_sends, solo_marks, solo_backs, solo_writes_at, is_written, written_mask}
+use Rattle.tcc_serial.proofs.Names.{core_exec, core_evict, grant, grant_phase, from_dir, probe_reply, ignored, fill, data_request}
+use Rattle.tcc_serial.proofs.Names.{invalidate, Commits, AnyCommit, among, passes, kept}
 use Rattle.tcc_serial.proofs.Counts.Links.{among-append, among-fewer, among-flat_map_none}
-use Rattle.tcc_serial.proofs.OneCore.CoreSteps.{evict-steady, ignored-steady, fill-steady, data-steady, Hurt, Unhurt, Rolled, Doomed}
-use Rattle.tcc_serial.proofs.OneCore.CoreSteps.{Aborted, Gave_up, Invalidated, invalidate-cases, Replied, Ignored, Probed, Left_alone}
-use Rattle.tcc_serial.proofs.OneCore.CoreSteps.{reply-cases}
-use Rattle.tcc_serial.proofs.OneCore.Executes.{Acts, Steady, Executed, Goes_on, Overflows, Asks_tid, Alone, executed}
+use Rattle.tcc_serial.proofs.OneCore.Executes.{Steady, Executed, Goes_on, Overflows, Asks_tid, Alone, did-executed}
+use Rattle.tcc_serial.proofs.OneCore.CoreSteps.{ignored-steady, fill-steady, data-steady, Hurt, Unhurt, Rolled, Doomed, Aborted, Gave_up}
+use Rattle.tcc_serial.proofs.OneCore.CoreSteps.{Invalidated, invalidate-cases, Replied, Ignored, Probed, Left_alone, reply-cases}
+use Rattle.tcc_serial.proofs.OneCore.CoreSteps.{steady-emptied}
 use Rattle.tcc_serial.proofs.Serving.CoreCommits.{few-commits, free-abort, free-skip, free-probe, free-grants, free-to, free-marks}
 use Rattle.tcc_serial.proofs.Tids.CoreOwners.{noted_tid}
+use Rattle.tcc_serial.proofs.OneCore.Said.{quiet}
+use Rattle.tcc_serial.proofs.OneCore.Outcomes.{Commits_now, Did, each-exec, out, each-evict, emptied}
 
 -- a Commit is sent of no TID but the one noted
 abbrev pub CommitsNoted : Out → Type 0
@@ -34,12 +36,7 @@ noted-steady s o y = noted-free o (λ d. omega (arith, few-commits (o.sends (Dir
 
 of-commit : (sh : Shape) (c : Cache) (u d t : ℕ) → among (Commits t) (commit_sends sh c u (Dir d)) ≤ num (u == t)
 unfolding commit_sends among passes
-of-commit sh c u d t = go (nat_lt d sh.dirs) (writes_at sh c d)
-  where
-    go : (a b : Bool) → among (Commits t) (if a then (if b then Commit u (count_below (λ l. d == home sh l && is_modified c l) (lines sh)) ∷ [] else []) else []) ≤ num (u == t)
-    go false b = omega arith
-    go true false = omega arith
-    go true true = omega arith
+of-commit sh c u d t = grind (arith, nat_tests)
 
 of-solo : (sh : Shape) (c : Cache) (sp : Spilled) (u d t : ℕ) → among (Commits t) (solo_sends sh c sp u (Dir d)) ≤ num (u == t)
 unfolding solo_sends solo_marks solo_backs among passes
@@ -64,33 +61,15 @@ noted-executed sh c s o (Asks_tid r ph ow cm ve di) = noted-free o (λ d. rw (di
 noted-executed sh c s o (Alone u r q ph ow cm se) = λ d t. rw (se, cm) (of-solo sh s.cache s.spilled u d t)
 
 pub noted-exec : (sh : Shape) (p : Program) (c : ℕ) (s : CoreState) → IfSome (core_exec sh p c s) (λ o. CommitsNoted o)
-unfolding core_exec commit noted
-noted-exec sh p c s = go s.phase refl
+unfolding commit noted
+noted-exec sh p c s = each-exec sh p c s (λ o. CommitsNoted o) go
   where
-    weaken : (x : Option Out) → IfSome x (λ o. Executed sh c s o) → IfSome x (λ o. CommitsNoted o)
-    weaken None h = tt
-    weaken (Some o) h = noted-executed sh c s o h
-
-    awaiting : (a : Option Awaited) → Acts s.phase → IfSome (unless_awaiting sh p c s a) (λ o. CommitsNoted o)
-    awaiting (Some x) a = tt
-    awaiting None a = weaken _ (executed sh p c s a)
-
-    go : (q : Phase) → s.phase ≡ q → IfSome (exec_phase sh p c s q) (λ o. CommitsNoted o)
-    go Running e = awaiting s.awaited (rw e tt)
-    go (Solo u) e = awaiting s.awaited (rw e tt)
-    go (Ready u) e = λ d t. of-commit sh s.cache u d t
-    go AwaitTid e = tt
-    go DoomedTid e = tt
-    go (Probing u) e = tt
-    go (Overflowing u) e = tt
-    go Halted e = tt
+    go : (x : Did sh p c s) → CommitsNoted (out x)
+    go (Commits_now u e) = λ d t. of-commit sh s.cache u d t
+    go x = noted-executed sh c s (out x) (did-executed x)
 
 pub noted-evict : (sh : Shape) (x y : ℕ) (s : CoreState) → IfSome (core_evict sh x y s) (λ o. CommitsNoted o)
-noted-evict sh x y s = go (core_evict sh x y s) (evict-steady sh x y s)
-  where
-    go : (a : Option Out) → IfSome a (λ o. Steady s o) → IfSome a (λ o. CommitsNoted o)
-    go None h = tt
-    go (Some o) h = noted-steady s o h
+noted-evict sh x y s = each-evict sh x y s (λ o. CommitsNoted o) (λ k q u z. noted-steady s (emptied sh x y k s) (steady-emptied sh x y s k q u z))
 
 pub noted-grant : (sh : Shape) (u : ℕ) (s : CoreState) → CommitsNoted (grant sh u s)
 unfolding grant
@@ -132,14 +111,4 @@ noted-back sh e s (ProbeReply u v) = noted-replied sh e u s (probe_reply sh e u 
 noted-back sh e s (Fill l ws) = noted-steady s (fill l ws s) (fill-steady l ws s)
 noted-back sh e s (DataReq l) = noted-steady s (data_request sh l s) (data-steady sh l s)
 noted-back sh e s (Inv l m u) = noted-hurt sh l s (invalidate sh l m u s) (invalidate-cases sh l m u s)
-noted-back sh e s TidReq = tt
-noted-back sh e s (TidGrant u) = tt
-noted-back sh e s (LoadReq l a) = tt
-noted-back sh e s (Skip u) = tt
-noted-back sh e s (Probe u) = tt
-noted-back sh e s (Mark l m u) = tt
-noted-back sh e s (Commit u n) = tt
-noted-back sh e s (Abort u) = tt
-noted-back sh e s (WriteBack l m ws u) = tt
-noted-back sh e s (Flush l m ws u) = tt
-noted-back sh e s (InvAck l b) = tt
+noted-back sh e s _ = tt

@@ -1,19 +1,20 @@
 -- A core sends a Commit only to directories that have reached its TID.
-use Rattle.tcc_serial.proofs.Names.{ℕ, ◌≡◌, ◌<◌, ◌≤◌, Bool, true, false, List, [], ◌∷◌, ◌++◌, ◌==◌, ◌&&◌, Option, Some, None, IfSome}
-use Rattle.tcc_serial.proofs.Names.{nat_lt, if◌then◌else◌, flat_map, arith, refl, nat_tests, Program, num, those, count_below, Dir, Msg}
-use Rattle.tcc_serial.proofs.Names.{TidReq, TidGrant, LoadReq, Fill, Skip, Probe, ProbeReply, Mark, Commit, Abort, WriteBack, Flush}
-use Rattle.tcc_serial.proofs.Names.{DataReq, Inv, InvAck, Shape, home, lines, Cache, is_modified, modified_mask, written_lines, writes_at}
-use Rattle.tcc_serial.proofs.Names.{Spilled, holds, spilled_mask, spilled_words, CoreState, Awaited, Phase, Running, AwaitTid, DoomedTid}
-use Rattle.tcc_serial.proofs.Names.{Probing, Ready, Overflowing, Solo, Halted, Link, to, marks_for, skip_all, probe_all, abort_written, Out}
-use Rattle.tcc_serial.proofs.Names.{commit, commit_sends, solo_sends, solo_marks, solo_backs, solo_writes_at, is_written, written_mask}
-use Rattle.tcc_serial.proofs.Names.{core_exec, exec_phase, unless_awaiting, core_evict, grant, grant_phase, grant_sends, from_dir}
-use Rattle.tcc_serial.proofs.Names.{probe_reply, ignored, fill, data_request, invalidate, CommitsAbove, AnyCommit, Protocol, among, live}
-use Rattle.tcc_serial.proofs.Names.{passes, Reached}
+use Rattle.tcc_serial.proofs.Names.{ℕ, ◌≡◌, ◌<◌, ◌≤◌, Bool, true, false, List, [], ◌∷◌, ◌++◌, ◌==◌, ◌&&◌, Some, None, IfSome, nat_lt}
+use Rattle.tcc_serial.proofs.Names.{if◌then◌else◌, flat_map, arith, refl, nat_tests, Program, num, those, count_below, Dir, Msg, Fill}
+use Rattle.tcc_serial.proofs.Names.{Skip, ProbeReply, Mark, Commit, WriteBack, DataReq, Inv, InvAck, Shape, home, lines, Cache}
+use Rattle.tcc_serial.proofs.Names.{is_modified, modified_mask, written_lines, writes_at, Spilled, holds, spilled_mask, spilled_words}
+use Rattle.tcc_serial.proofs.Names.{CoreState, Phase, Running, AwaitTid, DoomedTid, Probing, Ready, Overflowing, Solo, Halted, Link, to}
+use Rattle.tcc_serial.proofs.Names.{marks_for, skip_all, probe_all, abort_written, Out, commit, commit_sends, solo_sends, solo_marks}
+use Rattle.tcc_serial.proofs.Names.{solo_backs, solo_writes_at, is_written, written_mask, core_exec, core_evict, grant, grant_phase}
+use Rattle.tcc_serial.proofs.Names.{grant_sends, from_dir, probe_reply, ignored, fill, data_request, invalidate, CommitsAbove, AnyCommit}
+use Rattle.tcc_serial.proofs.Names.{Protocol, among, live, passes, Reached, kept, replied}
 use Rattle.tcc_serial.proofs.Counts.Links.{among-append, among-fewer, live-fewer, among-flat_map_none}
-use Rattle.tcc_serial.proofs.OneCore.CoreSteps.{evict-steady, ignored-steady, fill-steady, data-steady, Hurt, Unhurt, Rolled, Doomed}
-use Rattle.tcc_serial.proofs.OneCore.CoreSteps.{Aborted, Gave_up, Invalidated, invalidate-cases, Replied, Ignored, Probed, Left_alone}
-use Rattle.tcc_serial.proofs.OneCore.CoreSteps.{reply-cases}
-use Rattle.tcc_serial.proofs.OneCore.Executes.{Acts, Steady, Executed, Goes_on, Overflows, Asks_tid, Alone, executed}
+use Rattle.tcc_serial.proofs.OneCore.Executes.{Steady, Executed, Goes_on, Overflows, Asks_tid, Alone, did-executed}
+use Rattle.tcc_serial.proofs.OneCore.CoreSteps.{ignored-steady, fill-steady, data-steady, Hurt, Unhurt, Rolled, Doomed, Aborted, Gave_up}
+use Rattle.tcc_serial.proofs.OneCore.CoreSteps.{Invalidated, invalidate-cases, Replied, Ignored, Probed, Left_alone, reply-cases}
+use Rattle.tcc_serial.proofs.OneCore.CoreSteps.{steady-emptied}
+use Rattle.tcc_serial.proofs.OneCore.Said.{quiet}
+use Rattle.tcc_serial.proofs.OneCore.Outcomes.{Commits_now, Did, each-exec, out, each-evict, emptied}
 
 -- no Commit of a TID above x
 abbrev pub Served : (dir x : ℕ) → Out → Type 0
@@ -41,15 +42,7 @@ served-steady d x s o y = served-free d x o (omega (arith, few-commits (o.sends 
 
 served-commit : (sh : Shape) (c : Cache) (t d x : ℕ) → (d < sh.dirs → writes_at sh c d ≡ true → t ≤ x) → among (CommitsAbove x) (commit_sends sh c t (Dir d)) ≡ 0
 unfolding commit_sends among passes
-served-commit sh c t d x h = go (nat_lt d sh.dirs) refl (writes_at sh c d) refl
-  where
-    n : ℕ
-    n = count_below (λ l. d == home sh l && is_modified c l) (lines sh)
-
-    go : (a : Bool) → nat_lt d sh.dirs ≡ a → (b : Bool) → writes_at sh c d ≡ b → among (CommitsAbove x) (if a then (if b then Commit t n ∷ [] else []) else []) ≡ 0
-    go false p b q = refl
-    go true p false q = refl
-    go true p true q = let l : t ≤ x = h (grind (arith, nat_tests)) q in grind (arith, nat_tests)
+served-commit sh c t d x h = grind (arith, nat_tests)
 
 served-solo : (sh : Shape) (c : Cache) (sp : Spilled) (t d x : ℕ) → (d < sh.dirs → t ≤ x) → among (CommitsAbove x) (solo_sends sh c sp t (Dir d)) ≡ 0
 unfolding solo_sends solo_marks solo_backs among passes
@@ -87,11 +80,7 @@ free-grants sh c t d = grind arith
 
 pub free-to : (h d : ℕ) (ms : List Msg) → among AnyCommit ms ≡ 0 → among AnyCommit (to (Dir h) ms (Dir d)) ≡ 0
 unfolding among
-free-to h d ms e = go (d == h)
-  where
-    go : (b : Bool) → among AnyCommit (if b then ms else []) ≡ 0
-    go true = e
-    go false = refl
+free-to h d ms e = grind (arith, nat_tests)
 
 pub free-marks : (sh : Shape) (c : Cache) (t e : ℕ) → among AnyCommit (marks_for sh c t e) ≡ 0
 unfolding marks_for among passes
@@ -105,36 +94,18 @@ served-executed sh c d x s o r (Asks_tid p ph ow cm ve di) = rw (di d) refl
 served-executed sh c d x s o r (Alone u q p ph ow cm se) = rw se (served-solo sh s.cache s.spilled u d x (λ l. rw p at (r.reached l (rw p refl) (r.replied l (rw p refl)))))
 
 pub served-exec : (sh : Shape) (p : Program) (c d x : ℕ) (s : CoreState) → Reached sh d x s → IfSome (core_exec sh p c s) (λ o. Served d x o)
-unfolding core_exec commit
-served-exec sh p c d x s r = go s.phase refl
+unfolding commit
+served-exec sh p c d x s r = each-exec sh p c s (λ o. Served d x o) go
   where
-    weaken : (y : Option Out) → IfSome y (λ o. Executed sh c s o) → IfSome y (λ o. Served d x o)
-    weaken None h = tt
-    weaken (Some o) h = served-executed sh c d x s o r h
-
-    awaiting : (a : Option Awaited) → Acts s.phase → IfSome (unless_awaiting sh p c s a) (λ o. Served d x o)
-    awaiting (Some y) a = tt
-    awaiting None a = weaken _ (executed sh p c s a)
-
     ready : (u : ℕ) → s.phase ≡ Ready u → d < sh.dirs → writes_at sh s.cache d ≡ true → u ≤ x
     ready u e l w = rw e at (r.reached l (rw e (rw w refl)) (r.replied l (rw e refl)))
 
-    go : (q : Phase) → s.phase ≡ q → IfSome (exec_phase sh p c s q) (λ o. Served d x o)
-    go Running e = awaiting s.awaited (rw e tt)
-    go (Solo u) e = awaiting s.awaited (rw e tt)
-    go (Ready u) e = served-commit sh s.cache u d x (ready u e)
-    go AwaitTid e = tt
-    go DoomedTid e = tt
-    go (Probing u) e = tt
-    go (Overflowing u) e = tt
-    go Halted e = tt
+    go : (y : Did sh p c s) → Served d x (out y)
+    go (Commits_now u e) = served-commit sh s.cache u d x (ready u e)
+    go y = served-executed sh c d x s (out y) r (did-executed y)
 
 pub served-evict : (sh : Shape) (y z d x : ℕ) (s : CoreState) → IfSome (core_evict sh y z s) (λ o. Served d x o)
-served-evict sh y z d x s = go (core_evict sh y z s) (evict-steady sh y z s)
-  where
-    go : (a : Option Out) → IfSome a (λ o. Steady s o) → IfSome a (λ o. Served d x o)
-    go None h = tt
-    go (Some o) h = served-steady d x s o h
+served-evict sh y z d x s = each-evict sh y z s (λ o. Served d x o) (λ k q u i. served-steady d x s (emptied sh y z k s) (steady-emptied sh y z s k q u i))
 
 pub served-grant : (sh : Shape) (u d x : ℕ) (s : CoreState) → Served d x (grant sh u s)
 unfolding grant
@@ -176,17 +147,7 @@ served-back sh e d x s (ProbeReply u v) = served-replied sh e u d x s (probe_rep
 served-back sh e d x s (Fill l ws) = served-steady d x s (fill l ws s) (fill-steady l ws s)
 served-back sh e d x s (DataReq l) = served-steady d x s (data_request sh l s) (data-steady sh l s)
 served-back sh e d x s (Inv l m u) = served-hurt sh l d x s (invalidate sh l m u s) (invalidate-cases sh l m u s)
-served-back sh e d x s TidReq = tt
-served-back sh e d x s (TidGrant u) = tt
-served-back sh e d x s (LoadReq l a) = tt
-served-back sh e d x s (Skip u) = tt
-served-back sh e d x s (Probe u) = tt
-served-back sh e d x s (Mark l m u) = tt
-served-back sh e d x s (Commit u n) = tt
-served-back sh e d x s (Abort u) = tt
-served-back sh e d x s (WriteBack l m ws u) = tt
-served-back sh e d x s (Flush l m ws u) = tt
-served-back sh e d x s (InvAck l b) = tt
+served-back sh e d x s _ = tt
 
 -- fewer Commits are above a larger TID
 above-fewer : (a b : ℕ) (m : Msg) → a ≤ b → num (passes (CommitsAbove b) m) ≤ num (passes (CommitsAbove a) m)

@@ -1,19 +1,20 @@
 -- A core acknowledges nothing but an invalidation, and marks lines at their homes alone.
-use Rattle.tcc_serial.proofs.Names.{ℕ, zero, suc, ◌≡◌, ◌≤◌, ◌%◌, Bool, true, false, List, [], ◌∷◌, ◌++◌, ◌==◌, ◌&&◌, Option, Some, None}
-use Rattle.tcc_serial.proofs.Names.{IfSome, nat_lt, cond, if◌then◌else◌, flat_map, arith, refl, nat_tests, flat_map-append, Program, num}
-use Rattle.tcc_serial.proofs.Names.{those, count_below, Dir, Msg, TidReq, TidGrant, LoadReq, Fill, Skip, Probe, ProbeReply, Mark, Commit}
-use Rattle.tcc_serial.proofs.Names.{Abort, WriteBack, Flush, DataReq, Inv, InvAck, Shape, home, lines, Cache, is_modified, modified_mask}
-use Rattle.tcc_serial.proofs.Names.{written_lines, Spilled, holds, spilled_mask, spilled_words, CoreState, Awaited, Phase, Running}
-use Rattle.tcc_serial.proofs.Names.{AwaitTid, DoomedTid, Probing, Ready, Overflowing, Solo, Halted, Sends, to, marks_for, skip_all}
-use Rattle.tcc_serial.proofs.Names.{probe_all, abort_written, Out, commit, commit_sends, solo_sends, solo_marks, solo_backs, solo_writes_at}
-use Rattle.tcc_serial.proofs.Names.{is_written, written_mask, core_exec, exec_phase, unless_awaiting, core_evict, grant, grant_phase}
-use Rattle.tcc_serial.proofs.Names.{grant_sends, from_dir, probe_reply, ignored, fill, data_request, invalidate, Kind, Acks, MarksAway}
-use Rattle.tcc_serial.proofs.Names.{AnyResolve, Protocol, among, passes}
+use Rattle.tcc_serial.proofs.Names.{ℕ, zero, suc, ◌≡◌, ◌≤◌, ◌%◌, Bool, true, false, List, [], ◌∷◌, ◌++◌, ◌==◌, ◌&&◌, Some, None, IfSome}
+use Rattle.tcc_serial.proofs.Names.{nat_lt, cond, if◌then◌else◌, flat_map, arith, refl, nat_tests, flat_map-append, Program, num, those}
+use Rattle.tcc_serial.proofs.Names.{count_below, Dir, Msg, Fill, Skip, ProbeReply, Mark, Commit, WriteBack, DataReq, Inv, InvAck, Shape}
+use Rattle.tcc_serial.proofs.Names.{home, lines, Cache, is_modified, modified_mask, written_lines, Spilled, holds, spilled_mask}
+use Rattle.tcc_serial.proofs.Names.{spilled_words, CoreState, Phase, Running, AwaitTid, DoomedTid, Probing, Ready, Overflowing, Solo}
+use Rattle.tcc_serial.proofs.Names.{Halted, Sends, to, marks_for, skip_all, probe_all, abort_written, Out, commit, commit_sends}
+use Rattle.tcc_serial.proofs.Names.{solo_sends, solo_marks, solo_backs, solo_writes_at, is_written, written_mask, core_exec, core_evict}
+use Rattle.tcc_serial.proofs.Names.{grant, grant_phase, grant_sends, from_dir, probe_reply, ignored, fill, data_request, invalidate, Kind}
+use Rattle.tcc_serial.proofs.Names.{Acks, MarksAway, AnyResolve, Protocol, among, passes, kept}
 use Rattle.tcc_serial.proofs.Counts.Links.{among-append, among-flat_map_none}
-use Rattle.tcc_serial.proofs.OneCore.CoreSteps.{evict-steady, ignored-steady, fill-steady, data-steady, Hurt, Unhurt, Rolled, Doomed}
-use Rattle.tcc_serial.proofs.OneCore.CoreSteps.{Aborted, Gave_up, Invalidated, invalidate-cases, Replied, Ignored, Probed, Left_alone}
-use Rattle.tcc_serial.proofs.OneCore.CoreSteps.{reply-cases}
-use Rattle.tcc_serial.proofs.OneCore.Executes.{Acts, Steady, Executed, Goes_on, Overflows, Asks_tid, Alone, executed}
+use Rattle.tcc_serial.proofs.OneCore.Executes.{Steady, Executed, Goes_on, Overflows, Asks_tid, Alone, did-executed}
+use Rattle.tcc_serial.proofs.OneCore.CoreSteps.{ignored-steady, fill-steady, data-steady, Hurt, Unhurt, Rolled, Doomed, Aborted, Gave_up}
+use Rattle.tcc_serial.proofs.OneCore.CoreSteps.{Invalidated, invalidate-cases, Replied, Ignored, Probed, Left_alone, reply-cases}
+use Rattle.tcc_serial.proofs.OneCore.CoreSteps.{steady-emptied}
+use Rattle.tcc_serial.proofs.OneCore.Said.{quiet}
+use Rattle.tcc_serial.proofs.OneCore.Outcomes.{Commits_now, Did, each-exec, out, each-evict, emptied}
 
 -- no acknowledgement, no mark of a line that is at home elsewhere, and no word on a TID to a directory that the machine
 -- doesn't have
@@ -125,33 +126,15 @@ clean-executed sh c s o (Asks_tid r ph ow cm ve di) = λ d. rw (di d) (clean-non
 clean-executed sh c s o (Alone u r q ph ow cm se) = λ d. rw se (clean-solo sh s.cache s.spilled u d)
 
 pub clean-exec : (sh : Shape) (p : Program) (c : ℕ) (s : CoreState) → IfSome (core_exec sh p c s) (λ o. CleanOut sh o)
-unfolding core_exec commit
-clean-exec sh p c s = go s.phase refl
+unfolding commit
+clean-exec sh p c s = each-exec sh p c s (λ o. CleanOut sh o) go
   where
-    weaken : (x : Option Out) → IfSome x (λ o. Executed sh c s o) → IfSome x (λ o. CleanOut sh o)
-    weaken None h = tt
-    weaken (Some o) h = clean-executed sh c s o h
-
-    awaiting : (a : Option Awaited) → Acts s.phase → IfSome (unless_awaiting sh p c s a) (λ o. CleanOut sh o)
-    awaiting (Some x) a = tt
-    awaiting None a = weaken _ (executed sh p c s a)
-
-    go : (q : Phase) → s.phase ≡ q → IfSome (exec_phase sh p c s q) (λ o. CleanOut sh o)
-    go Running e = awaiting s.awaited (rw e tt)
-    go (Solo u) e = awaiting s.awaited (rw e tt)
-    go (Ready u) e = λ d. clean-commit sh s.cache u d
-    go AwaitTid e = tt
-    go DoomedTid e = tt
-    go (Probing u) e = tt
-    go (Overflowing u) e = tt
-    go Halted e = tt
+    go : (x : Did sh p c s) → CleanOut sh (out x)
+    go (Commits_now u e) = λ d. clean-commit sh s.cache u d
+    go x = clean-executed sh c s (out x) (did-executed x)
 
 pub clean-evict : (sh : Shape) (x y : ℕ) (s : CoreState) → IfSome (core_evict sh x y s) (λ o. CleanOut sh o)
-clean-evict sh x y s = go (core_evict sh x y s) (evict-steady sh x y s)
-  where
-    go : (a : Option Out) → IfSome a (λ o. Steady s o) → IfSome a (λ o. CleanOut sh o)
-    go None h = tt
-    go (Some o) h = clean-steady sh s o h
+clean-evict sh x y s = each-evict sh x y s (λ o. CleanOut sh o) (λ k q u z. clean-steady sh s (emptied sh x y k s) (steady-emptied sh x y s k q u z))
 
 pub clean-grant : (sh : Shape) (u : ℕ) (s : CoreState) → CleanOut sh (grant sh u s)
 unfolding grant
@@ -218,14 +201,4 @@ acks-back sh e d s (ProbeReply u v) = clean-replied sh e u s (probe_reply sh e u
 acks-back sh e d s (Fill l ws) = clean-steady sh s (fill l ws s) (fill-steady l ws s) d
 acks-back sh e d s (DataReq l) = clean-steady sh s (data_request sh l s) (data-steady sh l s) d
 acks-back sh e d s (Inv l m u) = acks-invalidated sh l d s (invalidate sh l m u s) (invalidate-cases sh l m u s)
-acks-back sh e d s TidReq = tt
-acks-back sh e d s (TidGrant u) = tt
-acks-back sh e d s (LoadReq l a) = tt
-acks-back sh e d s (Skip u) = tt
-acks-back sh e d s (Probe u) = tt
-acks-back sh e d s (Mark l m u) = tt
-acks-back sh e d s (Commit u n) = tt
-acks-back sh e d s (Abort u) = tt
-acks-back sh e d s (WriteBack l m ws u) = tt
-acks-back sh e d s (Flush l m ws u) = tt
-acks-back sh e d s (InvAck l b) = tt
+acks-back sh e d s _ = tt

@@ -126,7 +126,6 @@ backs-owed sh w e c k m h l i = go (from_dir sh e (w.cores c) m) (back-due sh e 
     go (Some o) y = back-owed sh w e c k m o h l i y
 
 -- a directory takes a message
-
 due-answered : (v : Pair) (k : ℕ) (m : Msg) (s : DirState) (ms : List Msg) → slice_index_or v.out k None ≡ Some m → due (after_answer (out_taken v k) s ms) + num (passes Acks m) ≡ due v + among Invs ms + 0
 unfolding due
 due-answered v k m s ms i = omega (arith, live-sends Invs v.back ms, live-takes Acks v.out k m i)
@@ -212,7 +211,6 @@ dir-owed sh w c e k m s sends h z l i u = record {
     back_of j = served-back sh w e j (num (passes Acks m)) s sends ((h.at_home j e).served) u (λ x. rw (same e) at (none-due sh v e j s.serving.serving ((z.inside j e).back) here (rw (same e) x)))
 
 -- a directory asks
-
 pub asks-owed : (sh : Shape) (w : World) (e : ℕ) (s : DirState) (sends : Sends) → KeptOwed sh w → KeptTids sh (dir_asks w e s sends) → Due sh e (w.dirs e) 0 s sends → KeptOwed sh (dir_asks w e s sends)
 unfolding dir_asks pair
 asks-owed sh w e s sends h z u = record {
@@ -236,7 +234,6 @@ asks-owed sh w e s sends h z u = record {
     back_of j = served-back sh w e j 0 s sends ((h.at_home j e).served) u (λ x. rw (same e) at (none-due sh v e j s.serving.serving ((z.inside j e).back) here (rw (same e) x)))
 
 -- the vendor grants
-
 pub vendor-owed : (sh : Shape) (w : World) (c k : ℕ) → KeptOwed sh w → c < sh.cores → KeptOwed sh (vendor_gives w c k (given w c))
 unfolding vendor_gives due
 vendor-owed sh w c k h l = record {
@@ -252,7 +249,6 @@ unfolding share due start pair live
 share-start entries ram d j = refl
 
 -- at the start nothing is owed
-
 pub start-owed : (sh : Shape) (entries : ℕ → Local) (ram : ℕ → ℕ) → KeptOwed sh (start entries ram)
 unfolding start dir_start pair live no_lines
 start-owed sh entries ram = record {
@@ -264,7 +260,6 @@ start-owed sh entries ram = record {
     none d j = share-start entries ram d j
 
 -- what is known of a message to a directory
-
 pub marks_home : (sh : Shape) (w : World) (c e k : ℕ) (m : Msg) → KeptOwed sh w → in_flight w.net (Core c) (Dir e) k ≡ Some m → passes (MarksAway sh.dirs e) m ≡ false
 unfolding pair
 marks_home sh w c e k m h i = none-taken (MarksAway sh.dirs e) (w.net (Core c) (Dir e)) k m i ((h.at_home c e).marks)
@@ -369,7 +364,6 @@ once_at sh w c d k m h i t = go (cases_lt d sh.dirs)
     go (inr l) = omega (arith, resolves-any t m, live-some AnyResolve (w.net (Core c) (Dir d)) k m i, (h.owed.at_home c d).far l, handled-once (w.dirs d).serving (w.dirs d).owed t)
 
 -- every event that is enabled keeps the invariants
-
 moves : (sh : Shape) (w : World) (c : ℕ) → KeptTold sh w → c < sh.cores → (x : Option Out) → IfSome x (λ o. KeepsRequests 0 (w.cores c) o) → ((d t : ℕ) → d < sh.dirs → IfSome x (λ o. KeepsPart sh d t 0 (w.cores c) o)) → IfSome x (λ o. CleanOut sh o) → IfSome x (λ o. KeptTold sh (core_moves w c o))
 moves sh w c h l None r q y = tt
 moves sh w c h l (Some o) r q y = record { tids = move-kept sh w c o h.tids l r q; owed = move-owed sh w c o h.owed l y }

@@ -1,31 +1,27 @@
 -- Every event keeps which directories owe a core replies: those that it asked, while it waits, and then some does.
 use Rattle.tcc_serial.proofs.Names.{ℕ, ◌≡◌, ◌<◌, ◌⊎◌, ◌==◌, ◌&&◌, ◌||◌, Bool, true, false, Option, Some, None, IfSome, nat_lt}
-use Rattle.tcc_serial.proofs.Names.{if◌then◌else◌, arith, refl, ap₂, inl, inr, cases_eq, nat_tests, Program, Local, Outcome, Goes, Ended}
-use Rattle.tcc_serial.proofs.Names.{HaltedWith, TrappedWith, any_below, Dir, Event, Msg, TidReq, TidGrant, LoadReq, Fill, Skip, Probe}
-use Rattle.tcc_serial.proofs.Names.{ProbeReply, Mark, Commit, Abort, WriteBack, Flush, DataReq, Inv, InvAck, Shape, writes_at, reads_at}
-use Rattle.tcc_serial.proofs.Names.{any_below-at, CoreState, Awaited, World, Phase, Running, AwaitTid, DoomedTid, Probing, Ready}
-use Rattle.tcc_serial.proofs.Names.{Overflowing, Solo, Halted, start, core_start, Out, commit, committed_core, phase_after, core_exec}
-use Rattle.tcc_serial.proofs.Names.{exec_phase, unless_awaiting, core_evict, from_dir, grant, grant_phase, is_probed, probing, all_replied}
-use Rattle.tcc_serial.proofs.Names.{fill, data_request, invalidate, probe_reply, Answer, Waits, Drops, Asks, Takes, dir_deliver, execute}
-use Rattle.tcc_serial.proofs.Names.{core_moves, core_takes, dir_takes, dir_asks, vendor_gives, step, OwingFits, awaits_replies, asks_dir}
+use Rattle.tcc_serial.proofs.Names.{if◌then◌else◌, arith, refl, ap₂, inl, inr, cases_eq, nat_tests, Program, Local, Outcome, Goes}
+use Rattle.tcc_serial.proofs.Names.{any_below, Dir, Event, Msg, Fill, ProbeReply, DataReq, Inv, Shape, writes_at, reads_at, any_below-at}
+use Rattle.tcc_serial.proofs.Names.{CoreState, World, Phase, Running, AwaitTid, DoomedTid, Probing, Ready, Overflowing, Solo, Halted}
+use Rattle.tcc_serial.proofs.Names.{start, core_start, Out, commit, committed_core, phase_after, core_exec, core_evict, from_dir, grant}
+use Rattle.tcc_serial.proofs.Names.{grant_phase, is_probed, probing, all_replied, fill, data_request, invalidate, probe_reply, Answer}
+use Rattle.tcc_serial.proofs.Names.{Waits, Drops, Asks, Takes, dir_deliver, core_moves, core_takes, dir_takes, dir_asks, vendor_gives}
+use Rattle.tcc_serial.proofs.Names.{step, OwingFits, awaits_replies, asks_dir, answered, moved, taken}
 use Rattle.tcc_maps.specs.Words.{put}
 use Rattle.tcc_serial.proofs.OneCore.CoreProbes.{none-below, all-replied}
-use Rattle.tcc_serial.proofs.OneCore.CoreSteps.{writes_at-same, reads_at-same, evict-steady, fill-steady, data-steady, Hurt, Unhurt, Rolled}
-use Rattle.tcc_serial.proofs.OneCore.CoreSteps.{Doomed, Aborted, Gave_up, Invalidated, invalidate-cases, Replied, Ignored, Probed}
-use Rattle.tcc_serial.proofs.OneCore.CoreSteps.{Left_alone, reply-cases}
-use Rattle.tcc_serial.proofs.OneCore.Executes.{Acts, Steady, Executed, Goes_on, Overflows, Asks_tid, Alone, executed}
+use Rattle.tcc_serial.proofs.OneCore.CoreSteps.{reads_at-same, fill-steady, data-steady, Hurt, Unhurt, Rolled, Doomed, Aborted, Gave_up}
+use Rattle.tcc_serial.proofs.OneCore.CoreSteps.{Invalidated, invalidate-cases, Replied, Ignored, Probed, Left_alone, reply-cases}
+use Rattle.tcc_serial.proofs.OneCore.CoreSteps.{steady-emptied}
+use Rattle.tcc_serial.proofs.OneCore.Executes.{Steady, Executed, Goes_on, Overflows, Asks_tid, Alone, did-executed}
 use Rattle.tcc_serial.proofs.Counts.StepCases.{OfAnswer, step_cases}
+use Rattle.tcc_serial.proofs.OneCore.Outcomes.{Acts, Commits_now, Did, each-exec, out, each-evict, emptied, writes_at-same}
 
 abbrev pub KeptOwing : Shape → World → Type 0
 KeptOwing sh w = (c : ℕ) → OwingFits sh (w.cores c)
 
 -- no reply is owed where the core doesn't wait
 idle : (sh : Shape) (s : CoreState) → OwingFits sh s → awaits_replies s.phase ≡ false → (d : ℕ) → s.owing d ≡ false
-idle sh s h n d = go (s.owing d) refl
-  where
-    go : (b : Bool) → s.owing d ≡ b → b ≡ false
-    go false e = refl
-    go true e = absurd (let y = h.waits d e in cc)
+idle sh s h n d = grind (arith, nat_tests)
 
 none-owing : (sh : Shape) (r : CoreState) (q : Phase) → r.phase ≡ q → awaits_replies q ≡ false → ((d : ℕ) → r.owing d ≡ false) → OwingFits sh r
 none-owing sh r q e n f = record {
@@ -41,13 +37,7 @@ still-none sh s r p q e n f m ow h = none-owing sh r q f m (λ d. rw ow (idle sh
 not-acts : (q : Phase) → awaits_replies q ≡ true → Acts q → ⊥
 not-acts Running e a = cc
 not-acts (Solo t) e a = cc
-not-acts AwaitTid e a = a
-not-acts DoomedTid e a = a
-not-acts (Probing t) e a = a
-not-acts (Ready t) e a = a
-not-acts (Overflowing None) e a = a
-not-acts (Overflowing (Some t)) e a = a
-not-acts Halted e a = a
+not-acts _ e a = a
 
 same-owing : (sh : Shape) (s r : CoreState) → r.phase ≡ s.phase → r.owing ≡ s.owing → (awaits_replies s.phase ≡ true → (d : ℕ) → (writes_at sh r.cache d || reads_at sh r.cache d) ≡ (writes_at sh s.cache d || reads_at sh s.cache d)) → OwingFits sh s → OwingFits sh r
 same-owing sh s r e f g h = record {
@@ -61,9 +51,7 @@ steady-owing sh s o y h = same-owing sh s o.core y.phase y.owing (λ a d. ap₂ 
 
 after-none : (e : Outcome) → awaits_replies (phase_after e) ≡ false
 after-none Goes = refl
-after-none Ended = refl
-after-none (HaltedWith k) = refl
-after-none (TrappedWith k) = refl
+after-none _ = refl
 
 executed-owing : (sh : Shape) (c : ℕ) (s : CoreState) (o : Out) → Executed sh c s o → OwingFits sh s → OwingFits sh o.core
 executed-owing sh c s o (Goes_on y) h = steady-owing sh s o y h
@@ -72,33 +60,15 @@ executed-owing sh c s o (Asks_tid ph ph' ow cm ve se) h = still-none sh s o.core
 executed-owing sh c s o (Alone t r ph ph' ow cm se) h = still-none sh s o.core (Solo t) (phase_after r.ended) ph refl ph' (after-none r.ended) ow h
 
 owing-exec : (sh : Shape) (p : Program) (c : ℕ) (s : CoreState) → OwingFits sh s → IfSome (core_exec sh p c s) (λ o. OwingFits sh o.core)
-unfolding core_exec commit committed_core
-owing-exec sh p c s h = go s.phase refl
+unfolding commit committed_core
+owing-exec sh p c s h = each-exec sh p c s (λ o. OwingFits sh o.core) go
   where
-    weaken : (x : Option Out) → IfSome x (λ o. Executed sh c s o) → IfSome x (λ o. OwingFits sh o.core)
-    weaken None e = tt
-    weaken (Some o) e = executed-owing sh c s o e h
-
-    acts : (a : Option Awaited) → Acts s.phase → IfSome (unless_awaiting sh p c s a) (λ o. OwingFits sh o.core)
-    acts None e = weaken (execute sh p c s) (executed sh p c s e)
-    acts (Some a) e = tt
-
-    go : (q : Phase) → s.phase ≡ q → IfSome (exec_phase sh p c s q) (λ o. OwingFits sh o.core)
-    go Running e = acts s.awaited (rw e tt)
-    go (Solo t) e = acts s.awaited (rw e tt)
-    go (Ready t) e = still-none sh s (commit sh c t s).core (Ready t) (phase_after s.ended) e refl refl (after-none s.ended) refl h
-    go AwaitTid e = tt
-    go DoomedTid e = tt
-    go (Probing t) e = tt
-    go (Overflowing t) e = tt
-    go Halted e = tt
+    go : (x : Did sh p c s) → OwingFits sh (out x).core
+    go (Commits_now t e) = still-none sh s (commit sh c t s).core (Ready t) (phase_after s.ended) e refl refl (after-none s.ended) refl h
+    go x = executed-owing sh c s (out x) (did-executed x) h
 
 owing-evict : (sh : Shape) (x y : ℕ) (s : CoreState) → OwingFits sh s → IfSome (core_evict sh x y s) (λ o. OwingFits sh o.core)
-owing-evict sh x y s h = go (core_evict sh x y s) (evict-steady sh x y s)
-  where
-    go : (a : Option Out) → IfSome a (λ o. Steady s o) → IfSome a (λ o. OwingFits sh o.core)
-    go None e = tt
-    go (Some o) e = steady-owing sh s o e h
+owing-evict sh x y s h = each-evict sh x y s (λ o. OwingFits sh o.core) (λ k q u z. steady-owing sh s (emptied sh x y k s) (steady-emptied sh x y s k q u z) h)
 
 owing-grant : (sh : Shape) (t : ℕ) (s : CoreState) → OwingFits sh s → OwingFits sh (grant sh t s).core
 unfolding grant is_probed
@@ -140,18 +110,10 @@ owing-grant sh t s h = go s.phase refl
 -- a directory has replied
 
 put-true : (f : ℕ → Bool) (e d : ℕ) → put f e false d ≡ true → f d ≡ true
-put-true f e d x = go (cases_eq d e)
-  where
-    go : (d ≡ e) ⊎ (d ≡ e → ⊥) → f d ≡ true
-    go (inl q) = absurd (let b : (d == e) ≡ true = grind (arith, nat_tests) in let y : put f e false d ≡ false = rw b refl in cc)
-    go (inr q) = let b : (d == e) ≡ false = grind (arith, nat_tests) in rw b at x
+put-true f e d x = grind (arith, nat_tests)
 
 not-all : (sh : Shape) (f : ℕ → Bool) → all_replied sh f ≡ false → any_below f sh.dirs ≡ true
-not-all sh f q = go (any_below f sh.dirs) refl
-  where
-    go : (b : Bool) → any_below f sh.dirs ≡ b → b ≡ true
-    go true e = refl
-    go false e = absurd (let n : all_replied sh f ≡ true = rw e refl in cc)
+not-all sh f q = grind (arith, nat_tests)
 
 one-less : (sh : Shape) (e : ℕ) (s r : CoreState) (goes wait : Phase) → r.phase ≡ (if all_replied sh (put s.owing e false) then goes else wait) → r.owing ≡ put s.owing e false → awaits_replies goes ≡ false
     → ((d : ℕ) → asks_dir s.phase (writes_at sh s.cache d || reads_at sh s.cache d) ≡ true → asks_dir wait (writes_at sh r.cache d || reads_at sh r.cache d) ≡ true) → awaits_replies wait ≡ true → OwingFits sh s → OwingFits sh r
@@ -189,17 +151,7 @@ owing-back sh e s (ProbeReply u v) h = replied-owing sh e u s (probe_reply sh e 
 owing-back sh e s (Fill l ws) h = steady-owing sh s (fill l ws s) (fill-steady l ws s) h
 owing-back sh e s (DataReq l) h = steady-owing sh s (data_request sh l s) (data-steady sh l s) h
 owing-back sh e s (Inv l m u) h = hurt-owing sh l s (invalidate sh l m u s) (invalidate-cases sh l m u s) h
-owing-back sh e s TidReq h = tt
-owing-back sh e s (TidGrant u) h = tt
-owing-back sh e s (LoadReq l a) h = tt
-owing-back sh e s (Skip u) h = tt
-owing-back sh e s (Probe u) h = tt
-owing-back sh e s (Mark l m u) h = tt
-owing-back sh e s (Commit u n) h = tt
-owing-back sh e s (Abort u) h = tt
-owing-back sh e s (WriteBack l m ws u) h = tt
-owing-back sh e s (Flush l m ws u) h = tt
-owing-back sh e s (InvAck l b) h = tt
+owing-back sh e s _ h = tt
 
 -- one core has changed
 put-owing : (sh : Shape) (w : World) (c : ℕ) (s : CoreState) → KeptOwing sh w → OwingFits sh s → (j : ℕ) → OwingFits sh (if j == c then s else w.cores j)

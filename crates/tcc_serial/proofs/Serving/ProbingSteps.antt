@@ -9,6 +9,7 @@ use Rattle.tcc_serial.proofs.Names.{live, among, passes, Kept, Grant, granted_by
 use Rattle.tcc_serial.proofs.Names.{slice_index_or, if◌then◌else◌, ap, subst, ◌∙◌, put, DirState, Phase, Running, AwaitTid, DoomedTid}
 use Rattle.tcc_serial.proofs.Names.{Probing, Ready, Overflowing, Solo, Halted, Sends, all_replied, dir_takes, after_move, grant_taken}
 use Rattle.tcc_serial.proofs.Names.{back_taken, after_answer, out_taken, after_grant, after_other_grant, has_tid, OneCore, KeptCores}
+use Rattle.tcc_serial.specs.Probing.{ProbingOf, KeptProbing}
 use Rattle.tcc_serial.proofs.Counts.Links.{live-sends, live-takes}
 use Rattle.tcc_serial.proofs.Counts.StepCases.{pairs_move, pairs_grant, pairs_back, pairs_dir, pairs_asks, pairs_vendor, OfAnswer}
 use Rattle.tcc_serial.proofs.Counts.StepCases.{step_cases}
@@ -20,7 +21,6 @@ use Rattle.tcc_serial.proofs.Serving.OwnerSteps.{grant-alone}
 use Rattle.tcc_serial.proofs.Tids.CoreProbing.{Unprobed, unprobed-steady, unprobed-exec, unprobed-evict, unprobed-hurt, granted, none-marks}
 use Rattle.tcc_serial.proofs.Tids.CoreProbing.{none-to, Granted}
 use Rattle.tcc_serial.proofs.Tids.TidSteps.{granted_waits, live-some, is_mine, not_mine}
-use Rattle.tcc_serial.specs.Probing.{ProbingOf, KeptProbing}
 
 -- Every event keeps that a probe or reply in flight is of a TID that was granted to its core.
 
@@ -32,7 +32,6 @@ abbrev pub KeptProbed : List Grant → World → Type 0
 KeptProbed gs w = (c d : ℕ) → ProbedOf gs c (pair w c d)
 
 -- no message of a directory makes a core probe
-
 abbrev Quiet : Out → Type 0
 Quiet o = (d t : ℕ) → among (Probes t) (o.sends (Dir d)) ≡ 0
 
@@ -133,7 +132,6 @@ probing-granted v o d t k u i one y hu h = go (cases_eq u t)
     }
 
 -- a core takes a reply
-
 has-one : (b : Bool) (x y : Phase) (u t : ℕ) → has_tid x t ≡ (u == t) → has_tid y t ≡ (u == t) → has_tid (if b then x else y) t ≡ true → u ≡ t
 has-one true x y u t e f h = let k : (u == t) ≡ true = sym e ∙ h in grind (arith, nat_tests)
 has-one false x y u t e f h = let k : (u == t) ≡ true = sym f ∙ h in grind (arith, nat_tests)
@@ -222,7 +220,6 @@ idle_of sh s e t h k = go s.phase refl k
     go _ g x = absurd (cc)
 
 -- a directory answers
-
 probing-answered : (v : Pair) (s : DirState) (ms : List Msg) (d t : ℕ) → among (Replies t) ms ≡ 0 → ProbingOf d t v → ProbingOf d t (after_answer v s ms)
 probing-answered v s ms d t n h = record {
   fresh = λ l. omega (arith, h.fresh l, live-sends (Replies t) v.back ms);
@@ -236,7 +233,6 @@ probing-exchanged v s ms d t k m i n h = record {
 }
 
 -- the vendor grants
-
 probing-given : (v : Pair) (k d t : ℕ) → ProbingOf d t v → ProbingOf d t (after_grant v k)
 unfolding passes among
 probing-given v k d t h = record {

@@ -1,16 +1,15 @@
 -- A core has no TID but one that it was granted, and what it commits is the TID that it had.
 use Rattle.tcc_serial.proofs.Names.{ℕ, ◌+◌, ◌≡◌, ◌≤◌, Bool, true, false, ◌==◌, Option, Some, None, IfSome, if◌then◌else◌, arith, refl}
-use Rattle.tcc_serial.proofs.Names.{nat_tests, put, Noted, Program, num, any_below, Msg, TidReq, TidGrant, LoadReq, Fill, Skip, Probe}
-use Rattle.tcc_serial.proofs.Names.{ProbeReply, Mark, Commit, Abort, WriteBack, Flush, DataReq, Inv, InvAck, Shape, CoreState, Awaited}
+use Rattle.tcc_serial.proofs.Names.{nat_tests, put, Noted, Program, num, any_below, Msg, Fill, ProbeReply, DataReq, Inv, Shape, CoreState}
 use Rattle.tcc_serial.proofs.Names.{Phase, Running, AwaitTid, DoomedTid, Probing, Ready, Overflowing, Solo, Halted, Out, commit}
-use Rattle.tcc_serial.proofs.Names.{committed_core, noted, phase_after, core_exec, exec_phase, unless_awaiting, core_evict, grant}
-use Rattle.tcc_serial.proofs.Names.{grant_phase, from_dir, is_probed, probe_reply, ignored, all_replied, fill, data_request, invalidate}
-use Rattle.tcc_serial.proofs.Names.{has_tid}
-use Rattle.tcc_serial.proofs.OneCore.Executes.{Acts, Steady, Executed, Goes_on, Overflows, Asks_tid, Alone, executed}
-use Rattle.tcc_serial.proofs.OneCore.CoreSteps.{evict-steady, ignored-steady, fill-steady, data-steady, Hurt, Unhurt, Rolled, Doomed}
-use Rattle.tcc_serial.proofs.OneCore.CoreSteps.{Aborted, Gave_up, Invalidated, invalidate-cases, Replied, Ignored, Probed, Left_alone}
-use Rattle.tcc_serial.proofs.OneCore.CoreSteps.{reply-cases}
+use Rattle.tcc_serial.proofs.Names.{committed_core, noted, phase_after, core_exec, core_evict, grant, grant_phase, from_dir, is_probed}
+use Rattle.tcc_serial.proofs.Names.{probe_reply, ignored, all_replied, fill, data_request, invalidate, has_tid, holds}
+use Rattle.tcc_serial.proofs.OneCore.Executes.{Steady, Executed, Goes_on, Overflows, Asks_tid, Alone, did-executed}
+use Rattle.tcc_serial.proofs.OneCore.CoreSteps.{ignored-steady, fill-steady, data-steady, Hurt, Unhurt, Rolled, Doomed, Aborted, Gave_up}
+use Rattle.tcc_serial.proofs.OneCore.CoreSteps.{Invalidated, invalidate-cases, Replied, Ignored, Probed, Left_alone, reply-cases}
+use Rattle.tcc_serial.proofs.OneCore.CoreSteps.{steady-emptied}
 use Rattle.tcc_serial.proofs.Tids.CoreProbing.{tid-after, tid-probing}
+use Rattle.tcc_serial.proofs.OneCore.Outcomes.{Commits_now, Did, each-exec, out, each-evict, emptied}
 
 -- the TID of a commit
 abbrev pub noted_tid : ℕ → Option Noted → ℕ
@@ -44,33 +43,15 @@ holder-executed sh c s o (Asks_tid r ph ow cm ve di) = holder-none c none s o Aw
 holder-executed sh c s o (Alone u r q ph ow cm se) = holder-noted c u s r o (rw q (grind (arith, nat_tests))) (λ t. rw q refl) ph cm
 
 pub holder-exec : (sh : Shape) (p : Program) (c : ℕ) (s : CoreState) → IfSome (core_exec sh p c s) (λ o. KeepsHolder c none s o)
-unfolding core_exec commit committed_core has_tid
-holder-exec sh p c s = go s.phase refl
+unfolding commit committed_core has_tid
+holder-exec sh p c s = each-exec sh p c s (λ o. KeepsHolder c none s o) go
   where
-    weaken : (x : Option Out) → IfSome x (λ o. Executed sh c s o) → IfSome x (λ o. KeepsHolder c none s o)
-    weaken None h = tt
-    weaken (Some o) h = holder-executed sh c s o h
-
-    awaiting : (a : Option Awaited) → Acts s.phase → IfSome (unless_awaiting sh p c s a) (λ o. KeepsHolder c none s o)
-    awaiting (Some x) a = tt
-    awaiting None a = weaken _ (executed sh p c s a)
-
-    go : (q : Phase) → s.phase ≡ q → IfSome (exec_phase sh p c s q) (λ o. KeepsHolder c none s o)
-    go Running e = awaiting s.awaited (rw e tt)
-    go (Solo u) e = awaiting s.awaited (rw e tt)
-    go (Ready u) e = holder-noted c u s s (commit sh c u s) (rw e (grind (arith, nat_tests))) (λ t. rw e refl) refl refl
-    go AwaitTid e = tt
-    go DoomedTid e = tt
-    go (Probing u) e = tt
-    go (Overflowing u) e = tt
-    go Halted e = tt
+    go : (x : Did sh p c s) → KeepsHolder c none s (out x)
+    go (Commits_now u e) = holder-noted c u s s (commit sh c u s) (rw e (grind (arith, nat_tests))) (λ t. rw e refl) refl refl
+    go x = holder-executed sh c s (out x) (did-executed x)
 
 pub holder-evict : (sh : Shape) (x y c : ℕ) (s : CoreState) → IfSome (core_evict sh x y s) (λ o. KeepsHolder c none s o)
-holder-evict sh x y c s = go (core_evict sh x y s) (evict-steady sh x y s)
-  where
-    go : (a : Option Out) → IfSome a (λ o. Steady s o) → IfSome a (λ o. KeepsHolder c none s o)
-    go None h = tt
-    go (Some o) h = holder-steady c s o h
+holder-evict sh x y c s = each-evict sh x y s (λ o. KeepsHolder c none s o) (λ k q u z. holder-steady c s (emptied sh x y k s) (steady-emptied sh x y s k q u z))
 
 pub holder-grant : (sh : Shape) (u c : ℕ) (s : CoreState) → KeepsHolder c (λ t. num (u == t)) s (grant sh u s)
 unfolding grant has_tid
@@ -120,14 +101,4 @@ holder-back sh e c s (ProbeReply u v) = holder-replied sh e u c s (probe_reply s
 holder-back sh e c s (Fill l ws) = holder-steady c s (fill l ws s) (fill-steady l ws s)
 holder-back sh e c s (DataReq l) = holder-steady c s (data_request sh l s) (data-steady sh l s)
 holder-back sh e c s (Inv l m u) = holder-hurt sh l c s (invalidate sh l m u s) (invalidate-cases sh l m u s)
-holder-back sh e c s TidReq = tt
-holder-back sh e c s (TidGrant u) = tt
-holder-back sh e c s (LoadReq l a) = tt
-holder-back sh e c s (Skip u) = tt
-holder-back sh e c s (Probe u) = tt
-holder-back sh e c s (Mark l m u) = tt
-holder-back sh e c s (Commit u n) = tt
-holder-back sh e c s (Abort u) = tt
-holder-back sh e c s (WriteBack l m ws u) = tt
-holder-back sh e c s (Flush l m ws u) = tt
-holder-back sh e c s (InvAck l b) = tt
+holder-back sh e c s _ = tt

@@ -1,16 +1,17 @@
 -- A core sends a probe only where it takes a grant, and to each directory that owes a reply from then on.
-use Rattle.tcc_serial.proofs.Names.{ℕ, ◌≡◌, ◌≤◌, Bool, true, false, List, [], ◌∷◌, ◌++◌, ◌==◌, ◌&&◌, Option, Some, None, IfSome, nat_lt}
-use Rattle.tcc_serial.proofs.Names.{if◌then◌else◌, flat_map, arith, refl, sym, ap, ◌∙◌, nat_tests, Program, Outcome, Goes, Ended}
-use Rattle.tcc_serial.proofs.Names.{HaltedWith, TrappedWith, num, those, count_below, any_below, Dir, Msg, Skip, Mark, Commit, WriteBack}
-use Rattle.tcc_serial.proofs.Names.{InvAck, Shape, home, lines, Cache, modified_mask, written_lines, Spilled, holds, spilled_mask}
-use Rattle.tcc_serial.proofs.Names.{spilled_words, CoreState, Awaited, Phase, Running, AwaitTid, DoomedTid, Probing, Ready, Overflowing}
-use Rattle.tcc_serial.proofs.Names.{Solo, Halted, to, marks_for, skip_all, probe_all, abort_written, Out, commit, committed_core}
-use Rattle.tcc_serial.proofs.Names.{phase_after, commit_sends, solo_sends, solo_marks, solo_backs, solo_writes_at, is_written, written_mask}
-use Rattle.tcc_serial.proofs.Names.{core_exec, exec_phase, unless_awaiting, core_evict, grant, grant_phase, grant_sends, is_probed, probing}
-use Rattle.tcc_serial.proofs.Names.{Probes, Protocol, among, passes, has_tid, waits_for_tid}
+use Rattle.tcc_serial.proofs.Names.{ℕ, ◌≡◌, ◌≤◌, Bool, true, false, List, [], ◌∷◌, ◌++◌, ◌==◌, ◌&&◌, Some, None, IfSome, nat_lt}
+use Rattle.tcc_serial.proofs.Names.{if◌then◌else◌, flat_map, arith, refl, sym, ap, ◌∙◌, nat_tests, Program, Outcome, Goes, num, those}
+use Rattle.tcc_serial.proofs.Names.{count_below, any_below, Dir, Msg, Skip, Mark, Commit, WriteBack, InvAck, Shape, home, lines, Cache}
+use Rattle.tcc_serial.proofs.Names.{modified_mask, written_lines, Spilled, holds, spilled_mask, spilled_words, CoreState, Phase, Running}
+use Rattle.tcc_serial.proofs.Names.{AwaitTid, DoomedTid, Probing, Ready, Overflowing, Solo, Halted, to, marks_for, skip_all, probe_all}
+use Rattle.tcc_serial.proofs.Names.{abort_written, Out, commit, committed_core, phase_after, commit_sends, solo_sends, solo_marks}
+use Rattle.tcc_serial.proofs.Names.{solo_backs, solo_writes_at, is_written, written_mask, core_exec, core_evict, grant, grant_phase}
+use Rattle.tcc_serial.proofs.Names.{grant_sends, is_probed, probing, Probes, Protocol, among, passes, has_tid, waits_for_tid, kept}
 use Rattle.tcc_serial.proofs.Counts.Links.{among-append, among-fewer, among-flat_map_none}
-use Rattle.tcc_serial.proofs.OneCore.CoreSteps.{evict-steady, Hurt, Unhurt, Rolled, Doomed, Aborted, Gave_up, Invalidated}
-use Rattle.tcc_serial.proofs.OneCore.Executes.{Acts, Steady, Executed, Goes_on, Overflows, Asks_tid, Alone, executed}
+use Rattle.tcc_serial.proofs.OneCore.Executes.{Steady, Executed, Goes_on, Overflows, Asks_tid, Alone, did-executed}
+use Rattle.tcc_serial.proofs.OneCore.CoreSteps.{Hurt, Unhurt, Rolled, Doomed, Aborted, Gave_up, Invalidated, steady-emptied}
+use Rattle.tcc_serial.proofs.OneCore.Said.{quiet}
+use Rattle.tcc_serial.proofs.OneCore.Outcomes.{Commits_now, Did, each-exec, out, each-evict, emptied}
 
 -- no probe is sent, and a TID that the core has then it had before, owed the same replies
 pub record Unprobed (s : CoreState) (o : Out) : Type 0 where
@@ -67,18 +68,12 @@ none-marks sh c u e t = among-flat_map_none (Probes t) (λ l. Mark l (modified_m
 
 pub none-to : (t h d : ℕ) (ms : List Msg) → among (Probes t) ms ≡ 0 → among (Probes t) (to (Dir h) ms (Dir d)) ≡ 0
 unfolding among
-none-to t h d ms e = go (d == h)
-  where
-    go : (b : Bool) → among (Probes t) (if b then ms else []) ≡ 0
-    go true = e
-    go false = refl
+none-to t h d ms e = grind (arith, nat_tests)
 
 pub tid-after : (e : Outcome) (t : ℕ) → has_tid (phase_after e) t ≡ false
 unfolding has_tid
 tid-after Goes t = refl
-tid-after Ended t = refl
-tid-after (HaltedWith k) t = refl
-tid-after (TrappedWith k) t = refl
+tid-after _ t = refl
 
 unprobed-executed : (sh : Shape) (c : ℕ) (s : CoreState) (o : Out) → Executed sh c s o → Unprobed s o
 unfolding among has_tid
@@ -88,33 +83,15 @@ unprobed-executed sh c s o (Asks_tid r ph ow cm ve di) = unprobed-none s o Await
 unprobed-executed sh c s o (Alone u r q ph ow cm se) = unprobed-none s o (phase_after r.ended) ph (tid-after r.ended) (λ d t. rw se (none-solo sh s.cache s.spilled u d t))
 
 pub unprobed-exec : (sh : Shape) (p : Program) (c : ℕ) (s : CoreState) → IfSome (core_exec sh p c s) (λ o. Unprobed s o)
-unfolding core_exec commit committed_core
-unprobed-exec sh p c s = go s.phase refl
+unfolding commit committed_core
+unprobed-exec sh p c s = each-exec sh p c s (λ o. Unprobed s o) go
   where
-    weaken : (x : Option Out) → IfSome x (λ o. Executed sh c s o) → IfSome x (λ o. Unprobed s o)
-    weaken None h = tt
-    weaken (Some o) h = unprobed-executed sh c s o h
-
-    awaiting : (a : Option Awaited) → Acts s.phase → IfSome (unless_awaiting sh p c s a) (λ o. Unprobed s o)
-    awaiting (Some x) a = tt
-    awaiting None a = weaken _ (executed sh p c s a)
-
-    go : (q : Phase) → s.phase ≡ q → IfSome (exec_phase sh p c s q) (λ o. Unprobed s o)
-    go Running e = awaiting s.awaited (rw e tt)
-    go (Solo u) e = awaiting s.awaited (rw e tt)
-    go (Ready u) e = unprobed-none s (commit sh c u s) (phase_after s.ended) refl (tid-after s.ended) (λ d t. none-commit sh s.cache u d t)
-    go AwaitTid e = tt
-    go DoomedTid e = tt
-    go (Probing u) e = tt
-    go (Overflowing u) e = tt
-    go Halted e = tt
+    go : (x : Did sh p c s) → Unprobed s (out x)
+    go (Commits_now u e) = unprobed-none s (commit sh c u s) (phase_after s.ended) refl (tid-after s.ended) (λ d t. none-commit sh s.cache u d t)
+    go x = unprobed-executed sh c s (out x) (did-executed x)
 
 pub unprobed-evict : (sh : Shape) (x y : ℕ) (s : CoreState) → IfSome (core_evict sh x y s) (λ o. Unprobed s o)
-unprobed-evict sh x y s = go (core_evict sh x y s) (evict-steady sh x y s)
-  where
-    go : (a : Option Out) → IfSome a (λ o. Steady s o) → IfSome a (λ o. Unprobed s o)
-    go None h = tt
-    go (Some o) h = unprobed-steady s o h
+unprobed-evict sh x y s = each-evict sh x y s (λ o. Unprobed s o) (λ k q u z. unprobed-steady s (emptied sh x y k s) (steady-emptied sh x y s k q u z))
 
 pub unprobed-hurt : (sh : Shape) (l : ℕ) (s : CoreState) (o : Out) → Invalidated sh l s o → Unprobed s o
 unfolding has_tid among passes

@@ -1,17 +1,16 @@
 -- What a core's rules do to its requests for a TID.
-use Rattle.tcc_serial.proofs.Names.{ℕ, ◌+◌, ◌≡◌, Bool, true, false, Option, Some, None, IfSome, if◌then◌else◌, refl, inl, inr, Program}
-use Rattle.tcc_serial.proofs.Names.{Outcome, Goes, Ended, HaltedWith, TrappedWith, put, num, any_below, Vendor, Msg, TidReq, TidGrant}
-use Rattle.tcc_serial.proofs.Names.{LoadReq, Fill, Skip, Probe, ProbeReply, Mark, Commit, Abort, WriteBack, Flush, DataReq, Inv, InvAck}
-use Rattle.tcc_serial.proofs.Names.{Shape, CoreState, Awaited, Phase, Running, AwaitTid, DoomedTid, Probing, Ready, Overflowing, Solo}
-use Rattle.tcc_serial.proofs.Names.{Halted, skip_all, probe_all, Out, commit, committed_core, commit_sends, phase_after, solo_sends}
-use Rattle.tcc_serial.proofs.Names.{core_exec, exec_phase, unless_awaiting, core_evict, grant, grant_phase, grant_sends, from_dir, probing}
-use Rattle.tcc_serial.proofs.Names.{is_probed, probe_reply, ignored, all_replied, fill, data_request, invalidate, among, passes}
-use Rattle.tcc_serial.proofs.Names.{waits_for_tid}
+use Rattle.tcc_serial.proofs.Names.{ℕ, ◌+◌, ◌≡◌, Bool, true, false, Some, None, IfSome, if◌then◌else◌, refl, inl, inr, Program, Outcome}
+use Rattle.tcc_serial.proofs.Names.{Goes, put, num, any_below, Vendor, Msg, Fill, ProbeReply, DataReq, Inv, Shape, CoreState, Phase}
+use Rattle.tcc_serial.proofs.Names.{Running, AwaitTid, DoomedTid, Probing, Ready, Overflowing, Solo, Halted, skip_all, probe_all, Out}
+use Rattle.tcc_serial.proofs.Names.{commit, committed_core, commit_sends, phase_after, solo_sends, core_exec, core_evict, grant}
+use Rattle.tcc_serial.proofs.Names.{grant_phase, grant_sends, from_dir, probing, is_probed, probe_reply, ignored, all_replied, fill}
+use Rattle.tcc_serial.proofs.Names.{data_request, invalidate, among, passes, waits_for_tid}
 use Rattle.tcc_serial.specs.Count.{Asks}
-use Rattle.tcc_serial.proofs.OneCore.Executes.{Acts, Steady, Executed, Goes_on, Overflows, Asks_tid, Alone, executed}
-use Rattle.tcc_serial.proofs.OneCore.CoreSteps.{evict-steady, ignored-steady, fill-steady, data-steady, Hurt, Unhurt, Rolled, Doomed}
-use Rattle.tcc_serial.proofs.OneCore.CoreSteps.{Aborted, Gave_up, Invalidated, invalidate-cases, Replied, Ignored, Probed, Left_alone}
-use Rattle.tcc_serial.proofs.OneCore.CoreSteps.{reply-cases}
+use Rattle.tcc_serial.proofs.OneCore.Executes.{Steady, Executed, Goes_on, Overflows, Asks_tid, Alone, did-executed}
+use Rattle.tcc_serial.proofs.OneCore.CoreSteps.{ignored-steady, fill-steady, data-steady, Hurt, Unhurt, Rolled, Doomed, Aborted, Gave_up}
+use Rattle.tcc_serial.proofs.OneCore.CoreSteps.{Invalidated, invalidate-cases, Replied, Ignored, Probed, Left_alone, reply-cases}
+use Rattle.tcc_serial.proofs.OneCore.CoreSteps.{steady-emptied}
+use Rattle.tcc_serial.proofs.OneCore.Outcomes.{Commits_now, Did, each-exec, out, each-evict, emptied}
 
 -- a core's step with `got` grants taken keeps its requests
 abbrev pub KeepsRequests : (got : ℕ) → CoreState → Out → Type 0
@@ -20,9 +19,7 @@ KeepsRequests got s o = num (waits_for_tid s.phase) + among Asks (o.sends Vendor
 waits-after : (e : Outcome) → waits_for_tid (phase_after e) ≡ false
 unfolding waits_for_tid
 waits-after Goes = refl
-waits-after Ended = refl
-waits-after (HaltedWith k) = refl
-waits-after (TrappedWith k) = refl
+waits-after _ = refl
 
 requests-steady : (s : CoreState) (o : Out) → Steady s o → KeepsRequests 0 s o
 unfolding among
@@ -36,33 +33,15 @@ requests-executed sh c s o (Asks_tid r ph ow cm ve di) = rw (r, ph, ve) refl
 requests-executed sh c s o (Alone u r q ph ow cm se) = rw (q, ph, se) (rw (waits-after r.ended) refl)
 
 pub requests-exec : (sh : Shape) (p : Program) (c : ℕ) (s : CoreState) → IfSome (core_exec sh p c s) (λ o. KeepsRequests 0 s o)
-unfolding core_exec waits_for_tid commit committed_core commit_sends among
-requests-exec sh p c s = go s.phase refl
+unfolding waits_for_tid commit committed_core commit_sends among
+requests-exec sh p c s = each-exec sh p c s (λ o. KeepsRequests 0 s o) go
   where
-    weaken : (x : Option Out) → IfSome x (λ o. Executed sh c s o) → IfSome x (λ o. KeepsRequests 0 s o)
-    weaken None h = tt
-    weaken (Some o) h = requests-executed sh c s o h
-
-    awaiting : (a : Option Awaited) → Acts s.phase → IfSome (unless_awaiting sh p c s a) (λ o. KeepsRequests 0 s o)
-    awaiting (Some x) a = tt
-    awaiting None a = weaken _ (executed sh p c s a)
-
-    go : (q : Phase) → s.phase ≡ q → IfSome (exec_phase sh p c s q) (λ o. KeepsRequests 0 s o)
-    go Running e = awaiting s.awaited (rw e tt)
-    go (Solo u) e = awaiting s.awaited (rw e tt)
-    go (Ready u) e = rw (e, waits-after s.ended) refl
-    go AwaitTid e = tt
-    go DoomedTid e = tt
-    go (Probing u) e = tt
-    go (Overflowing u) e = tt
-    go Halted e = tt
+    go : (x : Did sh p c s) → KeepsRequests 0 s (out x)
+    go (Commits_now u e) = rw (e, waits-after s.ended) refl
+    go x = requests-executed sh c s (out x) (did-executed x)
 
 pub requests-evict : (sh : Shape) (x y : ℕ) (s : CoreState) → IfSome (core_evict sh x y s) (λ o. KeepsRequests 0 s o)
-requests-evict sh x y s = go (core_evict sh x y s) (evict-steady sh x y s)
-  where
-    go : (a : Option Out) → IfSome a (λ o. Steady s o) → IfSome a (λ o. KeepsRequests 0 s o)
-    go None h = tt
-    go (Some o) h = requests-steady s o h
+requests-evict sh x y s = each-evict sh x y s (λ o. KeepsRequests 0 s o) (λ k q u z. requests-steady s (emptied sh x y k s) (steady-emptied sh x y s k q u z))
 
 waits-probing : (b : Bool) (u : ℕ) → waits_for_tid (probing b u) ≡ false
 unfolding waits_for_tid
@@ -117,14 +96,4 @@ requests-back sh e s (ProbeReply u v) = requests-replied sh e u s (probe_reply s
 requests-back sh e s (Fill l ws) = requests-steady s (fill l ws s) (fill-steady l ws s)
 requests-back sh e s (DataReq l) = requests-steady s (data_request sh l s) (data-steady sh l s)
 requests-back sh e s (Inv l m u) = requests-hurt sh l s (invalidate sh l m u s) (invalidate-cases sh l m u s)
-requests-back sh e s TidReq = tt
-requests-back sh e s (TidGrant u) = tt
-requests-back sh e s (LoadReq l a) = tt
-requests-back sh e s (Skip u) = tt
-requests-back sh e s (Probe u) = tt
-requests-back sh e s (Mark l m u) = tt
-requests-back sh e s (Commit u n) = tt
-requests-back sh e s (Abort u) = tt
-requests-back sh e s (WriteBack l m ws u) = tt
-requests-back sh e s (Flush l m ws u) = tt
-requests-back sh e s (InvAck l b) = tt
+requests-back sh e s _ = tt

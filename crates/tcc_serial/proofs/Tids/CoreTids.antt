@@ -1,18 +1,18 @@
 -- What a core's rules do to its part of a TID.
-use Rattle.tcc_serial.proofs.Names.{ℕ, ◌+◌, ◌≡◌, ◌<◌, Bool, true, false, List, [], ◌∷◌, ◌==◌, ◌&&◌, Option, Some, None, IfSome}
-use Rattle.tcc_serial.proofs.Names.{if◌then◌else◌, arith, refl, ap, ◌⊎◌, inl, inr, nat_tests, Program, Outcome, Goes, Ended, HaltedWith}
-use Rattle.tcc_serial.proofs.Names.{TrappedWith, num, any_below, Dir, Msg, TidReq, TidGrant, LoadReq, Fill, Skip, Probe, ProbeReply, Mark}
-use Rattle.tcc_serial.proofs.Names.{Commit, Abort, WriteBack, Flush, DataReq, Inv, InvAck, Shape, home, writes_at, read_cleared, CoreState}
-use Rattle.tcc_serial.proofs.Names.{Awaited, Phase, Running, AwaitTid, DoomedTid, Probing, Ready, Overflowing, Solo, Halted, Sends, nothing}
-use Rattle.tcc_serial.proofs.Names.{to, marks_for, Out, moves, commit, committed_core, phase_after, core_exec, exec_phase, unless_awaiting}
-use Rattle.tcc_serial.proofs.Names.{core_evict, grant, grant_phase, from_dir, probing, is_probed, probe_reply, reply_phase, ignored}
-use Rattle.tcc_serial.proofs.Names.{replied, all_replied, when_ready, when_alone, fill, data_request, invalidate, Resolves, among, passes}
-use Rattle.tcc_serial.proofs.Names.{opens, waits_for_tid}
+use Rattle.tcc_serial.proofs.Names.{ℕ, ◌+◌, ◌≡◌, ◌<◌, Bool, true, false, List, [], ◌∷◌, ◌==◌, ◌&&◌, Some, None, IfSome, if◌then◌else◌}
+use Rattle.tcc_serial.proofs.Names.{arith, refl, ap, ◌⊎◌, inl, inr, nat_tests, Program, Outcome, Goes, num, any_below, Dir, Msg, Fill}
+use Rattle.tcc_serial.proofs.Names.{ProbeReply, DataReq, Inv, InvAck, Shape, home, writes_at, read_cleared, CoreState, Phase, Running}
+use Rattle.tcc_serial.proofs.Names.{AwaitTid, DoomedTid, Probing, Ready, Overflowing, Solo, Halted, Sends, nothing, to, marks_for, Out}
+use Rattle.tcc_serial.proofs.Names.{moves, commit, committed_core, phase_after, core_exec, core_evict, grant, grant_phase, from_dir}
+use Rattle.tcc_serial.proofs.Names.{probing, is_probed, probe_reply, reply_phase, ignored, replied, all_replied, when_ready, when_alone}
+use Rattle.tcc_serial.proofs.Names.{fill, data_request, invalidate, Resolves, among, passes, opens, waits_for_tid, kept}
 use Rattle.tcc_serial.proofs.Counts.Links.{among-append, resolves-commit_sends, resolves-abort_written, resolves-skip_all}
 use Rattle.tcc_serial.proofs.Counts.Links.{resolves-probe_all, resolves-grant_sends, resolves-marks_for, resolves-solo_sends, among-quiet}
-use Rattle.tcc_serial.proofs.OneCore.CoreSteps.{writes_at-same, evict-steady, ignored-steady, fill-steady, data-steady, Hurt, Unhurt}
-use Rattle.tcc_serial.proofs.OneCore.CoreSteps.{Rolled, Doomed, Aborted, Gave_up, Invalidated, invalidate-cases}
-use Rattle.tcc_serial.proofs.OneCore.Executes.{Acts, Steady, Executed, Goes_on, Overflows, Asks_tid, Alone, executed}
+use Rattle.tcc_serial.proofs.OneCore.Executes.{Steady, Executed, Goes_on, Overflows, Asks_tid, Alone, did-executed}
+use Rattle.tcc_serial.proofs.OneCore.CoreSteps.{ignored-steady, fill-steady, data-steady, Hurt, Unhurt, Rolled, Doomed, Aborted, Gave_up}
+use Rattle.tcc_serial.proofs.OneCore.CoreSteps.{Invalidated, invalidate-cases, steady-emptied}
+use Rattle.tcc_serial.proofs.OneCore.Said.{quiet}
+use Rattle.tcc_serial.proofs.OneCore.Outcomes.{Acts, Commits_now, Did, each-exec, out, each-evict, emptied, writes_at-same}
 
 -- a core's step with `got` of the TID taken from the vendor's link keeps its part of it
 abbrev pub KeepsPart : Shape → (dir tid got : ℕ) → CoreState → Out → Type 0
@@ -34,19 +34,12 @@ opens-acts Halted a b t (inr h) e = refl
 acts : (q : Phase) → (Acts q → ⊥) ⊎ Acts q
 acts Running = inr tt
 acts (Solo u) = inr tt
-acts AwaitTid = inl (λ h. h)
-acts DoomedTid = inl (λ h. h)
-acts (Probing u) = inl (λ h. h)
-acts (Ready u) = inl (λ h. h)
-acts (Overflowing u) = inl (λ h. h)
-acts Halted = inl (λ h. h)
+acts _ = inl (λ h. h)
 
 opens-after : (e : Outcome) (a : Bool) (t : ℕ) → opens (phase_after e) a t ≡ false
 unfolding opens
 opens-after Goes a t = refl
-opens-after Ended a t = refl
-opens-after (HaltedWith k) a t = refl
-opens-after (TrappedWith k) a t = refl
+opens-after _ a t = refl
 
 part-steady : (sh : Shape) (d t : ℕ) (s : CoreState) (o : Out) → Steady s o → KeepsPart sh d t 0 s o
 part-steady sh d t s o y = rw (y.phase, opens-acts s.phase (writes_at sh o.core.cache d) (writes_at sh s.cache d) t (acts s.phase) (λ h. writes_at-same sh o.core.cache s.cache d (y.modified h))) (omega (arith, among-quiet t (o.sends (Dir d)), y.quiet d))
@@ -63,33 +56,14 @@ unfolding opens commit committed_core
 part-committed sh id u d t s l e = rw e (rw (opens-after s.ended _ t) (omega (arith, resolves-commit_sends sh s.cache u d t l)))
 
 pub part-exec : (sh : Shape) (p : Program) (c d t : ℕ) (s : CoreState) → d < sh.dirs → IfSome (core_exec sh p c s) (λ o. KeepsPart sh d t 0 s o)
-unfolding core_exec
-part-exec sh p c d t s l = go s.phase refl
+part-exec sh p c d t s l = each-exec sh p c s (λ o. KeepsPart sh d t 0 s o) go
   where
-    weaken : (x : Option Out) → IfSome x (λ o. Executed sh c s o) → IfSome x (λ o. KeepsPart sh d t 0 s o)
-    weaken None h = tt
-    weaken (Some o) h = part-executed sh c d t s o l h
-
-    awaiting : (a : Option Awaited) → Acts s.phase → IfSome (unless_awaiting sh p c s a) (λ o. KeepsPart sh d t 0 s o)
-    awaiting (Some x) a = tt
-    awaiting None a = weaken _ (executed sh p c s a)
-
-    go : (q : Phase) → s.phase ≡ q → IfSome (exec_phase sh p c s q) (λ o. KeepsPart sh d t 0 s o)
-    go Running e = awaiting s.awaited (rw e tt)
-    go (Solo u) e = awaiting s.awaited (rw e tt)
-    go (Ready u) e = part-committed sh c u d t s l e
-    go AwaitTid e = tt
-    go DoomedTid e = tt
-    go (Probing u) e = tt
-    go (Overflowing u) e = tt
-    go Halted e = tt
+    go : (x : Did sh p c s) → KeepsPart sh d t 0 s (out x)
+    go (Commits_now u e) = part-committed sh c u d t s l e
+    go x = part-executed sh c d t s (out x) l (did-executed x)
 
 pub part-evict : (sh : Shape) (x y d t : ℕ) (s : CoreState) → IfSome (core_evict sh x y s) (λ o. KeepsPart sh d t 0 s o)
-part-evict sh x y d t s = go (core_evict sh x y s) (evict-steady sh x y s)
-  where
-    go : (a : Option Out) → IfSome a (λ o. Steady s o) → IfSome a (λ o. KeepsPart sh d t 0 s o)
-    go None h = tt
-    go (Some o) h = part-steady sh d t s o h
+part-evict sh x y d t s = each-evict sh x y s (λ o. KeepsPart sh d t 0 s o) (λ k q u z. part-steady sh d t s (emptied sh x y k s) (steady-emptied sh x y s k q u z))
 
 opens-probing : (b : Bool) (u : ℕ) (w : Bool) (t : ℕ) → opens (probing b u) w t ≡ ((u == t) && w)
 unfolding opens
@@ -115,11 +89,7 @@ part-grant sh u d t s l w = go s.phase refl w
 
 resolves-to : (t h d : ℕ) (ms : List Msg) → among (Resolves t) ms ≡ 0 → among (Resolves t) (to (Dir h) ms (Dir d)) ≡ 0
 unfolding among
-resolves-to t h d ms e = go (d == h)
-  where
-    go : (b : Bool) → among (Resolves t) (if b then ms else []) ≡ 0
-    go true = e
-    go false = refl
+resolves-to t h d ms e = grind (arith, nat_tests)
 
 part-reply : (sh : Shape) (e u d t : ℕ) (s : CoreState) → KeepsPart sh d t 0 s (probe_reply sh e u s)
 unfolding probe_reply opens among
@@ -180,14 +150,4 @@ part-back sh e d t s (ProbeReply u v) h = part-reply sh e u d t s
 part-back sh e d t s (Fill l ws) h = part-steady sh d t s (fill l ws s) (fill-steady l ws s)
 part-back sh e d t s (DataReq l) h = part-steady sh d t s (data_request sh l s) (data-steady sh l s)
 part-back sh e d t s (Inv l m u) h = part-invalidated sh l d t s (invalidate sh l m u s) h (invalidate-cases sh l m u s)
-part-back sh e d t s TidReq h = tt
-part-back sh e d t s (TidGrant u) h = tt
-part-back sh e d t s (LoadReq l a) h = tt
-part-back sh e d t s (Skip u) h = tt
-part-back sh e d t s (Probe u) h = tt
-part-back sh e d t s (Mark l m u) h = tt
-part-back sh e d t s (Commit u n) h = tt
-part-back sh e d t s (Abort u) h = tt
-part-back sh e d t s (WriteBack l m ws u) h = tt
-part-back sh e d t s (Flush l m ws u) h = tt
-part-back sh e d t s (InvAck l b) h = tt
+part-back sh e d t s _ h = tt

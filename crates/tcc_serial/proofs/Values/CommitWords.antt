@@ -1,19 +1,16 @@
 -- What a commit does to one word: where it didn't store it nothing; where it did, the frame's word is dirty with the commit's TID, or
 -- the spilled word is sent with it, as they were.
-use Rattle.tcc_serial.proofs.Names.{ℕ, ◌≡◌, ◌==◌, ◌&&◌, ◌||◌, ◌++◌, Bool, true, false, not, [], ◌∷◌, Option, Some, None, IfSome, is_some}
-use Rattle.tcc_serial.proofs.Names.{unwrap_or, get_or, nat_lt, if◌then◌else◌, flat_map, arith, refl, ap, sym, ◌∙◌, nat_tests, Noted, Byte}
-use Rattle.tcc_serial.proofs.Names.{Half, Word, Program, Need, Nothing, Loads, Stores, Changes, Prints, Ends, Halts, Traps, word_of}
-use Rattle.tcc_serial.proofs.Names.{line_of, place_of, word_at, those, count_below, has, hit, Dir, Skip, Mark, Commit, WriteBack, Shape}
-use Rattle.tcc_serial.proofs.Names.{home, lines, Cache, IsCache, committed, words_dropped, Spilled, holds, spilled_mask, spilled_words}
-use Rattle.tcc_serial.proofs.Names.{has-mask_of, CoreState, Awaited, Phase, Running, AwaitTid, DoomedTid, Probing, Ready, Overflowing, Solo}
-use Rattle.tcc_serial.proofs.Names.{Halted, nothing, Out, moves, finished, stepped, is_solo, noted, committed_core, commit, solo_commit}
-use Rattle.tcc_serial.proofs.Names.{solo_sends, solo_marks, solo_backs, solo_writes_at, is_written, written_mask, core_exec, exec_phase}
-use Rattle.tcc_serial.proofs.Names.{unless_awaiting, load, word_store, partial_store, close, execute_need, execute, Kind, CopyWord, CopyNot}
-use Rattle.tcc_serial.proofs.Names.{among, passes}
+use Rattle.tcc_serial.proofs.Names.{solo_commit, ℕ, ◌≡◌, ◌==◌, ◌&&◌, ◌||◌, ◌++◌, Bool, true, false, not, [], ◌∷◌, Option, Some, None}
+use Rattle.tcc_serial.proofs.Names.{IfSome, is_some, unwrap_or, get_or, nat_lt, if◌then◌else◌, flat_map, arith, refl, ap, sym, ◌∙◌}
+use Rattle.tcc_serial.proofs.Names.{nat_tests, Noted, Program, line_of, place_of, word_at, those, count_below, has, hit, Dir, Skip, Mark}
+use Rattle.tcc_serial.proofs.Names.{Commit, WriteBack, Shape, home, lines, Cache, IsCache, committed, words_dropped, Spilled, holds}
+use Rattle.tcc_serial.proofs.Names.{spilled_mask, spilled_words, has-mask_of, CoreState, Out, is_solo, noted, committed_core, commit}
+use Rattle.tcc_serial.proofs.Names.{solo_sends, solo_marks, solo_backs, solo_writes_at, is_written, written_mask, core_exec, Kind}
+use Rattle.tcc_serial.proofs.Names.{CopyWord, CopyNot, among, passes, framed, mark, skip}
 use Rattle.tcc_serial.proofs.Copies.CopySends.{commit-copies}
 use Rattle.tcc_serial.proofs.Counts.Links.{among-append, among-flat_map_none}
-use Rattle.tcc_serial.proofs.Values.CoreWords.{Quietly, loaded, partly, wholly}
 use Rattle.tcc_serial.proofs.Values.WordCopies.{among-words, among-others, at-place, get-eight}
+use Rattle.tcc_serial.proofs.OneCore.Outcomes.{Commits_now, Did, Ends_alone, after_end, each-exec, out}
 
 pub record CommitsWord (sh : Shape) (x t : ℕ) (c : Cache) (sp : Spilled) (o : Out) : Type 0 where
   pub left : c.modified x ≡ false → sp x ≡ None → (o.core.cache.dirty x ≡ c.dirty x) × ((o.core.cache.value x ≡ c.value x) × ((u d : ℕ) → among (CopyWord x u) (o.sends (Dir d)) ≡ 0))
@@ -115,53 +112,16 @@ CommitsWords sh s o = (n : Noted) → o.commit ≡ Some n → (x : ℕ) → Comm
 none-noted : (sh : Shape) (s : CoreState) (o : Out) → o.commit ≡ None → CommitsWords sh s o
 none-noted sh s o e n q x = absurd (let z = sym e ∙ q in cc)
 
-quiet-noted : (sh : Shape) (s : CoreState) (a : Option Out) → IfSome a (Quietly sh s) → IfSome a (CommitsWords sh s)
-quiet-noted sh s None h = tt
-quiet-noted sh s (Some o) h = none-noted sh s o h.0
-
 -- the TID of what is noted
 noted-tid : (t id : ℕ) (r : CoreState) (n : Noted) → Some (noted t id r) ≡ Some n → t ≡ n.tid.0
 unfolding noted
 noted-tid t id r n e = let y : noted t id r ≡ n = cc in ap (λ z. z.tid.0) y
 
-solo-words : (sh : Shape) (id t : ℕ) (s r : CoreState) → r.cache ≡ s.cache → r.spilled ≡ s.spilled → CommitsWords sh s (solo_commit sh id t r)
-unfolding solo_commit
-solo-words sh id t s r e f n q x = rw (sym (noted-tid t id r n q), sym e, sym f) (solo-word sh x id t r)
-
-closed-words : (sh : Shape) (id : ℕ) (q : Phase) (s r : CoreState) → r.cache ≡ s.cache → r.spilled ≡ s.spilled → CommitsWords sh s (close sh id q r)
-closed-words sh id (Solo t) s r e f = solo-words sh id t s r e f
-closed-words sh id x s r e f = none-noted sh s (close sh id x r) refl
-
-executed-words : (sh : Shape) (p : Program) (id : ℕ) (s : CoreState) → IsCache sh s.cache → IfSome (execute sh p id s) (CommitsWords sh s)
-unfolding execute finished stepped
-executed-words sh p id s h = go (p.need s.local)
-  where
-    go : (x : Need) → IfSome (execute_need sh p id s x) (CommitsWords sh s)
-    go Nothing = none-noted sh s (moves (finished p Nothing 0 s) nothing) refl
-    go (Prints b) = none-noted sh s (moves (finished p (Prints b) 0 s) nothing) refl
-    go (Loads a z) = quiet-noted sh s (load sh p (Loads a z) (word_of sh.base a) s) (loaded sh p (word_of sh.base a) (Loads a z) s)
-    go (Stores a Byte v) = quiet-noted sh s (partial_store sh p (Stores a Byte v) (word_of sh.base a) s) (partly sh p (word_of sh.base a) (Stores a Byte v) s h)
-    go (Stores a Half v) = quiet-noted sh s (partial_store sh p (Stores a Half v) (word_of sh.base a) s) (partly sh p (word_of sh.base a) (Stores a Half v) s h)
-    go (Stores a Word v) = quiet-noted sh s (word_store sh p (Stores a Word v) (word_of sh.base a) v s) (wholly sh p (word_of sh.base a) v (Stores a Word v) s h)
-    go (Changes a f) = quiet-noted sh s (partial_store sh p (Changes a f) (word_of sh.base a) s) (partly sh p (word_of sh.base a) (Changes a f) s h)
-    go Ends = closed-words sh id s.phase s (finished p Ends 0 s) refl refl
-    go (Halts k) = closed-words sh id s.phase s (finished p (Halts k) 0 s) refl refl
-    go (Traps k) = closed-words sh id s.phase s (finished p (Traps k) 0 s) refl refl
-
 pub commits-exec : (sh : Shape) (p : Program) (id : ℕ) (s : CoreState) → IsCache sh s.cache → (is_solo s.phase ≡ false → (x : ℕ) → s.spilled x ≡ None) → IfSome (core_exec sh p id s) (CommitsWords sh s)
-unfolding core_exec commit
-commits-exec sh p id s h f = go s.phase refl
+unfolding commit solo_commit
+commits-exec sh p id s h f = each-exec sh p id s (CommitsWords sh s) go
   where
-    acts : (a : Option Awaited) → IfSome (unless_awaiting sh p id s a) (CommitsWords sh s)
-    acts None = executed-words sh p id s h
-    acts (Some a) = tt
-
-    go : (q : Phase) → s.phase ≡ q → IfSome (exec_phase sh p id s q) (CommitsWords sh s)
-    go Running e = acts s.awaited
-    go (Solo t) e = acts s.awaited
-    go (Ready t) e = λ n q x. rw (sym (noted-tid t id s n q)) (ready-word sh x id t s (f (rw e refl) x))
-    go AwaitTid e = tt
-    go DoomedTid e = tt
-    go (Probing t) e = tt
-    go (Overflowing t) e = tt
-    go Halted e = tt
+    go : (x : Did sh p id s) → CommitsWords sh s (out x)
+    go (Ends_alone t l e g r i) = λ n q x. let z = solo-word sh x id t (after_end s l e) in rw (sym (noted-tid t id (after_end s l e) n q)) (record { left = z.left; framed = z.framed; sent = z.sent; right = z.right })
+    go (Commits_now t e) = λ n q x. rw (sym (noted-tid t id s n q)) (ready-word sh x id t s (f (rw e refl) x))
+    go x = none-noted sh s (out x) refl

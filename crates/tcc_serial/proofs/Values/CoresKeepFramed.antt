@@ -1,14 +1,14 @@
--- A core's events and the words in its frames and in the Fills to it: what fades keeps its value, an invalidation takes its words, and
+-- A core's events and the words in its frames and in the Filled to it: what fades keeps its value, an invalidation takes its words, and
 -- a Fill brings what was on its way.
 use Rattle.tcc_serial.proofs.Names.{ℕ, ◌≡◌, ◌≤◌, ◌⊎◌, Bool, true, false, not, ◌==◌, ◌&&◌, ◌||◌, List, Option, Some, None, set, get_or}
 use Rattle.tcc_serial.proofs.Names.{arith, refl, sym, ◌∙◌, inl, inr, nat_tests, num, line_of, place_of, hit, Msg, Fill, Inv, Shape, home}
 use Rattle.tcc_serial.proofs.Names.{Awaited, Out, staled, is_awaited, LoadingOf, FillOf, FillNot, InvWord, live, passes, Pair, after_move}
-use Rattle.tcc_serial.proofs.Names.{back_taken, is_stale, hit-line}
+use Rattle.tcc_serial.proofs.Names.{back_taken, is_stale, hit-line, filled, framed, kept, rests}
 use Rattle.tcc_serial.proofs.Counts.Links.{live-takes}
 use Rattle.tcc_serial.proofs.Tids.TidSteps.{live-some}
 use Rattle.tcc_serial.proofs.Values.FramedWords.{HeldOf, few-not}
 use Rattle.tcc_serial.proofs.Values.FramedCores.{Fading}
-use Rattle.tcc_serial.proofs.Values.FramedBacks.{Invalidates, Fills}
+use Rattle.tcc_serial.proofs.Values.FramedBacks.{Invalidates, Filled}
 
 -- the frames fade, and the link from the home stays
 pub held-fades : (x y : ℕ) (v w : Pair) → w.back ≡ v.back → Fading v.core w.core → HeldOf x y v → HeldOf x y w
@@ -41,11 +41,7 @@ no-fill sh d l v a h = let z : num (is_awaited v.core.awaited l && home sh l == 
 
 stale-other : (l : ℕ) (a : Option Awaited) → is_stale (staled l a) ≡ false → is_awaited a l ≡ false
 stale-other l None h = refl
-stale-other l (Some a) h = go (a.line == l) h
-  where
-    go : (b : Bool) → (b || a.stale) ≡ false → b ≡ false
-    go true q = absurd (cc)
-    go false q = refl
+stale-other l (Some a) h = grind (arith, nat_tests)
 
 -- an invalidation is taken
 
@@ -67,16 +63,12 @@ held-invalid sh d x y k l m u v o i f loading h = go (hit l m x) refl
 
 filled-is : (x y z l : ℕ) (ws : List ℕ) → num (passes (FillNot x y) (Fill l ws)) ≡ 0 → (l == line_of x) ≡ true → get_or ws (place_of x) 0 ≡ z → z ≡ y
 unfolding passes
-filled-is x y z l ws n e g = go (get_or ws (place_of x) 0 == y) refl
-  where
-    go : (b : Bool) → (get_or ws (place_of x) 0 == y) ≡ b → z ≡ y
-    go true q = let r : get_or ws (place_of x) 0 ≡ y = grind (arith, nat_tests) in sym g ∙ r
-    go false q = absurd (let o : num ((l == line_of x) && not (get_or ws (place_of x) 0 == y)) ≡ 1 = rw (e, q) refl in omega (arith, n, o))
+filled-is x y z l ws n e g = grind (arith, nat_tests)
 
 awaits-other : (l x : ℕ) (a : Awaited) (b : Option Awaited) → b ≡ Some a → (a.line == l) ≡ true → (l == line_of x) ≡ false → is_awaited b (line_of x) ≡ false
 awaits-other l x a b e g n = rw e (grind (arith, nat_tests))
 
-pub held-filled : (sh : Shape) (d x y k l : ℕ) (ws : List ℕ) (v : Pair) (o : Out) → get_or v.back k None ≡ Some (Fill l ws) → Fills l ws v.core o → LoadingOf sh d (line_of x) v → HeldOf x y v → HeldOf x y (after_move (back_taken v k) o d)
+pub held-filled : (sh : Shape) (d x y k l : ℕ) (ws : List ℕ) (v : Pair) (o : Out) → get_or v.back k None ≡ Some (Fill l ws) → Filled l ws v.core o → LoadingOf sh d (line_of x) v → HeldOf x y v → HeldOf x y (after_move (back_taken v k) o d)
 unfolding passes
 held-filled sh d x y k l ws v o i f loading h = record { framed = λ z p q. framed z (f.words x z p q); filled = λ p. filled p f.rested }
   where
@@ -112,7 +104,7 @@ held-filled sh d x y k l ws v o i f loading h = record { framed = λ z p q. fram
     filled p (inr e) = less (h.filled (rw e at p))
 
 -- a Fill of another directory is taken
-pub held-elsewhere : (sh : Shape) (d x y l : ℕ) (ws : List ℕ) (v : Pair) (o : Out) → (l == line_of x) ≡ false → Fills l ws v.core o → LoadingOf sh d (line_of x) v → HeldOf x y v → HeldOf x y (after_move v o d)
+pub held-elsewhere : (sh : Shape) (d x y l : ℕ) (ws : List ℕ) (v : Pair) (o : Out) → (l == line_of x) ≡ false → Filled l ws v.core o → LoadingOf sh d (line_of x) v → HeldOf x y v → HeldOf x y (after_move v o d)
 held-elsewhere sh d x y l ws v o n f loading h = record { framed = λ z p q. framed z (f.words x z p q); filled = λ p. filled p f.rested }
   where
     framed : (z : ℕ) → ((v.core.cache.value x ≡ Some z) × (v.core.cache.modified x ≡ false)) ⊎ ((l == line_of x ≡ true) × (get_or ws (place_of x) 0 ≡ z) × (is_stale v.core.awaited ≡ false)) → (z ≡ y) ⊎ (1 ≤ live (InvWord x) v.back)

@@ -9,6 +9,7 @@ use Rattle.tcc_serial.proofs.Names.{core_moves, core_takes, Uses, sees, Suits, L
 use Rattle.tcc_serial.proofs.Names.{Carried, Invariants, executes, Grant, granted_by, Pair, pair, after_move, back_taken, grant_taken}
 use Rattle.tcc_serial.proofs.Names.{after_grant, after_other_grant, is_applied, CommitsStand, stores_word, after_stores, counts, value_at}
 use Rattle.tcc_serial.proofs.Names.{UnmodifiedWords, FilledWords, Ways, ways_after, sent_by}
+use Rattle.tcc_serial.specs.KeepsWords.{EventsKeepWords}
 use Rattle.tcc_serial.proofs.Counts.StepCases.{either, moves-own, moves-other, pairs_move, pairs_grant, pairs_back, pairs_vendor, OfAnswer}
 use Rattle.tcc_serial.proofs.Counts.StepCases.{node_cases}
 use Rattle.tcc_serial.proofs.Lines.LoadsKept.{dir-fills}
@@ -21,7 +22,6 @@ use Rattle.tcc_serial.proofs.Values.FramedCores.{Closing, Framing, Stays, Closes
 use Rattle.tcc_serial.proofs.Values.FramedWords.{HeldOf, HeldAt, KeptHeld, few-not, load-home, answered-commit, commit-invalidates}
 use Rattle.tcc_serial.proofs.Values.ModifiedWords.{Serves, stored-served, stored-seen}
 use Rattle.tcc_serial.proofs.Values.ValueAt.{IsSilent, with_commit, value-skip, value-insert}
-use Rattle.tcc_serial.specs.KeepsWords.{EventsKeepWords}
 
 -- a core commits
 
@@ -114,11 +114,7 @@ committed sh p entries ram gs ys views m h c o u k held l g = subst (λ q. KeptH
     home-of x = home sh (line_of x)
 
     spilled : (x : ℕ) → (is_solo s.phase ≡ true → s.spilled x ≡ None) → s.spilled x ≡ None
-    spilled x f = go (is_solo s.phase) refl
-      where
-        go : (b : Bool) → is_solo s.phase ≡ b → s.spilled x ≡ None
-        go true q = f q
-        go false q = (k.carried.marks_fit_the_phase c).spilled q x
+    spilled x f = grind (arith, nat_tests)
 
     framed : (x z : ℕ) → s.cache.value x ≡ Some z → s.spilled x ≡ None → (b : Bool) → s.cache.modified x ≡ b → HeldOf x (value_at sh.base ram h.commits (h.world.dirs (home-of x)) (Some c) None x) (pair h.world c (home-of x)) → (z ≡ value_at sh.base ram cs (h.world.dirs (home-of x)) (Some c) None x) ⊎ (1 ≤ live (InvWord x) (pair h.world c (home-of x)).back)
     framed x z v n true q f =
@@ -232,7 +228,6 @@ step-held sh p entries ram gs ys views m h e u k held = node_cases sh p w e (λ 
     answered c d n m cl dl i = quiet c d n m i (λ t. refl) (λ l. refl)
 
 -- in the list's terms
-
 held-all : (sh : Shape) (ram : ℕ → ℕ) (w : World) (cs : List Noted) → UnmodifiedWords sh ram w cs → FilledWords sh ram w cs → KeptHeld sh ram w cs
 unfolding pair
 held-all sh ram w cs a b c d x cl dl e = record { framed = λ z p q. a c d x z cl dl e p q; filled = λ p. b c d x cl dl e p }

@@ -1,18 +1,19 @@
 -- What each of a core's rules does to its TID, its halt and its view.
-use Rattle.tcc_serial.proofs.Names.{ℕ, ◌+◌, ◌≡◌, ◌⊎◌, ◌==◌, Bool, true, false, [], ◌∷◌, ◌++◌, Option, Some, None, IfSome, if◌then◌else◌}
-use Rattle.tcc_serial.proofs.Names.{arith, refl, ap, sym, ◌∙◌, inl, inr, put, Noted, Byte, Half, Word, Program, Need, Nothing, Loads}
-use Rattle.tcc_serial.proofs.Names.{Stores, Changes, Prints, Ends, Halts, Traps, word_of, num, any_below, Msg, TidReq, TidGrant, LoadReq}
-use Rattle.tcc_serial.proofs.Names.{Fill, Skip, Probe, ProbeReply, Mark, Commit, Abort, WriteBack, Flush, DataReq, Inv, InvAck, Shape}
-use Rattle.tcc_serial.proofs.Names.{CoreState, Awaited, Phase, Running, AwaitTid, DoomedTid, Probing, Ready, Overflowing, Solo, Halted, Out}
-use Rattle.tcc_serial.proofs.Names.{roll_back, commit, noted, core_exec, exec_phase, unless_awaiting, core_evict, grant, grant_phase}
-use Rattle.tcc_serial.proofs.Names.{probing, is_probed, from_dir, is_violated, invalidate, acknowledged, if_violated, violated_in, ignored}
-use Rattle.tcc_serial.proofs.Names.{without, probe_reply, all_replied, fill, data_request, Uses, used_in, used_at, used_by, uses_delivered}
-use Rattle.tcc_serial.proofs.Names.{uses_violated, rolls_back, has_tid, waits_for_tid, EachUse}
+use Rattle.tcc_serial.proofs.Names.{line_of, word_of, moves, solo_commit, ℕ, ◌+◌, ◌≡◌, ◌⊎◌, ◌==◌, Bool, true, false, [], ◌∷◌, ◌++◌}
+use Rattle.tcc_serial.proofs.Names.{Option, Some, None, IfSome, if◌then◌else◌, arith, refl, ap, sym, ◌∙◌, inl, inr, put, Noted, Byte}
+use Rattle.tcc_serial.proofs.Names.{Half, Program, Need, Loads, Stores, Changes, num, any_below, Msg, Fill, ProbeReply, DataReq, Inv}
+use Rattle.tcc_serial.proofs.Names.{Shape, CoreState, Phase, Running, AwaitTid, DoomedTid, Probing, Ready, Overflowing, Solo, Halted, Out}
+use Rattle.tcc_serial.proofs.Names.{roll_back, commit, noted, core_exec, core_evict, grant, grant_phase, probing, is_probed, from_dir}
+use Rattle.tcc_serial.proofs.Names.{is_violated, invalidate, acknowledged, if_violated, violated_in, ignored, without, probe_reply}
+use Rattle.tcc_serial.proofs.Names.{all_replied, fill, data_request, Uses, used_in, used_at, used_by, uses_delivered, uses_violated}
+use Rattle.tcc_serial.proofs.Names.{rolls_back, has_tid, waits_for_tid, EachUse}
 use Rattle.tcc_serial.proofs.Tids.CoreProbing.{tid-probing}
 use Rattle.tcc_serial.proofs.OneCore.CoreSteps.{evict-steady, ignored-steady, fill-steady, data-steady, Replied, Ignored, Probed}
 use Rattle.tcc_serial.proofs.OneCore.CoreSteps.{Left_alone, reply-cases}
-use Rattle.tcc_serial.proofs.OneCore.Executes.{Acts, Steady, Executed, Goes_on, Overflows, Asks_tid, Alone, executed}
-use Rattle.tcc_serial.proofs.OneCore.NotedCommits.{Notes, exec-notes}
+use Rattle.tcc_serial.proofs.OneCore.Executes.{Steady}
+use Rattle.tcc_serial.proofs.OneCore.Outcomes.{Acts, Buffers, Commits_now, Did, Ends_alone, Ends_run, Finds, Frames, Frames_anew, Idles}
+use Rattle.tcc_serial.proofs.OneCore.Outcomes.{Misses, Misses_anew, Reads, Room_wanted, after_end, each-exec, out}
+use Rattle.tcc_serial.proofs.OneCore.Said.{Flushes, Requests, Said, Silent, say}
 
 -- the core has the TID that it had, and halts only where it had halted
 pub record Keeps (s r : CoreState) : Type 0 where
@@ -33,34 +34,26 @@ from-running : (s : CoreState) (c : ℕ) (o : Out) (q : Phase) → s.phase ≡ R
 unfolding has_tid
 from-running s c o q e f n z m = Goes (rw e tt) m (record { tids = λ t. rw (e, f) (n t); halted = λ g. absurd (z (sym f ∙ g)) })
 
-exec-executed : (sh : Shape) (c : ℕ) (s : CoreState) (o : Out) → Acts s.phase → Notes s o → Executed sh c s o → Exec s c o
-unfolding has_tid noted
-exec-executed sh c s o a f (Goes_on y) = Goes a (y.commit) (keeps-phase s o.core (y.phase))
-exec-executed sh c s o a f (Overflows r ph ow cm ve di) = from-running s c o (Overflowing None) r ph (λ t. refl) (λ e. absurd (cc)) cm
-exec-executed sh c s o a f (Asks_tid r ph ow cm ve di) = from-running s c o AwaitTid r ph (λ t. refl) (λ e. absurd (cc)) cm
-exec-executed sh c s o a f (Alone t r q ph ow cm se) = let z = rw cm at f in Commits t (noted t c r) (inr q) cm refl refl (z.0)
-
 pub exec-view : (sh : Shape) (p : Program) (c : ℕ) (s : CoreState) → IfSome (core_exec sh p c s) (Exec s c)
-unfolding core_exec commit noted
-exec-view sh p c s = go s.phase refl (exec-notes sh p c s)
+unfolding commit solo_commit noted has_tid
+exec-view sh p c s = each-exec sh p c s (Exec s c) go
   where
-    weaken : (x : Option Out) → Acts s.phase → IfSome x (Notes s) → IfSome x (Executed sh c s) → IfSome x (Exec s c)
-    weaken None a f h = tt
-    weaken (Some o) a f h = exec-executed sh c s o a f h
+    still : (r : CoreState) (q : Said) → Acts s.phase → r.phase ≡ s.phase → Exec s c (moves r (say sh s q))
+    still r q a e = Goes a refl (keeps-phase s r e)
 
-    awaiting : (a : Option Awaited) → Acts s.phase → IfSome (unless_awaiting sh p c s a) (Notes s) → IfSome (unless_awaiting sh p c s a) (Exec s c)
-    awaiting (Some x) a f = tt
-    awaiting None a f = weaken _ a f (executed sh p c s a)
-
-    go : (q : Phase) → s.phase ≡ q → IfSome (exec_phase sh p c s q) (Notes s) → IfSome (exec_phase sh p c s q) (Exec s c)
-    go Running e f = awaiting s.awaited (rw e tt) f
-    go (Solo t) e f = awaiting s.awaited (rw e tt) f
-    go (Ready t) e f = Commits t (noted t c s) (inl e) refl refl refl refl
-    go AwaitTid e f = tt
-    go DoomedTid e f = tt
-    go (Probing t) e f = tt
-    go (Overflowing t) e f = tt
-    go Halted e f = tt
+    go : (x : Did sh p c s) → Exec s c (out x)
+    go (Idles n l b g) = still _ Silent g.acts refl
+    go (Finds a x z l g f) = still _ Silent g.acts refl
+    go (Reads a x z l g r f) = still _ Silent g.acts refl
+    go (Buffers a y v n k g i q h) = still _ Silent g.acts refl
+    go (Frames a y also n k g i f) = still _ (Flushes (line_of (word_of sh.base a))) g.acts refl
+    go (Frames_anew a y n k g i q f h) = still _ Silent g.acts refl
+    go (Misses a n g i q) = still _ (Requests (line_of (word_of sh.base a))) g.acts refl
+    go (Misses_anew a n g i q f) = still _ (Requests (line_of (word_of sh.base a))) g.acts refl
+    go (Room_wanted r i) = from-running s c _ (Overflowing None) r refl (λ t. refl) (λ e. absurd (cc)) refl
+    go (Ends_run l e f r i) = from-running s c _ AwaitTid r refl (λ t. refl) (λ e. absurd (cc)) refl
+    go (Ends_alone t l e f r i) = Commits t (noted t c (after_end s l e)) (inr r) refl refl refl refl
+    go (Commits_now t e) = Commits t (noted t c s) (inl e) refl refl refl refl
 
 -- each word that an instruction uses is valid, and neither spilled nor modified
 
@@ -78,15 +71,10 @@ used-each P base s need f = go need
 
     go : (need : Need) → EachUse P (used_by base s need)
     go (Loads a z) = at (word_of base a)
-    go (Stores a Word v) = tt
     go (Stores a Half v) = at (word_of base a)
     go (Stores a Byte v) = at (word_of base a)
     go (Changes a g) = at (word_of base a)
-    go Nothing = tt
-    go (Prints b) = tt
-    go Ends = tt
-    go (Halts k) = tt
-    go (Traps k) = tt
+    go _ = tt
 
 pub each-append : (P : ℕ → ℕ → Type 0) (us vs : Uses) → EachUse P us → EachUse P vs → EachUse P (us ++ vs)
 each-append P [] vs a b = b
@@ -192,14 +180,4 @@ back-view sh e s (ProbeReply u v) us dm ha = back-replied sh e u v s us (probe_r
 back-view sh e s (Fill l ws) us dm ha = back-steady s (Fill l ws) us (fill l ws s) refl tt (fill-steady l ws s)
 back-view sh e s (DataReq l) us dm ha = back-steady s (DataReq l) us (data_request sh l s) refl tt (data-steady sh l s)
 back-view sh e s (Inv l m u) us dm ha = back-inv sh l m u s us dm ha
-back-view sh e s TidReq us dm ha = tt
-back-view sh e s (TidGrant u) us dm ha = tt
-back-view sh e s (LoadReq l a) us dm ha = tt
-back-view sh e s (Skip u) us dm ha = tt
-back-view sh e s (Probe u) us dm ha = tt
-back-view sh e s (Mark l m u) us dm ha = tt
-back-view sh e s (Commit u n) us dm ha = tt
-back-view sh e s (Abort u) us dm ha = tt
-back-view sh e s (WriteBack l m ws u) us dm ha = tt
-back-view sh e s (Flush l m ws u) us dm ha = tt
-back-view sh e s (InvAck l b) us dm ha = tt
+back-view sh e s _ us dm ha = tt

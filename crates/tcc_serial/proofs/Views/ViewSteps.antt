@@ -1,15 +1,15 @@
 -- What a core does, and what the vendor grants, leaves every core's view near: each used word has its value, or it is doomed.
-use Rattle.tcc_serial.proofs.Names.{ℕ, ◌≡◌, ◌<◌, ◌≤◌, ◌⊎◌, ◌==◌, ◌&&◌, ◌||◌, Bool, true, false, List, [], ◌++◌, Option, Some, None, IfSome}
-use Rattle.tcc_serial.proofs.Names.{is_some, arith, refl, sym, subst, ◌∙◌, inl, inr, put, Noted, Program, num, line_of, writes_at, Shape}
-use Rattle.tcc_serial.proofs.Names.{home, CoreState, Phase, Running, AwaitTid, DoomedTid, Probing, Ready, Overflowing, Solo, Halted, World}
-use Rattle.tcc_serial.proofs.Names.{Out, core_exec, core_evict, History, core_moves, and_noted, insert_commit, Uses, Views, uses_executed}
-use Rattle.tcc_serial.proofs.Names.{InvWord, live, Carried, CarriedInMemory, Grant, holder, Pair, pair, after_move, may_commit, IsBound}
-use Rattle.tcc_serial.proofs.Names.{is_applied, has_tid, opens, waits_for_tid, RequestOf, stores_word, is_below, counts, value_at, dooms}
-use Rattle.tcc_serial.proofs.Names.{UnmodifiedWords, Ways}
-use Rattle.tcc_serial.proofs.Counts.StepCases.{same, differ, either, pairs_move, new_uses}
-use Rattle.tcc_serial.proofs.Memory.MemorySends.{marks_at_homes}
-use Rattle.tcc_serial.proofs.OneCore.Executes.{Acts}
+use Rattle.tcc_serial.proofs.Names.{ℕ, ◌≡◌, ◌<◌, ◌≤◌, ◌⊎◌, ◌==◌, ◌&&◌, ◌||◌, Bool, true, false, List, [], ◌++◌, Option, Some, None}
+use Rattle.tcc_serial.proofs.Names.{IfSome, is_some, arith, refl, sym, subst, ◌∙◌, inl, inr, put, Noted, Program, num, line_of, writes_at}
+use Rattle.tcc_serial.proofs.Names.{Shape, home, CoreState, Phase, Running, AwaitTid, DoomedTid, Probing, Ready, Overflowing, Solo}
+use Rattle.tcc_serial.proofs.Names.{Halted, World, Out, core_exec, core_evict, History, core_moves, and_noted, insert_commit, Uses, Views}
+use Rattle.tcc_serial.proofs.Names.{uses_executed, InvWord, live, Carried, CarriedInMemory, Grant, holder, Pair, pair, after_move}
+use Rattle.tcc_serial.proofs.Names.{may_commit, IsBound, is_applied, has_tid, opens, waits_for_tid, RequestOf, stores_word, is_below}
+use Rattle.tcc_serial.proofs.Names.{counts, value_at, dooms, UnmodifiedWords, Ways, commit, holds, replied}
+use Rattle.tcc_serial.proofs.OneCore.Outcomes.{Acts}
 use Rattle.tcc_serial.proofs.Serving.OwnerSteps.{grant-any}
+use Rattle.tcc_serial.proofs.Memory.MemorySends.{marks_at_homes}
+use Rattle.tcc_serial.proofs.Counts.StepCases.{same, differ, either, pairs_move, new_uses}
 use Rattle.tcc_serial.proofs.Values.ValueAt.{IsSilent, value-skip}
 use Rattle.tcc_serial.proofs.Views.ViewCores.{Keeps, Exec, Goes, Commits, exec-view, used-each, each-append, evict-view}
 use Rattle.tcc_serial.proofs.Views.ViewDirs.{AllNear}

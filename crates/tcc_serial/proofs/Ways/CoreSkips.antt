@@ -1,21 +1,21 @@
 -- What each of a core's rules says of its TID: where it goes on with it, it has skipped it at directories where it writes nothing;
 -- and where it commits, it has spoken at each directory.
-use Rattle.tcc_serial.proofs.Names.{ℕ, ◌≡◌, ◌<◌, ◌≤◌, Bool, true, false, not, [], ◌∷◌, ◌++◌, ◌==◌, ◌&&◌, ◌||◌, Option, Some, None, IfSome}
-use Rattle.tcc_serial.proofs.Names.{nat_lt, if◌then◌else◌, arith, refl, sym, ◌⊎◌, inl, inr, nat_tests, Noted, Program, Outcome, Goes, Ended}
-use Rattle.tcc_serial.proofs.Names.{HaltedWith, TrappedWith, any_below, Dir, Msg, TidReq, TidGrant, LoadReq, Fill, Skip, Probe, ProbeReply}
-use Rattle.tcc_serial.proofs.Names.{Mark, Commit, Abort, WriteBack, Flush, DataReq, Inv, InvAck, Shape, Cache, writes_at, reads_at}
-use Rattle.tcc_serial.proofs.Names.{CoreState, Awaited, Phase, Running, AwaitTid, DoomedTid, Probing, Ready, Overflowing, Solo, Halted, Out}
-use Rattle.tcc_serial.proofs.Names.{commit, committed_core, noted, phase_after, core_exec, exec_phase, unless_awaiting, core_evict, grant}
-use Rattle.tcc_serial.proofs.Names.{grant_phase, grant_sends, from_dir, probing, is_probed, probe_reply, ignored, all_replied, fill}
-use Rattle.tcc_serial.proofs.Names.{data_request, invalidate, put, Skips, among, passes, Words, OneCore, has_tid, Untold, told_by, live_way}
-use Rattle.tcc_serial.proofs.Names.{commit_way}
-use Rattle.tcc_serial.proofs.OneCore.Executes.{Acts, Steady, Executed, Goes_on, Overflows, Asks_tid, Alone, executed}
-use Rattle.tcc_serial.proofs.OneCore.CoreSteps.{writes_at-same, evict-steady, ignored-steady, fill-steady, data-steady, Hurt, Unhurt}
-use Rattle.tcc_serial.proofs.OneCore.CoreSteps.{Rolled, Doomed, Aborted, Gave_up, Invalidated, invalidate-cases, Replied, Ignored, Probed}
-use Rattle.tcc_serial.proofs.OneCore.CoreSteps.{Left_alone, reply-cases}
+use Rattle.tcc_serial.proofs.Names.{ℕ, ◌≡◌, ◌<◌, ◌≤◌, Bool, true, false, not, [], ◌∷◌, ◌++◌, ◌==◌, ◌&&◌, ◌||◌, Some, None, IfSome, nat_lt}
+use Rattle.tcc_serial.proofs.Names.{if◌then◌else◌, arith, refl, sym, ◌⊎◌, inl, inr, nat_tests, Noted, Program, Outcome, Goes, any_below}
+use Rattle.tcc_serial.proofs.Names.{Dir, Msg, Fill, Skip, Probe, ProbeReply, DataReq, Inv, Shape, Cache, writes_at, reads_at, CoreState}
+use Rattle.tcc_serial.proofs.Names.{Phase, Running, AwaitTid, DoomedTid, Probing, Ready, Overflowing, Solo, Halted, Out, commit}
+use Rattle.tcc_serial.proofs.Names.{committed_core, noted, phase_after, core_exec, core_evict, grant, grant_phase, grant_sends, from_dir}
+use Rattle.tcc_serial.proofs.Names.{probing, is_probed, probe_reply, ignored, all_replied, fill, data_request, invalidate, put, Skips}
+use Rattle.tcc_serial.proofs.Names.{among, passes, Words, OneCore, has_tid, Untold, told_by, live_way, commit_way, has}
+use Rattle.tcc_serial.proofs.OneCore.Executes.{Steady, Executed, Goes_on, Overflows, Asks_tid, Alone, did-executed}
+use Rattle.tcc_serial.proofs.OneCore.CoreSteps.{ignored-steady, fill-steady, data-steady, Hurt, Unhurt, Rolled, Doomed, Aborted, Gave_up}
+use Rattle.tcc_serial.proofs.OneCore.CoreSteps.{Invalidated, invalidate-cases, Replied, Ignored, Probed, Left_alone, reply-cases}
+use Rattle.tcc_serial.proofs.OneCore.CoreSteps.{steady-emptied}
 use Rattle.tcc_serial.proofs.Ways.CoreTells.{solo-told, ready-told}
 use Rattle.tcc_serial.proofs.Marks.StoredMasks.{stored-solo, stored-written}
-use Rattle.tcc_serial.proofs.OneCore.NotedCommits.{Notes, executed-notes}
+use Rattle.tcc_serial.proofs.OneCore.NotedCommits.{Notes, did-notes}
+use Rattle.tcc_serial.proofs.OneCore.Said.{quiet}
+use Rattle.tcc_serial.proofs.OneCore.Outcomes.{Acts, Commits_now, Did, each-exec, out, each-evict, emptied, writes_at-same}
 
 -- a core in this phase has skipped its TID where it writes nothing
 abbrev pub skips_here : Phase → (written : Bool) → ℕ → Bool
@@ -54,9 +54,7 @@ tells-none sh s o q e h c = record { skips = λ d t l x. absurd (let z = h (writ
 
 skips-after : (e : Outcome) (b : Bool) (t : ℕ) → skips_here (phase_after e) b t ≡ false
 skips-after Goes b t = refl
-skips-after Ended b t = refl
-skips-after (HaltedWith k) b t = refl
-skips-after (TrappedWith k) b t = refl
+skips-after _ b t = refl
 
 tells-executed : (sh : Shape) (c : ℕ) (s : CoreState) (o : Out) → OneCore sh s → Notes s o → Executed sh c s o → Tells sh s o
 unfolding noted has_tid live_way
@@ -82,47 +80,19 @@ tells-committed sh id u s e h = tells-none sh s (commit sh id u s) (phase_after 
 })
 
 pub tells-exec : (sh : Shape) (p : Program) (c : ℕ) (s : CoreState) → OneCore sh s → IfSome (core_exec sh p c s) (λ o. Tells sh s o)
-unfolding core_exec
-tells-exec sh p c s h = go s.phase refl
+tells-exec sh p c s h = each-exec sh p c s (λ o. Tells sh s o) go
   where
-    weaken : (x : Option Out) → IfSome x (λ o. Notes s o) → IfSome x (λ o. Executed sh c s o) → IfSome x (λ o. Tells sh s o)
-    weaken None n y = tt
-    weaken (Some o) n y = tells-executed sh c s o h n y
-
-    awaiting : (a : Option Awaited) → Acts s.phase → IfSome (unless_awaiting sh p c s a) (λ o. Tells sh s o)
-    awaiting (Some x) a = tt
-    awaiting None a = weaken _ (executed-notes sh p c s) (executed sh p c s a)
-
-    go : (q : Phase) → s.phase ≡ q → IfSome (exec_phase sh p c s q) (λ o. Tells sh s o)
-    go Running e = awaiting s.awaited (rw e tt)
-    go (Solo u) e = awaiting s.awaited (rw e tt)
-    go (Ready u) e = tells-committed sh c u s e h
-    go AwaitTid e = tt
-    go DoomedTid e = tt
-    go (Probing u) e = tt
-    go (Overflowing u) e = tt
-    go Halted e = tt
+    go : (x : Did sh p c s) → Tells sh s (out x)
+    go (Commits_now u e) = tells-committed sh c u s e h
+    go x = tells-executed sh c s (out x) h (did-notes x) (did-executed x)
 
 pub tells-evict : (sh : Shape) (x y : ℕ) (s : CoreState) → IfSome (core_evict sh x y s) (λ o. Tells sh s o)
-tells-evict sh x y s = go (core_evict sh x y s) (evict-steady sh x y s)
-  where
-    go : (a : Option Out) → IfSome a (λ o. Steady s o) → IfSome a (λ o. Tells sh s o)
-    go None h = tt
-    go (Some o) h = tells-steady sh s o h
+tells-evict sh x y s = each-evict sh x y s (λ o. Tells sh s o) (λ k q u z. tells-steady sh s (emptied sh x y k s) (steady-emptied sh x y s k q u z))
 
 -- a granted TID is skipped where nothing is written
 skips-granted : (sh : Shape) (c : Cache) (b : Bool) (u d t : ℕ) → d < sh.dirs → skips_here (probing b u) (writes_at sh c d) t ≡ true → 1 ≤ among (Skips t) (grant_sends sh c u (Dir d))
 unfolding grant_sends among passes
-skips-granted sh c b u d t l e = go b (writes_at sh c d) (reads_at sh c d) e
-  where
-    range : nat_lt d sh.dirs ≡ true
-    range = grind (arith, nat_tests)
-
-    go : (b w r : Bool) → skips_here (probing b u) w t ≡ true → 1 ≤ among (Skips t) (if nat_lt d sh.dirs then (if not w then Skip u ∷ [] else []) ++ (if w || r then Probe u ∷ [] else []) else [])
-    go true true r e = absurd (grind arith)
-    go false true r e = absurd (grind arith)
-    go true false r e = let z : (u == t) ≡ true = grind arith in rw range (grind arith)
-    go false false r e = let z : (u == t) ≡ true = grind arith in rw range (grind arith)
+skips-granted sh c b u d t l e = grind (arith, nat_tests)
 
 pub tells-grant : (sh : Shape) (u : ℕ) (s : CoreState) → Tells sh s (grant sh u s)
 unfolding grant
@@ -173,14 +143,4 @@ tells-back sh e s (ProbeReply u v) = tells-replied sh e u s (probe_reply sh e u 
 tells-back sh e s (Fill l ws) = tells-steady sh s (fill l ws s) (fill-steady l ws s)
 tells-back sh e s (DataReq l) = tells-steady sh s (data_request sh l s) (data-steady sh l s)
 tells-back sh e s (Inv l m u) = tells-hurt sh l s (invalidate sh l m u s) (invalidate-cases sh l m u s)
-tells-back sh e s TidReq = tt
-tells-back sh e s (TidGrant u) = tt
-tells-back sh e s (LoadReq l a) = tt
-tells-back sh e s (Skip u) = tt
-tells-back sh e s (Probe u) = tt
-tells-back sh e s (Mark l m u) = tt
-tells-back sh e s (Commit u n) = tt
-tells-back sh e s (Abort u) = tt
-tells-back sh e s (WriteBack l m ws u) = tt
-tells-back sh e s (Flush l m ws u) = tt
-tells-back sh e s (InvAck l b) = tt
+tells-back sh e s _ = tt

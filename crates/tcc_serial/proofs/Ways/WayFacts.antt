@@ -82,7 +82,6 @@ told_from P f sh p entries ram es = go (run sh p (start entries ram) es) (run-wa
 -- What the invariants on ways say in words.
 
 -- untold where it is open
-
 untold-at : (sh : Shape) (w : World) (d t : ℕ) (y : Way) → ResolvedAt sh w d t → WayAt sh w d t y → parts_in Untold sh w d t + num (nat_le w.next t) ≡ num (is_untold y)
 unfolding kept_in
 untold-at sh w d t Untold r h = h
@@ -204,7 +203,6 @@ pub all_ways_fit : AlwaysTold AllWaysFit
 all_ways_fit = told_from AllWaysFit (λ sh gs ys h k d t l p. ways-fit sh ys h.world d t (k.all.kept.told.tids.resolved d t l) (k.ways d t l p))
 
 -- given up: told, kept or passed
-
 given-split : (sh : Shape) (w : World) (d t n : ℕ) → sum_of (given_up_by t) n w d ≡ sum_of (part_in Skipped sh d t) n w d + sum_of (part_in Aborted sh d t) n w d
 unfolding total share given_up_by part_in
 given-split sh w d t zero = refl
@@ -220,7 +218,6 @@ pub given_up_once : AlwaysTold GivenUpOnce
 given_up_once = told_from GivenUpOnce (λ sh gs ys h k d t l p g. given-once sh h.world d t (ys d t) (k.all.kept.told.tids.resolved d t l) (k.ways d t l p) g)
 
 -- live TIDs
-
 live-open : (sh : Shape) (gs : List Grant) (ys : Ways) (h : History) → KeptRun sh gs ys h → LiveIsOpen sh ys h
 unfolding part_in pair holder
 live-open sh gs ys h k = record {

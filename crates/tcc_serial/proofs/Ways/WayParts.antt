@@ -5,7 +5,6 @@ use Rattle.tcc_serial.proofs.Names.{Skips, Aborts, Commits, live, among, passes,
 use Rattle.tcc_serial.proofs.Names.{Untold, Skipped, Aborted, Committed, told_by, part_in, kept_in, WayAt}
 
 -- a word on a TID is a Skip, an Abort or a Commit
-
 one-said : (t : ℕ) (m : Msg) → num (passes (Resolves t) m) ≡ num (passes (Skips t) m) + num (passes (Aborts t) m) + num (passes (Commits t) m)
 unfolding passes
 one-said t m = grind (arith, nat_tests)
@@ -83,7 +82,6 @@ told-moved sh w v d t ms y e n h r k = go (nat_lt 0 (among (Skips t) ms)) refl (
     go false p false q false o = same y (none (Skips t) p) (none (Aborts t) q) (none (Commits t) o) k
 
 -- what messages of a kind make of a way
-
 pub told-none : (ms : List Msg) (t : ℕ) (y : Way) → among (Resolves t) ms ≡ 0 → told_by ms t y ≡ y
 unfolding told_by
 told-none ms t y h =

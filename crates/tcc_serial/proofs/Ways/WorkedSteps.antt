@@ -1,24 +1,25 @@
 -- Every event keeps that a directory where a commit loaded or stored has reached its TID.
 use Rattle.tcc_serial.proofs.Names.{ℕ, ◌≡◌, ◌<◌, ◌≤◌, Bool, true, false, ◌&&◌, ◌||◌, ◌==◌, List, Contains, Option, Some, None, IfSome}
-use Rattle.tcc_serial.proofs.Names.{if◌then◌else◌, arith, refl, ◌∙◌, ◌⊎◌, inl, inr, nat_tests, Noted, Program, any_below, any_word, word_at}
-use Rattle.tcc_serial.proofs.Names.{Dir, Msg, Event, TidReq, TidGrant, LoadReq, Fill, Skip, Probe, ProbeReply, Mark, Commit, Abort}
-use Rattle.tcc_serial.proofs.Names.{WriteBack, Flush, DataReq, Inv, InvAck, Shape, home, lines, writes_at, reads_at, is_modified}
-use Rattle.tcc_serial.proofs.Names.{any_below-at, any_below-found, CoreState, Awaited, DirState, Phase, Running, AwaitTid, DoomedTid}
-use Rattle.tcc_serial.proofs.Names.{Probing, Ready, Overflowing, Solo, Halted, World, Out, Sends, commit, noted, core_exec, exec_phase}
-use Rattle.tcc_serial.proofs.Names.{unless_awaiting, core_evict, grant, grant_phase, from_dir, probe_reply, Answer, Waits, Drops, Asks}
-use Rattle.tcc_serial.proofs.Names.{Takes, dir_deliver, core_moves, core_takes, dir_takes, dir_asks, vendor_gives, Stepped, step, and_noted}
-use Rattle.tcc_serial.proofs.Names.{Kept, OneCore, KeptCores, pair, Reached, stores_at, loads_word, sent_by, LoadsMarked, KeptLoads}
-use Rattle.tcc_serial.proofs.Names.{loads_at, worked_at, KeptWorked}
-use Rattle.tcc_serial.proofs.Counts.StepCases.{OfAnswer, step_cases}
-use Rattle.tcc_serial.proofs.Marks.StoredMasks.{stored-written}
+use Rattle.tcc_serial.proofs.Names.{if◌then◌else◌, arith, refl, ◌∙◌, ◌⊎◌, inl, inr, nat_tests, Noted, Program, any_below, any_word}
+use Rattle.tcc_serial.proofs.Names.{word_at, Dir, Msg, Event, Fill, ProbeReply, DataReq, Inv, Shape, home, lines, writes_at, reads_at}
+use Rattle.tcc_serial.proofs.Names.{is_modified, any_below-at, any_below-found, CoreState, DirState, Phase, Running, AwaitTid, DoomedTid}
+use Rattle.tcc_serial.proofs.Names.{Probing, Ready, Overflowing, Solo, Halted, World, Out, Sends, commit, noted, core_exec, core_evict}
+use Rattle.tcc_serial.proofs.Names.{grant, grant_phase, from_dir, probe_reply, Answer, Waits, Drops, Asks, Takes, dir_deliver, core_moves}
+use Rattle.tcc_serial.proofs.Names.{core_takes, dir_takes, dir_asks, vendor_gives, Stepped, step, and_noted, Kept, OneCore, KeptCores}
+use Rattle.tcc_serial.proofs.Names.{pair, Reached, stores_at, loads_word, sent_by, LoadsMarked, KeptLoads, loads_at, worked_at}
+use Rattle.tcc_serial.proofs.Names.{KeptWorked, answered, moved, place, put, replied, stored, taken}
+use Rattle.tcc_serial.proofs.Ways.ByCore.{ByCore, Still, Moved, by_core}
 use Rattle.tcc_serial.proofs.OneCore.CoreLoads.{loads-exec, loads-evict}
 use Rattle.tcc_serial.proofs.OneCore.CoreLoadsTakes.{loads-grant, loads-back}
-use Rattle.tcc_serial.proofs.OneCore.CoreSteps.{evict-steady, fill-steady, data-steady, invalidate-cases, Replied, Ignored, Probed}
-use Rattle.tcc_serial.proofs.OneCore.CoreSteps.{Left_alone, reply-cases}
-use Rattle.tcc_serial.proofs.OneCore.Executes.{Acts, Steady, Executed, Goes_on, Overflows, Asks_tid, Alone, executed}
+use Rattle.tcc_serial.proofs.Marks.StoredMasks.{stored-written}
 use Rattle.tcc_serial.proofs.Serving.DirProbes.{RisesBy, dir-rises}
+use Rattle.tcc_serial.proofs.OneCore.Executes.{Executed, Goes_on, Overflows, Asks_tid, Alone, did-executed}
+use Rattle.tcc_serial.proofs.OneCore.CoreSteps.{fill-steady, data-steady, invalidate-cases, Replied, Ignored, Probed, Left_alone}
+use Rattle.tcc_serial.proofs.OneCore.CoreSteps.{reply-cases, steady-emptied}
 use Rattle.tcc_serial.proofs.Tids.Commits.{inserted}
-use Rattle.tcc_serial.proofs.Ways.ByCore.{ByCore, Still, Moved, by_core}
+use Rattle.tcc_serial.proofs.Counts.StepCases.{OfAnswer, step_cases}
+use Rattle.tcc_serial.proofs.OneCore.Said.{quiet}
+use Rattle.tcc_serial.proofs.OneCore.Outcomes.{Commits_now, Did, each-exec, out, each-evict}
 
 -- a core that loaded a word of a line has marked words at its home
 loaded-touches : (sh : Shape) (s : CoreState) (d : ℕ) → ((w : ℕ) → loads_word sh.base s.loads w ≡ true → (s.cache.read w || s.cache.modified w) ≡ true) → loads_at sh d s.loads ≡ true → (writes_at sh s.cache d || reads_at sh s.cache d) ≡ true
@@ -75,26 +76,11 @@ executed-works sh dirs c s o r (Asks_tid p ph ow cm ve di) = rw cm tt
 executed-works sh dirs c s o r (Alone u q p ph ow cm se) = rw cm (λ d l w. rw p at ((r d).reached l (rw p refl) ((r d).replied l (rw p refl))))
 
 exec-works : (sh : Shape) (p : Program) (dirs : ℕ → DirState) (c : ℕ) (s : CoreState) → OneCore sh s → LoadsMarked sh s → AllReached sh dirs s → IfSome (core_exec sh p c s) (λ o. Works sh dirs o)
-unfolding core_exec
-exec-works sh p dirs c s h k r = go s.phase refl
+exec-works sh p dirs c s h k r = each-exec sh p c s (λ o. Works sh dirs o) go
   where
-    weaken : (x : Option Out) → IfSome x (λ o. Executed sh c s o) → IfSome x (λ o. Works sh dirs o)
-    weaken None y = tt
-    weaken (Some o) y = executed-works sh dirs c s o r y
-
-    awaiting : (a : Option Awaited) → Acts s.phase → IfSome (unless_awaiting sh p c s a) (λ o. Works sh dirs o)
-    awaiting (Some x) a = tt
-    awaiting None a = weaken _ (executed sh p c s a)
-
-    go : (q : Phase) → s.phase ≡ q → IfSome (exec_phase sh p c s q) (λ o. Works sh dirs o)
-    go Running e = awaiting s.awaited (rw e tt)
-    go (Solo u) e = awaiting s.awaited (rw e tt)
-    go (Ready u) e = ready-works sh dirs c u s e h k r
-    go AwaitTid e = tt
-    go DoomedTid e = tt
-    go (Probing u) e = tt
-    go (Overflowing u) e = tt
-    go Halted e = tt
+    go : (x : Did sh p c s) → Works sh dirs (out x)
+    go (Commits_now u e) = ready-works sh dirs c u s e h k r
+    go x = executed-works sh dirs c s (out x) r (did-executed x)
 
 -- the served TIDs rise
 
@@ -120,11 +106,7 @@ step-later sh p w e = step_cases sh p w e (λ g o. Later w o.world)
     taken c d k (Some o) = λ e. omega arith
 
     put : (e : ℕ) (s : DirState) → (w.dirs e).serving.serving ≤ s.serving.serving → (d : ℕ) → (w.dirs d).serving.serving ≤ (if d == e then s else w.dirs d).serving.serving
-    put e s l d = go (d == e) refl
-      where
-        go : (b : Bool) → (d == e) ≡ b → (w.dirs d).serving.serving ≤ (if b then s else w.dirs d).serving.serving
-        go true q = let i : d ≡ e = grind (arith, nat_tests) in rw i l
-        go false q = omega arith
+    put e s l d = grind (arith, nat_tests)
 
     answered : (c d k : ℕ) (a : Answer) → RisesBy (w.dirs d) a → OfAnswer w c d k (λ v. Later w v) a
     answered c d k Waits r = tt
@@ -135,26 +117,11 @@ step-later sh p w e = step_cases sh p w e (λ g o. Later w o.world)
 -- only a core that executes commits
 
 none-evict : (sh : Shape) (x y : ℕ) (s : CoreState) → IfSome (core_evict sh x y s) (λ o. o.commit ≡ None)
-none-evict sh x y s = go (core_evict sh x y s) (evict-steady sh x y s)
-  where
-    go : (a : Option Out) → IfSome a (λ o. Steady s o) → IfSome a (λ o. o.commit ≡ None)
-    go None h = tt
-    go (Some o) h = h.commit
+none-evict sh x y s = each-evict sh x y s (λ o. o.commit ≡ None) (λ k q u z. (steady-emptied sh x y s k q u z).commit)
 
 none-grant : (sh : Shape) (u : ℕ) (s : CoreState) → (grant sh u s).commit ≡ None
 unfolding grant
-none-grant sh u s = go s.phase
-  where
-    go : (q : Phase) → (grant_phase sh u s q).commit ≡ None
-    go AwaitTid = refl
-    go DoomedTid = refl
-    go (Overflowing None) = refl
-    go (Overflowing (Some v)) = refl
-    go Running = refl
-    go (Probing v) = refl
-    go (Ready v) = refl
-    go (Solo v) = refl
-    go Halted = refl
+none-grant sh u s = grind (arith, nat_tests)
 
 none-replied : (sh : Shape) (e u : ℕ) (s : CoreState) (o : Out) → Replied sh e u s o → o.commit ≡ None
 none-replied sh e u s o (Ignored q n) = rw q refl
@@ -166,17 +133,7 @@ none-back sh e s (ProbeReply u v) = none-replied sh e u s (probe_reply sh e u s)
 none-back sh e s (Fill l ws) = (fill-steady l ws s).commit
 none-back sh e s (DataReq l) = (data-steady sh l s).commit
 none-back sh e s (Inv l m u) = (invalidate-cases sh l m u s).commit
-none-back sh e s TidReq = tt
-none-back sh e s (TidGrant u) = tt
-none-back sh e s (LoadReq l a) = tt
-none-back sh e s (Skip u) = tt
-none-back sh e s (Probe u) = tt
-none-back sh e s (Mark l m u) = tt
-none-back sh e s (Commit u n) = tt
-none-back sh e s (Abort u) = tt
-none-back sh e s (WriteBack l m ws u) = tt
-none-back sh e s (Flush l m ws u) = tt
-none-back sh e s (InvAck l b) = tt
+none-back sh e s _ = tt
 
 -- both by what the core does
 
