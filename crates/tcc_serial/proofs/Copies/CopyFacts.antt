@@ -10,11 +10,7 @@ use Rattle.tcc_serial.proofs.Copies.PairCopies.{line_copies, line_wrong, LineCop
 -- no frame that is dirty with the tag has another mask
 right-mask : (c : Cache) (l t n : ℕ) → frame_wrong c l t n ≡ 0 → is_dirty c l ≡ true → dirty_tag c l ≡ t → dirty_mask c l ≡ n
 unfolding frame_wrong
-right-mask c l t n z d e = go (dirty_mask c l == n) refl
-  where
-    go : (b : Bool) → (dirty_mask c l == n) ≡ b → dirty_mask c l ≡ n
-    go true q = grind (arith, nat_tests)
-    go false q = absurd (let y : (dirty_tag c l == t) ≡ true = grind (arith, nat_tests) in let o : num ((is_dirty c l && dirty_tag c l == t) && not (dirty_mask c l == n)) ≡ 1 = rw (d, y, q) refl in omega (arith, z, o))
+right-mask c l t n z d e = grind (arith, nat_tests)
 
 above-one : (base : ℕ) (cs : List Noted) (c l t : ℕ) (v : Pair) → LineCopies base cs c l v → v.dir.lines.tag l < t → AboveOf base cs c l t v
 unfolding copies_with line_copies line_wrong frame_copy
@@ -36,7 +32,6 @@ pub owned-from : (sh : Shape) (cs : List Noted) (w : World) → KeptLines sh cs 
 owned-from sh cs w k c d l cl dl ll e = owned-one sh.base cs c l (pair w c d) (k c d l cl dl ll e)
 
 -- at the start
-
 no-line : (base c t l : ℕ) → wrote_line base [] c t l ≡ false
 unfolding wrote_line any_word any_below wrote
 no-line base c t l = refl

@@ -50,13 +50,12 @@ nothing-in true x e = e
 nothing-in false x e = refl
 
 pub taken-copies : (base : ℕ) (cs : List Noted) (c u j l : ℕ) (v w : Pair) → TakenOver base cs c u j l v w → LineCopies base cs j l v → LineCopies base cs j l w
-taken-copies base cs c u j l v w s h = record { owned = rw (s.tag, s.owner) owned; above = λ t i. above t (rw (s.tag) at i); masks = λ t i. let m : ℕ = wrote_mask base cs j t l in omega (arith, few-wrong l t m w, none t (rw (s.tag) at i)) }
+taken-copies base cs c u j l v w s h =
+    let owned : line_copies l u w ≡ num (c == j) = copies u ∙ h.above u (s.old) ∙ s.writer in
+    record { owned = rw (s.tag, s.owner) owned; above = λ t i. above t (rw (s.tag) at i); masks = λ t i. let m : ℕ = wrote_mask base cs j t l in omega (arith, few-wrong l t m w, none t (rw (s.tag) at i)) }
   where
     copies : (t : ℕ) → line_copies l t w ≡ line_copies l t v
     copies t = omega (arith, of-line l t w, of-line l t v, same-frames l t v w (s.cache), s.copies t)
-
-    owned : line_copies l u w ≡ num (c == j)
-    owned = copies u ∙ h.above u (s.old) ∙ s.writer
 
     none : (t : ℕ) → u < t → line_copies l t w ≡ 0
     none t i = copies t ∙ h.above t (omega (arith, i, s.old)) ∙ nothing-in (wrote_line base cs j t l) (live (Commits t) v.out) (s.before t i)

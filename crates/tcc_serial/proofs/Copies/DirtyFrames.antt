@@ -1,8 +1,8 @@
 -- The copies of a line in a core's frame, by the dirty words of the line.
-use Rattle.tcc_serial.proofs.Names.{ℕ, ◌+◌, ◌≡◌, ◌<◌, ◌≤◌, ◌⊎◌, ◌==◌, ◌&&◌, ◌||◌, Bool, true, false, not, Option, Some, None, is_some}
-use Rattle.tcc_serial.proofs.Names.{unwrap_or, if◌then◌else◌, arith, refl, sym, ◌∙◌, inl, inr, num, any_below, any_word, word_at, line_of}
-use Rattle.tcc_serial.proofs.Names.{or_else, mask_of, Shape, Cache, IsCache, is_dirty, is_modified, dirty_tag, dirty_mask, modified_mask}
-use Rattle.tcc_serial.proofs.Names.{first_of_line, any_below-found, any_below-at}
+use Rattle.tcc_serial.proofs.Names.{nat_tests, ℕ, ◌+◌, ◌≡◌, ◌<◌, ◌≤◌, ◌⊎◌, ◌==◌, ◌&&◌, ◌||◌, Bool, true, false, not, Option, Some, None}
+use Rattle.tcc_serial.proofs.Names.{is_some, unwrap_or, if◌then◌else◌, arith, refl, sym, ◌∙◌, inl, inr, num, any_below, any_word, word_at}
+use Rattle.tcc_serial.proofs.Names.{line_of, or_else, mask_of, Shape, Cache, IsCache, is_dirty, is_modified, dirty_tag, dirty_mask}
+use Rattle.tcc_serial.proofs.Names.{modified_mask, first_of_line, any_below-found, any_below-at}
 
 -- 1 where the line's frame is dirty with this tag, and where it is so with another mask
 unfoldable pub frame_copy : Cache → (line tag : ℕ) → ℕ
@@ -13,12 +13,7 @@ frame_wrong c l t n = num ((is_dirty c l && dirty_tag c l == t) && not (dirty_ma
 
 pub wrong-copy : (c : Cache) (l t n : ℕ) → frame_wrong c l t n ≤ frame_copy c l t
 unfolding frame_copy frame_wrong
-wrong-copy c l t n = go (is_dirty c l && dirty_tag c l == t) (not (dirty_mask c l == n))
-  where
-    go : (a b : Bool) → num (a && b) ≤ num a
-    go true true = omega arith
-    go true false = omega arith
-    go false b = omega arith
+wrong-copy c l t n = grind (arith, nat_tests)
 
 -- the line's words are as dirty as those of the other cache
 abbrev pub SameDirty : Cache → Cache → (line : ℕ) → Type 0
@@ -90,7 +85,6 @@ fewer-frame sh c e l h f t = go (is_dirty e l) refl
     go true q = let x = dirty-found e l q in let y = found x.0 (x.1) (x.2) (f x.0 (x.1)) in rw (y.0, y.1) (omega arith)
 
 -- where the modified words become dirty
-
 none-modified : (c : Cache) (l : ℕ) → is_modified c l ≡ false → (k : ℕ) → k < 8 → c.modified (word_at l k) ≡ false
 unfolding is_modified any_word
 none-modified c l e k i = go (c.modified (word_at l k)) refl

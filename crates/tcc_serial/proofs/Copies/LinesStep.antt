@@ -178,7 +178,6 @@ answer-lines sh gs ys h c d k j l mine m s w b i z jl dl ll e a (Settles q g f n
     }) (b.lines j d l jl dl ll e)
 
 -- with the world's frames
-
 pub dir-lines : (sh : Shape) (gs : List Grant) (ys : Ways) (h : History) (c d k : ℕ) (m : Msg) (s : DirState) (sends : Sends) → Before sh gs ys h → in_flight h.world.net (Core c) (Dir d) k ≡ Some m → Records sh (h.world.dirs d) c m s → KeptLines sh h.commits (dir_takes h.world c d k s sends)
 unfolding pair
 dir-lines sh gs ys h c d k m s sends b i r = pairs_dir (CopiesAt sh h.commits) h.world c d k s sends

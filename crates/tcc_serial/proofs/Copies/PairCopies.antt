@@ -40,7 +40,6 @@ unfolding line_wrong
 of-wrong l t m v = refl
 
 -- a core's event
-
 moved-copies : (sh : Shape) (d l t : ℕ) (v : Pair) (o : Out) → home sh l ≡ d → frame_copy o.core.cache l t + among (CopyOf l t) (o.sends (Dir (home sh l))) + live (CopyOf l t) v.out ≡ line_copies l t (after_move v o d)
 unfolding line_copies
 moved-copies sh d l t v o e = rw e (omega (arith, live-sends (CopyOf l t) v.out (o.sends (Dir d))))

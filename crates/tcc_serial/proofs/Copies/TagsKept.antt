@@ -62,11 +62,7 @@ tag-step sh p w e = step_cases sh p w e (λ g o. TagStep sh w o)
     taken c d k (Some o) = Unheard refl
 
     same-tags : (d e l : ℕ) (s : DirState) → ((l : ℕ) → s.lines.tag l ≡ (w.dirs d).lines.tag l) → (if e == d then s else w.dirs e).lines.tag l ≡ (w.dirs e).lines.tag l
-    same-tags d e l s h = go (e == d) refl
-      where
-        go : (b : Bool) → (e == d) ≡ b → (if b then s else w.dirs e).lines.tag l ≡ (w.dirs e).lines.tag l
-        go true q = let y : e ≡ d = grind (arith, nat_tests) in h l ∙ ap (λ x. (w.dirs x).lines.tag l) (sym y)
-        go false q = refl
+    same-tags d e l s h = grind (arith, nat_tests)
 
     same-commits : (c d k : ℕ) (m : Msg) (s : DirState) (sends : Sends) → in_flight w.net (Core c) (Dir d) k ≡ Some m → NoCommit m → (t j e : ℕ) → live (Commits t) ((dir_takes w c d k s sends).net (Core j) (Dir e)) ≡ live (Commits t) (w.net (Core j) (Dir e))
     same-commits c d k m s sends i n t j e = omega (arith, takes-consumes w c d k m s sends i (Commits t) j e, none (j == c && e == d) (n t))
@@ -76,11 +72,7 @@ tag-step sh p w e = step_cases sh p w e (λ g o. TagStep sh w o)
         none false h = refl
 
     new-tags : (d e l : ℕ) (s : DirState) → ((l : ℕ) → s.lines.tag l ≡ (if has_mark (w.dirs d).lines l then (w.dirs d).serving.serving else (w.dirs d).lines.tag l)) → (if e == d then s else w.dirs e).lines.tag l ≡ (if e == d && has_mark (w.dirs d).lines l then (w.dirs d).serving.serving else (w.dirs e).lines.tag l)
-    new-tags d e l s h = go (e == d) refl
-      where
-        go : (b : Bool) → (e == d) ≡ b → (if b then s else w.dirs e).lines.tag l ≡ (if b && has_mark (w.dirs d).lines l then (w.dirs d).serving.serving else (w.dirs e).lines.tag l)
-        go true q = let y : e ≡ d = grind (arith, nat_tests) in rw y (h l)
-        go false q = refl
+    new-tags d e l s h = grind (arith, nat_tests)
 
     takes : (c d k : ℕ) (m : Msg) (s : DirState) (sends : Sends) → in_flight w.net (Core c) (Dir d) k ≡ Some m → Records sh (w.dirs d) c m s → TagStep sh w (record { world = dir_takes w c d k s sends; noted = None })
     takes c d k m s sends i (Still y n q) = Heard refl (λ e l. same-tags d e l s (y.tags)) (same-commits c d k m s sends i n)
@@ -190,13 +182,7 @@ taken-commit sh gs h c d k m r dl i q = record { settled = n; core = core; only 
 -- another commit is settled as before
 still-settled : (w v : World) (c d : ℕ) (m : Msg) (x : Noted) (e : ℕ) → Consumes w c d m v → ((x.core.0 == c && e == d) ≡ false) ⊎ (passes (Commits x.tid.0) m ≡ false) → is_settled v e x ≡ is_settled w e x
 unfolding is_settled
-still-settled w v c d m x e b f = let y = go (x.core.0 == c && e == d) (passes (Commits x.tid.0) m) f (b (Commits x.tid.0) x.core.0 e) in rw y refl
-  where
-    go : (a p : Bool) → (a ≡ false) ⊎ (p ≡ false) → live (Commits x.tid.0) (v.net (Core x.core.0) (Dir e)) + num (a && p) ≡ live (Commits x.tid.0) (w.net (Core x.core.0) (Dir e)) → live (Commits x.tid.0) (v.net (Core x.core.0) (Dir e)) ≡ live (Commits x.tid.0) (w.net (Core x.core.0) (Dir e))
-    go false p f o = omega (arith, o)
-    go true false f o = omega (arith, o)
-    go true true (inl f) o = absurd (cc)
-    go true true (inr f) o = absurd (cc)
+still-settled w v c d m x e b f = grind (arith, nat_tests)
 
 pub none-sent : (w : World) (d : ℕ) (x : Noted) → is_settled w d x ≡ true → live (Commits x.tid.0) (w.net (Core x.core.0) (Dir d)) ≡ 0
 unfolding is_settled
@@ -328,11 +314,7 @@ tag-below sh h c d l a k dl ll e p own s = go (h.world.dirs d).serving.serving r
 
 pub applied-owed : (s : DirState) (t : ℕ) → t ≡ s.serving.serving → 1 ≤ s.owed → is_applied s t ≡ true
 unfolding is_applied
-applied-owed s t e o = let y : (t == s.serving.serving) ≡ true = grind (arith, nat_tests) in let z : nat_lt 0 s.owed ≡ true = grind (arith, nat_tests) in rw (y, z) (any-last (nat_lt t s.serving.serving))
-  where
-    any-last : (b : Bool) → (b || true) ≡ true
-    any-last true = refl
-    any-last false = refl
+applied-owed s t e o = grind (arith, nat_tests)
 
 -- while an invalidation of the line is in flight its tag is the served TID
 pub record Invalidating (sh : Shape) (h : History) (c d l : ℕ) : Type 0 where
@@ -341,7 +323,9 @@ pub record Invalidating (sh : Shape) (h : History) (c d l : ℕ) : Type 0 where
 
 pub inv-tag-of : (sh : Shape) (h : History) (c d k l m u : ℕ) → ((d : ℕ) → OwedAt sh h.world d) → KeptNamed sh h.world → KeptStored sh h.commits h.world → CommitsStand sh h.world h.commits → KeptTags sh h.world h.commits → c < sh.cores → d < sh.dirs → l < lines sh → home sh l ≡ d → in_flight h.world.net (Dir d) (Core c) k ≡ Some (Inv l m u) → Invalidating sh h c d l
 unfolding pair passes due share settled_in_line is_settled
-inv-tag-of sh h c d k l m u owes named stored a g cl dl ll e i = record { tag = omega (arith, most, least); sent = invs }
+inv-tag-of sh h c d k l m u owes named stored a g cl dl ll e i =
+    let most : s.lines.tag l ≤ s.serving.serving = tag-served sh w h.commits d l a g dl ll e in
+    record { tag = omega (arith, most, least); sent = invs }
   where
     w : World
     w = h.world
@@ -373,9 +357,6 @@ inv-tag-of sh h c d k l m u owes named stored a g cl dl ll e i = record { tag = 
 
     least : s.serving.serving ≤ s.lines.tag l
     least = omega (arith, n.tid, last-least (settled_in_line sh w d l) h.commits n.commit (n.noted) settled, g d l dl ll e)
-
-    most : s.lines.tag l ≤ s.serving.serving
-    most = tag-served sh w h.commits d l a g dl ll e
 
 pub inv-tag : (sh : Shape) (gs : List Grant) (h : History) (c d k l m u : ℕ) → KeptAll sh gs h → CommitsStand sh h.world h.commits → KeptTags sh h.world h.commits → c < sh.cores → d < sh.dirs → l < lines sh → home sh l ≡ d → in_flight h.world.net (Dir d) (Core c) k ≡ Some (Inv l m u) → Invalidating sh h c d l
 inv-tag sh gs h c d k l m u r = inv-tag-of sh h c d k l m u r.kept.told.owed.owed r.named r.stored

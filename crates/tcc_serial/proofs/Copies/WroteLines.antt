@@ -21,7 +21,6 @@ abbrev pub is_of : (core tid : ℕ) → Noted → Bool
 is_of c t n = (n.core.0 == c) && (n.tid.0 == t)
 
 -- with one more commit
-
 or-swap : (a b c : Bool) → (a || (b || c)) ≡ (b || (a || c))
 or-swap true true c = refl
 or-swap true false c = refl
@@ -68,11 +67,7 @@ pub wrote-new : (base : ℕ) (n : Noted) (cs : List Noted) (c t l : ℕ) → n.c
 wrote-new base n cs c t l e f z = wrote-all base (insert_commit n cs) c t l n (λ w. wrote-insert base n cs c t w ∙ rw (wrote-none base cs c t w z, e, f) (own (stores_word base n.stores w)))
   where
     own : (b : Bool) → (((c == c) && ((t == t) && b)) || false) ≡ b
-    own b = let y : (c == c) ≡ true = grind (arith, nat_tests) in let z : (t == t) ≡ true = grind (arith, nat_tests) in rw (y, z) (go b)
-      where
-        go : (b : Bool) → (b || false) ≡ b
-        go true = refl
-        go false = refl
+    own b = grind (arith, nat_tests)
 
 -- what another one stored stays
 pub record SameWrote (base : ℕ) (cs ds : List Noted) (c t l : ℕ) : Type 0 where
@@ -92,7 +87,6 @@ wrote-other base n cs c t l e = record { line = same-line (wrote base (insert_co
         go false b q = refl
 
 -- where no commit of the list is this core's with this TID, nothing is stored; where one is, its words are
-
 wrote-never : (base : ℕ) (cs : List Noted) (c t w : ℕ) → ((x : Noted) → Contains cs x → is_of c t x ≡ false) → wrote base cs c t w ≡ false
 unfolding wrote
 wrote-never base [] c t w h = refl
@@ -116,10 +110,7 @@ wrote-unknown base cs c t l z = line-never base cs c t l (λ w. wrote-none base 
 pub wrote-at : (base : ℕ) (cs : List Noted) (n : Noted) (w k : ℕ) → stores_word base n.stores w ≡ true → k < length cs → slice_index_or cs k n ≡ n → wrote base cs n.core.0 n.tid.0 w ≡ true
 unfolding wrote
 wrote-at base [] n w k s i e = absurd (omega (arith, i))
-wrote-at base (x ∷ cs) n w zero s i e = here x e
-  where
-    here : (x : Noted) → x ≡ n → (((x.core.0 == n.core.0) && ((x.tid.0 == n.tid.0) && stores_word base x.stores w)) || wrote base cs n.core.0 n.tid.0 w) ≡ true
-    here x e = let y : (n.core.0 == n.core.0) ≡ true = grind (arith, nat_tests) in let z : (n.tid.0 == n.tid.0) ≡ true = grind (arith, nat_tests) in rw (e, y, z, s) refl
+wrote-at base (x ∷ cs) n w zero s i e = grind (arith, nat_tests)
 wrote-at base (x ∷ cs) n w (suc k) s i e = rw (wrote-at base cs n w k s (omega (arith, i)) e) (go ((x.core.0 == n.core.0) && ((x.tid.0 == n.tid.0) && stores_word base x.stores w)))
   where
     go : (b : Bool) → (b || true) ≡ true
@@ -158,11 +149,7 @@ total-only f (suc n) c h z = go (cases_eq n c) (λ g. total-only f n c (λ j l i
 
 pub applied-or : (s : DirState) (t : ℕ) → num (is_applied s t) ≡ num (nat_lt t s.serving.serving) + num ((t == s.serving.serving) && nat_lt 0 s.owed)
 unfolding is_applied
-applied-or s t = go (nat_lt t s.serving.serving) refl
-  where
-    go : (b : Bool) → nat_lt t s.serving.serving ≡ b → num (b || ((t == s.serving.serving) && nat_lt 0 s.owed)) ≡ num b + num ((t == s.serving.serving) && nat_lt 0 s.owed)
-    go true q = let e : (t == s.serving.serving) ≡ false = grind (arith, nat_tests) in rw e refl
-    go false q = omega arith
+applied-or s t = grind (arith, nat_tests)
 
 pub on-its-way : (sh : Shape) (gs : List Grant) (ys : Ways) (h : History) → KeptRun sh gs ys h → CommitsStand sh h.world h.commits
 unfolding share part_in kept_in pair
@@ -172,10 +159,9 @@ on-its-way sh gs ys h k n d i dl s = omega (arith, place, one, applied-or (h.wor
     t = n.tid.0
 
     way : ys d t ≡ Committed
-    way = k.committed.stored n d i dl ∙ told (stores_at sh d n.stores) s
-      where
-        told : (b : Bool) → b ≡ true → (if b then Committed else Skipped) ≡ Committed
-        told b e = rw e refl
+    way =
+        let told : (b : Bool) → b ≡ true → (if b then Committed else Skipped) ≡ Committed = λ b e. rw e refl in
+        k.committed.stored n d i dl ∙ told (stores_at sh d n.stores) s
 
     place : WayAt sh h.world d t Committed
     place = subst (WayAt sh h.world d t) way (k.ways d t dl (positive-committed sh gs h.world h.commits n k.all.owners i))
@@ -203,11 +189,10 @@ uncommitted sh gs ys h c t k l e = let one : num (has_tid (h.world.cores c).phas
 
 -- it sends a Commit to each directory where it stored
 pub commit-sent : (sh : Shape) (gs : List Grant) (ys : Ways) (h : History) (c d : ℕ) (s : Out) (n : Noted) → KeptRun sh gs ys h → c < sh.cores → TellsCommit sh (h.world.cores c) s n → d < sh.dirs → stores_at sh d n.stores ≡ true → 1 ≤ among (Commits n.tid.0) (s.sends (Dir d))
-commit-sent sh gs ys h c d s n k cl a dl e = go (told-committed (s.sends (Dir d)) n.tid.0 (live_way (h.world.cores c).phase (writes_at sh (h.world.cores c).cache d)) (a.told d dl ∙ there (stores_at sh d n.stores) e))
+commit-sent sh gs ys h c d s n k cl a dl e =
+    let there : (b : Bool) → b ≡ true → (if b then Committed else Skipped) ≡ Committed = λ b q. rw q refl in
+    go (told-committed (s.sends (Dir d)) n.tid.0 (live_way (h.world.cores c).phase (writes_at sh (h.world.cores c).cache d)) (a.told d dl ∙ there (stores_at sh d n.stores) e))
   where
-    there : (b : Bool) → b ≡ true → (if b then Committed else Skipped) ≡ Committed
-    there b q = rw q refl
-
     go : (live_way (h.world.cores c).phase (writes_at sh (h.world.cores c).cache d) ≡ Committed) ⊎ (1 ≤ among (Commits n.tid.0) (s.sends (Dir d))) → 1 ≤ among (Commits n.tid.0) (s.sends (Dir d))
     go (inl q) = absurd (omega (arith, uncommitted sh gs ys h c n.tid.0 k cl (a.has), k.committed.only d n.tid.0 dl (k.live c d n.tid.0 cl dl (a.has) ∙ q)))
     go (inr q) = q

@@ -178,14 +178,9 @@ outcome sh s c (Flush l k ws g) = back-outcome sh s c l k ws g (Flush l k ws g) 
 outcome sh s c m = Waiting m
 
 -- what is sent, by kind
-
 pub among-to : (q : Kind) (c j : ℕ) (m : Msg) → among q (to (Core c) (m ∷ []) (Core j)) ≡ num (j == c && passes q m)
 unfolding among
-among-to q c j m = go (j == c)
-  where
-    go : (b : Bool) → among q (if b then m ∷ [] else []) ≡ num (b && passes q m)
-    go true = omega arith
-    go false = refl
+among-to q c j m = elim (j == c) as (λ b. among q (if b then m ∷ [] else []) ≡ num (b && passes q m)) [ true ↦ omega arith | false ↦ refl ]
 
 pub among-none : (q : Kind) → among q [] ≡ 0
 unfolding among
@@ -193,15 +188,10 @@ among-none q = refl
 
 pub none-to : (q : Kind) (c j : ℕ) (m : Msg) → passes q m ≡ false → among q (to (Core c) (m ∷ []) (Core j)) ≡ 0
 unfolding among
-none-to q c j m e = go (j == c)
-  where
-    go : (b : Bool) → among q (if b then m ∷ [] else []) ≡ 0
-    go true = rw e refl
-    go false = refl
+none-to q c j m e = elim (j == c) as (λ b. among q (if b then m ∷ [] else []) ≡ 0) [ true ↦ rw e refl | false ↦ refl ]
 
 pub none-invalidations : (q : Kind) → ((l k t : ℕ) → passes q (Inv l k t) ≡ false) → (sh : Shape) (ls : Lines) (c t j : ℕ) → among q (invalidations sh ls c t (Core j)) ≡ 0
 unfolding invalidations invs_to among
-none-invalidations q e sh ls c t j = among-flat_map_none q (λ l. Inv l (ls.mark l) t ∷ []) (λ l. one l) (those (is_invalidated sh ls c j) (lines sh))
-  where
-    one : (l : ℕ) → among q (Inv l (ls.mark l) t ∷ []) ≡ 0
-    one l = rw (e l (ls.mark l) t) refl
+none-invalidations q e sh ls c t j =
+    let one : (l : ℕ) → among q (Inv l (ls.mark l) t ∷ []) ≡ 0 = λ l. rw (e l (ls.mark l) t) refl in
+    among-flat_map_none q (λ l. Inv l (ls.mark l) t ∷ []) (λ l. one l) (those (is_invalidated sh ls c j) (lines sh))

@@ -39,13 +39,10 @@ is_invalidated-outside sh ls c j k e = rw e refl
 
 invalidations-inside : (sh : Shape) (ls : Lines) (c t : ℕ) → SendsInside sh (invalidations sh ls c t)
 unfolding invalidations invs_to among
-invalidations-inside sh ls c t j l = rw (those-none (is_invalidated sh ls c j) (lines sh) (λ k. none k)) refl
-  where
-    outside : nat_lt j sh.cores ≡ false
-    outside = grind (arith, nat_tests)
-
-    none : (k : ℕ) → is_invalidated sh ls c j k ≡ false
-    none k = is_invalidated-outside sh ls c j k outside
+invalidations-inside sh ls c t j l =
+    let outside : nat_lt j sh.cores ≡ false = grind (arith, nat_tests) in
+    let none : (k : ℕ) → is_invalidated sh ls c j k ≡ false = λ k. is_invalidated-outside sh ls c j k outside in
+    rw (those-none (is_invalidated sh ls c j) (lines sh) (λ k. none k)) refl
 
 pub dir-inside : (sh : Shape) (s : DirState) (c : ℕ) (m : Msg) → c < sh.cores → OwnersInside sh s → AnswersInside sh (dir_deliver sh s c m)
 dir-inside sh s c m l h = go (outcome sh s c m)

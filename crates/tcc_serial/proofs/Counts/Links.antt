@@ -44,13 +44,20 @@ live-takes k (None ∷ l) zero m e = absurd (cc)
 live-takes k (Some x ∷ l) (suc i) m e = omega (arith, live-takes k l i m e)
 live-takes k (None ∷ l) (suc i) m e = live-takes k l i m e
 
+-- a message of a kind of which none is in flight isn't taken
+pub none-taken : (q : Kind) (l : Link) (i : ℕ) (m : Msg) → get_or l i None ≡ Some m → live q l ≡ 0 → passes q m ≡ false
+none-taken q l i m e z = go (passes q m) refl
+  where
+    go : (b : Bool) → passes q m ≡ b → passes q m ≡ false
+    go false h = h
+    go true h = let n : num (passes q m) ≡ 1 = ap num h in absurd (omega (arith, n, z, live-takes q l i m e))
+
 pub among-append : (k : Kind) (a b : List Msg) → among k (a ++ b) ≡ among k a + among k b
 unfolding among
 among-append k [] b = omega arith
 among-append k (m ∷ a) b = omega (arith, among-append k a b)
 
 -- where each message of a kind is one of another, there are no more of them
-
 pub live-fewer : (a b : Kind) → ((m : Msg) → num (passes a m) ≤ num (passes b m)) → (l : Link) → live a l ≤ live b l
 unfolding live
 live-fewer a b h [] = omega arith
@@ -63,7 +70,6 @@ among-fewer a b h [] = omega arith
 among-fewer a b h (m ∷ ms) = omega (arith, h m, among-fewer a b h ms)
 
 -- sums
-
 pub total-same : (f g : ℕ → ℕ) (n : ℕ) → ((j : ℕ) → j < n → f j ≡ g j) → total f n ≡ total g n
 unfolding total
 total-same f g zero h = refl

@@ -1,14 +1,14 @@
 -- What is to be shown of a step, by the kind of its event, and what each kind does to the pairs of a core and a directory.
-use Rattle.tcc_serial.proofs.Names.{ℕ, ◌+◌, ◌≡◌, ◌<◌, Bool, true, false, List, [], ◌∷◌, ◌++◌, ◌==◌, ◌&&◌, arith, refl, ap, sym, subst, ◌∙◌}
-use Rattle.tcc_serial.proofs.Names.{◌⊎◌, inl, inr, nat_tests, cases_eq, Node, Core, Dir, Vendor, Msg, TidGrant, total, DirState, World}
-use Rattle.tcc_serial.proofs.Names.{Link, sent_all, to, Out, core_moves, core_takes, dir_takes, dir_asks, vendor_gives, Pair, pair}
+use Rattle.tcc_serial.proofs.Names.{DirState, from_dir, ℕ, ◌+◌, ◌≡◌, ◌<◌, Bool, true, false, List, [], ◌∷◌, ◌++◌, ◌==◌, ◌&&◌, arith, refl}
+use Rattle.tcc_serial.proofs.Names.{ap, sym, subst, ◌∙◌, ◌⊎◌, inl, inr, nat_tests, cases_eq, Node, Core, Dir, Vendor, Msg, TidGrant, total}
+use Rattle.tcc_serial.proofs.Names.{World, Link, sent_all, to, Out, core_moves, core_takes, dir_takes, dir_asks, vendor_gives, Pair, pair}
 use Rattle.tcc_serial.proofs.Names.{after_move, grant_taken, back_taken, after_answer, out_taken, after_grant, after_other_grant, share}
 use Rattle.tcc_serial.proofs.Names.{sum_of, Option, Some, None, IfSome, nat_lt, if◌then◌else◌, Program, Event, Exec, Evict, Deliver, TidReq}
 use Rattle.tcc_serial.proofs.Names.{LoadReq, Fill, Skip, Probe, ProbeReply, Mark, Commit, Abort, WriteBack, Flush, DataReq, Inv, InvAck}
-use Rattle.tcc_serial.proofs.Names.{Shape, in_flight, Sends, nothing, core_exec, core_evict, core_deliver, from_dir, grant, Answer, Waits}
-use Rattle.tcc_serial.proofs.Names.{Drops, Asks, Takes, dir_deliver, Stepped, step, moved, taken, answered, delivered, if_in_flight}
-use Rattle.tcc_serial.proofs.Names.{happens, names_nodes, is_node, Grant, grant_for, granted_by, sends_of, sends_for, sent_by, Uses}
-use Rattle.tcc_serial.proofs.Names.{used_by, Views, uses_executed, uses_delivered, views_delivered, views_after, put}
+use Rattle.tcc_serial.proofs.Names.{Shape, in_flight, Sends, nothing, core_exec, core_evict, core_deliver, grant, Answer, Waits, Drops}
+use Rattle.tcc_serial.proofs.Names.{Asks, Takes, dir_deliver, Stepped, step, moved, taken, answered, delivered, if_in_flight, happens}
+use Rattle.tcc_serial.proofs.Names.{names_nodes, is_node, Grant, grant_for, granted_by, sends_of, sends_for, sent_by, Uses, used_by, Views}
+use Rattle.tcc_serial.proofs.Names.{uses_executed, uses_delivered, views_delivered, views_after, put}
 use Rattle.tcc_rules.specs.VendorDeliver.{Granted}
 use Rattle.tcc_serial.proofs.Counts.Links.{total-same, total-at, total-plus}
 
@@ -28,7 +28,6 @@ append-none [] = refl
 append-none (x ∷ l) = rw (append-none l) refl
 
 -- a core moves
-
 pub moves-own : (w : World) (c : ℕ) (o : Out) (d : ℕ) → pair (core_moves w c o) c d ≡ after_move (pair w c d) o d
 unfolding pair core_moves
 moves-own w c o d = rw (same c) refl
@@ -38,7 +37,6 @@ unfolding pair core_moves
 moves-other w c o j d h = rw (differ j c h) refl
 
 -- a core takes a grant
-
 grant-own : (w : World) (c k : ℕ) (o : Out) (d : ℕ) → pair (core_takes w Vendor c k o) c d ≡ after_move (grant_taken (pair w c d) k) o d
 unfolding pair core_takes
 grant-own w c k o d = rw (same c) refl
@@ -48,7 +46,6 @@ unfolding pair core_takes
 grant-other w c k o j d h = rw (differ j c h) refl
 
 -- a core takes a message of directory e
-
 pub back-own : (w : World) (c k : ℕ) (o : Out) (d : ℕ) → pair (core_takes w (Dir d) c k o) c d ≡ after_move (back_taken (pair w c d) k) o d
 unfolding pair core_takes
 back-own w c k o d = rw (same c) (rw (same d) refl)
@@ -62,7 +59,6 @@ unfolding pair core_takes
 back-other w e c k o j d h = rw (differ j c h) (rw (and-false (d == e)) refl)
 
 -- directory e takes a message of core c
-
 pub dir-own : (w : World) (c d k : ℕ) (s : DirState) (sends : Node → List Msg) → pair (dir_takes w c d k s sends) c d ≡ after_answer (out_taken (pair w c d) k) s (sends (Core c))
 unfolding pair dir_takes
 dir-own w c d k s sends = rw (same c) (rw (same d) refl)
@@ -98,13 +94,8 @@ unfolding pair vendor_gives sent_all
 vendor-other w c k j d h = rw (differ j c h) (rw (append-none (w.net Vendor (Core j))) refl)
 
 -- what holds of all pairs
-
 pub either : {A : Type 0} → (j c : ℕ) → (j ≡ c → A) → ((j ≡ c → ⊥) → A) → A
-either {A = A} j c f g = go (cases_eq j c)
-  where
-    go : (j ≡ c) ⊎ (j ≡ c → ⊥) → A
-    go (inl e) = f e
-    go (inr h) = g h
+either {A = A} j c f g = elim (cases_eq j c) [ inl e ↦ f e | inr h ↦ g h ]
 
 abbrev pub AllPairs : (ℕ → ℕ → Pair → Type 0) → World → Type 0
 AllPairs P w = (c d : ℕ) → P c d (pair w c d)
@@ -144,7 +135,6 @@ pairs_vendor P w c k own others j d = either j c
     (λ h. subst (P j d) (sym (vendor-other w c k j d h)) (others j d h))
 
 -- sums over the cores
-
 shares_at : (f : Pair → ℕ) (n : ℕ) (v w : World) (c d x y : ℕ) → c < n → f (pair v c d) + x ≡ f (pair w c d) + y → ((j : ℕ) → (j ≡ c → ⊥) → pair v j d ≡ pair w j d) → sum_of f n v d + x ≡ sum_of f n w d + y
 unfolding share
 shares_at f n v w c d x y l e others = omega (arith, total-at (share f v d) (share f w d) n c l (λ j h. ap f (others j h)))
@@ -287,3 +277,37 @@ sent_cases sh p w e R ex ev gr fr di ve = node_cases sh p w e R ex ev gr fr (λ 
 -- nor what is sent
 pub step_cases : (sh : Shape) (p : Program) (w : World) (e : Event) (R : List Grant → Stepped → Type 0) → FromEvents sh p w (λ c. []) (λ v x. R) (AnsweringAll sh w) (IfSome (step sh p w e) (R (granted_by w e)))
 step_cases sh p w e R = sent_cases sh p w e (λ x. R)
+
+-- what holds of each directory, where each answer leaves it so
+abbrev pub Leaves : (DirState → Type 0) → Answer → Type 0
+Leaves P (Asks new sends) = P new
+Leaves P (Takes new sends) = P new
+Leaves P _ = Unit {0}
+
+pub dirs_step : (sh : Shape) (p : Program) (w : World) (e : Event) (P : DirState → Type 0) → ((d : ℕ) → P (w.dirs d)) → ((c d k : ℕ) (m : Msg) → in_flight w.net (Core c) (Dir d) k ≡ Some m → Leaves P (dir_deliver sh (w.dirs d) c m)) → IfSome (step sh p w e) (λ o. (d : ℕ) → P (o.world.dirs d))
+unfolding core_moves core_takes dir_takes dir_asks vendor_gives
+dirs_step sh p w e P h f = step_cases sh p w e (λ g o. (d : ℕ) → P (o.world.dirs d))
+    (λ c l. moved c (core_exec sh p c (w.cores c)))
+    (λ c x y l. moved c (core_evict sh x y (w.cores c)))
+    (λ c k t i. h)
+    (λ c d k m i. taken c d k (from_dir sh d (w.cores c) m))
+    (λ c d k m i. answered c d k (dir_deliver sh (w.dirs d) c m) (f c d k m i))
+    (λ c k i. h)
+  where
+    moved : (c : ℕ) (q : Option Out) → IfSome q (λ o. (d : ℕ) → P ((core_moves w c o).dirs d))
+    moved c None = tt
+    moved c (Some o) = h
+
+    taken : (c d k : ℕ) (q : Option Out) → IfSome q (λ o. (x : ℕ) → P ((core_takes w (Dir d) c k o).dirs x))
+    taken c d k None = tt
+    taken c d k (Some o) = h
+
+    at : (s : DirState) (x : ℕ) → P s → (b : Bool) → P (if b then s else w.dirs x)
+    at s x u true = u
+    at s x u false = h x
+
+    answered : (c d k : ℕ) (a : Answer) → Leaves P a → OfAnswer w c d k (λ v. (x : ℕ) → P (v.dirs x)) a
+    answered c d k Waits u = tt
+    answered c d k Drops u = λ x. at (w.dirs d) x (h d) (x == d)
+    answered c d k (Asks s sends) u = λ x. at s x u (x == d)
+    answered c d k (Takes s sends) u = λ x. at s x u (x == d)

@@ -11,15 +11,10 @@ use Rattle.tcc_serial.proofs.Names.{load_owned, load_request, marking, mark_owne
 use Rattle.tcc_rules.specs.DirDeliver.{commit}
 use Rattle.tcc_serial.proofs.Counts.DirOutcome.{Outcome, Waiting, Spent, AsksOwner, TakesSkip, TakesAbort, TakesProbe, TakesLoad, TakesMark}
 use Rattle.tcc_serial.proofs.Counts.DirOutcome.{TakesCommit, TakesAck, TakesCopy, outcome}
-use Rattle.tcc_serial.proofs.Counts.StepCases.{pairs_dir, pairs_asks, OfAnswer, step_cases}
+use Rattle.tcc_serial.proofs.Counts.StepCases.{pairs_dir, pairs_asks, OfAnswer, step_cases, Leaves, dirs_step}
 use Rattle.tcc_serial.specs.Asked.{AskedOwned, KeptAsked}
 
-abbrev pub AskedBy : Answer → Type 0
-AskedBy (Asks new sends) = AskedOwned new
-AskedBy (Takes new sends) = AskedOwned new
-AskedBy _ = Unit {0}
-
-pub dir-asked : (sh : Shape) (s : DirState) (c : ℕ) (m : Msg) → AskedOwned s → AskedBy (dir_deliver sh s c m)
+dir-asked : (sh : Shape) (s : DirState) (c : ℕ) (m : Msg) → AskedOwned s → Leaves AskedOwned (dir_deliver sh s c m)
 dir-asked sh s c m h = go (outcome sh s c m)
   where
     asked : (l o : ℕ) → s.lines.owner l ≡ Some o → (x : ℕ) (b : Bool) → (x == l) ≡ b → (if b then true else s.lines.asked x) ≡ true → is_some (s.lines.owner x) ≡ true
@@ -34,7 +29,7 @@ dir-asked sh s c m h = go (outcome sh s c m)
     came x true a = absurd (cc)
     came x false a = h x a
 
-    go : {m : Msg} {a : Answer} → Outcome sh s c m a → AskedBy a
+    go : {m : Msg} {a : Answer} → Outcome sh s c m a → Leaves AskedOwned a
     go (Waiting m) = tt
     go (Spent m i) = tt
     go (AsksOwner m l o w e) = λ x a. asked l o e x (x == l) refl a
@@ -43,34 +38,7 @@ dir-asked sh s c m h = go (outcome sh s c m)
     go _ = h
 
 pub step-asked : (sh : Shape) (p : Program) (w : World) (e : Event) → KeptAsked sh w → IfSome (step sh p w e) (λ o. KeptAsked sh o.world)
-unfolding pair core_moves core_takes vendor_gives
-step-asked sh p w e h = step_cases sh p w e (λ g o. KeptAsked sh o.world)
-    (λ c l. moved c (core_exec sh p c (w.cores c)))
-    (λ c a b l. moved c (core_evict sh a b (w.cores c)))
-    (λ c k u i. h)
-    (λ c d k m i. taken c d k (from_dir sh d (w.cores c) m))
-    (λ c d k m i. answered c d k (dir_deliver sh (w.dirs d) c m) (dir-asked sh (w.dirs d) c m (h d)))
-    (λ c k i. h)
-  where
-    P : ℕ → ℕ → Pair → Type 0
-    P c d v = AskedOwned v.dir
-
-    moved : (c : ℕ) (q : Option Out) → IfSome q (λ o. KeptAsked sh (core_moves w c o))
-    moved c None = tt
-    moved c (Some o) = h
-
-    taken : (c d k : ℕ) (q : Option Out) → IfSome q (λ o. KeptAsked sh (core_takes w (Dir d) c k o))
-    taken c d k None = tt
-    taken c d k (Some o) = h
-
-    all : (v : World) → ((c d : ℕ) → P c d (pair v c d)) → KeptAsked sh v
-    all v f d = f 0 d
-
-    answered : (c d k : ℕ) (a : Answer) → AskedBy a → OfAnswer w c d k (λ v. KeptAsked sh v) a
-    answered c d k Waits u = tt
-    answered c d k Drops u = all (dir_takes w c d k (w.dirs d) (λ dst. [])) (pairs_dir P w c d k (w.dirs d) (λ dst. []) (h d) (λ j n. h d) (λ j e. h e))
-    answered c d k (Asks s sends) u = all (dir_asks w d s sends) (pairs_asks P w d s sends (λ j. u) (λ j e. h e))
-    answered c d k (Takes s sends) u = all (dir_takes w c d k s sends) (pairs_dir P w c d k s sends u (λ j n. u) (λ j e. h e))
+step-asked sh p w e h = dirs_step sh p w e AskedOwned h (λ c d k m i. dir-asked sh (w.dirs d) c m (h d))
 
 pub start-asked : (sh : Shape) (entries : ℕ → Local) (ram : ℕ → ℕ) → KeptAsked sh (start entries ram)
 unfolding start dir_start no_lines

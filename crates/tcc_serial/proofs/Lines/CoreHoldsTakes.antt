@@ -46,11 +46,7 @@ keeps-none c l e = go (keeps_unmodified c l) refl
 
 staled-fresh : (k : ℕ) (a : Option Awaited) → is_fresh (staled k a) ≡ true → is_fresh a ≡ true
 staled-fresh k None q = absurd (cc)
-staled-fresh k (Some a) q = go (a.line == k) a.stale q
-  where
-    go : (b c : Bool) → not (b || c) ≡ true → not c ≡ true
-    go true c q = absurd (cc)
-    go false c q = q
+staled-fresh k (Some a) q = grind (arith, nat_tests)
 
 staled-stale : (k : ℕ) (a : Option Awaited) → is_awaited (staled k a) k ≡ true → is_fresh (staled k a) ≡ false
 staled-stale k None q = absurd (cc)

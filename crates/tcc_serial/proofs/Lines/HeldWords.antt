@@ -37,11 +37,7 @@ fewer-stored w x l also c f g k i q = go (word_at l k) (word_at l k == w) refl q
 
     here : (a : Bool) → also ≡ a → (b : Bool) → c.read w ≡ b → (a || b) ≡ true → is_kept c w ≡ true
     here true e b r q = let y = f e in let z = y.0 in let u = y.1 in rw (z, u) refl
-    here false e true r q = let z = g r in rw (z, r) (last (not (c.modified w)))
-      where
-        last : (b : Bool) → (b || true) ≡ true
-        last true = refl
-        last false = refl
+    here false e true r q = grind (arith, nat_tests)
     here false e false r q = absurd (cc)
 
     go : (v : ℕ) (b : Bool) → (v == w) ≡ b → (is_some (if v == w then Some x else c.value v) && (not (if v == w then true else c.modified v) || (if w == v then also || c.read v else c.read v))) ≡ true → is_kept c v ≡ true
@@ -86,7 +82,6 @@ fewer-evicted x y l c = go (c.at x y)
     go (Some k) j i q = one (c.value (word_at l j)) (c.modified (word_at l j)) (c.read (word_at l j)) (k == line_of (word_at l j)) q
 
 -- what a commit adds to what is kept was modified
-
 abbrev KeptOrModified : Cache → Cache → (line : ℕ) → Type 0
 KeptOrModified c e l = (k : ℕ) → k < 8 → is_kept e (word_at l k) ≡ true → (is_kept c (word_at l k) ≡ true) ⊎ (c.modified (word_at l k) ≡ true)
 

@@ -58,7 +58,6 @@ unfolding among
 none-fills l = refl
 
 -- every event
-
 pub step-loading : (sh : Shape) (p : Program) (w : World) (e : Event) → KeptLoading sh w → IfSome (step sh p w e) (λ o. KeptLoading sh o.world)
 unfolding pair
 step-loading sh p w e h = step_cases sh p w e (λ g o. KeptLoading sh o.world)

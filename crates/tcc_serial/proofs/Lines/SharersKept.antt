@@ -49,11 +49,7 @@ holds-kept l v q = rw q refl
 
 pub holds-fill : (l : ℕ) (v : Pair) → is_fresh v.core.awaited ≡ true → 1 ≤ live (FillOf l) v.back → holds_line l v ≡ true
 unfolding holds_line
-holds-fill l v q i = let y : nat_lt 0 (live (FillOf l) v.back) ≡ true = grind (arith, nat_tests) in rw (q, y) (last (keeps_unmodified v.core.cache l))
-  where
-    last : (b : Bool) → (b || true) ≡ true
-    last true = refl
-    last false = refl
+holds-fill l v q i = grind (arith, nat_tests)
 
 -- a core's event: what it holds it held before, or it has committed the line and has acknowledged nothing of it
 pub sharer-moved : (base : ℕ) (cs ds : List Noted) (c l : ℕ) (v w : Pair) → w.dir ≡ v.dir
@@ -61,12 +57,8 @@ pub sharer-moved : (base : ℕ) (cs ds : List Noted) (c l : ℕ) (v w : Pair) �
     → (CommitsLine base cs c l v → CommitsLine base ds c l w) → (holds_line l w ≡ true → live (GoneOf l) w.out ≡ live (GoneOf l) v.out) → SharerOf base cs c l v → SharerOf base ds c l w
 sharer-moved base cs ds c l v w e f g u h = record { shares = λ q. shares (f q); stays = λ q. stays q (f q) }
   where
-    carried : (v.dir.lines.sharers l c ≡ true) ⊎ CommitsLine base cs c l v → (w.dir.lines.sharers l c ≡ true) ⊎ CommitsLine base ds c l w
-    carried (inl x) = inl (rw e x)
-    carried (inr x) = inr (g x)
-
     shares : (holds_line l v ≡ true) ⊎ (CommitsLine base ds c l w × (live (GoneOf l) v.out ≡ 0)) → (w.dir.lines.sharers l c ≡ true) ⊎ CommitsLine base ds c l w
-    shares (inl x) = carried (h.shares x)
+    shares (inl x) = elim (h.shares x) [ inl x ↦ inl (rw e x) | inr x ↦ inr (g x) ]
     shares (inr x) = inr (x.0)
 
     stays : holds_line l w ≡ true → (holds_line l v ≡ true) ⊎ (CommitsLine base ds c l w × (live (GoneOf l) v.out ≡ 0)) → live (GoneOf l) w.out ≡ 0
@@ -94,11 +86,7 @@ sharer-answered base cs c l v w s h = record { shares = λ q. shares (held q); s
         go (inr x) (inr y) = inr y
 
     carried : holds_line l v ≡ true → (v.dir.lines.sharers l c ≡ true) ⊎ CommitsLine base cs c l v → (w.dir.lines.sharers l c ≡ true) ⊎ CommitsLine base cs c l w
-    carried q (inl x) = still (s.kept x)
-      where
-        still : (w.dir.lines.sharers l c ≡ true) ⊎ (1 ≤ live (GoneOf l) v.out) → (w.dir.lines.sharers l c ≡ true) ⊎ CommitsLine base cs c l w
-        still (inl y) = inl y
-        still (inr y) = absurd (omega (arith, y, h.stays q))
+    carried q (inl x) = elim (s.kept x) [ inl y ↦ inl y | inr y ↦ absurd (omega (arith, y, h.stays q)) ]
     carried q (inr x) = s.commits x
 
     shares : (holds_line l v ≡ true) ⊎ ((w.dir.lines.sharers l c ≡ true) × (live (GoneOf l) v.out ≡ 0)) → (w.dir.lines.sharers l c ≡ true) ⊎ CommitsLine base cs c l w
@@ -217,19 +205,17 @@ own-sharers sh gs ys h c d l o b ld cl dl ll e s k = sharer-moved sh.base h.comm
 
     stored : (n : Noted) → o.commit ≡ Some n → names_line sh.base n.stores l ≡ true → AfterStep sh c (h.world.cores c) o → CommitsLine sh.base (and_noted o.commit h.commits) c l w × (live (GoneOf l) v.out ≡ 0)
     stored n q i (inl x) = absurd (let y = sym (x.commit) ∙ q in cc)
-    stored n q i (inr x) = (subst (λ a. CommitsLine sh.base (and_noted a h.commits) c l w) (sym q) (record { tid = n.tid.0; sent = omega (arith, y.sent i, live-sends (Commits n.tid.0) v.out (o.sends (Dir d))); line = (wrote-new sh.base n h.commits c n.tid.0 l core refl (y.fresh)).line ∙ i }), unowed sh gs ys h c d l b cl (served-owed (h.world.dirs d) n.tid.0 below (s.unapplied n q (stored-home sh d l n ll e i))))
+    stored n q i (inr x) =
+        let y : NewCommit sh.base h.commits c d l v o n = new n q core in
+        (subst (λ a. CommitsLine sh.base (and_noted a h.commits) c l w) (sym q) (record { tid = n.tid.0; sent = omega (arith, y.sent i, live-sends (Commits n.tid.0) v.out (o.sends (Dir d))); line = (wrote-new sh.base n h.commits c n.tid.0 l core refl (y.fresh)).line ∙ i }), unowed sh gs ys h c d l b cl (served-owed (h.world.dirs d) n.tid.0 below (s.unapplied n q (stored-home sh d l n ll e i))))
       where
         tells : (a : Option Noted) → a ≡ Some n → IfSome a (TellsCommit sh (h.world.cores c) o) → TellsCommit sh (h.world.cores c) o n
         tells a f g = rw f at g
 
         core : n.core.0 ≡ c
-        core = same (sym (x.commit) ∙ q)
-          where
-            same : Some x.noted ≡ Some n → n.core.0 ≡ c
-            same z = let p : x.noted ≡ n = cc in rw p at (x.core)
-
-        y : NewCommit sh.base h.commits c d l v o n
-        y = new n q core
+        core =
+            let same : Some x.noted ≡ Some n → n.core.0 ≡ c = λ z. let p : x.noted ≡ n = cc in rw p at (x.core) in
+            same (sym (x.commit) ∙ q)
 
         below : n.tid.0 ≤ (h.world.dirs d).serving.serving
         below = go (cases_lt (h.world.dirs d).serving.serving n.tid.0)
@@ -239,11 +225,7 @@ own-sharers sh gs ys h c d l o b ld cl dl ll e s k = sharer-moved sh.base h.comm
             go (inl z) = absurd (omega (arith, s.reached, above-sent (h.world.dirs d).serving.serving n.tid.0 (o.sends (Dir d)) z, commit-sent sh gs ys h c d o n b.told cl (tells o.commit q (s.speaks.tells.commits)) dl (stored-home sh d l n ll e i)))
 
     held : (keeps_unmodified w.core.cache l ≡ true) ⊎ ((is_fresh w.core.awaited ≡ true) × (1 ≤ live (FillOf l) w.back)) → (holds_line l v ≡ true) ⊎ (CommitsLine sh.base (and_noted o.commit h.commits) c l w × (live (GoneOf l) v.out ≡ 0))
-    held (inl q) = kept (s.holds.kept q)
-      where
-        kept : (keeps_unmodified v.core.cache l ≡ true) ⊎ StoredLine sh l o → (holds_line l v ≡ true) ⊎ (CommitsLine sh.base (and_noted o.commit h.commits) c l w × (live (GoneOf l) v.out ≡ 0))
-        kept (inl x) = inl (holds-kept l v x)
-        kept (inr x) = inr (stored x.commit (x.noted) (x.line) (s.after))
+    held (inl q) = elim (s.holds.kept q) [ inl x ↦ inl (holds-kept l v x) | inr x ↦ inr (stored x.commit (x.noted) (x.line) (s.after)) ]
     held (inr q) = fresh (s.holds.fresh (q.0))
       where
         fresh : (is_fresh v.core.awaited ≡ true) ⊎ (v.core.awaited ≡ None) → (holds_line l v ≡ true) ⊎ (CommitsLine sh.base (and_noted o.commit h.commits) c l w × (live (GoneOf l) v.out ≡ 0))
@@ -284,12 +266,7 @@ reads-valid sh w c h k n q x r = go (w.cores c).phase refl
     go : (p : Phase) → s.phase ≡ p → is_some (s.cache.value x) ≡ true
     go Running e = valid e (k c (home sh (line_of x)) (home-below sh (line_of x) n) x refl r)
     go (Solo t) e = absurd (let y = h.words.unread_alone (rw e refl) x in cc)
-    go AwaitTid e = absurd (let y : acting AwaitTid ≡ true = rw e at q in cc)
-    go DoomedTid e = absurd (let y : acting DoomedTid ≡ true = rw e at q in cc)
-    go (Probing t) e = absurd (let y : acting (Probing t) ≡ true = rw e at q in cc)
-    go (Ready t) e = absurd (let y : acting (Ready t) ≡ true = rw e at q in cc)
-    go (Overflowing t) e = absurd (let y : acting (Overflowing t) ≡ true = rw e at q in cc)
-    go Halted e = absurd (let y : acting Halted ≡ true = rw e at q in cc)
+    go m e = absurd (let y : acting m ≡ true = rw e at q in cc)
 
 abbrev pub SharersAt : Shape → List Noted → (core dir : ℕ) → Pair → Type 0
 SharersAt sh cs c d v = (l : ℕ) → c < sh.cores → d < sh.dirs → l < lines sh → home sh l ≡ d → SharerOf sh.base cs c l v
@@ -321,10 +298,7 @@ moved-sharers sh gs ys h c o b ld t a f j d = either j c
   where
     unlike : (x : Noted) → o.commit ≡ Some x → (j ≡ c → ⊥) → AfterStep sh c (h.world.cores c) o → (x.core.0 == j) ≡ false
     unlike x q n (inl y) = absurd (let z = sym (y.commit) ∙ q in cc)
-    unlike x q n (inr y) = same-core (sym (y.commit) ∙ q)
-      where
-        same-core : Some y.noted ≡ Some x → (x.core.0 == j) ≡ false
-        same-core z = let p : y.noted ≡ x = cc in let r : x.core.0 ≡ c = rw p at (y.core) in grind (arith, nat_tests)
+    unlike x q n (inr y) = grind (arith, nat_tests)
 
 -- A message that a core takes keeps that a core which holds a line is one of its sharers, or its Commit of the line is in flight.
 fill-away : (n e l : ℕ) (m : Msg) → passes (FillOf l) m ≡ true → passes (LinesAway n e) m ≡ not ((l % n) == e)
@@ -382,8 +356,4 @@ back-sharers sh w cs c e d k l m v o h q i vc vd vo vb f g ld t = sharer-moved s
 
     gone : holds_line l x ≡ true → (b : Bool) → passes (InvOf l) m ≡ b → live (GoneOf l) x.out ≡ live (GoneOf l) u.out
     gone r false p = same (g p)
-    gone r true p = which (f.gone p)
-      where
-        which : (among (GoneOf l) (o.sends (Dir (home sh l))) ≡ 0) ⊎ Gone l o.core → live (GoneOf l) x.out ≡ live (GoneOf l) u.out
-        which (inl y) = same (rw q at y)
-        which (inr y) = absurd (none y (holds-cases l x r))
+    gone r true p = elim (f.gone p) [ inl y ↦ same (rw q at y) | inr y ↦ absurd (none y (holds-cases l x r)) ]

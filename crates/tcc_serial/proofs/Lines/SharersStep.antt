@@ -8,7 +8,7 @@ use Rattle.tcc_serial.proofs.Names.{History, and_noted, step, KeptNamed, KeptLoa
 use Rattle.tcc_serial.proofs.Names.{AckOf, Acks, InvOf, InvsAway, FillOf, among, passes, Grant, Pair, after_move, grant_taken, back_taken}
 use Rattle.tcc_serial.proofs.Names.{after_answer, out_taken, after_grant, after_other_grant, is_applied, stores_at, Ways}
 use Rattle.tcc_serial.proofs.Copies.LinesKept.{Before}
-use Rattle.tcc_serial.proofs.Counts.Links.{live-sends, live-takes}
+use Rattle.tcc_serial.proofs.Counts.Links.{live-sends, live-takes, none-taken}
 use Rattle.tcc_serial.proofs.Counts.StepCases.{back-own, back-away, pairs_grant, pairs_back, pairs_dir, pairs_asks, pairs_vendor, OfAnswer}
 use Rattle.tcc_serial.proofs.Counts.StepCases.{step_cases}
 use Rattle.tcc_serial.proofs.Lines.CoreHolds.{Holds, holds-exec, holds-evict, holds-grant}
@@ -111,11 +111,7 @@ step-sharers sh p gs ys h e b ld hm rd t = step_cases sh p h.world e (λ g o. Ke
         (λ j d l jl dl ll q. subst (λ n. SharerOf sh.base (and_noted n h.commits) j l (pair h.world j d)) (sym (a.commit)) (t j d l jl dl ll q))
 
     not-away : (c d k : ℕ) (m : Msg) → in_flight h.world.net (Dir d) (Core c) k ≡ Some m → passes (InvsAway sh.dirs d) m ≡ false
-    not-away c d k m i = go (passes (InvsAway sh.dirs d) m) refl
-      where
-        go : (b : Bool) → passes (InvsAway sh.dirs d) m ≡ b → passes (InvsAway sh.dirs d) m ≡ false
-        go false q = q
-        go true q = let n : num (passes (InvsAway sh.dirs d) m) ≡ 1 = ap num q in absurd (omega (arith, n, (b.told.all.kept.told.owed.at_home c d).invs, live-some (InvsAway sh.dirs d) (h.world.net (Dir d) (Core c)) k m i))
+    not-away c d k m i = none-taken (InvsAway sh.dirs d) (h.world.net (Dir d) (Core c)) k m i ((b.told.all.kept.told.owed.at_home c d).invs)
 
     taken : (c d k : ℕ) (m : Msg) → in_flight h.world.net (Dir d) (Core c) k ≡ Some m → (x : Option Out) → ((l : ℕ) → IfSome x (HoldsTaken sh l (h.world.cores c) m)) → ((b l : ℕ) → IfSome x (λ o. among (AckOf l) (o.sends (Dir b)) ≤ num ((b == d) && passes (InvOf l) m))) → IfSome x (λ o. Stays (h.world.cores c) o) → IfSome x (λ o. KeptLoading sh (core_takes h.world (Dir d) c k o) → ((n : Noted) (d : ℕ) → o.commit ≡ Some n → d < sh.dirs → stores_at sh d n.stores ≡ true → is_applied (h.world.dirs d) n.tid.0 ≡ false) → KeptSharers sh (core_takes h.world (Dir d) c k o) (and_noted o.commit h.commits))
     taken c d k m i None f g a = tt

@@ -110,11 +110,7 @@ step-after sh p gs w cs e y k g ld h = step_cases sh p w e (λ x o. KeptAfter sh
         (λ n. subst (AfterOf sh (insert_commit q.noted cs) j d) (sym (moves-other w c o j d n)) (other-after sh cs q.noted j d (pair w j d) (away j n) (h j d cl dl)))
       where
         away : (j : ℕ) → (j ≡ c → ⊥) → (q.noted.core.0 == j) ≡ false
-        away j n = go (cases_eq q.noted.core.0 j)
-          where
-            go : (q.noted.core.0 ≡ j) ⊎ (q.noted.core.0 ≡ j → ⊥) → (q.noted.core.0 == j) ≡ false
-            go (inl i) = absurd (n (sym i ∙ q.core))
-            go (inr i) = grind (arith, nat_tests)
+        away j n = grind (arith, nat_tests)
 
     noted-one : (n : Noted) → noted_tid n.tid.0 (Some n) ≡ 1
     noted-one n = let z : (n.tid.0 == n.tid.0) ≡ true = grind (arith, nat_tests) in rw z refl

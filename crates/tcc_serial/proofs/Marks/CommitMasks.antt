@@ -62,15 +62,7 @@ commit-some t (m ∷ ms) x = go (passes (Commits t) m) refl (commit-some t ms)
 
 commit-writes : (sh : Shape) (c : Cache) (u d t : ℕ) → 1 ≤ among (Commits t) (commit_sends sh c u (Dir d)) → any_below (λ l. d == home sh l && is_modified c l) (lines sh) ≡ true
 unfolding commit_sends writes_at among passes
-commit-writes sh c u d t x = go (nat_lt d sh.dirs) (any_below p (lines sh)) x
-  where
-    p : ℕ → Bool
-    p l = d == home sh l && is_modified c l
-
-    go : (a b : Bool) → 1 ≤ among (Commits t) (if a then (if b then Commit u (count_below p (lines sh)) ∷ [] else []) else []) → b ≡ true
-    go true true y = refl
-    go true false y = absurd (omega (arith, y))
-    go false b y = absurd (omega (arith, y))
+commit-writes sh c u d t x = grind (arith, nat_tests)
 
 storing-ready : (sh : Shape) (c d t u : ℕ) (s : CoreState) → s.phase ≡ Ready u → OneCore sh s → StoresAll sh c d t s (commit sh c u s)
 unfolding commit noted marked_by has_marked stores_line

@@ -89,11 +89,7 @@ stores-same sh a b d l h = ap (λ m. nat_lt l (lines sh) && (d == home sh l && a
 
 pub marked-same : (sh : Shape) (s r : CoreState) (d l : ℕ) → r.phase ≡ s.phase → r.owing d ≡ s.owing d → (has_marked s.phase ≡ true → stores_line sh r.cache d l ≡ stores_line sh s.cache d l) → marked_by sh s d l ≡ marked_by sh r d l
 unfolding marked_by
-marked-same sh s r d l p q h = rw (p, q) (go (has_marked s.phase) refl)
-  where
-    go : (b : Bool) → has_marked s.phase ≡ b → num (b && (not (s.owing d) && stores_line sh s.cache d l)) ≡ num (b && (not (s.owing d) && stores_line sh r.cache d l))
-    go false e = refl
-    go true e = rw (h e) refl
+marked-same sh s r d l p q h = grind (arith, nat_tests)
 
 pub idle : (q : Phase) → has_marked q ≡ true → Acts q → ⊥
 unfolding has_marked

@@ -16,7 +16,6 @@ use Rattle.tcc_serial.proofs.OneCore.CoreSteps.{fill-steady, data-steady, ignore
 use Rattle.tcc_serial.proofs.OneCore.CoreSteps.{Invalidated, invalidate-cases, Replied, Ignored, Probed, Left_alone, reply-cases}
 
 -- before an acknowledgement
-
 append-told : (t l : ℕ) (a b : List Msg) → Unsaid t l b → (among EmptyMarks (a ++ b) ≡ among EmptyMarks a) × (among (MarkOf t l) (a ++ b) ≡ among (MarkOf t l) a) × (among (Skips t) (a ++ b) ≡ among (Skips t) a) × (among (Marks t) (a ++ b) + among (Resolves t) (a ++ b) ≡ among (Marks t) a + among (Resolves t) a)
 append-told t l a b u = (
   omega (arith, among-append EmptyMarks a b, u.words),
@@ -87,7 +86,6 @@ marking-hurt sh x d t l s o i = go i.hurt
     go (Gave_up u ph ph' ow se) = gave_up u ph ph' se
 
 -- a reply
-
 last-tid : (b : Bool) (u t : ℕ) → has_tid (if b then Ready u else Probing u) t ≡ true → u ≡ t
 unfolding has_tid
 last-tid true u t x = grind (arith, nat_tests)
@@ -180,16 +178,11 @@ marking-here sh e u t l s o ph ow ph' ow' ca se = record {
 -- a directory where it doesn't mark
 marking-away : (sh : Shape) (e u d t l : ℕ) (s : CoreState) (o : Out) → (d ≡ e → ⊥) → s.phase ≡ Probing u → o.core.phase ≡ (if all_replied sh (put s.owing e false) then Ready u else Probing u) → o.core.owing ≡ put s.owing e false → o.core.cache ≡ s.cache → o.sends (Dir d) ≡ [] → Marking sh d t l s o
 unfolding marked_by
-marking-away sh e u d t l s o n ph ph' ow' ca se = silent sh d t l s o (rw se (unsaid-nothing t l)) (λ x. (mine u t s.phase (has-of u s.phase (inl (inl ph))) (last-tid (all_replied sh (put s.owing e false)) u t (rw ph' at x)), rw (ca, was, now, same) refl))
-  where
-    was : has_marked s.phase ≡ true
-    was = rw ph (both-marked false u)
-
-    now : has_marked o.core.phase ≡ true
-    now = rw ph' (both-marked (all_replied sh (put s.owing e false)) u)
-
-    same : o.core.owing d ≡ s.owing d
-    same = ap (λ f. f d) ow' ∙ put_other e d s.owing n
+marking-away sh e u d t l s o n ph ph' ow' ca se =
+    let was : has_marked s.phase ≡ true = rw ph (both-marked false u) in
+    let now : has_marked o.core.phase ≡ true = rw ph' (both-marked (all_replied sh (put s.owing e false)) u) in
+    let same : o.core.owing d ≡ s.owing d = ap (λ f. f d) ow' ∙ put_other e d s.owing n in
+    silent sh d t l s o (rw se (unsaid-nothing t l)) (λ x. (mine u t s.phase (has-of u s.phase (inl (inl ph))) (last-tid (all_replied sh (put s.owing e false)) u t (rw ph' at x)), rw (ca, was, now, same) refl))
 
 marking-alone : (sh : Shape) (e u d t l : ℕ) (s : CoreState) (o : Out) → s.phase ≡ Overflowing (Some u) → o.core.phase ≡ (if all_replied sh (put s.owing e false) then Solo u else Overflowing (Some u)) → o.sends (Dir d) ≡ [] → Marking sh d t l s o
 marking-alone sh e u d t l s o ph ph' se = silent sh d t l s o (rw se (unsaid-nothing t l)) (λ x. (mine u t s.phase (has-of u s.phase (inr (inl ph))) (last-alone (all_replied sh (put s.owing e false)) u t (rw ph' at x)), unmarked sh s d l (silent-alone u s.phase (inl ph)) ∙ sym (unmarked sh o.core d l (rw ph' (none-marked (all_replied sh (put s.owing e false)) u)))))
@@ -214,17 +207,7 @@ marking-back sh e d t l s (ProbeReply u v) = marking-replied sh e u d t l s (pro
 marking-back sh e d t l s (Fill k ws) = marking-steady sh d t l s (fill k ws s) (fill-steady k ws s)
 marking-back sh e d t l s (DataReq k) = marking-steady sh d t l s (data_request sh k s) (data-steady sh k s)
 marking-back sh e d t l s (Inv k m u) = marking-hurt sh k d t l s (invalidate sh k m u s) (invalidate-cases sh k m u s)
-marking-back sh e d t l s TidReq = tt
-marking-back sh e d t l s (TidGrant u) = tt
-marking-back sh e d t l s (LoadReq k a) = tt
-marking-back sh e d t l s (Skip u) = tt
-marking-back sh e d t l s (Probe u) = tt
-marking-back sh e d t l s (Mark k m u) = tt
-marking-back sh e d t l s (Commit u n) = tt
-marking-back sh e d t l s (Abort u) = tt
-marking-back sh e d t l s (WriteBack k m ws u) = tt
-marking-back sh e d t l s (Flush k m ws u) = tt
-marking-back sh e d t l s (InvAck k b) = tt
+marking-back sh e d t l s _ = tt
 
 -- A grant: no Mark goes out, and only the TID that came is spoken of.
 pub record Granting (sh : Shape) (u d t l : ℕ) (o : Out) : Type 0 where
@@ -265,11 +248,7 @@ granting sh u d t l s w = go s.phase w
     same e = grind (arith, nat_tests)
 
     quiet : (q : Phase) (b : Bool) → d < sh.dirs → is_probed sh s.cache d ≡ b → num (has_marked q && (not b && stores_line sh s.cache d l)) ≡ 0
-    quiet q true x e = go' (has_marked q)
-      where
-        go' : (y : Bool) → num (y && (not true && stores_line sh s.cache d l)) ≡ 0
-        go' true = refl
-        go' false = refl
+    quiet q true x e = elim (has_marked q) as (λ y. num (y && (not true && stores_line sh s.cache d l)) ≡ 0) [ true ↦ refl | false ↦ refl ]
     quiet q false x e = rw (unprobed-stores sh s.cache d l x e) (go' (has_marked q))
       where
         go' : (y : Bool) → num (y && (not false && false)) ≡ 0
@@ -280,9 +259,4 @@ granting sh u d t l s w = go s.phase w
     go AwaitTid h = let f = told-grant sh s.cache u d t l in record { words = f.0; marks = f.1; owned = λ n. f.2 (other n); kept = λ x y. (tid-probing (any_below (is_probed sh s.cache) sh.dirs) u t y, quiet (probing (any_below (is_probed sh s.cache) sh.dirs) u) (is_probed sh s.cache d) x refl) }
     go DoomedTid h = let f = told-skip sh u d t l in record { words = f.0; marks = f.1; owned = λ n. f.2 (other n); kept = λ x y. absurd (cc) }
     go (Overflowing None) h = let f = told-probe sh u d t l in record { words = f.0; marks = f.1; owned = λ n. f.2; kept = λ x y. (same y, refl) }
-    go (Overflowing (Some v)) h = absurd (cc)
-    go Running h = absurd (cc)
-    go (Probing v) h = absurd (cc)
-    go (Ready v) h = absurd (cc)
-    go (Solo v) h = absurd (cc)
-    go Halted h = absurd (cc)
+    go _ h = absurd (cc)

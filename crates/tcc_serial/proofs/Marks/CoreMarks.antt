@@ -64,17 +64,15 @@ written-full c sp l e = go (is_modified c l) refl
     go false q = let x = holds-found sp l (grind arith) in some-mask p (x.0) (x.1) (right (x.0) (x.2))
 
 -- what a core sends
-
 pub marks-for : (sh : Shape) (c : Cache) (u e t l : ℕ) → among (MarkOf t l) (marks_for sh c u e) ≡ num ((u == t) && stores_line sh c e l)
 unfolding marks_for written_lines stores_line
 marks-for sh c u e t l = one-mark (λ k. e == home sh k && is_modified c k) (modified_mask c) u t l (lines sh)
 
 pub full-for : (sh : Shape) (c : Cache) (u e : ℕ) → among EmptyMarks (marks_for sh c u e) ≡ 0
 unfolding marks_for written_lines
-full-for sh c u e = full-marks (λ k. e == home sh k && is_modified c k) (modified_mask c) u (lines sh) (λ l q. modified-full c l (second l q))
-  where
-    second : (l : ℕ) → (e == home sh l && is_modified c l) ≡ true → is_modified c l ≡ true
-    second l q = grind arith
+full-for sh c u e =
+    let second : (l : ℕ) → (e == home sh l && is_modified c l) ≡ true → is_modified c l ≡ true = λ l q. grind arith in
+    full-marks (λ k. e == home sh k && is_modified c k) (modified_mask c) u (lines sh) (λ l q. modified-full c l (second l q))
 
 pub stores-writes : (sh : Shape) (c : Cache) (d l : ℕ) → stores_line sh c d l ≡ true → writes_at sh c d ≡ true
 unfolding stores_line writes_at

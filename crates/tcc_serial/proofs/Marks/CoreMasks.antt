@@ -38,11 +38,7 @@ passes-masked t l q m z = omega (arith, z, one-masked t l q m)
 -- Marks of lines whose masks are f
 pub own-mask : (f : ℕ → ℕ) (t u l k : ℕ) → num (passes (MarkMask t l (f l)) (Mark k (f k) u)) ≡ 0
 unfolding passes
-own-mask f t u l k = go (cases_eq k l)
-  where
-    go : (k ≡ l) ⊎ (k ≡ l → ⊥) → num ((u == t) && ((k == l) && not (f k == f l))) ≡ 0
-    go (inl e) = rw e (grind (arith, nat_tests))
-    go (inr n) = grind (arith, nat_tests)
+own-mask f t u l k = grind (arith, nat_tests)
 
 masked-for : (sh : Shape) (c : Cache) (u e t l : ℕ) → among (MarkMask t l (modified_mask c l)) (marks_for sh c u e) ≡ 0
 unfolding marks_for among

@@ -2,12 +2,12 @@
 use Rattle.tcc_serial.proofs.Names.{ℕ, ◌+◌, ◌≡◌, ◌<◌, ◌≤◌, true, false, List, ◌++◌, ◌==◌, ◌&&◌, nat_lt, arith, refl, ◌∙◌, ◌⊎◌, inl, inr}
 use Rattle.tcc_serial.proofs.Names.{cases_lt, nat_tests, num, count_below, has_mark, Dir, Msg, Skip, Shape, lines, writes_at, DirState}
 use Rattle.tcc_serial.proofs.Names.{Link, Out, total, sent_all, Resolves, MarkOf, EmptyMarks, CommitOf, live, among, passes, marks_of}
-use Rattle.tcc_serial.proofs.Names.{marked_by, MarksOf, CountsMarks, CountedOf, Grant, Pair, after_move, after_answer, opens, Bool}
-use Rattle.tcc_serial.proofs.Names.{Contains, nat_le, ap, World, Kind, AnyCommit, pair, share, grant_taken, part, handled, KeptTids, []}
-use Rattle.tcc_serial.proofs.Names.{Option, Some, None, IfSome, set, subst, cases_eq, Noted, Program, Local, Core, TidReq, Commit, Event}
-use Rattle.tcc_serial.proofs.Names.{Phase, Probing, Overflowing, start, dir_start, in_flight, Sends, core_exec, core_evict, from_dir}
-use Rattle.tcc_serial.proofs.Names.{grant, Answer, Waits, Drops, Asks, Takes, dir_deliver, core_moves, core_takes, dir_takes, dir_asks}
-use Rattle.tcc_serial.proofs.Names.{step, Acks, KeptMarks, KeptCounted, KeptCores, awaits_replies, KeptOwners, back_taken, after_grant}
+use Rattle.tcc_serial.proofs.Names.{marked_by, MarksOf, CountsMarks, CountedOf, Grant, Pair, after_move, after_answer, opens, Contains}
+use Rattle.tcc_serial.proofs.Names.{nat_le, ap, World, Kind, AnyCommit, pair, share, grant_taken, part, handled, KeptTids, [], Option}
+use Rattle.tcc_serial.proofs.Names.{Some, None, IfSome, set, subst, cases_eq, Noted, Program, Local, Core, TidReq, Commit, Event, Phase}
+use Rattle.tcc_serial.proofs.Names.{Probing, Overflowing, start, dir_start, in_flight, Sends, core_exec, core_evict, from_dir, grant}
+use Rattle.tcc_serial.proofs.Names.{Answer, Waits, Drops, Asks, Takes, dir_deliver, core_moves, core_takes, dir_takes, dir_asks, step}
+use Rattle.tcc_serial.proofs.Names.{Acks, KeptMarks, KeptCounted, KeptCores, awaits_replies, KeptOwners, back_taken, after_grant}
 use Rattle.tcc_serial.proofs.Names.{after_other_grant, may_commit, Kept, KeptTold, answered, mark, marked, moved, next, settled, skip}
 use Rattle.tcc_serial.proofs.Names.{taken}
 use Rattle.tcc_serial.proofs.Serving.CoreCommits.{granted-free}
@@ -140,11 +140,7 @@ told-ahead sh w c d t k l x h = go (cases_lt t (w.dirs d).serving.serving)
         absurd (omega (arith, h, b, k.resolved d t x, total-le (share (part sh d t) w d) sh.cores c l))
 
 below-one : (sh : Shape) (n t l : ℕ) (v : Pair) → CountsMarks sh n t v → marks_of t l v ≤ 1
-below-one sh n t l v h = go (nat_lt l (lines sh)) refl
-  where
-    go : (b : Bool) → nat_lt l (lines sh) ≡ b → marks_of t l v ≤ 1
-    go true q = let z : num (nat_lt l (lines sh)) ≡ 1 = ap num q in omega (arith, z, h.each l)
-    go false q = let z : num (nat_lt l (lines sh)) ≡ 0 = ap num q in omega (arith, z, h.each l)
+below-one sh n t l v h = grind (arith, nat_tests)
 
 -- what a directory's answer does to a pair
 pub counted-answered : (sh : Shape) (gs : List Grant) (j d t : ℕ) (v : Pair) (m : Msg) (s : DirState) (ms : List Msg) (k : Link) → Marked v.dir m s

@@ -10,7 +10,7 @@ use Rattle.tcc_serial.proofs.Names.{pair, share, after_answer, after_grant, afte
 use Rattle.tcc_serial.proofs.Names.{IfSome, set, append-nil, Program, Local, no_lines, TidReq, Event, start, core_start, dir_start, Sends}
 use Rattle.tcc_serial.proofs.Names.{core_exec, core_evict, from_dir, grant, Answer, Waits, Drops, Asks, Takes, dir_deliver, core_moves}
 use Rattle.tcc_serial.proofs.Names.{core_takes, dir_takes, dir_asks, step, granted_by, back_taken, Kept}
-use Rattle.tcc_serial.proofs.Counts.Links.{live-sends, live-takes, live-fewer, total-le}
+use Rattle.tcc_serial.proofs.Counts.Links.{live-sends, live-takes, live-fewer, total-le, none-taken}
 use Rattle.tcc_serial.proofs.Counts.StepCases.{same, pairs_move, pairs_grant, pairs_back, pairs_dir, pairs_asks, pairs_vendor, OfAnswer}
 use Rattle.tcc_serial.proofs.Counts.StepCases.{step_cases}
 use Rattle.tcc_serial.proofs.Marks.CoreMarking.{Marking, few, at-most-one, marking-exec, marking-evict}
@@ -68,7 +68,6 @@ marks-moved sh gs c d t l v o y cl alone mine free h = record {
         omega (arith, h.skipped dl b, unmarked dl b (cases_lt 0 (among (MarkOf t l) (o.sends (Dir d)))), live-sends (MarkOf t l) v.out (o.sends (Dir d)))
 
 -- a core takes its grant
-
 granted-here : (sh : Shape) (gs : List Grant) (c d u l k : ℕ) (v : Pair) (o : Out) → slice_index_or v.grants k None ≡ Some (TidGrant u) → num (nat_le v.next u) + live (Grants u) v.grants ≤ 1 → Contains gs (record { tid = u; core = c }) → Granting sh u d u l o → MarksOf sh gs c d u l v → MarksOf sh gs c d u l (after_move (grant_taken v k) o d)
 unfolding marks_of
 granted-here sh gs c d u l k v o i one mine y h = record {
@@ -100,7 +99,6 @@ marks-granted sh gs c d t l k u v o i one mine y h = go (cases_eq u t)
     }
 
 -- a directory answers
-
 pub is-skip : (u : ℕ) → num (passes (Skips u) (Skip u)) ≡ 1
 unfolding passes
 is-skip u = grind (arith, nat_tests)
@@ -142,36 +140,13 @@ falls s new m t l x y (IsMarked a b e g f) q k z = rw (g, f l) (go (cases_eq l a
 
 -- a line of which one Mark was sent at most, b, by a TID that isn't passed
 pub holds : (s new : DirState) (m : Msg) (t l x y b : ℕ) → Marked s m new → y + num (passes (MarkOf t l) m) ≡ x → (m ≡ Skip s.serving.serving → has_mark s.lines l ≡ false) → passes EmptyMarks m ≡ false → b ≤ 1 → (1 ≤ b → new.serving.serving ≤ t) → x + num (s.serving.serving == t && has_mark s.lines l) ≡ b → y + num (new.serving.serving == t && has_mark new.lines l) ≡ b
-holds s new m t l x y b (Stays e f g) q k nonempty once reached z = rw (e, f l) (go (passes (MarkOf t l) m) refl)
-  where
-    go : (p : Bool) → passes (MarkOf t l) m ≡ p → y + num (s.serving.serving == t && has_mark s.lines l) ≡ b
-    go true p = let n : num (passes (MarkOf t l) m) ≡ 1 = ap num p in let r = g t l p in let o : new.serving.serving ≤ t = reached (omega (arith, n, q, z)) in absurd (omega (arith, r, o, e))
-    go false p = let n : num (passes (MarkOf t l) m) ≡ 0 = ap num p in omega (arith, n, q, z)
-holds s new m t l x y b (Clears e f g) q k nonempty once reached z = rw (f l) (go (cases_eq s.serving.serving t))
-  where
-    n : num (passes (MarkOf t l) m) ≡ 0
-    n = ap num (g t l)
-
-    none : num (new.serving.serving == t && nat_lt 0 0) ≡ 0
-    none = grind arith
-
-    zero-or : (cases : (0 < b) ⊎ (b ≤ 0)) → s.serving.serving ≡ t → b ≡ 0
-    zero-or (inl r) p = absurd (omega (arith, reached (omega (arith, r)), e, p))
-    zero-or (inr r) p = omega (arith, r)
-
-    go : (s.serving.serving ≡ t) ⊎ (s.serving.serving ≡ t → ⊥) → y + num (new.serving.serving == t && nat_lt 0 0) ≡ b
-    go (inl p) = omega (arith, none, n, q, z, zero-or (cases_lt 0 b) p)
-    go (inr p) = let r : (s.serving.serving == t) ≡ false = grind (arith, nat_tests) in let w : num (s.serving.serving == t && has_mark s.lines l) ≡ 0 = rw r refl in omega (arith, none, n, q, z, w)
-holds s new m t l x y b (Skipped e f) q k nonempty once reached z = rw (f l) (omega (arith, n, q, z, was, now))
-  where
-    n : num (passes (MarkOf t l) m) ≡ 0
-    n = rw e (no-mark t l s.serving.serving)
-
-    was : num (s.serving.serving == t && has_mark s.lines l) ≡ 0
-    was = rw (k e) (grind arith)
-
-    now : num (new.serving.serving == t && has_mark s.lines l) ≡ 0
-    now = rw (k e) (grind arith)
+holds s new m t l x y b (Stays e f g) q k nonempty once reached z = grind (arith, nat_tests)
+holds s new m t l x y b (Clears e f g) q k nonempty once reached z = grind (arith, nat_tests)
+holds s new m t l x y b (Skipped e f) q k nonempty once reached z =
+    let n : num (passes (MarkOf t l) m) ≡ 0 = rw e (no-mark t l s.serving.serving) in
+    let was : num (s.serving.serving == t && has_mark s.lines l) ≡ 0 = rw (k e) (grind arith) in
+    let now : num (new.serving.serving == t && has_mark s.lines l) ≡ 0 = rw (k e) (grind arith) in
+    rw (f l) (omega (arith, n, q, z, was, now))
 holds s new m t l x y b (IsMarked a i e g f) q k nonempty once reached z = rw (g, f l) (go (cases_eq l a))
   where
     go : (l ≡ a) ⊎ (l ≡ a → ⊥) → y + num (s.serving.serving == t && nat_lt 0 (if l == a then i else s.lines.mark l)) ≡ b
@@ -182,10 +157,9 @@ holds s new m t l x y b (IsMarked a i e g f) q k nonempty once reached z = rw (g
         some = some-word a i s.serving.serving (rw e at nonempty)
 
         here : (s.serving.serving ≡ t) ⊎ (s.serving.serving ≡ t → ⊥) → y + num (s.serving.serving == t && nat_lt 0 (if l == a then i else s.lines.mark l)) ≡ b
-        here (inr n) = let r : (s.serving.serving == t) ≡ false = grind (arith, nat_tests) in let p : num (passes (MarkOf t l) m) ≡ 0 = rw e (other-tid t l a i s.serving.serving n) in rw r (omega (arith, p, q, z, no-more r))
-          where
-            no-more : (s.serving.serving == t) ≡ false → num (s.serving.serving == t && has_mark s.lines l) ≡ 0
-            no-more r = rw r refl
+        here (inr n) =
+            let no-more : (s.serving.serving == t) ≡ false → num (s.serving.serving == t && has_mark s.lines l) ≡ 0 = λ r. rw r refl in
+            let r : (s.serving.serving == t) ≡ false = grind (arith, nat_tests) in let p : num (passes (MarkOf t l) m) ≡ 0 = rw e (other-tid t l a i s.serving.serving n) in rw r (omega (arith, p, q, z, no-more r))
         here (inl r) =
             let p : num (passes (MarkOf t l) m) ≡ 1 = rw (e, r, c) (is-mark t a i) in
             let u : (l == a) ≡ true = grind (arith, nat_tests) in
@@ -204,13 +178,9 @@ marked-opens sh s d t l h m = go s.phase refl h m
     go : (q : Phase) → s.phase ≡ q → has_tid q t ≡ true → 1 ≤ num (has_marked q && (not (s.owing d) && stores_line sh s.cache d l)) → opens q (writes_at sh s.cache d) t ≡ true
     go (Probing u) e x y = rw (x, writes (stores_line sh s.cache d l) refl y) refl
     go (Ready u) e x y = rw (x, writes (stores_line sh s.cache d l) refl y) refl
-    go (Overflowing None) e x y = absurd (cc)
     go (Overflowing (Some u)) e x y = absurd (omega (arith, y))
     go (Solo u) e x y = absurd (omega (arith, y))
-    go Running e x y = absurd (cc)
-    go AwaitTid e x y = absurd (cc)
-    go DoomedTid e x y = absurd (cc)
-    go Halted e x y = absurd (cc)
+    go _ e x y = absurd (cc)
 
 -- what a directory's answer does to a pair: what is in flight to it is what was, but for m perhaps
 pub marks-answered : (sh : Shape) (gs : List Grant) (j d t l : ℕ) (v : Pair) (m : Msg) (s : DirState) (ms : List Msg) (k : Link) → Marked v.dir m s
@@ -241,7 +211,6 @@ marks-answered sh gs j d t l v m s ms k y less eqn skip has reached nonempty h =
     one = at-most-one sh v.core d l
 
 -- the vendor grants
-
 pub marks-given : (sh : Shape) (gs hs : List Grant) (c d t l k : ℕ) (v : Pair) → MarksOf sh gs c d t l v → MarksOf sh (gs ++ hs) c d t l (after_grant v k)
 unfolding marks_of passes among
 marks-given sh gs hs c d t l k v h = record {
@@ -263,7 +232,6 @@ marks-next sh gs hs c d t l v h = record {
 }
 
 -- what else is known of a TID that a core has
-
 pub has-alone : (sh : Shape) (gs : List Grant) (w : World) (cs : List Noted) (c t : ℕ) → KeptOwners sh gs w cs → c < sh.cores → has_tid (w.cores c).phase t ≡ true → num (nat_le w.next t) + live (Grants t) (w.net Vendor (Core c)) ≡ 0
 unfolding share holder pair
 has-alone sh gs w cs c t k l h = let n : num (has_tid (w.cores c).phase t) ≡ 1 = ap num h in omega (arith, n, k.once t, total-le (share (holder t) w 0) sh.cores c l)
@@ -294,11 +262,7 @@ pub taken-less : (k : ℕ) (x : Kind) (l : Link) (m : Msg) → slice_index_or l 
 taken-less k x l m i = omega (arith, live-takes x l k m i)
 
 pub empty-one : (l : Link) (k : ℕ) (m : Msg) → slice_index_or l k None ≡ Some m → live EmptyMarks l ≡ 0 → passes EmptyMarks m ≡ false
-empty-one l k m i z = go (passes EmptyMarks m) refl
-  where
-    go : (b : Bool) → passes EmptyMarks m ≡ b → passes EmptyMarks m ≡ false
-    go false q = q
-    go true q = let n : num (passes EmptyMarks m) ≡ 1 = ap num q in absurd (omega (arith, n, z, live-some EmptyMarks l k m i))
+empty-one l k m i z = none-taken EmptyMarks l k m i z
 
 is-resolve : (t : ℕ) (m : Msg) → num (passes (Skips t) m) ≤ num (passes AnyResolve m)
 unfolding passes
@@ -313,22 +277,15 @@ inside-dirs sh w c d k u z i = go (cases_lt d sh.dirs)
     go (inr l) = absurd (omega (arith, (z.owed.at_home c d).far l, live-some AnyResolve (w.net (Core c) (Dir d)) k (Skip u) i, is-resolve u (Skip u), is-skip u))
 
 unmarked-of : (s : DirState) (l x : ℕ) → x + num (s.serving.serving == s.serving.serving && has_mark s.lines l) ≡ 0 → has_mark s.lines l ≡ false
-unmarked-of s l x z = go (has_mark s.lines l) refl
-  where
-    go : (b : Bool) → has_mark s.lines l ≡ b → has_mark s.lines l ≡ false
-    go false q = q
-    go true q = let e : (s.serving.serving == s.serving.serving) ≡ true = grind (arith, nat_tests) in let n : num (s.serving.serving == s.serving.serving && has_mark s.lines l) ≡ 1 = rw (e, q) refl in absurd (omega (arith, n, z))
+unmarked-of s l x z = grind (arith, nat_tests)
 
 -- where the served TID is skipped, nothing is marked
 pub skip-unmarked : (sh : Shape) (gs : List Grant) (w : World) (c d k : ℕ) (m : Msg) (l : ℕ) → KeptTold sh w → KeptMarks sh gs w → in_flight w.net (Core c) (Dir d) k ≡ Some m → m ≡ Skip (w.dirs d).serving.serving → has_mark (w.dirs d).lines l ≡ false
 unfolding marks_of pair
-skip-unmarked sh gs w c d k m l z h i e = unmarked-of (w.dirs d) l (live (MarkOf u l) (w.net (Core c) (Dir d))) ((h c d u l).skipped (inside-dirs sh w c d k u z j) (omega (arith, live-some (Skips u) (w.net (Core c) (Dir d)) k (Skip u) j, is-skip u)))
-  where
-    u : ℕ
-    u = (w.dirs d).serving.serving
-
-    j : in_flight w.net (Core c) (Dir d) k ≡ Some (Skip u)
-    j = i ∙ ap (λ y. Some y) e
+skip-unmarked sh gs w c d k m l z h i e =
+    let u : ℕ = (w.dirs d).serving.serving in
+    let j : in_flight w.net (Core c) (Dir d) k ≡ Some (Skip u) = i ∙ ap (λ y. Some y) e in
+    unmarked-of (w.dirs d) l (live (MarkOf u l) (w.net (Core c) (Dir d))) ((h c d u l).skipped (inside-dirs sh w c d k u z j) (omega (arith, live-some (Skips u) (w.net (Core c) (Dir d)) k (Skip u) j, is-skip u)))
 
 -- a Mark of a TID comes from one core, to which the TID was granted
 pub only-there : (sh : Shape) (gs : List Grant) (w : World) (cs : List Noted) (c j d k t l : ℕ) (m : Msg) → KeptOwners sh gs w cs → KeptMarks sh gs w → in_flight w.net (Core c) (Dir d) k ≡ Some m → (j ≡ c → ⊥)

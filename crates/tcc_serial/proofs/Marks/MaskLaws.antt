@@ -14,7 +14,6 @@ use Rattle.tcc_serial.proofs.Run.AllInvariants.{run-all}
 use Rattle.tcc_serial.proofs.Tids.TidSteps.{inside_from}
 
 -- a TID is that of one commit
-
 rising-at : (last k : ℕ) (cs : List Noted) (x : Noted) → IsRising last cs → k < length cs → slice_index_or cs k x ≡ x → last < x.tid.0
 unfolding IsRising
 rising-at last k [] x h l e = absurd (omega arith)
@@ -39,24 +38,11 @@ marked-one l v h = let e : (v.dir.serving.serving == v.dir.serving.serving) ≡ 
 
 marked-right : (l q : ℕ) (v : Pair) → has_mark v.dir.lines l ≡ true → wrong_marks v.dir.serving.serving l q v ≡ 0 → v.dir.lines.mark l ≡ q
 unfolding wrong_marks
-marked-right l q v h z = go (cases_eq (v.dir.lines.mark l) q)
-  where
-    e : (v.dir.serving.serving == v.dir.serving.serving) ≡ true
-    e = grind (arith, nat_tests)
-
-    go : (v.dir.lines.mark l ≡ q) ⊎ (v.dir.lines.mark l ≡ q → ⊥) → v.dir.lines.mark l ≡ q
-    go (inl i) = i
-    go (inr n) = let b : (v.dir.lines.mark l == q) ≡ false = grind (arith, nat_tests) in let o : num (v.dir.serving.serving == v.dir.serving.serving && (has_mark v.dir.lines l && not (v.dir.lines.mark l == q))) ≡ 1 = rw (e, h, b) refl in absurd (omega (arith, z, o))
+marked-right l q v h z = grind (arith, nat_tests)
 
 marked-stores : (sh : Shape) (s : CoreState) (d l : ℕ) → 1 ≤ marked_by sh s d l → stores_line sh s.cache d l ≡ true
 unfolding marked_by
-marked-stores sh s d l x = go (has_marked s.phase) (s.owing d) (stores_line sh s.cache d l) x
-  where
-    go : (a b c : Bool) → 1 ≤ num (a && (not b && c)) → c ≡ true
-    go true false true x = refl
-    go true false false x = absurd (omega (arith, x))
-    go true true c x = absurd (omega (arith, x))
-    go false b c x = absurd (omega (arith, x))
+marked-stores sh s d l x = grind (arith, nat_tests)
 
 served-marks : (sh : Shape) (gs : List Grant) (w : World) → KeptMarks sh gs w → KeptMasks sh w → MarkedByServed sh w
 unfolding pair
@@ -71,7 +57,6 @@ served-marks sh gs w m q = record {
     granted d l h (inr x) = let n : num (nat_le w.next (w.dirs d).serving.serving) ≡ 1 = grind (arith, nat_tests) in absurd (omega (arith, marked-one l (pair w 0 d) h, (m 0 d (w.dirs d).serving.serving l).fresh (omega (arith, n))))
 
 -- the commits of the list
-
 one-any : (t : ℕ) (m : Msg) → num (passes (Commits t) m) ≤ num (passes Any m)
 unfolding passes
 one-any t m = grind (arith, nat_tests)
@@ -120,7 +105,6 @@ commits-marks sh gs h k = record { stored = stored; counted = counted; sent = se
         subst (λ z. (w.dirs d).lines.mark l ≡ stored_mask sh d z.stores l) (same-commit h.commits y.commit x (k.owners.rising) (y.noted) c (y.tid ∙ e)) (y.marks l)
 
 -- along every run
-
 from_all : (P : Shape → List Noted → World → Type 0) → ((sh : Shape) (gs : List Grant) (h : History) → KeptAll sh gs h → P sh h.commits h.world) → AlwaysSince P
 from_all P f sh p entries ram es = go (run sh p (start entries ram) es) (run-all sh p entries ram es)
   where

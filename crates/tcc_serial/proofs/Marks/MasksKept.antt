@@ -33,7 +33,6 @@ wrong-few t l q v = omega (arith, live-masked t l q v.out, fewer (v.dir.serving.
     fewer false b c = omega arith
 
 -- a core moves
-
 masks-moved : (sh : Shape) (gs : List Grant) (c d t l : ℕ) (v : Pair) (o : Out) → Marking sh d t l v.core o → Masking sh d t l v.core o → c < sh.cores → d < sh.dirs → MarksOf sh gs c d t l v → MaskedOf t l v → MaskedOf t l (after_move v o d)
 unfolding wrong_marks
 masks-moved sh gs c d t l v o y z cl dl m h = λ x. let k = y.kept x in omega (arith, live-sends (MarkMask t l q) v.out (o.sends (Dir d)), z.sent x, before (k.0) (z.stays x))
@@ -50,7 +49,6 @@ masks-granted : (sh : Shape) (gs : List Grant) (c d t l k u : ℕ) (v : Pair) (o
 masks-granted sh gs c d t l k u v o cl dl y m = λ x. omega (arith, wrong-few t l (modified_mask o.core.cache l) (after_move (grant_taken v k) o d), m.held cl dl x, (y.kept dl x).1)
 
 -- a directory answers
-
 wrong-one : (a b t q : ℕ) → (b ≡ q → ⊥) → num (passes (MarkMask t a q) (Mark a b t)) ≡ 1
 unfolding passes
 wrong-one a b t q n = grind (arith, nat_tests)
@@ -110,7 +108,6 @@ unfolding wrong_marks
 masks-asked t l v s ms e f h = λ x. rw (e, f) (h x)
 
 -- every event
-
 pub step-masks : (sh : Shape) (p : Program) (gs : List Grant) (w : World) (cs : List Noted) (e : Event) → Kept sh w → KeptOwners sh gs w cs → KeptMarks sh gs w → KeptMasks sh w → IfSome (step sh p w e) (λ o. KeptMasks sh o.world)
 unfolding pair wrong_marks
 step-masks sh p gs w cs e z y b h = step_cases sh p w e (λ g o. KeptMasks sh o.world)
@@ -199,7 +196,6 @@ unfolding marks_of
 one-asked t l v s ms e f h = rw (e, f) h
 
 -- every event
-
 pub step-one-mark : (sh : Shape) (p : Program) (gs : List Grant) (w : World) (cs : List Noted) (e : Event) → Kept sh w → KeptOwners sh gs w cs → KeptMarks sh gs w → OneMark sh w → IfSome (step sh p w e) (λ o. OneMark sh o.world)
 unfolding pair marks_of
 step-one-mark sh p gs w cs e z y b h = step_cases sh p w e (λ g o. OneMark sh o.world)

@@ -12,7 +12,7 @@ use Rattle.tcc_serial.proofs.Names.{pair, share, after_move, grant_taken, back_t
 use Rattle.tcc_serial.proofs.Names.{append-nil, Contains-append_cases, dir_asks, Any, Grant, granted_by, SparesCommitter, out_taken}
 use Rattle.tcc_serial.proofs.Names.{handled}
 use Rattle.tcc_rules.specs.DirDeliver.{commit}
-use Rattle.tcc_serial.proofs.Counts.Links.{among-append, among-flat_map_none, live-sends, live-takes, total-le, live-fewer}
+use Rattle.tcc_serial.proofs.Counts.Links.{among-append, among-flat_map_none, live-sends, live-takes, total-le, live-fewer, none-taken}
 use Rattle.tcc_serial.proofs.Counts.StepCases.{same, dir-own, dir-other, pairs_move, pairs_grant, pairs_back, pairs_dir, pairs_asks}
 use Rattle.tcc_serial.proofs.Counts.StepCases.{pairs_vendor, OfAnswer, step_cases, asks-own}
 use Rattle.tcc_serial.proofs.Marks.DirMarks.{Marked, Stays, Clears, Skipped, Marks as IsMarked, MarkedBy, dir-marked}
@@ -31,7 +31,6 @@ use Rattle.tcc_serial.proofs.Tids.TidSteps.{live-some}
 -- What nodes send of invalidations and acknowledgements, line by line.
 
 -- kinds, line by line
-
 line-kinds : (l m : ℕ) (x : Msg) → (num (passes (InvOf l) x) ≤ num (passes Invs x)) × (num (passes (InvMask l m) x) ≤ num (passes Invs x)) × (num (passes (AckOf l) x) ≤ num (passes Acks x))
 unfolding passes
 line-kinds l m x = (grind (arith, nat_tests), grind (arith, nat_tests), grind (arith, nat_tests))
@@ -48,7 +47,6 @@ lines-among l m [] = (omega arith, omega arith, omega arith)
 lines-among l m (x ∷ k) = let r = lines-among l m k in let o = line-kinds l m x in (omega (arith, r.0, o.0), omega (arith, r.1, o.1), omega (arith, r.2, o.2))
 
 -- a core acknowledges the line of an invalidation, to the directory that it came from
-
 acks-of : (sh : Shape) (k l d : ℕ) (s : CoreState) (o : Out) → Invalidated sh k s o → among (AckOf l) (o.sends (Dir d)) ≤ num ((d == home sh k) && (k == l))
 unfolding among passes
 acks-of sh k l d s o i = rw (i.dirs d) (omega (arith, among-append (AckOf l) (i.sends (Dir d)) (to (Dir (home sh k)) (InvAck k i.kept ∷ []) (Dir d)), (clean-hurt sh s o.core i.sends d i.hurt).acks, (lines-among l 0 (i.sends (Dir d))).2, one (d == home sh k)))
@@ -73,7 +71,6 @@ acks-line sh e d l s (Inv k m u) h = let q : home sh k ≡ e = at-home sh e k m 
 acks-line sh e d l s _ h = tt
 
 -- a directory invalidates marked lines, once each and with their masks, where it takes a Commit, and else none
-
 one-inv : (p : ℕ → Bool) (f : ℕ → ℕ) (u l n : ℕ) → among (InvOf l) (flat_map (λ k. Inv k (f k) u ∷ []) (those p n)) ≤ num (p l)
 unfolding among passes those
 one-inv p f u l n = exact n (one n)
@@ -90,11 +87,7 @@ one-inv p f u l n = exact n (one n)
 
 own-mask : (f : ℕ → ℕ) (u l k : ℕ) → num (passes (InvMask l (f l)) (Inv k (f k) u)) ≡ 0
 unfolding passes
-own-mask f u l k = go (cases_eq k l)
-  where
-    go : (k ≡ l) ⊎ (k ≡ l → ⊥) → num ((k == l) && not (f k == f l)) ≡ 0
-    go (inl e) = rw e (grind (arith, nat_tests))
-    go (inr n) = grind (arith, nat_tests)
+own-mask f u l k = elim (cases_eq k l) [ inl e ↦ rw e (grind (arith, nat_tests)) | inr n ↦ grind (arith, nat_tests) ]
 
 -- what is sent to core j
 abbrev pub Names : Lines → List Msg → Type 0
@@ -102,10 +95,9 @@ Names ls ms = (l : ℕ) → (among (InvOf l) ms ≤ num (has_mark ls l)) × (amo
 
 names-invs : (sh : Shape) (ls : Lines) (c u j : ℕ) → Names ls (invalidations sh ls c u (Core j))
 unfolding invalidations invs_to among is_invalidated
-names-invs sh ls c u j l = (omega (arith, one-inv (is_invalidated sh ls c j) ls.mark u l (lines sh), marked), among-flat_map_none (InvMask l (ls.mark l)) (λ k. Inv k (ls.mark k) u ∷ []) (λ k. omega (arith, own-mask ls.mark u l k)) (those (is_invalidated sh ls c j) (lines sh)))
-  where
-    marked : num (is_invalidated sh ls c j l) ≤ num (has_mark ls l)
-    marked = grind arith
+names-invs sh ls c u j l =
+    let marked : num (is_invalidated sh ls c j l) ≤ num (has_mark ls l) = grind arith in
+    (omega (arith, one-inv (is_invalidated sh ls c j) ls.mark u l (lines sh), marked), among-flat_map_none (InvMask l (ls.mark l)) (λ k. Inv k (ls.mark k) u ∷ []) (λ k. omega (arith, own-mask ls.mark u l k)) (those (is_invalidated sh ls c j) (lines sh)))
 
 abbrev pub NamesBy : DirState → Msg → Answer → Type 0
 NamesBy s m (Asks new sends) = Quiet sends
@@ -137,20 +129,7 @@ dir-names sh s c m = go m (dir-spares sh s c m)
   where
     go : (m : Msg) → SparesBy s c m (dir_deliver sh s c m) → NamesBy s m (dir_deliver sh s c m)
     go (Commit u n) h = names-of sh c u n s
-    go (Skip u) h = names-quiet s c (Skip u) _ refl h
-    go (Abort u) h = names-quiet s c (Abort u) _ refl h
-    go (Probe u) h = names-quiet s c (Probe u) _ refl h
-    go (LoadReq l a) h = names-quiet s c (LoadReq l a) _ refl h
-    go (Mark l k u) h = names-quiet s c (Mark l k u) _ refl h
-    go (InvAck l b) h = names-quiet s c (InvAck l b) _ refl h
-    go (WriteBack l k ws g) h = names-quiet s c (WriteBack l k ws g) _ refl h
-    go (Flush l k ws g) h = names-quiet s c (Flush l k ws g) _ refl h
-    go TidReq h = names-quiet s c TidReq _ refl h
-    go (TidGrant u) h = names-quiet s c (TidGrant u) _ refl h
-    go (Fill l ws) h = names-quiet s c (Fill l ws) _ refl h
-    go (ProbeReply u v) h = names-quiet s c (ProbeReply u v) _ refl h
-    go (DataReq l) h = names-quiet s c (DataReq l) _ refl h
-    go (Inv l k u) h = names-quiet s c (Inv l k u) _ refl h
+    go m h = names-quiet s c m _ refl h
 
 -- a core moves: so many acknowledgements as invalidations that it took
 named-moved : (l d got : ℕ) (v : Pair) (o : Out) (k : Link) → among (AckOf l) (o.sends (Dir d)) ≤ got → live (InvOf l) k + got ≤ live (InvOf l) v.back → live (InvMask l (v.dir.lines.mark l)) k ≤ live (InvMask l (v.dir.lines.mark l)) v.back → NamedOf l v → NamedOf l (after_move (record v { back = k }) o d)
@@ -251,11 +230,7 @@ away-back e d c l w m o n a h = let b : (d == e) ≡ false = grind (arith, nat_t
 
 pub passed-away : (sh : Shape) (w : World) (c e k : ℕ) (m : Msg) → KeptTold sh w → in_flight w.net (Dir e) (Core c) k ≡ Some m → passes (InvsAway sh.dirs e) m ≡ false
 unfolding pair
-passed-away sh w c e k m z i = go (passes (InvsAway sh.dirs e) m) refl
-  where
-    go : (b : Bool) → passes (InvsAway sh.dirs e) m ≡ b → passes (InvsAway sh.dirs e) m ≡ false
-    go false q = q
-    go true q = let n : num (passes (InvsAway sh.dirs e) m) ≡ 1 = ap num q in absurd (omega (arith, n, (z.owed.at_home c e).invs, live-some (InvsAway sh.dirs e) (w.net (Dir e) (Core c)) k m i))
+passed-away sh w c e k m z i = none-taken (InvsAway sh.dirs e) (w.net (Dir e) (Core c)) k m i ((z.owed.at_home c e).invs)
 
 pub step-named : (sh : Shape) (p : Program) (w : World) (e : Event) → Kept sh w → KeptCounted sh w → KeptNamed sh w → IfSome (step sh p w e) (λ o. KeptTold sh o.world → KeptNamed sh o.world)
 unfolding pair

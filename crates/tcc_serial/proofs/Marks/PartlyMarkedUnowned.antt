@@ -12,14 +12,9 @@ use Rattle.tcc_serial.proofs.Names.{came_home, probe}
 use Rattle.tcc_rules.specs.DirDeliver.{commit}
 use Rattle.tcc_serial.proofs.Counts.DirOutcome.{Outcome, Waiting, Spent, AsksOwner, TakesSkip, TakesAbort, TakesProbe, TakesLoad, TakesMark}
 use Rattle.tcc_serial.proofs.Counts.DirOutcome.{TakesCommit, TakesAck, TakesCopy, outcome}
-use Rattle.tcc_serial.proofs.Counts.StepCases.{pairs_dir, pairs_asks, OfAnswer, step_cases}
+use Rattle.tcc_serial.proofs.Counts.StepCases.{pairs_dir, pairs_asks, OfAnswer, step_cases, Leaves, dirs_step}
 
-abbrev pub WhollyBy : Answer → Type 0
-WhollyBy (Asks new sends) = WhollyOrHome new
-WhollyBy (Takes new sends) = WhollyOrHome new
-WhollyBy _ = Unit {0}
-
-pub dir-whole : (sh : Shape) (s : DirState) (c : ℕ) (m : Msg) → WhollyOrHome s → WhollyBy (dir_deliver sh s c m)
+dir-whole : (sh : Shape) (s : DirState) (c : ℕ) (m : Msg) → WhollyOrHome s → Leaves WhollyOrHome (dir_deliver sh s c m)
 dir-whole sh s c m h = go (outcome sh s c m)
   where
     unmarks : (x : ℕ) (b : Bool) → s.owed ≡ 0 → nat_lt 0 (if b then 0 else s.lines.mark x) ≡ true → ((if b then 0 else s.lines.mark x) ≡ full) ⊎ (s.lines.owner x ≡ None)
@@ -40,7 +35,7 @@ dir-whole sh s c m h = go (outcome sh s c m)
     came x true i = inr refl
     came x false i = i
 
-    go : {m : Msg} {a : Answer} → Outcome sh s c m a → WhollyBy a
+    go : {m : Msg} {a : Answer} → Outcome sh s c m a → Leaves WhollyOrHome a
     go (Waiting m) = tt
     go (Spent m i) = tt
     go (TakesAbort u b e i) = λ x o n. unmarks x b o n
@@ -51,34 +46,7 @@ dir-whole sh s c m h = go (outcome sh s c m)
     go _ = h
 
 pub step-whole : (sh : Shape) (p : Program) (w : World) (e : Event) → KeptWhole sh w → IfSome (step sh p w e) (λ o. KeptWhole sh o.world)
-unfolding pair core_moves core_takes vendor_gives
-step-whole sh p w e h = step_cases sh p w e (λ g o. KeptWhole sh o.world)
-    (λ c l. moved c (core_exec sh p c (w.cores c)))
-    (λ c a b l. moved c (core_evict sh a b (w.cores c)))
-    (λ c k u i. h)
-    (λ c d k m i. taken c d k (from_dir sh d (w.cores c) m))
-    (λ c d k m i. answered c d k (dir_deliver sh (w.dirs d) c m) (dir-whole sh (w.dirs d) c m (h d)))
-    (λ c k i. h)
-  where
-    P : ℕ → ℕ → Pair → Type 0
-    P c d v = WhollyOrHome v.dir
-
-    moved : (c : ℕ) (q : Option Out) → IfSome q (λ o. KeptWhole sh (core_moves w c o))
-    moved c None = tt
-    moved c (Some o) = h
-
-    taken : (c d k : ℕ) (q : Option Out) → IfSome q (λ o. KeptWhole sh (core_takes w (Dir d) c k o))
-    taken c d k None = tt
-    taken c d k (Some o) = h
-
-    all : (v : World) → ((c d : ℕ) → P c d (pair v c d)) → KeptWhole sh v
-    all v f d = f 0 d
-
-    answered : (c d k : ℕ) (a : Answer) → WhollyBy a → OfAnswer w c d k (λ v. KeptWhole sh v) a
-    answered c d k Waits u = tt
-    answered c d k Drops u = all (dir_takes w c d k (w.dirs d) (λ dst. [])) (pairs_dir P w c d k (w.dirs d) (λ dst. []) (h d) (λ j n. h d) (λ j e. h e))
-    answered c d k (Asks s sends) u = all (dir_asks w d s sends) (pairs_asks P w d s sends (λ j. u) (λ j e. h e))
-    answered c d k (Takes s sends) u = all (dir_takes w c d k s sends) (pairs_dir P w c d k s sends u (λ j n. u) (λ j e. h e))
+step-whole sh p w e h = dirs_step sh p w e WhollyOrHome h (λ c d k m i. dir-whole sh (w.dirs d) c m (h d))
 
 pub start-whole : (sh : Shape) (entries : ℕ → Local) (ram : ℕ → ℕ) → KeptWhole sh (start entries ram)
 unfolding start dir_start no_lines

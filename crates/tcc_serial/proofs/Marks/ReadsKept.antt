@@ -64,11 +64,7 @@ admitted sh gs w cs c e k _ d b z y s i = tt
 
 -- what a directory serves only rises
 read-rises : (sh : Shape) (d a b : ℕ) (s : CoreState) → a ≤ b → ReadOf sh d a s → ReadOf sh d b s
-read-rises sh d a b s l h x e y = go (h x e y)
-  where
-    go : ValidOrPassed (s.cache.value x) s.phase a → ValidOrPassed (s.cache.value x) s.phase b
-    go (inl z) = inl z
-    go (inr z) = inr (z.0, z.1, omega (arith, z.2))
+read-rises sh d a b s l h x e y = elim (h x e y) [ inl z ↦ inl z | inr z ↦ inr (z.0, z.1, omega (arith, z.2)) ]
 
 pub step-reads : (sh : Shape) (p : Program) (gs : List Grant) (w : World) (cs : List Noted) (e : Event) → Kept sh w → KeptOwners sh gs w cs → KeptCores sh w → SparesCommitter sh gs w → KeptReads sh w → IfSome (step sh p w e) (λ o. KeptReads sh o.world)
 unfolding pair

@@ -36,7 +36,6 @@ use Rattle.tcc_serial.proofs.OneCore.Outcomes.{out}
 -- How each kind of event keeps, between a core and a directory, that a Commit in flight is of a commit that stored what was marked.
 
 -- a further commit in the list
-
 insert-has : (n : Noted) (cs : List Noted) → Contains (insert_commit n cs) n
 unfolding insert_commit
 insert-has n [] = (0, omega arith, refl)
@@ -144,7 +143,6 @@ stored-granted sh cs c d t k v o f z h = record {
     h' = stored-more sh cs o.commit c d t v h
 
 -- a directory answers
-
 pub stored-answered : (sh : Shape) (gs : List Grant) (cs : List Noted) (j d t : ℕ) (v : Pair) (m : Msg) (s : DirState) (ms : List Msg) (k : Link) → Marked v.dir m s
     → ((x : Kind) → live x k ≤ live x v.out)
     → ((l : ℕ) → Contains gs (record { tid = t; core = j }) → live (MarkOf t l) k + num (passes (MarkOf t l) m) ≡ live (MarkOf t l) v.out)
@@ -184,11 +182,7 @@ taken-marks l q v z h = is (v.dir.serving.serving == v.dir.serving.serving) (gri
   where
     is : (b : Bool) → b ≡ true → num (b && has_mark v.dir.lines l) ≡ num (nat_lt 0 q) → num (b && (has_mark v.dir.lines l && not (v.dir.lines.mark l == q))) ≡ 0 → v.dir.lines.mark l ≡ q
     is false e x y = absurd (cc)
-    is true e x y = go (cases_eq (v.dir.lines.mark l) q)
-      where
-        go : (v.dir.lines.mark l ≡ q) ⊎ (v.dir.lines.mark l ≡ q → ⊥) → v.dir.lines.mark l ≡ q
-        go (inl i) = i
-        go (inr n) = absurd (grind (arith, nat_tests))
+    is true e x y = elim (cases_eq (v.dir.lines.mark l) q) [ inl i ↦ i | inr n ↦ absurd (grind (arith, nat_tests)) ]
 
 pub one-commit : (u n : ℕ) (m : Msg) → num (passes (CommitOf u n) m) ≤ num (passes (Commits u) m)
 unfolding passes

@@ -50,7 +50,6 @@ stored-line sh d ss l = go (nat_lt l (lines sh)) (d == home sh l)
     go false b = refl
 
 -- where p is of the lines with a stored word, there is one exactly where the directory was stored at
-
 any-same : (p q : ℕ → Bool) (n : ℕ) → ((l : ℕ) → l < n → p l ≡ q l) → any_below p n ≡ any_below q n
 unfolding any_below
 any-same p q zero h = refl
@@ -64,7 +63,6 @@ stored-any sh d ss p h = any-same p (λ l. nat_lt 0 (stored_mask sh d ss l)) (li
     one l i = let b : nat_lt l (lines sh) ≡ true = grind (arith, nat_tests) in num-same (p l) (nat_lt 0 (stored_mask sh d ss l)) (rw b at (h l))
 
 -- where just the words that the stores name are modified
-
 pub modified-line : (base : ℕ) (c : Cache) (ss : List Stored) (l : ℕ) → ((w : ℕ) → c.modified w ≡ stores_word base ss w) → is_modified c l ≡ any_word (stores_word base ss) l
 unfolding is_modified
 modified-line base c ss l h = ap {A = ℕ → Bool} (λ f. any_word f l) (λ i w. h w i)
@@ -74,7 +72,6 @@ unfolding modified_mask stores_in
 modified-stored base c ss l h = sym (ap {A = ℕ → Bool} (λ f. mask_of (λ k. f (word_at l k))) (λ i w. h w i))
 
 -- where they are modified or spilled
-
 pub written-line : (base : ℕ) (c : Cache) (sp : Spilled) (ss : List Stored) (l : ℕ) → ((w : ℕ) → (c.modified w || is_some (sp w)) ≡ stores_word base ss w) → is_written c sp l ≡ any_word (stores_word base ss) l
 unfolding is_written is_modified holds any_word
 written-line base c sp ss l h = sym (any-or (λ k. c.modified (word_at l k)) (λ k. is_some (sp (word_at l k))) 8) ∙ ap {A = ℕ → Bool} (λ f. any_below (λ k. f (word_at l k)) 8) (λ i w. h w i)
@@ -93,17 +90,15 @@ stored-cases sh d ss l = go (nat_lt l (lines sh) && d == home sh l)
     go false = inr refl
 
 -- where a core stores
-
 pub stored-solo : (sh : Shape) (c : Cache) (sp : Spilled) (ss : List Stored) (d : ℕ) → ((w : ℕ) → (c.modified w || is_some (sp w)) ≡ stores_word sh.base ss w) → solo_writes_at sh c sp d ≡ stores_at sh d ss
 unfolding solo_writes_at
 stored-solo sh c sp ss d h = ap {A = ℕ → Bool} (λ f. any_below (λ l. d == home sh l && f l) (lines sh)) (λ i l. written-line sh.base c sp ss l h i) ∙ stored-any sh d ss (λ l. d == home sh l && any_word (stores_word sh.base ss) l) (stored-line sh d ss)
 
 -- one that isn't alone has spilled nothing
 pub unspilled : (sh : Shape) (c : Cache) (sp : Spilled) (ss : List Stored) → Words sh false c sp ss → (w : ℕ) → c.modified w ≡ stores_word sh.base ss w
-unspilled sh c sp ss h w = none (sp w) (c.modified w) (h.spilled_alone refl w) ∙ h.named w
-  where
-    none : (x : Option ℕ) (b : Bool) → x ≡ None → b ≡ (b || is_some x)
-    none x b e = rw e (grind arith)
+unspilled sh c sp ss h w =
+    let none : (x : Option ℕ) (b : Bool) → x ≡ None → b ≡ (b || is_some x) = λ x b e. rw e (grind arith) in
+    none (sp w) (c.modified w) (h.spilled_alone refl w) ∙ h.named w
 
 pub stored-written : (sh : Shape) (c : Cache) (sp : Spilled) (ss : List Stored) (d : ℕ) → Words sh false c sp ss → writes_at sh c d ≡ stores_at sh d ss
 unfolding writes_at

@@ -8,7 +8,7 @@ use Rattle.tcc_serial.proofs.Names.{invs_to, line_words, core_moves, core_takes,
 use Rattle.tcc_serial.proofs.Names.{NoWord, live, among, passes, Kept, Pair, pair, after_answer, out_taken}
 use Rattle.tcc_serial.proofs.Counts.DirOutcome.{Outcome, Waiting, Spent, AsksOwner, TakesSkip, TakesAbort, TakesProbe, TakesLoad, TakesMark}
 use Rattle.tcc_serial.proofs.Counts.DirOutcome.{TakesCommit, TakesAck, TakesCopy, Wants, ToLoad, ToMark, outcome}
-use Rattle.tcc_serial.proofs.Counts.Links.{live-sends, live-takes}
+use Rattle.tcc_serial.proofs.Counts.Links.{live-sends, live-takes, none-taken}
 use Rattle.tcc_serial.proofs.Counts.StepCases.{pairs_move, pairs_grant, pairs_back, pairs_dir, pairs_asks, pairs_vendor, OfAnswer}
 use Rattle.tcc_serial.proofs.Counts.StepCases.{step_cases}
 use Rattle.tcc_serial.proofs.Memory.CoreHomes.{Homely, HomelyOut, homely-none, homely-those, homes-exec, homes-evict, homes-grant}
@@ -36,22 +36,14 @@ quietly : (sh : Shape) (d : ℕ) (new : DirState) → LinesHome sh d new.lines �
 quietly sh d new h = record { lines = h; homely = λ j. homely-none sh d }
 
 other : (sh : Shape) (d l x : ℕ) → home sh l ≡ d → (home sh x ≡ d → ⊥) → (x == l) ≡ false
-other sh d l x e n = go (cases_eq x l)
-  where
-    go : (x ≡ l) ⊎ (x ≡ l → ⊥) → (x == l) ≡ false
-    go (inl q) = absurd (n (rw q e))
-    go (inr q) = grind (arith, nat_tests)
+other sh d l x e n = elim (cases_eq x l) [ inl q ↦ absurd (n (rw q e)) | inr q ↦ grind (arith, nat_tests) ]
 
 home-count : (sh : Shape) (d l : ℕ) → home sh l ≡ d → num (not ((l % sh.dirs) == d)) ≡ 0
 home-count sh d l e = let b : ((l % sh.dirs) == d) ≡ true = rw e (grind (arith, nat_tests)) in rw b refl
 
 -- one message to one core
 one-to : (sh : Shape) (d c j : ℕ) (m : Msg) → Homely sh d (m ∷ []) → Homely sh d (to (Core c) (m ∷ []) (Core j))
-one-to sh d c j m h = go (j == c)
-  where
-    go : (b : Bool) → Homely sh d (if b then m ∷ [] else [])
-    go true = h
-    go false = homely-none sh d
+one-to sh d c j m h = elim (j == c) as (λ b. Homely sh d (if b then m ∷ [] else [])) [ true ↦ h | false ↦ homely-none sh d ]
 
 one-data : (sh : Shape) (d l : ℕ) → home sh l ≡ d → Homely sh d (DataReq l ∷ [])
 unfolding among passes
@@ -74,11 +66,7 @@ unmarked-away : (sh : Shape) (d l : ℕ) (ls : Lines) → LinesHome sh d ls → 
 unmarked-away sh d l ls h n = let u = (h.known l n).mark in rw u refl
 
 marked-here : (sh : Shape) (d l : ℕ) (ls : Lines) → LinesHome sh d ls → nat_lt 0 (ls.mark l) ≡ true → home sh l ≡ d
-marked-here sh d l ls h m = go (cases_eq (home sh l) d)
-  where
-    go : (home sh l ≡ d) ⊎ (home sh l ≡ d → ⊥) → home sh l ≡ d
-    go (inl e) = e
-    go (inr n) = absurd (let z = unmarked-away sh d l ls h n in cc)
+marked-here sh d l ls h m = elim (cases_eq (home sh l) d) [ inl e ↦ e | inr n ↦ absurd (let z = unmarked-away sh d l ls h n in cc) ]
 
 dir-homes : (sh : Shape) (d : ℕ) (s : DirState) (c : ℕ) (m : Msg) → c < sh.cores → passes (LinesAway sh.dirs d) m ≡ false → LinesHome sh d s.lines → HomesBy sh d (dir_deliver sh s c m)
 unfolding passes invalidations invs_to is_invalidated
@@ -151,7 +139,6 @@ dir-homes sh d s c m cl aw h = go (outcome sh s c m) aw
     go _ a = tt
 
 -- every event
-
 lines-of : (sh : Shape) (d : ℕ) (v : Pair) → ((l : ℕ) → HomeOf sh d l v) → LinesHome sh d v.dir.lines
 lines-of sh d v h = record { known = λ l n. (h l).known n; sharers = λ l j o. (h l).sharers j o; owners = λ l j o. (h l).owners j o }
 
@@ -176,11 +163,7 @@ step-homes sh p w e z h = step_cases sh p w e (λ g o. KeptHomes sh o.world)
     home-lines c d = lines-of sh d (pair w c d) (h c d)
 
     passed : (c d k : ℕ) (m : Msg) → in_flight w.net (Core c) (Dir d) k ≡ Some m → passes (LinesAway sh.dirs d) m ≡ false
-    passed c d k m i = go (passes (LinesAway sh.dirs d) m) refl
-      where
-        go : (b : Bool) → passes (LinesAway sh.dirs d) m ≡ b → b ≡ false
-        go false q = refl
-        go true q = let n : num (passes (LinesAway sh.dirs d) m) ≡ 1 = ap num q in absurd (omega (arith, n, (h c d 0).out, live-some (LinesAway sh.dirs d) (w.net (Core c) (Dir d)) k m i))
+    passed c d k m i = none-taken (LinesAway sh.dirs d) (w.net (Core c) (Dir d)) k m i ((h c d 0).out)
 
     sent : (c d : ℕ) (o : Out) → HomelyOut sh o.sends → (l : ℕ) → HomeOf sh d l (record (pair w c d) { core = o.core; out = w.net (Core c) (Dir d) ++ sent_all (o.sends (Dir d)) })
     sent c d o a l = home-of sh d (record (pair w c d) { core = o.core; out = w.net (Core c) (Dir d) ++ sent_all (o.sends (Dir d)) }) (home-lines c d)

@@ -1,12 +1,17 @@
 -- Along every run of a program whose accesses lie in memory, frames and what was loaded and stored lie there too.
-use Rattle.tcc_serial.proofs.Names.{ℕ, ◌≡◌, Bool, true, false, ◌==◌, List, Option, Some, None, IfSome, if◌then◌else◌, refl, Dir, Msg}
-use Rattle.tcc_serial.proofs.Names.{Shape, Cache, filled, cleaned, invalidated, read_cleared, rolled_back, evicted, evicted_line}
-use Rattle.tcc_serial.proofs.Names.{CoreState, core_evict, grant, from_dir, ◌≤◌, [], ◌++◌, arith, Program, Local, Core, Event, lines}
-use Rattle.tcc_serial.proofs.Names.{DirState, World, start, Out, core_exec, Answer, Waits, Drops, Asks, Takes, dir_deliver, in_flight}
-use Rattle.tcc_serial.proofs.Names.{sent_all, Sends, core_moves, core_takes, dir_takes, step, CopyOf, live, KeptCores, Pair, pair, ◌∷◌}
-use Rattle.tcc_serial.proofs.Names.{Contains, ◌⊎◌, inl, inr, subst, Noted, empty_cache, core_start, dir_asks, vendor_gives, Stepped}
-use Rattle.tcc_serial.proofs.Names.{History, and_noted, recorded, next, and_then, run_from, run, StaysInMemory, AccessesInMemory}
-use Rattle.tcc_serial.proofs.Names.{CommitsInMemory, first_state, answered, commit, copies, moved, noted, put, taken}
+use Rattle.tcc_serial.proofs.Names.{ℕ, ◌≡◌, Bool, true, false, not, ◌&&◌, ◌||◌, ◌==◌, List, Option, Some, None, IfSome, if◌then◌else◌, refl}
+use Rattle.tcc_serial.proofs.Names.{Dir, Msg, TidReq, TidGrant, LoadReq, Fill, Skip, Probe, ProbeReply, Mark, Commit, Abort, WriteBack}
+use Rattle.tcc_serial.proofs.Names.{Flush, DataReq, Inv, InvAck, Shape, Cache, is_marked, filled, cleaned, invalidated, read_cleared}
+use Rattle.tcc_serial.proofs.Names.{rolled_back, evicted, evicted_line, spill_line, CoreState, Awaited, Phase, Running, AwaitTid, DoomedTid}
+use Rattle.tcc_serial.proofs.Names.{Probing, Ready, Overflowing, Solo, Halted, nothing, to, marks_for, written_back, moves, is_solo}
+use Rattle.tcc_serial.proofs.Names.{roll_back, core_evict, evict_line, is_awaited, ignored, grant, grant_phase, probe_reply, reply_phase}
+use Rattle.tcc_serial.proofs.Names.{replied, all_replied, when_ready, when_alone, fill, fill_awaited, data_request, invalidate}
+use Rattle.tcc_serial.proofs.Names.{acknowledged, if_violated, is_violated, violated_in, without, from_dir, ◌≤◌, [], ◌++◌, arith, Program}
+use Rattle.tcc_serial.proofs.Names.{Local, Core, Event, lines, DirState, World, start, Out, core_exec, Answer, Waits, Drops, Asks, Takes}
+use Rattle.tcc_serial.proofs.Names.{dir_deliver, in_flight, sent_all, Sends, core_moves, core_takes, dir_takes, step, CopyOf, live}
+use Rattle.tcc_serial.proofs.Names.{KeptCores, Pair, pair, ◌∷◌, Contains, ◌⊎◌, inl, inr, subst, Noted, empty_cache, core_start, dir_asks}
+use Rattle.tcc_serial.proofs.Names.{vendor_gives, Stepped, History, and_noted, recorded, next, and_then, run_from, run, StaysInMemory}
+use Rattle.tcc_serial.proofs.Names.{AccessesInMemory, CommitsInMemory, first_state}
 use Rattle.tcc_serial.proofs.Counts.Links.{live-sends, live-takes}
 use Rattle.tcc_serial.proofs.Counts.StepCases.{pairs_move, pairs_grant, pairs_back, pairs_dir, pairs_asks, pairs_vendor, OfAnswer}
 use Rattle.tcc_serial.proofs.Counts.StepCases.{step_cases}
@@ -14,8 +19,6 @@ use Rattle.tcc_serial.proofs.Memory.CoreInMemory.{CoreInMemory, OutInMemory, sam
 use Rattle.tcc_serial.proofs.Memory.MemorySends.{SendsInMemory, exec-sends, evict-sends, grant-sent, back-sends}
 use Rattle.tcc_serial.proofs.OneCore.CoreAlone.{step-cores, start-cores}
 use Rattle.tcc_serial.proofs.Tids.Commits.{inserted}
-use Rattle.tcc_serial.proofs.OneCore.Outcomes.{Given_none, Granted, Heard, Hurt_alone, Hurt_probing, Hurt_running, Hurt_waiting}
-use Rattle.tcc_serial.proofs.OneCore.Outcomes.{each-back, each-evict, each-grant, granted, heard, out}
 
 -- Evict and messages keep that a core's frames and what its attempt used lie in memory.
 evicted-frames : (x y : ℕ) (c : Cache) (k : ℕ) → (evicted x y c).held k ≡ true → c.held k ≡ true
@@ -31,26 +34,105 @@ evicted-frames x y c k e = go (c.at x y) e
     go (Some l) e = at (k == l) e
 
 pub evict-memory : (sh : Shape) (x y : ℕ) (s : CoreState) → CoreInMemory sh s → IfSome (core_evict sh x y s) (OutInMemory sh)
-evict-memory sh x y s k = each-evict sh x y s (OutInMemory sh) (λ l e a m. (record { frames = λ m e. k.frames m (evicted-frames x y s.cache m e); accesses = k.accesses }, tt))
+unfolding core_evict
+evict-memory sh x y s k = go (s.cache.at x y)
+  where
+    one : (l : ℕ) (b : Bool) → IfSome (if b then None else Some (moves (record s { cache = evicted x y s.cache; spilled = spill_line l s.cache s.spilled }) (written_back sh s.cache l))) (OutInMemory sh)
+    one l true = tt
+    one l false = (record { frames = λ m e. k.frames m (evicted-frames x y s.cache m e); accesses = k.accesses }, tt)
+
+    go : (a : Option ℕ) → IfSome (evict_line sh x y s a) (OutInMemory sh)
+    go None = tt
+    go (Some l) = one l (is_awaited s.awaited l || (is_marked s.cache l && not (is_solo s.phase)))
 
 pub grant-memory : (sh : Shape) (u : ℕ) (s : CoreState) → CoreInMemory sh s → OutInMemory sh (grant sh u s)
-grant-memory sh u s k = each-grant sh u s (OutInMemory sh) go
+unfolding grant
+grant-memory sh u s k = go s.phase
   where
-    go : (x : Granted sh u s) → OutInMemory sh (granted x)
-    go (Given_none e) = (k, tt)
-    go _ = (same-memory sh s _ refl refl refl k, tt)
+    go : (q : Phase) → OutInMemory sh (grant_phase sh u s q)
+    go AwaitTid = (same-memory sh s _ refl refl refl k, tt)
+    go DoomedTid = (same-memory sh s _ refl refl refl k, tt)
+    go (Overflowing None) = (same-memory sh s _ refl refl refl k, tt)
+    go _ = (k, tt)
 
--- a Fill places no frame; a core that rolls back keeps its frames, and its attempt is empty
-pub back-memory : (sh : Shape) (d : ℕ) (s : CoreState) (m : Msg) → CoreInMemory sh s → IfSome (from_dir sh d s m) (OutInMemory sh)
-unfolding filled cleaned invalidated rolled_back read_cleared
-back-memory sh d s m k = each-back sh d s (λ m o. OutInMemory sh o) go m
+reply-memory : (sh : Shape) (d u : ℕ) (s : CoreState) → CoreInMemory sh s → OutInMemory sh (probe_reply sh d u s)
+unfolding probe_reply read_cleared
+reply-memory sh d u s k = go s.phase
   where
-    go : (x : Heard sh d s) → OutInMemory sh (heard x)
-    go (Hurt_running l m u v q) = (record { frames = k.frames; accesses = nothing-used sh }, tt)
-    go (Hurt_waiting l m u v q) = (record { frames = k.frames; accesses = nothing-used sh }, tt)
-    go (Hurt_probing l m u t v q) = (record { frames = k.frames; accesses = nothing-used sh }, tt)
-    go (Hurt_alone l m u t v q) = (record { frames = k.frames; accesses = nothing-used sh }, tt)
-    go _ = (same-memory sh s _ refl refl refl k, tt)
+    ready : (b : Bool) → CoreInMemory sh (if b then record (replied d s) { phase = Ready u } else replied d s)
+    ready true = same-memory sh s _ refl refl refl k
+    ready false = same-memory sh s _ refl refl refl k
+
+    alone : (b : Bool) → CoreInMemory sh (if b then record (replied d s) { phase = Solo u; cache = read_cleared s.cache } else replied d s)
+    alone true = same-memory sh s _ refl refl refl k
+    alone false = same-memory sh s _ refl refl refl k
+
+    probed : (a : Bool) → OutInMemory sh (if a then moves (when_ready sh u (replied d s)) (to (Dir d) (marks_for sh s.cache u d)) else ignored s)
+    probed true = (ready (all_replied sh (replied d s).owing), tt)
+    probed false = (k, tt)
+
+    over : (a : Bool) → OutInMemory sh (if a then moves (when_alone sh u (replied d s)) nothing else ignored s)
+    over true = (alone (all_replied sh (replied d s).owing), tt)
+    over false = (k, tt)
+
+    go : (q : Phase) → OutInMemory sh (reply_phase sh d u s q)
+    go (Probing v) = probed (v == u && s.owing d)
+    go (Overflowing (Some v)) = over (v == u && s.owing d)
+    go _ = (k, tt)
+
+-- a Fill gives a frame its words and places none
+fill-memory : (sh : Shape) (l : ℕ) (ws : List ℕ) (s : CoreState) → CoreInMemory sh s → OutInMemory sh (fill l ws s)
+unfolding fill filled
+fill-memory sh l ws s k = go s.awaited
+  where
+    words : (b : Bool) → CoreInMemory sh (record s { cache = (if b then s.cache else filled l ws s.cache); awaited = None })
+    words true = same-memory sh s _ refl refl refl k
+    words false = same-memory sh s _ refl refl refl k
+
+    one : (a : Awaited) (b : Bool) → OutInMemory sh (if b then moves (record s { cache = (if a.stale then s.cache else filled l ws s.cache); awaited = None }) nothing else ignored s)
+    one a true = (words a.stale, tt)
+    one a false = (k, tt)
+
+    go : (a : Option Awaited) → OutInMemory sh (fill_awaited l ws s a)
+    go None = (k, tt)
+    go (Some a) = one a (a.line == l)
+
+data-memory : (sh : Shape) (l : ℕ) (s : CoreState) → CoreInMemory sh s → OutInMemory sh (data_request sh l s)
+unfolding data_request cleaned
+data-memory sh l s k = (same-memory sh s _ refl refl refl k, tt)
+
+-- a core that rolls back keeps its frames, and its attempt is empty
+invalidate-memory : (sh : Shape) (l m u : ℕ) (s : CoreState) → CoreInMemory sh s → OutInMemory sh (invalidate sh l m u s)
+unfolding invalidate acknowledged if_violated without invalidated roll_back rolled_back
+invalidate-memory sh l m u s k = go (is_violated l m u s) s.phase
+  where
+    r : CoreState
+    r = without l m s
+
+    same : CoreInMemory sh r
+    same = same-memory sh s r refl refl refl k
+
+    begun : CoreInMemory sh (roll_back r)
+    begun = record { frames = k.frames; accesses = nothing-used sh }
+
+    go : (b : Bool) (q : Phase) → OutInMemory sh (if b then violated_in sh r q else ignored r)
+    go false q = (same, tt)
+    go true Running = (begun, tt)
+    go true AwaitTid = (same-memory sh (roll_back r) _ refl refl refl begun, tt)
+    go true (Overflowing None) = (same-memory sh (roll_back r) _ refl refl refl begun, tt)
+    go true (Overflowing (Some t)) = (same-memory sh (roll_back r) _ refl refl refl begun, tt)
+    go true (Probing t) = (same-memory sh (roll_back r) _ refl refl refl begun, tt)
+    go true (Ready t) = (same-memory sh (roll_back r) _ refl refl refl begun, tt)
+    go true (Solo t) = (same-memory sh (roll_back r) _ refl refl refl begun, tt)
+    go true DoomedTid = (same, tt)
+    go true Halted = (same, tt)
+
+pub back-memory : (sh : Shape) (d : ℕ) (s : CoreState) (m : Msg) → CoreInMemory sh s → IfSome (from_dir sh d s m) (OutInMemory sh)
+back-memory sh d s (ProbeReply u v) k = reply-memory sh d u s k
+back-memory sh d s (Fill l ws) k = fill-memory sh l ws s k
+back-memory sh d s (DataReq l) k = data-memory sh l s k
+back-memory sh d s (Inv l m u) k = invalidate-memory sh l m u s k
+back-memory sh d s _ k = tt
 
 -- Every event keeps that words on their way home are of lines of memory.
 
@@ -132,9 +214,7 @@ step-memory sh p w e i k = step_cases sh p w e (λ g o. StepInMemory sh o)
 
     answered : (c d n : ℕ) (a : Answer) → OfAnswer w c d n (λ v. StepInMemory sh (record { world = v; noted = None })) a
     answered c d n Waits = tt
-    answered c d n Drops = (k, tt)
-    answered c d n (Asks s sends) = (k, tt)
-    answered c d n (Takes s sends) = (k, tt)
+    answered c d n _ = (k, tt)
 
 noted-memory : (sh : Shape) (a : Option Noted) (cs : List Noted) → IfSome a (λ n. AccessesInMemory sh n.loads n.stores) → CommitsInMemory sh cs → CommitsInMemory sh (and_noted a cs)
 noted-memory sh None cs a k = k

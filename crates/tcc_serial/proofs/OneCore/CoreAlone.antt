@@ -11,11 +11,7 @@ use Rattle.tcc_serial.proofs.OneCore.OneCoreTakes.{evict_one, grant_one, back_on
 
 -- one core has changed
 put_one : (sh : Shape) (w : World) (c : ℕ) (s : CoreState) → KeptCores sh w → OneCore sh s → (j : ℕ) → OneCore sh (if j == c then s else w.cores j)
-put_one sh w c s k h j = go (j == c)
-  where
-    go : (b : Bool) → OneCore sh (if b then s else w.cores j)
-    go true = h
-    go false = k j
+put_one sh w c s k h j = elim (j == c) as (λ b. OneCore sh (if b then s else w.cores j)) [ true ↦ h | false ↦ k j ]
 
 pub step-cores : (sh : Shape) (p : Program) (w : World) (e : Event) → KeptCores sh w → IfSome (step sh p w e) (λ o. KeptCores sh o.world)
 unfolding core_moves core_takes dir_takes dir_asks vendor_gives
@@ -37,9 +33,7 @@ step-cores sh p w e k = step_cases sh p w e (λ g o. KeptCores sh o.world)
 
     answered : (c d i : ℕ) (a : Answer) → OfAnswer w c d i (λ v. KeptCores sh v) a
     answered c d i Waits = tt
-    answered c d i Drops = k
-    answered c d i (Asks s sends) = k
-    answered c d i (Takes s sends) = k
+    answered c d i _ = k
 
 pub start-cores : (sh : Shape) (entries : ℕ → Local) (ram : ℕ → ℕ) → KeptCores sh (start entries ram)
 unfolding start core_start empty_cache none_spilled

@@ -55,31 +55,19 @@ one-more sh s r m b e t k = Loaded b (λ w l. go w (loads_word sh.base s.loads w
 
 marked-touched : (w v : ℕ) (c : Cache) → touched c v ≡ true → touched (marked w c) v ≡ true
 unfolding marked
-marked-touched w v c h = go (w == v) (c.read v) (c.modified v) h
-  where
-    go : (a r m : Bool) → (r || m) ≡ true → ((if a then r || not m else r) || m) ≡ true
-    go a r m h = grind arith
+marked-touched w v c h = grind (arith, nat_tests)
 
 marked-now : (w : ℕ) (c : Cache) → touched (marked w c) w ≡ true
 unfolding marked
-marked-now w c = go (w == w) (grind (arith, nat_tests)) (c.read w) (c.modified w)
-  where
-    go : (a : Bool) → a ≡ true → (r m : Bool) → ((if a then r || not m else r) || m) ≡ true
-    go a q r m = grind arith
+marked-now w c = grind (arith, nat_tests)
 
 stored-touched : (w x v : ℕ) (also : Bool) (c : Cache) → touched c v ≡ true → touched (stored w x also c) v ≡ true
 unfolding stored
-stored-touched w x v also c h = go (w == v) (v == w) (c.read v) (c.modified v) h
-  where
-    go : (a b r m : Bool) → (r || m) ≡ true → ((if a then also || r else r) || (if b then true else m)) ≡ true
-    go a b r m h = grind arith
+stored-touched w x v also c h = grind (arith, nat_tests)
 
 stored-now : (w x : ℕ) (also : Bool) (c : Cache) → touched (stored w x also c) w ≡ true
 unfolding stored
-stored-now w x also c = go (w == w) (grind (arith, nat_tests)) (c.read w)
-  where
-    go : (a : Bool) → a ≡ true → (r : Bool) → ((if a then also || r else r) || (if a then true else c.modified w)) ≡ true
-    go a q r = grind arith
+stored-now w x also c = grind (arith, nat_tests)
 
 placed-touched : (sh : Shape) (l : ℕ) (c : Cache) (v : ℕ) → touched c v ≡ true → touched (placed sh l c) v ≡ true
 placed-touched sh l c v h = let m = placed-marks sh l c v in rw (m.0, m.1) h

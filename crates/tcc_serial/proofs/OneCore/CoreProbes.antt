@@ -115,11 +115,7 @@ one_replied : (sh : Shape) (e d x u : ℕ) (s r : CoreState) (go wait : Phase) �
 one_replied sh e d x u s r go wait f ph ow tg tw ts mw ag aw h = by (all_replied sh (put s.owing e false)) refl
   where
     low : (q : Phase) → tid_of q ≡ u → (asks_dir q (writes_at sh r.cache d || reads_at sh r.cache d) ≡ true → asks_dir s.phase (writes_at sh s.cache d || reads_at sh s.cache d) ≡ true) → d < sh.dirs → asks_dir q (writes_at sh r.cache d || reads_at sh r.cache d) ≡ true → put s.owing e false d ≡ false → tid_of q ≤ x
-    low q t a l k o = rw t (at (cases_eq d e))
-      where
-        at : (d ≡ e) ⊎ (d ≡ e → ⊥) → u ≤ x
-        at (inl i) = f i
-        at (inr i) = let z = h.reached l (a k) (rw (put-away s.owing e d false i) at o) in omega arith
+    low q t a l k o = grind (arith, nat_tests)
 
     by : (b : Bool) → all_replied sh (put s.owing e false) ≡ b → Reached sh d x r
     by true q =

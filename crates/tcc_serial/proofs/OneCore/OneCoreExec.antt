@@ -52,11 +52,7 @@ waits {sh} s go e h n a b c = record {
 
 placed-held : (sh : Shape) (l : ℕ) (c : Cache) → is_some (free_way sh c (set_of sh l)) ≡ true → (placed sh l c).held l ≡ true
 unfolding placed placed_at
-placed-held sh l c e = go (free_way sh c (set_of sh l)) e
-  where
-    go : (y : Option ℕ) → is_some y ≡ true → (placed_at y (set_of sh l) l c).held l ≡ true
-    go None q = absurd (cc)
-    go (Some y) q = let b : (l == l) ≡ true = grind (arith, nat_tests) in rw b refl
+placed-held sh l c e = grind (arith, nat_tests)
 
 running-is : (q : Phase) → is_running q ≡ true → q ≡ Running
 running-is Running e = refl

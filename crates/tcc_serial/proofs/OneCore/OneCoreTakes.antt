@@ -20,27 +20,11 @@ evicted-held c s y l m e n h = rw e (rw n h)
 
 evicted-unread : (c : Cache) (s y v : ℕ) → ((w : ℕ) → c.read w ≡ false) → (evicted s y c).read v ≡ false
 unfolding evicted evicted_line
-evicted-unread c s y v h = go (c.at s y)
-  where
-    one : (b : Bool) → (if b then false else c.read v) ≡ false
-    one true = refl
-    one false = h v
-
-    go : (a : Option ℕ) → (evicted_line a s y c).read v ≡ false
-    go None = h v
-    go (Some l) = one (l == line_of v)
+evicted-unread c s y v h = grind (arith, nat_tests)
 
 evicted-unmodified : (c : Cache) (s y v : ℕ) → ((w : ℕ) → c.modified w ≡ false) → (evicted s y c).modified v ≡ false
 unfolding evicted evicted_line
-evicted-unmodified c s y v h = go (c.at s y)
-  where
-    one : (b : Bool) → (if b then false else c.modified v) ≡ false
-    one true = refl
-    one false = h v
-
-    go : (a : Option ℕ) → (evicted_line a s y c).modified v ≡ false
-    go None = h v
-    go (Some l) = one (l == line_of v)
+evicted-unmodified c s y v h = grind (arith, nat_tests)
 
 pub evict_one : (sh : Shape) (x y : ℕ) (s : CoreState) → OneCore sh s → IfSome (core_evict sh x y s) (λ o. OneCore sh o.core)
 evict_one sh x y s h = each-evict sh x y s (λ o. OneCore sh o.core) (λ l e q m. record {
@@ -53,11 +37,7 @@ evict_one sh x y s h = each-evict sh x y s (λ o. OneCore sh o.core) (λ l e q m
   where
     another : (l : ℕ) (a : Option Awaited) → is_awaited a l ≡ false → (b : Awaited) → a ≡ Some b → (b.line == l) ≡ false
     another l None q b e = absurd (cc)
-    another l (Some a) q b e = let i : a.line ≡ b.line = ap (line_of_some a.line) e in rw (sym i) q
-      where
-        line_of_some : ℕ → Option Awaited → ℕ
-        line_of_some d None = d
-        line_of_some d (Some z) = z.line
+    another l (Some a) q b e = grind (arith, nat_tests)
 
     unmarked : (l : ℕ) → is_solo s.phase ≡ false → (is_marked s.cache l ≡ false) ⊎ (is_solo s.phase ≡ true) → is_marked s.cache l ≡ false
     unmarked l z (inl m) = m
@@ -89,11 +69,7 @@ none_probed sh c d q = go (cases_lt d sh.dirs)
     go (inr l) = far_probed sh c d l
 
 replied_far : (s : CoreState) (e d : ℕ) → s.owing d ≡ false → put s.owing e false d ≡ false
-replied_far s e d h = go (d == e)
-  where
-    go : (b : Bool) → (if b then false else s.owing d) ≡ false
-    go true = refl
-    go false = h
+replied_far s e d h = grind (arith, nat_tests)
 
 replied_none : (sh : Shape) (s : CoreState) (e d : ℕ) → all_replied sh (put s.owing e false) ≡ true → OneCore sh s → put s.owing e false d ≡ false
 replied_none sh s e d q h = go (cases_lt d sh.dirs)

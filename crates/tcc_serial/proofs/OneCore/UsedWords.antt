@@ -152,9 +152,7 @@ follow_then base p here there a other al mh mt f agree = rw (f.same) (go a.outco
 
     go : (o : Outcome) → MatchOption (when_going base p a o) (when_going base p (record a { ram = f.ram }) o ≡ None) (λ b. Follows base here there b (when_going base p (record a { ram = f.ram }) o))
     go Goes = follow_step base p here there a f.ram (p.need a.local) apart mh mt (al a.local) (same_word base here there a f.ram (p.need a.local) apart agree)
-    go Ended = refl
-    go (Halted code) = refl
-    go (Trapped code) = refl
+    go _ = refl
 
 abbrev Following : (base : ℕ) (here there : ℕ → ℕ) → Option Attempt → Option Attempt → Type 0
 Following base here there one other = MatchOption one (other ≡ None) (λ a. Follows base here there a other)
@@ -174,11 +172,7 @@ steps_follow base p zero l here there al mh mt agree = record { ram = there; sam
 steps_follow base p (suc n) l here there al mh mt agree =
     then_follow base p here there (steps base p n (begun l here)) (steps base p n (begun l there)) al mh mt
     (steps_follow base p n l here there al mh mt (λ w u. agree w (rw u refl)))
-    (λ w u. agree w (rw u (either (uses base p n (begun l here) w))))
-  where
-    either : (b : Bool) → (b || true) ≡ true
-    either true = refl
-    either false = refl
+    (λ w u. agree w (rw u ((elim (uses base p n (begun l here) w) as (λ b. (b || true) ≡ true) [ true ↦ refl | false ↦ refl ]))))
 
 -- Instructions whose accesses are aligned leave words of 32 bits, and each word that they use is named by their loads or stores.
 stored-memory : (base : ℕ) (ram : ℕ → ℕ) (addr : ℕ) (size : Size) (value : ℕ) → IsMemory ram → addr % bytes_of size ≡ 0 → IsMemory (stored base ram addr size value)
@@ -200,9 +194,7 @@ then-memory base p (Some a) al m = go a.outcome
   where
     go : (o : Outcome) → IfSome (when_going base p a o) (λ b. IsMemory b.ram)
     go Goes = stepped-memory base p a (p.need a.local) m (al a.local)
-    go Ended = tt
-    go (Halted code) = tt
-    go (Trapped code) = tt
+    go _ = tt
 
 pub steps-memory : (base : ℕ) (p : Program) (n : ℕ) (a : Attempt) → Aligned p → IsMemory a.ram → IfSome (steps base p n a) (λ b. IsMemory b.ram)
 unfolding steps
@@ -210,7 +202,6 @@ steps-memory base p zero a al m = m
 steps-memory base p (suc n) a al m = then-memory base p (steps base p n a) al (steps-memory base p n a al m)
 
 -- used words are named
-
 pub loads_word-append : (base : ℕ) (a b : List Load) (w : ℕ) → loads_word base (a ++ b) w ≡ (loads_word base a w || loads_word base b w)
 unfolding loads_word
 loads_word-append base [] b w = refl
@@ -271,9 +262,7 @@ then-names base p w used (Some a) n u = go a.outcome
 
     go : (o : Outcome) → IfSome (when_going base p a o) (λ b. (loads_word base b.loads w || stores_word base b.stores w) ≡ true)
     go Goes = named-stepped base p a (p.need a.local) w (weaker used (reads_word base (p.need a.local) w) (not (stores_whole base a.stores w)) n u)
-    go Ended = tt
-    go (Halted code) = tt
-    go (Trapped code) = tt
+    go _ = tt
 
 pub uses-named : (base : ℕ) (p : Program) (n : ℕ) (a : Attempt) (w : ℕ) → Names base w (uses base p n a w) (steps base p n a)
 unfolding uses steps

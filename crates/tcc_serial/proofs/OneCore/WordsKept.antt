@@ -119,7 +119,6 @@ or_other : (a b : Bool) → a ≡ false → (a || b) ≡ b
 or_other a b e = rw e refl
 
 -- a frame is emptied: what was modified in it is spilled
-
 evicted-fields : (c : Cache) (s y l v : ℕ) → c.at s y ≡ Some l → ((evicted s y c).read v ≡ (if l == line_of v then false else c.read v)) × ((evicted s y c).modified v ≡ (if l == line_of v then false else c.modified v)) × ((evicted s y c).dirty v ≡ (if l == line_of v then None else c.dirty v))
 unfolding evicted evicted_line
 evicted-fields c s y l v e = rw e (refl, refl, refl)

@@ -97,7 +97,6 @@ transaction_twice base p here there core n al mh mt e = rw e (run_twice base p h
     (follows_named base p n (here.cores core).local here.ram there.ram al mh mt)))
 
 -- the orders from two machines
-
 pub commits_touch-store : (base : ℕ) (cs : List Commit) (w : ℕ) → commits_touch base cs w ≡ false → commits_store base cs w ≡ false
 unfolding commits_touch commits_store
 commits_touch-store base [] w h = refl

@@ -41,7 +41,6 @@ cut-inserted x (n ∷ ns) = go (nat_lt x.tid.0 n.tid.0) (cut-inserted x ns)
     go false e = ap (λ q. n ∷ q) e
 
 -- each of the commits
-
 unfoldable pub Each : (Noted → Type 0) → List Noted → Type 0
 Each P [] = Unit {0}
 Each P (n ∷ ns) = P n × Each P ns
@@ -71,7 +70,6 @@ each-then P Q [] f h = tt
 each-then P Q (n ∷ ns) f h = (f n (h.0), each-then P Q ns f (h.1))
 
 -- by rising TID: those behind it are larger, those before it smaller where none has it
-
 above-last : (t last : ℕ) (ns : List Noted) → t ≤ last → IsRising last ns → Each (λ n. t < n.tid.0) ns
 unfolding Each IsRising
 above-last t last [] l r = tt
@@ -99,7 +97,6 @@ before-smaller t (n ∷ ns) z = go (nat_lt t n.tid.0) refl (before-smaller t ns 
     go false q e = (smaller q (omega (arith, z)), e)
 
 -- as orders
-
 pub behind-below : (t : ℕ) (ns : List Noted) → IsBelow t (map order_of_commit (behind t ns))
 unfolding behind
 behind-below t [] = tt
@@ -122,7 +119,6 @@ touch-none base w (n ∷ ns) h = rw (h.0) (touch-none base w ns (h.1))
 -- The serial execution that gave the commits, cut in two, and what it makes of each word.
 
 -- cut in two
-
 pub record SerialCut (base : ℕ) (p : Program) (last : ℕ) (early late : List Noted) (m end : Plain) : Type 0 where
   pub start : Plain
   pub first : serial base p last (map order_of_commit early) m ≡ Some (start, early)
@@ -162,7 +158,6 @@ serial-cut base p last (n ∷ early) late m end h = go (nat_lt last n.tid.0) ref
     go true q (Some d) e g f = let r = found d.0 (commit_of (order_of_commit n) d.1) (serial base p n.tid.0 os d.0) refl g in made true q d e (r.0) refl (f d.0 (r.1))
 
 -- what it makes of a word
-
 after_stores-last : (base : ℕ) (ss : List Stored) (s : Stored) (x y : ℕ) → after_stores base (ss ++ s ∷ []) x y ≡ (if word_of base s.addr == x then patched (after_stores base ss x y) s.addr s.size s.value else after_stores base ss x y)
 unfolding after_stores
 after_stores-last base [] s x y = refl
@@ -191,9 +186,7 @@ then-holds base p x y (Some a) h = go a.outcome
   where
     go : (o : Outcome) → IfSome (when_going base p a o) (Holds base x y)
     go Goes = stepped-holds base p x y a (p.need a.local) h
-    go Ended = tt
-    go (HaltedWith code) = tt
-    go (TrappedWith code) = tt
+    go _ = tt
 
 pub steps-hold : (base : ℕ) (p : Program) (n : ℕ) (l : Local) (ram : ℕ → ℕ) (x : ℕ) → IfSome (steps base p n (begun l ram)) (Holds base x (ram x))
 unfolding steps begun after_stores
@@ -211,8 +204,7 @@ transaction-holds base p m core n x = go (m.cores core).ended (steps base p n (b
     go : (e : CoreEnd) (o : Option Attempt) → IfSome o (Holds base x (m.ram x)) → IfSome (if_runs e (close_if m core o)) (λ d. d.0.ram x ≡ after_stores base d.1.stores x (m.ram x))
     go Run None h = tt
     go Run (Some a) h = one a (end_of a.outcome) h
-    go (Halt k) o h = tt
-    go (Trap k) o h = tt
+    go _ o h = tt
 
 -- a word after the stores of all these commits
 unfoldable pub all_stores : (base x : ℕ) → List Noted → ℕ → ℕ
@@ -241,7 +233,6 @@ pub home-below : (sh : Shape) (x : ℕ) → 1 ≤ sh.dirs → home sh (line_of x
 home-below sh x h = omega arith
 
 -- commits that count, and those that don't
-
 after-append : (base : ℕ) (s : DirState) (c b : Option ℕ) (x : ℕ) (es ls : List Noted) (y : ℕ) → after_commits base s c b x (es ++ ls) y ≡ after_commits base s c b x ls (after_commits base s c b x es y)
 unfolding after_commits
 after-append base s c b x [] ls y = refl
@@ -259,17 +250,7 @@ after-uncounted base s c b x (e ∷ es) y h = rw (h.0) (after-uncounted base s c
 
 counts-before : (s : DirState) (c : Option ℕ) (t : ℕ) (n : Noted) → t ≤ s.serving.serving → n.tid.0 < t → counts s c (Some t) n ≡ true
 unfolding counts is_applied
-counts-before s c t n l h = go (is_this c n.core.0)
-  where
-    below : nat_lt n.tid.0 t ≡ true
-    below = grind (arith, nat_tests)
-
-    passed : nat_lt n.tid.0 s.serving.serving ≡ true
-    passed = grind (arith, nat_tests)
-
-    go : (b : Bool) → (nat_lt n.tid.0 t && (b || (nat_lt n.tid.0 s.serving.serving || (n.tid.0 == s.serving.serving && nat_lt 0 s.owed)))) ≡ true
-    go true = rw below refl
-    go false = rw (below, passed) refl
+counts-before s c t n l h = grind (arith, nat_tests)
 
 counts-behind : (s : DirState) (c : Option ℕ) (t : ℕ) (n : Noted) → t < n.tid.0 → counts s c (Some t) n ≡ false
 unfolding counts

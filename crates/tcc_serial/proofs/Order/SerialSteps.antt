@@ -137,17 +137,12 @@ pub fits-aligned : (p : Program) → Fits p → Aligned p
 fits-aligned p f l = go (p.need l) (f l)
   where
     go : (n : Need) → NeedFits n → AlignedNeed n
-    go Nothing h = tt
     go (Loads a z) h = h
     go (Stores a z v) h = h.0
     go (Changes a g) h = h
-    go (Prints b) h = tt
-    go Ends h = tt
-    go (Halts k) h = tt
-    go (Traps k) h = tt
+    go _ h = tt
 
 -- in the phases in which a core commits
-
 abbrev pub May : (t : ℕ) → Phase → Type 0
 May t q = (q ≡ Ready t) ⊎ (q ≡ Solo t)
 
@@ -228,17 +223,7 @@ stand sh p entries ram gs ys views m h c t u k l y = record {
 
     -- a word that it stores is modified, unless it is alone
     modified : (x : ℕ) → stores_word sh.base s.stores x ≡ true → is_solo s.phase ≡ false → s.cache.modified x ≡ true
-    modified x e q = go (s.cache.modified x) refl
-      where
-        named : (s.cache.modified x || is_some (s.spilled x)) ≡ true
-        named = k.carried.stored_words_are_those_named c x ∙ e
-
-        none : s.spilled x ≡ None
-        none = (k.carried.marks_fit_the_phase c).spilled q x
-
-        go : (b : Bool) → s.cache.modified x ≡ b → s.cache.modified x ≡ true
-        go true g = g
-        go false g = absurd (let n : (s.cache.modified x || is_some (s.spilled x)) ≡ true = named in let z : s.spilled x ≡ None = none in let y : (s.cache.modified x || is_some (s.spilled x)) ≡ false = rw (g, z) refl in cc)
+    modified x e q = grind (arith, nat_tests)
 
     untold : (x : ℕ) → stores_word sh.base s.stores x ≡ true → ys (home sh (line_of x)) t ≡ Untold
     untold x e = k.carried.live_tid_is_open_where_it_must_be.held c (home sh (line_of x)) t l (home-below sh x (u.dirs)) has ∙ may-untold t s.phase (writes_at sh s.cache (home sh (line_of x))) y (λ q. marked.modified x (modified x e q))

@@ -8,6 +8,7 @@ use Rattle.tcc_serial.proofs.Names.{live, Carried, StartHasAll, first_state, mar
 use Rattle.tcc_serial.proofs.Names.{UnmodifiedWords, FilledWords, CopiesHave, value_at, after_commits, start-follows, IfSome, Plain}
 use Rattle.tcc_serial.proofs.Names.{no_views, Suits, AllHold, IsSerialExecution, RunsAreSerial, CarriedInMemory, CarriedViews, Invariants}
 use Rattle.tcc_serial.proofs.Names.{Grant, IsSerial, ViewedWords, HaltedUsesNone}
+use Rattle.tcc_serial.specs.KeepsHomes.{HomesHold}
 use Rattle.tcc_serial.proofs.Memory.InMemoryKept.{start-memory}
 use Rattle.tcc_serial.proofs.Order.SerialSteps.{events_serial}
 use Rattle.tcc_serial.proofs.Run.FactsOfRuns.{runs_carry, carried-memory, runs_stay_in_memory, runs_carry_views}
@@ -15,7 +16,6 @@ use Rattle.tcc_serial.proofs.Values.FramedSteps.{words_kept}
 use Rattle.tcc_serial.proofs.Values.HomeWordsKept.{homes_kept}
 use Rattle.tcc_serial.proofs.Values.SeenWords.{seen_follows}
 use Rattle.tcc_serial.proofs.Views.ViewsKept.{keeps_views}
-use Rattle.tcc_serial.specs.KeepsHomes.{HomesHold}
 
 -- A run with one more event behind it: the state, the grants, the ways and the views are those of the run, and then the event's.
 
@@ -67,7 +67,6 @@ unfolding core_start empty_cache
 start-read local = record { stand = tt; used = λ a x e. absurd (cc) }
 
 -- values
-
 have-none : (entries : ℕ → Local) (ram : ℕ → ℕ) (c d x t y : ℕ) → CopiesHave x t y (pair (start entries ram) c d)
 unfolding start core_start empty_cache pair live
 have-none entries ram c d x t y = record { framed = λ e. absurd (cc); sent = refl }
@@ -91,7 +90,6 @@ unfolding start pair live
 start-filled sh entries ram c d x a b e f = inl refl
 
 -- what is seen
-
 no-copies : (sh : Shape) (entries : ℕ → Local) (ram : ℕ → ℕ) (x c : ℕ) → copies_of sh (start entries ram) x c ≡ []
 unfolding start core_start empty_cache copies_of copies_on
 no-copies sh entries ram x c = refl

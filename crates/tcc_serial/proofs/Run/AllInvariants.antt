@@ -5,6 +5,8 @@ use Rattle.tcc_serial.proofs.Names.{and_then, run_from, run, live, pair, has_tid
 use Rattle.tcc_serial.proofs.Names.{KeptStored, KeptCores, KeptCommitting, Grant, granted_by, then_grants, grants_from, KeptOwners}
 use Rattle.tcc_serial.proofs.Names.{LastGranted, SparesCommitter, Kept, KeptTold, KeptAll, Always, HoldsLast, SparesItsCommitter}
 use Rattle.tcc_serial.proofs.Names.{MarksAreStored}
+use Rattle.tcc_serial.specs.Asked.{KeptAsked}
+use Rattle.tcc_serial.specs.Probing.{KeptProbing, OneProbe}
 use Rattle.tcc_serial.proofs.Lines.AskedKept.{step-asked, start-asked}
 use Rattle.tcc_serial.proofs.Marks.CountsKept.{step-counted, start-counted}
 use Rattle.tcc_serial.proofs.Marks.MarksKept.{step-marks, start-marks}
@@ -17,8 +19,6 @@ use Rattle.tcc_serial.proofs.Serving.CommitSteps.{step-committing, start-committ
 use Rattle.tcc_serial.proofs.Serving.KeptSteps.{step-kept, start-all}
 use Rattle.tcc_serial.proofs.Serving.OwnerSteps.{step-owners, start-owners, step-last}
 use Rattle.tcc_serial.proofs.Serving.ProbingSteps.{step-probing}
-use Rattle.tcc_serial.specs.Asked.{KeptAsked}
-use Rattle.tcc_serial.specs.Probing.{KeptProbing, OneProbe}
 
 start-probing : (entries : ℕ → Local) (ram : ℕ → ℕ) → KeptProbing (start entries ram)
 unfolding start core_start pair live has_tid

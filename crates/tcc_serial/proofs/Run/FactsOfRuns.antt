@@ -23,7 +23,6 @@ use Rattle.tcc_serial.proofs.Ways.WayFacts.{told_from, smaller_are_given_up, wor
 use Rattle.tcc_serial.proofs.Ways.WayFacts.{all_ways_fit, given_up_once, live_is_open, committed_where_stored}
 
 -- one core
-
 apart : (sh : Shape) (c : Cache) → IsCache sh c → IsApart c
 apart sh c k = record { modified = k.modified; dirty = k.dirty; either = k.either }
 
@@ -34,7 +33,6 @@ halted : (sh : Shape) (s : CoreState) → OneCore sh s → s.phase ≡ Halted �
 halted sh s k e = (k.rested (rw e refl), k.words.spilled_alone (rw e refl))
 
 -- TIDs
-
 holder-same : (w : World) (c d e t : ℕ) → holder t (pair w c d) ≡ holder t (pair w c e)
 unfolding pair holder
 holder-same w c d e t = refl
@@ -46,7 +44,6 @@ live-granted sh gs h k c d t l x =
     (k.owners.held c d t x, omega (arith, y, k.owners.once t, total-le (share (holder t) h.world 0) sh.cores c l))
 
 -- Marks
-
 none-coming : (n g x : ℕ) → (1 ≤ n + g → x ≡ 0) → 1 ≤ x → g ≡ 0
 none-coming n zero x f l = refl
 none-coming n (suc g) x f l = absurd (omega (arith, l, f (omega arith)))
@@ -205,11 +202,7 @@ loads-memory sh gs ys h k m c d l i = go (h.world.cores c).awaited refl (omega (
     go (Some a) q n = line a q (a.line == l) (home sh l == d) refl n
 
 copies-memory : (sh : Shape) (h : History) → KeptInMemory sh h → CopiesInMemory sh h.world
-copies-memory sh h m c d l t i = go (cases_lt l (lines sh))
-  where
-    go : (l < lines sh) ⊎ (lines sh ≤ l) → l < lines sh
-    go (inl q) = q
-    go (inr q) = absurd (omega (arith, i, m.copies c d l t q))
+copies-memory sh h m c d l t i = elim (cases_lt l (lines sh)) [ inl q ↦ q | inr q ↦ absurd (omega (arith, i, m.copies c d l t q)) ]
 
 pub carried-memory : (sh : Shape) (gs : List Grant) (ys : Ways) (h : History) → Carried sh gs ys h → KeptInMemory sh h → CarriedInMemory sh h
 carried-memory sh gs ys h k m = record {

@@ -1,10 +1,9 @@
 -- What a core sends a Commit of is what it notes the commit of.
 use Rattle.tcc_serial.proofs.Names.{ℕ, ◌≡◌, ◌≤◌, Bool, true, false, List, [], ◌∷◌, ◌++◌, ◌==◌, ◌&&◌, IfSome, nat_lt, if◌then◌else◌}
 use Rattle.tcc_serial.proofs.Names.{flat_map, arith, refl, nat_tests, Program, num, those, count_below, Dir, Msg, Skip, Mark, Commit}
-use Rattle.tcc_serial.proofs.Names.{WriteBack, Shape, home, lines, Cache, is_modified, writes_at, Spilled, holds, spilled_mask}
-use Rattle.tcc_serial.proofs.Names.{spilled_words, CoreState, Out, commit, commit_sends, noted, solo_sends, solo_marks, solo_backs}
-use Rattle.tcc_serial.proofs.Names.{solo_writes_at, is_written, written_mask, core_exec, core_evict, grant, from_dir, Commits, AnyCommit}
-use Rattle.tcc_serial.proofs.Names.{among, passes, solo_commit}
+use Rattle.tcc_serial.proofs.Names.{WriteBack, Shape, home, lines, Cache, Spilled, holds, spilled_mask, spilled_words, CoreState, Out}
+use Rattle.tcc_serial.proofs.Names.{commit, commit_sends, noted, solo_sends, solo_marks, solo_backs, solo_writes_at, is_written}
+use Rattle.tcc_serial.proofs.Names.{written_mask, core_exec, core_evict, grant, from_dir, Commits, AnyCommit, among, passes, solo_commit}
 use Rattle.tcc_serial.proofs.Serving.CoreCommits.{heard-free, granted-free}
 use Rattle.tcc_serial.proofs.Counts.Links.{among-append, among-fewer, among-flat_map_none}
 use Rattle.tcc_serial.proofs.Tids.CoreOwners.{noted_tid}
@@ -27,12 +26,7 @@ noted-free o h d t = omega (arith, h d, few-of t (o.sends (Dir d)))
 
 of-commit : (sh : Shape) (c : Cache) (u d t : ℕ) → among (Commits t) (commit_sends sh c u (Dir d)) ≤ num (u == t)
 unfolding commit_sends among passes
-of-commit sh c u d t = go (nat_lt d sh.dirs) (writes_at sh c d)
-  where
-    go : (a b : Bool) → among (Commits t) (if a then (if b then Commit u (count_below (λ l. d == home sh l && is_modified c l) (lines sh)) ∷ [] else []) else []) ≤ num (u == t)
-    go false b = omega arith
-    go true false = omega arith
-    go true true = omega arith
+of-commit sh c u d t = grind (arith, nat_tests)
 
 of-solo : (sh : Shape) (c : Cache) (sp : Spilled) (u d t : ℕ) → among (Commits t) (solo_sends sh c sp u (Dir d)) ≤ num (u == t)
 unfolding solo_sends solo_marks solo_backs among passes

@@ -104,11 +104,10 @@ commits_served sh w z k c d t l x o = go (cases_order (w.dirs d).serving.serving
 
 pub commits_are_served : Always CommitsAreServed
 unfolding run
-commits_are_served sh p entries ram es = go (run_from sh p es first) (run_from-committing sh p es first (start-all sh entries ram) (start-committing entries ram))
+commits_are_served sh p entries ram es =
+    let first : History = record { world = start entries ram; commits = [] } in
+    go (run_from sh p es first) (run_from-committing sh p es first (start-all sh entries ram) (start-committing entries ram))
   where
-    first : History
-    first = record { world = start entries ram; commits = [] }
-
     go : (x : Option History) → IfSome x (λ r. Kept sh r.world × KeptCommitting r.world) → IfSome x (λ r. CommitsAreServed sh r.world)
     go None h = tt
     go (Some r) h = commits_served sh r.world (h.0) (h.1)
@@ -142,7 +141,7 @@ spared-back : (sh : Shape) (gs : List Grant) (w : World) (c e k j ack : ℕ) (m 
     → (s.owed ≡ 0 → live Invs (w.net (Dir e) (Core j) ++ sent_all (sends (Core j))) ≡ 0)
     → e < sh.dirs → Contains gs (record { tid = s.serving.serving; core = j }) → live Invs (w.net (Dir e) (Core j) ++ sent_all (sends (Core j))) ≡ 0
 unfolding pair
-spared-back sh gs w c e k j ack m s sends y h i u p z l g = go (u.served)
+spared-back sh gs w c e k j ack m s sends y h i u p z l g = elim (u.served) [ inl q ↦ stays (q.0) | inr q ↦ z q ]
   where
     taken : passes (Commits (w.dirs e).serving.serving) m ≡ true → 1 ≤ live (Commits (w.dirs e).serving.serving) (w.net (Core c) (Dir e))
     taken q = let n : num (passes (Commits (w.dirs e).serving.serving) m) ≡ 1 = ap num q in omega (arith, live-takes (Commits (w.dirs e).serving.serving) (w.net (Core c) (Dir e)) k m i)
@@ -153,10 +152,6 @@ spared-back sh gs w c e k j ack m s sends y h i u p z l g = go (u.served)
 
     stays : s.serving.serving ≡ (w.dirs e).serving.serving → live Invs (w.net (Dir e) (Core j) ++ sent_all (sends (Core j))) ≡ 0
     stays q = let a : Contains gs (record { tid = (w.dirs e).serving.serving; core = j }) = rw q at g in omega (arith, (h j e).own l a, sent a p, live-sends Invs (w.net (Dir e) (Core j)) (sends (Core j)))
-
-    go : ((s.serving.serving ≡ (w.dirs e).serving.serving) × ((j : ℕ) → among (InvsNot (w.dirs e).serving.serving) (sends (Core j)) ≡ 0)) ⊎ (s.owed ≡ 0) → live Invs (w.net (Dir e) (Core j) ++ sent_all (sends (Core j))) ≡ 0
-    go (inl q) = stays (q.0)
-    go (inr q) = z q
 
 dir-spared : (sh : Shape) (gs : List Grant) (w : World) (c e k : ℕ) (m : Msg) (s : DirState) (sends : Sends) → IsNumbered 1 gs → SparesCommitter sh gs w → KeptTold sh (dir_takes w c e k s sends) → in_flight w.net (Core c) (Dir e) k ≡ Some m
     → Due sh e (w.dirs e) (num (passes Acks m)) s sends → SparesOwn (w.dirs e) c m sends → SparesCommitter sh gs (dir_takes w c e k s sends)
@@ -208,7 +203,6 @@ vendor-spared sh gs w c k h z = pairs_vendor (SparedOf sh (gs ++ g ∷ [])) w c 
     own j d l (inr a) = next-quiet sh w d j z l (sym (ap (λ r. r.tid) (only-one g (record { tid = (w.dirs d).serving.serving; core = j }) a)))
 
 -- every event, where all else is kept
-
 core-spared : (sh : Shape) (gs : List Grant) (w : World) (cs : List Noted) (c t : ℕ) (got : ℕ → ℕ) (o : Out) → KeptOwners sh gs w cs → KeepsHolder c got (w.cores c) o → (got t ≡ 0) → 1 ≤ noted_tid t o.commit → Contains gs (record { tid = t; core = c })
 unfolding holder pair
 core-spared sh gs w cs c t got o y k z l = y.held c 0 t (omega (arith, k.holds t))

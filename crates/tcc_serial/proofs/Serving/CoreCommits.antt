@@ -1,9 +1,8 @@
 -- A core sends a Commit only to directories that have reached its TID.
-use Rattle.tcc_serial.proofs.Names.{ℕ, ◌≡◌, ◌<◌, ◌≤◌, Bool, true, false, List, [], ◌∷◌, ◌==◌, ◌&&◌, IfSome, nat_lt, if◌then◌else◌, arith}
-use Rattle.tcc_serial.proofs.Names.{refl, nat_tests, Program, num, count_below, Dir, Msg, Commit, Shape, home, lines, Cache, is_modified}
-use Rattle.tcc_serial.proofs.Names.{writes_at, CoreState, Ready, Link, Out, commit, commit_sends, solo_sends, core_exec, core_evict}
-use Rattle.tcc_serial.proofs.Names.{grant, from_dir, CommitsAbove, AnyCommit, among, live, passes, Reached, replied, cases_lt, inl, inr}
-use Rattle.tcc_serial.proofs.Names.{solo_commit, ◌⊎◌}
+use Rattle.tcc_serial.proofs.Names.{ℕ, ◌≡◌, ◌<◌, ◌≤◌, true, false, List, IfSome, nat_lt, arith, refl, nat_tests, Program, num, Dir, Msg}
+use Rattle.tcc_serial.proofs.Names.{Shape, Cache, writes_at, CoreState, Ready, Link, Out, commit, commit_sends, solo_sends, core_exec}
+use Rattle.tcc_serial.proofs.Names.{core_evict, grant, from_dir, CommitsAbove, AnyCommit, among, live, passes, Reached, replied, cases_lt}
+use Rattle.tcc_serial.proofs.Names.{inl, inr, solo_commit, ◌⊎◌}
 use Rattle.tcc_serial.proofs.Counts.Links.{among-fewer, live-fewer}
 use Rattle.tcc_serial.proofs.OneCore.Said.{quiet, Empties, Flushes, Silent, Tells_alone, say}
 use Rattle.tcc_serial.proofs.OneCore.Outcomes.{Commits_now, Did, each-exec, out, each-evict, emptied, Ends_alone, Given_none, Granted}
@@ -25,15 +24,7 @@ served-free d x o h = omega (arith, few-above x (o.sends (Dir d)))
 
 served-commit : (sh : Shape) (c : Cache) (t d x : ℕ) → (d < sh.dirs → writes_at sh c d ≡ true → t ≤ x) → among (CommitsAbove x) (commit_sends sh c t (Dir d)) ≡ 0
 unfolding commit_sends among passes
-served-commit sh c t d x h = go (nat_lt d sh.dirs) refl (writes_at sh c d) refl
-  where
-    n : ℕ
-    n = count_below (λ l. d == home sh l && is_modified c l) (lines sh)
-
-    go : (a : Bool) → nat_lt d sh.dirs ≡ a → (b : Bool) → writes_at sh c d ≡ b → among (CommitsAbove x) (if a then (if b then Commit t n ∷ [] else []) else []) ≡ 0
-    go false p b q = refl
-    go true p false q = refl
-    go true p true q = let l : t ≤ x = h (grind (arith, nat_tests)) q in grind (arith, nat_tests)
+served-commit sh c t d x h = grind (arith, nat_tests)
 
 served-solo : (sh : Shape) (s : CoreState) (t d x : ℕ) → (d < sh.dirs → t ≤ x) → among (CommitsAbove x) (say sh s (Tells_alone t) (Dir d)) ≡ 0
 unfolding passes solo_sends among

@@ -70,7 +70,6 @@ quiet-due sh d s new sends e f q m = record {
     served (inr x) = inr x
 
 -- a commit's invalidations are as many as are owed for it
-
 invs-those : (f : ℕ → ℕ) (t : ℕ) (p : ℕ → Bool) (n : ℕ) → among Invs (flat_map (λ l. Inv l (f l) t ∷ []) (those p n)) ≡ count_below p n
 unfolding among passes those count_below
 invs-those f t p zero = refl

@@ -28,10 +28,9 @@ SparesBy s c m _ = Unit {0}
 
 own-spared : (sh : Shape) (ls : Lines) (c k : ℕ) → is_invalidated sh ls c c k ≡ false
 unfolding is_invalidated
-own-spared sh ls c k = let b : (c == c) ≡ true = grind (arith, nat_tests) in rw b (go (nat_lt c sh.cores) (has_mark ls k) (ls.sharers k c))
-  where
-    go : (x y z : Bool) → (x && y && z && not true) ≡ false
-    go x y z = grind arith
+own-spared sh ls c k =
+    let go : (x y z : Bool) → (x && y && z && not true) ≡ false = λ x y z. grind arith in
+    let b : (c == c) ≡ true = grind (arith, nat_tests) in rw b (go (nat_lt c sh.cores) (has_mark ls k) (ls.sharers k c))
 
 spares-invalidations : (sh : Shape) (ls : Lines) (c u : ℕ) → among Invs (invalidations sh ls c u (Core c)) ≡ 0
 unfolding invalidations invs_to among

@@ -40,8 +40,6 @@ dir-rises sh s c m = go (outcome sh s c m)
     quietly new l = record { rises = l; replies = λ j. among-none (RepliesAbove new.serving.serving) }
 
     go : {m : Msg} {a : Answer} → Outcome sh s c m a → RisesBy s a
-    go (Waiting q) = tt
-    go (Spent q h) = tt
     go (AsksOwner q l o w e) = record { rises = omega arith; replies = λ j. none-to (RepliesAbove s.serving.serving) o j (DataReq l) refl }
     go (TakesSkip t b e h) = quietly _ (next-rises b s.serving (kept t s.serving) (omega arith))
     go (TakesAbort t b e h) = quietly _ (next-rises b s.serving (kept t s.serving) (omega arith))
@@ -51,6 +49,7 @@ dir-rises sh s c m = go (outcome sh s c m)
     go (TakesCommit b e) = record { rises = next-rises b s.serving s.serving (omega arith); replies = λ j. none-invalidations (RepliesAbove (if b then advance s.serving else s.serving).serving) (λ x y z. refl) sh s.lines c s.serving.serving j }
     go (TakesAck l k b h e) = quietly _ (next-rises b s.serving s.serving (omega arith))
     go (TakesCopy q l k ws g y e o) = quietly _ (omega arith)
+    go _ = tt
 
 -- fewer replies are above a larger TID
 above-fewer : (a b : ℕ) (m : Msg) → a ≤ b → num (passes (RepliesAbove b) m) ≤ num (passes (RepliesAbove a) m)

@@ -11,7 +11,7 @@ use Rattle.tcc_serial.proofs.Names.{Reached, ReachedOf, KeptProbes, [], ◌∷�
 use Rattle.tcc_serial.proofs.Names.{Waits, Drops, Asks, Takes, dir_deliver, Stepped, step, History, and_noted, recorded, next, and_then}
 use Rattle.tcc_serial.proofs.Names.{run_from, run, Resolves, handled, KeptTold, Kept}
 use Rattle.tcc_serial.proofs.Counts.Inside.{AnswersInside, dir-inside}
-use Rattle.tcc_serial.proofs.Counts.Links.{live-sends, live-takes, total-le, total-zero, live-fewer}
+use Rattle.tcc_serial.proofs.Counts.Links.{live-sends, live-takes, total-le, total-zero, live-fewer, none-taken}
 use Rattle.tcc_serial.proofs.Counts.StepCases.{same, differ, given, pairs_move, pairs_grant, pairs_back, pairs_dir, pairs_asks}
 use Rattle.tcc_serial.proofs.Counts.StepCases.{pairs_vendor, sum_move, sum_grant, sum_back, sum_back_away, sum_dir, sum_dir_away}
 use Rattle.tcc_serial.proofs.Counts.StepCases.{sum_asks_here, sum_asks_away, sum_vendor, OfAnswer, step_cases}
@@ -116,11 +116,7 @@ back-owed sh w e c k m o h l i y = record {
 -- what is taken from a directory's link is at home there
 pub taken_home : (sh : Shape) (w : World) (e c k : ℕ) (m : Msg) → KeptOwed sh w → in_flight w.net (Dir e) (Core c) k ≡ Some m → passes (InvsAway sh.dirs e) m ≡ false
 unfolding pair
-taken_home sh w e c k m h i = go (passes (InvsAway sh.dirs e) m) refl (live-takes (InvsAway sh.dirs e) (w.net (Dir e) (Core c)) k m i)
-  where
-    go : (b : Bool) → passes (InvsAway sh.dirs e) m ≡ b → live (InvsAway sh.dirs e) (set (w.net (Dir e) (Core c)) k None) + num (passes (InvsAway sh.dirs e) m) ≡ live (InvsAway sh.dirs e) (w.net (Dir e) (Core c)) → passes (InvsAway sh.dirs e) m ≡ false
-    go false q z = q
-    go true q z = let n : num (passes (InvsAway sh.dirs e) m) ≡ 1 = rw q refl in absurd (omega (arith, (h.at_home c e).invs))
+taken_home sh w e c k m h i = none-taken (InvsAway sh.dirs e) (w.net (Dir e) (Core c)) k m i ((h.at_home c e).invs)
 
 pub backs-owed : (sh : Shape) (w : World) (e c k : ℕ) (m : Msg) → KeptOwed sh w → c < sh.cores → in_flight w.net (Dir e) (Core c) k ≡ Some m → IfSome (from_dir sh e (w.cores c) m) (λ o. KeptOwed sh (core_takes w (Dir e) c k o))
 backs-owed sh w e c k m h l i = go (from_dir sh e (w.cores c) m) (back-due sh e (w.cores c) m (taken_home sh w e c k m h i))
@@ -130,7 +126,6 @@ backs-owed sh w e c k m h l i = go (from_dir sh e (w.cores c) m) (back-due sh e 
     go (Some o) y = back-owed sh w e c k m o h l i y
 
 -- a directory takes a message
-
 due-answered : (v : Pair) (k : ℕ) (m : Msg) (s : DirState) (ms : List Msg) → slice_index_or v.out k None ≡ Some m → due (after_answer (out_taken v k) s ms) + num (passes Acks m) ≡ due v + among Invs ms + 0
 unfolding due
 due-answered v k m s ms i = omega (arith, live-sends Invs v.back ms, live-takes Acks v.out k m i)
@@ -216,7 +211,6 @@ dir-owed sh w c e k m s sends h z l i u = record {
     back_of j = served-back sh w e j (num (passes Acks m)) s sends ((h.at_home j e).served) u (λ x. rw (same e) at (none-due sh v e j s.serving.serving ((z.inside j e).back) here (rw (same e) x)))
 
 -- a directory asks
-
 pub asks-owed : (sh : Shape) (w : World) (e : ℕ) (s : DirState) (sends : Sends) → KeptOwed sh w → KeptTids sh (dir_asks w e s sends) → Due sh e (w.dirs e) 0 s sends → KeptOwed sh (dir_asks w e s sends)
 unfolding dir_asks pair
 asks-owed sh w e s sends h z u = record {
@@ -240,7 +234,6 @@ asks-owed sh w e s sends h z u = record {
     back_of j = served-back sh w e j 0 s sends ((h.at_home j e).served) u (λ x. rw (same e) at (none-due sh v e j s.serving.serving ((z.inside j e).back) here (rw (same e) x)))
 
 -- the vendor grants
-
 pub vendor-owed : (sh : Shape) (w : World) (c k : ℕ) → KeptOwed sh w → c < sh.cores → KeptOwed sh (vendor_gives w c k (given w c))
 unfolding vendor_gives due
 vendor-owed sh w c k h l = record {
@@ -256,7 +249,6 @@ unfolding share due start pair live
 share-start entries ram d j = refl
 
 -- at the start nothing is owed
-
 pub start-owed : (sh : Shape) (entries : ℕ → Local) (ram : ℕ → ℕ) → KeptOwed sh (start entries ram)
 unfolding start dir_start pair live no_lines
 start-owed sh entries ram = record {
@@ -268,14 +260,9 @@ start-owed sh entries ram = record {
     none d j = share-start entries ram d j
 
 -- what is known of a message to a directory
-
 pub marks_home : (sh : Shape) (w : World) (c e k : ℕ) (m : Msg) → KeptOwed sh w → in_flight w.net (Core c) (Dir e) k ≡ Some m → passes (MarksAway sh.dirs e) m ≡ false
 unfolding pair
-marks_home sh w c e k m h i = go (passes (MarksAway sh.dirs e) m) refl (live-takes (MarksAway sh.dirs e) (w.net (Core c) (Dir e)) k m i)
-  where
-    go : (b : Bool) → passes (MarksAway sh.dirs e) m ≡ b → live (MarksAway sh.dirs e) (set (w.net (Core c) (Dir e)) k None) + num (passes (MarksAway sh.dirs e) m) ≡ live (MarksAway sh.dirs e) (w.net (Core c) (Dir e)) → passes (MarksAway sh.dirs e) m ≡ false
-    go false q z = q
-    go true q z = let n : num (passes (MarksAway sh.dirs e) m) ≡ 1 = rw q refl in absurd (omega (arith, (h.at_home c e).marks))
+marks_home sh w c e k m h i = none-taken (MarksAway sh.dirs e) (w.net (Core c) (Dir e)) k m i ((h.at_home c e).marks)
 
 pub acks_owed : (sh : Shape) (w : World) (c e k : ℕ) (m : Msg) → KeptOwed sh w → c < sh.cores → in_flight w.net (Core c) (Dir e) k ≡ Some m → num (passes Acks m) ≤ (w.dirs e).owed
 unfolding share due pair
@@ -307,11 +294,7 @@ back-probes sh w e c k m o h i r = pairs_back (λ c d v. ReachedOf sh d v) w e c
 -- a reply in flight is of a TID that its directory has reached
 reply-low : (sh : Shape) (w : World) (e c k : ℕ) (m : Msg) → KeptProbes sh w → in_flight w.net (Dir e) (Core c) k ≡ Some m → passes (RepliesAbove (w.dirs e).serving.serving) m ≡ false
 unfolding pair
-reply-low sh w e c k m h i = go (passes (RepliesAbove (w.dirs e).serving.serving) m) refl (live-takes (RepliesAbove (w.dirs e).serving.serving) (w.net (Dir e) (Core c)) k m i)
-  where
-    go : (b : Bool) → passes (RepliesAbove (w.dirs e).serving.serving) m ≡ b → live (RepliesAbove (w.dirs e).serving.serving) (set (w.net (Dir e) (Core c)) k None) + num (passes (RepliesAbove (w.dirs e).serving.serving) m) ≡ live (RepliesAbove (w.dirs e).serving.serving) (w.net (Dir e) (Core c)) → passes (RepliesAbove (w.dirs e).serving.serving) m ≡ false
-    go false q z = q
-    go true q z = let n : num (passes (RepliesAbove (w.dirs e).serving.serving) m) ≡ 1 = rw q refl in absurd (omega (arith, (h c e).replies))
+reply-low sh w e c k m h i = none-taken (RepliesAbove (w.dirs e).serving.serving) (w.net (Dir e) (Core c)) k m i ((h c e).replies)
 
 pub backs-probes : (sh : Shape) (w : World) (e c k : ℕ) (m : Msg) → KeptProbes sh w → in_flight w.net (Dir e) (Core c) k ≡ Some m → IfSome (from_dir sh e (w.cores c) m) (λ o. KeptProbes sh (core_takes w (Dir e) c k o))
 unfolding pair
@@ -381,7 +364,6 @@ once_at sh w c d k m h i t = go (cases_lt d sh.dirs)
     go (inr l) = omega (arith, resolves-any t m, live-some AnyResolve (w.net (Core c) (Dir d)) k m i, (h.owed.at_home c d).far l, handled-once (w.dirs d).serving (w.dirs d).owed t)
 
 -- every event that is enabled keeps the invariants
-
 moves : (sh : Shape) (w : World) (c : ℕ) → KeptTold sh w → c < sh.cores → (x : Option Out) → IfSome x (λ o. KeepsRequests 0 (w.cores c) o) → ((d t : ℕ) → d < sh.dirs → IfSome x (λ o. KeepsPart sh d t 0 (w.cores c) o)) → IfSome x (λ o. CleanOut sh o) → IfSome x (λ o. KeptTold sh (core_moves w c o))
 moves sh w c h l None r q y = tt
 moves sh w c h l (Some o) r q y = record { tids = move-kept sh w c o h.tids l r q; owed = move-owed sh w c o h.owed l y }

@@ -21,11 +21,7 @@ KeptOwing sh w = (c : ℕ) → OwingFits sh (w.cores c)
 
 -- no reply is owed where the core doesn't wait
 idle : (sh : Shape) (s : CoreState) → OwingFits sh s → awaits_replies s.phase ≡ false → (d : ℕ) → s.owing d ≡ false
-idle sh s h n d = go (s.owing d) refl
-  where
-    go : (b : Bool) → s.owing d ≡ b → b ≡ false
-    go false e = refl
-    go true e = absurd (let y = h.waits d e in cc)
+idle sh s h n d = grind (arith, nat_tests)
 
 none-owing : (sh : Shape) (r : CoreState) (q : Phase) → r.phase ≡ q → awaits_replies q ≡ false → ((d : ℕ) → r.owing d ≡ false) → OwingFits sh r
 none-owing sh r q e n f = record {
@@ -109,18 +105,10 @@ owing-grant sh t s h = go s.phase refl
 -- a directory has replied
 
 put-true : (f : ℕ → Bool) (e d : ℕ) → put f e false d ≡ true → f d ≡ true
-put-true f e d x = go (cases_eq d e)
-  where
-    go : (d ≡ e) ⊎ (d ≡ e → ⊥) → f d ≡ true
-    go (inl q) = absurd (let b : (d == e) ≡ true = grind (arith, nat_tests) in let y : put f e false d ≡ false = rw b refl in cc)
-    go (inr q) = let b : (d == e) ≡ false = grind (arith, nat_tests) in rw b at x
+put-true f e d x = grind (arith, nat_tests)
 
 not-all : (sh : Shape) (f : ℕ → Bool) → all_replied sh f ≡ false → any_below f sh.dirs ≡ true
-not-all sh f q = go (any_below f sh.dirs) refl
-  where
-    go : (b : Bool) → any_below f sh.dirs ≡ b → b ≡ true
-    go true e = refl
-    go false e = absurd (let n : all_replied sh f ≡ true = rw e refl in cc)
+not-all sh f q = grind (arith, nat_tests)
 
 one-less : (sh : Shape) (e : ℕ) (s r : CoreState) (goes wait : Phase) → r.phase ≡ (if all_replied sh (put s.owing e false) then goes else wait) → r.owing ≡ put s.owing e false → awaits_replies goes ≡ false
     → ((d : ℕ) → asks_dir s.phase (writes_at sh s.cache d || reads_at sh s.cache d) ≡ true → asks_dir wait (writes_at sh r.cache d || reads_at sh r.cache d) ≡ true) → awaits_replies wait ≡ true → OwingFits sh s → OwingFits sh r

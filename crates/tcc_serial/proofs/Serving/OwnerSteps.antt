@@ -118,7 +118,6 @@ unfolding dir_asks pair holder
 asks-owners sh gs w cs e s sends h = same-owners sh gs w (dir_asks w e s sends) cs h refl (λ t j d. refl)
 
 -- the vendor grants a TID
-
 pub holder-given : (v : Pair) (k t : ℕ) → holder t (after_grant v k) + 0 ≡ holder t v + num (v.next == t)
 unfolding holder passes among
 holder-given v k t = omega (arith, live-sends (Grants t) v.grants (TidGrant v.next ∷ []))
@@ -164,7 +163,6 @@ start-owners sh entries ram = record {
 }
 
 -- every event keeps who has which TID
-
 pub step-owners : (sh : Shape) (p : Program) (gs : List Grant) (w : World) (cs : List Noted) (e : Event) → KeptTids sh w → KeptOwners sh gs w cs → IfSome (step sh p w e) (λ o. KeptOwners sh (gs ++ granted_by w e) o.world (and_noted o.noted cs))
 step-owners sh p gs w cs e z h = step_cases sh p w e (λ g o. KeptOwners sh (gs ++ g) o.world (and_noted o.noted cs))
     (λ c l. moved c l (core_exec sh p c (w.cores c)) (holder-exec sh p c (w.cores c)))
@@ -189,7 +187,6 @@ step-owners sh p gs w cs e z h = step_cases sh p w e (λ g o. KeptOwners sh (gs 
     answered c d k (Takes s sends) = rw append-nil (dir-owners sh gs w cs c d k s sends h)
 
 -- and so does every run
-
 run_from-owners : (sh : Shape) (p : Program) (es : List Event) (gs : List Grant) (h : History) → Kept sh h.world → KeptOwners sh gs h.world h.commits → IfSome (run_from sh p es h) (λ r. KeptOwners sh (gs ++ grants_from sh p es h) r.world r.commits)
 unfolding run_from grants_from next
 run_from-owners sh p [] gs h k o = rw append-nil o

@@ -9,6 +9,7 @@ use Rattle.tcc_serial.proofs.Names.{live, among, passes, Kept, Grant, granted_by
 use Rattle.tcc_serial.proofs.Names.{slice_index_or, if◌then◌else◌, ap, subst, ◌∙◌, put, DirState, Phase, Running, AwaitTid, DoomedTid}
 use Rattle.tcc_serial.proofs.Names.{Probing, Ready, Overflowing, Solo, Halted, Sends, all_replied, dir_takes, after_move, grant_taken}
 use Rattle.tcc_serial.proofs.Names.{back_taken, after_answer, out_taken, after_grant, after_other_grant, has_tid, OneCore, KeptCores}
+use Rattle.tcc_serial.specs.Probing.{ProbingOf, KeptProbing}
 use Rattle.tcc_serial.proofs.Counts.Links.{live-sends, live-takes}
 use Rattle.tcc_serial.proofs.Counts.StepCases.{pairs_move, pairs_grant, pairs_back, pairs_dir, pairs_asks, pairs_vendor, OfAnswer}
 use Rattle.tcc_serial.proofs.Counts.StepCases.{step_cases}
@@ -20,7 +21,6 @@ use Rattle.tcc_serial.proofs.Serving.OwnerSteps.{grant-alone}
 use Rattle.tcc_serial.proofs.Tids.CoreProbing.{Unprobed, unprobed-steady, unprobed-exec, unprobed-evict, unprobed-hurt, granted, none-marks}
 use Rattle.tcc_serial.proofs.Tids.CoreProbing.{none-to, Granted}
 use Rattle.tcc_serial.proofs.Tids.TidSteps.{granted_waits, live-some, is_mine, not_mine}
-use Rattle.tcc_serial.specs.Probing.{ProbingOf, KeptProbing}
 
 -- Every event keeps that a probe or reply in flight is of a TID that was granted to its core.
 
@@ -32,7 +32,6 @@ abbrev pub KeptProbed : List Grant → World → Type 0
 KeptProbed gs w = (c d : ℕ) → ProbedOf gs c (pair w c d)
 
 -- no message of a directory makes a core probe
-
 abbrev Quiet : Out → Type 0
 Quiet o = (d t : ℕ) → among (Probes t) (o.sends (Dir d)) ≡ 0
 
@@ -133,7 +132,6 @@ probing-granted v o d t k u i one y hu h = go (cases_eq u t)
     }
 
 -- a core takes a reply
-
 has-one : (b : Bool) (x y : Phase) (u t : ℕ) → has_tid x t ≡ (u == t) → has_tid y t ≡ (u == t) → has_tid (if b then x else y) t ≡ true → u ≡ t
 has-one true x y u t e f h = let k : (u == t) ≡ true = sym e ∙ h in grind (arith, nat_tests)
 has-one false x y u t e f h = let k : (u == t) ≡ true = sym f ∙ h in grind (arith, nat_tests)
@@ -217,16 +215,11 @@ idle_of sh s e t h k = go s.phase refl k
     go : (q : Phase) → s.phase ≡ q → has_tid q t ≡ true → ((s.phase ≡ Probing t) ⊎ (s.phase ≡ Overflowing (Some t))) ⊎ (s.owing e ≡ false)
     go (Probing u) g x = inl (inl (g ∙ ap Probing (same u x)))
     go (Overflowing (Some u)) g x = inl (inr (g ∙ ap (λ y. Overflowing (Some y)) (same u x)))
-    go (Overflowing None) g x = absurd (cc)
     go (Ready u) g x = inr (h.owing e (rw g refl))
     go (Solo u) g x = inr (h.owing e (rw g refl))
-    go Running g x = absurd (cc)
-    go AwaitTid g x = absurd (cc)
-    go DoomedTid g x = absurd (cc)
-    go Halted g x = absurd (cc)
+    go _ g x = absurd (cc)
 
 -- a directory answers
-
 probing-answered : (v : Pair) (s : DirState) (ms : List Msg) (d t : ℕ) → among (Replies t) ms ≡ 0 → ProbingOf d t v → ProbingOf d t (after_answer v s ms)
 probing-answered v s ms d t n h = record {
   fresh = λ l. omega (arith, h.fresh l, live-sends (Replies t) v.back ms);
@@ -240,7 +233,6 @@ probing-exchanged v s ms d t k m i n h = record {
 }
 
 -- the vendor grants
-
 probing-given : (v : Pair) (k d t : ℕ) → ProbingOf d t v → ProbingOf d t (after_grant v k)
 unfolding passes among
 probing-given v k d t h = record {
@@ -303,17 +295,7 @@ step-probing sh p gs w cs e z y x h = step_cases sh p w e (λ g o. KeptProbing o
     taken c d k (Fill l ws) i = quiet c d k (Fill l ws) _ i (no-reply_fill l ws) (unprobed-steady (w.cores c) (fill l ws (w.cores c)) (fill-steady l ws (w.cores c)))
     taken c d k (DataReq l) i = quiet c d k (DataReq l) _ i (no-reply_data l) (unprobed-steady (w.cores c) (data_request sh l (w.cores c)) (data-steady sh l (w.cores c)))
     taken c d k (Inv l m u) i = quiet c d k (Inv l m u) _ i (no-reply_inv l m u) (unprobed-hurt sh l (w.cores c) (invalidate sh l m u (w.cores c)) (invalidate-cases sh l m u (w.cores c)))
-    taken c d k TidReq i = tt
-    taken c d k (TidGrant u) i = tt
-    taken c d k (LoadReq l a) i = tt
-    taken c d k (Skip u) i = tt
-    taken c d k (Probe u) i = tt
-    taken c d k (Mark l m u) i = tt
-    taken c d k (Commit u n) i = tt
-    taken c d k (Abort u) i = tt
-    taken c d k (WriteBack l m ws u) i = tt
-    taken c d k (Flush l m ws u) i = tt
-    taken c d k (InvAck l b) i = tt
+    taken c d k _ i = tt
 
     dir : (c d k : ℕ) (m : Msg) (s : DirState) (sends : Sends) → in_flight w.net (Core c) (Dir d) k ≡ Some m → Replying m c sends → KeptProbing (dir_takes w c d k s sends)
     dir c d k m s sends i u = pairs_dir P w c d k s sends (λ t. probing-exchanged (pair w c d) s (sends (Core c)) d t k m i (u.own t) (h c d t)) (λ j n t. probing-answered (pair w j d) s (sends (Core j)) d t (u.others j t n) (h j d t)) h

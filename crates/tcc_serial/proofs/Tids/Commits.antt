@@ -67,11 +67,7 @@ numbered-most n gs g h c = numbered-below n c.0 gs g h (c.1) (c.2)
 
 -- what a list of one holds
 pub only-one : (g x : Grant) → Contains (g ∷ []) x → g ≡ x
-only-one g x c = go c.0 (c.1) (c.2)
-  where
-    go : (k : ℕ) → k < 1 → slice_index_or (g ∷ []) k x ≡ x → g ≡ x
-    go zero l e = e
-    go (suc k) l e = absurd (omega arith)
+only-one g x c = grind (arith, nat_tests)
 
 unique-at : (n i j : ℕ) (gs : List Grant) (g h : Grant) → IsNumbered n gs → g.tid ≡ h.tid → i < length gs → slice_index_or gs i g ≡ g → j < length gs → slice_index_or gs j h ≡ h → g ≡ h
 unfolding IsNumbered
@@ -112,18 +108,13 @@ inserted x n (c ∷ cs) k = go (nat_lt x.tid.0 c.tid.0) k (λ q. inserted x n cs
 
     behind : (c ≡ n) ⊎ Contains (insert_commit x cs) n → (Contains (insert_commit x cs) n → (x ≡ n) ⊎ Contains cs n) → (x ≡ n) ⊎ Contains (c ∷ cs) n
     behind (inl e) f = inr (0, omega arith, e)
-    behind (inr q) f = rest (f q)
-      where
-        rest : (x ≡ n) ⊎ Contains cs n → (x ≡ n) ⊎ Contains (c ∷ cs) n
-        rest (inl e) = inl e
-        rest (inr k) = inr (later k)
+    behind (inr q) f = elim (f q) [ inl e ↦ inl e | inr k ↦ inr (later k) ]
 
     go : (b : Bool) → Contains (if b then x ∷ c ∷ cs else c ∷ insert_commit x cs) n → (Contains (insert_commit x cs) n → (x ≡ n) ⊎ Contains cs n) → (x ≡ n) ⊎ Contains (c ∷ cs) n
     go true q f = contains-cases x n (c ∷ cs) q
     go false q f = behind (contains-cases c n (insert_commit x cs) q) f
 
 -- TIDs count from 1
-
 pub positive-granted : (sh : Shape) (gs : List Grant) (w : World) (cs : List Noted) (c t : ℕ) → KeptOwners sh gs w cs → 1 ≤ holder t (pair w c 0) → 1 ≤ t
 positive-granted sh gs w cs c t o h = numbered-least 1 gs (record { tid = t; core = c }) (o.numbered) (o.held c 0 t h)
 

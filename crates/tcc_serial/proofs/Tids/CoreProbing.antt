@@ -1,10 +1,10 @@
 -- A core sends a probe only where it takes a grant, and to each directory that owes a reply from then on.
-use Rattle.tcc_serial.proofs.Names.{ℕ, ◌≡◌, ◌≤◌, Bool, true, false, List, [], ◌∷◌, ◌==◌, ◌&&◌, Some, None, IfSome, nat_lt, if◌then◌else◌}
-use Rattle.tcc_serial.proofs.Names.{arith, refl, sym, ap, ◌∙◌, nat_tests, Program, Outcome, Goes, num, any_below, Dir, Msg, Mark, InvAck}
-use Rattle.tcc_serial.proofs.Names.{Shape, home, Cache, modified_mask, written_lines, CoreState, Phase, Running, AwaitTid, DoomedTid}
-use Rattle.tcc_serial.proofs.Names.{Overflowing, to, marks_for, probe_all, Out, commit, committed_core, phase_after, core_exec}
-use Rattle.tcc_serial.proofs.Names.{core_evict, grant, grant_phase, grant_sends, is_probed, probing, Probes, Protocol, among, passes}
-use Rattle.tcc_serial.proofs.Names.{has_tid, waits_for_tid, kept, moves, solo_commit}
+use Rattle.tcc_serial.proofs.Names.{ℕ, ◌≡◌, ◌≤◌, Bool, true, false, List, [], ◌∷◌, ◌==◌, ◌&&◌, Some, None, IfSome, nat_lt, arith, refl}
+use Rattle.tcc_serial.proofs.Names.{sym, ap, ◌∙◌, nat_tests, Program, Outcome, Goes, num, any_below, Dir, Msg, Mark, InvAck, Shape, home}
+use Rattle.tcc_serial.proofs.Names.{Cache, modified_mask, written_lines, CoreState, Phase, Running, AwaitTid, DoomedTid, Overflowing, to}
+use Rattle.tcc_serial.proofs.Names.{marks_for, probe_all, Out, commit, committed_core, phase_after, core_exec, core_evict, grant}
+use Rattle.tcc_serial.proofs.Names.{grant_phase, grant_sends, is_probed, probing, Probes, Protocol, among, passes, has_tid, waits_for_tid}
+use Rattle.tcc_serial.proofs.Names.{kept, moves, solo_commit}
 use Rattle.tcc_serial.proofs.Counts.Links.{among-append, among-fewer, among-flat_map_none}
 use Rattle.tcc_serial.proofs.OneCore.Executes.{Steady}
 use Rattle.tcc_serial.proofs.OneCore.CoreSteps.{Hurt, Unhurt, Rolled, Doomed, Aborted, Gave_up, Invalidated, steady-emptied}
@@ -40,11 +40,7 @@ none-marks sh c u e t = among-flat_map_none (Probes t) (λ l. Mark l (modified_m
 
 pub none-to : (t h d : ℕ) (ms : List Msg) → among (Probes t) ms ≡ 0 → among (Probes t) (to (Dir h) ms (Dir d)) ≡ 0
 unfolding among
-none-to t h d ms e = go (d == h)
-  where
-    go : (b : Bool) → among (Probes t) (if b then ms else []) ≡ 0
-    go true = e
-    go false = refl
+none-to t h d ms e = grind (arith, nat_tests)
 
 pub tid-after : (e : Outcome) (t : ℕ) → has_tid (phase_after e) t ≡ false
 unfolding has_tid

@@ -5,6 +5,7 @@ use Rattle.tcc_serial.proofs.Names.{DataReq, Inv, InvAck, Shape, home, writes_at
 use Rattle.tcc_serial.proofs.Names.{Ready, Overflowing, Solo, Halted, Sends, to, marks_for, Out, commit, committed_core, phase_after}
 use Rattle.tcc_serial.proofs.Names.{core_exec, core_evict, grant, grant_phase, from_dir, probing, is_probed, probe_reply, ignored}
 use Rattle.tcc_serial.proofs.Names.{all_replied, fill, data_request, invalidate, Resolves, among, passes, opens, waits_for_tid, kept, put}
+use Rattle.tcc_serial.proofs.Names.{nat_tests}
 use Rattle.tcc_serial.proofs.Counts.Links.{among-append, resolves-commit_sends, resolves-abort_written, resolves-skip_all}
 use Rattle.tcc_serial.proofs.Counts.Links.{resolves-probe_all, resolves-grant_sends, resolves-marks_for, resolves-solo_sends, among-quiet}
 use Rattle.tcc_serial.proofs.OneCore.Executes.{Steady, Executed, Goes_on, Overflows, Asks_tid, Alone, did-executed}
@@ -84,11 +85,7 @@ part-grant sh u d t s l w = go s.phase refl w
 
 resolves-to : (t h d : ℕ) (ms : List Msg) → among (Resolves t) ms ≡ 0 → among (Resolves t) (to (Dir h) ms (Dir d)) ≡ 0
 unfolding among
-resolves-to t h d ms e = go (d == h)
-  where
-    go : (b : Bool) → among (Resolves t) (if b then ms else []) ≡ 0
-    go true = e
-    go false = refl
+resolves-to t h d ms e = grind (arith, nat_tests)
 
 part-replied : (sh : Shape) (e u d t : ℕ) (s : CoreState) (o : Out) → Replied sh e u s o → KeepsPart sh d t 0 s o
 unfolding opens among

@@ -33,11 +33,7 @@ not_mine u t n = let b : (u == t) ≡ false = grind (arith, nat_tests) in rw b r
 
 -- a core that a message comes from or goes to is one of the machine
 pub inside_from : (sh : Shape) (c n : ℕ) → (sh.cores ≤ c → n ≡ 0) → 1 ≤ n → c < sh.cores
-inside_from sh c n h l = go (cases_lt c sh.cores)
-  where
-    go : (c < sh.cores) ⊎ (sh.cores ≤ c) → c < sh.cores
-    go (inl x) = x
-    go (inr x) = absurd (omega (arith, h x))
+inside_from sh c n h l = elim (cases_lt c sh.cores) [ inl x ↦ x | inr x ↦ absurd (omega (arith, h x)) ]
 
 -- for a core of the machine only the owners matter
 within : (sh : Shape) (c : ℕ) (v : Pair) → c < sh.cores → ((l o : ℕ) → v.dir.lines.owner l ≡ Some o → o < sh.cores) → InsideOf sh c v
@@ -60,7 +56,6 @@ move-kept sh w c o k l r p = record {
 }
 
 -- a core takes a grant
-
 request-granted : (v : Pair) (k u : ℕ) (o : Out) (d : ℕ) → slice_index_or v.grants k None ≡ Some (TidGrant u) → KeepsRequests 1 v.core o → RequestOf v → RequestOf (after_move (grant_taken v k) o d)
 unfolding passes
 request-granted v k u o d e r q = omega (arith, live-sends AsksTid v.asks (o.sends Vendor), live-takes AnyGrant v.grants k (TidGrant u) e)
@@ -90,7 +85,6 @@ grant-kept sh w c k u h e =
     }
 
 -- a core takes a message of a directory
-
 pub back-kept : (sh : Shape) (w : World) (e c k : ℕ) (m : Msg) (o : Out) → KeptTids sh w → in_flight w.net (Dir e) (Core c) k ≡ Some m → KeepsRequests 0 (w.cores c) o → ((d t : ℕ) → d < sh.dirs → KeepsPart sh d t 0 (w.cores c) o) → KeptTids sh (core_takes w (Dir e) c k o)
 unfolding pair core_takes part
 back-kept sh w e c k m o h i r p =
@@ -109,7 +103,6 @@ back-kept sh w e c k m o h i r p =
         here l d t x = let q = sum_back (part sh d t) sh.cores w c k o d 0 0 l (part-moved sh d t (back_taken (pair w c d) k) o (p d t x)) in omega (arith, h.resolved d t x)
 
 -- a directory takes a message of a core
-
 part-answered : (sh : Shape) (d t k : ℕ) (m : Msg) (v : Pair) (s : DirState) (ms : List Msg) → slice_index_or v.out k None ≡ Some m → part sh d t (after_answer (out_taken v k) s ms) + num (passes (Resolves t) m) ≡ part sh d t v + 0 + 0
 unfolding part
 part-answered sh d t k m v s ms e = omega (arith, live-takes (Resolves t) v.out k m e)
@@ -186,7 +179,6 @@ dir-kept sh w c e k m s sends h i q ow hd =
     resolved l d t x (inl n) = subst (λ y. ResolvedAt sh (dir_takes w c y k s sends) d t) n (here l d t x (rw (sym n) at i) (subst (λ y. handled s.serving s.owed t ≡ handled (w.dirs y).serving (w.dirs y).owed t + num (passes (Resolves t) m)) (sym n) (hd t (rw n at x))))
 
 -- a directory asks an owner
-
 pub asks-kept : (sh : Shape) (w : World) (e : ℕ) (s : DirState) (sends : Sends) → KeptTids sh w
     → ((j : ℕ) → sh.cores ≤ j → among Any (sends (Core j)) ≡ 0) → ((l o : ℕ) → s.lines.owner l ≡ Some o → o < sh.cores)
     → ((t : ℕ) → e < sh.dirs → handled s.serving s.owed t ≡ handled (w.dirs e).serving (w.dirs e).owed t)
@@ -207,7 +199,6 @@ asks-kept sh w e s sends h q ow hd = record {
         rw b (omega (arith, h.resolved d t x))
 
 -- the vendor grants a TID
-
 pub vendor-kept : (sh : Shape) (w : World) (c k : ℕ) → KeptTids sh w → in_flight w.net (Core c) Vendor k ≡ Some TidReq → KeptTids sh (vendor_gives w c k (given w c))
 unfolding pair vendor_gives
 vendor-kept sh w c k h i =

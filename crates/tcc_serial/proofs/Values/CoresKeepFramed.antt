@@ -41,11 +41,7 @@ no-fill sh d l v a h = let z : num (is_awaited v.core.awaited l && home sh l == 
 
 stale-other : (l : ℕ) (a : Option Awaited) → is_stale (staled l a) ≡ false → is_awaited a l ≡ false
 stale-other l None h = refl
-stale-other l (Some a) h = go (a.line == l) h
-  where
-    go : (b : Bool) → (b || a.stale) ≡ false → b ≡ false
-    go true q = absurd (cc)
-    go false q = refl
+stale-other l (Some a) h = grind (arith, nat_tests)
 
 -- an invalidation is taken
 
@@ -67,11 +63,7 @@ held-invalid sh d x y k l m u v o i f loading h = go (hit l m x) refl
 
 filled-is : (x y z l : ℕ) (ws : List ℕ) → num (passes (FillNot x y) (Fill l ws)) ≡ 0 → (l == line_of x) ≡ true → get_or ws (place_of x) 0 ≡ z → z ≡ y
 unfolding passes
-filled-is x y z l ws n e g = go (get_or ws (place_of x) 0 == y) refl
-  where
-    go : (b : Bool) → (get_or ws (place_of x) 0 == y) ≡ b → z ≡ y
-    go true q = let r : get_or ws (place_of x) 0 ≡ y = grind (arith, nat_tests) in sym g ∙ r
-    go false q = absurd (let o : num ((l == line_of x) && not (get_or ws (place_of x) 0 == y)) ≡ 1 = rw (e, q) refl in omega (arith, n, o))
+filled-is x y z l ws n e g = grind (arith, nat_tests)
 
 awaits-other : (l x : ℕ) (a : Awaited) (b : Option Awaited) → b ≡ Some a → (a.line == l) ≡ true → (l == line_of x) ≡ false → is_awaited b (line_of x) ≡ false
 awaits-other l x a b e g n = rw e (grind (arith, nat_tests))

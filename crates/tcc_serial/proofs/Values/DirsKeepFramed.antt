@@ -16,7 +16,6 @@ use Rattle.tcc_serial.proofs.Values.ValueAt.{IsAlike, value-alike}
 use Rattle.tcc_serial.proofs.Values.WordCopies.{few-copies}
 
 -- messages that are neither a load request nor a Commit
-
 none-among : (x y : ℕ) → among (FillNot x y) [] ≡ 0
 unfolding among
 none-among x y = refl
@@ -49,11 +48,7 @@ answered-quietly sh ram w cs c d k m inside before h i p l (Takes s sends) f = �
 -- a commit below the served TID counts for all cores alike
 counts-passed : (s : DirState) (c : ℕ) (n : Noted) → ((c == n.core.0) ≡ true → n.tid.0 < s.serving.serving) → counts s None None n ≡ counts s (Some c) None n
 unfolding counts is_applied
-counts-passed s c n h = go (c == n.core.0) refl
-  where
-    go : (b : Bool) → (c == n.core.0) ≡ b → (nat_lt n.tid.0 s.serving.serving || (n.tid.0 == s.serving.serving && nat_lt 0 s.owed)) ≡ (b || (nat_lt n.tid.0 s.serving.serving || (n.tid.0 == s.serving.serving && nat_lt 0 s.owed)))
-    go false q = refl
-    go true q = let l : n.tid.0 < s.serving.serving = h q in let y : nat_lt n.tid.0 s.serving.serving ≡ true = grind (arith, nat_tests) in rw y refl
+counts-passed s c n h = grind (arith, nat_tests)
 
 commit-passed : (sh : Shape) (cs : List Noted) (c d a b : ℕ) (n : Noted) → Contains cs n → stores_at sh d n.stores ≡ true → a ≡ last_of (stored_there sh c d) cs → a < b → (c == n.core.0) ≡ true → n.tid.0 < b
 unfolding stored_there

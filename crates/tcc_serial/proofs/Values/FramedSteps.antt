@@ -9,6 +9,7 @@ use Rattle.tcc_serial.proofs.Names.{core_moves, core_takes, Uses, sees, Suits, L
 use Rattle.tcc_serial.proofs.Names.{Carried, Invariants, executes, Grant, granted_by, Pair, pair, after_move, back_taken, grant_taken}
 use Rattle.tcc_serial.proofs.Names.{after_grant, after_other_grant, is_applied, CommitsStand, stores_word, after_stores, counts, value_at}
 use Rattle.tcc_serial.proofs.Names.{UnmodifiedWords, FilledWords, Ways, ways_after, sent_by}
+use Rattle.tcc_serial.specs.KeepsWords.{EventsKeepWords}
 use Rattle.tcc_serial.proofs.Counts.StepCases.{either, moves-own, moves-other, pairs_move, pairs_grant, pairs_back, pairs_vendor, OfAnswer}
 use Rattle.tcc_serial.proofs.Counts.StepCases.{node_cases}
 use Rattle.tcc_serial.proofs.Lines.LoadsKept.{dir-fills}
@@ -21,7 +22,6 @@ use Rattle.tcc_serial.proofs.Values.FramedCores.{Closing, Framing, Stays, Closes
 use Rattle.tcc_serial.proofs.Values.FramedWords.{HeldOf, HeldAt, KeptHeld, few-not, load-home, answered-commit, commit-invalidates}
 use Rattle.tcc_serial.proofs.Values.ModifiedWords.{Serves, stored-served, stored-seen}
 use Rattle.tcc_serial.proofs.Values.ValueAt.{IsSilent, with_commit, value-skip, value-insert}
-use Rattle.tcc_serial.specs.KeepsWords.{EventsKeepWords}
 
 -- a core commits
 
@@ -114,11 +114,7 @@ committed sh p entries ram gs ys views m h c o u k held l g = subst (λ q. KeptH
     home-of x = home sh (line_of x)
 
     spilled : (x : ℕ) → (is_solo s.phase ≡ true → s.spilled x ≡ None) → s.spilled x ≡ None
-    spilled x f = go (is_solo s.phase) refl
-      where
-        go : (b : Bool) → is_solo s.phase ≡ b → s.spilled x ≡ None
-        go true q = f q
-        go false q = (k.carried.marks_fit_the_phase c).spilled q x
+    spilled x f = grind (arith, nat_tests)
 
     framed : (x z : ℕ) → s.cache.value x ≡ Some z → s.spilled x ≡ None → (b : Bool) → s.cache.modified x ≡ b → HeldOf x (value_at sh.base ram h.commits (h.world.dirs (home-of x)) (Some c) None x) (pair h.world c (home-of x)) → (z ≡ value_at sh.base ram cs (h.world.dirs (home-of x)) (Some c) None x) ⊎ (1 ≤ live (InvWord x) (pair h.world c (home-of x)).back)
     framed x z v n true q f =
@@ -229,22 +225,9 @@ step-held sh p entries ram gs ys views m h e u k held = node_cases sh p w e (λ 
         (dir_deliver sh (w.dirs d) c (LoadReq l a)) (dir-fills sh (w.dirs d) c (LoadReq l a)) (load-home c l a (w.dirs d))
     answered c d n (Commit t b) cl dl i = answered-commit sh ram w h.commits c d n (Commit t b) (k.carried_in_memory.commits_stay_in_memory) (k.carried.commit_is_on_its_way_or_applied) held (k.carried.commits_are_of_granted_tids.0) (k.carried.committing_tid_is_served) (k.carried.marks_sent_are_in_flight_or_handled.1) (k.carried.marks_sent_are_the_lines_stored.2) (k.carried.one_load_request_or_fill) (k.carried.holder_is_a_sharer) cl dl i (λ l. refl)
         (dir_deliver sh (w.dirs d) c (Commit t b)) (dir-fills sh (w.dirs d) c (Commit t b)) (commit-invalidates sh c t b (w.dirs d))
-    answered c d n TidReq cl dl i = quiet c d n TidReq i (λ t. refl) (λ l. refl)
-    answered c d n (TidGrant t) cl dl i = quiet c d n (TidGrant t) i (λ t. refl) (λ l. refl)
-    answered c d n (Fill l ws) cl dl i = quiet c d n (Fill l ws) i (λ t. refl) (λ l. refl)
-    answered c d n (Skip t) cl dl i = quiet c d n (Skip t) i (λ t. refl) (λ l. refl)
-    answered c d n (Probe t) cl dl i = quiet c d n (Probe t) i (λ t. refl) (λ l. refl)
-    answered c d n (ProbeReply t s) cl dl i = quiet c d n (ProbeReply t s) i (λ t. refl) (λ l. refl)
-    answered c d n (Mark l a t) cl dl i = quiet c d n (Mark l a t) i (λ t. refl) (λ l. refl)
-    answered c d n (Abort t) cl dl i = quiet c d n (Abort t) i (λ t. refl) (λ l. refl)
-    answered c d n (WriteBack l a ws t) cl dl i = quiet c d n (WriteBack l a ws t) i (λ t. refl) (λ l. refl)
-    answered c d n (Flush l a ws t) cl dl i = quiet c d n (Flush l a ws t) i (λ t. refl) (λ l. refl)
-    answered c d n (DataReq l) cl dl i = quiet c d n (DataReq l) i (λ t. refl) (λ l. refl)
-    answered c d n (Inv l a t) cl dl i = quiet c d n (Inv l a t) i (λ t. refl) (λ l. refl)
-    answered c d n (InvAck l b) cl dl i = quiet c d n (InvAck l b) i (λ t. refl) (λ l. refl)
+    answered c d n m cl dl i = quiet c d n m i (λ t. refl) (λ l. refl)
 
 -- in the list's terms
-
 held-all : (sh : Shape) (ram : ℕ → ℕ) (w : World) (cs : List Noted) → UnmodifiedWords sh ram w cs → FilledWords sh ram w cs → KeptHeld sh ram w cs
 unfolding pair
 held-all sh ram w cs a b c d x cl dl e = record { framed = λ z p q. a c d x z cl dl e p q; filled = λ p. b c d x cl dl e p }

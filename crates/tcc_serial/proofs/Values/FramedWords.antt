@@ -161,7 +161,6 @@ load-home c l a s = go (nat_le s.serving.serving a) (has_mark s.lines l) (s.line
     go false false None q e = record { passed = grind (arith, nat_tests); unowned = e; serving = refl; owed = refl; words = words }
 
 -- the directory's state, and the Commits in flight, after a message was taken
-
 pub dirs-taken : (w : World) (c d k : ℕ) (s : DirState) (sends : Sends) → (dir_takes w c d k s sends).dirs d ≡ s
 unfolding pair
 dirs-taken w c d k s sends = ap (λ v. v.dir) (dir-own w c d k s sends)
@@ -231,22 +230,17 @@ sent-one k f p (suc n) l i e h = rw flat_map-append (rw among-append (go (cases_
 -- the marked words of a line are those that the commit stored
 stored-hit : (sh : Shape) (d x : ℕ) (ls : Lines) (n : Noted) → line_of x < lines sh → home sh (line_of x) ≡ d → ls.mark (line_of x) ≡ stored_mask sh d n.stores (line_of x) → stores_word sh.base n.stores x ≡ true → (has_mark ls (line_of x) ≡ true) × (hit (line_of x) (ls.mark (line_of x)) x ≡ true)
 unfolding stored_mask stores_in hit
-stored-hit sh d x ls n il e m s = (rw mark (let z = some in grind (arith, nat_tests)), rw mark (rw (same (line_of x)) in-mask))
+stored-hit sh d x ls n il e m s =
+    let here : p (place_of x) ≡ true = let i : word_at (line_of x) (place_of x) ≡ x = omega arith in rw i s in
+    let some : 0 < mask_of p = some-mask p (place_of x) (omega arith) here in
+    let in-mask : has (mask_of p) (place_of x) ≡ true = has-mask_of p (place_of x) (omega arith) ∙ here in
+    (rw mark (let z = some in grind (arith, nat_tests)), rw mark (rw (same (line_of x)) in-mask))
   where
     p : ℕ → Bool
     p k = stores_word sh.base n.stores (word_at (line_of x) k)
 
-    here : p (place_of x) ≡ true
-    here = let i : word_at (line_of x) (place_of x) ≡ x = omega arith in rw i s
-
     mark : ls.mark (line_of x) ≡ mask_of p
     mark = let a : nat_lt (line_of x) (lines sh) ≡ true = grind (arith, nat_tests) in let b : (d == home sh (line_of x)) ≡ true = grind (arith, nat_tests) in m ∙ rw (a, b) refl
-
-    some : 0 < mask_of p
-    some = some-mask p (place_of x) (omega arith) here
-
-    in-mask : has (mask_of p) (place_of x) ≡ true
-    in-mask = has-mask_of p (place_of x) (omega arith) ∙ here
 
 sharer-told : (sh : Shape) (ls : Lines) (c t j x : ℕ) → line_of x < lines sh → j < sh.cores → (j ≡ c → ⊥) → has_mark ls (line_of x) ≡ true → hit (line_of x) (ls.mark (line_of x)) x ≡ true → ls.sharers (line_of x) j ≡ true → 1 ≤ among (InvWord x) (invs_to sh ls c t j)
 unfolding invs_to is_invalidated among passes
@@ -261,11 +255,7 @@ idle sh w cs j d l loading shares s n = split (keeps_unmodified (w.cores j).cach
     v = pair w j d
 
     told : holds_line l v ≡ true → ⊥
-    told h = go (shares.shares h)
-      where
-        go : ((w.dirs d).lines.sharers l j ≡ true) ⊎ CommitsLine sh.base cs j l v → ⊥
-        go (inl e) = absurd (cc)
-        go (inr k) = n k
+    told h = elim (shares.shares h) [ inl e ↦ absurd (cc) | inr k ↦ n k ]
 
     none : (a : Option Awaited) → (w.cores j).awaited ≡ a → (is_fresh a && nat_lt 0 (live (FillOf l) (w.net (Dir d) (Core j)))) ≡ false → is_stale a ≡ false → live (FillOf l) (w.net (Dir d) (Core j)) ≡ 0
     none None e f q = let z : num (is_awaited (w.cores j).awaited l && home sh l == d) ≡ 0 = rw e refl in omega (arith, loading j d l, z)

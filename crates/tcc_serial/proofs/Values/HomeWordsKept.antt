@@ -10,6 +10,7 @@ use Rattle.tcc_serial.proofs.Names.{CopiesHave, wrote_line, ◌&&◌, nat_lt, if
 use Rattle.tcc_serial.proofs.Names.{TidGrant, LoadReq, Fill, Skip, Probe, ProbeReply, Mark, Commit, Abort, WriteBack, Flush, DataReq, Inv}
 use Rattle.tcc_serial.proofs.Names.{InvAck, in_flight, core_deliver, from_vendor, grant, happens, names_nodes, is_node, if_in_flight, moved}
 use Rattle.tcc_serial.proofs.Names.{taken, CommitsStand, IsCache}
+use Rattle.tcc_serial.specs.KeepsHomes.{HomesHold, EventsKeepHomes}
 use Rattle.tcc_serial.proofs.Copies.TagsKept.{untagged}
 use Rattle.tcc_serial.proofs.Counts.Links.{live-sends}
 use Rattle.tcc_serial.proofs.Counts.StepCases.{either, moves-own, moves-other, OfAnswer, step_cases, node_cases}
@@ -30,8 +31,6 @@ use Rattle.tcc_serial.proofs.Values.ValueAt.{IsSilent, value-skip}
 use Rattle.tcc_serial.proofs.Values.WordCopies.{among-others, few-others, none-copied}
 use Rattle.tcc_serial.proofs.Values.WordValues.{value_of, tag_of, ValuesAt, KeptValues, values-of, Known, from-values}
 use Rattle.tcc_serial.proofs.Values.WordsMoved.{Alike, moved-alike, granted-alike, taken-alike, alike-keeps}
-use Rattle.tcc_serial.specs.KeepsHomes.{HomesHold, EventsKeepHomes}
-
 
 -- A core's commit keeps the values of home words and of copies: its new copies have the words as their core sees them.
 
@@ -68,11 +67,7 @@ stored-others sh x d g u o v w m z n = record {
   where
     clean : (k : Option ℕ) → o.core.cache.dirty x ≡ k → num (is_this k g) ≡ 0
     clean None q = refl
-    clean (Some k) q = let i : k ≡ u = (w.framed k m q).0 in let j : (k == g) ≡ false = which (k == g) refl i in rw j refl
-      where
-        which : (b : Bool) → (k == g) ≡ b → k ≡ u → b ≡ false
-        which false r i = refl
-        which true r i = absurd (n (sym i ∙ (grind (arith, nat_tests))))
+    clean (Some k) q = grind (arith, nat_tests)
 
 -- and new ones of the commit, as the core sees it
 new-copies : (sh : Shape) (x d u y : ℕ) (ram : ℕ → ℕ) (o : Out) (v : Pair) → CommitsWord sh x u v.core.cache v.core.spilled o → (v.core.cache.modified x || is_some (v.core.spilled x)) ≡ true → (v.core.cache.modified x ≡ true → is_some (v.core.cache.value x) ≡ true) → word_copies x u v ≡ 0 → sees v.core ram x ≡ y → CopiesHave x u y (after_move v o d)
@@ -88,8 +83,7 @@ new-copies sh x d u y ram o v w m valid none s = record {
 
     modified : (b : Bool) (k : Option ℕ) → (b || is_some k) ≡ true → k ≡ None → b ≡ true
     modified true k e q = refl
-    modified false None e q = absurd (cc)
-    modified false (Some k) e q = absurd (cc)
+    modified false _ e q = absurd (cc)
 
     framed : (k : Option ℕ) → v.core.cache.value x ≡ k → v.core.spilled x ≡ None → k ≡ Some y
     framed None q z = absurd (let i = valid (modified (v.core.cache.modified x) (v.core.spilled x) m z) in let j : is_some (v.core.cache.value x) ≡ false = rw q refl in cc)
@@ -234,7 +228,6 @@ commit-keeps sh p entries ram gs ys views m h c o u k l g f = subst (λ q. KeptV
             }))
 
 -- Every event that commits nothing keeps the values of home words and of copies on their way home.
-
 
 -- what is shown of an event
 abbrev KeepsValues : Shape → (ram : ℕ → ℕ) → History → Stepped → Type 0

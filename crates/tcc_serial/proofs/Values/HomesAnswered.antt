@@ -96,11 +96,7 @@ applied-after sh ram h c d k m v s y i t = go (c == y.core.0) refl
         let w : (d == d) ≡ true = grind (arith, nat_tests) in
         let o : num ((y.core.0 == c && d == d) && passes (Commits y.tid.0) m) ≡ 1 = rw (z, w, p) refl in
         omega (arith, o, net, one)
-    gone e false q = late (cases_lt 0 before)
-      where
-        late : (0 < before) ⊎ (before ≤ 0) → after ≡ 0
-        late (inr l) = omega (arith, l, net)
-        late (inl l) = absurd (let f : 1 ≤ live (Commits y.tid.0) (h.world.net (Core c) (Dir d)) = rw e (omega (arith, l)) in let w = s.known.served c d y.tid.0 s.core s.dir f in let x : (u == y.tid.0) ≡ true = grind (arith, nat_tests) in cc)
+    gone e false q = grind (arith, nat_tests)
 
     go : (b : Bool) → (c == y.core.0) ≡ b → is_applied (v.dirs d) y.tid.0 ≡ (b || is_applied (h.world.dirs d) y.tid.0)
     go true q = let e : c ≡ y.core.0 = grind (arith, nat_tests) in num-same (is_applied (v.dirs d) y.tid.0) true (omega (arith, then-one, gone e (u == y.tid.0) refl))
@@ -165,10 +161,9 @@ unmarked-values sh ram h c d k x m v s e t r = quiet-keep sh ram h.world v h.com
 -- the commit's mask has the words that it stored
 wrote-has : (sh : Shape) (h : History) (c d x : ℕ) → (t : TakenCommit sh h.commits h.world c d) → stores_word sh.base t.settled.commit.stores x ≡ true → has (wrote_mask sh.base h.commits c (h.world.dirs d).serving.serving (line_of x)) (place_of x) ≡ true
 unfolding wrote_mask
-wrote-has sh h c d x t q = has-mask_of (λ k. wrote sh.base h.commits c (h.world.dirs d).serving.serving (word_at (line_of x) k)) (place_of x) (omega arith) ∙ rw (at-place x, sym (t.core), sym (t.settled.tid)) (wrote-at sh.base h.commits t.settled.commit x t.settled.noted.0 q (t.settled.noted.1) (t.settled.noted.2))
-  where
-    at-place : (x : ℕ) → word_at (line_of x) (place_of x) ≡ x
-    at-place x = omega arith
+wrote-has sh h c d x t q =
+    let at-place : (x : ℕ) → word_at (line_of x) (place_of x) ≡ x = λ x. omega arith in
+    has-mask_of (λ k. wrote sh.base h.commits c (h.world.dirs d).serving.serving (word_at (line_of x) k)) (place_of x) (omega arith) ∙ rw (at-place x, sym (t.core), sym (t.settled.tid)) (wrote-at sh.base h.commits t.settled.commit x t.settled.noted.0 q (t.settled.noted.1) (t.settled.noted.2))
 
 -- so that the core's copy has each of them
 stored-copied : (sh : Shape) (ram : ℕ → ℕ) (h : History) (c d x : ℕ) → Known sh ram h → c < sh.cores → d < sh.dirs → home sh (line_of x) ≡ d → (t : TakenCommit sh h.commits h.world c d) → line_of x < lines sh → has_mark (h.world.dirs d).lines (line_of x) ≡ true → tag_of h.world d x < (h.world.dirs d).serving.serving → stores_word sh.base t.settled.commit.stores x ≡ true → 1 ≤ word_copies x (h.world.dirs d).serving.serving (pair h.world c d)
@@ -310,7 +305,6 @@ known sh p entries ram gs ys views m h k = record {
 }
 
 -- a directory's answer
-
 here : (d : ℕ) (s : DirState) (f : ℕ → DirState) → (if d == d then s else f d) ≡ s
 here d s f = let y : (d == d) ≡ true = grind (arith, nat_tests) in rw y refl
 

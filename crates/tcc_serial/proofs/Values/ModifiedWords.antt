@@ -15,7 +15,6 @@ use Rattle.tcc_serial.proofs.Order.SerialSteps.{May, may-bound, may-commits, Sta
 use Rattle.tcc_serial.proofs.Values.ValueAt.{value-alike}
 
 -- the home of a word that the core stored serves its TID, and is owed nothing
-
 opens-may : (t : ℕ) (q : Phase) (b : Bool) → May t q → (is_solo q ≡ false → b ≡ true) → opens q b t ≡ true
 unfolding opens
 opens-may t q b (inl e) h = rw (e, h (rw e refl)) (grind (arith, nat_tests))
@@ -69,17 +68,12 @@ times-listed t (x ∷ cs) n k e = go k.0 (k.1) (k.2) (λ j. times-listed t cs n 
     go (suc i) l q f = omega (arith, f (i, omega (arith, l), q))
 
 -- its value for the core is that at its TID
-
 counts-until : (s : DirState) (c t : ℕ) (n : Noted) → s.serving.serving ≡ t → s.owed ≡ 0 → (n.core.0 ≡ c → n.tid.0 < t) → counts s (Some c) (Some t) n ≡ counts s (Some c) None n
 unfolding counts is_applied
 counts-until s c t n e z own = go (nat_lt n.tid.0 t) refl (c == n.core.0) refl
   where
     late : nat_lt n.tid.0 t ≡ false → (nat_lt n.tid.0 s.serving.serving || (n.tid.0 == s.serving.serving && nat_lt 0 s.owed)) ≡ false
-    late q = rw (e, q, z) (last (n.tid.0 == t))
-      where
-        last : (b : Bool) → (b && false) ≡ false
-        last true = refl
-        last false = refl
+    late q = rw (e, q, z) ((elim (n.tid.0 == t) as (λ b. (b && false) ≡ false) [ true ↦ refl | false ↦ refl ]))
 
     go : (b : Bool) → nat_lt n.tid.0 t ≡ b → (a : Bool) → (c == n.core.0) ≡ a → (b && (a || (nat_lt n.tid.0 s.serving.serving || (n.tid.0 == s.serving.serving && nat_lt 0 s.owed)))) ≡ (a || (nat_lt n.tid.0 s.serving.serving || (n.tid.0 == s.serving.serving && nat_lt 0 s.owed)))
     go true q a r = refl

@@ -65,11 +65,7 @@ one-copy x t y k n ws g true e f z = ((low (nat_le g t) refl, has, tt), omega ar
     low false q = absurd (let l : t < g = grind (arith, nat_tests) in let i : (g == g) ≡ true = grind (arith, nat_tests) in let o : num (true && (g == g)) ≡ 1 = rw i refl in omega (arith, f l, o))
 
     has : g ≡ t → get_or ws (place_of x) 0 ≡ y
-    has i = go (get_or ws (place_of x) 0 == y) refl
-      where
-        go : (c : Bool) → (get_or ws (place_of x) 0 == y) ≡ c → get_or ws (place_of x) 0 ≡ y
-        go true q = grind (arith, nat_tests)
-        go false q = absurd (let j : (g == t) ≡ true = grind (arith, nat_tests) in let o : num ((true && (g == t)) && not (get_or ws (place_of x) 0 == y)) ≡ 1 = rw (j, q) refl in omega (arith, z, o))
+    has i = grind (arith, nat_tests)
 
 on-way : (x t y : ℕ) (m : Msg) → ((g : ℕ) → t < g → num (passes (CopyWord x g) m) ≡ 0) → num (passes (CopyNot x t y) m) ≡ 0 → Top t y (copy_of x m) × (tagged t (copy_of x m) ≡ num (passes (CopyWord x t) m))
 unfolding passes Top tagged
@@ -89,14 +85,13 @@ on-link x t y (Some m ∷ l) f z =
 in-frame : (t y : ℕ) (value dirty : Option ℕ) → ((g : ℕ) → t < g → num (is_this dirty g) ≡ 0) → (dirty ≡ Some t → value ≡ Some y) → Top t y (copy_in value dirty) × (tagged t (copy_in value dirty) ≡ num (is_this dirty t))
 unfolding Top tagged
 in-frame t y value None f h = (tt, refl)
-in-frame t y value (Some g) f h = ((low (nat_le g t) refl, has, tt), omega arith)
+in-frame t y value (Some g) f h =
+    let has : g ≡ t → unwrap_or value 0 ≡ y = λ i. rw (h (ap Some i)) refl in
+    ((low (nat_le g t) refl, has, tt), omega arith)
   where
     low : (c : Bool) → nat_le g t ≡ c → g ≤ t
     low true q = grind (arith, nat_tests)
     low false q = absurd (let l : t < g = grind (arith, nat_tests) in let i : (g == g) ≡ true = grind (arith, nat_tests) in let o : num (g == g) ≡ 1 = ap num i in omega (arith, f g l, o))
-
-    has : g ≡ t → unwrap_or value 0 ≡ y
-    has i = rw (h (ap Some i)) refl
 
 core-copies : (sh : Shape) (w : World) (x t y c : ℕ) → ((g : ℕ) → t < g → word_copies x g (pair w c (home sh (line_of x))) ≡ 0) → CopiesHave x t y (pair w c (home sh (line_of x))) → Top t y (copies_of sh w x c) × (tagged t (copies_of sh w x c) ≡ word_copies x t (pair w c (home sh (line_of x))))
 unfolding copies_of word_copies pair
@@ -106,7 +101,6 @@ core-copies sh w x t y c f h =
     (top-append t y (copy_in ((w.cores c).cache.value x) ((w.cores c).cache.dirty x)) (copies_on x (w.net (Core c) (Dir (home sh (line_of x))))) (a.0) (b.0), omega (arith, tagged-append t (copy_in ((w.cores c).cache.value x) ((w.cores c).cache.dirty x)) (copies_on x (w.net (Core c) (Dir (home sh (line_of x))))), a.1, b.1))
 
 -- those of all cores
-
 all-top : (t y : ℕ) (f : ℕ → List Copy) (n : ℕ) → ((c : ℕ) → c < n → Top t y (f c)) → Top t y (flat_map f (numbers n))
 unfolding those Top
 all-top t y f zero h = tt

@@ -37,7 +37,6 @@ after-all base s c b x (n ∷ ns) y h = ap (after_commits base s c b x ns) (one 
     one (inr e) = silent e (counts s c b n)
 
 -- commits
-
 above-first : (last : ℕ) (ns : List Noted) (n : Noted) → IsRising last ns → (k : ℕ) → k < length ns → slice_index_or ns k n ≡ n → last < n.tid.0
 unfolding IsRising
 above-first last [] n r k l e = absurd (omega (arith, l))
@@ -96,16 +95,11 @@ wrote-none base [] c t x h = refl
 wrote-none base (n ∷ ns) c t x h = rw (wrote-none base ns c t x (h.1)) (go (n.core.0 == c) (n.tid.0 == t) refl)
   where
     go : (a b : Bool) → (n.tid.0 == t) ≡ b → ((a && (b && stores_word base n.stores x)) || false) ≡ false
-    go a true q = let i : n.tid.0 ≡ t = grind (arith, nat_tests) in rw (h.0 i) (none a)
-      where
-        none : (a : Bool) → ((a && (true && false)) || false) ≡ false
-        none true = refl
-        none false = refl
+    go a true q = grind (arith, nat_tests)
     go true false q = refl
     go false false q = refl
 
 -- copies above the line's tag have just the words that were written
-
 at-place : (x : ℕ) → word_at (line_of x) (place_of x) ≡ x
 at-place x = omega arith
 
@@ -114,19 +108,8 @@ unfolding wrote_mask
 mask-wrote base ns c t x = has-mask_of (λ k. wrote base ns c t (word_at (line_of x) k)) (place_of x) (omega arith) ∙ ap (wrote base ns c t) (at-place x)
 
 out-of-mask : (k m n x : ℕ) (c : Bool) → has n (place_of x) ≡ false → (d : Bool) → (m == n) ≡ d → num (((k == line_of x) && has m (place_of x)) && c) ≤ num (((k == line_of x) && c) && not d)
-out-of-mask k m n x c h true q = let e : m ≡ n = grind (arith, nat_tests) in rw (e, h) (go (k == line_of x))
-  where
-    go : (a : Bool) → num ((a && false) && c) ≤ num ((a && c) && false)
-    go true = omega arith
-    go false = omega arith
-out-of-mask k m n x c h false q = go (k == line_of x) (has m (place_of x)) c
-  where
-    go : (a b c : Bool) → num ((a && b) && c) ≤ num ((a && c) && true)
-    go true true true = omega arith
-    go true true false = omega arith
-    go true false true = omega arith
-    go true false false = omega arith
-    go false b c = omega arith
+out-of-mask k m n x c h true q = grind (arith, nat_tests)
+out-of-mask k m n x c h false q = grind (arith, nat_tests)
 
 outside : (x t n : ℕ) → has n (place_of x) ≡ false → (m : Msg) → num (passes (CopyWord x t) m) ≤ num (passes (CopyMask (line_of x) t n) m)
 unfolding passes hit
@@ -193,11 +176,7 @@ Flying sh w x t = (c : ℕ) × (c < sh.cores) × (1 ≤ live (Commits t) (w.net 
 is-applied : (s : DirState) (t : ℕ) → ((t < s.serving.serving) ⊎ ((s.serving.serving ≡ t) × (1 ≤ s.owed))) → is_applied s t ≡ true
 unfolding is_applied
 is-applied s t (inl l) = let q : nat_lt t s.serving.serving ≡ true = grind (arith, nat_tests) in rw q refl
-is-applied s t (inr e) = let q : (t == s.serving.serving) ≡ true = (let i : s.serving.serving ≡ t = e.0 in grind (arith, nat_tests)) in let r : nat_lt 0 s.owed ≡ true = (let i : 1 ≤ s.owed = e.1 in grind (arith, nat_tests)) in rw (q, r) (either (nat_lt t s.serving.serving))
-  where
-    either : (b : Bool) → (b || true) ≡ true
-    either true = refl
-    either false = refl
+is-applied s t (inr e) = grind (arith, nat_tests)
 
 -- a commit that stored the word is applied at its home, or on its way there
 applied-or-flying : (sh : Shape) (ram : ℕ → ℕ) (gs : List Grant) (ys : Ways) (ends : ℕ → ℕ) (h : History) (x : ℕ) (n : Noted) → Known sh ram gs ys ends h → Contains h.commits n → stores_word sh.base n.stores x ≡ true → (is_applied (at sh h.world x) n.tid.0 ≡ true) ⊎ Flying sh h.world x n.tid.0
@@ -256,21 +235,13 @@ outside-word sh ram gs ys ends h x k out = settled-word sh ram gs ys ends h x k 
 
     framed : (c g : ℕ) (o : Option ℕ) → (h.world.cores c).cache.dirty x ≡ o → num (is_this o g) ≡ 0
     framed c g None e = refl
-    framed c g (Some t) e = absurd (out (k.inside.frames_are_of_lines_in_memory c (line_of x) (held ((h.world.cores c).cache.held (line_of x)) refl)))
-      where
-        held : (b : Bool) → (h.world.cores c).cache.held (line_of x) ≡ b → (h.world.cores c).cache.held (line_of x) ≡ true
-        held true q = q
-        held false q = absurd (let v : (h.world.cores c).cache.value x ≡ None = (k.carried.frames_stand_in_their_sets c).valued x q in let s : is_some ((h.world.cores c).cache.value x) ≡ true = (k.carried.modified_and_dirty_words_are_valid_and_apart c).dirty x (rw e refl) in let z : is_some ((h.world.cores c).cache.value x) ≡ false = rw v refl in cc)
+    framed c g (Some t) e = grind (arith, nat_tests)
 
 -- a copy above the line's tag is of the served TID
 above-none : (sh : Shape) (ram : ℕ → ℕ) (gs : List Grant) (ys : Ways) (ends : ℕ → ℕ) (h : History) (x c g : ℕ) → Known sh ram gs ys ends h → line_of x < lines sh → c < sh.cores → (at sh h.world x).lines.tag (line_of x) < g
     → live (Commits g) (h.world.net (Core c) (Dir (home sh (line_of x)))) ≡ 0 → copies_with (line_of x) g (pair h.world c (home sh (line_of x))) ≡ 0
 unfolding pair
-above-none sh ram gs ys ends h x c g k i l t z = (k.carried.copy_above_the_tag_is_of_a_commit_in_flight c (home sh (line_of x)) (line_of x) g l (home-below sh x k.dirs) i refl t).one ∙ rw z (go (wrote_line sh.base h.commits c g (line_of x)))
-  where
-    go : (b : Bool) → cond {A = ℕ} b 0 0 ≡ 0
-    go true = refl
-    go false = refl
+above-none sh ram gs ys ends h x c g k i l t z = grind (arith, nat_tests)
 
 -- no Commit is on its way there
 quiet-word : (sh : Shape) (ram : ℕ → ℕ) (gs : List Grant) (ys : Ways) (ends : ℕ → ℕ) (h : History) (x : ℕ) → Known sh ram gs ys ends h → line_of x < lines sh
@@ -330,7 +301,6 @@ other-word sh ram gs ys ends h x c n k i f s = settled-word sh ram gs ys ends h 
         (wrote-none sh.base h.commits e g x (each-listed (λ m. m.tid.0 ≡ g → stores_word sh.base m.stores x ≡ false) h.commits (λ m j u. ap (λ z. stores_word sh.base z.stores x) (one-commit 0 h.commits m n (k.carried.commits_are_of_granted_tids.0) j (f.listed) (u ∙ (sym y ∙ sym (f.tid)))) ∙ s)))
 
 -- it stored the word: its TID is the greatest
-
 coming-below : (sh : Shape) (ram : ℕ → ℕ) (gs : List Grant) (ys : Ways) (ends : ℕ → ℕ) (h : History) (x c : ℕ) (n : Noted) → Known sh ram gs ys ends h → line_of x < lines sh → Coming sh h x c n → (at sh h.world x).lines.tag (line_of x) < (at sh h.world x).serving.serving
 unfolding settled_in_line is_settled is_applied pair
 coming-below sh ram gs ys ends h x c n k i f = subst (λ q. q < (at sh h.world x).serving.serving) (sym (k.carried.line_tag_is_the_last_settled_writer (home sh (line_of x)) (line_of x) (home-below sh x k.dirs) i refl))
@@ -380,11 +350,7 @@ stored-word sh ram gs ys ends h x c n k i f s = record {
     later e g l u false q = grind (arith, nat_tests)
 
     counted : (m : Noted) → Contains h.commits m → (is_applied (at sh h.world x) m.tid.0 ≡ true) ⊎ Flying sh h.world x m.tid.0 → (is_this (Some c) m.core.0 || is_applied (at sh h.world x) m.tid.0) ≡ true
-    counted m j (inl e) = rw e (either (is_this (Some c) m.core.0))
-      where
-        either : (b : Bool) → (b || true) ≡ true
-        either true = refl
-        either false = refl
+    counted m j (inl e) = rw e ((elim (is_this (Some c) m.core.0) as (λ b. (b || true) ≡ true) [ true ↦ refl | false ↦ refl ]))
     counted m j (inr y) = let o : m.core.0 ≡ c = ap (λ z. z.core.0) (only-coming sh ram gs ys ends h x c (y.0) n m k f j (y.1) (y.2)) ∙ f.core in let q : (c == m.core.0) ≡ true = grind (arith, nat_tests) in rw q refl
 
     value : value_at sh.base ram h.commits (at sh h.world x) (Some c) None x ≡ ends x
@@ -418,7 +384,6 @@ stored-word sh ram gs ys ends h x c n k i f s = record {
     )
 
 -- any word
-
 coming : (sh : Shape) (h : History) (x c : ℕ) → c < sh.cores → 1 ≤ live (Commits (at sh h.world x).serving.serving) (h.world.net (Core c) (Dir (home sh (line_of x)))) → (m : MarkedCommit sh h.commits c (home sh (line_of x)) (at sh h.world x).serving.serving (pair h.world c (home sh (line_of x)))) → Coming sh h x c m.commit
 coming sh h x c l s m = record { below = l; sent = s; listed = m.noted; tid = m.tid; core = m.core }
 

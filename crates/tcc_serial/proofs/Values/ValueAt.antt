@@ -60,7 +60,6 @@ after-silent base s c b x [] y h = refl
 after-silent base s c b x (m ∷ cs) y h = ap (after_commits base s c b x cs) (silent-with base s c b x m y (h m (first-held m cs))) ∙ after-silent base s c b x cs y (λ n k. h n (later-held m n cs k))
 
 -- a commit that makes nothing of the word is inserted
-
 after-skip : (base : ℕ) (s : DirState) (c b : Option ℕ) (x : ℕ) (n : Noted) (cs : List Noted) (y : ℕ) → IsSilent base s c b x n → after_commits base s c b x (insert_commit n cs) y ≡ after_commits base s c b x cs y
 unfolding after_commits insert_commit
 after-skip base s c b x n [] y h = silent-with base s c b x n y h
@@ -75,7 +74,6 @@ unfolding value_at
 value-skip base ram n cs s c b x h = after-skip base s c b x n cs (ram x) h
 
 -- a commit is inserted below which all stand that make something of the word
-
 pub rising-above : (last : ℕ) (cs : List Noted) (n : Noted) → IsRising last cs → Contains cs n → last < n.tid.0
 unfolding IsRising
 rising-above last [] n r k = absurd (omega (arith, k.1))

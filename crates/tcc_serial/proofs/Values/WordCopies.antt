@@ -13,7 +13,6 @@ use Rattle.tcc_serial.proofs.Counts.Links.{live-fewer, among-fewer}
 -- The copies of a word: no more than those of its line, and all of them where the copies have the word in their mask.
 
 -- in messages
-
 back-line : (a b c : Bool) → num ((a && b) && c) ≤ num (a && c)
 back-line true true c = omega arith
 back-line true false c = omega arith
@@ -43,19 +42,8 @@ among-others x t y ms = among-fewer (CopyNot x t y) (CopyWord x t) (other-word x
 
 -- a copy of the line has the word, or another mask than one with the word
 in-mask : (k m n x : ℕ) (c : Bool) → has n (place_of x) ≡ true → (d : Bool) → (m == n) ≡ d → num ((k == line_of x) && c) ≤ num (((k == line_of x) && has m (place_of x)) && c) + num (((k == line_of x) && c) && not d)
-in-mask k m n x c h true q = let e : m ≡ n = grind (arith, nat_tests) in rw (e, h) (go (k == line_of x))
-  where
-    go : (a : Bool) → num (a && c) ≤ num ((a && true) && c) + num ((a && c) && false)
-    go true = omega arith
-    go false = omega arith
-in-mask k m n x c h false q = go (k == line_of x) (has m (place_of x)) c
-  where
-    go : (a b c : Bool) → num (a && c) ≤ num ((a && b) && c) + num ((a && c) && true)
-    go true true true = omega arith
-    go true true false = omega arith
-    go true false true = omega arith
-    go true false false = omega arith
-    go false b c = omega arith
+in-mask k m n x c h true q = grind (arith, nat_tests)
+in-mask k m n x c h false q = grind (arith, nat_tests)
 
 line-word : (x t n : ℕ) → has n (place_of x) ≡ true → (m : Msg) → num (passes (CopyOf (line_of x) t) m) ≤ num (passes (CopyWord x t) m) + num (passes (CopyMask (line_of x) t n) m)
 unfolding passes hit
@@ -70,7 +58,6 @@ live-words x t n h (None ∷ l) = live-words x t n h l
 live-words x t n h (Some m ∷ l) = omega (arith, line-word x t n h m, live-words x t n h l)
 
 -- in frames
-
 pub at-place : (x : ℕ) → word_at (line_of x) (place_of x) ≡ x
 at-place x = omega arith
 
@@ -122,7 +109,6 @@ copy-has sh x t n v h i f z = omega (arith, live-words x t n i v.out, z, framed 
 -- The dirty words of a line that leave its frame go home as they are: what this is for the copies of one word.
 
 -- what an event of a core does to a word: its copies are as many, in the frame and sent, and each has the value that it had
-
 pub record WordCarried (sh : Shape) (x : ℕ) (s : CoreState) (o : Out) : Type 0 where
   pub copies : (t : ℕ) → num (is_this (o.core.cache.dirty x) t) + among (CopyWord x t) (o.sends (Dir (home sh (line_of x)))) ≡ num (is_this (s.cache.dirty x) t)
   pub framed : (t : ℕ) → o.core.cache.dirty x ≡ Some t → (s.cache.dirty x ≡ Some t) × (o.core.cache.value x ≡ s.cache.value x)

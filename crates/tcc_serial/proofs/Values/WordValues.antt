@@ -38,7 +38,6 @@ pub from-values : (sh : Shape) (ram : ℕ → ℕ) (w : World) (cs : List Noted)
 from-values sh ram w cs k = (record { at_home = λ d x dl e. (k d x dl e).at_home; in_copies = λ c d x cl dl e. (k d x dl e).in_copies c cl }, λ c d x t cl dl e i. (k d x dl e).above c t cl i)
 
 -- an event that leaves the cores, the line's tag and the word's values
-
 pub record Stands (sh : Shape) (ram : ℕ → ℕ) (w v : World) (cs : List Noted) (d x : ℕ) : Type 0 where
   pub cores : v.cores ≡ w.cores
   pub tag : tag_of v d x ≡ tag_of w d x

@@ -87,16 +87,13 @@ inv-home sh ram h c e k l m u b i = go (home sh l == e) refl
 -- and of a line in memory, for it is marked
 inv-inside : (sh : Shape) (ram : ℕ → ℕ) (h : History) (c d k l m u : ℕ) → Known sh ram h → c < sh.cores → d < sh.dirs → in_flight h.world.net (Dir d) (Core c) k ≡ Some (Inv l m u) → l < lines sh
 unfolding pair passes due share
-inv-inside sh ram h c d k l m u b cl dl i = mask-inside sh d l n.commit.stores ((h.world.dirs d).lines.mark l) (n.marks l) (marked (has_mark (h.world.dirs d).lines l) refl)
+inv-inside sh ram h c d k l m u b cl dl i =
+    let owed : 1 ≤ (h.world.dirs d).owed = omega (arith, invs, b.invs.owed d, total-le (share due h.world d) sh.cores c cl) in
+    let n : SettledCommit sh h.commits d (h.world.dirs d) = (b.stored 0 d 0).settled dl owed in
+    mask-inside sh d l n.commit.stores ((h.world.dirs d).lines.mark l) (n.marks l) (marked (has_mark (h.world.dirs d).lines l) refl)
   where
     invs : 1 ≤ live Invs (h.world.net (Dir d) (Core c))
     invs = omega (arith, live-some Invs (h.world.net (Dir d) (Core c)) k (Inv l m u) i)
-
-    owed : 1 ≤ (h.world.dirs d).owed
-    owed = omega (arith, invs, b.invs.owed d, total-le (share due h.world d) sh.cores c cl)
-
-    n : SettledCommit sh h.commits d (h.world.dirs d)
-    n = (b.stored 0 d 0).settled dl owed
 
     marked : (y : Bool) → has_mark (h.world.dirs d).lines l ≡ y → y ≡ true
     marked true q = refl
@@ -119,7 +116,6 @@ none-with-tag sh ram h c d k x m u b cl dl ll e i = let y : copies_with (line_of
         which true r = absurd (let z : o ≡ c = grind (arith, nat_tests) in omega (arith, t.sent, b.spared c d (line_of x) dl (q ∙ ap (λ n. Some n) z) (t.tag)))
 
 -- a core moves, takes a grant, takes a message of a directory
-
 pub moved-alike : (sh : Shape) (w : World) (c : ℕ) (o : Out) → Carries sh (w.cores c) o → AllPairs (AlikeAt sh w) (core_moves w c o)
 unfolding pair
 moved-alike sh w c o h = pairs_move (AlikeAt sh w) w c o (λ d x cl dl e. carried-alike sh x d (tag_of w d x) o (pair w c d) (after_move (pair w c d) o d) e (h x) (record { core = refl; out = refl })) (still-alike sh w)

@@ -47,7 +47,6 @@ sent-dooms b x u n f p l e h i = omega (arith, among-those (dooms b x) (λ l. In
 -- What a directory's answer does to the values that cores see: only a Commit that it takes changes them, and this dooms.
 
 -- the Commits in flight to a directory where it takes a message
-
 pub commits-after : (w : World) (c d k t : ℕ) (m : Msg) (s : DirState) (sends : Sends) (j : ℕ) → in_flight w.net (Core c) (Dir d) k ≡ Some m → passes (Commits t) m ≡ false → live (Commits t) ((dir_takes w c d k s sends).net (Core j) (Dir d)) ≡ live (Commits t) (w.net (Core j) (Dir d))
 unfolding pair
 commits-after w c d k t m s sends j i f = either j c own other
@@ -62,7 +61,6 @@ commits-after w c d k t m s sends j i f = either j c own other
     other e = ap (λ v. live (Commits t) v.out) (dir-other w c d k s sends j e)
 
 -- commits that are applied alike count alike
-
 counts-alike : (s r : DirState) (c b : Option ℕ) (n : Noted) → is_applied s n.tid.0 ≡ is_applied r n.tid.0 → counts s c b n ≡ counts r c b n
 unfolding counts
 counts-alike s r c b n e = rw e refl
@@ -77,7 +75,6 @@ stays-value sh ram cs w v j d x b m a z dl e f = value-alike sh.base ram cs (w.d
     go n i true q = inl (counts-alike (w.dirs d) (v.dirs d) (Some j) b n (applied-same sh cs w v n d a z i dl (stored-at-home sh cs n d x m i e q) (f n)))
 
 -- the directory takes the Commit of TID u from core c
-
 pub record Taken (sh : Shape) (w : World) (c d u : ℕ) : Type 0 where
   pub core : c < sh.cores
   pub dir : d < sh.dirs
@@ -311,17 +308,10 @@ answered-views sh gs ys ram vs h c d k m y mem q near cl i = go m i
 
     go : (m : Msg) → in_flight h.world.net (Core c) (Dir d) k ≡ Some m → OfAnswer h.world c d k (NearAfter sh ram h.commits vs) (dir_deliver sh (h.world.dirs d) c m)
     go (Commit u n) i = commit-views sh gs ys ram vs h c d k u n y mem q near cl i
-    go (Skip u) i = plain (Skip u) i (λ t. refl)
-    go (Abort u) i = plain (Abort u) i (λ t. refl)
-    go (Probe u) i = plain (Probe u) i (λ t. refl)
-    go (LoadReq l a) i = plain (LoadReq l a) i (λ t. refl)
-    go (Mark l x u) i = plain (Mark l x u) i (λ t. refl)
-    go (InvAck l b) i = plain (InvAck l b) i (λ t. refl)
-    go (WriteBack l x ws g) i = plain (WriteBack l x ws g) i (λ t. refl)
-    go (Flush l x ws g) i = plain (Flush l x ws g) i (λ t. refl)
     go TidReq i = tt
     go (TidGrant u) i = tt
     go (Fill l ws) i = tt
     go (ProbeReply u v) i = tt
     go (DataReq l) i = tt
     go (Inv l x u) i = tt
+    go m i = plain m i (λ t. refl)

@@ -13,7 +13,6 @@ use Rattle.tcc_serial.proofs.Values.ValueAt.{value-alike}
 -- What the proof on views asks of a state: the bound of a core, directories that serve an open TID, and what dooms a viewed word.
 
 -- the bound of a core
-
 pub own-holder : (w : World) (c d t : ℕ) → has_tid (w.cores c).phase t ≡ true → 1 ≤ holder t (pair w c d)
 unfolding holder pair
 own-holder w c d t e = rw e (omega arith)
@@ -31,7 +30,6 @@ bound-own sh gs ys h k c d t None l e i = absurd (omega (arith, i t, own-holder 
 bound-own sh gs ys h k c d t (Some u) l e i = ap Some (one-holder sh gs ys h k c d d u t l i (own-holder h.world c d t e))
 
 -- a directory at which a core's TID is open
-
 pub record IsServed (w : World) (d t : ℕ) : Type 0 where
   pub serving : (w.dirs d).serving.serving ≡ t
   pub owed : (w.dirs d).owed ≡ 0
@@ -62,7 +60,6 @@ unfolding share due
 unowed-none sh gs ys h k c d l e = omega (arith, e, k.owed_counts_invs_and_acks.owed d, total-le (share due h.world d) sh.cores c l)
 
 -- a core that is alone
-
 pub solo-tid : (q : Phase) → is_solo q ≡ true → (t : ℕ) × (q ≡ Solo t)
 solo-tid (Solo t) e = (t, refl)
 solo-tid _ e = absurd (cc)
@@ -78,7 +75,6 @@ solo-served sh gs ys h k c d t cl dl e =
     open-served sh gs ys h k c d t cl dl (rw e s) (rw e s) (k.directory_that_replied_serves_the_tid.replied c d cl dl (rw e refl))
 
 -- invalidations of a word
-
 few-word : (x : ℕ) (m : Msg) → num (passes (InvWord x) m) ≤ num (passes Invs m)
 unfolding passes
 few-word x m = grind (arith, nat_tests)
@@ -114,7 +110,6 @@ solo-undoomed sh gs ys h k c d x b cl dl e =
     omega (arith, few-dooms b x (pair h.world c d).back, unowed-none sh gs ys h k c d cl ((solo-served sh gs ys h k c d t.0 cl dl (t.1)).owed))
 
 -- uses
-
 pub each-two : (P Q R : ℕ → ℕ → Type 0) (us : Uses) → ((x y : ℕ) → P x y → Q x y → R x y) → EachUse P us → EachUse Q us → EachUse R us
 each-two P Q R [] f a b = tt
 each-two P Q R (u ∷ us) f a b = (f u.0 u.1 (a.0) (b.0), each-two P Q R us f (a.1) (b.1))
@@ -220,7 +215,6 @@ solo-value sh gs ys ram h k c d t x cl dl e = value-bounded sh.base ram h.commit
         go false z = let a = s.serving in let o = s.owed in grind (arith, nat_tests)
 
 -- a directory that applies the same commits, of those that stored the word
-
 num-same : (a b : Bool) → num a ≡ num b → a ≡ b
 num-same true true e = refl
 num-same false false e = refl
@@ -232,7 +226,6 @@ pub applied-same : (sh : Shape) (cs : List Noted) (v w : World) (n : Noted) (d :
 applied-same sh cs v w n d a b i l s e = num-same (is_applied (v.dirs d) n.tid.0) (is_applied (w.dirs d) n.tid.0) (omega (arith, a n d i l s, b n d i l s, e))
 
 -- an invalidation of the word carries the served TID, which has committed
-
 word-either : (x t s : ℕ) → s < t → (m : Msg) → num (passes (InvWord x) m) ≤ num (passes (InvBelow x t) m) + num (passes (InvsNot s) m)
 unfolding passes
 word-either x t s l m = grind (arith, nat_tests)

@@ -22,7 +22,6 @@ pub view-empty : (sh : Shape) (ram : ℕ → ℕ) (cs : List Noted) (c d : ℕ) 
 view-empty sh ram cs c d v = record { near = λ b cl dl i. tt; halted = λ e. refl }
 
 -- a core moves
-
 bound-kept : (b : Option ℕ) (v : Pair) (s : CoreState) → Keeps v.core s → IsBound b (record v { core = s }) → IsBound b v
 unfolding holder
 bound-kept None v s k h = λ t. let e : num (has_tid s.phase t) ≡ num (has_tid v.core.phase t) = ap num (k.tids t) in omega (arith, h t, e)
@@ -37,7 +36,6 @@ pub view-moves : (sh : Shape) (ram : ℕ → ℕ) (cs : List Noted) (us : Uses) 
 view-moves sh ram cs us c d e v o k y = record { near = λ b cl dl i. y.near b cl dl (bound-moved b v o e k i); halted = λ q. y.halted (k.halted q) }
 
 -- a message to the core is consumed that dooms no use
-
 bound-back : (b : Option ℕ) (v : Pair) (k : ℕ) → IsBound b (back_taken v k) → IsBound b v
 unfolding holder
 bound-back None v k h = h
@@ -59,7 +57,6 @@ view-takes sh ram cs us c d k v m i f s y = record { near = near; halted = y.hal
             go (inr r) = let p : num (passes (dooms b x) m) ≡ 0 = ap num (f b cl dl (bound-back b v k g) x z e q) in inr (omega (arith, r, p, live-takes (dooms b x) v.back k m i))
 
 -- a grant is consumed, and the core has its TID
-
 bound-granted : (b : Option ℕ) (v : Pair) (o : Out) (d k u : ℕ) → slice_index_or v.grants k None ≡ Some (TidGrant u) → ((t : ℕ) → num (has_tid o.core.phase t) ≡ num (u == t) + num (has_tid v.core.phase t)) → IsBound b (after_move (grant_taken v k) o d) → IsBound b v
 unfolding holder passes
 bound-granted None v o d k u i f h = λ t. omega (arith, h t, f t, live-takes (Grants t) v.grants k (TidGrant u) i)
@@ -69,7 +66,6 @@ pub view-grants : (sh : Shape) (ram : ℕ → ℕ) (cs : List Noted) (us : Uses)
 view-grants sh ram cs us c d e k u v o i f n y = record { near = λ b cl dl g. y.near b cl dl (bound-granted b v o e k u i f g); halted = λ q. absurd (n q) }
 
 -- the directory answers: the values stay, or what it sends dooms
-
 bound-answered : (b : Option ℕ) (v : Pair) (s : DirState) (ms : List Msg) → IsBound b (after_answer v s ms) → IsBound b v
 unfolding holder
 bound-answered None v s ms h = h
@@ -98,7 +94,6 @@ view-answers sh ram cs us c d v s ms f q y = record { near = near; halted = y.ha
             go (inl a) (inl w) = inl (a ∙ w)
 
 -- a message to the directory is consumed
-
 pub bound-out : (b : Option ℕ) (v : Pair) (k : ℕ) → IsBound b (out_taken v k) → IsBound b v
 unfolding holder
 bound-out None v k h = h
@@ -108,7 +103,6 @@ pub view-out : (sh : Shape) (ram : ℕ → ℕ) (cs : List Noted) (us : Uses) (c
 view-out sh ram cs us c d k v y = record { near = λ b cl dl g. y.near b cl dl (bound-out b v k g); halted = y.halted }
 
 -- the vendor grants
-
 pub view-other : (sh : Shape) (ram : ℕ → ℕ) (cs : List Noted) (us : Uses) (c d : ℕ) (v : Pair) → ViewOf sh ram cs us c d v → ViewOf sh ram cs us c d (after_other_grant v)
 unfolding holder
 view-other sh ram cs us c d v y = record { near = λ b cl dl g. y.near b cl dl (bound-other b g); halted = y.halted }

@@ -9,6 +9,7 @@ use Rattle.tcc_serial.proofs.Names.{Program, line_of, home, core_exec, core_evic
 use Rattle.tcc_serial.proofs.Names.{core_moves, dir_takes, dir_asks, step, next, recorded, UsesStand, uses_executed, views_after}
 use Rattle.tcc_serial.proofs.Names.{CarriedViews, granted_by, IsDoomed, ViewedWords, HaltedUsesNone, sent_by, ways_after}
 use Rattle.tcc_maps.specs.CacheLook.{reads_masked}
+use Rattle.tcc_serial.specs.KeepsViews.{KeepsViews}
 use Rattle.tcc_serial.proofs.Counts.StepCases.{AllPairs, given, OfAnswer, new_uses, event_cases, pairs_grant, pairs_back, pairs_vendor}
 use Rattle.tcc_serial.proofs.OneCore.CoreReadsTakes.{tid-ahead}
 use Rattle.tcc_serial.proofs.Serving.OwnerSteps.{asking-none}
@@ -19,12 +20,10 @@ use Rattle.tcc_serial.proofs.Views.ViewFacts.{IsSeen, doomed-again, uses-seen, e
 use Rattle.tcc_serial.proofs.Views.ViewFacts.{value-bounded, listed-below, word-next}
 use Rattle.tcc_serial.proofs.Views.ViewPairs.{NearAt, ViewOf, view-empty, view-moves, view-takes, view-grants, view-other, view-given}
 use Rattle.tcc_serial.proofs.Views.ViewSteps.{put-own, near-put, exec-views, evict-views}
-use Rattle.tcc_serial.specs.KeepsViews.{KeepsViews}
 
 -- What a core takes from the vendor and from directories, and what the vendor grants, leaves every core's view near.
 
 -- a grant
-
 pub grant-views : (sh : Shape) (gs : List Grant) (ys : Ways) (ram : ℕ → ℕ) (vs : Views) (h : History) → Carried sh gs ys h → AllNear sh ram h.commits vs h.world → ((c : ℕ) → (h.world.cores c).phase ≡ DoomedTid → vs c ≡ []) → (c k u : ℕ) → in_flight h.world.net Vendor (Core c) k ≡ Some (TidGrant u)
     → AllNear sh ram (and_noted (grant sh u (h.world.cores c)).commit h.commits) (put vs c (vs c)) (core_takes h.world Vendor c k (grant sh u (h.world.cores c)))
 unfolding pair
@@ -47,7 +46,6 @@ grant-views sh gs ys ram vs h y near dm c k u i = go (grant-view sh u (h.world.c
         (near-put sh ram h.commits vs h.world c (vs c) (near c) (λ j d n. near j d)))
 
 -- an invalidation that rolls nothing back dooms no use
-
 none-of : (b : Bool) → num b ≤ 0 → b ≡ false
 none-of true l = absurd (omega (arith, l))
 none-of false l = refl
@@ -88,23 +86,9 @@ spares sh gs ys h k' c d k x y m b cl dl i v g s = go m i v
 
     go : (m : Msg) → in_flight h.world.net (Dir d) (Core c) k ≡ Some m → Spares (h.world.cores c) m → passes (dooms b x) m ≡ false
     go (Inv l n u) i v = spares-inv sh gs ys h k' c d k l n u x y b cl dl i v g s
-    go TidReq i v = other TidReq refl
-    go (TidGrant u) i v = other (TidGrant u) refl
-    go (LoadReq l a) i v = other (LoadReq l a) refl
-    go (Fill l ws) i v = other (Fill l ws) refl
-    go (Skip u) i v = other (Skip u) refl
-    go (Probe u) i v = other (Probe u) refl
-    go (ProbeReply u w) i v = other (ProbeReply u w) refl
-    go (Mark l n u) i v = other (Mark l n u) refl
-    go (Commit u n) i v = other (Commit u n) refl
-    go (Abort u) i v = other (Abort u) refl
-    go (WriteBack l n ws u) i v = other (WriteBack l n ws u) refl
-    go (Flush l n ws u) i v = other (Flush l n ws u) refl
-    go (DataReq l) i v = other (DataReq l) refl
-    go (InvAck l a) i v = other (InvAck l a) refl
+    go m i v = other m refl
 
 -- a message of a directory
-
 pub back-views : (sh : Shape) (gs : List Grant) (ys : Ways) (ram : ℕ → ℕ) (vs : Views) (h : History) → Carried sh gs ys h → AllSeen vs h.world → AllNear sh ram h.commits vs h.world → ((c : ℕ) → (h.world.cores c).phase ≡ DoomedTid → vs c ≡ []) → (c d k : ℕ) (m : Msg) → in_flight h.world.net (Dir d) (Core c) k ≡ Some m
     → IfSome (from_dir sh d (h.world.cores c) m) (λ o. AllNear sh ram (and_noted o.commit h.commits) (put vs c (uses_delivered (h.world.cores c) m (vs c))) (core_takes h.world (Dir d) c k o))
 unfolding pair
@@ -144,7 +128,6 @@ back-views sh gs ys ram vs h y seen near dm c d k m i = go (from_dir sh d (h.wor
     go (Some o) a = kind o a
 
 -- the vendor grants
-
 pub vendor-views : (sh : Shape) (gs : List Grant) (ys : Ways) (ram : ℕ → ℕ) (vs : Views) (h : History) → Carried sh gs ys h → AllNear sh ram h.commits vs h.world → (c k : ℕ) → in_flight h.world.net (Core c) Vendor k ≡ Some TidReq → AllNear sh ram h.commits vs (vendor_gives h.world c k (given h.world c))
 unfolding pair
 vendor-views sh gs ys ram vs h y near c k i = pairs_vendor (λ j d v. ViewOf sh ram h.commits (vs j) j d v) h.world c k
@@ -157,7 +140,6 @@ vendor-views sh gs ys ram vs h y near c k i = pairs_vendor (λ j d v. ViewOf sh 
     one d cl dl x z (inr r) = inr (word-next sh gs ys h y c d x cl dl r)
 
 -- the list's fact from what its pairs say, and the other way
-
 from-pairs : (sh : Shape) (p : Program) (ram : ℕ → ℕ) (gs : List Grant) (ys : Ways) (vs : Views) (h : History) → Carried sh gs ys h → CarriedViews sh p vs h → AllPairs (λ c d v. ViewOf sh ram h.commits (vs c) c d v) h.world → ViewedWords sh ram h.world h.commits vs × HaltedUsesNone h.world vs
 unfolding pair
 from-pairs sh p ram gs ys vs h k q a = (viewed, λ c e. (a c 0).halted e)
@@ -166,11 +148,7 @@ from-pairs sh p ram gs ys vs h k q a = (viewed, λ c e. (a c 0).halted e)
     viewed c d b cl dl i = each-two (NearAt sh ram h.commits c d b (pair h.world c d)) (IsSeen (h.world.cores c).cache (h.world.cores c).phase) (λ x y. home sh (line_of x) ≡ d → (y ≡ value_at sh.base ram h.commits (h.world.dirs d) (Some c) b x) ⊎ IsDoomed b x (pair h.world c d)) (vs c) one ((a c d).near b cl dl i) (uses-seen (h.world.cores c).cache (h.world.cores c).phase (vs c) ((q.read_marks_are_the_view c).stand) (λ e. (a c 0).halted e))
       where
         one : (x y : ℕ) → NearAt sh ram h.commits c d b (pair h.world c d) x y → IsSeen (h.world.cores c).cache (h.world.cores c).phase x y → home sh (line_of x) ≡ d → (y ≡ value_at sh.base ram h.commits (h.world.dirs d) (Some c) b x) ⊎ IsDoomed b x (pair h.world c d)
-        one x y n s e = go (n e)
-          where
-            go : (y ≡ value_at sh.base ram h.commits (h.world.dirs d) (Some c) b x) ⊎ (1 ≤ live (dooms b x) (pair h.world c d).back) → (y ≡ value_at sh.base ram h.commits (h.world.dirs d) (Some c) b x) ⊎ IsDoomed b x (pair h.world c d)
-            go (inl r) = inl r
-            go (inr r) = inr (doomed-again sh gs ys h k c d x y b cl dl e i s r)
+        one x y n s e = elim (n e) [ inl r ↦ inl r | inr r ↦ inr (doomed-again sh gs ys h k c d x y b cl dl e i s r) ]
 
 to-pairs : (sh : Shape) (ram : ℕ → ℕ) (vs : Views) (h : History) → ViewedWords sh ram h.world h.commits vs → HaltedUsesNone h.world vs → AllPairs (λ c d v. ViewOf sh ram h.commits (vs c) c d v) h.world
 unfolding pair

@@ -36,6 +36,4 @@ by_core sh p w e L z ex ev gr ba = sent_cases sh p w e (λ x g. ByCore sh w L x)
 
     answered : (c d k : ℕ) (a : Answer) → OfAnswer w c d k (λ v. ByCore sh w L nothing (record { world = v; noted = None })) a
     answered c d k Waits = tt
-    answered c d k Drops = Still refl refl refl
-    answered c d k (Asks s sends) = Still refl refl refl
-    answered c d k (Takes s sends) = Still refl refl refl
+    answered c d k _ = Still refl refl refl

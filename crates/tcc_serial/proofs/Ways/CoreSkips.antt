@@ -87,16 +87,7 @@ tells-evict sh x y s = each-evict sh x y s (λ o. Tells sh s o) (λ k q u z. tel
 -- a granted TID is skipped where nothing is written
 skips-granted : (sh : Shape) (c : Cache) (b : Bool) (u d t : ℕ) → d < sh.dirs → skips_here (probing b u) (writes_at sh c d) t ≡ true → 1 ≤ among (Skips t) (grant_sends sh c u (Dir d))
 unfolding grant_sends among passes
-skips-granted sh c b u d t l e = go b (writes_at sh c d) (reads_at sh c d) e
-  where
-    range : nat_lt d sh.dirs ≡ true
-    range = grind (arith, nat_tests)
-
-    go : (b w r : Bool) → skips_here (probing b u) w t ≡ true → 1 ≤ among (Skips t) (if nat_lt d sh.dirs then (if not w then Skip u ∷ [] else []) ++ (if w || r then Probe u ∷ [] else []) else [])
-    go true true r e = absurd (grind arith)
-    go false true r e = absurd (grind arith)
-    go true false r e = let z : (u == t) ≡ true = grind arith in rw range (grind arith)
-    go false false r e = let z : (u == t) ≡ true = grind arith in rw range (grind arith)
+skips-granted sh c b u d t l e = grind (arith, nat_tests)
 
 pub tells-grant : (sh : Shape) (u : ℕ) (s : CoreState) → Tells sh s (grant sh u s)
 unfolding grant

@@ -47,11 +47,10 @@ solo-said sh c sp u d k a l = go (nat_lt d sh.dirs) (grind (arith, nat_tests)) (
 
 pub solo-told : (sh : Shape) (c : Cache) (sp : Spilled) (u d : ℕ) (y : Way) → d < sh.dirs → told_by (solo_sends sh c sp u (Dir d)) u y ≡ (if solo_writes_at sh c sp d then Committed else Skipped)
 unfolding passes
-solo-told sh c sp u d y l = go (solo_writes_at sh c sp d) (solo-said sh c sp u d (Skips u) (skips-apart u) l) (solo-said sh c sp u d (Aborts u) (aborts-apart u) l) (solo-said sh c sp u d (Commits u) (commits-apart u) l)
+solo-told sh c sp u d y l =
+    let n : ℕ = count_below (λ l. d == home sh l && is_written c sp l) (lines sh) in
+    go (solo_writes_at sh c sp d) (solo-said sh c sp u d (Skips u) (skips-apart u) l) (solo-said sh c sp u d (Aborts u) (aborts-apart u) l) (solo-said sh c sp u d (Commits u) (commits-apart u) l)
   where
-    n : ℕ
-    n = count_below (λ l. d == home sh l && is_written c sp l) (lines sh)
-
     ms : List Msg
     ms = solo_sends sh c sp u (Dir d)
 
@@ -65,12 +64,4 @@ solo-told sh c sp u d y l = go (solo_writes_at sh c sp d) (solo-said sh c sp u d
 -- ready: where it writes nothing it has skipped before
 pub ready-told : (sh : Shape) (c : Cache) (u d : ℕ) → d < sh.dirs → told_by (commit_sends sh c u (Dir d)) u (if writes_at sh c d then Untold else Skipped) ≡ (if writes_at sh c d then Committed else Skipped)
 unfolding commit_sends told_by among passes
-ready-told sh c u d l = go (nat_lt d sh.dirs) (grind (arith, nat_tests)) (writes_at sh c d) (count_below (λ l. d == home sh l && is_modified c l) (lines sh))
-  where
-    one : (u == u) ≡ true
-    one = grind (arith, nat_tests)
-
-    go : (a : Bool) → a ≡ true → (b : Bool) (n : ℕ) → told_by (if a then (if b then Commit u n ∷ [] else []) else []) u (if b then Untold else Skipped) ≡ (if b then Committed else Skipped)
-    go false q b n = absurd (cc)
-    go true q true n = rw one refl
-    go true q false n = refl
+ready-told sh c u d l = grind (arith, nat_tests)

@@ -60,7 +60,6 @@ stays sh w c d t ms y c' l r h n = told-none ms t y (go (among (Resolves t) ms) 
     go (suc x) e = absurd (n (untold-part sh w c d t y c' (omega (arith, l, e)) r h))
 
 -- the way of a core's TID
-
 live-cases : (q : Phase) (b : Bool) (t : ℕ) → has_tid q t ≡ true → ((opens q b t ≡ true) × (live_way q b ≡ Untold)) ⊎ ((skips_here q b t ≡ true) × (live_way q b ≡ Skipped))
 unfolding has_tid opens live_way
 live-cases (Probing u) true t h = inl (grind arith, refl)
@@ -121,7 +120,6 @@ step-live-out sh gs hs ys w cs ds x o z ow k h b z' ow' k' c d t cl dl has = go 
     go (inr a) = skipped b (a.0) ∙ sym (a.1)
 
 -- the ways of committed TIDs
-
 told-somehow : (sh : Shape) (n : Noted) (d : ℕ) (y : Way) → y ≡ commit_way sh n d → y ≡ Untold → ⊥
 told-somehow sh n d y e i = go (stores_at sh d n.stores) (sym e ∙ i)
   where
@@ -153,11 +151,7 @@ step-committed-out sh gs ys w cs x o z ow k lv h (Moved c s cl u f i n) = rw (i,
 
     stored : (m : Noted) (d : ℕ) → d < sh.dirs → (a : Option Noted) → IfSome a (TellsCommit sh (w.cores c) s) → Contains (and_noted a cs) m → told_by (s.sends (Dir d)) m.tid.0 (ys d m.tid.0) ≡ commit_way sh m d
     stored m d l None a q = before m d l q
-    stored m d l (Some b) a q = go (inserted b m cs q)
-      where
-        go : (b ≡ m) ⊎ Contains cs m → told_by (s.sends (Dir d)) m.tid.0 (ys d m.tid.0) ≡ commit_way sh m d
-        go (inl e) = now m d l (rw e at a)
-        go (inr r) = before m d l r
+    stored m d l (Some b) a q = elim (inserted b m cs q) [ inl e ↦ now m d l (rw e at a) | inr r ↦ before m d l r ]
 
     only : (d t : ℕ) → d < sh.dirs → told_by (s.sends (Dir d)) t (ys d t) ≡ Committed → 1 ≤ times t (and_noted s.commit cs)
     only d t l q = go (told-committed (s.sends (Dir d)) t (ys d t) q)

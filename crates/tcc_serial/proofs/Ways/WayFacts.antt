@@ -82,7 +82,6 @@ told_from P f sh p entries ram es = go (run sh p (start entries ram) es) (run-wa
 -- What the invariants on ways say in words.
 
 -- untold where it is open
-
 untold-at : (sh : Shape) (w : World) (d t : ℕ) (y : Way) → ResolvedAt sh w d t → WayAt sh w d t y → parts_in Untold sh w d t + num (nat_le w.next t) ≡ num (is_untold y)
 unfolding kept_in
 untold-at sh w d t Untold r h = h
@@ -134,10 +133,9 @@ kept-way sh w d t y r h k = go y h
     one = ap num k
 
     go : (y : Way) → WayAt sh w d t y → is_given_up y ≡ true
-    go Untold h = absurd (omega (arith, h, one, resolved-split sh w d t r))
     go Skipped h = refl
     go Aborted h = refl
-    go Committed h = absurd (omega (arith, h, one, resolved-split sh w d t r))
+    go _ h = absurd (omega (arith, h, one, resolved-split sh w d t r))
 
 pub passed-way : (sh : Shape) (w : World) (d t : ℕ) (y : Way) → ResolvedAt sh w d t → WayAt sh w d t y → t < (w.dirs d).serving.serving → (is_given_up y ≡ true) ⊎ ((y ≡ Committed) × (parts_in Committed sh w d t ≡ 0))
 unfolding kept_in
@@ -148,9 +146,8 @@ passed-way sh w d t y r h k = go y h
 
     go : (y : Way) → WayAt sh w d t y → (is_given_up y ≡ true) ⊎ ((y ≡ Committed) × (parts_in Committed sh w d t ≡ 0))
     go Untold h = absurd (omega (arith, h, one, resolved-split sh w d t r))
-    go Skipped h = inl refl
-    go Aborted h = inl refl
     go Committed h = inr (refl, omega (arith, h, one))
+    go _ h = inl refl
 
 owed-way : (sh : Shape) (w : World) (d t : ℕ) (y : Way) → ResolvedAt sh w d t → WayAt sh w d t y → (w.dirs d).serving.serving ≡ t → 1 ≤ (w.dirs d).owed → (y ≡ Committed) × (parts_in Committed sh w d t ≡ 0)
 unfolding kept_in
@@ -160,10 +157,8 @@ owed-way sh w d t y r h k o = go y h
     one = grind (arith, nat_tests)
 
     go : (y : Way) → WayAt sh w d t y → (y ≡ Committed) × (parts_in Committed sh w d t ≡ 0)
-    go Untold h = absurd (omega (arith, h, one, resolved-split sh w d t r))
-    go Skipped h = absurd (omega (arith, h, one, resolved-split sh w d t r))
-    go Aborted h = absurd (omega (arith, h, one, resolved-split sh w d t r))
     go Committed h = (refl, omega (arith, h, one))
+    go _ h = absurd (omega (arith, h, one, resolved-split sh w d t r))
 
 settled-way : (sh : Shape) (w : World) (d t : ℕ) → WayAt sh w d t Committed → parts_in Committed sh w d t ≡ 0 → (t < (w.dirs d).serving.serving) ⊎ (((w.dirs d).serving.serving ≡ t) × (1 ≤ (w.dirs d).owed))
 unfolding kept_in
@@ -208,7 +203,6 @@ pub all_ways_fit : AlwaysTold AllWaysFit
 all_ways_fit = told_from AllWaysFit (λ sh gs ys h k d t l p. ways-fit sh ys h.world d t (k.all.kept.told.tids.resolved d t l) (k.ways d t l p))
 
 -- given up: told, kept or passed
-
 given-split : (sh : Shape) (w : World) (d t n : ℕ) → sum_of (given_up_by t) n w d ≡ sum_of (part_in Skipped sh d t) n w d + sum_of (part_in Aborted sh d t) n w d
 unfolding total share given_up_by part_in
 given-split sh w d t zero = refl
@@ -224,7 +218,6 @@ pub given_up_once : AlwaysTold GivenUpOnce
 given_up_once = told_from GivenUpOnce (λ sh gs ys h k d t l p g. given-once sh h.world d t (ys d t) (k.all.kept.told.tids.resolved d t l) (k.ways d t l p) g)
 
 -- live TIDs
-
 live-open : (sh : Shape) (gs : List Grant) (ys : Ways) (h : History) → KeptRun sh gs ys h → LiveIsOpen sh ys h
 unfolding part_in pair holder
 live-open sh gs ys h k = record {

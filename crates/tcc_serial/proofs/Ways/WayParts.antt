@@ -5,7 +5,6 @@ use Rattle.tcc_serial.proofs.Names.{Skips, Aborts, Commits, live, among, passes,
 use Rattle.tcc_serial.proofs.Names.{Untold, Skipped, Aborted, Committed, told_by, part_in, kept_in, WayAt}
 
 -- a word on a TID is a Skip, an Abort or a Commit
-
 one-said : (t : ℕ) (m : Msg) → num (passes (Resolves t) m) ≡ num (passes (Skips t) m) + num (passes (Aborts t) m) + num (passes (Commits t) m)
 unfolding passes
 one-said t m = grind (arith, nat_tests)
@@ -83,7 +82,6 @@ told-moved sh w v d t ms y e n h r k = go (nat_lt 0 (among (Skips t) ms)) refl (
     go false p false q false o = same y (none (Skips t) p) (none (Aborts t) q) (none (Commits t) o) k
 
 -- what messages of a kind make of a way
-
 pub told-none : (ms : List Msg) (t : ℕ) (y : Way) → among (Resolves t) ms ≡ 0 → told_by ms t y ≡ y
 unfolding told_by
 told-none ms t y h =
@@ -114,18 +112,14 @@ in-way sh w d t y z r h l = go y z h l
 
     go : (y z : Way) → WayAt sh w d t y → 1 ≤ parts_in z sh w d t → y ≡ z
     go Untold Untold h l = refl
-    go Untold Skipped h l = absurd (omega (arith, h, l, was))
-    go Untold Aborted h l = absurd (omega (arith, h, l, was))
     go Untold Committed h l = absurd (omega (arith, h, l, was))
     go Skipped Untold h l = absurd (omega (arith, h, l, was))
     go Skipped Skipped h l = refl
-    go Skipped Aborted h l = absurd (omega (arith, h, l, was))
     go Skipped Committed h l = absurd (omega (arith, h, l, was))
     go Aborted Untold h l = absurd (omega (arith, h, l, was))
-    go Aborted Skipped h l = absurd (omega (arith, h, l, was))
     go Aborted Aborted h l = refl
     go Aborted Committed h l = absurd (omega (arith, h, l, was))
     go Committed Untold h l = absurd (omega (arith, h, l, was))
-    go Committed Skipped h l = absurd (omega (arith, h, l, was))
-    go Committed Aborted h l = absurd (omega (arith, h, l, was))
     go Committed Committed h l = refl
+    go _ Skipped h l = absurd (omega (arith, h, l, was))
+    go _ Aborted h l = absurd (omega (arith, h, l, was))

@@ -17,7 +17,6 @@ use Rattle.tcc_serial.proofs.Ways.DirWays.{Heard, HeardBy, heard-still, dir-hear
 use Rattle.tcc_serial.proofs.Ways.WayParts.{parts_in, resolved-split, gained, lost, told-moved, told-nothing}
 
 -- a core's step
-
 part-moved : (sh : Shape) (d t : ℕ) (v : Pair) (o : Out) → KeepsPart sh d t 0 v.core o → (z : Way) → part_in z sh d t (after_move v o d) + lost (o.sends (Dir d)) t z ≡ part_in z sh d t v + gained (o.sends (Dir d)) t z
 unfolding part_in
 part-moved sh d t v o k Untold = omega (arith, k)
@@ -132,7 +131,6 @@ way-asks sh w e s sends d t y f g h = go (cases_eq d e)
         rw b (omega (arith, sum, h, q))
 
 -- the vendor grants a TID
-
 part-next : (sh : Shape) (d t : ℕ) (v : Pair) (z : Way) → part_in z sh d t (after_other_grant v) ≡ part_in z sh d t v
 unfolding part_in
 part-next sh d t v Untold = refl
@@ -157,12 +155,9 @@ way-vendor sh w c k d t y l h = go y h
 
     go : (z : Way) → WayAt sh w d t z → WayAt sh (vendor_gives w c k (given w c)) d t z
     go Untold q = let b : num (nat_le w.next t) ≡ num (nat_le (w.next + 1) t) + num (w.next == t) = grind (arith, nat_tests) in omega (arith, q, sum Untold)
-    go Skipped q = omega (arith, q, sum Skipped)
-    go Aborted q = omega (arith, q, sum Aborted)
-    go Committed q = omega (arith, q, sum Committed)
+    go m q = omega (arith, q, sum m)
 
 -- every event
-
 pub step-ways : (sh : Shape) (p : Program) (ys : Ways) (w : World) (e : Event) → Kept sh w → KeptWays sh ys w → IfSome (step sh p w e) (λ o. KeptTold sh o.world → KeptWays sh (ways_after (sent_by sh p w e) ys) o.world)
 unfolding pair
 step-ways sh p ys w e z h = sent_cases sh p w e (λ x g o. KeptTold sh o.world → KeptWays sh (ways_after x ys) o.world)

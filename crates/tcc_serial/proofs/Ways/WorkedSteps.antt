@@ -98,11 +98,7 @@ step-later sh p w e = step_cases sh p w e (λ g o. Later w o.world)
     taken c d k (Some o) = λ e. omega arith
 
     put : (e : ℕ) (s : DirState) → (w.dirs e).serving.serving ≤ s.serving.serving → (d : ℕ) → (w.dirs d).serving.serving ≤ (if d == e then s else w.dirs d).serving.serving
-    put e s l d = go (d == e) refl
-      where
-        go : (b : Bool) → (d == e) ≡ b → (w.dirs d).serving.serving ≤ (if b then s else w.dirs d).serving.serving
-        go true q = let i : d ≡ e = grind (arith, nat_tests) in rw i l
-        go false q = omega arith
+    put e s l d = grind (arith, nat_tests)
 
     answered : (c d k : ℕ) (a : Answer) → RisesBy (w.dirs d) a → OfAnswer w c d k (λ v. Later w v) a
     answered c d k Waits r = tt
