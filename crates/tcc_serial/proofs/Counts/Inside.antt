@@ -1,15 +1,9 @@
 -- No message goes to a core that the machine doesn't have, and none of them owns a line.
 use Rattle.tcc_serial.proofs.Names.{ℕ, ◌≡◌, ◌<◌, ◌≤◌, Bool, true, false, [], ◌∷◌, ◌==◌, Some, None, nat_lt, if◌then◌else◌, arith, refl}
 use Rattle.tcc_serial.proofs.Names.{nat_tests, Lines, has_mark, Core, Msg, Fill, ProbeReply, DataReq, Shape, lines, DirState, Sends}
-use Rattle.tcc_serial.proofs.Names.{nothing, to, Answer, Waits, Drops, Asks, Takes, dir_deliver, invalidations, invs_to, is_invalidated}
-use Rattle.tcc_serial.proofs.Names.{line_words, Any, among, ◌-◌, List, ◌&&◌, ◌||◌, Option, nat_le, count_below, full, with_asked}
-use Rattle.tcc_serial.proofs.Names.{with_owner, with_sharer, with_mark, unmarked, Judgement, judge, IsTaken, IsDropped, IsEarly, TidReq}
-use Rattle.tcc_serial.proofs.Names.{TidGrant, LoadReq, Skip, Probe, Mark, Commit, Abort, WriteBack, Flush, Inv, InvAck, skipped, kept, skip}
-use Rattle.tcc_serial.proofs.Names.{abort, acknowledgement, moved_on, settled, owned, owed_by, unless_keeps, ask_owner, load_owned}
-use Rattle.tcc_serial.proofs.Names.{load_request, marking, mark_owned, mark, judged, write_back, came_home, probe}
-use Rattle.tcc_rules.specs.DirDeliver.{commit}
-use Rattle.tcc_serial.proofs.Counts.DirOutcome.{Outcome, Waiting, Spent, AsksOwner, TakesSkip, TakesAbort, TakesProbe, TakesLoad, TakesMark}
-use Rattle.tcc_serial.proofs.Counts.DirOutcome.{TakesCommit, TakesAck, TakesCopy, outcome}
+use Rattle.tcc_serial.proofs.Names.{nothing, to, Answer, Asks, Takes, dir_deliver, invalidations, invs_to, is_invalidated, line_words, Any}
+use Rattle.tcc_serial.proofs.Names.{among}
+use Rattle.tcc_serial.proofs.Counts.DirOutcome.{Outcome, Waiting, Spent, AsksOwner, TakesProbe, TakesLoad, TakesCommit, TakesCopy, outcome}
 use Rattle.tcc_serial.proofs.Counts.Links.{those-none}
 
 -- owners are cores of the machine

@@ -1,18 +1,10 @@
 -- Every event keeps that a line whose data was asked for has an owner.
-use Rattle.tcc_serial.proofs.Names.{ℕ, ◌≡◌, Bool, true, false, [], ◌==◌, Option, Some, None, IfSome, is_some, if◌then◌else◌, arith, refl}
-use Rattle.tcc_serial.proofs.Names.{nat_tests, Program, Local, has_mark, no_lines, Dir, Event, Msg, Shape, DirState, World, start}
-use Rattle.tcc_serial.proofs.Names.{dir_start, Out, core_exec, core_evict, from_dir, Answer, Waits, Drops, Asks, Takes, dir_deliver}
-use Rattle.tcc_serial.proofs.Names.{core_moves, core_takes, dir_takes, dir_asks, vendor_gives, step, Pair, pair, ◌-◌, List, ◌∷◌, ◌&&◌, ◌||◌}
-use Rattle.tcc_serial.proofs.Names.{nat_lt, nat_le, count_below, full, with_asked, with_mark, with_sharer, with_owner, unmarked, Judgement}
-use Rattle.tcc_serial.proofs.Names.{judge, IsTaken, IsDropped, IsEarly, skipped, kept, Core, TidReq, TidGrant, LoadReq, Fill, Skip, Probe}
-use Rattle.tcc_serial.proofs.Names.{ProbeReply, Mark, Commit, Abort, WriteBack, Flush, DataReq, Inv, InvAck, lines, nothing, to, skip}
-use Rattle.tcc_serial.proofs.Names.{abort, acknowledgement, moved_on, settled, owned, owed_by, invalidations, unless_keeps, ask_owner}
-use Rattle.tcc_serial.proofs.Names.{load_owned, load_request, marking, mark_owned, mark, judged, write_back, came_home, probe}
-use Rattle.tcc_rules.specs.DirDeliver.{commit}
-use Rattle.tcc_serial.proofs.Counts.DirOutcome.{Outcome, Waiting, Spent, AsksOwner, TakesSkip, TakesAbort, TakesProbe, TakesLoad, TakesMark}
-use Rattle.tcc_serial.proofs.Counts.DirOutcome.{TakesCommit, TakesAck, TakesCopy, outcome}
-use Rattle.tcc_serial.proofs.Counts.StepCases.{pairs_dir, pairs_asks, OfAnswer, step_cases, Leaves, dirs_step}
+use Rattle.tcc_serial.proofs.Names.{ℕ, ◌≡◌, Bool, true, false, ◌==◌, Some, None, IfSome, is_some, if◌then◌else◌, arith, refl, nat_tests}
+use Rattle.tcc_serial.proofs.Names.{Program, Local, has_mark, no_lines, Event, Msg, Shape, DirState, World, start, dir_start, Answer}
+use Rattle.tcc_serial.proofs.Names.{dir_deliver, step, lines}
 use Rattle.tcc_serial.specs.Asked.{AskedOwned, KeptAsked}
+use Rattle.tcc_serial.proofs.Counts.DirOutcome.{Outcome, Waiting, Spent, AsksOwner, TakesCommit, TakesCopy, outcome}
+use Rattle.tcc_serial.proofs.Counts.StepCases.{Leaves, dirs_step}
 
 dir-asked : (sh : Shape) (s : DirState) (c : ℕ) (m : Msg) → AskedOwned s → Leaves AskedOwned (dir_deliver sh s c m)
 dir-asked sh s c m h = go (outcome sh s c m)

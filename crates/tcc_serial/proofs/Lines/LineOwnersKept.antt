@@ -1,14 +1,11 @@
 -- Every event keeps that the owner of a line is the core that the line's tag was granted to.
-use Rattle.tcc_serial.proofs.Names.{Commit, ℕ, ◌≡◌, ◌≤◌, ◌⊎◌, Bool, true, false, List, [], ◌∷◌, ◌++◌, Contains, ◌==◌, Option, Some, None}
-use Rattle.tcc_serial.proofs.Names.{IfSome, if◌then◌else◌, arith, refl, ap, inl, inr, append-nil, Contains-append_left, Program, Local, num}
-use Rattle.tcc_serial.proofs.Names.{has_mark, no_lines, Core, Dir, Event, Msg, Shape, DirState, World, start, dir_start, in_flight, Out}
-use Rattle.tcc_serial.proofs.Names.{core_exec, core_evict, from_dir, Answer, Waits, Drops, Asks, Takes, dir_deliver, core_moves, core_takes}
-use Rattle.tcc_serial.proofs.Names.{dir_takes, dir_asks, vendor_gives, step, Pair, pair, KeptLineOwners, Commits, live, passes, Grant}
-use Rattle.tcc_serial.proofs.Names.{granted_by, SparesCommitter, Stepped}
-use Rattle.tcc_serial.proofs.Counts.DirOutcome.{Outcome, Waiting, Spent, AsksOwner, TakesSkip, TakesAbort, TakesProbe, TakesLoad, TakesMark}
-use Rattle.tcc_serial.proofs.Counts.DirOutcome.{TakesCommit, TakesAck, TakesCopy, outcome}
+use Rattle.tcc_serial.proofs.Names.{Commit, ℕ, ◌≡◌, Bool, true, false, List, [], ◌++◌, Contains, ◌==◌, Option, Some, None, IfSome}
+use Rattle.tcc_serial.proofs.Names.{if◌then◌else◌, arith, ap, Contains-append_left, Program, Local, num, has_mark, no_lines, Core, Dir}
+use Rattle.tcc_serial.proofs.Names.{Event, Msg, Shape, DirState, World, start, dir_start, in_flight, Answer, step, pair, KeptLineOwners}
+use Rattle.tcc_serial.proofs.Names.{Commits, passes, Grant, granted_by, SparesCommitter, Stepped}
+use Rattle.tcc_serial.proofs.Counts.DirOutcome.{Outcome, Waiting, Spent, TakesCommit, TakesCopy, outcome}
 use Rattle.tcc_serial.proofs.Counts.Links.{live-takes}
-use Rattle.tcc_serial.proofs.Counts.StepCases.{pairs_dir, pairs_asks, same, OfAnswer, step_cases, Leaves, dirs_step}
+use Rattle.tcc_serial.proofs.Counts.StepCases.{same, Leaves, dirs_step}
 
 -- the owners of one directory's lines
 abbrev LineOwners : List Grant → DirState → Type 0

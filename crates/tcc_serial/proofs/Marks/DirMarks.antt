@@ -1,12 +1,10 @@
 -- What a directory's rules do to its marks: it marks a line by the served TID, and clears all marks where it moves on; a Skip
 -- moves it on without.
 use Rattle.tcc_serial.proofs.Names.{has_mark, ℕ, ◌≡◌, ◌<◌, Bool, true, false, ◌==◌, if◌then◌else◌, arith, refl, nat_tests, advance, kept}
-use Rattle.tcc_serial.proofs.Names.{Msg, LoadReq, Skip, Probe, Mark, Abort, Shape, advance-rises, DirState, Answer, Waits, Drops, Asks}
-use Rattle.tcc_serial.proofs.Names.{Takes, dir_deliver, MarkOf, passes, num, ◌≤◌, ◌+◌, ◌⊎◌, inl, inr, ◌∙◌, EmptyMarks, cases_eq, nat_lt}
-use Rattle.tcc_serial.proofs.Names.{◌&&◌}
-use Rattle.tcc_serial.proofs.Counts.DirOutcome.{Outcome, Waiting, Spent, AsksOwner, TakesSkip, TakesAbort, TakesProbe, TakesLoad, TakesMark}
-use Rattle.tcc_serial.proofs.Counts.DirOutcome.{TakesCommit, TakesAck, TakesCopy, IsSpent, SkipPassed, AbortPassed, MarkPassed, NoneOwed}
-use Rattle.tcc_serial.proofs.Counts.DirOutcome.{CopyPassed, outcome}
+use Rattle.tcc_serial.proofs.Names.{Msg, Skip, Mark, Shape, advance-rises, DirState, Answer, Waits, Drops, Asks, Takes, dir_deliver, MarkOf}
+use Rattle.tcc_serial.proofs.Names.{passes, num, ◌≤◌, ◌+◌, ◌⊎◌, inl, inr, ◌∙◌, EmptyMarks, cases_eq, nat_lt, ◌&&◌}
+use Rattle.tcc_serial.proofs.Counts.DirOutcome.{Outcome, Waiting, Spent, AsksOwner, TakesSkip, TakesAbort, TakesMark, TakesCommit, TakesAck}
+use Rattle.tcc_serial.proofs.Counts.DirOutcome.{TakesCopy, IsSpent, MarkPassed, CopyPassed, outcome}
 
 -- a message that is no Mark
 abbrev NoMark : Msg → Type 0

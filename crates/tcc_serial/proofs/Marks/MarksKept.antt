@@ -1,23 +1,22 @@
 -- Every event keeps that the Marks of a TID are those of the lines that its core stores.
 use Rattle.tcc_serial.proofs.Names.{ℕ, ◌+◌, ◌≡◌, ◌<◌, ◌≤◌, Bool, true, false, List, ◌++◌, ◌==◌, ◌&&◌, Contains, Some, None, nat_lt, nat_le}
-use Rattle.tcc_serial.proofs.Names.{slice_index_or, if◌then◌else◌, arith, refl, ap, subst, ◌⊎◌, inl, inr, cases_eq, cases_lt, nat_tests}
-use Rattle.tcc_serial.proofs.Names.{num, has_mark, Dir, Msg, TidGrant, Mark, Skip, Shape, writes_at, DirState, Link, Out, sent_all, Grants}
-use Rattle.tcc_serial.proofs.Names.{Resolves, Marks, MarkOf, EmptyMarks, Skips, live, among, passes, marks_of, MarksOf, Grant, Pair}
-use Rattle.tcc_serial.proofs.Names.{after_move, grant_taken, has_tid, opens, not, [], ◌∷◌, slice_set, ◌∙◌, Contains-append_left, Noted}
-use Rattle.tcc_serial.proofs.Names.{Core, Vendor, CoreState, World, Phase, Running, AwaitTid, DoomedTid, Probing, Ready, Overflowing, Solo}
-use Rattle.tcc_serial.proofs.Names.{Halted, in_flight, Kind, AnyResolve, has_marked, stores_line, marked_by, KeptMarks, holder, KeptOwners}
-use Rattle.tcc_serial.proofs.Names.{pair, share, after_answer, after_grant, after_other_grant, part, handled, KeptTids, KeptTold, Option}
-use Rattle.tcc_serial.proofs.Names.{IfSome, set, append-nil, Program, Local, no_lines, TidReq, Event, start, core_start, dir_start, Sends}
-use Rattle.tcc_serial.proofs.Names.{core_exec, core_evict, from_dir, grant, Answer, Waits, Drops, Asks, Takes, dir_deliver, core_moves}
-use Rattle.tcc_serial.proofs.Names.{core_takes, dir_takes, dir_asks, step, granted_by, back_taken, Kept}
+use Rattle.tcc_serial.proofs.Names.{slice_index_or, arith, refl, ap, subst, ◌⊎◌, inl, inr, cases_eq, cases_lt, nat_tests, num, has_mark}
+use Rattle.tcc_serial.proofs.Names.{Dir, Msg, TidGrant, Mark, Skip, Shape, writes_at, DirState, Link, Out, sent_all, Grants, Resolves}
+use Rattle.tcc_serial.proofs.Names.{Marks, MarkOf, EmptyMarks, Skips, live, among, passes, marks_of, MarksOf, Grant, Pair, after_move}
+use Rattle.tcc_serial.proofs.Names.{grant_taken, has_tid, opens, not, [], ◌∷◌, slice_set, ◌∙◌, Contains-append_left, Noted, Core, Vendor}
+use Rattle.tcc_serial.proofs.Names.{CoreState, World, Phase, Probing, Ready, Overflowing, Solo, in_flight, Kind, AnyResolve, has_marked}
+use Rattle.tcc_serial.proofs.Names.{stores_line, marked_by, KeptMarks, holder, KeptOwners, pair, share, after_answer, after_grant}
+use Rattle.tcc_serial.proofs.Names.{after_other_grant, part, handled, KeptTids, KeptTold, Option, IfSome, set, append-nil, Program, Local}
+use Rattle.tcc_serial.proofs.Names.{no_lines, TidReq, Event, start, core_start, dir_start, Sends, core_exec, core_evict, from_dir, grant}
+use Rattle.tcc_serial.proofs.Names.{Answer, Waits, Drops, Asks, Takes, dir_deliver, core_moves, core_takes, dir_takes, dir_asks, step}
+use Rattle.tcc_serial.proofs.Names.{granted_by, back_taken, Kept}
 use Rattle.tcc_serial.proofs.Counts.Links.{live-sends, live-takes, live-fewer, total-le, none-taken}
 use Rattle.tcc_serial.proofs.Counts.StepCases.{same, pairs_move, pairs_grant, pairs_back, pairs_dir, pairs_asks, pairs_vendor, OfAnswer}
 use Rattle.tcc_serial.proofs.Counts.StepCases.{step_cases}
 use Rattle.tcc_serial.proofs.Marks.CoreMarking.{Marking, few, at-most-one, marking-exec, marking-evict}
 use Rattle.tcc_serial.proofs.Marks.CoreMarkingTakes.{Granting, marking-back, granting}
 use Rattle.tcc_serial.proofs.Marks.CoreMarks.{stores-writes}
-use Rattle.tcc_serial.proofs.Marks.DirMarks.{Marked, Stays, Clears, Skipped, Marks as IsMarked, MarkedBy, dir-marked, marks-grow}
-use Rattle.tcc_serial.proofs.Marks.DirMarks.{marks-count}
+use Rattle.tcc_serial.proofs.Marks.DirMarks.{Marked, Stays, MarkedBy, dir-marked, marks-grow, marks-count}
 use Rattle.tcc_serial.proofs.Serving.KeptSteps.{core_of_grant, core_of_back}
 use Rattle.tcc_serial.proofs.Serving.OwnerSteps.{grant-alone}
 use Rattle.tcc_serial.proofs.Tids.Commits.{granted-once}

@@ -1,17 +1,15 @@
 -- Every event keeps that invalidations in flight name marked lines with their masks, once each.
-use Rattle.tcc_serial.proofs.Names.{ℕ, zero, suc, ◌+◌, ◌≡◌, ◌≤◌, Bool, true, false, not, List, [], ◌∷◌, ◌==◌, ◌&&◌, Some, None, IfSome}
-use Rattle.tcc_serial.proofs.Names.{nat_lt, if◌then◌else◌, flat_map, arith, refl, ◌⊎◌, inl, inr, cases_eq, nat_tests, flat_map-append, num}
-use Rattle.tcc_serial.proofs.Names.{those, count_below, Lines, has_mark, Core, Dir, Msg, TidReq, TidGrant, LoadReq, Fill, Skip, Probe}
-use Rattle.tcc_serial.proofs.Names.{ProbeReply, Mark, Commit, Abort, WriteBack, Flush, DataReq, Inv, InvAck, Shape, home, lines, CoreState}
-use Rattle.tcc_serial.proofs.Names.{DirState, Link, to, Out, from_dir, probe_reply, fill, data_request, invalidate, Answer, Waits, Drops}
-use Rattle.tcc_serial.proofs.Names.{Asks, Takes, dir_deliver, settled, owned, owed_by, invalidations, invs_to, is_invalidated, Invs}
-use Rattle.tcc_serial.proofs.Names.{InvsAway, Acks, InvOf, InvMask, AckOf, Resolves, Commits, live, among, passes, ◌<◌, Option, set, sym}
-use Rattle.tcc_serial.proofs.Names.{ap, subst, ◌∙◌, cases_lt, Program, Local, Event, World, start, in_flight, Sends, core_exec, core_evict}
-use Rattle.tcc_serial.proofs.Names.{grant, core_moves, core_takes, dir_takes, step, MarkOf, KeptCounted, NamedOf, KeptNamed, due, Pair}
-use Rattle.tcc_serial.proofs.Names.{pair, share, after_move, grant_taken, back_taken, after_answer, Kept, KeptTold, ◌++◌, Contains}
-use Rattle.tcc_serial.proofs.Names.{append-nil, Contains-append_cases, dir_asks, Any, Grant, granted_by, SparesCommitter, out_taken}
-use Rattle.tcc_serial.proofs.Names.{handled, line_words}
-use Rattle.tcc_rules.specs.DirDeliver.{commit}
+use Rattle.tcc_serial.proofs.Names.{ℕ, zero, suc, ◌+◌, ◌≡◌, ◌≤◌, Bool, true, false, List, [], ◌∷◌, ◌==◌, ◌&&◌, Some, None, IfSome, nat_lt}
+use Rattle.tcc_serial.proofs.Names.{if◌then◌else◌, flat_map, arith, refl, ◌⊎◌, inl, inr, cases_eq, nat_tests, flat_map-append, num, those}
+use Rattle.tcc_serial.proofs.Names.{Lines, has_mark, Core, Dir, Msg, Fill, ProbeReply, Mark, Commit, DataReq, Inv, InvAck, Shape, home}
+use Rattle.tcc_serial.proofs.Names.{lines, CoreState, DirState, Link, to, Out, from_dir, probe_reply, fill, data_request, invalidate}
+use Rattle.tcc_serial.proofs.Names.{Answer, Waits, Drops, Asks, Takes, dir_deliver, settled, invalidations, invs_to, is_invalidated, Invs}
+use Rattle.tcc_serial.proofs.Names.{InvsAway, Acks, InvOf, InvMask, AckOf, Resolves, live, among, passes, ◌<◌, Option, set, sym, ap, subst}
+use Rattle.tcc_serial.proofs.Names.{◌∙◌, cases_lt, Program, Local, Event, World, start, in_flight, Sends, core_exec, core_evict, grant}
+use Rattle.tcc_serial.proofs.Names.{core_moves, core_takes, dir_takes, step, MarkOf, KeptCounted, NamedOf, KeptNamed, due, Pair, pair}
+use Rattle.tcc_serial.proofs.Names.{share, after_move, grant_taken, back_taken, after_answer, Kept, KeptTold, ◌++◌, Contains, append-nil}
+use Rattle.tcc_serial.proofs.Names.{Contains-append_cases, dir_asks, Any, Grant, granted_by, SparesCommitter, out_taken, handled}
+use Rattle.tcc_serial.proofs.Names.{line_words}
 use Rattle.tcc_serial.proofs.Counts.DirOutcome.{Outcome, Waiting, Spent, AsksOwner, TakesProbe, TakesLoad, TakesCommit, outcome, none-to}
 use Rattle.tcc_serial.proofs.Counts.DirOutcome.{among-none}
 use Rattle.tcc_serial.proofs.Counts.Links.{among-append, among-flat_map_none, live-sends, live-takes, total-le, live-fewer, none-taken}
@@ -25,7 +23,7 @@ use Rattle.tcc_serial.proofs.OneCore.CoreSteps.{fill-steady, data-steady, Invali
 use Rattle.tcc_serial.proofs.Serving.CoreDue.{Clean, clean-hurt, clean-replied, clean-steady, CleanOut, clean-exec, clean-evict}
 use Rattle.tcc_serial.proofs.Serving.CoreDue.{clean-grant}
 use Rattle.tcc_serial.proofs.Serving.DirDue.{Due, DueBy, dir-due, still-due, none-quiet}
-use Rattle.tcc_serial.proofs.Serving.DirInvs.{Quiet, SparesBy, dir-spares}
+use Rattle.tcc_serial.proofs.Serving.DirInvs.{Quiet}
 use Rattle.tcc_serial.proofs.Serving.KeptSteps.{core_of_out, once_at, marks_home, acks_owed, BackDue, back-due}
 use Rattle.tcc_serial.proofs.Tids.Commits.{only-one}
 use Rattle.tcc_serial.proofs.Tids.DirTids.{unserved}

@@ -1,18 +1,9 @@
 -- Every event keeps that a line which is marked in part has no owner.
-use Rattle.tcc_serial.proofs.Names.{ℕ, ◌-◌, ◌≡◌, Bool, true, false, [], ◌==◌, Option, Some, None, IfSome, nat_lt, if◌then◌else◌, arith}
-use Rattle.tcc_serial.proofs.Names.{refl, ◌⊎◌, inl, inr, nat_tests, Program, Local, full, no_lines, Dir, Event, Msg, Shape, DirState, World}
-use Rattle.tcc_serial.proofs.Names.{start, dir_start, Out, core_exec, core_evict, from_dir, Answer, Waits, Drops, Asks, Takes, dir_deliver}
-use Rattle.tcc_serial.proofs.Names.{owed_by, core_moves, core_takes, dir_takes, dir_asks, vendor_gives, step, Pair, pair, WhollyOrHome}
-use Rattle.tcc_serial.proofs.Names.{KeptWhole, List, ◌∷◌, ◌&&◌, ◌||◌, nat_le, count_below, has_mark, with_asked, with_mark, with_sharer}
-use Rattle.tcc_serial.proofs.Names.{with_owner, unmarked, Judgement, judge, IsTaken, IsDropped, IsEarly, skipped, kept, Core, TidReq}
-use Rattle.tcc_serial.proofs.Names.{TidGrant, LoadReq, Fill, Skip, Probe, ProbeReply, Mark, Commit, Abort, WriteBack, Flush, DataReq, Inv}
-use Rattle.tcc_serial.proofs.Names.{InvAck, lines, nothing, to, skip, abort, acknowledgement, moved_on, settled, owned, invalidations}
-use Rattle.tcc_serial.proofs.Names.{unless_keeps, ask_owner, load_owned, load_request, marking, mark_owned, mark, judged, write_back}
-use Rattle.tcc_serial.proofs.Names.{came_home, probe}
-use Rattle.tcc_rules.specs.DirDeliver.{commit}
-use Rattle.tcc_serial.proofs.Counts.DirOutcome.{Outcome, Waiting, Spent, AsksOwner, TakesSkip, TakesAbort, TakesProbe, TakesLoad, TakesMark}
-use Rattle.tcc_serial.proofs.Counts.DirOutcome.{TakesCommit, TakesAck, TakesCopy, outcome}
-use Rattle.tcc_serial.proofs.Counts.StepCases.{pairs_dir, pairs_asks, OfAnswer, step_cases, Leaves, dirs_step}
+use Rattle.tcc_serial.proofs.Names.{ℕ, ◌-◌, ◌≡◌, Bool, true, false, ◌==◌, None, IfSome, nat_lt, if◌then◌else◌, arith, refl, ◌⊎◌, inl, inr}
+use Rattle.tcc_serial.proofs.Names.{nat_tests, Program, Local, full, no_lines, Event, Msg, Shape, DirState, World, start, dir_start, Answer}
+use Rattle.tcc_serial.proofs.Names.{dir_deliver, owed_by, step, WhollyOrHome, KeptWhole, lines, settled, mark}
+use Rattle.tcc_serial.proofs.Counts.DirOutcome.{Outcome, Waiting, Spent, TakesAbort, TakesMark, TakesCommit, TakesAck, TakesCopy, outcome}
+use Rattle.tcc_serial.proofs.Counts.StepCases.{Leaves, dirs_step}
 
 dir-whole : (sh : Shape) (s : DirState) (c : ℕ) (m : Msg) → WhollyOrHome s → Leaves WhollyOrHome (dir_deliver sh s c m)
 dir-whole sh s c m h = go (outcome sh s c m)

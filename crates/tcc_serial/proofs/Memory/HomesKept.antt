@@ -1,13 +1,13 @@
 -- Every event keeps that records and messages are at home.
-use Rattle.tcc_serial.proofs.Names.{ℕ, ◌%◌, ◌≡◌, ◌<◌, ◌⊎◌, Bool, true, false, not, List, [], ◌∷◌, ◌++◌, ◌==◌, ◌&&◌, Option, Some, None}
-use Rattle.tcc_serial.proofs.Names.{IfSome, nat_lt, if◌then◌else◌, arith, refl, ap, inl, inr, cases_eq, nat_tests, Program, Local, num}
-use Rattle.tcc_serial.proofs.Names.{Lines, has_mark, no_lines, Core, Dir, Event, Msg, Fill, ProbeReply, DataReq, Inv, Shape, home, lines}
-use Rattle.tcc_serial.proofs.Names.{DirState, World, start, dir_start, in_flight, sent_all, Out, core_exec, core_evict, from_dir, grant}
-use Rattle.tcc_serial.proofs.Names.{Sends, nothing, to, Answer, Waits, Drops, Asks, Takes, dir_deliver, invalidations, is_invalidated}
-use Rattle.tcc_serial.proofs.Names.{invs_to, line_words, core_moves, core_takes, dir_takes, step, IsUnknown, HomeOf, KeptHomes, LinesAway}
-use Rattle.tcc_serial.proofs.Names.{NoWord, live, among, passes, Kept, Pair, pair, after_answer, out_taken}
-use Rattle.tcc_serial.proofs.Counts.DirOutcome.{Outcome, Waiting, Spent, AsksOwner, TakesSkip, TakesAbort, TakesProbe, TakesLoad, TakesMark}
-use Rattle.tcc_serial.proofs.Counts.DirOutcome.{TakesCommit, TakesAck, TakesCopy, Wants, ToLoad, ToMark, outcome}
+use Rattle.tcc_serial.proofs.Names.{ℕ, ◌%◌, ◌≡◌, ◌<◌, Bool, true, false, not, List, [], ◌∷◌, ◌++◌, ◌==◌, ◌&&◌, Option, Some, None, IfSome}
+use Rattle.tcc_serial.proofs.Names.{nat_lt, if◌then◌else◌, arith, refl, inl, inr, cases_eq, nat_tests, Program, Local, num, Lines, has_mark}
+use Rattle.tcc_serial.proofs.Names.{no_lines, Core, Dir, Event, Msg, Fill, ProbeReply, DataReq, Inv, Shape, home, lines, DirState, World}
+use Rattle.tcc_serial.proofs.Names.{start, dir_start, in_flight, sent_all, Out, core_exec, core_evict, from_dir, grant, Sends, nothing, to}
+use Rattle.tcc_serial.proofs.Names.{Answer, Waits, Drops, Asks, Takes, dir_deliver, invalidations, is_invalidated, invs_to, line_words}
+use Rattle.tcc_serial.proofs.Names.{core_moves, core_takes, dir_takes, step, IsUnknown, HomeOf, KeptHomes, LinesAway, NoWord, live, among}
+use Rattle.tcc_serial.proofs.Names.{passes, Kept, Pair, pair, after_answer, out_taken}
+use Rattle.tcc_serial.proofs.Counts.DirOutcome.{Outcome, AsksOwner, TakesSkip, TakesAbort, TakesProbe, TakesLoad, TakesMark, TakesCommit}
+use Rattle.tcc_serial.proofs.Counts.DirOutcome.{TakesAck, TakesCopy, Wants, ToLoad, ToMark, outcome}
 use Rattle.tcc_serial.proofs.Counts.Links.{live-sends, live-takes, none-taken}
 use Rattle.tcc_serial.proofs.Counts.StepCases.{pairs_move, pairs_grant, pairs_back, pairs_dir, pairs_asks, pairs_vendor, OfAnswer}
 use Rattle.tcc_serial.proofs.Counts.StepCases.{step_cases}
@@ -15,7 +15,6 @@ use Rattle.tcc_serial.proofs.Memory.CoreHomes.{Homely, HomelyOut, homely-none, h
 use Rattle.tcc_serial.proofs.Memory.CoreHomes.{homes-back}
 use Rattle.tcc_serial.proofs.Serving.DirDue.{at-home}
 use Rattle.tcc_serial.proofs.Serving.KeptSteps.{core_of_out}
-use Rattle.tcc_serial.proofs.Tids.TidSteps.{live-some}
 
 -- what a directory knows is of lines at home there, and of cores that the machine has
 pub record LinesHome (sh : Shape) (d : ℕ) (ls : Lines) : Type 0 where

@@ -4,15 +4,10 @@ use Rattle.tcc_serial.proofs.Names.{if◌then◌else◌, flat_map, arith, refl, 
 use Rattle.tcc_serial.proofs.Names.{those, Lines, has_mark, advance, kept, Core, Msg, Fill, Skip, ProbeReply, Commit, Abort, DataReq, Inv}
 use Rattle.tcc_serial.proofs.Names.{Shape, home, lines, DirState, Sends, nothing, total, Answer, Waits, Drops, Asks, Takes, dir_deliver}
 use Rattle.tcc_serial.proofs.Names.{owed_by, invalidations, invs_to, is_invalidated, line_words, Invs, InvsNot, InvsAway, Acks, MarksAway}
-use Rattle.tcc_serial.proofs.Names.{Resolves, among, passes, ◌&&◌, ◌||◌, Option, Some, None, nat_le, ◌∙◌, full, with_asked, with_owner}
-use Rattle.tcc_serial.proofs.Names.{with_sharer, with_mark, unmarked, Judgement, judge, IsTaken, IsDropped, IsEarly, skipped, TidReq}
-use Rattle.tcc_serial.proofs.Names.{TidGrant, LoadReq, Probe, Mark, WriteBack, Flush, InvAck, to, skip, abort, acknowledgement, moved_on}
-use Rattle.tcc_serial.proofs.Names.{settled, owned, unless_keeps, ask_owner, load_owned, load_request, marking, mark_owned, mark, judged}
-use Rattle.tcc_serial.proofs.Names.{write_back, came_home, probe}
-use Rattle.tcc_rules.specs.DirDeliver.{commit}
+use Rattle.tcc_serial.proofs.Names.{Resolves, among, passes, to, acknowledgement, settled, mark}
 use Rattle.tcc_serial.proofs.Counts.DirOutcome.{Outcome, Waiting, Spent, AsksOwner, TakesSkip, TakesAbort, TakesProbe, TakesLoad, TakesMark}
-use Rattle.tcc_serial.proofs.Counts.DirOutcome.{TakesCommit, TakesAck, TakesCopy, IsSpent, SkipPassed, AbortPassed, MarkPassed, NoneOwed}
-use Rattle.tcc_serial.proofs.Counts.DirOutcome.{CopyPassed, outcome, among-none, none-to}
+use Rattle.tcc_serial.proofs.Counts.DirOutcome.{TakesCommit, TakesAck, TakesCopy, IsSpent, NoneOwed, CopyPassed, outcome, among-none}
+use Rattle.tcc_serial.proofs.Counts.DirOutcome.{none-to}
 use Rattle.tcc_serial.proofs.Counts.Links.{among-append, total-zero, total-same, among-fewer, among-flat_map_none}
 use Rattle.tcc_serial.proofs.Counts.StepCases.{same}
 use Rattle.tcc_serial.proofs.Serving.CoreDue.{among-those_none}

@@ -1,12 +1,12 @@
 -- What each of a core's rules says of its TID: where it goes on with it, it has skipped it at directories where it writes nothing;
 -- and where it commits, it has spoken at each directory.
-use Rattle.tcc_serial.proofs.Names.{ℕ, ◌≡◌, ◌<◌, ◌≤◌, Bool, true, false, not, [], ◌∷◌, ◌++◌, ◌==◌, ◌&&◌, ◌||◌, Some, None, IfSome, nat_lt}
-use Rattle.tcc_serial.proofs.Names.{if◌then◌else◌, arith, refl, sym, ◌⊎◌, inl, inr, nat_tests, Noted, Program, Outcome, Goes, any_below}
-use Rattle.tcc_serial.proofs.Names.{Dir, Msg, Fill, Skip, Probe, ProbeReply, DataReq, Inv, Shape, Cache, writes_at, reads_at, CoreState}
-use Rattle.tcc_serial.proofs.Names.{Phase, Running, AwaitTid, DoomedTid, Probing, Ready, Overflowing, Solo, Halted, Out, commit}
-use Rattle.tcc_serial.proofs.Names.{committed_core, noted, phase_after, core_exec, core_evict, grant, grant_phase, grant_sends, from_dir}
-use Rattle.tcc_serial.proofs.Names.{probing, is_probed, probe_reply, ignored, all_replied, fill, data_request, invalidate, put, Skips}
-use Rattle.tcc_serial.proofs.Names.{among, passes, Words, OneCore, has_tid, Untold, told_by, live_way, commit_way, has}
+use Rattle.tcc_serial.proofs.Names.{ℕ, ◌≡◌, ◌<◌, ◌≤◌, Bool, true, false, not, [], ◌==◌, ◌&&◌, Some, None, IfSome, if◌then◌else◌, arith}
+use Rattle.tcc_serial.proofs.Names.{refl, sym, ◌⊎◌, inl, inr, nat_tests, Noted, Program, Outcome, Goes, any_below, Dir, Msg, Fill}
+use Rattle.tcc_serial.proofs.Names.{ProbeReply, DataReq, Inv, Shape, Cache, writes_at, CoreState, Phase, Running, AwaitTid, DoomedTid}
+use Rattle.tcc_serial.proofs.Names.{Probing, Ready, Overflowing, Solo, Out, commit, committed_core, noted, phase_after, core_exec}
+use Rattle.tcc_serial.proofs.Names.{core_evict, grant, grant_phase, grant_sends, from_dir, probing, is_probed, probe_reply, ignored}
+use Rattle.tcc_serial.proofs.Names.{all_replied, fill, data_request, invalidate, put, Skips, among, passes, Words, OneCore, has_tid, Untold}
+use Rattle.tcc_serial.proofs.Names.{told_by, live_way, commit_way, has}
 use Rattle.tcc_serial.proofs.OneCore.Executes.{Steady, Executed, Goes_on, Overflows, Asks_tid, Alone, did-executed}
 use Rattle.tcc_serial.proofs.OneCore.CoreSteps.{ignored-steady, fill-steady, data-steady, Hurt, Unhurt, Rolled, Doomed, Aborted, Gave_up}
 use Rattle.tcc_serial.proofs.OneCore.CoreSteps.{Invalidated, invalidate-cases, Replied, Ignored, Probed, Left_alone, reply-cases}
