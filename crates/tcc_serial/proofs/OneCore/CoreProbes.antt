@@ -92,12 +92,7 @@ asked-grant sh u d x s h = go s.phase
     go AwaitTid = probed (any_below (is_probed sh s.cache) sh.dirs) refl
     go DoomedTid = none-asked sh d x _ Running refl (λ b. refl) refl
     go (Overflowing None) = record { reached = λ l a o. absurd (grind (arith, nat_tests)); replied = λ l m. absurd (cc) }
-    go (Overflowing (Some v)) = h
-    go Running = h
-    go (Probing v) = h
-    go (Ready v) = h
-    go (Solo v) = h
-    go Halted = h
+    go _ = h
 
 -- a reply of a directory that has reached the TID
 

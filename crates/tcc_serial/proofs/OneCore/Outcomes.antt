@@ -435,13 +435,7 @@ each-back sh e s P k m = go m
         over true true h o = alone (grind (arith, nat_tests)) o (all_replied sh (put s.owing e false)) refl
         over true false h o = k (Ignores_reply u v (λ x. o))
         over false b h o = k (Ignores_reply u v (λ x. absurd (unexpected u s.phase (Overflowing (Some t)) g h x)))
-    reply u v (Overflowing None) g = k (Ignores_reply u v (λ x. absurd (unexpected u s.phase _ g refl x)))
-    reply u v Running g = k (Ignores_reply u v (λ x. absurd (unexpected u s.phase _ g refl x)))
-    reply u v AwaitTid g = k (Ignores_reply u v (λ x. absurd (unexpected u s.phase _ g refl x)))
-    reply u v DoomedTid g = k (Ignores_reply u v (λ x. absurd (unexpected u s.phase _ g refl x)))
-    reply u v (Ready t) g = k (Ignores_reply u v (λ x. absurd (unexpected u s.phase _ g refl x)))
-    reply u v (Solo t) g = k (Ignores_reply u v (λ x. absurd (unexpected u s.phase _ g refl x)))
-    reply u v Halted g = k (Ignores_reply u v (λ x. absurd (unexpected u s.phase _ g refl x)))
+    reply u v _ g = k (Ignores_reply u v (λ x. absurd (unexpected u s.phase _ g refl x)))
 
     fills : (l : ℕ) (ws : List ℕ) (a : Option Awaited) → s.awaited ≡ a → P (Fill l ws) (fill_awaited l ws s a)
     fills l ws None q = k (Ignores_fill l ws (rw q refl))

@@ -147,12 +147,7 @@ clean-grant sh u s = go s.phase
     go AwaitTid = clean-grants sh s.cache u
     go DoomedTid = clean-skip sh u
     go (Overflowing None) = clean-probe sh u
-    go (Overflowing (Some v)) = still
-    go Running = still
-    go (Probing v) = still
-    go (Ready v) = still
-    go (Solo v) = still
-    go Halted = still
+    go _ = still
 
 pub clean-replied : (sh : Shape) (e u : ℕ) (s : CoreState) (o : Out) → Replied sh e u s o → CleanOut sh o
 clean-replied sh e u s o (Ignored q n) = rw q (clean-steady sh s (ignored s) (ignored-steady s))

@@ -100,12 +100,7 @@ owing-grant sh t s h = go s.phase refl
     go AwaitTid e = probed (any_below (is_probed sh s.cache) sh.dirs) refl
     go DoomedTid e = still-none sh s (record s { phase = Running }) DoomedTid Running e refl refl refl refl h
     go (Overflowing None) e = every
-    go (Overflowing (Some u)) e = h
-    go Running e = h
-    go (Probing u) e = h
-    go (Ready u) e = h
-    go (Solo u) e = h
-    go Halted e = h
+    go _ e = h
 
 -- a directory has replied
 
@@ -181,9 +176,7 @@ step-owing sh p w e k = step_cases sh p w e (λ g o. KeptOwing sh o.world)
 
     answered : (c d i : ℕ) (a : Answer) → OfAnswer w c d i (λ v. KeptOwing sh v) a
     answered c d i Waits = tt
-    answered c d i Drops = k
-    answered c d i (Asks s sends) = k
-    answered c d i (Takes s sends) = k
+    answered c d i _ = k
 
 pub start-owing : (sh : Shape) (entries : ℕ → Local) (ram : ℕ → ℕ) → KeptOwing sh (start entries ram)
 unfolding start core_start

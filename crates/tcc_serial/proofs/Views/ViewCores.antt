@@ -107,12 +107,7 @@ grant-view sh u s us w dm = go s.phase refl w
     go AwaitTid e w = (refl, inr (λ t. rw (e, tid-probing (any_below (is_probed sh s.cache) sh.dirs) u t) (omega arith), unhalted (any_below (is_probed sh s.cache) sh.dirs)))
     go DoomedTid e w = (refl, inl (dm e))
     go (Overflowing None) e w = (refl, inr (λ t. rw e (omega arith), λ q. absurd (cc)))
-    go (Overflowing (Some t)) e w = absurd (cc)
-    go Running e w = absurd (cc)
-    go (Probing t) e w = absurd (cc)
-    go (Ready t) e w = absurd (cc)
-    go (Solo t) e w = absurd (cc)
-    go Halted e w = absurd (cc)
+    go _ e w = absurd (cc)
 
 -- messages of directories
 
