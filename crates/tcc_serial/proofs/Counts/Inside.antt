@@ -41,20 +41,12 @@ invalidations-inside sh ls c t j l =
 pub dir-inside : (sh : Shape) (s : DirState) (c : ℕ) (m : Msg) → c < sh.cores → OwnersInside sh s → AnswersInside sh (dir_deliver sh s c m)
 dir-inside sh s c m l h = go (outcome sh s c m)
   where
-    taken : (x o : ℕ) (b : Bool) → (if b then Some c else s.lines.owner x) ≡ Some o → o < sh.cores
-    taken x o true e = let q : c ≡ o = cc in omega arith
-    taken x o false e = h x o e
-
-    came : (x o : ℕ) (b : Bool) → (if b then None else s.lines.owner x) ≡ Some o → o < sh.cores
-    came x o true e = absurd (cc)
-    came x o false e = h x o e
-
     go : {m : Msg} {a : Answer} → Outcome sh s c m a → AnswersInside sh a
     go (Waiting m) = tt
     go (Spent m i) = tt
     go (AsksOwner m k o w e) = (to-inside sh o (DataReq k) (h k o e), h)
     go (TakesProbe t i) = (to-inside sh c (ProbeReply t s.serving.serving) l, h)
     go (TakesLoad k x i e o) = (to-inside sh c (Fill k (line_words s k)) l, h)
-    go (TakesCommit b e) = (invalidations-inside sh s.lines c s.serving.serving, λ x o q. taken x o (has_mark s.lines x) q)
-    go (TakesCopy m k n ws g y e o) = (quiet-inside sh, λ x o q. came x o (x == k) q)
+    go (TakesCommit b e) = (invalidations-inside sh s.lines c s.serving.serving, λ x o q. grind (arith, nat_tests, h x o))
+    go (TakesCopy m k n ws g y e o) = (quiet-inside sh, λ x o q. grind (arith, nat_tests, h x o))
     go _ = (quiet-inside sh, h)

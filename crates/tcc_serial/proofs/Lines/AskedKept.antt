@@ -9,24 +9,12 @@ use Rattle.tcc_serial.proofs.Counts.StepCases.{Leaves, dirs_step}
 dir-asked : (sh : Shape) (s : DirState) (c : ℕ) (m : Msg) → AskedOwned s → Leaves AskedOwned (dir_deliver sh s c m)
 dir-asked sh s c m h = go (outcome sh s c m)
   where
-    asked : (l o : ℕ) → s.lines.owner l ≡ Some o → (x : ℕ) (b : Bool) → (x == l) ≡ b → (if b then true else s.lines.asked x) ≡ true → is_some (s.lines.owner x) ≡ true
-    asked l o e x true q a = let y : x ≡ l = grind (arith, nat_tests) in rw (y, e) refl
-    asked l o e x false q a = h x a
-
-    taken : (x : ℕ) (b : Bool) → (if b then false else s.lines.asked x) ≡ true → is_some (if b then Some c else s.lines.owner x) ≡ true
-    taken x true a = refl
-    taken x false a = h x a
-
-    came : (x : ℕ) (b : Bool) → (if b then false else s.lines.asked x) ≡ true → is_some (if b then None else s.lines.owner x) ≡ true
-    came x true a = absurd (cc)
-    came x false a = h x a
-
     go : {m : Msg} {a : Answer} → Outcome sh s c m a → Leaves AskedOwned a
     go (Waiting m) = tt
     go (Spent m i) = tt
-    go (AsksOwner m l o w e) = λ x a. asked l o e x (x == l) refl a
-    go (TakesCommit b e) = λ x a. taken x (has_mark s.lines x) a
-    go (TakesCopy m l k ws g y e o) = λ x a. came x (x == l) a
+    go (AsksOwner m l o w e) = λ x a. grind (arith, nat_tests, e, h x)
+    go (TakesCommit b e) = λ x a. grind (arith, nat_tests, h x)
+    go (TakesCopy m l k ws g y e o) = λ x a. grind (arith, nat_tests, h x)
     go _ = h
 
 pub step-asked : (sh : Shape) (p : Program) (w : World) (e : Event) → KeptAsked sh w → IfSome (step sh p w e) (λ o. KeptAsked sh o.world)

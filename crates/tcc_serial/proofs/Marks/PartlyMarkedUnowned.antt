@@ -8,32 +8,14 @@ use Rattle.tcc_serial.proofs.Counts.StepCases.{Leaves, dirs_step}
 dir-whole : (sh : Shape) (s : DirState) (c : ℕ) (m : Msg) → WhollyOrHome s → Leaves WhollyOrHome (dir_deliver sh s c m)
 dir-whole sh s c m h = go (outcome sh s c m)
   where
-    unmarks : (x : ℕ) (b : Bool) → s.owed ≡ 0 → nat_lt 0 (if b then 0 else s.lines.mark x) ≡ true → ((if b then 0 else s.lines.mark x) ≡ full) ⊎ (s.lines.owner x ≡ None)
-    unmarks x true o n = absurd (cc)
-    unmarks x false o n = h x o n
-
-    marks : (l k : ℕ) → (k ≡ full) ⊎ (s.lines.owner l ≡ None) → (x : ℕ) (b : Bool) → (x == l) ≡ b → s.owed ≡ 0 → nat_lt 0 (if b then k else s.lines.mark x) ≡ true → ((if b then k else s.lines.mark x) ≡ full) ⊎ (s.lines.owner x ≡ None)
-    marks l k (inl e) x true q o n = inl e
-    marks l k (inr e) x true q o n = let i : x ≡ l = grind (arith, nat_tests) in inr (rw i e)
-    marks l k i x false q o n = h x o n
-
-    -- something is owed, or all marks are cleared
-    settled : {A : Type 0} (x n : ℕ) (b : Bool) → (n == 0) ≡ b → n ≡ 0 → nat_lt 0 (if b then 0 else s.lines.mark x) ≡ true → A
-    settled x n true e z q = absurd (cc)
-    settled x n false e z q = absurd (grind (arith, nat_tests))
-
-    came : (x : ℕ) (b : Bool) → (s.lines.mark x ≡ full) ⊎ (s.lines.owner x ≡ None) → (s.lines.mark x ≡ full) ⊎ ((if b then None else s.lines.owner x) ≡ None)
-    came x true i = inr refl
-    came x false i = i
-
     go : {m : Msg} {a : Answer} → Outcome sh s c m a → Leaves WhollyOrHome a
     go (Waiting m) = tt
     go (Spent m i) = tt
-    go (TakesAbort u b e i) = λ x o n. unmarks x b o n
-    go (TakesMark l k i) = λ x o n. marks l k i x (x == l) refl o n
-    go (TakesCommit b e) = λ x o n. settled x (owed_by sh s.lines c) b e o n
-    go (TakesAck l k b i e) = λ x o n. settled x (s.owed - 1) b e o n
-    go (TakesCopy m l k ws g y e o) = λ x o n. came x (x == l) (h x o n)
+    go (TakesAbort u b e i) = λ x o n. grind (arith, nat_tests, h x)
+    go (TakesMark l k i) = λ x o n. grind (arith, nat_tests, h x, i)
+    go (TakesCommit b e) = λ x o n. grind (arith, nat_tests, e)
+    go (TakesAck l k b i e) = λ x o n. grind (arith, nat_tests, e)
+    go (TakesCopy m l k ws g y e o) = λ x o n. grind (arith, nat_tests, h x)
     go _ = h
 
 pub step-whole : (sh : Shape) (p : Program) (w : World) (e : Event) → KeptWhole sh w → IfSome (step sh p w e) (λ o. KeptWhole sh o.world)

@@ -75,27 +75,6 @@ dir-homes sh d s c m cl aw h = go (outcome sh s c m) aw
     wants {l = l} (ToLoad x) a = at-home (home sh l) d a
     wants {l = l} (ToMark k) a = at-home (home sh l) d a
 
-    either-way : {A : Type 0} (b : Bool) (x y z : A) → x ≡ z → y ≡ z → (if b then x else y) ≡ z
-    either-way true x y z p q = p
-    either-way false x y z p q = q
-
-    shared : (x j : ℕ) (a b : Bool) → (j == c) ≡ b → (if a && b then true else s.lines.sharers x j) ≡ true → j < sh.cores
-    shared x j true true q o = let y : j ≡ c = grind (arith, nat_tests) in rw y cl
-    shared x j true false q o = h.sharers x j o
-    shared x j false b q o = h.sharers x j o
-
-    fewer : (x j : ℕ) (a : Bool) → (if a then false else s.lines.sharers x j) ≡ true → j < sh.cores
-    fewer x j true o = absurd (cc)
-    fewer x j false o = h.sharers x j o
-
-    owns : (x j : ℕ) (a : Bool) → (if a then Some c else s.lines.owner x) ≡ Some j → j < sh.cores
-    owns x j true o = let y : c ≡ j = cc in rw (← y) cl
-    owns x j false o = h.owners x j o
-
-    less : (x j : ℕ) (a : Bool) → (if a then None else s.lines.owner x) ≡ Some j → j < sh.cores
-    less x j true o = absurd (cc)
-    less x j false o = h.owners x j o
-
     marked : (a m b e : Bool) → (a && m && b && e) ≡ true → m ≡ true
     marked true true b e q = refl
     marked true false b e q = absurd (cc)
@@ -110,30 +89,30 @@ dir-homes sh d s c m cl aw h = go (outcome sh s c m) aw
       homely = λ j. one-to sh d o j (DataReq l) (one-data sh d l p);
     }
     go (TakesSkip u b e i) a = quietly sh d _ h
-    go (TakesAbort v b e i) a = quietly sh d _ (record { known = λ x n. let u = h.known x n in record { sharers = u.sharers; owner = u.owner; tag = u.tag; asked = u.asked; mark = either-way b 0 (s.lines.mark x) 0 refl u.mark }; sharers = h.sharers; owners = h.owners })
+    go (TakesAbort v b e i) a = quietly sh d _ (record { known = λ x n. let u = h.known x n in record { sharers = u.sharers; owner = u.owner; tag = u.tag; asked = u.asked; mark = grind (arith, nat_tests, u.mark) }; sharers = h.sharers; owners = h.owners })
     go (TakesProbe t i) a = record { lines = h; homely = λ j. one-to sh d c j (ProbeReply t s.serving.serving) (one-reply sh d t s.serving.serving) }
     go (TakesLoad l k i e o) a = let p = at-home (home sh l) d a in record {
-      lines = record { known = λ x n. let u = h.known x n in record { sharers = λ j. rw (other sh d l x p n) (u.sharers j); owner = u.owner; tag = u.tag; asked = u.asked; mark = u.mark }; sharers = λ x j q. shared x j (x == l) (j == c) refl q; owners = h.owners };
+      lines = record { known = λ x n. let u = h.known x n in record { sharers = λ j. rw (other sh d l x p n) (u.sharers j); owner = u.owner; tag = u.tag; asked = u.asked; mark = u.mark }; sharers = λ x j q. grind (arith, nat_tests, h.sharers x j, cl); owners = h.owners };
       homely = λ j. one-to sh d c j (Fill l (line_words s l)) (one-fill sh d l (line_words s l) p);
     }
     go (TakesMark l k i) a = let p = at-home (home sh l) d a in quietly sh d _ (record { known = λ x n. let u = h.known x n in record { sharers = u.sharers; owner = u.owner; tag = u.tag; asked = u.asked; mark = rw (other sh d l x p n) u.mark }; sharers = h.sharers; owners = h.owners })
     go (TakesCommit b e) a = record {
       lines = record {
-        known = λ x n. let z = unmarked-away sh d x s.lines h n in let u = h.known x n in record { sharers = λ j. rw z (u.sharers j); owner = rw z u.owner; tag = rw z u.tag; asked = rw z u.asked; mark = either-way b 0 (s.lines.mark x) 0 refl u.mark };
-        sharers = λ x j q. shared x j (has_mark s.lines x) (j == c) refl q;
-        owners = λ x j q. owns x j (has_mark s.lines x) q;
+        known = λ x n. let z = unmarked-away sh d x s.lines h n in let u = h.known x n in record { sharers = λ j. rw z (u.sharers j); owner = rw z u.owner; tag = rw z u.tag; asked = rw z u.asked; mark = grind (arith, nat_tests, u.mark) };
+        sharers = λ x j q. grind (arith, nat_tests, h.sharers x j, cl);
+        owners = λ x j q. grind (arith, nat_tests, h.owners x j, cl);
       };
       homely = λ j. homely-those sh d (λ l. Inv l (s.lines.mark l) s.serving.serving ∷ []) (is_invalidated sh s.lines c j) (lines sh) (λ l q. inv j l q);
     }
     go (TakesAck l k b i e) a = quietly sh d _ (record {
-      known = λ x n. let u = h.known x n in record { sharers = λ j. either-way (not k && x == l && j == c) false (s.lines.sharers x j) false refl (u.sharers j); owner = u.owner; tag = u.tag; asked = u.asked; mark = either-way b 0 (s.lines.mark x) 0 refl u.mark };
-      sharers = λ x j q. fewer x j (not k && x == l && j == c) q;
+      known = λ x n. let u = h.known x n in record { sharers = λ j. grind (arith, nat_tests, u.sharers j); owner = u.owner; tag = u.tag; asked = u.asked; mark = grind (arith, nat_tests, u.mark) };
+      sharers = λ x j q. grind (arith, nat_tests, h.sharers x j);
       owners = h.owners;
     })
     go (TakesCopy m l k ws g y e o) a = quietly sh d _ (record {
-      known = λ x n. let u = h.known x n in record { sharers = u.sharers; owner = either-way (x == l) None (s.lines.owner x) None refl u.owner; tag = u.tag; asked = either-way (x == l) false (s.lines.asked x) false refl u.asked; mark = u.mark };
+      known = λ x n. let u = h.known x n in record { sharers = u.sharers; owner = grind (arith, nat_tests, u.owner); tag = u.tag; asked = grind (arith, nat_tests, u.asked); mark = u.mark };
       sharers = h.sharers;
-      owners = λ x j q. less x j (x == l) q;
+      owners = λ x j q. grind (arith, nat_tests, h.owners x j);
     })
     go _ a = tt
 
