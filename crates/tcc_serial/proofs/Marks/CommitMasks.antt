@@ -1,27 +1,24 @@
 -- What a core has marked, or marks, by a TID that it commits is what the commit stored.
 use Rattle.tcc_serial.proofs.Names.{ℕ, ◌+◌, ◌≡◌, ◌≤◌, Bool, true, false, not, List, [], ◌∷◌, ◌++◌, ◌==◌, ◌&&◌, Some, IfSome, nat_lt}
 use Rattle.tcc_serial.proofs.Names.{if◌then◌else◌, flat_map, arith, refl, sym, ap, ◌∙◌, ◌⊎◌, inl, inr, nat_tests, Noted, Program, num}
-use Rattle.tcc_serial.proofs.Names.{those, any_below, count_below, Dir, Msg, Skip, Mark, Commit, WriteBack, ProbeReply, Fill, DataReq}
-use Rattle.tcc_serial.proofs.Names.{Inv, Shape, home, lines, Cache, is_modified, modified_mask, writes_at, Spilled, holds, spilled_mask}
-use Rattle.tcc_serial.proofs.Names.{spilled_words, CoreState, Phase, Ready, Solo, Out, noted, commit, commit_sends, solo_sends}
-use Rattle.tcc_serial.proofs.Names.{solo_marks, solo_backs, solo_writes_at, is_written, written_mask, core_exec, core_evict, from_dir}
-use Rattle.tcc_serial.proofs.Names.{probe_reply, fill, data_request, invalidate, Commits, AnyCommit, CommitOf, MarkOf, MarkMask, among}
-use Rattle.tcc_serial.proofs.Names.{passes, has_marked, stores_line, marked_by, OneCore, stores_in, stored_mask, stores_at, has_tid}
-use Rattle.tcc_serial.proofs.Names.{nothing, stored}
+use Rattle.tcc_serial.proofs.Names.{those, any_below, count_below, Dir, Msg, Skip, Mark, Commit, WriteBack, Shape, home, lines, Cache}
+use Rattle.tcc_serial.proofs.Names.{is_modified, modified_mask, writes_at, Spilled, holds, spilled_mask, spilled_words, CoreState, Phase}
+use Rattle.tcc_serial.proofs.Names.{Ready, Solo, Out, noted, commit, commit_sends, solo_sends, solo_marks, solo_backs, solo_writes_at}
+use Rattle.tcc_serial.proofs.Names.{is_written, written_mask, core_exec, core_evict, from_dir, Commits, AnyCommit, CommitOf, MarkOf}
+use Rattle.tcc_serial.proofs.Names.{MarkMask, among, passes, has_marked, stores_line, marked_by, OneCore, stores_in, stored_mask, stores_at}
+use Rattle.tcc_serial.proofs.Names.{has_tid, nothing, stored, solo_commit}
+use Rattle.tcc_serial.proofs.Serving.CoreCommits.{heard-free}
 use Rattle.tcc_serial.proofs.Counts.Links.{among-append, among-flat_map_none}
-use Rattle.tcc_serial.proofs.OneCore.Executes.{Steady, Executed, Goes_on, Overflows, Asks_tid, Alone, did-executed}
-use Rattle.tcc_serial.proofs.OneCore.CoreSteps.{fill-steady, data-steady, invalidate-cases, reply-cases, steady-emptied}
-use Rattle.tcc_serial.proofs.Serving.CoreCommits.{few-commits}
 use Rattle.tcc_serial.proofs.Serving.CommitOwners.{few-of}
-use Rattle.tcc_serial.proofs.Marks.CoreCounts.{is-commit, is-alone, has-solo, no-commits, free-hurt, free-replied}
+use Rattle.tcc_serial.proofs.Marks.CoreCounts.{is-commit, is-alone, has-solo}
 use Rattle.tcc_serial.proofs.Marks.CoreMarking.{mine, told-commit, has-ready}
 use Rattle.tcc_serial.proofs.Marks.CoreMarkingTakes.{unmarked}
 use Rattle.tcc_serial.proofs.Marks.CoreMasks.{own-mask, few-masked}
-use Rattle.tcc_serial.proofs.OneCore.NotedCommits.{Notes, did-notes}
 use Rattle.tcc_serial.proofs.Marks.StoredMasks.{unspilled, stored-line, stored-any, stored-cases, modified-line, modified-stored}
 use Rattle.tcc_serial.proofs.Marks.StoredMasks.{written-line, written-stored}
-use Rattle.tcc_serial.proofs.OneCore.Said.{quiet}
-use Rattle.tcc_serial.proofs.OneCore.Outcomes.{Commits_now, Did, each-exec, out, each-evict, emptied}
+use Rattle.tcc_serial.proofs.OneCore.Said.{quiet, Empties}
+use Rattle.tcc_serial.proofs.OneCore.Outcomes.{Commits_now, Did, each-exec, out, each-evict, emptied, Ends_alone, after_end, each-back}
+use Rattle.tcc_serial.proofs.OneCore.Outcomes.{heard, said}
 
 -- A core notes a commit that stored at the directory, and what this stored are the masks of the Marks that it has sent, and of those that it sends with it.
 pub record Storing (sh : Shape) (c d t : ℕ) (s : CoreState) (o : Out) : Type 0 where
@@ -43,9 +40,6 @@ StoresAll sh c d t s o = 1 ≤ among (Commits t) (o.sends (Dir d)) → Storing s
 storing-none : (sh : Shape) (c d t : ℕ) (s : CoreState) (o : Out) → among AnyCommit (o.sends (Dir d)) ≡ 0 → StoresAll sh c d t s o
 storing-none sh c d t s o z x = absurd (omega (arith, x, z, few-of t (o.sends (Dir d))))
 
-storing-steady : (sh : Shape) (c d t : ℕ) (s : CoreState) (o : Out) → Steady s o → StoresAll sh c d t s o
-storing-steady sh c d t s o y = storing-none sh c d t s o (omega (arith, few-commits (o.sends (Dir d)), y.quiet d))
-
 -- a Commit counts something
 abbrev count_of : Msg → ℕ
 count_of (Commit u n) = n
@@ -65,7 +59,6 @@ commit-some t (m ∷ ms) x = go (passes (Commits t) m) refl (commit-some t ms)
     go false q f = let o : num (passes (Commits t) m) ≡ 0 = ap num q in let r = f (omega (arith, o, x)) in (r.0, omega (arith, r.1))
 
 -- a core whose directories are all ready has marked what its stores name
-
 commit-writes : (sh : Shape) (c : Cache) (u d t : ℕ) → 1 ≤ among (Commits t) (commit_sends sh c u (Dir d)) → any_below (λ l. d == home sh l && is_modified c l) (lines sh) ≡ true
 unfolding commit_sends writes_at among passes
 commit-writes sh c u d t x = grind (arith, nat_tests)
@@ -104,7 +97,6 @@ storing-ready sh c d t u s ph h x = record {
     before l (inr e) = let z : num (nat_lt 0 (stored_mask sh d s.stores l)) ≡ 0 = rw e refl in inl (omega (arith, marks l, z))
 
 -- a core alone marks what its stores name
-
 alone-masked : (sh : Shape) (c : Cache) (sp : Spilled) (u d t l : ℕ) → among (MarkMask t l (written_mask c sp l)) (solo_sends sh c sp u (Dir d)) ≡ 0
 unfolding solo_sends solo_marks solo_backs among passes
 alone-masked sh c sp u d t l = go (nat_lt d sh.dirs) (solo_writes_at sh c sp d)
@@ -178,26 +170,18 @@ storing-alone sh c d t u s r o ph cm st se h x = record {
     right l (inl e) = rw (e ∙ written-stored sh.base s.cache s.spilled s.stores l (h.words.named)) (alone-masked sh s.cache s.spilled u d t l)
     right l (inr e) = let z : num (nat_lt 0 (stored_mask sh d s.stores l)) ≡ 0 = rw e refl in omega (arith, few-masked t l (stored_mask sh d s.stores l) all, marks l, z)
 
-storing-executed : (sh : Shape) (c d t : ℕ) (s : CoreState) (o : Out) → OneCore sh s → Executed sh c s o → Notes s o → StoresAll sh c d t s o
-unfolding noted
-storing-executed sh c d t s o h (Goes_on y) n = storing-steady sh c d t s o y
-storing-executed sh c d t s o h (Overflows r ph ow cm ve di) n = storing-none sh c d t s o (rw (di d) no-commits)
-storing-executed sh c d t s o h (Asks_tid r ph ow cm ve di) n = storing-none sh c d t s o (rw (di d) no-commits)
-storing-executed sh c d t s o h (Alone u r q ph ow cm se) n = let m : (r.stores ≡ s.stores) × (r.loads ≡ s.loads) × (o.core.loads ≡ []) = rw cm at n in storing-alone sh c d t u s r o q cm (m.0) se h
-
 pub storing-exec : (sh : Shape) (p : Program) (c d t : ℕ) (s : CoreState) → OneCore sh s → IfSome (core_exec sh p c s) (λ o. StoresAll sh c d t s o)
+unfolding passes solo_commit
 storing-exec sh p c d t s h = each-exec sh p c s (λ o. StoresAll sh c d t s o) go
   where
     go : (x : Did sh p c s) → StoresAll sh c d t s (out x)
+    go (Ends_alone u l o f q i) = storing-alone sh c d t u s (after_end s l o) (solo_commit sh c u (after_end s l o)) q refl refl refl h
     go (Commits_now u e) = storing-ready sh c d t u s e h
-    go x = storing-executed sh c d t s (out x) h (did-executed x) (did-notes x)
+    go x = storing-none sh c d t s (out x) (quiet sh s AnyCommit (said x) (λ y. refl) d)
 
 pub storing-evict : (sh : Shape) (x y c d t : ℕ) (s : CoreState) → IfSome (core_evict sh x y s) (λ o. StoresAll sh c d t s o)
-storing-evict sh x y c d t s = each-evict sh x y s (λ o. StoresAll sh c d t s o) (λ k q u z. storing-steady sh c d t s (emptied sh x y k s) (steady-emptied sh x y s k q u z))
+unfolding passes
+storing-evict sh x y c d t s = each-evict sh x y s (λ o. StoresAll sh c d t s o) (λ k q u z. storing-none sh c d t s (emptied sh x y k s) (quiet sh s AnyCommit (Empties k) (λ y. refl) d))
 
 pub storing-back : (sh : Shape) (e c d t : ℕ) (s : CoreState) (m : Msg) → IfSome (from_dir sh e s m) (λ o. StoresAll sh c d t s o)
-storing-back sh e c d t s (ProbeReply u v) = storing-none sh c d t s (probe_reply sh e u s) (free-replied sh e u d s (probe_reply sh e u s) (reply-cases sh e u s))
-storing-back sh e c d t s (Fill k ws) = storing-steady sh c d t s (fill k ws s) (fill-steady k ws s)
-storing-back sh e c d t s (DataReq k) = storing-steady sh c d t s (data_request sh k s) (data-steady sh k s)
-storing-back sh e c d t s (Inv k m u) = storing-none sh c d t s (invalidate sh k m u s) (free-hurt sh k d s (invalidate sh k m u s) (invalidate-cases sh k m u s))
-storing-back sh e c d t s _ = tt
+storing-back sh e c d t s m = each-back sh e s (λ m o. StoresAll sh c d t s o) (λ y. storing-none sh c d t s (heard y) (heard-free y d)) m

@@ -2,9 +2,9 @@
 use Rattle.tcc_serial.proofs.Names.{ℕ, ◌+◌, ◌≡◌, ◌≤◌, Bool, true, false, not, List, [], ◌∷◌, ◌++◌, ◌==◌, ◌&&◌, None, IfSome, nat_lt}
 use Rattle.tcc_serial.proofs.Names.{if◌then◌else◌, arith, refl, ap, ◌⊎◌, inl, inr, cases_eq, nat_tests, Program, num, any_word, Dir, Msg}
 use Rattle.tcc_serial.proofs.Names.{InvAck, Shape, home, lines, Cache, writes_at, is_modified, CoreState, Phase, Running, AwaitTid, Ready}
-use Rattle.tcc_serial.proofs.Names.{Overflowing, Solo, to, skip_all, abort_written, Out, commit, committed_core, phase_after}
-use Rattle.tcc_serial.proofs.Names.{commit_sends, solo_sends, core_exec, core_evict, Resolves, Protocol, Marks, MarkOf, EmptyMarks, Skips}
-use Rattle.tcc_serial.proofs.Names.{among, passes, has_marked, stores_line, marked_by, has_tid, opens, kept, owned, skipped}
+use Rattle.tcc_serial.proofs.Names.{Overflowing, Solo, to, skip_all, abort_written, Out, commit, committed_core, phase_after, commit_sends}
+use Rattle.tcc_serial.proofs.Names.{solo_sends, core_exec, core_evict, Resolves, Protocol, Marks, MarkOf, EmptyMarks, Skips, among, passes}
+use Rattle.tcc_serial.proofs.Names.{has_marked, stores_line, marked_by, has_tid, opens, kept, owned, skipped}
 use Rattle.tcc_serial.proofs.Counts.Links.{among-append, num-few}
 use Rattle.tcc_serial.proofs.Tids.CoreProbing.{tid-after}
 use Rattle.tcc_serial.proofs.OneCore.Executes.{Steady, Executed, Goes_on, Overflows, Asks_tid, Alone, did-executed}
@@ -24,7 +24,6 @@ pub record Marking (sh : Shape) (d t l : ℕ) (s : CoreState) (o : Out) : Type 0
   pub skips : 1 ≤ among (Skips t) (o.sends (Dir d)) → (has_tid s.phase t ≡ true) × (among (MarkOf t l) (o.sends (Dir d)) + marked_by sh s d l ≡ 0)
 
 -- kinds that are told of
-
 one-protocol : (t l : ℕ) (m : Msg) → num (passes (Marks t) m) + num (passes (Resolves t) m) + num (passes EmptyMarks m) ≤ num (passes Protocol m) + num (passes EmptyMarks m)
 unfolding passes
 one-protocol t l m = grind (arith, nat_tests)
@@ -122,7 +121,6 @@ last-words sh d t l u s o q e h f w m a k = record {
     own x (inr z) = f z
 
 -- the words on a TID
-
 pub is-tid : (u t : ℕ) (a : ℕ) → (u ≡ t → ⊥) ⊎ (u ≡ t) → (((u == t) ≡ false) → a ≡ 0) → (a ≡ 0) ⊎ (u ≡ t)
 is-tid u t a (inr e) f = inr e
 is-tid u t a (inl n) f = inl (f (grind (arith, nat_tests)))

@@ -35,15 +35,8 @@ full-marks p f u (suc n) h = rw (flat_map-append, among-append, full-marks p f u
 -- a mask of places of which one has p
 pub some-mask : (p : ℕ → Bool) (k : ℕ) → k < 8 → p k ≡ true → 0 < mask_of p
 unfolding mask_of
-some-mask p zero l e = rw e (omega arith)
-some-mask p (suc zero) l e = rw e (omega arith)
-some-mask p (suc (suc zero)) l e = rw e (omega arith)
-some-mask p (suc (suc (suc zero))) l e = rw e (omega arith)
-some-mask p (suc (suc (suc (suc zero)))) l e = rw e (omega arith)
-some-mask p (suc (suc (suc (suc (suc zero))))) l e = rw e (omega arith)
-some-mask p (suc (suc (suc (suc (suc (suc zero)))))) l e = rw e (omega arith)
-some-mask p (suc (suc (suc (suc (suc (suc (suc zero))))))) l e = rw e (omega arith)
 some-mask p (suc (suc (suc (suc (suc (suc (suc (suc k)))))))) l e = absurd (omega arith)
+some-mask p _ l e = rw e (omega arith)
 
 pub modified-full : (c : Cache) (l : ℕ) → is_modified c l ≡ true → 0 < modified_mask c l
 unfolding is_modified any_word modified_mask

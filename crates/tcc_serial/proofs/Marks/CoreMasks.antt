@@ -1,10 +1,10 @@
 -- The Marks that a core sends have as masks the words that it has modified, and these stay while it has its TID.
-use Rattle.tcc_serial.proofs.Names.{ℕ, ◌≡◌, ◌≤◌, Bool, true, false, not, List, [], ◌∷◌, ◌==◌, ◌&&◌, None, IfSome, if◌then◌else◌, arith}
-use Rattle.tcc_serial.proofs.Names.{refl, ap, ◌⊎◌, inl, inr, cases_eq, nat_tests, Program, num, word_at, mask_of, Dir, Msg, InvAck}
-use Rattle.tcc_serial.proofs.Names.{ProbeReply, Fill, Mark, DataReq, Inv, Shape, home, Cache, modified_mask, written_lines, CoreState}
-use Rattle.tcc_serial.proofs.Names.{Phase, Running, AwaitTid, DoomedTid, Overflowing, Link, to, marks_for, Out, commit, committed_core}
-use Rattle.tcc_serial.proofs.Names.{phase_after, core_exec, core_evict, from_dir, probe_reply, fill, data_request, invalidate, ignored}
-use Rattle.tcc_serial.proofs.Names.{MarkOf, MarkMask, live, among, passes, has_marked, marked_by, has_tid, kept}
+use Rattle.tcc_serial.proofs.Names.{ℕ, ◌≡◌, ◌≤◌, Bool, true, false, List, [], ◌∷◌, ◌==◌, None, IfSome, if◌then◌else◌, arith, refl, ap, ◌⊎◌}
+use Rattle.tcc_serial.proofs.Names.{inl, inr, nat_tests, Program, num, word_at, mask_of, Dir, Msg, InvAck, ProbeReply, Fill, Mark, DataReq}
+use Rattle.tcc_serial.proofs.Names.{Inv, Shape, home, Cache, modified_mask, written_lines, CoreState, Phase, Running, AwaitTid, DoomedTid}
+use Rattle.tcc_serial.proofs.Names.{Overflowing, Link, to, marks_for, Out, commit, committed_core, phase_after, core_exec, core_evict}
+use Rattle.tcc_serial.proofs.Names.{from_dir, probe_reply, fill, data_request, invalidate, ignored, MarkOf, MarkMask, live, among, passes}
+use Rattle.tcc_serial.proofs.Names.{has_marked, marked_by, has_tid, kept}
 use Rattle.tcc_serial.proofs.Counts.Links.{among-flat_map_none, among-fewer, live-fewer}
 use Rattle.tcc_serial.proofs.Tids.CoreProbing.{tid-after}
 use Rattle.tcc_serial.proofs.OneCore.Executes.{Steady, Executed, Goes_on, Overflows, Asks_tid, Alone, did-executed}
@@ -21,7 +21,6 @@ pub record Masking (sh : Shape) (d t l : ℕ) (s : CoreState) (o : Out) : Type 0
   pub stays : has_tid o.core.phase t ≡ true → (marked_by sh s d l ≡ 0) ⊎ (modified_mask o.core.cache l ≡ modified_mask s.cache l)
 
 -- a Mark with another mask is a Mark
-
 one-masked : (t l q : ℕ) (m : Msg) → num (passes (MarkMask t l q) m) ≤ num (passes (MarkOf t l) m)
 unfolding passes
 one-masked t l q m = grind (arith, nat_tests)
@@ -56,10 +55,9 @@ quiet sh d t l s o u f = record { sent = λ x. omega (arith, u.marks, few-masked
 
 -- it has no TID any more
 gone : (sh : Shape) (d t l : ℕ) (s : CoreState) (o : Out) (q : Phase) → o.core.phase ≡ q → has_tid q t ≡ false → Masking sh d t l s o
-gone sh d t l s o q e h = record { sent = λ x. absurd (none x); stays = λ x. absurd (none x) }
-  where
-    none : has_tid o.core.phase t ≡ true → ⊥
-    none x = let y : has_tid o.core.phase t ≡ false = rw e h in cc
+gone sh d t l s o q e h =
+    let none : has_tid o.core.phase t ≡ true → ⊥ = λ x. let y : has_tid o.core.phase t ≡ false = rw e h in cc in
+    record { sent = λ x. absurd (none x); stays = λ x. absurd (none x) }
 
 masking-steady : (sh : Shape) (d t l : ℕ) (s : CoreState) (o : Out) → Steady s o → Masking sh d t l s o
 masking-steady sh d t l s o y = quiet sh d t l s o (unsaid-quiet t l (o.sends (Dir d)) (y.quiet d)) (λ x. go (has_marked s.phase) refl)

@@ -2,17 +2,18 @@
 use Rattle.tcc_serial.proofs.Names.{ℕ, ◌+◌, ◌≡◌, ◌<◌, ◌≤◌, true, false, List, ◌++◌, ◌==◌, ◌&&◌, nat_lt, arith, refl, ◌∙◌, ◌⊎◌, inl, inr}
 use Rattle.tcc_serial.proofs.Names.{cases_lt, nat_tests, num, count_below, has_mark, Dir, Msg, Skip, Shape, lines, writes_at, DirState}
 use Rattle.tcc_serial.proofs.Names.{Link, Out, total, sent_all, Resolves, MarkOf, EmptyMarks, CommitOf, live, among, passes, marks_of}
-use Rattle.tcc_serial.proofs.Names.{marked_by, MarksOf, CountsMarks, CountedOf, Grant, Pair, after_move, after_answer, opens, Bool}
-use Rattle.tcc_serial.proofs.Names.{Contains, nat_le, ap, World, Kind, AnyCommit, pair, share, grant_taken, part, handled, KeptTids, []}
-use Rattle.tcc_serial.proofs.Names.{Option, Some, None, IfSome, set, subst, cases_eq, Noted, Program, Local, Core, TidReq, Commit, Event}
-use Rattle.tcc_serial.proofs.Names.{Phase, Running, AwaitTid, DoomedTid, Probing, Ready, Overflowing, Solo, Halted, start, dir_start}
-use Rattle.tcc_serial.proofs.Names.{in_flight, Sends, core_exec, core_evict, from_dir, grant, Answer, Waits, Drops, Asks, Takes}
-use Rattle.tcc_serial.proofs.Names.{dir_deliver, core_moves, core_takes, dir_takes, dir_asks, step, Acks, KeptMarks, KeptCounted, KeptCores}
-use Rattle.tcc_serial.proofs.Names.{awaits_replies, KeptOwners, back_taken, after_grant, after_other_grant, may_commit, Kept, KeptTold}
+use Rattle.tcc_serial.proofs.Names.{marked_by, MarksOf, CountsMarks, CountedOf, Grant, Pair, after_move, after_answer, opens, Contains}
+use Rattle.tcc_serial.proofs.Names.{nat_le, ap, World, Kind, AnyCommit, pair, share, grant_taken, part, handled, KeptTids, [], Option, Some}
+use Rattle.tcc_serial.proofs.Names.{None, IfSome, set, subst, cases_eq, Noted, Program, Local, Core, TidReq, Commit, Event, Phase, Probing}
+use Rattle.tcc_serial.proofs.Names.{Overflowing, start, dir_start, in_flight, Sends, core_exec, core_evict, from_dir, grant, Answer, Waits}
+use Rattle.tcc_serial.proofs.Names.{Drops, Asks, Takes, dir_deliver, core_moves, core_takes, dir_takes, dir_asks, step, Acks, KeptMarks}
+use Rattle.tcc_serial.proofs.Names.{KeptCounted, KeptCores, awaits_replies, KeptOwners, back_taken, after_grant, after_other_grant}
+use Rattle.tcc_serial.proofs.Names.{may_commit, Kept, KeptTold, answered, mark, marked, moved, next, settled, skip, taken}
+use Rattle.tcc_serial.proofs.Serving.CoreCommits.{granted-free}
 use Rattle.tcc_serial.proofs.Counts.Links.{live-sends, total-same, total-plus, total-le, live-fewer, live-takes}
 use Rattle.tcc_serial.proofs.Counts.StepCases.{dir-own, dir-other, asks-own, pairs_move, pairs_grant, pairs_back, pairs_dir, pairs_asks}
 use Rattle.tcc_serial.proofs.Counts.StepCases.{pairs_vendor, OfAnswer, step_cases}
-use Rattle.tcc_serial.proofs.Marks.CoreCounts.{Counts, CountsAll, total-num, few-any, counts-exec, counts-evict, counts-grant, counts-back}
+use Rattle.tcc_serial.proofs.Marks.CoreCounts.{Counts, CountsAll, total-num, few-any, counts-exec, counts-evict, counts-back}
 use Rattle.tcc_serial.proofs.Marks.CoreMarking.{Marking, marking-exec, marking-evict}
 use Rattle.tcc_serial.proofs.Marks.CoreMarkingTakes.{marking-back, granting}
 use Rattle.tcc_serial.proofs.Marks.DirMarks.{Marked, Stays, MarkedBy, dir-marked}
@@ -23,6 +24,8 @@ use Rattle.tcc_serial.proofs.Serving.DirDue.{Due, DueBy, dir-due, still-due}
 use Rattle.tcc_serial.proofs.Serving.KeptSteps.{core_of_back, core_of_out, once_at, marks_home, acks_owed}
 use Rattle.tcc_serial.proofs.Tids.Commits.{granted-once}
 use Rattle.tcc_serial.proofs.Tids.TidSteps.{granted_waits, live-some}
+use Rattle.tcc_serial.proofs.OneCore.Said.{quiet}
+use Rattle.tcc_serial.proofs.OneCore.Outcomes.{out}
 
 -- How each kind of event keeps that a Commit counts its Marks, between a core and a directory.
 one-resolve : (t n : ℕ) (m : Msg) → num (passes (CommitOf t n) m) ≤ num (passes (Resolves t) m)
@@ -264,7 +267,7 @@ unfolding pair
 step-counted sh p gs w cs e z y x a h = step_cases sh p w e (λ g o. KeptTold sh o.world → KeptCounted sh o.world)
     (λ c l. moved c l (core_exec sh p c (w.cores c)) (λ d t l. marking-exec sh p c d t l (w.cores c)) (λ d t. counts-exec sh p c d t (w.cores c) (λ q. (x c).owing d (waits-not (w.cores c).phase q))))
     (λ c r b l. moved c l (core_evict sh r b (w.cores c)) (λ d t l. marking-evict sh r b d t l (w.cores c)) (λ d t. counts-evict sh r b d t (w.cores c)))
-    (λ c k u i n. pairs_grant P w c k (grant sh u (w.cores c)) (λ d t cl. counted-granted sh d t k (pair w c d) (grant sh u (w.cores c)) (λ b l. (granting sh u d b l (w.cores c) (granted_waits (pair w c d) k u i (z.told.tids.requests c d))).marks) (counts-grant sh u d (w.cores c)) (h c d t cl)) h)
+    (λ c k u i n. pairs_grant P w c k (grant sh u (w.cores c)) (λ d t cl. counted-granted sh d t k (pair w c d) (grant sh u (w.cores c)) (λ b l. (granting sh u d b l (w.cores c) (granted_waits (pair w c d) k u i (z.told.tids.requests c d))).marks) (granted-free sh u d (w.cores c)) (h c d t cl)) h)
     (λ c d k m i. taken c d k (core_of_back sh w c d k m z.told.tids i) (from_dir sh d (w.cores c) m) (λ b t l. marking-back sh d b t l (w.cores c) m) (λ b t. counts-back sh d b t (w.cores c) m))
     (λ c d k m i. answered c d k m i (core_of_out sh w c d k m z.told.tids i) (dir_deliver sh (w.dirs d) c m) (dir-marked sh (w.dirs d) c m) (dir-owes sh (w.dirs d) c m)
     (dir-due sh d (w.dirs d) c m (once_at sh w c d k m z.told i) ((z.told.owed.at_home c d).marked) (marks_home sh w c d k m z.told.owed i) (acks_owed sh w c d k m z.told.owed (core_of_out sh w c d k m z.told.tids i) i)))

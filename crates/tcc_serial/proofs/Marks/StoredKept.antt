@@ -9,12 +9,13 @@ use Rattle.tcc_serial.proofs.Names.{StoredOf, opens, IfSome, set, sym, ap, subst
 use Rattle.tcc_serial.proofs.Names.{lines, World, start, dir_start, in_flight, Sends, core_exec, core_evict, from_dir, grant, Answer, Waits}
 use Rattle.tcc_serial.proofs.Names.{Drops, Asks, Takes, dir_deliver, core_moves, core_takes, dir_takes, dir_asks, step, CommitOf, Acks}
 use Rattle.tcc_serial.proofs.Names.{KeptCounted, KeptMarks, KeptMasks, KeptCores, KeptOwners, pair, back_taken, after_grant}
-use Rattle.tcc_serial.proofs.Names.{after_other_grant, KeptStored, Kept, KeptTold}
+use Rattle.tcc_serial.proofs.Names.{after_other_grant, KeptStored, Kept, KeptTold, answered, commit, mark, marked, moved, noted, settled}
+use Rattle.tcc_serial.proofs.Names.{skip, stored, taken}
 use Rattle.tcc_serial.proofs.Counts.Links.{live-sends, num-few, live-takes}
 use Rattle.tcc_serial.proofs.Counts.StepCases.{dir-own, dir-other, asks-own, pairs_move, pairs_grant, pairs_back, pairs_dir, pairs_asks}
 use Rattle.tcc_serial.proofs.Counts.StepCases.{pairs_vendor, OfAnswer, step_cases}
 use Rattle.tcc_serial.proofs.Marks.CommitMasks.{Storing, StoresAll, storing-exec, storing-evict, storing-back}
-use Rattle.tcc_serial.proofs.Marks.CoreCounts.{counts-grant}
+use Rattle.tcc_serial.proofs.Serving.CoreCommits.{granted-free}
 use Rattle.tcc_serial.proofs.Marks.CoreMarking.{Marking, marking-exec, marking-evict}
 use Rattle.tcc_serial.proofs.Marks.CoreMarkingTakes.{marking-back, granting}
 use Rattle.tcc_serial.proofs.Marks.CoreMasks.{few-masked, passes-masked}
@@ -30,6 +31,7 @@ use Rattle.tcc_serial.proofs.Serving.CommitSteps.{ofs-resolve}
 use Rattle.tcc_serial.proofs.Serving.DirDue.{Due, DueBy, dir-due, still-due}
 use Rattle.tcc_serial.proofs.Serving.KeptSteps.{core_of_back, core_of_out, once_at, marks_home, acks_owed}
 use Rattle.tcc_serial.proofs.Tids.TidSteps.{granted_waits, live-some}
+use Rattle.tcc_serial.proofs.OneCore.Outcomes.{out}
 
 -- How each kind of event keeps, between a core and a directory, that a Commit in flight is of a commit that stored what was marked.
 
@@ -273,7 +275,7 @@ unfolding pair
 step-stored sh p gs w cs e z y x a g q h = step_cases sh p w e (λ r o. KeptTold sh o.world → KeptStored sh (and_noted o.noted cs) o.world)
     (λ c l. moved c l (core_exec sh p c (w.cores c)) (λ d t l. marking-exec sh p c d t l (w.cores c)) (λ d t. storing-exec sh p c d t (w.cores c) (x c)))
     (λ c r b l. moved c l (core_evict sh r b (w.cores c)) (λ d t l. marking-evict sh r b d t l (w.cores c)) (λ d t. storing-evict sh r b c d t (w.cores c)))
-    (λ c k u i n. pairs_grant (P (grant sh u (w.cores c)).commit) w c k (grant sh u (w.cores c)) (λ d t. stored-granted sh cs c d t k (pair w c d) (grant sh u (w.cores c)) (λ l. (granting sh u d t l (w.cores c) (granted_waits (pair w c d) k u i (z.told.tids.requests c d))).marks) (counts-grant sh u d (w.cores c)) (h c d t)) (more (grant sh u (w.cores c)).commit))
+    (λ c k u i n. pairs_grant (P (grant sh u (w.cores c)).commit) w c k (grant sh u (w.cores c)) (λ d t. stored-granted sh cs c d t k (pair w c d) (grant sh u (w.cores c)) (λ l. (granting sh u d t l (w.cores c) (granted_waits (pair w c d) k u i (z.told.tids.requests c d))).marks) (granted-free sh u d (w.cores c)) (h c d t)) (more (grant sh u (w.cores c)).commit))
     (λ c d k m i. taken c d k (core_of_back sh w c d k m z.told.tids i) (from_dir sh d (w.cores c) m) (λ b t l. marking-back sh d b t l (w.cores c) m) (λ b t. storing-back sh d c b t (w.cores c) m))
     (λ c d k m i. answered c d k m i (core_of_out sh w c d k m z.told.tids i) (dir_deliver sh (w.dirs d) c m) (dir-marked sh (w.dirs d) c m) (dir-owes sh (w.dirs d) c m)
     (dir-due sh d (w.dirs d) c m (once_at sh w c d k m z.told i) ((z.told.owed.at_home c d).marked) (marks_home sh w c d k m z.told.owed i) (acks_owed sh w c d k m z.told.owed (core_of_out sh w c d k m z.told.tids i) i)))

@@ -1,11 +1,11 @@
 -- What a core's rules do to what it knows of the directories that it asked.
 use Rattle.tcc_serial.proofs.Names.{ℕ, ◌≡◌, ◌<◌, ◌≤◌, Bool, true, false, ◌==◌, ◌&&◌, ◌||◌, Option, Some, None, IfSome, nat_lt}
-use Rattle.tcc_serial.proofs.Names.{if◌then◌else◌, arith, refl, sym, ap₂, ◌∙◌, ◌⊎◌, inl, inr, cases_eq, nat_tests, put, Program, Outcome}
-use Rattle.tcc_serial.proofs.Names.{HaltedWith, TrappedWith, any_below, any_below-at, Msg, Fill, ProbeReply, DataReq, Inv, Shape, Cache}
-use Rattle.tcc_serial.proofs.Names.{writes_at, reads_at, CoreState, Phase, Running, AwaitTid, DoomedTid, Probing, Ready, Overflowing}
-use Rattle.tcc_serial.proofs.Names.{Solo, Halted, Out, commit, committed_core, phase_after, core_exec, core_evict, grant, grant_phase}
-use Rattle.tcc_serial.proofs.Names.{from_dir, probing, is_probed, probe_reply, all_replied, fill, data_request, invalidate, RepliesAbove}
-use Rattle.tcc_serial.proofs.Names.{passes, tid_of, asks_dir, may_commit, Reached, replied}
+use Rattle.tcc_serial.proofs.Names.{if◌then◌else◌, arith, refl, sym, ap₂, ◌∙◌, nat_tests, put, Program, Outcome, HaltedWith, TrappedWith}
+use Rattle.tcc_serial.proofs.Names.{any_below, any_below-at, Msg, Fill, ProbeReply, DataReq, Inv, Shape, Cache, writes_at, reads_at}
+use Rattle.tcc_serial.proofs.Names.{CoreState, Phase, Running, AwaitTid, DoomedTid, Probing, Ready, Overflowing, Solo, Halted, Out, commit}
+use Rattle.tcc_serial.proofs.Names.{committed_core, phase_after, core_exec, core_evict, grant, grant_phase, from_dir, probing, is_probed}
+use Rattle.tcc_serial.proofs.Names.{probe_reply, all_replied, fill, data_request, invalidate, RepliesAbove, passes, tid_of, asks_dir}
+use Rattle.tcc_serial.proofs.Names.{may_commit, Reached, replied}
 use Rattle.tcc_serial.proofs.OneCore.Executes.{Steady, Executed, Goes_on, Overflows, Asks_tid, Alone, did-executed}
 use Rattle.tcc_serial.proofs.OneCore.CoreSteps.{reads_at-same, fill-steady, data-steady, Hurt, Unhurt, Rolled, Doomed, Aborted, Gave_up}
 use Rattle.tcc_serial.proofs.OneCore.CoreSteps.{Invalidated, invalidate-cases, Replied, Ignored, Probed, Left_alone, reply-cases}
@@ -92,15 +92,9 @@ asked-grant sh u d x s h = go s.phase
     go AwaitTid = probed (any_below (is_probed sh s.cache) sh.dirs) refl
     go DoomedTid = none-asked sh d x _ Running refl (λ b. refl) refl
     go (Overflowing None) = record { reached = λ l a o. absurd (grind (arith, nat_tests)); replied = λ l m. absurd (cc) }
-    go (Overflowing (Some v)) = h
-    go Running = h
-    go (Probing v) = h
-    go (Ready v) = h
-    go (Solo v) = h
-    go Halted = h
+    go _ = h
 
 -- a reply of a directory that has reached the TID
-
 put-away : (f : ℕ → Bool) (e d : ℕ) (x : Bool) → (d ≡ e → ⊥) → put f e x d ≡ f d
 put-away f e d x q = let b : (d == e) ≡ false = grind (arith, nat_tests) in rw b refl
 
@@ -154,10 +148,9 @@ asked-hurt sh l d x s o i h = go i.hurt
 -- x is what directory d serves; a reply of e is of a TID that e has reached
 pub asked-back : (sh : Shape) (e d x : ℕ) (s : CoreState) (m : Msg) → (d ≡ e → passes (RepliesAbove x) m ≡ false) → Reached sh d x s → StaysReached sh d x s (from_dir sh e s m)
 unfolding passes
-asked-back sh e d x s (ProbeReply u v) f h = asked-replied sh e u d x s (probe_reply sh e u s) (λ q. low (f q)) (reply-cases sh e u s) h
-  where
-    low : nat_lt x u ≡ false → u ≤ x
-    low k = grind (arith, nat_tests)
+asked-back sh e d x s (ProbeReply u v) f h =
+    let low : nat_lt x u ≡ false → u ≤ x = λ k. grind (arith, nat_tests) in
+    asked-replied sh e u d x s (probe_reply sh e u s) (λ q. low (f q)) (reply-cases sh e u s) h
 asked-back sh e d x s (Fill l ws) f h = asked-steady sh d x s (fill l ws s) (fill-steady l ws s) h
 asked-back sh e d x s (DataReq l) f h = asked-steady sh d x s (data_request sh l s) (data-steady sh l s) h
 asked-back sh e d x s (Inv l m u) f h = asked-hurt sh l d x s (invalidate sh l m u s) (invalidate-cases sh l m u s) h

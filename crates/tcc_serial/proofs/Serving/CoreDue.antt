@@ -1,13 +1,13 @@
 -- A core acknowledges nothing but an invalidation, and marks lines at their homes alone.
-use Rattle.tcc_serial.proofs.Names.{ℕ, zero, suc, ◌≡◌, ◌≤◌, ◌%◌, Bool, true, false, List, [], ◌∷◌, ◌++◌, ◌==◌, ◌&&◌, Some, None, IfSome}
-use Rattle.tcc_serial.proofs.Names.{nat_lt, cond, if◌then◌else◌, flat_map, arith, refl, nat_tests, flat_map-append, Program, num, those}
+use Rattle.tcc_serial.proofs.Names.{ℕ, zero, suc, ◌≡◌, ◌≤◌, ◌%◌, Bool, true, false, List, [], ◌∷◌, ◌++◌, ◌==◌, ◌&&◌, None, IfSome, nat_lt}
+use Rattle.tcc_serial.proofs.Names.{cond, if◌then◌else◌, flat_map, arith, refl, nat_tests, flat_map-append, Program, num, those}
 use Rattle.tcc_serial.proofs.Names.{count_below, Dir, Msg, Fill, Skip, ProbeReply, Mark, Commit, WriteBack, DataReq, Inv, InvAck, Shape}
 use Rattle.tcc_serial.proofs.Names.{home, lines, Cache, is_modified, modified_mask, written_lines, Spilled, holds, spilled_mask}
-use Rattle.tcc_serial.proofs.Names.{spilled_words, CoreState, Phase, Running, AwaitTid, DoomedTid, Probing, Ready, Overflowing, Solo}
-use Rattle.tcc_serial.proofs.Names.{Halted, Sends, to, marks_for, skip_all, probe_all, abort_written, Out, commit, commit_sends}
-use Rattle.tcc_serial.proofs.Names.{solo_sends, solo_marks, solo_backs, solo_writes_at, is_written, written_mask, core_exec, core_evict}
-use Rattle.tcc_serial.proofs.Names.{grant, grant_phase, grant_sends, from_dir, probe_reply, ignored, fill, data_request, invalidate, Kind}
-use Rattle.tcc_serial.proofs.Names.{Acks, MarksAway, AnyResolve, Protocol, among, passes, kept}
+use Rattle.tcc_serial.proofs.Names.{spilled_words, CoreState, Phase, AwaitTid, DoomedTid, Overflowing, Sends, to, marks_for, skip_all}
+use Rattle.tcc_serial.proofs.Names.{probe_all, abort_written, Out, commit, commit_sends, solo_sends, solo_marks, solo_backs, solo_writes_at}
+use Rattle.tcc_serial.proofs.Names.{is_written, written_mask, core_exec, core_evict, grant, grant_phase, grant_sends, from_dir, probe_reply}
+use Rattle.tcc_serial.proofs.Names.{ignored, fill, data_request, invalidate, Kind, Acks, MarksAway, AnyResolve, Protocol, among, passes}
+use Rattle.tcc_serial.proofs.Names.{kept}
 use Rattle.tcc_serial.proofs.Counts.Links.{among-append, among-flat_map_none}
 use Rattle.tcc_serial.proofs.OneCore.Executes.{Steady, Executed, Goes_on, Overflows, Asks_tid, Alone, did-executed}
 use Rattle.tcc_serial.proofs.OneCore.CoreSteps.{ignored-steady, fill-steady, data-steady, Hurt, Unhurt, Rolled, Doomed, Aborted, Gave_up}
@@ -147,12 +147,7 @@ clean-grant sh u s = go s.phase
     go AwaitTid = clean-grants sh s.cache u
     go DoomedTid = clean-skip sh u
     go (Overflowing None) = clean-probe sh u
-    go (Overflowing (Some v)) = still
-    go Running = still
-    go (Probing v) = still
-    go (Ready v) = still
-    go (Solo v) = still
-    go Halted = still
+    go _ = still
 
 pub clean-replied : (sh : Shape) (e u : ℕ) (s : CoreState) (o : Out) → Replied sh e u s o → CleanOut sh o
 clean-replied sh e u s o (Ignored q n) = rw q (clean-steady sh s (ignored s) (ignored-steady s))

@@ -1,12 +1,11 @@
 -- Every event keeps which directories owe a core replies: those that it asked, while it waits, and then some does.
-use Rattle.tcc_serial.proofs.Names.{ℕ, ◌≡◌, ◌<◌, ◌⊎◌, ◌==◌, ◌&&◌, ◌||◌, Bool, true, false, Option, Some, None, IfSome, nat_lt}
-use Rattle.tcc_serial.proofs.Names.{if◌then◌else◌, arith, refl, ap₂, inl, inr, cases_eq, nat_tests, Program, Local, Outcome, Goes}
-use Rattle.tcc_serial.proofs.Names.{any_below, Dir, Event, Msg, Fill, ProbeReply, DataReq, Inv, Shape, writes_at, reads_at, any_below-at}
-use Rattle.tcc_serial.proofs.Names.{CoreState, World, Phase, Running, AwaitTid, DoomedTid, Probing, Ready, Overflowing, Solo, Halted}
-use Rattle.tcc_serial.proofs.Names.{start, core_start, Out, commit, committed_core, phase_after, core_exec, core_evict, from_dir, grant}
-use Rattle.tcc_serial.proofs.Names.{grant_phase, is_probed, probing, all_replied, fill, data_request, invalidate, probe_reply, Answer}
-use Rattle.tcc_serial.proofs.Names.{Waits, Drops, Asks, Takes, dir_deliver, core_moves, core_takes, dir_takes, dir_asks, vendor_gives}
-use Rattle.tcc_serial.proofs.Names.{step, OwingFits, awaits_replies, asks_dir, answered, moved, taken}
+use Rattle.tcc_serial.proofs.Names.{ℕ, ◌≡◌, ◌<◌, ◌==◌, ◌&&◌, ◌||◌, Bool, true, false, Option, Some, None, IfSome, nat_lt, if◌then◌else◌}
+use Rattle.tcc_serial.proofs.Names.{arith, refl, ap₂, nat_tests, Program, Local, Outcome, Goes, any_below, Dir, Event, Msg, Fill}
+use Rattle.tcc_serial.proofs.Names.{ProbeReply, DataReq, Inv, Shape, writes_at, reads_at, any_below-at, CoreState, World, Phase, Running}
+use Rattle.tcc_serial.proofs.Names.{AwaitTid, DoomedTid, Probing, Ready, Overflowing, Solo, start, core_start, Out, commit, committed_core}
+use Rattle.tcc_serial.proofs.Names.{phase_after, core_exec, core_evict, from_dir, grant, grant_phase, is_probed, probing, all_replied, fill}
+use Rattle.tcc_serial.proofs.Names.{data_request, invalidate, probe_reply, Answer, Waits, dir_deliver, core_moves, core_takes, dir_takes}
+use Rattle.tcc_serial.proofs.Names.{dir_asks, vendor_gives, step, OwingFits, awaits_replies, asks_dir, answered, moved, taken}
 use Rattle.tcc_maps.specs.Words.{put}
 use Rattle.tcc_serial.proofs.OneCore.CoreProbes.{none-below, all-replied}
 use Rattle.tcc_serial.proofs.OneCore.CoreSteps.{reads_at-same, fill-steady, data-steady, Hurt, Unhurt, Rolled, Doomed, Aborted, Gave_up}
@@ -100,15 +99,9 @@ owing-grant sh t s h = go s.phase refl
     go AwaitTid e = probed (any_below (is_probed sh s.cache) sh.dirs) refl
     go DoomedTid e = still-none sh s (record s { phase = Running }) DoomedTid Running e refl refl refl refl h
     go (Overflowing None) e = every
-    go (Overflowing (Some u)) e = h
-    go Running e = h
-    go (Probing u) e = h
-    go (Ready u) e = h
-    go (Solo u) e = h
-    go Halted e = h
+    go _ e = h
 
 -- a directory has replied
-
 put-true : (f : ℕ → Bool) (e d : ℕ) → put f e false d ≡ true → f d ≡ true
 put-true f e d x = grind (arith, nat_tests)
 
@@ -155,11 +148,7 @@ owing-back sh e s _ h = tt
 
 -- one core has changed
 put-owing : (sh : Shape) (w : World) (c : ℕ) (s : CoreState) → KeptOwing sh w → OwingFits sh s → (j : ℕ) → OwingFits sh (if j == c then s else w.cores j)
-put-owing sh w c s k h j = go (j == c)
-  where
-    go : (b : Bool) → OwingFits sh (if b then s else w.cores j)
-    go true = h
-    go false = k j
+put-owing sh w c s k h j = elim (j == c) as (λ b. OwingFits sh (if b then s else w.cores j)) [ true ↦ h | false ↦ k j ]
 
 pub step-owing : (sh : Shape) (p : Program) (w : World) (e : Event) → KeptOwing sh w → IfSome (step sh p w e) (λ o. KeptOwing sh o.world)
 unfolding core_moves core_takes dir_takes dir_asks vendor_gives
@@ -181,9 +170,7 @@ step-owing sh p w e k = step_cases sh p w e (λ g o. KeptOwing sh o.world)
 
     answered : (c d i : ℕ) (a : Answer) → OfAnswer w c d i (λ v. KeptOwing sh v) a
     answered c d i Waits = tt
-    answered c d i Drops = k
-    answered c d i (Asks s sends) = k
-    answered c d i (Takes s sends) = k
+    answered c d i _ = k
 
 pub start-owing : (sh : Shape) (entries : ℕ → Local) (ram : ℕ → ℕ) → KeptOwing sh (start entries ram)
 unfolding start core_start

@@ -1,16 +1,17 @@
 -- What a core's rules do to its part of a TID.
 use Rattle.tcc_serial.proofs.Names.{ℕ, ◌+◌, ◌≡◌, ◌<◌, Bool, true, false, List, [], ◌∷◌, ◌==◌, ◌&&◌, Some, None, IfSome, if◌then◌else◌}
-use Rattle.tcc_serial.proofs.Names.{arith, refl, ap, ◌⊎◌, inl, inr, nat_tests, Program, Outcome, Goes, num, any_below, Dir, Msg, Fill}
-use Rattle.tcc_serial.proofs.Names.{ProbeReply, DataReq, Inv, InvAck, Shape, home, writes_at, read_cleared, CoreState, Phase, Running}
-use Rattle.tcc_serial.proofs.Names.{AwaitTid, DoomedTid, Probing, Ready, Overflowing, Solo, Halted, Sends, nothing, to, marks_for, Out}
-use Rattle.tcc_serial.proofs.Names.{moves, commit, committed_core, phase_after, core_exec, core_evict, grant, grant_phase, from_dir}
-use Rattle.tcc_serial.proofs.Names.{probing, is_probed, probe_reply, reply_phase, ignored, replied, all_replied, when_ready, when_alone}
-use Rattle.tcc_serial.proofs.Names.{fill, data_request, invalidate, Resolves, among, passes, opens, waits_for_tid, kept}
+use Rattle.tcc_serial.proofs.Names.{arith, refl, ap, ◌⊎◌, inl, inr, Program, Outcome, Goes, num, any_below, Dir, Msg, Fill, ProbeReply}
+use Rattle.tcc_serial.proofs.Names.{DataReq, Inv, InvAck, Shape, home, writes_at, CoreState, Phase, Running, AwaitTid, DoomedTid, Probing}
+use Rattle.tcc_serial.proofs.Names.{Ready, Overflowing, Solo, Halted, Sends, to, marks_for, Out, commit, committed_core, phase_after}
+use Rattle.tcc_serial.proofs.Names.{core_exec, core_evict, grant, grant_phase, from_dir, probing, is_probed, probe_reply, ignored}
+use Rattle.tcc_serial.proofs.Names.{all_replied, fill, data_request, invalidate, Resolves, among, passes, opens, waits_for_tid, kept, put}
+use Rattle.tcc_serial.proofs.Names.{nat_tests}
 use Rattle.tcc_serial.proofs.Counts.Links.{among-append, resolves-commit_sends, resolves-abort_written, resolves-skip_all}
 use Rattle.tcc_serial.proofs.Counts.Links.{resolves-probe_all, resolves-grant_sends, resolves-marks_for, resolves-solo_sends, among-quiet}
 use Rattle.tcc_serial.proofs.OneCore.Executes.{Steady, Executed, Goes_on, Overflows, Asks_tid, Alone, did-executed}
 use Rattle.tcc_serial.proofs.OneCore.CoreSteps.{ignored-steady, fill-steady, data-steady, Hurt, Unhurt, Rolled, Doomed, Aborted, Gave_up}
-use Rattle.tcc_serial.proofs.OneCore.CoreSteps.{Invalidated, invalidate-cases, steady-emptied}
+use Rattle.tcc_serial.proofs.OneCore.CoreSteps.{Invalidated, invalidate-cases, steady-emptied, Ignored, Left_alone, Probed, Replied}
+use Rattle.tcc_serial.proofs.OneCore.CoreSteps.{reply-cases}
 use Rattle.tcc_serial.proofs.OneCore.Said.{quiet}
 use Rattle.tcc_serial.proofs.OneCore.Outcomes.{Acts, Commits_now, Did, each-exec, out, each-evict, emptied, writes_at-same}
 
@@ -78,57 +79,26 @@ part-grant sh u d t s l w = go s.phase refl w
     go AwaitTid e h = rw e (rw (opens-probing (any_below (is_probed sh s.cache) sh.dirs) u (writes_at sh s.cache d) t) (omega (arith, resolves-grant_sends sh s.cache u d t l)))
     go DoomedTid e h = rw e (omega (arith, resolves-skip_all sh u d t l))
     go (Overflowing None) e h = rw e (omega (arith, resolves-probe_all sh u d t))
-    go (Overflowing (Some v)) e h = absurd (cc)
-    go Running e h = absurd (cc)
-    go (Probing v) e h = absurd (cc)
-    go (Ready v) e h = absurd (cc)
-    go (Solo v) e h = absurd (cc)
-    go Halted e h = absurd (cc)
+    go _ e h = absurd (cc)
 
 -- a message of a directory
-
 resolves-to : (t h d : ℕ) (ms : List Msg) → among (Resolves t) ms ≡ 0 → among (Resolves t) (to (Dir h) ms (Dir d)) ≡ 0
 unfolding among
 resolves-to t h d ms e = grind (arith, nat_tests)
 
-part-reply : (sh : Shape) (e u d t : ℕ) (s : CoreState) → KeepsPart sh d t 0 s (probe_reply sh e u s)
-unfolding probe_reply opens among
-part-reply sh e u d t s = go s.phase refl
+part-replied : (sh : Shape) (e u d t : ℕ) (s : CoreState) (o : Out) → Replied sh e u s o → KeepsPart sh d t 0 s o
+unfolding opens among
+part-replied sh e u d t s o (Ignored q f) = rw q (part-steady sh d t s (ignored s) (ignored-steady s))
+part-replied sh e u d t s o (Probed ph ow ph' ow' ca se cm) = rw (ph, ph', ca, se) (omega (arith, resolves-to t e d (marks_for sh s.cache u e) (resolves-marks_for sh s.cache u e t), same (all_replied sh (put s.owing e false))))
   where
-    still : (q : Phase) → KeepsPart sh d t 0 s (ignored s)
-    still q = part-steady sh d t s (ignored s) (ignored-steady s)
-
-    marks : among (Resolves t) (to (Dir e) (marks_for sh s.cache u e) (Dir d)) ≡ 0
-    marks = resolves-to t e d (marks_for sh s.cache u e) (resolves-marks_for sh s.cache u e t)
-
-    ready : (b : Bool) (v : ℕ) → s.phase ≡ Probing v → v ≡ u → KeepsPart sh d t 0 s (moves (if b then record (replied e s) { phase = Ready u } else replied e s) (to (Dir e) (marks_for sh s.cache u e)))
-    ready true v g h = rw (g, h) (omega (arith, marks))
-    ready false v g h = rw g (omega (arith, marks))
-
-    alone : (b : Bool) (v : ℕ) → s.phase ≡ Overflowing (Some v) → v ≡ u → KeepsPart sh d t 0 s (moves (if b then record (replied e s) { phase = Solo u; cache = read_cleared s.cache } else replied e s) nothing)
-    alone true v g h = rw (g, h) (omega arith)
-    alone false v g h = rw g (omega arith)
-
-    probed : (v : ℕ) → s.phase ≡ Probing v → (a b : Bool) → (v == u) ≡ a → KeepsPart sh d t 0 s (if a && b then moves (when_ready sh u (replied e s)) (to (Dir e) (marks_for sh s.cache u e)) else ignored s)
-    probed v g false b h = still s.phase
-    probed v g true false h = still s.phase
-    probed v g true true h = ready (all_replied sh (replied e s).owing) v g (grind (arith, nat_tests))
-
-    over : (v : ℕ) → s.phase ≡ Overflowing (Some v) → (a b : Bool) → (v == u) ≡ a → KeepsPart sh d t 0 s (if a && b then moves (when_alone sh u (replied e s)) nothing else ignored s)
-    over v g false b h = still s.phase
-    over v g true false h = still s.phase
-    over v g true true h = alone (all_replied sh (replied e s).owing) v g (grind (arith, nat_tests))
-
-    go : (q : Phase) → s.phase ≡ q → KeepsPart sh d t 0 s (reply_phase sh e u s q)
-    go (Probing v) g = probed v g (v == u) (s.owing e) refl
-    go (Overflowing (Some v)) g = over v g (v == u) (s.owing e) refl
-    go (Overflowing None) g = still s.phase
-    go Running g = still s.phase
-    go AwaitTid g = still s.phase
-    go DoomedTid g = still s.phase
-    go (Ready v) g = still s.phase
-    go (Solo v) g = still s.phase
-    go Halted g = still s.phase
+    same : (b : Bool) → num (opens (if b then Ready u else Probing u) (writes_at sh s.cache d) t) ≡ num ((u == t) && writes_at sh s.cache d)
+    same true = refl
+    same false = refl
+part-replied sh e u d t s o (Left_alone ph ow ph' ow' mo se cm) = rw (ph, ph', se) (same (all_replied sh (put s.owing e false)))
+  where
+    same : (b : Bool) → 0 + num (u == t) ≡ num (opens (if b then Solo u else Overflowing (Some u)) (writes_at sh o.core.cache d) t) + 0
+    same true = omega arith
+    same false = omega arith
 
 part-hurt : (sh : Shape) (d t : ℕ) (s r : CoreState) (sends : Sends) → d < sh.dirs → Hurt sh s r sends → num (opens s.phase (writes_at sh s.cache d) t) ≡ num (opens r.phase (writes_at sh r.cache d) t) + among (Resolves t) (sends (Dir d))
 unfolding among opens
@@ -146,7 +116,7 @@ unfolding among passes
 part-invalidated sh l d t s o h i = rw (i.dirs d) (omega (arith, part-hurt sh d t s o.core i.sends h i.hurt, among-append (Resolves t) (i.sends (Dir d)) (to (Dir (home sh l)) (InvAck l i.kept ∷ []) (Dir d)), resolves-to t (home sh l) d (InvAck l i.kept ∷ []) refl))
 
 pub part-back : (sh : Shape) (e d t : ℕ) (s : CoreState) (m : Msg) → d < sh.dirs → IfSome (from_dir sh e s m) (λ o. KeepsPart sh d t 0 s o)
-part-back sh e d t s (ProbeReply u v) h = part-reply sh e u d t s
+part-back sh e d t s (ProbeReply u v) h = part-replied sh e u d t s (probe_reply sh e u s) (reply-cases sh e u s)
 part-back sh e d t s (Fill l ws) h = part-steady sh d t s (fill l ws s) (fill-steady l ws s)
 part-back sh e d t s (DataReq l) h = part-steady sh d t s (data_request sh l s) (data-steady sh l s)
 part-back sh e d t s (Inv l m u) h = part-invalidated sh l d t s (invalidate sh l m u s) h (invalidate-cases sh l m u s)

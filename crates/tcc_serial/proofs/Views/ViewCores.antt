@@ -1,12 +1,12 @@
 -- What each of a core's rules does to its TID, its halt and its view.
-use Rattle.tcc_serial.proofs.Names.{line_of, word_of, moves, solo_commit, ℕ, ◌+◌, ◌≡◌, ◌⊎◌, ◌==◌, Bool, true, false, [], ◌∷◌, ◌++◌}
-use Rattle.tcc_serial.proofs.Names.{Option, Some, None, IfSome, if◌then◌else◌, arith, refl, ap, sym, ◌∙◌, inl, inr, put, Noted, Byte}
-use Rattle.tcc_serial.proofs.Names.{Half, Program, Need, Loads, Stores, Changes, num, any_below, Msg, Fill, ProbeReply, DataReq, Inv}
-use Rattle.tcc_serial.proofs.Names.{Shape, CoreState, Phase, Running, AwaitTid, DoomedTid, Probing, Ready, Overflowing, Solo, Halted, Out}
-use Rattle.tcc_serial.proofs.Names.{roll_back, commit, noted, core_exec, core_evict, grant, grant_phase, probing, is_probed, from_dir}
-use Rattle.tcc_serial.proofs.Names.{is_violated, invalidate, acknowledged, if_violated, violated_in, ignored, without, probe_reply}
-use Rattle.tcc_serial.proofs.Names.{all_replied, fill, data_request, Uses, used_in, used_at, used_by, uses_delivered, uses_violated}
-use Rattle.tcc_serial.proofs.Names.{rolls_back, has_tid, waits_for_tid, EachUse}
+use Rattle.tcc_serial.proofs.Names.{line_of, word_of, moves, solo_commit, ℕ, ◌+◌, ◌≡◌, ◌⊎◌, ◌==◌, Bool, true, false, [], ◌∷◌, ◌++◌, Option}
+use Rattle.tcc_serial.proofs.Names.{Some, None, IfSome, if◌then◌else◌, arith, refl, ap, sym, ◌∙◌, inl, inr, put, Noted, Byte, Half, Program}
+use Rattle.tcc_serial.proofs.Names.{Need, Loads, Stores, Changes, num, any_below, Msg, Fill, ProbeReply, DataReq, Inv, Shape, CoreState}
+use Rattle.tcc_serial.proofs.Names.{Phase, Running, AwaitTid, DoomedTid, Probing, Ready, Overflowing, Solo, Halted, Out, roll_back, commit}
+use Rattle.tcc_serial.proofs.Names.{noted, core_exec, core_evict, grant, grant_phase, probing, is_probed, from_dir, is_violated, invalidate}
+use Rattle.tcc_serial.proofs.Names.{acknowledged, if_violated, violated_in, ignored, without, probe_reply, all_replied, fill, data_request}
+use Rattle.tcc_serial.proofs.Names.{Uses, used_in, used_at, used_by, uses_delivered, uses_violated, rolls_back, has_tid, waits_for_tid}
+use Rattle.tcc_serial.proofs.Names.{EachUse}
 use Rattle.tcc_serial.proofs.Tids.CoreProbing.{tid-probing}
 use Rattle.tcc_serial.proofs.OneCore.CoreSteps.{evict-steady, ignored-steady, fill-steady, data-steady, Replied, Ignored, Probed}
 use Rattle.tcc_serial.proofs.OneCore.CoreSteps.{Left_alone, reply-cases}
@@ -81,7 +81,6 @@ each-append P [] vs a b = b
 each-append P (u ∷ us) vs a b = (a.0, each-append P us vs (a.1) b)
 
 -- evictions
-
 pub evict-view : (sh : Shape) (x y : ℕ) (s : CoreState) → IfSome (core_evict sh x y s) (λ o. (o.commit ≡ None) × Keeps s o.core)
 evict-view sh x y s = go (core_evict sh x y s) (evict-steady sh x y s)
   where
@@ -107,12 +106,7 @@ grant-view sh u s us w dm = go s.phase refl w
     go AwaitTid e w = (refl, inr (λ t. rw (e, tid-probing (any_below (is_probed sh s.cache) sh.dirs) u t) (omega arith), unhalted (any_below (is_probed sh s.cache) sh.dirs)))
     go DoomedTid e w = (refl, inl (dm e))
     go (Overflowing None) e w = (refl, inr (λ t. rw e (omega arith), λ q. absurd (cc)))
-    go (Overflowing (Some t)) e w = absurd (cc)
-    go Running e w = absurd (cc)
-    go (Probing t) e w = absurd (cc)
-    go (Ready t) e w = absurd (cc)
-    go (Solo t) e w = absurd (cc)
-    go Halted e w = absurd (cc)
+    go _ e w = absurd (cc)
 
 -- messages of directories
 

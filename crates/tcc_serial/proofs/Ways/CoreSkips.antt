@@ -1,12 +1,12 @@
 -- What each of a core's rules says of its TID: where it goes on with it, it has skipped it at directories where it writes nothing;
 -- and where it commits, it has spoken at each directory.
-use Rattle.tcc_serial.proofs.Names.{ℕ, ◌≡◌, ◌<◌, ◌≤◌, Bool, true, false, not, [], ◌∷◌, ◌++◌, ◌==◌, ◌&&◌, ◌||◌, Some, None, IfSome, nat_lt}
-use Rattle.tcc_serial.proofs.Names.{if◌then◌else◌, arith, refl, sym, ◌⊎◌, inl, inr, nat_tests, Noted, Program, Outcome, Goes, any_below}
-use Rattle.tcc_serial.proofs.Names.{Dir, Msg, Fill, Skip, Probe, ProbeReply, DataReq, Inv, Shape, Cache, writes_at, reads_at, CoreState}
-use Rattle.tcc_serial.proofs.Names.{Phase, Running, AwaitTid, DoomedTid, Probing, Ready, Overflowing, Solo, Halted, Out, commit}
-use Rattle.tcc_serial.proofs.Names.{committed_core, noted, phase_after, core_exec, core_evict, grant, grant_phase, grant_sends, from_dir}
-use Rattle.tcc_serial.proofs.Names.{probing, is_probed, probe_reply, ignored, all_replied, fill, data_request, invalidate, put, Skips}
-use Rattle.tcc_serial.proofs.Names.{among, passes, Words, OneCore, has_tid, Untold, told_by, live_way, commit_way, has}
+use Rattle.tcc_serial.proofs.Names.{ℕ, ◌≡◌, ◌<◌, ◌≤◌, Bool, true, false, not, [], ◌==◌, ◌&&◌, Some, None, IfSome, if◌then◌else◌, arith}
+use Rattle.tcc_serial.proofs.Names.{refl, sym, ◌⊎◌, inl, inr, nat_tests, Noted, Program, Outcome, Goes, any_below, Dir, Msg, Fill}
+use Rattle.tcc_serial.proofs.Names.{ProbeReply, DataReq, Inv, Shape, Cache, writes_at, CoreState, Phase, Running, AwaitTid, DoomedTid}
+use Rattle.tcc_serial.proofs.Names.{Probing, Ready, Overflowing, Solo, Out, commit, committed_core, noted, phase_after, core_exec}
+use Rattle.tcc_serial.proofs.Names.{core_evict, grant, grant_phase, grant_sends, from_dir, probing, is_probed, probe_reply, ignored}
+use Rattle.tcc_serial.proofs.Names.{all_replied, fill, data_request, invalidate, put, Skips, among, passes, Words, OneCore, has_tid, Untold}
+use Rattle.tcc_serial.proofs.Names.{told_by, live_way, commit_way, has}
 use Rattle.tcc_serial.proofs.OneCore.Executes.{Steady, Executed, Goes_on, Overflows, Asks_tid, Alone, did-executed}
 use Rattle.tcc_serial.proofs.OneCore.CoreSteps.{ignored-steady, fill-steady, data-steady, Hurt, Unhurt, Rolled, Doomed, Aborted, Gave_up}
 use Rattle.tcc_serial.proofs.OneCore.CoreSteps.{Invalidated, invalidate-cases, Replied, Ignored, Probed, Left_alone, reply-cases}
@@ -41,12 +41,7 @@ tells-steady sh s o y = record { skips = λ d t l e. inl (go d t s.phase refl (r
     go : (d t : ℕ) (q : Phase) → s.phase ≡ q → skips_here q (writes_at sh o.core.cache d) t ≡ true → skips_here q (writes_at sh s.cache d) t ≡ true
     go d t (Probing u) g e = rw (sym (written (λ a. rw g at a) d)) e
     go d t (Ready u) g e = rw (sym (written (λ a. rw g at a) d)) e
-    go d t Running g e = absurd (cc)
-    go d t AwaitTid g e = absurd (cc)
-    go d t DoomedTid g e = absurd (cc)
-    go d t (Overflowing u) g e = absurd (cc)
-    go d t (Solo u) g e = absurd (cc)
-    go d t Halted g e = absurd (cc)
+    go d t _ g e = absurd (cc)
 
 -- it goes on without its TID
 tells-none : (sh : Shape) (s : CoreState) (o : Out) (q : Phase) → o.core.phase ≡ q → ((b : Bool) (t : ℕ) → skips_here q b t ≡ false) → IfSome o.commit (TellsCommit sh s o) → Tells sh s o
@@ -105,12 +100,7 @@ tells-grant sh u s = go s.phase refl
     go AwaitTid e = record { skips = λ d t l x. inr (skips-granted sh s.cache (any_below (is_probed sh s.cache) sh.dirs) u d t l x); commits = tt }
     go DoomedTid e = tells-none sh s (grant_phase sh u s DoomedTid) Running refl (λ b t. refl) tt
     go (Overflowing None) e = tells-none sh s (grant_phase sh u s (Overflowing None)) (Overflowing (Some u)) refl (λ b t. refl) tt
-    go (Overflowing (Some v)) e = still
-    go Running e = still
-    go (Probing v) e = still
-    go (Ready v) e = still
-    go (Solo v) e = still
-    go Halted e = still
+    go _ e = still
 
 tells-replied : (sh : Shape) (e u : ℕ) (s : CoreState) (o : Out) → Replied sh e u s o → Tells sh s o
 tells-replied sh e u s o (Ignored q n) = rw q (tells-steady sh s (ignored s) (ignored-steady s))

@@ -1,25 +1,22 @@
 -- Every event keeps that a directory where a commit loaded or stored has reached its TID.
 use Rattle.tcc_serial.proofs.Names.{ℕ, ◌≡◌, ◌<◌, ◌≤◌, Bool, true, false, ◌&&◌, ◌||◌, ◌==◌, List, Contains, Option, Some, None, IfSome}
-use Rattle.tcc_serial.proofs.Names.{if◌then◌else◌, arith, refl, ◌∙◌, ◌⊎◌, inl, inr, nat_tests, Noted, Program, any_below, any_word}
-use Rattle.tcc_serial.proofs.Names.{word_at, Dir, Msg, Event, Fill, ProbeReply, DataReq, Inv, Shape, home, lines, writes_at, reads_at}
-use Rattle.tcc_serial.proofs.Names.{is_modified, any_below-at, any_below-found, CoreState, DirState, Phase, Running, AwaitTid, DoomedTid}
-use Rattle.tcc_serial.proofs.Names.{Probing, Ready, Overflowing, Solo, Halted, World, Out, Sends, commit, noted, core_exec, core_evict}
-use Rattle.tcc_serial.proofs.Names.{grant, grant_phase, from_dir, probe_reply, Answer, Waits, Drops, Asks, Takes, dir_deliver, core_moves}
-use Rattle.tcc_serial.proofs.Names.{core_takes, dir_takes, dir_asks, vendor_gives, Stepped, step, and_noted, Kept, OneCore, KeptCores}
-use Rattle.tcc_serial.proofs.Names.{pair, Reached, stores_at, loads_word, sent_by, LoadsMarked, KeptLoads, loads_at, worked_at}
-use Rattle.tcc_serial.proofs.Names.{KeptWorked, answered, moved, place, put, replied, stored, taken}
+use Rattle.tcc_serial.proofs.Names.{if◌then◌else◌, arith, refl, ◌∙◌, ◌⊎◌, inl, inr, nat_tests, Noted, Program, any_below, any_word, word_at}
+use Rattle.tcc_serial.proofs.Names.{Dir, Msg, Event, Shape, home, lines, writes_at, reads_at, is_modified, any_below-at, any_below-found}
+use Rattle.tcc_serial.proofs.Names.{CoreState, DirState, Ready, World, Out, Sends, commit, noted, core_exec, core_evict, grant, from_dir}
+use Rattle.tcc_serial.proofs.Names.{Answer, Waits, Drops, Asks, Takes, dir_deliver, core_moves, core_takes, dir_takes, dir_asks}
+use Rattle.tcc_serial.proofs.Names.{vendor_gives, Stepped, step, and_noted, Kept, OneCore, KeptCores, pair, Reached, stores_at, loads_word}
+use Rattle.tcc_serial.proofs.Names.{sent_by, LoadsMarked, KeptLoads, loads_at, worked_at, KeptWorked, answered, moved, place, put, replied}
+use Rattle.tcc_serial.proofs.Names.{stored, taken, solo_commit}
 use Rattle.tcc_serial.proofs.Ways.ByCore.{ByCore, Still, Moved, by_core}
 use Rattle.tcc_serial.proofs.OneCore.CoreLoads.{loads-exec, loads-evict}
 use Rattle.tcc_serial.proofs.OneCore.CoreLoadsTakes.{loads-grant, loads-back}
 use Rattle.tcc_serial.proofs.Marks.StoredMasks.{stored-written}
 use Rattle.tcc_serial.proofs.Serving.DirProbes.{RisesBy, dir-rises}
-use Rattle.tcc_serial.proofs.OneCore.Executes.{Executed, Goes_on, Overflows, Asks_tid, Alone, did-executed}
-use Rattle.tcc_serial.proofs.OneCore.CoreSteps.{fill-steady, data-steady, invalidate-cases, Replied, Ignored, Probed, Left_alone}
-use Rattle.tcc_serial.proofs.OneCore.CoreSteps.{reply-cases, steady-emptied}
 use Rattle.tcc_serial.proofs.Tids.Commits.{inserted}
 use Rattle.tcc_serial.proofs.Counts.StepCases.{OfAnswer, step_cases}
 use Rattle.tcc_serial.proofs.OneCore.Said.{quiet}
-use Rattle.tcc_serial.proofs.OneCore.Outcomes.{Commits_now, Did, each-exec, out, each-evict}
+use Rattle.tcc_serial.proofs.OneCore.Outcomes.{Commits_now, Did, each-exec, out, each-evict, Ends_alone, Given_none, Granted, Hands_out}
+use Rattle.tcc_serial.proofs.OneCore.Outcomes.{Heard, each-back, each-grant, granted, heard}
 
 -- a core that loaded a word of a line has marked words at its home
 loaded-touches : (sh : Shape) (s : CoreState) (d : ℕ) → ((w : ℕ) → loads_word sh.base s.loads w ≡ true → (s.cache.read w || s.cache.modified w) ≡ true) → loads_at sh d s.loads ≡ true → (writes_at sh s.cache d || reads_at sh s.cache d) ≡ true
@@ -68,19 +65,14 @@ ready-works sh dirs id u s e h k r = λ d l w. rw e at ((r d).reached l (rw e (t
         go false p true q w = rw (stored d ∙ q) refl
         go false p false q w = absurd (cc)
 
-executed-works : (sh : Shape) (dirs : ℕ → DirState) (c : ℕ) (s : CoreState) (o : Out) → AllReached sh dirs s → Executed sh c s o → Works sh dirs o
-unfolding noted
-executed-works sh dirs c s o r (Goes_on y) = rw (y.commit) tt
-executed-works sh dirs c s o r (Overflows p ph ow cm ve di) = rw cm tt
-executed-works sh dirs c s o r (Asks_tid p ph ow cm ve di) = rw cm tt
-executed-works sh dirs c s o r (Alone u q p ph ow cm se) = rw cm (λ d l w. rw p at ((r d).reached l (rw p refl) ((r d).replied l (rw p refl))))
-
 exec-works : (sh : Shape) (p : Program) (dirs : ℕ → DirState) (c : ℕ) (s : CoreState) → OneCore sh s → LoadsMarked sh s → AllReached sh dirs s → IfSome (core_exec sh p c s) (λ o. Works sh dirs o)
+unfolding solo_commit noted
 exec-works sh p dirs c s h k r = each-exec sh p c s (λ o. Works sh dirs o) go
   where
     go : (x : Did sh p c s) → Works sh dirs (out x)
+    go (Ends_alone u o e f q i) = λ d l w. rw q at ((r d).reached l (rw q refl) ((r d).replied l (rw q refl)))
     go (Commits_now u e) = ready-works sh dirs c u s e h k r
-    go x = executed-works sh dirs c s (out x) r (did-executed x)
+    go _ = tt
 
 -- the served TIDs rise
 
@@ -117,23 +109,21 @@ step-later sh p w e = step_cases sh p w e (λ g o. Later w o.world)
 -- only a core that executes commits
 
 none-evict : (sh : Shape) (x y : ℕ) (s : CoreState) → IfSome (core_evict sh x y s) (λ o. o.commit ≡ None)
-none-evict sh x y s = each-evict sh x y s (λ o. o.commit ≡ None) (λ k q u z. (steady-emptied sh x y s k q u z).commit)
+none-evict sh x y s = each-evict sh x y s (λ o. o.commit ≡ None) (λ k q u z. refl)
 
 none-grant : (sh : Shape) (u : ℕ) (s : CoreState) → (grant sh u s).commit ≡ None
-unfolding grant
-none-grant sh u s = grind (arith, nat_tests)
-
-none-replied : (sh : Shape) (e u : ℕ) (s : CoreState) (o : Out) → Replied sh e u s o → o.commit ≡ None
-none-replied sh e u s o (Ignored q n) = rw q refl
-none-replied sh e u s o (Probed g f ph ow ca se cm) = cm
-none-replied sh e u s o (Left_alone g f ph ow mo se cm) = cm
+none-grant sh u s = each-grant sh u s (λ o. o.commit ≡ None) go
+  where
+    go : (x : Granted sh u s) → (granted x).commit ≡ None
+    go (Given_none e) = refl
+    go _ = refl
 
 none-back : (sh : Shape) (e : ℕ) (s : CoreState) (m : Msg) → IfSome (from_dir sh e s m) (λ o. o.commit ≡ None)
-none-back sh e s (ProbeReply u v) = none-replied sh e u s (probe_reply sh e u s) (reply-cases sh e u s)
-none-back sh e s (Fill l ws) = (fill-steady l ws s).commit
-none-back sh e s (DataReq l) = (data-steady sh l s).commit
-none-back sh e s (Inv l m u) = (invalidate-cases sh l m u s).commit
-none-back sh e s _ = tt
+none-back sh e s m = each-back sh e s (λ m o. o.commit ≡ None) go m
+  where
+    go : (x : Heard sh e s) → (heard x).commit ≡ None
+    go (Hands_out l) = refl
+    go _ = refl
 
 -- both by what the core does
 
