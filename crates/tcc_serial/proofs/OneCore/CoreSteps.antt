@@ -7,8 +7,8 @@ use Rattle.tcc_serial.proofs.Names.{Running, AwaitTid, DoomedTid, Probing, Ready
 use Rattle.tcc_serial.proofs.Names.{written_back, abort_written, skip_all, marks_for, Out, moves, is_solo, core_evict, is_awaited}
 use Rattle.tcc_serial.proofs.Names.{ignored, fill, fill_awaited, data_request, invalidate, probe_reply, all_replied, Protocol, among}
 use Rattle.tcc_serial.proofs.Names.{passes, commit, kept, marked, unmarked, Inv, Msg, ProbeReply}
-use Rattle.tcc_serial.proofs.OneCore.Executes.{Steady, flushed-quiet}
-use Rattle.tcc_serial.proofs.OneCore.Said.{quiet, Empties, Aborts_all, Said, Silent, Skips_all, say}
+use Rattle.tcc_serial.proofs.OneCore.Executes.{Steady}
+use Rattle.tcc_serial.proofs.OneCore.Said.{quiet, Empties, Aborts_all, Said, Silent, Skips_all, say, Flushes}
 use Rattle.tcc_serial.proofs.OneCore.Outcomes.{Acts, acked, each-evict, emptied, Heard, Hurt_alone, Hurt_none, Hurt_probing, Hurt_running}
 use Rattle.tcc_serial.proofs.OneCore.Outcomes.{Hurt_waiting, Ignores_reply, Last_probing, Last_room, Reply_probing, Reply_room, each-back}
 use Rattle.tcc_serial.proofs.OneCore.Outcomes.{heard, message}
@@ -89,8 +89,8 @@ fill-steady l ws s = go s.awaited
     go (Some a) = one a (a.line == l)
 
 pub data-steady : (sh : Shape) (l : ℕ) (s : CoreState) → Steady s (data_request sh l s)
-unfolding data_request cleaned flushed
-data-steady sh l s = record { phase = refl; owing = refl; commit = refl; vendor = refl; quiet = λ d. flushed-quiet sh s.cache l d; modified = λ h v. refl; read = λ h v. refl }
+unfolding data_request cleaned flushed passes
+data-steady sh l s = record { phase = refl; owing = refl; commit = refl; vendor = refl; quiet = λ d. quiet sh s Protocol (Flushes l) (λ y. refl) d; modified = λ h v. refl; read = λ h v. refl }
 
 -- what an invalidation comes to, apart from the words that it makes invalid
 pub data Hurt (sh : Shape) (s r : CoreState) (sends : Sends) : Type 0 where
