@@ -28,7 +28,7 @@ unfoldable pub use Rattle.tcc_maps.specs.Cache.{writes_at, is_modified, modified
 unfoldable pub use Rattle.tcc_maps.specs.Cache.{is_dirty, reads_at, dirty_copy, keeps, empty_cache, dirty_words, first_of_line}
 unfoldable pub use Rattle.tcc_maps.specs.CacheChange.{evicted, read_cleared, filled, marked, cleaned, stored, invalidated, placed}
 unfoldable pub use Rattle.tcc_maps.specs.CacheChange.{committed, rolled_back, evicted_line, placed_at, words_dropped}
-pub use Rattle.tcc_maps.specs.Judge.{Drops as IsDropped, Takes as IsTaken, Waits as IsEarly, Judgement, is_owner}
+pub use Rattle.tcc_maps.specs.Judge.{Drops as IsDropped, Takes as IsTaken, Waits as IsEarly, is_owner}
 unfoldable pub use Rattle.tcc_maps.specs.Judge.{judge}
 pub use Rattle.tcc_maps.specs.Lines.{has_mark, Lines}
 unfoldable pub use Rattle.tcc_maps.specs.Lines.{with_asked, no_lines, with_sharer, unmarked, with_mark, with_owner}
@@ -54,7 +54,7 @@ unfoldable pub use Rattle.tcc_rules.specs.Commit.{commit, committed_core, noted,
 unfoldable pub use Rattle.tcc_rules.specs.Commit.{written_mask, solo_commit, solo_backs, solo_marks, after_commit}
 pub use Rattle.tcc_rules.specs.Commit.{phase_after, ended_after}
 pub use Rattle.tcc_rules.specs.CoreDeliver.{from_dir, grant_phase, ignored, all_replied, replied, reply_phase, violated_in, when_alone}
-pub use Rattle.tcc_rules.specs.CoreDeliver.{when_ready, fill_awaited, probing, staled, is_above, from_vendor}
+pub use Rattle.tcc_rules.specs.CoreDeliver.{when_ready, fill_awaited, probing, staled, is_above}
 unfoldable pub use Rattle.tcc_rules.specs.CoreDeliver.{grant, data_request, probe_reply, fill, invalidate, is_violated, acknowledged}
 unfoldable pub use Rattle.tcc_rules.specs.CoreDeliver.{if_violated, without, grant_sends, is_probed, core_deliver}
 pub use Rattle.tcc_rules.specs.CoreEvict.{is_awaited, evict_line}
@@ -81,14 +81,12 @@ pub use Rattle.tcc_rules.specs.Step.{History, and_noted, Stepped, recorded, and_
 pub use Rattle.tcc_rules.specs.Step.{answered}
 unfoldable pub use Rattle.tcc_rules.specs.Step.{core_moves, step, core_takes, dir_takes, dir_asks, vendor_gives, insert_commit, run, next}
 unfoldable pub use Rattle.tcc_rules.specs.Step.{run_from, happens, names_nodes}
-pub use Rattle.tcc_attempt.proofs.Lemmas.{hit-line, SameBut, finished-same, hit-reads, valid-held, attempts-fit, patched-small}
-pub use Rattle.tcc_attempt.proofs.Lemmas.{start-follows}
+pub use Rattle.tcc_attempt.proofs.Lemmas.{hit-line, hit-reads, valid-held, attempts-fit, patched-small, start-follows}
 pub use Rattle.tcc_attempt.specs.Follows.{Uses, Agrees, Reaches, FollowsIn, HasEnded, IsSmall, NeedFits, used_by, EndFits, Fits, used_at}
 pub use Rattle.tcc_attempt.specs.Follows.{used_in}
 unfoldable pub use Rattle.tcc_attempt.specs.Follows.{sees}
 pub use Rattle.tcc_attempt.specs.Marks.{UsesStand, AllStand, AttemptFits, MarksFit}
 pub use Rattle.tcc_attempt.specs.Views.{Views, uses_delivered, views_after, uses_executed, no_views, rolls_back, uses_violated}
-pub use Rattle.tcc_attempt.specs.Views.{views_delivered}
 unfoldable pub use Rattle.tcc_attempt.specs.Views.{views_from}
 pub use Rattle.tcc_serial.specs.Aim.{Suits, AllHold, IsSerialExecution, RunsAreSerial}
 pub use Rattle.tcc_serial.specs.Alone.{ReadFits, IsApart, OwingFits, PhaseFits}

@@ -1,8 +1,7 @@
 -- The facts of the list on copies, from what is kept of each line in memory; and that the start has it.
-use Rattle.tcc_serial.proofs.Names.{ℕ, ◌≡◌, ◌<◌, ◌==◌, ◌&&◌, Bool, true, false, not, List, [], arith, refl, nat_tests, Noted, Local, num}
-use Rattle.tcc_serial.proofs.Names.{any_below, any_word, Cache, empty_cache, is_dirty, dirty_tag, dirty_mask, no_lines, Shape, World, start}
-use Rattle.tcc_serial.proofs.Names.{core_start, dir_start, copies_with, AboveOf, KeptAbove, OwnedOf, KeptOwned, live, Pair, pair, wrote}
-use Rattle.tcc_serial.proofs.Names.{wrote_line, wrote_mask}
+use Rattle.tcc_serial.proofs.Names.{ℕ, ◌≡◌, ◌<◌, true, false, List, [], arith, refl, nat_tests, Noted, Local, any_below, any_word, Cache}
+use Rattle.tcc_serial.proofs.Names.{empty_cache, is_dirty, dirty_tag, dirty_mask, no_lines, Shape, World, start, core_start, dir_start}
+use Rattle.tcc_serial.proofs.Names.{copies_with, AboveOf, KeptAbove, OwnedOf, KeptOwned, live, Pair, pair, wrote, wrote_line, wrote_mask}
 use Rattle.tcc_serial.proofs.Copies.DirtyFrames.{frame_copy, frame_wrong}
 use Rattle.tcc_serial.proofs.Copies.LinesKept.{KeptLines}
 use Rattle.tcc_serial.proofs.Copies.PairCopies.{line_copies, line_wrong, LineCopies}

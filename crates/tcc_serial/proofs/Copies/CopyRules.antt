@@ -3,10 +3,10 @@ use Rattle.tcc_serial.proofs.Names.{ℕ, ◌≡◌, ◌<◌, ◌==◌, ◌&&◌,
 use Rattle.tcc_serial.proofs.Names.{arith, refl, sym, ◌∙◌, num, any_word, word_at, mask_of, Dir, Shape, home, lines, Cache, is_modified}
 use Rattle.tcc_serial.proofs.Names.{modified_mask, committed, words_dropped, Spilled, holds, spilled_mask, any_below-at, CoreState, Ready}
 use Rattle.tcc_serial.proofs.Names.{commit, committed_core, noted, solo_commit, commit_sends, is_written, written_mask, OneCore, Words}
-use Rattle.tcc_serial.proofs.Names.{stores_in, names_line, ◌+◌, ◌≤◌, ◌⊎◌, IfSome, inl, inr, cases_eq, nat_tests, Program, word_of}
-use Rattle.tcc_serial.proofs.Names.{line_of, hit, Msg, Inv, IsCache, filled, cleaned, invalidated, rolled_back, read_cleared, nothing}
-use Rattle.tcc_serial.proofs.Names.{Out, moves, is_solo, grant, from_dir, core_exec, core_evict, dirty-evicted, CopyOf, among, passes}
-use Rattle.tcc_serial.proofs.Names.{stored, marked, copies, placed}
+use Rattle.tcc_serial.proofs.Names.{stores_in, names_line, ◌+◌, ◌≤◌, ◌⊎◌, IfSome, inl, inr, cases_eq, nat_tests, Program, word_of, line_of}
+use Rattle.tcc_serial.proofs.Names.{hit, Msg, Inv, IsCache, filled, cleaned, invalidated, rolled_back, read_cleared, nothing, Out, moves}
+use Rattle.tcc_serial.proofs.Names.{is_solo, grant, from_dir, core_exec, core_evict, dirty-evicted, CopyOf, among, passes, stored, marked}
+use Rattle.tcc_serial.proofs.Names.{copies, placed}
 use Rattle.tcc_serial.proofs.Copies.CopySends.{few-masks, commit-copies, solo-copies, solo-wrong, flushed-leaves, back-home-leaves}
 use Rattle.tcc_serial.proofs.Copies.CoreCopies.{Conserves, conserves-still, conserves-sent, framed-dirty, placed-dirty}
 use Rattle.tcc_serial.proofs.Copies.DirtyFrames.{wrong-copy, IsClean, clean-frame, in-line, committed-frame, frame_copy, fewer-frame}
@@ -40,7 +40,6 @@ none-held sp l e k i = go (sp (word_at l k)) refl
     go (Some x) q = absurd (let a = any_below-at (λ k. is_some (sp (word_at l k))) 8 k i (rw q refl) in cc)
 
 -- of a line without spilled words the written ones are the modified ones, and of one with some they are the spilled ones
-
 unspilled-mask : (c : Cache) (sp : Spilled) (l : ℕ) → ((k : ℕ) → k < 8 → sp (word_at l k) ≡ None) → written_mask c sp l ≡ modified_mask c l
 unfolding written_mask modified_mask mask_of
 unspilled-mask c sp l h = rw (h 0 (omega arith), h 1 (omega arith), h 2 (omega arith), h 3 (omega arith), h 4 (omega arith), h 5 (omega arith), h 6 (omega arith), h 7 (omega arith)) (rw (or-none (c.modified (word_at l 0)), or-none (c.modified (word_at l 1)), or-none (c.modified (word_at l 2)), or-none (c.modified (word_at l 3)), or-none (c.modified (word_at l 4)), or-none (c.modified (word_at l 5)), or-none (c.modified (word_at l 6)), or-none (c.modified (word_at l 7))) refl)
@@ -117,7 +116,6 @@ pub record InMemory (sh : Shape) (l : ℕ) : Type 0 where
   pub home : home sh l < sh.dirs
 
 -- executing
-
 pub copies-exec : (sh : Shape) (l : ℕ) (p : Program) (id : ℕ) (s : CoreState) → InMemory sh l → OneCore sh s → IfSome (core_exec sh p id s) (Conserves sh l s)
 unfolding passes marked stored
 copies-exec sh l p id s m h = each-exec sh p id s (Conserves sh l s) go

@@ -1,9 +1,9 @@
 -- Every event keeps the copies of each line in memory: the owner's one with the line's tag, and those of commits on their way with a
 -- larger one.
-use Rattle.tcc_serial.proofs.Names.{ℕ, ◌+◌, ◌≡◌, ◌<◌, ◌≤◌, ◌==◌, false, List, Option, Some, None, IfSome, arith, refl, ap, sym, subst}
-use Rattle.tcc_serial.proofs.Names.{inl, inr, nat_tests, Noted, num, Core, Dir, Shape, home, lines, World, Out, core_moves, History}
-use Rattle.tcc_serial.proofs.Names.{and_noted, insert_commit, KeptTags, KeptLineOwners, Commits, live, among, KeptRun, Grant, times, Pair}
-use Rattle.tcc_serial.proofs.Names.{pair, after_move, share, part, Ways, part_in, commit, copies, has, keeps, kept, noted, owned}
+use Rattle.tcc_serial.proofs.Names.{ℕ, ◌+◌, ◌≡◌, ◌<◌, ◌≤◌, ◌==◌, false, List, Option, Some, None, IfSome, arith, refl, ap, sym, subst, inl}
+use Rattle.tcc_serial.proofs.Names.{inr, nat_tests, Noted, num, Core, Dir, Shape, home, lines, World, Out, core_moves, History, and_noted}
+use Rattle.tcc_serial.proofs.Names.{insert_commit, KeptTags, KeptLineOwners, Commits, live, among, KeptRun, Grant, times, Pair, pair}
+use Rattle.tcc_serial.proofs.Names.{after_move, share, part, Ways, part_in, commit, copies, has, keeps, kept, noted, owned}
 use Rattle.tcc_serial.proofs.Serving.CommitSteps.{ofs-resolve}
 use Rattle.tcc_serial.proofs.Marks.CoreAfter.{AfterStep}
 use Rattle.tcc_serial.proofs.Copies.CoreCopies.{Conserves}
@@ -89,10 +89,9 @@ own-lines sh gs ys h c d o b a l cl dl ll e = go (a.after)
 
 -- another core's: what it wrote stays
 more-lines : (base : ℕ) (n : Noted) (cs : List Noted) (j l : ℕ) (v : Pair) → (n.core.0 == j) ≡ false → LineCopies base cs j l v → LineCopies base (insert_commit n cs) j l v
-more-lines base n cs j l v e h = record { owned = h.owned; above = λ t i. rw (same t).line (h.above t i); masks = λ t i. rw (same t).mask (h.masks t i) }
-  where
-    same : (t : ℕ) → SameWrote base cs (insert_commit n cs) j t l
-    same t = wrote-other base n cs j t l (rw e refl)
+more-lines base n cs j l v e h =
+    let same : (t : ℕ) → SameWrote base cs (insert_commit n cs) j t l = λ t. wrote-other base n cs j t l (rw e refl) in
+    record { owned = h.owned; above = λ t i. rw (same t).line (h.above t i); masks = λ t i. rw (same t).mask (h.masks t i) }
 
 other-lines : (sh : Shape) (h : History) (c j d : ℕ) (o : Out) → (j ≡ c → ⊥) → KeptLines sh h.commits h.world → AfterStep sh c (h.world.cores c) o → CopiesAt sh (and_noted o.commit h.commits) j d (pair h.world j d)
 other-lines sh h c j d o n k (inl x) = subst (λ a. CopiesAt sh (and_noted a h.commits) j d (pair h.world j d)) (sym (x.commit)) (k j d)

@@ -6,8 +6,8 @@ use Rattle.tcc_serial.proofs.Names.{lines, any_below-at, DirState, World, start,
 use Rattle.tcc_serial.proofs.Names.{from_dir, Answer, Waits, Drops, Asks, Takes, dir_deliver, core_moves, core_takes, dir_takes, dir_asks}
 use Rattle.tcc_serial.proofs.Names.{vendor_gives, History, Stepped, and_noted, insert_commit, step, settled_in_line, KeptTags, Kind}
 use Rattle.tcc_serial.proofs.Names.{Commits, live, passes, KeptAll, KeptRun, pair, Grant, is_settled, is_applied, CommitsStand, stored_mask}
-use Rattle.tcc_serial.proofs.Names.{stores_at, SettledCommit, stores_word, Ways, names_line, last_of, ◌-◌, ◌||◌, ◌∷◌, cases_lt, Inv, Invs}
-use Rattle.tcc_serial.proofs.Names.{InvOf, KeptNamed, due, OwedAt, times, share, KeptStored}
+use Rattle.tcc_serial.proofs.Names.{stores_at, SettledCommit, stores_word, Ways, names_line, last_of, ◌-◌, ◌∷◌, cases_lt, Inv, Invs, InvOf}
+use Rattle.tcc_serial.proofs.Names.{KeptNamed, due, OwedAt, times, share, KeptStored}
 use Rattle.tcc_serial.proofs.Copies.WroteLines.{on-its-way, applied-or}
 use Rattle.tcc_serial.proofs.Counts.Links.{num-same, live-takes, total-le}
 use Rattle.tcc_serial.proofs.Counts.StepCases.{and-false, OfAnswer, step_cases}

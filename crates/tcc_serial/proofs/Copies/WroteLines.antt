@@ -64,10 +64,9 @@ wrote-all base cs c t l n h = record { line = same-line (wrote base cs c t) (sto
 
 -- a new commit
 pub wrote-new : (base : ℕ) (n : Noted) (cs : List Noted) (c t l : ℕ) → n.core.0 ≡ c → n.tid.0 ≡ t → times t cs ≡ 0 → Wrote base (insert_commit n cs) c t l n
-wrote-new base n cs c t l e f z = wrote-all base (insert_commit n cs) c t l n (λ w. wrote-insert base n cs c t w ∙ rw (wrote-none base cs c t w z, e, f) (own (stores_word base n.stores w)))
-  where
-    own : (b : Bool) → (((c == c) && ((t == t) && b)) || false) ≡ b
-    own b = grind (arith, nat_tests)
+wrote-new base n cs c t l e f z =
+    let own : (b : Bool) → (((c == c) && ((t == t) && b)) || false) ≡ b = λ b. grind (arith, nat_tests) in
+    wrote-all base (insert_commit n cs) c t l n (λ w. wrote-insert base n cs c t w ∙ rw (wrote-none base cs c t w z, e, f) (own (stores_word base n.stores w)))
 
 -- what another one stored stays
 pub record SameWrote (base : ℕ) (cs ds : List Noted) (c t l : ℕ) : Type 0 where

@@ -2,12 +2,12 @@
 use Rattle.tcc_serial.proofs.Names.{ℕ, ◌-◌, ◌≡◌, ◌<◌, ◌≤◌, ◌⊎◌, Bool, true, false, List, [], ◌∷◌, get_or, ◌==◌, ◌&&◌, ◌||◌, not, Option}
 use Rattle.tcc_serial.proofs.Names.{Some, None, nat_lt, nat_le, if◌then◌else◌, arith, refl, inl, inr, nat_tests, num, count_below, those}
 use Rattle.tcc_serial.proofs.Names.{place_of, hit, full, Lines, has_mark, with_asked, with_mark, with_sharer, with_owner, unmarked, judge}
-use Rattle.tcc_serial.proofs.Names.{is_owner, IsTaken, IsDropped, IsEarly, advance, skipped, kept, Core, Msg, TidReq, TidGrant, LoadReq}
-use Rattle.tcc_serial.proofs.Names.{Fill, Skip, Probe, ProbeReply, Mark, Commit, Abort, WriteBack, Flush, DataReq, Inv, InvAck, Shape}
-use Rattle.tcc_serial.proofs.Names.{lines, DirState, nothing, to, Answer, Waits, Drops, Asks, Takes, skip, abort, acknowledgement}
-use Rattle.tcc_serial.proofs.Names.{dir_deliver, moved_on, settled, owned, owed_by, invalidations, invs_to, is_invalidated, unless_keeps}
-use Rattle.tcc_serial.proofs.Names.{ask_owner, load_owned, load_request, line_words, marking, mark_owned, mark, judged, write_back}
-use Rattle.tcc_serial.proofs.Names.{came_home, probe, Kind, among, passes}
+use Rattle.tcc_serial.proofs.Names.{is_owner, IsTaken, IsDropped, IsEarly, advance, skipped, kept, Core, Msg, LoadReq, Fill, Skip, Probe}
+use Rattle.tcc_serial.proofs.Names.{ProbeReply, Mark, Commit, Abort, WriteBack, Flush, DataReq, Inv, InvAck, Shape, lines, DirState}
+use Rattle.tcc_serial.proofs.Names.{nothing, to, Answer, Waits, Drops, Asks, Takes, skip, abort, acknowledgement, dir_deliver, moved_on}
+use Rattle.tcc_serial.proofs.Names.{settled, owned, owed_by, invalidations, invs_to, is_invalidated, unless_keeps, ask_owner, load_owned}
+use Rattle.tcc_serial.proofs.Names.{load_request, line_words, marking, mark_owned, mark, judged, write_back, came_home, probe, Kind, among}
+use Rattle.tcc_serial.proofs.Names.{passes}
 use Rattle.tcc_rules.specs.DirDeliver.{commit}
 use Rattle.tcc_serial.proofs.Counts.Links.{among-flat_map_none}
 

@@ -1,14 +1,13 @@
 -- What is to be shown of a step, by the kind of its event, and what each kind does to the pairs of a core and a directory.
 use Rattle.tcc_serial.proofs.Names.{DirState, from_dir, ℕ, ◌+◌, ◌≡◌, ◌<◌, Bool, true, false, List, [], ◌∷◌, ◌++◌, ◌==◌, ◌&&◌, arith, refl}
-use Rattle.tcc_serial.proofs.Names.{ap, sym, subst, ◌∙◌, ◌⊎◌, inl, inr, nat_tests, cases_eq, Node, Core, Dir, Vendor, Msg, TidGrant, total}
+use Rattle.tcc_serial.proofs.Names.{ap, sym, subst, ◌∙◌, inl, inr, nat_tests, cases_eq, Node, Core, Dir, Vendor, Msg, TidGrant, total}
 use Rattle.tcc_serial.proofs.Names.{World, Link, sent_all, to, Out, core_moves, core_takes, dir_takes, dir_asks, vendor_gives, Pair, pair}
 use Rattle.tcc_serial.proofs.Names.{after_move, grant_taken, back_taken, after_answer, out_taken, after_grant, after_other_grant, share}
 use Rattle.tcc_serial.proofs.Names.{sum_of, Option, Some, None, IfSome, nat_lt, if◌then◌else◌, Program, Event, Exec, Evict, Deliver, TidReq}
-use Rattle.tcc_serial.proofs.Names.{LoadReq, Fill, Skip, Probe, ProbeReply, Mark, Commit, Abort, WriteBack, Flush, DataReq, Inv, InvAck}
 use Rattle.tcc_serial.proofs.Names.{Shape, in_flight, Sends, nothing, core_exec, core_evict, core_deliver, grant, Answer, Waits, Drops}
 use Rattle.tcc_serial.proofs.Names.{Asks, Takes, dir_deliver, Stepped, step, moved, taken, answered, delivered, if_in_flight, happens}
 use Rattle.tcc_serial.proofs.Names.{names_nodes, is_node, Grant, grant_for, granted_by, sends_of, sends_for, sent_by, Uses, used_by, Views}
-use Rattle.tcc_serial.proofs.Names.{uses_executed, uses_delivered, views_delivered, views_after, put}
+use Rattle.tcc_serial.proofs.Names.{uses_executed, uses_delivered, views_after, put}
 use Rattle.tcc_rules.specs.VendorDeliver.{Granted}
 use Rattle.tcc_serial.proofs.Counts.Links.{total-same, total-at, total-plus}
 

@@ -1,9 +1,9 @@
 -- By an instruction, an eviction or a grant a core comes to hold a line only by a commit that stored in it.
 use Rattle.tcc_serial.proofs.Names.{ℕ, ◌≡◌, ◌⊎◌, ◌||◌, Bool, true, false, Option, Some, None, IfSome, is_some, refl, sym, ◌∙◌, inl, inr}
-use Rattle.tcc_serial.proofs.Names.{Noted, Program, word_of, line_of, Shape, set_of, Cache, is_modified, free_way, placed, placed_at}
-use Rattle.tcc_serial.proofs.Names.{holds, CoreState, Phase, Running, Ready, Solo, Out, is_solo, commit, committed_core, noted}
-use Rattle.tcc_serial.proofs.Names.{solo_commit, is_written, grant, core_exec, core_evict, keeps_unmodified, is_fresh, OneCore, Words}
-use Rattle.tcc_serial.proofs.Names.{acting, names_line, kept}
+use Rattle.tcc_serial.proofs.Names.{Noted, Program, word_of, line_of, Shape, set_of, Cache, is_modified, free_way, placed, placed_at, holds}
+use Rattle.tcc_serial.proofs.Names.{CoreState, Phase, Running, Ready, Solo, Out, is_solo, commit, committed_core, noted, solo_commit}
+use Rattle.tcc_serial.proofs.Names.{is_written, grant, core_exec, core_evict, keeps_unmodified, is_fresh, OneCore, Words, acting}
+use Rattle.tcc_serial.proofs.Names.{names_line, kept}
 use Rattle.tcc_serial.proofs.Lines.HeldWords.{Fewer, fewer-kept, fewer-marked, fewer-stored, fewer-evicted, kept-committed, kept-alone}
 use Rattle.tcc_serial.proofs.Marks.StoredMasks.{unspilled, modified-line, written-line}
 use Rattle.tcc_serial.proofs.OneCore.Outcomes.{Acts, Buffers, Commits_now, Did, Ends_alone, Ends_run, Finds, Frames, Frames_anew}
@@ -40,14 +40,9 @@ placed-fewer sh k l c = go (free_way sh c (set_of sh k))
 
 placed-reads : (sh : Shape) (k : ℕ) (c : Cache) → ReadsValid c → ReadsValid (placed sh k c)
 unfolding placed placed_at
-placed-reads sh k c h = go (free_way sh c (set_of sh k))
-  where
-    go : (a : Option ℕ) → ReadsValid (placed_at a (set_of sh k) k c)
-    go None = h
-    go (Some y) = h
+placed-reads sh k c h = elim (free_way sh c (set_of sh k)) as (λ a. ReadsValid (placed_at a (set_of sh k) k c)) [ None ↦ h | Some y ↦ h ]
 
 -- commits
-
 ready-kept : (sh : Shape) (l id u : ℕ) (s : CoreState) → s.phase ≡ Ready u → OneCore sh s → KeptBy sh l s (commit sh id u s)
 unfolding commit committed_core noted names_line
 ready-kept sh l id u s e h q = go (kept-committed u l s.cache q)

@@ -1,9 +1,9 @@
 -- By a message a core comes to hold a line only by the Fill that it awaits; and where it says that it keeps no word it holds none.
 use Rattle.tcc_serial.proofs.Names.{put, invalidated, none_spilled, Running, DoomedTid, Solo, moves, ℕ, ◌≡◌, ◌⊎◌, ◌==◌, ◌&&◌, ◌||◌, Bool}
 use Rattle.tcc_serial.proofs.Names.{true, false, not, List, Option, Some, None, IfSome, is_some, arith, refl, sym, inl, inr, nat_tests}
-use Rattle.tcc_serial.proofs.Names.{any_word, word_at, Dir, Msg, ProbeReply, Inv, Shape, home, Cache, keeps, filled, cleaned}
-use Rattle.tcc_serial.proofs.Names.{read_cleared, any_below-found, any_below-at, CoreState, Awaited, nothing, Out, from_dir, staled}
-use Rattle.tcc_serial.proofs.Names.{is_awaited, keeps_unmodified, is_fresh, FillOf, GoneOf, InvOf, among, passes, holds, kept, ◌/◌}
+use Rattle.tcc_serial.proofs.Names.{any_word, word_at, Dir, Msg, ProbeReply, Inv, Shape, home, Cache, keeps, filled, cleaned, read_cleared}
+use Rattle.tcc_serial.proofs.Names.{any_below-found, any_below-at, CoreState, Awaited, nothing, Out, from_dir, staled, is_awaited}
+use Rattle.tcc_serial.proofs.Names.{keeps_unmodified, is_fresh, FillOf, GoneOf, InvOf, among, passes, holds, kept, ◌/◌}
 use Rattle.tcc_serial.proofs.Lines.HeldWords.{Fewer, is_kept, fewer-kept, fewer-invalidated, fewer-rolled, fewer-cleared}
 use Rattle.tcc_serial.proofs.OneCore.Said.{Aborts_all, Said, Silent, Skips_all, Unheard, acked-quiet, quiet, say}
 use Rattle.tcc_serial.proofs.OneCore.Outcomes.{Last_room, Fills, Fills_none, Heard, Hurt_alone, Hurt_probing, Hurt_running, Hurt_waiting}
@@ -31,7 +31,6 @@ filled-kept k l ws c q = go (k == l) refl
     go false e = inl (fewer-kept c (filled k ws c) l (λ j i r. (let z : (word_at l j) / 8 ≡ l = omega (arith, i) in let y : (k == (word_at l j) / 8) ≡ false = rw (z, e) refl in rw y at r)) q)
 
 -- invalidations
-
 keeps-none : (c : Cache) (l : ℕ) → keeps c l ≡ false → keeps_unmodified c l ≡ false
 unfolding keeps keeps_unmodified any_word
 keeps-none c l e = go (keeps_unmodified c l) refl

@@ -1,12 +1,11 @@
 -- Every event keeps that of an asked line the request is in flight to the owner, or its words are on their way from the owner.
 use Rattle.tcc_serial.proofs.Names.{ℕ, ◌+◌, ◌≡◌, ◌<◌, ◌≤◌, ◌⊎◌, ◌==◌, ◌&&◌, Bool, true, false, List, [], Option, Some, None, IfSome, arith}
 use Rattle.tcc_serial.proofs.Names.{refl, ap, sym, subst, ◌∙◌, inl, inr, nat_tests, Noted, Program, Local, num, line_of, word_at, cleaned}
-use Rattle.tcc_serial.proofs.Names.{no_lines, Core, Dir, Vendor, Msg, TidReq, TidGrant, LoadReq, Fill, Skip, Probe, ProbeReply, Mark}
-use Rattle.tcc_serial.proofs.Names.{Commit, Abort, WriteBack, Flush, DataReq, Inv, InvAck, Event, Shape, home, lines, CoreState, World}
-use Rattle.tcc_serial.proofs.Names.{start, dir_start, in_flight, Sends, Out, core_exec, core_evict, from_dir, grant, data_request, Answer}
-use Rattle.tcc_serial.proofs.Names.{Waits, Drops, Asks, Takes, dir_deliver, core_moves, core_takes, dir_takes, dir_asks, vendor_gives}
-use Rattle.tcc_serial.proofs.Names.{and_noted, step, GetsOf, KeptGets, CopyOf, DataOf, live, among, passes, Pair, pair, after_move}
-use Rattle.tcc_serial.proofs.Names.{back_taken, out_taken, after_answer, is_this}
+use Rattle.tcc_serial.proofs.Names.{no_lines, Core, Dir, Vendor, Msg, Fill, ProbeReply, DataReq, Inv, Event, Shape, home, lines, CoreState}
+use Rattle.tcc_serial.proofs.Names.{World, start, dir_start, in_flight, Sends, Out, core_exec, core_evict, from_dir, grant, data_request}
+use Rattle.tcc_serial.proofs.Names.{Answer, Waits, Drops, Asks, Takes, dir_deliver, core_moves, core_takes, dir_takes, dir_asks}
+use Rattle.tcc_serial.proofs.Names.{vendor_gives, and_noted, step, GetsOf, KeptGets, CopyOf, DataOf, live, among, passes, Pair, pair}
+use Rattle.tcc_serial.proofs.Names.{after_move, back_taken, out_taken, after_answer, is_this}
 use Rattle.tcc_serial.proofs.Copies.DirtyFrames.{frame_copy, clean-frame, in-line}
 use Rattle.tcc_serial.proofs.Copies.LinesKept.{KeptLines}
 use Rattle.tcc_serial.proofs.Copies.PairCopies.{LineCopies, of-line}

@@ -1,10 +1,10 @@
 -- Every event keeps that the owner of a line is the core that the line's tag was granted to.
-use Rattle.tcc_serial.proofs.Names.{Commit, ℕ, ◌≡◌, ◌≤◌, ◌⊎◌, Bool, true, false, List, [], ◌∷◌, ◌++◌, Contains, ◌==◌, Option, Some, None}
-use Rattle.tcc_serial.proofs.Names.{IfSome, if◌then◌else◌, arith, refl, ap, inl, inr, append-nil, Contains-append_left, Program, Local, num}
-use Rattle.tcc_serial.proofs.Names.{has_mark, no_lines, Core, Dir, Event, Msg, Shape, DirState, World, start, dir_start, in_flight, Out}
-use Rattle.tcc_serial.proofs.Names.{core_exec, core_evict, from_dir, Answer, Waits, Drops, Asks, Takes, dir_deliver, core_moves, core_takes}
-use Rattle.tcc_serial.proofs.Names.{dir_takes, dir_asks, vendor_gives, step, Pair, pair, KeptLineOwners, Commits, live, passes, Grant}
-use Rattle.tcc_serial.proofs.Names.{granted_by, SparesCommitter, Stepped}
+use Rattle.tcc_serial.proofs.Names.{nat_tests, Commit, ℕ, ◌≡◌, ◌≤◌, ◌⊎◌, Bool, true, false, List, [], ◌∷◌, ◌++◌, Contains, ◌==◌, Option}
+use Rattle.tcc_serial.proofs.Names.{Some, None, IfSome, if◌then◌else◌, arith, refl, ap, inl, inr, append-nil, Contains-append_left, Program}
+use Rattle.tcc_serial.proofs.Names.{Local, num, has_mark, no_lines, Core, Dir, Event, Msg, Shape, DirState, World, start, dir_start}
+use Rattle.tcc_serial.proofs.Names.{in_flight, Out, core_exec, core_evict, from_dir, Answer, Waits, Drops, Asks, Takes, dir_deliver}
+use Rattle.tcc_serial.proofs.Names.{core_moves, core_takes, dir_takes, dir_asks, vendor_gives, step, Pair, pair, KeptLineOwners, Commits}
+use Rattle.tcc_serial.proofs.Names.{live, passes, Grant, granted_by, SparesCommitter, Stepped}
 use Rattle.tcc_serial.proofs.Counts.DirOutcome.{Outcome, Waiting, Spent, AsksOwner, TakesSkip, TakesAbort, TakesProbe, TakesLoad, TakesMark}
 use Rattle.tcc_serial.proofs.Counts.DirOutcome.{TakesCommit, TakesAck, TakesCopy, outcome}
 use Rattle.tcc_serial.proofs.Counts.Links.{live-takes}
@@ -31,15 +31,11 @@ step-line-owners sh p gs w e y h = more-granted gs (granted_by w e) w e (step sh
         let v : num (u == u) ≡ 1 = ap num (same u) in
         rw (← z) ((y c d).owner u (omega (arith, v, live-takes (Commits u) (w.net (Core c) (Dir d)) k (Commit u n) i)))
 
-    came : (d x j : ℕ) (b : Bool) → (if b then None else (w.dirs d).lines.owner x) ≡ Some j → (w.dirs d).lines.owner x ≡ Some j
-    came d x j true q = absurd (cc)
-    came d x j false q = q
-
     owners : (c d k : ℕ) {m : Msg} {a : Answer} → in_flight w.net (Core c) (Dir d) k ≡ Some m → Outcome sh (w.dirs d) c m a → Leaves (LineOwners gs) a
     owners c d k i (Waiting m) = tt
     owners c d k i (Spent m n) = tt
     owners c d k i (TakesCommit b e) = λ x j q. taken c d k _ i x j (has_mark (w.dirs d).lines x) q
-    owners c d k i (TakesCopy m l z ws g v e o) = λ x j q. h d x j (came d x j (x == l) q)
+    owners c d k i (TakesCopy m l z ws g v e o) = λ x j q. h d x j (grind (arith, nat_tests))
     owners c d k i _ = h d
 
 pub start-line-owners : (entries : ℕ → Local) (ram : ℕ → ℕ) → KeptLineOwners [] (start entries ram)

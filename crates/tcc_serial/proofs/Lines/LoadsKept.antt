@@ -1,18 +1,12 @@
 -- Every event keeps that one load request or Fill is in flight exactly for the line that a core awaits.
 use Rattle.tcc_serial.proofs.Names.{ℕ, ◌≡◌, Bool, true, false, [], ◌==◌, ◌&&◌, Option, Some, None, IfSome, arith, refl, Program, Local, num}
-use Rattle.tcc_serial.proofs.Names.{Core, Dir, Event, Msg, Fill, Skip, ProbeReply, Mark, Abort, DataReq, InvAck, Shape, DirState, World}
-use Rattle.tcc_serial.proofs.Names.{start, core_start, in_flight, Out, core_exec, core_evict, from_dir, grant, Answer, Waits, Drops, Asks}
-use Rattle.tcc_serial.proofs.Names.{Takes, dir_deliver, line_words, core_moves, core_takes, step, LoadingOf, KeptLoading, LoadOf, FillOf}
-use Rattle.tcc_serial.proofs.Names.{live, among, passes, Pair, pair, ◌-◌, List, ◌∷◌, ◌||◌, nat_lt, nat_le, if◌then◌else◌, those}
-use Rattle.tcc_serial.proofs.Names.{count_below, full, has_mark, with_asked, Judgement, judge, IsTaken, IsDropped, IsEarly, skipped, kept}
-use Rattle.tcc_serial.proofs.Names.{TidReq, TidGrant, LoadReq, Probe, Commit, WriteBack, Flush, Inv, lines, nothing, to, skip, abort}
-use Rattle.tcc_serial.proofs.Names.{acknowledgement, moved_on, settled, owned, owed_by, invalidations, is_invalidated, invs_to}
-use Rattle.tcc_serial.proofs.Names.{unless_keeps, ask_owner, load_owned, load_request, marking, mark_owned, mark, judged, write_back, probe}
-use Rattle.tcc_rules.specs.DirDeliver.{commit}
-use Rattle.tcc_serial.proofs.Counts.DirOutcome.{Outcome, Waiting, Spent, AsksOwner, TakesSkip, TakesAbort, TakesProbe, TakesLoad, TakesMark}
-use Rattle.tcc_serial.proofs.Counts.DirOutcome.{TakesCommit, TakesAck, TakesCopy, IsSpent, SkipPassed, AbortPassed, MarkPassed, NoneOwed}
+use Rattle.tcc_serial.proofs.Names.{Core, Dir, Event, Msg, Fill, ProbeReply, DataReq, Shape, DirState, World, start, core_start, in_flight}
+use Rattle.tcc_serial.proofs.Names.{Out, core_exec, core_evict, from_dir, grant, Answer, Waits, Drops, Asks, Takes, dir_deliver, line_words}
+use Rattle.tcc_serial.proofs.Names.{core_moves, core_takes, step, LoadingOf, KeptLoading, LoadOf, FillOf, live, among, passes, Pair, pair}
+use Rattle.tcc_serial.proofs.Names.{lines, nothing, to}
+use Rattle.tcc_serial.proofs.Counts.DirOutcome.{Outcome, Waiting, Spent, AsksOwner, TakesProbe, TakesLoad, TakesCommit, TakesCopy, IsSpent}
 use Rattle.tcc_serial.proofs.Counts.DirOutcome.{CopyPassed, outcome, among-none, among-to, none-to, none-invalidations}
-use Rattle.tcc_serial.proofs.Counts.Links.{live-sends, live-takes, among-flat_map_none}
+use Rattle.tcc_serial.proofs.Counts.Links.{live-sends, live-takes}
 use Rattle.tcc_serial.proofs.Counts.StepCases.{same, differ, pairs_move, pairs_grant, pairs_back, pairs_dir, pairs_asks, pairs_vendor}
 use Rattle.tcc_serial.proofs.Counts.StepCases.{OfAnswer, step_cases}
 use Rattle.tcc_serial.proofs.OneCore.CoreAwaits.{LoadsStep, LoadsBack, loads-exec, loads-evict, loads-grant, loads-back}

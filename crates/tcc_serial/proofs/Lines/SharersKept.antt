@@ -4,11 +4,9 @@ use Rattle.tcc_serial.proofs.Names.{nat_tests, Noted, keeps_unmodified, is_fresh
 use Rattle.tcc_serial.proofs.Names.{Pair, ◌+◌, ◌<◌, ◌==◌, [], ◌∷◌, Some, None, subst, cases_lt, num, has_mark, Core, Dir, Msg, Shape, home}
 use Rattle.tcc_serial.proofs.Names.{lines, DirState, Link, Sends, in_flight, History, Kind, AckOf, Commits, among, passes, Grant, pair}
 use Rattle.tcc_serial.proofs.Names.{Ways, wrote_line, Option, IfSome, Out, and_noted, insert_commit, KeptLoading, LoadOf, CommitsAbove, due}
-use Rattle.tcc_serial.proofs.Names.{after_move, share, is_applied, stores_at, names_line, is_some, line_of, CoreState, Phase, Running}
-use Rattle.tcc_serial.proofs.Names.{AwaitTid, DoomedTid, Probing, Ready, Overflowing, Solo, Halted, World, core_moves, dir_takes}
-use Rattle.tcc_serial.proofs.Names.{KeptSharers, OneCore, acting, after_answer, out_taken, has_tid, ◌%◌, not, TidReq, TidGrant, LoadReq}
-use Rattle.tcc_serial.proofs.Names.{Fill, Skip, Probe, ProbeReply, Mark, Commit, Abort, WriteBack, Flush, DataReq, Inv, InvAck, is_awaited}
-use Rattle.tcc_serial.proofs.Names.{KeptHomes, LoadingOf, InvOf, LinesAway}
+use Rattle.tcc_serial.proofs.Names.{after_move, share, is_applied, stores_at, names_line, is_some, line_of, CoreState, Phase, Running, Solo}
+use Rattle.tcc_serial.proofs.Names.{World, core_moves, dir_takes, KeptSharers, OneCore, acting, after_answer, out_taken, has_tid, ◌%◌, not}
+use Rattle.tcc_serial.proofs.Names.{Fill, Commit, is_awaited, KeptHomes, LoadingOf, InvOf, LinesAway}
 use Rattle.tcc_serial.proofs.Copies.LinesKept.{Before, new-of}
 use Rattle.tcc_serial.proofs.Copies.LinesStep.{writer-line, commit-passes}
 use Rattle.tcc_serial.proofs.Copies.PairCopies.{NewCommit}
@@ -16,7 +14,7 @@ use Rattle.tcc_serial.proofs.Copies.TagsKept.{taken-commit, stored-home}
 use Rattle.tcc_serial.proofs.Copies.WroteLines.{commit-sent, applied-or, is_of, wrote-new, wrote-other, wrote-unknown}
 use Rattle.tcc_serial.proofs.Counts.Links.{live-sends, total-le, live-takes}
 use Rattle.tcc_serial.proofs.Counts.StepCases.{same, differ, either, moves-own, moves-other, pairs_dir}
-use Rattle.tcc_serial.proofs.Lines.CoreHolds.{Holds, StoredLine, ReadsValid}
+use Rattle.tcc_serial.proofs.Lines.CoreHolds.{Holds, ReadsValid}
 use Rattle.tcc_serial.proofs.Lines.CoreHoldsTakes.{HoldsTaken, Gone}
 use Rattle.tcc_serial.proofs.Lines.DirSharers.{Shares}
 use Rattle.tcc_serial.proofs.Marks.CoreAfter.{AfterStep}

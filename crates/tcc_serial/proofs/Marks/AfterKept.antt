@@ -1,12 +1,11 @@
 -- Every event keeps that a core notes of each directory the greatest TID of its commits that stored there.
-use Rattle.tcc_serial.proofs.Names.{ℕ, max, cond, ◌≡◌, ◌<◌, ◌≤◌, ◌⊎◌, ◌==◌, ◌&&◌, Bool, true, false, List, [], ◌∷◌, Contains, Option}
-use Rattle.tcc_serial.proofs.Names.{Some, None, IfSome, nat_lt, if◌then◌else◌, arith, refl, ap, sym, subst, ◌∙◌, inl, inr, cases_eq}
-use Rattle.tcc_serial.proofs.Names.{nat_tests, Noted, Program, Local, Core, Dir, Vendor, Event, Msg, Shape, DirState, World, Link, start}
-use Rattle.tcc_serial.proofs.Names.{core_start, in_flight, Sends, Out, core_exec, core_evict, from_dir, grant, Answer, Waits, Drops, Asks}
-use Rattle.tcc_serial.proofs.Names.{Takes, dir_deliver, core_moves, core_takes, dir_takes, step, and_noted, insert_commit, AfterOf}
-use Rattle.tcc_serial.proofs.Names.{KeptAfter, KeptLoading, stored_there, LoadOf, LoadNot, live, KeptCores, Grant, AreGranted, holder}
-use Rattle.tcc_serial.proofs.Names.{KeptOwners, LastGranted, Pair, pair, after_move, stores_at, last_of, answered, commit, moved, noted}
-use Rattle.tcc_serial.proofs.Names.{taken}
+use Rattle.tcc_serial.proofs.Names.{ℕ, max, cond, ◌≡◌, ◌<◌, ◌≤◌, ◌==◌, ◌&&◌, Bool, true, false, List, [], ◌∷◌, Contains, Option, Some, None}
+use Rattle.tcc_serial.proofs.Names.{IfSome, nat_lt, if◌then◌else◌, arith, refl, ap, sym, subst, ◌∙◌, inl, inr, nat_tests, Noted, Program}
+use Rattle.tcc_serial.proofs.Names.{Local, Core, Dir, Vendor, Event, Msg, Shape, DirState, World, Link, start, core_start, in_flight, Sends}
+use Rattle.tcc_serial.proofs.Names.{Out, core_exec, core_evict, from_dir, grant, Answer, Waits, Drops, Asks, Takes, dir_deliver, core_moves}
+use Rattle.tcc_serial.proofs.Names.{core_takes, dir_takes, step, and_noted, insert_commit, AfterOf, KeptAfter, KeptLoading, stored_there}
+use Rattle.tcc_serial.proofs.Names.{LoadOf, LoadNot, live, KeptCores, Grant, AreGranted, holder, KeptOwners, LastGranted, Pair, pair}
+use Rattle.tcc_serial.proofs.Names.{after_move, stores_at, last_of, answered, commit, moved, noted, taken}
 use Rattle.tcc_serial.proofs.Marks.CoreAfter.{no-load, Stays, Notes_commit, AfterStep, after-exec, after-evict, after-grant, after-back}
 use Rattle.tcc_serial.proofs.Tids.CoreOwners.{KeepsHolder, noted_tid, none, holder-exec, holder-evict}
 use Rattle.tcc_serial.proofs.Counts.Links.{live-sends, live-takes}
@@ -17,7 +16,6 @@ use Rattle.tcc_serial.proofs.OneCore.Said.{quiet}
 use Rattle.tcc_serial.proofs.OneCore.Outcomes.{granted, out}
 
 -- the last commit, with one more
-
 max-swap : (a b l : ℕ) → max a (max b l) ≡ max b (max a l)
 max-swap a b l = omega arith
 
@@ -79,10 +77,9 @@ commits-after sh cs c d v o y b n h = record {
 -- another core's commit
 other-after : (sh : Shape) (cs : List Noted) (n : Noted) (j d : ℕ) (v : Pair) → (n.core.0 == j) ≡ false → AfterOf sh cs j d v → AfterOf sh (insert_commit n cs) j d v
 unfolding stored_there
-other-after sh cs n j d v e h = record { last = h.last ∙ sym (last-insert (stored_there sh j d) n cs ∙ rw e (none-else (last_of (stored_there sh j d) cs))); carried = h.carried }
-  where
-    none-else : (l : ℕ) → max 0 l ≡ l
-    none-else l = omega arith
+other-after sh cs n j d v e h =
+    let none-else : (l : ℕ) → max 0 l ≡ l = λ l. omega arith in
+    record { last = h.last ∙ sym (last-insert (stored_there sh j d) n cs ∙ rw e (none-else (last_of (stored_there sh j d) cs))); carried = h.carried }
 
 pub step-after : (sh : Shape) (p : Program) (gs : List Grant) (w : World) (cs : List Noted) (e : Event) → KeptOwners sh gs w cs → KeptCores sh w → LastGranted gs w → KeptLoading sh w → KeptAfter sh w cs → IfSome (step sh p w e) (λ o. KeptAfter sh o.world (and_noted o.noted cs))
 unfolding pair

@@ -5,8 +5,8 @@ use Rattle.tcc_serial.proofs.Names.{those, any_below, count_below, Dir, Msg, Ski
 use Rattle.tcc_serial.proofs.Names.{is_modified, modified_mask, writes_at, Spilled, holds, spilled_mask, spilled_words, CoreState, Phase}
 use Rattle.tcc_serial.proofs.Names.{Ready, Solo, Out, noted, commit, commit_sends, solo_sends, solo_marks, solo_backs, solo_writes_at}
 use Rattle.tcc_serial.proofs.Names.{is_written, written_mask, core_exec, core_evict, from_dir, Commits, AnyCommit, CommitOf, MarkOf}
-use Rattle.tcc_serial.proofs.Names.{MarkMask, among, passes, has_marked, stores_line, marked_by, OneCore, stores_in, stored_mask}
-use Rattle.tcc_serial.proofs.Names.{stores_at, has_tid, nothing, stored, solo_commit}
+use Rattle.tcc_serial.proofs.Names.{MarkMask, among, passes, has_marked, stores_line, marked_by, OneCore, stores_in, stored_mask, stores_at}
+use Rattle.tcc_serial.proofs.Names.{has_tid, nothing, stored, solo_commit}
 use Rattle.tcc_serial.proofs.Serving.CoreCommits.{heard-free}
 use Rattle.tcc_serial.proofs.Counts.Links.{among-append, among-flat_map_none}
 use Rattle.tcc_serial.proofs.Serving.CommitOwners.{few-of}
@@ -59,7 +59,6 @@ commit-some t (m ∷ ms) x = go (passes (Commits t) m) refl (commit-some t ms)
     go false q f = let o : num (passes (Commits t) m) ≡ 0 = ap num q in let r = f (omega (arith, o, x)) in (r.0, omega (arith, r.1))
 
 -- a core whose directories are all ready has marked what its stores name
-
 commit-writes : (sh : Shape) (c : Cache) (u d t : ℕ) → 1 ≤ among (Commits t) (commit_sends sh c u (Dir d)) → any_below (λ l. d == home sh l && is_modified c l) (lines sh) ≡ true
 unfolding commit_sends writes_at among passes
 commit-writes sh c u d t x = grind (arith, nat_tests)
@@ -98,7 +97,6 @@ storing-ready sh c d t u s ph h x = record {
     before l (inr e) = let z : num (nat_lt 0 (stored_mask sh d s.stores l)) ≡ 0 = rw e refl in inl (omega (arith, marks l, z))
 
 -- a core alone marks what its stores name
-
 alone-masked : (sh : Shape) (c : Cache) (sp : Spilled) (u d t l : ℕ) → among (MarkMask t l (written_mask c sp l)) (solo_sends sh c sp u (Dir d)) ≡ 0
 unfolding solo_sends solo_marks solo_backs among passes
 alone-masked sh c sp u d t l = go (nat_lt d sh.dirs) (solo_writes_at sh c sp d)

@@ -10,7 +10,6 @@ use Rattle.tcc_serial.proofs.OneCore.Outcomes.{after_end, each-back, each-evict,
 use Rattle.tcc_serial.proofs.OneCore.Outcomes.{heard, heard-quiet, out, said}
 
 -- without a request for a line there is none that carries something else
-
 pub no-load : (x : ℕ) (m : Msg) → ((l : ℕ) → num (passes (LoadOf l) m) ≡ 0) → num (passes (LoadNot x) m) ≡ 0
 unfolding passes
 no-load x (LoadReq k a) f = absurd (let y = f k in let z : (k == k) ≡ true = grind (arith, nat_tests) in let q : num (k == k) ≡ 1 = rw z refl in omega (arith, y, q))

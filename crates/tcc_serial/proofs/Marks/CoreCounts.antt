@@ -1,11 +1,11 @@
 -- A Commit that a core sends counts the Marks that it has sent, or sends with it.
 use Rattle.tcc_serial.proofs.Names.{ℕ, zero, suc, ◌+◌, ◌≡◌, ◌<◌, ◌≤◌, Bool, true, false, List, [], ◌∷◌, ◌++◌, ◌==◌, ◌&&◌, IfSome, nat_lt}
-use Rattle.tcc_serial.proofs.Names.{if◌then◌else◌, flat_map, arith, refl, ◌∙◌, nat_tests, Program, num, those, count_below, Dir, Msg}
-use Rattle.tcc_serial.proofs.Names.{Skip, Mark, Commit, WriteBack, Shape, home, lines, Cache, is_modified, writes_at, Spilled, holds}
+use Rattle.tcc_serial.proofs.Names.{if◌then◌else◌, flat_map, arith, refl, ◌∙◌, nat_tests, Program, num, those, count_below, Dir, Msg, Skip}
+use Rattle.tcc_serial.proofs.Names.{Mark, Commit, WriteBack, Shape, home, lines, Cache, is_modified, writes_at, Spilled, holds}
 use Rattle.tcc_serial.proofs.Names.{spilled_mask, spilled_words, CoreState, Phase, Ready, Solo, Out, commit, commit_sends, solo_sends}
 use Rattle.tcc_serial.proofs.Names.{solo_marks, solo_backs, solo_writes_at, is_written, written_mask, core_exec, core_evict, from_dir}
-use Rattle.tcc_serial.proofs.Names.{total, Kind, MarkOf, AnyCommit, CommitOf, among, passes, has_marked, stores_line, marked_by}
-use Rattle.tcc_serial.proofs.Names.{may_commit, has_tid, marked, skipped, solo_commit}
+use Rattle.tcc_serial.proofs.Names.{total, Kind, MarkOf, AnyCommit, CommitOf, among, passes, has_marked, stores_line, marked_by, may_commit}
+use Rattle.tcc_serial.proofs.Names.{has_tid, marked, skipped, solo_commit}
 use Rattle.tcc_serial.proofs.Serving.CoreCommits.{heard-free}
 use Rattle.tcc_serial.proofs.Counts.Links.{among-append, total-same, among-fewer, among-flat_map_none}
 use Rattle.tcc_serial.proofs.Marks.CoreMarks.{one-mark, marks-only}
@@ -49,7 +49,6 @@ counts-lines sh d t n s o p h e f = record {
     below l x = let b : nat_lt l (lines sh) ≡ true = grind (arith, nat_tests) in rw b refl
 
 -- none is sent
-
 of-any : (t n : ℕ) (m : Msg) → num (passes (CommitOf t n) m) ≤ num (passes AnyCommit m)
 unfolding passes
 of-any t n m = grind (arith, nat_tests)
@@ -61,7 +60,6 @@ counts-none : (sh : Shape) (d t : ℕ) (s : CoreState) (o : Out) → among AnyCo
 counts-none sh d t s o z n x = absurd (omega (arith, x, z, few-any t n (o.sends (Dir d))))
 
 -- a core whose directories are all ready
-
 pub is-commit : (sh : Shape) (c : Cache) (u d t n : ℕ) → 1 ≤ among (CommitOf t n) (commit_sends sh c u (Dir d)) → (u ≡ t) × (count_below (λ l. d == home sh l && is_modified c l) (lines sh) ≡ n)
 unfolding commit_sends among passes
 is-commit sh c u d t n x = go (nat_lt d sh.dirs) (writes_at sh c d) (u == t) (count_below (λ l. d == home sh l && is_modified c l) (lines sh) == n) refl refl x
@@ -79,16 +77,12 @@ has-solo u q e = rw e (self u)
 
 counts-ready : (sh : Shape) (c d t u : ℕ) (s : CoreState) → s.phase ≡ Ready u → s.owing d ≡ false → CountsAll sh d t s (commit sh c u s)
 unfolding commit marked_by has_marked stores_line
-counts-ready sh c d t u s ph ow n x = counts-lines sh d t n s (commit sh c u s) p (mine u t s.phase (has-ready u s.phase ph) (r.0)) (r.1) (λ l. rw (ph, ow) (omega (arith, (told-commit sh s.cache u d t l).1)))
-  where
-    p : ℕ → Bool
-    p l = d == home sh l && is_modified s.cache l
-
-    r : (u ≡ t) × (count_below p (lines sh) ≡ n)
-    r = is-commit sh s.cache u d t n x
+counts-ready sh c d t u s ph ow n x =
+    let p : ℕ → Bool = λ l. d == home sh l && is_modified s.cache l in
+    let r : (u ≡ t) × (count_below p (lines sh) ≡ n) = is-commit sh s.cache u d t n x in
+    counts-lines sh d t n s (commit sh c u s) p (mine u t s.phase (has-ready u s.phase ph) (r.0)) (r.1) (λ l. rw (ph, ow) (omega (arith, (told-commit sh s.cache u d t l).1)))
 
 -- a core alone
-
 pub is-alone : (sh : Shape) (c : Cache) (sp : Spilled) (u d t n : ℕ) → 1 ≤ among (CommitOf t n) (solo_sends sh c sp u (Dir d)) → (u ≡ t) × (count_below (λ l. d == home sh l && is_written c sp l) (lines sh) ≡ n) × ((l : ℕ) → among (MarkOf t l) (solo_sends sh c sp u (Dir d)) ≡ num (nat_lt l (lines sh) && (d == home sh l && is_written c sp l)))
 unfolding solo_sends solo_marks solo_backs among passes
 is-alone sh c sp u d t n x = go (nat_lt d sh.dirs) (solo_writes_at sh c sp d) x

@@ -26,7 +26,6 @@ pub record Marking (sh : Shape) (d t l : ℕ) (s : CoreState) (o : Out) : Type 0
   pub skips : 1 ≤ among (Skips t) (o.sends (Dir d)) → (has_tid s.phase t ≡ true) × (among (MarkOf t l) (o.sends (Dir d)) + marked_by sh s d l ≡ 0)
 
 -- kinds that are told of
-
 one-protocol : (t l : ℕ) (m : Msg) → num (passes (Marks t) m) + num (passes (Resolves t) m) + num (passes EmptyMarks m) ≤ num (passes Protocol m) + num (passes EmptyMarks m)
 unfolding passes
 one-protocol t l m = grind (arith, nat_tests)
@@ -124,7 +123,6 @@ last-words sh d t l u s o q e h f w m a k = record {
     own x (inr z) = f z
 
 -- the words on a TID
-
 pub is-tid : (u t : ℕ) (a : ℕ) → (u ≡ t → ⊥) ⊎ (u ≡ t) → (((u == t) ≡ false) → a ≡ 0) → (a ≡ 0) ⊎ (u ≡ t)
 is-tid u t a (inr e) f = inr e
 is-tid u t a (inl n) f = inl (f (grind (arith, nat_tests)))

@@ -23,7 +23,6 @@ pub record Masking (sh : Shape) (d t l : ℕ) (s : CoreState) (o : Out) : Type 0
   pub stays : has_tid o.core.phase t ≡ true → (marked_by sh s d l ≡ 0) ⊎ (modified_mask o.core.cache l ≡ modified_mask s.cache l)
 
 -- a Mark with another mask is a Mark
-
 one-masked : (t l q : ℕ) (m : Msg) → num (passes (MarkMask t l q) m) ≤ num (passes (MarkOf t l) m)
 unfolding passes
 one-masked t l q m = grind (arith, nat_tests)
@@ -58,10 +57,9 @@ quiet sh d t l s o u f = record { sent = λ x. omega (arith, u.marks, few-masked
 
 -- it has no TID any more
 gone : (sh : Shape) (d t l : ℕ) (s : CoreState) (o : Out) (q : Phase) → o.core.phase ≡ q → has_tid q t ≡ false → Masking sh d t l s o
-gone sh d t l s o q e h = record { sent = λ x. absurd (none x); stays = λ x. absurd (none x) }
-  where
-    none : has_tid o.core.phase t ≡ true → ⊥
-    none x = let y : has_tid o.core.phase t ≡ false = rw e h in cc
+gone sh d t l s o q e h =
+    let none : has_tid o.core.phase t ≡ true → ⊥ = λ x. let y : has_tid o.core.phase t ≡ false = rw e h in cc in
+    record { sent = λ x. absurd (none x); stays = λ x. absurd (none x) }
 
 masking-steady : (sh : Shape) (d t l : ℕ) (s : CoreState) (o : Out) → Steady s o → Masking sh d t l s o
 masking-steady sh d t l s o y = quiet sh d t l s o (unsaid-quiet t l (o.sends (Dir d)) (y.quiet d)) (λ x. go (has_marked s.phase) refl)

@@ -1,11 +1,10 @@
 -- What a directory's rules do to its marks: it marks a line by the served TID, and clears all marks where it moves on; a Skip
 -- moves it on without.
-use Rattle.tcc_serial.proofs.Names.{ℕ, ◌≡◌, ◌<◌, Bool, true, false, ◌==◌, if◌then◌else◌, arith, refl, nat_tests, advance, kept, Msg}
-use Rattle.tcc_serial.proofs.Names.{LoadReq, Skip, Probe, Mark, Abort, Shape, advance-rises, DirState, Answer, Waits, Drops, Asks, Takes}
-use Rattle.tcc_serial.proofs.Names.{dir_deliver, MarkOf, passes}
-use Rattle.tcc_serial.proofs.Counts.DirOutcome.{Outcome, Waiting, Spent, AsksOwner, TakesSkip, TakesAbort, TakesProbe, TakesLoad, TakesMark}
-use Rattle.tcc_serial.proofs.Counts.DirOutcome.{TakesCommit, TakesAck, TakesCopy, IsSpent, SkipPassed, AbortPassed, MarkPassed, NoneOwed}
-use Rattle.tcc_serial.proofs.Counts.DirOutcome.{CopyPassed, outcome}
+use Rattle.tcc_serial.proofs.Names.{has_mark, ℕ, ◌≡◌, ◌<◌, Bool, true, false, ◌==◌, if◌then◌else◌, arith, refl, nat_tests, advance, kept}
+use Rattle.tcc_serial.proofs.Names.{Msg, Skip, Mark, Shape, advance-rises, DirState, Answer, Waits, Drops, Asks, Takes, dir_deliver, MarkOf}
+use Rattle.tcc_serial.proofs.Names.{passes, num, ◌≤◌, ◌+◌, ◌⊎◌, inl, inr, ◌∙◌, EmptyMarks, cases_eq, nat_lt, ◌&&◌}
+use Rattle.tcc_serial.proofs.Counts.DirOutcome.{Outcome, Waiting, Spent, AsksOwner, TakesSkip, TakesAbort, TakesMark, TakesCommit, TakesAck}
+use Rattle.tcc_serial.proofs.Counts.DirOutcome.{TakesCopy, IsSpent, MarkPassed, CopyPassed, outcome}
 
 -- a message that is no Mark
 abbrev NoMark : Msg → Type 0
@@ -51,3 +50,38 @@ dir-marked sh s c m = go (outcome sh s c m)
     go (TakesAck l k b h e) = settled b (λ t x. refl) _ refl (λ x. refl)
     go (TakesCopy m l k ws g y e o) = Stays refl (λ x. refl) (none m (λ t x. y.alike (MarkOf t x)))
     go _ = Stays refl (λ x. refl) (λ t x q. absurd (cc))
+
+-- What counts the marks of line l by TID t whose mask has f, and n of these in the message: it grows by n at most.
+pub marks-grow : (f : ℕ → Bool) (s new : DirState) (m : Msg) (t l n : ℕ) → f 0 ≡ false → Marked s m new → (m ≡ Skip s.serving.serving → f (s.lines.mark l) ≡ false) → ((k : ℕ) → m ≡ Mark l k t → f k ≡ true → 1 ≤ n) → num (new.serving.serving == t && f (new.lines.mark l)) ≤ num (s.serving.serving == t && f (s.lines.mark l)) + n
+marks-grow f s new m t l n z (Stays e g h) k w = rw (e, g l) (omega arith)
+marks-grow f s new m t l n z (Clears e g h) k w = rw (g l, z) (grind arith)
+marks-grow f s new m t l n z (Skipped e g) k w = rw (g l, k e) (grind arith)
+marks-grow f s new m t l n z (Marks a i e g h) k w = rw (g, h l) (go (l == a) refl (s.serving.serving == t) refl (f i) refl)
+  where
+    go : (x : Bool) → (l == a) ≡ x → (y : Bool) → (s.serving.serving == t) ≡ y → (b : Bool) → f i ≡ b → num (y && f (if x then i else s.lines.mark l)) ≤ num (y && f (s.lines.mark l)) + n
+    go false p y q b r = omega arith
+    go true p false q b r = omega arith
+    go true p true q false r = rw r (omega arith)
+    go true p true q true r = let c : a ≡ l = grind (arith, nat_tests) in let d : s.serving.serving ≡ t = grind (arith, nat_tests) in rw r (omega (arith, w i (e ∙ rw (c, d) refl) r))
+
+-- All its Marks are counted, unless the TID is passed, or the message is the Mark.
+pub marks-count : (s new : DirState) (m : Msg) (t l : ℕ) → Marked s m new → (m ≡ Skip s.serving.serving → has_mark s.lines l ≡ false) → passes EmptyMarks m ≡ false
+    → (num (new.serving.serving == t && has_mark new.lines l) ≡ num (s.serving.serving == t && has_mark s.lines l) + num (passes (MarkOf t l) m)) ⊎ ((t < new.serving.serving) ⊎ ((num (new.serving.serving == t && has_mark new.lines l) ≡ 1) × (num (passes (MarkOf t l) m) ≡ 1)))
+unfolding passes
+marks-count s new m t l (Stays e f g) k w = rw (e, f l) (go (passes (MarkOf t l) m) refl)
+  where
+    go : (b : Bool) → passes (MarkOf t l) m ≡ b → (num (s.serving.serving == t && has_mark s.lines l) ≡ num (s.serving.serving == t && has_mark s.lines l) + num b) ⊎ ((t < s.serving.serving) ⊎ ((num (s.serving.serving == t && has_mark s.lines l) ≡ 1) × (num b ≡ 1)))
+    go true p = inr (inl (g t l p))
+    go false p = inl (omega arith)
+marks-count s new m t l (Clears e f g) k w = rw (f l, g t l) (go (cases_eq s.serving.serving t))
+  where
+    go : {A : Type 0} → (s.serving.serving ≡ t) ⊎ (s.serving.serving ≡ t → ⊥) → (num (new.serving.serving == t && nat_lt 0 0) ≡ num (s.serving.serving == t && has_mark s.lines l) + 0) ⊎ ((t < new.serving.serving) ⊎ A)
+    go (inl p) = inr (inl (omega (arith, e, p)))
+    go (inr p) = inl (grind (arith, nat_tests))
+marks-count s new m t l (Skipped e f) k w = inl (rw (f l, k e, e) (grind arith))
+marks-count s new m t l (Marks a i e g f) k w = rw (g, f l, e) (go (rw e at w) (l == a) refl (s.serving.serving == t) refl)
+  where
+    go : (i == 0) ≡ false → (x : Bool) → (l == a) ≡ x → (y : Bool) → (s.serving.serving == t) ≡ y → (num (y && nat_lt 0 (if x then i else s.lines.mark l)) ≡ num (y && has_mark s.lines l) + num (y && (a == l))) ⊎ ((t < s.serving.serving) ⊎ ((num (y && nat_lt 0 (if x then i else s.lines.mark l)) ≡ 1) × (num (y && (a == l)) ≡ 1)))
+    go v false p true q = inl (grind (arith, nat_tests))
+    go v true p true q = inr (inr (grind (arith, nat_tests), grind (arith, nat_tests)))
+    go v x p false q = inl (omega arith)

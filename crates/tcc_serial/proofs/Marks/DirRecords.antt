@@ -1,11 +1,9 @@
 -- What a directory's rules do to the tags and owners of its lines: a Commit of the served TID takes the marked lines over, and the
 -- owner's words that come home leave their line without owner.
 use Rattle.tcc_serial.proofs.Names.{ℕ, ◌≡◌, ◌≤◌, Bool, true, false, ◌==◌, ◌&&◌, Some, None, if◌then◌else◌, arith, refl, nat_tests, has_mark}
-use Rattle.tcc_serial.proofs.Names.{is_owner, Msg, Skip, Mark, Abort, InvAck, Shape, DirState, Answer, Waits, Drops, Asks, Takes}
-use Rattle.tcc_serial.proofs.Names.{dir_deliver, Commits, CopyOf, passes, is_this, ◌∙◌}
-use Rattle.tcc_serial.proofs.Counts.DirOutcome.{Outcome, Waiting, Spent, AsksOwner, TakesSkip, TakesAbort, TakesProbe, TakesLoad, TakesMark}
-use Rattle.tcc_serial.proofs.Counts.DirOutcome.{TakesCommit, TakesAck, TakesCopy, IsSpent, SkipPassed, AbortPassed, MarkPassed, NoneOwed}
-use Rattle.tcc_serial.proofs.Counts.DirOutcome.{CopyPassed, outcome}
+use Rattle.tcc_serial.proofs.Names.{is_owner, Msg, Shape, DirState, Answer, Waits, Drops, Asks, Takes, dir_deliver, Commits, CopyOf, passes}
+use Rattle.tcc_serial.proofs.Names.{is_this, ◌∙◌}
+use Rattle.tcc_serial.proofs.Counts.DirOutcome.{Outcome, Waiting, Spent, AsksOwner, TakesCommit, TakesCopy, IsSpent, CopyPassed, outcome}
 use Rattle.tcc_serial.proofs.Marks.OwesByCommit.{CountsMarked}
 
 abbrev pub NoCommit : Msg → Type 0

@@ -1,22 +1,22 @@
 -- Every event keeps that the Marks of a TID are those of the lines that its core stores.
 use Rattle.tcc_serial.proofs.Names.{ℕ, ◌+◌, ◌≡◌, ◌<◌, ◌≤◌, Bool, true, false, List, ◌++◌, ◌==◌, ◌&&◌, Contains, Some, None, nat_lt, nat_le}
-use Rattle.tcc_serial.proofs.Names.{slice_index_or, if◌then◌else◌, arith, refl, ap, subst, ◌⊎◌, inl, inr, cases_eq, cases_lt, nat_tests}
-use Rattle.tcc_serial.proofs.Names.{num, has_mark, Dir, Msg, TidGrant, Mark, Skip, Shape, writes_at, DirState, Link, Out, sent_all, Grants}
-use Rattle.tcc_serial.proofs.Names.{Resolves, Marks, MarkOf, EmptyMarks, Skips, live, among, passes, marks_of, MarksOf, Grant, Pair}
-use Rattle.tcc_serial.proofs.Names.{after_move, grant_taken, has_tid, opens, not, [], ◌∷◌, slice_set, ◌∙◌, Contains-append_left, Noted}
-use Rattle.tcc_serial.proofs.Names.{Core, Vendor, CoreState, World, Phase, Running, AwaitTid, DoomedTid, Probing, Ready, Overflowing, Solo}
-use Rattle.tcc_serial.proofs.Names.{Halted, in_flight, Kind, AnyResolve, has_marked, stores_line, marked_by, KeptMarks, holder, KeptOwners}
-use Rattle.tcc_serial.proofs.Names.{pair, share, after_answer, after_grant, after_other_grant, part, handled, KeptTids, KeptTold, Option}
-use Rattle.tcc_serial.proofs.Names.{IfSome, set, append-nil, Program, Local, no_lines, TidReq, Event, start, core_start, dir_start, Sends}
-use Rattle.tcc_serial.proofs.Names.{core_exec, core_evict, from_dir, grant, Answer, Waits, Drops, Asks, Takes, dir_deliver, core_moves}
-use Rattle.tcc_serial.proofs.Names.{core_takes, dir_takes, dir_asks, step, granted_by, back_taken, Kept}
+use Rattle.tcc_serial.proofs.Names.{slice_index_or, arith, refl, ap, subst, ◌⊎◌, inl, inr, cases_eq, cases_lt, nat_tests, num, has_mark}
+use Rattle.tcc_serial.proofs.Names.{Dir, Msg, TidGrant, Mark, Skip, Shape, writes_at, DirState, Link, Out, sent_all, Grants, Resolves}
+use Rattle.tcc_serial.proofs.Names.{Marks, MarkOf, EmptyMarks, Skips, live, among, passes, marks_of, MarksOf, Grant, Pair, after_move}
+use Rattle.tcc_serial.proofs.Names.{grant_taken, has_tid, opens, not, [], ◌∷◌, slice_set, ◌∙◌, Contains-append_left, Noted, Core, Vendor}
+use Rattle.tcc_serial.proofs.Names.{CoreState, World, Phase, Probing, Ready, Overflowing, Solo, in_flight, Kind, AnyResolve, has_marked}
+use Rattle.tcc_serial.proofs.Names.{stores_line, marked_by, KeptMarks, holder, KeptOwners, pair, share, after_answer, after_grant}
+use Rattle.tcc_serial.proofs.Names.{after_other_grant, part, handled, KeptTids, KeptTold, Option, IfSome, set, append-nil, Program, Local}
+use Rattle.tcc_serial.proofs.Names.{no_lines, TidReq, Event, start, core_start, dir_start, Sends, core_exec, core_evict, from_dir, grant}
+use Rattle.tcc_serial.proofs.Names.{Answer, Waits, Drops, Asks, Takes, dir_deliver, core_moves, core_takes, dir_takes, dir_asks, step}
+use Rattle.tcc_serial.proofs.Names.{granted_by, back_taken, Kept}
 use Rattle.tcc_serial.proofs.Counts.Links.{live-sends, live-takes, live-fewer, total-le, none-taken}
 use Rattle.tcc_serial.proofs.Counts.StepCases.{same, pairs_move, pairs_grant, pairs_back, pairs_dir, pairs_asks, pairs_vendor, OfAnswer}
 use Rattle.tcc_serial.proofs.Counts.StepCases.{step_cases}
 use Rattle.tcc_serial.proofs.Marks.CoreMarking.{Marking, few, at-most-one, marking-exec, marking-evict}
 use Rattle.tcc_serial.proofs.Marks.CoreMarkingTakes.{Granting, marking-back, granting}
 use Rattle.tcc_serial.proofs.Marks.CoreMarks.{stores-writes}
-use Rattle.tcc_serial.proofs.Marks.DirMarks.{Marked, Stays, Clears, Skipped, Marks as IsMarked, MarkedBy, dir-marked}
+use Rattle.tcc_serial.proofs.Marks.DirMarks.{Marked, Stays, MarkedBy, dir-marked, marks-grow, marks-count}
 use Rattle.tcc_serial.proofs.Serving.KeptSteps.{core_of_grant, core_of_back}
 use Rattle.tcc_serial.proofs.Serving.OwnerSteps.{grant-alone}
 use Rattle.tcc_serial.proofs.Tids.Commits.{granted-once}
@@ -107,64 +107,19 @@ pub is-mark : (t a b : ℕ) → num (passes (MarkOf t a) (Mark a b t)) ≡ 1
 unfolding passes
 is-mark t a b = grind (arith, nat_tests)
 
-no-mark : (t l u : ℕ) → num (passes (MarkOf t l) (Skip u)) ≡ 0
-unfolding passes
-no-mark t l u = refl
-
-other-line : (t l a i u : ℕ) → (l ≡ a → ⊥) → num (passes (MarkOf t l) (Mark a i u)) ≡ 0
-unfolding passes
-other-line t l a i u n = grind (arith, nat_tests)
-
-other-tid : (t l a i u : ℕ) → (u ≡ t → ⊥) → num (passes (MarkOf t l) (Mark a i u)) ≡ 0
-unfolding passes
-other-tid t l a i u n = grind (arith, nat_tests)
-
-some-word : (a i u : ℕ) → passes EmptyMarks (Mark a i u) ≡ false → nat_lt 0 i ≡ true
-unfolding passes
-some-word a i u h = grind (arith, nat_tests)
-
 -- none of the Marks of a line before, so none after
 pub falls : (s new : DirState) (m : Msg) (t l x y : ℕ) → Marked s m new → y + num (passes (MarkOf t l) m) ≡ x → (m ≡ Skip s.serving.serving → has_mark s.lines l ≡ false) → x + num (s.serving.serving == t && has_mark s.lines l) ≡ 0 → y + num (new.serving.serving == t && has_mark new.lines l) ≡ 0
-falls s new m t l x y (Stays e f g) q k z = rw (e, f l) (omega (arith, q, z))
-falls s new m t l x y (Clears e f g) q k z = rw (f l) (grind arith)
-falls s new m t l x y (Skipped e f) q k z = rw (f l, k e) (grind arith)
-falls s new m t l x y (IsMarked a b e g f) q k z = rw (g, f l) (go (cases_eq l a))
-  where
-    go : (l ≡ a) ⊎ (l ≡ a → ⊥) → y + num (s.serving.serving == t && nat_lt 0 (if l == a then b else s.lines.mark l)) ≡ 0
-    go (inr n) = let c : (l == a) ≡ false = grind (arith, nat_tests) in rw c (omega (arith, q, z))
-    go (inl c) = here (cases_eq s.serving.serving t)
-      where
-        here : (s.serving.serving ≡ t) ⊎ (s.serving.serving ≡ t → ⊥) → y + num (s.serving.serving == t && nat_lt 0 (if l == a then b else s.lines.mark l)) ≡ 0
-        here (inr n) = let r : (s.serving.serving == t) ≡ false = grind (arith, nat_tests) in rw r (omega (arith, q, z))
-        here (inl r) = let p : num (passes (MarkOf t l) m) ≡ 1 = rw (e, r, c) (is-mark t a b) in absurd (omega (arith, p, q, z))
+falls s new m t l x y h q k z = omega (arith, q, z, marks-grow (nat_lt 0) s new m t l (num (passes (MarkOf t l) m)) refl h k (λ i e r. rw e (omega (arith, is-mark t l i))))
 
 -- a line of which one Mark was sent at most, b, by a TID that isn't passed
 pub holds : (s new : DirState) (m : Msg) (t l x y b : ℕ) → Marked s m new → y + num (passes (MarkOf t l) m) ≡ x → (m ≡ Skip s.serving.serving → has_mark s.lines l ≡ false) → passes EmptyMarks m ≡ false → b ≤ 1 → (1 ≤ b → new.serving.serving ≤ t) → x + num (s.serving.serving == t && has_mark s.lines l) ≡ b → y + num (new.serving.serving == t && has_mark new.lines l) ≡ b
-holds s new m t l x y b (Stays e f g) q k nonempty once reached z = grind (arith, nat_tests)
-holds s new m t l x y b (Clears e f g) q k nonempty once reached z = grind (arith, nat_tests)
-holds s new m t l x y b (Skipped e f) q k nonempty once reached z =
-    let n : num (passes (MarkOf t l) m) ≡ 0 = rw e (no-mark t l s.serving.serving) in
-    let was : num (s.serving.serving == t && has_mark s.lines l) ≡ 0 = rw (k e) (grind arith) in
-    let now : num (new.serving.serving == t && has_mark s.lines l) ≡ 0 = rw (k e) (grind arith) in
-    rw (f l) (omega (arith, n, q, z, was, now))
-holds s new m t l x y b (IsMarked a i e g f) q k nonempty once reached z = rw (g, f l) (go (cases_eq l a))
+holds s new m t l x y b h q k nonempty once reached z = go (marks-count s new m t l h k nonempty) (cases_lt 0 b)
   where
-    go : (l ≡ a) ⊎ (l ≡ a → ⊥) → y + num (s.serving.serving == t && nat_lt 0 (if l == a then i else s.lines.mark l)) ≡ b
-    go (inr n) = let c : (l == a) ≡ false = grind (arith, nat_tests) in let p : num (passes (MarkOf t l) m) ≡ 0 = rw e (other-line t l a i s.serving.serving n) in rw c (omega (arith, p, q, z))
-    go (inl c) = here (cases_eq s.serving.serving t)
-      where
-        some : nat_lt 0 i ≡ true
-        some = some-word a i s.serving.serving (rw e at nonempty)
-
-        here : (s.serving.serving ≡ t) ⊎ (s.serving.serving ≡ t → ⊥) → y + num (s.serving.serving == t && nat_lt 0 (if l == a then i else s.lines.mark l)) ≡ b
-        here (inr n) =
-            let no-more : (s.serving.serving == t) ≡ false → num (s.serving.serving == t && has_mark s.lines l) ≡ 0 = λ r. rw r refl in
-            let r : (s.serving.serving == t) ≡ false = grind (arith, nat_tests) in let p : num (passes (MarkOf t l) m) ≡ 0 = rw e (other-tid t l a i s.serving.serving n) in rw r (omega (arith, p, q, z, no-more r))
-        here (inl r) =
-            let p : num (passes (MarkOf t l) m) ≡ 1 = rw (e, r, c) (is-mark t a i) in
-            let u : (l == a) ≡ true = grind (arith, nat_tests) in
-            let v : (s.serving.serving == t) ≡ true = grind (arith, nat_tests) in
-            rw (u, v, some) (omega (arith, p, q, z, once))
+    go : (num (new.serving.serving == t && has_mark new.lines l) ≡ num (s.serving.serving == t && has_mark s.lines l) + num (passes (MarkOf t l) m)) ⊎ ((t < new.serving.serving) ⊎ ((num (new.serving.serving == t && has_mark new.lines l) ≡ 1) × (num (passes (MarkOf t l) m) ≡ 1))) → (0 < b) ⊎ (b ≤ 0) → y + num (new.serving.serving == t && has_mark new.lines l) ≡ b
+    go (inl e) o = omega (arith, e, q, z)
+    go (inr (inr e)) o = omega (arith, e.0, e.1, q, z, once)
+    go (inr (inl e)) (inl o) = absurd (omega (arith, e, reached (omega (arith, o))))
+    go (inr (inl e)) (inr o) = let r : (new.serving.serving == t) ≡ false = grind (arith, nat_tests) in rw r (omega (arith, q, z, o))
 
 -- a line is marked by a core only where its TID is open
 marked-opens : (sh : Shape) (s : CoreState) (d t l : ℕ) → has_tid s.phase t ≡ true → 1 ≤ marked_by sh s d l → opens s.phase (writes_at sh s.cache d) t ≡ true

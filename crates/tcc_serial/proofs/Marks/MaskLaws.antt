@@ -1,11 +1,10 @@
 -- The laws on the marks of directories, from the invariants.
-use Rattle.tcc_serial.proofs.Names.{ℕ, zero, suc, ◌≡◌, ◌<◌, ◌≤◌, Bool, true, false, not, List, [], ◌∷◌, ◌==◌, ◌&&◌, Contains, Option, Some}
-use Rattle.tcc_serial.proofs.Names.{None, IfSome, length, slice_index_or, nat_lt, nat_le, arith, refl, sym, ap, subst, ◌∙◌, ◌⊎◌, inl, inr}
-use Rattle.tcc_serial.proofs.Names.{cases_eq, cases_lt, nat_tests, Noted, num, count_below, modified_mask, has_mark, Core, Dir, Msg, Shape}
-use Rattle.tcc_serial.proofs.Names.{lines, CoreState, World, Link, start, History, run, Any, Commits, CommitOf, live, passes, CountsMarks}
-use Rattle.tcc_serial.proofs.Names.{KeptAll, Always, marks_of, has_marked, stores_line, marked_by, KeptMarks, wrong_marks, KeptMasks}
-use Rattle.tcc_serial.proofs.Names.{AlwaysSince, MarkedByServed, MarksOfCommits, Grant, grants_from, IsRising, Pair, pair, stored_mask}
-use Rattle.tcc_serial.proofs.Names.{stores_at, MarkedWith, KeptStored}
+use Rattle.tcc_serial.proofs.Names.{ℕ, zero, suc, ◌≡◌, ◌<◌, ◌≤◌, true, List, [], ◌∷◌, ◌==◌, Contains, Option, Some, None, IfSome, length}
+use Rattle.tcc_serial.proofs.Names.{slice_index_or, nat_lt, nat_le, arith, sym, ap, subst, ◌∙◌, ◌⊎◌, inl, inr, cases_lt, nat_tests, Noted}
+use Rattle.tcc_serial.proofs.Names.{num, count_below, modified_mask, has_mark, Core, Dir, Msg, Shape, lines, CoreState, World, Link, start}
+use Rattle.tcc_serial.proofs.Names.{History, run, Any, Commits, CommitOf, live, passes, CountsMarks, KeptAll, Always, marks_of, stores_line}
+use Rattle.tcc_serial.proofs.Names.{marked_by, KeptMarks, wrong_marks, KeptMasks, AlwaysSince, MarkedByServed, MarksOfCommits, Grant}
+use Rattle.tcc_serial.proofs.Names.{grants_from, IsRising, Pair, pair, stored_mask, stores_at, MarkedWith, KeptStored}
 use Rattle.tcc_serial.proofs.Counts.Links.{total-same, live-fewer}
 use Rattle.tcc_serial.proofs.Marks.CoreCounts.{total-num}
 use Rattle.tcc_serial.proofs.Marks.CountsKept.{none-away}

@@ -1,19 +1,19 @@
 -- Every event keeps that the Marks of a core's TID have the words that the core has modified as their masks, and are of different lines.
 use Rattle.tcc_serial.proofs.Names.{ℕ, ◌+◌, ◌≡◌, ◌<◌, ◌≤◌, Bool, true, false, not, List, [], ◌==◌, ◌&&◌, Contains, Option, Some, None}
-use Rattle.tcc_serial.proofs.Names.{IfSome, nat_lt, set, if◌then◌else◌, arith, refl, ◌⊎◌, inl, inr, cases_eq, nat_tests, Noted, Program}
-use Rattle.tcc_serial.proofs.Names.{Local, num, modified_mask, has_mark, Core, Dir, Vendor, Msg, TidGrant, Skip, Mark, Event, Shape}
-use Rattle.tcc_serial.proofs.Names.{DirState, World, Link, start, core_start, in_flight, Sends, Out, core_exec, core_evict, from_dir, grant}
-use Rattle.tcc_serial.proofs.Names.{Answer, Waits, Drops, Asks, Takes, dir_deliver, core_moves, core_takes, dir_takes, step, Grants, MarkOf}
-use Rattle.tcc_serial.proofs.Names.{MarkMask, live, passes, marks_of, marked_by, MarksOf, KeptMarks, wrong_marks, MaskedOf, KeptMasks}
-use Rattle.tcc_serial.proofs.Names.{Grant, KeptOwners, Pair, pair, after_move, grant_taken, after_answer, has_tid, Kept, KeptTold, cases_lt}
-use Rattle.tcc_serial.proofs.Names.{no_lines, first_serving, dir_start, among, OneMark}
+use Rattle.tcc_serial.proofs.Names.{IfSome, nat_lt, set, arith, refl, ◌⊎◌, inl, inr, nat_tests, Noted, Program, Local, num, modified_mask}
+use Rattle.tcc_serial.proofs.Names.{has_mark, Core, Dir, Vendor, Msg, TidGrant, Skip, Mark, Event, Shape, DirState, World, Link, start}
+use Rattle.tcc_serial.proofs.Names.{core_start, in_flight, Sends, Out, core_exec, core_evict, from_dir, grant, Answer, Waits, Drops, Asks}
+use Rattle.tcc_serial.proofs.Names.{Takes, dir_deliver, core_moves, core_takes, dir_takes, step, Grants, MarkOf, MarkMask, live, passes}
+use Rattle.tcc_serial.proofs.Names.{marks_of, marked_by, MarksOf, KeptMarks, wrong_marks, MaskedOf, KeptMasks, Grant, KeptOwners, Pair}
+use Rattle.tcc_serial.proofs.Names.{pair, after_move, grant_taken, after_answer, has_tid, Kept, KeptTold, cases_lt, no_lines, first_serving}
+use Rattle.tcc_serial.proofs.Names.{dir_start, among, OneMark}
 use Rattle.tcc_serial.proofs.Counts.Links.{live-sends, live-takes, num-few}
 use Rattle.tcc_serial.proofs.Counts.StepCases.{pairs_move, pairs_grant, pairs_back, pairs_dir, pairs_asks, pairs_vendor, OfAnswer}
 use Rattle.tcc_serial.proofs.Counts.StepCases.{step_cases}
 use Rattle.tcc_serial.proofs.Marks.CoreMarking.{Marking, marking-exec, marking-evict, few}
 use Rattle.tcc_serial.proofs.Marks.CoreMarkingTakes.{Granting, marking-back, granting}
 use Rattle.tcc_serial.proofs.Marks.CoreMasks.{Masking, live-masked, passes-masked, masking-exec, masking-evict, masking-back}
-use Rattle.tcc_serial.proofs.Marks.DirMarks.{Marked, Stays, Clears, Skipped, Marks as IsMarked, MarkedBy, dir-marked}
+use Rattle.tcc_serial.proofs.Marks.DirMarks.{Marked, Stays, MarkedBy, dir-marked, marks-grow}
 use Rattle.tcc_serial.proofs.Marks.MarksKept.{marks-granted, has-granted, is-granted, skip-unmarked, only-there, kinds, falls, taken-less}
 use Rattle.tcc_serial.proofs.Serving.KeptSteps.{core_of_back}
 use Rattle.tcc_serial.proofs.Serving.OwnerSteps.{grant-alone}
@@ -49,35 +49,14 @@ masks-granted : (sh : Shape) (gs : List Grant) (c d t l k u : ℕ) (v : Pair) (o
 masks-granted sh gs c d t l k u v o cl dl y m = λ x. omega (arith, wrong-few t l (modified_mask o.core.cache l) (after_move (grant_taken v k) o d), m.held cl dl x, (y.kept dl x).1)
 
 -- a directory answers
-wrong-one : (a b t q : ℕ) → (b ≡ q → ⊥) → num (passes (MarkMask t a q) (Mark a b t)) ≡ 1
+wrong-one : (a b t q : ℕ) → (nat_lt 0 b && not (b == q)) ≡ true → 1 ≤ num (passes (MarkMask t a q) (Mark a b t))
 unfolding passes
 wrong-one a b t q n = grind (arith, nat_tests)
 
 -- none with another mask before, so none after
 pub wrong-falls : (s new : DirState) (m : Msg) (t l q x y : ℕ) → Marked s m new → y + num (passes (MarkMask t l q) m) ≡ x → (m ≡ Skip s.serving.serving → has_mark s.lines l ≡ false)
     → x + num (s.serving.serving == t && (has_mark s.lines l && not (s.lines.mark l == q))) ≡ 0 → y + num (new.serving.serving == t && (has_mark new.lines l && not (new.lines.mark l == q))) ≡ 0
-wrong-falls s new m t l q x y (Stays e f g) p k z = rw (e, f l) (omega (arith, p, z))
-wrong-falls s new m t l q x y (Clears e f g) p k z = rw (f l) (grind arith)
-wrong-falls s new m t l q x y (Skipped e f) p k z = rw (f l, k e) (grind arith)
-wrong-falls s new m t l q x y (IsMarked a b e g f) p k z = rw (g, f l) (go (cases_eq l a))
-  where
-    none : (a c : Bool) → num (a && (c && not true)) ≡ 0
-    none true true = refl
-    none true false = refl
-    none false c = refl
-
-    -- the mask that the message has is the right one
-    right : s.serving.serving ≡ t → l ≡ a → (b ≡ q) ⊎ (b ≡ q → ⊥) → y + num (s.serving.serving == t && (nat_lt 0 b && not (b == q))) ≡ 0
-    right r c (inl i) = let j : (b == q) ≡ true = grind (arith, nat_tests) in rw j (omega (arith, p, z, none (s.serving.serving == t) (nat_lt 0 b)))
-    right r c (inr n) = let o : num (passes (MarkMask t l q) m) ≡ 1 = rw (e, r, c) (wrong-one a b t q n) in absurd (omega (arith, o, p, z))
-
-    here : l ≡ a → (s.serving.serving ≡ t) ⊎ (s.serving.serving ≡ t → ⊥) → y + num (s.serving.serving == t && (nat_lt 0 b && not (b == q))) ≡ 0
-    here c (inr n) = let r : (s.serving.serving == t) ≡ false = grind (arith, nat_tests) in rw r (omega (arith, p, z))
-    here c (inl r) = right r c (cases_eq b q)
-
-    go : (l ≡ a) ⊎ (l ≡ a → ⊥) → y + num (s.serving.serving == t && (nat_lt 0 (if l == a then b else s.lines.mark l) && not ((if l == a then b else s.lines.mark l) == q))) ≡ 0
-    go (inr n) = let c : (l == a) ≡ false = grind (arith, nat_tests) in rw c (omega (arith, p, z))
-    go (inl c) = let i : (l == a) ≡ true = grind (arith, nat_tests) in rw i (here c (cases_eq s.serving.serving t))
+wrong-falls s new m t l q x y h p k z = omega (arith, p, z, marks-grow (λ b. nat_lt 0 b && not (b == q)) s new m t l (num (passes (MarkMask t l q) m)) refl h (λ e. rw (k e) refl) (λ i e r. rw e (wrong-one l i t q r)))
 
 masks-answered : (t l : ℕ) (v : Pair) (m : Msg) (s : DirState) (ms : List Msg) (k : Link) → Marked v.dir m s
     → (has_tid v.core.phase t ≡ true → live (MarkMask t l (modified_mask v.core.cache l)) k + num (passes (MarkMask t l (modified_mask v.core.cache l)) m) ≡ live (MarkMask t l (modified_mask v.core.cache l)) v.out)

@@ -1,18 +1,19 @@
 -- Every event keeps that invalidations in flight name marked lines with their masks, once each.
-use Rattle.tcc_serial.proofs.Names.{ℕ, zero, suc, ◌+◌, ◌≡◌, ◌≤◌, Bool, true, false, not, List, [], ◌∷◌, ◌==◌, ◌&&◌, Some, None, IfSome}
-use Rattle.tcc_serial.proofs.Names.{nat_lt, if◌then◌else◌, flat_map, arith, refl, ◌⊎◌, inl, inr, cases_eq, nat_tests, flat_map-append, num}
-use Rattle.tcc_serial.proofs.Names.{those, count_below, Lines, has_mark, Core, Dir, Msg, TidReq, TidGrant, LoadReq, Fill, Skip, Probe}
-use Rattle.tcc_serial.proofs.Names.{ProbeReply, Mark, Commit, Abort, WriteBack, Flush, DataReq, Inv, InvAck, Shape, home, lines, CoreState}
-use Rattle.tcc_serial.proofs.Names.{DirState, Link, to, Out, from_dir, probe_reply, fill, data_request, invalidate, Answer, Waits, Drops}
-use Rattle.tcc_serial.proofs.Names.{Asks, Takes, dir_deliver, settled, owned, owed_by, invalidations, invs_to, is_invalidated, Invs}
-use Rattle.tcc_serial.proofs.Names.{InvsAway, Acks, InvOf, InvMask, AckOf, Resolves, Commits, live, among, passes, ◌<◌, Option, set, sym}
-use Rattle.tcc_serial.proofs.Names.{ap, subst, ◌∙◌, cases_lt, Program, Local, Event, World, start, in_flight, Sends, core_exec, core_evict}
-use Rattle.tcc_serial.proofs.Names.{grant, core_moves, core_takes, dir_takes, step, MarkOf, KeptCounted, NamedOf, KeptNamed, due, Pair}
-use Rattle.tcc_serial.proofs.Names.{pair, share, after_move, grant_taken, back_taken, after_answer, Kept, KeptTold, ◌++◌, Contains}
-use Rattle.tcc_serial.proofs.Names.{append-nil, Contains-append_cases, dir_asks, Any, Grant, granted_by, SparesCommitter, out_taken}
-use Rattle.tcc_serial.proofs.Names.{handled}
-use Rattle.tcc_rules.specs.DirDeliver.{commit}
+use Rattle.tcc_serial.proofs.Names.{ℕ, zero, suc, ◌+◌, ◌≡◌, ◌≤◌, Bool, true, false, List, [], ◌∷◌, ◌==◌, ◌&&◌, Some, None, IfSome, nat_lt}
+use Rattle.tcc_serial.proofs.Names.{if◌then◌else◌, flat_map, arith, refl, ◌⊎◌, inl, inr, cases_eq, nat_tests, flat_map-append, num, those}
+use Rattle.tcc_serial.proofs.Names.{Lines, has_mark, Core, Dir, Msg, Fill, ProbeReply, Mark, Commit, DataReq, Inv, InvAck, Shape, home}
+use Rattle.tcc_serial.proofs.Names.{lines, CoreState, DirState, Link, to, Out, from_dir, probe_reply, fill, data_request, invalidate}
+use Rattle.tcc_serial.proofs.Names.{Answer, Waits, Drops, Asks, Takes, dir_deliver, settled, invalidations, invs_to, is_invalidated, Invs}
+use Rattle.tcc_serial.proofs.Names.{InvsAway, Acks, InvOf, InvMask, AckOf, Resolves, live, among, passes, ◌<◌, Option, set, sym, ap, subst}
+use Rattle.tcc_serial.proofs.Names.{◌∙◌, cases_lt, Program, Local, Event, World, start, in_flight, Sends, core_exec, core_evict, grant}
+use Rattle.tcc_serial.proofs.Names.{core_moves, core_takes, dir_takes, step, MarkOf, KeptCounted, NamedOf, KeptNamed, due, Pair, pair}
+use Rattle.tcc_serial.proofs.Names.{share, after_move, grant_taken, back_taken, after_answer, Kept, KeptTold, ◌++◌, Contains, append-nil}
+use Rattle.tcc_serial.proofs.Names.{Contains-append_cases, dir_asks, Any, Grant, granted_by, SparesCommitter, out_taken, handled}
+use Rattle.tcc_serial.proofs.Names.{line_words}
+use Rattle.tcc_serial.proofs.Counts.DirOutcome.{Outcome, Waiting, Spent, AsksOwner, TakesProbe, TakesLoad, TakesCommit, outcome, none-to}
+use Rattle.tcc_serial.proofs.Counts.DirOutcome.{among-none}
 use Rattle.tcc_serial.proofs.Counts.Links.{among-append, among-flat_map_none, live-sends, live-takes, total-le, live-fewer, none-taken}
+use Rattle.tcc_serial.proofs.Counts.Links.{among-fewer}
 use Rattle.tcc_serial.proofs.Counts.StepCases.{same, dir-own, dir-other, pairs_move, pairs_grant, pairs_back, pairs_dir, pairs_asks}
 use Rattle.tcc_serial.proofs.Counts.StepCases.{pairs_vendor, OfAnswer, step_cases, asks-own}
 use Rattle.tcc_serial.proofs.Marks.DirMarks.{Marked, Stays, Clears, Skipped, Marks as IsMarked, MarkedBy, dir-marked}
@@ -22,7 +23,7 @@ use Rattle.tcc_serial.proofs.OneCore.CoreSteps.{fill-steady, data-steady, Invali
 use Rattle.tcc_serial.proofs.Serving.CoreDue.{Clean, clean-hurt, clean-replied, clean-steady, CleanOut, clean-exec, clean-evict}
 use Rattle.tcc_serial.proofs.Serving.CoreDue.{clean-grant}
 use Rattle.tcc_serial.proofs.Serving.DirDue.{Due, DueBy, dir-due, still-due, none-quiet}
-use Rattle.tcc_serial.proofs.Serving.DirInvs.{Quiet, SparesBy, dir-spares}
+use Rattle.tcc_serial.proofs.Serving.DirInvs.{Quiet}
 use Rattle.tcc_serial.proofs.Serving.KeptSteps.{core_of_out, once_at, marks_home, acks_owed, BackDue, back-due}
 use Rattle.tcc_serial.proofs.Tids.Commits.{only-one}
 use Rattle.tcc_serial.proofs.Tids.DirTids.{unserved}
@@ -36,15 +37,10 @@ unfolding passes
 line-kinds l m x = (grind (arith, nat_tests), grind (arith, nat_tests), grind (arith, nat_tests))
 
 pub lines-live : (l m : ℕ) (k : Link) → (live (InvOf l) k ≤ live Invs k) × (live (InvMask l m) k ≤ live Invs k) × (live (AckOf l) k ≤ live Acks k)
-unfolding live
-lines-live l m [] = (omega arith, omega arith, omega arith)
-lines-live l m (None ∷ k) = lines-live l m k
-lines-live l m (Some x ∷ k) = let r = lines-live l m k in let o = line-kinds l m x in (omega (arith, r.0, o.0), omega (arith, r.1, o.1), omega (arith, r.2, o.2))
+lines-live l m k = (live-fewer (InvOf l) Invs (λ x. (line-kinds l m x).0) k, live-fewer (InvMask l m) Invs (λ x. (line-kinds l m x).1) k, live-fewer (AckOf l) Acks (λ x. (line-kinds l m x).2) k)
 
 pub lines-among : (l m : ℕ) (k : List Msg) → (among (InvOf l) k ≤ among Invs k) × (among (InvMask l m) k ≤ among Invs k) × (among (AckOf l) k ≤ among Acks k)
-unfolding among
-lines-among l m [] = (omega arith, omega arith, omega arith)
-lines-among l m (x ∷ k) = let r = lines-among l m k in let o = line-kinds l m x in (omega (arith, r.0, o.0), omega (arith, r.1, o.1), omega (arith, r.2, o.2))
+lines-among l m k = (among-fewer (InvOf l) Invs (λ x. (line-kinds l m x).0) k, among-fewer (InvMask l m) Invs (λ x. (line-kinds l m x).1) k, among-fewer (AckOf l) Acks (λ x. (line-kinds l m x).2) k)
 
 -- a core acknowledges the line of an invalidation, to the directory that it came from
 acks-of : (sh : Shape) (k l d : ℕ) (s : CoreState) (o : Out) → Invalidated sh k s o → among (AckOf l) (o.sends (Dir d)) ≤ num ((d == home sh k) && (k == l))
@@ -104,32 +100,18 @@ NamesBy s m (Asks new sends) = Quiet sends
 NamesBy s m (Takes new sends) = Quiet sends ⊎ ((passes (Resolves s.serving.serving) m ≡ true) × ((j : ℕ) → Names s.lines (sends (Core j))))
 NamesBy s m _ = Unit {0}
 
-names-commit : (sh : Shape) (c u n : ℕ) (s : DirState) → NamesBy s (Commit u n) (commit sh c u n s)
-unfolding commit passes
-names-commit sh c u n s = go (s.serving.serving == u) refl (count_below (has_mark s.lines) (lines sh) == n)
-  where
-    go : (a : Bool) → (s.serving.serving == u) ≡ a → (b : Bool) → NamesBy s (Commit u n) (if a && b then Takes (settled (record s { lines = owned c u s.lines; owed = owed_by sh s.lines c })) (invalidations sh s.lines c u) else Waits)
-    go false q b = tt
-    go true q false = tt
-    go true q true = inr (let e : (u == s.serving.serving) ≡ true = grind (arith, nat_tests) in e, names-invs sh s.lines c u)
-
-names-of : (sh : Shape) (c u n : ℕ) (s : DirState) → NamesBy s (Commit u n) (dir_deliver sh s c (Commit u n))
-unfolding dir_deliver
-names-of sh c u n s = names-commit sh c u n s
-
-names-quiet : (s : DirState) (c : ℕ) (m : Msg) (a : Answer) → passes (Commits s.serving.serving) m ≡ false → SparesBy s c m a → NamesBy s m a
-names-quiet s c m (Asks new sends) h u = u
-names-quiet s c m (Takes new sends) h (inl q) = inl q
-names-quiet s c m (Takes new sends) h (inr q) = absurd (let z = q.1 in cc)
-names-quiet s c m _ h u = tt
-
 pub dir-names : (sh : Shape) (s : DirState) (c : ℕ) (m : Msg) → NamesBy s m (dir_deliver sh s c m)
 unfolding passes
-dir-names sh s c m = go m (dir-spares sh s c m)
+dir-names sh s c m = go (outcome sh s c m)
   where
-    go : (m : Msg) → SparesBy s c m (dir_deliver sh s c m) → NamesBy s m (dir_deliver sh s c m)
-    go (Commit u n) h = names-of sh c u n s
-    go m h = names-quiet s c m _ refl h
+    go : {m : Msg} {a : Answer} → Outcome sh s c m a → NamesBy s m a
+    go (Waiting m) = tt
+    go (Spent m i) = tt
+    go (AsksOwner m l o w e) = λ j. none-to Invs o j (DataReq l) refl
+    go (TakesProbe t h) = inl (λ j. none-to Invs c j (ProbeReply t s.serving.serving) refl)
+    go (TakesLoad l k h e o) = inl (λ j. none-to Invs c j (Fill l (line_words s l)) refl)
+    go (TakesCommit b e) = inr (same s.serving.serving, names-invs sh s.lines c s.serving.serving)
+    go _ = inl (λ j. among-none Invs)
 
 -- a core moves: so many acknowledgements as invalidations that it took
 named-moved : (l d got : ℕ) (v : Pair) (o : Out) (k : Link) → among (AckOf l) (o.sends (Dir d)) ≤ got → live (InvOf l) k + got ≤ live (InvOf l) v.back → live (InvMask l (v.dir.lines.mark l)) k ≤ live (InvMask l (v.dir.lines.mark l)) v.back → NamedOf l v → NamedOf l (after_move (record v { back = k }) o d)

@@ -1,8 +1,7 @@
 -- A directory owes more than it did only by a Commit that counts the lines that are marked.
 use Rattle.tcc_serial.proofs.Names.{ℕ, ◌≡◌, ◌≤◌, arith, refl, ◌⊎◌, inl, inr, count_below, has_mark, Msg, Commit, Shape, lines, DirState}
-use Rattle.tcc_serial.proofs.Names.{Answer, Waits, Drops, Asks, Takes, dir_deliver}
-use Rattle.tcc_serial.proofs.Counts.DirOutcome.{Outcome, Waiting, Spent, AsksOwner, TakesSkip, TakesAbort, TakesProbe, TakesLoad, TakesMark}
-use Rattle.tcc_serial.proofs.Counts.DirOutcome.{TakesCommit, TakesAck, TakesCopy, outcome}
+use Rattle.tcc_serial.proofs.Names.{Answer, Asks, Takes, dir_deliver}
+use Rattle.tcc_serial.proofs.Counts.DirOutcome.{Outcome, Waiting, Spent, AsksOwner, TakesCommit, outcome}
 
 -- a Commit of the served TID that counts the marked lines
 abbrev pub CountsMarked : Shape → DirState → Msg → Type 0

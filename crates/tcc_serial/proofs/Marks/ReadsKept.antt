@@ -1,11 +1,10 @@
 -- Every event keeps that a word which is marked read is valid, or its home has passed the core's TID.
 use Rattle.tcc_serial.proofs.Names.{ℕ, ◌≡◌, ◌<◌, ◌≤◌, ◌==◌, not, true, List, [], Contains, Option, Some, None, IfSome, is_some, arith, sym}
-use Rattle.tcc_serial.proofs.Names.{◌∙◌, ◌⊎◌, inl, inr, cases_eq, nat_tests, Noted, Program, Local, num, Core, Dir, Msg, TidReq, TidGrant}
-use Rattle.tcc_serial.proofs.Names.{LoadReq, Fill, Skip, Probe, ProbeReply, Mark, Commit, Abort, WriteBack, Flush, DataReq, Inv, InvAck}
-use Rattle.tcc_serial.proofs.Names.{Event, Shape, home, empty_cache, CoreState, World, start, core_start, in_flight, Out, core_exec}
-use Rattle.tcc_serial.proofs.Names.{core_evict, from_dir, grant, Answer, Waits, Drops, Asks, Takes, dir_deliver, core_moves, core_takes}
-use Rattle.tcc_serial.proofs.Names.{step, Invs, InvsNot, passes, Kept, KeptTold, KeptCores, Grant, KeptOwners, LastGranted, SparesCommitter}
-use Rattle.tcc_serial.proofs.Names.{holder, Pair, pair, IsBound, has_tid, IsPassed, ReadWords}
+use Rattle.tcc_serial.proofs.Names.{◌∙◌, ◌⊎◌, inl, inr, cases_eq, nat_tests, Noted, Program, Local, num, Core, Dir, Msg, Inv, Event, Shape}
+use Rattle.tcc_serial.proofs.Names.{home, empty_cache, CoreState, World, start, core_start, in_flight, Out, core_exec, core_evict, from_dir}
+use Rattle.tcc_serial.proofs.Names.{grant, Answer, Waits, Drops, Asks, Takes, dir_deliver, core_moves, core_takes, step, Invs, InvsNot}
+use Rattle.tcc_serial.proofs.Names.{passes, Kept, KeptTold, KeptCores, Grant, KeptOwners, LastGranted, SparesCommitter, holder, Pair, pair}
+use Rattle.tcc_serial.proofs.Names.{IsBound, has_tid, IsPassed, ReadWords}
 use Rattle.tcc_serial.proofs.Counts.StepCases.{pairs_move, pairs_grant, pairs_back, pairs_dir, pairs_asks, pairs_vendor, OfAnswer}
 use Rattle.tcc_serial.proofs.Counts.StepCases.{step_cases}
 use Rattle.tcc_serial.proofs.Marks.NamedKept.{passed-away}

@@ -5,12 +5,12 @@ use Rattle.tcc_serial.proofs.Names.{cases_eq, cases_lt, nat_tests, Noted, num, m
 use Rattle.tcc_serial.proofs.Names.{DirState, Link, Out, sent_all, insert_commit, and_noted, Kind, Resolves, Commits, AnyCommit, MarkOf}
 use Rattle.tcc_serial.proofs.Names.{MarkMask, EmptyMarks, live, among, passes, marks_of, marked_by, MarksOf, wrong_marks, MaskedOf, Grant}
 use Rattle.tcc_serial.proofs.Names.{Pair, after_move, grant_taken, after_answer, stored_mask, MarkedWith, MarkedCommit, SettledCommit}
-use Rattle.tcc_serial.proofs.Names.{StoredOf, opens, IfSome, set, sym, ap, subst, Program, Local, count_below, Core, TidReq, Commit}
-use Rattle.tcc_serial.proofs.Names.{Event, lines, World, start, dir_start, in_flight, Sends, core_exec, core_evict, from_dir, grant}
-use Rattle.tcc_serial.proofs.Names.{Answer, Waits, Drops, Asks, Takes, dir_deliver, core_moves, core_takes, dir_takes, dir_asks, step}
-use Rattle.tcc_serial.proofs.Names.{CommitOf, Acks, KeptCounted, KeptMarks, KeptMasks, KeptCores, KeptOwners, pair, back_taken}
-use Rattle.tcc_serial.proofs.Names.{after_grant, after_other_grant, KeptStored, Kept, KeptTold, answered, commit, mark, marked, moved}
-use Rattle.tcc_serial.proofs.Names.{noted, settled, skip, stored, taken}
+use Rattle.tcc_serial.proofs.Names.{StoredOf, opens, IfSome, set, sym, ap, subst, Program, Local, count_below, Core, TidReq, Commit, Event}
+use Rattle.tcc_serial.proofs.Names.{lines, World, start, dir_start, in_flight, Sends, core_exec, core_evict, from_dir, grant, Answer, Waits}
+use Rattle.tcc_serial.proofs.Names.{Drops, Asks, Takes, dir_deliver, core_moves, core_takes, dir_takes, dir_asks, step, CommitOf, Acks}
+use Rattle.tcc_serial.proofs.Names.{KeptCounted, KeptMarks, KeptMasks, KeptCores, KeptOwners, pair, back_taken, after_grant}
+use Rattle.tcc_serial.proofs.Names.{after_other_grant, KeptStored, Kept, KeptTold, answered, commit, mark, marked, moved, noted, settled}
+use Rattle.tcc_serial.proofs.Names.{skip, stored, taken}
 use Rattle.tcc_serial.proofs.Counts.Links.{live-sends, num-few, live-takes}
 use Rattle.tcc_serial.proofs.Counts.StepCases.{dir-own, dir-other, asks-own, pairs_move, pairs_grant, pairs_back, pairs_dir, pairs_asks}
 use Rattle.tcc_serial.proofs.Counts.StepCases.{pairs_vendor, OfAnswer, step_cases}

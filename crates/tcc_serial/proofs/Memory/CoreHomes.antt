@@ -1,12 +1,12 @@
 -- What a core sends about lines goes to their homes, and names some word where it names words.
 use Rattle.tcc_serial.proofs.Names.{ℕ, ◌%◌, ◌≡◌, ◌<◌, Bool, true, false, not, List, [], ◌∷◌, ◌++◌, ◌==◌, ◌&&◌, cond, Some, None, IfSome}
-use Rattle.tcc_serial.proofs.Names.{is_some, nat_lt, if◌then◌else◌, flat_map, arith, refl, any_below-found, nat_tests, Program, num}
-use Rattle.tcc_serial.proofs.Names.{those, count_below, any_word, word_at, Dir, Msg, LoadReq, Skip, Mark, Commit, WriteBack, Flush}
-use Rattle.tcc_serial.proofs.Names.{InvAck, Shape, home, lines, Cache, keeps, is_dirty, dirty_mask, dirty_copy, dirty_words, dirty_tag}
-use Rattle.tcc_serial.proofs.Names.{is_modified, modified_mask, written_lines, Spilled, holds, spilled_mask, spilled_words, CoreState}
-use Rattle.tcc_serial.proofs.Names.{Sends, nothing, to, flush, flushed, written_back, marks_for, commit, solo_commit, solo_sends}
-use Rattle.tcc_serial.proofs.Names.{solo_marks, solo_backs, solo_writes_at, is_written, written_mask, core_exec, core_evict, grant}
-use Rattle.tcc_serial.proofs.Names.{from_dir, LinesAway, NoWord, among, passes, skip}
+use Rattle.tcc_serial.proofs.Names.{is_some, nat_lt, if◌then◌else◌, flat_map, arith, refl, any_below-found, nat_tests, Program, num, those}
+use Rattle.tcc_serial.proofs.Names.{count_below, any_word, word_at, Dir, Msg, LoadReq, Skip, Mark, Commit, WriteBack, Flush, InvAck, Shape}
+use Rattle.tcc_serial.proofs.Names.{home, lines, Cache, keeps, is_dirty, dirty_mask, dirty_copy, dirty_words, dirty_tag, is_modified}
+use Rattle.tcc_serial.proofs.Names.{modified_mask, written_lines, Spilled, holds, spilled_mask, spilled_words, CoreState, Sends, nothing}
+use Rattle.tcc_serial.proofs.Names.{to, flush, flushed, written_back, marks_for, commit, solo_commit, solo_sends, solo_marks, solo_backs}
+use Rattle.tcc_serial.proofs.Names.{solo_writes_at, is_written, written_mask, core_exec, core_evict, grant, from_dir, LinesAway, NoWord}
+use Rattle.tcc_serial.proofs.Names.{among, passes, skip}
 use Rattle.tcc_rules.specs.Sends.{write_back}
 use Rattle.tcc_serial.proofs.Counts.Links.{among-append}
 use Rattle.tcc_serial.proofs.Serving.CoreDue.{among-those_none}
@@ -106,11 +106,10 @@ same-home d h e = grind (arith, nat_tests)
 
 homely-solo : (sh : Shape) (c : Cache) (sp : Spilled) (u : ℕ) → HomelyOut sh (solo_sends sh c sp u)
 unfolding solo_sends solo_marks solo_backs among passes
-homely-solo sh c sp u d = go (nat_lt d sh.dirs) (solo_writes_at sh c sp d)
+homely-solo sh c sp u d =
+    let p : ℕ → Bool = λ k. d == home sh k && is_written c sp k in
+    go (nat_lt d sh.dirs) (solo_writes_at sh c sp d)
   where
-    p : ℕ → Bool
-    p k = d == home sh k && is_written c sp k
-
     backs : Homely sh d (flat_map (λ k. WriteBack k (spilled_mask sp k) (spilled_words sp k) u ∷ []) (those (λ k. d == home sh k && holds sp k) (lines sh)))
     backs = homely-those sh d (λ k. WriteBack k (spilled_mask sp k) (spilled_words sp k) u ∷ []) (λ k. d == home sh k && holds sp k) (lines sh) (λ l e. let x = both (d == home sh l) (holds sp l) e in one-back sh d l (spilled_mask sp l) (spilled_words sp l) u (same-home d (home sh l) (x.0)) (spilled-full sp l (x.1)))
 

@@ -2,9 +2,9 @@
 use Rattle.tcc_serial.proofs.Names.{inl, inr, ◌⊎◌, ℕ, ◌≡◌, ◌<◌, Bool, true, false, ◌||◌, ◌==◌, List, [], ◌∷◌, ◌++◌, Option, Some, None}
 use Rattle.tcc_serial.proofs.Names.{IfSome, if◌then◌else◌, arith, refl, nat_tests, Load, Stored, Program, Need, Loads, Stores, Changes}
 use Rattle.tcc_serial.proofs.Names.{load_of, word_of, line_of, Shape, set_of, lines, Cache, free_way, marked, stored, placed, placed_at}
-use Rattle.tcc_serial.proofs.Names.{committed, words_dropped, CoreState, World, Out, noted, commit, committed_core, solo_commit}
-use Rattle.tcc_serial.proofs.Names.{core_exec, WordInMemory, NeedInMemory, StaysInMemory, FramesInMemory, AccessesInMemory, loads_word}
-use Rattle.tcc_serial.proofs.Names.{stores_word, loaded}
+use Rattle.tcc_serial.proofs.Names.{committed, words_dropped, CoreState, World, Out, noted, commit, committed_core, solo_commit, core_exec}
+use Rattle.tcc_serial.proofs.Names.{WordInMemory, NeedInMemory, StaysInMemory, FramesInMemory, AccessesInMemory, loads_word, stores_word}
+use Rattle.tcc_serial.proofs.Names.{loaded}
 use Rattle.tcc_program.specs.Ram.{part}
 use Rattle.tcc_serial.proofs.OneCore.UsedWords.{loads_word-append, stores_word-append}
 use Rattle.tcc_serial.proofs.OneCore.Outcomes.{AccessAt, Acting, Buffers, Commits_now, Did, Ends_alone, Finds, Frames, Frames_anew}
@@ -27,7 +27,6 @@ unfolding loads_word stores_word
 nothing-used sh = record { loaded = λ x e. absurd (cc); stored = λ x e. absurd (cc) }
 
 -- one more load, one more store
-
 one-load : (sh : Shape) (ls : List Load) (ss : List Stored) (m : Load) → WordInMemory sh (word_of sh.base m.addr) → AccessesInMemory sh ls ss → AccessesInMemory sh (ls ++ m ∷ []) ss
 unfolding loads_word
 one-load sh ls ss m w k = record { loaded = λ x e. go x (loads_word sh.base ls x) refl (rw (loads_word-append sh.base ls (m ∷ []) x) at e); stored = k.stored }
@@ -49,7 +48,6 @@ pub same-memory : (sh : Shape) (s r : CoreState) → r.cache.held ≡ s.cache.he
 same-memory sh s r f l t k = record { frames = λ m e. k.frames m (rw f at e); accesses = rw (l, t) (k.accesses) }
 
 -- a new frame is of a line in memory
-
 placed-frames : (sh : Shape) (l : ℕ) (c : Cache) → l < lines sh → FramesInMemory sh c → FramesInMemory sh (placed sh l c)
 unfolding placed placed_at
 placed-frames sh l c m h k e = go (free_way sh c (set_of sh l)) e

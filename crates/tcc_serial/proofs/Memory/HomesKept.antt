@@ -1,13 +1,13 @@
 -- Every event keeps that records and messages are at home.
-use Rattle.tcc_serial.proofs.Names.{ℕ, ◌%◌, ◌≡◌, ◌<◌, ◌⊎◌, Bool, true, false, not, List, [], ◌∷◌, ◌++◌, ◌==◌, ◌&&◌, Option, Some, None}
-use Rattle.tcc_serial.proofs.Names.{IfSome, nat_lt, if◌then◌else◌, arith, refl, ap, inl, inr, cases_eq, nat_tests, Program, Local, num}
-use Rattle.tcc_serial.proofs.Names.{Lines, has_mark, no_lines, Core, Dir, Event, Msg, Fill, ProbeReply, DataReq, Inv, Shape, home, lines}
-use Rattle.tcc_serial.proofs.Names.{DirState, World, start, dir_start, in_flight, sent_all, Out, core_exec, core_evict, from_dir, grant}
-use Rattle.tcc_serial.proofs.Names.{Sends, nothing, to, Answer, Waits, Drops, Asks, Takes, dir_deliver, invalidations, is_invalidated}
-use Rattle.tcc_serial.proofs.Names.{invs_to, line_words, core_moves, core_takes, dir_takes, step, IsUnknown, HomeOf, KeptHomes, LinesAway}
-use Rattle.tcc_serial.proofs.Names.{NoWord, live, among, passes, Kept, Pair, pair, after_answer, out_taken}
-use Rattle.tcc_serial.proofs.Counts.DirOutcome.{Outcome, Waiting, Spent, AsksOwner, TakesSkip, TakesAbort, TakesProbe, TakesLoad, TakesMark}
-use Rattle.tcc_serial.proofs.Counts.DirOutcome.{TakesCommit, TakesAck, TakesCopy, Wants, ToLoad, ToMark, outcome}
+use Rattle.tcc_serial.proofs.Names.{ℕ, ◌%◌, ◌≡◌, ◌<◌, Bool, true, false, not, List, [], ◌∷◌, ◌++◌, ◌==◌, ◌&&◌, Option, Some, None, IfSome}
+use Rattle.tcc_serial.proofs.Names.{nat_lt, if◌then◌else◌, arith, refl, inl, inr, cases_eq, nat_tests, Program, Local, num, Lines, has_mark}
+use Rattle.tcc_serial.proofs.Names.{no_lines, Core, Dir, Event, Msg, Fill, ProbeReply, DataReq, Inv, Shape, home, lines, DirState, World}
+use Rattle.tcc_serial.proofs.Names.{start, dir_start, in_flight, sent_all, Out, core_exec, core_evict, from_dir, grant, Sends, nothing, to}
+use Rattle.tcc_serial.proofs.Names.{Answer, Waits, Drops, Asks, Takes, dir_deliver, invalidations, is_invalidated, invs_to, line_words}
+use Rattle.tcc_serial.proofs.Names.{core_moves, core_takes, dir_takes, step, IsUnknown, HomeOf, KeptHomes, LinesAway, NoWord, live, among}
+use Rattle.tcc_serial.proofs.Names.{passes, Kept, Pair, pair, after_answer, out_taken}
+use Rattle.tcc_serial.proofs.Counts.DirOutcome.{Outcome, AsksOwner, TakesSkip, TakesAbort, TakesProbe, TakesLoad, TakesMark, TakesCommit}
+use Rattle.tcc_serial.proofs.Counts.DirOutcome.{TakesAck, TakesCopy, Wants, ToLoad, ToMark, outcome}
 use Rattle.tcc_serial.proofs.Counts.Links.{live-sends, live-takes, none-taken}
 use Rattle.tcc_serial.proofs.Counts.StepCases.{pairs_move, pairs_grant, pairs_back, pairs_dir, pairs_asks, pairs_vendor, OfAnswer}
 use Rattle.tcc_serial.proofs.Counts.StepCases.{step_cases}
@@ -15,7 +15,6 @@ use Rattle.tcc_serial.proofs.Memory.CoreHomes.{Homely, HomelyOut, homely-none, h
 use Rattle.tcc_serial.proofs.Memory.CoreHomes.{homes-back}
 use Rattle.tcc_serial.proofs.Serving.DirDue.{at-home}
 use Rattle.tcc_serial.proofs.Serving.KeptSteps.{core_of_out}
-use Rattle.tcc_serial.proofs.Tids.TidSteps.{live-some}
 
 -- what a directory knows is of lines at home there, and of cores that the machine has
 pub record LinesHome (sh : Shape) (d : ℕ) (ls : Lines) : Type 0 where
@@ -76,27 +75,6 @@ dir-homes sh d s c m cl aw h = go (outcome sh s c m) aw
     wants {l = l} (ToLoad x) a = at-home (home sh l) d a
     wants {l = l} (ToMark k) a = at-home (home sh l) d a
 
-    either-way : {A : Type 0} (b : Bool) (x y z : A) → x ≡ z → y ≡ z → (if b then x else y) ≡ z
-    either-way true x y z p q = p
-    either-way false x y z p q = q
-
-    shared : (x j : ℕ) (a b : Bool) → (j == c) ≡ b → (if a && b then true else s.lines.sharers x j) ≡ true → j < sh.cores
-    shared x j true true q o = let y : j ≡ c = grind (arith, nat_tests) in rw y cl
-    shared x j true false q o = h.sharers x j o
-    shared x j false b q o = h.sharers x j o
-
-    fewer : (x j : ℕ) (a : Bool) → (if a then false else s.lines.sharers x j) ≡ true → j < sh.cores
-    fewer x j true o = absurd (cc)
-    fewer x j false o = h.sharers x j o
-
-    owns : (x j : ℕ) (a : Bool) → (if a then Some c else s.lines.owner x) ≡ Some j → j < sh.cores
-    owns x j true o = let y : c ≡ j = cc in rw (← y) cl
-    owns x j false o = h.owners x j o
-
-    less : (x j : ℕ) (a : Bool) → (if a then None else s.lines.owner x) ≡ Some j → j < sh.cores
-    less x j true o = absurd (cc)
-    less x j false o = h.owners x j o
-
     marked : (a m b e : Bool) → (a && m && b && e) ≡ true → m ≡ true
     marked true true b e q = refl
     marked true false b e q = absurd (cc)
@@ -111,30 +89,30 @@ dir-homes sh d s c m cl aw h = go (outcome sh s c m) aw
       homely = λ j. one-to sh d o j (DataReq l) (one-data sh d l p);
     }
     go (TakesSkip u b e i) a = quietly sh d _ h
-    go (TakesAbort v b e i) a = quietly sh d _ (record { known = λ x n. let u = h.known x n in record { sharers = u.sharers; owner = u.owner; tag = u.tag; asked = u.asked; mark = either-way b 0 (s.lines.mark x) 0 refl u.mark }; sharers = h.sharers; owners = h.owners })
+    go (TakesAbort v b e i) a = quietly sh d _ (record { known = λ x n. let u = h.known x n in record { sharers = u.sharers; owner = u.owner; tag = u.tag; asked = u.asked; mark = grind (arith, nat_tests, u.mark) }; sharers = h.sharers; owners = h.owners })
     go (TakesProbe t i) a = record { lines = h; homely = λ j. one-to sh d c j (ProbeReply t s.serving.serving) (one-reply sh d t s.serving.serving) }
     go (TakesLoad l k i e o) a = let p = at-home (home sh l) d a in record {
-      lines = record { known = λ x n. let u = h.known x n in record { sharers = λ j. rw (other sh d l x p n) (u.sharers j); owner = u.owner; tag = u.tag; asked = u.asked; mark = u.mark }; sharers = λ x j q. shared x j (x == l) (j == c) refl q; owners = h.owners };
+      lines = record { known = λ x n. let u = h.known x n in record { sharers = λ j. rw (other sh d l x p n) (u.sharers j); owner = u.owner; tag = u.tag; asked = u.asked; mark = u.mark }; sharers = λ x j q. grind (arith, nat_tests, h.sharers x j, cl); owners = h.owners };
       homely = λ j. one-to sh d c j (Fill l (line_words s l)) (one-fill sh d l (line_words s l) p);
     }
     go (TakesMark l k i) a = let p = at-home (home sh l) d a in quietly sh d _ (record { known = λ x n. let u = h.known x n in record { sharers = u.sharers; owner = u.owner; tag = u.tag; asked = u.asked; mark = rw (other sh d l x p n) u.mark }; sharers = h.sharers; owners = h.owners })
     go (TakesCommit b e) a = record {
       lines = record {
-        known = λ x n. let z = unmarked-away sh d x s.lines h n in let u = h.known x n in record { sharers = λ j. rw z (u.sharers j); owner = rw z u.owner; tag = rw z u.tag; asked = rw z u.asked; mark = either-way b 0 (s.lines.mark x) 0 refl u.mark };
-        sharers = λ x j q. shared x j (has_mark s.lines x) (j == c) refl q;
-        owners = λ x j q. owns x j (has_mark s.lines x) q;
+        known = λ x n. let z = unmarked-away sh d x s.lines h n in let u = h.known x n in record { sharers = λ j. rw z (u.sharers j); owner = rw z u.owner; tag = rw z u.tag; asked = rw z u.asked; mark = grind (arith, nat_tests, u.mark) };
+        sharers = λ x j q. grind (arith, nat_tests, h.sharers x j, cl);
+        owners = λ x j q. grind (arith, nat_tests, h.owners x j, cl);
       };
       homely = λ j. homely-those sh d (λ l. Inv l (s.lines.mark l) s.serving.serving ∷ []) (is_invalidated sh s.lines c j) (lines sh) (λ l q. inv j l q);
     }
     go (TakesAck l k b i e) a = quietly sh d _ (record {
-      known = λ x n. let u = h.known x n in record { sharers = λ j. either-way (not k && x == l && j == c) false (s.lines.sharers x j) false refl (u.sharers j); owner = u.owner; tag = u.tag; asked = u.asked; mark = either-way b 0 (s.lines.mark x) 0 refl u.mark };
-      sharers = λ x j q. fewer x j (not k && x == l && j == c) q;
+      known = λ x n. let u = h.known x n in record { sharers = λ j. grind (arith, nat_tests, u.sharers j); owner = u.owner; tag = u.tag; asked = u.asked; mark = grind (arith, nat_tests, u.mark) };
+      sharers = λ x j q. grind (arith, nat_tests, h.sharers x j);
       owners = h.owners;
     })
     go (TakesCopy m l k ws g y e o) a = quietly sh d _ (record {
-      known = λ x n. let u = h.known x n in record { sharers = u.sharers; owner = either-way (x == l) None (s.lines.owner x) None refl u.owner; tag = u.tag; asked = either-way (x == l) false (s.lines.asked x) false refl u.asked; mark = u.mark };
+      known = λ x n. let u = h.known x n in record { sharers = u.sharers; owner = grind (arith, nat_tests, u.owner); tag = u.tag; asked = grind (arith, nat_tests, u.asked); mark = u.mark };
       sharers = h.sharers;
-      owners = λ x j q. less x j (x == l) q;
+      owners = λ x j q. grind (arith, nat_tests, h.owners x j);
     })
     go _ a = tt
 

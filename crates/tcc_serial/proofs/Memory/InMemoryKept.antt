@@ -1,11 +1,10 @@
 -- Along every run of a program whose accesses lie in memory, frames and what was loaded and stored lie there too.
 use Rattle.tcc_serial.proofs.Names.{ℕ, ◌≡◌, Bool, true, false, not, ◌&&◌, ◌||◌, ◌==◌, List, Option, Some, None, IfSome, if◌then◌else◌, refl}
-use Rattle.tcc_serial.proofs.Names.{Dir, Msg, TidReq, TidGrant, LoadReq, Fill, Skip, Probe, ProbeReply, Mark, Commit, Abort, WriteBack}
-use Rattle.tcc_serial.proofs.Names.{Flush, DataReq, Inv, InvAck, Shape, Cache, is_marked, filled, cleaned, invalidated, read_cleared}
-use Rattle.tcc_serial.proofs.Names.{rolled_back, evicted, evicted_line, spill_line, CoreState, Awaited, Phase, Running, AwaitTid, DoomedTid}
-use Rattle.tcc_serial.proofs.Names.{Probing, Ready, Overflowing, Solo, Halted, nothing, to, marks_for, written_back, moves, is_solo}
-use Rattle.tcc_serial.proofs.Names.{roll_back, core_evict, evict_line, is_awaited, ignored, grant, grant_phase, probe_reply, reply_phase}
-use Rattle.tcc_serial.proofs.Names.{replied, all_replied, when_ready, when_alone, fill, fill_awaited, data_request, invalidate}
+use Rattle.tcc_serial.proofs.Names.{Dir, Msg, Fill, ProbeReply, DataReq, Inv, Shape, Cache, is_marked, filled, cleaned, invalidated}
+use Rattle.tcc_serial.proofs.Names.{read_cleared, rolled_back, evicted, evicted_line, spill_line, CoreState, Awaited, Phase, Running}
+use Rattle.tcc_serial.proofs.Names.{AwaitTid, DoomedTid, Probing, Ready, Overflowing, Solo, Halted, nothing, to, marks_for, written_back}
+use Rattle.tcc_serial.proofs.Names.{moves, is_solo, roll_back, core_evict, evict_line, is_awaited, ignored, grant, grant_phase, probe_reply}
+use Rattle.tcc_serial.proofs.Names.{reply_phase, replied, all_replied, when_ready, when_alone, fill, fill_awaited, data_request, invalidate}
 use Rattle.tcc_serial.proofs.Names.{acknowledged, if_violated, is_violated, violated_in, without, from_dir, ◌≤◌, [], ◌++◌, arith, Program}
 use Rattle.tcc_serial.proofs.Names.{Local, Core, Event, lines, DirState, World, start, Out, core_exec, Answer, Waits, Drops, Asks, Takes}
 use Rattle.tcc_serial.proofs.Names.{dir_deliver, in_flight, sent_all, Sends, core_moves, core_takes, dir_takes, step, CopyOf, live}
@@ -83,7 +82,7 @@ reply-memory sh d u s k = go s.phase
 -- a Fill gives a frame its words and places none
 fill-memory : (sh : Shape) (l : ℕ) (ws : List ℕ) (s : CoreState) → CoreInMemory sh s → OutInMemory sh (fill l ws s)
 unfolding fill filled
-fill-memory sh l ws s k = go s.awaited
+fill-memory sh l ws s k = elim s.awaited as (λ a. OutInMemory sh (fill_awaited l ws s a)) [ None ↦ (k, tt) | Some a ↦ one a (a.line == l) ]
   where
     words : (b : Bool) → CoreInMemory sh (record s { cache = (if b then s.cache else filled l ws s.cache); awaited = None })
     words true = same-memory sh s _ refl refl refl k
@@ -92,10 +91,6 @@ fill-memory sh l ws s k = go s.awaited
     one : (a : Awaited) (b : Bool) → OutInMemory sh (if b then moves (record s { cache = (if a.stale then s.cache else filled l ws s.cache); awaited = None }) nothing else ignored s)
     one a true = (words a.stale, tt)
     one a false = (k, tt)
-
-    go : (a : Option Awaited) → OutInMemory sh (fill_awaited l ws s a)
-    go None = (k, tt)
-    go (Some a) = one a (a.line == l)
 
 data-memory : (sh : Shape) (l : ℕ) (s : CoreState) → CoreInMemory sh s → OutInMemory sh (data_request sh l s)
 unfolding data_request cleaned
@@ -198,11 +193,7 @@ step-memory sh p w e i k = step_cases sh p w e (λ g o. StepInMemory sh o)
     (λ c n q. (k, tt))
   where
     put : (c : ℕ) (s : CoreState) → CoreInMemory sh s → (j : ℕ) → CoreInMemory sh (if j == c then s else w.cores j)
-    put c s h j = go (j == c)
-      where
-        go : (b : Bool) → CoreInMemory sh (if b then s else w.cores j)
-        go true = h
-        go false = k j
+    put c s h j = elim (j == c) as (λ b. CoreInMemory sh (if b then s else w.cores j)) [ true ↦ h | false ↦ k j ]
 
     moved : (c : ℕ) (x : Option Out) → IfSome x (OutInMemory sh) → IfSome x (λ o. StepInMemory sh (record { world = core_moves w c o; noted = o.commit }))
     moved c None h = tt

@@ -4,11 +4,11 @@ use Rattle.tcc_serial.proofs.Names.{nat_tests, Noted, Stored, any_below, any_wor
 use Rattle.tcc_serial.proofs.Names.{is_modified, writes_at, reads_at, any_below-found, any_below-at, AccessesAtHomes, MarksAtHomes}
 use Rattle.tcc_serial.proofs.Names.{WrittenInMemory, WordInMemory, CommitsInMemory, stores_at, loads_word, stores_word, loads_at}
 use Rattle.tcc_serial.proofs.Names.{names_line, wrote, wrote_line, zero, ◌≤◌, ◌++◌, cond, Some, None, IfSome, nat_lt, if◌then◌else◌}
-use Rattle.tcc_serial.proofs.Names.{flat_map, flat_map-append, Program, those, count_below, Dir, Msg, Skip, Mark, Commit, WriteBack}
-use Rattle.tcc_serial.proofs.Names.{Cache, IsCache, is_dirty, dirty_mask, dirty_copy, dirty_words, dirty_tag, Spilled, holds}
-use Rattle.tcc_serial.proofs.Names.{spilled_mask, spilled_words, CoreState, Sends, nothing, flush, flushed, written_back, commit}
-use Rattle.tcc_serial.proofs.Names.{solo_commit, solo_sends, solo_marks, solo_backs, solo_writes_at, is_written, written_mask, core_exec}
-use Rattle.tcc_serial.proofs.Names.{core_evict, grant, from_dir, CopyOf, among, passes, FramesInMemory, loaded, stored}
+use Rattle.tcc_serial.proofs.Names.{flat_map, flat_map-append, Program, those, count_below, Dir, Msg, Skip, Mark, Commit, WriteBack, Cache}
+use Rattle.tcc_serial.proofs.Names.{IsCache, is_dirty, dirty_mask, dirty_copy, dirty_words, dirty_tag, Spilled, holds, spilled_mask}
+use Rattle.tcc_serial.proofs.Names.{spilled_words, CoreState, Sends, nothing, flush, flushed, written_back, commit, solo_commit, solo_sends}
+use Rattle.tcc_serial.proofs.Names.{solo_marks, solo_backs, solo_writes_at, is_written, written_mask, core_exec, core_evict, grant}
+use Rattle.tcc_serial.proofs.Names.{from_dir, CopyOf, among, passes, FramesInMemory, loaded, stored}
 use Rattle.tcc_rules.specs.Sends.{write_back}
 use Rattle.tcc_serial.proofs.Counts.Links.{among-append, among-flat_map_none}
 use Rattle.tcc_serial.proofs.Marks.StoredMasks.{stored-any, stored-line}
@@ -19,7 +19,6 @@ use Rattle.tcc_serial.proofs.OneCore.Outcomes.{each-grant, granted, granted_said
 -- What lies in memory is found at its home.
 
 -- a line has a word with p where one of its words has it
-
 pub line-has : (p : ℕ → Bool) (x : ℕ) → p x ≡ true → any_word p (line_of x) ≡ true
 unfolding any_word
 line-has p x e = let same : word_at (line_of x) (place_of x) ≡ x = omega arith in any_below-at (λ k. p (word_at (line_of x) k)) 8 (place_of x) (omega arith) (rw same e)
@@ -48,7 +47,6 @@ accesses_at_homes sh ls ss k = record {
 }
 
 -- marked words have frames
-
 pub marks_at_homes : MarksAtHomes
 unfolding reads_at writes_at is_modified
 marks_at_homes sh c k f = record {
@@ -65,7 +63,6 @@ marks_at_homes sh c k f = record {
     held-modified x false q e = absurd (let z = k.valued x q in let y : is_some (c.value x) ≡ false = rw z refl in let v = k.modified x e in cc)
 
 -- what a commit wrote
-
 word-wrote : (sh : Shape) (cs : List Noted) (c t x : ℕ) → CommitsInMemory sh cs → wrote sh.base cs c t x ≡ true → WordInMemory sh x
 unfolding wrote
 word-wrote sh [] c t x k e = absurd (cc)
@@ -98,7 +95,6 @@ nothing-sent : (sh : Shape) → SendsInMemory sh nothing
 nothing-sent sh d = none-outside sh
 
 -- words of a frame
-
 dirty-memory : (sh : Shape) (c : Cache) (l : ℕ) → IsCache sh c → FramesInMemory sh c → is_dirty c l ≡ true → l < lines sh
 unfolding is_dirty
 dirty-memory sh c l k f e = let x = line-found (λ w. is_some (c.dirty w)) l e in rw (x.1) at (f (line_of x.0) (go x.0 (c.held (line_of x.0)) refl (k.dirty x.0 (x.2))))
@@ -129,7 +125,6 @@ written-memory sh c k i f d l t o = go (d == home sh k) (is_dirty c k) refl
     go true true q = rw (another sh k l (dirty-memory sh c k i f q) o) refl
 
 -- what goes out at a commit of a core that is alone
-
 backs-memory : (sh : Shape) (sp : Spilled) (u n : ℕ) (p : ℕ → Bool) → n ≤ lines sh → NoneOutside sh (flat_map (λ k. WriteBack k (spilled_mask sp k) (spilled_words sp k) u ∷ []) (those p n))
 unfolding those among passes
 backs-memory sh sp u zero p i l t o = refl

@@ -1,9 +1,9 @@
 -- Every event keeps what holds of each core by itself, and so does every run.
-use Rattle.tcc_serial.proofs.Names.{ℕ, ◌==◌, Bool, true, false, List, [], ◌∷◌, Option, Some, None, IfSome, if◌then◌else◌, refl, Program}
-use Rattle.tcc_serial.proofs.Names.{Local, Dir, Event, Shape, empty_cache, none_spilled, empty-keeps, CoreState, World, start, core_start}
-use Rattle.tcc_serial.proofs.Names.{Out, core_exec, core_evict, from_dir, grant, Answer, Waits, Drops, Asks, Takes, dir_deliver, core_moves}
-use Rattle.tcc_serial.proofs.Names.{core_takes, dir_takes, dir_asks, vendor_gives, Stepped, step, History, and_noted, recorded, next}
-use Rattle.tcc_serial.proofs.Names.{and_then, run_from, run, OneCore, KeptCores, Always}
+use Rattle.tcc_serial.proofs.Names.{ℕ, ◌==◌, true, false, List, [], ◌∷◌, Option, Some, None, IfSome, if◌then◌else◌, refl, Program, Local}
+use Rattle.tcc_serial.proofs.Names.{Dir, Event, Shape, empty_cache, none_spilled, empty-keeps, CoreState, World, start, core_start, Out}
+use Rattle.tcc_serial.proofs.Names.{core_exec, core_evict, from_dir, grant, Answer, Waits, dir_deliver, core_moves, core_takes, dir_takes}
+use Rattle.tcc_serial.proofs.Names.{dir_asks, vendor_gives, Stepped, step, History, and_noted, recorded, next, and_then, run_from, run}
+use Rattle.tcc_serial.proofs.Names.{OneCore, KeptCores, Always}
 use Rattle.tcc_serial.proofs.Counts.StepCases.{OfAnswer, step_cases}
 use Rattle.tcc_serial.proofs.OneCore.WordsKept.{words-none}
 use Rattle.tcc_serial.proofs.OneCore.OneCoreExec.{exec_one}

@@ -5,9 +5,9 @@ use Rattle.tcc_serial.proofs.Names.{Shape, home, CoreState, Awaited, nothing, Ou
 use Rattle.tcc_serial.proofs.Names.{core_evict, is_awaited, grant, from_dir, staled, LoadOf, FillOf, among, passes, Fits}
 use Rattle.tcc_serial.proofs.OneCore.Said.{Empties, Requests, Silent, quiet, say}
 use Rattle.tcc_serial.proofs.OneCore.Outcomes.{Did, Fills, Fills_none, Given_none, Granted, Heard, Hurt_alone, Hurt_probing, Hurt_running}
-use Rattle.tcc_serial.proofs.OneCore.Outcomes.{Hurt_waiting, Ignores_fill, Misses, Misses_anew, Hurt_none, awaiting, each-back}
-use Rattle.tcc_serial.proofs.OneCore.Outcomes.{each-evict, each-exec, each-grant, emptied, given, granted, granted_said, heard}
-use Rattle.tcc_serial.proofs.OneCore.Outcomes.{heard-quiet, message, out, said}
+use Rattle.tcc_serial.proofs.OneCore.Outcomes.{Hurt_waiting, Ignores_fill, Misses, Misses_anew, Hurt_none, awaiting, each-back, each-evict}
+use Rattle.tcc_serial.proofs.OneCore.Outcomes.{each-exec, each-grant, emptied, given, granted, granted_said, heard, heard-quiet, message}
+use Rattle.tcc_serial.proofs.OneCore.Outcomes.{out, said}
 
 -- the core awaits the line, whose home is the directory
 abbrev pub awaits_at : Shape → (dir line : ℕ) → Option Awaited → ℕ

@@ -1,9 +1,8 @@
 -- A core's event leaves its checkpoint and its end, or commits an attempt that the plain machine gives over its view.
 use Rattle.tcc_serial.proofs.Names.{arith, ◌+◌, ℕ, suc, ◌≡◌, Option, Some, None, IfSome, IsSomeAnd, refl, subst, ◌⊎◌, inl, inr, Attempt}
 use Rattle.tcc_serial.proofs.Names.{Goes, begun, steps, then_step, when_going, plain_step, Program, Need, Ends, Halts, Traps, Shape}
-use Rattle.tcc_serial.proofs.Names.{CoreState, Ready, Solo, Out, finished, stepped, noted, commit, committed_core, solo_commit}
-use Rattle.tcc_serial.proofs.Names.{phase_after, ended_after, core_exec, Uses, Agrees, IsSmall, Reaches, EndFits, HasEnded, FollowsIn}
-use Rattle.tcc_serial.proofs.Names.{end_after}
+use Rattle.tcc_serial.proofs.Names.{CoreState, Ready, Solo, Out, finished, stepped, noted, commit, committed_core, solo_commit, phase_after}
+use Rattle.tcc_serial.proofs.Names.{ended_after, core_exec, Uses, Agrees, IsSmall, Reaches, EndFits, HasEnded, FollowsIn, end_after}
 use Rattle.tcc_attempt.specs.Follows.{Follows}
 use Rattle.tcc_serial.proofs.OneCore.Outcomes.{Commits_now, Did, Ends_alone, Ends_run, IsEnd, Room_wanted, after_end, each-exec, out}
 
@@ -31,7 +30,6 @@ pub data Leaves (sh : Shape) (p : Program) (c : ℕ) (s : CoreState) (o : Out) :
   Closes : (t : ℕ) (r : CoreState) → Closing sh p c t s r o → Leaves sh p c s o
 
 -- an attempt that ends
-
 next-gives : (p : Program) (base : ℕ) (s : CoreState) (ram : ℕ → ℕ) (a : Attempt) (need : Need) → IsEnd need → Reaches s ram a → s.ended ≡ Goes → p.need s.local ≡ need → IsSomeAnd (when_going base p a a.outcome) (Gives (finished p need 0 s))
 unfolding finished stepped plain_step
 next-gives p base s ram a Ends i k e n = rw (k.outcome, e, k.local, n) (record { local = refl; loads = k.loads; stores = k.stores; console = k.console; outcome = refl })
@@ -41,13 +39,12 @@ next-gives p base s ram a _ i k e n = absurd i
 
 last-gives : (sh : Shape) (p : Program) (s : CoreState) (us : Uses) (need : Need) (t : ℕ) → IsEnd need → s.phase ≡ Solo t → p.need s.local ≡ need → Follows sh p s us → (ram : ℕ → ℕ) → IsSmall ram → Agrees us ram → IsSomeAnd (steps sh.base p (suc s.n) (begun s.saved ram)) (Gives (finished p need 0 s))
 unfolding steps
-last-gives sh p s us need t i ph n f ram sm ag = go (steps sh.base p s.n (begun s.saved ram)) (follows ram sm ag)
+last-gives sh p s us need t i ph n f ram sm ag =
+    let follows : FollowsIn sh p s us (Solo t) = subst (FollowsIn sh p s us) ph (f.steps) in
+    go (steps sh.base p s.n (begun s.saved ram)) (follows ram sm ag)
   where
     goes : s.ended ≡ Goes
     goes = rw ph at (f.ends)
-
-    follows : FollowsIn sh p s us (Solo t)
-    follows = subst (FollowsIn sh p s us) ph (f.steps)
 
     go : (x : Option Attempt) → IsSomeAnd x (Reaches s ram) → IsSomeAnd (then_step sh.base p x) (Gives (finished p need 0 s))
     go None h = h
@@ -61,7 +58,6 @@ ended-ends p s (Traps k) i = refl
 ended-ends p s _ i = absurd i
 
 -- ready: the attempt has ended before
-
 reaches-gives : (s : CoreState) (ram : ℕ → ℕ) (o : Option Attempt) → IsSomeAnd o (Reaches s ram) → IsSomeAnd o (Gives s)
 reaches-gives s ram None h = h
 reaches-gives s ram (Some a) h = record { local = h.local; loads = h.loads; stores = h.stores; console = h.console; outcome = h.outcome }

@@ -1,8 +1,8 @@
 -- Each of a core's rules keeps that the words which its attempt loaded are marked read or modified, unless it is alone.
-use Rattle.tcc_serial.proofs.Names.{solo_commit, ℕ, ◌≡◌, Bool, true, false, not, ◌||◌, ◌==◌, [], ◌∷◌, ◌++◌, Some, IfSome, is_some}
-use Rattle.tcc_serial.proofs.Names.{if◌then◌else◌, arith, refl, ◌∙◌, ◌⊎◌, inl, inr, nat_tests, Load, Program, load_of, word_of, line_of}
-use Rattle.tcc_serial.proofs.Names.{Shape, Cache, is_marked, marked, stored, placed, CoreState, Phase, Running, Solo, is_running, is_solo}
-use Rattle.tcc_serial.proofs.Names.{commit, committed_core, core_exec, core_evict, OneCore, loads_word, LoadsMarked, loaded}
+use Rattle.tcc_serial.proofs.Names.{solo_commit, ℕ, ◌≡◌, Bool, true, false, ◌||◌, ◌==◌, [], ◌∷◌, ◌++◌, Some, IfSome, is_some, arith, refl}
+use Rattle.tcc_serial.proofs.Names.{◌∙◌, ◌⊎◌, inl, inr, nat_tests, Load, Program, load_of, word_of, line_of, Shape, Cache, is_marked}
+use Rattle.tcc_serial.proofs.Names.{marked, stored, placed, CoreState, Phase, Running, Solo, is_running, is_solo, commit, committed_core}
+use Rattle.tcc_serial.proofs.Names.{core_exec, core_evict, OneCore, loads_word, LoadsMarked, loaded}
 use Rattle.tcc_program.specs.Ram.{part}
 use Rattle.tcc_serial.proofs.OneCore.CoreSteps.{evicted-modified}
 use Rattle.tcc_serial.proofs.OneCore.UsedWords.{loads_word-append}
@@ -52,7 +52,6 @@ one-more sh s r m b e t k = Loaded b (λ w l. go w (loads_word sh.base s.loads w
     go w false q l = let i : word_of sh.base m.addr ≡ w = grind (arith, nat_tests) in inr (rw i at t)
 
 -- what marks the changes of a cache keep
-
 marked-touched : (w v : ℕ) (c : Cache) → touched c v ≡ true → touched (marked w c) v ≡ true
 unfolding marked
 marked-touched w v c h = grind (arith, nat_tests)

@@ -93,7 +93,6 @@ asked-grant sh u d x s h = go s.phase
     go _ = h
 
 -- a reply of a directory that has reached the TID
-
 put-away : (f : ℕ → Bool) (e d : ℕ) (x : Bool) → (d ≡ e → ⊥) → put f e x d ≡ f d
 put-away f e d x q = let b : (d == e) ≡ false = grind (arith, nat_tests) in rw b refl
 
@@ -147,10 +146,9 @@ asked-hurt sh l d x s o i h = go i.hurt
 -- x is what directory d serves; a reply of e is of a TID that e has reached
 pub asked-back : (sh : Shape) (e d x : ℕ) (s : CoreState) (m : Msg) → (d ≡ e → passes (RepliesAbove x) m ≡ false) → Reached sh d x s → StaysReached sh d x s (from_dir sh e s m)
 unfolding passes
-asked-back sh e d x s (ProbeReply u v) f h = asked-replied sh e u d x s (probe_reply sh e u s) (λ q. low (f q)) (reply-cases sh e u s) h
-  where
-    low : nat_lt x u ≡ false → u ≤ x
-    low k = grind (arith, nat_tests)
+asked-back sh e d x s (ProbeReply u v) f h =
+    let low : nat_lt x u ≡ false → u ≤ x = λ k. grind (arith, nat_tests) in
+    asked-replied sh e u d x s (probe_reply sh e u s) (λ q. low (f q)) (reply-cases sh e u s) h
 asked-back sh e d x s (Fill l ws) f h = asked-steady sh d x s (fill l ws s) (fill-steady l ws s) h
 asked-back sh e d x s (DataReq l) f h = asked-steady sh d x s (data_request sh l s) (data-steady sh l s) h
 asked-back sh e d x s (Inv l m u) f h = asked-hurt sh l d x s (invalidate sh l m u s) (invalidate-cases sh l m u s) h

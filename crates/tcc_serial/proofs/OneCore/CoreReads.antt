@@ -3,8 +3,8 @@ use Rattle.tcc_serial.proofs.Names.{ℕ, ◌≡◌, ◌<◌, Bool, true, false, 
 use Rattle.tcc_serial.proofs.Names.{arith, refl, sym, subst, ◌∙◌, ◌⊎◌, inl, inr, nat_tests, Program, word_of, line_of, Shape, home, Cache}
 use Rattle.tcc_serial.proofs.Names.{marked, stored, placed, evicted, evicted_line, committed, value-placed, read-placed, CoreState, Phase}
 use Rattle.tcc_serial.proofs.Names.{Running, commit, committed_core, solo_commit, core_exec, core_evict, has_tid}
-use Rattle.tcc_serial.proofs.OneCore.Outcomes.{Commits_now, Did, Ends_alone, Ends_run, Frames, Frames_anew, Misses_anew, Reads}
-use Rattle.tcc_serial.proofs.OneCore.Outcomes.{Room_wanted, each-evict, each-exec, out}
+use Rattle.tcc_serial.proofs.OneCore.Outcomes.{Commits_now, Did, Ends_alone, Ends_run, Frames, Frames_anew, Misses_anew, Reads, Room_wanted}
+use Rattle.tcc_serial.proofs.OneCore.Outcomes.{each-evict, each-exec, out}
 
 -- a word that is marked read in the cache d is valid there, or it is marked and valid in d as it was in c
 abbrev pub StillRead : (c d : Cache) → (word : ℕ) → Type 0
@@ -25,15 +25,11 @@ ReadOf sh d n s = (x : ℕ) → home sh (line_of x) ≡ d → s.cache.read x ≡
 
 pub read-kept : (sh : Shape) (d n : ℕ) (s r : CoreState) → Reading s r → ReadOf sh d n s → ReadOf sh d n r
 read-kept sh d n s r (Cleared h) k x e y = absurd (let z = h x in cc)
-read-kept sh d n s r (Kept tid words) k x e y = go (words x y)
+read-kept sh d n s r (Kept tid words) k x e y = elim (words x y) [ inl z ↦ inl z | inr z ↦ before (z.1) (k x e (z.0)) ]
   where
     before : r.cache.value x ≡ s.cache.value x → ValidOrPassed (s.cache.value x) s.phase n → ValidOrPassed (r.cache.value x) r.phase n
     before v (inl z) = inl (rw v z)
     before v (inr z) = inr (z.0, tid z.0 (z.1), z.2)
-
-    go : (is_some (r.cache.value x) ≡ true) ⊎ ((s.cache.read x ≡ true) × (r.cache.value x ≡ s.cache.value x)) → ValidOrPassed (r.cache.value x) r.phase n
-    go (inl z) = inl z
-    go (inr z) = before (z.1) (k x e (z.0))
 
 pub reads-same : (c : Cache) (x : ℕ) → StillRead c c x
 reads-same c x e = inr (e, refl)
@@ -51,7 +47,6 @@ pub no-tid : (s r : CoreState) (q : Phase) → s.phase ≡ q → ((t : ℕ) → 
 no-tid s r q e n h = tid-kept s r q e (λ t y. absurd (let z = n t in cc)) h
 
 -- what the changes of a cache do
-
 reads-marked : (w x v : ℕ) (c : Cache) → c.value w ≡ Some x → StillRead c (marked w c) v
 unfolding marked
 reads-marked w x v c e = go (w == v) refl
@@ -73,18 +68,13 @@ reads-placed : (sh : Shape) (l v : ℕ) (c : Cache) → StillRead c (placed sh l
 reads-placed sh l v c h = inr (sym (read-placed sh l c v) ∙ h, value-placed sh l c v)
 
 reads-then : (b c d : Cache) (v : ℕ) → StillRead b c v → StillRead c d v → StillRead b d v
-reads-then b c d v f g h = go (g h)
+reads-then b c d v f g h = elim (g h) [ inl y ↦ inl y | inr y ↦ further (y.1) (f (y.0)) ]
   where
     further : d.value v ≡ c.value v → (is_some (c.value v) ≡ true) ⊎ ((b.read v ≡ true) × (c.value v ≡ b.value v)) → (is_some (d.value v) ≡ true) ⊎ ((b.read v ≡ true) × (d.value v ≡ b.value v))
     further e (inl y) = inl (rw e y)
     further e (inr y) = inr (y.0, e ∙ y.1)
 
-    go : (is_some (d.value v) ≡ true) ⊎ ((c.read v ≡ true) × (d.value v ≡ c.value v)) → (is_some (d.value v) ≡ true) ⊎ ((b.read v ≡ true) × (d.value v ≡ b.value v))
-    go (inl y) = inl y
-    go (inr y) = further (y.1) (f (y.0))
-
 -- executing
-
 pub reading-exec : (sh : Shape) (p : Program) (c : ℕ) (s : CoreState) → IfSome (core_exec sh p c s) (λ o. Reading s o.core)
 unfolding commit solo_commit committed_core committed has_tid
 reading-exec sh p c s = each-exec sh p c s (λ o. Reading s o.core) go
@@ -104,7 +94,6 @@ reading-exec sh p c s = each-exec sh p c s (λ o. Reading s o.core) go
     go _ = as-before s _ refl (reads-same s.cache)
 
 -- evicting clears the marks of the line that it takes
-
 reads-evicted : (x y l v : ℕ) (c : Cache) → c.at x y ≡ Some l → StillRead c (evicted x y c) v
 unfolding evicted evicted_line
 reads-evicted x y l v c e = rw e (go (l == line_of v))

@@ -1,15 +1,15 @@
 -- What each message to a core does to the words that are marked read.
 use Rattle.tcc_serial.proofs.Names.{put, inl, inr, filled, cleaned, invalidated, OneCore, ℕ, ◌≡◌, ◌<◌, ◌≤◌, Bool, true, false, not, ◌&&◌}
-use Rattle.tcc_serial.proofs.Names.{◌==◌, List, Some, None, IfSome, is_some, unwrap_or, get_or, if◌then◌else◌, arith, refl, ◌⊎◌}
-use Rattle.tcc_serial.proofs.Names.{nat_tests, line_of, place_of, hit, Msg, Inv, Shape, home, Cache, rolled_back, read_cleared, CoreState}
-use Rattle.tcc_serial.proofs.Names.{Phase, AwaitTid, DoomedTid, Probing, Ready, Overflowing, Solo, grant, is_violated, is_above, without}
-use Rattle.tcc_serial.proofs.Names.{from_dir, has_tid, hit-line, hit-reads, kept}
+use Rattle.tcc_serial.proofs.Names.{◌==◌, List, Some, None, IfSome, is_some, unwrap_or, get_or, if◌then◌else◌, arith, refl, ◌⊎◌, nat_tests}
+use Rattle.tcc_serial.proofs.Names.{line_of, place_of, hit, Msg, Inv, Shape, home, Cache, rolled_back, read_cleared, CoreState, Phase}
+use Rattle.tcc_serial.proofs.Names.{AwaitTid, DoomedTid, Probing, Ready, Overflowing, Solo, grant, is_violated, is_above, without, from_dir}
+use Rattle.tcc_serial.proofs.Names.{has_tid, hit-line, hit-reads, kept}
 use Rattle.tcc_maps.specs.CacheLook.{reads_masked}
 use Rattle.tcc_serial.proofs.OneCore.CoreReads.{StillRead, Reading, ValidOrPassed, ReadOf, read-kept, reads-same, as-before, tid-kept}
 use Rattle.tcc_serial.proofs.OneCore.CoreReads.{no-tid}
 use Rattle.tcc_serial.proofs.OneCore.Outcomes.{Last_probing, Last_room, Fills, Given, Given_doomed, Given_none, Given_room, Granted}
-use Rattle.tcc_serial.proofs.OneCore.Outcomes.{Hands_out, Heard, Hurt_alone, Hurt_probing, Hurt_running, Hurt_waiting, Hurt_none}
-use Rattle.tcc_serial.proofs.OneCore.Outcomes.{each-back, each-grant, given, granted, heard, message}
+use Rattle.tcc_serial.proofs.OneCore.Outcomes.{Hands_out, Heard, Hurt_alone, Hurt_probing, Hurt_running, Hurt_waiting, Hurt_none, each-back}
+use Rattle.tcc_serial.proofs.OneCore.Outcomes.{each-grant, given, granted, heard, message}
 
 pub reading-grant : (sh : Shape) (u : ℕ) (s : CoreState) → Reading s (grant sh u s).core
 unfolding has_tid

@@ -1,7 +1,7 @@
 -- What a core's rules leave alone: evictions, fills, data requests, invalidations.
-use Rattle.tcc_serial.proofs.Names.{ℕ, ◌+◌, ◌≡◌, ◌*◌, ◌%◌, Bool, true, false, List, [], ◌∷◌, ◌++◌, ◌==◌, ◌&&◌, ◌||◌, Option, Some, None}
-use Rattle.tcc_serial.proofs.Names.{IfSome, if◌then◌else◌, arith, refl, sym, ap, ◌⊎◌, inl, inr, nat_tests, put, any_word, any_below}
-use Rattle.tcc_serial.proofs.Names.{line_of, Node, Dir, Vendor, InvAck, Shape, home, lines, Cache, reads_at, is_marked, keeps, evicted}
+use Rattle.tcc_serial.proofs.Names.{ℕ, ◌+◌, ◌≡◌, ◌*◌, ◌%◌, Bool, true, false, List, [], ◌∷◌, ◌++◌, ◌==◌, ◌&&◌, ◌||◌, Some, None, IfSome}
+use Rattle.tcc_serial.proofs.Names.{if◌then◌else◌, arith, refl, sym, ap, ◌⊎◌, inl, inr, nat_tests, put, any_word, any_below, line_of}
+use Rattle.tcc_serial.proofs.Names.{Node, Dir, Vendor, InvAck, Shape, home, lines, Cache, reads_at, is_marked, keeps, evicted}
 use Rattle.tcc_serial.proofs.Names.{evicted_line, filled, cleaned, invalidated, read_cleared, any_below-at, CoreState, Awaited, Phase}
 use Rattle.tcc_serial.proofs.Names.{Running, AwaitTid, DoomedTid, Probing, Ready, Overflowing, Solo, Sends, nothing, to, flushed}
 use Rattle.tcc_serial.proofs.Names.{written_back, abort_written, skip_all, marks_for, Out, moves, is_solo, core_evict, is_awaited}
@@ -74,7 +74,7 @@ ignored-steady s = record { phase = refl; owing = refl; commit = refl; vendor = 
 
 pub fill-steady : (l : ℕ) (ws : List ℕ) (s : CoreState) → Steady s (fill l ws s)
 unfolding fill among filled
-fill-steady l ws s = go s.awaited
+fill-steady l ws s = elim s.awaited as (λ a. Steady s (fill_awaited l ws s a)) [ None ↦ ignored-steady s | Some a ↦ one a (a.line == l) ]
   where
     cached : (a : Bool) (v : ℕ) → ((if a then s.cache else filled l ws s.cache).modified v ≡ s.cache.modified v) × ((if a then s.cache else filled l ws s.cache).read v ≡ s.cache.read v)
     cached true v = (refl, refl)
@@ -83,10 +83,6 @@ fill-steady l ws s = go s.awaited
     one : (a : Awaited) (b : Bool) → Steady s (if b then moves (record s { cache = (if a.stale then s.cache else filled l ws s.cache); awaited = None }) nothing else ignored s)
     one a false = ignored-steady s
     one a true = record { phase = refl; owing = refl; commit = refl; vendor = refl; quiet = λ d. refl; modified = λ h v. (cached a.stale v).0; read = λ h v. (cached a.stale v).1 }
-
-    go : (a : Option Awaited) → Steady s (fill_awaited l ws s a)
-    go None = ignored-steady s
-    go (Some a) = one a (a.line == l)
 
 pub data-steady : (sh : Shape) (l : ℕ) (s : CoreState) → Steady s (data_request sh l s)
 unfolding data_request cleaned flushed passes

@@ -1,15 +1,15 @@
 -- Executing an instruction keeps what holds of a core by itself.
 use Rattle.tcc_serial.proofs.Names.{awaits_replies, load_of, ◌⊎◌, inl, inr, put, stored, marked, IsCache, ℕ, ◌+◌, ◌≡◌, Bool, true, false}
-use Rattle.tcc_serial.proofs.Names.{◌==◌, Option, Some, None, IfSome, is_some, arith, refl, sym, ap, subst, ◌∙◌, nat_tests, Program, Need}
-use Rattle.tcc_serial.proofs.Names.{Loads, word_of, line_of, Shape, set_of, Cache, free_way, placed, placed_at, committed, words_dropped}
+use Rattle.tcc_serial.proofs.Names.{Option, Some, None, IfSome, is_some, arith, refl, sym, ap, subst, ◌∙◌, nat_tests, Program, Need, Loads}
+use Rattle.tcc_serial.proofs.Names.{word_of, line_of, Shape, set_of, Cache, free_way, placed, placed_at, committed, words_dropped}
 use Rattle.tcc_serial.proofs.Names.{none_spilled, words_dropped-keeps, CoreState, Awaited, Phase, Running, AwaitTid, Ready, Overflowing}
-use Rattle.tcc_serial.proofs.Names.{Solo, is_running, is_solo, commit, committed_core, phase_after, solo_commit, core_exec, Words}
-use Rattle.tcc_serial.proofs.Names.{OneCore, Empty, executes, rests, valid-held}
+use Rattle.tcc_serial.proofs.Names.{Solo, is_running, is_solo, commit, committed_core, phase_after, solo_commit, core_exec, Words, OneCore}
+use Rattle.tcc_serial.proofs.Names.{Empty, executes, rests, valid-held}
+use Rattle.tcc_program.specs.Ram.{part}
 use Rattle.tcc_serial.proofs.OneCore.Outcomes.{Acts, awaiting, Acting, Buffers, Commits_now, Did, Ends_alone, Ends_run, Finds, Frames}
 use Rattle.tcc_serial.proofs.OneCore.Outcomes.{Frames_anew, Idles, Misses, Misses_anew, Reads, Room_wanted, after_end, after_load}
 use Rattle.tcc_serial.proofs.OneCore.Outcomes.{after_store, each-exec, out}
 use Rattle.tcc_serial.proofs.OneCore.WordsKept.{words-marked, words-placed, words-stored, words-buffered, words-committed}
-use Rattle.tcc_program.specs.Ram.{part}
 
 acts-execute : (q : Phase) → Acts q → executes q ≡ true
 acts-execute Running a = refl

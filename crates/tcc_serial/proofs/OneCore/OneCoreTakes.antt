@@ -1,10 +1,10 @@
 -- Evictions and messages keep what holds of a core by itself.
 use Rattle.tcc_serial.proofs.Names.{put, ◌⊎◌, inl, inr, Cache, Spilled, none_spilled, cleaned, ℕ, ◌≡◌, ◌<◌, ◌≤◌, Bool, true, false, ◌==◌}
-use Rattle.tcc_serial.proofs.Names.{[], Option, Some, None, IfSome, nat_lt, if◌then◌else◌, arith, refl, sym, ap, subst, ◌∙◌, cases_lt}
-use Rattle.tcc_serial.proofs.Names.{nat_tests, any_below, line_of, Msg, Shape, is_marked, evicted, evicted_line, filled, invalidated}
-use Rattle.tcc_serial.proofs.Names.{rolled_back, CoreState, Awaited, Phase, Running, AwaitTid, DoomedTid, Probing, Ready, Overflowing}
-use Rattle.tcc_serial.proofs.Names.{is_solo, core_evict, is_awaited, grant, is_probed, probing, all_replied, without, staled, from_dir}
-use Rattle.tcc_serial.proofs.Names.{Words, OneCore, executes, awaits_replies, rests, unmarked}
+use Rattle.tcc_serial.proofs.Names.{[], Option, Some, None, IfSome, nat_lt, arith, refl, sym, ap, subst, ◌∙◌, cases_lt, nat_tests}
+use Rattle.tcc_serial.proofs.Names.{any_below, Msg, Shape, is_marked, evicted, evicted_line, filled, invalidated, rolled_back, CoreState}
+use Rattle.tcc_serial.proofs.Names.{Awaited, Phase, Running, AwaitTid, DoomedTid, Probing, Ready, Overflowing, is_solo, core_evict}
+use Rattle.tcc_serial.proofs.Names.{is_awaited, grant, is_probed, probing, all_replied, without, staled, from_dir, Words, OneCore, executes}
+use Rattle.tcc_serial.proofs.Names.{awaits_replies, rests, unmarked}
 use Rattle.tcc_serial.proofs.OneCore.CoreProbes.{none-below, all-replied}
 use Rattle.tcc_serial.proofs.OneCore.WordsKept.{words-evicted, words-evicted_unmarked, words-filled, words-invalidated, words-cleaned}
 use Rattle.tcc_serial.proofs.OneCore.WordsKept.{words-rolled, words-alone}
@@ -62,11 +62,7 @@ unfolding is_probed
 far_probed sh c d l = let b : nat_lt d sh.dirs ≡ false = grind (arith, nat_tests) in rw b refl
 
 none_probed : (sh : Shape) (c : Cache) (d : ℕ) → any_below (is_probed sh c) sh.dirs ≡ false → is_probed sh c d ≡ false
-none_probed sh c d q = go (cases_lt d sh.dirs)
-  where
-    go : (d < sh.dirs) ⊎ (sh.dirs ≤ d) → is_probed sh c d ≡ false
-    go (inl l) = none-below (is_probed sh c) sh.dirs d l q
-    go (inr l) = far_probed sh c d l
+none_probed sh c d q = elim (cases_lt d sh.dirs) [ inl l ↦ none-below (is_probed sh c) sh.dirs d l q | inr l ↦ far_probed sh c d l ]
 
 replied_far : (s : CoreState) (e d : ℕ) → s.owing d ≡ false → put s.owing e false d ≡ false
 replied_far s e d h = grind (arith, nat_tests)
@@ -106,7 +102,6 @@ data_one sh l s h = record {
 }
 
 -- an invalidation, and a roll back with it
-
 without_one : (sh : Shape) (l m : ℕ) (s : CoreState) → OneCore sh s → OneCore sh (without l m s)
 unfolding without invalidated
 without_one sh l m s h = record {

@@ -6,19 +6,17 @@ use Rattle.tcc_serial.proofs.Names.{nat_tests, put, Load, Stored, Size, Byte, Ha
 use Rattle.tcc_serial.proofs.Names.{Changes, Prints, Ends, Halts, Traps, Outcome, Goes, Ended, HaltedWith, load_of, store_of, word_of}
 use Rattle.tcc_serial.proofs.Names.{line_of, any_word, any_below, Dir, Msg, Fill, ProbeReply, Abort, DataReq, Inv, InvAck, Shape, home}
 use Rattle.tcc_serial.proofs.Names.{lines, set_of, Cache, free_way, all_marked, is_marked, is_modified, writes_at, keeps, marked, stored}
-use Rattle.tcc_serial.proofs.Names.{placed, evicted, filled, invalidated, rolled_back, cleaned, read_cleared, Spilled, none_spilled}
-use Rattle.tcc_serial.proofs.Names.{holds, spill_line, any_below-found, CoreState, Awaited, Phase, Running, AwaitTid, DoomedTid, Probing}
-use Rattle.tcc_serial.proofs.Names.{Ready, Overflowing, Solo, Halted, Sends, nothing, to, to_dirs, when, flushed, abort_written}
-use Rattle.tcc_serial.proofs.Names.{marks_for, Out, moves, finished, stepped, is_running, is_solo, new_word, roll_back, commit}
-use Rattle.tcc_serial.proofs.Names.{solo_commit, ask, place, overflow, full_set, fetch, used, load_valid, load_spilled, load, buffered}
-use Rattle.tcc_serial.proofs.Names.{framed, word_store, also_read, change_valid, change_spilled, partial_store, close, execute_need}
-use Rattle.tcc_serial.proofs.Names.{execute, core_exec, exec_phase, unless_awaiting, core_evict, evict_line, is_awaited, grant}
-use Rattle.tcc_serial.proofs.Names.{grant_phase, is_probed, probing, from_dir, probe_reply, reply_phase, replied, all_replied, when_ready}
-use Rattle.tcc_serial.proofs.Names.{when_alone, ignored, fill, fill_awaited, data_request, invalidate, acknowledged, if_violated}
-use Rattle.tcc_serial.proofs.Names.{violated_in, is_violated, without, staled, rests, waits_for_tid, executes, full, kept, loaded, uses}
-use Rattle.std.specs.Prelude.{◌⊎◌}
+use Rattle.tcc_serial.proofs.Names.{placed, evicted, filled, invalidated, rolled_back, cleaned, read_cleared, Spilled, none_spilled, holds}
+use Rattle.tcc_serial.proofs.Names.{spill_line, any_below-found, CoreState, Awaited, Phase, Running, AwaitTid, DoomedTid, Probing, Ready}
+use Rattle.tcc_serial.proofs.Names.{Overflowing, Solo, Sends, nothing, to, to_dirs, when, flushed, abort_written, marks_for, Out, moves}
+use Rattle.tcc_serial.proofs.Names.{finished, stepped, is_running, is_solo, new_word, roll_back, commit, solo_commit, ask, place, overflow}
+use Rattle.tcc_serial.proofs.Names.{full_set, fetch, used, load_valid, load_spilled, load, buffered, framed, word_store, also_read}
+use Rattle.tcc_serial.proofs.Names.{change_valid, change_spilled, partial_store, close, execute_need, execute, core_exec, exec_phase}
+use Rattle.tcc_serial.proofs.Names.{unless_awaiting, core_evict, evict_line, is_awaited, grant, grant_phase, is_probed, probing, from_dir}
+use Rattle.tcc_serial.proofs.Names.{probe_reply, reply_phase, replied, all_replied, when_ready, when_alone, ignored, fill, fill_awaited}
+use Rattle.tcc_serial.proofs.Names.{data_request, invalidate, acknowledged, if_violated, violated_in, is_violated, without, staled, rests}
+use Rattle.tcc_serial.proofs.Names.{waits_for_tid, executes, full, kept, loaded, uses, ◌⊎◌, TrappedWith}
 use Rattle.tcc_program.specs.Program.{unreserved}
-use Rattle.tcc_program.specs.Plain.{Trapped as TrappedWith}
 use Rattle.tcc_program.specs.Ram.{part}
 use Rattle.tcc_rules.specs.Sends.{then_send}
 use Rattle.tcc_serial.proofs.OneCore.Said.{Silent, Flushes, Empties, Requests, Wants, say, Aborts_all, Answers, Marks_at, Probes_all}

@@ -1,8 +1,7 @@
 -- An attempt whose view is current is sound, and else it is doomed.
 use Rattle.tcc_serial.proofs.Names.{ℕ, ◌≡◌, ◌<◌, ◌≤◌, ◌⊎◌, List, [], ◌∷◌, Option, Some, None, IsSomeAnd, arith, refl, sym, inl, inr, Noted}
-use Rattle.tcc_serial.proofs.Names.{begun, steps, Program, line_of, Shape, home, CoreState, Phase, Running, AwaitTid, DoomedTid, Probing}
-use Rattle.tcc_serial.proofs.Names.{Ready, Overflowing, Solo, Halted, World, Uses, Agrees, IsSmall, Reaches, FollowsIn, holder, pair}
-use Rattle.tcc_serial.proofs.Names.{IsBound, value_at, IsDoomed, EachUse}
+use Rattle.tcc_serial.proofs.Names.{begun, steps, Program, line_of, Shape, home, CoreState, Phase, Halted, World, Uses, Agrees, IsSmall}
+use Rattle.tcc_serial.proofs.Names.{Reaches, FollowsIn, holder, pair, IsBound, value_at, IsDoomed, EachUse}
 use Rattle.tcc_serial.specs.Sound.{values_for, Doomed, SoundOrDoomed, AttemptsSound}
 
 -- the bound is the core's alone

@@ -1,12 +1,12 @@
 -- Instructions over two memories that agree on the words used give the same, and name these words.
 use Rattle.tcc_serial.proofs.Names.{ℕ, zero, suc, ◌≡◌, ◌<◌, ◌%◌, ◌^◌, Bool, true, false, not, ◌&&◌, ◌||◌, ◌==◌, List, [], ◌∷◌, ◌++◌, Option}
 use Rattle.tcc_serial.proofs.Names.{Some, None, MatchOption, if◌then◌else◌, arith, refl, ap, sym, ◌∙◌, nat_tests, Size, Byte, Half, Word}
-use Rattle.tcc_serial.proofs.Names.{Stored, Local, Need, Nothing, Loads, Stores, Changes, Prints, Ends, Halts, Traps, Program, Attempt}
-use Rattle.tcc_serial.proofs.Names.{Outcome, Goes, Ended, Trapped, steps, begun, plain_step, when_going, then_step, store_of, word_of}
-use Rattle.tcc_serial.proofs.Names.{unit_of, patched, loaded, stores_word, stores_whole, is_whole, reads_word, uses_next, uses, AlignedNeed}
-use Rattle.tcc_serial.proofs.Names.{Aligned, IsMemory, Follows, AgreeOnUsed, IfSome, Load, loads_word, patched-small}
+use Rattle.tcc_serial.proofs.Names.{Stored, Local, Need, Nothing, Loads, Stores, Changes, Ends, Program, Attempt, Outcome, Goes, steps}
+use Rattle.tcc_serial.proofs.Names.{begun, plain_step, when_going, then_step, store_of, word_of, unit_of, patched, loaded, stores_word}
+use Rattle.tcc_serial.proofs.Names.{stores_whole, is_whole, reads_word, uses_next, uses, AlignedNeed, Aligned, IsMemory, Follows}
+use Rattle.tcc_serial.proofs.Names.{AgreeOnUsed, IfSome, Load, loads_word, patched-small}
 use Rattle.tcc_base.specs.Bytes.{bytes_of}
-use Rattle.tcc_program.specs.Plain.{Halted, stepped}
+use Rattle.tcc_program.specs.Plain.{stepped}
 use Rattle.tcc_program.specs.Ram.{stored}
 
 -- Instructions over two memories that agree on the words used give the same.

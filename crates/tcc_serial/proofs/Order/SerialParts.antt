@@ -2,12 +2,11 @@
 use Rattle.tcc_serial.proofs.Names.{ℕ, suc, ◌≡◌, ◌<◌, ◌≤◌, Bool, true, false, ◌==◌, ◌||◌, List, [], ◌∷◌, ◌++◌, map, Contains, nat_lt}
 use Rattle.tcc_serial.proofs.Names.{if◌then◌else◌, arith, refl, ap, nat_tests, Noted, num, order_of_commit, insert_commit, commits_touch}
 use Rattle.tcc_serial.proofs.Names.{orders_core, IsBelow, IsRising, times, loads_word, stores_word, zero, Option, Some, None, IfSome, ap₂}
-use Rattle.tcc_serial.proofs.Names.{sym, ◌∙◌, Size, Stored, Word, CoreEnd, Run, Halt, Trap, last_tid, Attempt, Plain, Order, Outcome, Goes}
-use Rattle.tcc_serial.proofs.Names.{Ended, HaltedWith, TrappedWith, store_of, begun, steps, then_step, when_going, plain_step, transaction}
-use Rattle.tcc_serial.proofs.Names.{close_if, closed, end_of, if_runs, commit_of, and_commit, after_order, serial, Local, Program, Need}
-use Rattle.tcc_serial.proofs.Names.{Nothing, Loads, Stores, Changes, Prints, Ends, Halts, Traps, word_of, patched, loaded, after_stores}
-use Rattle.tcc_serial.proofs.Names.{◌⊎◌, ◌&&◌, inl, inr, line_of, Msg, Shape, home, DirState, World, Uses, Agrees, InvBelow, InvsNot, live}
-use Rattle.tcc_serial.proofs.Names.{passes, pair, is_applied, is_this, counts, after_commits, value_at, IsDoomed, EachUse}
+use Rattle.tcc_serial.proofs.Names.{sym, ◌∙◌, Size, Stored, Word, CoreEnd, Run, last_tid, Attempt, Plain, Order, Outcome, Goes, store_of}
+use Rattle.tcc_serial.proofs.Names.{begun, steps, then_step, when_going, plain_step, transaction, close_if, closed, end_of, if_runs}
+use Rattle.tcc_serial.proofs.Names.{commit_of, and_commit, after_order, serial, Local, Program, Need, Stores, Changes, word_of, patched}
+use Rattle.tcc_serial.proofs.Names.{loaded, after_stores, ◌⊎◌, inl, inr, line_of, Msg, Shape, home, DirState, World, Uses, Agrees, InvBelow}
+use Rattle.tcc_serial.proofs.Names.{InvsNot, live, passes, pair, is_applied, counts, after_commits, value_at, IsDoomed, EachUse}
 use Rattle.tcc_program.specs.Plain.{stepped, close}
 use Rattle.tcc_program.specs.Ram.{stored}
 use Rattle.tcc_serial.proofs.Counts.Links.{live-fewer}

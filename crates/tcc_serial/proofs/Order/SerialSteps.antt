@@ -4,15 +4,14 @@ use Rattle.tcc_serial.proofs.Names.{subst, ◌∙◌, map-append, Noted, CoreEnd
 use Rattle.tcc_serial.proofs.Names.{Order, Outcome, Goes, Ended, HaltedWith, TrappedWith, begun, steps, closed, end_of, transaction}
 use Rattle.tcc_serial.proofs.Names.{commit_of, serial, Local, Program, CoreState, noted, phase_after, ended_after, insert_commit, HasEnded}
 use Rattle.tcc_serial.proofs.Names.{end_after, commits_touch, orders_core, Again, Inserted, CanInsert, times, stores_word, Aligned}
-use Rattle.tcc_serial.proofs.Names.{IsMemory, ◌<◌, Bool, ◌==◌, ◌||◌, [], Contains, is_some, arith, ◌⊎◌, inl, inr, nat_tests, Need, Nothing}
-use Rattle.tcc_serial.proofs.Names.{Loads, Stores, Changes, Prints, Ends, Halts, Traps, num, line_of, writes_at, reads_at, Shape, home}
-use Rattle.tcc_serial.proofs.Names.{Phase, Ready, Solo, World, Out, is_solo, History, Uses, Agrees, NeedFits, Fits, AllStand, UsesStand}
-use Rattle.tcc_serial.proofs.Names.{Suits, UsedAtHomes, MarkedAtHomes, plain_start, Invariants, Grant, holder, pair, asks_dir, may_commit}
-use Rattle.tcc_serial.proofs.Names.{tid_of, has_tid, live_way, loads_word, AlignedNeed, EachUse, is_given_up, Untold, Ways, worked_at}
-use Rattle.tcc_serial.proofs.Names.{IfSome, if◌then◌else◌, Core, Dir, Vendor, Msg, TidReq, TidGrant, in_flight, core_exec, core_evict}
-use Rattle.tcc_serial.proofs.Names.{from_dir, grant, Answer, Waits, Drops, Asks, Takes, dir_deliver, Stepped, and_noted, recorded, next}
-use Rattle.tcc_serial.proofs.Names.{step, core_moves, core_takes, dir_takes, dir_asks, vendor_gives, CommitsSerial, CoreSerial, CoresSerial}
-use Rattle.tcc_serial.proofs.Names.{IsSerial, EventsKeepSerial}
+use Rattle.tcc_serial.proofs.Names.{IsMemory, ◌<◌, Bool, ◌==◌, ◌||◌, [], Contains, arith, ◌⊎◌, inl, inr, nat_tests, Need, Loads, Stores}
+use Rattle.tcc_serial.proofs.Names.{Changes, num, line_of, writes_at, reads_at, Shape, home, Phase, Ready, Solo, World, Out, is_solo}
+use Rattle.tcc_serial.proofs.Names.{History, Uses, Agrees, NeedFits, Fits, AllStand, UsesStand, Suits, UsedAtHomes, MarkedAtHomes}
+use Rattle.tcc_serial.proofs.Names.{plain_start, Invariants, Grant, holder, pair, asks_dir, may_commit, tid_of, has_tid, live_way}
+use Rattle.tcc_serial.proofs.Names.{loads_word, AlignedNeed, EachUse, is_given_up, Untold, Ways, worked_at, IfSome, if◌then◌else◌, Core}
+use Rattle.tcc_serial.proofs.Names.{Dir, Vendor, Msg, TidReq, TidGrant, in_flight, core_exec, core_evict, from_dir, grant, Answer, Waits}
+use Rattle.tcc_serial.proofs.Names.{Drops, Asks, Takes, dir_deliver, Stepped, and_noted, recorded, next, step, core_moves, core_takes}
+use Rattle.tcc_serial.proofs.Names.{dir_takes, dir_asks, vendor_gives, CommitsSerial, CoreSerial, CoresSerial, IsSerial, EventsKeepSerial}
 use Rattle.tcc_serial.proofs.Counts.StepCases.{given, OfAnswer, step_cases}
 use Rattle.tcc_serial.proofs.Memory.MemorySends.{accesses_at_homes, marks_at_homes}
 use Rattle.tcc_serial.proofs.OneCore.CoreCloses.{Gives, Closing, Leaves, Stays, Closes, exec-leaves}

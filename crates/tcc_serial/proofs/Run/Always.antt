@@ -1,8 +1,8 @@
 -- The laws of every run, from the invariants.
 use Rattle.tcc_serial.proofs.Names.{ℕ, ◌≡◌, ◌<◌, ◌≤◌, ◌==◌, ◌&&◌, ◌||◌, Bool, true, false, Option, Some, None, IfSome, nat_lt, arith, refl}
-use Rattle.tcc_serial.proofs.Names.{nat_tests, num, Shape, writes_at, reads_at, World, start, Phase, Running, AwaitTid, DoomedTid, Probing}
-use Rattle.tcc_serial.proofs.Names.{Ready, Overflowing, Solo, Halted, History, run, pair, share, opens, part, handled, ResolvedAt, Kept}
-use Rattle.tcc_serial.proofs.Names.{Always, OneWay, OneRequest, Passed, NeverPasses, OwedInFlight, Served, tid_of, asks_dir, KeptOwed}
+use Rattle.tcc_serial.proofs.Names.{nat_tests, num, Shape, writes_at, reads_at, World, start, Phase, Probing, Ready, Overflowing, Solo}
+use Rattle.tcc_serial.proofs.Names.{History, run, pair, share, opens, part, handled, ResolvedAt, Kept, Always, OneWay, OneRequest, Passed}
+use Rattle.tcc_serial.proofs.Names.{NeverPasses, OwedInFlight, Served, tid_of, asks_dir, KeptOwed}
 use Rattle.tcc_serial.proofs.Counts.Links.{total-le}
 use Rattle.tcc_serial.proofs.Serving.KeptSteps.{run-kept}
 

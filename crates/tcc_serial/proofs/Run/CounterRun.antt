@@ -1,8 +1,8 @@
 -- The program that counts suits, and its run is computed by the definitions alone.
 use Rattle.tcc_serial.proofs.Names.{ℕ, arith, refl, word_of, NeedFits, NeedInMemory}
 use Rattle.tcc_program.specs.Cores.{printed}
-use Rattle.tcc_serial.specs.Counter.{two_cores, Inst, Passes, Gets, Counts, Puts, PutsBeside, Says, Finishes, Stops, at_pc, register}
-use Rattle.tcc_serial.specs.Counter.{inst_need, counting, CountingSuits, GoesAlone, HasRead, IsViolated, CountsOn, NothingIsLeft}
+use Rattle.tcc_serial.specs.Counter.{two_cores, Inst, Gets, Puts, PutsBeside, at_pc, register, inst_need, counting, CountingSuits}
+use Rattle.tcc_serial.specs.Counter.{GoesAlone, HasRead, IsViolated, CountsOn, NothingIsLeft}
 use Rattle.tcc_serial.specs.Shown.{changed, shown}
 use Rattle.tcc_rules.proofs.Lemmas.{computed}
 

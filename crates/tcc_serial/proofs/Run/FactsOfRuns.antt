@@ -6,9 +6,9 @@ use Rattle.tcc_serial.proofs.Names.{Probes, Replies, live, Carried, RunsCarry, f
 use Rattle.tcc_serial.proofs.Names.{stores_line, OneCore, Empty, Grant, grants_from, times, holder, pair, share, CommitsStand, MarksWait}
 use Rattle.tcc_serial.proofs.Names.{MarkedByServed, MarksOfCommits, Ways, first_ways, ways_from, UntoldWhereOpen, UntoldIsLive, AllWaysFit}
 use Rattle.tcc_serial.proofs.Names.{GivenUpOnce, LiveIsOpen, CommittedWhereStored, SmallerAreGivenUp, WorkIsReached, ◌||◌, is_some, sym}
-use Rattle.tcc_serial.proofs.Names.{◌∙◌, ◌⊎◌, inl, inr, cases_lt, lines, Awaited, is_awaited, AttemptInMemory, LoadsInMemory}
-use Rattle.tcc_serial.proofs.Names.{CopiesInMemory, CarriedInMemory, RunsStayInMemory, Uses, MarksFit, AttemptFits, Views, no_views}
-use Rattle.tcc_serial.proofs.Names.{views_from, attempts-fit, ReadFits, CarriedViews, RunsCarryViews}
+use Rattle.tcc_serial.proofs.Names.{◌∙◌, inl, inr, cases_lt, lines, Awaited, is_awaited, AttemptInMemory, LoadsInMemory, CopiesInMemory}
+use Rattle.tcc_serial.proofs.Names.{CarriedInMemory, RunsStayInMemory, Uses, MarksFit, AttemptFits, Views, no_views, views_from}
+use Rattle.tcc_serial.proofs.Names.{attempts-fit, ReadFits, CarriedViews, RunsCarryViews}
 use Rattle.tcc_serial.proofs.Copies.CopyFacts.{above-from, owned-from}
 use Rattle.tcc_serial.proofs.Copies.WroteLines.{on-its-way}
 use Rattle.tcc_serial.proofs.Counts.Links.{total-le}

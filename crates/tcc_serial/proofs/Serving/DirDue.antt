@@ -4,15 +4,10 @@ use Rattle.tcc_serial.proofs.Names.{if◌then◌else◌, flat_map, arith, refl, 
 use Rattle.tcc_serial.proofs.Names.{those, Lines, has_mark, advance, kept, Core, Msg, Fill, Skip, ProbeReply, Commit, Abort, DataReq, Inv}
 use Rattle.tcc_serial.proofs.Names.{Shape, home, lines, DirState, Sends, nothing, total, Answer, Waits, Drops, Asks, Takes, dir_deliver}
 use Rattle.tcc_serial.proofs.Names.{owed_by, invalidations, invs_to, is_invalidated, line_words, Invs, InvsNot, InvsAway, Acks, MarksAway}
-use Rattle.tcc_serial.proofs.Names.{Resolves, among, passes, ◌&&◌, ◌||◌, Option, Some, None, nat_le, ◌∙◌, full, with_asked, with_owner}
-use Rattle.tcc_serial.proofs.Names.{with_sharer, with_mark, unmarked, Judgement, judge, IsTaken, IsDropped, IsEarly, skipped, TidReq}
-use Rattle.tcc_serial.proofs.Names.{TidGrant, LoadReq, Probe, Mark, WriteBack, Flush, InvAck, to, skip, abort, acknowledgement, moved_on}
-use Rattle.tcc_serial.proofs.Names.{settled, owned, unless_keeps, ask_owner, load_owned, load_request, marking, mark_owned, mark, judged}
-use Rattle.tcc_serial.proofs.Names.{write_back, came_home, probe}
-use Rattle.tcc_rules.specs.DirDeliver.{commit}
+use Rattle.tcc_serial.proofs.Names.{Resolves, among, passes, to, acknowledgement, settled, mark}
 use Rattle.tcc_serial.proofs.Counts.DirOutcome.{Outcome, Waiting, Spent, AsksOwner, TakesSkip, TakesAbort, TakesProbe, TakesLoad, TakesMark}
-use Rattle.tcc_serial.proofs.Counts.DirOutcome.{TakesCommit, TakesAck, TakesCopy, IsSpent, SkipPassed, AbortPassed, MarkPassed, NoneOwed}
-use Rattle.tcc_serial.proofs.Counts.DirOutcome.{CopyPassed, outcome, among-none, none-to}
+use Rattle.tcc_serial.proofs.Counts.DirOutcome.{TakesCommit, TakesAck, TakesCopy, IsSpent, NoneOwed, CopyPassed, outcome, among-none}
+use Rattle.tcc_serial.proofs.Counts.DirOutcome.{none-to}
 use Rattle.tcc_serial.proofs.Counts.Links.{among-append, total-zero, total-same, among-fewer, among-flat_map_none}
 use Rattle.tcc_serial.proofs.Counts.StepCases.{same}
 use Rattle.tcc_serial.proofs.Serving.CoreDue.{among-those_none}
@@ -115,14 +110,6 @@ dir-due sh d s c m h k = go (outcome sh s c m) h
     settled true n sends e q = inr (grind (arith, nat_tests))
     settled false n sends e q = inl (refl, q)
 
-    unmarks : (b : Bool) (x : ℕ) → nat_lt 0 (if b then 0 else s.lines.mark x) ≡ true → home sh x ≡ d
-    unmarks true x q = absurd (cc)
-    unmarks false x q = k x q
-
-    marks : (l n : ℕ) → home sh l ≡ d → (x : ℕ) (b : Bool) → (x == l) ≡ b → nat_lt 0 (if b then n else s.lines.mark x) ≡ true → home sh x ≡ d
-    marks l n e x true q r = let i : x ≡ l = grind (arith, nat_tests) in rw i e
-    marks l n e x false q r = k x r
-
     spent : {m : Msg} → IsSpent s c m → num (passes Acks m) ≤ s.owed → num (passes Acks m) ≡ 0
     spent (NoneOwed l b i) o = omega (arith, o, i)
     spent (CopyPassed m l n ws g y i e) o = rw (y.alike Acks) refl
@@ -133,21 +120,21 @@ dir-due sh d s c m h k = go (outcome sh s c m) h
     go (Spent m i) h a o = spent i o
     go (AsksOwner m l x w e) h a o = quiet-due sh d s _ _ refl (inl refl) (λ j. none-to Invs x j (DataReq l) refl) k
     go (TakesSkip u b e i) h a o = quiet-due sh d s _ nothing refl (given (Skip u) u b e (same u) h) none-quiet k
-    go (TakesAbort u b e i) h a o = quiet-due sh d s _ nothing refl (given (Abort u) u b e (same u) h) none-quiet (unmarks b)
+    go (TakesAbort u b e i) h a o = quiet-due sh d s _ nothing refl (given (Abort u) u b e (same u) h) none-quiet (λ x q. grind (arith, nat_tests, k x))
     go (TakesProbe u i) h a o = quiet-due sh d s s _ refl (inl refl) (λ j. none-to Invs c j (ProbeReply u s.serving.serving) refl) k
     go (TakesLoad l x i e n) h a o = quiet-due sh d s _ _ refl (inl refl) (λ j. none-to Invs c j (Fill l (line_words s l)) refl) k
-    go (TakesMark l n i) h a o = quiet-due sh d s _ nothing refl (inl refl) none-quiet (λ x q. marks l n (at-home (l % sh.dirs) d a) x (x == l) refl q)
+    go (TakesMark l n i) h a o = quiet-due sh d s _ nothing refl (inl refl) none-quiet (λ x q. grind (arith, nat_tests, k x, at-home (l % sh.dirs) d a))
     go (TakesCommit b e) h a o = let z : s.owed ≡ 0 = unserved s (Commit s.serving.serving (count_below (has_mark s.lines) (lines sh))) h (same s.serving.serving) in record {
       owed = omega (arith, z, invs-invalidations sh s.lines c s.serving.serving);
       served = settled b (owed_by sh s.lines c) (invalidations sh s.lines c s.serving.serving) e (λ j. nots-sent sh s.lines c s.serving.serving j);
       invs = λ j. aways-sent sh d s.lines c s.serving.serving j k;
-      marked = unmarks b;
+      marked = λ x q. grind (arith, nat_tests, k x);
     }
     go (TakesAck l x b i e) h a o = record {
       owed = omega (arith, none-sent sh nothing none-quiet);
       served = settled b (s.owed - 1) nothing e (λ j. among-none (InvsNot s.serving.serving));
       invs = λ j. among-none (InvsAway sh.dirs d);
-      marked = unmarks b;
+      marked = λ x q. grind (arith, nat_tests, k x);
     }
     go (TakesCopy m l n ws g y e x) h a o = rw (y.alike Acks) (quiet-due sh d s _ nothing refl (inl refl) none-quiet k)
 

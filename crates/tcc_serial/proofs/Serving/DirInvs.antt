@@ -1,18 +1,12 @@
 -- A directory sends invalidations only where it takes the Commit of the served TID, and none to the core that commits.
 use Rattle.tcc_serial.proofs.Names.{ℕ, ◌≡◌, Bool, true, false, not, ◌==◌, ◌&&◌, nat_lt, arith, refl, ◌⊎◌, inl, inr, nat_tests, Lines}
-use Rattle.tcc_serial.proofs.Names.{has_mark, Core, Msg, Fill, ProbeReply, DataReq, Shape, lines, DirState, Sends, nothing, Answer, Waits}
-use Rattle.tcc_serial.proofs.Names.{Drops, Asks, Takes, dir_deliver, invalidations, invs_to, is_invalidated, line_words, Invs, Commits}
-use Rattle.tcc_serial.proofs.Names.{among, passes, ◌-◌, List, [], ◌∷◌, ◌||◌, Option, Some, None, nat_le, if◌then◌else◌, count_below, full}
-use Rattle.tcc_serial.proofs.Names.{with_asked, Judgement, judge, IsTaken, IsDropped, IsEarly, skipped, kept, TidReq, TidGrant, LoadReq}
-use Rattle.tcc_serial.proofs.Names.{Skip, Probe, Mark, Commit, Abort, WriteBack, Flush, Inv, InvAck, to, skip, abort, acknowledgement}
-use Rattle.tcc_serial.proofs.Names.{moved_on, settled, owned, owed_by, unless_keeps, ask_owner, load_owned, load_request, marking}
-use Rattle.tcc_serial.proofs.Names.{mark_owned, mark, judged, write_back, probe}
-use Rattle.tcc_rules.specs.DirDeliver.{commit}
-use Rattle.tcc_serial.proofs.Counts.DirOutcome.{Outcome, Waiting, Spent, AsksOwner, TakesSkip, TakesAbort, TakesProbe, TakesLoad, TakesMark}
-use Rattle.tcc_serial.proofs.Counts.DirOutcome.{TakesCommit, TakesAck, TakesCopy, outcome, among-none, none-to}
+use Rattle.tcc_serial.proofs.Names.{has_mark, Core, Msg, Fill, ProbeReply, DataReq, Shape, lines, DirState, Sends, Answer, Asks, Takes}
+use Rattle.tcc_serial.proofs.Names.{dir_deliver, invalidations, invs_to, is_invalidated, line_words, Invs, Commits, among, passes, Commit}
+use Rattle.tcc_serial.proofs.Names.{to}
+use Rattle.tcc_serial.proofs.Counts.DirOutcome.{Outcome, Waiting, Spent, AsksOwner, TakesProbe, TakesLoad, TakesCommit, outcome, among-none}
+use Rattle.tcc_serial.proofs.Counts.DirOutcome.{none-to}
 use Rattle.tcc_serial.proofs.Counts.Links.{those-none}
 use Rattle.tcc_serial.proofs.Counts.StepCases.{same}
-use Rattle.tcc_serial.proofs.Serving.DirDue.{none-quiet}
 
 -- no invalidation, or those of a Commit of the served TID, none of them to its core
 abbrev pub Quiet : Sends → Type 0

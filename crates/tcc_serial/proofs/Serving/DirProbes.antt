@@ -1,17 +1,10 @@
 -- The served TID only rises, and a directory replies to a probe once it has reached its TID.
 use Rattle.tcc_serial.proofs.Names.{ℕ, ◌≡◌, ◌≤◌, Bool, true, false, [], if◌then◌else◌, arith, refl, nat_tests, num, advance, kept}
 use Rattle.tcc_serial.proofs.Names.{advance-rises, Core, Msg, Fill, ProbeReply, DataReq, Shape, DirState, Link, Sends, nothing, Answer}
-use Rattle.tcc_serial.proofs.Names.{Waits, Drops, Asks, Takes, dir_deliver, line_words, RepliesAbove, among, live, passes, Serving, ◌-◌}
-use Rattle.tcc_serial.proofs.Names.{List, ◌∷◌, ◌==◌, ◌&&◌, ◌||◌, Option, Some, None, nat_lt, nat_le, count_below, those, full, Lines}
-use Rattle.tcc_serial.proofs.Names.{has_mark, with_asked, with_sharer, Judgement, judge, IsTaken, IsDropped, IsEarly, skipped, TidReq}
-use Rattle.tcc_serial.proofs.Names.{TidGrant, LoadReq, Skip, Probe, Mark, Commit, Abort, WriteBack, Flush, Inv, InvAck, lines, to, skip}
-use Rattle.tcc_serial.proofs.Names.{abort, acknowledgement, moved_on, settled, owned, owed_by, invalidations, invs_to, is_invalidated}
-use Rattle.tcc_serial.proofs.Names.{unless_keeps, ask_owner, load_owned, load_request, marking, mark_owned, mark, judged, write_back}
-use Rattle.tcc_serial.proofs.Names.{came_home, probe}
-use Rattle.tcc_rules.specs.DirDeliver.{commit}
-use Rattle.tcc_serial.proofs.Counts.DirOutcome.{Outcome, Waiting, Spent, AsksOwner, TakesSkip, TakesAbort, TakesProbe, TakesLoad, TakesMark}
-use Rattle.tcc_serial.proofs.Counts.DirOutcome.{TakesCommit, TakesAck, TakesCopy, outcome, among-none, none-to, none-invalidations}
-use Rattle.tcc_serial.proofs.Counts.Links.{live-fewer, among-flat_map_none}
+use Rattle.tcc_serial.proofs.Names.{Asks, Takes, dir_deliver, line_words, RepliesAbove, among, live, passes, Serving, lines, to}
+use Rattle.tcc_serial.proofs.Counts.DirOutcome.{Outcome, AsksOwner, TakesSkip, TakesAbort, TakesProbe, TakesLoad, TakesMark, TakesCommit}
+use Rattle.tcc_serial.proofs.Counts.DirOutcome.{TakesAck, TakesCopy, outcome, among-none, none-to, none-invalidations}
+use Rattle.tcc_serial.proofs.Counts.Links.{live-fewer}
 
 -- no reply of a TID above the served one
 pub record Rises (s new : DirState) (sends : Sends) : Type 0 where

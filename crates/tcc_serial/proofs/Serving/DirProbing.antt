@@ -1,17 +1,9 @@
 -- A directory replies to a probe where it takes it, and to nothing else.
-use Rattle.tcc_serial.proofs.Names.{ℕ, ◌≡◌, false, [], refl, num, Core, Msg, LoadReq, Fill, Skip, ProbeReply, Mark, Abort, DataReq, InvAck}
-use Rattle.tcc_serial.proofs.Names.{Shape, DirState, Sends, nothing, Answer, Waits, Drops, Asks, Takes, dir_deliver, line_words, Probes}
-use Rattle.tcc_serial.proofs.Names.{Replies, among, passes, ◌-◌, Bool, true, List, ◌∷◌, ◌==◌, ◌&&◌, ◌||◌, Option, Some, None, nat_lt}
-use Rattle.tcc_serial.proofs.Names.{nat_le, if◌then◌else◌, arith, nat_tests, count_below, those, full, Lines, has_mark, with_asked}
-use Rattle.tcc_serial.proofs.Names.{Judgement, judge, IsTaken, IsDropped, IsEarly, skipped, kept, TidReq, TidGrant, Probe, Commit}
-use Rattle.tcc_serial.proofs.Names.{WriteBack, Flush, Inv, lines, to, skip, abort, acknowledgement, moved_on, settled, owned, owed_by}
-use Rattle.tcc_serial.proofs.Names.{invalidations, invs_to, is_invalidated, unless_keeps, ask_owner, load_owned, load_request, marking}
-use Rattle.tcc_serial.proofs.Names.{mark_owned, mark, judged, write_back, probe}
-use Rattle.tcc_rules.specs.DirDeliver.{commit}
-use Rattle.tcc_serial.proofs.Counts.DirOutcome.{Outcome, Waiting, Spent, AsksOwner, TakesSkip, TakesAbort, TakesProbe, TakesLoad, TakesMark}
-use Rattle.tcc_serial.proofs.Counts.DirOutcome.{TakesCommit, TakesAck, TakesCopy, IsSpent, SkipPassed, AbortPassed, MarkPassed, NoneOwed}
+use Rattle.tcc_serial.proofs.Names.{ℕ, ◌≡◌, false, [], refl, num, Core, Msg, LoadReq, Fill, ProbeReply, DataReq, Shape, DirState, Sends}
+use Rattle.tcc_serial.proofs.Names.{nothing, Answer, Waits, Drops, Asks, Takes, dir_deliver, line_words, Probes, Replies, among, passes}
+use Rattle.tcc_serial.proofs.Names.{lines, to, probe}
+use Rattle.tcc_serial.proofs.Counts.DirOutcome.{Outcome, Waiting, Spent, AsksOwner, TakesProbe, TakesLoad, TakesCommit, TakesCopy, IsSpent}
 use Rattle.tcc_serial.proofs.Counts.DirOutcome.{CopyPassed, outcome, among-to, among-none, none-to, none-invalidations}
-use Rattle.tcc_serial.proofs.Counts.Links.{among-flat_map_none}
 use Rattle.tcc_serial.proofs.Counts.StepCases.{same, differ}
 
 -- the reply to a probe that was taken, to its core alone

@@ -1,9 +1,8 @@
 -- Every event keeps the invariants on TIDs, probes and what is owed, and so does every run.
-use Rattle.tcc_serial.proofs.Names.{ℕ, ◌+◌, ◌≡◌, ◌<◌, ◌≤◌, ◌%◌, Bool, true, false, List, ◌++◌, ◌==◌, Option, Some, None, IfSome, set}
-use Rattle.tcc_serial.proofs.Names.{slice_index_or, arith, refl, sym, ◌∙◌, ◌⊎◌, inl, inr, cases_lt, cases_eq, nat_tests, Local, num}
-use Rattle.tcc_serial.proofs.Names.{no_lines, Core, Dir, Vendor, Msg, TidReq, TidGrant, LoadReq, Fill, Skip, Probe, ProbeReply, Mark}
-use Rattle.tcc_serial.proofs.Names.{Commit, Abort, WriteBack, Flush, DataReq, Inv, InvAck, Shape, home, CoreState, DirState, World, Link}
-use Rattle.tcc_serial.proofs.Names.{start, dir_start, in_flight, sent_all, Sends, Out, from_dir, core_moves, core_takes, dir_takes}
+use Rattle.tcc_serial.proofs.Names.{ℕ, ◌+◌, ◌≡◌, ◌<◌, ◌≤◌, ◌%◌, true, false, List, ◌++◌, ◌==◌, Option, Some, None, IfSome, slice_index_or}
+use Rattle.tcc_serial.proofs.Names.{arith, refl, sym, ◌∙◌, ◌⊎◌, inl, inr, cases_lt, cases_eq, nat_tests, Local, num, no_lines, Core, Dir}
+use Rattle.tcc_serial.proofs.Names.{Vendor, Msg, TidReq, TidGrant, Fill, ProbeReply, DataReq, Inv, Shape, home, CoreState, DirState, World}
+use Rattle.tcc_serial.proofs.Names.{Link, start, dir_start, in_flight, sent_all, Sends, Out, from_dir, core_moves, core_takes, dir_takes}
 use Rattle.tcc_serial.proofs.Names.{dir_asks, vendor_gives, Invs, InvsNot, InvsAway, Acks, MarksAway, AnyResolve, Any, live, among, passes}
 use Rattle.tcc_serial.proofs.Names.{Pair, pair, after_move, grant_taken, back_taken, after_answer, out_taken, after_grant}
 use Rattle.tcc_serial.proofs.Names.{after_other_grant, share, KeptTids, due, OwedAt, AtHomeOf, KeptOwed, Running, core_start, RepliesAbove}

@@ -101,7 +101,6 @@ owing-grant sh t s h = go s.phase refl
     go _ e = h
 
 -- a directory has replied
-
 put-true : (f : ℕ → Bool) (e d : ℕ) → put f e false d ≡ true → f d ≡ true
 put-true f e d x = grind (arith, nat_tests)
 
@@ -148,11 +147,7 @@ owing-back sh e s _ h = tt
 
 -- one core has changed
 put-owing : (sh : Shape) (w : World) (c : ℕ) (s : CoreState) → KeptOwing sh w → OwingFits sh s → (j : ℕ) → OwingFits sh (if j == c then s else w.cores j)
-put-owing sh w c s k h j = go (j == c)
-  where
-    go : (b : Bool) → OwingFits sh (if b then s else w.cores j)
-    go true = h
-    go false = k j
+put-owing sh w c s k h j = elim (j == c) as (λ b. OwingFits sh (if b then s else w.cores j)) [ true ↦ h | false ↦ k j ]
 
 pub step-owing : (sh : Shape) (p : Program) (w : World) (e : Event) → KeptOwing sh w → IfSome (step sh p w e) (λ o. KeptOwing sh o.world)
 unfolding core_moves core_takes dir_takes dir_asks vendor_gives

@@ -8,8 +8,8 @@ use Rattle.tcc_serial.proofs.Names.{Takes, dir_deliver, core_moves, core_takes, 
 use Rattle.tcc_serial.proofs.Names.{and_noted, recorded, next, and_then, run_from, run, Grants, live, among, passes, Pair, pair, after_move}
 use Rattle.tcc_serial.proofs.Names.{grant_taken, after_grant, after_other_grant, share, sum_of, has_tid, KeptTids, Grant, granted_by}
 use Rattle.tcc_serial.proofs.Names.{then_grants, grants_from, IsNumbered, IsRising, AreGranted, times, holder, KeptOwners, Kept, Bool, true}
-use Rattle.tcc_serial.proofs.Names.{Contains-append_cases, Msg, Link, Phase, Running, AwaitTid, DoomedTid, Probing, Ready, Overflowing}
-use Rattle.tcc_serial.proofs.Names.{Solo, Halted, AsksTid, AnyGrant, waits_for_tid, RequestOf, LastGranted}
+use Rattle.tcc_serial.proofs.Names.{Contains-append_cases, Msg, Link, Phase, AwaitTid, DoomedTid, Overflowing, AsksTid, AnyGrant}
+use Rattle.tcc_serial.proofs.Names.{waits_for_tid, RequestOf, LastGranted}
 use Rattle.tcc_serial.proofs.Counts.Links.{live-sends, live-takes, total-le, total-zero, total-same, live-fewer}
 use Rattle.tcc_serial.proofs.Counts.StepCases.{OfAnswer, step_cases, given, pairs_move, pairs_grant, pairs_back, pairs_vendor, sum_move}
 use Rattle.tcc_serial.proofs.Counts.StepCases.{sum_grant, sum_back, sum_back_away, sum_vendor, pairs_dir, pairs_asks}

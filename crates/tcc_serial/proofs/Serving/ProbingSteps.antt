@@ -1,14 +1,14 @@
 -- Every event keeps that one probe or reply is in flight for each directory that owes one, and of whose TID it is.
 use Rattle.tcc_serial.proofs.Names.{ℕ, ◌+◌, ◌≡◌, ◌≤◌, ◌==◌, List, [], ◌∷◌, ◌++◌, Contains, Option, Some, None, IfSome, arith, refl, sym}
 use Rattle.tcc_serial.proofs.Names.{◌⊎◌, inl, inr, cases_eq, nat_tests, append-nil, Contains-append_left, Noted, Program, Local, num, Core}
-use Rattle.tcc_serial.proofs.Names.{Dir, Vendor, Event, Msg, TidReq, TidGrant, LoadReq, Fill, Skip, Probe, ProbeReply, Mark, Commit, Abort}
-use Rattle.tcc_serial.proofs.Names.{WriteBack, Flush, DataReq, Inv, InvAck, Shape, CoreState, World, start, in_flight, sent_all, Out}
-use Rattle.tcc_serial.proofs.Names.{core_exec, core_evict, from_dir, grant, ignored, fill, data_request, invalidate, probe_reply, marks_for}
-use Rattle.tcc_serial.proofs.Names.{Answer, Waits, Drops, Asks, Takes, dir_deliver, core_moves, core_takes, step, Grants, Probes, Replies}
-use Rattle.tcc_serial.proofs.Names.{live, among, passes, Kept, Grant, granted_by, holder, KeptOwners, Pair, pair, Bool, true, false, nat_le}
-use Rattle.tcc_serial.proofs.Names.{slice_index_or, if◌then◌else◌, ap, subst, ◌∙◌, put, DirState, Phase, Running, AwaitTid, DoomedTid}
-use Rattle.tcc_serial.proofs.Names.{Probing, Ready, Overflowing, Solo, Halted, Sends, all_replied, dir_takes, after_move, grant_taken}
-use Rattle.tcc_serial.proofs.Names.{back_taken, after_answer, out_taken, after_grant, after_other_grant, has_tid, OneCore, KeptCores}
+use Rattle.tcc_serial.proofs.Names.{Dir, Vendor, Event, Msg, TidGrant, Fill, ProbeReply, DataReq, Inv, Shape, CoreState, World, start}
+use Rattle.tcc_serial.proofs.Names.{in_flight, sent_all, Out, core_exec, core_evict, from_dir, grant, ignored, fill, data_request}
+use Rattle.tcc_serial.proofs.Names.{invalidate, probe_reply, marks_for, Answer, Waits, Drops, Asks, Takes, dir_deliver, core_moves}
+use Rattle.tcc_serial.proofs.Names.{core_takes, step, Grants, Probes, Replies, live, among, passes, Kept, Grant, granted_by, holder}
+use Rattle.tcc_serial.proofs.Names.{KeptOwners, Pair, pair, Bool, true, false, nat_le, slice_index_or, if◌then◌else◌, ap, subst, ◌∙◌, put}
+use Rattle.tcc_serial.proofs.Names.{DirState, Phase, Probing, Ready, Overflowing, Solo, Sends, all_replied, dir_takes, after_move}
+use Rattle.tcc_serial.proofs.Names.{grant_taken, back_taken, after_answer, out_taken, after_grant, after_other_grant, has_tid, OneCore}
+use Rattle.tcc_serial.proofs.Names.{KeptCores}
 use Rattle.tcc_serial.specs.Probing.{ProbingOf, KeptProbing}
 use Rattle.tcc_serial.proofs.Counts.Links.{live-sends, live-takes}
 use Rattle.tcc_serial.proofs.Counts.StepCases.{pairs_move, pairs_grant, pairs_back, pairs_dir, pairs_asks, pairs_vendor, OfAnswer}

@@ -1,7 +1,7 @@
 -- A core sends a probe only where it takes a grant, and to each directory that owes a reply from then on.
-use Rattle.tcc_serial.proofs.Names.{ℕ, ◌≡◌, ◌≤◌, Bool, true, false, List, [], ◌∷◌, ◌==◌, ◌&&◌, Some, None, IfSome, nat_lt, arith, refl}
-use Rattle.tcc_serial.proofs.Names.{sym, ap, ◌∙◌, nat_tests, Program, Outcome, Goes, num, any_below, Dir, Msg, Mark, InvAck, Shape, home}
-use Rattle.tcc_serial.proofs.Names.{Cache, modified_mask, written_lines, CoreState, Phase, Running, AwaitTid, DoomedTid, Overflowing, to}
+use Rattle.tcc_serial.proofs.Names.{ℕ, ◌≡◌, ◌≤◌, Bool, true, false, List, [], ◌∷◌, ◌==◌, ◌&&◌, Some, None, IfSome, nat_lt, arith, refl, sym}
+use Rattle.tcc_serial.proofs.Names.{ap, ◌∙◌, nat_tests, Program, Outcome, Goes, num, any_below, Dir, Msg, Mark, InvAck, Shape, home, Cache}
+use Rattle.tcc_serial.proofs.Names.{modified_mask, written_lines, CoreState, Phase, Running, AwaitTid, DoomedTid, Overflowing, to}
 use Rattle.tcc_serial.proofs.Names.{marks_for, probe_all, Out, commit, committed_core, phase_after, core_exec, core_evict, grant}
 use Rattle.tcc_serial.proofs.Names.{grant_phase, grant_sends, is_probed, probing, Probes, Protocol, among, passes, has_tid, waits_for_tid}
 use Rattle.tcc_serial.proofs.Names.{kept, moves, solo_commit}

@@ -80,7 +80,6 @@ part-grant sh u d t s l w = go s.phase refl w
     go _ e h = absurd (cc)
 
 -- a message of a directory
-
 resolves-to : (t h d : ℕ) (ms : List Msg) → among (Resolves t) ms ≡ 0 → among (Resolves t) (to (Dir h) ms (Dir d)) ≡ 0
 unfolding among
 resolves-to t h d ms e = grind (arith, nat_tests)

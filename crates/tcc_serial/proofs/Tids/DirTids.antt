@@ -3,9 +3,8 @@ use Rattle.tcc_serial.proofs.Names.{ℕ, ◌+◌, ◌-◌, ◌≡◌, ◌<◌, �
 use Rattle.tcc_serial.proofs.Names.{nat_tests, num, count_below, has_mark, Serving, advance, kept, is_skipped, Msg, Skip, Commit, Abort}
 use Rattle.tcc_serial.proofs.Names.{Shape, lines, advance-rises, advance-past, advance-stops, advance-keeps, kept-skips, DirState, Answer}
 use Rattle.tcc_serial.proofs.Names.{Waits, Drops, Asks, Takes, dir_deliver, owed_by, Resolves, passes, handled}
-use Rattle.tcc_serial.proofs.Counts.DirOutcome.{Outcome, Waiting, Spent, AsksOwner, TakesSkip, TakesAbort, TakesProbe, TakesLoad, TakesMark}
-use Rattle.tcc_serial.proofs.Counts.DirOutcome.{TakesCommit, TakesAck, TakesCopy, IsSpent, SkipPassed, AbortPassed, MarkPassed, NoneOwed}
-use Rattle.tcc_serial.proofs.Counts.DirOutcome.{CopyPassed, outcome}
+use Rattle.tcc_serial.proofs.Counts.DirOutcome.{Outcome, Waiting, Spent, TakesSkip, TakesAbort, TakesCommit, TakesAck, TakesCopy, IsSpent}
+use Rattle.tcc_serial.proofs.Counts.DirOutcome.{SkipPassed, AbortPassed, CopyPassed, outcome}
 use Rattle.tcc_serial.proofs.Counts.StepCases.{same}
 
 pub skipped-above : (s : Serving) (t : ℕ) → is_skipped s t ≡ true → s.serving < t

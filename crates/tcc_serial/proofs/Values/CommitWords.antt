@@ -5,8 +5,8 @@ use Rattle.tcc_serial.proofs.Names.{IfSome, is_some, unwrap_or, get_or, nat_lt, 
 use Rattle.tcc_serial.proofs.Names.{nat_tests, Noted, Program, line_of, place_of, word_at, those, count_below, has, hit, Dir, Skip, Mark}
 use Rattle.tcc_serial.proofs.Names.{Commit, WriteBack, Shape, home, lines, Cache, IsCache, committed, words_dropped, Spilled, holds}
 use Rattle.tcc_serial.proofs.Names.{spilled_mask, spilled_words, has-mask_of, CoreState, Out, is_solo, noted, committed_core, commit}
-use Rattle.tcc_serial.proofs.Names.{solo_sends, solo_marks, solo_backs, solo_writes_at, is_written, written_mask, core_exec, Kind}
-use Rattle.tcc_serial.proofs.Names.{CopyWord, CopyNot, among, passes, framed, mark, skip}
+use Rattle.tcc_serial.proofs.Names.{solo_sends, solo_marks, solo_backs, solo_writes_at, is_written, written_mask, core_exec, Kind, CopyWord}
+use Rattle.tcc_serial.proofs.Names.{CopyNot, among, passes, framed, mark, skip}
 use Rattle.tcc_serial.proofs.Copies.CopySends.{commit-copies}
 use Rattle.tcc_serial.proofs.Counts.Links.{among-append, among-flat_map_none}
 use Rattle.tcc_serial.proofs.Values.WordCopies.{among-words, among-others, at-place, get-eight}
@@ -19,7 +19,6 @@ pub record CommitsWord (sh : Shape) (x t : ℕ) (c : Cache) (sp : Spilled) (o : 
   pub right : (y d : ℕ) → unwrap_or (sp x) y ≡ y → among (CopyNot x t y) (o.sends (Dir d)) ≡ 0
 
 -- with all directories ready
-
 ready-word : (sh : Shape) (x id t : ℕ) (s : CoreState) → s.spilled x ≡ None → CommitsWord sh x t s.cache s.spilled (commit sh id t s)
 unfolding commit committed_core committed
 ready-word sh x id t s z = record {
@@ -105,7 +104,6 @@ solo-word sh x id t s = record {
         and-off (hit l (spilled_mask s.spilled l) x && (t == t)) _ (rw (g, n) refl)
 
 -- what an instruction commits
-
 abbrev pub CommitsWords : Shape → CoreState → Out → Type 0
 CommitsWords sh s o = (n : Noted) → o.commit ≡ Some n → (x : ℕ) → CommitsWord sh x n.tid.0 s.cache s.spilled o
 

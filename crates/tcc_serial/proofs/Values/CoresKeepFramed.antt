@@ -1,9 +1,9 @@
 -- A core's events and the words in its frames and in the Filled to it: what fades keeps its value, an invalidation takes its words, and
 -- a Fill brings what was on its way.
-use Rattle.tcc_serial.proofs.Names.{ℕ, ◌≡◌, ◌≤◌, ◌⊎◌, Bool, true, false, not, ◌==◌, ◌&&◌, ◌||◌, List, Option, Some, None, set, get_or}
-use Rattle.tcc_serial.proofs.Names.{arith, refl, sym, ◌∙◌, inl, inr, nat_tests, num, line_of, place_of, hit, Msg, Fill, Inv, Shape, home}
-use Rattle.tcc_serial.proofs.Names.{Awaited, Out, staled, is_awaited, LoadingOf, FillOf, FillNot, InvWord, live, passes, Pair, after_move}
-use Rattle.tcc_serial.proofs.Names.{back_taken, is_stale, hit-line, filled, framed, kept, rests}
+use Rattle.tcc_serial.proofs.Names.{ℕ, ◌≡◌, ◌≤◌, ◌⊎◌, Bool, true, false, ◌==◌, ◌&&◌, List, Option, Some, None, set, get_or, arith, refl}
+use Rattle.tcc_serial.proofs.Names.{inl, inr, nat_tests, num, line_of, place_of, hit, Msg, Fill, Inv, Shape, home, Awaited, Out, staled}
+use Rattle.tcc_serial.proofs.Names.{is_awaited, LoadingOf, FillOf, FillNot, InvWord, live, passes, Pair, after_move, back_taken, is_stale}
+use Rattle.tcc_serial.proofs.Names.{hit-line, filled, framed, kept, rests}
 use Rattle.tcc_serial.proofs.Counts.Links.{live-takes}
 use Rattle.tcc_serial.proofs.Tids.TidSteps.{live-some}
 use Rattle.tcc_serial.proofs.Values.FramedWords.{HeldOf, few-not}
@@ -44,7 +44,6 @@ stale-other l None h = refl
 stale-other l (Some a) h = grind (arith, nat_tests)
 
 -- an invalidation is taken
-
 pub held-invalid : (sh : Shape) (d x y k l m u : ℕ) (v : Pair) (o : Out) → get_or v.back k None ≡ Some (Inv l m u) → Invalidates l m v.core o → LoadingOf sh d (line_of x) v → HeldOf x y v → HeldOf x y (after_move (back_taken v k) o d)
 unfolding passes
 held-invalid sh d x y k l m u v o i f loading h = go (hit l m x) refl
@@ -60,7 +59,6 @@ held-invalid sh d x y k l m u v o i f loading h = go (hit l m x) refl
     go false q = held-quietly x y k v (after_move (back_taken v k) o d) (Inv l m u) i refl q (f.rests.1) h
 
 -- a Fill is taken
-
 filled-is : (x y z l : ℕ) (ws : List ℕ) → num (passes (FillNot x y) (Fill l ws)) ≡ 0 → (l == line_of x) ≡ true → get_or ws (place_of x) 0 ≡ z → z ≡ y
 unfolding passes
 filled-is x y z l ws n e g = grind (arith, nat_tests)

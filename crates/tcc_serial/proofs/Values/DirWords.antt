@@ -1,9 +1,8 @@
 -- What a directory's rules do to a home word: it stays, and no copy of it is consumed; or a copy with its line's tag comes home.
 use Rattle.tcc_serial.proofs.Names.{ℕ, ◌≡◌, Bool, true, false, not, List, ◌==◌, get_or, if◌then◌else◌, arith, refl, ◌∙◌, nat_tests, line_of}
-use Rattle.tcc_serial.proofs.Names.{place_of, hit, Msg, Shape, DirState, Answer, Waits, Drops, Asks, Takes, dir_deliver, CopyWord, CopyNot}
-use Rattle.tcc_serial.proofs.Names.{passes, hit-line}
-use Rattle.tcc_serial.proofs.Counts.DirOutcome.{Outcome, Waiting, Spent, AsksOwner, TakesSkip, TakesAbort, TakesProbe, TakesLoad, TakesMark}
-use Rattle.tcc_serial.proofs.Counts.DirOutcome.{TakesCommit, TakesAck, TakesCopy, IsCopy, outcome}
+use Rattle.tcc_serial.proofs.Names.{place_of, hit, Msg, Shape, DirState, Answer, Asks, Takes, dir_deliver, CopyWord, CopyNot, passes}
+use Rattle.tcc_serial.proofs.Names.{hit-line}
+use Rattle.tcc_serial.proofs.Counts.DirOutcome.{Outcome, Waiting, Spent, AsksOwner, TakesCopy, IsCopy, outcome}
 
 pub data HomeBy (s : DirState) (m : Msg) (x : ℕ) (new : DirState) : Type 0 where
   Left : new.words x ≡ s.words x → ((t : ℕ) → passes (CopyWord x t) m ≡ false) → HomeBy s m x new

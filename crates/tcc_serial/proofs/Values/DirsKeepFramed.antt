@@ -1,10 +1,10 @@
 -- Where a directory takes a message, each word in a frame or a Fill has its value still, or is invalidated.
-use Rattle.tcc_serial.proofs.Names.{ℕ, ◌+◌, ◌≡◌, ◌<◌, ◌≤◌, Bool, true, false, not, ◌==◌, ◌&&◌, ◌||◌, List, [], Contains, Option, Some, None}
-use Rattle.tcc_serial.proofs.Names.{nat_lt, arith, refl, ap, subst, ◌∙◌, inl, inr, nat_tests, Noted, num, line_of, IsCache, Msg, Core, Dir}
-use Rattle.tcc_serial.proofs.Names.{LoadReq, Shape, home, lines, DirState, World, in_flight, Sends, Answer, Waits, Drops, Asks, Takes}
-use Rattle.tcc_serial.proofs.Names.{dir_takes, dir_asks, KeptAfter, KeptOwned, stored_there, FillOf, FillNot, LoadOf, LoadNot, Commits}
-use Rattle.tcc_serial.proofs.Names.{live, among, passes, CommitsInMemory, LoadsInMemory, pair, is_this, is_applied, CommitsStand, stores_at}
-use Rattle.tcc_serial.proofs.Names.{stores_word, counts, value_at, word_copies, HomeWords, last_of}
+use Rattle.tcc_serial.proofs.Names.{ℕ, ◌+◌, ◌≡◌, ◌<◌, ◌≤◌, Bool, true, false, not, ◌==◌, ◌&&◌, List, [], Contains, Option, Some, None}
+use Rattle.tcc_serial.proofs.Names.{arith, refl, ap, subst, ◌∙◌, inl, inr, nat_tests, Noted, num, line_of, IsCache, Msg, Core, Dir, LoadReq}
+use Rattle.tcc_serial.proofs.Names.{Shape, home, lines, DirState, World, in_flight, Sends, Answer, Waits, Drops, Asks, Takes, dir_takes}
+use Rattle.tcc_serial.proofs.Names.{dir_asks, KeptAfter, KeptOwned, stored_there, FillOf, FillNot, LoadOf, LoadNot, Commits, live, among}
+use Rattle.tcc_serial.proofs.Names.{passes, CommitsInMemory, LoadsInMemory, pair, is_this, is_applied, CommitsStand, stores_at, stores_word}
+use Rattle.tcc_serial.proofs.Names.{counts, value_at, word_copies, HomeWords, last_of}
 use Rattle.tcc_serial.proofs.Counts.StepCases.{same, differ, either, asks-own, OfAnswer}
 use Rattle.tcc_serial.proofs.Lines.LoadsKept.{FillsBy}
 use Rattle.tcc_serial.proofs.Memory.MemorySends.{accesses_at_homes}

@@ -25,7 +25,6 @@ unfolding read_cleared
 fades-cleared c x y e f = (e, f)
 
 -- an invalidation
-
 fades-invalidated : (l m x : ℕ) (c : Cache) → Fades c (invalidated l m c) x
 unfolding invalidated
 fades-invalidated l m x c y = go (hit l m x && not (c.modified x))

@@ -38,7 +38,6 @@ pub fading : (s r : CoreState) → r.awaited ≡ s.awaited → ((x : ℕ) → Fa
 fading s r e h = record { words = h; fresh = λ q. rw e at q }
 
 -- what the changes of a cache do
-
 fades-marked : (w v : ℕ) (c : Cache) → Fades c (marked w c) v
 unfolding marked
 fades-marked w v c y e f = (e, f)
@@ -64,7 +63,6 @@ fades-then : (b c d : Cache) (v : ℕ) → Fades b c v → Fades c d v → Fades
 fades-then b c d v f g y e h = let k = g y e h in f y (k.0) (k.1)
 
 -- executing
-
 dropped : (o : Option ℕ) (v : Option ℕ) (y : ℕ) → (if is_some o then None else v) ≡ Some y → (v ≡ Some y) × (o ≡ None)
 dropped None v y e = (e, refl)
 dropped (Some x) v y e = absurd (cc)
@@ -93,7 +91,6 @@ framing-exec sh p c s = each-exec sh p c s (Framing c s) go
     go _ = Stays refl (fading s _ refl (fades-same s.cache))
 
 -- evicting
-
 fades-evicted : (x y l v : ℕ) (c : Cache) → c.at x y ≡ Some l → Fades c (evicted x y c) v
 unfolding evicted evicted_line
 fades-evicted x y l v c e = rw e (λ z. go z (l == line_of v))

@@ -1,8 +1,7 @@
 -- Each event keeps that words in frames and Fills have their values, or are invalidated.
 use Rattle.tcc_serial.proofs.Names.{ℕ, ◌≡◌, ◌<◌, ◌≤◌, ◌⊎◌, Bool, true, false, ◌==◌, ◌||◌, ◌++◌, List, Contains, Option, Some, None, IfSome}
 use Rattle.tcc_serial.proofs.Names.{is_some, nat_lt, get_or, arith, refl, sym, ap, subst, ◌∙◌, inl, inr, nat_tests, Noted, Plain, Local}
-use Rattle.tcc_serial.proofs.Names.{Program, line_of, Core, Dir, Vendor, Msg, TidReq, TidGrant, LoadReq, Fill, Skip, Probe, ProbeReply}
-use Rattle.tcc_serial.proofs.Names.{Mark, Commit, Abort, WriteBack, Flush, DataReq, Inv, InvAck, Event, Shape, home, Awaited, CoreState}
+use Rattle.tcc_serial.proofs.Names.{Program, line_of, Core, Dir, Vendor, Msg, LoadReq, Fill, Commit, Event, Shape, home, Awaited, CoreState}
 use Rattle.tcc_serial.proofs.Names.{DirState, Phase, Ready, Solo, World, Out, is_solo, noted, from_dir, grant, core_evict, is_awaited}
 use Rattle.tcc_serial.proofs.Names.{core_exec, dir_deliver, in_flight, History, Stepped, step, next, recorded, and_noted, insert_commit}
 use Rattle.tcc_serial.proofs.Names.{core_moves, core_takes, Uses, sees, Suits, LoadingOf, LinesAway, LoadOf, InvWord, Commits, live, passes}

@@ -1,21 +1,18 @@
 -- Every event keeps the values of home words and of copies on their way home.
-use Rattle.tcc_serial.proofs.Names.{ℕ, ◌≡◌, Noted, ◌<◌, ◌⊎◌, ◌++◌, List, Option, Some, None, IfSome, refl, inl, inr, Plain, Local, Program}
-use Rattle.tcc_serial.proofs.Names.{Dir, Event, Shape, CoreState, World, Out, core_exec, core_evict, from_dir, Answer, Waits, Drops, Asks}
-use Rattle.tcc_serial.proofs.Names.{Takes, dir_deliver, History, Stepped, step, next, recorded, and_noted, core_moves, core_takes, Uses}
-use Rattle.tcc_serial.proofs.Names.{Suits, Carried, Invariants, Grant, granted_by, Ways, ways_after, sent_by, zero, suc, ◌==◌, ◌||◌, Bool}
-use Rattle.tcc_serial.proofs.Names.{true, false, cond, is_some, unwrap_or, arith, ap, sym, subst, ◌∙◌, nat_tests, num, line_of, Core, home}
-use Rattle.tcc_serial.proofs.Names.{lines, DirState, noted, insert_commit, sees, copies_with, AboveOf, CopyWord, CopyNot, Commits, live}
-use Rattle.tcc_serial.proofs.Names.{among, Pair, pair, after_move, is_this, is_applied, stores_word, after_stores, counts, word_copies}
-use Rattle.tcc_serial.proofs.Names.{CopiesHave, wrote_line, ◌&&◌, nat_lt, if◌then◌else◌, Node, Vendor, Exec, Evict, Deliver, Msg, TidReq}
-use Rattle.tcc_serial.proofs.Names.{TidGrant, LoadReq, Fill, Skip, Probe, ProbeReply, Mark, Commit, Abort, WriteBack, Flush, DataReq, Inv}
-use Rattle.tcc_serial.proofs.Names.{InvAck, in_flight, core_deliver, from_vendor, grant, happens, names_nodes, is_node, if_in_flight, moved}
-use Rattle.tcc_serial.proofs.Names.{taken, CommitsStand, IsCache}
+use Rattle.tcc_serial.proofs.Names.{ℕ, ◌≡◌, Noted, ◌<◌, ◌++◌, List, Option, Some, None, IfSome, refl, inl, inr, Plain, Local, Program, Dir}
+use Rattle.tcc_serial.proofs.Names.{Event, Shape, CoreState, World, Out, core_exec, core_evict, from_dir, dir_deliver, History, Stepped}
+use Rattle.tcc_serial.proofs.Names.{step, next, recorded, and_noted, core_moves, core_takes, Uses, Suits, Carried, Invariants, Grant}
+use Rattle.tcc_serial.proofs.Names.{granted_by, Ways, ways_after, sent_by, zero, suc, ◌||◌, Bool, true, false, cond, is_some, unwrap_or}
+use Rattle.tcc_serial.proofs.Names.{arith, ap, sym, subst, ◌∙◌, nat_tests, num, line_of, Core, home, lines, DirState, noted, insert_commit}
+use Rattle.tcc_serial.proofs.Names.{sees, copies_with, AboveOf, CopyWord, CopyNot, Commits, live, among, Pair, pair, after_move, is_this}
+use Rattle.tcc_serial.proofs.Names.{is_applied, stores_word, after_stores, counts, word_copies, CopiesHave, wrote_line, Vendor, Msg}
+use Rattle.tcc_serial.proofs.Names.{in_flight, grant, taken, CommitsStand}
 use Rattle.tcc_serial.specs.KeepsHomes.{HomesHold, EventsKeepHomes}
 use Rattle.tcc_serial.proofs.Copies.TagsKept.{untagged}
 use Rattle.tcc_serial.proofs.Counts.Links.{live-sends}
-use Rattle.tcc_serial.proofs.Counts.StepCases.{either, moves-own, moves-other, OfAnswer, step_cases, node_cases}
+use Rattle.tcc_serial.proofs.Counts.StepCases.{either, moves-own, moves-other, node_cases}
 use Rattle.tcc_serial.proofs.Marks.DirRecords.{dir-records}
-use Rattle.tcc_serial.proofs.OneCore.CoreStays.{Rests, evict-rests, grant-rests, back-rests}
+use Rattle.tcc_serial.proofs.OneCore.CoreStays.{Rests, grant-rests, back-rests}
 use Rattle.tcc_serial.proofs.Order.SerialParts.{each-listed}
 use Rattle.tcc_serial.proofs.Order.SerialSteps.{Stand, stand}
 use Rattle.tcc_serial.proofs.Values.CommitWords.{CommitsWord, CommitsWords, commits-exec}

@@ -5,15 +5,13 @@ use Rattle.tcc_serial.proofs.Names.{Stored, num, count_below, line_of, place_of,
 use Rattle.tcc_serial.proofs.Names.{Shape, home, lines, has-mask_of, World, in_flight, History, copies_with, AboveOf, Commits, CommitOf}
 use Rattle.tcc_serial.proofs.Names.{CopyOf, CopyWord, CopyNot, live, passes, pair, is_applied, is_this, MarkedCommit, stores_at, stores_in}
 use Rattle.tcc_serial.proofs.Names.{stored_mask, stores_word, counts, word_copies, CopiesHave, names_line, wrote, wrote_line, wrote_mask}
-use Rattle.tcc_serial.proofs.Names.{[], IfSome, subst, Plain, Program, Local, Vendor, Event, Exec, Evict, Deliver, TidReq, TidGrant}
-use Rattle.tcc_serial.proofs.Names.{LoadReq, Fill, Skip, Probe, ProbeReply, Mark, Commit, Abort, WriteBack, Flush, DataReq, Inv, InvAck}
-use Rattle.tcc_serial.proofs.Names.{DirState, Sends, Answer, Waits, Drops, Asks, Takes, dir_deliver, Stepped, step, happens, names_nodes}
-use Rattle.tcc_serial.proofs.Names.{if_in_flight, delivered, dir_takes, dir_asks, vendor_gives, Uses, Invariants, Grant, CommitsStand, Ways}
+use Rattle.tcc_serial.proofs.Names.{[], subst, Plain, Program, Local, Commit, DirState, Sends, Answer, Waits, Drops, Asks, Takes, dir_takes}
+use Rattle.tcc_serial.proofs.Names.{dir_asks, vendor_gives, Uses, Invariants, Grant, CommitsStand, Ways}
 use Rattle.tcc_serial.proofs.Copies.LinesStep.{marked-line, writer-line, other-writer, commit-passes}
 use Rattle.tcc_serial.proofs.Copies.TagsKept.{tag-below, applied-owed, TakenCommit, takes-consumes}
 use Rattle.tcc_serial.proofs.Copies.WroteLines.{wrote-at}
 use Rattle.tcc_serial.proofs.Counts.Links.{num-same}
-use Rattle.tcc_serial.proofs.Counts.StepCases.{given, and-false, OfAnswer, step_answer}
+use Rattle.tcc_serial.proofs.Counts.StepCases.{given, and-false, OfAnswer}
 use Rattle.tcc_serial.proofs.Marks.DirRecords.{NoCopy, Stays, Records, Still, Came, Settles, Dropped, RecordsBy}
 use Rattle.tcc_serial.proofs.Marks.MaskLaws.{same-commit}
 use Rattle.tcc_serial.proofs.Marks.OwesByCommit.{CountsMarked}

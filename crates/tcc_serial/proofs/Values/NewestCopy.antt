@@ -1,10 +1,9 @@
 -- What is seen of a word is the value of its copies with the greatest tag, where they all have one value.
 use Rattle.tcc_serial.proofs.Names.{ℕ, zero, suc, ◌+◌, ◌≡◌, ◌<◌, ◌≤◌, Bool, true, false, not, ◌==◌, ◌&&◌, List, [], ◌∷◌, ◌++◌, get_or}
 use Rattle.tcc_serial.proofs.Names.{Option, Some, None, unwrap_or, nat_le, if◌then◌else◌, flat_map, arith, refl, ap, ◌⊎◌, inl, inr}
-use Rattle.tcc_serial.proofs.Names.{nat_tests, flat_map-append, num, those, line_of, place_of, hit, Core, Dir, Msg, TidReq, TidGrant}
-use Rattle.tcc_serial.proofs.Names.{LoadReq, Fill, Skip, Probe, ProbeReply, Mark, Commit, Abort, WriteBack, Flush, DataReq, Inv, InvAck}
-use Rattle.tcc_serial.proofs.Names.{Shape, home, World, Link, Copy, numbers, copy_of, copies_on, copy_in, copies_of, copies, newest}
-use Rattle.tcc_serial.proofs.Names.{home_copy, seen, CopyWord, CopyNot, live, passes, pair, is_this, word_copies, CopiesHave}
+use Rattle.tcc_serial.proofs.Names.{nat_tests, flat_map-append, num, those, line_of, place_of, hit, Core, Dir, Msg, WriteBack, Flush, Shape}
+use Rattle.tcc_serial.proofs.Names.{home, World, Link, Copy, numbers, copy_of, copies_on, copy_in, copies_of, copies, newest, home_copy}
+use Rattle.tcc_serial.proofs.Names.{seen, CopyWord, CopyNot, live, passes, pair, is_this, word_copies, CopiesHave}
 
 -- no copy has a greater tag, and those with this one have the value
 unfoldable Top : (tag value : ℕ) → List Copy → Type 0
@@ -58,14 +57,13 @@ newest-top t y a (b ∷ bs) h l e = go (b.tag == t) refl (nat_le a.tag b.tag) re
 one-copy : (x t y k n : ℕ) (ws : List ℕ) (g : ℕ) (b : Bool) → hit k n x ≡ b → (t < g → num (b && (g == g)) ≡ 0) → num ((b && (g == t)) && not (get_or ws (place_of x) 0 == y)) ≡ 0 → Top t y (if b then record { tag = g; value = get_or ws (place_of x) 0 } ∷ [] else []) × (tagged t (if b then record { tag = g; value = get_or ws (place_of x) 0 } ∷ [] else []) ≡ num (b && (g == t)))
 unfolding Top tagged
 one-copy x t y k n ws g false e f z = (tt, refl)
-one-copy x t y k n ws g true e f z = ((low (nat_le g t) refl, has, tt), omega arith)
+one-copy x t y k n ws g true e f z =
+    let has : g ≡ t → get_or ws (place_of x) 0 ≡ y = λ i. grind (arith, nat_tests) in
+    ((low (nat_le g t) refl, has, tt), omega arith)
   where
     low : (c : Bool) → nat_le g t ≡ c → g ≤ t
     low true q = grind (arith, nat_tests)
     low false q = absurd (let l : t < g = grind (arith, nat_tests) in let i : (g == g) ≡ true = grind (arith, nat_tests) in let o : num (true && (g == g)) ≡ 1 = rw i refl in omega (arith, f l, o))
-
-    has : g ≡ t → get_or ws (place_of x) 0 ≡ y
-    has i = grind (arith, nat_tests)
 
 on-way : (x t y : ℕ) (m : Msg) → ((g : ℕ) → t < g → num (passes (CopyWord x g) m) ≡ 0) → num (passes (CopyNot x t y) m) ≡ 0 → Top t y (copy_of x m) × (tagged t (copy_of x m) ≡ num (passes (CopyWord x t) m))
 unfolding passes Top tagged

@@ -1,10 +1,9 @@
 -- What is seen of a word is its value after all commits: its copy with the greatest tag is of the commit whose Commit is in flight, if any.
 use Rattle.tcc_serial.proofs.Names.{ℕ, zero, suc, ◌≡◌, ◌<◌, ◌≤◌, Bool, true, false, not, cond, max, ◌==◌, ◌&&◌, ◌||◌, List, [], ◌∷◌, length}
 use Rattle.tcc_serial.proofs.Names.{Contains, Option, Some, None, slice_index_or, is_some, if◌then◌else◌, arith, refl, sym, ap, ◌∙◌, ◌⊎◌}
-use Rattle.tcc_serial.proofs.Names.{inl, inr, nat_tests, Noted, num, line_of, place_of, word_at, has, hit, Msg, TidReq, TidGrant, LoadReq}
-use Rattle.tcc_serial.proofs.Names.{Fill, Skip, Probe, ProbeReply, Mark, Commit, Abort, WriteBack, Flush, DataReq, Inv, InvAck, Shape}
-use Rattle.tcc_serial.proofs.Names.{IsCache, is_dirty, dirty_tag, dirty_mask, has-mask_of, DirState, AboveOf, CopyMask, CopyWord, passes}
-use Rattle.tcc_serial.proofs.Names.{IsRising, Pair, is_this, stores_word, after_stores, counts, after_commits, word_copies, wrote}
+use Rattle.tcc_serial.proofs.Names.{inl, inr, nat_tests, Noted, num, line_of, place_of, word_at, has, hit, Msg, Commit, WriteBack, Flush}
+use Rattle.tcc_serial.proofs.Names.{Shape, IsCache, is_dirty, dirty_tag, dirty_mask, has-mask_of, DirState, AboveOf, CopyMask, CopyWord}
+use Rattle.tcc_serial.proofs.Names.{passes, IsRising, Pair, is_this, stores_word, after_stores, counts, after_commits, word_copies, wrote}
 use Rattle.tcc_serial.proofs.Names.{wrote_mask, last_of, ◌+◌, map, nat_lt, nat_le, subst, order_of_commit, Core, Dir, home, lines, seen}
 use Rattle.tcc_serial.proofs.Names.{World, History, plain_start, copies_with, settled_in_line, Commits, CopyOf, live, Carried}
 use Rattle.tcc_serial.proofs.Names.{CarriedInMemory, Grant, pair, SeenFollows, is_settled, is_applied, MarkedCommit, stores_at, value_at}

@@ -1,11 +1,10 @@
 -- The copies of a word: no more than those of its line, and those that leave a frame go home as they are.
 use Rattle.tcc_serial.proofs.Names.{ℕ, ◌+◌, ◌≡◌, ◌≤◌, ◌==◌, ◌&&◌, Bool, true, false, not, List, [], ◌∷◌, Option, Some, None, is_some, arith}
-use Rattle.tcc_serial.proofs.Names.{refl, sym, ◌∙◌, nat_tests, num, line_of, place_of, word_at, has, hit, Msg, TidReq, TidGrant, LoadReq}
-use Rattle.tcc_serial.proofs.Names.{Fill, Skip, Probe, ProbeReply, Mark, Commit, Abort, WriteBack, Flush, DataReq, Inv, InvAck, Shape}
+use Rattle.tcc_serial.proofs.Names.{refl, sym, ◌∙◌, nat_tests, num, line_of, place_of, word_at, has, hit, Msg, WriteBack, Flush, Shape}
 use Rattle.tcc_serial.proofs.Names.{Cache, IsCache, is_dirty, dirty_tag, dirty_mask, has-mask_of, Link, copies_with, CopyOf, CopyMask}
-use Rattle.tcc_serial.proofs.Names.{CopyWord, CopyNot, live, among, passes, Pair, is_this, word_copies, CopiesHave, zero, suc, ◌<◌, ◌⊎◌}
-use Rattle.tcc_serial.proofs.Names.{cond, unwrap_or, get_or, if◌then◌else◌, ap, inl, inr, cases_eq, eight, Dir, home, dirty_words}
-use Rattle.tcc_serial.proofs.Names.{dirty_copy, CoreState, Out, to, flush, flushed, written_back}
+use Rattle.tcc_serial.proofs.Names.{CopyWord, CopyNot, live, among, passes, Pair, is_this, word_copies, CopiesHave, suc, ◌<◌, ◌⊎◌, cond}
+use Rattle.tcc_serial.proofs.Names.{unwrap_or, get_or, if◌then◌else◌, ap, inl, inr, cases_eq, eight, Dir, home, dirty_words, dirty_copy}
+use Rattle.tcc_serial.proofs.Names.{CoreState, Out, to, flush, flushed, written_back}
 use Rattle.tcc_rules.specs.Sends.{write_back}
 use Rattle.tcc_serial.proofs.Copies.DirtyFrames.{some-dirty, tag-of}
 use Rattle.tcc_serial.proofs.Counts.Links.{live-fewer, among-fewer}

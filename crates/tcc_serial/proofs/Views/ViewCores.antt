@@ -78,7 +78,6 @@ each-append P [] vs a b = b
 each-append P (u ∷ us) vs a b = (a.0, each-append P us vs (a.1) b)
 
 -- evictions
-
 pub evict-view : (sh : Shape) (x y : ℕ) (s : CoreState) → IfSome (core_evict sh x y s) (λ o. (o.commit ≡ None) × Keeps s o.core)
 evict-view sh x y s = each-evict sh x y s (λ o. (o.commit ≡ None) × Keeps s o.core) (λ k q u z. (refl, keeps-phase s _ refl))
 

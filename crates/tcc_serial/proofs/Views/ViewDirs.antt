@@ -7,8 +7,8 @@ use Rattle.tcc_serial.proofs.Names.{home, lines, has-mask_of, any_below-at, DirS
 use Rattle.tcc_serial.proofs.Names.{invalidations, Sends, History, dir_takes, CommitsLine, keeps_unmodified, holds_line, Commits, CommitOf}
 use Rattle.tcc_serial.proofs.Names.{live, CommitsInMemory, Carried, Grant, Pair, pair, is_applied, is_this, CommitsStand, stored_mask}
 use Rattle.tcc_serial.proofs.Names.{stores_in, MarkedCommit, stores_word, counts, value_at, IsPassed, Ways, if◌then◌else◌, TidReq, TidGrant}
-use Rattle.tcc_serial.proofs.Names.{LoadReq, Fill, Skip, Probe, ProbeReply, Mark, Commit, Abort, WriteBack, Flush, DataReq, InvAck, Answer}
-use Rattle.tcc_serial.proofs.Names.{Waits, Drops, Asks, Takes, settled, owned, owed_by, dir_deliver, dir_asks, Uses, out_taken, EachUse}
+use Rattle.tcc_serial.proofs.Names.{Fill, ProbeReply, Commit, DataReq, Answer, Waits, Drops, Asks, Takes, settled, owned, owed_by}
+use Rattle.tcc_serial.proofs.Names.{dir_deliver, dir_asks, Uses, out_taken, EachUse}
 use Rattle.tcc_rules.specs.DirDeliver.{commit}
 use Rattle.tcc_serial.proofs.Counts.Links.{among-append, live-takes}
 use Rattle.tcc_serial.proofs.Counts.StepCases.{same, differ, dir-own, dir-other, either, AllPairs, pairs_dir, pairs_asks, asks-own}

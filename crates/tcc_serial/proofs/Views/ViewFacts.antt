@@ -1,11 +1,11 @@
 -- What the proof on views asks of a state, and where a word keeps its value for a core.
 use Rattle.tcc_serial.proofs.Names.{ℕ, ◌≡◌, ◌<◌, ◌≤◌, ◌⊎◌, ◌==◌, Bool, true, false, List, [], ◌∷◌, Contains, Option, Some, None, is_some}
 use Rattle.tcc_serial.proofs.Names.{arith, refl, ap, inl, inr, cases_lt, nat_tests, num, line_of, Core, Dir, Msg, Cache, writes_at, Shape}
-use Rattle.tcc_serial.proofs.Names.{home, Phase, Running, AwaitTid, DoomedTid, Probing, Ready, Overflowing, Solo, Halted, Link, World}
-use Rattle.tcc_serial.proofs.Names.{is_solo, History, Uses, AllStand, UsesStand, Invs, InvsNot, InvWord, InvBelow, passes, live, Carried}
-use Rattle.tcc_serial.proofs.Names.{due, Grant, times, holder, pair, share, IsBound, is_applied, has_tid, opens, dooms, EachUse, IsPassed}
-use Rattle.tcc_serial.proofs.Names.{IsDoomed, Ways, Settled, zero, suc, ◌+◌, ◌&&◌, ◌||◌, length, nat_lt, slice_index_or, Noted, DirState}
-use Rattle.tcc_serial.proofs.Names.{Commits, is_this, CommitsStand, stores_at, counts, value_at}
+use Rattle.tcc_serial.proofs.Names.{home, Phase, DoomedTid, Probing, Ready, Overflowing, Solo, Halted, Link, World, is_solo, History, Uses}
+use Rattle.tcc_serial.proofs.Names.{AllStand, UsesStand, Invs, InvsNot, InvWord, InvBelow, passes, live, Carried, due, Grant, times, holder}
+use Rattle.tcc_serial.proofs.Names.{pair, share, IsBound, is_applied, has_tid, opens, dooms, EachUse, IsPassed, IsDoomed, Ways, Settled}
+use Rattle.tcc_serial.proofs.Names.{zero, suc, ◌+◌, ◌&&◌, ◌||◌, length, nat_lt, slice_index_or, Noted, DirState, Commits, is_this}
+use Rattle.tcc_serial.proofs.Names.{CommitsStand, stores_at, counts, value_at}
 use Rattle.tcc_serial.proofs.Counts.Links.{live-fewer, total-le}
 use Rattle.tcc_serial.proofs.Tids.Commits.{numbered-least, numbered-most, granted-at}
 use Rattle.tcc_serial.proofs.Values.ValueAt.{value-alike}

@@ -1,11 +1,11 @@
 -- What a core does, and what the vendor grants, leaves every core's view near: each used word has its value, or it is doomed.
-use Rattle.tcc_serial.proofs.Names.{ℕ, ◌≡◌, ◌<◌, ◌≤◌, ◌⊎◌, ◌==◌, ◌&&◌, ◌||◌, Bool, true, false, List, [], ◌++◌, Option, Some, None}
-use Rattle.tcc_serial.proofs.Names.{IfSome, is_some, arith, refl, sym, subst, ◌∙◌, inl, inr, put, Noted, Program, num, line_of, writes_at}
-use Rattle.tcc_serial.proofs.Names.{Shape, home, CoreState, Phase, Running, AwaitTid, DoomedTid, Probing, Ready, Overflowing, Solo}
-use Rattle.tcc_serial.proofs.Names.{Halted, World, Out, core_exec, core_evict, History, core_moves, and_noted, insert_commit, Uses, Views}
-use Rattle.tcc_serial.proofs.Names.{uses_executed, InvWord, live, Carried, CarriedInMemory, Grant, holder, Pair, pair, after_move}
-use Rattle.tcc_serial.proofs.Names.{may_commit, IsBound, is_applied, has_tid, opens, waits_for_tid, RequestOf, stores_word, is_below}
-use Rattle.tcc_serial.proofs.Names.{counts, value_at, dooms, UnmodifiedWords, Ways, commit, holds, replied}
+use Rattle.tcc_serial.proofs.Names.{ℕ, ◌≡◌, ◌<◌, ◌≤◌, ◌⊎◌, ◌==◌, ◌&&◌, ◌||◌, Bool, true, false, List, [], ◌++◌, Option, Some, None, IfSome}
+use Rattle.tcc_serial.proofs.Names.{is_some, arith, refl, sym, subst, ◌∙◌, inl, inr, put, Noted, Program, num, line_of, writes_at, Shape}
+use Rattle.tcc_serial.proofs.Names.{home, CoreState, Phase, Running, AwaitTid, DoomedTid, Probing, Ready, Overflowing, Solo, Halted, World}
+use Rattle.tcc_serial.proofs.Names.{Out, core_exec, core_evict, History, core_moves, and_noted, insert_commit, Uses, Views, uses_executed}
+use Rattle.tcc_serial.proofs.Names.{InvWord, live, Carried, CarriedInMemory, Grant, holder, Pair, pair, after_move, may_commit, IsBound}
+use Rattle.tcc_serial.proofs.Names.{is_applied, has_tid, opens, waits_for_tid, RequestOf, stores_word, is_below, counts, value_at, dooms}
+use Rattle.tcc_serial.proofs.Names.{UnmodifiedWords, Ways, commit, holds, replied}
 use Rattle.tcc_serial.proofs.OneCore.Outcomes.{Acts}
 use Rattle.tcc_serial.proofs.Serving.OwnerSteps.{grant-any}
 use Rattle.tcc_serial.proofs.Memory.MemorySends.{marks_at_homes}
@@ -17,7 +17,6 @@ use Rattle.tcc_serial.proofs.Views.ViewFacts.{bound-own, open-served, served-una
 use Rattle.tcc_serial.proofs.Views.ViewPairs.{NearAt, ViewOf, view-empty, view-moves}
 
 -- the views where one core's has changed
-
 pub put-own : (vs : Views) (c : ℕ) (us : Uses) → put vs c us c ≡ us
 put-own vs c us = rw (same c) refl
 
@@ -62,7 +61,6 @@ used-near sh gs ys ram h k um c d b cl dl a i x y mo va e = go (h.world.cores c)
     go Halted q a r = absurd a
 
 -- a commit changes no value for another core
-
 unapplied : (sh : Shape) (gs : List Grant) (ys : Ways) (h : History) → Carried sh gs ys h → CarriedInMemory sh h → (c d t x : ℕ) → c < sh.cores → d < sh.dirs → ((h.world.cores c).phase ≡ Ready t) ⊎ ((h.world.cores c).phase ≡ Solo t) → home sh (line_of x) ≡ d → stores_word sh.base (h.world.cores c).stores x ≡ true → is_applied (h.world.dirs d) t ≡ false
 unfolding opens has_tid
 unapplied sh gs ys h k m c d t x cl dl ph e s = served-unapplied h.world d t (open-served sh gs ys h k c d t cl dl (holds ph) (opened ph) (k.directory_that_replied_serves_the_tid.replied c d cl dl (commits ph)))
@@ -99,16 +97,12 @@ silent-other : (sh : Shape) (gs : List Grant) (ys : Ways) (h : History) → Carr
 unfolding counts
 silent-other sh gs ys h k m c d j t x n b cl dl ne ph tn cn st e = go (stores_word sh.base n.stores x) refl
   where
-    and-none : (a : Bool) → (a && false) ≡ false
-    and-none true = refl
-    and-none false = refl
-
     go : (q : Bool) → stores_word sh.base n.stores x ≡ q → IsSilent sh.base (h.world.dirs d) (Some j) b x n
     go false q = inr q
     go true q =
         let a : is_applied (h.world.dirs d) n.tid.0 ≡ false = rw tn (unapplied sh gs ys h k m c d t x cl dl ph e (rw st at q)) in
         let o : (j == n.core.0) ≡ false = rw cn (differ j c ne) in
-        inl (rw (o, a) (and-none (is_below b n.tid.0)))
+        inl (rw (o, a) ((elim (is_below b n.tid.0) as (λ a. (a && false) ≡ false) [ true ↦ refl | false ↦ refl ])))
 
 pub exec-views : (sh : Shape) (p : Program) (gs : List Grant) (ys : Ways) (ram : ℕ → ℕ) (vs : Views) (h : History) → Carried sh gs ys h → CarriedInMemory sh h → UnmodifiedWords sh ram h.world h.commits → AllNear sh ram h.commits vs h.world → (c : ℕ) → c < sh.cores
     → IfSome (core_exec sh p c (h.world.cores c)) (λ o. AllNear sh ram (and_noted o.commit h.commits) (put vs c (uses_executed (Some o) (vs c) (new_uses sh p h.world c))) (core_moves h.world c o))
@@ -164,7 +158,6 @@ exec-views sh p gs ys ram vs h k m um near c cl = go (core_exec sh p c w_core) (
     go (Some o) a = kind o a
 
 -- evictions
-
 pub evict-views : (sh : Shape) (ram : ℕ → ℕ) (vs : Views) (h : History) → AllNear sh ram h.commits vs h.world → (c x y : ℕ) → IfSome (core_evict sh x y (h.world.cores c)) (λ o. AllNear sh ram (and_noted o.commit h.commits) vs (core_moves h.world c o))
 unfolding pair core_moves
 evict-views sh ram vs h near c x y = go (core_evict sh x y (h.world.cores c)) (evict-view sh x y (h.world.cores c))

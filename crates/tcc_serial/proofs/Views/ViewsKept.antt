@@ -1,7 +1,6 @@
 -- Every event keeps that a viewed word has the value that it has for its core, or that the attempt is doomed.
 use Rattle.tcc_serial.proofs.Names.{ℕ, ◌≡◌, ◌<◌, ◌≤◌, ◌⊎◌, ◌&&◌, Bool, true, false, List, [], Option, Some, None, IfSome, nat_lt, arith}
-use Rattle.tcc_serial.proofs.Names.{refl, ap, sym, subst, ◌∙◌, inl, inr, nat_tests, num, hit, Core, Dir, Vendor, Msg, TidReq, TidGrant}
-use Rattle.tcc_serial.proofs.Names.{LoadReq, Fill, Skip, Probe, ProbeReply, Mark, Commit, Abort, WriteBack, Flush, DataReq, Inv, InvAck}
+use Rattle.tcc_serial.proofs.Names.{refl, ap, sym, subst, ◌∙◌, inl, inr, nat_tests, num, hit, Core, Dir, Vendor, Msg, TidReq, TidGrant, Inv}
 use Rattle.tcc_serial.proofs.Names.{Shape, put, DoomedTid, in_flight, Out, from_dir, grant, is_violated, is_above, History, core_takes}
 use Rattle.tcc_serial.proofs.Names.{vendor_gives, and_noted, Uses, Views, uses_delivered, Invs, InvWord, passes, live, Carried, Grant, Pair}
 use Rattle.tcc_serial.proofs.Names.{pair, after_move, grant_taken, back_taken, IsBound, value_at, dooms, Ways, hit-line, hit-reads, ◌++◌}

@@ -1,8 +1,8 @@
 -- A step by what it does to the cores: it leaves them as they are, or one core moves, sends and perhaps commits.
 use Rattle.tcc_serial.proofs.Names.{ℕ, ◌≡◌, ◌<◌, ◌==◌, Option, Some, None, IfSome, if◌then◌else◌, refl, Program, Core, Dir, Vendor, Msg}
 use Rattle.tcc_serial.proofs.Names.{TidGrant, Event, Shape, World, in_flight, Sends, nothing, Out, core_exec, core_evict, from_dir, grant}
-use Rattle.tcc_serial.proofs.Names.{Answer, Waits, Drops, Asks, Takes, dir_deliver, core_moves, core_takes, dir_takes, dir_asks}
-use Rattle.tcc_serial.proofs.Names.{vendor_gives, Stepped, step, KeptTids, sent_by}
+use Rattle.tcc_serial.proofs.Names.{Answer, Waits, dir_deliver, core_moves, core_takes, dir_takes, dir_asks, vendor_gives, Stepped, step}
+use Rattle.tcc_serial.proofs.Names.{KeptTids, sent_by}
 use Rattle.tcc_serial.proofs.Counts.StepCases.{OfAnswer, sent_cases}
 use Rattle.tcc_serial.proofs.Serving.KeptSteps.{core_of_grant, core_of_back}
 

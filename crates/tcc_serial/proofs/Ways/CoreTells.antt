@@ -1,9 +1,9 @@
 -- What a core with a TID says of it: it skips it at directories where it writes nothing, and commits it where it has stored.
 use Rattle.tcc_serial.proofs.Names.{ℕ, ◌≡◌, ◌<◌, Bool, true, false, List, [], ◌∷◌, ◌++◌, ◌==◌, ◌&&◌, nat_lt, if◌then◌else◌, flat_map, arith}
 use Rattle.tcc_serial.proofs.Names.{refl, nat_tests, num, those, count_below, Dir, Msg, Skip, Mark, Commit, WriteBack, Shape, home, lines}
-use Rattle.tcc_serial.proofs.Names.{Cache, writes_at, is_modified, Spilled, holds, spilled_mask, spilled_words, commit_sends, solo_sends}
-use Rattle.tcc_serial.proofs.Names.{solo_marks, solo_backs, solo_writes_at, is_written, written_mask, Kind, Skips, Aborts, Commits, among}
-use Rattle.tcc_serial.proofs.Names.{passes, Way, Untold, Skipped, Committed, told_by}
+use Rattle.tcc_serial.proofs.Names.{Cache, writes_at, Spilled, holds, spilled_mask, spilled_words, commit_sends, solo_sends, solo_marks}
+use Rattle.tcc_serial.proofs.Names.{solo_backs, solo_writes_at, is_written, written_mask, Kind, Skips, Aborts, Commits, among, passes, Way}
+use Rattle.tcc_serial.proofs.Names.{Untold, Skipped, Committed, told_by}
 use Rattle.tcc_serial.proofs.Counts.Links.{among-append, among-flat_map_none}
 use Rattle.tcc_serial.proofs.Ways.WayParts.{told-skip, told-commit}
 

@@ -1,11 +1,10 @@
 -- What a directory keeps as skipped is a TID of which a Skip or an Abort came, and it is owed acknowledgements only for one whose
 -- Commit came.
 use Rattle.tcc_serial.proofs.Names.{ℕ, ◌+◌, ◌-◌, ◌≡◌, ◌<◌, ◌≤◌, Bool, true, false, ◌==◌, ◌&&◌, nat_lt, if◌then◌else◌, arith, refl}
-use Rattle.tcc_serial.proofs.Names.{nat_tests, num, Serving, advance, kept, is_skipped, Msg, LoadReq, Skip, Probe, Mark, Abort, InvAck}
-use Rattle.tcc_serial.proofs.Names.{Shape, advance-rises, kept-skips, DirState, Answer, Waits, Drops, Asks, Takes, dir_deliver, owed_by}
-use Rattle.tcc_serial.proofs.Names.{Skips, Aborts, Commits, passes, Resolves}
-use Rattle.tcc_serial.proofs.Counts.DirOutcome.{Outcome, Waiting, Spent, AsksOwner, TakesSkip, TakesAbort, TakesProbe, TakesLoad, TakesMark}
-use Rattle.tcc_serial.proofs.Counts.DirOutcome.{TakesCommit, TakesAck, TakesCopy, outcome}
+use Rattle.tcc_serial.proofs.Names.{nat_tests, num, Serving, advance, kept, is_skipped, Msg, Skip, Abort, InvAck, Shape, advance-rises}
+use Rattle.tcc_serial.proofs.Names.{kept-skips, DirState, Answer, Asks, Takes, dir_deliver, owed_by, Skips, Aborts, Commits, passes}
+use Rattle.tcc_serial.proofs.Names.{Resolves}
+use Rattle.tcc_serial.proofs.Counts.DirOutcome.{Outcome, Waiting, Spent, AsksOwner, TakesSkip, TakesAbort, TakesCommit, TakesAck, outcome}
 use Rattle.tcc_serial.proofs.Counts.StepCases.{same}
 use Rattle.tcc_serial.proofs.Tids.DirTids.{OnceAt, unserved, advance-count}
 

@@ -1,12 +1,11 @@
 -- Every event keeps what the ways say of a core's TID, and of a committed one.
 use Rattle.tcc_serial.proofs.Names.{ℕ, zero, suc, ◌≡◌, ◌<◌, ◌≤◌, Bool, true, false, List, ◌==◌, Contains, Option, Some, None, IfSome}
 use Rattle.tcc_serial.proofs.Names.{nat_lt, if◌then◌else◌, arith, refl, sym, ap, ◌∙◌, ◌⊎◌, inl, inr, nat_tests, Noted, Program, num, Core}
-use Rattle.tcc_serial.proofs.Names.{Dir, Vendor, Msg, TidGrant, Event, writes_at, Shape, Phase, Running, AwaitTid, DoomedTid, Probing}
-use Rattle.tcc_serial.proofs.Names.{Ready, Overflowing, Solo, Halted, World, in_flight, Sends, Out, core_exec, core_evict, from_dir, grant}
-use Rattle.tcc_serial.proofs.Names.{Stepped, step, and_noted, Grants, Resolves, Skips, Aborts, Commits, among, passes, KeptCores, Grant}
-use Rattle.tcc_serial.proofs.Names.{times, KeptOwners, pair, share, has_tid, opens, ResolvedAt, KeptTids, Way, Untold, Skipped, Aborted}
-use Rattle.tcc_serial.proofs.Names.{Committed, Ways, told_by, ways_after, sent_by, part_in, WayAt, KeptWays, stores_at, live_way, KeptLive}
-use Rattle.tcc_serial.proofs.Names.{commit_way, KeptCommitted}
+use Rattle.tcc_serial.proofs.Names.{Dir, Vendor, Msg, TidGrant, Event, writes_at, Shape, Phase, Probing, Ready, Overflowing, Solo, World}
+use Rattle.tcc_serial.proofs.Names.{in_flight, Sends, Out, core_exec, core_evict, from_dir, grant, Stepped, step, and_noted, Grants}
+use Rattle.tcc_serial.proofs.Names.{Resolves, Skips, Aborts, Commits, among, passes, KeptCores, Grant, times, KeptOwners, pair, share}
+use Rattle.tcc_serial.proofs.Names.{has_tid, opens, ResolvedAt, KeptTids, Way, Untold, Skipped, Aborted, Committed, Ways, told_by}
+use Rattle.tcc_serial.proofs.Names.{ways_after, sent_by, part_in, WayAt, KeptWays, stores_at, live_way, KeptLive, commit_way, KeptCommitted}
 use Rattle.tcc_serial.proofs.Counts.Links.{total-le}
 use Rattle.tcc_serial.proofs.Serving.CommitOwners.{CommitsNoted, noted-exec, noted-evict, noted-grant, noted-back}
 use Rattle.tcc_serial.proofs.Serving.OwnerSteps.{times-noted}

@@ -4,12 +4,11 @@ use Rattle.tcc_serial.proofs.Names.{Local, Event, Shape, start, core_start, Step
 use Rattle.tcc_serial.proofs.Names.{run_from, run, KeptTold, KeptAll, KeptRun, Grant, granted_by, then_grants, grants_from, has_tid}
 use Rattle.tcc_serial.proofs.Names.{loads_word, Ways, ways_after, sent_by, then_ways, ways_from, first_ways, KeptWays, AlwaysTold, zero}
 use Rattle.tcc_serial.proofs.Names.{suc, ◌+◌, ◌≡◌, ◌<◌, ◌≤◌, Bool, true, false, ◌==◌, ◌&&◌, nat_lt, nat_le, refl, ap, ◌⊎◌, inl, inr}
-use Rattle.tcc_serial.proofs.Names.{nat_tests, num, Core, Dir, is_skipped, writes_at, total, Phase, Running, AwaitTid, DoomedTid, Probing}
-use Rattle.tcc_serial.proofs.Names.{Ready, Overflowing, Solo, Halted, World, Commits, live, holder, pair, share, sum_of, opens, ResolvedAt}
-use Rattle.tcc_serial.proofs.Names.{Way, Untold, Skipped, Aborted, Committed, part_in, kept_in, WayAt, is_untold, is_given_up}
-use Rattle.tcc_serial.proofs.Names.{UntoldWhereOpen, UntoldIsLive, Settled, WaysFit, AllWaysFit, given_up_by, GivenUpOnce, LiveIsOpen}
-use Rattle.tcc_serial.proofs.Names.{CommittedWhereStored, Contains, Noted, CommitsAreServed, times, SmallerAreResolved, SmallerAreGivenUp}
-use Rattle.tcc_serial.proofs.Names.{WorkIsReached, worked_at}
+use Rattle.tcc_serial.proofs.Names.{nat_tests, num, Core, Dir, is_skipped, writes_at, total, Phase, Probing, Ready, Overflowing, World}
+use Rattle.tcc_serial.proofs.Names.{Commits, live, holder, pair, share, sum_of, opens, ResolvedAt, Way, Untold, Skipped, Aborted, Committed}
+use Rattle.tcc_serial.proofs.Names.{part_in, kept_in, WayAt, is_untold, is_given_up, UntoldWhereOpen, UntoldIsLive, Settled, WaysFit}
+use Rattle.tcc_serial.proofs.Names.{AllWaysFit, given_up_by, GivenUpOnce, LiveIsOpen, CommittedWhereStored, Contains, Noted}
+use Rattle.tcc_serial.proofs.Names.{CommitsAreServed, times, SmallerAreResolved, SmallerAreGivenUp, WorkIsReached, worked_at}
 use Rattle.tcc_serial.proofs.Counts.Links.{total-le, total-zero, num-one}
 use Rattle.tcc_serial.proofs.Run.AllInvariants.{step-all, all-at-start}
 use Rattle.tcc_serial.proofs.Serving.CommitSteps.{commits_served}
