@@ -4,13 +4,13 @@ use Rattle.tcc_serial.proofs.Names.{if◌then◌else◌, arith, refl, ap, ◌⊎
 use Rattle.tcc_serial.proofs.Names.{InvAck, Shape, home, lines, Cache, writes_at, is_modified, CoreState, Phase, Running, AwaitTid, Ready}
 use Rattle.tcc_serial.proofs.Names.{Overflowing, Solo, to, skip_all, abort_written, Out, commit, committed_core, phase_after}
 use Rattle.tcc_serial.proofs.Names.{commit_sends, solo_sends, core_exec, core_evict, Resolves, Protocol, Marks, MarkOf, EmptyMarks, Skips}
-use Rattle.tcc_serial.proofs.Names.{among, passes, has_marked, stores_line, marked_by, has_tid, opens, kept, owned, skipped, Outcome}
+use Rattle.tcc_serial.proofs.Names.{among, passes, has_marked, stores_line, marked_by, has_tid, opens, Outcome}
 use Rattle.tcc_serial.proofs.Names.{moves, solo_commit}
 use Rattle.tcc_serial.proofs.Counts.Links.{among-append, num-few}
 use Rattle.tcc_serial.proofs.Tids.CoreProbing.{tid-after}
 use Rattle.tcc_serial.proofs.OneCore.Executes.{Steady, did-steady}
 use Rattle.tcc_serial.proofs.Marks.CoreMarks.{solo-mark, solo-full, solo-skips, solo-owned}
-use Rattle.tcc_serial.proofs.OneCore.Said.{quiet, Wants, say}
+use Rattle.tcc_serial.proofs.OneCore.Said.{Wants, say}
 use Rattle.tcc_serial.proofs.OneCore.Outcomes.{Acts, Commits_now, Did, each-exec, out, each-evict, emptied, Ends_alone, Ends_run}
 use Rattle.tcc_serial.proofs.OneCore.Outcomes.{Room_wanted, after_end}
 use Rattle.tcc_serial.proofs.OneCore.CoreSteps.{steady-emptied}

@@ -4,7 +4,7 @@ use Rattle.tcc_serial.proofs.Names.{◌⊎◌, inl, inr, nat_tests, Program, num
 use Rattle.tcc_serial.proofs.Names.{DataReq, Inv, Shape, home, Cache, modified_mask, written_lines, CoreState, Phase, Running, AwaitTid}
 use Rattle.tcc_serial.proofs.Names.{DoomedTid, Overflowing, Link, to, marks_for, Out, commit, committed_core, phase_after, core_exec}
 use Rattle.tcc_serial.proofs.Names.{core_evict, from_dir, probe_reply, fill, data_request, invalidate, ignored, MarkOf, MarkMask, live}
-use Rattle.tcc_serial.proofs.Names.{among, passes, has_marked, marked_by, has_tid, kept, moves, solo_commit}
+use Rattle.tcc_serial.proofs.Names.{among, passes, has_marked, marked_by, has_tid, moves, solo_commit}
 use Rattle.tcc_serial.proofs.Counts.Links.{among-flat_map_none, among-fewer, live-fewer}
 use Rattle.tcc_serial.proofs.Tids.CoreProbing.{tid-after}
 use Rattle.tcc_serial.proofs.OneCore.Executes.{Steady, did-steady}

@@ -5,7 +5,7 @@ use Rattle.tcc_serial.proofs.Names.{any_below, any_below-at, Msg, Fill, ProbeRep
 use Rattle.tcc_serial.proofs.Names.{CoreState, Phase, Running, AwaitTid, DoomedTid, Probing, Ready, Overflowing, Solo, Halted, Out}
 use Rattle.tcc_serial.proofs.Names.{commit, committed_core, phase_after, core_exec, core_evict, grant, grant_phase, from_dir, probing}
 use Rattle.tcc_serial.proofs.Names.{is_probed, probe_reply, all_replied, fill, data_request, invalidate, RepliesAbove, passes, tid_of}
-use Rattle.tcc_serial.proofs.Names.{asks_dir, may_commit, Reached, replied, solo_commit}
+use Rattle.tcc_serial.proofs.Names.{asks_dir, may_commit, Reached, solo_commit}
 use Rattle.tcc_serial.proofs.OneCore.Executes.{Steady, did-steady}
 use Rattle.tcc_serial.proofs.OneCore.CoreSteps.{reads_at-same, fill-steady, data-steady, Hurt, Unhurt, Rolled, Doomed, Aborted, Gave_up}
 use Rattle.tcc_serial.proofs.OneCore.CoreSteps.{Invalidated, invalidate-cases, Replied, Ignored, Probed, Left_alone, reply-cases}

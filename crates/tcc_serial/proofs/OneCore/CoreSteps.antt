@@ -6,7 +6,7 @@ use Rattle.tcc_serial.proofs.Names.{evicted_line, filled, cleaned, invalidated, 
 use Rattle.tcc_serial.proofs.Names.{Running, AwaitTid, DoomedTid, Probing, Ready, Overflowing, Solo, Sends, nothing, to, flushed}
 use Rattle.tcc_serial.proofs.Names.{written_back, abort_written, skip_all, marks_for, Out, moves, is_solo, core_evict, is_awaited}
 use Rattle.tcc_serial.proofs.Names.{ignored, fill, fill_awaited, data_request, invalidate, probe_reply, all_replied, Protocol, among}
-use Rattle.tcc_serial.proofs.Names.{passes, commit, kept, marked, unmarked, Inv, Msg, ProbeReply}
+use Rattle.tcc_serial.proofs.Names.{passes, Inv, Msg, ProbeReply}
 use Rattle.tcc_serial.proofs.OneCore.Executes.{Steady}
 use Rattle.tcc_serial.proofs.OneCore.Said.{quiet, Empties, Aborts_all, Said, Silent, Skips_all, say, Flushes}
 use Rattle.tcc_serial.proofs.OneCore.Outcomes.{Acts, acked, each-evict, emptied, Heard, Hurt_alone, Hurt_none, Hurt_probing, Hurt_running}

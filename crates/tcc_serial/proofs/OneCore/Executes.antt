@@ -1,5 +1,5 @@
 -- What Exec may come to, as far as TIDs and messages about them go.
-use Rattle.tcc_serial.proofs.Names.{commit, ℕ, ◌≡◌, [], None, refl, Program, word_of, line_of, Dir, Vendor, Shape, CoreState, flushed}
+use Rattle.tcc_serial.proofs.Names.{ℕ, ◌≡◌, [], None, refl, Program, word_of, line_of, Dir, Vendor, Shape, CoreState, flushed}
 use Rattle.tcc_serial.proofs.Names.{Out, moves, Protocol, among, passes}
 use Rattle.tcc_serial.proofs.OneCore.Said.{quiet, Flushes, Requests, Said, Silent, Unheard, say}
 use Rattle.tcc_serial.proofs.OneCore.Outcomes.{Acts, Buffers, Commits_now, Did, Ends_alone, Ends_run, Finds, Frames, Frames_anew, Idles}

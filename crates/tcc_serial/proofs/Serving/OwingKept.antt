@@ -5,8 +5,8 @@ use Rattle.tcc_serial.proofs.Names.{ProbeReply, DataReq, Inv, Shape, writes_at, 
 use Rattle.tcc_serial.proofs.Names.{AwaitTid, DoomedTid, Probing, Ready, Overflowing, Solo, start, core_start, Out, commit}
 use Rattle.tcc_serial.proofs.Names.{committed_core, phase_after, core_exec, core_evict, from_dir, grant, grant_phase, is_probed, probing}
 use Rattle.tcc_serial.proofs.Names.{all_replied, fill, data_request, invalidate, probe_reply, Answer, Waits, dir_deliver, core_moves}
-use Rattle.tcc_serial.proofs.Names.{core_takes, dir_takes, dir_asks, vendor_gives, step, OwingFits, awaits_replies, asks_dir, answered}
-use Rattle.tcc_serial.proofs.Names.{moved, taken, solo_commit}
+use Rattle.tcc_serial.proofs.Names.{core_takes, dir_takes, dir_asks, vendor_gives, step, OwingFits, awaits_replies, asks_dir}
+use Rattle.tcc_serial.proofs.Names.{solo_commit}
 use Rattle.tcc_maps.specs.Words.{put}
 use Rattle.tcc_serial.proofs.OneCore.CoreProbes.{none-below, all-replied}
 use Rattle.tcc_serial.proofs.OneCore.CoreSteps.{reads_at-same, fill-steady, data-steady, Hurt, Unhurt, Rolled, Doomed, Aborted, Gave_up}

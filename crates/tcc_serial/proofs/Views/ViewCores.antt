@@ -4,12 +4,12 @@ use Rattle.tcc_serial.proofs.Names.{Option, Some, None, IfSome, arith, refl, ap,
 use Rattle.tcc_serial.proofs.Names.{Loads, Stores, Changes, num, any_below, Msg, Inv, Shape, CoreState, Phase, Running, AwaitTid}
 use Rattle.tcc_serial.proofs.Names.{DoomedTid, Ready, Overflowing, Solo, Halted, Out, commit, noted, core_exec, core_evict, grant}
 use Rattle.tcc_serial.proofs.Names.{grant_phase, probing, is_probed, from_dir, is_violated, Uses, used_in, used_at, used_by}
-use Rattle.tcc_serial.proofs.Names.{uses_delivered, rolls_back, has_tid, waits_for_tid, EachUse, cond, nothing, rests, ◌&&◌}
+use Rattle.tcc_serial.proofs.Names.{uses_delivered, rolls_back, has_tid, waits_for_tid, EachUse, cond, rests, ◌&&◌}
 use Rattle.tcc_serial.proofs.Tids.CoreProbing.{tid-probing}
 use Rattle.tcc_serial.proofs.OneCore.Outcomes.{Acts, Buffers, Commits_now, Did, Ends_alone, Ends_run, Finds, Frames, Frames_anew, Idles}
 use Rattle.tcc_serial.proofs.OneCore.Outcomes.{Misses, Misses_anew, Reads, Room_wanted, after_end, each-exec, out, Heard, Hurt_alone}
 use Rattle.tcc_serial.proofs.OneCore.Outcomes.{Hurt_none, Hurt_probing, Hurt_running, Hurt_waiting, Last_probing, Last_room, each-back}
-use Rattle.tcc_serial.proofs.OneCore.Outcomes.{each-evict, emptied, heard, message}
+use Rattle.tcc_serial.proofs.OneCore.Outcomes.{each-evict, heard, message}
 use Rattle.tcc_serial.proofs.OneCore.Said.{Flushes, Requests, Said, Silent, say}
 
 -- the core has the TID that it had, and halts only where it had halted

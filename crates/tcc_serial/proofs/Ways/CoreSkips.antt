@@ -6,14 +6,14 @@ use Rattle.tcc_serial.proofs.Names.{DataReq, Inv, Shape, Cache, writes_at, CoreS
 use Rattle.tcc_serial.proofs.Names.{Overflowing, Solo, Out, commit, committed_core, noted, phase_after, core_exec, core_evict, grant}
 use Rattle.tcc_serial.proofs.Names.{grant_phase, grant_sends, from_dir, probing, is_probed, probe_reply, ignored, all_replied, fill}
 use Rattle.tcc_serial.proofs.Names.{data_request, invalidate, put, Skips, among, passes, Words, OneCore, has_tid, Untold, told_by}
-use Rattle.tcc_serial.proofs.Names.{live_way, commit_way, has, Local, moves, solo_commit}
+use Rattle.tcc_serial.proofs.Names.{live_way, commit_way, Local, moves, solo_commit}
 use Rattle.tcc_serial.proofs.OneCore.Executes.{Steady, did-steady}
 use Rattle.tcc_serial.proofs.OneCore.CoreSteps.{ignored-steady, fill-steady, data-steady, Hurt, Unhurt, Rolled, Doomed, Aborted, Gave_up}
 use Rattle.tcc_serial.proofs.OneCore.CoreSteps.{Invalidated, invalidate-cases, Replied, Ignored, Probed, Left_alone, reply-cases}
 use Rattle.tcc_serial.proofs.OneCore.CoreSteps.{steady-emptied}
 use Rattle.tcc_serial.proofs.Ways.CoreTells.{solo-told, ready-told}
 use Rattle.tcc_serial.proofs.Marks.StoredMasks.{stored-solo, stored-written}
-use Rattle.tcc_serial.proofs.OneCore.Said.{quiet, Wants, say}
+use Rattle.tcc_serial.proofs.OneCore.Said.{Wants, say}
 use Rattle.tcc_serial.proofs.OneCore.Outcomes.{Acts, Commits_now, Did, each-exec, out, each-evict, emptied, writes_at-same, Ends_alone}
 use Rattle.tcc_serial.proofs.OneCore.Outcomes.{Ends_run, Room_wanted, after_end}
 
