@@ -12,8 +12,8 @@ pub use Rattle.tcc_serial.proofs.Memory.MemorySends.{SendsInMemory, exec-sends, 
 pub use Rattle.tcc_serial.proofs.OneCore.CoreAlone.{start-cores}
 pub use Rattle.tcc_serial.proofs.OneCore.CoreSteps.{evict-steady, fill-steady, data-steady, Hurt, Unhurt, Rolled, Doomed, Aborted, Gave_up}
 pub use Rattle.tcc_serial.proofs.OneCore.CoreSteps.{Invalidated, invalidate-cases, Replied, Ignored, Probed, Left_alone, reply-cases}
-pub use Rattle.tcc_serial.proofs.OneCore.Outcomes.{Did, Commits_now, each-exec, out}
-pub use Rattle.tcc_serial.proofs.OneCore.Executes.{Steady, Executed, Goes_on, Overflows, Asks_tid, Alone, did-executed}
+pub use Rattle.tcc_serial.proofs.OneCore.Outcomes.{Did, Room_wanted, Ends_run, Ends_alone, Commits_now, each-exec, out}
+pub use Rattle.tcc_serial.proofs.OneCore.Executes.{Steady, did-steady}
 pub use Rattle.tcc_serial.proofs.OneCore.OneCoreExec.{exec_one}
 pub use Rattle.tcc_serial.proofs.OneCore.OneCoreTakes.{evict_one, grant_one, back_one}
 pub use Rattle.tcc_serial.proofs.Run.AllCarried.{runs_are_serial}

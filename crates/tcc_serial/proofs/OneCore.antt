@@ -16,5 +16,4 @@ pub mod CoreReads
 pub mod CoreReadsTakes
 pub mod CoreStays
 pub mod CoreCloses
-pub mod NotedCommits
 pub mod SoundAttempts

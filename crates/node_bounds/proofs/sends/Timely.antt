@@ -12,7 +12,8 @@ use Rattle.tcc_maps.specs.Shape.{Shape, home, lines}
 use Rattle.tcc_maps.specs.Spilled.{Spilled, holds, spilled_mask, spilled_words}
 use Rattle.tcc_maps.specs.Words.{num, those, count_below}
 use Rattle.tcc_rules.specs.Attempt.{Out}
-use Rattle.tcc_rules.specs.Commit.{commit, commit_sends, is_written, written_mask, solo_marks, solo_backs, solo_sends, solo_writes_at}
+use Rattle.tcc_rules.specs.Commit.{commit, commit_sends, is_written, written_mask, solo_commit, solo_marks, solo_backs, solo_sends}
+use Rattle.tcc_rules.specs.Commit.{solo_writes_at}
 use Rattle.tcc_rules.specs.CoreDeliver.{grant, grant_phase, grant_sends, from_dir, probe_reply, fill, data_request, invalidate}
 use Rattle.tcc_rules.specs.CoreEvict.{core_evict}
 use Rattle.tcc_rules.specs.CoreExec.{core_exec}
@@ -21,8 +22,8 @@ use Rattle.tcc_rules.specs.State.{CoreState, Awaited, Phase, Running, AwaitTid, 
 use Rattle.tcc_serial.specs.Count.{Protocol, among, passes}
 use Rattle.tcc_serial.specs.Tids.{has_tid}
 use Rattle.tcc_serial.proofs.Lemmas.{evict-steady, fill-steady, data-steady, Hurt, Unhurt, Rolled, Doomed, Aborted, Gave_up, Invalidated}
-use Rattle.tcc_serial.proofs.Lemmas.{invalidate-cases, Replied, Ignored, Probed, Left_alone, reply-cases, Steady, Executed, Goes_on}
-use Rattle.tcc_serial.proofs.Lemmas.{Overflows, Asks_tid, Alone, did-executed, Did, Commits_now, each-exec, out}
+use Rattle.tcc_serial.proofs.Lemmas.{invalidate-cases, Replied, Ignored, Probed, Left_alone, reply-cases, Steady, did-steady, Did, each-exec, out}
+use Rattle.tcc_serial.proofs.Lemmas.{Room_wanted, Ends_run, Ends_alone, Commits_now}
 use Rattle.tcc_bounds.specs.Messages.{WasGranted, tid_named}
 use Rattle.node_bounds.proofs.sends.Each.{Each, each-none, each-one, each-append, each-when, each-flat}
 
@@ -131,20 +132,16 @@ solos sh c sp t g d = each-dir sh d _ (each-append Timely _ _ (first (solo_write
 same : (t : ℕ) → (t == t) ≡ true
 same t = grind (arith, nat_tests)
 
-by-outcome : (sh : Shape) (c : ℕ) (s : CoreState) (o : Out) → HasTids s → Executed sh c s o → AllTimely o.sends
-unfolding has_tid
-by-outcome sh c s o h (Goes_on y) = steady s o y
-by-outcome sh c s o h (Overflows r ph ow cm ve di) = λ d. rw (di d) (each-none Timely)
-by-outcome sh c s o h (Asks_tid r ph ow cm ve di) = λ d. rw (di d) (each-none Timely)
-by-outcome sh c s o h (Alone t r q ph ow cm se) = λ d. rw se (solos sh s.cache s.spilled t (h t (rw q (same t))) d)
-
 pub exec-timely : (sh : Shape) (p : Program) (c : ℕ) (s : CoreState) → HasTids s → IfSome (core_exec sh p c s) (λ o. AllTimely o.sends)
-unfolding commit has_tid
+unfolding commit solo_commit has_tid
 exec-timely sh p c s h = each-exec sh p c s (λ o. AllTimely o.sends) go
   where
     go : (x : Did sh p c s) → AllTimely (out x).sends
     go (Commits_now t e) = commits sh s.cache t (h t (rw e (same t)))
-    go x = by-outcome sh c s (out x) h (did-executed x)
+    go (Room_wanted r i) = λ d. each-none Timely
+    go (Ends_run l e f r i) = λ d. each-none Timely
+    go (Ends_alone t l e f r i) = λ d. solos sh s.cache s.spilled t (h t (rw r (same t))) d
+    go x = steady s (out x) (did-steady x)
 
 pub evict-timely : (sh : Shape) (x y : ℕ) (s : CoreState) → IfSome (core_evict sh x y s) (λ o. AllTimely o.sends)
 evict-timely sh x y s = go (core_evict sh x y s) (evict-steady sh x y s)

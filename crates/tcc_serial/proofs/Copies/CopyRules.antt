@@ -6,7 +6,7 @@ use Rattle.tcc_serial.proofs.Names.{commit, committed_core, noted, solo_commit, 
 use Rattle.tcc_serial.proofs.Names.{stores_in, names_line, ◌+◌, ◌≤◌, ◌⊎◌, IfSome, inl, inr, cases_eq, nat_tests, Program, word_of, line_of}
 use Rattle.tcc_serial.proofs.Names.{hit, Msg, Inv, IsCache, filled, cleaned, invalidated, rolled_back, read_cleared, nothing, Out, moves}
 use Rattle.tcc_serial.proofs.Names.{is_solo, grant, from_dir, core_exec, core_evict, dirty-evicted, CopyOf, among, passes, stored, marked}
-use Rattle.tcc_serial.proofs.Names.{copies, placed}
+use Rattle.tcc_serial.proofs.Names.{placed}
 use Rattle.tcc_serial.proofs.Copies.CopySends.{few-masks, commit-copies, solo-copies, solo-wrong, flushed-leaves, back-home-leaves}
 use Rattle.tcc_serial.proofs.Copies.CoreCopies.{Conserves, conserves-still, conserves-sent, framed-dirty, placed-dirty}
 use Rattle.tcc_serial.proofs.Copies.DirtyFrames.{wrong-copy, IsClean, clean-frame, in-line, committed-frame, frame_copy, fewer-frame}

@@ -3,7 +3,7 @@
 use Rattle.tcc_serial.proofs.Names.{stored, ℕ, ◌+◌, ◌≡◌, ◌<◌, ◌⊎◌, ◌==◌, ◌&&◌, Bool, true, false, not, Option, Some, None, is_some}
 use Rattle.tcc_serial.proofs.Names.{if◌then◌else◌, arith, refl, sym, ◌∙◌, inl, inr, cases_eq, nat_tests, Noted, num, line_of, word_at, Dir}
 use Rattle.tcc_serial.proofs.Names.{Shape, home, set_of, Cache, IsCache, free_way, placed, placed_at, CoreState, Out, CopyOf, CopyMask}
-use Rattle.tcc_serial.proofs.Names.{among, stores_in, names_line, commit, copies}
+use Rattle.tcc_serial.proofs.Names.{among, stores_in, names_line}
 use Rattle.tcc_serial.proofs.Copies.CopySends.{Leaves, few-masks}
 use Rattle.tcc_serial.proofs.Copies.DirtyFrames.{frame_copy, frame_wrong, wrong-copy, SameDirty, same-frame, clean-frame, in-line}
 

@@ -3,7 +3,7 @@
 use Rattle.tcc_serial.proofs.Names.{ℕ, ◌+◌, ◌≡◌, ◌<◌, ◌≤◌, ◌==◌, false, List, Option, Some, None, IfSome, arith, refl, ap, sym, subst, inl}
 use Rattle.tcc_serial.proofs.Names.{inr, nat_tests, Noted, num, Core, Dir, Shape, home, lines, World, Out, core_moves, History, and_noted}
 use Rattle.tcc_serial.proofs.Names.{insert_commit, KeptTags, KeptLineOwners, Commits, live, among, KeptRun, Grant, times, Pair, pair}
-use Rattle.tcc_serial.proofs.Names.{after_move, share, part, Ways, part_in, commit, copies, has, keeps, kept, noted, owned}
+use Rattle.tcc_serial.proofs.Names.{after_move, share, part, Ways, part_in}
 use Rattle.tcc_serial.proofs.Serving.CommitSteps.{ofs-resolve}
 use Rattle.tcc_serial.proofs.Marks.CoreAfter.{AfterStep}
 use Rattle.tcc_serial.proofs.Copies.CoreCopies.{Conserves}
@@ -16,7 +16,6 @@ use Rattle.tcc_serial.proofs.Copies.WroteLines.{uncommitted, commit-sent, few-re
 use Rattle.tcc_serial.proofs.Copies.PairCopies.{LineCopies, copies-moved, NewCommit, copies-committed}
 use Rattle.tcc_serial.proofs.Counts.StepCases.{either, moves-own, moves-other}
 use Rattle.tcc_serial.proofs.Ways.ToldSteps.{Speaks}
-use Rattle.tcc_serial.proofs.OneCore.Said.{quiet}
 
 -- the copies of a line between a core and a directory, where it is a line in memory and at home there
 abbrev pub CopiesAt : Shape → List Noted → (core dir : ℕ) → Pair → Type 0

@@ -3,7 +3,7 @@ use Rattle.tcc_serial.proofs.Names.{ℕ, ◌≡◌, ◌⊎◌, ◌||◌, Bool, t
 use Rattle.tcc_serial.proofs.Names.{Noted, Program, word_of, line_of, Shape, set_of, Cache, is_modified, free_way, placed, placed_at, holds}
 use Rattle.tcc_serial.proofs.Names.{CoreState, Phase, Running, Ready, Solo, Out, is_solo, commit, committed_core, noted, solo_commit}
 use Rattle.tcc_serial.proofs.Names.{is_written, grant, core_exec, core_evict, keeps_unmodified, is_fresh, OneCore, Words, acting}
-use Rattle.tcc_serial.proofs.Names.{names_line, kept}
+use Rattle.tcc_serial.proofs.Names.{names_line}
 use Rattle.tcc_serial.proofs.Lines.HeldWords.{Fewer, fewer-kept, fewer-marked, fewer-stored, fewer-evicted, kept-committed, kept-alone}
 use Rattle.tcc_serial.proofs.Marks.StoredMasks.{unspilled, modified-line, written-line}
 use Rattle.tcc_serial.proofs.OneCore.Outcomes.{Acts, Buffers, Commits_now, Did, Ends_alone, Ends_run, Finds, Frames, Frames_anew}

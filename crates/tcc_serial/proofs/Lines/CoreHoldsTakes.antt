@@ -3,7 +3,7 @@ use Rattle.tcc_serial.proofs.Names.{put, invalidated, none_spilled, Running, Doo
 use Rattle.tcc_serial.proofs.Names.{true, false, not, List, Option, Some, None, IfSome, is_some, arith, refl, sym, inl, inr, nat_tests}
 use Rattle.tcc_serial.proofs.Names.{any_word, word_at, Dir, Msg, ProbeReply, Inv, Shape, home, Cache, keeps, filled, cleaned, read_cleared}
 use Rattle.tcc_serial.proofs.Names.{any_below-found, any_below-at, CoreState, Awaited, nothing, Out, from_dir, staled, is_awaited}
-use Rattle.tcc_serial.proofs.Names.{keeps_unmodified, is_fresh, FillOf, GoneOf, InvOf, among, passes, holds, kept, ◌/◌}
+use Rattle.tcc_serial.proofs.Names.{keeps_unmodified, is_fresh, FillOf, GoneOf, InvOf, among, passes, ◌/◌}
 use Rattle.tcc_serial.proofs.Lines.HeldWords.{Fewer, is_kept, fewer-kept, fewer-invalidated, fewer-rolled, fewer-cleared}
 use Rattle.tcc_serial.proofs.OneCore.Said.{Aborts_all, Said, Silent, Skips_all, Unheard, acked-quiet, quiet, say}
 use Rattle.tcc_serial.proofs.OneCore.Outcomes.{Last_room, Fills, Fills_none, Heard, Hurt_alone, Hurt_probing, Hurt_running, Hurt_waiting}

@@ -5,15 +5,13 @@ use Rattle.tcc_serial.proofs.Names.{Local, Core, Dir, Vendor, Event, Msg, Shape,
 use Rattle.tcc_serial.proofs.Names.{Out, core_exec, core_evict, from_dir, grant, Answer, Waits, Drops, Asks, Takes, dir_deliver, core_moves}
 use Rattle.tcc_serial.proofs.Names.{core_takes, dir_takes, step, and_noted, insert_commit, AfterOf, KeptAfter, KeptLoading, stored_there}
 use Rattle.tcc_serial.proofs.Names.{LoadOf, LoadNot, live, KeptCores, Grant, AreGranted, holder, KeptOwners, LastGranted, Pair, pair}
-use Rattle.tcc_serial.proofs.Names.{after_move, stores_at, last_of, answered, commit, moved, noted, taken}
+use Rattle.tcc_serial.proofs.Names.{after_move, stores_at, last_of}
 use Rattle.tcc_serial.proofs.Marks.CoreAfter.{no-load, Stays, Notes_commit, AfterStep, after-exec, after-evict, after-grant, after-back}
 use Rattle.tcc_serial.proofs.Tids.CoreOwners.{KeepsHolder, noted_tid, none, holder-exec, holder-evict}
 use Rattle.tcc_serial.proofs.Counts.Links.{live-sends, live-takes}
 use Rattle.tcc_serial.proofs.Serving.OwnerSteps.{holder-moved}
 use Rattle.tcc_serial.proofs.Counts.StepCases.{either, moves-own, moves-other, pairs_move, pairs_grant, pairs_back, pairs_dir, pairs_asks}
 use Rattle.tcc_serial.proofs.Counts.StepCases.{pairs_vendor, OfAnswer, step_cases}
-use Rattle.tcc_serial.proofs.OneCore.Said.{quiet}
-use Rattle.tcc_serial.proofs.OneCore.Outcomes.{granted, out}
 
 -- the last commit, with one more
 max-swap : (a b l : ℕ) → max a (max b l) ≡ max b (max a l)

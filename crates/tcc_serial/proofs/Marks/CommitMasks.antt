@@ -6,7 +6,7 @@ use Rattle.tcc_serial.proofs.Names.{is_modified, modified_mask, writes_at, Spill
 use Rattle.tcc_serial.proofs.Names.{Ready, Solo, Out, noted, commit, commit_sends, solo_sends, solo_marks, solo_backs, solo_writes_at}
 use Rattle.tcc_serial.proofs.Names.{is_written, written_mask, core_exec, core_evict, from_dir, Commits, AnyCommit, CommitOf, MarkOf}
 use Rattle.tcc_serial.proofs.Names.{MarkMask, among, passes, has_marked, stores_line, marked_by, OneCore, stores_in, stored_mask, stores_at}
-use Rattle.tcc_serial.proofs.Names.{has_tid, nothing, stored, solo_commit}
+use Rattle.tcc_serial.proofs.Names.{has_tid, solo_commit}
 use Rattle.tcc_serial.proofs.Serving.CoreCommits.{heard-free}
 use Rattle.tcc_serial.proofs.Counts.Links.{among-append, among-flat_map_none}
 use Rattle.tcc_serial.proofs.Serving.CommitOwners.{few-of}

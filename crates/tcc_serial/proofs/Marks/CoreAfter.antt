@@ -2,7 +2,7 @@
 use Rattle.tcc_serial.proofs.Names.{ℕ, ◌≡◌, ◌⊎◌, Bool, true, false, [], ◌∷◌, ◌==◌, Option, Some, None, IfSome, if◌then◌else◌, arith, refl}
 use Rattle.tcc_serial.proofs.Names.{inl, inr, nat_tests, Noted, Program, word_of, num, line_of, Dir, Msg, LoadReq, Shape, home, CoreState}
 use Rattle.tcc_serial.proofs.Names.{Awaited, Ready, Out, moves, commit, noted, after_commit, committed_core, solo_commit, core_exec}
-use Rattle.tcc_serial.proofs.Names.{core_evict, grant, from_dir, LoadOf, LoadNot, among, passes, OneCore, executes, stores_at, rests}
+use Rattle.tcc_serial.proofs.Names.{core_evict, grant, from_dir, LoadOf, LoadNot, among, passes, OneCore, executes, stores_at}
 use Rattle.tcc_serial.proofs.Marks.StoredMasks.{stored-solo, stored-written}
 use Rattle.tcc_serial.proofs.OneCore.Said.{Empties, Flushes, Requests, Silent, Tells_alone, Tells_commit, quiet, say}
 use Rattle.tcc_serial.proofs.OneCore.Outcomes.{Commits_now, Did, Ends_alone, Given_none, Granted, Hands_out, Heard, Misses, Misses_anew}

@@ -5,7 +5,7 @@ use Rattle.tcc_serial.proofs.Names.{Mark, Commit, WriteBack, Shape, home, lines,
 use Rattle.tcc_serial.proofs.Names.{spilled_mask, spilled_words, CoreState, Phase, Ready, Solo, Out, commit, commit_sends, solo_sends}
 use Rattle.tcc_serial.proofs.Names.{solo_marks, solo_backs, solo_writes_at, is_written, written_mask, core_exec, core_evict, from_dir}
 use Rattle.tcc_serial.proofs.Names.{total, Kind, MarkOf, AnyCommit, CommitOf, among, passes, has_marked, stores_line, marked_by, may_commit}
-use Rattle.tcc_serial.proofs.Names.{has_tid, marked, skipped, solo_commit}
+use Rattle.tcc_serial.proofs.Names.{has_tid, solo_commit}
 use Rattle.tcc_serial.proofs.Serving.CoreCommits.{heard-free}
 use Rattle.tcc_serial.proofs.Counts.Links.{among-append, total-same, among-fewer, among-flat_map_none}
 use Rattle.tcc_serial.proofs.Marks.CoreMarks.{one-mark, marks-only}

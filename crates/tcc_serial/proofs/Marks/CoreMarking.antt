@@ -2,15 +2,17 @@
 use Rattle.tcc_serial.proofs.Names.{ℕ, ◌+◌, ◌≡◌, ◌≤◌, Bool, true, false, not, List, [], ◌∷◌, ◌++◌, ◌==◌, ◌&&◌, None, IfSome, nat_lt}
 use Rattle.tcc_serial.proofs.Names.{if◌then◌else◌, arith, refl, ap, ◌⊎◌, inl, inr, cases_eq, nat_tests, Program, num, any_word, Dir, Msg}
 use Rattle.tcc_serial.proofs.Names.{InvAck, Shape, home, lines, Cache, writes_at, is_modified, CoreState, Phase, Running, AwaitTid, Ready}
-use Rattle.tcc_serial.proofs.Names.{Overflowing, Solo, to, skip_all, abort_written, Out, commit, committed_core, phase_after, commit_sends}
-use Rattle.tcc_serial.proofs.Names.{solo_sends, core_exec, core_evict, Resolves, Protocol, Marks, MarkOf, EmptyMarks, Skips, among, passes}
-use Rattle.tcc_serial.proofs.Names.{has_marked, stores_line, marked_by, has_tid, opens, kept, owned, skipped}
+use Rattle.tcc_serial.proofs.Names.{Overflowing, Solo, to, skip_all, abort_written, Out, commit, committed_core, phase_after}
+use Rattle.tcc_serial.proofs.Names.{commit_sends, solo_sends, core_exec, core_evict, Resolves, Protocol, Marks, MarkOf, EmptyMarks, Skips}
+use Rattle.tcc_serial.proofs.Names.{among, passes, has_marked, stores_line, marked_by, has_tid, opens, Outcome}
+use Rattle.tcc_serial.proofs.Names.{moves, solo_commit}
 use Rattle.tcc_serial.proofs.Counts.Links.{among-append, num-few}
 use Rattle.tcc_serial.proofs.Tids.CoreProbing.{tid-after}
-use Rattle.tcc_serial.proofs.OneCore.Executes.{Steady, Executed, Goes_on, Overflows, Asks_tid, Alone, did-executed}
+use Rattle.tcc_serial.proofs.OneCore.Executes.{Steady, did-steady}
 use Rattle.tcc_serial.proofs.Marks.CoreMarks.{solo-mark, solo-full, solo-skips, solo-owned}
-use Rattle.tcc_serial.proofs.OneCore.Said.{quiet}
-use Rattle.tcc_serial.proofs.OneCore.Outcomes.{Acts, Commits_now, Did, each-exec, out, each-evict, emptied}
+use Rattle.tcc_serial.proofs.OneCore.Said.{Wants, say}
+use Rattle.tcc_serial.proofs.OneCore.Outcomes.{Acts, Commits_now, Did, each-exec, out, each-evict, emptied, Ends_alone, Ends_run}
+use Rattle.tcc_serial.proofs.OneCore.Outcomes.{Room_wanted, after_end}
 use Rattle.tcc_serial.proofs.OneCore.CoreSteps.{steady-emptied}
 
 -- A core speaks only of its TID. While it keeps it, it has sent a Mark of each line that it has to; it marks a line once, only where
@@ -164,15 +166,12 @@ solo-opens : (u t : ℕ) (w : Bool) (q : Phase) → q ≡ Solo u → u ≡ t →
 unfolding opens
 solo-opens u t w q e h = rw e (grind (arith, nat_tests))
 
-marking-executed : (sh : Shape) (c d t l : ℕ) (s : CoreState) (o : Out) → Executed sh c s o → Marking sh d t l s o
+marking-alone : (sh : Shape) (d t l u : ℕ) (s : CoreState) (o : Out) (e : Outcome) → s.phase ≡ Solo u → o.core.phase ≡ phase_after e → o.sends ≡ solo_sends sh s.cache s.spilled u → Marking sh d t l s o
 unfolding has_tid has_marked marked_by
-marking-executed sh c d t l s o (Goes_on y) = marking-steady sh d t l s o y
-marking-executed sh c d t l s o (Overflows r ph ow cm ve di) = silent-none sh d t l s o (Overflowing None) ph refl (rw (di d) (unsaid-nothing t l))
-marking-executed sh c d t l s o (Asks_tid r ph ow cm ve di) = silent-none sh d t l s o AwaitTid ph refl (rw (di d) (unsaid-nothing t l))
-marking-executed sh c d t l s o (Alone u r q ph ow cm se) = record {
+marking-alone sh d t l u s o e q ph se = record {
   owned = λ x. own (rw se at x) (solo-owned sh s.cache s.spilled u d t);
   words = rw se (solo-full sh s.cache s.spilled u d);
-  kept = λ x. let y : has_tid o.core.phase t ≡ false = rw ph (tid-after r.ended t) in absurd (cc);
+  kept = λ x. let y : has_tid o.core.phase t ≡ false = rw ph (tid-after e t) in absurd (cc);
   once = rw (se, q) (omega (arith, solo-mark sh s.cache s.spilled u d t l, num-few (u == t)));
   opened = λ x. solo-opens u t (writes_at sh s.cache d) s.phase q (one (rw se at x) (cases_eq u t));
   skips = λ x. (own (skipped (rw se at x)) (solo-owned sh s.cache s.spilled u d t), rw (se, q) (omega (arith, solo-skips sh s.cache s.spilled u d t l (rw se at x))));
@@ -190,7 +189,7 @@ marking-executed sh c d t l s o (Alone u r q ph ow cm se) = record {
     one x (inr n) = let b : (u == t) ≡ false = grind (arith, nat_tests) in let z : num (u == t) ≡ 0 = ap num b in absurd (omega (arith, x, z, solo-mark sh s.cache s.spilled u d t l))
 
 pub marking-exec : (sh : Shape) (p : Program) (c d t l : ℕ) (s : CoreState) → IfSome (core_exec sh p c s) (λ o. Marking sh d t l s o)
-unfolding commit committed_core
+unfolding commit solo_commit committed_core has_tid
 marking-exec sh p c d t l s = each-exec sh p c s (λ o. Marking sh d t l s o) go
   where
     ready : (u : ℕ) → s.phase ≡ Ready u → Marking sh d t l s (commit sh c u s)
@@ -198,7 +197,10 @@ marking-exec sh p c d t l s = each-exec sh p c s (λ o. Marking sh d t l s o) go
 
     go : (x : Did sh p c s) → Marking sh d t l s (out x)
     go (Commits_now u e) = ready u e
-    go x = marking-executed sh c d t l s (out x) (did-executed x)
+    go (Room_wanted r i) = silent-none sh d t l s (moves (record s { phase = Overflowing None }) (say sh s Wants)) (Overflowing None) refl refl (unsaid-nothing t l)
+    go (Ends_run n e f r i) = silent-none sh d t l s (moves (record (after_end s n e) { phase = AwaitTid }) (say sh s Wants)) AwaitTid refl refl (unsaid-nothing t l)
+    go (Ends_alone u n e f r i) = marking-alone sh d t l u s (solo_commit sh c u (after_end s n e)) e r refl refl
+    go x = marking-steady sh d t l s (out x) (did-steady x)
 
 pub marking-evict : (sh : Shape) (x y d t l : ℕ) (s : CoreState) → IfSome (core_evict sh x y s) (λ o. Marking sh d t l s o)
 marking-evict sh x y d t l s = each-evict sh x y s (λ o. Marking sh d t l s o) (λ k q u z. marking-steady sh d t l s (emptied sh x y k s) (steady-emptied sh x y s k q u z))

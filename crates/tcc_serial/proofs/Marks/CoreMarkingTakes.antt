@@ -1,7 +1,7 @@
 -- What each message to a core does to its Marks, Skips and the words on its TID.
 use Rattle.tcc_serial.proofs.Names.{ℕ, ◌+◌, ◌≡◌, ◌<◌, ◌≤◌, Bool, true, false, not, List, [], ◌∷◌, ◌++◌, ◌==◌, ◌&&◌, Some, None, IfSome}
 use Rattle.tcc_serial.proofs.Names.{if◌then◌else◌, arith, refl, sym, ap, ◌∙◌, ◌⊎◌, inl, inr, cases_eq, nat_tests, put, num, any_below, Dir}
-use Rattle.tcc_serial.proofs.Names.{Msg, InvAck, ProbeReply, Fill, Mark, DataReq, Inv, Shape, home, lines, Cache, is_modified}
+use Rattle.tcc_serial.proofs.Names.{Msg, InvAck, ProbeReply, Fill, DataReq, Inv, Shape, home, lines, Cache, is_modified}
 use Rattle.tcc_serial.proofs.Names.{modified_mask, written_lines, writes_at, CoreState, Phase, Running, AwaitTid, DoomedTid, Probing, Ready}
 use Rattle.tcc_serial.proofs.Names.{Overflowing, Solo, to, marks_for, skip_all, abort_written, probe_all, Out, from_dir, all_replied}
 use Rattle.tcc_serial.proofs.Names.{probe_reply, fill, data_request, invalidate, ignored, grant, grant_phase, grant_sends, is_probed}

@@ -1,19 +1,21 @@
 -- The Marks that a core sends have as masks the words that it has modified, and these stay while it has its TID.
-use Rattle.tcc_serial.proofs.Names.{ℕ, ◌≡◌, ◌≤◌, Bool, true, false, List, [], ◌∷◌, ◌==◌, None, IfSome, if◌then◌else◌, arith, refl, ap, ◌⊎◌}
-use Rattle.tcc_serial.proofs.Names.{inl, inr, nat_tests, Program, num, word_at, mask_of, Dir, Msg, InvAck, ProbeReply, Fill, Mark, DataReq}
-use Rattle.tcc_serial.proofs.Names.{Inv, Shape, home, Cache, modified_mask, written_lines, CoreState, Phase, Running, AwaitTid, DoomedTid}
-use Rattle.tcc_serial.proofs.Names.{Overflowing, Link, to, marks_for, Out, commit, committed_core, phase_after, core_exec, core_evict}
-use Rattle.tcc_serial.proofs.Names.{from_dir, probe_reply, fill, data_request, invalidate, ignored, MarkOf, MarkMask, live, among, passes}
-use Rattle.tcc_serial.proofs.Names.{has_marked, marked_by, has_tid, kept}
+use Rattle.tcc_serial.proofs.Names.{ℕ, ◌≡◌, ◌≤◌, Bool, true, false, List, [], ◌∷◌, ◌==◌, None, IfSome, if◌then◌else◌, arith, refl, ap}
+use Rattle.tcc_serial.proofs.Names.{◌⊎◌, inl, inr, nat_tests, Program, num, word_at, mask_of, Dir, Msg, InvAck, ProbeReply, Fill, Mark}
+use Rattle.tcc_serial.proofs.Names.{DataReq, Inv, Shape, home, Cache, modified_mask, written_lines, CoreState, Phase, Running, AwaitTid}
+use Rattle.tcc_serial.proofs.Names.{DoomedTid, Overflowing, Link, to, marks_for, Out, commit, committed_core, phase_after, core_exec}
+use Rattle.tcc_serial.proofs.Names.{core_evict, from_dir, probe_reply, fill, data_request, invalidate, ignored, MarkOf, MarkMask, live}
+use Rattle.tcc_serial.proofs.Names.{among, passes, has_marked, marked_by, has_tid, moves, solo_commit}
 use Rattle.tcc_serial.proofs.Counts.Links.{among-flat_map_none, among-fewer, live-fewer}
 use Rattle.tcc_serial.proofs.Tids.CoreProbing.{tid-after}
-use Rattle.tcc_serial.proofs.OneCore.Executes.{Steady, Executed, Goes_on, Overflows, Asks_tid, Alone, did-executed}
+use Rattle.tcc_serial.proofs.OneCore.Executes.{Steady, did-steady}
 use Rattle.tcc_serial.proofs.OneCore.CoreSteps.{fill-steady, data-steady, ignored-steady, Hurt, Unhurt, Rolled, Doomed, Aborted, Gave_up}
 use Rattle.tcc_serial.proofs.OneCore.CoreSteps.{Invalidated, invalidate-cases, Replied, Ignored, Probed, Left_alone, reply-cases}
 use Rattle.tcc_serial.proofs.OneCore.CoreSteps.{steady-emptied}
 use Rattle.tcc_serial.proofs.Marks.CoreMarking.{Unsaid, unsaid-quiet, unsaid-nothing, unsaid-append, acked, idle}
 use Rattle.tcc_serial.proofs.Marks.CoreMarkingTakes.{unmarked}
-use Rattle.tcc_serial.proofs.OneCore.Outcomes.{Commits_now, Did, each-exec, out, each-evict, emptied}
+use Rattle.tcc_serial.proofs.OneCore.Outcomes.{Commits_now, Did, each-exec, out, each-evict, emptied, Ends_alone, Ends_run, Room_wanted}
+use Rattle.tcc_serial.proofs.OneCore.Outcomes.{after_end}
+use Rattle.tcc_serial.proofs.OneCore.Said.{Wants, say}
 
 -- While a core keeps its TID, what it marks has the mask of the line's modified words, and these stay where it has marked.
 pub record Masking (sh : Shape) (d t l : ℕ) (s : CoreState) (o : Out) : Type 0 where
@@ -66,20 +68,16 @@ masking-steady sh d t l s o y = quiet sh d t l s o (unsaid-quiet t l (o.sends (D
     go false e = inl (unmarked sh s d l e)
     go true e = inr (mask-same o.core.cache s.cache l (y.modified (idle s.phase e)))
 
-masking-executed : (sh : Shape) (c d t l : ℕ) (s : CoreState) (o : Out) → Executed sh c s o → Masking sh d t l s o
-unfolding has_tid
-masking-executed sh c d t l s o (Goes_on y) = masking-steady sh d t l s o y
-masking-executed sh c d t l s o (Overflows r ph ow cm ve di) = gone sh d t l s o (Overflowing None) ph refl
-masking-executed sh c d t l s o (Asks_tid r ph ow cm ve di) = gone sh d t l s o AwaitTid ph refl
-masking-executed sh c d t l s o (Alone u r q ph ow cm se) = gone sh d t l s o (phase_after r.ended) ph (tid-after r.ended t)
-
 pub masking-exec : (sh : Shape) (p : Program) (c d t l : ℕ) (s : CoreState) → IfSome (core_exec sh p c s) (λ o. Masking sh d t l s o)
-unfolding commit committed_core
+unfolding commit solo_commit committed_core has_tid
 masking-exec sh p c d t l s = each-exec sh p c s (λ o. Masking sh d t l s o) go
   where
     go : (x : Did sh p c s) → Masking sh d t l s (out x)
     go (Commits_now u e) = gone sh d t l s (commit sh c u s) (phase_after s.ended) refl (tid-after s.ended t)
-    go x = masking-executed sh c d t l s (out x) (did-executed x)
+    go (Room_wanted r i) = gone sh d t l s (moves (record s { phase = Overflowing None }) (say sh s Wants)) (Overflowing None) refl refl
+    go (Ends_run n e f r i) = gone sh d t l s (moves (record (after_end s n e) { phase = AwaitTid }) (say sh s Wants)) AwaitTid refl refl
+    go (Ends_alone u n e f r i) = gone sh d t l s (solo_commit sh c u (after_end s n e)) (phase_after e) refl (tid-after e t)
+    go x = masking-steady sh d t l s (out x) (did-steady x)
 
 pub masking-evict : (sh : Shape) (x y d t l : ℕ) (s : CoreState) → IfSome (core_evict sh x y s) (λ o. Masking sh d t l s o)
 masking-evict sh x y d t l s = each-evict sh x y s (λ o. Masking sh d t l s o) (λ k q u z. masking-steady sh d t l s (emptied sh x y k s) (steady-emptied sh x y s k q u z))

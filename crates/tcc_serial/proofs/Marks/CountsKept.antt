@@ -8,7 +8,7 @@ use Rattle.tcc_serial.proofs.Names.{None, IfSome, set, subst, cases_eq, Noted, P
 use Rattle.tcc_serial.proofs.Names.{Overflowing, start, dir_start, in_flight, Sends, core_exec, core_evict, from_dir, grant, Answer, Waits}
 use Rattle.tcc_serial.proofs.Names.{Drops, Asks, Takes, dir_deliver, core_moves, core_takes, dir_takes, dir_asks, step, Acks, KeptMarks}
 use Rattle.tcc_serial.proofs.Names.{KeptCounted, KeptCores, awaits_replies, KeptOwners, back_taken, after_grant, after_other_grant}
-use Rattle.tcc_serial.proofs.Names.{may_commit, Kept, KeptTold, answered, mark, marked, moved, next, settled, skip, taken}
+use Rattle.tcc_serial.proofs.Names.{may_commit, Kept, KeptTold, skip}
 use Rattle.tcc_serial.proofs.Serving.CoreCommits.{granted-free}
 use Rattle.tcc_serial.proofs.Counts.Links.{live-sends, total-same, total-plus, total-le, live-fewer, live-takes}
 use Rattle.tcc_serial.proofs.Counts.StepCases.{dir-own, dir-other, asks-own, pairs_move, pairs_grant, pairs_back, pairs_dir, pairs_asks}
@@ -24,8 +24,6 @@ use Rattle.tcc_serial.proofs.Serving.DirDue.{Due, DueBy, dir-due, still-due}
 use Rattle.tcc_serial.proofs.Serving.KeptSteps.{core_of_back, core_of_out, once_at, marks_home, acks_owed}
 use Rattle.tcc_serial.proofs.Tids.Commits.{granted-once}
 use Rattle.tcc_serial.proofs.Tids.TidSteps.{granted_waits, live-some}
-use Rattle.tcc_serial.proofs.OneCore.Said.{quiet}
-use Rattle.tcc_serial.proofs.OneCore.Outcomes.{out}
 
 -- How each kind of event keeps that a Commit counts its Marks, between a core and a directory.
 one-resolve : (t n : ℕ) (m : Msg) → num (passes (CommitOf t n) m) ≤ num (passes (Resolves t) m)

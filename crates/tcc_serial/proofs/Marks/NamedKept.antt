@@ -1,9 +1,9 @@
 -- Every event keeps that invalidations in flight name marked lines with their masks, once each.
 use Rattle.tcc_serial.proofs.Names.{ℕ, zero, suc, ◌+◌, ◌≡◌, ◌≤◌, Bool, true, false, List, [], ◌∷◌, ◌==◌, ◌&&◌, Some, None, IfSome, nat_lt}
 use Rattle.tcc_serial.proofs.Names.{if◌then◌else◌, flat_map, arith, refl, ◌⊎◌, inl, inr, cases_eq, nat_tests, flat_map-append, num, those}
-use Rattle.tcc_serial.proofs.Names.{Lines, has_mark, Core, Dir, Msg, Fill, ProbeReply, Mark, Commit, DataReq, Inv, InvAck, Shape, home}
+use Rattle.tcc_serial.proofs.Names.{Lines, has_mark, Core, Dir, Msg, Fill, ProbeReply, Mark, DataReq, Inv, InvAck, Shape, home}
 use Rattle.tcc_serial.proofs.Names.{lines, CoreState, DirState, Link, to, Out, from_dir, probe_reply, fill, data_request, invalidate}
-use Rattle.tcc_serial.proofs.Names.{Answer, Waits, Drops, Asks, Takes, dir_deliver, settled, invalidations, invs_to, is_invalidated, Invs}
+use Rattle.tcc_serial.proofs.Names.{Answer, Waits, Drops, Asks, Takes, dir_deliver, invalidations, invs_to, is_invalidated, Invs}
 use Rattle.tcc_serial.proofs.Names.{InvsAway, Acks, InvOf, InvMask, AckOf, Resolves, live, among, passes, ◌<◌, Option, set, sym, ap, subst}
 use Rattle.tcc_serial.proofs.Names.{◌∙◌, cases_lt, Program, Local, Event, World, start, in_flight, Sends, core_exec, core_evict, grant}
 use Rattle.tcc_serial.proofs.Names.{core_moves, core_takes, dir_takes, step, MarkOf, KeptCounted, NamedOf, KeptNamed, due, Pair, pair}

@@ -9,8 +9,8 @@ use Rattle.tcc_serial.proofs.Names.{StoredOf, opens, IfSome, set, sym, ap, subst
 use Rattle.tcc_serial.proofs.Names.{lines, World, start, dir_start, in_flight, Sends, core_exec, core_evict, from_dir, grant, Answer, Waits}
 use Rattle.tcc_serial.proofs.Names.{Drops, Asks, Takes, dir_deliver, core_moves, core_takes, dir_takes, dir_asks, step, CommitOf, Acks}
 use Rattle.tcc_serial.proofs.Names.{KeptCounted, KeptMarks, KeptMasks, KeptCores, KeptOwners, pair, back_taken, after_grant}
-use Rattle.tcc_serial.proofs.Names.{after_other_grant, KeptStored, Kept, KeptTold, answered, commit, mark, marked, moved, noted, settled}
-use Rattle.tcc_serial.proofs.Names.{skip, stored, taken}
+use Rattle.tcc_serial.proofs.Names.{after_other_grant, KeptStored, Kept, KeptTold}
+use Rattle.tcc_serial.proofs.Names.{skip}
 use Rattle.tcc_serial.proofs.Counts.Links.{live-sends, num-few, live-takes}
 use Rattle.tcc_serial.proofs.Counts.StepCases.{dir-own, dir-other, asks-own, pairs_move, pairs_grant, pairs_back, pairs_dir, pairs_asks}
 use Rattle.tcc_serial.proofs.Counts.StepCases.{pairs_vendor, OfAnswer, step_cases}
@@ -31,7 +31,6 @@ use Rattle.tcc_serial.proofs.Serving.CommitSteps.{ofs-resolve}
 use Rattle.tcc_serial.proofs.Serving.DirDue.{Due, DueBy, dir-due, still-due}
 use Rattle.tcc_serial.proofs.Serving.KeptSteps.{core_of_back, core_of_out, once_at, marks_home, acks_owed}
 use Rattle.tcc_serial.proofs.Tids.TidSteps.{granted_waits, live-some}
-use Rattle.tcc_serial.proofs.OneCore.Outcomes.{out}
 
 -- How each kind of event keeps, between a core and a directory, that a Commit in flight is of a commit that stored what was marked.
 

@@ -6,7 +6,7 @@ use Rattle.tcc_serial.proofs.Names.{home, lines, Cache, keeps, is_dirty, dirty_m
 use Rattle.tcc_serial.proofs.Names.{modified_mask, written_lines, Spilled, holds, spilled_mask, spilled_words, CoreState, Sends, nothing}
 use Rattle.tcc_serial.proofs.Names.{to, flush, flushed, written_back, marks_for, commit, solo_commit, solo_sends, solo_marks, solo_backs}
 use Rattle.tcc_serial.proofs.Names.{solo_writes_at, is_written, written_mask, core_exec, core_evict, grant, from_dir, LinesAway, NoWord}
-use Rattle.tcc_serial.proofs.Names.{among, passes, skip}
+use Rattle.tcc_serial.proofs.Names.{among, passes}
 use Rattle.tcc_rules.specs.Sends.{write_back}
 use Rattle.tcc_serial.proofs.Counts.Links.{among-append}
 use Rattle.tcc_serial.proofs.Serving.CoreDue.{among-those_none}

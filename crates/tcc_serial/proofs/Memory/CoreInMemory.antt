@@ -4,7 +4,6 @@ use Rattle.tcc_serial.proofs.Names.{IfSome, if◌then◌else◌, arith, refl, na
 use Rattle.tcc_serial.proofs.Names.{load_of, word_of, line_of, Shape, set_of, lines, Cache, free_way, marked, stored, placed, placed_at}
 use Rattle.tcc_serial.proofs.Names.{committed, words_dropped, CoreState, World, Out, noted, commit, committed_core, solo_commit, core_exec}
 use Rattle.tcc_serial.proofs.Names.{WordInMemory, NeedInMemory, StaysInMemory, FramesInMemory, AccessesInMemory, loads_word, stores_word}
-use Rattle.tcc_serial.proofs.Names.{loaded}
 use Rattle.tcc_program.specs.Ram.{part}
 use Rattle.tcc_serial.proofs.OneCore.UsedWords.{loads_word-append, stores_word-append}
 use Rattle.tcc_serial.proofs.OneCore.Outcomes.{AccessAt, Acting, Buffers, Commits_now, Did, Ends_alone, Finds, Frames, Frames_anew}

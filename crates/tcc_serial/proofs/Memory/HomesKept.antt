@@ -1,6 +1,6 @@
 -- Every event keeps that records and messages are at home.
 use Rattle.tcc_serial.proofs.Names.{ℕ, ◌%◌, ◌≡◌, ◌<◌, Bool, true, false, not, List, [], ◌∷◌, ◌++◌, ◌==◌, ◌&&◌, Option, Some, None, IfSome}
-use Rattle.tcc_serial.proofs.Names.{nat_lt, if◌then◌else◌, arith, refl, inl, inr, cases_eq, nat_tests, Program, Local, num, Lines, has_mark}
+use Rattle.tcc_serial.proofs.Names.{nat_lt, if◌then◌else◌, arith, refl, inl, inr, cases_eq, nat_tests, Program, Local, num, Lines}
 use Rattle.tcc_serial.proofs.Names.{no_lines, Core, Dir, Event, Msg, Fill, ProbeReply, DataReq, Inv, Shape, home, lines, DirState, World}
 use Rattle.tcc_serial.proofs.Names.{start, dir_start, in_flight, sent_all, Out, core_exec, core_evict, from_dir, grant, Sends, nothing, to}
 use Rattle.tcc_serial.proofs.Names.{Answer, Waits, Drops, Asks, Takes, dir_deliver, invalidations, is_invalidated, invs_to, line_words}

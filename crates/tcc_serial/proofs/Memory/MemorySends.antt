@@ -8,7 +8,7 @@ use Rattle.tcc_serial.proofs.Names.{flat_map, flat_map-append, Program, those, c
 use Rattle.tcc_serial.proofs.Names.{IsCache, is_dirty, dirty_mask, dirty_copy, dirty_words, dirty_tag, Spilled, holds, spilled_mask}
 use Rattle.tcc_serial.proofs.Names.{spilled_words, CoreState, Sends, nothing, flush, flushed, written_back, commit, solo_commit, solo_sends}
 use Rattle.tcc_serial.proofs.Names.{solo_marks, solo_backs, solo_writes_at, is_written, written_mask, core_exec, core_evict, grant}
-use Rattle.tcc_serial.proofs.Names.{from_dir, CopyOf, among, passes, FramesInMemory, loaded, stored}
+use Rattle.tcc_serial.proofs.Names.{from_dir, CopyOf, among, passes, FramesInMemory}
 use Rattle.tcc_rules.specs.Sends.{write_back}
 use Rattle.tcc_serial.proofs.Counts.Links.{among-append, among-flat_map_none}
 use Rattle.tcc_serial.proofs.Marks.StoredMasks.{stored-any, stored-line}

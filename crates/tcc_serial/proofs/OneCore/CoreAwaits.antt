@@ -2,7 +2,7 @@
 use Rattle.tcc_serial.proofs.Names.{ℕ, ◌+◌, ◌≡◌, ◌≤◌, Bool, true, false, List, [], ◌∷◌, ◌==◌, ◌&&◌, Option, Some, None, IfSome}
 use Rattle.tcc_serial.proofs.Names.{if◌then◌else◌, arith, refl, nat_tests, Program, word_of, num, line_of, Dir, Msg, LoadReq, Fill, Inv}
 use Rattle.tcc_serial.proofs.Names.{Shape, home, CoreState, Awaited, nothing, Out, moves, commit, committed_core, solo_commit, core_exec}
-use Rattle.tcc_serial.proofs.Names.{core_evict, is_awaited, grant, from_dir, staled, LoadOf, FillOf, among, passes, Fits}
+use Rattle.tcc_serial.proofs.Names.{core_evict, is_awaited, grant, from_dir, staled, LoadOf, FillOf, among, passes}
 use Rattle.tcc_serial.proofs.OneCore.Said.{Empties, Requests, Silent, quiet, say}
 use Rattle.tcc_serial.proofs.OneCore.Outcomes.{Did, Fills, Fills_none, Given_none, Granted, Heard, Hurt_alone, Hurt_probing, Hurt_running}
 use Rattle.tcc_serial.proofs.OneCore.Outcomes.{Hurt_waiting, Ignores_fill, Misses, Misses_anew, Hurt_none, awaiting, each-back, each-evict}

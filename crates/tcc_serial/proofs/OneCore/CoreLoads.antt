@@ -2,7 +2,7 @@
 use Rattle.tcc_serial.proofs.Names.{solo_commit, ℕ, ◌≡◌, Bool, true, false, ◌||◌, ◌==◌, [], ◌∷◌, ◌++◌, Some, IfSome, is_some, arith, refl}
 use Rattle.tcc_serial.proofs.Names.{◌∙◌, ◌⊎◌, inl, inr, nat_tests, Load, Program, load_of, word_of, line_of, Shape, Cache, is_marked}
 use Rattle.tcc_serial.proofs.Names.{marked, stored, placed, CoreState, Phase, Running, Solo, is_running, is_solo, commit, committed_core}
-use Rattle.tcc_serial.proofs.Names.{core_exec, core_evict, OneCore, loads_word, LoadsMarked, loaded}
+use Rattle.tcc_serial.proofs.Names.{core_exec, core_evict, OneCore, loads_word, LoadsMarked}
 use Rattle.tcc_program.specs.Ram.{part}
 use Rattle.tcc_serial.proofs.OneCore.CoreSteps.{evicted-modified}
 use Rattle.tcc_serial.proofs.OneCore.UsedWords.{loads_word-append}

@@ -2,15 +2,16 @@
 use Rattle.tcc_serial.proofs.Names.{ℕ, ◌≡◌, ◌<◌, ◌≤◌, Bool, true, false, ◌==◌, ◌&&◌, ◌||◌, Option, Some, None, IfSome, nat_lt}
 use Rattle.tcc_serial.proofs.Names.{if◌then◌else◌, arith, refl, sym, ap₂, ◌∙◌, nat_tests, put, Program, Outcome, HaltedWith, TrappedWith}
 use Rattle.tcc_serial.proofs.Names.{any_below, any_below-at, Msg, Fill, ProbeReply, DataReq, Inv, Shape, Cache, writes_at, reads_at}
-use Rattle.tcc_serial.proofs.Names.{CoreState, Phase, Running, AwaitTid, DoomedTid, Probing, Ready, Overflowing, Solo, Halted, Out, commit}
-use Rattle.tcc_serial.proofs.Names.{committed_core, phase_after, core_exec, core_evict, grant, grant_phase, from_dir, probing, is_probed}
-use Rattle.tcc_serial.proofs.Names.{probe_reply, all_replied, fill, data_request, invalidate, RepliesAbove, passes, tid_of, asks_dir}
-use Rattle.tcc_serial.proofs.Names.{may_commit, Reached, replied}
-use Rattle.tcc_serial.proofs.OneCore.Executes.{Steady, Executed, Goes_on, Overflows, Asks_tid, Alone, did-executed}
+use Rattle.tcc_serial.proofs.Names.{CoreState, Phase, Running, AwaitTid, DoomedTid, Probing, Ready, Overflowing, Solo, Halted, Out}
+use Rattle.tcc_serial.proofs.Names.{commit, committed_core, phase_after, core_exec, core_evict, grant, grant_phase, from_dir, probing}
+use Rattle.tcc_serial.proofs.Names.{is_probed, probe_reply, all_replied, fill, data_request, invalidate, RepliesAbove, passes, tid_of}
+use Rattle.tcc_serial.proofs.Names.{asks_dir, may_commit, Reached, solo_commit}
+use Rattle.tcc_serial.proofs.OneCore.Executes.{Steady, did-steady}
 use Rattle.tcc_serial.proofs.OneCore.CoreSteps.{reads_at-same, fill-steady, data-steady, Hurt, Unhurt, Rolled, Doomed, Aborted, Gave_up}
 use Rattle.tcc_serial.proofs.OneCore.CoreSteps.{Invalidated, invalidate-cases, Replied, Ignored, Probed, Left_alone, reply-cases}
 use Rattle.tcc_serial.proofs.OneCore.CoreSteps.{steady-emptied}
-use Rattle.tcc_serial.proofs.OneCore.Outcomes.{Acts, Commits_now, Did, each-exec, out, each-evict, emptied, writes_at-same}
+use Rattle.tcc_serial.proofs.OneCore.Outcomes.{Acts, Commits_now, Did, each-exec, out, each-evict, emptied, writes_at-same, Ends_alone}
+use Rattle.tcc_serial.proofs.OneCore.Outcomes.{Ends_run, Room_wanted}
 
 -- a core in this phase asks none
 pub none-asked : (sh : Shape) (d x : ℕ) (s : CoreState) (q : Phase) → s.phase ≡ q → ((b : Bool) → asks_dir q b ≡ false) → may_commit q ≡ false → Reached sh d x s
@@ -41,22 +42,19 @@ asked-after sh d x r (HaltedWith k) q = none-asked sh d x r Halted q (λ b. refl
 asked-after sh d x r (TrappedWith k) q = none-asked sh d x r Halted q (λ b. refl) refl
 asked-after sh d x r _ q = none-asked sh d x r Running q (λ b. refl) refl
 
-asked-executed : (sh : Shape) (c d x : ℕ) (s : CoreState) (o : Out) → Executed sh c s o → Reached sh d x s → Reached sh d x o.core
-asked-executed sh c d x s o (Goes_on y) h = asked-steady sh d x s o y h
-asked-executed sh c d x s o (Overflows r ph ow cm ve di) h = none-asked sh d x o.core (Overflowing None) ph (λ b. refl) refl
-asked-executed sh c d x s o (Asks_tid r ph ow cm ve di) h = none-asked sh d x o.core AwaitTid ph (λ b. refl) refl
-asked-executed sh c d x s o (Alone u r q ph ow cm se) h = asked-after sh d x o.core r.ended ph
-
 abbrev pub StaysReached : Shape → (dir serving : ℕ) → CoreState → Option Out → Type 0
 StaysReached sh d x s y = IfSome y (λ o. Reached sh d x o.core)
 
 pub asked-exec : (sh : Shape) (p : Program) (c d x : ℕ) (s : CoreState) → Reached sh d x s → StaysReached sh d x s (core_exec sh p c s)
-unfolding commit committed_core
+unfolding commit solo_commit committed_core
 asked-exec sh p c d x s h = each-exec sh p c s (λ o. Reached sh d x o.core) go
   where
     go : (y : Did sh p c s) → Reached sh d x (out y).core
     go (Commits_now u e) = asked-after sh d x _ s.ended refl
-    go y = asked-executed sh c d x s (out y) (did-executed y) h
+    go (Room_wanted r i) = none-asked sh d x _ (Overflowing None) refl (λ b. refl) refl
+    go (Ends_run l e f r i) = none-asked sh d x _ AwaitTid refl (λ b. refl) refl
+    go (Ends_alone u l e f r i) = asked-after sh d x _ e refl
+    go y = asked-steady sh d x s (out y) (did-steady y) h
 
 pub asked-evict : (sh : Shape) (x' y d x : ℕ) (s : CoreState) → Reached sh d x s → StaysReached sh d x s (core_evict sh x' y s)
 asked-evict sh x' y d x s h = each-evict sh x' y s (λ o. Reached sh d x o.core) (λ k q u z. asked-steady sh d x s (emptied sh x' y k s) (steady-emptied sh x' y s k q u z) h)

@@ -1,14 +1,14 @@
 -- What a core's rules leave alone: evictions, fills, data requests, invalidations.
 use Rattle.tcc_serial.proofs.Names.{ℕ, ◌+◌, ◌≡◌, ◌*◌, ◌%◌, Bool, true, false, List, [], ◌∷◌, ◌++◌, ◌==◌, ◌&&◌, ◌||◌, Some, None, IfSome}
-use Rattle.tcc_serial.proofs.Names.{if◌then◌else◌, arith, refl, sym, ap, ◌⊎◌, inl, inr, nat_tests, put, any_word, any_below, line_of, Node}
-use Rattle.tcc_serial.proofs.Names.{Dir, Vendor, InvAck, Shape, home, lines, Cache, reads_at, is_marked, keeps, evicted, evicted_line}
-use Rattle.tcc_serial.proofs.Names.{filled, cleaned, invalidated, read_cleared, any_below-at, CoreState, Awaited, Phase, Running, AwaitTid}
-use Rattle.tcc_serial.proofs.Names.{DoomedTid, Probing, Ready, Overflowing, Solo, Sends, nothing, to, flushed, written_back, abort_written}
-use Rattle.tcc_serial.proofs.Names.{skip_all, marks_for, Out, moves, is_solo, core_evict, is_awaited, ignored, fill, fill_awaited}
-use Rattle.tcc_serial.proofs.Names.{data_request, invalidate, probe_reply, all_replied, Protocol, among, passes, commit, kept, marked}
-use Rattle.tcc_serial.proofs.Names.{unmarked, Inv, Msg, ProbeReply}
-use Rattle.tcc_serial.proofs.OneCore.Executes.{Steady, flushed-quiet}
-use Rattle.tcc_serial.proofs.OneCore.Said.{quiet, Empties, Aborts_all, Said, Silent, Skips_all, say}
+use Rattle.tcc_serial.proofs.Names.{if◌then◌else◌, arith, refl, sym, ap, ◌⊎◌, inl, inr, nat_tests, put, any_word, any_below, line_of}
+use Rattle.tcc_serial.proofs.Names.{Node, Dir, Vendor, InvAck, Shape, home, lines, Cache, reads_at, is_marked, keeps, evicted}
+use Rattle.tcc_serial.proofs.Names.{evicted_line, filled, cleaned, invalidated, read_cleared, any_below-at, CoreState, Awaited, Phase}
+use Rattle.tcc_serial.proofs.Names.{Running, AwaitTid, DoomedTid, Probing, Ready, Overflowing, Solo, Sends, nothing, to, flushed}
+use Rattle.tcc_serial.proofs.Names.{written_back, abort_written, skip_all, marks_for, Out, moves, is_solo, core_evict, is_awaited}
+use Rattle.tcc_serial.proofs.Names.{ignored, fill, fill_awaited, data_request, invalidate, probe_reply, all_replied, Protocol, among}
+use Rattle.tcc_serial.proofs.Names.{passes, Inv, Msg, ProbeReply}
+use Rattle.tcc_serial.proofs.OneCore.Executes.{Steady}
+use Rattle.tcc_serial.proofs.OneCore.Said.{quiet, Empties, Aborts_all, Said, Silent, Skips_all, say, Flushes}
 use Rattle.tcc_serial.proofs.OneCore.Outcomes.{Acts, acked, each-evict, emptied, Heard, Hurt_alone, Hurt_none, Hurt_probing, Hurt_running}
 use Rattle.tcc_serial.proofs.OneCore.Outcomes.{Hurt_waiting, Ignores_reply, Last_probing, Last_room, Reply_probing, Reply_room, each-back}
 use Rattle.tcc_serial.proofs.OneCore.Outcomes.{heard, message}
@@ -85,8 +85,8 @@ fill-steady l ws s = elim s.awaited as (λ a. Steady s (fill_awaited l ws s a)) 
     one a true = record { phase = refl; owing = refl; commit = refl; vendor = refl; quiet = λ d. refl; modified = λ h v. (cached a.stale v).0; read = λ h v. (cached a.stale v).1 }
 
 pub data-steady : (sh : Shape) (l : ℕ) (s : CoreState) → Steady s (data_request sh l s)
-unfolding data_request cleaned flushed
-data-steady sh l s = record { phase = refl; owing = refl; commit = refl; vendor = refl; quiet = λ d. flushed-quiet sh s.cache l d; modified = λ h v. refl; read = λ h v. refl }
+unfolding data_request cleaned flushed passes
+data-steady sh l s = record { phase = refl; owing = refl; commit = refl; vendor = refl; quiet = λ d. quiet sh s Protocol (Flushes l) (λ y. refl) d; modified = λ h v. refl; read = λ h v. refl }
 
 -- what an invalidation comes to, apart from the words that it makes invalid
 pub data Hurt (sh : Shape) (s r : CoreState) (sends : Sends) : Type 0 where

@@ -15,7 +15,7 @@ use Rattle.tcc_serial.proofs.Names.{change_valid, change_spilled, partial_store,
 use Rattle.tcc_serial.proofs.Names.{unless_awaiting, core_evict, evict_line, is_awaited, grant, grant_phase, is_probed, probing, from_dir}
 use Rattle.tcc_serial.proofs.Names.{probe_reply, reply_phase, replied, all_replied, when_ready, when_alone, ignored, fill, fill_awaited}
 use Rattle.tcc_serial.proofs.Names.{data_request, invalidate, acknowledged, if_violated, violated_in, is_violated, without, staled, rests}
-use Rattle.tcc_serial.proofs.Names.{waits_for_tid, executes, full, kept, loaded, uses, ◌⊎◌, TrappedWith}
+use Rattle.tcc_serial.proofs.Names.{waits_for_tid, ◌⊎◌, TrappedWith}
 use Rattle.tcc_program.specs.Program.{unreserved}
 use Rattle.tcc_program.specs.Ram.{part}
 use Rattle.tcc_rules.specs.Sends.{then_send}

@@ -5,7 +5,7 @@ use Rattle.tcc_serial.proofs.Names.{Skip, Probe, Mark, Commit, Abort, WriteBack,
 use Rattle.tcc_serial.proofs.Names.{modified_mask, written_lines, writes_at, reads_at, dirty_copy, holds, spilled_mask, spilled_words}
 use Rattle.tcc_serial.proofs.Names.{CoreState, Sends, nothing, to, flush, flushed, written_back, skip_all, probe_all, abort_written}
 use Rattle.tcc_serial.proofs.Names.{marks_for, commit_sends, solo_sends, solo_marks, solo_backs, solo_writes_at, is_written, written_mask}
-use Rattle.tcc_serial.proofs.Names.{grant_sends, Kind, among, passes, mark}
+use Rattle.tcc_serial.proofs.Names.{grant_sends, Kind, among, passes}
 use Rattle.tcc_rules.specs.Sends.{write_back}
 use Rattle.tcc_serial.proofs.Counts.Links.{among-append, among-flat_map_none}
 

@@ -1,7 +1,7 @@
 -- A core sends a Commit only to directories that have reached its TID.
 use Rattle.tcc_serial.proofs.Names.{ℕ, ◌≡◌, ◌<◌, ◌≤◌, true, false, List, IfSome, nat_lt, arith, refl, nat_tests, Program, num, Dir, Msg}
 use Rattle.tcc_serial.proofs.Names.{Shape, Cache, writes_at, CoreState, Ready, Link, Out, commit, commit_sends, solo_sends, core_exec}
-use Rattle.tcc_serial.proofs.Names.{core_evict, grant, from_dir, CommitsAbove, AnyCommit, among, live, passes, Reached, replied, cases_lt}
+use Rattle.tcc_serial.proofs.Names.{core_evict, grant, from_dir, CommitsAbove, AnyCommit, among, live, passes, Reached, cases_lt}
 use Rattle.tcc_serial.proofs.Names.{inl, inr, solo_commit, ◌⊎◌}
 use Rattle.tcc_serial.proofs.Counts.Links.{among-fewer, live-fewer}
 use Rattle.tcc_serial.proofs.OneCore.Said.{quiet, Empties, Flushes, Silent, Tells_alone, say}

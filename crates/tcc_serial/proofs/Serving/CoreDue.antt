@@ -4,17 +4,16 @@ use Rattle.tcc_serial.proofs.Names.{cond, if◌then◌else◌, flat_map, arith, 
 use Rattle.tcc_serial.proofs.Names.{count_below, Dir, Msg, Fill, Skip, ProbeReply, Mark, Commit, WriteBack, DataReq, Inv, InvAck, Shape}
 use Rattle.tcc_serial.proofs.Names.{home, lines, Cache, is_modified, modified_mask, written_lines, Spilled, holds, spilled_mask}
 use Rattle.tcc_serial.proofs.Names.{spilled_words, CoreState, Phase, AwaitTid, DoomedTid, Overflowing, Sends, to, marks_for, skip_all}
-use Rattle.tcc_serial.proofs.Names.{probe_all, abort_written, Out, commit, commit_sends, solo_sends, solo_marks, solo_backs, solo_writes_at}
-use Rattle.tcc_serial.proofs.Names.{is_written, written_mask, core_exec, core_evict, grant, grant_phase, grant_sends, from_dir, probe_reply}
-use Rattle.tcc_serial.proofs.Names.{ignored, fill, data_request, invalidate, Kind, Acks, MarksAway, AnyResolve, Protocol, among, passes}
-use Rattle.tcc_serial.proofs.Names.{kept}
+use Rattle.tcc_serial.proofs.Names.{probe_all, abort_written, Out, commit, commit_sends, solo_sends, solo_marks, solo_backs}
+use Rattle.tcc_serial.proofs.Names.{solo_writes_at, is_written, written_mask, core_exec, core_evict, grant, grant_phase, grant_sends}
+use Rattle.tcc_serial.proofs.Names.{from_dir, probe_reply, ignored, fill, data_request, invalidate, Kind, Acks, MarksAway, AnyResolve}
+use Rattle.tcc_serial.proofs.Names.{Protocol, among, passes, solo_commit}
 use Rattle.tcc_serial.proofs.Counts.Links.{among-append, among-flat_map_none}
-use Rattle.tcc_serial.proofs.OneCore.Executes.{Steady, Executed, Goes_on, Overflows, Asks_tid, Alone, did-executed}
+use Rattle.tcc_serial.proofs.OneCore.Executes.{Steady, did-steady}
 use Rattle.tcc_serial.proofs.OneCore.CoreSteps.{ignored-steady, fill-steady, data-steady, Hurt, Unhurt, Rolled, Doomed, Aborted, Gave_up}
 use Rattle.tcc_serial.proofs.OneCore.CoreSteps.{Invalidated, invalidate-cases, Replied, Ignored, Probed, Left_alone, reply-cases}
 use Rattle.tcc_serial.proofs.OneCore.CoreSteps.{steady-emptied}
-use Rattle.tcc_serial.proofs.OneCore.Said.{quiet}
-use Rattle.tcc_serial.proofs.OneCore.Outcomes.{Commits_now, Did, each-exec, out, each-evict, emptied}
+use Rattle.tcc_serial.proofs.OneCore.Outcomes.{Commits_now, Did, each-exec, out, each-evict, emptied, Ends_alone, Ends_run, Room_wanted}
 
 -- no acknowledgement, no mark of a line that is at home elsewhere, and no word on a TID to a directory that the machine
 -- doesn't have
@@ -119,19 +118,16 @@ clean-none sh d = record { acks = refl; marks = refl; far = λ x. refl }
 pub clean-steady : (sh : Shape) (s : CoreState) (o : Out) → Steady s o → CleanOut sh o
 clean-steady sh s o y d = clean-quiet sh d (o.sends (Dir d)) (y.quiet d)
 
-clean-executed : (sh : Shape) (c : ℕ) (s : CoreState) (o : Out) → Executed sh c s o → CleanOut sh o
-clean-executed sh c s o (Goes_on y) = clean-steady sh s o y
-clean-executed sh c s o (Overflows r ph ow cm ve di) = λ d. rw (di d) (clean-none sh d)
-clean-executed sh c s o (Asks_tid r ph ow cm ve di) = λ d. rw (di d) (clean-none sh d)
-clean-executed sh c s o (Alone u r q ph ow cm se) = λ d. rw se (clean-solo sh s.cache s.spilled u d)
-
 pub clean-exec : (sh : Shape) (p : Program) (c : ℕ) (s : CoreState) → IfSome (core_exec sh p c s) (λ o. CleanOut sh o)
-unfolding commit
+unfolding commit solo_commit
 clean-exec sh p c s = each-exec sh p c s (λ o. CleanOut sh o) go
   where
     go : (x : Did sh p c s) → CleanOut sh (out x)
     go (Commits_now u e) = λ d. clean-commit sh s.cache u d
-    go x = clean-executed sh c s (out x) (did-executed x)
+    go (Room_wanted r i) = λ d. clean-none sh d
+    go (Ends_run l e f r i) = λ d. clean-none sh d
+    go (Ends_alone u l e f r i) = λ d. clean-solo sh s.cache s.spilled u d
+    go x = clean-steady sh s (out x) (did-steady x)
 
 pub clean-evict : (sh : Shape) (x y : ℕ) (s : CoreState) → IfSome (core_evict sh x y s) (λ o. CleanOut sh o)
 clean-evict sh x y s = each-evict sh x y s (λ o. CleanOut sh o) (λ k q u z. clean-steady sh s (emptied sh x y k s) (steady-emptied sh x y s k q u z))

@@ -1,8 +1,7 @@
 -- A directory sends invalidations only where it takes the Commit of the served TID, and none to the core that commits.
 use Rattle.tcc_serial.proofs.Names.{ℕ, ◌≡◌, Bool, true, false, not, ◌==◌, ◌&&◌, nat_lt, arith, refl, ◌⊎◌, inl, inr, nat_tests, Lines}
 use Rattle.tcc_serial.proofs.Names.{has_mark, Core, Msg, Fill, ProbeReply, DataReq, Shape, lines, DirState, Sends, Answer, Asks, Takes}
-use Rattle.tcc_serial.proofs.Names.{dir_deliver, invalidations, invs_to, is_invalidated, line_words, Invs, Commits, among, passes, Commit}
-use Rattle.tcc_serial.proofs.Names.{to}
+use Rattle.tcc_serial.proofs.Names.{dir_deliver, invalidations, invs_to, is_invalidated, line_words, Invs, Commits, among, passes}
 use Rattle.tcc_serial.proofs.Counts.DirOutcome.{Outcome, Waiting, Spent, AsksOwner, TakesProbe, TakesLoad, TakesCommit, outcome, among-none}
 use Rattle.tcc_serial.proofs.Counts.DirOutcome.{none-to}
 use Rattle.tcc_serial.proofs.Counts.Links.{those-none}

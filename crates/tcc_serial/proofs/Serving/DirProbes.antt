@@ -1,7 +1,7 @@
 -- The served TID only rises, and a directory replies to a probe once it has reached its TID.
 use Rattle.tcc_serial.proofs.Names.{ℕ, ◌≡◌, ◌≤◌, Bool, true, false, [], if◌then◌else◌, arith, refl, nat_tests, num, advance, kept}
 use Rattle.tcc_serial.proofs.Names.{advance-rises, Core, Msg, Fill, ProbeReply, DataReq, Shape, DirState, Link, Sends, nothing, Answer}
-use Rattle.tcc_serial.proofs.Names.{Asks, Takes, dir_deliver, line_words, RepliesAbove, among, live, passes, Serving, lines, to}
+use Rattle.tcc_serial.proofs.Names.{Asks, Takes, dir_deliver, line_words, RepliesAbove, among, live, passes, Serving}
 use Rattle.tcc_serial.proofs.Counts.DirOutcome.{Outcome, AsksOwner, TakesSkip, TakesAbort, TakesProbe, TakesLoad, TakesMark, TakesCommit}
 use Rattle.tcc_serial.proofs.Counts.DirOutcome.{TakesAck, TakesCopy, outcome, among-none, none-to, none-invalidations}
 use Rattle.tcc_serial.proofs.Counts.Links.{live-fewer}

@@ -1,7 +1,6 @@
 -- A directory replies to a probe where it takes it, and to nothing else.
 use Rattle.tcc_serial.proofs.Names.{ℕ, ◌≡◌, false, [], refl, num, Core, Msg, LoadReq, Fill, ProbeReply, DataReq, Shape, DirState, Sends}
 use Rattle.tcc_serial.proofs.Names.{nothing, Answer, Waits, Drops, Asks, Takes, dir_deliver, line_words, Probes, Replies, among, passes}
-use Rattle.tcc_serial.proofs.Names.{lines, to, probe}
 use Rattle.tcc_serial.proofs.Counts.DirOutcome.{Outcome, Waiting, Spent, AsksOwner, TakesProbe, TakesLoad, TakesCommit, TakesCopy, IsSpent}
 use Rattle.tcc_serial.proofs.Counts.DirOutcome.{CopyPassed, outcome, among-to, among-none, none-to, none-invalidations}
 use Rattle.tcc_serial.proofs.Counts.StepCases.{same, differ}

@@ -2,18 +2,20 @@
 use Rattle.tcc_serial.proofs.Names.{ℕ, ◌≡◌, ◌<◌, ◌==◌, ◌&&◌, ◌||◌, Bool, true, false, Option, Some, None, IfSome, nat_lt, if◌then◌else◌}
 use Rattle.tcc_serial.proofs.Names.{arith, refl, ap₂, nat_tests, Program, Local, Outcome, Goes, any_below, Dir, Event, Msg, Fill}
 use Rattle.tcc_serial.proofs.Names.{ProbeReply, DataReq, Inv, Shape, writes_at, reads_at, any_below-at, CoreState, World, Phase, Running}
-use Rattle.tcc_serial.proofs.Names.{AwaitTid, DoomedTid, Probing, Ready, Overflowing, Solo, start, core_start, Out, commit, committed_core}
-use Rattle.tcc_serial.proofs.Names.{phase_after, core_exec, core_evict, from_dir, grant, grant_phase, is_probed, probing, all_replied, fill}
-use Rattle.tcc_serial.proofs.Names.{data_request, invalidate, probe_reply, Answer, Waits, dir_deliver, core_moves, core_takes, dir_takes}
-use Rattle.tcc_serial.proofs.Names.{dir_asks, vendor_gives, step, OwingFits, awaits_replies, asks_dir, answered, moved, taken}
+use Rattle.tcc_serial.proofs.Names.{AwaitTid, DoomedTid, Probing, Ready, Overflowing, Solo, start, core_start, Out, commit}
+use Rattle.tcc_serial.proofs.Names.{committed_core, phase_after, core_exec, core_evict, from_dir, grant, grant_phase, is_probed, probing}
+use Rattle.tcc_serial.proofs.Names.{all_replied, fill, data_request, invalidate, probe_reply, Answer, Waits, dir_deliver, core_moves}
+use Rattle.tcc_serial.proofs.Names.{core_takes, dir_takes, dir_asks, vendor_gives, step, OwingFits, awaits_replies, asks_dir}
+use Rattle.tcc_serial.proofs.Names.{solo_commit}
 use Rattle.tcc_maps.specs.Words.{put}
 use Rattle.tcc_serial.proofs.OneCore.CoreProbes.{none-below, all-replied}
 use Rattle.tcc_serial.proofs.OneCore.CoreSteps.{reads_at-same, fill-steady, data-steady, Hurt, Unhurt, Rolled, Doomed, Aborted, Gave_up}
 use Rattle.tcc_serial.proofs.OneCore.CoreSteps.{Invalidated, invalidate-cases, Replied, Ignored, Probed, Left_alone, reply-cases}
 use Rattle.tcc_serial.proofs.OneCore.CoreSteps.{steady-emptied}
-use Rattle.tcc_serial.proofs.OneCore.Executes.{Steady, Executed, Goes_on, Overflows, Asks_tid, Alone, did-executed}
+use Rattle.tcc_serial.proofs.OneCore.Executes.{Steady, did-steady}
 use Rattle.tcc_serial.proofs.Counts.StepCases.{OfAnswer, step_cases}
-use Rattle.tcc_serial.proofs.OneCore.Outcomes.{Acts, Commits_now, Did, each-exec, out, each-evict, emptied, writes_at-same}
+use Rattle.tcc_serial.proofs.OneCore.Outcomes.{Acts, Commits_now, Did, each-exec, out, each-evict, emptied, writes_at-same, Ends_alone}
+use Rattle.tcc_serial.proofs.OneCore.Outcomes.{Ends_run, Room_wanted}
 
 abbrev pub KeptOwing : Shape → World → Type 0
 KeptOwing sh w = (c : ℕ) → OwingFits sh (w.cores c)
@@ -52,19 +54,16 @@ after-none : (e : Outcome) → awaits_replies (phase_after e) ≡ false
 after-none Goes = refl
 after-none _ = refl
 
-executed-owing : (sh : Shape) (c : ℕ) (s : CoreState) (o : Out) → Executed sh c s o → OwingFits sh s → OwingFits sh o.core
-executed-owing sh c s o (Goes_on y) h = steady-owing sh s o y h
-executed-owing sh c s o (Overflows ph ph' ow cm ve se) h = still-none sh s o.core Running (Overflowing None) ph refl ph' refl ow h
-executed-owing sh c s o (Asks_tid ph ph' ow cm ve se) h = still-none sh s o.core Running AwaitTid ph refl ph' refl ow h
-executed-owing sh c s o (Alone t r ph ph' ow cm se) h = still-none sh s o.core (Solo t) (phase_after r.ended) ph refl ph' (after-none r.ended) ow h
-
 owing-exec : (sh : Shape) (p : Program) (c : ℕ) (s : CoreState) → OwingFits sh s → IfSome (core_exec sh p c s) (λ o. OwingFits sh o.core)
-unfolding commit committed_core
+unfolding commit solo_commit committed_core
 owing-exec sh p c s h = each-exec sh p c s (λ o. OwingFits sh o.core) go
   where
     go : (x : Did sh p c s) → OwingFits sh (out x).core
     go (Commits_now t e) = still-none sh s (commit sh c t s).core (Ready t) (phase_after s.ended) e refl refl (after-none s.ended) refl h
-    go x = executed-owing sh c s (out x) (did-executed x) h
+    go (Room_wanted r i) = still-none sh s _ Running (Overflowing None) r refl refl refl refl h
+    go (Ends_run l e f r i) = still-none sh s _ Running AwaitTid r refl refl refl refl h
+    go (Ends_alone t l e f r i) = still-none sh s _ (Solo t) (phase_after e) r refl refl (after-none e) refl h
+    go x = steady-owing sh s (out x) (did-steady x) h
 
 owing-evict : (sh : Shape) (x y : ℕ) (s : CoreState) → OwingFits sh s → IfSome (core_evict sh x y s) (λ o. OwingFits sh o.core)
 owing-evict sh x y s h = each-evict sh x y s (λ o. OwingFits sh o.core) (λ k q u z. steady-owing sh s (emptied sh x y k s) (steady-emptied sh x y s k q u z) h)

@@ -4,16 +4,16 @@ use Rattle.tcc_serial.proofs.Names.{arith, refl, ap, ◌⊎◌, inl, inr, Progra
 use Rattle.tcc_serial.proofs.Names.{DataReq, Inv, InvAck, Shape, home, writes_at, CoreState, Phase, Running, AwaitTid, DoomedTid, Probing}
 use Rattle.tcc_serial.proofs.Names.{Ready, Overflowing, Solo, Halted, Sends, to, marks_for, Out, commit, committed_core, phase_after}
 use Rattle.tcc_serial.proofs.Names.{core_exec, core_evict, grant, grant_phase, from_dir, probing, is_probed, probe_reply, ignored}
-use Rattle.tcc_serial.proofs.Names.{all_replied, fill, data_request, invalidate, Resolves, among, passes, opens, waits_for_tid, kept, put}
-use Rattle.tcc_serial.proofs.Names.{nat_tests}
+use Rattle.tcc_serial.proofs.Names.{all_replied, fill, data_request, invalidate, Resolves, among, passes, opens, waits_for_tid, put}
+use Rattle.tcc_serial.proofs.Names.{nat_tests, solo_commit}
 use Rattle.tcc_serial.proofs.Counts.Links.{among-append, resolves-commit_sends, resolves-abort_written, resolves-skip_all}
 use Rattle.tcc_serial.proofs.Counts.Links.{resolves-probe_all, resolves-grant_sends, resolves-marks_for, resolves-solo_sends, among-quiet}
-use Rattle.tcc_serial.proofs.OneCore.Executes.{Steady, Executed, Goes_on, Overflows, Asks_tid, Alone, did-executed}
+use Rattle.tcc_serial.proofs.OneCore.Executes.{Steady, did-steady}
 use Rattle.tcc_serial.proofs.OneCore.CoreSteps.{ignored-steady, fill-steady, data-steady, Hurt, Unhurt, Rolled, Doomed, Aborted, Gave_up}
 use Rattle.tcc_serial.proofs.OneCore.CoreSteps.{Invalidated, invalidate-cases, steady-emptied, Ignored, Left_alone, Probed, Replied}
 use Rattle.tcc_serial.proofs.OneCore.CoreSteps.{reply-cases}
-use Rattle.tcc_serial.proofs.OneCore.Said.{quiet}
-use Rattle.tcc_serial.proofs.OneCore.Outcomes.{Acts, Commits_now, Did, each-exec, out, each-evict, emptied, writes_at-same}
+use Rattle.tcc_serial.proofs.OneCore.Outcomes.{Acts, Commits_now, Did, each-exec, out, each-evict, emptied, writes_at-same, Ends_alone}
+use Rattle.tcc_serial.proofs.OneCore.Outcomes.{Ends_run, Room_wanted}
 
 -- a core's step with `got` of the TID taken from the vendor's link keeps its part of it
 abbrev pub KeepsPart : Shape → (dir tid got : ℕ) → CoreState → Out → Type 0
@@ -45,23 +45,20 @@ opens-after _ a t = refl
 part-steady : (sh : Shape) (d t : ℕ) (s : CoreState) (o : Out) → Steady s o → KeepsPart sh d t 0 s o
 part-steady sh d t s o y = rw (y.phase, opens-acts s.phase (writes_at sh o.core.cache d) (writes_at sh s.cache d) t (acts s.phase) (λ h. writes_at-same sh o.core.cache s.cache d (y.modified h))) (omega (arith, among-quiet t (o.sends (Dir d)), y.quiet d))
 
-part-executed : (sh : Shape) (c d t : ℕ) (s : CoreState) (o : Out) → d < sh.dirs → Executed sh c s o → KeepsPart sh d t 0 s o
-unfolding among opens
-part-executed sh c d t s o l (Goes_on y) = part-steady sh d t s o y
-part-executed sh c d t s o l (Overflows r ph ow cm ve di) = rw (r, ph, di d) refl
-part-executed sh c d t s o l (Asks_tid r ph ow cm ve di) = rw (r, ph, di d) refl
-part-executed sh c d t s o l (Alone u r q ph ow cm se) = rw (q, ph, se) (rw (opens-after r.ended (writes_at sh o.core.cache d) t) (omega (arith, resolves-solo_sends sh s.cache s.spilled u d t l)))
-
 part-committed : (sh : Shape) (id u d t : ℕ) (s : CoreState) → d < sh.dirs → s.phase ≡ Ready u → KeepsPart sh d t 0 s (commit sh id u s)
 unfolding opens commit committed_core
 part-committed sh id u d t s l e = rw e (rw (opens-after s.ended _ t) (omega (arith, resolves-commit_sends sh s.cache u d t l)))
 
 pub part-exec : (sh : Shape) (p : Program) (c d t : ℕ) (s : CoreState) → d < sh.dirs → IfSome (core_exec sh p c s) (λ o. KeepsPart sh d t 0 s o)
+unfolding opens among solo_commit committed_core
 part-exec sh p c d t s l = each-exec sh p c s (λ o. KeepsPart sh d t 0 s o) go
   where
     go : (x : Did sh p c s) → KeepsPart sh d t 0 s (out x)
     go (Commits_now u e) = part-committed sh c u d t s l e
-    go x = part-executed sh c d t s (out x) l (did-executed x)
+    go (Room_wanted r i) = rw r refl
+    go (Ends_run n e f r i) = rw r refl
+    go (Ends_alone u n e f r i) = rw r (rw (opens-after e _ t) (omega (arith, resolves-solo_sends sh s.cache s.spilled u d t l)))
+    go x = part-steady sh d t s (out x) (did-steady x)
 
 pub part-evict : (sh : Shape) (x y d t : ℕ) (s : CoreState) → IfSome (core_evict sh x y s) (λ o. KeepsPart sh d t 0 s o)
 part-evict sh x y d t s = each-evict sh x y s (λ o. KeepsPart sh d t 0 s o) (λ k q u z. part-steady sh d t s (emptied sh x y k s) (steady-emptied sh x y s k q u z))

@@ -6,7 +6,7 @@ use Rattle.tcc_serial.proofs.Names.{nat_tests, Noted, Program, line_of, place_of
 use Rattle.tcc_serial.proofs.Names.{Commit, WriteBack, Shape, home, lines, Cache, IsCache, committed, words_dropped, Spilled, holds}
 use Rattle.tcc_serial.proofs.Names.{spilled_mask, spilled_words, has-mask_of, CoreState, Out, is_solo, noted, committed_core, commit}
 use Rattle.tcc_serial.proofs.Names.{solo_sends, solo_marks, solo_backs, solo_writes_at, is_written, written_mask, core_exec, Kind, CopyWord}
-use Rattle.tcc_serial.proofs.Names.{CopyNot, among, passes, framed, mark, skip}
+use Rattle.tcc_serial.proofs.Names.{CopyNot, among, passes, mark, skip}
 use Rattle.tcc_serial.proofs.Copies.CopySends.{commit-copies}
 use Rattle.tcc_serial.proofs.Counts.Links.{among-append, among-flat_map_none}
 use Rattle.tcc_serial.proofs.Values.WordCopies.{among-words, among-others, at-place, get-eight}

@@ -3,7 +3,7 @@
 use Rattle.tcc_serial.proofs.Names.{ℕ, ◌≡◌, ◌≤◌, ◌⊎◌, Bool, true, false, ◌==◌, ◌&&◌, List, Option, Some, None, set, get_or, arith, refl}
 use Rattle.tcc_serial.proofs.Names.{inl, inr, nat_tests, num, line_of, place_of, hit, Msg, Fill, Inv, Shape, home, Awaited, Out, staled}
 use Rattle.tcc_serial.proofs.Names.{is_awaited, LoadingOf, FillOf, FillNot, InvWord, live, passes, Pair, after_move, back_taken, is_stale}
-use Rattle.tcc_serial.proofs.Names.{hit-line, filled, framed, kept, rests}
+use Rattle.tcc_serial.proofs.Names.{hit-line}
 use Rattle.tcc_serial.proofs.Counts.Links.{live-takes}
 use Rattle.tcc_serial.proofs.Tids.TidSteps.{live-some}
 use Rattle.tcc_serial.proofs.Values.FramedWords.{HeldOf, few-not}

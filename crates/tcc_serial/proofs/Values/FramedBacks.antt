@@ -3,7 +3,7 @@
 use Rattle.tcc_serial.proofs.Names.{ℕ, ◌≡◌, ◌⊎◌, Bool, true, false, not, ◌&&◌, ◌||◌, ◌==◌, List, Option, Some, None, IfSome, unwrap_or}
 use Rattle.tcc_serial.proofs.Names.{get_or, if◌then◌else◌, refl, sym, subst, ◌∙◌, inl, inr, true≢false, line_of, place_of, hit, Msg, Fill}
 use Rattle.tcc_serial.proofs.Names.{Inv, Shape, Cache, filled, cleaned, invalidated, rolled_back, read_cleared, CoreState, Awaited, Out}
-use Rattle.tcc_serial.proofs.Names.{grant, staled, from_dir, InvWord, passes, is_stale, arith, commit, nat_tests, rests}
+use Rattle.tcc_serial.proofs.Names.{grant, staled, from_dir, InvWord, passes, is_stale, arith, nat_tests}
 use Rattle.tcc_serial.proofs.Values.FramedCores.{Fades, Fading, fades-same, fading}
 use Rattle.tcc_serial.proofs.OneCore.Outcomes.{Last_room, Fills, Fills_none, Given_none, Granted, Hands_out, Heard, Hurt_alone}
 use Rattle.tcc_serial.proofs.OneCore.Outcomes.{Hurt_probing, Hurt_running, Hurt_waiting, Ignores_fill, Hurt_none, each-back, each-grant}

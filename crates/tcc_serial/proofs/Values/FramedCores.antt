@@ -3,7 +3,7 @@
 use Rattle.tcc_serial.proofs.Names.{ℕ, ◌≡◌, ◌⊎◌, Bool, true, false, ◌==◌, Option, Some, None, IfSome, is_some, if◌then◌else◌, refl, sym}
 use Rattle.tcc_serial.proofs.Names.{◌∙◌, inl, inr, true≢false, Program, word_of, line_of, Shape, set_of, Cache, free_way, marked, stored}
 use Rattle.tcc_serial.proofs.Names.{placed, placed_at, evicted, evicted_line, committed, words_dropped, CoreState, Ready, Solo, Out}
-use Rattle.tcc_serial.proofs.Names.{is_solo, noted, commit, committed_core, solo_commit, core_exec, core_evict, is_stale, rests}
+use Rattle.tcc_serial.proofs.Names.{is_solo, noted, commit, committed_core, solo_commit, core_exec, core_evict, is_stale}
 use Rattle.tcc_serial.proofs.OneCore.Outcomes.{Commits_now, Did, Ends_alone, Frames, Frames_anew, Misses, Misses_anew, Reads, after_end}
 use Rattle.tcc_serial.proofs.OneCore.Outcomes.{each-evict, each-exec, out}
 

@@ -6,7 +6,7 @@ use Rattle.tcc_serial.proofs.Names.{granted_by, Ways, ways_after, sent_by, zero,
 use Rattle.tcc_serial.proofs.Names.{arith, ap, sym, subst, ◌∙◌, nat_tests, num, line_of, Core, home, lines, DirState, noted, insert_commit}
 use Rattle.tcc_serial.proofs.Names.{sees, copies_with, AboveOf, CopyWord, CopyNot, Commits, live, among, Pair, pair, after_move, is_this}
 use Rattle.tcc_serial.proofs.Names.{is_applied, stores_word, after_stores, counts, word_copies, CopiesHave, wrote_line, Vendor, Msg}
-use Rattle.tcc_serial.proofs.Names.{in_flight, grant, taken, CommitsStand}
+use Rattle.tcc_serial.proofs.Names.{in_flight, grant, CommitsStand}
 use Rattle.tcc_serial.specs.KeepsHomes.{HomesHold, EventsKeepHomes}
 use Rattle.tcc_serial.proofs.Copies.TagsKept.{untagged}
 use Rattle.tcc_serial.proofs.Counts.Links.{live-sends}

@@ -5,7 +5,7 @@ use Rattle.tcc_serial.proofs.Names.{Stored, num, count_below, line_of, place_of,
 use Rattle.tcc_serial.proofs.Names.{Shape, home, lines, has-mask_of, World, in_flight, History, copies_with, AboveOf, Commits, CommitOf}
 use Rattle.tcc_serial.proofs.Names.{CopyOf, CopyWord, CopyNot, live, passes, pair, is_applied, is_this, MarkedCommit, stores_at, stores_in}
 use Rattle.tcc_serial.proofs.Names.{stored_mask, stores_word, counts, word_copies, CopiesHave, names_line, wrote, wrote_line, wrote_mask}
-use Rattle.tcc_serial.proofs.Names.{[], subst, Plain, Program, Local, Commit, DirState, Sends, Answer, Waits, Drops, Asks, Takes, dir_takes}
+use Rattle.tcc_serial.proofs.Names.{[], subst, Plain, Program, Local, DirState, Sends, Answer, Waits, Drops, Asks, Takes, dir_takes}
 use Rattle.tcc_serial.proofs.Names.{dir_asks, vendor_gives, Uses, Invariants, Grant, CommitsStand, Ways}
 use Rattle.tcc_serial.proofs.Copies.LinesStep.{marked-line, writer-line, other-writer, commit-passes}
 use Rattle.tcc_serial.proofs.Copies.TagsKept.{tag-below, applied-owed, TakenCommit, takes-consumes}

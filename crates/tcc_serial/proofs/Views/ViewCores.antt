@@ -1,18 +1,15 @@
 -- What each of a core's rules does to its TID, its halt and its view.
-use Rattle.tcc_serial.proofs.Names.{line_of, word_of, moves, solo_commit, ℕ, ◌+◌, ◌≡◌, ◌⊎◌, ◌==◌, Bool, true, false, [], ◌∷◌, ◌++◌, Option}
-use Rattle.tcc_serial.proofs.Names.{Some, None, IfSome, if◌then◌else◌, arith, refl, ap, sym, ◌∙◌, inl, inr, put, Noted, Byte, Half, Program}
-use Rattle.tcc_serial.proofs.Names.{Need, Loads, Stores, Changes, num, any_below, Msg, Fill, ProbeReply, DataReq, Inv, Shape, CoreState}
-use Rattle.tcc_serial.proofs.Names.{Phase, Running, AwaitTid, DoomedTid, Probing, Ready, Overflowing, Solo, Halted, Out, roll_back, commit}
-use Rattle.tcc_serial.proofs.Names.{noted, core_exec, core_evict, grant, grant_phase, probing, is_probed, from_dir, is_violated, invalidate}
-use Rattle.tcc_serial.proofs.Names.{acknowledged, if_violated, violated_in, ignored, without, probe_reply, all_replied, fill, data_request}
-use Rattle.tcc_serial.proofs.Names.{Uses, used_in, used_at, used_by, uses_delivered, uses_violated, rolls_back, has_tid, waits_for_tid}
-use Rattle.tcc_serial.proofs.Names.{EachUse}
+use Rattle.tcc_serial.proofs.Names.{line_of, word_of, moves, solo_commit, ℕ, ◌+◌, ◌≡◌, ◌⊎◌, ◌==◌, Bool, true, false, [], ◌∷◌, ◌++◌}
+use Rattle.tcc_serial.proofs.Names.{Option, Some, None, IfSome, arith, refl, ap, sym, ◌∙◌, inl, inr, Noted, Byte, Half, Program, Need}
+use Rattle.tcc_serial.proofs.Names.{Loads, Stores, Changes, num, any_below, Msg, Inv, Shape, CoreState, Phase, Running, AwaitTid}
+use Rattle.tcc_serial.proofs.Names.{DoomedTid, Ready, Overflowing, Solo, Halted, Out, commit, noted, core_exec, core_evict, grant}
+use Rattle.tcc_serial.proofs.Names.{grant_phase, probing, is_probed, from_dir, is_violated, Uses, used_in, used_at, used_by}
+use Rattle.tcc_serial.proofs.Names.{uses_delivered, rolls_back, has_tid, waits_for_tid, EachUse, cond, rests, ◌&&◌}
 use Rattle.tcc_serial.proofs.Tids.CoreProbing.{tid-probing}
-use Rattle.tcc_serial.proofs.OneCore.CoreSteps.{evict-steady, ignored-steady, fill-steady, data-steady, Replied, Ignored, Probed}
-use Rattle.tcc_serial.proofs.OneCore.CoreSteps.{Left_alone, reply-cases}
-use Rattle.tcc_serial.proofs.OneCore.Executes.{Steady}
 use Rattle.tcc_serial.proofs.OneCore.Outcomes.{Acts, Buffers, Commits_now, Did, Ends_alone, Ends_run, Finds, Frames, Frames_anew, Idles}
-use Rattle.tcc_serial.proofs.OneCore.Outcomes.{Misses, Misses_anew, Reads, Room_wanted, after_end, each-exec, out}
+use Rattle.tcc_serial.proofs.OneCore.Outcomes.{Misses, Misses_anew, Reads, Room_wanted, after_end, each-exec, out, Heard, Hurt_alone}
+use Rattle.tcc_serial.proofs.OneCore.Outcomes.{Hurt_none, Hurt_probing, Hurt_running, Hurt_waiting, Last_probing, Last_room, each-back}
+use Rattle.tcc_serial.proofs.OneCore.Outcomes.{each-evict, heard, message}
 use Rattle.tcc_serial.proofs.OneCore.Said.{Flushes, Requests, Said, Silent, say}
 
 -- the core has the TID that it had, and halts only where it had halted
@@ -82,11 +79,7 @@ each-append P (u ∷ us) vs a b = (a.0, each-append P us vs (a.1) b)
 
 -- evictions
 pub evict-view : (sh : Shape) (x y : ℕ) (s : CoreState) → IfSome (core_evict sh x y s) (λ o. (o.commit ≡ None) × Keeps s o.core)
-evict-view sh x y s = go (core_evict sh x y s) (evict-steady sh x y s)
-  where
-    go : (a : Option Out) → IfSome a (λ o. Steady s o) → IfSome a (λ o. (o.commit ≡ None) × Keeps s o.core)
-    go None h = tt
-    go (Some o) h = (h.commit, keeps-phase s o.core (h.phase))
+evict-view sh x y s = each-evict sh x y s (λ o. (o.commit ≡ None) × Keeps s o.core) (λ k q u z. (refl, keeps-phase s _ refl))
 
 -- grants
 
@@ -119,59 +112,32 @@ pub data Back (s : CoreState) (m : Msg) (us : Uses) (o : Out) : Type 0 where
   Empties : o.commit ≡ None → uses_delivered s m us ≡ [] → Back s m us o
   Stays : o.commit ≡ None → uses_delivered s m us ≡ us → Keeps s o.core → Spares s m → Back s m us o
 
-back-steady : (s : CoreState) (m : Msg) (us : Uses) (o : Out) → uses_delivered s m us ≡ us → Spares s m → Steady s o → Back s m us o
-back-steady s m us o e f y = Stays (y.commit) e (keeps-phase s o.core (y.phase)) f
-
-back-replied : (sh : Shape) (e u v : ℕ) (s : CoreState) (us : Uses) (o : Out) → Replied sh e u s o → Back s (ProbeReply u v) us o
-unfolding has_tid
-back-replied sh e u v s us o (Ignored q n) = rw q (back-steady s (ProbeReply u v) us (ignored s) refl tt (ignored-steady s))
-back-replied sh e u v s us o (Probed g f ph ow ca se cm) = Stays cm refl (record { tids = λ t. rw (g, ph) (go (all_replied sh (put s.owing e false)) t); halted = λ q. absurd (no (all_replied sh (put s.owing e false)) (sym ph ∙ q)) }) tt
-  where
-    go : (b : Bool) (t : ℕ) → has_tid (if b then Ready u else Probing u) t ≡ (u == t)
-    go true t = refl
-    go false t = refl
-
-    no : (b : Bool) → (if b then Ready u else Probing u) ≡ Halted → ⊥
-    no true q = absurd (cc)
-    no false q = absurd (cc)
-back-replied sh e u v s us o (Left_alone g f ph ow mo se cm) = Stays cm refl (record { tids = λ t. rw (g, ph) (go (all_replied sh (put s.owing e false)) t); halted = λ q. absurd (no (all_replied sh (put s.owing e false)) (sym ph ∙ q)) }) tt
-  where
-    go : (b : Bool) (t : ℕ) → has_tid (if b then Solo u else Overflowing (Some u)) t ≡ (u == t)
-    go true t = refl
-    go false t = refl
-
-    no : (b : Bool) → (if b then Solo u else Overflowing (Some u)) ≡ Halted → ⊥
-    no true q = absurd (cc)
-    no false q = absurd (cc)
-
-back-inv : (sh : Shape) (l m u : ℕ) (s : CoreState) (us : Uses) → (s.phase ≡ DoomedTid → us ≡ []) → (s.phase ≡ Halted → us ≡ []) → Back s (Inv l m u) us (invalidate sh l m u s)
-unfolding invalidate acknowledged if_violated without roll_back
-back-inv sh l m u s us dm ha = go (is_violated l m u s) refl s.phase refl
-  where
-    r : CoreState
-    r = without l m s
-
-    empties : (q : Phase) → s.phase ≡ q → is_violated l m u s ≡ true → rolls_back q ≡ true → uses_violated (is_violated l m u s) s.phase us ≡ []
-    empties q e v b = rw (v, e, b) refl
-
-    same : (q : Phase) → s.phase ≡ q → is_violated l m u s ≡ true → rolls_back q ≡ false → us ≡ [] → uses_violated (is_violated l m u s) s.phase us ≡ []
-    same q e v b z = rw (v, e, b) z
-
-    go : (b : Bool) → is_violated l m u s ≡ b → (q : Phase) → s.phase ≡ q → Back s (Inv l m u) us (acknowledged sh l (if b then violated_in sh r q else ignored r))
-    go false v q e = Stays refl (rw v refl) (keeps-phase s r refl) v
-    go true v Running e = Empties refl (empties Running e v refl)
-    go true v AwaitTid e = Empties refl (empties AwaitTid e v refl)
-    go true v (Overflowing None) e = Empties refl (empties (Overflowing None) e v refl)
-    go true v (Overflowing (Some t)) e = Empties refl (empties (Overflowing (Some t)) e v refl)
-    go true v (Probing t) e = Empties refl (empties (Probing t) e v refl)
-    go true v (Ready t) e = Empties refl (empties (Ready t) e v refl)
-    go true v (Solo t) e = Empties refl (empties (Solo t) e v refl)
-    go true v DoomedTid e = Empties refl (same DoomedTid e v refl (dm e))
-    go true v Halted e = Empties refl (same Halted e v refl (ha e))
-
 pub back-view : (sh : Shape) (e : ℕ) (s : CoreState) (m : Msg) (us : Uses) → (s.phase ≡ DoomedTid → us ≡ []) → (s.phase ≡ Halted → us ≡ []) → IfSome (from_dir sh e s m) (Back s m us)
-back-view sh e s (ProbeReply u v) us dm ha = back-replied sh e u v s us (probe_reply sh e u s) (reply-cases sh e u s)
-back-view sh e s (Fill l ws) us dm ha = back-steady s (Fill l ws) us (fill l ws s) refl tt (fill-steady l ws s)
-back-view sh e s (DataReq l) us dm ha = back-steady s (DataReq l) us (data_request sh l s) refl tt (data-steady sh l s)
-back-view sh e s (Inv l m u) us dm ha = back-inv sh l m u s us dm ha
-back-view sh e s _ us dm ha = tt
+unfolding has_tid
+back-view sh e s m us dm ha = each-back sh e s (λ m o. Back s m us o) go m
+  where
+    none : (q : Phase) → s.phase ≡ q → rests q ≡ true → us ≡ []
+    none DoomedTid g r = dm g
+    none Halted g r = ha g
+    none _ g r = absurd (cc)
+
+    emptied : (l m u : ℕ) (o : Out) → o.commit ≡ None → is_violated l m u s ≡ true → rolls_back s.phase ≡ true → Back s (Inv l m u) us o
+    emptied l m u o n v r = Empties n (rw (v, r) refl)
+
+    go : (x : Heard sh e s) → Back s (message x) us (heard x)
+    go (Last_probing u v q o r) = Stays refl refl (record { tids = λ t. rw q refl; halted = λ z. absurd (cc) }) tt
+    go (Last_room u v q o r) = Stays refl refl (record { tids = λ t. rw q refl; halted = λ z. absurd (cc) }) tt
+    go (Hurt_none l m u (inl v)) = Stays refl (rw v refl) (keeps-phase s _ refl) v
+    go (Hurt_none l m u (inr r)) = Empties refl (rw (none s.phase refl r) (nothing (is_violated l m u s && rolls_back s.phase)))
+      where
+        nothing : (b : Bool) → cond {A = Uses} b [] [] ≡ []
+        nothing true = refl
+        nothing false = refl
+    go (Hurt_running l m u v q) = emptied l m u _ refl v (rw q refl)
+    go (Hurt_waiting l m u v (inl q)) = emptied l m u _ refl v (rw q refl)
+    go (Hurt_waiting l m u v (inr q)) = emptied l m u _ refl v (rw q refl)
+    go (Hurt_probing l m u t v (inl q)) = emptied l m u _ refl v (rw q refl)
+    go (Hurt_probing l m u t v (inr q)) = emptied l m u _ refl v (rw q refl)
+    go (Hurt_alone l m u t v (inl q)) = emptied l m u _ refl v (rw q refl)
+    go (Hurt_alone l m u t v (inr q)) = emptied l m u _ refl v (rw q refl)
+    go _ = Stays refl refl (keeps-phase s _ refl) tt

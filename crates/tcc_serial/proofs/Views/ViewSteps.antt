@@ -5,7 +5,7 @@ use Rattle.tcc_serial.proofs.Names.{home, CoreState, Phase, Running, AwaitTid, D
 use Rattle.tcc_serial.proofs.Names.{Out, core_exec, core_evict, History, core_moves, and_noted, insert_commit, Uses, Views, uses_executed}
 use Rattle.tcc_serial.proofs.Names.{InvWord, live, Carried, CarriedInMemory, Grant, holder, Pair, pair, after_move, may_commit, IsBound}
 use Rattle.tcc_serial.proofs.Names.{is_applied, has_tid, opens, waits_for_tid, RequestOf, stores_word, is_below, counts, value_at, dooms}
-use Rattle.tcc_serial.proofs.Names.{UnmodifiedWords, Ways, commit, holds, replied}
+use Rattle.tcc_serial.proofs.Names.{UnmodifiedWords, Ways}
 use Rattle.tcc_serial.proofs.OneCore.Outcomes.{Acts}
 use Rattle.tcc_serial.proofs.Serving.OwnerSteps.{grant-any}
 use Rattle.tcc_serial.proofs.Memory.MemorySends.{marks_at_homes}

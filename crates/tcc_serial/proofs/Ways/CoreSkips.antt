@@ -1,21 +1,21 @@
 -- What each of a core's rules says of its TID: where it goes on with it, it has skipped it at directories where it writes nothing;
 -- and where it commits, it has spoken at each directory.
-use Rattle.tcc_serial.proofs.Names.{ℕ, ◌≡◌, ◌<◌, ◌≤◌, Bool, true, false, not, [], ◌==◌, ◌&&◌, Some, None, IfSome, if◌then◌else◌, arith}
-use Rattle.tcc_serial.proofs.Names.{refl, sym, ◌⊎◌, inl, inr, nat_tests, Noted, Program, Outcome, Goes, any_below, Dir, Msg, Fill}
-use Rattle.tcc_serial.proofs.Names.{ProbeReply, DataReq, Inv, Shape, Cache, writes_at, CoreState, Phase, Running, AwaitTid, DoomedTid}
-use Rattle.tcc_serial.proofs.Names.{Probing, Ready, Overflowing, Solo, Out, commit, committed_core, noted, phase_after, core_exec}
-use Rattle.tcc_serial.proofs.Names.{core_evict, grant, grant_phase, grant_sends, from_dir, probing, is_probed, probe_reply, ignored}
-use Rattle.tcc_serial.proofs.Names.{all_replied, fill, data_request, invalidate, put, Skips, among, passes, Words, OneCore, has_tid, Untold}
-use Rattle.tcc_serial.proofs.Names.{told_by, live_way, commit_way, has}
-use Rattle.tcc_serial.proofs.OneCore.Executes.{Steady, Executed, Goes_on, Overflows, Asks_tid, Alone, did-executed}
+use Rattle.tcc_serial.proofs.Names.{ℕ, ◌≡◌, ◌<◌, ◌≤◌, Bool, true, false, not, ◌==◌, ◌&&◌, Some, None, IfSome, if◌then◌else◌, arith, refl}
+use Rattle.tcc_serial.proofs.Names.{sym, ◌⊎◌, inl, inr, nat_tests, Noted, Program, Outcome, Goes, any_below, Dir, Msg, Fill, ProbeReply}
+use Rattle.tcc_serial.proofs.Names.{DataReq, Inv, Shape, Cache, writes_at, CoreState, Phase, Running, AwaitTid, DoomedTid, Probing, Ready}
+use Rattle.tcc_serial.proofs.Names.{Overflowing, Solo, Out, commit, committed_core, noted, phase_after, core_exec, core_evict, grant}
+use Rattle.tcc_serial.proofs.Names.{grant_phase, grant_sends, from_dir, probing, is_probed, probe_reply, ignored, all_replied, fill}
+use Rattle.tcc_serial.proofs.Names.{data_request, invalidate, put, Skips, among, passes, Words, OneCore, has_tid, Untold, told_by}
+use Rattle.tcc_serial.proofs.Names.{live_way, commit_way, Local, moves, solo_commit}
+use Rattle.tcc_serial.proofs.OneCore.Executes.{Steady, did-steady}
 use Rattle.tcc_serial.proofs.OneCore.CoreSteps.{ignored-steady, fill-steady, data-steady, Hurt, Unhurt, Rolled, Doomed, Aborted, Gave_up}
 use Rattle.tcc_serial.proofs.OneCore.CoreSteps.{Invalidated, invalidate-cases, Replied, Ignored, Probed, Left_alone, reply-cases}
 use Rattle.tcc_serial.proofs.OneCore.CoreSteps.{steady-emptied}
 use Rattle.tcc_serial.proofs.Ways.CoreTells.{solo-told, ready-told}
 use Rattle.tcc_serial.proofs.Marks.StoredMasks.{stored-solo, stored-written}
-use Rattle.tcc_serial.proofs.OneCore.NotedCommits.{Notes, did-notes}
-use Rattle.tcc_serial.proofs.OneCore.Said.{quiet}
-use Rattle.tcc_serial.proofs.OneCore.Outcomes.{Acts, Commits_now, Did, each-exec, out, each-evict, emptied, writes_at-same}
+use Rattle.tcc_serial.proofs.OneCore.Said.{Wants, say}
+use Rattle.tcc_serial.proofs.OneCore.Outcomes.{Acts, Commits_now, Did, each-exec, out, each-evict, emptied, writes_at-same, Ends_alone}
+use Rattle.tcc_serial.proofs.OneCore.Outcomes.{Ends_run, Room_wanted, after_end}
 
 -- a core in this phase has skipped its TID where it writes nothing
 abbrev pub skips_here : Phase → (written : Bool) → ℕ → Bool
@@ -51,19 +51,13 @@ skips-after : (e : Outcome) (b : Bool) (t : ℕ) → skips_here (phase_after e) 
 skips-after Goes b t = refl
 skips-after _ b t = refl
 
-tells-executed : (sh : Shape) (c : ℕ) (s : CoreState) (o : Out) → OneCore sh s → Notes s o → Executed sh c s o → Tells sh s o
-unfolding noted has_tid live_way
-tells-executed sh c s o h n (Goes_on y) = tells-steady sh s o y
-tells-executed sh c s o h n (Overflows r ph ow cm ve di) = tells-none sh s o (Overflowing None) ph (λ b t. refl) (rw cm tt)
-tells-executed sh c s o h n (Asks_tid r ph ow cm ve di) = tells-none sh s o AwaitTid ph (λ b t. refl) (rw cm tt)
-tells-executed sh c s o h n (Alone u r q ph ow cm se) = tells-none sh s o (phase_after r.ended) ph (skips-after r.ended) (rw cm (record {
+tells-alone : (sh : Shape) (c u : ℕ) (s : CoreState) (l : Local) (e : Outcome) → s.phase ≡ Solo u → OneCore sh s → Tells sh s (solo_commit sh c u (after_end s l e))
+unfolding solo_commit committed_core noted has_tid live_way
+tells-alone sh c u s l e q h = tells-none sh s (solo_commit sh c u (after_end s l e)) (phase_after e) refl (skips-after e) (record {
   has = rw q (grind (arith, nat_tests));
-  told = λ d l. rw (q, se, stores) (rw (← stored-solo sh s.cache s.spilled s.stores d words.named) (solo-told sh s.cache s.spilled u d Untold l));
-}))
+  told = λ d l. rw q (rw (← stored-solo sh s.cache s.spilled s.stores d words.named) (solo-told sh s.cache s.spilled u d Untold l));
+})
   where
-    stores : r.stores ≡ s.stores
-    stores = let m : (r.stores ≡ s.stores) × (r.loads ≡ s.loads) × (o.core.loads ≡ []) = rw cm at n in m.0
-
     words : Words sh true s.cache s.spilled s.stores
     words = rw q at (h.words)
 
@@ -79,7 +73,10 @@ tells-exec sh p c s h = each-exec sh p c s (λ o. Tells sh s o) go
   where
     go : (x : Did sh p c s) → Tells sh s (out x)
     go (Commits_now u e) = tells-committed sh c u s e h
-    go x = tells-executed sh c s (out x) h (did-notes x) (did-executed x)
+    go (Room_wanted r i) = tells-none sh s (moves (record s { phase = Overflowing None }) (say sh s Wants)) (Overflowing None) refl (λ b t. refl) tt
+    go (Ends_run l e f r i) = tells-none sh s (moves (record (after_end s l e) { phase = AwaitTid }) (say sh s Wants)) AwaitTid refl (λ b t. refl) tt
+    go (Ends_alone u l e f r i) = tells-alone sh c u s l e r h
+    go x = tells-steady sh s (out x) (did-steady x)
 
 pub tells-evict : (sh : Shape) (x y : ℕ) (s : CoreState) → IfSome (core_evict sh x y s) (λ o. Tells sh s o)
 tells-evict sh x y s = each-evict sh x y s (λ o. Tells sh s o) (λ k q u z. tells-steady sh s (emptied sh x y k s) (steady-emptied sh x y s k q u z))

@@ -5,8 +5,8 @@ use Rattle.tcc_serial.proofs.Names.{Dir, Msg, Event, Shape, home, lines, writes_
 use Rattle.tcc_serial.proofs.Names.{CoreState, DirState, Ready, World, Out, Sends, commit, noted, core_exec, core_evict, grant, from_dir}
 use Rattle.tcc_serial.proofs.Names.{Answer, Waits, Drops, Asks, Takes, dir_deliver, core_moves, core_takes, dir_takes, dir_asks}
 use Rattle.tcc_serial.proofs.Names.{vendor_gives, Stepped, step, and_noted, Kept, OneCore, KeptCores, pair, Reached, stores_at, loads_word}
-use Rattle.tcc_serial.proofs.Names.{sent_by, LoadsMarked, KeptLoads, loads_at, worked_at, KeptWorked, answered, moved, place, put, replied}
-use Rattle.tcc_serial.proofs.Names.{stored, taken, solo_commit}
+use Rattle.tcc_serial.proofs.Names.{sent_by, LoadsMarked, KeptLoads, loads_at, worked_at, KeptWorked}
+use Rattle.tcc_serial.proofs.Names.{solo_commit}
 use Rattle.tcc_serial.proofs.Ways.ByCore.{ByCore, Still, Moved, by_core}
 use Rattle.tcc_serial.proofs.OneCore.CoreLoads.{loads-exec, loads-evict}
 use Rattle.tcc_serial.proofs.OneCore.CoreLoadsTakes.{loads-grant, loads-back}
@@ -14,7 +14,6 @@ use Rattle.tcc_serial.proofs.Marks.StoredMasks.{stored-written}
 use Rattle.tcc_serial.proofs.Serving.DirProbes.{RisesBy, dir-rises}
 use Rattle.tcc_serial.proofs.Tids.Commits.{inserted}
 use Rattle.tcc_serial.proofs.Counts.StepCases.{OfAnswer, step_cases}
-use Rattle.tcc_serial.proofs.OneCore.Said.{quiet}
 use Rattle.tcc_serial.proofs.OneCore.Outcomes.{Commits_now, Did, each-exec, out, each-evict, Ends_alone, Given_none, Granted, Hands_out}
 use Rattle.tcc_serial.proofs.OneCore.Outcomes.{Heard, each-back, each-grant, granted, heard}
 
