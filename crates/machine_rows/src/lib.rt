@@ -1,8 +1,6 @@
-// Tests of a core, of all cores and all directories together, and of the machine that they make, by their public calls.
+// Tests of a core, of all directories together, and of the machine that cores and directories make, by their public calls.
 #![tactic(auto)]
 
-#[cfg(test)]
-mod core_banks;
 #[cfg(test)]
 mod cores;
 #[cfg(test)]

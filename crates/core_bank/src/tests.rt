@@ -2,7 +2,7 @@
 ghost use Rattle.std.specs.Prelude.{◌≡◌, ◌<◌, ℕ, IfOk};
 ghost use Rattle.core_bank.specs.Bank.{cores_of};
 
-use core_bank::CoreBank;
+use crate::CoreBank;
 use core_node::Executed;
 use image_load::{load, raw};
 use rv_code::Code;
