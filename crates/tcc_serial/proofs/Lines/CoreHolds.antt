@@ -1,9 +1,9 @@
 -- By an instruction, an eviction or a grant a core comes to hold a line only by a commit that stored in it.
-use Rattle.tcc_serial.proofs.Names.{ℕ, ◌≡◌, ◌⊎◌, ◌||◌, Bool, true, false, Option, Some, None, IfSome, is_some, refl, sym, ◌∙◌, inl, inr}
-use Rattle.tcc_serial.proofs.Names.{Noted, Program, word_of, line_of, Shape, set_of, Cache, is_modified, free_way, placed, placed_at, holds}
-use Rattle.tcc_serial.proofs.Names.{CoreState, Phase, Running, Ready, Solo, Out, is_solo, commit, committed_core, noted, solo_commit}
-use Rattle.tcc_serial.proofs.Names.{is_written, grant, core_exec, core_evict, keeps_unmodified, is_fresh, OneCore, Words, acting}
-use Rattle.tcc_serial.proofs.Names.{names_line, kept}
+use Rattle.tcc_serial.proofs.Names.{arith, nat_tests, ℕ, ◌≡◌, ◌⊎◌, ◌||◌, Bool, true, false, Option, Some, None, IfSome, is_some, refl, sym}
+use Rattle.tcc_serial.proofs.Names.{◌∙◌, inl, inr, Noted, Program, word_of, line_of, Shape, set_of, Cache, is_modified, free_way, placed}
+use Rattle.tcc_serial.proofs.Names.{placed_at, holds, CoreState, Phase, Running, Ready, Solo, Out, is_solo, commit, committed_core, noted}
+use Rattle.tcc_serial.proofs.Names.{solo_commit, is_written, grant, core_exec, core_evict, keeps_unmodified, is_fresh, OneCore, Words}
+use Rattle.tcc_serial.proofs.Names.{acting, names_line, kept}
 use Rattle.tcc_serial.proofs.Lines.HeldWords.{Fewer, fewer-kept, fewer-marked, fewer-stored, fewer-evicted, kept-committed, kept-alone}
 use Rattle.tcc_serial.proofs.Marks.StoredMasks.{unspilled, modified-line, written-line}
 use Rattle.tcc_serial.proofs.OneCore.Outcomes.{Acts, Buffers, Commits_now, Did, Ends_alone, Ends_run, Finds, Frames, Frames_anew}
@@ -56,8 +56,7 @@ unfolding solo_commit committed_core noted names_line is_written
 alone-kept sh b l id u s h q = go (kept-alone u l s.spilled s.cache q)
   where
     first : (x y : Bool) → x ≡ true → (x || y) ≡ true
-    first true y e = refl
-    first false y e = absurd (cc)
+    first a y e = grind (arith, nat_tests)
 
     go : (keeps_unmodified s.cache l ≡ true) ⊎ (is_modified s.cache l ≡ true) → (keeps_unmodified s.cache l ≡ true) ⊎ StoredLine sh l (solo_commit sh id u s)
     go (inl y) = inl y

@@ -1,9 +1,9 @@
 -- What a directory's rules do to the lines of which it has asked the owner: it asks with a request, and a line that stays asked keeps its
 -- owner, whose words don't come by this message.
-use Rattle.tcc_serial.proofs.Names.{ℕ, ◌≡◌, ◌≤◌, ◌⊎◌, Bool, true, false, List, [], ◌∷◌, ◌==◌, Some, None, if◌then◌else◌, arith, refl, sym}
-use Rattle.tcc_serial.proofs.Names.{ap, ◌∙◌, inl, inr, nat_tests, has_mark, Core, Msg, DataReq, Shape, DirState, Sends, to, Answer, Asks}
-use Rattle.tcc_serial.proofs.Names.{Takes, dir_deliver, CopyOf, DataOf, among, passes}
-use Rattle.tcc_serial.proofs.Counts.DirOutcome.{Outcome, Waiting, Spent, AsksOwner, TakesCommit, TakesCopy, IsCopy, outcome, among-to}
+use Rattle.tcc_serial.proofs.Names.{ℕ, ◌≡◌, ◌≤◌, ◌⊎◌, Bool, true, false, [], ◌∷◌, ◌==◌, Some, if◌then◌else◌, arith, refl, sym, ap, ◌∙◌, inl}
+use Rattle.tcc_serial.proofs.Names.{inr, nat_tests, Core, Msg, DataReq, Shape, DirState, Sends, to, Answer, Asks, Takes, dir_deliver}
+use Rattle.tcc_serial.proofs.Names.{CopyOf, DataOf, among, passes}
+use Rattle.tcc_serial.proofs.Counts.DirOutcome.{Outcome, Waiting, Spent, AsksOwner, TakesCommit, TakesCopy, outcome, among-to}
 use Rattle.tcc_serial.proofs.Counts.StepCases.{same}
 
 -- the line stays asked, of the same owner, and the message isn't its copy

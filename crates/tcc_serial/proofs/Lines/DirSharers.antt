@@ -1,8 +1,8 @@
 -- What a directory's rules do to the sharers of its lines: a Fill goes to a sharer, a commit is one of its lines, and a core is a sharer
 -- no more only where it says that it keeps no word.
-use Rattle.tcc_serial.proofs.Names.{ℕ, ◌≡◌, ◌≤◌, ◌⊎◌, Bool, true, false, [], ◌==◌, ◌&&◌, if◌then◌else◌, arith, refl, inl, inr, nat_tests}
-use Rattle.tcc_serial.proofs.Names.{num, has_mark, Core, Msg, Fill, ProbeReply, DataReq, Shape, DirState, Sends, Answer, Asks, Takes}
-use Rattle.tcc_serial.proofs.Names.{dir_deliver, line_words, FillOf, GoneOf, among, passes, AnyCommit, not}
+use Rattle.tcc_serial.proofs.Names.{ℕ, ◌≡◌, ◌≤◌, ◌⊎◌, true, false, [], ◌==◌, ◌&&◌, arith, refl, inl, nat_tests, num, has_mark, Core, Msg}
+use Rattle.tcc_serial.proofs.Names.{Fill, ProbeReply, DataReq, Shape, DirState, Sends, Answer, Asks, Takes, dir_deliver, line_words, FillOf}
+use Rattle.tcc_serial.proofs.Names.{GoneOf, among, passes, AnyCommit}
 use Rattle.tcc_serial.proofs.Counts.DirOutcome.{Outcome, Waiting, Spent, AsksOwner, TakesProbe, TakesLoad, TakesCommit, TakesAck, TakesCopy}
 use Rattle.tcc_serial.proofs.Counts.DirOutcome.{ToLoad, ToMark, outcome, among-to, among-none, none-to, none-invalidations}
 use Rattle.tcc_serial.proofs.Counts.StepCases.{same}

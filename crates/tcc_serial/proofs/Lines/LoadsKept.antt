@@ -1,9 +1,9 @@
 -- Every event keeps that one load request or Fill is in flight exactly for the line that a core awaits.
-use Rattle.tcc_serial.proofs.Names.{ℕ, ◌≡◌, Bool, true, false, [], ◌==◌, ◌&&◌, Option, Some, None, IfSome, arith, refl, Program, Local, num}
-use Rattle.tcc_serial.proofs.Names.{Core, Dir, Event, Msg, Fill, ProbeReply, DataReq, Shape, DirState, World, start, core_start, in_flight}
-use Rattle.tcc_serial.proofs.Names.{Out, core_exec, core_evict, from_dir, grant, Answer, Waits, Drops, Asks, Takes, dir_deliver, line_words}
-use Rattle.tcc_serial.proofs.Names.{core_moves, core_takes, step, LoadingOf, KeptLoading, LoadOf, FillOf, live, among, passes, Pair, pair}
-use Rattle.tcc_serial.proofs.Names.{lines, nothing, to}
+use Rattle.tcc_serial.proofs.Names.{nat_tests, ℕ, ◌≡◌, Bool, false, [], ◌==◌, ◌&&◌, Option, Some, None, IfSome, arith, refl, Program, Local}
+use Rattle.tcc_serial.proofs.Names.{num, Core, Dir, Event, Msg, Fill, ProbeReply, DataReq, Shape, DirState, World, start, core_start}
+use Rattle.tcc_serial.proofs.Names.{in_flight, Out, core_exec, core_evict, from_dir, grant, Answer, Waits, Drops, Asks, Takes, dir_deliver}
+use Rattle.tcc_serial.proofs.Names.{line_words, core_moves, core_takes, step, LoadingOf, KeptLoading, LoadOf, FillOf, live, among, passes}
+use Rattle.tcc_serial.proofs.Names.{Pair, pair, lines, nothing, to}
 use Rattle.tcc_serial.proofs.Counts.DirOutcome.{Outcome, Waiting, Spent, AsksOwner, TakesProbe, TakesLoad, TakesCommit, TakesCopy, IsSpent}
 use Rattle.tcc_serial.proofs.Counts.DirOutcome.{CopyPassed, outcome, among-none, among-to, none-to, none-invalidations}
 use Rattle.tcc_serial.proofs.Counts.Links.{live-sends, live-takes}
@@ -20,8 +20,7 @@ FillsBy c m (Asks new sends) = (l j : ℕ) → among (FillOf l) (sends (Core j))
 FillsBy c m (Takes new sends) = (l j : ℕ) → among (FillOf l) (sends (Core j)) ≡ num (j == c && passes (LoadOf l) m)
 
 and-none : (a b : Bool) → b ≡ false → num (a && b) ≡ 0
-and-none true b h = rw h refl
-and-none false b h = refl
+and-none a b h = grind (arith, nat_tests)
 
 -- where nothing is sent for a message that is no load request
 quiet : (c : ℕ) (m : Msg) (l j : ℕ) → passes (LoadOf l) m ≡ false → among (FillOf l) [] ≡ num (j == c && passes (LoadOf l) m)

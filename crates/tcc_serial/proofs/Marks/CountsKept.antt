@@ -4,11 +4,11 @@ use Rattle.tcc_serial.proofs.Names.{cases_lt, nat_tests, num, count_below, has_m
 use Rattle.tcc_serial.proofs.Names.{Link, Out, total, sent_all, Resolves, MarkOf, EmptyMarks, CommitOf, live, among, passes, marks_of}
 use Rattle.tcc_serial.proofs.Names.{marked_by, MarksOf, CountsMarks, CountedOf, Grant, Pair, after_move, after_answer, opens, Contains}
 use Rattle.tcc_serial.proofs.Names.{nat_le, ap, World, Kind, AnyCommit, pair, share, grant_taken, part, handled, KeptTids, [], Option, Some}
-use Rattle.tcc_serial.proofs.Names.{None, IfSome, set, subst, cases_eq, Noted, Program, Local, Core, TidReq, Commit, Event, Phase, Probing}
-use Rattle.tcc_serial.proofs.Names.{Overflowing, start, dir_start, in_flight, Sends, core_exec, core_evict, from_dir, grant, Answer, Waits}
-use Rattle.tcc_serial.proofs.Names.{Drops, Asks, Takes, dir_deliver, core_moves, core_takes, dir_takes, dir_asks, step, Acks, KeptMarks}
-use Rattle.tcc_serial.proofs.Names.{KeptCounted, KeptCores, awaits_replies, KeptOwners, back_taken, after_grant, after_other_grant}
-use Rattle.tcc_serial.proofs.Names.{may_commit, Kept, KeptTold, answered, mark, marked, moved, next, settled, skip, taken}
+use Rattle.tcc_serial.proofs.Names.{None, IfSome, set, subst, Noted, Program, Local, Core, TidReq, Commit, Event, Phase, start, dir_start}
+use Rattle.tcc_serial.proofs.Names.{in_flight, Sends, core_exec, core_evict, from_dir, grant, Answer, Waits, Drops, Asks, Takes}
+use Rattle.tcc_serial.proofs.Names.{dir_deliver, core_moves, core_takes, dir_takes, dir_asks, step, Acks, KeptMarks, KeptCounted, KeptCores}
+use Rattle.tcc_serial.proofs.Names.{awaits_replies, KeptOwners, back_taken, after_grant, after_other_grant, may_commit, Kept, KeptTold}
+use Rattle.tcc_serial.proofs.Names.{answered, mark, marked, moved, next, settled, skip, taken, cases_eq}
 use Rattle.tcc_serial.proofs.Serving.CoreCommits.{granted-free}
 use Rattle.tcc_serial.proofs.Counts.Links.{live-sends, total-same, total-plus, total-le, live-fewer, live-takes}
 use Rattle.tcc_serial.proofs.Counts.StepCases.{dir-own, dir-other, asks-own, pairs_move, pairs_grant, pairs_back, pairs_dir, pairs_asks}
@@ -17,8 +17,8 @@ use Rattle.tcc_serial.proofs.Marks.CoreCounts.{Counts, CountsAll, total-num, few
 use Rattle.tcc_serial.proofs.Marks.CoreMarking.{Marking, marking-exec, marking-evict}
 use Rattle.tcc_serial.proofs.Marks.CoreMarkingTakes.{marking-back, granting}
 use Rattle.tcc_serial.proofs.Marks.DirMarks.{Marked, Stays, MarkedBy, dir-marked}
-use Rattle.tcc_serial.proofs.Marks.MarksKept.{holds, kinds, open-untold, taken-less, empty-one, skip-unmarked, only-there, no-request}
-use Rattle.tcc_serial.proofs.Marks.MarksKept.{no-empty, taken-back as back-marks}
+use Rattle.tcc_serial.proofs.Marks.MarksKept.{holds, open-untold, taken-less, empty-one, skip-unmarked, only-there, no-request, no-empty}
+use Rattle.tcc_serial.proofs.Marks.MarksKept.{taken-back as back-marks, kinds}
 use Rattle.tcc_serial.proofs.Marks.OwesByCommit.{CountsMarked, OwesBy, dir-owes}
 use Rattle.tcc_serial.proofs.Serving.DirDue.{Due, DueBy, dir-due, still-due}
 use Rattle.tcc_serial.proofs.Serving.KeptSteps.{core_of_back, core_of_out, once_at, marks_home, acks_owed}
@@ -62,12 +62,10 @@ counted-moved sh gs c d t v o cl y k m free unowed h = record {
 }
   where
     quiet : (l : ℕ) → d < sh.dirs → 1 ≤ v.dir.owed → (0 < among (MarkOf v.dir.serving.serving l) (o.sends (Dir d))) ⊎ (among (MarkOf v.dir.serving.serving l) (o.sends (Dir d)) ≤ 0) → among (MarkOf v.dir.serving.serving l) (o.sends (Dir d)) ≡ 0
-    quiet l dl x (inl z) = absurd (omega (arith, x, unowed dl ((y v.dir.serving.serving l).opened (omega (arith, z)))))
-    quiet l dl x (inr z) = omega (arith, z)
+    quiet l dl x a = grind (arith, nat_tests)
 
     told : (n l : ℕ) → d < sh.dirs → 1 ≤ live (CommitOf t n) v.out → (0 < among (MarkOf t l) (o.sends (Dir d))) ⊎ (among (MarkOf t l) (o.sends (Dir d)) ≤ 0) → among (MarkOf t l) (o.sends (Dir d)) ≡ 0
-    told n l dl x (inl z) = absurd (omega (arith, x, free dl ((y t l).opened (omega (arith, z))), is-word t n v.out))
-    told n l dl x (inr z) = omega (arith, z)
+    told n l dl x a = grind (arith, nat_tests, is-word)
 
     sums : (n : ℕ) → d < sh.dirs → Counts sh d t n v.core o → CountsMarks sh n t (after_move v o d)
     sums n dl a = record {
@@ -161,9 +159,7 @@ counted-answered sh gs j d t v m s ms k y less eqn skip nonempty ahead serves ow
         same-counts sh n t v (after_answer (record v { out = k }) s ms) (λ l. marks-stay sh d t l v m s ms k y (eqn l (inl c)) (skip l) nonempty (ahead dl a) (below-one sh n t l v b)) b
 
     settled : (l : ℕ) → d < sh.dirs → 1 ≤ s.owed → (s.serving.serving ≡ v.dir.serving.serving) ⊎ (s.owed ≡ 0) → (1 ≤ s.owed → 1 ≤ v.dir.owed) ⊎ ((l : ℕ) → d < sh.dirs → live (MarkOf v.dir.serving.serving l) v.out ≡ 0) → live (MarkOf s.serving.serving l) k ≡ 0
-    settled l dl x (inr z) r = absurd (omega (arith, x, z))
-    settled l dl x (inl z) (inl r) = rw z (omega (arith, h.settled l dl (r x), less (MarkOf v.dir.serving.serving l)))
-    settled l dl x (inl z) (inr r) = rw z (omega (arith, r l dl, less (MarkOf v.dir.serving.serving l)))
+    settled l dl x a r = grind (arith, nat_tests)
 
 none-granted : (t l d k : ℕ) (v : Pair) (o : Out) → among (MarkOf t l) (o.sends (Dir d)) ≡ 0 → marks_of t l (after_move (grant_taken v k) o d) ≡ marks_of t l v
 unfolding marks_of
@@ -242,9 +238,7 @@ asks-counted sh gs w d s sends a h z u o = pairs_asks (λ j e v. (t : ℕ) → j
     new = dir_asks w d s sends
 
 waits-not : (q : Phase) → may_commit q ≡ true → awaits_replies q ≡ false
-waits-not (Probing t) e = absurd (cc)
-waits-not (Overflowing t) e = absurd (cc)
-waits-not _ e = refl
+waits-not a e = grind (arith, nat_tests)
 
 taken-back : (sh : Shape) (d t k : ℕ) (v : Pair) → CountedOf sh d t v → CountedOf sh d t (back_taken v k)
 unfolding marks_of

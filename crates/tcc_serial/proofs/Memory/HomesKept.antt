@@ -1,11 +1,11 @@
 -- Every event keeps that records and messages are at home.
 use Rattle.tcc_serial.proofs.Names.{ℕ, ◌%◌, ◌≡◌, ◌<◌, Bool, true, false, not, List, [], ◌∷◌, ◌++◌, ◌==◌, ◌&&◌, Option, Some, None, IfSome}
-use Rattle.tcc_serial.proofs.Names.{nat_lt, if◌then◌else◌, arith, refl, inl, inr, cases_eq, nat_tests, Program, Local, num, Lines, has_mark}
-use Rattle.tcc_serial.proofs.Names.{no_lines, Core, Dir, Event, Msg, Fill, ProbeReply, DataReq, Inv, Shape, home, lines, DirState, World}
-use Rattle.tcc_serial.proofs.Names.{start, dir_start, in_flight, sent_all, Out, core_exec, core_evict, from_dir, grant, Sends, nothing, to}
-use Rattle.tcc_serial.proofs.Names.{Answer, Waits, Drops, Asks, Takes, dir_deliver, invalidations, is_invalidated, invs_to, line_words}
-use Rattle.tcc_serial.proofs.Names.{core_moves, core_takes, dir_takes, step, IsUnknown, HomeOf, KeptHomes, LinesAway, NoWord, live, among}
-use Rattle.tcc_serial.proofs.Names.{passes, Kept, Pair, pair, after_answer, out_taken}
+use Rattle.tcc_serial.proofs.Names.{nat_lt, if◌then◌else◌, arith, refl, inl, inr, cases_eq, nat_tests, Program, Local, num, Lines, no_lines}
+use Rattle.tcc_serial.proofs.Names.{Core, Dir, Event, Msg, Fill, ProbeReply, DataReq, Inv, Shape, home, lines, DirState, World, start}
+use Rattle.tcc_serial.proofs.Names.{dir_start, in_flight, sent_all, Out, core_exec, core_evict, from_dir, grant, Sends, nothing, to, Answer}
+use Rattle.tcc_serial.proofs.Names.{Waits, Drops, Asks, Takes, dir_deliver, invalidations, is_invalidated, invs_to, line_words, core_moves}
+use Rattle.tcc_serial.proofs.Names.{core_takes, dir_takes, step, IsUnknown, HomeOf, KeptHomes, LinesAway, NoWord, live, among, passes, Kept}
+use Rattle.tcc_serial.proofs.Names.{Pair, pair, after_answer, out_taken}
 use Rattle.tcc_serial.proofs.Counts.DirOutcome.{Outcome, AsksOwner, TakesSkip, TakesAbort, TakesProbe, TakesLoad, TakesMark, TakesCommit}
 use Rattle.tcc_serial.proofs.Counts.DirOutcome.{TakesAck, TakesCopy, Wants, ToLoad, ToMark, outcome}
 use Rattle.tcc_serial.proofs.Counts.Links.{live-sends, live-takes, none-taken}
@@ -76,9 +76,7 @@ dir-homes sh d s c m cl aw h = go (outcome sh s c m) aw
     wants {l = l} (ToMark k) a = at-home (home sh l) d a
 
     marked : (a m b e : Bool) → (a && m && b && e) ≡ true → m ≡ true
-    marked true true b e q = refl
-    marked true false b e q = absurd (cc)
-    marked false m b e q = absurd (cc)
+    marked a m b e q = grind (arith, nat_tests)
 
     inv : (j l : ℕ) → (nat_lt j sh.cores && nat_lt 0 (s.lines.mark l) && s.lines.sharers l j && not (j == c)) ≡ true → Homely sh d (Inv l (s.lines.mark l) s.serving.serving ∷ [])
     inv j l q = let m = marked (nat_lt j sh.cores) (nat_lt 0 (s.lines.mark l)) (s.lines.sharers l j) (not (j == c)) q in one-inv sh d l (s.lines.mark l) s.serving.serving (marked-here sh d l s.lines h m) m

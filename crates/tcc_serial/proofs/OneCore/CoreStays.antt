@@ -1,5 +1,5 @@
 -- What comes to a core leaves its checkpoint and its end, and so does an eviction: only an instruction commits.
-use Rattle.tcc_serial.proofs.Names.{ℕ, ◌≡◌, Bool, true, false, None, IfSome, refl, any_below, Msg, Shape, CoreState, AwaitTid, Out}
+use Rattle.tcc_serial.proofs.Names.{arith, nat_tests, ℕ, ◌≡◌, Bool, None, IfSome, refl, any_below, Msg, Shape, CoreState, AwaitTid, Out}
 use Rattle.tcc_serial.proofs.Names.{core_evict, grant, from_dir, probing, is_probed, end_after, commit, inl, inr}
 use Rattle.tcc_serial.proofs.OneCore.Outcomes.{Last_probing, Last_room, Given, Given_doomed, Given_none, Given_room, Granted, Heard}
 use Rattle.tcc_serial.proofs.OneCore.Outcomes.{Hurt_alone, Hurt_probing, Hurt_running, Hurt_waiting, each-back, each-evict, each-grant}
@@ -17,8 +17,7 @@ pub grant-rests : (sh : Shape) (u : ℕ) (s : CoreState) → Rests s (grant sh u
 grant-rests sh u s = each-grant sh u s (Rests s) go
   where
     awaited : (b : Bool) → s.phase ≡ AwaitTid → end_after (probing b u) s.ended ≡ end_after s.phase s.ended
-    awaited true e = rw e refl
-    awaited false e = rw e refl
+    awaited a e = grind (arith, nat_tests)
 
     go : (x : Granted sh u s) → Rests s (granted x)
     go (Given e) = record { commit = refl; saved = refl; ends = awaited (any_below (is_probed sh s.cache) sh.dirs) e }

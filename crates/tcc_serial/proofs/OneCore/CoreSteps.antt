@@ -1,8 +1,8 @@
 -- What a core's rules leave alone: evictions, fills, data requests, invalidations.
 use Rattle.tcc_serial.proofs.Names.{ℕ, ◌+◌, ◌≡◌, ◌*◌, ◌%◌, Bool, true, false, List, [], ◌∷◌, ◌++◌, ◌==◌, ◌&&◌, ◌||◌, Some, None, IfSome}
-use Rattle.tcc_serial.proofs.Names.{if◌then◌else◌, arith, refl, sym, ap, ◌⊎◌, inl, inr, nat_tests, put, any_word, any_below, line_of, Node}
-use Rattle.tcc_serial.proofs.Names.{Dir, Vendor, InvAck, Shape, home, lines, Cache, reads_at, is_marked, keeps, evicted, evicted_line}
-use Rattle.tcc_serial.proofs.Names.{filled, cleaned, invalidated, read_cleared, any_below-at, CoreState, Awaited, Phase, Running, AwaitTid}
+use Rattle.tcc_serial.proofs.Names.{if◌then◌else◌, arith, refl, sym, ap, ◌⊎◌, nat_tests, put, any_word, any_below, line_of, Node, Dir}
+use Rattle.tcc_serial.proofs.Names.{Vendor, InvAck, Shape, home, lines, Cache, reads_at, is_marked, keeps, evicted, evicted_line, filled}
+use Rattle.tcc_serial.proofs.Names.{cleaned, invalidated, read_cleared, any_below-at, CoreState, Awaited, Phase, Running, AwaitTid}
 use Rattle.tcc_serial.proofs.Names.{DoomedTid, Probing, Ready, Overflowing, Solo, Sends, nothing, to, flushed, written_back, abort_written}
 use Rattle.tcc_serial.proofs.Names.{skip_all, marks_for, Out, moves, is_solo, core_evict, is_awaited, ignored, fill, fill_awaited}
 use Rattle.tcc_serial.proofs.Names.{data_request, invalidate, probe_reply, all_replied, Protocol, among, passes, commit, kept, marked}
@@ -62,8 +62,7 @@ steady-emptied sh x y s l e i m = record {
     solo _ e h = absurd (cc)
 
     unmarked : (Acts s.phase → ⊥) → (is_marked s.cache l ≡ false) ⊎ (is_solo s.phase ≡ true) → is_marked s.cache l ≡ false
-    unmarked h (inl z) = z
-    unmarked h (inr z) = absurd (h (solo s.phase refl z))
+    unmarked h a = grind (arith, nat_tests)
 
 pub evict-steady : (sh : Shape) (x y : ℕ) (s : CoreState) → IfSome (core_evict sh x y s) (λ o. Steady s o)
 evict-steady sh x y s = each-evict sh x y s (Steady s) (steady-emptied sh x y s)

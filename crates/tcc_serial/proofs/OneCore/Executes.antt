@@ -1,8 +1,7 @@
 -- What Exec may come to, as far as TIDs and messages about them go.
-use Rattle.tcc_serial.proofs.Names.{commit, ℕ, ◌≡◌, Bool, true, false, [], ◌∷◌, ◌==◌, Option, Some, None, if◌then◌else◌, refl, Program}
-use Rattle.tcc_serial.proofs.Names.{word_of, line_of, Dir, Vendor, TidReq, Tagged, Shape, home, Cache, dirty_copy, CoreState, Running}
-use Rattle.tcc_serial.proofs.Names.{AwaitTid, Overflowing, Solo, flush, flushed, Out, moves, noted, phase_after, committed_core}
-use Rattle.tcc_serial.proofs.Names.{solo_commit, solo_sends, Protocol, among, passes}
+use Rattle.tcc_serial.proofs.Names.{arith, nat_tests, commit, ℕ, ◌≡◌, [], ◌∷◌, Some, None, refl, Program, word_of, line_of, Dir, Vendor}
+use Rattle.tcc_serial.proofs.Names.{TidReq, Shape, home, Cache, CoreState, Running, AwaitTid, Overflowing, Solo, flushed, Out, moves, noted}
+use Rattle.tcc_serial.proofs.Names.{phase_after, committed_core, solo_commit, solo_sends, Protocol, among, passes}
 use Rattle.tcc_serial.proofs.OneCore.Said.{quiet, Flushes, Requests, Said, Silent, Unheard, say}
 use Rattle.tcc_serial.proofs.OneCore.Outcomes.{Acts, Buffers, Commits_now, Did, Ends_alone, Ends_run, Finds, Frames, Frames_anew, Idles}
 use Rattle.tcc_serial.proofs.OneCore.Outcomes.{Misses, Misses_anew, Reads, Room_wanted, after_end, out}
@@ -20,12 +19,7 @@ pub record Steady (s : CoreState) (o : Out) : Type 0 where
 -- the words of a line that go home count for nothing here
 pub flushed-quiet : (sh : Shape) (c : Cache) (l d : ℕ) → among Protocol (flushed sh c l (Dir d)) ≡ 0
 unfolding flushed among passes
-flushed-quiet sh c l d = go (d == home sh l) (dirty_copy c l)
-  where
-    go : (b : Bool) (t : Option Tagged) → among Protocol (if b then flush t else []) ≡ 0
-    go false t = refl
-    go true None = refl
-    go true (Some t) = refl
+flushed-quiet sh c l d = grind (arith, nat_tests)
 
 -- the instruction is done or asks for its line; a TID is asked for; a core that is alone commits
 pub data Executed (sh : Shape) (c : ℕ) (s : CoreState) (o : Out) : Type 0 where

@@ -1,11 +1,11 @@
 -- What a core sends with one event, and that nothing of a kind is among it where no message of its forms is of that kind.
-use Rattle.tcc_serial.proofs.Names.{ℕ, ◌≡◌, Bool, true, false, not, List, [], ◌∷◌, ◌++◌, ◌==◌, ◌&&◌, ◌||◌, Option, Some, None, nat_lt}
-use Rattle.tcc_serial.proofs.Names.{if◌then◌else◌, flat_map, arith, refl, those, count_below, Dir, Vendor, Tagged, Msg, TidReq, LoadReq}
-use Rattle.tcc_serial.proofs.Names.{Skip, Probe, Mark, Commit, Abort, WriteBack, Flush, InvAck, Shape, home, lines, is_modified}
-use Rattle.tcc_serial.proofs.Names.{modified_mask, written_lines, writes_at, reads_at, dirty_copy, holds, spilled_mask, spilled_words}
-use Rattle.tcc_serial.proofs.Names.{CoreState, Sends, nothing, to, flush, flushed, written_back, skip_all, probe_all, abort_written}
-use Rattle.tcc_serial.proofs.Names.{marks_for, commit_sends, solo_sends, solo_marks, solo_backs, solo_writes_at, is_written, written_mask}
-use Rattle.tcc_serial.proofs.Names.{grant_sends, Kind, among, passes, mark}
+use Rattle.tcc_serial.proofs.Names.{nat_tests, ℕ, ◌≡◌, Bool, true, false, List, [], ◌∷◌, ◌++◌, ◌==◌, ◌||◌, Option, Some, None, nat_lt}
+use Rattle.tcc_serial.proofs.Names.{if◌then◌else◌, flat_map, arith, refl, Dir, Vendor, Tagged, Msg, TidReq, LoadReq, Skip, Probe, Mark}
+use Rattle.tcc_serial.proofs.Names.{Commit, Abort, WriteBack, Flush, InvAck, Shape, home, dirty_copy, holds, CoreState, Sends, nothing, to}
+use Rattle.tcc_serial.proofs.Names.{flush, flushed, written_back, skip_all, probe_all, abort_written, marks_for, commit_sends, solo_sends}
+use Rattle.tcc_serial.proofs.Names.{solo_marks, solo_backs, grant_sends, Kind, among, passes, ◌&&◌, count_below, lines, is_modified}
+use Rattle.tcc_serial.proofs.Names.{writes_at, those, spilled_mask, spilled_words, solo_writes_at, is_written, written_mask, mark, not}
+use Rattle.tcc_serial.proofs.Names.{reads_at, modified_mask, written_lines}
 use Rattle.tcc_rules.specs.Sends.{write_back}
 use Rattle.tcc_serial.proofs.Counts.Links.{among-append, among-flat_map_none}
 
@@ -70,8 +70,7 @@ neither true b e = absurd (cc)
 -- a message that isn't of the kind, and one that is sent where a test holds
 pub one-quiet : (k : Kind) (m : Msg) (b : Bool) → passes k m ≡ false → among k (if b then m ∷ [] else []) ≡ 0
 unfolding among
-one-quiet k m true e = rw e refl
-one-quiet k m false e = refl
+one-quiet k m a e = grind (arith, nat_tests)
 
 marks-quiet : (k : Kind) (f : ℕ → ℕ) (t : ℕ) (ls : List ℕ) → ((x : Piece) → passes k (Mark x.line x.mask t) ≡ false) → among k (flat_map (λ l. Mark l (f l) t ∷ []) ls) ≡ 0
 unfolding among

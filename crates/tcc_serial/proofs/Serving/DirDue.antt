@@ -1,10 +1,10 @@
 -- What a directory's rules do to what it is owed and to what it sends about marked lines.
-use Rattle.tcc_serial.proofs.Names.{ℕ, zero, suc, ◌+◌, ◌-◌, ◌≡◌, ◌≤◌, ◌%◌, Bool, true, false, not, List, [], ◌∷◌, ◌==◌, nat_lt, cond}
-use Rattle.tcc_serial.proofs.Names.{if◌then◌else◌, flat_map, arith, refl, ◌⊎◌, inl, inr, nat_tests, flat_map-append, num, count_below}
-use Rattle.tcc_serial.proofs.Names.{those, Lines, has_mark, advance, kept, Core, Msg, Fill, Skip, ProbeReply, Commit, Abort, DataReq, Inv}
-use Rattle.tcc_serial.proofs.Names.{Shape, home, lines, DirState, Sends, nothing, total, Answer, Waits, Drops, Asks, Takes, dir_deliver}
-use Rattle.tcc_serial.proofs.Names.{owed_by, invalidations, invs_to, is_invalidated, line_words, Invs, InvsNot, InvsAway, Acks, MarksAway}
-use Rattle.tcc_serial.proofs.Names.{Resolves, among, passes, to, acknowledgement, settled, mark}
+use Rattle.tcc_serial.proofs.Names.{ℕ, zero, suc, ◌+◌, ◌-◌, ◌≡◌, ◌≤◌, ◌%◌, Bool, true, false, not, List, [], ◌∷◌, ◌==◌, cond, if◌then◌else◌}
+use Rattle.tcc_serial.proofs.Names.{flat_map, arith, refl, ◌⊎◌, inl, inr, nat_tests, flat_map-append, num, count_below, those, Lines}
+use Rattle.tcc_serial.proofs.Names.{has_mark, advance, kept, Core, Msg, Fill, Skip, ProbeReply, Commit, Abort, DataReq, Inv, Shape, home}
+use Rattle.tcc_serial.proofs.Names.{lines, DirState, Sends, nothing, total, Answer, Waits, Drops, Asks, Takes, dir_deliver, owed_by}
+use Rattle.tcc_serial.proofs.Names.{invalidations, invs_to, is_invalidated, line_words, Invs, InvsNot, InvsAway, Acks, MarksAway, Resolves}
+use Rattle.tcc_serial.proofs.Names.{among, passes, to, acknowledgement, settled, mark}
 use Rattle.tcc_serial.proofs.Counts.DirOutcome.{Outcome, Waiting, Spent, AsksOwner, TakesSkip, TakesAbort, TakesProbe, TakesLoad, TakesMark}
 use Rattle.tcc_serial.proofs.Counts.DirOutcome.{TakesCommit, TakesAck, TakesCopy, IsSpent, NoneOwed, CopyPassed, outcome, among-none}
 use Rattle.tcc_serial.proofs.Counts.DirOutcome.{none-to}
@@ -71,8 +71,7 @@ invs-those f t p zero = refl
 invs-those f t p (suc n) = rw flat_map-append (rw among-append (omega (arith, invs-those f t p n, last (p n))))
   where
     last : (b : Bool) → among Invs (flat_map (λ l. Inv l (f l) t ∷ []) (cond b (n ∷ []) [])) ≡ num b
-    last true = refl
-    last false = refl
+    last a = grind (arith, nat_tests)
 
 invs-invalidations : (sh : Shape) (ls : Lines) (c t : ℕ) → invs_sent sh (invalidations sh ls c t) ≡ owed_by sh ls c
 unfolding invalidations invs_to owed_by

@@ -1,7 +1,7 @@
 -- The served TID only rises, and a directory replies to a probe once it has reached its TID.
-use Rattle.tcc_serial.proofs.Names.{ℕ, ◌≡◌, ◌≤◌, Bool, true, false, [], if◌then◌else◌, arith, refl, nat_tests, num, advance, kept}
-use Rattle.tcc_serial.proofs.Names.{advance-rises, Core, Msg, Fill, ProbeReply, DataReq, Shape, DirState, Link, Sends, nothing, Answer}
-use Rattle.tcc_serial.proofs.Names.{Asks, Takes, dir_deliver, line_words, RepliesAbove, among, live, passes, Serving, lines, to}
+use Rattle.tcc_serial.proofs.Names.{ℕ, ◌≡◌, ◌≤◌, Bool, [], if◌then◌else◌, arith, refl, nat_tests, num, advance, kept, advance-rises, Core}
+use Rattle.tcc_serial.proofs.Names.{Msg, Fill, ProbeReply, DataReq, Shape, DirState, Link, Sends, nothing, Answer, Asks, Takes, dir_deliver}
+use Rattle.tcc_serial.proofs.Names.{line_words, RepliesAbove, among, live, passes, Serving, lines, to}
 use Rattle.tcc_serial.proofs.Counts.DirOutcome.{Outcome, AsksOwner, TakesSkip, TakesAbort, TakesProbe, TakesLoad, TakesMark, TakesCommit}
 use Rattle.tcc_serial.proofs.Counts.DirOutcome.{TakesAck, TakesCopy, outcome, among-none, none-to, none-invalidations}
 use Rattle.tcc_serial.proofs.Counts.Links.{live-fewer}
@@ -22,8 +22,7 @@ rises-still s = record { rises = omega arith; replies = λ j. refl }
 
 -- from the served TID to the one after it
 next-rises : (b : Bool) (s r : Serving) → s.serving ≤ r.serving → s.serving ≤ (if b then advance s else r).serving
-next-rises true s r l = let x = advance-rises s in omega arith
-next-rises false s r l = l
+next-rises a s r l = grind (arith, nat_tests, advance-rises)
 
 pub dir-rises : (sh : Shape) (s : DirState) (c : ℕ) (m : Msg) → RisesBy s (dir_deliver sh s c m)
 unfolding passes kept

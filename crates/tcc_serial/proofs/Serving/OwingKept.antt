@@ -1,8 +1,8 @@
 -- Every event keeps which directories owe a core replies: those that it asked, while it waits, and then some does.
 use Rattle.tcc_serial.proofs.Names.{ℕ, ◌≡◌, ◌<◌, ◌==◌, ◌&&◌, ◌||◌, Bool, true, false, Option, Some, None, IfSome, nat_lt, if◌then◌else◌}
-use Rattle.tcc_serial.proofs.Names.{arith, refl, ap₂, nat_tests, Program, Local, Outcome, Goes, any_below, Dir, Event, Msg, Fill}
-use Rattle.tcc_serial.proofs.Names.{ProbeReply, DataReq, Inv, Shape, writes_at, reads_at, any_below-at, CoreState, World, Phase, Running}
-use Rattle.tcc_serial.proofs.Names.{AwaitTid, DoomedTid, Probing, Ready, Overflowing, Solo, start, core_start, Out, commit, committed_core}
+use Rattle.tcc_serial.proofs.Names.{arith, refl, ap₂, nat_tests, Program, Local, Outcome, any_below, Dir, Event, Msg, Fill, ProbeReply}
+use Rattle.tcc_serial.proofs.Names.{DataReq, Inv, Shape, writes_at, reads_at, any_below-at, CoreState, World, Phase, Running, AwaitTid}
+use Rattle.tcc_serial.proofs.Names.{DoomedTid, Probing, Ready, Overflowing, Solo, start, core_start, Out, commit, committed_core}
 use Rattle.tcc_serial.proofs.Names.{phase_after, core_exec, core_evict, from_dir, grant, grant_phase, is_probed, probing, all_replied, fill}
 use Rattle.tcc_serial.proofs.Names.{data_request, invalidate, probe_reply, Answer, Waits, dir_deliver, core_moves, core_takes, dir_takes}
 use Rattle.tcc_serial.proofs.Names.{dir_asks, vendor_gives, step, OwingFits, awaits_replies, asks_dir, answered, moved, taken}
@@ -49,8 +49,7 @@ steady-owing : (sh : Shape) (s : CoreState) (o : Out) → Steady s o → OwingFi
 steady-owing sh s o y h = same-owing sh s o.core y.phase y.owing (λ a d. ap₂ (λ x z. x || z) (writes_at-same sh o.core.cache s.cache d (y.modified (not-acts s.phase a))) (reads_at-same sh o.core.cache s.cache d (y.read (not-acts s.phase a)))) h
 
 after-none : (e : Outcome) → awaits_replies (phase_after e) ≡ false
-after-none Goes = refl
-after-none _ = refl
+after-none a = grind (arith, nat_tests)
 
 executed-owing : (sh : Shape) (c : ℕ) (s : CoreState) (o : Out) → Executed sh c s o → OwingFits sh s → OwingFits sh o.core
 executed-owing sh c s o (Goes_on y) h = steady-owing sh s o y h

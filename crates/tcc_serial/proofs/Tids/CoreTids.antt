@@ -1,17 +1,15 @@
 -- What a core's rules do to its part of a TID.
 use Rattle.tcc_serial.proofs.Names.{ℕ, ◌+◌, ◌≡◌, ◌<◌, Bool, true, false, List, [], ◌∷◌, ◌==◌, ◌&&◌, Some, None, IfSome, if◌then◌else◌}
-use Rattle.tcc_serial.proofs.Names.{arith, refl, ap, ◌⊎◌, inl, inr, Program, Outcome, Goes, num, any_below, Dir, Msg, Fill, ProbeReply}
-use Rattle.tcc_serial.proofs.Names.{DataReq, Inv, InvAck, Shape, home, writes_at, CoreState, Phase, Running, AwaitTid, DoomedTid, Probing}
-use Rattle.tcc_serial.proofs.Names.{Ready, Overflowing, Solo, Halted, Sends, to, marks_for, Out, commit, committed_core, phase_after}
-use Rattle.tcc_serial.proofs.Names.{core_exec, core_evict, grant, grant_phase, from_dir, probing, is_probed, probe_reply, ignored}
-use Rattle.tcc_serial.proofs.Names.{all_replied, fill, data_request, invalidate, Resolves, among, passes, opens, waits_for_tid, kept, put}
-use Rattle.tcc_serial.proofs.Names.{nat_tests}
+use Rattle.tcc_serial.proofs.Names.{arith, refl, ◌⊎◌, inl, inr, Program, Outcome, num, any_below, Dir, Msg, Fill, ProbeReply, DataReq, Inv}
+use Rattle.tcc_serial.proofs.Names.{InvAck, Shape, home, writes_at, CoreState, Phase, Running, AwaitTid, DoomedTid, Probing, Ready}
+use Rattle.tcc_serial.proofs.Names.{Overflowing, Solo, Sends, to, marks_for, Out, commit, committed_core, phase_after, core_exec}
+use Rattle.tcc_serial.proofs.Names.{core_evict, grant, grant_phase, from_dir, probing, is_probed, probe_reply, ignored, all_replied, fill}
+use Rattle.tcc_serial.proofs.Names.{data_request, invalidate, Resolves, among, passes, opens, waits_for_tid, kept, put, nat_tests}
 use Rattle.tcc_serial.proofs.Counts.Links.{among-append, resolves-commit_sends, resolves-abort_written, resolves-skip_all}
 use Rattle.tcc_serial.proofs.Counts.Links.{resolves-probe_all, resolves-grant_sends, resolves-marks_for, resolves-solo_sends, among-quiet}
 use Rattle.tcc_serial.proofs.OneCore.Executes.{Steady, Executed, Goes_on, Overflows, Asks_tid, Alone, did-executed}
-use Rattle.tcc_serial.proofs.OneCore.CoreSteps.{ignored-steady, fill-steady, data-steady, Hurt, Unhurt, Rolled, Doomed, Aborted, Gave_up}
-use Rattle.tcc_serial.proofs.OneCore.CoreSteps.{Invalidated, invalidate-cases, steady-emptied, Ignored, Left_alone, Probed, Replied}
-use Rattle.tcc_serial.proofs.OneCore.CoreSteps.{reply-cases}
+use Rattle.tcc_serial.proofs.OneCore.CoreSteps.{ignored-steady, fill-steady, data-steady, Hurt, Invalidated, invalidate-cases}
+use Rattle.tcc_serial.proofs.OneCore.CoreSteps.{steady-emptied, Ignored, Left_alone, Probed, Replied, reply-cases}
 use Rattle.tcc_serial.proofs.OneCore.Said.{quiet}
 use Rattle.tcc_serial.proofs.OneCore.Outcomes.{Acts, Commits_now, Did, each-exec, out, each-evict, emptied, writes_at-same}
 
@@ -22,15 +20,7 @@ KeepsPart sh d t got s o = got + num (opens s.phase (writes_at sh s.cache d) t) 
 -- where a core executes, its written directories don't matter
 opens-acts : (q : Phase) (a b : Bool) (t : ℕ) → (Acts q → ⊥) ⊎ Acts q → ((Acts q → ⊥) → a ≡ b) → opens q a t ≡ opens q b t
 unfolding opens
-opens-acts q a b t (inl h) e = ap (λ x. opens q x t) (e h)
-opens-acts Running a b t (inr h) e = refl
-opens-acts (Solo u) a b t (inr h) e = refl
-opens-acts AwaitTid a b t (inr h) e = refl
-opens-acts DoomedTid a b t (inr h) e = refl
-opens-acts (Probing u) a b t (inr h) e = absurd h
-opens-acts (Ready u) a b t (inr h) e = absurd h
-opens-acts (Overflowing u) a b t (inr h) e = absurd h
-opens-acts Halted a b t (inr h) e = refl
+opens-acts q a b t d e = grind (arith, nat_tests)
 
 acts : (q : Phase) → (Acts q → ⊥) ⊎ Acts q
 acts Running = inr tt
@@ -39,8 +29,7 @@ acts _ = inl (λ h. h)
 
 opens-after : (e : Outcome) (a : Bool) (t : ℕ) → opens (phase_after e) a t ≡ false
 unfolding opens
-opens-after Goes a t = refl
-opens-after _ a t = refl
+opens-after b a t = grind (arith, nat_tests)
 
 part-steady : (sh : Shape) (d t : ℕ) (s : CoreState) (o : Out) → Steady s o → KeepsPart sh d t 0 s o
 part-steady sh d t s o y = rw (y.phase, opens-acts s.phase (writes_at sh o.core.cache d) (writes_at sh s.cache d) t (acts s.phase) (λ h. writes_at-same sh o.core.cache s.cache d (y.modified h))) (omega (arith, among-quiet t (o.sends (Dir d)), y.quiet d))
@@ -68,8 +57,7 @@ part-evict sh x y d t s = each-evict sh x y s (λ o. KeepsPart sh d t 0 s o) (λ
 
 opens-probing : (b : Bool) (u : ℕ) (w : Bool) (t : ℕ) → opens (probing b u) w t ≡ ((u == t) && w)
 unfolding opens
-opens-probing true u w t = refl
-opens-probing false u w t = refl
+opens-probing a u w t = grind (arith, nat_tests)
 
 pub part-grant : (sh : Shape) (u d t : ℕ) (s : CoreState) → d < sh.dirs → waits_for_tid s.phase ≡ true → KeepsPart sh d t (num (u == t)) s (grant sh u s)
 unfolding grant waits_for_tid opens
@@ -102,14 +90,7 @@ part-replied sh e u d t s o (Left_alone ph ow ph' ow' mo se cm) = rw (ph, ph', s
 
 part-hurt : (sh : Shape) (d t : ℕ) (s r : CoreState) (sends : Sends) → d < sh.dirs → Hurt sh s r sends → num (opens s.phase (writes_at sh s.cache d) t) ≡ num (opens r.phase (writes_at sh r.cache d) t) + among (Resolves t) (sends (Dir d))
 unfolding among opens
-part-hurt sh d t s r sends l (Unhurt ph ow mo re sn) = rw (ph, sn (Dir d), writes_at-same sh r.cache s.cache d mo) (omega arith)
-part-hurt sh d t s r sends l (Rolled ph ph' ow sn) = rw (ph, ph', sn (Dir d)) refl
-part-hurt sh d t s r sends l (Doomed (inl ph) ph' ow sn) = rw (ph, ph', sn (Dir d)) refl
-part-hurt sh d t s r sends l (Doomed (inr ph) ph' ow sn) = rw (ph, ph', sn (Dir d)) refl
-part-hurt sh d t s r sends l (Aborted u (inl ph) ph' ow se) = rw (ph, ph', se) (omega (arith, resolves-abort_written sh s.cache u d t l))
-part-hurt sh d t s r sends l (Aborted u (inr ph) ph' ow se) = rw (ph, ph', se) (omega (arith, resolves-abort_written sh s.cache u d t l))
-part-hurt sh d t s r sends l (Gave_up u (inl ph) ph' ow se) = rw (ph, ph', se) (omega (arith, resolves-skip_all sh u d t l))
-part-hurt sh d t s r sends l (Gave_up u (inr ph) ph' ow se) = rw (ph, ph', se) (omega (arith, resolves-skip_all sh u d t l))
+part-hurt sh d t s r sends l a = grind (arith, nat_tests, writes_at-same, resolves-abort_written, resolves-skip_all)
 
 part-invalidated : (sh : Shape) (l d t : ℕ) (s : CoreState) (o : Out) → d < sh.dirs → Invalidated sh l s o → KeepsPart sh d t 0 s o
 unfolding among passes

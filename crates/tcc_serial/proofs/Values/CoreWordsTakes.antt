@@ -1,9 +1,9 @@
 -- What a message does to a word's copies at the core that takes it: it keeps them, or is an invalidation of the word's line, which may
 -- take the word from the frame.
-use Rattle.tcc_serial.proofs.Names.{invalidated, moves, ℕ, ◌≡◌, ◌⊎◌, ◌==◌, ◌&&◌, Bool, true, false, not, List, Option, Some, None, IfSome}
-use Rattle.tcc_serial.proofs.Names.{is_some, unwrap_or, get_or, if◌then◌else◌, refl, sym, ◌∙◌, inl, inr, cases_eq, line_of, place_of, hit}
-use Rattle.tcc_serial.proofs.Names.{Dir, Msg, Inv, Shape, home, IsCache, filled, cleaned, rolled_back, read_cleared, CoreState, nothing}
-use Rattle.tcc_serial.proofs.Names.{Out, grant, from_dir, CopyOf, among, passes, ap, kept}
+use Rattle.tcc_serial.proofs.Names.{arith, nat_tests, invalidated, moves, ℕ, ◌≡◌, ◌⊎◌, ◌==◌, ◌&&◌, Bool, true, false, not, List, Option}
+use Rattle.tcc_serial.proofs.Names.{Some, None, IfSome, is_some, unwrap_or, get_or, if◌then◌else◌, refl, sym, ◌∙◌, inl, inr, cases_eq}
+use Rattle.tcc_serial.proofs.Names.{line_of, place_of, hit, Dir, Msg, Inv, Shape, home, IsCache, filled, cleaned, rolled_back, read_cleared}
+use Rattle.tcc_serial.proofs.Names.{CoreState, nothing, Out, grant, from_dir, CopyOf, among, passes, ap, kept}
 use Rattle.tcc_serial.proofs.Copies.CopyRules.{missed}
 use Rattle.tcc_serial.proofs.Values.CoreWords.{carries-still}
 use Rattle.tcc_serial.proofs.Values.WordCopies.{WordCarried, Carries, word-still, word-sent, flushed-words}
@@ -48,13 +48,10 @@ words-back sh x e s m h = each-back sh e s (WordBack sh x s) go m
 
     -- a roll back takes modified words, and dirty words aren't modified
     unmodified : (k m : ℕ) (b : Bool) → s.cache.modified x ≡ b → is_some (s.cache.dirty x) ≡ true → (if b then None else (invalidated k m s.cache).value x) ≡ (invalidated k m s.cache).value x
-    unmodified k m false q d = refl
-    unmodified k m true q d = absurd (let z : s.cache.dirty x ≡ None = h.either x x refl q in let n : is_some (s.cache.dirty x) ≡ false = rw z refl in cc)
+    unmodified k m a q d = grind (arith, nat_tests)
 
     kept : (ws : List ℕ) (v : ℕ) (b : Bool) (o : Option ℕ) → is_some o ≡ true → (if b then Some (unwrap_or o (get_or ws (place_of v) 0)) else o) ≡ o
-    kept ws v true (Some y) e = refl
-    kept ws v true None e = absurd (cc)
-    kept ws v false o e = refl
+    kept ws v a o e = grind (arith, nat_tests)
 
     -- after an invalidation and perhaps a roll back
     hurt : (k m u : ℕ) (y : Heard sh e s) → (heard y).core.cache.dirty x ≡ (invalidated k m s.cache).dirty x → (is_some (s.cache.dirty x) ≡ true → (heard y).core.cache.value x ≡ (invalidated k m s.cache).value x) → ((t : ℕ) → among (CopyOf l t) ((heard y).sends (Dir (home sh l))) ≡ 0) → WordBack sh x s (Inv k m u) (heard y)

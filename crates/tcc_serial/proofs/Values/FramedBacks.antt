@@ -1,9 +1,9 @@
 -- What each message to a core does to the words in its frames: a Fill brings those that aren't valid, an invalidation takes those of its
 -- mask that aren't modified, and no other changes any.
-use Rattle.tcc_serial.proofs.Names.{ℕ, ◌≡◌, ◌⊎◌, Bool, true, false, not, ◌&&◌, ◌||◌, ◌==◌, List, Option, Some, None, IfSome, unwrap_or}
-use Rattle.tcc_serial.proofs.Names.{get_or, if◌then◌else◌, refl, sym, subst, ◌∙◌, inl, inr, true≢false, line_of, place_of, hit, Msg, Fill}
-use Rattle.tcc_serial.proofs.Names.{Inv, Shape, Cache, filled, cleaned, invalidated, rolled_back, read_cleared, CoreState, Awaited, Out}
-use Rattle.tcc_serial.proofs.Names.{grant, staled, from_dir, InvWord, passes, is_stale, arith, commit, nat_tests, rests}
+use Rattle.tcc_serial.proofs.Names.{ℕ, ◌≡◌, ◌⊎◌, Bool, true, false, not, ◌&&◌, ◌==◌, List, Option, Some, None, IfSome, unwrap_or, get_or}
+use Rattle.tcc_serial.proofs.Names.{if◌then◌else◌, refl, sym, subst, ◌∙◌, inl, inr, line_of, place_of, hit, Msg, Fill, Inv, Shape, Cache}
+use Rattle.tcc_serial.proofs.Names.{filled, cleaned, invalidated, rolled_back, read_cleared, CoreState, Awaited, Out, grant, staled}
+use Rattle.tcc_serial.proofs.Names.{from_dir, InvWord, passes, is_stale, arith, commit, nat_tests, rests}
 use Rattle.tcc_serial.proofs.Values.FramedCores.{Fades, Fading, fades-same, fading}
 use Rattle.tcc_serial.proofs.OneCore.Outcomes.{Last_room, Fills, Fills_none, Given_none, Granted, Hands_out, Heard, Hurt_alone}
 use Rattle.tcc_serial.proofs.OneCore.Outcomes.{Hurt_probing, Hurt_running, Hurt_waiting, Ignores_fill, Hurt_none, each-back, each-grant}
@@ -42,12 +42,7 @@ fades-rolled c d x h y = go (d.modified x) refl
     go false q e f = h y e q
 
 staled-fresh : (l : ℕ) (a : Option Awaited) → is_stale (staled l a) ≡ false → is_stale a ≡ false
-staled-fresh l None h = refl
-staled-fresh l (Some a) h = go (a.line == l) h
-  where
-    go : (b : Bool) → (b || a.stale) ≡ false → a.stale ≡ false
-    go true q = absurd (true≢false q)
-    go false q = q
+staled-fresh l a h = grind (arith, nat_tests)
 
 -- what an invalidation does: its words have no valid copy that isn't modified, and an awaited line of its line is stale
 pub record Invalidates (l m : ℕ) (s : CoreState) (o : Out) : Type 0 where

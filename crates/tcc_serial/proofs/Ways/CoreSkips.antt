@@ -1,12 +1,12 @@
 -- What each of a core's rules says of its TID: where it goes on with it, it has skipped it at directories where it writes nothing;
 -- and where it commits, it has spoken at each directory.
 use Rattle.tcc_serial.proofs.Names.{ℕ, ◌≡◌, ◌<◌, ◌≤◌, Bool, true, false, not, [], ◌==◌, ◌&&◌, Some, None, IfSome, if◌then◌else◌, arith}
-use Rattle.tcc_serial.proofs.Names.{refl, sym, ◌⊎◌, inl, inr, nat_tests, Noted, Program, Outcome, Goes, any_below, Dir, Msg, Fill}
-use Rattle.tcc_serial.proofs.Names.{ProbeReply, DataReq, Inv, Shape, Cache, writes_at, CoreState, Phase, Running, AwaitTid, DoomedTid}
-use Rattle.tcc_serial.proofs.Names.{Probing, Ready, Overflowing, Solo, Out, commit, committed_core, noted, phase_after, core_exec}
-use Rattle.tcc_serial.proofs.Names.{core_evict, grant, grant_phase, grant_sends, from_dir, probing, is_probed, probe_reply, ignored}
-use Rattle.tcc_serial.proofs.Names.{all_replied, fill, data_request, invalidate, put, Skips, among, passes, Words, OneCore, has_tid, Untold}
-use Rattle.tcc_serial.proofs.Names.{told_by, live_way, commit_way, has}
+use Rattle.tcc_serial.proofs.Names.{refl, sym, ◌⊎◌, inl, inr, nat_tests, Noted, Program, Outcome, any_below, Dir, Msg, Fill, ProbeReply}
+use Rattle.tcc_serial.proofs.Names.{DataReq, Inv, Shape, Cache, writes_at, CoreState, Phase, Running, AwaitTid, DoomedTid, Probing, Ready}
+use Rattle.tcc_serial.proofs.Names.{Overflowing, Solo, Out, commit, committed_core, noted, phase_after, core_exec, core_evict, grant}
+use Rattle.tcc_serial.proofs.Names.{grant_phase, grant_sends, from_dir, probing, is_probed, probe_reply, ignored, all_replied, fill}
+use Rattle.tcc_serial.proofs.Names.{data_request, invalidate, put, Skips, among, passes, Words, OneCore, has_tid, Untold, told_by, live_way}
+use Rattle.tcc_serial.proofs.Names.{commit_way, has}
 use Rattle.tcc_serial.proofs.OneCore.Executes.{Steady, Executed, Goes_on, Overflows, Asks_tid, Alone, did-executed}
 use Rattle.tcc_serial.proofs.OneCore.CoreSteps.{ignored-steady, fill-steady, data-steady, Hurt, Unhurt, Rolled, Doomed, Aborted, Gave_up}
 use Rattle.tcc_serial.proofs.OneCore.CoreSteps.{Invalidated, invalidate-cases, Replied, Ignored, Probed, Left_alone, reply-cases}
@@ -48,8 +48,7 @@ tells-none : (sh : Shape) (s : CoreState) (o : Out) (q : Phase) → o.core.phase
 tells-none sh s o q e h c = record { skips = λ d t l x. absurd (let z = h (writes_at sh o.core.cache d) t in let y : skips_here q (writes_at sh o.core.cache d) t ≡ true = rw e at x in cc); commits = c }
 
 skips-after : (e : Outcome) (b : Bool) (t : ℕ) → skips_here (phase_after e) b t ≡ false
-skips-after Goes b t = refl
-skips-after _ b t = refl
+skips-after a b t = grind (arith, nat_tests)
 
 tells-executed : (sh : Shape) (c : ℕ) (s : CoreState) (o : Out) → OneCore sh s → Notes s o → Executed sh c s o → Tells sh s o
 unfolding noted has_tid live_way
@@ -107,13 +106,11 @@ tells-replied sh e u s o (Ignored q n) = rw q (tells-steady sh s (ignored s) (ig
 tells-replied sh e u s o (Probed g f ph ow ca se cm) = record { skips = λ d t l x. inl (go d t (all_replied sh (put s.owing e false)) (rw ph at x)); commits = rw cm tt }
   where
     go : (d t : ℕ) (b : Bool) → skips_here (if b then Ready u else Probing u) (writes_at sh o.core.cache d) t ≡ true → skips_here s.phase (writes_at sh s.cache d) t ≡ true
-    go d t true x = rw g (rw ca at x)
-    go d t false x = rw g (rw ca at x)
+    go d t a x = grind (arith, nat_tests)
 tells-replied sh e u s o (Left_alone g f ph ow mo se cm) = tells-none sh s o (if all_replied sh (put s.owing e false) then Solo u else Overflowing (Some u)) ph (none (all_replied sh (put s.owing e false))) (rw cm tt)
   where
     none : (a b : Bool) (t : ℕ) → skips_here (if a then Solo u else Overflowing (Some u)) b t ≡ false
-    none true b t = refl
-    none false b t = refl
+    none a b t = grind (arith, nat_tests)
 
 tells-hurt : (sh : Shape) (l : ℕ) (s : CoreState) (o : Out) → Invalidated sh l s o → Tells sh s o
 tells-hurt sh l s o i = go i.hurt
