@@ -13,8 +13,7 @@ pub record Answered (mine : Bool) (m : Msg) (s : DirState) (v w : Pair) : Type 0
   pub lives : (k : Kind) → live k w.out + num (mine && passes k m) ≡ live k v.out
 
 pub none-passes : (b : Bool) (k : Kind) (m : Msg) → passes k m ≡ false → num (b && passes k m) ≡ 0
-none-passes true k m e = ap num e
-none-passes false k m e = refl
+none-passes a k m e = grind (arith, nat_tests)
 
 still-live : (b : Bool) (m : Msg) (s : DirState) (v w : Pair) (k : Kind) → Answered b m s v w → passes k m ≡ false → live k w.out ≡ live k v.out
 still-live b m s v w k a e = omega (arith, a.lives k, none-passes b k m e)
@@ -44,9 +43,7 @@ dropped-similar base cs c l b m v w a n late other h = record {
     g = v.dir.lines.tag l
 
     above : (t : ℕ) → g < t → (x y : Bool) → b ≡ x → passes (CopyOf l t) m ≡ y → num (x && y) ≡ 0
-    above t i true true e f = absurd (omega (arith, i, late t e f))
-    above t i true false e f = refl
-    above t i false y e f = refl
+    above t i a y e f = grind (arith, nat_tests)
 
     here : (x y : Bool) → b ≡ x → passes (CopyOf l g) m ≡ y → num (x && y) ≡ 0
     here true true e f = absurd (let z : num (is_this (v.dir.lines.owner l) c) ≡ 0 = ap num (other e f) in let p : num (b && passes (CopyOf l g) m) ≡ 1 = rw (e, f) refl in omega (arith, z, p, h.owned, of-line l g v, a.lives (CopyOf l g)))
@@ -82,8 +79,7 @@ came-similar base cs c o l k b m s v w z a p own e f n = go (cases_eq k l)
         }
       where
         all : (b : Bool) → num (b && true) ≡ num b
-        all true = refl
-        all false = refl
+        all a = grind (arith, nat_tests)
 
         turn : (x y : ℕ) → num (x == y) ≡ num (y == x)
         turn x y = grind (arith, nat_tests)

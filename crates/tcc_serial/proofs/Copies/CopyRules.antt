@@ -45,8 +45,7 @@ unfolding written_mask modified_mask mask_of
 unspilled-mask c sp l h = rw (h 0 (omega arith), h 1 (omega arith), h 2 (omega arith), h 3 (omega arith), h 4 (omega arith), h 5 (omega arith), h 6 (omega arith), h 7 (omega arith)) (rw (or-none (c.modified (word_at l 0)), or-none (c.modified (word_at l 1)), or-none (c.modified (word_at l 2)), or-none (c.modified (word_at l 3)), or-none (c.modified (word_at l 4)), or-none (c.modified (word_at l 5)), or-none (c.modified (word_at l 6)), or-none (c.modified (word_at l 7))) refl)
   where
     or-none : (b : Bool) → (b || false) ≡ b
-    or-none true = refl
-    or-none false = refl
+    or-none a = grind (arith, nat_tests)
 
 spilled-only : (c : Cache) (sp : Spilled) (l : ℕ) → ((k : ℕ) → k < 8 → c.modified (word_at l k) ≡ false) → written_mask c sp l ≡ spilled_mask sp l
 unfolding written_mask spilled_mask mask_of
@@ -66,12 +65,10 @@ alone-copies sh b l id u s i j h = go (holds s.spilled l) refl
     mask = written-stored sh.base s.cache s.spilled s.stores l (h.named)
 
     or-last : (a c : Bool) → c ≡ true → (a || c) ≡ true
-    or-last true c e = refl
-    or-last false c e = e
+    or-last a c e = grind (arith, nat_tests)
 
     or-none : (a c : Bool) → c ≡ false → (a || c) ≡ a
-    or-none true c e = refl
-    or-none false c e = e
+    or-none a c e = grind (arith, nat_tests)
 
     go : (b : Bool) → holds s.spilled l ≡ b → Conserves sh l s (solo_commit sh id u s)
     go false q =
@@ -95,8 +92,7 @@ alone-copies sh b l id u s i j h = go (holds s.spilled l) refl
             words k i = h.clean (word_at l v.0) (word_at l k) (in-line l v.0 (v.1) ∙ sym (in-line l k i)) (v.2)
 
             none : (a : Bool) (m : Bool) (d : Option ℕ) → m ≡ false → d ≡ None → (if (if a then false else m) then Some u else (if a then None else d)) ≡ None
-            none true m d e f = refl
-            none false m d e f = rw (e, f) refl
+            none a m d e f = grind (arith, nat_tests)
 
             gone : IsClean after l
             gone k i = none (is_some (s.spilled (word_at l k))) (s.cache.modified (word_at l k)) (s.cache.dirty (word_at l k)) ((words k i).0) ((words k i).1)
@@ -165,8 +161,7 @@ copies-back sh l e s m h = each-back sh e s (BackStep sh l s) go m
     away k m n j i = let z : line_of (word_at l j) ≡ l = in-line l j i in none (hit k m (word_at l j)) (s.cache.modified (word_at l j)) (missed k m l (word_at l j) z n)
       where
         none : (a b : Bool) → a ≡ false → (if a && not b then None else s.cache.dirty (word_at l j)) ≡ s.cache.dirty (word_at l j)
-        none true b e = absurd (cc)
-        none false b e = refl
+        none a b e = grind (arith, nat_tests)
 
     here : (k m j : ℕ) → j < 8 → ((invalidated k m s.cache).dirty (word_at l j) ≡ None) ⊎ ((invalidated k m s.cache).dirty (word_at l j) ≡ s.cache.dirty (word_at l j))
     here k m j i = one (hit k m (word_at l j) && not (s.cache.modified (word_at l j)))

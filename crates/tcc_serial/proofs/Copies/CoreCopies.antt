@@ -48,25 +48,13 @@ conserves-sent sh l k s o e h y = go (cases_eq k l)
 -- a new frame has no dirty word
 pub placed-dirty : (sh : Shape) (k : ℕ) (c : Cache) (v : ℕ) → (placed sh k c).dirty v ≡ c.dirty v
 unfolding placed placed_at
-placed-dirty sh k c v = go (free_way sh c (set_of sh k))
-  where
-    go : (a : Option ℕ) → (placed_at a (set_of sh k) k c).dirty v ≡ c.dirty v
-    go None = refl
-    go (Some y) = refl
+placed-dirty sh k c v = grind (arith, nat_tests)
 
 -- a line without a frame has no dirty word
 pub unheld-clean : (sh : Shape) (c : Cache) (v : ℕ) → IsCache sh c → c.held (line_of v) ≡ false → c.dirty v ≡ None
-unheld-clean sh c v h e = go (c.dirty v) refl
-  where
-    go : (a : Option ℕ) → c.dirty v ≡ a → a ≡ None
-    go None q = refl
-    go (Some t) q = absurd (let y : is_some (c.value v) ≡ true = h.dirty v (rw q refl) in let z : is_some (c.value v) ≡ false = rw (h.valued v e) refl in cc)
+unheld-clean sh c v h e = grind (arith, nat_tests)
 
 -- nor after a store into it
 pub framed-dirty : (sh : Shape) (w x : ℕ) (c : Cache) → IsCache sh c → c.held (line_of w) ≡ false → (v : ℕ) → (stored w x false (placed sh (line_of w) c)).dirty v ≡ c.dirty v
 unfolding stored
-framed-dirty sh w x c h e v = one (line_of w == line_of v) refl
-  where
-    one : (b : Bool) → (line_of w == line_of v) ≡ b → (if b then None else (placed sh (line_of w) c).dirty v) ≡ c.dirty v
-    one false q = placed-dirty sh (line_of w) c v
-    one true q = let y : line_of w ≡ line_of v = grind (arith, nat_tests) in sym (unheld-clean sh c v h (rw y at e))
+framed-dirty sh w x c h e v = grind (arith, nat_tests, placed-dirty, unheld-clean)

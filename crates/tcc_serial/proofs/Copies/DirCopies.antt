@@ -1,5 +1,5 @@
 -- What a directory's answer does, between a core and the line's home, to the copies of a line.
-use Rattle.tcc_serial.proofs.Names.{ℕ, ◌+◌, ◌≡◌, ◌<◌, ◌≤◌, ◌==◌, Bool, true, false, cond, List, Some, arith, refl, sym, ◌∙◌, Noted, num}
+use Rattle.tcc_serial.proofs.Names.{nat_tests, ℕ, ◌+◌, ◌≡◌, ◌<◌, ◌≤◌, ◌==◌, Bool, true, cond, List, Some, arith, refl, sym, ◌∙◌, Noted, num}
 use Rattle.tcc_serial.proofs.Names.{Commits, CopyOf, CopyMask, live, Pair, is_this, wrote_line, wrote_mask}
 use Rattle.tcc_serial.proofs.Copies.DirtyFrames.{frame_copy, frame_wrong}
 use Rattle.tcc_serial.proofs.Copies.PairCopies.{line_copies, line_wrong, LineCopies, of-line, of-wrong, few-wrong, same-cond}
@@ -46,8 +46,7 @@ pub record TakenOver (base : ℕ) (cs : List Noted) (c u j l : ℕ) (v w : Pair)
   pub after : (t : ℕ) → u < t → live (Commits t) w.out ≡ 0
 
 nothing-in : (b : Bool) (x : ℕ) → x ≡ 0 → cond b x 0 ≡ 0
-nothing-in true x e = e
-nothing-in false x e = refl
+nothing-in a x e = grind (arith, nat_tests)
 
 pub taken-copies : (base : ℕ) (cs : List Noted) (c u j l : ℕ) (v w : Pair) → TakenOver base cs c u j l v w → LineCopies base cs j l v → LineCopies base cs j l w
 taken-copies base cs c u j l v w s h =

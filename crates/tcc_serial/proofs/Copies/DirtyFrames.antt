@@ -110,8 +110,7 @@ unfolding is_dirty is_modified dirty_mask modified_mask any_word any_below mask_
 dirty-modified c e l u h = (rw (one 0 (omega arith), one 1 (omega arith), one 2 (omega arith), one 3 (omega arith), one 4 (omega arith), one 5 (omega arith), one 6 (omega arith), one 7 (omega arith)) refl, rw (one 0 (omega arith), one 1 (omega arith), one 2 (omega arith), one 3 (omega arith), one 4 (omega arith), one 5 (omega arith), one 6 (omega arith), one 7 (omega arith)) refl)
   where
     of : (b : Bool) → is_some (if b then Some u else None) ≡ b
-    of true = refl
-    of false = refl
+    of a = grind (arith, nat_tests)
 
     one : (k : ℕ) → k < 8 → is_some (e.dirty (word_at l k)) ≡ c.modified (word_at l k)
     one k i = rw (h k i) (of (c.modified (word_at l k)))
@@ -124,8 +123,7 @@ committed-frame sh c e l u h f = go (is_modified c l) refl
     tag m d = let x = dirty-found e l d in is (c.modified (word_at l x.0)) (sym (new-dirty sh c e l u h f m x.0 (x.1)) ∙ x.2)
       where
         is : (b : Bool) → (if b then Some u else None) ≡ Some (dirty_tag e l) → dirty_tag e l ≡ u
-        is true q = cc
-        is false q = absurd (cc)
+        is a q = grind (arith, nat_tests)
 
     clean : is_modified c l ≡ true → is_dirty c l ≡ false
     clean m = clean-dirty c l (no-dirty sh c l h m)

@@ -1,18 +1,18 @@
 -- Every event keeps the copies of each line in memory, each kind of event by itself.
 use Rattle.tcc_serial.proofs.Names.{ℕ, ◌%◌, ◌≡◌, ◌<◌, ◌≤◌, ◌⊎◌, ◌==◌, Bool, true, false, not, cond, List, Option, Some, None, arith, refl}
 use Rattle.tcc_serial.proofs.Names.{ap, sym, ◌∙◌, inl, inr, cases_lt, nat_tests, Noted, num, Core, Dir, Msg, Inv, Shape, home, lines}
-use Rattle.tcc_serial.proofs.Names.{in_flight, Out, History, Commits, InvsAway, live, among, passes, Grant, Pair, pair, after_move, is_this}
-use Rattle.tcc_serial.proofs.Names.{Ways, wrote_line, ◌+◌, ◌&&◌, nat_lt, [], Contains, subst, cases_eq, has_mark, DirState, Sends}
-use Rattle.tcc_serial.proofs.Names.{dir_takes, dir_asks, CopyOf, after_answer, out_taken, is_applied, names_line, IfSome, Program, Vendor}
-use Rattle.tcc_serial.proofs.Names.{Event, core_exec, core_evict, from_dir, grant, Answer, Waits, Drops, Asks, Takes, dir_deliver}
-use Rattle.tcc_serial.proofs.Names.{core_moves, core_takes, and_noted, step, grant_taken, back_taken, after_grant, after_other_grant}
+use Rattle.tcc_serial.proofs.Names.{in_flight, Out, History, Commits, InvsAway, live, among, passes, Grant, Pair, pair, after_move, Ways}
+use Rattle.tcc_serial.proofs.Names.{wrote_line, ◌+◌, ◌&&◌, nat_lt, [], Contains, subst, cases_eq, has_mark, DirState, Sends, dir_takes}
+use Rattle.tcc_serial.proofs.Names.{dir_asks, CopyOf, after_answer, out_taken, is_applied, names_line, IfSome, Program, Vendor, Event}
+use Rattle.tcc_serial.proofs.Names.{core_exec, core_evict, from_dir, grant, Answer, Waits, Drops, Asks, Takes, dir_deliver, core_moves}
+use Rattle.tcc_serial.proofs.Names.{core_takes, and_noted, step, grant_taken, back_taken, after_grant, after_other_grant, is_this}
 use Rattle.tcc_serial.proofs.Copies.AnswerCopies.{Answered, none-passes, still-similar, dropped-similar, came-similar}
 use Rattle.tcc_serial.proofs.Copies.CopyRules.{BackStep, Kept, Invalidates, InMemory, copies-exec, copies-evict, copies-grant, copies-back}
 use Rattle.tcc_serial.proofs.Copies.CoreCopies.{Conserves}
 use Rattle.tcc_serial.proofs.Copies.DirCopies.{similar-copies, taken-copies}
 use Rattle.tcc_serial.proofs.Copies.LinesKept.{Before, CopiesAt, KeptLines, moved-lines}
 use Rattle.tcc_serial.proofs.Copies.PairCopies.{line_copies, LineCopies, copies-moved, copies-lost}
-use Rattle.tcc_serial.proofs.Copies.TagsKept.{Invalidating, inv-tag, tag-below, stored-home, stored-in, TakenCommit, taken-commit}
+use Rattle.tcc_serial.proofs.Copies.TagsKept.{inv-tag, tag-below, stored-home, stored-in, TakenCommit, taken-commit, Invalidating}
 use Rattle.tcc_serial.proofs.Copies.WroteLines.{on-its-way, wrote-listed, no-writer}
 use Rattle.tcc_serial.proofs.Counts.Links.{live-takes}
 use Rattle.tcc_serial.proofs.Counts.StepCases.{same, differ, pairs_dir, pairs_asks, pairs_grant, pairs_back, pairs_vendor, OfAnswer}
@@ -51,8 +51,7 @@ none-later sh gs ys h c d t b cl dl l = go (cases_lt 0 (live (Commits t) (h.worl
     go (inr x) = omega (arith, x)
 
 pub cond-none : (b : Bool) (x : ℕ) → x ≡ 0 → cond b x 0 ≡ 0
-cond-none true x e = e
-cond-none false x e = refl
+cond-none a x e = grind (arith, nat_tests)
 
 -- a core to which an invalidation of the line is in flight has no copy that counts
 none-counted : (sh : Shape) (gs : List Grant) (ys : Ways) (h : History) (c d k l m u t : ℕ) → Before sh gs ys h → c < sh.cores → d < sh.dirs → l < lines sh → home sh l ≡ d → in_flight h.world.net (Dir d) (Core c) k ≡ Some (Inv l m u) → (h.world.dirs d).lines.tag l ≤ t → line_copies l t (pair h.world c d) ≡ 0

@@ -49,8 +49,7 @@ unfolding line_wrong
 moved-wrong sh d l t m v o e = rw e (omega (arith, live-sends (CopyMask l t m) v.out (o.sends (Dir d))))
 
 pub same-cond : (b : Bool) (x y : ℕ) → (b ≡ true → x ≡ y) → cond b x 0 ≡ cond b y 0
-same-cond true x y h = h refl
-same-cond false x y h = refl
+same-cond a x y h = grind (arith, nat_tests)
 
 -- nothing is committed
 pub copies-moved : (sh : Shape) (cs : List Noted) (c d l : ℕ) (v : Pair) (o : Out) → home sh l ≡ d → o.commit ≡ None → ((t : ℕ) → among (Commits t) (o.sends (Dir d)) ≡ 0) → Conserves sh l v.core o → LineCopies sh.base cs c l v → LineCopies sh.base cs c l (after_move v o d)
@@ -99,12 +98,10 @@ copies-committed sh cs c d l v o n e q x k h = record { owned = owned; above = �
     wrong t m = omega (arith, moved-wrong sh d l t m v o e, rw q at (k.wrong t m), of-wrong l t m v)
 
     none : (t : ℕ) (b : Bool) → (u == t) ≡ false → num (b && u == t) ≡ 0
-    none t true r = rw r refl
-    none t false r = refl
+    none t a r = grind (arith, nat_tests)
 
     not-tag : (b : Bool) → names_line sh.base n.stores l ≡ b → num (b && u == v.dir.lines.tag l) ≡ 0
-    not-tag true r = let f = x.tag r in let y : (u == v.dir.lines.tag l) ≡ false = grind (arith, nat_tests) in rw y refl
-    not-tag false r = refl
+    not-tag a r = grind (arith, nat_tests)
 
     owned : line_copies l (v.dir.lines.tag l) (after_move v o d) ≡ num (is_this (v.dir.lines.owner l) c)
     owned = omega (arith, copies (v.dir.lines.tag l), not-tag (names_line sh.base n.stores l) refl, h.owned)
@@ -117,15 +114,13 @@ copies-committed sh cs c d l v o n e q x k h = record { owned = owned; above = �
     new t r = wrote-new sh.base n cs c t l (x.core) r (rw r at (x.fresh))
 
     one : (t : ℕ) (b : Bool) → u ≡ t → names_line sh.base n.stores l ≡ b → num (b && u == t) ≡ cond b (live (Commits t) ((after_move v o d).out)) 0
-    one t true r s = let y : (u == t) ≡ true = grind (arith, nat_tests) in let z : live (Commits t) v.out + among (Commits t) (o.sends (Dir d)) ≡ 1 = rw r at (x.sent s) in rw y (omega (arith, z, live-sends (Commits t) v.out (o.sends (Dir d))))
-    one t false r s = refl
+    one t a r s = grind (arith, nat_tests, live-sends)
 
     other : (t : ℕ) → (u ≡ t → ⊥) → SameWrote sh.base cs ds c t l
     other t r = wrote-other sh.base n cs c t l (let y : (u == t) ≡ false = grind (arith, nat_tests) in last (n.core.0 == c) (u == t) y)
       where
         last : (a b : Bool) → b ≡ false → (a && b) ≡ false
-        last true b z = z
-        last false b z = refl
+        last a b z = grind (arith, nat_tests)
 
     above : (t : ℕ) → v.dir.lines.tag l < t → (u ≡ t) ⊎ (u ≡ t → ⊥) → line_copies l t (after_move v o d) ≡ cond (wrote_line sh.base ds c t l) (live (Commits t) ((after_move v o d).out)) 0
     above t i (inl r) = let y = (new t r).line in let z : line_copies l t v ≡ 0 = h.above t i ∙ rw (mine t r) refl in rw y (copies t ∙ rw z (let w = one t (names_line sh.base n.stores l) r refl in omega (arith, w)))

@@ -1,25 +1,25 @@
 -- Every event keeps that the tag of a line in memory is the greatest TID that is settled at its home and stored in it.
 use Rattle.tcc_serial.proofs.Names.{ℕ, ◌+◌, ◌≡◌, ◌<◌, ◌≤◌, ◌⊎◌, ◌==◌, ◌&&◌, Bool, true, false, nat_lt, List, [], Contains, Option, Some}
-use Rattle.tcc_serial.proofs.Names.{None, IfSome, max, cond, set, if◌then◌else◌, arith, refl, ap, sym, subst, ◌∙◌, inl, inr, cases_eq}
-use Rattle.tcc_serial.proofs.Names.{nat_tests, Noted, Program, Local, num, any_word, has_mark, no_lines, Core, Dir, Msg, Event, Shape, home}
-use Rattle.tcc_serial.proofs.Names.{lines, any_below-at, DirState, World, start, dir_start, in_flight, Sends, Out, core_exec, core_evict}
-use Rattle.tcc_serial.proofs.Names.{from_dir, Answer, Waits, Drops, Asks, Takes, dir_deliver, core_moves, core_takes, dir_takes, dir_asks}
-use Rattle.tcc_serial.proofs.Names.{vendor_gives, History, Stepped, and_noted, insert_commit, step, settled_in_line, KeptTags, Kind}
-use Rattle.tcc_serial.proofs.Names.{Commits, live, passes, KeptAll, KeptRun, pair, Grant, is_settled, is_applied, CommitsStand, stored_mask}
-use Rattle.tcc_serial.proofs.Names.{stores_at, SettledCommit, stores_word, Ways, names_line, last_of, ◌-◌, ◌∷◌, cases_lt, Inv, Invs, InvOf}
-use Rattle.tcc_serial.proofs.Names.{KeptNamed, due, OwedAt, times, share, KeptStored}
+use Rattle.tcc_serial.proofs.Names.{None, IfSome, max, cond, set, if◌then◌else◌, arith, refl, ap, sym, ◌∙◌, cases_eq, nat_tests, Noted}
+use Rattle.tcc_serial.proofs.Names.{Program, Local, num, any_word, has_mark, no_lines, Core, Dir, Msg, Event, Shape, home, lines}
+use Rattle.tcc_serial.proofs.Names.{any_below-at, DirState, World, start, dir_start, in_flight, Sends, Out, core_exec, core_evict, from_dir}
+use Rattle.tcc_serial.proofs.Names.{Answer, Waits, Drops, Asks, Takes, dir_deliver, core_moves, core_takes, dir_takes, dir_asks}
+use Rattle.tcc_serial.proofs.Names.{vendor_gives, History, Stepped, and_noted, step, settled_in_line, KeptTags, Kind, Commits, live, passes}
+use Rattle.tcc_serial.proofs.Names.{KeptAll, KeptRun, pair, Grant, is_settled, is_applied, CommitsStand, stored_mask, stores_at}
+use Rattle.tcc_serial.proofs.Names.{SettledCommit, stores_word, Ways, names_line, last_of, ◌∷◌, cases_lt, Inv, Invs, InvOf, KeptNamed, due}
+use Rattle.tcc_serial.proofs.Names.{OwedAt, times, share, KeptStored, inl, inr, ◌-◌, subst, insert_commit}
 use Rattle.tcc_serial.proofs.Copies.WroteLines.{on-its-way, applied-or}
 use Rattle.tcc_serial.proofs.Counts.Links.{num-same, live-takes, total-le}
 use Rattle.tcc_serial.proofs.Counts.StepCases.{and-false, OfAnswer, step_cases}
-use Rattle.tcc_serial.proofs.Marks.AfterKept.{last-insert}
 use Rattle.tcc_serial.proofs.Marks.DirRecords.{NoCommit, Records, Still, Came, Settles, RecordsBy, dir-records}
 use Rattle.tcc_serial.proofs.Marks.MaskLaws.{same-commit}
 use Rattle.tcc_serial.proofs.Marks.OwesByCommit.{CountsMarked}
-use Rattle.tcc_serial.proofs.Marks.StoredKept.{noted-keeps, noted-has, taken-stored}
+use Rattle.tcc_serial.proofs.Marks.StoredKept.{noted-keeps, taken-stored, noted-has}
 use Rattle.tcc_serial.proofs.Marks.StoredMasks.{stored-line}
 use Rattle.tcc_serial.proofs.Serving.KeptSteps.{core_of_out}
 use Rattle.tcc_serial.proofs.Tids.Commits.{granted-once, last-same, last-most, last-least, granted-at}
 use Rattle.tcc_serial.proofs.Tids.TidSteps.{live-some}
+use Rattle.tcc_serial.proofs.Marks.AfterKept.{last-insert}
 
 -- what an event does to the tags
 
@@ -39,9 +39,7 @@ unfolding dir_takes
 takes-consumes w c d k m s sends i q j e = go (j == c) (e == d) refl refl
   where
     go : (a b : Bool) → (j == c) ≡ a → (e == d) ≡ b → live q (if a && b then set (w.net (Core j) (Dir e)) k None else w.net (Core j) (Dir e)) + num ((a && b) && passes q m) ≡ live q (w.net (Core j) (Dir e))
-    go true true x y = let u : j ≡ c = grind (arith, nat_tests) in let v : e ≡ d = grind (arith, nat_tests) in rw (u, v) (live-takes q (w.net (Core c) (Dir d)) k m i)
-    go true false x y = omega arith
-    go false b x y = omega arith
+    go a b x y = grind (arith, nat_tests, live-takes)
 
 pub tag-step : (sh : Shape) (p : Program) (w : World) (e : Event) → IfSome (step sh p w e) (TagStep sh w)
 unfolding core_moves core_takes vendor_gives dir_asks dir_takes
@@ -68,8 +66,7 @@ tag-step sh p w e = step_cases sh p w e (λ g o. TagStep sh w o)
     same-commits c d k m s sends i n t j e = omega (arith, takes-consumes w c d k m s sends i (Commits t) j e, none (j == c && e == d) (n t))
       where
         none : (b : Bool) → passes (Commits t) m ≡ false → num (b && passes (Commits t) m) ≡ 0
-        none true h = ap num h
-        none false h = refl
+        none a h = grind (arith, nat_tests)
 
     new-tags : (d e l : ℕ) (s : DirState) → ((l : ℕ) → s.lines.tag l ≡ (if has_mark (w.dirs d).lines l then (w.dirs d).serving.serving else (w.dirs d).lines.tag l)) → (if e == d then s else w.dirs e).lines.tag l ≡ (if e == d && has_mark (w.dirs d).lines l then (w.dirs d).serving.serving else (w.dirs e).lines.tag l)
     new-tags d e l s h = grind (arith, nat_tests)
@@ -100,11 +97,7 @@ stored-home sh d l n i e s = any_below-at (λ k. nat_lt 0 (stored_mask sh d n.st
 
 -- tests of a commit that stored in a line or not
 same-test : (a b s : Bool) → (s ≡ true → a ≡ b) → (a && s) ≡ (b && s)
-same-test a b true h = rw (h refl) refl
-same-test true true false h = refl
-same-test true false false h = refl
-same-test false true false h = refl
-same-test false false false h = refl
+same-test a b d h = grind (arith, nat_tests)
 
 -- where no directory changes, a commit is settled as before, and a new one isn't
 unheard-tags : (sh : Shape) (w v : World) (cs : List Noted) (a : Option Noted) → CommitsStand sh w cs → CommitsStand sh v (and_noted a cs) → v.dirs ≡ w.dirs → ((n : Noted) (d : ℕ) → a ≡ Some n → d < sh.dirs → stores_at sh d n.stores ≡ true → is_applied (w.dirs d) n.tid.0 ≡ false) → KeptTags sh w cs → KeptTags sh v (and_noted a cs)
@@ -146,12 +139,7 @@ unfolding settled_in_line is_settled
 heard-tags sh w v cs f g h d l dl i q = f d l ∙ h d l dl i q ∙ sym (last-same (settled_in_line sh v d l) (settled_in_line sh w d l) cs (λ x k. rw (g x.tid.0 x.core.0 d) refl))
 
 pub applied-served : (s : DirState) (t : ℕ) → 1 ≤ num (is_applied s t) → t ≤ s.serving.serving
-applied-served s t l = go (nat_lt t s.serving.serving) (t == s.serving.serving) refl refl (applied-or s t)
-  where
-    go : (a b : Bool) → nat_lt t s.serving.serving ≡ a → (t == s.serving.serving) ≡ b → num (is_applied s t) ≡ num a + num (b && nat_lt 0 s.owed) → t ≤ s.serving.serving
-    go true b p q e = grind (arith, nat_tests)
-    go false true p q e = grind (arith, nat_tests)
-    go false false p q e = absurd (omega (arith, e, l))
+applied-served s t l = grind (arith, nat_tests, applied-or)
 
 -- a Commit that a directory takes is of a commit of the served TID, by the core that sent it
 pub record TakenCommit (sh : Shape) (cs : List Noted) (w : World) (c d : ℕ) : Type 0 where
@@ -270,10 +258,7 @@ last-listed p [] t e l = absurd (omega (arith, e, l))
 last-listed p (x ∷ cs) t e l = go (p x) e (cases_lt (last_of p cs) t) (λ q. last-listed p cs t q l)
   where
     go : (b : Bool) → max (cond b x.tid.0 0) (last_of p cs) ≡ t → (last_of p cs < t) ⊎ (t ≤ last_of p cs) → (last_of p cs ≡ t → 1 ≤ times t cs) → 1 ≤ num (x.tid.0 == t) + times t cs
-    go false e (inl q) f = absurd (omega (arith, e, q, l))
-    go true e (inl q) f = let y : (x.tid.0 == t) ≡ true = (let z : x.tid.0 ≡ t = omega (arith, e, q) in grind (arith, nat_tests)) in rw y (omega arith)
-    go true e (inr q) f = omega (arith, f (omega (arith, e, q)))
-    go false e (inr q) f = omega (arith, f (omega (arith, e, q)))
+    go a e b f = grind (arith, nat_tests)
 
 -- a TID that no commit has is no line's tag
 pub untagged : (sh : Shape) (h : History) (d l t : ℕ) → KeptTags sh h.world h.commits → d < sh.dirs → l < lines sh → home sh l ≡ d → 1 ≤ t → times t h.commits ≡ 0 → t ≡ (h.world.dirs d).lines.tag l → ⊥

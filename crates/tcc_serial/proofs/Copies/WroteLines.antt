@@ -4,8 +4,8 @@ use Rattle.tcc_serial.proofs.Names.{slice_index_or, nat_lt, if◌then◌else◌,
 use Rattle.tcc_serial.proofs.Names.{word_at, mask_of, insert_commit, times, stores_in, stores_word, names_line, wrote, wrote_line}
 use Rattle.tcc_serial.proofs.Names.{wrote_mask, ◌+◌, ◌≤◌, ◌⊎◌, sym, subst, inl, inr, cases_eq, cases_lt, Core, Dir, Shape, total, DirState}
 use Rattle.tcc_serial.proofs.Names.{History, Commits, live, KeptRun, Grant, pair, share, is_applied, CommitsStand, stores_at, Skipped}
-use Rattle.tcc_serial.proofs.Names.{Committed, Ways, part_in, kept_in, WayAt, Option, Some, IfSome, writes_at, Msg, Out, Sends, Stepped}
-use Rattle.tcc_serial.proofs.Names.{Resolves, among, holder, has_tid, part, handled, live_way}
+use Rattle.tcc_serial.proofs.Names.{Committed, Ways, part_in, kept_in, WayAt, Some, writes_at, Msg, Out, Sends, Stepped, Resolves, among}
+use Rattle.tcc_serial.proofs.Names.{holder, has_tid, part, handled, live_way, Option, IfSome}
 use Rattle.tcc_serial.proofs.Counts.Links.{total-zero, total-le}
 use Rattle.tcc_serial.proofs.Marks.MaskLaws.{few-any}
 use Rattle.tcc_serial.proofs.Serving.CommitSteps.{of-resolves}
@@ -22,9 +22,7 @@ is_of c t n = (n.core.0 == c) && (n.tid.0 == t)
 
 -- with one more commit
 or-swap : (a b c : Bool) → (a || (b || c)) ≡ (b || (a || c))
-or-swap true true c = refl
-or-swap true false c = refl
-or-swap false b c = refl
+or-swap a b c = grind (arith, nat_tests)
 
 wrote-insert : (base : ℕ) (n : Noted) (cs : List Noted) (c t w : ℕ) → wrote base (insert_commit n cs) c t w ≡ (((n.core.0 == c) && ((n.tid.0 == t) && stores_word base n.stores w)) || wrote base cs c t w)
 unfolding wrote insert_commit
@@ -33,8 +31,7 @@ wrote-insert base n (x ∷ cs) c t w = go (nat_lt n.tid.0 x.tid.0) (wrote-insert
   where
     go : (b : Bool) → wrote base (insert_commit n cs) c t w ≡ (((n.core.0 == c) && ((n.tid.0 == t) && stores_word base n.stores w)) || wrote base cs c t w)
         → wrote base (if b then n ∷ x ∷ cs else x ∷ insert_commit n cs) c t w ≡ (((n.core.0 == c) && ((n.tid.0 == t) && stores_word base n.stores w)) || (((x.core.0 == c) && ((x.tid.0 == t) && stores_word base x.stores w)) || wrote base cs c t w))
-    go true e = refl
-    go false e = rw e (or-swap ((x.core.0 == c) && ((x.tid.0 == t) && stores_word base x.stores w)) ((n.core.0 == c) && ((n.tid.0 == t) && stores_word base n.stores w)) (wrote base cs c t w))
+    go a e = grind (arith, nat_tests)
 
 -- a TID that no commit has
 wrote-none : (base : ℕ) (cs : List Noted) (c t w : ℕ) → times t cs ≡ 0 → wrote base cs c t w ≡ false
@@ -43,9 +40,7 @@ wrote-none base [] c t w e = refl
 wrote-none base (x ∷ cs) c t w e = rw (wrote-none base cs c t w (omega (arith, e))) (go (x.core.0 == c) (x.tid.0 == t) refl)
   where
     go : (a b : Bool) → (x.tid.0 == t) ≡ b → ((a && (b && stores_word base x.stores w)) || false) ≡ false
-    go a true q = absurd (let n : num (x.tid.0 == t) ≡ 1 = rw q refl in omega (arith, e, n))
-    go true false q = refl
-    go false false q = refl
+    go a b q = grind (arith, nat_tests)
 
 same-line : (f g : ℕ → Bool) → ((w : ℕ) → f w ≡ g w) → (l : ℕ) → any_word f l ≡ any_word g l
 same-line f g h l = ap {A = ℕ → Bool} (λ p. any_word p l) (λ i w. h w i)
@@ -78,12 +73,7 @@ unfolding wrote_line wrote_mask
 wrote-other base n cs c t l e = record { line = same-line (wrote base (insert_commit n cs) c t) (wrote base cs c t) one l; mask = same-mask (wrote base (insert_commit n cs) c t) (wrote base cs c t) one l }
   where
     one : (w : ℕ) → wrote base (insert_commit n cs) c t w ≡ wrote base cs c t w
-    one w = wrote-insert base n cs c t w ∙ go (n.core.0 == c) (n.tid.0 == t) e
-      where
-        go : (a b : Bool) → (a && b) ≡ false → ((a && (b && stores_word base n.stores w)) || wrote base cs c t w) ≡ wrote base cs c t w
-        go true true q = absurd (cc)
-        go true false q = refl
-        go false b q = refl
+    one w = grind (arith, nat_tests, wrote-insert)
 
 -- where no commit of the list is this core's with this TID, nothing is stored; where one is, its words are
 wrote-never : (base : ℕ) (cs : List Noted) (c t w : ℕ) → ((x : Noted) → Contains cs x → is_of c t x ≡ false) → wrote base cs c t w ≡ false
@@ -92,9 +82,7 @@ wrote-never base [] c t w h = refl
 wrote-never base (x ∷ cs) c t w h = rw (wrote-never base cs c t w (λ y k. h y (suc k.0, omega (arith, k.1), k.2))) (go (x.core.0 == c) (x.tid.0 == t) (h x (0, omega arith, refl)))
   where
     go : (a b : Bool) → (a && b) ≡ false → ((a && (b && stores_word base x.stores w)) || false) ≡ false
-    go true true q = absurd (cc)
-    go true false q = refl
-    go false b q = refl
+    go a b q = grind (arith, nat_tests)
 
 line-never : (base : ℕ) (cs : List Noted) (c t l : ℕ) → ((w : ℕ) → wrote base cs c t w ≡ false) → wrote_line base cs c t l ≡ false
 unfolding wrote_line any_word any_below
@@ -113,8 +101,7 @@ wrote-at base (x ∷ cs) n w zero s i e = grind (arith, nat_tests)
 wrote-at base (x ∷ cs) n w (suc k) s i e = rw (wrote-at base cs n w k s (omega (arith, i)) e) (go ((x.core.0 == n.core.0) && ((x.tid.0 == n.tid.0) && stores_word base x.stores w)))
   where
     go : (b : Bool) → (b || true) ≡ true
-    go true = refl
-    go false = refl
+    go a = grind (arith, nat_tests)
 
 -- where the only commit by this core with this TID didn't store the word, none did
 wrote-only : (base : ℕ) (cs : List Noted) (n : Noted) (c t w : ℕ) → stores_word base n.stores w ≡ false → ((x : Noted) → Contains cs x → is_of c t x ≡ true → x ≡ n) → wrote base cs c t w ≡ false
@@ -123,16 +110,13 @@ wrote-only base [] n c t w s h = refl
 wrote-only base (x ∷ cs) n c t w s h = rw (wrote-only base cs n c t w s (λ y k. h y (suc k.0, omega (arith, k.1), k.2))) (go (x.core.0 == c) (x.tid.0 == t) (h x (0, omega arith, refl)))
   where
     go : (a b : Bool) → ((a && b) ≡ true → x ≡ n) → ((a && (b && stores_word base x.stores w)) || false) ≡ false
-    go true true q = let y : stores_word base x.stores w ≡ false = ap (λ z. stores_word base z.stores w) (q refl) ∙ s in rw y refl
-    go true false q = refl
-    go false b q = refl
+    go a b q = grind (arith, nat_tests)
 
 pub wrote-listed : (base : ℕ) (cs : List Noted) (n : Noted) (l : ℕ) → Contains cs n → ((x : Noted) → Contains cs x → is_of n.core.0 n.tid.0 x ≡ true → x ≡ n) → Wrote base cs n.core.0 n.tid.0 l n
 wrote-listed base cs n l k h = wrote-all base cs n.core.0 n.tid.0 l n (λ w. go w (stores_word base n.stores w) refl)
   where
     go : (w : ℕ) (b : Bool) → stores_word base n.stores w ≡ b → wrote base cs n.core.0 n.tid.0 w ≡ b
-    go w true s = wrote-at base cs n w k.0 s (k.1) (k.2)
-    go w false s = wrote-only base cs n n.core.0 n.tid.0 w s h
+    go w a s = grind (arith, nat_tests, wrote-at, wrote-only)
 
 -- A commit is on its way to each directory where it stored, or applied there.
 
@@ -143,8 +127,7 @@ total-only f zero c h z = sym (z (omega arith))
 total-only f (suc n) c h z = go (cases_eq n c) (λ g. total-only f n c (λ j l i. h j (omega arith) i) g)
   where
     go : (n ≡ c) ⊎ (n ≡ c → ⊥) → ((n ≤ c → f c ≡ 0) → total f n ≡ f c) → total f n + f n ≡ f c
-    go (inl e) g = let y : f n ≡ f c = ap f e in omega (arith, y, total-zero f n (λ j l. h j (omega arith) (λ i. omega (arith, i, e, l))))
-    go (inr e) g = omega (arith, h n (omega arith) e, g (λ l. z (omega (arith, l, e))))
+    go a g = grind (arith, nat_tests, total-zero)
 
 pub applied-or : (s : DirState) (t : ℕ) → num (is_applied s t) ≡ num (nat_lt t s.serving.serving) + num ((t == s.serving.serving) && nat_lt 0 s.owed)
 unfolding is_applied

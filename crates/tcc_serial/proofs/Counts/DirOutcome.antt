@@ -151,8 +151,7 @@ unfolding write_back came_home with_asked with_owner judge
 back-outcome sh s c l k ws g m y = go (nat_lt (s.lines.tag l) g) (s.lines.tag l == g) (is_owner (s.lines.owner l) c) refl refl refl
   where
     own : (o : Option ℕ) → is_owner o c ≡ true → o ≡ Some c
-    own None h = absurd (cc)
-    own (Some x) h = let z : x ≡ c = grind (arith, nat_tests) in rw z refl
+    own a h = grind (arith, nat_tests)
 
     go : (a b x : Bool) → nat_lt (s.lines.tag l) g ≡ a → (s.lines.tag l == g) ≡ b → is_owner (s.lines.owner l) c ≡ x → Outcome sh s c m (judged l k ws s (if a then IsEarly else (if b && x then IsTaken else IsDropped)))
     go true b x p q r = Waiting m

@@ -1,25 +1,19 @@
 -- What sending and taking do to the number of messages of a kind, and how many a rule sends.
 use Rattle.tcc_serial.proofs.Names.{◌≡◌, ◌≤◌, Bool, true, false, arith, refl, num, ℕ, zero, suc, ◌+◌, ◌<◌, ◌≢◌, List, [], ◌∷◌, ◌++◌, set}
-use Rattle.tcc_serial.proofs.Names.{get_or, Some, None, ap, ◌⊎◌, inl, inr, cases_eq, Msg, Link, sent_all, total, Kind, live, among, passes}
-use Rattle.tcc_serial.proofs.Names.{◌==◌, ◌&&◌, nat_lt, if◌then◌else◌, flat_map, nat_tests, those, count_below, Dir, Skip, Commit, Mark}
-use Rattle.tcc_serial.proofs.Names.{WriteBack, Shape, home, lines, Cache, writes_at, modified_mask, written_lines, Spilled, holds}
-use Rattle.tcc_serial.proofs.Names.{spilled_mask, spilled_words, skip_all, probe_all, abort_written, marks_for, commit_sends, solo_sends}
-use Rattle.tcc_serial.proofs.Names.{solo_marks, solo_backs, solo_writes_at, is_written, written_mask, grant_sends, Resolves, Protocol}
+use Rattle.tcc_serial.proofs.Names.{get_or, Some, None, ap, ◌⊎◌, cases_eq, Msg, Link, sent_all, total, Kind, live, among, passes, ◌==◌}
+use Rattle.tcc_serial.proofs.Names.{◌&&◌, flat_map, nat_tests, those, Dir, Mark, Shape, Cache, writes_at, modified_mask, written_lines}
+use Rattle.tcc_serial.proofs.Names.{Spilled, skip_all, probe_all, abort_written, marks_for, commit_sends, solo_sends, solo_marks}
+use Rattle.tcc_serial.proofs.Names.{solo_backs, grant_sends, Resolves, Protocol}
 
 -- A truth value as a number, which is 1 or 0.
 pub num-few : (b : Bool) → num b ≤ 1
-num-few true = omega arith
-num-few false = omega arith
+num-few a = grind (arith, nat_tests)
 
 pub num-one : (b : Bool) → 1 ≤ num b → b ≡ true
-num-one true h = refl
-num-one false h = absurd (omega (arith, h))
+num-one a h = grind (arith, nat_tests)
 
 pub num-same : (a b : Bool) → num a ≡ num b → a ≡ b
-num-same true true h = refl
-num-same true false h = absurd (omega (arith, h))
-num-same false true h = absurd (omega (arith, h))
-num-same false false h = refl
+num-same a b h = grind (arith, nat_tests)
 
 -- What sending and taking do to the number of messages of a kind.
 pub live-append : (k : Kind) (l m : Link) → live k (l ++ m) ≡ live k l + live k m
@@ -86,8 +80,7 @@ total-le f zero j l = absurd (omega arith)
 total-le f (suc n) j l = go (cases_eq j n) (total-le f n j)
   where
     go : (j ≡ n) ⊎ (j ≡ n → ⊥) → (j < n → f j ≤ total f n) → f j ≤ total f n + f n
-    go (inl e) r = let h : f j ≡ f n = ap f e in omega arith
-    go (inr e) r = omega (arith, r (omega arith))
+    go a r = grind (arith, nat_tests)
 
 pub total-at : (f g : ℕ → ℕ) (n c : ℕ) → c < n → ((j : ℕ) → j ≢ c → f j ≡ g j) → total f n + g c ≡ total g n + f c
 unfolding total
@@ -95,13 +88,7 @@ total-at f g zero c l h = absurd (omega arith)
 total-at f g (suc n) c l h = go (cases_eq c n) (λ k. total-at f g n c k h)
   where
     go : (c ≡ n) ⊎ (c ≡ n → ⊥) → (c < n → total f n + g c ≡ total g n + f c) → total f n + f n + g c ≡ total g n + g n + f c
-    go (inl e) r =
-        let p : f c ≡ f n = ap f e in
-        let q : g c ≡ g n = ap g e in
-        omega (arith, total-same f g n (λ j l'. h j (omega arith)))
-    go (inr e) r =
-        let p : f n ≡ g n = h n (omega arith) in
-        omega (arith, r (omega arith))
+    go a r = grind (arith, nat_tests, total-same)
 
 pub total-zero : (f : ℕ → ℕ) (n : ℕ) → ((j : ℕ) → j < n → f j ≡ 0) → total f n ≡ 0
 unfolding total
@@ -153,15 +140,4 @@ resolves-marks_for sh c u e t = among-flat_map_none (Resolves t) (λ l. Mark l (
 
 pub resolves-solo_sends : (sh : Shape) (c : Cache) (sp : Spilled) (u d t : ℕ) → d < sh.dirs → among (Resolves t) (solo_sends sh c sp u (Dir d)) ≡ num (u == t)
 unfolding solo_sends solo_marks solo_backs among passes
-resolves-solo_sends sh c sp u d t l = go (nat_lt d sh.dirs) (grind (arith, nat_tests)) (solo_writes_at sh c sp d)
-  where
-    backs : among (Resolves t) (flat_map (λ l. WriteBack l (spilled_mask sp l) (spilled_words sp l) u ∷ []) (those (λ l. d == home sh l && holds sp l) (lines sh))) ≡ 0
-    backs = among-flat_map_none (Resolves t) (λ l. WriteBack l (spilled_mask sp l) (spilled_words sp l) u ∷ []) (λ l. refl) (those (λ l. d == home sh l && holds sp l) (lines sh))
-
-    marks : among (Resolves t) (flat_map (λ l. Mark l (written_mask c sp l) u ∷ []) (those (λ l. d == home sh l && is_written c sp l) (lines sh))) ≡ 0
-    marks = among-flat_map_none (Resolves t) (λ l. Mark l (written_mask c sp l) u ∷ []) (λ l. refl) (those (λ l. d == home sh l && is_written c sp l) (lines sh))
-
-    go : (b : Bool) → b ≡ true → (w : Bool) → among (Resolves t) (if b then (if w then flat_map (λ l. Mark l (written_mask c sp l) u ∷ []) (those (λ l. d == home sh l && is_written c sp l) (lines sh)) ++ Commit u (count_below (λ l. d == home sh l && is_written c sp l) (lines sh)) ∷ [] else Skip u ∷ []) ++ solo_backs sh sp u d else []) ≡ num (u == t)
-    go false q w = absurd (cc)
-    go true q true = rw (among-append, among-append, backs, marks) (omega arith)
-    go true q false = rw (among-append, backs) (omega arith)
+resolves-solo_sends sh c sp u d t l = grind (arith, nat_tests, among-flat_map_none, among-append)

@@ -19,8 +19,7 @@ pub differ : (j c : ℕ) → (j ≡ c → ⊥) → (j == c) ≡ false
 differ j c h = grind (arith, nat_tests)
 
 pub and-false : (b : Bool) → (b && false) ≡ false
-and-false true = refl
-and-false false = refl
+and-false a = grind (arith, nat_tests)
 
 append-none : (l : Link) → l ++ [] ≡ l
 append-none [] = refl

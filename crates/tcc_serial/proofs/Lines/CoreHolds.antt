@@ -56,8 +56,7 @@ unfolding solo_commit committed_core noted names_line is_written
 alone-kept sh b l id u s h q = go (kept-alone u l s.spilled s.cache q)
   where
     first : (x y : Bool) → x ≡ true → (x || y) ≡ true
-    first true y e = refl
-    first false y e = absurd (cc)
+    first a y e = grind (arith, nat_tests)
 
     go : (keeps_unmodified s.cache l ≡ true) ⊎ (is_modified s.cache l ≡ true) → (keeps_unmodified s.cache l ≡ true) ⊎ StoredLine sh l (solo_commit sh id u s)
     go (inl y) = inl y

@@ -1,7 +1,7 @@
 -- By a message a core comes to hold a line only by the Fill that it awaits; and where it says that it keeps no word it holds none.
 use Rattle.tcc_serial.proofs.Names.{put, invalidated, none_spilled, Running, DoomedTid, Solo, moves, ℕ, ◌≡◌, ◌⊎◌, ◌==◌, ◌&&◌, ◌||◌, Bool}
-use Rattle.tcc_serial.proofs.Names.{true, false, not, List, Option, Some, None, IfSome, is_some, arith, refl, sym, inl, inr, nat_tests}
-use Rattle.tcc_serial.proofs.Names.{any_word, word_at, Dir, Msg, ProbeReply, Inv, Shape, home, Cache, keeps, filled, cleaned, read_cleared}
+use Rattle.tcc_serial.proofs.Names.{true, false, not, List, Option, Some, IfSome, is_some, arith, refl, sym, inl, inr, nat_tests, any_word}
+use Rattle.tcc_serial.proofs.Names.{word_at, Dir, Msg, ProbeReply, Inv, Shape, home, Cache, keeps, filled, cleaned, read_cleared}
 use Rattle.tcc_serial.proofs.Names.{any_below-found, any_below-at, CoreState, Awaited, nothing, Out, from_dir, staled, is_awaited}
 use Rattle.tcc_serial.proofs.Names.{keeps_unmodified, is_fresh, FillOf, GoneOf, InvOf, among, passes, ◌/◌}
 use Rattle.tcc_serial.proofs.Lines.HeldWords.{Fewer, is_kept, fewer-kept, fewer-invalidated, fewer-rolled, fewer-cleared}
@@ -36,20 +36,17 @@ unfolding keeps keeps_unmodified any_word
 keeps-none c l e = go (keeps_unmodified c l) refl
   where
     valid : (v r : Bool) → (v && r) ≡ true → v ≡ true
-    valid true r q = refl
-    valid false r q = absurd (cc)
+    valid a r q = grind (arith, nat_tests)
 
     go : (b : Bool) → keeps_unmodified c l ≡ b → b ≡ false
     go false q = refl
     go true q = absurd (let x = any_below-found (λ k. is_kept c (word_at l k)) 8 q in let y = any_below-at (λ k. is_some (c.value (word_at l k))) 8 x.0 (x.1) (valid (is_some (c.value (word_at l x.0))) (not (c.modified (word_at l x.0)) || c.read (word_at l x.0)) (x.2)) in cc)
 
 staled-fresh : (k : ℕ) (a : Option Awaited) → is_fresh (staled k a) ≡ true → is_fresh a ≡ true
-staled-fresh k None q = absurd (cc)
-staled-fresh k (Some a) q = grind (arith, nat_tests)
+staled-fresh k a q = grind (arith, nat_tests)
 
 staled-stale : (k : ℕ) (a : Option Awaited) → is_awaited (staled k a) k ≡ true → is_fresh (staled k a) ≡ false
-staled-stale k None q = absurd (cc)
-staled-stale k (Some a) q = rw q refl
+staled-stale k a q = grind (arith, nat_tests)
 
 -- what any message does
 pub record HoldsTaken (sh : Shape) (l : ℕ) (s : CoreState) (m : Msg) (o : Out) : Type 0 where
@@ -79,8 +76,7 @@ holds-back sh l e s m = each-back sh e s (HoldsTaken sh l s) go m
         gone z true y = inl (omega (arith, acked-quiet sh (GoneOf l) k (keeps r.cache k) (say sh s q) (home sh l) (rw y (no (k == l))), quiet sh s (GoneOf l) q h (home sh l)))
           where
             no : (b : Bool) → (b && false) ≡ false
-            no true = refl
-            no false = refl
+            no a = grind (arith, nat_tests)
         gone z false y = inr (rw (sym z) (record { kept = keeps-none r.cache k y; stale = λ x. rw e (staled-stale k s.awaited (rw e at x)) }))
 
     go : (x : Heard sh e s) → HoldsTaken sh l s (message x) (heard x)

@@ -1,11 +1,11 @@
 -- Every event keeps that of an asked line the request is in flight to the owner, or its words are on their way from the owner.
 use Rattle.tcc_serial.proofs.Names.{ℕ, ◌+◌, ◌≡◌, ◌<◌, ◌≤◌, ◌⊎◌, ◌==◌, ◌&&◌, Bool, true, false, List, [], Option, Some, None, IfSome, arith}
-use Rattle.tcc_serial.proofs.Names.{refl, ap, sym, subst, ◌∙◌, inl, inr, nat_tests, Noted, Program, Local, num, line_of, word_at, cleaned}
-use Rattle.tcc_serial.proofs.Names.{no_lines, Core, Dir, Vendor, Msg, Fill, ProbeReply, DataReq, Inv, Event, Shape, home, lines, CoreState}
-use Rattle.tcc_serial.proofs.Names.{World, start, dir_start, in_flight, Sends, Out, core_exec, core_evict, from_dir, grant, data_request}
-use Rattle.tcc_serial.proofs.Names.{Answer, Waits, Drops, Asks, Takes, dir_deliver, core_moves, core_takes, dir_takes, dir_asks}
-use Rattle.tcc_serial.proofs.Names.{vendor_gives, and_noted, step, GetsOf, KeptGets, CopyOf, DataOf, live, among, passes, Pair, pair}
-use Rattle.tcc_serial.proofs.Names.{after_move, back_taken, out_taken, after_answer, is_this}
+use Rattle.tcc_serial.proofs.Names.{refl, ap, sym, subst, ◌∙◌, nat_tests, Noted, Program, Local, num, line_of, word_at, cleaned, no_lines}
+use Rattle.tcc_serial.proofs.Names.{Core, Dir, Vendor, Msg, Fill, ProbeReply, DataReq, Inv, Event, Shape, home, lines, CoreState, World}
+use Rattle.tcc_serial.proofs.Names.{start, dir_start, in_flight, Sends, Out, core_exec, core_evict, from_dir, grant, data_request, Answer}
+use Rattle.tcc_serial.proofs.Names.{Waits, Drops, Asks, Takes, dir_deliver, core_moves, core_takes, dir_takes, dir_asks, vendor_gives}
+use Rattle.tcc_serial.proofs.Names.{and_noted, step, GetsOf, KeptGets, CopyOf, DataOf, live, among, passes, Pair, pair, after_move}
+use Rattle.tcc_serial.proofs.Names.{back_taken, out_taken, after_answer, is_this}
 use Rattle.tcc_serial.proofs.Copies.DirtyFrames.{frame_copy, clean-frame, in-line}
 use Rattle.tcc_serial.proofs.Copies.LinesKept.{KeptLines}
 use Rattle.tcc_serial.proofs.Copies.PairCopies.{LineCopies, of-line}
@@ -47,8 +47,7 @@ gets-taken c l mine m v w s f g h a e =
     rw (x.tag) y
   where
     none : (b : Bool) → num (b && false) ≡ 0
-    none true = refl
-    none false = refl
+    none a = grind (arith, nat_tests)
 
 -- a dropped message isn't the owner's copy
 gets-dropped : (c l : ℕ) (m : Msg) (v w : Pair) → w.dir ≡ v.dir → (passes (CopyOf l (v.dir.lines.tag l)) m ≡ true → is_this (v.dir.lines.owner l) c ≡ false) → ((t : ℕ) → live (CopyOf l t) w.out + num (passes (CopyOf l t) m) ≡ live (CopyOf l t) v.out) → live (DataOf l) v.back ≤ live (DataOf l) w.back → GetsOf c l v → GetsOf c l w
@@ -57,8 +56,7 @@ gets-dropped c l m v w q u f g h a e =
     rw q y
   where
     none : (b : Bool) → passes (CopyOf l (v.dir.lines.tag l)) m ≡ b → num (passes (CopyOf l (v.dir.lines.tag l)) m) ≡ 0
-    none false r = ap num r
-    none true r = absurd (let x = u r in let z : v.dir.lines.owner l ≡ Some c = rw q at e in let y : (c == c) ≡ true = grind (arith, nat_tests) in let p : is_this (v.dir.lines.owner l) c ≡ true = rw (z, y) refl in cc)
+    none a r = grind (arith, nat_tests)
 
 pub step-gets : (sh : Shape) (p : Program) (w : World) (cs : List Noted) (e : Event) → KeptGets sh w → IfSome (step sh p w e) (λ o. KeptLines sh (and_noted o.noted cs) o.world → KeptGets sh o.world)
 unfolding pair
@@ -108,8 +106,7 @@ step-gets sh p w cs e h = step_cases sh p w e (λ g o. KeptLines sh (and_noted o
             was = sym (u.owners l) ∙ e
 
             go : ((w.dirs d).lines.asked l ≡ true) ⊎ ((j : ℕ) → (w.dirs d).lines.owner l ≡ Some j → 1 ≤ among (DataOf l) (sends (Core j))) → 1 ≤ live (DataOf l) (after_answer (pair w j d) s (sends (Core j))).back + live (CopyOf l (s.lines.tag l)) (w.net (Core j) (Dir d))
-            go (inl x) = rw (u.tags l) (omega (arith, h j d l jl dl ll q x was, more d j l sends))
-            go (inr x) = omega (arith, x j was, live-sends (DataOf l) (w.net (Dir d) (Core j)) (sends (Core j)))
+            go a = grind (arith, nat_tests, live-sends)
     answered c d k m i (Takes s sends) u f = λ n. from (dir_takes w c d k s sends) (pairs_dir (GetsAt sh) w c d k s sends
         (λ l cl dl ll q. gets-taken c l true m (pair w c d) (after_answer (out_taken (pair w c d) k) s (sends (Core c))) (f l) (λ t. live-takes (CopyOf l t) (w.net (Core c) (Dir d)) k m i) (more d c l sends) (h c d l cl dl ll q))
         (λ j r l jl dl ll q. gets-taken j l false m (pair w j d) (after_answer (pair w j d) s (sends (Core j))) (f l) (λ t. omega arith) (more d j l sends) (h j d l jl dl ll q)) at-pairs)

@@ -21,11 +21,7 @@ unfolding marked
 fewer-marked w l c k i q = go (is_some (c.value (word_at l k))) (c.modified (word_at l k)) (c.read (word_at l k)) (w == word_at l k) q
   where
     go : (v m r b : Bool) → (v && (not m || (if b then r || not m else r))) ≡ true → (v && (not m || r)) ≡ true
-    go false m r b q = q
-    go true false r b q = refl
-    go true true true b q = refl
-    go true true false true q = q
-    go true true false false q = q
+    go a m r b q = grind (arith, nat_tests)
 
 -- a stored word was kept before where it is marked read now
 pub fewer-stored : (w x l : ℕ) (also : Bool) (c : Cache) → (also ≡ true → (is_some (c.value w) ≡ true) × (c.modified w ≡ false)) → (c.read w ≡ true → is_some (c.value w) ≡ true) → Fewer c (stored w x also c) l
@@ -36,46 +32,38 @@ fewer-stored w x l also c f g k i q = go (word_at l k) (word_at l k == w) refl q
     same v e = grind (arith, nat_tests)
 
     here : (a : Bool) → also ≡ a → (b : Bool) → c.read w ≡ b → (a || b) ≡ true → is_kept c w ≡ true
-    here true e b r q = let y = f e in let z = y.0 in let u = y.1 in rw (z, u) refl
-    here false e true r q = grind (arith, nat_tests)
-    here false e false r q = absurd (cc)
+    here a e b r q = grind (arith, nat_tests)
 
     go : (v : ℕ) (b : Bool) → (v == w) ≡ b → (is_some (if v == w then Some x else c.value v) && (not (if v == w then true else c.modified v) || (if w == v then also || c.read v else c.read v))) ≡ true → is_kept c v ≡ true
-    go v false e q = let y : (w == v) ≡ false = grind (arith, nat_tests) in rw (e, y) at q
-    go v true e q = let z : v ≡ w = same v e in let y : (w == w) ≡ true = grind (arith, nat_tests) in rw z (here also refl (c.read w) refl (rw (z, y) at q))
+    go v a e q = grind (arith, nat_tests)
 
 pub fewer-invalidated : (k m l : ℕ) (c : Cache) → Fewer c (invalidated k m c) l
 unfolding invalidated
 fewer-invalidated k m l c j i q = go (hit k m (word_at l j) && not (c.modified (word_at l j))) (c.value (word_at l j)) (c.modified (word_at l j)) (c.read (word_at l j)) q
   where
     go : (b : Bool) (v : Option ℕ) (m r : Bool) → (is_some (if b then None else v) && (not m || r)) ≡ true → (is_some v && (not m || r)) ≡ true
-    go true v m r q = absurd (cc)
-    go false v m r q = q
+    go a v m r q = grind (arith, nat_tests)
 
 pub fewer-rolled : (l : ℕ) (c : Cache) → Fewer c (rolled_back c) l
 unfolding rolled_back
 fewer-rolled l c j i q = go (c.value (word_at l j)) (c.modified (word_at l j)) (c.read (word_at l j)) q
   where
     go : (v : Option ℕ) (m r : Bool) → (is_some (if m then None else v) && true) ≡ true → (is_some v && (not m || r)) ≡ true
-    go v true r q = absurd (cc)
-    go v false r q = q
+    go v a r q = grind (arith, nat_tests)
 
 pub fewer-cleared : (l : ℕ) (c : Cache) → Fewer c (read_cleared c) l
 unfolding read_cleared
 fewer-cleared l c j i q = go (is_some (c.value (word_at l j))) (c.modified (word_at l j)) (c.read (word_at l j)) q
   where
     go : (v m r : Bool) → (v && (not m || false)) ≡ true → (v && (not m || r)) ≡ true
-    go false m r q = q
-    go true false r q = refl
-    go true true r q = absurd (cc)
+    go a m r q = grind (arith, nat_tests)
 
 pub fewer-evicted : (x y l : ℕ) (c : Cache) → Fewer c (evicted x y c) l
 unfolding evicted evicted_line
 fewer-evicted x y l c = go (c.at x y)
   where
     one : (v : Option ℕ) (m r b : Bool) → (is_some (if b then None else v) && (not (if b then false else m) || (if b then false else r))) ≡ true → (is_some v && (not m || r)) ≡ true
-    one v m r true q = absurd (cc)
-    one v m r false q = q
+    one v m r a q = grind (arith, nat_tests)
 
     go : (a : Option ℕ) → Fewer c (evicted_line a x y c) l
     go None j i q = q

@@ -19,8 +19,7 @@ FillsBy c m (Asks new sends) = (l j : ℕ) → among (FillOf l) (sends (Core j))
 FillsBy c m (Takes new sends) = (l j : ℕ) → among (FillOf l) (sends (Core j)) ≡ num (j == c && passes (LoadOf l) m)
 
 and-none : (a b : Bool) → b ≡ false → num (a && b) ≡ 0
-and-none true b h = rw h refl
-and-none false b h = refl
+and-none a b h = grind (arith, nat_tests)
 
 -- where nothing is sent for a message that is no load request
 quiet : (c : ℕ) (m : Msg) (l j : ℕ) → passes (LoadOf l) m ≡ false → among (FillOf l) [] ≡ num (j == c && passes (LoadOf l) m)

@@ -4,14 +4,14 @@ use Rattle.tcc_serial.proofs.Names.{nat_tests, Noted, keeps_unmodified, is_fresh
 use Rattle.tcc_serial.proofs.Names.{Pair, ◌+◌, ◌<◌, ◌==◌, [], ◌∷◌, Some, None, subst, cases_lt, num, has_mark, Core, Dir, Msg, Shape, home}
 use Rattle.tcc_serial.proofs.Names.{lines, DirState, Link, Sends, in_flight, History, Kind, AckOf, Commits, among, passes, Grant, pair}
 use Rattle.tcc_serial.proofs.Names.{Ways, wrote_line, Option, IfSome, Out, and_noted, insert_commit, KeptLoading, LoadOf, CommitsAbove, due}
-use Rattle.tcc_serial.proofs.Names.{after_move, share, is_applied, stores_at, names_line, is_some, line_of, CoreState, Phase, Running, Solo}
+use Rattle.tcc_serial.proofs.Names.{after_move, share, is_applied, stores_at, names_line, is_some, line_of, CoreState, Phase, Running}
 use Rattle.tcc_serial.proofs.Names.{World, core_moves, dir_takes, KeptSharers, OneCore, acting, after_answer, out_taken, has_tid, ◌%◌, not}
 use Rattle.tcc_serial.proofs.Names.{Fill, is_awaited, KeptHomes, LoadingOf, InvOf, LinesAway}
 use Rattle.tcc_serial.proofs.Copies.LinesKept.{Before, new-of}
 use Rattle.tcc_serial.proofs.Copies.LinesStep.{writer-line, commit-passes}
 use Rattle.tcc_serial.proofs.Copies.PairCopies.{NewCommit}
 use Rattle.tcc_serial.proofs.Copies.TagsKept.{taken-commit, stored-home}
-use Rattle.tcc_serial.proofs.Copies.WroteLines.{commit-sent, applied-or, is_of, wrote-new, wrote-other, wrote-unknown}
+use Rattle.tcc_serial.proofs.Copies.WroteLines.{applied-or, is_of, wrote-new, wrote-other, commit-sent, wrote-unknown}
 use Rattle.tcc_serial.proofs.Counts.Links.{live-sends, total-le, live-takes}
 use Rattle.tcc_serial.proofs.Counts.StepCases.{same, differ, either, moves-own, moves-other, pairs_dir}
 use Rattle.tcc_serial.proofs.Lines.CoreHolds.{Holds, ReadsValid}
@@ -22,7 +22,6 @@ use Rattle.tcc_serial.proofs.Marks.DirRecords.{Records, Still, Came, Settles}
 use Rattle.tcc_serial.proofs.Marks.NamedKept.{lines-live}
 use Rattle.tcc_serial.proofs.Marks.ReadsKept.{KeptReads}
 use Rattle.tcc_serial.proofs.OneCore.CoreReads.{ValidOrPassed}
-use Rattle.tcc_serial.proofs.OneCore.SoundAttempts.{home-below}
 use Rattle.tcc_serial.proofs.Serving.CommitSteps.{of-above}
 use Rattle.tcc_serial.proofs.Tids.TidSteps.{live-some}
 use Rattle.tcc_serial.proofs.Ways.CoreSkips.{TellsCommit}
@@ -60,8 +59,7 @@ sharer-moved base cs ds c l v w e f g u h = record { shares = λ q. shares (f q)
     shares (inr x) = inr (x.0)
 
     stays : holds_line l w ≡ true → (holds_line l v ≡ true) ⊎ (CommitsLine base ds c l w × (live (GoneOf l) v.out ≡ 0)) → live (GoneOf l) w.out ≡ 0
-    stays q (inl x) = u q ∙ h.stays x
-    stays q (inr x) = u q ∙ x.1
+    stays q a = grind (arith, nat_tests)
 
 -- a directory's answer, as a core sees it
 pub record SharerStep (base : ℕ) (cs : List Noted) (c l : ℕ) (v w : Pair) : Type 0 where
@@ -92,8 +90,7 @@ sharer-answered base cs c l v w s h = record { shares = λ q. shares (held q); s
     shares (inr x) = inl (x.0)
 
     stays : (holds_line l v ≡ true) ⊎ ((w.dir.lines.sharers l c ≡ true) × (live (GoneOf l) v.out ≡ 0)) → live (GoneOf l) w.out ≡ 0
-    stays (inl x) = omega (arith, s.gone, h.stays x)
-    stays (inr x) = omega (arith, s.gone, x.1)
+    stays a = grind (arith, nat_tests)
 
 -- Every answer of a directory keeps that a core which holds a line is one of its sharers, or its Commit of the line is in flight.
 pub gone-ack : (l : ℕ) (m : Msg) → num (passes (GoneOf l) m) ≤ num (passes (AckOf l) m)
@@ -122,8 +119,7 @@ takes-commits sh gs ys h c d k j l mine m s sends w b i z dl ll e a r f x = go r
     same n = inr (record { tid = x.tid; sent = omega (arith, x.sent, n, a.lives (Commits x.tid)); line = x.line })
 
     none : (y : Bool) → passes (Commits x.tid) m ≡ false → num (y && passes (Commits x.tid) m) ≡ 0
-    none true n = ap num n
-    none false n = refl
+    none a n = grind (arith, nat_tests)
 
     go : Records sh (h.world.dirs d) c m s → (w.dir.lines.sharers l j ≡ true) ⊎ CommitsLine sh.base h.commits j l w
     go (Still y n q) = same (none mine (n x.tid))
@@ -183,10 +179,7 @@ served-owed : (s : DirState) (t : ℕ) → t ≤ s.serving.serving → is_applie
 served-owed s t l e = go (nat_lt t s.serving.serving) (t == s.serving.serving) (nat_lt 0 s.owed) refl refl refl (applied-or s t)
   where
     go : (a b c : Bool) → nat_lt t s.serving.serving ≡ a → (t == s.serving.serving) ≡ b → nat_lt 0 s.owed ≡ c → num (is_applied s t) ≡ num a + num (b && c) → s.owed ≡ 0
-    go a b false p q r x = grind (arith, nat_tests)
-    go true b true p q r x = absurd (let y : num (is_applied s t) ≡ 0 = ap num e in omega (arith, x, y))
-    go false true true p q r x = absurd (let y : num (is_applied s t) ≡ 0 = ap num e in omega (arith, x, y))
-    go false false true p q r x = absurd (grind (arith, nat_tests))
+    go a b d p q r x = grind (arith, nat_tests)
 
 pub own-sharers : (sh : Shape) (gs : List Grant) (ys : Ways) (h : History) (c d l : ℕ) (o : Out) → Before sh gs ys h → KeptLoading sh h.world → c < sh.cores → d < sh.dirs → l < lines sh → home sh l ≡ d → Sharing sh h c d l o → SharerOf sh.base h.commits c l (pair h.world c d) → SharerOf sh.base (and_noted o.commit h.commits) c l (after_move (pair h.world c d) o d)
 unfolding pair
@@ -258,13 +251,10 @@ reads-valid sh w c h k n q x r = go (w.cores c).phase refl
     s = w.cores c
 
     valid : s.phase ≡ Running → ValidOrPassed (s.cache.value x) s.phase (w.dirs (home sh (line_of x))).serving.serving → is_some (s.cache.value x) ≡ true
-    valid e (inl y) = y
-    valid e (inr y) = absurd (let z : has_tid Running y.0 ≡ true = rw e at (y.1) in cc)
+    valid e a = grind (arith, nat_tests)
 
     go : (p : Phase) → s.phase ≡ p → is_some (s.cache.value x) ≡ true
-    go Running e = valid e (k c (home sh (line_of x)) (home-below sh (line_of x) n) x refl r)
-    go (Solo t) e = absurd (let y = h.words.unread_alone (rw e refl) x in cc)
-    go m e = absurd (let y : acting m ≡ true = rw e at q in cc)
+    go m e = grind (arith, nat_tests)
 
 abbrev pub SharersAt : Shape → List Noted → (core dir : ℕ) → Pair → Type 0
 SharersAt sh cs c d v = (l : ℕ) → c < sh.cores → d < sh.dirs → l < lines sh → home sh l ≡ d → SharerOf sh.base cs c l v
@@ -295,14 +285,12 @@ moved-sharers sh gs ys h c o b ld t a f j d = either j c
     (λ n. subst (SharersAt sh (and_noted o.commit h.commits) j d) (sym (moves-other h.world c o j d n)) (λ l jl dl ll e. other-sharers sh.base o.commit h.commits j l (pair h.world j d) (λ x q. unlike x q n a) (t j d l jl dl ll e)))
   where
     unlike : (x : Noted) → o.commit ≡ Some x → (j ≡ c → ⊥) → AfterStep sh c (h.world.cores c) o → (x.core.0 == j) ≡ false
-    unlike x q n (inl y) = absurd (let z = sym (y.commit) ∙ q in cc)
-    unlike x q n (inr y) = grind (arith, nat_tests)
+    unlike x q n a = grind (arith, nat_tests)
 
 -- A message that a core takes keeps that a core which holds a line is one of its sharers, or its Commit of the line is in flight.
 fill-away : (n e l : ℕ) (m : Msg) → passes (FillOf l) m ≡ true → passes (LinesAway n e) m ≡ not ((l % n) == e)
 unfolding passes
-fill-away n e l (Fill k ws) q = let y : k ≡ l = grind (arith, nat_tests) in rw y refl
-fill-away n e l _ q = absurd (cc)
+fill-away n e l a q = grind (arith, nat_tests)
 
 -- a Fill comes from the line's home
 fill-home : (sh : Shape) (w : World) (c e k l : ℕ) (m : Msg) → KeptHomes sh w → in_flight w.net (Dir e) (Core c) k ≡ Some m → passes (FillOf l) m ≡ true → home sh l ≡ e

@@ -23,8 +23,7 @@ last-insert p n [] = refl
 last-insert p n (m ∷ cs) = go (nat_lt n.tid.0 m.tid.0) (last-insert p n cs)
   where
     go : (b : Bool) → last_of p (insert_commit n cs) ≡ max (cond (p n) n.tid.0 0) (last_of p cs) → last_of p (if b then n ∷ m ∷ cs else m ∷ insert_commit n cs) ≡ max (cond (p n) n.tid.0 0) (max (cond (p m) m.tid.0 0) (last_of p cs))
-    go true e = refl
-    go false e = rw e (max-swap (cond (p m) m.tid.0 0) (cond (p n) n.tid.0 0) (last_of p cs))
+    go a e = grind (arith, nat_tests)
 
 -- all commits of a core are below its TID
 last-below : (sh : Shape) (gs : List Grant) (c d t : ℕ) (cs : List Noted) → AreGranted gs cs → ((u : ℕ) → Contains gs (record { tid = u; core = c }) → u ≤ t) → last_of (stored_there sh c d) cs ≤ t
@@ -69,8 +68,7 @@ commits-after sh cs c d v o y b n h = record {
     none-else l = omega arith
 
     go : (x : Bool) → stores_at sh d y.noted.stores ≡ x → (if x then y.noted.tid.0 else v.core.after d) ≡ max (cond ((y.noted.core.0 == c) && stores_at sh d y.noted.stores) y.noted.tid.0 0) (last_of (stored_there sh c d) cs)
-    go true q = rw (own, q) (at-most y.noted.tid.0 (last_of (stored_there sh c d) cs) b)
-    go false q = rw (own, q) (h.last ∙ none-else (last_of (stored_there sh c d) cs))
+    go a q = grind (arith, nat_tests)
 
 -- another core's commit
 other-after : (sh : Shape) (cs : List Noted) (n : Noted) (j d : ℕ) (v : Pair) → (n.core.0 == j) ≡ false → AfterOf sh cs j d v → AfterOf sh (insert_commit n cs) j d v

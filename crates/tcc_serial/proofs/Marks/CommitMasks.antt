@@ -99,36 +99,11 @@ storing-ready sh c d t u s ph h x = record {
 -- a core alone marks what its stores name
 alone-masked : (sh : Shape) (c : Cache) (sp : Spilled) (u d t l : ℕ) → among (MarkMask t l (written_mask c sp l)) (solo_sends sh c sp u (Dir d)) ≡ 0
 unfolding solo_sends solo_marks solo_backs among passes
-alone-masked sh c sp u d t l = go (nat_lt d sh.dirs) (solo_writes_at sh c sp d)
-  where
-    p : ℕ → Bool
-    p k = d == home sh k && is_written c sp k
-
-    backs : among (MarkMask t l (written_mask c sp l)) (solo_backs sh sp u d) ≡ 0
-    backs = among-flat_map_none (MarkMask t l (written_mask c sp l)) (λ k. WriteBack k (spilled_mask sp k) (spilled_words sp k) u ∷ []) (λ k. refl) (those (λ k. d == home sh k && holds sp k) (lines sh))
-
-    marks : among (MarkMask t l (written_mask c sp l)) (flat_map (λ k. Mark k (written_mask c sp k) u ∷ []) (those p (lines sh))) ≡ 0
-    marks = among-flat_map_none (MarkMask t l (written_mask c sp l)) (λ k. Mark k (written_mask c sp k) u ∷ []) (λ k. omega (arith, own-mask (written_mask c sp) t u l k)) (those p (lines sh))
-
-    go : (a w : Bool) → among (MarkMask t l (written_mask c sp l)) (if a then (if w then flat_map (λ k. Mark k (written_mask c sp k) u ∷ []) (those p (lines sh)) ++ Commit u (count_below p (lines sh)) ∷ [] else Skip u ∷ []) ++ solo_backs sh sp u d else []) ≡ 0
-    go false w = refl
-    go true false = rw (among-append, backs) (omega arith)
-    go true true = rw (among-append, among-append, backs, marks) (omega arith)
+alone-masked sh c sp u d t l = grind (arith, nat_tests, among-flat_map_none, own-mask, among-append)
 
 alone-writes : (sh : Shape) (c : Cache) (sp : Spilled) (u d t : ℕ) → 1 ≤ among (Commits t) (solo_sends sh c sp u (Dir d)) → any_below (λ l. d == home sh l && is_written c sp l) (lines sh) ≡ true
 unfolding solo_sends solo_marks solo_backs solo_writes_at among passes
-alone-writes sh c sp u d t x = go (nat_lt d sh.dirs) (any_below p (lines sh)) x
-  where
-    p : ℕ → Bool
-    p k = d == home sh k && is_written c sp k
-
-    backs : among (Commits t) (solo_backs sh sp u d) ≡ 0
-    backs = among-flat_map_none (Commits t) (λ k. WriteBack k (spilled_mask sp k) (spilled_words sp k) u ∷ []) (λ k. refl) (those (λ k. d == home sh k && holds sp k) (lines sh))
-
-    go : (a w : Bool) → 1 ≤ among (Commits t) (if a then (if w then flat_map (λ k. Mark k (written_mask c sp k) u ∷ []) (those p (lines sh)) ++ Commit u (count_below p (lines sh)) ∷ [] else Skip u ∷ []) ++ solo_backs sh sp u d else []) → w ≡ true
-    go true true y = refl
-    go true false y = absurd (omega (arith, y, among-append (Commits t) (Skip u ∷ []) (solo_backs sh sp u d), backs))
-    go false w y = absurd (omega (arith, y))
+alone-writes sh c sp u d t x = grind (arith, nat_tests, among-flat_map_none, among-append)
 
 alone : (u : ℕ) (q : Phase) → q ≡ Solo u → has_marked q ≡ false
 unfolding has_marked

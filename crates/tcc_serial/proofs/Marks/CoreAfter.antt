@@ -43,11 +43,7 @@ unfolding among passes
 asked sh k s r e = record { after = e; carries = λ d. go d (d == home sh k) refl; commit = refl }
   where
     go : (d : ℕ) (b : Bool) → (d == home sh k) ≡ b → among (LoadNot (s.after d)) (if b then LoadReq k (s.after (home sh k)) ∷ [] else []) ≡ 0
-    go d true q =
-        let h : d ≡ home sh k = grind (arith, nat_tests) in
-        let b : (s.after (home sh k) == s.after d) ≡ true = rw h (grind (arith, nat_tests)) in
-        rw b refl
-    go d false q = refl
+    go d a q = grind (arith, nat_tests)
 
 -- a core whose directories are all ready awaits nothing and has spilled nothing
 pub after-exec : (sh : Shape) (p : Program) (c : ℕ) (s : CoreState) → OneCore sh s → IfSome (core_exec sh p c s) (λ o. AfterStep sh c s o)

@@ -41,9 +41,7 @@ counts-lines sh d t n s o p h e f = record {
 }
   where
     few : (a b : Bool) → num (a && b) ≤ num a
-    few true true = omega arith
-    few true false = omega arith
-    few false b = omega arith
+    few a b = grind (arith, nat_tests)
 
     below : (l : ℕ) → l < lines sh → num (nat_lt l (lines sh) && p l) ≡ num (p l)
     below l x = let b : nat_lt l (lines sh) ≡ true = grind (arith, nat_tests) in rw b refl

@@ -119,8 +119,7 @@ last-words sh d t l u s o q e h f w m a k = record {
 }
   where
     own : 1 ≤ among (Marks t) (o.sends (Dir d)) + among (Resolves t) (o.sends (Dir d)) → (among (Marks t) (o.sends (Dir d)) + among (Resolves t) (o.sends (Dir d)) ≡ 0) ⊎ (u ≡ t) → has_tid s.phase t ≡ true
-    own x (inl z) = absurd (omega (arith, x, z))
-    own x (inr z) = f z
+    own x a = grind (arith, nat_tests)
 
 -- the words on a TID
 pub is-tid : (u t : ℕ) (a : ℕ) → (u ≡ t → ⊥) ⊎ (u ≡ t) → (((u == t) ≡ false) → a ≡ 0) → (a ≡ 0) ⊎ (u ≡ t)
@@ -178,15 +177,13 @@ marking-alone sh d t l u s o e q ph se = record {
 }
   where
     own : 1 ≤ among (Marks t) (solo_sends sh s.cache s.spilled u (Dir d)) + among (Resolves t) (solo_sends sh s.cache s.spilled u (Dir d)) → (among (Marks t) (solo_sends sh s.cache s.spilled u (Dir d)) + among (Resolves t) (solo_sends sh s.cache s.spilled u (Dir d)) ≡ 0) ⊎ (u ≡ t) → has_tid s.phase t ≡ true
-    own x (inl z) = absurd (omega (arith, x, z))
-    own x (inr z) = mine u t s.phase (rw q (self u)) z
+    own x a = grind (arith, nat_tests)
 
     skipped : 1 ≤ among (Skips t) (solo_sends sh s.cache s.spilled u (Dir d)) → 1 ≤ among (Marks t) (solo_sends sh s.cache s.spilled u (Dir d)) + among (Resolves t) (solo_sends sh s.cache s.spilled u (Dir d))
     skipped x = omega (arith, x, (few t l (solo_sends sh s.cache s.spilled u (Dir d))).3)
 
     one : 1 ≤ among (MarkOf t l) (solo_sends sh s.cache s.spilled u (Dir d)) → (u ≡ t) ⊎ (u ≡ t → ⊥) → u ≡ t
-    one x (inl e) = e
-    one x (inr n) = let b : (u == t) ≡ false = grind (arith, nat_tests) in let z : num (u == t) ≡ 0 = ap num b in absurd (omega (arith, x, z, solo-mark sh s.cache s.spilled u d t l))
+    one x a = grind (arith, nat_tests, solo-mark)
 
 pub marking-exec : (sh : Shape) (p : Program) (c d t l : ℕ) (s : CoreState) → IfSome (core_exec sh p c s) (λ o. Marking sh d t l s o)
 unfolding commit solo_commit committed_core has_tid

@@ -7,7 +7,7 @@ use Rattle.tcc_serial.proofs.Names.{Overflowing, Solo, to, marks_for, skip_all, 
 use Rattle.tcc_serial.proofs.Names.{probe_reply, fill, data_request, invalidate, ignored, grant, grant_phase, grant_sends, is_probed}
 use Rattle.tcc_serial.proofs.Names.{probing, Resolves, Marks, MarkOf, EmptyMarks, Skips, among, passes, has_marked, stores_line, marked_by}
 use Rattle.tcc_serial.proofs.Names.{has_tid, opens, waits_for_tid}
-use Rattle.tcc_serial.proofs.Counts.Links.{among-append, num-few, num-one}
+use Rattle.tcc_serial.proofs.Counts.Links.{among-append, num-one}
 use Rattle.tcc_serial.proofs.Marks.CoreMarking.{Marking, Unsaid, unsaid-nothing, unsaid-append, acked, silent, silent-none, marking-steady}
 use Rattle.tcc_serial.proofs.Marks.CoreMarking.{last-words, is-tid, swap, mine, self, told-abort, told-skip, marked-same, stores-same}
 use Rattle.tcc_serial.proofs.Marks.CoreMarks.{marks-for, marks-only, full-for, stores-writes}
@@ -25,23 +25,18 @@ append-told t l a b u = (
 
 has-of : (u : ℕ) (q : Phase) → ((q ≡ Probing u) ⊎ (q ≡ Ready u)) ⊎ ((q ≡ Overflowing (Some u)) ⊎ (q ≡ Solo u)) → has_tid q u ≡ true
 unfolding has_tid
-has-of u q (inl (inl e)) = rw e (self u)
-has-of u q (inl (inr e)) = rw e (self u)
-has-of u q (inr (inl e)) = rw e (self u)
-has-of u q (inr (inr e)) = rw e (self u)
+has-of u q a = grind (arith, nat_tests)
 
 silent-alone : (u : ℕ) (q : Phase) → (q ≡ Overflowing (Some u)) ⊎ (q ≡ Solo u) → has_marked q ≡ false
 unfolding has_marked
-silent-alone u q (inl e) = rw e refl
-silent-alone u q (inr e) = rw e refl
+silent-alone u q a = grind (arith, nat_tests)
 
 pub unmarked : (sh : Shape) (s : CoreState) (d l : ℕ) → has_marked s.phase ≡ false → marked_by sh s d l ≡ 0
 unfolding marked_by
 unmarked sh s d l e = rw e refl
 
 skips-mine : (u t : ℕ) (a b : ℕ) → 1 ≤ a → a ≤ b → (b ≡ 0) ⊎ (u ≡ t) → u ≡ t
-skips-mine u t a b x y (inl e) = absurd (omega (arith, x, y, e))
-skips-mine u t a b x y (inr e) = e
+skips-mine u t a b x y d = grind (arith, nat_tests)
 
 skips-resolves : (sh : Shape) (u d t : ℕ) → among (Skips t) (skip_all sh u (Dir d)) ≤ among (Marks t) (skip_all sh u (Dir d)) + among (Resolves t) (skip_all sh u (Dir d))
 unfolding skip_all among passes
@@ -87,23 +82,19 @@ marking-hurt sh x d t l s o i = go i.hurt
 -- a reply
 last-tid : (b : Bool) (u t : ℕ) → has_tid (if b then Ready u else Probing u) t ≡ true → u ≡ t
 unfolding has_tid
-last-tid true u t x = grind (arith, nat_tests)
-last-tid false u t x = grind (arith, nat_tests)
+last-tid a u t x = grind (arith, nat_tests)
 
 last-alone : (b : Bool) (u t : ℕ) → has_tid (if b then Solo u else Overflowing (Some u)) t ≡ true → u ≡ t
 unfolding has_tid
-last-alone true u t x = grind (arith, nat_tests)
-last-alone false u t x = grind (arith, nat_tests)
+last-alone a u t x = grind (arith, nat_tests)
 
 both-marked : (b : Bool) (u : ℕ) → has_marked (if b then Ready u else Probing u) ≡ true
 unfolding has_marked
-both-marked true u = refl
-both-marked false u = refl
+both-marked a u = grind (arith, nat_tests)
 
 none-marked : (b : Bool) (u : ℕ) → has_marked (if b then Solo u else Overflowing (Some u)) ≡ false
 unfolding has_marked
-none-marked true u = refl
-none-marked false u = refl
+none-marked a u = grind (arith, nat_tests)
 
 put_same : (e : ℕ) (f : ℕ → Bool) → put f e false e ≡ false
 put_same e f = let b : (e == e) ≡ true = self e in rw b refl
@@ -112,22 +103,16 @@ put_other : (e d : ℕ) (f : ℕ → Bool) → (d ≡ e → ⊥) → put f e fal
 put_other e d f n = let b : (d == e) ≡ false = grind (arith, nat_tests) in rw b refl
 
 nothing-more : (a b : Bool) → num (true && b) + num (a && (not true && b)) ≡ num (true && (not false && b))
-nothing-more true true = refl
-nothing-more true false = refl
-nothing-more false true = refl
-nothing-more false false = refl
+nothing-more a b = grind (arith, nat_tests)
 
 no-more : (a b c : Bool) → num a + num (b && (not true && c)) ≤ 1
-no-more a true c = omega (arith, num-few a)
-no-more a false c = omega (arith, num-few a)
+no-more a b c = grind (arith, nat_tests)
 
 first-is : (a b : Bool) → (a && b) ≡ true → a ≡ true
-first-is true b x = refl
-first-is false b x = x
+first-is a b x = grind (arith, nat_tests)
 
 second-is : (a b : Bool) → (a && b) ≡ true → b ≡ true
-second-is true b x = x
-second-is false b x = absurd (cc)
+second-is a b x = grind (arith, nat_tests)
 
 opens-probing : (u t : ℕ) (w : Bool) → (u == t) ≡ true → w ≡ true → opens (Probing u) w t ≡ true
 unfolding opens
@@ -225,16 +210,11 @@ told-probe sh u d t l = (grind arith, grind arith, grind arith)
 
 tid-probing : (b : Bool) (u t : ℕ) → has_tid (probing b u) t ≡ true → u ≡ t
 unfolding has_tid
-tid-probing true u t x = grind (arith, nat_tests)
-tid-probing false u t x = grind (arith, nat_tests)
+tid-probing a u t x = grind (arith, nat_tests)
 
 unprobed-stores : (sh : Shape) (c : Cache) (d l : ℕ) → d < sh.dirs → is_probed sh c d ≡ false → stores_line sh c d l ≡ false
 unfolding is_probed
-unprobed-stores sh c d l x q = go (stores_line sh c d l) refl
-  where
-    go : (b : Bool) → stores_line sh c d l ≡ b → stores_line sh c d l ≡ false
-    go false e = e
-    go true e = let y = stores-writes sh c d l e in absurd (grind (arith, nat_tests))
+unprobed-stores sh c d l x q = grind (arith, nat_tests, stores-writes)
 
 pub granting : (sh : Shape) (u d t l : ℕ) (s : CoreState) → waits_for_tid s.phase ≡ true → Granting sh u d t l (grant sh u s)
 unfolding grant waits_for_tid has_tid has_marked marked_by
@@ -247,12 +227,7 @@ granting sh u d t l s w = go s.phase w
     same e = grind (arith, nat_tests)
 
     quiet : (q : Phase) (b : Bool) → d < sh.dirs → is_probed sh s.cache d ≡ b → num (has_marked q && (not b && stores_line sh s.cache d l)) ≡ 0
-    quiet q true x e = elim (has_marked q) as (λ y. num (y && (not true && stores_line sh s.cache d l)) ≡ 0) [ true ↦ refl | false ↦ refl ]
-    quiet q false x e = rw (unprobed-stores sh s.cache d l x e) (go' (has_marked q))
-      where
-        go' : (y : Bool) → num (y && (not false && false)) ≡ 0
-        go' true = refl
-        go' false = refl
+    quiet q a x e = grind (arith, nat_tests, unprobed-stores)
 
     go : (q : Phase) → waits_for_tid q ≡ true → Granting sh u d t l (grant_phase sh u s q)
     go AwaitTid h = let f = told-grant sh s.cache u d t l in record { words = f.0; marks = f.1; owned = λ n. f.2 (other n); kept = λ x y. (tid-probing (any_below (is_probed sh s.cache) sh.dirs) u t y, quiet (probing (any_below (is_probed sh s.cache) sh.dirs) u) (is_probed sh s.cache d) x refl) }

@@ -29,8 +29,7 @@ full-marks p f u zero h = refl
 full-marks p f u (suc n) h = rw (flat_map-append, among-append, full-marks p f u n h) (go (p n) refl)
   where
     go : (b : Bool) → p n ≡ b → 0 + among EmptyMarks (flat_map (λ k. Mark k (f k) u ∷ []) (if b then n ∷ [] else [])) ≡ 0
-    go false q = refl
-    go true q = let z : (f n == 0) ≡ false = let y = h n q in grind (arith, nat_tests) in rw z refl
+    go a q = grind (arith, nat_tests)
 
 -- a mask of places of which one has p
 pub some-mask : (p : ℕ → Bool) (k : ℕ) → k < 8 → p k ≡ true → 0 < mask_of p
@@ -118,24 +117,7 @@ solo-full sh c sp u d = go (nat_lt d sh.dirs) (solo_writes_at sh c sp d)
 -- where it skips, it sends no mark
 pub solo-skips : (sh : Shape) (c : Cache) (sp : Spilled) (u d t l : ℕ) → 1 ≤ among (Skips t) (solo_sends sh c sp u (Dir d)) → among (MarkOf t l) (solo_sends sh c sp u (Dir d)) ≡ 0
 unfolding solo_sends solo_marks solo_backs among passes
-solo-skips sh c sp u d t l h = go (nat_lt d sh.dirs) (solo_writes_at sh c sp d) h
-  where
-    p : ℕ → Bool
-    p k = d == home sh k && is_written c sp k
-
-    backs : (k : Kind) → ((x m : ℕ) (ws : List ℕ) → num (passes k (WriteBack x m ws u)) ≡ 0) → among k (solo_backs sh sp u d) ≡ 0
-    backs k e = among-flat_map_none k (λ x. WriteBack x (spilled_mask sp x) (spilled_words sp x) u ∷ []) (λ x. omega (arith, e x (spilled_mask sp x) (spilled_words sp x))) (those (λ x. d == home sh x && holds sp x) (lines sh))
-
-    sends : (a w : Bool) → List Msg
-    sends a w = if a then (if w then flat_map (λ k. Mark k (written_mask c sp k) u ∷ []) (those p (lines sh)) ++ Commit u (count_below p (lines sh)) ∷ [] else Skip u ∷ []) ++ solo_backs sh sp u d else []
-
-    none : among (Skips t) (flat_map (λ k. Mark k (written_mask c sp k) u ∷ []) (those p (lines sh)) ++ Commit u (count_below p (lines sh)) ∷ []) ≡ 0
-    none = rw (among-append, marks-only (Skips t) p (written_mask c sp) u (lines sh) (λ x m. refl)) refl
-
-    go : (a w : Bool) → 1 ≤ among (Skips t) (sends a w) → among (MarkOf t l) (sends a w) ≡ 0
-    go false w q = refl
-    go true false q = rw (among-append, backs (MarkOf t l) (λ x m ws. refl)) (omega arith)
-    go true true q = absurd (omega (arith, q, none, backs (Skips t) (λ x m ws. refl), among-append (Skips t) (flat_map (λ k. Mark k (written_mask c sp k) u ∷ []) (those p (lines sh)) ++ Commit u (count_below p (lines sh)) ∷ []) (solo_backs sh sp u d)))
+solo-skips sh c sp u d t l h = grind (arith, nat_tests, among-flat_map_none, among-append, marks-only)
 
 pub solo-owned : (sh : Shape) (c : Cache) (sp : Spilled) (u d t : ℕ) → among (Marks t) (solo_sends sh c sp u (Dir d)) + among (Resolves t) (solo_sends sh c sp u (Dir d)) ≡ 0 ⊎ (u ≡ t)
 unfolding solo_sends solo_marks solo_backs among passes

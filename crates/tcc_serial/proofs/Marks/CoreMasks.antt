@@ -104,8 +104,7 @@ masking-replied sh e u d t l s o (Ignored q f) = rw q (masking-steady sh d t l s
 masking-replied sh e u d t l s o (Probed ph ow ph' ow' ca se cm) = record { sent = λ x. rw (ca, se) (go (d == e)); stays = λ x. inr (rw ca refl) }
   where
     go : (b : Bool) → among (MarkMask t l (modified_mask s.cache l)) (if b then marks_for sh s.cache u e else []) ≡ 0
-    go true = masked-for sh s.cache u e t l
-    go false = omega (arith, few-masked t l (modified_mask s.cache l) [], (unsaid-nothing t l).marks)
+    go a = grind (arith, nat_tests, masked-for, few-masked, unsaid-nothing)
 masking-replied sh e u d t l s o (Left_alone ph ow ph' ow' ca se cm) = quiet sh d t l s o (rw (ap (λ f. f (Dir d)) se) (unsaid-nothing t l)) (λ x. inr (mask-same o.core.cache s.cache l ca))
 
 pub masking-back : (sh : Shape) (e d t l : ℕ) (s : CoreState) (m : Msg) → IfSome (from_dir sh e s m) (λ o. Masking sh d t l s o)

@@ -17,8 +17,8 @@ use Rattle.tcc_serial.proofs.Marks.CoreCounts.{Counts, CountsAll, total-num, few
 use Rattle.tcc_serial.proofs.Marks.CoreMarking.{Marking, marking-exec, marking-evict}
 use Rattle.tcc_serial.proofs.Marks.CoreMarkingTakes.{marking-back, granting}
 use Rattle.tcc_serial.proofs.Marks.DirMarks.{Marked, Stays, MarkedBy, dir-marked}
-use Rattle.tcc_serial.proofs.Marks.MarksKept.{holds, kinds, open-untold, taken-less, empty-one, skip-unmarked, only-there, no-request}
-use Rattle.tcc_serial.proofs.Marks.MarksKept.{no-empty, taken-back as back-marks}
+use Rattle.tcc_serial.proofs.Marks.MarksKept.{holds, open-untold, taken-less, empty-one, skip-unmarked, only-there, no-request, no-empty}
+use Rattle.tcc_serial.proofs.Marks.MarksKept.{taken-back as back-marks, kinds}
 use Rattle.tcc_serial.proofs.Marks.OwesByCommit.{CountsMarked, OwesBy, dir-owes}
 use Rattle.tcc_serial.proofs.Serving.DirDue.{Due, DueBy, dir-due, still-due}
 use Rattle.tcc_serial.proofs.Serving.KeptSteps.{core_of_back, core_of_out, once_at, marks_home, acks_owed}
@@ -60,12 +60,10 @@ counted-moved sh gs c d t v o cl y k m free unowed h = record {
 }
   where
     quiet : (l : ℕ) → d < sh.dirs → 1 ≤ v.dir.owed → (0 < among (MarkOf v.dir.serving.serving l) (o.sends (Dir d))) ⊎ (among (MarkOf v.dir.serving.serving l) (o.sends (Dir d)) ≤ 0) → among (MarkOf v.dir.serving.serving l) (o.sends (Dir d)) ≡ 0
-    quiet l dl x (inl z) = absurd (omega (arith, x, unowed dl ((y v.dir.serving.serving l).opened (omega (arith, z)))))
-    quiet l dl x (inr z) = omega (arith, z)
+    quiet l dl x a = grind (arith, nat_tests)
 
     told : (n l : ℕ) → d < sh.dirs → 1 ≤ live (CommitOf t n) v.out → (0 < among (MarkOf t l) (o.sends (Dir d))) ⊎ (among (MarkOf t l) (o.sends (Dir d)) ≤ 0) → among (MarkOf t l) (o.sends (Dir d)) ≡ 0
-    told n l dl x (inl z) = absurd (omega (arith, x, free dl ((y t l).opened (omega (arith, z))), is-word t n v.out))
-    told n l dl x (inr z) = omega (arith, z)
+    told n l dl x a = grind (arith, nat_tests, is-word)
 
     sums : (n : ℕ) → d < sh.dirs → Counts sh d t n v.core o → CountsMarks sh n t (after_move v o d)
     sums n dl a = record {
@@ -159,9 +157,7 @@ counted-answered sh gs j d t v m s ms k y less eqn skip nonempty ahead serves ow
         same-counts sh n t v (after_answer (record v { out = k }) s ms) (λ l. marks-stay sh d t l v m s ms k y (eqn l (inl c)) (skip l) nonempty (ahead dl a) (below-one sh n t l v b)) b
 
     settled : (l : ℕ) → d < sh.dirs → 1 ≤ s.owed → (s.serving.serving ≡ v.dir.serving.serving) ⊎ (s.owed ≡ 0) → (1 ≤ s.owed → 1 ≤ v.dir.owed) ⊎ ((l : ℕ) → d < sh.dirs → live (MarkOf v.dir.serving.serving l) v.out ≡ 0) → live (MarkOf s.serving.serving l) k ≡ 0
-    settled l dl x (inr z) r = absurd (omega (arith, x, z))
-    settled l dl x (inl z) (inl r) = rw z (omega (arith, h.settled l dl (r x), less (MarkOf v.dir.serving.serving l)))
-    settled l dl x (inl z) (inr r) = rw z (omega (arith, r l dl, less (MarkOf v.dir.serving.serving l)))
+    settled l dl x a r = grind (arith, nat_tests)
 
 none-granted : (t l d k : ℕ) (v : Pair) (o : Out) → among (MarkOf t l) (o.sends (Dir d)) ≡ 0 → marks_of t l (after_move (grant_taken v k) o d) ≡ marks_of t l v
 unfolding marks_of
@@ -240,9 +236,7 @@ asks-counted sh gs w d s sends a h z u o = pairs_asks (λ j e v. (t : ℕ) → j
     new = dir_asks w d s sends
 
 waits-not : (q : Phase) → may_commit q ≡ true → awaits_replies q ≡ false
-waits-not (Probing t) e = absurd (cc)
-waits-not (Overflowing t) e = absurd (cc)
-waits-not _ e = refl
+waits-not a e = grind (arith, nat_tests)
 
 taken-back : (sh : Shape) (d t k : ℕ) (v : Pair) → CountedOf sh d t v → CountedOf sh d t (back_taken v k)
 unfolding marks_of

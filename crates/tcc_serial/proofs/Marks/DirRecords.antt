@@ -46,12 +46,10 @@ dir-records sh s c m = go (outcome sh s c m)
 
     -- a copy with the line's tag isn't the owner's
     other : (k l g : ℕ) (b : Bool) → (k == l) ≡ b → (b && (g == s.lines.tag l)) ≡ true → ((s.lines.tag k == g) && is_owner (s.lines.owner k) c) ≡ false → is_this (s.lines.owner l) c ≡ false
-    other k l g true z y e = let i : k ≡ l = grind (arith, nat_tests) in let j : (s.lines.tag k == g) ≡ true = rw i (grind (arith, nat_tests)) in rw (← i) (rw j at e)
-    other k l g false z y e = absurd (cc)
+    other k l g a z y e = grind (arith, nat_tests)
 
     late : (k l t g : ℕ) (b : Bool) → (k == l) ≡ b → (b && (g == t)) ≡ true → g ≤ s.lines.tag k → t ≤ s.lines.tag l
-    late k l t g true z y h = let i : k ≡ l = grind (arith, nat_tests) in rw i at (let v : t ≤ s.lines.tag k = grind (arith, nat_tests) in v)
-    late k l t g false z y h = absurd (cc)
+    late k l t g a z y h = grind (arith, nat_tests)
 
     spent : {m : Msg} → IsSpent s c m → Dropped s c m
     spent (CopyPassed m k n ws g y i e) = record {

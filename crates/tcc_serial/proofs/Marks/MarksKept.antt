@@ -4,12 +4,11 @@ use Rattle.tcc_serial.proofs.Names.{slice_index_or, arith, refl, ap, subst, ◌�
 use Rattle.tcc_serial.proofs.Names.{Dir, Msg, TidGrant, Mark, Skip, Shape, writes_at, DirState, Link, Out, sent_all, Grants, Resolves}
 use Rattle.tcc_serial.proofs.Names.{Marks, MarkOf, EmptyMarks, Skips, live, among, passes, marks_of, MarksOf, Grant, Pair, after_move}
 use Rattle.tcc_serial.proofs.Names.{grant_taken, has_tid, opens, not, [], ◌∷◌, slice_set, ◌∙◌, Contains-append_left, Noted, Core, Vendor}
-use Rattle.tcc_serial.proofs.Names.{CoreState, World, Phase, Probing, Ready, Overflowing, Solo, in_flight, Kind, AnyResolve, has_marked}
-use Rattle.tcc_serial.proofs.Names.{stores_line, marked_by, KeptMarks, holder, KeptOwners, pair, share, after_answer, after_grant}
-use Rattle.tcc_serial.proofs.Names.{after_other_grant, part, handled, KeptTids, KeptTold, Option, IfSome, set, append-nil, Program, Local}
-use Rattle.tcc_serial.proofs.Names.{no_lines, TidReq, Event, start, core_start, dir_start, Sends, core_exec, core_evict, from_dir, grant}
-use Rattle.tcc_serial.proofs.Names.{Answer, Waits, Drops, Asks, Takes, dir_deliver, core_moves, core_takes, dir_takes, dir_asks, step}
-use Rattle.tcc_serial.proofs.Names.{granted_by, back_taken, Kept}
+use Rattle.tcc_serial.proofs.Names.{CoreState, World, in_flight, Kind, AnyResolve, has_marked, marked_by, KeptMarks, holder, KeptOwners}
+use Rattle.tcc_serial.proofs.Names.{pair, share, after_answer, after_grant, after_other_grant, part, handled, KeptTids, KeptTold, Option}
+use Rattle.tcc_serial.proofs.Names.{IfSome, set, append-nil, Program, Local, no_lines, TidReq, Event, start, core_start, dir_start, Sends}
+use Rattle.tcc_serial.proofs.Names.{core_exec, core_evict, from_dir, grant, Answer, Waits, Drops, Asks, Takes, dir_deliver, core_moves}
+use Rattle.tcc_serial.proofs.Names.{core_takes, dir_takes, dir_asks, step, granted_by, back_taken, Kept}
 use Rattle.tcc_serial.proofs.Counts.Links.{live-sends, live-takes, live-fewer, total-le, none-taken}
 use Rattle.tcc_serial.proofs.Counts.StepCases.{same, pairs_move, pairs_grant, pairs_back, pairs_dir, pairs_asks, pairs_vendor, OfAnswer}
 use Rattle.tcc_serial.proofs.Counts.StepCases.{step_cases}
@@ -124,18 +123,7 @@ holds s new m t l x y b h q k nonempty once reached z = go (marks-count s new m 
 -- a line is marked by a core only where its TID is open
 marked-opens : (sh : Shape) (s : CoreState) (d t l : ℕ) → has_tid s.phase t ≡ true → 1 ≤ marked_by sh s d l → opens s.phase (writes_at sh s.cache d) t ≡ true
 unfolding marked_by has_marked has_tid opens
-marked-opens sh s d t l h m = go s.phase refl h m
-  where
-    writes : (b : Bool) → stores_line sh s.cache d l ≡ b → 1 ≤ num (true && (not (s.owing d) && b)) → writes_at sh s.cache d ≡ true
-    writes true q x = stores-writes sh s.cache d l q
-    writes false q x = absurd (grind arith)
-
-    go : (q : Phase) → s.phase ≡ q → has_tid q t ≡ true → 1 ≤ num (has_marked q && (not (s.owing d) && stores_line sh s.cache d l)) → opens q (writes_at sh s.cache d) t ≡ true
-    go (Probing u) e x y = rw (x, writes (stores_line sh s.cache d l) refl y) refl
-    go (Ready u) e x y = rw (x, writes (stores_line sh s.cache d l) refl y) refl
-    go (Overflowing (Some u)) e x y = absurd (omega (arith, y))
-    go (Solo u) e x y = absurd (omega (arith, y))
-    go _ e x y = absurd (cc)
+marked-opens sh s d t l h m = grind (arith, nat_tests, stores-writes)
 
 -- what a directory's answer does to a pair: what is in flight to it is what was, but for m perhaps
 pub marks-answered : (sh : Shape) (gs : List Grant) (j d t l : ℕ) (v : Pair) (m : Msg) (s : DirState) (ms : List Msg) (k : Link) → Marked v.dir m s

@@ -1,11 +1,11 @@
 -- Every event keeps that the Marks of a core's TID have the words that the core has modified as their masks, and are of different lines.
-use Rattle.tcc_serial.proofs.Names.{ℕ, ◌+◌, ◌≡◌, ◌<◌, ◌≤◌, Bool, true, false, not, List, [], ◌==◌, ◌&&◌, Contains, Option, Some, None}
-use Rattle.tcc_serial.proofs.Names.{IfSome, nat_lt, set, arith, refl, ◌⊎◌, inl, inr, nat_tests, Noted, Program, Local, num, modified_mask}
-use Rattle.tcc_serial.proofs.Names.{has_mark, Core, Dir, Vendor, Msg, TidGrant, Skip, Mark, Event, Shape, DirState, World, Link, start}
-use Rattle.tcc_serial.proofs.Names.{core_start, in_flight, Sends, Out, core_exec, core_evict, from_dir, grant, Answer, Waits, Drops, Asks}
-use Rattle.tcc_serial.proofs.Names.{Takes, dir_deliver, core_moves, core_takes, dir_takes, step, Grants, MarkOf, MarkMask, live, passes}
-use Rattle.tcc_serial.proofs.Names.{marks_of, marked_by, MarksOf, KeptMarks, wrong_marks, MaskedOf, KeptMasks, Grant, KeptOwners, Pair}
-use Rattle.tcc_serial.proofs.Names.{pair, after_move, grant_taken, after_answer, has_tid, Kept, KeptTold, cases_lt, no_lines, first_serving}
+use Rattle.tcc_serial.proofs.Names.{ℕ, ◌+◌, ◌≡◌, ◌<◌, ◌≤◌, true, false, not, List, [], ◌==◌, ◌&&◌, Contains, Option, Some, None, IfSome}
+use Rattle.tcc_serial.proofs.Names.{nat_lt, set, arith, refl, ◌⊎◌, inl, inr, nat_tests, Noted, Program, Local, num, modified_mask, has_mark}
+use Rattle.tcc_serial.proofs.Names.{Core, Dir, Vendor, Msg, TidGrant, Skip, Mark, Event, Shape, DirState, World, Link, start, core_start}
+use Rattle.tcc_serial.proofs.Names.{in_flight, Sends, Out, core_exec, core_evict, from_dir, grant, Answer, Waits, Drops, Asks, Takes}
+use Rattle.tcc_serial.proofs.Names.{dir_deliver, core_moves, core_takes, dir_takes, step, Grants, MarkOf, MarkMask, live, passes, marks_of}
+use Rattle.tcc_serial.proofs.Names.{marked_by, MarksOf, KeptMarks, wrong_marks, MaskedOf, KeptMasks, Grant, KeptOwners, Pair, pair}
+use Rattle.tcc_serial.proofs.Names.{after_move, grant_taken, after_answer, has_tid, Kept, KeptTold, cases_lt, no_lines, first_serving}
 use Rattle.tcc_serial.proofs.Names.{dir_start, among, OneMark}
 use Rattle.tcc_serial.proofs.Counts.Links.{live-sends, live-takes, num-few}
 use Rattle.tcc_serial.proofs.Counts.StepCases.{pairs_move, pairs_grant, pairs_back, pairs_dir, pairs_asks, pairs_vendor, OfAnswer}
@@ -24,13 +24,7 @@ use Rattle.tcc_serial.proofs.Tids.TidSteps.{granted_waits, live-some, is_mine}
 -- a Mark with another mask is a Mark
 pub wrong-few : (t l q : ℕ) (v : Pair) → wrong_marks t l q v ≤ marks_of t l v
 unfolding wrong_marks marks_of
-wrong-few t l q v = omega (arith, live-masked t l q v.out, fewer (v.dir.serving.serving == t) (has_mark v.dir.lines l) (v.dir.lines.mark l == q))
-  where
-    fewer : (a b c : Bool) → num (a && (b && not c)) ≤ num (a && b)
-    fewer true true true = omega arith
-    fewer true true false = omega arith
-    fewer true false c = omega arith
-    fewer false b c = omega arith
+wrong-few t l q v = grind (arith, nat_tests, live-masked)
 
 -- a core moves
 masks-moved : (sh : Shape) (gs : List Grant) (c d t l : ℕ) (v : Pair) (o : Out) → Marking sh d t l v.core o → Masking sh d t l v.core o → c < sh.cores → d < sh.dirs → MarksOf sh gs c d t l v → MaskedOf t l v → MaskedOf t l (after_move v o d)
@@ -41,8 +35,7 @@ masks-moved sh gs c d t l v o y z cl dl m h = λ x. let k = y.kept x in omega (a
     q = modified_mask o.core.cache l
 
     before : has_tid v.core.phase t ≡ true → (marked_by sh v.core d l ≡ 0) ⊎ (q ≡ modified_mask v.core.cache l) → wrong_marks t l q v ≡ 0
-    before a (inl n) = omega (arith, wrong-few t l q v, m.held cl dl a, n)
-    before a (inr e) = rw e (h a)
+    before a b = grind (arith, nat_tests, wrong-few)
 
 -- a core that takes its grant has marked nothing yet
 masks-granted : (sh : Shape) (gs : List Grant) (c d t l k u : ℕ) (v : Pair) (o : Out) → c < sh.cores → d < sh.dirs → Granting sh u d t l o → MarksOf sh gs c d t l (after_move (grant_taken v k) o d) → MaskedOf t l (after_move (grant_taken v k) o d)

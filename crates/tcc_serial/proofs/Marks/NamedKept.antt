@@ -304,8 +304,7 @@ step-unacked sh p gs w e z y h = step_cases sh p w e (λ g o. KeptTold sh o.worl
     one c = record { tid = w.next; core = c } ∷ []
 
     more : (c j d : ℕ) → d < sh.dirs → Contains gs (record { tid = (w.dirs d).serving.serving; core = j }) ⊎ Contains (one c) (record { tid = (w.dirs d).serving.serving; core = j }) → live Acks (w.net (Core j) (Dir d)) ≡ 0
-    more c j d l (inl a) = h j d l a
-    more c j d l (inr a) = next-unacked sh w j d z.told l (sym (ap (λ r. r.tid) (only-one (record { tid = w.next; core = c }) (record { tid = (w.dirs d).serving.serving; core = j }) a)))
+    more c j d l a = grind (arith, nat_tests, next-unacked, only-one)
 
     moved : (c : ℕ) (x : Option Out) → IfSome x (λ o. CleanOut sh o) → IfSome x (λ o. KeptTold sh (core_moves w c o) → KeptUnacked sh (gs ++ []) (core_moves w c o))
     moved c None a = tt

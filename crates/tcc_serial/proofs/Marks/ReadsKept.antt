@@ -1,10 +1,10 @@
 -- Every event keeps that a word which is marked read is valid, or its home has passed the core's TID.
-use Rattle.tcc_serial.proofs.Names.{ℕ, ◌≡◌, ◌<◌, ◌≤◌, ◌==◌, not, true, List, [], Contains, Option, Some, None, IfSome, is_some, arith, sym}
-use Rattle.tcc_serial.proofs.Names.{◌∙◌, ◌⊎◌, inl, inr, cases_eq, nat_tests, Noted, Program, Local, num, Core, Dir, Msg, Inv, Event, Shape}
-use Rattle.tcc_serial.proofs.Names.{home, empty_cache, CoreState, World, start, core_start, in_flight, Out, core_exec, core_evict, from_dir}
+use Rattle.tcc_serial.proofs.Names.{ℕ, ◌≡◌, ◌<◌, ◌≤◌, ◌==◌, not, true, List, [], Contains, Option, Some, None, IfSome, is_some, arith, ◌⊎◌}
+use Rattle.tcc_serial.proofs.Names.{inl, inr, cases_eq, nat_tests, Noted, Program, Local, num, Core, Dir, Msg, Inv, Event, Shape, home}
+use Rattle.tcc_serial.proofs.Names.{empty_cache, CoreState, World, start, core_start, in_flight, Out, core_exec, core_evict, from_dir}
 use Rattle.tcc_serial.proofs.Names.{grant, Answer, Waits, Drops, Asks, Takes, dir_deliver, core_moves, core_takes, step, Invs, InvsNot}
 use Rattle.tcc_serial.proofs.Names.{passes, Kept, KeptTold, KeptCores, Grant, KeptOwners, LastGranted, SparesCommitter, holder, Pair, pair}
-use Rattle.tcc_serial.proofs.Names.{IsBound, has_tid, IsPassed, ReadWords}
+use Rattle.tcc_serial.proofs.Names.{IsBound, has_tid, IsPassed, ReadWords, sym, ◌∙◌}
 use Rattle.tcc_serial.proofs.Counts.StepCases.{pairs_move, pairs_grant, pairs_back, pairs_dir, pairs_asks, pairs_vendor, OfAnswer}
 use Rattle.tcc_serial.proofs.Counts.StepCases.{step_cases}
 use Rattle.tcc_serial.proofs.Marks.NamedKept.{passed-away}

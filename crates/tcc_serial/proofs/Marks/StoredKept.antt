@@ -87,8 +87,7 @@ with-all t l q d b v o e m r k h = record {
 }
   where
     before : (b ≡ 0) ⊎ (q ≡ modified_mask v.core.cache l) → wrong_marks t l q v ≡ 0
-    before (inl z) = omega (arith, wrong-few t l q v, e, z)
-    before (inr i) = rw i h
+    before a = grind (arith, nat_tests, wrong-few)
 
 pub stored-moved : (sh : Shape) (gs : List Grant) (cs : List Noted) (c d t : ℕ) (v : Pair) (o : Out) → c < sh.cores → ((l : ℕ) → Marking sh d t l v.core o) → StoresAll sh c d t v.core o → ((l : ℕ) → MarksOf sh gs c d t l v)
     → (d < sh.dirs → (l : ℕ) → MaskedOf t l v) → (d < sh.dirs → opens v.core.phase (writes_at sh v.core.cache d) t ≡ true → live (Resolves t) v.out ≡ 0)
@@ -96,8 +95,7 @@ pub stored-moved : (sh : Shape) (gs : List Grant) (cs : List Noted) (c d t : ℕ
 stored-moved sh gs cs c d t v o cl y s m q free h = record { sent = λ cl dl x. sent dl x (cases_lt 0 (live (Commits t) v.out)); settled = (stored-more sh cs o.commit c d t v h).settled }
   where
     told : (l : ℕ) → d < sh.dirs → 1 ≤ live (Commits t) v.out → (0 < among (MarkOf t l) (o.sends (Dir d))) ⊎ (among (MarkOf t l) (o.sends (Dir d)) ≤ 0) → among (MarkOf t l) (o.sends (Dir d)) ≡ 0
-    told l dl x (inl z) = absurd (omega (arith, x, free dl ((y l).opened (omega (arith, z))), ofs-resolve t v.out))
-    told l dl x (inr z) = omega (arith, z)
+    told l dl x a = grind (arith, nat_tests, ofs-resolve)
 
     new : d < sh.dirs → Storing sh c d t v.core o → MarkedCommit sh (and_noted o.commit cs) c d t (after_move v o d)
     new dl k = record {
@@ -177,11 +175,7 @@ stored-answered sh gs cs j d t v m s ms k y less ones wrongs skip nonempty ahead
 -- where a directory takes the Commit, and none of its Marks is in flight, the marks are the words that it stored
 pub taken-marks : (l q : ℕ) (v : Pair) → live (MarkOf v.dir.serving.serving l) v.out ≡ 0 → MarkedWith v.dir.serving.serving l q v → v.dir.lines.mark l ≡ q
 unfolding marks_of wrong_marks
-taken-marks l q v z h = is (v.dir.serving.serving == v.dir.serving.serving) (grind (arith, nat_tests)) (omega (arith, h.one, z)) (omega (arith, h.right))
-  where
-    is : (b : Bool) → b ≡ true → num (b && has_mark v.dir.lines l) ≡ num (nat_lt 0 q) → num (b && (has_mark v.dir.lines l && not (v.dir.lines.mark l == q))) ≡ 0 → v.dir.lines.mark l ≡ q
-    is false e x y = absurd (cc)
-    is true e x y = elim (cases_eq (v.dir.lines.mark l) q) [ inl i ↦ i | inr n ↦ absurd (grind (arith, nat_tests)) ]
+taken-marks l q v z h = grind (arith, nat_tests)
 
 pub one-commit : (u n : ℕ) (m : Msg) → num (passes (CommitOf u n) m) ≤ num (passes (Commits u) m)
 unfolding passes
@@ -232,8 +226,7 @@ dir-stored sh gs w cs c d k ack m s sends b y a g h z cl i u p o = pairs_dir (λ
     before dl x (inr q) = taken-stored sh w cs c d k m g h cl dl i q
 
     serves : {B : Type 0} → 1 ≤ s.owed → ((s.serving.serving ≡ (w.dirs d).serving.serving) × B) ⊎ (s.owed ≡ 0) → s.serving.serving ≡ (w.dirs d).serving.serving
-    serves x (inl q) = q.0
-    serves x (inr q) = absurd (omega (arith, x, q))
+    serves x a = grind (arith, nat_tests)
 
     settles : d < sh.dirs → 1 ≤ s.owed → SettledCommit sh cs d s
     settles dl x = let n = before dl x o in let e = serves x (p.served) in record {

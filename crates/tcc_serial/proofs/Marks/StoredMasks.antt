@@ -3,8 +3,8 @@
 use Rattle.tcc_serial.proofs.Names.{ℕ, zero, suc, ◌≡◌, ◌<◌, Bool, true, false, List, ◌==◌, ◌&&◌, ◌||◌, Option, None, is_some, nat_lt}
 use Rattle.tcc_serial.proofs.Names.{if◌then◌else◌, arith, refl, sym, ap, ◌∙◌, ◌⊎◌, inl, inr, nat_tests, Stored, num, any_below, any_word}
 use Rattle.tcc_serial.proofs.Names.{word_at, mask_of, Shape, home, lines, Cache, is_modified, modified_mask, writes_at, Spilled, holds}
-use Rattle.tcc_serial.proofs.Names.{any_below-found, any_below-at, is_written, written_mask, solo_writes_at, Words, stores_in, stored_mask}
-use Rattle.tcc_serial.proofs.Names.{stores_at, stores_word}
+use Rattle.tcc_serial.proofs.Names.{is_written, written_mask, solo_writes_at, Words, stores_in, stored_mask, stores_at, stores_word}
+use Rattle.tcc_serial.proofs.Names.{any_below-at, any_below-found}
 use Rattle.tcc_serial.proofs.Counts.Links.{num-same}
 use Rattle.tcc_serial.proofs.Marks.CoreMarks.{some-mask}
 
@@ -33,21 +33,12 @@ any-or p q zero = refl
 any-or p q (suc n) = rw (any-or p q n) (go (any_below p n) (any_below q n) (p n) (q n))
   where
     go : (a b c d : Bool) → ((a || b) || (c || d)) ≡ ((a || c) || (b || d))
-    go true b c d = refl
-    go false true true d = refl
-    go false true false d = refl
-    go false false true d = refl
-    go false false false d = refl
+    go a b c d = grind (arith, nat_tests)
 
 -- a line at home at the directory has a stored word exactly where its mask has one
 pub stored-line : (sh : Shape) (d : ℕ) (ss : List Stored) (l : ℕ) → num (nat_lt l (lines sh) && (d == home sh l && any_word (stores_word sh.base ss) l)) ≡ num (nat_lt 0 (stored_mask sh d ss l))
 unfolding stored_mask stores_in any_word
-stored-line sh d ss l = go (nat_lt l (lines sh)) (d == home sh l)
-  where
-    go : (a b : Bool) → num (a && (b && any_below (λ k. stores_word sh.base ss (word_at l k)) 8)) ≡ num (nat_lt 0 (if a && b then mask_of (λ k. stores_word sh.base ss (word_at l k)) else 0))
-    go true true = ap num (sym (mask-any (λ k. stores_word sh.base ss (word_at l k))))
-    go true false = refl
-    go false b = refl
+stored-line sh d ss l = grind (arith, nat_tests, mask-any)
 
 -- where p is of the lines with a stored word, there is one exactly where the directory was stored at
 any-same : (p q : ℕ → Bool) (n : ℕ) → ((l : ℕ) → l < n → p l ≡ q l) → any_below p n ≡ any_below q n
@@ -57,10 +48,7 @@ any-same p q (suc n) h = rw (any-same p q n (λ l i. h l (omega (arith, i))), h 
 
 pub stored-any : (sh : Shape) (d : ℕ) (ss : List Stored) (p : ℕ → Bool) → ((l : ℕ) → num (nat_lt l (lines sh) && p l) ≡ num (nat_lt 0 (stored_mask sh d ss l))) → any_below p (lines sh) ≡ stores_at sh d ss
 unfolding stores_at
-stored-any sh d ss p h = any-same p (λ l. nat_lt 0 (stored_mask sh d ss l)) (lines sh) one
-  where
-    one : (l : ℕ) → l < lines sh → p l ≡ nat_lt 0 (stored_mask sh d ss l)
-    one l i = let b : nat_lt l (lines sh) ≡ true = grind (arith, nat_tests) in num-same (p l) (nat_lt 0 (stored_mask sh d ss l)) (rw b at (h l))
+stored-any sh d ss p h = grind (arith, nat_tests, any-same, num-same)
 
 -- where just the words that the stores name are modified
 pub modified-line : (base : ℕ) (c : Cache) (ss : List Stored) (l : ℕ) → ((w : ℕ) → c.modified w ≡ stores_word base ss w) → is_modified c l ≡ any_word (stores_word base ss) l

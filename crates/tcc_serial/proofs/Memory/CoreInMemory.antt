@@ -1,8 +1,8 @@
 -- Each of a core's rules keeps that its frames and what its attempt used lie in memory, where the next instruction's access does.
-use Rattle.tcc_serial.proofs.Names.{inl, inr, ◌⊎◌, ℕ, ◌≡◌, ◌<◌, Bool, true, false, ◌||◌, ◌==◌, List, [], ◌∷◌, ◌++◌, Option, Some, None}
-use Rattle.tcc_serial.proofs.Names.{IfSome, if◌then◌else◌, arith, refl, nat_tests, Load, Stored, Program, Need, Loads, Stores, Changes}
-use Rattle.tcc_serial.proofs.Names.{load_of, word_of, line_of, Shape, set_of, lines, Cache, free_way, marked, stored, placed, placed_at}
-use Rattle.tcc_serial.proofs.Names.{committed, words_dropped, CoreState, World, Out, noted, commit, committed_core, solo_commit, core_exec}
+use Rattle.tcc_serial.proofs.Names.{inl, inr, ◌⊎◌, ℕ, ◌≡◌, ◌<◌, Bool, true, false, ◌||◌, ◌==◌, List, [], ◌∷◌, ◌++◌, Option, IfSome}
+use Rattle.tcc_serial.proofs.Names.{if◌then◌else◌, arith, refl, nat_tests, Load, Stored, Program, Need, Loads, Stores, Changes, load_of}
+use Rattle.tcc_serial.proofs.Names.{word_of, line_of, Shape, set_of, lines, Cache, free_way, marked, stored, placed, placed_at, committed}
+use Rattle.tcc_serial.proofs.Names.{words_dropped, CoreState, World, Out, noted, commit, committed_core, solo_commit, core_exec}
 use Rattle.tcc_serial.proofs.Names.{WordInMemory, NeedInMemory, StaysInMemory, FramesInMemory, AccessesInMemory, loads_word, stores_word}
 use Rattle.tcc_program.specs.Ram.{part}
 use Rattle.tcc_serial.proofs.OneCore.UsedWords.{loads_word-append, stores_word-append}
@@ -52,12 +52,10 @@ unfolding placed placed_at
 placed-frames sh l c m h k e = go (free_way sh c (set_of sh l)) e
   where
     at : (b : Bool) → (k == l) ≡ b → (if b then true else c.held k) ≡ true → k < lines sh
-    at true q e = let i : k ≡ l = grind (arith, nat_tests) in rw i m
-    at false q e = h k e
+    at a q e = grind (arith, nat_tests)
 
     go : (y : Option ℕ) → (placed_at y (set_of sh l) l c).held k ≡ true → k < lines sh
-    go None e = h k e
-    go (Some y) e = at (k == l) refl e
+    go a e = grind (arith, nat_tests)
 
 -- where the program accesses memory alone, so does the instruction at hand
 in-memory : (sh : Shape) (p : Program) (s : CoreState) (need : Need) (a : ℕ) → StaysInMemory sh p → Acting p s need → AccessAt a need → WordInMemory sh (word_of sh.base a)

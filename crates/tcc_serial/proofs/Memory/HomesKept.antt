@@ -76,9 +76,7 @@ dir-homes sh d s c m cl aw h = go (outcome sh s c m) aw
     wants {l = l} (ToMark k) a = at-home (home sh l) d a
 
     marked : (a m b e : Bool) → (a && m && b && e) ≡ true → m ≡ true
-    marked true true b e q = refl
-    marked true false b e q = absurd (cc)
-    marked false m b e q = absurd (cc)
+    marked a m b e q = grind (arith, nat_tests)
 
     inv : (j l : ℕ) → (nat_lt j sh.cores && nat_lt 0 (s.lines.mark l) && s.lines.sharers l j && not (j == c)) ≡ true → Homely sh d (Inv l (s.lines.mark l) s.serving.serving ∷ [])
     inv j l q = let m = marked (nat_lt j sh.cores) (nat_lt 0 (s.lines.mark l)) (s.lines.sharers l j) (not (j == c)) q in one-inv sh d l (s.lines.mark l) s.serving.serving (marked-here sh d l s.lines h m) m

@@ -1,16 +1,16 @@
 -- Along every run of a program whose accesses lie in memory, frames and what was loaded and stored lie there too.
-use Rattle.tcc_serial.proofs.Names.{ℕ, ◌≡◌, Bool, true, false, not, ◌&&◌, ◌||◌, ◌==◌, List, Option, Some, None, IfSome, if◌then◌else◌, refl}
-use Rattle.tcc_serial.proofs.Names.{Dir, Msg, Fill, ProbeReply, DataReq, Inv, Shape, Cache, is_marked, filled, cleaned, invalidated}
-use Rattle.tcc_serial.proofs.Names.{read_cleared, rolled_back, evicted, evicted_line, spill_line, CoreState, Awaited, Phase, Running}
-use Rattle.tcc_serial.proofs.Names.{AwaitTid, DoomedTid, Probing, Ready, Overflowing, Solo, Halted, nothing, to, marks_for, written_back}
-use Rattle.tcc_serial.proofs.Names.{moves, is_solo, roll_back, core_evict, evict_line, is_awaited, ignored, grant, grant_phase, probe_reply}
-use Rattle.tcc_serial.proofs.Names.{reply_phase, replied, all_replied, when_ready, when_alone, fill, fill_awaited, data_request, invalidate}
-use Rattle.tcc_serial.proofs.Names.{acknowledged, if_violated, is_violated, violated_in, without, from_dir, ◌≤◌, [], ◌++◌, arith, Program}
-use Rattle.tcc_serial.proofs.Names.{Local, Core, Event, lines, DirState, World, start, Out, core_exec, Answer, Waits, Drops, Asks, Takes}
-use Rattle.tcc_serial.proofs.Names.{dir_deliver, in_flight, sent_all, Sends, core_moves, core_takes, dir_takes, step, CopyOf, live}
-use Rattle.tcc_serial.proofs.Names.{KeptCores, Pair, pair, ◌∷◌, Contains, ◌⊎◌, inl, inr, subst, Noted, empty_cache, core_start, dir_asks}
-use Rattle.tcc_serial.proofs.Names.{vendor_gives, Stepped, History, and_noted, recorded, next, and_then, run_from, run, StaysInMemory}
-use Rattle.tcc_serial.proofs.Names.{AccessesInMemory, CommitsInMemory, first_state}
+use Rattle.tcc_serial.proofs.Names.{nat_tests, ℕ, ◌≡◌, Bool, true, false, not, ◌&&◌, ◌||◌, ◌==◌, List, Option, Some, None, IfSome}
+use Rattle.tcc_serial.proofs.Names.{if◌then◌else◌, refl, Dir, Msg, Fill, ProbeReply, DataReq, Inv, Shape, Cache, is_marked, filled, cleaned}
+use Rattle.tcc_serial.proofs.Names.{invalidated, read_cleared, rolled_back, evicted, evicted_line, spill_line, CoreState, Awaited, Phase}
+use Rattle.tcc_serial.proofs.Names.{Running, AwaitTid, DoomedTid, Probing, Ready, Overflowing, Solo, Halted, nothing, to, marks_for}
+use Rattle.tcc_serial.proofs.Names.{written_back, moves, is_solo, roll_back, core_evict, evict_line, is_awaited, ignored, grant}
+use Rattle.tcc_serial.proofs.Names.{grant_phase, probe_reply, reply_phase, replied, all_replied, when_ready, when_alone, fill, fill_awaited}
+use Rattle.tcc_serial.proofs.Names.{data_request, invalidate, acknowledged, if_violated, is_violated, violated_in, without, from_dir, ◌≤◌}
+use Rattle.tcc_serial.proofs.Names.{[], ◌++◌, arith, Program, Local, Core, Event, lines, DirState, World, start, Out, core_exec, Answer}
+use Rattle.tcc_serial.proofs.Names.{Waits, Drops, Asks, Takes, dir_deliver, in_flight, sent_all, Sends, core_moves, core_takes, dir_takes}
+use Rattle.tcc_serial.proofs.Names.{step, CopyOf, live, KeptCores, Pair, pair, ◌∷◌, Contains, ◌⊎◌, inl, inr, subst, Noted, empty_cache}
+use Rattle.tcc_serial.proofs.Names.{core_start, dir_asks, vendor_gives, Stepped, History, and_noted, recorded, next, and_then, run_from}
+use Rattle.tcc_serial.proofs.Names.{run, StaysInMemory, AccessesInMemory, CommitsInMemory, first_state}
 use Rattle.tcc_serial.proofs.Counts.Links.{live-sends, live-takes}
 use Rattle.tcc_serial.proofs.Counts.StepCases.{pairs_move, pairs_grant, pairs_back, pairs_dir, pairs_asks, pairs_vendor, OfAnswer}
 use Rattle.tcc_serial.proofs.Counts.StepCases.{step_cases}
@@ -22,15 +22,7 @@ use Rattle.tcc_serial.proofs.Tids.Commits.{inserted}
 -- Evict and messages keep that a core's frames and what its attempt used lie in memory.
 evicted-frames : (x y : ℕ) (c : Cache) (k : ℕ) → (evicted x y c).held k ≡ true → c.held k ≡ true
 unfolding evicted evicted_line
-evicted-frames x y c k e = go (c.at x y) e
-  where
-    at : (b : Bool) → (if b then false else c.held k) ≡ true → c.held k ≡ true
-    at true e = absurd (cc)
-    at false e = e
-
-    go : (a : Option ℕ) → (evicted_line a x y c).held k ≡ true → c.held k ≡ true
-    go None e = e
-    go (Some l) e = at (k == l) e
+evicted-frames x y c k e = grind (arith, nat_tests)
 
 pub evict-memory : (sh : Shape) (x y : ℕ) (s : CoreState) → CoreInMemory sh s → IfSome (core_evict sh x y s) (OutInMemory sh)
 unfolding core_evict

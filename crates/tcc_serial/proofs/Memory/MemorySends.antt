@@ -55,12 +55,10 @@ marks_at_homes sh c k f = record {
 }
   where
     held-read : (x : ℕ) (b : Bool) → c.held (line_of x) ≡ b → c.read x ≡ true → c.held (line_of x) ≡ true
-    held-read x true q e = q
-    held-read x false q e = absurd (let z = k.unread x q in cc)
+    held-read x a q e = grind (arith, nat_tests)
 
     held-modified : (x : ℕ) (b : Bool) → c.held (line_of x) ≡ b → c.modified x ≡ true → c.held (line_of x) ≡ true
-    held-modified x true q e = q
-    held-modified x false q e = absurd (let z = k.valued x q in let y : is_some (c.value x) ≡ false = rw z refl in let v = k.modified x e in cc)
+    held-modified x a q e = grind (arith, nat_tests)
 
 -- what a commit wrote
 word-wrote : (sh : Shape) (cs : List Noted) (c t x : ℕ) → CommitsInMemory sh cs → wrote sh.base cs c t x ≡ true → WordInMemory sh x
@@ -100,8 +98,7 @@ unfolding is_dirty
 dirty-memory sh c l k f e = let x = line-found (λ w. is_some (c.dirty w)) l e in rw (x.1) at (f (line_of x.0) (go x.0 (c.held (line_of x.0)) refl (k.dirty x.0 (x.2))))
   where
     go : (x : ℕ) (b : Bool) → c.held (line_of x) ≡ b → is_some (c.value x) ≡ true → c.held (line_of x) ≡ true
-    go x true q v = q
-    go x false q v = absurd (let z : is_some (c.value x) ≡ false = rw (k.valued x q) refl in cc)
+    go x a q v = grind (arith, nat_tests)
 
 another : (sh : Shape) (k l : ℕ) → k < lines sh → lines sh ≤ l → (k == l) ≡ false
 another sh k l i o = grind (arith, nat_tests)
@@ -131,8 +128,7 @@ backs-memory sh sp u zero p i l t o = refl
 backs-memory sh sp u (suc n) p i l t o = rw flat_map-append (rw among-append (omega (arith, backs-memory sh sp u n p (omega (arith, i)) l t o, last (p n))))
   where
     last : (b : Bool) → among (CopyOf l t) (flat_map (λ k. WriteBack k (spilled_mask sp k) (spilled_words sp k) u ∷ []) (cond b (n ∷ []) [])) ≡ 0
-    last false = refl
-    last true = rw (another sh n l (omega (arith, i)) o) refl
+    last a = grind (arith, nat_tests)
 
 both-outside : (sh : Shape) (a b : List Msg) → NoneOutside sh a → NoneOutside sh b → NoneOutside sh (a ++ b)
 both-outside sh a b x y l t o = omega (arith, among-append (CopyOf l t) a b, x l t o, y l t o)

@@ -30,8 +30,7 @@ unfolding among passes
 asked sh k s n d l = rw n (let c = asked-count k l d (home sh k) (home sh l) (λ e. rw e refl) in omega (arith, one (d == home sh k), c))
   where
     one : (b : Bool) → among (LoadOf l) (if b then LoadReq k (s.after (home sh k)) ∷ [] else []) ≡ num (b && k == l)
-    one true = omega arith
-    one false = refl
+    one a = grind (arith, nat_tests)
 
 pub loads-exec : (sh : Shape) (p : Program) (c : ℕ) (s : CoreState) → IfSome (core_exec sh p c s) (λ o. LoadsStep sh s o)
 unfolding passes commit solo_commit committed_core
@@ -59,8 +58,7 @@ abbrev pub LoadsBack : Shape → (dir : ℕ) → CoreState → Msg → Out → T
 LoadsBack sh e s m o = (d l : ℕ) → among (LoadOf l) (o.sends (Dir d)) + awaits_at sh d l s.awaited ≡ awaits_at sh d l o.core.awaited + num (d == e && passes (FillOf l) m)
 
 no-fill : (b : Bool) → num (b && false) ≡ 0
-no-fill true = refl
-no-fill false = refl
+no-fill a = grind (arith, nat_tests)
 
 step-back : (sh : Shape) (e : ℕ) (s : CoreState) (m : Msg) (o : Out) → ((l : ℕ) → passes (FillOf l) m ≡ false) → ((d l : ℕ) → among (LoadOf l) (o.sends (Dir d)) ≡ 0) → ((d l : ℕ) → awaits_at sh d l o.core.awaited ≡ awaits_at sh d l s.awaited) → LoadsBack sh e s m o
 step-back sh e s m o f z a d l = rw (f l) (omega (arith, z d l, a d l, no-fill (d == e)))
@@ -74,9 +72,7 @@ unfolding among passes
 taken sh e k ws s r a q i n x d l = rw (q, n) (omega (arith, fill-count a.line k l d e (home sh l) i (λ j. rw j (home-is (a.line == k) (home sh k == e) refl (rw q at x)))))
   where
     home-is : (b c : Bool) → (home sh k == e) ≡ c → 1 ≤ num (b && c) → home sh k ≡ e
-    home-is true true g y = grind (arith, nat_tests)
-    home-is true false g y = absurd (omega (arith, y))
-    home-is false c g y = absurd (omega (arith, y))
+    home-is a c g y = grind (arith, nat_tests)
 
 pub loads-back : (sh : Shape) (e : ℕ) (s : CoreState) (m : Msg) → ((l : ℕ) → num (passes (FillOf l) m) ≤ awaits_at sh e l s.awaited) → IfSome (from_dir sh e s m) (λ o. LoadsBack sh e s m o)
 unfolding passes
@@ -89,8 +85,7 @@ loads-back sh e s m h = given (from_dir sh e s m) (Fits m) (LoadsBack sh e s m) 
     one l ws h = let x = h l in let y : num (l == l) ≡ 1 = grind (arith, nat_tests) in omega (arith, x, y)
 
     staled-awaits : (k d l : ℕ) (a : Option Awaited) → awaits_at sh d l (staled k a) ≡ awaits_at sh d l a
-    staled-awaits k d l None = refl
-    staled-awaits k d l (Some a) = refl
+    staled-awaits k d l a = grind (arith, nat_tests)
 
     hurt : (k m u : ℕ) (x : Heard sh e s) → (heard x).core.awaited ≡ staled k s.awaited → ((d l : ℕ) → among (LoadOf l) ((heard x).sends (Dir d)) ≡ 0) → LoadsBack sh e s (Inv k m u) (heard x)
     hurt k m u x a z = step-back sh e s (Inv k m u) (heard x) (λ l. refl) z (λ d l. rw a (staled-awaits k d l s.awaited))

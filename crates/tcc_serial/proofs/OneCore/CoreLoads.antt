@@ -27,8 +27,7 @@ loads-marked sh s r h (Alone_now e) = λ w a l. absurd (cc)
 loads-marked sh s r h (Loaded b more marks) = λ w a l. go w (more w l)
   where
     go : (w : ℕ) → (loads_word sh.base s.loads w ≡ true) ⊎ (touched r.cache w ≡ true) → touched r.cache w ≡ true
-    go w (inl l) = marks w (h w b l)
-    go w (inr t) = t
+    go w a = grind (arith, nat_tests)
 
 -- the same loads, and marks that are kept
 pub kept : (sh : Shape) (s r : CoreState) → is_solo s.phase ≡ false → r.loads ≡ s.loads → ((w : ℕ) → touched s.cache w ≡ true → touched r.cache w ≡ true) → Loading sh s r
@@ -75,17 +74,11 @@ placed-touched sh l c v h = let m = placed-marks sh l c v in rw (m.0, m.1) h
 
 -- a core that executes is alone where it doesn't run
 acts-alone : (q : Phase) → Acts q → is_running q ≡ false → is_solo q ≡ true
-acts-alone Running a e = absurd (cc)
-acts-alone (Solo t) a e = refl
-acts-alone _ a e = absurd a
+acts-alone b a e = grind (arith, nat_tests)
 
 -- a spilled word is one of a core that is alone
 spilled-solo : (sh : Shape) (s : CoreState) (v : ℕ) → OneCore sh s → is_some (s.spilled v) ≡ true → is_solo s.phase ≡ true
-spilled-solo sh s v h e = go (is_solo s.phase) refl
-  where
-    go : (b : Bool) → is_solo s.phase ≡ b → b ≡ true
-    go true q = refl
-    go false q = absurd (let z : is_some (s.spilled v) ≡ false = rw (h.words.spilled_alone q v) refl in cc)
+spilled-solo sh s v h e = grind (arith, nat_tests)
 
 -- the word is stored, and loaded before where the instruction changes it
 storing : (sh : Shape) (s r : CoreState) (a : ℕ) (k : Storing s a) → r.phase ≡ s.phase → r.loads ≡ k.loads → touched r.cache (word_of sh.base a) ≡ true → ((v : ℕ) → touched s.cache v ≡ true → touched r.cache v ≡ true) → Loading sh s r

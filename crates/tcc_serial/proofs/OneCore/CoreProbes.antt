@@ -28,10 +28,7 @@ same-asked sh d x s r e f g h = record {
 }
 
 acts-asked : (q : Phase) (a b : Bool) → ((Acts q → ⊥) → a ≡ b) → asks_dir q a ≡ asks_dir q b
-acts-asked (Probing t) a b h = h (λ x. x)
-acts-asked (Ready t) a b h = h (λ x. x)
-acts-asked (Overflowing None) a b h = refl
-acts-asked _ a b h = refl
+acts-asked d a b h = grind (arith, nat_tests)
 
 asked-steady : (sh : Shape) (d x : ℕ) (s : CoreState) (o : Out) → Steady s o → Reached sh d x s → Reached sh d x o.core
 asked-steady sh d x s o y h = same-asked sh d x s o.core (y.phase) (y.owing)

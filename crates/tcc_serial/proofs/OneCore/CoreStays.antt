@@ -17,8 +17,7 @@ pub grant-rests : (sh : Shape) (u : ℕ) (s : CoreState) → Rests s (grant sh u
 grant-rests sh u s = each-grant sh u s (Rests s) go
   where
     awaited : (b : Bool) → s.phase ≡ AwaitTid → end_after (probing b u) s.ended ≡ end_after s.phase s.ended
-    awaited true e = rw e refl
-    awaited false e = rw e refl
+    awaited a e = grind (arith, nat_tests)
 
     go : (x : Granted sh u s) → Rests s (granted x)
     go (Given e) = record { commit = refl; saved = refl; ends = awaited (any_below (is_probed sh s.cache) sh.dirs) e }

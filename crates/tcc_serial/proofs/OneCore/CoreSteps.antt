@@ -62,8 +62,7 @@ steady-emptied sh x y s l e i m = record {
     solo _ e h = absurd (cc)
 
     unmarked : (Acts s.phase → ⊥) → (is_marked s.cache l ≡ false) ⊎ (is_solo s.phase ≡ true) → is_marked s.cache l ≡ false
-    unmarked h (inl z) = z
-    unmarked h (inr z) = absurd (h (solo s.phase refl z))
+    unmarked h a = grind (arith, nat_tests)
 
 pub evict-steady : (sh : Shape) (x y : ℕ) (s : CoreState) → IfSome (core_evict sh x y s) (λ o. Steady s o)
 evict-steady sh x y s = each-evict sh x y s (Steady s) (steady-emptied sh x y s)

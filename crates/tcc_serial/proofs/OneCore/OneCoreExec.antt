@@ -1,10 +1,10 @@
 -- Executing an instruction keeps what holds of a core by itself.
-use Rattle.tcc_serial.proofs.Names.{awaits_replies, load_of, ◌⊎◌, inl, inr, put, stored, marked, IsCache, ℕ, ◌+◌, ◌≡◌, Bool, true, false}
-use Rattle.tcc_serial.proofs.Names.{Option, Some, None, IfSome, is_some, arith, refl, sym, ap, subst, ◌∙◌, nat_tests, Program, Need, Loads}
-use Rattle.tcc_serial.proofs.Names.{word_of, line_of, Shape, set_of, Cache, free_way, placed, placed_at, committed, words_dropped}
-use Rattle.tcc_serial.proofs.Names.{none_spilled, words_dropped-keeps, CoreState, Awaited, Phase, Running, AwaitTid, Ready, Overflowing}
-use Rattle.tcc_serial.proofs.Names.{Solo, is_running, is_solo, commit, committed_core, phase_after, solo_commit, core_exec, Words, OneCore}
-use Rattle.tcc_serial.proofs.Names.{Empty, executes, rests, valid-held}
+use Rattle.tcc_serial.proofs.Names.{awaits_replies, load_of, ◌⊎◌, put, stored, marked, IsCache, ℕ, ◌+◌, ◌≡◌, Bool, true, false, Option}
+use Rattle.tcc_serial.proofs.Names.{Some, None, IfSome, is_some, arith, refl, sym, ap, subst, ◌∙◌, nat_tests, Program, Need, Loads, word_of}
+use Rattle.tcc_serial.proofs.Names.{line_of, Shape, set_of, Cache, free_way, placed, placed_at, committed, words_dropped, none_spilled}
+use Rattle.tcc_serial.proofs.Names.{words_dropped-keeps, CoreState, Awaited, Phase, Running, AwaitTid, Ready, Overflowing, Solo, is_running}
+use Rattle.tcc_serial.proofs.Names.{is_solo, commit, committed_core, phase_after, solo_commit, core_exec, Words, OneCore, Empty, executes}
+use Rattle.tcc_serial.proofs.Names.{rests}
 use Rattle.tcc_program.specs.Ram.{part}
 use Rattle.tcc_serial.proofs.OneCore.Outcomes.{Acts, awaiting, Acting, Buffers, Commits_now, Did, Ends_alone, Ends_run, Finds, Frames}
 use Rattle.tcc_serial.proofs.OneCore.Outcomes.{Frames_anew, Idles, Misses, Misses_anew, Reads, Room_wanted, after_end, after_load}
@@ -12,9 +12,7 @@ use Rattle.tcc_serial.proofs.OneCore.Outcomes.{after_store, each-exec, out}
 use Rattle.tcc_serial.proofs.OneCore.WordsKept.{words-marked, words-placed, words-stored, words-buffered, words-committed}
 
 acts-execute : (q : Phase) → Acts q → executes q ≡ true
-acts-execute Running a = refl
-acts-execute (Solo t) a = refl
-acts-execute _ a = absurd a
+acts-execute b a = grind (arith, nat_tests)
 
 acts-rest : (q : Phase) → Acts q → rests q ≡ true → ⊥
 acts-rest Running a e = cc
@@ -33,12 +31,7 @@ executing sh s r a e f h w aw = record {
 
 -- a valid word stands in a frame
 framed-held : (sh : Shape) (s : CoreState) (w : ℕ) → IsCache sh s.cache → (s.cache.held (line_of w) ≡ true) ⊎ (is_some (s.cache.value w) ≡ true) → s.cache.held (line_of w) ≡ true
-framed-held sh s w k (inl e) = e
-framed-held sh s w k (inr e) = go (s.cache.value w) refl e
-  where
-    go : (o : Option ℕ) → s.cache.value w ≡ o → is_some o ≡ true → s.cache.held (line_of w) ≡ true
-    go None q z = absurd (cc)
-    go (Some x) q z = valid-held sh s.cache w x k q
+framed-held sh s w k a = grind (arith, nat_tests)
 
 -- a running core awaits nothing, and waits in another phase
 waits : {sh : Shape} (s : CoreState) (go : Phase) → s.phase ≡ Running → OneCore sh s → s.awaited ≡ None → is_solo go ≡ false → awaits_replies go ≡ false → rests go ≡ false → OneCore sh (record s { phase = go })
@@ -55,8 +48,7 @@ unfolding placed placed_at
 placed-held sh l c e = grind (arith, nat_tests)
 
 running-is : (q : Phase) → is_running q ≡ true → q ≡ Running
-running-is Running e = refl
-running-is _ e = absurd (cc)
+running-is a e = grind (arith, nat_tests)
 
 marked_words : (sh : Shape) (w x : ℕ) (s : CoreState) → s.cache.value w ≡ Some x → s.phase ≡ Running → Words sh (is_solo s.phase) s.cache s.spilled s.stores → Words sh (is_solo s.phase) (marked w s.cache) s.spilled s.stores
 marked_words sh w x s v e h = subst (λ q. Words sh (is_solo q) (marked w s.cache) s.spilled s.stores) (sym e) (words-marked sh s.cache w x s.spilled s.stores v (subst (λ q. Words sh (is_solo q) s.cache s.spilled s.stores) e h))

@@ -36,12 +36,10 @@ evict_one sh x y s h = each-evict sh x y s (λ o. OneCore sh o.core) (λ l e q m
 })
   where
     another : (l : ℕ) (a : Option Awaited) → is_awaited a l ≡ false → (b : Awaited) → a ≡ Some b → (b.line == l) ≡ false
-    another l None q b e = absurd (cc)
-    another l (Some a) q b e = grind (arith, nat_tests)
+    another l a q b e = grind (arith, nat_tests)
 
     unmarked : (l : ℕ) → is_solo s.phase ≡ false → (is_marked s.cache l ≡ false) ⊎ (is_solo s.phase ≡ true) → is_marked s.cache l ≡ false
-    unmarked l z (inl m) = m
-    unmarked l z (inr m) = absurd (cc)
+    unmarked l z a = grind (arith, nat_tests)
 
 -- a core that doesn't execute awaits no line
 idle : (sh : Shape) (s : CoreState) (q : Phase) → s.phase ≡ q → executes q ≡ false → OneCore sh s → (a : Awaited) → s.awaited ≡ Some a → ⊥
@@ -132,8 +130,7 @@ rolled_one sh s r q h e a c p n l t o w z x = record {
 }
   where
     active : (executes q ≡ true) ⊎ (executes s.phase ≡ false) → executes s.phase ≡ true → executes q ≡ true
-    active (inl y) k = y
-    active (inr y) k = absurd (cc)
+    active a k = grind (arith, nat_tests)
 
 pub back_one : (sh : Shape) (e : ℕ) (s : CoreState) (m : Msg) → OneCore sh s → IfSome (from_dir sh e s m) (λ o. OneCore sh o.core)
 unfolding without cleaned invalidated none_spilled

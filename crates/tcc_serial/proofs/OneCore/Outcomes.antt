@@ -147,12 +147,10 @@ unfolding holds any_word
 holds-word sp l h = let f = any_below-found (λ k. is_some (sp (8 * l + k))) 8 h in (8 * l + f.0, omega (arith, f.1), f.2)
 
 also-alone : (q : Phase) (b : Bool) → is_solo q ≡ true → (is_running q && b) ≡ false
-also-alone (Solo t) b e = refl
-also-alone _ b e = absurd (cc)
+also-alone a b e = grind (arith, nat_tests)
 
 unmodified : (b m : Bool) → (b && not m) ≡ true → m ≡ false
-unmodified true false q = refl
-unmodified b m q = grind arith
+unmodified b m q = grind (arith, nat_tests)
 
 -- each outcome of Exec has what all outcomes have
 pub each-exec : (sh : Shape) (p : Program) (c : ℕ) (s : CoreState) (P : Out → Type 0) → ((d : Did sh p c s) → P (out d)) → IfSome (core_exec sh p c s) P

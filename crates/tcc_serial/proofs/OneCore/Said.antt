@@ -70,8 +70,7 @@ neither true b e = absurd (cc)
 -- a message that isn't of the kind, and one that is sent where a test holds
 pub one-quiet : (k : Kind) (m : Msg) (b : Bool) → passes k m ≡ false → among k (if b then m ∷ [] else []) ≡ 0
 unfolding among
-one-quiet k m true e = rw e refl
-one-quiet k m false e = refl
+one-quiet k m a e = grind (arith, nat_tests)
 
 marks-quiet : (k : Kind) (f : ℕ → ℕ) (t : ℕ) (ls : List ℕ) → ((x : Piece) → passes k (Mark x.line x.mask t) ≡ false) → among k (flat_map (λ l. Mark l (f l) t ∷ []) ls) ≡ 0
 unfolding among

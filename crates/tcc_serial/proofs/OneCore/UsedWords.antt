@@ -1,10 +1,10 @@
 -- Instructions over two memories that agree on the words used give the same, and name these words.
 use Rattle.tcc_serial.proofs.Names.{ℕ, zero, suc, ◌≡◌, ◌<◌, ◌%◌, ◌^◌, Bool, true, false, not, ◌&&◌, ◌||◌, ◌==◌, List, [], ◌∷◌, ◌++◌, Option}
-use Rattle.tcc_serial.proofs.Names.{Some, None, MatchOption, if◌then◌else◌, arith, refl, ap, sym, ◌∙◌, nat_tests, Size, Byte, Half, Word}
-use Rattle.tcc_serial.proofs.Names.{Stored, Local, Need, Nothing, Loads, Stores, Changes, Ends, Program, Attempt, Outcome, Goes, steps}
-use Rattle.tcc_serial.proofs.Names.{begun, plain_step, when_going, then_step, store_of, word_of, unit_of, patched, loaded, stores_word}
-use Rattle.tcc_serial.proofs.Names.{stores_whole, is_whole, reads_word, uses_next, uses, AlignedNeed, Aligned, IsMemory, Follows}
-use Rattle.tcc_serial.proofs.Names.{AgreeOnUsed, IfSome, Load, loads_word, patched-small}
+use Rattle.tcc_serial.proofs.Names.{Some, None, MatchOption, if◌then◌else◌, arith, refl, ap, sym, ◌∙◌, nat_tests, Size, Word, Stored, Local}
+use Rattle.tcc_serial.proofs.Names.{Need, Nothing, Loads, Stores, Changes, Ends, Program, Attempt, Outcome, Goes, steps, begun, plain_step}
+use Rattle.tcc_serial.proofs.Names.{when_going, then_step, store_of, word_of, unit_of, patched, loaded, stores_word, stores_whole, is_whole}
+use Rattle.tcc_serial.proofs.Names.{reads_word, uses_next, uses, AlignedNeed, Aligned, IsMemory, Follows, AgreeOnUsed, IfSome, Load}
+use Rattle.tcc_serial.proofs.Names.{loads_word, patched-small}
 use Rattle.tcc_base.specs.Bytes.{bytes_of}
 use Rattle.tcc_program.specs.Plain.{stepped}
 use Rattle.tcc_program.specs.Ram.{stored}
@@ -32,9 +32,7 @@ stored-whole base [] w h = refl
 stored-whole base (s ∷ ss) w h = go (word_of base s.addr == w) (is_whole s.size) (stored-whole base ss w) h
   where
     go : (x y : Bool) → (stores_word base ss w ≡ false → stores_whole base ss w ≡ false) → (x || stores_word base ss w) ≡ false → ((y && x) || stores_whole base ss w) ≡ false
-    go true y r h = absurd (cc)
-    go false true r h = r h
-    go false false r h = r h
+    go a y r h = grind (arith, nat_tests)
 
 pub stored-put : (base : ℕ) (ram : ℕ → ℕ) (addr : ℕ) (size : Size) (value w : ℕ) → stored base ram addr size value w ≡ (if word_of base addr == w then patched (ram (word_of base addr)) addr size value else ram w)
 unfolding stored
@@ -49,32 +47,14 @@ record Apart (base : ℕ) (here there : ℕ → ℕ) (a : Attempt) (ram : ℕ �
 same_word : (base : ℕ) (here there : ℕ → ℕ) (a : Attempt) (ram : ℕ → ℕ) (need : Need) → Apart base here there a ram
     → ((w : ℕ) → (reads_word base need w && not (stores_whole base a.stores w)) ≡ true → here w ≡ there w)
     → (w : ℕ) → reads_word base need w ≡ true → ram w ≡ a.ram w
-same_word base here there a ram need ap agree w r = go (stores_word base a.stores w) refl
-  where
-    go : (b : Bool) → stores_word base a.stores w ≡ b → ram w ≡ a.ram w
-    go true e = ap.stored w e
-    go false e =
-        let x : stores_whole base a.stores w ≡ false = stored-whole base a.stores w e in
-        let y : here w ≡ there w = agree w (rw r (rw x refl)) in
-        let p : a.ram w ≡ here w = ap.kept_here w e in
-        let q : ram w ≡ there w = ap.kept_there w e in
-        cc
+same_word base here there a ram need ap agree w r = grind (arith, nat_tests, a.ram, ap.stored, stored-whole, ap.kept_here, ap.kept_there)
 
 -- the word that a store leaves
 same_patched : (base : ℕ) (here there : ℕ → ℕ) (a : Attempt) (ram : ℕ → ℕ) (addr : ℕ) (size : Size) (value : ℕ) → Apart base here there a ram
     → IsMemory here → IsMemory there → addr % bytes_of size ≡ 0
     → ((w : ℕ) → reads_word base (Stores addr size value) w ≡ true → ram w ≡ a.ram w)
     → patched (ram (word_of base addr)) addr size value ≡ patched (a.ram (word_of base addr)) addr size value
-same_patched base here there a ram addr Byte value ap mh mt al reads = rw (reads (word_of base addr) (grind (arith, nat_tests))) refl
-same_patched base here there a ram addr Half value ap mh mt al reads = rw (reads (word_of base addr) (grind (arith, nat_tests))) refl
-same_patched base here there a ram addr Word value ap mh mt al reads = go (stores_word base a.stores (word_of base addr)) refl
-  where
-    go : (b : Bool) → stores_word base a.stores (word_of base addr) ≡ b → patched (ram (word_of base addr)) addr Word value ≡ patched (a.ram (word_of base addr)) addr Word value
-    go true e = rw (ap.stored (word_of base addr) e) refl
-    go false e =
-        let p : a.ram (word_of base addr) ≡ here (word_of base addr) = ap.kept_here (word_of base addr) e in
-        let q : ram (word_of base addr) ≡ there (word_of base addr) = ap.kept_there (word_of base addr) e in
-        rw (p, q) (patched-whole (there (word_of base addr)) addr value (mt (word_of base addr)) al ∙ sym (patched-whole (here (word_of base addr)) addr value (mh (word_of base addr)) al))
+same_patched base here there a ram addr b value ap mh mt al reads = grind (arith, nat_tests, a.ram, ap.stored, ap.kept_here, ap.kept_there, patched-whole)
 
 -- the memories after a store, apart as before
 apart-stored : (base : ℕ) (here there : ℕ → ℕ) (a : Attempt) (ram : ℕ → ℕ) (addr : ℕ) (size : Size) (value : ℕ) → Apart base here there a ram
@@ -94,8 +74,7 @@ apart-stored base here there a ram addr size value ap e = record {
     unnamed w s = rw stores_word-append at s
 
     old : (w : ℕ) → (b : Bool) → (b || (false || false)) ≡ true → b ≡ true
-    old w true h = refl
-    old w false h = absurd (cc)
+    old w a h = grind (arith, nat_tests)
 
     after : (w : ℕ) (b : Bool) → (word_of base addr == w) ≡ b → (stores_word base a.stores w || (b || false)) ≡ true → stored base ram addr size value w ≡ stored base a.ram addr size value w
     after w true q h = stored-put base ram addr size value w ∙ rw (q, e) (sym (stored-put base a.ram addr size value w ∙ rw q refl))
@@ -179,8 +158,7 @@ stored-memory : (base : ℕ) (ram : ℕ → ℕ) (addr : ℕ) (size : Size) (val
 stored-memory base ram addr size value m e w = rw stored-put (go (word_of base addr == w))
   where
     go : (b : Bool) → (if b then patched (ram (word_of base addr)) addr size value else ram w) < 2 ^ 32
-    go true = patched-small (ram (word_of base addr)) addr size value (m (word_of base addr)) e
-    go false = m w
+    go a = grind (arith, nat_tests, patched-small)
 
 stepped-memory : (base : ℕ) (p : Program) (a : Attempt) (need : Need) → IsMemory a.ram → AlignedNeed need → IsMemory (stepped base p a need).ram
 stepped-memory base p a (Stores addr size value) m e = stored-memory base a.ram addr size value m e
@@ -212,39 +190,24 @@ loads_word-append base (s ∷ a) b w = let r : loads_word base (a ++ b) w ≡ (l
     go false = refl
 
 into_first : (a b x : Bool) → ((a || b) || x) ≡ true → ((a || (x || false)) || b) ≡ true
-into_first true b x h = refl
-into_first false true true h = refl
-into_first false true false h = refl
-into_first false false true h = refl
-into_first false false false h = h
+into_first a b x h = grind (arith, nat_tests)
 
 into_second : (a b x y : Bool) → (x ≡ true → y ≡ true) → ((a || b) || x) ≡ true → (a || (b || (y || false))) ≡ true
-into_second true b x y f h = refl
-into_second false true x y f h = refl
-into_second false false true y f h = rw (f refl) refl
-into_second false false false y f h = absurd (cc)
+into_second a b x y f h = grind (arith, nat_tests)
 
 into_both : (a b x : Bool) → ((a || b) || x) ≡ true → ((a || (x || false)) || (b || (x || false))) ≡ true
-into_both true b x h = refl
-into_both false b true h = refl
-into_both false true false h = refl
-into_both false false false h = absurd (cc)
+into_both a b x h = grind (arith, nat_tests)
 
 into_none : (a : Bool) → (a || false) ≡ true → a ≡ true
-into_none true h = refl
-into_none false h = absurd (cc)
+into_none a h = grind (arith, nat_tests)
 
 second : (x y : Bool) → (x && y) ≡ true → y ≡ true
-second true y h = h
-second false y h = absurd (cc)
+second a y h = grind (arith, nat_tests)
 
 -- an instruction's access is named behind it, and all that was named before
 named-stepped : (base : ℕ) (p : Program) (a : Attempt) (need : Need) (w : ℕ) → ((loads_word base a.loads w || stores_word base a.stores w) || reads_word base need w) ≡ true → (loads_word base (stepped base p a need).loads w || stores_word base (stepped base p a need).stores w) ≡ true
 unfolding loads_word stores_word
-named-stepped base p a (Loads addr size) w h = rw loads_word-append (into_first (loads_word base a.loads w) (stores_word base a.stores w) (word_of base addr == w) h)
-named-stepped base p a (Stores addr size value) w h = rw stores_word-append (into_second (loads_word base a.loads w) (stores_word base a.stores w) (reads_word base (Stores addr size value) w) (word_of base addr == w) (λ q. second (not (is_whole size)) (word_of base addr == w) q) h)
-named-stepped base p a (Changes addr changed) w h = rw (loads_word-append, stores_word-append) (into_both (loads_word base a.loads w) (stores_word base a.stores w) (word_of base addr == w) h)
-named-stepped base p a _ w h = into_none _ h
+named-stepped base p a b w h = grind (arith, nat_tests, loads_word-append, a.loads, stores_word-append)
 
 -- each word that the instructions use is named by the loads or stores
 abbrev Names : (base : ℕ) → ℕ → Bool → Option Attempt → Type 0
@@ -256,9 +219,7 @@ then-names base p w used None n u = tt
 then-names base p w used (Some a) n u = go a.outcome
   where
     weaker : (x r s : Bool) → (x ≡ true → (loads_word base a.loads w || stores_word base a.stores w) ≡ true) → (x || (r && s)) ≡ true → ((loads_word base a.loads w || stores_word base a.stores w) || r) ≡ true
-    weaker true r s f e = rw (f refl) refl
-    weaker false true s f e = grind arith
-    weaker false false s f e = absurd (cc)
+    weaker a r s f e = grind (arith, nat_tests)
 
     go : (o : Outcome) → IfSome (when_going base p a o) (λ b. (loads_word base b.loads w || stores_word base b.stores w) ≡ true)
     go Goes = named-stepped base p a (p.need a.local) w (weaker used (reads_word base (p.need a.local) w) (not (stores_whole base a.stores w)) n u)

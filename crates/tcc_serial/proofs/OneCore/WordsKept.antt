@@ -50,27 +50,16 @@ words-placed sh solo c l sp ss e k = same-words sh solo c (placed sh l c) sp ss 
 -- one more store names its word too
 names-more : (base : ℕ) (ss : List Stored) (s : Stored) (w v : ℕ) → word_of base s.addr ≡ w → stores_word base (ss ++ s ∷ []) v ≡ (stores_word base ss v || (v == w))
 unfolding stores_word
-names-more base ss s w v e = stores_word-append base ss (s ∷ []) v ∙ rw e (go (w == v) refl (v == w) refl)
-  where
-    go : (a : Bool) → (w == v) ≡ a → (b : Bool) → (v == w) ≡ b → (stores_word base ss v || (a || false)) ≡ (stores_word base ss v || b)
-    go true p true q = refl
-    go false p false q = refl
-    go true p false q = absurd (grind (arith, nat_tests))
-    go false p true q = absurd (grind (arith, nat_tests))
+names-more base ss s w v e = grind (arith, nat_tests, stores_word-append)
 
 or-true : (a b : Bool) → (true || b) ≡ (a || true)
-or-true true b = refl
-or-true false b = refl
+or-true a b = grind (arith, nat_tests)
 
 or-false : (a : Bool) → a ≡ (a || false)
-or-false true = refl
-or-false false = refl
+or-false a = grind (arith, nat_tests)
 
 some-or : (a b : Bool) → (a || true) ≡ (b || true)
-some-or true true = refl
-some-or true false = refl
-some-or false true = refl
-some-or false false = refl
+some-or a b = grind (arith, nat_tests)
 
 pub words-stored : (sh : Shape) (solo : Bool) (c : Cache) (w x : ℕ) (also : Bool) (sp : Spilled) (ss : List Stored) (s : Stored) → c.held (line_of w) ≡ true → holds sp (line_of w) ≡ false → (solo ≡ true → also ≡ false) → word_of sh.base s.addr ≡ w → Words sh solo c sp ss → Words sh solo (stored w x also c) sp (ss ++ s ∷ [])
 unfolding stored
@@ -87,8 +76,7 @@ words-stored sh solo c w x also sp ss s h u a e k = record {
     unread q v false = k.unread_alone q v
 
     named : (v : ℕ) (b : Bool) → (v == w) ≡ b → ((if (v == w) then true else c.modified v) || is_some (sp v)) ≡ (stores_word sh.base ss v || (v == w))
-    named v true q = rw q (or-true (stores_word sh.base ss v) (is_some (sp v)))
-    named v false q = rw q (k.named v ∙ or-false (stores_word sh.base ss v))
+    named v a q = grind (arith, nat_tests)
 
     clean : (v y : ℕ) → line_of v ≡ line_of y → is_some (sp v) ≡ true → (b : Bool) → (y == w) ≡ b → (l : Bool) → (line_of w == line_of y) ≡ l → ((if (y == w) then true else c.modified y) ≡ false) × ((if l then None else c.dirty y) ≡ None)
     clean v y l q true p m n = let i : y ≡ w = grind (arith, nat_tests) in absurd (unspilled sp (line_of w) v u (l ∙ ap line_of i) q)
@@ -105,8 +93,7 @@ words-buffered sh solo c w x sp ss s v l q e k = record {
 }
   where
     named : (y : ℕ) (b : Bool) → (y == w) ≡ b → (c.modified y || is_some (if (y == w) then Some x else sp y)) ≡ (stores_word sh.base ss y || (y == w))
-    named y true p = rw p (some-or (c.modified y) (stores_word sh.base ss y))
-    named y false p = rw p (k.named y ∙ or-false (stores_word sh.base ss y))
+    named y a p = grind (arith, nat_tests)
 
     clean : (u y : ℕ) → line_of u ≡ line_of y → (b : Bool) → (u == w) ≡ b → is_some (if (u == w) then Some x else sp u) ≡ true → (c.modified y ≡ false) × (c.dirty y ≡ None)
     clean u y m true p r = let i : u ≡ w = grind (arith, nat_tests) in k.clean v y (l ∙ ap line_of (sym i) ∙ m) q
@@ -134,12 +121,10 @@ words-evicted sh solo c s y l sp ss e m k = record {
 }
   where
     spilled : solo ≡ false → (w : ℕ) (b : Bool) → (l == line_of w) ≡ b → (if b && c.modified w then Some (unwrap_or (c.value w) 0) else sp w) ≡ None
-    spilled a w false q = k.spilled_alone a w
-    spilled a w true q = let x : c.modified w ≡ false = m a w (grind (arith, nat_tests)) in rw x (k.spilled_alone a w)
+    spilled a w b q = grind (arith, nat_tests)
 
     unread : solo ≡ true → (w : ℕ) (b : Bool) → (if b then false else c.read w) ≡ false
-    unread a w true = refl
-    unread a w false = k.unread_alone a w
+    unread a w b = grind (arith, nat_tests)
 
     named : (w : ℕ) (b n : Bool) → (l == line_of w) ≡ b → c.modified w ≡ n → ((evicted s y c).modified w || is_some (if (l == line_of w) && c.modified w then Some (unwrap_or (c.value w) 0) else sp w)) ≡ stores_word sh.base ss w
     named w false n q r = rw ((evicted-fields c s y l w e).1) (rw q (k.named w))

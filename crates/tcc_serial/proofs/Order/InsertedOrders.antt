@@ -103,9 +103,7 @@ commits_touch-store base [] w h = refl
 commits_touch-store base (c ∷ cs) w h = go (loads_word base c.loads w) (stores_word base c.stores w) (commits_touch-store base cs w) h
   where
     go : (x y : Bool) → (commits_touch base cs w ≡ false → commits_store base cs w ≡ false) → ((x || y) || commits_touch base cs w) ≡ false → (y || commits_store base cs w) ≡ false
-    go x true r h = absurd (grind arith)
-    go true false r h = absurd (cc)
-    go false false r h = r h
+    go x a r h = grind (arith, nat_tests)
 
 abbrev AgainIf : (base : ℕ) → List Order → (here there : Plain) → Option (Plain × List Commit) → Option (Plain × List Commit) → Type 0
 AgainIf base os here there one other = IfSome one (λ done. ((c : ℕ) → orders_core os c ≡ true → there.cores c ≡ here.cores c) → ((w : ℕ) → commits_touch base done.1 w ≡ true → here.ram w ≡ there.ram w) → Again base os here there done other)
@@ -114,12 +112,10 @@ left_true : (x y : Bool) → x ≡ true → (x || y) ≡ true
 left_true x y h = rw h refl
 
 right_true : (x y : Bool) → y ≡ true → (x || y) ≡ true
-right_true true y h = refl
-right_true false y h = h
+right_true a y h = grind (arith, nat_tests)
 
 left_of : (x y : Bool) → y ≡ false → (x || y) ≡ true → x ≡ true
-left_of true y q h = refl
-left_of false y q h = absurd (cc)
+left_of a y q h = grind (arith, nat_tests)
 
 neither : (x y : Bool) → (x || y) ≡ false → (x ≡ false) × (y ≡ false)
 neither true y h = absurd (cc)
@@ -149,23 +145,16 @@ again_then base p o os here there done rest other more t again cores words =
     differ c e q = grind (arith, nat_tests)
 
     middle_cores : (c : ℕ) → orders_core os c ≡ true → (b : Bool) → (o.core == c) ≡ b → t.plain.cores c ≡ done.0.cores c
-    middle_cores c h true q = let e : c ≡ o.core = grind (arith, nat_tests) in rw e (t.own)
-    middle_cores c h false q = t.others_there c (λ e. differ c e q) ∙ cores c (right_true (o.core == c) (orders_core os c) h) ∙ sym (t.others_here c (λ e. differ c e q))
+    middle_cores c h a q = grind (arith, nat_tests)
 
     middle_words : (w : ℕ) → commits_touch base rest.1 w ≡ true → (b : Bool) → stores_word base done.1.stores w ≡ b → done.0.ram w ≡ t.plain.ram w
-    middle_words w h true q = sym (t.stored w q)
-    middle_words w h false q = t.kept_here w q ∙ words w (right_true _ (commits_touch base rest.1 w) h) ∙ sym (t.kept_there w q)
+    middle_words w h a q = grind (arith, nat_tests)
 
     ran : (r : Again base os done.0 t.plain rest (more t.plain)) (c : ℕ) (b : Bool) → orders_core os c ≡ b → ((o.core == c) || orders_core os c) ≡ true → r.plain.cores c ≡ rest.0.cores c
-    ran r c true q h = r.ran c q
-    ran r c false q h =
-        let x : (o.core == c) ≡ true = left_of (o.core == c) (orders_core os c) q h in
-        let e : c ≡ o.core = grind (arith, nat_tests) in
-        r.idle_there c q ∙ (rw e (t.own) ∙ sym (r.idle_here c q))
+    ran r c a q h = grind (arith, nat_tests)
 
     stored : (r : Again base os done.0 t.plain rest (more t.plain)) (w : ℕ) (b : Bool) → commits_store base rest.1 w ≡ b → (stores_word base done.1.stores w || commits_store base rest.1 w) ≡ true → r.plain.ram w ≡ rest.0.ram w
-    stored r w true q h = r.stored w q
-    stored r w false q h = r.kept_there w q ∙ t.stored w (left_of (stores_word base done.1.stores w) (commits_store base rest.1 w) q h) ∙ sym (r.kept_here w q)
+    stored r w a q h = grind (arith, nat_tests)
 
 rest_again : (base : ℕ) (p : Program) (o : Order) (os : List Order) (here there : Plain) (done : Plain × Attempt) (x : Option (Plain × List Commit)) (other : Option (Plain × Attempt)) (more : Plain → Option (Plain × List Commit))
     → ((c : ℕ) → orders_core (o ∷ os) c ≡ true → there.cores c ≡ here.cores c)
@@ -242,20 +231,13 @@ serial-memory base p last (o ∷ os) m al mm = memory_then base p o m (nat_lt la
 -- the last TID matters for the first order alone
 serial-below : (base : ℕ) (p : Program) (last tid : ℕ) (os : List Order) (m : Plain) → last < tid → IsBelow tid os → serial base p tid os m ≡ serial base p last os m
 unfolding serial
-serial-below base p last tid [] m l b = refl
-serial-below base p last tid (o ∷ os) m l b = let e : nat_lt tid o.tid ≡ true = grind (arith, nat_tests) in let f : nat_lt last o.tid ≡ true = grind (arith, nat_tests) in rw (e, f) refl
+serial-below base p last tid a m l b = grind (arith, nat_tests)
 
 whole_inserted : (base : ℕ) (p : Program) (last : ℕ) (early late : List Order) (o : Order) (m start done end plain : Plain) (a : Attempt) (before after : List Commit) → CanInsert base p last early late o m start done end a before after
     → serial base p (last_tid last early) late done ≡ Some (plain, after)
     → serial base p last (early ++ o ∷ late) m ≡ Some (plain, before ++ commit_of o a ∷ after)
 unfolding serial
-whole_inserted base p last early late o m start done end plain a before after c e =
-    let l : nat_lt (last_tid last early) o.tid ≡ true = go (c.above) in
-    let x : serial base p o.tid late done ≡ Some (plain, after) = serial-below base p (last_tid last early) o.tid late done (c.above) (c.below) ∙ e in
-    serial-append base p last early (o ∷ late) m ∙ rw (c.first, l, c.executed, x) refl
-  where
-    go : last_tid last early < o.tid → nat_lt (last_tid last early) o.tid ≡ true
-    go h = grind (arith, nat_tests)
+whole_inserted base p last early late o m start done end plain a before after c e = grind (arith, nat_tests, c.above, serial-below, c.below, serial-append, c.first, c.executed)
 
 differs : (late : List Order) (c core : ℕ) → orders_core late core ≡ false → orders_core late c ≡ true → c ≢ core
 differs late c core h k e = let q : orders_core late c ≡ orders_core late core = ap (orders_core late) e in absurd (cc)
@@ -277,12 +259,10 @@ inserted_again base p late o start done end a before after with_it other another
 }
   where
     cores : (c : ℕ) → c ≢ o.core → (b : Bool) → orders_core late c ≡ b → g.plain.cores c ≡ end.cores c
-    cores c h true q = g.ran c q
-    cores c h false q = g.idle_there c q ∙ t.others_here c h ∙ sym (g.idle_here c q)
+    cores c h a q = grind (arith, nat_tests)
 
     words : (w : ℕ) → stores_word base a.stores w ≡ false → (b : Bool) → commits_store base after w ≡ b → g.plain.ram w ≡ end.ram w
-    words w h true q = g.stored w q
-    words w h false q = g.kept_there w q ∙ t.kept_here w h ∙ sym (g.kept_here w q)
+    words w h a q = grind (arith, nat_tests)
 
 pub order_inserted : (base : ℕ) (p : Program) (last : ℕ) (early late : List Order) (o : Order) (m start done end : Plain) (a : Attempt) (before after : List Commit) → Aligned p → IsMemory m.ram → CanInsert base p last early late o m start done end a before after → Inserted base before o a after done end (serial base p last (early ++ o ∷ late) m)
 order_inserted base p last early late o m start done end a before after al mm c =
@@ -294,5 +274,4 @@ order_inserted base p last early late o m start done end a before after al mm c 
     (whole_inserted base p last early late o m start done end (g.plain) a before after c (g.same))
   where
     untouched : (w : ℕ) → commits_touch base after w ≡ true → (b : Bool) → stores_word base a.stores w ≡ b → stores_word base a.stores w ≡ false
-    untouched w h false q = q
-    untouched w h true q = let r : commits_touch base after w ≡ false = c.apart w q in absurd (cc)
+    untouched w h a q = grind (arith, nat_tests)

@@ -167,11 +167,7 @@ abbrev pub Holds : (base x y : ℕ) → Attempt → Type 0
 Holds base x y a = a.ram x ≡ after_stores base a.stores x y
 
 stored-holds : (base addr : ℕ) (size : Size) (value x y : ℕ) (ram : ℕ → ℕ) (ss : List Stored) → ram x ≡ after_stores base ss x y → stored base ram addr size value x ≡ after_stores base (ss ++ store_of addr size value ∷ []) x y
-stored-holds base addr size value x y ram ss h = stored-put base ram addr size value x ∙ (go (word_of base addr == x) refl ∙ sym (after_stores-last base ss (store_of addr size value) x y))
-  where
-    go : (b : Bool) → (word_of base addr == x) ≡ b → (if b then patched (ram (word_of base addr)) addr size value else ram x) ≡ (if b then patched (after_stores base ss x y) addr size value else after_stores base ss x y)
-    go true q = let e : word_of base addr ≡ x = grind (arith, nat_tests) in ap (λ k. patched k addr size value) (ap ram e ∙ h)
-    go false q = h
+stored-holds base addr size value x y ram ss h = grind (arith, nat_tests, stored-put, after_stores-last)
 
 stepped-holds : (base : ℕ) (p : Program) (x y : ℕ) (a : Attempt) (need : Need) → Holds base x y a → Holds base x y (stepped base p a need)
 stepped-holds base p x y a (Stores addr size value) h = stored-holds base addr size value x y a.ram a.stores h

@@ -147,25 +147,21 @@ May t q = (q ≡ Ready t) ⊎ (q ≡ Solo t)
 
 pub may-has : (t : ℕ) (q : Phase) → May t q → has_tid q t ≡ true
 unfolding has_tid
-may-has t q (inl e) = rw e (grind (arith, nat_tests))
-may-has t q (inr e) = rw e (grind (arith, nat_tests))
+may-has t q a = grind (arith, nat_tests)
 
 pub may-commits : (t : ℕ) (q : Phase) → May t q → (may_commit q ≡ true) × (tid_of q ≡ t)
 may-commits t q (inl e) = rw e (refl, refl)
 may-commits t q (inr e) = rw e (refl, refl)
 
 may-runs : (t : ℕ) (q : Phase) (o : Outcome) → May t q → end_after q o ≡ Run
-may-runs t q o (inl e) = rw e refl
-may-runs t q o (inr e) = rw e refl
+may-runs t q o a = grind (arith, nat_tests)
 
 may-asks : (t : ℕ) (q : Phase) (b : Bool) → May t q → (is_solo q ≡ false → b ≡ true) → asks_dir q b ≡ true
-may-asks t q b (inl e) h = rw e (h (rw e refl))
-may-asks t q b (inr e) h = rw e refl
+may-asks t q b a h = grind (arith, nat_tests)
 
 may-untold : (t : ℕ) (q : Phase) (b : Bool) → May t q → (is_solo q ≡ false → b ≡ true) → live_way q b ≡ Untold
 unfolding live_way
-may-untold t q b (inl e) h = rw (e, h (rw e refl)) refl
-may-untold t q b (inr e) h = rw e refl
+may-untold t q b a h = grind (arith, nat_tests)
 
 pub may-bound : (w : World) (c d t : ℕ) → May t (w.cores c).phase → 1 ≤ holder t (pair w c d)
 unfolding holder pair

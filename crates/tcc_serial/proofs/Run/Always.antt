@@ -20,8 +20,7 @@ pub one_request : Always OneRequest
 one_request = from_kept OneRequest (λ sh w k. k.told.tids.requests)
 
 num-zero : (b : Bool) → num b ≡ 0 → b ≡ false
-num-zero true h = absurd (omega arith)
-num-zero false h = refl
+num-zero a h = grind (arith, nat_tests)
 
 -- a TID that is passed has no part left
 pub passed : (sh : Shape) (w : World) (d t : ℕ) → ResolvedAt sh w d t → t < (w.dirs d).serving.serving → Passed sh w d t

@@ -1,14 +1,14 @@
 -- The facts of the list that are proved of every run, from what is carried together along it.
-use Rattle.tcc_serial.proofs.Names.{ℕ, zero, suc, ◌+◌, ◌≡◌, ◌<◌, ◌≤◌, ◌==◌, ◌&&◌, Bool, true, false, not, List, Contains, Option, Some}
-use Rattle.tcc_serial.proofs.Names.{None, IfSome, nat_le, arith, refl, nat_tests, Local, Program, Event, num, Shape, home, Cache, IsCache}
-use Rattle.tcc_serial.proofs.Names.{has_mark, CoreState, Halted, World, start, History, run, IsApart, PhaseFits, Grants, Marks, MarkOf}
-use Rattle.tcc_serial.proofs.Names.{Probes, Replies, live, Carried, RunsCarry, first_state, KeptAll, marks_of, marked_by, has_marked}
-use Rattle.tcc_serial.proofs.Names.{stores_line, OneCore, Empty, Grant, grants_from, times, holder, pair, share, CommitsStand, MarksWait}
-use Rattle.tcc_serial.proofs.Names.{MarkedByServed, MarksOfCommits, Ways, first_ways, ways_from, UntoldWhereOpen, UntoldIsLive, AllWaysFit}
-use Rattle.tcc_serial.proofs.Names.{GivenUpOnce, LiveIsOpen, CommittedWhereStored, SmallerAreGivenUp, WorkIsReached, ◌||◌, is_some, sym}
-use Rattle.tcc_serial.proofs.Names.{◌∙◌, inl, inr, cases_lt, lines, Awaited, is_awaited, AttemptInMemory, LoadsInMemory, CopiesInMemory}
-use Rattle.tcc_serial.proofs.Names.{CarriedInMemory, RunsStayInMemory, Uses, MarksFit, AttemptFits, Views, no_views, views_from}
-use Rattle.tcc_serial.proofs.Names.{attempts-fit, ReadFits, CarriedViews, RunsCarryViews}
+use Rattle.tcc_serial.proofs.Names.{ℕ, ◌+◌, ◌≡◌, ◌<◌, ◌≤◌, ◌==◌, ◌&&◌, Bool, true, false, not, List, Contains, Option, Some, None, IfSome}
+use Rattle.tcc_serial.proofs.Names.{nat_le, arith, refl, nat_tests, Local, Program, Event, num, Shape, home, Cache, IsCache, has_mark}
+use Rattle.tcc_serial.proofs.Names.{CoreState, Halted, World, start, History, run, IsApart, PhaseFits, Grants, Marks, MarkOf, Probes}
+use Rattle.tcc_serial.proofs.Names.{Replies, live, Carried, RunsCarry, first_state, KeptAll, marks_of, marked_by, has_marked, stores_line}
+use Rattle.tcc_serial.proofs.Names.{OneCore, Empty, Grant, grants_from, times, holder, pair, share, CommitsStand, MarksWait, MarkedByServed}
+use Rattle.tcc_serial.proofs.Names.{MarksOfCommits, Ways, first_ways, ways_from, UntoldWhereOpen, UntoldIsLive, AllWaysFit, GivenUpOnce}
+use Rattle.tcc_serial.proofs.Names.{LiveIsOpen, CommittedWhereStored, SmallerAreGivenUp, WorkIsReached, ◌||◌, is_some, sym, ◌∙◌, inl, inr}
+use Rattle.tcc_serial.proofs.Names.{cases_lt, lines, Awaited, is_awaited, AttemptInMemory, LoadsInMemory, CopiesInMemory, CarriedInMemory}
+use Rattle.tcc_serial.proofs.Names.{RunsStayInMemory, Uses, MarksFit, AttemptFits, Views, no_views, views_from, attempts-fit, ReadFits}
+use Rattle.tcc_serial.proofs.Names.{CarriedViews, RunsCarryViews}
 use Rattle.tcc_serial.proofs.Copies.CopyFacts.{above-from, owned-from}
 use Rattle.tcc_serial.proofs.Copies.WroteLines.{on-its-way}
 use Rattle.tcc_serial.proofs.Counts.Links.{total-le}
@@ -45,8 +45,7 @@ live-granted sh gs h k c d t l x =
 
 -- Marks
 none-coming : (n g x : ℕ) → (1 ≤ n + g → x ≡ 0) → 1 ≤ x → g ≡ 0
-none-coming n zero x f l = refl
-none-coming n (suc g) x f l = absurd (omega (arith, l, f (omega arith)))
+none-coming n a x f l = grind (arith, nat_tests)
 
 marked-came : (n s g : ℕ) (m : ℕ) (b : Bool) → b ≡ true → (1 ≤ num (nat_le n s) + g → m + num (s == s && b) ≡ 0) → (s < n) × (g ≡ 0)
 marked-came n s g m b e f = (go (nat_le n s) refl, none-coming (num (nat_le n s)) g (m + num (s == s && b)) f (omega (arith, one)))
@@ -55,8 +54,7 @@ marked-came n s g m b e f = (go (nat_le n s) refl, none-coming (num (nat_le n s)
     one = rw e (grind (arith, nat_tests))
 
     go : (x : Bool) → nat_le n s ≡ x → s < n
-    go true q = absurd (let p : num (nat_le n s) ≡ 1 = rw q refl in omega (arith, one, f (omega (arith, p))))
-    go false q = grind (arith, nat_tests)
+    go a q = grind (arith, nat_tests)
 
 marked-line : (sh : Shape) (gs : List Grant) (h : History) → KeptAll sh gs h → (c d l : ℕ) → c < sh.cores → d < sh.dirs → has_mark (h.world.dirs d).lines l ≡ true → (home sh l ≡ d) × ((h.world.dirs d).serving.serving < h.world.next) × (live (Grants (h.world.dirs d).serving.serving) (pair h.world c d).grants ≡ 0)
 unfolding pair marks_of
@@ -66,9 +64,7 @@ marked-line sh gs h k c d l cl dl e =
     ((k.kept.told.owed.at_home c d).marked l e, r.0, r.1)
 
 none-marked : (a b c : Bool) → (a && b) ≡ false → num (a && (b && c)) ≡ 0
-none-marked true true c h = absurd (cc)
-none-marked true false c h = refl
-none-marked false b c h = refl
+none-marked a b c h = grind (arith, nat_tests)
 
 marks-wait : (sh : Shape) (gs : List Grant) (h : History) → KeptAll sh gs h → (c d t l : ℕ) → c < sh.cores → d < sh.dirs → MarksWait sh t l d (pair h.world c d)
 unfolding marked_by
@@ -186,16 +182,14 @@ attempt-memory sh gs ys h k m c = record {
 }
   where
     either : (a b : Bool) → b ≡ true → (a || b) ≡ true
-    either true b e = refl
-    either false b e = e
+    either a b e = grind (arith, nat_tests)
 
 loads-memory : (sh : Shape) (gs : List Grant) (ys : Ways) (h : History) → Carried sh gs ys h → KeptInMemory sh h → LoadsInMemory sh h.world
 unfolding pair
 loads-memory sh gs ys h k m c d l i = go (h.world.cores c).awaited refl (omega (arith, i, k.one_load_request_or_fill c d l))
   where
     line : (a : Awaited) → (h.world.cores c).awaited ≡ Some a → (b e : Bool) → (a.line == l) ≡ b → 1 ≤ num (b && e) → l < lines sh
-    line a q true e r n = let j : a.line ≡ l = grind (arith, nat_tests) in rw j at ((attempt-memory sh gs ys h k m c).awaited a q)
-    line a q false e r n = absurd (omega arith)
+    line a q b e r n = grind (arith, nat_tests, attempt-memory)
 
     go : (a : Option Awaited) → (h.world.cores c).awaited ≡ a → 1 ≤ num (is_awaited a l && (home sh l == d)) → l < lines sh
     go None q n = absurd (omega arith)

@@ -1,9 +1,7 @@
 -- What a core sends a Commit of is what it notes the commit of.
-use Rattle.tcc_serial.proofs.Names.{ℕ, ◌≡◌, ◌≤◌, Bool, true, false, List, [], ◌∷◌, ◌++◌, ◌==◌, ◌&&◌, IfSome, nat_lt, if◌then◌else◌}
-use Rattle.tcc_serial.proofs.Names.{flat_map, arith, refl, nat_tests, Program, num, those, count_below, Dir, Msg, Skip, Mark, Commit}
-use Rattle.tcc_serial.proofs.Names.{WriteBack, Shape, home, lines, Cache, Spilled, holds, spilled_mask, spilled_words, CoreState, Out}
-use Rattle.tcc_serial.proofs.Names.{commit, commit_sends, noted, solo_sends, solo_marks, solo_backs, solo_writes_at, is_written}
-use Rattle.tcc_serial.proofs.Names.{written_mask, core_exec, core_evict, grant, from_dir, Commits, AnyCommit, among, passes, solo_commit}
+use Rattle.tcc_serial.proofs.Names.{ℕ, ◌≡◌, ◌≤◌, List, ◌==◌, IfSome, arith, refl, nat_tests, Program, num, Dir, Msg, Commit, Shape, Cache}
+use Rattle.tcc_serial.proofs.Names.{Spilled, CoreState, Out, commit, commit_sends, noted, solo_sends, solo_marks, solo_backs, core_exec}
+use Rattle.tcc_serial.proofs.Names.{core_evict, grant, from_dir, Commits, AnyCommit, among, passes, solo_commit}
 use Rattle.tcc_serial.proofs.Serving.CoreCommits.{heard-free, granted-free}
 use Rattle.tcc_serial.proofs.Counts.Links.{among-append, among-fewer, among-flat_map_none}
 use Rattle.tcc_serial.proofs.Tids.CoreOwners.{noted_tid}
@@ -30,18 +28,7 @@ of-commit sh c u d t = grind (arith, nat_tests)
 
 of-solo : (sh : Shape) (c : Cache) (sp : Spilled) (u d t : ℕ) → among (Commits t) (solo_sends sh c sp u (Dir d)) ≤ num (u == t)
 unfolding solo_sends solo_marks solo_backs among passes
-of-solo sh c sp u d t = go (nat_lt d sh.dirs) (solo_writes_at sh c sp d)
-  where
-    backs : among (Commits t) (flat_map (λ l. WriteBack l (spilled_mask sp l) (spilled_words sp l) u ∷ []) (those (λ l. d == home sh l && holds sp l) (lines sh))) ≡ 0
-    backs = among-flat_map_none (Commits t) (λ l. WriteBack l (spilled_mask sp l) (spilled_words sp l) u ∷ []) (λ l. refl) (those (λ l. d == home sh l && holds sp l) (lines sh))
-
-    marks : among (Commits t) (flat_map (λ l. Mark l (written_mask c sp l) u ∷ []) (those (λ l. d == home sh l && is_written c sp l) (lines sh))) ≡ 0
-    marks = among-flat_map_none (Commits t) (λ l. Mark l (written_mask c sp l) u ∷ []) (λ l. refl) (those (λ l. d == home sh l && is_written c sp l) (lines sh))
-
-    go : (a w : Bool) → among (Commits t) (if a then (if w then flat_map (λ l. Mark l (written_mask c sp l) u ∷ []) (those (λ l. d == home sh l && is_written c sp l) (lines sh)) ++ Commit u (count_below (λ l. d == home sh l && is_written c sp l) (lines sh)) ∷ [] else Skip u ∷ []) ++ solo_backs sh sp u d else []) ≤ num (u == t)
-    go false w = omega arith
-    go true true = rw (among-append, among-append, backs, marks) (omega arith)
-    go true false = rw (among-append, backs) (omega arith)
+of-solo sh c sp u d t = grind (arith, nat_tests, among-flat_map_none, among-append)
 
 pub noted-exec : (sh : Shape) (p : Program) (c : ℕ) (s : CoreState) → IfSome (core_exec sh p c s) (λ o. CommitsNoted o)
 unfolding commit solo_commit noted passes

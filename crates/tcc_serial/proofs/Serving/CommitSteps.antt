@@ -5,11 +5,11 @@ use Rattle.tcc_serial.proofs.Names.{Link, start, in_flight, Sends, Out, core_exe
 use Rattle.tcc_serial.proofs.Names.{Takes, dir_deliver, core_moves, core_takes, dir_takes, Stepped, step, History, and_noted, recorded}
 use Rattle.tcc_serial.proofs.Names.{next, and_then, run_from, run, Resolves, Commits, CommitsAbove, live, passes, Pair, pair, after_move}
 use Rattle.tcc_serial.proofs.Names.{grant_taken, back_taken, after_answer, out_taken, share, part, handled, Kept, Always, CommittingOf}
-use Rattle.tcc_serial.proofs.Names.{KeptCommitting, CommitsAreServed, true, ◌++◌, Contains, sym, ap, ◌∙◌, cases_eq, cases_lt, append-nil}
+use Rattle.tcc_serial.proofs.Names.{KeptCommitting, CommitsAreServed, true, ◌++◌, Contains, sym, ap, ◌∙◌, cases_lt, append-nil}
 use Rattle.tcc_serial.proofs.Names.{Contains-append_left, Contains-append_cases, Noted, CoreState, Phase, Running, AwaitTid, DoomedTid}
 use Rattle.tcc_serial.proofs.Names.{Probing, Ready, Overflowing, Solo, Halted, sent_all, grant_phase, dir_asks, vendor_gives, Invs, InvsNot}
 use Rattle.tcc_serial.proofs.Names.{Acks, among, due, KeptTold, Grant, granted_by, IsNumbered, holder, KeptOwners, SparedOf}
-use Rattle.tcc_serial.proofs.Names.{SparesCommitter}
+use Rattle.tcc_serial.proofs.Names.{SparesCommitter, cases_eq}
 use Rattle.tcc_serial.proofs.Counts.Links.{live-sends, live-takes, total-le, live-fewer}
 use Rattle.tcc_serial.proofs.Counts.StepCases.{pairs_move, pairs_grant, pairs_back, pairs_dir, pairs_asks, pairs_vendor, OfAnswer}
 use Rattle.tcc_serial.proofs.Counts.StepCases.{step_cases, same, given}
@@ -199,8 +199,7 @@ vendor-spared sh gs w c k h z = pairs_vendor (SparedOf sh (gs ++ g ∷ [])) w c 
     g = record { tid = w.next; core = c }
 
     own : (j d : ℕ) → d < sh.dirs → Contains gs (record { tid = (w.dirs d).serving.serving; core = j }) ⊎ Contains (g ∷ []) (record { tid = (w.dirs d).serving.serving; core = j }) → live Invs (w.net (Dir d) (Core j)) ≡ 0
-    own j d l (inl a) = (h j d).own l a
-    own j d l (inr a) = next-quiet sh w d j z l (sym (ap (λ r. r.tid) (only-one g (record { tid = (w.dirs d).serving.serving; core = j }) a)))
+    own j d l a = grind (arith, nat_tests, next-quiet, only-one)
 
 -- every event, where all else is kept
 core-spared : (sh : Shape) (gs : List Grant) (w : World) (cs : List Noted) (c t : ℕ) (got : ℕ → ℕ) (o : Out) → KeptOwners sh gs w cs → KeepsHolder c got (w.cores c) o → (got t ≡ 0) → 1 ≤ noted_tid t o.commit → Contains gs (record { tid = t; core = c })

@@ -32,8 +32,7 @@ among-those_none k f p zero h = refl
 among-those_none k f p (suc n) h = rw flat_map-append (rw among-append (omega (arith, among-those_none k f p n h, last (p n) refl)))
   where
     last : (b : Bool) → p n ≡ b → among k (flat_map f (cond b (n ∷ []) [])) ≡ 0
-    last false q = refl
-    last true q = rw among-append (omega (arith, h n q))
+    last a q = grind (arith, nat_tests, among-append)
 
 acks-protocol : (m : Msg) → num (passes Acks m) ≤ num (passes Protocol m)
 unfolding passes

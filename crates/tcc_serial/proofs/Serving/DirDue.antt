@@ -71,8 +71,7 @@ invs-those f t p zero = refl
 invs-those f t p (suc n) = rw flat_map-append (rw among-append (omega (arith, invs-those f t p n, last (p n))))
   where
     last : (b : Bool) → among Invs (flat_map (λ l. Inv l (f l) t ∷ []) (cond b (n ∷ []) [])) ≡ num b
-    last true = refl
-    last false = refl
+    last a = grind (arith, nat_tests)
 
 invs-invalidations : (sh : Shape) (ls : Lines) (c t : ℕ) → invs_sent sh (invalidations sh ls c t) ≡ owed_by sh ls c
 unfolding invalidations invs_to owed_by

@@ -22,8 +22,7 @@ rises-still s = record { rises = omega arith; replies = λ j. refl }
 
 -- from the served TID to the one after it
 next-rises : (b : Bool) (s r : Serving) → s.serving ≤ r.serving → s.serving ≤ (if b then advance s else r).serving
-next-rises true s r l = let x = advance-rises s in omega arith
-next-rises false s r l = l
+next-rises a s r l = grind (arith, nat_tests, advance-rises)
 
 pub dir-rises : (sh : Shape) (s : DirState) (c : ℕ) (m : Msg) → RisesBy s (dir_deliver sh s c m)
 unfolding passes kept

@@ -183,8 +183,7 @@ served-back : (sh : Shape) (w : World) (e j ack : ℕ) (s : DirState) (sends : S
 served-back sh w e j ack s sends h u z = go (u.served)
   where
     go : ((s.serving.serving ≡ (w.dirs e).serving.serving) × ((j : ℕ) → among (InvsNot (w.dirs e).serving.serving) (sends (Core j)) ≡ 0)) ⊎ (s.owed ≡ 0) → live (InvsNot s.serving.serving) (w.net (Dir e) (Core j) ++ sent_all (sends (Core j))) ≡ 0
-    go (inr x) = z x
-    go (inl x) = rw (x.0) (omega (arith, live-sends (InvsNot (w.dirs e).serving.serving) (w.net (Dir e) (Core j)) (sends (Core j)), h, x.1 j))
+    go a = grind (arith, nat_tests, live-sends)
 
 pub dir-owed : (sh : Shape) (w : World) (c e k : ℕ) (m : Msg) (s : DirState) (sends : Sends) → KeptOwed sh w → KeptTids sh (dir_takes w c e k s sends) → c < sh.cores → in_flight w.net (Core c) (Dir e) k ≡ Some m
     → Due sh e (w.dirs e) (num (passes Acks m)) s sends → KeptOwed sh (dir_takes w c e k s sends)

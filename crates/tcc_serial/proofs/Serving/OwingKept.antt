@@ -51,8 +51,7 @@ steady-owing : (sh : Shape) (s : CoreState) (o : Out) → Steady s o → OwingFi
 steady-owing sh s o y h = same-owing sh s o.core y.phase y.owing (λ a d. ap₂ (λ x z. x || z) (writes_at-same sh o.core.cache s.cache d (y.modified (not-acts s.phase a))) (reads_at-same sh o.core.cache s.cache d (y.read (not-acts s.phase a)))) h
 
 after-none : (e : Outcome) → awaits_replies (phase_after e) ≡ false
-after-none Goes = refl
-after-none _ = refl
+after-none a = grind (arith, nat_tests)
 
 owing-exec : (sh : Shape) (p : Program) (c : ℕ) (s : CoreState) → OwingFits sh s → IfSome (core_exec sh p c s) (λ o. OwingFits sh o.core)
 unfolding commit solo_commit committed_core

@@ -8,8 +8,7 @@ use Rattle.tcc_serial.proofs.Names.{Takes, dir_deliver, core_moves, core_takes, 
 use Rattle.tcc_serial.proofs.Names.{and_noted, recorded, next, and_then, run_from, run, Grants, live, among, passes, Pair, pair, after_move}
 use Rattle.tcc_serial.proofs.Names.{grant_taken, after_grant, after_other_grant, share, sum_of, has_tid, KeptTids, Grant, granted_by}
 use Rattle.tcc_serial.proofs.Names.{then_grants, grants_from, IsNumbered, IsRising, AreGranted, times, holder, KeptOwners, Kept, Bool, true}
-use Rattle.tcc_serial.proofs.Names.{Contains-append_cases, Msg, Link, Phase, AwaitTid, DoomedTid, Overflowing, AsksTid, AnyGrant}
-use Rattle.tcc_serial.proofs.Names.{waits_for_tid, RequestOf, LastGranted}
+use Rattle.tcc_serial.proofs.Names.{Contains-append_cases, Msg, Link, Phase, AsksTid, AnyGrant, waits_for_tid, RequestOf, LastGranted}
 use Rattle.tcc_serial.proofs.Counts.Links.{live-sends, live-takes, total-le, total-zero, total-same, live-fewer}
 use Rattle.tcc_serial.proofs.Counts.StepCases.{OfAnswer, step_cases, given, pairs_move, pairs_grant, pairs_back, pairs_vendor, sum_move}
 use Rattle.tcc_serial.proofs.Counts.StepCases.{sum_grant, sum_back, sum_back_away, sum_vendor, pairs_dir, pairs_asks}
@@ -29,8 +28,7 @@ holder-granted v o d t c k u e h = omega (arith, h.holds t, live-takes (Grants t
 
 -- the commits after a step of core c
 pub times-noted : (t : ℕ) (n : Option Noted) (cs : List Noted) → times t (and_noted n cs) ≡ times t cs + noted_tid t n
-times-noted t None cs = omega arith
-times-noted t (Some n) cs = times-insert t n cs
+times-noted t a cs = grind (arith, nat_tests, times-insert)
 
 commits_after : (sh : Shape) (gs : List Grant) (w : World) (cs : List Noted) (c : ℕ) (n : Option Noted) → KeptOwners sh gs w cs → c < sh.cores
     → ((t : ℕ) → noted_tid t n ≤ holder t (pair w c 0)) → IfSome n (λ x. x.core.0 ≡ c) → AreGranted gs (and_noted n cs) × IsRising 0 (and_noted n cs)
@@ -214,10 +212,7 @@ LastOf gs c d v = (t u : ℕ) → 1 ≤ holder t v → Contains gs (record { tid
 -- a core that waits has no TID
 waits-none : (q : Phase) (t : ℕ) → waits_for_tid q ≡ true → has_tid q t ≡ false
 unfolding waits_for_tid has_tid
-waits-none AwaitTid t h = refl
-waits-none DoomedTid t h = refl
-waits-none (Overflowing None) t h = refl
-waits-none _ t h = absurd (cc)
+waits-none a t h = grind (arith, nat_tests)
 
 grants-any : (t : ℕ) (m : Msg) → num (passes (Grants t) m) ≤ num (passes AnyGrant m)
 unfolding passes

@@ -133,8 +133,7 @@ probing-granted v o d t k u i one y hu h = go (cases_eq u t)
 
 -- a core takes a reply
 has-one : (b : Bool) (x y : Phase) (u t : ℕ) → has_tid x t ≡ (u == t) → has_tid y t ≡ (u == t) → has_tid (if b then x else y) t ≡ true → u ≡ t
-has-one true x y u t e f h = let k : (u == t) ≡ true = sym e ∙ h in grind (arith, nat_tests)
-has-one false x y u t e f h = let k : (u == t) ≡ true = sym f ∙ h in grind (arith, nat_tests)
+has-one a x y u t e f h = grind (arith, nat_tests)
 
 -- no directory owes a reply to a core that has the TID without waiting
 abbrev Idle : (dir tid : ℕ) → CoreState → Type 0

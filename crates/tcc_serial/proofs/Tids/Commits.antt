@@ -11,8 +11,7 @@ times-insert t n [] = omega arith
 times-insert t n (c ∷ cs) = go (nat_lt n.tid.0 c.tid.0) (times-insert t n cs)
   where
     go : (b : Bool) → times t (insert_commit n cs) ≡ times t cs + num (n.tid.0 == t) → times t (if b then n ∷ c ∷ cs else c ∷ insert_commit n cs) ≡ num (c.tid.0 == t) + times t cs + num (n.tid.0 == t)
-    go true r = omega arith
-    go false r = omega arith
+    go a r = grind (arith, nat_tests)
 
 pub insert-rising : (last : ℕ) (n : Noted) (cs : List Noted) → IsRising last cs → last < n.tid.0 → times n.tid.0 cs ≡ 0 → IsRising last (insert_commit n cs)
 unfolding IsRising insert_commit times
@@ -141,8 +140,7 @@ last-most p [] b h = omega arith
 last-most p (m ∷ cs) b h = go (p m) (λ e. h m (0, omega arith, refl) e) (last-most p cs b (λ x k. h x (later m cs x k)))
   where
     go : (y : Bool) → (y ≡ true → m.tid.0 ≤ b) → last_of p cs ≤ b → max (cond y m.tid.0 0) (last_of p cs) ≤ b
-    go true f l = omega (arith, f refl, l)
-    go false f l = omega (arith, l)
+    go a f l = grind (arith, nat_tests)
 
 at-least : (p : Noted → Bool) (cs : List Noted) (x : Noted) (k : ℕ) → slice_index_or cs k x ≡ x → suc k ≤ length cs → p x ≡ true → x.tid.0 ≤ last_of p cs
 unfolding last_of

@@ -1,6 +1,6 @@
 -- A core sends a probe only where it takes a grant, and to each directory that owes a reply from then on.
 use Rattle.tcc_serial.proofs.Names.{ℕ, ◌≡◌, ◌≤◌, Bool, true, false, List, [], ◌∷◌, ◌==◌, ◌&&◌, Some, None, IfSome, nat_lt, arith, refl, sym}
-use Rattle.tcc_serial.proofs.Names.{ap, ◌∙◌, nat_tests, Program, Outcome, Goes, num, any_below, Dir, Msg, Mark, InvAck, Shape, home, Cache}
+use Rattle.tcc_serial.proofs.Names.{ap, ◌∙◌, nat_tests, Program, Outcome, num, any_below, Dir, Msg, Mark, InvAck, Shape, home, Cache}
 use Rattle.tcc_serial.proofs.Names.{modified_mask, written_lines, CoreState, Phase, Running, AwaitTid, DoomedTid, Overflowing, to}
 use Rattle.tcc_serial.proofs.Names.{marks_for, probe_all, Out, commit, committed_core, phase_after, core_exec, core_evict, grant}
 use Rattle.tcc_serial.proofs.Names.{grant_phase, grant_sends, is_probed, probing, Probes, Protocol, among, passes, has_tid, waits_for_tid}
@@ -44,8 +44,7 @@ none-to t h d ms e = grind (arith, nat_tests)
 
 pub tid-after : (e : Outcome) (t : ℕ) → has_tid (phase_after e) t ≡ false
 unfolding has_tid
-tid-after Goes t = refl
-tid-after _ t = refl
+tid-after a t = grind (arith, nat_tests)
 
 pub unprobed-exec : (sh : Shape) (p : Program) (c : ℕ) (s : CoreState) → IfSome (core_exec sh p c s) (λ o. Unprobed s o)
 unfolding commit solo_commit committed_core has_tid passes
@@ -90,8 +89,7 @@ probes-all sh u d t = grind (arith, nat_tests)
 
 pub tid-probing : (b : Bool) (u t : ℕ) → has_tid (probing b u) t ≡ (u == t)
 unfolding has_tid
-tid-probing true u t = refl
-tid-probing false u t = refl
+tid-probing a u t = grind (arith, nat_tests)
 
 pub granted : (sh : Shape) (u : ℕ) (s : CoreState) → waits_for_tid s.phase ≡ true → Granted u (grant sh u s)
 unfolding grant waits_for_tid has_tid passes

@@ -1,7 +1,7 @@
 -- What a core's rules do to its requests for a TID.
-use Rattle.tcc_serial.proofs.Names.{ℕ, ◌+◌, ◌≡◌, Bool, true, false, None, IfSome, refl, inl, inr, Program, Outcome, Goes, num, any_below}
-use Rattle.tcc_serial.proofs.Names.{Vendor, Msg, Shape, CoreState, Phase, AwaitTid, DoomedTid, Overflowing, skip_all, probe_all, Out}
-use Rattle.tcc_serial.proofs.Names.{commit, committed_core, commit_sends, phase_after, solo_sends, core_exec, core_evict, grant}
+use Rattle.tcc_serial.proofs.Names.{arith, nat_tests, ℕ, ◌+◌, ◌≡◌, Bool, true, false, None, IfSome, refl, inl, inr, Program, Outcome, num}
+use Rattle.tcc_serial.proofs.Names.{any_below, Vendor, Msg, Shape, CoreState, Phase, AwaitTid, DoomedTid, Overflowing, skip_all, probe_all}
+use Rattle.tcc_serial.proofs.Names.{Out, commit, committed_core, commit_sends, phase_after, solo_sends, core_exec, core_evict, grant}
 use Rattle.tcc_serial.proofs.Names.{grant_phase, grant_sends, from_dir, probing, is_probed, among, passes, waits_for_tid, abort_written}
 use Rattle.tcc_serial.proofs.Names.{flushed, solo_commit}
 use Rattle.tcc_serial.specs.Count.{Asks}
@@ -17,8 +17,7 @@ KeepsRequests got s o = num (waits_for_tid s.phase) + among Asks (o.sends Vendor
 
 waits-after : (e : Outcome) → waits_for_tid (phase_after e) ≡ false
 unfolding waits_for_tid
-waits-after Goes = refl
-waits-after _ = refl
+waits-after a = grind (arith, nat_tests)
 
 requests-steady : (s : CoreState) (o : Out) → Steady s o → KeepsRequests 0 s o
 unfolding among
@@ -40,8 +39,7 @@ requests-evict sh x y s = each-evict sh x y s (λ o. KeepsRequests 0 s o) (λ k 
 
 waits-probing : (b : Bool) (u : ℕ) → waits_for_tid (probing b u) ≡ false
 unfolding waits_for_tid
-waits-probing true u = refl
-waits-probing false u = refl
+waits-probing a u = grind (arith, nat_tests)
 
 pub requests-grant : (sh : Shape) (u : ℕ) (s : CoreState) → waits_for_tid s.phase ≡ true → KeepsRequests 1 s (grant sh u s)
 unfolding grant waits_for_tid among grant_sends skip_all probe_all

@@ -22,15 +22,7 @@ KeepsPart sh d t got s o = got + num (opens s.phase (writes_at sh s.cache d) t) 
 -- where a core executes, its written directories don't matter
 opens-acts : (q : Phase) (a b : Bool) (t : ℕ) → (Acts q → ⊥) ⊎ Acts q → ((Acts q → ⊥) → a ≡ b) → opens q a t ≡ opens q b t
 unfolding opens
-opens-acts q a b t (inl h) e = ap (λ x. opens q x t) (e h)
-opens-acts Running a b t (inr h) e = refl
-opens-acts (Solo u) a b t (inr h) e = refl
-opens-acts AwaitTid a b t (inr h) e = refl
-opens-acts DoomedTid a b t (inr h) e = refl
-opens-acts (Probing u) a b t (inr h) e = absurd h
-opens-acts (Ready u) a b t (inr h) e = absurd h
-opens-acts (Overflowing u) a b t (inr h) e = absurd h
-opens-acts Halted a b t (inr h) e = refl
+opens-acts q a b t d e = grind (arith, nat_tests)
 
 acts : (q : Phase) → (Acts q → ⊥) ⊎ Acts q
 acts Running = inr tt
@@ -39,8 +31,7 @@ acts _ = inl (λ h. h)
 
 opens-after : (e : Outcome) (a : Bool) (t : ℕ) → opens (phase_after e) a t ≡ false
 unfolding opens
-opens-after Goes a t = refl
-opens-after _ a t = refl
+opens-after b a t = grind (arith, nat_tests)
 
 part-steady : (sh : Shape) (d t : ℕ) (s : CoreState) (o : Out) → Steady s o → KeepsPart sh d t 0 s o
 part-steady sh d t s o y = rw (y.phase, opens-acts s.phase (writes_at sh o.core.cache d) (writes_at sh s.cache d) t (acts s.phase) (λ h. writes_at-same sh o.core.cache s.cache d (y.modified h))) (omega (arith, among-quiet t (o.sends (Dir d)), y.quiet d))
@@ -65,8 +56,7 @@ part-evict sh x y d t s = each-evict sh x y s (λ o. KeepsPart sh d t 0 s o) (λ
 
 opens-probing : (b : Bool) (u : ℕ) (w : Bool) (t : ℕ) → opens (probing b u) w t ≡ ((u == t) && w)
 unfolding opens
-opens-probing true u w t = refl
-opens-probing false u w t = refl
+opens-probing a u w t = grind (arith, nat_tests)
 
 pub part-grant : (sh : Shape) (u d t : ℕ) (s : CoreState) → d < sh.dirs → waits_for_tid s.phase ≡ true → KeepsPart sh d t (num (u == t)) s (grant sh u s)
 unfolding grant waits_for_tid opens
@@ -99,14 +89,7 @@ part-replied sh e u d t s o (Left_alone ph ow ph' ow' mo se cm) = rw (ph, ph', s
 
 part-hurt : (sh : Shape) (d t : ℕ) (s r : CoreState) (sends : Sends) → d < sh.dirs → Hurt sh s r sends → num (opens s.phase (writes_at sh s.cache d) t) ≡ num (opens r.phase (writes_at sh r.cache d) t) + among (Resolves t) (sends (Dir d))
 unfolding among opens
-part-hurt sh d t s r sends l (Unhurt ph ow mo re sn) = rw (ph, sn (Dir d), writes_at-same sh r.cache s.cache d mo) (omega arith)
-part-hurt sh d t s r sends l (Rolled ph ph' ow sn) = rw (ph, ph', sn (Dir d)) refl
-part-hurt sh d t s r sends l (Doomed (inl ph) ph' ow sn) = rw (ph, ph', sn (Dir d)) refl
-part-hurt sh d t s r sends l (Doomed (inr ph) ph' ow sn) = rw (ph, ph', sn (Dir d)) refl
-part-hurt sh d t s r sends l (Aborted u (inl ph) ph' ow se) = rw (ph, ph', se) (omega (arith, resolves-abort_written sh s.cache u d t l))
-part-hurt sh d t s r sends l (Aborted u (inr ph) ph' ow se) = rw (ph, ph', se) (omega (arith, resolves-abort_written sh s.cache u d t l))
-part-hurt sh d t s r sends l (Gave_up u (inl ph) ph' ow se) = rw (ph, ph', se) (omega (arith, resolves-skip_all sh u d t l))
-part-hurt sh d t s r sends l (Gave_up u (inr ph) ph' ow se) = rw (ph, ph', se) (omega (arith, resolves-skip_all sh u d t l))
+part-hurt sh d t s r sends l a = grind (arith, nat_tests, writes_at-same, resolves-abort_written, resolves-skip_all)
 
 part-invalidated : (sh : Shape) (l d t : ℕ) (s : CoreState) (o : Out) → d < sh.dirs → Invalidated sh l s o → KeepsPart sh d t 0 s o
 unfolding among passes

@@ -1,8 +1,8 @@
 -- What a directory's rules do to the TIDs that it has handled.
-use Rattle.tcc_serial.proofs.Names.{ℕ, ◌+◌, ◌-◌, ◌≡◌, ◌<◌, ◌≤◌, Bool, true, false, ◌==◌, ◌||◌, nat_lt, if◌then◌else◌, arith, refl, ap}
-use Rattle.tcc_serial.proofs.Names.{nat_tests, num, count_below, has_mark, Serving, advance, kept, is_skipped, Msg, Skip, Commit, Abort}
-use Rattle.tcc_serial.proofs.Names.{Shape, lines, advance-rises, advance-past, advance-stops, advance-keeps, kept-skips, DirState, Answer}
-use Rattle.tcc_serial.proofs.Names.{Waits, Drops, Asks, Takes, dir_deliver, owed_by, Resolves, passes, handled}
+use Rattle.tcc_serial.proofs.Names.{ℕ, ◌+◌, ◌-◌, ◌≡◌, ◌<◌, ◌≤◌, Bool, true, false, ◌==◌, nat_lt, if◌then◌else◌, arith, refl, nat_tests, num}
+use Rattle.tcc_serial.proofs.Names.{count_below, has_mark, Serving, advance, kept, is_skipped, Msg, Skip, Commit, Abort, Shape, lines}
+use Rattle.tcc_serial.proofs.Names.{advance-rises, advance-past, advance-stops, advance-keeps, kept-skips, DirState, Answer, Waits, Drops}
+use Rattle.tcc_serial.proofs.Names.{Asks, Takes, dir_deliver, owed_by, Resolves, passes, handled}
 use Rattle.tcc_serial.proofs.Counts.DirOutcome.{Outcome, Waiting, Spent, TakesSkip, TakesAbort, TakesCommit, TakesAck, TakesCopy, IsSpent}
 use Rattle.tcc_serial.proofs.Counts.DirOutcome.{SkipPassed, AbortPassed, CopyPassed, outcome}
 use Rattle.tcc_serial.proofs.Counts.StepCases.{same}
@@ -20,14 +20,7 @@ advance-count s t = grind (arith, nat_tests, advance-rises, advance-past, advanc
 
 -- to keep a larger TID is to have handled it
 kept-count : (s : Serving) (t u : ℕ) → s.serving < u → is_skipped s u ≡ false → num (is_skipped (kept u s) t) ≡ num (is_skipped s t) + num (u == t)
-kept-count s t u l e = rw (kept-skips u s t l) (go (t == u) refl (u == t) refl (is_skipped s t) refl)
-  where
-    go : (a : Bool) → (t == u) ≡ a → (b : Bool) → (u == t) ≡ b → (x : Bool) → is_skipped s t ≡ x → num (a || x) ≡ num x + num b
-    go true p true q true r = let i : t ≡ u = grind (arith, nat_tests) in let j : is_skipped s t ≡ is_skipped s u = ap (is_skipped s) i in absurd (cc)
-    go true p true q false r = refl
-    go true p false q x r = absurd (grind (arith, nat_tests))
-    go false p true q x r = absurd (grind (arith, nat_tests))
-    go false p false q x r = omega arith
+kept-count s t u l e = grind (arith, nat_tests, kept-skips)
 
 -- what an answer makes of the TIDs handled, where none is handled and on its way at once
 abbrev pub HandledMore : DirState → Msg → (tid : ℕ) → DirState → Type 0
@@ -83,8 +76,7 @@ dir-handled sh s c m t = go (outcome sh s c m)
   where
     -- what is owed for a commit settles it
     settled : (b : Bool) (n : ℕ) → (n == 0) ≡ b → handled (if b then advance s.serving else s.serving) n t ≡ handled s.serving 0 t + num (s.serving.serving == t)
-    settled true n e = let z : n ≡ 0 = grind (arith, nat_tests) in rw z (moved_on-handled s.serving t)
-    settled false n e = owed-handled s.serving n t (grind (arith, nat_tests))
+    settled a n e = grind (arith, nat_tests, moved_on-handled, owed-handled)
 
     spent : {m : Msg} → IsSpent s c m → OnceAt s m → num (passes (Resolves t) m) ≡ 0
     spent (SkipPassed u l) h = absurd (passed_twice s (Skip u) u h (same u) l)

@@ -69,8 +69,7 @@ unfolding passes
 granted_waits v k u e r = go (waits_for_tid v.core.phase) refl (live-some AnyGrant v.grants k (TidGrant u) e)
   where
     go : (b : Bool) → waits_for_tid v.core.phase ≡ b → 1 ≤ live AnyGrant v.grants → waits_for_tid v.core.phase ≡ true
-    go true q l = q
-    go false q l = let z : num (waits_for_tid v.core.phase) ≡ 0 = rw q refl in absurd (omega arith)
+    go a q l = grind (arith, nat_tests)
 
 pub grant-kept : (sh : Shape) (w : World) (c k u : ℕ) → KeptTids sh w → in_flight w.net Vendor (Core c) k ≡ Some (TidGrant u) → KeptTids sh (core_takes w Vendor c k (grant sh u (w.cores c)))
 unfolding pair core_takes

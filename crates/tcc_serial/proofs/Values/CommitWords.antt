@@ -41,18 +41,7 @@ ready-word sh x id t s z = record {
 -- no message of the spilled lines is of this kind, and none of the marks is
 solo-none : (sh : Shape) (k : Kind) (c : Cache) (sp : Spilled) (t d : ℕ) → ((l : ℕ) → passes k (WriteBack l (spilled_mask sp l) (spilled_words sp l) t) ≡ false) → ((l m : ℕ) → passes k (Mark l m t) ≡ false) → ((n : ℕ) → passes k (Commit t n) ≡ false) → passes k (Skip t) ≡ false → among k (solo_sends sh c sp t (Dir d)) ≡ 0
 unfolding solo_sends solo_marks solo_backs among
-solo-none sh k c sp t d back mark sent skip = go (nat_lt d sh.dirs) (solo_writes_at sh c sp d)
-  where
-    backs : among k (flat_map (λ l. WriteBack l (spilled_mask sp l) (spilled_words sp l) t ∷ []) (those (λ l. d == home sh l && holds sp l) (lines sh))) ≡ 0
-    backs = among-flat_map_none k (λ l. WriteBack l (spilled_mask sp l) (spilled_words sp l) t ∷ []) (λ l. rw (back l) refl) (those (λ l. d == home sh l && holds sp l) (lines sh))
-
-    marks : among k (flat_map (λ l. Mark l (written_mask c sp l) t ∷ []) (those (λ l. d == home sh l && is_written c sp l) (lines sh))) ≡ 0
-    marks = among-flat_map_none k (λ l. Mark l (written_mask c sp l) t ∷ []) (λ l. rw (mark l (written_mask c sp l)) refl) (those (λ l. d == home sh l && is_written c sp l) (lines sh))
-
-    go : (b w : Bool) → among k (if b then (if w then flat_map (λ l. Mark l (written_mask c sp l) t ∷ []) (those (λ l. d == home sh l && is_written c sp l) (lines sh)) ++ Commit t (count_below (λ l. d == home sh l && is_written c sp l) (lines sh)) ∷ [] else Skip t ∷ []) ++ solo_backs sh sp t d else []) ≡ 0
-    go false w = refl
-    go true true = rw (among-append, among-append, backs, marks, sent (count_below (λ l. d == home sh l && is_written c sp l) (lines sh))) refl
-    go true false = rw (among-append, backs, skip) refl
+solo-none sh k c sp t d back mark sent skip = grind (arith, nat_tests, among-flat_map_none, among-append)
 
 -- the spilled words of a line at the word's place
 spilled-at : (sp : Spilled) (x : ℕ) → (has (spilled_mask sp (line_of x)) (place_of x) ≡ is_some (sp x)) × (get_or (spilled_words sp (line_of x)) (place_of x) 0 ≡ unwrap_or (sp x) 0)
@@ -60,20 +49,14 @@ unfolding spilled_mask spilled_words
 spilled-at sp x = (rw (at-place x) at (has-mask_of (λ k. is_some (sp (word_at (line_of x) k))) (place_of x) (omega arith)), rw (at-place x) at (get-eight (λ k. unwrap_or (sp (word_at (line_of x) k)) 0) (place_of x) (omega arith)))
 
 and-off : (a b : Bool) → b ≡ false → (a && b) ≡ false
-and-off true b e = e
-and-off false b e = refl
+and-off a b e = grind (arith, nat_tests)
 
 off-and : (a b : Bool) → a ≡ false → (a && b) ≡ false
-off-and true b e = absurd (cc)
-off-and false b e = refl
+off-and a b e = grind (arith, nat_tests)
 
 unhit : (sp : Spilled) (x l : ℕ) → sp x ≡ None → hit l (spilled_mask sp l) x ≡ false
 unfolding hit
-unhit sp x l z = go (l == line_of x) refl
-  where
-    go : (b : Bool) → (l == line_of x) ≡ b → (b && has (spilled_mask sp l) (place_of x)) ≡ false
-    go false q = refl
-    go true q = let e : l ≡ line_of x = grind (arith, nat_tests) in rw e ((spilled-at sp x).0 ∙ rw z refl)
+unhit sp x l z = grind (arith, nat_tests, spilled-at)
 
 unhit-line : (sp : Spilled) (x l : ℕ) → (l == line_of x) ≡ false → hit l (spilled_mask sp l) x ≡ false
 unfolding hit

@@ -48,13 +48,10 @@ words-back sh x e s m h = each-back sh e s (WordBack sh x s) go m
 
     -- a roll back takes modified words, and dirty words aren't modified
     unmodified : (k m : ℕ) (b : Bool) → s.cache.modified x ≡ b → is_some (s.cache.dirty x) ≡ true → (if b then None else (invalidated k m s.cache).value x) ≡ (invalidated k m s.cache).value x
-    unmodified k m false q d = refl
-    unmodified k m true q d = absurd (let z : s.cache.dirty x ≡ None = h.either x x refl q in let n : is_some (s.cache.dirty x) ≡ false = rw z refl in cc)
+    unmodified k m a q d = grind (arith, nat_tests)
 
     kept : (ws : List ℕ) (v : ℕ) (b : Bool) (o : Option ℕ) → is_some o ≡ true → (if b then Some (unwrap_or o (get_or ws (place_of v) 0)) else o) ≡ o
-    kept ws v true (Some y) e = refl
-    kept ws v true None e = absurd (cc)
-    kept ws v false o e = refl
+    kept ws v a o e = grind (arith, nat_tests)
 
     -- after an invalidation and perhaps a roll back
     hurt : (k m u : ℕ) (y : Heard sh e s) → (heard y).core.cache.dirty x ≡ (invalidated k m s.cache).dirty x → (is_some (s.cache.dirty x) ≡ true → (heard y).core.cache.value x ≡ (invalidated k m s.cache).value x) → ((t : ℕ) → among (CopyOf l t) ((heard y).sends (Dir (home sh l))) ≡ 0) → WordBack sh x s (Inv k m u) (heard y)

@@ -40,8 +40,7 @@ pub no-fill : (sh : Shape) (d l : ℕ) (v : Pair) → is_awaited v.core.awaited 
 no-fill sh d l v a h = let z : num (is_awaited v.core.awaited l && home sh l == d) ≡ 0 = rw a refl in omega (arith, h, z)
 
 stale-other : (l : ℕ) (a : Option Awaited) → is_stale (staled l a) ≡ false → is_awaited a l ≡ false
-stale-other l None h = refl
-stale-other l (Some a) h = grind (arith, nat_tests)
+stale-other l a h = grind (arith, nat_tests)
 
 -- an invalidation is taken
 pub held-invalid : (sh : Shape) (d x y k l m u : ℕ) (v : Pair) (o : Out) → get_or v.back k None ≡ Some (Inv l m u) → Invalidates l m v.core o → LoadingOf sh d (line_of x) v → HeldOf x y v → HeldOf x y (after_move (back_taken v k) o d)
@@ -94,8 +93,7 @@ held-filled sh d x y k l ws v o i f loading h = record { framed = λ z p q. fram
     one false = omega arith
 
     none : (a : Awaited) → v.core.awaited ≡ Some a → (a.line == l) ≡ true → (b : Bool) → (l == line_of x) ≡ b → live (FillOf (line_of x)) (set v.back k None) ≡ 0
-    none a e g true q = let z : num (l == line_of x) ≡ 1 = rw q refl in omega (arith, z, loading, one (is_awaited v.core.awaited (line_of x) && home sh (line_of x) == d), live-takes (FillOf (line_of x)) v.back k (Fill l ws) i)
-    none a e g false q = omega (arith, no-fill sh d (line_of x) v (awaits-other l x a v.core.awaited e g q) loading, live-takes (FillOf (line_of x)) v.back k (Fill l ws) i)
+    none a e g b q = grind (arith, nat_tests, live-takes, no-fill, awaits-other)
 
     filled : is_stale o.core.awaited ≡ false → ((a : Awaited) × (v.core.awaited ≡ Some a) × ((a.line == l) ≡ true)) ⊎ (o.core.awaited ≡ v.core.awaited) → (live (FillNot x y) (set v.back k None) ≡ 0) ⊎ (1 ≤ live (InvWord x) (set v.back k None))
     filled p (inl a) = inl (omega (arith, none a.0 (a.1) (a.2) (l == line_of x) refl, few-not x y (set v.back k None)))

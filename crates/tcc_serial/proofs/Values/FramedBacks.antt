@@ -42,12 +42,7 @@ fades-rolled c d x h y = go (d.modified x) refl
     go false q e f = h y e q
 
 staled-fresh : (l : ℕ) (a : Option Awaited) → is_stale (staled l a) ≡ false → is_stale a ≡ false
-staled-fresh l None h = refl
-staled-fresh l (Some a) h = go (a.line == l) h
-  where
-    go : (b : Bool) → (b || a.stale) ≡ false → a.stale ≡ false
-    go true q = absurd (true≢false q)
-    go false q = q
+staled-fresh l a h = grind (arith, nat_tests)
 
 -- what an invalidation does: its words have no valid copy that isn't modified, and an awaited line of its line is stale
 pub record Invalidates (l m : ℕ) (s : CoreState) (o : Out) : Type 0 where

@@ -1,26 +1,26 @@
 -- Each event keeps that words in frames and Fills have their values, or are invalidated.
-use Rattle.tcc_serial.proofs.Names.{ℕ, ◌≡◌, ◌<◌, ◌≤◌, ◌⊎◌, Bool, true, false, ◌==◌, ◌||◌, ◌++◌, List, Contains, Option, Some, None, IfSome}
-use Rattle.tcc_serial.proofs.Names.{is_some, nat_lt, get_or, arith, refl, sym, ap, subst, ◌∙◌, inl, inr, nat_tests, Noted, Plain, Local}
-use Rattle.tcc_serial.proofs.Names.{Program, line_of, Core, Dir, Vendor, Msg, LoadReq, Fill, Commit, Event, Shape, home, Awaited, CoreState}
+use Rattle.tcc_serial.proofs.Names.{ℕ, ◌≡◌, ◌<◌, ◌≤◌, ◌⊎◌, Bool, true, false, ◌==◌, ◌||◌, ◌++◌, List, Option, Some, None, IfSome, is_some}
+use Rattle.tcc_serial.proofs.Names.{nat_lt, get_or, arith, refl, sym, ap, subst, ◌∙◌, inl, inr, nat_tests, Noted, Plain, Local, Program}
+use Rattle.tcc_serial.proofs.Names.{line_of, Core, Dir, Vendor, Msg, LoadReq, Fill, Commit, Event, Shape, home, Awaited, CoreState}
 use Rattle.tcc_serial.proofs.Names.{DirState, Phase, Ready, Solo, World, Out, is_solo, noted, from_dir, grant, core_evict, is_awaited}
 use Rattle.tcc_serial.proofs.Names.{core_exec, dir_deliver, in_flight, History, Stepped, step, next, recorded, and_noted, insert_commit}
 use Rattle.tcc_serial.proofs.Names.{core_moves, core_takes, Uses, sees, Suits, LoadingOf, LinesAway, LoadOf, InvWord, Commits, live, passes}
 use Rattle.tcc_serial.proofs.Names.{Carried, Invariants, executes, Grant, granted_by, Pair, pair, after_move, back_taken, grant_taken}
 use Rattle.tcc_serial.proofs.Names.{after_grant, after_other_grant, is_applied, CommitsStand, stores_word, after_stores, counts, value_at}
-use Rattle.tcc_serial.proofs.Names.{UnmodifiedWords, FilledWords, Ways, ways_after, sent_by}
+use Rattle.tcc_serial.proofs.Names.{UnmodifiedWords, FilledWords, Ways, ways_after, sent_by, Contains}
 use Rattle.tcc_serial.specs.KeepsWords.{EventsKeepWords}
 use Rattle.tcc_serial.proofs.Counts.StepCases.{either, moves-own, moves-other, pairs_move, pairs_grant, pairs_back, pairs_vendor, OfAnswer}
 use Rattle.tcc_serial.proofs.Counts.StepCases.{node_cases}
 use Rattle.tcc_serial.proofs.Lines.LoadsKept.{dir-fills}
-use Rattle.tcc_serial.proofs.Order.SerialSteps.{Stand, stand}
-use Rattle.tcc_serial.proofs.Tids.TidSteps.{live-some}
 use Rattle.tcc_serial.proofs.Values.CoresKeepFramed.{no-fill, held-fades, held-quietly, held-invalid, held-filled, held-elsewhere}
 use Rattle.tcc_serial.proofs.Values.DirsKeepFramed.{answered-quietly, answered-load}
 use Rattle.tcc_serial.proofs.Values.FramedBacks.{Coming, Quiet, Takes, Brings, Rests, comes-back, fading-grant}
 use Rattle.tcc_serial.proofs.Values.FramedCores.{Closing, Framing, Stays, Closes, fades-same, fading, framing-exec, fading-evict}
 use Rattle.tcc_serial.proofs.Values.FramedWords.{HeldOf, HeldAt, KeptHeld, few-not, load-home, answered-commit, commit-invalidates}
-use Rattle.tcc_serial.proofs.Values.ModifiedWords.{Serves, stored-served, stored-seen}
+use Rattle.tcc_serial.proofs.Values.ModifiedWords.{stored-served, stored-seen, Serves}
 use Rattle.tcc_serial.proofs.Values.ValueAt.{IsSilent, with_commit, value-skip, value-insert}
+use Rattle.tcc_serial.proofs.Order.SerialSteps.{Stand, stand}
+use Rattle.tcc_serial.proofs.Tids.TidSteps.{live-some}
 
 -- a core commits
 
@@ -49,9 +49,7 @@ stores-not m o b e f g = sym e ∙ rw (f, g) refl
 
 -- nothing is awaited in the phases in which a core commits
 rests-none : (t : ℕ) (q : Phase) (a : Option Awaited) → (q ≡ Ready t) ⊎ (q ≡ Solo t) → (is_solo q ≡ true → a ≡ None) → ((w : Awaited) → a ≡ Some w → executes q ≡ true) → a ≡ None
-rests-none t q None m f g = refl
-rests-none t q (Some w) (inl e) f g = absurd (let z = g w refl in let y : executes q ≡ false = rw e refl in cc)
-rests-none t q (Some w) (inr e) f g = f (rw e refl)
+rests-none t q a m f g = grind (arith, nat_tests)
 
 -- a later commit makes nothing of a word at a home that hasn't come to it, unless it is the core's
 counts-later : (s : DirState) (c t : ℕ) (n : Noted) → s.serving.serving ≡ t → t < n.tid.0 → (n.core.0 ≡ c → ⊥) → counts s (Some c) None n ≡ false

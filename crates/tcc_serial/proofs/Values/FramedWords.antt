@@ -7,7 +7,7 @@ use Rattle.tcc_serial.proofs.Names.{stores_at, stores_word, counts, value_at, is
 use Rattle.tcc_serial.proofs.Names.{if◌then◌else◌, ap, subst, ◌∙◌, eight, has_mark, with_asked, Fill, DataReq, in_flight, Sends, to, Answer}
 use Rattle.tcc_serial.proofs.Names.{Waits, Drops, Asks, Takes, ask_owner, line_words, load_owned, load_request, dir_takes, dir_asks, ◌+◌}
 use Rattle.tcc_serial.proofs.Names.{cond, nat_lt, flat_map, sym, cases_eq, flat_map-append, those, count_below, Lines, has, hit, mask_of}
-use Rattle.tcc_serial.proofs.Names.{Commit, Inv, lines, has-mask_of, Awaited, is_awaited, settled, owned, owed_by, invalidations, invs_to}
+use Rattle.tcc_serial.proofs.Names.{Commit, Inv, lines, has-mask_of, Awaited, settled, owned, owed_by, invalidations, invs_to}
 use Rattle.tcc_serial.proofs.Names.{is_invalidated, CommitsAreServed, KeptLoading, KeptSharers, CommitsLine, SharerOf, holds_line, is_fresh}
 use Rattle.tcc_serial.proofs.Names.{Kind, LoadOf, KeptCounted, IsRising, stores_in, stored_mask, SettledCommit, KeptStored}
 use Rattle.tcc_rules.specs.DirDeliver.{commit}
@@ -100,8 +100,7 @@ pub value-stays : (sh : Shape) (ram : ℕ → ℕ) (w v : World) (cs : List Note
 value-stays sh ram w v cs d c x inside before after dl e steady = value-alike sh.base ram cs (v.dirs d) c None (w.dirs d) c None x (λ n k. alike n k (stores_word sh.base n.stores x) refl)
   where
     same : (n : Noted) → Contains cs n → stores_at sh d n.stores ≡ true → IsSteady w v d c n → counts (v.dirs d) c None n ≡ counts (w.dirs d) c None n
-    same n k s (inl t) = counts-own (w.dirs d) (v.dirs d) c n t
-    same n k s (inr q) = counts-applied (w.dirs d) (v.dirs d) c n (num-same (is_applied (v.dirs d) n.tid.0) (is_applied (w.dirs d) n.tid.0) (omega (arith, q, before n d k dl s, after n d k dl s)))
+    same n k s a = grind (arith, nat_tests, counts-own, counts-applied, num-same)
 
     alike : (n : Noted) → Contains cs n → (b : Bool) → stores_word sh.base n.stores x ≡ b → IsAlike sh.base (v.dirs d) c None (w.dirs d) c None x n
     alike n k false s = inr s
@@ -113,8 +112,7 @@ value-stays sh ram w v cs d c x inside before after dl e steady = value-alike sh
 -- one word of a list of eight
 get_or-eight : (f : ℕ → ℕ) (k : ℕ) → k < 8 → get_or (eight f) k 0 ≡ f k
 unfolding eight
-get_or-eight f (suc (suc (suc (suc (suc (suc (suc (suc k)))))))) h = absurd (omega arith)
-get_or-eight f _ h = refl
+get_or-eight f a h = grind (arith, nat_tests)
 
 -- a Fill of a line of no owner, whose words are those at home; the core's last commit there is passed
 pub record Filling (l a : ℕ) (s new : DirState) (ms : List Msg) : Type 0 where
@@ -130,14 +128,7 @@ FillsHome c l a s _ = Unit {0}
 
 filled-word : (s : DirState) (l x y : ℕ) → (l ≡ line_of x → s.words x ≡ y) → (l == line_of x && not (get_or (line_words s l) (place_of x) 0 == y)) ≡ false
 unfolding line_words
-filled-word s l x y e = go (l == line_of x) refl
-  where
-    go : (b : Bool) → (l == line_of x) ≡ b → (b && not (get_or (eight (λ k. s.words (word_at l k))) (place_of x) 0 == y)) ≡ false
-    go false q = refl
-    go true q =
-        let i : word_at l (place_of x) ≡ x = grind (arith, nat_tests) in
-        let w : get_or (eight (λ k. s.words (word_at l k))) (place_of x) 0 ≡ y = get_or-eight (λ k. s.words (word_at l k)) (place_of x) (omega arith) ∙ ap s.words i ∙ e (grind (arith, nat_tests)) in
-        grind (arith, nat_tests)
+filled-word s l x y e = grind (arith, nat_tests, s.words, get_or-eight)
 
 owner-home : (o c l a : ℕ) (s : DirState) → FillsHome c l a s (ask_owner o l s)
 unfolding ask_owner
@@ -258,8 +249,7 @@ idle sh w cs j d l loading shares s n = split (keeps_unmodified (w.cores j).cach
     told h = elim (shares.shares h) [ inl e ↦ absurd (cc) | inr k ↦ n k ]
 
     none : (a : Option Awaited) → (w.cores j).awaited ≡ a → (is_fresh a && nat_lt 0 (live (FillOf l) (w.net (Dir d) (Core j)))) ≡ false → is_stale a ≡ false → live (FillOf l) (w.net (Dir d) (Core j)) ≡ 0
-    none None e f q = let z : num (is_awaited (w.cores j).awaited l && home sh l == d) ≡ 0 = rw e refl in omega (arith, loading j d l, z)
-    none (Some a) e f q = grind (arith, nat_tests)
+    none a e f q = grind (arith, nat_tests)
 
     split : (a b : Bool) → keeps_unmodified (w.cores j).cache l ≡ a → (is_fresh (w.cores j).awaited && nat_lt 0 (live (FillOf l) (w.net (Dir d) (Core j)))) ≡ b → (keeps_unmodified (w.cores j).cache l ≡ false) × (is_stale (w.cores j).awaited ≡ false → live (FillOf l) (w.net (Dir d) (Core j)) ≡ 0)
     split true b p q = absurd (told (rw p refl))

@@ -20,7 +20,7 @@ use Rattle.tcc_serial.proofs.Values.CoreWords.{Uncommitted, Quietly, words-exec,
 use Rattle.tcc_serial.proofs.Values.CoreWordsTakes.{WordBack, words-grant, words-back}
 use Rattle.tcc_serial.proofs.Values.DirWords.{dir-words}
 use Rattle.tcc_serial.proofs.Values.FramedCores.{Closing, Framing, Stays, Closes, framing-exec}
-use Rattle.tcc_serial.proofs.Values.FramedSteps.{seen-framed, value-own, value-else}
+use Rattle.tcc_serial.proofs.Values.FramedSteps.{value-own, value-else}
 use Rattle.tcc_serial.proofs.Values.HomesAnswered.{answered, granted, known}
 use Rattle.tcc_serial.proofs.Values.ModifiedWords.{Serves, stored-served, stored-seen, times-listed}
 use Rattle.tcc_serial.proofs.Values.SeenWords.{wrote-none, unwritten-none}
@@ -63,8 +63,7 @@ stored-others sh x d g u o v w m z n = record {
 }
   where
     clean : (k : Option ℕ) → o.core.cache.dirty x ≡ k → num (is_this k g) ≡ 0
-    clean None q = refl
-    clean (Some k) q = grind (arith, nat_tests)
+    clean a q = grind (arith, nat_tests)
 
 -- and new ones of the commit, as the core sees it
 new-copies : (sh : Shape) (x d u y : ℕ) (ram : ℕ → ℕ) (o : Out) (v : Pair) → CommitsWord sh x u v.core.cache v.core.spilled o → (v.core.cache.modified x || is_some (v.core.spilled x)) ≡ true → (v.core.cache.modified x ≡ true → is_some (v.core.cache.value x) ≡ true) → word_copies x u v ≡ 0 → sees v.core ram x ≡ y → CopiesHave x u y (after_move v o d)
@@ -75,16 +74,13 @@ new-copies sh x d u y ram o v w m valid none s = record {
 }
   where
     spilled : (k : Option ℕ) → v.core.spilled x ≡ k → unwrap_or k y ≡ y
-    spilled None q = refl
-    spilled (Some k) q = rw q at s
+    spilled a q = grind (arith, nat_tests)
 
     modified : (b : Bool) (k : Option ℕ) → (b || is_some k) ≡ true → k ≡ None → b ≡ true
-    modified true k e q = refl
-    modified false _ e q = absurd (cc)
+    modified a k e q = grind (arith, nat_tests)
 
     framed : (k : Option ℕ) → v.core.cache.value x ≡ k → v.core.spilled x ≡ None → k ≡ Some y
-    framed None q z = absurd (let i = valid (modified (v.core.cache.modified x) (v.core.spilled x) m z) in let j : is_some (v.core.cache.value x) ≡ false = rw q refl in cc)
-    framed (Some k) q z = ap (λ i. Some i) (sym (seen-framed v.core ram x k z (modified (v.core.cache.modified x) (v.core.spilled x) m z) q) ∙ s)
+    framed a q z = grind (arith, nat_tests)
 
 -- a commit that isn't applied counts for no home
 counts-none : (s : DirState) (c t : ℕ) (r : CoreState) → s.serving.serving ≡ t → s.owed ≡ 0 → counts s None None (noted t c r) ≡ false
@@ -172,9 +168,7 @@ commit-keeps sh p entries ram gs ys views m h c o u k l g f = subst (λ q. KeptV
         named = k.carried.stored_words_are_those_named c x ∙ q
 
         clean : (b : Bool) → s.cache.modified x ≡ b → (z : Option ℕ) → s.spilled x ≡ z → (b || is_some z) ≡ true → s.cache.dirty x ≡ None
-        clean b r (Some y) z e = (k.carried.spilled_line_is_clean_in_its_frame c x x refl (rw z refl)).1
-        clean true r None z e = (k.carried.modified_and_dirty_words_are_valid_and_apart c).either x x refl r
-        clean false r None z e = absurd (cc)
+        clean b r a z e = grind (arith, nat_tests)
 
         others : (t : ℕ) → (g.tid ≡ t → ⊥) → Others x t (pair w c d) (after_move (pair w c d) o d)
         others t n = stored-others sh x d t g.tid o (pair w c d) (word x) named (clean (s.cache.modified x) refl (s.spilled x) refl named) n

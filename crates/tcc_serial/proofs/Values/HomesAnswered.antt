@@ -3,7 +3,7 @@ use Rattle.tcc_serial.proofs.Names.{ℕ, ◌+◌, ◌≡◌, ◌<◌, ◌≤◌,
 use Rattle.tcc_serial.proofs.Names.{Some, None, if◌then◌else◌, arith, refl, ap, sym, ◌∙◌, inl, inr, cases_eq, cases_lt, nat_tests, Noted}
 use Rattle.tcc_serial.proofs.Names.{Stored, num, count_below, line_of, place_of, word_at, has_mark, has, full, mask_of, Core, Dir, Msg}
 use Rattle.tcc_serial.proofs.Names.{Shape, home, lines, has-mask_of, World, in_flight, History, copies_with, AboveOf, Commits, CommitOf}
-use Rattle.tcc_serial.proofs.Names.{CopyOf, CopyWord, CopyNot, live, passes, pair, is_applied, is_this, MarkedCommit, stores_at, stores_in}
+use Rattle.tcc_serial.proofs.Names.{CopyOf, CopyWord, CopyNot, live, passes, pair, is_applied, MarkedCommit, stores_at, stores_in}
 use Rattle.tcc_serial.proofs.Names.{stored_mask, stores_word, counts, word_copies, CopiesHave, names_line, wrote, wrote_line, wrote_mask}
 use Rattle.tcc_serial.proofs.Names.{[], subst, Plain, Program, Local, DirState, Sends, Answer, Waits, Drops, Asks, Takes, dir_takes}
 use Rattle.tcc_serial.proofs.Names.{dir_asks, vendor_gives, Uses, Invariants, Grant, CommitsStand, Ways}
@@ -20,10 +20,10 @@ use Rattle.tcc_serial.proofs.Memory.MemorySends.{line-has}
 use Rattle.tcc_serial.proofs.Tids.TidSteps.{live-some}
 use Rattle.tcc_serial.proofs.Values.DirWords.{HomeBy, Left, Home, WordsBy}
 use Rattle.tcc_serial.proofs.Values.ValueAt.{value-alike, rising-above}
-use Rattle.tcc_serial.proofs.Values.WordCopies.{none-copied, few-copies, copy-has, word-line}
-use Rattle.tcc_serial.proofs.Values.WordValues.{Known, Answers, unconsumed, value_of, tag_of, ValuesAt, have-still, same-copies}
-use Rattle.tcc_serial.proofs.Values.WordValues.{SameCommits, same-value, stored-at-home, quiet-keep, taken-values, dropped-values}
-use Rattle.tcc_serial.proofs.Values.WordValues.{away-values, KeptValues, values-of, same-values}
+use Rattle.tcc_serial.proofs.Values.WordCopies.{none-copied, copy-has, word-line, few-copies}
+use Rattle.tcc_serial.proofs.Values.WordValues.{Known, Answers, unconsumed, value_of, tag_of, ValuesAt, have-still, same-value}
+use Rattle.tcc_serial.proofs.Values.WordValues.{stored-at-home, quiet-keep, taken-values, dropped-values, away-values, KeptValues}
+use Rattle.tcc_serial.proofs.Values.WordValues.{values-of, same-values, SameCommits, same-copies}
 
 -- A Commit that a directory handles keeps the values of each word: its core's copies have the stored words as they are from now on for
 -- all, and the words of a marked line that it didn't store are at home.
@@ -88,13 +88,7 @@ applied-after sh ram h c d k m v s y i t = go (c == y.core.0) refl
     net = s.answers.net (Commits y.tid.0) y.core.0 d
 
     gone : c ≡ y.core.0 → (b : Bool) → (u == y.tid.0) ≡ b → after ≡ 0
-    gone e true q =
-        let p : passes (Commits y.tid.0) m ≡ true = commit-passes sh (h.world.dirs d) m y.tid.0 s.counts ∙ q in
-        let z : (y.core.0 == c) ≡ true = grind (arith, nat_tests) in
-        let w : (d == d) ≡ true = grind (arith, nat_tests) in
-        let o : num ((y.core.0 == c && d == d) && passes (Commits y.tid.0) m) ≡ 1 = rw (z, w, p) refl in
-        omega (arith, o, net, one)
-    gone e false q = grind (arith, nat_tests)
+    gone e a q = grind (arith, nat_tests, commit-passes)
 
     go : (b : Bool) → (c == y.core.0) ≡ b → is_applied (v.dirs d) y.tid.0 ≡ (b || is_applied (h.world.dirs d) y.tid.0)
     go true q = let e : c ≡ y.core.0 = grind (arith, nat_tests) in num-same (is_applied (v.dirs d) y.tid.0) true (omega (arith, then-one, gone e (u == y.tid.0) refl))
@@ -147,8 +141,7 @@ unmarked-values sh ram h c d k x m v s e t r = quiet-keep sh ram h.world v h.com
     g = tag_of h.world d x
 
     no-word : (b : Bool) → passes (CopyWord x g) m ≡ b → b ≡ false
-    no-word false q = refl
-    no-word true q = absurd (let o : num (passes (CopyWord x g) m) ≡ 1 = ap num q in let z : num (passes (CopyOf (line_of x) g) m) ≡ 0 = ap num (s.copies (line_of x) g) in omega (arith, o, z, word-line x g m))
+    no-word a q = grind (arith, nat_tests, word-line)
 
     unstored : (b : Bool) → stores_word sh.base t.settled.commit.stores x ≡ b → b ≡ false
     unstored false q = refl
@@ -180,16 +173,7 @@ full-has k i = has-mask_of (λ j. true) k i
 
 -- nothing is owed while the Commit is in flight
 unowed : (sh : Shape) (ram : ℕ → ℕ) (h : History) (c d : ℕ) → Known sh ram h → d < sh.dirs → TakenCommit sh h.commits h.world c d → (h.world.dirs d).owed ≡ 0
-unowed sh ram h c d b dl t = go (cases_lt 0 (h.world.dirs d).owed)
-  where
-    go : (0 < (h.world.dirs d).owed) ⊎ ((h.world.dirs d).owed ≤ 0) → (h.world.dirs d).owed ≡ 0
-    go (inr l) = omega (arith, l)
-    go (inl l) = absurd (
-        let n = t.settled.commit in
-        let a : num (is_applied (h.world.dirs d) n.tid.0) ≡ 1 = ap num (applied-owed (h.world.dirs d) n.tid.0 (t.settled.tid) (omega (arith, l))) in
-        let s : live (Commits n.tid.0) (h.world.net (Core n.core.0) (Dir d)) + num (is_applied (h.world.dirs d) n.tid.0) ≡ 1 = b.stand n d (t.settled.noted) dl (t.settled.stored) in
-        let z : 1 ≤ live (Commits n.tid.0) (h.world.net (Core n.core.0) (Dir d)) = rw (t.settled.tid, t.core) (t.sent) in
-        omega (arith, a, s, z))
+unowed sh ram h c d b dl t = grind (arith, nat_tests, t.settled.commit, applied-owed, b.stand, t.settled.noted, t.settled.stored, t.sent)
 
 -- a word that the commit didn't store has no copy with the line's old tag
 none-old : (sh : Shape) (ram : ℕ → ℕ) (h : History) (c d j x : ℕ) → Known sh ram h → j < sh.cores → d < sh.dirs → home sh (line_of x) ≡ d → (t : TakenCommit sh h.commits h.world c d) → line_of x < lines sh → has_mark (h.world.dirs d).lines (line_of x) ≡ true → stores_word sh.base t.settled.commit.stores x ≡ false → word_copies x (tag_of h.world d x) (pair h.world j d) ≡ 0
@@ -214,8 +198,7 @@ none-old sh ram h c d j x b jl dl e t i r q = go (b.whole d (line_of x) (unowed 
         omega (arith, o, z, few-copies sh x (tag_of h.world d x) (pair h.world j d) (b.caches j))
 
 cond-zero : (b : Bool) (n : ℕ) → n ≡ 0 → cond b n 0 ≡ 0
-cond-zero true n e = e
-cond-zero false n e = refl
+cond-zero a n e = grind (arith, nat_tests)
 
 marked-values : (sh : Shape) (ram : ℕ → ℕ) (h : History) (c d k x : ℕ) (m : Msg) (v : World) → Settled sh ram h c d k m v → home sh (line_of x) ≡ d → TakenCommit sh h.commits h.world c d → has_mark (h.world.dirs d).lines (line_of x) ≡ true → ValuesAt sh ram v h.commits d x
 unfolding pair

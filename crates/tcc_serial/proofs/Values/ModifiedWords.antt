@@ -1,11 +1,10 @@
 -- What a core that may commit has made of a word: its stores over the word as the core sees it.
-use Rattle.tcc_serial.proofs.Names.{ℕ, zero, suc, ◌+◌, ◌≡◌, ◌<◌, ◌≤◌, ◌⊎◌, Bool, true, false, ◌==◌, ◌&&◌, ◌||◌, List, [], ◌∷◌, map, length}
-use Rattle.tcc_serial.proofs.Names.{slice_index_or, Contains, Option, Some, None, IfSome, IsSomeAnd, is_some, nat_lt, arith, refl, sym, ap}
-use Rattle.tcc_serial.proofs.Names.{subst, ◌∙◌, inl, inr, true≢false, cases_eq, cases_lt, nat_tests, Noted, order_of_commit, Attempt, Plain}
-use Rattle.tcc_serial.proofs.Names.{serial, begun, steps, Local, Program, num, line_of, writes_at, Shape, home, CoreState, DirState, Phase}
-use Rattle.tcc_serial.proofs.Names.{Ready, Solo, Halted, is_solo, History, Uses, Agrees, Reaches, sees, Suits, MarkedAtHomes, plain_start}
-use Rattle.tcc_serial.proofs.Names.{Invariants, Grant, times, pair, is_applied, opens, stores_word, IsMemory, after_stores, counts}
-use Rattle.tcc_serial.proofs.Names.{value_at, Settled, Ways}
+use Rattle.tcc_serial.proofs.Names.{ℕ, suc, ◌+◌, ◌≡◌, ◌<◌, ◌≤◌, ◌⊎◌, Bool, true, false, ◌==◌, ◌||◌, List, [], ◌∷◌, map, length}
+use Rattle.tcc_serial.proofs.Names.{slice_index_or, Contains, Option, Some, None, IfSome, IsSomeAnd, is_some, arith, sym, subst, ◌∙◌, inl}
+use Rattle.tcc_serial.proofs.Names.{inr, cases_eq, cases_lt, nat_tests, Noted, order_of_commit, Attempt, Plain, serial, begun, steps, Local}
+use Rattle.tcc_serial.proofs.Names.{Program, num, line_of, writes_at, Shape, home, CoreState, DirState, Phase, Ready, Solo, Halted, is_solo}
+use Rattle.tcc_serial.proofs.Names.{History, Uses, Agrees, Reaches, sees, Suits, MarkedAtHomes, plain_start, Invariants, Grant, times, pair}
+use Rattle.tcc_serial.proofs.Names.{is_applied, opens, stores_word, IsMemory, after_stores, counts, value_at, Settled, Ways, ap}
 use Rattle.tcc_serial.proofs.Memory.MemorySends.{marks_at_homes}
 use Rattle.tcc_serial.proofs.OneCore.SoundAttempts.{follows-in}
 use Rattle.tcc_serial.proofs.Order.InsertedOrders.{serial-memory}
@@ -17,13 +16,11 @@ use Rattle.tcc_serial.proofs.Values.ValueAt.{value-alike}
 -- the home of a word that the core stored serves its TID, and is owed nothing
 opens-may : (t : ℕ) (q : Phase) (b : Bool) → May t q → (is_solo q ≡ false → b ≡ true) → opens q b t ≡ true
 unfolding opens
-opens-may t q b (inl e) h = rw (e, h (rw e refl)) (grind (arith, nat_tests))
-opens-may t q b (inr e) h = rw e (grind (arith, nat_tests))
+opens-may t q b a h = grind (arith, nat_tests)
 
 -- a stored word is modified, unless the core is alone
 stored-modified : (m : Bool) (o : Option ℕ) (b : Bool) → (m || is_some o) ≡ b → b ≡ true → o ≡ None → m ≡ true
-stored-modified true o b e f g = refl
-stored-modified false o b e f g = absurd (true≢false (sym f ∙ sym e ∙ rw g refl))
+stored-modified a o b e f g = grind (arith, nat_tests)
 
 pub record Serves (sh : Shape) (h : History) (c t x : ℕ) : Type 0 where
   pub serving : (h.world.dirs (home sh (line_of x))).serving.serving ≡ t
@@ -64,21 +61,12 @@ times-listed t [] n k e = absurd (omega (arith, k.1))
 times-listed t (x ∷ cs) n k e = go k.0 (k.1) (k.2) (λ j. times-listed t cs n j e)
   where
     go : (i : ℕ) → i < suc (length cs) → slice_index_or (x ∷ cs) i n ≡ n → (Contains cs n → 1 ≤ times t cs) → 1 ≤ num (x.tid.0 == t) + times t cs
-    go zero l q f = let a : x.tid.0 ≡ n.tid.0 = ap (λ z. z.tid.0) q in let b : (x.tid.0 == t) ≡ true = grind (arith, nat_tests) in rw b (omega arith)
-    go (suc i) l q f = omega (arith, f (i, omega (arith, l), q))
+    go a l q f = grind (arith, nat_tests)
 
 -- its value for the core is that at its TID
 counts-until : (s : DirState) (c t : ℕ) (n : Noted) → s.serving.serving ≡ t → s.owed ≡ 0 → (n.core.0 ≡ c → n.tid.0 < t) → counts s (Some c) (Some t) n ≡ counts s (Some c) None n
 unfolding counts is_applied
-counts-until s c t n e z own = go (nat_lt n.tid.0 t) refl (c == n.core.0) refl
-  where
-    late : nat_lt n.tid.0 t ≡ false → (nat_lt n.tid.0 s.serving.serving || (n.tid.0 == s.serving.serving && nat_lt 0 s.owed)) ≡ false
-    late q = rw (e, q, z) ((elim (n.tid.0 == t) as (λ b. (b && false) ≡ false) [ true ↦ refl | false ↦ refl ]))
-
-    go : (b : Bool) → nat_lt n.tid.0 t ≡ b → (a : Bool) → (c == n.core.0) ≡ a → (b && (a || (nat_lt n.tid.0 s.serving.serving || (n.tid.0 == s.serving.serving && nat_lt 0 s.owed)))) ≡ (a || (nat_lt n.tid.0 s.serving.serving || (n.tid.0 == s.serving.serving && nat_lt 0 s.owed)))
-    go true q a r = refl
-    go false q false r = sym (late q)
-    go false q true r = absurd (let i : n.core.0 ≡ c = grind (arith, nat_tests) in let o : n.tid.0 < t = own i in grind (arith, nat_tests))
+counts-until s c t n e z own = grind (arith, nat_tests)
 
 -- A word that the core stored is, in its frame or spilled, what the stores make of the value that the core sees: sees takes no other
 -- memory for it.

@@ -46,10 +46,7 @@ newest-top t y a (b ∷ bs) h l e = go (b.tag == t) refl (nat_le a.tag b.tag) re
     new q p (inr k) = inr (more q k)
 
     go : (f : Bool) → (b.tag == t) ≡ f → (g : Bool) → nat_le a.tag b.tag ≡ g → ((c : Copy) → c.tag ≤ t → ((c.tag ≡ t) × (c.value ≡ y)) ⊎ (1 ≤ tagged t bs) → (newest c bs).value ≡ y) → (newest (if g then b else a) bs).value ≡ y
-    go true q true p rest = let i : b.tag ≡ t = grind (arith, nat_tests) in rest b below (inl (i, h.1 i))
-    go true q false p rest = absurd (let i : b.tag ≡ t = grind (arith, nat_tests) in grind (arith, nat_tests))
-    go false q true p rest = rest b below (new q p e)
-    go false q false p rest = rest a l (old q e)
+    go a q b p rest = grind (arith, nat_tests)
 
 -- the copies of one core
 
@@ -62,8 +59,7 @@ one-copy x t y k n ws g true e f z =
     ((low (nat_le g t) refl, has, tt), omega arith)
   where
     low : (c : Bool) → nat_le g t ≡ c → g ≤ t
-    low true q = grind (arith, nat_tests)
-    low false q = absurd (let l : t < g = grind (arith, nat_tests) in let i : (g == g) ≡ true = grind (arith, nat_tests) in let o : num (true && (g == g)) ≡ 1 = rw i refl in omega (arith, f l, o))
+    low a q = grind (arith, nat_tests)
 
 on-way : (x t y : ℕ) (m : Msg) → ((g : ℕ) → t < g → num (passes (CopyWord x g) m) ≡ 0) → num (passes (CopyNot x t y) m) ≡ 0 → Top t y (copy_of x m) × (tagged t (copy_of x m) ≡ num (passes (CopyWord x t) m))
 unfolding passes Top tagged
@@ -110,8 +106,7 @@ all-tagged t f zero c l = absurd (omega (arith, l))
 all-tagged t f (suc n) c l = rw flat_map-append (go (c == n) refl (λ m. all-tagged t f n c m))
   where
     go : (b : Bool) → (c == n) ≡ b → (c < n → tagged t (f c) ≤ tagged t (flat_map f (numbers n))) → tagged t (f c) ≤ tagged t (flat_map f (numbers n) ++ (f n ++ []))
-    go true q r = let e : c ≡ n = grind (arith, nat_tests) in rw e (omega (arith, tagged-append t (flat_map f (numbers n)) (f n ++ []), tagged-append t (f n) []))
-    go false q r = let m : c < n = grind (arith, nat_tests) in omega (arith, tagged-append t (flat_map f (numbers n)) (f n ++ []), r m)
+    go a q r = grind (arith, nat_tests, tagged-append)
 
 -- The greatest tag of a word and its value: no copy has a greater one, those that have it have the value, and there is one, or the
 -- word at home has it.

@@ -28,8 +28,7 @@ after-all base s c b x [] y h = refl
 after-all base s c b x (n ∷ ns) y h = ap (after_commits base s c b x ns) (one (h.0)) ∙ after-all base s c b x ns (after_stores base n.stores x y) (h.1)
   where
     silent : stores_word base n.stores x ≡ false → (k : Bool) → (if k then after_stores base n.stores x y else y) ≡ after_stores base n.stores x y
-    silent e true = refl
-    silent e false = sym (after_stores-other base n.stores x y e)
+    silent e a = grind (arith, nat_tests, after_stores-other)
 
     one : (counts s c b n ≡ true) ⊎ (stores_word base n.stores x ≡ false) → (if counts s c b n then after_stores base n.stores x y else y) ≡ after_stores base n.stores x y
     one (inl e) = rw e refl
@@ -49,10 +48,7 @@ one-commit last [] a b r i j e = absurd (omega (arith, i.1))
 one-commit last (m ∷ ns) a b r i j e = go (i.0) (i.1) (i.2) (j.0) (j.1) (j.2) (λ k l. one-commit m.tid.0 ns a b (r.1) k l e)
   where
     go : (k : ℕ) → k < suc (length ns) → slice_index_or (m ∷ ns) k a ≡ a → (n : ℕ) → n < suc (length ns) → slice_index_or (m ∷ ns) n b ≡ b → (Contains ns a → Contains ns b → a ≡ b) → a ≡ b
-    go zero k p zero n q f = sym p ∙ q
-    go zero k p (suc n) l q f = absurd (let u : m.tid.0 ≡ a.tid.0 = ap (λ z. z.tid.0) p in let v : m.tid.0 < b.tid.0 = above-first m.tid.0 ns b (r.1) n (omega (arith, l)) q in omega (arith, u, v, e))
-    go (suc k) l p zero n q f = absurd (let u : m.tid.0 ≡ b.tid.0 = ap (λ z. z.tid.0) q in let v : m.tid.0 < a.tid.0 = above-first m.tid.0 ns a (r.1) k (omega (arith, l)) p in omega (arith, u, v, e))
-    go (suc k) l p (suc n) o q f = f (k, omega (arith, l), p) (n, omega (arith, o), q)
+    go a k p b n q f = grind (arith, nat_tests, above-first)
 
 -- the commits that pass are below a TID
 pub last-under : (p : Noted → Bool) (t : ℕ) (ns : List Noted) → 1 ≤ t → Each (λ n. p n ≡ true → n.tid.0 < t) ns → last_of p ns < t
@@ -61,8 +57,7 @@ last-under p t [] l h = l
 last-under p t (n ∷ ns) l h = go (p n) (h.0) (last-under p t ns l (h.1))
   where
     go : (b : Bool) → (b ≡ true → n.tid.0 < t) → last_of p ns < t → max (cond b n.tid.0 0) (last_of p ns) < t
-    go true f i = let j : n.tid.0 < t = f refl in omega (arith, i, j)
-    go false f i = omega (arith, i, l)
+    go a f i = grind (arith, nat_tests)
 
 -- a commit wrote the words that it stored
 pub wrote-word : (base : ℕ) (ns : List Noted) (n : Noted) (x : ℕ) → Contains ns n → stores_word base n.stores x ≡ true → wrote base ns n.core.0 n.tid.0 x ≡ true
@@ -77,15 +72,13 @@ wrote-word base (m ∷ ns) n x i s = go (i.0) (i.1) (i.2) (λ k. wrote-word base
     t = grind (arith, nat_tests)
 
     either : (b : Bool) → (b || true) ≡ true
-    either true = refl
-    either false = refl
+    either a = grind (arith, nat_tests)
 
     here : (m : Noted) → m ≡ n → (((m.core.0 == n.core.0) && ((m.tid.0 == n.tid.0) && stores_word base m.stores x)) || wrote base ns n.core.0 n.tid.0 x) ≡ true
     here m e = rw (e, c, t, s) refl
 
     go : (k : ℕ) → k < suc (length ns) → slice_index_or (m ∷ ns) k n ≡ n → (Contains ns n → wrote base ns n.core.0 n.tid.0 x ≡ true) → (((m.core.0 == n.core.0) && ((m.tid.0 == n.tid.0) && stores_word base m.stores x)) || wrote base ns n.core.0 n.tid.0 x) ≡ true
-    go zero l e f = here m e
-    go (suc k) l e f = rw (f (k, omega (arith, l), e)) (either ((m.core.0 == n.core.0) && ((m.tid.0 == n.tid.0) && stores_word base m.stores x)))
+    go a l e f = grind (arith, nat_tests)
 
 -- and where no commit with the TID stored the word none wrote it
 pub wrote-none : (base : ℕ) (ns : List Noted) (c t x : ℕ) → Each (λ n. n.tid.0 ≡ t → stores_word base n.stores x ≡ false) ns → wrote base ns c t x ≡ false
@@ -94,9 +87,7 @@ wrote-none base [] c t x h = refl
 wrote-none base (n ∷ ns) c t x h = rw (wrote-none base ns c t x (h.1)) (go (n.core.0 == c) (n.tid.0 == t) refl)
   where
     go : (a b : Bool) → (n.tid.0 == t) ≡ b → ((a && (b && stores_word base n.stores x)) || false) ≡ false
-    go a true q = grind (arith, nat_tests)
-    go true false q = refl
-    go false false q = refl
+    go a b q = grind (arith, nat_tests)
 
 -- copies above the line's tag have just the words that were written
 at-place : (x : ℕ) → word_at (line_of x) (place_of x) ≡ x
@@ -107,14 +98,11 @@ unfolding wrote_mask
 mask-wrote base ns c t x = has-mask_of (λ k. wrote base ns c t (word_at (line_of x) k)) (place_of x) (omega arith) ∙ ap (wrote base ns c t) (at-place x)
 
 out-of-mask : (k m n x : ℕ) (c : Bool) → has n (place_of x) ≡ false → (d : Bool) → (m == n) ≡ d → num (((k == line_of x) && has m (place_of x)) && c) ≤ num (((k == line_of x) && c) && not d)
-out-of-mask k m n x c h true q = grind (arith, nat_tests)
-out-of-mask k m n x c h false q = grind (arith, nat_tests)
+out-of-mask k m n x c h a q = grind (arith, nat_tests)
 
 outside : (x t n : ℕ) → has n (place_of x) ≡ false → (m : Msg) → num (passes (CopyWord x t) m) ≤ num (passes (CopyMask (line_of x) t n) m)
 unfolding passes hit
-outside x t n h (WriteBack k m ws g) = out-of-mask k m n x (g == t) h (m == n) refl
-outside x t n h (Flush k m ws g) = out-of-mask k m n x (g == t) h (m == n) refl
-outside x t n h _ = omega arith
+outside x t n h a = grind (arith, nat_tests)
 
 -- a word that wasn't written has none
 pub unwritten-none : (sh : Shape) (ns : List Noted) (c x t : ℕ) (v : Pair) → IsCache sh v.core.cache → AboveOf sh.base ns c (line_of x) t v → wrote sh.base ns c t x ≡ false → word_copies x t v ≡ 0
@@ -152,8 +140,7 @@ search f (suc n) = go (nat_le 1 (f n)) refl (search f n)
     go false q (inr r) = inr (λ c l. last c l (c == n) refl)
       where
         last : (c : ℕ) → c < suc n → (b : Bool) → (c == n) ≡ b → f c ≡ 0
-        last c l true e = let i : c ≡ n = grind (arith, nat_tests) in let z : f n ≡ 0 = grind (arith, nat_tests) in rw i z
-        last c l false e = r c (grind (arith, nat_tests))
+        last c l a e = grind (arith, nat_tests)
 
 -- all that is known; the words are those after all commits
 record Known (sh : Shape) (ram : ℕ → ℕ) (gs : List Grant) (ys : Ways) (ends : ℕ → ℕ) (h : History) : Type 0 where
@@ -174,8 +161,7 @@ Flying sh w x t = (c : ℕ) × (c < sh.cores) × (1 ≤ live (Commits t) (w.net 
 
 is-applied : (s : DirState) (t : ℕ) → ((t < s.serving.serving) ⊎ ((s.serving.serving ≡ t) × (1 ≤ s.owed))) → is_applied s t ≡ true
 unfolding is_applied
-is-applied s t (inl l) = let q : nat_lt t s.serving.serving ≡ true = grind (arith, nat_tests) in rw q refl
-is-applied s t (inr e) = grind (arith, nat_tests)
+is-applied s t a = grind (arith, nat_tests)
 
 -- a commit that stored the word is applied at its home, or on its way there
 applied-or-flying : (sh : Shape) (ram : ℕ → ℕ) (gs : List Grant) (ys : Ways) (ends : ℕ → ℕ) (h : History) (x : ℕ) (n : Noted) → Known sh ram gs ys ends h → Contains h.commits n → stores_word sh.base n.stores x ≡ true → (is_applied (at sh h.world x) n.tid.0 ≡ true) ⊎ Flying sh h.world x n.tid.0
@@ -200,11 +186,7 @@ applied-or-flying sh ram gs ys ends h x n k i s = go (search (λ c. live (Commit
 -- its value, where all that stored it count
 all-value : (sh : Shape) (ram : ℕ → ℕ) (gs : List Grant) (ys : Ways) (ends : ℕ → ℕ) (h : History) (x : ℕ) (c : Option ℕ) → Known sh ram gs ys ends h → ((n : Noted) → Contains h.commits n → stores_word sh.base n.stores x ≡ true → counts (at sh h.world x) c None n ≡ true) → value_at sh.base ram h.commits (at sh h.world x) c None x ≡ ends x
 unfolding value_at
-all-value sh ram gs ys ends h x c k f = after-all sh.base (at sh h.world x) c None x h.commits (ram x) (each-listed (λ n. (counts (at sh h.world x) c None n ≡ true) ⊎ (stores_word sh.base n.stores x ≡ false)) h.commits (λ n i. go n i (stores_word sh.base n.stores x) refl)) ∙ sym (k.words x)
-  where
-    go : (n : Noted) → Contains h.commits n → (b : Bool) → stores_word sh.base n.stores x ≡ b → (counts (at sh h.world x) c None n ≡ true) ⊎ (stores_word sh.base n.stores x ≡ false)
-    go n i true s = inl (f n i s)
-    go n i false s = inr s
+all-value sh ram gs ys ends h x c k f = grind (arith, nat_tests, after-all, each-listed, k.words)
 
 -- where all commits that stored the word are applied, and no copy is above its line's tag
 settled-word : (sh : Shape) (ram : ℕ → ℕ) (gs : List Grant) (ys : Ways) (ends : ℕ → ℕ) (h : History) (x : ℕ) → Known sh ram gs ys ends h
@@ -229,12 +211,10 @@ outside-word sh ram gs ys ends h x k out = settled-word sh ram gs ys ends h x k 
     (λ c g l t. omega (arith, few-words x g (h.world.net (Core c) (Dir (home sh (line_of x)))), sent c g (nat_le 1 (live (CopyOf (line_of x) g) (h.world.net (Core c) (Dir (home sh (line_of x)))))) refl, framed c g ((h.world.cores c).cache.dirty x) refl))
   where
     sent : (c g : ℕ) (b : Bool) → nat_le 1 (live (CopyOf (line_of x) g) (h.world.net (Core c) (Dir (home sh (line_of x))))) ≡ b → live (CopyOf (line_of x) g) (h.world.net (Core c) (Dir (home sh (line_of x)))) ≡ 0
-    sent c g true q = absurd (out (k.inside.copies_in_flight_are_of_lines_in_memory c (home sh (line_of x)) (line_of x) g (grind (arith, nat_tests))))
-    sent c g false q = grind (arith, nat_tests)
+    sent c g a q = grind (arith, nat_tests)
 
     framed : (c g : ℕ) (o : Option ℕ) → (h.world.cores c).cache.dirty x ≡ o → num (is_this o g) ≡ 0
-    framed c g None e = refl
-    framed c g (Some t) e = grind (arith, nat_tests)
+    framed c g a e = grind (arith, nat_tests)
 
 -- a copy above the line's tag is of the served TID
 above-none : (sh : Shape) (ram : ℕ → ℕ) (gs : List Grant) (ys : Ways) (ends : ℕ → ℕ) (h : History) (x c g : ℕ) → Known sh ram gs ys ends h → line_of x < lines sh → c < sh.cores → (at sh h.world x).lines.tag (line_of x) < g
@@ -257,12 +237,10 @@ quiet-word sh ram gs ys ends h x k i z = settled-word sh ram gs ys ends h x k (�
         omega (arith, f, y)
 
     still : (c g : ℕ) → c < sh.cores → (b : Bool) → nat_le 1 (live (Commits g) (h.world.net (Core c) (Dir (home sh (line_of x))))) ≡ b → live (Commits g) (h.world.net (Core c) (Dir (home sh (line_of x)))) ≡ 0
-    still c g l true q = absurd (never c g l (grind (arith, nat_tests)))
-    still c g l false q = grind (arith, nat_tests)
+    still c g l a q = grind (arith, nat_tests)
 
     applied : (n : Noted) → (is_applied (at sh h.world x) n.tid.0 ≡ true) ⊎ Flying sh h.world x n.tid.0 → is_applied (at sh h.world x) n.tid.0 ≡ true
-    applied n (inl e) = e
-    applied n (inr f) = absurd (never f.0 n.tid.0 (f.1) (f.2))
+    applied n a = grind (arith, nat_tests)
 
 -- a commit of core c is on its way there
 record Coming (sh : Shape) (h : History) (x c : ℕ) (n : Noted) : Type 0 where
@@ -345,8 +323,7 @@ stored-word sh ram gs ys ends h x c n k i f s = record {
     below = coming-below sh ram gs ys ends h x c n k i f
 
     later : (e g : ℕ) → e < sh.cores → (at sh h.world x).serving.serving < g → (b : Bool) → nat_le 1 (live (Commits g) (h.world.net (Core e) (Dir (home sh (line_of x))))) ≡ b → live (Commits g) (h.world.net (Core e) (Dir (home sh (line_of x)))) ≡ 0
-    later e g l u true q = absurd (let y : (at sh h.world x).serving.serving ≡ g = k.carried.committing_tid_is_served e (home sh (line_of x)) g l (home-below sh x k.dirs) (grind (arith, nat_tests)) in omega (arith, u, y))
-    later e g l u false q = grind (arith, nat_tests)
+    later e g l u a q = grind (arith, nat_tests)
 
     counted : (m : Noted) → Contains h.commits m → (is_applied (at sh h.world x) m.tid.0 ≡ true) ⊎ Flying sh h.world x m.tid.0 → (is_this (Some c) m.core.0 || is_applied (at sh h.world x) m.tid.0) ≡ true
     counted m j (inl e) = rw e ((elim (is_this (Some c) m.core.0) as (λ b. (b || true) ≡ true) [ true ↦ refl | false ↦ refl ]))

@@ -2,8 +2,8 @@
 use Rattle.tcc_serial.proofs.Names.{ℕ, ◌+◌, ◌≡◌, ◌≤◌, ◌==◌, ◌&&◌, Bool, true, false, not, List, [], ◌∷◌, Option, Some, None, is_some, arith}
 use Rattle.tcc_serial.proofs.Names.{refl, sym, ◌∙◌, nat_tests, num, line_of, place_of, word_at, has, hit, Msg, WriteBack, Flush, Shape}
 use Rattle.tcc_serial.proofs.Names.{Cache, IsCache, is_dirty, dirty_tag, dirty_mask, has-mask_of, Link, copies_with, CopyOf, CopyMask}
-use Rattle.tcc_serial.proofs.Names.{CopyWord, CopyNot, live, among, passes, Pair, is_this, word_copies, CopiesHave, suc, ◌<◌, ◌⊎◌, cond}
-use Rattle.tcc_serial.proofs.Names.{unwrap_or, get_or, if◌then◌else◌, ap, inl, inr, cases_eq, eight, Dir, home, dirty_words, dirty_copy}
+use Rattle.tcc_serial.proofs.Names.{CopyWord, CopyNot, live, among, passes, Pair, is_this, word_copies, CopiesHave, ◌<◌, ◌⊎◌, cond}
+use Rattle.tcc_serial.proofs.Names.{unwrap_or, get_or, if◌then◌else◌, inl, inr, cases_eq, eight, Dir, home, dirty_words, dirty_copy}
 use Rattle.tcc_serial.proofs.Names.{CoreState, Out, to, flush, flushed, written_back}
 use Rattle.tcc_rules.specs.Sends.{write_back}
 use Rattle.tcc_serial.proofs.Copies.DirtyFrames.{some-dirty, tag-of}
@@ -13,15 +13,11 @@ use Rattle.tcc_serial.proofs.Counts.Links.{live-fewer, among-fewer}
 
 -- in messages
 back-line : (a b c : Bool) → num ((a && b) && c) ≤ num (a && c)
-back-line true true c = omega arith
-back-line true false c = omega arith
-back-line false b c = omega arith
+back-line a b c = grind (arith, nat_tests)
 
 pub word-line : (x t : ℕ) (m : Msg) → num (passes (CopyWord x t) m) ≤ num (passes (CopyOf (line_of x) t) m)
 unfolding passes hit
-word-line x t (WriteBack k m ws g) = back-line (k == line_of x) (has m (place_of x)) (g == t)
-word-line x t (Flush k m ws g) = back-line (k == line_of x) (has m (place_of x)) (g == t)
-word-line x t _ = omega arith
+word-line x t a = grind (arith, nat_tests)
 
 pub few-words : (x t : ℕ) (l : Link) → live (CopyWord x t) l ≤ live (CopyOf (line_of x) t) l
 few-words x t l = live-fewer (CopyWord x t) (CopyOf (line_of x) t) (word-line x t) l
@@ -41,14 +37,11 @@ among-others x t y ms = among-fewer (CopyNot x t y) (CopyWord x t) (other-word x
 
 -- a copy of the line has the word, or another mask than one with the word
 in-mask : (k m n x : ℕ) (c : Bool) → has n (place_of x) ≡ true → (d : Bool) → (m == n) ≡ d → num ((k == line_of x) && c) ≤ num (((k == line_of x) && has m (place_of x)) && c) + num (((k == line_of x) && c) && not d)
-in-mask k m n x c h true q = grind (arith, nat_tests)
-in-mask k m n x c h false q = grind (arith, nat_tests)
+in-mask k m n x c h a q = grind (arith, nat_tests)
 
 line-word : (x t n : ℕ) → has n (place_of x) ≡ true → (m : Msg) → num (passes (CopyOf (line_of x) t) m) ≤ num (passes (CopyWord x t) m) + num (passes (CopyMask (line_of x) t n) m)
 unfolding passes hit
-line-word x t n h (WriteBack k m ws g) = in-mask k m n x (g == t) h (m == n) refl
-line-word x t n h (Flush k m ws g) = in-mask k m n x (g == t) h (m == n) refl
-line-word x t n h _ = omega arith
+line-word x t n h a = grind (arith, nat_tests)
 
 live-words : (x t n : ℕ) → has n (place_of x) ≡ true → (l : Link) → live (CopyOf (line_of x) t) l ≤ live (CopyWord x t) l + live (CopyMask (line_of x) t n) l
 unfolding live
@@ -77,8 +70,7 @@ unfolding copies_with word_copies
 few-copies sh x t v h = omega (arith, few-words x t v.out, go (v.core.cache.dirty x) refl)
   where
     go : (o : Option ℕ) → v.core.cache.dirty x ≡ o → num (is_this o t) ≤ num (is_dirty v.core.cache (line_of x) && dirty_tag v.core.cache (line_of x) == t)
-    go None e = omega arith
-    go (Some g) e = let d = dirty-line sh v.core.cache x g h e in rw (d.0, d.1) (omega arith)
+    go a e = grind (arith, nat_tests, dirty-line)
 
 -- a word in the mask of its line's dirty words is dirty
 mask-dirty : (c : Cache) (x n : ℕ) → has n (place_of x) ≡ true → dirty_mask c (line_of x) ≡ n → is_some (c.dirty x) ≡ true
@@ -97,8 +89,7 @@ copy-has sh x t n v h i f z = omega (arith, live-words x t n i v.out, z, framed 
     l = line_of x
 
     tagged : (o : Option ℕ) → c.dirty x ≡ o → is_some o ≡ true → dirty_tag c l ≡ t → num (is_this o t) ≡ 1
-    tagged None e s q = absurd (cc)
-    tagged (Some g) e s q = let d = dirty-line sh c x g h e in let y : (g == t) ≡ true = (let w : g ≡ t = sym (d.1) ∙ q in grind (arith, nat_tests)) in rw y refl
+    tagged a e s q = grind (arith, nat_tests, dirty-line)
 
     framed : (a b : Bool) → is_dirty c l ≡ a → (dirty_tag c l == t) ≡ b → num (a && b) ≤ num (is_this (c.dirty x) t)
     framed true true p q = let e : dirty_tag c l ≡ t = grind (arith, nat_tests) in omega (arith, tagged (c.dirty x) refl (mask-dirty c x n i (f p e)) e)
@@ -134,8 +125,7 @@ word-clean : (sh : Shape) (k x : ℕ) (c : Cache) → IsCache sh c → is_dirty 
 word-clean sh k x c h q e = go (c.dirty x) refl
   where
     go : (o : Option ℕ) → c.dirty x ≡ o → o ≡ None
-    go None r = refl
-    go (Some t) r = absurd (let d = dirty-line sh c x t h r in let y : is_dirty c (line_of x) ≡ false = rw e at q in let z = d.0 in cc)
+    go a r = grind (arith, nat_tests, dirty-line)
 
 leaves-none : (sh : Shape) (k x : ℕ) (c : Cache) → IsCache sh c → is_dirty c k ≡ false → WordLeaves k x c []
 unfolding among
@@ -143,8 +133,7 @@ leaves-none sh k x c h q = record { same = λ e t. rw (word-clean sh k x c h q e
 
 pub get-eight : (f : ℕ → ℕ) (k : ℕ) → k < 8 → get_or (eight f) k 0 ≡ f k
 unfolding eight
-get-eight f (suc (suc (suc (suc (suc (suc (suc (suc k)))))))) i = absurd (omega (arith, i))
-get-eight f _ i = refl
+get-eight f a i = grind (arith, nat_tests)
 
 -- the mask and the words of the line's copy, at the word's place
 mask-at : (c : Cache) (x : ℕ) → has (dirty_mask c (line_of x)) (place_of x) ≡ is_some (c.dirty x)
@@ -163,20 +152,10 @@ unfolding among hit
 leaves-one sh k x c m h f g = record { same = λ e t. here e t (c.dirty x) refl; other = λ n t. (let y : (k == line_of x) ≡ false = grind (arith, nat_tests) in rw (f t, y) refl); right = λ t y q. right t y q (cases_eq k (line_of x)) }
   where
     here : k ≡ line_of x → (t : ℕ) (o : Option ℕ) → c.dirty x ≡ o → num (passes (CopyWord x t) m) + 0 ≡ num (is_this o t)
-    here e t None r = let y : (line_of x == line_of x) ≡ true = grind (arith, nat_tests) in rw (f t, e, y, mask-at c x, r) refl
-    here e t (Some u) r = let y : (line_of x == line_of x) ≡ true = grind (arith, nat_tests) in let d = dirty-line sh c x u h r in rw (f t, e, y, mask-at c x, r, d.1) (omega arith)
+    here e t a r = grind (arith, nat_tests, mask-at, dirty-line)
 
     wrong : (t y : ℕ) (o : Option ℕ) → c.dirty x ≡ o → (o ≡ Some t → c.value x ≡ Some y) → num (((true && is_some o) && (dirty_tag c (line_of x) == t)) && not (get_or (dirty_words c (line_of x)) (place_of x) 0 == y)) ≡ 0
-    wrong t y None r q = refl
-    wrong t y (Some u) r q = tagged (u == t) refl
-      where
-        tagged : (b : Bool) → (u == t) ≡ b → num ((dirty_tag c (line_of x) == t) && not (get_or (dirty_words c (line_of x)) (place_of x) 0 == y)) ≡ 0
-        tagged false z = let d = dirty-line sh c x u h r in rw (d.1, z) refl
-        tagged true z = let w : u ≡ t = grind (arith, nat_tests) in let n : (y == y) ≡ true = grind (arith, nat_tests) in rw (value-at c x u y r (q (ap (λ i. Some i) w)), n) (never (dirty_tag c (line_of x) == t))
-          where
-            never : (b : Bool) → num (b && false) ≡ 0
-            never true = refl
-            never false = refl
+    wrong t y a r q = grind (arith, nat_tests, dirty-line, value-at)
 
     right : (t y : ℕ) → (c.dirty x ≡ Some t → c.value x ≡ Some y) → (k ≡ line_of x) ⊎ (k ≡ line_of x → ⊥) → num (passes (CopyNot x t y) m) + 0 ≡ 0
     right t y q (inr n) = let z : (k == line_of x) ≡ false = grind (arith, nat_tests) in rw (g t y, z) refl

@@ -1,10 +1,10 @@
 -- The values of one word at its home and in its copies, and what keeps them.
-use Rattle.tcc_serial.proofs.Names.{ℕ, ◌≡◌, ◌<◌, ◌≤◌, ◌⊎◌, Bool, true, false, List, Contains, Option, Some, None, arith, refl, ap, sym, ◌∙◌}
-use Rattle.tcc_serial.proofs.Names.{inl, inr, Noted, line_of, Core, Dir, Shape, home, World, Kind, Commits, CopyWord, CopyNot, live}
-use Rattle.tcc_serial.proofs.Names.{CommitsInMemory, Pair, pair, is_applied, CommitsStand, stores_at, stores_word, counts, value_at}
-use Rattle.tcc_serial.proofs.Names.{word_copies, CopiesHave, HomeWords, CopiesAbove, names_line, ◌==◌, ◌&&◌, nat_tests, num, Msg, IsCache}
-use Rattle.tcc_serial.proofs.Names.{in_flight, History, CommitsAreServed, copies_with, KeptTags, KeptAbove, KeptOwned, Invs, CopyOf, passes}
-use Rattle.tcc_serial.proofs.Names.{CopiesInMemory, OwedInFlight, KeptNamed, MarksOfCommits, IsRising, KeptWhole, is_this, KeptStored}
+use Rattle.tcc_serial.proofs.Names.{ℕ, ◌≡◌, ◌<◌, ◌≤◌, Bool, true, false, List, Contains, Option, Some, None, arith, refl, ap, sym, ◌∙◌}
+use Rattle.tcc_serial.proofs.Names.{Noted, line_of, Core, Dir, Shape, home, World, Kind, Commits, CopyWord, CopyNot, live, CommitsInMemory}
+use Rattle.tcc_serial.proofs.Names.{Pair, pair, CommitsStand, stores_at, stores_word, counts, value_at, word_copies, CopiesHave, HomeWords}
+use Rattle.tcc_serial.proofs.Names.{CopiesAbove, names_line, ◌==◌, ◌&&◌, nat_tests, num, Msg, IsCache, in_flight, History, CommitsAreServed}
+use Rattle.tcc_serial.proofs.Names.{copies_with, KeptTags, KeptAbove, KeptOwned, Invs, CopyOf, passes, CopiesInMemory, OwedInFlight}
+use Rattle.tcc_serial.proofs.Names.{KeptNamed, MarksOfCommits, IsRising, KeptWhole, is_this, KeptStored, ◌⊎◌, inl, inr, is_applied}
 use Rattle.tcc_serial.proofs.Copies.TagsKept.{stored-home, Consumes}
 use Rattle.tcc_serial.proofs.Counts.Links.{num-same}
 use Rattle.tcc_serial.proofs.Marks.DirRecords.{NoCommit, Dropped}
@@ -145,13 +145,11 @@ pub record Answers (sh : Shape) (h : History) (c d : ℕ) (m : Msg) (v : World) 
 
 -- a kind that the message isn't of
 pub unconsumed : (b : Bool) (m : Bool) → m ≡ false → num (b && m) ≡ 0
-unconsumed true m e = ap num e
-unconsumed false m e = refl
+unconsumed a m e = grind (arith, nat_tests)
 
 -- nothing is consumed at another directory
 elsewhere : (a b y : Bool) → b ≡ false → num ((a && b) && y) ≡ 0
-elsewhere true b y e = rw e refl
-elsewhere false b y e = refl
+elsewhere a b y e = grind (arith, nat_tests)
 
 quiet-commits : (sh : Shape) (h : History) (c d x : ℕ) (m : Msg) (v : World) → Answers sh h c d m v → NoCommit m → SameCommits sh h.world v h.commits d x
 quiet-commits sh h c d x m v a n y i s = omega (arith, a.net (Commits y.tid.0) y.core.0 d, unconsumed (y.core.0 == c && d == d) (passes (Commits y.tid.0) m) (n y.tid.0))

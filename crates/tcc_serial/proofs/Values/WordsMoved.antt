@@ -1,10 +1,10 @@
 -- What a core's event does to the values of a word, where nothing is committed: its copies with the line's tag or a larger one stay.
 use Rattle.tcc_serial.proofs.Names.{ℕ, ◌+◌, ◌%◌, ◌≡◌, ◌<◌, ◌≤◌, ◌==◌, ◌++◌, Bool, true, false, not, List, Option, Some, None, arith, refl}
 use Rattle.tcc_serial.proofs.Names.{ap, sym, subst, ◌∙◌, nat_tests, Noted, num, line_of, has_mark, Core, Dir, Vendor, Msg, Inv, Shape, home}
-use Rattle.tcc_serial.proofs.Names.{lines, World, in_flight, sent_all, Out, History, core_moves, core_takes, copies_with, CopyOf, CopyWord}
-use Rattle.tcc_serial.proofs.Names.{CopyNot, Invs, InvOf, InvsAway, live, among, passes, due, Pair, pair, share, after_move, grant_taken}
-use Rattle.tcc_serial.proofs.Names.{back_taken, is_this, SettledCommit, value_at, word_copies, CopiesHave}
-use Rattle.tcc_serial.proofs.Copies.TagsKept.{Invalidating, inv-tag-of}
+use Rattle.tcc_serial.proofs.Names.{lines, World, in_flight, sent_all, Out, History, core_moves, core_takes, CopyOf, CopyWord, CopyNot}
+use Rattle.tcc_serial.proofs.Names.{Invs, InvOf, InvsAway, live, among, passes, due, Pair, pair, share, after_move, grant_taken, back_taken}
+use Rattle.tcc_serial.proofs.Names.{is_this, SettledCommit, value_at, word_copies, CopiesHave, copies_with}
+use Rattle.tcc_serial.proofs.Copies.TagsKept.{inv-tag-of, Invalidating}
 use Rattle.tcc_serial.proofs.Counts.Links.{live-sends, total-le}
 use Rattle.tcc_serial.proofs.Counts.StepCases.{AllPairs, pairs_move, pairs_grant, pairs_back}
 use Rattle.tcc_serial.proofs.Tids.TidSteps.{live-some}
@@ -63,8 +63,7 @@ unfolding word_copies
 lost-alike sh x d g o a b n f z m = record { copies = copies; have = have }
   where
     fewer : (y : Option ℕ) → o.core.cache.dirty x ≡ y → num (is_this y g) ≤ num (is_this (a.core.cache.dirty x) g)
-    fewer None q = omega arith
-    fewer (Some t) q = let h = f t q in rw (h.0) (omega arith)
+    fewer a q = grind (arith, nat_tests)
 
     copies : num (is_this (b.core.cache.dirty x) g) + live (CopyWord x g) b.out ≡ num (is_this (a.core.cache.dirty x) g) + live (CopyWord x g) a.out
     copies = rw (m.core, m.out) (omega (arith, n, fewer (o.core.cache.dirty x) refl, z g, among-words x g (o.sends (Dir d)), live-sends (CopyWord x g) a.out (o.sends (Dir d))))

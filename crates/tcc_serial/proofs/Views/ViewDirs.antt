@@ -3,25 +3,25 @@ use Rattle.tcc_serial.proofs.Names.{ℕ, zero, suc, ◌+◌, ◌≡◌, ◌<◌,
 use Rattle.tcc_serial.proofs.Names.{refl, inl, inr, cases_eq, flat_map-append, num, line_of, those, hit, Msg, Inv, Kind, passes, among}
 use Rattle.tcc_serial.proofs.Names.{is_below, dooms, ◌==◌, ◌&&◌, ◌||◌, not, false, List, Contains, is_some, nat_lt, set, ap, sym, subst}
 use Rattle.tcc_serial.proofs.Names.{◌∙◌, true≢false, nat_tests, Noted, place_of, word_at, any_word, count_below, has_mark, Core, Dir, Shape}
-use Rattle.tcc_serial.proofs.Names.{home, lines, has-mask_of, any_below-at, DirState, World, in_flight, is_invalidated, invs_to}
-use Rattle.tcc_serial.proofs.Names.{invalidations, Sends, History, dir_takes, CommitsLine, keeps_unmodified, holds_line, Commits, CommitOf}
-use Rattle.tcc_serial.proofs.Names.{live, CommitsInMemory, Carried, Grant, Pair, pair, is_applied, is_this, CommitsStand, stored_mask}
-use Rattle.tcc_serial.proofs.Names.{stores_in, MarkedCommit, stores_word, counts, value_at, IsPassed, Ways, if◌then◌else◌, TidReq, TidGrant}
-use Rattle.tcc_serial.proofs.Names.{Fill, ProbeReply, Commit, DataReq, Answer, Waits, Drops, Asks, Takes, settled, owned, owed_by}
-use Rattle.tcc_serial.proofs.Names.{dir_deliver, dir_asks, Uses, out_taken, EachUse}
+use Rattle.tcc_serial.proofs.Names.{home, lines, any_below-at, DirState, World, in_flight, is_invalidated, invs_to, invalidations, Sends}
+use Rattle.tcc_serial.proofs.Names.{History, dir_takes, keeps_unmodified, holds_line, Commits, CommitOf, live, CommitsInMemory, Carried}
+use Rattle.tcc_serial.proofs.Names.{Grant, Pair, pair, is_applied, is_this, CommitsStand, stored_mask, stores_in, MarkedCommit, stores_word}
+use Rattle.tcc_serial.proofs.Names.{counts, value_at, Ways, if◌then◌else◌, TidReq, TidGrant, Fill, ProbeReply, Commit, DataReq, Answer}
+use Rattle.tcc_serial.proofs.Names.{Waits, Drops, Asks, Takes, settled, owned, owed_by, dir_deliver, dir_asks, Uses, out_taken, EachUse}
+use Rattle.tcc_serial.proofs.Names.{has-mask_of, CommitsLine, IsPassed}
 use Rattle.tcc_rules.specs.DirDeliver.{commit}
 use Rattle.tcc_serial.proofs.Counts.Links.{among-append, live-takes}
-use Rattle.tcc_serial.proofs.Counts.StepCases.{same, differ, dir-own, dir-other, either, AllPairs, pairs_dir, pairs_asks, asks-own}
-use Rattle.tcc_serial.proofs.Counts.StepCases.{OfAnswer}
+use Rattle.tcc_serial.proofs.Counts.StepCases.{same, dir-own, dir-other, either, AllPairs, pairs_dir, pairs_asks, asks-own, OfAnswer}
+use Rattle.tcc_serial.proofs.Counts.StepCases.{differ}
 use Rattle.tcc_serial.proofs.Marks.MaskLaws.{same-commit}
-use Rattle.tcc_serial.proofs.Marks.StoredMasks.{stored-line}
 use Rattle.tcc_serial.proofs.Tids.Commits.{granted-once, granted-at}
 use Rattle.tcc_serial.proofs.Tids.TidSteps.{live-some}
 use Rattle.tcc_serial.proofs.Values.FramedWords.{dirs-taken}
-use Rattle.tcc_serial.proofs.Values.ValueAt.{IsAlike, value-alike}
+use Rattle.tcc_serial.proofs.Values.ValueAt.{value-alike, IsAlike}
 use Rattle.tcc_serial.proofs.Values.WordValues.{stored-at-home}
-use Rattle.tcc_serial.proofs.Views.ViewFacts.{IsSeen, bound-own, solo-tid, solo-holds, solo-served, applied-same}
+use Rattle.tcc_serial.proofs.Views.ViewFacts.{IsSeen, applied-same, bound-own, solo-tid, solo-holds, solo-served}
 use Rattle.tcc_serial.proofs.Views.ViewPairs.{StaysOrDooms, ViewOf, view-answers, bound-out, view-out}
+use Rattle.tcc_serial.proofs.Marks.StoredMasks.{stored-line}
 
 -- Where a directory takes a Commit, a use of a stored word by another core is doomed, unless the core's bound is below the commit.
 
@@ -32,14 +32,12 @@ among-those k g p l zero b e = absurd (omega (arith, b))
 among-those k g p l (suc n) b e = rw flat_map-append (rw among-append (go (cases_eq l n) (λ q. among-those k g p l n q e)))
   where
     go : (l ≡ n) ⊎ (l ≡ n → ⊥) → (l < n → num (passes k (g l)) ≤ among k (flat_map (λ j. g j ∷ []) (those p n))) → num (passes k (g l)) ≤ among k (flat_map (λ j. g j ∷ []) (those p n)) + among k (flat_map (λ j. g j ∷ []) (cond (p n) (n ∷ []) []))
-    go (inl q) f = let r : p n ≡ true = rw q at e in rw (r, q) (omega arith)
-    go (inr q) f = omega (arith, f (omega (arith, b, q)))
+    go a f = grind (arith, nat_tests)
 
 -- an invalidation of the word that is below the bound dooms
 inv-dooms : (b : Option ℕ) (x l m u : ℕ) → is_below b u ≡ true → hit l m x ≡ true → num (passes (dooms b x) (Inv l m u)) ≡ 1
 unfolding passes
-inv-dooms None x l m u e h = rw h refl
-inv-dooms (Some t) x l m u e h = rw (h, e) refl
+inv-dooms a x l m u e h = grind (arith, nat_tests)
 
 pub sent-dooms : (b : Option ℕ) (x u n : ℕ) (f : ℕ → ℕ) (p : ℕ → Bool) → line_of x < n → p (line_of x) ≡ true → hit (line_of x) (f (line_of x)) x ≡ true → is_below b u ≡ true → 1 ≤ among (dooms b x) (flat_map (λ l. Inv l (f l) u ∷ []) (those p n))
 sent-dooms b x u n f p l e h i = omega (arith, among-those (dooms b x) (λ l. Inv l (f l) u) p (line_of x) n l e, inv-dooms b x (line_of x) (f (line_of x)) u i h)
@@ -83,13 +81,10 @@ pub record Taken (sh : Shape) (w : World) (c d u : ℕ) : Type 0 where
   pub commit : 1 ≤ live (Commits u) (w.net (Core c) (Dir d))
 
 num-true : (b : Bool) → 1 ≡ num b → b ≡ true
-num-true true e = refl
-num-true false e = absurd (omega (arith, e))
+num-true a e = grind (arith, nat_tests)
 
 all-true : (a b c : Bool) → (a && b) ≡ true → c ≡ true → true ≡ (a && (b && c))
-all-true true true c e f = sym f
-all-true true false c e f = absurd (cc)
-all-true false b c e f = absurd (cc)
+all-true a b c e f = grind (arith, nat_tests)
 
 is-lt : (a b : ℕ) → a < b → nat_lt a b ≡ true
 is-lt a b l = grind (arith, nat_tests)

@@ -4,8 +4,8 @@ use Rattle.tcc_serial.proofs.Names.{arith, refl, ap, inl, inr, cases_lt, nat_tes
 use Rattle.tcc_serial.proofs.Names.{home, Phase, DoomedTid, Probing, Ready, Overflowing, Solo, Halted, Link, World, is_solo, History, Uses}
 use Rattle.tcc_serial.proofs.Names.{AllStand, UsesStand, Invs, InvsNot, InvWord, InvBelow, passes, live, Carried, due, Grant, times, holder}
 use Rattle.tcc_serial.proofs.Names.{pair, share, IsBound, is_applied, has_tid, opens, dooms, EachUse, IsPassed, IsDoomed, Ways, Settled}
-use Rattle.tcc_serial.proofs.Names.{zero, suc, ◌+◌, ◌&&◌, ◌||◌, length, nat_lt, slice_index_or, Noted, DirState, Commits, is_this}
-use Rattle.tcc_serial.proofs.Names.{CommitsStand, stores_at, counts, value_at}
+use Rattle.tcc_serial.proofs.Names.{suc, ◌+◌, ◌||◌, length, slice_index_or, Noted, DirState, Commits, is_this, CommitsStand, stores_at}
+use Rattle.tcc_serial.proofs.Names.{counts, value_at}
 use Rattle.tcc_serial.proofs.Counts.Links.{live-fewer, total-le}
 use Rattle.tcc_serial.proofs.Tids.Commits.{numbered-least, numbered-most, granted-at}
 use Rattle.tcc_serial.proofs.Values.ValueAt.{value-alike}
@@ -84,8 +84,7 @@ unfolding passes
 few-below x b m = grind (arith, nat_tests)
 
 pub few-doom : (b : Option ℕ) (x : ℕ) (m : Msg) → num (passes (dooms b x) m) ≤ num (passes Invs m)
-few-doom None x m = few-word x m
-few-doom (Some b) x m = few-below x b m
+few-doom a x m = grind (arith, nat_tests, few-word, few-below)
 
 pub few-dooms : (b : Option ℕ) (x : ℕ) (l : Link) → live (dooms b x) l ≤ live Invs l
 few-dooms b x l = live-fewer (dooms b x) Invs (few-doom b x) l
@@ -97,11 +96,7 @@ below-not x b s l m = grind (arith, nat_tests)
 -- one with a TID below the bound carries the served one
 pub below-served : (sh : Shape) (gs : List Grant) (ys : Ways) (h : History) → Carried sh gs ys h → (c d x b : ℕ) → 1 ≤ live (InvBelow x b) (pair h.world c d).back → (h.world.dirs d).serving.serving < b
 unfolding pair
-below-served sh gs ys h k c d x b i = go (cases_lt (h.world.dirs d).serving.serving b)
-  where
-    go : ((h.world.dirs d).serving.serving < b) ⊎ (b ≤ (h.world.dirs d).serving.serving) → (h.world.dirs d).serving.serving < b
-    go (inl l) = l
-    go (inr l) = absurd (omega (arith, i, k.owed_counts_invs_and_acks.served c d, live-fewer (InvBelow x b) (InvsNot (h.world.dirs d).serving.serving) (below-not x b (h.world.dirs d).serving.serving l) (h.world.net (Dir d) (Core c))))
+below-served sh gs ys h k c d x b i = grind (arith, nat_tests, k.owed_counts_invs_and_acks.served, live-fewer, below-not)
 
 -- a core that is alone has none in flight to it
 pub solo-undoomed : (sh : Shape) (gs : List Grant) (ys : Ways) (h : History) → Carried sh gs ys h → (c d x : ℕ) (b : Option ℕ) → c < sh.cores → d < sh.dirs → is_solo (h.world.cores c).phase ≡ true → live (dooms b x) (pair h.world c d).back ≡ 0
@@ -150,9 +145,7 @@ unfolding pair
 doomed-again sh gs ys h k c d x y b cl dl e i s l = go s
   where
     valid : (b : Option ℕ) → 1 ≤ live (dooms b x) (pair h.world c d).back → (is_some ((h.world.cores c).cache.value x) ≡ true) ⊎ IsPassed b (h.world.dirs d).serving.serving → is_some ((h.world.cores c).cache.value x) ≡ true
-    valid b l (inl v) = v
-    valid None l (inr v) = absurd v
-    valid (Some u) l (inr v) = absurd (omega (arith, v, below-served sh gs ys h k c d x u l))
+    valid b l a = grind (arith, nat_tests, below-served)
 
     go : IsSeen (h.world.cores c).cache (h.world.cores c).phase x y → IsDoomed b x (pair h.world c d)
     go (inl r) = record { hit = l; read = r; valid = valid b l (k.read_mark_is_valid_or_passed c d x b cl dl e i r) }
@@ -167,8 +160,7 @@ listed-once [] n k = absurd (omega (arith, k.1))
 listed-once (m ∷ cs) n k = go k.0 (k.1) (k.2) (λ j. listed-once cs n j)
   where
     go : (i : ℕ) → i < suc (length cs) → slice_index_or (m ∷ cs) i n ≡ n → (Contains cs n → 1 ≤ times n.tid.0 cs) → 1 ≤ num (m.tid.0 == n.tid.0) + times n.tid.0 cs
-    go zero l e f = let q : m.tid.0 ≡ n.tid.0 = ap (λ z. z.tid.0) e in let o : num (m.tid.0 == n.tid.0) ≡ 1 = grind (arith, nat_tests) in omega (arith, o)
-    go (suc i) l e f = omega (arith, f (i, omega (arith, l), e))
+    go a l e f = grind (arith, nat_tests)
 
 -- it was granted
 pub listed-below : (sh : Shape) (gs : List Grant) (ys : Ways) (h : History) → Carried sh gs ys h → (n : Noted) → Contains h.commits n → n.tid.0 < h.world.next
@@ -177,11 +169,7 @@ listed-below sh gs ys h k n i = omega (arith, k.granted_tids_are_those_below_nex
 -- a bound above all that count is as good as none
 pub value-bounded : (base : ℕ) (ram : ℕ → ℕ) (cs : List Noted) (s : DirState) (c t x : ℕ) → ((n : Noted) → Contains cs n → (is_this (Some c) n.core.0 || is_applied s n.tid.0) ≡ true → n.tid.0 < t) → value_at base ram cs s (Some c) None x ≡ value_at base ram cs s (Some c) (Some t) x
 unfolding counts
-value-bounded base ram cs s c t x f = value-alike base ram cs s (Some c) None s (Some c) (Some t) x (λ n i. inl (go n i (is_this (Some c) n.core.0 || is_applied s n.tid.0) refl))
-  where
-    go : (n : Noted) → Contains cs n → (b : Bool) → (is_this (Some c) n.core.0 || is_applied s n.tid.0) ≡ b → b ≡ (nat_lt n.tid.0 t && b)
-    go n i false e = grind arith
-    go n i true e = let l = f n i e in grind (arith, nat_tests)
+value-bounded base ram cs s c t x f = grind (arith, nat_tests, value-alike)
 
 -- what counts for a core that is alone is below its TID
 pub solo-value : (sh : Shape) (gs : List Grant) (ys : Ways) (ram : ℕ → ℕ) (h : History) → Carried sh gs ys h → (c d t x : ℕ) → c < sh.cores → d < sh.dirs → (h.world.cores c).phase ≡ Solo t → value_at sh.base ram h.commits (h.world.dirs d) (Some c) None x ≡ value_at sh.base ram h.commits (h.world.dirs d) (Some c) (Some t) x
@@ -216,10 +204,7 @@ solo-value sh gs ys ram h k c d t x cl dl e = value-bounded sh.base ram h.commit
 
 -- a directory that applies the same commits, of those that stored the word
 num-same : (a b : Bool) → num a ≡ num b → a ≡ b
-num-same true true e = refl
-num-same false false e = refl
-num-same true false e = absurd (omega (arith, e))
-num-same false true e = absurd (omega (arith, e))
+num-same a b e = grind (arith, nat_tests)
 
 -- a commit of which as many Commits are in flight as before is applied as before
 pub applied-same : (sh : Shape) (cs : List Noted) (v w : World) (n : Noted) (d : ℕ) → CommitsStand sh v cs → CommitsStand sh w cs → Contains cs n → d < sh.dirs → stores_at sh d n.stores ≡ true → live (Commits n.tid.0) (w.net (Core n.core.0) (Dir d)) ≡ live (Commits n.tid.0) (v.net (Core n.core.0) (Dir d)) → is_applied (v.dirs d) n.tid.0 ≡ is_applied (w.dirs d) n.tid.0

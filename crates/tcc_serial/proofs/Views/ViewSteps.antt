@@ -1,8 +1,8 @@
 -- What a core does, and what the vendor grants, leaves every core's view near: each used word has its value, or it is doomed.
-use Rattle.tcc_serial.proofs.Names.{ℕ, ◌≡◌, ◌<◌, ◌≤◌, ◌⊎◌, ◌==◌, ◌&&◌, ◌||◌, Bool, true, false, List, [], ◌++◌, Option, Some, None, IfSome}
-use Rattle.tcc_serial.proofs.Names.{is_some, arith, refl, sym, subst, ◌∙◌, inl, inr, put, Noted, Program, num, line_of, writes_at, Shape}
-use Rattle.tcc_serial.proofs.Names.{home, CoreState, Phase, Running, AwaitTid, DoomedTid, Probing, Ready, Overflowing, Solo, Halted, World}
-use Rattle.tcc_serial.proofs.Names.{Out, core_exec, core_evict, History, core_moves, and_noted, insert_commit, Uses, Views, uses_executed}
+use Rattle.tcc_serial.proofs.Names.{nat_tests, ℕ, ◌≡◌, ◌<◌, ◌≤◌, ◌⊎◌, ◌==◌, ◌&&◌, Bool, true, false, List, [], ◌++◌, Option, Some, None}
+use Rattle.tcc_serial.proofs.Names.{IfSome, arith, refl, sym, subst, ◌∙◌, inl, inr, put, Noted, Program, line_of, writes_at, Shape, home}
+use Rattle.tcc_serial.proofs.Names.{CoreState, Phase, Running, AwaitTid, DoomedTid, Probing, Ready, Overflowing, Solo, Halted, World, Out}
+use Rattle.tcc_serial.proofs.Names.{core_exec, core_evict, History, core_moves, and_noted, insert_commit, Uses, Views, uses_executed}
 use Rattle.tcc_serial.proofs.Names.{InvWord, live, Carried, CarriedInMemory, Grant, holder, Pair, pair, after_move, may_commit, IsBound}
 use Rattle.tcc_serial.proofs.Names.{is_applied, has_tid, opens, waits_for_tid, RequestOf, stores_word, is_below, counts, value_at, dooms}
 use Rattle.tcc_serial.proofs.Names.{UnmodifiedWords, Ways}
@@ -34,11 +34,7 @@ near-put sh ram cs vs w c us f g j d = either j c
 -- no TID is on its way to a core that runs
 running-bound : (v : Pair) (b : Option ℕ) → RequestOf v → v.core.phase ≡ Running → IsBound b v → b ≡ None
 unfolding holder waits_for_tid has_tid
-running-bound v None r e i = refl
-running-bound v (Some t) r e i =
-    let a : num (waits_for_tid v.core.phase) ≡ 0 = rw e refl in
-    let z : num (has_tid v.core.phase t) ≡ 0 = rw e refl in
-    absurd (omega (arith, r, a, z, i, grant-any t v.grants))
+running-bound v a r e i = grind (arith, nat_tests, grant-any, v.grants)
 
 not-halted : (q : Phase) → Acts q → q ≡ Halted → ⊥
 not-halted q a e = rw e at a
@@ -69,23 +65,13 @@ unapplied sh gs ys h k m c d t x cl dl ph e s = served-unapplied h.world d t (op
     eq = same t
 
     holds : ((h.world.cores c).phase ≡ Ready t) ⊎ ((h.world.cores c).phase ≡ Solo t) → has_tid (h.world.cores c).phase t ≡ true
-    holds (inl q) = rw q eq
-    holds (inr q) = rw q eq
+    holds a = grind (arith, nat_tests)
 
     commits : ((h.world.cores c).phase ≡ Ready t) ⊎ ((h.world.cores c).phase ≡ Solo t) → may_commit (h.world.cores c).phase ≡ true
-    commits (inl q) = rw q refl
-    commits (inr q) = rw q refl
+    commits a = grind (arith, nat_tests)
 
     modified : (h.world.cores c).phase ≡ Ready t → (h.world.cores c).cache.modified x ≡ true
-    modified q =
-        let a : (h.world.cores c).spilled x ≡ None = (k.marks_fit_the_phase c).spilled (rw q refl) x in
-        let o : ((h.world.cores c).cache.modified x || is_some ((h.world.cores c).spilled x)) ≡ true = k.stored_words_are_those_named c x ∙ s in
-        let n : is_some ((h.world.cores c).spilled x) ≡ false = rw a refl in
-        only ((h.world.cores c).cache.modified x) (is_some ((h.world.cores c).spilled x)) o n
-      where
-        only : (a b : Bool) → (a || b) ≡ true → b ≡ false → a ≡ true
-        only true b o n = refl
-        only false b o n = absurd (cc)
+    modified q = grind (arith, nat_tests)
 
     opened : ((h.world.cores c).phase ≡ Ready t) ⊎ ((h.world.cores c).phase ≡ Solo t) → opens (h.world.cores c).phase (writes_at sh (h.world.cores c).cache d) t ≡ true
     opened (inl q) =

@@ -46,16 +46,14 @@ grant-views sh gs ys ram vs h y near dm c k u i = go (grant-view sh u (h.world.c
 
 -- an invalidation that rolls nothing back dooms no use
 none-of : (b : Bool) → num b ≤ 0 → b ≡ false
-none-of true l = absurd (omega (arith, l))
-none-of false l = refl
+none-of a l = grind (arith, nat_tests)
 
 spares-inv : (sh : Shape) (gs : List Grant) (ys : Ways) (h : History) → Carried sh gs ys h → (c d k l n u x y : ℕ) (b : Option ℕ) → c < sh.cores → d < sh.dirs → in_flight h.world.net (Dir d) (Core c) k ≡ Some (Inv l n u) → is_violated l n u (h.world.cores c) ≡ false → IsBound b (pair h.world c d) → IsSeen (h.world.cores c).cache (h.world.cores c).phase x y → passes (dooms b x) (Inv l n u) ≡ false
 unfolding pair is_violated passes
 spares-inv sh gs ys h k' c d k l n u x y b cl dl i v g s = go (passes (dooms b x) (Inv l n u)) refl
   where
     hits : (b : Option ℕ) → passes (dooms b x) (Inv l n u) ≡ true → hit l n x ≡ true
-    hits None q = q
-    hits (Some t) q = grind arith
+    hits a q = grind (arith, nat_tests)
 
     ahead : (a b : Bool) → a ≡ true → (a && b) ≡ false → b ≡ false
     ahead true b f q = q

@@ -48,8 +48,7 @@ tells-none : (sh : Shape) (s : CoreState) (o : Out) (q : Phase) → o.core.phase
 tells-none sh s o q e h c = record { skips = λ d t l x. absurd (let z = h (writes_at sh o.core.cache d) t in let y : skips_here q (writes_at sh o.core.cache d) t ≡ true = rw e at x in cc); commits = c }
 
 skips-after : (e : Outcome) (b : Bool) (t : ℕ) → skips_here (phase_after e) b t ≡ false
-skips-after Goes b t = refl
-skips-after _ b t = refl
+skips-after a b t = grind (arith, nat_tests)
 
 tells-alone : (sh : Shape) (c u : ℕ) (s : CoreState) (l : Local) (e : Outcome) → s.phase ≡ Solo u → OneCore sh s → Tells sh s (solo_commit sh c u (after_end s l e))
 unfolding solo_commit committed_core noted has_tid live_way
@@ -104,13 +103,11 @@ tells-replied sh e u s o (Ignored q n) = rw q (tells-steady sh s (ignored s) (ig
 tells-replied sh e u s o (Probed g f ph ow ca se cm) = record { skips = λ d t l x. inl (go d t (all_replied sh (put s.owing e false)) (rw ph at x)); commits = rw cm tt }
   where
     go : (d t : ℕ) (b : Bool) → skips_here (if b then Ready u else Probing u) (writes_at sh o.core.cache d) t ≡ true → skips_here s.phase (writes_at sh s.cache d) t ≡ true
-    go d t true x = rw g (rw ca at x)
-    go d t false x = rw g (rw ca at x)
+    go d t a x = grind (arith, nat_tests)
 tells-replied sh e u s o (Left_alone g f ph ow mo se cm) = tells-none sh s o (if all_replied sh (put s.owing e false) then Solo u else Overflowing (Some u)) ph (none (all_replied sh (put s.owing e false))) (rw cm tt)
   where
     none : (a b : Bool) (t : ℕ) → skips_here (if a then Solo u else Overflowing (Some u)) b t ≡ false
-    none true b t = refl
-    none false b t = refl
+    none a b t = grind (arith, nat_tests)
 
 tells-hurt : (sh : Shape) (l : ℕ) (s : CoreState) (o : Out) → Invalidated sh l s o → Tells sh s o
 tells-hurt sh l s o i = go i.hurt

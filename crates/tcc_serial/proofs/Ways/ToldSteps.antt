@@ -1,20 +1,20 @@
 -- Every event keeps what the ways say of a core's TID, and of a committed one.
-use Rattle.tcc_serial.proofs.Names.{ℕ, zero, suc, ◌≡◌, ◌<◌, ◌≤◌, Bool, true, false, List, ◌==◌, Contains, Option, Some, None, IfSome}
-use Rattle.tcc_serial.proofs.Names.{nat_lt, if◌then◌else◌, arith, refl, sym, ap, ◌∙◌, ◌⊎◌, inl, inr, nat_tests, Noted, Program, num, Core}
-use Rattle.tcc_serial.proofs.Names.{Dir, Vendor, Msg, TidGrant, Event, writes_at, Shape, Phase, Probing, Ready, Overflowing, Solo, World}
-use Rattle.tcc_serial.proofs.Names.{in_flight, Sends, Out, core_exec, core_evict, from_dir, grant, Stepped, step, and_noted, Grants}
-use Rattle.tcc_serial.proofs.Names.{Resolves, Skips, Aborts, Commits, among, passes, KeptCores, Grant, times, KeptOwners, pair, share}
-use Rattle.tcc_serial.proofs.Names.{has_tid, opens, ResolvedAt, KeptTids, Way, Untold, Skipped, Aborted, Committed, Ways, told_by}
-use Rattle.tcc_serial.proofs.Names.{ways_after, sent_by, part_in, WayAt, KeptWays, stores_at, live_way, KeptLive, commit_way, KeptCommitted}
+use Rattle.tcc_serial.proofs.Names.{ℕ, ◌≡◌, ◌<◌, ◌≤◌, Bool, true, false, List, Contains, Option, Some, None, IfSome, nat_lt, if◌then◌else◌}
+use Rattle.tcc_serial.proofs.Names.{arith, refl, sym, ◌∙◌, ◌⊎◌, inl, inr, nat_tests, Noted, Program, Core, Dir, Vendor, Msg, TidGrant}
+use Rattle.tcc_serial.proofs.Names.{Event, writes_at, Shape, Phase, Probing, Ready, Overflowing, Solo, World, in_flight, Sends, Out}
+use Rattle.tcc_serial.proofs.Names.{core_exec, core_evict, from_dir, grant, Stepped, step, and_noted, Grants, Resolves, Skips, Aborts}
+use Rattle.tcc_serial.proofs.Names.{Commits, among, passes, KeptCores, Grant, times, KeptOwners, pair, share, has_tid, opens, ResolvedAt}
+use Rattle.tcc_serial.proofs.Names.{KeptTids, Way, Untold, Skipped, Aborted, Committed, Ways, told_by, ways_after, sent_by, part_in, WayAt}
+use Rattle.tcc_serial.proofs.Names.{KeptWays, stores_at, live_way, KeptLive, commit_way, KeptCommitted, ◌==◌, ap, num}
 use Rattle.tcc_serial.proofs.Counts.Links.{total-le}
 use Rattle.tcc_serial.proofs.Serving.CommitOwners.{CommitsNoted, noted-exec, noted-evict, noted-grant, noted-back}
-use Rattle.tcc_serial.proofs.Serving.OwnerSteps.{times-noted}
 use Rattle.tcc_serial.proofs.Tids.Commits.{inserted, positive-held, positive-committed}
 use Rattle.tcc_serial.proofs.Tids.CoreTids.{KeepsPart, part-exec, part-evict, part-grant, part-back}
 use Rattle.tcc_serial.proofs.Tids.TidSteps.{granted_waits, live-some}
 use Rattle.tcc_serial.proofs.Ways.ByCore.{ByCore, Still, Moved, by_core}
 use Rattle.tcc_serial.proofs.Ways.CoreSkips.{skips_here, Tells, TellsCommit, tells-exec, tells-evict, tells-grant, tells-back}
 use Rattle.tcc_serial.proofs.Ways.WayParts.{in-way, told-none, told-skip, told-nothing}
+use Rattle.tcc_serial.proofs.Serving.OwnerSteps.{times-noted}
 
 -- what a core's rule says, and of which TIDs it speaks
 pub record Speaks (sh : Shape) (w : World) (c : ℕ) (y : Out) : Type 0 where
@@ -52,11 +52,7 @@ untold-part sh w c d t y c' l r h = in-way sh w d t y Untold r h (omega (arith, 
 
 -- a way that was told stays
 stays : (sh : Shape) (w : World) (c d t : ℕ) (ms : List Msg) (y : Way) → c < sh.cores → among (Resolves t) ms ≤ part_in Untold sh d t (pair w c d) → ResolvedAt sh w d t → WayAt sh w d t y → (y ≡ Untold → ⊥) → told_by ms t y ≡ y
-stays sh w c d t ms y c' l r h n = told-none ms t y (go (among (Resolves t) ms) refl)
-  where
-    go : (x : ℕ) → among (Resolves t) ms ≡ x → x ≡ 0
-    go zero e = refl
-    go (suc x) e = absurd (n (untold-part sh w c d t y c' (omega (arith, l, e)) r h))
+stays sh w c d t ms y c' l r h n = grind (arith, nat_tests, told-none, untold-part)
 
 -- the way of a core's TID
 live-cases : (q : Phase) (b : Bool) (t : ℕ) → has_tid q t ≡ true → ((opens q b t ≡ true) × (live_way q b ≡ Untold)) ⊎ ((skips_here q b t ≡ true) × (live_way q b ≡ Skipped))

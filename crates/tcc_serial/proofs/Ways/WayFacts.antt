@@ -4,11 +4,11 @@ use Rattle.tcc_serial.proofs.Names.{Local, Event, Shape, start, core_start, Step
 use Rattle.tcc_serial.proofs.Names.{run_from, run, KeptTold, KeptAll, KeptRun, Grant, granted_by, then_grants, grants_from, has_tid}
 use Rattle.tcc_serial.proofs.Names.{loads_word, Ways, ways_after, sent_by, then_ways, ways_from, first_ways, KeptWays, AlwaysTold, zero}
 use Rattle.tcc_serial.proofs.Names.{suc, ◌+◌, ◌≡◌, ◌<◌, ◌≤◌, Bool, true, false, ◌==◌, ◌&&◌, nat_lt, nat_le, refl, ap, ◌⊎◌, inl, inr}
-use Rattle.tcc_serial.proofs.Names.{nat_tests, num, Core, Dir, is_skipped, writes_at, total, Phase, Probing, Ready, Overflowing, World}
-use Rattle.tcc_serial.proofs.Names.{Commits, live, holder, pair, share, sum_of, opens, ResolvedAt, Way, Untold, Skipped, Aborted, Committed}
-use Rattle.tcc_serial.proofs.Names.{part_in, kept_in, WayAt, is_untold, is_given_up, UntoldWhereOpen, UntoldIsLive, Settled, WaysFit}
-use Rattle.tcc_serial.proofs.Names.{AllWaysFit, given_up_by, GivenUpOnce, LiveIsOpen, CommittedWhereStored, Contains, Noted}
-use Rattle.tcc_serial.proofs.Names.{CommitsAreServed, times, SmallerAreResolved, SmallerAreGivenUp, WorkIsReached, worked_at}
+use Rattle.tcc_serial.proofs.Names.{nat_tests, num, Core, Dir, is_skipped, writes_at, total, Phase, World, Commits, live, holder, pair}
+use Rattle.tcc_serial.proofs.Names.{share, sum_of, opens, ResolvedAt, Way, Untold, Skipped, Aborted, Committed, part_in, kept_in, WayAt}
+use Rattle.tcc_serial.proofs.Names.{is_untold, is_given_up, UntoldWhereOpen, UntoldIsLive, Settled, WaysFit, AllWaysFit, given_up_by}
+use Rattle.tcc_serial.proofs.Names.{GivenUpOnce, LiveIsOpen, CommittedWhereStored, Contains, Noted, CommitsAreServed, times}
+use Rattle.tcc_serial.proofs.Names.{SmallerAreResolved, SmallerAreGivenUp, WorkIsReached, worked_at}
 use Rattle.tcc_serial.proofs.Counts.Links.{total-le, total-zero, num-one}
 use Rattle.tcc_serial.proofs.Run.AllInvariants.{step-all, all-at-start}
 use Rattle.tcc_serial.proofs.Serving.CommitSteps.{commits_served}
@@ -83,8 +83,7 @@ told_from P f sh p entries ram es = go (run sh p (start entries ram) es) (run-wa
 -- untold where it is open
 untold-at : (sh : Shape) (w : World) (d t : ℕ) (y : Way) → ResolvedAt sh w d t → WayAt sh w d t y → parts_in Untold sh w d t + num (nat_le w.next t) ≡ num (is_untold y)
 unfolding kept_in
-untold-at sh w d t Untold r h = h
-untold-at sh w d t _ r h = omega (arith, h, resolved-split sh w d t r)
+untold-at sh w d t a r h = grind (arith, nat_tests, resolved-split)
 
 pub untold_where_open : AlwaysTold UntoldWhereOpen
 untold_where_open = told_from UntoldWhereOpen (λ sh gs ys h k d t l p. untold-at sh h.world d t (ys d t) (k.all.kept.told.tids.resolved d t l) (k.ways d t l p))
@@ -101,10 +100,7 @@ some-part f (suc n) l = go (f n) refl (λ m. some-part f n m)
 
 opens-has : (q : Phase) (b : Bool) (t : ℕ) → num (opens q b t) ≤ num (has_tid q t)
 unfolding opens has_tid
-opens-has (Probing u) b t = grind (arith, nat_tests)
-opens-has (Ready u) b t = grind (arith, nat_tests)
-opens-has (Overflowing u) b t = grind (arith, nat_tests)
-opens-has _ b t = omega arith
+opens-has a b t = grind (arith, nat_tests)
 
 untold-live : (sh : Shape) (w : World) (d t : ℕ) (y : Way) → WayAt sh w d t y → y ≡ Untold → t < w.next → (c : ℕ) × (c < sh.cores) × (1 ≤ holder t (pair w c d))
 unfolding kept_in part_in holder pair share
@@ -241,8 +237,7 @@ reached-in sh w d u k l h = go (parts_in Committed sh w d u) refl
     sent r = omega (arith, k r.0 d u (r.1) l (r.2))
 
     go : (x : ℕ) → parts_in Committed sh w d u ≡ x → u ≤ (w.dirs d).serving.serving
-    go (suc x) e = sent (some-part (share (part_in Committed sh d u) w d) sh.cores (omega (arith, e)))
-    go zero e = grind (arith, nat_tests)
+    go a e = grind (arith, nat_tests, some-part)
 
 reached : (sh : Shape) (gs : List Grant) (ys : Ways) (h : History) (d u : ℕ) → KeptRun sh gs ys h → d < sh.dirs → ys d u ≡ Committed → u ≤ (h.world.dirs d).serving.serving
 reached sh gs ys h d zero k l e = omega arith
@@ -266,8 +261,7 @@ given_up : (sh : Shape) (gs : List Grant) (ys : Ways) (h : History) (n : Noted) 
 given_up sh gs ys h n d t k m l s p q z = go (passed sh gs ys h d t k l p (omega (arith, q, k.worked n d m l s)))
   where
     go : (is_given_up (ys d t) ≡ true) ⊎ Settled sh ys h.world d t → is_given_up (ys d t) ≡ true
-    go (inl a) = a
-    go (inr a) = absurd (omega (arith, z, k.committed.only d t l (a.committed)))
+    go a = grind (arith, nat_tests)
 
 pub smaller_are_given_up : AlwaysTold SmallerAreGivenUp
 smaller_are_given_up = told_from SmallerAreGivenUp (λ sh gs ys h k n d t m l s p q z. given_up sh gs ys h n d t k m l s p q z)

@@ -1,12 +1,12 @@
 -- Every event keeps that each TID is where its way puts it.
-use Rattle.tcc_serial.proofs.Names.{ℕ, ◌+◌, ◌≡◌, ◌<◌, true, List, [], ◌∷◌, ◌==◌, Option, Some, None, IfSome, nat_le, slice_index_or, arith}
-use Rattle.tcc_serial.proofs.Names.{refl, sym, subst, ◌⊎◌, inl, inr, cases_eq, nat_tests, Program, Local, num, Core, Dir, Vendor, Msg}
-use Rattle.tcc_serial.proofs.Names.{TidReq, TidGrant, Event, Shape, DirState, World, start, core_start, vendor_start, in_flight, Sends}
-use Rattle.tcc_serial.proofs.Names.{nothing, Out, core_exec, core_evict, from_dir, grant, Answer, Waits, Drops, Asks, Takes, dir_deliver}
-use Rattle.tcc_serial.proofs.Names.{total, core_moves, core_takes, dir_takes, dir_asks, vendor_gives, step, Grants, Skips, Aborts, Commits}
-use Rattle.tcc_serial.proofs.Names.{live, among, passes, Pair, pair, after_move, grant_taken, back_taken, after_answer, out_taken}
-use Rattle.tcc_serial.proofs.Names.{after_grant, after_other_grant, share, opens, ResolvedAt, Kept, KeptTold, Way, Untold, Skipped, Aborted}
-use Rattle.tcc_serial.proofs.Names.{Committed, Ways, told_by, ways_after, sent_by, first_ways, part_in, kept_in, WayAt, KeptWays}
+use Rattle.tcc_serial.proofs.Names.{ℕ, ◌+◌, ◌≡◌, ◌<◌, true, List, [], ◌==◌, Option, Some, None, IfSome, nat_le, slice_index_or, arith, refl}
+use Rattle.tcc_serial.proofs.Names.{sym, subst, ◌⊎◌, inl, inr, cases_eq, nat_tests, Program, Local, num, Core, Dir, Vendor, Msg, TidReq}
+use Rattle.tcc_serial.proofs.Names.{TidGrant, Event, Shape, DirState, World, start, core_start, vendor_start, in_flight, Sends, nothing}
+use Rattle.tcc_serial.proofs.Names.{Out, core_exec, core_evict, from_dir, grant, Answer, Waits, Drops, Asks, Takes, dir_deliver, total}
+use Rattle.tcc_serial.proofs.Names.{core_moves, core_takes, dir_takes, dir_asks, vendor_gives, step, Skips, Aborts, Commits, live, among}
+use Rattle.tcc_serial.proofs.Names.{passes, Pair, pair, after_move, grant_taken, back_taken, after_answer, out_taken, after_grant}
+use Rattle.tcc_serial.proofs.Names.{after_other_grant, share, opens, ResolvedAt, Kept, KeptTold, Way, Untold, Skipped, Aborted, Committed}
+use Rattle.tcc_serial.proofs.Names.{Ways, told_by, ways_after, sent_by, first_ways, part_in, kept_in, WayAt, KeptWays}
 use Rattle.tcc_serial.proofs.Counts.Links.{live-sends, live-takes, total-zero}
 use Rattle.tcc_serial.proofs.Counts.StepCases.{same, differ, given, sum_move, sum_grant, sum_back, sum_back_away, sum_dir, sum_dir_away}
 use Rattle.tcc_serial.proofs.Counts.StepCases.{sum_asks, sum_vendor, OfAnswer, sent_cases}
@@ -19,17 +19,11 @@ use Rattle.tcc_serial.proofs.Ways.WayParts.{parts_in, resolved-split, gained, lo
 -- a core's step
 part-moved : (sh : Shape) (d t : ℕ) (v : Pair) (o : Out) → KeepsPart sh d t 0 v.core o → (z : Way) → part_in z sh d t (after_move v o d) + lost (o.sends (Dir d)) t z ≡ part_in z sh d t v + gained (o.sends (Dir d)) t z
 unfolding part_in
-part-moved sh d t v o k Untold = omega (arith, k)
-part-moved sh d t v o k Skipped = omega (arith, live-sends (Skips t) v.out (o.sends (Dir d)))
-part-moved sh d t v o k Aborted = omega (arith, live-sends (Aborts t) v.out (o.sends (Dir d)))
-part-moved sh d t v o k Committed = omega (arith, live-sends (Commits t) v.out (o.sends (Dir d)))
+part-moved sh d t v o k a = grind (arith, nat_tests, live-sends)
 
 part-granted : (sh : Shape) (d t k u : ℕ) (v : Pair) (o : Out) → slice_index_or v.grants k None ≡ Some (TidGrant u) → KeepsPart sh d t (num (u == t)) v.core o → (z : Way) → part_in z sh d t (after_move (grant_taken v k) o d) + lost (o.sends (Dir d)) t z ≡ part_in z sh d t v + gained (o.sends (Dir d)) t z
 unfolding part_in passes
-part-granted sh d t k u v o e q Untold = omega (arith, q, live-takes (Grants t) v.grants k (TidGrant u) e)
-part-granted sh d t k u v o e q Skipped = omega (arith, live-sends (Skips t) v.out (o.sends (Dir d)))
-part-granted sh d t k u v o e q Aborted = omega (arith, live-sends (Aborts t) v.out (o.sends (Dir d)))
-part-granted sh d t k u v o e q Committed = omega (arith, live-sends (Commits t) v.out (o.sends (Dir d)))
+part-granted sh d t k u v o e q a = grind (arith, nat_tests, live-takes, v.grants, live-sends)
 
 way-moved : (sh : Shape) (w : World) (c d t : ℕ) (o : Out) (y : Way) → c < sh.cores → KeepsPart sh d t 0 (w.cores c) o → ResolvedAt sh w d t → WayAt sh w d t y → WayAt sh (core_moves w c o) d t (told_by (o.sends (Dir d)) t y)
 unfolding core_moves pair
@@ -43,8 +37,7 @@ way-granted sh w c k u d t o y l i q r h = told-moved sh w (core_takes w Vendor 
 
 part-taken : (sh : Shape) (d t k : ℕ) (v : Pair) (z : Way) → part_in z sh d t (back_taken v k) ≡ part_in z sh d t v
 unfolding part_in
-part-taken sh d t k v Untold = refl
-part-taken sh d t k v _ = refl
+part-taken sh d t k v a = grind (arith, nat_tests)
 
 way-back : (sh : Shape) (w : World) (e c k d t : ℕ) (o : Out) (y : Way) → c < sh.cores → KeepsPart sh d t 0 (w.cores c) o → ResolvedAt sh w d t → WayAt sh w d t y → WayAt sh (core_takes w (Dir e) c k o) d t (told_by (o.sends (Dir d)) t y)
 unfolding core_takes pair
@@ -66,15 +59,11 @@ took m t Committed = num (passes (Commits t) m)
 
 part-answered : (sh : Shape) (d t k : ℕ) (m : Msg) (v : Pair) (s : DirState) (ms : List Msg) → slice_index_or v.out k None ≡ Some m → (z : Way) → part_in z sh d t (after_answer (out_taken v k) s ms) + took m t z ≡ part_in z sh d t v + 0 + 0
 unfolding part_in
-part-answered sh d t k m v s ms e Untold = omega arith
-part-answered sh d t k m v s ms e Skipped = omega (arith, live-takes (Skips t) v.out k m e)
-part-answered sh d t k m v s ms e Aborted = omega (arith, live-takes (Aborts t) v.out k m e)
-part-answered sh d t k m v s ms e Committed = omega (arith, live-takes (Commits t) v.out k m e)
+part-answered sh d t k m v s ms e a = grind (arith, nat_tests, live-takes)
 
 part-still : (sh : Shape) (d t : ℕ) (v : Pair) (s : DirState) (ms : List Msg) (z : Way) → part_in z sh d t (after_answer v s ms) ≡ part_in z sh d t v
 unfolding part_in
-part-still sh d t v s ms Untold = refl
-part-still sh d t v s ms _ = refl
+part-still sh d t v s ms a = grind (arith, nat_tests)
 
 -- what was on its way is kept now
 way-heard : (sh : Shape) (w v : World) (d t : ℕ) (m : Msg) (y : Way) → v.next ≡ w.next → ((z : Way) → parts_in z sh v d t + took m t z ≡ parts_in z sh w d t) → Heard (w.dirs d) m t (v.dirs d) → ResolvedAt sh w d t → ResolvedAt sh v d t → WayAt sh w d t y → WayAt sh v d t y
@@ -112,9 +101,7 @@ way-dir sh w c e k m s sends d t y l i u r z h = go (cases_eq d e)
 
 kept-same : (n : ℕ) (s new : DirState) (t : ℕ) (y : Way) → new.serving ≡ s.serving → new.owed ≡ s.owed → kept_in y n new t ≡ kept_in y n s t
 unfolding kept_in
-kept-same n s new t Untold e f = refl
-kept-same n s new t Committed e f = rw (e, f) refl
-kept-same n s new t _ e f = rw e refl
+kept-same n s new t a e f = grind (arith, nat_tests)
 
 way-asks : (sh : Shape) (w : World) (e : ℕ) (s : DirState) (sends : Sends) (d t : ℕ) (y : Way) → s.serving ≡ (w.dirs e).serving → s.owed ≡ (w.dirs e).owed → WayAt sh w d t y → WayAt sh (dir_asks w e s sends) d t y
 unfolding pair dir_asks
@@ -133,8 +120,7 @@ way-asks sh w e s sends d t y f g h = go (cases_eq d e)
 -- the vendor grants a TID
 part-next : (sh : Shape) (d t : ℕ) (v : Pair) (z : Way) → part_in z sh d t (after_other_grant v) ≡ part_in z sh d t v
 unfolding part_in
-part-next sh d t v Untold = refl
-part-next sh d t v _ = refl
+part-next sh d t v a = grind (arith, nat_tests)
 
 -- what is on its way now, and was not granted before
 abbrev given_to : (next tid : ℕ) → Way → ℕ
@@ -143,8 +129,7 @@ given_to n t _ = 0
 
 part-given : (sh : Shape) (d t k : ℕ) (v : Pair) (z : Way) → part_in z sh d t (after_grant v k) + 0 ≡ part_in z sh d t v + given_to v.next t z
 unfolding part_in passes among
-part-given sh d t k v Untold = omega (arith, live-sends (Grants t) v.grants (TidGrant v.next ∷ []))
-part-given sh d t k v _ = refl
+part-given sh d t k v a = grind (arith, nat_tests, live-sends, v.grants, v.next)
 
 way-vendor : (sh : Shape) (w : World) (c k d t : ℕ) (y : Way) → c < sh.cores → WayAt sh w d t y → WayAt sh (vendor_gives w c k (given w c)) d t y
 unfolding pair vendor_gives kept_in

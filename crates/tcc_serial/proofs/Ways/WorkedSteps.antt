@@ -1,7 +1,7 @@
 -- Every event keeps that a directory where a commit loaded or stored has reached its TID.
 use Rattle.tcc_serial.proofs.Names.{ℕ, ◌≡◌, ◌<◌, ◌≤◌, Bool, true, false, ◌&&◌, ◌||◌, ◌==◌, List, Contains, Option, Some, None, IfSome}
-use Rattle.tcc_serial.proofs.Names.{if◌then◌else◌, arith, refl, ◌∙◌, ◌⊎◌, inl, inr, nat_tests, Noted, Program, any_below, any_word, word_at}
-use Rattle.tcc_serial.proofs.Names.{Dir, Msg, Event, Shape, home, lines, writes_at, reads_at, is_modified, any_below-at, any_below-found}
+use Rattle.tcc_serial.proofs.Names.{if◌then◌else◌, arith, refl, ◌⊎◌, inl, inr, nat_tests, Noted, Program, any_below, any_word, word_at, Dir}
+use Rattle.tcc_serial.proofs.Names.{Msg, Event, Shape, home, lines, writes_at, reads_at, is_modified, any_below-at, any_below-found}
 use Rattle.tcc_serial.proofs.Names.{CoreState, DirState, Ready, World, Out, Sends, commit, noted, core_exec, core_evict, grant, from_dir}
 use Rattle.tcc_serial.proofs.Names.{Answer, Waits, Drops, Asks, Takes, dir_deliver, core_moves, core_takes, dir_takes, dir_asks}
 use Rattle.tcc_serial.proofs.Names.{vendor_gives, Stepped, step, and_noted, Kept, OneCore, KeptCores, pair, Reached, stores_at, loads_word}
