@@ -22,7 +22,8 @@ use Rattle.tcc_rules.specs.State.{CoreState, Awaited, Phase, Running, AwaitTid, 
 use Rattle.tcc_serial.specs.Count.{Protocol, among, passes}
 use Rattle.tcc_serial.specs.Tids.{has_tid}
 use Rattle.tcc_serial.proofs.Lemmas.{evict-steady, fill-steady, data-steady, Hurt, Unhurt, Rolled, Doomed, Aborted, Gave_up, Invalidated}
-use Rattle.tcc_serial.proofs.Lemmas.{invalidate-cases, Replied, Ignored, Probed, Left_alone, reply-cases, Steady, did-steady, Did, each-exec, out}
+use Rattle.tcc_serial.proofs.Lemmas.{invalidate-cases, Replied, Ignored, Probed, Left_alone, reply-cases, Steady, did-steady}
+use Rattle.tcc_serial.proofs.Lemmas.{Did, each-exec, out}
 use Rattle.tcc_serial.proofs.Lemmas.{Room_wanted, Ends_run, Ends_alone, Commits_now}
 use Rattle.tcc_bounds.specs.Messages.{WasGranted, tid_named}
 use Rattle.node_bounds.proofs.sends.Each.{Each, each-none, each-one, each-append, each-when, each-flat}

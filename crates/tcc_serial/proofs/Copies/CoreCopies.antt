@@ -1,9 +1,8 @@
 -- A core's instructions and evictions keep the copies of each line: dirty words that leave a frame are sent home, and a commit makes one
 -- copy of each line that it stored.
-use Rattle.tcc_serial.proofs.Names.{stored, ℕ, ◌+◌, ◌≡◌, ◌<◌, ◌⊎◌, ◌==◌, ◌&&◌, Bool, true, false, not, Option, Some, None, is_some}
-use Rattle.tcc_serial.proofs.Names.{if◌then◌else◌, arith, refl, sym, ◌∙◌, inl, inr, cases_eq, nat_tests, Noted, num, line_of, word_at, Dir}
-use Rattle.tcc_serial.proofs.Names.{Shape, home, set_of, Cache, IsCache, free_way, placed, placed_at, CoreState, Out, CopyOf, CopyMask}
-use Rattle.tcc_serial.proofs.Names.{among, stores_in, names_line}
+use Rattle.tcc_serial.proofs.Names.{stored, ℕ, ◌+◌, ◌≡◌, ◌<◌, ◌⊎◌, ◌==◌, ◌&&◌, Bool, true, false, not, Option, Some, None, if◌then◌else◌}
+use Rattle.tcc_serial.proofs.Names.{arith, refl, ◌∙◌, inl, inr, cases_eq, nat_tests, Noted, num, line_of, word_at, Dir, Shape, home, Cache}
+use Rattle.tcc_serial.proofs.Names.{IsCache, placed, placed_at, CoreState, Out, CopyOf, CopyMask, among, stores_in, names_line}
 use Rattle.tcc_serial.proofs.Copies.CopySends.{Leaves, few-masks}
 use Rattle.tcc_serial.proofs.Copies.DirtyFrames.{frame_copy, frame_wrong, wrong-copy, SameDirty, same-frame, clean-frame, in-line}
 

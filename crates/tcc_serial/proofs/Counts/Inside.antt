@@ -1,8 +1,7 @@
 -- No message goes to a core that the machine doesn't have, and none of them owns a line.
-use Rattle.tcc_serial.proofs.Names.{ℕ, ◌≡◌, ◌<◌, ◌≤◌, false, [], ◌∷◌, ◌==◌, Some, nat_lt, arith, refl}
-use Rattle.tcc_serial.proofs.Names.{nat_tests, Lines, Core, Msg, Fill, ProbeReply, DataReq, Shape, lines, DirState, Sends}
-use Rattle.tcc_serial.proofs.Names.{nothing, to, Answer, Asks, Takes, dir_deliver, invalidations, invs_to, is_invalidated, line_words, Any}
-use Rattle.tcc_serial.proofs.Names.{among}
+use Rattle.tcc_serial.proofs.Names.{ℕ, ◌≡◌, ◌<◌, ◌≤◌, false, [], ◌∷◌, ◌==◌, Some, nat_lt, arith, refl, nat_tests, Lines, Core, Msg, Fill}
+use Rattle.tcc_serial.proofs.Names.{ProbeReply, DataReq, Shape, lines, DirState, Sends, nothing, to, Answer, Asks, Takes, dir_deliver}
+use Rattle.tcc_serial.proofs.Names.{invalidations, invs_to, is_invalidated, line_words, Any, among}
 use Rattle.tcc_serial.proofs.Counts.DirOutcome.{Outcome, Waiting, Spent, AsksOwner, TakesProbe, TakesLoad, TakesCommit, TakesCopy, outcome}
 use Rattle.tcc_serial.proofs.Counts.Links.{those-none}
 

@@ -1,7 +1,6 @@
 -- Every event keeps that a line whose data was asked for has an owner.
-use Rattle.tcc_serial.proofs.Names.{ℕ, IfSome, arith, nat_tests}
-use Rattle.tcc_serial.proofs.Names.{Program, Local, no_lines, Event, Msg, Shape, DirState, World, start, dir_start, Answer}
-use Rattle.tcc_serial.proofs.Names.{dir_deliver, step}
+use Rattle.tcc_serial.proofs.Names.{ℕ, IfSome, arith, nat_tests, Program, Local, no_lines, Event, Msg, Shape, DirState, World, start}
+use Rattle.tcc_serial.proofs.Names.{dir_start, Answer, dir_deliver, step}
 use Rattle.tcc_serial.specs.Asked.{AskedOwned, KeptAsked}
 use Rattle.tcc_serial.proofs.Counts.DirOutcome.{Outcome, Waiting, Spent, AsksOwner, TakesCommit, TakesCopy, outcome}
 use Rattle.tcc_serial.proofs.Counts.StepCases.{Leaves, dirs_step}

@@ -1,8 +1,8 @@
 -- By an instruction, an eviction or a grant a core comes to hold a line only by a commit that stored in it.
 use Rattle.tcc_serial.proofs.Names.{ℕ, ◌≡◌, ◌⊎◌, ◌||◌, Bool, true, false, Option, Some, None, IfSome, is_some, refl, sym, ◌∙◌, inl, inr}
 use Rattle.tcc_serial.proofs.Names.{Noted, Program, word_of, line_of, Shape, set_of, Cache, is_modified, free_way, placed, placed_at, holds}
-use Rattle.tcc_serial.proofs.Names.{CoreState, Phase, Running, Ready, Solo, Out, is_solo, commit, committed_core, noted, solo_commit}
-use Rattle.tcc_serial.proofs.Names.{is_written, grant, core_exec, core_evict, keeps_unmodified, is_fresh, OneCore, Words, acting}
+use Rattle.tcc_serial.proofs.Names.{CoreState, Phase, Running, Ready, Solo, Out, is_solo, commit, committed_core, noted, solo_commit, arith}
+use Rattle.tcc_serial.proofs.Names.{is_written, grant, core_exec, core_evict, keeps_unmodified, is_fresh, OneCore, Words, acting, nat_tests}
 use Rattle.tcc_serial.proofs.Names.{names_line}
 use Rattle.tcc_serial.proofs.Lines.HeldWords.{Fewer, fewer-kept, fewer-marked, fewer-stored, fewer-evicted, kept-committed, kept-alone}
 use Rattle.tcc_serial.proofs.Marks.StoredMasks.{unspilled, modified-line, written-line}

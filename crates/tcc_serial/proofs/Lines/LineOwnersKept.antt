@@ -1,12 +1,9 @@
 -- Every event keeps that the owner of a line is the core that the line's tag was granted to.
-use Rattle.tcc_serial.proofs.Names.{nat_tests, Commit, ℕ, ◌≡◌, Bool, true, false, List, [], ◌++◌, Contains, ◌==◌, Option}
-use Rattle.tcc_serial.proofs.Names.{Some, None, IfSome, if◌then◌else◌, arith, ap, Contains-append_left, Program}
-use Rattle.tcc_serial.proofs.Names.{Local, num, has_mark, no_lines, Core, Dir, Event, Msg, Shape, DirState, World, start, dir_start}
-use Rattle.tcc_serial.proofs.Names.{in_flight, Answer}
-use Rattle.tcc_serial.proofs.Names.{step, pair, KeptLineOwners, Commits}
-use Rattle.tcc_serial.proofs.Names.{passes, Grant, granted_by, SparesCommitter, Stepped}
-use Rattle.tcc_serial.proofs.Counts.DirOutcome.{Outcome, Waiting, Spent}
-use Rattle.tcc_serial.proofs.Counts.DirOutcome.{TakesCommit, TakesCopy, outcome}
+use Rattle.tcc_serial.proofs.Names.{nat_tests, Commit, ℕ, ◌≡◌, Bool, true, false, List, [], ◌++◌, Contains, ◌==◌, Option, Some, None}
+use Rattle.tcc_serial.proofs.Names.{IfSome, if◌then◌else◌, arith, ap, Contains-append_left, Program, Local, num, has_mark, no_lines, Core}
+use Rattle.tcc_serial.proofs.Names.{Dir, Event, Msg, Shape, DirState, World, start, dir_start, in_flight, Answer, step, pair}
+use Rattle.tcc_serial.proofs.Names.{KeptLineOwners, Commits, passes, Grant, granted_by, SparesCommitter, Stepped}
+use Rattle.tcc_serial.proofs.Counts.DirOutcome.{Outcome, Waiting, Spent, TakesCommit, TakesCopy, outcome}
 use Rattle.tcc_serial.proofs.Counts.Links.{live-takes}
 use Rattle.tcc_serial.proofs.Counts.StepCases.{same, Leaves, dirs_step}
 

@@ -1,5 +1,5 @@
 -- Every event keeps that one load request or Fill is in flight exactly for the line that a core awaits.
-use Rattle.tcc_serial.proofs.Names.{ℕ, ◌≡◌, Bool, true, false, [], ◌==◌, ◌&&◌, Option, Some, None, IfSome, arith, refl, Program, Local, num}
+use Rattle.tcc_serial.proofs.Names.{ℕ, ◌≡◌, Bool, false, [], ◌==◌, ◌&&◌, Option, Some, None, IfSome, arith, refl, Program, Local, num}
 use Rattle.tcc_serial.proofs.Names.{Core, Dir, Event, Msg, Fill, ProbeReply, DataReq, Shape, DirState, World, start, core_start, in_flight}
 use Rattle.tcc_serial.proofs.Names.{Out, core_exec, core_evict, from_dir, grant, Answer, Waits, Drops, Asks, Takes, dir_deliver, line_words}
 use Rattle.tcc_serial.proofs.Names.{core_moves, core_takes, step, LoadingOf, KeptLoading, LoadOf, FillOf, live, among, passes, Pair, pair}
@@ -10,6 +10,7 @@ use Rattle.tcc_serial.proofs.Counts.StepCases.{same, differ, pairs_move, pairs_g
 use Rattle.tcc_serial.proofs.Counts.StepCases.{OfAnswer, step_cases}
 use Rattle.tcc_serial.proofs.OneCore.CoreAwaits.{LoadsStep, LoadsBack, loads-exec, loads-evict, loads-grant, loads-back}
 use Rattle.tcc_serial.proofs.Tids.TidSteps.{live-some}
+use Rattle.tcc_serial.proofs.Names.{nat_tests}
 
 -- a load request is answered by one Fill to its core, or stays, and no other message brings one
 abbrev pub FillsBy : (core : ℕ) → Msg → Answer → Type 0

@@ -6,7 +6,7 @@ use Rattle.tcc_serial.proofs.Names.{lines, DirState, Link, Sends, in_flight, His
 use Rattle.tcc_serial.proofs.Names.{Ways, wrote_line, Option, IfSome, Out, and_noted, insert_commit, KeptLoading, LoadOf, CommitsAbove, due}
 use Rattle.tcc_serial.proofs.Names.{after_move, share, is_applied, stores_at, names_line, is_some, line_of, CoreState, Phase, Running}
 use Rattle.tcc_serial.proofs.Names.{World, core_moves, dir_takes, KeptSharers, OneCore, acting, after_answer, out_taken, has_tid, ◌%◌, not}
-use Rattle.tcc_serial.proofs.Names.{Fill, is_awaited, KeptHomes, LoadingOf, InvOf, LinesAway}
+use Rattle.tcc_serial.proofs.Names.{is_awaited, KeptHomes, LoadingOf, InvOf, LinesAway}
 use Rattle.tcc_serial.proofs.Copies.LinesKept.{Before, new-of}
 use Rattle.tcc_serial.proofs.Copies.LinesStep.{writer-line, commit-passes}
 use Rattle.tcc_serial.proofs.Copies.PairCopies.{NewCommit}

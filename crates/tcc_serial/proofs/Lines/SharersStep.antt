@@ -1,13 +1,12 @@
 -- Every event keeps that a core which holds a line in memory is one of its sharers, each kind of event by itself.
-use Rattle.tcc_serial.proofs.Names.{nat_tests, ℕ, ◌≡◌, false, [], refl, Local, any_below, any_word, empty_cache, Shape, start, core_start}
-use Rattle.tcc_serial.proofs.Names.{KeptSharers, keeps_unmodified, holds_line, live, pair, ◌<◌, ◌≤◌, ◌⊎◌, ◌==◌, ◌&&◌, true, List, ◌∷◌}
-use Rattle.tcc_serial.proofs.Names.{Option, Some, None, IfSome, arith, ap, sym, subst, ◌∙◌, inl, inr, Noted, Program, num, Core, Dir}
-use Rattle.tcc_serial.proofs.Names.{Vendor, Msg, TidGrant, Event, DirState, Sends, has_mark, cases_lt, in_flight, Out, core_exec}
-use Rattle.tcc_serial.proofs.Names.{core_evict, from_dir, grant, Answer, Waits, Drops, Asks, Takes, dir_deliver, core_moves, core_takes}
-use Rattle.tcc_serial.proofs.Names.{dir_takes, dir_asks, History, and_noted, step, KeptNamed, KeptLoading, KeptHomes, LoadingOf, SharerOf}
-use Rattle.tcc_serial.proofs.Names.{Kind, Commits, GoneOf, AckOf, Acks, InvOf, InvsAway, FillOf, among, passes, Grant, Pair, after_move}
-use Rattle.tcc_serial.proofs.Names.{grant_taken, back_taken, after_answer, out_taken, after_grant, after_other_grant, is_applied, stores_at}
-use Rattle.tcc_serial.proofs.Names.{Ways, Bool}
+use Rattle.tcc_serial.proofs.Names.{ℕ, ◌≡◌, false, [], refl, Local, any_below, any_word, empty_cache, Shape, start, core_start, KeptSharers}
+use Rattle.tcc_serial.proofs.Names.{keeps_unmodified, holds_line, live, pair, ◌<◌, ◌≤◌, ◌⊎◌, ◌==◌, ◌&&◌, true, List, ◌∷◌, Option, Some}
+use Rattle.tcc_serial.proofs.Names.{None, IfSome, arith, ap, sym, subst, ◌∙◌, inl, inr, Noted, Program, num, Core, Dir, Vendor, Msg}
+use Rattle.tcc_serial.proofs.Names.{TidGrant, Event, DirState, Sends, has_mark, cases_lt, in_flight, Out, core_exec, core_evict, from_dir}
+use Rattle.tcc_serial.proofs.Names.{grant, Answer, Waits, Drops, Asks, Takes, dir_deliver, core_moves, core_takes, dir_takes, dir_asks}
+use Rattle.tcc_serial.proofs.Names.{History, and_noted, step, KeptNamed, KeptLoading, KeptHomes, LoadingOf, SharerOf, Kind, Commits, GoneOf}
+use Rattle.tcc_serial.proofs.Names.{AckOf, Acks, InvOf, InvsAway, FillOf, among, passes, Grant, Pair, after_move, grant_taken, back_taken}
+use Rattle.tcc_serial.proofs.Names.{after_answer, out_taken, after_grant, after_other_grant, is_applied, stores_at, Ways, Bool}
 use Rattle.tcc_serial.proofs.Copies.LinesKept.{Before}
 use Rattle.tcc_serial.proofs.Counts.Links.{live-sends, live-takes, none-taken}
 use Rattle.tcc_serial.proofs.Counts.StepCases.{back-own, back-away, pairs_grant, pairs_back, pairs_dir, pairs_asks, pairs_vendor, OfAnswer}

@@ -1,12 +1,10 @@
 -- What a core has marked, or marks, by a TID that it commits is what the commit stored.
-use Rattle.tcc_serial.proofs.Names.{ℕ, ◌+◌, ◌≡◌, ◌≤◌, Bool, true, false, not, List, [], ◌∷◌, ◌++◌, ◌==◌, ◌&&◌, Some, IfSome, nat_lt}
-use Rattle.tcc_serial.proofs.Names.{if◌then◌else◌, flat_map, arith, refl, sym, ap, ◌∙◌, ◌⊎◌, inl, inr, nat_tests, Noted, Program, num}
-use Rattle.tcc_serial.proofs.Names.{those, any_below, count_below, Dir, Msg, Skip, Mark, Commit, WriteBack, Shape, home, lines, Cache}
-use Rattle.tcc_serial.proofs.Names.{is_modified, modified_mask, writes_at, Spilled, holds, spilled_mask, spilled_words, CoreState, Phase}
-use Rattle.tcc_serial.proofs.Names.{Ready, Solo, Out, noted, commit, commit_sends, solo_sends, solo_marks, solo_backs, solo_writes_at}
-use Rattle.tcc_serial.proofs.Names.{is_written, written_mask, core_exec, core_evict, from_dir, Commits, AnyCommit, CommitOf, MarkOf}
-use Rattle.tcc_serial.proofs.Names.{MarkMask, among, passes, has_marked, stores_line, marked_by, OneCore, stores_in, stored_mask, stores_at}
-use Rattle.tcc_serial.proofs.Names.{has_tid, solo_commit}
+use Rattle.tcc_serial.proofs.Names.{ℕ, ◌+◌, ◌≡◌, ◌≤◌, Bool, true, false, not, List, [], ◌∷◌, ◌==◌, ◌&&◌, Some, IfSome, nat_lt, arith, refl}
+use Rattle.tcc_serial.proofs.Names.{sym, ap, ◌∙◌, ◌⊎◌, inl, inr, nat_tests, Noted, Program, num, any_below, Dir, Msg, Commit, Shape, home}
+use Rattle.tcc_serial.proofs.Names.{lines, Cache, is_modified, modified_mask, writes_at, Spilled, CoreState, Phase, Ready, Solo, Out, noted}
+use Rattle.tcc_serial.proofs.Names.{commit, commit_sends, solo_sends, solo_marks, solo_backs, solo_writes_at, is_written, written_mask}
+use Rattle.tcc_serial.proofs.Names.{core_exec, core_evict, from_dir, Commits, AnyCommit, CommitOf, MarkOf, MarkMask, among, passes}
+use Rattle.tcc_serial.proofs.Names.{has_marked, stores_line, marked_by, OneCore, stores_in, stored_mask, stores_at, has_tid, solo_commit}
 use Rattle.tcc_serial.proofs.Serving.CoreCommits.{heard-free}
 use Rattle.tcc_serial.proofs.Counts.Links.{among-append, among-flat_map_none}
 use Rattle.tcc_serial.proofs.Serving.CommitOwners.{few-of}

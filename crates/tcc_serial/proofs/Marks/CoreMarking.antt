@@ -2,10 +2,9 @@
 use Rattle.tcc_serial.proofs.Names.{ℕ, ◌+◌, ◌≡◌, ◌≤◌, Bool, true, false, not, List, [], ◌∷◌, ◌++◌, ◌==◌, ◌&&◌, None, IfSome, nat_lt}
 use Rattle.tcc_serial.proofs.Names.{if◌then◌else◌, arith, refl, ap, ◌⊎◌, inl, inr, cases_eq, nat_tests, Program, num, any_word, Dir, Msg}
 use Rattle.tcc_serial.proofs.Names.{InvAck, Shape, home, lines, Cache, writes_at, is_modified, CoreState, Phase, Running, AwaitTid, Ready}
-use Rattle.tcc_serial.proofs.Names.{Overflowing, Solo, to, skip_all, abort_written, Out, commit, committed_core, phase_after}
-use Rattle.tcc_serial.proofs.Names.{commit_sends, solo_sends, core_exec, core_evict, Resolves, Protocol, Marks, MarkOf, EmptyMarks, Skips}
-use Rattle.tcc_serial.proofs.Names.{among, passes, has_marked, stores_line, marked_by, has_tid, opens, Outcome}
-use Rattle.tcc_serial.proofs.Names.{moves, solo_commit}
+use Rattle.tcc_serial.proofs.Names.{Overflowing, Solo, to, skip_all, abort_written, Out, commit, committed_core, phase_after, commit_sends}
+use Rattle.tcc_serial.proofs.Names.{solo_sends, core_exec, core_evict, Resolves, Protocol, Marks, MarkOf, EmptyMarks, Skips, among, passes}
+use Rattle.tcc_serial.proofs.Names.{has_marked, stores_line, marked_by, has_tid, opens, Outcome, moves, solo_commit}
 use Rattle.tcc_serial.proofs.Counts.Links.{among-append, num-few}
 use Rattle.tcc_serial.proofs.Tids.CoreProbing.{tid-after}
 use Rattle.tcc_serial.proofs.OneCore.Executes.{Steady, did-steady}
@@ -23,7 +22,8 @@ pub record Marking (sh : Shape) (d t l : ℕ) (s : CoreState) (o : Out) : Type 0
   pub kept : has_tid o.core.phase t ≡ true → (has_tid s.phase t ≡ true) × (among (MarkOf t l) (o.sends (Dir d)) + marked_by sh s d l ≡ marked_by sh o.core d l)
   pub once : among (MarkOf t l) (o.sends (Dir d)) + marked_by sh s d l ≤ 1
   pub opened : 1 ≤ among (MarkOf t l) (o.sends (Dir d)) → opens s.phase (writes_at sh s.cache d) t ≡ true
-  pub skips : 1 ≤ among (Skips t) (o.sends (Dir d)) → (has_tid s.phase t ≡ true) × (among (MarkOf t l) (o.sends (Dir d)) + marked_by sh s d l ≡ 0)
+  pub skips : 1 ≤ among (Skips t) (o.sends (Dir d))
+      → (has_tid s.phase t ≡ true) × (among (MarkOf t l) (o.sends (Dir d)) + marked_by sh s d l ≡ 0)
 
 -- kinds that are told of
 one-protocol : (t l : ℕ) (m : Msg) → num (passes (Marks t) m) + num (passes (Resolves t) m) + num (passes EmptyMarks m) ≤ num (passes Protocol m) + num (passes EmptyMarks m)
@@ -84,7 +84,8 @@ silent sh d t l s o u k = record {
   skips = λ x. absurd (omega (arith, x, u.skips));
 }
 
-pub stores-same : (sh : Shape) (a b : Cache) (d l : ℕ) → ((v : ℕ) → a.modified v ≡ b.modified v) → stores_line sh a d l ≡ stores_line sh b d l
+pub stores-same : (sh : Shape) (a b : Cache) (d l : ℕ) → ((v : ℕ) → a.modified v ≡ b.modified v)
+    → stores_line sh a d l ≡ stores_line sh b d l
 unfolding stores_line is_modified
 stores-same sh a b d l h = ap (λ m. nat_lt l (lines sh) && (d == home sh l && any_word m l)) (λ i v. h v i)
 

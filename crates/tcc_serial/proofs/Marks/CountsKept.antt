@@ -4,8 +4,8 @@ use Rattle.tcc_serial.proofs.Names.{cases_lt, nat_tests, num, count_below, has_m
 use Rattle.tcc_serial.proofs.Names.{Link, Out, total, sent_all, Resolves, MarkOf, EmptyMarks, CommitOf, live, among, passes, marks_of}
 use Rattle.tcc_serial.proofs.Names.{marked_by, MarksOf, CountsMarks, CountedOf, Grant, Pair, after_move, after_answer, opens, Contains}
 use Rattle.tcc_serial.proofs.Names.{nat_le, ap, World, Kind, AnyCommit, pair, share, grant_taken, part, handled, KeptTids, [], Option, Some}
-use Rattle.tcc_serial.proofs.Names.{None, IfSome, set, subst, cases_eq, Noted, Program, Local, Core, TidReq, Commit, Event, Phase, Probing}
-use Rattle.tcc_serial.proofs.Names.{Overflowing, start, dir_start, in_flight, Sends, core_exec, core_evict, from_dir, grant, Answer, Waits}
+use Rattle.tcc_serial.proofs.Names.{None, IfSome, set, subst, cases_eq, Noted, Program, Local, Core, TidReq, Commit, Event, Phase}
+use Rattle.tcc_serial.proofs.Names.{start, dir_start, in_flight, Sends, core_exec, core_evict, from_dir, grant, Answer, Waits}
 use Rattle.tcc_serial.proofs.Names.{Drops, Asks, Takes, dir_deliver, core_moves, core_takes, dir_takes, dir_asks, step, Acks, KeptMarks}
 use Rattle.tcc_serial.proofs.Names.{KeptCounted, KeptCores, awaits_replies, KeptOwners, back_taken, after_grant, after_other_grant}
 use Rattle.tcc_serial.proofs.Names.{may_commit, Kept, KeptTold, skip}

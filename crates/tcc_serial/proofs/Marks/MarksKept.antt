@@ -3,7 +3,7 @@ use Rattle.tcc_serial.proofs.Names.{ℕ, ◌+◌, ◌≡◌, ◌<◌, ◌≤◌,
 use Rattle.tcc_serial.proofs.Names.{slice_index_or, arith, refl, ap, subst, ◌⊎◌, inl, inr, cases_eq, cases_lt, nat_tests, num, has_mark}
 use Rattle.tcc_serial.proofs.Names.{Dir, Msg, TidGrant, Mark, Skip, Shape, writes_at, DirState, Link, Out, sent_all, Grants, Resolves}
 use Rattle.tcc_serial.proofs.Names.{Marks, MarkOf, EmptyMarks, Skips, live, among, passes, marks_of, MarksOf, Grant, Pair, after_move}
-use Rattle.tcc_serial.proofs.Names.{grant_taken, has_tid, opens, not, [], ◌∷◌, slice_set, ◌∙◌, Contains-append_left, Noted, Core, Vendor}
+use Rattle.tcc_serial.proofs.Names.{grant_taken, has_tid, opens, [], ◌∷◌, slice_set, ◌∙◌, Contains-append_left, Noted, Core, Vendor}
 use Rattle.tcc_serial.proofs.Names.{CoreState, World, in_flight, Kind, AnyResolve, has_marked, marked_by, KeptMarks, holder, KeptOwners}
 use Rattle.tcc_serial.proofs.Names.{pair, share, after_answer, after_grant, after_other_grant, part, handled, KeptTids, KeptTold, Option}
 use Rattle.tcc_serial.proofs.Names.{IfSome, set, append-nil, Program, Local, no_lines, TidReq, Event, start, core_start, dir_start, Sends}

@@ -1,7 +1,6 @@
 -- Every event keeps that a line which is marked in part has no owner.
-use Rattle.tcc_serial.proofs.Names.{ℕ, IfSome, arith, refl, inr}
-use Rattle.tcc_serial.proofs.Names.{nat_tests, Program, Local, no_lines, Event, Msg, Shape, DirState, World, start, dir_start, Answer}
-use Rattle.tcc_serial.proofs.Names.{dir_deliver, step, WhollyOrHome, KeptWhole}
+use Rattle.tcc_serial.proofs.Names.{ℕ, IfSome, arith, refl, inr, nat_tests, Program, Local, no_lines, Event, Msg, Shape, DirState, World}
+use Rattle.tcc_serial.proofs.Names.{start, dir_start, Answer, dir_deliver, step, WhollyOrHome, KeptWhole}
 use Rattle.tcc_serial.proofs.Counts.DirOutcome.{Outcome, Waiting, Spent, TakesAbort, TakesMark, TakesCommit, TakesAck, TakesCopy, outcome}
 use Rattle.tcc_serial.proofs.Counts.StepCases.{Leaves, dirs_step}
 

@@ -1,16 +1,15 @@
 -- Every event keeps that a TID that commits has marked what its commit stored, also while acknowledgements of it are owed.
-use Rattle.tcc_serial.proofs.Names.{ℕ, zero, suc, ◌+◌, ◌≡◌, ◌<◌, ◌≤◌, Bool, true, false, not, List, [], ◌∷◌, ◌++◌, ◌==◌, ◌&&◌, Contains}
-use Rattle.tcc_serial.proofs.Names.{Option, Some, None, length, slice_index_or, nat_lt, if◌then◌else◌, arith, refl, ◌∙◌, ◌⊎◌, inl, inr}
-use Rattle.tcc_serial.proofs.Names.{cases_eq, cases_lt, nat_tests, Noted, num, modified_mask, writes_at, has_mark, Dir, Msg, Skip, Shape}
-use Rattle.tcc_serial.proofs.Names.{DirState, Link, Out, sent_all, insert_commit, and_noted, Kind, Resolves, Commits, AnyCommit, MarkOf}
-use Rattle.tcc_serial.proofs.Names.{MarkMask, EmptyMarks, live, among, passes, marks_of, marked_by, MarksOf, wrong_marks, MaskedOf, Grant}
-use Rattle.tcc_serial.proofs.Names.{Pair, after_move, grant_taken, after_answer, stored_mask, MarkedWith, MarkedCommit, SettledCommit}
-use Rattle.tcc_serial.proofs.Names.{StoredOf, opens, IfSome, set, sym, ap, subst, Program, Local, count_below, Core, TidReq, Commit, Event}
-use Rattle.tcc_serial.proofs.Names.{lines, World, start, dir_start, in_flight, Sends, core_exec, core_evict, from_dir, grant, Answer, Waits}
-use Rattle.tcc_serial.proofs.Names.{Drops, Asks, Takes, dir_deliver, core_moves, core_takes, dir_takes, dir_asks, step, CommitOf, Acks}
-use Rattle.tcc_serial.proofs.Names.{KeptCounted, KeptMarks, KeptMasks, KeptCores, KeptOwners, pair, back_taken, after_grant}
-use Rattle.tcc_serial.proofs.Names.{after_other_grant, KeptStored, Kept, KeptTold}
-use Rattle.tcc_serial.proofs.Names.{skip}
+use Rattle.tcc_serial.proofs.Names.{ℕ, zero, suc, ◌+◌, ◌≡◌, ◌<◌, ◌≤◌, Bool, true, false, List, [], ◌∷◌, ◌++◌, Contains, Option, Some, None}
+use Rattle.tcc_serial.proofs.Names.{length, slice_index_or, nat_lt, if◌then◌else◌, arith, refl, ◌∙◌, ◌⊎◌, inl, inr, cases_lt, nat_tests}
+use Rattle.tcc_serial.proofs.Names.{Noted, num, modified_mask, writes_at, has_mark, Dir, Msg, Skip, Shape, DirState, Link, Out, sent_all}
+use Rattle.tcc_serial.proofs.Names.{insert_commit, and_noted, Kind, Resolves, Commits, AnyCommit, MarkOf, MarkMask, EmptyMarks, live, among}
+use Rattle.tcc_serial.proofs.Names.{passes, marks_of, marked_by, MarksOf, wrong_marks, MaskedOf, Grant, Pair, after_move, grant_taken}
+use Rattle.tcc_serial.proofs.Names.{after_answer, stored_mask, MarkedWith, MarkedCommit, SettledCommit, StoredOf, opens, IfSome, set, sym}
+use Rattle.tcc_serial.proofs.Names.{ap, subst, Program, Local, count_below, Core, TidReq, Commit, Event, lines, World, start, dir_start}
+use Rattle.tcc_serial.proofs.Names.{in_flight, Sends, core_exec, core_evict, from_dir, grant, Answer, Waits, Drops, Asks, Takes}
+use Rattle.tcc_serial.proofs.Names.{dir_deliver, core_moves, core_takes, dir_takes, dir_asks, step, CommitOf, Acks, KeptCounted, KeptMarks}
+use Rattle.tcc_serial.proofs.Names.{KeptMasks, KeptCores, KeptOwners, pair, back_taken, after_grant, after_other_grant, KeptStored, Kept}
+use Rattle.tcc_serial.proofs.Names.{KeptTold, skip}
 use Rattle.tcc_serial.proofs.Counts.Links.{live-sends, num-few, live-takes}
 use Rattle.tcc_serial.proofs.Counts.StepCases.{dir-own, dir-other, asks-own, pairs_move, pairs_grant, pairs_back, pairs_dir, pairs_asks}
 use Rattle.tcc_serial.proofs.Counts.StepCases.{pairs_vendor, OfAnswer, step_cases}

@@ -1,5 +1,5 @@
 -- What a core's step does to its load requests and to the line that it awaits.
-use Rattle.tcc_serial.proofs.Names.{ℕ, ◌+◌, ◌≡◌, ◌≤◌, Bool, true, false, List, [], ◌∷◌, ◌==◌, ◌&&◌, Option, Some, None, IfSome}
+use Rattle.tcc_serial.proofs.Names.{ℕ, ◌+◌, ◌≡◌, ◌≤◌, Bool, false, List, [], ◌∷◌, ◌==◌, ◌&&◌, Option, Some, None, IfSome}
 use Rattle.tcc_serial.proofs.Names.{if◌then◌else◌, arith, refl, nat_tests, Program, word_of, num, line_of, Dir, Msg, LoadReq, Fill, Inv}
 use Rattle.tcc_serial.proofs.Names.{Shape, home, CoreState, Awaited, nothing, Out, moves, commit, committed_core, solo_commit, core_exec}
 use Rattle.tcc_serial.proofs.Names.{core_evict, is_awaited, grant, from_dir, staled, LoadOf, FillOf, among, passes}

@@ -1,7 +1,7 @@
 -- Each of a core's rules keeps that the words which its attempt loaded are marked read or modified, unless it is alone.
 use Rattle.tcc_serial.proofs.Names.{solo_commit, ℕ, ◌≡◌, Bool, true, false, ◌||◌, ◌==◌, [], ◌∷◌, ◌++◌, Some, IfSome, is_some, arith, refl}
 use Rattle.tcc_serial.proofs.Names.{◌∙◌, ◌⊎◌, inl, inr, nat_tests, Load, Program, load_of, word_of, line_of, Shape, Cache, is_marked}
-use Rattle.tcc_serial.proofs.Names.{marked, stored, placed, CoreState, Phase, Running, Solo, is_running, is_solo, commit, committed_core}
+use Rattle.tcc_serial.proofs.Names.{marked, stored, placed, CoreState, Phase, is_running, is_solo, commit, committed_core}
 use Rattle.tcc_serial.proofs.Names.{core_exec, core_evict, OneCore, loads_word, LoadsMarked}
 use Rattle.tcc_program.specs.Ram.{part}
 use Rattle.tcc_serial.proofs.OneCore.CoreSteps.{evicted-modified}

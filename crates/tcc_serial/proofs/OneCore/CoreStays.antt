@@ -1,6 +1,6 @@
 -- What comes to a core leaves its checkpoint and its end, and so does an eviction: only an instruction commits.
-use Rattle.tcc_serial.proofs.Names.{ℕ, ◌≡◌, Bool, true, false, None, IfSome, refl, any_below, Msg, Shape, CoreState, AwaitTid, Out}
-use Rattle.tcc_serial.proofs.Names.{core_evict, grant, from_dir, probing, is_probed, end_after, inl, inr}
+use Rattle.tcc_serial.proofs.Names.{ℕ, ◌≡◌, Bool, None, IfSome, refl, any_below, Msg, Shape, CoreState, AwaitTid, Out, arith}
+use Rattle.tcc_serial.proofs.Names.{core_evict, grant, from_dir, probing, is_probed, end_after, inl, inr, nat_tests}
 use Rattle.tcc_serial.proofs.OneCore.Outcomes.{Last_probing, Last_room, Given, Given_doomed, Given_none, Given_room, Granted, Heard}
 use Rattle.tcc_serial.proofs.OneCore.Outcomes.{Hurt_alone, Hurt_probing, Hurt_running, Hurt_waiting, each-back, each-evict, each-grant}
 use Rattle.tcc_serial.proofs.OneCore.Outcomes.{granted, heard}

@@ -1,12 +1,11 @@
 -- What a core's rules leave alone: evictions, fills, data requests, invalidations.
 use Rattle.tcc_serial.proofs.Names.{ℕ, ◌+◌, ◌≡◌, ◌*◌, ◌%◌, Bool, true, false, List, [], ◌∷◌, ◌++◌, ◌==◌, ◌&&◌, ◌||◌, Some, None, IfSome}
-use Rattle.tcc_serial.proofs.Names.{if◌then◌else◌, arith, refl, sym, ap, ◌⊎◌, inl, inr, nat_tests, put, any_word, any_below, line_of}
-use Rattle.tcc_serial.proofs.Names.{Node, Dir, Vendor, InvAck, Shape, home, lines, Cache, reads_at, is_marked, keeps, evicted}
-use Rattle.tcc_serial.proofs.Names.{evicted_line, filled, cleaned, invalidated, read_cleared, any_below-at, CoreState, Awaited, Phase}
-use Rattle.tcc_serial.proofs.Names.{Running, AwaitTid, DoomedTid, Probing, Ready, Overflowing, Solo, Sends, nothing, to, flushed}
-use Rattle.tcc_serial.proofs.Names.{written_back, abort_written, skip_all, marks_for, Out, moves, is_solo, core_evict, is_awaited}
-use Rattle.tcc_serial.proofs.Names.{ignored, fill, fill_awaited, data_request, invalidate, probe_reply, all_replied, Protocol, among}
-use Rattle.tcc_serial.proofs.Names.{passes, Inv, Msg, ProbeReply}
+use Rattle.tcc_serial.proofs.Names.{if◌then◌else◌, arith, refl, sym, ap, ◌⊎◌, nat_tests, put, any_word, any_below, line_of, Node, Dir}
+use Rattle.tcc_serial.proofs.Names.{Vendor, InvAck, Shape, home, lines, Cache, reads_at, is_marked, keeps, evicted, evicted_line, filled}
+use Rattle.tcc_serial.proofs.Names.{cleaned, invalidated, read_cleared, any_below-at, CoreState, Awaited, Phase, Running, AwaitTid}
+use Rattle.tcc_serial.proofs.Names.{DoomedTid, Probing, Ready, Overflowing, Solo, Sends, nothing, to, flushed, written_back, abort_written}
+use Rattle.tcc_serial.proofs.Names.{skip_all, marks_for, Out, moves, is_solo, core_evict, is_awaited, ignored, fill, fill_awaited}
+use Rattle.tcc_serial.proofs.Names.{data_request, invalidate, probe_reply, all_replied, Protocol, among, passes, Inv, Msg, ProbeReply}
 use Rattle.tcc_serial.proofs.OneCore.Executes.{Steady}
 use Rattle.tcc_serial.proofs.OneCore.Said.{quiet, Empties, Aborts_all, Said, Silent, Skips_all, say, Flushes}
 use Rattle.tcc_serial.proofs.OneCore.Outcomes.{Acts, acked, each-evict, emptied, Heard, Hurt_alone, Hurt_none, Hurt_probing, Hurt_running}

@@ -1,7 +1,7 @@
 -- What a core sends with one event, and that nothing of a kind is among it where no message of its forms is of that kind.
 use Rattle.tcc_serial.proofs.Names.{ℕ, ◌≡◌, Bool, true, false, not, List, [], ◌∷◌, ◌++◌, ◌==◌, ◌&&◌, ◌||◌, Option, Some, None, nat_lt}
 use Rattle.tcc_serial.proofs.Names.{if◌then◌else◌, flat_map, arith, refl, those, count_below, Dir, Vendor, Tagged, Msg, TidReq, LoadReq}
-use Rattle.tcc_serial.proofs.Names.{Skip, Probe, Mark, Commit, Abort, WriteBack, Flush, InvAck, Shape, home, lines, is_modified}
+use Rattle.tcc_serial.proofs.Names.{Skip, Probe, Mark, Commit, Abort, WriteBack, Flush, InvAck, Shape, home, lines, is_modified, nat_tests}
 use Rattle.tcc_serial.proofs.Names.{modified_mask, written_lines, writes_at, reads_at, dirty_copy, holds, spilled_mask, spilled_words}
 use Rattle.tcc_serial.proofs.Names.{CoreState, Sends, nothing, to, flush, flushed, written_back, skip_all, probe_all, abort_written}
 use Rattle.tcc_serial.proofs.Names.{marks_for, commit_sends, solo_sends, solo_marks, solo_backs, solo_writes_at, is_written, written_mask}

@@ -1,5 +1,5 @@
 -- What a core sends a Commit of is what it notes the commit of.
-use Rattle.tcc_serial.proofs.Names.{ℕ, ◌≡◌, ◌≤◌, List, ◌==◌, IfSome, arith, refl, nat_tests, Program, num, Dir, Msg, Commit, Shape, Cache}
+use Rattle.tcc_serial.proofs.Names.{ℕ, ◌≡◌, ◌≤◌, List, ◌==◌, IfSome, arith, refl, nat_tests, Program, num, Dir, Msg, Shape, Cache}
 use Rattle.tcc_serial.proofs.Names.{Spilled, CoreState, Out, commit, commit_sends, noted, solo_sends, solo_marks, solo_backs, core_exec}
 use Rattle.tcc_serial.proofs.Names.{core_evict, grant, from_dir, Commits, AnyCommit, among, passes, solo_commit}
 use Rattle.tcc_serial.proofs.Serving.CoreCommits.{heard-free, granted-free}

@@ -1,5 +1,5 @@
 -- The served TID only rises, and a directory replies to a probe once it has reached its TID.
-use Rattle.tcc_serial.proofs.Names.{ℕ, ◌≡◌, ◌≤◌, Bool, true, false, [], if◌then◌else◌, arith, refl, nat_tests, num, advance, kept}
+use Rattle.tcc_serial.proofs.Names.{ℕ, ◌≡◌, ◌≤◌, Bool, [], if◌then◌else◌, arith, refl, nat_tests, num, advance, kept}
 use Rattle.tcc_serial.proofs.Names.{advance-rises, Core, Msg, Fill, ProbeReply, DataReq, Shape, DirState, Link, Sends, nothing, Answer}
 use Rattle.tcc_serial.proofs.Names.{Asks, Takes, dir_deliver, line_words, RepliesAbove, among, live, passes, Serving}
 use Rattle.tcc_serial.proofs.Counts.DirOutcome.{Outcome, AsksOwner, TakesSkip, TakesAbort, TakesProbe, TakesLoad, TakesMark, TakesCommit}

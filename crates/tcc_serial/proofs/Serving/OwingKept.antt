@@ -1,12 +1,11 @@
 -- Every event keeps which directories owe a core replies: those that it asked, while it waits, and then some does.
 use Rattle.tcc_serial.proofs.Names.{ℕ, ◌≡◌, ◌<◌, ◌==◌, ◌&&◌, ◌||◌, Bool, true, false, Option, Some, None, IfSome, nat_lt, if◌then◌else◌}
-use Rattle.tcc_serial.proofs.Names.{arith, refl, ap₂, nat_tests, Program, Local, Outcome, Goes, any_below, Dir, Event, Msg, Fill}
-use Rattle.tcc_serial.proofs.Names.{ProbeReply, DataReq, Inv, Shape, writes_at, reads_at, any_below-at, CoreState, World, Phase, Running}
-use Rattle.tcc_serial.proofs.Names.{AwaitTid, DoomedTid, Probing, Ready, Overflowing, Solo, start, core_start, Out, commit}
-use Rattle.tcc_serial.proofs.Names.{committed_core, phase_after, core_exec, core_evict, from_dir, grant, grant_phase, is_probed, probing}
-use Rattle.tcc_serial.proofs.Names.{all_replied, fill, data_request, invalidate, probe_reply, Answer, Waits, dir_deliver, core_moves}
-use Rattle.tcc_serial.proofs.Names.{core_takes, dir_takes, dir_asks, vendor_gives, step, OwingFits, awaits_replies, asks_dir}
-use Rattle.tcc_serial.proofs.Names.{solo_commit}
+use Rattle.tcc_serial.proofs.Names.{arith, refl, ap₂, nat_tests, Program, Local, Outcome, any_below, Dir, Event, Msg, Fill, ProbeReply}
+use Rattle.tcc_serial.proofs.Names.{DataReq, Inv, Shape, writes_at, reads_at, any_below-at, CoreState, World, Phase, Running, AwaitTid}
+use Rattle.tcc_serial.proofs.Names.{DoomedTid, Probing, Ready, Overflowing, Solo, start, core_start, Out, commit, committed_core}
+use Rattle.tcc_serial.proofs.Names.{phase_after, core_exec, core_evict, from_dir, grant, grant_phase, is_probed, probing, all_replied, fill}
+use Rattle.tcc_serial.proofs.Names.{data_request, invalidate, probe_reply, Answer, Waits, dir_deliver, core_moves, core_takes, dir_takes}
+use Rattle.tcc_serial.proofs.Names.{dir_asks, vendor_gives, step, OwingFits, awaits_replies, asks_dir, solo_commit}
 use Rattle.tcc_maps.specs.Words.{put}
 use Rattle.tcc_serial.proofs.OneCore.CoreProbes.{none-below, all-replied}
 use Rattle.tcc_serial.proofs.OneCore.CoreSteps.{reads_at-same, fill-steady, data-steady, Hurt, Unhurt, Rolled, Doomed, Aborted, Gave_up}

@@ -1,17 +1,15 @@
 -- What a core's rules do to its part of a TID.
 use Rattle.tcc_serial.proofs.Names.{ℕ, ◌+◌, ◌≡◌, ◌<◌, Bool, true, false, List, [], ◌∷◌, ◌==◌, ◌&&◌, Some, None, IfSome, if◌then◌else◌}
-use Rattle.tcc_serial.proofs.Names.{arith, refl, ap, ◌⊎◌, inl, inr, Program, Outcome, Goes, num, any_below, Dir, Msg, Fill, ProbeReply}
-use Rattle.tcc_serial.proofs.Names.{DataReq, Inv, InvAck, Shape, home, writes_at, CoreState, Phase, Running, AwaitTid, DoomedTid, Probing}
-use Rattle.tcc_serial.proofs.Names.{Ready, Overflowing, Solo, Halted, Sends, to, marks_for, Out, commit, committed_core, phase_after}
-use Rattle.tcc_serial.proofs.Names.{core_exec, core_evict, grant, grant_phase, from_dir, probing, is_probed, probe_reply, ignored}
-use Rattle.tcc_serial.proofs.Names.{all_replied, fill, data_request, invalidate, Resolves, among, passes, opens, waits_for_tid, put}
-use Rattle.tcc_serial.proofs.Names.{nat_tests, solo_commit}
+use Rattle.tcc_serial.proofs.Names.{arith, refl, ◌⊎◌, inl, inr, Program, Outcome, num, any_below, Dir, Msg, Fill, ProbeReply, DataReq, Inv}
+use Rattle.tcc_serial.proofs.Names.{InvAck, Shape, home, writes_at, CoreState, Phase, Running, AwaitTid, DoomedTid, Probing, Ready}
+use Rattle.tcc_serial.proofs.Names.{Overflowing, Solo, Sends, to, marks_for, Out, commit, committed_core, phase_after, core_exec}
+use Rattle.tcc_serial.proofs.Names.{core_evict, grant, grant_phase, from_dir, probing, is_probed, probe_reply, ignored, all_replied, fill}
+use Rattle.tcc_serial.proofs.Names.{data_request, invalidate, Resolves, among, passes, opens, waits_for_tid, put, nat_tests, solo_commit}
 use Rattle.tcc_serial.proofs.Counts.Links.{among-append, resolves-commit_sends, resolves-abort_written, resolves-skip_all}
 use Rattle.tcc_serial.proofs.Counts.Links.{resolves-probe_all, resolves-grant_sends, resolves-marks_for, resolves-solo_sends, among-quiet}
 use Rattle.tcc_serial.proofs.OneCore.Executes.{Steady, did-steady}
-use Rattle.tcc_serial.proofs.OneCore.CoreSteps.{ignored-steady, fill-steady, data-steady, Hurt, Unhurt, Rolled, Doomed, Aborted, Gave_up}
-use Rattle.tcc_serial.proofs.OneCore.CoreSteps.{Invalidated, invalidate-cases, steady-emptied, Ignored, Left_alone, Probed, Replied}
-use Rattle.tcc_serial.proofs.OneCore.CoreSteps.{reply-cases}
+use Rattle.tcc_serial.proofs.OneCore.CoreSteps.{ignored-steady, fill-steady, data-steady, Hurt, Invalidated, invalidate-cases}
+use Rattle.tcc_serial.proofs.OneCore.CoreSteps.{steady-emptied, Ignored, Left_alone, Probed, Replied, reply-cases}
 use Rattle.tcc_serial.proofs.OneCore.Outcomes.{Acts, Commits_now, Did, each-exec, out, each-evict, emptied, writes_at-same, Ends_alone}
 use Rattle.tcc_serial.proofs.OneCore.Outcomes.{Ends_run, Room_wanted}
 

@@ -1,12 +1,11 @@
 -- What a commit does to one word: where it didn't store it nothing; where it did, the frame's word is dirty with the commit's TID, or
 -- the spilled word is sent with it, as they were.
-use Rattle.tcc_serial.proofs.Names.{solo_commit, ℕ, ◌≡◌, ◌==◌, ◌&&◌, ◌||◌, ◌++◌, Bool, true, false, not, [], ◌∷◌, Option, Some, None}
-use Rattle.tcc_serial.proofs.Names.{IfSome, is_some, unwrap_or, get_or, nat_lt, if◌then◌else◌, flat_map, arith, refl, ap, sym, ◌∙◌}
-use Rattle.tcc_serial.proofs.Names.{nat_tests, Noted, Program, line_of, place_of, word_at, those, count_below, has, hit, Dir, Skip, Mark}
-use Rattle.tcc_serial.proofs.Names.{Commit, WriteBack, Shape, home, lines, Cache, IsCache, committed, words_dropped, Spilled, holds}
-use Rattle.tcc_serial.proofs.Names.{spilled_mask, spilled_words, has-mask_of, CoreState, Out, is_solo, noted, committed_core, commit}
-use Rattle.tcc_serial.proofs.Names.{solo_sends, solo_marks, solo_backs, solo_writes_at, is_written, written_mask, core_exec, Kind, CopyWord}
-use Rattle.tcc_serial.proofs.Names.{CopyNot, among, passes, mark, skip}
+use Rattle.tcc_serial.proofs.Names.{solo_commit, ℕ, ◌≡◌, ◌==◌, ◌&&◌, ◌||◌, Bool, true, false, not, Option, Some, None, IfSome, is_some}
+use Rattle.tcc_serial.proofs.Names.{unwrap_or, get_or, if◌then◌else◌, arith, refl, ap, sym, ◌∙◌, nat_tests, Noted, Program, line_of}
+use Rattle.tcc_serial.proofs.Names.{place_of, word_at, has, hit, Dir, Skip, Mark, Commit, WriteBack, Shape, Cache, IsCache, committed}
+use Rattle.tcc_serial.proofs.Names.{words_dropped, Spilled, spilled_mask, spilled_words, has-mask_of, CoreState, Out, is_solo, noted}
+use Rattle.tcc_serial.proofs.Names.{committed_core, commit, solo_sends, solo_marks, solo_backs, core_exec, Kind, CopyWord, CopyNot, among}
+use Rattle.tcc_serial.proofs.Names.{passes, mark, skip}
 use Rattle.tcc_serial.proofs.Copies.CopySends.{commit-copies}
 use Rattle.tcc_serial.proofs.Counts.Links.{among-append, among-flat_map_none}
 use Rattle.tcc_serial.proofs.Values.WordCopies.{among-words, among-others, at-place, get-eight}

@@ -3,7 +3,7 @@
 use Rattle.tcc_serial.proofs.Names.{invalidated, moves, ℕ, ◌≡◌, ◌⊎◌, ◌==◌, ◌&&◌, Bool, true, false, not, List, Option, Some, None, IfSome}
 use Rattle.tcc_serial.proofs.Names.{is_some, unwrap_or, get_or, if◌then◌else◌, refl, sym, ◌∙◌, inl, inr, cases_eq, line_of, place_of, hit}
 use Rattle.tcc_serial.proofs.Names.{Dir, Msg, Inv, Shape, home, IsCache, filled, cleaned, rolled_back, read_cleared, CoreState, nothing}
-use Rattle.tcc_serial.proofs.Names.{Out, grant, from_dir, CopyOf, among, passes, ap}
+use Rattle.tcc_serial.proofs.Names.{Out, grant, from_dir, CopyOf, among, passes, ap, arith, nat_tests}
 use Rattle.tcc_serial.proofs.Copies.CopyRules.{missed}
 use Rattle.tcc_serial.proofs.Values.CoreWords.{carries-still}
 use Rattle.tcc_serial.proofs.Values.WordCopies.{WordCarried, Carries, word-still, word-sent, flushed-words}

@@ -1,7 +1,7 @@
 -- What each message to a core does to the words in its frames: a Fill brings those that aren't valid, an invalidation takes those of its
 -- mask that aren't modified, and no other changes any.
-use Rattle.tcc_serial.proofs.Names.{ℕ, ◌≡◌, ◌⊎◌, Bool, true, false, not, ◌&&◌, ◌||◌, ◌==◌, List, Option, Some, None, IfSome, unwrap_or}
-use Rattle.tcc_serial.proofs.Names.{get_or, if◌then◌else◌, refl, sym, subst, ◌∙◌, inl, inr, true≢false, line_of, place_of, hit, Msg, Fill}
+use Rattle.tcc_serial.proofs.Names.{ℕ, ◌≡◌, ◌⊎◌, Bool, true, false, not, ◌&&◌, ◌==◌, List, Option, Some, None, IfSome, unwrap_or}
+use Rattle.tcc_serial.proofs.Names.{get_or, if◌then◌else◌, refl, sym, subst, ◌∙◌, inl, inr, line_of, place_of, hit, Msg, Fill}
 use Rattle.tcc_serial.proofs.Names.{Inv, Shape, Cache, filled, cleaned, invalidated, rolled_back, read_cleared, CoreState, Awaited, Out}
 use Rattle.tcc_serial.proofs.Names.{grant, staled, from_dir, InvWord, passes, is_stale, arith, nat_tests}
 use Rattle.tcc_serial.proofs.Values.FramedCores.{Fades, Fading, fades-same, fading}

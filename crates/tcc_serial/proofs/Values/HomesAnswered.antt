@@ -3,7 +3,7 @@ use Rattle.tcc_serial.proofs.Names.{ℕ, ◌+◌, ◌≡◌, ◌<◌, ◌≤◌,
 use Rattle.tcc_serial.proofs.Names.{Some, None, if◌then◌else◌, arith, refl, ap, sym, ◌∙◌, inl, inr, cases_eq, cases_lt, nat_tests, Noted}
 use Rattle.tcc_serial.proofs.Names.{Stored, num, count_below, line_of, place_of, word_at, has_mark, has, full, mask_of, Core, Dir, Msg}
 use Rattle.tcc_serial.proofs.Names.{Shape, home, lines, has-mask_of, World, in_flight, History, copies_with, AboveOf, Commits, CommitOf}
-use Rattle.tcc_serial.proofs.Names.{CopyOf, CopyWord, CopyNot, live, passes, pair, is_applied, MarkedCommit, stores_at, stores_in}
+use Rattle.tcc_serial.proofs.Names.{CopyOf, CopyWord, CopyNot, live, passes, pair, is_applied, MarkedCommit, stores_at, stores_in, is_this}
 use Rattle.tcc_serial.proofs.Names.{stored_mask, stores_word, counts, word_copies, CopiesHave, names_line, wrote, wrote_line, wrote_mask}
 use Rattle.tcc_serial.proofs.Names.{[], subst, Plain, Program, Local, DirState, Sends, Answer, Waits, Drops, Asks, Takes, dir_takes}
 use Rattle.tcc_serial.proofs.Names.{dir_asks, vendor_gives, Uses, Invariants, Grant, CommitsStand, Ways}

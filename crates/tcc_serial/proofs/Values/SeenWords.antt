@@ -1,7 +1,7 @@
 -- What is seen of a word is its value after all commits: its copy with the greatest tag is of the commit whose Commit is in flight, if any.
 use Rattle.tcc_serial.proofs.Names.{ℕ, zero, suc, ◌≡◌, ◌<◌, ◌≤◌, Bool, true, false, not, cond, max, ◌==◌, ◌&&◌, ◌||◌, List, [], ◌∷◌, length}
 use Rattle.tcc_serial.proofs.Names.{Contains, Option, Some, None, slice_index_or, is_some, if◌then◌else◌, arith, refl, sym, ap, ◌∙◌, ◌⊎◌}
-use Rattle.tcc_serial.proofs.Names.{inl, inr, nat_tests, Noted, num, line_of, place_of, word_at, has, hit, Msg, WriteBack, Flush}
+use Rattle.tcc_serial.proofs.Names.{inl, inr, nat_tests, Noted, num, line_of, place_of, word_at, has, hit, Msg}
 use Rattle.tcc_serial.proofs.Names.{Shape, IsCache, is_dirty, dirty_tag, dirty_mask, has-mask_of, DirState, AboveOf, CopyMask, CopyWord}
 use Rattle.tcc_serial.proofs.Names.{passes, IsRising, Pair, is_this, stores_word, after_stores, counts, after_commits, word_copies, wrote}
 use Rattle.tcc_serial.proofs.Names.{wrote_mask, last_of, ◌+◌, map, nat_lt, nat_le, subst, order_of_commit, Core, Dir, home, lines, seen}

@@ -1,7 +1,7 @@
 -- What each of a core's rules says of its TID: where it goes on with it, it has skipped it at directories where it writes nothing;
 -- and where it commits, it has spoken at each directory.
 use Rattle.tcc_serial.proofs.Names.{ℕ, ◌≡◌, ◌<◌, ◌≤◌, Bool, true, false, not, ◌==◌, ◌&&◌, Some, None, IfSome, if◌then◌else◌, arith, refl}
-use Rattle.tcc_serial.proofs.Names.{sym, ◌⊎◌, inl, inr, nat_tests, Noted, Program, Outcome, Goes, any_below, Dir, Msg, Fill, ProbeReply}
+use Rattle.tcc_serial.proofs.Names.{sym, ◌⊎◌, inl, inr, nat_tests, Noted, Program, Outcome, any_below, Dir, Msg, Fill, ProbeReply}
 use Rattle.tcc_serial.proofs.Names.{DataReq, Inv, Shape, Cache, writes_at, CoreState, Phase, Running, AwaitTid, DoomedTid, Probing, Ready}
 use Rattle.tcc_serial.proofs.Names.{Overflowing, Solo, Out, commit, committed_core, noted, phase_after, core_exec, core_evict, grant}
 use Rattle.tcc_serial.proofs.Names.{grant_phase, grant_sends, from_dir, probing, is_probed, probe_reply, ignored, all_replied, fill}
@@ -44,13 +44,15 @@ tells-steady sh s o y = record { skips = λ d t l e. inl (go d t s.phase refl (r
     go d t _ g e = absurd (cc)
 
 -- it goes on without its TID
-tells-none : (sh : Shape) (s : CoreState) (o : Out) (q : Phase) → o.core.phase ≡ q → ((b : Bool) (t : ℕ) → skips_here q b t ≡ false) → IfSome o.commit (TellsCommit sh s o) → Tells sh s o
+tells-none : (sh : Shape) (s : CoreState) (o : Out) (q : Phase) → o.core.phase ≡ q → ((b : Bool) (t : ℕ) → skips_here q b t ≡ false)
+    → IfSome o.commit (TellsCommit sh s o) → Tells sh s o
 tells-none sh s o q e h c = record { skips = λ d t l x. absurd (let z = h (writes_at sh o.core.cache d) t in let y : skips_here q (writes_at sh o.core.cache d) t ≡ true = rw e at x in cc); commits = c }
 
 skips-after : (e : Outcome) (b : Bool) (t : ℕ) → skips_here (phase_after e) b t ≡ false
 skips-after a b t = grind (arith, nat_tests)
 
-tells-alone : (sh : Shape) (c u : ℕ) (s : CoreState) (l : Local) (e : Outcome) → s.phase ≡ Solo u → OneCore sh s → Tells sh s (solo_commit sh c u (after_end s l e))
+tells-alone : (sh : Shape) (c u : ℕ) (s : CoreState) (l : Local) (e : Outcome) → s.phase ≡ Solo u → OneCore sh s
+    → Tells sh s (solo_commit sh c u (after_end s l e))
 unfolding solo_commit committed_core noted has_tid live_way
 tells-alone sh c u s l e q h = tells-none sh s (solo_commit sh c u (after_end s l e)) (phase_after e) refl (skips-after e) (record {
   has = rw q (grind (arith, nat_tests));

@@ -1,12 +1,11 @@
 -- Every event keeps that a directory where a commit loaded or stored has reached its TID.
-use Rattle.tcc_serial.proofs.Names.{ℕ, ◌≡◌, ◌<◌, ◌≤◌, Bool, true, false, ◌&&◌, ◌||◌, ◌==◌, List, Contains, Option, Some, None, IfSome}
+use Rattle.tcc_serial.proofs.Names.{◌∙◌, ℕ, ◌≡◌, ◌<◌, ◌≤◌, Bool, true, false, ◌&&◌, ◌||◌, ◌==◌, List, Contains, Option, Some, None, IfSome}
 use Rattle.tcc_serial.proofs.Names.{if◌then◌else◌, arith, refl, ◌⊎◌, inl, inr, nat_tests, Noted, Program, any_below, any_word, word_at, Dir}
 use Rattle.tcc_serial.proofs.Names.{Msg, Event, Shape, home, lines, writes_at, reads_at, is_modified, any_below-at, any_below-found}
 use Rattle.tcc_serial.proofs.Names.{CoreState, DirState, Ready, World, Out, Sends, commit, noted, core_exec, core_evict, grant, from_dir}
 use Rattle.tcc_serial.proofs.Names.{Answer, Waits, Drops, Asks, Takes, dir_deliver, core_moves, core_takes, dir_takes, dir_asks}
 use Rattle.tcc_serial.proofs.Names.{vendor_gives, Stepped, step, and_noted, Kept, OneCore, KeptCores, pair, Reached, stores_at, loads_word}
-use Rattle.tcc_serial.proofs.Names.{sent_by, LoadsMarked, KeptLoads, loads_at, worked_at, KeptWorked}
-use Rattle.tcc_serial.proofs.Names.{solo_commit}
+use Rattle.tcc_serial.proofs.Names.{sent_by, LoadsMarked, KeptLoads, loads_at, worked_at, KeptWorked, solo_commit}
 use Rattle.tcc_serial.proofs.Ways.ByCore.{ByCore, Still, Moved, by_core}
 use Rattle.tcc_serial.proofs.OneCore.CoreLoads.{loads-exec, loads-evict}
 use Rattle.tcc_serial.proofs.OneCore.CoreLoadsTakes.{loads-grant, loads-back}
