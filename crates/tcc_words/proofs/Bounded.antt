@@ -1,5 +1,5 @@
 -- The numbers of a command are those of allowed fields.
-use Rattle.std.proofs.Common.{◌≡◌, ℕ, ◌+◌, ◌%◌, ◌^◌, ◌≤◌, IsTrue, List, length, Option, Some, None, sym, subst, ◌∙◌}
+use Rattle.std.proofs.Common.{◌≡◌, ℕ, ◌+◌, ◌%◌, ◌^◌, ◌≤◌, IsTrue, List, length, Option, Some, None, refl, sym, subst, ◌∙◌}
 use Rattle.std.specs.Int.{is_power_of_two}
 use Rattle.std.specs.Prelude.{IfSome, IsSome, codes}
 use Rattle.clap.specs.Walk.{Row, Text}
@@ -15,7 +15,7 @@ use Rattle.tcc_words.specs.declared.command.Command.TheVariants as command
 use Rattle.tcc_words.specs.declared.command.Field.{Field}
 use Rattle.tcc_words.specs.declared.command.Field.TheVariants.{Cores, Dirs, Sets, Ways, Ram, Base, Steps, Threads, Images, Number}
 use Rattle.tcc_words.specs.declared.command.Verb.{Verb}
-use Rattle.tcc_words.specs.declared.command.Verb.TheVariants.{Run, Replay, Serial, Trial, Why, Phases}
+use Rattle.tcc_words.specs.declared.command.Verb.TheVariants.{Run, Replay, Serial, Trial, Why, Phases, Bus}
 
 -- settings that stand in allowed fields are allowed
 allowed : (rows : List Row) (s : Settings) → HasSettings rows s → ((field : Field) → Allows rows field) → IsAllowed s
@@ -93,12 +93,17 @@ bounded Why rows (command.Why machine schedule images) places every a =
 bounded Phases rows (command.Phases machine images steps seed keep) places every a =
     let some = images-some rows images a.1 places every in
     record { allowed = allowed rows machine.config a.0.0 every; numbers = (some.0, some.1, steps-few rows steps a.2 every) }
+bounded Bus rows (command.Bus machine images steps seed) places every a =
+    let some = images-some rows images a.1 places.1 every in
+    let one = one-value 1 None machine.config.dirs 1 (subst (λ o. IsValue 1 o machine.config.dirs) places.0 a.0.0.dirs) refl in
+    record { allowed = allowed rows machine.config a.0.0 every; numbers = (some.0, some.1, steps-few rows steps a.2 every, one) }
 bounded Run rows _ places every a = absurd a
 bounded Replay rows _ places every a = absurd a
 bounded Serial rows _ places every a = absurd a
 bounded Trial rows _ places every a = absurd a
 bounded Why rows _ places every a = absurd a
 bounded Phases rows _ places every a = absurd a
+bounded Bus rows _ places every a = absurd a
 
 pub in-bounds : (words : List Text) (c : Command) → IsCommand words c → IsInBounds c
 in-bounds words c h = bounded h.verb h.rows c h.stands.places h.allowed h.asks

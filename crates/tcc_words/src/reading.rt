@@ -41,7 +41,7 @@ pub fn settings<'a>(alloc: Global, words: &'a [&'a str]) -> Result<Command, Word
     }
 }
 
-/// Whether each place of the command has its word.
+/// Whether each place of the command has its word, and no directories are asked for where there are none.
 fn has_places(verb: Verb, matches: &ArgMatches) -> bool
     ensures { IsTrue result ↔ HasPlaces verb (rows_of (found_of matches.now)) }
 {
@@ -50,6 +50,7 @@ fn has_places(verb: Verb, matches: &ArgMatches) -> bool
         Verb::Replay | Verb::Why => text(matches, "schedule").is_some() && has_images(matches),
         Verb::Serial => text(matches, "report").is_some() && has_images(matches),
         Verb::Trial => text(matches, "kind").is_some() && text(matches, "number").is_some(),
+        Verb::Bus => text(matches, "dirs").is_none() && has_images(matches),
     }
 }
 
@@ -105,6 +106,12 @@ fn command(
             steps: values.steps,
             seed: values.seed,
             keep: record_name(alloc, matches)?,
+        }),
+        Verb::Bus => Ok(Command::Bus {
+            machine: machine(matches, values.config),
+            images: image_names(alloc, matches)?,
+            steps: values.steps,
+            seed: values.seed,
         }),
     }
 }
