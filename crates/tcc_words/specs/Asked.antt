@@ -20,7 +20,7 @@ use Rattle.tcc_words.specs.declared.command.Verb.TheVariants.{Run, Replay, Seria
 use Rattle.tcc_words.specs.declared.command.WordsFault.{WordsFault}
 use Rattle.tcc_words.specs.declared.command.WordsFault.TheVariants as fault
 
--- each place of the command has its word; directories aren't asked for where there are none
+-- each place of the command has its word
 abbrev pub HasPlaces : Verb → List Row → Type 0
 HasPlaces Run rows = 1 ≤ length (images_of rows)
 HasPlaces Replay rows = IsSome (first_of (codes "schedule") rows) × (1 ≤ length (images_of rows))
@@ -28,7 +28,7 @@ HasPlaces Serial rows = IsSome (first_of (codes "report") rows) × (1 ≤ length
 HasPlaces Trial rows = IsSome (first_of (codes "kind") rows) × IsSome (first_of (codes "number") rows)
 HasPlaces Why rows = IsSome (first_of (codes "schedule") rows) × (1 ≤ length (images_of rows))
 HasPlaces Phases rows = 1 ≤ length (images_of rows)
-HasPlaces Bus rows = (first_of (codes "dirs") rows ≡ None) × (1 ≤ length (images_of rows))
+HasPlaces Bus rows = 1 ≤ length (images_of rows)
 
 -- the first word names a command, and clap takes the words after it; these are the options and places that it reads
 pub record Stands (words : List Text) (verb : Verb) (rows : List Row) : Type 0 where

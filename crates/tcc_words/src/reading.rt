@@ -41,16 +41,15 @@ pub fn settings<'a>(alloc: Global, words: &'a [&'a str]) -> Result<Command, Word
     }
 }
 
-/// Whether each place of the command has its word, and no directories are asked for where there are none.
+/// Whether each place of the command has its word.
 fn has_places(verb: Verb, matches: &ArgMatches) -> bool
     ensures { IsTrue result ↔ HasPlaces verb (rows_of (found_of matches.now)) }
 {
     match verb {
-        Verb::Run | Verb::Phases => has_images(matches),
+        Verb::Run | Verb::Phases | Verb::Bus => has_images(matches),
         Verb::Replay | Verb::Why => text(matches, "schedule").is_some() && has_images(matches),
         Verb::Serial => text(matches, "report").is_some() && has_images(matches),
         Verb::Trial => text(matches, "kind").is_some() && text(matches, "number").is_some(),
-        Verb::Bus => text(matches, "dirs").is_none() && has_images(matches),
     }
 }
 
