@@ -1,7 +1,7 @@
 #!/usr/bin/env bash
-# What the gate costs: runs `rt ci --anew` on a clone of the last commit, and prints for each crate the processor time and the most
-# memory of its proof, of that of its tests, and of its must-fail edits. With names, `bench/gate.sh NAME..`, for these crates and
-# those below them alone. It looks at the processes of the run twice a second, so it says a little less than they took. It needs
+# What the gate costs: runs `rt ci` from nothing on a clone of the last commit, and prints for each crate the processor time and the
+# most memory of its proof, of that of its tests, and of its must-fail edits. With names, `bench/gate.sh NAME..`, for these crates and
+# those below them alone, with a kit whose `rt ci` takes names. It looks at the processes of the run twice a second, so it says a little less than they took. It needs
 # Linux, and as long as the gate from nothing.
 set -eu
 root=$(dirname -- "$(dirname -- "$(readlink -f -- "${BASH_SOURCE[0]}")")")
@@ -67,9 +67,12 @@ def top_of(pid, all, run):
     return next((it for it in reversed(above) if it in work), None)
 
 
+# some kits keep what has passed, and have a flag for a run from nothing; the others always begin there
+said = subprocess.run(["rt", "help"], capture_output=True, text=True)
+anew = ["--anew"] if "--anew" in said.stdout + said.stderr else []
 work, ticks, most = {}, collections.Counter(), collections.Counter()
 with open("../log", "w") as log:
-    run = subprocess.Popen(["rt", "ci", "--anew", *sys.argv[1:]], stdout=log, stderr=subprocess.STDOUT)
+    run = subprocess.Popen(["rt", "ci", *anew, *sys.argv[1:]], stdout=log, stderr=subprocess.STDOUT)
     while run.poll() is None:
         all, now, held = processes(), collections.Counter(), collections.Counter()
         for pid in all:

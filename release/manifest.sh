@@ -42,12 +42,11 @@ kit() {
 # manifest PROGRAM KIT: the manifest of that program, if that kit built it of these sources
 manifest() { printf 'kit %s\nsources %s\nprogram %s\n' "$2" "$(sources_sum)" "$(checksum <"$1")"; }
 
-# is_of_sources PROGRAM MANIFEST: whether that file is the manifest of that program, of these sources and of the kit on the path.
-# Where no kit is on the path, nothing else could be built, and the manifest's own counts.
+# kit_of MANIFEST: the kit that the manifest names
+kit_of() { sed -n 's/^kit //p' "$1"; }
+
+# is_of_sources PROGRAM MANIFEST: whether that file is the manifest of that program, of these sources, whichever kit built it
 is_of_sources() {
-    local known
     [ -x "$1" ] && [ -f "$2" ] || return
-    known=$(kit)
-    [ -n "$known" ] || known=$(sed -n 's/^kit //p' "$2")
-    [ "$(manifest "$1" "$known")" = "$(cat -- "$2")" ]
+    [ "$(manifest "$1" "$(kit_of "$2")")" = "$(cat -- "$2")" ]
 }

@@ -8,11 +8,12 @@ use Rattle.std.proofs.lemmas.List.Elements.{Contains-get_or}
 use Rattle.tcc_base.specs.declared.access.Commit.{Commit as Noted}
 use Rattle.tcc_base.specs.declared.access.Tagged.{Tagged}
 use Rattle.tcc_maps.proofs.Lemmas.{those-only}
-use Rattle.tcc_maps.specs.CacheChange.{committed}
+use Rattle.tcc_maps.specs.CacheChange.{committed, words_dropped}
 use Rattle.tcc_maps.specs.Shape.{Shape, lines}
 use Rattle.tcc_maps.specs.Words.{any_below, line_of, or_else, those}
-use Rattle.tcc_rules.specs.Commit.{commit, committed_core, is_written, written_mask}
-use Rattle.tcc_rules.specs.State.{CoreState, AwaitTid}
+use Rattle.tcc_rules.specs.Attempt.{is_solo}
+use Rattle.tcc_rules.specs.Commit.{commit, committed_core, is_written, solo_commit, written_mask}
+use Rattle.tcc_rules.specs.State.{CoreState}
 use Rattle.commit_engine.specs.Solo.{solo_list}
 use Rattle.bus_rules.specs.Commit.{all_clean, commit_out, wrote_some, written}
 use Rattle.core_node.specs.AtHand.{line_told, lines_told, words_in}
@@ -47,13 +48,31 @@ unmodified sh s t w k e = by (s.cache.modified w) refl
         let in_it = word-among (lines_told sh t s) w there in
         let bad : true ≡ false = sym in_it ∙ e in absurd (cc)
 
-pub commit-clean : (sh : Shape) (c t : ℕ) (s : CoreState) → CanCommit sh s
+together-clean : (sh : Shape) (c t : ℕ) (s : CoreState) → CanCommit sh s
     → cleaned_by (lines_told sh t s) (commit sh c t s).core ≡ all_clean (commit sh c t s).core
 unfolding commit committed_core committed
-commit-clean sh c t s k = cleaned-all (lines_told sh t s) (commit sh c t s).core (λ w e. rw (unmodified sh s t w k e) (k.clean w))
+together-clean sh c t s k = cleaned-all (lines_told sh t s) (commit sh c t s).core (λ w e. rw (unmodified sh s t w k e) (k.clean w))
 
-pub waiting-out : (sh : Shape) (c t : ℕ) (s : CoreState) → s.phase ≡ AwaitTid → commit sh c t s ≡ commit_out sh c t s
-waiting-out sh c t s e = rw e refl
+still-none : (b : Bool) (t : ℕ) (d : Option ℕ) → d ≡ None
+    → (if (if b then false else false) then Some t else (if b then None else d)) ≡ None
+still-none true t d e = refl
+still-none false t d e = e
+
+alone-clean : (sh : Shape) (c t : ℕ) (s : CoreState) → CanCommit sh s
+    → cleaned_by (lines_told sh t s) (solo_commit sh c t s).core ≡ all_clean (solo_commit sh c t s).core
+unfolding solo_commit committed_core committed words_dropped
+alone-clean sh c t s k =
+    cleaned-all (lines_told sh t s) (solo_commit sh c t s).core
+    (λ w e. rw (unmodified sh s t w k e) (still-none (is_some (s.spilled w)) t (s.cache.dirty w) (k.clean w)))
+
+commit-clean : (sh : Shape) (c t : ℕ) (s : CoreState) → CanCommit sh s
+    → cleaned_by (lines_told sh t s) (commit_out sh c t s).core ≡ all_clean (commit_out sh c t s).core
+commit-clean sh c t s k = by (is_solo s.phase)
+  where
+    by : (b : Bool) → cleaned_by (lines_told sh t s) (if b then solo_commit sh c t s else commit sh c t s).core
+        ≡ all_clean (if b then solo_commit sh c t s else commit sh c t s).core
+    by true = alone-clean sh c t s k
+    by false = together-clean sh c t s k
 
 -- ---- the lines are of memory
 
@@ -114,17 +133,16 @@ told-empty sh s t =
 
 -- ---- all of it
 
-pub is-commit : (sh : Shape) (c t : ℕ) (s : CoreState) (d : Noted) (ts : List Tagged) → CanCommit sh s → s.phase ≡ AwaitTid
-    → ts ≡ lines_told sh t s → Some d ≡ (commit sh c t s).commit → IsCommitOf sh c t s (record { commit = d; lines = ts })
-is-commit sh c t s d ts k e same noted = record {
-  noted = noted ∙ ap (λ o. o.commit) (waiting-out sh c t s e);
+pub is-commit : (sh : Shape) (c t : ℕ) (s : CoreState) (d : Noted) (ts : List Tagged) → CanCommit sh s → ts ≡ lines_told sh t s
+    → Some d ≡ (commit_out sh c t s).commit → IsCommitOf sh c t s (record { commit = d; lines = ts })
+is-commit sh c t s d ts k same noted = record {
+  noted = noted;
   words = ap words_in same ∙ told-lines sh s t k;
   inside = subst (AreInside (sh.ram / 4)) (sym same) (told-inside sh s t);
   empty = ap (λ l. length l == 0) same ∙ told-empty sh s t;
 }
 
-pub commit-leaves : (sh : Shape) (c t : ℕ) (s now new : CoreState) (ts : List Tagged) → CanCommit sh s → s.phase ≡ AwaitTid
-    → ts ≡ lines_told sh t s → now ≡ (commit sh c t s).core → new ≡ cleaned_by ts now → new ≡ all_clean (commit_out sh c t s).core
-commit-leaves sh c t s now new ts k e same mid end =
+pub commit-leaves : (sh : Shape) (c t : ℕ) (s now new : CoreState) (ts : List Tagged) → CanCommit sh s → ts ≡ lines_told sh t s
+    → now ≡ (commit_out sh c t s).core → new ≡ cleaned_by ts now → new ≡ all_clean (commit_out sh c t s).core
+commit-leaves sh c t s now new ts k same mid end =
     end ∙ ap (λ l. cleaned_by l now) same ∙ ap (cleaned_by (lines_told sh t s)) mid ∙ commit-clean sh c t s k
-    ∙ ap (λ o. all_clean o.core) (waiting-out sh c t s e)

@@ -25,6 +25,7 @@ use Rattle.bus_rules.specs.State.{Exec, Free, Packet}
 use Rattle.bus_rules.specs.Step.{and_noted, bus_names, bus_step}
 use Rattle.bus_tcc.specs.Answers.{Answers, Took, bus_step_of, refusal_of}
 use Rattle.bus_tcc.specs.Committing.{CanCommit, IsCommitOf}
+use Rattle.bus_tcc.specs.Ending.{CommitsBy, at_commit}
 use Rattle.bus_tcc.specs.Left.{all_but}
 use Rattle.bus_tcc.specs.Machine.{BusMachine, bus_of, bus_program_of, bus_history_of, bus_settings_of, bus_world_of, is_free, word_in}
 use Rattle.bus_tcc.specs.Whole.{AreBefore, IsBusWhole}
@@ -32,6 +33,7 @@ use Rattle.bus_tcc.specs.declared.committing.Written.{Written}
 use Rattle.bus_tcc.specs.declared.event.BusError.TheVariants.{Refused, Memory}
 use Rattle.bus_tcc.specs.declared.event.BusStep.TheVariants.{Committed}
 use Rattle.bus_tcc.proofs.Bounds.{bounded, core-bounded}
+use Rattle.bus_tcc.proofs.Endings.{waiting-commits}
 use Rattle.bus_tcc.proofs.Events.{StaysBut, bank_in, stays-kept, took-by, took-whole, world-is}
 use Rattle.bus_tcc.proofs.Instructions.{busy-so, free-so}
 
@@ -158,15 +160,41 @@ room-only m cs r e = record { code = refl; cores = refl; ram = refl; next = refl
 pub busy-answers : (m : BusMachine) (c : ℕ) → Waits m c → is_free (bus_of m.bus) ≡ false → Answers m m (Exec c) (Err Refused)
 busy-answers m c a f = (record { history = refl; events = refl; code = refl }, busy-step m c a.exists a.waits f)
 
-pub wanting-answers : (m n : BusMachine) (c : ℕ) → Waits m c → is_free (bus_of m.bus) ≡ true → StaysBut m n
-    → Answers m n (Exec c) (Err Memory)
-wanting-answers m n c a f s =
-    (stays-kept m n s, λ q. let is = sym (commit-step m c a.exists a.waits f) ∙ q in absurd (cc))
+-- ---- what is asked of a machine of which a core commits now
 
-pub failed-answers : (A : Type 0) (m n : BusMachine) (c : ℕ) (error : CoreError) → Waits m c → is_free (bus_of m.bus) ≡ true
-    → StaysBut m n → IsMemory {A = A} (Err error) → Answers m n (Exec c) (Err (refusal_of error))
-failed-answers A m n c core_error.Blocked a f s k = absurd k
-failed-answers A m n c core_error.Memory a f s k = wanting-answers m n c a f s
+pub record Commits (m : BusMachine) (c : ℕ) : Type 0 where
+  pub few : m.events < 4194304
+  pub exists : c < (bus_settings_of m).cores
+  pub may : CommitsBy (bus_program_of m) m.next (cores_of (bank_in m) c) (cores_of (bank_in m) c).phase
+  pub step : bus_step_of m (Exec c) ≡ Some (commit_of m c (at_commit (bus_program_of m) (cores_of (bank_in m) c)))
+
+pub commits-of : (m : BusMachine) (c : ℕ) → m.events < 4194304 → c < (bus_settings_of m).cores
+    → (let s = (bus_world_of m).cores c in CommitsBy (bus_program_of m) (bus_world_of m).next s s.phase)
+    → bus_step_of m (Exec c) ≡ Some (commit_of m c (at_commit (bus_program_of m) ((bus_world_of m).cores c))) → Commits m c
+unfolding bus_world_of
+commits-of m c f l k e = record { few = f; exists = l; may = k; step = e }
+
+pub wanting-answers : (m n : BusMachine) (c : ℕ) → Commits m c → StaysBut m n → Answers m n (Exec c) (Err Memory)
+wanting-answers m n c a s = (stays-kept m n s, λ q. let is = sym a.step ∙ q in absurd (cc))
+
+pub failed-answers : (A : Type 0) (m n : BusMachine) (c : ℕ) (error : CoreError) → Commits m c → StaysBut m n
+    → IsMemory {A = A} (Err error) → Answers m n (Exec c) (Err (refusal_of error))
+failed-answers A m n c core_error.Blocked a s k = absurd k
+failed-answers A m n c core_error.Memory a s k = wanting-answers m n c a s
+
+-- a core that waits for a bus that is free does
+pub waiting-may : (m : BusMachine) (c : ℕ) → Waits m c
+    → (let s = (bus_world_of m).cores c in CommitsBy (bus_program_of m) (bus_world_of m).next s s.phase)
+unfolding bus_world_of
+waiting-may m c a =
+    subst (CommitsBy (bus_program_of m) m.next (cores_of (bank_in m) c)) (sym a.waits) (record {})
+
+pub waiting-publishes : (m : BusMachine) (c : ℕ) → Waits m c → is_free (bus_of m.bus) ≡ true
+    → bus_step_of m (Exec c) ≡ Some (commit_of m c (at_commit (bus_program_of m) ((bus_world_of m).cores c)))
+unfolding bus_world_of
+waiting-publishes m c a f =
+    commit-step m c a.exists a.waits f
+    ∙ ap (λ s. Some (commit_of m c s)) (sym (waiting-commits (bus_program_of m) (cores_of (bank_in m) c) (ap is_solo a.waits)))
 
 -- ---- the machine after it
 

@@ -1,5 +1,6 @@
 -- The packet on a bus, and the cores that are still to take it.
 use Rattle.std.specs.Prelude.{ℕ, Bool, false, not, nat_lt, ◌==◌, ◌&&◌, Option, None, if◌then◌else◌}
+use Rattle.tcc_base.specs.declared.names.CoreId.{CoreId}
 use Rattle.tcc_maps.specs.Words.{any_below, put}
 use Rattle.bus_rules.specs.State.{Bus, Free, Alone, Packet}
 
@@ -26,3 +27,6 @@ without_core c n (Packet f left) = unless_empty f n (put left c false)
 -- all cores below a number but one
 abbrev pub all_but : (core cores : ℕ) → (c : ℕ) → Bool
 all_but c n j = nat_lt j n && not (j == c)
+
+abbrev pub number_of : CoreId → ℕ
+number_of c = c.0

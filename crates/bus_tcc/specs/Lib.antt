@@ -4,6 +4,7 @@ pub mod Bank
 pub mod BankInside
 pub mod Cleaning
 pub mod Committing
+pub mod Ending
 pub mod Left
 pub mod Storing
 pub mod Taking
@@ -11,3 +12,6 @@ pub mod Whole
 pub mod Inside
 pub mod Answers
 pub mod Chosen
+pub mod Refined
+pub mod Uses
+pub mod Parts

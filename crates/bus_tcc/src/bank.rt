@@ -2,7 +2,7 @@
 ghost use Rattle.std.specs.Prelude.{◌≡◌, ◌<◌, ◌↔◌, ℕ, true, IsTrue, IfOk, OnOk, OnErr, Some, None};
 ghost use Rattle.image_load.specs.Contents.{started};
 ghost use Rattle.tcc_rules.specs.CoreEvict.{core_evict};
-ghost use Rattle.tcc_rules.specs.State.{AwaitTid, Halted};
+ghost use Rattle.tcc_rules.specs.State.{Halted};
 ghost use Rattle.core_node.specs.Answers.{IsBlocked, IsMemory};
 ghost use Rattle.core_node.specs.View.{core_of};
 ghost use Rattle.core_bank.specs.Bank.{cores_of, first_core};
@@ -10,10 +10,11 @@ ghost use Rattle.bus_rules.specs.Commit.{all_clean, commit_out};
 ghost use Rattle.bus_rules.specs.Exec.{instruction};
 ghost use Rattle.bus_tcc.specs.Committing.{CanCommit, IsCommitOf};
 ghost use Rattle.bus_tcc.specs.Bank.{Acted, ExecutedAt};
+ghost use Rattle.bus_tcc.specs.Ending.{CommitsBy, at_commit};
 ghost use Rattle.bus_tcc.specs.Machine.{word_in};
 ghost use Rattle.bus_tcc.specs.Taking.{took};
 ghost use Rattle.tcc_base.specs.Put.{put};
-ghost use Rattle.core_node.specs.AtHand.{executes, goes_alone};
+ghost use Rattle.core_node.specs.AtHand.{ends_by, executes, goes_alone};
 ghost use Rattle.tcc_rules.specs.CoreExec.{core_exec};
 ghost use Rattle.rv_code.specs.Machine.{program};
 
@@ -122,7 +123,16 @@ impl BusBank {
         )
     }
 
-    /// A core that waits for the bus commits by this TID, and says what it wrote. After want of memory the cores are as before.
+    /// Whether the instruction at the core's pc ends its transaction.
+    pub fn ends(&self, core: CoreId) -> bool
+        requires { core.0 < self.now.code.settings.cores }
+        ensures { result ≡ ends_by ((program (started self.now.code)).need (cores_of self.now core.0).local) }
+    {
+        self.core(core).ends(&self.code)
+    }
+
+    /// A core that waits for the bus, or is alone at the end of its transaction, commits by this TID, and says what it wrote. After want
+    /// of memory the cores are as before.
     pub(crate) fn commit(
         &mut self,
         core: CoreId,
@@ -130,15 +140,17 @@ impl BusBank {
         out: &mut Outgoing,
     ) -> Result<Written, CoreError>
         requires exists { core.0 < self.old.code.settings.cores }
-        requires waits { (cores_of self.old core.0).phase ≡ AwaitTid }
+        requires short { (cores_of self.old core.0).n < 4194304 }
+        requires idle { (cores_of self.old core.0).awaited ≡ None }
+        requires commits { CommitsBy (program (started self.old.code)) tid.0 (cores_of self.old core.0) (cores_of self.old core.0).phase }
         requires can { CanCommit self.old.code.settings (cores_of self.old core.0) }
-        ensures does { OnOk result (cores_of self.new ≡ put (cores_of self.old) core.0 (all_clean (commit_out self.old.code.settings core.0 tid.0 (cores_of self.old core.0)).core)) }
-        ensures wrote { IfOk result (λ w. IsCommitOf self.old.code.settings core.0 tid.0 (cores_of self.old core.0) w) }
+        ensures does { OnOk result (cores_of self.new ≡ put (cores_of self.old) core.0 (all_clean (commit_out self.old.code.settings core.0 tid.0 (at_commit (program (started self.old.code)) (cores_of self.old core.0))).core)) }
+        ensures wrote { IfOk result (λ w. IsCommitOf self.old.code.settings core.0 tid.0 (at_commit (program (started self.old.code)) (cores_of self.old core.0)) w) }
         ensures cause { OnErr result (IsMemory result) }
         ensures code { self.new.code ≡ self.old.code }
         ensures unchanged { OnErr result (cores_of self.new ≡ cores_of self.old) }
     {
-        commit_one(&mut self.cores.items[core.0 as usize], tid, out)
+        commit_one(&mut self.cores.items[core.0 as usize], &self.code, tid, out)
     }
 
     /// A core takes the lines of a packet. Takes time in these lines, and where the core begins anew in its cache's frames.

@@ -1,10 +1,11 @@
 // The bus: who has it, and the packet that is on it.
-ghost use Rattle.std.specs.Prelude.{◌≡◌, ◌<◌, ◌≤◌, false, not, nat_lt};
+ghost use Rattle.std.specs.Prelude.{◌≡◌, ◌<◌, ◌≤◌, false, not, nat_lt, filter, length, option_map, slice_get};
+ghost use Rattle.tcc_rules.specs.Seen.{numbers};
 ghost use Rattle.tcc_base.specs.Put.{put};
 ghost use Rattle.tcc_maps.specs.Masks.{has};
 ghost use Rattle.tcc_maps.specs.Words.{any_below};
 ghost use Rattle.core_node.specs.AtHand.{words_in};
-ghost use Rattle.bus_tcc.specs.Left.{is_left, packet_words, without_core};
+ghost use Rattle.bus_tcc.specs.Left.{is_left, number_of, packet_words, without_core};
 ghost use Rattle.bus_rules.specs.Useful.{is_packet};
 ghost use Rattle.bus_tcc.specs.Machine.{bus_of, is_free};
 
@@ -52,6 +53,37 @@ impl CoreSet {
         ensures { result ≡ not (any_below (has self.bits) count) }
     {
         DirSet { bits: self.bits }.is_empty_below(count)
+    }
+
+    /// How many of the cores below a number are in the set. Takes time in this number.
+    pub fn count_below(self, count: u8) -> u8
+        requires { count ≤ 64 }
+        ensures { result ≡ length (filter (has self.bits) (numbers count)) }
+    {
+        let mut found = 0;
+        for core in 0..count {
+            if self.contains(CoreId(core)) {
+                found += 1;
+            }
+        }
+        found
+    }
+
+    /// The k-th of them, from 0; None exactly where there are no more than k. Takes time in this number.
+    pub fn nth_below(self, count: u8, k: u64) -> Option<CoreId>
+        requires { count ≤ 64 }
+        ensures { option_map number_of result ≡ slice_get (filter (has self.bits) (numbers count)) k }
+    {
+        let mut left = k;
+        for core in 0..count {
+            if self.contains(CoreId(core)) {
+                if left == 0 {
+                    return Some(CoreId(core));
+                }
+                left -= 1;
+            }
+        }
+        None
     }
 }
 
@@ -101,6 +133,30 @@ impl Bus {
         match self {
             Bus::Packet(packet) => packet.left.contains(core),
             Bus::Free | Bus::Alone(_) => false,
+        }
+    }
+
+    /// How many of the cores below a number are still to take the packet that is on it. Takes time in this number.
+    pub fn left_count(&self, count: u8) -> u8
+        requires { count ≤ 64 }
+        ensures { result ≡ length (filter (is_left (bus_of self.now)) (numbers count)) }
+    {
+        match self {
+            Bus::Packet(packet) => packet.left.count_below(count),
+            Bus::Free => 0,
+            Bus::Alone(_) => 0,
+        }
+    }
+
+    /// The k-th of them, from 0; None exactly where there are no more than k. Takes time in this number.
+    pub fn left_at(&self, count: u8, k: u64) -> Option<CoreId>
+        requires { count ≤ 64 }
+        ensures { option_map number_of result ≡ slice_get (filter (is_left (bus_of self.now)) (numbers count)) k }
+    {
+        match self {
+            Bus::Packet(packet) => packet.left.nth_below(count, k),
+            Bus::Free => None,
+            Bus::Alone(_) => None,
         }
     }
 

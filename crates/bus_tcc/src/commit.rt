@@ -1,9 +1,11 @@
 // A core commits.
-ghost use Rattle.std.specs.Prelude.{◌≡◌, ◌<◌};
+ghost use Rattle.std.specs.Prelude.{◌≡◌, ◌<◌, Some};
+ghost use Rattle.bus_rules.specs.Commit.{bus_commit};
 ghost use Rattle.bus_rules.specs.State.{Exec};
 ghost use Rattle.tcc_rules.specs.State.{AwaitTid};
-ghost use Rattle.bus_tcc.specs.Answers.{Answers};
-ghost use Rattle.bus_tcc.specs.Machine.{bus_settings_of, bus_world_of};
+ghost use Rattle.bus_tcc.specs.Answers.{Answers, bus_step_of};
+ghost use Rattle.bus_tcc.specs.Ending.{CommitsBy, at_commit};
+ghost use Rattle.bus_tcc.specs.Machine.{bus_program_of, bus_settings_of, bus_world_of};
 
 use crate::committing::{Written, tagged};
 use crate::event::{BusError, BusStep};
@@ -14,16 +16,14 @@ use crate::system::BusSystem;
 use tcc_base::{CoreId, Tid};
 
 impl BusSystem {
-    /// A core whose transaction has ended commits, where the bus is free.
-    pub(crate) fn commit(&mut self, core: CoreId) -> Result<BusStep, BusError>
+    /// A core commits that the rules let commit now.
+    pub(crate) fn publish(&mut self, core: CoreId) -> Result<BusStep, BusError>
         requires few { self.old.events < 4194304 }
         requires exists { core.0 < (bus_settings_of self.old).cores }
-        requires waits { ((bus_world_of self.old).cores core.0).phase ≡ AwaitTid }
+        requires may { let s = (bus_world_of self.old).cores core.0 in CommitsBy (bus_program_of self.old) (bus_world_of self.old).next s s.phase }
+        requires commits { bus_step_of self.old (Exec core.0) ≡ Some (bus_commit (bus_settings_of self.old) (bus_world_of self.old) core.0 (at_commit (bus_program_of self.old) ((bus_world_of self.old).cores core.0))) }
         ensures { Answers self.old self.new (Exec core.0) result }
     {
-        if !self.bus.is_free() {
-            return Err(BusError::Refused);
-        }
         let cores = self.config().cores();
         let Ok(()) = self.commits.reserve() else {
             return Err(BusError::Memory);
@@ -41,5 +41,18 @@ impl BusSystem {
                 Ok(BusStep::Committed(tid))
             }
         }
+    }
+
+    /// A core whose transaction has ended commits, where the bus is free.
+    pub(crate) fn commit(&mut self, core: CoreId) -> Result<BusStep, BusError>
+        requires few { self.old.events < 4194304 }
+        requires exists { core.0 < (bus_settings_of self.old).cores }
+        requires waits { ((bus_world_of self.old).cores core.0).phase ≡ AwaitTid }
+        ensures { Answers self.old self.new (Exec core.0) result }
+    {
+        if !self.bus.is_free() {
+            return Err(BusError::Refused);
+        }
+        self.publish(core)
     }
 }

@@ -4,20 +4,27 @@
 
 mod bank;
 mod bus;
+mod choosing;
 mod cleaning;
 mod commit;
 mod committing;
+mod counts;
+mod ending;
 mod event;
 mod exec;
 mod executing;
 mod publishing;
 mod readers;
+mod step;
 mod stepping;
 mod storing;
 mod system;
 mod take;
 mod taking;
+#[cfg(test)]
+mod tests;
 mod together;
+mod uses;
 
 pub use bus::{Bus, CoreSet, Packet};
 pub use event::{BusError, BusEvent, BusStep};

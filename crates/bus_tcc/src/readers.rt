@@ -6,6 +6,7 @@ ghost use Rattle.core_node.specs.View.{core_of};
 ghost use Rattle.rv_plain.specs.Attempts.{outcome_of};
 ghost use Rattle.tcc_rules.specs.State.{Halted};
 ghost use Rattle.bus_tcc.specs.Machine.{bus_settings_of, bus_world_of, word_in};
+ghost use Rattle.bus_tcc.specs.Refined.{IsBusRefined};
 ghost use Rattle.tcc_program.specs.Cores.{printed};
 ghost use Rattle.tcc_serial.specs.Commits.{end_after};
 
@@ -35,7 +36,8 @@ impl BusSystem {
 
     /// The commits so far, by rising TID. It takes constant time.
     pub fn commits(&self) -> &[Commit]
-        ensures { result.now ≡ self.now.commits }
+        ensures commits { result.now ≡ self.now.commits }
+        ensures refined { IsBusRefined self.now }
     {
         self.commits.as_slice()
     }

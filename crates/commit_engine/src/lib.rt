@@ -14,6 +14,3 @@ pub use homes::{read_homes, written_homes};
 pub use phase::Phase;
 pub use sending::{send_aborts, send_each, send_granted, send_marks, send_probes, send_skips};
 pub use solo::{send_solo, solo_homes, solo_marks_into, solo_room};
-
-#[cfg(test)]
-mod tests;

@@ -29,6 +29,3 @@ pub use delivering::CoreError;
 pub use exec::Executed;
 pub use node::CoreNode;
 pub use state::{Awaited, Core};
-
-#[cfg(test)]
-mod tests;

@@ -5,7 +5,5 @@ mod answering;
 mod bank;
 mod marking;
 mod reading;
-#[cfg(test)]
-mod tests;
 
 pub use bank::DirBank;

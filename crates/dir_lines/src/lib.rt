@@ -7,8 +7,6 @@ mod lines;
 mod marked;
 mod pages;
 mod record;
-#[cfg(test)]
-mod tests;
 mod tree;
 mod words;
 

@@ -16,7 +16,7 @@ pub enum Handled {
 /// Why a directory can't answer. The directory and what is sent are as before.
 #[derive(Clone, Copy, Debug, PartialEq, Eq)]
 pub enum DirError {
-    /// The memory for what has to be sent or kept wasn't to be had.
+    /// Out of memory for what has to be sent or kept.
     Memory,
     /// The message isn't of a kind that directories take, or its line isn't at home here.
     Foreign,

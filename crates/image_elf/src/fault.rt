@@ -24,7 +24,7 @@ pub enum ElfFault {
     Dynamic,
     /// The segment of this program header is smaller than its part of the file, or ends beyond 32-bit addresses.
     BadSegment(u32),
-    /// The memory for the image wasn't to be had.
+    /// Out of memory for the image.
     Memory,
 }
 

@@ -27,7 +27,7 @@ pub enum LoadFault {
     Entry {
         image: u32,
     },
-    /// The memory for RAM or an image wasn't to be had.
+    /// Out of memory for RAM or an image.
     Memory,
 }
 

@@ -14,6 +14,3 @@ pub use fault::LoadFault;
 pub use images::load;
 pub use loaded::Loaded;
 pub use raw_files::raw;
-
-#[cfg(test)]
-mod tests;

@@ -5,8 +5,6 @@ mod flights;
 mod grid;
 mod lane;
 mod sending;
-#[cfg(test)]
-mod tests;
 
 pub use flights::InFlight;
 pub use lane::{Held, Lane, Waiting};

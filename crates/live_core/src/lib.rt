@@ -4,8 +4,6 @@
 mod finding;
 mod laws;
 mod reason;
-#[cfg(test)]
-mod tests;
 mod waiting;
 
 pub use finding::{find, find_for, has_halted};

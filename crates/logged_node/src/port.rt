@@ -78,7 +78,7 @@ impl Port {
         }
     }
 
-    /// The ports of two nodes to one another, over two new links. Takes memory for the links; where there is none to be had, nothing is
+    /// The ports of two nodes to one another, over two new links. Takes memory for the links; when it runs out, nothing is
     /// left of them.
     pub fn pair(
         alloc: Global,

@@ -14,8 +14,6 @@ mod reading;
 mod seeing;
 mod system;
 mod taking;
-#[cfg(test)]
-mod tests;
 
 pub use system::System;
 pub use taking::{Step, StepError};

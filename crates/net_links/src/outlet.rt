@@ -43,7 +43,7 @@ impl Outlet {
         Outlet { wire, pass }
     }
 
-    /// Sends a message, behind all that was sent. Takes memory for one block every 31 messages; where there is none to be had, or after
+    /// Sends a message, behind all that was sent. Takes memory for one block every 31 messages; when it runs out, or after
     /// nearly 2^62 messages, the answer is `NoMemory` and nothing is changed. It doesn't wait for the inlet.
     pub fn push<R: Wait>(&mut self, rt: &R, mail: Mail) -> Result<(), NoMemory>
         requires carried { MayCarry self.old.ends (msg_of mail.msg) }

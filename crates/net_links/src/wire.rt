@@ -49,7 +49,7 @@ fn between<P: Placed>(alloc: Global, ends: Ends) -> Result<(Outlet, Inlet), NoMe
 }
 
 /// A link from one node to another, in a machine with these settings, on which nothing was sent. Takes memory for the queue and its first
-/// block; where there is none to be had, nothing is left of it.
+/// block; when it runs out, nothing is left of it.
 pub fn link(
     alloc: Global,
     config: &Config,

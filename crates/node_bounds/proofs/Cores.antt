@@ -15,13 +15,10 @@ use Rattle.tcc_rules.specs.State.{CoreState, Awaited}
 use Rattle.tcc_serial.specs.InMemory.{FramesInMemory, StaysInMemory, WordInMemory}
 use Rattle.tcc_serial.specs.OneCore.{OneCore}
 use Rattle.tcc_serial.specs.Tids.{has_tid}
-use Rattle.tcc_serial.proofs.CoreHomes.{HomelyOut, homes-exec, homes-evict, homes-grant, homes-back}
-use Rattle.tcc_serial.proofs.CoreInMemory.{CoreInMemory, OutInMemory, exec-memory}
-use Rattle.tcc_serial.proofs.CoreOwners.{KeepsHolder, none as no_grant, noted_tid, holder-exec, holder-evict, holder-grant, holder-back}
-use Rattle.tcc_serial.proofs.InMemoryTakes.{evict-memory, grant-memory, back-memory}
-use Rattle.tcc_serial.proofs.MemorySends.{SendsInMemory, exec-sends, evict-sends, grant-sent, back-sends}
-use Rattle.tcc_serial.proofs.OneCoreExec.{exec_one}
-use Rattle.tcc_serial.proofs.OneCoreTakes.{evict_one, grant_one, back_one}
+use Rattle.tcc_serial.proofs.Lemmas.{HomelyOut, homes-exec, homes-evict, homes-grant, homes-back, CoreInMemory, OutInMemory, exec-memory}
+use Rattle.tcc_serial.proofs.Lemmas.{KeepsHolder, no_grant, noted_tid, holder-exec, holder-evict, holder-grant, holder-back, evict-memory}
+use Rattle.tcc_serial.proofs.Lemmas.{grant-memory, back-memory, SendsInMemory, exec-sends, evict-sends, grant-sent, back-sends, exec_one}
+use Rattle.tcc_serial.proofs.Lemmas.{evict_one, grant_one, back_one}
 use Rattle.tcc_live.proofs.CoreFits.{Fit, fit-exec, fit-evict, fit-grant, fit-back}
 use Rattle.tcc_bounds.specs.Bounds.{AttemptCounted, CacheInMemory, most_sent}
 use Rattle.tcc_bounds.specs.Messages.{IsLine, line_named}

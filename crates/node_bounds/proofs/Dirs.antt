@@ -15,7 +15,7 @@ use Rattle.tcc_rules.specs.DirDeliver.{load_request, mark_owned, mark, is_invali
 use Rattle.tcc_rules.specs.DirDeliver.{judged, write_back, dir_deliver}
 use Rattle.tcc_rules.specs.Sends.{Sends, nothing, to}
 use Rattle.tcc_rules.specs.State.{DirState}
-use Rattle.tcc_serial.proofs.DirMarks.{Marked, MarkedBy, Stays, Clears, Skipped, Marks, dir-marked}
+use Rattle.tcc_serial.proofs.Lemmas.{Marked, MarkedBy, Stays, Clears, Skipped, Marks, dir-marked}
 use Rattle.tcc_live.specs.Fits.{fits}
 use Rattle.tcc_live.proofs.DirFits.{FitAnswer, fit-answer}
 use Rattle.tcc_live.proofs.Strays.{AllFit}

@@ -11,8 +11,7 @@ use Rattle.tcc_maps.specs.Serving.{first_serving}
 use Rattle.tcc_maps.specs.Shape.{Shape}
 use Rattle.tcc_rules.specs.State.{start, core_start, dir_start, vendor_start}
 use Rattle.tcc_serial.specs.Tids.{has_tid}
-use Rattle.tcc_serial.proofs.CoreAlone.{start-cores}
-use Rattle.tcc_serial.proofs.InMemoryKept.{start-memory}
+use Rattle.tcc_serial.proofs.Lemmas.{start-cores, start-memory}
 use Rattle.tcc_bounds.specs.Bounds.{AttemptCounted}
 use Rattle.tcc_bounds.proofs.Counted.{none}
 use Rattle.node_bounds.specs.Apart.{CoreApart, DirApart}

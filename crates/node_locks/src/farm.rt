@@ -84,7 +84,7 @@ impl<W: Setup, E: Ledger, T: Ledger> Farm<W, E, T> {
             .turn(rt, pick, &self.books, ticket)
     }
 
-    /// All logs, once all tickets are back. Memory for them is taken first, and where there is none to be had, the farm and the ticket
+    /// All logs, once all tickets are back. Memory for them is taken first, and when it runs out, the farm and the ticket
     /// come back.
     pub fn close<R: Wait>(
         self,

@@ -66,7 +66,7 @@ impl Nodes {
         acting.act(rt, pick)
     }
 
-    /// All logs. Memory for them is taken first, and where there is none to be had, the nodes come back as they were.
+    /// All logs. Memory for them is taken first, and when it runs out, the nodes come back as they were.
     pub fn close<R: Wait>(self, rt: &R, alloc: Global) -> Result<Logs, (Nodes, NoMemory)>
         ensures fits { IfOk result (λ l. FitLogs (started self.code) l.by_node) }
         ensures config { IfOk result (λ l. l.config ≡ self.code.settings) }

@@ -3,3 +3,4 @@ pub mod Asking
 pub mod Granting
 pub mod Halting
 pub mod Noting
+pub mod Staying

@@ -1,18 +1,20 @@
 -- What is claimed of runs by phases, from each start with allowed settings.
-use Rattle.std.specs.Prelude.{ℕ, ◌≡◌, ◌≢◌, ◌<◌, List, [], ◌∷◌, ◌++◌, length, take, drop, filter, max, nat_lt}
+use Rattle.std.specs.Prelude.{ℕ, ◌≡◌, ◌≢◌, ◌<◌, ◌==◌, Bool, false, List, [], ◌∷◌, ◌++◌, length, take, drop, filter, max, nat_lt}
 use Rattle.std.specs.Prelude.{Option, Some, None, IfSome, IsSome}
 use Rattle.std.specs.List.Sorted.{IsNonDecreasing}
 use Rattle.image_load.specs.Start.{Start}
 use Rattle.rv_code.specs.Machine.{program}
 use Rattle.tcc_base.specs.Settings.{IsAllowed}
 use Rattle.tcc_base.specs.declared.access.Commit.{Commit}
-use Rattle.tcc_maps.specs.Nodes.{Core, Vendor, Event}
+use Rattle.tcc_maps.specs.Nodes.{Core, Vendor, Event, Exec, Deliver}
+use Rattle.tcc_maps.specs.Shape.{Shape}
+use Rattle.tcc_program.specs.Program.{Program}
 use Rattle.tcc_rules.specs.Links.{in_flight}
 use Rattle.tcc_rules.specs.Seen.{IsDone}
 use Rattle.tcc_rules.specs.State.{World}
 use Rattle.tcc_rules.specs.Step.{History, Stepped, step, next, run}
 use Rattle.rv_serial.specs.Suiting.{world_at_start, AfterRun}
-use Rattle.phase_rules.specs.Phased.{phased_from, phased_picked, phased_useful}
+use Rattle.phase_rules.specs.Phased.{has_halted, phased_from, phased_picked, phased_useful}
 use Rattle.phase_rules.specs.Phases.{x27, phase_of, phases_of}
 
 -- all cores at their entries, and no commit
@@ -88,3 +90,25 @@ AsksOnce w =
 -- So it is after every run.
 abbrev pub OneRequestEach : Type 0
 OneRequestEach = (s : Start) (es : List Event) → IsAllowed s.settings → AfterRun s es (λ h. AsksOnce h.world)
+
+-- the event executes an instruction of this core
+abbrev pub executes : (core : ℕ) → Event → Bool
+executes c (Exec d) = c == d
+executes c _ = false
+
+-- the event delivers a message from this core to the vendor
+abbrev pub asks : (core : ℕ) → Event → Bool
+asks c (Deliver (Core d) Vendor k) = c == d
+asks c _ = false
+
+-- An event that notes no commit leaves it as it was who has halted.
+abbrev pub HaltsStay : Type 0
+HaltsStay =
+    (sh : Shape) (p : Program) (w : World) (e : Event) → IfSome (step sh p w e)
+    (λ o. o.noted ≡ None → (c : ℕ) → has_halted (o.world.cores c).phase ≡ has_halted (w.cores c).phase)
+
+-- What a core has said to the vendor stays, unless the event executes its instruction or delivers such a message.
+abbrev pub RequestsStay : Type 0
+RequestsStay =
+    (sh : Shape) (p : Program) (w : World) (e : Event) → IfSome (step sh p w e)
+    (λ o. (c : ℕ) → executes c e ≡ false → asks c e ≡ false → o.world.net (Core c) Vendor ≡ w.net (Core c) Vendor)

@@ -1,6 +1,6 @@
 -- Runs in which earlier phases commit before later ones: a core's request for a TID is held back while another core that hasn't halted is
 -- in an earlier phase. All other events happen as they do without phases.
-use Rattle.std.specs.Prelude.{ℕ, Bool, true, false, not, List, [], ◌∷◌, filter, Option, Some, None, nat_lt, ◌==◌, ◌&&◌}
+use Rattle.std.specs.Prelude.{ℕ, Bool, true, false, not, List, [], ◌∷◌, filter, Option, Some, None, nat_lt, ◌&&◌}
 use Rattle.std.specs.Prelude.{if◌then◌else◌}
 use Rattle.image_load.specs.Start.{Start}
 use Rattle.rv_code.specs.Machine.{program}
@@ -16,9 +16,9 @@ abbrev pub has_halted : Phase → Bool
 has_halted Halted = true
 has_halted _ = false
 
--- core j is another one, hasn't halted, and is in an earlier phase
+-- core j hasn't halted, and is in an earlier phase
 abbrev pub goes_before : Start → History → (core j : ℕ) → Bool
-goes_before s h c j = not (j == c) && (not (has_halted (h.world.cores j).phase) && nat_lt (phase_of s h j) (phase_of s h c))
+goes_before s h c j = not (has_halted (h.world.cores j).phase) && nat_lt (phase_of s h j) (phase_of s h c)
 
 -- some core does
 unfoldable pub is_late : Start → History → (core : ℕ) → Bool

@@ -3,7 +3,7 @@
 #![tactic(auto)]
 
 ghost use Rattle.phase_rules.specs.Laws.{PhasedRunsAreRuns, PhasesNeverFall, PhasedNeverStuck, PhasedPickedEndsDone, PhasedPickedRuns};
-ghost use Rattle.phase_rules.specs.Laws.{PhasesGrow, OneRequestEach};
+ghost use Rattle.phase_rules.specs.Laws.{PhasesGrow, OneRequestEach, HaltsStay, RequestsStay};
 ghost use Rattle.phase_rules.specs.Worked.{GoesOn, StaysInPhase, InPhaseOne, HeldBack, BothHalt};
 
 /// A run by phases is a run of the protocol's rules, to the same state and commits.
@@ -20,6 +20,13 @@ pub fn a_schedule_picked_by_phases_runs()
 /// to hold back all of them holds back one.
 pub fn one_request_each()
     ensures one { OneRequestEach }
+{}
+
+/// Who is held back changes at few events: an event that notes no commit leaves it as it was which cores have halted, and what a core has
+/// said to the vendor changes only where the core executes an instruction or where a message of it is delivered there.
+pub fn halts_and_requests_stay()
+    ensures halts { HaltsStay }
+    ensures requests { RequestsStay }
 {}
 
 /// After every run by phases from a start with allowed settings the machine is done, or some useful event isn't held back; and a schedule

@@ -42,9 +42,17 @@ ram_text base count ram loaded = flat_map (word_text base ram loaded) (range_wit
 unfoldable pub body_text : Shown → List ℕ
 body_text s = flat_map commit_text s.commits ++ cores_text 0 s.cores ++ ram_text s.base s.count s.ram s.loaded
 
--- the report of a run: whether it is done, how many events it took, and the state that it committed
+-- how a run ended: whether it is done, how many events it took, and the state that it committed
+unfoldable pub ended_text : (done : Bool) → (events : ℕ) → Shown → List ℕ
+ended_text done events s = end_line done ++ events_line events ++ body_text s
+
+-- the report of a run
 unfoldable pub report_text : (done : Bool) → (events : ℕ) → Shown → List ℕ
-report_text done events s = codes "tcc-report 1" ++ newline ++ end_line done ++ events_line events ++ body_text s
+report_text done events s = codes "tcc-report 1" ++ newline ++ ended_text done events s
+
+-- the report of a run of the machine with one bus
+unfoldable pub bus_text : (done : Bool) → (events : ℕ) → Shown → List ℕ
+bus_text done events s = codes "tcc-bus 1" ++ newline ++ ended_text done events s
 
 -- the report of a serial execution
 unfoldable pub serial_text : Shown → List ℕ

@@ -12,5 +12,5 @@ mod trials;
 
 pub use lines::{push_end, push_events};
 pub use shown::{CoreShown, Ending, Trial, Words};
-pub use texts::{report, serial_report};
+pub use texts::{bus_machine_report, report, serial_report};
 pub use trials::trial_summary;

@@ -1,7 +1,7 @@
 // Reports of two small machines and summaries of trials, letter by letter.
 ghost use Rattle.std.specs.Prelude.{◌≡◌, ◌≤◌, length};
 
-use crate::{CoreShown, Ending, Trial, report, serial_report, trial_summary};
+use crate::{CoreShown, Ending, Trial, bus_machine_report, report, serial_report, trial_summary};
 use reg_checkpoint::Regs;
 use std::alloc::{AllocError, Global};
 use std::test::Fail;
@@ -131,6 +131,11 @@ mem 0000101c 00000009
         .ok()
         .ok_or("no memory")?;
     let head = "tcc-report 1\nend open\nevents 4194304\n";
+    assert_eq!(rt; text.as_str(), format!(in alloc; "{head}{body}")?.as_str());
+    let text = bus_machine_report(alloc, false, 4_194_304, &ending)
+        .ok()
+        .ok_or("no memory")?;
+    let head = "tcc-bus 1\nend open\nevents 4194304\n";
     assert_eq!(rt; text.as_str(), format!(in alloc; "{head}{body}")?.as_str());
     let text = serial_report(alloc, &ending).ok().ok_or("no memory")?;
     assert_eq!(rt;

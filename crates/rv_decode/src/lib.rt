@@ -7,8 +7,6 @@ mod fields;
 mod formats;
 mod instruction;
 mod laws;
-#[cfg(test)]
-mod tests;
 
 pub use decoding::decode;
 pub use encoding::encode;

@@ -12,7 +12,7 @@ ghost use Rattle.tcc_program.specs.Plain.{steps, end_of, load_of, store_of};
 ghost use Rattle.tcc_program.specs.Program.{unreserved};
 
 use crate::bytes;
-use crate::memory::Memory;
+use crate::memory::BufferedRam;
 use crate::plain::PlainFault;
 use reg_checkpoint::State;
 use rv_code::Code;
@@ -94,7 +94,7 @@ impl Attempt {
     #[tactic(auto, unfolding(crate::specs::Attempts::attempt_of, tcc_program::specs::Ram::loaded, tcc_program::specs::Ram::word_of))]
     fn load(
         &mut self,
-        memory: &Memory,
+        memory: &BufferedRam,
         base: u32,
         inst: &Inst,
         addr: u32,
@@ -115,7 +115,7 @@ impl Attempt {
     #[tactic(auto, unfolding(crate::specs::Attempts::attempt_of, tcc_program::specs::Ram::word_of))]
     fn store(
         &mut self,
-        memory: &mut Memory,
+        memory: &mut BufferedRam,
         base: u32,
         inst: &Inst,
         addr: u32,
@@ -148,7 +148,7 @@ impl Attempt {
     #[tactic(auto, unfolding(crate::specs::Attempts::attempt_of, tcc_program::specs::Ram::loaded, tcc_program::specs::Ram::word_of))]
     fn change(
         &mut self,
-        memory: &mut Memory,
+        memory: &mut BufferedRam,
         base: u32,
         inst: &Inst,
         addr: u32,
@@ -207,7 +207,7 @@ impl Attempt {
     #[tactic(auto, unfolding(crate::specs::Attempts::attempt_of))]
     fn act(
         &mut self,
-        memory: &mut Memory,
+        memory: &mut BufferedRam,
         base: u32,
         inst: &Inst,
         need: Need,
@@ -254,7 +254,7 @@ impl Attempt {
     /// One instruction over RAM as the transaction sees it; the next instruction where it answers Goes. After want of
     /// memory nothing has changed. Takes the logarithm of what waits in the buffer.
     #[tactic(auto, unfolding(crate::specs::Attempts::attempt_of))]
-    pub fn step(&mut self, memory: &mut Memory, code: &Code) -> Result<Outcome, NoMemory>
+    pub fn step(&mut self, memory: &mut BufferedRam, code: &Code) -> Result<Outcome, NoMemory>
         requires room { self.old.n < 2 ^ 32 - 1 }
         requires whole { 4 * length memory.old.ram ≡ code.now.settings.ram }
         ensures does { IfOk result (λ o. attempt_of self.new memory.new o
@@ -274,7 +274,12 @@ impl Attempt {
     ///
     /// An error names the instruction, from 1, that ends the transaction too early, or `n` where the last one goes on or
     /// none was asked for. The memory's RAM is as before in each case.
-    pub fn run(&mut self, memory: &mut Memory, code: &Code, n: u32) -> Result<Outcome, PlainFault>
+    pub fn run(
+        &mut self,
+        memory: &mut BufferedRam,
+        code: &Code,
+        n: u32,
+    ) -> Result<Outcome, PlainFault>
         requires fresh { self.old.n ≡ 0 }
         requires whole { 4 * length memory.old.ram ≡ code.now.settings.ram }
         ensures runs { IfOk result (λ o. (steps code.now.settings.base (program (started code.now)) n
@@ -302,7 +307,7 @@ impl Attempt {
         Err(PlainFault::NotEnding(n))
     }
 
-    fn dispatch(&mut self, memory: &mut Memory, code: &Code) -> Result<Outcome, NoMemory>
+    fn dispatch(&mut self, memory: &mut BufferedRam, code: &Code) -> Result<Outcome, NoMemory>
         requires { 4 * length memory.old.ram ≡ code.now.settings.ram }
         ensures does { IfOk result (λ o. attempt_of self.new memory.new o
             ≡ buffered_step code.now.settings.base (program (started code.now))
@@ -320,7 +325,7 @@ impl Attempt {
 
     fn execute(
         &mut self,
-        memory: &mut Memory,
+        memory: &mut BufferedRam,
         code: &Code,
         inst: &Inst,
     ) -> Result<Outcome, NoMemory>

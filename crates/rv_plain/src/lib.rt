@@ -7,10 +7,8 @@ mod bytes;
 mod memory;
 mod plain;
 mod serial;
-#[cfg(test)]
-mod tests;
 
 pub use attempt::{Attempt, Outcome};
 pub use bytes::{read as read_part, replace as replace_part};
-pub use memory::Memory;
+pub use memory::BufferedRam;
 pub use plain::{CoreState, Done, Order, Plain, PlainFault, SerialFault};

@@ -15,12 +15,12 @@ use tcc_base::{NoMemory, WordAddr};
 
 /// RAM by word, and the words that wait to be written to it.
 #[derive(Debug, Drop)]
-pub struct Memory {
+pub struct BufferedRam {
     ram: Vec<u32>,
     buffer: BTreeMap<u32, u32>,
 }
 
-impl Model for Memory {
+impl Model for BufferedRam {
     ghost use Rattle.std.specs.Prelude.{length};
     ghost use Rattle.rv_plain.specs.Store.{Store, IsInside};
 
@@ -32,9 +32,9 @@ impl Model for Memory {
 }
 
 #[tactic(auto, unfolding(crate::specs::Store::buffer_of, crate::specs::Buffered::seen, tcc_program::specs::Ram::flat))]
-impl Memory {
+impl BufferedRam {
     /// RAM as it was loaded. Nothing waits.
-    pub fn new(alloc: Global, code: &Code) -> Result<Memory, NoMemory>
+    pub fn new(alloc: Global, code: &Code) -> Result<BufferedRam, NoMemory>
         ensures length { IfOk result (λ m. 4 * length m.ram ≡ code.now.settings.ram) }
         ensures ram { IfOk result (λ m. flat m.ram ≡ first_ram (started code.now)) }
         ensures buffer { IfOk result (λ m. m.waiting ≡ []) }
@@ -44,19 +44,19 @@ impl Memory {
         for w in 0..words {
             ram.push(code.word(WordAddr(w))).map_err(|_| NoMemory)?;
         }
-        Ok(Memory {
+        Ok(BufferedRam {
             ram,
             buffer: BTreeMap::new(alloc),
         })
     }
 
     /// The same RAM, with nothing waiting. Takes time and memory in RAM's words.
-    pub(crate) fn copy(&self, alloc: Global) -> Result<Memory, NoMemory>
+    pub(crate) fn copy(&self, alloc: Global) -> Result<BufferedRam, NoMemory>
         ensures ram { IfOk result (λ m. m.ram ≡ self.now.ram) }
         ensures buffer { IfOk result (λ m. m.waiting ≡ []) }
     {
         let ram = self.ram.to_vec(alloc).map_err(|_| NoMemory)?;
-        Ok(Memory {
+        Ok(BufferedRam {
             ram,
             buffer: BTreeMap::new(alloc),
         })

@@ -10,7 +10,7 @@ ghost use Rattle.rv_plain.specs.Transacts.{Transacts, steps_at};
 ghost use Rattle.tcc_program.specs.Ram.{flat};
 
 use crate::attempt::{Attempt, Outcome};
-use crate::memory::Memory;
+use crate::memory::BufferedRam;
 use image_load::Loaded;
 use reg_checkpoint::{Regs, State};
 use rv_code::{Code, start_state};
@@ -66,7 +66,7 @@ pub struct CoreState {
 pub struct Plain {
     alloc: Global,
     code: Code,
-    memory: Memory,
+    memory: BufferedRam,
     cores: List<CoreState>,
 }
 
@@ -124,7 +124,7 @@ impl Plain {
     {
         let copy = loaded.copy()?;
         let code = Code::new(alloc, copy)?;
-        let memory = Memory::new(alloc, &code)?;
+        let memory = BufferedRam::new(alloc, &code)?;
         let mut cores = List::new(alloc);
         for core in 0..config.cores() {
             cores.push(start_core(alloc, config.cores(), core, loaded.entry(CoreId(core))))?;
@@ -223,7 +223,7 @@ impl Plain {
 fn execute_core(
     alloc: Global,
     code: &Code,
-    memory: &mut Memory,
+    memory: &mut BufferedRam,
     cores: &mut List<CoreState>,
     core: CoreId,
     n: u32,
@@ -247,7 +247,7 @@ fn execute_core(
 fn execute(
     alloc: Global,
     code: &Code,
-    memory: &mut Memory,
+    memory: &mut BufferedRam,
     state: &mut CoreState,
     n: u32,
 ) -> Result<Done, PlainFault>
@@ -269,7 +269,7 @@ fn execute(
 fn transact(
     alloc: Global,
     code: &Code,
-    memory: &mut Memory,
+    memory: &mut BufferedRam,
     state: &mut CoreState,
     n: u32,
 ) -> Result<Done, PlainFault>
@@ -294,7 +294,7 @@ fn transact(
 }
 
 fn close(
-    memory: &mut Memory,
+    memory: &mut BufferedRam,
     state: &mut CoreState,
     attempt: Attempt,
     end: CoreEnd,

@@ -30,6 +30,3 @@ pub use look::{Evicted, Invalidated, Look};
 pub use set_frames::SetFrames;
 pub use useful::Wants;
 pub use ways::Ways;
-
-#[cfg(test)]
-mod tests;

@@ -6,7 +6,7 @@ ghost use Rattle.std.specs.Option.{option_to_list};
 use std::alloc::Global;
 use std::marker::Model;
 
-/// The memory that a call needed wasn't to be had. The call says what it left behind.
+/// Out of memory. The call says what it left behind.
 #[derive(Clone, Copy, Debug, PartialEq, Eq)]
 pub struct NoMemory;
 

@@ -1,4 +1,4 @@
--- What files are as images, and the first of them that is none.
+-- What files are as images, and the first of them that isn't an image.
 use Rattle.std.specs.Prelude.{ℕ, ◌+◌, Bool, true, false, List, [], ◌∷◌, map, Option, None}
 use Rattle.std.specs.Option.{option_or, option_map, option_and_then}
 use Rattle.image_elf.specs.Elf.{image_of}

@@ -32,7 +32,7 @@ fn of_elf<'a>(number: u32, fault: ElfFault) -> Refusal<'a>
     }
 }
 
-/// The images of ELF files, or the first file that is none.
+/// The images of ELF files, or the first file that isn't an image.
 fn read_images<'a>(alloc: Global, files: &[List<u8>]) -> Result<Vec<Image>, Refusal<'a>>
     requires few { length files.now ≤ 16 }
     ensures images { IfOk result (λ images. images.items ≡ map image_of files.now) }

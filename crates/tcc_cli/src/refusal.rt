@@ -22,7 +22,7 @@ pub enum Reader {
     Load,
 }
 
-/// An image that is none.
+/// A file that isn't an image.
 #[derive(Clone, Copy, Debug, PartialEq, Eq)]
 pub struct ImageFault {
     /// The image's number, from 0 on.

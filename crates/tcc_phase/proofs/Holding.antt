@@ -6,14 +6,14 @@ use Rattle.tcc_maps.specs.Nodes.{Core, Deliver, Dir, Event, Evict, Exec, Vendor}
 use Rattle.tcc_rules.specs.Step.{History, Stepped, names_nodes, next, recorded, step}
 use Rattle.phase_rules.specs.Phased.{is_held, phased_next}
 use Rattle.net_core.specs.Answers.{step_of}
-use Rattle.net_core.specs.Machine.{Machine, history_of, program_of, settings_of, start_of, world_of}
+use Rattle.net_core.specs.Machine.{Machine, history_of, program_of, settings_of, start_of}
 use Rattle.net_core.specs.declared.taking.Step.{Step as Told}
 use Rattle.net_core.specs.declared.taking.StepError.{StepError}
 use Rattle.net_core.specs.declared.taking.StepError.TheVariants.{Memory, Refused}
 use Rattle.tcc_phase.specs.Answers.{cause_of, next_of}
 use Rattle.tcc_phase.specs.Kept.{HasRows, IsKept}
 use Rattle.tcc_phase.specs.Phased.{PhaseMachine}
-use Rattle.tcc_phase.specs.Requests.{IsEven, asker, is_behind}
+use Rattle.tcc_phase.specs.Requests.{asker, is_below}
 use Rattle.tcc_phase.specs.declared.ledger.Ledger.{Ledger}
 use Rattle.tcc_phase.proofs.Requests.Behind.{behind-late}
 
@@ -23,35 +23,19 @@ goes m e = next (settings_of m) (program_of m) (history_of m) e
 abbrev pub Holds : Machine → Event → Bool → Type 0
 Holds m e b = next_of m e ≡ (if b then None else goes m e)
 
-pub rows-of : (m n : Machine) (l : Ledger) → n ≡ m → IsKept (start_of m) (history_of m) m.events l → HasRows (settings_of n).cores l
-unfolding started
-rows-of m n l e kept = subst (λ x. HasRows (settings_of x).cores l) (sym e) kept.rows
-
-pub even-of : (m n : Machine) (l : Ledger) → n ≡ m → IsKept (start_of m) (history_of m) m.events l
-    → IsEven l.uneven l.own.items (settings_of n).cores
-unfolding started
-even-of m n l e kept = subst (λ x. IsEven l.uneven l.own.items (settings_of x).cores) (sym e) kept.even
-
 -- the same settings
 pub rows-by : (m n : Machine) (l : Ledger) → n.cores.code ≡ m.cores.code → IsKept (start_of m) (history_of m) m.events l
     → HasRows (settings_of n).cores l
 unfolding started
 rows-by m n l e kept = subst (λ k. HasRows k.settings.cores l) (sym e) kept.rows
 
-pub even-by : (m n : Machine) (l : Ledger) → n.cores.code ≡ m.cores.code → IsKept (start_of m) (history_of m) m.events l
-    → IsEven l.uneven l.own.items (settings_of n).cores
-unfolding started
-even-by m n l e kept = subst (λ k. IsEven l.uneven l.own.items k.settings.cores) (sym e) kept.even
-
 -- a request is held back where its core is late
-pub by-late : (m n : Machine) (l : Ledger) (c k : ℕ) (b : Bool) → n ≡ m → IsKept (start_of m) (history_of m) m.events l
-    → c < (settings_of m).cores → b ≡ is_behind (settings_of n).cores (world_of n) l.own.items (get_or l.own.items c 0)
-    → Holds m (Deliver (Core c) Vendor k) b
+pub by-late : (m : Machine) (l : Ledger) (c k : ℕ) (b : Bool) → IsKept (start_of m) (history_of m) m.events l
+    → c < (settings_of m).cores → b ≡ is_below l.least (get_or l.own.items c 0) → Holds m (Deliver (Core c) Vendor k) b
 unfolding started history_of phased_next is_held
-by-late m n l c k b same kept h e =
+by-late m l c k b kept h e =
     let q : is_held (start_of m) (history_of m) (Deliver (Core c) Vendor k) ≡ b =
-    behind-late (start_of m) (history_of m) l.own.items kept.own c h
-    ∙ sym (e ∙ ap (λ (x : Machine). is_behind (settings_of x).cores (world_of x) l.own.items (get_or l.own.items c 0)) same) in
+    behind-late (start_of m) (history_of m) l.own.items kept.own c h ∙ kept.limits c h ∙ sym e in
     ap (λ t. if t then None else goes m (Deliver (Core c) Vendor k)) q
 
 -- where the core doesn't exist nothing happens
@@ -107,17 +91,17 @@ asker-none m (Deliver Vendor d k) q = refl
 pub free-of : (m : Machine) (e : Event) → asker e ≡ None → Holds m e false
 free-of m e q = by-free m e (asker-none m e q)
 
-pub late-of : (m n : Machine) (l : Ledger) (e : Event) (c : ℕ) (b : Bool) → asker e ≡ Some c → n ≡ m
+pub late-of : (m : Machine) (l : Ledger) (e : Event) (c : ℕ) (b : Bool) → asker e ≡ Some c
     → IsKept (start_of m) (history_of m) m.events l → c < (settings_of m).cores
-    → b ≡ is_behind (settings_of n).cores (world_of n) l.own.items (get_or l.own.items c 0) → Holds m e b
-late-of m n l (Exec d) c b q same kept h e = absurd (cc)
-late-of m n l (Evict d x y) c b q same kept h e = absurd (cc)
-late-of m n l (Deliver (Core d) (Core f) k) c b q same kept h e = absurd (cc)
-late-of m n l (Deliver (Core d) (Dir f) k) c b q same kept h e = absurd (cc)
-late-of m n l (Deliver (Core d) Vendor k) c b q same kept h e =
-    let s : d ≡ c = cc in subst (λ x. Holds m (Deliver (Core x) Vendor k) b) (sym s) (by-late m n l c k b same kept h e)
-late-of m n l (Deliver (Dir d) f k) c b q same kept h e = absurd (cc)
-late-of m n l (Deliver Vendor f k) c b q same kept h e = absurd (cc)
+    → b ≡ is_below l.least (get_or l.own.items c 0) → Holds m e b
+late-of m l (Exec d) c b q kept h e = absurd (cc)
+late-of m l (Evict d x y) c b q kept h e = absurd (cc)
+late-of m l (Deliver (Core d) (Core f) k) c b q kept h e = absurd (cc)
+late-of m l (Deliver (Core d) (Dir f) k) c b q kept h e = absurd (cc)
+late-of m l (Deliver (Core d) Vendor k) c b q kept h e =
+    let s : d ≡ c = cc in subst (λ x. Holds m (Deliver (Core x) Vendor k) b) (sym s) (by-late m l c k b kept h e)
+late-of m l (Deliver (Dir d) f k) c b q kept h e = absurd (cc)
+late-of m l (Deliver Vendor f k) c b q kept h e = absurd (cc)
 
 pub absent-of : (m : Machine) (e : Event) (c : ℕ) → asker e ≡ Some c → nat_lt c (settings_of m).cores ≡ false → Holds m e false
 absent-of m (Exec d) c q h = absurd (cc)

@@ -2,7 +2,6 @@
 mod Rows
 mod Runs
 mod Starting
-mod Chosen
 mod Holding
 mod Picked
 mod Keeping

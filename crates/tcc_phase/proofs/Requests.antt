@@ -2,5 +2,6 @@
 pub mod Asked
 pub mod Behind
 pub mod Listed
+pub mod Staying
 pub mod Those
 pub mod Waiting

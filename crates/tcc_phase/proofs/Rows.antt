@@ -1,9 +1,9 @@
 -- The useful events that aren't held back, by number.
 use Rattle.std.proofs.Common.{◌≡◌, ℕ, suc, ◌+◌, ◌<◌, ◌≤◌, Bool, true, false, List, length, map, Option, Some, None, refl, ap, sym, ◌∙◌}
 use Rattle.std.proofs.Common.{subst, arith}
-use Rattle.std.specs.Prelude.{filter, get_or, not, option_map, slice_get, take}
+use Rattle.std.specs.Prelude.{filter, get_or, not, option_map, slice_get}
 use Rattle.std.proofs.lemmas.Option.{slice_get-get_or, slice_get-map}
-use Rattle.std.proofs.lemmas.List.{get_or-take, get_or_read, length-map, length-take-le}
+use Rattle.std.proofs.lemmas.List.{get_or_read, length-map}
 use Rattle.image_load.specs.Contents.{started}
 use Rattle.rv_code.specs.Machine.{program}
 use Rattle.tcc_maps.specs.Nodes.{Core, Deliver, Event, Vendor}
@@ -21,7 +21,7 @@ use Rattle.tcc_phase.specs.declared.ledger.Ledger.{Ledger}
 use Rattle.tcc_phase.proofs.Order.Counted.{all-parts, kth, left_out, out-all, out-most, out-rises, stands-before, stands-behind}
 use Rattle.tcc_phase.proofs.Requests.Behind.{behind-late}
 use Rattle.tcc_phase.proofs.Requests.Listed.{held-listed}
-use Rattle.tcc_phase.proofs.Requests.Those.{those-below}
+use Rattle.tcc_phase.proofs.Requests.Those.{stands}
 
 -- all useful events as the machine's code lists them
 pub all-is : (m : Machine) → useful (settings_of m) (program_of m) (world_of m) ≡ all_in m
@@ -36,25 +36,21 @@ module _ (m : Machine) (l : Ledger) (kept : IsKept (start_of m) (history_of m) m
   abbrev held : Event → Bool
   held = is_held (start_of m) (history_of m)
 
-  rows : l.count ≤ length l.held.items
-  rows = let a = kept.count in let b = kept.rows.held in omega (arith, a, b)
-
-  listed : map (request l.asked.items) (take l.count l.held.items) ≡ filter held (all_in m)
+  listed : map (request l.asked.items) l.held.items ≡ filter held (all_in m)
   unfolding all_in
   listed =
       ap (map (request l.asked.items)) kept.held
       ∙ held-listed (start_of m) (history_of m) l.own.items l.asked.items holds ordered
       (behind-late (start_of m) (history_of m) l.own.items kept.own) kept.asked
 
-  count-is : length (filter held (all_in m)) ≡ l.count
-  count-is = ap length (sym listed) ∙ length-map (take l.count l.held.items) (request l.asked.items)
-      ∙ length-take-le l.count l.held.items rows
+  count-is : length (filter held (all_in m)) ≡ length l.held.items
+  count-is = ap length (sym listed) ∙ length-map l.held.items (request l.asked.items)
 
-  pub held-many : held_in m ≡ l.count
+  pub held-many : held_in m ≡ length l.held.items
   unfolding held_in
   held-many = count-is
 
-  pub useful-many : length (useful_in m) + l.count ≡ length (all_in m)
+  pub useful-many : length (useful_in m) + length l.held.items ≡ length (all_in m)
   unfolding phased_useful all_in
   useful-many =
       let a = all-parts held (useful (start_of m).settings (program (start_of m)) (history_of m).world) in
@@ -62,29 +58,23 @@ module _ (m : Machine) (l : Ledger) (kept : IsKept (start_of m) (history_of m) m
       omega (arith, a, b)
 
   -- the core of a row
-  pub core-below : (j : ℕ) → j < l.count → get_or l.held.items j 0 < (start_of m).settings.cores
+  pub core-below : (j : ℕ) → j < length l.held.items → get_or l.held.items j 0 < (start_of m).settings.cores
   core-below j h =
-      those-below (is_waiting (start_of m).settings (program (start_of m)) (history_of m).world l.own.items l.asked.items)
-      (start_of m).settings.cores (get_or l.held.items j 0) j
-      (ap (λ xs. slice_get xs j) (sym kept.held) ∙ slice_get-get_or (take l.count l.held.items) j 0 (within j h)
-      ∙ ap Some (get_or-take l.count l.held.items j 0 h))
-    where
-      within : (j : ℕ) → j < l.count → j < length (take l.count l.held.items)
-      within j h = let a = length-take-le l.count l.held.items rows in omega (arith, a, h)
+      subst (λ xs. get_or xs j 0 < (start_of m).settings.cores) (sym kept.held)
+      (stands (is_waiting (start_of m).settings (program (start_of m)) (history_of m).world l.own.items l.asked.items)
+      (start_of m).settings.cores j (subst (λ xs. j < length xs) kept.held h)).below
 
   -- its request
-  row-is : (j : ℕ) → j < l.count → slice_get (filter held (all_in m)) j ≡ Some (request l.asked.items (get_or l.held.items j 0))
+  row-is : (j : ℕ) → j < length l.held.items → slice_get (filter held (all_in m)) j ≡ Some (request l.asked.items (get_or l.held.items j 0))
   row-is j h =
-      ap (λ xs. slice_get xs j) (sym listed) ∙ slice_get-map (request l.asked.items) (take l.count l.held.items) j
-      ∙ ap (option_map (request l.asked.items))
-      (slice_get-get_or (take l.count l.held.items) j 0 (let a = length-take-le l.count l.held.items rows in omega (arith, a, h))
-      ∙ ap Some (get_or-take l.count l.held.items j 0 h))
+      ap (λ xs. slice_get xs j) (sym listed) ∙ slice_get-map (request l.asked.items) l.held.items j
+      ∙ ap (option_map (request l.asked.items)) (slice_get-get_or l.held.items j 0 h)
 
   all-ordered : IsOrdered (all_in m)
   unfolding all_in
   all-ordered = ordered (start_of m).settings (program (start_of m)) (history_of m).world
 
-  module _ (k j : ℕ) (h : j < l.count) where
+  module _ (k j : ℕ) (h : j < length l.held.items) where
     abbrev own_request : Event
     own_request = request l.asked.items (get_or l.held.items j 0)
 
@@ -115,7 +105,7 @@ module _ (m : Machine) (l : Ledger) (kept : IsKept (start_of m) (history_of m) m
     reads xs i x within e = get_or_read xs i x within e 0
 
     core-at : (core : ℕ) → core ≡ get_or l.held.items j core → core ≡ get_or l.held.items j 0
-    core-at core e = let r = rows in reads l.held.items j core (omega (arith, h, r)) e
+    core-at core e = reads l.held.items j core h e
 
     pub core-row : (core : ℕ) → core ≡ get_or l.held.items j core → core < length l.asked.items
     core-row core e =

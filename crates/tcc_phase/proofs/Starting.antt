@@ -1,6 +1,6 @@
 -- Before the first event all cores are in phase 0, and nobody has asked.
-use Rattle.std.proofs.Common.{◌≡◌, ℕ, zero, suc, ◌<◌, ◌&&◌, false, List, [], map, Some, refl, ap, sym, ◌∙◌, subst, arith}
-use Rattle.std.specs.Prelude.{get_or, is_some, replicate, take}
+use Rattle.std.proofs.Common.{◌≡◌, ℕ, zero, suc, List, [], map, None, Some, refl, ap, sym, ◌∙◌, subst, arith}
+use Rattle.std.specs.Prelude.{get_or, replicate}
 use Rattle.image_load.specs.Contents.{Contents, started}
 use Rattle.image_load.specs.Start.{Start}
 use Rattle.rv_code.specs.Machine.{program, start_regs}
@@ -9,18 +9,17 @@ use Rattle.tcc_msg.specs.Plain.{event_of}
 use Rattle.tcc_msg.specs.declared.event.Event.{Event as CodeEvent}
 use Rattle.tcc_program.specs.Registers.{register, written, zeroed}
 use Rattle.tcc_rules.specs.State.{core_start, start}
-use Rattle.tcc_rules.specs.Step.{step}
 use Rattle.phase_rules.specs.Laws.{at_start}
 use Rattle.phase_rules.specs.Phased.{phased_from}
 use Rattle.phase_rules.specs.Phases.{phase_of, phases_along, phases_in, phases_of}
 use Rattle.net_core.specs.Machine.{Machine, history_of, start_of}
 use Rattle.net_core.specs.Reached.{first_history}
 use Rattle.tcc_phase.specs.Kept.{HasRows, IsKept}
-use Rattle.tcc_phase.specs.Requests.{IsAsked, is_waiting, request}
+use Rattle.tcc_phase.specs.Requests.{IsAsked, Limits, is_below}
 use Rattle.tcc_phase.specs.declared.ledger.Ledger.{Ledger}
 use Rattle.tcc_phase.proofs.Requests.Asked.{asked-none}
 use Rattle.tcc_phase.proofs.Requests.Behind.{even-none}
-use Rattle.tcc_phase.proofs.Requests.Those.{those-none}
+use Rattle.tcc_phase.proofs.Requests.Waiting.{waiting-none}
 
 zeros : (n c : ℕ) → ◌≡◌ {A = ℕ} (get_or (replicate n 0) c 0) 0
 zeros zero zero = refl
@@ -46,11 +45,10 @@ pub record IsFirst (n : ℕ) (l : Ledger) : Type 0 where
   pub own : l.own.items ≡ replicate n 0
   pub asked : l.asked.items ≡ replicate n 0
   pub rows : HasRows n l
-  pub none : l.count ≡ 0
-  pub even : l.uneven ≡ false
+  pub none : l.held.items ≡ []
+  pub even : l.least ≡ None
 
 kept-at : (s : Start) (events : ℕ) (l : Ledger) → IsFirst s.settings.cores l → IsKept s (at_start s) events l
-unfolding is_waiting
 kept-at s events l f = record {
   rows = f.rows;
   each = f.each ∙ sym (no-phases s);
@@ -58,12 +56,8 @@ kept-at s events l f = record {
   asked = λ c h. subst (λ link. IsAsked link (get_or l.asked.items c 0)) (sym (nothing-sent s c))
       (subst (IsAsked []) (sym (asked-zero c)) asked-none);
   few = λ c. let z = asked-zero c in omega (arith, z);
-  even = even;
-  held = ap (λ k. take k l.held.items) f.none
-      ∙ sym (those-none _ s.settings.cores (λ c h. ap (λ b. b && is_some (step s.settings (program s) (at_start s).world (request
-      l.asked.items c)))
-      (even-none s.settings.cores (at_start s).world l.own.items c (λ q. even f.even) h)));
-  count = let z = f.none in omega (arith, z);
+  limits = λ c h. even c h ∙ ap (λ o. is_below o (get_or l.own.items c 0)) (sym f.even);
+  held = f.none ∙ waiting-none s.settings (program s) (at_start s).world l.own.items l.asked.items even;
 }
   where
     own-zero : (c : ℕ) → get_or l.own.items c 0 ≡ 0
@@ -72,8 +66,8 @@ kept-at s events l f = record {
     asked-zero : (c : ℕ) → get_or l.asked.items c 0 ≡ 0
     asked-zero c = ap (λ xs. get_or xs c 0) f.asked ∙ zeros s.settings.cores c
 
-    even : l.uneven ≡ false → (c d : ℕ) → c < s.settings.cores → d < s.settings.cores → get_or l.own.items c 0 ≡ get_or l.own.items d 0
-    even q c d h k = own-zero c ∙ sym (own-zero d)
+    even : Limits s.settings (at_start s).world l.own.items None
+    even c h = even-none s.settings.cores (at_start s).world l.own.items c (λ j k. own-zero j ∙ sym (own-zero c))
 
 pub kept-first : (c : Contents) (m : Machine) (l : Ledger) → m.cores.code ≡ c → history_of m ≡ first_history (started c)
     → IsFirst c.settings.cores l → IsKept (start_of m) (history_of m) m.events l

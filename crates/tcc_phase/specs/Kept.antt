@@ -1,19 +1,19 @@
 -- What is kept beside a machine says what the rules of phases say of its run.
-use Rattle.std.specs.Prelude.{ℕ, ◌≡◌, ◌<◌, ◌≤◌, get_or, take, length}
+use Rattle.std.specs.Prelude.{ℕ, ◌≡◌, ◌<◌, ◌≤◌, get_or, length, vec_capacity}
 use Rattle.image_load.specs.Start.{Start}
 use Rattle.rv_code.specs.Machine.{program}
 use Rattle.tcc_maps.specs.Nodes.{Core, Vendor}
 use Rattle.tcc_maps.specs.Words.{those}
 use Rattle.tcc_rules.specs.Step.{History}
 use Rattle.phase_rules.specs.Phases.{phase_of, phases_of}
-use Rattle.tcc_phase.specs.Requests.{IsAsked, IsEven, is_waiting}
+use Rattle.tcc_phase.specs.Requests.{IsAsked, Limits, is_waiting}
 use Rattle.tcc_phase.specs.declared.ledger.Ledger.{Ledger}
 
--- a row for each core
+-- a row for each core, and room for all of them among those that wait
 pub record HasRows (n : ℕ) (l : Ledger) : Type 0 where
   pub own : length l.own.items ≡ n
   pub asked : length l.asked.items ≡ n
-  pub held : length l.held.items ≡ n
+  pub held : n ≤ vec_capacity l.held
 
 pub record IsKept (s : Start) (h : History) (events : ℕ) (l : Ledger) : Type 0 where
   pub rows : HasRows s.settings.cores l
@@ -21,6 +21,5 @@ pub record IsKept (s : Start) (h : History) (events : ℕ) (l : Ledger) : Type 0
   pub own : (c : ℕ) → c < s.settings.cores → get_or l.own.items c 0 ≡ phase_of s h c
   pub asked : (c : ℕ) → c < s.settings.cores → IsAsked (h.world.net (Core c) Vendor) (get_or l.asked.items c 0)
   pub few : (c : ℕ) → get_or l.asked.items c 0 ≤ events
-  pub even : IsEven l.uneven l.own.items s.settings.cores
-  pub held : take l.count l.held.items ≡ those (is_waiting s.settings (program s) h.world l.own.items l.asked.items) s.settings.cores
-  pub count : l.count ≤ s.settings.cores
+  pub limits : Limits s.settings h.world l.own.items l.least
+  pub held : l.held.items ≡ those (is_waiting s.settings (program s) h.world l.own.items l.asked.items) s.settings.cores

@@ -1,11 +1,14 @@
--- What an event that was taken changes of the phases that are kept beside a machine.
+-- What an event that was taken changes of what is kept beside a machine, and what it leaves.
 use Rattle.std.specs.Prelude.{ℕ, ◌≡◌, ◌<◌, ◌≤◌, List, length, get_or, max, Some, IfSome, slice_get, slice_set}
 use Rattle.tcc_base.specs.declared.access.Commit.{Commit}
 use Rattle.phase_rules.specs.Laws.{place_of, put_in}
+use Rattle.tcc_maps.specs.Nodes.{Event}
 use Rattle.phase_rules.specs.Phases.{x27}
-use Rattle.net_core.specs.Machine.{Machine, world_of}
+use Rattle.net_core.specs.Machine.{Machine, program_of, settings_of, world_of}
 use Rattle.net_core.specs.declared.taking.Step.{Step}
 use Rattle.net_core.specs.declared.taking.Step.TheVariants.{Moved, Committed}
+use Rattle.tcc_phase.specs.Requests.{Counts, HeldBefore, Limits}
+use Rattle.tcc_phase.specs.declared.ledger.Ledger.{Ledger}
 
 -- a commit has the phase that its core was in, in its place by its TID, and its core's phase is then that of its checkpoint where this
 -- is greater
@@ -21,3 +24,11 @@ abbrev pub IsListed : Machine → Step → (each : List ℕ) → (n : ℕ) → T
 IsListed m Moved each n = Unit {0}
 IsListed m (Committed t) each n =
     (x : Commit) × (slice_get m.commits (place_of t.0 m.commits) ≡ Some x) × (x.core.0 < n) × (place_of t.0 m.commits ≤ length each)
+
+-- Where no commit was told, the same cores are late as before, and those that are listed waited before the event.
+abbrev pub StillHolds : Machine → Event → Step → Ledger → Type 0
+StillHolds m e (Committed t) l = Unit {0}
+StillHolds m e Moved l =
+    Limits (settings_of m) (world_of m) l.own.items l.least
+    × ((asked : List ℕ) → Counts e l.asked.items asked
+    → HeldBefore (settings_of m) (program_of m) (world_of m) l.own.items asked e l.held.items)

@@ -1,12 +1,13 @@
 -- Requests for TIDs: which cores are late by the phases that are kept, and which requests are in flight.
-use Rattle.std.specs.Prelude.{ℕ, zero, suc, ◌≡◌, ◌<◌, ◌+◌, Bool, false, not, ◌&&◌, ◌||◌, ◌==◌, List, [], ◌∷◌, length, get_or, Option}
+use Rattle.std.specs.Prelude.{ℕ, zero, suc, ◌≡◌, ◌<◌, ◌+◌, Bool, true, false, not, ◌&&◌, ◌||◌, List, [], ◌∷◌, length, get_or, Option}
 use Rattle.std.specs.Prelude.{Some, None, is_some, nat_lt, if◌then◌else◌}
 use Rattle.tcc_base.specs.Settings.{Settings}
 use Rattle.tcc_maps.specs.Nodes.{Core, Vendor, Event, Deliver}
-use Rattle.tcc_maps.specs.Words.{any_below}
+use Rattle.tcc_maps.specs.Words.{any_below, those}
 use Rattle.tcc_program.specs.Program.{Program}
 use Rattle.tcc_rules.specs.State.{Link, World}
 use Rattle.tcc_rules.specs.Step.{step}
+use Rattle.phase_rules.specs.Laws.{asks, executes}
 use Rattle.phase_rules.specs.Phased.{has_halted}
 
 -- the delivery of a core's next request
@@ -34,19 +35,21 @@ is_waiting s p w own asked c = is_behind s.cores w own (get_or own c 0) && is_so
 unfoldable pub is_above : Settings → Program → World → (least : ℕ) → (own asked : List ℕ) → (core : ℕ) → Bool
 is_above s p w least own asked c = nat_lt least (get_or own c 0) && is_some (step s p w (request asked c))
 
--- all these cores are in one phase, unless it is said that they may not be
-abbrev pub IsEven : (uneven : Bool) → (own : List ℕ) → (n : ℕ) → Type 0
-IsEven uneven own n = uneven ≡ false → (c d : ℕ) → c < n → d < n → get_or own c 0 ≡ get_or own d 0
+-- this phase tells which of the cores are late: those in a later one
+abbrev pub Limits : Settings → World → (own : List ℕ) → Option ℕ → Type 0
+Limits s w own least = (c : ℕ) → c < s.cores → is_behind s.cores w own (get_or own c 0) ≡ is_below least (get_or own c 0)
+
+-- Before an event, which noted no commit, these cores waited. They still do, and so does nobody else but perhaps the core that executed.
+pub record HeldBefore (s : Settings) (p : Program) (w : World) (own asked : List ℕ) (e : Event) (held : List ℕ) : Type 0 where
+  pub waited : ℕ → Bool
+  pub listed : held ≡ those waited s.cores
+  pub still : (c : ℕ) → c < s.cores → waited c ≡ true → is_waiting s p w own asked c ≡ true
+  pub others : (c : ℕ) → c < s.cores → executes c e ≡ false → waited c ≡ is_waiting s p w own asked c
 
 -- the core whose message to the vendor the event delivers
 abbrev pub asker : Event → Option ℕ
 asker (Deliver (Core c) Vendor k) = Some c
 asker _ = None
-
--- the event delivers a message from core c to the vendor
-abbrev pub asks : (core : ℕ) → Event → Bool
-asks c (Deliver (Core d) Vendor k) = c == d
-asks c _ = false
 
 -- one more delivery from its core, where the event is one
 abbrev pub Counts : Event → (old new : List ℕ) → Type 0

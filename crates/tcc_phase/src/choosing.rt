@@ -36,7 +36,7 @@ impl PhaseSystem {
         ensures { result ≡ length (useful_in self.now.refined.machine) }
     {
         useful_events_are_listed();
-        self.refined.system().useful_count() - self.ledger.count as u64
+        self.refined.system().useful_count() - self.ledger.held.len() as u64
     }
 
     /// Whether the request of number `row` among those that are held back stands at the useful event k + row or before it.
@@ -65,7 +65,7 @@ impl PhaseSystem {
     {
         useful_events_are_listed();
         let mut low = 0;
-        let mut high = self.ledger.count;
+        let mut high = self.ledger.held.len();
         while low < high {
             let middle = low + (high - low) / 2;
             if self.is_passed(k, middle) {
@@ -78,14 +78,14 @@ impl PhaseSystem {
     }
 
     /// The k-th useful event that isn't held back, from 0, in the order of `System::useful_at`. `None` exactly where there are no more
-    /// than k. The time is that of `System::useful_at`, times the logarithm of the number of requests that are held back.
+    /// than k. The time is that of `System::useful_at`; where requests are held back, times one more than the logarithm of their number.
     pub fn useful_at(&self, k: u64) -> Option<Event>
         requires { self.now.refined.machine.unsent ≡ [] }
         ensures { option_map event_of result ≡ slice_get (useful_in self.now.refined.machine) k }
     {
         useful_events_are_listed();
         let all = self.refined.system().useful_count();
-        if k >= all - self.ledger.count as u64 {
+        if k >= all - self.ledger.held.len() as u64 {
             return None;
         }
         self.refined.system().useful_at(k + self.passed(k) as u64)

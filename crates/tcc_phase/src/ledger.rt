@@ -1,6 +1,6 @@
 // What is kept beside the machine: the commits' phases, each core's phase and requests, and who is held back.
-ghost use Rattle.std.specs.Prelude.{◌≡◌, ◌<◌, ◌≤◌, ◌+◌, ◌^◌, [], IfOk, OnOk, get_or, length, replicate, take, false, vec_capacity, ℕ};
-ghost use Rattle.tcc_maps.specs.Nodes.{Core, Deliver, Vendor};
+ghost use Rattle.std.specs.Prelude.{◌≡◌, ◌<◌, ◌≤◌, ◌+◌, ◌^◌, [], IfOk, None, OnOk, get_or, length, replicate, vec_capacity, ℕ};
+ghost use Rattle.tcc_maps.specs.Nodes.{Core, Deliver, Exec, Vendor};
 ghost use Rattle.tcc_maps.specs.Words.{those};
 ghost use Rattle.tcc_msg.specs.Plain.{event_of};
 ghost use Rattle.tcc_serial.specs.Owners.{IsRising};
@@ -8,8 +8,8 @@ ghost use Rattle.phase_rules.specs.Laws.{place_of};
 ghost use Rattle.phase_rules.specs.Phases.{x27};
 ghost use Rattle.net_core.specs.Machine.{program_of, settings_of, world_of};
 ghost use Rattle.tcc_phase.specs.Kept.{HasRows};
-ghost use Rattle.tcc_phase.specs.Ledger.{IsListed, Notes};
-ghost use Rattle.tcc_phase.specs.Requests.{Counts, IsEven, either_below, is_above, is_behind, is_below, is_waiting};
+ghost use Rattle.tcc_phase.specs.Ledger.{IsListed, Notes, StillHolds};
+ghost use Rattle.tcc_phase.specs.Requests.{Counts, HeldBefore, Limits, either_below, is_above, is_behind, is_below, is_waiting};
 
 use live_core::has_halted;
 use net_core::{Step, System};
@@ -27,11 +27,10 @@ pub(crate) struct Ledger {
     pub own: Vec<u32>,
     /// How many of its requests for a TID were delivered, for each core. It is the number of its next one.
     pub asked: Vec<u64>,
-    /// The first `count` of these are the cores whose requests are in flight and held back, rising.
+    /// The cores whose requests are in flight and held back, rising. There is room for all cores.
     pub held: Vec<u8>,
-    pub count: usize,
-    /// Whether the cores may be in different phases. Where not, none is late.
-    pub uneven: bool,
+    /// The phase above which a core is late: another one is in it, and hasn't halted. `None` where none is late.
+    pub least: Option<u32>,
 }
 
 /// What a program has set as its phase: x27.
@@ -89,24 +88,21 @@ fn is_above(system: &System, least: u32, own: &[u32], asked: &[u64], core: u8) -
     least < own[row] && system.enabled(request(core, asked[row]))
 }
 
-/// Lists the cores of a phase above the least one whose requests are in flight, and tells how many these are.
-fn hold(system: &System, least: u32, own: &[u32], asked: &[u64], held: &mut [u8]) -> usize
+/// Lists the cores of a phase above the least one whose requests are in flight.
+fn hold(system: &System, least: u32, own: &[u32], asked: &[u64], held: &mut Vec<u8>)
     requires own { length own.now ≡ (settings_of system.now).cores }
     requires asked { length asked.now ≡ (settings_of system.now).cores }
-    requires held { length held.old ≡ (settings_of system.now).cores }
-    ensures listed { take result held.new ≡ those (is_above (settings_of system.now) (program_of system.now) (world_of system.now) least
+    requires none { held.old.items ≡ [] }
+    requires room { (settings_of system.now).cores ≤ vec_capacity held.old }
+    ensures listed { held.new.items ≡ those (is_above (settings_of system.now) (program_of system.now) (world_of system.now) least
         own.now asked.now) (settings_of system.now).cores }
-    ensures length { length held.new ≡ length held.old }
-    ensures few { result ≤ (settings_of system.now).cores }
+    ensures room { (settings_of system.now).cores ≤ vec_capacity held.new }
 {
-    let mut count = 0;
     for core in 0..system.config().cores() {
         if is_above(system, least, own, asked, core) {
-            held[count] = core;
-            count += 1;
+            held.push_reserved(core);
         }
     }
-    count
 }
 
 /// How many commits have a smaller TID. It is looked for from the end.
@@ -121,18 +117,6 @@ pub(crate) fn place_of(commits: &[Commit], tid: Tid) -> usize
     at
 }
 
-/// Whether some two of the cores are in different phases.
-fn is_uneven(own: &[u32]) -> bool
-    ensures { IsEven result own.now (length own.now) }
-{
-    for phase in own {
-        if *phase != own[0] {
-            return true;
-        }
-    }
-    false
-}
-
 impl Ledger {
     /// That of a machine before its first event, in which all cores are in phase 0.
     pub fn start(alloc: Global, cores: u8) -> Result<Ledger, AllocError>
@@ -140,43 +124,25 @@ impl Ledger {
         ensures own { IfOk result (λ l. l.own.items ≡ replicate cores 0) }
         ensures asked { IfOk result (λ l. l.asked.items ≡ replicate cores 0) }
         ensures rows { IfOk result (λ l. HasRows cores l) }
-        ensures none { IfOk result (λ l. l.count ≡ 0) }
-        ensures even { IfOk result (λ l. l.uneven ≡ false) }
+        ensures none { IfOk result (λ l. l.held.items ≡ []) }
+        ensures even { IfOk result (λ l. l.least ≡ None) }
     {
         let cores = cores as usize;
         Ok(Ledger {
             each: Vec::new(alloc),
             own: vec![in alloc; 0; cores]?,
             asked: vec![in alloc; 0; cores]?,
-            held: vec![in alloc; 0; cores]?,
-            count: 0,
-            uneven: false,
+            held: Vec::with_capacity(alloc, cores)?,
+            least: None,
         })
     }
 
-    /// The phase above which a core is late, if one may be.
-    fn limit(&self, system: &System) -> Option<u32>
-        requires rows { HasRows (settings_of system.now).cores self.now }
-        requires even { IsEven self.now.uneven self.now.own.items (settings_of system.now).cores }
-        ensures { (c : ℕ) → c < (settings_of system.now).cores →
-            is_behind (settings_of system.now).cores (world_of system.now) self.now.own.items (get_or self.now.own.items c 0)
-            ≡ is_below result (get_or self.now.own.items c 0) }
+    /// Whether a core is late: in a later phase than another core that hasn't halted.
+    pub fn is_late(&self, core: CoreId) -> bool
+        requires { core.0 < length self.now.own.items }
+        ensures { result ≡ is_below self.now.least (get_or self.now.own.items core.0 0) }
     {
-        if !self.uneven {
-            return None;
-        }
-        earliest(system, &self.own)
-    }
-
-    /// Whether a core that hasn't halted is in an earlier phase than this one.
-    pub fn is_late(&self, system: &System, core: CoreId) -> bool
-        requires core { core.0 < (settings_of system.now).cores }
-        requires rows { HasRows (settings_of system.now).cores self.now }
-        requires even { IsEven self.now.uneven self.now.own.items (settings_of system.now).cores }
-        ensures { result
-            ≡ is_behind (settings_of system.now).cores (world_of system.now) self.now.own.items (get_or self.now.own.items core.0 0) }
-    {
-        match self.limit(system) {
+        match self.least {
             Some(least) => least < self.own[core.0 as usize],
             None => false,
         }
@@ -204,21 +170,17 @@ impl Ledger {
         }
     }
 
-    /// Notes a commit, where one was told: its core's phase in its place, and the phase that the core is in behind it.
-    fn note_commit(&mut self, system: &System, done: Step)
+    /// Notes a commit: its core's phase in its place, and the phase that the core is in behind it.
+    fn note_commit(&mut self, system: &System, tid: Tid)
         requires own { length self.old.own.items ≡ (settings_of system.now).cores }
         requires rising { IsRising 0 system.now.commits }
-        requires listed { IsListed system.now done self.old.each.items (settings_of system.now).cores }
+        requires listed { IsListed system.now (Step.Committed tid) self.old.each.items (settings_of system.now).cores }
         requires room { length self.old.each.items < vec_capacity self.old.each }
-        ensures notes { Notes system.now done self.old.each.items self.old.own.items self.new.each.items self.new.own.items }
-        ensures even { IsEven self.old.uneven self.old.own.items (settings_of system.now).cores →
-            IsEven self.new.uneven self.new.own.items (settings_of system.now).cores }
+        ensures notes { Notes system.now (Step.Committed tid) self.old.each.items self.old.own.items self.new.each.items
+            self.new.own.items }
         ensures own { length self.new.own.items ≡ length self.old.own.items }
-        ensures others { self.new ≡ record self.old { each = self.new.each; own = self.new.own; uneven = self.new.uneven } }
+        ensures others { self.new ≡ record self.old { each = self.new.each; own = self.new.own } }
     {
-        let Step::Committed(tid) = done else {
-            return;
-        };
         let at = place_of(system.commits(), tid);
         let core = system.commits()[at].core;
         let row = core.0 as usize;
@@ -228,7 +190,51 @@ impl Ledger {
             Err(_) => unreachable!(),
         }
         self.own[row] = phase.max(phase_in(system.committed(core)));
-        self.uneven = is_uneven(&self.own);
+    }
+
+    /// Sees anew which cores are late and which requests are held back. It takes time in the number of cores, and for each late one in
+    /// the logarithm of what is in flight.
+    fn hold(&mut self, system: &System)
+        requires { HasRows (settings_of system.now).cores self.old }
+        ensures limits { Limits (settings_of system.now) (world_of system.now) self.new.own.items self.new.least }
+        ensures held { self.new.held.items ≡ those (is_waiting (settings_of system.now) (program_of system.now) (world_of system.now)
+            self.new.own.items self.new.asked.items) (settings_of system.now).cores }
+        ensures room { (settings_of system.now).cores ≤ vec_capacity self.new.held }
+        ensures others { self.new ≡ record self.old { held = self.new.held; least = self.new.least } }
+    {
+        self.held.clear();
+        self.least = earliest(system, &self.own);
+        if let Some(least) = self.least {
+            hold(system, least, &self.own, &self.asked, &mut self.held);
+        }
+    }
+
+    /// Sees whether a core, which may be any, waits now that it has executed an instruction. It takes constant time where the core isn't
+    /// late, else the logarithm of what is in flight; where its request was just sent, also time in the number of those that wait.
+    fn note_request(&mut self, system: &System, core: CoreId)
+        requires rows { HasRows (settings_of system.now).cores self.old }
+        requires limits { Limits (settings_of system.now) (world_of system.now) self.old.own.items self.old.least }
+        requires before { HeldBefore (settings_of system.now) (program_of system.now) (world_of system.now) self.old.own.items
+            self.old.asked.items (Exec core.0) self.old.held.items }
+        ensures held { self.new.held.items ≡ those (is_waiting (settings_of system.now) (program_of system.now) (world_of system.now)
+            self.new.own.items self.new.asked.items) (settings_of system.now).cores }
+        ensures room { (settings_of system.now).cores ≤ vec_capacity self.new.held }
+        ensures others { self.new ≡ record self.old { held = self.new.held } }
+    {
+        let Some(least) = self.least else {
+            return;
+        };
+        if core.0 as usize >= self.own.len()
+            || !is_above(system, least, &self.own, &self.asked, core.0)
+        {
+            return;
+        }
+        if let Err(at) = self.held.binary_search(&core.0) {
+            match self.held.insert(at, core.0) {
+                Ok(()) => {}
+                Err(_) => unreachable!(),
+            }
+        }
     }
 
     /// Makes room for one more commit's phase, so that `note` takes no memory. Nothing else is changed, also after want of memory.
@@ -240,29 +246,34 @@ impl Ledger {
         self.each.reserve(1).map_err(|_| NoMemory)
     }
 
-    /// Notes what an event did, once the machine has taken it, and sees who is held back then. Where all cores are in one phase and
-    /// nothing is committed it takes constant time, else time in the number of cores, and for each late one in the logarithm of what is
-    /// in flight.
+    /// Notes what an event did, once the machine has taken it. A commit takes time in the number of cores, and for each late one in the
+    /// logarithm of what is in flight. An instruction of a late core takes that logarithm, and where it sent the core's request also time
+    /// in the number of those that wait. All else takes constant time.
     pub fn note(&mut self, system: &System, e: Event, done: Step)
         requires rows { HasRows (settings_of system.now).cores self.old }
-        requires even { IsEven self.old.uneven self.old.own.items (settings_of system.now).cores }
         requires few { (c : ℕ) → get_or self.old.asked.items c 0 < 2 ^ 63 }
         requires rising { IsRising 0 system.now.commits }
         requires listed { IsListed system.now done self.old.each.items (settings_of system.now).cores }
         requires room { length self.old.each.items < vec_capacity self.old.each }
+        requires holds { StillHolds system.now (event_of e) done self.old }
         ensures rows { HasRows (settings_of system.now).cores self.new }
-        ensures even { IsEven self.new.uneven self.new.own.items (settings_of system.now).cores }
         ensures asked { Counts (event_of e) self.old.asked.items self.new.asked.items }
         ensures notes { Notes system.now done self.old.each.items self.old.own.items self.new.each.items self.new.own.items }
-        ensures held { take self.new.count self.new.held.items ≡ those (is_waiting (settings_of system.now) (program_of system.now)
-            (world_of system.now) self.new.own.items self.new.asked.items) (settings_of system.now).cores }
-        ensures count { self.new.count ≤ (settings_of system.now).cores }
+        ensures limits { Limits (settings_of system.now) (world_of system.now) self.new.own.items self.new.least }
+        ensures held { self.new.held.items ≡ those (is_waiting (settings_of system.now) (program_of system.now) (world_of system.now)
+            self.new.own.items self.new.asked.items) (settings_of system.now).cores }
     {
         self.note_delivery(e);
-        self.note_commit(system, done);
-        self.count = match self.limit(system) {
-            Some(least) => hold(system, least, &self.own, &self.asked, &mut self.held),
-            None => 0,
-        };
+        match done {
+            Step::Committed(tid) => {
+                self.note_commit(system, tid);
+                self.hold(system);
+            }
+            Step::Moved => {
+                if let Event::Exec(core) = e {
+                    self.note_request(system, core);
+                }
+            }
+        }
     }
 }

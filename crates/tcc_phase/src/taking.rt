@@ -50,13 +50,13 @@ impl PhaseSystem {
     {
         let system = self.refined.system();
         match asker(e) {
-            Some(core) => core.0 < system.config().cores() && self.ledger.is_late(system, core),
+            Some(core) => core.0 < system.config().cores() && self.ledger.is_late(core),
             None => false,
         }
     }
 
     /// Whether an event, which may name anything, is enabled and not held back. It takes constant time, and the logarithm of what is in
-    /// flight; for a request the number of cores, where they are in different phases.
+    /// flight.
     pub fn enabled(&self, e: Event) -> bool
         ensures { result ≡ is_some (next_of self.now.refined.machine (event_of e)) }
     {
@@ -66,8 +66,9 @@ impl PhaseSystem {
     /// Takes an event, which may name anything: `Refused` comes exactly where it isn't enabled or is held back. `Memory` comes where it
     /// could be taken, and memory is wanting. After either nothing has happened.
     ///
-    /// It costs what `System::step` does; while cores are in different phases also the number of cores, and for each late one the
-    /// logarithm of what is in flight.
+    /// It costs what `System::step` does, and nothing that grows besides but at two kinds of event. A commit takes time in the numbers of
+    /// cores and of commits with greater TIDs, and for each late core in the logarithm of what is in flight. An instruction of a late core
+    /// takes that logarithm, and where it sends the core's request also time in the number of requests that are held back.
     pub fn step(&mut self, e: Event) -> Result<Step, StepError>
         requires { self.old.refined.machine.events < 4194304 }
         ensures next { OnOk result (next_of self.old.refined.machine (event_of e) ≡ Some (history_of self.new.refined.machine)) }

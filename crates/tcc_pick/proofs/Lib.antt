@@ -1,3 +1,5 @@
-pub mod Chosen
-pub mod Picked
-pub mod Took
+-- The proofs of this crate.
+pub mod Lemmas
+mod Chosen
+mod Picked
+mod Took

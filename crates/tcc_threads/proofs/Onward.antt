@@ -9,8 +9,7 @@ use Rattle.tcc_maps.specs.Nodes.{Event}
 use Rattle.tcc_msg.specs.Plain.{event_of}
 use Rattle.tcc_msg.specs.declared.event.Event.{Event as CodeEvent}
 use Rattle.tcc_pick.specs.Picking.{TookAll}
-use Rattle.tcc_pick.proofs.Chosen.{chosen-at, chosen-none}
-use Rattle.tcc_pick.proofs.Took.{Same, Takes, took-more, took-none, took-same}
+use Rattle.tcc_pick.proofs.Lemmas.{Same, Takes, chosen-at, chosen-none, took-more, took-none, took-same}
 use Rattle.tcc_refine.specs.Refined.{Refined}
 use Rattle.tcc_rules.specs.Picked.{after_step, chosen, pick, picked}
 use Rattle.tcc_rules.specs.State.{World}

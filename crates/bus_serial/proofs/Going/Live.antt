@@ -34,7 +34,7 @@ use Rattle.bus_serial.proofs.InOrder.Ordered.{PacketFits, PhaseFits, BusFits, Or
 abbrev pub any_line : ℕ → Type 0
 any_line l = Unit {0}
 
-need-any : (base : ℕ) (n : Need) → NeedIn any_line base n
+pub need-any : (base : ℕ) (n : Need) → NeedIn any_line base n
 need-any base (Loads addr size) = tt
 need-any base (Stores addr size value) = tt
 need-any base (Changes addr changed) = tt
@@ -65,11 +65,11 @@ no-room sh p s a e = go s.phase
     go (Solo t) = at s.awaited
     go _ = refl
 
--- an instruction, or room in a set
-instruction-or : (sh : Shape) (n : ℕ) (p : Program) (ram : ℕ → ℕ) (c : ℕ) (s : CoreState) → Fine sh any_line n s → Executes p s
-    → executes s.phase ≡ true → (is_some (instruction sh p ram c s) ≡ true) ⊎ WantsSome sh s (room sh p s)
+-- an instruction, where the core executes by itself
+pub instruction-goes : (sh : Shape) (n : ℕ) (p : Program) (ram : ℕ → ℕ) (c : ℕ) (s : CoreState) → Fine sh any_line n s → Executes p s
+    → executes s.phase ≡ true → is_some (core_exec sh p c s) ≡ true → is_some (instruction sh p ram c s) ≡ true
 unfolding instruction filled
-instruction-or sh n p ram c s k x q = go (core_exec sh p c s) refl (exec-or sh p c s q k.awaited)
+instruction-goes sh n p ram c s k x q i = go (core_exec sh p c s) refl i
     (exec-executed sh any_line p c s (need-any sh.base (p.need s.local)) k.awaited x)
   where
     w : ℕ
@@ -105,11 +105,20 @@ instruction-or sh n p ram c s k x q = go (core_exec sh p c s) refl (exec-or sh p
     by o e z (Overflowed m i) = one o o.core.awaited refl (ap (λ (t : CoreState). t.awaited) i ∙ k.awaited)
     by o e z (Asked d m i) = asks d o (record { is = e; executed = z; asks = i })
 
-    go : (y : Option Out) → core_exec sh p c s ≡ y → (is_some y ≡ true) ⊎ WantsSome sh s (room sh p s) → IfSome y (Executed any_line w s)
-        → (is_some (if_executed sh p ram c y) ≡ true) ⊎ WantsSome sh s (room sh p s)
-    go y e (inr m) z = inr m
-    go None e (inl i) z = absurd (cc)
-    go (Some o) e (inl i) z = inl (by o e z z.how)
+    go : (y : Option Out) → core_exec sh p c s ≡ y → is_some y ≡ true → IfSome y (Executed any_line w s)
+        → is_some (if_executed sh p ram c y) ≡ true
+    go None e i z = absurd (cc)
+    go (Some o) e i z = by o e z z.how
+
+-- an instruction, or room in a set
+instruction-or : (sh : Shape) (n : ℕ) (p : Program) (ram : ℕ → ℕ) (c : ℕ) (s : CoreState) → Fine sh any_line n s → Executes p s
+    → executes s.phase ≡ true → (is_some (instruction sh p ram c s) ≡ true) ⊎ WantsSome sh s (room sh p s)
+instruction-or sh n p ram c s k x q = by (exec-or sh p c s q k.awaited)
+  where
+    by : (is_some (core_exec sh p c s) ≡ true) ⊎ WantsSome sh s (room sh p s)
+        → (is_some (instruction sh p ram c s) ≡ true) ⊎ WantsSome sh s (room sh p s)
+    by (inl i) = inl (instruction-goes sh n p ram c s k x q i)
+    by (inr m) = inr m
 
 -- with the bus free, or as the core that has it, an instruction is one event
 goes-on : (sh : Shape) (n : ℕ) (p : Program) (w : BusWorld) (c : ℕ) → Fine sh any_line n (w.cores c) → Executes p (w.cores c)

@@ -90,7 +90,7 @@ bus_tids_count s es a = go (bus_run s.settings (program s) (bus_at_start s).worl
 
 -- progress
 
-positive : (n : ℕ) → IsTrue (is_power_of_two n) → 1 ≤ n
+pub positive : (n : ℕ) → IsTrue (is_power_of_two n) → 1 ≤ n
 positive n h = let e : count_ones n ≡ 1 = grind (arith, nat_tests) in omega (arith, ones_le_self n)
 
 has-caches : (s : Start) → IsAllowed s.settings → HasCaches s.settings

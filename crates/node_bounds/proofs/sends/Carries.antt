@@ -10,8 +10,7 @@ use Rattle.tcc_maps.specs.Words.{num}
 use Rattle.tcc_rules.specs.Links.{sent_all}
 use Rattle.tcc_rules.specs.Sends.{Sends}
 use Rattle.tcc_serial.specs.Count.{Kind, CopyOf, LinesAway, among, passes}
-use Rattle.tcc_serial.proofs.CoreHomes.{HomelyOut}
-use Rattle.tcc_serial.proofs.MemorySends.{SendsInMemory}
+use Rattle.tcc_serial.proofs.Lemmas.{HomelyOut, SendsInMemory}
 use Rattle.tcc_live.specs.Fits.{fits}
 use Rattle.tcc_live.proofs.Strays.{AllFit, on_link as strays_on, link-none as clean-none, link-fits, sending-clean}
 use Rattle.tcc_bounds.specs.Bounds.{most_sent}

@@ -15,14 +15,14 @@ use Rattle.tcc_rules.specs.Attempt.{Out}
 use Rattle.tcc_rules.specs.Commit.{commit, commit_sends, is_written, written_mask, solo_marks, solo_backs, solo_sends, solo_writes_at}
 use Rattle.tcc_rules.specs.CoreDeliver.{grant, grant_phase, grant_sends, from_dir, probe_reply, fill, data_request, invalidate}
 use Rattle.tcc_rules.specs.CoreEvict.{core_evict}
-use Rattle.tcc_rules.specs.CoreExec.{core_exec, exec_phase, unless_awaiting}
+use Rattle.tcc_rules.specs.CoreExec.{core_exec}
 use Rattle.tcc_rules.specs.Sends.{Sends, nothing, to, when, skip_all, probe_all, abort_written, marks_for}
 use Rattle.tcc_rules.specs.State.{CoreState, Awaited, Phase, Running, AwaitTid, DoomedTid, Ready, Overflowing, Solo}
 use Rattle.tcc_serial.specs.Count.{Protocol, among, passes}
 use Rattle.tcc_serial.specs.Tids.{has_tid}
-use Rattle.tcc_serial.proofs.CoreSteps.{evict-steady, fill-steady, data-steady, Hurt, Unhurt, Rolled, Doomed, Aborted, Gave_up, Invalidated}
-use Rattle.tcc_serial.proofs.CoreSteps.{invalidate-cases, Replied, Ignored, Probed, Left_alone, reply-cases}
-use Rattle.tcc_serial.proofs.Executes.{Acts, Steady, Executed, Goes_on, Overflows, Asks_tid, Alone, executed}
+use Rattle.tcc_serial.proofs.Lemmas.{evict-steady, fill-steady, data-steady, Hurt, Unhurt, Rolled, Doomed, Aborted, Gave_up, Invalidated}
+use Rattle.tcc_serial.proofs.Lemmas.{invalidate-cases, Replied, Ignored, Probed, Left_alone, reply-cases, Steady, Executed, Goes_on}
+use Rattle.tcc_serial.proofs.Lemmas.{Overflows, Asks_tid, Alone, did-executed, Did, Commits_now, each-exec, out}
 use Rattle.tcc_bounds.specs.Messages.{WasGranted, tid_named}
 use Rattle.node_bounds.proofs.sends.Each.{Each, each-none, each-one, each-append, each-when, each-flat}
 
@@ -139,22 +139,12 @@ by-outcome sh c s o h (Asks_tid r ph ow cm ve di) = λ d. rw (di d) (each-none T
 by-outcome sh c s o h (Alone t r q ph ow cm se) = λ d. rw se (solos sh s.cache s.spilled t (h t (rw q (same t))) d)
 
 pub exec-timely : (sh : Shape) (p : Program) (c : ℕ) (s : CoreState) → HasTids s → IfSome (core_exec sh p c s) (λ o. AllTimely o.sends)
-unfolding core_exec commit has_tid
-exec-timely sh p c s h = go s.phase refl
+unfolding commit has_tid
+exec-timely sh p c s h = each-exec sh p c s (λ o. AllTimely o.sends) go
   where
-    weaken : (x : Option Out) → IfSome x (λ o. Executed sh c s o) → IfSome x (λ o. AllTimely o.sends)
-    weaken None k = tt
-    weaken (Some o) k = by-outcome sh c s o h k
-
-    awaiting : (a : Option Awaited) → Acts s.phase → IfSome (unless_awaiting sh p c s a) (λ o. AllTimely o.sends)
-    awaiting (Some x) a = tt
-    awaiting None a = weaken _ (executed sh p c s a)
-
-    go : (q : Phase) → s.phase ≡ q → IfSome (exec_phase sh p c s q) (λ o. AllTimely o.sends)
-    go Running e = awaiting s.awaited (rw e tt)
-    go (Solo t) e = awaiting s.awaited (rw e tt)
-    go (Ready t) e = commits sh s.cache t (h t (rw e (same t)))
-    go _ e = tt
+    go : (x : Did sh p c s) → AllTimely (out x).sends
+    go (Commits_now t e) = commits sh s.cache t (h t (rw e (same t)))
+    go x = by-outcome sh c s (out x) h (did-executed x)
 
 pub evict-timely : (sh : Shape) (x y : ℕ) (s : CoreState) → IfSome (core_evict sh x y s) (λ o. AllTimely o.sends)
 evict-timely sh x y s = go (core_evict sh x y s) (evict-steady sh x y s)

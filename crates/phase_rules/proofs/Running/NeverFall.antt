@@ -1,6 +1,6 @@
 -- Along a run by phases the phases of the commits never fall, by rising TID.
-use Rattle.std.specs.Prelude.{ℕ, zero, suc, ◌+◌, ◌≡◌, ◌≢◌, ◌<◌, ◌≤◌, ◌==◌, ◌&&◌, ◌||◌, Bool, true}
-use Rattle.std.specs.Prelude.{false, not, List, [], ◌∷◌, ◌++◌, length, Contains, Option, Some, None, IfSome, nat_lt}
+use Rattle.std.specs.Prelude.{ℕ, zero, suc, ◌+◌, ◌≡◌, ◌≢◌, ◌<◌, ◌≤◌, ◌==◌, ◌||◌, Bool, true}
+use Rattle.std.specs.Prelude.{false, List, [], ◌∷◌, ◌++◌, length, Contains, Option, Some, None, IfSome, nat_lt}
 use Rattle.std.specs.Prelude.{if◌then◌else◌}
 use Rattle.std.proofs.Common.{arith, refl, ◌∙◌, ◌⊎◌, inl, inr}
 use Rattle.std.proofs.lemmas.Bool.Decides.{nat_tests}
@@ -68,13 +68,11 @@ goes-on _ n = refl
 
 not-before : (s : Start) (h : History) (c j : ℕ) → goes_before s h c j ≡ false → Going h j → phase_of s h c ≤ phase_of s h j
 not-before s h c j e n =
-    go (j == c) refl (nat_lt (phase_of s h j) (phase_of s h c)) refl (rw (goes-on (h.world.cores j).phase n) at e)
+    go (nat_lt (phase_of s h j) (phase_of s h c)) refl (rw (goes-on (h.world.cores j).phase n) at e)
   where
-    go : (x : Bool) → (j == c) ≡ x → (y : Bool) → nat_lt (phase_of s h j) (phase_of s h c) ≡ y → (not x && y) ≡ false
-        → phase_of s h c ≤ phase_of s h j
-    go true p y q r = let z : j ≡ c = grind (arith, nat_tests) in rw z (omega arith)
-    go false p true q r = absurd (cc)
-    go false p false q r = grind (arith, nat_tests)
+    go : (y : Bool) → nat_lt (phase_of s h j) (phase_of s h c) ≡ y → y ≡ false → phase_of s h c ≤ phase_of s h j
+    go true q r = absurd (cc)
+    go false q r = grind (arith, nat_tests)
 
 above-none : (gs : List Grant) (t b : ℕ) (cs : List Commit) (qs : List ℕ) → AreGranted gs cs → IsNumbered 1 gs
     → t ≡ length gs + 1

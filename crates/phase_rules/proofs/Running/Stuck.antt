@@ -1,5 +1,5 @@
 -- No state that a run by phases reaches is stuck: of the cores that haven't halted one in the earliest phase goes on.
-use Rattle.std.specs.Prelude.{ℕ, IsTrue, zero, suc, ◌≡◌, ◌≢◌, ◌<◌, ◌≤◌, Bool, true, false, not, ◌==◌, ◌&&◌}
+use Rattle.std.specs.Prelude.{ℕ, IsTrue, zero, suc, ◌≡◌, ◌≢◌, ◌<◌, ◌≤◌, Bool, true, false, not, ◌&&◌}
 use Rattle.std.specs.Prelude.{◌||◌, nat_lt, List, [], ◌∷◌, Option, Some, None, IfSome}
 use Rattle.std.proofs.Common.{arith, refl, ◌⊎◌, inl, inr}
 use Rattle.std.specs.Int.{is_power_of_two}
@@ -59,7 +59,6 @@ none-below t (suc n) f = rw (none-below t n (λ j l. f j (omega (arith, l))), f 
 
 -- what core j is that goes before core c
 pub record Before (s : Start) (h : History) (c j : ℕ) : Type 0 where
-  pub other : j ≢ c
   pub going : (h.world.cores j).phase ≢ Halted
   pub earlier : phase_of s h j < phase_of s h c
 
@@ -68,18 +67,13 @@ going-on Halted e f = absurd (cc)
 going-on _ e f = absurd (cc)
 
 pub before : (s : Start) (h : History) (c j : ℕ) → goes_before s h c j ≡ true → Before s h c j
-before s h c j e = go (j == c) refl (has_halted (h.world.cores j).phase) refl (nat_lt (phase_of s h j) (phase_of s h c)) refl e
+before s h c j e = go (has_halted (h.world.cores j).phase) refl (nat_lt (phase_of s h j) (phase_of s h c)) refl e
   where
-    go : (x : Bool) → (j == c) ≡ x → (y : Bool) → has_halted (h.world.cores j).phase ≡ y
-        → (z : Bool) → nat_lt (phase_of s h j) (phase_of s h c) ≡ z → (not x && (not y && z)) ≡ true → Before s h c j
-    go false p false q true r e = record {
-      other = λ i. absurd (let w : (j == c) ≡ true = grind (arith, nat_tests) in cc);
-      going = going-on (h.world.cores j).phase q;
-      earlier = grind (arith, nat_tests);
-    }
-    go true p y q z r e = absurd (cc)
-    go false p true q z r e = absurd (cc)
-    go false p false q false r e = absurd (cc)
+    go : (y : Bool) → has_halted (h.world.cores j).phase ≡ y → (z : Bool) → nat_lt (phase_of s h j) (phase_of s h c) ≡ z
+        → (not y && z) ≡ true → Before s h c j
+    go false q true r e = record { going = going-on (h.world.cores j).phase q; earlier = grind (arith, nat_tests) }
+    go true q z r e = absurd (cc)
+    go false q false r e = absurd (cc)
 
 -- an event that spares core c is held back only where core c is late
 held-is-late : (s : Start) (h : History) (c : ℕ) (e : Event) → spares c e ≡ true → is_held s h e ≡ true → is_late s h c ≡ true
@@ -133,11 +127,7 @@ unfolding is_held is_late
 none-held s h a (Deliver (Core c) Vendor k) = none-below (goes_before s h c) s.settings.cores (λ j l. at j (a j l))
   where
     at : (j : ℕ) → (h.world.cores j).phase ≡ Halted → goes_before s h c j ≡ false
-    at j e = rw e (go (not (j == c)))
-      where
-        go : (b : Bool) → (b && false) ≡ false
-        go true = refl
-        go false = refl
+    at j e = rw e refl
 none-held s h a _ = refl
 
 none-in : (es : List Event) → ((e : Event) → IsIn e es → ⊥) → es ≡ []

@@ -1,5 +1,6 @@
 -- One event more in a run by phases.
-use Rattle.std.proofs.Common.{◌≡◌, ℕ, Bool, true, false, cond, List, [], ◌∷◌, ◌++◌, Option, Some, None, refl, ap, sym, ◌∙◌, subst}
+use Rattle.std.proofs.Common.{◌≡◌, ℕ, Bool, true, false, cond, List, [], ◌∷◌, ◌++◌, Option, Some, None, refl, ap, sym, ◌∙◌, subst, arith}
+use Rattle.std.proofs.lemmas.Bool.Decides.{nat_tests}
 use Rattle.std.specs.Prelude.{IfSome}
 use Rattle.image_load.specs.Start.{Start}
 use Rattle.rv_code.specs.Machine.{program}
@@ -7,13 +8,13 @@ use Rattle.rv_serial.specs.Given.{TidsOf, grants_of}
 use Rattle.rv_serial.specs.Suiting.{world_at_start}
 use Rattle.rv_serial.proofs.Lemmas.{committed_tids_were_granted_once}
 use Rattle.tcc_base.specs.Settings.{IsAllowed}
-use Rattle.tcc_maps.specs.Nodes.{Core, Vendor, Event}
+use Rattle.tcc_maps.specs.Nodes.{Core, Dir, Vendor, Event, Exec, Evict, Deliver}
 use Rattle.tcc_rules.specs.Step.{History, Stepped, and_noted, and_then, next, recorded, run, step}
 use Rattle.tcc_serial.specs.NotedBy.{AreByCores}
 use Rattle.tcc_serial.specs.Owners.{IsRising}
 use Rattle.tcc_serial.proofs.Lemmas.{commits_are_by_cores}
-use Rattle.phase_rules.specs.Laws.{Grows, InPhases, at_start, noted_by}
-use Rattle.phase_rules.specs.Phased.{is_held, phased_from, phased_next}
+use Rattle.phase_rules.specs.Laws.{Grows, InPhases, asks, at_start, noted_by}
+use Rattle.phase_rules.specs.Phased.{is_held, is_late, phased_from, phased_next}
 use Rattle.phase_rules.proofs.Lemmas.{one_request_each, phased_runs_are_runs, phases_grow, phases_never_fall}
 use Rattle.tcc_phase.proofs.Requests.Asked.{AtMostOne}
 
@@ -45,6 +46,27 @@ next-is s h g e to = go (is_held s h e) to
     go : (b : Bool) → cond b None (next s.settings (program s) h e) ≡ Some g → next s.settings (program s) h e ≡ Some g
     go true q = absurd (cc)
     go false q = q
+
+-- and it isn't held back
+pub not-held : (s : Start) (h g : History) (e : Event) → phased_next s h e ≡ Some g → is_held s h e ≡ false
+unfolding phased_next
+not-held s h g e to = go (is_held s h e) to
+  where
+    go : (b : Bool) → cond b None (next s.settings (program s) h e) ≡ Some g → b ≡ false
+    go true q = absurd (cc)
+    go false q = refl
+
+-- so its core isn't late
+pub not-late : (s : Start) (h : History) (e : Event) (c : ℕ) → is_held s h e ≡ false → asks c e ≡ true → is_late s h c ≡ false
+unfolding is_held
+not-late s h (Exec d) c q a = absurd (cc)
+not-late s h (Evict d x y) c q a = absurd (cc)
+not-late s h (Deliver (Core d) (Core f) k) c q a = absurd (cc)
+not-late s h (Deliver (Core d) (Dir f) k) c q a = absurd (cc)
+not-late s h (Deliver (Core d) Vendor k) c q a =
+    let z : c ≡ d = grind (arith, nat_tests) in subst (λ x. is_late s h x ≡ false) (sym z) q
+not-late s h (Deliver (Dir d) f k) c q a = absurd (cc)
+not-late s h (Deliver Vendor f k) c q a = absurd (cc)
 
 -- what an event that was taken did
 pub record Did (s : Start) (h g : History) (e : Event) : Type 0 where

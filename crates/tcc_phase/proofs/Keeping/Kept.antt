@@ -2,7 +2,7 @@
 use Rattle.std.proofs.Common.{◌≡◌, ◌≢◌, ℕ, ◌+◌, ◌<◌, ◌≤◌, Bool, true, false, ◌==◌, List, [], ◌∷◌, ◌++◌, length, map, Option, Some, None}
 use Rattle.std.proofs.Common.{refl, ap, sym, ◌∙◌, subst, arith}
 use Rattle.std.specs.Global.{Vec}
-use Rattle.std.specs.Prelude.{IfSome, get_or, max, nat_lt, option_map, slice_get, slice_set, take, if◌then◌else◌}
+use Rattle.std.specs.Prelude.{IfSome, get_or, max, nat_lt, option_map, slice_get, slice_set, if◌then◌else◌}
 use Rattle.std.proofs.lemmas.Bool.Decides.{nat_tests}
 use Rattle.std.proofs.lemmas.List.{get_or-set_other, get_or-set_same, get_or_past, map-append}
 use Rattle.image_load.specs.Contents.{started}
@@ -11,28 +11,33 @@ use Rattle.rv_code.specs.Machine.{program}
 use Rattle.tcc_base.specs.Settings.{IsAllowed}
 use Rattle.tcc_base.specs.declared.access.Commit.{Commit}
 use Rattle.tcc_base.specs.declared.names.Tid.{Tid}
-use Rattle.tcc_maps.specs.Nodes.{Core, Vendor, Event}
+use Rattle.tcc_maps.specs.Nodes.{Core, Vendor, Event, Exec, Evict, Deliver}
 use Rattle.tcc_maps.specs.Words.{those}
 use Rattle.tcc_msg.specs.Plain.{event_of}
 use Rattle.tcc_msg.specs.declared.event.Event.{Event as CodeEvent}
 use Rattle.tcc_rules.specs.Laws.{ActsOnOne, StepsActOnOne}
-use Rattle.tcc_rules.specs.State.{World}
+use Rattle.tcc_rules.specs.Links.{sent_all}
+use Rattle.tcc_rules.specs.State.{Link, World}
 use Rattle.tcc_rules.specs.Step.{History, Stepped, and_noted, insert_commit, next, step}
 use Rattle.tcc_serial.specs.Owners.{IsRising}
-use Rattle.phase_rules.specs.Laws.{Grows, InPhases, at_start, noted_by, place_of, put_in}
-use Rattle.phase_rules.specs.Phased.{phased_from, phased_next}
+use Rattle.phase_rules.specs.Laws.{Grows, InPhases, asks, at_start, executes, noted_by, place_of, put_in}
+use Rattle.phase_rules.specs.Phased.{has_halted, phased_from, phased_next}
 use Rattle.phase_rules.specs.Phases.{phase_of, phases_of, x27}
+use Rattle.phase_rules.proofs.Lemmas.{halts_stay, requests_stay}
 use Rattle.net_core.specs.Answers.{tid_noted, tid_told}
 use Rattle.net_core.specs.Machine.{Machine, history_of, program_of, settings_of, start_of, world_of}
 use Rattle.net_core.specs.declared.taking.Step.{Step}
 use Rattle.net_core.specs.declared.taking.Step.TheVariants.{Moved, Committed}
 use Rattle.tcc_phase.specs.Kept.{HasRows, IsKept}
-use Rattle.tcc_phase.specs.Ledger.{IsListed, Notes}
-use Rattle.tcc_phase.specs.Requests.{Counts, IsAsked, IsEven, asks, is_waiting}
+use Rattle.tcc_phase.specs.Ledger.{IsListed, Notes, StillHolds}
+use Rattle.tcc_phase.specs.Requests.{Counts, HeldBefore, IsAsked, Limits, is_behind, is_waiting}
 use Rattle.tcc_phase.specs.declared.ledger.Ledger.{Ledger}
-use Rattle.tcc_phase.proofs.Keeping.Following.{Did, by-cores, did, grown, in-phases, next-is, one-each, phased-on, rising}
+use Rattle.tcc_phase.proofs.Keeping.Following.{Did, by-cores, did, grown, in-phases, next-is, not-held, not-late}
+use Rattle.tcc_phase.proofs.Keeping.Following.{one-each, phased-on, rising}
 use Rattle.tcc_phase.proofs.Places.{at-place, by-core, place-insert, place-most}
 use Rattle.tcc_phase.proofs.Requests.Asked.{AtMostOne, asked-after}
+use Rattle.tcc_phase.proofs.Requests.Behind.{behind-late}
+use Rattle.tcc_phase.proofs.Requests.Staying.{held-before, limits-same}
 
 -- ---- the commit that was told
 
@@ -115,15 +120,20 @@ own-now own x c v was now l a b p q = go (c == x) refl
         let s : c ≢ x = λ r. (let t : (c == x) ≡ true = grind (arith, nat_tests) in absurd (cc)) in
         get_or-set_other own x c (max (get_or own x 0) v) 0 s ∙ b ∙ sym (q s)
 
+-- the links of the core that executed only grow
+link-grows : (w v : World) (e : Event) (c : ℕ) → executes c e ≡ true → ActsOnOne w e v
+    → (more : Link) × (v.net (Core c) Vendor ≡ w.net (Core c) Vendor ++ more)
+link-grows w v (Exec d) c x a = let g = a.links (Core c) Vendor in (sent_all g.0, g.1)
+link-grows w v (Evict d y z) c x a = absurd (cc)
+link-grows w v (Deliver b d k) c x a = absurd (cc)
+
 -- what is noted of an event that was taken
 pub record Noted (n : Machine) (e : Event) (done : Step) (l k : Ledger) : Type 0 where
   pub rows : HasRows (settings_of n).cores k
-  pub even : IsEven k.uneven k.own.items (settings_of n).cores
   pub asked : Counts e l.asked.items k.asked.items
   pub notes : Notes n done l.each.items l.own.items k.each.items k.own.items
-  pub held : take k.count k.held.items ≡ those (is_waiting (settings_of n) (program_of n) (world_of n) k.own.items k.asked.items)
-      (settings_of n).cores
-  pub count : k.count ≤ (settings_of n).cores
+  pub limits : Limits (settings_of n) (world_of n) k.own.items k.least
+  pub held : k.held.items ≡ those (is_waiting (settings_of n) (program_of n) (world_of n) k.own.items k.asked.items) (settings_of n).cores
 
 -- room for one more phase changes nothing
 pub kept-each : (s : Start) (h : History) (events : ℕ) (l : Ledger) (v : Vec ℕ) → v.items ≡ l.each.items → IsKept s h events l
@@ -134,9 +144,8 @@ kept-each s h events l v q k = record {
   own = k.own;
   asked = k.asked;
   few = k.few;
-  even = k.even;
+  limits = k.limits;
   held = k.held;
-  count = k.count;
 }
 
 module _ (m n : Machine) (allowed : IsAllowed (settings_of m)) (es : List Event) (e : Event)
@@ -210,6 +219,65 @@ module _ (m n : Machine) (allowed : IsAllowed (settings_of m)) (es : List Event)
                 (phase_of (start_of m) (history_of n)) (omega (arith, of, rows)) (was.each x.core.0 of) (was.each c l) gr.1 (gr.2 c l);
           }
 
+  -- where no commit was told, who waits is as before, but perhaps for the core that executed
+  module _ (acts : StepsActOnOne) (l : Ledger) (kept : IsKept (start_of m) (history_of m) m.events l) (code : n.cores.code ≡ m.cores.code)
+    where
+      abbrev old : World
+      old = (history_of m).world
+
+      abbrev new : World
+      new = (history_of n).world
+
+      halts-so : done-by.out.noted ≡ None → (j : ℕ) → has_halted (new.cores j).phase ≡ has_halted (old.cores j).phase
+      halts-so q j =
+          ap (λ (v : World). has_halted (v.cores j).phase) done-by.world
+          ∙ subst (λ o. IfSome o (λ (x : Stepped). x.noted ≡ None → (c : ℕ) → has_halted (x.world.cores c).phase
+          ≡ has_halted (old.cores c).phase)) done-by.step (halts_stay (start_of m).settings (program (start_of m)) old e) q j
+
+      stays-so : (c : ℕ) → executes c e ≡ false → asks c e ≡ false → new.net (Core c) Vendor ≡ old.net (Core c) Vendor
+      stays-so c x a =
+          ap (λ (v : World). v.net (Core c) Vendor) done-by.world
+          ∙ subst (λ o. IfSome o (λ (t : Stepped). (c : ℕ) → executes c e ≡ false → asks c e ≡ false
+          → t.world.net (Core c) Vendor ≡ old.net (Core c) Vendor)) done-by.step
+          (requests_stay (start_of m).settings (program (start_of m)) old e) c x a
+
+      grows-by : (c : ℕ) → executes c e ≡ true → (more : Link) × (new.net (Core c) Vendor ≡ old.net (Core c) Vendor ++ more)
+      grows-by c x =
+          let g = link-grows old done-by.out.world e c x
+          (subst (λ o. IfSome o (λ (t : Stepped). ActsOnOne old e t.world)) done-by.step
+          (acts (start_of m).settings (program (start_of m)) old e)) in
+          (g.0, ap (λ (v : World). v.net (Core c) Vendor) done-by.world ∙ g.1)
+
+      free-so : (c : ℕ) → c < (start_of m).settings.cores → asks c e ≡ true
+          → is_behind (start_of m).settings.cores old l.own.items (get_or l.own.items c 0) ≡ false
+      free-so c h a =
+          sym (behind-late (start_of m) (history_of m) l.own.items kept.own c h)
+          ∙ not-late (start_of m) (history_of m) e c (not-held (start_of m) (history_of m) (history_of n) e to) a
+
+      counts-so : (asked : List ℕ) → Counts e l.asked.items asked → (c : ℕ) → c < (start_of m).settings.cores
+          → get_or asked c 0 ≡ (if asks c e then get_or l.asked.items c 0 + 1 else get_or l.asked.items c 0)
+      counts-so asked k c h = k c (let r = kept.rows.asked in omega (arith, h, r))
+
+      still-m : done-by.out.noted ≡ None → Limits (start_of m).settings new l.own.items l.least
+          × ((asked : List ℕ) → Counts e l.asked.items asked
+          → HeldBefore (start_of m).settings (program (start_of m)) new l.own.items asked e l.held.items)
+      still-m q = (
+        limits-same (start_of m).settings old new l.own.items (halts-so q) l.least kept.limits,
+        λ asked k. held-before (start_of m).settings (program (start_of m)) old new e l.own.items l.asked.items asked (halts-so q) stays-so
+            grows-by free-so (counts-so asked k) l.held.items kept.held,
+      )
+
+      pub still-so : StillHolds n e done l
+      unfolding started history_of
+      still-so = go done tells-of
+        where
+          go : (d : Step) → tid_told d ≡ option_map (λ c. c.tid) done-by.out.noted → StillHolds n e d l
+          go (Committed t) r = tt
+          go Moved r =
+              subst (λ k. Limits k.settings (world_of n) l.own.items l.least × ((asked : List ℕ) → Counts e l.asked.items asked
+              → HeldBefore k.settings (program (started k)) (world_of n) l.own.items asked e l.held.items)) (sym code)
+              (still-m (none-told done-by.out.noted r))
+
   module _ (acts : StepsActOnOne) (l k : Ledger) (kept : IsKept (start_of m) (history_of m) m.events l) (w : Noted n e done l k)
       (events : n.events ≡ m.events + 1) (code : n.cores.code ≡ m.cores.code) where
     same : start_of n ≡ start_of m
@@ -256,7 +324,11 @@ module _ (m n : Machine) (allowed : IsAllowed (settings_of m)) (es : List Event)
             let p : get_or k.asked.items c 0 ≡ 0 = get_or_past k.asked.items c 0 (omega (arith, h, a, b, cores)) in
             omega (arith, p)
 
-    held-now : take k.count k.held.items
+    limits-now : Limits (start_of m).settings (history_of n).world k.own.items k.least
+    unfolding started history_of
+    limits-now = subst (λ x. Limits x.settings (world_of n) k.own.items k.least) code w.limits
+
+    held-now : k.held.items
         ≡ those (is_waiting (start_of m).settings (program (start_of m)) (history_of n).world k.own.items k.asked.items) (start_of
         m).settings.cores
     unfolding started history_of
@@ -277,9 +349,8 @@ module _ (m n : Machine) (allowed : IsAllowed (settings_of m)) (es : List Event)
       own = phases-now.each;
       asked = now-asked;
       few = now-few;
-      even = subst (λ x. IsEven k.uneven k.own.items x) cores w.even;
+      limits = limits-now;
       held = held-now;
-      count = subst (λ x. k.count ≤ x) cores w.count;
     }
 
     pub kept-next : IsKept (start_of n) (history_of n) n.events k

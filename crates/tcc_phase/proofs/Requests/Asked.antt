@@ -11,7 +11,8 @@ use Rattle.tcc_rules.specs.Links.{in_flight, sent_all, taking}
 use Rattle.tcc_rules.specs.State.{Link, World}
 use Rattle.tcc_rules.specs.Step.{Stepped, granted, happens, if_in_flight, names_nodes, step, vendor_gives}
 use Rattle.tcc_rules.specs.VendorDeliver.{Granted, vendor_deliver}
-use Rattle.tcc_phase.specs.Requests.{IsAsked, asks}
+use Rattle.phase_rules.specs.Laws.{asks}
+use Rattle.tcc_phase.specs.Requests.{IsAsked}
 
 -- ---- one link
 

@@ -1,5 +1,5 @@
 -- Which cores are late, by the phases that are kept.
-use Rattle.std.proofs.Common.{◌≡◌, ℕ, zero, suc, ◌<◌, Bool, true, false, ◌&&◌, ◌||◌, ◌==◌, List, Option, None, refl, ap, sym, ◌∙◌, arith}
+use Rattle.std.proofs.Common.{◌≡◌, ℕ, zero, suc, ◌<◌, Bool, true, false, ◌&&◌, ◌||◌, List, Option, None, refl, ap, sym, ◌∙◌, arith}
 use Rattle.std.specs.Prelude.{◌↔◌, IsTrue, get_or, not, nat_lt}
 use Rattle.std.proofs.lemmas.Bool.Decides.{nat_tests}
 use Rattle.image_load.specs.Start.{Start}
@@ -8,7 +8,7 @@ use Rattle.tcc_rules.specs.State.{Halted, Phase, World}
 use Rattle.tcc_rules.specs.Step.{History}
 use Rattle.phase_rules.specs.Phased.{goes_before, has_halted, is_late}
 use Rattle.phase_rules.specs.Phases.{phase_of}
-use Rattle.tcc_phase.specs.Requests.{IsEven, either_below, is_behind, is_below}
+use Rattle.tcc_phase.specs.Requests.{either_below, is_behind, is_below}
 
 -- the same of all numbers below n
 pub any-same : (p q : ℕ → Bool) (n : ℕ) → ((j : ℕ) → j < n → p j ≡ q j) → any_below p n ≡ any_below q n
@@ -23,35 +23,19 @@ any-none p zero h = refl
 any-none p (suc n) h =
     ap (λ b. b || p n) (any-none p n (λ j l. h j (omega (arith, l)))) ∙ h n (omega arith)
 
--- a core isn't before itself
-itself : (b : Bool) (j c x y : ℕ) → ((j ≡ c) → x ≡ y) → (not (j == c) && (b && nat_lt x y)) ≡ (b && nat_lt x y)
-itself false j c x y h = go (not (j == c))
-  where
-    go : (t : Bool) → (t && false) ≡ false
-    go true = refl
-    go false = refl
-itself true j c x y h = go (j == c) refl
-  where
-    go : (t : Bool) → (j == c) ≡ t → (not t && nat_lt x y) ≡ nat_lt x y
-    go false q = refl
-    go true q =
-        let s : j ≡ c = grind (arith, nat_tests) in
-        let e : x ≡ y = h s in
-        grind (arith, nat_tests)
-
 pub behind-late : (s : Start) (h : History) (own : List ℕ) → ((j : ℕ) → j < s.settings.cores → get_or own j 0 ≡ phase_of s h j)
     → (c : ℕ) → c < s.settings.cores → is_late s h c ≡ is_behind s.settings.cores h.world own (get_or own c 0)
 unfolding is_late is_behind
 behind-late s h own e c l =
     any-same (goes_before s h c) (λ j. not (has_halted (h.world.cores j).phase) && nat_lt (get_or own j 0) (get_or own c 0))
     s.settings.cores
-    (λ j m. itself (not (has_halted (h.world.cores j).phase)) j c (phase_of s h j) (phase_of s h c) (λ q. ap (phase_of s h) q)
-    ∙ (λ i. not (has_halted (h.world.cores j).phase) && nat_lt (sym (e j m) i) (sym (e c l) i)))
+    (λ j m. (λ i. not (has_halted (h.world.cores j).phase) && nat_lt (sym (e j m) i) (sym (e c l) i)))
 
 -- in one phase none is
-pub even-none : (n : ℕ) (w : World) (own : List ℕ) (c : ℕ) → IsEven false own n → c < n → is_behind n w own (get_or own c 0) ≡ false
+pub even-none : (n : ℕ) (w : World) (own : List ℕ) (c : ℕ) → ((j : ℕ) → j < n → get_or own j 0 ≡ get_or own c 0)
+    → is_behind n w own (get_or own c 0) ≡ false
 unfolding is_behind
-even-none n w own c h l = any-none _ n (λ j m. go (not (has_halted (w.cores j).phase)) j (h refl j c m l))
+even-none n w own c h = any-none _ n (λ j m. go (not (has_halted (w.cores j).phase)) j (h j m))
   where
     go : (b : Bool) (j : ℕ) → get_or own j 0 ≡ get_or own c 0 → (b && nat_lt (get_or own j 0) (get_or own c 0)) ≡ false
     go false j e = refl

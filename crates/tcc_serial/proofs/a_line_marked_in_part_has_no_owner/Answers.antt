@@ -1,4 +1,4 @@
-use Rattle.tcc_serial.proofs.AllKept.{wholly_marked}
+use Rattle.tcc_serial.proofs.Run.AllInvariants.{wholly_marked}
 use Rattle.tcc_serial.proofs.a_line_marked_in_part_has_no_owner.Goals as goal
 
 pub returns : goal.returns

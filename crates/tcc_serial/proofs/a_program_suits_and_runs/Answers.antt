@@ -1,4 +1,4 @@
-use Rattle.tcc_serial.proofs.CounterRun.{counting_suits, goes_alone, has_read, is_violated, counts_on, nothing_is_left}
+use Rattle.tcc_serial.proofs.Run.CounterRun.{counting_suits, goes_alone, has_read, is_violated, counts_on, nothing_is_left}
 use Rattle.tcc_serial.proofs.a_program_suits_and_runs.Goals as goal
 
 pub returns : goal.returns

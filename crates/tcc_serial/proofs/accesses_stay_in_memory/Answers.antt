@@ -1,5 +1,5 @@
-use Rattle.tcc_serial.proofs.FromMemory.{runs_stay_in_memory}
-use Rattle.tcc_serial.proofs.MemoryHomes.{accesses_at_homes, marks_at_homes, written_in_memory}
+use Rattle.tcc_serial.proofs.Run.FactsOfRuns.{runs_stay_in_memory}
+use Rattle.tcc_serial.proofs.Memory.MemorySends.{accesses_at_homes, marks_at_homes, written_in_memory}
 use Rattle.tcc_serial.proofs.accesses_stay_in_memory.Goals as goal
 
 pub returns : goal.returns

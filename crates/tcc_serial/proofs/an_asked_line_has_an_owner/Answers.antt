@@ -1,4 +1,4 @@
-use Rattle.tcc_serial.proofs.AllKept.{asked_owned}
+use Rattle.tcc_serial.proofs.Run.AllInvariants.{asked_owned}
 use Rattle.tcc_serial.proofs.an_asked_line_has_an_owner.Goals as goal
 
 pub returns : goal.returns

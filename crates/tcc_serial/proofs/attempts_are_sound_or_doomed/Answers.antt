@@ -1,4 +1,4 @@
-use Rattle.tcc_serial.proofs.SoundAttempts.{attempts_sound}
+use Rattle.tcc_serial.proofs.OneCore.SoundAttempts.{attempts_sound}
 use Rattle.tcc_serial.proofs.attempts_are_sound_or_doomed.Goals as goal
 
 pub returns : goal.returns

@@ -1,4 +1,4 @@
-use Rattle.tcc_serial.proofs.FromViews.{runs_carry_views}
+use Rattle.tcc_serial.proofs.Run.FactsOfRuns.{runs_carry_views}
 use Rattle.tcc_serial.proofs.attempts_follow_from_their_views.Goals as goal
 
 pub returns : goal.returns

@@ -1,4 +1,4 @@
-use Rattle.tcc_serial.proofs.AllKept.{counts_marks}
+use Rattle.tcc_serial.proofs.Run.AllInvariants.{counts_marks}
 use Rattle.tcc_serial.proofs.commits_count_their_marks.Goals as goal
 
 pub returns : goal.returns

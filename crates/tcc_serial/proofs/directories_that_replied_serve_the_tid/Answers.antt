@@ -1,4 +1,4 @@
-use Rattle.tcc_serial.proofs.Always.{served}
+use Rattle.tcc_serial.proofs.Run.Always.{served}
 use Rattle.tcc_serial.proofs.directories_that_replied_serve_the_tid.Goals as goal
 
 pub returns : goal.returns

@@ -1,4 +1,4 @@
-use Rattle.tcc_serial.proofs.HomeWordsKept.{homes_kept}
+use Rattle.tcc_serial.proofs.Values.HomeWordsKept.{homes_kept}
 use Rattle.tcc_serial.proofs.events_keep_home_words.Goals as goal
 
 pub returns : goal.returns

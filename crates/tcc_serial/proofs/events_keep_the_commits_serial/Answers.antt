@@ -1,4 +1,4 @@
-use Rattle.tcc_serial.proofs.SerialSteps.{events_serial}
+use Rattle.tcc_serial.proofs.Order.SerialSteps.{events_serial}
 use Rattle.tcc_serial.proofs.events_keep_the_commits_serial.Goals as goal
 
 pub returns : goal.returns

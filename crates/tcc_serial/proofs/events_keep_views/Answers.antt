@@ -1,4 +1,4 @@
-use Rattle.tcc_serial.proofs.ViewsKept.{keeps_views}
+use Rattle.tcc_serial.proofs.Views.ViewsKept.{keeps_views}
 use Rattle.tcc_serial.proofs.events_keep_views.Goals as goal
 
 pub returns : goal.returns

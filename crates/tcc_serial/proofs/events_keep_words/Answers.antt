@@ -1,4 +1,4 @@
-use Rattle.tcc_serial.proofs.FramedSteps.{words_kept}
+use Rattle.tcc_serial.proofs.Values.FramedSteps.{words_kept}
 use Rattle.tcc_serial.proofs.events_keep_words.Goals as goal
 
 pub returns : goal.returns

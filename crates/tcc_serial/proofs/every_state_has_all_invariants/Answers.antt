@@ -1,4 +1,4 @@
-use Rattle.tcc_serial.proofs.AllCarried.{all_hold}
+use Rattle.tcc_serial.proofs.Run.AllCarried.{all_hold}
 use Rattle.tcc_serial.proofs.every_state_has_all_invariants.Goals as goal
 
 pub returns : goal.returns

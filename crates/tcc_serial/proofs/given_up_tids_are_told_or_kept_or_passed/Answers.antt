@@ -1,4 +1,4 @@
-use Rattle.tcc_serial.proofs.WayFacts.{given_up_once}
+use Rattle.tcc_serial.proofs.Ways.WayFacts.{given_up_once}
 use Rattle.tcc_serial.proofs.given_up_tids_are_told_or_kept_or_passed.Goals as goal
 
 pub returns : goal.returns

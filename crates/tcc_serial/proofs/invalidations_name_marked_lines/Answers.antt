@@ -1,4 +1,4 @@
-use Rattle.tcc_serial.proofs.AllKept.{named_lines}
+use Rattle.tcc_serial.proofs.Run.AllInvariants.{named_lines}
 use Rattle.tcc_serial.proofs.invalidations_name_marked_lines.Goals as goal
 
 pub returns : goal.returns

@@ -1,4 +1,4 @@
-use Rattle.tcc_serial.proofs.AllKept.{marks_stored}
+use Rattle.tcc_serial.proofs.Run.AllInvariants.{marks_stored}
 use Rattle.tcc_serial.proofs.marks_are_the_lines_stored.Goals as goal
 
 pub returns : goal.returns

@@ -1,4 +1,4 @@
-use Rattle.tcc_serial.proofs.MaskLaws.{masks_stored, marked_by_served}
+use Rattle.tcc_serial.proofs.Marks.MaskLaws.{masks_stored, marked_by_served}
 use Rattle.tcc_serial.proofs.masks_are_the_words_stored.Goals as goal
 
 pub returns : goal.returns

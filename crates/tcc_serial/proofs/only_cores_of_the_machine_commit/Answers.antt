@@ -1,4 +1,4 @@
-use Rattle.tcc_serial.proofs.NotedBy.{commits_are_by_cores}
+use Rattle.tcc_serial.proofs.Run.NotedBy.{commits_are_by_cores}
 use Rattle.tcc_serial.proofs.only_cores_of_the_machine_commit.Goals as goal
 
 pub returns : goal.returns

@@ -1,4 +1,4 @@
-use Rattle.tcc_serial.proofs.AllCarried.{runs_are_serial}
+use Rattle.tcc_serial.proofs.Run.AllCarried.{runs_are_serial}
 use Rattle.tcc_serial.proofs.runs_are_serial.Goals as goal
 
 pub returns : goal.returns

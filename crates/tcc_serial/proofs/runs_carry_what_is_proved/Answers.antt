@@ -1,4 +1,4 @@
-use Rattle.tcc_serial.proofs.FromKept.{runs_carry}
+use Rattle.tcc_serial.proofs.Run.FactsOfRuns.{runs_carry}
 use Rattle.tcc_serial.proofs.runs_carry_what_is_proved.Goals as goal
 
 pub returns : goal.returns

@@ -1,4 +1,4 @@
-use Rattle.tcc_serial.proofs.Always.{never_passes}
+use Rattle.tcc_serial.proofs.Run.Always.{never_passes}
 use Rattle.tcc_serial.proofs.serving_never_passes_an_unresolved_tid.Goals as goal
 
 pub returns : goal.returns

@@ -1,4 +1,4 @@
-use Rattle.tcc_serial.proofs.UsedWords.{steps_follow}
+use Rattle.tcc_serial.proofs.OneCore.UsedWords.{steps_follow}
 use Rattle.tcc_serial.proofs.steps_depend_on_used_words.Goals as goal
 
 pub returns : goal.returns

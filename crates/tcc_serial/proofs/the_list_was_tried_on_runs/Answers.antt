@@ -1,4 +1,4 @@
-use Rattle.tcc_serial.proofs.TriedRun.{tried_fill, tried_read, tried_owner, tried_alone, tried_fails}
+use Rattle.tcc_serial.proofs.Run.TriedRun.{tried_fill, tried_read, tried_owner, tried_alone, tried_fails}
 use Rattle.tcc_serial.proofs.the_list_was_tried_on_runs.Goals as goal
 
 pub returns-clause-fill : goal.returns-clause-fill

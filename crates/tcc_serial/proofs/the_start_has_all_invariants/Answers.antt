@@ -1,4 +1,4 @@
-use Rattle.tcc_serial.proofs.StartAll.{start_has_all}
+use Rattle.tcc_serial.proofs.Run.AllCarried.{start_has_all}
 use Rattle.tcc_serial.proofs.the_start_has_all_invariants.Goals as goal
 
 pub returns : goal.returns

@@ -1,4 +1,4 @@
-use Rattle.tcc_serial.proofs.WayFacts.{untold_where_open, all_ways_fit}
+use Rattle.tcc_serial.proofs.Ways.WayFacts.{untold_where_open, all_ways_fit}
 use Rattle.tcc_serial.proofs.tids_are_told_apart.Goals as goal
 
 pub returns : goal.returns

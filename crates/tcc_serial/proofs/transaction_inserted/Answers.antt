@@ -1,4 +1,4 @@
-use Rattle.tcc_serial.proofs.InsertedOrders.{orders_joined, order_inserted}
+use Rattle.tcc_serial.proofs.Order.InsertedOrders.{orders_joined, order_inserted}
 use Rattle.tcc_serial.proofs.transaction_inserted.Goals as goal
 
 pub returns : goal.returns

@@ -1,4 +1,4 @@
-use Rattle.tcc_serial.proofs.Always.{owed_in_flight}
+use Rattle.tcc_serial.proofs.Run.Always.{owed_in_flight}
 use Rattle.tcc_serial.proofs.what_is_owed_is_in_flight.Goals as goal
 
 pub returns : goal.returns

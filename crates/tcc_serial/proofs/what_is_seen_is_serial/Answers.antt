@@ -1,4 +1,4 @@
-use Rattle.tcc_serial.proofs.SeenWords.{seen_follows}
+use Rattle.tcc_serial.proofs.Values.SeenWords.{seen_follows}
 use Rattle.tcc_serial.proofs.what_is_seen_is_serial.Goals as goal
 
 pub returns : goal.returns

@@ -5,7 +5,7 @@ use Rattle.rand_pcg.specs.Pcg.{pcg32}
 use Rattle.tcc_msg.specs.Plain.{event_of}
 use Rattle.tcc_rules.specs.Picked.{chosen}
 use Rattle.tcc_phase.specs.Phased.{useful_in}
-use Rattle.tcc_phase.proofs.Chosen.{answered-so, chosen-none, is-one}
+use Rattle.tcc_pick.proofs.Lemmas.{answered-so, chosen-none, is-one}
 use Rattle.tcc_phase.proofs.running.pick.Goals as goal
 
 pub returns-then-count-eq0-clause-chosen : goal.returns-then-count-eq0-clause-chosen

@@ -1,32 +1,59 @@
--- Those that wait are those above the least phase whose requests are in flight.
-use Rattle.std.proofs.Common.{length, take, ap, ◌∙◌, subst}
+-- Where nothing was committed and no core executed, all is as it was but for a request that was delivered.
+use Rattle.std.proofs.Common.{◌≡◌, ℕ, false, length, ◌≤◌, refl, ap, sym, ◌∙◌, subst}
+use Rattle.std.specs.Prelude.{vec_capacity}
+use Rattle.tcc_base.specs.declared.names.CoreId.{CoreId}
 use Rattle.tcc_maps.specs.Words.{those}
+use Rattle.tcc_msg.specs.Plain.{event_of}
+use Rattle.tcc_msg.specs.declared.event.Event.{Event}
+use Rattle.tcc_msg.specs.declared.event.Event.TheVariants.{Exec, Evict, Deliver}
 use Rattle.net_core.specs.Machine.{program_of, settings_of, world_of}
-use Rattle.tcc_phase.specs.Requests.{is_above}
+use Rattle.net_core.specs.declared.taking.Step.TheVariants.{Moved}
+use Rattle.phase_rules.specs.Laws.{executes}
+use Rattle.tcc_phase.specs.Ledger.{Notes, StillHolds}
+use Rattle.tcc_phase.specs.Requests.{Limits, is_waiting}
 use Rattle.tcc_phase.specs.declared.ledger.Ledger.{Ledger}
-use Rattle.tcc_phase.proofs.Requests.Those.{written-over}
-use Rattle.tcc_phase.proofs.Requests.Waiting.{Limits, waiting-above, waiting-none}
+use Rattle.tcc_phase.proofs.Requests.Staying.{unless-executed}
 use Rattle.tcc_phase.proofs.ledger.Ledger.note.Goals as goal
-use Rattle.tcc_phase.proofs.ledger.Ledger.note.Goals.{in-Some, in-None}
 
-pub returns-clause-held : goal.returns-clause-held
-returns-clause-held c = elim c.match-limit.branch [
-  | in-Some w ↦
-      let m = c.args.system.now in
-      let k : Ledger = c.note_commit.new.self in
-      rw (w.self-is, w.self2-is)
-      (ap (take w.hold-self.result)
-      (written-over k.held.len w.hold-self.new.held k.held.items (w.hold-self.ensures.length
-      ∙ ap length w.deref_mut.ensures.value) k.held.ok.0)
-      ∙ w.hold-self.ensures.listed
-      ∙ (λ i. those (is_above (settings_of m) (program_of m) (world_of m) w.in-Some.least (w.deref.ensures.value i)
-      (w.deref-in-Some.ensures.value i)) (settings_of m).cores)
-      ∙ waiting-above (settings_of m) (program_of m) (world_of m) k.own.items k.asked.items w.in-Some.least
-      (subst (Limits (settings_of m) (world_of m) k.own.items) w.in-Some.is c.limit.ensures))
-  | in-None w ↦
-      let m = c.args.system.now in
-      let k : Ledger = c.note_commit.new.self in
-      rw (w.self-is, w.self2-is)
-      (waiting-none (settings_of m) (program_of m) (world_of m) k.own.items k.asked.items
-      (subst (Limits (settings_of m) (world_of m) k.own.items) w.in-None.is c.limit.ensures))
-]
+no-core : (e : Event) → ((x : CoreId) → e ≡ Exec x → ⊥) → (d : ℕ) → executes d (event_of e) ≡ false
+no-core (Exec x) f d = absurd (f x refl)
+no-core (Evict x y z) f d = refl
+no-core (Deliver n) f d = refl
+
+still : (c : goal.In_default) → StillHolds c.args.system.now (event_of c.args.e) Moved c.args.self.now
+still c = subst (λ d. StillHolds c.args.system.now (event_of c.args.e) d c.args.self.now) c.in-Moved.is c.requires.holds
+
+pub returns-in_default-clause-rows : goal.returns-in_default-clause-rows
+returns-in_default-clause-rows c =
+    let k : Ledger = c.note_delivery.new.self in
+    record {
+      own = ap (λ (x : Ledger). length x.own.items) c.note_delivery.ensures.others ∙ c.requires.rows.own;
+      asked = c.note_delivery.ensures.rows ∙ c.requires.rows.asked;
+      held = subst (λ (x : Ledger). (settings_of c.args.system.now).cores ≤ vec_capacity x.held) (sym c.note_delivery.ensures.others)
+          c.requires.rows.held;
+    }
+
+pub returns-in_default-clause-notes : goal.returns-in_default-clause-notes
+returns-in_default-clause-notes c =
+    let l : Ledger = c.args.self.now in
+    let k : Ledger = c.note_delivery.new.self in
+    subst (λ d. Notes c.args.system.now d l.each.items l.own.items k.each.items k.own.items) (sym c.in-Moved.is) (
+      ap (λ (x : Ledger). x.each.items) c.note_delivery.ensures.others,
+      ap (λ (x : Ledger). x.own.items) c.note_delivery.ensures.others,
+    )
+
+pub returns-in_default-clause-limits : goal.returns-in_default-clause-limits
+returns-in_default-clause-limits c =
+    subst (λ (x : Ledger). Limits (settings_of c.args.system.now) (world_of c.args.system.now) x.own.items x.least)
+    (sym c.note_delivery.ensures.others) (still c).0
+
+pub returns-in_default-clause-held : goal.returns-in_default-clause-held
+returns-in_default-clause-held c =
+    let m = c.args.system.now in
+    let l : Ledger = c.args.self.now in
+    let k : Ledger = c.note_delivery.new.self in
+    subst (λ (x : Ledger). x.held.items ≡ those (is_waiting (settings_of m) (program_of m) (world_of m) x.own.items k.asked.items)
+    (settings_of m).cores) (sym c.note_delivery.ensures.others)
+    (unless-executed (settings_of m) (program_of m) (world_of m) l.own.items k.asked.items (event_of c.args.e) l.held.items
+    ((still c).1 k.asked.items c.note_delivery.ensures.asked)
+    (λ d q x. let n = no-core c.args.e c.in_default.not-Exec d in absurd (cc)))

@@ -4,21 +4,20 @@ use Rattle.std.specs.Prelude.{nat_lt, option_map}
 use Rattle.std.proofs.lemmas.Bool.Decides.{nat_tests}
 use Rattle.tcc_base.specs.declared.names.CoreId.{CoreId}
 use Rattle.tcc_msg.specs.Plain.{event_of}
+use Rattle.image_load.specs.Contents.{started}
 use Rattle.net_core.specs.Machine.{Machine, settings_of}
 use Rattle.tcc_base.specs.Settings.{Settings}
 use Rattle.tcc_phase.specs.Phased.{PhaseMachine}
-use Rattle.tcc_phase.proofs.Holding.{Holds, absent-of, even-of, free-of, late-of, rows-of}
+use Rattle.tcc_phase.proofs.Holding.{Holds, absent-of, free-of, late-of}
 use Rattle.tcc_phase.proofs.system.PhaseSystem.holds_back.Goals as goal
 
-pub is_late-requires-clause-rows : goal.is_late-requires-clause-rows
-is_late-requires-clause-rows c =
-    rows-of c.self.inside.refined.machine c.system-system.result.now c.self.inside.ledger c.system-system.ensures.machine
-    c.self.invariant.kept
-
-pub is_late-requires-clause-even : goal.is_late-requires-clause-even
-is_late-requires-clause-even c =
-    even-of c.self.inside.refined.machine c.system-system.result.now c.self.inside.ledger c.system-system.ensures.machine
-    c.self.invariant.kept
+pub is_late-requires : goal.is_late-requires
+unfolding started
+is_late-requires c =
+    let q = c.cores.ensures.value ∙ ap (λ (k : Settings). k.cores) c.config.ensures
+    ∙ ap (λ (m : Machine). (settings_of m).cores) c.system-system.ensures.machine in
+    let rows = c.self.invariant.kept.rows.own in
+    omega (arith, q, rows, c.if-core-cores.true)
 
 pub returns-then-core-cores : goal.returns-then-core-cores
 returns-then-core-cores c =
@@ -26,9 +25,8 @@ returns-then-core-cores c =
     let q = c.cores.ensures.value ∙ ap (λ (k : Settings). k.cores) c.config.ensures
     ∙ ap (λ (m : Machine). (settings_of m).cores) c.system-system.ensures.machine in
     subst (λ (p : PhaseMachine). Holds p.refined.machine (event_of c.args.e) c.is_late.result) c.self.view_is
-    (late-of c.self.inside.refined.machine c.system-system.result.now c.self.inside.ledger (event_of c.args.e) c.in-Some.core.0
-    c.is_late.result
-    by c.system-system.ensures.machine c.self.invariant.kept (omega (arith, q, c.if-core-cores.true)) c.is_late.ensures)
+    (late-of c.self.inside.refined.machine c.self.inside.ledger (event_of c.args.e) c.in-Some.core.0 c.is_late.result by
+    c.self.invariant.kept (omega (arith, q, c.if-core-cores.true)) c.is_late.ensures)
 
 pub returns-else-core-cores : goal.returns-else-core-cores
 returns-else-core-cores c =

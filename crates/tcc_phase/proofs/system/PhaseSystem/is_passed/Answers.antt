@@ -1,5 +1,5 @@
 -- The event at the row's place tells.
-use Rattle.std.proofs.Common.{◌+◌, ◌<◌, ◌≤◌, Some, None, sym, subst, arith}
+use Rattle.std.proofs.Common.{◌+◌, ◌<◌, ◌≤◌, Some, None, sym, subst, arith, length}
 use Rattle.tcc_msg.specs.Plain.{event_of}
 use Rattle.net_core.specs.Machine.{Machine}
 use Rattle.tcc_phase.specs.Choosing.{held_in, passed_by}
@@ -8,7 +8,7 @@ use Rattle.tcc_phase.specs.declared.ledger.Ledger.{Ledger}
 use Rattle.tcc_phase.proofs.Rows.{all-passed, core-row, found-at, held-many, not_yet-if, passed-if}
 use Rattle.tcc_phase.proofs.system.PhaseSystem.is_passed.Goals as goal
 
-row : (c : goal.After-self) → c.args.row < c.self.inside.ledger.count
+row : (c : goal.After-self) → c.args.row < length c.self.inside.ledger.held.items
 row c =
     let m : Machine = c.self.inside.refined.machine in
     let a = held-many m c.self.inside.ledger c.self.invariant.kept c.useful_events_are_listed.ensures.holds
@@ -19,10 +19,7 @@ row c =
 
 pub index-core-requires : goal.index-core-requires
 index-core-requires c =
-    let a = row c in
-    let b = c.self.invariant.kept.count in
-    let r = c.self.invariant.kept.rows.held in
-    omega (arith, a, b, r, c.self.inside.ledger.held.ok)
+    let a = row c in omega (arith, a, c.self.inside.ledger.held.ok)
 
 pub index-seq-requires : goal.index-seq-requires
 index-seq-requires c =
@@ -32,11 +29,11 @@ index-seq-requires c =
     let a = held-many m l c.self.invariant.kept laws.holds laws.ordered in
     let b : c.args.row < held_in m =
     subst (λ (p : PhaseMachine). c.args.row < held_in p.refined.machine) (sym c.self.view_is) c.requires.row in
-    let h : c.args.row < l.count = omega (arith, a, b) in
+    let h : c.args.row < length l.held.items = omega (arith, a, b) in
     let r = core-row m l c.self.invariant.kept laws.holds laws.ordered c.args.k c.args.row h c.index-core.result.now c.index-core.ensures in
     omega (arith, r, l.asked.ok)
 
-below : (c : goal.After-stands_before) → c.args.row < c.self.inside.ledger.count
+below : (c : goal.After-stands_before) → c.args.row < length c.self.inside.ledger.held.items
 below c =
     let m : Machine = c.self.inside.refined.machine in
     let l : Ledger = c.self.inside.ledger in

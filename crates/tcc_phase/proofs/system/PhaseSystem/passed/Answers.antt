@@ -1,5 +1,5 @@
 -- The search ends where both numbers meet.
-use Rattle.std.proofs.Common.{◌≡◌, ◌+◌, ◌≤◌, subst, arith}
+use Rattle.std.proofs.Common.{◌≡◌, ◌+◌, ◌≤◌, subst, arith, length}
 use Rattle.net_core.specs.Machine.{Machine}
 use Rattle.tcc_phase.specs.Choosing.{held_in, passed_by}
 use Rattle.tcc_phase.specs.Phased.{PhaseMachine}
@@ -10,10 +10,10 @@ pub loop-low-init : goal.loop-low-init
 loop-low-init c =
     let m : Machine = c.args.self.now.refined.machine in
     let laws = c.useful_events_are_listed.ensures in
-    let a : held_in m ≡ c.self.inside.ledger.count =
-    subst (λ (p : PhaseMachine). held_in p.refined.machine ≡ c.self.inside.ledger.count) c.self.view_is
+    let a : held_in m ≡ length c.self.inside.ledger.held.items =
+    subst (λ (p : PhaseMachine). held_in p.refined.machine ≡ length c.self.inside.ledger.held.items) c.self.view_is
     (held-many c.self.inside.refined.machine c.self.inside.ledger c.self.invariant.kept laws.holds laws.ordered) in
-    let b = at-most-held m (c.args.k + c.self.inside.ledger.count + 1) in
+    let b = at-most-held m (c.args.k + c.len-high.result + 1) in
     (omega arith, omega (arith, a), omega arith, omega (arith, a, b))
 
 pub is_passed-requires-clause-few : goal.is_passed-requires-clause-few

@@ -10,11 +10,11 @@ use Rattle.net_core.specs.declared.taking.Step.{Step as Told}
 use Rattle.net_core.specs.declared.taking.StepError.TheVariants.{Refused}
 use Rattle.tcc_phase.specs.Answers.{cause_of, next_of}
 use Rattle.tcc_phase.specs.Kept.{IsKept}
-use Rattle.tcc_phase.specs.Ledger.{IsListed}
+use Rattle.tcc_phase.specs.Ledger.{IsListed, StillHolds}
 use Rattle.tcc_phase.specs.Phased.{PhaseMachine}
 use Rattle.tcc_phase.specs.declared.ledger.Ledger.{Ledger}
-use Rattle.tcc_phase.proofs.Holding.{even-by, free-in, goes, refused-as, refused-so, rows-by}
-use Rattle.tcc_phase.proofs.Keeping.Kept.{Noted, in-phases-of, kept-each, kept-next, now-listed, now-rising, phased-after}
+use Rattle.tcc_phase.proofs.Holding.{free-in, goes, refused-as, refused-so, rows-by}
+use Rattle.tcc_phase.proofs.Keeping.Kept.{Noted, in-phases-of, kept-each, kept-next, now-listed, now-rising, phased-after, still-so}
 use Rattle.tcc_phase.proofs.system.PhaseSystem.step.Goals as goal
 
 -- the event isn't held back
@@ -57,8 +57,12 @@ same-code c = ap (λ (x : Machine). x.cores.code) c.system-in-Ok.ensures.machine
 pub note-requires-clause-rows : goal.note-requires-clause-rows
 note-requires-clause-rows c = rows-by c.self.inside.refined.machine c.system-in-Ok.result.now c.reserve.new.self (same-code c) (kept c)
 
-pub note-requires-clause-even : goal.note-requires-clause-even
-note-requires-clause-even c = even-by c.self.inside.refined.machine c.system-in-Ok.result.now c.reserve.new.self (same-code c) (kept c)
+pub note-requires-clause-holds : goal.note-requires-clause-holds
+note-requires-clause-holds c =
+    subst (λ (x : Machine). StillHolds x (event_of c.args.e) c.in-Ok.done c.reserve.new.self) (sym c.system-in-Ok.ensures.machine)
+    (still-so c.self.inside.refined.machine c.step.new.self.machine c.self.invariant.allowed (map event_of c.self.inside.refined.taken)
+    (event_of c.args.e) c.self.invariant.phased.from (to c) c.in-Ok.done c.in-Ok.ensures.told c.an_event_acts_on_one_node.ensures
+    c.reserve.new.self (kept c) c.in-Ok.ensures.code)
 
 pub note-requires-clause-rising : goal.note-requires-clause-rising
 note-requires-clause-rising c =
@@ -93,11 +97,10 @@ invariant_of-self-in-Ok c =
     c.in-Ok.ensures.taken in
     let w = subst (λ (x : Machine). Noted x e c.in-Ok.done c.reserve.new.self c.note.new.self) c.system-in-Ok.ensures.machine (record {
       rows = c.note.ensures.rows;
-      even = c.note.ensures.even;
       asked = c.note.ensures.asked;
       notes = c.note.ensures.notes;
+      limits = c.note.ensures.limits;
       held = c.note.ensures.held;
-      count = c.note.ensures.count;
     }) in
     record {
       allowed = allowed;

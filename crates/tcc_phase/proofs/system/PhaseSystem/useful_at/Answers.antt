@@ -27,8 +27,8 @@ overflow_add-k c =
     let many = c.useful_count-all.ensures
     ∙ ap (λ (x : Machine). length (useful (settings_of x) (program_of x) (world_of x))) c.system.ensures.machine ∙ ap length (all-is m) in
     let all = useful-many m c.self.inside.ledger c.self.invariant.kept laws.holds laws.ordered in
-    let held : held_in c.args.self.now.refined.machine ≡ c.self.inside.ledger.count =
-    subst (λ (p : PhaseMachine). held_in p.refined.machine ≡ c.self.inside.ledger.count) c.self.view_is
+    let held : held_in c.args.self.now.refined.machine ≡ length c.self.inside.ledger.held.items =
+    subst (λ (p : PhaseMachine). held_in p.refined.machine ≡ length c.self.inside.ledger.held.items) c.self.view_is
     (held-many m c.self.inside.ledger c.self.invariant.kept laws.holds laws.ordered) in
     let few = c.passed.ensures.few in
     omega (arith, many, all, held, few, c.if-k-all.false, c.useful_count-all.type_inv)
@@ -40,8 +40,8 @@ passed-requires-clause-few c =
     let many = c.useful_count-all.ensures
     ∙ ap (λ (x : Machine). length (useful (settings_of x) (program_of x) (world_of x))) c.system.ensures.machine ∙ ap length (all-is m) in
     let all = useful-many m c.self.inside.ledger c.self.invariant.kept laws.holds laws.ordered in
-    let held : held_in c.args.self.now.refined.machine ≡ c.self.inside.ledger.count =
-    subst (λ (p : PhaseMachine). held_in p.refined.machine ≡ c.self.inside.ledger.count) c.self.view_is
+    let held : held_in c.args.self.now.refined.machine ≡ length c.self.inside.ledger.held.items =
+    subst (λ (p : PhaseMachine). held_in p.refined.machine ≡ length c.self.inside.ledger.held.items) c.self.view_is
     (held-many m c.self.inside.ledger c.self.invariant.kept laws.holds laws.ordered) in
     omega (arith, many, all, held, c.if-k-all.false, c.useful_count-all.type_inv)
 

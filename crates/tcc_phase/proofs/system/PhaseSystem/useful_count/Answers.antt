@@ -6,7 +6,8 @@ use Rattle.tcc_phase.specs.Phased.{useful_in}
 use Rattle.tcc_phase.proofs.Rows.{all-is, useful-many}
 use Rattle.tcc_phase.proofs.system.PhaseSystem.useful_count.Goals as goal
 
-many : (c : goal.After-useful_count) → length (useful_in c.self.inside.refined.machine) + c.self.inside.ledger.count ≡ c.useful_count.result
+many : (c : goal.After-len)
+    → length (useful_in c.self.inside.refined.machine) + length c.self.inside.ledger.held.items ≡ c.useful_count.result
 many c =
     useful-many c.self.inside.refined.machine c.self.inside.ledger c.self.invariant.kept c.useful_events_are_listed.ensures.holds
     c.useful_events_are_listed.ensures.ordered

@@ -1,0 +1,58 @@
+// The machine takes an event.
+ghost use Rattle.std.specs.Prelude.{◌≡◌, ◌<◌, true};
+ghost use Rattle.tcc_rules.specs.Attempt.{is_solo};
+ghost use Rattle.bus_rules.specs.State.{Exec};
+ghost use Rattle.bus_tcc.specs.Answers.{Answers};
+ghost use Rattle.bus_tcc.specs.Machine.{bus_event_of, bus_settings_of, bus_world_of};
+
+use crate::ending::is_alone;
+use crate::event::{BusError, BusEvent, BusStep};
+use crate::system::BusSystem;
+use tcc_base::CoreId;
+
+impl BusSystem {
+    /// A core that is alone executes, or commits where its transaction ends.
+    fn exec_alone(&mut self, core: CoreId) -> Result<BusStep, BusError>
+        requires few { self.old.events < 4194304 }
+        requires exists { core.0 < (bus_settings_of self.old).cores }
+        requires alone { is_solo ((bus_world_of self.old).cores core.0).phase ≡ true }
+        ensures { Answers self.old self.new (Exec core.0) result }
+    {
+        if self.cores.ends(core) {
+            self.publish(core)
+        } else {
+            self.execute(core)
+        }
+    }
+
+    /// A core executes, or commits where its transaction ends or has ended.
+    fn exec(&mut self, core: CoreId) -> Result<BusStep, BusError>
+        requires { self.old.events < 4194304 }
+        ensures { Answers self.old self.new (Exec core.0) result }
+    {
+        if core.0 >= self.config().cores() {
+            return Err(BusError::Refused);
+        }
+        if is_alone(self.cores.core(core).phase()) {
+            self.exec_alone(core)
+        } else {
+            self.exec_together(core)
+        }
+    }
+
+    /// Takes an event: Refused exactly where it isn't enabled, so also where it names a core, set or way that doesn't exist; Memory
+    /// where it is, but memory is wanting. After an error the machine is as before. Fewer than 4,194,304 events were taken before it.
+    ///
+    /// Takes constant time, but for a commit, which takes time in RAM's lines and in the cache's frames, a core that goes alone or begins
+    /// anew, which takes time in the cache's frames, and a Take, which takes time in the packet's lines.
+    pub fn step(&mut self, event: BusEvent) -> Result<BusStep, BusError>
+        requires { self.old.events < 4194304 }
+        ensures { Answers self.old self.new (bus_event_of event) result }
+    {
+        match event {
+            BusEvent::Exec(core) => self.exec(core),
+            BusEvent::Evict(core, set, way) => self.evict(core, set, way),
+            BusEvent::Take(core) => self.take(core),
+        }
+    }
+}

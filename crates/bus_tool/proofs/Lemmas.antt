@@ -1,0 +1,2 @@
+-- What other crates may cite.
+pub use Rattle.bus_tool.proofs.Told.{reports-as-done}

@@ -1,0 +1,495 @@
+// Whole machines: from raw images, by events, to what the commits leave.
+ghost use Rattle.std.specs.Prelude.{◌≡◌, ◌≤◌, length, IfOk};
+
+use directory::LineState;
+use image_load::{load, raw};
+use net_core::{Step, StepError, System};
+use std::alloc::Global;
+use std::test::Fail;
+use tcc_base::{Config, CoreEnd, CoreId, DirId, LineAddr, List, Mask, NodeId, Tid, WordAddr};
+use tcc_msg::{Event, Name};
+
+const C0: NodeId = NodeId::Core(CoreId(0));
+
+const C1: NodeId = NodeId::Core(CoreId(1));
+
+const D0: NodeId = NodeId::Dir(DirId(0));
+
+const D1: NodeId = NodeId::Dir(DirId(1));
+
+const V: NodeId = NodeId::Vendor;
+
+// An event: a core executes, it empties a way of a set, or a message is delivered.
+macro_rules! event {
+    (e $core:literal) => {
+        Event::Exec(CoreId($core))
+    };
+    (x $core:literal $set:literal $way:literal) => {
+        Event::Evict(CoreId($core), $set, $way)
+    };
+    (d $src:ident $dst:ident $seq:literal) => {
+        Event::Deliver(Name {
+            src: $src,
+            dst: $dst,
+            seq: $seq,
+        })
+    };
+}
+
+macro_rules! events {
+    ($(($($part:tt)*))*) => {
+        [$(event!($($part)*)),*]
+    };
+}
+
+// lui x6,0x80000; sw x11,64(x6); ecall
+const STORES_16: [u32; 3] = [0x8000_0337, 0x04b3_2023, 0x0000_0073];
+// lui x6,0x80000; sw x11,96(x6); ecall
+const STORES_24: [u32; 3] = [0x8000_0337, 0x06b3_2023, 0x0000_0073];
+// lui x6,0x80000; lw x5,96(x6); sw x5,64(x6); ecall
+const COPIES_24_TO_16: [u32; 4] = [0x8000_0337, 0x0603_2283, 0x0453_2023, 0x0000_0073];
+// lui x6,0x80000; lw x5,96(x6); sw x11,64(x6); ecall
+const READS_24_STORES_16: [u32; 4] = [0x8000_0337, 0x0603_2283, 0x04b3_2023, 0x0000_0073];
+// lui x6,0x80000; lw x5,96(x6); bnez x5,past the next; ebreak; ecall
+const BREAKS_AT_ZERO: [u32; 5] = [
+    0x8000_0337,
+    0x0603_2283,
+    0x0002_9463,
+    0x0010_0073,
+    0x0000_0073,
+];
+// lui x6,0x80000; sw x6,128(x6); ecall
+const STORES_32: [u32; 3] = [0x8000_0337, 0x0863_2023, 0x0000_0073];
+// lui x6,0x80000; sw x11,128(x6); and so on for the seven words behind; ecall
+const STORES_32_TO_39: [u32; 10] = [
+    0x8000_0337,
+    0x08b3_2023,
+    0x08b3_2223,
+    0x08b3_2423,
+    0x08b3_2623,
+    0x08b3_2823,
+    0x08b3_2a23,
+    0x08b3_2c23,
+    0x08b3_2e23,
+    0x0000_0073,
+];
+// addi x5,x0,7; lui x6,0x80000; sw x5,64(x6); ecall; addi x17,x0,93; ecall
+const STORES_SEVEN_AND_HALTS: [u32; 6] = [
+    0x0070_0293,
+    0x8000_0337,
+    0x0453_2023,
+    0x0000_0073,
+    0x05d0_0893,
+    0x0000_0073,
+];
+
+// A store beside a copy of what it stores.
+const STORE_AND_COPY: [&[u32]; 2] = [&STORES_24, &COPIES_24_TO_16];
+
+// The second core gets TID 2 first and commits first; then the first core commits TID 1.
+const CROSSED: [Event; 17] = events![
+    (e 0) (e 0) (e 0) (d C0 V 0) (e 1) (e 1) (e 1) (d C1 V 0) (d V C1 0) (d V C0 0) (d C0 D1 0)
+    (d C1 D1 0) (d D1 C1 0) (e 1) (d C0 D0 0) (d D0 C0 0) (e 0)
+];
+
+// The second core has read what TID 1 stores to: its Probe waits, it is violated, and its Mark comes after its Abort.
+const READER_WAITS: [Event; 27] = events![
+    (e 1) (e 1) (d C1 D1 0) (d D1 C1 0) (e 1) (e 1) (e 0) (e 0) (e 0) (d C0 V 0) (e 1) (d C1 V 0)
+    (d V C0 0) (d C0 D0 0) (d V C1 0) (d C1 D0 0) (d D0 C1 0) (d C1 D1 1) (d C0 D1 0) (d D1 C0 0)
+    (e 0) (d C0 D1 1) (d C0 D1 2) (d D1 C1 1) (d C1 D1 3) (d C1 D0 2) (d C1 D0 1)
+];
+
+// TID 2 stores to what TID 1 has read before, and commits only when TID 1 has.
+const OVER_A_READ: [Event; 26] = events![
+    (e 0) (e 0) (d C0 D1 0) (d D1 C0 0) (e 0) (e 0) (e 0) (d C0 V 0) (d V C0 0) (d C0 D1 1)
+    (d C0 D1 2) (e 1) (e 1) (e 1) (d C1 V 0) (d V C1 0) (d C1 D1 0) (d D1 C1 0) (e 1) (d C1 D1 1)
+    (d C1 D1 2) (d D1 C0 2) (d C0 D0 0) (d D0 C0 0) (d D1 C0 1) (e 0)
+];
+
+// The second core is violated while it waits for a TID, by an attempt that hit an EBREAK.
+const DOOMED: [Event; 20] = events![
+    (e 1) (e 1) (d C1 D1 0) (d D1 C1 0) (e 1) (e 1) (e 1) (e 0) (e 0) (e 0) (d C0 V 0) (d V C0 0)
+    (d C0 D1 0) (d D1 C0 0) (e 0) (d C0 D1 1) (d C0 D1 2) (d D1 C1 1) (d C1 V 0) (d V C1 0)
+];
+
+// An invalidation overtakes the words that the second core asked for; it asks again, and the owner sends its words home first.
+const BEFORE_THE_FILL: [Event; 33] = events![
+    (e 1) (e 1) (d C1 D1 0) (e 0) (e 0) (e 0) (d C0 V 0) (d V C0 0) (d C0 D1 0) (d D1 C0 0) (e 0)
+    (d C0 D1 1) (d C0 D1 2) (d D1 C1 1) (d C1 D1 1) (d D1 C1 0) (e 1) (d C1 D1 2) (d D1 C0 1)
+    (d C0 D1 3) (d C1 D1 2) (d D1 C1 2) (e 1) (e 1) (e 1) (d C1 V 0) (d V C1 0) (d C0 D0 0)
+    (d C1 D0 0) (d D0 C1 0) (d C1 D1 4) (d D1 C1 3) (e 1)
+];
+
+// The second core stores to a whole line that the first wrote; the first's words come home too late, and are dropped.
+const WHOLE_LINE: [Event; 32] = events![
+    (e 0) (e 0) (e 0) (d C0 V 0) (d V C0 0) (d C0 D0 0) (d D0 C0 0) (e 0) (d C0 D0 1) (d C0 D0 2)
+    (x 0 4 0) (e 1) (e 1) (e 1) (e 1) (e 1) (e 1) (e 1) (e 1) (e 1) (e 1) (d C1 V 0) (d V C1 0)
+    (d C1 D0 0) (d D0 C1 0) (e 1) (d C1 D0 1) (d C1 D0 2) (d C0 D0 3) (d D0 C0 1) (x 1 4 0)
+    (d C1 D0 3)
+];
+
+// The beginning of READER_WAITS, and then the Probe that waits there.
+const EARLY_PROBE: [Event; 19] = events![
+    (e 1) (e 1) (d C1 D1 0) (d D1 C1 0) (e 1) (e 1) (e 0) (e 0) (e 0) (d C0 V 0) (e 1) (d C1 V 0)
+    (d V C0 0) (d C0 D0 0) (d V C1 0) (d C1 D0 0) (d D0 C1 0) (d C1 D1 1) (d C1 D1 2)
+];
+
+// The beginning of WHOLE_LINE up to the first core's Commit, and then its words, which come too early.
+const EARLY_WORDS: [Event; 11] = events![
+    (e 0) (e 0) (e 0) (d C0 V 0) (d V C0 0) (d C0 D0 0) (d D0 C0 0) (e 0) (d C0 D0 1) (x 0 4 0)
+    (d C0 D0 3)
+];
+
+// The file of these words.
+fn file(alloc: Global, words: &[u32]) -> Result<List<u8>, Fail> {
+    let mut items = Vec::new(alloc);
+    for word in words {
+        items.extend_from_slice(&word.to_le_bytes())?;
+    }
+    Ok(List { items })
+}
+
+// A machine of so many cores and directories that begins with these images in turn: of 16 sets of 2 ways, with 65,536 bytes of RAM from
+// 0x80000000 on.
+fn begun(alloc: Global, cores: u64, dirs: u64, images: [&[u32]; 2]) -> Result<System, Fail>
+    ensures none_taken { IfOk result (λ s. s.events ≡ 0) }
+{
+    let cfg = Config::new(cores, dirs, 16, 2, 0x8000_0000, 65_536)?;
+    let [first, second] = images;
+    let first = file(alloc, first)?;
+    let loaded = if second.is_empty() {
+        load(alloc, &cfg, &raw(alloc, &cfg, &[first])?)?
+    } else {
+        let files = [first, file(alloc, second)?];
+        load(alloc, &cfg, &raw(alloc, &cfg, &files)?)?
+    };
+    Ok(System::start(alloc, &loaded)?)
+}
+
+// What a machine has come to, with the words 16 and 24 and the line 4 of its memory.
+#[derive(Clone, Copy, Debug, PartialEq, Eq)]
+struct Played {
+    run: Result<(), (u64, StepError)>,
+    events: u64,
+    commits: [Option<Listed>; 3],
+    pcs: [Option<u32>; 2],
+    words: [Option<u32>; 2],
+    line: Option<[u32; 8]>,
+}
+
+// The TID, core and number of instructions of a commit, and what its first load gave.
+#[derive(Clone, Copy, Debug, PartialEq, Eq)]
+struct Listed(u64, u8, u32, Option<u32>);
+
+// TID 1 of the first core, and TID 2 of the second, each of three instructions and without a load.
+const FIRST: Option<Listed> = Some(Listed(1, 0, 3, None));
+
+const SECOND: Option<Listed> = Some(Listed(2, 1, 3, None));
+
+// The k-th commit, from 0.
+fn commit(system: &System, k: usize) -> Option<Listed> {
+    let commit = system.commits().get(k)?;
+    let load = commit.loads.items.as_slice().first();
+    let value = load.map(|load| load.value);
+    Some(Listed(commit.tid.0, commit.core.0, commit.n, value))
+}
+
+// Where a core stands by its last commit.
+fn pc(system: &System, core: u8) -> Option<u32> {
+    let exists = core < system.config().cores();
+    exists.then(|| system.committed(CoreId(core)).pc())
+}
+
+// A word as it is committed.
+fn word(system: &System, w: u32) -> Option<u32> {
+    if !system.is_settled() || w >= system.config().words() {
+        return None;
+    }
+    Some(system.seen_word(WordAddr(w)))
+}
+
+// The words of a line as they are committed.
+fn line(system: &System, line: u32) -> Option<[u32; 8]> {
+    if !system.is_settled() || line >= system.config().words() / 8 {
+        return None;
+    }
+    Some(system.seen_line(LineAddr(line)))
+}
+
+// The words of a line at its home, where the machine is done.
+fn home(system: &System, line: u32) -> Option<[u32; 8]> {
+    if !system.done() || line >= system.config().words() / 8 {
+        return None;
+    }
+    Some(system.home_line(LineAddr(line)))
+}
+
+// What the machine has come to by a run that ended so.
+fn come_to(system: &System, run: Result<(), (u64, StepError)>) -> Played {
+    Played {
+        run,
+        events: system.events(),
+        commits: [commit(system, 0), commit(system, 1), commit(system, 2)],
+        pcs: [pc(system, 0), pc(system, 1)],
+        words: [word(system, 16), word(system, 24)],
+        line: line(system, 4),
+    }
+}
+
+// What a machine of two cores comes to by these events, or before the one that it doesn't take.
+fn play(alloc: Global, dirs: u64, images: [&[u32]; 2], events: &[Event]) -> Result<Played, Fail>
+    requires { length events.now ≤ 1000 }
+{
+    let mut system = begun(alloc, 2, dirs, images)?;
+    let run = system.run(events);
+    Ok(come_to(&system, run))
+}
+
+// A machine that took all of so many events, made these commits, and has no word in the line 4.
+fn all_taken(events: u64, commits: [Option<Listed>; 2], pcs: [u32; 2], words: [u32; 2]) -> Played {
+    Played {
+        run: Ok(()),
+        events,
+        commits: [commits[0], commits[1], None],
+        pcs: [Some(pcs[0]), Some(pcs[1])],
+        words: [Some(words[0]), Some(words[1])],
+        line: Some([0; 8]),
+    }
+}
+
+// The useful events, where all that was sent stands on its links.
+fn useful(alloc: Global, system: &System) -> Result<List<Event>, Fail> {
+    if !system.is_settled() {
+        return Err("some messages don't stand on their links")?;
+    }
+    Ok(system.useful(alloc)?)
+}
+
+// Whether one event is useful.
+fn is_useful(system: &System, e: Event) -> Option<bool> {
+    if !system.is_settled() {
+        return None;
+    }
+    Some(system.is_useful(e))
+}
+
+// The TID that a directory serves, how many lines it has marked, and what the home of a line knows of it.
+fn known(system: &System, dir: u8, line: u32) -> Option<(u64, u32, LineState)> {
+    if dir >= system.config().dirs() || line >= system.config().words() / 8 {
+        return None;
+    }
+    let dir = DirId(dir);
+    let state = system.line_state(LineAddr(line));
+    Some((system.serving(dir).0, system.marked_lines(dir), state))
+}
+
+// Takes the useful event of number 0, where there is one.
+fn take_first(system: &mut System) -> Option<Result<Step, StepError>> {
+    if !system.is_settled() || system.events() >= 1_000 {
+        return None;
+    }
+    let e = system.useful_at(0)?;
+    Some(system.step(e))
+}
+
+// Takes the useful event of number 0, and so on while there is one.
+fn take_all(system: &mut System) -> Result<(), StepError> {
+    for _ in 0..100 {
+        let Some(done) = take_first(system) else {
+            break;
+        };
+        done?;
+    }
+    Ok(())
+}
+
+// What a machine of one core and one directory comes to, and the words of line 2 at its home where it is done; and how the core ended,
+// before the first event and then.
+fn played_out(
+    alloc: Global,
+    image: &[u32],
+) -> Result<(Played, Option<[u32; 8]>, [CoreEnd; 2]), Fail> {
+    let mut system = begun(alloc, 1, 1, [image, &[]])?;
+    let before = system.ended(CoreId(0));
+    take_all(&mut system)?;
+    Ok((
+        come_to(&system, Ok(())),
+        home(&system, 2),
+        [before, system.ended(CoreId(0))],
+    ))
+}
+
+#[test]
+fn the_useful_events_lead_to_the_end(rt: HostRuntime) -> Result<(), Fail> {
+    let (played, home, ends) = played_out(rt.alloc(), &STORES_SEVEN_AND_HALTS)?;
+    let commits = [Some(Listed(1, 0, 4, None)), Some(Listed(2, 0, 2, None))];
+    let taken = all_taken(19, commits, [0x8000_0014, 0], [7, 0]);
+    let pcs = [taken.pcs[0], None];
+    assert_eq!(rt; played, Played { pcs, ..taken });
+    assert_eq!(rt; home, Some([7, 0, 0, 0, 0, 0, 0, 0]));
+    assert_eq!(rt; ends, [CoreEnd::Run, CoreEnd::Halt(0)]);
+    Ok(())
+}
+
+// After these events of two cores and two directories: the useful events, and whether each of those that are asked for is one.
+fn told_after(
+    alloc: Global,
+    images: [&[u32]; 2],
+    events: &[Event],
+    asked: [Event; 3],
+) -> Result<(List<Event>, [Option<bool>; 3]), Fail>
+    requires { length events.now ≤ 1000 }
+{
+    let mut system = begun(alloc, 2, 2, images)?;
+    let _ = system.run(events);
+    let told = asked.map(|e| is_useful(&system, e));
+    Ok((useful(alloc, &system)?, told))
+}
+
+#[test]
+fn useful_events_are_told_from_others(rt: HostRuntime) -> Result<(), Fail> {
+    let (listed, told) = told_after(
+        rt.alloc(),
+        [&STORES_16, &STORES_24],
+        &CROSSED[..14],
+        events![(x 1 3 0) (x 0 2 0) (e 0)],
+    )?;
+    assert_eq!(rt;
+        listed.items.as_slice(),
+        events![(e 1) (x 1 3 0) (d C0 D0 0) (d C1 D0 0) (d C1 D1 1)].as_slice()
+    );
+    assert_eq!(rt; told, [Some(true), Some(false), Some(false)]);
+    Ok(())
+}
+
+// After these events of two cores and two directories: what is known at a directory, and of a line.
+fn known_after(
+    alloc: Global,
+    images: [&[u32]; 2],
+    events: &[Event],
+    dir: u8,
+    line: u32,
+) -> Result<Option<(u64, u32, LineState)>, Fail>
+    requires { length events.now ≤ 1000 }
+{
+    let mut system = begun(alloc, 2, 2, images)?;
+    match system.run(events) {
+        Ok(()) => Ok(known(&system, dir, line)),
+        Err(_) => Ok(None),
+    }
+}
+
+#[test]
+fn a_home_tells_of_its_line(rt: HostRuntime) -> Result<(), Fail> {
+    let marked = LineState {
+        mark: Mask(1),
+        owner: None,
+        asked: false,
+        tag: Tid(0),
+    };
+    assert_eq!(rt;
+        known_after(rt.alloc(), STORE_AND_COPY, &READER_WAITS[..22], 1, 3)?,
+        Some((1, 1, marked))
+    );
+    Ok(())
+}
+
+#[test]
+fn a_later_tid_commits_first_at_another_directory(rt: HostRuntime) -> Result<(), Fail> {
+    let images: [&[u32]; 2] = [&STORES_16, &STORES_24];
+    assert_eq!(rt;
+        play(rt.alloc(), 2, images, &CROSSED[..14])?,
+        all_taken(14, [SECOND, None], [0x8000_0000, 0x8000_002c], [0, 2])
+    );
+    // Commits are listed by TID.
+    assert_eq!(rt;
+        play(rt.alloc(), 2, images, &CROSSED)?,
+        all_taken(17, [FIRST, SECOND], [0x8000_000c, 0x8000_002c], [2, 2])
+    );
+    Ok(())
+}
+
+#[test]
+fn a_reader_of_what_an_earlier_tid_stores_is_violated(rt: HostRuntime) -> Result<(), Fail> {
+    assert_eq!(rt;
+        play(rt.alloc(), 2, STORE_AND_COPY, &READER_WAITS)?,
+        all_taken(27, [FIRST, None], [0x8000_000c, 0x8000_0020], [0, 2])
+    );
+    Ok(())
+}
+
+#[test]
+fn a_probe_of_a_tid_that_is_not_served_waits(rt: HostRuntime) -> Result<(), Fail> {
+    let played = play(rt.alloc(), 2, STORE_AND_COPY, &EARLY_PROBE)?;
+    assert_eq!(rt; played.run, Err((18, StepError::Refused)));
+    assert_eq!(rt; played.events, 18);
+    Ok(())
+}
+
+#[test]
+fn a_later_tid_may_store_to_what_an_earlier_one_read(rt: HostRuntime) -> Result<(), Fail> {
+    assert_eq!(rt;
+        play(
+            rt.alloc(),
+            2,
+            [&READS_24_STORES_16, &STORES_24],
+            &OVER_A_READ
+        )?,
+        all_taken(
+            26,
+            [Some(Listed(1, 0, 4, Some(0))), SECOND],
+            [0x8000_0010, 0x8000_002c],
+            [2, 2]
+        )
+    );
+    Ok(())
+}
+
+#[test]
+fn a_violated_attempt_leaves_no_trap(rt: HostRuntime) -> Result<(), Fail> {
+    assert_eq!(rt;
+        play(rt.alloc(), 2, [&STORES_24, &BREAKS_AT_ZERO], &DOOMED)?,
+        all_taken(20, [FIRST, None], [0x8000_000c, 0x8000_0020], [0, 2])
+    );
+    Ok(())
+}
+
+#[test]
+fn words_that_an_invalidation_overtook_are_asked_for_again(rt: HostRuntime) -> Result<(), Fail> {
+    assert_eq!(rt;
+        play(rt.alloc(), 2, STORE_AND_COPY, &BEFORE_THE_FILL)?,
+        all_taken(
+            33,
+            [FIRST, Some(Listed(2, 1, 4, Some(2)))],
+            [0x8000_000c, 0x8000_0030],
+            [2, 2]
+        )
+    );
+    Ok(())
+}
+
+#[test]
+fn words_of_an_earlier_commit_that_come_home_late_are_dropped(rt: HostRuntime) -> Result<(), Fail> {
+    let taken = all_taken(
+        32,
+        [FIRST, Some(Listed(2, 1, 10, None))],
+        [0x8000_000c, 0x8000_0048],
+        [STORES_32_TO_39[8], 0],
+    );
+    assert_eq!(rt;
+        play(rt.alloc(), 1, [&STORES_32, &STORES_32_TO_39], &WHOLE_LINE)?,
+        Played {
+            line: Some([2; 8]),
+            ..taken
+        }
+    );
+    Ok(())
+}
+
+#[test]
+fn words_do_not_come_home_before_their_commit(rt: HostRuntime) -> Result<(), Fail> {
+    let played = play(rt.alloc(), 1, [&STORES_32, &STORES_32_TO_39], &EARLY_WORDS)?;
+    assert_eq!(rt; played.run, Err((10, StepError::Refused)));
+    assert_eq!(rt; played.events, 10);
+    Ok(())
+}

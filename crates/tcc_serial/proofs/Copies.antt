@@ -1,0 +1,13 @@
+-- The copies of a line and its tag: in frames, on their way home, and of commits on their way.
+pub mod WroteLines
+pub mod TagsKept
+pub mod DirtyFrames
+pub mod CopyFacts
+pub mod LinesStep
+pub mod LinesKept
+pub mod AnswerCopies
+pub mod DirCopies
+pub mod PairCopies
+pub mod CopyRules
+pub mod CoreCopies
+pub mod CopySends

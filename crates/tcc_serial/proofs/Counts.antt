@@ -1,0 +1,5 @@
+-- What is counted: messages on their links, and sums over the cores; and what is to be shown of an event, by its kind.
+pub mod Links
+pub mod StepCases
+pub mod DirOutcome
+pub mod Inside

@@ -1,0 +1,21 @@
+-- Marked lines, their masks and how many a Commit counts; and what a commit stored of them.
+pub mod CoreMarks
+pub mod CoreMarking
+pub mod CoreMarkingTakes
+pub mod DirMarks
+pub mod MarksKept
+pub mod StoredMasks
+pub mod CoreMasks
+pub mod MasksKept
+pub mod CommitMasks
+pub mod StoredKept
+pub mod PartlyMarkedUnowned
+pub mod NamedKept
+pub mod CoreCounts
+pub mod OwesByCommit
+pub mod CountsKept
+pub mod ReadsKept
+pub mod CoreAfter
+pub mod AfterKept
+pub mod DirRecords
+pub mod MaskLaws

@@ -1,0 +1,203 @@
+-- What a core has marked, or marks, by a TID that it commits is what the commit stored.
+use Rattle.tcc_serial.proofs.Names.{ℕ, ◌+◌, ◌≡◌, ◌≤◌, Bool, true, false, not, List, [], ◌∷◌, ◌++◌, ◌==◌, ◌&&◌, Some, IfSome, nat_lt}
+use Rattle.tcc_serial.proofs.Names.{if◌then◌else◌, flat_map, arith, refl, sym, ap, ◌∙◌, ◌⊎◌, inl, inr, nat_tests, Noted, Program, num}
+use Rattle.tcc_serial.proofs.Names.{those, any_below, count_below, Dir, Msg, Skip, Mark, Commit, WriteBack, ProbeReply, Fill, DataReq}
+use Rattle.tcc_serial.proofs.Names.{Inv, Shape, home, lines, Cache, is_modified, modified_mask, writes_at, Spilled, holds, spilled_mask}
+use Rattle.tcc_serial.proofs.Names.{spilled_words, CoreState, Phase, Ready, Solo, Out, noted, commit, commit_sends, solo_sends}
+use Rattle.tcc_serial.proofs.Names.{solo_marks, solo_backs, solo_writes_at, is_written, written_mask, core_exec, core_evict, from_dir}
+use Rattle.tcc_serial.proofs.Names.{probe_reply, fill, data_request, invalidate, Commits, AnyCommit, CommitOf, MarkOf, MarkMask, among}
+use Rattle.tcc_serial.proofs.Names.{passes, has_marked, stores_line, marked_by, OneCore, stores_in, stored_mask, stores_at, has_tid}
+use Rattle.tcc_serial.proofs.Names.{nothing, stored}
+use Rattle.tcc_serial.proofs.Counts.Links.{among-append, among-flat_map_none}
+use Rattle.tcc_serial.proofs.OneCore.Executes.{Steady, Executed, Goes_on, Overflows, Asks_tid, Alone, did-executed}
+use Rattle.tcc_serial.proofs.OneCore.CoreSteps.{fill-steady, data-steady, invalidate-cases, reply-cases, steady-emptied}
+use Rattle.tcc_serial.proofs.Serving.CoreCommits.{few-commits}
+use Rattle.tcc_serial.proofs.Serving.CommitOwners.{few-of}
+use Rattle.tcc_serial.proofs.Marks.CoreCounts.{is-commit, is-alone, has-solo, no-commits, free-hurt, free-replied}
+use Rattle.tcc_serial.proofs.Marks.CoreMarking.{mine, told-commit, has-ready}
+use Rattle.tcc_serial.proofs.Marks.CoreMarkingTakes.{unmarked}
+use Rattle.tcc_serial.proofs.Marks.CoreMasks.{own-mask, few-masked}
+use Rattle.tcc_serial.proofs.OneCore.NotedCommits.{Notes, did-notes}
+use Rattle.tcc_serial.proofs.Marks.StoredMasks.{unspilled, stored-line, stored-any, stored-cases, modified-line, modified-stored}
+use Rattle.tcc_serial.proofs.Marks.StoredMasks.{written-line, written-stored}
+use Rattle.tcc_serial.proofs.OneCore.Said.{quiet}
+use Rattle.tcc_serial.proofs.OneCore.Outcomes.{Commits_now, Did, each-exec, out, each-evict, emptied}
+
+-- A core notes a commit that stored at the directory, and what this stored are the masks of the Marks that it has sent, and of those that it sends with it.
+pub record Storing (sh : Shape) (c d t : ℕ) (s : CoreState) (o : Out) : Type 0 where
+  pub commit : Noted
+  pub noted : o.commit ≡ Some commit
+  pub tid : commit.tid.0 ≡ t
+  pub core : commit.core.0 ≡ c
+  pub held : has_tid s.phase t ≡ true
+  pub stored : stores_at sh d commit.stores ≡ true
+  pub marks : (l : ℕ) → among (MarkOf t l) (o.sends (Dir d)) + marked_by sh s d l ≡ num (nat_lt 0 (stored_mask sh d commit.stores l))
+  pub right : (l : ℕ) → among (MarkMask t l (stored_mask sh d commit.stores l)) (o.sends (Dir d)) ≡ 0
+  pub before : (l : ℕ) → (marked_by sh s d l ≡ 0) ⊎ (stored_mask sh d commit.stores l ≡ modified_mask s.cache l)
+
+-- it does where it sends a Commit
+abbrev pub StoresAll : Shape → (core dir tid : ℕ) → CoreState → Out → Type 0
+StoresAll sh c d t s o = 1 ≤ among (Commits t) (o.sends (Dir d)) → Storing sh c d t s o
+
+-- no Commit is sent
+storing-none : (sh : Shape) (c d t : ℕ) (s : CoreState) (o : Out) → among AnyCommit (o.sends (Dir d)) ≡ 0 → StoresAll sh c d t s o
+storing-none sh c d t s o z x = absurd (omega (arith, x, z, few-of t (o.sends (Dir d))))
+
+storing-steady : (sh : Shape) (c d t : ℕ) (s : CoreState) (o : Out) → Steady s o → StoresAll sh c d t s o
+storing-steady sh c d t s o y = storing-none sh c d t s o (omega (arith, few-commits (o.sends (Dir d)), y.quiet d))
+
+-- a Commit counts something
+abbrev count_of : Msg → ℕ
+count_of (Commit u n) = n
+count_of _ = 0
+
+of-count : (t : ℕ) (m : Msg) → num (passes (Commits t) m) ≤ num (passes (CommitOf t (count_of m)) m)
+unfolding passes
+of-count t m = grind (arith, nat_tests)
+
+commit-some : (t : ℕ) (ms : List Msg) → 1 ≤ among (Commits t) ms → (n : ℕ) × (1 ≤ among (CommitOf t n) ms)
+unfolding among
+commit-some t [] x = absurd (omega (arith, x))
+commit-some t (m ∷ ms) x = go (passes (Commits t) m) refl (commit-some t ms)
+  where
+    go : (b : Bool) → passes (Commits t) m ≡ b → (1 ≤ among (Commits t) ms → (n : ℕ) × (1 ≤ among (CommitOf t n) ms)) → (n : ℕ) × (1 ≤ num (passes (CommitOf t n) m) + among (CommitOf t n) ms)
+    go true q f = let o : num (passes (Commits t) m) ≡ 1 = ap num q in (count_of m, omega (arith, o, of-count t m))
+    go false q f = let o : num (passes (Commits t) m) ≡ 0 = ap num q in let r = f (omega (arith, o, x)) in (r.0, omega (arith, r.1))
+
+-- a core whose directories are all ready has marked what its stores name
+
+commit-writes : (sh : Shape) (c : Cache) (u d t : ℕ) → 1 ≤ among (Commits t) (commit_sends sh c u (Dir d)) → any_below (λ l. d == home sh l && is_modified c l) (lines sh) ≡ true
+unfolding commit_sends writes_at among passes
+commit-writes sh c u d t x = grind (arith, nat_tests)
+
+storing-ready : (sh : Shape) (c d t u : ℕ) (s : CoreState) → s.phase ≡ Ready u → OneCore sh s → StoresAll sh c d t s (commit sh c u s)
+unfolding commit noted marked_by has_marked stores_line
+storing-ready sh c d t u s ph h x = record {
+  commit = noted u c s;
+  noted = refl;
+  tid = same;
+  core = refl;
+  held = mine u t s.phase (has-ready u s.phase ph) same;
+  stored = sym (stored-any sh d s.stores (λ l. d == home sh l && is_modified s.cache l) line) ∙ commit-writes sh s.cache u d t x;
+  marks = marks;
+  right = λ l. omega (arith, few-masked t l (stored_mask sh d s.stores l) (commit_sends sh s.cache u (Dir d)), (told-commit sh s.cache u d t l).1);
+  before = λ l. before l (stored-cases sh d s.stores l);
+}
+  where
+    sent : (n : ℕ) × (1 ≤ among (CommitOf t n) (commit_sends sh s.cache u (Dir d)))
+    sent = commit-some t (commit_sends sh s.cache u (Dir d)) x
+
+    same : u ≡ t
+    same = (is-commit sh s.cache u d t sent.0 (sent.1)).0
+
+    owing : s.owing d ≡ false
+    owing = h.owing d (rw ph refl)
+
+    line : (l : ℕ) → num (nat_lt l (lines sh) && (d == home sh l && is_modified s.cache l)) ≡ num (nat_lt 0 (stored_mask sh d s.stores l))
+    line l = rw (modified-line sh.base s.cache s.stores l (unspilled sh s.cache s.spilled s.stores (rw ph at (h.words)))) (stored-line sh d s.stores l)
+
+    marks : (l : ℕ) → among (MarkOf t l) (commit_sends sh s.cache u (Dir d)) + num (has_marked s.phase && (not (s.owing d) && (nat_lt l (lines sh) && (d == home sh l && is_modified s.cache l)))) ≡ num (nat_lt 0 (stored_mask sh d s.stores l))
+    marks l = rw (ph, owing) (omega (arith, (told-commit sh s.cache u d t l).1, line l))
+
+    before : (l : ℕ) → (stored_mask sh d s.stores l ≡ stores_in sh.base s.stores l) ⊎ (stored_mask sh d s.stores l ≡ 0) → (num (has_marked s.phase && (not (s.owing d) && (nat_lt l (lines sh) && (d == home sh l && is_modified s.cache l)))) ≡ 0) ⊎ (stored_mask sh d s.stores l ≡ modified_mask s.cache l)
+    before l (inl e) = inr (e ∙ modified-stored sh.base s.cache s.stores l (unspilled sh s.cache s.spilled s.stores (rw ph at (h.words))))
+    before l (inr e) = let z : num (nat_lt 0 (stored_mask sh d s.stores l)) ≡ 0 = rw e refl in inl (omega (arith, marks l, z))
+
+-- a core alone marks what its stores name
+
+alone-masked : (sh : Shape) (c : Cache) (sp : Spilled) (u d t l : ℕ) → among (MarkMask t l (written_mask c sp l)) (solo_sends sh c sp u (Dir d)) ≡ 0
+unfolding solo_sends solo_marks solo_backs among passes
+alone-masked sh c sp u d t l = go (nat_lt d sh.dirs) (solo_writes_at sh c sp d)
+  where
+    p : ℕ → Bool
+    p k = d == home sh k && is_written c sp k
+
+    backs : among (MarkMask t l (written_mask c sp l)) (solo_backs sh sp u d) ≡ 0
+    backs = among-flat_map_none (MarkMask t l (written_mask c sp l)) (λ k. WriteBack k (spilled_mask sp k) (spilled_words sp k) u ∷ []) (λ k. refl) (those (λ k. d == home sh k && holds sp k) (lines sh))
+
+    marks : among (MarkMask t l (written_mask c sp l)) (flat_map (λ k. Mark k (written_mask c sp k) u ∷ []) (those p (lines sh))) ≡ 0
+    marks = among-flat_map_none (MarkMask t l (written_mask c sp l)) (λ k. Mark k (written_mask c sp k) u ∷ []) (λ k. omega (arith, own-mask (written_mask c sp) t u l k)) (those p (lines sh))
+
+    go : (a w : Bool) → among (MarkMask t l (written_mask c sp l)) (if a then (if w then flat_map (λ k. Mark k (written_mask c sp k) u ∷ []) (those p (lines sh)) ++ Commit u (count_below p (lines sh)) ∷ [] else Skip u ∷ []) ++ solo_backs sh sp u d else []) ≡ 0
+    go false w = refl
+    go true false = rw (among-append, backs) (omega arith)
+    go true true = rw (among-append, among-append, backs, marks) (omega arith)
+
+alone-writes : (sh : Shape) (c : Cache) (sp : Spilled) (u d t : ℕ) → 1 ≤ among (Commits t) (solo_sends sh c sp u (Dir d)) → any_below (λ l. d == home sh l && is_written c sp l) (lines sh) ≡ true
+unfolding solo_sends solo_marks solo_backs solo_writes_at among passes
+alone-writes sh c sp u d t x = go (nat_lt d sh.dirs) (any_below p (lines sh)) x
+  where
+    p : ℕ → Bool
+    p k = d == home sh k && is_written c sp k
+
+    backs : among (Commits t) (solo_backs sh sp u d) ≡ 0
+    backs = among-flat_map_none (Commits t) (λ k. WriteBack k (spilled_mask sp k) (spilled_words sp k) u ∷ []) (λ k. refl) (those (λ k. d == home sh k && holds sp k) (lines sh))
+
+    go : (a w : Bool) → 1 ≤ among (Commits t) (if a then (if w then flat_map (λ k. Mark k (written_mask c sp k) u ∷ []) (those p (lines sh)) ++ Commit u (count_below p (lines sh)) ∷ [] else Skip u ∷ []) ++ solo_backs sh sp u d else []) → w ≡ true
+    go true true y = refl
+    go true false y = absurd (omega (arith, y, among-append (Commits t) (Skip u ∷ []) (solo_backs sh sp u d), backs))
+    go false w y = absurd (omega (arith, y))
+
+alone : (u : ℕ) (q : Phase) → q ≡ Solo u → has_marked q ≡ false
+unfolding has_marked
+alone u q e = rw e refl
+
+storing-alone : (sh : Shape) (c d t u : ℕ) (s r : CoreState) (o : Out) → s.phase ≡ Solo u → o.commit ≡ Some (noted u c r) → r.stores ≡ s.stores → o.sends ≡ solo_sends sh s.cache s.spilled u → OneCore sh s → StoresAll sh c d t s o
+unfolding noted
+storing-alone sh c d t u s r o ph cm st se h x = record {
+  commit = noted u c r;
+  noted = cm;
+  tid = same;
+  core = refl;
+  held = mine u t s.phase (has-solo u s.phase ph) same;
+  stored = rw st (sym (stored-any sh d s.stores (λ l. d == home sh l && is_written s.cache s.spilled l) line) ∙ alone-writes sh s.cache s.spilled u d t (rw se at x));
+  marks = λ l. rw (se, st) (omega (arith, marks l, nothing l));
+  right = λ l. rw (se, st) (right l (stored-cases sh d s.stores l));
+  before = λ l. inl (nothing l);
+}
+  where
+    all : List Msg
+    all = solo_sends sh s.cache s.spilled u (Dir d)
+
+    sent : (n : ℕ) × (1 ≤ among (CommitOf t n) all)
+    sent = commit-some t all (rw se at x)
+
+    same : u ≡ t
+    same = (is-alone sh s.cache s.spilled u d t sent.0 (sent.1)).0
+
+    nothing : (l : ℕ) → marked_by sh s d l ≡ 0
+    nothing l = unmarked sh s d l (alone u s.phase ph)
+
+    line : (l : ℕ) → num (nat_lt l (lines sh) && (d == home sh l && is_written s.cache s.spilled l)) ≡ num (nat_lt 0 (stored_mask sh d s.stores l))
+    line l = rw (written-line sh.base s.cache s.spilled s.stores l (h.words.named)) (stored-line sh d s.stores l)
+
+    marks : (l : ℕ) → among (MarkOf t l) all ≡ num (nat_lt 0 (stored_mask sh d s.stores l))
+    marks l = omega (arith, (is-alone sh s.cache s.spilled u d t sent.0 (sent.1)).2 l, line l)
+
+    right : (l : ℕ) → (stored_mask sh d s.stores l ≡ stores_in sh.base s.stores l) ⊎ (stored_mask sh d s.stores l ≡ 0) → among (MarkMask t l (stored_mask sh d s.stores l)) all ≡ 0
+    right l (inl e) = rw (e ∙ written-stored sh.base s.cache s.spilled s.stores l (h.words.named)) (alone-masked sh s.cache s.spilled u d t l)
+    right l (inr e) = let z : num (nat_lt 0 (stored_mask sh d s.stores l)) ≡ 0 = rw e refl in omega (arith, few-masked t l (stored_mask sh d s.stores l) all, marks l, z)
+
+storing-executed : (sh : Shape) (c d t : ℕ) (s : CoreState) (o : Out) → OneCore sh s → Executed sh c s o → Notes s o → StoresAll sh c d t s o
+unfolding noted
+storing-executed sh c d t s o h (Goes_on y) n = storing-steady sh c d t s o y
+storing-executed sh c d t s o h (Overflows r ph ow cm ve di) n = storing-none sh c d t s o (rw (di d) no-commits)
+storing-executed sh c d t s o h (Asks_tid r ph ow cm ve di) n = storing-none sh c d t s o (rw (di d) no-commits)
+storing-executed sh c d t s o h (Alone u r q ph ow cm se) n = let m : (r.stores ≡ s.stores) × (r.loads ≡ s.loads) × (o.core.loads ≡ []) = rw cm at n in storing-alone sh c d t u s r o q cm (m.0) se h
+
+pub storing-exec : (sh : Shape) (p : Program) (c d t : ℕ) (s : CoreState) → OneCore sh s → IfSome (core_exec sh p c s) (λ o. StoresAll sh c d t s o)
+storing-exec sh p c d t s h = each-exec sh p c s (λ o. StoresAll sh c d t s o) go
+  where
+    go : (x : Did sh p c s) → StoresAll sh c d t s (out x)
+    go (Commits_now u e) = storing-ready sh c d t u s e h
+    go x = storing-executed sh c d t s (out x) h (did-executed x) (did-notes x)
+
+pub storing-evict : (sh : Shape) (x y c d t : ℕ) (s : CoreState) → IfSome (core_evict sh x y s) (λ o. StoresAll sh c d t s o)
+storing-evict sh x y c d t s = each-evict sh x y s (λ o. StoresAll sh c d t s o) (λ k q u z. storing-steady sh c d t s (emptied sh x y k s) (steady-emptied sh x y s k q u z))
+
+pub storing-back : (sh : Shape) (e c d t : ℕ) (s : CoreState) (m : Msg) → IfSome (from_dir sh e s m) (λ o. StoresAll sh c d t s o)
+storing-back sh e c d t s (ProbeReply u v) = storing-none sh c d t s (probe_reply sh e u s) (free-replied sh e u d s (probe_reply sh e u s) (reply-cases sh e u s))
+storing-back sh e c d t s (Fill k ws) = storing-steady sh c d t s (fill k ws s) (fill-steady k ws s)
+storing-back sh e c d t s (DataReq k) = storing-steady sh c d t s (data_request sh k s) (data-steady sh k s)
+storing-back sh e c d t s (Inv k m u) = storing-none sh c d t s (invalidate sh k m u s) (free-hurt sh k d s (invalidate sh k m u s) (invalidate-cases sh k m u s))
+storing-back sh e c d t s _ = tt

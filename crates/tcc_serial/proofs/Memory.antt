@@ -1,0 +1,6 @@
+-- What lies in memory, and messages that go to the homes of their lines.
+pub mod CoreHomes
+pub mod HomesKept
+pub mod CoreInMemory
+pub mod InMemoryKept
+pub mod MemorySends

@@ -1,0 +1,9 @@
+-- All of it together, along every run.
+pub mod Always
+pub mod AllInvariants
+pub mod CarriedTogether
+pub mod FactsOfRuns
+pub mod AllCarried
+pub mod TriedRun
+pub mod CounterRun
+pub mod NotedBy

@@ -1,0 +1,20 @@
+-- Words and their values: at home, in copies, and in frames and Fills.
+pub mod ValueAt
+pub mod ModifiedWords
+pub mod FramedSteps
+pub mod CoresKeepFramed
+pub mod DirsKeepFramed
+pub mod FramedBacks
+pub mod FramedCores
+pub mod FramedWords
+pub mod DirWords
+pub mod WordValues
+pub mod WordCopies
+pub mod HomesAnswered
+pub mod WordsMoved
+pub mod CoreWords
+pub mod CoreWordsTakes
+pub mod CommitWords
+pub mod HomeWordsKept
+pub mod NewestCopy
+pub mod SeenWords
