@@ -1,7 +1,6 @@
 -- A run of the machine with one bus, and that it takes all events where it doesn't end done.
 use Rattle.std.proofs.Common.{◌≡◌, ℕ, suc, ◌<◌, ◌≤◌, ◌↔◌, Bool, IsTrue, List, [], ◌∷◌, length, Option, None, Some, subst, ◌∙◌, arith}
 use Rattle.image_load.specs.Contents.{Contents, started}
-use Rattle.image_load.specs.Start.{Start}
 use Rattle.rand_core.specs.Steps.{first_words}
 use Rattle.rand_pcg.specs.Pcg.{pcg32}
 use Rattle.tcc_maps.specs.Shape.{Shape}
