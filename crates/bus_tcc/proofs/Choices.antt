@@ -1,10 +1,10 @@
 -- The useful events of a machine, as the counts by core find them.
 use Rattle.std.proofs.Common.{◌≡◌, ℕ, ◌+◌, ◌<◌, ◌≤◌, Bool, true, false, if◌then◌else◌, List, [], ◌∷◌, ◌++◌, map, length, length-append}
-use Rattle.std.proofs.Common.{Fits, w8, Option, Some, None, is_some, refl, ap, sym, ◌∙◌, subst, arith, zero, suc}
+use Rattle.std.proofs.Common.{Fits, take, w8, Option, Some, None, is_some, refl, ap, sym, ◌∙◌, subst, arith, zero, suc}
 use Rattle.std.specs.Prelude.{filter, get_or, nat_lt, slice_get, sum}
 use Rattle.std.specs.Option.{option_map}
-use Rattle.std.proofs.lemmas.List.{length-map}
-use Rattle.std.proofs.lemmas.Option.{slice_get-get_or, slice_get-map}
+use Rattle.std.proofs.lemmas.List.{length-map, map-append, take_more}
+use Rattle.std.proofs.lemmas.Option.{get_or_from_slice_get, slice_get-get_or, slice_get-map, slice_get_within}
 use Rattle.image_load.specs.Contents.{Contents, started}
 use Rattle.rv_code.specs.Machine.{program}
 use Rattle.tcc_base.specs.Settings.{Settings}
@@ -21,11 +21,12 @@ use Rattle.bus_rules.specs.State.{BusEvent, Exec, Evict, Take}
 use Rattle.bus_tcc.specs.Answers.{bus_step_of}
 use Rattle.bus_tcc.specs.Chosen.{bus_useful_of}
 use Rattle.bus_tcc.specs.Left.{is_left}
-use Rattle.bus_tcc.specs.Machine.{BusMachine, bus_of, bus_program_of, bus_settings_of, bus_world_of, is_free}
+use Rattle.bus_tcc.specs.Machine.{BusMachine, bus_event_of, bus_of, bus_program_of, bus_settings_of, bus_world_of, is_free}
 use Rattle.bus_tcc.specs.Parts.{CountedIn, evicts_of, execs_of, takes_of}
 use Rattle.bus_tcc.specs.Uses.{exec_count, may_exec, room_ways, ways_in, loose_ways}
 use Rattle.bus_tcc.specs.Whole.{IsBusWhole}
 use Rattle.bus_tcc.specs.declared.counts.Counts.{Counts}
+use Rattle.bus_tcc.specs.declared.event.BusEvent.{BusEvent as CodeEvent}
 use Rattle.bus_tcc.proofs.Enabling.{exec-enabled, useful-parts}
 use Rattle.bus_tcc.proofs.Events.{bank_in}
 use Rattle.bus_tcc.proofs.Numbers.{AreLengths, IsFound, count-most, flat-most, found, past, total}
@@ -244,3 +245,19 @@ module _ (m : BusMachine) (k : ℕ) (w : IsBusWhole m) where
   at-takes o i e q =
       e ∙ sym (at-parts ∙ (get-right (execs_of m) (evicts_of m ++ takes_of m) (length (evicts_of m) + i) k q
       ∙ get-right (evicts_of m) (takes_of m) i (length (evicts_of m) + i) refl))
+
+-- ---- one after another
+
+pub none-past : {A : Type 0} (xs : List A) (k : ℕ) → slice_get xs k ≡ None → k < length xs → ⊥
+none-past [] k e l = omega (arith, l)
+none-past (x ∷ xs) zero e l = cc
+none-past (x ∷ xs) (suc k) e l = none-past xs k e (omega (arith, l))
+
+-- one more event of the list
+pub one-listed : (us : List BusEvent) (es more : List CodeEvent) (k : ℕ) (e : CodeEvent) → map bus_event_of es ≡ take k us
+    → slice_get us k ≡ Some (bus_event_of e) → more ≡ es ++ e ∷ [] → map bus_event_of more ≡ take (k + 1) us
+one-listed us es more k e so at m =
+    let next : get_or us k (bus_event_of e) ≡ bus_event_of e = get_or_from_slice_get us k (bus_event_of e) (bus_event_of e) at in
+    ap (map bus_event_of) m ∙ map-append bus_event_of es (e ∷ []) ∙ ap (λ ys. ys ++ bus_event_of e ∷ []) so
+    ∙ ap (λ x. take k us ++ x ∷ []) (sym next)
+    ∙ sym (take_more us k (bus_event_of e) (slice_get_within us k (bus_event_of e) at))

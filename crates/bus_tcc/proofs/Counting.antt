@@ -7,7 +7,7 @@ use Rattle.std.proofs.lemmas.List.{get_or-set_other, length-set}
 use Rattle.tcc_maps.specs.Shape.{Shape}
 use Rattle.tcc_program.specs.Program.{Program}
 use Rattle.tcc_rules.specs.State.{CoreState}
-use Rattle.bus_tcc.specs.Uses.{AreCounted, HavePlaces, IsCounted, exec_count, way_count}
+use Rattle.bus_tcc.specs.Uses.{AreCounted, AreCountedBut, HavePlaces, IsCounted, exec_count, way_count}
 use Rattle.bus_tcc.specs.declared.counts.Counts.{Counts}
 
 -- one core is counted anew
@@ -69,14 +69,26 @@ pub all-counted : (sh : Shape) (p : Program) (cores : ℕ → CoreState) (n : �
     → AreCounted sh p cores k
 all-counted sh p cores n k l h = record { places = h.places; each = λ c i. h.each c (omega (arith, i, l)) }
 
--- one core has changed, and is counted anew
-pub counted-after : (sh : Shape) (p : Program) (cores after : ℕ → CoreState) (c : ℕ) (old new : Counts) → c < sh.cores
-    → ((j : ℕ) → j ≢ c → after j ≡ cores j) → IsRenewed sh p c (after c) old new → AreCounted sh p cores old
-    → AreCounted sh p after new
-counted-after sh p cores after c old new l same r h = record {
-  places = places-stay sh p c (after c) old new h.places r;
+-- the one core that wasn't counted is counted anew
+pub one-counted : (sh : Shape) (p : Program) (cores : ℕ → CoreState) (c : ℕ) (old new : Counts) → c < sh.cores
+    → IsRenewed sh p c (cores c) old new → AreCountedBut sh p c cores old → AreCounted sh p cores new
+one-counted sh p cores c old new l r h = record {
+  places = places-stay sh p c (cores c) old new h.places r;
   each = λ j i. elim (cases_eq j c) [
-    | inl e ↦ subst (λ k. IsCounted sh p new k (after k)) (sym e) (own-counted sh p c (after c) old new h.places l r)
-    | inr m ↦ subst (IsCounted sh p new j) (sym (same j m)) (other-counted sh p c (after c) old new j (cores j) r m (h.each j i))
+    | inl e ↦ subst (λ k. IsCounted sh p new k (cores k)) (sym e) (own-counted sh p c (cores c) old new h.places l r)
+    | inr m ↦ other-counted sh p c (cores c) old new j (cores j) r m (h.each j i m)
   ];
+}
+
+-- there is no such core
+pub all-others : (sh : Shape) (p : Program) (cores : ℕ → CoreState) (c : ℕ) (k : Counts) → sh.cores ≤ c → AreCountedBut sh p c cores k
+    → AreCounted sh p cores k
+all-others sh p cores c k l h = record { places = h.places; each = λ j i. h.each j i (λ e. omega (arith, i, l, e)) }
+
+-- one core has changed
+pub others-counted : (sh : Shape) (p : Program) (cores after : ℕ → CoreState) (c : ℕ) (k : Counts)
+    → ((j : ℕ) → j ≢ c → after j ≡ cores j) → AreCounted sh p cores k → AreCountedBut sh p c after k
+others-counted sh p cores after c k same h = record {
+  places = h.places;
+  each = λ j i m. subst (IsCounted sh p k j) (sym (same j m)) (h.each j i);
 }

@@ -19,7 +19,7 @@ use Rattle.bus_tcc.specs.Bank.{Acted}
 use Rattle.bus_tcc.specs.Machine.{BusMachine, bus_history_of, bus_of, bus_program_of, bus_settings_of, bus_world_of, word_in}
 use Rattle.bus_tcc.specs.Inside.{machine_of}
 use Rattle.bus_tcc.specs.Whole.{AreBefore, IsBusWhole}
-use Rattle.bus_tcc.specs.declared.system.BusSystem.TheInside.{Inside}
+use Rattle.bus_tcc.specs.declared.engine.Engine.TheInside.{Inside}
 use Rattle.bus_tcc.specs.declared.event.BusStep.{BusStep as Told}
 use Rattle.bus_tcc.specs.declared.event.BusStep.TheVariants.{Moved}
 use Rattle.bus_tcc.proofs.Reaching.{reached-on, reached-same}

@@ -23,7 +23,7 @@ use Rattle.bus_tcc.specs.Machine.{BusMachine, bus_of, bus_program_of, bus_settin
 use Rattle.core_bank.specs.Bank.{CoresData, cores_of}
 use Rattle.bus_tcc.specs.Inside.{machine_of}
 use Rattle.bus_tcc.specs.declared.bus.Bus.{Bus as CodeBus}
-use Rattle.bus_tcc.specs.declared.system.BusSystem.TheInside.{Inside}
+use Rattle.bus_tcc.specs.declared.engine.Engine.TheInside.{Inside}
 use Rattle.bus_tcc.specs.Whole.{IsBusWhole}
 use Rattle.bus_tcc.specs.declared.event.BusError.TheVariants.{Refused}
 use Rattle.bus_tcc.specs.declared.event.BusStep.TheVariants.{Moved}

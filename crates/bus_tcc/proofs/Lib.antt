@@ -22,3 +22,4 @@ mod Using
 mod Counting
 mod Enabling
 mod Choices
+mod Others

@@ -22,7 +22,7 @@ use Rattle.bus_tcc.specs.Taking.{took}
 use Rattle.bus_tcc.specs.Whole.{IsBusWhole}
 use Rattle.bus_tcc.specs.declared.bus.Bus.{Bus as CodeBus}
 use Rattle.bus_tcc.specs.declared.event.BusStep.TheVariants.{Moved}
-use Rattle.bus_tcc.specs.declared.system.BusSystem.TheInside.{Inside}
+use Rattle.bus_tcc.specs.declared.engine.Engine.TheInside.{Inside}
 use Rattle.bus_tcc.proofs.Bounds.{bounded, core-bounded}
 use Rattle.bus_tcc.proofs.Events.{bank_in, took-by, took-whole, world-is}
 use Rattle.bus_tcc.proofs.Taken.{InMemory, IsClean, took-taken}

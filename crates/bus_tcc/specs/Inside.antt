@@ -1,7 +1,7 @@
 -- The parts of a system as the machine that callers see.
 use Rattle.bus_tcc.specs.Machine.{BusMachine}
 use Rattle.bus_tcc.specs.Whole.{IsBusWhole}
-use Rattle.bus_tcc.specs.declared.system.BusSystem.TheInside.{Inside}
+use Rattle.bus_tcc.specs.declared.engine.Engine.TheInside.{Inside}
 
 abbrev pub machine_of : Inside → BusMachine
 machine_of s = record {

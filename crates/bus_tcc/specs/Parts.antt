@@ -5,12 +5,21 @@ use Rattle.tcc_rules.specs.Seen.{numbers}
 use Rattle.bus_rules.specs.State.{BusEvent, Exec, Evict, Take}
 use Rattle.bus_tcc.specs.Left.{is_left}
 use Rattle.bus_tcc.specs.Machine.{BusMachine, bus_program_of, bus_settings_of, bus_world_of, is_free}
-use Rattle.bus_tcc.specs.Uses.{AreCounted, may_exec, room_ways}
+use Rattle.bus_tcc.specs.Uses.{AreCounted, AreCountedBut, may_exec, room_ways}
 use Rattle.bus_tcc.specs.declared.counts.Counts.{Counts}
 
 -- these are the counts of the machine's cores
 abbrev pub CountedIn : BusMachine → Counts → Type 0
 CountedIn m n = AreCounted (bus_settings_of m) (bus_program_of m) (bus_world_of m).cores n
+
+-- these are the counts of all its cores but one
+abbrev pub CountedBut : BusMachine → (core : ℕ) → Counts → Type 0
+CountedBut m c n = AreCountedBut (bus_settings_of m) (bus_program_of m) c (bus_world_of m).cores n
+
+abbrev pub core_named : BusEvent → ℕ
+core_named (Exec c) = c
+core_named (Evict c x y) = c
+core_named (Take c) = c
 
 -- the cores that may execute
 unfoldable pub execs_of : BusMachine → List BusEvent

@@ -1,5 +1,5 @@
 -- What each core may do next, by itself, and the counts of that by core.
-use Rattle.std.specs.Prelude.{ℕ, ◌≡◌, ◌<◌, Bool, true, false, not, ◌&&◌, ◌||◌, List, [], ◌∷◌, map, filter, length, get_or, Option, Some, None}
+use Rattle.std.specs.Prelude.{ℕ, ◌≡◌, ◌≢◌, ◌<◌, Bool, true, false, not, ◌&&◌, ◌||◌, List, [], ◌∷◌, map, filter, length, get_or, Option, Some, None}
 use Rattle.std.specs.Prelude.{is_some, if◌then◌else◌}
 use Rattle.tcc_maps.specs.Shape.{Shape}
 use Rattle.tcc_program.specs.Program.{Program}
@@ -56,3 +56,8 @@ pub record IsCounted (sh : Shape) (p : Program) (n : Counts) (core : ℕ) (s : C
 pub record AreCounted (sh : Shape) (p : Program) (cores : ℕ → CoreState) (n : Counts) : Type 0 where
   pub places : HavePlaces sh n
   pub each : (c : ℕ) → c < sh.cores → IsCounted sh p n c (cores c)
+
+-- the same of all cores but one
+pub record AreCountedBut (sh : Shape) (p : Program) (core : ℕ) (cores : ℕ → CoreState) (n : Counts) : Type 0 where
+  pub places : HavePlaces sh n
+  pub each : (c : ℕ) → c < sh.cores → c ≢ core → IsCounted sh p n c (cores c)

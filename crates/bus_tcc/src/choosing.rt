@@ -10,11 +10,11 @@ ghost use Rattle.bus_tcc.specs.Whole.{IsBusWhole};
 use crate::counts::Counts;
 use crate::event::BusEvent;
 use crate::stepping::has_way;
-use crate::system::BusSystem;
+use crate::engine::Engine;
 use crate::uses::way_at;
 use tcc_base::CoreId;
 
-impl BusSystem {
+impl Engine {
     /// Whether a core executes or commits.
     fn allows_exec(&self, counts: &Counts, core: CoreId) -> bool
         requires { CountedIn self.now counts.now }

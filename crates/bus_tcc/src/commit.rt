@@ -12,10 +12,10 @@ use crate::event::{BusError, BusStep};
 use crate::publishing::bus_with;
 use crate::stepping::refusal;
 use crate::storing::store_all;
-use crate::system::BusSystem;
+use crate::engine::Engine;
 use tcc_base::{CoreId, Tid};
 
-impl BusSystem {
+impl Engine {
     /// A core commits that the rules let commit now.
     pub(crate) fn publish(&mut self, core: CoreId) -> Result<BusStep, BusError>
         requires few { self.old.events < 4194304 }

@@ -11,7 +11,7 @@ use crate::bus::Bus;
 use crate::event::{BusError, BusStep};
 use crate::readers::words_of;
 use crate::stepping::refusal;
-use crate::system::BusSystem;
+use crate::engine::Engine;
 use tcc_base::CoreId;
 
 fn is_barred_by(free: bool, overflows: bool) -> bool
@@ -29,7 +29,7 @@ fn take_if(bus: &mut Bus, alone: bool, core: CoreId)
     }
 }
 
-impl BusSystem {
+impl Engine {
     /// Whether a core would take the bus, and that isn't free.
     fn is_barred(&self, core: CoreId) -> bool
         requires { core.0 < (bus_settings_of self.now).cores }

@@ -10,6 +10,7 @@ mod commit;
 mod committing;
 mod counts;
 mod ending;
+mod engine;
 mod event;
 mod exec;
 mod executing;
@@ -24,6 +25,7 @@ mod taking;
 #[cfg(test)]
 mod tests;
 mod together;
+mod useful;
 mod uses;
 
 pub use bus::{Bus, CoreSet, Packet};

@@ -10,7 +10,7 @@ ghost use Rattle.bus_tcc.specs.Refined.{IsBusRefined};
 ghost use Rattle.tcc_program.specs.Cores.{printed};
 ghost use Rattle.tcc_serial.specs.Commits.{end_after};
 
-use crate::system::BusSystem;
+use crate::engine::Engine;
 use commit_engine::Phase;
 use core_node::CoreNode;
 use reg_checkpoint::Check;
@@ -19,23 +19,23 @@ use rv_plain::Outcome;
 use std::alloc::Global;
 use tcc_base::{Commit, Config, CoreEnd, CoreId, LineAddr, List, NoMemory, WordAddr};
 
-impl BusSystem {
+impl Engine {
     /// The settings.
-    pub fn config(&self) -> &Config
+    pub(crate) fn config(&self) -> &Config
         ensures { result.now ≡ bus_settings_of self.now }
     {
         self.cores.code.config()
     }
 
     /// The program as it was loaded, and the settings.
-    pub fn code(&self) -> &Code
+    pub(crate) fn code(&self) -> &Code
         ensures { result.now ≡ self.now.code }
     {
         &self.cores.code
     }
 
     /// The commits so far, by rising TID. It takes constant time.
-    pub fn commits(&self) -> &[Commit]
+    pub(crate) fn commits(&self) -> &[Commit]
         ensures commits { result.now ≡ self.now.commits }
         ensures refined { IsBusRefined self.now }
     {
@@ -43,14 +43,14 @@ impl BusSystem {
     }
 
     /// The bytes that a core's commits printed, one after another. Its time goes with the number of commits and of these bytes.
-    pub fn console(&self, alloc: Global, core: CoreId) -> Result<List<u8>, NoMemory>
+    pub(crate) fn console(&self, alloc: Global, core: CoreId) -> Result<List<u8>, NoMemory>
         ensures { IfOk result (λ bytes. bytes ≡ printed core.0 self.now.commits) }
     {
         self.commits.console(alloc, core)
     }
 
     /// The registers and pc of a core as its last commit left them.
-    pub fn committed(&self, core: CoreId) -> &Check
+    pub(crate) fn committed(&self, core: CoreId) -> &Check
         requires { core.0 < (bus_settings_of self.now).cores }
         ensures { result.now ≡ ((bus_world_of self.now).cores core.0).saved }
     {
@@ -58,7 +58,7 @@ impl BusSystem {
     }
 
     /// Whether a core has halted, and how.
-    pub fn ended(&self, core: CoreId) -> CoreEnd
+    pub(crate) fn ended(&self, core: CoreId) -> CoreEnd
         requires { core.0 < (bus_settings_of self.now).cores }
         ensures { let c = (bus_world_of self.now).cores core.0 in result ≡ end_after c.phase c.ended }
     {
@@ -66,21 +66,21 @@ impl BusSystem {
     }
 
     /// A word of memory, zero beyond it. It takes constant time.
-    pub fn word(&self, w: WordAddr) -> u32
+    pub(crate) fn word(&self, w: WordAddr) -> u32
         ensures { result ≡ (bus_world_of self.now).ram w.0 }
     {
         word_at(&self.ram, w.0 as usize)
     }
 
     /// The eight words of a line of memory, zero beyond it. It takes constant time.
-    pub fn line(&self, line: LineAddr) -> [u32; 8]
+    pub(crate) fn line(&self, line: LineAddr) -> [u32; 8]
         ensures { result ≡ line_words (bus_world_of self.now).ram line.0 }
     {
         words_of_line(&self.ram, line)
     }
 
     /// Whether every core has halted, and no packet is on the bus. Takes time in the number of cores.
-    pub fn done(&self) -> bool
+    pub(crate) fn done(&self) -> bool
         ensures { IsTrue result ↔ BusIsDone (bus_settings_of self.now) (bus_world_of self.now) }
     {
         !self.bus.is_packet() && self.cores.all_halted()

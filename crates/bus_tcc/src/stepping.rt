@@ -6,7 +6,7 @@ ghost use Rattle.bus_tcc.specs.Answers.{Answers, bus_step_of, refusal_of, tid_no
 ghost use Rattle.bus_tcc.specs.Machine.{bus_event_of, bus_history_of, bus_program_of, bus_settings_of};
 
 use crate::event::{BusError, BusEvent, BusStep};
-use crate::system::BusSystem;
+use crate::engine::Engine;
 use core_node::CoreError;
 use tcc_base::{Config, CoreId};
 
@@ -27,7 +27,7 @@ pub(crate) fn has_way(config: &Config, core: CoreId, set: u16, way: u8) -> bool
     core.0 < config.cores() && set < config.sets() && way < config.ways()
 }
 
-impl BusSystem {
+impl Engine {
     /// A core empties a way.
     pub(crate) fn evict(&mut self, core: CoreId, set: u16, way: u8) -> Result<BusStep, BusError>
         requires { self.old.events < 4194304 }

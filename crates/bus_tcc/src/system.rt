@@ -1,62 +1,66 @@
-// The machine as one object, and its start.
-ghost use Rattle.std.specs.Prelude.{◌≡◌, ◌<◌, ℕ, IfOk, length, get_or, ◌/◌};
+// The machine as one object.
+ghost use Rattle.std.specs.Prelude.{◌≡◌, ◌<◌, ◌↔◌, IsTrue, IfOk};
 ghost use Rattle.image_load.specs.Contents.{started};
-ghost use Rattle.rv_code.specs.Machine.{first_ram};
-ghost use Rattle.tcc_base.specs.Settings.{IsAllowed};
+ghost use Rattle.bus_rules.specs.Exec.{line_words};
+ghost use Rattle.bus_rules.specs.Useful.{BusIsDone};
 ghost use Rattle.bus_serial.specs.Given.{bus_at_start};
+ghost use Rattle.bus_tcc.specs.Answers.{Answers};
+ghost use Rattle.bus_tcc.specs.Machine.{bus_event_of, bus_history_of, bus_settings_of, bus_world_of};
+ghost use Rattle.bus_tcc.specs.Refined.{IsBusRefined};
+ghost use Rattle.bus_tcc.specs.Parts.{CountedBut, CountedIn, core_named};
 ghost use Rattle.bus_tcc.specs.Whole.{BusReached};
-ghost use Rattle.bus_tcc.specs.Machine.{bus_history_of};
+ghost use Rattle.tcc_program.specs.Cores.{printed};
+ghost use Rattle.tcc_serial.specs.Commits.{end_after};
 
-use crate::bank::BusBank;
-use crate::bus::Bus;
-use commit_list::CommitList;
+use crate::counts::Counts;
+use crate::engine::Engine;
+use crate::event::{BusError, BusEvent, BusStep};
 use image_load::Loaded;
+use reg_checkpoint::Check;
 use rv_code::Code;
 use std::alloc::Global;
 use std::marker::Model;
-use tcc_base::{List, NoMemory, Tid, WordAddr};
-use tcc_msg::Outgoing;
+use tcc_base::{Commit, Config, CoreEnd, CoreId, LineAddr, List, NoMemory, WordAddr};
 
 /// The machine. In a clause `bus_history_of` makes of it the state of the rules with the commits so far, which some list of events
 /// leads to from the start: `events` says so.
 #[derive(Debug, Drop)]
 pub struct BusSystem {
-    pub(crate) cores: BusBank,
-    /// Memory, by word.
-    pub(crate) ram: List<u32>,
-    pub(crate) bus: Bus,
-    /// The TID of the next commit.
-    pub(crate) next: Tid,
-    pub(crate) commits: CommitList,
-    /// What a core hands out, of which nothing is sent.
-    pub(crate) out: Outgoing,
-    pub(crate) events: u64,
+    pub(crate) engine: Engine,
+    /// Of its cores.
+    pub(crate) counts: Counts,
 }
 
 impl Model for BusSystem {
     ghost use Rattle.bus_tcc.specs.Machine.{BusMachine};
+    ghost use Rattle.bus_tcc.specs.Parts.{CountedIn};
 
     ghost Value = { BusMachine };
 
-    ghost use Rattle.bus_tcc.specs.Inside.{machine_of, IsSystem};
+    ghost view = { λ s. s.engine };
 
-    ghost view = { machine_of };
-
-    ghost invariant = { IsSystem };
+    ghost invariant = { λ s. CountedIn s.engine s.counts };
 }
 
-/// The words that were loaded.
-fn start_words(alloc: Global, loaded: &Loaded) -> Result<List<u32>, NoMemory>
-    ensures allowed { IfOk result (λ _. IsAllowed loaded.now.settings) }
-    ensures count { IfOk result (λ ws. length ws ≡ loaded.now.settings.ram / 4) }
-    ensures words { IfOk result (λ ws. (w : ℕ) → get_or ws w 0 ≡ first_ram (started loaded.now) w) }
+/// The core that an event names.
+fn core_of(event: BusEvent) -> CoreId
+    ensures { result.0 ≡ core_named (bus_event_of event) }
 {
-    let mut words = List::new(alloc);
-    let count = loaded.config().words();
-    for w in 0..count {
-        words.push(loaded.word(WordAddr(w)))?;
+    match event {
+        BusEvent::Exec(core) => core,
+        BusEvent::Evict(core, _, _) => core,
+        BusEvent::Take(core) => core,
     }
-    Ok(words)
+}
+
+/// Counts a core of the machine anew, where there is such a core.
+fn renew(engine: &Engine, counts: &mut Counts, core: CoreId)
+    requires { CountedBut engine.now core.0 counts.old }
+    ensures { CountedIn engine.now counts.new }
+{
+    if core.0 < engine.config().cores() {
+        counts.renew(core, engine.bank());
+    }
 }
 
 impl BusSystem {
@@ -68,16 +72,23 @@ impl BusSystem {
         ensures start { IfOk result (λ m. bus_history_of m ≡ bus_at_start (started loaded.now)) }
         ensures events { IfOk result (λ m. m.events ≡ 0) }
     {
-        let code = Code::new(alloc, loaded.copy()?)?;
-        Ok(BusSystem {
-            cores: BusBank::start(alloc, code)?,
-            ram: start_words(alloc, loaded)?,
-            bus: Bus::Free,
-            next: Tid(1),
-            commits: CommitList::new(alloc),
-            out: Outgoing::new(alloc),
-            events: 0,
-        })
+        let engine = Engine::start(alloc, loaded)?;
+        let counts = Counts::new(alloc, engine.bank())?;
+        Ok(BusSystem { engine, counts })
+    }
+
+    /// Takes an event: Refused exactly where it isn't enabled, so also where it names a core, set or way that doesn't exist; Memory
+    /// where it is, but memory is wanting. After an error the machine is as before. Fewer than 4,194,304 events were taken before it.
+    ///
+    /// Takes constant time, but for a commit, which takes time in RAM's lines and in the cache's frames, a core that goes alone or begins
+    /// anew, which takes time in the cache's frames, and a Take, which takes time in the packet's lines.
+    pub fn step(&mut self, event: BusEvent) -> Result<BusStep, BusError>
+        requires { self.old.events < 4194304 }
+        ensures { Answers self.old self.new (bus_event_of event) result }
+    {
+        let done = self.engine.step(event);
+        renew(&self.engine, &mut self.counts, core_of(event));
+        done
     }
 
     /// How many events were taken.
@@ -85,6 +96,72 @@ impl BusSystem {
         ensures count { result ≡ self.now.events }
         ensures reached { BusReached self.now }
     {
-        self.events
+        self.engine.events()
+    }
+
+    /// The settings.
+    pub fn config(&self) -> &Config
+        ensures { result.now ≡ bus_settings_of self.now }
+    {
+        self.engine.config()
+    }
+
+    /// The program as it was loaded, and the settings.
+    pub fn code(&self) -> &Code
+        ensures { result.now ≡ self.now.code }
+    {
+        self.engine.code()
+    }
+
+    /// The commits so far, by rising TID. It takes constant time.
+    pub fn commits(&self) -> &[Commit]
+        ensures commits { result.now ≡ self.now.commits }
+        ensures refined { IsBusRefined self.now }
+    {
+        self.engine.commits()
+    }
+
+    /// The bytes that a core's commits printed, one after another. Its time goes with the number of commits and of these bytes.
+    pub fn console(&self, alloc: Global, core: CoreId) -> Result<List<u8>, NoMemory>
+        ensures { IfOk result (λ bytes. bytes ≡ printed core.0 self.now.commits) }
+    {
+        self.engine.console(alloc, core)
+    }
+
+    /// The registers and pc of a core as its last commit left them.
+    pub fn committed(&self, core: CoreId) -> &Check
+        requires { core.0 < (bus_settings_of self.now).cores }
+        ensures { result.now ≡ ((bus_world_of self.now).cores core.0).saved }
+    {
+        self.engine.committed(core)
+    }
+
+    /// Whether a core has halted, and how.
+    pub fn ended(&self, core: CoreId) -> CoreEnd
+        requires { core.0 < (bus_settings_of self.now).cores }
+        ensures { let c = (bus_world_of self.now).cores core.0 in result ≡ end_after c.phase c.ended }
+    {
+        self.engine.ended(core)
+    }
+
+    /// A word of memory, zero beyond it. It takes constant time.
+    pub fn word(&self, w: WordAddr) -> u32
+        ensures { result ≡ (bus_world_of self.now).ram w.0 }
+    {
+        self.engine.word(w)
+    }
+
+    /// The eight words of a line of memory, zero beyond it. It takes constant time.
+    pub fn line(&self, line: LineAddr) -> [u32; 8]
+        ensures { result ≡ line_words (bus_world_of self.now).ram line.0 }
+    {
+        self.engine.line(line)
+    }
+
+    /// Whether every core has halted, and no packet is on the bus. Takes time in the number of cores.
+    pub fn done(&self) -> bool
+        ensures { IsTrue result ↔ BusIsDone (bus_settings_of self.now) (bus_world_of self.now) }
+    {
+        self.engine.done()
     }
 }

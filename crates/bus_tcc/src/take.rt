@@ -4,10 +4,10 @@ ghost use Rattle.bus_rules.specs.State.{Take};
 ghost use Rattle.bus_tcc.specs.Answers.{Answers};
 
 use crate::event::{BusError, BusStep};
-use crate::system::BusSystem;
+use crate::engine::Engine;
 use tcc_base::CoreId;
 
-impl BusSystem {
+impl Engine {
     /// A core takes the packet.
     pub(crate) fn take(&mut self, core: CoreId) -> Result<BusStep, BusError>
         requires { self.old.events < 4194304 }

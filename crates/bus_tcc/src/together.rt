@@ -6,11 +6,11 @@ ghost use Rattle.bus_tcc.specs.Answers.{Answers};
 ghost use Rattle.bus_tcc.specs.Machine.{bus_settings_of, bus_world_of};
 
 use crate::event::{BusError, BusStep};
-use crate::system::BusSystem;
+use crate::engine::Engine;
 use commit_engine::Phase;
 use tcc_base::CoreId;
 
-impl BusSystem {
+impl Engine {
     /// A core that isn't alone executes, or commits where its transaction has ended.
     pub(crate) fn exec_together(&mut self, core: CoreId) -> Result<BusStep, BusError>
         requires few { self.old.events < 4194304 }

@@ -1,2 +1,4 @@
 -- What the contracts of this crate cite.
+pub mod Running
+pub mod Picking
 pub mod Report

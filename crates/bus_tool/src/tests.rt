@@ -1,7 +1,7 @@
-// Reports of machines with one bus, letter by letter, with ample memory.
+// Reports of machines with one bus after some events, and after those that a seed picks, letter by letter, with ample memory.
 ghost use Rattle.std.specs.Prelude.{◌≡◌, IfOk};
 
-use crate::bus_report;
+use crate::{bus_report, bus_run};
 use bus_tcc::{BusEvent, BusSystem};
 use image_load::{Loaded, load, raw};
 use std::alloc::Global;
@@ -144,5 +144,82 @@ fn two_cores_take_turns_on_the_bus(rt: HostRuntime) -> Result<(), Fail> {
         report_after(alloc, &loaded, &events)?.as_str(),
         want.as_str()
     );
+    Ok(())
+}
+
+/// The report after so many events of a seed at most.
+fn report_by(alloc: Global, loaded: &Loaded, seed: u64, steps: u16) -> Result<String, Fail>
+    requires { loaded.now.settings.dirs ≡ 1 }
+{
+    let bus = bus_run(alloc, loaded, seed, u64::from(steps))?;
+    Ok(bus_report(alloc, &bus)?)
+}
+
+#[test]
+fn a_core_by_itself_ends_by_every_seed(rt: HostRuntime) -> Result<(), Fail> {
+    let alloc = rt.alloc();
+    let one = loaded(alloc, [1, 16, 2], &STORES_SEVEN)?;
+    let want = format!(in alloc;
+        "tcc-bus 1\nend done\nevents 8\ncommit 1 0 4\ncommit 2 0 2\ncore 0 halt 0\n{SEVEN_STORED}"
+    )?;
+    for seed in 0..3 {
+        assert_eq!(rt; report_by(alloc, &one, seed, 100)?.as_str(), want.as_str());
+    }
+    let small = loaded(alloc, [1, 1, 1], &STORES_TWICE)?;
+    let want = "tcc-bus 1
+end done
+events 7
+commit 1 0 5
+core 0 halt 0
+pc 80000010
+reg 6 80000000
+reg 11 00000001
+reg 17 0000005d
+mem 80000040 00000001
+mem 80000060 00000001
+";
+    assert_eq!(rt; report_by(alloc, &small, 0, 100)?.as_str(), want);
+    Ok(())
+}
+
+#[test]
+fn a_seed_decides_who_commits_first(rt: HostRuntime) -> Result<(), Fail> {
+    let alloc = rt.alloc();
+    let loaded = loaded(alloc, [2, 16, 2], &STORES_SEVEN)?;
+    for (seed, commits) in [
+        (
+            1,
+            "commit 1 0 4\ncommit 2 1 4\ncommit 3 0 2\ncommit 4 1 2\n",
+        ),
+        (
+            2,
+            "commit 1 1 4\ncommit 2 1 2\ncommit 3 0 4\ncommit 4 0 2\n",
+        ),
+    ] {
+        let want = format!(in alloc; "tcc-bus 1\nend done\nevents 18\n{commits}{TWO_HALTED}")?;
+        assert_eq!(rt;
+            report_by(alloc, &loaded, seed, 100)?.as_str(),
+            want.as_str()
+        );
+    }
+    Ok(())
+}
+
+#[test]
+fn a_run_ends_open_where_no_more_was_asked_for(rt: HostRuntime) -> Result<(), Fail> {
+    let alloc = rt.alloc();
+    let loaded = loaded(alloc, [2, 16, 2], &STORES_SEVEN)?;
+    let want = "tcc-bus 1
+end open
+events 6
+core 0 run
+pc 80000000
+reg 11 00000002
+core 1 run
+pc 80000000
+reg 10 00000001
+reg 11 00000002
+";
+    assert_eq!(rt; report_by(alloc, &loaded, 1, 6)?.as_str(), want);
     Ok(())
 }

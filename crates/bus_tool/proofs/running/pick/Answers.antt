@@ -1,0 +1,32 @@
+-- The event at the word modulo their number.
+use Rattle.std.proofs.Common.{◌≡◌, ◌<◌, ◌∙◌, length, ap, sym, arith, if◌then◌else◌}
+use Rattle.std.specs.Option.{option_map}
+use Rattle.rand_pcg.specs.Pcg.{pcg32}
+use Rattle.bus_rules.specs.Useful.{bus_chosen}
+use Rattle.bus_tcc.specs.Chosen.{bus_useful_of}
+use Rattle.bus_tcc.specs.Machine.{bus_event_of}
+use Rattle.bus_tool.proofs.Chosen.{answered-so, chosen-none, is-one}
+use Rattle.bus_tool.proofs.running.pick.Goals as goal
+
+pub returns-then-count-eq0-clause-chosen : goal.returns-then-count-eq0-clause-chosen
+returns-then-count-eq0-clause-chosen c =
+    sym (chosen-none (pcg32 c.args.words.now).0 (bus_useful_of c.args.bus.now) (sym c.useful_count-count.ensures ∙ c.if-count-eq0.true))
+
+there-are : (c : goal.After-useful_at) → 0 < length (bus_useful_of c.args.bus.now)
+there-are c = omega (arith, c.if-count-eq0.false, c.useful_count-count.ensures)
+
+by-word : (c : goal.After-useful_at)
+    → option_map bus_event_of c.useful_at.result ≡ bus_chosen (pcg32 c.args.words.now).0 (bus_useful_of c.args.bus.now)
+by-word c =
+    answered-so c.useful_at.result c.next_word-word.result (pcg32 c.args.words.now).0 c.useful_count-count.result
+    (bus_useful_of c.args.bus.now) c.useful_count-count.ensures (ap (λ p. p.0) c.next_word-word.ensures) c.useful_at.ensures
+    (omega (arith, c.if-count-eq0.false))
+
+pub returns-clause-chosen : goal.returns-clause-chosen
+returns-clause-chosen c = by-word c
+
+pub returns-clause-drawn : goal.returns-clause-drawn
+returns-clause-drawn c =
+    let some =
+    is-one c.useful_at.result (pcg32 c.args.words.now).0 (bus_useful_of c.args.bus.now) (there-are c) (by-word c) in
+    ap (λ p. p.1) c.next_word-word.ensures ∙ ap (λ b. if b then (pcg32 c.args.words.now).1 else c.args.words.now) (sym some)
