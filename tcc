@@ -20,19 +20,21 @@ Usage: tcc run    [OPTION]... IMAGE...            runs the images, and prints a 
        tcc why    [OPTION]... SCHEDULE IMAGE...   runs a schedule, and prints which messages wait then, and for what
        tcc serial [OPTION]... REPORT IMAGE...     runs a report's transactions one after another, without caches
        tcc trial  [OPTION]... KIND NUMBER         runs a workload, and prints a summary
+       tcc bus    [OPTION]... IMAGE...            runs the images on a machine with one bus and no directories, and prints a report
 
 RISC-V programs (RV32IMA) run on a machine that executes nothing but transactions. IMAGE... are the names of 1 to 16 files. KIND is
 counters, transfers, stencil or sharing, NUMBER how many transactions of it each core makes: 1 to 2047.
 
   --cores N      the number of cores: 1 to 64 (1)
-  --dirs N       the number of directories: 1 to 64 (1)
   --sets N       how many sets a cache has: a power of two from 1 to 1024 (16)
   --ways N       how many ways a set has: 1 to 16 (2)
- run, phases, replay, why and serial:
+ all but bus:
+  --dirs N       the number of directories: 1 to 64 (1)
+ all but trial:
   --ram N        the bytes of memory: a multiple of 32 from 32 to 16777216 (65536)
   --base N       the address of the first one: a multiple of 32 (0x80000000)
   --raw          the images are raw; without it they are ELF files
- run, phases and trial:
+ run, phases, trial and bus:
   --steps N      the largest number of events: 0 to 4194304 (1000000)
   --seed N       what the choice of events begins with: 0 to 18446744073709551615 (0)
  run and phases:

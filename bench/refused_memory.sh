@@ -118,6 +118,8 @@ each_refused same serial --raw --sets 1 --ways 1 report spill
 each_refused same why --raw --sets 1 --ways 1 schedule spill
 each_refused same phases --raw --cores 2 --record ordered count
 each_refused same trial --cores 2 --seed 1 counters 5
+each_refused same bus --raw --cores 2 --seed 1 count
+each_refused same bus --raw --cores 2 --sets 1 --ways 1 spill
 each_refused same run --cores 2 --seed 7 "$here/../examples/bank.elf"
 each_refused replayed run --raw --threads 4 --cores 2 --record schedule count
 exit "$failed"

@@ -10,6 +10,7 @@ use Rattle.tcc_base.specs.Settings.{Settings}
 use Rattle.tcc_cli.proofs.Complete.{answers_complete, given-told, of-command}
 use Rattle.tcc_cli.proofs.Excluded.{excluded, same-events}
 use Rattle.tcc_cli.proofs.Facts.{Facts}
+use Rattle.tcc_cli.proofs.Truth.{one-truth}
 use Rattle.tcc_cli.specs.Around.{Around}
 use Rattle.tcc_cli.specs.Commands.{fault_from, image_names, record_of}
 use Rattle.tcc_cli.specs.Images.{fault_of, start_of}
@@ -90,22 +91,10 @@ images-stay before after images files stay told = same images stay ∙ told
 one-end : (s : Start) (es : List Event) (d e : Bool) (g h : History) → RunsTo s es d g → RunsTo s es e h → (d ≡ e) × (g ≡ h)
 one-end s es d e g h a b =
     let same : g ≡ h = some (sym a.is_run ∙ b.is_run) in
-    (alike d e (subst (λ k. IsTrue d ↔ IsDone s.settings k.world) same a.is_done) b.is_done, same)
+    (one-truth (IsDone s.settings h.world) d e (subst (λ k. IsTrue d ↔ IsDone s.settings k.world) same a.is_done) b.is_done, same)
   where
     some : Some g ≡ Some h → g ≡ h
     some q = cc
-
-    alike : (d e : Bool) → IsTrue d ↔ IsDone s.settings h.world → IsTrue e ↔ IsDone s.settings h.world → d ≡ e
-    alike true true p q = refl
-    alike false false p q = refl
-    alike true false p q = absurd (no (q.1 (p.0 refl)))
-      where
-        no : IsTrue false → ⊥
-        no t = absurd (cc)
-    alike false true p q = absurd (no (p.1 (q.0 refl)))
-      where
-        no : IsTrue false → ⊥
-        no t = absurd (cc)
 
 -- and so are their texts
 one-text : Facts → (s : Start) (settings : Settings) (es : List Event) (bytes : List ℕ) (d e : Bool) (h : History) (u : List ℕ)

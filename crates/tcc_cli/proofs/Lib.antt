@@ -10,8 +10,10 @@ mod Loading
 mod Machines
 mod Naming
 mod Numbered
+mod OnBus
 mod Pieces
 mod Refusing
 mod Shown
 mod Starting
 mod Taken
+mod Truth

@@ -29,7 +29,7 @@ unfolding first_words
 as-many zero g = refl
 as-many (suc n) g = ap (λ k. suc k) (as-many n (pcg32 g).1)
 
-as_many_as : (n m k : ℕ) → m ≡ k → n ≤ m → ((n < m) → ⊥) → n ≡ k
+pub as_many_as : (n m k : ℕ) → m ≡ k → n ≤ m → ((n < m) → ⊥) → n ≡ k
 as_many_as n m k e l a = grind (arith)
 
 picked_runs : RiscvPickedEndsDone → PickedEnds → (s : Start) (seed steps : ℕ) (h : History) → IsAllowed s.settings

@@ -2,11 +2,12 @@
 use Rattle.std.specs.Prelude.{ℕ, Bool, true, List, ◌≡◌, Option}
 use Rattle.tcc_cli.specs.Commands.{head_of, start_from}
 use Rattle.tcc_cli.specs.Lists.{IsExecuted, IsListFault}
+use Rattle.tcc_cli.specs.OnBus.{RanOnBus}
 use Rattle.tcc_cli.specs.Phased.{IsPhasePicked, RanInPhases}
 use Rattle.tcc_cli.specs.Runs.{run_text, summary_text}
 use Rattle.tcc_cli.specs.Schedules.{IsMade, IsPicked, IsRecorded, IsScheduleFault, IsScheduleOf, Ran}
 use Rattle.tcc_words.specs.declared.command.Command.{Command}
-use Rattle.tcc_words.specs.declared.command.Command.TheVariants.{Run, Replay, Serial, Trial, Why, Phases}
+use Rattle.tcc_words.specs.declared.command.Command.TheVariants.{Run, Replay, Serial, Trial, Why, Phases, Bus}
 use Rattle.why_text.specs.Text.{why_text}
 
 -- what each command comes to, where its files have these bytes: the text that it prints, and what stands in the record then
@@ -30,6 +31,8 @@ Comes (Phases machine images steps seed keep) files tells told done text =
     let s = start_from (Phases machine images steps seed keep) files in
     RanInPhases s (λ es. IsPhasePicked s seed steps es × IsRecorded keep tells told (record { config = machine.config; events = es }))
     done text
+Comes (Bus machine images steps seed) files tells told done text =
+    RanOnBus (start_from (Bus machine images steps seed) files) seed steps done text
 
 -- the line at which the file of a command is refused
 abbrev pub IsFaultyLine : Command → (files : List (List ℕ)) → (line : ℕ) → Type 0

@@ -4,7 +4,7 @@ use Rattle.image_load.specs.Start.{Start}
 use Rattle.tcc_cli.specs.Images.{fault_of, start_of}
 use Rattle.tcc_cli.specs.declared.refusal.ImageFault.{ImageFault}
 use Rattle.tcc_words.specs.declared.command.Command.{Command}
-use Rattle.tcc_words.specs.declared.command.Command.TheVariants.{Run, Replay, Serial, Trial, Why, Phases}
+use Rattle.tcc_words.specs.declared.command.Command.TheVariants.{Run, Replay, Serial, Trial, Why, Phases, Bus}
 use Rattle.tcc_words.specs.declared.command.Machine.{Machine}
 use Rattle.work_gen.specs.Programs.{image, program}
 
@@ -16,6 +16,7 @@ image_names (Serial machine list images) = images
 image_names (Trial config work number steps seed) = []
 image_names (Why machine schedule images) = images
 image_names (Phases machine images steps seed keep) = images
+image_names (Bus machine images steps seed) = images
 
 -- the names of the files that are read, in order: the schedule or the list, and then the images
 abbrev pub files_of : Command → List (List ℕ)
@@ -25,6 +26,7 @@ files_of (Serial machine list images) = list ∷ images
 files_of (Trial config work number steps seed) = []
 files_of (Why machine schedule images) = schedule ∷ images
 files_of (Phases machine images steps seed keep) = images
+files_of (Bus machine images steps seed) = images
 
 -- the name of the file that is written
 abbrev pub record_of : Command → Option (List ℕ)
@@ -40,6 +42,7 @@ machine_of (Serial machine list images) = machine
 machine_of (Trial config work number steps seed) = record { config = config; raw = true }
 machine_of (Why machine schedule images) = machine
 machine_of (Phases machine images steps seed keep) = machine
+machine_of (Bus machine images steps seed) = machine
 
 -- the first of some files, and those after it
 abbrev pub head_of : List (List ℕ) → List ℕ
@@ -58,6 +61,7 @@ images_in (Serial machine list images) files = tail_of files
 images_in (Trial config work number steps seed) files = image (program work number) ∷ []
 images_in (Why machine schedule images) files = tail_of files
 images_in (Phases machine images steps seed keep) files = files
+images_in (Bus machine images steps seed) files = files
 
 -- the start of the machine with these images, and the first of them that is no image
 abbrev pub start_from : Command → (files : List (List ℕ)) → Start

@@ -1,5 +1,8 @@
 -- What follows from the program's answers.
 use Rattle.std.specs.Prelude.{ℕ, true, List, length, map, Contains, Option, IsSome, ◌≡◌, ◌≢◌, ◌↔◌, ◌⊎◌, Some, None}
+use Rattle.bus_rules.specs.Step.{BusHistory}
+use Rattle.bus_rules.specs.Useful.{BusIsDone}
+use Rattle.bus_tool.specs.Running.{bus_picked_by}
 use Rattle.image_load.specs.Start.{Start}
 use Rattle.tcc_base.specs.Settings.{IsAllowed}
 use Rattle.tcc_base.specs.declared.access.Commit.{Commit}
@@ -7,6 +10,7 @@ use Rattle.tcc_cli.specs.Around.{Around}
 use Rattle.tcc_cli.specs.Comes.{IsFaultyLine}
 use Rattle.tcc_cli.specs.Commands.{fault_from, files_of, image_names, machine_of, record_of}
 use Rattle.tcc_cli.specs.Lines.{Written, IsWhole}
+use Rattle.tcc_cli.specs.OnBus.{IsBusRun}
 use Rattle.tcc_cli.specs.Phased.{IsPhasePicked, phases_and}
 use Rattle.tcc_cli.specs.Runs.{IsRun}
 use Rattle.tcc_cli.specs.Schedules.{IsMade}
@@ -65,6 +69,12 @@ abbrev pub OpenPhasedRunsTakeAllEvents : Type 0
 OpenPhasedRunsTakeAllEvents =
     (s : Start) (seed steps : ℕ) (es : List Event) (h : History) → IsAllowed s.settings → IsPhasePicked s seed steps es
     → IsRun s (map event_of es) h → (IsDone s.settings h.world → ⊥) → length es ≡ steps
+
+-- and so did a run of the machine with one bus
+abbrev pub OpenBusRunsTakeAllEvents : Type 0
+OpenBusRunsTakeAllEvents =
+    (s : Start) (seed steps : ℕ) (h : BusHistory) → IsAllowed s.settings → IsBusRun s (bus_picked_by s seed steps) h
+    → (BusIsDone s.settings h.world → ⊥) → length (bus_picked_by s seed steps) ≡ steps
 
 -- two calls: a run that is recorded, and a replay of the record, by the same settings and with the same images, in the files as the run
 -- left them; the record isn't one of the images

@@ -6,6 +6,7 @@ pub mod Images
 pub mod Laws
 pub mod Lines
 pub mod Lists
+pub mod OnBus
 pub mod Phased
 pub mod Reading
 pub mod Refusals

@@ -19,7 +19,10 @@ fn first_name(command: &Command) -> Option<&str>
             Some(schedule.items.as_str())
         }
         Command::Serial { list, .. } => Some(list.items.as_str()),
-        Command::Run { .. } | Command::Trial { .. } | Command::Phases { .. } => None,
+        Command::Run { .. }
+        | Command::Trial { .. }
+        | Command::Phases { .. }
+        | Command::Bus { .. } => None,
     }
 }
 
@@ -32,7 +35,8 @@ fn image_names(command: &Command) -> &[Text]
         | Command::Replay { images, .. }
         | Command::Serial { images, .. }
         | Command::Why { images, .. }
-        | Command::Phases { images, .. } => &images.items,
+        | Command::Phases { images, .. }
+        | Command::Bus { images, .. } => &images.items,
         Command::Trial { .. } => &[],
     }
 }

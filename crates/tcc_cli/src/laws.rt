@@ -1,7 +1,8 @@
 // What follows from the answers of the program.
-ghost use Rattle.tcc_cli.specs.Laws.{AnswersAreComplete, OpenPhasedRunsTakeAllEvents, OpenRunsTakeAllEvents, OthersAreRefused};
-ghost use Rattle.tcc_cli.specs.Laws.{ReplaysPrintTheSame};
+ghost use Rattle.tcc_cli.specs.Laws.{AnswersAreComplete, OpenBusRunsTakeAllEvents, OpenPhasedRunsTakeAllEvents, OpenRunsTakeAllEvents};
+ghost use Rattle.tcc_cli.specs.Laws.{OthersAreRefused, ReplaysPrintTheSame};
 
+use bus_serial::riscv_bus_machines_are_never_stuck;
 use phase_rules::{
     a_schedule_picked_by_phases_runs, phased_runs_are_never_stuck, phased_runs_are_runs,
 };
@@ -29,11 +30,12 @@ pub fn answers_are_complete()
     what_runs_is_not_refused();
 }
 
-/// A law: where the machine isn't done at the end of a run, of a seed's, of threads or by phases, all the events that were asked for were
-/// taken.
+/// A law: where the machine isn't done at the end of a run, of a seed's, of threads, by phases or on one bus, all the events that were asked
+/// for were taken.
 pub fn open_runs_take_all_events()
     ensures runs { OpenRunsTakeAllEvents }
     ensures phased { OpenPhasedRunsTakeAllEvents }
+    ensures bus { OpenBusRunsTakeAllEvents }
 {
     riscv_machines_are_never_stuck();
     a_picked_schedule_is_a_run();
@@ -41,6 +43,7 @@ pub fn open_runs_take_all_events()
     phased_runs_are_never_stuck();
     phased_runs_are_runs();
     a_schedule_picked_by_phases_runs();
+    riscv_bus_machines_are_never_stuck();
 }
 
 /// A law: two calls, a run that is recorded and the replay of the record with the same settings and images, end alike and print the same

@@ -6,6 +6,7 @@ mod images;
 mod laid;
 mod laws;
 mod lists;
+mod on_bus;
 mod phases;
 mod records;
 mod refusal;

@@ -5,7 +5,7 @@ ghost use Rattle.tcc_cli.specs.Statuses.{number_of};
 /// How the program ends, with the number that it ends with.
 #[derive(Clone, Copy, Debug, PartialEq, Eq)]
 pub enum Status {
-    /// 0: every core has halted, nothing is in flight, and no frame has a dirty word; or the list ran to its end.
+    /// 0: every core has halted, nothing is in flight (no packet on the bus), and no frame has a dirty word; or the list ran to its end.
     Done,
     /// 1: all the events were taken, and the machine is not done.
     Stopped,

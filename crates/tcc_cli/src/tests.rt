@@ -1,5 +1,6 @@
 // The program's answers and texts, over files and outputs in memory.
 mod atomics;
+mod buses;
 mod files;
 mod outputs;
 mod phases;

@@ -13,6 +13,7 @@ ghost use Rattle.tcc_words.specs.Bounds.{IsInBounds};
 use crate::files::{names, read_files};
 use crate::images::{bytes, lay};
 use crate::lists::execute;
+use crate::on_bus::run_on_bus;
 use crate::refusal::{Refusal, refuse};
 use crate::reports::Finished;
 use crate::running::{run_again, run_and_tell, run_phased, run_recorded, run_trial};
@@ -34,9 +35,11 @@ use work_gen::workload;
 /// report; `serial [..] REPORT IMAGE..` executes the commits that a report lists on the plain machine and writes its report; `trial [..]
 /// KIND NUMBER` runs a workload and writes a summary; `why [..] SCHEDULE IMAGE..` runs the schedule of a file whole and writes why each
 /// message waits that is in flight then, and what can happen next; `phases [..] IMAGE..` runs images as `run` does by a seed, but holds
-/// back the requests of later phases, and writes the phase of each commit and then the report.
+/// back the requests of later phases, and writes the phase of each commit and then the report; `bus [..] IMAGE..` runs images on the machine
+/// with one bus for at most so many events that a seed picks, and writes its report.
 ///
-/// `Done`: at the end every core has halted, nothing is in flight and no frame has a dirty word, or the list ran to its end. `Stopped`: the
+/// `Done`: at the end every core has halted, nothing is in flight (no packet on the bus) and no frame has a dirty word, or the list ran to
+/// its end. `Stopped`: the
 /// machine isn't done; a run has then taken all the events that were asked for. With both the whole text was written. `Words`: the words
 /// are no command, or a value isn't allowed. `Image`: the files were read, and one isn't an image. `Schedule`: the schedule or list isn't
 /// in its grammar, has other settings than the command's, or can't be run to its end. `StoreFault`: a file wasn't read, and this is the
@@ -153,9 +156,9 @@ fn load<'a>(alloc: Global, command: &Command, read: &[List<u8>]) -> Result<Loade
     ensures refused { IfErr result (RefusedImages (fault_from command.now read.now)) }
 {
     match command {
-        Command::Run { machine, .. } | Command::Phases { machine, .. } => {
-            lay(alloc, machine.raw, &machine.config, read)
-        }
+        Command::Run { machine, .. }
+        | Command::Phases { machine, .. }
+        | Command::Bus { machine, .. } => lay(alloc, machine.raw, &machine.config, read),
         Command::Replay { machine, .. }
         | Command::Serial { machine, .. }
         | Command::Why { machine, .. } => { lay(alloc, machine.raw, &machine.config, &read[1..]) }
@@ -238,6 +241,10 @@ fn finish<'a, R: Threads + Wait + Sync, F: Store, G: Gate + Sync>(
             steps,
             ..
         } => match run_trial(alloc, loaded, *work, *number, *seed, *steps) {
+            Ok(finished) => Ok(finished),
+            Err(NoMemory) => Err(Refusal::Memory),
+        },
+        Command::Bus { steps, seed, .. } => match run_on_bus(alloc, loaded, *seed, *steps) {
             Ok(finished) => Ok(finished),
             Err(NoMemory) => Err(Refusal::Memory),
         },

@@ -1,13 +1,16 @@
 -- The numbers of a command are those of allowed fields.
-use Rattle.std.proofs.Common.{◌≡◌, ℕ, ◌+◌, ◌%◌, ◌^◌, ◌≤◌, IsTrue, List, length, Option, Some, None, sym, subst, ◌∙◌}
+use Rattle.std.proofs.Common.{◌≡◌, ℕ, ◌+◌, ◌%◌, ◌^◌, ◌≤◌, IsTrue, List, length, Option, Some, None, refl, sym, subst, ◌∙◌}
 use Rattle.std.specs.Int.{is_power_of_two}
 use Rattle.std.specs.Prelude.{IfSome, IsSome, codes}
 use Rattle.clap.specs.Walk.{Row, Text}
-use Rattle.clap.specs.Words.{first_of}
+use Rattle.clap.specs.Simple.{argument_words, built, names_of}
+use Rattle.clap.specs.Words.{first_of, matches_of}
 use Rattle.tcc_base.specs.Settings.{Settings, IsAllowed}
 use Rattle.tcc_words.proofs.OneCommand.{one-value}
+use Rattle.tcc_words.proofs.Unasked.{IsApart, unasked}
 use Rattle.tcc_words.specs.Asked.{HasPlaces, HasSettings, IsCommand, MayBeGiven, Asks}
 use Rattle.tcc_words.specs.Bounds.{IsInBounds}
+use Rattle.tcc_words.specs.Grammar.{grammar}
 use Rattle.tcc_words.specs.Fields.{Allows, IsValue, images_of}
 use Rattle.tcc_words.specs.Numbers.{IsNumber}
 use Rattle.tcc_words.specs.declared.command.Command.{Command}
@@ -15,7 +18,7 @@ use Rattle.tcc_words.specs.declared.command.Command.TheVariants as command
 use Rattle.tcc_words.specs.declared.command.Field.{Field}
 use Rattle.tcc_words.specs.declared.command.Field.TheVariants.{Cores, Dirs, Sets, Ways, Ram, Base, Steps, Threads, Images, Number}
 use Rattle.tcc_words.specs.declared.command.Verb.{Verb}
-use Rattle.tcc_words.specs.declared.command.Verb.TheVariants.{Run, Replay, Serial, Trial, Why, Phases}
+use Rattle.tcc_words.specs.declared.command.Verb.TheVariants.{Run, Replay, Serial, Trial, Why, Phases, Bus}
 
 -- settings that stand in allowed fields are allowed
 allowed : (rows : List Row) (s : Settings) → HasSettings rows s → ((field : Field) → Allows rows field) → IsAllowed s
@@ -75,30 +78,55 @@ images-some : (rows : List Row) (images : List Text) → images ≡ images_of ro
     → ((field : Field) → Allows rows field) → (1 ≤ length images) × (length images ≤ 16)
 images-some rows images is some every = subst (λ names. (1 ≤ length names) × (length names ≤ 16)) (sym is) (some, every Images)
 
-bounded : (verb : Verb) (rows : List Row) (c : Command) → HasPlaces verb rows → ((field : Field) → Allows rows field) → Asks verb rows c
-    → IsInBounds c
-bounded Run rows (command.Run machine images steps seed threads keep) places every a =
+-- the bus's words have no directories
+no-dirs : (words : List Text) → first_of (codes "dirs") (matches_of (grammar Bus) words) ≡ None
+unfolding grammar IsApart
+no-dirs words =
+    let apart : IsApart (codes "dirs") (built (grammar Bus)).top.rules =
+    (refl, (refl, (refl, (refl, (refl, (refl, (refl, (refl, (refl, tt))))))))) in
+    unasked (codes "dirs") (built (grammar Bus)).top.rules apart (names_of (built (grammar Bus))) (argument_words (grammar Bus) words)
+
+one-dir : (rows : List Row) (n : ℕ) → first_of (codes "dirs") rows ≡ None → IsValue 1 (first_of (codes "dirs") rows) n → n ≡ 1
+one-dir rows n none said = subst (λ o. IsValue 1 o n) none said
+
+-- where a command's grammar has no directories none are read
+abbrev HasNone : Verb → List Row → Type 0
+HasNone Bus rows = first_of (codes "dirs") rows ≡ None
+HasNone _ rows = Unit {0}
+
+has-none : (verb : Verb) (words : List Text) (rows : List Row) → matches_of (grammar verb) words ≡ rows → HasNone verb rows
+has-none Bus words rows read = subst (λ r. first_of (codes "dirs") r ≡ None) read (no-dirs words)
+has-none _ words rows read = tt
+
+bounded : (verb : Verb) (rows : List Row) (c : Command) → HasPlaces verb rows → HasNone verb rows → ((field : Field) → Allows rows field)
+    → Asks verb rows c → IsInBounds c
+bounded Run rows (command.Run machine images steps seed threads keep) places none every a =
     let some = images-some rows images a.1 places every in
     let few = threads-few rows threads keep a.4 a.5 every in
     record { allowed = allowed rows machine.config a.0.0 every; numbers = (some.0, some.1, steps-few rows steps a.2 every, few) }
-bounded Replay rows (command.Replay machine schedule images) places every a =
+bounded Replay rows (command.Replay machine schedule images) places none every a =
     record { allowed = allowed rows machine.config a.0.0 every; numbers = images-some rows images a.2 places.1 every }
-bounded Serial rows (command.Serial machine list images) places every a =
+bounded Serial rows (command.Serial machine list images) places none every a =
     record { allowed = allowed rows machine.config a.0.0 every; numbers = images-some rows images a.2 places.1 every }
-bounded Trial rows (command.Trial config work number steps seed) places every a =
+bounded Trial rows (command.Trial config work number steps seed) places none every a =
     let some = number-fits (first_of (codes "number") rows) number a.2 (every Number) in
     record { allowed = allowed rows config a.0 every; numbers = (some.0, some.1, steps-few rows steps a.3 every) }
-bounded Why rows (command.Why machine schedule images) places every a =
+bounded Why rows (command.Why machine schedule images) places none every a =
     record { allowed = allowed rows machine.config a.0.0 every; numbers = images-some rows images a.2 places.1 every }
-bounded Phases rows (command.Phases machine images steps seed keep) places every a =
+bounded Phases rows (command.Phases machine images steps seed keep) places none every a =
     let some = images-some rows images a.1 places every in
     record { allowed = allowed rows machine.config a.0.0 every; numbers = (some.0, some.1, steps-few rows steps a.2 every) }
-bounded Run rows _ places every a = absurd a
-bounded Replay rows _ places every a = absurd a
-bounded Serial rows _ places every a = absurd a
-bounded Trial rows _ places every a = absurd a
-bounded Why rows _ places every a = absurd a
-bounded Phases rows _ places every a = absurd a
+bounded Bus rows (command.Bus machine images steps seed) places none every a =
+    let some = images-some rows images a.1 places every in
+    let one = one-dir rows machine.config.dirs none a.0.0.dirs in
+    record { allowed = allowed rows machine.config a.0.0 every; numbers = (some.0, some.1, steps-few rows steps a.2 every, one) }
+bounded Run rows _ places none every a = absurd a
+bounded Replay rows _ places none every a = absurd a
+bounded Serial rows _ places none every a = absurd a
+bounded Trial rows _ places none every a = absurd a
+bounded Why rows _ places none every a = absurd a
+bounded Phases rows _ places none every a = absurd a
+bounded Bus rows _ places none every a = absurd a
 
 pub in-bounds : (words : List Text) (c : Command) → IsCommand words c → IsInBounds c
-in-bounds words c h = bounded h.verb h.rows c h.stands.places h.allowed h.asks
+in-bounds words c h = bounded h.verb h.rows c h.stands.places (has-none h.verb words h.rows h.stands.read) h.allowed h.asks

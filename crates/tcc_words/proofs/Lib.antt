@@ -4,3 +4,4 @@ pub mod Order
 pub mod Standing
 pub mod OneCommand
 mod Bounded
+mod Unasked

@@ -18,7 +18,7 @@ use Rattle.tcc_words.specs.declared.command.Field.{Field}
 use Rattle.tcc_words.specs.declared.command.Field.TheVariants.{Cores, Dirs, Sets, Ways, Ram, Base, Steps, Seed}
 use Rattle.tcc_words.specs.declared.command.Machine.{Machine}
 use Rattle.tcc_words.specs.declared.command.Verb.{Verb}
-use Rattle.tcc_words.specs.declared.command.Verb.TheVariants.{Run, Replay, Serial, Trial, Why, Phases}
+use Rattle.tcc_words.specs.declared.command.Verb.TheVariants.{Run, Replay, Serial, Trial, Why, Phases, Bus}
 use Rattle.tcc_words.specs.declared.command.WordsFault.TheVariants as fault
 use Rattle.tcc_words.proofs.Standing.{stands-verb}
 
@@ -154,6 +154,16 @@ one-phases rows (command.Phases m images steps seed keep) (command.Phases n imag
 one-phases rows (command.Phases m images steps seed keep) _ a b = absurd b
 one-phases rows _ d a b = absurd a
 
+one-bus : (rows : List Row) (c d : Command) → Asks Bus rows c → Asks Bus rows d → c ≡ d
+one-bus rows (command.Bus m images steps seed) (command.Bus n images' steps' seed') a b =
+    let machine = one-machine rows m n a.0 b.0 in
+    let files : images ≡ images' = a.1 ∙ sym b.1 in
+    let most = one-said rows Steps steps steps' a.2 b.2 in
+    let start = one-said rows Seed seed seed' a.3 b.3 in
+    λ i. command.Bus (machine i) (files i) (most i) (start i)
+one-bus rows (command.Bus m images steps seed) _ a b = absurd b
+one-bus rows _ d a b = absurd a
+
 one-asked : (verb : Verb) (rows : List Row) (c d : Command) → Asks verb rows c → Asks verb rows d → c ≡ d
 one-asked Run rows c d a b = one-run rows c d a b
 one-asked Replay rows c d a b = one-replay rows c d a b
@@ -161,6 +171,7 @@ one-asked Serial rows c d a b = one-serial rows c d a b
 one-asked Trial rows c d a b = one-trial rows c d a b
 one-asked Why rows c d a b = one-why rows c d a b
 one-asked Phases rows c d a b = one-phases rows c d a b
+one-asked Bus rows c d a b = one-bus rows c d a b
 
 -- what words stand for
 one-reading : (words : List Text) (v w : Verb) (r s : List Row) → Stands words v r → Stands words w s → (w ≡ v) × (s ≡ r)

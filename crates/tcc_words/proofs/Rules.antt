@@ -3,10 +3,11 @@ use Rattle.std.proofs.Common.{◌≡◌, true, List, [], ◌∷◌, ◌++◌, re
 use Rattle.clap.specs.Words.{App, Rule, Text, is_simple, with_rule}
 use Rattle.clap.specs.Faults.{is_simple_and_free}
 use Rattle.clap.specs.Simple.{on_top}
-use Rattle.tcc_words.specs.Grammar.{event_rules, grammar, memory_rules, node_rules, option, place, plain, rules, verb_word}
+use Rattle.tcc_words.specs.Grammar.{core_rules, event_rules, grammar, machine_rules, memory_rules, option, place, places, plain}
+use Rattle.tcc_words.specs.Grammar.{node_rules, rules, verb_word}
 use Rattle.tcc_words.specs.Grammar.{file_rules, record_rules, with_rules}
 use Rattle.tcc_words.specs.declared.command.Verb.{Verb}
-use Rattle.tcc_words.specs.declared.command.Verb.TheVariants.{Run, Replay, Serial, Trial, Why, Phases}
+use Rattle.tcc_words.specs.declared.command.Verb.TheVariants.{Run, Replay, Serial, Trial, Why, Phases, Bus}
 
 put_rules : App → List Rule → App
 put_rules a rs = on_top (λ s. record s { rules = rs }) a
@@ -35,25 +36,34 @@ filed_rules a more r s =
     let all : ((a.top.rules ++ more) ++ r ∷ []) ++ s ∷ [] ≡ a.top.rules ++ (more ++ r ∷ s ∷ []) = simp append_assoc in
     ap (put_rules a) all
 
+pub more_rules : (a : App) (first later : List Rule) → with_rules later (with_rules first a) ≡ with_rules (first ++ later) a
+unfolding put_rules
+more_rules a first later = ap (put_rules a) (append_assoc a.top.rules first later)
+
 -- the grammars, by the steps in which they are made
-pub run_made : (verb : Verb) (name : Text) (bare nodes machine events threads made : App) → verb ≡ Run → name ≡ verb_word verb
-    → bare ≡ plain name [] → nodes ≡ with_rules node_rules bare → machine ≡ with_rules memory_rules nodes
+pub run_made : (verb : Verb) (name : Text) (bare machine events threads made : App) → verb ≡ Run → name ≡ verb_word verb
+    → bare ≡ plain name [] → machine ≡ with_rules machine_rules bare
     → events ≡ with_rules event_rules machine → threads ≡ with_rule events (option (codes "threads"))
     → made ≡ with_rules record_rules threads → made ≡ grammar verb
 unfolding grammar
-run_made verb name bare nodes machine events threads made v n e0 e1 e2 e3 e4 e5 = rw (e5, e4, e3, e2, e1, e0, n, v) refl
+run_made verb name bare machine events threads made v n e0 e1 e2 e3 e4 = rw (e4, e3, e2, e1, e0, n, v) refl
 
-pub phases_made : (verb : Verb) (name : Text) (bare nodes machine events made : App) → verb ≡ Phases → name ≡ verb_word verb
-    → bare ≡ plain name [] → nodes ≡ with_rules node_rules bare → machine ≡ with_rules memory_rules nodes
-    → events ≡ with_rules event_rules machine → made ≡ with_rules record_rules events → made ≡ grammar verb
+pub phases_made : (verb : Verb) (name : Text) (bare machine events made : App) → verb ≡ Phases → name ≡ verb_word verb
+    → bare ≡ plain name [] → machine ≡ with_rules machine_rules bare → events ≡ with_rules event_rules machine
+    → made ≡ with_rules record_rules events → made ≡ grammar verb
 unfolding grammar
-phases_made verb name bare nodes machine events made v n e0 e1 e2 e3 e4 = rw (e4, e3, e2, e1, e0, n, v) refl
+phases_made verb name bare machine events made v n e0 e1 e2 e3 = rw (e3, e2, e1, e0, n, v) refl
 
-pub filed_made : (verb : Verb) (name file : Text) (bare nodes made : App) → rules verb ≡ node_rules ++ file_rules file
-    → name ≡ verb_word verb → bare ≡ plain name [] → nodes ≡ with_rules node_rules bare → made ≡ with_rules (file_rules file) nodes
-    → made ≡ grammar verb
+pub bus_made : (verb : Verb) (name : Text) (bare cores machine events made : App) → verb ≡ Bus → name ≡ verb_word verb
+    → bare ≡ plain name [] → cores ≡ with_rules core_rules bare → machine ≡ with_rules memory_rules cores
+    → events ≡ with_rules event_rules machine → made ≡ with_rule events (places (codes "image")) → made ≡ grammar verb
 unfolding grammar
-filed_made verb name file bare nodes made r n e0 e1 e2 = rw (e2, e1, e0, n) (ap (plain (verb_word verb)) (sym r))
+bus_made verb name bare cores machine events made v n e0 e1 e2 e3 e4 = rw (e4, e3, e2, e1, e0, n, v) refl
+
+pub filed_made : (verb : Verb) (name file : Text) (bare made : App) → rules verb ≡ file_rules file → name ≡ verb_word verb
+    → bare ≡ plain name [] → made ≡ with_rules (file_rules file) bare → made ≡ grammar verb
+unfolding grammar
+filed_made verb name file bare made r n e0 e1 = rw (e1, e0, n) (ap (plain (verb_word verb)) (sym r))
 
 pub trial_made : (verb : Verb) (name : Text) (bare nodes events kind made : App) → verb ≡ Trial → name ≡ verb_word verb
     → bare ≡ plain name [] → nodes ≡ with_rules node_rules bare → events ≡ with_rules event_rules nodes
@@ -69,6 +79,7 @@ grammar-simple Serial = refl
 grammar-simple Trial = refl
 grammar-simple Why = refl
 grammar-simple Phases = refl
+grammar-simple Bus = refl
 
 pub grammar-free : (verb : Verb) → is_simple_and_free (grammar verb) ≡ true
 unfolding grammar
@@ -78,3 +89,4 @@ grammar-free Serial = refl
 grammar-free Trial = refl
 grammar-free Why = refl
 grammar-free Phases = refl
+grammar-free Bus = refl

@@ -10,7 +10,7 @@ use Rattle.tcc_words.specs.Grammar.{IsRefusal, grammar, verb_word}
 use Rattle.tcc_words.specs.declared.command.WordsFault.{WordsFault}
 use Rattle.tcc_words.specs.declared.command.WordsFault.TheVariants as fault
 use Rattle.tcc_words.specs.declared.command.Verb.{Verb}
-use Rattle.tcc_words.specs.declared.command.Verb.TheVariants.{Run, Replay, Serial, Trial, Why, Phases}
+use Rattle.tcc_words.specs.declared.command.Verb.TheVariants.{Run, Replay, Serial, Trial, Why, Phases, Bus}
 
 -- the names of commands differ in their third letters
 tag : Text → ℕ
@@ -19,7 +19,7 @@ tag text = get_or text 2 0
 tagged : ℕ → Verb
 tagged n =
     if n == 110 then Run else if n == 112 then Replay else if n == 114 then Serial else if n == 105 then Trial
-    else if n == 121 then Why else Phases
+    else if n == 121 then Why else if n == 97 then Phases else Bus
 
 tagged-again : (v : Verb) → tagged (tag (verb_word v)) ≡ v
 unfolding tag tagged
@@ -29,6 +29,7 @@ tagged-again Serial = refl
 tagged-again Trial = refl
 tagged-again Why = refl
 tagged-again Phases = refl
+tagged-again Bus = refl
 
 verb-same : (v w : Verb) → verb_word v ≡ verb_word w → v ≡ w
 verb-same v w e = sym (tagged-again v) ∙ ap (λ (text : Text). tagged (tag text)) e ∙ tagged-again w

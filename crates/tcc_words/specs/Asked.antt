@@ -16,7 +16,7 @@ use Rattle.tcc_words.specs.declared.command.Field.{Field}
 use Rattle.tcc_words.specs.declared.command.Field.TheVariants.{Cores, Dirs, Sets, Ways, Ram, Base, Steps, Seed}
 use Rattle.tcc_words.specs.declared.command.Machine.{Machine}
 use Rattle.tcc_words.specs.declared.command.Verb.{Verb}
-use Rattle.tcc_words.specs.declared.command.Verb.TheVariants.{Run, Replay, Serial, Trial, Why, Phases}
+use Rattle.tcc_words.specs.declared.command.Verb.TheVariants.{Run, Replay, Serial, Trial, Why, Phases, Bus}
 use Rattle.tcc_words.specs.declared.command.WordsFault.{WordsFault}
 use Rattle.tcc_words.specs.declared.command.WordsFault.TheVariants as fault
 
@@ -28,6 +28,7 @@ HasPlaces Serial rows = IsSome (first_of (codes "report") rows) × (1 ≤ length
 HasPlaces Trial rows = IsSome (first_of (codes "kind") rows) × IsSome (first_of (codes "number") rows)
 HasPlaces Why rows = IsSome (first_of (codes "schedule") rows) × (1 ≤ length (images_of rows))
 HasPlaces Phases rows = 1 ≤ length (images_of rows)
+HasPlaces Bus rows = 1 ≤ length (images_of rows)
 
 -- the first word names a command, and clap takes the words after it; these are the options and places that it reads
 pub record Stands (words : List Text) (verb : Verb) (rows : List Row) : Type 0 where
@@ -77,6 +78,8 @@ Asks Why rows (command.Why machine schedule images) =
 Asks Phases rows (command.Phases machine images steps seed keep) =
     HasMachine rows machine × (images ≡ images_of rows) × IsSaid rows Steps steps × IsSaid rows Seed seed
     × (keep ≡ first_of (codes "record") rows)
+Asks Bus rows (command.Bus machine images steps seed) =
+    HasMachine rows machine × (images ≡ images_of rows) × IsSaid rows Steps steps × IsSaid rows Seed seed
 Asks _ _ _ = ⊥
 
 -- what stands in the fields, where all of it is allowed

@@ -1,10 +1,10 @@
 -- The numbers of a command are within their bounds.
-use Rattle.std.specs.Prelude.{◌≤◌, List, length, IfSome, IsSome}
+use Rattle.std.specs.Prelude.{◌≡◌, ◌≤◌, List, length, IfSome, IsSome}
 use Rattle.clap.specs.Words.{Text}
 use Rattle.tcc_base.specs.Settings.{Settings, IsAllowed}
 use Rattle.tcc_words.specs.Asked.{IsCommand}
 use Rattle.tcc_words.specs.declared.command.Command.{Command}
-use Rattle.tcc_words.specs.declared.command.Command.TheVariants.{Run, Replay, Serial, Trial, Why, Phases}
+use Rattle.tcc_words.specs.declared.command.Command.TheVariants.{Run, Replay, Serial, Trial, Why, Phases, Bus}
 
 abbrev pub config_of : Command → Settings
 config_of (Run machine images steps seed threads keep) = machine.config
@@ -13,8 +13,10 @@ config_of (Serial machine list images) = machine.config
 config_of (Trial config work number steps seed) = config
 config_of (Why machine schedule images) = machine.config
 config_of (Phases machine images steps seed keep) = machine.config
+config_of (Bus machine images steps seed) = machine.config
 
--- 1 to 16 images, at most 4,194,304 events, 1 to 16 threads and only with a record, a workload's number from 1 to 2047
+-- 1 to 16 images, at most 4,194,304 events, 1 to 16 threads and only with a record, a workload's number from 1 to 2047; where there are
+-- no directories the settings have one
 abbrev pub AreNumbers : Command → Type 0
 AreNumbers (Run machine images steps seed threads keep) =
     (1 ≤ length images) × (length images ≤ 16) × (steps ≤ 4194304) × IfSome threads (λ t. (1 ≤ t) × (t ≤ 16) × IsSome keep)
@@ -23,6 +25,8 @@ AreNumbers (Serial machine list images) = (1 ≤ length images) × (length image
 AreNumbers (Trial config work number steps seed) = (1 ≤ number) × (number ≤ 2047) × (steps ≤ 4194304)
 AreNumbers (Why machine schedule images) = (1 ≤ length images) × (length images ≤ 16)
 AreNumbers (Phases machine images steps seed keep) = (1 ≤ length images) × (length images ≤ 16) × (steps ≤ 4194304)
+AreNumbers (Bus machine images steps seed) =
+    (1 ≤ length images) × (length images ≤ 16) × (steps ≤ 4194304) × (machine.config.dirs ≡ 1)
 
 pub record IsInBounds (c : Command) : Type 0 where
   pub allowed : IsAllowed (config_of c)

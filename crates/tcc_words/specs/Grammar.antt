@@ -7,7 +7,7 @@ use Rattle.clap.specs.declared.builder.action.ArgAction.TheVariants.{Append, Set
 use Rattle.tcc_words.specs.declared.command.WordsFault.{WordsFault}
 use Rattle.tcc_words.specs.declared.command.WordsFault.TheVariants as fault
 use Rattle.tcc_words.specs.declared.command.Verb.{Verb}
-use Rattle.tcc_words.specs.declared.command.Verb.TheVariants.{Run, Replay, Serial, Trial, Why, Phases}
+use Rattle.tcc_words.specs.declared.command.Verb.TheVariants.{Run, Replay, Serial, Trial, Why, Phases, Bus}
 
 -- the first word of a command
 abbrev pub verb_word : Verb → Text
@@ -17,6 +17,7 @@ verb_word Serial = codes "serial"
 verb_word Trial = codes "trial"
 verb_word Why = codes "why"
 verb_word Phases = codes "phases"
+verb_word Bus = codes "bus"
 
 -- an option with a value, `--name value` or `--name=value`, at most once
 abbrev pub option : Text → Rule
@@ -33,12 +34,18 @@ place name = record (new_rule name) { required = true }
 abbrev pub places : Text → Rule
 places name = record (place name) { action = Some Append }
 
--- the options of the nodes, of memory and images, and of the events
+-- the options of the nodes, and those where there are no directories; of memory and images; and of the events
 abbrev pub node_rules : List Rule
 node_rules = option (codes "cores") ∷ option (codes "dirs") ∷ option (codes "sets") ∷ option (codes "ways") ∷ []
 
+abbrev pub core_rules : List Rule
+core_rules = option (codes "cores") ∷ option (codes "sets") ∷ option (codes "ways") ∷ []
+
 abbrev pub memory_rules : List Rule
 memory_rules = option (codes "ram") ∷ option (codes "base") ∷ flag (codes "raw") ∷ []
+
+abbrev pub machine_rules : List Rule
+machine_rules = node_rules ++ memory_rules
 
 abbrev pub event_rules : List Rule
 event_rules = option (codes "steps") ∷ option (codes "seed") ∷ []
@@ -48,17 +55,18 @@ abbrev pub record_rules : List Rule
 record_rules = option (codes "record") ∷ places (codes "image") ∷ []
 
 abbrev pub file_rules : Text → List Rule
-file_rules file = memory_rules ++ place file ∷ places (codes "image") ∷ []
+file_rules file = machine_rules ++ place file ∷ places (codes "image") ∷ []
 
 -- run [..] IMAGE...    replay [..] SCHEDULE IMAGE...    serial [..] REPORT IMAGE...    trial [..] KIND NUMBER
--- why [..] SCHEDULE IMAGE...    phases [..] IMAGE...
+-- why [..] SCHEDULE IMAGE...    phases [..] IMAGE...    bus [..] IMAGE...
 abbrev pub rules : Verb → List Rule
-rules Run = node_rules ++ memory_rules ++ event_rules ++ option (codes "threads") ∷ record_rules
-rules Replay = node_rules ++ file_rules (codes "schedule")
-rules Serial = node_rules ++ file_rules (codes "report")
+rules Run = machine_rules ++ event_rules ++ option (codes "threads") ∷ record_rules
+rules Replay = file_rules (codes "schedule")
+rules Serial = file_rules (codes "report")
 rules Trial = node_rules ++ event_rules ++ place (codes "kind") ∷ place (codes "number") ∷ []
-rules Why = node_rules ++ file_rules (codes "schedule")
-rules Phases = node_rules ++ memory_rules ++ event_rules ++ record_rules
+rules Why = file_rules (codes "schedule")
+rules Phases = machine_rules ++ event_rules ++ record_rules
+rules Bus = core_rules ++ memory_rules ++ event_rules ++ places (codes "image") ∷ []
 
 -- a simple command of clap's, without help
 abbrev pub plain : Text → List Rule → App

@@ -21,6 +21,8 @@ pub enum Verb {
     Why,
     /// Runs images on the machine, earlier phases before later ones.
     Phases,
+    /// Runs images on the machine with one bus.
+    Bus,
 }
 
 impl Verb {
@@ -35,6 +37,7 @@ impl Verb {
             Verb::Trial => "trial",
             Verb::Why => "why",
             Verb::Phases => "phases",
+            Verb::Bus => "bus",
         }
     }
 
@@ -49,6 +52,7 @@ impl Verb {
             "trial" => Some(Verb::Trial),
             "why" => Some(Verb::Why),
             "phases" => Some(Verb::Phases),
+            "bus" => Some(Verb::Bus),
             _ => None,
         }
     }
@@ -109,6 +113,13 @@ pub enum Command {
         steps: u64,
         seed: u64,
         keep: Option<Text>,
+    },
+    /// Run the images on the machine with one bus, for at most `steps` events that `seed` chooses. Its settings have one directory.
+    Bus {
+        machine: Machine,
+        images: List<Text>,
+        steps: u64,
+        seed: u64,
     },
 }
 

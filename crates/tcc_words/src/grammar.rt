@@ -3,7 +3,7 @@ ghost use Rattle.std.specs.Prelude.{◌≡◌, map, IfOk, IfErr, []};
 ghost use Rattle.clap.specs.Words.{app_of, rule_of, rows_of, found_of, matches_of, with_rule};
 ghost use Rattle.clap.specs.Faults.{fault_of};
 ghost use Rattle.tcc_words.specs.Grammar.{IsRefusal, grammar, option, flag, place, places, plain, verb_word, with_rules};
-ghost use Rattle.tcc_words.specs.Grammar.{event_rules, file_rules, memory_rules, node_rules, record_rules};
+ghost use Rattle.tcc_words.specs.Grammar.{core_rules, event_rules, file_rules, machine_rules, memory_rules, node_rules, record_rules};
 
 use crate::command::{Verb, WordsFault};
 use clap::error::ErrorKind;
@@ -39,25 +39,32 @@ fn grammar<'a>(alloc: Global, verb: Verb, name: &'a str) -> Result<clap::Command
     requires { name.now ≡ verb_word verb }
     ensures { IfOk result (λ c. app_of c ≡ grammar verb) }
 {
-    let nodes = with_nodes(alloc, bare(alloc, name))?;
+    let named = bare(alloc, name);
     match verb {
         Verb::Run => {
-            let machine = with_memory(alloc, nodes)?;
+            let machine = with_machine(alloc, named)?;
             let events = with_events(alloc, machine)?;
             let threads = with_option(alloc, events, "threads")?;
             with_record(alloc, threads)
         }
-        Verb::Replay | Verb::Why => with_file(alloc, nodes, "schedule"),
-        Verb::Serial => with_file(alloc, nodes, "report"),
+        Verb::Replay | Verb::Why => with_file(alloc, named, "schedule"),
+        Verb::Serial => with_file(alloc, named, "report"),
         Verb::Trial => {
+            let nodes = with_nodes(alloc, named)?;
             let events = with_events(alloc, nodes)?;
             let kind = with_place(alloc, events, "kind")?;
             with_place(alloc, kind, "number")
         }
         Verb::Phases => {
-            let machine = with_memory(alloc, nodes)?;
+            let machine = with_machine(alloc, named)?;
             let events = with_events(alloc, machine)?;
             with_record(alloc, events)
+        }
+        Verb::Bus => {
+            let cores = with_cores(alloc, named)?;
+            let machine = with_memory(alloc, cores)?;
+            let events = with_events(alloc, machine)?;
+            with_places(alloc, events, "image")
         }
     }
 }
@@ -80,6 +87,29 @@ fn with_nodes<'a>(
     let dirs = with_option(alloc, cores, "dirs")?;
     let sets = with_option(alloc, dirs, "sets")?;
     with_option(alloc, sets, "ways")
+}
+
+/// The options of the nodes where there are no directories.
+fn with_cores<'a>(
+    alloc: Global,
+    command: clap::Command<'a>,
+) -> Result<clap::Command<'a>, AllocError>
+    ensures { IfOk result (λ c. app_of c ≡ with_rules core_rules (app_of command.entry)) }
+{
+    let cores = with_option(alloc, command, "cores")?;
+    let sets = with_option(alloc, cores, "sets")?;
+    with_option(alloc, sets, "ways")
+}
+
+/// The options of nodes, memory and images.
+fn with_machine<'a>(
+    alloc: Global,
+    command: clap::Command<'a>,
+) -> Result<clap::Command<'a>, AllocError>
+    ensures { IfOk result (λ c. app_of c ≡ with_rules machine_rules (app_of command.entry)) }
+{
+    let nodes = with_nodes(alloc, command)?;
+    with_memory(alloc, nodes)
 }
 
 /// The options of memory and images.
@@ -116,7 +146,7 @@ fn with_record<'a>(
     with_places(alloc, record, "image")
 }
 
-/// The options of memory, the place of a file and the images.
+/// The options of the machine, the place of a file and the images.
 fn with_file<'a>(
     alloc: Global,
     command: clap::Command<'a>,
@@ -124,7 +154,7 @@ fn with_file<'a>(
 ) -> Result<clap::Command<'a>, AllocError>
     ensures { IfOk result (λ c. app_of c ≡ with_rules (file_rules name.entry.now) (app_of command.entry)) }
 {
-    let machine = with_memory(alloc, command)?;
+    let machine = with_machine(alloc, command)?;
     let file = with_place(alloc, machine, name)?;
     with_places(alloc, file, "image")
 }

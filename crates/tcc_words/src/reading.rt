@@ -46,7 +46,7 @@ fn has_places(verb: Verb, matches: &ArgMatches) -> bool
     ensures { IsTrue result ↔ HasPlaces verb (rows_of (found_of matches.now)) }
 {
     match verb {
-        Verb::Run | Verb::Phases => has_images(matches),
+        Verb::Run | Verb::Phases | Verb::Bus => has_images(matches),
         Verb::Replay | Verb::Why => text(matches, "schedule").is_some() && has_images(matches),
         Verb::Serial => text(matches, "report").is_some() && has_images(matches),
         Verb::Trial => text(matches, "kind").is_some() && text(matches, "number").is_some(),
@@ -105,6 +105,12 @@ fn command(
             steps: values.steps,
             seed: values.seed,
             keep: record_name(alloc, matches)?,
+        }),
+        Verb::Bus => Ok(Command::Bus {
+            machine: machine(matches, values.config),
+            images: image_names(alloc, matches)?,
+            steps: values.steps,
+            seed: values.seed,
         }),
     }
 }

@@ -129,6 +129,35 @@ fn phases_are_a_run_without_threads(rt: HostRuntime) {
 }
 
 #[test]
+fn a_bus_has_one_directory(rt: HostRuntime) {
+    let words = [
+        "bus",
+        "--raw",
+        "--cores=4",
+        "--sets",
+        "1",
+        "a",
+        "--seed",
+        "3",
+        "b",
+    ];
+    let Ok(
+        Command::Bus {
+            machine,
+            images,
+            steps,
+            seed,
+        },
+    ) = settings(rt.alloc(), words.as_slice())
+    else {
+        panic!(rt; "these words are a command");
+    };
+    assert!(rt; machine.raw && machine.config.cores() == 4 && machine.config.sets() == 1);
+    assert!(rt; machine.config.dirs() == 1 && machine.config.words() == 16_384);
+    assert!(rt; images.items.len() == 2 && steps == 1_000_000 && seed == 3);
+}
+
+#[test]
 fn words_that_are_no_command(rt: HostRuntime) {
     is_refused(&rt, rt.alloc(), &[], WordsFault::Words);
     is_refused(&rt, rt.alloc(), &["walk", "a"], WordsFault::Words);
@@ -136,6 +165,7 @@ fn words_that_are_no_command(rt: HostRuntime) {
     is_refused(&rt, rt.alloc(), &["replay", "s"], WordsFault::Words);
     is_refused(&rt, rt.alloc(), &["why", "s"], WordsFault::Words);
     is_refused(&rt, rt.alloc(), &["phases"], WordsFault::Words);
+    is_refused(&rt, rt.alloc(), &["bus", "--raw"], WordsFault::Words);
 }
 
 #[test]
@@ -169,6 +199,34 @@ fn words_that_clap_refuses(rt: HostRuntime) {
         &rt,
         rt.alloc(),
         &["phases", "--threads", "2", "--record", "r", "a"],
+        WordsFault::Words,
+    );
+}
+
+#[test]
+fn a_bus_has_no_directories_threads_or_record(rt: HostRuntime) {
+    is_refused(
+        &rt,
+        rt.alloc(),
+        &["bus", "--dirs", "2", "a"],
+        WordsFault::Words,
+    );
+    is_refused(
+        &rt,
+        rt.alloc(),
+        &["bus", "a", "--dirs=1"],
+        WordsFault::Words,
+    );
+    is_refused(
+        &rt,
+        rt.alloc(),
+        &["bus", "--threads", "2", "a"],
+        WordsFault::Words,
+    );
+    is_refused(
+        &rt,
+        rt.alloc(),
+        &["bus", "--record", "r", "a"],
         WordsFault::Words,
     );
 }
@@ -226,6 +284,12 @@ fn values_out_of_range(rt: HostRuntime) {
         rt.alloc(),
         &["run", "--threads", "4", "a"],
         WordsFault::Value(Field::Threads),
+    );
+    is_refused(
+        &rt,
+        rt.alloc(),
+        &["bus", "--steps", "4194305", "a"],
+        WordsFault::Value(Field::Steps),
     );
 }
 

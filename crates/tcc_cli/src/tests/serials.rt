@@ -118,7 +118,7 @@ fn lists_are_executed(rt: HostRuntime) -> Result<(), Fail> {
 }
 
 /// The words of a run and of a serial execution on the same machine, and their image.
-const RUNS: [(&str, &str, &[u32]); 4] = [
+const RUNS: [(&str, &str, &[u32]); 6] = [
     ("run --raw a", "serial --raw r a", ADD),
     (
         "run --raw --cores 2 --seed 5 a",
@@ -133,6 +133,17 @@ const RUNS: [(&str, &str, &[u32]); 4] = [
     ),
     (
         "run --raw --sets 1 --ways 1 a",
+        "serial --raw --sets 1 --ways 1 r a",
+        TWO_LINES,
+    ),
+    // on the machine with one bus
+    (
+        "bus --raw --cores 2 --seed 1 a",
+        "serial --raw --cores 2 r a",
+        COUNT,
+    ),
+    (
+        "bus --raw --sets 1 --ways 1 a",
         "serial --raw --sets 1 --ways 1 r a",
         TWO_LINES,
     ),
