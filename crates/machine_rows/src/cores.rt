@@ -1,5 +1,5 @@
 // What a core that has just begun does with messages and with a frame to empty, a load, and an end with its commit.
-ghost use Rattle.std.specs.Prelude.{◌≡◌, IfOk};
+ghost use Rattle.std.specs.Prelude.{◌≡◌, ◌<◌, IfOk};
 
 use commit_engine::Phase;
 use core_node::{CoreError, CoreNode, Executed};
@@ -10,70 +10,165 @@ use std::test::Fail;
 use tcc_base::{Config, CoreId, DirId, LineAddr, List, NodeId, Tid};
 use tcc_msg::{Msg, Outgoing};
 
+// What a core answers to a message of the vendor, whether it has sent anything, and what it does then.
+fn delivered(
+    core: &mut CoreNode,
+    msg: &Msg,
+    out: &mut Outgoing,
+) -> (Result<(), CoreError>, bool, Phase) {
+    let answer = core.deliver(NodeId::Vendor, msg, out);
+    (answer, !out.is_empty(), core.phase())
+}
+
+// The same for each of four messages, at the second of two cores.
+fn all_delivered(
+    alloc: Global,
+    msgs: &[Msg; 4],
+) -> Result<[(Result<(), CoreError>, bool, Phase); 4], Fail> {
+    let cfg = Config::new(2, 2, 4, 1, 0x8000_0000, 65_536)?;
+    let mut core = CoreNode::start(alloc, &cfg, CoreId(1), 0x8000_0000)?;
+    let mut out = Outgoing::new(alloc);
+    Ok([
+        delivered(&mut core, &msgs[0], &mut out),
+        delivered(&mut core, &msgs[1], &mut out),
+        delivered(&mut core, &msgs[2], &mut out),
+        delivered(&mut core, &msgs[3], &mut out),
+    ])
+}
+
 #[test]
 fn a_core_that_runs_takes_a_grant_without_effect(rt: HostRuntime) -> Result<(), Fail> {
-    let cfg = Config::new(2, 2, 4, 1, 0x8000_0000, 65_536)?;
-    let mut core = CoreNode::start(rt.alloc(), &cfg, CoreId(1), 0x8000_0000)?;
-    let mut out = Outgoing::new(rt.alloc());
     let tid = Tid(5);
-    for (msg, answer) in [
-        (Msg::TidGrant { tid }, Ok(())),
-        (Msg::TidReq, Err(CoreError::Blocked)),
-        (Msg::Probe { tid }, Err(CoreError::Blocked)),
-        (Msg::DataReq { line: LineAddr(3) }, Err(CoreError::Blocked)),
-    ] {
-        assert_eq!(rt; core.deliver(NodeId::Vendor, &msg, &mut out), answer);
-        assert!(rt; out.is_empty());
-        assert_eq!(rt; core.phase(), Phase::Running);
-    }
+    let msgs = [
+        Msg::TidGrant { tid },
+        Msg::TidReq,
+        Msg::Probe { tid },
+        Msg::DataReq { line: LineAddr(3) },
+    ];
+    let refused = (Err(CoreError::Blocked), false, Phase::Running);
+    assert_eq!(rt;
+        all_delivered(rt.alloc(), &msgs)?,
+        [(Ok(()), false, Phase::Running), refused, refused, refused]
+    );
     Ok(())
+}
+
+// What is seen of a way that is to be emptied.
+#[derive(Clone, Copy, Debug, PartialEq, Eq)]
+struct Way {
+    can_evict: bool,
+    evicted: Result<(), CoreError>,
+    sends: bool,
+    has_frame: bool,
+    line_has_frame: bool,
+    console: usize,
+}
+
+// What is seen of way 1 of set 3, and of line 3.
+fn emptied(core: &mut CoreNode, out: &mut Outgoing) -> Way
+    requires set { 3 < core.old.config.sets }
+    requires way { 1 < core.old.config.ways }
+{
+    let can_evict = core.can_evict(3, 1);
+    let evicted = core.evict(3, 1, out);
+    Way {
+        can_evict,
+        evicted,
+        sends: !out.is_empty(),
+        has_frame: core.frame(3, 1).is_some(),
+        line_has_frame: core.frame_of(LineAddr(3)).is_some(),
+        console: core.console_len(),
+    }
+}
+
+// The same of a core that has just begun.
+fn emptied_at_first(alloc: Global) -> Result<Way, Fail> {
+    let cfg = Config::new(1, 1, 4, 2, 0x8000_0000, 65_536)?;
+    let mut core = CoreNode::start(alloc, &cfg, CoreId(0), 0x8000_0000)?;
+    let mut out = Outgoing::new(alloc);
+    Ok(emptied(&mut core, &mut out))
 }
 
 #[test]
 fn an_empty_way_stays(rt: HostRuntime) -> Result<(), Fail> {
-    let cfg = Config::new(1, 1, 4, 2, 0x8000_0000, 65_536)?;
-    let mut core = CoreNode::start(rt.alloc(), &cfg, CoreId(0), 0x8000_0000)?;
-    let mut out = Outgoing::new(rt.alloc());
-    assert!(rt; !core.can_evict(3, 1));
-    assert_eq!(rt; core.evict(3, 1, &mut out), Err(CoreError::Blocked));
-    assert!(rt; out.is_empty());
-    assert!(rt; core.frame(3, 1).is_none());
-    assert!(rt; core.frame_of(LineAddr(3)).is_none());
-    assert_eq!(rt; core.console_len(), 0);
+    let stays = Way {
+        can_evict: false,
+        evicted: Err(CoreError::Blocked),
+        sends: false,
+        has_frame: false,
+        line_has_frame: false,
+        console: 0,
+    };
+    assert_eq!(rt; emptied_at_first(rt.alloc())?, stays);
     Ok(())
 }
 
-// A core of two directories that begins with this image, and the image.
-fn begun(alloc: Global, image: &[u8]) -> Result<(Code, CoreNode), Fail>
-    ensures { IfOk result (λ r. r.0.settings ≡ r.1.config) }
-{
+// The code of this image, for a core and two directories.
+fn code_of(alloc: Global, image: &[u8]) -> Result<Code, Fail> {
     let cfg = Config::new(1, 2, 4, 1, 0, 65_536)?;
     let file = List {
         items: image.to_vec(alloc)?,
     };
-    let code = Code::new(alloc, load(alloc, &cfg, &raw(alloc, &cfg, &[file])?)?)?;
-    let core = CoreNode::start(alloc, &cfg, CoreId(0), code.entry(CoreId(0)))?;
-    Ok((code, core))
+    let images = raw(alloc, &cfg, &[file])?;
+    Ok(Code::new(alloc, load(alloc, &cfg, &images)?)?)
+}
+
+// How an instruction ended.
+#[derive(Clone, Copy, Debug, PartialEq, Eq)]
+enum Done {
+    Stepped,
+    Asked,
+    Committed,
+    Failed,
 }
 
 // Executes one instruction of a short attempt.
-fn exec(core: &mut CoreNode, code: &Code, out: &mut Outgoing) -> Result<Executed, Fail>
+fn exec(core: &mut CoreNode, code: &Code, out: &mut Outgoing) -> Done
     requires { code.now.settings ≡ core.old.config }
     ensures { core.new.config ≡ core.old.config }
 {
     if core.instructions() >= 4_194_304 {
-        return Err("a long attempt".into());
+        return Done::Failed;
     }
-    Ok(core.exec(code, out)?)
+    match core.exec(code, out) {
+        Ok(Executed::Stepped) => Done::Stepped,
+        Ok(Executed::Asked) => Done::Asked,
+        Ok(Executed::Committed(_)) => Done::Committed,
+        Err(_) => Done::Failed,
+    }
+}
+
+// Executes, takes TID 1 and executes.
+fn take_tid(core: &mut CoreNode, code: &Code, out: &mut Outgoing) -> (Done, bool, Done)
+    requires { code.now.settings ≡ core.old.config }
+{
+    let first = exec(core, code, out);
+    let granted = core.deliver(NodeId::Vendor, &Msg::TidGrant { tid: Tid(1) }, out);
+    (first, granted.is_ok(), exec(core, code, out))
+}
+
+// A core that begins with this code.
+fn begun(alloc: Global, code: &Code) -> Result<CoreNode, Fail>
+    ensures { IfOk result (λ n. n.config ≡ code.now.settings) }
+{
+    let entry = code.entry(CoreId(0));
+    Ok(CoreNode::start(alloc, code.config(), CoreId(0), entry)?)
+}
+
+// What a core does that begins with this image and executes, and what it sends.
+fn executed(alloc: Global, image: &[u8]) -> Result<(Done, Outgoing), Fail> {
+    let code = code_of(alloc, image)?;
+    let mut core = begun(alloc, &code)?;
+    let mut out = Outgoing::new(alloc);
+    let done = exec(&mut core, &code, &mut out);
+    Ok((done, out))
 }
 
 #[test]
 fn a_load_asks_for_its_line(rt: HostRuntime) -> Result<(), Fail> {
     // lw x5,96(x0)
-    let (code, mut core) = begun(rt.alloc(), &[0x83, 0x22, 0x00, 0x06])?;
-    let mut out = Outgoing::new(rt.alloc());
-    let done = exec(&mut core, &code, &mut out)?;
-    assert!(rt; matches!(&done, Executed::Asked));
+    let (done, out) = executed(rt.alloc(), &[0x83, 0x22, 0x00, 0x06])?;
+    assert_eq!(rt; done, Done::Asked);
     let request = Msg::LoadReq {
         line: LineAddr(3),
         after: Tid(0),
@@ -85,17 +180,21 @@ fn a_load_asks_for_its_line(rt: HostRuntime) -> Result<(), Fail> {
     Ok(())
 }
 
+// What a core does that begins with this image, executes, takes TID 1 and executes; and what it sends.
+fn committed(alloc: Global, image: &[u8]) -> Result<((Done, bool, Done), Outgoing), Fail> {
+    let code = code_of(alloc, image)?;
+    let mut core = begun(alloc, &code)?;
+    let mut out = Outgoing::new(alloc);
+    let done = take_tid(&mut core, &code, &mut out);
+    Ok((done, out))
+}
+
 #[test]
 fn a_transaction_ends_and_commits(rt: HostRuntime) -> Result<(), Fail> {
     // ecall
-    let (code, mut core) = begun(rt.alloc(), &[0x73, 0x00, 0x00, 0x00])?;
-    let mut out = Outgoing::new(rt.alloc());
+    let (done, out) = committed(rt.alloc(), &[0x73, 0x00, 0x00, 0x00])?;
+    assert_eq!(rt; done, (Done::Stepped, true, Done::Committed));
     let tid = Tid(1);
-    let done = exec(&mut core, &code, &mut out)?;
-    assert!(rt; matches!(&done, Executed::Stepped));
-    core.deliver(NodeId::Vendor, &Msg::TidGrant { tid }, &mut out)?;
-    let done = exec(&mut core, &code, &mut out)?;
-    assert!(rt; matches!(&done, Executed::Committed(_)));
     let sent = [
         (NodeId::Vendor, Msg::TidReq),
         (NodeId::Dir(DirId(0)), Msg::Skip { tid }),
@@ -105,11 +204,26 @@ fn a_transaction_ends_and_commits(rt: HostRuntime) -> Result<(), Fail> {
     Ok(())
 }
 
+// The number of useful evictions, and the first.
+fn useful(core: &CoreNode, code: &Code) -> (usize, Option<(u16, u8)>)
+    requires { code.now.settings ≡ core.now.config }
+{
+    (core.useful_evicts(code), core.useful_evict(code, 0))
+}
+
+// The same of a core that begins with this image.
+fn useful_at_first(alloc: Global, image: &[u8]) -> Result<(usize, Option<(u16, u8)>), Fail> {
+    let code = code_of(alloc, image)?;
+    let core = begun(alloc, &code)?;
+    Ok(useful(&core, &code))
+}
+
 #[test]
 fn an_empty_cache_has_no_useful_eviction(rt: HostRuntime) -> Result<(), Fail> {
     // ecall
-    let (code, core) = begun(rt.alloc(), &[0x73, 0x00, 0x00, 0x00])?;
-    assert_eq!(rt; core.useful_evicts(&code), 0);
-    assert_eq!(rt; core.useful_evict(&code, 0), None);
+    assert_eq!(rt;
+        useful_at_first(rt.alloc(), &[0x73, 0x00, 0x00, 0x00])?,
+        (0, None)
+    );
     Ok(())
 }

@@ -1,8 +1,8 @@
 // Whole machines: from raw images, by events, to what the commits leave.
-ghost use Rattle.std.specs.Prelude.{◌≡◌, ◌≤◌, length, IfOk};
+ghost use Rattle.std.specs.Prelude.{◌≡◌, ◌≤◌, ◌+◌, length, IfOk};
 
 use directory::LineState;
-use image_load::{load, raw};
+use image_load::{Loaded, load, raw};
 use net_core::{Step, StepError, System};
 use std::alloc::Global;
 use std::test::Fail;
@@ -149,6 +149,19 @@ fn file(alloc: Global, words: &[u32]) -> Result<List<u8>, Fail> {
     Ok(List { items })
 }
 
+// What one image is loaded to.
+fn one_loaded(alloc: Global, cfg: &Config, image: &[u32]) -> Result<Loaded, Fail> {
+    let images = raw(alloc, cfg, &[file(alloc, image)?])?;
+    Ok(load(alloc, cfg, &images)?)
+}
+
+// What two images are loaded to.
+fn two_loaded(alloc: Global, cfg: &Config, first: &[u32], second: &[u32]) -> Result<Loaded, Fail> {
+    let files = [file(alloc, first)?, file(alloc, second)?];
+    let images = raw(alloc, cfg, &files)?;
+    Ok(load(alloc, cfg, &images)?)
+}
+
 // A machine of so many cores and directories that begins with these images in turn: of 16 sets of 2 ways, with 65,536 bytes of RAM from
 // 0x80000000 on.
 fn begun(alloc: Global, cores: u64, dirs: u64, images: [&[u32]; 2]) -> Result<System, Fail>
@@ -156,12 +169,10 @@ fn begun(alloc: Global, cores: u64, dirs: u64, images: [&[u32]; 2]) -> Result<Sy
 {
     let cfg = Config::new(cores, dirs, 16, 2, 0x8000_0000, 65_536)?;
     let [first, second] = images;
-    let first = file(alloc, first)?;
     let loaded = if second.is_empty() {
-        load(alloc, &cfg, &raw(alloc, &cfg, &[first])?)?
+        one_loaded(alloc, &cfg, first)?
     } else {
-        let files = [first, file(alloc, second)?];
-        load(alloc, &cfg, &raw(alloc, &cfg, &files)?)?
+        two_loaded(alloc, &cfg, first, second)?
     };
     Ok(System::start(alloc, &loaded)?)
 }
@@ -236,13 +247,20 @@ fn come_to(system: &System, run: Result<(), (u64, StepError)>) -> Played {
     }
 }
 
-// What a machine of two cores comes to by these events, or before the one that it doesn't take.
+// What a machine comes to by these events, or before the one that it doesn't take.
+fn run(system: &mut System, events: &[Event]) -> Played
+    requires { system.old.events + length events.now ≤ 4194304 }
+{
+    let run = system.run(events);
+    come_to(system, run)
+}
+
+// The same of a machine of two cores that begins with these images.
 fn play(alloc: Global, dirs: u64, images: [&[u32]; 2], events: &[Event]) -> Result<Played, Fail>
-    requires { length events.now ≤ 1000 }
+    requires { length events.now ≤ 4194304 }
 {
     let mut system = begun(alloc, 2, dirs, images)?;
-    let run = system.run(events);
-    Ok(come_to(&system, run))
+    Ok(run(&mut system, events))
 }
 
 // A machine that took all of so many events, made these commits, and has no word in the line 4.
@@ -274,7 +292,9 @@ fn is_useful(system: &System, e: Event) -> Option<bool> {
 }
 
 // The TID that a directory serves, how many lines it has marked, and what the home of a line knows of it.
-fn known(system: &System, dir: u8, line: u32) -> Option<(u64, u32, LineState)> {
+type Known = (u64, u32, LineState);
+
+fn known(system: &System, dir: u8, line: u32) -> Option<Known> {
     if dir >= system.config().dirs() || line >= system.config().words() / 8 {
         return None;
     }
@@ -285,38 +305,46 @@ fn known(system: &System, dir: u8, line: u32) -> Option<(u64, u32, LineState)> {
 
 // Takes the useful event of number 0, where there is one.
 fn take_first(system: &mut System) -> Option<Result<Step, StepError>> {
-    if !system.is_settled() || system.events() >= 1_000 {
+    if !system.is_settled() || system.events() >= 4_194_304 {
         return None;
     }
     let e = system.useful_at(0)?;
     Some(system.step(e))
 }
 
-// Takes the useful event of number 0, and so on while there is one.
-fn take_all(system: &mut System) -> Result<(), StepError> {
+// Takes the useful event of number 0, and so on while there is one; Err of the number of events before one that isn't taken.
+fn take_all(system: &mut System) -> Result<(), (u64, StepError)> {
     for _ in 0..100 {
-        let Some(done) = take_first(system) else {
-            break;
-        };
-        done?;
+        match take_first(system) {
+            None => break,
+            Some(Ok(_)) => {}
+            Some(Err(fault)) => return Err((system.events(), fault)),
+        }
     }
     Ok(())
 }
 
-// What a machine of one core and one directory comes to, and the words of line 2 at its home where it is done; and how the core ended,
-// before the first event and then.
-fn played_out(
-    alloc: Global,
-    image: &[u32],
-) -> Result<(Played, Option<[u32; 8]>, [CoreEnd; 2]), Fail> {
+// How the first core stands.
+fn end(system: &System) -> Option<CoreEnd> {
+    let exists = system.config().cores() > 0;
+    exists.then(|| system.ended(CoreId(0)))
+}
+
+// What a machine comes to; the words of line 2 at its home where it is done; and how the first core stood before the first event and
+// stands then.
+type PlayedOut = (Played, Option<[u32; 8]>, [Option<CoreEnd>; 2]);
+
+fn play_out(system: &mut System) -> PlayedOut {
+    let before = end(system);
+    let run = take_all(system);
+    let played = come_to(system, run);
+    (played, home(system, 2), [before, end(system)])
+}
+
+// The same of a machine of one core and one directory that begins with this image.
+fn played_out(alloc: Global, image: &[u32]) -> Result<PlayedOut, Fail> {
     let mut system = begun(alloc, 1, 1, [image, &[]])?;
-    let before = system.ended(CoreId(0));
-    take_all(&mut system)?;
-    Ok((
-        come_to(&system, Ok(())),
-        home(&system, 2),
-        [before, system.ended(CoreId(0))],
-    ))
+    Ok(play_out(&mut system))
 }
 
 #[test]
@@ -327,23 +355,41 @@ fn the_useful_events_lead_to_the_end(rt: HostRuntime) -> Result<(), Fail> {
     let pcs = [taken.pcs[0], None];
     assert_eq!(rt; played, Played { pcs, ..taken });
     assert_eq!(rt; home, Some([7, 0, 0, 0, 0, 0, 0, 0]));
-    assert_eq!(rt; ends, [CoreEnd::Run, CoreEnd::Halt(0)]);
+    assert_eq!(rt; ends, [Some(CoreEnd::Run), Some(CoreEnd::Halt(0))]);
     Ok(())
 }
 
-// After these events of two cores and two directories: the useful events, and whether each of those that are asked for is one.
+// After these events: the useful events, and whether each of those that are asked for is one.
+type Useful = (List<Event>, [Option<bool>; 3]);
+
+fn useful_after(
+    alloc: Global,
+    system: &mut System,
+    events: &[Event],
+    asked: [Event; 3],
+) -> Result<Useful, Fail>
+    requires { system.old.events + length events.now ≤ 4194304 }
+{
+    let _ = system.run(events);
+    let told = [
+        is_useful(system, asked[0]),
+        is_useful(system, asked[1]),
+        is_useful(system, asked[2]),
+    ];
+    Ok((useful(alloc, system)?, told))
+}
+
+// The same of two cores and two directories that begin with these images.
 fn told_after(
     alloc: Global,
     images: [&[u32]; 2],
     events: &[Event],
     asked: [Event; 3],
-) -> Result<(List<Event>, [Option<bool>; 3]), Fail>
-    requires { length events.now ≤ 1000 }
+) -> Result<Useful, Fail>
+    requires { length events.now ≤ 4194304 }
 {
     let mut system = begun(alloc, 2, 2, images)?;
-    let _ = system.run(events);
-    let told = asked.map(|e| is_useful(&system, e));
-    Ok((useful(alloc, &system)?, told))
+    useful_after(alloc, &mut system, events, asked)
 }
 
 #[test]
@@ -362,21 +408,28 @@ fn useful_events_are_told_from_others(rt: HostRuntime) -> Result<(), Fail> {
     Ok(())
 }
 
-// After these events of two cores and two directories: what is known at a directory, and of a line.
+// What is known at a directory, and of a line, after these events where they are taken.
+fn run_to_known(system: &mut System, events: &[Event], dir: u8, line: u32) -> Option<Known>
+    requires { system.old.events + length events.now ≤ 4194304 }
+{
+    if system.run(events).is_err() {
+        return None;
+    }
+    known(system, dir, line)
+}
+
+// The same of two cores and two directories that begin with these images.
 fn known_after(
     alloc: Global,
     images: [&[u32]; 2],
     events: &[Event],
     dir: u8,
     line: u32,
-) -> Result<Option<(u64, u32, LineState)>, Fail>
-    requires { length events.now ≤ 1000 }
+) -> Result<Option<Known>, Fail>
+    requires { length events.now ≤ 4194304 }
 {
     let mut system = begun(alloc, 2, 2, images)?;
-    match system.run(events) {
-        Ok(()) => Ok(known(&system, dir, line)),
-        Err(_) => Ok(None),
-    }
+    Ok(run_to_known(&mut system, events, dir, line))
 }
 
 #[test]

@@ -1,5 +1,5 @@
 // A machine in the middle of a violation: which messages wait and why, and what is found to happen next.
-ghost use Rattle.std.specs.Prelude.{◌≡◌, ◌≤◌, IfOk, length};
+ghost use Rattle.std.specs.Prelude.{◌≡◌, ◌≤◌, ◌+◌, IfOk, length};
 
 use image_load::{load, raw};
 use live_core::{Reason, find, find_for, has_halted, waits_because};
@@ -104,19 +104,32 @@ fn found(system: &System) -> [Option<Event>; 3] {
     ]
 }
 
-// After these events: why the messages of the names wait, and what is found.
-fn told_after(
-    alloc: Global,
-    events: &[Event],
-) -> Result<([Option<Reason>; 4], [Option<Event>; 3]), Fail>
-    requires { length events.now ≤ 1000 }
+// Why the messages of the names wait, and what is found.
+type Told = ([Option<Reason>; 4], [Option<Event>; 3]);
+
+// The same after these events; nothing where one of them isn't enabled.
+fn run(system: &mut System, events: &[Event]) -> Option<Told>
+    requires { system.old.events + length events.now ≤ 4194304 }
+{
+    if system.run(events).is_err() {
+        return None;
+    }
+    let reasons = [
+        waits_because(system, NAMES[0]),
+        waits_because(system, NAMES[1]),
+        waits_because(system, NAMES[2]),
+        waits_because(system, NAMES[3]),
+    ];
+    Some((reasons, found(system)))
+}
+
+// The same of the machine that begins so.
+fn told_after(alloc: Global, events: &[Event]) -> Result<Told, Fail>
+    requires { length events.now ≤ 4194304 }
 {
     let mut system = begun(alloc)?;
-    system.run(events).map_err(|_| "an event isn't enabled")?;
-    Ok((
-        NAMES.map(|name| waits_because(&system, name)),
-        found(&system),
-    ))
+    let told = run(&mut system, events).ok_or("an event isn't enabled")?;
+    Ok(told)
 }
 
 #[test]

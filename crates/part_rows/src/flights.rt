@@ -1,11 +1,11 @@
 // Messages sent, marked, listed and taken, with ample memory.
 use in_flight::{InFlight, Lane};
-use std::test::Fail;
+use std::alloc::Global;
 use tcc_base::{CoreId, DirId, NoMemory, NodeId, Tid};
 use tcc_msg::{Msg, Name};
 
 // Skip 7, then Skip 8.
-fn two_sent(alloc: std::alloc::Global) -> Result<Lane, NoMemory> {
+fn two_sent(alloc: Global) -> Result<Lane, NoMemory> {
     let mut lane = Lane::new(alloc);
     lane.send(Msg::Skip { tid: Tid(7) })?;
     lane.send(Msg::Skip { tid: Tid(8) })?;
@@ -26,27 +26,40 @@ fn a_lane_gives_by_number(rt: HostRuntime) -> Result<(), NoMemory> {
     Ok(())
 }
 
+const CORE: NodeId = NodeId::Core(CoreId(1));
+
+const DIR: NodeId = NodeId::Dir(DirId(0));
+
+const NAME: Name = Name {
+    src: CORE,
+    dst: DIR,
+    seq: 0,
+};
+
+// A TidReq, and Skip 7 by that name.
+fn two_flying(alloc: Global) -> Result<InFlight, NoMemory> {
+    let mut flights = InFlight::new(alloc, 2, 1)?;
+    flights.push(CORE, NodeId::Vendor, Msg::TidReq, false)?;
+    flights.push(CORE, DIR, Msg::Skip { tid: Tid(7) }, false)?;
+    Ok(flights)
+}
+
+// The first that is marked once the name is, what is taken by it, and how many are marked and in flight then; nothing where
+// no message has that name.
+fn marked(flights: &mut InFlight) -> Option<(Option<Name>, Option<Msg>, usize, u64)> {
+    if flights.get(NAME).is_none() {
+        return None;
+    }
+    flights.set_ready(CORE, DIR, 0, true);
+    let first = flights.ready_at(0);
+    let taken = flights.take(NAME);
+    Some((first, taken, flights.ready_count(), flights.len()))
+}
+
 #[test]
-fn marked_messages_are_listed_by_link(rt: HostRuntime) -> Result<(), Fail> {
-    let core = NodeId::Core(CoreId(1));
-    let dir = NodeId::Dir(DirId(0));
-    let mut flights = InFlight::new(rt.alloc(), 2, 1).map_err(|_| "memory")?;
-    flights
-        .push(core, NodeId::Vendor, Msg::TidReq, false)
-        .map_err(|_| "memory")?;
-    flights
-        .push(core, dir, Msg::Skip { tid: Tid(7) }, false)
-        .map_err(|_| "memory")?;
-    let name = Name {
-        src: core,
-        dst: dir,
-        seq: 0,
-    };
-    assert!(rt; flights.get(name).is_some());
-    flights.set_ready(core, dir, 0, true);
-    assert_eq!(rt; flights.ready_at(0), Some(name));
-    assert_eq!(rt; flights.take(name), Some(Msg::Skip { tid: Tid(7) }));
-    assert_eq!(rt; flights.ready_count(), 0);
-    assert_eq!(rt; flights.len(), 1);
+fn marked_messages_are_listed_by_link(rt: HostRuntime) -> Result<(), NoMemory> {
+    let mut flights = two_flying(rt.alloc())?;
+    let skip = Msg::Skip { tid: Tid(7) };
+    assert!(rt; marked(&mut flights) == Some((Some(NAME), Some(skip), 0, 1)));
     Ok(())
 }

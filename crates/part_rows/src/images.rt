@@ -1,9 +1,9 @@
 // Images at the bounds of RAM and of one another, and what is read of a memory that was loaded.
-ghost use Rattle.std.specs.Prelude.{◌≡◌, IfOk, IfSome};
+ghost use Rattle.std.specs.Prelude.{◌≡◌, ◌<◌, ◌/◌, IfOk, IfSome};
 ghost use Rattle.image_elf.specs.Elf.{IsWithinSizes};
 
 use image_elf::{Image, Segment};
-use image_load::{LoadFault, load, raw};
+use image_load::{LoadFault, Loaded, load, raw};
 use std::alloc::{AllocError, Global};
 use std::test::Fail;
 use tcc_base::{Config, CoreId, List, WordAddr};
@@ -268,61 +268,86 @@ fn loads_or_refuses(rt: HostRuntime) -> Result<(), Fail> {
     Ok(())
 }
 
+const FIRST: Part = Part {
+    entry: 0x1004,
+    addr: 0x1002,
+    size: 6,
+    exec: true,
+};
+
+const SECOND: Part = Part {
+    entry: 0x1008,
+    addr: 0x1008,
+    size: 5,
+    exec: true,
+};
+
+const THIRD: Part = Part {
+    entry: 0x1004,
+    addr: 0x1010,
+    size: 8,
+    exec: false,
+};
+
+/// A copy of what three images were loaded to.
+fn three_loaded(alloc: Global, config: &Config) -> Result<Loaded, Fail>
+    ensures { IfOk result (λ l. l.settings ≡ config.now) }
+{
+    let images = [
+        image(alloc, FIRST)?,
+        image(alloc, SECOND)?,
+        image(alloc, THIRD)?,
+    ];
+    let loaded = load(alloc, config, &images)?;
+    Ok(loaded.copy()?)
+}
+
+/// What is fetched at these addresses.
+const FETCHES: [(u32, Option<u32>); 10] = [
+    (0x0fff, None),
+    (0x1000, None),
+    (0x1001, None),
+    (0x1002, Some(0x0000_00aa)),
+    (0x1006, Some(0x00aa_0000)),
+    (0x1009, Some(0)),
+    (0x100a, None),
+    (0x1010, None),
+    (0x103e, None),
+    (0xffff_ffff, None),
+];
+
+/// The first of these addresses at which something else is fetched.
+fn wrong_fetch(loaded: &Loaded) -> Option<u32> {
+    for (pc, wanted) in FETCHES.iter() {
+        if loaded.fetch(*pc) != *wanted {
+            return Some(*pc);
+        }
+    }
+    None
+}
+
+/// The number of words, the words 0, 4 and 15, and where the cores 1 and 3 begin.
+fn words_and_entries(loaded: &Loaded) -> (u32, [u32; 3], [u32; 2])
+    requires { 15 < loaded.now.settings.ram / 4 }
+{
+    (
+        loaded.config().words(),
+        [
+            loaded.word(WordAddr(0)),
+            loaded.word(WordAddr(4)),
+            loaded.word(WordAddr(15)),
+        ],
+        [loaded.entry(CoreId(1)), loaded.entry(CoreId(3))],
+    )
+}
+
 #[test]
 fn reads_what_was_loaded(rt: HostRuntime) -> Result<(), Fail> {
-    let alloc = rt.alloc();
     let config = small().ok_or("a config")?;
-    let images = [
-        image(
-            alloc,
-            Part {
-                entry: 0x1004,
-                addr: 0x1002,
-                size: 6,
-                exec: true,
-            },
-        )?,
-        image(
-            alloc,
-            Part {
-                entry: 0x1008,
-                addr: 0x1008,
-                size: 5,
-                exec: true,
-            },
-        )?,
-        image(
-            alloc,
-            Part {
-                entry: 0x1004,
-                addr: 0x1010,
-                size: 8,
-                exec: false,
-            },
-        )?,
-    ];
-    let loaded = load(alloc, &config, &images)?.copy().map_err(|_| "memory")?;
-    assert_eq!(rt; loaded.config().words(), 16);
-    assert_eq!(rt; loaded.word(WordAddr(0)), 0x00aa_0000);
-    assert_eq!(rt; loaded.word(WordAddr(4)), 0x0000_00aa);
-    assert_eq!(rt; loaded.word(WordAddr(15)), 0);
-    let fetches = [
-        (0x0fff, None),
-        (0x1000, None),
-        (0x1001, None),
-        (0x1002, Some(0x0000_00aa)),
-        (0x1006, Some(0x00aa_0000)),
-        (0x1009, Some(0)),
-        (0x100a, None),
-        (0x1010, None),
-        (0x103e, None),
-        (0xffff_ffff, None),
-    ];
-    for (pc, wanted) in fetches.iter() {
-        assert_eq!(rt; loaded.fetch(*pc), *wanted, "at {pc}");
-    }
-    assert_eq!(rt; loaded.entry(CoreId(1)), 0x1008);
-    assert_eq!(rt; loaded.entry(CoreId(3)), 0x1004);
+    let loaded = three_loaded(rt.alloc(), &config)?;
+    let seen = (words_and_entries(&loaded), wrong_fetch(&loaded));
+    let wanted = (16, [0x00aa_0000, 0x0000_00aa, 0], [0x1008, 0x1004]);
+    assert_eq!(rt; seen, (wanted, None));
     Ok(())
 }
 
@@ -333,49 +358,92 @@ fn file(alloc: Global, size: usize) -> Result<List<u8>, AllocError> {
     })
 }
 
+/// What raw files of these sizes are loaded to.
+fn raw_loaded(alloc: Global, config: &Config, sizes: [usize; 2]) -> Result<Loaded, Fail>
+    ensures { IfOk result (λ l. l.settings ≡ config.now) }
+{
+    let files = [file(alloc, sizes[0])?, file(alloc, sizes[1])?];
+    let images = raw(alloc, config, &files)?;
+    Ok(load(alloc, config, &images)?)
+}
+
+/// Where the second core begins, the word 1, and what is fetched from the second and from the third byte on.
+fn seen_of_raw(loaded: &Loaded) -> (u32, u32, [Option<u32>; 2])
+    requires { 1 < loaded.now.settings.ram / 4 }
+{
+    (
+        loaded.entry(CoreId(1)),
+        loaded.word(WordAddr(1)),
+        [loaded.fetch(0x1001), loaded.fetch(0x1002)],
+    )
+}
+
 #[test]
 fn lays_raw_files(rt: HostRuntime) -> Result<(), Fail> {
+    let config = small().ok_or("a config")?;
+    let loaded = raw_loaded(rt.alloc(), &config, [5, 32])?;
+    let seen = seen_of_raw(&loaded);
+    assert_eq!(rt; seen, (0x1020, 0x0000_0011, [Some(0x1111_1111), None]));
+    Ok(())
+}
+
+/// The fault of three raw files of these sizes.
+fn fault_of_three(
+    alloc: Global,
+    config: &Config,
+    sizes: [usize; 3],
+) -> Result<Option<LoadFault>, Fail> {
+    let files = [
+        file(alloc, sizes[0])?,
+        file(alloc, sizes[1])?,
+        file(alloc, sizes[2])?,
+    ];
+    Ok(raw(alloc, config, &files).err())
+}
+
+/// The fault of two raw files of these sizes.
+fn fault_of_two(
+    alloc: Global,
+    config: &Config,
+    sizes: [usize; 2],
+) -> Result<Option<LoadFault>, Fail> {
+    let files = [file(alloc, sizes[0])?, file(alloc, sizes[1])?];
+    Ok(raw(alloc, config, &files).err())
+}
+
+#[test]
+fn refuses_raw_files_past_the_end(rt: HostRuntime) -> Result<(), Fail> {
     let alloc = rt.alloc();
     let config = small().ok_or("a config")?;
-
-    let loaded = load(
-        alloc,
-        &config,
-        &raw(alloc, &config, &[file(alloc, 5)?, file(alloc, 32)?])?,
-    )?;
-    assert_eq!(rt; loaded.entry(CoreId(1)), 0x1020);
-    assert_eq!(rt; loaded.word(WordAddr(1)), 0x0000_0011);
-    assert_eq!(rt; loaded.fetch(0x1001), Some(0x1111_1111));
-    assert_eq!(rt; loaded.fetch(0x1002), None);
-
-    let past = raw(
-        alloc,
-        &config,
-        &[file(alloc, 32)?, file(alloc, 32)?, file(alloc, 0)?],
-    );
     assert_eq!(rt;
-        past.err(),
+        fault_of_three(alloc, &config, [32, 32, 0])?,
         Some(LoadFault::Outside {
             image: 2,
             segment: 0
         })
     );
-    let long = raw(alloc, &config, &[file(alloc, 1)?, file(alloc, 33)?]);
     assert_eq!(rt;
-        long.err(),
+        fault_of_two(alloc, &config, [1, 33])?,
         Some(LoadFault::Outside {
             image: 1,
             segment: 0
         })
     );
+    Ok(())
+}
 
-    let empty = load(alloc, &config, &raw(alloc, &config, &[file(alloc, 0)?])?);
-    match empty {
-        Ok(_) => panic!(rt; "not refused"),
-        Err(fault) => {
-            assert_eq!(rt; fault, LoadFault::Entry { image: 0 });
-            assert_eq!(rt; format!(in alloc; "{fault}")?.as_str(), "load 3 0");
-        }
-    }
+/// The fault of loading an empty raw file.
+fn fault_of_empty(alloc: Global, config: &Config) -> Result<Option<LoadFault>, Fail> {
+    let images = raw(alloc, config, &[file(alloc, 0)?])?;
+    Ok(load(alloc, config, &images).err())
+}
+
+#[test]
+fn refuses_an_empty_raw_file(rt: HostRuntime) -> Result<(), Fail> {
+    let alloc = rt.alloc();
+    let config = small().ok_or("a config")?;
+    let fault = fault_of_empty(alloc, &config)?.ok_or("not refused")?;
+    assert_eq!(rt; fault, LoadFault::Entry { image: 0 });
+    assert_eq!(rt; format!(in alloc; "{fault}")?.as_str(), "load 3 0");
     Ok(())
 }
