@@ -1,8 +1,8 @@
 #!/usr/bin/env bash
 # What the gate costs: runs `rt ci` from nothing on a clone of the last commit, and prints for each crate the processor time and the
 # most memory of its proof, of that of its tests, and of its must-fail edits. With names, `bench/gate.sh NAME..`, for these crates and
-# those below them alone, with a kit whose `rt ci` takes names. It looks at the processes of the run twice a second, so it says a little less than they took. It needs
-# Linux, and as long as the gate from nothing.
+# those below them alone, with a kit whose `rt ci` takes names. It looks at the processes of the run twice a second, so it says a little
+# less than they took. It needs Linux, and as long as the gate from nothing.
 set -eu
 root=$(dirname -- "$(dirname -- "$(readlink -f -- "${BASH_SOURCE[0]}")")")
 room=$(mktemp -d "${TMPDIR:-/tmp}/tcc-gate.XXXXXX")
