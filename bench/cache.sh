@@ -1,14 +1,14 @@
 #!/bin/bash
 # Times loads that hit, loads that miss, and four stores with a roll back, in both forms of a cache's frames and at two sizes, in
-# nanoseconds of processor time. Run `rt run` in crates/bench_cache first, which builds the program.
+# nanoseconds of processor time. Run `rt run` in crates/benchmarks first, which builds the program.
 set -eu
 cd "$(dirname "$0")/.."
 . bench/timing.sh
 
 # both_forms ROUNDS ROUNDS_OF_THE_LIST WHAT SETS WAYS
 both_forms() {
-    local program=crates/bench_cache/out/bench_cache
-    echo "$(show "$(a_round "$1" $program 0 "$3" "$4" "$5")" 1) $(show "$(a_round "$2" $program 1 "$3" "$4" "$5")" 1)"
+    local program=crates/benchmarks/out/benchmarks
+    echo "$(show "$(a_round "$1" $program cache 0 "$3" "$4" "$5")" 1) $(show "$(a_round "$2" $program cache 1 "$3" "$4" "$5")" 1)"
 }
 
 for size in "16 2" "1024 16"; do

@@ -1,6 +1,6 @@
 #!/bin/bash
 # Times the machine of many cores: for each workload, size and cache the millions of events in a second of processor time, the least
-# of three runs. Run `rt run` in crates/bench_machine first, which builds the program. Where PEER names another simulator of the same
+# of three runs. Run `rt run` in crates/benchmarks first, which builds the program. Where PEER names another simulator of the same
 # rules, with the command `trial --cores C --dirs D --sets S --ways W --seed N --steps K KIND NUMBER`, its time for the same events is
 # taken in turns with ours and printed too, as a multiple of ours; both have to end each run alike. It makes each run in a process of
 # its own, so for this multiple what the starts take is left out on both sides, and the system's time counts, which the kernel can't
@@ -9,10 +9,10 @@ set -eu
 PEER=${PEER:+$(readlink -f -- "$PEER")}
 cd "$(dirname "$0")/.."
 . bench/timing.sh
-program=crates/bench_machine/out/bench_machine
+program=crates/benchmarks/out/benchmarks
 
 # ours STEPS TIMES KIND SIZES..; theirs likewise, where the status 1 is that of a run that isn't done
-ours() { $program "$3" 2047 "$4" "$5" "$6" "$7" "$1" 1 "$2"; }
+ours() { $program machine "$3" 2047 "$4" "$5" "$6" "$7" "$1" 1 "$2"; }
 theirs() {
     local k
     for ((k = 0; k < $2; k++)); do

@@ -1,16 +1,16 @@
 #!/bin/bash
 # Times a core and a directory by themselves, in nanoseconds of processor time, and measures their states. Run `rt run` in
-# crates/bench_nodes first, which builds the program. It needs GNU time at /usr/bin/time for the states alone.
+# crates/benchmarks first, which builds the program. It needs GNU time at /usr/bin/time for the states alone.
 set -eu
 cd "$(dirname "$0")/.."
 . bench/timing.sh
-program=crates/bench_nodes/out/bench_nodes
+program=crates/benchmarks/out/benchmarks
 
 # a_part ROUNDS PARTS WORK LINES SETS WAYS: one of that many parts of a round
-a_part() { show "$(a_round "$1" $program "$3" "$4" "$5" "$6" 1048576)" "$2"; }
+a_part() { show "$(a_round "$1" $program nodes "$3" "$4" "$5" "$6" 1048576)" "$2"; }
 
 # peak_kib WORK NUMBER: the most memory of a run that starts so many nodes
-peak_kib() { { /usr/bin/time -f %M $program "$1" 10 1024 16 16777216 "$2" >/dev/null; } 2>&1; }
+peak_kib() { { /usr/bin/time -f %M $program nodes "$1" 10 1024 16 16777216 "$2" >/dev/null; } 2>&1; }
 
 # a_state WORK SOME MORE: the memory that the start of one node touches, from runs that start so many
 a_state() {

@@ -18,6 +18,7 @@ pub mod Lined
 pub mod Listed
 pub mod Loaded
 pub mod Needed
+pub mod OneHome
 pub mod Overflows
 pub mod Placed
 pub mod Programs

@@ -18,18 +18,18 @@ ghost use Rattle.core_node.specs.Executing.{concluded};
 ghost use Rattle.core_node.specs.View.{core_of, IsCore, Did, Stays};
 
 use crate::committing::solo_commit;
-use crate::delivering::{CoreError, make_room};
+use crate::delivering::{CoreError, make_room, marks_at};
 use crate::state::Core;
 use commit_engine::{Phase, solo_marks_into, solo_room};
 use reg_checkpoint::State;
 use rv_decode::Inst;
 use rv_exec::finish as finish_inst;
 use rv_plain::Outcome;
-use tcc_base::{Commit, LineAddr, Mask, NodeId, Tid};
+use tcc_base::{Commit, DirId, LineAddr, Mask, NodeId, Tid};
 use tcc_msg::{Msg, Outgoing};
 
-/// All lines that the core has written, each with the mask of the words.
-pub(crate) fn solo_marks(core: &Core) -> Result<Vec<(LineAddr, Mask)>, CoreError>
+/// All lines that the core has written, each with the mask of the words. Takes time in RAM's lines.
+fn solo_marks(core: &Core) -> Result<Vec<(LineAddr, Mask)>, CoreError>
     ensures marks { IfOk result (λ v. map mark_of v.items ≡ solo_list core.now.config (maps core.now.cache) (words_of core.now.spilled)) }
     ensures cause { OnErr result (IsMemory result) }
 {
@@ -37,6 +37,19 @@ pub(crate) fn solo_marks(core: &Core) -> Result<Vec<(LineAddr, Mask)>, CoreError
     match solo_marks_into(&core.config, &core.cache, &core.spilled, &mut marks) {
         Ok(()) => Ok(marks),
         Err(_) => Err(CoreError::Memory),
+    }
+}
+
+/// The same. Where the machine has one directory and nothing is spilled it takes time in the cache's marked frames, else in RAM's lines.
+pub(crate) fn written_marks(core: &Core) -> Result<Vec<(LineAddr, Mask)>, CoreError>
+    requires { IsCore core.now }
+    ensures marks { IfOk result (λ v. map mark_of v.items ≡ solo_list core.now.config (maps core.now.cache) (words_of core.now.spilled)) }
+    ensures cause { OnErr result (IsMemory result) }
+{
+    if core.config.dirs() == 1 && core.spilled.next_line(LineAddr(0)).is_none() {
+        marks_at(core, DirId(0))
+    } else {
+        solo_marks(core)
     }
 }
 
@@ -83,7 +96,7 @@ fn close_alone(
     ensures unchanged { OnErr result (core.new ≡ core.old) }
     ensures unsent { OnErr result (out.new.list.items ≡ out.old.list.items) }
 {
-    let marks = solo_marks(core)?;
+    let marks = written_marks(core)?;
     let most = solo_room(&core.config, &core.cache, &core.spilled, &marks);
     make_room(out, most)?;
     conclude(core, state, ended);

@@ -37,7 +37,7 @@ pub(crate) fn make_room(out: &mut Outgoing, most: usize) -> Result<(), CoreError
 }
 
 /// The core's lines with modified words at home at a directory.
-fn marks_at(core: &Core, d: DirId) -> Result<Vec<(LineAddr, Mask)>, CoreError>
+pub(crate) fn marks_at(core: &Core, d: DirId) -> Result<Vec<(LineAddr, Mask)>, CoreError>
     requires { IsCore core.now }
     ensures marks { IfOk result (λ v. map mark_of v.items ≡ marks_by_home core.now.config (maps core.now.cache) d.0) }
     ensures cause { OnErr result (IsMemory result) }

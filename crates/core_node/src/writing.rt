@@ -7,7 +7,7 @@ ghost use Rattle.core_node.specs.Answers.{IsMemory};
 ghost use Rattle.core_node.specs.AtHand.{line_told, lines_told, word_told};
 ghost use Rattle.core_node.specs.View.{core_of, IsCore};
 
-use crate::closing::solo_marks;
+use crate::closing::written_marks;
 use crate::delivering::CoreError;
 use crate::state::Core;
 use spec_cache::Look;
@@ -51,14 +51,15 @@ fn line_here(core: &Core, line: LineAddr, mask: Mask, tid: Tid) -> Tagged
     }
 }
 
-/// All lines that the attempt has written, each with the mask of these words and what the core has of it. Takes time in RAM's lines.
+/// All lines that the attempt has written, each with the mask of these words and what the core has of it. Takes time in the cache's
+/// marked frames where the machine has one directory and nothing is spilled, else in RAM's lines.
 pub(crate) fn written(core: &Core, tid: Tid) -> Result<List<Tagged>, CoreError>
     requires whole { IsCore core.now }
     requires small { lines core.now.config < 536870911 }
     ensures lines { IfOk result (λ ts. ts ≡ lines_told core.now.config tid.0 (core_of core.now)) }
     ensures cause { OnErr result (IsMemory result) }
 {
-    let marks = solo_marks(core)?;
+    let marks = written_marks(core)?;
     let mut told = List::new(*core.loads.items.allocator());
     for (line, mask) in &marks {
         let Ok(()) = told.push(line_here(core, *line, *mask, tid)) else {

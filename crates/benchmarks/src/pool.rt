@@ -1,9 +1,8 @@
-// Looks up, removes and adds messages of a pool that holds a given number of them, and prints a checksum: the work
-// that `bench/parts.sh` times.
-#![tactic(auto)]
-
+// Looks up, removes and adds messages of a pool that holds a given number of them, and prints a checksum: the work that
+// `bench/parts.sh` times.
+use crate::words::fill;
 use std::alloc::Global;
-use std::{env, io};
+use std::io;
 use tcc_base::{CoreId, DirId, NoMemory, NodeId, Tid};
 use tcc_msg::{Msg, Name, Pool};
 
@@ -41,16 +40,11 @@ fn work(alloc: Global, held: u64, rounds: u64) -> Result<u64, NoMemory> {
     Ok(sum.wrapping_add(pool.len() as u64))
 }
 
-fn main(rt: HostRuntime) -> io::Result<()> {
+/// The numbers: how many messages are held, and how many rounds.
+pub fn run(rt: &impl Print, alloc: Global, words: &[String]) -> io::Result<()> {
     let mut numbers = [10u64, 1000];
-    for (at, word) in env::args(&rt)?.skip(1).enumerate() {
-        if at < 2
-            && let Ok(number) = word.as_str().parse::<u64>()
-        {
-            numbers[at] = number;
-        }
-    }
-    match work(rt.alloc(), numbers[0], numbers[1]) {
+    fill(&mut numbers, words);
+    match work(alloc, numbers[0], numbers[1]) {
         Ok(sum) => println!(rt; "{sum}"),
         Err(NoMemory) => println!(rt; "no memory"),
     }

@@ -1,9 +1,9 @@
 // Loads that hit, loads that miss, and roll backs of a few stores, in either form of a cache's frames, with a checksum: the work
 // that `bench/cache.sh` times.
-#![tactic(auto)]
-
+use crate::words::fill;
 use spec_cache::{Frames, ListFrames, Look, SetFrames};
-use std::{env, io};
+use std::alloc::Global;
+use std::io;
 use tcc_base::{Config, LineAddr, NoMemory, WordAddr};
 
 // Gives the first `count` lines a frame with all words valid.
@@ -63,23 +63,18 @@ fn work<F: Frames>(frames: &mut F, kind: u64, rounds: u64) -> u64 {
     sum
 }
 
-fn main(rt: HostRuntime) -> io::Result<()> {
+/// The numbers: 0 for frames by set and else a list, the kind of round, sets, ways, and how many rounds.
+pub fn run(rt: &impl Print, alloc: Global, words: &[String]) -> io::Result<()> {
     let mut numbers = [0u64, 0, 16, 2, 100];
-    for (at, word) in env::args(&rt)?.skip(1).enumerate() {
-        if at < 5
-            && let Ok(number) = word.as_str().parse::<u64>()
-        {
-            numbers[at] = number;
-        }
-    }
+    fill(&mut numbers, words);
     let [list, kind, sets, ways, rounds] = numbers;
     let Ok(cfg) = Config::new(1, 1, sets, ways, 0, 16_777_216) else {
         return println!(rt; "these settings aren't allowed");
     };
     let sum = if list == 0 {
-        SetFrames::new(rt.alloc(), &cfg).map(|mut frames| work(&mut frames, kind, rounds))
+        SetFrames::new(alloc, &cfg).map(|mut frames| work(&mut frames, kind, rounds))
     } else {
-        ListFrames::new(rt.alloc(), &cfg).map(|mut frames| work(&mut frames, kind, rounds))
+        ListFrames::new(alloc, &cfg).map(|mut frames| work(&mut frames, kind, rounds))
     };
     match sum {
         Ok(sum) => println!(rt; "{sum}"),

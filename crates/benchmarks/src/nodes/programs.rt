@@ -2,7 +2,7 @@
 ghost use Rattle.std.specs.Prelude.{◌≡◌, ◌<◌, ◌≤◌};
 ghost use Rattle.rv_decode.specs.Table.{IsImmediate, IsInRange};
 
-use crate::work::Work;
+use super::work::Work;
 use rv_decode::{Cond, ImmOp, Inst, LoadKind, encode};
 use std::alloc::{AllocError, Global};
 use tcc_base::{Reg, Size};

@@ -3,7 +3,7 @@ ghost use Rattle.std.specs.Prelude.{◌≡◌, ◌<◌, true};
 ghost use Rattle.directory.specs.Foreign.{HasSmallTids};
 ghost use Rattle.tcc_msg.specs.Plain.{msg_of};
 
-use crate::starts::loaded;
+use super::starts::loaded;
 use directory::{DirError, Directory, Handled};
 use std::alloc::Global;
 use tcc_base::{Config, CoreId, DirId, LineAddr, Mask, NoMemory, NodeId, Tid};

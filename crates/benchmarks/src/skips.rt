@@ -1,8 +1,8 @@
 // Skips TIDs out of order in either form of the skips, and prints a checksum: the work that `bench/parts.sh` times.
-#![tactic(auto)]
-
+use crate::words::fill;
 use skip_vector::{RingSkips, SetSkips, Skips};
-use std::{env, io};
+use std::alloc::Global;
+use std::io;
 use tcc_base::{NoMemory, Tid};
 
 // Skips the TIDs of each window from the last to the first, so that all but the first are kept, and then all are passed.
@@ -22,20 +22,15 @@ fn work<S: Skips>(skips: &mut S, window: u64, rounds: u64) -> Result<u64, NoMemo
     Ok(sum)
 }
 
-fn main(rt: HostRuntime) -> io::Result<()> {
+/// The numbers: 0 for the ring and else the set, how many TIDs out of order, and how many rounds.
+pub fn run(rt: &impl Print, alloc: Global, words: &[String]) -> io::Result<()> {
     let mut numbers = [0u64, 8, 100];
-    for (at, word) in env::args(&rt)?.skip(1).enumerate() {
-        if at < 3
-            && let Ok(number) = word.as_str().parse::<u64>()
-        {
-            numbers[at] = number;
-        }
-    }
+    fill(&mut numbers, words);
     let [set, window, rounds] = numbers;
     let sum = if set == 0 {
-        work(&mut RingSkips::new(rt.alloc()), window, rounds)
+        work(&mut RingSkips::new(alloc), window, rounds)
     } else {
-        work(&mut SetSkips::new(rt.alloc()), window, rounds)
+        work(&mut SetSkips::new(alloc), window, rounds)
     };
     match sum {
         Ok(sum) => println!(rt; "{sum}"),

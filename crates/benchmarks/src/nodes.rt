@@ -1,18 +1,17 @@
 // Runs one kind of work on a core or a directory, that many rounds, and prints a checksum: the work that `bench/nodes.sh` times.
 // Without words it runs a few rounds of each kind.
-#![tactic(auto)]
-
 mod at_core;
 mod at_dir;
 mod programs;
 mod starts;
 mod work;
 
+use crate::words::fill;
 use at_core::core_rounds;
 use at_dir::dir_rounds;
 use starts::{start_cores, start_dirs};
 use std::alloc::Global;
-use std::{env, io};
+use std::io;
 use tcc_base::{Config, NoMemory};
 use work::Work;
 
@@ -38,7 +37,7 @@ fn sum(alloc: Global, task: &Task) -> Result<u64, NoMemory> {
     }
 }
 
-fn run(rt: &impl Print, alloc: Global, task: &Task) -> io::Result<()> {
+fn do_task(rt: &impl Print, alloc: Global, task: &Task) -> io::Result<()> {
     match sum(alloc, task) {
         Ok(sum) => println!(rt; "{} {sum}", task.work.word()),
         Err(NoMemory) => println!(rt; "no memory"),
@@ -54,29 +53,24 @@ fn run_all(rt: &impl Print, alloc: Global, config: &Config) -> io::Result<()> {
             config: *config,
             rounds: 10,
         };
-        run(rt, alloc, &task)?;
+        do_task(rt, alloc, &task)?;
     }
     Ok(())
 }
 
-fn main(rt: HostRuntime) -> io::Result<()> {
-    let mut work = None;
+/// The words: the kind of work; the numbers of lines, sets and ways, the bytes of RAM, and the rounds.
+pub fn run(rt: &impl Print, alloc: Global, words: &[String]) -> io::Result<()> {
     let mut numbers = [10u64, 64, 4, 65_536, 10];
-    for (at, word) in env::args(&rt)?.skip(1).enumerate() {
-        if at == 0 {
-            work = Work::named(word.as_str());
-        } else if at < 6
-            && let Ok(number) = word.as_str().parse::<u64>()
-        {
-            numbers[at - 1] = number;
-        }
-    }
+    fill(&mut numbers, words.get(1..).unwrap_or(&[]));
     let [lines, sets, ways, ram, rounds] = numbers;
     let Ok(config) = Config::new(64, 1, sets, ways, 0, ram) else {
         return println!(rt; "these settings aren't allowed");
     };
-    let Some(work) = work else {
-        return run_all(&rt, rt.alloc(), &config);
+    let Some(word) = words.first() else {
+        return run_all(rt, alloc, &config);
+    };
+    let Some(work) = Work::named(word.as_str()) else {
+        return println!(rt; "no kind of work has this name");
     };
     let task = Task {
         work,
@@ -84,5 +78,5 @@ fn main(rt: HostRuntime) -> io::Result<()> {
         config,
         rounds,
     };
-    run(&rt, rt.alloc(), &task)
+    do_task(rt, alloc, &task)
 }

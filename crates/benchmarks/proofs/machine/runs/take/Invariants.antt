@@ -1,6 +1,6 @@
 -- No more events than words.
 use Rattle.std.proofs.Common.{◌+◌, ◌≤◌}
-use Rattle.bench_machine.proofs.runs.take.Given as goal
+use Rattle.benchmarks.proofs.machine.runs.take.Given as goal
 
 abbrev pub invariant-loop : goal.invariant-loop
 invariant-loop l = l.system.events + l.steps ≤ 4194304 + l.counter

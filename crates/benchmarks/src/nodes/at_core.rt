@@ -1,9 +1,9 @@
 // Rounds of work at a core, whose partners answer at once.
 ghost use Rattle.std.specs.Prelude.{◌≡◌, ◌<◌, ◌≤◌};
 
-use crate::programs::{program, violated_after};
-use crate::starts::loaded;
-use crate::work::Work;
+use super::programs::{program, violated_after};
+use super::starts::loaded;
+use super::work::Work;
 use core_node::{CoreError, CoreNode, Executed};
 use rv_code::Code;
 use std::alloc::Global;

@@ -1,9 +1,8 @@
 // Reads and writes the text of a schedule, and prints a checksum: the work that `bench/schedule.sh` times.
-#![tactic(auto)]
-
+use crate::words::fill;
 use schedule_text::{read, write};
 use std::alloc::{AllocError, Global};
-use std::{env, io};
+use std::io;
 
 // The text of a schedule with this number of events, of all kinds.
 fn text(alloc: Global, events: u64) -> Result<String, AllocError> {
@@ -49,23 +48,18 @@ fn writings(alloc: Global, text: &[u8], rounds: u64) -> u64 {
     sum
 }
 
-fn main(rt: HostRuntime) -> io::Result<()> {
+/// The numbers: 0 to read and else to write, how many events, and how many rounds.
+pub fn run(rt: &impl Print, alloc: Global, words: &[String]) -> io::Result<()> {
     let mut numbers = [0u64, 1000, 1];
-    for (at, word) in env::args(&rt)?.skip(1).enumerate() {
-        if at < 3
-            && let Ok(number) = word.as_str().parse::<u64>()
-        {
-            numbers[at] = number;
-        }
-    }
+    fill(&mut numbers, words);
     let [writes, events, rounds] = numbers;
-    match text(rt.alloc(), events) {
+    match text(alloc, events) {
         Ok(text) => {
             let bytes = text.as_bytes();
             let sum = if writes == 0 {
-                readings(rt.alloc(), bytes, rounds)
+                readings(alloc, bytes, rounds)
             } else {
-                writings(rt.alloc(), bytes, rounds)
+                writings(alloc, bytes, rounds)
             };
             println!(rt; "{sum}")
         }

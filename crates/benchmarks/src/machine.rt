@@ -1,11 +1,11 @@
 // Runs a workload on the machine of many cores, that many times from its start, and prints how the last run ended: the work that
 // `bench/machine.sh` times. Without words it runs a small case.
-#![tactic(auto)]
-
 mod runs;
 
+use crate::words::fill;
 use runs::{Task, run_times};
-use std::{env, io};
+use std::alloc::Global;
+use std::io;
 use tcc_base::{Config, NoMemory};
 use work_gen::{MAX_NUMBER, Work};
 
@@ -31,25 +31,22 @@ fn task(work: Work, numbers: [u64; 8]) -> Option<Task> {
     }
 }
 
-fn main(rt: HostRuntime) -> io::Result<()> {
-    let mut work = Some(Work::Counters);
+/// The words: the workload, and how many of it a core does; the numbers of cores, directories, sets and ways; the most events, the
+/// seed, and how many runs.
+pub fn run(rt: &impl Print, alloc: Global, words: &[String]) -> io::Result<()> {
     let mut numbers = [20u64, 2, 2, 16, 2, 10_000, 1, 2];
-    for (at, word) in env::args(&rt)?.skip(1).enumerate() {
-        if at == 0 {
-            work = Work::named(word.as_str());
-        } else if at < 9
-            && let Ok(number) = word.as_str().parse::<u64>()
-        {
-            numbers[at - 1] = number;
-        }
-    }
+    fill(&mut numbers, words.get(1..).unwrap_or(&[]));
+    let work = match words.first() {
+        Some(word) => Work::named(word.as_str()),
+        None => Some(Work::Counters),
+    };
     let Some(work) = work else {
         return println!(rt; "no workload has this name");
     };
     let Some(task) = task(work, numbers) else {
         return println!(rt; "these settings aren't allowed");
     };
-    match run_times(rt.alloc(), &task) {
+    match run_times(alloc, &task) {
         Ok(end) => println!(rt;
             "{} {} {} {}",
             work.word(),
