@@ -6,7 +6,7 @@ use Rattle.tcc_program.specs.Program.{Need, Nothing, Loads, Stores, Changes, Pri
 use Rattle.tcc_rules.specs.Attempt.{Out, finished, is_solo, stepped}
 use Rattle.tcc_rules.specs.Commit.{commit, solo_commit}
 use Rattle.tcc_rules.specs.CoreExec.{core_exec, exec_phase, unless_awaiting}
-use Rattle.tcc_rules.specs.Execute.{close, execute, execute_need}
+use Rattle.tcc_rules.specs.Execute.{end_transaction, execute, execute_need}
 use Rattle.tcc_rules.specs.State.{CoreState, Phase, Running, AwaitTid, DoomedTid, Probing, Ready, Overflowing, Solo, Halted}
 use Rattle.bus_rules.specs.Commit.{commit_out, written}
 use Rattle.core_node.specs.Answers.{IsBlocked, IsMemory}
@@ -83,9 +83,9 @@ can-same sh u s h k = record {
 
 close-alone : (sh : Shape) (p : Program) (c u : ℕ) (s : CoreState) (q : Need) → s.phase ≡ Solo u → ends_by q ≡ true
     → execute_need sh p c s q ≡ Some (solo_commit sh c u (finished p q 0 s))
-close-alone sh p c u s Ends e b = ap (λ y. Some (close sh c y (finished p Ends 0 s))) e
-close-alone sh p c u s (Halts code) e b = ap (λ y. Some (close sh c y (finished p (Halts code) 0 s))) e
-close-alone sh p c u s (Traps code) e b = ap (λ y. Some (close sh c y (finished p (Traps code) 0 s))) e
+close-alone sh p c u s Ends e b = ap (λ y. Some (end_transaction sh c y (finished p Ends 0 s))) e
+close-alone sh p c u s (Halts code) e b = ap (λ y. Some (end_transaction sh c y (finished p (Halts code) 0 s))) e
+close-alone sh p c u s (Traps code) e b = ap (λ y. Some (end_transaction sh c y (finished p (Traps code) 0 s))) e
 close-alone sh p c u s Nothing e b = cc
 close-alone sh p c u s (Loads addr size) e b = cc
 close-alone sh p c u s (Stores addr size value) e b = cc

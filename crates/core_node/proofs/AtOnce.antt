@@ -14,7 +14,7 @@ use Rattle.tcc_maps.specs.Nodes.{Dir}
 use Rattle.tcc_maps.specs.Shape.{Shape, home}
 use Rattle.tcc_rules.specs.State.{CoreState}
 use Rattle.tcc_rules.specs.Attempt.{Out, moves, stepped, finished, new_word, is_running}
-use Rattle.tcc_rules.specs.Execute.{load, used, framed, word_store, partial_store, also_read, execute_need}
+use Rattle.tcc_rules.specs.Execute.{load, with_read_mark, stored_in_frame, word_store, partial_store, marks_read, execute_need}
 use Rattle.tcc_rules.specs.Sends.{Sends, nothing, flushed}
 use Rattle.spec_cache.specs.Held.{Held, maps}
 use Rattle.spec_cache.specs.Look.{loaded, StoresClean}
@@ -43,8 +43,8 @@ unfolding finished stepped
 finished_load p addr size x c s = refl
 
 used_loaded : (w x : ℕ) (s : CoreState) (c : Cache) → s.cache.value w ≡ Some x → c ≡ loaded w (is_running s.phase) s.cache
-    → record s { cache = c } ≡ used w s
-unfolding used
+    → record s { cache = c } ≡ with_read_mark w s
+unfolding with_read_mark
 used_loaded w x s c v e =
     ap (λ (m : Cache). record s { cache = m }) (e ∙ loaded_valid w (is_running s.phase) s.cache (ap (λ (o : Option ℕ). is_some o) v))
     ∙ used_by (is_running s.phase) w s
@@ -93,10 +93,10 @@ pub quick_store : (sh : Shape) (p : Program) (addr value w : ℕ) (c : Cache) (s
     → holds s.spilled (line_of w) ≡ false → StoresClean w value false s.cache c
     → t ≡ stepped p None (record s { cache = c; stores = s.stores ++ store_of addr Word value ∷ [] })
     → word_store sh p (Stores addr Word value) w value s ≡ Some (moves t nothing)
-unfolding framed
+unfolding stored_in_frame
 quick_store sh p addr value w c s t h k d =
     let n = Stores addr Word value in
-    let core : t ≡ finished p n value (framed w value false s) =
+    let core : t ≡ finished p n value (stored_in_frame w value false s) =
     d ∙ finished_store p addr Word value value c s ∙ ap (λ (m : Cache). finished p n value (record s { cache = m })) k.maps in
     word_framed sh p n w value s h k.held
     ∙ ap (λ (u : CoreState). Some (moves u (flushed sh s.cache (line_of w)))) (sym core)
@@ -107,17 +107,17 @@ whole_same k h i e f = whole_cache k h i e (ap (λ (y : Cache). y.held) f)
 
 -- a part of a word, likewise
 pub quick_part : (sh : Shape) (p : Program) (addr : ℕ) (size : Size) (value w x : ℕ) (also : Bool) (c : Cache) (s t : CoreState)
-    → s.spilled w ≡ None → holds s.spilled (line_of w) ≡ false → s.cache.value w ≡ Some x → also ≡ also_read w s
+    → s.spilled w ≡ None → holds s.spilled (line_of w) ≡ false → s.cache.value w ≡ Some x → also ≡ marks_read w s
     → StoresClean w (new_word (Stores addr size value) x) also s.cache c
     → t ≡ stepped p None (record s { cache = c; stores = s.stores ++ store_of addr size value ∷ [] })
     → partial_store sh p (Stores addr size value) w s ≡ Some (moves t nothing)
-unfolding framed
+unfolding stored_in_frame
 quick_part sh p addr size value w x also c s t g h v a k d =
     let n = Stores addr size value in
     let y = new_word n x in
-    let core : t ≡ finished p n x (framed w y (also_read w s) s) =
+    let core : t ≡ finished p n x (stored_in_frame w y (marks_read w s) s) =
     d ∙ finished_store p addr size value x c s ∙ ap (λ (m : Cache). finished p n x (record s { cache = m })) k.maps
-    ∙ ap (λ (b : Bool). finished p n x (framed w y b s)) a in
+    ∙ ap (λ (b : Bool). finished p n x (stored_in_frame w y b s)) a in
     partial_valid sh p n w x s g v ∙ change_framed sh p n w x s h
     ∙ ap (λ (u : CoreState). Some (moves u (flushed sh s.cache (line_of w)))) (sym core)
     ∙ ap (λ (z : Sends). Some (moves t z)) (nothing_flushed sh s.cache (line_of w) k.clean)

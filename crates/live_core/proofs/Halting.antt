@@ -21,8 +21,9 @@ use Rattle.tcc_rules.specs.CoreDeliver.{replied, reply_phase, violated_in, witho
 use Rattle.tcc_rules.specs.CoreEvict.{core_evict, evict_line, is_awaited}
 use Rattle.tcc_rules.specs.CoreExec.{core_exec, exec_phase, unless_awaiting}
 use Rattle.tcc_rules.specs.DirDeliver.{Answer, Waits, Drops, Asks, Takes, dir_deliver}
-use Rattle.tcc_rules.specs.Execute.{also_read, ask, buffered, change_spilled, change_valid, close, execute, execute_need, fetch, framed}
-use Rattle.tcc_rules.specs.Execute.{full_set, load, load_spilled, load_valid, overflow, partial_store, place, used, word_store}
+use Rattle.tcc_rules.specs.Execute.{marks_read, request_line, stored_in_buffer, change_spilled, change_valid, end_transaction, execute}
+use Rattle.tcc_rules.specs.Execute.{execute_need, miss, stored_in_frame}
+use Rattle.tcc_rules.specs.Execute.{full_set, load, load_spilled, load_valid, overflow, partial_store, place, with_read_mark, word_store}
 use Rattle.tcc_rules.specs.Links.{in_flight}
 use Rattle.tcc_rules.specs.Sends.{flushed, nothing}
 use Rattle.tcc_rules.specs.State.{Awaited, CoreState, Phase, Running, AwaitTid, DoomedTid, Probing}
@@ -80,17 +81,18 @@ module _ (sh : Shape) (p : Program) where
       go true = tt
       go false = refl
 
-  after-fetch : (l : ℕ) (s : CoreState) → lives s.phase ≡ true → IfSome (fetch sh l s) SaysAfter
-  unfolding fetch ask place
+  after-fetch : (l : ℕ) (s : CoreState) → lives s.phase ≡ true → IfSome (miss sh l s) SaysAfter
+  unfolding miss request_line place
   after-fetch l s e = go (s.cache.held l) (is_some (free_way sh s.cache (set_of sh l)))
     where
-      go : (a b : Bool) → IfSome (if a then Some (ask sh l s) else if b then Some (ask sh l (place sh l s)) else full_set sh l s) SaysAfter
+      go : (a b : Bool) → IfSome
+          (if a then Some (request_line sh l s) else if b then Some (request_line sh l (place sh l s)) else full_set sh l s) SaysAfter
       go true b = says-living s.phase s.ended e
       go false true = says-living s.phase s.ended e
       go false false = after-full l s
 
-  living-used : (w : ℕ) (s : CoreState) → lives s.phase ≡ true → lives (used w s).phase ≡ true
-  unfolding used
+  living-used : (w : ℕ) (s : CoreState) → lives s.phase ≡ true → lives (with_read_mark w s).phase ≡ true
+  unfolding with_read_mark
   living-used w s e = go (is_running s.phase) (marked w s.cache)
     where
       go : (b : Bool) (c : Cache) → lives (if b then record s { cache = c } else s).phase ≡ true
@@ -102,7 +104,7 @@ module _ (sh : Shape) (p : Program) where
   after-load need w s e = spilled (s.spilled w)
     where
       valid : (o : Option ℕ) → IfSome (load_valid sh p need w s o) SaysAfter
-      valid (Some x) = after-finish need x (used w s) (living-used w s e)
+      valid (Some x) = after-finish need x (with_read_mark w s) (living-used w s e)
       valid None = after-fetch (line_of w) s e
 
       spilled : (o : Option ℕ) → IfSome (load_spilled sh p need w s o) SaysAfter
@@ -110,36 +112,37 @@ module _ (sh : Shape) (p : Program) where
       spilled None = valid (s.cache.value w)
 
   after-word_store : (need : Need) (w x : ℕ) (s : CoreState) → lives s.phase ≡ true → IfSome (word_store sh p need w x s) SaysAfter
-  unfolding word_store buffered framed place
+  unfolding word_store stored_in_buffer stored_in_frame place
   after-word_store need w x s e =
       go (holds s.spilled (line_of w)) (s.cache.held (line_of w)) (is_some (free_way sh s.cache (set_of sh (line_of w))))
     where
       go : (a b d : Bool) → IfSome (
-          if a then Some (moves (finished p need x (buffered w x s)) nothing)
-          else if b then Some (moves (finished p need x (framed w x false s)) (flushed sh s.cache (line_of w)))
-          else if d then Some (moves (finished p need x (framed w x false (place sh (line_of w) s))) nothing)
+          if a then Some (moves (finished p need x (stored_in_buffer w x s)) nothing)
+          else if b then Some (moves (finished p need x (stored_in_frame w x false s)) (flushed sh s.cache (line_of w)))
+          else if d then Some (moves (finished p need x (stored_in_frame w x false (place sh (line_of w) s))) nothing)
           else full_set sh (line_of w) s) SaysAfter
-      go true b d = after-finish need x (buffered w x s) e
-      go false true d = after-finish need x (framed w x false s) e
-      go false false true = after-finish need x (framed w x false (place sh (line_of w) s)) e
+      go true b d = after-finish need x (stored_in_buffer w x s) e
+      go false true d = after-finish need x (stored_in_frame w x false s) e
+      go false false true = after-finish need x (stored_in_frame w x false (place sh (line_of w) s)) e
       go false false false = after-full (line_of w) s
 
   after-partial : (need : Need) (w : ℕ) (s : CoreState) → lives s.phase ≡ true → IfSome (partial_store sh p need w s) SaysAfter
-  unfolding partial_store buffered framed
+  unfolding partial_store stored_in_buffer stored_in_frame
   after-partial need w s e = spilled (s.spilled w)
     where
       held : (x : ℕ) (b : Bool) → IfSome (
-          if b then Some (moves (finished p need x (buffered w (new_word need x) s)) nothing)
-          else Some (moves (finished p need x (framed w (new_word need x) (also_read w s) s)) (flushed sh s.cache (line_of w)))) SaysAfter
-      held x true = after-finish need x (buffered w (new_word need x) s) e
-      held x false = after-finish need x (framed w (new_word need x) (also_read w s) s) e
+          if b then Some (moves (finished p need x (stored_in_buffer w (new_word need x) s)) nothing)
+          else Some (moves (finished p need x (stored_in_frame w (new_word need x) (marks_read w s) s)) (flushed sh s.cache (line_of w))))
+            SaysAfter
+      held x true = after-finish need x (stored_in_buffer w (new_word need x) s) e
+      held x false = after-finish need x (stored_in_frame w (new_word need x) (marks_read w s) s) e
 
       valid : (o : Option ℕ) → IfSome (change_valid sh p need w s o) SaysAfter
       valid (Some x) = held x (holds s.spilled (line_of w))
       valid None = after-fetch (line_of w) s e
 
       spilled : (o : Option ℕ) → IfSome (change_spilled sh p need w s o) SaysAfter
-      spilled (Some x) = after-finish need x (buffered w (new_word need x) s) e
+      spilled (Some x) = after-finish need x (stored_in_buffer w (new_word need x) s) e
       spilled None = valid (s.cache.value w)
 
   after-end : (x : Outcome) → says (phase_after x) (ended_after x) ≡ true
@@ -148,7 +151,7 @@ module _ (sh : Shape) (p : Program) where
   after-end (HaltedWith k) = refl
   after-end (TrappedWith k) = refl
 
-  after-close : (id : ℕ) (q : Phase) (s : CoreState) → SaysAfter (close sh id q s)
+  after-close : (id : ℕ) (q : Phase) (s : CoreState) → SaysAfter (end_transaction sh id q s)
   unfolding solo_commit committed_core
   after-close id (Solo t) s = after-end s.ended
   after-close id q s = refl

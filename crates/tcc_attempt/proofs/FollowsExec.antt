@@ -18,7 +18,7 @@ use Rattle.tcc_rules.specs.State.{CoreState, Awaited, Phase, Running, AwaitTid, 
 use Rattle.tcc_rules.specs.Sends.{nothing, flushed}
 use Rattle.tcc_rules.specs.Attempt.{Out, moves, is_solo, is_running, finished, new_word}
 use Rattle.tcc_rules.specs.Commit.{phase_after, ended_after, committed_core, commit, solo_commit}
-use Rattle.tcc_rules.specs.Execute.{ask, place, overflow, full_set, fetch, used, load_valid, load_spilled, load, buffered, framed, word_store, also_read, change_valid, change_spilled, partial_store, close, execute_need, execute}
+use Rattle.tcc_rules.specs.Execute.{request_line, place, overflow, full_set, miss, with_read_mark, load_valid, load_spilled, load, stored_in_buffer, stored_in_frame, word_store, marks_read, change_valid, change_spilled, partial_store, end_transaction, execute_need, execute}
 use Rattle.tcc_rules.specs.CoreExec.{unless_awaiting, exec_phase, core_exec}
 use Rattle.tcc_attempt.specs.Sound.{SoundCore}
 use Rattle.tcc_attempt.specs.Follows.{NeedFits, Fits, Uses, Agrees, sees, HasEnded, EndFits, Follows, used_in, used_at, used_by}
@@ -132,19 +132,19 @@ full_set-follows sh p l s us a = at (is_solo s.phase || not (all_marked sh s.cac
     at true = tt
     at false = overflow-follows sh p s us a
 
-ask-follows : (sh : Shape) (p : Program) (l : ℕ) (s : CoreState) (us : Uses) → Acts sh p s us → Follows sh p (ask sh l s).core (uses_after (ask sh l s) us)
-unfolding ask
+ask-follows : (sh : Shape) (p : Program) (l : ℕ) (s : CoreState) (us : Uses) → Acts sh p s us → Follows sh p (request_line sh l s).core (uses_after (request_line sh l s) us)
+unfolding request_line
 ask-follows sh p l s us a = follows-same sh p s us s.cache s.spilled (Some (record { line = l; stale = false })) s.owing (λ ram v. refl) a.follows
 
-place_ask-follows : (sh : Shape) (p : Program) (l : ℕ) (s : CoreState) (us : Uses) → Acts sh p s us → Follows sh p (ask sh l (place sh l s)).core (uses_after (ask sh l (place sh l s)) us)
-unfolding ask place
+place_ask-follows : (sh : Shape) (p : Program) (l : ℕ) (s : CoreState) (us : Uses) → Acts sh p s us → Follows sh p (request_line sh l (place sh l s)).core (uses_after (request_line sh l (place sh l s)) us)
+unfolding request_line place
 place_ask-follows sh p l s us a = follows-same sh p s us (placed sh l s.cache) s.spilled (Some (record { line = l; stale = false })) s.owing (λ ram v. placed-seen sh l s ram v) a.follows
 
-fetch-follows : (sh : Shape) (p : Program) (l : ℕ) (s : CoreState) (us : Uses) → Acts sh p s us → OutFollows sh p us (fetch sh l s)
-unfolding fetch
+fetch-follows : (sh : Shape) (p : Program) (l : ℕ) (s : CoreState) (us : Uses) → Acts sh p s us → OutFollows sh p us (miss sh l s)
+unfolding miss
 fetch-follows sh p l s us a = at (s.cache.held l) (free_way sh s.cache (set_of sh l))
   where
-    at : (b : Bool) (o : Option ℕ) → OutFollows sh p us (cond b (Some (ask sh l s)) (cond (is_some o) (Some (ask sh l (place sh l s))) (full_set sh l s)))
+    at : (b : Bool) (o : Option ℕ) → OutFollows sh p us (cond b (Some (request_line sh l s)) (cond (is_some o) (Some (request_line sh l (place sh l s))) (full_set sh l s)))
     at true o = ask-follows sh p l s us a
     at false (Some y) = place_ask-follows sh p l s us a
     at false None = full_set-follows sh p l s us a
@@ -162,7 +162,7 @@ nothing-used s w e v = rw (e, v) (missed w (s.cache.modified w))
 
 pub load-follows : (sh : Shape) (p : Program) (addr : ℕ) (size : Size) (s : CoreState) (us : Uses) → NeedFits (Loads addr size) → p.need s.local ≡ Loads addr size → Acts sh p s us →
     OutFollows sh p (us ++ used_at s (word_of sh.base addr)) (load sh p (Loads addr size) (word_of sh.base addr) s)
-unfolding load used
+unfolding load with_read_mark
 load-follows sh p addr size s us f e a = spilled_in (s.spilled (word_of sh.base addr)) refl
   where
     w : ℕ
@@ -174,7 +174,7 @@ load-follows sh p addr size s us f e a = spilled_in (s.spilled (word_of sh.base 
 
     valid_in : (o : Option ℕ) → s.spilled w ≡ None → s.cache.value w ≡ o → OutFollows sh p (us ++ used_at s w) (load_valid sh p (Loads addr size) w s o)
     valid_in (Some x) n v = used_follows x n v (is_running s.phase)
-    valid_in None n v = unused sh p us (used_at s w) (fetch sh (line_of w) s) (nothing-used s w n v) (fetch-follows sh p (line_of w) s us a)
+    valid_in None n v = unused sh p us (used_at s w) (miss sh (line_of w) s) (nothing-used s w n v) (fetch-follows sh p (line_of w) s us a)
 
     spilled_in : (o : Option ℕ) → s.spilled w ≡ o → OutFollows sh p (us ++ used_at s w) (load_spilled sh p (Loads addr size) w s o)
     spilled_in (Some x) q = goes-on sh p s us (used_at s w) s.cache s.spilled (Loads addr size) x tt f e a (λ ram g. sees-spilled s ram w x q) (λ ram g u. refl)
@@ -182,7 +182,7 @@ load-follows sh p addr size s us f e a = spilled_in (s.spilled (word_of sh.base 
 
 word_store-follows : (sh : Shape) (p : Program) (addr value : ℕ) (s : CoreState) (us : Uses) → NeedFits (Stores addr Word value) → p.need s.local ≡ Stores addr Word value → Acts sh p s us →
     OutFollows sh p (us ++ []) (word_store sh p (Stores addr Word value) (word_of sh.base addr) value s)
-unfolding word_store buffered framed place
+unfolding word_store stored_in_buffer stored_in_frame place
 word_store-follows sh p addr value s us f e a = at (holds s.spilled (line_of w)) refl (s.cache.held (line_of w)) (free_way sh s.cache (set_of sh (line_of w)))
   where
     w : ℕ
@@ -196,9 +196,10 @@ word_store-follows sh p addr value s us f e a = at (holds s.spilled (line_of w))
         none_is (Some x) q = absurd (cc)
 
     at : (b : Bool) → holds s.spilled (line_of w) ≡ b → (c : Bool) (o : Option ℕ) →
-        OutFollows sh p (us ++ []) (cond b (Some (moves (finished p (Stores addr Word value) value (buffered w value s)) nothing))
-        (cond c (Some (moves (finished p (Stores addr Word value) value (framed w value false s)) (flushed sh s.cache (line_of w))))
-        (cond (is_some o) (Some (moves (finished p (Stores addr Word value) value (framed w value false (place sh (line_of w) s))) nothing)) (full_set sh (line_of w) s))))
+        OutFollows sh p (us ++ []) (cond b (Some (moves (finished p (Stores addr Word value) value (stored_in_buffer w value s)) nothing))
+        (cond c
+          (Some (moves (finished p (Stores addr Word value) value (stored_in_frame w value false s)) (flushed sh s.cache (line_of w))))
+        (cond (is_some o) (Some (moves (finished p (Stores addr Word value) value (stored_in_frame w value false (place sh (line_of w) s))) nothing)) (full_set sh (line_of w) s))))
     at true h c o = goes-on sh p s us [] s.cache (put s.spilled w (Some value)) (Stores addr Word value) value tt f e a (λ ram g. tt) (λ ram g v. buffered-seen s ram w value v)
     at false h true o = goes-on sh p s us [] (stored w value false s.cache) s.spilled (Stores addr Word value) value tt f e a (λ ram g. tt) (λ ram g v. framed-seen s s.cache ram w value false v (unspilled h))
     at false h false (Some y) = goes-on sh p s us [] (stored w value false (placed sh (line_of w) s.cache)) s.spilled (Stores addr Word value) value tt f e a (λ ram g. tt)
@@ -213,20 +214,20 @@ pub record Partial (base : ℕ) (need : Need) (w : ℕ) : Type 0 where
 
 partial_store-follows : (sh : Shape) (p : Program) (need : Need) (w : ℕ) (s : CoreState) (us : Uses) → Partial sh.base need w → NeedFits need → p.need s.local ≡ need → Acts sh p s us →
     OutFollows sh p (us ++ used_at s w) (partial_store sh p need w s)
-unfolding partial_store buffered framed
+unfolding partial_store stored_in_buffer stored_in_frame
 partial_store-follows sh p need w s us k f e a = spilled_in (s.spilled w) refl
   where
-    into_buffer : (x : ℕ) → ((ram : ℕ → ℕ) → Agrees (used_at s w) ram → sees s ram w ≡ x) → Follows sh p (finished p need x (buffered w (new_word need x) s)) (us ++ used_at s w)
+    into_buffer : (x : ℕ) → ((ram : ℕ → ℕ) → Agrees (used_at s w) ram → sees s ram w ≡ x) → Follows sh p (finished p need x (stored_in_buffer w (new_word need x) s)) (us ++ used_at s w)
     into_buffer x g = goes-on sh p s us (used_at s w) s.cache (put s.spilled w (Some (new_word need x))) need x k.goes f e a (λ ram q. k.takes x (sees s ram) (g ram q)) (λ ram q v. buffered-seen s ram w (new_word need x) v ∙ sym (k.leaves x (sees s ram) v))
 
     held_in : (x : ℕ) → s.spilled w ≡ None → s.cache.value w ≡ Some x → (b : Bool) →
-        OutFollows sh p (us ++ used_at s w) (cond b (Some (moves (finished p need x (buffered w (new_word need x) s)) nothing)) (Some (moves (finished p need x (framed w (new_word need x) (also_read w s) s)) (flushed sh s.cache (line_of w)))))
+        OutFollows sh p (us ++ used_at s w) (cond b (Some (moves (finished p need x (stored_in_buffer w (new_word need x) s)) nothing)) (Some (moves (finished p need x (stored_in_frame w (new_word need x) (marks_read w s) s)) (flushed sh s.cache (line_of w)))))
     held_in x n v true = into_buffer x (λ ram g. valid-seen s ram w x n v g)
-    held_in x n v false = goes-on sh p s us (used_at s w) (stored w (new_word need x) (also_read w s) s.cache) s.spilled need x k.goes f e a (λ ram g. k.takes x (sees s ram) (valid-seen s ram w x n v g))
-        (λ ram g u. framed-seen s s.cache ram w (new_word need x) (also_read w s) u n ∙ sym (k.leaves x (sees s ram) u))
+    held_in x n v false = goes-on sh p s us (used_at s w) (stored w (new_word need x) (marks_read w s) s.cache) s.spilled need x k.goes f e a (λ ram g. k.takes x (sees s ram) (valid-seen s ram w x n v g))
+        (λ ram g u. framed-seen s s.cache ram w (new_word need x) (marks_read w s) u n ∙ sym (k.leaves x (sees s ram) u))
 
     valid_in : (o : Option ℕ) → s.spilled w ≡ None → s.cache.value w ≡ o → OutFollows sh p (us ++ used_at s w) (change_valid sh p need w s o)
-    valid_in None n v = unused sh p us (used_at s w) (fetch sh (line_of w) s) (nothing-used s w n v) (fetch-follows sh p (line_of w) s us a)
+    valid_in None n v = unused sh p us (used_at s w) (miss sh (line_of w) s) (nothing-used s w n v) (fetch-follows sh p (line_of w) s us a)
     valid_in (Some x) n v = held_in x n v (holds s.spilled (line_of w))
 
     spilled_in : (o : Option ℕ) → s.spilled w ≡ o → OutFollows sh p (us ++ used_at s w) (change_spilled sh p need w s o)
@@ -308,7 +309,7 @@ solo_commit-follows sh p id t s =
 awaits-tid : (sh : Shape) (p : Program) (t : CoreState) (us : Uses) → HasEnded t.ended → Claim sh p t us → Follows sh p (record t { phase = AwaitTid }) us
 awaits-tid sh p t us h k = record { ends = h; steps = claim-same sh p t us t.cache t.spilled AwaitTid t.awaited t.owing (λ ram v. refl) k }
 
-close-follows : (sh : Shape) (p : Program) (id : ℕ) (q : Phase) (t : CoreState) (us : Uses) → HasEnded t.ended → Claim sh p t us → OutFollows sh p us (Some (close sh id q t))
+close-follows : (sh : Shape) (p : Program) (id : ℕ) (q : Phase) (t : CoreState) (us : Uses) → HasEnded t.ended → Claim sh p t us → OutFollows sh p us (Some (end_transaction sh id q t))
 unfolding solo_commit
 close-follows sh p id (Solo tid) t us h k = solo_commit-follows sh p id tid t
 close-follows sh p id Running t us h k = awaits-tid sh p t us h k

@@ -18,7 +18,7 @@ use Rattle.tcc_rules.specs.State.{CoreState, Awaited, Phase, Running, AwaitTid, 
 use Rattle.tcc_rules.specs.Sends.{nothing, flushed}
 use Rattle.tcc_rules.specs.Attempt.{Out, moves, is_solo, is_running, finished, new_word, stepped}
 use Rattle.tcc_rules.specs.Commit.{phase_after, ended_after, committed_core, commit, solo_commit}
-use Rattle.tcc_rules.specs.Execute.{ask, place, overflow, full_set, fetch, used, load_valid, load_spilled, load, buffered, framed, word_store, also_read, change_valid, change_spilled, partial_store, close, store, execute_need, execute}
+use Rattle.tcc_rules.specs.Execute.{request_line, place, overflow, full_set, miss, with_read_mark, load_valid, load_spilled, load, stored_in_buffer, stored_in_frame, word_store, marks_read, change_valid, change_spilled, partial_store, end_transaction, store_by_size, execute_need, execute}
 use Rattle.tcc_rules.specs.CoreExec.{unless_awaiting, exec_phase, core_exec}
 use Rattle.tcc_attempt.specs.Sound.{SoundCore}
 use Rattle.tcc_attempt.specs.Follows.{Uses, used_in, used_at, used_by}
@@ -194,28 +194,28 @@ full_set-fit sh l s us q r = at (is_solo s.phase) refl (not (all_marked sh s.cac
     at false e true = tt
     at false e false = overflow-fit sh s us q e r
 
-ask-fit : (sh : Shape) (l : ℕ) (s : CoreState) (us : Uses) (q : Phase) → Runs sh s us q → MarksFit sh (ask sh l s).core (us ++ [])
-unfolding ask
+ask-fit : (sh : Shape) (l : ℕ) (s : CoreState) (us : Uses) (q : Phase) → Runs sh s us q → MarksFit sh (request_line sh l s).core (us ++ [])
+unfolding request_line
 ask-fit sh l s us q r = stays-fit sh s (record s { awaited = Some (record { line = l; stale = false }) }) us [] q r refl refl (keeps-itself s.cache) (λ h. tt) (λ h v i. i) (adds-none s.cache [])
 
-place_ask-fit : (sh : Shape) (l : ℕ) (s : CoreState) (us : Uses) (q : Phase) → Runs sh s us q → MarksFit sh (ask sh l (place sh l s)).core (us ++ [])
-unfolding ask place
+place_ask-fit : (sh : Shape) (l : ℕ) (s : CoreState) (us : Uses) (q : Phase) → Runs sh s us q → MarksFit sh (request_line sh l (place sh l s)).core (us ++ [])
+unfolding request_line place
 place_ask-fit sh l s us q r = stays-fit sh s (record s { cache = placed sh l s.cache; awaited = Some (record { line = l; stale = false }) }) us [] q r refl refl (keeps-placed sh l s.cache) (λ h. tt) (λ h v i. read-placed sh l s.cache v ∙ i) (λ v i. inl (sym (read-placed sh l s.cache v) ∙ i))
 
 unused-fit : (sh : Shape) (us vs : Uses) (o : Option Out) → vs ≡ [] → OutFits sh us o → OutFits sh (us ++ vs) o
 unused-fit sh us vs o e h = subst (λ (l : Uses). OutFits sh l o) (sym (ap (λ (l : Uses). us ++ l) e ∙ append-nil us)) h
 
-fetch-fit : (sh : Shape) (l : ℕ) (s : CoreState) (us : Uses) (q : Phase) → Runs sh s us q → OutFits sh (us ++ []) (fetch sh l s)
-unfolding fetch ask
+fetch-fit : (sh : Shape) (l : ℕ) (s : CoreState) (us : Uses) (q : Phase) → Runs sh s us q → OutFits sh (us ++ []) (miss sh l s)
+unfolding miss request_line
 fetch-fit sh l s us q r = at (s.cache.held l) (free_way sh s.cache (set_of sh l))
   where
-    at : (b : Bool) (o : Option ℕ) → OutFits sh (us ++ []) (cond b (Some (ask sh l s)) (cond (is_some o) (Some (ask sh l (place sh l s))) (full_set sh l s)))
+    at : (b : Bool) (o : Option ℕ) → OutFits sh (us ++ []) (cond b (Some (request_line sh l s)) (cond (is_some o) (Some (request_line sh l (place sh l s))) (full_set sh l s)))
     at true o = ask-fit sh l s us q r
     at false (Some y) = place_ask-fit sh l s us q r
     at false None = unused-fit sh us [] (full_set sh l s) refl (full_set-fit sh l s us q r)
 
-missed-fit : (sh : Shape) (l : ℕ) (s : CoreState) (us vs : Uses) (q : Phase) → vs ≡ [] → Runs sh s us q → OutFits sh (us ++ vs) (fetch sh l s)
-missed-fit sh l s us vs q e r = subst (λ (x : Uses). OutFits sh (us ++ x) (fetch sh l s)) (sym e) (fetch-fit sh l s us q r)
+missed-fit : (sh : Shape) (l : ℕ) (s : CoreState) (us vs : Uses) (q : Phase) → vs ≡ [] → Runs sh s us q → OutFits sh (us ++ vs) (miss sh l s)
+missed-fit sh l s us vs q e r = subst (λ (x : Uses). OutFits sh (us ++ x) (miss sh l s)) (sym e) (fetch-fit sh l s us q r)
 
 -- only a word that is used becomes marked
 used-new : (w x : ℕ) (s : CoreState) → s.spilled w ≡ None → s.cache.modified w ≡ false → s.cache.value w ≡ Some x → is_used (used_at s w) w ≡ true
@@ -230,13 +230,13 @@ adds-marked w x s n e v h = at (cases_eq w v) (s.cache.modified w) refl
     at (inl i) true q = inl (let j = read-marked w s.cache v in grind (arith, nat_tests))
     at (inr i) m q = inl (let j = read-marked w s.cache v in grind (arith, nat_tests))
 
-adds-stored : (w y x : ℕ) (s : CoreState) → s.spilled w ≡ None → s.cache.value w ≡ Some x → Adds s.cache (stored w y (also_read w s) s.cache) (used_at s w)
+adds-stored : (w y x : ℕ) (s : CoreState) → s.spilled w ≡ None → s.cache.value w ≡ Some x → Adds s.cache (stored w y (marks_read w s) s.cache) (used_at s w)
 adds-stored w y x s n e v h = at (cases_eq w v) (s.cache.modified w) refl
   where
     at : (w ≡ v) ⊎ (w ≡ v → ⊥) → (m : Bool) → s.cache.modified w ≡ m → (s.cache.read v ≡ true) ⊎ (is_used (used_at s w) v ≡ true)
     at (inl i) false q = inr (subst (λ z. is_used (used_at s w) z ≡ true) i (used-new w x s n q e))
-    at (inl i) true q = inl (let j = read-stored w y (also_read w s) s.cache v in grind (arith, nat_tests))
-    at (inr i) m q = inl (let j = read-stored w y (also_read w s) s.cache v in grind (arith, nat_tests))
+    at (inl i) true q = inl (let j = read-stored w y (marks_read w s) s.cache v in grind (arith, nat_tests))
+    at (inr i) m q = inl (let j = read-stored w y (marks_read w s) s.cache v in grind (arith, nat_tests))
 
 -- a word that is used in Running is marked
 used-marked : (w x : ℕ) (c : Cache) → c.modified w ≡ false → c.value w ≡ Some x → UseStands false (marked w c) w x
@@ -247,7 +247,7 @@ running-is : (s : CoreState) (q : Phase) (b : Bool) → s.phase ≡ q → is_run
 running-is s q b e h = ap is_running (sym e) ∙ h
 
 load-fit : (sh : Shape) (p : Program) (need : Need) (w : ℕ) (s : CoreState) (us : Uses) (q : Phase) → Runs sh s us q → OutFits sh (us ++ used_at s w) (load sh p need w s)
-unfolding load used
+unfolding load with_read_mark
 load-fit sh p need w s us q r = spilled_in (s.spilled w) refl
   where
     valid_as : (x : ℕ) → s.spilled w ≡ None → s.cache.value w ≡ Some x → (b : Bool) → is_running s.phase ≡ b → MarksFit sh (finished p need x (cond b (record s { cache = marked w s.cache }) s)) (us ++ used_at s w)
@@ -272,16 +272,16 @@ stored-unread : (w x : ℕ) (c : Cache) (v : ℕ) → c.read v ≡ false → (st
 stored-unread w x c v h = stored-same w x c v ∙ h
 
 word_store-fit : (sh : Shape) (p : Program) (need : Need) (w x : ℕ) (s : CoreState) (us : Uses) (q : Phase) → Runs sh s us q → OutFits sh (us ++ []) (word_store sh p need w x s)
-unfolding word_store buffered framed place
+unfolding word_store stored_in_buffer stored_in_frame place
 word_store-fit sh p need w x s us q r = at (holds s.spilled (line_of w)) (s.cache.held (line_of w)) (free_way sh s.cache (set_of sh (line_of w)))
   where
     at : (a b : Bool) (o : Option ℕ) →
-        OutFits sh (us ++ []) (cond a (Some (moves (finished p need x (buffered w x s)) nothing))
-        (cond b (Some (moves (finished p need x (framed w x false s)) (flushed sh s.cache (line_of w))))
-        (cond (is_some o) (Some (moves (finished p need x (framed w x false (place sh (line_of w) s))) nothing)) (full_set sh (line_of w) s))))
-    at true b o = done-fit sh p need x s (buffered w x s) us [] q r refl refl (keeps-itself s.cache) (λ h. tt) (λ h v i. i) (adds-none s.cache [])
-    at false true o = done-fit sh p need x s (framed w x false s) us [] q r refl refl (keeps-stored w x false s.cache) (λ h. tt) (λ h v i. stored-unread w x s.cache v i) (λ v i. inl (sym (stored-same w x s.cache v) ∙ i))
-    at false false (Some y) = done-fit sh p need x s (framed w x false (place sh (line_of w) s)) us [] q r refl refl (keeps-then s.cache (placed sh (line_of w) s.cache) (stored w x false (placed sh (line_of w) s.cache)) (keeps-placed sh (line_of w) s.cache) (keeps-stored w x false (placed sh (line_of w) s.cache)))
+        OutFits sh (us ++ []) (cond a (Some (moves (finished p need x (stored_in_buffer w x s)) nothing))
+        (cond b (Some (moves (finished p need x (stored_in_frame w x false s)) (flushed sh s.cache (line_of w))))
+        (cond (is_some o) (Some (moves (finished p need x (stored_in_frame w x false (place sh (line_of w) s))) nothing)) (full_set sh (line_of w) s))))
+    at true b o = done-fit sh p need x s (stored_in_buffer w x s) us [] q r refl refl (keeps-itself s.cache) (λ h. tt) (λ h v i. i) (adds-none s.cache [])
+    at false true o = done-fit sh p need x s (stored_in_frame w x false s) us [] q r refl refl (keeps-stored w x false s.cache) (λ h. tt) (λ h v i. stored-unread w x s.cache v i) (λ v i. inl (sym (stored-same w x s.cache v) ∙ i))
+    at false false (Some y) = done-fit sh p need x s (stored_in_frame w x false (place sh (line_of w) s)) us [] q r refl refl (keeps-then s.cache (placed sh (line_of w) s.cache) (stored w x false (placed sh (line_of w) s.cache)) (keeps-placed sh (line_of w) s.cache) (keeps-stored w x false (placed sh (line_of w) s.cache)))
         (λ h. tt) (λ h v i. stored-unread w x (placed sh (line_of w) s.cache) v (read-placed sh (line_of w) s.cache v ∙ i))
         (λ v i. inl (sym (stored-same w x (placed sh (line_of w) s.cache) v ∙ read-placed sh (line_of w) s.cache v) ∙ i))
     at false false None = unused-fit sh us [] (full_set sh (line_of w) s) refl (full_set-fit sh (line_of w) s us q r)
@@ -295,7 +295,7 @@ also-unread : (w y : ℕ) (c : Cache) (also : Bool) (v : ℕ) → also ≡ false
 also-unread w y c also v e h = read-stored w y also c v ∙ grind (arith, nat_tests)
 
 partial_store-fit : (sh : Shape) (p : Program) (need : Need) (w : ℕ) (s : CoreState) (us : Uses) (q : Phase) → Runs sh s us q → OutFits sh (us ++ used_at s w) (partial_store sh p need w s)
-unfolding partial_store buffered framed
+unfolding partial_store stored_in_buffer stored_in_frame
 partial_store-fit sh p need w s us q r = spilled_in (s.spilled w) refl
   where
     solo_holds : holds s.spilled (line_of w) ≡ true → is_running q ≡ true → ⊥
@@ -316,12 +316,12 @@ partial_store-fit sh p need w s us q r = spilled_in (s.spilled w) refl
         running_alone Halted e = absurd (cc)
 
     held_in : (x : ℕ) → s.spilled w ≡ None → s.cache.value w ≡ Some x → (b : Bool) → holds s.spilled (line_of w) ≡ b →
-        OutFits sh (us ++ used_at s w) (cond b (Some (moves (finished p need x (buffered w (new_word need x) s)) nothing)) (Some (moves (finished p need x (framed w (new_word need x) (also_read w s) s)) (flushed sh s.cache (line_of w)))))
-    held_in x n v true h = done-fit sh p need x s (buffered w (new_word need x) s) us (used_at s w) q r refl refl (keeps-itself s.cache) (λ i. absurd (solo_holds h i)) (λ i u j. j) (adds-none s.cache (used_at s w))
-    held_in x n v false h = done-fit sh p need x s (framed w (new_word need x) (also_read w s) s) us (used_at s w) q r refl refl (keeps-stored w (new_word need x) (also_read w s) s.cache)
-        (λ i. stands-new (stored w (new_word need x) (also_read w s) s.cache) w (s.spilled w) (s.cache.modified w) (s.cache.value w)
-        (λ m y f. changed-stands w (new_word need x) y s.cache (also_read w s) (let j : is_running s.phase ≡ true = ap is_running r.is ∙ i in grind (arith, nat_tests))))
-        (λ i u j. also-unread w (new_word need x) s.cache (also_read w s) u (let k : is_running s.phase ≡ false = ap is_running r.is ∙ i in grind (arith, nat_tests)) j)
+        OutFits sh (us ++ used_at s w) (cond b (Some (moves (finished p need x (stored_in_buffer w (new_word need x) s)) nothing)) (Some (moves (finished p need x (stored_in_frame w (new_word need x) (marks_read w s) s)) (flushed sh s.cache (line_of w)))))
+    held_in x n v true h = done-fit sh p need x s (stored_in_buffer w (new_word need x) s) us (used_at s w) q r refl refl (keeps-itself s.cache) (λ i. absurd (solo_holds h i)) (λ i u j. j) (adds-none s.cache (used_at s w))
+    held_in x n v false h = done-fit sh p need x s (stored_in_frame w (new_word need x) (marks_read w s) s) us (used_at s w) q r refl refl (keeps-stored w (new_word need x) (marks_read w s) s.cache)
+        (λ i. stands-new (stored w (new_word need x) (marks_read w s) s.cache) w (s.spilled w) (s.cache.modified w) (s.cache.value w)
+        (λ m y f. changed-stands w (new_word need x) y s.cache (marks_read w s) (let j : is_running s.phase ≡ true = ap is_running r.is ∙ i in grind (arith, nat_tests))))
+        (λ i u j. also-unread w (new_word need x) s.cache (marks_read w s) u (let k : is_running s.phase ≡ false = ap is_running r.is ∙ i in grind (arith, nat_tests)) j)
         (adds-stored w (new_word need x) x s n v)
 
     valid_in : (o : Option ℕ) → s.spilled w ≡ None → s.cache.value w ≡ o → OutFits sh (us ++ used_at s w) (change_valid sh p need w s o)
@@ -329,7 +329,7 @@ partial_store-fit sh p need w s us q r = spilled_in (s.spilled w) refl
     valid_in (Some x) n v = held_in x n v (holds s.spilled (line_of w)) refl
 
     spilled_in : (o : Option ℕ) → s.spilled w ≡ o → OutFits sh (us ++ used_at s w) (change_spilled sh p need w s o)
-    spilled_in (Some x) e = done-fit sh p need x s (buffered w (new_word need x) s) us (used_at s w) q r refl refl (keeps-itself s.cache) (λ h. none-stand s.cache (used_at s w) (spilled-unused s w x e)) (λ h v i. i) (adds-none s.cache (used_at s w))
+    spilled_in (Some x) e = done-fit sh p need x s (stored_in_buffer w (new_word need x) s) us (used_at s w) q r refl refl (keeps-itself s.cache) (λ h. none-stand s.cache (used_at s w) (spilled-unused s w x e)) (λ h v i. i) (adds-none s.cache (used_at s w))
     spilled_in None e = valid_in (s.cache.value w) e refl
 
 -- the transaction has ended: the core asks for a TID with the same uses, or has committed and has none
@@ -357,7 +357,7 @@ commit-fit sh id t s n o = committed-fit sh (record (record (committed_core t s)
 }) { ended = s.ended; phase = s.phase }) s.ended (read-committed t s.cache) n o
 
 -- an ending instruction
-close-fit : (sh : Shape) (id : ℕ) (p : Program) (need : Need) (s : CoreState) (us : Uses) (q : Phase) → Runs sh s us q → OutFits sh (us ++ []) (Some (close sh id q (finished p need 0 s)))
+close-fit : (sh : Shape) (id : ℕ) (p : Program) (need : Need) (s : CoreState) (us : Uses) (q : Phase) → Runs sh s us q → OutFits sh (us ++ []) (Some (end_transaction sh id q (finished p need 0 s)))
 unfolding solo_commit
 close-fit sh id p need s us Running r =
     let b = finished-same p need 0 s in
@@ -376,10 +376,10 @@ close-fit sh id p need s us (Ready u) r = absurd (let j = r.executes in cc)
 close-fit sh id p need s us (Overflowing u) r = absurd (let j = r.executes in cc)
 close-fit sh id p need s us Halted r = absurd (let j = r.executes in cc)
 
-closed-fit : (sh : Shape) (id : ℕ) (p : Program) (need : Need) (s : CoreState) (us : Uses) (q : Phase) → Runs sh s us q → OutFits sh (us ++ []) (Some (close sh id s.phase (finished p need 0 s)))
-closed-fit sh id p need s us q r = subst (λ (x : Phase). OutFits sh (us ++ []) (Some (close sh id x (finished p need 0 s)))) (sym r.is) (close-fit sh id p need s us q r)
+closed-fit : (sh : Shape) (id : ℕ) (p : Program) (need : Need) (s : CoreState) (us : Uses) (q : Phase) → Runs sh s us q → OutFits sh (us ++ []) (Some (end_transaction sh id s.phase (finished p need 0 s)))
+closed-fit sh id p need s us q r = subst (λ (x : Phase). OutFits sh (us ++ []) (Some (end_transaction sh id x (finished p need 0 s)))) (sym r.is) (close-fit sh id p need s us q r)
 
-store-fit : (sh : Shape) (p : Program) (addr : ℕ) (size : Size) (value : ℕ) (s : CoreState) (us : Uses) (q : Phase) → Runs sh s us q → OutFits sh (us ++ used_by sh.base s (Stores addr size value)) (store sh p addr size value s)
+store-fit : (sh : Shape) (p : Program) (addr : ℕ) (size : Size) (value : ℕ) (s : CoreState) (us : Uses) (q : Phase) → Runs sh s us q → OutFits sh (us ++ used_by sh.base s (Stores addr size value)) (store_by_size sh p addr size value s)
 store-fit sh p addr Word value s us q r = word_store-fit sh p (Stores addr Word value) (word_of sh.base addr) value s us q r
 store-fit sh p addr Half value s us q r = partial_store-fit sh p (Stores addr Half value) (word_of sh.base addr) s us q r
 store-fit sh p addr Byte value s us q r = partial_store-fit sh p (Stores addr Byte value) (word_of sh.base addr) s us q r

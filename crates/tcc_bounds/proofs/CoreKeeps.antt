@@ -17,7 +17,7 @@ use Rattle.tcc_rules.specs.Commit.{noted, committed_core, commit_sends, commit, 
 use Rattle.tcc_rules.specs.CoreDeliver.{grant_sends, grant_phase, grant, replied, all_replied, when_ready, when_alone, reply_phase, probe_reply, fill_awaited, fill, data_request, violated_in, if_violated, is_violated, without, acknowledged, invalidate, from_dir, ignored}
 use Rattle.tcc_rules.specs.CoreEvict.{is_awaited, evict_line, core_evict}
 use Rattle.tcc_rules.specs.CoreExec.{unless_awaiting, exec_phase, core_exec}
-use Rattle.tcc_rules.specs.Execute.{ask, place, overflow, full_set, fetch, used, load_valid, load_spilled, load, buffered, framed, word_store, also_read, change_valid, change_spilled, partial_store, close, execute_need, execute}
+use Rattle.tcc_rules.specs.Execute.{request_line, place, overflow, full_set, miss, with_read_mark, load_valid, load_spilled, load, stored_in_buffer, stored_in_frame, word_store, marks_read, change_valid, change_spilled, partial_store, end_transaction, execute_need, execute}
 use Rattle.tcc_rules.specs.Sends.{Sends, nothing, to, when, write_back, flush, written_back, flushed, skip_all, probe_all, abort_written, marks_for}
 use Rattle.tcc_serial.specs.InMemory.{NeedInMemory, WordInMemory}
 use Rattle.tcc_bounds.specs.Bounds.{most_sent, AttemptCounted, CommitCounted}
@@ -146,8 +146,8 @@ solos sh s sp t = dirs-inside sh _ (λ d. solo_marks sh s sp t d ++ solo_backs s
 
 -- Exec
 
-asks : (sh : Shape) (n l : ℕ) (s : CoreState) → l < lines sh → AttemptCounted n s → Keeps sh n (ask sh l s)
-unfolding ask is_inside
+asks : (sh : Shape) (n l : ℕ) (s : CoreState) → l < lines sh → AttemptCounted n s → Keeps sh n (request_line sh l s)
+unfolding request_line is_inside
 asks sh n l s i k = still sh _ n _ _
     (to-inside sh _ (Dir (home sh l)) _ (one-message sh _ (LoadReq l (s.after (home sh l))) (some sh) (below sh l i))) k
 
@@ -159,12 +159,13 @@ full sh n l s k = go (is_solo s.phase || not (all_marked sh s.cache (set_of sh l
     go true = tt
     go false = still sh _ n _ _ (requests sh) k
 
-fetches : (sh : Shape) (n l : ℕ) (s : CoreState) → l < lines sh → AttemptCounted n s → IfSome (fetch sh l s) (Keeps sh n)
-unfolding fetch
+fetches : (sh : Shape) (n l : ℕ) (s : CoreState) → l < lines sh → AttemptCounted n s → IfSome (miss sh l s) (Keeps sh n)
+unfolding miss
 fetches sh n l s i k = go (s.cache.held l) (is_some (free_way sh s.cache (set_of sh l)))
   where
     go : (a b : Bool)
-        → IfSome (if a then Some (ask sh l s) else (if b then Some (ask sh l (place sh l s)) else full_set sh l s)) (Keeps sh n)
+        → IfSome (if a then Some (request_line sh l s) else (if b then Some (request_line sh l (place sh l s)) else full_set sh l s))
+          (Keeps sh n)
     go true b = asks sh n l s i k
     go false true = asks sh n l (place sh l s) i (placed n sh l s k)
     go false false = full sh n l s k
@@ -180,7 +181,7 @@ unfolding load
 loads sh n p w need s i k = go (s.spilled w)
   where
     valid : (b : Option ℕ) → IfSome (load_valid sh p need w s b) (Keeps sh n)
-    valid (Some x) = done_with sh n p need x (used w s) nothing (nothing-inside sh _) (marked_read n w s k)
+    valid (Some x) = done_with sh n p need x (with_read_mark w s) nothing (nothing-inside sh _) (marked_read n w s k)
     valid None = fetches sh n (line_of w) s i k
 
     go : (a : Option ℕ) → IfSome (load_spilled sh p need w s a) (Keeps sh n)
@@ -196,15 +197,15 @@ partly sh n p w need s i k = go (s.spilled w)
     one true o q f g = f
     one false o q f g = g
 
-    into_buffer : (x : ℕ) → Keeps sh n (moves (finished p need x (buffered w (new_word need x) s)) nothing)
-    into_buffer x = done_with sh n p need x (buffered w (new_word need x) s) nothing (nothing-inside sh _)
+    into_buffer : (x : ℕ) → Keeps sh n (moves (finished p need x (stored_in_buffer w (new_word need x) s)) nothing)
+    into_buffer x = done_with sh n p need x (stored_in_buffer w (new_word need x) s) nothing (nothing-inside sh _)
         (in_buffer n w (new_word need x) s k)
 
     valid : (b : Option ℕ) → IfSome (change_valid sh p need w s b) (Keeps sh n)
     valid None = fetches sh n (line_of w) s i k
     valid (Some x) = one (holds s.spilled (line_of w)) _ _ (into_buffer x)
-        (done_with sh n p need x (framed w (new_word need x) (also_read w s) s) (flushed sh s.cache (line_of w))
-        (flushes sh s.cache (line_of w)) (in_frame n w (new_word need x) (also_read w s) s k))
+        (done_with sh n p need x (stored_in_frame w (new_word need x) (marks_read w s) s) (flushed sh s.cache (line_of w))
+        (flushes sh s.cache (line_of w)) (in_frame n w (new_word need x) (marks_read w s) s k))
 
     go : (a : Option ℕ) → IfSome (change_spilled sh p need w s a) (Keeps sh n)
     go (Some x) = into_buffer x
@@ -215,10 +216,10 @@ stores_word : (sh : Shape) (n : ℕ) (p : Program) (w x : ℕ) (need : Need) (s 
 unfolding word_store
 stores_word sh n p w x need s k = go (holds s.spilled (line_of w)) (s.cache.held (line_of w))
     (is_some (free_way sh s.cache (set_of sh (line_of w)))) _ _ _
-    (done_with sh n p need x (buffered w x s) nothing (nothing-inside sh _) (in_buffer n w x s k))
-    (done_with sh n p need x (framed w x false s) (flushed sh s.cache (line_of w)) (flushes sh s.cache (line_of w))
+    (done_with sh n p need x (stored_in_buffer w x s) nothing (nothing-inside sh _) (in_buffer n w x s k))
+    (done_with sh n p need x (stored_in_frame w x false s) (flushed sh s.cache (line_of w)) (flushes sh s.cache (line_of w))
     (in_frame n w x false s k))
-    (done_with sh n p need x (framed w x false (place sh (line_of w) s)) nothing (nothing-inside sh _)
+    (done_with sh n p need x (stored_in_frame w x false (place sh (line_of w) s)) nothing (nothing-inside sh _)
     (in_frame n w x false (place sh (line_of w) s) (placed n sh (line_of w) s k)))
   where
     go : (a b d : Bool) (o q r : Out) → Keeps sh n o → Keeps sh n q → Keeps sh n r
@@ -228,7 +229,7 @@ stores_word sh n p w x need s k = go (holds s.spilled (line_of w)) (s.cache.held
     go false false true o q r f g h = h
     go false false false o q r f g h = full sh n (line_of w) s k
 
-closes : (sh : Shape) (n id : ℕ) (q : Phase) (s : CoreState) → AttemptCounted (n + 1) s → Keeps sh n (close sh id q s)
+closes : (sh : Shape) (n id : ℕ) (q : Phase) (s : CoreState) → AttemptCounted (n + 1) s → Keeps sh n (end_transaction sh id q s)
 unfolding solo_commit committed_core noted
 closes sh n id (Solo t) s k = record { sends = solos sh s.cache s.spilled t; attempt = none (n + 1); commit = k }
 closes sh n id _ s k = steps sh _ n _ _ (requests sh) k

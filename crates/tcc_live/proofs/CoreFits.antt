@@ -16,7 +16,7 @@ use Rattle.tcc_rules.specs.Commit.{commit_sends, commit, is_written, written_mas
 use Rattle.tcc_rules.specs.CoreDeliver.{grant_sends, grant_phase, grant, reply_phase, probe_reply, fill_awaited, fill, data_request, violated_in, if_violated, is_violated, without, acknowledged, invalidate, from_dir, ignored}
 use Rattle.tcc_rules.specs.CoreEvict.{is_awaited, evict_line, core_evict}
 use Rattle.tcc_rules.specs.CoreExec.{unless_awaiting, exec_phase, core_exec}
-use Rattle.tcc_rules.specs.Execute.{ask, place, overflow, full_set, fetch, load_valid, load_spilled, load, word_store, change_valid, change_spilled, partial_store, close, execute_need, execute}
+use Rattle.tcc_rules.specs.Execute.{request_line, place, overflow, full_set, miss, load_valid, load_spilled, load, word_store, change_valid, change_spilled, partial_store, end_transaction, execute_need, execute}
 use Rattle.tcc_rules.specs.Sends.{to, when, write_back, flush, written_back, flushed, skip_all, probe_all, abort_written, marks_for}
 use Rattle.tcc_live.proofs.Strays.{strays, AllFit, strays-append, strays-none, strays-flat, strays-when, out_fits, ask_fits, fit-nothing, fit-then, fit-to, fit-dirs}
 
@@ -134,8 +134,8 @@ backs sh c s l k = at_home sh c l (write_back (dirty_copy s l)) k (λ d i. go d 
     go d i None = strays-none sh (Core c) (Dir d)
     go d i (Some t) = out_fits sh c d (WriteBack t.line t.mask t.words t.tag) k.core i refl
 
-asks : (sh : Shape) (c l : ℕ) (s : CoreState) → IsCore sh c → Fit sh c (ask sh l s)
-unfolding ask
+asks : (sh : Shape) (c l : ℕ) (s : CoreState) → IsCore sh c → Fit sh c (request_line sh l s)
+unfolding request_line
 asks sh c l s k = at_home sh c l (LoadReq l (s.after (home sh l)) ∷ []) k
     (λ d i. out_fits sh c d (LoadReq l (s.after (home sh l))) k.core i refl)
 
@@ -152,11 +152,12 @@ full sh c l s k = go (is_solo s.phase || not (all_marked sh s.cache (set_of sh l
     go true = tt
     go false = requests sh c k
 
-fetches : (sh : Shape) (c l : ℕ) (s : CoreState) → IsCore sh c → IfSome (fetch sh l s) (Fit sh c)
-unfolding fetch
+fetches : (sh : Shape) (c l : ℕ) (s : CoreState) → IsCore sh c → IfSome (miss sh l s) (Fit sh c)
+unfolding miss
 fetches sh c l s k = go (s.cache.held l) (is_some (free_way sh s.cache (set_of sh l)))
   where
-    go : (a b : Bool) → IfSome (if a then Some (ask sh l s) else (if b then Some (ask sh l (place sh l s)) else full_set sh l s)) (Fit sh c)
+    go : (a b : Bool) → IfSome
+        (if a then Some (request_line sh l s) else (if b then Some (request_line sh l (place sh l s)) else full_set sh l s)) (Fit sh c)
     go true b = asks sh c l s k
     go false true = asks sh c l (place sh l s) k
     go false false = full sh c l s k
@@ -203,7 +204,7 @@ stores_word sh p c w x need s k = go (holds s.spilled (line_of w)) (s.cache.held
     go false false true o q r f g h = h
     go false false false o q r f g h = full sh c (line_of w) s k
 
-closes : (sh : Shape) (c : ℕ) (q : Phase) (s : CoreState) → IsCore sh c → Fit sh c (close sh c q s)
+closes : (sh : Shape) (c : ℕ) (q : Phase) (s : CoreState) → IsCore sh c → Fit sh c (end_transaction sh c q s)
 unfolding solo_commit
 closes sh c (Solo t) s k = solos sh c s.cache s.spilled t k
 closes sh c _ s k = requests sh c k

@@ -17,8 +17,8 @@ use Rattle.tcc_rules.specs.Attempt.{Out, moves, is_solo, is_running, new_word, f
 use Rattle.tcc_rules.specs.Commit.{solo_commit}
 
 -- a request for the line goes to its home, and the core awaits it
-unfoldable pub ask : Shape → ℕ → CoreState → Out
-ask sh l s = moves (record s { awaited = Some (record { line = l; stale = false }) }) (to (Dir (home sh l)) (LoadReq l (s.after (home sh l)) ∷ []))
+unfoldable pub request_line : Shape → ℕ → CoreState → Out
+request_line sh l s = moves (record s { awaited = Some (record { line = l; stale = false }) }) (to (Dir (home sh l)) (LoadReq l (s.after (home sh l)) ∷ []))
 
 unfoldable pub place : Shape → ℕ → CoreState → CoreState
 place sh l s = record s { cache = placed sh l s.cache }
@@ -34,20 +34,20 @@ full_set sh l s =
     else Some (overflow s)
 
 -- the word of this line is neither spilled nor valid
-unfoldable pub fetch : Shape → ℕ → CoreState → Option Out
-fetch sh l s =
-    if s.cache.held l then Some (ask sh l s)
-    else if is_some (free_way sh s.cache (set_of sh l)) then Some (ask sh l (place sh l s))
+unfoldable pub miss : Shape → ℕ → CoreState → Option Out
+miss sh l s =
+    if s.cache.held l then Some (request_line sh l s)
+    else if is_some (free_way sh s.cache (set_of sh l)) then Some (request_line sh l (place sh l s))
     else full_set sh l s
 
 -- a word that is used is marked read, unless it is modified or the core is alone
-unfoldable pub used : ℕ → CoreState → CoreState
-used w s = if is_running s.phase then record s { cache = marked w s.cache } else s
+unfoldable pub with_read_mark : ℕ → CoreState → CoreState
+with_read_mark w s = if is_running s.phase then record s { cache = marked w s.cache } else s
 
 -- Load: of a word that is spilled, that is valid, or neither
 abbrev pub load_valid : Shape → Program → Need → (word : ℕ) → CoreState → (valid : Option ℕ) → Option Out
-load_valid sh p need w s (Some x) = Some (moves (finished p need x (used w s)) nothing)
-load_valid sh p need w s None = fetch sh (line_of w) s
+load_valid sh p need w s (Some x) = Some (moves (finished p need x (with_read_mark w s)) nothing)
+load_valid sh p need w s None = miss sh (line_of w) s
 
 abbrev pub load_spilled : Shape → Program → Need → (word : ℕ) → CoreState → (spilled : Option ℕ) → Option Out
 load_spilled sh p need w s (Some x) = Some (moves (finished p need x s) nothing)
@@ -57,59 +57,59 @@ unfoldable pub load : Shape → Program → Need → (word : ℕ) → CoreState 
 load sh p need w s = load_spilled sh p need w s (s.spilled w)
 
 -- the word goes into the overflow buffer
-unfoldable pub buffered : ℕ → ℕ → CoreState → CoreState
-buffered w x s = record s { spilled = put s.spilled w (Some x) }
+unfoldable pub stored_in_buffer : ℕ → ℕ → CoreState → CoreState
+stored_in_buffer w x s = record s { spilled = put s.spilled w (Some x) }
 
--- the word goes into its frame; also: it is marked read too
-unfoldable pub framed : ℕ → ℕ → (also : Bool) → CoreState → CoreState
-framed w x also s = record s { cache = stored w x also s.cache }
+-- the word goes into its frame, and is marked read too where that is said
+unfoldable pub stored_in_frame : ℕ → ℕ → (read : Bool) → CoreState → CoreState
+stored_in_frame w x read s = record s { cache = stored w x read s.cache }
 
 -- Word store: in the buffer where the line has a spilled word, in the line's frame, or in a new one
 unfoldable pub word_store : Shape → Program → Need → (word value : ℕ) → CoreState → Option Out
 word_store sh p need w x s =
-    if holds s.spilled (line_of w) then Some (moves (finished p need x (buffered w x s)) nothing)
-    else if s.cache.held (line_of w) then Some (moves (finished p need x (framed w x false s)) (flushed sh s.cache (line_of w)))
-    else if is_some (free_way sh s.cache (set_of sh (line_of w))) then Some (moves (finished p need x (framed w x false (place sh (line_of w) s))) nothing)
+    if holds s.spilled (line_of w) then Some (moves (finished p need x (stored_in_buffer w x s)) nothing)
+    else if s.cache.held (line_of w) then Some (moves (finished p need x (stored_in_frame w x false s)) (flushed sh s.cache (line_of w)))
+    else if is_some (free_way sh s.cache (set_of sh (line_of w))) then Some (moves (finished p need x (stored_in_frame w x false (place sh (line_of w) s))) nothing)
     else full_set sh (line_of w) s
 
 -- the word that was found is read, unless it was modified before or the core is alone
-abbrev pub also_read : ℕ → CoreState → Bool
-also_read w s = is_running s.phase && not (s.cache.modified w)
+abbrev pub marks_read : ℕ → CoreState → Bool
+marks_read w s = is_running s.phase && not (s.cache.modified w)
 
 -- Partial store: of a word that is spilled, that is valid, or neither
 abbrev pub change_valid : Shape → Program → Need → (word : ℕ) → CoreState → (valid : Option ℕ) → Option Out
-change_valid sh p need w s None = fetch sh (line_of w) s
+change_valid sh p need w s None = miss sh (line_of w) s
 change_valid sh p need w s (Some x) =
-    if holds s.spilled (line_of w) then Some (moves (finished p need x (buffered w (new_word need x) s)) nothing)
-    else Some (moves (finished p need x (framed w (new_word need x) (also_read w s) s)) (flushed sh s.cache (line_of w)))
+    if holds s.spilled (line_of w) then Some (moves (finished p need x (stored_in_buffer w (new_word need x) s)) nothing)
+    else Some (moves (finished p need x (stored_in_frame w (new_word need x) (marks_read w s) s)) (flushed sh s.cache (line_of w)))
 
 abbrev pub change_spilled : Shape → Program → Need → (word : ℕ) → CoreState → (spilled : Option ℕ) → Option Out
-change_spilled sh p need w s (Some x) = Some (moves (finished p need x (buffered w (new_word need x) s)) nothing)
+change_spilled sh p need w s (Some x) = Some (moves (finished p need x (stored_in_buffer w (new_word need x) s)) nothing)
 change_spilled sh p need w s None = change_valid sh p need w s (s.cache.value w)
 
 unfoldable pub partial_store : Shape → Program → Need → (word : ℕ) → CoreState → Option Out
 partial_store sh p need w s = change_spilled sh p need w s (s.spilled w)
 
 -- the transaction has ended: a core that runs asks for a TID, one that is alone commits at once
-abbrev pub close : Shape → (core : ℕ) → Phase → CoreState → Out
-close sh id (Solo t) s = solo_commit sh id t s
-close sh id _ s = moves (record s { phase = AwaitTid }) (to Vendor (TidReq ∷ []))
+abbrev pub end_transaction : Shape → (core : ℕ) → Phase → CoreState → Out
+end_transaction sh id (Solo t) s = solo_commit sh id t s
+end_transaction sh id _ s = moves (record s { phase = AwaitTid }) (to Vendor (TidReq ∷ []))
 
 -- Execute: by what the instruction at pc needs
-abbrev pub store : Shape → Program → (addr : ℕ) → Size → (value : ℕ) → CoreState → Option Out
-store sh p addr Word value s = word_store sh p (Stores addr Word value) (word_of sh.base addr) value s
-store sh p addr Half value s = partial_store sh p (Stores addr Half value) (word_of sh.base addr) s
-store sh p addr Byte value s = partial_store sh p (Stores addr Byte value) (word_of sh.base addr) s
+abbrev pub store_by_size : Shape → Program → (addr : ℕ) → Size → (value : ℕ) → CoreState → Option Out
+store_by_size sh p addr Word value s = word_store sh p (Stores addr Word value) (word_of sh.base addr) value s
+store_by_size sh p addr Half value s = partial_store sh p (Stores addr Half value) (word_of sh.base addr) s
+store_by_size sh p addr Byte value s = partial_store sh p (Stores addr Byte value) (word_of sh.base addr) s
 
 abbrev pub execute_need : Shape → Program → (core : ℕ) → CoreState → Need → Option Out
 execute_need sh p id s Nothing = Some (moves (finished p Nothing 0 s) nothing)
 execute_need sh p id s (Loads addr size) = load sh p (Loads addr size) (word_of sh.base addr) s
-execute_need sh p id s (Stores addr size value) = store sh p addr size value s
+execute_need sh p id s (Stores addr size value) = store_by_size sh p addr size value s
 execute_need sh p id s (Changes addr changed) = partial_store sh p (Changes addr changed) (word_of sh.base addr) s
 execute_need sh p id s (Prints byte) = Some (moves (finished p (Prints byte) 0 s) nothing)
-execute_need sh p id s Ends = Some (close sh id s.phase (finished p Ends 0 s))
-execute_need sh p id s (Halts code) = Some (close sh id s.phase (finished p (Halts code) 0 s))
-execute_need sh p id s (Traps code) = Some (close sh id s.phase (finished p (Traps code) 0 s))
+execute_need sh p id s Ends = Some (end_transaction sh id s.phase (finished p Ends 0 s))
+execute_need sh p id s (Halts code) = Some (end_transaction sh id s.phase (finished p (Halts code) 0 s))
+execute_need sh p id s (Traps code) = Some (end_transaction sh id s.phase (finished p (Traps code) 0 s))
 
 unfoldable pub execute : Shape → Program → (core : ℕ) → CoreState → Option Out
 execute sh p id s = execute_need sh p id s (p.need s.local)

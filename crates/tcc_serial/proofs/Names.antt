@@ -65,9 +65,10 @@ pub use Rattle.tcc_rules.specs.DirDeliver.{Asks, Answer, Drops, Takes, Waits, lo
 unfoldable pub use Rattle.tcc_rules.specs.DirDeliver.{dir_deliver, write_back, invalidations, owed_by, owned, settled, ask_owner}
 unfoldable pub use Rattle.tcc_rules.specs.DirDeliver.{load_request, abort, acknowledgement, mark, moved_on, probe, skip, came_home, invs_to}
 unfoldable pub use Rattle.tcc_rules.specs.DirDeliver.{is_invalidated, total, line_words}
-pub use Rattle.tcc_rules.specs.Execute.{close, execute_need, also_read, change_spilled, change_valid, load_spilled, load_valid}
-unfoldable pub use Rattle.tcc_rules.specs.Execute.{execute, load, partial_store, word_store, ask, buffered, fetch, framed, full_set}
-unfoldable pub use Rattle.tcc_rules.specs.Execute.{overflow, place, used}
+pub use Rattle.tcc_rules.specs.Execute.{end_transaction, execute_need, marks_read, change_spilled, change_valid, load_spilled, load_valid}
+unfoldable pub use Rattle.tcc_rules.specs.Execute.{execute, load, partial_store, word_store, request_line, stored_in_buffer, miss}
+unfoldable pub use Rattle.tcc_rules.specs.Execute.{stored_in_frame, full_set}
+unfoldable pub use Rattle.tcc_rules.specs.Execute.{overflow, place, with_read_mark}
 pub use Rattle.tcc_rules.specs.Links.{in_flight}
 unfoldable pub use Rattle.tcc_rules.specs.Links.{sent_all}
 pub use Rattle.tcc_rules.specs.Seen.{Copy, numbers, copy_in, copy_of}

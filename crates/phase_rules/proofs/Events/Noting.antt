@@ -15,7 +15,8 @@ use Rattle.tcc_rules.specs.CoreDeliver.{core_deliver, grant, probe_reply, fill, 
 use Rattle.tcc_rules.specs.CoreEvict.{core_evict}
 use Rattle.tcc_rules.specs.CoreExec.{core_exec, exec_phase, unless_awaiting}
 use Rattle.tcc_rules.specs.DirDeliver.{Answer, Waits, Drops, Asks, Takes, dir_deliver}
-use Rattle.tcc_rules.specs.Execute.{overflow, full_set, ask, fetch, load, word_store, partial_store, close, execute_need, execute}
+use Rattle.tcc_rules.specs.Execute.{overflow, full_set, request_line, miss, load, word_store, partial_store, end_transaction, execute_need}
+use Rattle.tcc_rules.specs.Execute.{execute}
 use Rattle.tcc_rules.specs.Links.{in_flight}
 use Rattle.tcc_rules.specs.Step.{Stepped, moved, taken, answered, granted, delivered, if_in_flight, names_nodes, happens, step}
 use Rattle.tcc_rules.specs.VendorDeliver.{Granted, vendor_deliver}
@@ -26,12 +27,12 @@ abbrev commit_in : Option Out → Option Noted
 commit_in None = None
 commit_in (Some o) = o.commit
 
-quiet-fetch : (sh : Shape) (l : ℕ) (s : CoreState) → commit_in (fetch sh l s) ≡ None
-unfolding fetch full_set ask overflow
+quiet-fetch : (sh : Shape) (l : ℕ) (s : CoreState) → commit_in (miss sh l s) ≡ None
+unfolding miss full_set request_line overflow
 quiet-fetch sh l s = grind (arith, nat_tests)
 
 quiet-load : (sh : Shape) (p : Program) (n : Need) (w : ℕ) (s : CoreState) → commit_in (load sh p n w s) ≡ None
-unfolding load fetch full_set ask overflow
+unfolding load miss full_set request_line overflow
 quiet-load sh p n w s = grind (arith, nat_tests)
 
 quiet-word_store : (sh : Shape) (p : Program) (n : Need) (w x : ℕ) (s : CoreState) → commit_in (word_store sh p n w x s) ≡ None
@@ -39,7 +40,7 @@ unfolding word_store full_set overflow
 quiet-word_store sh p n w x s = grind (arith, nat_tests)
 
 quiet-partial_store : (sh : Shape) (p : Program) (n : Need) (w : ℕ) (s : CoreState) → commit_in (partial_store sh p n w s) ≡ None
-unfolding partial_store fetch full_set ask overflow
+unfolding partial_store miss full_set request_line overflow
 quiet-partial_store sh p n w s = grind (arith, nat_tests)
 
 quiet-evict : (sh : Shape) (x y : ℕ) (s : CoreState) → commit_in (core_evict sh x y s) ≡ None
@@ -61,7 +62,7 @@ Notes c q n = IfSome n (NotedAt c q)
 nothing : (c : ℕ) (q : Phase) (n : Option Noted) → n ≡ None → Notes c q n
 nothing c q n e = rw e tt
 
-close-notes : (sh : Shape) (c : ℕ) (q : Phase) (s : CoreState) → Notes c q (close sh c q s).commit
+close-notes : (sh : Shape) (c : ℕ) (q : Phase) (s : CoreState) → Notes c q (end_transaction sh c q s).commit
 unfolding solo_commit noted has_tid
 close-notes sh c (Solo t) s = record { core = refl; has = grind (arith, nat_tests) }
 close-notes sh c _ s = tt

@@ -17,8 +17,9 @@ use Rattle.tcc_rules.specs.CoreDeliver.{if_violated, without}
 use Rattle.tcc_rules.specs.CoreEvict.{core_evict}
 use Rattle.tcc_rules.specs.CoreExec.{core_exec, exec_phase, unless_awaiting}
 use Rattle.tcc_rules.specs.DirDeliver.{Answer, Waits, Drops, Asks, Takes, dir_deliver}
-use Rattle.tcc_rules.specs.Execute.{overflow, full_set, ask, fetch, place, load, used, word_store, partial_store, buffered, framed}
-use Rattle.tcc_rules.specs.Execute.{close, execute_need, execute}
+use Rattle.tcc_rules.specs.Execute.{overflow, full_set, request_line, miss, place, load, with_read_mark, word_store, partial_store}
+use Rattle.tcc_rules.specs.Execute.{stored_in_buffer, stored_in_frame}
+use Rattle.tcc_rules.specs.Execute.{end_transaction, execute_need, execute}
 use Rattle.tcc_rules.specs.Links.{in_flight, sent_all, taking}
 use Rattle.tcc_rules.specs.Sends.{written_back, flushed, skip_all, probe_all, abort_written}
 use Rattle.tcc_rules.specs.Step.{Stepped, core_moves, core_takes, dir_takes, dir_asks, vendor_gives, moved, taken, answered, granted}
@@ -71,24 +72,24 @@ finished-halts p n x s e = ap has_halted (finished-phase p n x s) ∙ e
 
 load-goes : (sh : Shape) (p : Program) (n : Need) (w : ℕ) (s : CoreState) → has_halted s.phase ≡ false
     → halted_in false (load sh p n w s) ≡ false
-unfolding load used fetch full_set ask overflow place
+unfolding load with_read_mark miss full_set request_line overflow place
 load-goes sh p n w s e = grind (arith, nat_tests, finished-phase)
 
 word_store-goes : (sh : Shape) (p : Program) (n : Need) (w x : ℕ) (s : CoreState) → has_halted s.phase ≡ false
     → halted_in false (word_store sh p n w x s) ≡ false
-unfolding word_store full_set overflow buffered framed place
+unfolding word_store full_set overflow stored_in_buffer stored_in_frame place
 word_store-goes sh p n w x s e = grind (arith, nat_tests, finished-phase)
 
 partial_store-goes : (sh : Shape) (p : Program) (n : Need) (w : ℕ) (s : CoreState) → has_halted s.phase ≡ false
     → halted_in false (partial_store sh p n w s) ≡ false
-unfolding partial_store buffered framed fetch full_set ask overflow place
+unfolding partial_store stored_in_buffer stored_in_frame miss full_set request_line overflow place
 partial_store-goes sh p n w s e = grind (arith, nat_tests, finished-phase)
 
 goes : (b : Bool) (o : Option Out) → halted_in b o ≡ b → Goes b o
 goes b None e = tt
 goes b (Some o) e = λ n. e
 
-close-goes : (sh : Shape) (c : ℕ) (q : Phase) (s : CoreState) → Goes false (Some (close sh c q s))
+close-goes : (sh : Shape) (c : ℕ) (q : Phase) (s : CoreState) → Goes false (Some (end_transaction sh c q s))
 unfolding solo_commit
 close-goes sh c (Solo t) s = λ n. absurd (cc)
 close-goes sh c Running s = λ n. refl

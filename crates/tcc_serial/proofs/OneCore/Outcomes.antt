@@ -9,9 +9,12 @@ use Rattle.tcc_serial.proofs.Names.{lines, set_of, Cache, free_way, all_marked, 
 use Rattle.tcc_serial.proofs.Names.{placed, evicted, filled, invalidated, rolled_back, cleaned, read_cleared, Spilled, none_spilled, holds}
 use Rattle.tcc_serial.proofs.Names.{spill_line, any_below-found, CoreState, Awaited, Phase, Running, AwaitTid, DoomedTid, Probing, Ready}
 use Rattle.tcc_serial.proofs.Names.{Overflowing, Solo, Sends, nothing, to, to_dirs, when, flushed, abort_written, marks_for, Out, moves}
-use Rattle.tcc_serial.proofs.Names.{finished, stepped, is_running, is_solo, new_word, roll_back, commit, solo_commit, ask, place, overflow}
-use Rattle.tcc_serial.proofs.Names.{full_set, fetch, used, load_valid, load_spilled, load, buffered, framed, word_store, also_read}
-use Rattle.tcc_serial.proofs.Names.{change_valid, change_spilled, partial_store, close, execute_need, execute, core_exec, exec_phase}
+use Rattle.tcc_serial.proofs.Names.{finished, stepped, is_running, is_solo, new_word, roll_back, commit, solo_commit, request_line, place}
+use Rattle.tcc_serial.proofs.Names.{overflow}
+use Rattle.tcc_serial.proofs.Names.{full_set, miss, with_read_mark, load_valid, load_spilled, load, stored_in_buffer, stored_in_frame}
+use Rattle.tcc_serial.proofs.Names.{word_store, marks_read}
+use Rattle.tcc_serial.proofs.Names.{change_valid, change_spilled, partial_store, end_transaction, execute_need, execute, core_exec}
+use Rattle.tcc_serial.proofs.Names.{exec_phase}
 use Rattle.tcc_serial.proofs.Names.{unless_awaiting, core_evict, evict_line, is_awaited, grant, grant_phase, is_probed, probing, from_dir}
 use Rattle.tcc_serial.proofs.Names.{probe_reply, reply_phase, replied, all_replied, when_ready, when_alone, ignored, fill, fill_awaited}
 use Rattle.tcc_serial.proofs.Names.{data_request, invalidate, acknowledged, if_violated, violated_in, is_violated, without, staled, rests}
@@ -154,7 +157,8 @@ unmodified b m q = grind (arith, nat_tests)
 
 -- each outcome of Exec has what all outcomes have
 pub each-exec : (sh : Shape) (p : Program) (c : ℕ) (s : CoreState) (P : Out → Type 0) → ((d : Did sh p c s) → P (out d)) → IfSome (core_exec sh p c s) P
-unfolding core_exec execute load used partial_store word_store fetch full_set ask place overflow buffered framed finished stepped storing
+unfolding core_exec execute load with_read_mark partial_store word_store miss full_set request_line place overflow stored_in_buffer
+    stored_in_frame finished stepped storing
 each-exec sh p c s P k = go s.phase refl
   where
     w : ℕ → ℕ
@@ -166,10 +170,10 @@ each-exec sh p c s P k = go s.phase refl
     full n (Solo t) e a b = tt
     full n _ e a b = absurd a
 
-    fetched : (a : ℕ) (need : Need) → Acting p s need → AccessAt a need → IfSome (fetch sh (line_of (w a)) s) P
+    fetched : (a : ℕ) (need : Need) → Acting p s need → AccessAt a need → IfSome (miss sh (line_of (w a)) s) P
     fetched a need g at = go (s.cache.held (line_of (w a))) refl (is_some (free_way sh s.cache (set_of sh (line_of (w a))))) refl
       where
-        go : (x : Bool) → s.cache.held (line_of (w a)) ≡ x → (y : Bool) → is_some (free_way sh s.cache (set_of sh (line_of (w a)))) ≡ y → IfSome (if x then Some (ask sh (line_of (w a)) s) else (if y then Some (ask sh (line_of (w a)) (place sh (line_of (w a)) s)) else full_set sh (line_of (w a)) s)) P
+        go : (x : Bool) → s.cache.held (line_of (w a)) ≡ x → (y : Bool) → is_some (free_way sh s.cache (set_of sh (line_of (w a)))) ≡ y → IfSome (if x then Some (request_line sh (line_of (w a)) s) else (if y then Some (request_line sh (line_of (w a)) (place sh (line_of (w a)) s)) else full_set sh (line_of (w a)) s)) P
         go true e y f = k (Misses a need g at e)
         go false e true f = k (Misses_anew a need g at e f)
         go false e false f = full g.idle s.phase refl g.acts (all_marked sh s.cache (set_of sh (line_of (w a))))
@@ -178,21 +182,21 @@ each-exec sh p c s P k = go s.phase refl
     stores : (need : Need) (x a : ℕ) (at : StoresAt a need) (c : Cache) (sp : Spilled) (sends : Sends) → P (moves (after_store s a (storing p need x a s at).0 c sp) sends) → P (moves (finished p need x (record s { cache = c; spilled = sp })) sends)
     stores need x a at c sp sends h = subst (λ r. P (moves r sends)) (sym ((storing p need x a s at).1 c sp)) h
 
-    buffers : (need : Need) (x a y v : ℕ) → Acting p s need → (at : StoresAt a need) → line_of v ≡ line_of (w a) → is_some (s.spilled v) ≡ true → P (moves (finished p need x (buffered (w a) y s)) nothing)
+    buffers : (need : Need) (x a y v : ℕ) → Acting p s need → (at : StoresAt a need) → line_of v ≡ line_of (w a) → is_some (s.spilled v) ≡ true → P (moves (finished p need x (stored_in_buffer (w a) y s)) nothing)
     buffers need x a y v g at e f = stores need x a at s.cache (put s.spilled (w a) (Some y)) nothing (k (Buffers a y v need (storing p need x a s at).0 g at e f))
 
-    buffers_held : (need : Need) (x a y : ℕ) → Acting p s need → (at : StoresAt a need) → holds s.spilled (line_of (w a)) ≡ true → P (moves (finished p need x (buffered (w a) y s)) nothing)
+    buffers_held : (need : Need) (x a y : ℕ) → Acting p s need → (at : StoresAt a need) → holds s.spilled (line_of (w a)) ≡ true → P (moves (finished p need x (stored_in_buffer (w a) y s)) nothing)
     buffers_held need x a y g at h = let f = holds-word s.spilled (line_of (w a)) h in buffers need x a y f.0 g at (f.1) (f.2)
 
-    frames : (need : Need) (x a y : ℕ) (also : Bool) → Acting p s need → (at : StoresAt a need) → Framing sh s a also → P (moves (finished p need x (framed (w a) y also s)) (flushed sh s.cache (line_of (w a))))
+    frames : (need : Need) (x a y : ℕ) (also : Bool) → Acting p s need → (at : StoresAt a need) → Framing sh s a also → P (moves (finished p need x (stored_in_frame (w a) y also s)) (flushed sh s.cache (line_of (w a))))
     frames need x a y also g at f = stores need x a at (stored (w a) y also s.cache) s.spilled (flushed sh s.cache (line_of (w a))) (k (Frames a y also need (storing p need x a s at).0 g at f))
 
     partly : (need : Need) (a : ℕ) → Acting p s need → StoresAt a need → AccessAt a need → IfSome (partial_store sh p need (w a) s) P
     partly need a g at acc = spilled (s.spilled (w a)) refl
       where
-        held : (x : ℕ) → s.cache.value (w a) ≡ Some x → (b : Bool) → holds s.spilled (line_of (w a)) ≡ b → IfSome (if b then Some (moves (finished p need x (buffered (w a) (new_word need x) s)) nothing) else Some (moves (finished p need x (framed (w a) (new_word need x) (also_read (w a) s) s)) (flushed sh s.cache (line_of (w a))))) P
+        held : (x : ℕ) → s.cache.value (w a) ≡ Some x → (b : Bool) → holds s.spilled (line_of (w a)) ≡ b → IfSome (if b then Some (moves (finished p need x (stored_in_buffer (w a) (new_word need x) s)) nothing) else Some (moves (finished p need x (stored_in_frame (w a) (new_word need x) (marks_read (w a) s) s)) (flushed sh s.cache (line_of (w a))))) P
         held x e true h = buffers_held need x a (new_word need x) g at h
-        held x e false h = frames need x a (new_word need x) (also_read (w a) s) g at (record { held = inr (rw e refl); unspilled = h; alone = also-alone s.phase (not (s.cache.modified (w a))); read = λ q. (rw e refl, unmodified (is_running s.phase) (s.cache.modified (w a)) q) })
+        held x e false h = frames need x a (new_word need x) (marks_read (w a) s) g at (record { held = inr (rw e refl); unspilled = h; alone = also-alone s.phase (not (s.cache.modified (w a))); read = λ q. (rw e refl, unmodified (is_running s.phase) (s.cache.modified (w a)) q) })
 
         valid : (b : Option ℕ) → s.cache.value (w a) ≡ b → IfSome (change_valid sh p need (w a) s b) P
         valid (Some x) e = held x e (holds s.spilled (line_of (w a))) refl
@@ -209,9 +213,9 @@ each-exec sh p c s P k = go s.phase refl
         need = Stores a Word v
 
         go : (i : Bool) → holds s.spilled (line_of (w a)) ≡ i → (j : Bool) → s.cache.held (line_of (w a)) ≡ j → (f : Bool) → is_some (free_way sh s.cache (set_of sh (line_of (w a)))) ≡ f → IfSome (
-            if i then Some (moves (finished p need v (buffered (w a) v s)) nothing)
-            else (if j then Some (moves (finished p need v (framed (w a) v false s)) (flushed sh s.cache (line_of (w a))))
-            else (if f then Some (moves (finished p need v (framed (w a) v false (place sh (line_of (w a)) s))) nothing)
+            if i then Some (moves (finished p need v (stored_in_buffer (w a) v s)) nothing)
+            else (if j then Some (moves (finished p need v (stored_in_frame (w a) v false s)) (flushed sh s.cache (line_of (w a))))
+            else (if f then Some (moves (finished p need v (stored_in_frame (w a) v false (place sh (line_of (w a)) s))) nothing)
             else full_set sh (line_of (w a)) s))) P
         go true h j e f i = buffers_held need v a v g refl h
         go false h true e f i = frames need v a v false g refl (record { held = inl e; unspilled = h; alone = λ q. refl; read = λ q. absurd (cc) })
@@ -233,7 +237,7 @@ each-exec sh p c s P k = go s.phase refl
         spilled (Some x) e = k (Finds a x z (p.after s.local (Some (part x a z))) g (inl (rw e refl)))
         spilled None e = valid (s.cache.value (w a)) refl
 
-    closes : (l : Local) (e : Outcome) → Ending p s l e → s.awaited ≡ None → (q : Phase) → s.phase ≡ q → Acts q → P (close sh c q (after_end s l e))
+    closes : (l : Local) (e : Outcome) → Ending p s l e → s.awaited ≡ None → (q : Phase) → s.phase ≡ q → Acts q → P (end_transaction sh c q (after_end s l e))
     closes l e f n Running r a = k (Ends_run l e f r n)
     closes l e f n (Solo t) r a = k (Ends_alone t l e f r n)
     closes l e f n _ r a = absurd a

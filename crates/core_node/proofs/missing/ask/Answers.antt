@@ -1,11 +1,11 @@
 use Rattle.std.proofs.Common.{refl}
-use Rattle.tcc_rules.specs.Execute.{ask}
+use Rattle.tcc_rules.specs.Execute.{request_line}
 use Rattle.core_node.specs.View.{core_of}
 use Rattle.core_node.proofs.Asked.{sent_asked}
 use Rattle.core_node.proofs.missing.ask.Goals as goal
 
 pub returns-clause-does : goal.returns-clause-does
-unfolding core_of ask
+unfolding core_of request_line
 returns-clause-does c =
     let k = c.args.core.now in
     record {
