@@ -3,7 +3,7 @@ use Rattle.std.proofs.Common.{◌≡◌, ℕ, Bool, true, false, None, Some, Opt
 use Rattle.std.specs.Prelude.{if◌then◌else◌}
 use Rattle.tcc_maps.specs.Shape.{Shape}
 use Rattle.tcc_program.specs.Program.{Need, Nothing, Loads, Stores, Changes, Prints, Ends, Halts, Traps, Program}
-use Rattle.tcc_rules.specs.Attempt.{Out, finished, is_solo, stepped}
+use Rattle.tcc_rules.specs.Attempt.{Out, finished, is_solo, one_more_instruction}
 use Rattle.tcc_rules.specs.Commit.{commit, solo_commit}
 use Rattle.tcc_rules.specs.CoreExec.{core_exec, exec_phase, unless_awaiting}
 use Rattle.tcc_rules.specs.Execute.{end_transaction, execute, execute_need}
@@ -27,7 +27,7 @@ pub record HoldsAs (u s : CoreState) : Type 0 where
   pub phase : u.phase ≡ s.phase
 
 finished-holds : (p : Program) (q : Need) (s : CoreState) → ends_by q ≡ true → HoldsAs (finished p q 0 s) s
-unfolding finished stepped
+unfolding finished one_more_instruction
 finished-holds p Ends s e = record { cache = refl; spilled = refl; phase = refl }
 finished-holds p (Halts code) s e = record { cache = refl; spilled = refl; phase = refl }
 finished-holds p (Traps code) s e = record { cache = refl; spilled = refl; phase = refl }

@@ -5,7 +5,7 @@ use Rattle.tcc_maps.specs.Cache.{Cache}
 use Rattle.tcc_maps.specs.CacheChange.{stored, placed}
 use Rattle.tcc_maps.specs.Shape.{Shape}
 use Rattle.tcc_rules.specs.State.{CoreState}
-use Rattle.tcc_rules.specs.Attempt.{stepped, finished}
+use Rattle.tcc_rules.specs.Attempt.{one_more_instruction, finished}
 use Rattle.tcc_rules.specs.Execute.{stored_in_buffer, stored_in_frame, place}
 use Rattle.core_node.specs.Executing.{noted, given, GoesOn}
 use Rattle.core_node.proofs.Finished.{finished_noted, finished_cache, cache-finished}
@@ -23,8 +23,9 @@ noted_buffered (Traps code) x w v s = refl
 
 -- noted, stored and counted
 pub finished_buffered : (p : Program) (n : Need) (x w v : ℕ) (s : CoreState) → GoesOn n
-    → stepped p (given n x) (stored_in_buffer w v (noted n x s)) ≡ finished p n x (stored_in_buffer w v s)
-finished_buffered p n x w v s g = ap (stepped p (given n x)) (noted_buffered n x w v s) ∙ finished_noted p n x (stored_in_buffer w v s) g
+    → one_more_instruction p (given n x) (stored_in_buffer w v (noted n x s)) ≡ finished p n x (stored_in_buffer w v s)
+finished_buffered p n x w v s g =
+    ap (one_more_instruction p (given n x)) (noted_buffered n x w v s) ∙ finished_noted p n x (stored_in_buffer w v s) g
 
 -- finished and then stored in the frame
 pub framed_finished : (p : Program) (n : Need) (x w v : ℕ) (also : Bool) (s : CoreState)

@@ -24,7 +24,7 @@ use Rattle.tcc_maps.specs.CacheLook.{Look, Miss, NeedsRoom, Overflow, look_line,
 use Rattle.tcc_maps.specs.Shape.{Shape, set_of}
 use Rattle.tcc_maps.specs.Spilled.{holds}
 use Rattle.tcc_maps.specs.Words.{line_of, place_of}
-use Rattle.tcc_rules.specs.Attempt.{Out, finished, is_running, is_solo, moves, new_word, stepped}
+use Rattle.tcc_rules.specs.Attempt.{Out, finished, is_running, is_solo, moves, new_word, one_more_instruction}
 use Rattle.tcc_rules.specs.Commit.{solo_commit, committed_core}
 use Rattle.tcc_rules.specs.CoreDeliver.{fill}
 use Rattle.tcc_rules.specs.CoreExec.{core_exec, exec_phase, unless_awaiting}
@@ -53,7 +53,7 @@ awaits None = false
 awaits (Some o) = is_some o.core.awaited
 
 awaited-finished : (p : Program) (n : Need) (x : ℕ) (s : CoreState) → (finished p n x s).awaited ≡ s.awaited
-unfolding finished stepped
+unfolding finished one_more_instruction
 awaited-finished p Nothing x s = refl
 awaited-finished p (Loads addr size) x s = refl
 awaited-finished p (Stores addr size value) x s = refl

@@ -14,7 +14,7 @@ use Rattle.tcc_rules.specs.Execute.{request_line, miss, full_set, load, load_spi
 use Rattle.tcc_rules.specs.Execute.{stored_in_buffer, stored_in_frame}
 use Rattle.tcc_rules.specs.Execute.{word_store, partial_store, change_spilled, change_valid, end_transaction, execute, execute_need}
 use Rattle.tcc_program.specs.Plain.{Outcome, Goes, Ended, Halted as HaltedWith, Trapped as TrappedWith}
-use Rattle.tcc_rules.specs.Commit.{commit, committed_core, phase_after, solo_commit}
+use Rattle.tcc_rules.specs.Commit.{commit, committed_core, phase_after_commit, solo_commit}
 use Rattle.tcc_rules.specs.CoreExec.{exec_phase, unless_awaiting}
 use Rattle.tcc_rules.specs.State.{CoreState, Awaited, Phase, Running, AwaitTid, DoomedTid, Probing, Ready, Overflowing, Solo, Halted}
 use Rattle.commit_engine.specs.Engine.{phase_of}
@@ -150,7 +150,7 @@ store-alone sh p need w x s e =
     by false false false false true t u v z o p q r = refl
     by false false false false false t u v z o p q r = refl
 
-after-stays : (o : Outcome) → overflows (phase_after o) ≡ false
+after-stays : (o : Outcome) → overflows (phase_after_commit o) ≡ false
 after-stays Goes = refl
 after-stays Ended = refl
 after-stays (HaltedWith code) = refl

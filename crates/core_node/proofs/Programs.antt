@@ -9,7 +9,7 @@ use Rattle.tcc_maps.specs.CacheChange.{marked}
 use Rattle.tcc_maps.specs.Spilled.{holds}
 use Rattle.tcc_maps.specs.Words.{line_of}
 use Rattle.tcc_rules.specs.State.{CoreState}
-use Rattle.tcc_rules.specs.Attempt.{Out, moves, is_solo, is_running, new_word, stepped, finished}
+use Rattle.tcc_rules.specs.Attempt.{Out, moves, is_solo, is_running, new_word, one_more_instruction, finished}
 use Rattle.tcc_rules.specs.Execute.{request_line, overflow, place, with_read_mark, stored_in_buffer, stored_in_frame, marks_read, full_set, miss, load, load_spilled, load_valid, word_store, partial_store, change_spilled, change_valid, end_transaction, execute_need}
 use Rattle.tcc_rules.specs.Sends.{nothing}
 
@@ -18,7 +18,7 @@ abbrev pub SameAt : Program → Program → Local → Type 0
 SameAt p q l = (loaded : Option ℕ) → p.after l loaded ≡ q.after l loaded
 
 pub finished_same : (p q : Program) (n : Need) (x : ℕ) (s : CoreState) → SameAt p q s.local → finished p n x s ≡ finished q n x s
-unfolding finished stepped
+unfolding finished one_more_instruction
 finished_same p q Nothing x s e = rw (e None) refl
 finished_same p q (Loads addr size) x s e = rw (e (Some (part x addr size))) refl
 finished_same p q (Stores addr size value) x s e = rw (e None) refl

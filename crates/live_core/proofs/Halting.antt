@@ -13,8 +13,8 @@ use Rattle.tcc_maps.specs.Words.{any_below, line_of}
 use Rattle.tcc_program.specs.Plain.{Outcome, Goes, Ended, Halted as HaltedWith, Trapped as TrappedWith}
 use Rattle.tcc_program.specs.Program.{Local, Need, Nothing, Loads, Stores, Changes, Prints, Ends, Halts, Traps, Program}
 use Rattle.tcc_program.specs.Ram.{word_of}
-use Rattle.tcc_rules.specs.Attempt.{Out, finished, is_running, is_solo, moves, new_word, roll_back, stepped}
-use Rattle.tcc_rules.specs.Commit.{commit, committed_core, ended_after, phase_after, solo_commit}
+use Rattle.tcc_rules.specs.Attempt.{Out, finished, is_running, is_solo, moves, new_word, roll_back, one_more_instruction}
+use Rattle.tcc_rules.specs.Commit.{commit, committed_core, ended_after_commit, phase_after_commit, solo_commit}
 use Rattle.tcc_rules.specs.CoreDeliver.{acknowledged, all_replied, core_deliver, data_request, fill, fill_awaited}
 use Rattle.tcc_rules.specs.CoreDeliver.{grant, grant_phase, if_violated, ignored, invalidate, is_probed, is_violated, probe_reply, probing}
 use Rattle.tcc_rules.specs.CoreDeliver.{replied, reply_phase, violated_in, without}
@@ -60,7 +60,7 @@ says-living q x e = refl
 
 module _ (sh : Shape) (p : Program) where
   after-finish : (need : Need) (x : ℕ) (s : CoreState) → lives s.phase ≡ true → Says (finished p need x s)
-  unfolding finished stepped
+  unfolding finished one_more_instruction
   after-finish need x s e = go need
     where
       go : (n : Need) → Says (finished p n x s)
@@ -145,7 +145,7 @@ module _ (sh : Shape) (p : Program) where
       spilled (Some x) = after-finish need x (stored_in_buffer w (new_word need x) s) e
       spilled None = valid (s.cache.value w)
 
-  after-end : (x : Outcome) → says (phase_after x) (ended_after x) ≡ true
+  after-end : (x : Outcome) → says (phase_after_commit x) (ended_after_commit x) ≡ true
   after-end Goes = refl
   after-end Ended = refl
   after-end (HaltedWith k) = refl

@@ -17,7 +17,7 @@ use Rattle.tcc_maps.proofs.Lemmas.{value-placed, modified-placed, modified-commi
 use Rattle.tcc_rules.specs.State.{CoreState, Awaited, Phase, Running, AwaitTid, DoomedTid, Probing, Ready, Overflowing, Solo, Halted}
 use Rattle.tcc_rules.specs.Sends.{nothing, flushed}
 use Rattle.tcc_rules.specs.Attempt.{Out, moves, is_solo, is_running, finished, new_word}
-use Rattle.tcc_rules.specs.Commit.{phase_after, ended_after, committed_core, commit, solo_commit}
+use Rattle.tcc_rules.specs.Commit.{phase_after_commit, ended_after_commit, committed_core, commit, solo_commit}
 use Rattle.tcc_rules.specs.Execute.{request_line, place, overflow, full_set, miss, with_read_mark, load_valid, load_spilled, load, stored_in_buffer, stored_in_frame, word_store, marks_read, change_valid, change_spilled, partial_store, end_transaction, execute_need, execute}
 use Rattle.tcc_rules.specs.CoreExec.{unless_awaiting, exec_phase, core_exec}
 use Rattle.tcc_attempt.specs.Sound.{SoundCore}
@@ -266,7 +266,7 @@ fresh-claims sh p s f ram small g = rw f.n (record {
 })
 
 -- what a commit leaves: the core runs on with an empty attempt, or has halted
-committed-follows : (sh : Shape) (p : Program) (s : CoreState) (o : Outcome) → Fresh (record s { ended = Goes }) → Follows sh p (record s { ended = ended_after o; phase = phase_after o }) []
+committed-follows : (sh : Shape) (p : Program) (s : CoreState) (o : Outcome) → Fresh (record s { ended = Goes }) → Follows sh p (record s { ended = ended_after_commit o; phase = phase_after_commit o }) []
 unfolding sees
 committed-follows sh p s Goes f = record { ends = refl; steps = fresh-claims sh p (record s { ended = Goes; phase = Running }) (record { n = f.n; local = f.local; loads = f.loads; stores = f.stores; console = f.console; ended = refl; words = f.words }) }
 committed-follows sh p s Ended f = record { ends = refl; steps = fresh-claims sh p (record s { ended = Goes; phase = Running }) (record { n = f.n; local = f.local; loads = f.loads; stores = f.stores; console = f.console; ended = refl; words = f.words }) }

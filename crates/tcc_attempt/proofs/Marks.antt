@@ -16,8 +16,8 @@ use Rattle.tcc_maps.specs.Spilled.{holds, none_spilled}
 use Rattle.tcc_maps.proofs.Lemmas.{read-marked, read-stored, read-committed, value-placed, read-placed, modified-placed}
 use Rattle.tcc_rules.specs.State.{CoreState, Awaited, Phase, Running, AwaitTid, DoomedTid, Probing, Ready, Overflowing, Solo, Halted}
 use Rattle.tcc_rules.specs.Sends.{nothing, flushed}
-use Rattle.tcc_rules.specs.Attempt.{Out, moves, is_solo, is_running, finished, new_word, stepped}
-use Rattle.tcc_rules.specs.Commit.{phase_after, ended_after, committed_core, commit, solo_commit}
+use Rattle.tcc_rules.specs.Attempt.{Out, moves, is_solo, is_running, finished, new_word, one_more_instruction}
+use Rattle.tcc_rules.specs.Commit.{phase_after_commit, ended_after_commit, committed_core, commit, solo_commit}
 use Rattle.tcc_rules.specs.Execute.{request_line, place, overflow, full_set, miss, with_read_mark, load_valid, load_spilled, load, stored_in_buffer, stored_in_frame, word_store, marks_read, change_valid, change_spilled, partial_store, end_transaction, store_by_size, execute_need, execute}
 use Rattle.tcc_rules.specs.CoreExec.{unless_awaiting, exec_phase, core_exec}
 use Rattle.tcc_attempt.specs.Sound.{SoundCore}
@@ -104,7 +104,7 @@ pub record SameBut (s t : CoreState) : Type 0 where
   pub awaited : t.awaited ≡ s.awaited
 
 pub finished-same : (p : Program) (need : Need) (x : ℕ) (s : CoreState) → SameBut s (finished p need x s)
-unfolding finished stepped
+unfolding finished one_more_instruction
 finished-same p Nothing x s = record { phase = refl; cache = refl; owing = refl; awaited = refl }
 finished-same p (Loads addr size) x s = record { phase = refl; cache = refl; owing = refl; awaited = refl }
 finished-same p (Stores addr size value) x s = record { phase = refl; cache = refl; owing = refl; awaited = refl }
@@ -336,7 +336,7 @@ partial_store-fit sh p need w s us q r = spilled_in (s.spilled w) refl
 awaits-fit : (sh : Shape) (t : CoreState) (us : Uses) → AllStand false t.cache us → OnlyUsed t.cache us → t.awaited ≡ None → ((d : ℕ) → t.owing d ≡ true → ⊥) → MarksFit sh (record t { phase = AwaitTid }) us
 awaits-fit sh t us h k n o = record { stand = h; used = k; awaits = λ i. n; owes = λ d i. absurd (o d i) }
 
-committed-fit : (sh : Shape) (t : CoreState) (o : Outcome) → ((v : ℕ) → t.cache.read v ≡ false) → t.awaited ≡ None → ((d : ℕ) → t.owing d ≡ true → ⊥) → MarksFit sh (record t { ended = ended_after o; phase = phase_after o }) []
+committed-fit : (sh : Shape) (t : CoreState) (o : Outcome) → ((v : ℕ) → t.cache.read v ≡ false) → t.awaited ≡ None → ((d : ℕ) → t.owing d ≡ true → ⊥) → MarksFit sh (record t { ended = ended_after_commit o; phase = phase_after_commit o }) []
 committed-fit sh t Goes u n f = record { stand = tt; used = none-used t.cache u; awaits = λ i. n; owes = λ d i. absurd (f d i) }
 committed-fit sh t Ended u n f = record { stand = tt; used = none-used t.cache u; awaits = λ i. n; owes = λ d i. absurd (f d i) }
 committed-fit sh t (HaltedWith code) u n f = record { stand = tt; used = none-used t.cache u; awaits = λ i. n; owes = λ d i. absurd (f d i) }

@@ -12,13 +12,13 @@ use Rattle.tcc_maps.specs.CacheChange.{marked, stored, placed}
 use Rattle.tcc_maps.specs.Spilled.{holds}
 use Rattle.tcc_maps.proofs.Lemmas.{marked-keeps, stored-keeps, placed-keeps, any_below-at, any_below-found, held-placed, modified-placed, dirty-placed, read-placed, modified-marked, dirty-marked, held-marked, held-stored, modified-stored, dirty-stored}
 use Rattle.tcc_rules.specs.State.{CoreState, Awaited}
-use Rattle.tcc_rules.specs.Attempt.{Out, is_solo, is_running, stepped, finished}
+use Rattle.tcc_rules.specs.Attempt.{Out, is_solo, is_running, one_more_instruction, finished}
 use Rattle.tcc_rules.specs.Execute.{request_line, place, overflow, full_set, miss, with_read_mark, stored_in_buffer, stored_in_frame}
 use Rattle.tcc_attempt.specs.Sound.{AwaitsHeld, is_idle, SoundCore}
 
 -- the instruction's end changes nothing of this
 pub finished-sound : (sh : Shape) (p : Program) (need : Need) (x : ℕ) (s : CoreState) → SoundCore sh s → SoundCore sh (finished p need x s)
-unfolding finished stepped
+unfolding finished one_more_instruction
 finished-sound sh p Nothing x s k = record { cache = k.cache; awaits = k.awaits; alone = k.alone; apart = k.apart; unmarked = k.unmarked }
 finished-sound sh p (Loads addr size) x s k = record { cache = k.cache; awaits = k.awaits; alone = k.alone; apart = k.apart; unmarked = k.unmarked }
 finished-sound sh p (Stores addr size value) x s k = record { cache = k.cache; awaits = k.awaits; alone = k.alone; apart = k.apart; unmarked = k.unmarked }

@@ -13,7 +13,7 @@ use Rattle.tcc_maps.specs.Shape.{Shape, home, lines, set_of}
 use Rattle.tcc_maps.specs.Spilled.{Spilled, holds, spilled_mask, spilled_words}
 use Rattle.tcc_rules.specs.State.{CoreState, Awaited, Phase, Running, AwaitTid, DoomedTid, Probing, Ready, Overflowing, Solo}
 use Rattle.tcc_rules.specs.Attempt.{Out, moves, is_solo, new_word, finished}
-use Rattle.tcc_rules.specs.Commit.{noted, committed_core, commit_sends, commit, is_written, written_mask, solo_writes_at, solo_marks, solo_backs, solo_sends, solo_commit}
+use Rattle.tcc_rules.specs.Commit.{noted, committed_core, commit_sends, commit, is_written, written_mask, solo_writes_at, solo_marks_or_skip, solo_write_backs, solo_sends, solo_commit}
 use Rattle.tcc_rules.specs.CoreDeliver.{grant_sends, grant_phase, grant, replied, all_replied, when_ready, when_alone, reply_phase, probe_reply, fill_awaited, fill, data_request, violated_in, if_violated, is_violated, without, acknowledged, invalidate, from_dir, ignored}
 use Rattle.tcc_rules.specs.CoreEvict.{is_awaited, evict_line, core_evict}
 use Rattle.tcc_rules.specs.CoreExec.{unless_awaiting, exec_phase, core_exec}
@@ -119,8 +119,8 @@ unfolding is_inside
 marks sh p mask t = those-messages sh (λ l. Mark l (mask l) t) p (lines sh) (λ l i. below sh l i)
 
 solos : (sh : Shape) (s : Cache) (sp : Spilled) (t : ℕ) → SendsInside sh (most_sent sh) (solo_sends sh s sp t)
-unfolding solo_sends solo_marks solo_backs is_inside
-solos sh s sp t = dirs-inside sh _ (λ d. solo_marks sh s sp t d ++ solo_backs sh sp t d) each
+unfolding solo_sends solo_marks_or_skip solo_write_backs is_inside
+solos sh s sp t = dirs-inside sh _ (λ d. solo_marks_or_skip sh s sp t d ++ solo_write_backs sh sp t d) each
   where
     back : ℕ → Msg
     back l = WriteBack l (spilled_mask sp l) (spilled_words sp l) t
@@ -131,7 +131,7 @@ solos sh s sp t = dirs-inside sh _ (λ d. solo_marks sh s sp t d ++ solo_backs s
     done : ℕ → Msg
     done d = Commit t (count_below (λ l. d == home sh l && is_written s sp l) (lines sh))
 
-    behind : (d : ℕ) → Inside sh (lines sh) (solo_backs sh sp t d)
+    behind : (d : ℕ) → Inside sh (lines sh) (solo_write_backs sh sp t d)
     behind d = those-messages sh back (λ l. d == home sh l && holds sp l) (lines sh) (λ l i. refl)
 
     first : (d : ℕ) (b : Bool) → Inside sh (lines sh + 1) (if b then marked d ++ done d ∷ [] else Skip t ∷ [])
@@ -139,9 +139,9 @@ solos sh s sp t = dirs-inside sh _ (λ d. solo_marks sh s sp t d ++ solo_backs s
     first d true = and-messages sh (lines sh) 1 (marked d) (done d ∷ [])
         (marks sh (λ l. d == home sh l && is_written s sp l) (written_mask s sp) t) (one-message sh 1 (done d) (omega arith) refl)
 
-    each : (d : ℕ) → Inside sh (most_sent sh) (solo_marks sh s sp t d ++ solo_backs sh sp t d)
+    each : (d : ℕ) → Inside sh (most_sent sh) (solo_marks_or_skip sh s sp t d ++ solo_write_backs sh sp t d)
     each d = wider sh (lines sh + 1 + lines sh) (most_sent sh) _ (omega arith)
-        (and-messages sh (lines sh + 1) (lines sh) (solo_marks sh s sp t d) (solo_backs sh sp t d)
+        (and-messages sh (lines sh + 1) (lines sh) (solo_marks_or_skip sh s sp t d) (solo_write_backs sh sp t d)
         (first d (solo_writes_at sh s sp d)) (behind d))
 
 -- Exec

@@ -11,7 +11,7 @@ use Rattle.tcc_program.specs.Ram.{part}
 use Rattle.tcc_maps.specs.CacheChange.{marked}
 use Rattle.tcc_maps.specs.Shape.{Shape}
 use Rattle.tcc_rules.specs.State.{CoreState}
-use Rattle.tcc_rules.specs.Attempt.{is_running, finished, stepped, roll_back}
+use Rattle.tcc_rules.specs.Attempt.{is_running, finished, one_more_instruction, roll_back}
 use Rattle.tcc_rules.specs.Execute.{place, with_read_mark, stored_in_buffer, stored_in_frame}
 use Rattle.tcc_bounds.specs.Bounds.{IsCounted, AttemptCounted}
 
@@ -45,7 +45,7 @@ rolled most s = none most
 
 pub finishes : (most : ℕ) (p : Program) (need : Need) (x : ℕ) (s : CoreState) → AttemptCounted most s
     → AttemptCounted (most + 1) (finished p need x s)
-unfolding finished stepped
+unfolding finished one_more_instruction
 finishes most p Nothing x s k =
     grows most s.n s.loads s.loads s.stores s.stores s.console s.console k (same s.loads) (same s.stores) (same s.console)
 finishes most p (Loads addr size) x s k =

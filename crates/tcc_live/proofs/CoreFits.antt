@@ -12,7 +12,7 @@ use Rattle.tcc_maps.specs.Shape.{Shape, home, lines, set_of}
 use Rattle.tcc_maps.specs.Spilled.{Spilled, holds, spilled_mask, spilled_words}
 use Rattle.tcc_rules.specs.State.{CoreState, Awaited, Phase, Running, AwaitTid, DoomedTid, Probing, Ready, Overflowing, Solo}
 use Rattle.tcc_rules.specs.Attempt.{Out, is_solo, finished}
-use Rattle.tcc_rules.specs.Commit.{commit_sends, commit, is_written, written_mask, solo_writes_at, solo_marks, solo_backs, solo_sends, solo_commit}
+use Rattle.tcc_rules.specs.Commit.{commit_sends, commit, is_written, written_mask, solo_writes_at, solo_marks_or_skip, solo_write_backs, solo_sends, solo_commit}
 use Rattle.tcc_rules.specs.CoreDeliver.{grant_sends, grant_phase, grant, reply_phase, probe_reply, fill_awaited, fill, data_request, violated_in, if_violated, is_violated, without, acknowledged, invalidate, from_dir, ignored}
 use Rattle.tcc_rules.specs.CoreEvict.{is_awaited, evict_line, core_evict}
 use Rattle.tcc_rules.specs.CoreExec.{unless_awaiting, exec_phase, core_exec}
@@ -76,8 +76,8 @@ marks sh c d t mask ls k i = strays-flat sh (Core c) (Dir d) (λ l. Mark l (mask
     (λ l. out_fits sh c d (Mark l (mask l) t) k.core i refl) ls
 
 solos : (sh : Shape) (c : ℕ) (s : Cache) (sp : Spilled) (t : ℕ) → IsCore sh c → AllFit sh (Core c) (solo_sends sh s sp t)
-unfolding solo_sends solo_marks solo_backs
-solos sh c s sp t k = fit-dirs sh (Core c) (λ d. solo_marks sh s sp t d ++ solo_backs sh sp t d) each
+unfolding solo_sends solo_marks_or_skip solo_write_backs
+solos sh c s sp t k = fit-dirs sh (Core c) (λ d. solo_marks_or_skip sh s sp t d ++ solo_write_backs sh sp t d) each
   where
     back : ℕ → Msg
     back l = WriteBack l (spilled_mask sp l) (spilled_words sp l) t
@@ -91,7 +91,7 @@ solos sh c s sp t k = fit-dirs sh (Core c) (λ d. solo_marks sh s sp t d ++ solo
     done : ℕ → Msg
     done d = Commit t (count_below (λ l. d == home sh l && is_written s sp l) (lines sh))
 
-    backs : (d : ℕ) → d < sh.dirs → strays sh (Core c) (Dir d) (solo_backs sh sp t d) ≡ 0
+    backs : (d : ℕ) → d < sh.dirs → strays sh (Core c) (Dir d) (solo_write_backs sh sp t d) ≡ 0
     backs d i = strays-flat sh (Core c) (Dir d) (λ l. back l ∷ []) (λ l. out_fits sh c d (back l) k.core i refl)
         (those (λ l. d == home sh l && holds sp l) (lines sh))
 
@@ -104,10 +104,10 @@ solos sh c s sp t k = fit-dirs sh (Core c) (λ d. solo_marks sh s sp t d ++ solo
       out_fits sh c d (done d) k.core i refl,
     )
 
-    each : (d : ℕ) → d < sh.dirs → strays sh (Core c) (Dir d) (solo_marks sh s sp t d ++ solo_backs sh sp t d) ≡ 0
+    each : (d : ℕ) → d < sh.dirs → strays sh (Core c) (Dir d) (solo_marks_or_skip sh s sp t d ++ solo_write_backs sh sp t d) ≡ 0
     each d i = omega (
       arith,
-      strays-append sh (Core c) (Dir d) (solo_marks sh s sp t d) (solo_backs sh sp t d),
+      strays-append sh (Core c) (Dir d) (solo_marks_or_skip sh s sp t d) (solo_write_backs sh sp t d),
       first d i (solo_writes_at sh s sp d),
       backs d i,
     )

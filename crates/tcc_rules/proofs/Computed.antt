@@ -13,9 +13,9 @@ use Rattle.tcc_maps.specs.Serving.{first_serving, is_skipped, serve_from, advanc
 use Rattle.tcc_maps.specs.Spilled.{none_spilled, spill, spill_line, holds, spilled_mask, spilled_words, spilled_line, drained}
 use Rattle.tcc_maps.specs.Words.{any_below, all_below, count_below, those, lowest, eight, any_word}
 use Rattle.tcc_program.specs.Ram.{word_of, unit_of, part, patched, loaded, stored as ram-stored, flat}
-use Rattle.tcc_rules.specs.Attempt.{stepped, finished, roll_back}
-use Rattle.tcc_rules.specs.Commit.{noted, committed_core, commit_sends, after_commit, commit as commit-commit, is_written, written_mask}
-use Rattle.tcc_rules.specs.Commit.{solo_writes_at, solo_marks, solo_backs, solo_sends, solo_commit}
+use Rattle.tcc_rules.specs.Attempt.{one_more_instruction, finished, roll_back}
+use Rattle.tcc_rules.specs.Commit.{noted, committed_core, commit_sends, with_last_commit, commit as commit-commit, is_written, written_mask}
+use Rattle.tcc_rules.specs.Commit.{solo_writes_at, solo_marks_or_skip, solo_write_backs, solo_sends, solo_commit}
 use Rattle.tcc_rules.specs.CoreDeliver.{is_probed, grant_sends, grant, probe_reply, fill as coredeliver-fill, data_request, if_violated}
 use Rattle.tcc_rules.specs.CoreDeliver.{without, is_violated, acknowledged, invalidate, core_deliver}
 use Rattle.tcc_rules.specs.CoreEvict.{core_evict}
@@ -41,8 +41,9 @@ unfolding empty_cache is_marked way_marked free_way all_marked is_modified is_di
     look_line look_value look_load look_store reads_masked judge no_lines with_sharer with_owner with_tag with_asked with_mark
     unmarked has mask_of hit masked first_serving is_skipped serve_from advance skip_at kept skipped none_spilled spill spill_line
     holds spilled_mask spilled_words spilled_line drained any_below all_below count_below those lowest eight any_word word_of
-    unit_of part patched loaded ram-stored flat stepped finished roll_back noted committed_core commit_sends after_commit
-    commit-commit is_written written_mask solo_writes_at solo_marks solo_backs solo_sends solo_commit is_probed grant_sends grant
+    unit_of part patched loaded ram-stored flat one_more_instruction finished roll_back noted committed_core commit_sends with_last_commit
+    commit-commit is_written written_mask solo_writes_at solo_marks_or_skip solo_write_backs solo_sends solo_commit is_probed grant_sends
+      grant
     probe_reply coredeliver-fill data_request if_violated without is_violated acknowledged invalidate core_deliver core_evict
     core_exec moved_on skip abort probe ask_owner line_words load_request mark is_invalidated invs_to invalidations total owed_by
     owned settled dirdeliver-commit acknowledgement came_home dirdeliver-write_back dir_deliver request_line place overflow full_set miss

@@ -49,10 +49,10 @@ pub use Rattle.tcc_maps.proofs.Lemmas.{filled-keeps, first-skips, invalidated-ke
 pub use Rattle.tcc_maps.proofs.Lemmas.{read_cleared-keeps, rolled_back-keeps, stored-keeps, value-evicted, value-placed}
 pub use Rattle.tcc_maps.proofs.Lemmas.{words_dropped-keeps}
 pub use Rattle.tcc_rules.specs.Attempt.{Out, moves, is_solo, new_word, is_running}
-unfoldable pub use Rattle.tcc_rules.specs.Attempt.{finished, stepped, roll_back}
+unfoldable pub use Rattle.tcc_rules.specs.Attempt.{finished, one_more_instruction, roll_back}
 unfoldable pub use Rattle.tcc_rules.specs.Commit.{commit, committed_core, noted, solo_sends, is_written, commit_sends, solo_writes_at}
-unfoldable pub use Rattle.tcc_rules.specs.Commit.{written_mask, solo_commit, solo_backs, solo_marks, after_commit}
-pub use Rattle.tcc_rules.specs.Commit.{phase_after, ended_after}
+unfoldable pub use Rattle.tcc_rules.specs.Commit.{written_mask, solo_commit, solo_write_backs, solo_marks_or_skip, with_last_commit}
+pub use Rattle.tcc_rules.specs.Commit.{phase_after_commit, ended_after_commit}
 pub use Rattle.tcc_rules.specs.CoreDeliver.{from_dir, grant_phase, ignored, all_replied, replied, reply_phase, violated_in, when_alone}
 pub use Rattle.tcc_rules.specs.CoreDeliver.{when_ready, fill_awaited, probing, staled, is_above}
 unfoldable pub use Rattle.tcc_rules.specs.CoreDeliver.{grant, data_request, probe_reply, fill, invalidate, is_violated, acknowledged}

@@ -8,7 +8,7 @@ use Rattle.tcc_maps.specs.Words.{put, any_below, line_of}
 use Rattle.tcc_program.specs.Plain.{Outcome, Goes, Ended, Halted as HaltedWith, Trapped as TrappedWith}
 use Rattle.tcc_program.specs.Program.{Program, Local}
 use Rattle.tcc_rules.specs.Attempt.{is_solo, finished}
-use Rattle.tcc_rules.specs.Commit.{phase_after}
+use Rattle.tcc_rules.specs.Commit.{phase_after_commit}
 use Rattle.tcc_rules.specs.CoreEvict.{core_evict}
 use Rattle.tcc_rules.specs.State.{CoreState, Phase, Running, AwaitTid, Solo, Halted, core_start}
 use Rattle.tcc_attempt.proofs.Lemmas.{start-sound}
@@ -140,7 +140,7 @@ alone-ordered sh M n w c t l b k f = record {
 
 -- a commit
 
-after-fits : (n : ℕ) (b : Bus) (c : ℕ) (o : Outcome) → PhaseFits n b c (phase_after o)
+after-fits : (n : ℕ) (b : Bus) (c : ℕ) (o : Outcome) → PhaseFits n b c (phase_after_commit o)
 after-fits n b c Goes = tt
 after-fits n b c Ended = tt
 after-fits n b c (HaltedWith code) = tt

@@ -13,7 +13,7 @@ use Rattle.tcc_maps.proofs.Lemmas.{any_below-at}
 use Rattle.tcc_program.specs.Plain.{Outcome, Goes, Ended, Halted as HaltedWith, Trapped as TrappedWith}
 use Rattle.tcc_program.specs.Program.{Program}
 use Rattle.tcc_rules.specs.Attempt.{is_solo}
-use Rattle.tcc_rules.specs.Commit.{phase_after, committed_core, commit, solo_commit, is_written}
+use Rattle.tcc_rules.specs.Commit.{phase_after_commit, committed_core, commit, solo_commit, is_written}
 use Rattle.tcc_rules.specs.State.{CoreState}
 use Rattle.tcc_attempt.specs.Follows.{Follows, sees}
 use Rattle.tcc_attempt.specs.Marks.{UsesStand, MarksFit}
@@ -101,7 +101,7 @@ out-marks n c t sh s k o =
       owes = λ d e. absurd (o d (rw b.owing at e));
     }
   where
-    stand : (d : Cache) (o : Outcome) → UsesStand d [] (phase_after o)
+    stand : (d : Cache) (o : Outcome) → UsesStand d [] (phase_after_commit o)
     stand d Goes = tt
     stand d Ended = tt
     stand d (HaltedWith code) = tt

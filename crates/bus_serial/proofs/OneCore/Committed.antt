@@ -11,7 +11,7 @@ use Rattle.tcc_bounds.proofs.Lemmas.{finishes, none}
 use Rattle.bus_serial.proofs.OneCore.Did.{LineSet, did-nothing, finished-did, finished-awaits}
 use Rattle.tcc_maps.specs.Spilled.{none_spilled}
 use Rattle.tcc_rules.specs.Attempt.{is_solo, finished}
-use Rattle.tcc_rules.specs.Commit.{phase_after, ended_after, committed_core, commit, solo_commit, noted}
+use Rattle.tcc_rules.specs.Commit.{phase_after_commit, ended_after_commit, committed_core, commit, solo_commit, noted}
 use Rattle.tcc_rules.specs.State.{CoreState, Awaited}
 use Rattle.tcc_attempt.specs.Sound.{AwaitsHeld, SoundCore}
 use Rattle.tcc_bounds.specs.Bounds.{AttemptCounted, CommitCounted}
@@ -75,18 +75,18 @@ out-fine sh M n m c t s k = go (is_solo s.phase) refl
     go true e = solo_commit-fine sh M n m c t s k
     go false e = commit-fine sh M n m c t s e k
 
-pub out-phase : (sh : Shape) (c t : ℕ) (s : CoreState) → (all_clean (commit_out sh c t s).core).phase ≡ phase_after s.ended
+pub out-phase : (sh : Shape) (c t : ℕ) (s : CoreState) → (all_clean (commit_out sh c t s).core).phase ≡ phase_after_commit s.ended
 unfolding all_clean commit solo_commit committed_core
 out-phase sh c t s = go (is_solo s.phase)
   where
-    go : (b : Bool) → (if b then solo_commit sh c t s else commit sh c t s).core.phase ≡ phase_after s.ended
+    go : (b : Bool) → (if b then solo_commit sh c t s else commit sh c t s).core.phase ≡ phase_after_commit s.ended
     go true = refl
     go false = refl
 
 -- the checkpoint, and how a core that has halted did
 pub record Checked (s t : CoreState) : Type 0 where
   pub saved : t.saved ≡ s.local
-  pub ended : t.ended ≡ ended_after s.ended
+  pub ended : t.ended ≡ ended_after_commit s.ended
 
 pub out-checked : (sh : Shape) (c t : ℕ) (s : CoreState) → Checked s (all_clean (commit_out sh c t s).core)
 unfolding all_clean commit solo_commit committed_core

@@ -12,7 +12,7 @@ use Rattle.tcc_maps.specs.Cache.{Cache, free_way, all_marked}
 use Rattle.tcc_maps.specs.CacheChange.{marked, stored, placed, placed_at}
 use Rattle.tcc_maps.specs.Spilled.{holds}
 use Rattle.tcc_rules.specs.State.{CoreState, Awaited, Phase, Running, AwaitTid, Overflowing, Solo}
-use Rattle.tcc_rules.specs.Attempt.{Out, moves, is_solo, is_running, new_word, finished, stepped}
+use Rattle.tcc_rules.specs.Attempt.{Out, moves, is_solo, is_running, new_word, finished, one_more_instruction}
 use Rattle.tcc_rules.specs.Execute.{request_line, place, overflow, full_set, miss, with_read_mark, load_valid, load_spilled, load}
 use Rattle.tcc_rules.specs.Execute.{stored_in_buffer, stored_in_frame}
 use Rattle.tcc_rules.specs.Execute.{word_store, marks_read, change_valid, change_spilled, partial_store, end_transaction, execute_need}
@@ -77,7 +77,7 @@ wanted base _ = 0
 -- an instruction's end
 
 pub finished-did : (M : LineSet) (p : Program) (need : Need) (x : ℕ) (s t : CoreState) → Did M s t → Did M s (finished p need x t)
-unfolding finished stepped
+unfolding finished one_more_instruction
 finished-did M p Nothing x s t d =
     record { stays = d.stays; value = d.value; clean = d.clean; frames = d.frames; spilled = d.spilled; saved = d.saved }
 finished-did M p _ x s t d =
@@ -85,7 +85,7 @@ finished-did M p _ x s t d =
 
 finished-how : (p : Program) (need : Need) (x w : ℕ) (s t : CoreState) → t.phase ≡ s.phase → t.awaited ≡ s.awaited
     → How w s (finished p need x t)
-unfolding finished stepped
+unfolding finished one_more_instruction
 finished-how p Nothing x w s t e a = Ran e a
 finished-how p _ x w s t e a = Ran e a
 
@@ -310,7 +310,7 @@ goes (Traps code) = false
 goes _ = true
 
 pub finished-awaits : (p : Program) (need : Need) (x : ℕ) (s : CoreState) → (finished p need x s).awaited ≡ s.awaited
-unfolding finished stepped
+unfolding finished one_more_instruction
 finished-awaits p Nothing x s = refl
 finished-awaits p _ x s = refl
 

@@ -14,7 +14,7 @@ use Rattle.tcc_program.specs.Plain.{Attempt, Outcome, Goes, Ended, Halted as Hal
 use Rattle.tcc_program.specs.Plain.{closed, end_of, transaction, commit_of}
 use Rattle.tcc_program.specs.Program.{Local, Program}
 use Rattle.tcc_program.proofs.Lemmas.{serial-snoc, last_tid-snoc}
-use Rattle.tcc_rules.specs.Commit.{noted, phase_after, ended_after}
+use Rattle.tcc_rules.specs.Commit.{noted, phase_after_commit, ended_after_commit}
 use Rattle.tcc_rules.specs.State.{CoreState}
 use Rattle.tcc_attempt.specs.Follows.{Reaches, HasEnded, sees}
 use Rattle.tcc_serial.specs.Commits.{CommitsSerial, plain_start, end_after}
@@ -70,7 +70,7 @@ seen-written sh s ram k x = go (s.spilled x) (s.cache.modified x) refl (s.cache.
     go None false e v f = refl
 
 -- how the core stands after it
-pub end-is : (o : Outcome) (x : CoreEnd) → end_of o ≡ Some x → x ≡ end_after (phase_after o) (ended_after o)
+pub end-is : (o : Outcome) (x : CoreEnd) → end_of o ≡ Some x → x ≡ end_after (phase_after_commit o) (ended_after_commit o)
 end-is Goes x e = absurd (cc)
 end-is Ended x e = sym (some-end Run x e)
   where

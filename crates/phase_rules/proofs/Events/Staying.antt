@@ -10,7 +10,7 @@ use Rattle.tcc_maps.specs.Nodes.{Node, Core, Dir, Vendor, Event, Exec, Evict, De
 use Rattle.tcc_maps.specs.Shape.{Shape}
 use Rattle.tcc_rules.specs.State.{CoreState, Awaited, Link, World}
 use Rattle.tcc_rules.specs.State.{Phase, Running, AwaitTid, DoomedTid, Probing, Ready, Overflowing, Solo, Halted}
-use Rattle.tcc_rules.specs.Attempt.{Out, finished, roll_back, stepped}
+use Rattle.tcc_rules.specs.Attempt.{Out, finished, roll_back, one_more_instruction}
 use Rattle.tcc_rules.specs.Commit.{commit, solo_commit}
 use Rattle.tcc_rules.specs.CoreDeliver.{core_deliver, grant, grant_sends, probe_reply, fill, data_request, invalidate, acknowledged}
 use Rattle.tcc_rules.specs.CoreDeliver.{if_violated, without}
@@ -63,7 +63,7 @@ abbrev Goes : (was : Bool) → Option Out → Type 0
 Goes b o = IfSome o (λ r. r.commit ≡ None → has_halted r.core.phase ≡ b)
 
 finished-phase : (p : Program) (n : Need) (x : ℕ) (s : CoreState) → (finished p n x s).phase ≡ s.phase
-unfolding finished stepped
+unfolding finished one_more_instruction
 finished-phase p n x s = grind (arith, nat_tests)
 
 finished-halts : (p : Program) (n : Need) (x : ℕ) (s : CoreState) → has_halted s.phase ≡ false

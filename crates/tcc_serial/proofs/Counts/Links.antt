@@ -2,8 +2,8 @@
 use Rattle.tcc_serial.proofs.Names.{◌≡◌, ◌≤◌, Bool, true, false, arith, refl, num, ℕ, zero, suc, ◌+◌, ◌<◌, ◌≢◌, List, [], ◌∷◌, ◌++◌, set}
 use Rattle.tcc_serial.proofs.Names.{get_or, Some, None, ap, ◌⊎◌, cases_eq, Msg, Link, sent_all, total, Kind, live, among, passes, ◌==◌}
 use Rattle.tcc_serial.proofs.Names.{◌&&◌, flat_map, nat_tests, those, Dir, Mark, Shape, Cache, writes_at, modified_mask, written_lines}
-use Rattle.tcc_serial.proofs.Names.{Spilled, skip_all, probe_all, abort_written, marks_for, commit_sends, solo_sends, solo_marks}
-use Rattle.tcc_serial.proofs.Names.{solo_backs, grant_sends, Resolves, Protocol}
+use Rattle.tcc_serial.proofs.Names.{Spilled, skip_all, probe_all, abort_written, marks_for, commit_sends, solo_sends, solo_marks_or_skip}
+use Rattle.tcc_serial.proofs.Names.{solo_write_backs, grant_sends, Resolves, Protocol}
 
 -- A truth value as a number, which is 1 or 0.
 pub num-few : (b : Bool) → num b ≤ 1
@@ -139,5 +139,5 @@ unfolding marks_for among passes
 resolves-marks_for sh c u e t = among-flat_map_none (Resolves t) (λ l. Mark l (modified_mask c l) u ∷ []) (λ l. refl) (written_lines sh c e)
 
 pub resolves-solo_sends : (sh : Shape) (c : Cache) (sp : Spilled) (u d t : ℕ) → d < sh.dirs → among (Resolves t) (solo_sends sh c sp u (Dir d)) ≡ num (u == t)
-unfolding solo_sends solo_marks solo_backs among passes
+unfolding solo_sends solo_marks_or_skip solo_write_backs among passes
 resolves-solo_sends sh c sp u d t l = grind (arith, nat_tests, among-flat_map_none, among-append)

@@ -1,7 +1,7 @@
 -- What a core's step does to the TIDs that it notes of its last commit at each directory.
 use Rattle.tcc_serial.proofs.Names.{ℕ, ◌≡◌, ◌⊎◌, Bool, true, false, [], ◌∷◌, ◌==◌, Option, Some, None, IfSome, if◌then◌else◌, arith, refl}
 use Rattle.tcc_serial.proofs.Names.{inl, inr, nat_tests, Noted, Program, word_of, num, line_of, Dir, Msg, LoadReq, Shape, home, CoreState}
-use Rattle.tcc_serial.proofs.Names.{Awaited, Ready, Out, moves, commit, noted, after_commit, committed_core, solo_commit, core_exec}
+use Rattle.tcc_serial.proofs.Names.{Awaited, Ready, Out, moves, commit, noted, with_last_commit, committed_core, solo_commit, core_exec}
 use Rattle.tcc_serial.proofs.Names.{core_evict, grant, from_dir, LoadOf, LoadNot, among, passes, OneCore, executes, stores_at}
 use Rattle.tcc_serial.proofs.Marks.StoredMasks.{stored-solo, stored-written}
 use Rattle.tcc_serial.proofs.OneCore.Said.{Empties, Flushes, Requests, Silent, Tells_alone, Tells_commit, quiet, say}
@@ -47,7 +47,7 @@ asked sh k s r e = record { after = e; carries = λ d. go d (d == home sh k) ref
 
 -- a core whose directories are all ready awaits nothing and has spilled nothing
 pub after-exec : (sh : Shape) (p : Program) (c : ℕ) (s : CoreState) → OneCore sh s → IfSome (core_exec sh p c s) (λ o. AfterStep sh c s o)
-unfolding passes commit solo_commit committed_core noted after_commit
+unfolding passes commit solo_commit committed_core noted with_last_commit
 after-exec sh p c s h = each-exec sh p c s (AfterStep sh c s) go
   where
     rests : (t : ℕ) → s.phase ≡ Ready t → (a : Option Awaited) → s.awaited ≡ a → a ≡ None

@@ -4,7 +4,8 @@ use Rattle.tcc_serial.proofs.Names.{is_some, nat_lt, if◌then◌else◌, flat_m
 use Rattle.tcc_serial.proofs.Names.{count_below, any_word, word_at, Dir, Msg, LoadReq, Skip, Mark, Commit, WriteBack, Flush, InvAck, Shape}
 use Rattle.tcc_serial.proofs.Names.{home, lines, Cache, keeps, is_dirty, dirty_mask, dirty_copy, dirty_words, dirty_tag, is_modified}
 use Rattle.tcc_serial.proofs.Names.{modified_mask, written_lines, Spilled, holds, spilled_mask, spilled_words, CoreState, Sends, nothing}
-use Rattle.tcc_serial.proofs.Names.{to, flush, flushed, written_back, marks_for, commit, solo_commit, solo_sends, solo_marks, solo_backs}
+use Rattle.tcc_serial.proofs.Names.{to, flush, flushed, written_back, marks_for, commit, solo_commit, solo_sends, solo_marks_or_skip}
+use Rattle.tcc_serial.proofs.Names.{solo_write_backs}
 use Rattle.tcc_serial.proofs.Names.{solo_writes_at, is_written, written_mask, core_exec, core_evict, grant, from_dir, LinesAway, NoWord}
 use Rattle.tcc_serial.proofs.Names.{among, passes}
 use Rattle.tcc_rules.specs.Sends.{write_back}
@@ -105,7 +106,7 @@ same-home : (d h : ℕ) → (d == h) ≡ true → d ≡ h
 same-home d h e = grind (arith, nat_tests)
 
 homely-solo : (sh : Shape) (c : Cache) (sp : Spilled) (u : ℕ) → HomelyOut sh (solo_sends sh c sp u)
-unfolding solo_sends solo_marks solo_backs among passes
+unfolding solo_sends solo_marks_or_skip solo_write_backs among passes
 homely-solo sh c sp u d =
     let p : ℕ → Bool = λ k. d == home sh k && is_written c sp k in
     go (nat_lt d sh.dirs) (solo_writes_at sh c sp d)
@@ -122,10 +123,10 @@ homely-solo sh c sp u d =
     skip : Homely sh d (Skip u ∷ [])
     skip = record { away = refl; words = refl }
 
-    go : (b w : Bool) → Homely sh d (if b then (if w then flat_map (λ k. Mark k (written_mask c sp k) u ∷ []) (those (λ k. d == home sh k && is_written c sp k) (lines sh)) ++ Commit u (count_below (λ k. d == home sh k && is_written c sp k) (lines sh)) ∷ [] else Skip u ∷ []) ++ solo_backs sh sp u d else [])
+    go : (b w : Bool) → Homely sh d (if b then (if w then flat_map (λ k. Mark k (written_mask c sp k) u ∷ []) (those (λ k. d == home sh k && is_written c sp k) (lines sh)) ++ Commit u (count_below (λ k. d == home sh k && is_written c sp k) (lines sh)) ∷ [] else Skip u ∷ []) ++ solo_write_backs sh sp u d else [])
     go false w = homely-none sh d
-    go true true = homely-append sh d (flat_map (λ k. Mark k (written_mask c sp k) u ∷ []) (those (λ k. d == home sh k && is_written c sp k) (lines sh)) ++ Commit u (count_below (λ k. d == home sh k && is_written c sp k) (lines sh)) ∷ []) (solo_backs sh sp u d) (homely-append sh d (flat_map (λ k. Mark k (written_mask c sp k) u ∷ []) (those (λ k. d == home sh k && is_written c sp k) (lines sh))) (Commit u (count_below (λ k. d == home sh k && is_written c sp k) (lines sh)) ∷ []) marks last) backs
-    go true false = homely-append sh d (Skip u ∷ []) (solo_backs sh sp u d) skip backs
+    go true true = homely-append sh d (flat_map (λ k. Mark k (written_mask c sp k) u ∷ []) (those (λ k. d == home sh k && is_written c sp k) (lines sh)) ++ Commit u (count_below (λ k. d == home sh k && is_written c sp k) (lines sh)) ∷ []) (solo_write_backs sh sp u d) (homely-append sh d (flat_map (λ k. Mark k (written_mask c sp k) u ∷ []) (those (λ k. d == home sh k && is_written c sp k) (lines sh))) (Commit u (count_below (λ k. d == home sh k && is_written c sp k) (lines sh)) ∷ []) marks last) backs
+    go true false = homely-append sh d (Skip u ∷ []) (solo_write_backs sh sp u d) skip backs
 
 homely-marks : (sh : Shape) (c : Cache) (u e : ℕ) → HomelyOut sh (to (Dir e) (marks_for sh c u e))
 unfolding marks_for written_lines

@@ -7,7 +7,8 @@ use Rattle.tcc_serial.proofs.Names.{names_line, wrote, wrote_line, zero, ◌≤�
 use Rattle.tcc_serial.proofs.Names.{flat_map, flat_map-append, Program, those, count_below, Dir, Msg, Skip, Mark, Commit, WriteBack, Cache}
 use Rattle.tcc_serial.proofs.Names.{IsCache, is_dirty, dirty_mask, dirty_copy, dirty_words, dirty_tag, Spilled, holds, spilled_mask}
 use Rattle.tcc_serial.proofs.Names.{spilled_words, CoreState, Sends, nothing, flush, flushed, written_back, commit, solo_commit, solo_sends}
-use Rattle.tcc_serial.proofs.Names.{solo_marks, solo_backs, solo_writes_at, is_written, written_mask, core_exec, core_evict, grant}
+use Rattle.tcc_serial.proofs.Names.{solo_marks_or_skip, solo_write_backs, solo_writes_at, is_written, written_mask, core_exec, core_evict}
+use Rattle.tcc_serial.proofs.Names.{grant}
 use Rattle.tcc_serial.proofs.Names.{from_dir, CopyOf, among, passes, FramesInMemory}
 use Rattle.tcc_rules.specs.Sends.{write_back}
 use Rattle.tcc_serial.proofs.Counts.Links.{among-append, among-flat_map_none}
@@ -138,7 +139,7 @@ unfolding among passes
 marks-memory sh f u ls l t o = among-flat_map_none (CopyOf l t) (λ k. Mark k (f k) u ∷ []) (λ k. refl) ls
 
 solo-memory : (sh : Shape) (c : Cache) (sp : Spilled) (u : ℕ) → SendsInMemory sh (solo_sends sh c sp u)
-unfolding solo_sends solo_marks solo_backs among passes
+unfolding solo_sends solo_marks_or_skip solo_write_backs among passes
 solo-memory sh c sp u d = go (nat_lt d sh.dirs) (solo_writes_at sh c sp d)
   where
     marks : List Msg
@@ -147,13 +148,13 @@ solo-memory sh c sp u d = go (nat_lt d sh.dirs) (solo_writes_at sh c sp d)
     last : List Msg
     last = Commit u (count_below (λ k. d == home sh k && is_written c sp k) (lines sh)) ∷ []
 
-    backs : NoneOutside sh (solo_backs sh sp u d)
+    backs : NoneOutside sh (solo_write_backs sh sp u d)
     backs = backs-memory sh sp u (lines sh) (λ k. d == home sh k && holds sp k) (omega arith)
 
-    go : (b w : Bool) → NoneOutside sh (if b then (if w then marks ++ last else Skip u ∷ []) ++ solo_backs sh sp u d else [])
+    go : (b w : Bool) → NoneOutside sh (if b then (if w then marks ++ last else Skip u ∷ []) ++ solo_write_backs sh sp u d else [])
     go false w = none-outside sh
-    go true true = both-outside sh (marks ++ last) (solo_backs sh sp u d) (both-outside sh marks last (marks-memory sh (written_mask c sp) u (those (λ k. d == home sh k && is_written c sp k) (lines sh))) (λ l t o. refl)) backs
-    go true false = both-outside sh (Skip u ∷ []) (solo_backs sh sp u d) (λ l t o. refl) backs
+    go true true = both-outside sh (marks ++ last) (solo_write_backs sh sp u d) (both-outside sh marks last (marks-memory sh (written_mask c sp) u (those (λ k. d == home sh k && is_written c sp k) (lines sh))) (λ l t o. refl)) backs
+    go true false = both-outside sh (Skip u ∷ []) (solo_write_backs sh sp u d) (λ l t o. refl) backs
 
 -- what a core sends has words of lines in memory alone
 said-memory : (sh : Shape) (s : CoreState) (q : Said) → IsCache sh s.cache → FramesInMemory sh s.cache → SendsInMemory sh (say sh s q)

@@ -3,7 +3,8 @@ use Rattle.tcc_serial.proofs.Names.{ℕ, ◌≡◌, ◌<◌, ◌≤◌, Bool, tr
 use Rattle.tcc_serial.proofs.Names.{if◌then◌else◌, arith, refl, sym, ap₂, ◌∙◌, nat_tests, put, Program, Outcome, HaltedWith, TrappedWith}
 use Rattle.tcc_serial.proofs.Names.{any_below, any_below-at, Msg, Fill, ProbeReply, DataReq, Inv, Shape, Cache, writes_at, reads_at}
 use Rattle.tcc_serial.proofs.Names.{CoreState, Phase, Running, AwaitTid, DoomedTid, Probing, Ready, Overflowing, Solo, Halted, Out}
-use Rattle.tcc_serial.proofs.Names.{commit, committed_core, phase_after, core_exec, core_evict, grant, grant_phase, from_dir, probing}
+use Rattle.tcc_serial.proofs.Names.{commit, committed_core, phase_after_commit, core_exec, core_evict, grant, grant_phase, from_dir}
+use Rattle.tcc_serial.proofs.Names.{probing}
 use Rattle.tcc_serial.proofs.Names.{is_probed, probe_reply, all_replied, fill, data_request, invalidate, RepliesAbove, passes, tid_of}
 use Rattle.tcc_serial.proofs.Names.{asks_dir, may_commit, Reached, solo_commit}
 use Rattle.tcc_serial.proofs.OneCore.Executes.{Steady, did-steady}
@@ -34,7 +35,7 @@ asked-steady : (sh : Shape) (d x : ℕ) (s : CoreState) (o : Out) → Steady s o
 asked-steady sh d x s o y h = same-asked sh d x s o.core (y.phase) (y.owing)
     (acts-asked s.phase _ _ (λ n. ap₂ (λ a b. a || b) (writes_at-same sh o.core.cache s.cache d (y.modified n)) (reads_at-same sh o.core.cache s.cache d (y.read n)))) h
 
-asked-after : (sh : Shape) (d x : ℕ) (r : CoreState) (e : Outcome) → r.phase ≡ phase_after e → Reached sh d x r
+asked-after : (sh : Shape) (d x : ℕ) (r : CoreState) (e : Outcome) → r.phase ≡ phase_after_commit e → Reached sh d x r
 asked-after sh d x r (HaltedWith k) q = none-asked sh d x r Halted q (λ b. refl) refl
 asked-after sh d x r (TrappedWith k) q = none-asked sh d x r Halted q (λ b. refl) refl
 asked-after sh d x r _ q = none-asked sh d x r Running q (λ b. refl) refl

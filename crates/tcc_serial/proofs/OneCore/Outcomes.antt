@@ -9,7 +9,8 @@ use Rattle.tcc_serial.proofs.Names.{lines, set_of, Cache, free_way, all_marked, 
 use Rattle.tcc_serial.proofs.Names.{placed, evicted, filled, invalidated, rolled_back, cleaned, read_cleared, Spilled, none_spilled, holds}
 use Rattle.tcc_serial.proofs.Names.{spill_line, any_below-found, CoreState, Awaited, Phase, Running, AwaitTid, DoomedTid, Probing, Ready}
 use Rattle.tcc_serial.proofs.Names.{Overflowing, Solo, Sends, nothing, to, to_dirs, when, flushed, abort_written, marks_for, Out, moves}
-use Rattle.tcc_serial.proofs.Names.{finished, stepped, is_running, is_solo, new_word, roll_back, commit, solo_commit, request_line, place}
+use Rattle.tcc_serial.proofs.Names.{finished, one_more_instruction, is_running, is_solo, new_word, roll_back, commit, solo_commit}
+use Rattle.tcc_serial.proofs.Names.{request_line, place}
 use Rattle.tcc_serial.proofs.Names.{overflow}
 use Rattle.tcc_serial.proofs.Names.{full_set, miss, with_read_mark, load_valid, load_spilled, load, stored_in_buffer, stored_in_frame}
 use Rattle.tcc_serial.proofs.Names.{word_store, marks_read}
@@ -140,7 +141,7 @@ said _ = Silent
 
 -- what finishing an instruction that stores leaves
 storing : (p : Program) (need : Need) (x a : ℕ) (s : CoreState) → StoresAt a need → (k : Storing s a) × ((c : Cache) (sp : Spilled) → finished p need x (record s { cache = c; spilled = sp }) ≡ after_store s a k c sp)
-unfolding finished stepped
+unfolding finished one_more_instruction
 storing p (Stores b z v) x a s e = (record { local = p.after s.local None; loads = s.loads; loaded = inl refl; store = store_of b z v; addr = e }, λ c sp. refl)
 storing p (Changes b f) x a s e = (record { local = p.after s.local (Some (part x b Word)); loads = s.loads ++ load_of b Word (part x b Word) ∷ []; loaded = inr (load_of b Word (part x b Word), e, refl); store = store_of b Word (f (part x b Word)); addr = e }, λ c sp. refl)
 storing p _ x a s e = absurd e
@@ -158,7 +159,7 @@ unmodified b m q = grind (arith, nat_tests)
 -- each outcome of Exec has what all outcomes have
 pub each-exec : (sh : Shape) (p : Program) (c : ℕ) (s : CoreState) (P : Out → Type 0) → ((d : Did sh p c s) → P (out d)) → IfSome (core_exec sh p c s) P
 unfolding core_exec execute load with_read_mark partial_store word_store miss full_set request_line place overflow stored_in_buffer
-    stored_in_frame finished stepped storing
+    stored_in_frame finished one_more_instruction storing
 each-exec sh p c s P k = go s.phase refl
   where
     w : ℕ → ℕ

@@ -4,7 +4,8 @@ use Rattle.tcc_serial.proofs.Names.{if◌then◌else◌, flat_map, arith, refl, 
 use Rattle.tcc_serial.proofs.Names.{Skip, Probe, Mark, Commit, Abort, WriteBack, Flush, InvAck, Shape, home, lines, is_modified, nat_tests}
 use Rattle.tcc_serial.proofs.Names.{modified_mask, written_lines, writes_at, reads_at, dirty_copy, holds, spilled_mask, spilled_words}
 use Rattle.tcc_serial.proofs.Names.{CoreState, Sends, nothing, to, flush, flushed, written_back, skip_all, probe_all, abort_written}
-use Rattle.tcc_serial.proofs.Names.{marks_for, commit_sends, solo_sends, solo_marks, solo_backs, solo_writes_at, is_written, written_mask}
+use Rattle.tcc_serial.proofs.Names.{marks_for, commit_sends, solo_sends, solo_marks_or_skip, solo_write_backs, solo_writes_at, is_written}
+use Rattle.tcc_serial.proofs.Names.{written_mask}
 use Rattle.tcc_serial.proofs.Names.{grant_sends, Kind, among, passes}
 use Rattle.tcc_rules.specs.Sends.{write_back}
 use Rattle.tcc_serial.proofs.Counts.Links.{among-append, among-flat_map_none}
@@ -78,7 +79,8 @@ marks-quiet k f t ls h = among-flat_map_none k (λ l. Mark l (f l) t ∷ []) (λ
 
 -- nothing of the kind is among what is said
 pub quiet : (sh : Shape) (s : CoreState) (k : Kind) (q : Said) → Unheard k q → (d : ℕ) → among k (say sh s q (Dir d)) ≡ 0
-unfolding flushed written_back commit_sends solo_sends solo_marks solo_backs grant_sends skip_all probe_all abort_written marks_for among
+unfolding flushed written_back commit_sends solo_sends solo_marks_or_skip solo_write_backs grant_sends skip_all probe_all abort_written
+    marks_for among
 quiet sh s k (Flushes l) h d = go (d == home sh l) (dirty_copy s.cache l)
   where
     go : (b : Bool) (t : Option Tagged) → among k (if b then flush t else []) ≡ 0

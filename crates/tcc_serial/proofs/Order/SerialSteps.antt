@@ -2,7 +2,8 @@
 use Rattle.tcc_serial.proofs.Names.{ℕ, ◌≡◌, ◌≤◌, ◌≢◌, true, false, List, ◌∷◌, ◌++◌, map, Option, Some, None, IsSomeAnd, refl, sym, ap}
 use Rattle.tcc_serial.proofs.Names.{subst, ◌∙◌, map-append, Noted, CoreEnd, Run, Halt, Trap, order_of_commit, last_tid, Attempt, Plain}
 use Rattle.tcc_serial.proofs.Names.{Order, Outcome, Goes, Ended, HaltedWith, TrappedWith, begun, steps, closed, end_of, transaction}
-use Rattle.tcc_serial.proofs.Names.{commit_of, serial, Local, Program, CoreState, noted, phase_after, ended_after, insert_commit, HasEnded}
+use Rattle.tcc_serial.proofs.Names.{commit_of, serial, Local, Program, CoreState, noted, phase_after_commit, ended_after_commit}
+use Rattle.tcc_serial.proofs.Names.{insert_commit, HasEnded}
 use Rattle.tcc_serial.proofs.Names.{end_after, commits_touch, orders_core, Again, Inserted, CanInsert, times, stores_word, Aligned}
 use Rattle.tcc_serial.proofs.Names.{IsMemory, ◌<◌, Bool, ◌==◌, ◌||◌, [], Contains, arith, ◌⊎◌, inl, inr, nat_tests, Need, Loads, Stores}
 use Rattle.tcc_serial.proofs.Names.{Changes, num, line_of, writes_at, reads_at, Shape, home, Phase, Ready, Solo, World, Out, is_solo}
@@ -28,7 +29,7 @@ use Rattle.tcc_serial.proofs.Tids.Commits.{numbered-least, granted-at}
 record Closed (o : Outcome) : Type 0 where
   end : CoreEnd
   is : end_of o ≡ Some end
-  after : end ≡ end_after (phase_after o) (ended_after o)
+  after : end ≡ end_after (phase_after_commit o) (ended_after_commit o)
 
 has-closed : (o : Outcome) → HasEnded o → Closed o
 has-closed Goes h = absurd (cc)
@@ -79,7 +80,7 @@ pub record ClosedSerial (base : ℕ) (p : Program) (cs : List Noted) (c t : ℕ)
   pub plain : Plain
   pub commits : serial base p 0 (map order_of_commit (insert_commit (noted t c r) cs)) first ≡ Some (plain, insert_commit (noted t c r) cs)
   pub local : (plain.cores c).local ≡ r.local
-  pub ended : (plain.cores c).ended ≡ end_after (phase_after r.ended) (ended_after r.ended)
+  pub ended : (plain.cores c).ended ≡ end_after (phase_after_commit r.ended) (ended_after_commit r.ended)
   pub others : (e : ℕ) → e ≢ c → plain.cores e ≡ m.cores e
 
 pub closed-serial : (base : ℕ) (p : Program) (cs : List Noted) (c t : ℕ) (saved : Local) (r : CoreState) (first m : Plain) (s : SerialCut base p 0 (before t cs) (behind t cs) first m) → Aligned p → IsMemory first.ram → IsMemory s.start.ram

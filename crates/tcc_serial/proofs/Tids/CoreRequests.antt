@@ -1,7 +1,7 @@
 -- What a core's rules do to its requests for a TID.
 use Rattle.tcc_serial.proofs.Names.{arith, nat_tests, ℕ, ◌+◌, ◌≡◌, Bool, true, false, None, IfSome, refl, inl, inr, Program, Outcome, num}
 use Rattle.tcc_serial.proofs.Names.{any_below, Vendor, Msg, Shape, CoreState, Phase, AwaitTid, DoomedTid, Overflowing, skip_all, probe_all}
-use Rattle.tcc_serial.proofs.Names.{Out, commit, committed_core, commit_sends, phase_after, solo_sends, core_exec, core_evict, grant}
+use Rattle.tcc_serial.proofs.Names.{Out, commit, committed_core, commit_sends, phase_after_commit, solo_sends, core_exec, core_evict, grant}
 use Rattle.tcc_serial.proofs.Names.{grant_phase, grant_sends, from_dir, probing, is_probed, among, passes, waits_for_tid, abort_written}
 use Rattle.tcc_serial.proofs.Names.{flushed, solo_commit}
 use Rattle.tcc_serial.specs.Count.{Asks}
@@ -15,7 +15,7 @@ use Rattle.tcc_serial.proofs.OneCore.Outcomes.{each-back, heard}
 abbrev pub KeepsRequests : (got : ℕ) → CoreState → Out → Type 0
 KeepsRequests got s o = num (waits_for_tid s.phase) + among Asks (o.sends Vendor) ≡ num (waits_for_tid o.core.phase) + got
 
-waits-after : (e : Outcome) → waits_for_tid (phase_after e) ≡ false
+waits-after : (e : Outcome) → waits_for_tid (phase_after_commit e) ≡ false
 unfolding waits_for_tid
 waits-after a = grind (arith, nat_tests)
 

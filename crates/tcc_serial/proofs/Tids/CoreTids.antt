@@ -2,7 +2,7 @@
 use Rattle.tcc_serial.proofs.Names.{ℕ, ◌+◌, ◌≡◌, ◌<◌, Bool, true, false, List, [], ◌∷◌, ◌==◌, ◌&&◌, Some, None, IfSome, if◌then◌else◌}
 use Rattle.tcc_serial.proofs.Names.{arith, refl, ◌⊎◌, inl, inr, Program, Outcome, num, any_below, Dir, Msg, Fill, ProbeReply, DataReq, Inv}
 use Rattle.tcc_serial.proofs.Names.{InvAck, Shape, home, writes_at, CoreState, Phase, Running, AwaitTid, DoomedTid, Probing, Ready}
-use Rattle.tcc_serial.proofs.Names.{Overflowing, Solo, Sends, to, marks_for, Out, commit, committed_core, phase_after, core_exec}
+use Rattle.tcc_serial.proofs.Names.{Overflowing, Solo, Sends, to, marks_for, Out, commit, committed_core, phase_after_commit, core_exec}
 use Rattle.tcc_serial.proofs.Names.{core_evict, grant, grant_phase, from_dir, probing, is_probed, probe_reply, ignored, all_replied, fill}
 use Rattle.tcc_serial.proofs.Names.{data_request, invalidate, Resolves, among, passes, opens, waits_for_tid, put, nat_tests, solo_commit}
 use Rattle.tcc_serial.proofs.Counts.Links.{among-append, resolves-commit_sends, resolves-abort_written, resolves-skip_all}
@@ -27,7 +27,7 @@ acts Running = inr tt
 acts (Solo u) = inr tt
 acts _ = inl (λ h. h)
 
-opens-after : (e : Outcome) (a : Bool) (t : ℕ) → opens (phase_after e) a t ≡ false
+opens-after : (e : Outcome) (a : Bool) (t : ℕ) → opens (phase_after_commit e) a t ≡ false
 unfolding opens
 opens-after b a t = grind (arith, nat_tests)
 

@@ -3,7 +3,7 @@
 use Rattle.tcc_serial.proofs.Names.{ℕ, ◌≡◌, ◌<◌, ◌≤◌, Bool, true, false, not, ◌==◌, ◌&&◌, Some, None, IfSome, if◌then◌else◌, arith, refl}
 use Rattle.tcc_serial.proofs.Names.{sym, ◌⊎◌, inl, inr, nat_tests, Noted, Program, Outcome, any_below, Dir, Msg, Fill, ProbeReply}
 use Rattle.tcc_serial.proofs.Names.{DataReq, Inv, Shape, Cache, writes_at, CoreState, Phase, Running, AwaitTid, DoomedTid, Probing, Ready}
-use Rattle.tcc_serial.proofs.Names.{Overflowing, Solo, Out, commit, committed_core, noted, phase_after, core_exec, core_evict, grant}
+use Rattle.tcc_serial.proofs.Names.{Overflowing, Solo, Out, commit, committed_core, noted, phase_after_commit, core_exec, core_evict, grant}
 use Rattle.tcc_serial.proofs.Names.{grant_phase, grant_sends, from_dir, probing, is_probed, probe_reply, ignored, all_replied, fill}
 use Rattle.tcc_serial.proofs.Names.{data_request, invalidate, put, Skips, among, passes, Words, OneCore, has_tid, Untold, told_by}
 use Rattle.tcc_serial.proofs.Names.{live_way, commit_way, Local, moves, solo_commit}
@@ -48,13 +48,13 @@ tells-none : (sh : Shape) (s : CoreState) (o : Out) (q : Phase) → o.core.phase
     → IfSome o.commit (TellsCommit sh s o) → Tells sh s o
 tells-none sh s o q e h c = record { skips = λ d t l x. absurd (let z = h (writes_at sh o.core.cache d) t in let y : skips_here q (writes_at sh o.core.cache d) t ≡ true = rw e at x in cc); commits = c }
 
-skips-after : (e : Outcome) (b : Bool) (t : ℕ) → skips_here (phase_after e) b t ≡ false
+skips-after : (e : Outcome) (b : Bool) (t : ℕ) → skips_here (phase_after_commit e) b t ≡ false
 skips-after a b t = grind (arith, nat_tests)
 
 tells-alone : (sh : Shape) (c u : ℕ) (s : CoreState) (l : Local) (e : Outcome) → s.phase ≡ Solo u → OneCore sh s
     → Tells sh s (solo_commit sh c u (after_end s l e))
 unfolding solo_commit committed_core noted has_tid live_way
-tells-alone sh c u s l e q h = tells-none sh s (solo_commit sh c u (after_end s l e)) (phase_after e) refl (skips-after e) (record {
+tells-alone sh c u s l e q h = tells-none sh s (solo_commit sh c u (after_end s l e)) (phase_after_commit e) refl (skips-after e) (record {
   has = rw q (grind (arith, nat_tests));
   told = λ d l. rw q (rw (← stored-solo sh s.cache s.spilled s.stores d words.named) (solo-told sh s.cache s.spilled u d Untold l));
 })
@@ -64,7 +64,7 @@ tells-alone sh c u s l e q h = tells-none sh s (solo_commit sh c u (after_end s 
 
 tells-committed : (sh : Shape) (id u : ℕ) (s : CoreState) → s.phase ≡ Ready u → OneCore sh s → Tells sh s (commit sh id u s)
 unfolding commit committed_core noted has_tid live_way
-tells-committed sh id u s e h = tells-none sh s (commit sh id u s) (phase_after s.ended) refl (skips-after s.ended) (record {
+tells-committed sh id u s e h = tells-none sh s (commit sh id u s) (phase_after_commit s.ended) refl (skips-after s.ended) (record {
   has = rw e (grind (arith, nat_tests));
   told = λ d l. rw e (rw (← stored-written sh s.cache s.spilled s.stores d (rw e at (h.words))) (ready-told sh s.cache u d l));
 })
