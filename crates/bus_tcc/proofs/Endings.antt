@@ -5,7 +5,7 @@ use Rattle.tcc_maps.specs.Shape.{Shape}
 use Rattle.tcc_program.specs.Program.{Need, Nothing, Loads, Stores, Changes, Prints, Ends, Halts, Traps, Program}
 use Rattle.tcc_rules.specs.Attempt.{Out, finished, is_solo, one_more_instruction}
 use Rattle.tcc_rules.specs.Commit.{commit, solo_commit}
-use Rattle.tcc_rules.specs.CoreExec.{core_exec, exec_phase, unless_awaiting}
+use Rattle.tcc_rules.specs.CoreExec.{core_exec, exec_in_phase, unless_awaiting}
 use Rattle.tcc_rules.specs.Execute.{end_transaction, execute, execute_need}
 use Rattle.tcc_rules.specs.State.{CoreState, Phase, Running, AwaitTid, DoomedTid, Probing, Ready, Overflowing, Solo, Halted}
 use Rattle.bus_rules.specs.Commit.{commit_out, written}
@@ -105,9 +105,9 @@ unfolding core_exec execute
 ends-alone sh p c t s b a h = by s.phase refl b h
   where
     by : (q : Phase) → s.phase ≡ q → is_solo q ≡ true → CommitsBy p t s q
-        → exec_phase sh p c s s.phase ≡ Some (commit_out sh c t (at_commit p s))
+        → exec_in_phase sh p c s s.phase ≡ Some (commit_out sh c t (at_commit p s))
     by (Solo u) e b h =
-        ap (exec_phase sh p c s) e ∙ ap (unless_awaiting sh p c s) a ∙ close-alone sh p c u s (p.need s.local) e h.1
+        ap (exec_in_phase sh p c s) e ∙ ap (unless_awaiting sh p c s) a ∙ close-alone sh p c u s (p.need s.local) e h.1
         ∙ ap (λ v. Some (solo_commit sh c v (finished p (p.need s.local) 0 s))) h.0
         ∙ ap (λ y. Some (solo_commit sh c t y)) (sym (alone-commits p s (ap is_solo e)))
         ∙ ap (λ o. Some o) (out-alone sh c t (at_commit p s) (ap is_solo (commit-holds p t s (subst (CommitsBy p t s) (sym e) h)).phase

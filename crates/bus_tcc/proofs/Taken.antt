@@ -15,7 +15,7 @@ use Rattle.tcc_maps.specs.Masks.{hit}
 use Rattle.tcc_maps.specs.Shape.{Shape, lines}
 use Rattle.tcc_maps.specs.Words.{any_word, line_of, place_of, word_at}
 use Rattle.tcc_rules.specs.Attempt.{roll_back}
-use Rattle.tcc_rules.specs.CoreDeliver.{without}
+use Rattle.tcc_rules.specs.CoreDeliver.{words_invalidated}
 use Rattle.tcc_rules.specs.State.{CoreState, Running}
 use Rattle.bus_rules.specs.Take.{dropped, reads_some, taken}
 use Rattle.core_node.specs.AtHand.{words_in}
@@ -45,8 +45,8 @@ pub record IsClean (s : CoreState) : Type 0 where
   pub awaited : s.awaited ≡ None
   pub dirty : s.cache.dirty ≡ (λ w. None)
 
-without-clean : (l m : ℕ) (s : CoreState) → IsClean s → IsClean (without l m s)
-unfolding without invalidated
+without-clean : (l m : ℕ) (s : CoreState) → IsClean s → IsClean (words_invalidated l m s)
+unfolding words_invalidated invalidated
 without-clean l m s h = record {
   awaited = rw h.awaited refl;
   dirty = λ i v. (ap (λ d. if hit l m v && not (s.cache.modified v) then None else d) (λ j. h.dirty j v)
@@ -58,8 +58,8 @@ unfolding dropped words_in
 none-dropped s = refl
 
 one-dropped : (t : Tagged) (ts : List Tagged) (s : CoreState) → IsClean s
-    → dropped (words_in ts) (without t.line.0 t.mask.0 s) ≡ dropped (words_in (t ∷ ts)) s
-unfolding dropped words_in without invalidated
+    → dropped (words_in ts) (words_invalidated t.line.0 t.mask.0 s) ≡ dropped (words_in (t ∷ ts)) s
+unfolding dropped words_in words_invalidated invalidated
 one-dropped t ts s h = λ i. record s {
   cache = record s.cache {
     value = λ w. drops-word (hit t.line.0 t.mask.0 w) (s.cache.modified w) (words_in ts w) (s.cache.value w) (get_or t.words (place_of w)
@@ -73,7 +73,7 @@ pub struck-dropped : (ts : List Tagged) (s : CoreState) → IsClean s → struck
 unfolding struck_by
 struck-dropped [] s h = sym (none-dropped s)
 struck-dropped (t ∷ ts) s h =
-    struck-dropped ts (without t.line.0 t.mask.0 s) (without-clean t.line.0 t.mask.0 s h) ∙ one-dropped t ts s h
+    struck-dropped ts (words_invalidated t.line.0 t.mask.0 s) (without-clean t.line.0 t.mask.0 s h) ∙ one-dropped t ts s h
 
 -- ---- the attempt begins anew
 
@@ -205,8 +205,8 @@ took-taken sh ts s h mem = by (reads_any ts s.cache) (reads_some sh (words_in ts
 -- ---- so far
 
 -- an invalidation leaves read marks as they are
-without-read : (l m : ℕ) (s : CoreState) → (without l m s).cache.read ≡ s.cache.read
-unfolding without invalidated
+without-read : (l m : ℕ) (s : CoreState) → (words_invalidated l m s).cache.read ≡ s.cache.read
+unfolding words_invalidated invalidated
 without-read l m s = refl
 
 masked-same : (l m : ℕ) (c d : Cache) → d.read ≡ c.read → reads_masked l m d ≡ reads_masked l m c
@@ -227,7 +227,7 @@ or-assoc true b c = refl
 or-assoc false b c = refl
 
 pub strikes-next : (ts : List Tagged) (i : ℕ) (d : Tagged) (old now new : CoreState) (read hits : Bool) → Strikes ts i old now read
-    → i < length ts → new ≡ without (get_or ts i d).line.0 (get_or ts i d).mask.0 now
+    → i < length ts → new ≡ words_invalidated (get_or ts i d).line.0 (get_or ts i d).mask.0 now
     → hits ≡ reads_masked (get_or ts i d).line.0 (get_or ts i d).mask.0 now.cache → Strikes ts (i + 1) old new (read || hits)
 unfolding struck_by reads_any
 strikes-next ts i d old now new read hits h l n e =

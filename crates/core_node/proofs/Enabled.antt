@@ -9,7 +9,7 @@ use Rattle.tcc_maps.specs.Shape.{Shape, set_of}
 use Rattle.tcc_maps.specs.Spilled.{holds}
 use Rattle.tcc_maps.specs.Words.{line_of}
 use Rattle.tcc_rules.specs.Attempt.{Out}
-use Rattle.tcc_rules.specs.CoreExec.{exec_phase}
+use Rattle.tcc_rules.specs.CoreExec.{exec_in_phase}
 use Rattle.tcc_rules.specs.Execute.{miss, full_set, load, load_spilled, load_valid, word_store, partial_store, change_spilled, change_valid, execute, execute_need}
 use Rattle.tcc_rules.specs.State.{CoreState}
 use Rattle.tcc_rules.specs.Useful.{room_for_line, room_for_need, room_for_store, room_for_word}
@@ -98,6 +98,6 @@ unfolding execute
 execute_or_room sh p id s = need_or_room sh p id s (p.need s.local)
 
 pub exec_overflowing : (sh : Shape) (p : Program) (id : ℕ) (s : CoreState) (o : Option Tid)
-    → exec_phase sh p id s (phase_of (code.Overflowing o)) ≡ None
+    → exec_in_phase sh p id s (phase_of (code.Overflowing o)) ≡ None
 exec_overflowing sh p id s None = refl
 exec_overflowing sh p id s (Some t) = refl

@@ -27,7 +27,7 @@ use Rattle.tcc_maps.specs.Words.{line_of, place_of}
 use Rattle.tcc_rules.specs.Attempt.{Out, finished, is_running, is_solo, moves, new_word, one_more_instruction}
 use Rattle.tcc_rules.specs.Commit.{solo_commit, committed_core}
 use Rattle.tcc_rules.specs.CoreDeliver.{fill}
-use Rattle.tcc_rules.specs.CoreExec.{core_exec, exec_phase, unless_awaiting}
+use Rattle.tcc_rules.specs.CoreExec.{core_exec, exec_in_phase, unless_awaiting}
 use Rattle.tcc_rules.specs.Execute.{request_line, miss, full_set, load, load_spilled, load_valid, overflow, place, with_read_mark}
 use Rattle.tcc_rules.specs.Execute.{stored_in_buffer, stored_in_frame}
 use Rattle.tcc_rules.specs.Execute.{word_store, partial_store, change_spilled, change_valid, marks_read, end_transaction, execute}
@@ -325,7 +325,7 @@ exec-executes sh p id s e a = by s.phase e
     runs None q = refl
     runs (Some x) q = cc
 
-    by : (q : Phase) → executes q ≡ true → exec_phase sh p id s q ≡ execute sh p id s
+    by : (q : Phase) → executes q ≡ true → exec_in_phase sh p id s q ≡ execute sh p id s
     by Running h = runs s.awaited a
     by (Solo t) h = runs s.awaited a
     by AwaitTid h = cc

@@ -15,7 +15,7 @@ use Rattle.tcc_rules.specs.Execute.{stored_in_buffer, stored_in_frame}
 use Rattle.tcc_rules.specs.Execute.{word_store, partial_store, change_spilled, change_valid, end_transaction, execute, execute_need}
 use Rattle.tcc_program.specs.Plain.{Outcome, Goes, Ended, Halted as HaltedWith, Trapped as TrappedWith}
 use Rattle.tcc_rules.specs.Commit.{commit, committed_core, phase_after_commit, solo_commit}
-use Rattle.tcc_rules.specs.CoreExec.{exec_phase, unless_awaiting}
+use Rattle.tcc_rules.specs.CoreExec.{exec_in_phase, unless_awaiting}
 use Rattle.tcc_rules.specs.State.{CoreState, Awaited, Phase, Running, AwaitTid, DoomedTid, Probing, Ready, Overflowing, Solo, Halted}
 use Rattle.commit_engine.specs.Engine.{phase_of}
 use Rattle.commit_engine.specs.declared.phase.Phase.{Phase as CodePhase}
@@ -198,7 +198,7 @@ runs-alone sh p id s e =
 
 -- and no other one does
 pub others-stay : (sh : Shape) (p : Program) (id : ℕ) (s : CoreState) (q : CodePhase) → s.phase ≡ phase_of q → q ≢ code.Running
-    → goes_alone (exec_phase sh p id s (phase_of q)) ≡ false
+    → goes_alone (exec_in_phase sh p id s (phase_of q)) ≡ false
 unfolding commit committed_core
 others-stay sh p id s code.Running e n = absurd (n refl)
 others-stay sh p id s (code.Solo t) e n = by s.awaited

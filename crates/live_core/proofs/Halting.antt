@@ -16,10 +16,11 @@ use Rattle.tcc_program.specs.Ram.{word_of}
 use Rattle.tcc_rules.specs.Attempt.{Out, finished, is_running, is_solo, moves, new_word, roll_back, one_more_instruction}
 use Rattle.tcc_rules.specs.Commit.{commit, committed_core, ended_after_commit, phase_after_commit, solo_commit}
 use Rattle.tcc_rules.specs.CoreDeliver.{acknowledged, all_replied, core_deliver, data_request, fill, fill_awaited}
-use Rattle.tcc_rules.specs.CoreDeliver.{grant, grant_phase, if_violated, ignored, invalidate, is_probed, is_violated, probe_reply, probing}
-use Rattle.tcc_rules.specs.CoreDeliver.{replied, reply_phase, violated_in, without}
+use Rattle.tcc_rules.specs.CoreDeliver.{grant, grant_in_phase, if_violated, ignored, invalidate, is_probed, is_violated, probe_reply}
+use Rattle.tcc_rules.specs.CoreDeliver.{probing_or_ready}
+use Rattle.tcc_rules.specs.CoreDeliver.{replied, reply_in_phase, violated_in_phase, words_invalidated}
 use Rattle.tcc_rules.specs.CoreEvict.{core_evict, evict_line, is_awaited}
-use Rattle.tcc_rules.specs.CoreExec.{core_exec, exec_phase, unless_awaiting}
+use Rattle.tcc_rules.specs.CoreExec.{core_exec, exec_in_phase, unless_awaiting}
 use Rattle.tcc_rules.specs.DirDeliver.{Answer, Waits, Drops, Asks, Takes, dir_deliver}
 use Rattle.tcc_rules.specs.Execute.{marks_read, request_line, stored_in_buffer, change_spilled, change_valid, end_transaction, execute}
 use Rattle.tcc_rules.specs.Execute.{execute_need, miss, stored_in_frame}
@@ -180,7 +181,7 @@ module _ (sh : Shape) (p : Program) where
       awaiting (Some a) e = tt
       awaiting None e = after-execute id s e
 
-      go : (q : Phase) → s.phase ≡ q → IfSome (exec_phase sh p id s q) SaysAfter
+      go : (q : Phase) → s.phase ≡ q → IfSome (exec_in_phase sh p id s q) SaysAfter
       go Running e = awaiting s.awaited (rw e refl)
       go (Solo t) e = awaiting s.awaited (rw e refl)
       go (Ready t) e = after-end s.ended
@@ -205,11 +206,11 @@ module _ (sh : Shape) (s : CoreState) (h : Says s) where
   unfolding grant
   after-grant t = go s.phase
     where
-      probes : (b : Bool) (x : Outcome) → says (probing b t) x ≡ true
+      probes : (b : Bool) (x : Outcome) → says (probing_or_ready b t) x ≡ true
       probes true x = refl
       probes false x = refl
 
-      go : (q : Phase) → SaysAfter (grant_phase sh t s q)
+      go : (q : Phase) → SaysAfter (grant_in_phase sh t s q)
       go AwaitTid = probes (any_below (is_probed sh s.cache) sh.dirs) s.ended
       go DoomedTid = refl
       go (Overflowing None) = refl
@@ -232,7 +233,7 @@ module _ (sh : Shape) (s : CoreState) (h : Says s) where
       alone true = refl
       alone false = h
 
-      go : (q : Phase) → SaysAfter (reply_phase sh d t s q)
+      go : (q : Phase) → SaysAfter (reply_in_phase sh d t s q)
       go (Probing u) = either (u == t && s.owing d) _ _ (ready (all_replied sh (replied d s).owing)) h
       go (Overflowing (Some u)) = either (u == t && s.owing d) _ _ (alone (all_replied sh (replied d s).owing)) h
       go (Overflowing None) = h
@@ -258,7 +259,7 @@ after-violated : (sh : Shape) (b : Bool) (s : CoreState) → Says s → SaysAfte
 unfolding if_violated roll_back
 after-violated sh b s h = go b s.phase refl
   where
-    go : (b : Bool) (q : Phase) → s.phase ≡ q → SaysAfter (if b then violated_in sh s q else ignored s)
+    go : (b : Bool) (q : Phase) → s.phase ≡ q → SaysAfter (if b then violated_in_phase sh s q else ignored s)
     go false q e = h
     go true Running e = rw e refl
     go true DoomedTid e = h
@@ -268,8 +269,8 @@ after-violated sh b s h = go b s.phase refl
     go true q e = refl
 
 after-invalidate : (sh : Shape) (l m u : ℕ) (s : CoreState) → Says s → SaysAfter (invalidate sh l m u s)
-unfolding invalidate acknowledged without
-after-invalidate sh l m u s h = after-violated sh (is_violated l m u s) (without l m s) h
+unfolding invalidate acknowledged words_invalidated
+after-invalidate sh l m u s h = after-violated sh (is_violated l m u s) (words_invalidated l m s) h
 
 after-deliver : (sh : Shape) (s : CoreState) (src : Node) (m : Msg) → Says s → IfSome (core_deliver sh s src m) SaysAfter
 unfolding core_deliver

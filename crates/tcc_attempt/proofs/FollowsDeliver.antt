@@ -16,7 +16,7 @@ use Rattle.tcc_rules.specs.State.{CoreState, Awaited, Phase, Running, AwaitTid, 
 use Rattle.tcc_rules.specs.Sends.{nothing, to, marks_for, written_back}
 use Rattle.tcc_rules.specs.Attempt.{Out, moves, is_solo, roll_back}
 use Rattle.tcc_rules.specs.CoreEvict.{is_awaited, evict_line, core_evict}
-use Rattle.tcc_rules.specs.CoreDeliver.{ignored, grant_phase, grant, probing, is_probed, replied, all_replied, reply_phase, probe_reply, fill_awaited, fill, data_request, violated_in, if_violated, staled, without, is_violated, acknowledged, invalidate, from_dir, from_vendor, core_deliver}
+use Rattle.tcc_rules.specs.CoreDeliver.{ignored, grant_in_phase, grant, probing_or_ready, is_probed, replied, all_replied, reply_in_phase, probe_reply, fill_awaited, fill, data_request, violated_in_phase, if_violated, staled, words_invalidated, is_violated, acknowledged, invalidate, from_dir, from_vendor, core_deliver}
 use Rattle.tcc_attempt.specs.Sound.{SoundCore}
 use Rattle.tcc_attempt.specs.Follows.{Uses, sees, HasEnded, EndFits, Follows}
 use Rattle.tcc_attempt.specs.Views.{uses_violated, uses_delivered}
@@ -53,12 +53,12 @@ core_evict-follows sh p x y s us k a = evict_line-follows sh p x y s us (s.cache
 ends-in : (s : CoreState) (q : Phase) → s.phase ≡ q → EndFits s.phase s.ended → EndFits q s.ended
 ends-in s q e h = subst (λ (x : Phase). EndFits x s.ended) e h
 
-probing-ends : (b : Bool) (t : ℕ) (o : Outcome) → HasEnded o → EndFits (probing b t) o
+probing-ends : (b : Bool) (t : ℕ) (o : Outcome) → HasEnded o → EndFits (probing_or_ready b t) o
 probing-ends true t o h = h
 probing-ends false t o h = h
 
-grant_phase-follows : (sh : Shape) (p : Program) (t : ℕ) (s : CoreState) (us : Uses) (q : Phase) → s.phase ≡ q → Follows sh p s us → Follows sh p (grant_phase sh t s q).core us
-grant_phase-follows sh p t s us AwaitTid e a = follows-into sh p s us s.cache s.spilled (probing (any_below (is_probed sh s.cache) sh.dirs) t) s.awaited (is_probed sh s.cache) (λ ram v. refl) (ap is_live e) (probing-ends (any_below (is_probed sh s.cache) sh.dirs) t s.ended (ends-in s AwaitTid e a.ends)) a
+grant_phase-follows : (sh : Shape) (p : Program) (t : ℕ) (s : CoreState) (us : Uses) (q : Phase) → s.phase ≡ q → Follows sh p s us → Follows sh p (grant_in_phase sh t s q).core us
+grant_phase-follows sh p t s us AwaitTid e a = follows-into sh p s us s.cache s.spilled (probing_or_ready (any_below (is_probed sh s.cache) sh.dirs) t) s.awaited (is_probed sh s.cache) (λ ram v. refl) (ap is_live e) (probing-ends (any_below (is_probed sh s.cache) sh.dirs) t s.ended (ends-in s AwaitTid e a.ends)) a
 grant_phase-follows sh p t s us DoomedTid e a = follows-into sh p s us s.cache s.spilled Running s.awaited s.owing (λ ram v. refl) (ap is_live e) (ends-in s DoomedTid e a.ends) a
 grant_phase-follows sh p t s us (Overflowing None) e a = follows-into sh p s us s.cache s.spilled (Overflowing (Some t)) s.awaited (λ d. nat_lt d sh.dirs) (λ ram v. refl) (ap is_live e) (ends-in s (Overflowing None) e a.ends) a
 grant_phase-follows sh p t s us (Overflowing (Some u)) e a = a
@@ -76,7 +76,7 @@ cleared-seen : (s : CoreState) (ram : ℕ → ℕ) (v : ℕ) → sees (with_word
 unfolding sees read_cleared
 cleared-seen s ram v = refl
 
-reply_phase-follows : (sh : Shape) (p : Program) (d t : ℕ) (s : CoreState) (us : Uses) (q : Phase) → s.phase ≡ q → Follows sh p s us → Follows sh p (reply_phase sh d t s q).core us
+reply_phase-follows : (sh : Shape) (p : Program) (d t : ℕ) (s : CoreState) (us : Uses) (q : Phase) → s.phase ≡ q → Follows sh p s us → Follows sh p (reply_in_phase sh d t s q).core us
 unfolding read_cleared
 reply_phase-follows sh p d t s us (Probing u) e a = at (u == t && s.owing d) (all_replied sh (replied d s).owing)
   where
@@ -144,8 +144,9 @@ invalidated-seen l m s ram v = rw (value-invalidated l m s.cache v, modified-inv
     at true false = refl
     at false c = refl
 
-without-follows : (sh : Shape) (p : Program) (l m : ℕ) (s : CoreState) (us : Uses) → Follows sh p s us → Follows sh p (without l m s) us
-unfolding without
+without-follows : (sh : Shape) (p : Program) (l m : ℕ) (s : CoreState) (us : Uses) → Follows sh p s us →
+    Follows sh p (words_invalidated l m s) us
+unfolding words_invalidated
 without-follows sh p l m s us a = follows-same sh p s us (invalidated l m s.cache) s.spilled (staled l s.awaited) s.owing (invalidated-seen l m s) a
 
 -- rolled back
@@ -157,7 +158,7 @@ rolled-follows sh p s q sp f e = record {
       (record { n = refl; local = refl; loads = refl; stores = refl; console = refl; ended = refl; words = λ ram v. rw (f v, modified-rolled_back s.cache v) }));
 }
 
-violated-follows : (sh : Shape) (p : Program) (s : CoreState) (us : Uses) (q : Phase) → s.phase ≡ q → SoundCore sh s → Follows sh p s us → Follows sh p (violated_in sh s q).core (uses_violated true q us)
+violated-follows : (sh : Shape) (p : Program) (s : CoreState) (us : Uses) (q : Phase) → s.phase ≡ q → SoundCore sh s → Follows sh p s us → Follows sh p (violated_in_phase sh s q).core (uses_violated true q us)
 unfolding roll_back none_spilled
 violated-follows sh p s us Running e k a = rolled-follows sh p s s.phase s.spilled (k.alone (ap is_solo e)) (subst (λ (x : Phase). EndFits x Goes) (sym e) refl)
 violated-follows sh p s us AwaitTid e k a = rolled-follows sh p s DoomedTid s.spilled (k.alone (ap is_solo e)) refl
@@ -175,8 +176,8 @@ if_violated-follows sh p true s us k a = violated-follows sh p s us s.phase refl
 if_violated-follows sh p false s us k a = a
 
 invalidate-follows : (sh : Shape) (p : Program) (l m u : ℕ) (s : CoreState) (us : Uses) → SoundCore sh s → Follows sh p s us → Follows sh p (invalidate sh l m u s).core (uses_violated (is_violated l m u s) s.phase us)
-unfolding invalidate acknowledged without
-invalidate-follows sh p l m u s us k a = if_violated-follows sh p (is_violated l m u s) (without l m s) us (without-sound sh l m s k) (without-follows sh p l m s us a)
+unfolding invalidate acknowledged words_invalidated
+invalidate-follows sh p l m u s us k a = if_violated-follows sh p (is_violated l m u s) (words_invalidated l m s) us (without-sound sh l m s k) (without-follows sh p l m s us a)
 
 abbrev pub OutGoes : Shape → Program → Uses → Option Out → Type 0
 OutGoes sh p us o = IfSome o (λ t. Follows sh p t.core us)

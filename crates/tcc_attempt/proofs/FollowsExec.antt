@@ -19,7 +19,7 @@ use Rattle.tcc_rules.specs.Sends.{nothing, flushed}
 use Rattle.tcc_rules.specs.Attempt.{Out, moves, is_solo, is_running, finished, new_word}
 use Rattle.tcc_rules.specs.Commit.{phase_after_commit, ended_after_commit, committed_core, commit, solo_commit}
 use Rattle.tcc_rules.specs.Execute.{request_line, place, overflow, full_set, miss, with_read_mark, load_valid, load_spilled, load, stored_in_buffer, stored_in_frame, word_store, marks_read, change_valid, change_spilled, partial_store, end_transaction, execute_need, execute}
-use Rattle.tcc_rules.specs.CoreExec.{unless_awaiting, exec_phase, core_exec}
+use Rattle.tcc_rules.specs.CoreExec.{unless_awaiting, exec_in_phase, core_exec}
 use Rattle.tcc_attempt.specs.Sound.{SoundCore}
 use Rattle.tcc_attempt.specs.Follows.{NeedFits, Fits, Uses, Agrees, sees, HasEnded, EndFits, Follows, used_in, used_at, used_by}
 use Rattle.tcc_attempt.proofs.Sound.{holds-none}
@@ -352,7 +352,7 @@ unless-follows : (sh : Shape) (p : Program) (id : ℕ) (s : CoreState) (us : Use
 unless-follows sh p id s us (Some x) f a = tt
 unless-follows sh p id s us None f a = execute-follows sh p id s us f a
 
-phase-follows : (sh : Shape) (p : Program) (id : ℕ) (s : CoreState) (us : Uses) (q : Phase) → s.phase ≡ q → Fits p → SoundCore sh s → Follows sh p s us → OutFollows sh p (us ++ used_by sh.base s (p.need s.local)) (exec_phase sh p id s q)
+phase-follows : (sh : Shape) (p : Program) (id : ℕ) (s : CoreState) (us : Uses) (q : Phase) → s.phase ≡ q → Fits p → SoundCore sh s → Follows sh p s us → OutFollows sh p (us ++ used_by sh.base s (p.need s.local)) (exec_in_phase sh p id s q)
 unfolding commit
 phase-follows sh p id s us Running e f k a = unless-follows sh p id s us s.awaited f (record { follows = a; sound = k; live = ap is_live e; goes = subst (λ (r : Phase). EndFits r s.ended) e a.ends })
 phase-follows sh p id s us (Solo t) e f k a = unless-follows sh p id s us s.awaited f (record { follows = a; sound = k; live = ap is_live e; goes = subst (λ (r : Phase). EndFits r s.ended) e a.ends })

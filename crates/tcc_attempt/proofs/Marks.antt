@@ -19,7 +19,7 @@ use Rattle.tcc_rules.specs.Sends.{nothing, flushed}
 use Rattle.tcc_rules.specs.Attempt.{Out, moves, is_solo, is_running, finished, new_word, one_more_instruction}
 use Rattle.tcc_rules.specs.Commit.{phase_after_commit, ended_after_commit, committed_core, commit, solo_commit}
 use Rattle.tcc_rules.specs.Execute.{request_line, place, overflow, full_set, miss, with_read_mark, load_valid, load_spilled, load, stored_in_buffer, stored_in_frame, word_store, marks_read, change_valid, change_spilled, partial_store, end_transaction, store_by_size, execute_need, execute}
-use Rattle.tcc_rules.specs.CoreExec.{unless_awaiting, exec_phase, core_exec}
+use Rattle.tcc_rules.specs.CoreExec.{unless_awaiting, exec_in_phase, core_exec}
 use Rattle.tcc_attempt.specs.Sound.{SoundCore}
 use Rattle.tcc_attempt.specs.Follows.{Uses, used_in, used_at, used_by}
 use Rattle.tcc_attempt.specs.Marks.{StillHas, UseStands, AllStand, UsesStand, is_used, OnlyUsed, awaits_in, owed_in, MarksFit}
@@ -402,7 +402,7 @@ unless-fit : (sh : Shape) (p : Program) (id : ℕ) (s : CoreState) (us : Uses) (
 unless-fit sh p id s us q (Some a) n e x k m = tt
 unless-fit sh p id s us q None n e x k m = execute-fit sh p id s us q (record { is = e; executes = x; fit = m; sound = k; none = n })
 
-phase-fit : (sh : Shape) (p : Program) (id : ℕ) (s : CoreState) (us : Uses) (q : Phase) → s.phase ≡ q → SoundCore sh s → MarksFit sh s us → OutFits sh (us ++ used_by sh.base s (p.need s.local)) (exec_phase sh p id s q)
+phase-fit : (sh : Shape) (p : Program) (id : ℕ) (s : CoreState) (us : Uses) (q : Phase) → s.phase ≡ q → SoundCore sh s → MarksFit sh s us → OutFits sh (us ++ used_by sh.base s (p.need s.local)) (exec_in_phase sh p id s q)
 unfolding commit
 phase-fit sh p id s us Running e k m = unless-fit sh p id s us Running s.awaited refl e refl k m
 phase-fit sh p id s us (Solo t) e k m = unless-fit sh p id s us (Solo t) s.awaited refl e refl k m

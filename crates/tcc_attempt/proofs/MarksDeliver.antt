@@ -17,7 +17,7 @@ use Rattle.tcc_rules.specs.State.{CoreState, Awaited, Phase, Running, AwaitTid, 
 use Rattle.tcc_rules.specs.Sends.{nothing, to, marks_for, written_back}
 use Rattle.tcc_rules.specs.Attempt.{Out, moves, is_solo, roll_back}
 use Rattle.tcc_rules.specs.CoreEvict.{is_awaited, evict_line, core_evict}
-use Rattle.tcc_rules.specs.CoreDeliver.{ignored, grant_phase, grant, probing, is_probed, replied, all_replied, reply_phase, probe_reply, fill_awaited, fill, data_request, is_above, violated_in, if_violated, staled, without, is_violated, acknowledged, invalidate, from_dir, from_vendor, core_deliver}
+use Rattle.tcc_rules.specs.CoreDeliver.{ignored, grant_in_phase, grant, probing_or_ready, is_probed, replied, all_replied, reply_in_phase, probe_reply, fill_awaited, fill, data_request, may_be_above, violated_in_phase, if_violated, staled, words_invalidated, is_violated, acknowledged, invalidate, from_dir, from_vendor, core_deliver}
 use Rattle.tcc_attempt.specs.Follows.{Uses}
 use Rattle.tcc_attempt.specs.Marks.{StillHas, UseStands, AllStand, UsesStand, OnlyUsed, awaits_in, owed_in, MarksFit}
 use Rattle.tcc_attempt.specs.Views.{uses_violated, uses_delivered}
@@ -128,15 +128,15 @@ probed-below sh c d h =
     let i = and-left (nat_lt d sh.dirs) (Rattle.tcc_maps.specs.Cache.writes_at sh c d || Rattle.tcc_maps.specs.Cache.reads_at sh c d) h in
     (i, any_below-at (λ d. nat_lt d sh.dirs && (Rattle.tcc_maps.specs.Cache.writes_at sh c d || Rattle.tcc_maps.specs.Cache.reads_at sh c d)) sh.dirs d (grind (arith, nat_tests)) h)
 
-probing-stand : (c : Cache) (us : Uses) (b : Bool) (t : ℕ) → AllStand false c us → UsesStand c us (probing b t)
+probing-stand : (c : Cache) (us : Uses) (b : Bool) (t : ℕ) → AllStand false c us → UsesStand c us (probing_or_ready b t)
 probing-stand c us true t h = weaker c us h
 probing-stand c us false t h = weaker c us h
 
-probing-owed : (b : Bool) (t : ℕ) → b ≡ true → owed_in (probing b t) ≡ true
+probing-owed : (b : Bool) (t : ℕ) → b ≡ true → owed_in (probing_or_ready b t) ≡ true
 probing-owed true t e = refl
 probing-owed false t e = absurd (cc)
 
-grant_phase-fit : (sh : Shape) (t : ℕ) (s : CoreState) (us : Uses) (q : Phase) → s.phase ≡ q → MarksFit sh s us → MarksFit sh (grant_phase sh t s q).core us
+grant_phase-fit : (sh : Shape) (t : ℕ) (s : CoreState) (us : Uses) (q : Phase) → s.phase ≡ q → MarksFit sh s us → MarksFit sh (grant_in_phase sh t s q).core us
 grant_phase-fit sh t s us AwaitTid e m = record {
   stand = probing-stand s.cache us (any_below (is_probed sh s.cache) sh.dirs) t (stand-in s us AwaitTid e m.stand);
   used = m.used;
@@ -173,7 +173,7 @@ replied-owes owing d e h = grind (arith, nat_tests)
 all-none : (sh : Shape) (owing : ℕ → Bool) (d : ℕ) → all_replied sh owing ≡ true → nat_lt d sh.dirs ≡ true → owing d ≡ true → ⊥
 all-none sh owing d a l o = let i = any_below-at owing sh.dirs d (grind (arith, nat_tests)) o in grind (arith, nat_tests)
 
-reply_phase-fit : (sh : Shape) (d t : ℕ) (s : CoreState) (us : Uses) (q : Phase) → s.phase ≡ q → MarksFit sh s us → MarksFit sh (reply_phase sh d t s q).core us
+reply_phase-fit : (sh : Shape) (d t : ℕ) (s : CoreState) (us : Uses) (q : Phase) → s.phase ≡ q → MarksFit sh s us → MarksFit sh (reply_in_phase sh d t s q).core us
 unfolding read_cleared
 reply_phase-fit sh d t s us (Probing u) e m = at (u == t && s.owing d) (all_replied sh (replied d s).owing) refl
   where
@@ -300,7 +300,7 @@ above-reads : (a b : Bool) → b ≡ true → (a && b) ≡ false → a ≡ false
 above-reads true b e h = absurd (cc)
 above-reads false b e h = refl
 
-without-uses : (l m u : ℕ) (c : Cache) (us : Uses) (q : Phase) → (reads_masked l m c && is_above u q) ≡ false → UsesStand c us q → UsesStand (invalidated l m c) us q
+without-uses : (l m u : ℕ) (c : Cache) (us : Uses) (q : Phase) → (reads_masked l m c && may_be_above u q) ≡ false → UsesStand c us q → UsesStand (invalidated l m c) us q
 without-uses l m u c us Running n h = missed-all l m c us (above-reads (reads_masked l m c) true refl n) h
 without-uses l m u c us AwaitTid n h = missed-all l m c us (above-reads (reads_masked l m c) true refl n) h
 without-uses l m u c us (Overflowing None) n h = missed-all l m c us (above-reads (reads_masked l m c) true refl n) h
@@ -318,8 +318,8 @@ without-used : (l m : ℕ) (c : Cache) (us : Uses) → OnlyUsed c us → OnlyUse
 without-used l m c us h = fewer-used c (invalidated l m c) us (λ v i. sym (read-invalidated l m c v) ∙ i) h
 
 -- a core that isn't violated
-without-fit : (sh : Shape) (l m u : ℕ) (s : CoreState) (us : Uses) → is_violated l m u s ≡ false → MarksFit sh s us → MarksFit sh (without l m s) us
-unfolding without is_violated
+without-fit : (sh : Shape) (l m u : ℕ) (s : CoreState) (us : Uses) → is_violated l m u s ≡ false → MarksFit sh s us → MarksFit sh (words_invalidated l m s) us
+unfolding words_invalidated is_violated
 without-fit sh l m u s us n k = record { stand = without-uses l m u s.cache us s.phase n k.stand; used = without-used l m s.cache us k.used; awaits = λ i. staled-none l s.awaited (k.awaits i); owes = k.owes }
 
 -- one that is: it begins anew, or had no attempt
@@ -327,15 +327,15 @@ rolled-fit : (sh : Shape) (s : CoreState) (q : Phase) (sp : ℕ → Option ℕ) 
 unfolding roll_back
 rolled-fit sh s q sp f n = record { stand = f; used = none-used (rolled_back s.cache) (read-rolled_back s.cache); awaits = n; owes = λ d h. absurd (cc) }
 
-violated-fit : (sh : Shape) (l m : ℕ) (s : CoreState) (us : Uses) (q : Phase) → s.phase ≡ q → MarksFit sh s us → MarksFit sh (violated_in sh (without l m s) q).core (uses_violated true q us)
-unfolding without roll_back none_spilled
-violated-fit sh l m s us Running e k = rolled-fit sh (without l m s) s.phase s.spilled (subst (λ (x : Phase). UsesStand (rolled_back (invalidated l m s.cache)) [] x) (sym e) tt) (λ i. absurd (let j = ap awaits_in e in cc))
-violated-fit sh l m s us AwaitTid e k = rolled-fit sh (without l m s) DoomedTid s.spilled refl (λ i. staled-none l s.awaited (k.awaits (ap awaits_in e)))
-violated-fit sh l m s us (Overflowing None) e k = rolled-fit sh (without l m s) DoomedTid s.spilled refl (λ i. staled-none l s.awaited (k.awaits (ap awaits_in e)))
-violated-fit sh l m s us (Probing t) e k = rolled-fit sh (without l m s) Running s.spilled tt (λ i. absurd (cc))
-violated-fit sh l m s us (Ready t) e k = rolled-fit sh (without l m s) Running s.spilled tt (λ i. absurd (cc))
-violated-fit sh l m s us (Overflowing (Some t)) e k = rolled-fit sh (without l m s) Running none_spilled tt (λ i. absurd (cc))
-violated-fit sh l m s us (Solo t) e k = rolled-fit sh (without l m s) Running none_spilled tt (λ i. absurd (cc))
+violated-fit : (sh : Shape) (l m : ℕ) (s : CoreState) (us : Uses) (q : Phase) → s.phase ≡ q → MarksFit sh s us → MarksFit sh (violated_in_phase sh (words_invalidated l m s) q).core (uses_violated true q us)
+unfolding words_invalidated roll_back none_spilled
+violated-fit sh l m s us Running e k = rolled-fit sh (words_invalidated l m s) s.phase s.spilled (subst (λ (x : Phase). UsesStand (rolled_back (invalidated l m s.cache)) [] x) (sym e) tt) (λ i. absurd (let j = ap awaits_in e in cc))
+violated-fit sh l m s us AwaitTid e k = rolled-fit sh (words_invalidated l m s) DoomedTid s.spilled refl (λ i. staled-none l s.awaited (k.awaits (ap awaits_in e)))
+violated-fit sh l m s us (Overflowing None) e k = rolled-fit sh (words_invalidated l m s) DoomedTid s.spilled refl (λ i. staled-none l s.awaited (k.awaits (ap awaits_in e)))
+violated-fit sh l m s us (Probing t) e k = rolled-fit sh (words_invalidated l m s) Running s.spilled tt (λ i. absurd (cc))
+violated-fit sh l m s us (Ready t) e k = rolled-fit sh (words_invalidated l m s) Running s.spilled tt (λ i. absurd (cc))
+violated-fit sh l m s us (Overflowing (Some t)) e k = rolled-fit sh (words_invalidated l m s) Running none_spilled tt (λ i. absurd (cc))
+violated-fit sh l m s us (Solo t) e k = rolled-fit sh (words_invalidated l m s) Running none_spilled tt (λ i. absurd (cc))
 violated-fit sh l m s us DoomedTid e k = record {
   stand = subst (λ (x : Phase). UsesStand (invalidated l m s.cache) us x) (sym e) (stand-in s us DoomedTid e k.stand);
   used = without-used l m s.cache us k.used;
@@ -349,19 +349,21 @@ violated-fit sh l m s us Halted e k = record {
   owes = k.owes;
 }
 
-kept_phase : (sh : Shape) (l m : ℕ) (s : CoreState) → (without l m s).phase ≡ s.phase
-unfolding without
+kept_phase : (sh : Shape) (l m : ℕ) (s : CoreState) → (words_invalidated l m s).phase ≡ s.phase
+unfolding words_invalidated
 kept_phase sh l m s = refl
 
-if_violated-fit : (sh : Shape) (l m u : ℕ) (s : CoreState) (us : Uses) (b : Bool) → is_violated l m u s ≡ b → MarksFit sh s us → MarksFit sh (if_violated sh b (without l m s)).core (uses_violated b s.phase us)
+if_violated-fit : (sh : Shape) (l m u : ℕ) (s : CoreState) (us : Uses) (b : Bool) → is_violated l m u s ≡ b → MarksFit sh s us → MarksFit sh (if_violated sh b (words_invalidated l m s)).core (uses_violated b s.phase us)
 unfolding if_violated
 if_violated-fit sh l m u s us true e k = violated_here
   where
-    violated_here : MarksFit sh (violated_in sh (without l m s) (without l m s).phase).core (uses_violated true s.phase us)
-    violated_here = without_phase (without l m s).phase (kept_phase sh l m s)
+    violated_here : MarksFit sh (violated_in_phase sh (words_invalidated l m s) (words_invalidated l m s).phase).core
+      (uses_violated true s.phase us)
+    violated_here = without_phase (words_invalidated l m s).phase (kept_phase sh l m s)
       where
-        without_phase : (q : Phase) → q ≡ s.phase → MarksFit sh (violated_in sh (without l m s) q).core (uses_violated true s.phase us)
-        without_phase q i = subst (λ (x : Phase). MarksFit sh (violated_in sh (without l m s) x).core (uses_violated true s.phase us)) (sym i) (violated-fit sh l m s us s.phase refl k)
+        without_phase : (q : Phase) → q ≡ s.phase →
+            MarksFit sh (violated_in_phase sh (words_invalidated l m s) q).core (uses_violated true s.phase us)
+        without_phase q i = subst (λ (x : Phase). MarksFit sh (violated_in_phase sh (words_invalidated l m s) x).core (uses_violated true s.phase us)) (sym i) (violated-fit sh l m s us s.phase refl k)
 if_violated-fit sh l m u s us false e k = without-fit sh l m u s us e k
 
 invalidate-fit : (sh : Shape) (l m u : ℕ) (s : CoreState) (us : Uses) → MarksFit sh s us → MarksFit sh (invalidate sh l m u s).core (uses_violated (is_violated l m u s) s.phase us)

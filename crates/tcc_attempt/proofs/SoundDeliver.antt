@@ -18,7 +18,7 @@ use Rattle.tcc_rules.specs.Sends.{nothing, to, marks_for, written_back}
 use Rattle.tcc_rules.specs.Attempt.{Out, moves, is_solo, roll_back}
 use Rattle.tcc_rules.specs.CoreExec.{core_exec}
 use Rattle.tcc_rules.specs.CoreEvict.{is_awaited, evict_line, core_evict}
-use Rattle.tcc_rules.specs.CoreDeliver.{ignored, grant_phase, grant, probing, is_probed, replied, all_replied, when_ready, when_alone, reply_phase, probe_reply, fill_awaited, fill, data_request, violated_in, if_violated, staled, without, is_violated, acknowledged, invalidate, from_dir, from_vendor, core_deliver}
+use Rattle.tcc_rules.specs.CoreDeliver.{ignored, grant_in_phase, grant, probing_or_ready, is_probed, replied, all_replied, ready_once_replied, solo_once_replied, reply_in_phase, probe_reply, fill_awaited, fill, data_request, violated_in_phase, if_violated, staled, words_invalidated, is_violated, acknowledged, invalidate, from_dir, from_vendor, core_deliver}
 use Rattle.tcc_rules.specs.DirDeliver.{Answer, Waits, Drops, Asks, Takes, dir_deliver}
 use Rattle.tcc_rules.specs.VendorDeliver.{Granted, vendor_deliver}
 use Rattle.tcc_rules.specs.Step.{Stepped, History, core_moves, core_takes, dir_takes, dir_asks, vendor_gives, moved, taken, answered, granted, delivered, if_in_flight, names_nodes, happens, step, recorded, and_noted, next, and_then, run_from, run}
@@ -100,12 +100,12 @@ core_evict-sound sh x y s k = evict_line-sound sh x y s (s.cache.at x y) refl k
 rephased : (sh : Shape) (s : CoreState) (q : Phase) (owing : ℕ → Bool) → is_idle q ≡ false → is_solo s.phase ≡ false → SoundCore sh s → SoundCore sh (record s { owing = owing; phase = q })
 rephased sh s q owing m h k = record { cache = k.cache; awaits = k.awaits; alone = λ i. k.alone h; apart = k.apart; unmarked = λ i w. absurd (cc) }
 
-probing-idle : (b : Bool) (t : ℕ) → is_idle (probing b t) ≡ false
+probing-idle : (b : Bool) (t : ℕ) → is_idle (probing_or_ready b t) ≡ false
 probing-idle true t = refl
 probing-idle false t = refl
 
-grant_phase-sound : (sh : Shape) (t : ℕ) (s : CoreState) (q : Phase) → s.phase ≡ q → SoundCore sh s → SoundCore sh (grant_phase sh t s q).core
-grant_phase-sound sh t s AwaitTid e k = rephased sh s (probing (any_below (is_probed sh s.cache) sh.dirs) t) (is_probed sh s.cache) (probing-idle (any_below (is_probed sh s.cache) sh.dirs) t) (ap is_solo e) k
+grant_phase-sound : (sh : Shape) (t : ℕ) (s : CoreState) (q : Phase) → s.phase ≡ q → SoundCore sh s → SoundCore sh (grant_in_phase sh t s q).core
+grant_phase-sound sh t s AwaitTid e k = rephased sh s (probing_or_ready (any_below (is_probed sh s.cache) sh.dirs) t) (is_probed sh s.cache) (probing-idle (any_below (is_probed sh s.cache) sh.dirs) t) (ap is_solo e) k
 grant_phase-sound sh t s DoomedTid e k = rephased sh s Running s.owing refl (ap is_solo e) k
 grant_phase-sound sh t s (Overflowing None) e k = rephased sh s (Overflowing (Some t)) (λ d. nat_lt d sh.dirs) refl (ap is_solo e) k
 grant_phase-sound sh t s (Overflowing (Some u)) e k = k
@@ -136,15 +136,16 @@ alone-sound sh t s true h k = record {
 }
 alone-sound sh t s false h k = k
 
-reply_phase-sound : (sh : Shape) (d t : ℕ) (s : CoreState) (q : Phase) → s.phase ≡ q → SoundCore sh s → SoundCore sh (reply_phase sh d t s q).core
+reply_phase-sound : (sh : Shape) (d t : ℕ) (s : CoreState) (q : Phase) → s.phase ≡ q → SoundCore sh s → SoundCore sh (reply_in_phase sh d t s q).core
 reply_phase-sound sh d t s (Probing u) e k = at (u == t && s.owing d)
   where
-    at : (b : Bool) → SoundCore sh (cond b (moves (when_ready sh t (replied d s)) (to (Dir d) (marks_for sh s.cache t d))) (ignored s)).core
+    at : (b : Bool) →
+        SoundCore sh (cond b (moves (ready_once_replied sh t (replied d s)) (to (Dir d) (marks_for sh s.cache t d))) (ignored s)).core
     at true = ready-sound sh t (replied d s) (all_replied sh (replied d s).owing) (ap is_solo e) (replied-sound sh d s k)
     at false = k
 reply_phase-sound sh d t s (Overflowing (Some u)) e k = at (u == t && s.owing d)
   where
-    at : (b : Bool) → SoundCore sh (cond b (moves (when_alone sh t (replied d s)) nothing) (ignored s)).core
+    at : (b : Bool) → SoundCore sh (cond b (moves (solo_once_replied sh t (replied d s)) nothing) (ignored s)).core
     at true = alone-sound sh t (replied d s) (all_replied sh (replied d s).owing) (ap is_solo e) (replied-sound sh d s k)
     at false = k
 reply_phase-sound sh d t s (Overflowing None) e k = k
@@ -201,8 +202,8 @@ staled-awaits : (l m : ℕ) (c : Cache) (o : Option Awaited) → AwaitsHeld c o 
 staled-awaits l m c None h = tt
 staled-awaits l m c (Some a) h = held-invalidated l m c a.line ∙ h
 
-pub without-sound : (sh : Shape) (l m : ℕ) (s : CoreState) → SoundCore sh s → SoundCore sh (without l m s)
-unfolding without
+pub without-sound : (sh : Shape) (l m : ℕ) (s : CoreState) → SoundCore sh s → SoundCore sh (words_invalidated l m s)
+unfolding words_invalidated
 without-sound sh l m s k = record {
   cache = invalidated-keeps sh l m s.cache k.cache;
   awaits = staled-awaits l m s.cache s.awaited k.awaits;
@@ -222,7 +223,7 @@ rolled-sound sh s q sp f k = record {
   unmarked = λ i w. (read-rolled_back s.cache w, modified-rolled_back s.cache w);
 }
 
-violated-sound : (sh : Shape) (s : CoreState) (q : Phase) → s.phase ≡ q → SoundCore sh s → SoundCore sh (violated_in sh s q).core
+violated-sound : (sh : Shape) (s : CoreState) (q : Phase) → s.phase ≡ q → SoundCore sh s → SoundCore sh (violated_in_phase sh s q).core
 unfolding roll_back none_spilled
 violated-sound sh s Running e k = rolled-sound sh s s.phase s.spilled (k.alone (ap is_solo e)) k
 violated-sound sh s AwaitTid e k = rolled-sound sh s DoomedTid s.spilled (k.alone (ap is_solo e)) k
@@ -241,7 +242,7 @@ if_violated-sound sh false s k = k
 
 invalidate-sound : (sh : Shape) (l m u : ℕ) (s : CoreState) → SoundCore sh s → SoundCore sh (invalidate sh l m u s).core
 unfolding invalidate acknowledged
-invalidate-sound sh l m u s k = if_violated-sound sh (is_violated l m u s) (without l m s) (without-sound sh l m s k)
+invalidate-sound sh l m u s k = if_violated-sound sh (is_violated l m u s) (words_invalidated l m s) (without-sound sh l m s k)
 
 from_dir-sound : (sh : Shape) (d : ℕ) (s : CoreState) (m : Msg) → SoundCore sh s → OutSound sh (from_dir sh d s m)
 from_dir-sound sh d s (ProbeReply t serving) k = reply-sound sh d t s k

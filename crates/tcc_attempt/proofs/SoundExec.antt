@@ -16,7 +16,7 @@ use Rattle.tcc_rules.specs.Sends.{nothing, flushed}
 use Rattle.tcc_rules.specs.Attempt.{Out, moves, is_solo, is_running, finished, new_word}
 use Rattle.tcc_rules.specs.Commit.{committed_core, commit, solo_commit}
 use Rattle.tcc_rules.specs.Execute.{place, full_set, with_read_mark, load_valid, load_spilled, load, stored_in_buffer, stored_in_frame, word_store, marks_read, change_valid, change_spilled, partial_store, end_transaction, store_by_size, execute_need, execute}
-use Rattle.tcc_rules.specs.CoreExec.{unless_awaiting, exec_phase, core_exec}
+use Rattle.tcc_rules.specs.CoreExec.{unless_awaiting, exec_in_phase, core_exec}
 use Rattle.tcc_attempt.specs.Sound.{AwaitsHeld, is_idle, SoundCore}
 use Rattle.tcc_attempt.proofs.Sound.{finished-sound, holds-none, valid-held, MayAct, OutSound, used-sound, buffered-sound, framed-sound, fetch-sound, full_set-sound, place-sound, place-held}
 
@@ -152,7 +152,7 @@ unless-sound : (sh : Shape) (p : Program) (id : ℕ) (s : CoreState) (o : Option
 unless-sound sh p id s (Some a) m k = tt
 unless-sound sh p id s None m k = execute-sound sh p id s m k
 
-phase-sound : (sh : Shape) (p : Program) (id : ℕ) (s : CoreState) (q : Phase) → s.phase ≡ q → SoundCore sh s → OutSound sh (exec_phase sh p id s q)
+phase-sound : (sh : Shape) (p : Program) (id : ℕ) (s : CoreState) (q : Phase) → s.phase ≡ q → SoundCore sh s → OutSound sh (exec_in_phase sh p id s q)
 phase-sound sh p id s Running e k = unless-sound sh p id s s.awaited (ap is_idle e) k
 phase-sound sh p id s (Solo t) e k = unless-sound sh p id s s.awaited (ap is_idle e) k
 phase-sound sh p id s (Ready t) e k = commit-sound sh id t s (ap is_solo e) k

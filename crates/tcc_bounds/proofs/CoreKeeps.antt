@@ -14,9 +14,9 @@ use Rattle.tcc_maps.specs.Spilled.{Spilled, holds, spilled_mask, spilled_words}
 use Rattle.tcc_rules.specs.State.{CoreState, Awaited, Phase, Running, AwaitTid, DoomedTid, Probing, Ready, Overflowing, Solo}
 use Rattle.tcc_rules.specs.Attempt.{Out, moves, is_solo, new_word, finished}
 use Rattle.tcc_rules.specs.Commit.{noted, committed_core, commit_sends, commit, is_written, written_mask, solo_writes_at, solo_marks_or_skip, solo_write_backs, solo_sends, solo_commit}
-use Rattle.tcc_rules.specs.CoreDeliver.{grant_sends, grant_phase, grant, replied, all_replied, when_ready, when_alone, reply_phase, probe_reply, fill_awaited, fill, data_request, violated_in, if_violated, is_violated, without, acknowledged, invalidate, from_dir, ignored}
+use Rattle.tcc_rules.specs.CoreDeliver.{grant_sends, grant_in_phase, grant, replied, all_replied, ready_once_replied, solo_once_replied, reply_in_phase, probe_reply, fill_awaited, fill, data_request, violated_in_phase, if_violated, is_violated, words_invalidated, acknowledged, invalidate, from_dir, ignored}
 use Rattle.tcc_rules.specs.CoreEvict.{is_awaited, evict_line, core_evict}
-use Rattle.tcc_rules.specs.CoreExec.{unless_awaiting, exec_phase, core_exec}
+use Rattle.tcc_rules.specs.CoreExec.{unless_awaiting, exec_in_phase, core_exec}
 use Rattle.tcc_rules.specs.Execute.{request_line, place, overflow, full_set, miss, with_read_mark, load_valid, load_spilled, load, stored_in_buffer, stored_in_frame, word_store, marks_read, change_valid, change_spilled, partial_store, end_transaction, execute_need, execute}
 use Rattle.tcc_rules.specs.Sends.{Sends, nothing, to, when, write_back, flush, written_back, flushed, skip_all, probe_all, abort_written, marks_for}
 use Rattle.tcc_serial.specs.InMemory.{NeedInMemory, WordInMemory}
@@ -256,7 +256,7 @@ exec-keeps sh n p id s i k = go s.phase
     awaiting (Some x) = tt
     awaiting None = needs sh n p id s (p.need s.local) i k
 
-    go : (q : Phase) → IfSome (exec_phase sh p id s q) (Keeps sh n)
+    go : (q : Phase) → IfSome (exec_in_phase sh p id s q) (Keeps sh n)
     go Running = awaiting s.awaited
     go (Solo t) = awaiting s.awaited
     go (Ready t) = record {
@@ -287,7 +287,7 @@ pub grant-keeps : (sh : Shape) (n t : ℕ) (s : CoreState) → AttemptCounted n 
 unfolding grant
 grant-keeps sh n t s k = go s.phase
   where
-    go : (q : Phase) → Keeps sh n (grant_phase sh t s q)
+    go : (q : Phase) → Keeps sh n (grant_in_phase sh t s q)
     go AwaitTid = still sh _ n _ _ (grants sh s.cache t) k
     go DoomedTid = still sh _ n _ _ (skips sh (most_sent sh) t (some sh)) k
     go (Overflowing None) = still sh _ n _ _ (probes sh t) k
@@ -301,14 +301,14 @@ reply sh n d t s k = go s.phase
     one true x y f g = f
     one false x y f g = g
 
-    go : (q : Phase) → Keeps sh n (reply_phase sh d t s q)
+    go : (q : Phase) → Keeps sh n (reply_in_phase sh d t s q)
     go (Probing u) = either sh _ n (u == t && s.owing d) _ (ignored s)
-        (still sh _ n (when_ready sh t (replied d s)) _ (to-inside sh _ (Dir d) _
+        (still sh _ n (ready_once_replied sh t (replied d s)) _ (to-inside sh _ (Dir d) _
         (wider sh (lines sh) (most_sent sh) _ (omega arith) (marks sh _ (modified_mask s.cache) t)))
         (one (all_replied sh (replied d s).owing) _ _ k k))
         (ignores sh _ n s k)
     go (Overflowing (Some u)) = either sh _ n (u == t && s.owing d) _ (ignored s)
-        (still sh _ n (when_alone sh t (replied d s)) _ (nothing-inside sh _) (one (all_replied sh (replied d s).owing) _ _ k k))
+        (still sh _ n (solo_once_replied sh t (replied d s)) _ (nothing-inside sh _) (one (all_replied sh (replied d s).owing) _ _ k k))
         (ignores sh _ n s k)
     go _ = ignores sh _ n s k
 
@@ -326,7 +326,7 @@ unfolding if_violated
 violated sh n s false k = ignores sh 1 n s k
 violated sh n s true k = go s.phase
   where
-    go : (q : Phase) → CoreKeeps sh 1 n (violated_in sh s q)
+    go : (q : Phase) → CoreKeeps sh 1 n (violated_in_phase sh s q)
     go Running = steps sh 1 n _ _ (nothing-inside sh 1) (rolled (n + 1) s)
     go AwaitTid = steps sh 1 n _ _ (nothing-inside sh 1) (rolled (n + 1) s)
     go (Overflowing None) = steps sh 1 n _ _ (nothing-inside sh 1) (rolled (n + 1) s)
@@ -337,9 +337,9 @@ violated sh n s true k = go s.phase
     go _ = ignores sh 1 n s k
 
 invalidates : (sh : Shape) (n l m u : ℕ) (s : CoreState) → l < lines sh → AttemptCounted n s → Keeps sh n (invalidate sh l m u s)
-unfolding invalidate acknowledged without is_inside
+unfolding invalidate acknowledged words_invalidated is_inside
 invalidates sh n l m u s i k =
-    let v = violated sh n (without l m s) (is_violated l m u s) k in
+    let v = violated sh n (words_invalidated l m s) (is_violated l m u s) k in
     record {
       sends = λ dst. wider sh 2 (most_sent sh) _ (omega arith) (then-inside sh 1 1 _ _ v.sends
           (to-inside sh 1 (Dir (home sh l)) _ (one-message sh 1 (InvAck l _) (omega arith) (below sh l i))) dst);

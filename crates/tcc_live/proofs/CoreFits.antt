@@ -13,9 +13,9 @@ use Rattle.tcc_maps.specs.Spilled.{Spilled, holds, spilled_mask, spilled_words}
 use Rattle.tcc_rules.specs.State.{CoreState, Awaited, Phase, Running, AwaitTid, DoomedTid, Probing, Ready, Overflowing, Solo}
 use Rattle.tcc_rules.specs.Attempt.{Out, is_solo, finished}
 use Rattle.tcc_rules.specs.Commit.{commit_sends, commit, is_written, written_mask, solo_writes_at, solo_marks_or_skip, solo_write_backs, solo_sends, solo_commit}
-use Rattle.tcc_rules.specs.CoreDeliver.{grant_sends, grant_phase, grant, reply_phase, probe_reply, fill_awaited, fill, data_request, violated_in, if_violated, is_violated, without, acknowledged, invalidate, from_dir, ignored}
+use Rattle.tcc_rules.specs.CoreDeliver.{grant_sends, grant_in_phase, grant, reply_in_phase, probe_reply, fill_awaited, fill, data_request, violated_in_phase, if_violated, is_violated, words_invalidated, acknowledged, invalidate, from_dir, ignored}
 use Rattle.tcc_rules.specs.CoreEvict.{is_awaited, evict_line, core_evict}
-use Rattle.tcc_rules.specs.CoreExec.{unless_awaiting, exec_phase, core_exec}
+use Rattle.tcc_rules.specs.CoreExec.{unless_awaiting, exec_in_phase, core_exec}
 use Rattle.tcc_rules.specs.Execute.{request_line, place, overflow, full_set, miss, load_valid, load_spilled, load, word_store, change_valid, change_spilled, partial_store, end_transaction, execute_need, execute}
 use Rattle.tcc_rules.specs.Sends.{to, when, write_back, flush, written_back, flushed, skip_all, probe_all, abort_written, marks_for}
 use Rattle.tcc_live.proofs.Strays.{strays, AllFit, strays-append, strays-none, strays-flat, strays-when, out_fits, ask_fits, fit-nothing, fit-then, fit-to, fit-dirs}
@@ -229,7 +229,7 @@ fit-exec sh p c s k = go s.phase
     awaiting (Some x) = tt
     awaiting None = needs sh p c s (p.need s.local) k
 
-    go : (q : Phase) → IfSome (exec_phase sh p c s q) (Fit sh c)
+    go : (q : Phase) → IfSome (exec_in_phase sh p c s q) (Fit sh c)
     go Running = awaiting s.awaited
     go (Solo t) = awaiting s.awaited
     go (Ready t) = commits sh c s.cache t k
@@ -255,7 +255,7 @@ pub fit-grant : (sh : Shape) (c t : ℕ) (s : CoreState) → IsCore sh c → Fit
 unfolding grant
 fit-grant sh c t s k = go s.phase
   where
-    go : (q : Phase) → Fit sh c (grant_phase sh t s q)
+    go : (q : Phase) → Fit sh c (grant_in_phase sh t s q)
     go AwaitTid = grants sh c s.cache t k
     go DoomedTid = skips sh c t k
     go (Overflowing None) = probes sh c t k
@@ -270,7 +270,7 @@ reply : (sh : Shape) (c d t : ℕ) (s : CoreState) → IsCore sh c → d < sh.di
 unfolding probe_reply marks_for
 reply sh c d t s k i = go s.phase
   where
-    go : (q : Phase) → Fit sh c (reply_phase sh d t s q)
+    go : (q : Phase) → Fit sh c (reply_in_phase sh d t s q)
     go (Probing u) = either sh c (u == t && s.owing d) _ (ignored s)
         (fit-to sh (Core c) (Dir d) (marks_for sh s.cache t d) (marks sh c d t (modified_mask s.cache) (written_lines sh s.cache d) k i))
         (fit-nothing sh (Core c))
@@ -290,7 +290,7 @@ unfolding if_violated
 violated sh c s false k = fit-nothing sh (Core c)
 violated sh c s true k = go s.phase
   where
-    go : (q : Phase) → Fit sh c (violated_in sh s q)
+    go : (q : Phase) → Fit sh c (violated_in_phase sh s q)
     go (Probing t) = aborts sh c s.cache t k
     go (Ready t) = aborts sh c s.cache t k
     go (Overflowing (Some t)) = skips sh c t k
@@ -299,7 +299,7 @@ violated sh c s true k = go s.phase
 
 invalidates : (sh : Shape) (c l m u : ℕ) (s : CoreState) → IsCore sh c → Fit sh c (invalidate sh l m u s)
 unfolding invalidate acknowledged
-invalidates sh c l m u s k = fit-then sh (Core c) _ _ (violated sh c (without l m s) (is_violated l m u s) k)
+invalidates sh c l m u s k = fit-then sh (Core c) _ _ (violated sh c (words_invalidated l m s) (is_violated l m u s) k)
     (at_home sh c l _ k (λ d i. out_fits sh c d (InvAck l _) k.core i refl))
 
 pub fit-back : (sh : Shape) (c d : ℕ) (s : CoreState) (m : Msg) → IsCore sh c → d < sh.dirs → IfSome (from_dir sh d s m) (Fit sh c)

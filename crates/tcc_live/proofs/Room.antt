@@ -13,7 +13,7 @@ use Rattle.tcc_maps.proofs.Lemmas.{LowestIs, lowest-is}
 use Rattle.tcc_rules.specs.State.{CoreState, Awaited, Phase, Running, Solo, World}
 use Rattle.tcc_rules.specs.Attempt.{is_solo}
 use Rattle.tcc_rules.specs.CoreEvict.{core_evict}
-use Rattle.tcc_rules.specs.CoreExec.{unless_awaiting, exec_phase, core_exec}
+use Rattle.tcc_rules.specs.CoreExec.{unless_awaiting, exec_in_phase, core_exec}
 use Rattle.tcc_rules.specs.Execute.{full_set, miss, load, word_store, change_valid, partial_store, execute_need, execute}
 use Rattle.tcc_rules.specs.Useful.{room_for_line, room_for_word, room_for_store, room_for_need, room_unless_awaiting, room_in_phase, room}
 use Rattle.tcc_serial.specs.OneCore.{executes}
@@ -126,7 +126,7 @@ exec-or sh p c s x a = in_phase s.phase x
     awaiting None e = need-or sh p c s (p.need s.local)
     awaiting (Some y) e = absurd (cc)
 
-    in_phase : (q : Phase) → executes q ≡ true → (is_some (exec_phase sh p c s q) ≡ true) ⊎ WantsSome sh s (room_in_phase sh p s q)
+    in_phase : (q : Phase) → executes q ≡ true → (is_some (exec_in_phase sh p c s q) ≡ true) ⊎ WantsSome sh s (room_in_phase sh p s q)
     in_phase Running e = awaiting s.awaited a
     in_phase (Solo t) e = awaiting s.awaited a
     in_phase q e = absurd (cc)

@@ -17,7 +17,7 @@ use Rattle.tcc_rules.specs.Attempt.{one_more_instruction, finished, roll_back}
 use Rattle.tcc_rules.specs.Commit.{noted, committed_core, commit_sends, with_last_commit, commit as commit-commit, is_written, written_mask}
 use Rattle.tcc_rules.specs.Commit.{solo_writes_at, solo_marks_or_skip, solo_write_backs, solo_sends, solo_commit}
 use Rattle.tcc_rules.specs.CoreDeliver.{is_probed, grant_sends, grant, probe_reply, fill as coredeliver-fill, data_request, if_violated}
-use Rattle.tcc_rules.specs.CoreDeliver.{without, is_violated, acknowledged, invalidate, core_deliver}
+use Rattle.tcc_rules.specs.CoreDeliver.{words_invalidated, is_violated, acknowledged, invalidate, core_deliver}
 use Rattle.tcc_rules.specs.CoreEvict.{core_evict}
 use Rattle.tcc_rules.specs.CoreExec.{core_exec}
 use Rattle.tcc_rules.specs.DirDeliver.{moved_on, skip, abort, probe, ask_owner, line_words, load_request, mark, is_invalidated, invs_to}
@@ -44,7 +44,7 @@ unfolding empty_cache is_marked way_marked free_way all_marked is_modified is_di
     unit_of part patched loaded ram-stored flat one_more_instruction finished roll_back noted committed_core commit_sends with_last_commit
     commit-commit is_written written_mask solo_writes_at solo_marks_or_skip solo_write_backs solo_sends solo_commit is_probed grant_sends
       grant
-    probe_reply coredeliver-fill data_request if_violated without is_violated acknowledged invalidate core_deliver core_evict
+    probe_reply coredeliver-fill data_request if_violated words_invalidated is_violated acknowledged invalidate core_deliver core_evict
     core_exec moved_on skip abort probe ask_owner line_words load_request mark is_invalidated invs_to invalidations total owed_by
     owned settled dirdeliver-commit acknowledgement came_home dirdeliver-write_back dir_deliver request_line place overflow full_set miss
     with_read_mark load stored_in_buffer stored_in_frame word_store partial_store execute sent_all written_back flushed skip_all probe_all

@@ -53,13 +53,14 @@ unfoldable pub use Rattle.tcc_rules.specs.Attempt.{finished, one_more_instructio
 unfoldable pub use Rattle.tcc_rules.specs.Commit.{commit, committed_core, noted, solo_sends, is_written, commit_sends, solo_writes_at}
 unfoldable pub use Rattle.tcc_rules.specs.Commit.{written_mask, solo_commit, solo_write_backs, solo_marks_or_skip, with_last_commit}
 pub use Rattle.tcc_rules.specs.Commit.{phase_after_commit, ended_after_commit}
-pub use Rattle.tcc_rules.specs.CoreDeliver.{from_dir, grant_phase, ignored, all_replied, replied, reply_phase, violated_in, when_alone}
-pub use Rattle.tcc_rules.specs.CoreDeliver.{when_ready, fill_awaited, probing, staled, is_above}
+pub use Rattle.tcc_rules.specs.CoreDeliver.{from_dir, grant_in_phase, ignored, all_replied, replied, reply_in_phase, violated_in_phase}
+pub use Rattle.tcc_rules.specs.CoreDeliver.{solo_once_replied}
+pub use Rattle.tcc_rules.specs.CoreDeliver.{ready_once_replied, fill_awaited, probing_or_ready, staled, may_be_above}
 unfoldable pub use Rattle.tcc_rules.specs.CoreDeliver.{grant, data_request, probe_reply, fill, invalidate, is_violated, acknowledged}
-unfoldable pub use Rattle.tcc_rules.specs.CoreDeliver.{if_violated, without, grant_sends, is_probed, core_deliver}
+unfoldable pub use Rattle.tcc_rules.specs.CoreDeliver.{if_violated, words_invalidated, grant_sends, is_probed, core_deliver}
 pub use Rattle.tcc_rules.specs.CoreEvict.{is_awaited, evict_line}
 unfoldable pub use Rattle.tcc_rules.specs.CoreEvict.{core_evict}
-pub use Rattle.tcc_rules.specs.CoreExec.{exec_phase, unless_awaiting}
+pub use Rattle.tcc_rules.specs.CoreExec.{exec_in_phase, unless_awaiting}
 unfoldable pub use Rattle.tcc_rules.specs.CoreExec.{core_exec}
 pub use Rattle.tcc_rules.specs.DirDeliver.{Asks, Answer, Drops, Takes, Waits, load_owned, judged, mark_owned, marking, unless_keeps}
 unfoldable pub use Rattle.tcc_rules.specs.DirDeliver.{dir_deliver, write_back, invalidations, owed_by, owned, settled, ask_owner}

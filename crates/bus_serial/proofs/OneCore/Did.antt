@@ -17,7 +17,7 @@ use Rattle.tcc_rules.specs.Execute.{request_line, place, overflow, full_set, mis
 use Rattle.tcc_rules.specs.Execute.{stored_in_buffer, stored_in_frame}
 use Rattle.tcc_rules.specs.Execute.{word_store, marks_read, change_valid, change_spilled, partial_store, end_transaction, execute_need}
 use Rattle.tcc_rules.specs.Execute.{execute}
-use Rattle.tcc_rules.specs.CoreExec.{unless_awaiting, exec_phase, core_exec}
+use Rattle.tcc_rules.specs.CoreExec.{unless_awaiting, exec_in_phase, core_exec}
 use Rattle.tcc_rules.specs.Sends.{Sends, nothing, flushed}
 use Rattle.tcc_bounds.specs.Bounds.{AttemptCounted}
 use Rattle.tcc_bounds.proofs.Lemmas.{finishes, marked_read, weak}
@@ -353,7 +353,7 @@ exec-executed sh M p id s m a g = go s.phase refl g
     awaiting (Some x) e g = absurd (cc)
 
     go : (q : Phase) → s.phase ≡ q → (q ≡ Running) ⊎ ((is_solo q && goes (p.need s.local)) ≡ true)
-        → IfSome (exec_phase sh p id s q) (Executed M (wanted sh.base (p.need s.local)) s)
+        → IfSome (exec_in_phase sh p id s q) (Executed M (wanted sh.base (p.need s.local)) s)
     go Running e g = awaiting s.awaited a (inl e)
     go (Solo t) e (inl h) = absurd (cc)
     go (Solo t) e (inr h) = awaiting s.awaited a (inr h)

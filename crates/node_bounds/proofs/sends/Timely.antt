@@ -15,7 +15,7 @@ use Rattle.tcc_rules.specs.Attempt.{Out}
 use Rattle.tcc_rules.specs.Commit.{commit, commit_sends, is_written, written_mask, solo_commit, solo_marks_or_skip, solo_write_backs}
 use Rattle.tcc_rules.specs.Commit.{solo_sends}
 use Rattle.tcc_rules.specs.Commit.{solo_writes_at}
-use Rattle.tcc_rules.specs.CoreDeliver.{grant, grant_phase, grant_sends, from_dir, probe_reply, fill, data_request, invalidate}
+use Rattle.tcc_rules.specs.CoreDeliver.{grant, grant_in_phase, grant_sends, from_dir, probe_reply, fill, data_request, invalidate}
 use Rattle.tcc_rules.specs.CoreEvict.{core_evict}
 use Rattle.tcc_rules.specs.CoreExec.{core_exec}
 use Rattle.tcc_rules.specs.Sends.{Sends, nothing, to, when, skip_all, probe_all, abort_written, marks_for}
@@ -156,7 +156,7 @@ pub grant-timely : (sh : Shape) (t : ℕ) (s : CoreState) → IsTid t → AllTim
 unfolding grant
 grant-timely sh t s g = go s.phase
   where
-    go : (q : Phase) → AllTimely (grant_phase sh t s q).sends
+    go : (q : Phase) → AllTimely (grant_in_phase sh t s q).sends
     go AwaitTid = grants sh s.cache t g
     go DoomedTid = skips sh t g
     go (Overflowing None) = probes sh t g

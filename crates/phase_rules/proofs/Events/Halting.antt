@@ -8,7 +8,7 @@ use Rattle.tcc_maps.specs.Shape.{Shape}
 use Rattle.tcc_rules.specs.State.{CoreState, Phase, Halted, World}
 use Rattle.tcc_rules.specs.Attempt.{Out}
 use Rattle.tcc_rules.specs.CoreDeliver.{core_deliver, grant, probe_reply, fill, data_request, invalidate, acknowledged, if_violated}
-use Rattle.tcc_rules.specs.CoreDeliver.{without}
+use Rattle.tcc_rules.specs.CoreDeliver.{words_invalidated}
 use Rattle.tcc_rules.specs.CoreEvict.{core_evict}
 use Rattle.tcc_rules.specs.CoreExec.{core_exec}
 use Rattle.tcc_rules.specs.DirDeliver.{Answer, Waits, Drops, Asks, Takes, dir_deliver}
@@ -31,7 +31,7 @@ unfolding core_evict
 evict-halted sh x y s e = grind (arith, nat_tests)
 
 deliver-halted : (sh : Shape) (s : CoreState) (n : Node) (m : Msg) → s.phase ≡ Halted → phase_in (core_deliver sh s n m) ≡ Halted
-unfolding core_deliver grant probe_reply fill data_request invalidate acknowledged if_violated without
+unfolding core_deliver grant probe_reply fill data_request invalidate acknowledged if_violated words_invalidated
 deliver-halted sh s n m e = grind (arith, nat_tests)
 
 -- in the whole machine

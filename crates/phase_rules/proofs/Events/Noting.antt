@@ -13,7 +13,7 @@ use Rattle.tcc_rules.specs.Attempt.{Out, finished}
 use Rattle.tcc_rules.specs.Commit.{commit, solo_commit, noted}
 use Rattle.tcc_rules.specs.CoreDeliver.{core_deliver, grant, probe_reply, fill, data_request, invalidate, acknowledged, if_violated}
 use Rattle.tcc_rules.specs.CoreEvict.{core_evict}
-use Rattle.tcc_rules.specs.CoreExec.{core_exec, exec_phase, unless_awaiting}
+use Rattle.tcc_rules.specs.CoreExec.{core_exec, exec_in_phase, unless_awaiting}
 use Rattle.tcc_rules.specs.DirDeliver.{Answer, Waits, Drops, Asks, Takes, dir_deliver}
 use Rattle.tcc_rules.specs.Execute.{overflow, full_set, request_line, miss, load, word_store, partial_store, end_transaction, execute_need}
 use Rattle.tcc_rules.specs.Execute.{execute}
@@ -87,7 +87,7 @@ exec-notes sh p c s = go s.phase refl
     awaiting None = need (p.need s.local)
     awaiting (Some a) = tt
 
-    go : (q : Phase) → s.phase ≡ q → Notes c s.phase (commit_in (exec_phase sh p c s q))
+    go : (q : Phase) → s.phase ≡ q → Notes c s.phase (commit_in (exec_in_phase sh p c s q))
     go Running e = awaiting s.awaited
     go (Solo t) e = awaiting s.awaited
     go (Ready t) e = record { core = refl; has = rw e (grind (arith, nat_tests)) }

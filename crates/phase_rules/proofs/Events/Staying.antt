@@ -13,9 +13,9 @@ use Rattle.tcc_rules.specs.State.{Phase, Running, AwaitTid, DoomedTid, Probing, 
 use Rattle.tcc_rules.specs.Attempt.{Out, finished, roll_back, one_more_instruction}
 use Rattle.tcc_rules.specs.Commit.{commit, solo_commit}
 use Rattle.tcc_rules.specs.CoreDeliver.{core_deliver, grant, grant_sends, probe_reply, fill, data_request, invalidate, acknowledged}
-use Rattle.tcc_rules.specs.CoreDeliver.{if_violated, without}
+use Rattle.tcc_rules.specs.CoreDeliver.{if_violated, words_invalidated}
 use Rattle.tcc_rules.specs.CoreEvict.{core_evict}
-use Rattle.tcc_rules.specs.CoreExec.{core_exec, exec_phase, unless_awaiting}
+use Rattle.tcc_rules.specs.CoreExec.{core_exec, exec_in_phase, unless_awaiting}
 use Rattle.tcc_rules.specs.DirDeliver.{Answer, Waits, Drops, Asks, Takes, dir_deliver}
 use Rattle.tcc_rules.specs.Execute.{overflow, full_set, request_line, miss, place, load, with_read_mark, word_store, partial_store}
 use Rattle.tcc_rules.specs.Execute.{stored_in_buffer, stored_in_frame}
@@ -50,11 +50,12 @@ evict-asks sh x y s = grind (arith, nat_tests)
 
 deliver-halts : (sh : Shape) (s : CoreState) (n : Node) (m : Msg)
     → halted_in (has_halted s.phase) (core_deliver sh s n m) ≡ has_halted s.phase
-unfolding core_deliver grant probe_reply fill data_request invalidate acknowledged if_violated without roll_back
+unfolding core_deliver grant probe_reply fill data_request invalidate acknowledged if_violated words_invalidated roll_back
 deliver-halts sh s n m = grind (arith, nat_tests)
 
 deliver-asks : (sh : Shape) (s : CoreState) (n : Node) (m : Msg) → asked_in (core_deliver sh s n m) ≡ []
-unfolding core_deliver grant grant_sends probe_reply fill data_request invalidate acknowledged if_violated without flushed skip_all
+unfolding core_deliver grant grant_sends probe_reply fill data_request invalidate acknowledged if_violated words_invalidated flushed
+    skip_all
     probe_all abort_written
 deliver-asks sh s n m = grind (arith, nat_tests)
 
@@ -120,7 +121,7 @@ exec-goes sh p c s = go s.phase refl
     awaiting None e = need (p.need s.local) e
     awaiting (Some a) e = tt
 
-    go : (q : Phase) → s.phase ≡ q → Goes (has_halted q) (exec_phase sh p c s q)
+    go : (q : Phase) → s.phase ≡ q → Goes (has_halted q) (exec_in_phase sh p c s q)
     go Running e = awaiting s.awaited (ap has_halted e)
     go (Solo t) e = awaiting s.awaited (ap has_halted e)
     go (Ready t) e = λ n. absurd (cc)

@@ -4,8 +4,10 @@ use Rattle.tcc_serial.proofs.Names.{if◌then◌else◌, refl, Dir, Msg, Fill, P
 use Rattle.tcc_serial.proofs.Names.{invalidated, read_cleared, rolled_back, evicted, evicted_line, spill_line, CoreState, Awaited, Phase}
 use Rattle.tcc_serial.proofs.Names.{Running, AwaitTid, DoomedTid, Probing, Ready, Overflowing, Solo, Halted, nothing, to, marks_for}
 use Rattle.tcc_serial.proofs.Names.{written_back, moves, is_solo, roll_back, core_evict, evict_line, is_awaited, ignored, grant}
-use Rattle.tcc_serial.proofs.Names.{grant_phase, probe_reply, reply_phase, replied, all_replied, when_ready, when_alone, fill, fill_awaited}
-use Rattle.tcc_serial.proofs.Names.{data_request, invalidate, acknowledged, if_violated, is_violated, violated_in, without, from_dir, ◌≤◌}
+use Rattle.tcc_serial.proofs.Names.{grant_in_phase, probe_reply, reply_in_phase, replied, all_replied, ready_once_replied}
+use Rattle.tcc_serial.proofs.Names.{solo_once_replied, fill, fill_awaited}
+use Rattle.tcc_serial.proofs.Names.{data_request, invalidate, acknowledged, if_violated, is_violated, violated_in_phase, words_invalidated}
+use Rattle.tcc_serial.proofs.Names.{from_dir, ◌≤◌}
 use Rattle.tcc_serial.proofs.Names.{[], ◌++◌, arith, Program, Local, Core, Event, lines, DirState, World, start, Out, core_exec, Answer}
 use Rattle.tcc_serial.proofs.Names.{Waits, Drops, Asks, Takes, dir_deliver, in_flight, sent_all, Sends, core_moves, core_takes, dir_takes}
 use Rattle.tcc_serial.proofs.Names.{step, CopyOf, live, KeptCores, Pair, pair, ◌∷◌, Contains, ◌⊎◌, inl, inr, subst, Noted, empty_cache}
@@ -40,7 +42,7 @@ pub grant-memory : (sh : Shape) (u : ℕ) (s : CoreState) → CoreInMemory sh s 
 unfolding grant
 grant-memory sh u s k = go s.phase
   where
-    go : (q : Phase) → OutInMemory sh (grant_phase sh u s q)
+    go : (q : Phase) → OutInMemory sh (grant_in_phase sh u s q)
     go AwaitTid = (same-memory sh s _ refl refl refl k, tt)
     go DoomedTid = (same-memory sh s _ refl refl refl k, tt)
     go (Overflowing None) = (same-memory sh s _ refl refl refl k, tt)
@@ -58,15 +60,15 @@ reply-memory sh d u s k = go s.phase
     alone true = same-memory sh s _ refl refl refl k
     alone false = same-memory sh s _ refl refl refl k
 
-    probed : (a : Bool) → OutInMemory sh (if a then moves (when_ready sh u (replied d s)) (to (Dir d) (marks_for sh s.cache u d)) else ignored s)
+    probed : (a : Bool) → OutInMemory sh (if a then moves (ready_once_replied sh u (replied d s)) (to (Dir d) (marks_for sh s.cache u d)) else ignored s)
     probed true = (ready (all_replied sh (replied d s).owing), tt)
     probed false = (k, tt)
 
-    over : (a : Bool) → OutInMemory sh (if a then moves (when_alone sh u (replied d s)) nothing else ignored s)
+    over : (a : Bool) → OutInMemory sh (if a then moves (solo_once_replied sh u (replied d s)) nothing else ignored s)
     over true = (alone (all_replied sh (replied d s).owing), tt)
     over false = (k, tt)
 
-    go : (q : Phase) → OutInMemory sh (reply_phase sh d u s q)
+    go : (q : Phase) → OutInMemory sh (reply_in_phase sh d u s q)
     go (Probing v) = probed (v == u && s.owing d)
     go (Overflowing (Some v)) = over (v == u && s.owing d)
     go _ = (k, tt)
@@ -90,11 +92,11 @@ data-memory sh l s k = (same-memory sh s _ refl refl refl k, tt)
 
 -- a core that rolls back keeps its frames, and its attempt is empty
 invalidate-memory : (sh : Shape) (l m u : ℕ) (s : CoreState) → CoreInMemory sh s → OutInMemory sh (invalidate sh l m u s)
-unfolding invalidate acknowledged if_violated without invalidated roll_back rolled_back
+unfolding invalidate acknowledged if_violated words_invalidated invalidated roll_back rolled_back
 invalidate-memory sh l m u s k = go (is_violated l m u s) s.phase
   where
     r : CoreState
-    r = without l m s
+    r = words_invalidated l m s
 
     same : CoreInMemory sh r
     same = same-memory sh s r refl refl refl k
@@ -102,7 +104,7 @@ invalidate-memory sh l m u s k = go (is_violated l m u s) s.phase
     begun : CoreInMemory sh (roll_back r)
     begun = record { frames = k.frames; accesses = nothing-used sh }
 
-    go : (b : Bool) (q : Phase) → OutInMemory sh (if b then violated_in sh r q else ignored r)
+    go : (b : Bool) (q : Phase) → OutInMemory sh (if b then violated_in_phase sh r q else ignored r)
     go false q = (same, tt)
     go true Running = (begun, tt)
     go true AwaitTid = (same-memory sh (roll_back r) _ refl refl refl begun, tt)

@@ -15,10 +15,13 @@ use Rattle.tcc_serial.proofs.Names.{overflow}
 use Rattle.tcc_serial.proofs.Names.{full_set, miss, with_read_mark, load_valid, load_spilled, load, stored_in_buffer, stored_in_frame}
 use Rattle.tcc_serial.proofs.Names.{word_store, marks_read}
 use Rattle.tcc_serial.proofs.Names.{change_valid, change_spilled, partial_store, end_transaction, execute_need, execute, core_exec}
-use Rattle.tcc_serial.proofs.Names.{exec_phase}
-use Rattle.tcc_serial.proofs.Names.{unless_awaiting, core_evict, evict_line, is_awaited, grant, grant_phase, is_probed, probing, from_dir}
-use Rattle.tcc_serial.proofs.Names.{probe_reply, reply_phase, replied, all_replied, when_ready, when_alone, ignored, fill, fill_awaited}
-use Rattle.tcc_serial.proofs.Names.{data_request, invalidate, acknowledged, if_violated, violated_in, is_violated, without, staled, rests}
+use Rattle.tcc_serial.proofs.Names.{exec_in_phase}
+use Rattle.tcc_serial.proofs.Names.{unless_awaiting, core_evict, evict_line, is_awaited, grant, grant_in_phase, is_probed, probing_or_ready}
+use Rattle.tcc_serial.proofs.Names.{from_dir}
+use Rattle.tcc_serial.proofs.Names.{probe_reply, reply_in_phase, replied, all_replied, ready_once_replied, solo_once_replied, ignored, fill}
+use Rattle.tcc_serial.proofs.Names.{fill_awaited}
+use Rattle.tcc_serial.proofs.Names.{data_request, invalidate, acknowledged, if_violated, violated_in_phase, is_violated, words_invalidated}
+use Rattle.tcc_serial.proofs.Names.{staled, rests}
 use Rattle.tcc_serial.proofs.Names.{waits_for_tid, ◌⊎◌, TrappedWith}
 use Rattle.tcc_program.specs.Program.{unreserved}
 use Rattle.tcc_program.specs.Ram.{part}
@@ -259,7 +262,7 @@ each-exec sh p c s P k = go s.phase refl
     executes (Some a) e h = tt
     executes None e h = needs (p.need s.local) (record { acts = h; idle = e; need = refl })
 
-    go : (q : Phase) → s.phase ≡ q → IfSome (exec_phase sh p c s q) P
+    go : (q : Phase) → s.phase ≡ q → IfSome (exec_in_phase sh p c s q) P
     go Running e = executes s.awaited refl (rw e tt)
     go (Solo t) e = executes s.awaited refl (rw e tt)
     go (Ready t) e = k (Commits_now t e)
@@ -292,7 +295,7 @@ pub data Granted (sh : Shape) (t : ℕ) (s : CoreState) : Type 0 where
   Given_none : waits_for_tid s.phase ≡ false → Granted sh t s
 
 abbrev pub granted : {sh : Shape} {t : ℕ} {s : CoreState} → Granted sh t s → Out
-granted {sh} {t} {s} (Given e) = moves (record s { owing = is_probed sh s.cache; phase = probing (any_below (is_probed sh s.cache) sh.dirs) t }) (say sh s (Answers t))
+granted {sh} {t} {s} (Given e) = moves (record s { owing = is_probed sh s.cache; phase = probing_or_ready (any_below (is_probed sh s.cache) sh.dirs) t }) (say sh s (Answers t))
 granted {sh} {t} {s} (Given_doomed e) = moves (record s { phase = Running }) (say sh s (Skips_all t))
 granted {sh} {t} {s} (Given_room e) = moves (record s { owing = λ d. nat_lt d sh.dirs; phase = Overflowing (Some t) }) (say sh s (Probes_all t))
 granted {sh} {t} {s} (Given_none e) = moves s (say sh s Silent)
@@ -307,7 +310,7 @@ pub each-grant : (sh : Shape) (t : ℕ) (s : CoreState) (P : Out → Type 0) →
 unfolding grant waits_for_tid
 each-grant sh t s P k = go s.phase refl
   where
-    go : (q : Phase) → s.phase ≡ q → P (grant_phase sh t s q)
+    go : (q : Phase) → s.phase ≡ q → P (grant_in_phase sh t s q)
     go AwaitTid e = k (Given e)
     go DoomedTid e = k (Given_doomed e)
     go (Overflowing None) e = k (Given_room e)
@@ -412,17 +415,17 @@ unexpected u q r g h (inl x) = let z : expects q u ≡ (u == u) = ap (λ p. expe
 unexpected u q r g h (inr x) = let z : expects q u ≡ (u == u) = ap (λ p. expects p u) x in let y : (u == u) ≡ true = grind (arith, nat_tests) in let i : expects q u ≡ expects r u = ap (λ p. expects p u) g in cc
 
 pub each-back : (sh : Shape) (e : ℕ) (s : CoreState) (P : Msg → Out → Type 0) → ((d : Heard sh e s) → P (message d) (heard d)) → (m : Msg) → IfSome (from_dir sh e s m) (P m)
-unfolding probe_reply fill data_request invalidate acknowledged if_violated without roll_back
+unfolding probe_reply fill data_request invalidate acknowledged if_violated words_invalidated roll_back
 each-back sh e s P k m = go m
   where
-    reply : (u v : ℕ) (q : Phase) → s.phase ≡ q → P (ProbeReply u v) (reply_phase sh e u s q)
+    reply : (u v : ℕ) (q : Phase) → s.phase ≡ q → P (ProbeReply u v) (reply_in_phase sh e u s q)
     reply u v (Probing t) g = probed (t == u) (s.owing e) refl refl
       where
         ready : t ≡ u → s.owing e ≡ true → (b : Bool) → all_replied sh (put s.owing e false) ≡ b → P (ProbeReply u v) (moves (if b then record (replied e s) { phase = Ready u } else replied e s) (to (Dir e) (marks_for sh s.cache u e)))
         ready i o true r = k (Last_probing u v (rw (← i) g) o r)
         ready i o false r = k (Reply_probing u v (rw (← i) g) o r)
 
-        probed : (a b : Bool) → (t == u) ≡ a → s.owing e ≡ b → P (ProbeReply u v) (if a && b then moves (when_ready sh u (replied e s)) (to (Dir e) (marks_for sh s.cache u e)) else ignored s)
+        probed : (a b : Bool) → (t == u) ≡ a → s.owing e ≡ b → P (ProbeReply u v) (if a && b then moves (ready_once_replied sh u (replied e s)) (to (Dir e) (marks_for sh s.cache u e)) else ignored s)
         probed true true h o = ready (grind (arith, nat_tests)) o (all_replied sh (put s.owing e false)) refl
         probed true false h o = k (Ignores_reply u v (λ x. o))
         probed false b h o = k (Ignores_reply u v (λ x. absurd (unexpected u s.phase (Probing t) g h x)))
@@ -432,7 +435,7 @@ each-back sh e s P k m = go m
         alone i o true r = k (Last_room u v (rw (← i) g) o r)
         alone i o false r = k (Reply_room u v (rw (← i) g) o r)
 
-        over : (a b : Bool) → (t == u) ≡ a → s.owing e ≡ b → P (ProbeReply u v) (if a && b then moves (when_alone sh u (replied e s)) nothing else ignored s)
+        over : (a b : Bool) → (t == u) ≡ a → s.owing e ≡ b → P (ProbeReply u v) (if a && b then moves (solo_once_replied sh u (replied e s)) nothing else ignored s)
         over true true h o = alone (grind (arith, nat_tests)) o (all_replied sh (put s.owing e false)) refl
         over true false h o = k (Ignores_reply u v (λ x. o))
         over false b h o = k (Ignores_reply u v (λ x. absurd (unexpected u s.phase (Overflowing (Some t)) g h x)))
@@ -447,7 +450,7 @@ each-back sh e s P k m = go m
         one true h true i = k (Fills_none l ws a q (grind (arith, nat_tests)) i)
         one true h false i = k (Fills l ws a q (grind (arith, nat_tests)) i)
 
-    hurt : (l m u : ℕ) (b : Bool) → is_violated l m u s ≡ b → (q : Phase) → s.phase ≡ q → P (Inv l m u) (acknowledged sh l (if b then violated_in sh (without l m s) q else ignored (without l m s)))
+    hurt : (l m u : ℕ) (b : Bool) → is_violated l m u s ≡ b → (q : Phase) → s.phase ≡ q → P (Inv l m u) (acknowledged sh l (if b then violated_in_phase sh (words_invalidated l m s) q else ignored (words_invalidated l m s)))
     hurt l m u false v q e = k (Hurt_none l m u (inl v))
     hurt l m u true v Running e = subst (λ q. P (Inv l m u) (acked sh l (rolled l m s q s.spilled) nothing)) (sym e) (k (Hurt_running l m u v e))
     hurt l m u true v AwaitTid e = k (Hurt_waiting l m u v (inl e))

@@ -7,7 +7,8 @@ use Rattle.tcc_serial.proofs.Names.{next, and_then, run_from, run, Resolves, Com
 use Rattle.tcc_serial.proofs.Names.{grant_taken, back_taken, after_answer, out_taken, share, part, handled, Kept, Always, CommittingOf}
 use Rattle.tcc_serial.proofs.Names.{KeptCommitting, CommitsAreServed, true, ◌++◌, Contains, sym, ap, ◌∙◌, cases_lt, append-nil}
 use Rattle.tcc_serial.proofs.Names.{Contains-append_left, Contains-append_cases, Noted, CoreState, Phase, Running, AwaitTid, DoomedTid}
-use Rattle.tcc_serial.proofs.Names.{Probing, Ready, Overflowing, Solo, Halted, sent_all, grant_phase, dir_asks, vendor_gives, Invs, InvsNot}
+use Rattle.tcc_serial.proofs.Names.{Probing, Ready, Overflowing, Solo, Halted, sent_all, grant_in_phase, dir_asks, vendor_gives, Invs}
+use Rattle.tcc_serial.proofs.Names.{InvsNot}
 use Rattle.tcc_serial.proofs.Names.{Acks, among, due, KeptTold, Grant, granted_by, IsNumbered, holder, KeptOwners, SparedOf}
 use Rattle.tcc_serial.proofs.Names.{SparesCommitter, cases_eq}
 use Rattle.tcc_serial.proofs.Counts.Links.{live-sends, live-takes, total-le, live-fewer}
@@ -211,7 +212,7 @@ no-commit : (sh : Shape) (u t : ℕ) (s : CoreState) → 1 ≤ noted_tid t (gran
 unfolding grant
 no-commit sh u t s = go s.phase
   where
-    go : (q : Phase) → 1 ≤ noted_tid t (grant_phase sh u s q).commit → ⊥
+    go : (q : Phase) → 1 ≤ noted_tid t (grant_in_phase sh u s q).commit → ⊥
     go AwaitTid l = omega arith
     go DoomedTid l = omega arith
     go (Overflowing None) l = omega arith

@@ -5,7 +5,7 @@ use Rattle.tcc_serial.proofs.Names.{count_below, Dir, Msg, Fill, Skip, ProbeRepl
 use Rattle.tcc_serial.proofs.Names.{home, lines, Cache, is_modified, modified_mask, written_lines, Spilled, holds, spilled_mask}
 use Rattle.tcc_serial.proofs.Names.{spilled_words, CoreState, Phase, AwaitTid, DoomedTid, Overflowing, Sends, to, marks_for, skip_all}
 use Rattle.tcc_serial.proofs.Names.{probe_all, abort_written, Out, commit, commit_sends, solo_sends, solo_marks_or_skip, solo_write_backs}
-use Rattle.tcc_serial.proofs.Names.{solo_writes_at, is_written, written_mask, core_exec, core_evict, grant, grant_phase, grant_sends}
+use Rattle.tcc_serial.proofs.Names.{solo_writes_at, is_written, written_mask, core_exec, core_evict, grant, grant_in_phase, grant_sends}
 use Rattle.tcc_serial.proofs.Names.{from_dir, probe_reply, ignored, fill, data_request, invalidate, Kind, Acks, MarksAway, AnyResolve}
 use Rattle.tcc_serial.proofs.Names.{Protocol, among, passes, solo_commit}
 use Rattle.tcc_serial.proofs.Counts.Links.{among-append, among-flat_map_none}
@@ -138,7 +138,7 @@ clean-grant sh u s = go s.phase
     still : CleanOut sh (ignored s)
     still = clean-steady sh s (ignored s) (ignored-steady s)
 
-    go : (q : Phase) → CleanOut sh (grant_phase sh u s q)
+    go : (q : Phase) → CleanOut sh (grant_in_phase sh u s q)
     go AwaitTid = clean-grants sh s.cache u
     go DoomedTid = clean-skip sh u
     go (Overflowing None) = clean-probe sh u

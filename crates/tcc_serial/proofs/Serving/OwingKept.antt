@@ -3,7 +3,7 @@ use Rattle.tcc_serial.proofs.Names.{ℕ, ◌≡◌, ◌<◌, ◌==◌, ◌&&◌,
 use Rattle.tcc_serial.proofs.Names.{arith, refl, ap₂, nat_tests, Program, Local, Outcome, any_below, Dir, Event, Msg, Fill, ProbeReply}
 use Rattle.tcc_serial.proofs.Names.{DataReq, Inv, Shape, writes_at, reads_at, any_below-at, CoreState, World, Phase, Running, AwaitTid}
 use Rattle.tcc_serial.proofs.Names.{DoomedTid, Probing, Ready, Overflowing, Solo, start, core_start, Out, commit, committed_core}
-use Rattle.tcc_serial.proofs.Names.{phase_after_commit, core_exec, core_evict, from_dir, grant, grant_phase, is_probed, probing}
+use Rattle.tcc_serial.proofs.Names.{phase_after_commit, core_exec, core_evict, from_dir, grant, grant_in_phase, is_probed, probing_or_ready}
 use Rattle.tcc_serial.proofs.Names.{all_replied, fill}
 use Rattle.tcc_serial.proofs.Names.{data_request, invalidate, probe_reply, Answer, Waits, dir_deliver, core_moves, core_takes, dir_takes}
 use Rattle.tcc_serial.proofs.Names.{dir_asks, vendor_gives, step, OwingFits, awaits_replies, asks_dir, solo_commit}
@@ -79,7 +79,7 @@ owing-grant sh t s h = go s.phase refl
     asks : (d : ℕ) → is_probed sh s.cache d ≡ true → (d < sh.dirs) × ((writes_at sh s.cache d || reads_at sh s.cache d) ≡ true)
     asks d o = let y = both (nat_lt d sh.dirs) (writes_at sh s.cache d || reads_at sh s.cache d) o in let z = y.0 in (grind (arith, nat_tests), y.1)
 
-    probed : (b : Bool) → any_below (is_probed sh s.cache) sh.dirs ≡ b → OwingFits sh (record s { owing = is_probed sh s.cache; phase = probing b t })
+    probed : (b : Bool) → any_below (is_probed sh s.cache) sh.dirs ≡ b → OwingFits sh (record s { owing = is_probed sh s.cache; phase = probing_or_ready b t })
     probed true q = record { asked = λ d o. asks d o; waits = λ d o. refl; some = λ a l. q }
     probed false q = record {
       asked = λ d o. absurd (let y = none-below (is_probed sh s.cache) sh.dirs d ((asks d o).0) q in cc);
@@ -94,7 +94,7 @@ owing-grant sh t s h = go s.phase refl
       some = λ a l. any_below-at (λ d. nat_lt d sh.dirs) sh.dirs 0 l (grind (arith, nat_tests));
     }
 
-    go : (q : Phase) → s.phase ≡ q → OwingFits sh (grant_phase sh t s q).core
+    go : (q : Phase) → s.phase ≡ q → OwingFits sh (grant_in_phase sh t s q).core
     go AwaitTid e = probed (any_below (is_probed sh s.cache) sh.dirs) refl
     go DoomedTid e = still-none sh s (record s { phase = Running }) DoomedTid Running e refl refl refl refl h
     go (Overflowing None) e = every

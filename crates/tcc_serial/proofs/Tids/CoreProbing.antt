@@ -3,7 +3,8 @@ use Rattle.tcc_serial.proofs.Names.{ℕ, ◌≡◌, ◌≤◌, Bool, true, false
 use Rattle.tcc_serial.proofs.Names.{ap, ◌∙◌, nat_tests, Program, Outcome, num, any_below, Dir, Msg, Mark, InvAck, Shape, home, Cache}
 use Rattle.tcc_serial.proofs.Names.{modified_mask, written_lines, CoreState, Phase, Running, AwaitTid, DoomedTid, Overflowing, to}
 use Rattle.tcc_serial.proofs.Names.{marks_for, probe_all, Out, commit, committed_core, phase_after_commit, core_exec, core_evict, grant}
-use Rattle.tcc_serial.proofs.Names.{grant_phase, grant_sends, is_probed, probing, Probes, Protocol, among, passes, has_tid, waits_for_tid}
+use Rattle.tcc_serial.proofs.Names.{grant_in_phase, grant_sends, is_probed, probing_or_ready, Probes, Protocol, among, passes, has_tid}
+use Rattle.tcc_serial.proofs.Names.{waits_for_tid}
 use Rattle.tcc_serial.proofs.Names.{moves, solo_commit}
 use Rattle.tcc_serial.proofs.Counts.Links.{among-append, among-fewer, among-flat_map_none}
 use Rattle.tcc_serial.proofs.OneCore.Executes.{Steady}
@@ -87,7 +88,7 @@ probes-all : (sh : Shape) (u d t : ℕ) → among (Probes t) (probe_all sh u (Di
 unfolding probe_all among passes
 probes-all sh u d t = grind (arith, nat_tests)
 
-pub tid-probing : (b : Bool) (u t : ℕ) → has_tid (probing b u) t ≡ (u == t)
+pub tid-probing : (b : Bool) (u t : ℕ) → has_tid (probing_or_ready b u) t ≡ (u == t)
 unfolding has_tid
 tid-probing a u t = grind (arith, nat_tests)
 
@@ -101,7 +102,7 @@ granted sh u s w = go s.phase refl w
     same : (t : ℕ) → (u == t) ≡ true → u ≡ t
     same t e = grind (arith, nat_tests)
 
-    go : (q : Phase) → s.phase ≡ q → waits_for_tid q ≡ true → Granted u (grant_phase sh u s q)
+    go : (q : Phase) → s.phase ≡ q → waits_for_tid q ≡ true → Granted u (grant_in_phase sh u s q)
     go AwaitTid e h = record {
       sent = λ d t n. probes-grant sh s.cache u d t ∙ other t (is_probed sh s.cache d) n;
       kept = λ d t k. let x : (u == t) ≡ true = sym (tid-probing (any_below (is_probed sh s.cache) sh.dirs) u t) ∙ k in (same t x, probes-grant sh s.cache u d t ∙ rw x refl);

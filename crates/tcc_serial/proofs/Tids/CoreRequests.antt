@@ -2,7 +2,8 @@
 use Rattle.tcc_serial.proofs.Names.{arith, nat_tests, ℕ, ◌+◌, ◌≡◌, Bool, true, false, None, IfSome, refl, inl, inr, Program, Outcome, num}
 use Rattle.tcc_serial.proofs.Names.{any_below, Vendor, Msg, Shape, CoreState, Phase, AwaitTid, DoomedTid, Overflowing, skip_all, probe_all}
 use Rattle.tcc_serial.proofs.Names.{Out, commit, committed_core, commit_sends, phase_after_commit, solo_sends, core_exec, core_evict, grant}
-use Rattle.tcc_serial.proofs.Names.{grant_phase, grant_sends, from_dir, probing, is_probed, among, passes, waits_for_tid, abort_written}
+use Rattle.tcc_serial.proofs.Names.{grant_in_phase, grant_sends, from_dir, probing_or_ready, is_probed, among, passes, waits_for_tid}
+use Rattle.tcc_serial.proofs.Names.{abort_written}
 use Rattle.tcc_serial.proofs.Names.{flushed, solo_commit}
 use Rattle.tcc_serial.specs.Count.{Asks}
 use Rattle.tcc_serial.proofs.OneCore.Executes.{Steady}
@@ -37,7 +38,7 @@ requests-exec sh p c s = each-exec sh p c s (λ o. KeepsRequests 0 s o) go
 pub requests-evict : (sh : Shape) (x y : ℕ) (s : CoreState) → IfSome (core_evict sh x y s) (λ o. KeepsRequests 0 s o)
 requests-evict sh x y s = each-evict sh x y s (λ o. KeepsRequests 0 s o) (λ k q u z. requests-steady s (emptied sh x y k s) (steady-emptied sh x y s k q u z))
 
-waits-probing : (b : Bool) (u : ℕ) → waits_for_tid (probing b u) ≡ false
+waits-probing : (b : Bool) (u : ℕ) → waits_for_tid (probing_or_ready b u) ≡ false
 unfolding waits_for_tid
 waits-probing a u = grind (arith, nat_tests)
 
@@ -45,7 +46,7 @@ pub requests-grant : (sh : Shape) (u : ℕ) (s : CoreState) → waits_for_tid s.
 unfolding grant waits_for_tid among grant_sends skip_all probe_all
 requests-grant sh u s w = go s.phase refl w
   where
-    go : (q : Phase) → s.phase ≡ q → waits_for_tid q ≡ true → KeepsRequests 1 s (grant_phase sh u s q)
+    go : (q : Phase) → s.phase ≡ q → waits_for_tid q ≡ true → KeepsRequests 1 s (grant_in_phase sh u s q)
     go AwaitTid e h = rw (e, waits-probing (any_below (is_probed sh s.cache) sh.dirs) u) refl
     go DoomedTid e h = rw e refl
     go (Overflowing None) e h = rw e refl

@@ -1,7 +1,7 @@
 -- Every event keeps that a viewed word has the value that it has for its core, or that the attempt is doomed.
 use Rattle.tcc_serial.proofs.Names.{ℕ, ◌≡◌, ◌<◌, ◌≤◌, ◌⊎◌, ◌&&◌, Bool, true, false, List, [], Option, Some, None, IfSome, nat_lt, arith}
 use Rattle.tcc_serial.proofs.Names.{refl, ap, sym, subst, ◌∙◌, inl, inr, nat_tests, num, hit, Core, Dir, Vendor, Msg, TidReq, TidGrant, Inv}
-use Rattle.tcc_serial.proofs.Names.{Shape, put, DoomedTid, in_flight, Out, from_dir, grant, is_violated, is_above, History, core_takes}
+use Rattle.tcc_serial.proofs.Names.{Shape, put, DoomedTid, in_flight, Out, from_dir, grant, is_violated, may_be_above, History, core_takes}
 use Rattle.tcc_serial.proofs.Names.{vendor_gives, and_noted, Uses, Views, uses_delivered, Invs, InvWord, passes, live, Carried, Grant, Pair}
 use Rattle.tcc_serial.proofs.Names.{pair, after_move, grant_taken, back_taken, IsBound, value_at, dooms, Ways, hit-line, hit-reads, ◌++◌}
 use Rattle.tcc_serial.proofs.Names.{Program, line_of, home, core_exec, core_evict, Answer, Waits, Drops, Asks, Takes, dir_deliver, Stepped}
@@ -65,7 +65,7 @@ spares-inv sh gs ys h k' c d k l n u x y b cl dl i v g s = go (passes (dooms b x
     no : passes (dooms b x) (Inv l n u) ≡ true → IsSeen (h.world.cores c).cache (h.world.cores c).phase x y → ⊥
     no q (inl r) =
         let f = hits b q in
-        let a = ahead (reads_masked l n (h.world.cores c).cache) (is_above u (h.world.cores c).phase) (hit-reads l n (h.world.cores c).cache x r f (hit-line l n x f)) v in
+        let a = ahead (reads_masked l n (h.world.cores c).cache) (may_be_above u (h.world.cores c).phase) (hit-reads l n (h.world.cores c).cache x r f (hit-line l n x f)) v in
         let t = tid-ahead u (h.world.cores c).phase a in
         below t.0 (t.2) (bound-own sh gs ys h k' c d t.0 b cl (t.1) g) q
     no q (inr r) = let o : num (passes (dooms b x) (Inv l n u)) ≡ 1 = ap num q in omega (arith, o, solo-undoomed sh gs ys h k' c d x b cl dl r, live-some (dooms b x) (h.world.net (Dir d) (Core c)) k (Inv l n u) i)

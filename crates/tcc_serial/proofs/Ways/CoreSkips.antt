@@ -4,7 +4,8 @@ use Rattle.tcc_serial.proofs.Names.{ℕ, ◌≡◌, ◌<◌, ◌≤◌, Bool, tr
 use Rattle.tcc_serial.proofs.Names.{sym, ◌⊎◌, inl, inr, nat_tests, Noted, Program, Outcome, any_below, Dir, Msg, Fill, ProbeReply}
 use Rattle.tcc_serial.proofs.Names.{DataReq, Inv, Shape, Cache, writes_at, CoreState, Phase, Running, AwaitTid, DoomedTid, Probing, Ready}
 use Rattle.tcc_serial.proofs.Names.{Overflowing, Solo, Out, commit, committed_core, noted, phase_after_commit, core_exec, core_evict, grant}
-use Rattle.tcc_serial.proofs.Names.{grant_phase, grant_sends, from_dir, probing, is_probed, probe_reply, ignored, all_replied, fill}
+use Rattle.tcc_serial.proofs.Names.{grant_in_phase, grant_sends, from_dir, probing_or_ready, is_probed, probe_reply, ignored, all_replied}
+use Rattle.tcc_serial.proofs.Names.{fill}
 use Rattle.tcc_serial.proofs.Names.{data_request, invalidate, put, Skips, among, passes, Words, OneCore, has_tid, Untold, told_by}
 use Rattle.tcc_serial.proofs.Names.{live_way, commit_way, Local, moves, solo_commit}
 use Rattle.tcc_serial.proofs.OneCore.Executes.{Steady, did-steady}
@@ -83,7 +84,7 @@ pub tells-evict : (sh : Shape) (x y : ℕ) (s : CoreState) → IfSome (core_evic
 tells-evict sh x y s = each-evict sh x y s (λ o. Tells sh s o) (λ k q u z. tells-steady sh s (emptied sh x y k s) (steady-emptied sh x y s k q u z))
 
 -- a granted TID is skipped where nothing is written
-skips-granted : (sh : Shape) (c : Cache) (b : Bool) (u d t : ℕ) → d < sh.dirs → skips_here (probing b u) (writes_at sh c d) t ≡ true → 1 ≤ among (Skips t) (grant_sends sh c u (Dir d))
+skips-granted : (sh : Shape) (c : Cache) (b : Bool) (u d t : ℕ) → d < sh.dirs → skips_here (probing_or_ready b u) (writes_at sh c d) t ≡ true → 1 ≤ among (Skips t) (grant_sends sh c u (Dir d))
 unfolding grant_sends among passes
 skips-granted sh c b u d t l e = grind (arith, nat_tests)
 
@@ -94,10 +95,10 @@ tells-grant sh u s = go s.phase refl
     still : Tells sh s (ignored s)
     still = tells-steady sh s (ignored s) (ignored-steady s)
 
-    go : (q : Phase) → s.phase ≡ q → Tells sh s (grant_phase sh u s q)
+    go : (q : Phase) → s.phase ≡ q → Tells sh s (grant_in_phase sh u s q)
     go AwaitTid e = record { skips = λ d t l x. inr (skips-granted sh s.cache (any_below (is_probed sh s.cache) sh.dirs) u d t l x); commits = tt }
-    go DoomedTid e = tells-none sh s (grant_phase sh u s DoomedTid) Running refl (λ b t. refl) tt
-    go (Overflowing None) e = tells-none sh s (grant_phase sh u s (Overflowing None)) (Overflowing (Some u)) refl (λ b t. refl) tt
+    go DoomedTid e = tells-none sh s (grant_in_phase sh u s DoomedTid) Running refl (λ b t. refl) tt
+    go (Overflowing None) e = tells-none sh s (grant_in_phase sh u s (Overflowing None)) (Overflowing (Some u)) refl (λ b t. refl) tt
     go _ e = still
 
 tells-replied : (sh : Shape) (e u : ℕ) (s : CoreState) (o : Out) → Replied sh e u s o → Tells sh s o
