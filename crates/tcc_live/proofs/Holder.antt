@@ -14,7 +14,7 @@ use Rattle.tcc_rules.specs.CoreEvict.{is_awaited}
 use Rattle.tcc_rules.specs.CoreExec.{core_exec}
 use Rattle.tcc_rules.specs.State.{Awaited, DirState, Phase, Probing, Ready, Overflowing, Solo, World}
 use Rattle.tcc_rules.specs.Step.{History}
-use Rattle.tcc_rules.specs.DirDeliver.{dir_deliver, total}
+use Rattle.tcc_rules.specs.DirDeliver.{dir_deliver, sum_below}
 use Rattle.tcc_serial.specs.Copies.{stored_there}
 use Rattle.tcc_serial.specs.Count.{Probes, Replies, LoadOf, FillOf, live, passes}
 use Rattle.tcc_serial.specs.Marks.{marks_of, has_marked}
@@ -209,7 +209,7 @@ held_by : World → (tid core : ℕ) → ℕ
 held_by w t c = num (has_tid (w.cores c).phase t)
 
 held_count : Shape → World → (tid : ℕ) → ℕ
-held_count sh w t = total (held_by w t) sh.cores
+held_count sh w t = sum_below (held_by w t) sh.cores
 
 counts : (sh : Shape) (w : World) (t : ℕ) → IsHeld sh w t → 1 ≤ held_count sh w t
 unfolding held_count held_by

@@ -20,8 +20,9 @@ use Rattle.tcc_rules.specs.CoreDeliver.{is_probed, grant_sends, grant, probe_rep
 use Rattle.tcc_rules.specs.CoreDeliver.{words_invalidated, is_violated, acknowledged, invalidate, core_deliver}
 use Rattle.tcc_rules.specs.CoreEvict.{core_evict}
 use Rattle.tcc_rules.specs.CoreExec.{core_exec}
-use Rattle.tcc_rules.specs.DirDeliver.{moved_on, skip, abort, probe, ask_owner, line_words, load_request, mark, is_invalidated, invs_to}
-use Rattle.tcc_rules.specs.DirDeliver.{invalidations, total, owed_by, owned, settled, commit as dirdeliver-commit, acknowledgement}
+use Rattle.tcc_rules.specs.DirDeliver.{moved_on, skip, abort, probe, ask_owner, home_words, load_request, mark, is_invalidated, invs_to}
+use Rattle.tcc_rules.specs.DirDeliver.{invalidations, sum_below, invalidation_count, owned_by_committer, moved_on_if_settled, dir_commit}
+use Rattle.tcc_rules.specs.DirDeliver.{acknowledgement}
 use Rattle.tcc_rules.specs.DirDeliver.{came_home, write_back as dirdeliver-write_back, dir_deliver}
 use Rattle.tcc_rules.specs.Execute.{request_line, place, overflow, full_set, miss, with_read_mark, load, stored_in_buffer, stored_in_frame}
 use Rattle.tcc_rules.specs.Execute.{word_store, partial_store}
@@ -45,8 +46,10 @@ unfolding empty_cache is_marked way_marked free_way all_marked is_modified is_di
     commit-commit is_written written_mask solo_writes_at solo_marks_or_skip solo_write_backs solo_sends solo_commit is_probed grant_sends
       grant
     probe_reply coredeliver-fill data_request if_violated words_invalidated is_violated acknowledged invalidate core_deliver core_evict
-    core_exec moved_on skip abort probe ask_owner line_words load_request mark is_invalidated invs_to invalidations total owed_by
-    owned settled dirdeliver-commit acknowledgement came_home dirdeliver-write_back dir_deliver request_line place overflow full_set miss
+    core_exec moved_on skip abort probe ask_owner home_words load_request mark is_invalidated invs_to invalidations sum_below
+      invalidation_count
+    owned_by_committer moved_on_if_settled dir_commit acknowledgement came_home dirdeliver-write_back dir_deliver request_line place
+      overflow full_set miss
     with_read_mark load stored_in_buffer stored_in_frame word_store partial_store execute sent_all written_back flushed skip_all probe_all
       abort_written
     marks_for core_start dir_start vendor_start start names_nodes happens core_moves core_takes dir_takes dir_asks vendor_gives step

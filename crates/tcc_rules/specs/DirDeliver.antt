@@ -45,33 +45,33 @@ ask_owner o l s =
     else Asks (record s { lines = with_asked l true s.lines }) (to (Core o) (DataReq l ∷ []))
 
 -- the words of a line
-unfoldable pub line_words : DirState → ℕ → List ℕ
-line_words s l = eight (λ k. s.words (word_at l k))
+unfoldable pub home_words : DirState → ℕ → List ℕ
+home_words s l = eight (λ k. s.words (word_at l k))
 
 -- Load request: waits for the core's own last commit here and while the line is marked; a line without owner is filled
-abbrev pub load_owned : (core line : ℕ) → DirState → Option ℕ → Answer
-load_owned c l s (Some o) = ask_owner o l s
-load_owned c l s None = Takes (record s { lines = with_sharer l c true s.lines }) (to (Core c) (Fill l (line_words s l) ∷ []))
+abbrev pub load_unless_owned : (core line : ℕ) → DirState → Option ℕ → Answer
+load_unless_owned c l s (Some o) = ask_owner o l s
+load_unless_owned c l s None = Takes (record s { lines = with_sharer l c true s.lines }) (to (Core c) (Fill l (home_words s l) ∷ []))
 
 unfoldable pub load_request : (core line after : ℕ) → DirState → Answer
 load_request c l after s =
     if nat_le s.serving.serving after || has_mark s.lines l then Waits
-    else load_owned c l s (s.lines.owner l)
+    else load_unless_owned c l s (s.lines.owner l)
 
 -- Mark: by the served TID; a line that is owned and not wholly overwritten is asked for first
-abbrev pub marking : (line mask : ℕ) → DirState → Answer
-marking l m s = Takes (record s { lines = with_mark l m s.lines }) nothing
+abbrev pub mark_taken : (line mask : ℕ) → DirState → Answer
+mark_taken l m s = Takes (record s { lines = with_mark l m s.lines }) nothing
 
-abbrev pub mark_owned : (line mask : ℕ) → DirState → Option ℕ → Answer
-mark_owned l m s None = marking l m s
-mark_owned l m s (Some o) = ask_owner o l s
+abbrev pub mark_unless_owned : (line mask : ℕ) → DirState → Option ℕ → Answer
+mark_unless_owned l m s None = mark_taken l m s
+mark_unless_owned l m s (Some o) = ask_owner o l s
 
 unfoldable pub mark : (line mask tid : ℕ) → DirState → Answer
 mark l m t s =
     if nat_lt t s.serving.serving then Drops
     else if nat_lt s.serving.serving t then Waits
-    else if m == full then marking l m s
-    else mark_owned l m s (s.lines.owner l)
+    else if m == full then mark_taken l m s
+    else mark_unless_owned l m s (s.lines.owner l)
 
 -- a line that is marked by the commit of c is invalidated at each other sharer
 unfoldable pub is_invalidated : Shape → Lines → (core sharer line : ℕ) → Bool
@@ -87,17 +87,17 @@ invalidations sh ls c t (Dir d) = []
 invalidations sh ls c t Vendor = []
 
 -- the sum of f over the numbers below n
-unfoldable pub total : (ℕ → ℕ) → ℕ → ℕ
-total f zero = 0
-total f (suc n) = total f n + f n
+unfoldable pub sum_below : (ℕ → ℕ) → ℕ → ℕ
+sum_below f zero = 0
+sum_below f (suc n) = sum_below f n + f n
 
 -- how many they are
-unfoldable pub owed_by : Shape → Lines → (core : ℕ) → ℕ
-owed_by sh ls c = total (λ j. count_below (is_invalidated sh ls c j) (lines sh)) sh.cores
+unfoldable pub invalidation_count : Shape → Lines → (core : ℕ) → ℕ
+invalidation_count sh ls c = sum_below (λ j. count_below (is_invalidated sh ls c j) (lines sh)) sh.cores
 
 -- each marked line is owned by the committer, with the commit's tag; other sharers stay until they acknowledge
-unfoldable pub owned : (core tid : ℕ) → Lines → Lines
-owned c t ls = record ls {
+unfoldable pub owned_by_committer : (core tid : ℕ) → Lines → Lines
+owned_by_committer c t ls = record ls {
   sharers = λ l j. (if has_mark ls l && j == c then true else ls.sharers l j);
   owner = λ l. (if has_mark ls l then Some c else ls.owner l);
   tag = λ l. (if has_mark ls l then t else ls.tag l);
@@ -105,14 +105,15 @@ owned c t ls = record ls {
 }
 
 -- the directory moves on once nothing is owed
-unfoldable pub settled : DirState → DirState
-settled s = if s.owed == 0 then moved_on s else s
+unfoldable pub moved_on_if_settled : DirState → DirState
+moved_on_if_settled s = if s.owed == 0 then moved_on s else s
 
 -- Commit: of the served TID, once all its lines are marked
-unfoldable pub commit : Shape → (core tid count : ℕ) → DirState → Answer
-commit sh c t count s =
+unfoldable pub dir_commit : Shape → (core tid count : ℕ) → DirState → Answer
+dir_commit sh c t count s =
     if s.serving.serving == t && count_below (has_mark s.lines) (lines sh) == count
-    then Takes (settled (record s { lines = owned c t s.lines; owed = owed_by sh s.lines c })) (invalidations sh s.lines c t)
+    then Takes (moved_on_if_settled (record s { lines =
+        owned_by_committer c t s.lines; owed = invalidation_count sh s.lines c })) (invalidations sh s.lines c t)
     else Waits
 
 abbrev pub unless_keeps : Bool → (core line : ℕ) → Lines → Lines
@@ -123,7 +124,7 @@ unless_keeps false c l ls = with_sharer l c false ls
 unfoldable pub acknowledgement : (core line : ℕ) → (keeps : Bool) → DirState → Answer
 acknowledgement c l keeps s =
     if s.owed == 0 then Drops
-    else Takes (settled (record s { lines = unless_keeps keeps c l s.lines; owed = s.owed - 1 })) nothing
+    else Takes (moved_on_if_settled (record s { lines = unless_keeps keeps c l s.lines; owed = s.owed - 1 })) nothing
 
 -- Write-back: the masked home words are those that came, and the line has no owner
 unfoldable pub came_home : (line mask : ℕ) → (words : List ℕ) → DirState → DirState
@@ -147,7 +148,7 @@ dir_deliver sh s c (Abort t) = abort t s
 dir_deliver sh s c (Probe t) = probe c t s
 dir_deliver sh s c (LoadReq l after) = load_request c l after s
 dir_deliver sh s c (Mark l m t) = mark l m t s
-dir_deliver sh s c (Commit t count) = commit sh c t count s
+dir_deliver sh s c (Commit t count) = dir_commit sh c t count s
 dir_deliver sh s c (InvAck l keeps) = acknowledgement c l keeps s
 dir_deliver sh s c (WriteBack l m ws g) = write_back c l m ws g s
 dir_deliver sh s c (Flush l m ws g) = write_back c l m ws g s

@@ -62,10 +62,12 @@ pub use Rattle.tcc_rules.specs.CoreEvict.{is_awaited, evict_line}
 unfoldable pub use Rattle.tcc_rules.specs.CoreEvict.{core_evict}
 pub use Rattle.tcc_rules.specs.CoreExec.{exec_in_phase, unless_awaiting}
 unfoldable pub use Rattle.tcc_rules.specs.CoreExec.{core_exec}
-pub use Rattle.tcc_rules.specs.DirDeliver.{Asks, Answer, Drops, Takes, Waits, load_owned, judged, mark_owned, marking, unless_keeps}
-unfoldable pub use Rattle.tcc_rules.specs.DirDeliver.{dir_deliver, write_back, invalidations, owed_by, owned, settled, ask_owner}
+pub use Rattle.tcc_rules.specs.DirDeliver.{Asks, Answer, Drops, Takes, Waits, load_unless_owned, judged, mark_unless_owned, mark_taken}
+pub use Rattle.tcc_rules.specs.DirDeliver.{unless_keeps}
+unfoldable pub use Rattle.tcc_rules.specs.DirDeliver.{dir_deliver, write_back, invalidations, invalidation_count, owned_by_committer}
+unfoldable pub use Rattle.tcc_rules.specs.DirDeliver.{moved_on_if_settled, ask_owner}
 unfoldable pub use Rattle.tcc_rules.specs.DirDeliver.{load_request, abort, acknowledgement, mark, moved_on, probe, skip, came_home, invs_to}
-unfoldable pub use Rattle.tcc_rules.specs.DirDeliver.{is_invalidated, total, line_words}
+unfoldable pub use Rattle.tcc_rules.specs.DirDeliver.{is_invalidated, sum_below, home_words}
 pub use Rattle.tcc_rules.specs.Execute.{end_transaction, execute_need, marks_read, change_spilled, change_valid, load_spilled, load_valid}
 unfoldable pub use Rattle.tcc_rules.specs.Execute.{execute, load, partial_store, word_store, request_line, stored_in_buffer, miss}
 unfoldable pub use Rattle.tcc_rules.specs.Execute.{stored_in_frame, full_set}

@@ -1,6 +1,6 @@
 -- What is to be shown of a step, by the kind of its event, and what each kind does to the pairs of a core and a directory.
 use Rattle.tcc_serial.proofs.Names.{DirState, from_dir, ℕ, ◌+◌, ◌≡◌, ◌<◌, Bool, true, false, List, [], ◌∷◌, ◌++◌, ◌==◌, ◌&&◌, arith, refl}
-use Rattle.tcc_serial.proofs.Names.{ap, sym, subst, ◌∙◌, inl, inr, nat_tests, cases_eq, Node, Core, Dir, Vendor, Msg, TidGrant, total}
+use Rattle.tcc_serial.proofs.Names.{ap, sym, subst, ◌∙◌, inl, inr, nat_tests, cases_eq, Node, Core, Dir, Vendor, Msg, TidGrant, sum_below}
 use Rattle.tcc_serial.proofs.Names.{World, Link, sent_all, to, Out, core_moves, core_takes, dir_takes, dir_asks, vendor_gives, Pair, pair}
 use Rattle.tcc_serial.proofs.Names.{after_move, grant_taken, back_taken, after_answer, out_taken, after_grant, after_other_grant, share}
 use Rattle.tcc_serial.proofs.Names.{sum_of, Option, Some, None, IfSome, nat_lt, if◌then◌else◌, Program, Event, Exec, Evict, Deliver, TidReq}
@@ -153,13 +153,13 @@ sum_back_away f n w e c k o d x y h l q = shares_at f n (core_takes w (Dir e) c 
 pub sum_dir : (f : Pair → ℕ) (g : ℕ → ℕ) (n : ℕ) (w : World) (c k : ℕ) (s : DirState) (sends : Node → List Msg) (d x y : ℕ) → c < n
     → f (after_answer (out_taken (pair w c d) k) s (sends (Core c))) + x ≡ f (pair w c d) + g c + y
     → ((j : ℕ) → (j ≡ c → ⊥) → f (after_answer (pair w j d) s (sends (Core j))) ≡ f (pair w j d) + g j)
-    → sum_of f n (dir_takes w c d k s sends) d + x ≡ sum_of f n w d + total g n + y
+    → sum_of f n (dir_takes w c d k s sends) d + x ≡ sum_of f n w d + sum_below g n + y
 unfolding share
 sum_dir f g n w c k s sends d x y l e others =
     let v : World = dir_takes w c d k s sends in
     let h : ℕ → ℕ = λ j. share f w d j + g j in
-    let q : total h n ≡ total (share f w d) n + total g n = total-plus (share f w d) g h n (λ j l. refl) in
-    let p : total (share f v d) n + h c ≡ total h n + share f v d c = total-at (share f v d) h n c l (λ j r. ap f (dir-other w c d k s sends j r) ∙ others j r) in
+    let q : sum_below h n ≡ sum_below (share f w d) n + sum_below g n = total-plus (share f w d) g h n (λ j l. refl) in
+    let p : sum_below (share f v d) n + h c ≡ sum_below h n + share f v d c = total-at (share f v d) h n c l (λ j r. ap f (dir-other w c d k s sends j r) ∙ others j r) in
     let own : share f v d c + x ≡ share f w d c + g c + y = rw (dir-own w c d k s sends) e in
     omega arith
 
@@ -172,7 +172,7 @@ unfolding share
 sum_asks f g n w e s sends d h = total-same (share f (dir_asks w e s sends) d) (share f w d) n (λ j l. either d e (λ q. ap f (rw q (asks-own w e s sends j)) ∙ h j) (λ r. ap f (asks-away w e s sends j d r)))
 
 -- the same where a directory asks
-pub sum_asks_here : (f : Pair → ℕ) (g : ℕ → ℕ) (n : ℕ) (w : World) (s : DirState) (sends : Node → List Msg) (d : ℕ) → ((j : ℕ) → f (after_answer (pair w j d) s (sends (Core j))) ≡ f (pair w j d) + g j) → sum_of f n (dir_asks w d s sends) d ≡ sum_of f n w d + total g n
+pub sum_asks_here : (f : Pair → ℕ) (g : ℕ → ℕ) (n : ℕ) (w : World) (s : DirState) (sends : Node → List Msg) (d : ℕ) → ((j : ℕ) → f (after_answer (pair w j d) s (sends (Core j))) ≡ f (pair w j d) + g j) → sum_of f n (dir_asks w d s sends) d ≡ sum_of f n w d + sum_below g n
 unfolding share
 sum_asks_here f g n w s sends d h = total-plus (share f w d) g (share f (dir_asks w d s sends) d) n (λ j l. ap f (asks-own w d s sends j) ∙ h j)
 

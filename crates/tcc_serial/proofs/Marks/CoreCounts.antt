@@ -5,7 +5,8 @@ use Rattle.tcc_serial.proofs.Names.{Mark, Commit, WriteBack, Shape, home, lines,
 use Rattle.tcc_serial.proofs.Names.{spilled_mask, spilled_words, CoreState, Phase, Ready, Solo, Out, commit, commit_sends, solo_sends}
 use Rattle.tcc_serial.proofs.Names.{solo_marks_or_skip, solo_write_backs, solo_writes_at, is_written, written_mask, core_exec, core_evict}
 use Rattle.tcc_serial.proofs.Names.{from_dir}
-use Rattle.tcc_serial.proofs.Names.{total, Kind, MarkOf, AnyCommit, CommitOf, among, passes, has_marked, stores_line, marked_by, may_commit}
+use Rattle.tcc_serial.proofs.Names.{sum_below, Kind, MarkOf, AnyCommit, CommitOf, among, passes, has_marked, stores_line, marked_by}
+use Rattle.tcc_serial.proofs.Names.{may_commit}
 use Rattle.tcc_serial.proofs.Names.{has_tid, solo_commit}
 use Rattle.tcc_serial.proofs.Serving.CoreCommits.{heard-free}
 use Rattle.tcc_serial.proofs.Counts.Links.{among-append, total-same, among-fewer, among-flat_map_none}
@@ -23,13 +24,13 @@ marks_after sh d t s o l = among (MarkOf t l) (o.sends (Dir d)) + marked_by sh s
 pub record Counts (sh : Shape) (d t n : ℕ) (s : CoreState) (o : Out) : Type 0 where
   pub held : has_tid s.phase t ≡ true
   pub each : (l : ℕ) → marks_after sh d t s o l ≤ num (nat_lt l (lines sh))
-  pub sum : total (marks_after sh d t s o) (lines sh) ≡ n
+  pub sum : sum_below (marks_after sh d t s o) (lines sh) ≡ n
 
 abbrev pub CountsAll : Shape → (dir tid : ℕ) → CoreState → Out → Type 0
 CountsAll sh d t s o = (n : ℕ) → 1 ≤ among (CommitOf t n) (o.sends (Dir d)) → Counts sh d t n s o
 
-pub total-num : (p : ℕ → Bool) (n : ℕ) → total (λ l. num (p l)) n ≡ count_below p n
-unfolding total count_below
+pub total-num : (p : ℕ → Bool) (n : ℕ) → sum_below (λ l. num (p l)) n ≡ count_below p n
+unfolding sum_below count_below
 total-num p zero = refl
 total-num p (suc n) = omega (arith, total-num p n)
 
