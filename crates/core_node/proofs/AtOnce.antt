@@ -15,7 +15,7 @@ use Rattle.tcc_maps.specs.Shape.{Shape, home}
 use Rattle.tcc_rules.specs.State.{CoreState}
 use Rattle.tcc_rules.specs.Attempt.{Out, moves, one_more_instruction, finished, new_word, is_running}
 use Rattle.tcc_rules.specs.Execute.{load, with_read_mark, stored_in_frame, word_store, partial_store, marks_read, execute_need}
-use Rattle.tcc_rules.specs.Sends.{Sends, nothing, flushed}
+use Rattle.tcc_rules.specs.Sends.{Sends, nothing, flush_line}
 use Rattle.spec_cache.specs.Held.{Held, maps}
 use Rattle.spec_cache.specs.Look.{loaded, StoresClean}
 use Rattle.commit_engine.proofs.Lemmas.{to-none}
@@ -81,8 +81,8 @@ finished_store : (p : Program) (addr : ℕ) (size : Size) (value x : ℕ) (c : C
 unfolding finished one_more_instruction
 finished_store p addr size value x c s = refl
 
-nothing_flushed : (sh : Shape) (c : Cache) (l : ℕ) → dirty_copy c l ≡ None → flushed sh c l ≡ nothing
-unfolding flushed
+nothing_flushed : (sh : Shape) (c : Cache) (l : ℕ) → dirty_copy c l ≡ None → flush_line sh c l ≡ nothing
+unfolding flush_line
 nothing_flushed sh c l e = rw e (to-none (Dir (home sh l)))
 
 pub whole_stored : (k : Core) (h : Held) (w x : ℕ) (b : Bool) → IsCore k → h.config ≡ k.cache.config → maps h ≡ stored w x b (maps k.cache)
@@ -101,7 +101,7 @@ quick_store sh p addr value w c s t h k d =
     let core : t ≡ finished p n value (stored_in_frame w value false s) =
     d ∙ finished_store p addr Word value value c s ∙ ap (λ (m : Cache). finished p n value (record s { cache = m })) k.maps in
     word_framed sh p n w value s h k.held
-    ∙ ap (λ (u : CoreState). Some (moves u (flushed sh s.cache (line_of w)))) (sym core)
+    ∙ ap (λ (u : CoreState). Some (moves u (flush_line sh s.cache (line_of w)))) (sym core)
     ∙ ap (λ (x : Sends). Some (moves t x)) (nothing_flushed sh s.cache (line_of w) k.clean)
 
 pub whole_same : (k : Core) (h : Held) → IsCore k → h.config ≡ k.cache.config → maps h ≡ maps k.cache → IsCore (record k { cache = h })
@@ -121,5 +121,5 @@ quick_part sh p addr size value w x also c s t g h v a k d =
     d ∙ finished_store p addr size value x c s ∙ ap (λ (m : Cache). finished p n x (record s { cache = m })) k.maps
     ∙ ap (λ (b : Bool). finished p n x (stored_in_frame w y b s)) a in
     partial_valid sh p n w x s g v ∙ change_framed sh p n w x s h
-    ∙ ap (λ (u : CoreState). Some (moves u (flushed sh s.cache (line_of w)))) (sym core)
+    ∙ ap (λ (u : CoreState). Some (moves u (flush_line sh s.cache (line_of w)))) (sym core)
     ∙ ap (λ (z : Sends). Some (moves t z)) (nothing_flushed sh s.cache (line_of w) k.clean)

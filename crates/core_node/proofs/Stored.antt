@@ -7,7 +7,7 @@ use Rattle.tcc_maps.specs.Cache.{Cache, IsCache, free_way, all_marked}
 use Rattle.tcc_maps.specs.CacheLook.{Look, Hit, Miss, look_store, look_line}
 use Rattle.tcc_maps.specs.Spilled.{holds}
 use Rattle.tcc_rules.specs.State.{CoreState}
-use Rattle.tcc_rules.specs.Sends.{nothing, flushed}
+use Rattle.tcc_rules.specs.Sends.{nothing, flush_line}
 use Rattle.tcc_rules.specs.Attempt.{moves, finished, new_word}
 use Rattle.tcc_rules.specs.Execute.{word_store, partial_store, change_valid, marks_read, stored_in_buffer, stored_in_frame, place, miss}
 use Rattle.spec_cache.specs.Look.{look_of}
@@ -94,7 +94,7 @@ word_buffered sh p n w x s h = rw h refl
 
 pub word_framed : (sh : Shape) (p : Program) (n : Need) (w x : ℕ) (s : CoreState) → holds s.spilled (line_of w) ≡ false
     → s.cache.held (line_of w) ≡ true
-    → word_store sh p n w x s ≡ Some (moves (finished p n x (stored_in_frame w x false s)) (flushed sh s.cache (line_of w)))
+    → word_store sh p n w x s ≡ Some (moves (finished p n x (stored_in_frame w x false s)) (flush_line sh s.cache (line_of w)))
 unfolding word_store
 word_framed sh p n w x s h e = rw (h, e) refl
 
@@ -131,7 +131,7 @@ change_buffered sh p n w x s h = rw h refl
 
 pub change_framed : (sh : Shape) (p : Program) (n : Need) (w x : ℕ) (s : CoreState) → holds s.spilled (line_of w) ≡ false
     → change_valid sh p n w s (Some x)
-    ≡ Some (moves (finished p n x (stored_in_frame w (new_word n x) (marks_read w s) s)) (flushed sh s.cache (line_of w)))
+    ≡ Some (moves (finished p n x (stored_in_frame w (new_word n x) (marks_read w s) s)) (flush_line sh s.cache (line_of w)))
 change_framed sh p n w x s h = rw h refl
 
 -- a line that has a valid word has a frame

@@ -6,7 +6,7 @@ ghost use Rattle.tcc_maps.specs.Spilled.{holds};
 ghost use Rattle.tcc_maps.specs.Words.{line_of};
 ghost use Rattle.tcc_rules.specs.Attempt.{moves, finished, new_word as word_after};
 ghost use Rattle.tcc_rules.specs.Execute.{marks_read, place as placed_in, stored_in_frame, stored_in_buffer, change_valid as valid_rule, partial_store as partial_rule, word_store as word_rule};
-ghost use Rattle.tcc_rules.specs.Sends.{flushed};
+ghost use Rattle.tcc_rules.specs.Sends.{flush_line};
 ghost use Rattle.rv_exec.specs.Needs.{need_of};
 ghost use Rattle.rv_plain.specs.Attempts.{alone};
 ghost use Rattle.spec_cache.specs.Held.{maps};
@@ -97,7 +97,7 @@ fn finish_framed(
     requires goes_on { GoesOn (need_of need) }
     requires held { (maps core.old.cache).held (line_of w.0) ≡ true }
     requires room { HasRoom out.old 1 }
-    ensures does { OnOk result (Did (moves (finished (alone inst.now) (need_of need) word (stored_in_frame w.0 value also (core_of core.old))) (flushed core.old.config (maps core.old.cache) (line_of w.0))) 1 out.old core.new out.new) }
+    ensures does { OnOk result (Did (moves (finished (alone inst.now) (need_of need) word (stored_in_frame w.0 value also (core_of core.old))) (flush_line core.old.config (maps core.old.cache) (line_of w.0))) 1 out.old core.new out.new) }
     ensures cause { OnErr result (IsMemory result) }
     ensures stays { Stays core.old core.new }
     ensures unchanged { OnErr result (core.new ≡ core.old) }

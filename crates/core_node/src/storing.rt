@@ -4,7 +4,7 @@ ghost use Rattle.tcc_maps.specs.Shape.{lines};
 ghost use Rattle.tcc_maps.specs.Words.{line_of};
 ghost use Rattle.tcc_rules.specs.Attempt.{moves, is_running};
 ghost use Rattle.tcc_rules.specs.Execute.{with_read_mark, stored_in_frame, stored_in_buffer};
-ghost use Rattle.tcc_rules.specs.Sends.{flushed};
+ghost use Rattle.tcc_rules.specs.Sends.{flush_line};
 ghost use Rattle.spec_cache.specs.Held.{maps};
 ghost use Rattle.commit_engine.specs.Engine.{phase_of};
 ghost use Rattle.commit_engine.specs.Sent.{HasRoom};
@@ -57,7 +57,7 @@ pub(crate) fn store_framed(core: &mut Core, w: WordAddr, value: u32, also: bool,
     requires whole { IsCore core.old }
     requires held { (maps core.old.cache).held (line_of w.0) ≡ true }
     requires room { HasRoom out.old 1 }
-    ensures does { Did (moves (stored_in_frame w.0 value also (core_of core.old)) (flushed core.old.config (maps core.old.cache) (line_of w.0))) 1 out.old core.new out.new }
+    ensures does { Did (moves (stored_in_frame w.0 value also (core_of core.old)) (flush_line core.old.config (maps core.old.cache) (line_of w.0))) 1 out.old core.new out.new }
     ensures stays { Stays core.old core.new }
 {
     let home = NodeId::Dir(core.config.home(line_of_word(w)));

@@ -26,7 +26,7 @@ use Rattle.tcc_rules.specs.Execute.{marks_read, request_line, stored_in_buffer, 
 use Rattle.tcc_rules.specs.Execute.{execute_need, miss, stored_in_frame}
 use Rattle.tcc_rules.specs.Execute.{full_set, load, load_spilled, load_valid, overflow, partial_store, place, with_read_mark, word_store}
 use Rattle.tcc_rules.specs.Links.{in_flight}
-use Rattle.tcc_rules.specs.Sends.{flushed, nothing}
+use Rattle.tcc_rules.specs.Sends.{flush_line, nothing}
 use Rattle.tcc_rules.specs.State.{Awaited, CoreState, Phase, Running, AwaitTid, DoomedTid, Probing}
 use Rattle.tcc_rules.specs.State.{Ready, Overflowing, Solo, Halted, World, start}
 use Rattle.tcc_rules.specs.State.{core_start}
@@ -119,7 +119,7 @@ module _ (sh : Shape) (p : Program) where
     where
       go : (a b d : Bool) → IfSome (
           if a then Some (moves (finished p need x (stored_in_buffer w x s)) nothing)
-          else if b then Some (moves (finished p need x (stored_in_frame w x false s)) (flushed sh s.cache (line_of w)))
+          else if b then Some (moves (finished p need x (stored_in_frame w x false s)) (flush_line sh s.cache (line_of w)))
           else if d then Some (moves (finished p need x (stored_in_frame w x false (place sh (line_of w) s))) nothing)
           else full_set sh (line_of w) s) SaysAfter
       go true b d = after-finish need x (stored_in_buffer w x s) e
@@ -133,7 +133,8 @@ module _ (sh : Shape) (p : Program) where
     where
       held : (x : ℕ) (b : Bool) → IfSome (
           if b then Some (moves (finished p need x (stored_in_buffer w (new_word need x) s)) nothing)
-          else Some (moves (finished p need x (stored_in_frame w (new_word need x) (marks_read w s) s)) (flushed sh s.cache (line_of w))))
+          else Some
+            (moves (finished p need x (stored_in_frame w (new_word need x) (marks_read w s) s)) (flush_line sh s.cache (line_of w))))
             SaysAfter
       held x true = after-finish need x (stored_in_buffer w (new_word need x) s) e
       held x false = after-finish need x (stored_in_frame w (new_word need x) (marks_read w s) s) e

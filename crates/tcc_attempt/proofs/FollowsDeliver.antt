@@ -13,7 +13,7 @@ use Rattle.tcc_maps.specs.CacheChange.{filled, invalidated, cleaned, evicted, re
 use Rattle.tcc_maps.specs.Spilled.{spill_line, none_spilled}
 use Rattle.tcc_maps.proofs.Lemmas.{value-evicted, modified-evicted, value-filled, modified-filled, value-invalidated, modified-invalidated, modified-rolled_back}
 use Rattle.tcc_rules.specs.State.{CoreState, Awaited, Phase, Running, AwaitTid, DoomedTid, Probing, Ready, Overflowing, Solo, Halted}
-use Rattle.tcc_rules.specs.Sends.{nothing, to, marks_for, written_back}
+use Rattle.tcc_rules.specs.Sends.{nothing, to, marks_for, write_back_line}
 use Rattle.tcc_rules.specs.Attempt.{Out, moves, is_solo, roll_back}
 use Rattle.tcc_rules.specs.CoreEvict.{is_awaited, evict_line, core_evict}
 use Rattle.tcc_rules.specs.CoreDeliver.{ignored, grant_in_phase, grant, probing_or_ready, is_probed, replied, all_replied, reply_in_phase, probe_reply, fill_awaited, fill, data_request, violated_in_phase, if_violated, staled, words_invalidated, is_violated, acknowledged, invalidate, from_dir, from_vendor, core_deliver}
@@ -42,7 +42,7 @@ evict_line-follows : (sh : Shape) (p : Program) (x y : ℕ) (s : CoreState) (us 
 evict_line-follows sh p x y s us None e k a = tt
 evict_line-follows sh p x y s us (Some l) e k a = at (is_awaited s.awaited l || (is_marked s.cache l && not (is_solo s.phase)))
   where
-    at : (b : Bool) → IfSome (cond b None (Some (moves (record s { cache = evicted x y s.cache; spilled = spill_line l s.cache s.spilled }) (written_back sh s.cache l)))) (λ t. Follows sh p t.core us)
+    at : (b : Bool) → IfSome (cond b None (Some (moves (record s { cache = evicted x y s.cache; spilled = spill_line l s.cache s.spilled }) (write_back_line sh s.cache l)))) (λ t. Follows sh p t.core us)
     at true = tt
     at false = follows-same sh p s us (evicted x y s.cache) (spill_line l s.cache s.spilled) s.awaited s.owing (evicted-seen sh x y l s e k) a
 

@@ -15,7 +15,7 @@ use Rattle.tcc_maps.specs.CacheChange.{marked, stored, placed}
 use Rattle.tcc_maps.specs.Spilled.{holds, none_spilled}
 use Rattle.tcc_maps.proofs.Lemmas.{value-placed, modified-placed, modified-committed}
 use Rattle.tcc_rules.specs.State.{CoreState, Awaited, Phase, Running, AwaitTid, DoomedTid, Probing, Ready, Overflowing, Solo, Halted}
-use Rattle.tcc_rules.specs.Sends.{nothing, flushed}
+use Rattle.tcc_rules.specs.Sends.{nothing, flush_line}
 use Rattle.tcc_rules.specs.Attempt.{Out, moves, is_solo, is_running, finished, new_word}
 use Rattle.tcc_rules.specs.Commit.{phase_after_commit, ended_after_commit, committed_core, commit, solo_commit}
 use Rattle.tcc_rules.specs.Execute.{request_line, place, overflow, full_set, miss, with_read_mark, load_valid, load_spilled, load, stored_in_buffer, stored_in_frame, word_store, marks_read, change_valid, change_spilled, partial_store, end_transaction, execute_need, execute}
@@ -198,7 +198,7 @@ word_store-follows sh p addr value s us f e a = at (holds s.spilled (line_of w))
     at : (b : Bool) → holds s.spilled (line_of w) ≡ b → (c : Bool) (o : Option ℕ) →
         OutFollows sh p (us ++ []) (cond b (Some (moves (finished p (Stores addr Word value) value (stored_in_buffer w value s)) nothing))
         (cond c
-          (Some (moves (finished p (Stores addr Word value) value (stored_in_frame w value false s)) (flushed sh s.cache (line_of w))))
+          (Some (moves (finished p (Stores addr Word value) value (stored_in_frame w value false s)) (flush_line sh s.cache (line_of w))))
         (cond (is_some o) (Some (moves (finished p (Stores addr Word value) value (stored_in_frame w value false (place sh (line_of w) s))) nothing)) (full_set sh (line_of w) s))))
     at true h c o = goes-on sh p s us [] s.cache (put s.spilled w (Some value)) (Stores addr Word value) value tt f e a (λ ram g. tt) (λ ram g v. buffered-seen s ram w value v)
     at false h true o = goes-on sh p s us [] (stored w value false s.cache) s.spilled (Stores addr Word value) value tt f e a (λ ram g. tt) (λ ram g v. framed-seen s s.cache ram w value false v (unspilled h))
@@ -221,7 +221,7 @@ partial_store-follows sh p need w s us k f e a = spilled_in (s.spilled w) refl
     into_buffer x g = goes-on sh p s us (used_at s w) s.cache (put s.spilled w (Some (new_word need x))) need x k.goes f e a (λ ram q. k.takes x (sees s ram) (g ram q)) (λ ram q v. buffered-seen s ram w (new_word need x) v ∙ sym (k.leaves x (sees s ram) v))
 
     held_in : (x : ℕ) → s.spilled w ≡ None → s.cache.value w ≡ Some x → (b : Bool) →
-        OutFollows sh p (us ++ used_at s w) (cond b (Some (moves (finished p need x (stored_in_buffer w (new_word need x) s)) nothing)) (Some (moves (finished p need x (stored_in_frame w (new_word need x) (marks_read w s) s)) (flushed sh s.cache (line_of w)))))
+        OutFollows sh p (us ++ used_at s w) (cond b (Some (moves (finished p need x (stored_in_buffer w (new_word need x) s)) nothing)) (Some (moves (finished p need x (stored_in_frame w (new_word need x) (marks_read w s) s)) (flush_line sh s.cache (line_of w)))))
     held_in x n v true = into_buffer x (λ ram g. valid-seen s ram w x n v g)
     held_in x n v false = goes-on sh p s us (used_at s w) (stored w (new_word need x) (marks_read w s) s.cache) s.spilled need x k.goes f e a (λ ram g. k.takes x (sees s ram) (valid-seen s ram w x n v g))
         (λ ram g u. framed-seen s s.cache ram w (new_word need x) (marks_read w s) u n ∙ sym (k.leaves x (sees s ram) u))

@@ -15,7 +15,7 @@ use Rattle.tcc_maps.specs.CacheChange.{marked, stored, placed}
 use Rattle.tcc_maps.specs.Spilled.{holds, none_spilled}
 use Rattle.tcc_maps.proofs.Lemmas.{read-marked, read-stored, read-committed, value-placed, read-placed, modified-placed}
 use Rattle.tcc_rules.specs.State.{CoreState, Awaited, Phase, Running, AwaitTid, DoomedTid, Probing, Ready, Overflowing, Solo, Halted}
-use Rattle.tcc_rules.specs.Sends.{nothing, flushed}
+use Rattle.tcc_rules.specs.Sends.{nothing, flush_line}
 use Rattle.tcc_rules.specs.Attempt.{Out, moves, is_solo, is_running, finished, new_word, one_more_instruction}
 use Rattle.tcc_rules.specs.Commit.{phase_after_commit, ended_after_commit, committed_core, commit, solo_commit}
 use Rattle.tcc_rules.specs.Execute.{request_line, place, overflow, full_set, miss, with_read_mark, load_valid, load_spilled, load, stored_in_buffer, stored_in_frame, word_store, marks_read, change_valid, change_spilled, partial_store, end_transaction, store_by_size, execute_need, execute}
@@ -277,7 +277,7 @@ word_store-fit sh p need w x s us q r = at (holds s.spilled (line_of w)) (s.cach
   where
     at : (a b : Bool) (o : Option ℕ) →
         OutFits sh (us ++ []) (cond a (Some (moves (finished p need x (stored_in_buffer w x s)) nothing))
-        (cond b (Some (moves (finished p need x (stored_in_frame w x false s)) (flushed sh s.cache (line_of w))))
+        (cond b (Some (moves (finished p need x (stored_in_frame w x false s)) (flush_line sh s.cache (line_of w))))
         (cond (is_some o) (Some (moves (finished p need x (stored_in_frame w x false (place sh (line_of w) s))) nothing)) (full_set sh (line_of w) s))))
     at true b o = done-fit sh p need x s (stored_in_buffer w x s) us [] q r refl refl (keeps-itself s.cache) (λ h. tt) (λ h v i. i) (adds-none s.cache [])
     at false true o = done-fit sh p need x s (stored_in_frame w x false s) us [] q r refl refl (keeps-stored w x false s.cache) (λ h. tt) (λ h v i. stored-unread w x s.cache v i) (λ v i. inl (sym (stored-same w x s.cache v) ∙ i))
@@ -316,7 +316,7 @@ partial_store-fit sh p need w s us q r = spilled_in (s.spilled w) refl
         running_alone Halted e = absurd (cc)
 
     held_in : (x : ℕ) → s.spilled w ≡ None → s.cache.value w ≡ Some x → (b : Bool) → holds s.spilled (line_of w) ≡ b →
-        OutFits sh (us ++ used_at s w) (cond b (Some (moves (finished p need x (stored_in_buffer w (new_word need x) s)) nothing)) (Some (moves (finished p need x (stored_in_frame w (new_word need x) (marks_read w s) s)) (flushed sh s.cache (line_of w)))))
+        OutFits sh (us ++ used_at s w) (cond b (Some (moves (finished p need x (stored_in_buffer w (new_word need x) s)) nothing)) (Some (moves (finished p need x (stored_in_frame w (new_word need x) (marks_read w s) s)) (flush_line sh s.cache (line_of w)))))
     held_in x n v true h = done-fit sh p need x s (stored_in_buffer w (new_word need x) s) us (used_at s w) q r refl refl (keeps-itself s.cache) (λ i. absurd (solo_holds h i)) (λ i u j. j) (adds-none s.cache (used_at s w))
     held_in x n v false h = done-fit sh p need x s (stored_in_frame w (new_word need x) (marks_read w s) s) us (used_at s w) q r refl refl (keeps-stored w (new_word need x) (marks_read w s) s.cache)
         (λ i. stands-new (stored w (new_word need x) (marks_read w s) s.cache) w (s.spilled w) (s.cache.modified w) (s.cache.value w)

@@ -14,7 +14,7 @@ use Rattle.tcc_maps.specs.CacheLook.{reads_masked}
 use Rattle.tcc_maps.specs.Spilled.{spill_line, none_spilled}
 use Rattle.tcc_maps.proofs.Lemmas.{any_below-at, value-evicted, read-evicted, modified-evicted, value-filled, read-filled, modified-filled, value-invalidated, read-invalidated, modified-invalidated, read-cleaned, read-rolled_back}
 use Rattle.tcc_rules.specs.State.{CoreState, Awaited, Phase, Running, AwaitTid, DoomedTid, Probing, Ready, Overflowing, Solo, Halted}
-use Rattle.tcc_rules.specs.Sends.{nothing, to, marks_for, written_back}
+use Rattle.tcc_rules.specs.Sends.{nothing, to, marks_for, write_back_line}
 use Rattle.tcc_rules.specs.Attempt.{Out, moves, is_solo, roll_back}
 use Rattle.tcc_rules.specs.CoreEvict.{is_awaited, evict_line, core_evict}
 use Rattle.tcc_rules.specs.CoreDeliver.{ignored, grant_in_phase, grant, probing_or_ready, is_probed, replied, all_replied, reply_in_phase, probe_reply, fill_awaited, fill, data_request, may_be_above, violated_in_phase, if_violated, staled, words_invalidated, is_violated, acknowledged, invalidate, from_dir, from_vendor, core_deliver}
@@ -110,7 +110,7 @@ evict_line-fit : (sh : Shape) (x y : ℕ) (s : CoreState) (us : Uses) (o : Optio
 evict_line-fit sh x y s us None e m = tt
 evict_line-fit sh x y s us (Some l) e m = at (is_awaited s.awaited l || (is_marked s.cache l && not (is_solo s.phase))) refl
   where
-    at : (b : Bool) → (is_awaited s.awaited l || (is_marked s.cache l && not (is_solo s.phase))) ≡ b → IfSome (cond b None (Some (moves (record s { cache = evicted x y s.cache; spilled = spill_line l s.cache s.spilled }) (written_back sh s.cache l)))) (λ t. MarksFit sh t.core us)
+    at : (b : Bool) → (is_awaited s.awaited l || (is_marked s.cache l && not (is_solo s.phase))) ≡ b → IfSome (cond b None (Some (moves (record s { cache = evicted x y s.cache; spilled = spill_line l s.cache s.spilled }) (write_back_line sh s.cache l)))) (λ t. MarksFit sh t.core us)
     at true q = tt
     at false q = record { stand = evicted-uses x y l s.cache us s.phase e (or-right (is_awaited s.awaited l) (is_marked s.cache l && not (is_solo s.phase)) q) m.stand; used = fewer-used s.cache (evicted x y s.cache) us (evicted-reads x y l s.cache e) m.used; awaits = m.awaits; owes = m.owes }
 

@@ -14,7 +14,7 @@ use Rattle.tcc_maps.specs.Spilled.{spill_line, none_spilled}
 use Rattle.tcc_maps.proofs.Lemmas.{empty-keeps, evicted-keeps, filled-keeps, invalidated-keeps, cleaned-keeps, rolled_back-keeps, read_cleared-keeps, any_below-at, held-evicted, modified-evicted, dirty-evicted, read-evicted, read-filled, modified-filled, dirty-filled, held-invalidated, read-invalidated, modified-invalidated, dirty-invalidated, held-cleaned, read-cleaned, modified-cleaned, dirty-cleaned, held-rolled_back, read-rolled_back, modified-rolled_back, held-read_cleared, modified-read_cleared, dirty-read_cleared}
 use Rattle.tcc_rules.specs.State.{CoreState, Awaited, Phase, Running, AwaitTid, DoomedTid, Probing, Ready, Overflowing, Solo, Halted, World, core_start, start}
 use Rattle.tcc_rules.specs.Links.{in_flight}
-use Rattle.tcc_rules.specs.Sends.{nothing, to, marks_for, written_back}
+use Rattle.tcc_rules.specs.Sends.{nothing, to, marks_for, write_back_line}
 use Rattle.tcc_rules.specs.Attempt.{Out, moves, is_solo, roll_back}
 use Rattle.tcc_rules.specs.CoreExec.{core_exec}
 use Rattle.tcc_rules.specs.CoreEvict.{is_awaited, evict_line, core_evict}
@@ -79,7 +79,7 @@ evict_line-sound : (sh : Shape) (x y : ℕ) (s : CoreState) (o : Option ℕ) →
 evict_line-sound sh x y s None e k = tt
 evict_line-sound sh x y s (Some l) e k = at (is_awaited s.awaited l || (is_marked s.cache l && not (is_solo s.phase))) refl
   where
-    at : (b : Bool) → (is_awaited s.awaited l || (is_marked s.cache l && not (is_solo s.phase))) ≡ b → OutSound sh (cond b None (Some (moves (record s { cache = evicted x y s.cache; spilled = spill_line l s.cache s.spilled }) (written_back sh s.cache l))))
+    at : (b : Bool) → (is_awaited s.awaited l || (is_marked s.cache l && not (is_solo s.phase))) ≡ b → OutSound sh (cond b None (Some (moves (record s { cache = evicted x y s.cache; spilled = spill_line l s.cache s.spilled }) (write_back_line sh s.cache l))))
     at true q = tt
     at false q =
         let n = or-left (is_awaited s.awaited l) (is_marked s.cache l && not (is_solo s.phase)) q in

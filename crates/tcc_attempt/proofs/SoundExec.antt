@@ -12,7 +12,7 @@ use Rattle.tcc_maps.specs.CacheChange.{committed, words_dropped}
 use Rattle.tcc_maps.specs.Spilled.{holds, none_spilled}
 use Rattle.tcc_maps.proofs.Lemmas.{committed-keeps, words_dropped-keeps, read-committed, modified-committed, held-committed, held-words_dropped}
 use Rattle.tcc_rules.specs.State.{CoreState, Awaited, Phase, Running, AwaitTid, DoomedTid, Probing, Ready, Overflowing, Solo, Halted}
-use Rattle.tcc_rules.specs.Sends.{nothing, flushed}
+use Rattle.tcc_rules.specs.Sends.{nothing, flush_line}
 use Rattle.tcc_rules.specs.Attempt.{Out, moves, is_solo, is_running, finished, new_word}
 use Rattle.tcc_rules.specs.Commit.{committed_core, commit, solo_commit}
 use Rattle.tcc_rules.specs.Execute.{place, full_set, with_read_mark, load_valid, load_spilled, load, stored_in_buffer, stored_in_frame, word_store, marks_read, change_valid, change_spilled, partial_store, end_transaction, store_by_size, execute_need, execute}
@@ -49,7 +49,7 @@ word_store-sound sh p need w x s m k = at (holds s.spilled (line_of w)) refl (s.
   where
     at : (a : Bool) → holds s.spilled (line_of w) ≡ a → (b : Bool) → s.cache.held (line_of w) ≡ b → (o : Option ℕ) → free_way sh s.cache (set_of sh (line_of w)) ≡ o →
         OutSound sh (cond a (Some (moves (finished p need x (stored_in_buffer w x s)) nothing))
-        (cond b (Some (moves (finished p need x (stored_in_frame w x false s)) (flushed sh s.cache (line_of w))))
+        (cond b (Some (moves (finished p need x (stored_in_frame w x false s)) (flush_line sh s.cache (line_of w))))
         (cond (is_some o) (Some (moves (finished p need x (stored_in_frame w x false (place sh (line_of w) s))) nothing)) (full_set sh (line_of w) s))))
     at true h b i o e = finished-sound sh p need x (stored_in_buffer w x s) (buffered-sound sh w x s m h k)
     at false h true i o e = finished-sound sh p need x (stored_in_frame w x false s) (framed-sound sh w x false s m i h k)
@@ -61,7 +61,7 @@ unfolding partial_store
 partial_store-sound sh p need w s m k = spilled_in (s.spilled w) refl
   where
     held_in : (x : ℕ) → s.cache.value w ≡ Some x → (a : Bool) → holds s.spilled (line_of w) ≡ a →
-        OutSound sh (cond a (Some (moves (finished p need x (stored_in_buffer w (new_word need x) s)) nothing)) (Some (moves (finished p need x (stored_in_frame w (new_word need x) (marks_read w s) s)) (flushed sh s.cache (line_of w)))))
+        OutSound sh (cond a (Some (moves (finished p need x (stored_in_buffer w (new_word need x) s)) nothing)) (Some (moves (finished p need x (stored_in_frame w (new_word need x) (marks_read w s) s)) (flush_line sh s.cache (line_of w)))))
     held_in x e true h = finished-sound sh p need x (stored_in_buffer w (new_word need x) s) (buffered-sound sh w (new_word need x) s m h k)
     held_in x e false h = finished-sound sh p need x (stored_in_frame w (new_word need x) (marks_read w s) s) (framed-sound sh w (new_word need x) (marks_read w s) s m (valid-held sh s.cache w x k.cache e) h k)
 

@@ -18,7 +18,7 @@ use Rattle.tcc_rules.specs.CoreDeliver.{grant_sends, grant_in_phase, grant, repl
 use Rattle.tcc_rules.specs.CoreEvict.{is_awaited, evict_line, core_evict}
 use Rattle.tcc_rules.specs.CoreExec.{unless_awaiting, exec_in_phase, core_exec}
 use Rattle.tcc_rules.specs.Execute.{request_line, place, overflow, full_set, miss, with_read_mark, load_valid, load_spilled, load, stored_in_buffer, stored_in_frame, word_store, marks_read, change_valid, change_spilled, partial_store, end_transaction, execute_need, execute}
-use Rattle.tcc_rules.specs.Sends.{Sends, nothing, to, when, write_back, flush, written_back, flushed, skip_all, probe_all, abort_written, marks_for}
+use Rattle.tcc_rules.specs.Sends.{Sends, nothing, to, when, write_back_of, flush_of, write_back_line, flush_line, skip_all, probe_all, abort_written, marks_for}
 use Rattle.tcc_serial.specs.InMemory.{NeedInMemory, WordInMemory}
 use Rattle.tcc_bounds.specs.Bounds.{most_sent, AttemptCounted, CommitCounted}
 use Rattle.tcc_bounds.proofs.Outside.{is_inside, Inside, SendsInside, no-message, one-message, some, and-messages, when-messages, wider, those-messages, nothing-inside, then-inside, to-inside, dirs-inside, below}
@@ -95,19 +95,19 @@ requests : (sh : Shape) → SendsInside sh (most_sent sh) (to Vendor (TidReq ∷
 unfolding is_inside
 requests sh = to-inside sh _ Vendor (TidReq ∷ []) (one-message sh _ TidReq (some sh) refl)
 
-flushes : (sh : Shape) (s : Cache) (l : ℕ) → SendsInside sh (most_sent sh) (flushed sh s l)
-unfolding flushed is_inside
-flushes sh s l = to-inside sh _ (Dir (home sh l)) (flush (dirty_copy s l)) (go (dirty_copy s l))
+flushes : (sh : Shape) (s : Cache) (l : ℕ) → SendsInside sh (most_sent sh) (flush_line sh s l)
+unfolding flush_line is_inside
+flushes sh s l = to-inside sh _ (Dir (home sh l)) (flush_of (dirty_copy s l)) (go (dirty_copy s l))
   where
-    go : (o : Option Tagged) → Inside sh (most_sent sh) (flush o)
+    go : (o : Option Tagged) → Inside sh (most_sent sh) (flush_of o)
     go None = no-message sh _
     go (Some t) = one-message sh _ (Flush t.line t.mask t.words t.tag) (some sh) refl
 
-backs : (sh : Shape) (s : Cache) (l : ℕ) → SendsInside sh (most_sent sh) (written_back sh s l)
-unfolding written_back is_inside
-backs sh s l = to-inside sh _ (Dir (home sh l)) (write_back (dirty_copy s l)) (go (dirty_copy s l))
+backs : (sh : Shape) (s : Cache) (l : ℕ) → SendsInside sh (most_sent sh) (write_back_line sh s l)
+unfolding write_back_line is_inside
+backs sh s l = to-inside sh _ (Dir (home sh l)) (write_back_of (dirty_copy s l)) (go (dirty_copy s l))
   where
-    go : (o : Option Tagged) → Inside sh (most_sent sh) (write_back o)
+    go : (o : Option Tagged) → Inside sh (most_sent sh) (write_back_of o)
     go None = no-message sh _
     go (Some t) = one-message sh _ (WriteBack t.line t.mask t.words t.tag) (some sh) refl
 
@@ -204,7 +204,7 @@ partly sh n p w need s i k = go (s.spilled w)
     valid : (b : Option ℕ) → IfSome (change_valid sh p need w s b) (Keeps sh n)
     valid None = fetches sh n (line_of w) s i k
     valid (Some x) = one (holds s.spilled (line_of w)) _ _ (into_buffer x)
-        (done_with sh n p need x (stored_in_frame w (new_word need x) (marks_read w s) s) (flushed sh s.cache (line_of w))
+        (done_with sh n p need x (stored_in_frame w (new_word need x) (marks_read w s) s) (flush_line sh s.cache (line_of w))
         (flushes sh s.cache (line_of w)) (in_frame n w (new_word need x) (marks_read w s) s k))
 
     go : (a : Option ℕ) → IfSome (change_spilled sh p need w s a) (Keeps sh n)
@@ -217,7 +217,7 @@ unfolding word_store
 stores_word sh n p w x need s k = go (holds s.spilled (line_of w)) (s.cache.held (line_of w))
     (is_some (free_way sh s.cache (set_of sh (line_of w)))) _ _ _
     (done_with sh n p need x (stored_in_buffer w x s) nothing (nothing-inside sh _) (in_buffer n w x s k))
-    (done_with sh n p need x (stored_in_frame w x false s) (flushed sh s.cache (line_of w)) (flushes sh s.cache (line_of w))
+    (done_with sh n p need x (stored_in_frame w x false s) (flush_line sh s.cache (line_of w)) (flushes sh s.cache (line_of w))
     (in_frame n w x false s k))
     (done_with sh n p need x (stored_in_frame w x false (place sh (line_of w) s)) nothing (nothing-inside sh _)
     (in_frame n w x false (place sh (line_of w) s) (placed n sh (line_of w) s k)))

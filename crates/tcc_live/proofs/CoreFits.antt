@@ -17,7 +17,8 @@ use Rattle.tcc_rules.specs.CoreDeliver.{grant_sends, grant_in_phase, grant, repl
 use Rattle.tcc_rules.specs.CoreEvict.{is_awaited, evict_line, core_evict}
 use Rattle.tcc_rules.specs.CoreExec.{unless_awaiting, exec_in_phase, core_exec}
 use Rattle.tcc_rules.specs.Execute.{request_line, place, overflow, full_set, miss, load_valid, load_spilled, load, word_store, change_valid, change_spilled, partial_store, end_transaction, execute_need, execute}
-use Rattle.tcc_rules.specs.Sends.{to, when, write_back, flush, written_back, flushed, skip_all, probe_all, abort_written, marks_for}
+use Rattle.tcc_rules.specs.Sends.{to, when, write_back_of, flush_of, write_back_line, flush_line, skip_all, probe_all, abort_written}
+use Rattle.tcc_rules.specs.Sends.{marks_for}
 use Rattle.tcc_live.proofs.Strays.{strays, AllFit, strays-append, strays-none, strays-flat, strays-when, out_fits, ask_fits, fit-nothing, fit-then, fit-to, fit-dirs}
 
 -- a core of a machine that has a directory
@@ -118,19 +119,19 @@ at_home : (sh : Shape) (c l : ℕ) (ms : List Msg) → IsCore sh c → ((d : ℕ
     → AllFit sh (Core c) (to (Dir (home sh l)) ms)
 at_home sh c l ms k h = fit-to sh (Core c) (Dir (home sh l)) ms (h (home sh l) (let n = k.dirs in omega arith))
 
-flushes : (sh : Shape) (c : ℕ) (s : Cache) (l : ℕ) → IsCore sh c → AllFit sh (Core c) (flushed sh s l)
-unfolding flushed
-flushes sh c s l k = at_home sh c l (flush (dirty_copy s l)) k (λ d i. go d i (dirty_copy s l))
+flushes : (sh : Shape) (c : ℕ) (s : Cache) (l : ℕ) → IsCore sh c → AllFit sh (Core c) (flush_line sh s l)
+unfolding flush_line
+flushes sh c s l k = at_home sh c l (flush_of (dirty_copy s l)) k (λ d i. go d i (dirty_copy s l))
   where
-    go : (d : ℕ) → d < sh.dirs → (o : Option Tagged) → strays sh (Core c) (Dir d) (flush o) ≡ 0
+    go : (d : ℕ) → d < sh.dirs → (o : Option Tagged) → strays sh (Core c) (Dir d) (flush_of o) ≡ 0
     go d i None = strays-none sh (Core c) (Dir d)
     go d i (Some t) = out_fits sh c d (Flush t.line t.mask t.words t.tag) k.core i refl
 
-backs : (sh : Shape) (c : ℕ) (s : Cache) (l : ℕ) → IsCore sh c → AllFit sh (Core c) (written_back sh s l)
-unfolding written_back
-backs sh c s l k = at_home sh c l (write_back (dirty_copy s l)) k (λ d i. go d i (dirty_copy s l))
+backs : (sh : Shape) (c : ℕ) (s : Cache) (l : ℕ) → IsCore sh c → AllFit sh (Core c) (write_back_line sh s l)
+unfolding write_back_line
+backs sh c s l k = at_home sh c l (write_back_of (dirty_copy s l)) k (λ d i. go d i (dirty_copy s l))
   where
-    go : (d : ℕ) → d < sh.dirs → (o : Option Tagged) → strays sh (Core c) (Dir d) (write_back o) ≡ 0
+    go : (d : ℕ) → d < sh.dirs → (o : Option Tagged) → strays sh (Core c) (Dir d) (write_back_of o) ≡ 0
     go d i None = strays-none sh (Core c) (Dir d)
     go d i (Some t) = out_fits sh c d (WriteBack t.line t.mask t.words t.tag) k.core i refl
 

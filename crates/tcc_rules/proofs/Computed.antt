@@ -28,7 +28,7 @@ use Rattle.tcc_rules.specs.Execute.{request_line, place, overflow, full_set, mis
 use Rattle.tcc_rules.specs.Execute.{word_store, partial_store}
 use Rattle.tcc_rules.specs.Execute.{execute}
 use Rattle.tcc_rules.specs.Links.{sent_all}
-use Rattle.tcc_rules.specs.Sends.{written_back, flushed, skip_all, probe_all, abort_written, marks_for}
+use Rattle.tcc_rules.specs.Sends.{write_back_line, flush_line, skip_all, probe_all, abort_written, marks_for}
 use Rattle.tcc_rules.specs.State.{core_start, dir_start, vendor_start, start}
 use Rattle.tcc_rules.specs.Step.{names_nodes, happens, core_moves, core_takes, dir_takes, dir_asks, vendor_gives, step, is_enabled}
 use Rattle.tcc_rules.specs.Step.{insert_commit, next, run_from, run}
@@ -50,7 +50,8 @@ unfolding empty_cache is_marked way_marked free_way all_marked is_modified is_di
       invalidation_count
     owned_by_committer moved_on_if_settled dir_commit acknowledgement came_home dirdeliver-write_back dir_deliver request_line place
       overflow full_set miss
-    with_read_mark load stored_in_buffer stored_in_frame word_store partial_store execute sent_all written_back flushed skip_all probe_all
+    with_read_mark load stored_in_buffer stored_in_frame word_store partial_store execute sent_all write_back_line flush_line skip_all
+      probe_all
       abort_written
     marks_for core_start dir_start vendor_start start names_nodes happens core_moves core_takes dir_takes dir_asks vendor_gives step
     is_enabled insert_commit next run_from run copies_on copies_of copies newest home_copy seen room_for_line room_for_word

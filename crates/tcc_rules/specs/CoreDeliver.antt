@@ -10,7 +10,7 @@ use Rattle.tcc_maps.specs.CacheChange.{filled, invalidated, cleaned, read_cleare
 use Rattle.tcc_maps.specs.CacheLook.{reads_masked}
 use Rattle.tcc_maps.specs.Spilled.{none_spilled}
 use Rattle.tcc_rules.specs.State.{CoreState, Awaited, Phase, Running, AwaitTid, DoomedTid, Probing, Ready, Overflowing, Solo, Halted}
-use Rattle.tcc_rules.specs.Sends.{Sends, nothing, to, then_send, to_dirs, when, flushed, skip_all, probe_all, abort_written, marks_for}
+use Rattle.tcc_rules.specs.Sends.{Sends, nothing, to, then_send, to_dirs, when, flush_line, skip_all, probe_all, abort_written, marks_for}
 use Rattle.tcc_rules.specs.Attempt.{Out, moves, roll_back}
 
 -- consumed without effect
@@ -97,7 +97,7 @@ fill l ws s = fill_awaited l ws s s.awaited
 
 -- Data request: dirty words go home and become clean
 unfoldable pub data_request : Shape → (line : ℕ) → CoreState → Out
-data_request sh l s = moves (record s { cache = cleaned l s.cache }) (flushed sh s.cache l)
+data_request sh l s = moves (record s { cache = cleaned l s.cache }) (flush_line sh s.cache l)
 
 -- the core's TID isn't known, or is above u
 abbrev pub may_be_above : ℕ → Phase → Bool

@@ -12,7 +12,7 @@ use Rattle.tcc_maps.specs.Cache.{free_way, all_marked}
 use Rattle.tcc_maps.specs.CacheChange.{marked, stored, placed}
 use Rattle.tcc_maps.specs.Spilled.{holds}
 use Rattle.tcc_rules.specs.State.{CoreState, Phase, AwaitTid, Overflowing, Solo}
-use Rattle.tcc_rules.specs.Sends.{nothing, to, flushed}
+use Rattle.tcc_rules.specs.Sends.{nothing, to, flush_line}
 use Rattle.tcc_rules.specs.Attempt.{Out, moves, is_solo, is_running, new_word, finished}
 use Rattle.tcc_rules.specs.Commit.{solo_commit}
 
@@ -68,7 +68,7 @@ stored_in_frame w x read s = record s { cache = stored w x read s.cache }
 unfoldable pub word_store : Shape → Program → Need → (word value : ℕ) → CoreState → Option Out
 word_store sh p need w x s =
     if holds s.spilled (line_of w) then Some (moves (finished p need x (stored_in_buffer w x s)) nothing)
-    else if s.cache.held (line_of w) then Some (moves (finished p need x (stored_in_frame w x false s)) (flushed sh s.cache (line_of w)))
+    else if s.cache.held (line_of w) then Some (moves (finished p need x (stored_in_frame w x false s)) (flush_line sh s.cache (line_of w)))
     else if is_some (free_way sh s.cache (set_of sh (line_of w))) then Some (moves (finished p need x (stored_in_frame w x false (place sh (line_of w) s))) nothing)
     else full_set sh (line_of w) s
 
@@ -81,7 +81,7 @@ abbrev pub change_valid : Shape → Program → Need → (word : ℕ) → CoreSt
 change_valid sh p need w s None = miss sh (line_of w) s
 change_valid sh p need w s (Some x) =
     if holds s.spilled (line_of w) then Some (moves (finished p need x (stored_in_buffer w (new_word need x) s)) nothing)
-    else Some (moves (finished p need x (stored_in_frame w (new_word need x) (marks_read w s) s)) (flushed sh s.cache (line_of w)))
+    else Some (moves (finished p need x (stored_in_frame w (new_word need x) (marks_read w s) s)) (flush_line sh s.cache (line_of w)))
 
 abbrev pub change_spilled : Shape → Program → Need → (word : ℕ) → CoreState → (spilled : Option ℕ) → Option Out
 change_spilled sh p need w s (Some x) = Some (moves (finished p need x (stored_in_buffer w (new_word need x) s)) nothing)

@@ -76,8 +76,8 @@ pub use Rattle.tcc_rules.specs.Links.{in_flight}
 unfoldable pub use Rattle.tcc_rules.specs.Links.{sent_all}
 pub use Rattle.tcc_rules.specs.Seen.{Copy, numbers, copy_in, copy_of}
 unfoldable pub use Rattle.tcc_rules.specs.Seen.{seen, copies, copies_of, copies_on, home_copy, newest}
-pub use Rattle.tcc_rules.specs.Sends.{to, Sends, nothing, flush, to_dirs, when}
-unfoldable pub use Rattle.tcc_rules.specs.Sends.{marks_for, flushed, written_back, skip_all, abort_written, probe_all}
+pub use Rattle.tcc_rules.specs.Sends.{to, Sends, nothing, flush_of, to_dirs, when}
+unfoldable pub use Rattle.tcc_rules.specs.Sends.{marks_for, flush_line, write_back_line, skip_all, abort_written, probe_all}
 pub use Rattle.tcc_rules.specs.State.{World, CoreState, DirState, Halted, Ready, Solo, Phase, DoomedTid, Overflowing, Running, AwaitTid}
 pub use Rattle.tcc_rules.specs.State.{Probing, Awaited, Link}
 unfoldable pub use Rattle.tcc_rules.specs.State.{start, core_start, dir_start, vendor_start}

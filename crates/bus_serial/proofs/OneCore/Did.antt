@@ -18,7 +18,7 @@ use Rattle.tcc_rules.specs.Execute.{stored_in_buffer, stored_in_frame}
 use Rattle.tcc_rules.specs.Execute.{word_store, marks_read, change_valid, change_spilled, partial_store, end_transaction, execute_need}
 use Rattle.tcc_rules.specs.Execute.{execute}
 use Rattle.tcc_rules.specs.CoreExec.{unless_awaiting, exec_in_phase, core_exec}
-use Rattle.tcc_rules.specs.Sends.{Sends, nothing, flushed}
+use Rattle.tcc_rules.specs.Sends.{Sends, nothing, flush_line}
 use Rattle.tcc_bounds.specs.Bounds.{AttemptCounted}
 use Rattle.tcc_bounds.proofs.Lemmas.{finishes, marked_read, weak}
 
@@ -273,10 +273,10 @@ partly sh M p need w s m = go (s.spilled w)
   where
     one : (x : ℕ) (b : Bool) → IfSome (
         if b then Some (moves (finished p need x (stored_in_buffer w (new_word need x) s)) nothing)
-        else Some (moves (finished p need x (stored_in_frame w (new_word need x) (marks_read w s) s)) (flushed sh s.cache (line_of w))))
+        else Some (moves (finished p need x (stored_in_frame w (new_word need x) (marks_read w s) s)) (flush_line sh s.cache (line_of w))))
         (Executed M w s)
     one x true = buffers sh M p need w (new_word need x) x s m
-    one x false = frames sh M p need w (new_word need x) x (marks_read w s) s s.cache (flushed sh s.cache (line_of w)) (did-nothing M s)
+    one x false = frames sh M p need w (new_word need x) x (marks_read w s) s s.cache (flush_line sh s.cache (line_of w)) (did-nothing M s)
 
     valid : (o : Option ℕ) → s.cache.value w ≡ o → IfSome (change_valid sh p need w s o) (Executed M w s)
     valid None e = fetches sh M w s m e
@@ -294,11 +294,11 @@ wholly sh M p need w x s m = go (holds s.spilled (line_of w)) (s.cache.held (lin
   where
     go : (a b d : Bool) → IfSome (
         if a then Some (moves (finished p need x (stored_in_buffer w x s)) nothing)
-        else (if b then Some (moves (finished p need x (stored_in_frame w x false s)) (flushed sh s.cache (line_of w)))
+        else (if b then Some (moves (finished p need x (stored_in_frame w x false s)) (flush_line sh s.cache (line_of w)))
         else (if d then Some (moves (finished p need x (stored_in_frame w x false (place sh (line_of w) s))) nothing)
         else full_set sh (line_of w) s))) (Executed M w s)
     go true b d = buffers sh M p need w x x s m
-    go false true d = frames sh M p need w x x false s s.cache (flushed sh s.cache (line_of w)) (did-nothing M s)
+    go false true d = frames sh M p need w x x false s s.cache (flush_line sh s.cache (line_of w)) (did-nothing M s)
     go false false true = frames sh M p need w x x false s (placed sh (line_of w) s.cache) nothing (place-did sh M (line_of w) s m)
     go false false false = full sh M (line_of w) w s
 

@@ -12,7 +12,7 @@ use Rattle.tcc_program.specs.Plain.{Outcome, PlainCore}
 use Rattle.tcc_program.specs.Program.{Program}
 use Rattle.tcc_rules.specs.Attempt.{moves, is_solo, roll_back}
 use Rattle.tcc_rules.specs.CoreEvict.{is_awaited, evict_line, core_evict}
-use Rattle.tcc_rules.specs.Sends.{written_back}
+use Rattle.tcc_rules.specs.Sends.{write_back_line}
 use Rattle.tcc_rules.specs.State.{CoreState, Phase, Running, Halted}
 use Rattle.tcc_attempt.specs.Sound.{is_idle}
 use Rattle.tcc_serial.specs.Commits.{CoreSerial, end_after}
@@ -69,7 +69,7 @@ evict-same sh x y s = go (s.cache.at x y)
     at : (l : ℕ) (b : Bool) → IfSome (if b then None else Some (moves (record s {
       cache = evicted x y s.cache;
       spilled = spill_line l s.cache s.spilled;
-    }) (written_back sh s.cache l))) (λ o. Same s o.core)
+    }) (write_back_line sh s.cache l))) (λ o. Same s o.core)
     at l true = tt
     at l false = record { saved = refl; ended = refl }
 

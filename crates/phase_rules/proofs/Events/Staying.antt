@@ -21,7 +21,7 @@ use Rattle.tcc_rules.specs.Execute.{overflow, full_set, request_line, miss, plac
 use Rattle.tcc_rules.specs.Execute.{stored_in_buffer, stored_in_frame}
 use Rattle.tcc_rules.specs.Execute.{end_transaction, execute_need, execute}
 use Rattle.tcc_rules.specs.Links.{in_flight, sent_all, taking}
-use Rattle.tcc_rules.specs.Sends.{written_back, flushed, skip_all, probe_all, abort_written}
+use Rattle.tcc_rules.specs.Sends.{write_back_line, flush_line, skip_all, probe_all, abort_written}
 use Rattle.tcc_rules.specs.Step.{Stepped, core_moves, core_takes, dir_takes, dir_asks, vendor_gives, moved, taken, answered, granted}
 use Rattle.tcc_rules.specs.Step.{delivered, if_in_flight, names_nodes, happens, step}
 use Rattle.tcc_rules.specs.VendorDeliver.{Granted, vendor_deliver}
@@ -45,7 +45,7 @@ unfolding core_evict
 evict-halts sh x y s = grind (arith, nat_tests)
 
 evict-asks : (sh : Shape) (x y : ℕ) (s : CoreState) → asked_in (core_evict sh x y s) ≡ []
-unfolding core_evict written_back
+unfolding core_evict write_back_line
 evict-asks sh x y s = grind (arith, nat_tests)
 
 deliver-halts : (sh : Shape) (s : CoreState) (n : Node) (m : Msg)
@@ -54,7 +54,7 @@ unfolding core_deliver grant probe_reply fill data_request invalidate acknowledg
 deliver-halts sh s n m = grind (arith, nat_tests)
 
 deliver-asks : (sh : Shape) (s : CoreState) (n : Node) (m : Msg) → asked_in (core_deliver sh s n m) ≡ []
-unfolding core_deliver grant grant_sends probe_reply fill data_request invalidate acknowledged if_violated words_invalidated flushed
+unfolding core_deliver grant grant_sends probe_reply fill data_request invalidate acknowledged if_violated words_invalidated flush_line
     skip_all
     probe_all abort_written
 deliver-asks sh s n m = grind (arith, nat_tests)

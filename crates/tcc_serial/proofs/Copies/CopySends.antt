@@ -4,9 +4,9 @@ use Rattle.tcc_serial.proofs.Names.{None, nat_lt, if◌then◌else◌, flat_map,
 use Rattle.tcc_serial.proofs.Names.{count_below, Dir, Msg, Skip, Mark, Commit, WriteBack, Flush, Shape, home, lines, Cache, is_dirty}
 use Rattle.tcc_serial.proofs.Names.{dirty_tag, dirty_mask, dirty_words, dirty_copy, Spilled, holds, spilled_mask, spilled_words}
 use Rattle.tcc_serial.proofs.Names.{commit_sends, solo_sends, solo_marks_or_skip, solo_write_backs, solo_writes_at, is_written}
-use Rattle.tcc_serial.proofs.Names.{written_mask, to, flush}
-use Rattle.tcc_serial.proofs.Names.{flushed, written_back, CopyOf, CopyMask, among, passes}
-use Rattle.tcc_rules.specs.Sends.{write_back}
+use Rattle.tcc_serial.proofs.Names.{written_mask, to, flush_of}
+use Rattle.tcc_serial.proofs.Names.{flush_line, write_back_line, CopyOf, CopyMask, among, passes}
+use Rattle.tcc_rules.specs.Sends.{write_back_of}
 use Rattle.tcc_serial.proofs.Copies.DirtyFrames.{frame_copy, frame_wrong}
 use Rattle.tcc_serial.proofs.Counts.Links.{among-append, among-flat_map_none}
 
@@ -36,19 +36,19 @@ leaves-one l k c m q f g = record {
   other = λ e t. let y : (k == l) ≡ false = grind (arith, nat_tests) in rw (f t, y) refl;
 }
 
-flush-leaves : (l k : ℕ) (c : Cache) → Leaves l k c (flush (dirty_copy c k))
+flush-leaves : (l k : ℕ) (c : Cache) → Leaves l k c (flush_of (dirty_copy c k))
 unfolding dirty_copy passes
 flush-leaves l k c = go (is_dirty c k) refl
   where
-    go : (b : Bool) → is_dirty c k ≡ b → Leaves l k c (flush (cond b (Some (record { line = k; mask = dirty_mask c k; words = dirty_words c k; tag = dirty_tag c k })) None))
+    go : (b : Bool) → is_dirty c k ≡ b → Leaves l k c (flush_of (cond b (Some (record { line = k; mask = dirty_mask c k; words = dirty_words c k; tag = dirty_tag c k })) None))
     go false q = leaves-none l k c q
     go true q = leaves-one l k c (Flush k (dirty_mask c k) (dirty_words c k) (dirty_tag c k)) q (λ t. refl) (λ t n. refl)
 
-back-leaves : (l k : ℕ) (c : Cache) → Leaves l k c (write_back (dirty_copy c k))
+back-leaves : (l k : ℕ) (c : Cache) → Leaves l k c (write_back_of (dirty_copy c k))
 unfolding dirty_copy passes
 back-leaves l k c = go (is_dirty c k) refl
   where
-    go : (b : Bool) → is_dirty c k ≡ b → Leaves l k c (write_back (cond b (Some (record { line = k; mask = dirty_mask c k; words = dirty_words c k; tag = dirty_tag c k })) None))
+    go : (b : Bool) → is_dirty c k ≡ b → Leaves l k c (write_back_of (cond b (Some (record { line = k; mask = dirty_mask c k; words = dirty_words c k; tag = dirty_tag c k })) None))
     go false q = leaves-none l k c q
     go true q = leaves-one l k c (WriteBack k (dirty_mask c k) (dirty_words c k) (dirty_tag c k)) q (λ t. refl) (λ t n. refl)
 
@@ -61,13 +61,13 @@ at-home sh l k c ms h = go (home sh l == home sh k) refl
     go true q = h
     go false q = record { same = λ e. absurd (let y : (home sh l == home sh k) ≡ true = rw e (grind (arith, nat_tests)) in cc); other = λ e t. refl }
 
-pub flushed-leaves : (sh : Shape) (l k : ℕ) (c : Cache) → Leaves l k c (flushed sh c k (Dir (home sh l)))
-unfolding flushed
-flushed-leaves sh l k c = at-home sh l k c (flush (dirty_copy c k)) (flush-leaves l k c)
+pub flushed-leaves : (sh : Shape) (l k : ℕ) (c : Cache) → Leaves l k c (flush_line sh c k (Dir (home sh l)))
+unfolding flush_line
+flushed-leaves sh l k c = at-home sh l k c (flush_of (dirty_copy c k)) (flush-leaves l k c)
 
-pub back-home-leaves : (sh : Shape) (l k : ℕ) (c : Cache) → Leaves l k c (written_back sh c k (Dir (home sh l)))
-unfolding written_back
-back-home-leaves sh l k c = at-home sh l k c (write_back (dirty_copy c k)) (back-leaves l k c)
+pub back-home-leaves : (sh : Shape) (l k : ℕ) (c : Cache) → Leaves l k c (write_back_line sh c k (Dir (home sh l)))
+unfolding write_back_line
+back-home-leaves sh l k c = at-home sh l k c (write_back_of (dirty_copy c k)) (back-leaves l k c)
 
 -- copies of some lines, one each
 one-back : (p : ℕ → Bool) (f : ℕ → ℕ) (ws : ℕ → List ℕ) (u t l n : ℕ) → among (CopyOf l t) (flat_map (λ k. WriteBack k (f k) (ws k) u ∷ []) (those p n)) ≡ num ((nat_lt l n && p l) && u == t)

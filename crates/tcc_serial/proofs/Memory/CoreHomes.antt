@@ -4,11 +4,12 @@ use Rattle.tcc_serial.proofs.Names.{is_some, nat_lt, if◌then◌else◌, flat_m
 use Rattle.tcc_serial.proofs.Names.{count_below, any_word, word_at, Dir, Msg, LoadReq, Skip, Mark, Commit, WriteBack, Flush, InvAck, Shape}
 use Rattle.tcc_serial.proofs.Names.{home, lines, Cache, keeps, is_dirty, dirty_mask, dirty_copy, dirty_words, dirty_tag, is_modified}
 use Rattle.tcc_serial.proofs.Names.{modified_mask, written_lines, Spilled, holds, spilled_mask, spilled_words, CoreState, Sends, nothing}
-use Rattle.tcc_serial.proofs.Names.{to, flush, flushed, written_back, marks_for, commit, solo_commit, solo_sends, solo_marks_or_skip}
+use Rattle.tcc_serial.proofs.Names.{to, flush_of, flush_line, write_back_line, marks_for, commit, solo_commit, solo_sends}
+use Rattle.tcc_serial.proofs.Names.{solo_marks_or_skip}
 use Rattle.tcc_serial.proofs.Names.{solo_write_backs}
 use Rattle.tcc_serial.proofs.Names.{solo_writes_at, is_written, written_mask, core_exec, core_evict, grant, from_dir, LinesAway, NoWord}
 use Rattle.tcc_serial.proofs.Names.{among, passes}
-use Rattle.tcc_rules.specs.Sends.{write_back}
+use Rattle.tcc_rules.specs.Sends.{write_back_of}
 use Rattle.tcc_serial.proofs.Counts.Links.{among-append}
 use Rattle.tcc_serial.proofs.Serving.CoreDue.{among-those_none}
 use Rattle.tcc_serial.proofs.Marks.CoreMarks.{some-mask, modified-full, written-full, holds-found}
@@ -82,19 +83,19 @@ spilled-full : (sp : Spilled) (l : ℕ) → holds sp l ≡ true → 0 < spilled_
 unfolding spilled_mask
 spilled-full sp l e = let x = holds-found sp l e in some-mask (λ k. is_some (sp (word_at l k))) (x.0) (x.1) (x.2)
 
-homely-flushed : (sh : Shape) (c : Cache) (l : ℕ) → HomelyOut sh (flushed sh c l)
-unfolding flushed dirty_copy
-homely-flushed sh c l d = homely-to sh (home sh l) d (flush (dirty_copy c l)) (λ e. go (is_dirty c l) refl e)
+homely-flushed : (sh : Shape) (c : Cache) (l : ℕ) → HomelyOut sh (flush_line sh c l)
+unfolding flush_line dirty_copy
+homely-flushed sh c l d = homely-to sh (home sh l) d (flush_of (dirty_copy c l)) (λ e. go (is_dirty c l) refl e)
   where
-    go : (b : Bool) → is_dirty c l ≡ b → d ≡ home sh l → Homely sh d (flush (cond b (Some (record { line = l; mask = dirty_mask c l; words = dirty_words c l; tag = dirty_tag c l })) None))
+    go : (b : Bool) → is_dirty c l ≡ b → d ≡ home sh l → Homely sh d (flush_of (cond b (Some (record { line = l; mask = dirty_mask c l; words = dirty_words c l; tag = dirty_tag c l })) None))
     go false q e = homely-none sh d
     go true q e = one-flush sh d l (dirty_mask c l) (dirty_words c l) (dirty_tag c l) e (dirty-full c l q)
 
-homely-written : (sh : Shape) (c : Cache) (l : ℕ) → HomelyOut sh (written_back sh c l)
-unfolding written_back dirty_copy
-homely-written sh c l d = homely-to sh (home sh l) d (write_back (dirty_copy c l)) (λ e. go (is_dirty c l) refl e)
+homely-written : (sh : Shape) (c : Cache) (l : ℕ) → HomelyOut sh (write_back_line sh c l)
+unfolding write_back_line dirty_copy
+homely-written sh c l d = homely-to sh (home sh l) d (write_back_of (dirty_copy c l)) (λ e. go (is_dirty c l) refl e)
   where
-    go : (b : Bool) → is_dirty c l ≡ b → d ≡ home sh l → Homely sh d (write_back (cond b (Some (record { line = l; mask = dirty_mask c l; words = dirty_words c l; tag = dirty_tag c l })) None))
+    go : (b : Bool) → is_dirty c l ≡ b → d ≡ home sh l → Homely sh d (write_back_of (cond b (Some (record { line = l; mask = dirty_mask c l; words = dirty_words c l; tag = dirty_tag c l })) None))
     go false q e = homely-none sh d
     go true q e = one-back sh d l (dirty_mask c l) (dirty_words c l) (dirty_tag c l) e (dirty-full c l q)
 

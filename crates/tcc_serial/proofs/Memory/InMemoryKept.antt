@@ -3,7 +3,7 @@ use Rattle.tcc_serial.proofs.Names.{nat_tests, ℕ, ◌≡◌, Bool, true, false
 use Rattle.tcc_serial.proofs.Names.{if◌then◌else◌, refl, Dir, Msg, Fill, ProbeReply, DataReq, Inv, Shape, Cache, is_marked, filled, cleaned}
 use Rattle.tcc_serial.proofs.Names.{invalidated, read_cleared, rolled_back, evicted, evicted_line, spill_line, CoreState, Awaited, Phase}
 use Rattle.tcc_serial.proofs.Names.{Running, AwaitTid, DoomedTid, Probing, Ready, Overflowing, Solo, Halted, nothing, to, marks_for}
-use Rattle.tcc_serial.proofs.Names.{written_back, moves, is_solo, roll_back, core_evict, evict_line, is_awaited, ignored, grant}
+use Rattle.tcc_serial.proofs.Names.{write_back_line, moves, is_solo, roll_back, core_evict, evict_line, is_awaited, ignored, grant}
 use Rattle.tcc_serial.proofs.Names.{grant_in_phase, probe_reply, reply_in_phase, replied, all_replied, ready_once_replied}
 use Rattle.tcc_serial.proofs.Names.{solo_once_replied, fill, fill_awaited}
 use Rattle.tcc_serial.proofs.Names.{data_request, invalidate, acknowledged, if_violated, is_violated, violated_in_phase, words_invalidated}
@@ -30,7 +30,7 @@ pub evict-memory : (sh : Shape) (x y : ℕ) (s : CoreState) → CoreInMemory sh 
 unfolding core_evict
 evict-memory sh x y s k = go (s.cache.at x y)
   where
-    one : (l : ℕ) (b : Bool) → IfSome (if b then None else Some (moves (record s { cache = evicted x y s.cache; spilled = spill_line l s.cache s.spilled }) (written_back sh s.cache l))) (OutInMemory sh)
+    one : (l : ℕ) (b : Bool) → IfSome (if b then None else Some (moves (record s { cache = evicted x y s.cache; spilled = spill_line l s.cache s.spilled }) (write_back_line sh s.cache l))) (OutInMemory sh)
     one l true = tt
     one l false = (record { frames = λ m e. k.frames m (evicted-frames x y s.cache m e); accesses = k.accesses }, tt)
 

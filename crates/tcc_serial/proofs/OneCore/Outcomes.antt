@@ -8,7 +8,7 @@ use Rattle.tcc_serial.proofs.Names.{line_of, any_word, any_below, Dir, Msg, Fill
 use Rattle.tcc_serial.proofs.Names.{lines, set_of, Cache, free_way, all_marked, is_marked, is_modified, writes_at, keeps, marked, stored}
 use Rattle.tcc_serial.proofs.Names.{placed, evicted, filled, invalidated, rolled_back, cleaned, read_cleared, Spilled, none_spilled, holds}
 use Rattle.tcc_serial.proofs.Names.{spill_line, any_below-found, CoreState, Awaited, Phase, Running, AwaitTid, DoomedTid, Probing, Ready}
-use Rattle.tcc_serial.proofs.Names.{Overflowing, Solo, Sends, nothing, to, to_dirs, when, flushed, abort_written, marks_for, Out, moves}
+use Rattle.tcc_serial.proofs.Names.{Overflowing, Solo, Sends, nothing, to, to_dirs, when, flush_line, abort_written, marks_for, Out, moves}
 use Rattle.tcc_serial.proofs.Names.{finished, one_more_instruction, is_running, is_solo, new_word, roll_back, commit, solo_commit}
 use Rattle.tcc_serial.proofs.Names.{request_line, place}
 use Rattle.tcc_serial.proofs.Names.{overflow}
@@ -192,13 +192,13 @@ each-exec sh p c s P k = go s.phase refl
     buffers_held : (need : Need) (x a y : ℕ) → Acting p s need → (at : StoresAt a need) → holds s.spilled (line_of (w a)) ≡ true → P (moves (finished p need x (stored_in_buffer (w a) y s)) nothing)
     buffers_held need x a y g at h = let f = holds-word s.spilled (line_of (w a)) h in buffers need x a y f.0 g at (f.1) (f.2)
 
-    frames : (need : Need) (x a y : ℕ) (also : Bool) → Acting p s need → (at : StoresAt a need) → Framing sh s a also → P (moves (finished p need x (stored_in_frame (w a) y also s)) (flushed sh s.cache (line_of (w a))))
-    frames need x a y also g at f = stores need x a at (stored (w a) y also s.cache) s.spilled (flushed sh s.cache (line_of (w a))) (k (Frames a y also need (storing p need x a s at).0 g at f))
+    frames : (need : Need) (x a y : ℕ) (also : Bool) → Acting p s need → (at : StoresAt a need) → Framing sh s a also → P (moves (finished p need x (stored_in_frame (w a) y also s)) (flush_line sh s.cache (line_of (w a))))
+    frames need x a y also g at f = stores need x a at (stored (w a) y also s.cache) s.spilled (flush_line sh s.cache (line_of (w a))) (k (Frames a y also need (storing p need x a s at).0 g at f))
 
     partly : (need : Need) (a : ℕ) → Acting p s need → StoresAt a need → AccessAt a need → IfSome (partial_store sh p need (w a) s) P
     partly need a g at acc = spilled (s.spilled (w a)) refl
       where
-        held : (x : ℕ) → s.cache.value (w a) ≡ Some x → (b : Bool) → holds s.spilled (line_of (w a)) ≡ b → IfSome (if b then Some (moves (finished p need x (stored_in_buffer (w a) (new_word need x) s)) nothing) else Some (moves (finished p need x (stored_in_frame (w a) (new_word need x) (marks_read (w a) s) s)) (flushed sh s.cache (line_of (w a))))) P
+        held : (x : ℕ) → s.cache.value (w a) ≡ Some x → (b : Bool) → holds s.spilled (line_of (w a)) ≡ b → IfSome (if b then Some (moves (finished p need x (stored_in_buffer (w a) (new_word need x) s)) nothing) else Some (moves (finished p need x (stored_in_frame (w a) (new_word need x) (marks_read (w a) s) s)) (flush_line sh s.cache (line_of (w a))))) P
         held x e true h = buffers_held need x a (new_word need x) g at h
         held x e false h = frames need x a (new_word need x) (marks_read (w a) s) g at (record { held = inr (rw e refl); unspilled = h; alone = also-alone s.phase (not (s.cache.modified (w a))); read = λ q. (rw e refl, unmodified (is_running s.phase) (s.cache.modified (w a)) q) })
 
@@ -218,7 +218,7 @@ each-exec sh p c s P k = go s.phase refl
 
         go : (i : Bool) → holds s.spilled (line_of (w a)) ≡ i → (j : Bool) → s.cache.held (line_of (w a)) ≡ j → (f : Bool) → is_some (free_way sh s.cache (set_of sh (line_of (w a)))) ≡ f → IfSome (
             if i then Some (moves (finished p need v (stored_in_buffer (w a) v s)) nothing)
-            else (if j then Some (moves (finished p need v (stored_in_frame (w a) v false s)) (flushed sh s.cache (line_of (w a))))
+            else (if j then Some (moves (finished p need v (stored_in_frame (w a) v false s)) (flush_line sh s.cache (line_of (w a))))
             else (if f then Some (moves (finished p need v (stored_in_frame (w a) v false (place sh (line_of (w a)) s))) nothing)
             else full_set sh (line_of (w a)) s))) P
         go true h j e f i = buffers_held need v a v g refl h

@@ -4,7 +4,7 @@ use Rattle.tcc_serial.proofs.Names.{any_below, Vendor, Msg, Shape, CoreState, Ph
 use Rattle.tcc_serial.proofs.Names.{Out, commit, committed_core, commit_sends, phase_after_commit, solo_sends, core_exec, core_evict, grant}
 use Rattle.tcc_serial.proofs.Names.{grant_in_phase, grant_sends, from_dir, probing_or_ready, is_probed, among, passes, waits_for_tid}
 use Rattle.tcc_serial.proofs.Names.{abort_written}
-use Rattle.tcc_serial.proofs.Names.{flushed, solo_commit}
+use Rattle.tcc_serial.proofs.Names.{flush_line, solo_commit}
 use Rattle.tcc_serial.specs.Count.{Asks}
 use Rattle.tcc_serial.proofs.OneCore.Executes.{Steady}
 use Rattle.tcc_serial.proofs.OneCore.CoreSteps.{steady-emptied}
@@ -25,7 +25,7 @@ unfolding among
 requests-steady s o y = rw (y.phase, y.vendor) refl
 
 pub requests-exec : (sh : Shape) (p : Program) (c : ℕ) (s : CoreState) → IfSome (core_exec sh p c s) (λ o. KeepsRequests 0 s o)
-unfolding waits_for_tid commit solo_commit committed_core commit_sends solo_sends flushed among passes
+unfolding waits_for_tid commit solo_commit committed_core commit_sends solo_sends flush_line among passes
 requests-exec sh p c s = each-exec sh p c s (λ o. KeepsRequests 0 s o) go
   where
     go : (x : Did sh p c s) → KeepsRequests 0 s (out x)
@@ -53,7 +53,7 @@ requests-grant sh u s w = go s.phase refl w
     go _ e h = absurd (cc)
 
 pub requests-back : (sh : Shape) (e : ℕ) (s : CoreState) (m : Msg) → IfSome (from_dir sh e s m) (λ o. KeepsRequests 0 s o)
-unfolding waits_for_tid among flushed skip_all abort_written
+unfolding waits_for_tid among flush_line skip_all abort_written
 requests-back sh e s m = each-back sh e s (λ m o. KeepsRequests 0 s o) go m
   where
     go : (x : Heard sh e s) → KeepsRequests 0 s (heard x)
