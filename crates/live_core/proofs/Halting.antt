@@ -30,8 +30,9 @@ use Rattle.tcc_rules.specs.Sends.{flush_line, nothing}
 use Rattle.tcc_rules.specs.State.{Awaited, CoreState, Phase, Running, AwaitTid, DoomedTid, Probing}
 use Rattle.tcc_rules.specs.State.{Ready, Overflowing, Solo, Halted, World, start}
 use Rattle.tcc_rules.specs.State.{core_start}
-use Rattle.tcc_rules.specs.Step.{Stepped, History, and_then, answered, core_moves, core_takes, dir_asks, dir_takes, granted, happens}
-use Rattle.tcc_rules.specs.Step.{if_in_flight, moved, names_nodes, next, recorded, run, run_from, step, taken, vendor_gives}
+use Rattle.tcc_rules.specs.Step.{Stepped, History, and_then, answered, core_moves, core_takes, dir_asks, dir_takes, if_vendor_gives}
+use Rattle.tcc_rules.specs.Step.{happens}
+use Rattle.tcc_rules.specs.Step.{if_in_flight, if_core_moves, names_nodes, next, recorded, run, run_from, step, if_core_takes, vendor_gives}
 use Rattle.tcc_serial.specs.Commits.{end_after}
 use Rattle.live_core.specs.Reached.{KeepsItsEnd}
 use Rattle.tcc_rules.specs.VendorDeliver.{Granted, vendor_deliver}
@@ -299,12 +300,13 @@ one-more f c s h k j = go (j == c)
     go true = k
     go false = h j
 
-after-moved : (w : World) (c : ℕ) (o : Option Out) → AllSay w → IfSome o SaysAfter → IfSome (moved w c o) AllSayAfter
+after-moved : (w : World) (c : ℕ) (o : Option Out) → AllSay w → IfSome o SaysAfter → IfSome (if_core_moves w c o) AllSayAfter
 unfolding core_moves
 after-moved w c None h k = tt
 after-moved w c (Some o) h k = one-more w.cores c o.core h k
 
-after-taken : (w : World) (src : Node) (c n : ℕ) (o : Option Out) → AllSay w → IfSome o SaysAfter → IfSome (taken w src c n o) AllSayAfter
+after-taken : (w : World) (src : Node) (c n : ℕ) (o : Option Out) → AllSay w → IfSome o SaysAfter →
+    IfSome (if_core_takes w src c n o) AllSayAfter
 unfolding core_takes
 after-taken w src c n None h k = tt
 after-taken w src c n (Some o) h k = one-more w.cores c o.core h k
@@ -316,7 +318,7 @@ after-answer w c d n Drops h = h
 after-answer w c d n (Asks s sends) h = h
 after-answer w c d n (Takes s sends) h = h
 
-after-given : (w : World) (c n : ℕ) (g : Option Granted) → AllSay w → IfSome (granted w c n g) AllSayAfter
+after-given : (w : World) (c n : ℕ) (g : Option Granted) → AllSay w → IfSome (if_vendor_gives w c n g) AllSayAfter
 unfolding vendor_gives
 after-given w c n None h = tt
 after-given w c n (Some g) h = h

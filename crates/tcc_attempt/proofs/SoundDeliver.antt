@@ -21,7 +21,7 @@ use Rattle.tcc_rules.specs.CoreEvict.{is_awaited, evict_line, core_evict}
 use Rattle.tcc_rules.specs.CoreDeliver.{ignored, grant_in_phase, grant, probing_or_ready, is_probed, replied, all_replied, ready_once_replied, solo_once_replied, reply_in_phase, probe_reply, fill_awaited, fill, data_request, violated_in_phase, if_violated, staled, words_invalidated, is_violated, acknowledged, invalidate, from_dir, from_vendor, core_deliver}
 use Rattle.tcc_rules.specs.DirDeliver.{Answer, Waits, Drops, Asks, Takes, dir_deliver}
 use Rattle.tcc_rules.specs.VendorDeliver.{Granted, vendor_deliver}
-use Rattle.tcc_rules.specs.Step.{Stepped, History, core_moves, core_takes, dir_takes, dir_asks, vendor_gives, moved, taken, answered, granted, delivered, if_in_flight, names_nodes, happens, step, recorded, and_noted, next, and_then, run_from, run}
+use Rattle.tcc_rules.specs.Step.{Stepped, History, core_moves, core_takes, dir_takes, dir_asks, vendor_gives, if_core_moves, if_core_takes, answered, if_vendor_gives, delivered, if_in_flight, names_nodes, happens, step, recorded, and_noted, next, and_then, run_from, run}
 use Rattle.tcc_attempt.specs.Sound.{AwaitsHeld, is_idle, SoundCore}
 use Rattle.tcc_rules.proofs.Lemmas.{if-step}
 use Rattle.tcc_attempt.proofs.Sound.{OutSound}
@@ -295,12 +295,12 @@ put-sound sh cores c s h k i = at (i == c)
     at true = k
     at false = h i
 
-moved-sound : (sh : Shape) (w : World) (c : ℕ) (o : Option Out) → AllSound sh w.cores → OutSound sh o → IfSome (moved w c o) (λ t. AllSound sh t.world.cores)
+moved-sound : (sh : Shape) (w : World) (c : ℕ) (o : Option Out) → AllSound sh w.cores → OutSound sh o → IfSome (if_core_moves w c o) (λ t. AllSound sh t.world.cores)
 unfolding core_moves
 moved-sound sh w c None h k = tt
 moved-sound sh w c (Some o) h k = put-sound sh w.cores c o.core h k
 
-taken-sound : (sh : Shape) (w : World) (src : Node) (c k : ℕ) (o : Option Out) → AllSound sh w.cores → OutSound sh o → IfSome (taken w src c k o) (λ t. AllSound sh t.world.cores)
+taken-sound : (sh : Shape) (w : World) (src : Node) (c k : ℕ) (o : Option Out) → AllSound sh w.cores → OutSound sh o → IfSome (if_core_takes w src c k o) (λ t. AllSound sh t.world.cores)
 unfolding core_takes
 taken-sound sh w src c k None h i = tt
 taken-sound sh w src c k (Some o) h i = put-sound sh w.cores c o.core h i
@@ -312,7 +312,7 @@ answered-sound sh w c d k Drops h = h
 answered-sound sh w c d k (Asks s sends) h = h
 answered-sound sh w c d k (Takes s sends) h = h
 
-granted-sound : (sh : Shape) (w : World) (c k : ℕ) (g : Option Granted) → AllSound sh w.cores → IfSome (granted w c k g) (λ t. AllSound sh t.world.cores)
+granted-sound : (sh : Shape) (w : World) (c k : ℕ) (g : Option Granted) → AllSound sh w.cores → IfSome (if_vendor_gives w c k g) (λ t. AllSound sh t.world.cores)
 unfolding vendor_gives
 granted-sound sh w c k None h = tt
 granted-sound sh w c k (Some g) h = h

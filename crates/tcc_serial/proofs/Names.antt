@@ -81,7 +81,8 @@ unfoldable pub use Rattle.tcc_rules.specs.Sends.{marks_for, flush_line, write_ba
 pub use Rattle.tcc_rules.specs.State.{World, CoreState, DirState, Halted, Ready, Solo, Phase, DoomedTid, Overflowing, Running, AwaitTid}
 pub use Rattle.tcc_rules.specs.State.{Probing, Awaited, Link}
 unfoldable pub use Rattle.tcc_rules.specs.State.{start, core_start, dir_start, vendor_start}
-pub use Rattle.tcc_rules.specs.Step.{History, and_noted, Stepped, recorded, and_then, if_in_flight, delivered, is_node, moved, taken}
+pub use Rattle.tcc_rules.specs.Step.{History, and_noted, Stepped, recorded, and_then, if_in_flight, delivered, is_node, if_core_moves}
+pub use Rattle.tcc_rules.specs.Step.{if_core_takes}
 pub use Rattle.tcc_rules.specs.Step.{answered}
 unfoldable pub use Rattle.tcc_rules.specs.Step.{core_moves, step, core_takes, dir_takes, dir_asks, vendor_gives, insert_commit, run, next}
 unfoldable pub use Rattle.tcc_rules.specs.Step.{run_from, happens, names_nodes}

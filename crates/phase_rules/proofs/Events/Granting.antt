@@ -9,7 +9,7 @@ use Rattle.tcc_maps.specs.Nodes.{Core, Vendor, Event, Deliver, Msg, TidReq}
 use Rattle.tcc_maps.specs.Shape.{Shape}
 use Rattle.tcc_rules.specs.Links.{in_flight}
 use Rattle.tcc_rules.specs.State.{World}
-use Rattle.tcc_rules.specs.Step.{History, Stepped, granted, if_in_flight, names_nodes, happens, step, next, and_then, run_from}
+use Rattle.tcc_rules.specs.Step.{History, Stepped, if_vendor_gives, if_in_flight, names_nodes, happens, step, next, and_then, run_from}
 use Rattle.tcc_rules.specs.VendorDeliver.{Granted, vendor_deliver}
 use Rattle.tcc_serial.specs.Owners.{Grant, grant_for, granted_by, then_grants, grants_from}
 use Rattle.phase_rules.specs.Phased.{is_late, is_held}
@@ -81,7 +81,7 @@ granting s h _ t c n i = absurd (none-in (record { tid = t; core = c }) i)
 abbrev Silent : Option Stepped → Type 0
 Silent o = IfSome o (λ t. t.noted ≡ None)
 
-granted-silent : (w : World) (c k : ℕ) (g : Option Granted) → Silent (granted w c k g)
+granted-silent : (w : World) (c k : ℕ) (g : Option Granted) → Silent (if_vendor_gives w c k g)
 granted-silent w c k None = tt
 granted-silent w c k (Some g) = refl
 

@@ -18,7 +18,8 @@ use Rattle.tcc_rules.specs.DirDeliver.{Answer, Waits, Drops, Asks, Takes, dir_de
 use Rattle.tcc_rules.specs.Execute.{overflow, full_set, request_line, miss, load, word_store, partial_store, end_transaction, execute_need}
 use Rattle.tcc_rules.specs.Execute.{execute}
 use Rattle.tcc_rules.specs.Links.{in_flight}
-use Rattle.tcc_rules.specs.Step.{Stepped, moved, taken, answered, granted, delivered, if_in_flight, names_nodes, happens, step}
+use Rattle.tcc_rules.specs.Step.{Stepped, if_core_moves, if_core_takes, answered, if_vendor_gives, delivered, if_in_flight, names_nodes}
+use Rattle.tcc_rules.specs.Step.{happens, step}
 use Rattle.tcc_rules.specs.VendorDeliver.{Granted, vendor_deliver}
 use Rattle.tcc_serial.specs.Tids.{has_tid}
 
@@ -109,12 +110,12 @@ noted-in sh w c None l k = tt
 noted-in sh w c (Some x) l k = record { core = rw k.core l; has = rw k.core k.has }
 
 moved-notes : (sh : Shape) (w : World) (c : ℕ) (o : Option Out) → c < sh.cores → Notes c (w.cores c).phase (commit_in o)
-    → NotedBy sh w (moved w c o)
+    → NotedBy sh w (if_core_moves w c o)
 moved-notes sh w c None l k = tt
 moved-notes sh w c (Some o) l k = noted-in sh w c o.commit l k
 
 taken-notes : (sh : Shape) (w : World) (src : Node) (c k : ℕ) (o : Option Out) → commit_in o ≡ None
-    → NotedBy sh w (taken w src c k o)
+    → NotedBy sh w (if_core_takes w src c k o)
 taken-notes sh w src c k None e = tt
 taken-notes sh w src c k (Some o) e = rw e tt
 
@@ -124,7 +125,7 @@ answered-notes sh w c d k Drops = tt
 answered-notes sh w c d k (Asks s sends) = tt
 answered-notes sh w c d k (Takes s sends) = tt
 
-granted-notes : (sh : Shape) (w : World) (c k : ℕ) (g : Option Granted) → NotedBy sh w (granted w c k g)
+granted-notes : (sh : Shape) (w : World) (c k : ℕ) (g : Option Granted) → NotedBy sh w (if_vendor_gives w c k g)
 granted-notes sh w c k None = tt
 granted-notes sh w c k (Some g) = tt
 
@@ -142,13 +143,13 @@ pub step-notes : (sh : Shape) (p : Program) (w : World) (e : Event) → NotedBy 
 unfolding step names_nodes happens
 step-notes sh p w (Exec c) = go (nat_lt c sh.cores) refl
   where
-    go : (b : Bool) → nat_lt c sh.cores ≡ b → NotedBy sh w (if b then moved w c (core_exec sh p c (w.cores c)) else None)
+    go : (b : Bool) → nat_lt c sh.cores ≡ b → NotedBy sh w (if b then if_core_moves w c (core_exec sh p c (w.cores c)) else None)
     go true e = moved-notes sh w c (core_exec sh p c (w.cores c)) (grind (arith, nat_tests)) (exec-notes sh p c (w.cores c))
     go false e = tt
 step-notes sh p w (Evict c x y) = go (nat_lt c sh.cores) refl (nat_lt x sh.sets && nat_lt y sh.ways)
   where
     go : (b : Bool) → nat_lt c sh.cores ≡ b → (a : Bool)
-        → NotedBy sh w (if b && a then moved w c (core_evict sh x y (w.cores c)) else None)
+        → NotedBy sh w (if b && a then if_core_moves w c (core_evict sh x y (w.cores c)) else None)
     go true e true = moved-notes sh w c (core_evict sh x y (w.cores c)) (grind (arith, nat_tests))
         (nothing c (w.cores c).phase _ (quiet-evict sh x y (w.cores c)))
     go true e false = tt

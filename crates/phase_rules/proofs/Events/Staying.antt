@@ -22,7 +22,8 @@ use Rattle.tcc_rules.specs.Execute.{stored_in_buffer, stored_in_frame}
 use Rattle.tcc_rules.specs.Execute.{end_transaction, execute_need, execute}
 use Rattle.tcc_rules.specs.Links.{in_flight, sent_all, taking}
 use Rattle.tcc_rules.specs.Sends.{write_back_line, flush_line, skip_all, probe_all, abort_written}
-use Rattle.tcc_rules.specs.Step.{Stepped, core_moves, core_takes, dir_takes, dir_asks, vendor_gives, moved, taken, answered, granted}
+use Rattle.tcc_rules.specs.Step.{Stepped, core_moves, core_takes, dir_takes, dir_asks, vendor_gives, if_core_moves, if_core_takes, answered}
+use Rattle.tcc_rules.specs.Step.{if_vendor_gives}
 use Rattle.tcc_rules.specs.Step.{delivered, if_in_flight, names_nodes, happens, step}
 use Rattle.tcc_rules.specs.VendorDeliver.{Granted, vendor_deliver}
 use Rattle.phase_rules.specs.Laws.{HaltsStay, RequestsStay, asks, executes}
@@ -147,13 +148,13 @@ put-halts w c s f j = go (j == c) refl
     go true q = let z : j ≡ c = grind (arith, nat_tests) in f ∙ ap (λ d. has_halted (w.cores d).phase) (sym z)
     go false q = refl
 
-moved-halts : (w : World) (c : ℕ) (o : Option Out) → Goes (has_halted (w.cores c).phase) o → HaltStays w (moved w c o)
+moved-halts : (w : World) (c : ℕ) (o : Option Out) → Goes (has_halted (w.cores c).phase) o → HaltStays w (if_core_moves w c o)
 unfolding core_moves
 moved-halts w c None f = tt
 moved-halts w c (Some o) f = λ n. put-halts w c o.core (f n)
 
 taken-halts : (w : World) (src : Node) (c k : ℕ) (o : Option Out) → Goes (has_halted (w.cores c).phase) o
-    → HaltStays w (taken w src c k o)
+    → HaltStays w (if_core_takes w src c k o)
 unfolding core_takes
 taken-halts w src c k None f = tt
 taken-halts w src c k (Some o) f = λ n. put-halts w c o.core (f n)
@@ -165,7 +166,7 @@ answered-halts w c d k Drops = λ n j. refl
 answered-halts w c d k (Asks s sends) = λ n j. refl
 answered-halts w c d k (Takes s sends) = λ n j. refl
 
-granted-halts : (w : World) (c k : ℕ) (g : Option Granted) → HaltStays w (granted w c k g)
+granted-halts : (w : World) (c k : ℕ) (g : Option Granted) → HaltStays w (if_vendor_gives w c k g)
 unfolding vendor_gives
 granted-halts w c k None = tt
 granted-halts w c k (Some g) = λ n j. refl
@@ -221,13 +222,13 @@ untaken net src dst c k e =
     ap (λ b. if node_eq (Core c) src && b then slice_set (net (Core c) Vendor) k None else net (Core c) Vendor) e
     ∙ ap (λ b. if b then slice_set (net (Core c) Vendor) k None else net (Core c) Vendor) (and-false (node_eq (Core c) src))
 
-evicted-stays : (w : World) (d x y : ℕ) (o : Option Out) → asked_in o ≡ [] → RequestStays w (Evict d x y) (moved w d o)
+evicted-stays : (w : World) (d x y : ℕ) (o : Option Out) → asked_in o ≡ [] → RequestStays w (Evict d x y) (if_core_moves w d o)
 unfolding core_moves
 evicted-stays w d x y None e = tt
 evicted-stays w d x y (Some o) e = λ c a b. unsent (c == d) (w.net (Core c) Vendor) (o.sends Vendor) e
 
 taken-stays : (w : World) (src : Node) (d k : ℕ) (o : Option Out) → asked_in o ≡ []
-    → RequestStays w (Deliver src (Core d) k) (taken w src d k o)
+    → RequestStays w (Deliver src (Core d) k) (if_core_takes w src d k o)
 unfolding core_takes
 taken-stays w src d k None e = tt
 taken-stays w src d k (Some o) e = λ c a b.
@@ -240,7 +241,7 @@ answered-stays w b d k Drops = λ c x y. untaken w.net (Core b) (Dir d) c k refl
 answered-stays w b d k (Asks s sends) = λ c x y. refl
 answered-stays w b d k (Takes s sends) = λ c x y. untaken w.net (Core b) (Dir d) c k refl
 
-granted-stays : (w : World) (b k : ℕ) (g : Option Granted) → RequestStays w (Deliver (Core b) Vendor k) (granted w b k g)
+granted-stays : (w : World) (b k : ℕ) (g : Option Granted) → RequestStays w (Deliver (Core b) Vendor k) (if_vendor_gives w b k g)
 unfolding vendor_gives
 granted-stays w b k None = tt
 granted-stays w b k (Some g) = λ c x y. ap (λ t. if t && true then slice_set (w.net (Core c) Vendor) k None else w.net (Core c) Vendor) y
@@ -260,7 +261,7 @@ flying-stays : (sh : Shape) (w : World) (src dst : Node) (k : ℕ) (m : Option M
 flying-stays sh w src dst k None = tt
 flying-stays sh w src dst k (Some m) = delivered-stays sh w src dst k m
 
-moved-stays : (w : World) (d : ℕ) (o : Option Out) → RequestStays w (Exec d) (moved w d o)
+moved-stays : (w : World) (d : ℕ) (o : Option Out) → RequestStays w (Exec d) (if_core_moves w d o)
 unfolding core_moves
 moved-stays w d None = tt
 moved-stays w d (Some o) = λ c a b. ap (λ t. if t then w.net (Core c) Vendor ++ sent_all (o.sends Vendor) else w.net (Core c) Vendor) a

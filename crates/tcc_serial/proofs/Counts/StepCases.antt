@@ -5,7 +5,8 @@ use Rattle.tcc_serial.proofs.Names.{World, Link, sent_all, to, Out, core_moves, 
 use Rattle.tcc_serial.proofs.Names.{after_move, grant_taken, back_taken, after_answer, out_taken, after_grant, after_other_grant, share}
 use Rattle.tcc_serial.proofs.Names.{sum_of, Option, Some, None, IfSome, nat_lt, if◌then◌else◌, Program, Event, Exec, Evict, Deliver, TidReq}
 use Rattle.tcc_serial.proofs.Names.{Shape, in_flight, Sends, nothing, core_exec, core_evict, core_deliver, grant, Answer, Waits, Drops}
-use Rattle.tcc_serial.proofs.Names.{Asks, Takes, dir_deliver, Stepped, step, moved, taken, answered, delivered, if_in_flight, happens}
+use Rattle.tcc_serial.proofs.Names.{Asks, Takes, dir_deliver, Stepped, step, if_core_moves, if_core_takes, answered, delivered}
+use Rattle.tcc_serial.proofs.Names.{if_in_flight, happens}
 use Rattle.tcc_serial.proofs.Names.{names_nodes, is_node, Grant, grant_for, granted_by, sends_of, sends_for, sent_by, Uses, used_by, Views}
 use Rattle.tcc_serial.proofs.Names.{uses_executed, uses_delivered, views_after, put}
 use Rattle.tcc_rules.specs.VendorDeliver.{Granted}
@@ -197,11 +198,11 @@ pub step_answer : (w : World) (c d k : ℕ) (R : Stepped → Type 0) (a : Answer
 step_answer w c d k R Waits h = tt
 step_answer w c d k R _ h = h
 
-step_moved : (w : World) (c : ℕ) (R : Option Out → Stepped → Type 0) (o : Option Out) → IfSome o (λ x. R (Some x) (record { world = core_moves w c x; noted = x.commit })) → IfSome (moved w c o) (R o)
+step_moved : (w : World) (c : ℕ) (R : Option Out → Stepped → Type 0) (o : Option Out) → IfSome o (λ x. R (Some x) (record { world = core_moves w c x; noted = x.commit })) → IfSome (if_core_moves w c o) (R o)
 step_moved w c R None h = tt
 step_moved w c R (Some x) h = h
 
-step_taken : (w : World) (src : Node) (c k : ℕ) (R : Sends → Stepped → Type 0) (o : Option Out) → IfSome o (λ x. R x.sends (record { world = core_takes w src c k x; noted = x.commit })) → IfSome (taken w src c k o) (R (sends_of o))
+step_taken : (w : World) (src : Node) (c k : ℕ) (R : Sends → Stepped → Type 0) (o : Option Out) → IfSome o (λ x. R x.sends (record { world = core_takes w src c k x; noted = x.commit })) → IfSome (if_core_takes w src c k o) (R (sends_of o))
 step_taken w src c k R None h = tt
 step_taken w src c k R (Some x) h = h
 
@@ -233,12 +234,12 @@ event_cases sh p w vs (Exec c) R ex ev gr fr di ve = go (nat_lt c sh.cores) refl
     T : Option Out → Stepped → Type 0
     T o = R (put vs c (uses_executed o (vs c) (new_uses sh p w c))) (sends_of o) []
 
-    go : (b : Bool) → nat_lt c sh.cores ≡ b → IfSome (if b then moved w c (core_exec sh p c (w.cores c)) else None) (T (core_exec sh p c (w.cores c)))
+    go : (b : Bool) → nat_lt c sh.cores ≡ b → IfSome (if b then if_core_moves w c (core_exec sh p c (w.cores c)) else None) (T (core_exec sh p c (w.cores c)))
     go false q = tt
     go true q = step_moved w c T (core_exec sh p c (w.cores c)) (ex c (grind (arith, nat_tests)))
 event_cases sh p w vs (Evict c x y) R ex ev gr fr di ve = go (nat_lt c sh.cores) refl (nat_lt x sh.sets && nat_lt y sh.ways)
   where
-    go : (b : Bool) → nat_lt c sh.cores ≡ b → (d : Bool) → IfSome (if b && d then moved w c (core_evict sh x y (w.cores c)) else None) (R vs (sends_of (core_evict sh x y (w.cores c))) [])
+    go : (b : Bool) → nat_lt c sh.cores ≡ b → (d : Bool) → IfSome (if b && d then if_core_moves w c (core_evict sh x y (w.cores c)) else None) (R vs (sends_of (core_evict sh x y (w.cores c))) [])
     go true q true = step_moved w c (λ o. R vs (sends_of o) []) (core_evict sh x y (w.cores c)) (ev c x y (grind (arith, nat_tests)))
     go true q false = tt
     go false q d = tt
