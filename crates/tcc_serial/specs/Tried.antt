@@ -8,7 +8,7 @@ use Rattle.tcc_maps.specs.Lines.{Lines, with_sharer, with_owner, with_tag}
 use Rattle.tcc_maps.specs.Nodes.{Event}
 use Rattle.tcc_maps.specs.Shape.{Shape, home, lines}
 use Rattle.tcc_rules.specs.CoreEvict.{is_awaited}
-use Rattle.tcc_rules.specs.Rows.{Image, machine, small_machine, stores_second, stores_both, stores_base, stores_line, loads_then_stores, copies_word, both_words, both_code, entries}
+use Rattle.tcc_rules.specs.Rows.{Image, two_cores, small_machine, stores_second, stores_both, stores_base, stores_line, loads_then_stores, copies_word, both_words, both_code, entries}
 use Rattle.tcc_rules.specs.Schedules.{before_the_fill, over_a_read, over_a_dirty_owner, alone_after_overflow}
 use Rattle.tcc_rules.specs.Small.{small}
 use Rattle.tcc_rules.specs.State.{World, start}
@@ -78,7 +78,7 @@ HoldsOn sh a b es = along sh (small (both_code a b)) (flat (both_words a b)) es 
 
 -- two cores and two directories, four lines
 abbrev pub tried : Shape
-tried = record (machine 2) { ram = 128 }
+tried = record (two_cores 2) { ram = 128 }
 
 -- core 0 stores a word; core 1 asked for it before, loses it, reads it anew from core 0 and stores another
 abbrev pub TriedFill : Type 0
@@ -90,7 +90,7 @@ TriedRead = HoldsOn tried loads_then_stores stores_second over_a_read
 
 -- one directory: a whole line is stored over a dirty owner, whose write-back comes too late
 abbrev pub TriedOwner : Type 0
-TriedOwner = HoldsOn (record (machine 1) { ram = 160 }) stores_base stores_line over_a_dirty_owner
+TriedOwner = HoldsOn (record (two_cores 1) { ram = 160 }) stores_base stores_line over_a_dirty_owner
 
 -- caches of one frame: a core goes on alone and spills what it stored
 abbrev pub TriedAlone : Type 0
