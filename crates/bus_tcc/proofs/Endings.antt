@@ -8,7 +8,7 @@ use Rattle.tcc_rules.specs.Commit.{commit, solo_commit}
 use Rattle.tcc_rules.specs.CoreExec.{core_exec, exec_in_phase, unless_awaiting}
 use Rattle.tcc_rules.specs.Execute.{end_transaction, execute, execute_need}
 use Rattle.tcc_rules.specs.State.{CoreState, Phase, Running, AwaitTid, DoomedTid, Probing, Ready, Overflowing, Solo, Halted}
-use Rattle.bus_rules.specs.Commit.{commit_out, written}
+use Rattle.bus_rules.specs.Commit.{commit_out, written_words}
 use Rattle.core_node.specs.Answers.{IsBlocked, IsMemory}
 use Rattle.core_node.specs.Executing.{Told}
 use Rattle.core_node.specs.declared.exec.Executed.{Executed}
@@ -64,9 +64,9 @@ commit-holds p t s h = by (is_solo s.phase) refl
     by true e = subst (λ u. HoldsAs u s) (sym (alone-commits p s e)) (finished-holds p (p.need s.local) s (ends-there p t s s.phase e h))
     by false e = subst (λ u. HoldsAs u s) (sym (waiting-commits p s e)) (record { cache = refl; spilled = refl; phase = refl })
 
-pub written-same : (u s : CoreState) → HoldsAs u s → written u ≡ written s
-unfolding written
-written-same u s h = λ i. written (record u { cache = h.cache i; spilled = h.spilled i })
+pub written-same : (u s : CoreState) → HoldsAs u s → written_words u ≡ written_words s
+unfolding written_words
+written-same u s h = λ i. written_words (record u { cache = h.cache i; spilled = h.spilled i })
 
 pub told-same : (sh : Shape) (t : ℕ) (u s : CoreState) → HoldsAs u s → lines_told sh t u ≡ lines_told sh t s
 unfolding lines_told line_told

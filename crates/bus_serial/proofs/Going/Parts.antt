@@ -23,7 +23,7 @@ use Rattle.tcc_rules.specs.Useful.{is_this_set, room, room_for_line, room_for_ne
 use Rattle.tcc_rules.specs.Useful.{room_unless_awaiting}
 use Rattle.bus_rules.specs.Exec.{bus_exec}
 use Rattle.bus_rules.specs.State.{BusEvent, BusWorld, Exec, Evict, Take}
-use Rattle.bus_rules.specs.Step.{bus_names, bus_step, evicted}
+use Rattle.bus_rules.specs.Step.{bus_names, bus_step, if_evicted}
 use Rattle.bus_rules.specs.Take.{bus_take}
 use Rattle.bus_rules.specs.Useful.{bus_evicts, bus_execs, bus_is_useful, bus_takes, bus_useful}
 
@@ -128,7 +128,7 @@ take-useful : (sh : Shape) (p : Program) (w : BusWorld) (c : ℕ) → c < sh.cor
 unfolding bus_is_useful bus_step bus_names
 take-useful sh p w c l = rw (lt-ltb c sh.cores l) (and-true (is_some (bus_take sh w c)))
 
-evicted-some : (w : BusWorld) (c : ℕ) (o : Option Out) → is_some (evicted w c o) ≡ is_some o
+evicted-some : (w : BusWorld) (c : ℕ) (o : Option Out) → is_some (if_evicted w c o) ≡ is_some o
 evicted-some w c None = refl
 evicted-some w c (Some o) = refl
 

@@ -15,7 +15,7 @@ use Rattle.tcc_rules.specs.Commit.{phase_after_commit, ended_after_commit, commi
 use Rattle.tcc_rules.specs.State.{CoreState, Awaited}
 use Rattle.tcc_attempt.specs.Sound.{AwaitsHeld, SoundCore}
 use Rattle.tcc_bounds.specs.Bounds.{AttemptCounted, CommitCounted}
-use Rattle.bus_rules.specs.Commit.{written, all_clean, commit_out}
+use Rattle.bus_rules.specs.Commit.{written_words, all_clean, commit_out}
 use Rattle.bus_serial.proofs.OneCore.Fine.{Fine}
 
 clean-awaits : (c : Cache) (o : Option Awaited) → AwaitsHeld c o
@@ -132,9 +132,9 @@ finished-fine sh M n p need x s k =
     spilled v (inr h) = h
 
 -- a word that is written lies in memory
-pub written-inside : (sh : Shape) (M : LineSet) (n : ℕ) (s : CoreState) → Fine sh M n s → (x : ℕ) → is_some (written s x) ≡ true
+pub written-inside : (sh : Shape) (M : LineSet) (n : ℕ) (s : CoreState) → Fine sh M n s → (x : ℕ) → is_some (written_words s x) ≡ true
     → M (line_of x)
-unfolding written
+unfolding written_words
 written-inside sh M n s k x = go (s.spilled x) refl (s.cache.modified x) (s.cache.value x) refl
   where
     go : (o : Option ℕ) → s.spilled x ≡ o → (m : Bool) (v : Option ℕ) → s.cache.value x ≡ v
