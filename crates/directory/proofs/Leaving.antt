@@ -13,7 +13,7 @@ use Rattle.tcc_maps.specs.Nodes.{Core, DataReq, Inv, InvAck}
 use Rattle.tcc_maps.specs.Shape.{Shape, lines}
 use Rattle.tcc_maps.specs.Serving.{Serving, advance, skipped, kept}
 use Rattle.tcc_maps.specs.Lines.{with_asked, with_owner, with_mark, with_sharer, unmarked, has_mark}
-use Rattle.tcc_maps.specs.Judge.{Judgement, judge, Takes as IsTaken, Drops as IsDropped, Waits as IsEarly}
+use Rattle.tcc_maps.specs.Judge.{Judgement, judge, Current, Outdated, TooEarly}
 use Rattle.tcc_maps.proofs.Lemmas.{advance-rises}
 use Rattle.tcc_rules.specs.State.{DirState}
 use Rattle.tcc_rules.specs.Sends.{nothing, to}
@@ -301,9 +301,9 @@ unfolding write_back after
 words-changed msg c l m ws g s own = by (judge (s.lines.owner l) (s.lines.tag l) c g)
   where
     by : (j : Judgement) → Changed msg s (after (judged l m ws s j) s)
-    by IsEarly = unchanged msg s
-    by IsTaken = home-changed msg l m ws s own
-    by IsDropped = unchanged msg s
+    by TooEarly = unchanged msg s
+    by Current = home-changed msg l m ws s own
+    by Outdated = unchanged msg s
 
 changed : (sh : Shape) (s : DirState) (c : ℕ) (m : Msg) → Changed m s (after (dir_deliver sh s c m) s)
 unfolding dir_deliver after

@@ -8,7 +8,7 @@ use Rattle.tcc_maps.specs.Nodes.{Core, ProbeReply, DataReq}
 use Rattle.tcc_maps.specs.Shape.{Shape, lines}
 use Rattle.tcc_maps.specs.Serving.{Serving, advance, skipped, kept as kept_skip}
 use Rattle.tcc_maps.specs.Lines.{with_asked, with_mark, has_mark}
-use Rattle.tcc_maps.specs.Judge.{judge, Takes as IsTaken, Drops as IsDropped, Waits as IsEarly}
+use Rattle.tcc_maps.specs.Judge.{judge, Current, Outdated, TooEarly}
 use Rattle.tcc_rules.specs.State.{DirState}
 use Rattle.tcc_rules.specs.Sends.{nothing, to}
 use Rattle.tcc_rules.specs.DirDeliver.{Waits, Drops, Asks, Takes, skip, abort, probe, ask_owner, load_unless_owned, load_request, mark, mark_taken, mark_unless_owned, dir_commit, acknowledgement, write_back, judged, came_home, moved_on, moved_on_if_settled, owned_by_committer, invalidation_count, invalidations, unless_keeps}
@@ -121,15 +121,15 @@ pub acknowledgement-owed : (c l : ℕ) (keeps : Bool) (s : DirState) → (s.owed
 unfolding acknowledgement
 acknowledgement-owed c l keeps s f = rw f refl
 
-pub home-early : (c l m : ℕ) (ws : List ℕ) (g : ℕ) (s : DirState) → judge (s.lines.owner l) (s.lines.tag l) c g ≡ IsEarly → write_back c l m ws g s ≡ Waits
+pub home-early : (c l m : ℕ) (ws : List ℕ) (g : ℕ) (s : DirState) → judge (s.lines.owner l) (s.lines.tag l) c g ≡ TooEarly → write_back c l m ws g s ≡ Waits
 unfolding write_back
 home-early c l m ws g s f = ap (judged l m ws s) f
 
-pub home-dropped : (c l m : ℕ) (ws : List ℕ) (g : ℕ) (s : DirState) → judge (s.lines.owner l) (s.lines.tag l) c g ≡ IsDropped → write_back c l m ws g s ≡ Drops
+pub home-dropped : (c l m : ℕ) (ws : List ℕ) (g : ℕ) (s : DirState) → judge (s.lines.owner l) (s.lines.tag l) c g ≡ Outdated → write_back c l m ws g s ≡ Drops
 unfolding write_back
 home-dropped c l m ws g s f = ap (judged l m ws s) f
 
-pub home-taken : (c l m : ℕ) (ws : List ℕ) (g : ℕ) (s : DirState) → judge (s.lines.owner l) (s.lines.tag l) c g ≡ IsTaken → write_back c l m ws g s ≡ Takes (came_home l m ws s) nothing
+pub home-taken : (c l m : ℕ) (ws : List ℕ) (g : ℕ) (s : DirState) → judge (s.lines.owner l) (s.lines.tag l) c g ≡ Current → write_back c l m ws g s ≡ Takes (came_home l m ws s) nothing
 unfolding write_back
 home-taken c l m ws g s f = ap (judged l m ws s) f
 

@@ -10,7 +10,7 @@ use Rattle.tcc_maps.specs.Words.{count_below}
 use Rattle.tcc_maps.specs.Masks.{full}
 use Rattle.tcc_maps.specs.Shape.{Shape, lines}
 use Rattle.tcc_maps.specs.Lines.{has_mark}
-use Rattle.tcc_maps.specs.Judge.{Judgement, judge, Takes as IsTaken, Drops as IsDropped, Waits as IsEarly}
+use Rattle.tcc_maps.specs.Judge.{Judgement, judge, Current, Outdated, TooEarly}
 use Rattle.tcc_rules.specs.State.{DirState}
 use Rattle.tcc_rules.specs.DirDeliver.{Waits, Drops, Takes, moved_on_if_settled, owned_by_committer, invalidation_count, invalidations}
 use Rattle.tcc_rules.specs.DirDeliver.{load_request, load_unless_owned}
@@ -113,9 +113,9 @@ commit-stays sh c t count s n h =
     ∙ ((λ i. h.serving i == t && count_below (λ l. nat_lt 0 (h.mark i l)) (lines sh) == count) ∙ sym (commit-test sh c t count s))
 
 judged-taken : Judgement → Bool
-judged-taken IsEarly = false
-judged-taken IsTaken = true
-judged-taken IsDropped = true
+judged-taken TooEarly = false
+judged-taken Current = true
+judged-taken Outdated = true
 
 home-test : (c l m : ℕ) (ws : List ℕ) (g : ℕ) (s : DirState)
     → is_taken (write_back c l m ws g s) ≡ judged-taken (judge (s.lines.owner l) (s.lines.tag l) c g)
@@ -123,9 +123,9 @@ unfolding write_back judged-taken
 home-test c l m ws g s = by (judge (s.lines.owner l) (s.lines.tag l) c g)
   where
     by : (j : Judgement) → is_taken (judged l m ws s j) ≡ judged-taken j
-    by IsEarly = refl
-    by IsTaken = refl
-    by IsDropped = refl
+    by TooEarly = refl
+    by Current = refl
+    by Outdated = refl
 
 pub home-stays : (c l m : ℕ) (ws : List ℕ) (g : ℕ) (s n : DirState) → SameLine l s n
     → is_taken (write_back c l m ws g n) ≡ is_taken (write_back c l m ws g s)

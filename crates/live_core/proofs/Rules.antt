@@ -3,7 +3,7 @@ use Rattle.std.proofs.Common.{◌≡◌, ℕ, Bool, true, false, ◌&&◌, ◌||
 use Rattle.std.specs.Prelude.{not, is_some, nat_lt, nat_le, ◌==◌, if◌then◌else◌}
 use Rattle.std.proofs.lemmas.Bool.Decides.{nat_tests}
 use Rattle.directory.specs.Gives.{is_taken}
-use Rattle.tcc_maps.specs.Judge.{judge, is_owner, Takes as IsTaken, Drops as IsDropped, Waits as IsEarly}
+use Rattle.tcc_maps.specs.Judge.{judge, is_owner, Current, Outdated, TooEarly}
 use Rattle.tcc_maps.specs.Lines.{has_mark}
 use Rattle.tcc_maps.specs.Masks.{full}
 use Rattle.tcc_maps.specs.Nodes.{TidReq, TidGrant, LoadReq, Fill, Skip, Probe, ProbeReply, Mark, Commit, Abort}
@@ -103,7 +103,7 @@ words-wait : (c l m g : ℕ) (ws : List ℕ) (s : DirState) → Agree (write_bac
 unfolding write_back words_wait judge
 words-wait c l m g ws s = go (nat_lt (s.lines.tag l) g) (s.lines.tag l == g && is_owner (s.lines.owner l) c)
   where
-    go : (a b : Bool) → Agree (judged l m ws s (if a then IsEarly else if b then IsTaken else IsDropped))
+    go : (a b : Bool) → Agree (judged l m ws s (if a then TooEarly else if b then Current else Outdated))
         (if a then Some (Tag (s.lines.tag l)) else None)
     go true b = refl
     go false true = refl

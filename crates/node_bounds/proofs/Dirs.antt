@@ -3,7 +3,7 @@ use Rattle.std.specs.Prelude.{ℕ, ◌≡◌, ◌<◌, ◌==◌, ◌&&◌, ◌||
 use Rattle.std.specs.Prelude.{IfSome, nat_lt, nat_le, if◌then◌else◌}
 use Rattle.std.proofs.Common.{arith, refl, ap, sym, ◌∙◌}
 use Rattle.std.proofs.lemmas.Bool.Decides.{nat_tests}
-use Rattle.tcc_maps.specs.Judge.{Judgement, judge, Takes as IsTaken, Drops as IsDropped, Waits as IsEarly}
+use Rattle.tcc_maps.specs.Judge.{Judgement, judge, Current, Outdated, TooEarly}
 use Rattle.tcc_maps.specs.Lines.{Lines, has_mark}
 use Rattle.tcc_maps.specs.Masks.{full}
 use Rattle.tcc_maps.specs.Nodes.{Node, Core, Dir, Vendor, Msg, LoadReq, Fill, Skip, Probe, ProbeReply, Mark, Commit, Abort, WriteBack}
@@ -123,9 +123,9 @@ unfolding write_back
 backs sh d c l m ws g s = go (judge (s.lines.owner l) (s.lines.tag l) c g)
   where
     go : (j : Judgement) → SaysBy sh d (judged l m ws s j)
-    go IsEarly = tt
-    go IsDropped = tt
-    go IsTaken = silent sh d
+    go TooEarly = tt
+    go Outdated = tt
+    go Current = silent sh d
 
 says : (sh : Shape) (d c : ℕ) (s : DirState) (m : Msg) → IsCarried sh (Core c) (Dir d) m → DirApart sh d s
     → SaysBy sh d (dir_deliver sh s c m)

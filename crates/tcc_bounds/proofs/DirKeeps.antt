@@ -2,7 +2,7 @@
 use Rattle.std.specs.Prelude.{ℕ, ◌≡◌, Bool, true, ◌==◌, ◌&&◌, ◌||◌, List, Option, Some, None, nat_lt, nat_le, false, if◌then◌else◌}
 use Rattle.std.proofs.Common.{arith, refl}
 use Rattle.tcc_maps.specs.Words.{count_below}
-use Rattle.tcc_maps.specs.Judge.{Judgement, judge, Takes as IsTaken, Drops as IsDropped, Waits as IsEarly}
+use Rattle.tcc_maps.specs.Judge.{Judgement, judge, Current, Outdated, TooEarly}
 use Rattle.tcc_maps.specs.Lines.{Lines, has_mark}
 use Rattle.tcc_maps.specs.Masks.{full}
 use Rattle.tcc_maps.specs.Nodes.{Core, Dir, Vendor, Msg, LoadReq, Fill, Skip, Probe, ProbeReply, Mark, Commit, Abort, WriteBack, Flush, DataReq, Inv, InvAck}
@@ -78,9 +78,9 @@ unfolding write_back
 backs sh c l m ws g s = go (judge (s.lines.owner l) (s.lines.tag l) c g)
   where
     go : (j : Judgement) → AnswerInside sh (judged l m ws s j)
-    go IsEarly = tt
-    go IsDropped = tt
-    go IsTaken = nothing-inside sh _
+    go TooEarly = tt
+    go Outdated = tt
+    go Current = nothing-inside sh _
 
 pub answer-inside : (sh : Shape) (c : ℕ) (s : DirState) (m : Msg) → is_inside sh m ≡ true → AnswerInside sh (dir_deliver sh s c m)
 unfolding dir_deliver is_inside

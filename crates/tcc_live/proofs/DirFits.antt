@@ -4,7 +4,7 @@ use Rattle.std.specs.List.{flat_map}
 use Rattle.std.proofs.Common.{arith, refl}
 use Rattle.std.proofs.lemmas.Bool.Decides.{nat_tests}
 use Rattle.tcc_maps.specs.Words.{those, count_below}
-use Rattle.tcc_maps.specs.Judge.{Judgement, judge, Takes as IsTaken, Drops as IsDropped, Waits as IsEarly}
+use Rattle.tcc_maps.specs.Judge.{Judgement, judge, Current, Outdated, TooEarly}
 use Rattle.tcc_maps.specs.Lines.{Lines, with_sharer, with_owner, with_asked, with_mark, unmarked, has_mark}
 use Rattle.tcc_maps.specs.Masks.{full}
 use Rattle.tcc_maps.specs.Nodes.{Core, Dir, Vendor, Msg, LoadReq, Fill, Skip, Probe, ProbeReply, Mark, Commit, Abort, WriteBack, Flush, DataReq, Inv, InvAck}
@@ -162,9 +162,9 @@ backs sh d c l m ws g s k = go (judge (s.lines.owner l) (s.lines.tag l) c g)
     home j o false e = k.owners j o e
 
     go : (j : Judgement) → FitAnswer sh d (judged l m ws s j)
-    go IsEarly = tt
-    go IsDropped = tt
-    go IsTaken = quietly sh d _ (record { owners = λ j o e. home j o (j == l) e; serves = k.serves })
+    go TooEarly = tt
+    go Outdated = tt
+    go Current = quietly sh d _ (record { owners = λ j o e. home j o (j == l) e; serves = k.serves })
 
 pub fit-answer : (sh : Shape) (d c : ℕ) (s : DirState) (m : Msg) → c < sh.cores → d < sh.dirs → KeptDir sh s
     → FitAnswer sh d (dir_deliver sh s c m)

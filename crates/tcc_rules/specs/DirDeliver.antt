@@ -7,7 +7,7 @@ use Rattle.tcc_maps.specs.Nodes.{Core, Dir, Vendor, Msg, TidReq, TidGrant, LoadR
 use Rattle.tcc_maps.specs.Shape.{Shape, lines}
 use Rattle.tcc_maps.specs.Serving.{advance, skipped, kept}
 use Rattle.tcc_maps.specs.Lines.{Lines, with_sharer, with_owner, with_asked, with_mark, unmarked, has_mark}
-use Rattle.tcc_maps.specs.Judge.{Judgement, judge, Takes as IsTaken, Drops as IsDropped, Waits as IsEarly}
+use Rattle.tcc_maps.specs.Judge.{Judgement, judge, Current, Outdated, TooEarly}
 use Rattle.tcc_rules.specs.State.{DirState}
 use Rattle.tcc_rules.specs.Sends.{Sends, nothing, to}
 
@@ -134,9 +134,9 @@ came_home l m ws s = record s {
 }
 
 abbrev pub judged : (line mask : ℕ) → (words : List ℕ) → DirState → Judgement → Answer
-judged l m ws s IsEarly = Waits
-judged l m ws s IsTaken = Takes (came_home l m ws s) nothing
-judged l m ws s IsDropped = Drops
+judged l m ws s TooEarly = Waits
+judged l m ws s Current = Takes (came_home l m ws s) nothing
+judged l m ws s Outdated = Drops
 
 unfoldable pub write_back : (core line mask : ℕ) → (words : List ℕ) → (tag : ℕ) → DirState → Answer
 write_back c l m ws g s = judged l m ws s (judge (s.lines.owner l) (s.lines.tag l) c g)

@@ -28,7 +28,7 @@ unfoldable pub use Rattle.tcc_maps.specs.Cache.{writes_at, is_modified, modified
 unfoldable pub use Rattle.tcc_maps.specs.Cache.{is_dirty, reads_at, dirty_copy, keeps, empty_cache, dirty_words, first_of_line}
 unfoldable pub use Rattle.tcc_maps.specs.CacheChange.{evicted, read_cleared, filled, marked, cleaned, stored, invalidated, placed}
 unfoldable pub use Rattle.tcc_maps.specs.CacheChange.{committed, rolled_back, evicted_line, placed_at, words_dropped}
-pub use Rattle.tcc_maps.specs.Judge.{Drops as IsDropped, Takes as IsTaken, Waits as IsEarly, is_owner}
+pub use Rattle.tcc_maps.specs.Judge.{Outdated, Current, TooEarly, is_owner}
 unfoldable pub use Rattle.tcc_maps.specs.Judge.{judge}
 pub use Rattle.tcc_maps.specs.Lines.{has_mark, Lines}
 unfoldable pub use Rattle.tcc_maps.specs.Lines.{with_asked, no_lines, with_sharer, unmarked, with_mark, with_owner}

@@ -2,7 +2,7 @@
 use Rattle.std.proofs.Common.{◌≡◌, ℕ, Bool, true, false, ◌||◌, ◌&&◌, List, Option, Some, None, refl, sym, ◌∙◌}
 use Rattle.std.specs.Prelude.{nat_lt, nat_le, ◌==◌, if◌then◌else◌}
 use Rattle.tcc_base.specs.Settings.{Settings}
-use Rattle.tcc_maps.specs.Judge.{Judgement, judge, Takes as IsTaken, Drops as IsDropped, Waits as IsEarly}
+use Rattle.tcc_maps.specs.Judge.{Judgement, judge, Current, Outdated, TooEarly}
 use Rattle.tcc_maps.specs.Lines.{has_mark}
 use Rattle.tcc_maps.specs.Masks.{full}
 use Rattle.tcc_maps.specs.Nodes.{Msg, TidReq, TidGrant, LoadReq, Fill, Skip, Probe, ProbeReply, Mark, Commit, Abort}
@@ -91,9 +91,9 @@ commit-taken sh c k count s =
     if-taken (s.serving.serving == k && count_below (has_mark s.lines) (lines sh) == count) _ _ true false refl refl
 
 abbrev comes_home : Judgement → Bool
-comes_home IsEarly = false
-comes_home IsTaken = true
-comes_home IsDropped = true
+comes_home TooEarly = false
+comes_home Current = true
+comes_home Outdated = true
 
 home-taken : (c l m : ℕ) (ws : List ℕ) (g : ℕ) (s : DirState)
     → is_taken (write_back c l m ws g s) ≡ comes_home (judge (s.lines.owner l) (s.lines.tag l) c g)
@@ -101,9 +101,9 @@ unfolding write_back
 home-taken c l m ws g s = by (judge (s.lines.owner l) (s.lines.tag l) c g)
   where
     by : (j : Judgement) → is_taken (judged l m ws s j) ≡ comes_home j
-    by IsEarly = refl
-    by IsTaken = refl
-    by IsDropped = refl
+    by TooEarly = refl
+    by Current = refl
+    by Outdated = refl
 
 home-alike : (c l m : ℕ) (ws : List ℕ) (g : ℕ) (s t : DirState) → SameTaking s t
     → is_taken (write_back c l m ws g t) ≡ is_taken (write_back c l m ws g s)

@@ -2,7 +2,7 @@
 use Rattle.tcc_serial.proofs.Names.{ℕ, ◌-◌, ◌≡◌, ◌<◌, ◌≤◌, ◌⊎◌, Bool, true, false, List, [], ◌∷◌, get_or, ◌==◌, ◌&&◌, ◌||◌, not, Option}
 use Rattle.tcc_serial.proofs.Names.{Some, None, nat_lt, nat_le, if◌then◌else◌, arith, refl, inl, inr, nat_tests, num, count_below, those}
 use Rattle.tcc_serial.proofs.Names.{place_of, hit, full, Lines, has_mark, with_asked, with_mark, with_sharer, with_owner, unmarked, judge}
-use Rattle.tcc_serial.proofs.Names.{is_owner, IsTaken, IsDropped, IsEarly, advance, skipped, kept, Core, Msg, LoadReq, Fill, Skip, Probe}
+use Rattle.tcc_serial.proofs.Names.{is_owner, Current, Outdated, TooEarly, advance, skipped, kept, Core, Msg, LoadReq, Fill, Skip, Probe}
 use Rattle.tcc_serial.proofs.Names.{ProbeReply, Mark, Commit, Abort, WriteBack, Flush, DataReq, Inv, InvAck, Shape, lines, DirState}
 use Rattle.tcc_serial.proofs.Names.{nothing, to, Answer, Waits, Drops, Asks, Takes, skip, abort, acknowledgement, dir_deliver, moved_on}
 use Rattle.tcc_serial.proofs.Names.{moved_on_if_settled, owned_by_committer, invalidation_count, invalidations, invs_to, is_invalidated}
@@ -155,7 +155,7 @@ back-outcome sh s c l k ws g m y = go (nat_lt (s.lines.tag l) g) (s.lines.tag l 
     own : (o : Option ℕ) → is_owner o c ≡ true → o ≡ Some c
     own a h = grind (arith, nat_tests)
 
-    go : (a b x : Bool) → nat_lt (s.lines.tag l) g ≡ a → (s.lines.tag l == g) ≡ b → is_owner (s.lines.owner l) c ≡ x → Outcome sh s c m (judged l k ws s (if a then IsEarly else (if b && x then IsTaken else IsDropped)))
+    go : (a b x : Bool) → nat_lt (s.lines.tag l) g ≡ a → (s.lines.tag l == g) ≡ b → is_owner (s.lines.owner l) c ≡ x → Outcome sh s c m (judged l k ws s (if a then TooEarly else (if b && x then Current else Outdated)))
     go true b x p q r = Waiting m
     go false true true p q r = TakesCopy m l k ws g y (grind (arith, nat_tests)) (own (s.lines.owner l) r)
     go false true false p q r = Spent m (CopyPassed m l k ws g y (grind (arith, nat_tests)) (rw (q, r) refl))
