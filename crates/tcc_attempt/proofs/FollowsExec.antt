@@ -91,7 +91,7 @@ GoesOn (Halts code) = ⊥
 GoesOn (Traps code) = ⊥
 
 finished-ends : (p : Program) (need : Need) (x : ℕ) (s : CoreState) → GoesOn need → EndFits s.phase s.ended → EndFits (finished p need x s).phase (finished p need x s).ended
-unfolding finished Rattle.tcc_rules.specs.Attempt.stepped
+unfolding finished Rattle.tcc_rules.specs.Attempt.one_more_instruction
 finished-ends p Nothing x s g e = e
 finished-ends p (Loads addr size) x s g e = e
 finished-ends p (Stores addr size value) x s g e = e
@@ -286,7 +286,7 @@ commit-follows sh p id t s h k =
       loads = [];
       stores = [];
       console = [];
-      after = Rattle.tcc_rules.specs.Commit.after_commit (Rattle.tcc_maps.specs.Cache.writes_at sh s.cache) t s.after;
+      after = Rattle.tcc_rules.specs.Commit.with_last_commit (Rattle.tcc_maps.specs.Cache.writes_at sh s.cache) t s.after;
     }) s.ended
     (record { n = refl; local = refl; loads = refl; stores = refl; console = refl; ended = refl; words = λ ram v. unspilled-seen _ ram v (k.alone h v) (modified-committed t s.cache v) })
 
@@ -301,7 +301,7 @@ solo_commit-follows sh p id t s =
       stores = [];
       console = [];
       spilled = none_spilled;
-      after = Rattle.tcc_rules.specs.Commit.after_commit (Rattle.tcc_rules.specs.Commit.solo_writes_at sh s.cache s.spilled) t s.after;
+      after = Rattle.tcc_rules.specs.Commit.with_last_commit (Rattle.tcc_rules.specs.Commit.solo_writes_at sh s.cache s.spilled) t s.after;
     }) s.ended
     (record { n = refl; local = refl; loads = refl; stores = refl; console = refl; ended = refl; words = λ ram v. unspilled-seen _ ram v refl (modified-committed t (Rattle.tcc_maps.specs.CacheChange.words_dropped s.spilled s.cache) v) })
 

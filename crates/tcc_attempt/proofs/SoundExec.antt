@@ -118,7 +118,7 @@ close-sound sh id Halted s e k = await-sound sh s (ap is_solo e) k
 
 -- the end of an instruction leaves the phase
 ends-phase : (p : Program) (s : CoreState) → (finished p Ends 0 s).phase ≡ s.phase
-unfolding finished Rattle.tcc_rules.specs.Attempt.stepped
+unfolding finished Rattle.tcc_rules.specs.Attempt.one_more_instruction
 ends-phase p s = refl
 
 halts-phase : (p : Program) (code : ℕ) (s : CoreState) → (finished p (Halts code) 0 s).phase ≡ s.phase

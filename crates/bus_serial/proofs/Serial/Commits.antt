@@ -135,7 +135,7 @@ await-ready sh n p w c b q m f h =
     }
 
 finished-saved : (p : Program) (need : Need) (s : CoreState) → (finished p need 0 s).saved ≡ s.saved
-unfolding finished Rattle.tcc_rules.specs.Attempt.stepped
+unfolding finished Rattle.tcc_rules.specs.Attempt.one_more_instruction
 finished-saved p Nothing s = refl
 finished-saved p _ s = refl
 
