@@ -286,7 +286,7 @@ commit-follows sh p id t s h k =
       loads = [];
       stores = [];
       console = [];
-      after = Rattle.tcc_rules.specs.Commit.with_last_commit (Rattle.tcc_maps.specs.Cache.writes_at sh s.cache) t s.after;
+      last_commit = Rattle.tcc_rules.specs.Commit.with_last_commit (Rattle.tcc_maps.specs.Cache.writes_at sh s.cache) t s.last_commit;
     }) s.ended
     (record { n = refl; local = refl; loads = refl; stores = refl; console = refl; ended = refl; words = λ ram v. unspilled-seen _ ram v (k.alone h v) (modified-committed t s.cache v) })
 
@@ -301,7 +301,8 @@ solo_commit-follows sh p id t s =
       stores = [];
       console = [];
       spilled = none_spilled;
-      after = Rattle.tcc_rules.specs.Commit.with_last_commit (Rattle.tcc_rules.specs.Commit.solo_writes_at sh s.cache s.spilled) t s.after;
+      last_commit =
+        Rattle.tcc_rules.specs.Commit.with_last_commit (Rattle.tcc_rules.specs.Commit.solo_writes_at sh s.cache s.spilled) t s.last_commit;
     }) s.ended
     (record { n = refl; local = refl; loads = refl; stores = refl; console = refl; ended = refl; words = λ ram v. unspilled-seen _ ram v refl (modified-committed t (Rattle.tcc_maps.specs.CacheChange.words_dropped s.spilled s.cache) v) })
 

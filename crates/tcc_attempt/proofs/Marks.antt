@@ -347,13 +347,14 @@ unfolding solo_commit committed_core
 solo_commit-fit sh id t s n o = committed-fit sh (record (record (committed_core t s) {
   cache = Rattle.tcc_maps.specs.CacheChange.committed t (Rattle.tcc_maps.specs.CacheChange.words_dropped s.spilled s.cache);
   spilled = none_spilled;
-  after = Rattle.tcc_rules.specs.Commit.with_last_commit (Rattle.tcc_rules.specs.Commit.solo_writes_at sh s.cache s.spilled) t s.after;
+  last_commit =
+      Rattle.tcc_rules.specs.Commit.with_last_commit (Rattle.tcc_rules.specs.Commit.solo_writes_at sh s.cache s.spilled) t s.last_commit;
 }) { ended = s.ended; phase = s.phase }) s.ended (read-committed t (Rattle.tcc_maps.specs.CacheChange.words_dropped s.spilled s.cache)) n o
 
 commit-fit : (sh : Shape) (id t : ℕ) (s : CoreState) → s.awaited ≡ None → ((d : ℕ) → s.owing d ≡ true → ⊥) → MarksFit sh (commit sh id t s).core []
 unfolding commit committed_core
 commit-fit sh id t s n o = committed-fit sh (record (record (committed_core t s) {
-  after = Rattle.tcc_rules.specs.Commit.with_last_commit (Rattle.tcc_maps.specs.Cache.writes_at sh s.cache) t s.after;
+  last_commit = Rattle.tcc_rules.specs.Commit.with_last_commit (Rattle.tcc_maps.specs.Cache.writes_at sh s.cache) t s.last_commit;
 }) { ended = s.ended; phase = s.phase }) s.ended (read-committed t s.cache) n o
 
 -- an ending instruction

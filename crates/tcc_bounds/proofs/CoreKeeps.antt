@@ -149,7 +149,7 @@ solos sh s sp t = dirs-inside sh _ (λ d. solo_marks_or_skip sh s sp t d ++ solo
 asks : (sh : Shape) (n l : ℕ) (s : CoreState) → l < lines sh → AttemptCounted n s → Keeps sh n (request_line sh l s)
 unfolding request_line is_inside
 asks sh n l s i k = still sh _ n _ _
-    (to-inside sh _ (Dir (home sh l)) _ (one-message sh _ (LoadReq l (s.after (home sh l))) (some sh) (below sh l i))) k
+    (to-inside sh _ (Dir (home sh l)) _ (one-message sh _ (LoadReq l (s.last_commit (home sh l))) (some sh) (below sh l i))) k
 
 full : (sh : Shape) (n l : ℕ) (s : CoreState) → AttemptCounted n s → IfSome (full_set sh l s) (Keeps sh n)
 unfolding full_set overflow

@@ -137,8 +137,8 @@ backs sh c s l k = at_home sh c l (write_back_of (dirty_copy s l)) k (λ d i. go
 
 asks : (sh : Shape) (c l : ℕ) (s : CoreState) → IsCore sh c → Fit sh c (request_line sh l s)
 unfolding request_line
-asks sh c l s k = at_home sh c l (LoadReq l (s.after (home sh l)) ∷ []) k
-    (λ d i. out_fits sh c d (LoadReq l (s.after (home sh l))) k.core i refl)
+asks sh c l s k = at_home sh c l (LoadReq l (s.last_commit (home sh l)) ∷ []) k
+    (λ d i. out_fits sh c d (LoadReq l (s.last_commit (home sh l))) k.core i refl)
 
 requests : (sh : Shape) (c : ℕ) → IsCore sh c → AllFit sh (Core c) (to Vendor (TidReq ∷ []))
 requests sh c k = fit-to sh (Core c) Vendor (TidReq ∷ []) (ask_fits sh c k.core)

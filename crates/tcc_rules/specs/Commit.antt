@@ -57,13 +57,13 @@ unfoldable pub commit_sends : Shape → Cache → (tid : ℕ) → Sends
 commit_sends sh c t = to_dirs sh (λ d. when (writes_at sh c d) (Commit t (count_below (λ l. d == home sh l && is_modified c l) (lines sh)) ∷ []))
 
 -- the core's last commit at each directory
-unfoldable pub with_last_commit : (written : ℕ → Bool) → (tid : ℕ) → (ℕ → ℕ) → ℕ → ℕ
-with_last_commit written t after d = if written d then t else after d
+unfoldable pub with_last_commit : (written : ℕ → Bool) → (tid : ℕ) → (last : ℕ → ℕ) → ℕ → ℕ
+with_last_commit written t last d = if written d then t else last d
 
 -- Commit: the commit point of a transaction whose directories all serve its TID
 unfoldable pub commit : Shape → (core tid : ℕ) → CoreState → Out
 commit sh id t s = record {
-  core = record (committed_core t s) { after = with_last_commit (writes_at sh s.cache) t s.after };
+  core = record (committed_core t s) { last_commit = with_last_commit (writes_at sh s.cache) t s.last_commit };
   sends = commit_sends sh s.cache t;
   commit = Some (noted t id s);
 }
@@ -99,7 +99,7 @@ solo_commit sh id t s = record {
   core = record (committed_core t s) {
     cache = committed t (words_dropped s.spilled s.cache);
     spilled = none_spilled;
-    after = with_last_commit (solo_writes_at sh s.cache s.spilled) t s.after;
+    last_commit = with_last_commit (solo_writes_at sh s.cache s.spilled) t s.last_commit;
   };
   sends = solo_sends sh s.cache s.spilled t;
   commit = Some (noted t id s);

@@ -18,7 +18,7 @@ use Rattle.tcc_rules.specs.Commit.{solo_commit}
 
 -- a request for the line goes to its home, and the core awaits it
 unfoldable pub request_line : Shape → ℕ → CoreState → Out
-request_line sh l s = moves (record s { awaited = Some (record { line = l; stale = false }) }) (to (Dir (home sh l)) (LoadReq l (s.after (home sh l)) ∷ []))
+request_line sh l s = moves (record s { awaited = Some (record { line = l; stale = false }) }) (to (Dir (home sh l)) (LoadReq l (s.last_commit (home sh l)) ∷ []))
 
 unfoldable pub place : Shape → ℕ → CoreState → CoreState
 place sh l s = record s { cache = placed sh l s.cache }

@@ -30,7 +30,8 @@ unfoldable pub tag_test : Shape → History → (dir line : ℕ) → Bool
 tag_test sh h d l = (h.world.dirs d).lines.tag l == last_of (settled_in_line sh h.world d l) h.commits
 
 unfoldable pub after_test : Shape → History → (core dir : ℕ) → Pair → Bool
-after_test sh h c d v = (v.core.after d == last_of (stored_there sh c d) h.commits) && (live (LoadNot (v.core.after d)) v.out == 0)
+after_test sh h c d v =
+    (v.core.last_commit d == last_of (stored_there sh c d) h.commits) && (live (LoadNot (v.core.last_commit d)) v.out == 0)
 
 unfoldable pub loading_test : Shape → (dir line : ℕ) → Pair → Bool
 loading_test sh d l v = live (LoadOf l) v.out + live (FillOf l) v.back == num (is_awaited v.core.awaited l && home sh l == d)

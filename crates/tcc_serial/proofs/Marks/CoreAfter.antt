@@ -17,8 +17,8 @@ no-load x _ f = refl
 
 -- nothing is committed, and a load request carries what the core notes of the line's home
 pub record Stays (s : CoreState) (o : Out) : Type 0 where
-  pub after : o.core.after ≡ s.after
-  pub carries : (d : ℕ) → among (LoadNot (s.after d)) (o.sends (Dir d)) ≡ 0
+  pub after : o.core.last_commit ≡ s.last_commit
+  pub carries : (d : ℕ) → among (LoadNot (s.last_commit d)) (o.sends (Dir d)) ≡ 0
   pub commit : o.commit ≡ None
 
 -- the core commits: it notes the commit's TID of each directory where the commit stored
@@ -26,7 +26,7 @@ pub record Notes_commit (sh : Shape) (c : ℕ) (s : CoreState) (o : Out) : Type 
   pub noted : Noted
   pub commit : o.commit ≡ Some noted
   pub core : noted.core.0 ≡ c
-  pub after : (d : ℕ) → o.core.after d ≡ (if stores_at sh d noted.stores then noted.tid.0 else s.after d)
+  pub after : (d : ℕ) → o.core.last_commit d ≡ (if stores_at sh d noted.stores then noted.tid.0 else s.last_commit d)
   pub quiet : (d x : ℕ) → among (LoadNot x) (o.sends (Dir d)) ≡ 0
   pub idle : s.awaited ≡ None
 
@@ -34,15 +34,15 @@ abbrev pub AfterStep : Shape → (core : ℕ) → CoreState → Out → Type 0
 AfterStep sh c s o = Stays s o ⊎ Notes_commit sh c s o
 
 -- no load request is sent, and the core notes what it did
-stays : (s : CoreState) (o : Out) → ((d x : ℕ) → among (LoadNot x) (o.sends (Dir d)) ≡ 0) → o.core.after ≡ s.after → o.commit ≡ None → Stays s o
-stays s o f e c = record { after = e; carries = λ d. f d (s.after d); commit = c }
+stays : (s : CoreState) (o : Out) → ((d x : ℕ) → among (LoadNot x) (o.sends (Dir d)) ≡ 0) → o.core.last_commit ≡ s.last_commit → o.commit ≡ None → Stays s o
+stays s o f e c = record { after = e; carries = λ d. f d (s.last_commit d); commit = c }
 
 -- a request carries what the core notes of the line's home
-asked : (sh : Shape) (k : ℕ) (s r : CoreState) → r.after ≡ s.after → Stays s (moves r (say sh s (Requests k)))
+asked : (sh : Shape) (k : ℕ) (s r : CoreState) → r.last_commit ≡ s.last_commit → Stays s (moves r (say sh s (Requests k)))
 unfolding among passes
 asked sh k s r e = record { after = e; carries = λ d. go d (d == home sh k) refl; commit = refl }
   where
-    go : (d : ℕ) (b : Bool) → (d == home sh k) ≡ b → among (LoadNot (s.after d)) (if b then LoadReq k (s.after (home sh k)) ∷ [] else []) ≡ 0
+    go : (d : ℕ) (b : Bool) → (d == home sh k) ≡ b → among (LoadNot (s.last_commit d)) (if b then LoadReq k (s.last_commit (home sh k)) ∷ [] else []) ≡ 0
     go d a q = grind (arith, nat_tests)
 
 -- a core whose directories are all ready awaits nothing and has spilled nothing

@@ -138,7 +138,7 @@ homely-said : (sh : Shape) (s : CoreState) (q : Said) → HomelyOut sh (say sh s
 unfolding passes
 homely-said sh s (Flushes l) = homely-flushed sh s.cache l
 homely-said sh s (Empties l) = homely-written sh s.cache l
-homely-said sh s (Requests l) = λ d. homely-to sh (home sh l) d (LoadReq l (s.after (home sh l)) ∷ []) (λ e. one-load sh d l (s.after (home sh l)) e)
+homely-said sh s (Requests l) = λ d. homely-to sh (home sh l) d (LoadReq l (s.last_commit (home sh l)) ∷ []) (λ e. one-load sh d l (s.last_commit (home sh l)) e)
 homely-said sh s (Tells_alone t) = homely-solo sh s.cache s.spilled t
 homely-said sh s (Marks_at e t) = homely-marks sh s.cache t e
 homely-said sh s q = λ d. record { away = quiet sh s (LinesAway sh.dirs d) q (λ x. refl) d; words = quiet sh s NoWord q (λ x. refl) d }

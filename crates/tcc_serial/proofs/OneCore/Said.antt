@@ -30,7 +30,7 @@ abbrev pub say : Shape → CoreState → Said → Sends
 say sh s Silent = nothing
 say sh s (Flushes l) = flush_line sh s.cache l
 say sh s (Empties l) = write_back_line sh s.cache l
-say sh s (Requests l) = to (Dir (home sh l)) (LoadReq l (s.after (home sh l)) ∷ [])
+say sh s (Requests l) = to (Dir (home sh l)) (LoadReq l (s.last_commit (home sh l)) ∷ [])
 say sh s Wants = to Vendor (TidReq ∷ [])
 say sh s (Tells_commit t) = commit_sends sh s.cache t
 say sh s (Tells_alone t) = solo_sends sh s.cache s.spilled t
@@ -95,7 +95,7 @@ quiet sh s k (Empties l) h d = go (d == home sh l) (dirty_copy s.cache l)
     go true (Some t) = rw (h (record { line = t.line; mask = t.mask; words = t.words; tag = t.tag; count = 0 })) refl
     go true None = refl
     go false t = refl
-quiet sh s k (Requests l) h d = one-quiet k _ (d == home sh l) (h (record { line = l; mask = 0; words = []; tag = s.after (home sh l); count = 0 }))
+quiet sh s k (Requests l) h d = one-quiet k _ (d == home sh l) (h (record { line = l; mask = 0; words = []; tag = s.last_commit (home sh l); count = 0 }))
 quiet sh s k (Tells_commit t) h d = go (nat_lt d sh.dirs) (writes_at sh s.cache d)
   where
     n : ℕ

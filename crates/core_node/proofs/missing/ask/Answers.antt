@@ -11,6 +11,6 @@ returns-clause-does c =
     record {
       core = refl;
       sent = sent_asked c.args.out.now c.hand_out.new.self k.config c.args.line c.home-home.result c.last_commit-after.result
-          (core_of k).after c.home-home.ensures.value
+          (core_of k).last_commit c.home-home.ensures.value
           c.last_commit-after.ensures c.hand_out.ensures.sent c.hand_out.ensures.room;
     }
