@@ -32,7 +32,8 @@ use Rattle.tcc_rules.specs.State.{Ready, Overflowing, Solo, Halted, World, start
 use Rattle.tcc_rules.specs.State.{core_start}
 use Rattle.tcc_rules.specs.Step.{Stepped, History, and_then, answered, core_moves, core_takes, dir_asks, dir_takes, if_vendor_gives}
 use Rattle.tcc_rules.specs.Step.{happens}
-use Rattle.tcc_rules.specs.Step.{if_in_flight, if_core_moves, names_nodes, next, recorded, run, run_from, step, if_core_takes, vendor_gives}
+use Rattle.tcc_rules.specs.Step.{if_in_flight, if_core_moves, names_nodes, next_history, recorded, run, run_from, step, if_core_takes}
+use Rattle.tcc_rules.specs.Step.{vendor_gives}
 use Rattle.tcc_serial.specs.Commits.{end_after}
 use Rattle.live_core.specs.Reached.{KeepsItsEnd}
 use Rattle.tcc_rules.specs.VendorDeliver.{Granted, vendor_deliver}
@@ -349,7 +350,7 @@ after-step sh p w e h = guarded (names_nodes sh e) (happens sh p w e) (go e)
 
 after-run_from : (sh : Shape) (p : Program) (es : List Event) (g : History) → AllSay g.world
     → IfSome (run_from sh p es g) (λ f. AllSay f.world)
-unfolding run_from next
+unfolding run_from next_history
 after-run_from sh p [] g h = h
 after-run_from sh p (e ∷ es) g h = go (step sh p g.world e) (after-step sh p g.world e h) (after-run_from sh p es)
   where

@@ -4,7 +4,7 @@ use Rattle.tcc_base.specs.declared.names.Tid.{Tid}
 use Rattle.tcc_maps.specs.Nodes.{Event}
 use Rattle.tcc_msg.specs.Plain.{event_of}
 use Rattle.tcc_msg.specs.declared.event.Event.{Event as CodeEvent}
-use Rattle.tcc_rules.specs.Step.{Stepped, step, next, run_from}
+use Rattle.tcc_rules.specs.Step.{Stepped, step, next_history, run_from}
 use Rattle.core_node.specs.declared.delivering.CoreError.{CoreError}
 use Rattle.core_node.specs.declared.delivering.CoreError.TheVariants.{Blocked}
 use Rattle.core_node.specs.declared.delivering.CoreError.TheVariants as core_error

@@ -16,7 +16,7 @@ use Rattle.tcc_rules.specs.CoreEvict.{core_evict}
 use Rattle.tcc_rules.specs.CoreDeliver.{core_deliver}
 use Rattle.tcc_rules.specs.DirDeliver.{Answer, Waits, Drops, Asks, Takes, dir_deliver}
 use Rattle.tcc_rules.specs.VendorDeliver.{Granted, vendor_deliver}
-use Rattle.tcc_rules.specs.Step.{Stepped, History, core_moves, core_takes, dir_takes, dir_asks, vendor_gives, if_core_moves, if_core_takes, answered, if_vendor_gives, delivered, if_in_flight, names_nodes, happens, step, recorded, and_noted, next, and_then, run_from, run}
+use Rattle.tcc_rules.specs.Step.{Stepped, History, core_moves, core_takes, dir_takes, dir_asks, vendor_gives, if_core_moves, if_core_takes, answered, if_vendor_gives, delivered, if_in_flight, names_nodes, happens, step, recorded, and_noted, next_history, and_then, run_from, run}
 use Rattle.tcc_attempt.specs.Follows.{Fits, Uses, sees, Follows, used_by}
 use Rattle.tcc_attempt.specs.Marks.{MarksFit, AttemptFits, AttemptsFit}
 use Rattle.tcc_attempt.specs.Views.{Views, no_views, uses_after, uses_executed, uses_delivered, views_delivered, views_after, then_views, views_from}
@@ -108,7 +108,7 @@ run-step-follow sh p es h vs new None s k f = tt
 run-step-follow sh p es h vs new (Some t) s k f = f (record { world = t.world; commits = and_noted t.noted h.commits }) s k
 
 run_from-follow : (sh : Shape) (p : Program) (es : List Event) (h : History) (vs : Views) → Fits p → AllSound sh h.world.cores → AllFollow sh p h.world.cores vs → IfSome (run_from sh p es h) (λ x. AllFollow sh p x.world.cores (views_from sh p es vs h))
-unfolding run_from next views_from
+unfolding run_from next_history views_from
 run_from-follow sh p [] h vs f s k = k
 run_from-follow sh p (e ∷ es) h vs f s k = run-step-follow sh p es h vs (views_after sh p h.world e vs) (step sh p h.world e) (step-sound sh p h.world e s) (step-follow sh p h.world vs e f s k) (λ g a b. run_from-follow sh p es g (views_after sh p h.world e vs) f a b)
 

@@ -21,7 +21,7 @@ use Rattle.tcc_rules.specs.CoreEvict.{is_awaited, evict_line, core_evict}
 use Rattle.tcc_rules.specs.CoreDeliver.{ignored, grant_in_phase, grant, probing_or_ready, is_probed, replied, all_replied, ready_once_replied, solo_once_replied, reply_in_phase, probe_reply, fill_awaited, fill, data_request, violated_in_phase, if_violated, staled, words_invalidated, is_violated, acknowledged, invalidate, from_dir, from_vendor, core_deliver}
 use Rattle.tcc_rules.specs.DirDeliver.{Answer, Waits, Drops, Asks, Takes, dir_deliver}
 use Rattle.tcc_rules.specs.VendorDeliver.{Granted, vendor_deliver}
-use Rattle.tcc_rules.specs.Step.{Stepped, History, core_moves, core_takes, dir_takes, dir_asks, vendor_gives, if_core_moves, if_core_takes, answered, if_vendor_gives, delivered, if_in_flight, names_nodes, happens, step, recorded, and_noted, next, and_then, run_from, run}
+use Rattle.tcc_rules.specs.Step.{Stepped, History, core_moves, core_takes, dir_takes, dir_asks, vendor_gives, if_core_moves, if_core_takes, answered, if_vendor_gives, delivered, if_in_flight, names_nodes, happens, step, recorded, and_noted, next_history, and_then, run_from, run}
 use Rattle.tcc_attempt.specs.Sound.{AwaitsHeld, is_idle, SoundCore}
 use Rattle.tcc_rules.proofs.Lemmas.{if-step}
 use Rattle.tcc_attempt.proofs.Sound.{OutSound}
@@ -346,7 +346,7 @@ run-step-sound sh p es h None k f = tt
 run-step-sound sh p es h (Some t) k f = f (record { world = t.world; commits = and_noted t.noted h.commits }) k
 
 run_from-sound : (sh : Shape) (p : Program) (es : List Event) (h : History) → AllSound sh h.world.cores → IfSome (run_from sh p es h) (λ x. AllSound sh x.world.cores)
-unfolding run_from next
+unfolding run_from next_history
 run_from-sound sh p [] h k = k
 run_from-sound sh p (e ∷ es) h k = run-step-sound sh p es h (step sh p h.world e) (step-sound sh p h.world e k) (run_from-sound sh p es)
 

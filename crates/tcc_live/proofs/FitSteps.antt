@@ -17,7 +17,7 @@ use Rattle.tcc_rules.specs.DirDeliver.{Answer, Waits, Drops, Asks, Takes, dir_de
 use Rattle.tcc_rules.specs.Links.{in_flight, taking}
 use Rattle.tcc_rules.specs.Sends.{to}
 use Rattle.tcc_rules.specs.VendorDeliver.{vendor_deliver}
-use Rattle.tcc_rules.specs.Step.{Stepped, core_moves, core_takes, dir_takes, dir_asks, vendor_gives, if_core_moves, if_core_takes, answered, if_vendor_gives, delivered, if_in_flight, is_node, names_nodes, happens, step, History, and_noted, recorded, next, and_then, run_from, run}
+use Rattle.tcc_rules.specs.Step.{Stepped, core_moves, core_takes, dir_takes, dir_asks, vendor_gives, if_core_moves, if_core_takes, answered, if_vendor_gives, delivered, if_in_flight, is_node, names_nodes, happens, step, History, and_noted, recorded, next_history, and_then, run_from, run}
 use Rattle.tcc_live.specs.Fits.{KeptFits, LinksFitAlways}
 use Rattle.tcc_live.proofs.CoreFits.{IsCore, Fit, fit-exec, fit-evict, fit-grant, fit-back}
 use Rattle.tcc_live.proofs.DirFits.{KeptDir, FitAnswer, fit-answer}
@@ -129,7 +129,7 @@ step-clean sh p w e k n = go (names_nodes sh e) refl
 
 runs-clean : (sh : Shape) (p : Program) (es : List Event) (h : History) → 1 ≤ sh.dirs → Clean sh h.world
     → IfSome (run_from sh p es h) (λ g. Clean sh g.world)
-unfolding run_from next
+unfolding run_from next_history
 runs-clean sh p [] h n k = k
 runs-clean sh p (e ∷ es) h n k = go (step sh p h.world e) (step-clean sh p h.world e k n) (λ g c. runs-clean sh p es g n c)
   where

@@ -31,7 +31,7 @@ use Rattle.tcc_rules.specs.Links.{sent_all}
 use Rattle.tcc_rules.specs.Sends.{write_back_line, flush_line, skip_all, probe_all, abort_written, marks_for}
 use Rattle.tcc_rules.specs.State.{core_start, dir_start, vendor_start, start}
 use Rattle.tcc_rules.specs.Step.{names_nodes, happens, core_moves, core_takes, dir_takes, dir_asks, vendor_gives, step, is_enabled}
-use Rattle.tcc_rules.specs.Step.{insert_commit, next, run_from, run}
+use Rattle.tcc_rules.specs.Step.{insert_commit, next_history, run_from, run}
 use Rattle.tcc_rules.specs.Seen.{copies_on, copies_of, copies, newest, home_copy, seen}
 use Rattle.tcc_rules.specs.Useful.{nodes, execs, evicts, delivers, useful, is_useful, room, room_for_line, room_for_word, room_for_store}
 
@@ -54,6 +54,6 @@ unfolding empty_cache is_marked way_marked free_way all_marked is_modified is_di
       probe_all
       abort_written
     marks_for core_start dir_start vendor_start start names_nodes happens core_moves core_takes dir_takes dir_asks vendor_gives step
-    is_enabled insert_commit next run_from run copies_on copies_of copies newest home_copy seen room_for_line room_for_word
+    is_enabled insert_commit next_history run_from run copies_on copies_of copies newest home_copy seen room_for_line room_for_word
     room_for_store room is_useful nodes execs evicts delivers useful
 computed = Unit {0}

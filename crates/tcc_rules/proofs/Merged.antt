@@ -9,7 +9,7 @@ use Rattle.tcc_maps.specs.Nodes.{Node, Core, Dir, Vendor, Event, Exec, Evict, De
 use Rattle.tcc_maps.specs.Shape.{Shape}
 use Rattle.tcc_rules.specs.State.{World, Link, start}
 use Rattle.tcc_rules.specs.Links.{sent_all}
-use Rattle.tcc_rules.specs.Step.{Stepped, History, step, recorded, and_noted, next, and_then, run_from, run, is_node, names_nodes}
+use Rattle.tcc_rules.specs.Step.{Stepped, History, step, recorded, and_noted, next_history, and_then, run_from, run, is_node, names_nodes}
 use Rattle.tcc_rules.specs.Local.{NodeState, AtCore, AtDir, AtVendor, state_at, Entry, Acted, act, Mail, mailed, Side, side_start, is_gone, consumed, local, at_node}
 use Rattle.tcc_rules.specs.Merged.{Each, StoresMessageOf, StoresItsMessage, Fit, is_at, entry_before, Sorted, IsMerged, events}
 use Rattle.tcc_rules.specs.Laws.{ActsOnOne}
@@ -213,7 +213,7 @@ run-step sh p sides cur e es h j go b s (Some d) q (Some t) m a =
     (joined-after sh p sides cur h.world e es b.then t.world (record { step = b.step; applied = x; others = a; sent = s }) j b.rest)
 
 runs : (sh : Shape) (p : Program) (sides : Node → Side) (es : List Entry) (cur : Node → Side) (h : History) → Joined sh p sides h.world cur es → Ends sh sides (run_from sh p (events es) h)
-unfolding run_from local next
+unfolding run_from local next_history
 runs sh p sides [] cur h j = λ n k. let e : cur n ≡ sides n = (let l = j.locals n k in cc) in j.states n k ∙ ap (λ (x : Side). x.state) e
 runs sh p sides (e ∷ es) cur h j =
     let b : Begins sh p (at_node e.event) e (filter (is_at (at_node e.event)) es) (cur (at_node e.event)) (sides (at_node e.event)) = begins-here sh p sides cur h.world e es j in

@@ -12,7 +12,7 @@ use Rattle.tcc_rules.specs.CoreEvict.{core_evict}
 use Rattle.tcc_rules.specs.CoreDeliver.{core_deliver}
 use Rattle.tcc_rules.specs.DirDeliver.{Answer, Waits, Drops, Asks, Takes, dir_deliver}
 use Rattle.tcc_rules.specs.VendorDeliver.{vendor_deliver}
-use Rattle.tcc_rules.specs.Step.{Stepped, History, core_moves, core_takes, dir_takes, dir_asks, vendor_gives, if_core_moves, if_core_takes, answered, if_vendor_gives, delivered, if_in_flight, names_nodes, happens, step, recorded, and_noted, next, and_then, run_from, run}
+use Rattle.tcc_rules.specs.Step.{Stepped, History, core_moves, core_takes, dir_takes, dir_asks, vendor_gives, if_core_moves, if_core_takes, answered, if_vendor_gives, delivered, if_in_flight, names_nodes, happens, step, recorded, and_noted, next_history, and_then, run_from, run}
 use Rattle.tcc_rules.specs.Laws.{tids_in, given_by, and_given, given, counting}
 use Rattle.tcc_rules.proofs.Acts.{if-step}
 use Rattle.tcc_rules.proofs.Useful.{node_eq-same}
@@ -132,7 +132,7 @@ run-gives_in sh p e es h (Some t) f r =
     (r g)
 
 pub run-gives : (sh : Shape) (p : Program) (es : List Event) (h : History) → RunGives sh p es h.world (run_from sh p es h)
-unfolding run_from given next
+unfolding run_from given next_history
 run-gives sh p [] h = (omega arith, none-given h.world.next)
 run-gives sh p (e ∷ es) h = run-gives_in sh p e es h (step sh p h.world e) (step-gives sh p h.world e) (run-gives sh p es)
 

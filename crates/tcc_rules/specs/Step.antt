@@ -118,8 +118,8 @@ abbrev pub recorded : History → Option Stepped → Option History
 recorded h None = None
 recorded h (Some o) = Some (record { world = o.world; commits = and_noted o.noted h.commits })
 
-unfoldable pub next : Shape → Program → History → Event → Option History
-next sh p h e = recorded h (step sh p h.world e)
+unfoldable pub next_history : Shape → Program → History → Event → Option History
+next_history sh p h e = recorded h (step sh p h.world e)
 
 abbrev pub and_then : (History → Option History) → Option History → Option History
 and_then f None = None
@@ -128,7 +128,7 @@ and_then f (Some h) = f h
 -- the events one after another, each enabled where it comes
 unfoldable pub run_from : Shape → Program → List Event → History → Option History
 run_from sh p [] h = Some h
-run_from sh p (e ∷ es) h = and_then (run_from sh p es) (next sh p h e)
+run_from sh p (e ∷ es) h = and_then (run_from sh p es) (next_history sh p h e)
 
 unfoldable pub run : Shape → Program → World → List Event → Option History
 run sh p w es = run_from sh p es (record { world = w; commits = [] })

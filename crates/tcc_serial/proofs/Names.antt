@@ -84,7 +84,8 @@ unfoldable pub use Rattle.tcc_rules.specs.State.{start, core_start, dir_start, v
 pub use Rattle.tcc_rules.specs.Step.{History, and_noted, Stepped, recorded, and_then, if_in_flight, delivered, is_node, if_core_moves}
 pub use Rattle.tcc_rules.specs.Step.{if_core_takes}
 pub use Rattle.tcc_rules.specs.Step.{answered}
-unfoldable pub use Rattle.tcc_rules.specs.Step.{core_moves, step, core_takes, dir_takes, dir_asks, vendor_gives, insert_commit, run, next}
+unfoldable pub use Rattle.tcc_rules.specs.Step.{core_moves, step, core_takes, dir_takes, dir_asks, vendor_gives, insert_commit, run}
+unfoldable pub use Rattle.tcc_rules.specs.Step.{next_history}
 unfoldable pub use Rattle.tcc_rules.specs.Step.{run_from, happens, names_nodes}
 pub use Rattle.tcc_attempt.proofs.Lemmas.{hit-line, hit-reads, valid-held, attempts-fit, patched-small, start-follows}
 pub use Rattle.tcc_attempt.specs.Follows.{Uses, Agrees, Reaches, FollowsIn, HasEnded, IsSmall, NeedFits, used_by, EndFits, Fits, used_at}

@@ -12,7 +12,7 @@ use Rattle.tcc_rules.specs.Rows.{Image, two_cores, small_machine, stores_second,
 use Rattle.tcc_rules.specs.Schedules.{before_the_fill, over_a_read, over_a_dirty_owner, alone_after_overflow}
 use Rattle.tcc_rules.specs.Small.{small}
 use Rattle.tcc_rules.specs.State.{World, start}
-use Rattle.tcc_rules.specs.Step.{History, next, run}
+use Rattle.tcc_rules.specs.Step.{History, next_history, run}
 use Rattle.tcc_serial.specs.Copies.{KeptTags, KeptAbove, KeptOwned, KeptSharers, settled_in_line, stored_there, copies_with, holds_line}
 use Rattle.tcc_serial.specs.Count.{LoadOf, LoadNot, FillOf, FillNot, Commits, CopyMask, CopyNot, InvWord, GoneOf, live}
 use Rattle.tcc_serial.specs.Invariants.{first_state}
@@ -71,7 +71,7 @@ then_along f (Some h) = f h
 -- in each state along a run
 unfoldable pub along : Shape → Program → (ℕ → ℕ) → List Event → History → Bool
 along sh p ram [] h = tests sh ram h
-along sh p ram (e ∷ es) h = tests sh ram h && then_along (along sh p ram es) (next sh p h e)
+along sh p ram (e ∷ es) h = tests sh ram h && then_along (along sh p ram es) (next_history sh p h e)
 
 -- a run of two images from the start
 abbrev pub HoldsOn : Shape → Image → Image → List Event → Type 0

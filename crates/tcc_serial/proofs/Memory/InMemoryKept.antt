@@ -11,7 +11,8 @@ use Rattle.tcc_serial.proofs.Names.{from_dir, ◌≤◌}
 use Rattle.tcc_serial.proofs.Names.{[], ◌++◌, arith, Program, Local, Core, Event, lines, DirState, World, start, Out, core_exec, Answer}
 use Rattle.tcc_serial.proofs.Names.{Waits, Drops, Asks, Takes, dir_deliver, in_flight, sent_all, Sends, core_moves, core_takes, dir_takes}
 use Rattle.tcc_serial.proofs.Names.{step, CopyOf, live, KeptCores, Pair, pair, ◌∷◌, Contains, ◌⊎◌, inl, inr, subst, Noted, empty_cache}
-use Rattle.tcc_serial.proofs.Names.{core_start, dir_asks, vendor_gives, Stepped, History, and_noted, recorded, next, and_then, run_from}
+use Rattle.tcc_serial.proofs.Names.{core_start, dir_asks, vendor_gives, Stepped, History, and_noted, recorded, next_history, and_then}
+use Rattle.tcc_serial.proofs.Names.{run_from}
 use Rattle.tcc_serial.proofs.Names.{run, StaysInMemory, AccessesInMemory, CommitsInMemory, first_state}
 use Rattle.tcc_serial.proofs.Counts.Links.{live-sends, live-takes}
 use Rattle.tcc_serial.proofs.Counts.StepCases.{pairs_move, pairs_grant, pairs_back, pairs_dir, pairs_asks, pairs_vendor, OfAnswer}
@@ -217,7 +218,7 @@ step-in-memory sh p h e i k = go (step sh p h.world e) (step-cores sh p h.world 
     go (Some o) a q f = record { alone = a; cores = q.0; copies = f; commits = noted-memory sh o.noted h.commits (q.1) k.commits }
 
 run_from-memory : (sh : Shape) (p : Program) (es : List Event) (h : History) → StaysInMemory sh p → KeptInMemory sh h → IfSome (run_from sh p es h) (λ r. KeptInMemory sh r)
-unfolding run_from next
+unfolding run_from next_history
 run_from-memory sh p [] h i k = k
 run_from-memory sh p (e ∷ es) h i k = go (recorded h (step sh p h.world e)) (step-in-memory sh p h e i k) (λ g q. run_from-memory sh p es g i q)
   where

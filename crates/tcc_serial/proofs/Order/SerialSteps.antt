@@ -11,7 +11,8 @@ use Rattle.tcc_serial.proofs.Names.{History, Uses, Agrees, NeedFits, Fits, AllSt
 use Rattle.tcc_serial.proofs.Names.{plain_start, Invariants, Grant, holder, pair, asks_dir, may_commit, tid_of, has_tid, live_way}
 use Rattle.tcc_serial.proofs.Names.{loads_word, AlignedNeed, EachUse, is_given_up, Untold, Ways, worked_at, IfSome, if◌then◌else◌, Core}
 use Rattle.tcc_serial.proofs.Names.{Dir, Vendor, Msg, TidReq, TidGrant, in_flight, core_exec, core_evict, from_dir, grant, Answer, Waits}
-use Rattle.tcc_serial.proofs.Names.{Drops, Asks, Takes, dir_deliver, Stepped, and_noted, recorded, next, step, core_moves, core_takes}
+use Rattle.tcc_serial.proofs.Names.{Drops, Asks, Takes, dir_deliver, Stepped, and_noted, recorded, next_history, step, core_moves}
+use Rattle.tcc_serial.proofs.Names.{core_takes}
 use Rattle.tcc_serial.proofs.Names.{dir_takes, dir_asks, vendor_gives, CommitsSerial, CoreSerial, CoresSerial, IsSerial, EventsKeepSerial}
 use Rattle.tcc_serial.proofs.Counts.StepCases.{given, OfAnswer, step_cases}
 use Rattle.tcc_serial.proofs.Memory.MemorySends.{accesses_at_homes, marks_at_homes}
@@ -330,7 +331,7 @@ closed-cores sh p w cs c t e r o first m g f k = go (e == c) refl
         subst (λ j. CoreSerial o.core (g.plain.cores j)) (sym i) (record { local = g.local ∙ sym f.saved; ended = rw (f.after, f.ended) g.ended })
 
 pub events_serial : EventsKeepSerial
-unfolding next core_moves core_takes dir_takes dir_asks vendor_gives
+unfolding next_history core_moves core_takes dir_takes dir_asks vendor_gives
 events_serial sh p entries ram gs ys views m h e u k = whole (step sh p h.world e) (step_cases sh p h.world e (λ _. After sh p entries ram h) executes evicts grants backs answers gives)
   where
     whole : (o : Option Stepped) → IfSome o (After sh p entries ram h) → IfSome (recorded h o) (IsSerial sh p entries ram)

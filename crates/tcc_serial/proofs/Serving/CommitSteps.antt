@@ -3,7 +3,8 @@ use Rattle.tcc_serial.proofs.Names.{ℕ, ◌≡◌, ◌<◌, ◌≤◌, List, []
 use Rattle.tcc_serial.proofs.Names.{inl, inr, cases_order, nat_tests, Program, Local, num, Core, Dir, Event, Msg, Shape, DirState, World}
 use Rattle.tcc_serial.proofs.Names.{Link, start, in_flight, Sends, Out, core_exec, core_evict, from_dir, grant, Answer, Waits, Drops, Asks}
 use Rattle.tcc_serial.proofs.Names.{Takes, dir_deliver, core_moves, core_takes, dir_takes, Stepped, step, History, and_noted, recorded}
-use Rattle.tcc_serial.proofs.Names.{next, and_then, run_from, run, Resolves, Commits, CommitsAbove, live, passes, Pair, pair, after_move}
+use Rattle.tcc_serial.proofs.Names.{next_history, and_then, run_from, run, Resolves, Commits, CommitsAbove, live, passes, Pair, pair}
+use Rattle.tcc_serial.proofs.Names.{after_move}
 use Rattle.tcc_serial.proofs.Names.{grant_taken, back_taken, after_answer, out_taken, share, part, handled, Kept, Always, CommittingOf}
 use Rattle.tcc_serial.proofs.Names.{KeptCommitting, CommitsAreServed, true, ◌++◌, Contains, sym, ap, ◌∙◌, cases_lt, append-nil}
 use Rattle.tcc_serial.proofs.Names.{Contains-append_left, Contains-append_cases, Noted, CoreState, Phase, Running, AwaitTid, DoomedTid}
@@ -68,7 +69,7 @@ unfolding start pair live
 start-committing entries ram c d = refl
 
 run_from-committing : (sh : Shape) (p : Program) (es : List Event) (h : History) → Kept sh h.world → KeptCommitting h.world → IfSome (run_from sh p es h) (λ r. Kept sh r.world × KeptCommitting r.world)
-unfolding run_from next
+unfolding run_from next_history
 run_from-committing sh p [] h z k = (z, k)
 run_from-committing sh p (e ∷ es) h z k = go (step sh p h.world e) (step-kept sh p h.world e z) (step-committing sh p h.world e z k) (λ g a b. run_from-committing sh p es g a b)
   where

@@ -1,6 +1,7 @@
 -- The ways in which each TID was given to each directory along every run, and what the invariants on them say in words.
 use Rattle.tcc_serial.proofs.Names.{ℕ, List, [], ◌∷◌, ◌++◌, Option, Some, None, IfSome, arith, sym, append_assoc, append-nil, Program}
-use Rattle.tcc_serial.proofs.Names.{Local, Event, Shape, start, core_start, Stepped, step, History, and_noted, recorded, next, and_then}
+use Rattle.tcc_serial.proofs.Names.{Local, Event, Shape, start, core_start, Stepped, step, History, and_noted, recorded, next_history}
+use Rattle.tcc_serial.proofs.Names.{and_then}
 use Rattle.tcc_serial.proofs.Names.{run_from, run, KeptTold, KeptAll, KeptRun, Grant, granted_by, then_grants, grants_from, has_tid}
 use Rattle.tcc_serial.proofs.Names.{loads_word, Ways, ways_after, sent_by, then_ways, ways_from, first_ways, KeptWays, AlwaysTold, zero}
 use Rattle.tcc_serial.proofs.Names.{suc, ◌+◌, ◌≡◌, ◌<◌, ◌≤◌, Bool, true, false, ◌==◌, ◌&&◌, nat_lt, nat_le, refl, ap, ◌⊎◌, inl, inr}
@@ -41,7 +42,7 @@ step-run sh p gs ys h e k = go (step sh p h.world e) (step-all sh p gs h e k.all
         }
 
 run_from-ways : (sh : Shape) (p : Program) (es : List Event) (gs : List Grant) (ys : Ways) (h : History) → KeptRun sh gs ys h → IfSome (run_from sh p es h) (λ r. KeptRun sh (gs ++ grants_from sh p es h) (ways_from sh p es ys h) r)
-unfolding run_from grants_from ways_from next
+unfolding run_from grants_from ways_from next_history
 run_from-ways sh p [] gs ys h k = rw append-nil k
 run_from-ways sh p (e ∷ es) gs ys h k = go (recorded h (step sh p h.world e)) (step-run sh p gs ys h e k) (λ g q. run_from-ways sh p es (gs ++ granted_by h.world e) x g q)
   where
