@@ -101,9 +101,9 @@ pub(crate) fn strike(core: &mut Core, line: LineAddr, mask: Mask) -> bool
     ensures phase { core.new.phase ≡ core.old.phase }
     ensures stays { Stays core.old core.new }
 {
-    let words_invalidated = core.cache.invalidate(line, mask);
+    let struck = core.cache.invalidate(line, mask);
     core.awaited = staled(line, core.awaited);
-    words_invalidated.read_hit
+    struck.read_hit
 }
 
 /// What a core does that is violated, or isn't.
