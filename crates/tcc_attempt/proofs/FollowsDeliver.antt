@@ -20,7 +20,7 @@ use Rattle.tcc_rules.specs.CoreDeliver.{ignored, grant_in_phase, grant, probing_
 use Rattle.tcc_attempt.specs.Sound.{SoundCore}
 use Rattle.tcc_attempt.specs.Follows.{Uses, sees, HasEnded, EndFits, Follows}
 use Rattle.tcc_attempt.specs.Views.{uses_violated, uses_delivered}
-use Rattle.tcc_attempt.proofs.SoundDeliver.{without-sound}
+use Rattle.tcc_attempt.proofs.SoundDeliver.{words_invalidated-sound}
 use Rattle.tcc_attempt.proofs.Follows.{with_words, is_live, in-from, follows-same, follows-into}
 use Rattle.tcc_attempt.proofs.FollowsExec.{fresh-claims}
 
@@ -57,34 +57,34 @@ probing-ends : (b : Bool) (t : ℕ) (o : Outcome) → HasEnded o → EndFits (pr
 probing-ends true t o h = h
 probing-ends false t o h = h
 
-grant_phase-follows : (sh : Shape) (p : Program) (t : ℕ) (s : CoreState) (us : Uses) (q : Phase) → s.phase ≡ q → Follows sh p s us → Follows sh p (grant_in_phase sh t s q).core us
-grant_phase-follows sh p t s us AwaitTid e a = follows-into sh p s us s.cache s.spilled (probing_or_ready (any_below (is_probed sh s.cache) sh.dirs) t) s.awaited (is_probed sh s.cache) (λ ram v. refl) (ap is_live e) (probing-ends (any_below (is_probed sh s.cache) sh.dirs) t s.ended (ends-in s AwaitTid e a.ends)) a
-grant_phase-follows sh p t s us DoomedTid e a = follows-into sh p s us s.cache s.spilled Running s.awaited s.owing (λ ram v. refl) (ap is_live e) (ends-in s DoomedTid e a.ends) a
-grant_phase-follows sh p t s us (Overflowing None) e a = follows-into sh p s us s.cache s.spilled (Overflowing (Some t)) s.awaited (λ d. nat_lt d sh.dirs) (λ ram v. refl) (ap is_live e) (ends-in s (Overflowing None) e a.ends) a
-grant_phase-follows sh p t s us (Overflowing (Some u)) e a = a
-grant_phase-follows sh p t s us Running e a = a
-grant_phase-follows sh p t s us (Probing u) e a = a
-grant_phase-follows sh p t s us (Ready u) e a = a
-grant_phase-follows sh p t s us (Solo u) e a = a
-grant_phase-follows sh p t s us Halted e a = a
+grant_in_phase-follows : (sh : Shape) (p : Program) (t : ℕ) (s : CoreState) (us : Uses) (q : Phase) → s.phase ≡ q → Follows sh p s us → Follows sh p (grant_in_phase sh t s q).core us
+grant_in_phase-follows sh p t s us AwaitTid e a = follows-into sh p s us s.cache s.spilled (probing_or_ready (any_below (is_probed sh s.cache) sh.dirs) t) s.awaited (is_probed sh s.cache) (λ ram v. refl) (ap is_live e) (probing-ends (any_below (is_probed sh s.cache) sh.dirs) t s.ended (ends-in s AwaitTid e a.ends)) a
+grant_in_phase-follows sh p t s us DoomedTid e a = follows-into sh p s us s.cache s.spilled Running s.awaited s.owing (λ ram v. refl) (ap is_live e) (ends-in s DoomedTid e a.ends) a
+grant_in_phase-follows sh p t s us (Overflowing None) e a = follows-into sh p s us s.cache s.spilled (Overflowing (Some t)) s.awaited (λ d. nat_lt d sh.dirs) (λ ram v. refl) (ap is_live e) (ends-in s (Overflowing None) e a.ends) a
+grant_in_phase-follows sh p t s us (Overflowing (Some u)) e a = a
+grant_in_phase-follows sh p t s us Running e a = a
+grant_in_phase-follows sh p t s us (Probing u) e a = a
+grant_in_phase-follows sh p t s us (Ready u) e a = a
+grant_in_phase-follows sh p t s us (Solo u) e a = a
+grant_in_phase-follows sh p t s us Halted e a = a
 
 grant-follows : (sh : Shape) (p : Program) (t : ℕ) (s : CoreState) (us : Uses) → Follows sh p s us → Follows sh p (grant sh t s).core us
 unfolding grant
-grant-follows sh p t s us a = grant_phase-follows sh p t s us s.phase refl a
+grant-follows sh p t s us a = grant_in_phase-follows sh p t s us s.phase refl a
 
 cleared-seen : (s : CoreState) (ram : ℕ → ℕ) (v : ℕ) → sees (with_words s (read_cleared s.cache) s.spilled) ram v ≡ sees s ram v
 unfolding sees read_cleared
 cleared-seen s ram v = refl
 
-reply_phase-follows : (sh : Shape) (p : Program) (d t : ℕ) (s : CoreState) (us : Uses) (q : Phase) → s.phase ≡ q → Follows sh p s us → Follows sh p (reply_in_phase sh d t s q).core us
+reply_in_phase-follows : (sh : Shape) (p : Program) (d t : ℕ) (s : CoreState) (us : Uses) (q : Phase) → s.phase ≡ q → Follows sh p s us → Follows sh p (reply_in_phase sh d t s q).core us
 unfolding read_cleared
-reply_phase-follows sh p d t s us (Probing u) e a = at (u == t && s.owing d) (all_replied sh (replied d s).owing)
+reply_in_phase-follows sh p d t s us (Probing u) e a = at (u == t && s.owing d) (all_replied sh (replied d s).owing)
   where
     at : (b c : Bool) → Follows sh p (cond b (moves (cond c (record (replied d s) { phase = Ready t }) (replied d s)) (to (Dir d) (marks_for sh s.cache t d))) (ignored s)).core us
     at true true = follows-into sh p s us s.cache s.spilled (Ready t) s.awaited (put s.owing d false) (λ ram v. refl) (ap is_live e) (ends-in s (Probing u) e a.ends) a
     at true false = follows-same sh p s us s.cache s.spilled s.awaited (put s.owing d false) (λ ram v. refl) a
     at false c = a
-reply_phase-follows sh p d t s us (Overflowing (Some u)) e a = at (u == t && s.owing d) (all_replied sh (replied d s).owing)
+reply_in_phase-follows sh p d t s us (Overflowing (Some u)) e a = at (u == t && s.owing d) (all_replied sh (replied d s).owing)
   where
     seen_same : (ram : ℕ → ℕ) (v : ℕ) → sees (with_words s (read_cleared s.cache) s.spilled) ram v ≡ sees s ram v
     seen_same ram v = cleared-seen s ram v
@@ -93,13 +93,13 @@ reply_phase-follows sh p d t s us (Overflowing (Some u)) e a = at (u == t && s.o
     at true true = follows-into sh p s us (read_cleared s.cache) s.spilled (Solo t) s.awaited (put s.owing d false) seen_same (ap is_live e) (ends-in s (Overflowing (Some u)) e a.ends) a
     at true false = follows-same sh p s us s.cache s.spilled s.awaited (put s.owing d false) (λ ram v. refl) a
     at false c = a
-reply_phase-follows sh p d t s us (Overflowing None) e a = a
-reply_phase-follows sh p d t s us Running e a = a
-reply_phase-follows sh p d t s us AwaitTid e a = a
-reply_phase-follows sh p d t s us DoomedTid e a = a
-reply_phase-follows sh p d t s us (Ready u) e a = a
-reply_phase-follows sh p d t s us (Solo u) e a = a
-reply_phase-follows sh p d t s us Halted e a = a
+reply_in_phase-follows sh p d t s us (Overflowing None) e a = a
+reply_in_phase-follows sh p d t s us Running e a = a
+reply_in_phase-follows sh p d t s us AwaitTid e a = a
+reply_in_phase-follows sh p d t s us DoomedTid e a = a
+reply_in_phase-follows sh p d t s us (Ready u) e a = a
+reply_in_phase-follows sh p d t s us (Solo u) e a = a
+reply_in_phase-follows sh p d t s us Halted e a = a
 
 -- a filled frame keeps the words that were valid, so all that are modified
 filled-seen : (sh : Shape) (l : ℕ) (ws : List ℕ) (s : CoreState) → IsCache sh s.cache → (ram : ℕ → ℕ) (v : ℕ) → sees (with_words s (filled l ws s.cache) s.spilled) ram v ≡ sees s ram v
@@ -144,10 +144,10 @@ invalidated-seen l m s ram v = rw (value-invalidated l m s.cache v, modified-inv
     at true false = refl
     at false c = refl
 
-without-follows : (sh : Shape) (p : Program) (l m : ℕ) (s : CoreState) (us : Uses) → Follows sh p s us →
+words_invalidated-follows : (sh : Shape) (p : Program) (l m : ℕ) (s : CoreState) (us : Uses) → Follows sh p s us →
     Follows sh p (words_invalidated l m s) us
 unfolding words_invalidated
-without-follows sh p l m s us a = follows-same sh p s us (invalidated l m s.cache) s.spilled (staled l s.awaited) s.owing (invalidated-seen l m s) a
+words_invalidated-follows sh p l m s us a = follows-same sh p s us (invalidated l m s.cache) s.spilled (staled l s.awaited) s.owing (invalidated-seen l m s) a
 
 -- rolled back
 pub rolled-follows : (sh : Shape) (p : Program) (s : CoreState) (q : Phase) (sp : ℕ → Option ℕ) → ((w : ℕ) → sp w ≡ None) → EndFits q Goes → Follows sh p (record (roll_back s) { phase = q; spilled = sp }) []
@@ -177,14 +177,14 @@ if_violated-follows sh p false s us k a = a
 
 invalidate-follows : (sh : Shape) (p : Program) (l m u : ℕ) (s : CoreState) (us : Uses) → SoundCore sh s → Follows sh p s us → Follows sh p (invalidate sh l m u s).core (uses_violated (is_violated l m u s) s.phase us)
 unfolding invalidate acknowledged words_invalidated
-invalidate-follows sh p l m u s us k a = if_violated-follows sh p (is_violated l m u s) (words_invalidated l m s) us (without-sound sh l m s k) (without-follows sh p l m s us a)
+invalidate-follows sh p l m u s us k a = if_violated-follows sh p (is_violated l m u s) (words_invalidated l m s) us (words_invalidated-sound sh l m s k) (words_invalidated-follows sh p l m s us a)
 
 abbrev pub OutGoes : Shape → Program → Uses → Option Out → Type 0
 OutGoes sh p us o = IfSome o (λ t. Follows sh p t.core us)
 
 from_dir-follows : (sh : Shape) (p : Program) (d : ℕ) (s : CoreState) (us : Uses) (m : Msg) → SoundCore sh s → Follows sh p s us → OutGoes sh p (uses_delivered s m us) (from_dir sh d s m)
 unfolding probe_reply
-from_dir-follows sh p d s us (ProbeReply t serving) k a = reply_phase-follows sh p d t s us s.phase refl a
+from_dir-follows sh p d s us (ProbeReply t serving) k a = reply_in_phase-follows sh p d t s us s.phase refl a
 from_dir-follows sh p d s us (Fill l ws) k a = fill-follows sh p l ws s us k a
 from_dir-follows sh p d s us (DataReq l) k a = request-follows sh p l s us a
 from_dir-follows sh p d s us (Inv l m t) k a = invalidate-follows sh p l m t s us k a

@@ -194,9 +194,10 @@ full_set-fit sh l s us q r = at (is_solo s.phase) refl (not (all_marked sh s.cac
     at false e true = tt
     at false e false = overflow-fit sh s us q e r
 
-ask-fit : (sh : Shape) (l : ℕ) (s : CoreState) (us : Uses) (q : Phase) → Runs sh s us q → MarksFit sh (request_line sh l s).core (us ++ [])
+request_line-fit : (sh : Shape) (l : ℕ) (s : CoreState) (us : Uses) (q : Phase) → Runs sh s us q →
+    MarksFit sh (request_line sh l s).core (us ++ [])
 unfolding request_line
-ask-fit sh l s us q r = stays-fit sh s (record s { awaited = Some (record { line = l; stale = false }) }) us [] q r refl refl (keeps-itself s.cache) (λ h. tt) (λ h v i. i) (adds-none s.cache [])
+request_line-fit sh l s us q r = stays-fit sh s (record s { awaited = Some (record { line = l; stale = false }) }) us [] q r refl refl (keeps-itself s.cache) (λ h. tt) (λ h v i. i) (adds-none s.cache [])
 
 place_ask-fit : (sh : Shape) (l : ℕ) (s : CoreState) (us : Uses) (q : Phase) → Runs sh s us q → MarksFit sh (request_line sh l (place sh l s)).core (us ++ [])
 unfolding request_line place
@@ -205,17 +206,17 @@ place_ask-fit sh l s us q r = stays-fit sh s (record s { cache = placed sh l s.c
 unused-fit : (sh : Shape) (us vs : Uses) (o : Option Out) → vs ≡ [] → OutFits sh us o → OutFits sh (us ++ vs) o
 unused-fit sh us vs o e h = subst (λ (l : Uses). OutFits sh l o) (sym (ap (λ (l : Uses). us ++ l) e ∙ append-nil us)) h
 
-fetch-fit : (sh : Shape) (l : ℕ) (s : CoreState) (us : Uses) (q : Phase) → Runs sh s us q → OutFits sh (us ++ []) (miss sh l s)
+miss-fit : (sh : Shape) (l : ℕ) (s : CoreState) (us : Uses) (q : Phase) → Runs sh s us q → OutFits sh (us ++ []) (miss sh l s)
 unfolding miss request_line
-fetch-fit sh l s us q r = at (s.cache.held l) (free_way sh s.cache (set_of sh l))
+miss-fit sh l s us q r = at (s.cache.held l) (free_way sh s.cache (set_of sh l))
   where
     at : (b : Bool) (o : Option ℕ) → OutFits sh (us ++ []) (cond b (Some (request_line sh l s)) (cond (is_some o) (Some (request_line sh l (place sh l s))) (full_set sh l s)))
-    at true o = ask-fit sh l s us q r
+    at true o = request_line-fit sh l s us q r
     at false (Some y) = place_ask-fit sh l s us q r
     at false None = unused-fit sh us [] (full_set sh l s) refl (full_set-fit sh l s us q r)
 
 missed-fit : (sh : Shape) (l : ℕ) (s : CoreState) (us vs : Uses) (q : Phase) → vs ≡ [] → Runs sh s us q → OutFits sh (us ++ vs) (miss sh l s)
-missed-fit sh l s us vs q e r = subst (λ (x : Uses). OutFits sh (us ++ x) (miss sh l s)) (sym e) (fetch-fit sh l s us q r)
+missed-fit sh l s us vs q e r = subst (λ (x : Uses). OutFits sh (us ++ x) (miss sh l s)) (sym e) (miss-fit sh l s us q r)
 
 -- only a word that is used becomes marked
 used-new : (w x : ℕ) (s : CoreState) → s.spilled w ≡ None → s.cache.modified w ≡ false → s.cache.value w ≡ Some x → is_used (used_at s w) w ≡ true
@@ -358,38 +359,38 @@ commit-fit sh id t s n o = committed-fit sh (record (record (committed_core t s)
 }) { ended = s.ended; phase = s.phase }) s.ended (read-committed t s.cache) n o
 
 -- an ending instruction
-close-fit : (sh : Shape) (id : ℕ) (p : Program) (need : Need) (s : CoreState) (us : Uses) (q : Phase) → Runs sh s us q → OutFits sh (us ++ []) (Some (end_transaction sh id q (finished p need 0 s)))
+end_transaction-fit : (sh : Shape) (id : ℕ) (p : Program) (need : Need) (s : CoreState) (us : Uses) (q : Phase) → Runs sh s us q → OutFits sh (us ++ []) (Some (end_transaction sh id q (finished p need 0 s)))
 unfolding solo_commit
-close-fit sh id p need s us Running r =
+end_transaction-fit sh id p need s us Running r =
     let b = finished-same p need 0 s in
     awaits-fit sh (finished p need 0 s) (us ++ [])
     (subst (λ (c : Cache). AllStand false c (us ++ [])) (sym b.cache) (all-append false s.cache us [] (subst (λ (x : Phase). UsesStand s.cache us x) r.is r.fit.stand) tt))
     (subst (λ (c : Cache). OnlyUsed c (us ++ [])) (sym b.cache) (used-added s.cache s.cache us [] (adds-none s.cache []) r.fit.used))
     (b.awaited ∙ r.none)
     (λ d i. owes-none sh s us (ap owed_in r.is) r.fit d (ap (λ (w : ℕ → Bool). w d) (sym b.owing) ∙ i))
-close-fit sh id p need s us (Solo t) r =
+end_transaction-fit sh id p need s us (Solo t) r =
     let b = finished-same p need 0 s in
     solo_commit-fit sh id t (finished p need 0 s) (b.awaited ∙ r.none) (λ d i. owes-none sh s us (ap owed_in r.is) r.fit d (ap (λ (w : ℕ → Bool). w d) (sym b.owing) ∙ i))
-close-fit sh id p need s us AwaitTid r = absurd (let j = r.executes in cc)
-close-fit sh id p need s us DoomedTid r = absurd (let j = r.executes in cc)
-close-fit sh id p need s us (Probing u) r = absurd (let j = r.executes in cc)
-close-fit sh id p need s us (Ready u) r = absurd (let j = r.executes in cc)
-close-fit sh id p need s us (Overflowing u) r = absurd (let j = r.executes in cc)
-close-fit sh id p need s us Halted r = absurd (let j = r.executes in cc)
+end_transaction-fit sh id p need s us AwaitTid r = absurd (let j = r.executes in cc)
+end_transaction-fit sh id p need s us DoomedTid r = absurd (let j = r.executes in cc)
+end_transaction-fit sh id p need s us (Probing u) r = absurd (let j = r.executes in cc)
+end_transaction-fit sh id p need s us (Ready u) r = absurd (let j = r.executes in cc)
+end_transaction-fit sh id p need s us (Overflowing u) r = absurd (let j = r.executes in cc)
+end_transaction-fit sh id p need s us Halted r = absurd (let j = r.executes in cc)
 
 closed-fit : (sh : Shape) (id : ℕ) (p : Program) (need : Need) (s : CoreState) (us : Uses) (q : Phase) → Runs sh s us q → OutFits sh (us ++ []) (Some (end_transaction sh id s.phase (finished p need 0 s)))
-closed-fit sh id p need s us q r = subst (λ (x : Phase). OutFits sh (us ++ []) (Some (end_transaction sh id x (finished p need 0 s)))) (sym r.is) (close-fit sh id p need s us q r)
+closed-fit sh id p need s us q r = subst (λ (x : Phase). OutFits sh (us ++ []) (Some (end_transaction sh id x (finished p need 0 s)))) (sym r.is) (end_transaction-fit sh id p need s us q r)
 
-store-fit : (sh : Shape) (p : Program) (addr : ℕ) (size : Size) (value : ℕ) (s : CoreState) (us : Uses) (q : Phase) → Runs sh s us q → OutFits sh (us ++ used_by sh.base s (Stores addr size value)) (store_by_size sh p addr size value s)
-store-fit sh p addr Word value s us q r = word_store-fit sh p (Stores addr Word value) (word_of sh.base addr) value s us q r
-store-fit sh p addr Half value s us q r = partial_store-fit sh p (Stores addr Half value) (word_of sh.base addr) s us q r
-store-fit sh p addr Byte value s us q r = partial_store-fit sh p (Stores addr Byte value) (word_of sh.base addr) s us q r
+store_by_size-fit : (sh : Shape) (p : Program) (addr : ℕ) (size : Size) (value : ℕ) (s : CoreState) (us : Uses) (q : Phase) → Runs sh s us q → OutFits sh (us ++ used_by sh.base s (Stores addr size value)) (store_by_size sh p addr size value s)
+store_by_size-fit sh p addr Word value s us q r = word_store-fit sh p (Stores addr Word value) (word_of sh.base addr) value s us q r
+store_by_size-fit sh p addr Half value s us q r = partial_store-fit sh p (Stores addr Half value) (word_of sh.base addr) s us q r
+store_by_size-fit sh p addr Byte value s us q r = partial_store-fit sh p (Stores addr Byte value) (word_of sh.base addr) s us q r
 
 need-fit : (sh : Shape) (p : Program) (id : ℕ) (s : CoreState) (us : Uses) (q : Phase) (need : Need) → Runs sh s us q → OutFits sh (us ++ used_by sh.base s need) (execute_need sh p id s need)
 need-fit sh p id s us q Nothing r = done-fit sh p Nothing 0 s s us [] q r refl refl (keeps-itself s.cache) (λ h. tt) (λ h v i. i) (adds-none s.cache [])
 need-fit sh p id s us q (Prints byte) r = done-fit sh p (Prints byte) 0 s s us [] q r refl refl (keeps-itself s.cache) (λ h. tt) (λ h v i. i) (adds-none s.cache [])
 need-fit sh p id s us q (Loads addr size) r = load-fit sh p (Loads addr size) (word_of sh.base addr) s us q r
-need-fit sh p id s us q (Stores addr size value) r = store-fit sh p addr size value s us q r
+need-fit sh p id s us q (Stores addr size value) r = store_by_size-fit sh p addr size value s us q r
 need-fit sh p id s us q (Changes addr changed) r = partial_store-fit sh p (Changes addr changed) (word_of sh.base addr) s us q r
 need-fit sh p id s us q Ends r = closed-fit sh id p Ends s us q r
 need-fit sh p id s us q (Halts code) r = closed-fit sh id p (Halts code) s us q r

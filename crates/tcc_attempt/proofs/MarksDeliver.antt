@@ -136,35 +136,35 @@ probing-owed : (b : Bool) (t : ℕ) → b ≡ true → owed_in (probing_or_ready
 probing-owed true t e = refl
 probing-owed false t e = absurd (cc)
 
-grant_phase-fit : (sh : Shape) (t : ℕ) (s : CoreState) (us : Uses) (q : Phase) → s.phase ≡ q → MarksFit sh s us → MarksFit sh (grant_in_phase sh t s q).core us
-grant_phase-fit sh t s us AwaitTid e m = record {
+grant_in_phase-fit : (sh : Shape) (t : ℕ) (s : CoreState) (us : Uses) (q : Phase) → s.phase ≡ q → MarksFit sh s us → MarksFit sh (grant_in_phase sh t s q).core us
+grant_in_phase-fit sh t s us AwaitTid e m = record {
   stand = probing-stand s.cache us (any_below (is_probed sh s.cache) sh.dirs) t (stand-in s us AwaitTid e m.stand);
   used = m.used;
   awaits = λ i. m.awaits (ap awaits_in e);
   owes = λ d h. let b = probed-below sh s.cache d h in (probing-owed (any_below (is_probed sh s.cache) sh.dirs) t b.1, b.0);
 }
-grant_phase-fit sh t s us DoomedTid e m = record {
+grant_in_phase-fit sh t s us DoomedTid e m = record {
   stand = subst (AllStand false s.cache) (sym (stand-in s us DoomedTid e m.stand)) tt;
   used = m.used;
   awaits = λ i. m.awaits (ap awaits_in e);
   owes = λ d h. absurd (let o = m.owes d h in let a = o.0 in let b = ap owed_in e in cc);
 }
-grant_phase-fit sh t s us (Overflowing None) e m = record {
+grant_in_phase-fit sh t s us (Overflowing None) e m = record {
   stand = weaker s.cache us (stand-in s us (Overflowing None) e m.stand);
   used = m.used;
   awaits = λ i. m.awaits (ap awaits_in e);
   owes = λ d h. (refl, h);
 }
-grant_phase-fit sh t s us (Overflowing (Some u)) e m = m
-grant_phase-fit sh t s us Running e m = m
-grant_phase-fit sh t s us (Probing u) e m = m
-grant_phase-fit sh t s us (Ready u) e m = m
-grant_phase-fit sh t s us (Solo u) e m = m
-grant_phase-fit sh t s us Halted e m = m
+grant_in_phase-fit sh t s us (Overflowing (Some u)) e m = m
+grant_in_phase-fit sh t s us Running e m = m
+grant_in_phase-fit sh t s us (Probing u) e m = m
+grant_in_phase-fit sh t s us (Ready u) e m = m
+grant_in_phase-fit sh t s us (Solo u) e m = m
+grant_in_phase-fit sh t s us Halted e m = m
 
 grant-fit : (sh : Shape) (t : ℕ) (s : CoreState) (us : Uses) → MarksFit sh s us → MarksFit sh (grant sh t s).core us
 unfolding grant
-grant-fit sh t s us m = grant_phase-fit sh t s us s.phase refl m
+grant-fit sh t s us m = grant_in_phase-fit sh t s us s.phase refl m
 
 -- replies
 replied-owes : (owing : ℕ → Bool) (d e : ℕ) → put owing d false e ≡ true → owing e ≡ true
@@ -173,9 +173,9 @@ replied-owes owing d e h = grind (arith, nat_tests)
 all-none : (sh : Shape) (owing : ℕ → Bool) (d : ℕ) → all_replied sh owing ≡ true → nat_lt d sh.dirs ≡ true → owing d ≡ true → ⊥
 all-none sh owing d a l o = let i = any_below-at owing sh.dirs d (grind (arith, nat_tests)) o in grind (arith, nat_tests)
 
-reply_phase-fit : (sh : Shape) (d t : ℕ) (s : CoreState) (us : Uses) (q : Phase) → s.phase ≡ q → MarksFit sh s us → MarksFit sh (reply_in_phase sh d t s q).core us
+reply_in_phase-fit : (sh : Shape) (d t : ℕ) (s : CoreState) (us : Uses) (q : Phase) → s.phase ≡ q → MarksFit sh s us → MarksFit sh (reply_in_phase sh d t s q).core us
 unfolding read_cleared
-reply_phase-fit sh d t s us (Probing u) e m = at (u == t && s.owing d) (all_replied sh (replied d s).owing) refl
+reply_in_phase-fit sh d t s us (Probing u) e m = at (u == t && s.owing d) (all_replied sh (replied d s).owing) refl
   where
     at : (b c : Bool) → all_replied sh (replied d s).owing ≡ c → MarksFit sh (cond b (moves (cond c (record (replied d s) { phase = Ready t }) (replied d s)) (to (Dir d) (marks_for sh s.cache t d))) (ignored s)).core us
     at true true r = record {
@@ -186,7 +186,7 @@ reply_phase-fit sh d t s us (Probing u) e m = at (u == t && s.owing d) (all_repl
     }
     at true false r = record { stand = m.stand; used = m.used; awaits = m.awaits; owes = λ f h. m.owes f (replied-owes s.owing d f h) }
     at false c r = m
-reply_phase-fit sh d t s us (Overflowing (Some u)) e m = at (u == t && s.owing d) (all_replied sh (replied d s).owing) refl
+reply_in_phase-fit sh d t s us (Overflowing (Some u)) e m = at (u == t && s.owing d) (all_replied sh (replied d s).owing) refl
   where
     at : (b c : Bool) → all_replied sh (replied d s).owing ≡ c → MarksFit sh (cond b (moves (cond c (record (replied d s) { phase = Solo t; cache = read_cleared s.cache }) (replied d s)) nothing) (ignored s)).core us
     at true true r = record {
@@ -197,13 +197,13 @@ reply_phase-fit sh d t s us (Overflowing (Some u)) e m = at (u == t && s.owing d
     }
     at true false r = record { stand = m.stand; used = m.used; awaits = m.awaits; owes = λ f h. m.owes f (replied-owes s.owing d f h) }
     at false c r = m
-reply_phase-fit sh d t s us (Overflowing None) e m = m
-reply_phase-fit sh d t s us Running e m = m
-reply_phase-fit sh d t s us AwaitTid e m = m
-reply_phase-fit sh d t s us DoomedTid e m = m
-reply_phase-fit sh d t s us (Ready u) e m = m
-reply_phase-fit sh d t s us (Solo u) e m = m
-reply_phase-fit sh d t s us Halted e m = m
+reply_in_phase-fit sh d t s us (Overflowing None) e m = m
+reply_in_phase-fit sh d t s us Running e m = m
+reply_in_phase-fit sh d t s us AwaitTid e m = m
+reply_in_phase-fit sh d t s us DoomedTid e m = m
+reply_in_phase-fit sh d t s us (Ready u) e m = m
+reply_in_phase-fit sh d t s us (Solo u) e m = m
+reply_in_phase-fit sh d t s us Halted e m = m
 
 -- fill: words that are valid keep their values
 filled-value : (l : ℕ) (ws : List ℕ) (c : Cache) (w x : ℕ) → c.value w ≡ Some x → (filled l ws c).value w ≡ Some x
@@ -318,9 +318,9 @@ without-used : (l m : ℕ) (c : Cache) (us : Uses) → OnlyUsed c us → OnlyUse
 without-used l m c us h = fewer-used c (invalidated l m c) us (λ v i. sym (read-invalidated l m c v) ∙ i) h
 
 -- a core that isn't violated
-without-fit : (sh : Shape) (l m u : ℕ) (s : CoreState) (us : Uses) → is_violated l m u s ≡ false → MarksFit sh s us → MarksFit sh (words_invalidated l m s) us
+words_invalidated-fit : (sh : Shape) (l m u : ℕ) (s : CoreState) (us : Uses) → is_violated l m u s ≡ false → MarksFit sh s us → MarksFit sh (words_invalidated l m s) us
 unfolding words_invalidated is_violated
-without-fit sh l m u s us n k = record { stand = without-uses l m u s.cache us s.phase n k.stand; used = without-used l m s.cache us k.used; awaits = λ i. staled-none l s.awaited (k.awaits i); owes = k.owes }
+words_invalidated-fit sh l m u s us n k = record { stand = without-uses l m u s.cache us s.phase n k.stand; used = without-used l m s.cache us k.used; awaits = λ i. staled-none l s.awaited (k.awaits i); owes = k.owes }
 
 -- one that is: it begins anew, or had no attempt
 rolled-fit : (sh : Shape) (s : CoreState) (q : Phase) (sp : ℕ → Option ℕ) → UsesStand (rolled_back s.cache) [] q → (awaits_in q ≡ false → s.awaited ≡ None) → MarksFit sh (record (roll_back s) { phase = q; spilled = sp }) []
@@ -364,7 +364,7 @@ if_violated-fit sh l m u s us true e k = violated_here
         without_phase : (q : Phase) → q ≡ s.phase →
             MarksFit sh (violated_in_phase sh (words_invalidated l m s) q).core (uses_violated true s.phase us)
         without_phase q i = subst (λ (x : Phase). MarksFit sh (violated_in_phase sh (words_invalidated l m s) x).core (uses_violated true s.phase us)) (sym i) (violated-fit sh l m s us s.phase refl k)
-if_violated-fit sh l m u s us false e k = without-fit sh l m u s us e k
+if_violated-fit sh l m u s us false e k = words_invalidated-fit sh l m u s us e k
 
 invalidate-fit : (sh : Shape) (l m u : ℕ) (s : CoreState) (us : Uses) → MarksFit sh s us → MarksFit sh (invalidate sh l m u s).core (uses_violated (is_violated l m u s) s.phase us)
 unfolding invalidate acknowledged
@@ -375,7 +375,7 @@ OutMarks sh us o = IfSome o (λ t. MarksFit sh t.core us)
 
 from_dir-fit : (sh : Shape) (d : ℕ) (s : CoreState) (us : Uses) (m : Msg) → MarksFit sh s us → OutMarks sh (uses_delivered s m us) (from_dir sh d s m)
 unfolding probe_reply
-from_dir-fit sh d s us (ProbeReply t serving) k = reply_phase-fit sh d t s us s.phase refl k
+from_dir-fit sh d s us (ProbeReply t serving) k = reply_in_phase-fit sh d t s us s.phase refl k
 from_dir-fit sh d s us (Fill l ws) k = fill-fit sh l ws s us k
 from_dir-fit sh d s us (DataReq l) k = request-fit sh l s us k
 from_dir-fit sh d s us (Inv l m t) k = invalidate-fit sh l m t s us k

@@ -104,20 +104,20 @@ probing-idle : (b : Bool) (t : ℕ) → is_idle (probing_or_ready b t) ≡ false
 probing-idle true t = refl
 probing-idle false t = refl
 
-grant_phase-sound : (sh : Shape) (t : ℕ) (s : CoreState) (q : Phase) → s.phase ≡ q → SoundCore sh s → SoundCore sh (grant_in_phase sh t s q).core
-grant_phase-sound sh t s AwaitTid e k = rephased sh s (probing_or_ready (any_below (is_probed sh s.cache) sh.dirs) t) (is_probed sh s.cache) (probing-idle (any_below (is_probed sh s.cache) sh.dirs) t) (ap is_solo e) k
-grant_phase-sound sh t s DoomedTid e k = rephased sh s Running s.owing refl (ap is_solo e) k
-grant_phase-sound sh t s (Overflowing None) e k = rephased sh s (Overflowing (Some t)) (λ d. nat_lt d sh.dirs) refl (ap is_solo e) k
-grant_phase-sound sh t s (Overflowing (Some u)) e k = k
-grant_phase-sound sh t s Running e k = k
-grant_phase-sound sh t s (Probing u) e k = k
-grant_phase-sound sh t s (Ready u) e k = k
-grant_phase-sound sh t s (Solo u) e k = k
-grant_phase-sound sh t s Halted e k = k
+grant_in_phase-sound : (sh : Shape) (t : ℕ) (s : CoreState) (q : Phase) → s.phase ≡ q → SoundCore sh s → SoundCore sh (grant_in_phase sh t s q).core
+grant_in_phase-sound sh t s AwaitTid e k = rephased sh s (probing_or_ready (any_below (is_probed sh s.cache) sh.dirs) t) (is_probed sh s.cache) (probing-idle (any_below (is_probed sh s.cache) sh.dirs) t) (ap is_solo e) k
+grant_in_phase-sound sh t s DoomedTid e k = rephased sh s Running s.owing refl (ap is_solo e) k
+grant_in_phase-sound sh t s (Overflowing None) e k = rephased sh s (Overflowing (Some t)) (λ d. nat_lt d sh.dirs) refl (ap is_solo e) k
+grant_in_phase-sound sh t s (Overflowing (Some u)) e k = k
+grant_in_phase-sound sh t s Running e k = k
+grant_in_phase-sound sh t s (Probing u) e k = k
+grant_in_phase-sound sh t s (Ready u) e k = k
+grant_in_phase-sound sh t s (Solo u) e k = k
+grant_in_phase-sound sh t s Halted e k = k
 
 grant-sound : (sh : Shape) (t : ℕ) (s : CoreState) → SoundCore sh s → SoundCore sh (grant sh t s).core
 unfolding grant
-grant-sound sh t s k = grant_phase-sound sh t s s.phase refl k
+grant-sound sh t s k = grant_in_phase-sound sh t s s.phase refl k
 
 replied-sound : (sh : Shape) (d : ℕ) (s : CoreState) → SoundCore sh s → SoundCore sh (replied d s)
 replied-sound sh d s k = record { cache = k.cache; awaits = k.awaits; alone = k.alone; apart = k.apart; unmarked = k.unmarked }
@@ -136,29 +136,29 @@ alone-sound sh t s true h k = record {
 }
 alone-sound sh t s false h k = k
 
-reply_phase-sound : (sh : Shape) (d t : ℕ) (s : CoreState) (q : Phase) → s.phase ≡ q → SoundCore sh s → SoundCore sh (reply_in_phase sh d t s q).core
-reply_phase-sound sh d t s (Probing u) e k = at (u == t && s.owing d)
+reply_in_phase-sound : (sh : Shape) (d t : ℕ) (s : CoreState) (q : Phase) → s.phase ≡ q → SoundCore sh s → SoundCore sh (reply_in_phase sh d t s q).core
+reply_in_phase-sound sh d t s (Probing u) e k = at (u == t && s.owing d)
   where
     at : (b : Bool) →
         SoundCore sh (cond b (moves (ready_once_replied sh t (replied d s)) (to (Dir d) (marks_for sh s.cache t d))) (ignored s)).core
     at true = ready-sound sh t (replied d s) (all_replied sh (replied d s).owing) (ap is_solo e) (replied-sound sh d s k)
     at false = k
-reply_phase-sound sh d t s (Overflowing (Some u)) e k = at (u == t && s.owing d)
+reply_in_phase-sound sh d t s (Overflowing (Some u)) e k = at (u == t && s.owing d)
   where
     at : (b : Bool) → SoundCore sh (cond b (moves (solo_once_replied sh t (replied d s)) nothing) (ignored s)).core
     at true = alone-sound sh t (replied d s) (all_replied sh (replied d s).owing) (ap is_solo e) (replied-sound sh d s k)
     at false = k
-reply_phase-sound sh d t s (Overflowing None) e k = k
-reply_phase-sound sh d t s Running e k = k
-reply_phase-sound sh d t s AwaitTid e k = k
-reply_phase-sound sh d t s DoomedTid e k = k
-reply_phase-sound sh d t s (Ready u) e k = k
-reply_phase-sound sh d t s (Solo u) e k = k
-reply_phase-sound sh d t s Halted e k = k
+reply_in_phase-sound sh d t s (Overflowing None) e k = k
+reply_in_phase-sound sh d t s Running e k = k
+reply_in_phase-sound sh d t s AwaitTid e k = k
+reply_in_phase-sound sh d t s DoomedTid e k = k
+reply_in_phase-sound sh d t s (Ready u) e k = k
+reply_in_phase-sound sh d t s (Solo u) e k = k
+reply_in_phase-sound sh d t s Halted e k = k
 
 reply-sound : (sh : Shape) (d t : ℕ) (s : CoreState) → SoundCore sh s → SoundCore sh (probe_reply sh d t s).core
 unfolding probe_reply
-reply-sound sh d t s k = reply_phase-sound sh d t s s.phase refl k
+reply-sound sh d t s k = reply_in_phase-sound sh d t s s.phase refl k
 
 filled-sound : (sh : Shape) (l : ℕ) (ws : List ℕ) (s : CoreState) → s.cache.held l ≡ true → SoundCore sh s → SoundCore sh (record s { cache = filled l ws s.cache; awaited = None })
 filled-sound sh l ws s h k = record {
@@ -202,9 +202,9 @@ staled-awaits : (l m : ℕ) (c : Cache) (o : Option Awaited) → AwaitsHeld c o 
 staled-awaits l m c None h = tt
 staled-awaits l m c (Some a) h = held-invalidated l m c a.line ∙ h
 
-pub without-sound : (sh : Shape) (l m : ℕ) (s : CoreState) → SoundCore sh s → SoundCore sh (words_invalidated l m s)
+pub words_invalidated-sound : (sh : Shape) (l m : ℕ) (s : CoreState) → SoundCore sh s → SoundCore sh (words_invalidated l m s)
 unfolding words_invalidated
-without-sound sh l m s k = record {
+words_invalidated-sound sh l m s k = record {
   cache = invalidated-keeps sh l m s.cache k.cache;
   awaits = staled-awaits l m s.cache s.awaited k.awaits;
   alone = k.alone;
@@ -242,7 +242,7 @@ if_violated-sound sh false s k = k
 
 invalidate-sound : (sh : Shape) (l m u : ℕ) (s : CoreState) → SoundCore sh s → SoundCore sh (invalidate sh l m u s).core
 unfolding invalidate acknowledged
-invalidate-sound sh l m u s k = if_violated-sound sh (is_violated l m u s) (words_invalidated l m s) (without-sound sh l m s k)
+invalidate-sound sh l m u s k = if_violated-sound sh (is_violated l m u s) (words_invalidated l m s) (words_invalidated-sound sh l m s k)
 
 from_dir-sound : (sh : Shape) (d : ℕ) (s : CoreState) (m : Msg) → SoundCore sh s → OutSound sh (from_dir sh d s m)
 from_dir-sound sh d s (ProbeReply t serving) k = reply-sound sh d t s k
