@@ -52,11 +52,11 @@ committed_core t s = record s {
   phase = phase_after_commit s.ended;
 }
 
--- to each written directory how many lines were marked there
+-- to each written directory Commit, with the number of its modified lines
 unfoldable pub commit_sends : Shape → Cache → (tid : ℕ) → Sends
 commit_sends sh c t = to_dirs sh (λ d. when (writes_at sh c d) (Commit t (count_below (λ l. d == home sh l && is_modified c l) (lines sh)) ∷ []))
 
--- the core's last commit at each directory
+-- the core's last commit at each directory, once it has committed where it wrote
 unfoldable pub with_last_commit : (written : ℕ → Bool) → (tid : ℕ) → (last : ℕ → ℕ) → ℕ → ℕ
 with_last_commit written t last d = if written d then t else last d
 
@@ -72,13 +72,15 @@ commit sh id t s = record {
 unfoldable pub is_written : Cache → Spilled → ℕ → Bool
 is_written c sp l = is_modified c l || holds sp l
 
+-- the words of such a line
 unfoldable pub written_mask : Cache → Spilled → ℕ → ℕ
 written_mask c sp l = mask_of (λ k. c.modified (word_at l k) || is_some (sp (word_at l k)))
 
+-- the directory is the home of such a line
 unfoldable pub solo_writes_at : Shape → Cache → Spilled → ℕ → Bool
 solo_writes_at sh c sp d = any_below (λ l. d == home sh l && is_written c sp l) (lines sh)
 
--- a mark for each line and then the commit, where lines were written, else a skip
+-- to a directory: where lines at home there were written, a Mark for each of them by rising line and then Commit; else Skip
 unfoldable pub solo_marks_or_skip : Shape → Cache → Spilled → (tid dir : ℕ) → List Msg
 solo_marks_or_skip sh c sp t d =
     if solo_writes_at sh c sp d
@@ -86,7 +88,7 @@ solo_marks_or_skip sh c sp t d =
     ++ Commit t (count_below (λ l. d == home sh l && is_written c sp l) (lines sh)) ∷ []
     else Skip t ∷ []
 
--- the spilled lines at home there, rising
+-- and behind that a WriteBack for each spilled line at home there, by rising line
 unfoldable pub solo_write_backs : Shape → Spilled → (tid dir : ℕ) → List Msg
 solo_write_backs sh sp t d = flat_map (λ l. WriteBack l (spilled_mask sp l) (spilled_words sp l) t ∷ []) (those (λ l. d == home sh l && holds sp l) (lines sh))
 

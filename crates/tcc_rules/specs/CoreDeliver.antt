@@ -25,10 +25,12 @@ is_probed sh c d = nat_lt d sh.dirs && (writes_at sh c d || reads_at sh c d)
 unfoldable pub grant_sends : Shape → Cache → (tid : ℕ) → Sends
 grant_sends sh c t = to_dirs sh (λ d. when (not (writes_at sh c d)) (Skip t ∷ []) ++ when (writes_at sh c d || reads_at sh c d) (Probe t ∷ []))
 
+-- it waits for replies where it has probed some directory
 abbrev pub probing_or_ready : Bool → (tid : ℕ) → Phase
 probing_or_ready some t = if some then Probing t else Ready t
 
--- Grant: the TID that the core asked for
+-- Grant: the TID that the core asked for. In AwaitTid it skips and probes; in DoomedTid it skips everywhere and runs again; in Overflowing
+-- it probes everywhere
 abbrev pub grant_in_phase : Shape → (tid : ℕ) → CoreState → Phase → Out
 grant_in_phase sh t s AwaitTid = moves
     (record s { owing = is_probed sh s.cache; phase = probing_or_ready (any_below (is_probed sh s.cache) sh.dirs) t })
@@ -63,7 +65,8 @@ ready_once_replied sh t s = if all_replied sh s.owing then record s { phase = Re
 abbrev pub solo_once_replied : Shape → (tid : ℕ) → CoreState → CoreState
 solo_once_replied sh t s = if all_replied sh s.owing then record s { phase = Solo t; cache = read_cleared s.cache } else s
 
--- Probe reply: of a directory that owes one for this TID; where lines were written there their marks go out
+-- Probe reply: of a directory that owes one for this TID. In Probing a Mark goes there for each modified line at home there; where no
+-- reply is owed any more, Probing becomes Ready and Overflowing becomes Solo
 abbrev pub reply_in_phase : Shape → (dir tid : ℕ) → CoreState → Phase → Out
 reply_in_phase sh d t s (Probing u) =
     if u == t && s.owing d
@@ -111,7 +114,8 @@ may_be_above u (Overflowing (Some t)) = nat_lt u t
 may_be_above u (Solo t) = nat_lt u t
 may_be_above u Halted = true
 
--- a core that was violated rolls back; a TID that it has, or will have, is given up
+-- a core that was violated rolls back. A TID that is under way is given up when it comes; one that it has is given up at once, by Abort
+-- to the directories that it wrote, or by Skip to all where it asked to be alone; then spilled words are dropped
 abbrev pub violated_in_phase : Shape → CoreState → Phase → Out
 violated_in_phase sh s Running = moves (roll_back s) nothing
 violated_in_phase sh s AwaitTid = moves (record (roll_back s) { phase = DoomedTid }) nothing
@@ -126,11 +130,12 @@ violated_in_phase sh s Halted = ignored s
 unfoldable pub if_violated : Shape → Bool → CoreState → Out
 if_violated sh violated s = if violated then violated_in_phase sh s s.phase else ignored s
 
+-- an awaited line becomes stale where it is this one
 abbrev pub staled : ℕ → Option Awaited → Option Awaited
 staled l None = None
 staled l (Some a) = Some (record a { stale = a.line == l || a.stale })
 
--- the masked words that aren't modified become invalid and clean, and an awaited line becomes stale
+-- the masked words that aren't modified become invalid and clean, and the line becomes stale where it is awaited
 unfoldable pub words_invalidated : (line mask : ℕ) → CoreState → CoreState
 words_invalidated l m s = record s { cache = invalidated l m s.cache; awaited = staled l s.awaited }
 
@@ -142,7 +147,7 @@ is_violated l m u s = reads_masked l m s.cache && may_be_above u s.phase
 unfoldable pub acknowledged : Shape → (line : ℕ) → Out → Out
 acknowledged sh l o = record o { sends = then_send o.sends (to (Dir (home sh l)) (InvAck l (keeps o.core.cache l) ∷ [])) }
 
--- Invalidate
+-- Invalidate: masked words become invalid; where the core is violated it rolls back; then it acknowledges
 unfoldable pub invalidate : Shape → (line mask tid : ℕ) → CoreState → Out
 invalidate sh l m u s = acknowledged sh l (if_violated sh (is_violated l m u s) (words_invalidated l m s))
 

@@ -12,7 +12,7 @@ abbrev pub is_awaited : Option Awaited → ℕ → Bool
 is_awaited None l = false
 is_awaited (Some a) l = a.line == l
 
--- an awaited line stays, and a marked one does unless the core is alone
+-- not enabled where the way holds no line, where its line is awaited, and where it is marked unless the core is alone
 abbrev pub evict_line : Shape → (set way : ℕ) → CoreState → Option ℕ → Option Out
 evict_line sh x y s None = None
 evict_line sh x y s (Some l) =

@@ -12,6 +12,7 @@ abbrev pub unless_awaiting : Shape → Program → (core : ℕ) → CoreState �
 unless_awaiting sh p id s (Some a) = None
 unless_awaiting sh p id s None = execute sh p id s
 
+-- a core that runs or is alone executes an instruction, one that is ready commits; in other phases Exec isn't enabled
 abbrev pub exec_in_phase : Shape → Program → (core : ℕ) → CoreState → Phase → Option Out
 exec_in_phase sh p id s Running = unless_awaiting sh p id s s.awaited
 exec_in_phase sh p id s (Solo t) = unless_awaiting sh p id s s.awaited

@@ -23,22 +23,22 @@ pub data Answer : Type 0 where
 unfoldable pub moved_on : DirState → DirState
 moved_on s = record s { lines = unmarked s.lines; serving = advance s.serving }
 
--- Skip: a larger TID is kept as skipped, the served one advances
+-- Skip: dropped below the served TID; else the served TID is passed, or a larger one is kept as skipped
 unfoldable pub skip : (tid : ℕ) → DirState → Answer
 skip t s = if nat_lt t s.serving.serving then Drops else Takes (record s { serving = skipped t s.serving }) nothing
 
--- Abort: a larger TID is kept as skipped, the served one clears all marks and advances
+-- Abort: dropped below the served TID; at the served TID the directory moves on; a larger one is kept as skipped
 unfoldable pub abort : (tid : ℕ) → DirState → Answer
 abort t s =
     if nat_lt t s.serving.serving then Drops
     else if s.serving.serving == t then Takes (moved_on s) nothing
     else Takes (record s { serving = kept t s.serving }) nothing
 
--- Probe: answered once the TID is served or passed
+-- Probe: waits until the TID is served or passed, and is answered with the served TID
 unfoldable pub probe : (core tid : ℕ) → DirState → Answer
 probe c t s = if nat_lt s.serving.serving t then Waits else Takes s (to (Core c) (ProbeReply t s.serving.serving ∷ []))
 
--- the owner is asked for its data, once
+-- a message that needs the line's data waits, and asks the owner for them once
 unfoldable pub ask_owner : (owner line : ℕ) → DirState → Answer
 ask_owner o l s =
     if s.lines.asked l then Waits
@@ -48,24 +48,27 @@ ask_owner o l s =
 unfoldable pub home_words : DirState → ℕ → List ℕ
 home_words s l = eight (λ k. s.words (word_at l k))
 
--- Load request: waits for the core's own last commit here and while the line is marked; a line without owner is filled
+-- a line that is owned is asked for; else the sender joins the sharers, and the line goes to it
 abbrev pub load_unless_owned : (core line : ℕ) → DirState → Option ℕ → Answer
 load_unless_owned c l s (Some o) = ask_owner o l s
 load_unless_owned c l s None = Takes (record s { lines = with_sharer l c true s.lines }) (to (Core c) (Fill l (home_words s l) ∷ []))
 
+-- Load request: waits until the core's own last commit here has been served, and while the line is marked
 unfoldable pub load_request : (core line after : ℕ) → DirState → Answer
 load_request c l after s =
     if nat_le s.serving.serving after || has_mark s.lines l then Waits
     else load_unless_owned c l s (s.lines.owner l)
 
--- Mark: by the served TID; a line that is owned and not wholly overwritten is asked for first
+-- the line's mark becomes the mask
 abbrev pub mark_taken : (line mask : ℕ) → DirState → Answer
 mark_taken l m s = Takes (record s { lines = with_mark l m s.lines }) nothing
 
+-- a line that is owned is asked for first
 abbrev pub mark_unless_owned : (line mask : ℕ) → DirState → Option ℕ → Answer
 mark_unless_owned l m s None = mark_taken l m s
 mark_unless_owned l m s (Some o) = ask_owner o l s
 
+-- Mark: dropped below the served TID, waits above it; an owned line is asked for first, unless all its words are marked
 unfoldable pub mark : (line mask tid : ℕ) → DirState → Answer
 mark l m t s =
     if nat_lt t s.serving.serving then Drops
@@ -73,7 +76,7 @@ mark l m t s =
     else if m == full then mark_taken l m s
     else mark_unless_owned l m s (s.lines.owner l)
 
--- a line that is marked by the commit of c is invalidated at each other sharer
+-- a marked line is invalidated at each sharer other than c, which commits
 unfoldable pub is_invalidated : Shape → Lines → (core sharer line : ℕ) → Bool
 is_invalidated sh ls c j l = nat_lt j sh.cores && has_mark ls l && ls.sharers l j && not (j == c)
 
@@ -91,7 +94,7 @@ unfoldable pub sum_below : (ℕ → ℕ) → ℕ → ℕ
 sum_below f zero = 0
 sum_below f (suc n) = sum_below f n + f n
 
--- how many they are
+-- how many Invs these are
 unfoldable pub invalidation_count : Shape → Lines → (core : ℕ) → ℕ
 invalidation_count sh ls c = sum_below (λ j. count_below (is_invalidated sh ls c j) (lines sh)) sh.cores
 
@@ -108,7 +111,8 @@ owned_by_committer c t ls = record ls {
 unfoldable pub moved_on_if_settled : DirState → DirState
 moved_on_if_settled s = if s.owed == 0 then moved_on s else s
 
--- Commit: of the served TID, once all its lines are marked
+-- Commit: waits until its TID is served and all its lines are marked; then other sharers are invalidated, and as many acknowledgements
+-- are owed
 unfoldable pub dir_commit : Shape → (core tid count : ℕ) → DirState → Answer
 dir_commit sh c t count s =
     if s.serving.serving == t && count_below (has_mark s.lines) (lines sh) == count
@@ -116,28 +120,31 @@ dir_commit sh c t count s =
         owned_by_committer c t s.lines; owed = invalidation_count sh s.lines c })) (invalidations sh s.lines c t)
     else Waits
 
+-- the sender leaves the sharers, unless it keeps a word of the line
 abbrev pub unless_keeps : Bool → (core line : ℕ) → Lines → Lines
 unless_keeps true c l ls = ls
 unless_keeps false c l ls = with_sharer l c false ls
 
--- Acknowledgement: one less is owed
+-- Acknowledgement: unless it keeps a word the sender leaves the sharers; one less is owed, and with the last the directory moves on
 unfoldable pub acknowledgement : (core line : ℕ) → (keeps : Bool) → DirState → Answer
 acknowledgement c l keeps s =
     if s.owed == 0 then Drops
     else Takes (moved_on_if_settled (record s { lines = unless_keeps keeps c l s.lines; owed = s.owed - 1 })) nothing
 
--- Write-back: the masked home words are those that came, and the line has no owner
+-- the masked home words are those that came, and the line has no owner and isn't asked
 unfoldable pub came_home : (line mask : ℕ) → (words : List ℕ) → DirState → DirState
 came_home l m ws s = record s {
   words = λ w. (if hit l m w then get_or ws (place_of w) 0 else s.words w);
   lines = with_asked l false (with_owner l None s.lines);
 }
 
+-- too early: it waits; current: it comes home; outdated: it is dropped
 abbrev pub judged : (line mask : ℕ) → (words : List ℕ) → DirState → Judgement → Answer
 judged l m ws s TooEarly = Waits
 judged l m ws s Current = Takes (came_home l m ws s) nothing
 judged l m ws s Outdated = Drops
 
+-- Write-back and flush: by the tag, and by whether the sender owns the line
 unfoldable pub write_back : (core line mask : ℕ) → (words : List ℕ) → (tag : ℕ) → DirState → Answer
 write_back c l m ws g s = judged l m ws s (judge (s.lines.owner l) (s.lines.tag l) c g)
 
