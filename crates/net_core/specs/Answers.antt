@@ -34,7 +34,7 @@ tid_noted (Some o) = option_map (λ c. c.tid) o.noted
 
 -- the event was taken
 pub record Took (old new : Machine) (e : Event) (told : Step) : Type 0 where
-  pub next : next (settings_of old) (program_of old) (history_of old) e ≡ Some (history_of new)
+  pub next : next_history (settings_of old) (program_of old) (history_of old) e ≡ Some (history_of new)
   pub tells : tid_told told ≡ tid_noted (step_of old e)
   pub events : new.events ≡ old.events + 1
   pub code : new.cores.code ≡ old.cores.code

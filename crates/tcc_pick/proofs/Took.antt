@@ -23,7 +23,7 @@ pub record Same (m n : Refined) : Type 0 where
 
 -- a call that takes an event
 pub record Takes (m n : Refined) (e : CodeEvent) : Type 0 where
-  pub next : next (settings_of m.machine) (program_of m.machine) (history_of m.machine) (event_of e) ≡ Some (history_of n.machine)
+  pub next : next_history (settings_of m.machine) (program_of m.machine) (history_of m.machine) (event_of e) ≡ Some (history_of n.machine)
   pub taken : n.taken ≡ m.taken ++ e ∷ []
   pub events : n.machine.events ≡ m.machine.events + 1
   pub code : n.machine.cores.code ≡ m.machine.cores.code
