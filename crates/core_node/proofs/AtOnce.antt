@@ -37,8 +37,8 @@ pub quick_happened : (o : Option Out) (out : Outgoing) (c : Core) → o ≡ Some
 quick_happened o out c e = rw e (follows_silently (moves (core_of c) nothing) out c refl refl)
 
 finished_load : (p : Program) (addr : ℕ) (size : Size) (x : ℕ) (c : Cache) (s : CoreState)
-    → one_more_instruction p (Some (part x addr size)) (record s { cache =
-        c; loads = s.loads ++ load_of addr size (part x addr size) ∷ [] })
+    → one_more_instruction p (Some (part x addr size))
+        (record s { cache = c; loads = s.loads ++ load_of addr size (part x addr size) ∷ [] })
     ≡ finished p (Loads addr size) x (record s { cache = c })
 unfolding finished one_more_instruction
 finished_load p addr size x c s = refl
@@ -53,8 +53,8 @@ used_loaded w x s c v e =
 -- a load that found its word, marked it and noted it
 pub quick_load : (sh : Shape) (p : Program) (addr : ℕ) (size : Size) (w x : ℕ) (c : Cache) (s t : CoreState)
     → s.spilled w ≡ None → s.cache.value w ≡ Some x → c ≡ loaded w (is_running s.phase) s.cache
-    → t ≡ one_more_instruction p (Some (part x addr size)) (record s { cache =
-        c; loads = s.loads ++ load_of addr size (part x addr size) ∷ [] })
+    → t ≡ one_more_instruction p (Some (part x addr size))
+        (record s { cache = c; loads = s.loads ++ load_of addr size (part x addr size) ∷ [] })
     → load sh p (Loads addr size) w s ≡ Some (moves t nothing)
 quick_load sh p addr size w x c s t e v m d =
     load_valid sh p (Loads addr size) w x s e v

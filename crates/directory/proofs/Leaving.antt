@@ -238,12 +238,12 @@ commit-changed sh c t count s = by (s.serving.serving == t && count_below (has_m
   where
     by : (b : Bool)
         → Changed (Commit t count) s (after (if b
-        then Takes (moved_on_if_settled (record s { lines =
-            owned_by_committer c t s.lines; owed = invalidation_count sh s.lines c })) (invalidations sh s.lines c t)
+        then Takes (moved_on_if_settled (record s { lines = owned_by_committer c t s.lines; owed = invalidation_count sh s.lines c }))
+            (invalidations sh s.lines c t)
         else Waits) s)
     by true =
-        settled-changed (Commit t count) s (record s { lines =
-            owned_by_committer c t s.lines; owed = invalidation_count sh s.lines c }) refl
+        settled-changed (Commit t count) s (record s { lines = owned_by_committer c t s.lines; owed = invalidation_count sh s.lines c })
+            refl
         (owned-changed sh c t count s)
     by false = unchanged (Commit t count) s
 

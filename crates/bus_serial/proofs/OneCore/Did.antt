@@ -259,8 +259,8 @@ unfolding stored_in_buffer
 buffers sh M p need w x y s m = ends M p need y w s (stored_in_buffer w x s) nothing (buffered-did M w x s m) refl refl (λ n k. k)
 
 frames : (sh : Shape) (M : LineSet) (p : Program) (need : Need) (w x y : ℕ) (also : Bool) (s : CoreState) (c : Cache) (sends : Sends)
-    → Did M s (record s { cache =
-        c }) → Executed M w s (moves (finished p need y (stored_in_frame w x also (record s { cache = c }))) sends)
+    → Did M s (record s { cache = c }) →
+        Executed M w s (moves (finished p need y (stored_in_frame w x also (record s { cache = c }))) sends)
 unfolding stored_in_frame
 frames sh M p need w x y also s c sends d =
     let t = record s { cache = c } in
