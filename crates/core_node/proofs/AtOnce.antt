@@ -38,7 +38,7 @@ quick_happened o out c e = rw e (follows_silently (moves (core_of c) nothing) ou
 
 finished_load : (p : Program) (addr : ℕ) (size : Size) (x : ℕ) (c : Cache) (s : CoreState)
     → one_more_instruction p (Some (part x addr size))
-        (record s { cache = c; loads = s.loads ++ load_of addr size (part x addr size) ∷ [] })
+    (record s { cache = c; loads = s.loads ++ load_of addr size (part x addr size) ∷ [] })
     ≡ finished p (Loads addr size) x (record s { cache = c })
 unfolding finished one_more_instruction
 finished_load p addr size x c s = refl
@@ -54,7 +54,7 @@ used_loaded w x s c v e =
 pub quick_load : (sh : Shape) (p : Program) (addr : ℕ) (size : Size) (w x : ℕ) (c : Cache) (s t : CoreState)
     → s.spilled w ≡ None → s.cache.value w ≡ Some x → c ≡ loaded w (is_running s.phase) s.cache
     → t ≡ one_more_instruction p (Some (part x addr size))
-        (record s { cache = c; loads = s.loads ++ load_of addr size (part x addr size) ∷ [] })
+    (record s { cache = c; loads = s.loads ++ load_of addr size (part x addr size) ∷ [] })
     → load sh p (Loads addr size) w s ≡ Some (moves t nothing)
 quick_load sh p addr size w x c s t e v m d =
     load_valid sh p (Loads addr size) w x s e v

@@ -27,4 +27,4 @@ pub trapped_as : (sh : Shape) (m : Start) (id : ℕ) (s : CoreState) (trap : ℕ
 unfolding execute
 trapped_as sh m id s trap f =
     ap (execute_need sh (program m) id s) f
-        ∙ ap (λ (t : CoreState). Some (end_transaction sh id s.phase t)) (finished_traps (program m) trap 0 s)
+    ∙ ap (λ (t : CoreState). Some (end_transaction sh id s.phase t)) (finished_traps (program m) trap 0 s)

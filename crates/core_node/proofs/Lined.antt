@@ -366,7 +366,7 @@ lined-spilled sh l ws s = refl
 
 pub lined-load : (sh : Shape) (p : Program) (need : Need) (w : ℕ) (ws : List ℕ) (s : CoreState) → Lacks sh w s
     → Leaves (load sh p need w (lined sh (line_of w) ws s))
-      (finished p need (get_or ws (place_of w) 0) (with_read_mark w (lined sh (line_of w) ws
+    (finished p need (get_or ws (place_of w) 0) (with_read_mark w (lined sh (line_of w) ws
     s)))
 lined-load sh p need w ws s l =
     let t = lined sh (line_of w) ws s in
@@ -460,7 +460,7 @@ load-leaves sh p id s t n addr size w ws is e q =
     subst (λ m. Leaves (execute_need sh p id L (need_of m)) t) (sym is)
     (subst (λ u. Leaves (load sh p (Loads addr size) u L) t) (sym f.1)
     (leaves-as (load sh p (Loads addr size) w L) _ t
-      (subst (λ m. t ≡ finished p (need_of m) (get_or ws (place_of w) 0) (with_read_mark w L)) is q)
+    (subst (λ m. t ≡ finished p (need_of m) (get_or ws (place_of w) 0) (with_read_mark w L)) is q)
     (lined-load sh p (Loads addr size) w ws s lw)))
 
 pub change-leaves : (sh : Shape) (p : Program) (id : ℕ) (s t : CoreState) (n : CodeNeed) (w : ℕ) (ws : List ℕ)

@@ -132,5 +132,5 @@ pub acknowledgement-takes : (ls : Pages) (ws : Words) (sv : Serving) (n : ℕ) (
 unfolding dir_of
 acknowledgement-takes ls ws sv n next new b c l keeps q w f = takes-quiet (λ e. acknowledgement-owed c l keeps (dir_of e (parts ls ws sv n)) f
     ∙ (ap (λ k. rules.Takes (rules.moved_on_if_settled (record { words = words_at e ws; serving = sv; lines = k; owed = n - 1 })) nothing)
-        (sym q)
+    (sym q)
     ∙ ap (λ s. rules.Takes s nothing) (sym (w e))))

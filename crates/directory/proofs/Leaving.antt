@@ -215,7 +215,7 @@ mark-changed l m t s = by (nat_lt t s.serving.serving) (nat_lt s.serving.serving
   where
     by : (a b f : Bool) (o : Option ℕ)
         → Changed (Mark l m t) s
-          (after (if a then Drops else (if b then Waits else (if f then mark_taken l m s else mark_unless_owned l m s o))) s)
+        (after (if a then Drops else (if b then Waits else (if f then mark_taken l m s else mark_unless_owned l m s o))) s)
     by true b f o = unchanged (Mark l m t) s
     by false true f o = unchanged (Mark l m t) s
     by false false true o = marked-changed l m t s
@@ -239,11 +239,11 @@ commit-changed sh c t count s = by (s.serving.serving == t && count_below (has_m
     by : (b : Bool)
         → Changed (Commit t count) s (after (if b
         then Takes (moved_on_if_settled (record s { lines = owned_by_committer c t s.lines; owed = invalidation_count sh s.lines c }))
-            (invalidations sh s.lines c t)
+        (invalidations sh s.lines c t)
         else Waits) s)
     by true =
         settled-changed (Commit t count) s (record s { lines = owned_by_committer c t s.lines; owed = invalidation_count sh s.lines c })
-            refl
+        refl
         (owned-changed sh c t count s)
     by false = unchanged (Commit t count) s
 

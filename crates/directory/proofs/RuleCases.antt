@@ -117,7 +117,7 @@ acknowledgement-none c l keeps s f = rw f refl
 
 pub acknowledgement-owed : (c l : ℕ) (keeps : Bool) (s : DirState) → (s.owed == 0) ≡ false
     → acknowledgement c l keeps s
-        ≡ Takes (moved_on_if_settled (record s { lines = unless_keeps keeps c l s.lines; owed = s.owed - 1 })) nothing
+    ≡ Takes (moved_on_if_settled (record s { lines = unless_keeps keeps c l s.lines; owed = s.owed - 1 })) nothing
 unfolding acknowledgement
 acknowledgement-owed c l keeps s f = rw f refl
 

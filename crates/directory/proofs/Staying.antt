@@ -100,7 +100,7 @@ commit-test sh c t count s = by (s.serving.serving == t && count_below (λ l. na
     by : (b : Bool)
         → is_taken (if b
         then Takes (moved_on_if_settled (record s { lines = owned_by_committer c t s.lines; owed = invalidation_count sh s.lines c }))
-            (invalidations sh s.lines c t)
+        (invalidations sh s.lines c t)
         else Waits)
         ≡ b
     by true = refl

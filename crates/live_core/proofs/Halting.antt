@@ -136,8 +136,8 @@ module _ (sh : Shape) (p : Program) where
       held : (x : ℕ) (b : Bool) → IfSome (
           if b then Some (moves (finished p need x (stored_in_buffer w (new_word need x) s)) nothing)
           else Some
-            (moves (finished p need x (stored_in_frame w (new_word need x) (marks_read w s) s)) (flush_line sh s.cache (line_of w))))
-            SaysAfter
+          (moves (finished p need x (stored_in_frame w (new_word need x) (marks_read w s) s)) (flush_line sh s.cache (line_of w))))
+          SaysAfter
       held x true = after-finish need x (stored_in_buffer w (new_word need x) s) e
       held x false = after-finish need x (stored_in_frame w (new_word need x) (marks_read w s) s) e
 

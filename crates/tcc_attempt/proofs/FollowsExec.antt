@@ -198,7 +198,7 @@ word_store-follows sh p addr value s us f e a = at (holds s.spilled (line_of w))
     at : (b : Bool) → holds s.spilled (line_of w) ≡ b → (c : Bool) (o : Option ℕ) →
         OutFollows sh p (us ++ []) (cond b (Some (moves (finished p (Stores addr Word value) value (stored_in_buffer w value s)) nothing))
         (cond c
-          (Some (moves (finished p (Stores addr Word value) value (stored_in_frame w value false s)) (flush_line sh s.cache (line_of w))))
+        (Some (moves (finished p (Stores addr Word value) value (stored_in_frame w value false s)) (flush_line sh s.cache (line_of w))))
         (cond (is_some o) (Some (moves (finished p (Stores addr Word value) value (stored_in_frame w value false (place sh (line_of w) s))) nothing)) (full_set sh (line_of w) s))))
     at true h c o = goes-on sh p s us [] s.cache (put s.spilled w (Some value)) (Stores addr Word value) value tt f e a (λ ram g. tt) (λ ram g v. stored_in_buffer-seen s ram w value v)
     at false h true o = goes-on sh p s us [] (stored w value false s.cache) s.spilled (Stores addr Word value) value tt f e a (λ ram g. tt) (λ ram g v. stored_in_frame-seen s s.cache ram w value false v (unspilled h))
@@ -302,7 +302,8 @@ solo_commit-follows sh p id t s =
       console = [];
       spilled = none_spilled;
       last_commit =
-        Rattle.tcc_rules.specs.Commit.with_last_commit (Rattle.tcc_rules.specs.Commit.solo_writes_at sh s.cache s.spilled) t s.last_commit;
+          Rattle.tcc_rules.specs.Commit.with_last_commit (Rattle.tcc_rules.specs.Commit.solo_writes_at sh s.cache s.spilled) t
+          s.last_commit;
     }) s.ended
     (record { n = refl; local = refl; loads = refl; stores = refl; console = refl; ended = refl; words = λ ram v. unspilled-seen _ ram v refl (modified-committed t (Rattle.tcc_maps.specs.CacheChange.words_dropped s.spilled s.cache) v) })
 

@@ -358,7 +358,7 @@ unfolding if_violated
 if_violated-fit sh l m u s us true e k = violated_here
   where
     violated_here : MarksFit sh (violated_in_phase sh (words_invalidated l m s) (words_invalidated l m s).phase).core
-      (uses_violated true s.phase us)
+        (uses_violated true s.phase us)
     violated_here = without_phase (words_invalidated l m s).phase (kept_phase sh l m s)
       where
         without_phase : (q : Phase) → q ≡ s.phase →

@@ -165,7 +165,7 @@ fetches sh n l s i k = go (s.cache.held l) (is_some (free_way sh s.cache (set_of
   where
     go : (a b : Bool)
         → IfSome (if a then Some (request_line sh l s) else (if b then Some (request_line sh l (place sh l s)) else full_set sh l s))
-          (Keeps sh n)
+        (Keeps sh n)
     go true b = asks sh n l s i k
     go false true = asks sh n l (place sh l s) i (placed n sh l s k)
     go false false = full sh n l s k

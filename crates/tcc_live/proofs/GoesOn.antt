@@ -51,7 +51,7 @@ running sh p h c k n l e = go (h.world.cores c).awaited refl
 
     served : (d : ℕ) → d < sh.dirs → Moves sh p h.world ⊎ (h.world.next ≤ serving_at h.world d)
         → Moves sh p h.world ⊎
-            (((h.world.cores c).last_commit d < serving_at h.world d) × ((m : ℕ) → has_mark (h.world.dirs d).lines m ≡ false))
+        (((h.world.cores c).last_commit d < serving_at h.world d) × ((m : ℕ) → has_mark (h.world.dirs d).lines m ≡ false))
     served d i (inl m) = inl m
     served d i (inr b) = inr (omega (arith, b, after_next sh p h c d k l i), λ m. unmarked d m i b)
 

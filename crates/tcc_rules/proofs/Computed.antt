@@ -44,15 +44,15 @@ unfolding empty_cache is_marked way_marked free_way all_marked is_modified is_di
     holds spilled_mask spilled_words spilled_line drained any_below all_below count_below those lowest eight any_word word_of
     unit_of part patched loaded ram-stored flat one_more_instruction finished roll_back noted committed_core commit_sends with_last_commit
     commit is_written written_mask solo_writes_at solo_marks_or_skip solo_write_backs solo_sends solo_commit is_probed grant_sends
-      grant
+    grant
     probe_reply coredeliver-fill data_request if_violated words_invalidated is_violated acknowledged invalidate core_deliver core_evict
     core_exec moved_on skip abort probe ask_owner home_words load_request mark is_invalidated invs_to invalidations sum_below
-      invalidation_count
+    invalidation_count
     owned_by_committer moved_on_if_settled dir_commit acknowledgement came_home write_back dir_deliver request_line place
-      overflow full_set miss
+    overflow full_set miss
     with_read_mark load stored_in_buffer stored_in_frame word_store partial_store execute sent_all write_back_line flush_line skip_all
-      probe_all
-      abort_written
+    probe_all
+    abort_written
     marks_for core_start dir_start vendor_start start names_nodes happens core_moves core_takes dir_takes dir_asks vendor_gives step
     is_enabled insert_commit next_history run_from run copies_on copies_of copies newest home_copy seen room_for_line room_for_word
     room_for_store room is_useful nodes execs evicts delivers useful

@@ -39,7 +39,7 @@ abbrev pub keeps_nothing : Told
 keeps_nothing = record {
   commits =
       noted_commit 1 1 9 []
-        (wrote 0 20 ∷ wrote 1 21 ∷ wrote 2 22 ∷ wrote 3 23 ∷ wrote 4 24 ∷ wrote 5 25 ∷ wrote 6 26 ∷ wrote 7 27 ∷ []) [] ∷
+      (wrote 0 20 ∷ wrote 1 21 ∷ wrote 2 22 ∷ wrote 3 23 ∷ wrote 4 24 ∷ wrote 5 25 ∷ wrote 6 26 ∷ wrote 7 27 ∷ []) [] ∷
       noted_commit 2 1 2 [] (wrote 0 3 ∷ []) [] ∷ [];
   cores = stands 0 [] Running Goes [] ∷ stands 27 [] Running Goes [] ∷ [];
   words = (0, 3) ∷ (1, 21) ∷ (2, 22) ∷ (3, 23) ∷ (4, 24) ∷ (5, 25) ∷ (6, 26) ∷ (7, 27) ∷ [];
@@ -126,7 +126,7 @@ owner_asked_anew = record {
   commits =
       noted_commit 1 0 2 [] (wrote 0 3 ∷ []) [] ∷
       noted_commit 2 1 9 []
-        (wrote 0 20 ∷ wrote 1 21 ∷ wrote 2 22 ∷ wrote 3 23 ∷ wrote 4 24 ∷ wrote 5 25 ∷ wrote 6 26 ∷ wrote 7 27 ∷ []) [] ∷
+      (wrote 0 20 ∷ wrote 1 21 ∷ wrote 2 22 ∷ wrote 3 23 ∷ wrote 4 24 ∷ wrote 5 25 ∷ wrote 6 26 ∷ wrote 7 27 ∷ []) [] ∷
       [];
   cores = stands 2 [] Running Goes [] ∷ stands 25 [] Running Goes [] ∷ [];
   words = (0, 20) ∷ (1, 21) ∷ (2, 22) ∷ (3, 23) ∷ (4, 24) ∷ (5, 25) ∷ (6, 26) ∷ (7, 27) ∷ [];

@@ -117,7 +117,7 @@ unfoldable pub dir_commit : Shape → (core tid count : ℕ) → DirState → An
 dir_commit sh c t count s =
     if s.serving.serving == t && count_below (has_mark s.lines) (lines sh) == count
     then Takes (moved_on_if_settled (record s { lines = owned_by_committer c t s.lines; owed = invalidation_count sh s.lines c }))
-        (invalidations sh s.lines c t)
+    (invalidations sh s.lines c t)
     else Waits
 
 -- the sender leaves the sharers, unless it keeps a word of the line

@@ -21,7 +21,7 @@ lower_tag_dropped = record {
   commits =
       noted_commit 2 0 2 [] (wrote 0 3 ∷ []) [] ∷
       noted_commit 3 0 9 []
-        (wrote 0 20 ∷ wrote 1 21 ∷ wrote 2 22 ∷ wrote 3 23 ∷ wrote 4 24 ∷ wrote 5 25 ∷ wrote 6 26 ∷ wrote 7 27 ∷ []) [] ∷
+      (wrote 0 20 ∷ wrote 1 21 ∷ wrote 2 22 ∷ wrote 3 23 ∷ wrote 4 24 ∷ wrote 5 25 ∷ wrote 6 26 ∷ wrote 7 27 ∷ []) [] ∷
       [];
   cores = stands 11 [] Running Goes [] ∷ stands 16 [] (Probing 1) (TrappedWith 1) (0 ∷ []) ∷ [];
   words = (0, 20) ∷ (1, 21) ∷ (2, 22) ∷ (3, 23) ∷ (4, 24) ∷ (5, 25) ∷ (6, 26) ∷ (7, 27) ∷ [];
@@ -66,7 +66,7 @@ lower_tag_unseen = record {
   commits =
       noted_commit 1 0 2 [] (wrote 0 3 ∷ []) [] ∷
       noted_commit 2 0 9 []
-        (wrote 0 20 ∷ wrote 1 21 ∷ wrote 2 22 ∷ wrote 3 23 ∷ wrote 4 24 ∷ wrote 5 25 ∷ wrote 6 26 ∷ wrote 7 27 ∷ []) [] ∷
+      (wrote 0 20 ∷ wrote 1 21 ∷ wrote 2 22 ∷ wrote 3 23 ∷ wrote 4 24 ∷ wrote 5 25 ∷ wrote 6 26 ∷ wrote 7 27 ∷ []) [] ∷
       [];
   cores = stands 11 [] Running Goes [] ∷ stands 16 [] Running Goes [] ∷ [];
   words = (0, 20) ∷ (1, 21) ∷ (2, 22) ∷ (3, 23) ∷ (4, 24) ∷ (5, 25) ∷ (6, 26) ∷ (7, 27) ∷ [];

@@ -16,6 +16,6 @@ use Rattle.bus_rules.proofs.worked_bus_schedules.Goals as goal
 pub returns : goal.returns
 unfolding computed need_at needs_after needs entry changed words_with told_core first_words written_words with_words wrote_some all_clean
     bus_commit line_words instruction gone_alone bus_exec bus_start bus_names bus_step bus_next bus_from bus_run reads_some
-      packet_invalidated
+    packet_invalidated
     packet_taken bus_take bus_told bus_is_useful bus_execs bus_evicts bus_takes bus_useful
 returns c = record { anew = (refl, refl); taken = (refl, refl); alone = (refl, refl) }

@@ -130,7 +130,7 @@ bus-happened sh p w (Exec c) =
     if-named (nat_lt c sh.cores) (bus_exec sh p w c) (Happened sh p w) (λ h. exec-happened sh p w c (grind (arith, nat_tests)))
 bus-happened sh p w (Evict c x y) =
     if-named (nat_lt c sh.cores && (nat_lt x sh.sets && nat_lt y sh.ways)) (if_evicted w c (core_evict sh x y (w.cores c)))
-      (Happened sh p w)
+    (Happened sh p w)
     (λ h. evict-happened sh p w c x y (grind (arith, nat_tests)))
 bus-happened sh p w (Take c) =
     if-named (nat_lt c sh.cores) (bus_take sh w c) (Happened sh p w) (λ h. take-happened sh p w c (grind (arith, nat_tests)))

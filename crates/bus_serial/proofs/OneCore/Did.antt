@@ -260,7 +260,7 @@ buffers sh M p need w x y s m = ends M p need y w s (stored_in_buffer w x s) not
 
 frames : (sh : Shape) (M : LineSet) (p : Program) (need : Need) (w x y : ℕ) (also : Bool) (s : CoreState) (c : Cache) (sends : Sends)
     → Did M s (record s { cache = c }) →
-        Executed M w s (moves (finished p need y (stored_in_frame w x also (record s { cache = c }))) sends)
+    Executed M w s (moves (finished p need y (stored_in_frame w x also (record s { cache = c }))) sends)
 unfolding stored_in_frame
 frames sh M p need w x y also s c sends d =
     let t = record s { cache = c } in

@@ -150,7 +150,7 @@ pub refused-take : (A : Type 0) (m n : Machine) (e : Event) (src : Node) (c k : 
     → IsBlocked {A = A} (Err error) o → step_of m e ≡ if_core_takes (world_of m) src c k o → Answers m n e (Err (refusal_of error))
 refused-take A m n e src c k error o s b is =
     refused-by A m n e error o s b (λ q. is ∙ ap (if_core_takes (world_of m) src c k) q)
-      (λ q. taken-none (world_of m) src c k o (sym is ∙ q))
+    (λ q. taken-none (world_of m) src c k o (sym is ∙ q))
 
 -- ---- an event
 
@@ -201,7 +201,7 @@ NotesAs m n t (Some o) = (n.commits ≡ and_noted o.commit m.commits) × (tid_to
 
 pub took-move : (m n : Machine) (e : Event) (c : ℕ) (before out : Outgoing) (t : Told) (o : Option Out) → ActsFrom m n c before out
     → Acted o c m.cores n.cores before out → n.flights ≡ m.flights → step_of m e ≡ if_core_moves (world_of m) c o → NotesAs m n t o →
-      Took m n e t
+    Took m n e t
 took-move m n e c before out t None a f flights is notes = absurd f
 took-move m n e c before out t (Some o) a f flights is notes =
     took-by m n e _ t is (moves-world m n c before out o a f flights) notes.0 notes.1 a.events a.code

@@ -72,7 +72,7 @@ stored-event sides n got t (Evict c x y) b at h = tt
 stored-filled : (sides : Node → Side) (n : Node) (got : Node → List Mail) (l : Logged)
     → ((src : Node) → Begins (got src) ((sides src).sent n))
     → at_node (event_of l.event) ≡ n → CameBefore got l.stamp (event_of l.event) →
-      StoresItsMessage sides (filled (λ src. (sides src).sent n) l)
+    StoresItsMessage sides (filled (λ src. (sides src).sent n) l)
 unfolding filled
 stored-filled sides n got l b at c = go (handled (λ src. (sides src).sent n) (event_of l.event))
     (stored-event sides n got l.stamp (event_of l.event) b at c)

@@ -93,7 +93,7 @@ same-events (x ∷ xs) (y ∷ ys) a b f g = heads (same-events xs ys a.1 b.1) (f
         (f e (inr i)) in
         let up : (e : Event) → IsIn e ys → IsIn e xs = λ e i.
         ⊎_elim (λ (q : x ≡ e). absurd (not-itself y (subst (λ z. event_before y z ≡ true) (sym (sym s ∙ q)) (before-in y e ys b.0 i))))
-            (λ j. j)
+        (λ j. j)
         (g e (inr i)) in
         let rest = same down up in
         ap (λ z. z ∷ xs) s ∙ ap (λ zs. y ∷ zs) rest

@@ -73,7 +73,7 @@ returns-in-Ok-finish-clause-does c =
     (sym c.in_default.ensures) (valid_hit k.cache.config c.args.w.0 c.in-Hit.word (core_of k).cache c.in-Hit.ensures.answer))
     (did_silently _ 1 c.args.out.now c.mark_used.new.core
     (c.mark_used.ensures.does ∙ ap (with_read_mark c.args.w.0) c.in-Ok-finish.ensures.does
-      ∙ finished_used p n c.in-Hit.word c.args.w.0 (core_of k)))
+    ∙ finished_used p n c.in-Hit.word c.args.w.0 (core_of k)))
 
 pub returns-in-Ok-finish-clause-blocked : goal.returns-in-Ok-finish-clause-blocked
 unfolding core_of

@@ -22,7 +22,7 @@ returns-in-Solo c =
     let k = c.args.core.now in
     c.can_execute-in-Solo.ensures ∙
     sym (ap (λ (q : Phase). is_some (exec_in_phase k.config (program (started c.args.code.now)) k.id.0 (core_of k) (phase_of q)))
-        c.in-Solo.is)
+    c.in-Solo.is)
 
 pub returns-in-Ready : goal.returns-in-Ready
 unfolding core_exec core_of
