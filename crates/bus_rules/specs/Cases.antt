@@ -2,7 +2,7 @@
 use Rattle.std.specs.Prelude.{List, [], ◌∷◌, ◌++◌}
 use Rattle.tcc_program.specs.Plain.{Goes, Ended}
 use Rattle.tcc_program.specs.Program.{Ends}
-use Rattle.tcc_rules.specs.Names.{commit, stands, got, wrote}
+use Rattle.tcc_rules.specs.Names.{noted_commit, stands, got, wrote}
 use Rattle.tcc_rules.specs.Needs.{Codes, lw, sw}
 use Rattle.tcc_rules.specs.State.{Running, AwaitTid, Solo}
 use Rattle.tcc_rules.specs.Told.{machine}
@@ -18,7 +18,7 @@ reader_events = e 0 ∷ e 1 ∷ e 1 ∷ e 1 ∷ t 0 ∷ []
 
 abbrev pub reader_begins_anew : BusTold
 reader_begins_anew = record {
-  commits = commit 1 1 2 [] (wrote 0 9 ∷ []) [] ∷ [];
+  commits = noted_commit 1 1 2 [] (wrote 0 9 ∷ []) [] ∷ [];
   cores = stands 0 [] Running Goes [] ∷ stands 18 [] Running Goes [] ∷ [];
   words = (0, 9) ∷ [];
   left = [];
@@ -27,7 +27,7 @@ reader_begins_anew = record {
 
 abbrev pub reader_commits : BusTold
 reader_commits = record {
-  commits = commit 1 1 2 [] (wrote 0 9 ∷ []) [] ∷ commit 2 0 3 (got 0 9 ∷ []) (wrote 1 5 ∷ []) [] ∷ [];
+  commits = noted_commit 1 1 2 [] (wrote 0 9 ∷ []) [] ∷ noted_commit 2 0 3 (got 0 9 ∷ []) (wrote 1 5 ∷ []) [] ∷ [];
   cores = stands 3 (9 ∷ []) Running Goes [] ∷ stands 18 [] Running Goes [] ∷ [];
   words = (0, 9) ∷ (1, 5) ∷ [];
   left = 1 ∷ [];
@@ -48,7 +48,7 @@ packet_events = e 0 ∷ e 0 ∷ e 1 ∷ e 2 ∷ e 2 ∷ e 2 ∷ t 0 ∷ []
 
 abbrev pub one_has_taken : BusTold
 one_has_taken = record {
-  commits = commit 1 2 2 [] (wrote 0 9 ∷ []) [] ∷ [];
+  commits = noted_commit 1 2 2 [] (wrote 0 9 ∷ []) [] ∷ [];
   cores = stands 0 [] AwaitTid Ended (1 ∷ []) ∷ stands 16 [] Running Goes (0 ∷ []) ∷ stands 34 [] Running Goes [] ∷ [];
   words = (0, 9) ∷ [];
   left = 1 ∷ [];
@@ -57,7 +57,7 @@ one_has_taken = record {
 
 abbrev pub both_have_taken : BusTold
 both_have_taken = record {
-  commits = commit 1 2 2 [] (wrote 0 9 ∷ []) [] ∷ [];
+  commits = noted_commit 1 2 2 [] (wrote 0 9 ∷ []) [] ∷ [];
   cores = stands 0 [] AwaitTid Ended (1 ∷ []) ∷ stands 16 [] Running Goes [] ∷ stands 34 [] Running Goes [] ∷ [];
   words = (0, 9) ∷ [];
   left = [];
@@ -88,7 +88,7 @@ takes_the_bus = record {
 -- the word that it spilled is read from there, and goes to memory and into the packet with the others
 abbrev pub reads_what_it_spilled : BusTold
 reads_what_it_spilled = record {
-  commits = commit 1 0 4 (got 0 5 ∷ []) (wrote 0 5 ∷ wrote 8 6 ∷ []) [] ∷ [];
+  commits = noted_commit 1 0 4 (got 0 5 ∷ []) (wrote 0 5 ∷ wrote 8 6 ∷ []) [] ∷ [];
   cores = stands 4 (5 ∷ []) Running Goes [] ∷ stands 16 [] AwaitTid Ended [] ∷ [];
   words = (0, 5) ∷ (8, 6) ∷ [];
   left = 1 ∷ [];

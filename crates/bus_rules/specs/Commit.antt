@@ -14,8 +14,8 @@ pub record BusStepped : Type 0 where
   pub noted : Option Noted
 
 -- the words that an attempt wrote, with their values
-unfoldable pub written : CoreState → (word : ℕ) → Option ℕ
-written s w = or_else (s.spilled w) (if s.cache.modified w then s.cache.value w else None)
+unfoldable pub written_words : CoreState → (word : ℕ) → Option ℕ
+written_words s w = or_else (s.spilled w) (if s.cache.modified w then s.cache.value w else None)
 
 -- memory with these words
 unfoldable pub with_words : (ℕ → Option ℕ) → (ram : ℕ → ℕ) → ℕ → ℕ
@@ -38,14 +38,14 @@ others sh c j = nat_lt j sh.cores && not (j == c)
 
 -- the packet; none where nothing was written or nobody is to take it
 abbrev pub packet : Shape → (core : ℕ) → CoreState → Bus
-packet sh c s = if wrote_some sh s && any_below (others sh c) sh.cores then Packet (written s) (others sh c) else Free
+packet sh c s = if wrote_some sh s && any_below (others sh c) sh.cores then Packet (written_words s) (others sh c) else Free
 
 -- the commit of a core whose attempt stands like this
 unfoldable pub bus_commit : Shape → BusWorld → (core : ℕ) → CoreState → BusStepped
 bus_commit sh w c s = record {
   world = record {
     cores = put w.cores c (all_clean (commit_out sh c w.next s).core);
-    ram = with_words (written s) w.ram;
+    ram = with_words (written_words s) w.ram;
     next = w.next + 1;
     bus = packet sh c s;
   };

@@ -38,14 +38,14 @@ when_free (Packet words left) x = None
 unfoldable pub gone_alone : (tid : ℕ) → CoreState → CoreState
 gone_alone t s = record s { phase = Solo t; cache = read_cleared s.cache }
 
-abbrev pub moved : BusWorld → (core : ℕ) → CoreState → BusStepped
-moved w c s = record { world = record w { cores = put w.cores c s }; noted = None }
+abbrev pub core_changed : BusWorld → (core : ℕ) → CoreState → BusStepped
+core_changed w c s = record { world = record w { cores = put w.cores c s }; noted = None }
 
 -- an instruction that finds its set full of marked lines takes the bus, and isn't executed yet
 abbrev pub executed : BusWorld → (core : ℕ) → Out → Phase → Option BusStepped
 executed w c o (Overflowing t) =
     when_free w.bus (record { world = record w { cores = put w.cores c (gone_alone w.next o.core); bus = Alone c }; noted = None })
-executed w c o _ = Some (moved w c o.core)
+executed w c o _ = Some (core_changed w c o.core)
 
 abbrev pub goes_on : BusWorld → (core : ℕ) → Option Out → Option BusStepped
 goes_on w c None = None
@@ -59,11 +59,11 @@ exec_alone sh p w c s (Traps code) = Some (bus_commit sh w c (finished p (Traps 
 exec_alone sh p w c s _ = goes_on w c (instruction sh p w.ram c s)
 
 -- by the core's phase
-abbrev pub exec_in : Shape → Program → BusWorld → (core : ℕ) → CoreState → Phase → Option BusStepped
-exec_in sh p w c s Running = goes_on w c (instruction sh p w.ram c s)
-exec_in sh p w c s (Solo t) = exec_alone sh p w c s (p.need s.local)
-exec_in sh p w c s AwaitTid = when_free w.bus (bus_commit sh w c s)
-exec_in sh p w c s _ = None
+abbrev pub bus_exec_in_phase : Shape → Program → BusWorld → (core : ℕ) → CoreState → Phase → Option BusStepped
+bus_exec_in_phase sh p w c s Running = goes_on w c (instruction sh p w.ram c s)
+bus_exec_in_phase sh p w c s (Solo t) = exec_alone sh p w c s (p.need s.local)
+bus_exec_in_phase sh p w c s AwaitTid = when_free w.bus (bus_commit sh w c s)
+bus_exec_in_phase sh p w c s _ = None
 
 unfoldable pub bus_exec : Shape → Program → BusWorld → (core : ℕ) → Option BusStepped
-bus_exec sh p w c = exec_in sh p w c (w.cores c) (w.cores c).phase
+bus_exec sh p w c = bus_exec_in_phase sh p w c (w.cores c) (w.cores c).phase

@@ -6,14 +6,14 @@ use Rattle.tcc_program.specs.Program.{Program}
 use Rattle.tcc_rules.specs.Attempt.{Out}
 use Rattle.tcc_rules.specs.CoreEvict.{core_evict}
 use Rattle.bus_rules.specs.Commit.{BusStepped}
-use Rattle.bus_rules.specs.Exec.{bus_exec, moved}
+use Rattle.bus_rules.specs.Exec.{bus_exec, core_changed}
 use Rattle.bus_rules.specs.State.{BusWorld, BusEvent, Exec, Evict, Take}
 use Rattle.bus_rules.specs.Take.{bus_take}
 
 -- Evict: a way is emptied, as in the directory machine
-abbrev pub evicted : BusWorld → (core : ℕ) → Option Out → Option BusStepped
-evicted w c None = None
-evicted w c (Some o) = Some (moved w c o.core)
+abbrev pub if_evicted : BusWorld → (core : ℕ) → Option Out → Option BusStepped
+if_evicted w c None = None
+if_evicted w c (Some o) = Some (core_changed w c o.core)
 
 -- all that the event names exists
 unfoldable pub bus_names : Shape → BusEvent → Bool
@@ -23,7 +23,7 @@ bus_names sh (Take c) = nat_lt c sh.cores
 
 abbrev pub bus_happens : Shape → Program → BusWorld → BusEvent → Option BusStepped
 bus_happens sh p w (Exec c) = bus_exec sh p w c
-bus_happens sh p w (Evict c x y) = evicted w c (core_evict sh x y (w.cores c))
+bus_happens sh p w (Evict c x y) = if_evicted w c (core_evict sh x y (w.cores c))
 bus_happens sh p w (Take c) = bus_take sh w c
 
 -- the one state after an event; None: the event isn't enabled

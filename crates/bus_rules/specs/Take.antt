@@ -13,13 +13,13 @@ unfoldable pub reads_some : Shape → (words : ℕ → Option ℕ) → Cache →
 reads_some sh f c = any_below (any_word (λ w. is_some (f w) && c.read w)) (lines sh)
 
 -- the packet's words that aren't modified become invalid
-unfoldable pub dropped : (words : ℕ → Option ℕ) → CoreState → CoreState
-dropped f s = record s {
+unfoldable pub packet_invalidated : (words : ℕ → Option ℕ) → CoreState → CoreState
+packet_invalidated f s = record s {
   cache = record s.cache { value = λ w. if is_some (f w) && not (s.cache.modified w) then None else s.cache.value w };
 }
 
-unfoldable pub taken : Shape → (words : ℕ → Option ℕ) → CoreState → CoreState
-taken sh f s = dropped f (if reads_some sh f s.cache then record (roll_back s) { phase = Running } else s)
+unfoldable pub packet_taken : Shape → (words : ℕ → Option ℕ) → CoreState → CoreState
+packet_taken sh f s = packet_invalidated f (if reads_some sh f s.cache then record (roll_back s) { phase = Running } else s)
 
 -- the bus is free once all have taken it
 abbrev pub bus_left : Shape → (words : ℕ → Option ℕ) → (left : ℕ → Bool) → Bus
@@ -31,7 +31,7 @@ take_from sh w c (Alone d) = None
 take_from sh w c (Packet f left) =
     if left c
     then Some (record {
-      world = record w { cores = put w.cores c (taken sh f (w.cores c)); bus = bus_left sh f (put left c false) };
+      world = record w { cores = put w.cores c (packet_taken sh f (w.cores c)); bus = bus_left sh f (put left c false) };
       noted = None;
     })
     else None

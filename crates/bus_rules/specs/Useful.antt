@@ -7,14 +7,14 @@ use Rattle.tcc_maps.specs.Shape.{Shape}
 use Rattle.tcc_program.specs.Program.{Program}
 use Rattle.tcc_rules.specs.Seen.{numbers}
 use Rattle.tcc_rules.specs.State.{Halted}
-use Rattle.tcc_rules.specs.Useful.{is_set, room}
+use Rattle.tcc_rules.specs.Useful.{is_this_set, room}
 use Rattle.bus_rules.specs.State.{Bus, Free, Alone, Packet, BusWorld, BusEvent, Exec, Evict, Take}
 use Rattle.bus_rules.specs.Step.{BusHistory, bus_step, bus_next}
 
 -- to empty a way is of use where its core waits for room in that set
 abbrev pub is_of_use : Shape → Program → BusWorld → BusEvent → Bool
 is_of_use sh p w (Exec c) = true
-is_of_use sh p w (Evict c x y) = is_set (room sh p (w.cores c)) x
+is_of_use sh p w (Evict c x y) = is_this_set (room sh p (w.cores c)) x
 is_of_use sh p w (Take c) = true
 
 unfoldable pub bus_is_useful : Shape → Program → BusWorld → BusEvent → Bool

@@ -12,7 +12,7 @@ use Rattle.tcc_rules.specs.State.{CoreState, Phase, Running, AwaitTid, DoomedTid
 use Rattle.core_bank.specs.Bank.{cores_of}
 use Rattle.core_node.specs.AtHand.{ends_by, executes}
 use Rattle.bus_rules.specs.Commit.{BusStepped, bus_commit}
-use Rattle.bus_rules.specs.Exec.{exec_alone, exec_in, goes_on, instruction}
+use Rattle.bus_rules.specs.Exec.{exec_alone, bus_exec_in_phase, goes_on, instruction}
 use Rattle.bus_rules.specs.State.{BusWorld, Exec}
 use Rattle.bus_rules.specs.Step.{bus_names, bus_step}
 use Rattle.bus_tcc.specs.Ending.{CommitsBy, at_commit}
@@ -113,7 +113,7 @@ alone-step : (m : BusMachine) (c : ℕ) → c < (bus_settings_of m).cores → is
     exec_alone (bus_settings_of m) (bus_program_of m) (bus_world_of m) c s ((bus_program_of m).need s.local))
 unfolding bus_world_of
 alone-step m c l e = exec-step m c (cores_of (bank_in m) c).phase l refl
-    ∙ of-solo (λ q. exec_in (bus_settings_of m) (bus_program_of m) (bus_world_of m) c (cores_of (bank_in m) c) q
+    ∙ of-solo (λ q. bus_exec_in_phase (bus_settings_of m) (bus_program_of m) (bus_world_of m) c (cores_of (bank_in m) c) q
     ≡ exec_alone (bus_settings_of m) (bus_program_of m) (bus_world_of m) c (cores_of (bank_in m) c)
     ((bus_program_of m).need (cores_of (bank_in m) c).local)) (cores_of (bank_in m) c).phase e (λ t q. refl)
 

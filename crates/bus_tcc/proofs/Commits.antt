@@ -15,7 +15,7 @@ use Rattle.tcc_rules.specs.Attempt.{is_solo}
 use Rattle.tcc_rules.specs.Commit.{commit, committed_core, is_written, solo_commit, written_mask}
 use Rattle.tcc_rules.specs.State.{CoreState}
 use Rattle.commit_engine.specs.Solo.{solo_list}
-use Rattle.bus_rules.specs.Commit.{all_clean, commit_out, wrote_some, written}
+use Rattle.bus_rules.specs.Commit.{all_clean, commit_out, wrote_some, written_words}
 use Rattle.core_node.specs.AtHand.{line_told, lines_told, words_in}
 use Rattle.bus_tcc.specs.Cleaning.{cleaned_by}
 use Rattle.bus_tcc.specs.Committing.{CanCommit, IsCommitOf}
@@ -24,7 +24,7 @@ use Rattle.bus_tcc.proofs.Cleaned.{cleaned-all, is_among, word-among}
 use Rattle.bus_tcc.proofs.Writes.{lines-written}
 
 -- the lines that are told
-pub told-lines : (sh : Shape) (s : CoreState) (t : ℕ) → CanCommit sh s → words_in (lines_told sh t s) ≡ written s
+pub told-lines : (sh : Shape) (s : CoreState) (t : ℕ) → CanCommit sh s → words_in (lines_told sh t s) ≡ written_words s
 told-lines sh s t k = lines-written sh s t k.valid k.inside
 
 -- ---- no line stays dirty
@@ -37,13 +37,13 @@ some-written None false v e h = cc
 -- a word of no line that is told is not modified
 unmodified : (sh : Shape) (s : CoreState) (t w : ℕ) → CanCommit sh s → is_among (lines_told sh t s) (line_of w) ≡ false
     → s.cache.modified w ≡ false
-unfolding written
+unfolding written_words
 unmodified sh s t w k e = by (s.cache.modified w) refl
   where
     by : (b : Bool) → s.cache.modified w ≡ b → s.cache.modified w ≡ false
     by false q = q
     by true q =
-        let has : is_some (written s w) ≡ true = some-written (s.spilled w) (s.cache.modified w) (s.cache.value w) q (k.valid w q) in
+        let has : is_some (written_words s w) ≡ true = some-written (s.spilled w) (s.cache.modified w) (s.cache.value w) q (k.valid w q) in
         let there : is_some (words_in (lines_told sh t s) w) ≡ true = ap (λ f. is_some (f w)) (told-lines sh s t k) ∙ has in
         let in_it = word-among (lines_told sh t s) w there in
         let bad : true ≡ false = sym in_it ∙ e in absurd (cc)

@@ -20,7 +20,7 @@ use Rattle.core_node.specs.Executing.{overflows}
 use Rattle.bus_rules.specs.Commit.{BusStepped}
 use Rattle.bus_rules.specs.Exec.{bus_exec, exec_alone, executed, goes_on, when_free}
 use Rattle.bus_rules.specs.State.{Bus, BusWorld, Exec, Evict, Take, Free, Alone, Packet}
-use Rattle.bus_rules.specs.Step.{bus_names, bus_step, evicted}
+use Rattle.bus_rules.specs.Step.{bus_names, bus_step, if_evicted}
 use Rattle.bus_rules.specs.Take.{bus_take, take_from}
 use Rattle.bus_serial.proofs.Lemmas.{alone-stays, evicts_in, flat-same, goes, instruction-some, one_if, positive, useful-by_core}
 use Rattle.bus_tcc.specs.Answers.{bus_step_of}
@@ -157,7 +157,7 @@ exec-enabled m c w l = by (state_of m c).phase refl ∙ at-phase _ _ _ _ _ (stat
 
 -- ---- the other events
 
-evicted-some : (w : BusWorld) (c : ℕ) (o : Option Out) → is_some (evicted w c o) ≡ is_some o
+evicted-some : (w : BusWorld) (c : ℕ) (o : Option Out) → is_some (if_evicted w c o) ≡ is_some o
 evicted-some w c None = refl
 evicted-some w c (Some o) = refl
 

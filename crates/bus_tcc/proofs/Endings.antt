@@ -3,12 +3,12 @@ use Rattle.std.proofs.Common.{◌≡◌, ℕ, Bool, true, false, None, Some, Opt
 use Rattle.std.specs.Prelude.{if◌then◌else◌}
 use Rattle.tcc_maps.specs.Shape.{Shape}
 use Rattle.tcc_program.specs.Program.{Need, Nothing, Loads, Stores, Changes, Prints, Ends, Halts, Traps, Program}
-use Rattle.tcc_rules.specs.Attempt.{Out, finished, is_solo, stepped}
+use Rattle.tcc_rules.specs.Attempt.{Out, finished, is_solo, one_more_instruction}
 use Rattle.tcc_rules.specs.Commit.{commit, solo_commit}
-use Rattle.tcc_rules.specs.CoreExec.{core_exec, exec_phase, unless_awaiting}
-use Rattle.tcc_rules.specs.Execute.{close, execute, execute_need}
+use Rattle.tcc_rules.specs.CoreExec.{core_exec, exec_in_phase, unless_awaiting}
+use Rattle.tcc_rules.specs.Execute.{end_transaction, execute, execute_need}
 use Rattle.tcc_rules.specs.State.{CoreState, Phase, Running, AwaitTid, DoomedTid, Probing, Ready, Overflowing, Solo, Halted}
-use Rattle.bus_rules.specs.Commit.{commit_out, written}
+use Rattle.bus_rules.specs.Commit.{commit_out, written_words}
 use Rattle.core_node.specs.Answers.{IsBlocked, IsMemory}
 use Rattle.core_node.specs.Executing.{Told}
 use Rattle.core_node.specs.declared.exec.Executed.{Executed}
@@ -27,7 +27,7 @@ pub record HoldsAs (u s : CoreState) : Type 0 where
   pub phase : u.phase ≡ s.phase
 
 finished-holds : (p : Program) (q : Need) (s : CoreState) → ends_by q ≡ true → HoldsAs (finished p q 0 s) s
-unfolding finished stepped
+unfolding finished one_more_instruction
 finished-holds p Ends s e = record { cache = refl; spilled = refl; phase = refl }
 finished-holds p (Halts code) s e = record { cache = refl; spilled = refl; phase = refl }
 finished-holds p (Traps code) s e = record { cache = refl; spilled = refl; phase = refl }
@@ -64,9 +64,9 @@ commit-holds p t s h = by (is_solo s.phase) refl
     by true e = subst (λ u. HoldsAs u s) (sym (alone-commits p s e)) (finished-holds p (p.need s.local) s (ends-there p t s s.phase e h))
     by false e = subst (λ u. HoldsAs u s) (sym (waiting-commits p s e)) (record { cache = refl; spilled = refl; phase = refl })
 
-pub written-same : (u s : CoreState) → HoldsAs u s → written u ≡ written s
-unfolding written
-written-same u s h = λ i. written (record u { cache = h.cache i; spilled = h.spilled i })
+pub written-same : (u s : CoreState) → HoldsAs u s → written_words u ≡ written_words s
+unfolding written_words
+written-same u s h = λ i. written_words (record u { cache = h.cache i; spilled = h.spilled i })
 
 pub told-same : (sh : Shape) (t : ℕ) (u s : CoreState) → HoldsAs u s → lines_told sh t u ≡ lines_told sh t s
 unfolding lines_told line_told
@@ -83,9 +83,9 @@ can-same sh u s h k = record {
 
 close-alone : (sh : Shape) (p : Program) (c u : ℕ) (s : CoreState) (q : Need) → s.phase ≡ Solo u → ends_by q ≡ true
     → execute_need sh p c s q ≡ Some (solo_commit sh c u (finished p q 0 s))
-close-alone sh p c u s Ends e b = ap (λ y. Some (close sh c y (finished p Ends 0 s))) e
-close-alone sh p c u s (Halts code) e b = ap (λ y. Some (close sh c y (finished p (Halts code) 0 s))) e
-close-alone sh p c u s (Traps code) e b = ap (λ y. Some (close sh c y (finished p (Traps code) 0 s))) e
+close-alone sh p c u s Ends e b = ap (λ y. Some (end_transaction sh c y (finished p Ends 0 s))) e
+close-alone sh p c u s (Halts code) e b = ap (λ y. Some (end_transaction sh c y (finished p (Halts code) 0 s))) e
+close-alone sh p c u s (Traps code) e b = ap (λ y. Some (end_transaction sh c y (finished p (Traps code) 0 s))) e
 close-alone sh p c u s Nothing e b = cc
 close-alone sh p c u s (Loads addr size) e b = cc
 close-alone sh p c u s (Stores addr size value) e b = cc
@@ -105,9 +105,9 @@ unfolding core_exec execute
 ends-alone sh p c t s b a h = by s.phase refl b h
   where
     by : (q : Phase) → s.phase ≡ q → is_solo q ≡ true → CommitsBy p t s q
-        → exec_phase sh p c s s.phase ≡ Some (commit_out sh c t (at_commit p s))
+        → exec_in_phase sh p c s s.phase ≡ Some (commit_out sh c t (at_commit p s))
     by (Solo u) e b h =
-        ap (exec_phase sh p c s) e ∙ ap (unless_awaiting sh p c s) a ∙ close-alone sh p c u s (p.need s.local) e h.1
+        ap (exec_in_phase sh p c s) e ∙ ap (unless_awaiting sh p c s) a ∙ close-alone sh p c u s (p.need s.local) e h.1
         ∙ ap (λ v. Some (solo_commit sh c v (finished p (p.need s.local) 0 s))) h.0
         ∙ ap (λ y. Some (solo_commit sh c t y)) (sym (alone-commits p s (ap is_solo e)))
         ∙ ap (λ o. Some o) (out-alone sh c t (at_commit p s) (ap is_solo (commit-holds p t s (subst (CommitsBy p t s) (sym e) h)).phase

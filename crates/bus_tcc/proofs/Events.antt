@@ -7,9 +7,9 @@ use Rattle.tcc_base.specs.Settings.{Settings}
 use Rattle.tcc_rules.specs.Attempt.{Out}
 use Rattle.tcc_rules.specs.CoreEvict.{core_evict}
 use Rattle.bus_rules.specs.Commit.{BusStepped}
-use Rattle.bus_rules.specs.Exec.{moved}
+use Rattle.bus_rules.specs.Exec.{core_changed}
 use Rattle.bus_rules.specs.State.{BusEvent, BusWorld, Evict}
-use Rattle.bus_rules.specs.Step.{and_noted, bus_names, bus_next, bus_step, evicted, recorded}
+use Rattle.bus_rules.specs.Step.{and_noted, bus_names, bus_next, bus_step, if_evicted, recorded}
 use Rattle.core_bank.specs.Bank.{CoresData, cores_of}
 use Rattle.core_node.specs.Answers.{IsBlocked}
 use Rattle.core_node.specs.declared.delivering.CoreError.{CoreError}
@@ -105,35 +105,36 @@ pub record MovesOne (m n : BusMachine) : Type 0 where
   pub commits : n.commits ≡ m.commits
   pub events : n.events ≡ m.events + 1
 
-pub moved-took : (m n : BusMachine) (e : BusEvent) (c : ℕ) (o : Option Out) → MovesOne m n → bus_step_of m e ≡ evicted (bus_world_of m) c o
+pub moved-took : (m n : BusMachine) (e : BusEvent) (c : ℕ) (o : Option Out) → MovesOne m n →
+    bus_step_of m e ≡ if_evicted (bus_world_of m) c o
     → Acted o c (bank_in m) (bank_in n) → Took m n e Moved
 unfolding bus_world_of
 moved-took m n e c None s is a = absurd a
 moved-took m n e c (Some o) s is a =
-    took-by m n e (moved (bus_world_of m) c o.core) Moved is
-    (world-is n (moved (bus_world_of m) c o.core).world a (ap word_in s.ram) s.next (ap bus_of s.bus))
+    took-by m n e (core_changed (bus_world_of m) c o.core) Moved is
+    (world-is n (core_changed (bus_world_of m) c o.core).world a (ap word_in s.ram) s.next (ap bus_of s.bus))
     s.commits refl s.events s.code
 
 pub moved-whole : (m n : BusMachine) (e : BusEvent) → IsBusWhole m → MovesOne m n → Took m n e Moved → IsBusWhole n
 moved-whole m n e w s k = took-whole m n e Moved w k (ap length s.ram)
     (λ c h. subst (λ t. c.tid.0 < t) (sym s.next) (w.noted c (subst (λ cs. Contains cs c) s.commits h)))
 
-evicted-none : (w : BusWorld) (c : ℕ) (o : Option Out) → o ≡ None → evicted w c o ≡ None
-evicted-none w c o e = ap (evicted w c) e
+evicted-none : (w : BusWorld) (c : ℕ) (o : Option Out) → o ≡ None → if_evicted w c o ≡ None
+evicted-none w c o e = ap (if_evicted w c) e
 
-evicted-some : (w : BusWorld) (c : ℕ) (o : Option Out) → o ≢ None → evicted w c o ≢ None
+evicted-some : (w : BusWorld) (c : ℕ) (o : Option Out) → o ≢ None → if_evicted w c o ≢ None
 evicted-some w c None n = absurd (n refl)
 evicted-some w c (Some o) n = λ q. absurd (cc)
 
 pub refused-move : (A : Type 0) (m n : BusMachine) (e : BusEvent) (c : ℕ) (error : CoreError) (o : Option Out) → StaysBut m n
-    → IsBlocked {A = A} (Err error) o → bus_step_of m e ≡ evicted (bus_world_of m) c o → Answers m n e (Err (refusal_of error))
+    → IsBlocked {A = A} (Err error) o → bus_step_of m e ≡ if_evicted (bus_world_of m) c o → Answers m n e (Err (refusal_of error))
 refused-move A m n e c core_error.Blocked o s b is = (stays-kept m n s, is ∙ evicted-none (bus_world_of m) c o b)
 refused-move A m n e c core_error.Memory o s b is = (stays-kept m n s, λ q. evicted-some (bus_world_of m) c o b (sym is ∙ q))
 
 -- ---- an eviction
 
 pub evict-step : (m : BusMachine) (s : Settings) (c x y : ℕ) → s ≡ bus_settings_of m → (c < s.cores) × (x < s.sets) × (y < s.ways)
-    → bus_step_of m (Evict c x y) ≡ evicted (bus_world_of m) c (core_evict (bus_settings_of m) x y (cores_of (bank_in m) c))
+    → bus_step_of m (Evict c x y) ≡ if_evicted (bus_world_of m) c (core_evict (bus_settings_of m) x y (cores_of (bank_in m) c))
 unfolding bus_step bus_names bus_world_of
 evict-step m s c x y e h =
     let k = subst (λ t. (c < t.cores) × (x < t.sets) × (y < t.ways)) e h in

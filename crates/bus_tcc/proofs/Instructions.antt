@@ -13,7 +13,7 @@ use Rattle.core_node.specs.Answers.{IsBlocked}
 use Rattle.core_node.specs.AtHand.{Leaves, exec_with, executes, goes_alone, line_at, with_awaited}
 use Rattle.core_node.specs.Executing.{overflows}
 use Rattle.bus_rules.specs.Commit.{BusStepped}
-use Rattle.bus_rules.specs.Exec.{executed, goes_on, gone_alone, if_executed, instruction, line_words, moved, when_free, with_line}
+use Rattle.bus_rules.specs.Exec.{executed, goes_on, gone_alone, if_executed, instruction, line_words, core_changed, when_free, with_line}
 use Rattle.bus_rules.specs.State.{Bus, BusWorld, Exec, Free, Alone, Packet}
 use Rattle.bus_tcc.specs.Bank.{Executed, ExecutedAt, gone_if}
 use Rattle.core_node.specs.declared.delivering.CoreError.{CoreError}
@@ -51,7 +51,7 @@ instruction-alone sh p ws c s e a = ap goes_alone (sym (as-instruction sh p ws c
 
 -- ---- what the rules make of it
 
-executed-moves : (w : BusWorld) (c : ℕ) (o : Out) (q : Phase) → overflows q ≡ false → executed w c o q ≡ Some (moved w c o.core)
+executed-moves : (w : BusWorld) (c : ℕ) (o : Out) (q : Phase) → overflows q ≡ false → executed w c o q ≡ Some (core_changed w c o.core)
 executed-moves w c o (Overflowing t) e = cc
 executed-moves w c o Running e = refl
 executed-moves w c o AwaitTid e = refl
@@ -90,7 +90,7 @@ pub goes-barred : (w : BusWorld) (c : ℕ) (o : Option Out) → goes_alone o ≡
 goes-barred w c None e f = cc
 goes-barred w c (Some o) e f = executed-takes w c o o.core.phase e ∙ busy-so w.bus (taken_bus w c o) f
 
-pub goes-moves : (w : BusWorld) (c : ℕ) (o : Out) → overflows o.core.phase ≡ false → goes_on w c (Some o) ≡ Some (moved w c o.core)
+pub goes-moves : (w : BusWorld) (c : ℕ) (o : Out) → overflows o.core.phase ≡ false → goes_on w c (Some o) ≡ Some (core_changed w c o.core)
 goes-moves w c o e = executed-moves w c o o.core.phase e
 
 pub goes-takes : (w : BusWorld) (c : ℕ) (o : Out) → overflows o.core.phase ≡ true → is_free w.bus ≡ true
@@ -117,8 +117,8 @@ pub executed-took : (m n : BusMachine) (c : ℕ) (alone : Bool) (o : Option Out)
 unfolding bus_world_of
 executed-took m n c alone None h is x free = absurd x
 executed-took m n c false (Some o) h is x free =
-    took-by m n (Exec c) (moved (bus_world_of m) c o.core) Moved (is ∙ goes-moves (bus_world_of m) c o (sym x.0))
-    (world-is n (moved (bus_world_of m) c o.core).world x.1 (ap word_in h.ram) h.next h.bus) h.commits refl h.events h.code
+    took-by m n (Exec c) (core_changed (bus_world_of m) c o.core) Moved (is ∙ goes-moves (bus_world_of m) c o (sym x.0))
+    (world-is n (core_changed (bus_world_of m) c o.core).world x.1 (ap word_in h.ram) h.next h.bus) h.commits refl h.events h.code
 executed-took m n c true (Some o) h is x free =
     took-by m n (Exec c) (taken_bus (bus_world_of m) c o) Moved (is ∙ goes-takes (bus_world_of m) c o (sym x.0) (free (sym x.0)))
     (world-is n (taken_bus (bus_world_of m) c o).world x.1 (ap word_in h.ram) h.next h.bus) h.commits refl h.events h.code

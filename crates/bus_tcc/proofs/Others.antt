@@ -11,9 +11,9 @@ use Rattle.tcc_rules.specs.Attempt.{Out}
 use Rattle.tcc_rules.specs.CoreEvict.{core_evict}
 use Rattle.tcc_rules.specs.State.{CoreState, Phase, Running, AwaitTid, DoomedTid, Probing, Ready, Overflowing, Solo, Halted}
 use Rattle.bus_rules.specs.Commit.{BusStepped, bus_commit}
-use Rattle.bus_rules.specs.Exec.{bus_exec, exec_alone, exec_in, executed, goes_on, instruction, when_free}
+use Rattle.bus_rules.specs.Exec.{bus_exec, exec_alone, bus_exec_in_phase, executed, goes_on, instruction, when_free}
 use Rattle.bus_rules.specs.State.{Bus, BusEvent, BusWorld, Exec, Evict, Take, Free, Alone, Packet}
-use Rattle.bus_rules.specs.Step.{BusHistory, bus_happens, bus_names, bus_next, bus_step, evicted, recorded}
+use Rattle.bus_rules.specs.Step.{BusHistory, bus_happens, bus_names, bus_next, bus_step, if_evicted, recorded}
 use Rattle.bus_rules.specs.Take.{bus_take, take_from}
 use Rattle.bus_tcc.specs.Answers.{Answers, Kept}
 use Rattle.bus_tcc.specs.Machine.{BusMachine, bus_history_of, bus_program_of, bus_settings_of, bus_world_of}
@@ -67,7 +67,7 @@ alone-keeps sh p w c s (Stores addr size x) = goes-keeps w c (instruction sh p w
 alone-keeps sh p w c s (Changes addr f) = goes-keeps w c (instruction sh p w.ram c s)
 alone-keeps sh p w c s (Prints byte) = goes-keeps w c (instruction sh p w.ram c s)
 
-exec-keeps : (sh : Shape) (p : Program) (w : BusWorld) (c : ℕ) (s : CoreState) (q : Phase) → Keeps w c (exec_in sh p w c s q)
+exec-keeps : (sh : Shape) (p : Program) (w : BusWorld) (c : ℕ) (s : CoreState) (q : Phase) → Keeps w c (bus_exec_in_phase sh p w c s q)
 exec-keeps sh p w c s Running = goes-keeps w c (instruction sh p w.ram c s)
 exec-keeps sh p w c s (Solo t) = alone-keeps sh p w c s (p.need s.local)
 exec-keeps sh p w c s AwaitTid = free-keeps w c w.bus _ (commit-keeps sh w c s)
@@ -77,7 +77,7 @@ exec-keeps sh p w c s (Ready t) = tt
 exec-keeps sh p w c s (Overflowing t) = tt
 exec-keeps sh p w c s Halted = tt
 
-evict-keeps : (w : BusWorld) (c : ℕ) (o : Option Out) → Keeps w c (evicted w c o)
+evict-keeps : (w : BusWorld) (c : ℕ) (o : Option Out) → Keeps w c (if_evicted w c o)
 evict-keeps w c None = tt
 evict-keeps w c (Some o) = put-others w c o.core
 

@@ -19,8 +19,8 @@ use Rattle.core_node.specs.Answers.{IsMemory}
 use Rattle.core_node.specs.declared.delivering.CoreError.{CoreError}
 use Rattle.core_node.specs.declared.delivering.CoreError.TheVariants as core_error
 use Rattle.core_bank.specs.Bank.{cores_of}
-use Rattle.bus_rules.specs.Commit.{all_clean, BusStepped, bus_commit, commit_out, packet, with_words, wrote_some, written}
-use Rattle.bus_rules.specs.Exec.{bus_exec, exec_in, when_free}
+use Rattle.bus_rules.specs.Commit.{all_clean, BusStepped, bus_commit, commit_out, packet, with_words, wrote_some, written_words}
+use Rattle.bus_rules.specs.Exec.{bus_exec, bus_exec_in_phase, when_free}
 use Rattle.bus_rules.specs.State.{Exec, Free, Packet}
 use Rattle.bus_rules.specs.Step.{and_noted, bus_names, bus_step}
 use Rattle.bus_tcc.specs.Answers.{Answers, Took, bus_step_of, refusal_of}
@@ -90,11 +90,11 @@ noted-tid sh c t s w k = ap (λ d. d.tid) (some-same w.commit (noted t c s) (k.n
 
 pub exec-step : (m : BusMachine) (c : ℕ) (q : Phase) → c < (bus_settings_of m).cores → (cores_of (bank_in m) c).phase ≡ q
     → bus_step_of m (Exec c)
-    ≡ exec_in (bus_settings_of m) (bus_program_of m) (bus_world_of m) c (cores_of (bank_in m) c) q
+    ≡ bus_exec_in_phase (bus_settings_of m) (bus_program_of m) (bus_world_of m) c (cores_of (bank_in m) c) q
 unfolding bus_step bus_names bus_exec bus_world_of
 exec-step m c q l e =
     rw (lt-ltb c (bus_settings_of m).cores l)
-    (ap (exec_in (bus_settings_of m) (bus_program_of m) (bus_world_of m) c (cores_of (bank_in m) c)) e)
+    (ap (bus_exec_in_phase (bus_settings_of m) (bus_program_of m) (bus_world_of m) c (cores_of (bank_in m) c)) e)
 
 -- the commit of a core that waits
 abbrev pub commit_of : BusMachine → (core : ℕ) → CoreState → BusStepped
@@ -135,8 +135,8 @@ from-either None v true P f g e = g refl
 from-either None v false P f g e = cc
 
 inside-of : (m : BusMachine) (c : ℕ) → IsBusWhole m → c < (bus_settings_of m).cores → (x : ℕ)
-    → is_some (written (cores_of (bank_in m) c) x) ≡ true → line_of x < lines (bus_settings_of m)
-unfolding written
+    → is_some (written_words (cores_of (bank_in m) c) x) ≡ true → line_of x < lines (bus_settings_of m)
+unfolding written_words
 inside-of m c w l x e =
     let k = core-bounded m w c l in
     let s = cores_of (bank_in m) c in

@@ -15,9 +15,9 @@ use Rattle.tcc_maps.specs.Masks.{hit}
 use Rattle.tcc_maps.specs.Shape.{Shape, lines}
 use Rattle.tcc_maps.specs.Words.{any_word, line_of, place_of, word_at}
 use Rattle.tcc_rules.specs.Attempt.{roll_back}
-use Rattle.tcc_rules.specs.CoreDeliver.{without}
+use Rattle.tcc_rules.specs.CoreDeliver.{words_invalidated}
 use Rattle.tcc_rules.specs.State.{CoreState, Running}
-use Rattle.bus_rules.specs.Take.{dropped, reads_some, taken}
+use Rattle.bus_rules.specs.Take.{packet_invalidated, reads_some, packet_taken}
 use Rattle.core_node.specs.AtHand.{words_in}
 use Rattle.bus_tcc.specs.Taking.{reads_any, struck_by, took}
 
@@ -45,21 +45,21 @@ pub record IsClean (s : CoreState) : Type 0 where
   pub awaited : s.awaited ≡ None
   pub dirty : s.cache.dirty ≡ (λ w. None)
 
-without-clean : (l m : ℕ) (s : CoreState) → IsClean s → IsClean (without l m s)
-unfolding without invalidated
+without-clean : (l m : ℕ) (s : CoreState) → IsClean s → IsClean (words_invalidated l m s)
+unfolding words_invalidated invalidated
 without-clean l m s h = record {
   awaited = rw h.awaited refl;
   dirty = λ i v. (ap (λ d. if hit l m v && not (s.cache.modified v) then None else d) (λ j. h.dirty j v)
       ∙ cleaned-none (hit l m v) (s.cache.modified v)) i;
 }
 
-none-dropped : (s : CoreState) → dropped (words_in []) s ≡ s
-unfolding dropped words_in
+none-dropped : (s : CoreState) → packet_invalidated (words_in []) s ≡ s
+unfolding packet_invalidated words_in
 none-dropped s = refl
 
 one-dropped : (t : Tagged) (ts : List Tagged) (s : CoreState) → IsClean s
-    → dropped (words_in ts) (without t.line.0 t.mask.0 s) ≡ dropped (words_in (t ∷ ts)) s
-unfolding dropped words_in without invalidated
+    → packet_invalidated (words_in ts) (words_invalidated t.line.0 t.mask.0 s) ≡ packet_invalidated (words_in (t ∷ ts)) s
+unfolding packet_invalidated words_in words_invalidated invalidated
 one-dropped t ts s h = λ i. record s {
   cache = record s.cache {
     value = λ w. drops-word (hit t.line.0 t.mask.0 w) (s.cache.modified w) (words_in ts w) (s.cache.value w) (get_or t.words (place_of w)
@@ -69,11 +69,11 @@ one-dropped t ts s h = λ i. record s {
   awaited = ((without-clean t.line.0 t.mask.0 s h).awaited ∙ sym h.awaited) i;
 }
 
-pub struck-dropped : (ts : List Tagged) (s : CoreState) → IsClean s → struck_by ts s ≡ dropped (words_in ts) s
+pub struck-dropped : (ts : List Tagged) (s : CoreState) → IsClean s → struck_by ts s ≡ packet_invalidated (words_in ts) s
 unfolding struck_by
 struck-dropped [] s h = sym (none-dropped s)
 struck-dropped (t ∷ ts) s h =
-    struck-dropped ts (without t.line.0 t.mask.0 s) (without-clean t.line.0 t.mask.0 s h) ∙ one-dropped t ts s h
+    struck-dropped ts (words_invalidated t.line.0 t.mask.0 s) (without-clean t.line.0 t.mask.0 s h) ∙ one-dropped t ts s h
 
 -- ---- the attempt begins anew
 
@@ -85,8 +85,8 @@ back-word false true v = refl
 back-word false false v = refl
 
 pub back-dropped : (f : ℕ → Option ℕ) (s : CoreState)
-    → record (roll_back (dropped f s)) { phase = Running } ≡ dropped f (record (roll_back s) { phase = Running })
-unfolding dropped roll_back rolled_back
+    → record (roll_back (packet_invalidated f s)) { phase = Running } ≡ packet_invalidated f (record (roll_back s) { phase = Running })
+unfolding packet_invalidated roll_back rolled_back
 back-dropped f s = λ i. record (roll_back s) {
   phase = Running;
   cache = record (rolled_back s.cache) { value = λ w. back-word (is_some (f w)) (s.cache.modified w) (s.cache.value w) i };
@@ -191,12 +191,12 @@ reads-same sh ts c mem = same-truth (reads_any ts c) _
     let k = any_below-found (λ k. is_some (words_in ts (word_at l.0 k)) && c.read (word_at l.0 k)) 8 l.2 in
     reads-there ts c (word_at l.0 k.0) (and-left _ _ k.2) (and-right _ _ k.2))
 
-pub took-taken : (sh : Shape) (ts : List Tagged) (s : CoreState) → IsClean s → InMemory sh ts → took ts s ≡ taken sh (words_in ts) s
-unfolding taken
+pub took-taken : (sh : Shape) (ts : List Tagged) (s : CoreState) → IsClean s → InMemory sh ts → took ts s ≡ packet_taken sh (words_in ts) s
+unfolding packet_taken
 took-taken sh ts s h mem = by (reads_any ts s.cache) (reads_some sh (words_in ts) s.cache) (reads-same sh ts s.cache mem)
   where
     by : (a b : Bool) → a ≡ b → (if a then record (roll_back (struck_by ts s)) { phase = Running } else struck_by ts s)
-        ≡ dropped (words_in ts) (if b then record (roll_back s) { phase = Running } else s)
+        ≡ packet_invalidated (words_in ts) (if b then record (roll_back s) { phase = Running } else s)
     by true true e = ap (λ x. record (roll_back x) { phase = Running }) (struck-dropped ts s h) ∙ back-dropped (words_in ts) s
     by true false e = cc
     by false true e = cc
@@ -205,8 +205,8 @@ took-taken sh ts s h mem = by (reads_any ts s.cache) (reads_some sh (words_in ts
 -- ---- so far
 
 -- an invalidation leaves read marks as they are
-without-read : (l m : ℕ) (s : CoreState) → (without l m s).cache.read ≡ s.cache.read
-unfolding without invalidated
+without-read : (l m : ℕ) (s : CoreState) → (words_invalidated l m s).cache.read ≡ s.cache.read
+unfolding words_invalidated invalidated
 without-read l m s = refl
 
 masked-same : (l m : ℕ) (c d : Cache) → d.read ≡ c.read → reads_masked l m d ≡ reads_masked l m c
@@ -227,7 +227,7 @@ or-assoc true b c = refl
 or-assoc false b c = refl
 
 pub strikes-next : (ts : List Tagged) (i : ℕ) (d : Tagged) (old now new : CoreState) (read hits : Bool) → Strikes ts i old now read
-    → i < length ts → new ≡ without (get_or ts i d).line.0 (get_or ts i d).mask.0 now
+    → i < length ts → new ≡ words_invalidated (get_or ts i d).line.0 (get_or ts i d).mask.0 now
     → hits ≡ reads_masked (get_or ts i d).line.0 (get_or ts i d).mask.0 now.cache → Strikes ts (i + 1) old new (read || hits)
 unfolding struck_by reads_any
 strikes-next ts i d old now new read hits h l n e =

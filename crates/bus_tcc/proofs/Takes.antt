@@ -11,7 +11,7 @@ use Rattle.tcc_maps.specs.Words.{line_of}
 use Rattle.bus_rules.specs.Commit.{BusStepped}
 use Rattle.bus_rules.specs.State.{Bus, BusWorld, Take, Free, Alone, Packet}
 use Rattle.bus_rules.specs.Step.{bus_names, bus_step}
-use Rattle.bus_rules.specs.Take.{bus_take, take_from, taken}
+use Rattle.bus_rules.specs.Take.{bus_take, take_from, packet_taken}
 use Rattle.core_bank.specs.Bank.{CoresData, cores_of}
 use Rattle.core_node.specs.AtHand.{words_in}
 use Rattle.bus_tcc.specs.Answers.{Took, bus_step_of}
@@ -30,7 +30,7 @@ use Rattle.bus_tcc.proofs.Taken.{InMemory, IsClean, took-taken}
 -- what the rules make of it
 abbrev pub taken_step : Shape → BusWorld → (core : ℕ) → Bus → BusStepped
 taken_step sh w c b = record {
-  world = record w { cores = put w.cores c (taken sh (packet_words b) (w.cores c)); bus = without_core c sh.cores b };
+  world = record w { cores = put w.cores c (packet_taken sh (packet_words b) (w.cores c)); bus = without_core c sh.cores b };
   noted = None;
 }
 
@@ -91,8 +91,8 @@ unfolding bus_world_of
 lines-took m n c ts w l left t =
     let sh = bus_settings_of m in
     let mem : InMemory sh ts = λ x e. packet-inside m w x (ap is_some (sym (λ i. t.words i x)) ∙ e) in
-    let same : took ts (cores_of (bank_in m) c) ≡ taken sh (packet_words (bus_of m.bus)) (cores_of (bank_in m) c) =
-    took-taken sh ts (cores_of (bank_in m) c) (clean-core m w c l) mem ∙ ap (λ f. taken sh f (cores_of (bank_in m) c)) t.words in
+    let same : took ts (cores_of (bank_in m) c) ≡ packet_taken sh (packet_words (bus_of m.bus)) (cores_of (bank_in m) c) =
+    took-taken sh ts (cores_of (bank_in m) c) (clean-core m w c l) mem ∙ ap (λ f. packet_taken sh f (cores_of (bank_in m) c)) t.words in
     took-by m n (Take c) (taken_step sh (bus_world_of m) c (bus_of m.bus)) Moved
     (take-step m c l ∙ from-left sh (bus_world_of m) c (bus_of m.bus) left)
     (world-is n (taken_step sh (bus_world_of m) c (bus_of m.bus)).world (t.cores ∙ ap (put (cores_of (bank_in m)) c) same)

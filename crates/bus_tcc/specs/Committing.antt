@@ -3,7 +3,7 @@ use Rattle.std.specs.Prelude.{ℕ, ◌≡◌, ◌<◌, ◌/◌, ◌==◌, true, 
 use Rattle.tcc_maps.specs.Shape.{Shape, lines}
 use Rattle.tcc_maps.specs.Words.{line_of}
 use Rattle.tcc_rules.specs.State.{CoreState}
-use Rattle.bus_rules.specs.Commit.{commit_out, wrote_some, written}
+use Rattle.bus_rules.specs.Commit.{commit_out, wrote_some, written_words}
 use Rattle.core_node.specs.AtHand.{words_in}
 use Rattle.bus_tcc.specs.Storing.{AreInside}
 use Rattle.bus_tcc.specs.declared.committing.Written.{Written}
@@ -12,11 +12,11 @@ use Rattle.bus_tcc.specs.declared.committing.Written.{Written}
 pub record CanCommit (sh : Shape) (s : CoreState) : Type 0 where
   pub clean : (x : ℕ) → s.cache.dirty x ≡ None
   pub valid : (x : ℕ) → s.cache.modified x ≡ true → is_some (s.cache.value x) ≡ true
-  pub inside : (x : ℕ) → is_some (written s x) ≡ true → line_of x < lines sh
+  pub inside : (x : ℕ) → is_some (written_words s x) ≡ true → line_of x < lines sh
 
 -- what was noted, and the lines that were written
 pub record IsCommitOf (sh : Shape) (core tid : ℕ) (s : CoreState) (w : Written) : Type 0 where
   pub noted : Some w.commit ≡ (commit_out sh core tid s).commit
-  pub words : words_in w.lines ≡ written s
+  pub words : words_in w.lines ≡ written_words s
   pub inside : AreInside (sh.ram / 4) w.lines
   pub empty : (length w.lines == 0) ≡ not (wrote_some sh s)

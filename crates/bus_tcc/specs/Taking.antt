@@ -4,12 +4,12 @@ use Rattle.tcc_base.specs.declared.access.Tagged.{Tagged}
 use Rattle.tcc_maps.specs.Cache.{Cache}
 use Rattle.tcc_maps.specs.CacheLook.{reads_masked}
 use Rattle.tcc_rules.specs.Attempt.{roll_back}
-use Rattle.tcc_rules.specs.CoreDeliver.{without}
+use Rattle.tcc_rules.specs.CoreDeliver.{words_invalidated}
 use Rattle.tcc_rules.specs.State.{CoreState, Running}
 
 unfoldable pub struck_by : List Tagged → CoreState → CoreState
 struck_by [] s = s
-struck_by (t ∷ ts) s = struck_by ts (without t.line.0 t.mask.0 s)
+struck_by (t ∷ ts) s = struck_by ts (words_invalidated t.line.0 t.mask.0 s)
 
 -- a word of the lines is marked read
 unfoldable pub reads_any : List Tagged → Cache → Bool

@@ -12,7 +12,7 @@ use Rattle.tcc_maps.specs.Spilled.{Spilled}
 use Rattle.tcc_maps.specs.Nodes.{Node, Core, Dir, Vendor, Msg, Commit}
 use Rattle.tcc_maps.specs.Shape.{Shape, home, lines}
 use Rattle.tcc_maps.specs.Cache.{Cache, is_modified, writes_at}
-use Rattle.tcc_rules.specs.Commit.{after_commit, commit_sends, is_written, solo_writes_at}
+use Rattle.tcc_rules.specs.Commit.{with_last_commit, commit_sends, is_written, solo_writes_at}
 use Rattle.tcc_rules.specs.Sends.{when}
 use Rattle.commit_engine.specs.Engine.{after_of, first_with}
 use Rattle.commit_engine.specs.Sent.{to_first}
@@ -57,20 +57,20 @@ commits_are sh c t = λ i dst. (each dst) i
     each Vendor = refl
 
 -- the noted TIDs, directory by directory
-pub note_none : (p : ℕ → Bool) (t : ℕ) (a : ℕ → ℕ) → a ≡ after_commit (first_with 0 p) t a
-unfolding after_commit
-note_none p t a = ap (λ (w : ℕ → Bool). after_commit w t a) (first_none p)
+pub note_none : (p : ℕ → Bool) (t : ℕ) (a : ℕ → ℕ) → a ≡ with_last_commit (first_with 0 p) t a
+unfolding with_last_commit
+note_none p t a = ap (λ (w : ℕ → Bool). with_last_commit w t a) (first_none p)
 
-pub note_in : (n : ℕ) (p : ℕ → Bool) (t : ℕ) (a : ℕ → ℕ) → p n ≡ true → put (after_commit (first_with n p) t a) n t ≡ after_commit (first_with (n + 1) p) t a
-unfolding after_commit
-note_in n p t a h = (λ i d. (each d (first_with n p d) (nat_eq d n)) i) ∙ ap (λ (w : ℕ → Bool). after_commit w t a) (first_in n p h)
+pub note_in : (n : ℕ) (p : ℕ → Bool) (t : ℕ) (a : ℕ → ℕ) → p n ≡ true → put (with_last_commit (first_with n p) t a) n t ≡ with_last_commit (first_with (n + 1) p) t a
+unfolding with_last_commit
+note_in n p t a h = (λ i d. (each d (first_with n p d) (nat_eq d n)) i) ∙ ap (λ (w : ℕ → Bool). with_last_commit w t a) (first_in n p h)
   where
     each : (d : ℕ) (w b : Bool) → (if b then t else if w then t else a d) ≡ (if (if b then true else w) then t else a d)
     each d w true = refl
     each d w false = refl
 
-pub note_out : (n : ℕ) (p : ℕ → Bool) (t : ℕ) (a : ℕ → ℕ) → p n ≡ false → after_commit (first_with n p) t a ≡ after_commit (first_with (n + 1) p) t a
-note_out n p t a h = ap (λ (w : ℕ → Bool). after_commit w t a) (first_out n p h)
+pub note_out : (n : ℕ) (p : ℕ → Bool) (t : ℕ) (a : ℕ → ℕ) → p n ≡ false → with_last_commit (first_with n p) t a ≡ with_last_commit (first_with (n + 1) p) t a
+note_out n p t a h = ap (λ (w : ℕ → Bool). with_last_commit w t a) (first_out n p h)
 
 pub after_of-set : (xs : List Tid) (n : ℕ) (t : Tid) → n < length xs → after_of (set xs n t) ≡ put (after_of xs) n t.0
 unfolding after_of
@@ -104,9 +104,9 @@ solo_writes_elsewhere sh c sp d s e = home_elsewhere sh (is_written c sp) d (lin
 
 -- what is noted of a set of directories is what is noted of those that were written
 pub noted_all : (n bits t : ℕ) (p : ℕ → Bool) (a : ℕ → ℕ) → has bits ≡ first_with n p → ((d : ℕ) → nat_lt d n ≡ false → p d ≡ false)
-    → after_commit (first_with n (has bits)) t a ≡ after_commit p t a
+    → with_last_commit (first_with n (has bits)) t a ≡ with_last_commit p t a
 unfolding first_with
-noted_all n bits t p a e none = ap (λ (w : ℕ → Bool). after_commit w t a) (λ i d. (each d) i)
+noted_all n bits t p a e none = ap (λ (w : ℕ → Bool). with_last_commit w t a) (λ i d. (each d) i)
   where
     by : (d : ℕ) (b : Bool) → nat_lt d n ≡ b → (b && (b && p d)) ≡ p d
     by d true q = refl

@@ -10,7 +10,7 @@ use Rattle.tcc_maps.specs.Shape.{Shape, home, lines}
 use Rattle.tcc_maps.specs.Cache.{Cache, is_modified}
 use Rattle.tcc_maps.specs.Spilled.{Spilled, holds, spilled_mask, spilled_words}
 use Rattle.tcc_maps.proofs.Lemmas.{length-those}
-use Rattle.tcc_rules.specs.Commit.{is_written, written_mask, solo_writes_at, solo_marks, solo_backs, solo_sends}
+use Rattle.tcc_rules.specs.Commit.{is_written, written_mask, solo_writes_at, solo_marks_or_skip, solo_write_backs, solo_sends}
 use Rattle.commit_engine.specs.Sent.{followed, to_first}
 use Rattle.commit_engine.specs.Solo.{solo_list, at_homes, marked_line, spilled_back, here, closing}
 use Rattle.commit_engine.proofs.Noting.{any_below-count}
@@ -65,8 +65,8 @@ marks_here sh c sp t d =
     picked (is_written c sp) (written_here sh c sp d) (λ m. if d == home sh m.0 then Mark m.0 m.1 t ∷ [] else []) (λ l. (l, written_mask c sp l)) (λ l. Mark l (written_mask c sp l) t ∷ []) (lines sh)
     (λ l. within (is_written c sp l) (d == home sh l) (Mark l (written_mask c sp l) t ∷ []))
 
-backs_here : (sh : Shape) (c : Cache) (sp : Spilled) (t d : ℕ) → at_homes sh (spilled_back sp t) (solo_list sh c sp) (Dir d) ≡ solo_backs sh sp t d
-unfolding at_homes spilled_back solo_list solo_backs is_written
+backs_here : (sh : Shape) (c : Cache) (sp : Spilled) (t d : ℕ) → at_homes sh (spilled_back sp t) (solo_list sh c sp) (Dir d) ≡ solo_write_backs sh sp t d
+unfolding at_homes spilled_back solo_list solo_write_backs is_written
 backs_here sh c sp t d =
     picked (is_written c sp) (λ l. d == home sh l && holds sp l)
     (λ m. if d == home sh m.0 then if holds sp m.0 then WriteBack m.0 (spilled_mask sp m.0) (spilled_words sp m.0) t ∷ [] else [] else []) (λ l. (l, written_mask c sp l))
@@ -94,8 +94,8 @@ either true xs s c e = rw (e refl) refl
 either false xs s c e = refl
 
 closes : (sh : Shape) (c : Cache) (sp : Spilled) (t d : ℕ)
-    → at_homes sh (marked_line t) (solo_list sh c sp) (Dir d) ++ closing sh (solo_list sh c sp) t d ≡ solo_marks sh c sp t d
-unfolding closing solo_marks solo_writes_at
+    → at_homes sh (marked_line t) (solo_list sh c sp) (Dir d) ++ closing sh (solo_list sh c sp) t d ≡ solo_marks_or_skip sh c sp t d
+unfolding closing solo_marks_or_skip solo_writes_at
 closes sh c sp t d =
     let n = count_below (written_here sh c sp d) (lines sh) in
     let ls = those (written_here sh c sp d) (lines sh) in
@@ -134,7 +134,7 @@ solo_are sh c sp t ms s e = ap (λ (xs : List (ℕ × ℕ)). followed (followed 
 
     at : (d : ℕ) (b : Bool) → nat_lt d sh.dirs ≡ b
         → (at_homes sh (marked_line t) all (Dir d) ++ (if b then closing sh all t d else [])) ++ at_homes sh (spilled_back sp t) all (Dir d)
-        ≡ (if b then solo_marks sh c sp t d ++ solo_backs sh sp t d else [])
+        ≡ (if b then solo_marks_or_skip sh c sp t d ++ solo_write_backs sh sp t d else [])
     at d true q = rw (closes sh c sp t d, backs_here sh c sp t d) refl
     at d false q = rw (elsewhere sh (marked_line t) all d s q, elsewhere sh (spilled_back sp t) all d s q) refl
 

@@ -1,7 +1,7 @@
 // What goes out where a transaction commits, and what a core notes of it.
 ghost use Rattle.std.specs.Prelude.{◌≡◌, ◌≤◌, length};
 ghost use Rattle.tcc_maps.specs.Masks.{has};
-ghost use Rattle.tcc_rules.specs.Commit.{after_commit, commit_sends};
+ghost use Rattle.tcc_rules.specs.Commit.{with_last_commit, commit_sends};
 ghost use Rattle.spec_cache.specs.Held.{maps};
 ghost use Rattle.commit_engine.specs.Engine.{after_of, first_with};
 ghost use Rattle.commit_engine.specs.Sent.{HasRoom, Sent};
@@ -28,7 +28,7 @@ pub fn send_commits(cfg: &Config, cache: &SpecCache, tid: Tid, out: &mut Outgoin
 /// Notes the TID of a commit for each directory of the set below a number; for all others the last commit stays as it was.
 pub fn note_commit(written: DirSet, dirs: u8, tid: Tid, after: &mut [Tid; 64])
     requires { dirs ≤ 64 }
-    ensures noted { after_of after.new ≡ after_commit (first_with dirs (has written.bits)) tid.0 (after_of after.old) }
+    ensures noted { after_of after.new ≡ with_last_commit (first_with dirs (has written.bits)) tid.0 (after_of after.old) }
     ensures count { length after.new ≡ 64 }
 {
     for d in 0..dirs {

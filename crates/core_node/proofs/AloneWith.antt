@@ -7,7 +7,7 @@ use Rattle.tcc_maps.specs.Words.{line_of}
 use Rattle.tcc_program.specs.Program.{Need, Nothing, Loads, Stores, Changes, Prints, Ends, Halts, Traps, Program}
 use Rattle.tcc_rules.specs.Attempt.{is_solo}
 use Rattle.tcc_rules.specs.CoreExec.{core_exec}
-use Rattle.tcc_rules.specs.Execute.{ask, execute, execute_need, fetch}
+use Rattle.tcc_rules.specs.Execute.{request_line, execute, execute_need, miss}
 use Rattle.tcc_rules.specs.State.{CoreState, Phase, Running, AwaitTid, DoomedTid, Probing, Ready, Overflowing, Solo, Halted}
 use Rattle.core_node.specs.AtHand.{exec_with, executes, goes_alone, lined, need_lacks, need_overflows, word_overflows}
 use Rattle.core_node.specs.Executing.{overflows}
@@ -60,12 +60,12 @@ executed-lined sh p id s w ws l e n =
     ∙ need-alone sh p id t (p.need s.local) (ap overflows (lined-phase sh (line_of w) ws s) ∙ e)
     ∙ ap (λ b. b && not (is_solo t.phase)) (need-lined sh s (p.need s.local) w ws l n)
 
-asking-stays : (sh : Shape) (l : ℕ) (s : CoreState) → goes_alone (Some (ask sh l s)) ≡ overflows s.phase
-unfolding ask
+asking-stays : (sh : Shape) (l : ℕ) (s : CoreState) → goes_alone (Some (request_line sh l s)) ≡ overflows s.phase
+unfolding request_line
 asking-stays sh l s = refl
 
 asked : (sh : Shape) (p : Program) (id : ℕ) (s : CoreState) (w : ℕ) → need_lacks sh s (p.need s.local) ≡ Some w
-    → execute sh p id s ≡ fetch sh (line_of w) s
+    → execute sh p id s ≡ miss sh (line_of w) s
 unfolding execute
 asked sh p id s w n = (need-asks sh p id s (p.need s.local) w n).asks
 

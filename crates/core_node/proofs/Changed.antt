@@ -5,13 +5,13 @@ use Rattle.tcc_maps.specs.Cache.{Cache}
 use Rattle.tcc_maps.specs.CacheChange.{stored, placed}
 use Rattle.tcc_maps.specs.Shape.{Shape}
 use Rattle.tcc_rules.specs.State.{CoreState}
-use Rattle.tcc_rules.specs.Attempt.{stepped, finished}
-use Rattle.tcc_rules.specs.Execute.{buffered, framed, place}
+use Rattle.tcc_rules.specs.Attempt.{one_more_instruction, finished}
+use Rattle.tcc_rules.specs.Execute.{stored_in_buffer, stored_in_frame, place}
 use Rattle.core_node.specs.Executing.{noted, given, GoesOn}
 use Rattle.core_node.proofs.Finished.{finished_noted, finished_cache, cache-finished}
 
-noted_buffered : (n : Need) (x w v : ℕ) (s : CoreState) → buffered w v (noted n x s) ≡ noted n x (buffered w v s)
-unfolding buffered
+noted_buffered : (n : Need) (x w v : ℕ) (s : CoreState) → stored_in_buffer w v (noted n x s) ≡ noted n x (stored_in_buffer w v s)
+unfolding stored_in_buffer
 noted_buffered Nothing x w v s = refl
 noted_buffered (Loads addr size) x w v s = refl
 noted_buffered (Stores addr size value) x w v s = refl
@@ -23,13 +23,14 @@ noted_buffered (Traps code) x w v s = refl
 
 -- noted, stored and counted
 pub finished_buffered : (p : Program) (n : Need) (x w v : ℕ) (s : CoreState) → GoesOn n
-    → stepped p (given n x) (buffered w v (noted n x s)) ≡ finished p n x (buffered w v s)
-finished_buffered p n x w v s g = ap (stepped p (given n x)) (noted_buffered n x w v s) ∙ finished_noted p n x (buffered w v s) g
+    → one_more_instruction p (given n x) (stored_in_buffer w v (noted n x s)) ≡ finished p n x (stored_in_buffer w v s)
+finished_buffered p n x w v s g =
+    ap (one_more_instruction p (given n x)) (noted_buffered n x w v s) ∙ finished_noted p n x (stored_in_buffer w v s) g
 
 -- finished and then stored in the frame
 pub framed_finished : (p : Program) (n : Need) (x w v : ℕ) (also : Bool) (s : CoreState)
-    → framed w v also (finished p n x s) ≡ finished p n x (framed w v also s)
-unfolding framed
+    → stored_in_frame w v also (finished p n x s) ≡ finished p n x (stored_in_frame w v also s)
+unfolding stored_in_frame
 framed_finished p n x w v also s =
     ap (λ (c : Cache). record (finished p n x s) { cache = stored w v also c }) (cache-finished p n x s)
     ∙ finished_cache p n x (stored w v also s.cache) s
@@ -43,6 +44,6 @@ placed_finished sh l p n x s =
 
 -- and stored in a new frame
 pub framed_placed : (sh : Shape) (l : ℕ) (p : Program) (n : Need) (x w v : ℕ) (also : Bool) (s : CoreState)
-    → framed w v also (place sh l (finished p n x s)) ≡ finished p n x (framed w v also (place sh l s))
+    → stored_in_frame w v also (place sh l (finished p n x s)) ≡ finished p n x (stored_in_frame w v also (place sh l s))
 framed_placed sh l p n x w v also s =
-    ap (framed w v also) (placed_finished sh l p n x s) ∙ framed_finished p n x w v also (place sh l s)
+    ap (stored_in_frame w v also) (placed_finished sh l p n x s) ∙ framed_finished p n x w v also (place sh l s)

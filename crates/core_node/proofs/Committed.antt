@@ -6,7 +6,7 @@ use Rattle.tcc_maps.specs.CacheChange.{committed, words_dropped}
 use Rattle.tcc_maps.specs.Spilled.{Spilled}
 use Rattle.tcc_maps.specs.Masks.{has}
 use Rattle.tcc_maps.specs.Shape.{Shape}
-use Rattle.tcc_rules.specs.Commit.{after_commit, solo_writes_at}
+use Rattle.tcc_rules.specs.Commit.{with_last_commit, solo_writes_at}
 use Rattle.spec_cache.specs.Held.{Held, maps}
 use Rattle.overflow_buf.specs.Kept.{Entries}
 use Rattle.commit_engine.specs.Engine.{first_with}
@@ -30,9 +30,9 @@ held_committed t a b e = ap (λ (x : Cache). x.held) e
 
 pub noted_written : (sh : Shape) (c : Cache) (bits t n : ℕ) (a : ℕ → ℕ) → 0 < sh.dirs → n ≡ sh.dirs
     → has bits ≡ first_with sh.dirs (writes_at sh c)
-    → after_commit (first_with n (has bits)) t a ≡ after_commit (writes_at sh c) t a
+    → with_last_commit (first_with n (has bits)) t a ≡ with_last_commit (writes_at sh c) t a
 noted_written sh c bits t n a s e w =
-    ap (λ (x : ℕ). after_commit (first_with x (has bits)) t a) e
+    ap (λ (x : ℕ). with_last_commit (first_with x (has bits)) t a) e
     ∙ noted_all sh.dirs bits t (writes_at sh c) a w (λ d q. writes_elsewhere sh c d s q)
 
 pub whole_dropped : (c : Core) (h : Held) (a : List Tid) (b : Entries) → IsCore c → h.config ≡ c.cache.config
@@ -50,7 +50,7 @@ held_dropped t sp a b c e f = ap (λ (x : Cache). x.held) e ∙ ap (λ (x : Cach
 
 pub noted_alone : (sh : Shape) (c : Cache) (sp : Spilled) (bits t n : ℕ) (a : ℕ → ℕ) → 0 < sh.dirs → n ≡ sh.dirs
     → has bits ≡ first_with sh.dirs (solo_writes_at sh c sp)
-    → after_commit (first_with n (has bits)) t a ≡ after_commit (solo_writes_at sh c sp) t a
+    → with_last_commit (first_with n (has bits)) t a ≡ with_last_commit (solo_writes_at sh c sp) t a
 noted_alone sh c sp bits t n a s e w =
-    ap (λ (x : ℕ). after_commit (first_with x (has bits)) t a) e
+    ap (λ (x : ℕ). with_last_commit (first_with x (has bits)) t a) e
     ∙ noted_all sh.dirs bits t (solo_writes_at sh c sp) a w (λ d q. solo_writes_elsewhere sh c sp d s q)

@@ -7,7 +7,7 @@ use Rattle.tcc_maps.specs.Shape.{Shape}
 use Rattle.tcc_maps.specs.Laws.{SpillsModified}
 use Rattle.tcc_maps.specs.Spilled.{Spilled, spill, spill_line}
 use Rattle.tcc_rules.specs.State.{CoreState}
-use Rattle.tcc_rules.specs.Sends.{written_back}
+use Rattle.tcc_rules.specs.Sends.{write_back_line}
 use Rattle.tcc_rules.specs.Attempt.{Out, moves, is_solo}
 use Rattle.tcc_rules.specs.CoreEvict.{core_evict, is_awaited}
 use Rattle.spec_cache.specs.declared.frame.FrameView.{FrameView}
@@ -42,7 +42,7 @@ no_back None n = refl
 no_back (Some x) n = absurd (n x refl)
 
 abbrev pub gone : Shape → ℕ → ℕ → CoreState → ℕ → Out
-gone sh x y s l = moves (record s { cache = evicted x y s.cache; spilled = spill_line l s.cache s.spilled }) (written_back sh s.cache l)
+gone sh x y s l = moves (record s { cache = evicted x y s.cache; spilled = spill_line l s.cache s.spilled }) (write_back_line sh s.cache l)
 
 pub record Leaves (sh : Shape) (x y : ℕ) (s : CoreState) (l : ℕ) : Type 0 where
   pub here : s.cache.at x y ≡ Some l

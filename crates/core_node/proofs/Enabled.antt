@@ -9,8 +9,8 @@ use Rattle.tcc_maps.specs.Shape.{Shape, set_of}
 use Rattle.tcc_maps.specs.Spilled.{holds}
 use Rattle.tcc_maps.specs.Words.{line_of}
 use Rattle.tcc_rules.specs.Attempt.{Out}
-use Rattle.tcc_rules.specs.CoreExec.{exec_phase}
-use Rattle.tcc_rules.specs.Execute.{fetch, full_set, load, load_spilled, load_valid, word_store, partial_store, change_spilled, change_valid, execute, execute_need}
+use Rattle.tcc_rules.specs.CoreExec.{exec_in_phase}
+use Rattle.tcc_rules.specs.Execute.{miss, full_set, load, load_spilled, load_valid, word_store, partial_store, change_spilled, change_valid, execute, execute_need}
 use Rattle.tcc_rules.specs.State.{CoreState}
 use Rattle.tcc_rules.specs.Useful.{room_for_line, room_for_need, room_for_store, room_for_word}
 use Rattle.commit_engine.specs.Engine.{phase_of}
@@ -24,8 +24,8 @@ full_or_room : (g : Bool) (o : Out) (x : ℕ) → Either (if g then None else So
 full_or_room true o x = refl
 full_or_room false o x = refl
 
-fetch_or_room : (sh : Shape) (l : ℕ) (s : CoreState) → Either (fetch sh l s) (room_for_line sh l s)
-unfolding fetch full_set room_for_line
+fetch_or_room : (sh : Shape) (l : ℕ) (s : CoreState) → Either (miss sh l s) (room_for_line sh l s)
+unfolding miss full_set room_for_line
 fetch_or_room sh l s = by (s.cache.held l) (is_some (free_way sh s.cache (set_of sh l))) _ _ _ _ (full_or_room _ _ _)
   where
     by : (h f : Bool) (a b : Out) (o : Option Out) (r : Option ℕ) → Either o r
@@ -98,6 +98,6 @@ unfolding execute
 execute_or_room sh p id s = need_or_room sh p id s (p.need s.local)
 
 pub exec_overflowing : (sh : Shape) (p : Program) (id : ℕ) (s : CoreState) (o : Option Tid)
-    → exec_phase sh p id s (phase_of (code.Overflowing o)) ≡ None
+    → exec_in_phase sh p id s (phase_of (code.Overflowing o)) ≡ None
 exec_overflowing sh p id s None = refl
 exec_overflowing sh p id s (Some t) = refl

@@ -15,7 +15,7 @@ use Rattle.tcc_rules.specs.Attempt.{Out, is_solo}
 use Rattle.tcc_rules.specs.CoreEvict.{core_evict, evict_line, is_awaited}
 use Rattle.tcc_rules.specs.Seen.{numbers}
 use Rattle.tcc_rules.specs.State.{CoreState, Awaited}
-use Rattle.tcc_rules.specs.Useful.{holds_written, is_set, room}
+use Rattle.tcc_rules.specs.Useful.{holds_written, is_this_set, room}
 use Rattle.core_node.specs.Useful.{evict_is_useful, line_awaited, useful_evicts, wants_in}
 use Rattle.core_node.proofs.Listed.{filter-flat, filter-map, filter-numbers, flat-same, in_row, row_of, those-rows, those-same}
 
@@ -32,7 +32,7 @@ same_line : (o : Option Awaited) (l : ℕ) → is_number (line_awaited o) l ≡ 
 same_line None l = refl
 same_line (Some a) l = refl
 
-same_set : (o : Option ℕ) (x : ℕ) → is_number o x ≡ is_set o x
+same_set : (o : Option ℕ) (x : ℕ) → is_number o x ≡ is_this_set o x
 same_set None x = refl
 same_set (Some y) x = refl
 
@@ -46,7 +46,7 @@ unfolding is_useful_way evict_is_useful core_evict
 way-useful sh p s x y = by (s.cache.at x y)
   where
     by : (o : Option ℕ) → is_useful_way (wants_in sh p s) s.cache x o
-        ≡ (is_some (evict_line sh x y s o) && (holds_written s.cache o || is_set (room sh p s) x))
+        ≡ (is_some (evict_line sh x y s o) && (holds_written s.cache o || is_this_set (room sh p s) x))
     by None = refl
     by (Some l) =
         rw (same_line s.awaited l, same_set (room sh p s) x)

@@ -5,7 +5,7 @@ use Rattle.tcc_maps.specs.Cache.{Cache, free_way, all_marked}
 use Rattle.tcc_maps.specs.CacheLook.{Look, Hit, Miss, NeedsRoom, Overflow, look_line}
 use Rattle.tcc_rules.specs.State.{CoreState}
 use Rattle.tcc_rules.specs.Attempt.{Out, is_solo}
-use Rattle.tcc_rules.specs.Execute.{ask, place, overflow, fetch, full_set}
+use Rattle.tcc_rules.specs.Execute.{request_line, place, overflow, miss, full_set}
 
 abbrev pub look_by : (held free marked : Bool) → (set : ℕ) → Look
 look_by held free marked n = if held then Miss else if free then Miss else if marked then Overflow n else NeedsRoom n
@@ -40,8 +40,8 @@ hits false true m n x e = cc
 hits false false true n x e = cc
 hits false false false n x e = cc
 
-pub fetched_held : (sh : Shape) (l : ℕ) (s : CoreState) → s.cache.held l ≡ true → fetch sh l s ≡ Some (ask sh l s)
-unfolding fetch
+pub fetched_held : (sh : Shape) (l : ℕ) (s : CoreState) → s.cache.held l ≡ true → miss sh l s ≡ Some (request_line sh l s)
+unfolding miss
 fetched_held sh l s h = rw h refl
 
 pub way_free : (sh : Shape) (l : ℕ) (s : CoreState) → s.cache.held l ≡ false → Miss ≡ look_line sh l s.cache
@@ -51,25 +51,25 @@ way_free sh l s h e = missed (s.cache.held l) (is_some (free_way sh s.cache (set
     (set_of sh l) h e
 
 pub fetched_placed : (sh : Shape) (l : ℕ) (s : CoreState) → s.cache.held l ≡ false
-    → is_some (free_way sh s.cache (set_of sh l)) ≡ true → fetch sh l s ≡ Some (ask sh l (place sh l s))
-unfolding fetch
+    → is_some (free_way sh s.cache (set_of sh l)) ≡ true → miss sh l s ≡ Some (request_line sh l (place sh l s))
+unfolding miss
 fetched_placed sh l s h f = rw (h, f) refl
 
 pub fetched_overflow : (sh : Shape) (l k : ℕ) (s : CoreState) → Overflow k ≡ look_line sh l s.cache
-    → fetch sh l s ≡ (if is_solo s.phase then None else Some (overflow s))
-unfolding fetch full_set look_line
+    → miss sh l s ≡ (if is_solo s.phase then None else Some (overflow s))
+unfolding miss full_set look_line
 fetched_overflow sh l k s e =
     overflows (s.cache.held l)
     (is_some (free_way sh s.cache (set_of sh l))) (all_marked sh s.cache (set_of sh l)) (is_solo s.phase)
     (set_of sh l) k
-    (ask sh l s) (ask sh l (place sh l s)) (overflow s) e
+    (request_line sh l s) (request_line sh l (place sh l s)) (overflow s) e
 
-pub fetched_waits : (sh : Shape) (l k : ℕ) (s : CoreState) → NeedsRoom k ≡ look_line sh l s.cache → fetch sh l s ≡ None
-unfolding fetch full_set look_line
+pub fetched_waits : (sh : Shape) (l k : ℕ) (s : CoreState) → NeedsRoom k ≡ look_line sh l s.cache → miss sh l s ≡ None
+unfolding miss full_set look_line
 fetched_waits sh l k s e =
     wants_room (s.cache.held l) (is_some (free_way sh s.cache (set_of sh l))) (all_marked sh s.cache (set_of sh l)) (is_solo s.phase)
     (set_of sh l) k
-    (ask sh l s) (ask sh l (place sh l s)) (overflow s) e
+    (request_line sh l s) (request_line sh l (place sh l s)) (overflow s) e
 
 pub never_hits_line : {A : Type 0} → (sh : Shape) (l x : ℕ) (c : Cache) → Hit x ≡ look_line sh l c → A
 unfolding look_line

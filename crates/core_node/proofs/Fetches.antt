@@ -4,7 +4,7 @@ use Rattle.tcc_program.specs.Program.{unreserved, Need}
 use Rattle.tcc_program.specs.Plain.{Trapped}
 use Rattle.tcc_maps.specs.Shape.{Shape}
 use Rattle.tcc_rules.specs.State.{CoreState}
-use Rattle.tcc_rules.specs.Execute.{close, execute, execute_need}
+use Rattle.tcc_rules.specs.Execute.{end_transaction, execute, execute_need}
 use Rattle.image_load.specs.Start.{Start}
 use Rattle.rv_code.specs.Instructions.{Runs, FailsToFetch}
 use Rattle.rv_code.specs.Machine.{program, in_ram}
@@ -23,7 +23,8 @@ executed_as sh m id s inst n r e =
     ap (execute_need sh (program m) id s) (r.need ∙ sym e) ∙ execute_same sh (program m) (alone inst) id s n r.after
 
 pub trapped_as : (sh : Shape) (m : Start) (id : ℕ) (s : CoreState) (trap : ℕ) → FailsToFetch m s.local trap
-    → execute sh (program m) id s ≡ Some (close sh id s.phase (concluded (unreserved s.local) (Trapped trap) s))
+    → execute sh (program m) id s ≡ Some (end_transaction sh id s.phase (concluded (unreserved s.local) (Trapped trap) s))
 unfolding execute
 trapped_as sh m id s trap f =
-    ap (execute_need sh (program m) id s) f ∙ ap (λ (t : CoreState). Some (close sh id s.phase t)) (finished_traps (program m) trap 0 s)
+    ap (execute_need sh (program m) id s) f
+    ∙ ap (λ (t : CoreState). Some (end_transaction sh id s.phase t)) (finished_traps (program m) trap 0 s)

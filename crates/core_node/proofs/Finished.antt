@@ -5,12 +5,12 @@ use Rattle.tcc_program.specs.Plain.{Ended, Halted, Trapped}
 use Rattle.tcc_maps.specs.Cache.{Cache}
 use Rattle.tcc_maps.specs.Spilled.{Spilled}
 use Rattle.tcc_rules.specs.State.{CoreState}
-use Rattle.tcc_rules.specs.Attempt.{stepped, finished}
+use Rattle.tcc_rules.specs.Attempt.{one_more_instruction, finished}
 use Rattle.core_node.specs.Executing.{noted, given, concluded, GoesOn}
 
 pub finished_noted : (p : Program) (n : Need) (x : ℕ) (s : CoreState) → GoesOn n
-    → stepped p (given n x) (noted n x s) ≡ finished p n x s
-unfolding finished stepped
+    → one_more_instruction p (given n x) (noted n x s) ≡ finished p n x s
+unfolding finished one_more_instruction
 finished_noted p Nothing x s g = refl
 finished_noted p (Loads addr size) x s g = refl
 finished_noted p (Stores addr size value) x s g = refl
@@ -23,7 +23,7 @@ finished_noted p (Traps code) x s g = absurd g
 -- an instruction is finished apart from the cache and from what is spilled
 pub finished_cache : (p : Program) (n : Need) (x : ℕ) (c : Cache) (s : CoreState)
     → record (finished p n x s) { cache = c } ≡ finished p n x (record s { cache = c })
-unfolding finished stepped
+unfolding finished one_more_instruction
 finished_cache p Nothing x c s = refl
 finished_cache p (Loads addr size) x c s = refl
 finished_cache p (Stores addr size value) x c s = refl
@@ -35,7 +35,7 @@ finished_cache p (Traps code) x c s = refl
 
 pub finished_spilled : (p : Program) (n : Need) (x : ℕ) (b : Spilled) (s : CoreState)
     → record (finished p n x s) { spilled = b } ≡ finished p n x (record s { spilled = b })
-unfolding finished stepped
+unfolding finished one_more_instruction
 finished_spilled p Nothing x b s = refl
 finished_spilled p (Loads addr size) x b s = refl
 finished_spilled p (Stores addr size value) x b s = refl
@@ -47,7 +47,7 @@ finished_spilled p (Traps code) x b s = refl
 
 -- and leaves the cache, what is spilled and the phase
 pub cache-finished : (p : Program) (n : Need) (x : ℕ) (s : CoreState) → (finished p n x s).cache ≡ s.cache
-unfolding finished stepped
+unfolding finished one_more_instruction
 cache-finished p Nothing x s = refl
 cache-finished p (Loads addr size) x s = refl
 cache-finished p (Stores addr size value) x s = refl
@@ -58,7 +58,7 @@ cache-finished p (Halts code) x s = refl
 cache-finished p (Traps code) x s = refl
 
 pub phase-finished : (p : Program) (n : Need) (x : ℕ) (s : CoreState) → (finished p n x s).phase ≡ s.phase
-unfolding finished stepped
+unfolding finished one_more_instruction
 phase-finished p Nothing x s = refl
 phase-finished p (Loads addr size) x s = refl
 phase-finished p (Stores addr size value) x s = refl
@@ -70,7 +70,7 @@ phase-finished p (Traps code) x s = refl
 
 -- an instruction that ends its transaction
 pub finished_ends : (p : Program) (x : ℕ) (s : CoreState) → finished p Ends x s ≡ concluded (unreserved (p.after s.local None)) Ended s
-unfolding finished stepped concluded
+unfolding finished one_more_instruction concluded
 finished_ends p x s = refl
 
 pub finished_halts : (p : Program) (code x : ℕ) (s : CoreState) → finished p (Halts code) x s ≡ concluded (unreserved s.local) (Halted code) s

@@ -9,31 +9,31 @@ use Rattle.tcc_maps.specs.Nodes.{Node, Dir}
 use Rattle.tcc_maps.specs.Shape.{Shape, home}
 use Rattle.tcc_msg.specs.declared.outgoing.Outgoing.{Outgoing}
 use Rattle.tcc_msg.specs.declared.msg.Msg.TheVariants as code
-use Rattle.tcc_rules.specs.Sends.{to, flushed, written_back}
+use Rattle.tcc_rules.specs.Sends.{to, flush_line, write_back_line}
 use Rattle.commit_engine.specs.Sent.{Sent}
 use Rattle.commit_engine.proofs.Lemmas.{sent_one, sent_as, sent_nothing, to-none}
 
 sent_empty : (out : Outgoing) (n : Node) → Sent out out (to n []) 1
 sent_empty out n = sent_as out out (λ dst. []) (to n []) 0 1 (sent_nothing out) (sym (to-none n)) (omega arith)
 
-pub flushed_none : (out : Outgoing) (sh : Shape) (c : Cache) (l : ℕ) → None ≡ dirty_copy c l → Sent out out (flushed sh c l) 1
-unfolding flushed
+pub flushed_none : (out : Outgoing) (sh : Shape) (c : Cache) (l : ℕ) → None ≡ dirty_copy c l → Sent out out (flush_line sh c l) 1
+unfolding flush_line
 flushed_none out sh c l e = rw (← e) (sent_empty out (Dir (home sh l)))
 
 pub flushed_some : (old new : Outgoing) (sh : Shape) (c : Cache) (l : ℕ) (b : CodeTagged) (d : DirId)
     → Some (tagged_of b) ≡ dirty_copy c l → d.0 ≡ home sh l
     → new.list.items ≡ old.list.items ++ (CodeDir d, code.Flush b.mask b.line b.words b.tag) ∷ []
-    → vec_capacity new.list ≡ vec_capacity old.list → Sent old new (flushed sh c l) 1
-unfolding flushed
+    → vec_capacity new.list ≡ vec_capacity old.list → Sent old new (flush_line sh c l) 1
+unfolding flush_line
 flushed_some old new sh c l b d e h i r = rw (← e, ← h) (sent_one old new (CodeDir d) (code.Flush b.mask b.line b.words b.tag) i r)
 
-pub written_back_none : (out : Outgoing) (sh : Shape) (c : Cache) (l : ℕ) → None ≡ dirty_copy c l → Sent out out (written_back sh c l) 1
-unfolding written_back
+pub written_back_none : (out : Outgoing) (sh : Shape) (c : Cache) (l : ℕ) → None ≡ dirty_copy c l → Sent out out (write_back_line sh c l) 1
+unfolding write_back_line
 written_back_none out sh c l e = rw (← e) (sent_empty out (Dir (home sh l)))
 
 pub written_back_some : (old new : Outgoing) (sh : Shape) (c : Cache) (l : ℕ) (b : CodeTagged) (d : DirId)
     → Some (tagged_of b) ≡ dirty_copy c l → d.0 ≡ home sh l
     → new.list.items ≡ old.list.items ++ (CodeDir d, code.WriteBack b.mask b.line b.words b.tag) ∷ []
-    → vec_capacity new.list ≡ vec_capacity old.list → Sent old new (written_back sh c l) 1
-unfolding written_back
+    → vec_capacity new.list ≡ vec_capacity old.list → Sent old new (write_back_line sh c l) 1
+unfolding write_back_line
 written_back_some old new sh c l b d e h i r = rw (← e, ← h) (sent_one old new (CodeDir d) (code.WriteBack b.mask b.line b.words b.tag) i r)

@@ -24,12 +24,14 @@ use Rattle.tcc_maps.specs.CacheLook.{Look, Miss, NeedsRoom, Overflow, look_line,
 use Rattle.tcc_maps.specs.Shape.{Shape, set_of}
 use Rattle.tcc_maps.specs.Spilled.{holds}
 use Rattle.tcc_maps.specs.Words.{line_of, place_of}
-use Rattle.tcc_rules.specs.Attempt.{Out, finished, is_running, is_solo, moves, new_word, stepped}
+use Rattle.tcc_rules.specs.Attempt.{Out, finished, is_running, is_solo, moves, new_word, one_more_instruction}
 use Rattle.tcc_rules.specs.Commit.{solo_commit, committed_core}
 use Rattle.tcc_rules.specs.CoreDeliver.{fill}
-use Rattle.tcc_rules.specs.CoreExec.{core_exec, exec_phase, unless_awaiting}
-use Rattle.tcc_rules.specs.Execute.{ask, fetch, full_set, load, load_spilled, load_valid, overflow, place, used, buffered, framed}
-use Rattle.tcc_rules.specs.Execute.{word_store, partial_store, change_spilled, change_valid, also_read, close, execute, execute_need}
+use Rattle.tcc_rules.specs.CoreExec.{core_exec, exec_in_phase, unless_awaiting}
+use Rattle.tcc_rules.specs.Execute.{request_line, miss, full_set, load, load_spilled, load_valid, overflow, place, with_read_mark}
+use Rattle.tcc_rules.specs.Execute.{stored_in_buffer, stored_in_frame}
+use Rattle.tcc_rules.specs.Execute.{word_store, partial_store, change_spilled, change_valid, marks_read, end_transaction, execute}
+use Rattle.tcc_rules.specs.Execute.{execute_need}
 use Rattle.tcc_rules.specs.Sends.{Sends}
 use Rattle.tcc_rules.specs.State.{CoreState, Awaited, Phase, Running, AwaitTid, DoomedTid, Probing, Ready, Overflowing as Overflows, Solo}
 use Rattle.tcc_rules.specs.State.{Halted}
@@ -51,7 +53,7 @@ awaits None = false
 awaits (Some o) = is_some o.core.awaited
 
 awaited-finished : (p : Program) (n : Need) (x : ℕ) (s : CoreState) → (finished p n x s).awaited ≡ s.awaited
-unfolding finished stepped
+unfolding finished one_more_instruction
 awaited-finished p Nothing x s = refl
 awaited-finished p (Loads addr size) x s = refl
 awaited-finished p (Stores addr size value) x s = refl
@@ -65,8 +67,8 @@ awaited-finished p (Traps code) x s = refl
 idle : (p : Program) (n : Need) (x : ℕ) (s : CoreState) → s.awaited ≡ None → is_some (finished p n x s).awaited ≡ false
 idle p n x s e = ap is_some (awaited-finished p n x s ∙ e)
 
-used-awaited : (w : ℕ) (s : CoreState) → (used w s).awaited ≡ s.awaited
-unfolding used
+used-awaited : (w : ℕ) (s : CoreState) → (with_read_mark w s).awaited ≡ s.awaited
+unfolding with_read_mark
 used-awaited w s = by (is_running s.phase)
   where
     by : (b : Bool) → (if b then record s { cache = marked w s.cache } else s).awaited ≡ s.awaited
@@ -76,8 +78,8 @@ used-awaited w s = by (is_running s.phase)
 -- a full set
 fetch-idle : (sh : Shape) (l : ℕ) (s : CoreState) → s.awaited ≡ None
     → (s.cache.held l || is_some (free_way sh s.cache (set_of sh l))) ≡ false
-    → awaits (fetch sh l s) ≡ false
-unfolding fetch full_set overflow
+    → awaits (miss sh l s) ≡ false
+unfolding miss full_set overflow
 fetch-idle sh l s e g = by (s.cache.held l) (is_some (free_way sh s.cache (set_of sh l))) (is_solo s.phase || not (all_marked sh s.cache
     (set_of sh l))) _ _ _
     (ap is_some e) g
@@ -99,7 +101,7 @@ unfolding load word_lacks
 load-idle sh p need w s e g = by (s.spilled w) (s.cache.value w) refl g
   where
     by_value : (v : Option ℕ) → lacks_by sh w s None v ≡ false → awaits (load_valid sh p need w s v) ≡ false
-    by_value (Some x) q = idle p need x (used w s) (used-awaited w s ∙ e)
+    by_value (Some x) q = idle p need x (with_read_mark w s) (used-awaited w s ∙ e)
     by_value None q = fetch-idle sh (line_of w) s e q
 
     by : (o v : Option ℕ) → v ≡ s.cache.value w → lacks_by sh w s o v ≡ false → awaits (load_spilled sh p need w s o) ≡ false
@@ -108,7 +110,7 @@ load-idle sh p need w s e g = by (s.spilled w) (s.cache.value w) refl g
 
 partial-idle : (sh : Shape) (p : Program) (need : Need) (w : ℕ) (s : CoreState) → s.awaited ≡ None → word_lacks sh w s ≡ false
     → awaits (partial_store sh p need w s) ≡ false
-unfolding partial_store word_lacks buffered framed
+unfolding partial_store word_lacks stored_in_buffer stored_in_frame
 partial-idle sh p need w s e g = by (s.spilled w) (s.cache.value w) refl g
   where
     either : (b : Bool) (x y : Out) → is_some x.core.awaited ≡ false → is_some y.core.awaited ≡ false
@@ -126,7 +128,7 @@ partial-idle sh p need w s e g = by (s.spilled w) (s.cache.value w) refl g
 
 store-idle : (sh : Shape) (p : Program) (need : Need) (w x : ℕ) (s : CoreState) → s.awaited ≡ None
     → awaits (word_store sh p need w x s) ≡ false
-unfolding word_store full_set buffered framed place overflow
+unfolding word_store full_set stored_in_buffer stored_in_frame place overflow
 store-idle sh p need w x s e =
     by (holds s.spilled (line_of w)) (s.cache.held (line_of w)) (is_some (free_way sh s.cache (set_of sh (line_of w))))
     (is_solo s.phase || not (all_marked sh s.cache (set_of sh (line_of w)))) _ _ _ _
@@ -141,7 +143,7 @@ store-idle sh p need w x s e =
     by false false false true t u v z o p q r = refl
     by false false false false t u v z o p q r = r
 
-close-idle : (sh : Shape) (id : ℕ) (q : Phase) (t : CoreState) → t.awaited ≡ None → is_some (close sh id q t).core.awaited ≡ false
+close-idle : (sh : Shape) (id : ℕ) (q : Phase) (t : CoreState) → t.awaited ≡ None → is_some (end_transaction sh id q t).core.awaited ≡ false
 unfolding solo_commit committed_core
 close-idle sh id (Solo u) t e = ap is_some e
 close-idle sh id Running t e = ap is_some e
@@ -187,13 +189,13 @@ abbrev pub with_frame : Shape → (line : ℕ) → CoreState → CoreState
 with_frame sh l s = record s { cache = framed_cache sh l s.cache }
 
 pub fetch-asks : (sh : Shape) (l : ℕ) (s : CoreState) → (s.cache.held l || is_some (free_way sh s.cache (set_of sh l))) ≡ true
-    → fetch sh l s ≡ Some (ask sh l (with_frame sh l s))
-unfolding fetch place
+    → miss sh l s ≡ Some (request_line sh l (with_frame sh l s))
+unfolding miss place
 fetch-asks sh l s e = by (s.cache.held l) (is_some (free_way sh s.cache (set_of sh l))) _ e
   where
     by : (h f : Bool) (o : Option Out) → (h || f) ≡ true
-        → (if h then Some (ask sh l s) else if f then Some (ask sh l (record s { cache = placed sh l s.cache })) else o)
-        ≡ Some (ask sh l (record s { cache = if h then s.cache else placed sh l s.cache }))
+        → (if h then Some (request_line sh l s) else if f then Some (request_line sh l (record s { cache = placed sh l s.cache })) else o)
+        ≡ Some (request_line sh l (record s { cache = if h then s.cache else placed sh l s.cache }))
     by true f o q = refl
     by false true o q = refl
     by false false o q = cc
@@ -202,8 +204,8 @@ same-line : (l : ℕ) → (l == l) ≡ true
 same-line l = grind (arith, nat_tests)
 
 filled-idle : (sh : Shape) (l : ℕ) (ws : List ℕ) (s : CoreState) → s.awaited ≡ None
-    → (fill l ws (ask sh l (with_frame sh l s)).core).core ≡ lined sh l ws s
-unfolding fill ask lined
+    → (fill l ws (request_line sh l (with_frame sh l s)).core).core ≡ lined sh l ws s
+unfolding fill request_line lined
 filled-idle sh l ws s e =
     rw (same-line l) (ap (λ a. record s { cache = filled l ws (framed_cache sh l s.cache); awaited = a }) (sym e))
 
@@ -283,7 +285,7 @@ lacks-some false v w e = cc
 -- an instruction that lacks a word asks for its line, and does this once that has come
 pub record AsksFor (sh : Shape) (p : Program) (id : ℕ) (s : CoreState) (need : Need) (w : ℕ) : Type 0 where
   pub lacks : Lacks sh w s
-  pub asks : execute_need sh p id s need ≡ fetch sh (line_of w) s
+  pub asks : execute_need sh p id s need ≡ miss sh (line_of w) s
 
 pub need-asks : (sh : Shape) (p : Program) (id : ℕ) (s : CoreState) (need : Need) (w : ℕ) → need_lacks sh s need ≡ Some w
     → AsksFor sh p id s need w
@@ -323,7 +325,7 @@ exec-executes sh p id s e a = by s.phase e
     runs None q = refl
     runs (Some x) q = cc
 
-    by : (q : Phase) → executes q ≡ true → exec_phase sh p id s q ≡ execute sh p id s
+    by : (q : Phase) → executes q ≡ true → exec_in_phase sh p id s q ≡ execute sh p id s
     by Running h = runs s.awaited a
     by (Solo t) h = runs s.awaited a
     by AwaitTid h = cc
@@ -342,12 +344,12 @@ unfolding lined
 lined-awaited sh l ws s = refl
 
 asked-with : (sh : Shape) (p : Program) (f : ℕ → List ℕ) (id l : ℕ) (s : CoreState) → s.awaited ≡ None
-    → exec_with sh p f id (Some (ask sh l (with_frame sh l s))) ≡ core_exec sh p id (lined sh l (f l) s)
-unfolding ask
+    → exec_with sh p f id (Some (request_line sh l (with_frame sh l s))) ≡ core_exec sh p id (lined sh l (f l) s)
+unfolding request_line
 asked-with sh p f id l s e = ap (core_exec sh p id) (filled-idle sh l (f l) s e)
 
 pub exec-lined : (sh : Shape) (p : Program) (f : ℕ → List ℕ) (id : ℕ) (s : CoreState) (w : ℕ) → executes s.phase ≡ true
-    → s.awaited ≡ None → Lacks sh w s → execute sh p id s ≡ fetch sh (line_of w) s
+    → s.awaited ≡ None → Lacks sh w s → execute sh p id s ≡ miss sh (line_of w) s
     → exec_with sh p f id (core_exec sh p id s) ≡ execute sh p id (lined sh (line_of w) (f (line_of w)) s)
 exec-lined sh p f id s w e a l q =
     let t = lined sh (line_of w) (f (line_of w)) s in
@@ -363,13 +365,14 @@ unfolding lined
 lined-spilled sh l ws s = refl
 
 pub lined-load : (sh : Shape) (p : Program) (need : Need) (w : ℕ) (ws : List ℕ) (s : CoreState) → Lacks sh w s
-    → Leaves (load sh p need w (lined sh (line_of w) ws s)) (finished p need (get_or ws (place_of w) 0) (used w (lined sh (line_of w) ws
+    → Leaves (load sh p need w (lined sh (line_of w) ws s))
+    (finished p need (get_or ws (place_of w) 0) (with_read_mark w (lined sh (line_of w) ws
     s)))
 lined-load sh p need w ws s l =
     let t = lined sh (line_of w) ws s in
     let found = valid_loads sh p need w (get_or ws (place_of w) 0) t (ap (λ f. f w) (lined-spilled sh (line_of w) ws s) ∙ l.spilled)
     (lined-value sh w ws s l.value) in
-    subst (λ o. Leaves o (finished p need (get_or ws (place_of w) 0) (used w t))) (sym found) refl
+    subst (λ o. Leaves o (finished p need (get_or ws (place_of w) 0) (with_read_mark w t))) (sym found) refl
 
 pub lined-change : (sh : Shape) (p : Program) (need : Need) (w : ℕ) (ws : List ℕ) (s : CoreState) → Lacks sh w s
     → Leaves (partial_store sh p need w (lined sh (line_of w) ws s))
@@ -402,11 +405,11 @@ lined-finished sh l ws p n x s =
     ∙ finished_cache p n x (filled l ws (framed_cache sh l s.cache)) s
 
 pub lined-buffered : (sh : Shape) (l : ℕ) (ws : List ℕ) (w v : ℕ) (s : CoreState)
-    → lined sh l ws (buffered w v s) ≡ buffered w v (lined sh l ws s)
-unfolding lined buffered
+    → lined sh l ws (stored_in_buffer w v s) ≡ stored_in_buffer w v (lined sh l ws s)
+unfolding lined stored_in_buffer
 lined-buffered sh l ws w v s = refl
 
-pub lined-also : (sh : Shape) (l : ℕ) (ws : List ℕ) (w : ℕ) (s : CoreState) → also_read w (lined sh l ws s) ≡ also_read w s
+pub lined-also : (sh : Shape) (l : ℕ) (ws : List ℕ) (w : ℕ) (s : CoreState) → marks_read w (lined sh l ws s) ≡ marks_read w s
 unfolding lined filled placed placed_at
 lined-also sh l ws w s = ap (λ b. is_running s.phase && not b) (by (s.cache.held l) (free_way sh s.cache (set_of sh l)))
   where
@@ -431,14 +434,14 @@ lined-as sh th l m ws s t u e q r f = e ∙ ap (λ n. lined th n ws t) q ∙ ap 
 
 pub changed-buffered : (sh : Shape) (l : ℕ) (ws : List ℕ) (p : Program) (n : Need) (w x : ℕ) (s : CoreState)
     → holds s.spilled (line_of w) ≡ true
-    → changed p n w x (lined sh l ws s) ≡ finished p n x (buffered w (new_word n x) (lined sh l ws s))
+    → changed p n w x (lined sh l ws s) ≡ finished p n x (stored_in_buffer w (new_word n x) (lined sh l ws s))
 unfolding lined
 changed-buffered sh l ws p n w x s e = rw e refl
 
 pub changed-framed : (sh : Shape) (l : ℕ) (ws : List ℕ) (p : Program) (n : Need) (w x : ℕ) (s : CoreState)
     → holds s.spilled (line_of w) ≡ false
     → changed p n w x (lined sh l ws s)
-    ≡ finished p n x (framed w (new_word n x) (also_read w (lined sh l ws s)) (lined sh l ws s))
+    ≡ finished p n x (stored_in_frame w (new_word n x) (marks_read w (lined sh l ws s)) (lined sh l ws s))
 unfolding lined
 changed-framed sh l ws p n w x s e = rw e refl
 
@@ -446,7 +449,7 @@ changed-framed sh l ws p n w x s e = rw e refl
 
 pub load-leaves : (sh : Shape) (p : Program) (id : ℕ) (s t : CoreState) (n : CodeNeed) (addr : ℕ) (size : Size) (w : ℕ) (ws : List ℕ)
     → n ≡ code_need.Load addr size → need_lacks sh s (need_of n) ≡ Some w
-    → t ≡ finished p (need_of n) (get_or ws (place_of w) 0) (used w (lined sh (line_of w) ws s))
+    → t ≡ finished p (need_of n) (get_or ws (place_of w) 0) (with_read_mark w (lined sh (line_of w) ws s))
     → Leaves (execute_need sh p id (lined sh (line_of w) ws s) (need_of n)) t
 load-leaves sh p id s t n addr size w ws is e q =
     let f = lacks-some _ _ _ (subst (λ m. need_lacks sh s (need_of m) ≡ Some w) is e) in
@@ -456,7 +459,8 @@ load-leaves sh p id s t n addr size w ws is e q =
     let lw = subst (λ u. Lacks sh u s) f.1 l in
     subst (λ m. Leaves (execute_need sh p id L (need_of m)) t) (sym is)
     (subst (λ u. Leaves (load sh p (Loads addr size) u L) t) (sym f.1)
-    (leaves-as (load sh p (Loads addr size) w L) _ t (subst (λ m. t ≡ finished p (need_of m) (get_or ws (place_of w) 0) (used w L)) is q)
+    (leaves-as (load sh p (Loads addr size) w L) _ t
+    (subst (λ m. t ≡ finished p (need_of m) (get_or ws (place_of w) 0) (with_read_mark w L)) is q)
     (lined-load sh p (Loads addr size) w ws s lw)))
 
 pub change-leaves : (sh : Shape) (p : Program) (id : ℕ) (s t : CoreState) (n : CodeNeed) (w : ℕ) (ws : List ℕ)

@@ -9,7 +9,7 @@ use Rattle.tcc_maps.specs.CacheLook.{Hit, Miss, look_load, look_value, look_line
 use Rattle.tcc_rules.specs.State.{CoreState, Phase}
 use Rattle.tcc_rules.specs.Sends.{nothing}
 use Rattle.tcc_rules.specs.Attempt.{moves, finished, is_running}
-use Rattle.tcc_rules.specs.Execute.{load, used, fetch}
+use Rattle.tcc_rules.specs.Execute.{load, with_read_mark, miss}
 use Rattle.core_node.proofs.Finished.{finished_cache, cache-finished, phase-finished}
 use Rattle.spec_cache.specs.Look.{look_of}
 use Rattle.spec_cache.specs.declared.look.Look.{Look as CodeLook}
@@ -22,12 +22,12 @@ unfolding load
 load_spilled sh p n w x s e = rw e refl
 
 pub load_valid : (sh : Shape) (p : Program) (n : Need) (w x : ℕ) (s : CoreState) → s.spilled w ≡ None → s.cache.value w ≡ Some x
-    → load sh p n w s ≡ Some (moves (finished p n x (used w s)) nothing)
+    → load sh p n w s ≡ Some (moves (finished p n x (with_read_mark w s)) nothing)
 unfolding load
 load_valid sh p n w x s e f = rw (e, f) refl
 
 pub load_missing : (sh : Shape) (p : Program) (n : Need) (w : ℕ) (s : CoreState) → s.spilled w ≡ None
-    → s.cache.value w ≡ None → load sh p n w s ≡ fetch sh (line_of w) s
+    → s.cache.value w ≡ None → load sh p n w s ≡ miss sh (line_of w) s
 unfolding load
 load_missing sh p n w s e f = rw (e, f) refl
 
@@ -81,8 +81,9 @@ used_after : (p : Program) (n : Need) (x w : ℕ) (b : Bool) (s : CoreState)
 used_after p n x w true s = finished_cache p n x (marked w s.cache) s
 used_after p n x w false s = refl
 
-pub finished_used : (p : Program) (n : Need) (x w : ℕ) (s : CoreState) → used w (finished p n x s) ≡ finished p n x (used w s)
-unfolding used
+pub finished_used : (p : Program) (n : Need) (x w : ℕ) (s : CoreState) →
+    with_read_mark w (finished p n x s) ≡ finished p n x (with_read_mark w s)
+unfolding with_read_mark
 finished_used p n x w s =
     let f = finished p n x s in
     ap (λ (h : Phase). if is_running h then record f { cache = marked w f.cache } else f) (phase-finished p n x s)

@@ -9,7 +9,7 @@ use Rattle.tcc_msg.specs.declared.outgoing.Outgoing.{Outgoing}
 use Rattle.tcc_maps.specs.Shape.{Shape}
 use Rattle.tcc_rules.specs.State.{CoreState}
 use Rattle.tcc_rules.specs.Attempt.{Out, moves, finished}
-use Rattle.tcc_rules.specs.Execute.{close, execute_need}
+use Rattle.tcc_rules.specs.Execute.{end_transaction, execute_need}
 use Rattle.tcc_rules.specs.Sends.{nothing}
 use Rattle.rv_decode.specs.declared.instruction.AmoOp.{AmoOp}
 use Rattle.rv_exec.specs.declared.need.Need.{Need}
@@ -36,16 +36,16 @@ does_plain sh p id s (code.Trap cause) g a b d = absurd g
 
 -- an instruction that ends its transaction
 pub does_end : (sh : Shape) (p : Program) (id : ℕ) (s : CoreState) (n : Need) → n ≡ code.End
-    → execute_need sh p id s (need_of n) ≡ Some (close sh id s.phase (finished p Ends 0 s))
+    → execute_need sh p id s (need_of n) ≡ Some (end_transaction sh id s.phase (finished p Ends 0 s))
 does_end sh p id s n e = rw e refl
 
 pub does_halt : (sh : Shape) (p : Program) (id : ℕ) (s : CoreState) (n : Need) (status : ℕ) → n ≡ code.Halt status
-    → execute_need sh p id s (need_of n) ≡ Some (close sh id s.phase (concluded (unreserved s.local) (Halted status) s))
-does_halt sh p id s n status e = rw e (ap (λ (t : CoreState). Some (close sh id s.phase t)) (finished_halts p status 0 s))
+    → execute_need sh p id s (need_of n) ≡ Some (end_transaction sh id s.phase (concluded (unreserved s.local) (Halted status) s))
+does_halt sh p id s n status e = rw e (ap (λ (t : CoreState). Some (end_transaction sh id s.phase t)) (finished_halts p status 0 s))
 
 pub does_trap : (sh : Shape) (p : Program) (id : ℕ) (s : CoreState) (n : Need) (cause : ℕ) → n ≡ code.Trap cause
-    → execute_need sh p id s (need_of n) ≡ Some (close sh id s.phase (concluded (unreserved s.local) (Trapped cause) s))
-does_trap sh p id s n cause e = rw e (ap (λ (t : CoreState). Some (close sh id s.phase t)) (finished_traps p cause 0 s))
+    → execute_need sh p id s (need_of n) ≡ Some (end_transaction sh id s.phase (concluded (unreserved s.local) (Trapped cause) s))
+does_trap sh p id s n cause e = rw e (ap (λ (t : CoreState). Some (end_transaction sh id s.phase t)) (finished_traps p cause 0 s))
 
 -- nothing is noted of one that doesn't
 pub unnoted_goes_on : (sh : Shape) (p : Program) (id : ℕ) (s : CoreState) (n : Asked) → GoesOn n → Unnoted (execute_need sh p id s n)

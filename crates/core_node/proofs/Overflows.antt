@@ -10,11 +10,12 @@ use Rattle.tcc_maps.specs.Shape.{Shape, set_of}
 use Rattle.tcc_maps.specs.Spilled.{holds}
 use Rattle.tcc_maps.specs.Words.{line_of}
 use Rattle.tcc_rules.specs.Attempt.{Out, finished, is_running, is_solo}
-use Rattle.tcc_rules.specs.Execute.{ask, fetch, full_set, load, load_spilled, load_valid, overflow, place, used, buffered, framed}
-use Rattle.tcc_rules.specs.Execute.{word_store, partial_store, change_spilled, change_valid, close, execute, execute_need}
+use Rattle.tcc_rules.specs.Execute.{request_line, miss, full_set, load, load_spilled, load_valid, overflow, place, with_read_mark}
+use Rattle.tcc_rules.specs.Execute.{stored_in_buffer, stored_in_frame}
+use Rattle.tcc_rules.specs.Execute.{word_store, partial_store, change_spilled, change_valid, end_transaction, execute, execute_need}
 use Rattle.tcc_program.specs.Plain.{Outcome, Goes, Ended, Halted as HaltedWith, Trapped as TrappedWith}
-use Rattle.tcc_rules.specs.Commit.{commit, committed_core, phase_after, solo_commit}
-use Rattle.tcc_rules.specs.CoreExec.{exec_phase, unless_awaiting}
+use Rattle.tcc_rules.specs.Commit.{commit, committed_core, phase_after_commit, solo_commit}
+use Rattle.tcc_rules.specs.CoreExec.{exec_in_phase, unless_awaiting}
 use Rattle.tcc_rules.specs.State.{CoreState, Awaited, Phase, Running, AwaitTid, DoomedTid, Probing, Ready, Overflowing, Solo, Halted}
 use Rattle.commit_engine.specs.Engine.{phase_of}
 use Rattle.commit_engine.specs.declared.phase.Phase.{Phase as CodePhase}
@@ -69,8 +70,8 @@ and-false false = refl
 finished-stays : (p : Program) (n : Need) (x : ℕ) (s : CoreState) → overflows s.phase ≡ false → overflows (finished p n x s).phase ≡ false
 finished-stays p n x s e = ap overflows (phase-finished p n x s) ∙ e
 
-used-phase : (w : ℕ) (s : CoreState) → (used w s).phase ≡ s.phase
-unfolding used
+used-phase : (w : ℕ) (s : CoreState) → (with_read_mark w s).phase ≡ s.phase
+unfolding with_read_mark
 used-phase w s = by (is_running s.phase)
   where
     by : (b : Bool) → (if b then record s { cache = marked w s.cache } else s).phase ≡ s.phase
@@ -78,8 +79,8 @@ used-phase w s = by (is_running s.phase)
     by false = refl
 
 fetch-alone : (sh : Shape) (l : ℕ) (s : CoreState) → overflows s.phase ≡ false
-    → Same (fetch sh l s) (line_overflows sh l s && not (is_solo s.phase))
-unfolding fetch full_set ask place overflow
+    → Same (miss sh l s) (line_overflows sh l s && not (is_solo s.phase))
+unfolding miss full_set request_line place overflow
 fetch-alone sh l s e = by (s.cache.held l) (is_some (free_way sh s.cache (set_of sh l))) (all_marked sh s.cache (set_of sh l)) (is_solo
     s.phase)
     _ _ _ e e refl
@@ -100,7 +101,7 @@ load-alone sh p need w s e = by (s.spilled w) (s.cache.value w) refl
   where
     by_value : (v : Option ℕ)
         → Same (load_valid sh p need w s v) ((if is_some v then false else line_overflows sh (line_of w) s) && not (is_solo s.phase))
-    by_value (Some x) = finished-stays p need x (used w s) (ap overflows (used-phase w s) ∙ e)
+    by_value (Some x) = finished-stays p need x (with_read_mark w s) (ap overflows (used-phase w s) ∙ e)
     by_value None = fetch-alone sh (line_of w) s e
 
     by : (o v : Option ℕ) → v ≡ s.cache.value w → Same (load_spilled sh p need w s o)
@@ -110,7 +111,7 @@ load-alone sh p need w s e = by (s.spilled w) (s.cache.value w) refl
 
 partial-alone : (sh : Shape) (p : Program) (need : Need) (w : ℕ) (s : CoreState) → overflows s.phase ≡ false
     → Same (partial_store sh p need w s) (word_overflows sh w s && not (is_solo s.phase))
-unfolding partial_store word_overflows buffered framed
+unfolding partial_store word_overflows stored_in_buffer stored_in_frame
 partial-alone sh p need w s e = by (s.spilled w) (s.cache.value w) refl
   where
     either : (b : Bool) (x y : Out) → overflows x.core.phase ≡ false → overflows y.core.phase ≡ false
@@ -130,7 +131,7 @@ partial-alone sh p need w s e = by (s.spilled w) (s.cache.value w) refl
 
 store-alone : (sh : Shape) (p : Program) (need : Need) (w x : ℕ) (s : CoreState) → overflows s.phase ≡ false
     → Same (word_store sh p need w x s) (store_overflows sh w s && not (is_solo s.phase))
-unfolding word_store full_set store_overflows buffered framed place overflow
+unfolding word_store full_set store_overflows stored_in_buffer stored_in_frame place overflow
 store-alone sh p need w x s e =
     by (holds s.spilled (line_of w)) (s.cache.held (line_of w)) (is_some (free_way sh s.cache (set_of sh (line_of w))))
     (all_marked sh s.cache (set_of sh (line_of w))) (is_solo s.phase) _ _ _ _
@@ -149,13 +150,13 @@ store-alone sh p need w x s e =
     by false false false false true t u v z o p q r = refl
     by false false false false false t u v z o p q r = refl
 
-after-stays : (o : Outcome) → overflows (phase_after o) ≡ false
+after-stays : (o : Outcome) → overflows (phase_after_commit o) ≡ false
 after-stays Goes = refl
 after-stays Ended = refl
 after-stays (HaltedWith code) = refl
 after-stays (TrappedWith code) = refl
 
-close-alone : (sh : Shape) (id : ℕ) (q : Phase) (t : CoreState) → overflows (close sh id q t).core.phase ≡ false
+close-alone : (sh : Shape) (id : ℕ) (q : Phase) (t : CoreState) → overflows (end_transaction sh id q t).core.phase ≡ false
 unfolding solo_commit committed_core
 close-alone sh id (Solo u) t = after-stays t.ended
 close-alone sh id Running t = refl
@@ -197,7 +198,7 @@ runs-alone sh p id s e =
 
 -- and no other one does
 pub others-stay : (sh : Shape) (p : Program) (id : ℕ) (s : CoreState) (q : CodePhase) → s.phase ≡ phase_of q → q ≢ code.Running
-    → goes_alone (exec_phase sh p id s (phase_of q)) ≡ false
+    → goes_alone (exec_in_phase sh p id s (phase_of q)) ≡ false
 unfolding commit committed_core
 others-stay sh p id s code.Running e n = absurd (n refl)
 others-stay sh p id s (code.Solo t) e n = by s.awaited

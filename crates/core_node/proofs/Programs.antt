@@ -9,8 +9,8 @@ use Rattle.tcc_maps.specs.CacheChange.{marked}
 use Rattle.tcc_maps.specs.Spilled.{holds}
 use Rattle.tcc_maps.specs.Words.{line_of}
 use Rattle.tcc_rules.specs.State.{CoreState}
-use Rattle.tcc_rules.specs.Attempt.{Out, moves, is_solo, is_running, new_word, stepped, finished}
-use Rattle.tcc_rules.specs.Execute.{ask, overflow, place, used, buffered, framed, also_read, full_set, fetch, load, load_spilled, load_valid, word_store, partial_store, change_spilled, change_valid, close, execute_need}
+use Rattle.tcc_rules.specs.Attempt.{Out, moves, is_solo, is_running, new_word, one_more_instruction, finished}
+use Rattle.tcc_rules.specs.Execute.{request_line, overflow, place, with_read_mark, stored_in_buffer, stored_in_frame, marks_read, full_set, miss, load, load_spilled, load_valid, word_store, partial_store, change_spilled, change_valid, end_transaction, execute_need}
 use Rattle.tcc_rules.specs.Sends.{nothing}
 
 -- two programs do the same at these registers and pc
@@ -18,7 +18,7 @@ abbrev pub SameAt : Program → Program → Local → Type 0
 SameAt p q l = (loaded : Option ℕ) → p.after l loaded ≡ q.after l loaded
 
 pub finished_same : (p q : Program) (n : Need) (x : ℕ) (s : CoreState) → SameAt p q s.local → finished p n x s ≡ finished q n x s
-unfolding finished stepped
+unfolding finished one_more_instruction
 finished_same p q Nothing x s e = rw (e None) refl
 finished_same p q (Loads addr size) x s e = rw (e (Some (part x addr size))) refl
 finished_same p q (Stores addr size value) x s e = rw (e None) refl
@@ -28,8 +28,8 @@ finished_same p q Ends x s e = rw (e None) refl
 finished_same p q (Halts code) x s e = refl
 finished_same p q (Traps code) x s e = refl
 
-used-local : (w : ℕ) (s : CoreState) → (used w s).local ≡ s.local
-unfolding used
+used-local : (w : ℕ) (s : CoreState) → (with_read_mark w s).local ≡ s.local
+unfolding with_read_mark
 used-local w s = by (is_running s.phase)
   where
     by : (b : Bool) → (if b then record s { cache = marked w s.cache } else s).local ≡ s.local
@@ -42,7 +42,8 @@ load_same sh p q n w s e = spilled (s.spilled w)
   where
     valid : (o : Option ℕ) → load_valid sh p n w s o ≡ load_valid sh q n w s o
     valid None = refl
-    valid (Some x) = ap (λ (t : CoreState). Some (moves t nothing)) (finished_same p q n x (used w s) (λ o. rw (used-local w s) (e o)))
+    valid (Some x) =
+        ap (λ (t : CoreState). Some (moves t nothing)) (finished_same p q n x (with_read_mark w s) (λ o. rw (used-local w s) (e o)))
 
     spilled : (o : Option ℕ) → load_spilled sh p n w s o ≡ load_spilled sh q n w s o
     spilled None = valid (s.cache.value w)
@@ -50,22 +51,22 @@ load_same sh p q n w s e = spilled (s.spilled w)
 
 word_same : (sh : Shape) (p q : Program) (n : Need) (w x : ℕ) (s : CoreState) → SameAt p q s.local
     → word_store sh p n w x s ≡ word_store sh q n w x s
-unfolding word_store buffered framed place
+unfolding word_store stored_in_buffer stored_in_frame place
 word_same sh p q n w x s e =
-    rw (finished_same p q n x (buffered w x s) e, finished_same p q n x (framed w x false s) e, finished_same p q n x (framed w x false (place sh (line_of w) s)) e) refl
+    rw (finished_same p q n x (stored_in_buffer w x s) e, finished_same p q n x (stored_in_frame w x false s) e, finished_same p q n x (stored_in_frame w x false (place sh (line_of w) s)) e) refl
 
 partial_same : (sh : Shape) (p q : Program) (n : Need) (w : ℕ) (s : CoreState) → SameAt p q s.local
     → partial_store sh p n w s ≡ partial_store sh q n w s
-unfolding partial_store buffered framed
+unfolding partial_store stored_in_buffer stored_in_frame
 partial_same sh p q n w s e = spilled (s.spilled w)
   where
     valid : (o : Option ℕ) → change_valid sh p n w s o ≡ change_valid sh q n w s o
     valid None = refl
-    valid (Some x) = rw (finished_same p q n x (buffered w (new_word n x) s) e, finished_same p q n x (framed w (new_word n x) (also_read w s) s) e) refl
+    valid (Some x) = rw (finished_same p q n x (stored_in_buffer w (new_word n x) s) e, finished_same p q n x (stored_in_frame w (new_word n x) (marks_read w s) s) e) refl
 
     spilled : (o : Option ℕ) → change_spilled sh p n w s o ≡ change_spilled sh q n w s o
     spilled None = valid (s.cache.value w)
-    spilled (Some x) = ap (λ (t : CoreState). Some (moves t nothing)) (finished_same p q n x (buffered w (new_word n x) s) e)
+    spilled (Some x) = ap (λ (t : CoreState). Some (moves t nothing)) (finished_same p q n x (stored_in_buffer w (new_word n x) s) e)
 
 pub execute_same : (sh : Shape) (p q : Program) (id : ℕ) (s : CoreState) (n : Need) → SameAt p q s.local
     → execute_need sh p id s n ≡ execute_need sh q id s n
@@ -76,9 +77,11 @@ execute_same sh p q id s (Stores addr Half value) e = partial_same sh p q (Store
 execute_same sh p q id s (Stores addr Byte value) e = partial_same sh p q (Stores addr Byte value) (word_of sh.base addr) s e
 execute_same sh p q id s (Changes addr changed) e = partial_same sh p q (Changes addr changed) (word_of sh.base addr) s e
 execute_same sh p q id s (Prints byte) e = ap (λ (t : CoreState). Some (moves t nothing)) (finished_same p q (Prints byte) 0 s e)
-execute_same sh p q id s Ends e = ap (λ (t : CoreState). Some (close sh id s.phase t)) (finished_same p q Ends 0 s e)
-execute_same sh p q id s (Halts code) e = ap (λ (t : CoreState). Some (close sh id s.phase t)) (finished_same p q (Halts code) 0 s e)
-execute_same sh p q id s (Traps code) e = ap (λ (t : CoreState). Some (close sh id s.phase t)) (finished_same p q (Traps code) 0 s e)
+execute_same sh p q id s Ends e = ap (λ (t : CoreState). Some (end_transaction sh id s.phase t)) (finished_same p q Ends 0 s e)
+execute_same sh p q id s (Halts code) e =
+    ap (λ (t : CoreState). Some (end_transaction sh id s.phase t)) (finished_same p q (Halts code) 0 s e)
+execute_same sh p q id s (Traps code) e =
+    ap (λ (t : CoreState). Some (end_transaction sh id s.phase t)) (finished_same p q (Traps code) 0 s e)
 
 -- nothing is noted of an event
 abbrev pub Unnoted : Option Out → Type 0
@@ -93,8 +96,8 @@ unnoted_full : (sh : Shape) (l : ℕ) (s : CoreState) → Unnoted (full_set sh l
 unfolding full_set overflow
 unnoted_full sh l s = unnoted_either (is_solo s.phase || not (all_marked sh s.cache (set_of sh l))) _ _ tt refl
 
-unnoted_fetch : (sh : Shape) (l : ℕ) (s : CoreState) → Unnoted (fetch sh l s)
-unfolding fetch ask
+unnoted_fetch : (sh : Shape) (l : ℕ) (s : CoreState) → Unnoted (miss sh l s)
+unfolding miss request_line
 unnoted_fetch sh l s = unnoted_either (s.cache.held l) _ _ refl (unnoted_either (is_some (free_way sh s.cache (set_of sh l))) _ _ refl (unnoted_full sh l s))
 
 pub unnoted_load : (sh : Shape) (p : Program) (n : Need) (w : ℕ) (s : CoreState) → Unnoted (load sh p n w s)

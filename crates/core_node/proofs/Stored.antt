@@ -7,9 +7,9 @@ use Rattle.tcc_maps.specs.Cache.{Cache, IsCache, free_way, all_marked}
 use Rattle.tcc_maps.specs.CacheLook.{Look, Hit, Miss, look_store, look_line}
 use Rattle.tcc_maps.specs.Spilled.{holds}
 use Rattle.tcc_rules.specs.State.{CoreState}
-use Rattle.tcc_rules.specs.Sends.{nothing, flushed}
+use Rattle.tcc_rules.specs.Sends.{nothing, flush_line}
 use Rattle.tcc_rules.specs.Attempt.{moves, finished, new_word}
-use Rattle.tcc_rules.specs.Execute.{word_store, partial_store, change_valid, also_read, buffered, framed, place, fetch}
+use Rattle.tcc_rules.specs.Execute.{word_store, partial_store, change_valid, marks_read, stored_in_buffer, stored_in_frame, place, miss}
 use Rattle.spec_cache.specs.Look.{look_of}
 use Rattle.spec_cache.specs.declared.look.Look.{Look as CodeLook}
 use Rattle.spec_cache.specs.declared.look.Look.TheVariants as code
@@ -88,30 +88,30 @@ pub full_looks : (sh : Shape) (w : ℕ) (c : Cache) (r : CodeLook) → look_of r
 full_looks sh w c r e a = e ∙ store_absent sh w c (full_absent sh w c r e a)
 
 pub word_buffered : (sh : Shape) (p : Program) (n : Need) (w x : ℕ) (s : CoreState) → holds s.spilled (line_of w) ≡ true
-    → word_store sh p n w x s ≡ Some (moves (finished p n x (buffered w x s)) nothing)
+    → word_store sh p n w x s ≡ Some (moves (finished p n x (stored_in_buffer w x s)) nothing)
 unfolding word_store
 word_buffered sh p n w x s h = rw h refl
 
 pub word_framed : (sh : Shape) (p : Program) (n : Need) (w x : ℕ) (s : CoreState) → holds s.spilled (line_of w) ≡ false
     → s.cache.held (line_of w) ≡ true
-    → word_store sh p n w x s ≡ Some (moves (finished p n x (framed w x false s)) (flushed sh s.cache (line_of w)))
+    → word_store sh p n w x s ≡ Some (moves (finished p n x (stored_in_frame w x false s)) (flush_line sh s.cache (line_of w)))
 unfolding word_store
 word_framed sh p n w x s h e = rw (h, e) refl
 
 pub word_placed : (sh : Shape) (p : Program) (n : Need) (w x : ℕ) (s : CoreState) → holds s.spilled (line_of w) ≡ false
     → s.cache.held (line_of w) ≡ false → is_some (free_way sh s.cache (set_of sh (line_of w))) ≡ true
-    → word_store sh p n w x s ≡ Some (moves (finished p n x (framed w x false (place sh (line_of w) s))) nothing)
+    → word_store sh p n w x s ≡ Some (moves (finished p n x (stored_in_frame w x false (place sh (line_of w) s))) nothing)
 unfolding word_store
 word_placed sh p n w x s h e f = rw (h, e, f) refl
 
 pub word_full : (sh : Shape) (p : Program) (n : Need) (w x : ℕ) (s : CoreState) → holds s.spilled (line_of w) ≡ false
     → s.cache.held (line_of w) ≡ false → is_some (free_way sh s.cache (set_of sh (line_of w))) ≡ false
-    → word_store sh p n w x s ≡ fetch sh (line_of w) s
-unfolding word_store fetch
+    → word_store sh p n w x s ≡ miss sh (line_of w) s
+unfolding word_store miss
 word_full sh p n w x s h e f = rw (h, e, f) refl
 
 pub partial_spilled : (sh : Shape) (p : Program) (n : Need) (w x : ℕ) (s : CoreState) → s.spilled w ≡ Some x
-    → partial_store sh p n w s ≡ Some (moves (finished p n x (buffered w (new_word n x) s)) nothing)
+    → partial_store sh p n w s ≡ Some (moves (finished p n x (stored_in_buffer w (new_word n x) s)) nothing)
 unfolding partial_store
 partial_spilled sh p n w x s e = rw e refl
 
@@ -121,17 +121,17 @@ unfolding partial_store
 partial_valid sh p n w x s e f = rw (e, f) refl
 
 pub partial_missing : (sh : Shape) (p : Program) (n : Need) (w : ℕ) (s : CoreState) → s.spilled w ≡ None → s.cache.value w ≡ None
-    → partial_store sh p n w s ≡ fetch sh (line_of w) s
+    → partial_store sh p n w s ≡ miss sh (line_of w) s
 unfolding partial_store
 partial_missing sh p n w s e f = rw (e, f) refl
 
 pub change_buffered : (sh : Shape) (p : Program) (n : Need) (w x : ℕ) (s : CoreState) → holds s.spilled (line_of w) ≡ true
-    → change_valid sh p n w s (Some x) ≡ Some (moves (finished p n x (buffered w (new_word n x) s)) nothing)
+    → change_valid sh p n w s (Some x) ≡ Some (moves (finished p n x (stored_in_buffer w (new_word n x) s)) nothing)
 change_buffered sh p n w x s h = rw h refl
 
 pub change_framed : (sh : Shape) (p : Program) (n : Need) (w x : ℕ) (s : CoreState) → holds s.spilled (line_of w) ≡ false
     → change_valid sh p n w s (Some x)
-    ≡ Some (moves (finished p n x (framed w (new_word n x) (also_read w s) s)) (flushed sh s.cache (line_of w)))
+    ≡ Some (moves (finished p n x (stored_in_frame w (new_word n x) (marks_read w s) s)) (flush_line sh s.cache (line_of w)))
 change_framed sh p n w x s h = rw h refl
 
 -- a line that has a valid word has a frame

@@ -12,7 +12,7 @@ use Rattle.tcc_rules.specs.CoreEvict.{core_evict}
 use Rattle.tcc_rules.specs.CoreExec.{core_exec}
 use Rattle.tcc_rules.specs.Seen.{numbers}
 use Rattle.tcc_rules.specs.State.{World}
-use Rattle.tcc_rules.specs.Step.{is_enabled, moved, names_nodes, happens, step}
+use Rattle.tcc_rules.specs.Step.{is_enabled, if_core_moves, names_nodes, happens, step}
 use Rattle.tcc_rules.specs.Useful.{evicts, execs, is_useful}
 use Rattle.core_node.specs.Useful.{evict_is_useful, useful_evicts}
 use Rattle.core_node.proofs.Evictions.{by_set}
@@ -25,7 +25,7 @@ and_true : (b : Bool) → (b && true) ≡ b
 and_true true = refl
 and_true false = refl
 
-is_moved : (w : World) (c : ℕ) (o : Option Out) → is_some (moved w c o) ≡ is_some o
+is_moved : (w : World) (c : ℕ) (o : Option Out) → is_some (if_core_moves w c o) ≡ is_some o
 is_moved w c None = refl
 is_moved w c (Some o) = refl
 

@@ -15,7 +15,7 @@ use Rattle.tcc_maps.specs.CacheChange.{filled, placed}
 use Rattle.tcc_rules.specs.Attempt.{Out, finished, is_running, is_solo, new_word}
 use Rattle.tcc_rules.specs.CoreDeliver.{fill}
 use Rattle.tcc_rules.specs.CoreExec.{core_exec}
-use Rattle.tcc_rules.specs.Execute.{also_read, buffered, framed}
+use Rattle.tcc_rules.specs.Execute.{marks_read, stored_in_buffer, stored_in_frame}
 use Rattle.tcc_rules.specs.State.{CoreState, Awaited, Phase}
 use Rattle.commit_engine.specs.Solo.{solo_list}
 use Rattle.core_node.specs.Executing.{overflows}
@@ -96,8 +96,8 @@ need_lacks sh s _ = None
 -- a word that was found in a frame is changed, and its instruction is done
 abbrev pub changed : Program → Need → (word x : ℕ) → CoreState → CoreState
 changed p need w x s =
-    if holds s.spilled (line_of w) then finished p need x (buffered w (new_word need x) s)
-    else finished p need x (framed w (new_word need x) (also_read w s) s)
+    if holds s.spilled (line_of w) then finished p need x (stored_in_buffer w (new_word need x) s)
+    else finished p need x (stored_in_frame w (new_word need x) (marks_read w s) s)
 
 -- it executes, alone or not
 abbrev pub executes : Phase → Bool

@@ -8,12 +8,12 @@ use Rattle.tcc_rules.specs.Attempt.{is_solo}
 use Rattle.tcc_rules.specs.CoreEvict.{core_evict}
 use Rattle.tcc_rules.specs.Seen.{numbers}
 use Rattle.tcc_rules.specs.State.{CoreState, Awaited}
-use Rattle.tcc_rules.specs.Useful.{holds_written, is_set, room}
+use Rattle.tcc_rules.specs.Useful.{holds_written, is_this_set, room}
 
 -- the eviction is enabled, and words leave the way or the core waits for room in its set
 unfoldable pub evict_is_useful : Shape → Program → CoreState → (set way : ℕ) → Bool
 evict_is_useful sh p s x y =
-    is_some (core_evict sh x y s) && (holds_written s.cache (s.cache.at x y) || is_set (room sh p s) x)
+    is_some (core_evict sh x y s) && (holds_written s.cache (s.cache.at x y) || is_this_set (room sh p s) x)
 
 -- the useful evictions of a core, each by its set and way
 unfoldable pub useful_evicts : Shape → Program → CoreState → List (ℕ × ℕ)

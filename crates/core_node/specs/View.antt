@@ -34,7 +34,7 @@ core_of c = record {
   cache = maps c.cache;
   spilled = spilled c.spilled;
   awaited = awaited_of c.awaited;
-  after = after_of c.after;
+  last_commit = after_of c.after;
 }
 
 -- the line that is awaited has a frame

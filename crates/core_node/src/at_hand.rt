@@ -14,7 +14,7 @@ ghost use Rattle.tcc_maps.specs.Shape.{lines};
 ghost use Rattle.tcc_maps.specs.Words.{line_of, place_of};
 ghost use Rattle.tcc_rules.specs.Attempt.{finished};
 ghost use Rattle.tcc_rules.specs.CoreExec.{core_exec};
-ghost use Rattle.tcc_rules.specs.Execute.{execute_need, used};
+ghost use Rattle.tcc_rules.specs.Execute.{execute_need, with_read_mark};
 ghost use Rattle.commit_engine.specs.Engine.{phase_of};
 ghost use Rattle.commit_engine.specs.Sent.{HasRoom};
 ghost use Rattle.core_node.specs.Answers.{IsBlocked, IsMemory};
@@ -165,7 +165,7 @@ fn load_with_line(
     requires goes_on { GoesOn (need_of need) }
     requires exists { line_of w.0 < lines core.old.config }
     requires lacks { word_lacks core.old.config w.0 (core_of core.old) ≡ true }
-    ensures does { OnOk result (core_of core.new ≡ finished (alone inst.now) (need_of need) (get_or words.now (place_of w.0) 0) (used w.0 (lined core.old.config (line_of w.0) words.now (core_of core.old)))) }
+    ensures does { OnOk result (core_of core.new ≡ finished (alone inst.now) (need_of need) (get_or words.now (place_of w.0) 0) (with_read_mark w.0 (lined core.old.config (line_of w.0) words.now (core_of core.old)))) }
     ensures cause { OnErr result (IsMemory result) }
     ensures stays { Stays core.old core.new }
     ensures unchanged { OnErr result (core.new ≡ core.old) }

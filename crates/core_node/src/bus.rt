@@ -9,7 +9,7 @@ ghost use Rattle.tcc_maps.specs.Shape.{lines};
 ghost use Rattle.tcc_maps.specs.Words.{line_of};
 ghost use Rattle.tcc_rules.specs.Attempt.{roll_back as rolled};
 ghost use Rattle.tcc_rules.specs.Commit.{commit as commit_rule};
-ghost use Rattle.tcc_rules.specs.CoreDeliver.{without as struck};
+ghost use Rattle.tcc_rules.specs.CoreDeliver.{words_invalidated};
 ghost use Rattle.tcc_rules.specs.CoreExec.{core_exec};
 ghost use Rattle.tcc_rules.specs.State.{Running, Solo};
 ghost use Rattle.core_node.specs.Answers.{IsBlocked, IsMemory};
@@ -99,7 +99,7 @@ impl CoreNode {
     /// The masked words of the line that aren't modified are dropped, and an awaited line becomes stale. Says whether a masked word was
     /// marked read.
     pub fn strike(&mut self, line: LineAddr, mask: Mask) -> bool
-        ensures does { core_of self.new ≡ struck line.0 mask.0 (core_of self.old) }
+        ensures does { core_of self.new ≡ words_invalidated line.0 mask.0 (core_of self.old) }
         ensures read { result ≡ reads_masked line.0 mask.0 (core_of self.old).cache }
         ensures stays { Stays self.old self.new }
     {

@@ -5,8 +5,8 @@ ghost use Rattle.tcc_maps.specs.Shape.{lines, set_of};
 ghost use Rattle.tcc_maps.specs.Spilled.{holds};
 ghost use Rattle.tcc_maps.specs.Words.{line_of};
 ghost use Rattle.tcc_rules.specs.Attempt.{moves, finished, new_word as word_after};
-ghost use Rattle.tcc_rules.specs.Execute.{also_read, place as placed_in, framed, buffered, change_valid as valid_rule, partial_store as partial_rule, word_store as word_rule};
-ghost use Rattle.tcc_rules.specs.Sends.{flushed};
+ghost use Rattle.tcc_rules.specs.Execute.{marks_read, place as placed_in, stored_in_frame, stored_in_buffer, change_valid as valid_rule, partial_store as partial_rule, word_store as word_rule};
+ghost use Rattle.tcc_rules.specs.Sends.{flush_line};
 ghost use Rattle.rv_exec.specs.Needs.{need_of};
 ghost use Rattle.rv_plain.specs.Attempts.{alone};
 ghost use Rattle.spec_cache.specs.Held.{maps};
@@ -65,7 +65,7 @@ pub(crate) fn finish_buffered(
     requires counts { core.old.n < 2 ^ 32 - 1 }
     requires goes_on { GoesOn (need_of need) }
     requires exists { line_of w.0 < lines core.old.config }
-    ensures does { OnOk result (core_of core.new ≡ finished (alone inst.now) (need_of need) word (buffered w.0 value (core_of core.old))) }
+    ensures does { OnOk result (core_of core.new ≡ finished (alone inst.now) (need_of need) word (stored_in_buffer w.0 value (core_of core.old))) }
     ensures cause { OnErr result (IsMemory result) }
     ensures stays { Stays core.old core.new }
     ensures unchanged { OnErr result (core_of core.new ≡ core_of core.old) }
@@ -97,7 +97,7 @@ fn finish_framed(
     requires goes_on { GoesOn (need_of need) }
     requires held { (maps core.old.cache).held (line_of w.0) ≡ true }
     requires room { HasRoom out.old 1 }
-    ensures does { OnOk result (Did (moves (finished (alone inst.now) (need_of need) word (framed w.0 value also (core_of core.old))) (flushed core.old.config (maps core.old.cache) (line_of w.0))) 1 out.old core.new out.new) }
+    ensures does { OnOk result (Did (moves (finished (alone inst.now) (need_of need) word (stored_in_frame w.0 value also (core_of core.old))) (flush_line core.old.config (maps core.old.cache) (line_of w.0))) 1 out.old core.new out.new) }
     ensures cause { OnErr result (IsMemory result) }
     ensures stays { Stays core.old core.new }
     ensures unchanged { OnErr result (core.new ≡ core.old) }
@@ -116,7 +116,7 @@ fn store_placed(core: &mut Core, w: WordAddr, value: u32)
     requires exists { line_of w.0 < lines core.old.config }
     requires absent { (maps core.old.cache).held (line_of w.0) ≡ false }
     requires free { is_some (free_way core.old.config (maps core.old.cache) (set_of core.old.config (line_of w.0))) ≡ true }
-    ensures does { core_of core.new ≡ framed w.0 value false (placed_in core.old.config (line_of w.0) (core_of core.old)) }
+    ensures does { core_of core.new ≡ stored_in_frame w.0 value false (placed_in core.old.config (line_of w.0) (core_of core.old)) }
     ensures stays { Stays core.old core.new }
 {
     place(core, line_of_word(w));
@@ -138,7 +138,7 @@ fn finish_placed(
     requires exists { line_of w.0 < lines core.old.config }
     requires absent { (maps core.old.cache).held (line_of w.0) ≡ false }
     requires free { is_some (free_way core.old.config (maps core.old.cache) (set_of core.old.config (line_of w.0))) ≡ true }
-    ensures does { OnOk result (core_of core.new ≡ finished (alone inst.now) (need_of need) value (framed w.0 value false (placed_in core.old.config (line_of w.0) (core_of core.old)))) }
+    ensures does { OnOk result (core_of core.new ≡ finished (alone inst.now) (need_of need) value (stored_in_frame w.0 value false (placed_in core.old.config (line_of w.0) (core_of core.old)))) }
     ensures cause { OnErr result (IsMemory result) }
     ensures stays { Stays core.old core.new }
     ensures unchanged { OnErr result (core.new ≡ core.old) }
@@ -185,7 +185,7 @@ pub(crate) fn word_store(
 /// Whether a word that was found is read: not where it was modified before or the core is alone.
 #[tactic(auto, unfolding(crate::specs::View::core_of))]
 pub(crate) fn reads_too(core: &Core, w: WordAddr) -> bool
-    ensures { result ≡ also_read w.0 (core_of core.now) }
+    ensures { result ≡ marks_read w.0 (core_of core.now) }
 {
     runs(core.phase) && !core.cache.is_modified(w)
 }

@@ -2,7 +2,7 @@
 ghost use Rattle.std.specs.Prelude.{◌≡◌, ◌<◌, ◌-◌, ◌^◌, IfOk, OnOk, OnErr, None, map, [], ◌∷◌};
 ghost use Rattle.tcc_program.specs.Program.{unreserved, Ends};
 ghost use Rattle.tcc_rules.specs.Attempt.{moves, finished};
-ghost use Rattle.tcc_rules.specs.Execute.{close as close_rule};
+ghost use Rattle.tcc_rules.specs.Execute.{end_transaction};
 ghost use Rattle.tcc_rules.specs.Sends.{to};
 ghost use Rattle.tcc_rules.specs.State.{AwaitTid};
 ghost use Rattle.tcc_maps.specs.Nodes.{Vendor, TidReq};
@@ -89,8 +89,8 @@ fn close_alone(
 ) -> Result<Option<Commit>, CoreError>
     requires whole { IsCore core.old }
     requires room { core.old.n < 2 ^ 32 - 1 }
-    ensures does { OnOk result (Follows (close_rule core.old.config core.old.id.0 (phase_of (Phase.Solo tid)) (concluded state.now (outcome_of ended) (core_of core.old))) out.old core.new out.new) }
-    ensures noted { IfOk result (λ c. c ≡ (close_rule core.old.config core.old.id.0 (phase_of (Phase.Solo tid)) (concluded state.now (outcome_of ended) (core_of core.old))).commit) }
+    ensures does { OnOk result (Follows (end_transaction core.old.config core.old.id.0 (phase_of (Phase.Solo tid)) (concluded state.now (outcome_of ended) (core_of core.old))) out.old core.new out.new) }
+    ensures noted { IfOk result (λ c. c ≡ (end_transaction core.old.config core.old.id.0 (phase_of (Phase.Solo tid)) (concluded state.now (outcome_of ended) (core_of core.old))).commit) }
     ensures cause { OnErr result (IsMemory result) }
     ensures stays { Stays core.old core.new }
     ensures unchanged { OnErr result (core.new ≡ core.old) }
@@ -112,7 +112,7 @@ fn close_running(
 ) -> Result<Option<Commit>, CoreError>
     requires whole { IsCore core.old }
     requires room { core.old.n < 2 ^ 32 - 1 }
-    ensures does { OnOk result (Follows (close_rule core.old.config core.old.id.0 (phase_of Phase.Running) (concluded state.now (outcome_of ended) (core_of core.old))) out.old core.new out.new) }
+    ensures does { OnOk result (Follows (end_transaction core.old.config core.old.id.0 (phase_of Phase.Running) (concluded state.now (outcome_of ended) (core_of core.old))) out.old core.new out.new) }
     ensures noted { IfOk result (λ c. c ≡ None) }
     ensures cause { OnErr result (IsMemory result) }
     ensures stays { Stays core.old core.new }
@@ -135,8 +135,8 @@ pub(crate) fn close(
 ) -> Result<Option<Commit>, CoreError>
     requires whole { IsCore core.old }
     requires room { core.old.n < 2 ^ 32 - 1 }
-    ensures does { OnOk result (Follows (close_rule core.old.config core.old.id.0 (phase_of core.old.phase) (concluded state.now (outcome_of ended) (core_of core.old))) out.old core.new out.new) }
-    ensures noted { IfOk result (λ c. c ≡ (close_rule core.old.config core.old.id.0 (phase_of core.old.phase) (concluded state.now (outcome_of ended) (core_of core.old))).commit) }
+    ensures does { OnOk result (Follows (end_transaction core.old.config core.old.id.0 (phase_of core.old.phase) (concluded state.now (outcome_of ended) (core_of core.old))) out.old core.new out.new) }
+    ensures noted { IfOk result (λ c. c ≡ (end_transaction core.old.config core.old.id.0 (phase_of core.old.phase) (concluded state.now (outcome_of ended) (core_of core.old))).commit) }
     ensures cause { OnErr result (IsMemory result) }
     ensures stays { Stays core.old core.new }
     ensures unchanged { OnErr result (core.new ≡ core.old) }
@@ -163,8 +163,8 @@ pub(crate) fn end(
 ) -> Result<Option<Commit>, CoreError>
     requires whole { IsCore core.old }
     requires room { core.old.n < 2 ^ 32 - 1 }
-    ensures does { OnOk result (Follows (close_rule core.old.config core.old.id.0 (phase_of core.old.phase) (finished (alone inst.now) Ends 0 (core_of core.old))) out.old core.new out.new) }
-    ensures noted { IfOk result (λ c. c ≡ (close_rule core.old.config core.old.id.0 (phase_of core.old.phase) (finished (alone inst.now) Ends 0 (core_of core.old))).commit) }
+    ensures does { OnOk result (Follows (end_transaction core.old.config core.old.id.0 (phase_of core.old.phase) (finished (alone inst.now) Ends 0 (core_of core.old))) out.old core.new out.new) }
+    ensures noted { IfOk result (λ c. c ≡ (end_transaction core.old.config core.old.id.0 (phase_of core.old.phase) (finished (alone inst.now) Ends 0 (core_of core.old))).commit) }
     ensures cause { OnErr result (IsMemory result) }
     ensures stays { Stays core.old core.new }
     ensures unchanged { OnErr result (core.new ≡ core.old) }
@@ -184,8 +184,8 @@ pub(crate) fn stop(
 ) -> Result<Option<Commit>, CoreError>
     requires whole { IsCore core.old }
     requires room { core.old.n < 2 ^ 32 - 1 }
-    ensures does { OnOk result (Follows (close_rule core.old.config core.old.id.0 (phase_of core.old.phase) (concluded (unreserved core.old.state) (outcome_of ended) (core_of core.old))) out.old core.new out.new) }
-    ensures noted { IfOk result (λ c. c ≡ (close_rule core.old.config core.old.id.0 (phase_of core.old.phase) (concluded (unreserved core.old.state) (outcome_of ended) (core_of core.old))).commit) }
+    ensures does { OnOk result (Follows (end_transaction core.old.config core.old.id.0 (phase_of core.old.phase) (concluded (unreserved core.old.state) (outcome_of ended) (core_of core.old))) out.old core.new out.new) }
+    ensures noted { IfOk result (λ c. c ≡ (end_transaction core.old.config core.old.id.0 (phase_of core.old.phase) (concluded (unreserved core.old.state) (outcome_of ended) (core_of core.old))).commit) }
     ensures cause { OnErr result (IsMemory result) }
     ensures stays { Stays core.old core.new }
     ensures unchanged { OnErr result (core.new ≡ core.old) }

@@ -1,6 +1,6 @@
 // A transaction commits: what goes out, what is noted, and how the core goes on.
 ghost use Rattle.std.specs.Prelude.{◌≡◌, ◌+◌, ◌*◌, [], length, map, Some};
-ghost use Rattle.tcc_rules.specs.Commit.{commit as commit_rule, ended_after as ended_by, noted, phase_after as phase_by, solo_commit as solo_rule};
+ghost use Rattle.tcc_rules.specs.Commit.{commit as commit_rule, ended_after_commit, noted, phase_after_commit, solo_commit as solo_rule};
 ghost use Rattle.tcc_maps.specs.CacheChange.{words_dropped};
 ghost use Rattle.tcc_maps.specs.Spilled.{none_spilled};
 ghost use Rattle.spec_cache.specs.Held.{maps};
@@ -24,7 +24,7 @@ use tcc_msg::Outgoing;
 
 /// After a halt or a trap a core has halted, else it runs on.
 fn phase_after(ended: Outcome) -> Phase
-    ensures { phase_of result ≡ phase_by (outcome_of ended) }
+    ensures { phase_of result ≡ phase_after_commit (outcome_of ended) }
 {
     match ended {
         Outcome::Goes => Phase::Running,
@@ -36,7 +36,7 @@ fn phase_after(ended: Outcome) -> Phase
 
 /// How a core stands after the commit of a transaction that ended like this.
 fn ended_after(ended: Outcome) -> Outcome
-    ensures { outcome_of result ≡ ended_by (outcome_of ended) }
+    ensures { outcome_of result ≡ ended_after_commit (outcome_of ended) }
 {
     match ended {
         Outcome::Goes => Outcome::Goes,
@@ -74,8 +74,8 @@ fn go_on(core: &mut Core)
     requires whole { IsCore core.old }
     ensures does { core_of core.new ≡ record (core_of core.old) {
       saved = core.old.state;
-      ended = ended_by (outcome_of core.old.ended);
-      phase = phase_by (outcome_of core.old.ended);
+      ended = ended_after_commit (outcome_of core.old.ended);
+      phase = phase_after_commit (outcome_of core.old.ended);
     } }
     ensures stays { Stays core.old core.new }
 {

@@ -4,7 +4,7 @@ ghost use Rattle.tcc_maps.specs.CacheChange.{evicted};
 ghost use Rattle.tcc_maps.specs.Spilled.{spill_line};
 ghost use Rattle.tcc_rules.specs.Attempt.{is_solo};
 ghost use Rattle.tcc_rules.specs.CoreEvict.{core_evict, is_awaited};
-ghost use Rattle.tcc_rules.specs.Sends.{written_back};
+ghost use Rattle.tcc_rules.specs.Sends.{write_back_line};
 ghost use Rattle.spec_cache.specs.Held.{maps};
 ghost use Rattle.overflow_buf.specs.Kept.{spilled};
 ghost use Rattle.commit_engine.specs.Engine.{phase_of};
@@ -108,7 +108,7 @@ fn empty(core: &mut Core, set: u16, way: u8, out: &mut Outgoing)
     requires way_exists { way < core.old.config.ways }
     requires room { HasRoom out.old 1 }
     ensures maps { maps core.new.cache ≡ evicted set way (maps core.old.cache) }
-    ensures sent { IfSome ((maps core.old.cache).at set way) (λ l. Sent out.old out.new (written_back core.old.config (maps core.old.cache) l) 1) }
+    ensures sent { IfSome ((maps core.old.cache).at set way) (λ l. Sent out.old out.new (write_back_line core.old.config (maps core.old.cache) l) 1) }
     ensures config { core.new.cache.config ≡ core.old.cache.config }
     ensures others { core.new ≡ record core.old { cache = core.new.cache } }
 {

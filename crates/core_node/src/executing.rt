@@ -4,7 +4,7 @@ ghost use Rattle.tcc_maps.specs.Shape.{lines};
 ghost use Rattle.tcc_maps.specs.Words.{line_of};
 ghost use Rattle.tcc_program.specs.Ram.{word_of};
 ghost use Rattle.tcc_rules.specs.Attempt.{finished};
-ghost use Rattle.tcc_rules.specs.Execute.{store as store_rule, execute_need as need_rule};
+ghost use Rattle.tcc_rules.specs.Execute.{store_by_size, execute_need as need_rule};
 ghost use Rattle.tcc_rules.specs.Useful.{room_for_need};
 ghost use Rattle.rv_code.specs.Served.{Lies, IsServed};
 ghost use Rattle.rv_exec.specs.Needs.{need_of};
@@ -68,8 +68,8 @@ fn store(
     requires stores { need ≡ Need.Store addr size value }
     requires served { IsServed core.old.config.base core.old.config.ram need }
     requires room { HasRoom out.old 1 }
-    ensures does { OnOk result (DidSome (store_rule core.old.config (alone inst.now) addr size value (core_of core.old)) 1 out.old core.new out.new) }
-    ensures blocked { IsBlocked result (store_rule core.old.config (alone inst.now) addr size value (core_of core.old)) }
+    ensures does { OnOk result (DidSome (store_by_size core.old.config (alone inst.now) addr size value (core_of core.old)) 1 out.old core.new out.new) }
+    ensures blocked { IsBlocked result (store_by_size core.old.config (alone inst.now) addr size value (core_of core.old)) }
     ensures stays { Stays core.old core.new }
     ensures unchanged { OnErr result (core_of core.new ≡ core_of core.old) }
     ensures unsent { OnErr result (out.new ≡ out.old) }

@@ -3,7 +3,7 @@ ghost use Rattle.std.specs.Prelude.{ℕ, ◌≡◌, ◌<◌, ◌-◌, ◌^◌, O
 ghost use Rattle.tcc_program.specs.Plain.{load_of, store_of};
 ghost use Rattle.tcc_base.specs.declared.access.Size.TheVariants.{Word};
 ghost use Rattle.tcc_rules.specs.State.{CoreState};
-ghost use Rattle.tcc_rules.specs.Attempt.{stepped, finished};
+ghost use Rattle.tcc_rules.specs.Attempt.{one_more_instruction, finished};
 ghost use Rattle.rv_exec.specs.Needs.{need_of};
 ghost use Rattle.rv_plain.specs.Attempts.{alone};
 ghost use Rattle.core_node.specs.Executing.{noted, given as given_by, GoesOn};
@@ -32,11 +32,11 @@ pub(crate) fn given(need: Need, word: u32) -> Option<u32>
 }
 
 /// The next instruction, with the loaded bytes where there are any.
-#[tactic(auto, unfolding(crate::specs::View::core_of, tcc_rules::specs::Attempt::stepped))]
+#[tactic(auto, unfolding(crate::specs::View::core_of, tcc_rules::specs::Attempt::one_more_instruction))]
 pub(crate) fn step(core: &mut Core, inst: &Inst, loaded: Option<u32>)
     requires whole { IsCore core.old }
     requires room { core.old.n < 2 ^ 32 - 1 }
-    ensures does { core_of core.new ≡ stepped (alone inst.now) loaded (core_of core.old) }
+    ensures does { core_of core.new ≡ one_more_instruction (alone inst.now) loaded (core_of core.old) }
     ensures phase { core.new.phase ≡ core.old.phase }
     ensures awaited { core.new.awaited ≡ core.old.awaited }
     ensures stays { Stays core.old core.new }

@@ -2,7 +2,8 @@
 ghost use Rattle.std.specs.Prelude.{◌≡◌, ◌≤◌, ◌==◌, ◌&&◌, ◌*◌, ◌<◌, length, map, Some, None};
 ghost use Rattle.tcc_maps.specs.Cache.{marks_by_home};
 ghost use Rattle.tcc_maps.specs.Masks.{has};
-ghost use Rattle.tcc_rules.specs.CoreDeliver.{grant_phase, probing, reply_phase, when_ready, when_alone, replied};
+ghost use Rattle.tcc_rules.specs.CoreDeliver.{grant_in_phase, probing_or_ready, reply_in_phase, ready_once_replied, solo_once_replied};
+ghost use Rattle.tcc_rules.specs.CoreDeliver.{replied};
 ghost use Rattle.tcc_rules.specs.Attempt.{moves};
 ghost use Rattle.tcc_rules.specs.Sends.{nothing, to, marks_for};
 ghost use Rattle.tcc_rules.specs.State.{AwaitTid, DoomedTid, Overflowing, Probing};
@@ -26,7 +27,7 @@ use tcc_msg::Outgoing;
 fn probe_marked(core: &mut Core, tid: Tid, out: &mut Outgoing)
     requires whole { IsCore core.old }
     requires room { HasRoom out.old (2 * core.old.config.dirs) }
-    ensures does { Did (grant_phase core.old.config tid.0 (core_of core.old) AwaitTid) (2 * core.old.config.dirs) out.old core.new out.new }
+    ensures does { Did (grant_in_phase core.old.config tid.0 (core_of core.old) AwaitTid) (2 * core.old.config.dirs) out.old core.new out.new }
     ensures stays { Stays core.old core.new }
 {
     let written = written_homes(&core.config, &core.cache);
@@ -40,7 +41,7 @@ fn probe_marked(core: &mut Core, tid: Tid, out: &mut Outgoing)
 /// The phase in which a core waits for the replies of these directories, if any.
 fn awaiting(tid: Tid, probed: DirSet, dirs: u8) -> Phase
     requires { dirs ≤ 64 }
-    ensures { phase_of result ≡ probing (any_below (has probed.bits) dirs) tid.0 }
+    ensures { phase_of result ≡ probing_or_ready (any_below (has probed.bits) dirs) tid.0 }
 {
     if probed.is_empty_below(dirs) {
         Phase::Ready(tid)
@@ -54,7 +55,7 @@ fn awaiting(tid: Tid, probed: DirSet, dirs: u8) -> Phase
 fn skip_granted(core: &mut Core, tid: Tid, out: &mut Outgoing)
     requires whole { IsCore core.old }
     requires room { HasRoom out.old (2 * core.old.config.dirs) }
-    ensures does { Did (grant_phase core.old.config tid.0 (core_of core.old) DoomedTid) (2 * core.old.config.dirs) out.old core.new out.new }
+    ensures does { Did (grant_in_phase core.old.config tid.0 (core_of core.old) DoomedTid) (2 * core.old.config.dirs) out.old core.new out.new }
     ensures stays { Stays core.old core.new }
 {
     send_skips(&core.config, tid, out);
@@ -66,7 +67,7 @@ fn skip_granted(core: &mut Core, tid: Tid, out: &mut Outgoing)
 fn probe_all(core: &mut Core, tid: Tid, out: &mut Outgoing)
     requires whole { IsCore core.old }
     requires room { HasRoom out.old (2 * core.old.config.dirs) }
-    ensures does { Did (grant_phase core.old.config tid.0 (core_of core.old) (Overflowing None)) (2 * core.old.config.dirs) out.old core.new out.new }
+    ensures does { Did (grant_in_phase core.old.config tid.0 (core_of core.old) (Overflowing None)) (2 * core.old.config.dirs) out.old core.new out.new }
     ensures stays { Stays core.old core.new }
 {
     send_probes(&core.config, tid, out);
@@ -78,7 +79,7 @@ fn probe_all(core: &mut Core, tid: Tid, out: &mut Outgoing)
 fn grant_room(core: &mut Core, own: Option<Tid>, tid: Tid, out: &mut Outgoing)
     requires whole { IsCore core.old }
     requires room { HasRoom out.old (2 * core.old.config.dirs) }
-    ensures does { Did (grant_phase core.old.config tid.0 (core_of core.old) (phase_of (Phase.Overflowing own))) (2 * core.old.config.dirs) out.old core.new out.new }
+    ensures does { Did (grant_in_phase core.old.config tid.0 (core_of core.old) (phase_of (Phase.Overflowing own))) (2 * core.old.config.dirs) out.old core.new out.new }
     ensures stays { Stays core.old core.new }
 {
     match own {
@@ -92,7 +93,7 @@ fn grant_room(core: &mut Core, own: Option<Tid>, tid: Tid, out: &mut Outgoing)
 pub(crate) fn grant(core: &mut Core, tid: Tid, out: &mut Outgoing)
     requires whole { IsCore core.old }
     requires room { HasRoom out.old (2 * core.old.config.dirs) }
-    ensures does { Did (grant_phase core.old.config tid.0 (core_of core.old) (phase_of core.old.phase)) (2 * core.old.config.dirs) out.old core.new out.new }
+    ensures does { Did (grant_in_phase core.old.config tid.0 (core_of core.old) (phase_of core.old.phase)) (2 * core.old.config.dirs) out.old core.new out.new }
     ensures stays { Stays core.old core.new }
 {
     match core.phase {
@@ -114,7 +115,7 @@ fn mark_replied(core: &mut Core, d: DirId, tid: Tid, marks: &[(LineAddr, Mask)],
     requires exists { d.0 < core.old.config.dirs }
     requires marks { map mark_of marks.now ≡ marks_by_home core.old.config (maps core.old.cache) d.0 }
     requires room { HasRoom out.old (length marks.now) }
-    ensures does { Did (moves (when_ready core.old.config tid.0 (replied d.0 (core_of core.old))) (to (Dir d.0) (marks_for core.old.config (maps core.old.cache) tid.0 d.0))) (length marks.now) out.old core.new out.new }
+    ensures does { Did (moves (ready_once_replied core.old.config tid.0 (replied d.0 (core_of core.old))) (to (Dir d.0) (marks_for core.old.config (maps core.old.cache) tid.0 d.0))) (length marks.now) out.old core.new out.new }
     ensures stays { Stays core.old core.new }
 {
     let dirs = core.config.dirs();
@@ -131,7 +132,7 @@ fn mark_replied(core: &mut Core, d: DirId, tid: Tid, marks: &[(LineAddr, Mask)],
 fn count_alone(core: &mut Core, d: DirId, tid: Tid)
     requires whole { IsCore core.old }
     requires exists { d.0 < core.old.config.dirs }
-    ensures does { core_of core.new ≡ when_alone core.old.config tid.0 (replied d.0 (core_of core.old)) }
+    ensures does { core_of core.new ≡ solo_once_replied core.old.config tid.0 (replied d.0 (core_of core.old)) }
     ensures stays { Stays core.old core.new }
 {
     let dirs = core.config.dirs();
@@ -165,7 +166,7 @@ fn reply_probing(
     requires exists { d.0 < core.old.config.dirs }
     requires marks { map mark_of marks.now ≡ marks_by_home core.old.config (maps core.old.cache) d.0 }
     requires room { HasRoom out.old (length marks.now) }
-    ensures does { Did (reply_phase core.old.config d.0 tid.0 (core_of core.old) (Probing own.0)) (length marks.now) out.old core.new out.new }
+    ensures does { Did (reply_in_phase core.old.config d.0 tid.0 (core_of core.old) (Probing own.0)) (length marks.now) out.old core.new out.new }
     ensures stays { Stays core.old core.new }
 {
     let _dirs = core.config.dirs();
@@ -179,7 +180,7 @@ fn reply_probing(
 fn reply_overflowing(core: &mut Core, own: Tid, d: DirId, tid: Tid)
     requires whole { IsCore core.old }
     requires exists { d.0 < core.old.config.dirs }
-    ensures does { reply_phase core.old.config d.0 tid.0 (core_of core.old) (Overflowing (Some own.0)) ≡ moves (core_of core.new) nothing }
+    ensures does { reply_in_phase core.old.config d.0 tid.0 (core_of core.old) (Overflowing (Some own.0)) ≡ moves (core_of core.new) nothing }
     ensures stays { Stays core.old core.new }
 {
     let _dirs = core.config.dirs();
@@ -192,7 +193,7 @@ fn reply_overflowing(core: &mut Core, own: Tid, d: DirId, tid: Tid)
 fn reply_room(core: &mut Core, own: Option<Tid>, d: DirId, tid: Tid)
     requires whole { IsCore core.old }
     requires exists { d.0 < core.old.config.dirs }
-    ensures does { reply_phase core.old.config d.0 tid.0 (core_of core.old) (phase_of (Phase.Overflowing own)) ≡ moves (core_of core.new) nothing }
+    ensures does { reply_in_phase core.old.config d.0 tid.0 (core_of core.old) (phase_of (Phase.Overflowing own)) ≡ moves (core_of core.new) nothing }
     ensures stays { Stays core.old core.new }
 {
     match own {
@@ -214,7 +215,7 @@ pub(crate) fn reply(
     requires exists { d.0 < core.old.config.dirs }
     requires marks { map mark_of marks.now ≡ marks_by_home core.old.config (maps core.old.cache) d.0 }
     requires room { HasRoom out.old (length marks.now) }
-    ensures does { Did (reply_phase core.old.config d.0 tid.0 (core_of core.old) (phase_of core.old.phase)) (length marks.now) out.old core.new out.new }
+    ensures does { Did (reply_in_phase core.old.config d.0 tid.0 (core_of core.old) (phase_of core.old.phase)) (length marks.now) out.old core.new out.new }
     ensures stays { Stays core.old core.new }
 {
     match core.phase {

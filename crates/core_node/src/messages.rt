@@ -2,7 +2,7 @@
 ghost use Rattle.std.specs.Prelude.{◌≡◌, ◌+◌, ◌&&◌};
 ghost use Rattle.tcc_maps.specs.Cache.{Cache};
 ghost use Rattle.tcc_maps.specs.CacheLook.{reads_masked};
-ghost use Rattle.tcc_rules.specs.CoreDeliver.{fill as fill_rule, data_request as data_request_rule, invalidate as invalidate_rule, is_above as is_above_tid, staled as staled_by, without as struck, if_violated};
+ghost use Rattle.tcc_rules.specs.CoreDeliver.{fill as fill_rule, data_request as data_request_rule, invalidate as invalidate_rule, may_be_above, staled as staled_by, words_invalidated, if_violated};
 ghost use Rattle.spec_cache.specs.Held.{maps};
 ghost use Rattle.commit_engine.specs.Engine.{phase_of};
 ghost use Rattle.commit_engine.specs.Sent.{HasRoom};
@@ -62,7 +62,7 @@ pub(crate) fn flush_of(back: Tagged) -> Msg
 
 /// Whether the core's TID isn't known, or is above this one.
 pub(crate) fn is_above(tid: Tid, phase: Phase) -> bool
-    ensures { result ≡ is_above_tid tid.0 (phase_of phase) }
+    ensures { result ≡ may_be_above tid.0 (phase_of phase) }
 {
     match phase {
         Phase::Running => true,
@@ -93,10 +93,10 @@ pub(crate) fn staled(line: LineAddr, awaited: Option<Awaited>) -> Option<Awaited
 
 /// The masked words that aren't modified are dropped, and an awaited line becomes stale. Says whether a masked word was
 /// marked read.
-#[tactic(auto, unfolding(crate::specs::View::core_of, tcc_rules::specs::CoreDeliver::without, tcc_maps::specs::CacheChange::invalidated))]
+#[tactic(auto, unfolding(crate::specs::View::core_of, tcc_rules::specs::CoreDeliver::words_invalidated, tcc_maps::specs::CacheChange::invalidated))]
 pub(crate) fn strike(core: &mut Core, line: LineAddr, mask: Mask) -> bool
     requires { IsCore core.old }
-    ensures does { core_of core.new ≡ struck line.0 mask.0 (core_of core.old) }
+    ensures does { core_of core.new ≡ words_invalidated line.0 mask.0 (core_of core.old) }
     ensures read { result ≡ reads_masked line.0 mask.0 (maps core.old.cache) }
     ensures phase { core.new.phase ≡ core.old.phase }
     ensures stays { Stays core.old core.new }

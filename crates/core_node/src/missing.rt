@@ -2,7 +2,7 @@
 ghost use Rattle.std.specs.Prelude.{◌≡◌, ◌<◌, true, false, is_some, None, Err, OnOk, OnErr};
 ghost use Rattle.tcc_maps.specs.Cache.{free_way};
 ghost use Rattle.tcc_maps.specs.Shape.{lines, set_of};
-ghost use Rattle.tcc_rules.specs.Execute.{ask as ask_rule, place as placed_in, overflow as overflow_rule, fetch as fetch_rule};
+ghost use Rattle.tcc_rules.specs.Execute.{request_line, place as placed_in, overflow as overflow_rule, miss};
 ghost use Rattle.tcc_maps.specs.CacheLook.{Miss as Misses, look_line};
 ghost use Rattle.spec_cache.specs.Held.{maps};
 ghost use Rattle.spec_cache.specs.Look.{look_of};
@@ -31,12 +31,12 @@ fn last_commit(after: &[Tid; 64], d: DirId) -> Tid
 }
 
 /// A request for the line goes to its home, and the core awaits it. The line has a frame.
-#[tactic(auto, unfolding(crate::specs::View::core_of, tcc_rules::specs::Execute::ask))]
+#[tactic(auto, unfolding(crate::specs::View::core_of, tcc_rules::specs::Execute::request_line))]
 pub(crate) fn ask(core: &mut Core, line: LineAddr, out: &mut Outgoing)
     requires whole { IsCore core.old }
     requires held { (maps core.old.cache).held line.0 ≡ true }
     requires room { HasRoom out.old 1 }
-    ensures does { Did (ask_rule core.old.config line.0 (core_of core.old)) 1 out.old core.new out.new }
+    ensures does { Did (request_line core.old.config line.0 (core_of core.old)) 1 out.old core.new out.new }
     ensures stays { Stays core.old core.new }
 {
     let home = core.config.home(line);
@@ -76,7 +76,7 @@ fn request(core: &mut Core, line: LineAddr, out: &mut Outgoing)
     requires exists { line.0 < lines core.old.config }
     requires found { Misses ≡ look_line core.old.config line.0 (maps core.old.cache) }
     requires room { HasRoom out.old 1 }
-    ensures does { DidSome (fetch_rule core.old.config line.0 (core_of core.old)) 1 out.old core.new out.new }
+    ensures does { DidSome (miss core.old.config line.0 (core_of core.old)) 1 out.old core.new out.new }
     ensures stays { Stays core.old core.new }
 {
     if core.cache.has_frame(line) {
@@ -99,8 +99,8 @@ pub(crate) fn fetch(
     requires exists { line.0 < lines core.old.config }
     requires found { look_of found ≡ look_line core.old.config line.0 (maps core.old.cache) }
     requires room { HasRoom out.old 1 }
-    ensures does { OnOk result (DidSome (fetch_rule core.old.config line.0 (core_of core.old)) 1 out.old core.new out.new) }
-    ensures blocked { OnErr result (fetch_rule core.old.config line.0 (core_of core.old) ≡ None) }
+    ensures does { OnOk result (DidSome (miss core.old.config line.0 (core_of core.old)) 1 out.old core.new out.new) }
+    ensures blocked { OnErr result (miss core.old.config line.0 (core_of core.old) ≡ None) }
     ensures cause { OnErr result (result ≡ Err CoreError.Blocked) }
     ensures stays { Stays core.old core.new }
     ensures unchanged { OnErr result (core.new ≡ core.old) }

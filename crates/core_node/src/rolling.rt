@@ -4,7 +4,7 @@ ghost use Rattle.tcc_maps.specs.Spilled.{none_spilled};
 ghost use Rattle.tcc_rules.specs.State.{Running, DoomedTid};
 ghost use Rattle.tcc_rules.specs.Sends.{abort_written, skip_all};
 ghost use Rattle.tcc_rules.specs.Attempt.{moves, roll_back as rolled};
-ghost use Rattle.tcc_rules.specs.CoreDeliver.{violated_in, if_violated};
+ghost use Rattle.tcc_rules.specs.CoreDeliver.{violated_in_phase, if_violated};
 ghost use Rattle.spec_cache.specs.Held.{maps};
 ghost use Rattle.commit_engine.specs.Engine.{phase_of};
 ghost use Rattle.commit_engine.specs.Sent.{HasRoom};
@@ -77,7 +77,7 @@ fn give_way(core: &mut Core, tid: Tid, out: &mut Outgoing)
 fn give_room_up(core: &mut Core, own: Option<Tid>, out: &mut Outgoing)
     requires whole { IsCore core.old }
     requires room { HasRoom out.old core.old.config.dirs }
-    ensures does { Did (violated_in core.old.config (core_of core.old) (phase_of (Phase.Overflowing own))) core.old.config.dirs out.old core.new out.new }
+    ensures does { Did (violated_in_phase core.old.config (core_of core.old) (phase_of (Phase.Overflowing own))) core.old.config.dirs out.old core.new out.new }
     ensures stays { Stays core.old core.new }
 {
     match own {
@@ -91,7 +91,7 @@ fn give_room_up(core: &mut Core, own: Option<Tid>, out: &mut Outgoing)
 pub(crate) fn give_up(core: &mut Core, out: &mut Outgoing)
     requires whole { IsCore core.old }
     requires room { HasRoom out.old core.old.config.dirs }
-    ensures does { Did (violated_in core.old.config (core_of core.old) (phase_of core.old.phase)) core.old.config.dirs out.old core.new out.new }
+    ensures does { Did (violated_in_phase core.old.config (core_of core.old) (phase_of core.old.phase)) core.old.config.dirs out.old core.new out.new }
     ensures stays { Stays core.old core.new }
 {
     match core.phase {

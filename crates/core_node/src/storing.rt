@@ -3,8 +3,8 @@ ghost use Rattle.std.specs.Prelude.{◌≡◌, ◌<◌, true, OnOk, OnErr, is_so
 ghost use Rattle.tcc_maps.specs.Shape.{lines};
 ghost use Rattle.tcc_maps.specs.Words.{line_of};
 ghost use Rattle.tcc_rules.specs.Attempt.{moves, is_running};
-ghost use Rattle.tcc_rules.specs.Execute.{used, framed, buffered};
-ghost use Rattle.tcc_rules.specs.Sends.{flushed};
+ghost use Rattle.tcc_rules.specs.Execute.{with_read_mark, stored_in_frame, stored_in_buffer};
+ghost use Rattle.tcc_rules.specs.Sends.{flush_line};
 ghost use Rattle.spec_cache.specs.Held.{maps};
 ghost use Rattle.commit_engine.specs.Engine.{phase_of};
 ghost use Rattle.commit_engine.specs.Sent.{HasRoom};
@@ -41,23 +41,23 @@ pub(crate) fn runs(phase: Phase) -> bool
 }
 
 /// A valid word that is used is marked read, unless it is modified or the core is alone.
-#[tactic(auto, unfolding(crate::specs::View::core_of, tcc_rules::specs::Execute::used))]
+#[tactic(auto, unfolding(crate::specs::View::core_of, tcc_rules::specs::Execute::with_read_mark))]
 pub(crate) fn mark_used(core: &mut Core, w: WordAddr)
     requires whole { IsCore core.old }
     requires valid { is_some ((maps core.old.cache).value w.0) ≡ true }
-    ensures does { core_of core.new ≡ used w.0 (core_of core.old) }
+    ensures does { core_of core.new ≡ with_read_mark w.0 (core_of core.old) }
     ensures stays { Stays core.old core.new }
 {
     core.cache.load(w, runs(core.phase));
 }
 
 /// Stores a word in its line's frame, and read-marks it too where `also` is set. Dirty words of the frame go home first.
-#[tactic(auto, unfolding(crate::specs::View::core_of, tcc_rules::specs::Execute::framed))]
+#[tactic(auto, unfolding(crate::specs::View::core_of, tcc_rules::specs::Execute::stored_in_frame))]
 pub(crate) fn store_framed(core: &mut Core, w: WordAddr, value: u32, also: bool, out: &mut Outgoing)
     requires whole { IsCore core.old }
     requires held { (maps core.old.cache).held (line_of w.0) ≡ true }
     requires room { HasRoom out.old 1 }
-    ensures does { Did (moves (framed w.0 value also (core_of core.old)) (flushed core.old.config (maps core.old.cache) (line_of w.0))) 1 out.old core.new out.new }
+    ensures does { Did (moves (stored_in_frame w.0 value also (core_of core.old)) (flush_line core.old.config (maps core.old.cache) (line_of w.0))) 1 out.old core.new out.new }
     ensures stays { Stays core.old core.new }
 {
     let home = NodeId::Dir(core.config.home(line_of_word(w)));
@@ -68,11 +68,11 @@ pub(crate) fn store_framed(core: &mut Core, w: WordAddr, value: u32, also: bool,
 }
 
 /// Stores a word in the overflow buffer. After want of memory it is as before.
-#[tactic(auto, unfolding(crate::specs::View::core_of, tcc_rules::specs::Execute::buffered))]
+#[tactic(auto, unfolding(crate::specs::View::core_of, tcc_rules::specs::Execute::stored_in_buffer))]
 pub(crate) fn store_buffered(core: &mut Core, w: WordAddr, value: u32) -> Result<(), NoMemory>
     requires whole { IsCore core.old }
     requires exists { line_of w.0 < lines core.old.config }
-    ensures does { OnOk result (core_of core.new ≡ buffered w.0 value (core_of core.old)) }
+    ensures does { OnOk result (core_of core.new ≡ stored_in_buffer w.0 value (core_of core.old)) }
     ensures n { core.new.n ≡ core.old.n }
     ensures stays { Stays core.old core.new }
     ensures unchanged { OnErr result (core_of core.new ≡ core_of core.old) }

@@ -109,14 +109,14 @@ ask-asks ls ws sv n next b a o l q f p = asks ((node.Core o, code.DataReq l) ∷
 
 pub fill-fills : (ls : Pages) (ws : Words) (sv : Serving) (n : ℕ) (next : Pages) (b a : Sent) (c : CoreId) (l : LineAddr) (xs : List ℕ)
     → kept next ≡ with_sharer l.0 c.0 true (kept ls) → ((e : ℕ → ℕ) → xs ≡ eight (λ k. words_at e ws (word_at l.0 k))) → a ≡ b ++ (node.Core c, code.Fill l xs) ∷ []
-    → Gives (parts ls ws sv n) (parts next ws sv n) b a Done (λ s. rules.load_owned c.0 l.0 s None)
-unfolding dir_of rules.line_words
+    → Gives (parts ls ws sv n) (parts next ws sv n) b a Done (λ s. rules.load_unless_owned c.0 l.0 s None)
+unfolding dir_of rules.home_words
 fill-fills ls ws sv n next b a c l xs q w p = takes ((node.Core c, code.Fill l xs) ∷ []) p (λ e.
     ap (λ ys. rules.Takes (record { words = words_at e ws; serving = sv; lines = with_sharer l.0 c.0 true (kept ls); owed = n }) (to (Core c.0) (Fill l.0 ys ∷ []))) (sym (w e))
     ∙ (λ i. rules.Takes (record { words = words_at e ws; serving = sv; lines = sym q i; owed = n }) (sent-one (node.Core c) (code.Fill l xs) i)))
 
 pub mark-marks : (ls : Pages) (ws : Words) (sv : Serving) (n : ℕ) (next : Pages) (b : Sent) (l m : ℕ) → kept next ≡ with_mark l m (kept ls)
-    → Gives (parts ls ws sv n) (parts next ws sv n) b b Done (λ s. rules.mark_owned l m s None)
+    → Gives (parts ls ws sv n) (parts next ws sv n) b b Done (λ s. rules.mark_unless_owned l m s None)
 unfolding dir_of
 mark-marks ls ws sv n next b l m q = takes-quiet (λ e i. rules.Takes (record { words = words_at e ws; serving = sv; lines = sym q i; owed = n }) nothing)
 
@@ -127,9 +127,10 @@ unfolding dir_of rules.came_home
 home-takes ls ws sv n next came b l m xs q w = takes-quiet (λ e i. rules.Takes (record { words = sym (w e) i; serving = sv; lines = sym q i; owed = n }) nothing)
 
 pub acknowledgement-takes : (ls : Pages) (ws : Words) (sv : Serving) (n : ℕ) (next : Pages) (new : DirData) (b : Sent) (c l : ℕ) (keeps : Bool)
-    → kept next ≡ rules.unless_keeps keeps c l (kept ls) → ((e : ℕ → ℕ) → dir_of e new ≡ rules.settled (dir_of e (parts next ws sv (n - 1)))) → (n == 0) ≡ false
+    → kept next ≡ rules.unless_keeps keeps c l (kept ls) → ((e : ℕ → ℕ) → dir_of e new ≡ rules.moved_on_if_settled (dir_of e (parts next ws sv (n - 1)))) → (n == 0) ≡ false
     → Gives (parts ls ws sv n) new b b Done (rules.acknowledgement c l keeps)
 unfolding dir_of
 acknowledgement-takes ls ws sv n next new b c l keeps q w f = takes-quiet (λ e. acknowledgement-owed c l keeps (dir_of e (parts ls ws sv n)) f
-    ∙ (ap (λ k. rules.Takes (rules.settled (record { words = words_at e ws; serving = sv; lines = k; owed = n - 1 })) nothing) (sym q)
+    ∙ (ap (λ k. rules.Takes (rules.moved_on_if_settled (record { words = words_at e ws; serving = sv; lines = k; owed = n - 1 })) nothing)
+    (sym q)
     ∙ ap (λ s. rules.Takes s nothing) (sym (w e))))

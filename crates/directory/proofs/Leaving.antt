@@ -13,14 +13,15 @@ use Rattle.tcc_maps.specs.Nodes.{Core, DataReq, Inv, InvAck}
 use Rattle.tcc_maps.specs.Shape.{Shape, lines}
 use Rattle.tcc_maps.specs.Serving.{Serving, advance, skipped, kept}
 use Rattle.tcc_maps.specs.Lines.{with_asked, with_owner, with_mark, with_sharer, unmarked, has_mark}
-use Rattle.tcc_maps.specs.Judge.{Judgement, judge, Takes as IsTaken, Drops as IsDropped, Waits as IsEarly}
+use Rattle.tcc_maps.specs.Judge.{Judgement, judge, Current, Outdated, TooEarly}
 use Rattle.tcc_maps.proofs.Lemmas.{advance-rises}
 use Rattle.tcc_rules.specs.State.{DirState}
 use Rattle.tcc_rules.specs.Sends.{nothing, to}
 use Rattle.tcc_rules.specs.DirDeliver.{Answer, Waits, Drops, Asks, Takes, dir_deliver, skip, abort, probe, ask_owner, load_request}
-use Rattle.tcc_rules.specs.DirDeliver.{load_owned}
-use Rattle.tcc_rules.specs.DirDeliver.{mark, marking, mark_owned, commit, acknowledgement, unless_keeps, write_back, judged, came_home}
-use Rattle.tcc_rules.specs.DirDeliver.{moved_on, settled, owned, owed_by, invalidations}
+use Rattle.tcc_rules.specs.DirDeliver.{load_unless_owned}
+use Rattle.tcc_rules.specs.DirDeliver.{mark, mark_taken, mark_unless_owned, dir_commit, acknowledgement, unless_keeps, write_back, judged}
+use Rattle.tcc_rules.specs.DirDeliver.{came_home}
+use Rattle.tcc_rules.specs.DirDeliver.{moved_on, moved_on_if_settled, owned_by_committer, invalidation_count, invalidations}
 use Rattle.directory.specs.declared.waits.Cause.TheVariants.{Turn, Done, Line, Served, Marks}
 use Rattle.tcc_base.specs.declared.names.NodeId.{NodeId}
 use Rattle.tcc_msg.specs.declared.msg.Msg as code
@@ -114,8 +115,8 @@ moved-changed m s r e c =
       marks = λ f h. absurd (omega arith);
     }
 
-settled-changed : (m : Msg) (s r : DirState) → r.serving.serving ≡ s.serving.serving → Changed m s r → Changed m s (settled r)
-unfolding settled
+settled-changed : (m : Msg) (s r : DirState) → r.serving.serving ≡ s.serving.serving → Changed m s r → Changed m s (moved_on_if_settled r)
+unfolding moved_on_if_settled
 settled-changed m s r e c = by (r.owed == 0)
   where
     by : (b : Bool) → Changed m s (if b then moved_on r else r)
@@ -194,7 +195,7 @@ load-changed : (c l t : ℕ) (s : DirState) → Changed (LoadReq l t) s (after (
 unfolding load_request after
 load-changed c l t s = by (nat_le s.serving.serving t || has_mark s.lines l) (s.lines.owner l)
   where
-    by : (b : Bool) (o : Option ℕ) → Changed (LoadReq l t) s (after (if b then Waits else load_owned c l s o) s)
+    by : (b : Bool) (o : Option ℕ) → Changed (LoadReq l t) s (after (if b then Waits else load_unless_owned c l s o) s)
     by true o = unchanged (LoadReq l t) s
     by false None = shared-changed (LoadReq l t) l c true s
     by false (Some o) = ask-changed (LoadReq l t) o l s (λ k. refl)
@@ -213,7 +214,8 @@ unfolding mark after
 mark-changed l m t s = by (nat_lt t s.serving.serving) (nat_lt s.serving.serving t) (m == full) (s.lines.owner l)
   where
     by : (a b f : Bool) (o : Option ℕ)
-        → Changed (Mark l m t) s (after (if a then Drops else (if b then Waits else (if f then marking l m s else mark_owned l m s o))) s)
+        → Changed (Mark l m t) s
+        (after (if a then Drops else (if b then Waits else (if f then mark_taken l m s else mark_unless_owned l m s o))) s)
     by true b f o = unchanged (Mark l m t) s
     by false true f o = unchanged (Mark l m t) s
     by false false true o = marked-changed l m t s
@@ -221,8 +223,8 @@ mark-changed l m t s = by (nat_lt t s.serving.serving) (nat_lt s.serving.serving
     by false false false (Some o) = ask-changed (Mark l m t) o l s (λ k. refl)
 
 owned-changed : (sh : Shape) (c t count : ℕ) (s : DirState)
-    → Changed (Commit t count) s (record s { lines = owned c t s.lines; owed = owed_by sh s.lines c })
-unfolding owned
+    → Changed (Commit t count) s (record s { lines = owned_by_committer c t s.lines; owed = invalidation_count sh s.lines c })
+unfolding owned_by_committer
 owned-changed sh c t count s = record {
   rises = omega arith;
   unmarked = λ l f g. record { mark = refl; owner = rw g refl; asked = rw g refl; tag = rw g refl };
@@ -230,16 +232,18 @@ owned-changed sh c t count s = record {
   marks = λ f e. refl;
 }
 
-commit-changed : (sh : Shape) (c t count : ℕ) (s : DirState) → Changed (Commit t count) s (after (commit sh c t count s) s)
-unfolding commit after
+commit-changed : (sh : Shape) (c t count : ℕ) (s : DirState) → Changed (Commit t count) s (after (dir_commit sh c t count s) s)
+unfolding dir_commit after
 commit-changed sh c t count s = by (s.serving.serving == t && count_below (has_mark s.lines) (lines sh) == count)
   where
     by : (b : Bool)
         → Changed (Commit t count) s (after (if b
-        then Takes (settled (record s { lines = owned c t s.lines; owed = owed_by sh s.lines c })) (invalidations sh s.lines c t)
+        then Takes (moved_on_if_settled (record s { lines = owned_by_committer c t s.lines; owed = invalidation_count sh s.lines c }))
+        (invalidations sh s.lines c t)
         else Waits) s)
     by true =
-        settled-changed (Commit t count) s (record s { lines = owned c t s.lines; owed = owed_by sh s.lines c }) refl
+        settled-changed (Commit t count) s (record s { lines = owned_by_committer c t s.lines; owed = invalidation_count sh s.lines c })
+        refl
         (owned-changed sh c t count s)
     by false = unchanged (Commit t count) s
 
@@ -266,7 +270,7 @@ acknowledgement-changed c l keeps s = by (s.owed == 0)
     by : (b : Bool)
         → Changed (InvAck l keeps) s (after (if b
         then Drops
-        else Takes (settled (record s { lines = unless_keeps keeps c l s.lines; owed = s.owed - 1 })) nothing) s)
+        else Takes (moved_on_if_settled (record s { lines = unless_keeps keeps c l s.lines; owed = s.owed - 1 })) nothing) s)
     by true = unchanged (InvAck l keeps) s
     by false =
         settled-changed (InvAck l keeps) s (record s { lines = unless_keeps keeps c l s.lines; owed = s.owed - 1 }) refl
@@ -297,9 +301,9 @@ unfolding write_back after
 words-changed msg c l m ws g s own = by (judge (s.lines.owner l) (s.lines.tag l) c g)
   where
     by : (j : Judgement) → Changed msg s (after (judged l m ws s j) s)
-    by IsEarly = unchanged msg s
-    by IsTaken = home-changed msg l m ws s own
-    by IsDropped = unchanged msg s
+    by TooEarly = unchanged msg s
+    by Current = home-changed msg l m ws s own
+    by Outdated = unchanged msg s
 
 changed : (sh : Shape) (s : DirState) (c : ℕ) (m : Msg) → Changed m s (after (dir_deliver sh s c m) s)
 unfolding dir_deliver after

@@ -4,7 +4,7 @@ use Rattle.std.proofs.lemmas.Bool.Decides.{nat_tests}
 use borrow.Author.Tests.{lt-ltb, le-ltb, eqb-true, eqb-false}
 use Rattle.tcc_maps.specs.Words.{those}
 use Rattle.tcc_maps.specs.Lines.{Lines, has_mark, with_sharer, with_owner, with_tag, with_asked}
-use Rattle.tcc_rules.specs.DirDeliver.{owned}
+use Rattle.tcc_rules.specs.DirDeliver.{owned_by_committer}
 use Rattle.dir_lines.specs.Owned.{owned_line}
 
 pub is_in : ℕ → List ℕ → Bool
@@ -102,8 +102,8 @@ is_in-those p l (suc n) =
         rw g (ap (λ b. b || (nat_lt l n && p l)) (last (p n) ∙ (ap (λ b. p n && b) e ∙ and-false (p n))))
 
 -- all marked lines
-pub owned-all : (c t n : ℕ) (ls : Lines) → ((l : ℕ) → has_mark ls l ≡ true → l < n) → owned_some c t (those (has_mark ls) n) ls ≡ owned c t ls
-unfolding owned
+pub owned-all : (c t n : ℕ) (ls : Lines) → ((l : ℕ) → has_mark ls l ≡ true → l < n) → owned_some c t (those (has_mark ls) n) ls ≡ owned_by_committer c t ls
+unfolding owned_by_committer
 owned-all c t n ls small = λ i. record ls {
   sharers = λ l j. ap (λ b. if b && j == c then true else ls.sharers l j) (all l) i;
   owner = λ l. ap (λ b. if b then Some c else ls.owner l) (all l) i;

@@ -8,10 +8,10 @@ use Rattle.tcc_maps.specs.Nodes.{Core, ProbeReply, DataReq}
 use Rattle.tcc_maps.specs.Shape.{Shape, lines}
 use Rattle.tcc_maps.specs.Serving.{Serving, advance, skipped, kept as kept_skip}
 use Rattle.tcc_maps.specs.Lines.{with_asked, with_mark, has_mark}
-use Rattle.tcc_maps.specs.Judge.{judge, Takes as IsTaken, Drops as IsDropped, Waits as IsEarly}
+use Rattle.tcc_maps.specs.Judge.{judge, Current, Outdated, TooEarly}
 use Rattle.tcc_rules.specs.State.{DirState}
 use Rattle.tcc_rules.specs.Sends.{nothing, to}
-use Rattle.tcc_rules.specs.DirDeliver.{Waits, Drops, Asks, Takes, skip, abort, probe, ask_owner, load_owned, load_request, mark, marking, mark_owned, commit, acknowledgement, write_back, judged, came_home, moved_on, settled, owned, owed_by, invalidations, unless_keeps}
+use Rattle.tcc_rules.specs.DirDeliver.{Waits, Drops, Asks, Takes, skip, abort, probe, ask_owner, load_unless_owned, load_request, mark, mark_taken, mark_unless_owned, dir_commit, acknowledgement, write_back, judged, came_home, moved_on, moved_on_if_settled, owned_by_committer, invalidation_count, invalidations, unless_keeps}
 
 pub le-true : (a b : ℕ) → a ≤ b → nat_le a b ≡ true
 le-true a b h = grind (arith, nat_tests)
@@ -71,7 +71,7 @@ pub load-marked : (c l after : ℕ) (s : DirState) → nat_le s.serving.serving 
 unfolding load_request
 load-marked c l after s f g = rw (f, g) refl
 
-pub load-other : (c l after : ℕ) (s : DirState) → nat_le s.serving.serving after ≡ false → has_mark s.lines l ≡ false → load_request c l after s ≡ load_owned c l s (s.lines.owner l)
+pub load-other : (c l after : ℕ) (s : DirState) → nat_le s.serving.serving after ≡ false → has_mark s.lines l ≡ false → load_request c l after s ≡ load_unless_owned c l s (s.lines.owner l)
 unfolding load_request
 load-other c l after s f g = rw (f, g) refl
 
@@ -85,29 +85,30 @@ mark-early l m t s f g = rw (f, g) refl
 
 -- by the owner that is to be asked first
 pub mark-served : (l m t : ℕ) (s : DirState) → nat_lt t s.serving.serving ≡ false → nat_lt s.serving.serving t ≡ false
-    → mark l m t s ≡ mark_owned l m s (if m == full then None else s.lines.owner l)
+    → mark l m t s ≡ mark_unless_owned l m s (if m == full then None else s.lines.owner l)
 unfolding mark
 mark-served l m t s f g = rw (f, g) (by (m == full) (s.lines.owner l))
   where
-    by : (b : Bool) (o : Option ℕ) → (if b then marking l m s else mark_owned l m s o) ≡ mark_owned l m s (if b then None else o)
+    by : (b : Bool) (o : Option ℕ) →
+        (if b then mark_taken l m s else mark_unless_owned l m s o) ≡ mark_unless_owned l m s (if b then None else o)
     by true o = refl
     by false o = refl
 
-pub commit-early : (sh : Shape) (c t count : ℕ) (s : DirState) → (s.serving.serving == t) ≡ false → commit sh c t count s ≡ Waits
-unfolding commit
+pub commit-early : (sh : Shape) (c t count : ℕ) (s : DirState) → (s.serving.serving == t) ≡ false → dir_commit sh c t count s ≡ Waits
+unfolding dir_commit
 commit-early sh c t count s f = rw f refl
 
-pub commit-unmarked : (sh : Shape) (c t count : ℕ) (s : DirState) → (count_below (has_mark s.lines) (lines sh) == count) ≡ false → commit sh c t count s ≡ Waits
-unfolding commit
+pub commit-unmarked : (sh : Shape) (c t count : ℕ) (s : DirState) → (count_below (has_mark s.lines) (lines sh) == count) ≡ false → dir_commit sh c t count s ≡ Waits
+unfolding dir_commit
 commit-unmarked sh c t count s f = rw f (by (s.serving.serving == t))
   where
-    by : (b : Bool) → (if b && false then Takes (settled (record s { lines = owned c t s.lines; owed = owed_by sh s.lines c })) (invalidations sh s.lines c t) else Waits) ≡ Waits
+    by : (b : Bool) → (if b && false then Takes (moved_on_if_settled (record s { lines = owned_by_committer c t s.lines; owed = invalidation_count sh s.lines c })) (invalidations sh s.lines c t) else Waits) ≡ Waits
     by true = refl
     by false = refl
 
 pub commit-marked : (sh : Shape) (c t count : ℕ) (s : DirState) → (s.serving.serving == t) ≡ true → (count_below (has_mark s.lines) (lines sh) == count) ≡ true
-    → commit sh c t count s ≡ Takes (settled (record s { lines = owned c t s.lines; owed = owed_by sh s.lines c })) (invalidations sh s.lines c t)
-unfolding commit
+    → dir_commit sh c t count s ≡ Takes (moved_on_if_settled (record s { lines = owned_by_committer c t s.lines; owed = invalidation_count sh s.lines c })) (invalidations sh s.lines c t)
+unfolding dir_commit
 commit-marked sh c t count s f g = rw (f, g) refl
 
 pub acknowledgement-none : (c l : ℕ) (keeps : Bool) (s : DirState) → (s.owed == 0) ≡ true → acknowledgement c l keeps s ≡ Drops
@@ -115,26 +116,27 @@ unfolding acknowledgement
 acknowledgement-none c l keeps s f = rw f refl
 
 pub acknowledgement-owed : (c l : ℕ) (keeps : Bool) (s : DirState) → (s.owed == 0) ≡ false
-    → acknowledgement c l keeps s ≡ Takes (settled (record s { lines = unless_keeps keeps c l s.lines; owed = s.owed - 1 })) nothing
+    → acknowledgement c l keeps s
+    ≡ Takes (moved_on_if_settled (record s { lines = unless_keeps keeps c l s.lines; owed = s.owed - 1 })) nothing
 unfolding acknowledgement
 acknowledgement-owed c l keeps s f = rw f refl
 
-pub home-early : (c l m : ℕ) (ws : List ℕ) (g : ℕ) (s : DirState) → judge (s.lines.owner l) (s.lines.tag l) c g ≡ IsEarly → write_back c l m ws g s ≡ Waits
+pub home-early : (c l m : ℕ) (ws : List ℕ) (g : ℕ) (s : DirState) → judge (s.lines.owner l) (s.lines.tag l) c g ≡ TooEarly → write_back c l m ws g s ≡ Waits
 unfolding write_back
 home-early c l m ws g s f = ap (judged l m ws s) f
 
-pub home-dropped : (c l m : ℕ) (ws : List ℕ) (g : ℕ) (s : DirState) → judge (s.lines.owner l) (s.lines.tag l) c g ≡ IsDropped → write_back c l m ws g s ≡ Drops
+pub home-dropped : (c l m : ℕ) (ws : List ℕ) (g : ℕ) (s : DirState) → judge (s.lines.owner l) (s.lines.tag l) c g ≡ Outdated → write_back c l m ws g s ≡ Drops
 unfolding write_back
 home-dropped c l m ws g s f = ap (judged l m ws s) f
 
-pub home-taken : (c l m : ℕ) (ws : List ℕ) (g : ℕ) (s : DirState) → judge (s.lines.owner l) (s.lines.tag l) c g ≡ IsTaken → write_back c l m ws g s ≡ Takes (came_home l m ws s) nothing
+pub home-taken : (c l m : ℕ) (ws : List ℕ) (g : ℕ) (s : DirState) → judge (s.lines.owner l) (s.lines.tag l) c g ≡ Current → write_back c l m ws g s ≡ Takes (came_home l m ws s) nothing
 unfolding write_back
 home-taken c l m ws g s f = ap (judged l m ws s) f
 
-pub settled-owed : (s : DirState) → (s.owed == 0) ≡ false → settled s ≡ s
-unfolding settled
+pub settled-owed : (s : DirState) → (s.owed == 0) ≡ false → moved_on_if_settled s ≡ s
+unfolding moved_on_if_settled
 settled-owed s f = rw f refl
 
-pub settled-none : (s : DirState) → (s.owed == 0) ≡ true → settled s ≡ moved_on s
-unfolding settled
+pub settled-none : (s : DirState) → (s.owed == 0) ≡ true → moved_on_if_settled s ≡ moved_on s
+unfolding moved_on_if_settled
 settled-none s f = rw f refl

@@ -10,12 +10,13 @@ use Rattle.tcc_maps.specs.Words.{count_below}
 use Rattle.tcc_maps.specs.Masks.{full}
 use Rattle.tcc_maps.specs.Shape.{Shape, lines}
 use Rattle.tcc_maps.specs.Lines.{has_mark}
-use Rattle.tcc_maps.specs.Judge.{Judgement, judge, Takes as IsTaken, Drops as IsDropped, Waits as IsEarly}
+use Rattle.tcc_maps.specs.Judge.{Judgement, judge, Current, Outdated, TooEarly}
 use Rattle.tcc_rules.specs.State.{DirState}
-use Rattle.tcc_rules.specs.DirDeliver.{Waits, Drops, Takes, settled, owned, owed_by, invalidations, load_request, load_owned}
+use Rattle.tcc_rules.specs.DirDeliver.{Waits, Drops, Takes, moved_on_if_settled, owned_by_committer, invalidation_count, invalidations}
+use Rattle.tcc_rules.specs.DirDeliver.{load_request, load_unless_owned}
 use Rattle.tcc_rules.specs.Sends.{to}
 use Rattle.tcc_maps.specs.Nodes.{Core, ProbeReply}
-use Rattle.tcc_rules.specs.DirDeliver.{probe, mark, marking, mark_owned, commit, write_back, judged}
+use Rattle.tcc_rules.specs.DirDeliver.{probe, mark, mark_taken, mark_unless_owned, dir_commit, write_back, judged}
 use Rattle.directory.specs.declared.waits.Cause.TheVariants.{Line, Served}
 use Rattle.directory.specs.Gives.{is_taken}
 use Rattle.directory.specs.Stays.{SameLine, SameServed, SameMarks, Stays}
@@ -53,7 +54,8 @@ load-test : (c l after : ℕ) (s : DirState)
 unfolding load_request free
 load-test c l after s = by (nat_le s.serving.serving after) (nat_lt 0 (s.lines.mark l)) (s.lines.owner l)
   where
-    by : (a b : Bool) (o : Option ℕ) → is_taken (if a || b then Waits else load_owned c l s o) ≡ (not (a || b) && free o (s.lines.asked l))
+    by : (a b : Bool) (o : Option ℕ) →
+        is_taken (if a || b then Waits else load_unless_owned c l s o) ≡ (not (a || b) && free o (s.lines.asked l))
     by true b o = refl
     by false true o = refl
     by false false None = refl
@@ -76,7 +78,7 @@ unfolding mark free
 mark-test l m t s = by (nat_lt t s.serving.serving) (nat_lt s.serving.serving t) (m == full) (s.lines.owner l)
   where
     by : (a b f : Bool) (o : Option ℕ)
-        → is_taken (if a then Drops else (if b then Waits else (if f then marking l m s else mark_owned l m s o)))
+        → is_taken (if a then Drops else (if b then Waits else (if f then mark_taken l m s else mark_unless_owned l m s o)))
         ≡ (a || (not b && (f || free o (s.lines.asked l))))
     by true b f o = refl
     by false true f o = refl
@@ -91,28 +93,29 @@ mark-stays l m t s n h =
     || (not (nat_lt (h.serving i) t) && (m == full || free (h.line.owner i) (h.line.asked i)))) ∙ sym (mark-test l m t s))
 
 commit-test : (sh : Shape) (c t count : ℕ) (s : DirState)
-    → is_taken (commit sh c t count s) ≡ (s.serving.serving == t && count_below (λ l. nat_lt 0 (s.lines.mark l)) (lines sh) == count)
-unfolding commit
+    → is_taken (dir_commit sh c t count s) ≡ (s.serving.serving == t && count_below (λ l. nat_lt 0 (s.lines.mark l)) (lines sh) == count)
+unfolding dir_commit
 commit-test sh c t count s = by (s.serving.serving == t && count_below (λ l. nat_lt 0 (s.lines.mark l)) (lines sh) == count)
   where
     by : (b : Bool)
         → is_taken (if b
-        then Takes (settled (record s { lines = owned c t s.lines; owed = owed_by sh s.lines c })) (invalidations sh s.lines c t)
+        then Takes (moved_on_if_settled (record s { lines = owned_by_committer c t s.lines; owed = invalidation_count sh s.lines c }))
+        (invalidations sh s.lines c t)
         else Waits)
         ≡ b
     by true = refl
     by false = refl
 
 pub commit-stays : (sh : Shape) (c t count : ℕ) (s n : DirState) → SameMarks s n
-    → is_taken (commit sh c t count n) ≡ is_taken (commit sh c t count s)
+    → is_taken (dir_commit sh c t count n) ≡ is_taken (dir_commit sh c t count s)
 commit-stays sh c t count s n h =
     commit-test sh c t count n
     ∙ ((λ i. h.serving i == t && count_below (λ l. nat_lt 0 (h.mark i l)) (lines sh) == count) ∙ sym (commit-test sh c t count s))
 
 judged-taken : Judgement → Bool
-judged-taken IsEarly = false
-judged-taken IsTaken = true
-judged-taken IsDropped = true
+judged-taken TooEarly = false
+judged-taken Current = true
+judged-taken Outdated = true
 
 home-test : (c l m : ℕ) (ws : List ℕ) (g : ℕ) (s : DirState)
     → is_taken (write_back c l m ws g s) ≡ judged-taken (judge (s.lines.owner l) (s.lines.tag l) c g)
@@ -120,9 +123,9 @@ unfolding write_back judged-taken
 home-test c l m ws g s = by (judge (s.lines.owner l) (s.lines.tag l) c g)
   where
     by : (j : Judgement) → is_taken (judged l m ws s j) ≡ judged-taken j
-    by IsEarly = refl
-    by IsTaken = refl
-    by IsDropped = refl
+    by TooEarly = refl
+    by Current = refl
+    by Outdated = refl
 
 pub home-stays : (c l m : ℕ) (ws : List ℕ) (g : ℕ) (s n : DirState) → SameLine l s n
     → is_taken (write_back c l m ws g n) ≡ is_taken (write_back c l m ws g s)

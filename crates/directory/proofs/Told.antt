@@ -12,7 +12,7 @@ use Rattle.tcc_maps.specs.Words.{those, count_below, num}
 use Rattle.tcc_maps.specs.Shape.{Shape, lines}
 use Rattle.tcc_maps.specs.Lines.{Lines, has_mark}
 use Rattle.tcc_maps.specs.Nodes as plain
-use Rattle.tcc_rules.specs.DirDeliver.{is_invalidated, invs_to, invalidations, total, owed_by}
+use Rattle.tcc_rules.specs.DirDeliver.{is_invalidated, invs_to, invalidations, sum_below, invalidation_count}
 use Rattle.tcc_msg.specs.declared.msg.Msg.{Msg}
 use Rattle.tcc_msg.specs.declared.msg.Msg.TheVariants as code
 use Rattle.tcc_msg.specs.Plain.{sends_of}
@@ -193,23 +193,23 @@ told_all-sends sh ls c t = λ i n. by n i
     by plain.Vendor = sym (none-of ls sh.cores c t plain.Vendor (λ l m q. told-vendor l m t q sh.cores) (those (has_mark ls) (lines sh)))
 
 -- sums
-total-same : (f g : ℕ → ℕ) (n : ℕ) → ((j : ℕ) → j < n → f j ≡ g j) → total f n ≡ total g n
-unfolding total
+total-same : (f g : ℕ → ℕ) (n : ℕ) → ((j : ℕ) → j < n → f j ≡ g j) → sum_below f n ≡ sum_below g n
+unfolding sum_below
 total-same f g zero h = refl
 total-same f g (suc n) h = λ i. total-same f g n (λ j l. h j (omega arith)) i + h n (omega arith) i
 
-total-none : (n : ℕ) → total (λ j. 0) n ≡ 0
-unfolding total
+total-none : (n : ℕ) → sum_below (λ j. 0) n ≡ 0
+unfolding sum_below
 total-none zero = refl
 total-none (suc n) = omega (arith, total-none n)
 
-total-plus : (f g : ℕ → ℕ) (n : ℕ) → total (λ j. f j + g j) n ≡ total f n + total g n
-unfolding total
+total-plus : (f g : ℕ → ℕ) (n : ℕ) → sum_below (λ j. f j + g j) n ≡ sum_below f n + sum_below g n
+unfolding sum_below
 total-plus f g zero = refl
 total-plus f g (suc n) = omega (arith, total-plus f g n)
 
-total-count : (q : ℕ → Bool) (n : ℕ) → count_below q n ≡ total (λ j. num (q j)) n
-unfolding total count_below
+total-count : (q : ℕ → Bool) (n : ℕ) → count_below q n ≡ sum_below (λ j. num (q j)) n
+unfolding sum_below count_below
 total-count q zero = refl
 total-count q (suc n) = ap (λ k. k + num (q n)) (total-count q n)
 
@@ -225,7 +225,7 @@ told-length l m t q (suc n) =
     by true = refl
     by false = refl
 
-told_of-length : (sh : Shape) (ls : Lines) (c t n : ℕ) → length (told_of ls sh.cores c t (those (has_mark ls) n)) ≡ total (λ j. count_below (is_invalidated sh ls c j) n) sh.cores
+told_of-length : (sh : Shape) (ls : Lines) (c t n : ℕ) → length (told_of ls sh.cores c t (those (has_mark ls) n)) ≡ sum_below (λ j. count_below (is_invalidated sh ls c j) n) sh.cores
 unfolding those count_below is_invalidated
 told_of-length sh ls c t zero = sym (total-none sh.cores)
 told_of-length sh ls c t (suc n) =
@@ -244,7 +244,7 @@ told_of-length sh ls c t (suc n) =
     unpicked true s e = refl
     unpicked false s e = refl
 
-    last : (p : Bool) → length (told_of ls sh.cores c t (cond p (n ∷ []) [])) ≡ total (λ j. num (nat_lt j sh.cores && p && ls.sharers n j && not (j == c))) sh.cores
+    last : (p : Bool) → length (told_of ls sh.cores c t (cond p (n ∷ []) [])) ≡ sum_below (λ j. num (nat_lt j sh.cores && p && ls.sharers n j && not (j == c))) sh.cores
     last true =
         ap length (append-nil (told n (ls.mark n) t (is_told ls c n) sh.cores))
         ∙ (told-length n (ls.mark n) t (is_told ls c n) sh.cores
@@ -255,6 +255,6 @@ told_of-length sh ls c t (suc n) =
         sym (total-none sh.cores)
         ∙ total-same (λ j. 0) (λ j. num (nat_lt j sh.cores && false && ls.sharers n j && not (j == c))) sh.cores (λ j lt. unpicked (nat_lt j sh.cores) (ls.sharers n j) (j == c))
 
-pub told_all-length : (sh : Shape) (ls : Lines) (c t : ℕ) → length (told_all sh ls c t) ≡ owed_by sh ls c
-unfolding owed_by
+pub told_all-length : (sh : Shape) (ls : Lines) (c t : ℕ) → length (told_all sh ls c t) ≡ invalidation_count sh ls c
+unfolding invalidation_count
 told_all-length sh ls c t = told_of-length sh ls c t (lines sh)

@@ -3,7 +3,7 @@ ghost use Rattle.std.specs.Prelude.{◌≡◌, ℕ, ◌<◌, ◌++◌, IfOk, OnO
 ghost use Rattle.tcc_maps.specs.Words.{those};
 ghost use Rattle.tcc_maps.specs.Shape.{lines as line_count};
 ghost use Rattle.tcc_maps.specs.Lines.{has_mark};
-ghost use Rattle.tcc_rules.specs.DirDeliver.{owed_by, owned};
+ghost use Rattle.tcc_rules.specs.DirDeliver.{invalidation_count, owned_by_committer};
 ghost use Rattle.dir_lines.specs.Home.{IsAtHome};
 ghost use Rattle.dir_lines.specs.Kept.{kept};
 ghost use Rattle.directory.specs.Invs.{told, told_all, is_told, Extends};
@@ -21,7 +21,7 @@ pub(crate) fn invalidate(
     out: &mut Outgoing,
 ) -> Result<usize, NoMemory>
     ensures sent { OnOk result (out.new.list.items ≡ out.old.list.items ++ told_all lines.now.place.shape (kept lines.now) src.0 tid.0) }
-    ensures count { IfOk result (λ n. n ≡ owed_by lines.now.place.shape (kept lines.now) src.0) }
+    ensures count { IfOk result (λ n. n ≡ invalidation_count lines.now.place.shape (kept lines.now) src.0) }
     ensures unsent { OnErr result (out.new.list.items ≡ out.old.list.items) }
 {
     let before = out.len();
@@ -73,7 +73,7 @@ fn tell(
 pub(crate) fn own_marked(lines: &mut DirLines, src: CoreId, tid: Tid)
     requires { src.0 < lines.old.place.shape.cores }
     ensures place { lines.new.place ≡ lines.old.place }
-    ensures map { kept lines.new ≡ owned src.0 tid.0 (kept lines.old) }
+    ensures map { kept lines.new ≡ owned_by_committer src.0 tid.0 (kept lines.old) }
 {
     for k in 0..lines.marked_lines() as usize {
         if let Some(line) = lines.marked_line(k) {

@@ -1,7 +1,7 @@
 // The rules of a directory, one function each.
 ghost use Rattle.std.specs.Prelude.{◌≡◌, ℕ, ◌^◌, ◌<◌, ◌≤◌, IfOk, OnErr, option_map, None, if◌then◌else◌, ◌==◌};
 ghost use Rattle.tcc_maps.specs.Masks.{full};
-ghost use Rattle.tcc_rules.specs.DirDeliver.{skip, abort, probe, ask_owner, load_request, load_owned, mark, commit, acknowledgement, write_back, settled, unless_keeps};
+ghost use Rattle.tcc_rules.specs.DirDeliver.{skip, abort, probe, ask_owner, load_request, load_unless_owned, mark, dir_commit, acknowledgement, write_back, moved_on_if_settled, unless_keeps};
 ghost use Rattle.dir_lines.specs.Home.{IsAtHome};
 ghost use Rattle.dir_lines.specs.Kept.{kept};
 ghost use Rattle.directory.specs.Data.{dir_of};
@@ -126,7 +126,7 @@ impl Directory {
         requires core { src.0 < self.old.lines.place.shape.cores }
         requires home { IsAtHome self.old.lines.place line.0 }
         ensures place { self.new.lines.place ≡ self.old.lines.place }
-        ensures gives { IfOk result (λ h. Gives self.old self.new out.old.list.items out.new.list.items h (λ s. load_owned src.0 line.0 s None)) }
+        ensures gives { IfOk result (λ h. Gives self.old self.new out.old.list.items out.new.list.items h (λ s. load_unless_owned src.0 line.0 s None)) }
         ensures unchanged { OnErr result (self.new ≡ self.old) }
         ensures unsent { OnErr result (out.new.list.items ≡ out.old.list.items) }
     {
@@ -177,7 +177,7 @@ impl Directory {
         requires core { src.0 < self.old.lines.place.shape.cores }
         requires tid { tid.0 < 2 ^ 62 }
         ensures place { self.new.lines.place ≡ self.old.lines.place }
-        ensures gives { IfOk result (λ h. Gives self.old self.new out.old.list.items out.new.list.items h (commit self.old.lines.place.shape src.0 tid.0 count)) }
+        ensures gives { IfOk result (λ h. Gives self.old self.new out.old.list.items out.new.list.items h (dir_commit self.old.lines.place.shape src.0 tid.0 count)) }
         ensures unchanged { OnErr result (self.new ≡ self.old) }
         ensures unsent { OnErr result (out.new.list.items ≡ out.old.list.items) }
     {
@@ -249,7 +249,7 @@ impl Directory {
     fn settle(&mut self)
         requires { self.old.serving.serving ≤ 2 ^ 62 }
         ensures place { self.new.lines.place ≡ self.old.lines.place }
-        ensures settled { (elsewhere : ℕ → ℕ) → dir_of elsewhere self.new ≡ settled (dir_of elsewhere self.old) }
+        ensures settled { (elsewhere : ℕ → ℕ) → dir_of elsewhere self.new ≡ moved_on_if_settled (dir_of elsewhere self.old) }
     {
         if self.owed == 0 {
             self.lines.clear_marks();

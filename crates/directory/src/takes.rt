@@ -1,6 +1,6 @@
 // Whether a directory would take a message now.
 ghost use Rattle.std.specs.Prelude.{◌≡◌, ℕ, ◌<◌, List, not, ◌&&◌};
-ghost use Rattle.tcc_rules.specs.DirDeliver.{dir_deliver, probe, load_request, mark, commit, write_back};
+ghost use Rattle.tcc_rules.specs.DirDeliver.{dir_deliver, probe, load_request, mark, dir_commit, write_back};
 ghost use Rattle.tcc_msg.specs.Plain.{msg_of};
 ghost use Rattle.dir_lines.specs.Home.{IsAtHome};
 ghost use Rattle.directory.specs.Data.{dir_of};
@@ -81,7 +81,7 @@ impl Directory {
     }
 
     pub(crate) fn takes_commit(&self, tid: Tid, count: u32) -> bool
-        ensures { (e : ℕ → ℕ) (c : ℕ) → result ≡ is_taken (commit self.now.lines.place.shape c tid.0 count (dir_of e self.now)) }
+        ensures { (e : ℕ → ℕ) (c : ℕ) → result ≡ is_taken (dir_commit self.now.lines.place.shape c tid.0 count (dir_of e self.now)) }
     {
         if self.skips.serving().0 != tid.0 {
             return false;

@@ -1,7 +1,7 @@
 // What a message that can't be taken yet waits for.
 ghost use Rattle.std.specs.Prelude.{◌≡◌, ℕ, List, false, if◌then◌else◌};
 ghost use Rattle.tcc_maps.specs.Lines.{has_mark};
-ghost use Rattle.tcc_rules.specs.DirDeliver.{dir_deliver, probe, load_request, mark, commit, write_back};
+ghost use Rattle.tcc_rules.specs.DirDeliver.{dir_deliver, probe, load_request, mark, dir_commit, write_back};
 ghost use Rattle.tcc_msg.specs.Plain.{msg_of};
 ghost use Rattle.dir_lines.specs.Home.{IsAtHome};
 ghost use Rattle.directory.specs.Data.{dir_of};
@@ -84,7 +84,7 @@ impl Directory {
     }
 
     fn commit_waits_for(&self, tid: Tid, count: u32) -> Option<Cause>
-        ensures { (e : ℕ → ℕ) (c : ℕ) → Tells (commit self.now.lines.place.shape c tid.0 count) (dir_of e self.now) result }
+        ensures { (e : ℕ → ℕ) (c : ℕ) → Tells (dir_commit self.now.lines.place.shape c tid.0 count) (dir_of e self.now) result }
     {
         if self.takes_commit(tid, count) {
             return None;

@@ -15,7 +15,7 @@ use Rattle.tcc_rules.specs.CoreDeliver.{core_deliver, from_dir, from_vendor}
 use Rattle.tcc_rules.specs.DirDeliver.{Answer, Waits, Drops, Asks, Takes, dir_deliver}
 use Rattle.tcc_rules.specs.Links.{in_flight}
 use Rattle.tcc_rules.specs.State.{CoreState, World}
-use Rattle.tcc_rules.specs.Step.{answered, delivered, granted, happens, names_nodes, step, taken}
+use Rattle.tcc_rules.specs.Step.{answered, delivered, if_vendor_gives, happens, names_nodes, step, if_core_takes}
 use Rattle.tcc_rules.specs.VendorDeliver.{vendor_deliver}
 use Rattle.live_core.specs.Plain.{plain_reason}
 use Rattle.live_core.specs.Waiting.{reason_at, reason_in}
@@ -55,7 +55,7 @@ last : (a b : Bool) → (a && b) ≡ true → b ≡ true
 last true b e = e
 last false b e = absurd (cc)
 
-core-takes : (w : World) (src : Node) (c k : ℕ) (o : Option Out) → is_some o ≡ true → is_some (taken w src c k o) ≡ true
+core-takes : (w : World) (src : Node) (c k : ℕ) (o : Option Out) → is_some o ≡ true → is_some (if_core_takes w src c k o) ≡ true
 core-takes w src c k None e = absurd (cc)
 core-takes w src c k (Some o) e = refl
 
@@ -70,7 +70,7 @@ vendor-says : (sh : Shape) (c : CoreState) (m : Msg) → is_grant m ≡ true →
 vendor-says sh c (TidGrant t) e = refl
 vendor-says sh c m e = absurd (cc)
 
-vendor-takes : (w : World) (c k : ℕ) (m : Msg) → is_request m ≡ true → is_some (granted w c k (vendor_deliver w.next c m)) ≡ true
+vendor-takes : (w : World) (c k : ℕ) (m : Msg) → is_request m ≡ true → is_some (if_vendor_gives w c k (vendor_deliver w.next c m)) ≡ true
 vendor-takes w c k TidReq e = refl
 vendor-takes w c k m e = absurd (cc)
 

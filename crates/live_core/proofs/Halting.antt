@@ -13,23 +13,27 @@ use Rattle.tcc_maps.specs.Words.{any_below, line_of}
 use Rattle.tcc_program.specs.Plain.{Outcome, Goes, Ended, Halted as HaltedWith, Trapped as TrappedWith}
 use Rattle.tcc_program.specs.Program.{Local, Need, Nothing, Loads, Stores, Changes, Prints, Ends, Halts, Traps, Program}
 use Rattle.tcc_program.specs.Ram.{word_of}
-use Rattle.tcc_rules.specs.Attempt.{Out, finished, is_running, is_solo, moves, new_word, roll_back, stepped}
-use Rattle.tcc_rules.specs.Commit.{commit, committed_core, ended_after, phase_after, solo_commit}
+use Rattle.tcc_rules.specs.Attempt.{Out, finished, is_running, is_solo, moves, new_word, roll_back, one_more_instruction}
+use Rattle.tcc_rules.specs.Commit.{commit, committed_core, ended_after_commit, phase_after_commit, solo_commit}
 use Rattle.tcc_rules.specs.CoreDeliver.{acknowledged, all_replied, core_deliver, data_request, fill, fill_awaited}
-use Rattle.tcc_rules.specs.CoreDeliver.{grant, grant_phase, if_violated, ignored, invalidate, is_probed, is_violated, probe_reply, probing}
-use Rattle.tcc_rules.specs.CoreDeliver.{replied, reply_phase, violated_in, without}
+use Rattle.tcc_rules.specs.CoreDeliver.{grant, grant_in_phase, if_violated, ignored, invalidate, is_probed, is_violated, probe_reply}
+use Rattle.tcc_rules.specs.CoreDeliver.{probing_or_ready}
+use Rattle.tcc_rules.specs.CoreDeliver.{replied, reply_in_phase, violated_in_phase, words_invalidated}
 use Rattle.tcc_rules.specs.CoreEvict.{core_evict, evict_line, is_awaited}
-use Rattle.tcc_rules.specs.CoreExec.{core_exec, exec_phase, unless_awaiting}
+use Rattle.tcc_rules.specs.CoreExec.{core_exec, exec_in_phase, unless_awaiting}
 use Rattle.tcc_rules.specs.DirDeliver.{Answer, Waits, Drops, Asks, Takes, dir_deliver}
-use Rattle.tcc_rules.specs.Execute.{also_read, ask, buffered, change_spilled, change_valid, close, execute, execute_need, fetch, framed}
-use Rattle.tcc_rules.specs.Execute.{full_set, load, load_spilled, load_valid, overflow, partial_store, place, used, word_store}
+use Rattle.tcc_rules.specs.Execute.{marks_read, request_line, stored_in_buffer, change_spilled, change_valid, end_transaction, execute}
+use Rattle.tcc_rules.specs.Execute.{execute_need, miss, stored_in_frame}
+use Rattle.tcc_rules.specs.Execute.{full_set, load, load_spilled, load_valid, overflow, partial_store, place, with_read_mark, word_store}
 use Rattle.tcc_rules.specs.Links.{in_flight}
-use Rattle.tcc_rules.specs.Sends.{flushed, nothing}
+use Rattle.tcc_rules.specs.Sends.{flush_line, nothing}
 use Rattle.tcc_rules.specs.State.{Awaited, CoreState, Phase, Running, AwaitTid, DoomedTid, Probing}
 use Rattle.tcc_rules.specs.State.{Ready, Overflowing, Solo, Halted, World, start}
 use Rattle.tcc_rules.specs.State.{core_start}
-use Rattle.tcc_rules.specs.Step.{Stepped, History, and_then, answered, core_moves, core_takes, dir_asks, dir_takes, granted, happens}
-use Rattle.tcc_rules.specs.Step.{if_in_flight, moved, names_nodes, next, recorded, run, run_from, step, taken, vendor_gives}
+use Rattle.tcc_rules.specs.Step.{Stepped, History, and_then, answered, core_moves, core_takes, dir_asks, dir_takes, if_vendor_gives}
+use Rattle.tcc_rules.specs.Step.{happens}
+use Rattle.tcc_rules.specs.Step.{if_in_flight, if_core_moves, names_nodes, next_history, recorded, run, run_from, step, if_core_takes}
+use Rattle.tcc_rules.specs.Step.{vendor_gives}
 use Rattle.tcc_serial.specs.Commits.{end_after}
 use Rattle.live_core.specs.Reached.{KeepsItsEnd}
 use Rattle.tcc_rules.specs.VendorDeliver.{Granted, vendor_deliver}
@@ -59,7 +63,7 @@ says-living q x e = refl
 
 module _ (sh : Shape) (p : Program) where
   after-finish : (need : Need) (x : ℕ) (s : CoreState) → lives s.phase ≡ true → Says (finished p need x s)
-  unfolding finished stepped
+  unfolding finished one_more_instruction
   after-finish need x s e = go need
     where
       go : (n : Need) → Says (finished p n x s)
@@ -80,17 +84,18 @@ module _ (sh : Shape) (p : Program) where
       go true = tt
       go false = refl
 
-  after-fetch : (l : ℕ) (s : CoreState) → lives s.phase ≡ true → IfSome (fetch sh l s) SaysAfter
-  unfolding fetch ask place
+  after-fetch : (l : ℕ) (s : CoreState) → lives s.phase ≡ true → IfSome (miss sh l s) SaysAfter
+  unfolding miss request_line place
   after-fetch l s e = go (s.cache.held l) (is_some (free_way sh s.cache (set_of sh l)))
     where
-      go : (a b : Bool) → IfSome (if a then Some (ask sh l s) else if b then Some (ask sh l (place sh l s)) else full_set sh l s) SaysAfter
+      go : (a b : Bool) → IfSome
+          (if a then Some (request_line sh l s) else if b then Some (request_line sh l (place sh l s)) else full_set sh l s) SaysAfter
       go true b = says-living s.phase s.ended e
       go false true = says-living s.phase s.ended e
       go false false = after-full l s
 
-  living-used : (w : ℕ) (s : CoreState) → lives s.phase ≡ true → lives (used w s).phase ≡ true
-  unfolding used
+  living-used : (w : ℕ) (s : CoreState) → lives s.phase ≡ true → lives (with_read_mark w s).phase ≡ true
+  unfolding with_read_mark
   living-used w s e = go (is_running s.phase) (marked w s.cache)
     where
       go : (b : Bool) (c : Cache) → lives (if b then record s { cache = c } else s).phase ≡ true
@@ -102,7 +107,7 @@ module _ (sh : Shape) (p : Program) where
   after-load need w s e = spilled (s.spilled w)
     where
       valid : (o : Option ℕ) → IfSome (load_valid sh p need w s o) SaysAfter
-      valid (Some x) = after-finish need x (used w s) (living-used w s e)
+      valid (Some x) = after-finish need x (with_read_mark w s) (living-used w s e)
       valid None = after-fetch (line_of w) s e
 
       spilled : (o : Option ℕ) → IfSome (load_spilled sh p need w s o) SaysAfter
@@ -110,45 +115,47 @@ module _ (sh : Shape) (p : Program) where
       spilled None = valid (s.cache.value w)
 
   after-word_store : (need : Need) (w x : ℕ) (s : CoreState) → lives s.phase ≡ true → IfSome (word_store sh p need w x s) SaysAfter
-  unfolding word_store buffered framed place
+  unfolding word_store stored_in_buffer stored_in_frame place
   after-word_store need w x s e =
       go (holds s.spilled (line_of w)) (s.cache.held (line_of w)) (is_some (free_way sh s.cache (set_of sh (line_of w))))
     where
       go : (a b d : Bool) → IfSome (
-          if a then Some (moves (finished p need x (buffered w x s)) nothing)
-          else if b then Some (moves (finished p need x (framed w x false s)) (flushed sh s.cache (line_of w)))
-          else if d then Some (moves (finished p need x (framed w x false (place sh (line_of w) s))) nothing)
+          if a then Some (moves (finished p need x (stored_in_buffer w x s)) nothing)
+          else if b then Some (moves (finished p need x (stored_in_frame w x false s)) (flush_line sh s.cache (line_of w)))
+          else if d then Some (moves (finished p need x (stored_in_frame w x false (place sh (line_of w) s))) nothing)
           else full_set sh (line_of w) s) SaysAfter
-      go true b d = after-finish need x (buffered w x s) e
-      go false true d = after-finish need x (framed w x false s) e
-      go false false true = after-finish need x (framed w x false (place sh (line_of w) s)) e
+      go true b d = after-finish need x (stored_in_buffer w x s) e
+      go false true d = after-finish need x (stored_in_frame w x false s) e
+      go false false true = after-finish need x (stored_in_frame w x false (place sh (line_of w) s)) e
       go false false false = after-full (line_of w) s
 
   after-partial : (need : Need) (w : ℕ) (s : CoreState) → lives s.phase ≡ true → IfSome (partial_store sh p need w s) SaysAfter
-  unfolding partial_store buffered framed
+  unfolding partial_store stored_in_buffer stored_in_frame
   after-partial need w s e = spilled (s.spilled w)
     where
       held : (x : ℕ) (b : Bool) → IfSome (
-          if b then Some (moves (finished p need x (buffered w (new_word need x) s)) nothing)
-          else Some (moves (finished p need x (framed w (new_word need x) (also_read w s) s)) (flushed sh s.cache (line_of w)))) SaysAfter
-      held x true = after-finish need x (buffered w (new_word need x) s) e
-      held x false = after-finish need x (framed w (new_word need x) (also_read w s) s) e
+          if b then Some (moves (finished p need x (stored_in_buffer w (new_word need x) s)) nothing)
+          else Some
+          (moves (finished p need x (stored_in_frame w (new_word need x) (marks_read w s) s)) (flush_line sh s.cache (line_of w))))
+          SaysAfter
+      held x true = after-finish need x (stored_in_buffer w (new_word need x) s) e
+      held x false = after-finish need x (stored_in_frame w (new_word need x) (marks_read w s) s) e
 
       valid : (o : Option ℕ) → IfSome (change_valid sh p need w s o) SaysAfter
       valid (Some x) = held x (holds s.spilled (line_of w))
       valid None = after-fetch (line_of w) s e
 
       spilled : (o : Option ℕ) → IfSome (change_spilled sh p need w s o) SaysAfter
-      spilled (Some x) = after-finish need x (buffered w (new_word need x) s) e
+      spilled (Some x) = after-finish need x (stored_in_buffer w (new_word need x) s) e
       spilled None = valid (s.cache.value w)
 
-  after-end : (x : Outcome) → says (phase_after x) (ended_after x) ≡ true
+  after-end : (x : Outcome) → says (phase_after_commit x) (ended_after_commit x) ≡ true
   after-end Goes = refl
   after-end Ended = refl
   after-end (HaltedWith k) = refl
   after-end (TrappedWith k) = refl
 
-  after-close : (id : ℕ) (q : Phase) (s : CoreState) → SaysAfter (close sh id q s)
+  after-close : (id : ℕ) (q : Phase) (s : CoreState) → SaysAfter (end_transaction sh id q s)
   unfolding solo_commit committed_core
   after-close id (Solo t) s = after-end s.ended
   after-close id q s = refl
@@ -177,7 +184,7 @@ module _ (sh : Shape) (p : Program) where
       awaiting (Some a) e = tt
       awaiting None e = after-execute id s e
 
-      go : (q : Phase) → s.phase ≡ q → IfSome (exec_phase sh p id s q) SaysAfter
+      go : (q : Phase) → s.phase ≡ q → IfSome (exec_in_phase sh p id s q) SaysAfter
       go Running e = awaiting s.awaited (rw e refl)
       go (Solo t) e = awaiting s.awaited (rw e refl)
       go (Ready t) e = after-end s.ended
@@ -202,11 +209,11 @@ module _ (sh : Shape) (s : CoreState) (h : Says s) where
   unfolding grant
   after-grant t = go s.phase
     where
-      probes : (b : Bool) (x : Outcome) → says (probing b t) x ≡ true
+      probes : (b : Bool) (x : Outcome) → says (probing_or_ready b t) x ≡ true
       probes true x = refl
       probes false x = refl
 
-      go : (q : Phase) → SaysAfter (grant_phase sh t s q)
+      go : (q : Phase) → SaysAfter (grant_in_phase sh t s q)
       go AwaitTid = probes (any_below (is_probed sh s.cache) sh.dirs) s.ended
       go DoomedTid = refl
       go (Overflowing None) = refl
@@ -229,7 +236,7 @@ module _ (sh : Shape) (s : CoreState) (h : Says s) where
       alone true = refl
       alone false = h
 
-      go : (q : Phase) → SaysAfter (reply_phase sh d t s q)
+      go : (q : Phase) → SaysAfter (reply_in_phase sh d t s q)
       go (Probing u) = either (u == t && s.owing d) _ _ (ready (all_replied sh (replied d s).owing)) h
       go (Overflowing (Some u)) = either (u == t && s.owing d) _ _ (alone (all_replied sh (replied d s).owing)) h
       go (Overflowing None) = h
@@ -255,7 +262,7 @@ after-violated : (sh : Shape) (b : Bool) (s : CoreState) → Says s → SaysAfte
 unfolding if_violated roll_back
 after-violated sh b s h = go b s.phase refl
   where
-    go : (b : Bool) (q : Phase) → s.phase ≡ q → SaysAfter (if b then violated_in sh s q else ignored s)
+    go : (b : Bool) (q : Phase) → s.phase ≡ q → SaysAfter (if b then violated_in_phase sh s q else ignored s)
     go false q e = h
     go true Running e = rw e refl
     go true DoomedTid e = h
@@ -265,8 +272,8 @@ after-violated sh b s h = go b s.phase refl
     go true q e = refl
 
 after-invalidate : (sh : Shape) (l m u : ℕ) (s : CoreState) → Says s → SaysAfter (invalidate sh l m u s)
-unfolding invalidate acknowledged without
-after-invalidate sh l m u s h = after-violated sh (is_violated l m u s) (without l m s) h
+unfolding invalidate acknowledged words_invalidated
+after-invalidate sh l m u s h = after-violated sh (is_violated l m u s) (words_invalidated l m s) h
 
 after-deliver : (sh : Shape) (s : CoreState) (src : Node) (m : Msg) → Says s → IfSome (core_deliver sh s src m) SaysAfter
 unfolding core_deliver
@@ -294,12 +301,13 @@ one-more f c s h k j = go (j == c)
     go true = k
     go false = h j
 
-after-moved : (w : World) (c : ℕ) (o : Option Out) → AllSay w → IfSome o SaysAfter → IfSome (moved w c o) AllSayAfter
+after-moved : (w : World) (c : ℕ) (o : Option Out) → AllSay w → IfSome o SaysAfter → IfSome (if_core_moves w c o) AllSayAfter
 unfolding core_moves
 after-moved w c None h k = tt
 after-moved w c (Some o) h k = one-more w.cores c o.core h k
 
-after-taken : (w : World) (src : Node) (c n : ℕ) (o : Option Out) → AllSay w → IfSome o SaysAfter → IfSome (taken w src c n o) AllSayAfter
+after-taken : (w : World) (src : Node) (c n : ℕ) (o : Option Out) → AllSay w → IfSome o SaysAfter →
+    IfSome (if_core_takes w src c n o) AllSayAfter
 unfolding core_takes
 after-taken w src c n None h k = tt
 after-taken w src c n (Some o) h k = one-more w.cores c o.core h k
@@ -311,7 +319,7 @@ after-answer w c d n Drops h = h
 after-answer w c d n (Asks s sends) h = h
 after-answer w c d n (Takes s sends) h = h
 
-after-given : (w : World) (c n : ℕ) (g : Option Granted) → AllSay w → IfSome (granted w c n g) AllSayAfter
+after-given : (w : World) (c n : ℕ) (g : Option Granted) → AllSay w → IfSome (if_vendor_gives w c n g) AllSayAfter
 unfolding vendor_gives
 after-given w c n None h = tt
 after-given w c n (Some g) h = h
@@ -342,7 +350,7 @@ after-step sh p w e h = guarded (names_nodes sh e) (happens sh p w e) (go e)
 
 after-run_from : (sh : Shape) (p : Program) (es : List Event) (g : History) → AllSay g.world
     → IfSome (run_from sh p es g) (λ f. AllSay f.world)
-unfolding run_from next
+unfolding run_from next_history
 after-run_from sh p [] g h = h
 after-run_from sh p (e ∷ es) g h = go (step sh p g.world e) (after-step sh p g.world e h) (after-run_from sh p es)
   where

@@ -3,14 +3,15 @@ use Rattle.std.proofs.Common.{◌≡◌, ℕ, Bool, true, false, ◌&&◌, ◌||
 use Rattle.std.specs.Prelude.{not, is_some, nat_lt, nat_le, ◌==◌, if◌then◌else◌}
 use Rattle.std.proofs.lemmas.Bool.Decides.{nat_tests}
 use Rattle.directory.specs.Gives.{is_taken}
-use Rattle.tcc_maps.specs.Judge.{judge, is_owner, Takes as IsTaken, Drops as IsDropped, Waits as IsEarly}
+use Rattle.tcc_maps.specs.Judge.{judge, is_owner, Current, Outdated, TooEarly}
 use Rattle.tcc_maps.specs.Lines.{has_mark}
 use Rattle.tcc_maps.specs.Masks.{full}
 use Rattle.tcc_maps.specs.Nodes.{TidReq, TidGrant, LoadReq, Fill, Skip, Probe, ProbeReply, Mark, Commit, Abort}
 use Rattle.tcc_maps.specs.Nodes.{WriteBack, Flush, DataReq, Inv, InvAck}
 use Rattle.tcc_maps.specs.Shape.{Shape}
 use Rattle.tcc_rules.specs.DirDeliver.{Answer, Waits, Drops, Asks, Takes, dir_deliver, skip, abort, probe, ask_owner}
-use Rattle.tcc_rules.specs.DirDeliver.{load_owned, load_request, mark, mark_owned, marking, commit, acknowledgement, judged, write_back}
+use Rattle.tcc_rules.specs.DirDeliver.{load_unless_owned, load_request, mark, mark_unless_owned, mark_taken, dir_commit, acknowledgement}
+use Rattle.tcc_rules.specs.DirDeliver.{judged, write_back}
 use Rattle.tcc_rules.specs.Sends.{Sends}
 use Rattle.tcc_rules.specs.State.{DirState}
 use Rattle.live_core.specs.Reasons.{Reason, Early, Marked, Count, Tag, probe_waits, owner_asked, load_waits, mark_waits, marked_lines}
@@ -43,11 +44,11 @@ unowned : (b : Bool) → owner_asked b None ≡ None
 unowned true = refl
 unowned false = refl
 
-loads : (c l : ℕ) (s : DirState) (o : Option ℕ) → Agree (load_owned c l s o) (owner_asked (s.lines.asked l) o)
+loads : (c l : ℕ) (s : DirState) (o : Option ℕ) → Agree (load_unless_owned c l s o) (owner_asked (s.lines.asked l) o)
 loads c l s None = sym (ap (λ r. not (is_some r)) (unowned (s.lines.asked l)))
 loads c l s (Some o) = asks o l s
 
-marks : (l m : ℕ) (s : DirState) (o : Option ℕ) → Agree (mark_owned l m s o) (owner_asked (s.lines.asked l) o)
+marks : (l m : ℕ) (s : DirState) (o : Option ℕ) → Agree (mark_unless_owned l m s o) (owner_asked (s.lines.asked l) o)
 marks l m s None = sym (ap (λ r. not (is_some r)) (unowned (s.lines.asked l)))
 marks l m s (Some o) = asks o l s
 
@@ -62,8 +63,8 @@ unfolding load_request load_waits
 loading c l after s =
     go (nat_le s.serving.serving after) (has_mark s.lines l) (loads c l s (s.lines.owner l))
   where
-    go : (a b : Bool) → Agree (load_owned c l s (s.lines.owner l)) (owner_asked (s.lines.asked l) (s.lines.owner l))
-        → Agree (if a || b then Waits else load_owned c l s (s.lines.owner l))
+    go : (a b : Bool) → Agree (load_unless_owned c l s (s.lines.owner l)) (owner_asked (s.lines.asked l) (s.lines.owner l))
+        → Agree (if a || b then Waits else load_unless_owned c l s (s.lines.owner l))
         (if a then Some (Early s.serving.serving) else if b then Some (Marked (s.lines.mark l))
         else owner_asked (s.lines.asked l) (s.lines.owner l))
     go true b h = refl
@@ -79,8 +80,8 @@ marking-agrees l m t s =
     apart p q = grind (arith, nat_tests)
 
     go : (a : Bool) → nat_lt t s.serving.serving ≡ a → (b : Bool) → nat_lt s.serving.serving t ≡ b → (f : Bool)
-        → Agree (mark_owned l m s (s.lines.owner l)) (owner_asked (s.lines.asked l) (s.lines.owner l))
-        → Agree (if a then Drops else if b then Waits else if f then marking l m s else mark_owned l m s (s.lines.owner l))
+        → Agree (mark_unless_owned l m s (s.lines.owner l)) (owner_asked (s.lines.asked l) (s.lines.owner l))
+        → Agree (if a then Drops else if b then Waits else if f then mark_taken l m s else mark_unless_owned l m s (s.lines.owner l))
         (if b then Some (Early s.serving.serving) else if a || f then None else owner_asked (s.lines.asked l) (s.lines.owner l))
     go true p true q f h = absurd (apart p q)
     go true p false q f h = refl
@@ -88,8 +89,8 @@ marking-agrees l m t s =
     go false p false q true h = refl
     go false p false q false h = h
 
-committing : (sh : Shape) (c t n : ℕ) (s : DirState) → Agree (commit sh c t n s) (commit_waits sh t n s)
-unfolding commit commit_waits
+committing : (sh : Shape) (c t n : ℕ) (s : DirState) → Agree (dir_commit sh c t n s) (commit_waits sh t n s)
+unfolding dir_commit commit_waits
 committing sh c t n s = go (s.serving.serving == t) (marked_lines sh s == n) _ _
   where
     go : (a b : Bool) (x : DirState) (y : Sends) → Agree (if a && b then Takes x y else Waits)
@@ -102,7 +103,7 @@ words-wait : (c l m g : ℕ) (ws : List ℕ) (s : DirState) → Agree (write_bac
 unfolding write_back words_wait judge
 words-wait c l m g ws s = go (nat_lt (s.lines.tag l) g) (s.lines.tag l == g && is_owner (s.lines.owner l) c)
   where
-    go : (a b : Bool) → Agree (judged l m ws s (if a then IsEarly else if b then IsTaken else IsDropped))
+    go : (a b : Bool) → Agree (judged l m ws s (if a then TooEarly else if b then Current else Outdated))
         (if a then Some (Tag (s.lines.tag l)) else None)
     go true b = refl
     go false true = refl

@@ -16,7 +16,7 @@ use Rattle.tcc_msg.specs.Plain.{sends_of}
 use Rattle.tcc_program.specs.Program.{Program}
 use Rattle.tcc_rules.specs.Links.{in_flight, sending}
 use Rattle.tcc_rules.specs.State.{World}
-use Rattle.tcc_rules.specs.Step.{History, and_then, next, run, run_from}
+use Rattle.tcc_rules.specs.Step.{History, and_then, next_history, run, run_from}
 use Rattle.tcc_bounds.specs.Bounds.{IsBounded}
 use Rattle.tcc_bounds.specs.Messages.{InBounds, IsLine, WasGranted, line_named, tid_named}
 use Rattle.tcc_bounds.proofs.Lemmas.{riscv_bounded_after}
@@ -31,31 +31,33 @@ use Rattle.net_core.proofs.Links.Placing.{sending-none}
 -- ---- one more event
 
 pub after-all : (sh : Settings) (p : Program) (e : Event) (es : List Event) (h : History)
-    → run_from sh p (es ++ e ∷ []) h ≡ and_then (λ g. next sh p g e) (run_from sh p es h)
+    → run_from sh p (es ++ e ∷ []) h ≡ and_then (λ g. next_history sh p g e) (run_from sh p es h)
 unfolding run_from
-after-all sh p e [] h = last (next sh p h e)
+after-all sh p e [] h = last (next_history sh p h e)
   where
     last : (o : Option History) → and_then (λ g. Some g) o ≡ o
     last None = refl
     last (Some g) = refl
-after-all sh p e (x ∷ es) h = go (next sh p h x) (after-all sh p e es)
+after-all sh p e (x ∷ es) h = go (next_history sh p h x) (after-all sh p e es)
   where
-    go : (o : Option History) → ((g : History) → run_from sh p (es ++ e ∷ []) g ≡ and_then (λ f. next sh p f e) (run_from sh p es g))
-        → and_then (run_from sh p (es ++ e ∷ [])) o ≡ and_then (λ g. next sh p g e) (and_then (run_from sh p es) o)
+    go : (o : Option History) →
+        ((g : History) → run_from sh p (es ++ e ∷ []) g ≡ and_then (λ f. next_history sh p f e) (run_from sh p es g))
+        → and_then (run_from sh p (es ++ e ∷ [])) o ≡ and_then (λ g. next_history sh p g e) (and_then (run_from sh p es) o)
     go None rest = refl
     go (Some g) rest = rest g
 
 pub run-on : (sh : Settings) (p : Program) (w : World) (es : List Event) (e : Event) (h : History) → run sh p w es ≡ Some h
-    → run sh p w (es ++ e ∷ []) ≡ next sh p h e
+    → run sh p w (es ++ e ∷ []) ≡ next_history sh p h e
 unfolding run
-run-on sh p w es e h r = after-all sh p e es (record { world = w; commits = [] }) ∙ ap (and_then (λ g. next sh p g e)) r
+run-on sh p w es e h r = after-all sh p e es (record { world = w; commits = [] }) ∙ ap (and_then (λ g. next_history sh p g e)) r
 
 one-longer : (xs : List Event) (e : Event) → length (xs ++ e ∷ []) ≡ length xs + 1
 one-longer [] e = refl
 one-longer (x ∷ xs) e = let r = one-longer xs e in omega (arith, r)
 
 -- the machine after one more event of the rules
-pub reached-on : (m n : Machine) (e : Event) → Reached m → next (settings_of m) (program_of m) (history_of m) e ≡ Some (history_of n)
+pub reached-on : (m n : Machine) (e : Event) → Reached m →
+    next_history (settings_of m) (program_of m) (history_of m) e ≡ Some (history_of n)
     → n.events ≡ m.events + 1 → n.cores.code ≡ m.cores.code → Reached n
 reached-on m n e r step count code = record {
   taken = r.taken ++ e ∷ [];

@@ -4,7 +4,7 @@ use Rattle.tcc_base.specs.declared.names.Tid.{Tid}
 use Rattle.tcc_maps.specs.Nodes.{Event}
 use Rattle.tcc_msg.specs.Plain.{event_of}
 use Rattle.tcc_msg.specs.declared.event.Event.{Event as CodeEvent}
-use Rattle.tcc_rules.specs.Step.{Stepped, step, next, run_from}
+use Rattle.tcc_rules.specs.Step.{Stepped, step, next_history, run_from}
 use Rattle.core_node.specs.declared.delivering.CoreError.{CoreError}
 use Rattle.core_node.specs.declared.delivering.CoreError.TheVariants.{Blocked}
 use Rattle.core_node.specs.declared.delivering.CoreError.TheVariants as core_error
@@ -34,7 +34,7 @@ tid_noted (Some o) = option_map (λ c. c.tid) o.noted
 
 -- the event was taken
 pub record Took (old new : Machine) (e : Event) (told : Step) : Type 0 where
-  pub next : next (settings_of old) (program_of old) (history_of old) e ≡ Some (history_of new)
+  pub next : next_history (settings_of old) (program_of old) (history_of old) e ≡ Some (history_of new)
   pub tells : tid_told told ≡ tid_noted (step_of old e)
   pub events : new.events ≡ old.events + 1
   pub code : new.cores.code ≡ old.cores.code

@@ -3,15 +3,16 @@ use Rattle.std.specs.Prelude.{ℕ, ◌≡◌, ◌<◌, ◌==◌, ◌&&◌, ◌||
 use Rattle.std.specs.Prelude.{IfSome, nat_lt, nat_le, if◌then◌else◌}
 use Rattle.std.proofs.Common.{arith, refl, ap, sym, ◌∙◌}
 use Rattle.std.proofs.lemmas.Bool.Decides.{nat_tests}
-use Rattle.tcc_maps.specs.Judge.{Judgement, judge, Takes as IsTaken, Drops as IsDropped, Waits as IsEarly}
+use Rattle.tcc_maps.specs.Judge.{Judgement, judge, Current, Outdated, TooEarly}
 use Rattle.tcc_maps.specs.Lines.{Lines, has_mark}
 use Rattle.tcc_maps.specs.Masks.{full}
 use Rattle.tcc_maps.specs.Nodes.{Node, Core, Dir, Vendor, Msg, LoadReq, Fill, Skip, Probe, ProbeReply, Mark, Commit, Abort, WriteBack}
 use Rattle.tcc_maps.specs.Nodes.{Flush, DataReq, Inv, InvAck}
 use Rattle.tcc_maps.specs.Shape.{Shape, home, lines}
 use Rattle.tcc_maps.specs.Words.{count_below}
-use Rattle.tcc_rules.specs.DirDeliver.{Answer, Waits, Drops, Asks, Takes, skip, abort, probe, ask_owner, line_words, load_owned}
-use Rattle.tcc_rules.specs.DirDeliver.{load_request, mark_owned, mark, is_invalidated, invs_to, invalidations, commit, acknowledgement}
+use Rattle.tcc_rules.specs.DirDeliver.{Answer, Waits, Drops, Asks, Takes, skip, abort, probe, ask_owner, home_words, load_unless_owned}
+use Rattle.tcc_rules.specs.DirDeliver.{load_request, mark_unless_owned, mark, is_invalidated, invs_to, invalidations, dir_commit}
+use Rattle.tcc_rules.specs.DirDeliver.{acknowledgement}
 use Rattle.tcc_rules.specs.DirDeliver.{judged, write_back, dir_deliver}
 use Rattle.tcc_rules.specs.Sends.{Sends, nothing, to}
 use Rattle.tcc_rules.specs.State.{DirState}
@@ -83,8 +84,8 @@ loads : (sh : Shape) (d c l a : ℕ) (s : DirState) → LineOf sh d l → SaysBy
 unfolding load_request
 loads sh d c l a s h = either sh d (nat_le s.serving.serving a || has_mark s.lines l) Waits _ tt (go (s.lines.owner l))
   where
-    go : (o : Option ℕ) → SaysBy sh d (load_owned c l s o)
-    go None = says-one sh d c (Fill l (line_words s l)) (record { line = h; tid = tt })
+    go : (o : Option ℕ) → SaysBy sh d (load_unless_owned c l s o)
+    go None = says-one sh d c (Fill l (home_words s l)) (record { line = h; tid = tt })
     go (Some o) = asks_owner sh d o l s h
 
 marks : (sh : Shape) (d l m t : ℕ) (s : DirState) → LineOf sh d l → SaysBy sh d (mark l m t s)
@@ -92,7 +93,7 @@ unfolding mark
 marks sh d l m t s h = either sh d (nat_lt t s.serving.serving) Drops _ tt
     (either sh d (nat_lt s.serving.serving t) Waits _ tt (either sh d (m == full) _ _ (silent sh d) (go (s.lines.owner l))))
   where
-    go : (o : Option ℕ) → SaysBy sh d (mark_owned l m s o)
+    go : (o : Option ℕ) → SaysBy sh d (mark_unless_owned l m s o)
     go None = silent sh d
     go (Some o) = asks_owner sh d o l s h
 
@@ -108,8 +109,8 @@ invalidates sh d ls c t h g j = each-those (Says sh d) (λ l. Inv l (ls.mark l) 
     marked true false x y e = absurd (cc)
     marked false b x y e = absurd (cc)
 
-commits : (sh : Shape) (d c t n : ℕ) (s : DirState) → DirApart sh d s → IsTid t → SaysBy sh d (commit sh c t n s)
-unfolding commit
+commits : (sh : Shape) (d c t n : ℕ) (s : DirState) → DirApart sh d s → IsTid t → SaysBy sh d (dir_commit sh c t n s)
+unfolding dir_commit
 commits sh d c t n s k g = either sh d (s.serving.serving == t && count_below (has_mark s.lines) (lines sh) == n) _ Waits
     (invalidates sh d s.lines c t k.marked g) tt
 
@@ -122,9 +123,9 @@ unfolding write_back
 backs sh d c l m ws g s = go (judge (s.lines.owner l) (s.lines.tag l) c g)
   where
     go : (j : Judgement) → SaysBy sh d (judged l m ws s j)
-    go IsEarly = tt
-    go IsDropped = tt
-    go IsTaken = silent sh d
+    go TooEarly = tt
+    go Outdated = tt
+    go Current = silent sh d
 
 says : (sh : Shape) (d c : ℕ) (s : DirState) (m : Msg) → IsCarried sh (Core c) (Dir d) m → DirApart sh d s
     → SaysBy sh d (dir_deliver sh s c m)

@@ -12,7 +12,7 @@ use Rattle.tcc_program.specs.Program.{Program}
 use Rattle.tcc_rules.specs.Links.{in_flight}
 use Rattle.tcc_rules.specs.Seen.{IsDone}
 use Rattle.tcc_rules.specs.State.{World}
-use Rattle.tcc_rules.specs.Step.{History, Stepped, step, next, run}
+use Rattle.tcc_rules.specs.Step.{History, Stepped, step, next_history, run}
 use Rattle.rv_serial.specs.Suiting.{world_at_start, AfterRun}
 use Rattle.phase_rules.specs.Phased.{has_halted, phased_from, phased_picked, phased_useful}
 use Rattle.phase_rules.specs.Phases.{x27, phase_of, phases_of}
@@ -79,7 +79,7 @@ noted_by (Some o) = o.noted
 abbrev pub PhasesGrow : Type 0
 PhasesGrow =
     (s : Start) (es : List Event) (e : Event) → IsAllowed s.settings
-    → AfterRun s es (λ h. IfSome (next s.settings (program s) h e)
+    → AfterRun s es (λ h. IfSome (next_history s.settings (program s) h e)
     (λ g. Grows s h g (noted_by (step s.settings (program s) h.world e))))
 
 -- a core has at most one message to the vendor in flight

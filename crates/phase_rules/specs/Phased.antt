@@ -8,7 +8,7 @@ use Rattle.tcc_maps.specs.Nodes.{Core, Vendor, Event, Deliver}
 use Rattle.tcc_maps.specs.Words.{any_below}
 use Rattle.tcc_rules.specs.Picked.{chosen}
 use Rattle.tcc_rules.specs.State.{Phase, Halted}
-use Rattle.tcc_rules.specs.Step.{History, next, and_then}
+use Rattle.tcc_rules.specs.Step.{History, next_history, and_then}
 use Rattle.tcc_rules.specs.Useful.{useful}
 use Rattle.phase_rules.specs.Phases.{phase_of}
 
@@ -31,7 +31,7 @@ is_held s h _ = false
 
 -- the state and the commits after an event; None: it isn't enabled, or it is held back
 unfoldable pub phased_next : Start → History → Event → Option History
-phased_next s h e = if is_held s h e then None else next s.settings (program s) h e
+phased_next s h e = if is_held s h e then None else next_history s.settings (program s) h e
 
 -- the events one after another, each enabled and not held back where it comes
 unfoldable pub phased_from : Start → List Event → History → Option History

@@ -11,7 +11,7 @@ use Rattle.tcc_program.specs.Ram.{word_of, unit_of, part, patched, loaded, store
 use Rattle.tcc_maps.specs.Shape.{Shape}
 use Rattle.tcc_maps.specs.Cache.{Cache}
 use Rattle.tcc_rules.specs.State.{CoreState, Awaited, Phase, Running, AwaitTid, DoomedTid, Probing, Ready, Overflowing, Solo, Halted}
-use Rattle.tcc_rules.specs.Attempt.{finished, new_word, stepped as core_stepped}
+use Rattle.tcc_rules.specs.Attempt.{finished, new_word, one_more_instruction}
 use Rattle.tcc_attempt.specs.Follows.{NeedFits, Uses, Agrees, IsSmall, sees, Reaches, EndFits, FollowsIn, Follows}
 
 pub agrees-left : (us vs : Uses) (ram : ℕ → ℕ) → Agrees (us ++ vs) ram → Agrees us ram
@@ -105,7 +105,7 @@ with_words s c sp = record s { cache = c; spilled = sp }
 -- a plain step with this need, where the core's instruction is finished
 pub reaches-next : (base : ℕ) (p : Program) (s : CoreState) (c : Cache) (sp : ℕ → Option ℕ) (ram : ℕ → ℕ) (a : Attempt) (need : Need) (x : ℕ) → NeedFits need → Reaches s ram a → TakesOld base need x (sees s ram) →
     ((v : ℕ) → sees (with_words s c sp) ram v ≡ seen_after base need x (sees s ram) v) → Reaches (finished p need x (with_words s c sp)) ram (stepped base p a need)
-unfolding finished core_stepped sees loaded
+unfolding finished one_more_instruction sees loaded
 reaches-next base p s c sp ram a Nothing x f r t h = record {
   local = ap (λ l. p.after l None) r.local;
   loads = r.loads;
@@ -214,7 +214,7 @@ next-from base p s t ram None q g h f = absurd h
 next-from base p s t ram (Some a) q g h f = some-and (steps base p (s.n + 1) (begun s.saved ram)) (Reaches t ram) (stepped base p a (p.need a.local)) (steps-next base p s.n (begun s.saved ram) a q (h.outcome ∙ g)) (f a h)
 
 finished-n : (p : Program) (need : Need) (x : ℕ) (s : CoreState) → (finished p need x s).n ≡ s.n + 1
-unfolding finished core_stepped
+unfolding finished one_more_instruction
 finished-n p Nothing x s = refl
 finished-n p (Loads addr size) x s = refl
 finished-n p (Stores addr size value) x s = refl
@@ -225,7 +225,7 @@ finished-n p (Halts code) x s = refl
 finished-n p (Traps code) x s = refl
 
 finished-saved : (p : Program) (need : Need) (x : ℕ) (s : CoreState) → (finished p need x s).saved ≡ s.saved
-unfolding finished core_stepped
+unfolding finished one_more_instruction
 finished-saved p Nothing x s = refl
 finished-saved p (Loads addr size) x s = refl
 finished-saved p (Stores addr size value) x s = refl

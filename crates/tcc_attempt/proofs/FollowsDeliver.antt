@@ -13,14 +13,14 @@ use Rattle.tcc_maps.specs.CacheChange.{filled, invalidated, cleaned, evicted, re
 use Rattle.tcc_maps.specs.Spilled.{spill_line, none_spilled}
 use Rattle.tcc_maps.proofs.Lemmas.{value-evicted, modified-evicted, value-filled, modified-filled, value-invalidated, modified-invalidated, modified-rolled_back}
 use Rattle.tcc_rules.specs.State.{CoreState, Awaited, Phase, Running, AwaitTid, DoomedTid, Probing, Ready, Overflowing, Solo, Halted}
-use Rattle.tcc_rules.specs.Sends.{nothing, to, marks_for, written_back}
+use Rattle.tcc_rules.specs.Sends.{nothing, to, marks_for, write_back_line}
 use Rattle.tcc_rules.specs.Attempt.{Out, moves, is_solo, roll_back}
 use Rattle.tcc_rules.specs.CoreEvict.{is_awaited, evict_line, core_evict}
-use Rattle.tcc_rules.specs.CoreDeliver.{ignored, grant_phase, grant, probing, is_probed, replied, all_replied, reply_phase, probe_reply, fill_awaited, fill, data_request, violated_in, if_violated, staled, without, is_violated, acknowledged, invalidate, from_dir, from_vendor, core_deliver}
+use Rattle.tcc_rules.specs.CoreDeliver.{ignored, grant_in_phase, grant, probing_or_ready, is_probed, replied, all_replied, reply_in_phase, probe_reply, fill_awaited, fill, data_request, violated_in_phase, if_violated, staled, words_invalidated, is_violated, acknowledged, invalidate, from_dir, from_vendor, core_deliver}
 use Rattle.tcc_attempt.specs.Sound.{SoundCore}
 use Rattle.tcc_attempt.specs.Follows.{Uses, sees, HasEnded, EndFits, Follows}
 use Rattle.tcc_attempt.specs.Views.{uses_violated, uses_delivered}
-use Rattle.tcc_attempt.proofs.SoundDeliver.{without-sound}
+use Rattle.tcc_attempt.proofs.SoundDeliver.{words_invalidated-sound}
 use Rattle.tcc_attempt.proofs.Follows.{with_words, is_live, in-from, follows-same, follows-into}
 use Rattle.tcc_attempt.proofs.FollowsExec.{fresh-claims}
 
@@ -42,7 +42,7 @@ evict_line-follows : (sh : Shape) (p : Program) (x y : ℕ) (s : CoreState) (us 
 evict_line-follows sh p x y s us None e k a = tt
 evict_line-follows sh p x y s us (Some l) e k a = at (is_awaited s.awaited l || (is_marked s.cache l && not (is_solo s.phase)))
   where
-    at : (b : Bool) → IfSome (cond b None (Some (moves (record s { cache = evicted x y s.cache; spilled = spill_line l s.cache s.spilled }) (written_back sh s.cache l)))) (λ t. Follows sh p t.core us)
+    at : (b : Bool) → IfSome (cond b None (Some (moves (record s { cache = evicted x y s.cache; spilled = spill_line l s.cache s.spilled }) (write_back_line sh s.cache l)))) (λ t. Follows sh p t.core us)
     at true = tt
     at false = follows-same sh p s us (evicted x y s.cache) (spill_line l s.cache s.spilled) s.awaited s.owing (evicted-seen sh x y l s e k) a
 
@@ -53,38 +53,38 @@ core_evict-follows sh p x y s us k a = evict_line-follows sh p x y s us (s.cache
 ends-in : (s : CoreState) (q : Phase) → s.phase ≡ q → EndFits s.phase s.ended → EndFits q s.ended
 ends-in s q e h = subst (λ (x : Phase). EndFits x s.ended) e h
 
-probing-ends : (b : Bool) (t : ℕ) (o : Outcome) → HasEnded o → EndFits (probing b t) o
+probing-ends : (b : Bool) (t : ℕ) (o : Outcome) → HasEnded o → EndFits (probing_or_ready b t) o
 probing-ends true t o h = h
 probing-ends false t o h = h
 
-grant_phase-follows : (sh : Shape) (p : Program) (t : ℕ) (s : CoreState) (us : Uses) (q : Phase) → s.phase ≡ q → Follows sh p s us → Follows sh p (grant_phase sh t s q).core us
-grant_phase-follows sh p t s us AwaitTid e a = follows-into sh p s us s.cache s.spilled (probing (any_below (is_probed sh s.cache) sh.dirs) t) s.awaited (is_probed sh s.cache) (λ ram v. refl) (ap is_live e) (probing-ends (any_below (is_probed sh s.cache) sh.dirs) t s.ended (ends-in s AwaitTid e a.ends)) a
-grant_phase-follows sh p t s us DoomedTid e a = follows-into sh p s us s.cache s.spilled Running s.awaited s.owing (λ ram v. refl) (ap is_live e) (ends-in s DoomedTid e a.ends) a
-grant_phase-follows sh p t s us (Overflowing None) e a = follows-into sh p s us s.cache s.spilled (Overflowing (Some t)) s.awaited (λ d. nat_lt d sh.dirs) (λ ram v. refl) (ap is_live e) (ends-in s (Overflowing None) e a.ends) a
-grant_phase-follows sh p t s us (Overflowing (Some u)) e a = a
-grant_phase-follows sh p t s us Running e a = a
-grant_phase-follows sh p t s us (Probing u) e a = a
-grant_phase-follows sh p t s us (Ready u) e a = a
-grant_phase-follows sh p t s us (Solo u) e a = a
-grant_phase-follows sh p t s us Halted e a = a
+grant_in_phase-follows : (sh : Shape) (p : Program) (t : ℕ) (s : CoreState) (us : Uses) (q : Phase) → s.phase ≡ q → Follows sh p s us → Follows sh p (grant_in_phase sh t s q).core us
+grant_in_phase-follows sh p t s us AwaitTid e a = follows-into sh p s us s.cache s.spilled (probing_or_ready (any_below (is_probed sh s.cache) sh.dirs) t) s.awaited (is_probed sh s.cache) (λ ram v. refl) (ap is_live e) (probing-ends (any_below (is_probed sh s.cache) sh.dirs) t s.ended (ends-in s AwaitTid e a.ends)) a
+grant_in_phase-follows sh p t s us DoomedTid e a = follows-into sh p s us s.cache s.spilled Running s.awaited s.owing (λ ram v. refl) (ap is_live e) (ends-in s DoomedTid e a.ends) a
+grant_in_phase-follows sh p t s us (Overflowing None) e a = follows-into sh p s us s.cache s.spilled (Overflowing (Some t)) s.awaited (λ d. nat_lt d sh.dirs) (λ ram v. refl) (ap is_live e) (ends-in s (Overflowing None) e a.ends) a
+grant_in_phase-follows sh p t s us (Overflowing (Some u)) e a = a
+grant_in_phase-follows sh p t s us Running e a = a
+grant_in_phase-follows sh p t s us (Probing u) e a = a
+grant_in_phase-follows sh p t s us (Ready u) e a = a
+grant_in_phase-follows sh p t s us (Solo u) e a = a
+grant_in_phase-follows sh p t s us Halted e a = a
 
 grant-follows : (sh : Shape) (p : Program) (t : ℕ) (s : CoreState) (us : Uses) → Follows sh p s us → Follows sh p (grant sh t s).core us
 unfolding grant
-grant-follows sh p t s us a = grant_phase-follows sh p t s us s.phase refl a
+grant-follows sh p t s us a = grant_in_phase-follows sh p t s us s.phase refl a
 
 cleared-seen : (s : CoreState) (ram : ℕ → ℕ) (v : ℕ) → sees (with_words s (read_cleared s.cache) s.spilled) ram v ≡ sees s ram v
 unfolding sees read_cleared
 cleared-seen s ram v = refl
 
-reply_phase-follows : (sh : Shape) (p : Program) (d t : ℕ) (s : CoreState) (us : Uses) (q : Phase) → s.phase ≡ q → Follows sh p s us → Follows sh p (reply_phase sh d t s q).core us
+reply_in_phase-follows : (sh : Shape) (p : Program) (d t : ℕ) (s : CoreState) (us : Uses) (q : Phase) → s.phase ≡ q → Follows sh p s us → Follows sh p (reply_in_phase sh d t s q).core us
 unfolding read_cleared
-reply_phase-follows sh p d t s us (Probing u) e a = at (u == t && s.owing d) (all_replied sh (replied d s).owing)
+reply_in_phase-follows sh p d t s us (Probing u) e a = at (u == t && s.owing d) (all_replied sh (replied d s).owing)
   where
     at : (b c : Bool) → Follows sh p (cond b (moves (cond c (record (replied d s) { phase = Ready t }) (replied d s)) (to (Dir d) (marks_for sh s.cache t d))) (ignored s)).core us
     at true true = follows-into sh p s us s.cache s.spilled (Ready t) s.awaited (put s.owing d false) (λ ram v. refl) (ap is_live e) (ends-in s (Probing u) e a.ends) a
     at true false = follows-same sh p s us s.cache s.spilled s.awaited (put s.owing d false) (λ ram v. refl) a
     at false c = a
-reply_phase-follows sh p d t s us (Overflowing (Some u)) e a = at (u == t && s.owing d) (all_replied sh (replied d s).owing)
+reply_in_phase-follows sh p d t s us (Overflowing (Some u)) e a = at (u == t && s.owing d) (all_replied sh (replied d s).owing)
   where
     seen_same : (ram : ℕ → ℕ) (v : ℕ) → sees (with_words s (read_cleared s.cache) s.spilled) ram v ≡ sees s ram v
     seen_same ram v = cleared-seen s ram v
@@ -93,13 +93,13 @@ reply_phase-follows sh p d t s us (Overflowing (Some u)) e a = at (u == t && s.o
     at true true = follows-into sh p s us (read_cleared s.cache) s.spilled (Solo t) s.awaited (put s.owing d false) seen_same (ap is_live e) (ends-in s (Overflowing (Some u)) e a.ends) a
     at true false = follows-same sh p s us s.cache s.spilled s.awaited (put s.owing d false) (λ ram v. refl) a
     at false c = a
-reply_phase-follows sh p d t s us (Overflowing None) e a = a
-reply_phase-follows sh p d t s us Running e a = a
-reply_phase-follows sh p d t s us AwaitTid e a = a
-reply_phase-follows sh p d t s us DoomedTid e a = a
-reply_phase-follows sh p d t s us (Ready u) e a = a
-reply_phase-follows sh p d t s us (Solo u) e a = a
-reply_phase-follows sh p d t s us Halted e a = a
+reply_in_phase-follows sh p d t s us (Overflowing None) e a = a
+reply_in_phase-follows sh p d t s us Running e a = a
+reply_in_phase-follows sh p d t s us AwaitTid e a = a
+reply_in_phase-follows sh p d t s us DoomedTid e a = a
+reply_in_phase-follows sh p d t s us (Ready u) e a = a
+reply_in_phase-follows sh p d t s us (Solo u) e a = a
+reply_in_phase-follows sh p d t s us Halted e a = a
 
 -- a filled frame keeps the words that were valid, so all that are modified
 filled-seen : (sh : Shape) (l : ℕ) (ws : List ℕ) (s : CoreState) → IsCache sh s.cache → (ram : ℕ → ℕ) (v : ℕ) → sees (with_words s (filled l ws s.cache) s.spilled) ram v ≡ sees s ram v
@@ -144,9 +144,10 @@ invalidated-seen l m s ram v = rw (value-invalidated l m s.cache v, modified-inv
     at true false = refl
     at false c = refl
 
-without-follows : (sh : Shape) (p : Program) (l m : ℕ) (s : CoreState) (us : Uses) → Follows sh p s us → Follows sh p (without l m s) us
-unfolding without
-without-follows sh p l m s us a = follows-same sh p s us (invalidated l m s.cache) s.spilled (staled l s.awaited) s.owing (invalidated-seen l m s) a
+words_invalidated-follows : (sh : Shape) (p : Program) (l m : ℕ) (s : CoreState) (us : Uses) → Follows sh p s us →
+    Follows sh p (words_invalidated l m s) us
+unfolding words_invalidated
+words_invalidated-follows sh p l m s us a = follows-same sh p s us (invalidated l m s.cache) s.spilled (staled l s.awaited) s.owing (invalidated-seen l m s) a
 
 -- rolled back
 pub rolled-follows : (sh : Shape) (p : Program) (s : CoreState) (q : Phase) (sp : ℕ → Option ℕ) → ((w : ℕ) → sp w ≡ None) → EndFits q Goes → Follows sh p (record (roll_back s) { phase = q; spilled = sp }) []
@@ -157,7 +158,7 @@ rolled-follows sh p s q sp f e = record {
       (record { n = refl; local = refl; loads = refl; stores = refl; console = refl; ended = refl; words = λ ram v. rw (f v, modified-rolled_back s.cache v) }));
 }
 
-violated-follows : (sh : Shape) (p : Program) (s : CoreState) (us : Uses) (q : Phase) → s.phase ≡ q → SoundCore sh s → Follows sh p s us → Follows sh p (violated_in sh s q).core (uses_violated true q us)
+violated-follows : (sh : Shape) (p : Program) (s : CoreState) (us : Uses) (q : Phase) → s.phase ≡ q → SoundCore sh s → Follows sh p s us → Follows sh p (violated_in_phase sh s q).core (uses_violated true q us)
 unfolding roll_back none_spilled
 violated-follows sh p s us Running e k a = rolled-follows sh p s s.phase s.spilled (k.alone (ap is_solo e)) (subst (λ (x : Phase). EndFits x Goes) (sym e) refl)
 violated-follows sh p s us AwaitTid e k a = rolled-follows sh p s DoomedTid s.spilled (k.alone (ap is_solo e)) refl
@@ -175,15 +176,15 @@ if_violated-follows sh p true s us k a = violated-follows sh p s us s.phase refl
 if_violated-follows sh p false s us k a = a
 
 invalidate-follows : (sh : Shape) (p : Program) (l m u : ℕ) (s : CoreState) (us : Uses) → SoundCore sh s → Follows sh p s us → Follows sh p (invalidate sh l m u s).core (uses_violated (is_violated l m u s) s.phase us)
-unfolding invalidate acknowledged without
-invalidate-follows sh p l m u s us k a = if_violated-follows sh p (is_violated l m u s) (without l m s) us (without-sound sh l m s k) (without-follows sh p l m s us a)
+unfolding invalidate acknowledged words_invalidated
+invalidate-follows sh p l m u s us k a = if_violated-follows sh p (is_violated l m u s) (words_invalidated l m s) us (words_invalidated-sound sh l m s k) (words_invalidated-follows sh p l m s us a)
 
 abbrev pub OutGoes : Shape → Program → Uses → Option Out → Type 0
 OutGoes sh p us o = IfSome o (λ t. Follows sh p t.core us)
 
 from_dir-follows : (sh : Shape) (p : Program) (d : ℕ) (s : CoreState) (us : Uses) (m : Msg) → SoundCore sh s → Follows sh p s us → OutGoes sh p (uses_delivered s m us) (from_dir sh d s m)
 unfolding probe_reply
-from_dir-follows sh p d s us (ProbeReply t serving) k a = reply_phase-follows sh p d t s us s.phase refl a
+from_dir-follows sh p d s us (ProbeReply t serving) k a = reply_in_phase-follows sh p d t s us s.phase refl a
 from_dir-follows sh p d s us (Fill l ws) k a = fill-follows sh p l ws s us k a
 from_dir-follows sh p d s us (DataReq l) k a = request-follows sh p l s us a
 from_dir-follows sh p d s us (Inv l m t) k a = invalidate-follows sh p l m t s us k a

@@ -15,11 +15,11 @@ use Rattle.tcc_maps.specs.CacheChange.{marked, stored, placed}
 use Rattle.tcc_maps.specs.Spilled.{holds, none_spilled}
 use Rattle.tcc_maps.proofs.Lemmas.{value-placed, modified-placed, modified-committed}
 use Rattle.tcc_rules.specs.State.{CoreState, Awaited, Phase, Running, AwaitTid, DoomedTid, Probing, Ready, Overflowing, Solo, Halted}
-use Rattle.tcc_rules.specs.Sends.{nothing, flushed}
+use Rattle.tcc_rules.specs.Sends.{nothing, flush_line}
 use Rattle.tcc_rules.specs.Attempt.{Out, moves, is_solo, is_running, finished, new_word}
-use Rattle.tcc_rules.specs.Commit.{phase_after, ended_after, committed_core, commit, solo_commit}
-use Rattle.tcc_rules.specs.Execute.{ask, place, overflow, full_set, fetch, used, load_valid, load_spilled, load, buffered, framed, word_store, also_read, change_valid, change_spilled, partial_store, close, execute_need, execute}
-use Rattle.tcc_rules.specs.CoreExec.{unless_awaiting, exec_phase, core_exec}
+use Rattle.tcc_rules.specs.Commit.{phase_after_commit, ended_after_commit, committed_core, commit, solo_commit}
+use Rattle.tcc_rules.specs.Execute.{request_line, place, overflow, full_set, miss, with_read_mark, load_valid, load_spilled, load, stored_in_buffer, stored_in_frame, word_store, marks_read, change_valid, change_spilled, partial_store, end_transaction, execute_need, execute}
+use Rattle.tcc_rules.specs.CoreExec.{unless_awaiting, exec_in_phase, core_exec}
 use Rattle.tcc_attempt.specs.Sound.{SoundCore}
 use Rattle.tcc_attempt.specs.Follows.{NeedFits, Fits, Uses, Agrees, sees, HasEnded, EndFits, Follows, used_in, used_at, used_by}
 use Rattle.tcc_attempt.proofs.Sound.{holds-none}
@@ -55,17 +55,17 @@ valid-seen s ram w x e v h = at (s.cache.modified w) refl
         agreed q = let i : used_at s w ≡ (w, x) ∷ [] = rw (e, q, v) in (subst (λ (l : Uses). Agrees l ram) i h).0
 
 -- words put into the buffer or a frame, and frames placed or marked
-buffered-seen : (s : CoreState) (ram : ℕ → ℕ) (w y v : ℕ) → sees (with_words s s.cache (put s.spilled w (Some y))) ram v ≡ cond (v == w) y (sees s ram v)
+stored_in_buffer-seen : (s : CoreState) (ram : ℕ → ℕ) (w y v : ℕ) → sees (with_words s s.cache (put s.spilled w (Some y))) ram v ≡ cond (v == w) y (sees s ram v)
 unfolding sees
-buffered-seen s ram w y v = at (v == w)
+stored_in_buffer-seen s ram w y v = at (v == w)
   where
     at : (b : Bool) → unwrap_or (cond b (Some y) (s.spilled v)) (cond (s.cache.modified v) (unwrap_or (s.cache.value v) 0) (ram v)) ≡ cond b y (unwrap_or (s.spilled v) (cond (s.cache.modified v) (unwrap_or (s.cache.value v) 0) (ram v)))
     at true = refl
     at false = refl
 
-framed-seen : (s : CoreState) (c : Cache) (ram : ℕ → ℕ) (w y : ℕ) (also : Bool) (v : ℕ) → s.spilled w ≡ None → sees (with_words s (stored w y also c) s.spilled) ram v ≡ cond (v == w) y (sees (with_words s c s.spilled) ram v)
+stored_in_frame-seen : (s : CoreState) (c : Cache) (ram : ℕ → ℕ) (w y : ℕ) (also : Bool) (v : ℕ) → s.spilled w ≡ None → sees (with_words s (stored w y also c) s.spilled) ram v ≡ cond (v == w) y (sees (with_words s c s.spilled) ram v)
 unfolding sees stored
-framed-seen s c ram w y also v e = at (v == w) refl
+stored_in_frame-seen s c ram w y also v e = at (v == w) refl
   where
     at : (b : Bool) → (v == w) ≡ b → unwrap_or (s.spilled v) (cond (cond b true (c.modified v)) (unwrap_or (cond b (Some y) (c.value v)) 0) (ram v)) ≡ cond b y (unwrap_or (s.spilled v) (cond (c.modified v) (unwrap_or (c.value v) 0) (ram v)))
     at true q = let i : v ≡ w = grind (arith, nat_tests) in let n : s.spilled v ≡ None = ap s.spilled i ∙ e in rw n
@@ -91,7 +91,7 @@ GoesOn (Halts code) = ⊥
 GoesOn (Traps code) = ⊥
 
 finished-ends : (p : Program) (need : Need) (x : ℕ) (s : CoreState) → GoesOn need → EndFits s.phase s.ended → EndFits (finished p need x s).phase (finished p need x s).ended
-unfolding finished Rattle.tcc_rules.specs.Attempt.stepped
+unfolding finished Rattle.tcc_rules.specs.Attempt.one_more_instruction
 finished-ends p Nothing x s g e = e
 finished-ends p (Loads addr size) x s g e = e
 finished-ends p (Stores addr size value) x s g e = e
@@ -132,20 +132,20 @@ full_set-follows sh p l s us a = at (is_solo s.phase || not (all_marked sh s.cac
     at true = tt
     at false = overflow-follows sh p s us a
 
-ask-follows : (sh : Shape) (p : Program) (l : ℕ) (s : CoreState) (us : Uses) → Acts sh p s us → Follows sh p (ask sh l s).core (uses_after (ask sh l s) us)
-unfolding ask
-ask-follows sh p l s us a = follows-same sh p s us s.cache s.spilled (Some (record { line = l; stale = false })) s.owing (λ ram v. refl) a.follows
+request_line-follows : (sh : Shape) (p : Program) (l : ℕ) (s : CoreState) (us : Uses) → Acts sh p s us → Follows sh p (request_line sh l s).core (uses_after (request_line sh l s) us)
+unfolding request_line
+request_line-follows sh p l s us a = follows-same sh p s us s.cache s.spilled (Some (record { line = l; stale = false })) s.owing (λ ram v. refl) a.follows
 
-place_ask-follows : (sh : Shape) (p : Program) (l : ℕ) (s : CoreState) (us : Uses) → Acts sh p s us → Follows sh p (ask sh l (place sh l s)).core (uses_after (ask sh l (place sh l s)) us)
-unfolding ask place
+place_ask-follows : (sh : Shape) (p : Program) (l : ℕ) (s : CoreState) (us : Uses) → Acts sh p s us → Follows sh p (request_line sh l (place sh l s)).core (uses_after (request_line sh l (place sh l s)) us)
+unfolding request_line place
 place_ask-follows sh p l s us a = follows-same sh p s us (placed sh l s.cache) s.spilled (Some (record { line = l; stale = false })) s.owing (λ ram v. placed-seen sh l s ram v) a.follows
 
-fetch-follows : (sh : Shape) (p : Program) (l : ℕ) (s : CoreState) (us : Uses) → Acts sh p s us → OutFollows sh p us (fetch sh l s)
-unfolding fetch
-fetch-follows sh p l s us a = at (s.cache.held l) (free_way sh s.cache (set_of sh l))
+miss-follows : (sh : Shape) (p : Program) (l : ℕ) (s : CoreState) (us : Uses) → Acts sh p s us → OutFollows sh p us (miss sh l s)
+unfolding miss
+miss-follows sh p l s us a = at (s.cache.held l) (free_way sh s.cache (set_of sh l))
   where
-    at : (b : Bool) (o : Option ℕ) → OutFollows sh p us (cond b (Some (ask sh l s)) (cond (is_some o) (Some (ask sh l (place sh l s))) (full_set sh l s)))
-    at true o = ask-follows sh p l s us a
+    at : (b : Bool) (o : Option ℕ) → OutFollows sh p us (cond b (Some (request_line sh l s)) (cond (is_some o) (Some (request_line sh l (place sh l s))) (full_set sh l s)))
+    at true o = request_line-follows sh p l s us a
     at false (Some y) = place_ask-follows sh p l s us a
     at false None = full_set-follows sh p l s us a
 
@@ -162,7 +162,7 @@ nothing-used s w e v = rw (e, v) (missed w (s.cache.modified w))
 
 pub load-follows : (sh : Shape) (p : Program) (addr : ℕ) (size : Size) (s : CoreState) (us : Uses) → NeedFits (Loads addr size) → p.need s.local ≡ Loads addr size → Acts sh p s us →
     OutFollows sh p (us ++ used_at s (word_of sh.base addr)) (load sh p (Loads addr size) (word_of sh.base addr) s)
-unfolding load used
+unfolding load with_read_mark
 load-follows sh p addr size s us f e a = spilled_in (s.spilled (word_of sh.base addr)) refl
   where
     w : ℕ
@@ -174,7 +174,7 @@ load-follows sh p addr size s us f e a = spilled_in (s.spilled (word_of sh.base 
 
     valid_in : (o : Option ℕ) → s.spilled w ≡ None → s.cache.value w ≡ o → OutFollows sh p (us ++ used_at s w) (load_valid sh p (Loads addr size) w s o)
     valid_in (Some x) n v = used_follows x n v (is_running s.phase)
-    valid_in None n v = unused sh p us (used_at s w) (fetch sh (line_of w) s) (nothing-used s w n v) (fetch-follows sh p (line_of w) s us a)
+    valid_in None n v = unused sh p us (used_at s w) (miss sh (line_of w) s) (nothing-used s w n v) (miss-follows sh p (line_of w) s us a)
 
     spilled_in : (o : Option ℕ) → s.spilled w ≡ o → OutFollows sh p (us ++ used_at s w) (load_spilled sh p (Loads addr size) w s o)
     spilled_in (Some x) q = goes-on sh p s us (used_at s w) s.cache s.spilled (Loads addr size) x tt f e a (λ ram g. sees-spilled s ram w x q) (λ ram g u. refl)
@@ -182,7 +182,7 @@ load-follows sh p addr size s us f e a = spilled_in (s.spilled (word_of sh.base 
 
 word_store-follows : (sh : Shape) (p : Program) (addr value : ℕ) (s : CoreState) (us : Uses) → NeedFits (Stores addr Word value) → p.need s.local ≡ Stores addr Word value → Acts sh p s us →
     OutFollows sh p (us ++ []) (word_store sh p (Stores addr Word value) (word_of sh.base addr) value s)
-unfolding word_store buffered framed place
+unfolding word_store stored_in_buffer stored_in_frame place
 word_store-follows sh p addr value s us f e a = at (holds s.spilled (line_of w)) refl (s.cache.held (line_of w)) (free_way sh s.cache (set_of sh (line_of w)))
   where
     w : ℕ
@@ -196,13 +196,14 @@ word_store-follows sh p addr value s us f e a = at (holds s.spilled (line_of w))
         none_is (Some x) q = absurd (cc)
 
     at : (b : Bool) → holds s.spilled (line_of w) ≡ b → (c : Bool) (o : Option ℕ) →
-        OutFollows sh p (us ++ []) (cond b (Some (moves (finished p (Stores addr Word value) value (buffered w value s)) nothing))
-        (cond c (Some (moves (finished p (Stores addr Word value) value (framed w value false s)) (flushed sh s.cache (line_of w))))
-        (cond (is_some o) (Some (moves (finished p (Stores addr Word value) value (framed w value false (place sh (line_of w) s))) nothing)) (full_set sh (line_of w) s))))
-    at true h c o = goes-on sh p s us [] s.cache (put s.spilled w (Some value)) (Stores addr Word value) value tt f e a (λ ram g. tt) (λ ram g v. buffered-seen s ram w value v)
-    at false h true o = goes-on sh p s us [] (stored w value false s.cache) s.spilled (Stores addr Word value) value tt f e a (λ ram g. tt) (λ ram g v. framed-seen s s.cache ram w value false v (unspilled h))
+        OutFollows sh p (us ++ []) (cond b (Some (moves (finished p (Stores addr Word value) value (stored_in_buffer w value s)) nothing))
+        (cond c
+        (Some (moves (finished p (Stores addr Word value) value (stored_in_frame w value false s)) (flush_line sh s.cache (line_of w))))
+        (cond (is_some o) (Some (moves (finished p (Stores addr Word value) value (stored_in_frame w value false (place sh (line_of w) s))) nothing)) (full_set sh (line_of w) s))))
+    at true h c o = goes-on sh p s us [] s.cache (put s.spilled w (Some value)) (Stores addr Word value) value tt f e a (λ ram g. tt) (λ ram g v. stored_in_buffer-seen s ram w value v)
+    at false h true o = goes-on sh p s us [] (stored w value false s.cache) s.spilled (Stores addr Word value) value tt f e a (λ ram g. tt) (λ ram g v. stored_in_frame-seen s s.cache ram w value false v (unspilled h))
     at false h false (Some y) = goes-on sh p s us [] (stored w value false (placed sh (line_of w) s.cache)) s.spilled (Stores addr Word value) value tt f e a (λ ram g. tt)
-        (λ ram g v. framed-seen s (placed sh (line_of w) s.cache) ram w value false v (unspilled h) ∙ ap (λ y. cond (v == w) value y) (placed-seen sh (line_of w) s ram v))
+        (λ ram g v. stored_in_frame-seen s (placed sh (line_of w) s.cache) ram w value false v (unspilled h) ∙ ap (λ y. cond (v == w) value y) (placed-seen sh (line_of w) s ram v))
     at false h false None = unused sh p us [] (full_set sh (line_of w) s) refl (full_set-follows sh p (line_of w) s us a)
 
 -- the needs that make a new word from the old one
@@ -213,20 +214,20 @@ pub record Partial (base : ℕ) (need : Need) (w : ℕ) : Type 0 where
 
 partial_store-follows : (sh : Shape) (p : Program) (need : Need) (w : ℕ) (s : CoreState) (us : Uses) → Partial sh.base need w → NeedFits need → p.need s.local ≡ need → Acts sh p s us →
     OutFollows sh p (us ++ used_at s w) (partial_store sh p need w s)
-unfolding partial_store buffered framed
+unfolding partial_store stored_in_buffer stored_in_frame
 partial_store-follows sh p need w s us k f e a = spilled_in (s.spilled w) refl
   where
-    into_buffer : (x : ℕ) → ((ram : ℕ → ℕ) → Agrees (used_at s w) ram → sees s ram w ≡ x) → Follows sh p (finished p need x (buffered w (new_word need x) s)) (us ++ used_at s w)
-    into_buffer x g = goes-on sh p s us (used_at s w) s.cache (put s.spilled w (Some (new_word need x))) need x k.goes f e a (λ ram q. k.takes x (sees s ram) (g ram q)) (λ ram q v. buffered-seen s ram w (new_word need x) v ∙ sym (k.leaves x (sees s ram) v))
+    into_buffer : (x : ℕ) → ((ram : ℕ → ℕ) → Agrees (used_at s w) ram → sees s ram w ≡ x) → Follows sh p (finished p need x (stored_in_buffer w (new_word need x) s)) (us ++ used_at s w)
+    into_buffer x g = goes-on sh p s us (used_at s w) s.cache (put s.spilled w (Some (new_word need x))) need x k.goes f e a (λ ram q. k.takes x (sees s ram) (g ram q)) (λ ram q v. stored_in_buffer-seen s ram w (new_word need x) v ∙ sym (k.leaves x (sees s ram) v))
 
     held_in : (x : ℕ) → s.spilled w ≡ None → s.cache.value w ≡ Some x → (b : Bool) →
-        OutFollows sh p (us ++ used_at s w) (cond b (Some (moves (finished p need x (buffered w (new_word need x) s)) nothing)) (Some (moves (finished p need x (framed w (new_word need x) (also_read w s) s)) (flushed sh s.cache (line_of w)))))
+        OutFollows sh p (us ++ used_at s w) (cond b (Some (moves (finished p need x (stored_in_buffer w (new_word need x) s)) nothing)) (Some (moves (finished p need x (stored_in_frame w (new_word need x) (marks_read w s) s)) (flush_line sh s.cache (line_of w)))))
     held_in x n v true = into_buffer x (λ ram g. valid-seen s ram w x n v g)
-    held_in x n v false = goes-on sh p s us (used_at s w) (stored w (new_word need x) (also_read w s) s.cache) s.spilled need x k.goes f e a (λ ram g. k.takes x (sees s ram) (valid-seen s ram w x n v g))
-        (λ ram g u. framed-seen s s.cache ram w (new_word need x) (also_read w s) u n ∙ sym (k.leaves x (sees s ram) u))
+    held_in x n v false = goes-on sh p s us (used_at s w) (stored w (new_word need x) (marks_read w s) s.cache) s.spilled need x k.goes f e a (λ ram g. k.takes x (sees s ram) (valid-seen s ram w x n v g))
+        (λ ram g u. stored_in_frame-seen s s.cache ram w (new_word need x) (marks_read w s) u n ∙ sym (k.leaves x (sees s ram) u))
 
     valid_in : (o : Option ℕ) → s.spilled w ≡ None → s.cache.value w ≡ o → OutFollows sh p (us ++ used_at s w) (change_valid sh p need w s o)
-    valid_in None n v = unused sh p us (used_at s w) (fetch sh (line_of w) s) (nothing-used s w n v) (fetch-follows sh p (line_of w) s us a)
+    valid_in None n v = unused sh p us (used_at s w) (miss sh (line_of w) s) (nothing-used s w n v) (miss-follows sh p (line_of w) s us a)
     valid_in (Some x) n v = held_in x n v (holds s.spilled (line_of w))
 
     spilled_in : (o : Option ℕ) → s.spilled w ≡ o → OutFollows sh p (us ++ used_at s w) (change_spilled sh p need w s o)
@@ -265,7 +266,7 @@ fresh-claims sh p s f ram small g = rw f.n (record {
 })
 
 -- what a commit leaves: the core runs on with an empty attempt, or has halted
-committed-follows : (sh : Shape) (p : Program) (s : CoreState) (o : Outcome) → Fresh (record s { ended = Goes }) → Follows sh p (record s { ended = ended_after o; phase = phase_after o }) []
+committed-follows : (sh : Shape) (p : Program) (s : CoreState) (o : Outcome) → Fresh (record s { ended = Goes }) → Follows sh p (record s { ended = ended_after_commit o; phase = phase_after_commit o }) []
 unfolding sees
 committed-follows sh p s Goes f = record { ends = refl; steps = fresh-claims sh p (record s { ended = Goes; phase = Running }) (record { n = f.n; local = f.local; loads = f.loads; stores = f.stores; console = f.console; ended = refl; words = f.words }) }
 committed-follows sh p s Ended f = record { ends = refl; steps = fresh-claims sh p (record s { ended = Goes; phase = Running }) (record { n = f.n; local = f.local; loads = f.loads; stores = f.stores; console = f.console; ended = refl; words = f.words }) }
@@ -285,7 +286,7 @@ commit-follows sh p id t s h k =
       loads = [];
       stores = [];
       console = [];
-      after = Rattle.tcc_rules.specs.Commit.after_commit (Rattle.tcc_maps.specs.Cache.writes_at sh s.cache) t s.after;
+      last_commit = Rattle.tcc_rules.specs.Commit.with_last_commit (Rattle.tcc_maps.specs.Cache.writes_at sh s.cache) t s.last_commit;
     }) s.ended
     (record { n = refl; local = refl; loads = refl; stores = refl; console = refl; ended = refl; words = λ ram v. unspilled-seen _ ram v (k.alone h v) (modified-committed t s.cache v) })
 
@@ -300,7 +301,9 @@ solo_commit-follows sh p id t s =
       stores = [];
       console = [];
       spilled = none_spilled;
-      after = Rattle.tcc_rules.specs.Commit.after_commit (Rattle.tcc_rules.specs.Commit.solo_writes_at sh s.cache s.spilled) t s.after;
+      last_commit =
+          Rattle.tcc_rules.specs.Commit.with_last_commit (Rattle.tcc_rules.specs.Commit.solo_writes_at sh s.cache s.spilled) t
+          s.last_commit;
     }) s.ended
     (record { n = refl; local = refl; loads = refl; stores = refl; console = refl; ended = refl; words = λ ram v. unspilled-seen _ ram v refl (modified-committed t (Rattle.tcc_maps.specs.CacheChange.words_dropped s.spilled s.cache) v) })
 
@@ -308,16 +311,16 @@ solo_commit-follows sh p id t s =
 awaits-tid : (sh : Shape) (p : Program) (t : CoreState) (us : Uses) → HasEnded t.ended → Claim sh p t us → Follows sh p (record t { phase = AwaitTid }) us
 awaits-tid sh p t us h k = record { ends = h; steps = claim-same sh p t us t.cache t.spilled AwaitTid t.awaited t.owing (λ ram v. refl) k }
 
-close-follows : (sh : Shape) (p : Program) (id : ℕ) (q : Phase) (t : CoreState) (us : Uses) → HasEnded t.ended → Claim sh p t us → OutFollows sh p us (Some (close sh id q t))
+end_transaction-follows : (sh : Shape) (p : Program) (id : ℕ) (q : Phase) (t : CoreState) (us : Uses) → HasEnded t.ended → Claim sh p t us → OutFollows sh p us (Some (end_transaction sh id q t))
 unfolding solo_commit
-close-follows sh p id (Solo tid) t us h k = solo_commit-follows sh p id tid t
-close-follows sh p id Running t us h k = awaits-tid sh p t us h k
-close-follows sh p id AwaitTid t us h k = awaits-tid sh p t us h k
-close-follows sh p id DoomedTid t us h k = awaits-tid sh p t us h k
-close-follows sh p id (Probing tid) t us h k = awaits-tid sh p t us h k
-close-follows sh p id (Ready tid) t us h k = awaits-tid sh p t us h k
-close-follows sh p id (Overflowing tid) t us h k = awaits-tid sh p t us h k
-close-follows sh p id Halted t us h k = awaits-tid sh p t us h k
+end_transaction-follows sh p id (Solo tid) t us h k = solo_commit-follows sh p id tid t
+end_transaction-follows sh p id Running t us h k = awaits-tid sh p t us h k
+end_transaction-follows sh p id AwaitTid t us h k = awaits-tid sh p t us h k
+end_transaction-follows sh p id DoomedTid t us h k = awaits-tid sh p t us h k
+end_transaction-follows sh p id (Probing tid) t us h k = awaits-tid sh p t us h k
+end_transaction-follows sh p id (Ready tid) t us h k = awaits-tid sh p t us h k
+end_transaction-follows sh p id (Overflowing tid) t us h k = awaits-tid sh p t us h k
+end_transaction-follows sh p id Halted t us h k = awaits-tid sh p t us h k
 
 ends-ended : (p : Program) (s : CoreState) → HasEnded (finished p Ends 0 s).ended
 unfolding finished
@@ -339,9 +342,9 @@ need-follows sh p id s us (Stores addr Word value) f e a = word_store-follows sh
 need-follows sh p id s us (Stores addr Half value) f e a = partial_store-follows sh p (Stores addr Half value) (word_of sh.base addr) s us (half-partial sh.base addr value) f e a
 need-follows sh p id s us (Stores addr Byte value) f e a = partial_store-follows sh p (Stores addr Byte value) (word_of sh.base addr) s us (byte-partial sh.base addr value) f e a
 need-follows sh p id s us (Changes addr changed) f e a = partial_store-follows sh p (Changes addr changed) (word_of sh.base addr) s us (changes-partial sh.base addr changed) f e a
-need-follows sh p id s us Ends f e a = close-follows sh p id s.phase (finished p Ends 0 s) (us ++ []) (ends-ended p s) (finished-claims sh p s us [] s.cache s.spilled Ends 0 f e a.goes (claimed sh p s us a) (λ ram g. tt) (λ ram g v. refl))
-need-follows sh p id s us (Halts code) f e a = close-follows sh p id s.phase (finished p (Halts code) 0 s) (us ++ []) (halts-ended p code s) (finished-claims sh p s us [] s.cache s.spilled (Halts code) 0 f e a.goes (claimed sh p s us a) (λ ram g. tt) (λ ram g v. refl))
-need-follows sh p id s us (Traps code) f e a = close-follows sh p id s.phase (finished p (Traps code) 0 s) (us ++ []) (traps-ended p code s) (finished-claims sh p s us [] s.cache s.spilled (Traps code) 0 f e a.goes (claimed sh p s us a) (λ ram g. tt) (λ ram g v. refl))
+need-follows sh p id s us Ends f e a = end_transaction-follows sh p id s.phase (finished p Ends 0 s) (us ++ []) (ends-ended p s) (finished-claims sh p s us [] s.cache s.spilled Ends 0 f e a.goes (claimed sh p s us a) (λ ram g. tt) (λ ram g v. refl))
+need-follows sh p id s us (Halts code) f e a = end_transaction-follows sh p id s.phase (finished p (Halts code) 0 s) (us ++ []) (halts-ended p code s) (finished-claims sh p s us [] s.cache s.spilled (Halts code) 0 f e a.goes (claimed sh p s us a) (λ ram g. tt) (λ ram g v. refl))
+need-follows sh p id s us (Traps code) f e a = end_transaction-follows sh p id s.phase (finished p (Traps code) 0 s) (us ++ []) (traps-ended p code s) (finished-claims sh p s us [] s.cache s.spilled (Traps code) 0 f e a.goes (claimed sh p s us a) (λ ram g. tt) (λ ram g v. refl))
 
 execute-follows : (sh : Shape) (p : Program) (id : ℕ) (s : CoreState) (us : Uses) → Fits p → Acts sh p s us → OutFollows sh p (us ++ used_by sh.base s (p.need s.local)) (execute sh p id s)
 unfolding execute
@@ -351,7 +354,7 @@ unless-follows : (sh : Shape) (p : Program) (id : ℕ) (s : CoreState) (us : Use
 unless-follows sh p id s us (Some x) f a = tt
 unless-follows sh p id s us None f a = execute-follows sh p id s us f a
 
-phase-follows : (sh : Shape) (p : Program) (id : ℕ) (s : CoreState) (us : Uses) (q : Phase) → s.phase ≡ q → Fits p → SoundCore sh s → Follows sh p s us → OutFollows sh p (us ++ used_by sh.base s (p.need s.local)) (exec_phase sh p id s q)
+phase-follows : (sh : Shape) (p : Program) (id : ℕ) (s : CoreState) (us : Uses) (q : Phase) → s.phase ≡ q → Fits p → SoundCore sh s → Follows sh p s us → OutFollows sh p (us ++ used_by sh.base s (p.need s.local)) (exec_in_phase sh p id s q)
 unfolding commit
 phase-follows sh p id s us Running e f k a = unless-follows sh p id s us s.awaited f (record { follows = a; sound = k; live = ap is_live e; goes = subst (λ (r : Phase). EndFits r s.ended) e a.ends })
 phase-follows sh p id s us (Solo t) e f k a = unless-follows sh p id s us s.awaited f (record { follows = a; sound = k; live = ap is_live e; goes = subst (λ (r : Phase). EndFits r s.ended) e a.ends })

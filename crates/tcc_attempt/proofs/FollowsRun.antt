@@ -16,7 +16,7 @@ use Rattle.tcc_rules.specs.CoreEvict.{core_evict}
 use Rattle.tcc_rules.specs.CoreDeliver.{core_deliver}
 use Rattle.tcc_rules.specs.DirDeliver.{Answer, Waits, Drops, Asks, Takes, dir_deliver}
 use Rattle.tcc_rules.specs.VendorDeliver.{Granted, vendor_deliver}
-use Rattle.tcc_rules.specs.Step.{Stepped, History, core_moves, core_takes, dir_takes, dir_asks, vendor_gives, moved, taken, answered, granted, delivered, if_in_flight, names_nodes, happens, step, recorded, and_noted, next, and_then, run_from, run}
+use Rattle.tcc_rules.specs.Step.{Stepped, History, core_moves, core_takes, dir_takes, dir_asks, vendor_gives, if_core_moves, if_core_takes, answered, if_vendor_gives, delivered, if_in_flight, names_nodes, happens, step, recorded, and_noted, next_history, and_then, run_from, run}
 use Rattle.tcc_attempt.specs.Follows.{Fits, Uses, sees, Follows, used_by}
 use Rattle.tcc_attempt.specs.Marks.{MarksFit, AttemptFits, AttemptsFit}
 use Rattle.tcc_attempt.specs.Views.{Views, no_views, uses_after, uses_executed, uses_delivered, views_delivered, views_after, then_views, views_from}
@@ -46,12 +46,12 @@ both-fit : (sh : Shape) (p : Program) (o : Option Out) (us : Out → Uses) → I
 both-fit sh p None us h k = tt
 both-fit sh p (Some o) us h k = record { follows = h; marks = k }
 
-executed-follow : (sh : Shape) (p : Program) (w : World) (vs : Views) (c : ℕ) (new : Uses) (o : Option Out) → AllFollow sh p w.cores vs → OutAttempt sh p o (λ t. uses_after t (vs c ++ new)) → IfSome (moved w c o) (λ t. AllFollow sh p t.world.cores (put vs c (uses_executed o (vs c) new)))
+executed-follow : (sh : Shape) (p : Program) (w : World) (vs : Views) (c : ℕ) (new : Uses) (o : Option Out) → AllFollow sh p w.cores vs → OutAttempt sh p o (λ t. uses_after t (vs c ++ new)) → IfSome (if_core_moves w c o) (λ t. AllFollow sh p t.world.cores (put vs c (uses_executed o (vs c) new)))
 unfolding core_moves
 executed-follow sh p w vs c new None h k = tt
 executed-follow sh p w vs c new (Some o) h k = put-follow sh p w.cores vs c o.core (uses_after o (vs c ++ new)) h k
 
-evicted-follow : (sh : Shape) (p : Program) (w : World) (vs : Views) (c : ℕ) (o : Option Out) → AllFollow sh p w.cores vs → OutAttempt sh p o (λ t. vs c) → IfSome (moved w c o) (λ t. AllFollow sh p t.world.cores vs)
+evicted-follow : (sh : Shape) (p : Program) (w : World) (vs : Views) (c : ℕ) (o : Option Out) → AllFollow sh p w.cores vs → OutAttempt sh p o (λ t. vs c) → IfSome (if_core_moves w c o) (λ t. AllFollow sh p t.world.cores vs)
 unfolding core_moves
 evicted-follow sh p w vs c None h k = tt
 evicted-follow sh p w vs c (Some o) h k = λ i. at i (i == c) refl
@@ -60,7 +60,7 @@ evicted-follow sh p w vs c (Some o) h k = λ i. at i (i == c) refl
     at i true e = let same : c ≡ i = grind (arith, nat_tests) in subst (λ j. AttemptFits sh p o.core (vs j)) same k
     at i false e = h i
 
-taken-follow : (sh : Shape) (p : Program) (w : World) (vs : Views) (src : Node) (c k : ℕ) (us : Uses) (o : Option Out) → AllFollow sh p w.cores vs → OutAttempt sh p o (λ t. us) → IfSome (taken w src c k o) (λ t. AllFollow sh p t.world.cores (put vs c us))
+taken-follow : (sh : Shape) (p : Program) (w : World) (vs : Views) (src : Node) (c k : ℕ) (us : Uses) (o : Option Out) → AllFollow sh p w.cores vs → OutAttempt sh p o (λ t. us) → IfSome (if_core_takes w src c k o) (λ t. AllFollow sh p t.world.cores (put vs c us))
 unfolding core_takes
 taken-follow sh p w vs src c k us None h i = tt
 taken-follow sh p w vs src c k us (Some o) h i = put-follow sh p w.cores vs c o.core us h i
@@ -72,7 +72,7 @@ answered-follow sh p w vs c d k Drops h = h
 answered-follow sh p w vs c d k (Asks s sends) h = h
 answered-follow sh p w vs c d k (Takes s sends) h = h
 
-granted-follow : (sh : Shape) (p : Program) (w : World) (vs : Views) (c k : ℕ) (g : Option Granted) → AllFollow sh p w.cores vs → IfSome (granted w c k g) (λ t. AllFollow sh p t.world.cores vs)
+granted-follow : (sh : Shape) (p : Program) (w : World) (vs : Views) (c k : ℕ) (g : Option Granted) → AllFollow sh p w.cores vs → IfSome (if_vendor_gives w c k g) (λ t. AllFollow sh p t.world.cores vs)
 unfolding vendor_gives
 granted-follow sh p w vs c k None h = tt
 granted-follow sh p w vs c k (Some g) h = h
@@ -108,7 +108,7 @@ run-step-follow sh p es h vs new None s k f = tt
 run-step-follow sh p es h vs new (Some t) s k f = f (record { world = t.world; commits = and_noted t.noted h.commits }) s k
 
 run_from-follow : (sh : Shape) (p : Program) (es : List Event) (h : History) (vs : Views) → Fits p → AllSound sh h.world.cores → AllFollow sh p h.world.cores vs → IfSome (run_from sh p es h) (λ x. AllFollow sh p x.world.cores (views_from sh p es vs h))
-unfolding run_from next views_from
+unfolding run_from next_history views_from
 run_from-follow sh p [] h vs f s k = k
 run_from-follow sh p (e ∷ es) h vs f s k = run-step-follow sh p es h vs (views_after sh p h.world e vs) (step sh p h.world e) (step-sound sh p h.world e s) (step-follow sh p h.world vs e f s k) (λ g a b. run_from-follow sh p es g (views_after sh p h.world e vs) f a b)
 

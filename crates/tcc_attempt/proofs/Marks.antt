@@ -15,11 +15,11 @@ use Rattle.tcc_maps.specs.CacheChange.{marked, stored, placed}
 use Rattle.tcc_maps.specs.Spilled.{holds, none_spilled}
 use Rattle.tcc_maps.proofs.Lemmas.{read-marked, read-stored, read-committed, value-placed, read-placed, modified-placed}
 use Rattle.tcc_rules.specs.State.{CoreState, Awaited, Phase, Running, AwaitTid, DoomedTid, Probing, Ready, Overflowing, Solo, Halted}
-use Rattle.tcc_rules.specs.Sends.{nothing, flushed}
-use Rattle.tcc_rules.specs.Attempt.{Out, moves, is_solo, is_running, finished, new_word, stepped}
-use Rattle.tcc_rules.specs.Commit.{phase_after, ended_after, committed_core, commit, solo_commit}
-use Rattle.tcc_rules.specs.Execute.{ask, place, overflow, full_set, fetch, used, load_valid, load_spilled, load, buffered, framed, word_store, also_read, change_valid, change_spilled, partial_store, close, store, execute_need, execute}
-use Rattle.tcc_rules.specs.CoreExec.{unless_awaiting, exec_phase, core_exec}
+use Rattle.tcc_rules.specs.Sends.{nothing, flush_line}
+use Rattle.tcc_rules.specs.Attempt.{Out, moves, is_solo, is_running, finished, new_word, one_more_instruction}
+use Rattle.tcc_rules.specs.Commit.{phase_after_commit, ended_after_commit, committed_core, commit, solo_commit}
+use Rattle.tcc_rules.specs.Execute.{request_line, place, overflow, full_set, miss, with_read_mark, load_valid, load_spilled, load, stored_in_buffer, stored_in_frame, word_store, marks_read, change_valid, change_spilled, partial_store, end_transaction, store_by_size, execute_need, execute}
+use Rattle.tcc_rules.specs.CoreExec.{unless_awaiting, exec_in_phase, core_exec}
 use Rattle.tcc_attempt.specs.Sound.{SoundCore}
 use Rattle.tcc_attempt.specs.Follows.{Uses, used_in, used_at, used_by}
 use Rattle.tcc_attempt.specs.Marks.{StillHas, UseStands, AllStand, UsesStand, is_used, OnlyUsed, awaits_in, owed_in, MarksFit}
@@ -104,7 +104,7 @@ pub record SameBut (s t : CoreState) : Type 0 where
   pub awaited : t.awaited ≡ s.awaited
 
 pub finished-same : (p : Program) (need : Need) (x : ℕ) (s : CoreState) → SameBut s (finished p need x s)
-unfolding finished stepped
+unfolding finished one_more_instruction
 finished-same p Nothing x s = record { phase = refl; cache = refl; owing = refl; awaited = refl }
 finished-same p (Loads addr size) x s = record { phase = refl; cache = refl; owing = refl; awaited = refl }
 finished-same p (Stores addr size value) x s = record { phase = refl; cache = refl; owing = refl; awaited = refl }
@@ -194,28 +194,29 @@ full_set-fit sh l s us q r = at (is_solo s.phase) refl (not (all_marked sh s.cac
     at false e true = tt
     at false e false = overflow-fit sh s us q e r
 
-ask-fit : (sh : Shape) (l : ℕ) (s : CoreState) (us : Uses) (q : Phase) → Runs sh s us q → MarksFit sh (ask sh l s).core (us ++ [])
-unfolding ask
-ask-fit sh l s us q r = stays-fit sh s (record s { awaited = Some (record { line = l; stale = false }) }) us [] q r refl refl (keeps-itself s.cache) (λ h. tt) (λ h v i. i) (adds-none s.cache [])
+request_line-fit : (sh : Shape) (l : ℕ) (s : CoreState) (us : Uses) (q : Phase) → Runs sh s us q →
+    MarksFit sh (request_line sh l s).core (us ++ [])
+unfolding request_line
+request_line-fit sh l s us q r = stays-fit sh s (record s { awaited = Some (record { line = l; stale = false }) }) us [] q r refl refl (keeps-itself s.cache) (λ h. tt) (λ h v i. i) (adds-none s.cache [])
 
-place_ask-fit : (sh : Shape) (l : ℕ) (s : CoreState) (us : Uses) (q : Phase) → Runs sh s us q → MarksFit sh (ask sh l (place sh l s)).core (us ++ [])
-unfolding ask place
+place_ask-fit : (sh : Shape) (l : ℕ) (s : CoreState) (us : Uses) (q : Phase) → Runs sh s us q → MarksFit sh (request_line sh l (place sh l s)).core (us ++ [])
+unfolding request_line place
 place_ask-fit sh l s us q r = stays-fit sh s (record s { cache = placed sh l s.cache; awaited = Some (record { line = l; stale = false }) }) us [] q r refl refl (keeps-placed sh l s.cache) (λ h. tt) (λ h v i. read-placed sh l s.cache v ∙ i) (λ v i. inl (sym (read-placed sh l s.cache v) ∙ i))
 
 unused-fit : (sh : Shape) (us vs : Uses) (o : Option Out) → vs ≡ [] → OutFits sh us o → OutFits sh (us ++ vs) o
 unused-fit sh us vs o e h = subst (λ (l : Uses). OutFits sh l o) (sym (ap (λ (l : Uses). us ++ l) e ∙ append-nil us)) h
 
-fetch-fit : (sh : Shape) (l : ℕ) (s : CoreState) (us : Uses) (q : Phase) → Runs sh s us q → OutFits sh (us ++ []) (fetch sh l s)
-unfolding fetch ask
-fetch-fit sh l s us q r = at (s.cache.held l) (free_way sh s.cache (set_of sh l))
+miss-fit : (sh : Shape) (l : ℕ) (s : CoreState) (us : Uses) (q : Phase) → Runs sh s us q → OutFits sh (us ++ []) (miss sh l s)
+unfolding miss request_line
+miss-fit sh l s us q r = at (s.cache.held l) (free_way sh s.cache (set_of sh l))
   where
-    at : (b : Bool) (o : Option ℕ) → OutFits sh (us ++ []) (cond b (Some (ask sh l s)) (cond (is_some o) (Some (ask sh l (place sh l s))) (full_set sh l s)))
-    at true o = ask-fit sh l s us q r
+    at : (b : Bool) (o : Option ℕ) → OutFits sh (us ++ []) (cond b (Some (request_line sh l s)) (cond (is_some o) (Some (request_line sh l (place sh l s))) (full_set sh l s)))
+    at true o = request_line-fit sh l s us q r
     at false (Some y) = place_ask-fit sh l s us q r
     at false None = unused-fit sh us [] (full_set sh l s) refl (full_set-fit sh l s us q r)
 
-missed-fit : (sh : Shape) (l : ℕ) (s : CoreState) (us vs : Uses) (q : Phase) → vs ≡ [] → Runs sh s us q → OutFits sh (us ++ vs) (fetch sh l s)
-missed-fit sh l s us vs q e r = subst (λ (x : Uses). OutFits sh (us ++ x) (fetch sh l s)) (sym e) (fetch-fit sh l s us q r)
+missed-fit : (sh : Shape) (l : ℕ) (s : CoreState) (us vs : Uses) (q : Phase) → vs ≡ [] → Runs sh s us q → OutFits sh (us ++ vs) (miss sh l s)
+missed-fit sh l s us vs q e r = subst (λ (x : Uses). OutFits sh (us ++ x) (miss sh l s)) (sym e) (miss-fit sh l s us q r)
 
 -- only a word that is used becomes marked
 used-new : (w x : ℕ) (s : CoreState) → s.spilled w ≡ None → s.cache.modified w ≡ false → s.cache.value w ≡ Some x → is_used (used_at s w) w ≡ true
@@ -230,13 +231,13 @@ adds-marked w x s n e v h = at (cases_eq w v) (s.cache.modified w) refl
     at (inl i) true q = inl (let j = read-marked w s.cache v in grind (arith, nat_tests))
     at (inr i) m q = inl (let j = read-marked w s.cache v in grind (arith, nat_tests))
 
-adds-stored : (w y x : ℕ) (s : CoreState) → s.spilled w ≡ None → s.cache.value w ≡ Some x → Adds s.cache (stored w y (also_read w s) s.cache) (used_at s w)
+adds-stored : (w y x : ℕ) (s : CoreState) → s.spilled w ≡ None → s.cache.value w ≡ Some x → Adds s.cache (stored w y (marks_read w s) s.cache) (used_at s w)
 adds-stored w y x s n e v h = at (cases_eq w v) (s.cache.modified w) refl
   where
     at : (w ≡ v) ⊎ (w ≡ v → ⊥) → (m : Bool) → s.cache.modified w ≡ m → (s.cache.read v ≡ true) ⊎ (is_used (used_at s w) v ≡ true)
     at (inl i) false q = inr (subst (λ z. is_used (used_at s w) z ≡ true) i (used-new w x s n q e))
-    at (inl i) true q = inl (let j = read-stored w y (also_read w s) s.cache v in grind (arith, nat_tests))
-    at (inr i) m q = inl (let j = read-stored w y (also_read w s) s.cache v in grind (arith, nat_tests))
+    at (inl i) true q = inl (let j = read-stored w y (marks_read w s) s.cache v in grind (arith, nat_tests))
+    at (inr i) m q = inl (let j = read-stored w y (marks_read w s) s.cache v in grind (arith, nat_tests))
 
 -- a word that is used in Running is marked
 used-marked : (w x : ℕ) (c : Cache) → c.modified w ≡ false → c.value w ≡ Some x → UseStands false (marked w c) w x
@@ -247,7 +248,7 @@ running-is : (s : CoreState) (q : Phase) (b : Bool) → s.phase ≡ q → is_run
 running-is s q b e h = ap is_running (sym e) ∙ h
 
 load-fit : (sh : Shape) (p : Program) (need : Need) (w : ℕ) (s : CoreState) (us : Uses) (q : Phase) → Runs sh s us q → OutFits sh (us ++ used_at s w) (load sh p need w s)
-unfolding load used
+unfolding load with_read_mark
 load-fit sh p need w s us q r = spilled_in (s.spilled w) refl
   where
     valid_as : (x : ℕ) → s.spilled w ≡ None → s.cache.value w ≡ Some x → (b : Bool) → is_running s.phase ≡ b → MarksFit sh (finished p need x (cond b (record s { cache = marked w s.cache }) s)) (us ++ used_at s w)
@@ -272,16 +273,16 @@ stored-unread : (w x : ℕ) (c : Cache) (v : ℕ) → c.read v ≡ false → (st
 stored-unread w x c v h = stored-same w x c v ∙ h
 
 word_store-fit : (sh : Shape) (p : Program) (need : Need) (w x : ℕ) (s : CoreState) (us : Uses) (q : Phase) → Runs sh s us q → OutFits sh (us ++ []) (word_store sh p need w x s)
-unfolding word_store buffered framed place
+unfolding word_store stored_in_buffer stored_in_frame place
 word_store-fit sh p need w x s us q r = at (holds s.spilled (line_of w)) (s.cache.held (line_of w)) (free_way sh s.cache (set_of sh (line_of w)))
   where
     at : (a b : Bool) (o : Option ℕ) →
-        OutFits sh (us ++ []) (cond a (Some (moves (finished p need x (buffered w x s)) nothing))
-        (cond b (Some (moves (finished p need x (framed w x false s)) (flushed sh s.cache (line_of w))))
-        (cond (is_some o) (Some (moves (finished p need x (framed w x false (place sh (line_of w) s))) nothing)) (full_set sh (line_of w) s))))
-    at true b o = done-fit sh p need x s (buffered w x s) us [] q r refl refl (keeps-itself s.cache) (λ h. tt) (λ h v i. i) (adds-none s.cache [])
-    at false true o = done-fit sh p need x s (framed w x false s) us [] q r refl refl (keeps-stored w x false s.cache) (λ h. tt) (λ h v i. stored-unread w x s.cache v i) (λ v i. inl (sym (stored-same w x s.cache v) ∙ i))
-    at false false (Some y) = done-fit sh p need x s (framed w x false (place sh (line_of w) s)) us [] q r refl refl (keeps-then s.cache (placed sh (line_of w) s.cache) (stored w x false (placed sh (line_of w) s.cache)) (keeps-placed sh (line_of w) s.cache) (keeps-stored w x false (placed sh (line_of w) s.cache)))
+        OutFits sh (us ++ []) (cond a (Some (moves (finished p need x (stored_in_buffer w x s)) nothing))
+        (cond b (Some (moves (finished p need x (stored_in_frame w x false s)) (flush_line sh s.cache (line_of w))))
+        (cond (is_some o) (Some (moves (finished p need x (stored_in_frame w x false (place sh (line_of w) s))) nothing)) (full_set sh (line_of w) s))))
+    at true b o = done-fit sh p need x s (stored_in_buffer w x s) us [] q r refl refl (keeps-itself s.cache) (λ h. tt) (λ h v i. i) (adds-none s.cache [])
+    at false true o = done-fit sh p need x s (stored_in_frame w x false s) us [] q r refl refl (keeps-stored w x false s.cache) (λ h. tt) (λ h v i. stored-unread w x s.cache v i) (λ v i. inl (sym (stored-same w x s.cache v) ∙ i))
+    at false false (Some y) = done-fit sh p need x s (stored_in_frame w x false (place sh (line_of w) s)) us [] q r refl refl (keeps-then s.cache (placed sh (line_of w) s.cache) (stored w x false (placed sh (line_of w) s.cache)) (keeps-placed sh (line_of w) s.cache) (keeps-stored w x false (placed sh (line_of w) s.cache)))
         (λ h. tt) (λ h v i. stored-unread w x (placed sh (line_of w) s.cache) v (read-placed sh (line_of w) s.cache v ∙ i))
         (λ v i. inl (sym (stored-same w x (placed sh (line_of w) s.cache) v ∙ read-placed sh (line_of w) s.cache v) ∙ i))
     at false false None = unused-fit sh us [] (full_set sh (line_of w) s) refl (full_set-fit sh (line_of w) s us q r)
@@ -295,7 +296,7 @@ also-unread : (w y : ℕ) (c : Cache) (also : Bool) (v : ℕ) → also ≡ false
 also-unread w y c also v e h = read-stored w y also c v ∙ grind (arith, nat_tests)
 
 partial_store-fit : (sh : Shape) (p : Program) (need : Need) (w : ℕ) (s : CoreState) (us : Uses) (q : Phase) → Runs sh s us q → OutFits sh (us ++ used_at s w) (partial_store sh p need w s)
-unfolding partial_store buffered framed
+unfolding partial_store stored_in_buffer stored_in_frame
 partial_store-fit sh p need w s us q r = spilled_in (s.spilled w) refl
   where
     solo_holds : holds s.spilled (line_of w) ≡ true → is_running q ≡ true → ⊥
@@ -316,12 +317,12 @@ partial_store-fit sh p need w s us q r = spilled_in (s.spilled w) refl
         running_alone Halted e = absurd (cc)
 
     held_in : (x : ℕ) → s.spilled w ≡ None → s.cache.value w ≡ Some x → (b : Bool) → holds s.spilled (line_of w) ≡ b →
-        OutFits sh (us ++ used_at s w) (cond b (Some (moves (finished p need x (buffered w (new_word need x) s)) nothing)) (Some (moves (finished p need x (framed w (new_word need x) (also_read w s) s)) (flushed sh s.cache (line_of w)))))
-    held_in x n v true h = done-fit sh p need x s (buffered w (new_word need x) s) us (used_at s w) q r refl refl (keeps-itself s.cache) (λ i. absurd (solo_holds h i)) (λ i u j. j) (adds-none s.cache (used_at s w))
-    held_in x n v false h = done-fit sh p need x s (framed w (new_word need x) (also_read w s) s) us (used_at s w) q r refl refl (keeps-stored w (new_word need x) (also_read w s) s.cache)
-        (λ i. stands-new (stored w (new_word need x) (also_read w s) s.cache) w (s.spilled w) (s.cache.modified w) (s.cache.value w)
-        (λ m y f. changed-stands w (new_word need x) y s.cache (also_read w s) (let j : is_running s.phase ≡ true = ap is_running r.is ∙ i in grind (arith, nat_tests))))
-        (λ i u j. also-unread w (new_word need x) s.cache (also_read w s) u (let k : is_running s.phase ≡ false = ap is_running r.is ∙ i in grind (arith, nat_tests)) j)
+        OutFits sh (us ++ used_at s w) (cond b (Some (moves (finished p need x (stored_in_buffer w (new_word need x) s)) nothing)) (Some (moves (finished p need x (stored_in_frame w (new_word need x) (marks_read w s) s)) (flush_line sh s.cache (line_of w)))))
+    held_in x n v true h = done-fit sh p need x s (stored_in_buffer w (new_word need x) s) us (used_at s w) q r refl refl (keeps-itself s.cache) (λ i. absurd (solo_holds h i)) (λ i u j. j) (adds-none s.cache (used_at s w))
+    held_in x n v false h = done-fit sh p need x s (stored_in_frame w (new_word need x) (marks_read w s) s) us (used_at s w) q r refl refl (keeps-stored w (new_word need x) (marks_read w s) s.cache)
+        (λ i. stands-new (stored w (new_word need x) (marks_read w s) s.cache) w (s.spilled w) (s.cache.modified w) (s.cache.value w)
+        (λ m y f. changed-stands w (new_word need x) y s.cache (marks_read w s) (let j : is_running s.phase ≡ true = ap is_running r.is ∙ i in grind (arith, nat_tests))))
+        (λ i u j. also-unread w (new_word need x) s.cache (marks_read w s) u (let k : is_running s.phase ≡ false = ap is_running r.is ∙ i in grind (arith, nat_tests)) j)
         (adds-stored w (new_word need x) x s n v)
 
     valid_in : (o : Option ℕ) → s.spilled w ≡ None → s.cache.value w ≡ o → OutFits sh (us ++ used_at s w) (change_valid sh p need w s o)
@@ -329,14 +330,14 @@ partial_store-fit sh p need w s us q r = spilled_in (s.spilled w) refl
     valid_in (Some x) n v = held_in x n v (holds s.spilled (line_of w)) refl
 
     spilled_in : (o : Option ℕ) → s.spilled w ≡ o → OutFits sh (us ++ used_at s w) (change_spilled sh p need w s o)
-    spilled_in (Some x) e = done-fit sh p need x s (buffered w (new_word need x) s) us (used_at s w) q r refl refl (keeps-itself s.cache) (λ h. none-stand s.cache (used_at s w) (spilled-unused s w x e)) (λ h v i. i) (adds-none s.cache (used_at s w))
+    spilled_in (Some x) e = done-fit sh p need x s (stored_in_buffer w (new_word need x) s) us (used_at s w) q r refl refl (keeps-itself s.cache) (λ h. none-stand s.cache (used_at s w) (spilled-unused s w x e)) (λ h v i. i) (adds-none s.cache (used_at s w))
     spilled_in None e = valid_in (s.cache.value w) e refl
 
 -- the transaction has ended: the core asks for a TID with the same uses, or has committed and has none
 awaits-fit : (sh : Shape) (t : CoreState) (us : Uses) → AllStand false t.cache us → OnlyUsed t.cache us → t.awaited ≡ None → ((d : ℕ) → t.owing d ≡ true → ⊥) → MarksFit sh (record t { phase = AwaitTid }) us
 awaits-fit sh t us h k n o = record { stand = h; used = k; awaits = λ i. n; owes = λ d i. absurd (o d i) }
 
-committed-fit : (sh : Shape) (t : CoreState) (o : Outcome) → ((v : ℕ) → t.cache.read v ≡ false) → t.awaited ≡ None → ((d : ℕ) → t.owing d ≡ true → ⊥) → MarksFit sh (record t { ended = ended_after o; phase = phase_after o }) []
+committed-fit : (sh : Shape) (t : CoreState) (o : Outcome) → ((v : ℕ) → t.cache.read v ≡ false) → t.awaited ≡ None → ((d : ℕ) → t.owing d ≡ true → ⊥) → MarksFit sh (record t { ended = ended_after_commit o; phase = phase_after_commit o }) []
 committed-fit sh t Goes u n f = record { stand = tt; used = none-used t.cache u; awaits = λ i. n; owes = λ d i. absurd (f d i) }
 committed-fit sh t Ended u n f = record { stand = tt; used = none-used t.cache u; awaits = λ i. n; owes = λ d i. absurd (f d i) }
 committed-fit sh t (HaltedWith code) u n f = record { stand = tt; used = none-used t.cache u; awaits = λ i. n; owes = λ d i. absurd (f d i) }
@@ -347,48 +348,49 @@ unfolding solo_commit committed_core
 solo_commit-fit sh id t s n o = committed-fit sh (record (record (committed_core t s) {
   cache = Rattle.tcc_maps.specs.CacheChange.committed t (Rattle.tcc_maps.specs.CacheChange.words_dropped s.spilled s.cache);
   spilled = none_spilled;
-  after = Rattle.tcc_rules.specs.Commit.after_commit (Rattle.tcc_rules.specs.Commit.solo_writes_at sh s.cache s.spilled) t s.after;
+  last_commit =
+      Rattle.tcc_rules.specs.Commit.with_last_commit (Rattle.tcc_rules.specs.Commit.solo_writes_at sh s.cache s.spilled) t s.last_commit;
 }) { ended = s.ended; phase = s.phase }) s.ended (read-committed t (Rattle.tcc_maps.specs.CacheChange.words_dropped s.spilled s.cache)) n o
 
 commit-fit : (sh : Shape) (id t : ℕ) (s : CoreState) → s.awaited ≡ None → ((d : ℕ) → s.owing d ≡ true → ⊥) → MarksFit sh (commit sh id t s).core []
 unfolding commit committed_core
 commit-fit sh id t s n o = committed-fit sh (record (record (committed_core t s) {
-  after = Rattle.tcc_rules.specs.Commit.after_commit (Rattle.tcc_maps.specs.Cache.writes_at sh s.cache) t s.after;
+  last_commit = Rattle.tcc_rules.specs.Commit.with_last_commit (Rattle.tcc_maps.specs.Cache.writes_at sh s.cache) t s.last_commit;
 }) { ended = s.ended; phase = s.phase }) s.ended (read-committed t s.cache) n o
 
 -- an ending instruction
-close-fit : (sh : Shape) (id : ℕ) (p : Program) (need : Need) (s : CoreState) (us : Uses) (q : Phase) → Runs sh s us q → OutFits sh (us ++ []) (Some (close sh id q (finished p need 0 s)))
+end_transaction-fit : (sh : Shape) (id : ℕ) (p : Program) (need : Need) (s : CoreState) (us : Uses) (q : Phase) → Runs sh s us q → OutFits sh (us ++ []) (Some (end_transaction sh id q (finished p need 0 s)))
 unfolding solo_commit
-close-fit sh id p need s us Running r =
+end_transaction-fit sh id p need s us Running r =
     let b = finished-same p need 0 s in
     awaits-fit sh (finished p need 0 s) (us ++ [])
     (subst (λ (c : Cache). AllStand false c (us ++ [])) (sym b.cache) (all-append false s.cache us [] (subst (λ (x : Phase). UsesStand s.cache us x) r.is r.fit.stand) tt))
     (subst (λ (c : Cache). OnlyUsed c (us ++ [])) (sym b.cache) (used-added s.cache s.cache us [] (adds-none s.cache []) r.fit.used))
     (b.awaited ∙ r.none)
     (λ d i. owes-none sh s us (ap owed_in r.is) r.fit d (ap (λ (w : ℕ → Bool). w d) (sym b.owing) ∙ i))
-close-fit sh id p need s us (Solo t) r =
+end_transaction-fit sh id p need s us (Solo t) r =
     let b = finished-same p need 0 s in
     solo_commit-fit sh id t (finished p need 0 s) (b.awaited ∙ r.none) (λ d i. owes-none sh s us (ap owed_in r.is) r.fit d (ap (λ (w : ℕ → Bool). w d) (sym b.owing) ∙ i))
-close-fit sh id p need s us AwaitTid r = absurd (let j = r.executes in cc)
-close-fit sh id p need s us DoomedTid r = absurd (let j = r.executes in cc)
-close-fit sh id p need s us (Probing u) r = absurd (let j = r.executes in cc)
-close-fit sh id p need s us (Ready u) r = absurd (let j = r.executes in cc)
-close-fit sh id p need s us (Overflowing u) r = absurd (let j = r.executes in cc)
-close-fit sh id p need s us Halted r = absurd (let j = r.executes in cc)
+end_transaction-fit sh id p need s us AwaitTid r = absurd (let j = r.executes in cc)
+end_transaction-fit sh id p need s us DoomedTid r = absurd (let j = r.executes in cc)
+end_transaction-fit sh id p need s us (Probing u) r = absurd (let j = r.executes in cc)
+end_transaction-fit sh id p need s us (Ready u) r = absurd (let j = r.executes in cc)
+end_transaction-fit sh id p need s us (Overflowing u) r = absurd (let j = r.executes in cc)
+end_transaction-fit sh id p need s us Halted r = absurd (let j = r.executes in cc)
 
-closed-fit : (sh : Shape) (id : ℕ) (p : Program) (need : Need) (s : CoreState) (us : Uses) (q : Phase) → Runs sh s us q → OutFits sh (us ++ []) (Some (close sh id s.phase (finished p need 0 s)))
-closed-fit sh id p need s us q r = subst (λ (x : Phase). OutFits sh (us ++ []) (Some (close sh id x (finished p need 0 s)))) (sym r.is) (close-fit sh id p need s us q r)
+closed-fit : (sh : Shape) (id : ℕ) (p : Program) (need : Need) (s : CoreState) (us : Uses) (q : Phase) → Runs sh s us q → OutFits sh (us ++ []) (Some (end_transaction sh id s.phase (finished p need 0 s)))
+closed-fit sh id p need s us q r = subst (λ (x : Phase). OutFits sh (us ++ []) (Some (end_transaction sh id x (finished p need 0 s)))) (sym r.is) (end_transaction-fit sh id p need s us q r)
 
-store-fit : (sh : Shape) (p : Program) (addr : ℕ) (size : Size) (value : ℕ) (s : CoreState) (us : Uses) (q : Phase) → Runs sh s us q → OutFits sh (us ++ used_by sh.base s (Stores addr size value)) (store sh p addr size value s)
-store-fit sh p addr Word value s us q r = word_store-fit sh p (Stores addr Word value) (word_of sh.base addr) value s us q r
-store-fit sh p addr Half value s us q r = partial_store-fit sh p (Stores addr Half value) (word_of sh.base addr) s us q r
-store-fit sh p addr Byte value s us q r = partial_store-fit sh p (Stores addr Byte value) (word_of sh.base addr) s us q r
+store_by_size-fit : (sh : Shape) (p : Program) (addr : ℕ) (size : Size) (value : ℕ) (s : CoreState) (us : Uses) (q : Phase) → Runs sh s us q → OutFits sh (us ++ used_by sh.base s (Stores addr size value)) (store_by_size sh p addr size value s)
+store_by_size-fit sh p addr Word value s us q r = word_store-fit sh p (Stores addr Word value) (word_of sh.base addr) value s us q r
+store_by_size-fit sh p addr Half value s us q r = partial_store-fit sh p (Stores addr Half value) (word_of sh.base addr) s us q r
+store_by_size-fit sh p addr Byte value s us q r = partial_store-fit sh p (Stores addr Byte value) (word_of sh.base addr) s us q r
 
 need-fit : (sh : Shape) (p : Program) (id : ℕ) (s : CoreState) (us : Uses) (q : Phase) (need : Need) → Runs sh s us q → OutFits sh (us ++ used_by sh.base s need) (execute_need sh p id s need)
 need-fit sh p id s us q Nothing r = done-fit sh p Nothing 0 s s us [] q r refl refl (keeps-itself s.cache) (λ h. tt) (λ h v i. i) (adds-none s.cache [])
 need-fit sh p id s us q (Prints byte) r = done-fit sh p (Prints byte) 0 s s us [] q r refl refl (keeps-itself s.cache) (λ h. tt) (λ h v i. i) (adds-none s.cache [])
 need-fit sh p id s us q (Loads addr size) r = load-fit sh p (Loads addr size) (word_of sh.base addr) s us q r
-need-fit sh p id s us q (Stores addr size value) r = store-fit sh p addr size value s us q r
+need-fit sh p id s us q (Stores addr size value) r = store_by_size-fit sh p addr size value s us q r
 need-fit sh p id s us q (Changes addr changed) r = partial_store-fit sh p (Changes addr changed) (word_of sh.base addr) s us q r
 need-fit sh p id s us q Ends r = closed-fit sh id p Ends s us q r
 need-fit sh p id s us q (Halts code) r = closed-fit sh id p (Halts code) s us q r
@@ -402,7 +404,7 @@ unless-fit : (sh : Shape) (p : Program) (id : ℕ) (s : CoreState) (us : Uses) (
 unless-fit sh p id s us q (Some a) n e x k m = tt
 unless-fit sh p id s us q None n e x k m = execute-fit sh p id s us q (record { is = e; executes = x; fit = m; sound = k; none = n })
 
-phase-fit : (sh : Shape) (p : Program) (id : ℕ) (s : CoreState) (us : Uses) (q : Phase) → s.phase ≡ q → SoundCore sh s → MarksFit sh s us → OutFits sh (us ++ used_by sh.base s (p.need s.local)) (exec_phase sh p id s q)
+phase-fit : (sh : Shape) (p : Program) (id : ℕ) (s : CoreState) (us : Uses) (q : Phase) → s.phase ≡ q → SoundCore sh s → MarksFit sh s us → OutFits sh (us ++ used_by sh.base s (p.need s.local)) (exec_in_phase sh p id s q)
 unfolding commit
 phase-fit sh p id s us Running e k m = unless-fit sh p id s us Running s.awaited refl e refl k m
 phase-fit sh p id s us (Solo t) e k m = unless-fit sh p id s us (Solo t) s.awaited refl e refl k m

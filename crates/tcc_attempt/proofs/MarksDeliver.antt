@@ -14,10 +14,10 @@ use Rattle.tcc_maps.specs.CacheLook.{reads_masked}
 use Rattle.tcc_maps.specs.Spilled.{spill_line, none_spilled}
 use Rattle.tcc_maps.proofs.Lemmas.{any_below-at, value-evicted, read-evicted, modified-evicted, value-filled, read-filled, modified-filled, value-invalidated, read-invalidated, modified-invalidated, read-cleaned, read-rolled_back}
 use Rattle.tcc_rules.specs.State.{CoreState, Awaited, Phase, Running, AwaitTid, DoomedTid, Probing, Ready, Overflowing, Solo, Halted}
-use Rattle.tcc_rules.specs.Sends.{nothing, to, marks_for, written_back}
+use Rattle.tcc_rules.specs.Sends.{nothing, to, marks_for, write_back_line}
 use Rattle.tcc_rules.specs.Attempt.{Out, moves, is_solo, roll_back}
 use Rattle.tcc_rules.specs.CoreEvict.{is_awaited, evict_line, core_evict}
-use Rattle.tcc_rules.specs.CoreDeliver.{ignored, grant_phase, grant, probing, is_probed, replied, all_replied, reply_phase, probe_reply, fill_awaited, fill, data_request, is_above, violated_in, if_violated, staled, without, is_violated, acknowledged, invalidate, from_dir, from_vendor, core_deliver}
+use Rattle.tcc_rules.specs.CoreDeliver.{ignored, grant_in_phase, grant, probing_or_ready, is_probed, replied, all_replied, reply_in_phase, probe_reply, fill_awaited, fill, data_request, may_be_above, violated_in_phase, if_violated, staled, words_invalidated, is_violated, acknowledged, invalidate, from_dir, from_vendor, core_deliver}
 use Rattle.tcc_attempt.specs.Follows.{Uses}
 use Rattle.tcc_attempt.specs.Marks.{StillHas, UseStands, AllStand, UsesStand, OnlyUsed, awaits_in, owed_in, MarksFit}
 use Rattle.tcc_attempt.specs.Views.{uses_violated, uses_delivered}
@@ -110,7 +110,7 @@ evict_line-fit : (sh : Shape) (x y : ℕ) (s : CoreState) (us : Uses) (o : Optio
 evict_line-fit sh x y s us None e m = tt
 evict_line-fit sh x y s us (Some l) e m = at (is_awaited s.awaited l || (is_marked s.cache l && not (is_solo s.phase))) refl
   where
-    at : (b : Bool) → (is_awaited s.awaited l || (is_marked s.cache l && not (is_solo s.phase))) ≡ b → IfSome (cond b None (Some (moves (record s { cache = evicted x y s.cache; spilled = spill_line l s.cache s.spilled }) (written_back sh s.cache l)))) (λ t. MarksFit sh t.core us)
+    at : (b : Bool) → (is_awaited s.awaited l || (is_marked s.cache l && not (is_solo s.phase))) ≡ b → IfSome (cond b None (Some (moves (record s { cache = evicted x y s.cache; spilled = spill_line l s.cache s.spilled }) (write_back_line sh s.cache l)))) (λ t. MarksFit sh t.core us)
     at true q = tt
     at false q = record { stand = evicted-uses x y l s.cache us s.phase e (or-right (is_awaited s.awaited l) (is_marked s.cache l && not (is_solo s.phase)) q) m.stand; used = fewer-used s.cache (evicted x y s.cache) us (evicted-reads x y l s.cache e) m.used; awaits = m.awaits; owes = m.owes }
 
@@ -128,43 +128,43 @@ probed-below sh c d h =
     let i = and-left (nat_lt d sh.dirs) (Rattle.tcc_maps.specs.Cache.writes_at sh c d || Rattle.tcc_maps.specs.Cache.reads_at sh c d) h in
     (i, any_below-at (λ d. nat_lt d sh.dirs && (Rattle.tcc_maps.specs.Cache.writes_at sh c d || Rattle.tcc_maps.specs.Cache.reads_at sh c d)) sh.dirs d (grind (arith, nat_tests)) h)
 
-probing-stand : (c : Cache) (us : Uses) (b : Bool) (t : ℕ) → AllStand false c us → UsesStand c us (probing b t)
+probing-stand : (c : Cache) (us : Uses) (b : Bool) (t : ℕ) → AllStand false c us → UsesStand c us (probing_or_ready b t)
 probing-stand c us true t h = weaker c us h
 probing-stand c us false t h = weaker c us h
 
-probing-owed : (b : Bool) (t : ℕ) → b ≡ true → owed_in (probing b t) ≡ true
+probing-owed : (b : Bool) (t : ℕ) → b ≡ true → owed_in (probing_or_ready b t) ≡ true
 probing-owed true t e = refl
 probing-owed false t e = absurd (cc)
 
-grant_phase-fit : (sh : Shape) (t : ℕ) (s : CoreState) (us : Uses) (q : Phase) → s.phase ≡ q → MarksFit sh s us → MarksFit sh (grant_phase sh t s q).core us
-grant_phase-fit sh t s us AwaitTid e m = record {
+grant_in_phase-fit : (sh : Shape) (t : ℕ) (s : CoreState) (us : Uses) (q : Phase) → s.phase ≡ q → MarksFit sh s us → MarksFit sh (grant_in_phase sh t s q).core us
+grant_in_phase-fit sh t s us AwaitTid e m = record {
   stand = probing-stand s.cache us (any_below (is_probed sh s.cache) sh.dirs) t (stand-in s us AwaitTid e m.stand);
   used = m.used;
   awaits = λ i. m.awaits (ap awaits_in e);
   owes = λ d h. let b = probed-below sh s.cache d h in (probing-owed (any_below (is_probed sh s.cache) sh.dirs) t b.1, b.0);
 }
-grant_phase-fit sh t s us DoomedTid e m = record {
+grant_in_phase-fit sh t s us DoomedTid e m = record {
   stand = subst (AllStand false s.cache) (sym (stand-in s us DoomedTid e m.stand)) tt;
   used = m.used;
   awaits = λ i. m.awaits (ap awaits_in e);
   owes = λ d h. absurd (let o = m.owes d h in let a = o.0 in let b = ap owed_in e in cc);
 }
-grant_phase-fit sh t s us (Overflowing None) e m = record {
+grant_in_phase-fit sh t s us (Overflowing None) e m = record {
   stand = weaker s.cache us (stand-in s us (Overflowing None) e m.stand);
   used = m.used;
   awaits = λ i. m.awaits (ap awaits_in e);
   owes = λ d h. (refl, h);
 }
-grant_phase-fit sh t s us (Overflowing (Some u)) e m = m
-grant_phase-fit sh t s us Running e m = m
-grant_phase-fit sh t s us (Probing u) e m = m
-grant_phase-fit sh t s us (Ready u) e m = m
-grant_phase-fit sh t s us (Solo u) e m = m
-grant_phase-fit sh t s us Halted e m = m
+grant_in_phase-fit sh t s us (Overflowing (Some u)) e m = m
+grant_in_phase-fit sh t s us Running e m = m
+grant_in_phase-fit sh t s us (Probing u) e m = m
+grant_in_phase-fit sh t s us (Ready u) e m = m
+grant_in_phase-fit sh t s us (Solo u) e m = m
+grant_in_phase-fit sh t s us Halted e m = m
 
 grant-fit : (sh : Shape) (t : ℕ) (s : CoreState) (us : Uses) → MarksFit sh s us → MarksFit sh (grant sh t s).core us
 unfolding grant
-grant-fit sh t s us m = grant_phase-fit sh t s us s.phase refl m
+grant-fit sh t s us m = grant_in_phase-fit sh t s us s.phase refl m
 
 -- replies
 replied-owes : (owing : ℕ → Bool) (d e : ℕ) → put owing d false e ≡ true → owing e ≡ true
@@ -173,9 +173,9 @@ replied-owes owing d e h = grind (arith, nat_tests)
 all-none : (sh : Shape) (owing : ℕ → Bool) (d : ℕ) → all_replied sh owing ≡ true → nat_lt d sh.dirs ≡ true → owing d ≡ true → ⊥
 all-none sh owing d a l o = let i = any_below-at owing sh.dirs d (grind (arith, nat_tests)) o in grind (arith, nat_tests)
 
-reply_phase-fit : (sh : Shape) (d t : ℕ) (s : CoreState) (us : Uses) (q : Phase) → s.phase ≡ q → MarksFit sh s us → MarksFit sh (reply_phase sh d t s q).core us
+reply_in_phase-fit : (sh : Shape) (d t : ℕ) (s : CoreState) (us : Uses) (q : Phase) → s.phase ≡ q → MarksFit sh s us → MarksFit sh (reply_in_phase sh d t s q).core us
 unfolding read_cleared
-reply_phase-fit sh d t s us (Probing u) e m = at (u == t && s.owing d) (all_replied sh (replied d s).owing) refl
+reply_in_phase-fit sh d t s us (Probing u) e m = at (u == t && s.owing d) (all_replied sh (replied d s).owing) refl
   where
     at : (b c : Bool) → all_replied sh (replied d s).owing ≡ c → MarksFit sh (cond b (moves (cond c (record (replied d s) { phase = Ready t }) (replied d s)) (to (Dir d) (marks_for sh s.cache t d))) (ignored s)).core us
     at true true r = record {
@@ -186,7 +186,7 @@ reply_phase-fit sh d t s us (Probing u) e m = at (u == t && s.owing d) (all_repl
     }
     at true false r = record { stand = m.stand; used = m.used; awaits = m.awaits; owes = λ f h. m.owes f (replied-owes s.owing d f h) }
     at false c r = m
-reply_phase-fit sh d t s us (Overflowing (Some u)) e m = at (u == t && s.owing d) (all_replied sh (replied d s).owing) refl
+reply_in_phase-fit sh d t s us (Overflowing (Some u)) e m = at (u == t && s.owing d) (all_replied sh (replied d s).owing) refl
   where
     at : (b c : Bool) → all_replied sh (replied d s).owing ≡ c → MarksFit sh (cond b (moves (cond c (record (replied d s) { phase = Solo t; cache = read_cleared s.cache }) (replied d s)) nothing) (ignored s)).core us
     at true true r = record {
@@ -197,13 +197,13 @@ reply_phase-fit sh d t s us (Overflowing (Some u)) e m = at (u == t && s.owing d
     }
     at true false r = record { stand = m.stand; used = m.used; awaits = m.awaits; owes = λ f h. m.owes f (replied-owes s.owing d f h) }
     at false c r = m
-reply_phase-fit sh d t s us (Overflowing None) e m = m
-reply_phase-fit sh d t s us Running e m = m
-reply_phase-fit sh d t s us AwaitTid e m = m
-reply_phase-fit sh d t s us DoomedTid e m = m
-reply_phase-fit sh d t s us (Ready u) e m = m
-reply_phase-fit sh d t s us (Solo u) e m = m
-reply_phase-fit sh d t s us Halted e m = m
+reply_in_phase-fit sh d t s us (Overflowing None) e m = m
+reply_in_phase-fit sh d t s us Running e m = m
+reply_in_phase-fit sh d t s us AwaitTid e m = m
+reply_in_phase-fit sh d t s us DoomedTid e m = m
+reply_in_phase-fit sh d t s us (Ready u) e m = m
+reply_in_phase-fit sh d t s us (Solo u) e m = m
+reply_in_phase-fit sh d t s us Halted e m = m
 
 -- fill: words that are valid keep their values
 filled-value : (l : ℕ) (ws : List ℕ) (c : Cache) (w x : ℕ) → c.value w ≡ Some x → (filled l ws c).value w ≡ Some x
@@ -300,7 +300,7 @@ above-reads : (a b : Bool) → b ≡ true → (a && b) ≡ false → a ≡ false
 above-reads true b e h = absurd (cc)
 above-reads false b e h = refl
 
-without-uses : (l m u : ℕ) (c : Cache) (us : Uses) (q : Phase) → (reads_masked l m c && is_above u q) ≡ false → UsesStand c us q → UsesStand (invalidated l m c) us q
+without-uses : (l m u : ℕ) (c : Cache) (us : Uses) (q : Phase) → (reads_masked l m c && may_be_above u q) ≡ false → UsesStand c us q → UsesStand (invalidated l m c) us q
 without-uses l m u c us Running n h = missed-all l m c us (above-reads (reads_masked l m c) true refl n) h
 without-uses l m u c us AwaitTid n h = missed-all l m c us (above-reads (reads_masked l m c) true refl n) h
 without-uses l m u c us (Overflowing None) n h = missed-all l m c us (above-reads (reads_masked l m c) true refl n) h
@@ -318,24 +318,24 @@ without-used : (l m : ℕ) (c : Cache) (us : Uses) → OnlyUsed c us → OnlyUse
 without-used l m c us h = fewer-used c (invalidated l m c) us (λ v i. sym (read-invalidated l m c v) ∙ i) h
 
 -- a core that isn't violated
-without-fit : (sh : Shape) (l m u : ℕ) (s : CoreState) (us : Uses) → is_violated l m u s ≡ false → MarksFit sh s us → MarksFit sh (without l m s) us
-unfolding without is_violated
-without-fit sh l m u s us n k = record { stand = without-uses l m u s.cache us s.phase n k.stand; used = without-used l m s.cache us k.used; awaits = λ i. staled-none l s.awaited (k.awaits i); owes = k.owes }
+words_invalidated-fit : (sh : Shape) (l m u : ℕ) (s : CoreState) (us : Uses) → is_violated l m u s ≡ false → MarksFit sh s us → MarksFit sh (words_invalidated l m s) us
+unfolding words_invalidated is_violated
+words_invalidated-fit sh l m u s us n k = record { stand = without-uses l m u s.cache us s.phase n k.stand; used = without-used l m s.cache us k.used; awaits = λ i. staled-none l s.awaited (k.awaits i); owes = k.owes }
 
 -- one that is: it begins anew, or had no attempt
 rolled-fit : (sh : Shape) (s : CoreState) (q : Phase) (sp : ℕ → Option ℕ) → UsesStand (rolled_back s.cache) [] q → (awaits_in q ≡ false → s.awaited ≡ None) → MarksFit sh (record (roll_back s) { phase = q; spilled = sp }) []
 unfolding roll_back
 rolled-fit sh s q sp f n = record { stand = f; used = none-used (rolled_back s.cache) (read-rolled_back s.cache); awaits = n; owes = λ d h. absurd (cc) }
 
-violated-fit : (sh : Shape) (l m : ℕ) (s : CoreState) (us : Uses) (q : Phase) → s.phase ≡ q → MarksFit sh s us → MarksFit sh (violated_in sh (without l m s) q).core (uses_violated true q us)
-unfolding without roll_back none_spilled
-violated-fit sh l m s us Running e k = rolled-fit sh (without l m s) s.phase s.spilled (subst (λ (x : Phase). UsesStand (rolled_back (invalidated l m s.cache)) [] x) (sym e) tt) (λ i. absurd (let j = ap awaits_in e in cc))
-violated-fit sh l m s us AwaitTid e k = rolled-fit sh (without l m s) DoomedTid s.spilled refl (λ i. staled-none l s.awaited (k.awaits (ap awaits_in e)))
-violated-fit sh l m s us (Overflowing None) e k = rolled-fit sh (without l m s) DoomedTid s.spilled refl (λ i. staled-none l s.awaited (k.awaits (ap awaits_in e)))
-violated-fit sh l m s us (Probing t) e k = rolled-fit sh (without l m s) Running s.spilled tt (λ i. absurd (cc))
-violated-fit sh l m s us (Ready t) e k = rolled-fit sh (without l m s) Running s.spilled tt (λ i. absurd (cc))
-violated-fit sh l m s us (Overflowing (Some t)) e k = rolled-fit sh (without l m s) Running none_spilled tt (λ i. absurd (cc))
-violated-fit sh l m s us (Solo t) e k = rolled-fit sh (without l m s) Running none_spilled tt (λ i. absurd (cc))
+violated-fit : (sh : Shape) (l m : ℕ) (s : CoreState) (us : Uses) (q : Phase) → s.phase ≡ q → MarksFit sh s us → MarksFit sh (violated_in_phase sh (words_invalidated l m s) q).core (uses_violated true q us)
+unfolding words_invalidated roll_back none_spilled
+violated-fit sh l m s us Running e k = rolled-fit sh (words_invalidated l m s) s.phase s.spilled (subst (λ (x : Phase). UsesStand (rolled_back (invalidated l m s.cache)) [] x) (sym e) tt) (λ i. absurd (let j = ap awaits_in e in cc))
+violated-fit sh l m s us AwaitTid e k = rolled-fit sh (words_invalidated l m s) DoomedTid s.spilled refl (λ i. staled-none l s.awaited (k.awaits (ap awaits_in e)))
+violated-fit sh l m s us (Overflowing None) e k = rolled-fit sh (words_invalidated l m s) DoomedTid s.spilled refl (λ i. staled-none l s.awaited (k.awaits (ap awaits_in e)))
+violated-fit sh l m s us (Probing t) e k = rolled-fit sh (words_invalidated l m s) Running s.spilled tt (λ i. absurd (cc))
+violated-fit sh l m s us (Ready t) e k = rolled-fit sh (words_invalidated l m s) Running s.spilled tt (λ i. absurd (cc))
+violated-fit sh l m s us (Overflowing (Some t)) e k = rolled-fit sh (words_invalidated l m s) Running none_spilled tt (λ i. absurd (cc))
+violated-fit sh l m s us (Solo t) e k = rolled-fit sh (words_invalidated l m s) Running none_spilled tt (λ i. absurd (cc))
 violated-fit sh l m s us DoomedTid e k = record {
   stand = subst (λ (x : Phase). UsesStand (invalidated l m s.cache) us x) (sym e) (stand-in s us DoomedTid e k.stand);
   used = without-used l m s.cache us k.used;
@@ -349,20 +349,22 @@ violated-fit sh l m s us Halted e k = record {
   owes = k.owes;
 }
 
-kept_phase : (sh : Shape) (l m : ℕ) (s : CoreState) → (without l m s).phase ≡ s.phase
-unfolding without
+kept_phase : (sh : Shape) (l m : ℕ) (s : CoreState) → (words_invalidated l m s).phase ≡ s.phase
+unfolding words_invalidated
 kept_phase sh l m s = refl
 
-if_violated-fit : (sh : Shape) (l m u : ℕ) (s : CoreState) (us : Uses) (b : Bool) → is_violated l m u s ≡ b → MarksFit sh s us → MarksFit sh (if_violated sh b (without l m s)).core (uses_violated b s.phase us)
+if_violated-fit : (sh : Shape) (l m u : ℕ) (s : CoreState) (us : Uses) (b : Bool) → is_violated l m u s ≡ b → MarksFit sh s us → MarksFit sh (if_violated sh b (words_invalidated l m s)).core (uses_violated b s.phase us)
 unfolding if_violated
 if_violated-fit sh l m u s us true e k = violated_here
   where
-    violated_here : MarksFit sh (violated_in sh (without l m s) (without l m s).phase).core (uses_violated true s.phase us)
-    violated_here = without_phase (without l m s).phase (kept_phase sh l m s)
+    violated_here : MarksFit sh (violated_in_phase sh (words_invalidated l m s) (words_invalidated l m s).phase).core
+        (uses_violated true s.phase us)
+    violated_here = without_phase (words_invalidated l m s).phase (kept_phase sh l m s)
       where
-        without_phase : (q : Phase) → q ≡ s.phase → MarksFit sh (violated_in sh (without l m s) q).core (uses_violated true s.phase us)
-        without_phase q i = subst (λ (x : Phase). MarksFit sh (violated_in sh (without l m s) x).core (uses_violated true s.phase us)) (sym i) (violated-fit sh l m s us s.phase refl k)
-if_violated-fit sh l m u s us false e k = without-fit sh l m u s us e k
+        without_phase : (q : Phase) → q ≡ s.phase →
+            MarksFit sh (violated_in_phase sh (words_invalidated l m s) q).core (uses_violated true s.phase us)
+        without_phase q i = subst (λ (x : Phase). MarksFit sh (violated_in_phase sh (words_invalidated l m s) x).core (uses_violated true s.phase us)) (sym i) (violated-fit sh l m s us s.phase refl k)
+if_violated-fit sh l m u s us false e k = words_invalidated-fit sh l m u s us e k
 
 invalidate-fit : (sh : Shape) (l m u : ℕ) (s : CoreState) (us : Uses) → MarksFit sh s us → MarksFit sh (invalidate sh l m u s).core (uses_violated (is_violated l m u s) s.phase us)
 unfolding invalidate acknowledged
@@ -373,7 +375,7 @@ OutMarks sh us o = IfSome o (λ t. MarksFit sh t.core us)
 
 from_dir-fit : (sh : Shape) (d : ℕ) (s : CoreState) (us : Uses) (m : Msg) → MarksFit sh s us → OutMarks sh (uses_delivered s m us) (from_dir sh d s m)
 unfolding probe_reply
-from_dir-fit sh d s us (ProbeReply t serving) k = reply_phase-fit sh d t s us s.phase refl k
+from_dir-fit sh d s us (ProbeReply t serving) k = reply_in_phase-fit sh d t s us s.phase refl k
 from_dir-fit sh d s us (Fill l ws) k = fill-fit sh l ws s us k
 from_dir-fit sh d s us (DataReq l) k = request-fit sh l s us k
 from_dir-fit sh d s us (Inv l m t) k = invalidate-fit sh l m t s us k

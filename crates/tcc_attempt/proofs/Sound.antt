@@ -12,13 +12,13 @@ use Rattle.tcc_maps.specs.CacheChange.{marked, stored, placed}
 use Rattle.tcc_maps.specs.Spilled.{holds}
 use Rattle.tcc_maps.proofs.Lemmas.{marked-keeps, stored-keeps, placed-keeps, any_below-at, any_below-found, held-placed, modified-placed, dirty-placed, read-placed, modified-marked, dirty-marked, held-marked, held-stored, modified-stored, dirty-stored}
 use Rattle.tcc_rules.specs.State.{CoreState, Awaited}
-use Rattle.tcc_rules.specs.Attempt.{Out, is_solo, is_running, stepped, finished}
-use Rattle.tcc_rules.specs.Execute.{ask, place, overflow, full_set, fetch, used, buffered, framed}
+use Rattle.tcc_rules.specs.Attempt.{Out, is_solo, is_running, one_more_instruction, finished}
+use Rattle.tcc_rules.specs.Execute.{request_line, place, overflow, full_set, miss, with_read_mark, stored_in_buffer, stored_in_frame}
 use Rattle.tcc_attempt.specs.Sound.{AwaitsHeld, is_idle, SoundCore}
 
 -- the instruction's end changes nothing of this
 pub finished-sound : (sh : Shape) (p : Program) (need : Need) (x : ℕ) (s : CoreState) → SoundCore sh s → SoundCore sh (finished p need x s)
-unfolding finished stepped
+unfolding finished one_more_instruction
 finished-sound sh p Nothing x s k = record { cache = k.cache; awaits = k.awaits; alone = k.alone; apart = k.apart; unmarked = k.unmarked }
 finished-sound sh p (Loads addr size) x s k = record { cache = k.cache; awaits = k.awaits; alone = k.alone; apart = k.apart; unmarked = k.unmarked }
 finished-sound sh p (Stores addr size value) x s k = record { cache = k.cache; awaits = k.awaits; alone = k.alone; apart = k.apart; unmarked = k.unmarked }
@@ -46,9 +46,10 @@ holds-none sp l v h e = ⊎_elim
 pub valid-held : (sh : Shape) (c : Cache) (w x : ℕ) → IsCache sh c → c.value w ≡ Some x → c.held (line_of w) ≡ true
 valid-held sh c w x k e = ⊎_elim (λ h. h) (λ h. let n = k.valued w h in absurd (cc)) (cases_Bool (c.held (line_of w)))
 
-pub ask-sound : (sh : Shape) (l : ℕ) (s : CoreState) → s.cache.held l ≡ true → SoundCore sh s → SoundCore sh (ask sh l s).core
-unfolding ask
-ask-sound sh l s h k = record { cache = k.cache; awaits = h; alone = k.alone; apart = k.apart; unmarked = k.unmarked }
+pub request_line-sound : (sh : Shape) (l : ℕ) (s : CoreState) → s.cache.held l ≡ true → SoundCore sh s →
+    SoundCore sh (request_line sh l s).core
+unfolding request_line
+request_line-sound sh l s h k = record { cache = k.cache; awaits = h; alone = k.alone; apart = k.apart; unmarked = k.unmarked }
 
 placed-awaits : (sh : Shape) (l y : ℕ) (c : Cache) (o : Option Awaited) → free_way sh c (set_of sh l) ≡ Some y → AwaitsHeld c o → AwaitsHeld (placed sh l c) o
 placed-awaits sh l y c None e h = tt
@@ -72,9 +73,10 @@ place-held sh l y s e = held-placed sh l s.cache l y e ∙ grind (arith, nat_tes
 abbrev pub MayAct : CoreState → Type 0
 MayAct s = is_idle s.phase ≡ false
 
-pub used-sound : (sh : Shape) (w x : ℕ) (s : CoreState) → MayAct s → s.cache.value w ≡ Some x → SoundCore sh s → SoundCore sh (used w s)
-unfolding used
-used-sound sh w x s m e k = at (is_running s.phase)
+pub with_read_mark-sound : (sh : Shape) (w x : ℕ) (s : CoreState) → MayAct s → s.cache.value w ≡ Some x → SoundCore sh s →
+    SoundCore sh (with_read_mark w s)
+unfolding with_read_mark
+with_read_mark-sound sh w x s m e k = at (is_running s.phase)
   where
     at : (b : Bool) → SoundCore sh (cond b (record s { cache = marked w s.cache }) s)
     at true = record {
@@ -91,9 +93,9 @@ used-sound sh w x s m e k = at (is_running s.phase)
     at false = k
 
 -- only a core that is alone puts words into its buffer, and then of a line that has spilled words already
-pub buffered-sound : (sh : Shape) (w x : ℕ) (s : CoreState) → MayAct s → holds s.spilled (line_of w) ≡ true → SoundCore sh s → SoundCore sh (buffered w x s)
-unfolding buffered
-buffered-sound sh w x s m h k =
+pub stored_in_buffer-sound : (sh : Shape) (w x : ℕ) (s : CoreState) → MayAct s → holds s.spilled (line_of w) ≡ true → SoundCore sh s → SoundCore sh (stored_in_buffer w x s)
+unfolding stored_in_buffer
+stored_in_buffer-sound sh w x s m h k =
     let f = holds-found s.spilled (line_of w) h in
     record {
       cache = k.cache;
@@ -112,9 +114,9 @@ stored-awaits w x also c None h = tt
 stored-awaits w x also c (Some a) h = held-stored w x also c a.line ∙ h
 
 -- a word goes into a frame of a line without spilled words
-pub framed-sound : (sh : Shape) (w x : ℕ) (also : Bool) (s : CoreState) → MayAct s → s.cache.held (line_of w) ≡ true → holds s.spilled (line_of w) ≡ false → SoundCore sh s → SoundCore sh (framed w x also s)
-unfolding framed
-framed-sound sh w x also s m h n k = record {
+pub stored_in_frame-sound : (sh : Shape) (w x : ℕ) (also : Bool) (s : CoreState) → MayAct s → s.cache.held (line_of w) ≡ true → holds s.spilled (line_of w) ≡ false → SoundCore sh s → SoundCore sh (stored_in_frame w x also s)
+unfolding stored_in_frame
+stored_in_frame-sound sh w x also s m h n k = record {
   cache = stored-keeps sh w x also s.cache h k.cache;
   awaits = stored-awaits w x also s.cache s.awaited k.awaits;
   alone = k.alone;
@@ -141,11 +143,11 @@ full_set-sound sh l s k = at (is_solo s.phase) refl (not (all_marked sh s.cache 
     at false e true = tt
     at false e false = overflow-sound sh s e k
 
-pub fetch-sound : (sh : Shape) (l : ℕ) (s : CoreState) → SoundCore sh s → OutSound sh (fetch sh l s)
-unfolding fetch
-fetch-sound sh l s k = at (s.cache.held l) refl (free_way sh s.cache (set_of sh l)) refl
+pub miss-sound : (sh : Shape) (l : ℕ) (s : CoreState) → SoundCore sh s → OutSound sh (miss sh l s)
+unfolding miss
+miss-sound sh l s k = at (s.cache.held l) refl (free_way sh s.cache (set_of sh l)) refl
   where
-    at : (b : Bool) → s.cache.held l ≡ b → (o : Option ℕ) → free_way sh s.cache (set_of sh l) ≡ o → OutSound sh (cond b (Some (ask sh l s)) (cond (is_some o) (Some (ask sh l (place sh l s))) (full_set sh l s)))
-    at true h o e = ask-sound sh l s h k
-    at false h (Some y) e = ask-sound sh l (place sh l s) (place-held sh l y s e) (place-sound sh l y s h e k)
+    at : (b : Bool) → s.cache.held l ≡ b → (o : Option ℕ) → free_way sh s.cache (set_of sh l) ≡ o → OutSound sh (cond b (Some (request_line sh l s)) (cond (is_some o) (Some (request_line sh l (place sh l s))) (full_set sh l s)))
+    at true h o e = request_line-sound sh l s h k
+    at false h (Some y) e = request_line-sound sh l (place sh l s) (place-held sh l y s e) (place-sound sh l y s h e k)
     at false h None e = full_set-sound sh l s k

@@ -14,14 +14,14 @@ use Rattle.tcc_maps.specs.Spilled.{spill_line, none_spilled}
 use Rattle.tcc_maps.proofs.Lemmas.{empty-keeps, evicted-keeps, filled-keeps, invalidated-keeps, cleaned-keeps, rolled_back-keeps, read_cleared-keeps, any_below-at, held-evicted, modified-evicted, dirty-evicted, read-evicted, read-filled, modified-filled, dirty-filled, held-invalidated, read-invalidated, modified-invalidated, dirty-invalidated, held-cleaned, read-cleaned, modified-cleaned, dirty-cleaned, held-rolled_back, read-rolled_back, modified-rolled_back, held-read_cleared, modified-read_cleared, dirty-read_cleared}
 use Rattle.tcc_rules.specs.State.{CoreState, Awaited, Phase, Running, AwaitTid, DoomedTid, Probing, Ready, Overflowing, Solo, Halted, World, core_start, start}
 use Rattle.tcc_rules.specs.Links.{in_flight}
-use Rattle.tcc_rules.specs.Sends.{nothing, to, marks_for, written_back}
+use Rattle.tcc_rules.specs.Sends.{nothing, to, marks_for, write_back_line}
 use Rattle.tcc_rules.specs.Attempt.{Out, moves, is_solo, roll_back}
 use Rattle.tcc_rules.specs.CoreExec.{core_exec}
 use Rattle.tcc_rules.specs.CoreEvict.{is_awaited, evict_line, core_evict}
-use Rattle.tcc_rules.specs.CoreDeliver.{ignored, grant_phase, grant, probing, is_probed, replied, all_replied, when_ready, when_alone, reply_phase, probe_reply, fill_awaited, fill, data_request, violated_in, if_violated, staled, without, is_violated, acknowledged, invalidate, from_dir, from_vendor, core_deliver}
+use Rattle.tcc_rules.specs.CoreDeliver.{ignored, grant_in_phase, grant, probing_or_ready, is_probed, replied, all_replied, ready_once_replied, solo_once_replied, reply_in_phase, probe_reply, fill_awaited, fill, data_request, violated_in_phase, if_violated, staled, words_invalidated, is_violated, acknowledged, invalidate, from_dir, from_vendor, core_deliver}
 use Rattle.tcc_rules.specs.DirDeliver.{Answer, Waits, Drops, Asks, Takes, dir_deliver}
 use Rattle.tcc_rules.specs.VendorDeliver.{Granted, vendor_deliver}
-use Rattle.tcc_rules.specs.Step.{Stepped, History, core_moves, core_takes, dir_takes, dir_asks, vendor_gives, moved, taken, answered, granted, delivered, if_in_flight, names_nodes, happens, step, recorded, and_noted, next, and_then, run_from, run}
+use Rattle.tcc_rules.specs.Step.{Stepped, History, core_moves, core_takes, dir_takes, dir_asks, vendor_gives, if_core_moves, if_core_takes, answered, if_vendor_gives, delivered, if_in_flight, names_nodes, happens, step, recorded, and_noted, next_history, and_then, run_from, run}
 use Rattle.tcc_attempt.specs.Sound.{AwaitsHeld, is_idle, SoundCore}
 use Rattle.tcc_rules.proofs.Lemmas.{if-step}
 use Rattle.tcc_attempt.proofs.Sound.{OutSound}
@@ -79,7 +79,7 @@ evict_line-sound : (sh : Shape) (x y : ℕ) (s : CoreState) (o : Option ℕ) →
 evict_line-sound sh x y s None e k = tt
 evict_line-sound sh x y s (Some l) e k = at (is_awaited s.awaited l || (is_marked s.cache l && not (is_solo s.phase))) refl
   where
-    at : (b : Bool) → (is_awaited s.awaited l || (is_marked s.cache l && not (is_solo s.phase))) ≡ b → OutSound sh (cond b None (Some (moves (record s { cache = evicted x y s.cache; spilled = spill_line l s.cache s.spilled }) (written_back sh s.cache l))))
+    at : (b : Bool) → (is_awaited s.awaited l || (is_marked s.cache l && not (is_solo s.phase))) ≡ b → OutSound sh (cond b None (Some (moves (record s { cache = evicted x y s.cache; spilled = spill_line l s.cache s.spilled }) (write_back_line sh s.cache l))))
     at true q = tt
     at false q =
         let n = or-left (is_awaited s.awaited l) (is_marked s.cache l && not (is_solo s.phase)) q in
@@ -100,24 +100,24 @@ core_evict-sound sh x y s k = evict_line-sound sh x y s (s.cache.at x y) refl k
 rephased : (sh : Shape) (s : CoreState) (q : Phase) (owing : ℕ → Bool) → is_idle q ≡ false → is_solo s.phase ≡ false → SoundCore sh s → SoundCore sh (record s { owing = owing; phase = q })
 rephased sh s q owing m h k = record { cache = k.cache; awaits = k.awaits; alone = λ i. k.alone h; apart = k.apart; unmarked = λ i w. absurd (cc) }
 
-probing-idle : (b : Bool) (t : ℕ) → is_idle (probing b t) ≡ false
+probing-idle : (b : Bool) (t : ℕ) → is_idle (probing_or_ready b t) ≡ false
 probing-idle true t = refl
 probing-idle false t = refl
 
-grant_phase-sound : (sh : Shape) (t : ℕ) (s : CoreState) (q : Phase) → s.phase ≡ q → SoundCore sh s → SoundCore sh (grant_phase sh t s q).core
-grant_phase-sound sh t s AwaitTid e k = rephased sh s (probing (any_below (is_probed sh s.cache) sh.dirs) t) (is_probed sh s.cache) (probing-idle (any_below (is_probed sh s.cache) sh.dirs) t) (ap is_solo e) k
-grant_phase-sound sh t s DoomedTid e k = rephased sh s Running s.owing refl (ap is_solo e) k
-grant_phase-sound sh t s (Overflowing None) e k = rephased sh s (Overflowing (Some t)) (λ d. nat_lt d sh.dirs) refl (ap is_solo e) k
-grant_phase-sound sh t s (Overflowing (Some u)) e k = k
-grant_phase-sound sh t s Running e k = k
-grant_phase-sound sh t s (Probing u) e k = k
-grant_phase-sound sh t s (Ready u) e k = k
-grant_phase-sound sh t s (Solo u) e k = k
-grant_phase-sound sh t s Halted e k = k
+grant_in_phase-sound : (sh : Shape) (t : ℕ) (s : CoreState) (q : Phase) → s.phase ≡ q → SoundCore sh s → SoundCore sh (grant_in_phase sh t s q).core
+grant_in_phase-sound sh t s AwaitTid e k = rephased sh s (probing_or_ready (any_below (is_probed sh s.cache) sh.dirs) t) (is_probed sh s.cache) (probing-idle (any_below (is_probed sh s.cache) sh.dirs) t) (ap is_solo e) k
+grant_in_phase-sound sh t s DoomedTid e k = rephased sh s Running s.owing refl (ap is_solo e) k
+grant_in_phase-sound sh t s (Overflowing None) e k = rephased sh s (Overflowing (Some t)) (λ d. nat_lt d sh.dirs) refl (ap is_solo e) k
+grant_in_phase-sound sh t s (Overflowing (Some u)) e k = k
+grant_in_phase-sound sh t s Running e k = k
+grant_in_phase-sound sh t s (Probing u) e k = k
+grant_in_phase-sound sh t s (Ready u) e k = k
+grant_in_phase-sound sh t s (Solo u) e k = k
+grant_in_phase-sound sh t s Halted e k = k
 
 grant-sound : (sh : Shape) (t : ℕ) (s : CoreState) → SoundCore sh s → SoundCore sh (grant sh t s).core
 unfolding grant
-grant-sound sh t s k = grant_phase-sound sh t s s.phase refl k
+grant-sound sh t s k = grant_in_phase-sound sh t s s.phase refl k
 
 replied-sound : (sh : Shape) (d : ℕ) (s : CoreState) → SoundCore sh s → SoundCore sh (replied d s)
 replied-sound sh d s k = record { cache = k.cache; awaits = k.awaits; alone = k.alone; apart = k.apart; unmarked = k.unmarked }
@@ -136,28 +136,29 @@ alone-sound sh t s true h k = record {
 }
 alone-sound sh t s false h k = k
 
-reply_phase-sound : (sh : Shape) (d t : ℕ) (s : CoreState) (q : Phase) → s.phase ≡ q → SoundCore sh s → SoundCore sh (reply_phase sh d t s q).core
-reply_phase-sound sh d t s (Probing u) e k = at (u == t && s.owing d)
+reply_in_phase-sound : (sh : Shape) (d t : ℕ) (s : CoreState) (q : Phase) → s.phase ≡ q → SoundCore sh s → SoundCore sh (reply_in_phase sh d t s q).core
+reply_in_phase-sound sh d t s (Probing u) e k = at (u == t && s.owing d)
   where
-    at : (b : Bool) → SoundCore sh (cond b (moves (when_ready sh t (replied d s)) (to (Dir d) (marks_for sh s.cache t d))) (ignored s)).core
+    at : (b : Bool) →
+        SoundCore sh (cond b (moves (ready_once_replied sh t (replied d s)) (to (Dir d) (marks_for sh s.cache t d))) (ignored s)).core
     at true = ready-sound sh t (replied d s) (all_replied sh (replied d s).owing) (ap is_solo e) (replied-sound sh d s k)
     at false = k
-reply_phase-sound sh d t s (Overflowing (Some u)) e k = at (u == t && s.owing d)
+reply_in_phase-sound sh d t s (Overflowing (Some u)) e k = at (u == t && s.owing d)
   where
-    at : (b : Bool) → SoundCore sh (cond b (moves (when_alone sh t (replied d s)) nothing) (ignored s)).core
+    at : (b : Bool) → SoundCore sh (cond b (moves (solo_once_replied sh t (replied d s)) nothing) (ignored s)).core
     at true = alone-sound sh t (replied d s) (all_replied sh (replied d s).owing) (ap is_solo e) (replied-sound sh d s k)
     at false = k
-reply_phase-sound sh d t s (Overflowing None) e k = k
-reply_phase-sound sh d t s Running e k = k
-reply_phase-sound sh d t s AwaitTid e k = k
-reply_phase-sound sh d t s DoomedTid e k = k
-reply_phase-sound sh d t s (Ready u) e k = k
-reply_phase-sound sh d t s (Solo u) e k = k
-reply_phase-sound sh d t s Halted e k = k
+reply_in_phase-sound sh d t s (Overflowing None) e k = k
+reply_in_phase-sound sh d t s Running e k = k
+reply_in_phase-sound sh d t s AwaitTid e k = k
+reply_in_phase-sound sh d t s DoomedTid e k = k
+reply_in_phase-sound sh d t s (Ready u) e k = k
+reply_in_phase-sound sh d t s (Solo u) e k = k
+reply_in_phase-sound sh d t s Halted e k = k
 
 reply-sound : (sh : Shape) (d t : ℕ) (s : CoreState) → SoundCore sh s → SoundCore sh (probe_reply sh d t s).core
 unfolding probe_reply
-reply-sound sh d t s k = reply_phase-sound sh d t s s.phase refl k
+reply-sound sh d t s k = reply_in_phase-sound sh d t s s.phase refl k
 
 filled-sound : (sh : Shape) (l : ℕ) (ws : List ℕ) (s : CoreState) → s.cache.held l ≡ true → SoundCore sh s → SoundCore sh (record s { cache = filled l ws s.cache; awaited = None })
 filled-sound sh l ws s h k = record {
@@ -201,9 +202,9 @@ staled-awaits : (l m : ℕ) (c : Cache) (o : Option Awaited) → AwaitsHeld c o 
 staled-awaits l m c None h = tt
 staled-awaits l m c (Some a) h = held-invalidated l m c a.line ∙ h
 
-pub without-sound : (sh : Shape) (l m : ℕ) (s : CoreState) → SoundCore sh s → SoundCore sh (without l m s)
-unfolding without
-without-sound sh l m s k = record {
+pub words_invalidated-sound : (sh : Shape) (l m : ℕ) (s : CoreState) → SoundCore sh s → SoundCore sh (words_invalidated l m s)
+unfolding words_invalidated
+words_invalidated-sound sh l m s k = record {
   cache = invalidated-keeps sh l m s.cache k.cache;
   awaits = staled-awaits l m s.cache s.awaited k.awaits;
   alone = k.alone;
@@ -222,7 +223,7 @@ rolled-sound sh s q sp f k = record {
   unmarked = λ i w. (read-rolled_back s.cache w, modified-rolled_back s.cache w);
 }
 
-violated-sound : (sh : Shape) (s : CoreState) (q : Phase) → s.phase ≡ q → SoundCore sh s → SoundCore sh (violated_in sh s q).core
+violated-sound : (sh : Shape) (s : CoreState) (q : Phase) → s.phase ≡ q → SoundCore sh s → SoundCore sh (violated_in_phase sh s q).core
 unfolding roll_back none_spilled
 violated-sound sh s Running e k = rolled-sound sh s s.phase s.spilled (k.alone (ap is_solo e)) k
 violated-sound sh s AwaitTid e k = rolled-sound sh s DoomedTid s.spilled (k.alone (ap is_solo e)) k
@@ -241,7 +242,7 @@ if_violated-sound sh false s k = k
 
 invalidate-sound : (sh : Shape) (l m u : ℕ) (s : CoreState) → SoundCore sh s → SoundCore sh (invalidate sh l m u s).core
 unfolding invalidate acknowledged
-invalidate-sound sh l m u s k = if_violated-sound sh (is_violated l m u s) (without l m s) (without-sound sh l m s k)
+invalidate-sound sh l m u s k = if_violated-sound sh (is_violated l m u s) (words_invalidated l m s) (words_invalidated-sound sh l m s k)
 
 from_dir-sound : (sh : Shape) (d : ℕ) (s : CoreState) (m : Msg) → SoundCore sh s → OutSound sh (from_dir sh d s m)
 from_dir-sound sh d s (ProbeReply t serving) k = reply-sound sh d t s k
@@ -294,12 +295,12 @@ put-sound sh cores c s h k i = at (i == c)
     at true = k
     at false = h i
 
-moved-sound : (sh : Shape) (w : World) (c : ℕ) (o : Option Out) → AllSound sh w.cores → OutSound sh o → IfSome (moved w c o) (λ t. AllSound sh t.world.cores)
+moved-sound : (sh : Shape) (w : World) (c : ℕ) (o : Option Out) → AllSound sh w.cores → OutSound sh o → IfSome (if_core_moves w c o) (λ t. AllSound sh t.world.cores)
 unfolding core_moves
 moved-sound sh w c None h k = tt
 moved-sound sh w c (Some o) h k = put-sound sh w.cores c o.core h k
 
-taken-sound : (sh : Shape) (w : World) (src : Node) (c k : ℕ) (o : Option Out) → AllSound sh w.cores → OutSound sh o → IfSome (taken w src c k o) (λ t. AllSound sh t.world.cores)
+taken-sound : (sh : Shape) (w : World) (src : Node) (c k : ℕ) (o : Option Out) → AllSound sh w.cores → OutSound sh o → IfSome (if_core_takes w src c k o) (λ t. AllSound sh t.world.cores)
 unfolding core_takes
 taken-sound sh w src c k None h i = tt
 taken-sound sh w src c k (Some o) h i = put-sound sh w.cores c o.core h i
@@ -311,7 +312,7 @@ answered-sound sh w c d k Drops h = h
 answered-sound sh w c d k (Asks s sends) h = h
 answered-sound sh w c d k (Takes s sends) h = h
 
-granted-sound : (sh : Shape) (w : World) (c k : ℕ) (g : Option Granted) → AllSound sh w.cores → IfSome (granted w c k g) (λ t. AllSound sh t.world.cores)
+granted-sound : (sh : Shape) (w : World) (c k : ℕ) (g : Option Granted) → AllSound sh w.cores → IfSome (if_vendor_gives w c k g) (λ t. AllSound sh t.world.cores)
 unfolding vendor_gives
 granted-sound sh w c k None h = tt
 granted-sound sh w c k (Some g) h = h
@@ -345,7 +346,7 @@ run-step-sound sh p es h None k f = tt
 run-step-sound sh p es h (Some t) k f = f (record { world = t.world; commits = and_noted t.noted h.commits }) k
 
 run_from-sound : (sh : Shape) (p : Program) (es : List Event) (h : History) → AllSound sh h.world.cores → IfSome (run_from sh p es h) (λ x. AllSound sh x.world.cores)
-unfolding run_from next
+unfolding run_from next_history
 run_from-sound sh p [] h k = k
 run_from-sound sh p (e ∷ es) h k = run-step-sound sh p es h (step sh p h.world e) (step-sound sh p h.world e k) (run_from-sound sh p es)
 

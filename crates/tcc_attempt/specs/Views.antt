@@ -10,7 +10,7 @@ use Rattle.tcc_rules.specs.Attempt.{Out}
 use Rattle.tcc_rules.specs.CoreDeliver.{is_violated}
 use Rattle.tcc_rules.specs.CoreExec.{core_exec}
 use Rattle.tcc_rules.specs.Links.{in_flight}
-use Rattle.tcc_rules.specs.Step.{History, next}
+use Rattle.tcc_rules.specs.Step.{History, next_history}
 use Rattle.tcc_attempt.specs.Follows.{Uses, used_by}
 
 -- what an event of a core leaves of these uses: none where it committed
@@ -82,4 +82,4 @@ then_views vs more (Some h) = more h
 -- the views after a run, from those before it
 unfoldable pub views_from : Shape → Program → List Event → Views → History → Views
 views_from sh p [] vs h = vs
-views_from sh p (e ∷ es) vs h = then_views vs (views_from sh p es (views_after sh p h.world e vs)) (next sh p h e)
+views_from sh p (e ∷ es) vs h = then_views vs (views_from sh p es (views_after sh p h.world e vs)) (next_history sh p h e)

@@ -13,12 +13,12 @@ use Rattle.tcc_maps.specs.Shape.{Shape, home, lines, set_of}
 use Rattle.tcc_maps.specs.Spilled.{Spilled, holds, spilled_mask, spilled_words}
 use Rattle.tcc_rules.specs.State.{CoreState, Awaited, Phase, Running, AwaitTid, DoomedTid, Probing, Ready, Overflowing, Solo}
 use Rattle.tcc_rules.specs.Attempt.{Out, moves, is_solo, new_word, finished}
-use Rattle.tcc_rules.specs.Commit.{noted, committed_core, commit_sends, commit, is_written, written_mask, solo_writes_at, solo_marks, solo_backs, solo_sends, solo_commit}
-use Rattle.tcc_rules.specs.CoreDeliver.{grant_sends, grant_phase, grant, replied, all_replied, when_ready, when_alone, reply_phase, probe_reply, fill_awaited, fill, data_request, violated_in, if_violated, is_violated, without, acknowledged, invalidate, from_dir, ignored}
+use Rattle.tcc_rules.specs.Commit.{noted, committed_core, commit_sends, commit, is_written, written_mask, solo_writes_at, solo_marks_or_skip, solo_write_backs, solo_sends, solo_commit}
+use Rattle.tcc_rules.specs.CoreDeliver.{grant_sends, grant_in_phase, grant, replied, all_replied, ready_once_replied, solo_once_replied, reply_in_phase, probe_reply, fill_awaited, fill, data_request, violated_in_phase, if_violated, is_violated, words_invalidated, acknowledged, invalidate, from_dir, ignored}
 use Rattle.tcc_rules.specs.CoreEvict.{is_awaited, evict_line, core_evict}
-use Rattle.tcc_rules.specs.CoreExec.{unless_awaiting, exec_phase, core_exec}
-use Rattle.tcc_rules.specs.Execute.{ask, place, overflow, full_set, fetch, used, load_valid, load_spilled, load, buffered, framed, word_store, also_read, change_valid, change_spilled, partial_store, close, execute_need, execute}
-use Rattle.tcc_rules.specs.Sends.{Sends, nothing, to, when, write_back, flush, written_back, flushed, skip_all, probe_all, abort_written, marks_for}
+use Rattle.tcc_rules.specs.CoreExec.{unless_awaiting, exec_in_phase, core_exec}
+use Rattle.tcc_rules.specs.Execute.{request_line, place, overflow, full_set, miss, with_read_mark, load_valid, load_spilled, load, stored_in_buffer, stored_in_frame, word_store, marks_read, change_valid, change_spilled, partial_store, end_transaction, execute_need, execute}
+use Rattle.tcc_rules.specs.Sends.{Sends, nothing, to, when, write_back_of, flush_of, write_back_line, flush_line, skip_all, probe_all, abort_written, marks_for}
 use Rattle.tcc_serial.specs.InMemory.{NeedInMemory, WordInMemory}
 use Rattle.tcc_bounds.specs.Bounds.{most_sent, AttemptCounted, CommitCounted}
 use Rattle.tcc_bounds.proofs.Outside.{is_inside, Inside, SendsInside, no-message, one-message, some, and-messages, when-messages, wider, those-messages, nothing-inside, then-inside, to-inside, dirs-inside, below}
@@ -95,19 +95,19 @@ requests : (sh : Shape) → SendsInside sh (most_sent sh) (to Vendor (TidReq ∷
 unfolding is_inside
 requests sh = to-inside sh _ Vendor (TidReq ∷ []) (one-message sh _ TidReq (some sh) refl)
 
-flushes : (sh : Shape) (s : Cache) (l : ℕ) → SendsInside sh (most_sent sh) (flushed sh s l)
-unfolding flushed is_inside
-flushes sh s l = to-inside sh _ (Dir (home sh l)) (flush (dirty_copy s l)) (go (dirty_copy s l))
+flushes : (sh : Shape) (s : Cache) (l : ℕ) → SendsInside sh (most_sent sh) (flush_line sh s l)
+unfolding flush_line is_inside
+flushes sh s l = to-inside sh _ (Dir (home sh l)) (flush_of (dirty_copy s l)) (go (dirty_copy s l))
   where
-    go : (o : Option Tagged) → Inside sh (most_sent sh) (flush o)
+    go : (o : Option Tagged) → Inside sh (most_sent sh) (flush_of o)
     go None = no-message sh _
     go (Some t) = one-message sh _ (Flush t.line t.mask t.words t.tag) (some sh) refl
 
-backs : (sh : Shape) (s : Cache) (l : ℕ) → SendsInside sh (most_sent sh) (written_back sh s l)
-unfolding written_back is_inside
-backs sh s l = to-inside sh _ (Dir (home sh l)) (write_back (dirty_copy s l)) (go (dirty_copy s l))
+backs : (sh : Shape) (s : Cache) (l : ℕ) → SendsInside sh (most_sent sh) (write_back_line sh s l)
+unfolding write_back_line is_inside
+backs sh s l = to-inside sh _ (Dir (home sh l)) (write_back_of (dirty_copy s l)) (go (dirty_copy s l))
   where
-    go : (o : Option Tagged) → Inside sh (most_sent sh) (write_back o)
+    go : (o : Option Tagged) → Inside sh (most_sent sh) (write_back_of o)
     go None = no-message sh _
     go (Some t) = one-message sh _ (WriteBack t.line t.mask t.words t.tag) (some sh) refl
 
@@ -119,8 +119,8 @@ unfolding is_inside
 marks sh p mask t = those-messages sh (λ l. Mark l (mask l) t) p (lines sh) (λ l i. below sh l i)
 
 solos : (sh : Shape) (s : Cache) (sp : Spilled) (t : ℕ) → SendsInside sh (most_sent sh) (solo_sends sh s sp t)
-unfolding solo_sends solo_marks solo_backs is_inside
-solos sh s sp t = dirs-inside sh _ (λ d. solo_marks sh s sp t d ++ solo_backs sh sp t d) each
+unfolding solo_sends solo_marks_or_skip solo_write_backs is_inside
+solos sh s sp t = dirs-inside sh _ (λ d. solo_marks_or_skip sh s sp t d ++ solo_write_backs sh sp t d) each
   where
     back : ℕ → Msg
     back l = WriteBack l (spilled_mask sp l) (spilled_words sp l) t
@@ -131,7 +131,7 @@ solos sh s sp t = dirs-inside sh _ (λ d. solo_marks sh s sp t d ++ solo_backs s
     done : ℕ → Msg
     done d = Commit t (count_below (λ l. d == home sh l && is_written s sp l) (lines sh))
 
-    behind : (d : ℕ) → Inside sh (lines sh) (solo_backs sh sp t d)
+    behind : (d : ℕ) → Inside sh (lines sh) (solo_write_backs sh sp t d)
     behind d = those-messages sh back (λ l. d == home sh l && holds sp l) (lines sh) (λ l i. refl)
 
     first : (d : ℕ) (b : Bool) → Inside sh (lines sh + 1) (if b then marked d ++ done d ∷ [] else Skip t ∷ [])
@@ -139,17 +139,17 @@ solos sh s sp t = dirs-inside sh _ (λ d. solo_marks sh s sp t d ++ solo_backs s
     first d true = and-messages sh (lines sh) 1 (marked d) (done d ∷ [])
         (marks sh (λ l. d == home sh l && is_written s sp l) (written_mask s sp) t) (one-message sh 1 (done d) (omega arith) refl)
 
-    each : (d : ℕ) → Inside sh (most_sent sh) (solo_marks sh s sp t d ++ solo_backs sh sp t d)
+    each : (d : ℕ) → Inside sh (most_sent sh) (solo_marks_or_skip sh s sp t d ++ solo_write_backs sh sp t d)
     each d = wider sh (lines sh + 1 + lines sh) (most_sent sh) _ (omega arith)
-        (and-messages sh (lines sh + 1) (lines sh) (solo_marks sh s sp t d) (solo_backs sh sp t d)
+        (and-messages sh (lines sh + 1) (lines sh) (solo_marks_or_skip sh s sp t d) (solo_write_backs sh sp t d)
         (first d (solo_writes_at sh s sp d)) (behind d))
 
 -- Exec
 
-asks : (sh : Shape) (n l : ℕ) (s : CoreState) → l < lines sh → AttemptCounted n s → Keeps sh n (ask sh l s)
-unfolding ask is_inside
+asks : (sh : Shape) (n l : ℕ) (s : CoreState) → l < lines sh → AttemptCounted n s → Keeps sh n (request_line sh l s)
+unfolding request_line is_inside
 asks sh n l s i k = still sh _ n _ _
-    (to-inside sh _ (Dir (home sh l)) _ (one-message sh _ (LoadReq l (s.after (home sh l))) (some sh) (below sh l i))) k
+    (to-inside sh _ (Dir (home sh l)) _ (one-message sh _ (LoadReq l (s.last_commit (home sh l))) (some sh) (below sh l i))) k
 
 full : (sh : Shape) (n l : ℕ) (s : CoreState) → AttemptCounted n s → IfSome (full_set sh l s) (Keeps sh n)
 unfolding full_set overflow
@@ -159,12 +159,13 @@ full sh n l s k = go (is_solo s.phase || not (all_marked sh s.cache (set_of sh l
     go true = tt
     go false = still sh _ n _ _ (requests sh) k
 
-fetches : (sh : Shape) (n l : ℕ) (s : CoreState) → l < lines sh → AttemptCounted n s → IfSome (fetch sh l s) (Keeps sh n)
-unfolding fetch
+fetches : (sh : Shape) (n l : ℕ) (s : CoreState) → l < lines sh → AttemptCounted n s → IfSome (miss sh l s) (Keeps sh n)
+unfolding miss
 fetches sh n l s i k = go (s.cache.held l) (is_some (free_way sh s.cache (set_of sh l)))
   where
     go : (a b : Bool)
-        → IfSome (if a then Some (ask sh l s) else (if b then Some (ask sh l (place sh l s)) else full_set sh l s)) (Keeps sh n)
+        → IfSome (if a then Some (request_line sh l s) else (if b then Some (request_line sh l (place sh l s)) else full_set sh l s))
+        (Keeps sh n)
     go true b = asks sh n l s i k
     go false true = asks sh n l (place sh l s) i (placed n sh l s k)
     go false false = full sh n l s k
@@ -180,7 +181,7 @@ unfolding load
 loads sh n p w need s i k = go (s.spilled w)
   where
     valid : (b : Option ℕ) → IfSome (load_valid sh p need w s b) (Keeps sh n)
-    valid (Some x) = done_with sh n p need x (used w s) nothing (nothing-inside sh _) (marked_read n w s k)
+    valid (Some x) = done_with sh n p need x (with_read_mark w s) nothing (nothing-inside sh _) (marked_read n w s k)
     valid None = fetches sh n (line_of w) s i k
 
     go : (a : Option ℕ) → IfSome (load_spilled sh p need w s a) (Keeps sh n)
@@ -196,15 +197,15 @@ partly sh n p w need s i k = go (s.spilled w)
     one true o q f g = f
     one false o q f g = g
 
-    into_buffer : (x : ℕ) → Keeps sh n (moves (finished p need x (buffered w (new_word need x) s)) nothing)
-    into_buffer x = done_with sh n p need x (buffered w (new_word need x) s) nothing (nothing-inside sh _)
+    into_buffer : (x : ℕ) → Keeps sh n (moves (finished p need x (stored_in_buffer w (new_word need x) s)) nothing)
+    into_buffer x = done_with sh n p need x (stored_in_buffer w (new_word need x) s) nothing (nothing-inside sh _)
         (in_buffer n w (new_word need x) s k)
 
     valid : (b : Option ℕ) → IfSome (change_valid sh p need w s b) (Keeps sh n)
     valid None = fetches sh n (line_of w) s i k
     valid (Some x) = one (holds s.spilled (line_of w)) _ _ (into_buffer x)
-        (done_with sh n p need x (framed w (new_word need x) (also_read w s) s) (flushed sh s.cache (line_of w))
-        (flushes sh s.cache (line_of w)) (in_frame n w (new_word need x) (also_read w s) s k))
+        (done_with sh n p need x (stored_in_frame w (new_word need x) (marks_read w s) s) (flush_line sh s.cache (line_of w))
+        (flushes sh s.cache (line_of w)) (in_frame n w (new_word need x) (marks_read w s) s k))
 
     go : (a : Option ℕ) → IfSome (change_spilled sh p need w s a) (Keeps sh n)
     go (Some x) = into_buffer x
@@ -215,10 +216,10 @@ stores_word : (sh : Shape) (n : ℕ) (p : Program) (w x : ℕ) (need : Need) (s 
 unfolding word_store
 stores_word sh n p w x need s k = go (holds s.spilled (line_of w)) (s.cache.held (line_of w))
     (is_some (free_way sh s.cache (set_of sh (line_of w)))) _ _ _
-    (done_with sh n p need x (buffered w x s) nothing (nothing-inside sh _) (in_buffer n w x s k))
-    (done_with sh n p need x (framed w x false s) (flushed sh s.cache (line_of w)) (flushes sh s.cache (line_of w))
+    (done_with sh n p need x (stored_in_buffer w x s) nothing (nothing-inside sh _) (in_buffer n w x s k))
+    (done_with sh n p need x (stored_in_frame w x false s) (flush_line sh s.cache (line_of w)) (flushes sh s.cache (line_of w))
     (in_frame n w x false s k))
-    (done_with sh n p need x (framed w x false (place sh (line_of w) s)) nothing (nothing-inside sh _)
+    (done_with sh n p need x (stored_in_frame w x false (place sh (line_of w) s)) nothing (nothing-inside sh _)
     (in_frame n w x false (place sh (line_of w) s) (placed n sh (line_of w) s k)))
   where
     go : (a b d : Bool) (o q r : Out) → Keeps sh n o → Keeps sh n q → Keeps sh n r
@@ -228,7 +229,7 @@ stores_word sh n p w x need s k = go (holds s.spilled (line_of w)) (s.cache.held
     go false false true o q r f g h = h
     go false false false o q r f g h = full sh n (line_of w) s k
 
-closes : (sh : Shape) (n id : ℕ) (q : Phase) (s : CoreState) → AttemptCounted (n + 1) s → Keeps sh n (close sh id q s)
+closes : (sh : Shape) (n id : ℕ) (q : Phase) (s : CoreState) → AttemptCounted (n + 1) s → Keeps sh n (end_transaction sh id q s)
 unfolding solo_commit committed_core noted
 closes sh n id (Solo t) s k = record { sends = solos sh s.cache s.spilled t; attempt = none (n + 1); commit = k }
 closes sh n id _ s k = steps sh _ n _ _ (requests sh) k
@@ -255,7 +256,7 @@ exec-keeps sh n p id s i k = go s.phase
     awaiting (Some x) = tt
     awaiting None = needs sh n p id s (p.need s.local) i k
 
-    go : (q : Phase) → IfSome (exec_phase sh p id s q) (Keeps sh n)
+    go : (q : Phase) → IfSome (exec_in_phase sh p id s q) (Keeps sh n)
     go Running = awaiting s.awaited
     go (Solo t) = awaiting s.awaited
     go (Ready t) = record {
@@ -286,7 +287,7 @@ pub grant-keeps : (sh : Shape) (n t : ℕ) (s : CoreState) → AttemptCounted n 
 unfolding grant
 grant-keeps sh n t s k = go s.phase
   where
-    go : (q : Phase) → Keeps sh n (grant_phase sh t s q)
+    go : (q : Phase) → Keeps sh n (grant_in_phase sh t s q)
     go AwaitTid = still sh _ n _ _ (grants sh s.cache t) k
     go DoomedTid = still sh _ n _ _ (skips sh (most_sent sh) t (some sh)) k
     go (Overflowing None) = still sh _ n _ _ (probes sh t) k
@@ -300,14 +301,14 @@ reply sh n d t s k = go s.phase
     one true x y f g = f
     one false x y f g = g
 
-    go : (q : Phase) → Keeps sh n (reply_phase sh d t s q)
+    go : (q : Phase) → Keeps sh n (reply_in_phase sh d t s q)
     go (Probing u) = either sh _ n (u == t && s.owing d) _ (ignored s)
-        (still sh _ n (when_ready sh t (replied d s)) _ (to-inside sh _ (Dir d) _
+        (still sh _ n (ready_once_replied sh t (replied d s)) _ (to-inside sh _ (Dir d) _
         (wider sh (lines sh) (most_sent sh) _ (omega arith) (marks sh _ (modified_mask s.cache) t)))
         (one (all_replied sh (replied d s).owing) _ _ k k))
         (ignores sh _ n s k)
     go (Overflowing (Some u)) = either sh _ n (u == t && s.owing d) _ (ignored s)
-        (still sh _ n (when_alone sh t (replied d s)) _ (nothing-inside sh _) (one (all_replied sh (replied d s).owing) _ _ k k))
+        (still sh _ n (solo_once_replied sh t (replied d s)) _ (nothing-inside sh _) (one (all_replied sh (replied d s).owing) _ _ k k))
         (ignores sh _ n s k)
     go _ = ignores sh _ n s k
 
@@ -325,7 +326,7 @@ unfolding if_violated
 violated sh n s false k = ignores sh 1 n s k
 violated sh n s true k = go s.phase
   where
-    go : (q : Phase) → CoreKeeps sh 1 n (violated_in sh s q)
+    go : (q : Phase) → CoreKeeps sh 1 n (violated_in_phase sh s q)
     go Running = steps sh 1 n _ _ (nothing-inside sh 1) (rolled (n + 1) s)
     go AwaitTid = steps sh 1 n _ _ (nothing-inside sh 1) (rolled (n + 1) s)
     go (Overflowing None) = steps sh 1 n _ _ (nothing-inside sh 1) (rolled (n + 1) s)
@@ -336,9 +337,9 @@ violated sh n s true k = go s.phase
     go _ = ignores sh 1 n s k
 
 invalidates : (sh : Shape) (n l m u : ℕ) (s : CoreState) → l < lines sh → AttemptCounted n s → Keeps sh n (invalidate sh l m u s)
-unfolding invalidate acknowledged without is_inside
+unfolding invalidate acknowledged words_invalidated is_inside
 invalidates sh n l m u s i k =
-    let v = violated sh n (without l m s) (is_violated l m u s) k in
+    let v = violated sh n (words_invalidated l m s) (is_violated l m u s) k in
     record {
       sends = λ dst. wider sh 2 (most_sent sh) _ (omega arith) (then-inside sh 1 1 _ _ v.sends
           (to-inside sh 1 (Dir (home sh l)) _ (one-message sh 1 (InvAck l _) (omega arith) (below sh l i))) dst);

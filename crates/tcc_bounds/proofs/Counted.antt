@@ -11,8 +11,8 @@ use Rattle.tcc_program.specs.Ram.{part}
 use Rattle.tcc_maps.specs.CacheChange.{marked}
 use Rattle.tcc_maps.specs.Shape.{Shape}
 use Rattle.tcc_rules.specs.State.{CoreState}
-use Rattle.tcc_rules.specs.Attempt.{is_running, finished, stepped, roll_back}
-use Rattle.tcc_rules.specs.Execute.{place, used, buffered, framed}
+use Rattle.tcc_rules.specs.Attempt.{is_running, finished, one_more_instruction, roll_back}
+use Rattle.tcc_rules.specs.Execute.{place, with_read_mark, stored_in_buffer, stored_in_frame}
 use Rattle.tcc_bounds.specs.Bounds.{IsCounted, AttemptCounted}
 
 pushed : {A : Type 0} (xs : List A) (x : A) → length (xs ++ x ∷ []) ≤ length xs + 1
@@ -45,7 +45,7 @@ rolled most s = none most
 
 pub finishes : (most : ℕ) (p : Program) (need : Need) (x : ℕ) (s : CoreState) → AttemptCounted most s
     → AttemptCounted (most + 1) (finished p need x s)
-unfolding finished stepped
+unfolding finished one_more_instruction
 finishes most p Nothing x s k =
     grows most s.n s.loads s.loads s.stores s.stores s.console s.console k (same s.loads) (same s.stores) (same s.console)
 finishes most p (Loads addr size) x s k =
@@ -72,18 +72,18 @@ pub placed : (most : ℕ) (sh : Shape) (l : ℕ) (s : CoreState) → AttemptCoun
 unfolding place
 placed most sh l s k = k
 
-pub marked_read : (most w : ℕ) (s : CoreState) → AttemptCounted most s → AttemptCounted most (used w s)
-unfolding used
+pub marked_read : (most w : ℕ) (s : CoreState) → AttemptCounted most s → AttemptCounted most (with_read_mark w s)
+unfolding with_read_mark
 marked_read most w s k = go (is_running s.phase)
   where
     go : (b : Bool) → AttemptCounted most (if b then record s { cache = marked w s.cache } else s)
     go true = k
     go false = k
 
-pub in_buffer : (most w x : ℕ) (s : CoreState) → AttemptCounted most s → AttemptCounted most (buffered w x s)
-unfolding buffered
+pub in_buffer : (most w x : ℕ) (s : CoreState) → AttemptCounted most s → AttemptCounted most (stored_in_buffer w x s)
+unfolding stored_in_buffer
 in_buffer most w x s k = k
 
-pub in_frame : (most w x : ℕ) (also : Bool) (s : CoreState) → AttemptCounted most s → AttemptCounted most (framed w x also s)
-unfolding framed
+pub in_frame : (most w x : ℕ) (also : Bool) (s : CoreState) → AttemptCounted most s → AttemptCounted most (stored_in_frame w x also s)
+unfolding stored_in_frame
 in_frame most w x also s k = k

@@ -2,12 +2,12 @@
 use Rattle.std.specs.Prelude.{ℕ, ◌≡◌, Bool, true, ◌==◌, ◌&&◌, ◌||◌, List, Option, Some, None, nat_lt, nat_le, false, if◌then◌else◌}
 use Rattle.std.proofs.Common.{arith, refl}
 use Rattle.tcc_maps.specs.Words.{count_below}
-use Rattle.tcc_maps.specs.Judge.{Judgement, judge, Takes as IsTaken, Drops as IsDropped, Waits as IsEarly}
+use Rattle.tcc_maps.specs.Judge.{Judgement, judge, Current, Outdated, TooEarly}
 use Rattle.tcc_maps.specs.Lines.{Lines, has_mark}
 use Rattle.tcc_maps.specs.Masks.{full}
 use Rattle.tcc_maps.specs.Nodes.{Core, Dir, Vendor, Msg, LoadReq, Fill, Skip, Probe, ProbeReply, Mark, Commit, Abort, WriteBack, Flush, DataReq, Inv, InvAck}
 use Rattle.tcc_maps.specs.Shape.{Shape, lines}
-use Rattle.tcc_rules.specs.DirDeliver.{Answer, Waits, Drops, Asks, Takes, skip, abort, probe, ask_owner, line_words, load_owned, load_request, mark_owned, mark, is_invalidated, invs_to, invalidations, commit, acknowledgement, judged, write_back, dir_deliver}
+use Rattle.tcc_rules.specs.DirDeliver.{Answer, Waits, Drops, Asks, Takes, skip, abort, probe, ask_owner, home_words, load_unless_owned, load_request, mark_unless_owned, mark, is_invalidated, invs_to, invalidations, dir_commit, acknowledgement, judged, write_back, dir_deliver}
 use Rattle.tcc_rules.specs.State.{DirState}
 use Rattle.tcc_bounds.specs.Bounds.{most_sent}
 use Rattle.tcc_bounds.proofs.Outside.{is_inside, SendsInside, no-message, one-message, some, wider, those-messages, nothing-inside, to-inside, below}
@@ -44,8 +44,8 @@ loads : (sh : Shape) (c l a : ℕ) (s : DirState) → nat_lt l (lines sh) ≡ tr
 unfolding load_request is_inside
 loads sh c l a s e = either sh (nat_le s.serving.serving a || has_mark s.lines l) Waits _ tt (go (s.lines.owner l))
   where
-    go : (o : Option ℕ) → AnswerInside sh (load_owned c l s o)
-    go None = to-inside sh _ (Core c) _ (one-message sh _ (Fill l (line_words s l)) (some sh) e)
+    go : (o : Option ℕ) → AnswerInside sh (load_unless_owned c l s o)
+    go None = to-inside sh _ (Core c) _ (one-message sh _ (Fill l (home_words s l)) (some sh) e)
     go (Some o) = asks_owner sh o l s e
 
 marks : (sh : Shape) (l m t : ℕ) (s : DirState) → nat_lt l (lines sh) ≡ true → AnswerInside sh (mark l m t s)
@@ -53,7 +53,7 @@ unfolding mark
 marks sh l m t s e = either sh (nat_lt t s.serving.serving) Drops _ tt
     (either sh (nat_lt s.serving.serving t) Waits _ tt (either sh (m == full) _ _ (nothing-inside sh _) (go (s.lines.owner l))))
   where
-    go : (o : Option ℕ) → AnswerInside sh (mark_owned l m s o)
+    go : (o : Option ℕ) → AnswerInside sh (mark_unless_owned l m s o)
     go None = nothing-inside sh _
     go (Some o) = asks_owner sh o l s e
 
@@ -64,8 +64,8 @@ invalidates sh ls c t Vendor = no-message sh _
 invalidates sh ls c t (Core j) = wider sh (lines sh) (most_sent sh) _ (omega arith)
     (those-messages sh (λ l. Inv l (ls.mark l) t) (is_invalidated sh ls c j) (lines sh) (λ l i. below sh l i))
 
-commits : (sh : Shape) (c t n : ℕ) (s : DirState) → AnswerInside sh (commit sh c t n s)
-unfolding commit
+commits : (sh : Shape) (c t n : ℕ) (s : DirState) → AnswerInside sh (dir_commit sh c t n s)
+unfolding dir_commit
 commits sh c t n s = either sh (s.serving.serving == t && count_below (has_mark s.lines) (lines sh) == n) _ Waits
     (invalidates sh s.lines c t) tt
 
@@ -78,9 +78,9 @@ unfolding write_back
 backs sh c l m ws g s = go (judge (s.lines.owner l) (s.lines.tag l) c g)
   where
     go : (j : Judgement) → AnswerInside sh (judged l m ws s j)
-    go IsEarly = tt
-    go IsDropped = tt
-    go IsTaken = nothing-inside sh _
+    go TooEarly = tt
+    go Outdated = tt
+    go Current = nothing-inside sh _
 
 pub answer-inside : (sh : Shape) (c : ℕ) (s : DirState) (m : Msg) → is_inside sh m ≡ true → AnswerInside sh (dir_deliver sh s c m)
 unfolding dir_deliver is_inside

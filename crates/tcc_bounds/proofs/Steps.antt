@@ -15,7 +15,7 @@ use Rattle.tcc_rules.specs.DirDeliver.{Answer, Waits, Drops, Asks, Takes, dir_de
 use Rattle.tcc_rules.specs.Links.{in_flight, sending, taking}
 use Rattle.tcc_rules.specs.Sends.{Sends, to}
 use Rattle.tcc_rules.specs.VendorDeliver.{vendor_deliver}
-use Rattle.tcc_rules.specs.Step.{Stepped, core_moves, core_takes, dir_takes, dir_asks, vendor_gives, moved, taken, answered, granted, delivered, if_in_flight, names_nodes, happens, step, History, insert_commit, and_noted, recorded, next, and_then, run_from, run}
+use Rattle.tcc_rules.specs.Step.{Stepped, core_moves, core_takes, dir_takes, dir_asks, vendor_gives, if_core_moves, if_core_takes, answered, if_vendor_gives, delivered, if_in_flight, names_nodes, happens, step, History, insert_commit, and_noted, recorded, next_history, and_then, run_from, run}
 use Rattle.tcc_serial.specs.InMemory.{StaysInMemory}
 use Rattle.tcc_bounds.specs.Bounds.{most_sent, AttemptCounted, CommitCounted}
 use Rattle.tcc_bounds.proofs.Outside.{is_inside, SendsInside, LinksInside, link-none, link-wider, link-inside, sending-inside, taking-inside, nothing-inside, to-inside, one-message, some}
@@ -68,7 +68,7 @@ later-cores : (n : ℕ) (w : World) → ((e : ℕ) → AttemptCounted n (w.cores
 later-cores n w k e = weak n (w.cores e).n (w.cores e).loads (w.cores e).stores (w.cores e).console (k e)
 
 moves-keeps : (sh : Shape) (n : ℕ) (w : World) (c : ℕ) (o : Option Out) → Within sh n w → IfSome o (CoreKeeps sh (most_sent sh) n)
-    → IfSome (moved w c o) (Keeps sh n)
+    → IfSome (if_core_moves w c o) (Keeps sh n)
 unfolding core_moves
 moves-keeps sh n w c None k f = tt
 moves-keeps sh n w c (Some o) k f = record {
@@ -83,7 +83,7 @@ moves-keeps sh n w c (Some o) k f = record {
 
 takes-keeps : (sh : Shape) (n : ℕ) (w : World) (src : Node) (c i : ℕ) (o : Option Out) → Within sh n w
     → IfSome o (CoreKeeps sh (most_sent sh) n)
-    → IfSome (taken w src c i o) (Keeps sh n)
+    → IfSome (if_core_takes w src c i o) (Keeps sh n)
 unfolding core_takes
 takes-keeps sh n w src c i None k f = tt
 takes-keeps sh n w src c i (Some o) k f = record {
@@ -130,7 +130,7 @@ answers-keeps sh n w c d i (Takes s sends) k f = record {
 }
 
 gives-keeps : (sh : Shape) (n : ℕ) (w : World) (c i : ℕ) (m : Msg) → Within sh n w
-    → IfSome (granted w c i (vendor_deliver w.next c m)) (Keeps sh n)
+    → IfSome (if_vendor_gives w c i (vendor_deliver w.next c m)) (Keeps sh n)
 unfolding vendor_gives is_inside
 gives-keeps sh n w c i TidReq k = record {
   world = record {
@@ -234,7 +234,7 @@ each-at n (y ∷ cs) x k c = go c.0 (c.1) (c.2) (λ q. each-at n cs x (k.1) q)
 
 run-keeps : (sh : Shape) (p : Program) (es : List Event) (n : ℕ) (h : History) → StaysInMemory sh p → Counts sh n h
     → IfSome (run_from sh p es h) (Counts sh (n + length es))
-unfolding run_from next
+unfolding run_from next_history
 run-keeps sh p [] n h i k = let e : n + 0 ≡ n = omega arith in rw e k
 run-keeps sh p (e ∷ es) n h i k = go (step sh p h.world e) (step-keeps sh p n h.world e i k.world) (λ g c. run-keeps sh p es (n + 1) g i c)
   where

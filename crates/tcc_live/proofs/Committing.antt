@@ -10,7 +10,7 @@ use Rattle.tcc_maps.specs.Shape.{Shape, home, lines}
 use Rattle.tcc_maps.specs.Lines.{has_mark}
 use Rattle.tcc_rules.specs.State.{DirState}
 use Rattle.tcc_rules.specs.Step.{History}
-use Rattle.tcc_rules.specs.DirDeliver.{dir_deliver, total}
+use Rattle.tcc_rules.specs.DirDeliver.{dir_deliver, sum_below}
 use Rattle.tcc_serial.specs.Count.{Commits, CommitOf, MarkOf, MarksAway, live, passes}
 use Rattle.tcc_serial.specs.Counted.{CountsMarks}
 use Rattle.tcc_serial.specs.Marks.{marks_of}
@@ -60,7 +60,7 @@ mark_moves sh p h c d t l k i j inside b n = go (mark_waits sh (h.world.dirs d) 
 -- Commits
 
 -- a count is a sum of ones
-count-total : (q : ℕ → Bool) (f : ℕ → ℕ) (n : ℕ) → ((l : ℕ) → l < n → f l ≡ num (q l)) → count_below q n ≡ total f n
+count-total : (q : ℕ → Bool) (f : ℕ → ℕ) (n : ℕ) → ((l : ℕ) → l < n → f l ≡ num (q l)) → count_below q n ≡ sum_below f n
 count-total q f n e = omega (arith, total-num q n, total-same f (λ l. num (q l)) n e)
 
 -- it carries a count
@@ -85,7 +85,7 @@ commit_taken sh s c t n m e b q = rw e (commit_answered sh c t n s b q)
 pub commit_moves : (sh : Shape) (p : Program) (h : History) (c d t : ℕ) → Reached sh p h → c < sh.cores → d < sh.dirs
     → 1 ≤ live (Commits t) (out h.world c d) → Moves sh p h.world
 unfolding pair marks_of
-commit_moves sh p h c d t k i j n = go (total sent (lines sh)) refl
+commit_moves sh p h c d t k i j n = go (sum_below sent (lines sh)) refl
   where
     sent : ℕ → ℕ
     sent l = live (MarkOf t l) (out h.world c d)
@@ -108,7 +108,7 @@ commit_moves sh p h c d t k i j n = go (total sent (lines sh)) refl
         ≡ num (has_mark (h.world.dirs d).lines l)
     one l z = rw served (grind (arith, nat_tests, z))
 
-    go : (y : ℕ) → total sent (lines sh) ≡ y → Moves sh p h.world
+    go : (y : ℕ) → sum_below sent (lines sh) ≡ y → Moves sh p h.world
     go (suc y) e = let r = some-part sent (lines sh) (omega (arith, e)) in
         mark_moves sh p h c d t r.0 k i j (r.1) (omega (arith, served)) (r.2)
     go zero e = out_moves sh p h.world c d f.at f.msg i j f.there

@@ -12,12 +12,13 @@ use Rattle.tcc_maps.specs.Shape.{Shape, home, lines, set_of}
 use Rattle.tcc_maps.specs.Spilled.{Spilled, holds, spilled_mask, spilled_words}
 use Rattle.tcc_rules.specs.State.{CoreState, Awaited, Phase, Running, AwaitTid, DoomedTid, Probing, Ready, Overflowing, Solo}
 use Rattle.tcc_rules.specs.Attempt.{Out, is_solo, finished}
-use Rattle.tcc_rules.specs.Commit.{commit_sends, commit, is_written, written_mask, solo_writes_at, solo_marks, solo_backs, solo_sends, solo_commit}
-use Rattle.tcc_rules.specs.CoreDeliver.{grant_sends, grant_phase, grant, reply_phase, probe_reply, fill_awaited, fill, data_request, violated_in, if_violated, is_violated, without, acknowledged, invalidate, from_dir, ignored}
+use Rattle.tcc_rules.specs.Commit.{commit_sends, commit, is_written, written_mask, solo_writes_at, solo_marks_or_skip, solo_write_backs, solo_sends, solo_commit}
+use Rattle.tcc_rules.specs.CoreDeliver.{grant_sends, grant_in_phase, grant, reply_in_phase, probe_reply, fill_awaited, fill, data_request, violated_in_phase, if_violated, is_violated, words_invalidated, acknowledged, invalidate, from_dir, ignored}
 use Rattle.tcc_rules.specs.CoreEvict.{is_awaited, evict_line, core_evict}
-use Rattle.tcc_rules.specs.CoreExec.{unless_awaiting, exec_phase, core_exec}
-use Rattle.tcc_rules.specs.Execute.{ask, place, overflow, full_set, fetch, load_valid, load_spilled, load, word_store, change_valid, change_spilled, partial_store, close, execute_need, execute}
-use Rattle.tcc_rules.specs.Sends.{to, when, write_back, flush, written_back, flushed, skip_all, probe_all, abort_written, marks_for}
+use Rattle.tcc_rules.specs.CoreExec.{unless_awaiting, exec_in_phase, core_exec}
+use Rattle.tcc_rules.specs.Execute.{request_line, place, overflow, full_set, miss, load_valid, load_spilled, load, word_store, change_valid, change_spilled, partial_store, end_transaction, execute_need, execute}
+use Rattle.tcc_rules.specs.Sends.{to, when, write_back_of, flush_of, write_back_line, flush_line, skip_all, probe_all, abort_written}
+use Rattle.tcc_rules.specs.Sends.{marks_for}
 use Rattle.tcc_live.proofs.Strays.{strays, AllFit, strays-append, strays-none, strays-flat, strays-when, out_fits, ask_fits, fit-nothing, fit-then, fit-to, fit-dirs}
 
 -- a core of a machine that has a directory
@@ -76,8 +77,8 @@ marks sh c d t mask ls k i = strays-flat sh (Core c) (Dir d) (λ l. Mark l (mask
     (λ l. out_fits sh c d (Mark l (mask l) t) k.core i refl) ls
 
 solos : (sh : Shape) (c : ℕ) (s : Cache) (sp : Spilled) (t : ℕ) → IsCore sh c → AllFit sh (Core c) (solo_sends sh s sp t)
-unfolding solo_sends solo_marks solo_backs
-solos sh c s sp t k = fit-dirs sh (Core c) (λ d. solo_marks sh s sp t d ++ solo_backs sh sp t d) each
+unfolding solo_sends solo_marks_or_skip solo_write_backs
+solos sh c s sp t k = fit-dirs sh (Core c) (λ d. solo_marks_or_skip sh s sp t d ++ solo_write_backs sh sp t d) each
   where
     back : ℕ → Msg
     back l = WriteBack l (spilled_mask sp l) (spilled_words sp l) t
@@ -91,7 +92,7 @@ solos sh c s sp t k = fit-dirs sh (Core c) (λ d. solo_marks sh s sp t d ++ solo
     done : ℕ → Msg
     done d = Commit t (count_below (λ l. d == home sh l && is_written s sp l) (lines sh))
 
-    backs : (d : ℕ) → d < sh.dirs → strays sh (Core c) (Dir d) (solo_backs sh sp t d) ≡ 0
+    backs : (d : ℕ) → d < sh.dirs → strays sh (Core c) (Dir d) (solo_write_backs sh sp t d) ≡ 0
     backs d i = strays-flat sh (Core c) (Dir d) (λ l. back l ∷ []) (λ l. out_fits sh c d (back l) k.core i refl)
         (those (λ l. d == home sh l && holds sp l) (lines sh))
 
@@ -104,10 +105,10 @@ solos sh c s sp t k = fit-dirs sh (Core c) (λ d. solo_marks sh s sp t d ++ solo
       out_fits sh c d (done d) k.core i refl,
     )
 
-    each : (d : ℕ) → d < sh.dirs → strays sh (Core c) (Dir d) (solo_marks sh s sp t d ++ solo_backs sh sp t d) ≡ 0
+    each : (d : ℕ) → d < sh.dirs → strays sh (Core c) (Dir d) (solo_marks_or_skip sh s sp t d ++ solo_write_backs sh sp t d) ≡ 0
     each d i = omega (
       arith,
-      strays-append sh (Core c) (Dir d) (solo_marks sh s sp t d) (solo_backs sh sp t d),
+      strays-append sh (Core c) (Dir d) (solo_marks_or_skip sh s sp t d) (solo_write_backs sh sp t d),
       first d i (solo_writes_at sh s sp d),
       backs d i,
     )
@@ -118,26 +119,26 @@ at_home : (sh : Shape) (c l : ℕ) (ms : List Msg) → IsCore sh c → ((d : ℕ
     → AllFit sh (Core c) (to (Dir (home sh l)) ms)
 at_home sh c l ms k h = fit-to sh (Core c) (Dir (home sh l)) ms (h (home sh l) (let n = k.dirs in omega arith))
 
-flushes : (sh : Shape) (c : ℕ) (s : Cache) (l : ℕ) → IsCore sh c → AllFit sh (Core c) (flushed sh s l)
-unfolding flushed
-flushes sh c s l k = at_home sh c l (flush (dirty_copy s l)) k (λ d i. go d i (dirty_copy s l))
+flushes : (sh : Shape) (c : ℕ) (s : Cache) (l : ℕ) → IsCore sh c → AllFit sh (Core c) (flush_line sh s l)
+unfolding flush_line
+flushes sh c s l k = at_home sh c l (flush_of (dirty_copy s l)) k (λ d i. go d i (dirty_copy s l))
   where
-    go : (d : ℕ) → d < sh.dirs → (o : Option Tagged) → strays sh (Core c) (Dir d) (flush o) ≡ 0
+    go : (d : ℕ) → d < sh.dirs → (o : Option Tagged) → strays sh (Core c) (Dir d) (flush_of o) ≡ 0
     go d i None = strays-none sh (Core c) (Dir d)
     go d i (Some t) = out_fits sh c d (Flush t.line t.mask t.words t.tag) k.core i refl
 
-backs : (sh : Shape) (c : ℕ) (s : Cache) (l : ℕ) → IsCore sh c → AllFit sh (Core c) (written_back sh s l)
-unfolding written_back
-backs sh c s l k = at_home sh c l (write_back (dirty_copy s l)) k (λ d i. go d i (dirty_copy s l))
+backs : (sh : Shape) (c : ℕ) (s : Cache) (l : ℕ) → IsCore sh c → AllFit sh (Core c) (write_back_line sh s l)
+unfolding write_back_line
+backs sh c s l k = at_home sh c l (write_back_of (dirty_copy s l)) k (λ d i. go d i (dirty_copy s l))
   where
-    go : (d : ℕ) → d < sh.dirs → (o : Option Tagged) → strays sh (Core c) (Dir d) (write_back o) ≡ 0
+    go : (d : ℕ) → d < sh.dirs → (o : Option Tagged) → strays sh (Core c) (Dir d) (write_back_of o) ≡ 0
     go d i None = strays-none sh (Core c) (Dir d)
     go d i (Some t) = out_fits sh c d (WriteBack t.line t.mask t.words t.tag) k.core i refl
 
-asks : (sh : Shape) (c l : ℕ) (s : CoreState) → IsCore sh c → Fit sh c (ask sh l s)
-unfolding ask
-asks sh c l s k = at_home sh c l (LoadReq l (s.after (home sh l)) ∷ []) k
-    (λ d i. out_fits sh c d (LoadReq l (s.after (home sh l))) k.core i refl)
+asks : (sh : Shape) (c l : ℕ) (s : CoreState) → IsCore sh c → Fit sh c (request_line sh l s)
+unfolding request_line
+asks sh c l s k = at_home sh c l (LoadReq l (s.last_commit (home sh l)) ∷ []) k
+    (λ d i. out_fits sh c d (LoadReq l (s.last_commit (home sh l))) k.core i refl)
 
 requests : (sh : Shape) (c : ℕ) → IsCore sh c → AllFit sh (Core c) (to Vendor (TidReq ∷ []))
 requests sh c k = fit-to sh (Core c) Vendor (TidReq ∷ []) (ask_fits sh c k.core)
@@ -152,11 +153,12 @@ full sh c l s k = go (is_solo s.phase || not (all_marked sh s.cache (set_of sh l
     go true = tt
     go false = requests sh c k
 
-fetches : (sh : Shape) (c l : ℕ) (s : CoreState) → IsCore sh c → IfSome (fetch sh l s) (Fit sh c)
-unfolding fetch
+fetches : (sh : Shape) (c l : ℕ) (s : CoreState) → IsCore sh c → IfSome (miss sh l s) (Fit sh c)
+unfolding miss
 fetches sh c l s k = go (s.cache.held l) (is_some (free_way sh s.cache (set_of sh l)))
   where
-    go : (a b : Bool) → IfSome (if a then Some (ask sh l s) else (if b then Some (ask sh l (place sh l s)) else full_set sh l s)) (Fit sh c)
+    go : (a b : Bool) → IfSome
+        (if a then Some (request_line sh l s) else (if b then Some (request_line sh l (place sh l s)) else full_set sh l s)) (Fit sh c)
     go true b = asks sh c l s k
     go false true = asks sh c l (place sh l s) k
     go false false = full sh c l s k
@@ -203,7 +205,7 @@ stores_word sh p c w x need s k = go (holds s.spilled (line_of w)) (s.cache.held
     go false false true o q r f g h = h
     go false false false o q r f g h = full sh c (line_of w) s k
 
-closes : (sh : Shape) (c : ℕ) (q : Phase) (s : CoreState) → IsCore sh c → Fit sh c (close sh c q s)
+closes : (sh : Shape) (c : ℕ) (q : Phase) (s : CoreState) → IsCore sh c → Fit sh c (end_transaction sh c q s)
 unfolding solo_commit
 closes sh c (Solo t) s k = solos sh c s.cache s.spilled t k
 closes sh c _ s k = requests sh c k
@@ -228,7 +230,7 @@ fit-exec sh p c s k = go s.phase
     awaiting (Some x) = tt
     awaiting None = needs sh p c s (p.need s.local) k
 
-    go : (q : Phase) → IfSome (exec_phase sh p c s q) (Fit sh c)
+    go : (q : Phase) → IfSome (exec_in_phase sh p c s q) (Fit sh c)
     go Running = awaiting s.awaited
     go (Solo t) = awaiting s.awaited
     go (Ready t) = commits sh c s.cache t k
@@ -254,7 +256,7 @@ pub fit-grant : (sh : Shape) (c t : ℕ) (s : CoreState) → IsCore sh c → Fit
 unfolding grant
 fit-grant sh c t s k = go s.phase
   where
-    go : (q : Phase) → Fit sh c (grant_phase sh t s q)
+    go : (q : Phase) → Fit sh c (grant_in_phase sh t s q)
     go AwaitTid = grants sh c s.cache t k
     go DoomedTid = skips sh c t k
     go (Overflowing None) = probes sh c t k
@@ -269,7 +271,7 @@ reply : (sh : Shape) (c d t : ℕ) (s : CoreState) → IsCore sh c → d < sh.di
 unfolding probe_reply marks_for
 reply sh c d t s k i = go s.phase
   where
-    go : (q : Phase) → Fit sh c (reply_phase sh d t s q)
+    go : (q : Phase) → Fit sh c (reply_in_phase sh d t s q)
     go (Probing u) = either sh c (u == t && s.owing d) _ (ignored s)
         (fit-to sh (Core c) (Dir d) (marks_for sh s.cache t d) (marks sh c d t (modified_mask s.cache) (written_lines sh s.cache d) k i))
         (fit-nothing sh (Core c))
@@ -289,7 +291,7 @@ unfolding if_violated
 violated sh c s false k = fit-nothing sh (Core c)
 violated sh c s true k = go s.phase
   where
-    go : (q : Phase) → Fit sh c (violated_in sh s q)
+    go : (q : Phase) → Fit sh c (violated_in_phase sh s q)
     go (Probing t) = aborts sh c s.cache t k
     go (Ready t) = aborts sh c s.cache t k
     go (Overflowing (Some t)) = skips sh c t k
@@ -298,7 +300,7 @@ violated sh c s true k = go s.phase
 
 invalidates : (sh : Shape) (c l m u : ℕ) (s : CoreState) → IsCore sh c → Fit sh c (invalidate sh l m u s)
 unfolding invalidate acknowledged
-invalidates sh c l m u s k = fit-then sh (Core c) _ _ (violated sh c (without l m s) (is_violated l m u s) k)
+invalidates sh c l m u s k = fit-then sh (Core c) _ _ (violated sh c (words_invalidated l m s) (is_violated l m u s) k)
     (at_home sh c l _ k (λ d i. out_fits sh c d (InvAck l _) k.core i refl))
 
 pub fit-back : (sh : Shape) (c d : ℕ) (s : CoreState) (m : Msg) → IsCore sh c → d < sh.dirs → IfSome (from_dir sh d s m) (Fit sh c)

@@ -4,14 +4,14 @@ use Rattle.std.specs.List.{flat_map}
 use Rattle.std.proofs.Common.{arith, refl}
 use Rattle.std.proofs.lemmas.Bool.Decides.{nat_tests}
 use Rattle.tcc_maps.specs.Words.{those, count_below}
-use Rattle.tcc_maps.specs.Judge.{Judgement, judge, Takes as IsTaken, Drops as IsDropped, Waits as IsEarly}
+use Rattle.tcc_maps.specs.Judge.{Judgement, judge, Current, Outdated, TooEarly}
 use Rattle.tcc_maps.specs.Lines.{Lines, with_sharer, with_owner, with_asked, with_mark, unmarked, has_mark}
 use Rattle.tcc_maps.specs.Masks.{full}
 use Rattle.tcc_maps.specs.Nodes.{Core, Dir, Vendor, Msg, LoadReq, Fill, Skip, Probe, ProbeReply, Mark, Commit, Abort, WriteBack, Flush, DataReq, Inv, InvAck}
 use Rattle.tcc_maps.specs.Serving.{Serving, advance, skipped, kept}
 use Rattle.tcc_maps.specs.Shape.{Shape, lines}
 use Rattle.tcc_maps.proofs.Lemmas.{advance-rises}
-use Rattle.tcc_rules.specs.DirDeliver.{Answer, Waits, Drops, Asks, Takes, moved_on, skip, abort, probe, ask_owner, line_words, load_owned, load_request, mark_owned, mark, is_invalidated, invs_to, invalidations, owed_by, owned, settled, commit, unless_keeps, acknowledgement, came_home, judged, write_back, dir_deliver}
+use Rattle.tcc_rules.specs.DirDeliver.{Answer, Waits, Drops, Asks, Takes, moved_on, skip, abort, probe, ask_owner, home_words, load_unless_owned, load_request, mark_unless_owned, mark, is_invalidated, invs_to, invalidations, invalidation_count, owned_by_committer, moved_on_if_settled, dir_commit, unless_keeps, acknowledgement, came_home, judged, write_back, dir_deliver}
 use Rattle.tcc_rules.specs.Sends.{Sends, nothing}
 use Rattle.tcc_rules.specs.State.{DirState}
 use Rattle.tcc_serial.proofs.Lemmas.{those-none}
@@ -49,8 +49,8 @@ moved : (sh : Shape) (s : DirState) → KeptDir sh s → KeptDir sh (moved_on s)
 unfolding moved_on unmarked
 moved sh s k = record { owners = k.owners; serves = let n = k.serves in omega (arith, advance-rises s.serving) }
 
-settles : (sh : Shape) (s : DirState) → KeptDir sh s → KeptDir sh (settled s)
-unfolding settled
+settles : (sh : Shape) (s : DirState) → KeptDir sh s → KeptDir sh (moved_on_if_settled s)
+unfolding moved_on_if_settled
 settles sh s k = go (s.owed == 0)
   where
     go : (b : Bool) → KeptDir sh (if b then moved_on s else s)
@@ -97,11 +97,11 @@ loads : (sh : Shape) (d c l a : ℕ) (s : DirState) → c < sh.cores → d < sh.
 unfolding load_request with_sharer
 loads sh d c l a s b i k = either sh d (nat_le s.serving.serving a || has_mark s.lines l) Waits _ tt (go (s.lines.owner l) refl)
   where
-    go : (o : Option ℕ) → s.lines.owner l ≡ o → FitAnswer sh d (load_owned c l s o)
+    go : (o : Option ℕ) → s.lines.owner l ≡ o → FitAnswer sh d (load_unless_owned c l s o)
     go None e = record {
       kept = record { owners = k.owners; serves = k.serves };
       fit = fit-to sh (Dir d) (Core c)
-          (Fill l (line_words s l) ∷ []) (back_fits sh c d (Fill l (line_words s l)) b i refl);
+          (Fill l (home_words s l) ∷ []) (back_fits sh c d (Fill l (home_words s l)) b i refl);
     }
     go (Some o) e = asks_owner sh d o l s (k.owners l o e) i k
 
@@ -113,7 +113,7 @@ marks sh d l m t s i k = either sh d (nat_lt t s.serving.serving) Drops _ tt
     taken : Answered sh d (record s { lines = with_mark l m s.lines }) nothing
     taken = quietly sh d _ (record { owners = k.owners; serves = k.serves })
 
-    go : (o : Option ℕ) → s.lines.owner l ≡ o → FitAnswer sh d (mark_owned l m s o)
+    go : (o : Option ℕ) → s.lines.owner l ≡ o → FitAnswer sh d (mark_unless_owned l m s o)
     go None e = taken
     go (Some o) e = asks_owner sh d o l s (k.owners l o e) i k
 
@@ -132,18 +132,18 @@ invalidates sh d ls c t i (Core j) = go (nat_lt j sh.cores) refl
         those-none (is_invalidated sh ls c j) (lines sh) (λ l. rw e refl) in rw z (strays-none sh (Dir d) (Core j))
 
 owned-by : (sh : Shape) (c t : ℕ) (s : DirState) (n : ℕ) → c < sh.cores → KeptDir sh s
-    → KeptDir sh (record s { lines = owned c t s.lines; owed = n })
-unfolding owned
+    → KeptDir sh (record s { lines = owned_by_committer c t s.lines; owed = n })
+unfolding owned_by_committer
 owned-by sh c t s n b k = record { owners = λ l j e. go l j (has_mark s.lines l) e; serves = k.serves }
   where
     go : (l j : ℕ) (x : Bool) → (if x then Some c else s.lines.owner l) ≡ Some j → j < sh.cores
     go l j true e = let q : c ≡ j = cc in omega arith
     go l j false e = k.owners l j e
 
-commits : (sh : Shape) (d c t n : ℕ) (s : DirState) → c < sh.cores → d < sh.dirs → KeptDir sh s → FitAnswer sh d (commit sh c t n s)
-unfolding commit
+commits : (sh : Shape) (d c t n : ℕ) (s : DirState) → c < sh.cores → d < sh.dirs → KeptDir sh s → FitAnswer sh d (dir_commit sh c t n s)
+unfolding dir_commit
 commits sh d c t n s b i k = either sh d (s.serving.serving == t && count_below (has_mark s.lines) (lines sh) == n) _ Waits
-    (record { kept = settles sh _ (owned-by sh c t s (owed_by sh s.lines c) b k); fit = invalidates sh d s.lines c t i }) tt
+    (record { kept = settles sh _ (owned-by sh c t s (invalidation_count sh s.lines c) b k); fit = invalidates sh d s.lines c t i }) tt
 
 acks : (sh : Shape) (d c l : ℕ) (keeps : Bool) (s : DirState) → KeptDir sh s → FitAnswer sh d (acknowledgement c l keeps s)
 unfolding acknowledgement with_sharer
@@ -162,9 +162,9 @@ backs sh d c l m ws g s k = go (judge (s.lines.owner l) (s.lines.tag l) c g)
     home j o false e = k.owners j o e
 
     go : (j : Judgement) → FitAnswer sh d (judged l m ws s j)
-    go IsEarly = tt
-    go IsDropped = tt
-    go IsTaken = quietly sh d _ (record { owners = λ j o e. home j o (j == l) e; serves = k.serves })
+    go TooEarly = tt
+    go Outdated = tt
+    go Current = quietly sh d _ (record { owners = λ j o e. home j o (j == l) e; serves = k.serves })
 
 pub fit-answer : (sh : Shape) (d c : ℕ) (s : DirState) (m : Msg) → c < sh.cores → d < sh.dirs → KeptDir sh s
     → FitAnswer sh d (dir_deliver sh s c m)

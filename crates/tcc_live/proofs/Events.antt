@@ -13,8 +13,9 @@ use Rattle.tcc_rules.specs.CoreEvict.{core_evict}
 use Rattle.tcc_rules.specs.CoreDeliver.{core_deliver, from_dir, from_vendor}
 use Rattle.tcc_rules.specs.DirDeliver.{Answer, Waits, Drops, Asks, Takes, dir_deliver}
 use Rattle.tcc_rules.specs.VendorDeliver.{vendor_deliver}
-use Rattle.tcc_rules.specs.Step.{moved, taken, answered, granted, delivered, is_node, names_nodes, happens, step, is_enabled}
-use Rattle.tcc_rules.specs.Useful.{is_of_use, is_useful, holds_written, is_set, room}
+use Rattle.tcc_rules.specs.Step.{if_core_moves, if_core_takes, answered, if_vendor_gives, delivered, is_node, names_nodes, happens, step}
+use Rattle.tcc_rules.specs.Step.{is_enabled}
+use Rattle.tcc_rules.specs.Useful.{is_of_use, is_useful, holds_written, is_this_set, room}
 use Rattle.tcc_serial.specs.Count.{Kind, Asks as Requests, live, passes}
 use Rattle.tcc_live.specs.Fits.{goes_to_core, is_grant, is_request}
 use Rattle.tcc_live.specs.Progress.{spares, GoesOn}
@@ -34,11 +35,11 @@ goes_on sh p w c m = record { event = m.event; is_useful = m.is_useful; spares =
 pub below : (a b : ℕ) → a < b → nat_lt a b ≡ true
 below a b h = grind (arith, nat_tests)
 
-some_moved : (w : World) (c : ℕ) (o : Option Out) → is_some o ≡ true → is_some (moved w c o) ≡ true
+some_moved : (w : World) (c : ℕ) (o : Option Out) → is_some o ≡ true → is_some (if_core_moves w c o) ≡ true
 some_moved w c None h = absurd (cc)
 some_moved w c (Some o) h = refl
 
-some_taken : (w : World) (src : Node) (c k : ℕ) (o : Option Out) → is_some o ≡ true → is_some (taken w src c k o) ≡ true
+some_taken : (w : World) (src : Node) (c k : ℕ) (o : Option Out) → is_some o ≡ true → is_some (if_core_takes w src c k o) ≡ true
 some_taken w src c k None h = absurd (cc)
 some_taken w src c k (Some o) h = refl
 
@@ -55,7 +56,7 @@ some_answered w c d k Drops h = refl
 some_answered w c d k (Asks s sends) h = refl
 some_answered w c d k (Takes s sends) h = refl
 
-some_granted : (w : World) (c k : ℕ) (m : Msg) → is_request m ≡ true → is_some (granted w c k (vendor_deliver w.next c m)) ≡ true
+some_granted : (w : World) (c k : ℕ) (m : Msg) → is_request m ≡ true → is_some (if_vendor_gives w c k (vendor_deliver w.next c m)) ≡ true
 some_granted w c k TidReq h = refl
 some_granted w c k m h = absurd (cc)
 
@@ -74,7 +75,7 @@ exec_moves sh p w c l h = record {
 -- an Evict of a way whose line has words that leave it, or in a set where the core waits for room
 pub evict_moves : (sh : Shape) (p : Program) (w : World) (c x y : ℕ) → c < sh.cores → x < sh.sets → y < sh.ways
     → is_some (core_evict sh x y (w.cores c)) ≡ true
-    → (holds_written (w.cores c).cache ((w.cores c).cache.at x y) ≡ true) ⊎ (is_set (room sh p (w.cores c)) x ≡ true) → Moves sh p w
+    → (holds_written (w.cores c).cache ((w.cores c).cache.at x y) ≡ true) ⊎ (is_this_set (room sh p (w.cores c)) x ≡ true) → Moves sh p w
 unfolding is_useful is_enabled step names_nodes happens
 evict_moves sh p w c x y l i j h u = record {
   event = Evict c x y;
@@ -82,7 +83,7 @@ evict_moves sh p w c x y l i j h u = record {
   spares = λ j. refl;
 }
   where
-    used : (holds_written (w.cores c).cache ((w.cores c).cache.at x y) ≡ true) ⊎ (is_set (room sh p (w.cores c)) x ≡ true)
+    used : (holds_written (w.cores c).cache ((w.cores c).cache.at x y) ≡ true) ⊎ (is_this_set (room sh p (w.cores c)) x ≡ true)
         → is_of_use sh p w (Evict c x y) ≡ true
     used (inl e) = grind (arith, nat_tests)
     used (inr e) = grind (arith, nat_tests)

@@ -17,7 +17,7 @@ use Rattle.tcc_rules.specs.DirDeliver.{Answer, Waits, Drops, Asks, Takes, dir_de
 use Rattle.tcc_rules.specs.Links.{in_flight, taking}
 use Rattle.tcc_rules.specs.Sends.{to}
 use Rattle.tcc_rules.specs.VendorDeliver.{vendor_deliver}
-use Rattle.tcc_rules.specs.Step.{Stepped, core_moves, core_takes, dir_takes, dir_asks, vendor_gives, moved, taken, answered, granted, delivered, if_in_flight, is_node, names_nodes, happens, step, History, and_noted, recorded, next, and_then, run_from, run}
+use Rattle.tcc_rules.specs.Step.{Stepped, core_moves, core_takes, dir_takes, dir_asks, vendor_gives, if_core_moves, if_core_takes, answered, if_vendor_gives, delivered, if_in_flight, is_node, names_nodes, happens, step, History, and_noted, recorded, next_history, and_then, run_from, run}
 use Rattle.tcc_live.specs.Fits.{KeptFits, LinksFitAlways}
 use Rattle.tcc_live.proofs.CoreFits.{IsCore, Fit, fit-exec, fit-evict, fit-grant, fit-back}
 use Rattle.tcc_live.proofs.DirFits.{KeptDir, FitAnswer, fit-answer}
@@ -33,13 +33,13 @@ Keeps sh o = IfSome o (λ x. Clean sh x.world)
 
 -- the nodes' events
 
-moves-clean : (sh : Shape) (w : World) (c : ℕ) (o : Option Out) → Clean sh w → IfSome o (Fit sh c) → Keeps sh (moved w c o)
+moves-clean : (sh : Shape) (w : World) (c : ℕ) (o : Option Out) → Clean sh w → IfSome o (Fit sh c) → Keeps sh (if_core_moves w c o)
 unfolding core_moves
 moves-clean sh w c None k f = tt
 moves-clean sh w c (Some o) k f = record { links = sending-clean sh w.net (Core c) o.sends k.links f; dirs = k.dirs }
 
 takes-clean : (sh : Shape) (w : World) (src : Node) (c i : ℕ) (o : Option Out) → Clean sh w → IfSome o (Fit sh c)
-    → Keeps sh (taken w src c i o)
+    → Keeps sh (if_core_takes w src c i o)
 unfolding core_takes
 takes-clean sh w src c i None k f = tt
 takes-clean sh w src c i (Some o) k f = record {
@@ -75,7 +75,7 @@ answers-clean sh w c d i (Takes s sends) k f = record {
 }
 
 gives-clean : (sh : Shape) (w : World) (c i : ℕ) (m : Msg) → Clean sh w → c < sh.cores
-    → Keeps sh (granted w c i (vendor_deliver w.next c m))
+    → Keeps sh (if_vendor_gives w c i (vendor_deliver w.next c m))
 unfolding vendor_gives
 gives-clean sh w c i TidReq k l = record {
   links = sending-clean sh (taking w.net (Core c) Vendor i) Vendor
@@ -129,7 +129,7 @@ step-clean sh p w e k n = go (names_nodes sh e) refl
 
 runs-clean : (sh : Shape) (p : Program) (es : List Event) (h : History) → 1 ≤ sh.dirs → Clean sh h.world
     → IfSome (run_from sh p es h) (λ g. Clean sh g.world)
-unfolding run_from next
+unfolding run_from next_history
 runs-clean sh p [] h n k = k
 runs-clean sh p (e ∷ es) h n k = go (step sh p h.world e) (step-clean sh p h.world e k n) (λ g c. runs-clean sh p es g n c)
   where

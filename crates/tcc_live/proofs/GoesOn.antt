@@ -50,7 +50,8 @@ running sh p h c k n l e = go (h.world.cores c).awaited refl
         test true q = absurd (omega (arith, b, (k.carried.marked_line_was_marked_by_the_served_tid.0 c d m l i q).1))
 
     served : (d : ℕ) → d < sh.dirs → Moves sh p h.world ⊎ (h.world.next ≤ serving_at h.world d)
-        → Moves sh p h.world ⊎ (((h.world.cores c).after d < serving_at h.world d) × ((m : ℕ) → has_mark (h.world.dirs d).lines m ≡ false))
+        → Moves sh p h.world ⊎
+        (((h.world.cores c).last_commit d < serving_at h.world d) × ((m : ℕ) → has_mark (h.world.dirs d).lines m ≡ false))
     served d i (inl m) = inl m
     served d i (inr b) = inr (omega (arith, b, after_next sh p h c d k l i), λ m. unmarked d m i b)
 

@@ -14,7 +14,7 @@ use Rattle.tcc_rules.specs.CoreEvict.{is_awaited}
 use Rattle.tcc_rules.specs.CoreExec.{core_exec}
 use Rattle.tcc_rules.specs.State.{Awaited, DirState, Phase, Probing, Ready, Overflowing, Solo, World}
 use Rattle.tcc_rules.specs.Step.{History}
-use Rattle.tcc_rules.specs.DirDeliver.{dir_deliver, total}
+use Rattle.tcc_rules.specs.DirDeliver.{dir_deliver, sum_below}
 use Rattle.tcc_serial.specs.Copies.{stored_there}
 use Rattle.tcc_serial.specs.Count.{Probes, Replies, LoadOf, FillOf, live, passes}
 use Rattle.tcc_serial.specs.Marks.{marks_of, has_marked}
@@ -78,7 +78,7 @@ stored_by sh c d x q = grind (arith, nat_tests)
 
 -- it is below the vendor's next
 pub after_next : (sh : Shape) (p : Program) (h : History) (c d : ℕ) → Reached sh p h → c < sh.cores → d < sh.dirs
-    → (h.world.cores c).after d < h.world.next
+    → (h.world.cores c).last_commit d < h.world.next
 unfolding pair
 after_next sh p h c d k l i = omega (
   arith,
@@ -99,7 +99,7 @@ after_next sh p h c d k l i = omega (
 
 -- and below the TID that the core has
 after_held : (sh : Shape) (p : Program) (h : History) (c d t : ℕ) → Reached sh p h → c < sh.cores → d < sh.dirs
-    → has_tid (h.world.cores c).phase t ≡ true → (h.world.cores c).after d < t
+    → has_tid (h.world.cores c).phase t ≡ true → (h.world.cores c).last_commit d < t
 unfolding pair
 after_held sh p h c d t k l i q = omega (
   arith,
@@ -139,7 +139,7 @@ fill_taken l m q = grind (arith, nat_tests)
 -- an awaited line: its Fill can be delivered, or its request is served, where nothing there lets it wait
 pub awaited_moves : (sh : Shape) (p : Program) (h : History) (c : ℕ) (a : Awaited) → Reached sh p h → c < sh.cores
     → (h.world.cores c).awaited ≡ Some a
-    → ((d : ℕ) → d < sh.dirs → Moves sh p h.world ⊎ (((h.world.cores c).after d < serving_at h.world d) × ((l : ℕ)
+    → ((d : ℕ) → d < sh.dirs → Moves sh p h.world ⊎ (((h.world.cores c).last_commit d < serving_at h.world d) × ((l : ℕ)
     → has_mark (h.world.dirs d).lines l ≡ false))) → Moves sh p h.world
 unfolding pair
 awaited_moves sh p h c a k l e served = go (served d i) (live (FillOf a.line) (back h.world c d)) refl
@@ -156,7 +156,8 @@ awaited_moves sh p h c a k l e served = go (served d i) (live (FillOf a.line) (b
         let n : num (is_awaited (h.world.cores c).awaited a.line && (home sh a.line == d)) ≡ 1 = rw e (grind (arith, nat_tests)) in
         omega (arith, f, n)
 
-    go : Moves sh p h.world ⊎ (((h.world.cores c).after d < serving_at h.world d) × ((l : ℕ) → has_mark (h.world.dirs d).lines l ≡ false))
+    go : Moves sh p h.world ⊎
+        (((h.world.cores c).last_commit d < serving_at h.world d) × ((l : ℕ) → has_mark (h.world.dirs d).lines l ≡ false))
         → (x : ℕ) → live (FillOf a.line) (back h.world c d) ≡ x → Moves sh p h.world
     go (inl m) x q = m
     go (inr s) (suc x) q = back_counted sh p h.world (FillOf a.line) d c i l (fill_taken a.line) (omega (arith, q))
@@ -209,7 +210,7 @@ held_by : World → (tid core : ℕ) → ℕ
 held_by w t c = num (has_tid (w.cores c).phase t)
 
 held_count : Shape → World → (tid : ℕ) → ℕ
-held_count sh w t = total (held_by w t) sh.cores
+held_count sh w t = sum_below (held_by w t) sh.cores
 
 counts : (sh : Shape) (w : World) (t : ℕ) → IsHeld sh w t → 1 ≤ held_count sh w t
 unfolding held_count held_by

@@ -58,20 +58,20 @@ load_waits sh s c l after m q n b u = absurd (cc)
 
 pub load_moves : (sh : Shape) (p : Program) (h : History) (c d l : ℕ) → Reached sh p h → c < sh.cores → d < sh.dirs → home sh l ≡ d
     → 1 ≤ live (LoadOf l) (out h.world c d)
-    → (h.world.cores c).after d < serving_at h.world d → has_mark (h.world.dirs d).lines l ≡ false → Moves sh p h.world
+    → (h.world.cores c).last_commit d < serving_at h.world d → has_mark (h.world.dirs d).lines l ≡ false → Moves sh p h.world
 unfolding pair
-load_moves sh p h c d l k i j e n b u = go (load_waits sh (h.world.dirs d) c l ((h.world.cores c).after d) f.msg f.passes
-    (carries (passes (LoadNot ((h.world.cores c).after d)) f.msg) refl) b u)
+load_moves sh p h c d l k i j e n b u = go (load_waits sh (h.world.dirs d) c l ((h.world.cores c).last_commit d) f.msg f.passes
+    (carries (passes (LoadNot ((h.world.cores c).last_commit d)) f.msg) refl) b u)
   where
     f : Found (LoadOf l) (out h.world c d)
     f = found (LoadOf l) (out h.world c d) n
 
-    carries : (x : Bool) → passes (LoadNot ((h.world.cores c).after d)) f.msg ≡ x
-        → passes (LoadNot ((h.world.cores c).after d)) f.msg ≡ false
+    carries : (x : Bool) → passes (LoadNot ((h.world.cores c).last_commit d)) f.msg ≡ x
+        → passes (LoadNot ((h.world.cores c).last_commit d)) f.msg ≡ false
     carries false q = q
     carries true q = absurd (omega (
       arith,
-      counted (LoadNot ((h.world.cores c).after d)) (out h.world c d) f.at f.msg f.there q,
+      counted (LoadNot ((h.world.cores c).last_commit d)) (out h.world c d) f.at f.msg f.there q,
       (k.carried.after_is_the_last_commit_there c d i j).carried,
     ))
 

@@ -13,8 +13,8 @@ use Rattle.tcc_maps.proofs.Lemmas.{LowestIs, lowest-is}
 use Rattle.tcc_rules.specs.State.{CoreState, Awaited, Phase, Running, Solo, World}
 use Rattle.tcc_rules.specs.Attempt.{is_solo}
 use Rattle.tcc_rules.specs.CoreEvict.{core_evict}
-use Rattle.tcc_rules.specs.CoreExec.{unless_awaiting, exec_phase, core_exec}
-use Rattle.tcc_rules.specs.Execute.{full_set, fetch, load, word_store, change_valid, partial_store, execute_need, execute}
+use Rattle.tcc_rules.specs.CoreExec.{unless_awaiting, exec_in_phase, core_exec}
+use Rattle.tcc_rules.specs.Execute.{full_set, miss, load, word_store, change_valid, partial_store, execute_need, execute}
 use Rattle.tcc_rules.specs.Useful.{room_for_line, room_for_word, room_for_store, room_for_need, room_unless_awaiting, room_in_phase, room}
 use Rattle.tcc_serial.specs.OneCore.{executes}
 use Rattle.tcc_live.specs.Progress.{IsEquipped}
@@ -36,12 +36,12 @@ full-or sh l s h f = go (is_solo s.phase || not (all_marked sh s.cache (set_of s
     go true e = inr (record { room = rw (h, f, e) refl; full = f; loose = e })
     go false e = inl (rw e refl)
 
-fetch-or : (sh : Shape) (l : ℕ) (s : CoreState) → (is_some (fetch sh l s) ≡ true) ⊎ Wants sh l s (room_for_line sh l s)
-unfolding fetch
+fetch-or : (sh : Shape) (l : ℕ) (s : CoreState) → (is_some (miss sh l s) ≡ true) ⊎ Wants sh l s (room_for_line sh l s)
+unfolding miss
 fetch-or sh l s = go (s.cache.held l) refl (is_some (free_way sh s.cache (set_of sh l))) refl
   where
     go : (a : Bool) → s.cache.held l ≡ a → (b : Bool) → is_some (free_way sh s.cache (set_of sh l)) ≡ b
-        → (is_some (fetch sh l s) ≡ true) ⊎ Wants sh l s (room_for_line sh l s)
+        → (is_some (miss sh l s) ≡ true) ⊎ Wants sh l s (room_for_line sh l s)
     go true e b f = inl (rw e refl)
     go false e true f = inl (rw (e, f) refl)
     go false e false f = rw (e, f) (full-or sh l s e f)
@@ -126,7 +126,7 @@ exec-or sh p c s x a = in_phase s.phase x
     awaiting None e = need-or sh p c s (p.need s.local)
     awaiting (Some y) e = absurd (cc)
 
-    in_phase : (q : Phase) → executes q ≡ true → (is_some (exec_phase sh p c s q) ≡ true) ⊎ WantsSome sh s (room_in_phase sh p s q)
+    in_phase : (q : Phase) → executes q ≡ true → (is_some (exec_in_phase sh p c s q) ≡ true) ⊎ WantsSome sh s (room_in_phase sh p s q)
     in_phase Running e = awaiting s.awaited a
     in_phase (Solo t) e = awaiting s.awaited a
     in_phase q e = absurd (cc)

@@ -10,7 +10,7 @@ use Rattle.tcc_maps.specs.Serving.{is_skipped}
 use Rattle.tcc_maps.specs.Shape.{Shape}
 use Rattle.tcc_rules.specs.State.{DirState, World}
 use Rattle.tcc_rules.specs.Step.{History}
-use Rattle.tcc_rules.specs.DirDeliver.{dir_deliver, total}
+use Rattle.tcc_rules.specs.DirDeliver.{dir_deliver, sum_below}
 use Rattle.tcc_serial.specs.Count.{Grants, Commits, Skips, Aborts, Invs, Acks, live, passes}
 use Rattle.tcc_serial.specs.Owed.{due}
 use Rattle.tcc_serial.specs.Owners.{holder}
@@ -82,7 +82,7 @@ given_up sh p h d k i g =
     here : num (nat_lt t t) ≡ 0
     here = grind (arith, nat_tests)
 
-    told : 1 ≤ total (share (given_up_by t) h.world d) sh.cores
+    told : 1 ≤ sum_below (share (given_up_by t) h.world d) sh.cores
     told = omega (
       arith,
       k.carried.given_up_tid_is_still_to_be_told_or_kept_or_passed d t i (k.fits.serves d) g,
@@ -111,7 +111,7 @@ owed_moves sh p h d k i o =
 -- a committed TID that is served
 committed : (sh : Shape) (p : Program) (h : History) (d : ℕ) (k : Reached sh p h) → d < sh.dirs
     → k.ways d (serving_at h.world d) ≡ Committed → Moves sh p h.world
-committed sh p h d k i y = go (total sent sh.cores) refl
+committed sh p h d k i y = go (sum_below sent sh.cores) refl
   where
     t : ℕ
     t = serving_at h.world d
@@ -126,7 +126,7 @@ committed sh p h d k i y = go (total sent sh.cores) refl
         either (inl l) = absurd (omega arith)
         either (inr o) = owed_moves sh p h d k i (o.1)
 
-    go : (x : ℕ) → total sent sh.cores ≡ x → Moves sh p h.world
+    go : (x : ℕ) → sum_below sent sh.cores ≡ x → Moves sh p h.world
     go (suc x) e = let r = some-part sent sh.cores (omega (arith, e)) in commit_moves sh p h r.0 d t k (r.1) i (r.2)
     go zero e = settled (record { committed = y; handled = λ c l. omega (arith, total-le sent sh.cores c l, e) })
 

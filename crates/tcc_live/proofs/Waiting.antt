@@ -7,7 +7,7 @@ use Rattle.tcc_maps.specs.Shape.{Shape, lines}
 use Rattle.tcc_maps.specs.Lines.{has_mark}
 use Rattle.tcc_maps.specs.Judge.{judge}
 use Rattle.tcc_rules.specs.State.{DirState}
-use Rattle.tcc_rules.specs.DirDeliver.{skip, abort, probe, ask_owner, load_request, mark, commit, acknowledgement, write_back}
+use Rattle.tcc_rules.specs.DirDeliver.{skip, abort, probe, ask_owner, load_request, mark, dir_commit, acknowledgement, write_back}
 use Rattle.tcc_live.proofs.Events.{is_answer}
 
 -- the line is owned, and its owner was asked for its words
@@ -76,8 +76,8 @@ mark_answered l m t s h = go (s.lines.owner l) refl
 
 -- a Commit of the served TID is taken once all its lines are marked
 pub commit_answered : (sh : Shape) (c t n : ℕ) (s : DirState) → s.serving.serving ≡ t → count_below (has_mark s.lines) (lines sh) ≡ n
-    → is_answer (commit sh c t n s) ≡ true
-unfolding commit
+    → is_answer (dir_commit sh c t n s) ≡ true
+unfolding dir_commit
 commit_answered sh c t n s e q = grind (arith, nat_tests)
 
 -- words of the line's tag or an earlier one don't wait

@@ -2,9 +2,9 @@
 use Rattle.std.specs.Prelude.{ℕ, Bool, false, nat_lt, ◌==◌, ◌&&◌, Option, Some, None, if◌then◌else◌}
 
 pub data Judgement : Type 0 where
-  Takes : Judgement  -- they are the line's last commit, from its owner
-  Drops : Judgement  -- they are of an earlier commit, or came already
-  Waits : Judgement  -- they are of a commit that this directory has not heard of yet
+  Current : Judgement  -- they are the line's last commit, from its owner
+  Outdated : Judgement  -- they are of an earlier commit, or came already
+  TooEarly : Judgement  -- they are of a commit that this directory has not heard of yet
 
 -- the owner is this core
 abbrev pub is_owner : Option ℕ → ℕ → Bool
@@ -13,6 +13,6 @@ is_owner (Some o) c = o == c
 
 unfoldable pub judge : Option ℕ → ℕ → ℕ → ℕ → Judgement
 judge owner tag from back_tag =
-    if nat_lt tag back_tag then Waits
-    else if tag == back_tag && is_owner owner from then Takes
-    else Drops
+    if nat_lt tag back_tag then TooEarly
+    else if tag == back_tag && is_owner owner from then Current
+    else Outdated

@@ -9,7 +9,7 @@ use Rattle.tcc_maps.specs.Lines.{Lines, with_mark}
 use Rattle.tcc_maps.specs.Words.{line_of, place_of, those, count_below, any_below, all_below, lowest, any_word}
 use Rattle.tcc_maps.specs.Masks.{has, mask_of, minus, meet, join}
 use Rattle.tcc_maps.specs.Serving.{Serving, advance, kept, is_skipped, first_serving}
-use Rattle.tcc_maps.specs.Judge.{judge, Takes, Waits}
+use Rattle.tcc_maps.specs.Judge.{judge, Current, TooEarly}
 
 -- a mask made from a set of places holds exactly these, and a mask is made from its own places
 abbrev pub MaskHolds : Type 0
@@ -93,10 +93,10 @@ LowestBelow = (p : ℕ → Bool) (n : ℕ) → MatchOption (lowest p n) ((k : �
 
 -- what a directory does with words that come home
 abbrev pub JudgesWaits : Type 0
-JudgesWaits = (owner : Option ℕ) (tag from back : ℕ) → (judge owner tag from back ≡ Waits) ↔ (tag < back)
+JudgesWaits = (owner : Option ℕ) (tag from back : ℕ) → (judge owner tag from back ≡ TooEarly) ↔ (tag < back)
 
 abbrev pub JudgesTakes : Type 0
-JudgesTakes = (owner : Option ℕ) (tag from back : ℕ) → (judge owner tag from back ≡ Takes) ↔ ((back ≡ tag) × (owner ≡ Some from))
+JudgesTakes = (owner : Option ℕ) (tag from back : ℕ) → (judge owner tag from back ≡ Current) ↔ ((back ≡ tag) × (owner ≡ Some from))
 
 abbrev pub HasPow : Type 0
 HasPow = (k j : ℕ) → has (2 ^ k) j ≡ (j == k)

@@ -3,7 +3,7 @@ use Rattle.std.proofs.Common.{◌≡◌, ℕ, ◌<◌, Bool, true, false, Option
 use Rattle.std.specs.Prelude.{◌↔◌, Err, IsErrOf, get_or, is_some, nat_lt, if◌then◌else◌}
 use Rattle.image_load.specs.Contents.{started}
 use Rattle.tcc_maps.specs.Nodes.{Core, Deliver, Dir, Event, Evict, Exec, Vendor}
-use Rattle.tcc_rules.specs.Step.{History, Stepped, names_nodes, next, recorded, step}
+use Rattle.tcc_rules.specs.Step.{History, Stepped, names_nodes, next_history, recorded, step}
 use Rattle.phase_rules.specs.Phased.{is_held, phased_next}
 use Rattle.net_core.specs.Answers.{step_of}
 use Rattle.net_core.specs.Machine.{Machine, history_of, program_of, settings_of, start_of}
@@ -18,7 +18,7 @@ use Rattle.tcc_phase.specs.declared.ledger.Ledger.{Ledger}
 use Rattle.tcc_phase.proofs.Requests.Behind.{behind-late}
 
 abbrev pub goes : Machine → Event → Option History
-goes m e = next (settings_of m) (program_of m) (history_of m) e
+goes m e = next_history (settings_of m) (program_of m) (history_of m) e
 
 abbrev pub Holds : Machine → Event → Bool → Type 0
 Holds m e b = next_of m e ≡ (if b then None else goes m e)
@@ -40,7 +40,7 @@ by-late m l c k b kept h e =
 
 -- where the core doesn't exist nothing happens
 pub by-absent : (m : Machine) (c k : ℕ) → nat_lt c (settings_of m).cores ≡ false → Holds m (Deliver (Core c) Vendor k) false
-unfolding started history_of phased_next next step names_nodes
+unfolding started history_of phased_next next_history step names_nodes
 by-absent m c k e = go (is_held (start_of m) (history_of m) (Deliver (Core c) Vendor k))
   where
     nothing : goes m (Deliver (Core c) Vendor k) ≡ None
@@ -57,7 +57,7 @@ by-free m e h = ap (λ t. if t then None else goes m e) h
 
 -- what was asked of the machine itself
 pub goes-some : (m : Machine) (e : Event) → is_some (goes m e) ≡ is_some (step_of m e)
-unfolding next history_of
+unfolding next_history history_of
 goes-some m e = go (step_of m e)
   where
     go : (o : Option Stepped) → is_some (recorded (history_of m) o) ≡ is_some o
@@ -65,11 +65,11 @@ goes-some m e = go (step_of m e)
     go (Some o) = refl
 
 pub goes-none : (m : Machine) (e : Event) → step_of m e ≡ None → goes m e ≡ None
-unfolding next history_of
+unfolding next_history history_of
 goes-none m e q = ap (recorded (history_of m)) q
 
 pub none-goes : (m : Machine) (e : Event) → goes m e ≡ None → step_of m e ≡ None
-unfolding next history_of
+unfolding next_history history_of
 none-goes m e q = go (step_of m e) q
   where
     go : (o : Option Stepped) → recorded (history_of m) o ≡ None → o ≡ None

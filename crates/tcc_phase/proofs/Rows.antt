@@ -10,7 +10,7 @@ use Rattle.tcc_maps.specs.Nodes.{Core, Deliver, Event, Vendor}
 use Rattle.tcc_msg.specs.Plain.{event_of}
 use Rattle.tcc_msg.specs.declared.event.Event.{Event as CodeEvent}
 use Rattle.tcc_rules.specs.Laws.{IsOrdered, UsefulHolds, UsefulOrdered}
-use Rattle.tcc_rules.specs.Useful.{before, useful}
+use Rattle.tcc_rules.specs.Useful.{event_before, useful}
 use Rattle.phase_rules.specs.Phased.{is_held, phased_useful}
 use Rattle.net_core.specs.Machine.{Machine, history_of, program_of, settings_of, start_of, world_of}
 use Rattle.tcc_phase.specs.Choosing.{IsPassed, all_in, held_in, passed_by}
@@ -83,13 +83,13 @@ module _ (m : Machine) (l : Ledger) (kept : IsKept (start_of m) (history_of m) m
     same-request core seq p q =
         (λ i. Deliver (Core core) Vendor (q i)) ∙ (λ i. Deliver (Core (p i)) Vendor (get_or l.asked.items (p i) 0))
 
-    pub passes : (e : Event) → slice_get (all_in m) (k + j) ≡ Some e → before e own_request ≡ false → j < passed_by m (k + j + 1)
+    pub passes : (e : Event) → slice_get (all_in m) (k + j) ≡ Some e → event_before e own_request ≡ false → j < passed_by m (k + j + 1)
     unfolding passed_by
     passes e at b =
         subst (λ n. j < left_out held (all_in m) n) (sym (next-one (k + j)))
         (stands-behind held (all_in m) (k + j) j e own_request all-ordered at (row-is j h) b)
 
-    pub not-yet : (e : Event) → slice_get (all_in m) (k + j) ≡ Some e → before e own_request ≡ true → passed_by m (k + j + 1) ≤ j
+    pub not-yet : (e : Event) → slice_get (all_in m) (k + j) ≡ Some e → event_before e own_request ≡ true → passed_by m (k + j + 1) ≤ j
     unfolding passed_by
     not-yet e at b =
         subst (λ n. left_out held (all_in m) n ≤ j) (sym (next-one (k + j)))
@@ -119,16 +119,16 @@ module _ (m : Machine) (l : Ledger) (kept : IsKept (start_of m) (history_of m) m
     the-request core seq e f = same-request core seq (core-at core e) (reads l.asked.items core seq (core-row core e) f)
 
     module _ (e : Event) (core seq : ℕ) (b : Bool) (c : core ≡ get_or l.held.items j core) (s : seq ≡ get_or l.asked.items core seq)
-        (at : slice_get (all_in m) (k + j) ≡ Some e) (is : b ≡ before e (Deliver (Core core) Vendor seq)) where
+        (at : slice_get (all_in m) (k + j) ≡ Some e) (is : b ≡ event_before e (Deliver (Core core) Vendor seq)) where
       pub passed-if : not b ≡ true → j < passed_by m (k + j + 1)
-      passed-if q = passes e at (ap (before e) (sym (the-request core seq c s)) ∙ sym is ∙ turned b q)
+      passed-if q = passes e at (ap (event_before e) (sym (the-request core seq c s)) ∙ sym is ∙ turned b q)
         where
           turned : (b : Bool) → not b ≡ true → b ≡ false
           turned true q = absurd (cc)
           turned false q = refl
 
       pub not_yet-if : not b ≡ false → passed_by m (k + j + 1) ≤ j
-      not_yet-if q = not-yet e at (ap (before e) (sym (the-request core seq c s)) ∙ sym is ∙ turned b q)
+      not_yet-if q = not-yet e at (ap (event_before e) (sym (the-request core seq c s)) ∙ sym is ∙ turned b q)
         where
           turned : (b : Bool) → not b ≡ false → b ≡ true
           turned true q = refl

@@ -2,7 +2,7 @@
 ghost use Rattle.std.specs.Prelude.{◌≡◌, ◌+◌, ◌<◌, ◌≤◌, ◌^◌, [], IfOk, length, map, option_map, slice_get, true, false};
 ghost use Rattle.tcc_maps.specs.Nodes.{Core, Deliver, Vendor};
 ghost use Rattle.tcc_msg.specs.Plain.{event_of};
-ghost use Rattle.tcc_rules.specs.Useful.{before};
+ghost use Rattle.tcc_rules.specs.Useful.{event_before};
 ghost use Rattle.tcc_phase.specs.Choosing.{IsPassed, held_in, passed_by};
 ghost use Rattle.tcc_phase.specs.Phased.{useful_in};
 
@@ -14,7 +14,7 @@ use tcc_rules::useful_events_are_listed;
 
 /// Whether an event stands before the request of that number of a core in the order of useful events.
 fn stands_before(e: Event, core: u8, seq: u64) -> bool
-    ensures { result ≡ before (event_of e) (Deliver (Core core) Vendor seq) }
+    ensures { result ≡ event_before (event_of e) (Deliver (Core core) Vendor seq) }
 {
     match e {
         Event::Deliver(

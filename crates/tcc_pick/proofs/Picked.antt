@@ -11,7 +11,7 @@ use Rattle.tcc_msg.specs.Plain.{event_of}
 use Rattle.tcc_msg.specs.declared.event.Event.{Event as CodeEvent}
 use Rattle.tcc_rules.specs.Picked.{after_step, chosen, pick, picked}
 use Rattle.tcc_rules.specs.State.{World}
-use Rattle.tcc_rules.specs.Step.{History, Stepped, next, recorded, step}
+use Rattle.tcc_rules.specs.Step.{History, Stepped, next_history, recorded, step}
 use Rattle.tcc_rules.specs.Useful.{useful}
 use Rattle.net_core.specs.Machine.{Machine, history_of, program_of, settings_of, world_of}
 use Rattle.tcc_refine.specs.Refined.{Refined}
@@ -52,9 +52,9 @@ leads-to h (Some s) g rest e = ap rest (ap (of s.world) e)
     of w (Some g) = g.world
 
 picks-one : (k : ℕ) (g : Lcg) (m n : Machine) (e : Event) → chosen_at g m ≡ Some e
-    → next (settings_of m) (program_of m) (history_of m) e ≡ Some (history_of n) → n.cores.code ≡ m.cores.code
+    → next_history (settings_of m) (program_of m) (history_of m) e ≡ Some (history_of n) → n.cores.code ≡ m.cores.code
     → picks (suc k) g m ≡ e ∷ picks k (pcg32 g).1 n
-unfolding next history_of
+unfolding next_history history_of
 picks-one k g m n e c s code = picks-first k g m
     ∙ ap (pick (settings_of m) (program_of m) (world_of m) (picked (settings_of m) (program_of m) (words k (pcg32 g).1))) c
     ∙ ap (λ es. e ∷ es) (leads-to (record { world = world_of m; commits = m.commits }) (step (settings_of m) (program_of m) (world_of m) e)

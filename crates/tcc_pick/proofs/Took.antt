@@ -9,7 +9,7 @@ use Rattle.tcc_maps.specs.Nodes.{Event}
 use Rattle.tcc_msg.specs.Plain.{event_of}
 use Rattle.tcc_msg.specs.declared.event.Event.{Event as CodeEvent}
 use Rattle.tcc_program.specs.Program.{Program}
-use Rattle.tcc_rules.specs.Step.{History, and_then, next, run_from}
+use Rattle.tcc_rules.specs.Step.{History, and_then, next_history, run_from}
 use Rattle.net_core.specs.Machine.{Machine, history_of, program_of, settings_of}
 use Rattle.tcc_refine.specs.Refined.{Refined}
 use Rattle.tcc_pick.specs.Picking.{TookAll}
@@ -23,23 +23,24 @@ pub record Same (m n : Refined) : Type 0 where
 
 -- a call that takes an event
 pub record Takes (m n : Refined) (e : CodeEvent) : Type 0 where
-  pub next : next (settings_of m.machine) (program_of m.machine) (history_of m.machine) (event_of e) ≡ Some (history_of n.machine)
+  pub next : next_history (settings_of m.machine) (program_of m.machine) (history_of m.machine) (event_of e) ≡ Some (history_of n.machine)
   pub taken : n.taken ≡ m.taken ++ e ∷ []
   pub events : n.machine.events ≡ m.machine.events + 1
   pub code : n.machine.cores.code ≡ m.machine.cores.code
 
 after-all : (sh : Settings) (p : Program) (e : Event) (es : List Event) (h : History)
-    → run_from sh p (es ++ e ∷ []) h ≡ and_then (λ g. next sh p g e) (run_from sh p es h)
+    → run_from sh p (es ++ e ∷ []) h ≡ and_then (λ g. next_history sh p g e) (run_from sh p es h)
 unfolding run_from
-after-all sh p e [] h = last (next sh p h e)
+after-all sh p e [] h = last (next_history sh p h e)
   where
     last : (o : Option History) → and_then (λ g. Some g) o ≡ o
     last None = refl
     last (Some g) = refl
-after-all sh p e (x ∷ es) h = go (next sh p h x) (after-all sh p e es)
+after-all sh p e (x ∷ es) h = go (next_history sh p h x) (after-all sh p e es)
   where
-    go : (o : Option History) → ((g : History) → run_from sh p (es ++ e ∷ []) g ≡ and_then (λ f. next sh p f e) (run_from sh p es g))
-        → and_then (run_from sh p (es ++ e ∷ [])) o ≡ and_then (λ g. next sh p g e) (and_then (run_from sh p es) o)
+    go : (o : Option History) →
+        ((g : History) → run_from sh p (es ++ e ∷ []) g ≡ and_then (λ f. next_history sh p f e) (run_from sh p es g))
+        → and_then (run_from sh p (es ++ e ∷ [])) o ≡ and_then (λ g. next_history sh p g e) (and_then (run_from sh p es) o)
     go None rest = refl
     go (Some g) rest = rest g
 
@@ -60,8 +61,8 @@ took-same m n o es t s = record {
 }
 
 same-code : (m n : Machine) (e : Event) → n.cores.code ≡ m.cores.code
-    → next (settings_of m) (program_of m) (history_of n) e ≡ next (settings_of n) (program_of n) (history_of n) e
-same-code m n e c = λ i. next (sym c i).settings (program (started (sym c i))) (history_of n) e
+    → next_history (settings_of m) (program_of m) (history_of n) e ≡ next_history (settings_of n) (program_of n) (history_of n) e
+same-code m n e c = λ i. next_history (sym c i).settings (program (started (sym c i))) (history_of n) e
 
 pub took-more : (m n o : Refined) (es : List Event) (e : CodeEvent) → TookAll m n es → Takes n o e → TookAll m o (es ++ event_of e ∷ [])
 took-more m n o es e t s =
@@ -70,7 +71,7 @@ took-more m n o es e t s =
     record {
       taken = ap (map event_of) s.taken ∙ map-append event_of n.taken (e ∷ []) ∙ ap (λ xs. xs ++ event_of e ∷ []) t.taken
           ∙ append_assoc (map event_of m.taken) es (event_of e ∷ []);
-      ran = after-all sh p (event_of e) es (history_of m.machine) ∙ ap (and_then (λ h. next sh p h (event_of e))) t.ran
+      ran = after-all sh p (event_of e) es (history_of m.machine) ∙ ap (and_then (λ h. next_history sh p h (event_of e))) t.ran
           ∙ same-code m.machine n.machine (event_of e) t.code ∙ s.next;
       events = let a = t.events in let b = one-longer es (event_of e) in let c = s.events in omega (arith, a, b, c);
       code = s.code ∙ t.code;

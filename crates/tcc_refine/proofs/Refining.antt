@@ -10,7 +10,7 @@ use Rattle.tcc_base.specs.Settings.{IsAllowed}
 use Rattle.tcc_maps.specs.Nodes.{Event}
 use Rattle.tcc_msg.specs.Plain.{event_of}
 use Rattle.tcc_msg.specs.declared.event.Event.{Event as CodeEvent}
-use Rattle.tcc_rules.specs.Step.{History, next, run, run_from}
+use Rattle.tcc_rules.specs.Step.{History, next_history, run, run_from}
 use Rattle.net_core.specs.Machine.{Machine, history_of, program_of, settings_of, start_of}
 use Rattle.net_core.specs.Reached.{first_history}
 use Rattle.net_core.proofs.Lemmas.{run-on}
@@ -43,7 +43,7 @@ one-longer (x ∷ xs) e = let r = one-longer xs e in omega (arith, r)
 
 -- one event more
 pub run-more : (m n : Machine) (taken : List CodeEvent) (e : CodeEvent) → IsRunOf m taken
-    → next (settings_of m) (program_of m) (history_of m) (event_of e) ≡ Some (history_of n) → n.cores.code ≡ m.cores.code
+    → next_history (settings_of m) (program_of m) (history_of m) (event_of e) ≡ Some (history_of n) → n.cores.code ≡ m.cores.code
     → IsRunOf n (taken ++ e ∷ [])
 run-more m n taken e r step code =
     subst (λ c. run c.settings (program (started c)) (world_at_start (started c)) (map event_of (taken ++ e ∷ [])) ≡ Some (history_of n))

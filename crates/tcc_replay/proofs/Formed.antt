@@ -22,7 +22,8 @@ use Rattle.tcc_msg.specs.declared.event.Event.TheVariants.{Exec, Evict, Deliver}
 use Rattle.tcc_program.specs.Program.{Program}
 use Rattle.tcc_rules.specs.Links.{in_flight}
 use Rattle.tcc_rules.specs.State.{Link}
-use Rattle.tcc_rules.specs.Step.{History, Stepped, and_then, happens, if_in_flight, is_node, names_nodes, next, recorded, run, run_from}
+use Rattle.tcc_rules.specs.Step.{History, Stepped, and_then, happens, if_in_flight, is_node, names_nodes, next_history, recorded, run}
+use Rattle.tcc_rules.specs.Step.{run_from}
 use Rattle.tcc_rules.specs.Step.{step}
 use Rattle.net_core.specs.Machine.{history_of}
 use Rattle.net_core.proofs.Lemmas.{run-on}
@@ -74,8 +75,8 @@ flying sh src dst k h g true None e P found = absurd (cc)
 flying sh src dst k h g true (Some m) e P found = found m refl
 
 named : (sh : Settings) (p : Program) (es : List RuleEvent) (h g : History) (e : Event) → IsAllowed sh → IsBounded sh es h
-    → length es ≤ 4194304 → next sh p h (event_of e) ≡ Some g → Names sh e
-unfolding next step names_nodes happens
+    → length es ≤ 4194304 → next_history sh p h (event_of e) ≡ Some g → Names sh e
+unfolding next_history step names_nodes happens
 named sh p es h g (Exec core) k b few n =
     below core.0 sh.cores (all-there (nat_lt core.0 sh.cores) (happens sh p h.world (event_of (Exec core))) h g n)
 named sh p es h g (Evict core set way) k b few n =
@@ -122,7 +123,7 @@ all-named : (c : Contents) (before : List RuleEvent) (es : List Event) (h g : Hi
 unfolding run_from
 all-named c before [] h g k r few rest = All-nil (Names c.settings)
 all-named c before (e ∷ es) h g k r few rest =
-    past (next c.settings (program (started c)) h (event_of e)) (run_from c.settings (program (started c)) (map event_of es)) g
+    past (next_history c.settings (program (started c)) h (event_of e)) (run_from c.settings (program (started c)) (map event_of es)) g
     (All (Names c.settings) (e ∷ es)) rest
     (λ f here more.
     let long = one-longer before (event_of e) in

@@ -12,7 +12,7 @@ use Rattle.tcc_base.specs.Settings.{Settings}
 use Rattle.tcc_msg.specs.Plain.{event_of}
 use Rattle.tcc_msg.specs.declared.event.Event.{Event}
 use Rattle.tcc_program.specs.Program.{Program}
-use Rattle.tcc_rules.specs.Step.{History, and_then, next, recorded, run, run_from}
+use Rattle.tcc_rules.specs.Step.{History, and_then, next_history, recorded, run, run_from}
 use Rattle.net_core.specs.Answers.{step_of}
 use Rattle.net_core.specs.Machine.{Machine, history_of, program_of, settings_of, start_of}
 use Rattle.net_core.proofs.Lemmas.{run-on}
@@ -60,8 +60,8 @@ is-there None h e = absurd (cc)
 is-there (Some g) h e = refl
 
 no-next : (m : Machine) (e : Event) → step_of m (event_of e) ≡ None
-    → next (settings_of m) (program_of m) (history_of m) (event_of e) ≡ None
-unfolding next history_of
+    → next_history (settings_of m) (program_of m) (history_of m) (event_of e) ≡ None
+unfolding next_history history_of
 no-next m e q = ap (recorded (history_of m)) q
 
 -- what is not enabled after the first i is the first that isn't enabled at its turn
@@ -100,7 +100,7 @@ stuck-on sh p [] zero h e = e
 stuck-on sh p [] (suc k) h e = e
 stuck-on sh p (x ∷ es) zero h e = absurd (cc)
 stuck-on sh p (x ∷ es) (suc k) h e =
-    go (next sh p h (event_of x)) (λ g. stuck-on sh p es k g) e
+    go (next_history sh p h (event_of x)) (λ g. stuck-on sh p es k g) e
   where
     go : (o : Option History)
         → ((g : History) → run_from sh p (map event_of (take k es)) g ≡ None → run_from sh p (map event_of es) g ≡ None)

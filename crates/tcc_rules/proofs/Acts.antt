@@ -15,7 +15,7 @@ use Rattle.tcc_rules.specs.CoreEvict.{core_evict}
 use Rattle.tcc_rules.specs.CoreDeliver.{core_deliver}
 use Rattle.tcc_rules.specs.DirDeliver.{Answer, Waits, Drops, Asks, Takes, dir_deliver}
 use Rattle.tcc_rules.specs.VendorDeliver.{Granted, vendor_deliver}
-use Rattle.tcc_rules.specs.Step.{Stepped, core_moves, core_takes, dir_takes, dir_asks, vendor_gives, moved, taken, answered, granted, delivered, if_in_flight, names_nodes, happens, step}
+use Rattle.tcc_rules.specs.Step.{Stepped, core_moves, core_takes, dir_takes, dir_asks, vendor_gives, if_core_moves, if_core_takes, answered, if_vendor_gives, delivered, if_in_flight, names_nodes, happens, step}
 use Rattle.tcc_rules.specs.Laws.{ActsOnOne, Grows}
 
 grows-if : (n s : Node) (old : Link) (ms : List Msg) (b : Bool) → node_eq s n ≡ b → Grows n s old (cond b (old ++ sent_all ms) old)
@@ -29,17 +29,17 @@ grows-sending net n s d sends = grows-if n s (net s d) (sends d) (node_eq s n) r
 put-other : {A : Type 0} (f : ℕ → A) (i : ℕ) (v : A) (j : ℕ) → node_eq (Core i) (Core j) ≡ false → put f i v j ≡ f j
 put-other f i v j h = grind (arith, nat_tests)
 
-exec-acts : (w : World) (c : ℕ) (o : Option Out) → IfSome (moved w c o) (λ t. ActsOnOne w (Exec c) t.world)
+exec-acts : (w : World) (c : ℕ) (o : Option Out) → IfSome (if_core_moves w c o) (λ t. ActsOnOne w (Exec c) t.world)
 unfolding core_moves
 exec-acts w c None = tt
 exec-acts w c (Some o) = record { cores = λ j h. put-other w.cores c o.core j h; dirs = λ j h. refl; vendor = λ h. refl; links = λ s d. grows-sending w.net (Core c) s d o.sends }
 
-evict-acts : (w : World) (c x y : ℕ) (o : Option Out) → IfSome (moved w c o) (λ t. ActsOnOne w (Evict c x y) t.world)
+evict-acts : (w : World) (c x y : ℕ) (o : Option Out) → IfSome (if_core_moves w c o) (λ t. ActsOnOne w (Evict c x y) t.world)
 unfolding core_moves
 evict-acts w c x y None = tt
 evict-acts w c x y (Some o) = record { cores = λ j h. put-other w.cores c o.core j h; dirs = λ j h. refl; vendor = λ h. refl; links = λ s d. grows-sending w.net (Core c) s d o.sends }
 
-taken-acts : (w : World) (src : Node) (c k : ℕ) (o : Option Out) → IsSome (in_flight w.net src (Core c) k) → IfSome (taken w src c k o) (λ t. ActsOnOne w (Deliver src (Core c) k) t.world)
+taken-acts : (w : World) (src : Node) (c k : ℕ) (o : Option Out) → IsSome (in_flight w.net src (Core c) k) → IfSome (if_core_takes w src c k o) (λ t. ActsOnOne w (Deliver src (Core c) k) t.world)
 unfolding core_takes
 taken-acts w src c k None f = tt
 taken-acts w src c k (Some o) f = record {
@@ -70,7 +70,7 @@ answered-acts w c d k (Asks s sends) f = record {
   links = (f, inl (λ t e. grows-sending w.net (Dir d) t e sends));
 }
 
-granted-acts : (w : World) (c k : ℕ) (g : Option Granted) → IsSome (in_flight w.net (Core c) Vendor k) → IfSome (granted w c k g) (λ t. ActsOnOne w (Deliver (Core c) Vendor k) t.world)
+granted-acts : (w : World) (c k : ℕ) (g : Option Granted) → IsSome (in_flight w.net (Core c) Vendor k) → IfSome (if_vendor_gives w c k g) (λ t. ActsOnOne w (Deliver (Core c) Vendor k) t.world)
 unfolding vendor_gives
 granted-acts w c k None f = tt
 granted-acts w c k (Some g) f = record {

@@ -13,23 +13,25 @@ use Rattle.tcc_maps.specs.Serving.{first_serving, is_skipped, serve_from, advanc
 use Rattle.tcc_maps.specs.Spilled.{none_spilled, spill, spill_line, holds, spilled_mask, spilled_words, spilled_line, drained}
 use Rattle.tcc_maps.specs.Words.{any_below, all_below, count_below, those, lowest, eight, any_word}
 use Rattle.tcc_program.specs.Ram.{word_of, unit_of, part, patched, loaded, stored as ram-stored, flat}
-use Rattle.tcc_rules.specs.Attempt.{stepped, finished, roll_back}
-use Rattle.tcc_rules.specs.Commit.{noted, committed_core, commit_sends, after_commit, commit as commit-commit, is_written, written_mask}
-use Rattle.tcc_rules.specs.Commit.{solo_writes_at, solo_marks, solo_backs, solo_sends, solo_commit}
+use Rattle.tcc_rules.specs.Attempt.{one_more_instruction, finished, roll_back}
+use Rattle.tcc_rules.specs.Commit.{noted, committed_core, commit_sends, with_last_commit, commit, is_written, written_mask}
+use Rattle.tcc_rules.specs.Commit.{solo_writes_at, solo_marks_or_skip, solo_write_backs, solo_sends, solo_commit}
 use Rattle.tcc_rules.specs.CoreDeliver.{is_probed, grant_sends, grant, probe_reply, fill as coredeliver-fill, data_request, if_violated}
-use Rattle.tcc_rules.specs.CoreDeliver.{without, is_violated, acknowledged, invalidate, core_deliver}
+use Rattle.tcc_rules.specs.CoreDeliver.{words_invalidated, is_violated, acknowledged, invalidate, core_deliver}
 use Rattle.tcc_rules.specs.CoreEvict.{core_evict}
 use Rattle.tcc_rules.specs.CoreExec.{core_exec}
-use Rattle.tcc_rules.specs.DirDeliver.{moved_on, skip, abort, probe, ask_owner, line_words, load_request, mark, is_invalidated, invs_to}
-use Rattle.tcc_rules.specs.DirDeliver.{invalidations, total, owed_by, owned, settled, commit as dirdeliver-commit, acknowledgement}
-use Rattle.tcc_rules.specs.DirDeliver.{came_home, write_back as dirdeliver-write_back, dir_deliver}
-use Rattle.tcc_rules.specs.Execute.{ask, place, overflow, full_set, fetch, used, load, buffered, framed, word_store, partial_store}
+use Rattle.tcc_rules.specs.DirDeliver.{moved_on, skip, abort, probe, ask_owner, home_words, load_request, mark, is_invalidated, invs_to}
+use Rattle.tcc_rules.specs.DirDeliver.{invalidations, sum_below, invalidation_count, owned_by_committer, moved_on_if_settled, dir_commit}
+use Rattle.tcc_rules.specs.DirDeliver.{acknowledgement}
+use Rattle.tcc_rules.specs.DirDeliver.{came_home, write_back, dir_deliver}
+use Rattle.tcc_rules.specs.Execute.{request_line, place, overflow, full_set, miss, with_read_mark, load, stored_in_buffer, stored_in_frame}
+use Rattle.tcc_rules.specs.Execute.{word_store, partial_store}
 use Rattle.tcc_rules.specs.Execute.{execute}
 use Rattle.tcc_rules.specs.Links.{sent_all}
-use Rattle.tcc_rules.specs.Sends.{written_back, flushed, skip_all, probe_all, abort_written, marks_for}
+use Rattle.tcc_rules.specs.Sends.{write_back_line, flush_line, skip_all, probe_all, abort_written, marks_for}
 use Rattle.tcc_rules.specs.State.{core_start, dir_start, vendor_start, start}
 use Rattle.tcc_rules.specs.Step.{names_nodes, happens, core_moves, core_takes, dir_takes, dir_asks, vendor_gives, step, is_enabled}
-use Rattle.tcc_rules.specs.Step.{insert_commit, next, run_from, run}
+use Rattle.tcc_rules.specs.Step.{insert_commit, next_history, run_from, run}
 use Rattle.tcc_rules.specs.Seen.{copies_on, copies_of, copies, newest, home_copy, seen}
 use Rattle.tcc_rules.specs.Useful.{nodes, execs, evicts, delivers, useful, is_useful, room, room_for_line, room_for_word, room_for_store}
 
@@ -40,13 +42,18 @@ unfolding empty_cache is_marked way_marked free_way all_marked is_modified is_di
     look_line look_value look_load look_store reads_masked judge no_lines with_sharer with_owner with_tag with_asked with_mark
     unmarked has mask_of hit masked first_serving is_skipped serve_from advance skip_at kept skipped none_spilled spill spill_line
     holds spilled_mask spilled_words spilled_line drained any_below all_below count_below those lowest eight any_word word_of
-    unit_of part patched loaded ram-stored flat stepped finished roll_back noted committed_core commit_sends after_commit
-    commit-commit is_written written_mask solo_writes_at solo_marks solo_backs solo_sends solo_commit is_probed grant_sends grant
-    probe_reply coredeliver-fill data_request if_violated without is_violated acknowledged invalidate core_deliver core_evict
-    core_exec moved_on skip abort probe ask_owner line_words load_request mark is_invalidated invs_to invalidations total owed_by
-    owned settled dirdeliver-commit acknowledgement came_home dirdeliver-write_back dir_deliver ask place overflow full_set fetch
-    used load buffered framed word_store partial_store execute sent_all written_back flushed skip_all probe_all abort_written
+    unit_of part patched loaded ram-stored flat one_more_instruction finished roll_back noted committed_core commit_sends with_last_commit
+    commit is_written written_mask solo_writes_at solo_marks_or_skip solo_write_backs solo_sends solo_commit is_probed grant_sends
+    grant
+    probe_reply coredeliver-fill data_request if_violated words_invalidated is_violated acknowledged invalidate core_deliver core_evict
+    core_exec moved_on skip abort probe ask_owner home_words load_request mark is_invalidated invs_to invalidations sum_below
+    invalidation_count
+    owned_by_committer moved_on_if_settled dir_commit acknowledgement came_home write_back dir_deliver request_line place
+    overflow full_set miss
+    with_read_mark load stored_in_buffer stored_in_frame word_store partial_store execute sent_all write_back_line flush_line skip_all
+    probe_all
+    abort_written
     marks_for core_start dir_start vendor_start start names_nodes happens core_moves core_takes dir_takes dir_asks vendor_gives step
-    is_enabled insert_commit next run_from run copies_on copies_of copies newest home_copy seen room_for_line room_for_word
+    is_enabled insert_commit next_history run_from run copies_on copies_of copies newest home_copy seen room_for_line room_for_word
     room_for_store room is_useful nodes execs evicts delivers useful
 computed = Unit {0}

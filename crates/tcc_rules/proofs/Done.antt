@@ -12,9 +12,9 @@ use Rattle.tcc_rules.specs.State.{CoreState, World, Halted}
 use Rattle.tcc_rules.specs.Links.{in_flight}
 use Rattle.tcc_rules.specs.CoreExec.{core_exec}
 use Rattle.tcc_rules.specs.CoreEvict.{core_evict, evict_line}
-use Rattle.tcc_rules.specs.Step.{moved, names_nodes, happens, is_enabled}
+use Rattle.tcc_rules.specs.Step.{if_core_moves, names_nodes, happens, is_enabled}
 use Rattle.tcc_rules.specs.Seen.{IsDone}
-use Rattle.tcc_rules.specs.Useful.{is_useful, is_of_use, holds_written, is_set, room, useful}
+use Rattle.tcc_rules.specs.Useful.{is_useful, is_of_use, holds_written, is_this_set, room, useful}
 use Rattle.tcc_rules.proofs.Useful.{and-left, and-right, named, happened, lt-true, in_flight-named, useful-enabled_in, useful-holds, is-in}
 use Rattle.tcc_rules.proofs.Ordered.{none-among}
 
@@ -42,7 +42,7 @@ clean-undirty c l h = ⊎_elim
     (λ e. e)
     (cases_Bool (any_below (λ k. is_some (c.dirty (word_at l k))) 8))
 
-evict-unwritten : (sh : Shape) (w : World) (c x y : ℕ) (s : CoreState) (o : Option ℕ) → s.phase ≡ Halted → ((v : ℕ) → s.cache.dirty v ≡ None) → is_some (moved w c (evict_line sh x y s o)) ≡ true → holds_written s.cache o ≡ false
+evict-unwritten : (sh : Shape) (w : World) (c x y : ℕ) (s : CoreState) (o : Option ℕ) → s.phase ≡ Halted → ((v : ℕ) → s.cache.dirty v ≡ None) → is_some (if_core_moves w c (evict_line sh x y s o)) ≡ true → holds_written s.cache o ≡ false
 evict-unwritten sh w c x y s None e d h = refl
 evict-unwritten sh w c x y s (Some l) e d h =
     ⊎_elim
@@ -85,7 +85,7 @@ done-useless_at sh p w d (Evict c x y) h =
     let a = evicts-unwritten sh p w c x y e (λ v. d.clean c v i) (happened sh p w (Evict c x y) n) in
     let r = halted-room sh p (w.cores c) e in
     let u = not-of_use sh p w (Evict c x y) h in
-    let s : is_set (room sh p (w.cores c)) x ≡ false = rw r in
+    let s : is_this_set (room sh p (w.cores c)) x ≡ false = rw r in
     grind (arith, nat_tests)
 done-useless_at sh p w d (Deliver src dst k) h =
     let n = useful-enabled_in sh p w (Deliver src dst k) h in

@@ -14,7 +14,7 @@ use Rattle.tcc_rules.specs.CoreEvict.{core_evict}
 use Rattle.tcc_rules.specs.CoreDeliver.{core_deliver}
 use Rattle.tcc_rules.specs.DirDeliver.{Answer, Waits, Drops, Asks, Takes, dir_deliver}
 use Rattle.tcc_rules.specs.VendorDeliver.{Granted, vendor_deliver}
-use Rattle.tcc_rules.specs.Step.{Stepped, core_moves, core_takes, dir_takes, dir_asks, vendor_gives, moved, taken, answered, granted, delivered, if_in_flight, names_nodes, happens, step}
+use Rattle.tcc_rules.specs.Step.{Stepped, core_moves, core_takes, dir_takes, dir_asks, vendor_gives, if_core_moves, if_core_takes, answered, if_vendor_gives, delivered, if_in_flight, names_nodes, happens, step}
 use Rattle.tcc_rules.specs.Local.{NodeState, AtCore, AtDir, AtVendor, state_at, Entry, Acted, acted, answer_acted, grant_acted, takes, act, Mail, mailed, Side, is_gone, consumed, side_after, local_step, side_then, local, at_node}
 use Rattle.tcc_rules.specs.Merged.{Each}
 use Rattle.tcc_rules.proofs.Mailed.{net_before}
@@ -34,17 +34,18 @@ Match w ev (Some a) (Some t) = IsApplied w ev a t.world
 put-same : {A : Type 0} (f : ℕ → A) (i : ℕ) (v : A) → put f i v i ≡ v
 put-same f i v = grind (arith, nat_tests)
 
-exec-match : (w : World) (c : ℕ) (o : Option Out) → Match w (Exec c) (acted false o) (moved w c o)
+exec-match : (w : World) (c : ℕ) (o : Option Out) → Match w (Exec c) (acted false o) (if_core_moves w c o)
 unfolding core_moves
 exec-match w c None = tt
 exec-match w c (Some o) = record { here = ap AtCore (put-same w.cores c o.core); net = λ s d. refl }
 
-evict-match : (w : World) (c x y : ℕ) (o : Option Out) → Match w (Evict c x y) (acted false o) (moved w c o)
+evict-match : (w : World) (c x y : ℕ) (o : Option Out) → Match w (Evict c x y) (acted false o) (if_core_moves w c o)
 unfolding core_moves
 evict-match w c x y None = tt
 evict-match w c x y (Some o) = record { here = ap AtCore (put-same w.cores c o.core); net = λ s d. refl }
 
-taken-match : (w : World) (src : Node) (c k : ℕ) (o : Option Out) → Match w (Deliver src (Core c) k) (acted true o) (taken w src c k o)
+taken-match : (w : World) (src : Node) (c k : ℕ) (o : Option Out) →
+    Match w (Deliver src (Core c) k) (acted true o) (if_core_takes w src c k o)
 unfolding core_takes
 taken-match w src c k None = tt
 taken-match w src c k (Some o) = record { here = ap AtCore (put-same w.cores c o.core); net = λ s d. refl }
@@ -56,7 +57,7 @@ answer-match w c d k Drops = record { here = ap AtDir (put-same w.dirs d (w.dirs
 answer-match w c d k (Takes t sends) = record { here = ap AtDir (put-same w.dirs d t); net = λ s e. refl }
 answer-match w c d k (Asks t sends) = record { here = ap AtDir (put-same w.dirs d t); net = λ s e. refl }
 
-grant-match : (w : World) (c k : ℕ) (g : Option Granted) → Match w (Deliver (Core c) Vendor k) (grant_acted g) (granted w c k g)
+grant-match : (w : World) (c k : ℕ) (g : Option Granted) → Match w (Deliver (Core c) Vendor k) (grant_acted g) (if_vendor_gives w c k g)
 unfolding vendor_gives
 grant-match w c k None = tt
 grant-match w c k (Some g) = record { here = refl; net = λ s d. refl }

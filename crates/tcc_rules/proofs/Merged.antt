@@ -9,9 +9,9 @@ use Rattle.tcc_maps.specs.Nodes.{Node, Core, Dir, Vendor, Event, Exec, Evict, De
 use Rattle.tcc_maps.specs.Shape.{Shape}
 use Rattle.tcc_rules.specs.State.{World, Link, start}
 use Rattle.tcc_rules.specs.Links.{sent_all}
-use Rattle.tcc_rules.specs.Step.{Stepped, History, step, recorded, and_noted, next, and_then, run_from, run, is_node, names_nodes}
+use Rattle.tcc_rules.specs.Step.{Stepped, History, step, recorded, and_noted, next_history, and_then, run_from, run, is_node, names_nodes}
 use Rattle.tcc_rules.specs.Local.{NodeState, AtCore, AtDir, AtVendor, state_at, Entry, Acted, act, Mail, mailed, Side, side_start, is_gone, consumed, local, at_node}
-use Rattle.tcc_rules.specs.Merged.{Each, StoredOf, IsStored, Fit, is_at, entry_before, Sorted, IsMerged, events}
+use Rattle.tcc_rules.specs.Merged.{Each, StoresMessageOf, StoresItsMessage, Fit, is_at, entry_before, Sorted, IsMerged, events}
 use Rattle.tcc_rules.specs.Laws.{ActsOnOne}
 use Rattle.tcc_rules.proofs.Acts.{step-acts}
 use Rattle.tcc_rules.proofs.Useful.{node_eq-same, and-left}
@@ -36,7 +36,7 @@ pub record Joined (sh : Shape) (p : Program) (sides : Node → Side) (w : World)
   pub links : (s d : Node) → w.net s d ≡ link_of ((cur s).sent d) ((cur d).gone s)
   pub small : (s d : Node) (k : ℕ) → length ((cur s).sent d) ≤ k → (cur d).gone s k ≡ false
   pub locals : (n : Node) → is_node sh n ≡ true → local sh p n (filter (is_at n) es) (cur n) ≡ Some (sides n)
-  pub stored : Each (IsStored sides) es
+  pub stored : Each (StoresItsMessage sides) es
   pub nodes : Each (λ e. is_node sh (at_node e.event) ≡ true) es
   pub sorted : InOrder es
 
@@ -81,7 +81,7 @@ later-of sh p sides w cur e es src dst j n =
     (each-filter (λ f. e.stamp ≤ f.stamp) (is_at src) (e ∷ es) (omega arith, j.sorted.0))
     (j.locals src n)
 
-pub held : (sh : Shape) (p : Program) (sides : Node → Side) (w : World) (cur : Node → Side) (e : Entry) (es : List Entry) (ev : Event) → e.event ≡ ev → Joined sh p sides w cur (e ∷ es) → names_nodes sh ev ≡ true → StoredOf sides e ev → is_gone (cur (at_node ev)).gone ev ≡ false →
+pub held : (sh : Shape) (p : Program) (sides : Node → Side) (w : World) (cur : Node → Side) (e : Entry) (es : List Entry) (ev : Event) → e.event ≡ ev → Joined sh p sides w cur (e ∷ es) → names_nodes sh ev ≡ true → StoresMessageOf sides e ev → is_gone (cur (at_node ev)).gone ev ≡ false →
     IsHeld w e ev × WasSent (λ s d. (cur s).sent d) ev
 held sh p sides w cur e es (Exec c) q j n s g = (tt, tt)
 held sh p sides w cur e es (Evict c x y) q j n s g = (tt, tt)
@@ -213,7 +213,7 @@ run-step sh p sides cur e es h j go b s (Some d) q (Some t) m a =
     (joined-after sh p sides cur h.world e es b.then t.world (record { step = b.step; applied = x; others = a; sent = s }) j b.rest)
 
 runs : (sh : Shape) (p : Program) (sides : Node → Side) (es : List Entry) (cur : Node → Side) (h : History) → Joined sh p sides h.world cur es → Ends sh sides (run_from sh p (events es) h)
-unfolding run_from local next
+unfolding run_from local next_history
 runs sh p sides [] cur h j = λ n k. let e : cur n ≡ sides n = (let l = j.locals n k in cc) in j.states n k ∙ ap (λ (x : Side). x.state) e
 runs sh p sides (e ∷ es) cur h j =
     let b : Begins sh p (at_node e.event) e (filter (is_at (at_node e.event)) es) (cur (at_node e.event)) (sides (at_node e.event)) = begins-here sh p sides cur h.world e es j in
@@ -258,7 +258,8 @@ joined-start sh p entries ram logs sides es f m = record {
   links = λ s d. refl;
   small = λ s d k h. refl;
   locals = λ n h. rw (m.parts n h) (f.locals n h);
-  stored = each-parts (IsStored sides) sh es (λ n h. subst (Each (IsStored sides)) (sym (m.parts n h)) (f.stored n h)) m.nodes;
+  stored =
+      each-parts (StoresItsMessage sides) sh es (λ n h. subst (Each (StoresItsMessage sides)) (sym (m.parts n h)) (f.stored n h)) m.nodes;
   nodes = m.nodes;
   sorted = sorted-order es m.sorted;
 }

@@ -5,7 +5,7 @@ use Rattle.tcc_program.specs.Program.{Program}
 use Rattle.tcc_maps.specs.Nodes.{Event}
 use Rattle.tcc_maps.specs.Shape.{Shape}
 use Rattle.tcc_rules.specs.State.{World}
-use Rattle.tcc_rules.specs.Step.{Stepped, History, step, recorded, and_noted, next, and_then, run_from, run}
+use Rattle.tcc_rules.specs.Step.{Stepped, History, step, recorded, and_noted, next_history, and_then, run_from, run}
 use Rattle.tcc_rules.specs.Useful.{useful}
 use Rattle.tcc_rules.specs.Picked.{picked, pick, chosen, after_step}
 use Rattle.tcc_rules.specs.Laws.{IsIn, EndsUseless}
@@ -41,7 +41,7 @@ step-picks sh p n rest h e (Some t) q s f =
 
 pick-runs : (sh : Shape) (p : Program) (n : ℕ) (rest : World → List Event) (h : History) (o : Option Event) → ChosenOf (useful sh p h.world) o →
     ((g : History) → PicksRun sh p n (rest g.world) (run_from sh p (rest g.world) g)) → PicksRun sh p (suc n) (pick sh p h.world rest o) (run_from sh p (pick sh p h.world rest o) h)
-unfolding run_from next
+unfolding run_from next_history
 pick-runs sh p n rest h None c f = record { runs = refl; few = omega arith; ends = λ l. c }
 pick-runs sh p n rest h (Some e) c f = step-picks sh p n rest h e (step sh p h.world e) refl (useful-enabled sh p h.world e ((useful-holds sh p h.world e).0 c)) f
 

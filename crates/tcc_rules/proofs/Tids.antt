@@ -12,7 +12,7 @@ use Rattle.tcc_rules.specs.CoreEvict.{core_evict}
 use Rattle.tcc_rules.specs.CoreDeliver.{core_deliver}
 use Rattle.tcc_rules.specs.DirDeliver.{Answer, Waits, Drops, Asks, Takes, dir_deliver}
 use Rattle.tcc_rules.specs.VendorDeliver.{vendor_deliver}
-use Rattle.tcc_rules.specs.Step.{Stepped, History, core_moves, core_takes, dir_takes, dir_asks, vendor_gives, moved, taken, answered, granted, delivered, if_in_flight, names_nodes, happens, step, recorded, and_noted, next, and_then, run_from, run}
+use Rattle.tcc_rules.specs.Step.{Stepped, History, core_moves, core_takes, dir_takes, dir_asks, vendor_gives, if_core_moves, if_core_takes, answered, if_vendor_gives, delivered, if_in_flight, names_nodes, happens, step, recorded, and_noted, next_history, and_then, run_from, run}
 use Rattle.tcc_rules.specs.Laws.{tids_in, given_by, and_given, given, counting}
 use Rattle.tcc_rules.proofs.Acts.{if-step}
 use Rattle.tcc_rules.proofs.Useful.{node_eq-same}
@@ -26,17 +26,17 @@ none-given : (n : ℕ) → [] ≡ counting n (n - n)
 unfolding counting
 none-given n = let e : n - n ≡ 0 = omega arith in rw e
 
-exec-gives : (w : World) (c : ℕ) (o : Option Out) → IfSome (moved w c o) (λ t. Gives w (Exec c) t.world)
+exec-gives : (w : World) (c : ℕ) (o : Option Out) → IfSome (if_core_moves w c o) (λ t. Gives w (Exec c) t.world)
 unfolding core_moves
 exec-gives w c None = tt
 exec-gives w c (Some o) = record { rises = omega arith; counts = none-given w.next }
 
-evict-gives : (w : World) (c x y : ℕ) (o : Option Out) → IfSome (moved w c o) (λ t. Gives w (Evict c x y) t.world)
+evict-gives : (w : World) (c x y : ℕ) (o : Option Out) → IfSome (if_core_moves w c o) (λ t. Gives w (Evict c x y) t.world)
 unfolding core_moves
 evict-gives w c x y None = tt
 evict-gives w c x y (Some o) = record { rises = omega arith; counts = none-given w.next }
 
-taken-gives : (w : World) (src : Node) (c k : ℕ) (o : Option Out) → IfSome (taken w src c k o) (λ t. Gives w (Deliver src (Core c) k) t.world)
+taken-gives : (w : World) (src : Node) (c k : ℕ) (o : Option Out) → IfSome (if_core_takes w src c k o) (λ t. Gives w (Deliver src (Core c) k) t.world)
 unfolding core_takes
 taken-gives w src c k None = tt
 taken-gives w src c k (Some o) = record { rises = omega arith; counts = none-given w.next }
@@ -56,7 +56,7 @@ grant-counts : (t c : ℕ) (old : Link) (b : Bool) → b ≡ true → tids_in (d
 unfolding tids_in sent_all counting
 grant-counts t c old b e = let n : t + 1 - t ≡ 1 = omega arith in rw (e, n, drop-all old (Some (TidGrant t) ∷ []))
 
-granted-gives : (w : World) (c k : ℕ) (m : Msg) → IfSome (granted w c k (vendor_deliver w.next c m)) (λ t. Gives w (Deliver (Core c) Vendor k) t.world)
+granted-gives : (w : World) (c k : ℕ) (m : Msg) → IfSome (if_vendor_gives w c k (vendor_deliver w.next c m)) (λ t. Gives w (Deliver (Core c) Vendor k) t.world)
 unfolding vendor_gives
 granted-gives w c k TidReq = record { rises = omega arith; counts = grant-counts w.next c (w.net Vendor (Core c)) (node_eq (Core c) (Core c)) (node_eq-same (Core c)) }
 granted-gives w c k (TidGrant t) = tt
@@ -132,7 +132,7 @@ run-gives_in sh p e es h (Some t) f r =
     (r g)
 
 pub run-gives : (sh : Shape) (p : Program) (es : List Event) (h : History) → RunGives sh p es h.world (run_from sh p es h)
-unfolding run_from given next
+unfolding run_from given next_history
 run-gives sh p [] h = (omega arith, none-given h.world.next)
 run-gives sh p (e ∷ es) h = run-gives_in sh p e es h (step sh p h.world e) (step-gives sh p h.world e) (run-gives sh p es)
 

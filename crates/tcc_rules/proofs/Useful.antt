@@ -10,13 +10,13 @@ use Rattle.tcc_maps.specs.Shape.{Shape}
 use Rattle.tcc_rules.specs.State.{World, Link}
 use Rattle.tcc_rules.specs.Links.{in_flight}
 use Rattle.tcc_rules.specs.Step.{Stepped, if_in_flight, is_node, names_nodes, happens, step, is_enabled}
-use Rattle.tcc_rules.specs.Useful.{is_useful, is_of_use, nodes, execs, evicts, delivers, useful, node_before, before}
+use Rattle.tcc_rules.specs.Useful.{is_useful, is_of_use, nodes, execs, evicts, delivers, useful, node_before, event_before}
 use Rattle.tcc_rules.specs.Laws.{IsIn, IsBeforeAll, IsOrdered}
 use Rattle.tcc_rules.proofs.Ordered.{Every, Ordered, Among, every-append, every-weaken, every-map, every-all, every-flat, ordered-append, ordered-map, ordered-flat, ordered-filter, ordered-numbers, among-left, among-right, among-map, among-flat, among-filter, filter-among, among-numbers}
 
-ordered-execs : (sh : Shape) → Ordered before (execs sh)
+ordered-execs : (sh : Shape) → Ordered event_before (execs sh)
 unfolding execs
-ordered-execs sh = ordered-map nat_lt before Exec (those (λ k. true) sh.cores) (λ x y e. e) (ordered-numbers sh.cores)
+ordered-execs sh = ordered-map nat_lt event_before Exec (those (λ k. true) sh.cores) (λ x y e. e) (ordered-numbers sh.cores)
 
 -- an Evict of this core, of this set of it
 abbrev EvictOf : ℕ → Event → Type 0
@@ -29,17 +29,17 @@ EvictAt c x (Exec d) = ⊥
 EvictAt c x (Evict d u y) = (d ≡ c) × (u ≡ x)
 EvictAt c x (Deliver s t k) = ⊥
 
-ways-before : (c x y z : ℕ) → nat_lt y z ≡ true → before (Evict c x y) (Evict c x z) ≡ true
+ways-before : (c x y z : ℕ) → nat_lt y z ≡ true → event_before (Evict c x y) (Evict c x z) ≡ true
 ways-before c x y z e = grind (arith, nat_tests)
 
-sets-before : (c x u : ℕ) (a b : Event) → nat_lt x u ≡ true → EvictAt c x a → EvictAt c u b → before a b ≡ true
+sets-before : (c x u : ℕ) (a b : Event) → nat_lt x u ≡ true → EvictAt c x a → EvictAt c u b → event_before a b ≡ true
 sets-before c x u (Exec d) b e p q = absurd p
 sets-before c x u (Deliver s t k) b e p q = absurd p
 sets-before c x u (Evict d v y) (Exec i) e p q = absurd q
 sets-before c x u (Evict d v y) (Deliver s t k) e p q = absurd q
 sets-before c x u (Evict d v y) (Evict i w z) e p q = grind (arith, nat_tests)
 
-cores-before : (c d : ℕ) (a b : Event) → nat_lt c d ≡ true → EvictOf c a → EvictOf d b → before a b ≡ true
+cores-before : (c d : ℕ) (a b : Event) → nat_lt c d ≡ true → EvictOf c a → EvictOf d b → event_before a b ≡ true
 cores-before c d (Exec i) b e p q = absurd p
 cores-before c d (Deliver s t k) b e p q = absurd p
 cores-before c d (Evict i v y) (Exec j) e p q = absurd q
@@ -59,12 +59,12 @@ sets-of c n m = every-flat (EvictOf c) (λ x. map (Evict c x) (those (λ k. true
     (every-all (λ x. Every (EvictOf c) (map (Evict c x) (those (λ k. true) m))) (those (λ k. true) n)
     (λ x. every-weaken (EvictAt c x) (EvictOf c) (map (Evict c x) (those (λ k. true) m)) (of-at c x) (ways-at c x m)))
 
-ordered-evicts : (sh : Shape) → Ordered before (evicts sh)
+ordered-evicts : (sh : Shape) → Ordered event_before (evicts sh)
 unfolding evicts
 ordered-evicts sh =
-    ordered-flat nat_lt before (λ c. flat_map (λ x. map (Evict c x) (those (λ k. true) sh.ways)) (those (λ k. true) sh.sets)) EvictOf
-    (λ c. ordered-flat nat_lt before (λ x. map (Evict c x) (those (λ k. true) sh.ways)) (EvictAt c)
-    (λ x. ordered-map nat_lt before (Evict c x) (those (λ k. true) sh.ways) (ways-before c x) (ordered-numbers sh.ways))
+    ordered-flat nat_lt event_before (λ c. flat_map (λ x. map (Evict c x) (those (λ k. true) sh.ways)) (those (λ k. true) sh.sets)) EvictOf
+    (λ c. ordered-flat nat_lt event_before (λ x. map (Evict c x) (those (λ k. true) sh.ways)) (EvictAt c)
+    (λ x. ordered-map nat_lt event_before (Evict c x) (those (λ k. true) sh.ways) (ways-before c x) (ordered-numbers sh.ways))
     (λ x. ways-at c x sh.ways)
     (sets-before c)
     (those (λ k. true) sh.sets) (ordered-numbers sh.sets))
@@ -108,17 +108,17 @@ node_eq-same (Core c) = grind (arith, nat_tests)
 node_eq-same (Dir d) = grind (arith, nat_tests)
 node_eq-same Vendor = refl
 
-numbers-before : (n m : Node) (k j : ℕ) → nat_lt k j ≡ true → before (Deliver n m k) (Deliver n m j) ≡ true
+numbers-before : (n m : Node) (k j : ℕ) → nat_lt k j ≡ true → event_before (Deliver n m k) (Deliver n m j) ≡ true
 numbers-before n m k j e = let p = node_eq-same n in let q = node_eq-same m in grind (arith, nat_tests)
 
-links-before : (n m t : Node) (a b : Event) → node_before m t ≡ true → On n m a → On n t b → before a b ≡ true
+links-before : (n m t : Node) (a b : Event) → node_before m t ≡ true → On n m a → On n t b → event_before a b ≡ true
 links-before n m t (Exec i) b e p q = absurd p
 links-before n m t (Evict i v y) b e p q = absurd p
 links-before n m t (Deliver s u k) (Exec i) e p q = absurd q
 links-before n m t (Deliver s u k) (Evict i v y) e p q = absurd q
 links-before n m t (Deliver s u k) (Deliver r v j) e p q = let h = node_eq-same n in rw (p.0, p.1, q.0, q.1) (grind (arith, nat_tests))
 
-sources-before : (n m : Node) (a b : Event) → node_before n m ≡ true → From n a → From m b → before a b ≡ true
+sources-before : (n m : Node) (a b : Event) → node_before n m ≡ true → From n a → From m b → event_before a b ≡ true
 sources-before n m (Exec i) b e p q = absurd p
 sources-before n m (Evict i v y) b e p q = absurd p
 sources-before n m (Deliver s u k) (Exec i) e p q = absurd q
@@ -140,12 +140,12 @@ links-from : (sh : Shape) (w : World) (s : Node) → Every (From s) (flat_map (o
 links-from sh w s = every-flat (From s) (on_link w s) (nodes sh)
     (every-all (λ d. Every (From s) (on_link w s d)) (nodes sh) (λ d. every-weaken (On s d) (From s) (on_link w s d) (from-on s d) (link-on w s d)))
 
-ordered-delivers : (sh : Shape) (w : World) → Ordered before (delivers sh w)
+ordered-delivers : (sh : Shape) (w : World) → Ordered event_before (delivers sh w)
 unfolding delivers
 ordered-delivers sh w =
-    ordered-flat node_before before (λ s. flat_map (on_link w s) (nodes sh)) From
-    (λ s. ordered-flat node_before before (on_link w s) (On s)
-    (λ d. ordered-map nat_lt before (Deliver s d) (those (λ k. true) (length (w.net s d))) (numbers-before s d) (ordered-numbers (length (w.net s d))))
+    ordered-flat node_before event_before (λ s. flat_map (on_link w s) (nodes sh)) From
+    (λ s. ordered-flat node_before event_before (on_link w s) (On s)
+    (λ d. ordered-map nat_lt event_before (Deliver s d) (those (λ k. true) (length (w.net s d))) (numbers-before s d) (ordered-numbers (length (w.net s d))))
     (link-on w s)
     (links-before s)
     (nodes sh) (ordered-nodes sh))
@@ -179,21 +179,21 @@ deliver-from n (Exec d) p = absurd p
 deliver-from n (Evict d x y) p = absurd p
 deliver-from n (Deliver s t k) p = tt
 
-exec-evict : (a b : Event) → IsExec a → IsEvict b → before a b ≡ true
+exec-evict : (a b : Event) → IsExec a → IsEvict b → event_before a b ≡ true
 exec-evict (Exec c) (Evict d x y) p q = refl
 exec-evict (Exec c) (Exec d) p q = absurd q
 exec-evict (Exec c) (Deliver s d k) p q = absurd q
 exec-evict (Evict c x y) b p q = absurd p
 exec-evict (Deliver s d k) b p q = absurd p
 
-exec-deliver : (a b : Event) → IsExec a → IsDeliver b → before a b ≡ true
+exec-deliver : (a b : Event) → IsExec a → IsDeliver b → event_before a b ≡ true
 exec-deliver (Exec c) (Deliver s d k) p q = refl
 exec-deliver (Exec c) (Exec d) p q = absurd q
 exec-deliver (Exec c) (Evict d x y) p q = absurd q
 exec-deliver (Evict c x y) b p q = absurd p
 exec-deliver (Deliver s d k) b p q = absurd p
 
-evict-deliver : (a b : Event) → IsEvict a → IsDeliver b → before a b ≡ true
+evict-deliver : (a b : Event) → IsEvict a → IsDeliver b → event_before a b ≡ true
 evict-deliver (Evict c x y) (Deliver s d k) p q = refl
 evict-deliver (Evict c x y) (Exec d) p q = absurd q
 evict-deliver (Evict c x y) (Evict d u z) p q = absurd q
@@ -216,31 +216,31 @@ every-deliver sh w = every-flat IsDeliver (λ s. flat_map (on_link w s) (nodes s
     (every-all (λ s. Every IsDeliver (flat_map (on_link w s) (nodes sh))) (nodes sh)
     (λ s. every-weaken (From s) IsDeliver (flat_map (on_link w s) (nodes sh)) (deliver-from s) (links-from sh w s)))
 
-each-before : (P Q : Event → Type 0) (xs ys : List Event) → ((a b : Event) → P a → Q b → before a b ≡ true) → Every P xs → Every Q ys → Every (λ a. Every (λ b. before a b ≡ true) ys) xs
-each-before P Q xs ys f h k = every-weaken P (λ a. Every (λ b. before a b ≡ true) ys) xs (λ a p. every-weaken Q (λ b. before a b ≡ true) ys (λ b q. f a b p q) k) h
+each-before : (P Q : Event → Type 0) (xs ys : List Event) → ((a b : Event) → P a → Q b → event_before a b ≡ true) → Every P xs → Every Q ys → Every (λ a. Every (λ b. event_before a b ≡ true) ys) xs
+each-before P Q xs ys f h k = every-weaken P (λ a. Every (λ b. event_before a b ≡ true) ys) xs (λ a p. every-weaken Q (λ b. event_before a b ≡ true) ys (λ b q. f a b p q) k) h
 
-ordered-all : (sh : Shape) (w : World) → Ordered before (execs sh ++ (evicts sh ++ delivers sh w))
-ordered-all sh w = ordered-append before (execs sh) (evicts sh ++ delivers sh w) (ordered-execs sh)
-    (ordered-append before (evicts sh) (delivers sh w) (ordered-evicts sh) (ordered-delivers sh w) (each-before IsEvict IsDeliver (evicts sh) (delivers sh w) evict-deliver (every-evict sh) (every-deliver sh w)))
-    (every-weaken IsExec (λ a. Every (λ b. before a b ≡ true) (evicts sh ++ delivers sh w)) (execs sh)
-    (λ a p. every-append (λ b. before a b ≡ true) (evicts sh) (delivers sh w)
-    (every-weaken IsEvict (λ b. before a b ≡ true) (evicts sh) (λ b q. exec-evict a b p q) (every-evict sh))
-    (every-weaken IsDeliver (λ b. before a b ≡ true) (delivers sh w) (λ b q. exec-deliver a b p q) (every-deliver sh w)))
+ordered-all : (sh : Shape) (w : World) → Ordered event_before (execs sh ++ (evicts sh ++ delivers sh w))
+ordered-all sh w = ordered-append event_before (execs sh) (evicts sh ++ delivers sh w) (ordered-execs sh)
+    (ordered-append event_before (evicts sh) (delivers sh w) (ordered-evicts sh) (ordered-delivers sh w) (each-before IsEvict IsDeliver (evicts sh) (delivers sh w) evict-deliver (every-evict sh) (every-deliver sh w)))
+    (every-weaken IsExec (λ a. Every (λ b. event_before a b ≡ true) (evicts sh ++ delivers sh w)) (execs sh)
+    (λ a p. every-append (λ b. event_before a b ≡ true) (evicts sh) (delivers sh w)
+    (every-weaken IsEvict (λ b. event_before a b ≡ true) (evicts sh) (λ b q. exec-evict a b p q) (every-evict sh))
+    (every-weaken IsDeliver (λ b. event_before a b ≡ true) (delivers sh w) (λ b q. exec-deliver a b p q) (every-deliver sh w)))
     (every-exec sh))
 
-before-all : (e : Event) (es : List Event) → Every (λ f. before e f ≡ true) es → IsBeforeAll e es
+before-all : (e : Event) (es : List Event) → Every (λ f. event_before e f ≡ true) es → IsBeforeAll e es
 before-all e [] h = tt
 before-all e (f ∷ es) h = (h.0, before-all e es h.1)
 
-is-ordered : (es : List Event) → Ordered before es → IsOrdered es
+is-ordered : (es : List Event) → Ordered event_before es → IsOrdered es
 is-ordered [] h = tt
 is-ordered (e ∷ es) h = (before-all e es h.0, is-ordered es h.1)
 
 pub useful-ordered : (sh : Shape) (p : Program) (w : World) → IsOrdered (useful sh p w)
 unfolding useful
-useful-ordered sh p w = is-ordered (filter (is_useful sh p w) (execs sh ++ (evicts sh ++ delivers sh w))) (ordered-filter before (is_useful sh p w) (execs sh ++ (evicts sh ++ delivers sh w)) (ordered-all sh w))
+useful-ordered sh p w = is-ordered (filter (is_useful sh p w) (execs sh ++ (evicts sh ++ delivers sh w))) (ordered-filter event_before (is_useful sh p w) (execs sh ++ (evicts sh ++ delivers sh w)) (ordered-all sh w))
 
-pub before-itself : (e : Event) → before e e ≡ false
+pub before-itself : (e : Event) → event_before e e ≡ false
 before-itself (Exec c) = grind (arith, nat_tests)
 before-itself (Evict c x y) = grind (arith, nat_tests)
 before-itself (Deliver s d k) = let a = node_before-itself s in let b = node_before-itself d in grind (arith, nat_tests)

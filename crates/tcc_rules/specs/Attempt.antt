@@ -36,22 +36,22 @@ new_word (Changes addr changed) x = patched x addr Word (changed (part x addr Wo
 new_word _ x = x
 
 -- one more instruction, with the loaded bytes where there are any
-unfoldable pub stepped : Program → Option ℕ → CoreState → CoreState
-stepped p given s = record s { n = s.n + 1; local = p.after s.local given }
+unfoldable pub one_more_instruction : Program → Option ℕ → CoreState → CoreState
+one_more_instruction p given s = record s { n = s.n + 1; local = p.after s.local given }
 
 -- Finish: the instruction that needed this is done, x being the word that it found, where it looked for one. It is
 -- counted, its load and store are noted, and where it doesn't halt the core, registers and pc advance. An end leaves no
 -- reservation.
 unfoldable pub finished : Program → Need → (x : ℕ) → CoreState → CoreState
-finished p Nothing x s = stepped p None s
-finished p (Loads addr size) x s = record (stepped p (Some (part x addr size)) s) { loads = s.loads ++ load_of addr size (part x addr size) ∷ [] }
-finished p (Stores addr size value) x s = record (stepped p None s) { stores = s.stores ++ store_of addr size value ∷ [] }
-finished p (Changes addr changed) x s = record (stepped p (Some (part x addr Word)) s) {
+finished p Nothing x s = one_more_instruction p None s
+finished p (Loads addr size) x s = record (one_more_instruction p (Some (part x addr size)) s) { loads = s.loads ++ load_of addr size (part x addr size) ∷ [] }
+finished p (Stores addr size value) x s = record (one_more_instruction p None s) { stores = s.stores ++ store_of addr size value ∷ [] }
+finished p (Changes addr changed) x s = record (one_more_instruction p (Some (part x addr Word)) s) {
   loads = s.loads ++ load_of addr Word (part x addr Word) ∷ [];
   stores = s.stores ++ store_of addr Word (changed (part x addr Word)) ∷ [];
 }
-finished p (Prints byte) x s = record (stepped p None s) { console = s.console ++ byte ∷ [] }
-finished p Ends x s = record (stepped p None s) { local = unreserved (p.after s.local None); ended = Ended }
+finished p (Prints byte) x s = record (one_more_instruction p None s) { console = s.console ++ byte ∷ [] }
+finished p Ends x s = record (one_more_instruction p None s) { local = unreserved (p.after s.local None); ended = Ended }
 finished p (Halts code) x s = record s { n = s.n + 1; local = unreserved s.local; ended = HaltedWith code }
 finished p (Traps code) x s = record s { n = s.n + 1; local = unreserved s.local; ended = TrappedWith code }
 

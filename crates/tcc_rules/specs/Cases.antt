@@ -7,7 +7,7 @@ use Rattle.tcc_rules.specs.State.{Running}
 use Rattle.tcc_rules.specs.Rows.{e, x, d, c0, c1, d0, d1, v}
 use Rattle.tcc_rules.specs.Needs.{lw, sw, sb}
 use Rattle.tcc_rules.specs.Told.{Told, machine, Tells}
-use Rattle.tcc_rules.specs.Names.{commit, stands, got, wrote}
+use Rattle.tcc_rules.specs.Names.{noted_commit, stands, got, wrote}
 
 -- a load request waits for the core's own last commit there, and the line that it is for isn't evicted
 abbrev pub own_commit_first_events : List Event
@@ -16,7 +16,7 @@ own_commit_first_events =
 
 abbrev pub own_commit_first : Told
 own_commit_first = record {
-  commits = commit 1 0 2 [] (wrote 0 4 ∷ []) [] ∷ [];
+  commits = noted_commit 1 0 2 [] (wrote 0 4 ∷ []) [] ∷ [];
   cores = stands 2 [] Running Goes [] ∷ stands 16 [] Running Goes [] ∷ [];
   words = (0, 4) ∷ [];
   useful = e 1 ∷ d c0 d0 1 ∷ [];
@@ -38,8 +38,9 @@ keeps_nothing_events =
 abbrev pub keeps_nothing : Told
 keeps_nothing = record {
   commits =
-      commit 1 1 9 [] (wrote 0 20 ∷ wrote 1 21 ∷ wrote 2 22 ∷ wrote 3 23 ∷ wrote 4 24 ∷ wrote 5 25 ∷ wrote 6 26 ∷ wrote 7 27 ∷ []) [] ∷
-      commit 2 1 2 [] (wrote 0 3 ∷ []) [] ∷ [];
+      noted_commit 1 1 9 []
+      (wrote 0 20 ∷ wrote 1 21 ∷ wrote 2 22 ∷ wrote 3 23 ∷ wrote 4 24 ∷ wrote 5 25 ∷ wrote 6 26 ∷ wrote 7 27 ∷ []) [] ∷
+      noted_commit 2 1 2 [] (wrote 0 3 ∷ []) [] ∷ [];
   cores = stands 0 [] Running Goes [] ∷ stands 27 [] Running Goes [] ∷ [];
   words = (0, 3) ∷ (1, 21) ∷ (2, 22) ∷ (3, 23) ∷ (4, 24) ∷ (5, 25) ∷ (6, 26) ∷ (7, 27) ∷ [];
   useful = e 0 ∷ e 1 ∷ x 1 0 0 ∷ [];
@@ -61,7 +62,7 @@ abort_goes_first_events =
 
 abbrev pub abort_goes_first : Told
 abort_goes_first = record {
-  commits = commit 1 1 2 [] (wrote 0 9 ∷ []) [] ∷ [];
+  commits = noted_commit 1 1 2 [] (wrote 0 9 ∷ []) [] ∷ [];
   cores = stands 0 [] Running Goes [] ∷ stands 18 [] Running Goes [] ∷ [];
   words = (0, 9) ∷ [];
   useful = e 0 ∷ e 1 ∷ x 1 0 0 ∷ d c0 d0 3 ∷ [];
@@ -81,7 +82,7 @@ spilled_words_leave_events =
 
 abbrev pub spilled_words_leave : Told
 spilled_words_leave = record {
-  commits = commit 1 0 4 (got 1 101 ∷ []) (wrote 0 5 ∷ wrote 8 6 ∷ []) [] ∷ [];
+  commits = noted_commit 1 0 4 (got 1 101 ∷ []) (wrote 0 5 ∷ wrote 8 6 ∷ []) [] ∷ [];
   cores = stands 4 (101 ∷ []) Running Goes [] ∷ stands 16 [] Running Goes [] ∷ [];
   words = (0, 5) ∷ (8, 6) ∷ [];
   useful = e 1 ∷ d c0 d0 2 ∷ d c0 d0 3 ∷ [];
@@ -101,7 +102,7 @@ abort_clears_marks_events =
 
 abbrev pub abort_clears_marks : Told
 abort_clears_marks = record {
-  commits = commit 1 1 2 [] (wrote 8 4 ∷ []) [] ∷ [];
+  commits = noted_commit 1 1 2 [] (wrote 8 4 ∷ []) [] ∷ [];
   cores = stands 0 [] Running Goes [] ∷ stands 18 [] Running Goes [] ∷ [];
   words = (8, 4) ∷ [];
   useful = e 0 ∷ x 1 0 0 ∷ d c0 d1 1 ∷ d c0 d1 3 ∷ d c1 d0 1 ∷ [];
@@ -123,8 +124,9 @@ owner_asked_anew_events =
 abbrev pub owner_asked_anew : Told
 owner_asked_anew = record {
   commits =
-      commit 1 0 2 [] (wrote 0 3 ∷ []) [] ∷
-      commit 2 1 9 [] (wrote 0 20 ∷ wrote 1 21 ∷ wrote 2 22 ∷ wrote 3 23 ∷ wrote 4 24 ∷ wrote 5 25 ∷ wrote 6 26 ∷ wrote 7 27 ∷ []) [] ∷
+      noted_commit 1 0 2 [] (wrote 0 3 ∷ []) [] ∷
+      noted_commit 2 1 9 []
+      (wrote 0 20 ∷ wrote 1 21 ∷ wrote 2 22 ∷ wrote 3 23 ∷ wrote 4 24 ∷ wrote 5 25 ∷ wrote 6 26 ∷ wrote 7 27 ∷ []) [] ∷
       [];
   cores = stands 2 [] Running Goes [] ∷ stands 25 [] Running Goes [] ∷ [];
   words = (0, 20) ∷ (1, 21) ∷ (2, 22) ∷ (3, 23) ∷ (4, 24) ∷ (5, 25) ∷ (6, 26) ∷ (7, 27) ∷ [];

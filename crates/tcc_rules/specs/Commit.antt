@@ -26,17 +26,17 @@ noted t id s = record {
 }
 
 -- after a halt or a trap a core has halted, else it runs on
-abbrev pub phase_after : Outcome → Phase
-phase_after Goes = Running
-phase_after Ended = Running
-phase_after (HaltedWith code) = Halted
-phase_after (TrappedWith code) = Halted
+abbrev pub phase_after_commit : Outcome → Phase
+phase_after_commit Goes = Running
+phase_after_commit Ended = Running
+phase_after_commit (HaltedWith code) = Halted
+phase_after_commit (TrappedWith code) = Halted
 
-abbrev pub ended_after : Outcome → Outcome
-ended_after Goes = Goes
-ended_after Ended = Goes
-ended_after (HaltedWith code) = HaltedWith code
-ended_after (TrappedWith code) = TrappedWith code
+abbrev pub ended_after_commit : Outcome → Outcome
+ended_after_commit Goes = Goes
+ended_after_commit Ended = Goes
+ended_after_commit (HaltedWith code) = HaltedWith code
+ended_after_commit (TrappedWith code) = TrappedWith code
 
 -- modified words are dirty with the commit's tag, marks are cleared, the checkpoint is where the core stands, and its
 -- attempt is empty
@@ -48,22 +48,22 @@ committed_core t s = record s {
   loads = [];
   stores = [];
   console = [];
-  ended = ended_after s.ended;
-  phase = phase_after s.ended;
+  ended = ended_after_commit s.ended;
+  phase = phase_after_commit s.ended;
 }
 
--- to each written directory how many lines were marked there
+-- to each written directory Commit, with the number of its modified lines
 unfoldable pub commit_sends : Shape → Cache → (tid : ℕ) → Sends
 commit_sends sh c t = to_dirs sh (λ d. when (writes_at sh c d) (Commit t (count_below (λ l. d == home sh l && is_modified c l) (lines sh)) ∷ []))
 
--- the core's last commit at each directory
-unfoldable pub after_commit : (written : ℕ → Bool) → (tid : ℕ) → (ℕ → ℕ) → ℕ → ℕ
-after_commit written t after d = if written d then t else after d
+-- the core's last commit at each directory, once it has committed where it wrote
+unfoldable pub with_last_commit : (written : ℕ → Bool) → (tid : ℕ) → (last : ℕ → ℕ) → ℕ → ℕ
+with_last_commit written t last d = if written d then t else last d
 
 -- Commit: the commit point of a transaction whose directories all serve its TID
 unfoldable pub commit : Shape → (core tid : ℕ) → CoreState → Out
 commit sh id t s = record {
-  core = record (committed_core t s) { after = after_commit (writes_at sh s.cache) t s.after };
+  core = record (committed_core t s) { last_commit = with_last_commit (writes_at sh s.cache) t s.last_commit };
   sends = commit_sends sh s.cache t;
   commit = Some (noted t id s);
 }
@@ -72,26 +72,28 @@ commit sh id t s = record {
 unfoldable pub is_written : Cache → Spilled → ℕ → Bool
 is_written c sp l = is_modified c l || holds sp l
 
+-- the words of such a line
 unfoldable pub written_mask : Cache → Spilled → ℕ → ℕ
 written_mask c sp l = mask_of (λ k. c.modified (word_at l k) || is_some (sp (word_at l k)))
 
+-- the directory is the home of such a line
 unfoldable pub solo_writes_at : Shape → Cache → Spilled → ℕ → Bool
 solo_writes_at sh c sp d = any_below (λ l. d == home sh l && is_written c sp l) (lines sh)
 
--- a mark for each line and then the commit, where lines were written, else a skip
-unfoldable pub solo_marks : Shape → Cache → Spilled → (tid dir : ℕ) → List Msg
-solo_marks sh c sp t d =
+-- to a directory: where lines at home there were written, a Mark for each of them by rising line and then Commit; else Skip
+unfoldable pub solo_marks_or_skip : Shape → Cache → Spilled → (tid dir : ℕ) → List Msg
+solo_marks_or_skip sh c sp t d =
     if solo_writes_at sh c sp d
     then flat_map (λ l. Mark l (written_mask c sp l) t ∷ []) (those (λ l. d == home sh l && is_written c sp l) (lines sh))
     ++ Commit t (count_below (λ l. d == home sh l && is_written c sp l) (lines sh)) ∷ []
     else Skip t ∷ []
 
--- the spilled lines at home there, rising
-unfoldable pub solo_backs : Shape → Spilled → (tid dir : ℕ) → List Msg
-solo_backs sh sp t d = flat_map (λ l. WriteBack l (spilled_mask sp l) (spilled_words sp l) t ∷ []) (those (λ l. d == home sh l && holds sp l) (lines sh))
+-- and behind that a WriteBack for each spilled line at home there, by rising line
+unfoldable pub solo_write_backs : Shape → Spilled → (tid dir : ℕ) → List Msg
+solo_write_backs sh sp t d = flat_map (λ l. WriteBack l (spilled_mask sp l) (spilled_words sp l) t ∷ []) (those (λ l. d == home sh l && holds sp l) (lines sh))
 
 unfoldable pub solo_sends : Shape → Cache → Spilled → (tid : ℕ) → Sends
-solo_sends sh c sp t = to_dirs sh (λ d. solo_marks sh c sp t d ++ solo_backs sh sp t d)
+solo_sends sh c sp t = to_dirs sh (λ d. solo_marks_or_skip sh c sp t d ++ solo_write_backs sh sp t d)
 
 -- Solo commit: marks, commits and the spilled words go out at once; what was spilled has no valid word in a frame
 unfoldable pub solo_commit : Shape → (core tid : ℕ) → CoreState → Out
@@ -99,7 +101,7 @@ solo_commit sh id t s = record {
   core = record (committed_core t s) {
     cache = committed t (words_dropped s.spilled s.cache);
     spilled = none_spilled;
-    after = after_commit (solo_writes_at sh s.cache s.spilled) t s.after;
+    last_commit = with_last_commit (solo_writes_at sh s.cache s.spilled) t s.last_commit;
   };
   sends = solo_sends sh s.cache s.spilled t;
   commit = Some (noted t id s);

@@ -5,19 +5,19 @@ use Rattle.tcc_maps.specs.Cache.{is_marked}
 use Rattle.tcc_maps.specs.CacheChange.{evicted}
 use Rattle.tcc_maps.specs.Spilled.{spill_line}
 use Rattle.tcc_rules.specs.State.{CoreState, Awaited}
-use Rattle.tcc_rules.specs.Sends.{written_back}
+use Rattle.tcc_rules.specs.Sends.{write_back_line}
 use Rattle.tcc_rules.specs.Attempt.{Out, moves, is_solo}
 
 abbrev pub is_awaited : Option Awaited → ℕ → Bool
 is_awaited None l = false
 is_awaited (Some a) l = a.line == l
 
--- an awaited line stays, and a marked one does unless the core is alone
+-- not enabled where the way holds no line, where its line is awaited, and where it is marked unless the core is alone
 abbrev pub evict_line : Shape → (set way : ℕ) → CoreState → Option ℕ → Option Out
 evict_line sh x y s None = None
 evict_line sh x y s (Some l) =
     if is_awaited s.awaited l || (is_marked s.cache l && not (is_solo s.phase)) then None
-    else Some (moves (record s { cache = evicted x y s.cache; spilled = spill_line l s.cache s.spilled }) (written_back sh s.cache l))
+    else Some (moves (record s { cache = evicted x y s.cache; spilled = spill_line l s.cache s.spilled }) (write_back_line sh s.cache l))
 
 unfoldable pub core_evict : Shape → (set way : ℕ) → CoreState → Option Out
 core_evict sh x y s = evict_line sh x y s (s.cache.at x y)

@@ -12,15 +12,16 @@ abbrev pub unless_awaiting : Shape → Program → (core : ℕ) → CoreState �
 unless_awaiting sh p id s (Some a) = None
 unless_awaiting sh p id s None = execute sh p id s
 
-abbrev pub exec_phase : Shape → Program → (core : ℕ) → CoreState → Phase → Option Out
-exec_phase sh p id s Running = unless_awaiting sh p id s s.awaited
-exec_phase sh p id s (Solo t) = unless_awaiting sh p id s s.awaited
-exec_phase sh p id s (Ready t) = Some (commit sh id t s)
-exec_phase sh p id s AwaitTid = None
-exec_phase sh p id s DoomedTid = None
-exec_phase sh p id s (Probing t) = None
-exec_phase sh p id s (Overflowing t) = None
-exec_phase sh p id s Halted = None
+-- a core that runs or is alone executes an instruction, one that is ready commits; in other phases Exec isn't enabled
+abbrev pub exec_in_phase : Shape → Program → (core : ℕ) → CoreState → Phase → Option Out
+exec_in_phase sh p id s Running = unless_awaiting sh p id s s.awaited
+exec_in_phase sh p id s (Solo t) = unless_awaiting sh p id s s.awaited
+exec_in_phase sh p id s (Ready t) = Some (commit sh id t s)
+exec_in_phase sh p id s AwaitTid = None
+exec_in_phase sh p id s DoomedTid = None
+exec_in_phase sh p id s (Probing t) = None
+exec_in_phase sh p id s (Overflowing t) = None
+exec_in_phase sh p id s Halted = None
 
 unfoldable pub core_exec : Shape → Program → (core : ℕ) → CoreState → Option Out
-core_exec sh p id s = exec_phase sh p id s s.phase
+core_exec sh p id s = exec_in_phase sh p id s s.phase

@@ -7,7 +7,7 @@ use Rattle.tcc_maps.specs.Nodes.{Core, Dir, Vendor, Msg, TidReq, TidGrant, LoadR
 use Rattle.tcc_maps.specs.Shape.{Shape, lines}
 use Rattle.tcc_maps.specs.Serving.{advance, skipped, kept}
 use Rattle.tcc_maps.specs.Lines.{Lines, with_sharer, with_owner, with_asked, with_mark, unmarked, has_mark}
-use Rattle.tcc_maps.specs.Judge.{Judgement, judge, Takes as IsTaken, Drops as IsDropped, Waits as IsEarly}
+use Rattle.tcc_maps.specs.Judge.{Judgement, judge, Current, Outdated, TooEarly}
 use Rattle.tcc_rules.specs.State.{DirState}
 use Rattle.tcc_rules.specs.Sends.{Sends, nothing, to}
 
@@ -23,57 +23,60 @@ pub data Answer : Type 0 where
 unfoldable pub moved_on : DirState → DirState
 moved_on s = record s { lines = unmarked s.lines; serving = advance s.serving }
 
--- Skip: a larger TID is kept as skipped, the served one advances
+-- Skip: dropped below the served TID; else the served TID is passed, or a larger one is kept as skipped
 unfoldable pub skip : (tid : ℕ) → DirState → Answer
 skip t s = if nat_lt t s.serving.serving then Drops else Takes (record s { serving = skipped t s.serving }) nothing
 
--- Abort: a larger TID is kept as skipped, the served one clears all marks and advances
+-- Abort: dropped below the served TID; at the served TID the directory moves on; a larger one is kept as skipped
 unfoldable pub abort : (tid : ℕ) → DirState → Answer
 abort t s =
     if nat_lt t s.serving.serving then Drops
     else if s.serving.serving == t then Takes (moved_on s) nothing
     else Takes (record s { serving = kept t s.serving }) nothing
 
--- Probe: answered once the TID is served or passed
+-- Probe: waits until the TID is served or passed, and is answered with the served TID
 unfoldable pub probe : (core tid : ℕ) → DirState → Answer
 probe c t s = if nat_lt s.serving.serving t then Waits else Takes s (to (Core c) (ProbeReply t s.serving.serving ∷ []))
 
--- the owner is asked for its data, once
+-- a message that needs the line's data waits, and asks the owner for them once
 unfoldable pub ask_owner : (owner line : ℕ) → DirState → Answer
 ask_owner o l s =
     if s.lines.asked l then Waits
     else Asks (record s { lines = with_asked l true s.lines }) (to (Core o) (DataReq l ∷ []))
 
 -- the words of a line
-unfoldable pub line_words : DirState → ℕ → List ℕ
-line_words s l = eight (λ k. s.words (word_at l k))
+unfoldable pub home_words : DirState → ℕ → List ℕ
+home_words s l = eight (λ k. s.words (word_at l k))
 
--- Load request: waits for the core's own last commit here and while the line is marked; a line without owner is filled
-abbrev pub load_owned : (core line : ℕ) → DirState → Option ℕ → Answer
-load_owned c l s (Some o) = ask_owner o l s
-load_owned c l s None = Takes (record s { lines = with_sharer l c true s.lines }) (to (Core c) (Fill l (line_words s l) ∷ []))
+-- a line that is owned is asked for; else the sender joins the sharers, and the line goes to it
+abbrev pub load_unless_owned : (core line : ℕ) → DirState → Option ℕ → Answer
+load_unless_owned c l s (Some o) = ask_owner o l s
+load_unless_owned c l s None = Takes (record s { lines = with_sharer l c true s.lines }) (to (Core c) (Fill l (home_words s l) ∷ []))
 
+-- Load request: waits until the core's own last commit here has been served, and while the line is marked
 unfoldable pub load_request : (core line after : ℕ) → DirState → Answer
 load_request c l after s =
     if nat_le s.serving.serving after || has_mark s.lines l then Waits
-    else load_owned c l s (s.lines.owner l)
+    else load_unless_owned c l s (s.lines.owner l)
 
--- Mark: by the served TID; a line that is owned and not wholly overwritten is asked for first
-abbrev pub marking : (line mask : ℕ) → DirState → Answer
-marking l m s = Takes (record s { lines = with_mark l m s.lines }) nothing
+-- the line's mark becomes the mask
+abbrev pub mark_taken : (line mask : ℕ) → DirState → Answer
+mark_taken l m s = Takes (record s { lines = with_mark l m s.lines }) nothing
 
-abbrev pub mark_owned : (line mask : ℕ) → DirState → Option ℕ → Answer
-mark_owned l m s None = marking l m s
-mark_owned l m s (Some o) = ask_owner o l s
+-- a line that is owned is asked for first
+abbrev pub mark_unless_owned : (line mask : ℕ) → DirState → Option ℕ → Answer
+mark_unless_owned l m s None = mark_taken l m s
+mark_unless_owned l m s (Some o) = ask_owner o l s
 
+-- Mark: dropped below the served TID, waits above it; an owned line is asked for first, unless all its words are marked
 unfoldable pub mark : (line mask tid : ℕ) → DirState → Answer
 mark l m t s =
     if nat_lt t s.serving.serving then Drops
     else if nat_lt s.serving.serving t then Waits
-    else if m == full then marking l m s
-    else mark_owned l m s (s.lines.owner l)
+    else if m == full then mark_taken l m s
+    else mark_unless_owned l m s (s.lines.owner l)
 
--- a line that is marked by the commit of c is invalidated at each other sharer
+-- a marked line is invalidated at each sharer other than c, which commits
 unfoldable pub is_invalidated : Shape → Lines → (core sharer line : ℕ) → Bool
 is_invalidated sh ls c j l = nat_lt j sh.cores && has_mark ls l && ls.sharers l j && not (j == c)
 
@@ -87,17 +90,17 @@ invalidations sh ls c t (Dir d) = []
 invalidations sh ls c t Vendor = []
 
 -- the sum of f over the numbers below n
-unfoldable pub total : (ℕ → ℕ) → ℕ → ℕ
-total f zero = 0
-total f (suc n) = total f n + f n
+unfoldable pub sum_below : (ℕ → ℕ) → ℕ → ℕ
+sum_below f zero = 0
+sum_below f (suc n) = sum_below f n + f n
 
--- how many they are
-unfoldable pub owed_by : Shape → Lines → (core : ℕ) → ℕ
-owed_by sh ls c = total (λ j. count_below (is_invalidated sh ls c j) (lines sh)) sh.cores
+-- how many Invs these are
+unfoldable pub invalidation_count : Shape → Lines → (core : ℕ) → ℕ
+invalidation_count sh ls c = sum_below (λ j. count_below (is_invalidated sh ls c j) (lines sh)) sh.cores
 
 -- each marked line is owned by the committer, with the commit's tag; other sharers stay until they acknowledge
-unfoldable pub owned : (core tid : ℕ) → Lines → Lines
-owned c t ls = record ls {
+unfoldable pub owned_by_committer : (core tid : ℕ) → Lines → Lines
+owned_by_committer c t ls = record ls {
   sharers = λ l j. (if has_mark ls l && j == c then true else ls.sharers l j);
   owner = λ l. (if has_mark ls l then Some c else ls.owner l);
   tag = λ l. (if has_mark ls l then t else ls.tag l);
@@ -105,38 +108,43 @@ owned c t ls = record ls {
 }
 
 -- the directory moves on once nothing is owed
-unfoldable pub settled : DirState → DirState
-settled s = if s.owed == 0 then moved_on s else s
+unfoldable pub moved_on_if_settled : DirState → DirState
+moved_on_if_settled s = if s.owed == 0 then moved_on s else s
 
--- Commit: of the served TID, once all its lines are marked
-unfoldable pub commit : Shape → (core tid count : ℕ) → DirState → Answer
-commit sh c t count s =
+-- Commit: waits until its TID is served and all its lines are marked; then other sharers are invalidated, and as many acknowledgements
+-- are owed
+unfoldable pub dir_commit : Shape → (core tid count : ℕ) → DirState → Answer
+dir_commit sh c t count s =
     if s.serving.serving == t && count_below (has_mark s.lines) (lines sh) == count
-    then Takes (settled (record s { lines = owned c t s.lines; owed = owed_by sh s.lines c })) (invalidations sh s.lines c t)
+    then Takes (moved_on_if_settled (record s { lines = owned_by_committer c t s.lines; owed = invalidation_count sh s.lines c }))
+    (invalidations sh s.lines c t)
     else Waits
 
+-- the sender leaves the sharers, unless it keeps a word of the line
 abbrev pub unless_keeps : Bool → (core line : ℕ) → Lines → Lines
 unless_keeps true c l ls = ls
 unless_keeps false c l ls = with_sharer l c false ls
 
--- Acknowledgement: one less is owed
+-- Acknowledgement: unless it keeps a word the sender leaves the sharers; one less is owed, and with the last the directory moves on
 unfoldable pub acknowledgement : (core line : ℕ) → (keeps : Bool) → DirState → Answer
 acknowledgement c l keeps s =
     if s.owed == 0 then Drops
-    else Takes (settled (record s { lines = unless_keeps keeps c l s.lines; owed = s.owed - 1 })) nothing
+    else Takes (moved_on_if_settled (record s { lines = unless_keeps keeps c l s.lines; owed = s.owed - 1 })) nothing
 
--- Write-back: the masked home words are those that came, and the line has no owner
+-- the masked home words are those that came, and the line has no owner and isn't asked
 unfoldable pub came_home : (line mask : ℕ) → (words : List ℕ) → DirState → DirState
 came_home l m ws s = record s {
   words = λ w. (if hit l m w then get_or ws (place_of w) 0 else s.words w);
   lines = with_asked l false (with_owner l None s.lines);
 }
 
+-- too early: it waits; current: it comes home; outdated: it is dropped
 abbrev pub judged : (line mask : ℕ) → (words : List ℕ) → DirState → Judgement → Answer
-judged l m ws s IsEarly = Waits
-judged l m ws s IsTaken = Takes (came_home l m ws s) nothing
-judged l m ws s IsDropped = Drops
+judged l m ws s TooEarly = Waits
+judged l m ws s Current = Takes (came_home l m ws s) nothing
+judged l m ws s Outdated = Drops
 
+-- Write-back and flush: by the tag, and by whether the sender owns the line
 unfoldable pub write_back : (core line mask : ℕ) → (words : List ℕ) → (tag : ℕ) → DirState → Answer
 write_back c l m ws g s = judged l m ws s (judge (s.lines.owner l) (s.lines.tag l) c g)
 
@@ -147,7 +155,7 @@ dir_deliver sh s c (Abort t) = abort t s
 dir_deliver sh s c (Probe t) = probe c t s
 dir_deliver sh s c (LoadReq l after) = load_request c l after s
 dir_deliver sh s c (Mark l m t) = mark l m t s
-dir_deliver sh s c (Commit t count) = commit sh c t count s
+dir_deliver sh s c (Commit t count) = dir_commit sh c t count s
 dir_deliver sh s c (InvAck l keeps) = acknowledgement c l keeps s
 dir_deliver sh s c (WriteBack l m ws g) = write_back c l m ws g s
 dir_deliver sh s c (Flush l m ws g) = write_back c l m ws g s

@@ -9,7 +9,7 @@ use Rattle.tcc_rules.specs.Step.{Stepped, History, step, run}
 use Rattle.tcc_rules.specs.Seen.{IsDone}
 use Rattle.tcc_rules.specs.Local.{at_node}
 use Rattle.tcc_rules.specs.Picked.{picked}
-use Rattle.tcc_rules.specs.Useful.{is_useful, useful, before}
+use Rattle.tcc_rules.specs.Useful.{is_useful, useful, event_before}
 
 -- a link after an event: as it was, with what the node sent at its end; only the node's own links grow
 abbrev pub Grows : (at src : Node) → (old new : Link) → Type 0
@@ -41,7 +41,7 @@ IsIn e (f ∷ fs) = (f ≡ e) ⊎ IsIn e fs
 -- an event stands before each of a list
 abbrev pub IsBeforeAll : Event → List Event → Type 0
 IsBeforeAll e [] = Unit {0}
-IsBeforeAll e (f ∷ fs) = (before e f ≡ true) × IsBeforeAll e fs
+IsBeforeAll e (f ∷ fs) = (event_before e f ≡ true) × IsBeforeAll e fs
 
 -- each event of a list stands before all behind it
 abbrev pub IsOrdered : List Event → Type 0
@@ -57,7 +57,7 @@ UsefulOrdered = (sh : Shape) (p : Program) (w : World) → IsOrdered (useful sh 
 
 -- no event is before itself
 abbrev pub NotBeforeItself : Type 0
-NotBeforeItself = (e : Event) → before e e ≡ false
+NotBeforeItself = (e : Event) → event_before e e ≡ false
 
 -- each useful event is enabled
 abbrev pub UsefulEnabled : Type 0

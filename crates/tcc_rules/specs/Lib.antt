@@ -1,4 +1,5 @@
 -- The protocol as definitions, to be read in this order beside docs/PROTOCOL.md, which has each rule in words and names its definition.
+-- A definition stands below those that it uses, so a rule is the last of its group, and what comes before it are its cases.
 --
 -- The notation, as far as it is needed to read on:
 --   `f : A → B → C` and `f a b`           a function of two arguments, and its value; `A → Bool` is a set, `A → B` also a table

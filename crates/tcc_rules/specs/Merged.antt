@@ -14,14 +14,14 @@ Each P [] = Unit {0}
 Each P (e ∷ es) = P e × Each P es
 
 -- the message that an entry stores under a name is the one that the source's log sends under it, and came from an earlier stamp
-abbrev pub StoredOf : (Node → Side) → Entry → Event → Type 0
-StoredOf sides e (Deliver src dst k) =
+abbrev pub StoresMessageOf : (Node → Side) → Entry → Event → Type 0
+StoresMessageOf sides e (Deliver src dst k) =
     IsSomeAnd (slice_get ((sides src).sent dst) k) (λ mail. (e.msg ≡ Some mail.msg) × (e.msg_stamp ≡ mail.stamp) × (mail.stamp < e.stamp))
-StoredOf sides e (Exec c) = Unit {0}
-StoredOf sides e (Evict c x y) = Unit {0}
+StoresMessageOf sides e (Exec c) = Unit {0}
+StoresMessageOf sides e (Evict c x y) = Unit {0}
 
-abbrev pub IsStored : (Node → Side) → Entry → Type 0
-IsStored sides e = StoredOf sides e e.event
+abbrev pub StoresItsMessage : (Node → Side) → Entry → Type 0
+StoresItsMessage sides e = StoresMessageOf sides e e.event
 
 -- along a log stamps rise
 abbrev pub Rises : List Entry → Type 0
@@ -31,7 +31,7 @@ Rises (e ∷ es) = Each (λ f. e.stamp < f.stamp) es × Rises es
 -- Fitting logs, one for each node: each has a local run, stores what was sent, and its stamps rise
 pub record Fit (sh : Shape) (p : Program) (w : World) (logs : Node → List Entry) (sides : Node → Side) : Type 0 where
   pub locals : (n : Node) → is_node sh n ≡ true → local sh p n (logs n) (side_start (state_at w n)) ≡ Some (sides n)
-  pub stored : (n : Node) → is_node sh n ≡ true → Each (IsStored sides) (logs n)
+  pub stored : (n : Node) → is_node sh n ≡ true → Each (StoresItsMessage sides) (logs n)
   pub rises : (n : Node) → is_node sh n ≡ true → Rises (logs n)
 
 abbrev pub is_at : Node → Entry → Bool

@@ -37,12 +37,12 @@ unfoldable pub need_at : Codes → (pc : ℕ) → Need
 need_at codes pc = slice_index_or (slice_index_or codes (pc / 16) []) (pc % 16) (Traps 1)
 
 -- the registers are the values that were loaded, the last one first
-unfoldable pub goes_on : Local → Option ℕ → Local
-goes_on s None = record s { pc = s.pc + 1 }
-goes_on s (Some x) = record s { pc = s.pc + 1; regs = x ∷ s.regs }
+unfoldable pub needs_after : Local → Option ℕ → Local
+needs_after s None = record s { pc = s.pc + 1 }
+needs_after s (Some x) = record s { pc = s.pc + 1; regs = x ∷ s.regs }
 
 unfoldable pub needs : Codes → Program
-needs codes = record { need = λ s. need_at codes s.pc; after = goes_on }
+needs codes = record { need = λ s. need_at codes s.pc; after = needs_after }
 
 unfoldable pub entry : (core : ℕ) → Local
 entry c = record { regs = []; pc = 16 * c; reserved = None }

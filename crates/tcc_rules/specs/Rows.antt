@@ -9,7 +9,7 @@ use Rattle.tcc_maps.specs.Shape.{Shape}
 use Rattle.tcc_rules.specs.State.{start}
 use Rattle.tcc_rules.specs.Step.{History, run}
 use Rattle.tcc_rules.specs.Seen.{seen, numbers}
-use Rattle.tcc_rules.specs.Small.{Inst, Lui, Lw, Sw, Bne, Ebreak, Ecall, small, entry, ram_base}
+use Rattle.tcc_rules.specs.Small.{Inst, Lui, Lw, Sw, Bne, Ebreak, Ecall, small, image_entry, image_base}
 
 -- as in a schedule's text: d c0 v 0 is a delivery of message 0 from core 0 to the vendor
 abbrev pub e : ℕ → Event
@@ -37,12 +37,12 @@ abbrev pub v : Node
 v = Vendor
 
 -- two cores, 16 sets of two ways; 512 bytes of RAM are enough for these
-abbrev pub machine : (dirs : ℕ) → Shape
-machine n = record { cores = 2; dirs = n; sets = 16; ways = 2; base = ram_base; ram = 512 }
+abbrev pub two_cores : (dirs : ℕ) → Shape
+two_cores n = record { cores = 2; dirs = n; sets = 16; ways = 2; base = image_base; ram = 512 }
 
 -- caches of a single frame
 abbrev pub small_machine : Shape
-small_machine = record { cores = 2; dirs = 2; sets = 1; ways = 1; base = ram_base; ram = 512 }
+small_machine = record { cores = 2; dirs = 2; sets = 1; ways = 1; base = image_base; ram = 512 }
 
 -- what an image holds, its words and its instructions
 pub record Image : Type 0 where
@@ -118,17 +118,17 @@ unfoldable pub both_code : Image → Image → List (Option Inst)
 both_code a b = padded None 8 a.code ++ b.code
 
 abbrev pub entries : ℕ → Local
-entries c = entry c 2 (ram_base + 32 * c)
+entries c = image_entry c 2 (image_base + 32 * c)
 
 -- what is reported of a committed transaction: its TID, core, length and loads (address and value)
-pub record Told : Type 0 where
+pub record ReportedCommit : Type 0 where
   pub tid : ℕ
   pub core : ℕ
   pub n : ℕ
   pub loads : List (ℕ × ℕ)
 
-abbrev pub told : Noted → Told
-told c = record { tid = c.tid.0; core = c.core.0; n = c.n; loads = map (λ (l : Load). (l.addr, l.value)) c.loads }
+abbrev pub reported_commit : Noted → ReportedCommit
+reported_commit c = record { tid = c.tid.0; core = c.core.0; n = c.n; loads = map (λ (l : Load). (l.addr, l.value)) c.loads }
 
 -- a register or a word and its value
 abbrev pub Pairs : Type 0
@@ -140,24 +140,24 @@ changed old new [] = []
 changed old new (k ∷ ks) = if old k == new k then changed old new ks else (k, new k) ∷ changed old new ks
 
 -- a core's committed pc and registers that aren't zero
-pub record ToldCore : Type 0 where
+pub record ReportedCore : Type 0 where
   pub pc : ℕ
   pub regs : Pairs
 
-abbrev pub told_core : Local → ToldCore
-told_core s = record { pc = s.pc; regs = changed (λ r. 0) (slice_index s.regs) (numbers 32) }
+abbrev pub reported_core : Local → ReportedCore
+reported_core s = record { pc = s.pc; regs = changed (λ r. 0) (slice_index s.regs) (numbers 32) }
 
 pub record Report : Type 0 where
-  pub commits : List Told
-  pub first : ToldCore
-  pub second : ToldCore
+  pub commits : List ReportedCommit
+  pub first : ReportedCore
+  pub second : ReportedCore
   pub words : Pairs  -- the words that are not as they were loaded, and what is seen there
 
 unfoldable pub report : Shape → (ram : ℕ → ℕ) → History → Report
 report sh ram h = record {
-  commits = map told h.commits;
-  first = told_core (h.world.cores 0).saved;
-  second = told_core (h.world.cores 1).saved;
+  commits = map reported_commit h.commits;
+  first = reported_core (h.world.cores 0).saved;
+  second = reported_core (h.world.cores 1).saved;
   words = changed ram (seen sh h.world) (numbers 48);
 }
 

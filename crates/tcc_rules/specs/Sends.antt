@@ -30,20 +30,20 @@ abbrev pub when : Bool → List Msg → List Msg
 when b ms = if b then ms else []
 
 -- words that go home, where there are any
-abbrev pub write_back : Option Tagged → List Msg
-write_back None = []
-write_back (Some t) = WriteBack t.line t.mask t.words t.tag ∷ []
+abbrev pub write_back_of : Option Tagged → List Msg
+write_back_of None = []
+write_back_of (Some t) = WriteBack t.line t.mask t.words t.tag ∷ []
 
-abbrev pub flush : Option Tagged → List Msg
-flush None = []
-flush (Some t) = Flush t.line t.mask t.words t.tag ∷ []
+abbrev pub flush_of : Option Tagged → List Msg
+flush_of None = []
+flush_of (Some t) = Flush t.line t.mask t.words t.tag ∷ []
 
 -- the dirty words of a line go to its home, and a frame is emptied or goes on
-unfoldable pub written_back : Shape → Cache → ℕ → Sends
-written_back sh c l = to (Dir (home sh l)) (write_back (dirty_copy c l))
+unfoldable pub write_back_line : Shape → Cache → ℕ → Sends
+write_back_line sh c l = to (Dir (home sh l)) (write_back_of (dirty_copy c l))
 
-unfoldable pub flushed : Shape → Cache → ℕ → Sends
-flushed sh c l = to (Dir (home sh l)) (flush (dirty_copy c l))
+unfoldable pub flush_line : Shape → Cache → ℕ → Sends
+flush_line sh c l = to (Dir (home sh l)) (flush_of (dirty_copy c l))
 
 -- to every directory
 unfoldable pub skip_all : Shape → ℕ → Sends

@@ -12,12 +12,12 @@ pub data Inst : Type 0 where
   Ebreak : Inst
   Ecall : Inst
 
-abbrev pub ram_base : ℕ
-ram_base = 2147483648
+abbrev pub image_base : ℕ
+image_base = 2147483648
 
 -- the instruction at pc; the lists' items are the images' instructions by their words
 unfoldable pub at_pc : List (Option Inst) → ℕ → Option Inst
-at_pc code pc = unwrap_or (slice_get code ((pc - ram_base) / 4)) None
+at_pc code pc = unwrap_or (slice_get code ((pc - image_base) / 4)) None
 
 unfoldable pub address : Local → (base offset : ℕ) → ℕ
 address s base offset = (register s.regs base + offset) % 2 ^ 32
@@ -50,5 +50,5 @@ small code = record {
 }
 
 -- core c of n begins at pc with x10 = c and x11 = n
-unfoldable pub entry : (core cores pc : ℕ) → Local
-entry c n pc = record { regs = slice_set (slice_set zeroed 10 c) 11 n; pc = pc; reserved = None }
+unfoldable pub image_entry : (core cores pc : ℕ) → Local
+image_entry c n pc = record { regs = slice_set (slice_set zeroed 10 c) 11 n; pc = pc; reserved = None }

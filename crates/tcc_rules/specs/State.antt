@@ -40,7 +40,7 @@ pub record CoreState : Type 0 where
   pub cache : Cache
   pub spilled : Spilled
   pub awaited : Option Awaited
-  pub after : ℕ → ℕ  -- for each directory the TID of the core's last commit there, or 0
+  pub last_commit : ℕ → ℕ  -- for each directory the TID of the core's last commit there, or 0
 
 pub record DirState : Type 0 where
   pub words : ℕ → ℕ  -- the home words
@@ -72,7 +72,7 @@ core_start local = record {
   cache = empty_cache;
   spilled = none_spilled;
   awaited = None;
-  after = λ d. 0;
+  last_commit = λ d. 0;
 }
 
 unfoldable pub dir_start : (ℕ → ℕ) → DirState

@@ -42,13 +42,13 @@ dir_asks w d s sends = record w { dirs = put w.dirs d s; net = sending w.net (Di
 unfoldable pub vendor_gives : World → (core k : ℕ) → Granted → World
 vendor_gives w c k g = record w { next = g.next; net = sending (taking w.net (Core c) Vendor k) Vendor g.sends }
 
-abbrev pub moved : World → (core : ℕ) → Option Out → Option Stepped
-moved w c None = None
-moved w c (Some o) = Some (record { world = core_moves w c o; noted = o.commit })
+abbrev pub if_core_moves : World → (core : ℕ) → Option Out → Option Stepped
+if_core_moves w c None = None
+if_core_moves w c (Some o) = Some (record { world = core_moves w c o; noted = o.commit })
 
-abbrev pub taken : World → (src : Node) → (core k : ℕ) → Option Out → Option Stepped
-taken w src c k None = None
-taken w src c k (Some o) = Some (record { world = core_takes w src c k o; noted = o.commit })
+abbrev pub if_core_takes : World → (src : Node) → (core k : ℕ) → Option Out → Option Stepped
+if_core_takes w src c k None = None
+if_core_takes w src c k (Some o) = Some (record { world = core_takes w src c k o; noted = o.commit })
 
 abbrev pub answered : World → (core dir k : ℕ) → Answer → Option Stepped
 answered w c d k Waits = None
@@ -56,15 +56,15 @@ answered w c d k Drops = Some (record { world = dir_takes w c d k (w.dirs d) (λ
 answered w c d k (Asks s sends) = Some (record { world = dir_asks w d s sends; noted = None })
 answered w c d k (Takes s sends) = Some (record { world = dir_takes w c d k s sends; noted = None })
 
-abbrev pub granted : World → (core k : ℕ) → Option Granted → Option Stepped
-granted w c k None = None
-granted w c k (Some g) = Some (record { world = vendor_gives w c k g; noted = None })
+abbrev pub if_vendor_gives : World → (core k : ℕ) → Option Granted → Option Stepped
+if_vendor_gives w c k None = None
+if_vendor_gives w c k (Some g) = Some (record { world = vendor_gives w c k g; noted = None })
 
 -- the message that is delivered, by its destination
 abbrev pub delivered : Shape → World → (src dst : Node) → (k : ℕ) → Msg → Option Stepped
-delivered sh w src (Core c) k m = taken w src c k (core_deliver sh (w.cores c) src m)
+delivered sh w src (Core c) k m = if_core_takes w src c k (core_deliver sh (w.cores c) src m)
 delivered sh w (Core c) (Dir d) k m = answered w c d k (dir_deliver sh (w.dirs d) c m)
-delivered sh w (Core c) Vendor k m = granted w c k (vendor_deliver w.next c m)
+delivered sh w (Core c) Vendor k m = if_vendor_gives w c k (vendor_deliver w.next c m)
 delivered sh w (Dir e) (Dir d) k m = None
 delivered sh w Vendor (Dir d) k m = None
 delivered sh w (Dir e) Vendor k m = None
@@ -89,8 +89,8 @@ names_nodes sh (Deliver src dst k) = is_node sh src && is_node sh dst
 
 -- by the kind of event
 unfoldable pub happens : Shape → Program → World → Event → Option Stepped
-happens sh p w (Exec c) = moved w c (core_exec sh p c (w.cores c))
-happens sh p w (Evict c x y) = moved w c (core_evict sh x y (w.cores c))
+happens sh p w (Exec c) = if_core_moves w c (core_exec sh p c (w.cores c))
+happens sh p w (Evict c x y) = if_core_moves w c (core_evict sh x y (w.cores c))
 happens sh p w (Deliver src dst k) = if_in_flight sh w src dst k (in_flight w.net src dst k)
 
 -- the one state after an event; None: the event isn't enabled
@@ -118,8 +118,8 @@ abbrev pub recorded : History → Option Stepped → Option History
 recorded h None = None
 recorded h (Some o) = Some (record { world = o.world; commits = and_noted o.noted h.commits })
 
-unfoldable pub next : Shape → Program → History → Event → Option History
-next sh p h e = recorded h (step sh p h.world e)
+unfoldable pub next_history : Shape → Program → History → Event → Option History
+next_history sh p h e = recorded h (step sh p h.world e)
 
 abbrev pub and_then : (History → Option History) → Option History → Option History
 and_then f None = None
@@ -128,7 +128,7 @@ and_then f (Some h) = f h
 -- the events one after another, each enabled where it comes
 unfoldable pub run_from : Shape → Program → List Event → History → Option History
 run_from sh p [] h = Some h
-run_from sh p (e ∷ es) h = and_then (run_from sh p es) (next sh p h e)
+run_from sh p (e ∷ es) h = and_then (run_from sh p es) (next_history sh p h e)
 
 unfoldable pub run : Shape → Program → World → List Event → Option History
 run sh p w es = run_from sh p es (record { world = w; commits = [] })

@@ -49,9 +49,9 @@ room_in_phase sh p s _ = None
 unfoldable pub room : Shape → Program → CoreState → Option ℕ
 room sh p s = room_in_phase sh p s s.phase
 
-abbrev pub is_set : Option ℕ → ℕ → Bool
-is_set None x = false
-is_set (Some y) x = y == x
+abbrev pub is_this_set : Option ℕ → ℕ → Bool
+is_this_set None x = false
+is_this_set (Some y) x = y == x
 
 -- the way holds a line with modified or dirty words
 abbrev pub holds_written : Cache → Option ℕ → Bool
@@ -61,7 +61,7 @@ holds_written c (Some l) = is_modified c l || is_dirty c l
 -- to empty a frame is of use where words leave it or a core waits for room there
 abbrev pub is_of_use : Shape → Program → World → Event → Bool
 is_of_use sh p w (Exec c) = true
-is_of_use sh p w (Evict c x y) = holds_written (w.cores c).cache ((w.cores c).cache.at x y) || is_set (room sh p (w.cores c)) x
+is_of_use sh p w (Evict c x y) = holds_written (w.cores c).cache ((w.cores c).cache.at x y) || is_this_set (room sh p (w.cores c)) x
 is_of_use sh p w (Deliver src dst k) = true
 
 unfoldable pub is_useful : Shape → Program → World → Event → Bool
@@ -94,11 +94,11 @@ node_before (Dir c) Vendor = true
 node_before Vendor _ = false
 
 -- the order of events
-abbrev pub before : Event → Event → Bool
-before (Exec c) (Exec d) = nat_lt c d
-before (Exec c) _ = true
-before (Evict c x y) (Exec d) = false
-before (Evict c x y) (Evict d u v) = nat_lt c d || (c == d && (nat_lt x u || (x == u && nat_lt y v)))
-before (Evict c x y) (Deliver s d k) = true
-before (Deliver s d k) (Deliver t e m) = node_before s t || (node_eq s t && (node_before d e || (node_eq d e && nat_lt k m)))
-before (Deliver s d k) _ = false
+abbrev pub event_before : Event → Event → Bool
+event_before (Exec c) (Exec d) = nat_lt c d
+event_before (Exec c) _ = true
+event_before (Evict c x y) (Exec d) = false
+event_before (Evict c x y) (Evict d u v) = nat_lt c d || (c == d && (nat_lt x u || (x == u && nat_lt y v)))
+event_before (Evict c x y) (Deliver s d k) = true
+event_before (Deliver s d k) (Deliver t e m) = node_before s t || (node_eq s t && (node_before d e || (node_eq d e && nat_lt k m)))
+event_before (Deliver s d k) _ = false

@@ -28,7 +28,7 @@ unfoldable pub use Rattle.tcc_maps.specs.Cache.{writes_at, is_modified, modified
 unfoldable pub use Rattle.tcc_maps.specs.Cache.{is_dirty, reads_at, dirty_copy, keeps, empty_cache, dirty_words, first_of_line}
 unfoldable pub use Rattle.tcc_maps.specs.CacheChange.{evicted, read_cleared, filled, marked, cleaned, stored, invalidated, placed}
 unfoldable pub use Rattle.tcc_maps.specs.CacheChange.{committed, rolled_back, evicted_line, placed_at, words_dropped}
-pub use Rattle.tcc_maps.specs.Judge.{Drops as IsDropped, Takes as IsTaken, Waits as IsEarly, is_owner}
+pub use Rattle.tcc_maps.specs.Judge.{Outdated, Current, TooEarly, is_owner}
 unfoldable pub use Rattle.tcc_maps.specs.Judge.{judge}
 pub use Rattle.tcc_maps.specs.Lines.{has_mark, Lines}
 unfoldable pub use Rattle.tcc_maps.specs.Lines.{with_asked, no_lines, with_sharer, unmarked, with_mark, with_owner}
@@ -49,37 +49,43 @@ pub use Rattle.tcc_maps.proofs.Lemmas.{filled-keeps, first-skips, invalidated-ke
 pub use Rattle.tcc_maps.proofs.Lemmas.{read_cleared-keeps, rolled_back-keeps, stored-keeps, value-evicted, value-placed}
 pub use Rattle.tcc_maps.proofs.Lemmas.{words_dropped-keeps}
 pub use Rattle.tcc_rules.specs.Attempt.{Out, moves, is_solo, new_word, is_running}
-unfoldable pub use Rattle.tcc_rules.specs.Attempt.{finished, stepped, roll_back}
+unfoldable pub use Rattle.tcc_rules.specs.Attempt.{finished, one_more_instruction, roll_back}
 unfoldable pub use Rattle.tcc_rules.specs.Commit.{commit, committed_core, noted, solo_sends, is_written, commit_sends, solo_writes_at}
-unfoldable pub use Rattle.tcc_rules.specs.Commit.{written_mask, solo_commit, solo_backs, solo_marks, after_commit}
-pub use Rattle.tcc_rules.specs.Commit.{phase_after, ended_after}
-pub use Rattle.tcc_rules.specs.CoreDeliver.{from_dir, grant_phase, ignored, all_replied, replied, reply_phase, violated_in, when_alone}
-pub use Rattle.tcc_rules.specs.CoreDeliver.{when_ready, fill_awaited, probing, staled, is_above}
+unfoldable pub use Rattle.tcc_rules.specs.Commit.{written_mask, solo_commit, solo_write_backs, solo_marks_or_skip, with_last_commit}
+pub use Rattle.tcc_rules.specs.Commit.{phase_after_commit, ended_after_commit}
+pub use Rattle.tcc_rules.specs.CoreDeliver.{from_dir, grant_in_phase, ignored, all_replied, replied, reply_in_phase, violated_in_phase}
+pub use Rattle.tcc_rules.specs.CoreDeliver.{solo_once_replied}
+pub use Rattle.tcc_rules.specs.CoreDeliver.{ready_once_replied, fill_awaited, probing_or_ready, staled, may_be_above}
 unfoldable pub use Rattle.tcc_rules.specs.CoreDeliver.{grant, data_request, probe_reply, fill, invalidate, is_violated, acknowledged}
-unfoldable pub use Rattle.tcc_rules.specs.CoreDeliver.{if_violated, without, grant_sends, is_probed, core_deliver}
+unfoldable pub use Rattle.tcc_rules.specs.CoreDeliver.{if_violated, words_invalidated, grant_sends, is_probed, core_deliver}
 pub use Rattle.tcc_rules.specs.CoreEvict.{is_awaited, evict_line}
 unfoldable pub use Rattle.tcc_rules.specs.CoreEvict.{core_evict}
-pub use Rattle.tcc_rules.specs.CoreExec.{exec_phase, unless_awaiting}
+pub use Rattle.tcc_rules.specs.CoreExec.{exec_in_phase, unless_awaiting}
 unfoldable pub use Rattle.tcc_rules.specs.CoreExec.{core_exec}
-pub use Rattle.tcc_rules.specs.DirDeliver.{Asks, Answer, Drops, Takes, Waits, load_owned, judged, mark_owned, marking, unless_keeps}
-unfoldable pub use Rattle.tcc_rules.specs.DirDeliver.{dir_deliver, write_back, invalidations, owed_by, owned, settled, ask_owner}
+pub use Rattle.tcc_rules.specs.DirDeliver.{Asks, Answer, Drops, Takes, Waits, load_unless_owned, judged, mark_unless_owned, mark_taken}
+pub use Rattle.tcc_rules.specs.DirDeliver.{unless_keeps}
+unfoldable pub use Rattle.tcc_rules.specs.DirDeliver.{dir_deliver, write_back, invalidations, invalidation_count, owned_by_committer}
+unfoldable pub use Rattle.tcc_rules.specs.DirDeliver.{moved_on_if_settled, ask_owner}
 unfoldable pub use Rattle.tcc_rules.specs.DirDeliver.{load_request, abort, acknowledgement, mark, moved_on, probe, skip, came_home, invs_to}
-unfoldable pub use Rattle.tcc_rules.specs.DirDeliver.{is_invalidated, total, line_words}
-pub use Rattle.tcc_rules.specs.Execute.{close, execute_need, also_read, change_spilled, change_valid, load_spilled, load_valid}
-unfoldable pub use Rattle.tcc_rules.specs.Execute.{execute, load, partial_store, word_store, ask, buffered, fetch, framed, full_set}
-unfoldable pub use Rattle.tcc_rules.specs.Execute.{overflow, place, used}
+unfoldable pub use Rattle.tcc_rules.specs.DirDeliver.{is_invalidated, sum_below, home_words}
+pub use Rattle.tcc_rules.specs.Execute.{end_transaction, execute_need, marks_read, change_spilled, change_valid, load_spilled, load_valid}
+unfoldable pub use Rattle.tcc_rules.specs.Execute.{execute, load, partial_store, word_store, request_line, stored_in_buffer, miss}
+unfoldable pub use Rattle.tcc_rules.specs.Execute.{stored_in_frame, full_set}
+unfoldable pub use Rattle.tcc_rules.specs.Execute.{overflow, place, with_read_mark}
 pub use Rattle.tcc_rules.specs.Links.{in_flight}
 unfoldable pub use Rattle.tcc_rules.specs.Links.{sent_all}
 pub use Rattle.tcc_rules.specs.Seen.{Copy, numbers, copy_in, copy_of}
 unfoldable pub use Rattle.tcc_rules.specs.Seen.{seen, copies, copies_of, copies_on, home_copy, newest}
-pub use Rattle.tcc_rules.specs.Sends.{to, Sends, nothing, flush, to_dirs, when}
-unfoldable pub use Rattle.tcc_rules.specs.Sends.{marks_for, flushed, written_back, skip_all, abort_written, probe_all}
+pub use Rattle.tcc_rules.specs.Sends.{to, Sends, nothing, flush_of, to_dirs, when}
+unfoldable pub use Rattle.tcc_rules.specs.Sends.{marks_for, flush_line, write_back_line, skip_all, abort_written, probe_all}
 pub use Rattle.tcc_rules.specs.State.{World, CoreState, DirState, Halted, Ready, Solo, Phase, DoomedTid, Overflowing, Running, AwaitTid}
 pub use Rattle.tcc_rules.specs.State.{Probing, Awaited, Link}
 unfoldable pub use Rattle.tcc_rules.specs.State.{start, core_start, dir_start, vendor_start}
-pub use Rattle.tcc_rules.specs.Step.{History, and_noted, Stepped, recorded, and_then, if_in_flight, delivered, is_node, moved, taken}
+pub use Rattle.tcc_rules.specs.Step.{History, and_noted, Stepped, recorded, and_then, if_in_flight, delivered, is_node, if_core_moves}
+pub use Rattle.tcc_rules.specs.Step.{if_core_takes}
 pub use Rattle.tcc_rules.specs.Step.{answered}
-unfoldable pub use Rattle.tcc_rules.specs.Step.{core_moves, step, core_takes, dir_takes, dir_asks, vendor_gives, insert_commit, run, next}
+unfoldable pub use Rattle.tcc_rules.specs.Step.{core_moves, step, core_takes, dir_takes, dir_asks, vendor_gives, insert_commit, run}
+unfoldable pub use Rattle.tcc_rules.specs.Step.{next_history}
 unfoldable pub use Rattle.tcc_rules.specs.Step.{run_from, happens, names_nodes}
 pub use Rattle.tcc_attempt.proofs.Lemmas.{hit-line, hit-reads, valid-held, attempts-fit, patched-small, start-follows}
 pub use Rattle.tcc_attempt.specs.Follows.{Uses, Agrees, Reaches, FollowsIn, HasEnded, IsSmall, NeedFits, used_by, EndFits, Fits, used_at}

@@ -58,8 +58,8 @@ stored_there sh c d x = (x.core.0 == c) && stores_at sh d x.stores
 
 -- What a core notes of a directory is the greatest TID of its commits that stored there, or 0; a load request to there carries it.
 pub record AfterOf (sh : Shape) (cs : List Noted) (c d : ℕ) (v : Pair) : Type 0 where
-  pub last : v.core.after d ≡ last_of (stored_there sh c d) cs
-  pub carried : live (LoadNot (v.core.after d)) v.out ≡ 0
+  pub last : v.core.last_commit d ≡ last_of (stored_there sh c d) cs
+  pub carried : live (LoadNot (v.core.last_commit d)) v.out ≡ 0
 
 abbrev pub KeptAfter : Shape → World → List Noted → Type 0
 KeptAfter sh w cs = (c d : ℕ) → c < sh.cores → d < sh.dirs → AfterOf sh cs c d (pair w c d)

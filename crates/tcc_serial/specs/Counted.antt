@@ -2,7 +2,7 @@
 use Rattle.std.specs.Prelude.{ℕ, ◌≡◌, ◌<◌, ◌≤◌, nat_lt}
 use Rattle.tcc_maps.specs.Words.{num}
 use Rattle.tcc_maps.specs.Shape.{Shape, lines}
-use Rattle.tcc_rules.specs.DirDeliver.{total}
+use Rattle.tcc_rules.specs.DirDeliver.{sum_below}
 use Rattle.tcc_rules.specs.State.{World}
 use Rattle.tcc_serial.specs.Count.{MarkOf, CommitOf, live}
 use Rattle.tcc_serial.specs.Marks.{marks_of}
@@ -11,7 +11,7 @@ use Rattle.tcc_serial.specs.Pairs.{Pair, pair}
 -- one Mark at most of each line, and so many of them
 pub record CountsMarks (sh : Shape) (n t : ℕ) (v : Pair) : Type 0 where
   pub each : (l : ℕ) → marks_of t l v ≤ num (nat_lt l (lines sh))
-  pub sum : total (λ l. marks_of t l v) (lines sh) ≡ n
+  pub sum : sum_below (λ l. marks_of t l v) (lines sh) ≡ n
 
 -- A Commit in flight counts the Marks of its TID, and while acknowledgements are owed none of the served TID is in flight.
 pub record CountedOf (sh : Shape) (d t : ℕ) (v : Pair) : Type 0 where

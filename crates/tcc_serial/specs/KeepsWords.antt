@@ -4,7 +4,7 @@ use Rattle.tcc_program.specs.Plain.{Plain}
 use Rattle.tcc_program.specs.Program.{Local, Program}
 use Rattle.tcc_maps.specs.Nodes.{Event}
 use Rattle.tcc_maps.specs.Shape.{Shape}
-use Rattle.tcc_rules.specs.Step.{History, next}
+use Rattle.tcc_rules.specs.Step.{History, next_history}
 use Rattle.tcc_attempt.specs.Follows.{Uses}
 use Rattle.tcc_serial.specs.Aim.{Suits}
 use Rattle.tcc_serial.specs.Invariants.{Carried, Invariants}
@@ -17,4 +17,4 @@ use Rattle.tcc_serial.specs.Ways.{Ways, ways_after, sent_by}
 abbrev pub EventsKeepWords : Type 0
 EventsKeepWords =
     (sh : Shape) (p : Program) (entries : ℕ → Local) (ram : ℕ → ℕ) (gs : List Grant) (ys : Ways) (views : ℕ → Uses) (m : Plain) (h : History) (e : Event) → Suits sh p ram → Invariants sh p entries ram gs ys views m h
-    → IfSome (next sh p h e) (λ g. Carried sh (gs ++ granted_by h.world e) (ways_after (sent_by sh p h.world e) ys) g → UnmodifiedWords sh ram g.world g.commits × FilledWords sh ram g.world g.commits)
+    → IfSome (next_history sh p h e) (λ g. Carried sh (gs ++ granted_by h.world e) (ways_after (sent_by sh p h.world e) ys) g → UnmodifiedWords sh ram g.world g.commits × FilledWords sh ram g.world g.commits)

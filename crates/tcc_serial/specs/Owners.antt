@@ -7,7 +7,7 @@ use Rattle.tcc_maps.specs.Nodes.{Core, Vendor, Event, Deliver, Msg, TidReq}
 use Rattle.tcc_maps.specs.Shape.{Shape}
 use Rattle.tcc_rules.specs.State.{World}
 use Rattle.tcc_rules.specs.Links.{in_flight}
-use Rattle.tcc_rules.specs.Step.{History, next}
+use Rattle.tcc_rules.specs.Step.{History, next_history}
 use Rattle.tcc_serial.specs.Count.{Grants, Commits, Invs, live}
 use Rattle.tcc_serial.specs.Pairs.{Pair, pair, sum_of}
 use Rattle.tcc_serial.specs.Tids.{has_tid}
@@ -33,7 +33,7 @@ then_grants gs more (Some h) = gs ++ more h
 -- what is granted along a run, in order
 unfoldable pub grants_from : Shape → Program → List Event → History → List Grant
 grants_from sh p [] h = []
-grants_from sh p (e ∷ es) h = then_grants (granted_by h.world e) (grants_from sh p es) (next sh p h e)
+grants_from sh p (e ∷ es) h = then_grants (granted_by h.world e) (grants_from sh p es) (next_history sh p h e)
 
 -- the TIDs are n, n + 1, and so on
 unfoldable pub IsNumbered : (n : ℕ) → List Grant → Type 0

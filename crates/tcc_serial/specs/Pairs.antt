@@ -2,7 +2,7 @@
 -- Every event changes few of these pairs, and each invariant speaks of one pair or is a sum over the cores.
 use Rattle.std.specs.Prelude.{ℕ, ◌+◌, List, [], ◌∷◌, ◌++◌, set, None}
 use Rattle.tcc_maps.specs.Nodes.{Core, Dir, Vendor, Msg, TidGrant}
-use Rattle.tcc_rules.specs.DirDeliver.{total}
+use Rattle.tcc_rules.specs.DirDeliver.{sum_below}
 use Rattle.tcc_rules.specs.State.{CoreState, DirState, World, Link}
 use Rattle.tcc_rules.specs.Links.{sent_all}
 use Rattle.tcc_rules.specs.Attempt.{Out}
@@ -58,4 +58,4 @@ unfoldable pub share : (Pair → ℕ) → World → (dir : ℕ) → (core : ℕ)
 share f w d c = f (pair w c d)
 
 abbrev pub sum_of : (Pair → ℕ) → (cores : ℕ) → World → (dir : ℕ) → ℕ
-sum_of f n w d = total (share f w d) n
+sum_of f n w d = sum_below (share f w d) n

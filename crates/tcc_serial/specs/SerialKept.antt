@@ -4,7 +4,7 @@ use Rattle.tcc_program.specs.Plain.{Plain}
 use Rattle.tcc_program.specs.Program.{Local, Program}
 use Rattle.tcc_maps.specs.Nodes.{Event}
 use Rattle.tcc_maps.specs.Shape.{Shape}
-use Rattle.tcc_rules.specs.Step.{History, next}
+use Rattle.tcc_rules.specs.Step.{History, next_history}
 use Rattle.tcc_attempt.specs.Follows.{Uses}
 use Rattle.tcc_serial.specs.Aim.{Suits}
 use Rattle.tcc_serial.specs.Commits.{CommitsSerial, CoresSerial, SeenSerial}
@@ -23,7 +23,7 @@ pub record IsSerial (sh : Shape) (p : Program) (entries : ℕ → Local) (ram : 
 abbrev pub EventsKeepSerial : Type 0
 EventsKeepSerial =
     (sh : Shape) (p : Program) (entries : ℕ → Local) (ram : ℕ → ℕ) (gs : List Grant) (ys : Ways) (views : ℕ → Uses) (m : Plain) (h : History) (e : Event)
-    → Suits sh p ram → Invariants sh p entries ram gs ys views m h → IfSome (next sh p h e) (IsSerial sh p entries ram)
+    → Suits sh p ram → Invariants sh p entries ram gs ys views m h → IfSome (next_history sh p h e) (IsSerial sh p entries ram)
 
 -- In a state that has the facts on TIDs, lines, copies and values, what is seen of each word is what the plain machine has after the
 -- commits.

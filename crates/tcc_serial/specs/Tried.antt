@@ -8,11 +8,11 @@ use Rattle.tcc_maps.specs.Lines.{Lines, with_sharer, with_owner, with_tag}
 use Rattle.tcc_maps.specs.Nodes.{Event}
 use Rattle.tcc_maps.specs.Shape.{Shape, home, lines}
 use Rattle.tcc_rules.specs.CoreEvict.{is_awaited}
-use Rattle.tcc_rules.specs.Rows.{Image, machine, small_machine, stores_second, stores_both, stores_base, stores_line, loads_then_stores, copies_word, both_words, both_code, entries}
+use Rattle.tcc_rules.specs.Rows.{Image, two_cores, small_machine, stores_second, stores_both, stores_base, stores_line, loads_then_stores, copies_word, both_words, both_code, entries}
 use Rattle.tcc_rules.specs.Schedules.{before_the_fill, over_a_read, over_a_dirty_owner, alone_after_overflow}
 use Rattle.tcc_rules.specs.Small.{small}
 use Rattle.tcc_rules.specs.State.{World, start}
-use Rattle.tcc_rules.specs.Step.{History, next, run}
+use Rattle.tcc_rules.specs.Step.{History, next_history, run}
 use Rattle.tcc_serial.specs.Copies.{KeptTags, KeptAbove, KeptOwned, KeptSharers, settled_in_line, stored_there, copies_with, holds_line}
 use Rattle.tcc_serial.specs.Count.{LoadOf, LoadNot, FillOf, FillNot, Commits, CopyMask, CopyNot, InvWord, GoneOf, live}
 use Rattle.tcc_serial.specs.Invariants.{first_state}
@@ -30,7 +30,8 @@ unfoldable pub tag_test : Shape → History → (dir line : ℕ) → Bool
 tag_test sh h d l = (h.world.dirs d).lines.tag l == last_of (settled_in_line sh h.world d l) h.commits
 
 unfoldable pub after_test : Shape → History → (core dir : ℕ) → Pair → Bool
-after_test sh h c d v = (v.core.after d == last_of (stored_there sh c d) h.commits) && (live (LoadNot (v.core.after d)) v.out == 0)
+after_test sh h c d v =
+    (v.core.last_commit d == last_of (stored_there sh c d) h.commits) && (live (LoadNot (v.core.last_commit d)) v.out == 0)
 
 unfoldable pub loading_test : Shape → (dir line : ℕ) → Pair → Bool
 loading_test sh d l v = live (LoadOf l) v.out + live (FillOf l) v.back == num (is_awaited v.core.awaited l && home sh l == d)
@@ -70,7 +71,7 @@ then_along f (Some h) = f h
 -- in each state along a run
 unfoldable pub along : Shape → Program → (ℕ → ℕ) → List Event → History → Bool
 along sh p ram [] h = tests sh ram h
-along sh p ram (e ∷ es) h = tests sh ram h && then_along (along sh p ram es) (next sh p h e)
+along sh p ram (e ∷ es) h = tests sh ram h && then_along (along sh p ram es) (next_history sh p h e)
 
 -- a run of two images from the start
 abbrev pub HoldsOn : Shape → Image → Image → List Event → Type 0
@@ -78,7 +79,7 @@ HoldsOn sh a b es = along sh (small (both_code a b)) (flat (both_words a b)) es 
 
 -- two cores and two directories, four lines
 abbrev pub tried : Shape
-tried = record (machine 2) { ram = 128 }
+tried = record (two_cores 2) { ram = 128 }
 
 -- core 0 stores a word; core 1 asked for it before, loses it, reads it anew from core 0 and stores another
 abbrev pub TriedFill : Type 0
@@ -90,7 +91,7 @@ TriedRead = HoldsOn tried loads_then_stores stores_second over_a_read
 
 -- one directory: a whole line is stored over a dirty owner, whose write-back comes too late
 abbrev pub TriedOwner : Type 0
-TriedOwner = HoldsOn (record (machine 1) { ram = 160 }) stores_base stores_line over_a_dirty_owner
+TriedOwner = HoldsOn (record (two_cores 1) { ram = 160 }) stores_base stores_line over_a_dirty_owner
 
 -- caches of one frame: a core goes on alone and spills what it stored
 abbrev pub TriedAlone : Type 0

@@ -13,7 +13,7 @@ use Rattle.tcc_rules.specs.Attempt.{Out}
 use Rattle.tcc_rules.specs.CoreExec.{core_exec}
 use Rattle.tcc_rules.specs.CoreEvict.{core_evict}
 use Rattle.tcc_rules.specs.CoreDeliver.{core_deliver}
-use Rattle.tcc_rules.specs.Step.{History, next}
+use Rattle.tcc_rules.specs.Step.{History, next_history}
 use Rattle.tcc_serial.specs.Count.{Grants, Skips, Aborts, Commits, live, among}
 use Rattle.tcc_serial.specs.Pairs.{Pair, sum_of}
 use Rattle.tcc_serial.specs.Tids.{opens}
@@ -61,7 +61,7 @@ then_ways ys more (Some h) = more h
 -- the ways after a run, from those before it
 unfoldable pub ways_from : Shape → Program → List Event → Ways → History → Ways
 ways_from sh p [] ys h = ys
-ways_from sh p (e ∷ es) ys h = then_ways ys (ways_from sh p es (ways_after (sent_by sh p h.world e) ys)) (next sh p h e)
+ways_from sh p (e ∷ es) ys h = then_ways ys (ways_from sh p es (ways_after (sent_by sh p h.world e) ys)) (next_history sh p h e)
 
 -- no TID has come to its core yet
 abbrev pub first_ways : Ways

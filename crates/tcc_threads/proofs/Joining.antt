@@ -14,7 +14,7 @@ use Rattle.tcc_msg.specs.Plain.{event_of}
 use Rattle.tcc_msg.specs.declared.event.Event.{Event}
 use Rattle.tcc_program.specs.Program.{Program}
 use Rattle.tcc_rules.specs.Laws.{EndsUseless}
-use Rattle.tcc_rules.specs.Step.{History, and_then, next, run, run_from}
+use Rattle.tcc_rules.specs.Step.{History, and_then, next_history, run, run_from}
 use Rattle.tcc_rules.specs.Useful.{useful}
 use Rattle.tcc_rules.proofs.Picked.{PicksRun, picked-runs}
 use Rattle.tcc_threads.specs.Joined.{IsJoined, first_useful}
@@ -25,7 +25,7 @@ run-behind : (sh : Settings) (p : Program) (es fs : List RuleEvent) (h : History
     → run_from sh p (es ++ fs) h ≡ and_then (run_from sh p fs) (run_from sh p es h)
 unfolding run_from
 run-behind sh p [] fs h = refl
-run-behind sh p (e ∷ es) fs h = go (next sh p h e) (λ g. run-behind sh p es fs g)
+run-behind sh p (e ∷ es) fs h = go (next_history sh p h e) (λ g. run-behind sh p es fs g)
   where
     go : (o : Option History) → ((g : History) → run_from sh p (es ++ fs) g ≡ and_then (run_from sh p fs) (run_from sh p es g))
         → and_then (run_from sh p (es ++ fs)) o ≡ and_then (run_from sh p fs) (and_then (run_from sh p es) o)

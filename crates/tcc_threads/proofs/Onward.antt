@@ -13,7 +13,7 @@ use Rattle.tcc_pick.proofs.Lemmas.{Same, Takes, chosen-at, chosen-none, took-mor
 use Rattle.tcc_refine.specs.Refined.{Refined}
 use Rattle.tcc_rules.specs.Picked.{after_step, chosen, pick, picked}
 use Rattle.tcc_rules.specs.State.{World}
-use Rattle.tcc_rules.specs.Step.{History, Stepped, next, recorded, step}
+use Rattle.tcc_rules.specs.Step.{History, Stepped, next_history, recorded, step}
 use Rattle.tcc_rules.specs.Useful.{useful}
 use Rattle.tcc_threads.specs.Going.{goes_on}
 
@@ -59,9 +59,9 @@ leads-to h (Some s) g rest e = ap rest (ap (of s.world) e)
     of w (Some g) = g.world
 
 goes-one : (k : ℕ) (m n : Machine) (e : Event) → first_of m ≡ Some e
-    → next (settings_of m) (program_of m) (history_of m) e ≡ Some (history_of n) → n.cores.code ≡ m.cores.code
+    → next_history (settings_of m) (program_of m) (history_of m) e ≡ Some (history_of n) → n.cores.code ≡ m.cores.code
     → goes_on (suc k) m ≡ e ∷ goes_on k n
-unfolding next history_of
+unfolding next_history history_of
 goes-one k m n e c s code = goes-first k m
     ∙ ap (pick (settings_of m) (program_of m) (world_of m) (picked (settings_of m) (program_of m) (replicate k 0))) c
     ∙ ap (λ es. e ∷ es) (leads-to (record { world = world_of m; commits = m.commits }) (step (settings_of m) (program_of m) (world_of m) e)

@@ -7,7 +7,7 @@ use Rattle.tcc_rules.specs.State.{Running, Solo, Halted}
 use Rattle.tcc_rules.specs.Rows.{e, x, d, c0, d0, d1, v}
 use Rattle.tcc_rules.specs.Needs.{lw, sw, sb, add}
 use Rattle.tcc_rules.specs.Told.{Told, machine, Tells}
-use Rattle.tcc_rules.specs.Names.{commit, stands, got, wrote}
+use Rattle.tcc_rules.specs.Names.{noted_commit, stands, got, wrote}
 
 -- a core that is alone has no read marks
 abbrev pub unmarked_alone_events : List Event
@@ -36,7 +36,7 @@ spilled_word_loaded_events =
 
 abbrev pub spilled_word_loaded : Told
 spilled_word_loaded = record {
-  commits = commit 1 0 5 (got 1 101 ∷ got 0 5 ∷ []) (wrote 0 5 ∷ wrote 8 6 ∷ []) [] ∷ [];
+  commits = noted_commit 1 0 5 (got 1 101 ∷ got 0 5 ∷ []) (wrote 0 5 ∷ wrote 8 6 ∷ []) [] ∷ [];
   cores = stands 4 (5 ∷ 101 ∷ []) Halted (HaltedWith 1) [] ∷ stands 16 [] Running Goes [] ∷ [];
   words = (0, 5) ∷ (8, 6) ∷ [];
   useful = e 1 ∷ d c0 d0 2 ∷ d c0 d0 3 ∷ [];
@@ -56,7 +56,7 @@ spilled_word_changed_events =
 
 abbrev pub spilled_word_changed : Told
 spilled_word_changed = record {
-  commits = commit 1 0 5 (got 1 101 ∷ got 0 5 ∷ []) (wrote 0 5 ∷ wrote 8 6 ∷ wrote 0 9 ∷ []) [] ∷ [];
+  commits = noted_commit 1 0 5 (got 1 101 ∷ got 0 5 ∷ []) (wrote 0 5 ∷ wrote 8 6 ∷ wrote 0 9 ∷ []) [] ∷ [];
   cores = stands 4 (5 ∷ 101 ∷ []) Halted (HaltedWith 1) [] ∷ stands 16 [] Running Goes [] ∷ [];
   words = (0, 9) ∷ (8, 6) ∷ [];
   useful = e 1 ∷ d c0 d0 2 ∷ d c0 d0 3 ∷ [];

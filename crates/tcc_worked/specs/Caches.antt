@@ -7,7 +7,7 @@ use Rattle.tcc_rules.specs.State.{Running}
 use Rattle.tcc_rules.specs.Rows.{e, x, d, c0, c1, d0, d1, v}
 use Rattle.tcc_rules.specs.Needs.{lw, sw}
 use Rattle.tcc_rules.specs.Told.{Told, machine, Tells}
-use Rattle.tcc_rules.specs.Names.{commit, stands, got, wrote}
+use Rattle.tcc_rules.specs.Names.{noted_commit, stands, got, wrote}
 
 -- an invalidation comes before the fill, which leaves no word
 abbrev pub stale_fill_events : List Event
@@ -17,7 +17,7 @@ stale_fill_events =
 
 abbrev pub stale_fill : Told
 stale_fill = record {
-  commits = commit 1 1 2 [] (wrote 0 4 ∷ []) [] ∷ [];
+  commits = noted_commit 1 1 2 [] (wrote 0 4 ∷ []) [] ∷ [];
   cores = stands 0 [] Running Goes [] ∷ stands 18 [] Running Goes [] ∷ [];
   words = (0, 4) ∷ [];
   useful = e 1 ∷ x 1 0 0 ∷ d c0 d0 1 ∷ [];
@@ -37,7 +37,7 @@ still_awaits_events =
 
 abbrev pub still_awaits : Told
 still_awaits = record {
-  commits = commit 1 1 2 [] (wrote 0 4 ∷ []) [] ∷ [];
+  commits = noted_commit 1 1 2 [] (wrote 0 4 ∷ []) [] ∷ [];
   cores = stands 0 [] Running Goes [] ∷ stands 18 [] Running Goes [] ∷ [];
   words = (0, 4) ∷ [];
   useful = e 1 ∷ x 1 0 0 ∷ d c0 d0 1 ∷ d c0 d1 0 ∷ d c1 d1 0 ∷ [];
@@ -58,7 +58,7 @@ stored_word_stays_events =
 
 abbrev pub stored_word_stays : Told
 stored_word_stays = record {
-  commits = commit 1 1 2 [] (wrote 0 7 ∷ []) [] ∷ commit 2 0 3 (got 1 101 ∷ []) (wrote 0 4 ∷ []) [] ∷ [];
+  commits = noted_commit 1 1 2 [] (wrote 0 7 ∷ []) [] ∷ noted_commit 2 0 3 (got 1 101 ∷ []) (wrote 0 4 ∷ []) [] ∷ [];
   cores = stands 3 (101 ∷ []) Running Goes [] ∷ stands 18 [] Running Goes [] ∷ [];
   words = (0, 4) ∷ [];
   useful = e 0 ∷ e 1 ∷ x 0 0 0 ∷ d c0 d0 4 ∷ [];
@@ -78,7 +78,7 @@ room_is_useful_events =
 
 abbrev pub room_is_useful : Told
 room_is_useful = record {
-  commits = commit 1 0 2 [] (wrote 0 4 ∷ []) [] ∷ commit 2 0 2 (got 8 108 ∷ []) [] [] ∷ [];
+  commits = noted_commit 1 0 2 [] (wrote 0 4 ∷ []) [] ∷ noted_commit 2 0 2 (got 8 108 ∷ []) [] [] ∷ [];
   cores = stands 4 (108 ∷ []) Running Goes [] ∷ stands 16 [] Running Goes [] ∷ [];
   words = (0, 4) ∷ [];
   useful = e 1 ∷ x 0 0 0 ∷ d c0 d0 3 ∷ d c0 d0 5 ∷ [];
@@ -97,7 +97,7 @@ room_before_overflow_events =
 
 abbrev pub room_before_overflow : Told
 room_before_overflow = record {
-  commits = commit 1 0 3 (got 8 108 ∷ []) (wrote 0 4 ∷ []) [] ∷ [];
+  commits = noted_commit 1 0 3 (got 8 108 ∷ []) (wrote 0 4 ∷ []) [] ∷ [];
   cores = stands 3 (108 ∷ []) Running Goes [] ∷ stands 16 [] Running Goes [] ∷ [];
   words = (0, 4) ∷ [];
   useful = e 1 ∷ x 0 0 1 ∷ d c0 d0 2 ∷ [];

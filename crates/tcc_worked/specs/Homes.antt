@@ -7,7 +7,7 @@ use Rattle.tcc_rules.specs.State.{Running, Probing, Ready, Halted}
 use Rattle.tcc_rules.specs.Rows.{e, x, d, c0, c1, d0, d1, v}
 use Rattle.tcc_rules.specs.Needs.{lw, sw}
 use Rattle.tcc_rules.specs.Told.{Told, machine, Tells}
-use Rattle.tcc_rules.specs.Names.{c2, d2, commit, stands, wrote}
+use Rattle.tcc_rules.specs.Names.{c2, d2, noted_commit, stands, wrote}
 
 -- words of an earlier commit come late from the core that owns the line by a later one: they are dropped
 abbrev pub lower_tag_dropped_events : List Event
@@ -19,8 +19,9 @@ lower_tag_dropped_events =
 abbrev pub lower_tag_dropped : Told
 lower_tag_dropped = record {
   commits =
-      commit 2 0 2 [] (wrote 0 3 ∷ []) [] ∷
-      commit 3 0 9 [] (wrote 0 20 ∷ wrote 1 21 ∷ wrote 2 22 ∷ wrote 3 23 ∷ wrote 4 24 ∷ wrote 5 25 ∷ wrote 6 26 ∷ wrote 7 27 ∷ []) [] ∷
+      noted_commit 2 0 2 [] (wrote 0 3 ∷ []) [] ∷
+      noted_commit 3 0 9 []
+      (wrote 0 20 ∷ wrote 1 21 ∷ wrote 2 22 ∷ wrote 3 23 ∷ wrote 4 24 ∷ wrote 5 25 ∷ wrote 6 26 ∷ wrote 7 27 ∷ []) [] ∷
       [];
   cores = stands 11 [] Running Goes [] ∷ stands 16 [] (Probing 1) (TrappedWith 1) (0 ∷ []) ∷ [];
   words = (0, 20) ∷ (1, 21) ∷ (2, 22) ∷ (3, 23) ∷ (4, 24) ∷ (5, 25) ∷ (6, 26) ∷ (7, 27) ∷ [];
@@ -42,7 +43,7 @@ flush_before_store_events =
 
 abbrev pub flush_before_store : Told
 flush_before_store = record {
-  commits = commit 1 0 2 [] (wrote 0 4 ∷ []) [] ∷ [];
+  commits = noted_commit 1 0 2 [] (wrote 0 4 ∷ []) [] ∷ [];
   cores = stands 2 [] Running Goes [] ∷ stands 16 [] Running Goes [] ∷ [];
   words = (0, 4) ∷ [];
   useful = e 0 ∷ e 1 ∷ d c0 d0 3 ∷ [];
@@ -63,8 +64,9 @@ lower_tag_unseen_events =
 abbrev pub lower_tag_unseen : Told
 lower_tag_unseen = record {
   commits =
-      commit 1 0 2 [] (wrote 0 3 ∷ []) [] ∷
-      commit 2 0 9 [] (wrote 0 20 ∷ wrote 1 21 ∷ wrote 2 22 ∷ wrote 3 23 ∷ wrote 4 24 ∷ wrote 5 25 ∷ wrote 6 26 ∷ wrote 7 27 ∷ []) [] ∷
+      noted_commit 1 0 2 [] (wrote 0 3 ∷ []) [] ∷
+      noted_commit 2 0 9 []
+      (wrote 0 20 ∷ wrote 1 21 ∷ wrote 2 22 ∷ wrote 3 23 ∷ wrote 4 24 ∷ wrote 5 25 ∷ wrote 6 26 ∷ wrote 7 27 ∷ []) [] ∷
       [];
   cores = stands 11 [] Running Goes [] ∷ stands 16 [] Running Goes [] ∷ [];
   words = (0, 20) ∷ (1, 21) ∷ (2, 22) ∷ (3, 23) ∷ (4, 24) ∷ (5, 25) ∷ (6, 26) ∷ (7, 27) ∷ [];
@@ -85,7 +87,7 @@ part_asks_owner_events =
 
 abbrev pub part_asks_owner : Told
 part_asks_owner = record {
-  commits = commit 1 0 2 [] (wrote 0 4 ∷ []) [] ∷ [];
+  commits = noted_commit 1 0 2 [] (wrote 0 4 ∷ []) [] ∷ [];
   cores = stands 2 [] Running Goes [] ∷ stands 16 [] (Ready 2) (TrappedWith 1) [] ∷ [];
   words = (0, 4) ∷ [];
   useful = e 0 ∷ e 1 ∷ x 0 0 0 ∷ d d0 c0 1 ∷ [];
@@ -105,7 +107,7 @@ late_mark_dropped_events =
 
 abbrev pub late_mark_dropped : Told
 late_mark_dropped = record {
-  commits = commit 1 1 2 [] (wrote 8 4 ∷ []) [] ∷ [];
+  commits = noted_commit 1 1 2 [] (wrote 8 4 ∷ []) [] ∷ [];
   cores = stands 0 [] Running Goes [] ∷ stands 18 [] Running Goes [] ∷ [];
   words = (8, 4) ∷ [];
   useful = e 0 ∷ e 1 ∷ x 1 0 0 ∷ d c0 d0 1 ∷ d c0 d1 1 ∷ d c0 d1 3 ∷ [];
@@ -125,7 +127,7 @@ skips_are_passed_events =
 
 abbrev pub skips_are_passed : Told
 skips_are_passed = record {
-  commits = commit 1 0 2 [] (wrote 0 5 ∷ []) [] ∷ [];
+  commits = noted_commit 1 0 2 [] (wrote 0 5 ∷ []) [] ∷ [];
   cores =
       stands 2 [] (Ready 2) (TrappedWith 1) [] ∷ stands 16 [] (Probing 3) (TrappedWith 1) [] ∷ stands 32 [] Running Goes [] ∷ [];
   words = (0, 5) ∷ [];
@@ -146,7 +148,7 @@ larger_first_events =
 
 abbrev pub larger_first : Told
 larger_first = record {
-  commits = commit 1 2 2 [] (wrote 16 8 ∷ []) [] ∷ commit 2 1 2 [] (wrote 8 7 ∷ []) [] ∷ [];
+  commits = noted_commit 1 2 2 [] (wrote 16 8 ∷ []) [] ∷ noted_commit 2 1 2 [] (wrote 8 7 ∷ []) [] ∷ [];
   cores = stands 0 [] Running Goes [] ∷ stands 18 [] Running Goes [] ∷ stands 33 [] Halted (HaltedWith 5) [] ∷ [];
   words = (8, 7) ∷ (16, 8) ∷ [];
   useful = e 0 ∷ e 1 ∷ x 1 0 0 ∷ x 2 0 0 ∷ d c1 d0 0 ∷ d c1 d1 1 ∷ d c1 d2 0 ∷ d c2 d0 0 ∷ d c2 d2 1 ∷ [];

@@ -7,7 +7,7 @@ use Rattle.tcc_rules.specs.State.{Running, Ready, Halted}
 use Rattle.tcc_rules.specs.Rows.{e, x, d, c0, c1, d0, d1, v}
 use Rattle.tcc_rules.specs.Needs.{lw, lb, sw}
 use Rattle.tcc_rules.specs.Told.{Told, machine, Tells}
-use Rattle.tcc_rules.specs.Names.{commit, stands, got_byte, wrote}
+use Rattle.tcc_rules.specs.Names.{noted_commit, stands, got_byte, wrote}
 
 -- a load of a word that the attempt stored marks nothing
 abbrev pub stored_word_unread_events : List Event
@@ -36,7 +36,7 @@ another_word_events =
 
 abbrev pub another_word : Told
 another_word = record {
-  commits = commit 1 1 2 [] (wrote 1 6 ∷ []) [] ∷ [];
+  commits = noted_commit 1 1 2 [] (wrote 1 6 ∷ []) [] ∷ [];
   cores = stands 0 [] Running Goes (0 ∷ []) ∷ stands 18 [] Running Goes [] ∷ [];
   words = (1, 6) ∷ [];
   useful = e 0 ∷ e 1 ∷ x 1 0 0 ∷ d c0 d0 1 ∷ [];
@@ -56,7 +56,7 @@ ready_stays_events =
 
 abbrev pub ready_stays : Told
 ready_stays = record {
-  commits = commit 2 1 2 [] (wrote 0 3 ∷ []) [] ∷ [];
+  commits = noted_commit 2 1 2 [] (wrote 0 3 ∷ []) [] ∷ [];
   cores = stands 0 [] (Ready 1) (TrappedWith 1) (0 ∷ []) ∷ stands 18 [] Running Goes [] ∷ [];
   words = (0, 3) ∷ [];
   useful = e 0 ∷ e 1 ∷ x 1 0 0 ∷ d c0 d0 3 ∷ d c0 d1 1 ∷ d c1 d1 0 ∷ [];
@@ -76,7 +76,7 @@ doomed_runs_on_events =
 
 abbrev pub doomed_runs_on : Told
 doomed_runs_on = record {
-  commits = commit 1 1 2 [] (wrote 0 6 ∷ []) [] ∷ [];
+  commits = noted_commit 1 1 2 [] (wrote 0 6 ∷ []) [] ∷ [];
   cores = stands 0 [] Running Goes [] ∷ stands 18 [] Running Goes [] ∷ [];
   words = (0, 6) ∷ [];
   useful = e 0 ∷ e 1 ∷ x 1 0 0 ∷ d c0 d0 1 ∷ d c0 d0 2 ∷ [];
@@ -96,7 +96,7 @@ own_bytes_events =
 
 abbrev pub own_bytes : Told
 own_bytes = record {
-  commits = commit 1 0 4 (got_byte 0 3 0 ∷ []) [] (69 ∷ 70 ∷ []) ∷ commit 2 0 1 [] [] [] ∷ [];
+  commits = noted_commit 1 0 4 (got_byte 0 3 0 ∷ []) [] (69 ∷ 70 ∷ []) ∷ noted_commit 2 0 1 [] [] [] ∷ [];
   cores = stands 4 (0 ∷ []) Halted (TrappedWith 1) [] ∷ stands 16 [] Running Goes [] ∷ [];
   words = [];
   useful = e 1 ∷ d c0 d0 1 ∷ d c0 d0 3 ∷ [];

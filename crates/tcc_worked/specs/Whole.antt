@@ -7,7 +7,7 @@ use Rattle.tcc_rules.specs.State.{Halted}
 use Rattle.tcc_rules.specs.Rows.{e, x, d, c0, c1, d0, d1, v}
 use Rattle.tcc_rules.specs.Needs.{lw, sb, sh, add}
 use Rattle.tcc_rules.specs.Told.{Told, machine, Tells}
-use Rattle.tcc_rules.specs.Names.{c2, commit, stands, got, wrote, wrote_byte, wrote_half}
+use Rattle.tcc_rules.specs.Names.{c2, noted_commit, stands, got, wrote, wrote_byte, wrote_half}
 
 -- two cores add to one word, the third stores a part; one is violated, owners are asked, and all halt
 abbrev pub whole_run_events : List Event
@@ -22,9 +22,9 @@ whole_run_events =
 abbrev pub whole_run : Told
 whole_run = record {
   commits =
-      commit 1 2 3 (got 8 108 ∷ []) (wrote_half 8 2 9 ∷ []) [] ∷
-      commit 2 0 4 (got 0 100 ∷ []) (wrote 0 105 ∷ wrote_byte 1 2 7 ∷ []) (65 ∷ []) ∷
-      commit 4 1 3 (got 0 105 ∷ []) (wrote 0 111 ∷ []) (66 ∷ []) ∷ [];
+      noted_commit 1 2 3 (got 8 108 ∷ []) (wrote_half 8 2 9 ∷ []) [] ∷
+      noted_commit 2 0 4 (got 0 100 ∷ []) (wrote 0 105 ∷ wrote_byte 1 2 7 ∷ []) (65 ∷ []) ∷
+      noted_commit 4 1 3 (got 0 105 ∷ []) (wrote 0 111 ∷ []) (66 ∷ []) ∷ [];
   cores =
       stands 3 (100 ∷ []) Halted (HaltedWith 3) [] ∷ stands 18 (105 ∷ []) Halted (HaltedWith 4) [] ∷
       stands 34 (108 ∷ []) Halted (TrappedWith 3) [] ∷ [];

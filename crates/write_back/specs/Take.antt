@@ -4,6 +4,6 @@ use Rattle.write_back.specs.declared.Take.{Take}
 use Rattle.write_back.specs.declared.Take.TheVariants.{Take as Taken, Drop, Wait}
 
 abbrev pub verdict_of : Take → maps.Judgement
-verdict_of Taken = maps.Takes
-verdict_of Drop = maps.Drops
-verdict_of Wait = maps.Waits
+verdict_of Taken = maps.Current
+verdict_of Drop = maps.Outdated
+verdict_of Wait = maps.TooEarly

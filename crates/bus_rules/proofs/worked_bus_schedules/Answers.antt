@@ -1,20 +1,21 @@
 -- Each schedule is computed by the definitions alone.
 use Rattle.std.proofs.Common.{refl}
 use Rattle.tcc_rules.proofs.Lemmas.{computed}
-use Rattle.tcc_rules.specs.Needs.{need_at, goes_on, needs, entry}
+use Rattle.tcc_rules.specs.Needs.{need_at, needs_after, needs, entry}
 use Rattle.tcc_rules.specs.Rows.{changed}
 use Rattle.tcc_rules.specs.Told.{words_with, told_core, first_words}
-use Rattle.bus_rules.specs.Commit.{written, with_words, wrote_some, all_clean, bus_commit}
+use Rattle.bus_rules.specs.Commit.{written_words, with_words, wrote_some, all_clean, bus_commit}
 use Rattle.bus_rules.specs.Exec.{line_words, instruction, gone_alone, bus_exec}
 use Rattle.bus_rules.specs.State.{bus_start}
 use Rattle.bus_rules.specs.Step.{bus_names, bus_step, bus_next, bus_from, bus_run}
-use Rattle.bus_rules.specs.Take.{reads_some, dropped, taken, bus_take}
+use Rattle.bus_rules.specs.Take.{reads_some, packet_invalidated, packet_taken, bus_take}
 use Rattle.bus_rules.specs.Told.{bus_told}
 use Rattle.bus_rules.specs.Useful.{bus_is_useful, bus_execs, bus_evicts, bus_takes, bus_useful}
 use Rattle.bus_rules.proofs.worked_bus_schedules.Goals as goal
 
 pub returns : goal.returns
-unfolding computed need_at goes_on needs entry changed words_with told_core first_words written with_words wrote_some all_clean
-    bus_commit line_words instruction gone_alone bus_exec bus_start bus_names bus_step bus_next bus_from bus_run reads_some dropped
-    taken bus_take bus_told bus_is_useful bus_execs bus_evicts bus_takes bus_useful
+unfolding computed need_at needs_after needs entry changed words_with told_core first_words written_words with_words wrote_some all_clean
+    bus_commit line_words instruction gone_alone bus_exec bus_start bus_names bus_step bus_next bus_from bus_run reads_some
+    packet_invalidated
+    packet_taken bus_take bus_told bus_is_useful bus_execs bus_evicts bus_takes bus_useful
 returns c = record { anew = (refl, refl); taken = (refl, refl); alone = (refl, refl) }

@@ -16,9 +16,10 @@ use Rattle.tcc_rules.specs.State.{CoreState, Awaited, Phase, Running, AwaitTid, 
 use Rattle.tcc_rules.specs.Useful.{room_for_line, room_for_word, room_for_store, room_for_need, room_unless_awaiting, room_in_phase, room}
 use Rattle.tcc_serial.specs.OneCore.{executes}
 use Rattle.tcc_live.proofs.Lemmas.{WantsSome, emptied, exec-or}
-use Rattle.bus_rules.specs.Exec.{line_words, with_line, if_executed, instruction, executed, goes_on, exec_alone, exec_in, bus_exec}
+use Rattle.bus_rules.specs.Exec.{line_words, with_line, if_executed, instruction, executed, goes_on, exec_alone, bus_exec_in_phase}
+use Rattle.bus_rules.specs.Exec.{bus_exec}
 use Rattle.bus_rules.specs.State.{Bus, Free, Alone, Packet, BusWorld, Exec, Evict, Take, bus_start}
-use Rattle.bus_rules.specs.Step.{BusHistory, evicted, bus_names, bus_step, bus_run}
+use Rattle.bus_rules.specs.Step.{BusHistory, if_evicted, bus_names, bus_step, bus_run}
 use Rattle.bus_rules.specs.Take.{bus_take}
 use Rattle.bus_rules.specs.Useful.{bus_is_useful, bus_useful, BusIsDone}
 use Rattle.bus_serial.specs.Laws.{HasCaches, BusNeverStuck}
@@ -182,7 +183,7 @@ exec-some sh n p w c k f r b = go s.phase refl r
     alone t e (Prints byte) g = either (inr (rw (e, g) refl)) (rw e refl)
 
     go : (q : Phase) → s.phase ≡ q → (q ≡ Running) ⊎ (is_solo q ≡ true)
-        → (is_some (exec_in sh p w c s q) ≡ true) ⊎ WantsSome sh s (room sh p s)
+        → (is_some (bus_exec_in_phase sh p w c s q) ≡ true) ⊎ WantsSome sh s (room sh p s)
     go Running e x = either (inl e) (rw e refl)
     go (Solo t) e x = alone t e (p.need s.local) refl
     go q e (inl x) = absurd (cc)
@@ -207,7 +208,7 @@ evict-useful sh p w c x y l i j e r =
     let q : (nat_lt c sh.cores && (nat_lt x sh.sets && nat_lt y sh.ways)) ≡ true = grind (arith, nat_tests) in
     rw (q, r) (go (core_evict sh x y (w.cores c)) e)
   where
-    go : (o : Option Out) → is_some o ≡ true → (is_some (evicted w c o) && (x == x)) ≡ true
+    go : (o : Option Out) → is_some o ≡ true → (is_some (if_evicted w c o) && (x == x)) ≡ true
     go None e = absurd (cc)
     go (Some o) e = grind (arith, nat_tests)
 

@@ -19,11 +19,11 @@ use Rattle.tcc_rules.specs.Attempt.{Out, is_solo}
 use Rattle.tcc_rules.specs.CoreEvict.{core_evict}
 use Rattle.tcc_rules.specs.Seen.{numbers}
 use Rattle.tcc_rules.specs.State.{CoreState, Awaited, Phase, Running, Solo}
-use Rattle.tcc_rules.specs.Useful.{is_set, room, room_for_line, room_for_need, room_for_store, room_for_word, room_in_phase}
+use Rattle.tcc_rules.specs.Useful.{is_this_set, room, room_for_line, room_for_need, room_for_store, room_for_word, room_in_phase}
 use Rattle.tcc_rules.specs.Useful.{room_unless_awaiting}
 use Rattle.bus_rules.specs.Exec.{bus_exec}
 use Rattle.bus_rules.specs.State.{BusEvent, BusWorld, Exec, Evict, Take}
-use Rattle.bus_rules.specs.Step.{bus_names, bus_step, evicted}
+use Rattle.bus_rules.specs.Step.{bus_names, bus_step, if_evicted}
 use Rattle.bus_rules.specs.Take.{bus_take}
 use Rattle.bus_rules.specs.Useful.{bus_evicts, bus_execs, bus_is_useful, bus_takes, bus_useful}
 
@@ -128,16 +128,16 @@ take-useful : (sh : Shape) (p : Program) (w : BusWorld) (c : ℕ) → c < sh.cor
 unfolding bus_is_useful bus_step bus_names
 take-useful sh p w c l = rw (lt-ltb c sh.cores l) (and-true (is_some (bus_take sh w c)))
 
-evicted-some : (w : BusWorld) (c : ℕ) (o : Option Out) → is_some (evicted w c o) ≡ is_some o
+evicted-some : (w : BusWorld) (c : ℕ) (o : Option Out) → is_some (if_evicted w c o) ≡ is_some o
 evicted-some w c None = refl
 evicted-some w c (Some o) = refl
 
 evict-useful : (sh : Shape) (p : Program) (w : BusWorld) (c x y : ℕ) → c < sh.cores → x < sh.sets → y < sh.ways
-    → bus_is_useful sh p w (Evict c x y) ≡ (is_some (core_evict sh x y (w.cores c)) && is_set (room sh p (w.cores c)) x)
+    → bus_is_useful sh p w (Evict c x y) ≡ (is_some (core_evict sh x y (w.cores c)) && is_this_set (room sh p (w.cores c)) x)
 unfolding bus_is_useful bus_step bus_names
 evict-useful sh p w c x y l m n =
     rw (lt-ltb c sh.cores l, lt-ltb x sh.sets m, lt-ltb y sh.ways n)
-    (ap (λ b. b && is_set (room sh p (w.cores c)) x) (evicted-some w c (core_evict sh x y (w.cores c))))
+    (ap (λ b. b && is_this_set (room sh p (w.cores c)) x) (evicted-some w c (core_evict sh x y (w.cores c))))
 
 -- the set in which a core waits for room exists
 line-below : (sh : Shape) (l : ℕ) (s : CoreState) → 1 ≤ sh.sets → IfSome (room_for_line sh l s) (λ x. x < sh.sets)
@@ -204,8 +204,8 @@ evicts-one : (sh : Shape) (p : Program) (w : BusWorld) (c : ℕ) → c < sh.core
     → filter (bus_is_useful sh p w) (evicts_of sh c) ≡ evicts_in sh (w.cores c) c (room sh p (w.cores c))
 evicts-one sh p w c l h =
     filter-flat t (λ x. map (λ y. Evict c x y) (numbers sh.ways)) (numbers sh.sets)
-    ∙ flat-same _ (λ x. if is_set (room sh p s) x then f x else []) sh.sets
-    (λ x m. filter-both t (λ y. Evict c x y) (λ y. is_some (core_evict sh x y s)) (is_set (room sh p s) x) sh.ways
+    ∙ flat-same _ (λ x. if is_this_set (room sh p s) x then f x else []) sh.sets
+    (λ x m. filter-both t (λ y. Evict c x y) (λ y. is_some (core_evict sh x y s)) (is_this_set (room sh p s) x) sh.ways
     (λ y n. evict-useful sh p w c x y l m n))
     ∙ by (room sh p s) (room-below sh p s h)
   where
@@ -219,8 +219,8 @@ evicts-one sh p w c l h =
     f x = map (λ y. Evict c x y) (filter (λ y. is_some (core_evict sh x y s)) (numbers sh.ways))
 
     by : (o : Option ℕ) → IfSome o (λ x. x < sh.sets)
-        → flat_map (λ x. if is_set o x then f x else []) (numbers sh.sets) ≡ evicts_in sh s c o
-    by None k = none-flat (λ x. if is_set None x then f x else []) (numbers sh.sets) (λ x. refl)
+        → flat_map (λ x. if is_this_set o x then f x else []) (numbers sh.sets) ≡ evicts_in sh s c o
+    by None k = none-flat (λ x. if is_this_set None x then f x else []) (numbers sh.sets) (λ x. refl)
     by (Some z) k = flat-one f z sh.sets ∙ rw (lt-ltb z sh.sets k) refl
 
 -- one event of a core, where it is enabled

@@ -9,10 +9,11 @@ use Rattle.tcc_rules.specs.Attempt.{Out, finished}
 use Rattle.tcc_rules.specs.CoreEvict.{core_evict}
 use Rattle.tcc_rules.specs.State.{CoreState, Phase, Running, AwaitTid, DoomedTid, Probing, Ready, Overflowing, Solo, Halted}
 use Rattle.bus_rules.specs.Commit.{BusStepped, bus_commit}
-use Rattle.bus_rules.specs.Exec.{instruction, when_free, gone_alone, moved, executed, goes_on, exec_alone, exec_in, bus_exec}
+use Rattle.bus_rules.specs.Exec.{instruction, when_free, gone_alone, core_changed, executed, goes_on, exec_alone, bus_exec_in_phase}
+use Rattle.bus_rules.specs.Exec.{bus_exec}
 use Rattle.bus_rules.specs.State.{Bus, Free, Alone, Packet, BusWorld, BusEvent, Exec, Evict, Take}
-use Rattle.bus_rules.specs.Step.{evicted, bus_names, bus_step}
-use Rattle.bus_rules.specs.Take.{taken, bus_left, take_from, bus_take}
+use Rattle.bus_rules.specs.Step.{if_evicted, bus_names, bus_step}
+use Rattle.bus_rules.specs.Take.{packet_taken, bus_left, take_from, bus_take}
 use Rattle.bus_serial.proofs.OneCore.Did.{goes}
 use Rattle.bus_serial.proofs.OneCore.Instruction.{Executes}
 
@@ -26,13 +27,13 @@ alone_by w c s = record { world = record w { cores = put w.cores c (gone_alone w
 
 abbrev pub taken_by : Shape → BusWorld → (core : ℕ) → (words : ℕ → Option ℕ) → (left : ℕ → Bool) → BusStepped
 taken_by sh w c f left = record {
-  world = record w { cores = put w.cores c (taken sh f (w.cores c)); bus = bus_left sh f (put left c false) };
+  world = record w { cores = put w.cores c (packet_taken sh f (w.cores c)); bus = bus_left sh f (put left c false) };
   noted = None;
 }
 
 pub data Happened (sh : Shape) (p : Program) (w : BusWorld) (r : BusStepped) : Type 0 where
   Instructs : (c : ℕ) (o : Out) (core : c < sh.cores) (executes : Executes p (w.cores c))
-      (does : instruction sh p w.ram c (w.cores c) ≡ Some o) (stays : overflows o.core.phase ≡ false) (is : r ≡ moved w c o.core)
+      (does : instruction sh p w.ram c (w.cores c) ≡ Some o) (stays : overflows o.core.phase ≡ false) (is : r ≡ core_changed w c o.core)
       → Happened sh p w r
   TakesBus : (c : ℕ) (o : Out) (core : c < sh.cores) (executes : Executes p (w.cores c))
       (does : instruction sh p w.ram c (w.cores c) ≡ Some o) (full : overflows o.core.phase ≡ true) (free : w.bus ≡ Free)
@@ -42,7 +43,7 @@ pub data Happened (sh : Shape) (p : Program) (w : BusWorld) (r : BusStepped) : T
       (is : r ≡ bus_commit sh w c (finished p need 0 (w.cores c))) → Happened sh p w r
   Commits : (c : ℕ) (core : c < sh.cores) (phase : (w.cores c).phase ≡ AwaitTid) (free : w.bus ≡ Free)
       (is : r ≡ bus_commit sh w c (w.cores c)) → Happened sh p w r
-  Evicts : (c x y : ℕ) (o : Out) (core : c < sh.cores) (does : core_evict sh x y (w.cores c) ≡ Some o) (is : r ≡ moved w c o.core)
+  Evicts : (c x y : ℕ) (o : Out) (core : c < sh.cores) (does : core_evict sh x y (w.cores c) ≡ Some o) (is : r ≡ core_changed w c o.core)
       → Happened sh p w r
   Takes : (c : ℕ) (f : ℕ → Option ℕ) (left : ℕ → Bool) (core : c < sh.cores) (bus : w.bus ≡ Packet f left) (is_left : left c ≡ true)
       (is : r ≡ taken_by sh w c f left) → Happened sh p w r
@@ -91,7 +92,7 @@ exec-happened sh p w c l = go (w.cores c).phase refl
     alone t e (Changes addr g) f = goes-happened sh p w c l (inr (rw (e, f) refl))
     alone t e (Prints byte) f = goes-happened sh p w c l (inr (rw (e, f) refl))
 
-    go : (q : Phase) → s.phase ≡ q → IfSome (exec_in sh p w c s q) (Happened sh p w)
+    go : (q : Phase) → s.phase ≡ q → IfSome (bus_exec_in_phase sh p w c s q) (Happened sh p w)
     go Running e = goes-happened sh p w c l (inl e)
     go (Solo t) e = alone t e (p.need s.local) refl
     go AwaitTid e = free-only w.bus (bus_commit sh w c s) (Happened sh p w) (λ b. Commits c l e b refl)
@@ -112,10 +113,10 @@ take-happened sh p w c l = go w.bus refl
     go (Packet f left) e = by f left e (left c) refl
 
 evict-happened : (sh : Shape) (p : Program) (w : BusWorld) (c x y : ℕ) → c < sh.cores
-    → IfSome (evicted w c (core_evict sh x y (w.cores c))) (Happened sh p w)
+    → IfSome (if_evicted w c (core_evict sh x y (w.cores c))) (Happened sh p w)
 evict-happened sh p w c x y l = go (core_evict sh x y (w.cores c)) refl
   where
-    go : (o : Option Out) → core_evict sh x y (w.cores c) ≡ o → IfSome (evicted w c o) (Happened sh p w)
+    go : (o : Option Out) → core_evict sh x y (w.cores c) ≡ o → IfSome (if_evicted w c o) (Happened sh p w)
     go None e = tt
     go (Some o) e = Evicts c x y o l e refl
 
@@ -128,7 +129,8 @@ unfolding bus_step bus_names
 bus-happened sh p w (Exec c) =
     if-named (nat_lt c sh.cores) (bus_exec sh p w c) (Happened sh p w) (λ h. exec-happened sh p w c (grind (arith, nat_tests)))
 bus-happened sh p w (Evict c x y) =
-    if-named (nat_lt c sh.cores && (nat_lt x sh.sets && nat_lt y sh.ways)) (evicted w c (core_evict sh x y (w.cores c))) (Happened sh p w)
+    if-named (nat_lt c sh.cores && (nat_lt x sh.sets && nat_lt y sh.ways)) (if_evicted w c (core_evict sh x y (w.cores c)))
+    (Happened sh p w)
     (λ h. evict-happened sh p w c x y (grind (arith, nat_tests)))
 bus-happened sh p w (Take c) =
     if-named (nat_lt c sh.cores) (bus_take sh w c) (Happened sh p w) (λ h. take-happened sh p w c (grind (arith, nat_tests)))

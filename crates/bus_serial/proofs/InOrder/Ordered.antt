@@ -8,15 +8,15 @@ use Rattle.tcc_maps.specs.Words.{put, any_below, line_of}
 use Rattle.tcc_program.specs.Plain.{Outcome, Goes, Ended, Halted as HaltedWith, Trapped as TrappedWith}
 use Rattle.tcc_program.specs.Program.{Program, Local}
 use Rattle.tcc_rules.specs.Attempt.{is_solo, finished}
-use Rattle.tcc_rules.specs.Commit.{phase_after}
+use Rattle.tcc_rules.specs.Commit.{phase_after_commit}
 use Rattle.tcc_rules.specs.CoreEvict.{core_evict}
 use Rattle.tcc_rules.specs.State.{CoreState, Phase, Running, AwaitTid, Solo, Halted, core_start}
 use Rattle.tcc_attempt.proofs.Lemmas.{start-sound}
 use Rattle.tcc_bounds.proofs.Lemmas.{none}
-use Rattle.bus_rules.specs.Commit.{BusStepped, written, wrote_some, others, packet, bus_commit, all_clean, commit_out}
-use Rattle.bus_rules.specs.Exec.{instruction, gone_alone, moved}
+use Rattle.bus_rules.specs.Commit.{BusStepped, written_words, wrote_some, others, packet, bus_commit, all_clean, commit_out}
+use Rattle.bus_rules.specs.Exec.{instruction, gone_alone, core_changed}
 use Rattle.bus_rules.specs.State.{Bus, Free, Alone, Packet, BusWorld, bus_start}
-use Rattle.bus_rules.specs.Take.{reads_some, dropped, taken, bus_left}
+use Rattle.bus_rules.specs.Take.{reads_some, packet_invalidated, packet_taken, bus_left}
 use Rattle.bus_serial.proofs.OneCore.Did.{LineSet, NeedIn}
 use Rattle.bus_serial.proofs.OneCore.Committed.{out-fine, out-phase, finished-fine, written-inside}
 use Rattle.bus_serial.proofs.InOrder.Events.{overflows, alone_by, taken_by, Happened, Instructs}
@@ -97,7 +97,7 @@ goes-ways s t q (Overflows n e) = absurd (let i : overflows t.phase ≡ true = r
 
 moved-ordered : (sh : Shape) (M : LineSet) (n : ℕ) (w : BusWorld) (c : ℕ) (t : CoreState) → c < sh.cores → Ordered sh M n w
     → Fine sh M (n + 1) t
-    → GoesOn (w.cores c) t → Ordered sh M (n + 1) (moved w c t).world
+    → GoesOn (w.cores c) t → Ordered sh M (n + 1) (core_changed w c t).world
 moved-ordered sh M n w c t l k f g = record {
   cores = put-all (λ i s. Fine sh M (n + 1) s) sh w.cores c t (λ i j e. later sh M n (w.cores i) (k.cores i j)) f;
   phases = put-all (λ i s. PhaseFits w.next w.bus i s.phase) sh w.cores c t (λ i j e. k.phases i j) (phase g);
@@ -140,7 +140,7 @@ alone-ordered sh M n w c t l b k f = record {
 
 -- a commit
 
-after-fits : (n : ℕ) (b : Bus) (c : ℕ) (o : Outcome) → PhaseFits n b c (phase_after o)
+after-fits : (n : ℕ) (b : Bus) (c : ℕ) (o : Outcome) → PhaseFits n b c (phase_after_commit o)
 after-fits n b c Goes = tt
 after-fits n b c Ended = tt
 after-fits n b c (HaltedWith code) = tt
@@ -151,7 +151,7 @@ packet-fits : (sh : Shape) (M : LineSet) (n m c : ℕ) (s : CoreState) (cores : 
 packet-fits sh M n m c s cores k = go (wrote_some sh s) (any_below (others sh c) sh.cores) refl
   where
     go : (a b : Bool) → any_below (others sh c) sh.cores ≡ b
-        → BusFits sh M cores m (if a && b then Packet (written s) (others sh c) else Free)
+        → BusFits sh M cores m (if a && b then Packet (written_words s) (others sh c) else Free)
     go true true e = record {
       some = e;
       cores = λ i h. (let q : (nat_lt i sh.cores && not (i == c)) ≡ true = h in grind (arith, nat_tests));
@@ -194,8 +194,8 @@ left-fits sh M n c cores f left k = go (any_below (put left c false) sh.cores) r
     go false e = tt
 
 taken-phase : (sh : Shape) (f : ℕ → Option ℕ) (s : CoreState) → (n m : ℕ) (b d : Bus) (c : ℕ) → (b ≡ Alone c → ⊥)
-    → PhaseFits n b c s.phase → PhaseFits m d c (taken sh f s).phase
-unfolding taken dropped
+    → PhaseFits n b c s.phase → PhaseFits m d c (packet_taken sh f s).phase
+unfolding packet_taken packet_invalidated
 taken-phase sh f s n m b d c q k = go (reads_some sh f s.cache)
   where
     go : (r : Bool) → PhaseFits m d c (again r s).phase
@@ -205,13 +205,14 @@ taken-phase sh f s n m b d c q k = go (reads_some sh f s.cache)
 taken-ordered : (sh : Shape) (M : LineSet) (n : ℕ) (w : BusWorld) (c : ℕ) (f : ℕ → Option ℕ) (left : ℕ → Bool) → c < sh.cores
     → w.bus ≡ Packet f left → Ordered sh M n w → Ordered sh M (n + 1) (taken_by sh w c f left).world
 taken-ordered sh M n w c f left l b k = record {
-  cores = put-all (λ i s. Fine sh M (n + 1) s) sh w.cores c (taken sh f (w.cores c)) (λ i j e. later sh M n (w.cores i) (k.cores i j))
-      (later sh M n (taken sh f (w.cores c)) (taken-fine sh M n f (w.cores c)
+  cores =
+      put-all (λ i s. Fine sh M (n + 1) s) sh w.cores c (packet_taken sh f (w.cores c)) (λ i j e. later sh M n (w.cores i) (k.cores i j))
+      (later sh M n (packet_taken sh f (w.cores c)) (taken-fine sh M n f (w.cores c)
       (not-solo w.next w.bus c (w.cores c).phase (none c) (k.phases c l)) (k.cores c l)));
-  phases = put-all (λ i s. PhaseFits w.next after i s.phase) sh w.cores c (taken sh f (w.cores c))
+  phases = put-all (λ i s. PhaseFits w.next after i s.phase) sh w.cores c (packet_taken sh f (w.cores c))
       (λ i j e. fits-any w.next w.next w.bus after i (w.cores i).phase (none i) (k.phases i j))
       (taken-phase sh f (w.cores c) w.next w.next w.bus after c (none c) (k.phases c l));
-  bus = left-fits sh M w.next c (put w.cores c (taken sh f (w.cores c))) f left (rw b at k.bus);
+  bus = left-fits sh M w.next c (put w.cores c (packet_taken sh f (w.cores c))) f left (rw b at k.bus);
 }
   where
     after : Bus

@@ -13,12 +13,12 @@ use Rattle.tcc_maps.proofs.Lemmas.{any_below-at}
 use Rattle.tcc_program.specs.Plain.{Outcome, Goes, Ended, Halted as HaltedWith, Trapped as TrappedWith}
 use Rattle.tcc_program.specs.Program.{Program}
 use Rattle.tcc_rules.specs.Attempt.{is_solo}
-use Rattle.tcc_rules.specs.Commit.{phase_after, committed_core, commit, solo_commit, is_written}
+use Rattle.tcc_rules.specs.Commit.{phase_after_commit, committed_core, commit, solo_commit, is_written}
 use Rattle.tcc_rules.specs.State.{CoreState}
 use Rattle.tcc_attempt.specs.Follows.{Follows, sees}
 use Rattle.tcc_attempt.specs.Marks.{UsesStand, MarksFit}
 use Rattle.tcc_attempt.proofs.Lemmas.{commit-follows, follows-same, none-used, solo_commit-follows}
-use Rattle.bus_rules.specs.Commit.{written, with_words, wrote_some, all_clean, commit_out, others, packet}
+use Rattle.bus_rules.specs.Commit.{written_words, with_words, wrote_some, all_clean, commit_out, others, packet}
 use Rattle.bus_rules.specs.State.{Bus, Free, Alone, Packet}
 use Rattle.bus_serial.proofs.OneCore.Committed.{out-phase, written-inside}
 use Rattle.bus_serial.proofs.OneCore.Filled.{Coherent}
@@ -36,8 +36,8 @@ pending (Packet f left) c v = left c && is_some (f v)
 -- the core that commits
 
 commit-coherent : (ram : ℕ → ℕ) (c t : ℕ) (sh : Shape) (s : CoreState) → ((v : ℕ) → s.spilled v ≡ None) → Coherent ram none_gone s.cache
-    → Coherent (with_words (written s) ram) none_gone (all_clean (commit sh c t s).core).cache
-unfolding all_clean commit committed_core committed written with_words
+    → Coherent (with_words (written_words s) ram) none_gone (all_clean (commit sh c t s).core).cache
+unfolding all_clean commit committed_core committed written_words with_words
 commit-coherent ram c t sh s n k v g m x i = rw (n v) (go (s.cache.modified v) refl)
   where
     go : (b : Bool) → s.cache.modified v ≡ b → unwrap_or (if b then s.cache.value v else None) (ram v) ≡ x
@@ -45,8 +45,8 @@ commit-coherent ram c t sh s n k v g m x i = rw (n v) (go (s.cache.modified v) r
     go false e = k v refl e x i
 
 solo-coherent : (ram : ℕ → ℕ) (c t : ℕ) (sh : Shape) (s : CoreState) → Coherent ram none_gone s.cache
-    → Coherent (with_words (written s) ram) none_gone (all_clean (solo_commit sh c t s).core).cache
-unfolding all_clean solo_commit committed_core committed words_dropped written with_words
+    → Coherent (with_words (written_words s) ram) none_gone (all_clean (solo_commit sh c t s).core).cache
+unfolding all_clean solo_commit committed_core committed words_dropped written_words with_words
 solo-coherent ram c t sh s k v g m x i = go (s.spilled v) i (s.cache.modified v) refl
   where
     go : (o : Option ℕ) → (if is_some o then None else s.cache.value v) ≡ Some x → (b : Bool) → s.cache.modified v ≡ b
@@ -56,11 +56,11 @@ solo-coherent ram c t sh s k v g m x i = go (s.spilled v) i (s.cache.modified v)
     go None i false e = k v refl e x i
 
 pub out-coherent : (n c t : ℕ) (ram : ℕ → ℕ) (sh : Shape) (s : CoreState) → Fine sh (in_memory sh) n s → Coherent ram none_gone s.cache
-    → Coherent (with_words (written s) ram) none_gone (all_clean (commit_out sh c t s).core).cache
+    → Coherent (with_words (written_words s) ram) none_gone (all_clean (commit_out sh c t s).core).cache
 out-coherent n c t ram sh s k h = go (is_solo s.phase) refl
   where
     go : (b : Bool) → is_solo s.phase ≡ b
-        → Coherent (with_words (written s) ram) none_gone (all_clean (if b then solo_commit sh c t s else commit sh c t s).core).cache
+        → Coherent (with_words (written_words s) ram) none_gone (all_clean (if b then solo_commit sh c t s else commit sh c t s).core).cache
     go true e = solo-coherent ram c t sh s h
     go false e = commit-coherent ram c t sh s (k.sound.alone e) h
 
@@ -101,7 +101,7 @@ out-marks n c t sh s k o =
       owes = λ d e. absurd (o d (rw b.owing at e));
     }
   where
-    stand : (d : Cache) (o : Outcome) → UsesStand d [] (phase_after o)
+    stand : (d : Cache) (o : Outcome) → UsesStand d [] (phase_after_commit o)
     stand d Goes = tt
     stand d Ended = tt
     stand d (HaltedWith code) = tt
@@ -109,7 +109,7 @@ out-marks n c t sh s k o =
 
 pub out-follow : (n c t : ℕ) (sh : Shape) (p : Program) (ram : ℕ → ℕ) (s : CoreState) → Fine sh (in_memory sh) n s → ((d : ℕ)
     → s.owing d ≡ true → ⊥)
-    → Coherent ram none_gone s.cache → Follow sh p (with_words (written s) ram) none_gone (all_clean (commit_out sh c t s).core)
+    → Coherent ram none_gone s.cache → Follow sh p (with_words (written_words s) ram) none_gone (all_clean (commit_out sh c t s).core)
 out-follow n c t sh p ram s k o h = record {
   uses = [];
   fits = record { follows = out-follows n c t sh p s k; marks = out-marks n c t sh s k o };
@@ -119,9 +119,9 @@ out-follow n c t sh p ram s k o h = record {
 
 -- every other core
 
-written-some : (sh : Shape) (n : ℕ) (s : CoreState) (v : ℕ) → Fine sh (in_memory sh) n s → is_some (written s v) ≡ true
+written-some : (sh : Shape) (n : ℕ) (s : CoreState) (v : ℕ) → Fine sh (in_memory sh) n s → is_some (written_words s v) ≡ true
     → wrote_some sh s ≡ true
-unfolding wrote_some is_written is_modified holds any_word written
+unfolding wrote_some is_written is_modified holds any_word written_words
 written-some sh n s v k e =
     any_below-at (λ l. is_modified s.cache l || holds s.spilled l) (lines sh) (line_of v) (written-inside sh (in_memory sh) n s k v e)
     (go (s.spilled v) refl (s.cache.modified v) refl e)
@@ -145,20 +145,20 @@ written-some sh n s v k e =
 -- a word that isn't pending for another core has its value still
 pub others-keep : (sh : Shape) (n c i : ℕ) (ram : ℕ → ℕ) (s : CoreState) → Fine sh (in_memory sh) n s → i < sh.cores
     → (i == c) ≡ false → (v : ℕ)
-    → pending (packet sh c s) i v ≡ false → with_words (written s) ram v ≡ ram v
+    → pending (packet sh c s) i v ≡ false → with_words (written_words s) ram v ≡ ram v
 unfolding with_words
-others-keep sh n c i ram s k l q v e = go (written s v) refl (wrote_some sh s) refl (any_below (others sh c) sh.cores) refl e
+others-keep sh n c i ram s k l q v e = go (written_words s v) refl (wrote_some sh s) refl (any_below (others sh c) sh.cores) refl e
   where
     here : others sh c i ≡ true
     here = let a : nat_lt i sh.cores ≡ true = grind (arith, nat_tests) in rw (a, q) refl
 
-    go : (o : Option ℕ) → written s v ≡ o → (a : Bool) → wrote_some sh s ≡ a → (b : Bool) → any_below (others sh c) sh.cores ≡ b
-        → pending (if a && b then Packet (written s) (others sh c) else Free) i v ≡ false → unwrap_or o (ram v) ≡ ram v
+    go : (o : Option ℕ) → written_words s v ≡ o → (a : Bool) → wrote_some sh s ≡ a → (b : Bool) → any_below (others sh c) sh.cores ≡ b
+        → pending (if a && b then Packet (written_words s) (others sh c) else Free) i v ≡ false → unwrap_or o (ram v) ≡ ram v
     go None x a y b z e = refl
     go (Some u) x true y true z e = absurd (
         let h = here in
         let w = ap is_some x in
-        let j : (others sh c i && is_some (written s v)) ≡ false = e in
+        let j : (others sh c i && is_some (written_words s v)) ≡ false = e in
         grind (arith, nat_tests))
     go (Some u) x false y b z e = absurd (let w = written-some sh n s v k (ap is_some x) in cc)
     go (Some u) x true y false z e = absurd (let w = any_below-at (others sh c) sh.cores i l here in cc)
@@ -167,6 +167,6 @@ others-keep sh n c i ram s k l q v e = go (written s v) refl (wrote_some sh s) r
 pub own-none : (sh : Shape) (c : ℕ) (s : CoreState) (v : ℕ) → pending (packet sh c s) c v ≡ false
 own-none sh c s v = go (wrote_some sh s && any_below (others sh c) sh.cores)
   where
-    go : (a : Bool) → pending (if a then Packet (written s) (others sh c) else Free) c v ≡ false
+    go : (a : Bool) → pending (if a then Packet (written_words s) (others sh c) else Free) c v ≡ false
     go false = refl
     go true = let q : others sh c c ≡ false = grind (arith, nat_tests) in rw q refl

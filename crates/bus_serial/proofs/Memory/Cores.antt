@@ -11,10 +11,10 @@ use Rattle.tcc_rules.specs.State.{CoreState, Phase, Running, AwaitTid, Overflowi
 use Rattle.tcc_attempt.specs.Follows.{Fits}
 use Rattle.tcc_attempt.specs.Marks.{owed_in}
 use Rattle.tcc_attempt.proofs.Lemmas.{finished-same}
-use Rattle.bus_rules.specs.Commit.{BusStepped, written, with_words, packet, bus_commit, all_clean, commit_out}
-use Rattle.bus_rules.specs.Exec.{instruction, gone_alone, moved}
+use Rattle.bus_rules.specs.Commit.{BusStepped, written_words, with_words, packet, bus_commit, all_clean, commit_out}
+use Rattle.bus_rules.specs.Exec.{instruction, gone_alone, core_changed}
 use Rattle.bus_rules.specs.State.{Bus, Free, Alone, Packet, BusWorld}
-use Rattle.bus_rules.specs.Take.{taken, bus_left}
+use Rattle.bus_rules.specs.Take.{packet_taken, bus_left}
 use Rattle.bus_serial.proofs.OneCore.Committed.{finished-fine}
 use Rattle.bus_serial.proofs.OneCore.Did.{did-nothing, finished-did}
 use Rattle.bus_serial.proofs.InOrder.Events.{overflows, alone_by, taken_by, Happened, Instructs}
@@ -49,7 +49,7 @@ none-pending b c i v (inl e) = rw e refl
 none-pending b c i v (inr e) = rw e refl
 
 moved-followed : (sh : Shape) (p : Program) (w : BusWorld) (c : ℕ) (t : CoreState) → Followed sh p w
-    → Follow sh p w.ram (pending w.bus c) t → Followed sh p (moved w c t).world
+    → Follow sh p w.ram (pending w.bus c) t → Followed sh p (core_changed w c t).world
 moved-followed sh p w c t k h = put-all (λ i s. Follow sh p w.ram (pending w.bus i) s) sh w.cores c t (λ i l e. k i l) h
 
 alone-followed : (sh : Shape) (p : Program) (w : BusWorld) (c : ℕ) (t : CoreState) → w.bus ≡ Free → Followed sh p w
@@ -77,7 +77,7 @@ commit-followed sh n p w c s b f h k =
     (λ v g. (refl, refl)) (out-follow n c w.next sh p w.ram s f h.replied h.coherent))
   where
     now : ℕ → ℕ
-    now = with_words (written s) w.ram
+    now = with_words (written_words s) w.ram
 
 committing : (sh : Shape) (p : Program) (w : BusWorld) (c : ℕ) (s : CoreState) → (w.bus ≡ Free) ⊎ (w.bus ≡ Alone c)
     → owed_in s.phase ≡ false → Follow sh p w.ram (pending w.bus c) s → Committing sh w.ram s
@@ -123,10 +123,10 @@ others-pending sh c i v f left l q e = go (any_below (put left c false) sh.cores
 taken-followed : (sh : Shape) (n : ℕ) (p : Program) (w : BusWorld) (c : ℕ) (f : ℕ → Option ℕ) (left : ℕ → Bool) → c < sh.cores
     → w.bus ≡ Packet f left → left c ≡ true → Ordered sh (in_memory sh) n w → Followed sh p w → Followed sh p (taken_by sh w c f left).world
 taken-followed sh n p w c f left l b h o k =
-    put-all (λ i s. Follow sh p w.ram (pending after i) s) sh w.cores c (taken sh f (w.cores c))
+    put-all (λ i s. Follow sh p w.ram (pending after i) s) sh w.cores c (packet_taken sh f (w.cores c))
     (λ i j e. follow-over sh p w.ram w.ram (pending w.bus i) (pending after i) (w.cores i)
     (λ v g. (rw b (others-pending sh c i v f left j e g), refl)) (k i j))
-    (follow-over sh p w.ram w.ram none_gone (pending after c) (taken sh f (w.cores c)) (λ v g. (refl, refl))
+    (follow-over sh p w.ram w.ram none_gone (pending after c) (packet_taken sh f (w.cores c)) (λ v g. (refl, refl))
     (taken-follow sh n p f w.ram (w.cores c) (calm-phase w.next w.bus c (w.cores c).phase none (o.phases c l)) bounds.inside (o.cores c l)
     (follow-over sh p w.ram w.ram (pending w.bus c) (in_packet f) (w.cores c) (λ v g. (rw (b, h, g) refl, refl)) (k c l))))
   where

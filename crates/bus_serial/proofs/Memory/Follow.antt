@@ -17,7 +17,7 @@ use Rattle.tcc_rules.specs.Attempt.{Out, moves, is_solo}
 use Rattle.tcc_rules.specs.CoreDeliver.{fill, core_deliver}
 use Rattle.tcc_rules.specs.CoreEvict.{is_awaited, evict_line, core_evict}
 use Rattle.tcc_rules.specs.CoreExec.{core_exec}
-use Rattle.tcc_rules.specs.Sends.{written_back}
+use Rattle.tcc_rules.specs.Sends.{write_back_line}
 use Rattle.tcc_rules.specs.State.{CoreState, Overflowing, Solo}
 use Rattle.tcc_attempt.specs.Follows.{Uses, Fits, Follows, EndFits, sees, used_in, used_at, used_by}
 use Rattle.tcc_attempt.specs.Marks.{MarksFit, AttemptFits, owed_in}
@@ -202,7 +202,7 @@ evict-follow sh n p ram gone x y s k h = all (core_evict sh x y s) (core_evict-f
         go : (b : Bool) → IfSome (if b then None else Some (moves (record s {
           cache = evicted x y s.cache;
           spilled = spill_line l s.cache s.spilled;
-        }) (written_back sh s.cache l))) (λ o. Coherent ram gone o.core.cache)
+        }) (write_back_line sh s.cache l))) (λ o. Coherent ram gone o.core.cache)
         go true = tt
         go false = evicted-coherent ram gone x y l s.cache e h.coherent
 

@@ -14,7 +14,7 @@ use Rattle.tcc_attempt.specs.Marks.{AllStand, UsesStand}
 use Rattle.tcc_attempt.specs.Sound.{is_idle}
 use Rattle.tcc_serial.specs.InMemory.{WordInMemory}
 use Rattle.tcc_attempt.proofs.Lemmas.{follows-same, none-used, rolled-follows, with_words as with_cache}
-use Rattle.bus_rules.specs.Take.{reads_some, dropped, taken}
+use Rattle.bus_rules.specs.Take.{reads_some, packet_invalidated, packet_taken}
 use Rattle.bus_serial.proofs.OneCore.Filled.{Coherent}
 use Rattle.bus_serial.proofs.OneCore.Fine.{Fine}
 use Rattle.bus_serial.proofs.Memory.Follow.{AgreesBut, Follow}
@@ -99,8 +99,8 @@ dropped-seen f s ram v = go (is_some (f v)) (s.cache.modified v)
 marked-follow : (sh : Shape) (p : Program) (f : ℕ → Option ℕ) (ram : ℕ → ℕ) (s : CoreState)
     → ((v : ℕ) → s.cache.read v ≡ true → is_some (f v) ≡ false) → (h : Follow sh p ram (in_packet f) s) → AllStand false s.cache h.uses
     → (AllStand false (dropped_cache f s.cache) h.uses → UsesStand (dropped_cache f s.cache) h.uses s.phase)
-    → Follow sh p ram none_gone (dropped f s)
-unfolding dropped
+    → Follow sh p ram none_gone (packet_invalidated f s)
+unfolding packet_invalidated
 marked-follow sh p f ram s n h k g = record {
   uses = h.uses;
   fits = record {
@@ -118,8 +118,8 @@ marked-follow sh p f ram s n h k g = record {
 
 -- a core that has halted has none
 halted-follow : (sh : Shape) (n : ℕ) (p : Program) (f : ℕ → Option ℕ) (ram : ℕ → ℕ) (s : CoreState) → s.phase ≡ Halted
-    → Fine sh (in_memory sh) n s → Follow sh p ram (in_packet f) s → Follow sh p ram none_gone (dropped f s)
-unfolding dropped
+    → Fine sh (in_memory sh) n s → Follow sh p ram (in_packet f) s → Follow sh p ram none_gone (packet_invalidated f s)
+unfolding packet_invalidated
 halted-follow sh n p f ram s e k h = record {
   uses = [];
   fits = record {
@@ -146,8 +146,8 @@ halted-follow sh n p f ram s e k h = record {
 -- an attempt begins anew
 rolled-follow : (sh : Shape) (n : ℕ) (p : Program) (f : ℕ → Option ℕ) (ram : ℕ → ℕ) (s : CoreState) → is_solo s.phase ≡ false
     → Fine sh (in_memory sh) n s → Follow sh p ram (in_packet f) s
-    → Follow sh p ram none_gone (dropped f (record (roll_back s) { phase = Running }))
-unfolding dropped roll_back rolled_back
+    → Follow sh p ram none_gone (packet_invalidated f (record (roll_back s) { phase = Running }))
+unfolding packet_invalidated roll_back rolled_back
 rolled-follow sh n p f ram s e k h = record {
   uses = [];
   fits = record {
@@ -169,8 +169,8 @@ rolled-follow sh n p f ram s e k h = record {
 
 pub taken-follow : (sh : Shape) (n : ℕ) (p : Program) (f : ℕ → Option ℕ) (ram : ℕ → ℕ) (s : CoreState) → calm s.phase ≡ true
     → ((x : ℕ) → is_some (f x) ≡ true → WordInMemory sh x) → Fine sh (in_memory sh) n s → Follow sh p ram (in_packet f) s
-    → Follow sh p ram none_gone (taken sh f s)
-unfolding taken
+    → Follow sh p ram none_gone (packet_taken sh f s)
+unfolding packet_taken
 taken-follow sh n p f ram s q m k h = go (reads_some sh f s.cache) refl
   where
     alone : (q : Phase) → calm q ≡ true → is_solo q ≡ false
@@ -180,12 +180,12 @@ taken-follow sh n p f ram s q m k h = go (reads_some sh f s.cache) refl
     alone q e = absurd (cc)
 
     stays : ((v : ℕ) → s.cache.read v ≡ true → is_some (f v) ≡ false) → (q : Phase) → s.phase ≡ q → calm q ≡ true
-        → Follow sh p ram none_gone (dropped f s)
+        → Follow sh p ram none_gone (packet_invalidated f s)
     stays u Running e c = marked-follow sh p f ram s u h (rw e at h.fits.marks.stand) (λ a. rw e a)
     stays u AwaitTid e c = marked-follow sh p f ram s u h (rw e at h.fits.marks.stand) (λ a. rw e a)
     stays u Halted e c = halted-follow sh n p f ram s e k h
     stays u q e c = absurd (cc)
 
-    go : (b : Bool) → reads_some sh f s.cache ≡ b → Follow sh p ram none_gone (dropped f (again b s))
+    go : (b : Bool) → reads_some sh f s.cache ≡ b → Follow sh p ram none_gone (packet_invalidated f (again b s))
     go true e = rolled-follow sh n p f ram s (alone s.phase q) k h
     go false e = stays (unread-words sh f s.cache e m) s.phase refl q

@@ -11,11 +11,11 @@ use Rattle.tcc_bounds.proofs.Lemmas.{finishes, none}
 use Rattle.bus_serial.proofs.OneCore.Did.{LineSet, did-nothing, finished-did, finished-awaits}
 use Rattle.tcc_maps.specs.Spilled.{none_spilled}
 use Rattle.tcc_rules.specs.Attempt.{is_solo, finished}
-use Rattle.tcc_rules.specs.Commit.{phase_after, ended_after, committed_core, commit, solo_commit, noted}
+use Rattle.tcc_rules.specs.Commit.{phase_after_commit, ended_after_commit, committed_core, commit, solo_commit, noted}
 use Rattle.tcc_rules.specs.State.{CoreState, Awaited}
 use Rattle.tcc_attempt.specs.Sound.{AwaitsHeld, SoundCore}
 use Rattle.tcc_bounds.specs.Bounds.{AttemptCounted, CommitCounted}
-use Rattle.bus_rules.specs.Commit.{written, all_clean, commit_out}
+use Rattle.bus_rules.specs.Commit.{written_words, all_clean, commit_out}
 use Rattle.bus_serial.proofs.OneCore.Fine.{Fine}
 
 clean-awaits : (c : Cache) (o : Option Awaited) → AwaitsHeld c o
@@ -75,18 +75,18 @@ out-fine sh M n m c t s k = go (is_solo s.phase) refl
     go true e = solo_commit-fine sh M n m c t s k
     go false e = commit-fine sh M n m c t s e k
 
-pub out-phase : (sh : Shape) (c t : ℕ) (s : CoreState) → (all_clean (commit_out sh c t s).core).phase ≡ phase_after s.ended
+pub out-phase : (sh : Shape) (c t : ℕ) (s : CoreState) → (all_clean (commit_out sh c t s).core).phase ≡ phase_after_commit s.ended
 unfolding all_clean commit solo_commit committed_core
 out-phase sh c t s = go (is_solo s.phase)
   where
-    go : (b : Bool) → (if b then solo_commit sh c t s else commit sh c t s).core.phase ≡ phase_after s.ended
+    go : (b : Bool) → (if b then solo_commit sh c t s else commit sh c t s).core.phase ≡ phase_after_commit s.ended
     go true = refl
     go false = refl
 
 -- the checkpoint, and how a core that has halted did
 pub record Checked (s t : CoreState) : Type 0 where
   pub saved : t.saved ≡ s.local
-  pub ended : t.ended ≡ ended_after s.ended
+  pub ended : t.ended ≡ ended_after_commit s.ended
 
 pub out-checked : (sh : Shape) (c t : ℕ) (s : CoreState) → Checked s (all_clean (commit_out sh c t s).core)
 unfolding all_clean commit solo_commit committed_core
@@ -132,9 +132,9 @@ finished-fine sh M n p need x s k =
     spilled v (inr h) = h
 
 -- a word that is written lies in memory
-pub written-inside : (sh : Shape) (M : LineSet) (n : ℕ) (s : CoreState) → Fine sh M n s → (x : ℕ) → is_some (written s x) ≡ true
+pub written-inside : (sh : Shape) (M : LineSet) (n : ℕ) (s : CoreState) → Fine sh M n s → (x : ℕ) → is_some (written_words s x) ≡ true
     → M (line_of x)
-unfolding written
+unfolding written_words
 written-inside sh M n s k x = go (s.spilled x) refl (s.cache.modified x) (s.cache.value x) refl
   where
     go : (o : Option ℕ) → s.spilled x ≡ o → (m : Bool) (v : Option ℕ) → s.cache.value x ≡ v

@@ -12,11 +12,13 @@ use Rattle.tcc_maps.specs.Cache.{Cache, free_way, all_marked}
 use Rattle.tcc_maps.specs.CacheChange.{marked, stored, placed, placed_at}
 use Rattle.tcc_maps.specs.Spilled.{holds}
 use Rattle.tcc_rules.specs.State.{CoreState, Awaited, Phase, Running, AwaitTid, Overflowing, Solo}
-use Rattle.tcc_rules.specs.Attempt.{Out, moves, is_solo, is_running, new_word, finished, stepped}
-use Rattle.tcc_rules.specs.Execute.{ask, place, overflow, full_set, fetch, used, load_valid, load_spilled, load, buffered, framed}
-use Rattle.tcc_rules.specs.Execute.{word_store, also_read, change_valid, change_spilled, partial_store, close, execute_need, execute}
-use Rattle.tcc_rules.specs.CoreExec.{unless_awaiting, exec_phase, core_exec}
-use Rattle.tcc_rules.specs.Sends.{Sends, nothing, flushed}
+use Rattle.tcc_rules.specs.Attempt.{Out, moves, is_solo, is_running, new_word, finished, one_more_instruction}
+use Rattle.tcc_rules.specs.Execute.{request_line, place, overflow, full_set, miss, with_read_mark, load_valid, load_spilled, load}
+use Rattle.tcc_rules.specs.Execute.{stored_in_buffer, stored_in_frame}
+use Rattle.tcc_rules.specs.Execute.{word_store, marks_read, change_valid, change_spilled, partial_store, end_transaction, execute_need}
+use Rattle.tcc_rules.specs.Execute.{execute}
+use Rattle.tcc_rules.specs.CoreExec.{unless_awaiting, exec_in_phase, core_exec}
+use Rattle.tcc_rules.specs.Sends.{Sends, nothing, flush_line}
 use Rattle.tcc_bounds.specs.Bounds.{AttemptCounted}
 use Rattle.tcc_bounds.proofs.Lemmas.{finishes, marked_read, weak}
 
@@ -75,7 +77,7 @@ wanted base _ = 0
 -- an instruction's end
 
 pub finished-did : (M : LineSet) (p : Program) (need : Need) (x : ℕ) (s t : CoreState) → Did M s t → Did M s (finished p need x t)
-unfolding finished stepped
+unfolding finished one_more_instruction
 finished-did M p Nothing x s t d =
     record { stays = d.stays; value = d.value; clean = d.clean; frames = d.frames; spilled = d.spilled; saved = d.saved }
 finished-did M p _ x s t d =
@@ -83,7 +85,7 @@ finished-did M p _ x s t d =
 
 finished-how : (p : Program) (need : Need) (x w : ℕ) (s t : CoreState) → t.phase ≡ s.phase → t.awaited ≡ s.awaited
     → How w s (finished p need x t)
-unfolding finished stepped
+unfolding finished one_more_instruction
 finished-how p Nothing x w s t e a = Ran e a
 finished-how p _ x w s t e a = Ran e a
 
@@ -99,8 +101,8 @@ ends M p need x w s t sends d e a g = record {
 
 -- what changes in a core before that
 
-used-did : (M : LineSet) (w : ℕ) (s : CoreState) → Did M s (used w s)
-unfolding used marked
+used-did : (M : LineSet) (w : ℕ) (s : CoreState) → Did M s (with_read_mark w s)
+unfolding with_read_mark marked
 used-did M w s = go (is_running s.phase)
   where
     go : (b : Bool) → Did M s (if b then record s { cache = marked w s.cache } else s)
@@ -114,8 +116,8 @@ used-did M w s = go (is_running s.phase)
     }
     go false = did-nothing M s
 
-used-phase : (w : ℕ) (s : CoreState) → ((used w s).phase ≡ s.phase) × ((used w s).awaited ≡ s.awaited)
-unfolding used
+used-phase : (w : ℕ) (s : CoreState) → ((with_read_mark w s).phase ≡ s.phase) × ((with_read_mark w s).awaited ≡ s.awaited)
+unfolding with_read_mark
 used-phase w s = go (is_running s.phase)
   where
     go : (b : Bool) → ((if b then record s { cache = marked w s.cache } else s).phase ≡ s.phase)
@@ -123,8 +125,8 @@ used-phase w s = go (is_running s.phase)
     go true = (refl, refl)
     go false = (refl, refl)
 
-buffered-did : (M : LineSet) (w x : ℕ) (s : CoreState) → M (line_of w) → Did M s (buffered w x s)
-unfolding buffered
+buffered-did : (M : LineSet) (w x : ℕ) (s : CoreState) → M (line_of w) → Did M s (stored_in_buffer w x s)
+unfolding stored_in_buffer
 buffered-did M w x s m = record {
   stays = λ v e. e;
   value = λ v e. refl;
@@ -139,8 +141,8 @@ buffered-did M w x s m = record {
     go v true q e = let i : v ≡ w = grind (arith, nat_tests) in inr (rw i m)
     go v false q e = inl e
 
-framed-did : (M : LineSet) (w x : ℕ) (also : Bool) (s t : CoreState) → Did M s t → Did M s (framed w x also t)
-unfolding framed stored
+framed-did : (M : LineSet) (w x : ℕ) (also : Bool) (s t : CoreState) → Did M s t → Did M s (stored_in_frame w x also t)
+unfolding stored_in_frame stored
 framed-did M w x also s t d = record {
   stays = λ v e. d.stays v (other v (v == w) e);
   value = λ v e. same v (v == w) e (d.value v);
@@ -193,8 +195,8 @@ place-did sh M l s m = go (free_way sh s.cache (set_of sh l))
 -- asking for a line, or for the bus
 
 asked : (sh : Shape) (M : LineSet) (w : ℕ) (s : CoreState) (c : Cache) → s.cache.value w ≡ None → Did M s (record s { cache = c })
-    → Executed M w s (ask sh (line_of w) (record s { cache = c }))
-unfolding ask
+    → Executed M w s (request_line sh (line_of w) (record s { cache = c }))
+unfolding request_line
 asked sh M w s c n d = record {
   did = record { stays = d.stays; value = d.value; clean = d.clean; frames = d.frames; spilled = d.spilled; saved = d.saved };
   how = Asked c n refl;
@@ -224,13 +226,13 @@ full sh M l w s = go (is_solo s.phase) refl (not (all_marked sh s.cache (set_of 
     }
 
 fetches : (sh : Shape) (M : LineSet) (w : ℕ) (s : CoreState) → M (line_of w) → s.cache.value w ≡ None
-    → IfSome (fetch sh (line_of w) s) (Executed M w s)
-unfolding fetch place
+    → IfSome (miss sh (line_of w) s) (Executed M w s)
+unfolding miss place
 fetches sh M w s m n = go (s.cache.held (line_of w)) (is_some (free_way sh s.cache (set_of sh (line_of w))))
   where
     go : (a b : Bool) → IfSome (
-        if a then Some (ask sh (line_of w) s)
-        else (if b then Some (ask sh (line_of w) (place sh (line_of w) s)) else full_set sh (line_of w) s)) (Executed M w s)
+        if a then Some (request_line sh (line_of w) s)
+        else (if b then Some (request_line sh (line_of w) (place sh (line_of w) s)) else full_set sh (line_of w) s)) (Executed M w s)
     go true b = asked sh M w s s.cache n (did-nothing M s)
     go false true = asked sh M w s (placed sh (line_of w) s.cache) n (place-did sh M (line_of w) s m)
     go false false = full sh M (line_of w) w s
@@ -244,7 +246,7 @@ loads sh M p need w s m = go (s.spilled w)
   where
     valid : (o : Option ℕ) → s.cache.value w ≡ o → IfSome (load_valid sh p need w s o) (Executed M w s)
     valid (Some x) e =
-        let q = used-phase w s in ends M p need x w s (used w s) nothing (used-did M w s) q.0 q.1 (λ n k. marked_read n w s k)
+        let q = used-phase w s in ends M p need x w s (with_read_mark w s) nothing (used-did M w s) q.0 q.1 (λ n k. marked_read n w s k)
     valid None e = fetches sh M w s m e
 
     go : (o : Option ℕ) → IfSome (load_spilled sh p need w s o) (Executed M w s)
@@ -252,16 +254,17 @@ loads sh M p need w s m = go (s.spilled w)
     go None = valid (s.cache.value w) refl
 
 buffers : (sh : Shape) (M : LineSet) (p : Program) (need : Need) (w x y : ℕ) (s : CoreState) → M (line_of w)
-    → Executed M w s (moves (finished p need y (buffered w x s)) nothing)
-unfolding buffered
-buffers sh M p need w x y s m = ends M p need y w s (buffered w x s) nothing (buffered-did M w x s m) refl refl (λ n k. k)
+    → Executed M w s (moves (finished p need y (stored_in_buffer w x s)) nothing)
+unfolding stored_in_buffer
+buffers sh M p need w x y s m = ends M p need y w s (stored_in_buffer w x s) nothing (buffered-did M w x s m) refl refl (λ n k. k)
 
 frames : (sh : Shape) (M : LineSet) (p : Program) (need : Need) (w x y : ℕ) (also : Bool) (s : CoreState) (c : Cache) (sends : Sends)
-    → Did M s (record s { cache = c }) → Executed M w s (moves (finished p need y (framed w x also (record s { cache = c }))) sends)
-unfolding framed
+    → Did M s (record s { cache = c }) →
+    Executed M w s (moves (finished p need y (stored_in_frame w x also (record s { cache = c }))) sends)
+unfolding stored_in_frame
 frames sh M p need w x y also s c sends d =
     let t = record s { cache = c } in
-    ends M p need y w s (framed w x also t) sends (framed-did M w x also s t d) refl refl (λ n k. k)
+    ends M p need y w s (stored_in_frame w x also t) sends (framed-did M w x also s t d) refl refl (λ n k. k)
 
 partly : (sh : Shape) (M : LineSet) (p : Program) (need : Need) (w : ℕ) (s : CoreState) → M (line_of w)
     → IfSome (partial_store sh p need w s) (Executed M w s)
@@ -269,11 +272,11 @@ unfolding partial_store
 partly sh M p need w s m = go (s.spilled w)
   where
     one : (x : ℕ) (b : Bool) → IfSome (
-        if b then Some (moves (finished p need x (buffered w (new_word need x) s)) nothing)
-        else Some (moves (finished p need x (framed w (new_word need x) (also_read w s) s)) (flushed sh s.cache (line_of w))))
+        if b then Some (moves (finished p need x (stored_in_buffer w (new_word need x) s)) nothing)
+        else Some (moves (finished p need x (stored_in_frame w (new_word need x) (marks_read w s) s)) (flush_line sh s.cache (line_of w))))
         (Executed M w s)
     one x true = buffers sh M p need w (new_word need x) x s m
-    one x false = frames sh M p need w (new_word need x) x (also_read w s) s s.cache (flushed sh s.cache (line_of w)) (did-nothing M s)
+    one x false = frames sh M p need w (new_word need x) x (marks_read w s) s s.cache (flush_line sh s.cache (line_of w)) (did-nothing M s)
 
     valid : (o : Option ℕ) → s.cache.value w ≡ o → IfSome (change_valid sh p need w s o) (Executed M w s)
     valid None e = fetches sh M w s m e
@@ -290,12 +293,12 @@ wholly sh M p need w x s m = go (holds s.spilled (line_of w)) (s.cache.held (lin
     (is_some (free_way sh s.cache (set_of sh (line_of w))))
   where
     go : (a b d : Bool) → IfSome (
-        if a then Some (moves (finished p need x (buffered w x s)) nothing)
-        else (if b then Some (moves (finished p need x (framed w x false s)) (flushed sh s.cache (line_of w)))
-        else (if d then Some (moves (finished p need x (framed w x false (place sh (line_of w) s))) nothing)
+        if a then Some (moves (finished p need x (stored_in_buffer w x s)) nothing)
+        else (if b then Some (moves (finished p need x (stored_in_frame w x false s)) (flush_line sh s.cache (line_of w)))
+        else (if d then Some (moves (finished p need x (stored_in_frame w x false (place sh (line_of w) s))) nothing)
         else full_set sh (line_of w) s))) (Executed M w s)
     go true b d = buffers sh M p need w x x s m
-    go false true d = frames sh M p need w x x false s s.cache (flushed sh s.cache (line_of w)) (did-nothing M s)
+    go false true d = frames sh M p need w x x false s s.cache (flush_line sh s.cache (line_of w)) (did-nothing M s)
     go false false true = frames sh M p need w x x false s (placed sh (line_of w) s.cache) nothing (place-did sh M (line_of w) s m)
     go false false false = full sh M (line_of w) w s
 
@@ -307,12 +310,12 @@ goes (Traps code) = false
 goes _ = true
 
 pub finished-awaits : (p : Program) (need : Need) (x : ℕ) (s : CoreState) → (finished p need x s).awaited ≡ s.awaited
-unfolding finished stepped
+unfolding finished one_more_instruction
 finished-awaits p Nothing x s = refl
 finished-awaits p _ x s = refl
 
 closes : (sh : Shape) (M : LineSet) (p : Program) (id w : ℕ) (need : Need) (s : CoreState) (q : Phase) → s.phase ≡ q → q ≡ Running
-    → Executed M w s (close sh id q (finished p need 0 s))
+    → Executed M w s (end_transaction sh id q (finished p need 0 s))
 closes sh M p id w need s Running e r =
     let d = finished-did M p need 0 s s (did-nothing M s) in
     record {
@@ -350,7 +353,7 @@ exec-executed sh M p id s m a g = go s.phase refl g
     awaiting (Some x) e g = absurd (cc)
 
     go : (q : Phase) → s.phase ≡ q → (q ≡ Running) ⊎ ((is_solo q && goes (p.need s.local)) ≡ true)
-        → IfSome (exec_phase sh p id s q) (Executed M (wanted sh.base (p.need s.local)) s)
+        → IfSome (exec_in_phase sh p id s q) (Executed M (wanted sh.base (p.need s.local)) s)
     go Running e g = awaiting s.awaited a (inl e)
     go (Solo t) e (inl h) = absurd (cc)
     go (Solo t) e (inr h) = awaiting s.awaited a (inr h)

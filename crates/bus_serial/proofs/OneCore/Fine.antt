@@ -15,7 +15,7 @@ use Rattle.tcc_rules.specs.Attempt.{Out, moves, is_solo}
 use Rattle.tcc_rules.specs.CoreDeliver.{core_deliver}
 use Rattle.tcc_rules.specs.CoreEvict.{is_awaited, evict_line, core_evict}
 use Rattle.tcc_rules.specs.CoreExec.{core_exec}
-use Rattle.tcc_rules.specs.Sends.{written_back}
+use Rattle.tcc_rules.specs.Sends.{write_back_line}
 use Rattle.tcc_rules.specs.State.{CoreState, Awaited, Running, AwaitTid, Overflowing}
 use Rattle.tcc_attempt.specs.Sound.{AwaitsHeld, SoundCore}
 use Rattle.tcc_bounds.specs.Bounds.{AttemptCounted}
@@ -172,8 +172,8 @@ evict_line-fine sh M n x y s (Some l) e k q = go (is_awaited s.awaited l || (is_
     spilt v true false r h = k.spilled v h
     spilt v false m r h = k.spilled v h
 
-    go : (b : Bool) → IfSome (if b then None else Some (moves t (written_back sh s.cache l))) (λ t. SoundCore sh t.core)
-        → IfSome (if b then None else Some (moves t (written_back sh s.cache l))) (Left sh M n s)
+    go : (b : Bool) → IfSome (if b then None else Some (moves t (write_back_line sh s.cache l))) (λ t. SoundCore sh t.core)
+        → IfSome (if b then None else Some (moves t (write_back_line sh s.cache l))) (Left sh M n s)
     go true q = tt
     go false q = record {
       fine = record {
@@ -200,7 +200,7 @@ evict_line-phase sh x y s (Some l) = go (is_awaited s.awaited l || (is_marked s.
     go : (b : Bool) → IfSome (if b then None else Some (moves (record s {
       cache = evicted x y s.cache;
       spilled = spill_line l s.cache s.spilled;
-    }) (written_back sh s.cache l))) (λ t. t.core.phase ≡ s.phase)
+    }) (write_back_line sh s.cache l))) (λ t. t.core.phase ≡ s.phase)
     go true = tt
     go false = refl
 

@@ -9,7 +9,7 @@ use Rattle.tcc_rules.specs.State.{CoreState, Awaited, Running}
 use Rattle.tcc_attempt.specs.Sound.{AwaitsHeld}
 use Rattle.tcc_attempt.proofs.Lemmas.{rolled-sound}
 use Rattle.tcc_bounds.proofs.Lemmas.{rolled}
-use Rattle.bus_rules.specs.Take.{reads_some, dropped, taken}
+use Rattle.bus_rules.specs.Take.{reads_some, packet_invalidated, packet_taken}
 use Rattle.bus_serial.proofs.OneCore.Fine.{Fine}
 use Rattle.bus_serial.proofs.OneCore.Did.{LineSet}
 
@@ -17,8 +17,8 @@ use Rattle.bus_serial.proofs.OneCore.Did.{LineSet}
 abbrev pub again : Bool → CoreState → CoreState
 again b s = if b then record (roll_back s) { phase = Running } else s
 
-dropped-fine : (sh : Shape) (M : LineSet) (n : ℕ) (f : ℕ → Option ℕ) (s : CoreState) → Fine sh M n s → Fine sh M n (dropped f s)
-unfolding dropped
+dropped-fine : (sh : Shape) (M : LineSet) (n : ℕ) (f : ℕ → Option ℕ) (s : CoreState) → Fine sh M n s → Fine sh M n (packet_invalidated f s)
+unfolding packet_invalidated
 dropped-fine sh M n f s k = record {
   awaited = k.awaited;
   clean = k.clean;
@@ -82,6 +82,6 @@ again-fine sh M n true s e k = rolled-fine sh M n s e k
 again-fine sh M n false s e k = k
 
 pub taken-fine : (sh : Shape) (M : LineSet) (n : ℕ) (f : ℕ → Option ℕ) (s : CoreState) → is_solo s.phase ≡ false → Fine sh M n s
-    → Fine sh M n (taken sh f s)
-unfolding taken
+    → Fine sh M n (packet_taken sh f s)
+unfolding packet_taken
 taken-fine sh M n f s e k = dropped-fine sh M n f _ (again-fine sh M n (reads_some sh f s.cache) s e k)

@@ -17,11 +17,11 @@ use Rattle.tcc_attempt.specs.Follows.{Uses, Agrees, IsSmall, NeedFits, Fits, Has
 use Rattle.tcc_serial.specs.Aim.{Suits}
 use Rattle.tcc_serial.specs.Commits.{CommitsSerial, CoreSerial, plain_start}
 use Rattle.tcc_attempt.proofs.Lemmas.{Claim, finished-claims, in-to, none-used, start-follows}
-use Rattle.bus_rules.specs.Commit.{BusStepped, written, with_words, bus_commit, all_clean, commit_out}
+use Rattle.bus_rules.specs.Commit.{BusStepped, written_words, with_words, bus_commit, all_clean, commit_out}
 use Rattle.bus_rules.specs.Exec.{instruction, gone_alone}
 use Rattle.bus_rules.specs.State.{Bus, Free, Alone, BusWorld, BusEvent, bus_start}
 use Rattle.bus_rules.specs.Step.{BusHistory, bus_run}
-use Rattle.bus_rules.specs.Take.{taken}
+use Rattle.bus_rules.specs.Take.{packet_taken}
 use Rattle.bus_serial.specs.Laws.{BusIsSerial, BusRunsAreSerial}
 use Rattle.bus_serial.proofs.InOrder.Bounded.{in_memory, stays-in, InOrder, events-in-order, start-in-order}
 use Rattle.bus_serial.proofs.OneCore.Committed.{out-phase, out-noted, out-checked, finished-fine}
@@ -98,7 +98,7 @@ committed sh p entries first h c s l k r = record {
       memory = k.memory;
     }) r.did r.ended
 
-    words : (x : ℕ) → d.attempt.ram x ≡ with_words (written s) h.world.ram x
+    words : (x : ℕ) → d.attempt.ram x ≡ with_words (written_words s) h.world.ram x
     words x = d.reaches.words x ∙ sym (seen-written sh s h.world.ram r.cache x)
 
     t : CoreState
@@ -135,7 +135,7 @@ await-ready sh n p w c b q m f h =
     }
 
 finished-saved : (p : Program) (need : Need) (s : CoreState) → (finished p need 0 s).saved ≡ s.saved
-unfolding finished Rattle.tcc_rules.specs.Attempt.stepped
+unfolding finished Rattle.tcc_rules.specs.Attempt.one_more_instruction
 finished-saved p Nothing s = refl
 finished-saved p _ s = refl
 
@@ -199,7 +199,7 @@ happened-plainly sh p entries first n h r z o f (Evicts c x y t l d e) k =
     let a = if-at (core_evict sh x y (w.cores c)) t (λ u. Same (w.cores c) u.core) d (evict-same sh x y (w.cores c)) in
     rw e (changed sh p entries first h c t.core w.bus k a)
 happened-plainly sh p entries first n h r z o f (Takes c g left l b i e) k =
-    rw e (changed sh p entries first h c (taken sh g (h.world.cores c)) _ k (taken-same sh n g (h.world.cores c) (o.cores c l)))
+    rw e (changed sh p entries first h c (packet_taken sh g (h.world.cores c)) _ k (taken-same sh n g (h.world.cores c) (o.cores c l)))
 
 -- all of it
 

@@ -12,12 +12,12 @@ use Rattle.tcc_program.specs.Plain.{Outcome, PlainCore}
 use Rattle.tcc_program.specs.Program.{Program}
 use Rattle.tcc_rules.specs.Attempt.{moves, is_solo, roll_back}
 use Rattle.tcc_rules.specs.CoreEvict.{is_awaited, evict_line, core_evict}
-use Rattle.tcc_rules.specs.Sends.{written_back}
+use Rattle.tcc_rules.specs.Sends.{write_back_line}
 use Rattle.tcc_rules.specs.State.{CoreState, Phase, Running, Halted}
 use Rattle.tcc_attempt.specs.Sound.{is_idle}
 use Rattle.tcc_serial.specs.Commits.{CoreSerial, end_after}
 use Rattle.bus_rules.specs.Exec.{gone_alone}
-use Rattle.bus_rules.specs.Take.{reads_some, dropped, taken}
+use Rattle.bus_rules.specs.Take.{reads_some, packet_invalidated, packet_taken}
 use Rattle.bus_serial.proofs.OneCore.Did.{goes}
 use Rattle.bus_serial.proofs.OneCore.Fine.{Fine, Ways, Stays, Closes, Overflows}
 use Rattle.bus_serial.proofs.OneCore.Instruction.{Executes}
@@ -69,7 +69,7 @@ evict-same sh x y s = go (s.cache.at x y)
     at : (l : ℕ) (b : Bool) → IfSome (if b then None else Some (moves (record s {
       cache = evicted x y s.cache;
       spilled = spill_line l s.cache s.spilled;
-    }) (written_back sh s.cache l))) (λ o. Same s o.core)
+    }) (write_back_line sh s.cache l))) (λ o. Same s o.core)
     at l true = tt
     at l false = record { saved = refl; ended = refl }
 
@@ -89,14 +89,14 @@ none-read sh f c n e =
     no true y e h = absurd (cc)
     no false y e h = absurd (cc)
 
-pub taken-same : (sh : Shape) (n : ℕ) (f : ℕ → Option ℕ) (s : CoreState) → Fine sh (in_memory sh) n s → Same s (taken sh f s)
-unfolding taken dropped roll_back
+pub taken-same : (sh : Shape) (n : ℕ) (f : ℕ → Option ℕ) (s : CoreState) → Fine sh (in_memory sh) n s → Same s (packet_taken sh f s)
+unfolding packet_taken packet_invalidated roll_back
 taken-same sh n f s k = go (reads_some sh f s.cache) refl
   where
     rolls : reads_some sh f s.cache ≡ true → (q : Phase) → s.phase ≡ q → has_halted q ≡ false
     rolls e Halted q = absurd (none-read sh f s.cache (λ v. (k.sound.unmarked (ap is_idle q) v).0) e)
     rolls e q i = refl
 
-    go : (b : Bool) → reads_some sh f s.cache ≡ b → Same s (dropped f (again b s))
+    go : (b : Bool) → reads_some sh f s.cache ≡ b → Same s (packet_invalidated f (again b s))
     go true e = record { saved = refl; ended = sym (end-runs s.phase s.ended (rolls e s.phase refl)) }
     go false e = record { saved = refl; ended = refl }

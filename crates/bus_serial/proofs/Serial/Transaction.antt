@@ -14,11 +14,11 @@ use Rattle.tcc_program.specs.Plain.{Attempt, Outcome, Goes, Ended, Halted as Hal
 use Rattle.tcc_program.specs.Plain.{closed, end_of, transaction, commit_of}
 use Rattle.tcc_program.specs.Program.{Local, Program}
 use Rattle.tcc_program.proofs.Lemmas.{serial-snoc, last_tid-snoc}
-use Rattle.tcc_rules.specs.Commit.{noted, phase_after, ended_after}
+use Rattle.tcc_rules.specs.Commit.{noted, phase_after_commit, ended_after_commit}
 use Rattle.tcc_rules.specs.State.{CoreState}
 use Rattle.tcc_attempt.specs.Follows.{Reaches, HasEnded, sees}
 use Rattle.tcc_serial.specs.Commits.{CommitsSerial, plain_start, end_after}
-use Rattle.bus_rules.specs.Commit.{written, with_words}
+use Rattle.bus_rules.specs.Commit.{written_words, with_words}
 
 -- the plain machine does what the attempt did, from this memory
 abbrev pub PlainDid : Shape → Program → CoreState → (ram : ℕ → ℕ) → Type 0
@@ -58,8 +58,9 @@ transacts sh p m c s ram k d e = go (steps sh.base p s.n (begun s.saved ram)) re
     go (Some a) q r = by a q r (end_of a.outcome) refl (rw r.outcome e)
 
 -- what the attempt wrote is what it sees
-pub seen-written : (sh : Shape) (s : CoreState) (ram : ℕ → ℕ) → IsCache sh s.cache → (x : ℕ) → with_words (written s) ram x ≡ sees s ram x
-unfolding with_words written sees
+pub seen-written : (sh : Shape) (s : CoreState) (ram : ℕ → ℕ) → IsCache sh s.cache → (x : ℕ) →
+    with_words (written_words s) ram x ≡ sees s ram x
+unfolding with_words written_words sees
 seen-written sh s ram k x = go (s.spilled x) (s.cache.modified x) refl (s.cache.value x) refl
   where
     go : (o : Option ℕ) (m : Bool) → s.cache.modified x ≡ m → (v : Option ℕ) → s.cache.value x ≡ v
@@ -70,7 +71,7 @@ seen-written sh s ram k x = go (s.spilled x) (s.cache.modified x) refl (s.cache.
     go None false e v f = refl
 
 -- how the core stands after it
-pub end-is : (o : Outcome) (x : CoreEnd) → end_of o ≡ Some x → x ≡ end_after (phase_after o) (ended_after o)
+pub end-is : (o : Outcome) (x : CoreEnd) → end_of o ≡ Some x → x ≡ end_after (phase_after_commit o) (ended_after_commit o)
 end-is Goes x e = absurd (cc)
 end-is Ended x e = sym (some-end Run x e)
   where

@@ -25,7 +25,7 @@ use Rattle.tcc_rules.specs.CoreDeliver.{core_deliver}
 use Rattle.tcc_rules.specs.Links.{in_flight, sending, taking}
 use Rattle.tcc_rules.specs.State.{CoreState, World}
 use Rattle.tcc_rules.specs.Step.{Stepped, and_noted, core_moves, core_takes, insert_commit, happens, if_in_flight, is_node}
-use Rattle.tcc_rules.specs.Step.{moved, names_nodes, step, taken}
+use Rattle.tcc_rules.specs.Step.{if_core_moves, names_nodes, step, if_core_takes}
 use Rattle.core_node.specs.Answers.{IsBlocked}
 use Rattle.core_node.specs.declared.delivering.CoreError.{CoreError}
 use Rattle.core_node.specs.declared.delivering.CoreError.TheVariants.{Blocked, Memory}
@@ -77,7 +77,7 @@ not-below k n h = go (nat_lt k n) refl
     go false e = refl
 
 pub exec-step : (m : Machine) (c : ℕ) → c < (settings_of m).cores
-    → step_of m (Exec c) ≡ moved (world_of m) c (core_exec (settings_of m) (program_of m) c (cores_of m.cores c))
+    → step_of m (Exec c) ≡ if_core_moves (world_of m) c (core_exec (settings_of m) (program_of m) c (cores_of m.cores c))
 unfolding step names_nodes happens world_of
 exec-step m c l = rw (lt-ltb c (settings_of m).cores l) refl
 
@@ -86,7 +86,7 @@ unfolding step names_nodes
 no-exec m c l = rw (not-below c (settings_of m).cores l) refl
 
 pub evict-step : (m : Machine) (c x y : ℕ) → c < (settings_of m).cores → x < (settings_of m).sets → y < (settings_of m).ways
-    → step_of m (Evict c x y) ≡ moved (world_of m) c (core_evict (settings_of m) x y (cores_of m.cores c))
+    → step_of m (Evict c x y) ≡ if_core_moves (world_of m) c (core_evict (settings_of m) x y (cores_of m.cores c))
 unfolding step names_nodes happens world_of
 evict-step m c x y l k j = rw (lt-ltb c (settings_of m).cores l, lt-ltb x (settings_of m).sets k, lt-ltb y (settings_of m).ways j) refl
 
@@ -104,11 +104,11 @@ no-evict m c x y h = go (nat_lt c (settings_of m).cores) refl (nat_lt x (setting
 
 -- the same where the limits are read from settings that are those of the machine
 pub exec-step_in : (m : Machine) (s : Settings) (c : ℕ) → s ≡ settings_of m → c < s.cores
-    → step_of m (Exec c) ≡ moved (world_of m) c (core_exec (settings_of m) (program_of m) c (cores_of m.cores c))
+    → step_of m (Exec c) ≡ if_core_moves (world_of m) c (core_exec (settings_of m) (program_of m) c (cores_of m.cores c))
 exec-step_in m s c e l = exec-step m c (subst (λ t. c < t.cores) e l)
 
 pub evict-step_in : (m : Machine) (s : Settings) (c x y : ℕ) → s ≡ settings_of m → (c < s.cores) × (x < s.sets) × (y < s.ways)
-    → step_of m (Evict c x y) ≡ moved (world_of m) c (core_evict (settings_of m) x y (cores_of m.cores c))
+    → step_of m (Evict c x y) ≡ if_core_moves (world_of m) c (core_evict (settings_of m) x y (cores_of m.cores c))
 evict-step_in m s c x y e h = evict-step m c x y (subst (λ t. c < t.cores) e h.0) (subst (λ t. x < t.sets) e h.1)
     (subst (λ t. y < t.ways) e h.2)
 
@@ -120,17 +120,17 @@ no-evict_in m s c x y e h = no-evict m c x y
 -- a message in flight to a core
 pub take-step : (m : Machine) (src : Node) (c k : ℕ) (x : Msg) → in_flight (world_of m).net src (Core c) k ≡ Some x
     → is_node (settings_of m) src ≡ true → c < (settings_of m).cores
-    → step_of m (Deliver src (Core c) k) ≡ taken (world_of m) src c k (core_deliver (settings_of m) (cores_of m.cores c) src x)
+    → step_of m (Deliver src (Core c) k) ≡ if_core_takes (world_of m) src c k (core_deliver (settings_of m) (cores_of m.cores c) src x)
 unfolding step names_nodes happens world_of
 take-step m src c k x e n l = rw (n, lt-ltb c (settings_of m).cores l) (ap (if_in_flight (settings_of m) (world_of m) src (Core c) k) e)
 
 -- ---- no event
 
-moved-none : (w : World) (c : ℕ) (o : Option Out) → moved w c o ≡ None → o ≡ None
+moved-none : (w : World) (c : ℕ) (o : Option Out) → if_core_moves w c o ≡ None → o ≡ None
 moved-none w c None e = refl
 moved-none w c (Some o) e = absurd (cc)
 
-taken-none : (w : World) (src : Node) (c k : ℕ) (o : Option Out) → taken w src c k o ≡ None → o ≡ None
+taken-none : (w : World) (src : Node) (c k : ℕ) (o : Option Out) → if_core_takes w src c k o ≡ None → o ≡ None
 taken-none w src c k None e = refl
 taken-none w src c k (Some o) e = absurd (cc)
 
@@ -142,14 +142,15 @@ refused-by A m n e Blocked o s b to from = (stays-kept m n s, to b)
 refused-by A m n e Memory o s b to from = (stays-kept m n s, λ q. b (from q))
 
 pub refused-move : (A : Type 0) (m n : Machine) (e : Event) (c : ℕ) (error : CoreError) (o : Option Out) → StaysBut m n
-    → IsBlocked {A = A} (Err error) o → step_of m e ≡ moved (world_of m) c o → Answers m n e (Err (refusal_of error))
+    → IsBlocked {A = A} (Err error) o → step_of m e ≡ if_core_moves (world_of m) c o → Answers m n e (Err (refusal_of error))
 refused-move A m n e c error o s b is =
-    refused-by A m n e error o s b (λ q. is ∙ ap (moved (world_of m) c) q) (λ q. moved-none (world_of m) c o (sym is ∙ q))
+    refused-by A m n e error o s b (λ q. is ∙ ap (if_core_moves (world_of m) c) q) (λ q. moved-none (world_of m) c o (sym is ∙ q))
 
 pub refused-take : (A : Type 0) (m n : Machine) (e : Event) (src : Node) (c k : ℕ) (error : CoreError) (o : Option Out) → StaysBut m n
-    → IsBlocked {A = A} (Err error) o → step_of m e ≡ taken (world_of m) src c k o → Answers m n e (Err (refusal_of error))
+    → IsBlocked {A = A} (Err error) o → step_of m e ≡ if_core_takes (world_of m) src c k o → Answers m n e (Err (refusal_of error))
 refused-take A m n e src c k error o s b is =
-    refused-by A m n e error o s b (λ q. is ∙ ap (taken (world_of m) src c k) q) (λ q. taken-none (world_of m) src c k o (sym is ∙ q))
+    refused-by A m n e error o s b (λ q. is ∙ ap (if_core_takes (world_of m) src c k) q)
+    (λ q. taken-none (world_of m) src c k o (sym is ∙ q))
 
 -- ---- an event
 
@@ -199,14 +200,15 @@ NotesAs m n t None = ⊥
 NotesAs m n t (Some o) = (n.commits ≡ and_noted o.commit m.commits) × (tid_told t ≡ option_map (λ c. c.tid) o.commit)
 
 pub took-move : (m n : Machine) (e : Event) (c : ℕ) (before out : Outgoing) (t : Told) (o : Option Out) → ActsFrom m n c before out
-    → Acted o c m.cores n.cores before out → n.flights ≡ m.flights → step_of m e ≡ moved (world_of m) c o → NotesAs m n t o → Took m n e t
+    → Acted o c m.cores n.cores before out → n.flights ≡ m.flights → step_of m e ≡ if_core_moves (world_of m) c o → NotesAs m n t o →
+    Took m n e t
 took-move m n e c before out t None a f flights is notes = absurd f
 took-move m n e c before out t (Some o) a f flights is notes =
     took-by m n e _ t is (moves-world m n c before out o a f flights) notes.0 notes.1 a.events a.code
 
 pub took-take : (m n : Machine) (e : Event) (src : Node) (c k : ℕ) (before out : Outgoing) (t : Told) (o : Option Out)
     → ActsFrom m n c before out → Acted o c m.cores n.cores before out → net_of n.flights ≡ taking (net_of m.flights) src (Core c) k
-    → step_of m e ≡ taken (world_of m) src c k o → NotesAs m n t o → Took m n e t
+    → step_of m e ≡ if_core_takes (world_of m) src c k o → NotesAs m n t o → Took m n e t
 took-take m n e src c k before out t None a f flights is notes = absurd f
 took-take m n e src c k before out t (Some o) a f flights is notes =
     took-by m n e _ t is (takes-world m n src c k before out o a f flights) notes.0 notes.1 a.events a.code
@@ -269,12 +271,12 @@ told-unnoted (Some o) (done.Committed c) t (inr h) = absurd (cc)
 
 -- and with one
 told-noted : (o : Option Out) (c : Commit) → CoreTold (done.Committed c) o → (w : World) (core : ℕ)
-    → (s : Stepped) × ((moved w core o ≡ Some s) × (s.noted ≡ Some c))
+    → (s : Stepped) × ((if_core_moves w core o ≡ Some s) × (s.noted ≡ Some c))
 told-noted None c t w core = absurd t
 told-noted (Some o) c t w core = (record { world = core_moves w core o; noted = o.commit }, (refl, t))
 
 pub commit-new : (m : Machine) (core : ℕ) (o : Option Out) (c : Commit) → IsWhole m → CoreTold (done.Committed c) o
-    → step_of m (Exec core) ≡ moved (world_of m) core o → HasNone c.tid.0 m.commits
+    → step_of m (Exec core) ≡ if_core_moves (world_of m) core o → HasNone c.tid.0 m.commits
 commit-new m core o c w t is = let (s, p) = told-noted o c t (world_of m) core in new-tid m (Exec core) s c w (is ∙ p.0) p.1
 
 pub noted-as : (m n : Machine) (o : Option Out) (c : Commit) → CoreTold (done.Committed c) o → n.commits ≡ insert_commit c m.commits

@@ -15,7 +15,7 @@ use Rattle.tcc_maps.specs.Words.{num}
 use Rattle.tcc_msg.specs.Plain.{sends_of}
 use Rattle.tcc_rules.specs.Links.{sending}
 use Rattle.tcc_rules.specs.State.{World}
-use Rattle.tcc_rules.specs.Step.{History, Stepped, and_noted, insert_commit, next, recorded, run}
+use Rattle.tcc_rules.specs.Step.{History, Stepped, and_noted, insert_commit, next_history, recorded, run}
 use Rattle.tcc_serial.specs.Owners.{times}
 use Rattle.commit_list.specs.Rising.{HasNone}
 use Rattle.core_bank.specs.Bank.{cores_of}
@@ -41,8 +41,8 @@ same-dirs m n code dirs = λ i. dirs_of (first_ram (started (code i))) (dirs i)
 -- the rules' next history, where the rules' step is known
 pub next-is : (m n : Machine) (e : Event) (o : Stepped) → step_of m e ≡ Some o → world_of n ≡ o.world
     → n.commits ≡ and_noted o.noted m.commits
-    → next (settings_of m) (program_of m) (history_of m) e ≡ Some (history_of n)
-unfolding next history_of
+    → next_history (settings_of m) (program_of m) (history_of m) e ≡ Some (history_of n)
+unfolding next_history history_of
 next-is m n e o s w cs = ap (recorded (record { world = world_of m; commits = m.commits })) s
     ∙ (λ i. Some (record { world = sym w i; commits = sym cs i }))
 
@@ -139,10 +139,10 @@ none-among t (c ∷ cs) e = (λ q. other q, none-among t cs (omega (arith, e)))
 -- a commit that an event notes has a TID that no commit before it has
 pub new-tid : (m : Machine) (e : Event) (o : Stepped) (c : Commit) → IsWhole m → step_of m e ≡ Some o → o.noted ≡ Some c
     → HasNone c.tid.0 m.commits
-unfolding next history_of started
+unfolding next_history history_of started
 new-tid m e o c w s noted =
     let h : History = record { world = o.world; commits = insert_commit c m.commits } in
-    let there : next (settings_of m) (program_of m) (history_of m) e ≡ Some h =
+    let there : next_history (settings_of m) (program_of m) (history_of m) e ≡ Some h =
     ap (recorded (record { world = world_of m; commits = m.commits })) s
     ∙ ap (λ n. Some (record { world = o.world; commits = and_noted n m.commits })) noted in
     let es : List Event = w.reached.taken ++ e ∷ [] in

@@ -8,8 +8,8 @@ use Rattle.tcc_maps.specs.Nodes.{Core, Msg, TidReq, TidGrant, LoadReq, Fill, Ski
 use Rattle.tcc_maps.specs.Nodes.{WriteBack, Flush, DataReq, Inv, InvAck}
 use Rattle.tcc_maps.specs.Serving.{Serving, kept, skipped}
 use Rattle.tcc_maps.proofs.Lemmas.{advance-rises}
-use Rattle.tcc_rules.specs.DirDeliver.{Answer, Waits, Drops, Asks, Takes, abort, acknowledgement, ask_owner, dir_deliver, load_owned}
-use Rattle.tcc_rules.specs.DirDeliver.{load_request, moved_on, probe, settled, skip, unless_keeps}
+use Rattle.tcc_rules.specs.DirDeliver.{Answer, Waits, Drops, Asks, Takes, abort, acknowledgement, ask_owner, dir_deliver, load_unless_owned}
+use Rattle.tcc_rules.specs.DirDeliver.{load_request, moved_on, probe, moved_on_if_settled, skip, unless_keeps}
 use Rattle.tcc_rules.specs.Sends.{Sends, nothing, to}
 use Rattle.tcc_rules.specs.State.{DirState}
 use Rattle.directory.specs.Gives.{acts, answer_of}
@@ -95,7 +95,7 @@ load-quiet : (c l last : ℕ) (s : DirState) → Quiet (LoadReq l last) s (load_
 unfolding load_request
 load-quiet c l last s = by (nat_le s.serving.serving last || has_mark s.lines l) (s.lines.owner l)
   where
-    by : (b : Bool) (o : Option ℕ) → Quiet (LoadReq l last) s (if b then Waits else load_owned c l s o)
+    by : (b : Bool) (o : Option ℕ) → Quiet (LoadReq l last) s (if b then Waits else load_unless_owned c l s o)
     by true o = tt
     by false None = λ f. sharer-quiet l c true s.owed s
     by false (Some o) = ask-quiet l last o s
@@ -104,9 +104,9 @@ owed-quiet : (c l : ℕ) (keeps : Bool) (n : ℕ) (s : DirState) → SameTaking 
 owed-quiet c l true n s = record { serving = refl; mark = refl; owner = refl; asked = refl; tag = refl }
 owed-quiet c l false n s = sharer-quiet l c false n s
 
-settled-quiet : (s t : DirState) → SameTaking s t → not ((settled t).serving.serving == s.serving.serving) ≡ false
-    → SameTaking s (settled t)
-unfolding settled
+settled-quiet : (s t : DirState) → SameTaking s t → not ((moved_on_if_settled t).serving.serving == s.serving.serving) ≡ false
+    → SameTaking s (moved_on_if_settled t)
+unfolding moved_on_if_settled
 settled-quiet s t e = by (t.owed == 0)
   where
     by : (b : Bool) → not ((if b then moved_on t else t).serving.serving == s.serving.serving) ≡ false
@@ -122,7 +122,7 @@ acknowledgement-quiet c l keeps s = by (s.owed == 0)
     by : (b : Bool)
         → Quiet (InvAck l keeps) s (if b
         then Drops
-        else Takes (settled (record s { lines = unless_keeps keeps c l s.lines; owed = s.owed - 1 })) nothing)
+        else Takes (moved_on_if_settled (record s { lines = unless_keeps keeps c l s.lines; owed = s.owed - 1 })) nothing)
     by true = tt
     by false =
         settled-quiet s (record s { lines = unless_keeps keeps c l s.lines; owed = s.owed - 1 }) (owed-quiet c l keeps (s.owed - 1) s)

@@ -8,7 +8,7 @@ use Rattle.rv_code.specs.Machine.{program}
 use Rattle.tcc_maps.specs.Nodes.{Event}
 use Rattle.tcc_msg.specs.Plain.{event_of}
 use Rattle.tcc_msg.specs.declared.event.Event.{Event as CodeEvent}
-use Rattle.tcc_rules.specs.Step.{Stepped, and_then, next, recorded, run_from, step}
+use Rattle.tcc_rules.specs.Step.{Stepped, and_then, next_history, recorded, run_from, step}
 use Rattle.net_core.specs.Answers.{Answers, Kept, Ran, StoppedAt, Took, step_of, tid_noted}
 use Rattle.net_core.specs.Machine.{Machine, history_of, program_of, settings_of}
 use Rattle.net_core.specs.declared.taking.Step.{Step as Told}
@@ -26,8 +26,8 @@ pub kept-on : (m n o : Machine) → Kept m n → Kept n o → Kept m o
 kept-on m n o k j = record { history = j.history ∙ k.history; events = j.events ∙ k.events; code = j.code ∙ k.code }
 
 same-next : (m n : Machine) (e : Event) → Kept m n
-    → next (settings_of m) (program_of m) (history_of m) e ≡ next (settings_of n) (program_of n) (history_of n) e
-same-next m n e k = λ i. next (sym k.code i).settings (program (started (sym k.code i))) (sym k.history i) e
+    → next_history (settings_of m) (program_of m) (history_of m) e ≡ next_history (settings_of n) (program_of n) (history_of n) e
+same-next m n e k = λ i. next_history (sym k.code i).settings (program (started (sym k.code i))) (sym k.history i) e
 
 -- an event taken between two calls that keep the state
 pub took-after : (m n o : Machine) (e : Event) (t : Told) → Kept m n → Took n o e t → Took m o e t
@@ -58,14 +58,14 @@ refused-exactly m o e Refused a = (λ q. a.1, λ q. refl)
 refused-exactly m o e Memory a = (λ q. absurd (cc), λ q. absurd (a.1 q))
 
 pub taken-exactly : (m o : Machine) (e : Event) (t : Told) → Took m o e t → IsErrOf (Ok t) Refused ↔ (step_of m e ≡ None)
-unfolding next history_of
+unfolding next_history history_of
 taken-exactly m o e t w = (
   λ q. absurd (cc),
   λ q. let n = w.next in let none : None ≡ Some (history_of o) = sym (nothing q)
       ∙ n in absurd (cc),
 )
   where
-    nothing : step_of m e ≡ None → next (settings_of m) (program_of m) (history_of m) e ≡ None
+    nothing : step_of m e ≡ None → next_history (settings_of m) (program_of m) (history_of m) e ≡ None
     nothing q = ap (recorded (history_of m)) q
 
 is-none : (o : Option Stepped) → false ≡ is_some o → o ≡ None
@@ -104,17 +104,17 @@ one-more (x ∷ es) zero e h = let same : x ≡ e = cc in ap (λ y. y ∷ []) sa
 one-more (x ∷ es) (suc k) e h = ap (λ ys. x ∷ ys) (one-more es k e h)
 
 same-code : (m n : Machine) (e : Event) → n.cores.code ≡ m.cores.code
-    → next (settings_of m) (program_of m) (history_of n) e ≡ next (settings_of n) (program_of n) (history_of n) e
-same-code m n e c = λ i. next (sym c i).settings (program (started (sym c i))) (history_of n) e
+    → next_history (settings_of m) (program_of m) (history_of n) e ≡ next_history (settings_of n) (program_of n) (history_of n) e
+same-code m n e c = λ i. next_history (sym c i).settings (program (started (sym c i))) (history_of n) e
 
 pub ran-more : (m n o : Machine) (k : ℕ) (es : List CodeEvent) (e : CodeEvent) → RanSo m n k es → slice_get es k ≡ Some e
-    → next (settings_of n) (program_of n) (history_of n) (event_of e) ≡ Some (history_of o) → o.events ≡ n.events + 1
+    → next_history (settings_of n) (program_of n) (history_of n) (event_of e) ≡ Some (history_of o) → o.events ≡ n.events + 1
     → o.cores.code ≡ n.cores.code → RanSo m o (k + 1) es
 ran-more m n o k es e r at step count code = record {
   ran = ap (λ xs. run_from (settings_of m) (program_of m) xs (history_of m))
       (ap (map event_of) (ap (λ j. take j es) (next-number k) ∙ one-more es k e at) ∙ map-append event_of (take k es) (e ∷ []))
       ∙ after-all (settings_of m) (program_of m) (event_of e) (map event_of (take k es)) (history_of m)
-      ∙ ap (and_then (λ h. next (settings_of m) (program_of m) h (event_of e))) r.ran
+      ∙ ap (and_then (λ h. next_history (settings_of m) (program_of m) h (event_of e))) r.ran
       ∙ same-code m n (event_of e) r.code ∙ step;
   events = let b = r.events in omega (arith, count, b);
   code = code ∙ r.code;

@@ -2,15 +2,15 @@
 use Rattle.std.proofs.Common.{◌≡◌, ℕ, Bool, true, false, ◌||◌, ◌&&◌, List, Option, Some, None, refl, sym, ◌∙◌}
 use Rattle.std.specs.Prelude.{nat_lt, nat_le, ◌==◌, if◌then◌else◌}
 use Rattle.tcc_base.specs.Settings.{Settings}
-use Rattle.tcc_maps.specs.Judge.{Judgement, judge, Takes as IsTaken, Drops as IsDropped, Waits as IsEarly}
+use Rattle.tcc_maps.specs.Judge.{Judgement, judge, Current, Outdated, TooEarly}
 use Rattle.tcc_maps.specs.Lines.{has_mark}
 use Rattle.tcc_maps.specs.Masks.{full}
 use Rattle.tcc_maps.specs.Nodes.{Msg, TidReq, TidGrant, LoadReq, Fill, Skip, Probe, ProbeReply, Mark, Commit, Abort}
 use Rattle.tcc_maps.specs.Nodes.{WriteBack, Flush, DataReq, Inv, InvAck}
 use Rattle.tcc_maps.specs.Shape.{lines}
 use Rattle.tcc_maps.specs.Words.{count_below}
-use Rattle.tcc_rules.specs.DirDeliver.{Answer, abort, acknowledgement, ask_owner, commit, dir_deliver, judged}
-use Rattle.tcc_rules.specs.DirDeliver.{load_owned, load_request, mark, mark_owned, probe, skip, write_back}
+use Rattle.tcc_rules.specs.DirDeliver.{Answer, abort, acknowledgement, ask_owner, dir_commit, dir_deliver, judged}
+use Rattle.tcc_rules.specs.DirDeliver.{load_unless_owned, load_request, mark, mark_unless_owned, probe, skip, write_back}
 use Rattle.tcc_rules.specs.State.{DirState}
 use Rattle.directory.specs.Gives.{is_taken}
 use Rattle.net_core.specs.Taking.{SameTaking}
@@ -62,7 +62,7 @@ load-taken c l last s =
     if-taken (nat_le s.serving.serving last || has_mark s.lines l) _ _ false (once (s.lines.owner l) (s.lines.asked l)) refl
     (by (s.lines.owner l))
   where
-    by : (o : Option ℕ) → is_taken (load_owned c l s o) ≡ once o (s.lines.asked l)
+    by : (o : Option ℕ) → is_taken (load_unless_owned c l s o) ≡ once o (s.lines.asked l)
     by None = refl
     by (Some o) = ask-taken o l s
 
@@ -77,7 +77,7 @@ mark-taken l m k s =
     (if-taken (nat_lt s.serving.serving k) _ _ false _ refl
     (if-taken (m == full) _ _ true (once (s.lines.owner l) (s.lines.asked l)) refl (by (s.lines.owner l))))
   where
-    by : (o : Option ℕ) → is_taken (mark_owned l m s o) ≡ once o (s.lines.asked l)
+    by : (o : Option ℕ) → is_taken (mark_unless_owned l m s o) ≡ once o (s.lines.asked l)
     by None = refl
     by (Some o) = ask-taken o l s
 
@@ -85,15 +85,15 @@ abbrev commits : Settings → (tid count serving : ℕ) → (mark : ℕ → ℕ)
 commits sh k count v mark = if v == k && count_below (λ l. nat_lt 0 (mark l)) (lines sh) == count then true else false
 
 commit-taken : (sh : Settings) (c k count : ℕ) (s : DirState)
-    → is_taken (commit sh c k count s) ≡ commits sh k count s.serving.serving s.lines.mark
-unfolding commit
+    → is_taken (dir_commit sh c k count s) ≡ commits sh k count s.serving.serving s.lines.mark
+unfolding dir_commit
 commit-taken sh c k count s =
     if-taken (s.serving.serving == k && count_below (has_mark s.lines) (lines sh) == count) _ _ true false refl refl
 
 abbrev comes_home : Judgement → Bool
-comes_home IsEarly = false
-comes_home IsTaken = true
-comes_home IsDropped = true
+comes_home TooEarly = false
+comes_home Current = true
+comes_home Outdated = true
 
 home-taken : (c l m : ℕ) (ws : List ℕ) (g : ℕ) (s : DirState)
     → is_taken (write_back c l m ws g s) ≡ comes_home (judge (s.lines.owner l) (s.lines.tag l) c g)
@@ -101,9 +101,9 @@ unfolding write_back
 home-taken c l m ws g s = by (judge (s.lines.owner l) (s.lines.tag l) c g)
   where
     by : (j : Judgement) → is_taken (judged l m ws s j) ≡ comes_home j
-    by IsEarly = refl
-    by IsTaken = refl
-    by IsDropped = refl
+    by TooEarly = refl
+    by Current = refl
+    by Outdated = refl
 
 home-alike : (c l m : ℕ) (ws : List ℕ) (g : ℕ) (s t : DirState) → SameTaking s t
     → is_taken (write_back c l m ws g t) ≡ is_taken (write_back c l m ws g s)

@@ -5,8 +5,8 @@ use Rattle.tcc_base.specs.Settings.{Settings}
 use Rattle.tcc_maps.specs.Nodes.{Node, Core, Dir, Vendor, Msg, TidReq, TidGrant, LoadReq, Fill, Skip, Probe, ProbeReply, Mark, Commit}
 use Rattle.tcc_maps.specs.Nodes.{Abort, WriteBack, Flush, DataReq, Inv, InvAck}
 use Rattle.tcc_rules.specs.Attempt.{Out}
-use Rattle.tcc_rules.specs.CoreDeliver.{acknowledged, core_deliver, data_request, fill, fill_awaited, grant, grant_phase, if_violated}
-use Rattle.tcc_rules.specs.CoreDeliver.{ignored, invalidate, is_violated, probe_reply, reply_phase, violated_in, without}
+use Rattle.tcc_rules.specs.CoreDeliver.{acknowledged, core_deliver, data_request, fill, fill_awaited, grant, grant_in_phase, if_violated}
+use Rattle.tcc_rules.specs.CoreDeliver.{ignored, invalidate, is_violated, probe_reply, reply_in_phase, violated_in_phase, words_invalidated}
 use Rattle.tcc_rules.specs.State.{Awaited, CoreState, Phase, Running, AwaitTid, DoomedTid, Probing, Ready, Overflowing, Solo, Halted}
 use Rattle.net_core.proofs.Events.Cores.{Unnoted}
 
@@ -14,7 +14,7 @@ either : (b : Bool) (o p : Out) → o.commit ≡ None → p.commit ≡ None → 
 either true o p e f = e
 either false o p e f = f
 
-replies : (sh : Settings) (d t : ℕ) (s : CoreState) (p : Phase) → (reply_phase sh d t s p).commit ≡ None
+replies : (sh : Settings) (d t : ℕ) (s : CoreState) (p : Phase) → (reply_in_phase sh d t s p).commit ≡ None
 replies sh d t s (Probing u) = either _ _ _ refl refl
 replies sh d t s (Overflowing (Some u)) = either _ _ _ refl refl
 replies sh d t s (Overflowing None) = refl
@@ -25,7 +25,7 @@ replies sh d t s (Ready u) = refl
 replies sh d t s (Solo u) = refl
 replies sh d t s Halted = refl
 
-grants : (sh : Settings) (t : ℕ) (s : CoreState) (p : Phase) → (grant_phase sh t s p).commit ≡ None
+grants : (sh : Settings) (t : ℕ) (s : CoreState) (p : Phase) → (grant_in_phase sh t s p).commit ≡ None
 grants sh t s AwaitTid = refl
 grants sh t s DoomedTid = refl
 grants sh t s (Overflowing None) = refl
@@ -36,7 +36,7 @@ grants sh t s (Ready u) = refl
 grants sh t s (Solo u) = refl
 grants sh t s Halted = refl
 
-violated : (sh : Settings) (s : CoreState) (p : Phase) → (violated_in sh s p).commit ≡ None
+violated : (sh : Settings) (s : CoreState) (p : Phase) → (violated_in_phase sh s p).commit ≡ None
 violated sh s Running = refl
 violated sh s AwaitTid = refl
 violated sh s DoomedTid = refl
@@ -56,8 +56,9 @@ unfolding core_deliver acknowledged probe_reply fill data_request invalidate if_
 deliver-unnoted sh s (Dir d) (ProbeReply t serving) = replies sh d t s s.phase
 deliver-unnoted sh s (Dir d) (Fill l ws) = fills l ws s s.awaited
 deliver-unnoted sh s (Dir d) (DataReq l) = refl
-deliver-unnoted sh s (Dir d) (Inv l m t) = either (is_violated l m t s) (violated_in sh (without l m s) (without l m s).phase)
-    (ignored (without l m s)) (violated sh (without l m s) (without l m s).phase) refl
+deliver-unnoted sh s (Dir d) (Inv l m t) =
+    either (is_violated l m t s) (violated_in_phase sh (words_invalidated l m s) (words_invalidated l m s).phase)
+    (ignored (words_invalidated l m s)) (violated sh (words_invalidated l m s) (words_invalidated l m s).phase) refl
 deliver-unnoted sh s (Dir d) TidReq = tt
 deliver-unnoted sh s (Dir d) (TidGrant t) = tt
 deliver-unnoted sh s (Dir d) (LoadReq l after) = tt

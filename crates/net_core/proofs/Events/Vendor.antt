@@ -17,7 +17,7 @@ use Rattle.tcc_msg.specs.declared.msg.Msg.{Msg as CodeMsg}
 use Rattle.tcc_msg.specs.declared.msg.Msg.TheVariants as code
 use Rattle.tcc_rules.specs.Links.{in_flight, sending, taking}
 use Rattle.tcc_rules.specs.Sends.{to}
-use Rattle.tcc_rules.specs.Step.{granted, happens, if_in_flight, names_nodes, step, vendor_gives}
+use Rattle.tcc_rules.specs.Step.{if_vendor_gives, happens, if_in_flight, names_nodes, step, vendor_gives}
 use Rattle.tcc_rules.specs.VendorDeliver.{Granted}
 use Rattle.core_bank.specs.Bank.{cores_of}
 use Rattle.dir_bank.specs.Bank.{dirs_of}
@@ -69,13 +69,13 @@ requests s c x e = go (nat_lt c s.cores) refl (is_request x) refl e
     go false p b q f = absurd (cc)
 
 request-step : (m : Machine) (c k : ℕ) → nat_lt c (settings_of m).cores ≡ true → in_flight (world_of m).net (Core c) Vendor k ≡ Some TidReq
-    → step_of m (Deliver (Core c) Vendor k) ≡ granted (world_of m) c k (Some (next_grant m c))
+    → step_of m (Deliver (Core c) Vendor k) ≡ if_vendor_gives (world_of m) c k (Some (next_grant m c))
 unfolding step names_nodes happens world_of
 request-step m c k n f = rw n (ap (if_in_flight (settings_of m) (world_of m) (Core c) Vendor k) f)
 
 -- what is in flight to the vendor is granted
 pub grant-step : (m : Machine) (c k : ℕ) (x : Msg) → IsWhole m → in_flight (world_of m).net (Core c) Vendor k ≡ Some x
-    → step_of m (Deliver (Core c) Vendor k) ≡ granted (world_of m) c k (Some (next_grant m c))
+    → step_of m (Deliver (Core c) Vendor k) ≡ if_vendor_gives (world_of m) c k (Some (next_grant m c))
 grant-step m c k x w e =
     let r = requests (settings_of m) c x (in-bounds m w (Core c) Vendor k x e).fits in
     request-step m c k r.core (e ∙ ap (λ y. Some y) r.request)

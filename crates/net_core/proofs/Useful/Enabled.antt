@@ -15,7 +15,8 @@ use Rattle.tcc_rules.specs.CoreExec.{core_exec}
 use Rattle.tcc_rules.specs.DirDeliver.{Answer, Waits, Drops, Asks, Takes, dir_deliver}
 use Rattle.tcc_rules.specs.Links.{in_flight}
 use Rattle.tcc_rules.specs.State.{CoreState, World}
-use Rattle.tcc_rules.specs.Step.{Stepped, answered, delivered, granted, happens, if_in_flight, moved, names_nodes, step, taken}
+use Rattle.tcc_rules.specs.Step.{Stepped, answered, delivered, if_vendor_gives, happens, if_in_flight, if_core_moves, names_nodes, step}
+use Rattle.tcc_rules.specs.Step.{if_core_takes}
 use Rattle.tcc_rules.specs.VendorDeliver.{vendor_deliver}
 use Rattle.core_bank.specs.Bank.{cores_of}
 use Rattle.dir_bank.specs.Bank.{dirs_of}
@@ -32,7 +33,7 @@ last false b e = absurd (cc)
 
 -- ---- what a rule answers
 
-moved-some : (w : World) (c : ℕ) (o : Option Out) → is_some (moved w c o) ≡ is_some o
+moved-some : (w : World) (c : ℕ) (o : Option Out) → is_some (if_core_moves w c o) ≡ is_some o
 moved-some w c None = refl
 moved-some w c (Some o) = refl
 
@@ -42,7 +43,7 @@ answered-some w c d k Drops = refl
 answered-some w c d k (Asks s sends) = refl
 answered-some w c d k (Takes s sends) = refl
 
-core-takes : (w : World) (src : Node) (c k : ℕ) (o : Option Out) → is_some o ≡ true → is_some (taken w src c k o) ≡ true
+core-takes : (w : World) (src : Node) (c k : ℕ) (o : Option Out) → is_some o ≡ true → is_some (if_core_takes w src c k o) ≡ true
 core-takes w src c k None e = absurd (cc)
 core-takes w src c k (Some o) e = refl
 
@@ -57,7 +58,7 @@ vendor-says : (s : Settings) (c : CoreState) (x : Msg) → is_grant x ≡ true �
 vendor-says s c (TidGrant t) e = refl
 vendor-says s c x e = absurd (cc)
 
-vendor-gives : (w : World) (c k : ℕ) (x : Msg) → is_request x ≡ true → is_some (granted w c k (vendor_deliver w.next c x)) ≡ true
+vendor-gives : (w : World) (c k : ℕ) (x : Msg) → is_request x ≡ true → is_some (if_vendor_gives w c k (vendor_deliver w.next c x)) ≡ true
 vendor-gives w c k TidReq e = refl
 vendor-gives w c k x e = absurd (cc)
 

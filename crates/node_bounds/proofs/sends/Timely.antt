@@ -12,9 +12,10 @@ use Rattle.tcc_maps.specs.Shape.{Shape, home, lines}
 use Rattle.tcc_maps.specs.Spilled.{Spilled, holds, spilled_mask, spilled_words}
 use Rattle.tcc_maps.specs.Words.{num, those, count_below}
 use Rattle.tcc_rules.specs.Attempt.{Out}
-use Rattle.tcc_rules.specs.Commit.{commit, commit_sends, is_written, written_mask, solo_commit, solo_marks, solo_backs, solo_sends}
+use Rattle.tcc_rules.specs.Commit.{commit, commit_sends, is_written, written_mask, solo_commit, solo_marks_or_skip, solo_write_backs}
+use Rattle.tcc_rules.specs.Commit.{solo_sends}
 use Rattle.tcc_rules.specs.Commit.{solo_writes_at}
-use Rattle.tcc_rules.specs.CoreDeliver.{grant, grant_phase, grant_sends, from_dir, probe_reply, fill, data_request, invalidate}
+use Rattle.tcc_rules.specs.CoreDeliver.{grant, grant_in_phase, grant_sends, from_dir, probe_reply, fill, data_request, invalidate}
 use Rattle.tcc_rules.specs.CoreEvict.{core_evict}
 use Rattle.tcc_rules.specs.CoreExec.{core_exec}
 use Rattle.tcc_rules.specs.Sends.{Sends, nothing, to, when, skip_all, probe_all, abort_written, marks_for}
@@ -110,10 +111,10 @@ unfolding marks_for
 marks sh c t e g = each-flat Timely (λ l. Mark l (modified_mask c l) t) (written_lines sh c e) (λ l. g)
 
 solos : (sh : Shape) (c : Cache) (sp : Spilled) (t : ℕ) → IsTid t → AllTimely (solo_sends sh c sp t)
-unfolding solo_sends solo_marks solo_backs
+unfolding solo_sends solo_marks_or_skip solo_write_backs
 solos sh c sp t g d = each-dir sh d _ (each-append Timely _ _ (first (solo_writes_at sh c sp d)) back)
   where
-    back : Each Timely (solo_backs sh sp t d)
+    back : Each Timely (solo_write_backs sh sp t d)
     back = each-flat Timely (λ l. WriteBack l (spilled_mask sp l) (spilled_words sp l) t)
         (those (λ l. d == home sh l && holds sp l) (lines sh)) (λ l. tt)
 
@@ -155,7 +156,7 @@ pub grant-timely : (sh : Shape) (t : ℕ) (s : CoreState) → IsTid t → AllTim
 unfolding grant
 grant-timely sh t s g = go s.phase
   where
-    go : (q : Phase) → AllTimely (grant_phase sh t s q).sends
+    go : (q : Phase) → AllTimely (grant_in_phase sh t s q).sends
     go AwaitTid = grants sh s.cache t g
     go DoomedTid = skips sh t g
     go (Overflowing None) = probes sh t g

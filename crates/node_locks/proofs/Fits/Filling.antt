@@ -9,7 +9,7 @@ use Rattle.tcc_program.specs.Program.{Program}
 use Rattle.tcc_rules.proofs.Lemmas.{node_eq-eq}
 use Rattle.tcc_rules.proofs.LocalStep.{begins}
 use Rattle.tcc_rules.specs.Local.{Mail, Side, at_node, local}
-use Rattle.tcc_rules.specs.Merged.{Each, IsStored, StoredOf}
+use Rattle.tcc_rules.specs.Merged.{Each, StoresItsMessage, StoresMessageOf}
 use Rattle.node_logs.specs.Filled.{filled, handled, entry_of}
 use Rattle.node_logs.specs.declared.logs.Logged.{Logged}
 use Rattle.logged_node.specs.Node.{AreStored, CameBefore}
@@ -51,17 +51,17 @@ all-filled got sent (l ∷ ls) b s =
 
 -- an entry stores what its source sent
 stored-some : (sides : Node → Side) (t : ℕ) (src dst : Node) (k : ℕ) (e : Event) (o : Option Mail) → slice_get ((sides src).sent dst) k ≡ o
-    → IsSomeAnd o (λ m. m.stamp < t) → StoredOf sides (entry_of t e o) (Deliver src dst k)
+    → IsSomeAnd o (λ m. m.stamp < t) → StoresMessageOf sides (entry_of t e o) (Deliver src dst k)
 stored-some sides t src dst k e None q h = absurd h
 stored-some sides t src dst k e (Some m) q h =
     subst (λ p. IsSomeAnd p (λ mail. (Some m.msg ≡ Some mail.msg) × (m.stamp ≡ mail.stamp) × (mail.stamp < t))) (sym q) (refl, refl, h)
 
 stored-event : (sides : Node → Side) (n : Node) (got : Node → List Mail) (t : ℕ) (e : Event)
     → ((src : Node) → Begins (got src) ((sides src).sent n))
-    → at_node e ≡ n → CameBefore got t e → StoredOf sides (entry_of t e (handled (λ src. (sides src).sent n) e)) e
+    → at_node e ≡ n → CameBefore got t e → StoresMessageOf sides (entry_of t e (handled (λ src. (sides src).sent n) e)) e
 stored-event sides n got t (Deliver src dst k) b at c =
-    subst (λ d. StoredOf sides (entry_of t (Deliver src dst k) (slice_get ((sides src).sent n) k)) (Deliver src d k)) (sym at)
-    (subst (λ p. StoredOf sides (entry_of t (Deliver src dst k) p) (Deliver src n k)) (sym sent)
+    subst (λ d. StoresMessageOf sides (entry_of t (Deliver src dst k) (slice_get ((sides src).sent n) k)) (Deliver src d k)) (sym at)
+    (subst (λ p. StoresMessageOf sides (entry_of t (Deliver src dst k) p) (Deliver src n k)) (sym sent)
     (stored-some sides t src n k (Deliver src dst k) (slice_get (got src) k) sent c))
   where
     sent : slice_get ((sides src).sent n) k ≡ slice_get (got src) k
@@ -71,13 +71,14 @@ stored-event sides n got t (Evict c x y) b at h = tt
 
 stored-filled : (sides : Node → Side) (n : Node) (got : Node → List Mail) (l : Logged)
     → ((src : Node) → Begins (got src) ((sides src).sent n))
-    → at_node (event_of l.event) ≡ n → CameBefore got l.stamp (event_of l.event) → IsStored sides (filled (λ src. (sides src).sent n) l)
+    → at_node (event_of l.event) ≡ n → CameBefore got l.stamp (event_of l.event) →
+    StoresItsMessage sides (filled (λ src. (sides src).sent n) l)
 unfolding filled
 stored-filled sides n got l b at c = go (handled (λ src. (sides src).sent n) (event_of l.event))
     (stored-event sides n got l.stamp (event_of l.event) b at c)
   where
-    go : (o : Option Mail) → StoredOf sides (entry_of l.stamp (event_of l.event) o) (event_of l.event)
-        → StoredOf sides (entry_of l.stamp (event_of l.event) o) (entry_of l.stamp (event_of l.event) o).event
+    go : (o : Option Mail) → StoresMessageOf sides (entry_of l.stamp (event_of l.event) o) (event_of l.event)
+        → StoresMessageOf sides (entry_of l.stamp (event_of l.event) o) (entry_of l.stamp (event_of l.event) o).event
     go None h = h
     go (Some m) h = h
 
@@ -93,7 +94,7 @@ event-of-filled from l = go (handled from (event_of l.event))
 pub all-stored : (sh : Shape) (p : Program) (sides : Node → Side) (n : Node) (got : Node → List Mail) (log : List Logged) (s f : Side)
     → ((src : Node) → Begins (got src) ((sides src).sent n)) → AreStored got log
     → local sh p n (map (filled (λ src. (sides src).sent n)) log) s ≡ Some f
-    → Each (IsStored sides) (map (filled (λ src. (sides src).sent n)) log)
+    → Each (StoresItsMessage sides) (map (filled (λ src. (sides src).sent n)) log)
 all-stored sh p sides n got [] s f b st run = tt
 all-stored sh p sides n got (l ∷ ls) s f b st run =
     let from : Node → List Mail = λ src. (sides src).sent n in

@@ -9,7 +9,7 @@ use Rattle.rv_serial.specs.Suiting.{world_at_start}
 use Rattle.tcc_maps.specs.Nodes.{Node}
 use Rattle.tcc_msg.specs.Plain.{event_of}
 use Rattle.tcc_rules.specs.Local.{Mail, local, side_start, state_at}
-use Rattle.tcc_rules.specs.Merged.{Each, IsStored, Rises}
+use Rattle.tcc_rules.specs.Merged.{Each, StoresItsMessage, Rises}
 use Rattle.tcc_rules.specs.Step.{is_node}
 use Rattle.node_logs.specs.Filled.{filled, bare, handled, entry_of}
 use Rattle.node_logs.specs.Fitting.{FitLogs, log_of, place}
@@ -71,7 +71,7 @@ module _ (code : Contents) (nodes : List NodeData) (k : HaveAllMet code nodes) w
       same own
 
   stored-at : (n : Node) → is_node code.settings n ≡ true → (to : AtPlace code nodes k n)
-      → Each (IsStored (sides_of code nodes k)) (map (filled (sent_by n)) to.node.log)
+      → Each (StoresItsMessage (sides_of code nodes k)) (map (filled (sent_by n)) to.node.log)
   stored-at n h to =
       all-stored (started code).settings (program (started code)) (sides_of code nodes k) n (got_from to.node) to.node.log
       (side_start (state_at (world_at_start (started code)) n)) (sides_of code nodes k n) (λ src. from-all code nodes k n src h to)

@@ -9,7 +9,8 @@ use Rattle.tcc_maps.specs.Nodes.{Core, Vendor, Event, Deliver, Msg, TidReq}
 use Rattle.tcc_maps.specs.Shape.{Shape}
 use Rattle.tcc_rules.specs.Links.{in_flight}
 use Rattle.tcc_rules.specs.State.{World}
-use Rattle.tcc_rules.specs.Step.{History, Stepped, granted, if_in_flight, names_nodes, happens, step, next, and_then, run_from}
+use Rattle.tcc_rules.specs.Step.{History, Stepped, if_vendor_gives, if_in_flight, names_nodes, happens, step, next_history, and_then}
+use Rattle.tcc_rules.specs.Step.{run_from}
 use Rattle.tcc_rules.specs.VendorDeliver.{Granted, vendor_deliver}
 use Rattle.tcc_serial.specs.Owners.{Grant, grant_for, granted_by, then_grants, grants_from}
 use Rattle.phase_rules.specs.Phased.{is_late, is_held}
@@ -18,17 +19,17 @@ use Rattle.phase_rules.specs.Phased.{is_late, is_held}
 
 -- where it happens, what it grants stands behind what was granted before
 abbrev pub GrantsMore : Shape → Program → (old new : List Grant) → Event → History → Type 0
-GrantsMore sh p old new e g = IsSome (next sh p g e) → new ≡ old ++ granted_by g.world e
+GrantsMore sh p old new e g = IsSome (next_history sh p g e) → new ≡ old ++ granted_by g.world e
 
 pub grants-snoc : (sh : Shape) (p : Program) (es : List Event) (e : Event) (h : History)
     → IfSome (run_from sh p es h) (GrantsMore sh p (grants_from sh p es h) (grants_from sh p (es ++ e ∷ []) h) e)
 unfolding run_from grants_from
-grants-snoc sh p [] e h = go (next sh p h e)
+grants-snoc sh p [] e h = go (next_history sh p h e)
   where
     go : (x : Option History) → IsSome x → then_grants (granted_by h.world e) (grants_from sh p []) x ≡ [] ++ granted_by h.world e
     go None i = absurd (cc)
     go (Some g) i = append-nil (granted_by h.world e)
-grants-snoc sh p (f ∷ es) e h = go (next sh p h f) (grants-snoc sh p es e)
+grants-snoc sh p (f ∷ es) e h = go (next_history sh p h f) (grants-snoc sh p es e)
   where
     gs : List Grant
     gs = granted_by h.world f
@@ -81,7 +82,7 @@ granting s h _ t c n i = absurd (none-in (record { tid = t; core = c }) i)
 abbrev Silent : Option Stepped → Type 0
 Silent o = IfSome o (λ t. t.noted ≡ None)
 
-granted-silent : (w : World) (c k : ℕ) (g : Option Granted) → Silent (granted w c k g)
+granted-silent : (w : World) (c k : ℕ) (g : Option Granted) → Silent (if_vendor_gives w c k g)
 granted-silent w c k None = tt
 granted-silent w c k (Some g) = refl
 

@@ -8,12 +8,13 @@ use Rattle.tcc_maps.specs.Shape.{Shape}
 use Rattle.tcc_rules.specs.State.{CoreState, Phase, Halted, World}
 use Rattle.tcc_rules.specs.Attempt.{Out}
 use Rattle.tcc_rules.specs.CoreDeliver.{core_deliver, grant, probe_reply, fill, data_request, invalidate, acknowledged, if_violated}
-use Rattle.tcc_rules.specs.CoreDeliver.{without}
+use Rattle.tcc_rules.specs.CoreDeliver.{words_invalidated}
 use Rattle.tcc_rules.specs.CoreEvict.{core_evict}
 use Rattle.tcc_rules.specs.CoreExec.{core_exec}
 use Rattle.tcc_rules.specs.DirDeliver.{Answer, Waits, Drops, Asks, Takes, dir_deliver}
 use Rattle.tcc_rules.specs.Links.{in_flight}
-use Rattle.tcc_rules.specs.Step.{Stepped, core_moves, core_takes, dir_takes, dir_asks, vendor_gives, moved, taken, answered, granted}
+use Rattle.tcc_rules.specs.Step.{Stepped, core_moves, core_takes, dir_takes, dir_asks, vendor_gives, if_core_moves, if_core_takes, answered}
+use Rattle.tcc_rules.specs.Step.{if_vendor_gives}
 use Rattle.tcc_rules.specs.Step.{delivered, if_in_flight, names_nodes, happens, step}
 use Rattle.tcc_rules.specs.VendorDeliver.{Granted, vendor_deliver}
 
@@ -31,7 +32,7 @@ unfolding core_evict
 evict-halted sh x y s e = grind (arith, nat_tests)
 
 deliver-halted : (sh : Shape) (s : CoreState) (n : Node) (m : Msg) → s.phase ≡ Halted → phase_in (core_deliver sh s n m) ≡ Halted
-unfolding core_deliver grant probe_reply fill data_request invalidate acknowledged if_violated without
+unfolding core_deliver grant probe_reply fill data_request invalidate acknowledged if_violated words_invalidated
 deliver-halted sh s n m e = grind (arith, nat_tests)
 
 -- in the whole machine
@@ -51,13 +52,13 @@ put-halted w c s f j e = go (j == c) refl
     go true q = let z : j ≡ c = grind (arith, nat_tests) in f (rw z at e)
     go false q = e
 
-moved-stays : (w : World) (c : ℕ) (o : Option Out) → ((w.cores c).phase ≡ Halted → phase_in o ≡ Halted) → Stay w (moved w c o)
+moved-stays : (w : World) (c : ℕ) (o : Option Out) → ((w.cores c).phase ≡ Halted → phase_in o ≡ Halted) → Stay w (if_core_moves w c o)
 unfolding core_moves
 moved-stays w c None f = tt
 moved-stays w c (Some o) f = put-halted w c o.core f
 
 taken-stays : (w : World) (src : Node) (c k : ℕ) (o : Option Out) → ((w.cores c).phase ≡ Halted → phase_in o ≡ Halted)
-    → Stay w (taken w src c k o)
+    → Stay w (if_core_takes w src c k o)
 unfolding core_takes
 taken-stays w src c k None f = tt
 taken-stays w src c k (Some o) f = put-halted w c o.core f
@@ -69,7 +70,7 @@ answered-stays w c d k Drops = λ j e. e
 answered-stays w c d k (Asks s sends) = λ j e. e
 answered-stays w c d k (Takes s sends) = λ j e. e
 
-granted-stays : (w : World) (c k : ℕ) (g : Option Granted) → Stay w (granted w c k g)
+granted-stays : (w : World) (c k : ℕ) (g : Option Granted) → Stay w (if_vendor_gives w c k g)
 unfolding vendor_gives
 granted-stays w c k None = tt
 granted-stays w c k (Some g) = λ j e. e

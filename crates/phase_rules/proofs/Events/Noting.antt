@@ -13,11 +13,13 @@ use Rattle.tcc_rules.specs.Attempt.{Out, finished}
 use Rattle.tcc_rules.specs.Commit.{commit, solo_commit, noted}
 use Rattle.tcc_rules.specs.CoreDeliver.{core_deliver, grant, probe_reply, fill, data_request, invalidate, acknowledged, if_violated}
 use Rattle.tcc_rules.specs.CoreEvict.{core_evict}
-use Rattle.tcc_rules.specs.CoreExec.{core_exec, exec_phase, unless_awaiting}
+use Rattle.tcc_rules.specs.CoreExec.{core_exec, exec_in_phase, unless_awaiting}
 use Rattle.tcc_rules.specs.DirDeliver.{Answer, Waits, Drops, Asks, Takes, dir_deliver}
-use Rattle.tcc_rules.specs.Execute.{overflow, full_set, ask, fetch, load, word_store, partial_store, close, execute_need, execute}
+use Rattle.tcc_rules.specs.Execute.{overflow, full_set, request_line, miss, load, word_store, partial_store, end_transaction, execute_need}
+use Rattle.tcc_rules.specs.Execute.{execute}
 use Rattle.tcc_rules.specs.Links.{in_flight}
-use Rattle.tcc_rules.specs.Step.{Stepped, moved, taken, answered, granted, delivered, if_in_flight, names_nodes, happens, step}
+use Rattle.tcc_rules.specs.Step.{Stepped, if_core_moves, if_core_takes, answered, if_vendor_gives, delivered, if_in_flight, names_nodes}
+use Rattle.tcc_rules.specs.Step.{happens, step}
 use Rattle.tcc_rules.specs.VendorDeliver.{Granted, vendor_deliver}
 use Rattle.tcc_serial.specs.Tids.{has_tid}
 
@@ -26,12 +28,12 @@ abbrev commit_in : Option Out → Option Noted
 commit_in None = None
 commit_in (Some o) = o.commit
 
-quiet-fetch : (sh : Shape) (l : ℕ) (s : CoreState) → commit_in (fetch sh l s) ≡ None
-unfolding fetch full_set ask overflow
+quiet-fetch : (sh : Shape) (l : ℕ) (s : CoreState) → commit_in (miss sh l s) ≡ None
+unfolding miss full_set request_line overflow
 quiet-fetch sh l s = grind (arith, nat_tests)
 
 quiet-load : (sh : Shape) (p : Program) (n : Need) (w : ℕ) (s : CoreState) → commit_in (load sh p n w s) ≡ None
-unfolding load fetch full_set ask overflow
+unfolding load miss full_set request_line overflow
 quiet-load sh p n w s = grind (arith, nat_tests)
 
 quiet-word_store : (sh : Shape) (p : Program) (n : Need) (w x : ℕ) (s : CoreState) → commit_in (word_store sh p n w x s) ≡ None
@@ -39,7 +41,7 @@ unfolding word_store full_set overflow
 quiet-word_store sh p n w x s = grind (arith, nat_tests)
 
 quiet-partial_store : (sh : Shape) (p : Program) (n : Need) (w : ℕ) (s : CoreState) → commit_in (partial_store sh p n w s) ≡ None
-unfolding partial_store fetch full_set ask overflow
+unfolding partial_store miss full_set request_line overflow
 quiet-partial_store sh p n w s = grind (arith, nat_tests)
 
 quiet-evict : (sh : Shape) (x y : ℕ) (s : CoreState) → commit_in (core_evict sh x y s) ≡ None
@@ -61,7 +63,7 @@ Notes c q n = IfSome n (NotedAt c q)
 nothing : (c : ℕ) (q : Phase) (n : Option Noted) → n ≡ None → Notes c q n
 nothing c q n e = rw e tt
 
-close-notes : (sh : Shape) (c : ℕ) (q : Phase) (s : CoreState) → Notes c q (close sh c q s).commit
+close-notes : (sh : Shape) (c : ℕ) (q : Phase) (s : CoreState) → Notes c q (end_transaction sh c q s).commit
 unfolding solo_commit noted has_tid
 close-notes sh c (Solo t) s = record { core = refl; has = grind (arith, nat_tests) }
 close-notes sh c _ s = tt
@@ -86,7 +88,7 @@ exec-notes sh p c s = go s.phase refl
     awaiting None = need (p.need s.local)
     awaiting (Some a) = tt
 
-    go : (q : Phase) → s.phase ≡ q → Notes c s.phase (commit_in (exec_phase sh p c s q))
+    go : (q : Phase) → s.phase ≡ q → Notes c s.phase (commit_in (exec_in_phase sh p c s q))
     go Running e = awaiting s.awaited
     go (Solo t) e = awaiting s.awaited
     go (Ready t) e = record { core = refl; has = rw e (grind (arith, nat_tests)) }
@@ -108,12 +110,12 @@ noted-in sh w c None l k = tt
 noted-in sh w c (Some x) l k = record { core = rw k.core l; has = rw k.core k.has }
 
 moved-notes : (sh : Shape) (w : World) (c : ℕ) (o : Option Out) → c < sh.cores → Notes c (w.cores c).phase (commit_in o)
-    → NotedBy sh w (moved w c o)
+    → NotedBy sh w (if_core_moves w c o)
 moved-notes sh w c None l k = tt
 moved-notes sh w c (Some o) l k = noted-in sh w c o.commit l k
 
 taken-notes : (sh : Shape) (w : World) (src : Node) (c k : ℕ) (o : Option Out) → commit_in o ≡ None
-    → NotedBy sh w (taken w src c k o)
+    → NotedBy sh w (if_core_takes w src c k o)
 taken-notes sh w src c k None e = tt
 taken-notes sh w src c k (Some o) e = rw e tt
 
@@ -123,7 +125,7 @@ answered-notes sh w c d k Drops = tt
 answered-notes sh w c d k (Asks s sends) = tt
 answered-notes sh w c d k (Takes s sends) = tt
 
-granted-notes : (sh : Shape) (w : World) (c k : ℕ) (g : Option Granted) → NotedBy sh w (granted w c k g)
+granted-notes : (sh : Shape) (w : World) (c k : ℕ) (g : Option Granted) → NotedBy sh w (if_vendor_gives w c k g)
 granted-notes sh w c k None = tt
 granted-notes sh w c k (Some g) = tt
 
@@ -141,13 +143,13 @@ pub step-notes : (sh : Shape) (p : Program) (w : World) (e : Event) → NotedBy 
 unfolding step names_nodes happens
 step-notes sh p w (Exec c) = go (nat_lt c sh.cores) refl
   where
-    go : (b : Bool) → nat_lt c sh.cores ≡ b → NotedBy sh w (if b then moved w c (core_exec sh p c (w.cores c)) else None)
+    go : (b : Bool) → nat_lt c sh.cores ≡ b → NotedBy sh w (if b then if_core_moves w c (core_exec sh p c (w.cores c)) else None)
     go true e = moved-notes sh w c (core_exec sh p c (w.cores c)) (grind (arith, nat_tests)) (exec-notes sh p c (w.cores c))
     go false e = tt
 step-notes sh p w (Evict c x y) = go (nat_lt c sh.cores) refl (nat_lt x sh.sets && nat_lt y sh.ways)
   where
     go : (b : Bool) → nat_lt c sh.cores ≡ b → (a : Bool)
-        → NotedBy sh w (if b && a then moved w c (core_evict sh x y (w.cores c)) else None)
+        → NotedBy sh w (if b && a then if_core_moves w c (core_evict sh x y (w.cores c)) else None)
     go true e true = moved-notes sh w c (core_evict sh x y (w.cores c)) (grind (arith, nat_tests))
         (nothing c (w.cores c).phase _ (quiet-evict sh x y (w.cores c)))
     go true e false = tt

@@ -10,18 +10,20 @@ use Rattle.tcc_maps.specs.Nodes.{Node, Core, Dir, Vendor, Event, Exec, Evict, De
 use Rattle.tcc_maps.specs.Shape.{Shape}
 use Rattle.tcc_rules.specs.State.{CoreState, Awaited, Link, World}
 use Rattle.tcc_rules.specs.State.{Phase, Running, AwaitTid, DoomedTid, Probing, Ready, Overflowing, Solo, Halted}
-use Rattle.tcc_rules.specs.Attempt.{Out, finished, roll_back, stepped}
+use Rattle.tcc_rules.specs.Attempt.{Out, finished, roll_back, one_more_instruction}
 use Rattle.tcc_rules.specs.Commit.{commit, solo_commit}
 use Rattle.tcc_rules.specs.CoreDeliver.{core_deliver, grant, grant_sends, probe_reply, fill, data_request, invalidate, acknowledged}
-use Rattle.tcc_rules.specs.CoreDeliver.{if_violated, without}
+use Rattle.tcc_rules.specs.CoreDeliver.{if_violated, words_invalidated}
 use Rattle.tcc_rules.specs.CoreEvict.{core_evict}
-use Rattle.tcc_rules.specs.CoreExec.{core_exec, exec_phase, unless_awaiting}
+use Rattle.tcc_rules.specs.CoreExec.{core_exec, exec_in_phase, unless_awaiting}
 use Rattle.tcc_rules.specs.DirDeliver.{Answer, Waits, Drops, Asks, Takes, dir_deliver}
-use Rattle.tcc_rules.specs.Execute.{overflow, full_set, ask, fetch, place, load, used, word_store, partial_store, buffered, framed}
-use Rattle.tcc_rules.specs.Execute.{close, execute_need, execute}
+use Rattle.tcc_rules.specs.Execute.{overflow, full_set, request_line, miss, place, load, with_read_mark, word_store, partial_store}
+use Rattle.tcc_rules.specs.Execute.{stored_in_buffer, stored_in_frame}
+use Rattle.tcc_rules.specs.Execute.{end_transaction, execute_need, execute}
 use Rattle.tcc_rules.specs.Links.{in_flight, sent_all, taking}
-use Rattle.tcc_rules.specs.Sends.{written_back, flushed, skip_all, probe_all, abort_written}
-use Rattle.tcc_rules.specs.Step.{Stepped, core_moves, core_takes, dir_takes, dir_asks, vendor_gives, moved, taken, answered, granted}
+use Rattle.tcc_rules.specs.Sends.{write_back_line, flush_line, skip_all, probe_all, abort_written}
+use Rattle.tcc_rules.specs.Step.{Stepped, core_moves, core_takes, dir_takes, dir_asks, vendor_gives, if_core_moves, if_core_takes, answered}
+use Rattle.tcc_rules.specs.Step.{if_vendor_gives}
 use Rattle.tcc_rules.specs.Step.{delivered, if_in_flight, names_nodes, happens, step}
 use Rattle.tcc_rules.specs.VendorDeliver.{Granted, vendor_deliver}
 use Rattle.phase_rules.specs.Laws.{HaltsStay, RequestsStay, asks, executes}
@@ -44,16 +46,17 @@ unfolding core_evict
 evict-halts sh x y s = grind (arith, nat_tests)
 
 evict-asks : (sh : Shape) (x y : ℕ) (s : CoreState) → asked_in (core_evict sh x y s) ≡ []
-unfolding core_evict written_back
+unfolding core_evict write_back_line
 evict-asks sh x y s = grind (arith, nat_tests)
 
 deliver-halts : (sh : Shape) (s : CoreState) (n : Node) (m : Msg)
     → halted_in (has_halted s.phase) (core_deliver sh s n m) ≡ has_halted s.phase
-unfolding core_deliver grant probe_reply fill data_request invalidate acknowledged if_violated without roll_back
+unfolding core_deliver grant probe_reply fill data_request invalidate acknowledged if_violated words_invalidated roll_back
 deliver-halts sh s n m = grind (arith, nat_tests)
 
 deliver-asks : (sh : Shape) (s : CoreState) (n : Node) (m : Msg) → asked_in (core_deliver sh s n m) ≡ []
-unfolding core_deliver grant grant_sends probe_reply fill data_request invalidate acknowledged if_violated without flushed skip_all
+unfolding core_deliver grant grant_sends probe_reply fill data_request invalidate acknowledged if_violated words_invalidated flush_line
+    skip_all
     probe_all abort_written
 deliver-asks sh s n m = grind (arith, nat_tests)
 
@@ -62,7 +65,7 @@ abbrev Goes : (was : Bool) → Option Out → Type 0
 Goes b o = IfSome o (λ r. r.commit ≡ None → has_halted r.core.phase ≡ b)
 
 finished-phase : (p : Program) (n : Need) (x : ℕ) (s : CoreState) → (finished p n x s).phase ≡ s.phase
-unfolding finished stepped
+unfolding finished one_more_instruction
 finished-phase p n x s = grind (arith, nat_tests)
 
 finished-halts : (p : Program) (n : Need) (x : ℕ) (s : CoreState) → has_halted s.phase ≡ false
@@ -71,24 +74,24 @@ finished-halts p n x s e = ap has_halted (finished-phase p n x s) ∙ e
 
 load-goes : (sh : Shape) (p : Program) (n : Need) (w : ℕ) (s : CoreState) → has_halted s.phase ≡ false
     → halted_in false (load sh p n w s) ≡ false
-unfolding load used fetch full_set ask overflow place
+unfolding load with_read_mark miss full_set request_line overflow place
 load-goes sh p n w s e = grind (arith, nat_tests, finished-phase)
 
 word_store-goes : (sh : Shape) (p : Program) (n : Need) (w x : ℕ) (s : CoreState) → has_halted s.phase ≡ false
     → halted_in false (word_store sh p n w x s) ≡ false
-unfolding word_store full_set overflow buffered framed place
+unfolding word_store full_set overflow stored_in_buffer stored_in_frame place
 word_store-goes sh p n w x s e = grind (arith, nat_tests, finished-phase)
 
 partial_store-goes : (sh : Shape) (p : Program) (n : Need) (w : ℕ) (s : CoreState) → has_halted s.phase ≡ false
     → halted_in false (partial_store sh p n w s) ≡ false
-unfolding partial_store buffered framed fetch full_set ask overflow place
+unfolding partial_store stored_in_buffer stored_in_frame miss full_set request_line overflow place
 partial_store-goes sh p n w s e = grind (arith, nat_tests, finished-phase)
 
 goes : (b : Bool) (o : Option Out) → halted_in b o ≡ b → Goes b o
 goes b None e = tt
 goes b (Some o) e = λ n. e
 
-close-goes : (sh : Shape) (c : ℕ) (q : Phase) (s : CoreState) → Goes false (Some (close sh c q s))
+close-goes : (sh : Shape) (c : ℕ) (q : Phase) (s : CoreState) → Goes false (Some (end_transaction sh c q s))
 unfolding solo_commit
 close-goes sh c (Solo t) s = λ n. absurd (cc)
 close-goes sh c Running s = λ n. refl
@@ -119,7 +122,7 @@ exec-goes sh p c s = go s.phase refl
     awaiting None e = need (p.need s.local) e
     awaiting (Some a) e = tt
 
-    go : (q : Phase) → s.phase ≡ q → Goes (has_halted q) (exec_phase sh p c s q)
+    go : (q : Phase) → s.phase ≡ q → Goes (has_halted q) (exec_in_phase sh p c s q)
     go Running e = awaiting s.awaited (ap has_halted e)
     go (Solo t) e = awaiting s.awaited (ap has_halted e)
     go (Ready t) e = λ n. absurd (cc)
@@ -145,13 +148,13 @@ put-halts w c s f j = go (j == c) refl
     go true q = let z : j ≡ c = grind (arith, nat_tests) in f ∙ ap (λ d. has_halted (w.cores d).phase) (sym z)
     go false q = refl
 
-moved-halts : (w : World) (c : ℕ) (o : Option Out) → Goes (has_halted (w.cores c).phase) o → HaltStays w (moved w c o)
+moved-halts : (w : World) (c : ℕ) (o : Option Out) → Goes (has_halted (w.cores c).phase) o → HaltStays w (if_core_moves w c o)
 unfolding core_moves
 moved-halts w c None f = tt
 moved-halts w c (Some o) f = λ n. put-halts w c o.core (f n)
 
 taken-halts : (w : World) (src : Node) (c k : ℕ) (o : Option Out) → Goes (has_halted (w.cores c).phase) o
-    → HaltStays w (taken w src c k o)
+    → HaltStays w (if_core_takes w src c k o)
 unfolding core_takes
 taken-halts w src c k None f = tt
 taken-halts w src c k (Some o) f = λ n. put-halts w c o.core (f n)
@@ -163,7 +166,7 @@ answered-halts w c d k Drops = λ n j. refl
 answered-halts w c d k (Asks s sends) = λ n j. refl
 answered-halts w c d k (Takes s sends) = λ n j. refl
 
-granted-halts : (w : World) (c k : ℕ) (g : Option Granted) → HaltStays w (granted w c k g)
+granted-halts : (w : World) (c k : ℕ) (g : Option Granted) → HaltStays w (if_vendor_gives w c k g)
 unfolding vendor_gives
 granted-halts w c k None = tt
 granted-halts w c k (Some g) = λ n j. refl
@@ -219,13 +222,13 @@ untaken net src dst c k e =
     ap (λ b. if node_eq (Core c) src && b then slice_set (net (Core c) Vendor) k None else net (Core c) Vendor) e
     ∙ ap (λ b. if b then slice_set (net (Core c) Vendor) k None else net (Core c) Vendor) (and-false (node_eq (Core c) src))
 
-evicted-stays : (w : World) (d x y : ℕ) (o : Option Out) → asked_in o ≡ [] → RequestStays w (Evict d x y) (moved w d o)
+evicted-stays : (w : World) (d x y : ℕ) (o : Option Out) → asked_in o ≡ [] → RequestStays w (Evict d x y) (if_core_moves w d o)
 unfolding core_moves
 evicted-stays w d x y None e = tt
 evicted-stays w d x y (Some o) e = λ c a b. unsent (c == d) (w.net (Core c) Vendor) (o.sends Vendor) e
 
 taken-stays : (w : World) (src : Node) (d k : ℕ) (o : Option Out) → asked_in o ≡ []
-    → RequestStays w (Deliver src (Core d) k) (taken w src d k o)
+    → RequestStays w (Deliver src (Core d) k) (if_core_takes w src d k o)
 unfolding core_takes
 taken-stays w src d k None e = tt
 taken-stays w src d k (Some o) e = λ c a b.
@@ -238,7 +241,7 @@ answered-stays w b d k Drops = λ c x y. untaken w.net (Core b) (Dir d) c k refl
 answered-stays w b d k (Asks s sends) = λ c x y. refl
 answered-stays w b d k (Takes s sends) = λ c x y. untaken w.net (Core b) (Dir d) c k refl
 
-granted-stays : (w : World) (b k : ℕ) (g : Option Granted) → RequestStays w (Deliver (Core b) Vendor k) (granted w b k g)
+granted-stays : (w : World) (b k : ℕ) (g : Option Granted) → RequestStays w (Deliver (Core b) Vendor k) (if_vendor_gives w b k g)
 unfolding vendor_gives
 granted-stays w b k None = tt
 granted-stays w b k (Some g) = λ c x y. ap (λ t. if t && true then slice_set (w.net (Core c) Vendor) k None else w.net (Core c) Vendor) y
@@ -258,7 +261,7 @@ flying-stays : (sh : Shape) (w : World) (src dst : Node) (k : ℕ) (m : Option M
 flying-stays sh w src dst k None = tt
 flying-stays sh w src dst k (Some m) = delivered-stays sh w src dst k m
 
-moved-stays : (w : World) (d : ℕ) (o : Option Out) → RequestStays w (Exec d) (moved w d o)
+moved-stays : (w : World) (d : ℕ) (o : Option Out) → RequestStays w (Exec d) (if_core_moves w d o)
 unfolding core_moves
 moved-stays w d None = tt
 moved-stays w d (Some o) = λ c a b. ap (λ t. if t then w.net (Core c) Vendor ++ sent_all (o.sends Vendor) else w.net (Core c) Vendor) a

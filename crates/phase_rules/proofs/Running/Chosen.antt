@@ -8,7 +8,7 @@ use Rattle.rv_code.specs.Machine.{program}
 use Rattle.tcc_maps.specs.Nodes.{Event}
 use Rattle.tcc_rules.specs.Laws.{IsIn}
 use Rattle.tcc_rules.specs.Picked.{chosen}
-use Rattle.tcc_rules.specs.Step.{History, Stepped, step, is_enabled, recorded, next, and_then}
+use Rattle.tcc_rules.specs.Step.{History, Stepped, step, is_enabled, recorded, next_history, and_then}
 use Rattle.tcc_rules.specs.Useful.{is_of_use, is_useful, useful}
 use Rattle.tcc_rules.proofs.Lemmas.{useful-holds, and-left}
 use Rattle.phase_rules.specs.Laws.{PhasedPickedRuns}
@@ -59,7 +59,7 @@ some-recorded h (Some o) e = refl
 
 -- a useful event that isn't held back happens
 happens : (s : Start) (h : History) (e : Event) → IsIn e (phased_useful s h) → is_some (phased_next s h e) ≡ true
-unfolding phased_useful phased_next next is_useful is_enabled
+unfolding phased_useful phased_next next_history is_useful is_enabled
 happens s h e i =
     let k = in-filter (λ e. not (is_held s h e)) e (useful s.settings (program s) h.world) i in
     let u : is_useful s.settings (program s) h.world e ≡ true = (useful-holds s.settings (program s) h.world e).0 (k.1) in
@@ -67,8 +67,8 @@ happens s h e i =
     and-left (is_enabled s.settings (program s) h.world e) (is_of_use s.settings (program s) h.world e) u in
     go (is_held s h e) (k.0) (some-recorded h (step s.settings (program s) h.world e) n)
   where
-    go : (b : Bool) → not b ≡ true → is_some (next s.settings (program s) h e) ≡ true
-        → is_some (if b then None else next s.settings (program s) h e) ≡ true
+    go : (b : Bool) → not b ≡ true → is_some (next_history s.settings (program s) h e) ≡ true
+        → is_some (if b then None else next_history s.settings (program s) h e) ≡ true
     go true q n = absurd (cc)
     go false q n = n
 

@@ -12,7 +12,7 @@ use Rattle.tcc_base.specs.declared.access.Commit.{Commit}
 use Rattle.tcc_maps.specs.Nodes.{Event}
 use Rattle.tcc_maps.specs.Words.{any_below}
 use Rattle.tcc_rules.specs.State.{Phase, Halted, World}
-use Rattle.tcc_rules.specs.Step.{History, Stepped, step, and_noted, recorded, next, and_then, run_from, run}
+use Rattle.tcc_rules.specs.Step.{History, Stepped, step, and_noted, recorded, next_history, and_then, run_from, run}
 use Rattle.tcc_serial.specs.Owners.{Grant, granted_by, grants_from, IsNumbered, AreGranted}
 use Rattle.tcc_serial.specs.Tids.{has_tid}
 use Rattle.tcc_serial.proofs.Lemmas.{numbered-most}
@@ -142,9 +142,9 @@ noted-ordered s gs more h w x k o new n stay none =
     from t c (inr i) = absurd (none (record { tid = t; core = c }) i)
 
 event-ordered : (s : Start) (gs : List Grant) (h : History) (e : Event) → State s gs h → InOrder s gs h → is_held s h e ≡ false
-    → IfSome (next s.settings (program s) h e) (IsSerial s)
-    → IfSome (next s.settings (program s) h e) (InOrder s (gs ++ granted_by h.world e))
-unfolding next
+    → IfSome (next_history s.settings (program s) h e) (IsSerial s)
+    → IfSome (next_history s.settings (program s) h e) (InOrder s (gs ++ granted_by h.world e))
+unfolding next_history
 event-ordered s gs h e k o held new =
     go (step s.settings (program s) h.world e) new (step-notes s.settings (program s) h.world e)
     (step-stays s.settings (program s) h.world e) (granting-silent s.settings (program s) h.world e)
@@ -177,22 +177,22 @@ unfolding run
 state-of s h k r = rw r.ran at (state_after s r.events k)
 
 serial-next : (s : Start) (h : History) (e : Event) → IsAllowed s.settings → Reached s h
-    → IfSome (next s.settings (program s) h e) (IsSerial s)
+    → IfSome (next_history s.settings (program s) h e) (IsSerial s)
 unfolding run
 serial-next s h e k r =
     rw (run-snoc s.settings (program s) r.events e (at_start s), r.ran) at (runs_give_the_plain_machine s (r.events ++ e ∷ []) k)
 
-grants-next : (s : Start) (h g : History) (e : Event) → (r : Reached s h) → next s.settings (program s) h e ≡ Some g
+grants-next : (s : Start) (h g : History) (e : Event) → (r : Reached s h) → next_history s.settings (program s) h e ≡ Some g
     → grants_of s (r.events ++ e ∷ []) ≡ grants_of s r.events ++ granted_by h.world e
 grants-next s h g e r n = (rw r.ran at (grants-snoc s.settings (program s) r.events e (at_start s))) (rw n refl)
 
 reached-next : (s : Start) (h : History) (e : Event) → IsAllowed s.settings → Reached s h → is_held s h e ≡ false
-    → IfSome (next s.settings (program s) h e) (Reached s)
+    → IfSome (next_history s.settings (program s) h e) (Reached s)
 reached-next s h e k r held =
-    go (next s.settings (program s) h e) refl
+    go (next_history s.settings (program s) h e) refl
     (event-ordered s (grants_of s r.events) h e (state-of s h k r) r.order held (serial-next s h e k r))
   where
-    go : (x : Option History) → next s.settings (program s) h e ≡ x
+    go : (x : Option History) → next_history s.settings (program s) h e ≡ x
         → IfSome x (InOrder s (grants_of s r.events ++ granted_by h.world e))
         → IfSome x (Reached s)
     go None n o = tt
@@ -207,7 +207,7 @@ reached-after : (s : Start) (es : List Event) (h : History) → IsAllowed s.sett
 unfolding phased_from phased_next
 reached-after s [] h k r = r
 reached-after s (e ∷ es) h k r =
-    go (is_held s h e) refl (next s.settings (program s) h e) (reached-next s h e k r) (λ g q. reached-after s es g k q)
+    go (is_held s h e) refl (next_history s.settings (program s) h e) (reached-next s h e k r) (λ g q. reached-after s es g k q)
   where
     go : (b : Bool) → is_held s h e ≡ b → (x : Option History) → (is_held s h e ≡ false → IfSome x (Reached s))
         → ((g : History) → Reached s g → IfSome (phased_from s es g) (Reached s))

@@ -4,7 +4,7 @@ use Rattle.std.proofs.Common.{refl}
 use Rattle.image_load.specs.Start.{Start}
 use Rattle.rv_code.specs.Machine.{program}
 use Rattle.tcc_maps.specs.Nodes.{Event}
-use Rattle.tcc_rules.specs.Step.{History, next, and_then, run_from, run}
+use Rattle.tcc_rules.specs.Step.{History, next_history, and_then, run_from, run}
 use Rattle.phase_rules.specs.Laws.{PhasedRunsAreRuns, at_start}
 use Rattle.phase_rules.specs.Phased.{is_held, phased_next, phased_from}
 
@@ -12,7 +12,7 @@ pub phased-runs : (s : Start) (es : List Event) (h : History)
     → IfSome (phased_from s es h) (λ g. run_from s.settings (program s) es h ≡ Some g)
 unfolding phased_from phased_next run_from
 phased-runs s [] h = refl
-phased-runs s (e ∷ es) h = go (is_held s h e) (next s.settings (program s) h e) (phased-runs s es)
+phased-runs s (e ∷ es) h = go (is_held s h e) (next_history s.settings (program s) h e) (phased-runs s es)
   where
     go : (b : Bool) (x : Option History)
         → ((g : History) → IfSome (phased_from s es g) (λ r. run_from s.settings (program s) es g ≡ Some r))

@@ -15,7 +15,7 @@ use Rattle.tcc_maps.specs.Nodes.{Event}
 use Rattle.tcc_maps.specs.Shape.{Shape}
 use Rattle.tcc_maps.specs.Words.{num}
 use Rattle.tcc_rules.specs.State.{World}
-use Rattle.tcc_rules.specs.Step.{History, Stepped, step, and_noted, insert_commit, recorded, next, and_then, run_from, run}
+use Rattle.tcc_rules.specs.Step.{History, Stepped, step, and_noted, insert_commit, recorded, next_history, and_then, run_from, run}
 use Rattle.tcc_serial.specs.Invariants.{Carried, first_state}
 use Rattle.tcc_serial.specs.Owners.{Grant, IsNumbered, IsRising, AreGranted, times, holder, LastGranted}
 use Rattle.tcc_serial.specs.Pairs.{pair}
@@ -40,14 +40,14 @@ and_then-none sh p None = refl
 and_then-none sh p (Some h) = refl
 
 pub run-snoc : (sh : Shape) (p : Program) (es : List Event) (e : Event) (h : History)
-    → run_from sh p (es ++ e ∷ []) h ≡ and_then (λ g. next sh p g e) (run_from sh p es h)
+    → run_from sh p (es ++ e ∷ []) h ≡ and_then (λ g. next_history sh p g e) (run_from sh p es h)
 unfolding run_from
-run-snoc sh p [] e h = and_then-none sh p (next sh p h e)
-run-snoc sh p (f ∷ es) e h = go (next sh p h f) (run-snoc sh p es e)
+run-snoc sh p [] e h = and_then-none sh p (next_history sh p h e)
+run-snoc sh p (f ∷ es) e h = go (next_history sh p h f) (run-snoc sh p es e)
   where
     go : (x : Option History)
-        → ((g : History) → run_from sh p (es ++ e ∷ []) g ≡ and_then (λ g. next sh p g e) (run_from sh p es g))
-        → and_then (run_from sh p (es ++ e ∷ [])) x ≡ and_then (λ g. next sh p g e) (and_then (run_from sh p es) x)
+        → ((g : History) → run_from sh p (es ++ e ∷ []) g ≡ and_then (λ g. next_history sh p g e) (run_from sh p es g))
+        → and_then (run_from sh p (es ++ e ∷ [])) x ≡ and_then (λ g. next_history sh p g e) (and_then (run_from sh p es) x)
     go None k = refl
     go (Some g) k = k g
 
@@ -194,11 +194,11 @@ grows s gs h o k new n = go o.noted new n
 -- after every run
 
 abbrev EachGrows : Start → Event → History → Type 0
-EachGrows s e h = IfSome (next s.settings (program s) h e) (λ g. Grows s h g (noted_by (step s.settings (program s) h.world e)))
+EachGrows s e h = IfSome (next_history s.settings (program s) h e) (λ g. Grows s h g (noted_by (step s.settings (program s) h.world e)))
 
 event-grows : (s : Start) (gs : List Grant) (e : Event) (h : History) → State s gs h
-    → IfSome (next s.settings (program s) h e) (IsSerial s) → EachGrows s e h
-unfolding next
+    → IfSome (next_history s.settings (program s) h e) (IsSerial s) → EachGrows s e h
+unfolding next_history
 event-grows s gs e h k new = go (step s.settings (program s) h.world e) new (step-notes s.settings (program s) h.world e)
   where
     go : (o : Option Stepped) → IfSome (recorded h o) (IsSerial s) → IfSome o (λ t. IfSome t.noted (NotedIn s.settings h.world))
@@ -215,7 +215,7 @@ phases_grow s es e k = go (run_from s.settings (program s) es first) (state_afte
     first = record { world = world_at_start s; commits = [] }
 
     go : (o : Option History) → IfSome o (State s (grants_of s es))
-        → IfSome (and_then (λ g. next s.settings (program s) g e) o) (IsSerial s)
+        → IfSome (and_then (λ g. next_history s.settings (program s) g e) o) (IsSerial s)
         → IfSome o (EachGrows s e)
     go None a b = tt
     go (Some h) a b = event-grows s (grants_of s es) e h a b

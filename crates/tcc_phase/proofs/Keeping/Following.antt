@@ -9,7 +9,7 @@ use Rattle.rv_serial.specs.Suiting.{world_at_start}
 use Rattle.rv_serial.proofs.Lemmas.{committed_tids_were_granted_once}
 use Rattle.tcc_base.specs.Settings.{IsAllowed}
 use Rattle.tcc_maps.specs.Nodes.{Core, Dir, Vendor, Event, Exec, Evict, Deliver}
-use Rattle.tcc_rules.specs.Step.{History, Stepped, and_noted, and_then, next, recorded, run, step}
+use Rattle.tcc_rules.specs.Step.{History, Stepped, and_noted, and_then, next_history, recorded, run, step}
 use Rattle.tcc_serial.specs.NotedBy.{AreByCores}
 use Rattle.tcc_serial.specs.Owners.{IsRising}
 use Rattle.tcc_serial.proofs.Lemmas.{commits_are_by_cores}
@@ -39,11 +39,11 @@ pub phased-on : (s : Start) (e : Event) (es : List Event) (f h g : History) → 
 phased-on s e es f h g from to = after-all s e es f ∙ ap (and_then (λ x. phased_next s x e)) from ∙ to
 
 -- it is one of the rules
-pub next-is : (s : Start) (h g : History) (e : Event) → phased_next s h e ≡ Some g → next s.settings (program s) h e ≡ Some g
+pub next-is : (s : Start) (h g : History) (e : Event) → phased_next s h e ≡ Some g → next_history s.settings (program s) h e ≡ Some g
 unfolding phased_next
 next-is s h g e to = go (is_held s h e) to
   where
-    go : (b : Bool) → cond b None (next s.settings (program s) h e) ≡ Some g → next s.settings (program s) h e ≡ Some g
+    go : (b : Bool) → cond b None (next_history s.settings (program s) h e) ≡ Some g → next_history s.settings (program s) h e ≡ Some g
     go true q = absurd (cc)
     go false q = q
 
@@ -52,7 +52,7 @@ pub not-held : (s : Start) (h g : History) (e : Event) → phased_next s h e ≡
 unfolding phased_next
 not-held s h g e to = go (is_held s h e) to
   where
-    go : (b : Bool) → cond b None (next s.settings (program s) h e) ≡ Some g → b ≡ false
+    go : (b : Bool) → cond b None (next_history s.settings (program s) h e) ≡ Some g → b ≡ false
     go true q = absurd (cc)
     go false q = refl
 
@@ -75,8 +75,8 @@ pub record Did (s : Start) (h g : History) (e : Event) : Type 0 where
   pub world : g.world ≡ out.world
   pub commits : g.commits ≡ and_noted out.noted h.commits
 
-pub did : (s : Start) (h g : History) (e : Event) → next s.settings (program s) h e ≡ Some g → Did s h g e
-unfolding next
+pub did : (s : Start) (h g : History) (e : Event) → next_history s.settings (program s) h e ≡ Some g → Did s h g e
+unfolding next_history
 did s h g e n = go (step s.settings (program s) h.world e) refl n
   where
     of : History → Option History → History
@@ -116,9 +116,9 @@ module _ (s : Start) (allowed : IsAllowed s.settings) (es : List Event) (h : His
   by-cores = subst (λ o. IfSome o (λ (x : History). AreByCores s.settings x.commits)) ran (commits_are_by_cores s.settings (program s) _
       _ es)
 
-  pub grown : (e : Event) (g : History) → next s.settings (program s) h e ≡ Some g
+  pub grown : (e : Event) (g : History) → next_history s.settings (program s) h e ≡ Some g
       → Grows s h g (noted_by (step s.settings (program s) h.world e))
   grown e g n =
       subst (λ o. IfSome o (λ x. Grows s h x (noted_by (step s.settings (program s) h.world e)))) n
-      (subst (λ o. IfSome o (λ (y : History). IfSome (next s.settings (program s) y e)
+      (subst (λ o. IfSome o (λ (y : History). IfSome (next_history s.settings (program s) y e)
       (λ x. Grows s y x (noted_by (step s.settings (program s) y.world e))))) ran (phases_grow s es e allowed))

@@ -18,7 +18,7 @@ use Rattle.tcc_msg.specs.declared.event.Event.{Event as CodeEvent}
 use Rattle.tcc_rules.specs.Laws.{ActsOnOne, StepsActOnOne}
 use Rattle.tcc_rules.specs.Links.{sent_all}
 use Rattle.tcc_rules.specs.State.{Link, World}
-use Rattle.tcc_rules.specs.Step.{History, Stepped, and_noted, insert_commit, next, step}
+use Rattle.tcc_rules.specs.Step.{History, Stepped, and_noted, insert_commit, next_history, step}
 use Rattle.tcc_serial.specs.Owners.{IsRising}
 use Rattle.phase_rules.specs.Laws.{Grows, InPhases, asks, at_start, executes, noted_by, place_of, put_in}
 use Rattle.phase_rules.specs.Phased.{has_halted, phased_from, phased_next}

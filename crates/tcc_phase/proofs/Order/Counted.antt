@@ -4,7 +4,7 @@ use Rattle.std.proofs.Common.{refl, ap, sym, subst, arith, inl, inr}
 use Rattle.std.specs.Prelude.{filter, not, slice_get}
 use Rattle.tcc_maps.specs.Nodes.{Event}
 use Rattle.tcc_rules.specs.Laws.{IsIn, IsBeforeAll, IsOrdered}
-use Rattle.tcc_rules.specs.Useful.{before}
+use Rattle.tcc_rules.specs.Useful.{event_before}
 use Rattle.tcc_phase.proofs.Order.Ordered.{before-in, before-once, not-itself, filter-before}
 
 -- how many of the first n are left out
@@ -103,7 +103,7 @@ is-at (x ∷ es) (suc n) e at = inr (is-at es n e at)
 
 -- where event n stands before the j-th that is left out, at most j of the first n + 1 are
 pub stands-before : (p : Event → Bool) (es : List Event) (n j : ℕ) (e h : Event) → IsOrdered es → slice_get es n ≡ Some e
-    → slice_get (filter p es) j ≡ Some h → before e h ≡ true → left_out p es (suc n) ≤ j
+    → slice_get (filter p es) j ≡ Some h → event_before e h ≡ true → left_out p es (suc n) ≤ j
 stands-before p [] n j e h o a b l = absurd (cc)
 stands-before p (x ∷ es) zero j e h o a b l = go (p x) j b
   where
@@ -112,7 +112,7 @@ stands-before p (x ∷ es) zero j e h o a b l = go (p x) j b
 
     go : (t : Bool) (j : ℕ) → slice_get (cond t (x ∷ filter p es) (filter p es)) j ≡ Some h → length (cond t (x ∷ []) []) ≤ j
     go true zero q = let s : x ≡ h = cc in
-        absurd (not-itself x (subst (λ y. before x y ≡ true) (sym s) (subst (λ y. before y h ≡ true) (sym same) l)))
+        absurd (not-itself x (subst (λ y. event_before x y ≡ true) (sym s) (subst (λ y. event_before y h ≡ true) (sym same) l)))
     go true (suc j) q = omega arith
     go false j q = omega arith
 stands-before p (x ∷ es) (suc n) j e h o a b l = go (λ j q. stands-before p es n j e h o.1 a q l) (p x) j b
@@ -122,13 +122,13 @@ stands-before p (x ∷ es) (suc n) j e h o a b l = go (λ j q. stands-before p e
         → length (cond t (x ∷ filter p (take (suc n) es)) (filter p (take (suc n) es))) ≤ j
     go f true zero q =
         let s : x ≡ h = cc in
-        absurd (before-once e x (subst (λ y. before e y ≡ true) (sym s) l) (before-in x e es o.0 (is-at es n e a)))
+        absurd (before-once e x (subst (λ y. event_before e y ≡ true) (sym s) l) (before-in x e es o.0 (is-at es n e a)))
     go f true (suc j) q = let r = f j q in omega (arith, r)
     go f false j q = f j q
 
 -- and where it doesn't, more than j are
 pub stands-behind : (p : Event → Bool) (es : List Event) (n j : ℕ) (e h : Event) → IsOrdered es → slice_get es n ≡ Some e
-    → slice_get (filter p es) j ≡ Some h → before e h ≡ false → j < left_out p es (suc n)
+    → slice_get (filter p es) j ≡ Some h → event_before e h ≡ false → j < left_out p es (suc n)
 stands-behind p [] n j e h o a b l = absurd (cc)
 stands-behind p (x ∷ es) zero j e h o a b l = go (p x) j b
   where
@@ -136,7 +136,7 @@ stands-behind p (x ∷ es) zero j e h o a b l = go (p x) j b
     same = cc
 
     behind : (g : List Event) (j : ℕ) → IsBeforeAll x g → slice_get g j ≡ Some h → ⊥
-    behind g j f q = let t = subst (λ y. before y h ≡ true) same (before-in x h g f (is-at g j h q)) in absurd (cc)
+    behind g j f q = let t = subst (λ y. event_before y h ≡ true) same (before-in x h g f (is-at g j h q)) in absurd (cc)
 
     go : (t : Bool) (j : ℕ) → slice_get (cond t (x ∷ filter p es) (filter p es)) j ≡ Some h → j < length (cond t (x ∷ []) [])
     go true zero q = omega arith

@@ -4,7 +4,7 @@ use Rattle.std.specs.Prelude.{nat_lt, filter}
 use Rattle.std.proofs.lemmas.Bool.Decides.{nat_tests}
 use Rattle.tcc_maps.specs.Nodes.{Node, Core, Dir, Vendor, Event, Exec, Evict, Deliver, node_eq}
 use Rattle.tcc_rules.specs.Laws.{IsIn, IsBeforeAll, IsOrdered}
-use Rattle.tcc_rules.specs.Useful.{before, node_before}
+use Rattle.tcc_rules.specs.Useful.{event_before, node_before}
 
 -- ---- of two events one stands before the other, not both
 
@@ -51,7 +51,7 @@ pairs-once false true true false false f x y z w p q = absurd (cc)
 pairs-once false true true false true false x y z w p q = absurd (cc)
 pairs-once false false c d e f x y z w p q = absurd (cc)
 
-pub before-once : (a b : Event) → before a b ≡ true → before b a ≡ true → ⊥
+pub before-once : (a b : Event) → event_before a b ≡ true → event_before b a ≡ true → ⊥
 before-once (Exec c) (Exec d) p q = grind (arith, nat_tests)
 before-once (Exec c) (Evict d u v) p q = absurd (cc)
 before-once (Exec c) (Deliver s d k) p q = absurd (cc)
@@ -67,15 +67,15 @@ before-once (Deliver s d k) (Deliver t e m) p q =
     (node-once d e) (λ x y. node-same e d (sym (node-turned d e) ∙ x) y) (λ x y. node-same d e (node-turned d e ∙ x) y)
     (λ x y. grind (arith, nat_tests))) p q
 
-pub not-itself : (e : Event) → before e e ≡ true → ⊥
+pub not-itself : (e : Event) → event_before e e ≡ true → ⊥
 not-itself e p = before-once e e p p
 
 -- ---- lists
 
 -- an event of a list stands behind what stands before them all
-pub before-in : (e f : Event) (es : List Event) → IsBeforeAll e es → IsIn f es → before e f ≡ true
+pub before-in : (e f : Event) (es : List Event) → IsBeforeAll e es → IsIn f es → event_before e f ≡ true
 before-in e f [] b i = absurd i
-before-in e f (x ∷ es) b i = ⊎_elim (λ (s : x ≡ f). subst (λ y. before e y ≡ true) s b.0) (λ j. before-in e f es b.1 j) i
+before-in e f (x ∷ es) b i = ⊎_elim (λ (s : x ≡ f). subst (λ y. event_before e y ≡ true) s b.0) (λ j. before-in e f es b.1 j) i
 
 -- two lists in order that hold the same events are one
 pub same-events : (xs ys : List Event) → IsOrdered xs → IsOrdered ys → ((e : Event) → IsIn e xs → IsIn e ys) → ((e : Event) → IsIn e ys
@@ -89,10 +89,11 @@ same-events (x ∷ xs) (y ∷ ys) a b f g = heads (same-events xs ys a.1 b.1) (f
     tails : (((e : Event) → IsIn e xs → IsIn e ys) → ((e : Event) → IsIn e ys → IsIn e xs) → xs ≡ ys) → x ≡ y → x ∷ xs ≡ y ∷ ys
     tails same s =
         let down : (e : Event) → IsIn e xs → IsIn e ys = λ e i.
-        ⊎_elim (λ (q : y ≡ e). absurd (not-itself x (subst (λ z. before x z ≡ true) (sym (s ∙ q)) (before-in x e xs a.0 i)))) (λ j. j)
+        ⊎_elim (λ (q : y ≡ e). absurd (not-itself x (subst (λ z. event_before x z ≡ true) (sym (s ∙ q)) (before-in x e xs a.0 i)))) (λ j. j)
         (f e (inr i)) in
         let up : (e : Event) → IsIn e ys → IsIn e xs = λ e i.
-        ⊎_elim (λ (q : x ≡ e). absurd (not-itself y (subst (λ z. before y z ≡ true) (sym (sym s ∙ q)) (before-in y e ys b.0 i)))) (λ j. j)
+        ⊎_elim (λ (q : x ≡ e). absurd (not-itself y (subst (λ z. event_before y z ≡ true) (sym (sym s ∙ q)) (before-in y e ys b.0 i))))
+        (λ j. j)
         (g e (inr i)) in
         let rest = same down up in
         ap (λ z. z ∷ xs) s ∙ ap (λ zs. y ∷ zs) rest

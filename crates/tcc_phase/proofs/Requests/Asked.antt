@@ -9,7 +9,7 @@ use Rattle.tcc_program.specs.Program.{Program}
 use Rattle.tcc_rules.specs.Laws.{ActsOnOne, Grows}
 use Rattle.tcc_rules.specs.Links.{in_flight, sent_all, taking}
 use Rattle.tcc_rules.specs.State.{Link, World}
-use Rattle.tcc_rules.specs.Step.{Stepped, granted, happens, if_in_flight, names_nodes, step, vendor_gives}
+use Rattle.tcc_rules.specs.Step.{Stepped, if_vendor_gives, happens, if_in_flight, names_nodes, step, vendor_gives}
 use Rattle.tcc_rules.specs.VendorDeliver.{Granted, vendor_deliver}
 use Rattle.phase_rules.specs.Laws.{asks}
 use Rattle.tcc_phase.specs.Requests.{IsAsked}
@@ -85,7 +85,7 @@ either-way w v src dst c n k same acts a o =
     (λ g. grown dst c n (w.net (Core c) Vendor) (v.net (Core c) Vendor)
     (subst (λ l. Grows dst (Core c) l (v.net (Core c) Vendor)) same (g (Core c) Vendor)) a o) acts.links.1
 
-after-grant : (w : World) (c d n k : ℕ) (g : Option Granted) (o : Stepped) → granted w d k g ≡ Some o
+after-grant : (w : World) (c d n k : ℕ) (g : Option Granted) (o : Stepped) → if_vendor_gives w d k g ≡ Some o
     → IsSome (in_flight w.net (Core d) Vendor k) → IsAsked (w.net (Core c) Vendor) n
     → IsAsked (o.world.net (Core c) Vendor) (if c == d then n + 1 else n)
 unfolding vendor_gives

@@ -14,7 +14,7 @@ use Rattle.tcc_rules.specs.Laws.{IsBeforeAll, IsIn, IsOrdered, UsefulHolds, Usef
 use Rattle.tcc_rules.specs.Links.{in_flight}
 use Rattle.tcc_rules.specs.State.{World}
 use Rattle.tcc_rules.specs.Step.{History, Stepped, happens, if_in_flight, is_enabled, names_nodes, step}
-use Rattle.tcc_rules.specs.Useful.{before, is_useful, useful}
+use Rattle.tcc_rules.specs.Useful.{event_before, is_useful, useful}
 use Rattle.phase_rules.specs.Phased.{is_held, is_late}
 use Rattle.tcc_phase.specs.Requests.{IsAsked, is_behind, is_waiting, request}
 use Rattle.tcc_phase.proofs.Requests.Asked.{asked-at}
@@ -72,15 +72,16 @@ module _ (f : ℕ → Event) (q : ℕ → Bool) where
           let m : c < n = grind (arith, nat_tests) in in-left (f c) (map f (those q n)) (map f (cond (q n) (n ∷ []) [])) (rest m)
 
   -- one more behind them all
-  before-more : (x y : Event) (es : List Event) → IsBeforeAll x es → before x y ≡ true → IsBeforeAll x (es ++ y ∷ [])
+  before-more : (x y : Event) (es : List Event) → IsBeforeAll x es → event_before x y ≡ true → IsBeforeAll x (es ++ y ∷ [])
   before-more x y [] b l = (l, tt)
   before-more x y (e ∷ es) b l = (b.0, before-more x y es b.1 l)
 
-  ordered-more : (y : Event) (es : List Event) → IsOrdered es → ((e : Event) → IsIn e es → before e y ≡ true) → IsOrdered (es ++ y ∷ [])
+  ordered-more : (y : Event) (es : List Event) → IsOrdered es → ((e : Event) → IsIn e es → event_before e y ≡ true) →
+      IsOrdered (es ++ y ∷ [])
   ordered-more y [] o l = (tt, tt)
   ordered-more y (e ∷ es) o l = (before-more e y es o.0 (l e (inl refl)), ordered-more y es o.1 (λ d i. l d (inr i)))
 
-  pub those-ordered : ((c d : ℕ) → c < d → before (f c) (f d) ≡ true) → (n : ℕ) → IsOrdered (map f (those q n))
+  pub those-ordered : ((c d : ℕ) → c < d → event_before (f c) (f d) ≡ true) → (n : ℕ) → IsOrdered (map f (those q n))
   unfolding those
   those-ordered h zero = tt
   those-ordered h (suc n) =
@@ -96,12 +97,12 @@ module _ (f : ℕ → Event) (q : ℕ → Bool) where
 
       go : (b : Bool) → IsOrdered (map f (those q n)) → IsOrdered (map f (those q n) ++ map f (cond b (n ∷ []) []))
       go true o = ordered-more (f n) (map f (those q n)) o
-          (λ e i. let w = of-those e n i in subst (λ x. before x (f n) ≡ true) w.is (h w.number n w.below))
+          (λ e i. let w = of-those e n i in subst (λ x. event_before x (f n) ≡ true) w.is (h w.number n w.below))
       go false o = none (map f (those q n)) o
 
 -- ---- requests
 
-requests-rise : (asked : List ℕ) (c d : ℕ) → c < d → before (request asked c) (request asked d) ≡ true
+requests-rise : (asked : List ℕ) (c d : ℕ) → c < d → event_before (request asked c) (request asked d) ≡ true
 requests-rise asked c d l = grind (arith, nat_tests)
 
 both-true : (a b : Bool) → (a && b) ≡ true → (a ≡ true) × (b ≡ true)

@@ -14,7 +14,7 @@ use Rattle.tcc_maps.specs.Words.{those}
 use Rattle.tcc_program.specs.Program.{Program}
 use Rattle.tcc_rules.specs.Links.{in_flight}
 use Rattle.tcc_rules.specs.State.{Link, World}
-use Rattle.tcc_rules.specs.Step.{granted, happens, if_in_flight, names_nodes, step}
+use Rattle.tcc_rules.specs.Step.{if_vendor_gives, happens, if_in_flight, names_nodes, step}
 use Rattle.tcc_rules.specs.VendorDeliver.{Granted, vendor_deliver}
 use Rattle.phase_rules.specs.Laws.{asks, executes}
 use Rattle.phase_rules.specs.Phased.{has_halted}
@@ -37,7 +37,7 @@ taken-so : (s : Settings) (w : World) (c k : ℕ) (m : Option Msg) → is_some (
 taken-so s w c k None = refl
 taken-so s w c k (Some m) = go (vendor_deliver w.next c m) ∙ gives w.next c m
   where
-    go : (g : Option Granted) → is_some (granted w c k g) ≡ is_some g
+    go : (g : Option Granted) → is_some (if_vendor_gives w c k g) ≡ is_some g
     go None = refl
     go (Some g) = refl
 

@@ -1,11 +1,11 @@
 -- Each schedule is computed by the definitions alone.
 use Rattle.tcc_rules.proofs.Computed.{computed}
 use Rattle.tcc_rules.specs.Rows.{changed}
-use Rattle.tcc_rules.specs.Needs.{need_at, goes_on, needs, entry}
+use Rattle.tcc_rules.specs.Needs.{need_at, needs_after, needs, entry}
 use Rattle.tcc_rules.specs.Told.{words_with, told_core, first_words, told}
 use Rattle.std.proofs.Common.{refl}
 use Rattle.tcc_rules.proofs.nearby_rules_are_told_apart.Goals as goal
 
 pub returns : goal.returns
-unfolding computed changed need_at goes_on needs entry words_with told_core first_words told
+unfolding computed changed need_at needs_after needs entry words_with told_core first_words told
 returns c = record { schedules = (refl, refl, refl, refl, refl, refl) }

@@ -3,9 +3,10 @@ use Rattle.tcc_serial.proofs.Names.{ℕ, zero, suc, ◌+◌, ◌≡◌, ◌<◌,
 use Rattle.tcc_serial.proofs.Names.{None, nat_lt, if◌then◌else◌, flat_map, arith, refl, ◌∙◌, nat_tests, flat_map-append, num, those}
 use Rattle.tcc_serial.proofs.Names.{count_below, Dir, Msg, Skip, Mark, Commit, WriteBack, Flush, Shape, home, lines, Cache, is_dirty}
 use Rattle.tcc_serial.proofs.Names.{dirty_tag, dirty_mask, dirty_words, dirty_copy, Spilled, holds, spilled_mask, spilled_words}
-use Rattle.tcc_serial.proofs.Names.{commit_sends, solo_sends, solo_marks, solo_backs, solo_writes_at, is_written, written_mask, to, flush}
-use Rattle.tcc_serial.proofs.Names.{flushed, written_back, CopyOf, CopyMask, among, passes}
-use Rattle.tcc_rules.specs.Sends.{write_back}
+use Rattle.tcc_serial.proofs.Names.{commit_sends, solo_sends, solo_marks_or_skip, solo_write_backs, solo_writes_at, is_written}
+use Rattle.tcc_serial.proofs.Names.{written_mask, to, flush_of}
+use Rattle.tcc_serial.proofs.Names.{flush_line, write_back_line, CopyOf, CopyMask, among, passes}
+use Rattle.tcc_rules.specs.Sends.{write_back_of}
 use Rattle.tcc_serial.proofs.Copies.DirtyFrames.{frame_copy, frame_wrong}
 use Rattle.tcc_serial.proofs.Counts.Links.{among-append, among-flat_map_none}
 
@@ -35,19 +36,19 @@ leaves-one l k c m q f g = record {
   other = λ e t. let y : (k == l) ≡ false = grind (arith, nat_tests) in rw (f t, y) refl;
 }
 
-flush-leaves : (l k : ℕ) (c : Cache) → Leaves l k c (flush (dirty_copy c k))
+flush-leaves : (l k : ℕ) (c : Cache) → Leaves l k c (flush_of (dirty_copy c k))
 unfolding dirty_copy passes
 flush-leaves l k c = go (is_dirty c k) refl
   where
-    go : (b : Bool) → is_dirty c k ≡ b → Leaves l k c (flush (cond b (Some (record { line = k; mask = dirty_mask c k; words = dirty_words c k; tag = dirty_tag c k })) None))
+    go : (b : Bool) → is_dirty c k ≡ b → Leaves l k c (flush_of (cond b (Some (record { line = k; mask = dirty_mask c k; words = dirty_words c k; tag = dirty_tag c k })) None))
     go false q = leaves-none l k c q
     go true q = leaves-one l k c (Flush k (dirty_mask c k) (dirty_words c k) (dirty_tag c k)) q (λ t. refl) (λ t n. refl)
 
-back-leaves : (l k : ℕ) (c : Cache) → Leaves l k c (write_back (dirty_copy c k))
+back-leaves : (l k : ℕ) (c : Cache) → Leaves l k c (write_back_of (dirty_copy c k))
 unfolding dirty_copy passes
 back-leaves l k c = go (is_dirty c k) refl
   where
-    go : (b : Bool) → is_dirty c k ≡ b → Leaves l k c (write_back (cond b (Some (record { line = k; mask = dirty_mask c k; words = dirty_words c k; tag = dirty_tag c k })) None))
+    go : (b : Bool) → is_dirty c k ≡ b → Leaves l k c (write_back_of (cond b (Some (record { line = k; mask = dirty_mask c k; words = dirty_words c k; tag = dirty_tag c k })) None))
     go false q = leaves-none l k c q
     go true q = leaves-one l k c (WriteBack k (dirty_mask c k) (dirty_words c k) (dirty_tag c k)) q (λ t. refl) (λ t n. refl)
 
@@ -60,13 +61,13 @@ at-home sh l k c ms h = go (home sh l == home sh k) refl
     go true q = h
     go false q = record { same = λ e. absurd (let y : (home sh l == home sh k) ≡ true = rw e (grind (arith, nat_tests)) in cc); other = λ e t. refl }
 
-pub flushed-leaves : (sh : Shape) (l k : ℕ) (c : Cache) → Leaves l k c (flushed sh c k (Dir (home sh l)))
-unfolding flushed
-flushed-leaves sh l k c = at-home sh l k c (flush (dirty_copy c k)) (flush-leaves l k c)
+pub flushed-leaves : (sh : Shape) (l k : ℕ) (c : Cache) → Leaves l k c (flush_line sh c k (Dir (home sh l)))
+unfolding flush_line
+flushed-leaves sh l k c = at-home sh l k c (flush_of (dirty_copy c k)) (flush-leaves l k c)
 
-pub back-home-leaves : (sh : Shape) (l k : ℕ) (c : Cache) → Leaves l k c (written_back sh c k (Dir (home sh l)))
-unfolding written_back
-back-home-leaves sh l k c = at-home sh l k c (write_back (dirty_copy c k)) (back-leaves l k c)
+pub back-home-leaves : (sh : Shape) (l k : ℕ) (c : Cache) → Leaves l k c (write_back_line sh c k (Dir (home sh l)))
+unfolding write_back_line
+back-home-leaves sh l k c = at-home sh l k c (write_back_of (dirty_copy c k)) (back-leaves l k c)
 
 -- copies of some lines, one each
 one-back : (p : ℕ → Bool) (f : ℕ → ℕ) (ws : ℕ → List ℕ) (u t l n : ℕ) → among (CopyOf l t) (flat_map (λ k. WriteBack k (f k) (ws k) u ∷ []) (those p n)) ≡ num ((nat_lt l n && p l) && u == t)
@@ -87,7 +88,7 @@ wrong-back p f ws u t l m (suc n) = rw (flat_map-append, among-append, wrong-bac
 
 -- a commit sends the spilled words, and nothing else of the kind
 pub solo-copies : (sh : Shape) (c : Cache) (sp : Spilled) (u l t : ℕ) → l < lines sh → home sh l < sh.dirs → among (CopyOf l t) (solo_sends sh c sp u (Dir (home sh l))) ≡ num (holds sp l && u == t)
-unfolding solo_sends solo_marks solo_backs among passes
+unfolding solo_sends solo_marks_or_skip solo_write_backs among passes
 solo-copies sh c sp u l t i h = go (nat_lt (home sh l) sh.dirs) (grind (arith, nat_tests)) (solo_writes_at sh c sp (home sh l))
   where
     d : ℕ
@@ -99,13 +100,13 @@ solo-copies sh c sp u l t i h = go (nat_lt (home sh l) sh.dirs) (grind (arith, n
     marks : among (CopyOf l t) (flat_map (λ k. Mark k (written_mask c sp k) u ∷ []) (those (λ k. d == home sh k && is_written c sp k) (lines sh))) ≡ 0
     marks = among-flat_map_none (CopyOf l t) (λ k. Mark k (written_mask c sp k) u ∷ []) (λ k. refl) (those (λ k. d == home sh k && is_written c sp k) (lines sh))
 
-    go : (b : Bool) → b ≡ true → (w : Bool) → among (CopyOf l t) (if b then (if w then flat_map (λ k. Mark k (written_mask c sp k) u ∷ []) (those (λ k. d == home sh k && is_written c sp k) (lines sh)) ++ Commit u (count_below (λ k. d == home sh k && is_written c sp k) (lines sh)) ∷ [] else Skip u ∷ []) ++ solo_backs sh sp u d else []) ≡ num (holds sp l && u == t)
+    go : (b : Bool) → b ≡ true → (w : Bool) → among (CopyOf l t) (if b then (if w then flat_map (λ k. Mark k (written_mask c sp k) u ∷ []) (those (λ k. d == home sh k && is_written c sp k) (lines sh)) ++ Commit u (count_below (λ k. d == home sh k && is_written c sp k) (lines sh)) ∷ [] else Skip u ∷ []) ++ solo_write_backs sh sp u d else []) ≡ num (holds sp l && u == t)
     go false q w = absurd (cc)
     go true q true = rw (among-append, among-append, backs, marks) (omega arith)
     go true q false = rw (among-append, backs) (omega arith)
 
 pub solo-wrong : (sh : Shape) (c : Cache) (sp : Spilled) (u l t m : ℕ) → l < lines sh → home sh l < sh.dirs → among (CopyMask l t m) (solo_sends sh c sp u (Dir (home sh l))) ≡ num ((holds sp l && u == t) && not (spilled_mask sp l == m))
-unfolding solo_sends solo_marks solo_backs among passes
+unfolding solo_sends solo_marks_or_skip solo_write_backs among passes
 solo-wrong sh c sp u l t m i h = go (nat_lt (home sh l) sh.dirs) (grind (arith, nat_tests)) (solo_writes_at sh c sp (home sh l))
   where
     d : ℕ
@@ -117,7 +118,7 @@ solo-wrong sh c sp u l t m i h = go (nat_lt (home sh l) sh.dirs) (grind (arith, 
     marks : among (CopyMask l t m) (flat_map (λ k. Mark k (written_mask c sp k) u ∷ []) (those (λ k. d == home sh k && is_written c sp k) (lines sh))) ≡ 0
     marks = among-flat_map_none (CopyMask l t m) (λ k. Mark k (written_mask c sp k) u ∷ []) (λ k. refl) (those (λ k. d == home sh k && is_written c sp k) (lines sh))
 
-    go : (b : Bool) → b ≡ true → (w : Bool) → among (CopyMask l t m) (if b then (if w then flat_map (λ k. Mark k (written_mask c sp k) u ∷ []) (those (λ k. d == home sh k && is_written c sp k) (lines sh)) ++ Commit u (count_below (λ k. d == home sh k && is_written c sp k) (lines sh)) ∷ [] else Skip u ∷ []) ++ solo_backs sh sp u d else []) ≡ num ((holds sp l && u == t) && not (spilled_mask sp l == m))
+    go : (b : Bool) → b ≡ true → (w : Bool) → among (CopyMask l t m) (if b then (if w then flat_map (λ k. Mark k (written_mask c sp k) u ∷ []) (those (λ k. d == home sh k && is_written c sp k) (lines sh)) ++ Commit u (count_below (λ k. d == home sh k && is_written c sp k) (lines sh)) ∷ [] else Skip u ∷ []) ++ solo_write_backs sh sp u d else []) ≡ num ((holds sp l && u == t) && not (spilled_mask sp l == m))
     go false q w = absurd (cc)
     go true q true = rw (among-append, among-append, backs, marks) (omega arith)
     go true q false = rw (among-append, backs) (omega arith)

@@ -2,7 +2,8 @@
 use Rattle.tcc_serial.proofs.Names.{ℕ, zero, suc, ◌≡◌, ◌<◌, ◌==◌, ◌&&◌, ◌||◌, Bool, true, false, List, [], ◌∷◌, length, Contains}
 use Rattle.tcc_serial.proofs.Names.{slice_index_or, nat_lt, if◌then◌else◌, arith, refl, ap, ◌∙◌, nat_tests, Noted, num, any_below, any_word}
 use Rattle.tcc_serial.proofs.Names.{word_at, mask_of, insert_commit, times, stores_in, stores_word, names_line, wrote, wrote_line}
-use Rattle.tcc_serial.proofs.Names.{wrote_mask, ◌+◌, ◌≤◌, ◌⊎◌, sym, subst, inl, inr, cases_eq, cases_lt, Core, Dir, Shape, total, DirState}
+use Rattle.tcc_serial.proofs.Names.{wrote_mask, ◌+◌, ◌≤◌, ◌⊎◌, sym, subst, inl, inr, cases_eq, cases_lt, Core, Dir, Shape, sum_below}
+use Rattle.tcc_serial.proofs.Names.{DirState}
 use Rattle.tcc_serial.proofs.Names.{History, Commits, live, KeptRun, Grant, pair, share, is_applied, CommitsStand, stores_at, Skipped}
 use Rattle.tcc_serial.proofs.Names.{Committed, Ways, part_in, kept_in, WayAt, Some, writes_at, Msg, Out, Sends, Stepped, Resolves, among}
 use Rattle.tcc_serial.proofs.Names.{holder, has_tid, part, handled, live_way, Option, IfSome}
@@ -121,12 +122,12 @@ wrote-listed base cs n l k h = wrote-all base cs n.core.0 n.tid.0 l n (λ w. go 
 -- A commit is on its way to each directory where it stored, or applied there.
 
 -- the only number of a sum that isn't zero
-total-only : (f : ℕ → ℕ) (n c : ℕ) → ((j : ℕ) → j < n → (j ≡ c → ⊥) → f j ≡ 0) → (n ≤ c → f c ≡ 0) → total f n ≡ f c
-unfolding total
+total-only : (f : ℕ → ℕ) (n c : ℕ) → ((j : ℕ) → j < n → (j ≡ c → ⊥) → f j ≡ 0) → (n ≤ c → f c ≡ 0) → sum_below f n ≡ f c
+unfolding sum_below
 total-only f zero c h z = sym (z (omega arith))
 total-only f (suc n) c h z = go (cases_eq n c) (λ g. total-only f n c (λ j l i. h j (omega arith) i) g)
   where
-    go : (n ≡ c) ⊎ (n ≡ c → ⊥) → ((n ≤ c → f c ≡ 0) → total f n ≡ f c) → total f n + f n ≡ f c
+    go : (n ≡ c) ⊎ (n ≡ c → ⊥) → ((n ≤ c → f c ≡ 0) → sum_below f n ≡ f c) → sum_below f n + f n ≡ f c
     go a g = grind (arith, nat_tests, total-zero)
 
 pub applied-or : (s : DirState) (t : ℕ) → num (is_applied s t) ≡ num (nat_lt t s.serving.serving) + num ((t == s.serving.serving) && nat_lt 0 s.owed)
@@ -155,7 +156,7 @@ on-its-way sh gs ys h k n d i dl s = omega (arith, place, one, applied-or (h.wor
         go (inl l) = absurd (e (granted-once 1 gs t j n.core.0 (k.all.owners.numbered) ((k.all.spared j d).owner t (omega (arith, l))) (granted-at gs h.commits n (k.all.owners.granted) i)))
         go (inr l) = omega (arith, l)
 
-    one : total (share (part_in Committed sh d t) h.world d) sh.cores ≡ live (Commits t) (h.world.net (Core n.core.0) (Dir d))
+    one : sum_below (share (part_in Committed sh d t) h.world d) sh.cores ≡ live (Commits t) (h.world.net (Core n.core.0) (Dir d))
     one = total-only (share (part_in Committed sh d t) h.world d) sh.cores n.core.0 (λ j l e. other j e) (λ l. omega (arith, (k.all.kept.told.tids.inside n.core.0 d).out l, few-any t (h.world.net (Core n.core.0) (Dir d))))
 
 -- A commit that is noted by an event isn't applied anywhere yet.

@@ -2,13 +2,15 @@
 use Rattle.tcc_serial.proofs.Names.{ℕ, ◌-◌, ◌≡◌, ◌<◌, ◌≤◌, ◌⊎◌, Bool, true, false, List, [], ◌∷◌, get_or, ◌==◌, ◌&&◌, ◌||◌, not, Option}
 use Rattle.tcc_serial.proofs.Names.{Some, None, nat_lt, nat_le, if◌then◌else◌, arith, refl, inl, inr, nat_tests, num, count_below, those}
 use Rattle.tcc_serial.proofs.Names.{place_of, hit, full, Lines, has_mark, with_asked, with_mark, with_sharer, with_owner, unmarked, judge}
-use Rattle.tcc_serial.proofs.Names.{is_owner, IsTaken, IsDropped, IsEarly, advance, skipped, kept, Core, Msg, LoadReq, Fill, Skip, Probe}
+use Rattle.tcc_serial.proofs.Names.{is_owner, Current, Outdated, TooEarly, advance, skipped, kept, Core, Msg, LoadReq, Fill, Skip, Probe}
 use Rattle.tcc_serial.proofs.Names.{ProbeReply, Mark, Commit, Abort, WriteBack, Flush, DataReq, Inv, InvAck, Shape, lines, DirState}
 use Rattle.tcc_serial.proofs.Names.{nothing, to, Answer, Waits, Drops, Asks, Takes, skip, abort, acknowledgement, dir_deliver, moved_on}
-use Rattle.tcc_serial.proofs.Names.{settled, owned, owed_by, invalidations, invs_to, is_invalidated, unless_keeps, ask_owner, load_owned}
-use Rattle.tcc_serial.proofs.Names.{load_request, line_words, marking, mark_owned, mark, judged, write_back, came_home, probe, Kind, among}
+use Rattle.tcc_serial.proofs.Names.{moved_on_if_settled, owned_by_committer, invalidation_count, invalidations, invs_to, is_invalidated}
+use Rattle.tcc_serial.proofs.Names.{unless_keeps, ask_owner, load_unless_owned}
+use Rattle.tcc_serial.proofs.Names.{load_request, home_words, mark_taken, mark_unless_owned, mark, judged, write_back, came_home, probe}
+use Rattle.tcc_serial.proofs.Names.{Kind, among}
 use Rattle.tcc_serial.proofs.Names.{passes}
-use Rattle.tcc_rules.specs.DirDeliver.{commit}
+use Rattle.tcc_rules.specs.DirDeliver.{dir_commit}
 use Rattle.tcc_serial.proofs.Counts.Links.{among-flat_map_none}
 
 -- a WriteBack or Flush, which count alike
@@ -36,9 +38,9 @@ pub data Outcome (sh : Shape) (s : DirState) (c : ℕ) : Msg → Answer → Type
   TakesSkip : (t : ℕ) (next : Bool) → (s.serving.serving == t) ≡ next → s.serving.serving ≤ t → Outcome sh s c (Skip t) (Takes (record s { serving = (if next then advance s.serving else kept t s.serving) }) nothing)
   TakesAbort : (t : ℕ) (next : Bool) → (s.serving.serving == t) ≡ next → s.serving.serving ≤ t → Outcome sh s c (Abort t) (Takes (record s { serving = (if next then advance s.serving else kept t s.serving); lines = record s.lines { mark = λ x. (if next then 0 else s.lines.mark x) } }) nothing)
   TakesProbe : (t : ℕ) → t ≤ s.serving.serving → Outcome sh s c (Probe t) (Takes s (to (Core c) (ProbeReply t s.serving.serving ∷ [])))
-  TakesLoad : (l a : ℕ) → a < s.serving.serving → has_mark s.lines l ≡ false → s.lines.owner l ≡ None → Outcome sh s c (LoadReq l a) (Takes (record s { lines = record s.lines { sharers = λ x j. (if x == l && j == c then true else s.lines.sharers x j) } }) (to (Core c) (Fill l (line_words s l) ∷ [])))
+  TakesLoad : (l a : ℕ) → a < s.serving.serving → has_mark s.lines l ≡ false → s.lines.owner l ≡ None → Outcome sh s c (LoadReq l a) (Takes (record s { lines = record s.lines { sharers = λ x j. (if x == l && j == c then true else s.lines.sharers x j) } }) (to (Core c) (Fill l (home_words s l) ∷ [])))
   TakesMark : (l k : ℕ) → (k ≡ full) ⊎ (s.lines.owner l ≡ None) → Outcome sh s c (Mark l k s.serving.serving) (Takes (record s { lines = record s.lines { mark = λ x. (if x == l then k else s.lines.mark x) } }) nothing)
-  TakesCommit : (next : Bool) → (owed_by sh s.lines c == 0) ≡ next → Outcome sh s c (Commit s.serving.serving (count_below (has_mark s.lines) (lines sh))) (Takes (record s {
+  TakesCommit : (next : Bool) → (invalidation_count sh s.lines c == 0) ≡ next → Outcome sh s c (Commit s.serving.serving (count_below (has_mark s.lines) (lines sh))) (Takes (record s {
     serving = (if next then advance s.serving else s.serving);
     lines = record {
       sharers = λ x j. (if has_mark s.lines x && j == c then true else s.lines.sharers x j);
@@ -47,7 +49,7 @@ pub data Outcome (sh : Shape) (s : DirState) (c : ℕ) : Msg → Answer → Type
       asked = λ x. (if has_mark s.lines x then false else s.lines.asked x);
       mark = λ x. (if next then 0 else s.lines.mark x);
     };
-    owed = owed_by sh s.lines c;
+    owed = invalidation_count sh s.lines c;
   }) (invalidations sh s.lines c s.serving.serving))
   TakesAck : (l : ℕ) (b next : Bool) → 0 < s.owed → (s.owed - 1 == 0) ≡ next → Outcome sh s c (InvAck l b) (Takes (record s {
     serving = (if next then advance s.serving else s.serving);
@@ -96,7 +98,7 @@ load-outcome : (sh : Shape) (s : DirState) (c l a : ℕ) → Outcome sh s c (Loa
 unfolding load_request with_sharer
 load-outcome sh s c l a = go (nat_le s.serving.serving a) (has_mark s.lines l) (s.lines.owner l) refl refl refl
   where
-    go : (b x : Bool) (o : Option ℕ) → nat_le s.serving.serving a ≡ b → has_mark s.lines l ≡ x → s.lines.owner l ≡ o → Outcome sh s c (LoadReq l a) (if b || x then Waits else load_owned c l s o)
+    go : (b x : Bool) (o : Option ℕ) → nat_le s.serving.serving a ≡ b → has_mark s.lines l ≡ x → s.lines.owner l ≡ o → Outcome sh s c (LoadReq l a) (if b || x then Waits else load_unless_owned c l s o)
     go true x o p q r = Waiting (LoadReq l a)
     go false true o p q r = Waiting (LoadReq l a)
     go false false (Some o) p q r = ask-outcome sh s c l o (LoadReq l a) (ToLoad a) r
@@ -109,31 +111,31 @@ mark-outcome sh s c l k t = go (nat_lt t s.serving.serving) (nat_lt s.serving.se
     served : nat_lt t s.serving.serving ≡ false → nat_lt s.serving.serving t ≡ false → s.serving.serving ≡ t
     served p q = grind (arith, nat_tests)
 
-    go : (a b x : Bool) (o : Option ℕ) → nat_lt t s.serving.serving ≡ a → nat_lt s.serving.serving t ≡ b → (k == full) ≡ x → s.lines.owner l ≡ o → Outcome sh s c (Mark l k t) (if a then Drops else (if b then Waits else (if x then marking l k s else mark_owned l k s o)))
+    go : (a b x : Bool) (o : Option ℕ) → nat_lt t s.serving.serving ≡ a → nat_lt s.serving.serving t ≡ b → (k == full) ≡ x → s.lines.owner l ≡ o → Outcome sh s c (Mark l k t) (if a then Drops else (if b then Waits else (if x then mark_taken l k s else mark_unless_owned l k s o)))
     go true b x o p q r e = Spent (Mark l k t) (MarkPassed l k t (grind (arith, nat_tests)))
     go false true x o p q r e = Waiting (Mark l k t)
     go false false true o p q r e = rw (← (served p q)) (TakesMark l k (inl (grind (arith, nat_tests))))
     go false false false None p q r e = rw (← (served p q)) (TakesMark l k (inr e))
     go false false false (Some o) p q r e = rw (← (served p q)) (ask-outcome sh s c l o (Mark l k s.serving.serving) (ToMark k) e)
 
-commit-outcome : (sh : Shape) (s : DirState) (c t n : ℕ) → Outcome sh s c (Commit t n) (commit sh c t n s)
-unfolding commit owned settled moved_on unmarked
+commit-outcome : (sh : Shape) (s : DirState) (c t n : ℕ) → Outcome sh s c (Commit t n) (dir_commit sh c t n s)
+unfolding dir_commit owned_by_committer moved_on_if_settled moved_on unmarked
 commit-outcome sh s c t n = go (s.serving.serving == t) (count_below (has_mark s.lines) (lines sh) == n) refl refl
   where
-    next : (b : Bool) → (owed_by sh s.lines c == 0) ≡ b → Outcome sh s c (Commit s.serving.serving (count_below (has_mark s.lines) (lines sh))) (Takes (if b then moved_on (record s { lines = owned c s.serving.serving s.lines; owed = owed_by sh s.lines c }) else record s { lines = owned c s.serving.serving s.lines; owed = owed_by sh s.lines c }) (invalidations sh s.lines c s.serving.serving))
+    next : (b : Bool) → (invalidation_count sh s.lines c == 0) ≡ b → Outcome sh s c (Commit s.serving.serving (count_below (has_mark s.lines) (lines sh))) (Takes (if b then moved_on (record s { lines = owned_by_committer c s.serving.serving s.lines; owed = invalidation_count sh s.lines c }) else record s { lines = owned_by_committer c s.serving.serving s.lines; owed = invalidation_count sh s.lines c }) (invalidations sh s.lines c s.serving.serving))
     next true q = TakesCommit true q
     next false q = TakesCommit false q
 
-    go : (a b : Bool) → (s.serving.serving == t) ≡ a → (count_below (has_mark s.lines) (lines sh) == n) ≡ b → Outcome sh s c (Commit t n) (if a && b then Takes (settled (record s { lines = owned c t s.lines; owed = owed_by sh s.lines c })) (invalidations sh s.lines c t) else Waits)
+    go : (a b : Bool) → (s.serving.serving == t) ≡ a → (count_below (has_mark s.lines) (lines sh) == n) ≡ b → Outcome sh s c (Commit t n) (if a && b then Takes (moved_on_if_settled (record s { lines = owned_by_committer c t s.lines; owed = invalidation_count sh s.lines c })) (invalidations sh s.lines c t) else Waits)
     go false b p q = Waiting (Commit t n)
     go true false p q = Waiting (Commit t n)
     go true true p q =
         let e : s.serving.serving ≡ t = grind (arith, nat_tests) in
         let f : count_below (has_mark s.lines) (lines sh) ≡ n = grind (arith, nat_tests) in
-        rw (← e, ← f) (next (owed_by sh s.lines c == 0) refl)
+        rw (← e, ← f) (next (invalidation_count sh s.lines c == 0) refl)
 
 ack-outcome : (sh : Shape) (s : DirState) (c l : ℕ) (b : Bool) → Outcome sh s c (InvAck l b) (acknowledgement c l b s)
-unfolding acknowledgement with_sharer settled moved_on unmarked
+unfolding acknowledgement with_sharer moved_on_if_settled moved_on unmarked
 ack-outcome sh s c l b = go (s.owed == 0) refl
   where
     next : (b x : Bool) → (s.owed - 1 == 0) ≡ x → 0 < s.owed → Outcome sh s c (InvAck l b) (Takes (if x then moved_on (record s { lines = unless_keeps b c l s.lines; owed = s.owed - 1 }) else record s { lines = unless_keeps b c l s.lines; owed = s.owed - 1 }) nothing)
@@ -142,7 +144,7 @@ ack-outcome sh s c l b = go (s.owed == 0) refl
     next false true q p = TakesAck l false true p q
     next false false q p = TakesAck l false false p q
 
-    go : (a : Bool) → (s.owed == 0) ≡ a → Outcome sh s c (InvAck l b) (if a then Drops else Takes (settled (record s { lines = unless_keeps b c l s.lines; owed = s.owed - 1 })) nothing)
+    go : (a : Bool) → (s.owed == 0) ≡ a → Outcome sh s c (InvAck l b) (if a then Drops else Takes (moved_on_if_settled (record s { lines = unless_keeps b c l s.lines; owed = s.owed - 1 })) nothing)
     go true p = Spent (InvAck l b) (NoneOwed l b (grind (arith, nat_tests)))
     go false p = next b (s.owed - 1 == 0) refl (grind (arith, nat_tests))
 
@@ -153,7 +155,7 @@ back-outcome sh s c l k ws g m y = go (nat_lt (s.lines.tag l) g) (s.lines.tag l 
     own : (o : Option ℕ) → is_owner o c ≡ true → o ≡ Some c
     own a h = grind (arith, nat_tests)
 
-    go : (a b x : Bool) → nat_lt (s.lines.tag l) g ≡ a → (s.lines.tag l == g) ≡ b → is_owner (s.lines.owner l) c ≡ x → Outcome sh s c m (judged l k ws s (if a then IsEarly else (if b && x then IsTaken else IsDropped)))
+    go : (a b x : Bool) → nat_lt (s.lines.tag l) g ≡ a → (s.lines.tag l == g) ≡ b → is_owner (s.lines.owner l) c ≡ x → Outcome sh s c m (judged l k ws s (if a then TooEarly else (if b && x then Current else Outdated)))
     go true b x p q r = Waiting m
     go false true true p q r = TakesCopy m l k ws g y (grind (arith, nat_tests)) (own (s.lines.owner l) r)
     go false true false p q r = Spent m (CopyPassed m l k ws g y (grind (arith, nat_tests)) (rw (q, r) refl))

@@ -1,7 +1,7 @@
 -- No message goes to a core that the machine doesn't have, and none of them owns a line.
 use Rattle.tcc_serial.proofs.Names.{ℕ, ◌≡◌, ◌<◌, ◌≤◌, false, [], ◌∷◌, ◌==◌, Some, nat_lt, arith, refl, nat_tests, Lines, Core, Msg, Fill}
 use Rattle.tcc_serial.proofs.Names.{ProbeReply, DataReq, Shape, lines, DirState, Sends, nothing, to, Answer, Asks, Takes, dir_deliver}
-use Rattle.tcc_serial.proofs.Names.{invalidations, invs_to, is_invalidated, line_words, Any, among}
+use Rattle.tcc_serial.proofs.Names.{invalidations, invs_to, is_invalidated, home_words, Any, among}
 use Rattle.tcc_serial.proofs.Counts.DirOutcome.{Outcome, Waiting, Spent, AsksOwner, TakesProbe, TakesLoad, TakesCommit, TakesCopy, outcome}
 use Rattle.tcc_serial.proofs.Counts.Links.{those-none}
 
@@ -45,7 +45,7 @@ dir-inside sh s c m l h = go (outcome sh s c m)
     go (Spent m i) = tt
     go (AsksOwner m k o w e) = (to-inside sh o (DataReq k) (h k o e), h)
     go (TakesProbe t i) = (to-inside sh c (ProbeReply t s.serving.serving) l, h)
-    go (TakesLoad k x i e o) = (to-inside sh c (Fill k (line_words s k)) l, h)
+    go (TakesLoad k x i e o) = (to-inside sh c (Fill k (home_words s k)) l, h)
     go (TakesCommit b e) = (invalidations-inside sh s.lines c s.serving.serving, λ x o q. grind (arith, nat_tests, h x o))
     go (TakesCopy m k n ws g y e o) = (quiet-inside sh, λ x o q. grind (arith, nat_tests, h x o))
     go _ = (quiet-inside sh, h)

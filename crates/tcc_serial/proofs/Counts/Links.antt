@@ -1,9 +1,9 @@
 -- What sending and taking do to the number of messages of a kind, and how many a rule sends.
 use Rattle.tcc_serial.proofs.Names.{◌≡◌, ◌≤◌, Bool, true, false, arith, refl, num, ℕ, zero, suc, ◌+◌, ◌<◌, ◌≢◌, List, [], ◌∷◌, ◌++◌, set}
-use Rattle.tcc_serial.proofs.Names.{get_or, Some, None, ap, ◌⊎◌, cases_eq, Msg, Link, sent_all, total, Kind, live, among, passes, ◌==◌}
+use Rattle.tcc_serial.proofs.Names.{get_or, Some, None, ap, ◌⊎◌, cases_eq, Msg, Link, sent_all, sum_below, Kind, live, among, passes, ◌==◌}
 use Rattle.tcc_serial.proofs.Names.{◌&&◌, flat_map, nat_tests, those, Dir, Mark, Shape, Cache, writes_at, modified_mask, written_lines}
-use Rattle.tcc_serial.proofs.Names.{Spilled, skip_all, probe_all, abort_written, marks_for, commit_sends, solo_sends, solo_marks}
-use Rattle.tcc_serial.proofs.Names.{solo_backs, grant_sends, Resolves, Protocol}
+use Rattle.tcc_serial.proofs.Names.{Spilled, skip_all, probe_all, abort_written, marks_for, commit_sends, solo_sends, solo_marks_or_skip}
+use Rattle.tcc_serial.proofs.Names.{solo_write_backs, grant_sends, Resolves, Protocol}
 
 -- A truth value as a number, which is 1 or 0.
 pub num-few : (b : Bool) → num b ≤ 1
@@ -64,34 +64,34 @@ among-fewer a b h [] = omega arith
 among-fewer a b h (m ∷ ms) = omega (arith, h m, among-fewer a b h ms)
 
 -- sums
-pub total-same : (f g : ℕ → ℕ) (n : ℕ) → ((j : ℕ) → j < n → f j ≡ g j) → total f n ≡ total g n
-unfolding total
+pub total-same : (f g : ℕ → ℕ) (n : ℕ) → ((j : ℕ) → j < n → f j ≡ g j) → sum_below f n ≡ sum_below g n
+unfolding sum_below
 total-same f g zero h = refl
 total-same f g (suc n) h = omega (arith, total-same f g n (λ j l. h j (omega arith)), h n (omega arith))
 
-pub total-plus : (f g h : ℕ → ℕ) (n : ℕ) → ((j : ℕ) → j < n → h j ≡ f j + g j) → total h n ≡ total f n + total g n
-unfolding total
+pub total-plus : (f g h : ℕ → ℕ) (n : ℕ) → ((j : ℕ) → j < n → h j ≡ f j + g j) → sum_below h n ≡ sum_below f n + sum_below g n
+unfolding sum_below
 total-plus f g h zero e = refl
 total-plus f g h (suc n) e = omega (arith, total-plus f g h n (λ j l. e j (omega arith)), e n (omega arith))
 
-pub total-le : (f : ℕ → ℕ) (n j : ℕ) → j < n → f j ≤ total f n
-unfolding total
+pub total-le : (f : ℕ → ℕ) (n j : ℕ) → j < n → f j ≤ sum_below f n
+unfolding sum_below
 total-le f zero j l = absurd (omega arith)
 total-le f (suc n) j l = go (cases_eq j n) (total-le f n j)
   where
-    go : (j ≡ n) ⊎ (j ≡ n → ⊥) → (j < n → f j ≤ total f n) → f j ≤ total f n + f n
+    go : (j ≡ n) ⊎ (j ≡ n → ⊥) → (j < n → f j ≤ sum_below f n) → f j ≤ sum_below f n + f n
     go a r = grind (arith, nat_tests)
 
-pub total-at : (f g : ℕ → ℕ) (n c : ℕ) → c < n → ((j : ℕ) → j ≢ c → f j ≡ g j) → total f n + g c ≡ total g n + f c
-unfolding total
+pub total-at : (f g : ℕ → ℕ) (n c : ℕ) → c < n → ((j : ℕ) → j ≢ c → f j ≡ g j) → sum_below f n + g c ≡ sum_below g n + f c
+unfolding sum_below
 total-at f g zero c l h = absurd (omega arith)
 total-at f g (suc n) c l h = go (cases_eq c n) (λ k. total-at f g n c k h)
   where
-    go : (c ≡ n) ⊎ (c ≡ n → ⊥) → (c < n → total f n + g c ≡ total g n + f c) → total f n + f n + g c ≡ total g n + g n + f c
+    go : (c ≡ n) ⊎ (c ≡ n → ⊥) → (c < n → sum_below f n + g c ≡ sum_below g n + f c) → sum_below f n + f n + g c ≡ sum_below g n + g n + f c
     go a r = grind (arith, nat_tests, total-same)
 
-pub total-zero : (f : ℕ → ℕ) (n : ℕ) → ((j : ℕ) → j < n → f j ≡ 0) → total f n ≡ 0
-unfolding total
+pub total-zero : (f : ℕ → ℕ) (n : ℕ) → ((j : ℕ) → j < n → f j ≡ 0) → sum_below f n ≡ 0
+unfolding sum_below
 total-zero f zero h = refl
 total-zero f (suc n) h = omega (arith, total-zero f n (λ j l. h j (omega arith)), h n (omega arith))
 
@@ -139,5 +139,5 @@ unfolding marks_for among passes
 resolves-marks_for sh c u e t = among-flat_map_none (Resolves t) (λ l. Mark l (modified_mask c l) u ∷ []) (λ l. refl) (written_lines sh c e)
 
 pub resolves-solo_sends : (sh : Shape) (c : Cache) (sp : Spilled) (u d t : ℕ) → d < sh.dirs → among (Resolves t) (solo_sends sh c sp u (Dir d)) ≡ num (u == t)
-unfolding solo_sends solo_marks solo_backs among passes
+unfolding solo_sends solo_marks_or_skip solo_write_backs among passes
 resolves-solo_sends sh c sp u d t l = grind (arith, nat_tests, among-flat_map_none, among-append)

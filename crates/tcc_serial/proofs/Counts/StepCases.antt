@@ -1,11 +1,12 @@
 -- What is to be shown of a step, by the kind of its event, and what each kind does to the pairs of a core and a directory.
 use Rattle.tcc_serial.proofs.Names.{DirState, from_dir, ℕ, ◌+◌, ◌≡◌, ◌<◌, Bool, true, false, List, [], ◌∷◌, ◌++◌, ◌==◌, ◌&&◌, arith, refl}
-use Rattle.tcc_serial.proofs.Names.{ap, sym, subst, ◌∙◌, inl, inr, nat_tests, cases_eq, Node, Core, Dir, Vendor, Msg, TidGrant, total}
+use Rattle.tcc_serial.proofs.Names.{ap, sym, subst, ◌∙◌, inl, inr, nat_tests, cases_eq, Node, Core, Dir, Vendor, Msg, TidGrant, sum_below}
 use Rattle.tcc_serial.proofs.Names.{World, Link, sent_all, to, Out, core_moves, core_takes, dir_takes, dir_asks, vendor_gives, Pair, pair}
 use Rattle.tcc_serial.proofs.Names.{after_move, grant_taken, back_taken, after_answer, out_taken, after_grant, after_other_grant, share}
 use Rattle.tcc_serial.proofs.Names.{sum_of, Option, Some, None, IfSome, nat_lt, if◌then◌else◌, Program, Event, Exec, Evict, Deliver, TidReq}
 use Rattle.tcc_serial.proofs.Names.{Shape, in_flight, Sends, nothing, core_exec, core_evict, core_deliver, grant, Answer, Waits, Drops}
-use Rattle.tcc_serial.proofs.Names.{Asks, Takes, dir_deliver, Stepped, step, moved, taken, answered, delivered, if_in_flight, happens}
+use Rattle.tcc_serial.proofs.Names.{Asks, Takes, dir_deliver, Stepped, step, if_core_moves, if_core_takes, answered, delivered}
+use Rattle.tcc_serial.proofs.Names.{if_in_flight, happens}
 use Rattle.tcc_serial.proofs.Names.{names_nodes, is_node, Grant, grant_for, granted_by, sends_of, sends_for, sent_by, Uses, used_by, Views}
 use Rattle.tcc_serial.proofs.Names.{uses_executed, uses_delivered, views_after, put}
 use Rattle.tcc_rules.specs.VendorDeliver.{Granted}
@@ -153,13 +154,13 @@ sum_back_away f n w e c k o d x y h l q = shares_at f n (core_takes w (Dir e) c 
 pub sum_dir : (f : Pair → ℕ) (g : ℕ → ℕ) (n : ℕ) (w : World) (c k : ℕ) (s : DirState) (sends : Node → List Msg) (d x y : ℕ) → c < n
     → f (after_answer (out_taken (pair w c d) k) s (sends (Core c))) + x ≡ f (pair w c d) + g c + y
     → ((j : ℕ) → (j ≡ c → ⊥) → f (after_answer (pair w j d) s (sends (Core j))) ≡ f (pair w j d) + g j)
-    → sum_of f n (dir_takes w c d k s sends) d + x ≡ sum_of f n w d + total g n + y
+    → sum_of f n (dir_takes w c d k s sends) d + x ≡ sum_of f n w d + sum_below g n + y
 unfolding share
 sum_dir f g n w c k s sends d x y l e others =
     let v : World = dir_takes w c d k s sends in
     let h : ℕ → ℕ = λ j. share f w d j + g j in
-    let q : total h n ≡ total (share f w d) n + total g n = total-plus (share f w d) g h n (λ j l. refl) in
-    let p : total (share f v d) n + h c ≡ total h n + share f v d c = total-at (share f v d) h n c l (λ j r. ap f (dir-other w c d k s sends j r) ∙ others j r) in
+    let q : sum_below h n ≡ sum_below (share f w d) n + sum_below g n = total-plus (share f w d) g h n (λ j l. refl) in
+    let p : sum_below (share f v d) n + h c ≡ sum_below h n + share f v d c = total-at (share f v d) h n c l (λ j r. ap f (dir-other w c d k s sends j r) ∙ others j r) in
     let own : share f v d c + x ≡ share f w d c + g c + y = rw (dir-own w c d k s sends) e in
     omega arith
 
@@ -172,7 +173,7 @@ unfolding share
 sum_asks f g n w e s sends d h = total-same (share f (dir_asks w e s sends) d) (share f w d) n (λ j l. either d e (λ q. ap f (rw q (asks-own w e s sends j)) ∙ h j) (λ r. ap f (asks-away w e s sends j d r)))
 
 -- the same where a directory asks
-pub sum_asks_here : (f : Pair → ℕ) (g : ℕ → ℕ) (n : ℕ) (w : World) (s : DirState) (sends : Node → List Msg) (d : ℕ) → ((j : ℕ) → f (after_answer (pair w j d) s (sends (Core j))) ≡ f (pair w j d) + g j) → sum_of f n (dir_asks w d s sends) d ≡ sum_of f n w d + total g n
+pub sum_asks_here : (f : Pair → ℕ) (g : ℕ → ℕ) (n : ℕ) (w : World) (s : DirState) (sends : Node → List Msg) (d : ℕ) → ((j : ℕ) → f (after_answer (pair w j d) s (sends (Core j))) ≡ f (pair w j d) + g j) → sum_of f n (dir_asks w d s sends) d ≡ sum_of f n w d + sum_below g n
 unfolding share
 sum_asks_here f g n w s sends d h = total-plus (share f w d) g (share f (dir_asks w d s sends) d) n (λ j l. ap f (asks-own w d s sends j) ∙ h j)
 
@@ -197,11 +198,11 @@ pub step_answer : (w : World) (c d k : ℕ) (R : Stepped → Type 0) (a : Answer
 step_answer w c d k R Waits h = tt
 step_answer w c d k R _ h = h
 
-step_moved : (w : World) (c : ℕ) (R : Option Out → Stepped → Type 0) (o : Option Out) → IfSome o (λ x. R (Some x) (record { world = core_moves w c x; noted = x.commit })) → IfSome (moved w c o) (R o)
+step_moved : (w : World) (c : ℕ) (R : Option Out → Stepped → Type 0) (o : Option Out) → IfSome o (λ x. R (Some x) (record { world = core_moves w c x; noted = x.commit })) → IfSome (if_core_moves w c o) (R o)
 step_moved w c R None h = tt
 step_moved w c R (Some x) h = h
 
-step_taken : (w : World) (src : Node) (c k : ℕ) (R : Sends → Stepped → Type 0) (o : Option Out) → IfSome o (λ x. R x.sends (record { world = core_takes w src c k x; noted = x.commit })) → IfSome (taken w src c k o) (R (sends_of o))
+step_taken : (w : World) (src : Node) (c k : ℕ) (R : Sends → Stepped → Type 0) (o : Option Out) → IfSome o (λ x. R x.sends (record { world = core_takes w src c k x; noted = x.commit })) → IfSome (if_core_takes w src c k o) (R (sends_of o))
 step_taken w src c k R None h = tt
 step_taken w src c k R (Some x) h = h
 
@@ -233,12 +234,12 @@ event_cases sh p w vs (Exec c) R ex ev gr fr di ve = go (nat_lt c sh.cores) refl
     T : Option Out → Stepped → Type 0
     T o = R (put vs c (uses_executed o (vs c) (new_uses sh p w c))) (sends_of o) []
 
-    go : (b : Bool) → nat_lt c sh.cores ≡ b → IfSome (if b then moved w c (core_exec sh p c (w.cores c)) else None) (T (core_exec sh p c (w.cores c)))
+    go : (b : Bool) → nat_lt c sh.cores ≡ b → IfSome (if b then if_core_moves w c (core_exec sh p c (w.cores c)) else None) (T (core_exec sh p c (w.cores c)))
     go false q = tt
     go true q = step_moved w c T (core_exec sh p c (w.cores c)) (ex c (grind (arith, nat_tests)))
 event_cases sh p w vs (Evict c x y) R ex ev gr fr di ve = go (nat_lt c sh.cores) refl (nat_lt x sh.sets && nat_lt y sh.ways)
   where
-    go : (b : Bool) → nat_lt c sh.cores ≡ b → (d : Bool) → IfSome (if b && d then moved w c (core_evict sh x y (w.cores c)) else None) (R vs (sends_of (core_evict sh x y (w.cores c))) [])
+    go : (b : Bool) → nat_lt c sh.cores ≡ b → (d : Bool) → IfSome (if b && d then if_core_moves w c (core_evict sh x y (w.cores c)) else None) (R vs (sends_of (core_evict sh x y (w.cores c))) [])
     go true q true = step_moved w c (λ o. R vs (sends_of o) []) (core_evict sh x y (w.cores c)) (ev c x y (grind (arith, nat_tests)))
     go true q false = tt
     go false q d = tt

@@ -2,7 +2,7 @@
 -- no more only where it says that it keeps no word.
 use Rattle.tcc_serial.proofs.Names.{ℕ, ◌≡◌, ◌≤◌, ◌⊎◌, true, false, [], ◌==◌, ◌&&◌, arith, refl, inl, nat_tests}
 use Rattle.tcc_serial.proofs.Names.{num, has_mark, Core, Msg, Fill, ProbeReply, DataReq, Shape, DirState, Sends, Answer, Asks, Takes}
-use Rattle.tcc_serial.proofs.Names.{dir_deliver, line_words, FillOf, GoneOf, among, passes, AnyCommit}
+use Rattle.tcc_serial.proofs.Names.{dir_deliver, home_words, FillOf, GoneOf, among, passes, AnyCommit}
 use Rattle.tcc_serial.proofs.Counts.DirOutcome.{Outcome, Waiting, Spent, AsksOwner, TakesProbe, TakesLoad, TakesCommit, TakesAck, TakesCopy}
 use Rattle.tcc_serial.proofs.Counts.DirOutcome.{ToLoad, ToMark, outcome, among-to, among-none, none-to, none-invalidations}
 use Rattle.tcc_serial.proofs.Counts.StepCases.{same}
@@ -37,7 +37,7 @@ dir-shares sh s c m = go (outcome sh s c m)
     go (TakesProbe t h) = same-shares (λ x j. refl) (λ x j. none-to (FillOf x) c j (ProbeReply t s.serving.serving) refl) (λ q. absurd (cc))
     go (TakesLoad l k h e o) = record {
       kept = λ x j q. inl (grind (arith, nat_tests, q));
-      filled = λ x j q. let n : 1 ≤ num (j == c && l == x) = rw (among-to (FillOf x) c j (Fill l (line_words s l))) at q in (grind (arith, nat_tests), grind (arith, nat_tests, e));
+      filled = λ x j q. let n : 1 ≤ num (j == c && l == x) = rw (among-to (FillOf x) c j (Fill l (home_words s l))) at q in (grind (arith, nat_tests), grind (arith, nat_tests, e));
       taken = λ x q r. absurd (cc);
     }
     go (TakesCommit b e) = record {

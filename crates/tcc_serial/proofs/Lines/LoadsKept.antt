@@ -1,7 +1,7 @@
 -- Every event keeps that one load request or Fill is in flight exactly for the line that a core awaits.
 use Rattle.tcc_serial.proofs.Names.{ℕ, ◌≡◌, Bool, false, [], ◌==◌, ◌&&◌, Option, Some, None, IfSome, arith, refl, Program, Local, num}
 use Rattle.tcc_serial.proofs.Names.{Core, Dir, Event, Msg, Fill, ProbeReply, DataReq, Shape, DirState, World, start, core_start, in_flight}
-use Rattle.tcc_serial.proofs.Names.{Out, core_exec, core_evict, from_dir, grant, Answer, Waits, Drops, Asks, Takes, dir_deliver, line_words}
+use Rattle.tcc_serial.proofs.Names.{Out, core_exec, core_evict, from_dir, grant, Answer, Waits, Drops, Asks, Takes, dir_deliver, home_words}
 use Rattle.tcc_serial.proofs.Names.{core_moves, core_takes, step, LoadingOf, KeptLoading, LoadOf, FillOf, live, among, passes, Pair, pair}
 use Rattle.tcc_serial.proofs.Counts.DirOutcome.{Outcome, Waiting, Spent, AsksOwner, TakesProbe, TakesLoad, TakesCommit, TakesCopy, IsSpent}
 use Rattle.tcc_serial.proofs.Counts.DirOutcome.{CopyPassed, outcome, among-none, among-to, none-to, none-invalidations}
@@ -40,7 +40,7 @@ dir-fills sh s c m = go (outcome sh s c m)
     go (Spent m i) = spent i
     go (AsksOwner m k o w e) = λ l j. none-to (FillOf l) o j (DataReq k) refl
     go (TakesProbe t i) = λ l j. among-to (FillOf l) c j (ProbeReply t s.serving.serving)
-    go (TakesLoad k x i e o) = λ l j. among-to (FillOf l) c j (Fill k (line_words s k))
+    go (TakesLoad k x i e o) = λ l j. among-to (FillOf l) c j (Fill k (home_words s k))
     go (TakesCommit b e) = λ l j. omega (arith, none-invalidations (FillOf l) (λ x y z. refl) sh s.lines c s.serving.serving j, and-none (j == c) false refl)
     go (TakesCopy m k n ws g y e o) = λ l j. quiet c m l j (y.alike (LoadOf l))
     go _ = λ l j. omega (arith, among-none (FillOf l), and-none (j == c) false refl)

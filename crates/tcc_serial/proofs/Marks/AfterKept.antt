@@ -47,7 +47,7 @@ no-live (Some m ∷ k) h x = omega (arith, no-load x m (λ l. omega (arith, h l)
 stays-after : (sh : Shape) (cs : List Noted) (c d : ℕ) (v : Pair) (o : Out) → Stays v.core o → AfterOf sh cs c d v → AfterOf sh cs c d (after_move v o d)
 stays-after sh cs c d v o y h = record {
   last = ap (λ f. f d) y.after ∙ h.last;
-  carried = rw (y.after) (omega (arith, h.carried, y.carries d, live-sends (LoadNot (v.core.after d)) v.out (o.sends (Dir d))));
+  carried = rw (y.after) (omega (arith, h.carried, y.carries d, live-sends (LoadNot (v.core.last_commit d)) v.out (o.sends (Dir d))));
 }
 
 -- a core that commits, whose commits so far have smaller TIDs
@@ -55,7 +55,7 @@ commits-after : (sh : Shape) (cs : List Noted) (c d : ℕ) (v : Pair) (o : Out) 
 unfolding stored_there
 commits-after sh cs c d v o y b n h = record {
   last = y.after d ∙ (go (stores_at sh d y.noted.stores) refl ∙ sym (last-insert (stored_there sh c d) y.noted cs));
-  carried = omega (arith, no-live v.out n (o.core.after d), y.quiet d (o.core.after d), live-sends (LoadNot (o.core.after d)) v.out (o.sends (Dir d)));
+  carried = omega (arith, no-live v.out n (o.core.last_commit d), y.quiet d (o.core.last_commit d), live-sends (LoadNot (o.core.last_commit d)) v.out (o.sends (Dir d)));
 }
   where
     own : (y.noted.core.0 == c) ≡ true
@@ -67,7 +67,7 @@ commits-after sh cs c d v o y b n h = record {
     none-else : (l : ℕ) → l ≡ max 0 l
     none-else l = omega arith
 
-    go : (x : Bool) → stores_at sh d y.noted.stores ≡ x → (if x then y.noted.tid.0 else v.core.after d) ≡ max (cond ((y.noted.core.0 == c) && stores_at sh d y.noted.stores) y.noted.tid.0 0) (last_of (stored_there sh c d) cs)
+    go : (x : Bool) → stores_at sh d y.noted.stores ≡ x → (if x then y.noted.tid.0 else v.core.last_commit d) ≡ max (cond ((y.noted.core.0 == c) && stores_at sh d y.noted.stores) y.noted.tid.0 0) (last_of (stored_there sh c d) cs)
     go a q = grind (arith, nat_tests)
 
 -- another core's commit
@@ -124,7 +124,7 @@ step-after sh p gs w cs e y k g ld h = step_cases sh p w e (λ x o. KeptAfter sh
 
     takes : (c d i : ℕ) (m : Msg) (s : DirState) (sends : Sends) → in_flight w.net (Core c) (Dir d) i ≡ Some m → KeptAfter sh (dir_takes w c d i s sends) cs
     takes c d i m s sends q = pairs_dir P w c d i s sends
-        (λ cl dl. record { last = (h c d cl dl).last; carried = omega (arith, (h c d cl dl).carried, live-takes (LoadNot ((w.cores c).after d)) (w.net (Core c) (Dir d)) i m q) })
+        (λ cl dl. record { last = (h c d cl dl).last; carried = omega (arith, (h c d cl dl).carried, live-takes (LoadNot ((w.cores c).last_commit d)) (w.net (Core c) (Dir d)) i m q) })
         (λ j n cl dl. record { last = (h j d cl dl).last; carried = (h j d cl dl).carried }) h
 
     answered : (c d i : ℕ) (m : Msg) → in_flight w.net (Core c) (Dir d) i ≡ Some m → (a : Answer) → OfAnswer w c d i (λ v. KeptAfter sh v cs) a

@@ -2,7 +2,8 @@
 use Rattle.tcc_serial.proofs.Names.{ℕ, ◌+◌, ◌≡◌, ◌≤◌, Bool, true, false, not, List, [], ◌∷◌, ◌==◌, ◌&&◌, Some, IfSome, nat_lt, arith, refl}
 use Rattle.tcc_serial.proofs.Names.{sym, ap, ◌∙◌, ◌⊎◌, inl, inr, nat_tests, Noted, Program, num, any_below, Dir, Msg, Commit, Shape, home}
 use Rattle.tcc_serial.proofs.Names.{lines, Cache, is_modified, modified_mask, writes_at, Spilled, CoreState, Phase, Ready, Solo, Out, noted}
-use Rattle.tcc_serial.proofs.Names.{commit, commit_sends, solo_sends, solo_marks, solo_backs, solo_writes_at, is_written, written_mask}
+use Rattle.tcc_serial.proofs.Names.{commit, commit_sends, solo_sends, solo_marks_or_skip, solo_write_backs, solo_writes_at, is_written}
+use Rattle.tcc_serial.proofs.Names.{written_mask}
 use Rattle.tcc_serial.proofs.Names.{core_exec, core_evict, from_dir, Commits, AnyCommit, CommitOf, MarkOf, MarkMask, among, passes}
 use Rattle.tcc_serial.proofs.Names.{has_marked, stores_line, marked_by, OneCore, stores_in, stored_mask, stores_at, has_tid, solo_commit}
 use Rattle.tcc_serial.proofs.Serving.CoreCommits.{heard-free}
@@ -96,11 +97,11 @@ storing-ready sh c d t u s ph h x = record {
 
 -- a core alone marks what its stores name
 alone-masked : (sh : Shape) (c : Cache) (sp : Spilled) (u d t l : ℕ) → among (MarkMask t l (written_mask c sp l)) (solo_sends sh c sp u (Dir d)) ≡ 0
-unfolding solo_sends solo_marks solo_backs among passes
+unfolding solo_sends solo_marks_or_skip solo_write_backs among passes
 alone-masked sh c sp u d t l = grind (arith, nat_tests, among-flat_map_none, own-mask, among-append)
 
 alone-writes : (sh : Shape) (c : Cache) (sp : Spilled) (u d t : ℕ) → 1 ≤ among (Commits t) (solo_sends sh c sp u (Dir d)) → any_below (λ l. d == home sh l && is_written c sp l) (lines sh) ≡ true
-unfolding solo_sends solo_marks solo_backs solo_writes_at among passes
+unfolding solo_sends solo_marks_or_skip solo_write_backs solo_writes_at among passes
 alone-writes sh c sp u d t x = grind (arith, nat_tests, among-flat_map_none, among-append)
 
 alone : (u : ℕ) (q : Phase) → q ≡ Solo u → has_marked q ≡ false

@@ -1,7 +1,7 @@
 -- What a core's step does to the TIDs that it notes of its last commit at each directory.
 use Rattle.tcc_serial.proofs.Names.{ℕ, ◌≡◌, ◌⊎◌, Bool, true, false, [], ◌∷◌, ◌==◌, Option, Some, None, IfSome, if◌then◌else◌, arith, refl}
 use Rattle.tcc_serial.proofs.Names.{inl, inr, nat_tests, Noted, Program, word_of, num, line_of, Dir, Msg, LoadReq, Shape, home, CoreState}
-use Rattle.tcc_serial.proofs.Names.{Awaited, Ready, Out, moves, commit, noted, after_commit, committed_core, solo_commit, core_exec}
+use Rattle.tcc_serial.proofs.Names.{Awaited, Ready, Out, moves, commit, noted, with_last_commit, committed_core, solo_commit, core_exec}
 use Rattle.tcc_serial.proofs.Names.{core_evict, grant, from_dir, LoadOf, LoadNot, among, passes, OneCore, executes, stores_at}
 use Rattle.tcc_serial.proofs.Marks.StoredMasks.{stored-solo, stored-written}
 use Rattle.tcc_serial.proofs.OneCore.Said.{Empties, Flushes, Requests, Silent, Tells_alone, Tells_commit, quiet, say}
@@ -17,8 +17,8 @@ no-load x _ f = refl
 
 -- nothing is committed, and a load request carries what the core notes of the line's home
 pub record Stays (s : CoreState) (o : Out) : Type 0 where
-  pub after : o.core.after ≡ s.after
-  pub carries : (d : ℕ) → among (LoadNot (s.after d)) (o.sends (Dir d)) ≡ 0
+  pub after : o.core.last_commit ≡ s.last_commit
+  pub carries : (d : ℕ) → among (LoadNot (s.last_commit d)) (o.sends (Dir d)) ≡ 0
   pub commit : o.commit ≡ None
 
 -- the core commits: it notes the commit's TID of each directory where the commit stored
@@ -26,7 +26,7 @@ pub record Notes_commit (sh : Shape) (c : ℕ) (s : CoreState) (o : Out) : Type 
   pub noted : Noted
   pub commit : o.commit ≡ Some noted
   pub core : noted.core.0 ≡ c
-  pub after : (d : ℕ) → o.core.after d ≡ (if stores_at sh d noted.stores then noted.tid.0 else s.after d)
+  pub after : (d : ℕ) → o.core.last_commit d ≡ (if stores_at sh d noted.stores then noted.tid.0 else s.last_commit d)
   pub quiet : (d x : ℕ) → among (LoadNot x) (o.sends (Dir d)) ≡ 0
   pub idle : s.awaited ≡ None
 
@@ -34,20 +34,20 @@ abbrev pub AfterStep : Shape → (core : ℕ) → CoreState → Out → Type 0
 AfterStep sh c s o = Stays s o ⊎ Notes_commit sh c s o
 
 -- no load request is sent, and the core notes what it did
-stays : (s : CoreState) (o : Out) → ((d x : ℕ) → among (LoadNot x) (o.sends (Dir d)) ≡ 0) → o.core.after ≡ s.after → o.commit ≡ None → Stays s o
-stays s o f e c = record { after = e; carries = λ d. f d (s.after d); commit = c }
+stays : (s : CoreState) (o : Out) → ((d x : ℕ) → among (LoadNot x) (o.sends (Dir d)) ≡ 0) → o.core.last_commit ≡ s.last_commit → o.commit ≡ None → Stays s o
+stays s o f e c = record { after = e; carries = λ d. f d (s.last_commit d); commit = c }
 
 -- a request carries what the core notes of the line's home
-asked : (sh : Shape) (k : ℕ) (s r : CoreState) → r.after ≡ s.after → Stays s (moves r (say sh s (Requests k)))
+asked : (sh : Shape) (k : ℕ) (s r : CoreState) → r.last_commit ≡ s.last_commit → Stays s (moves r (say sh s (Requests k)))
 unfolding among passes
 asked sh k s r e = record { after = e; carries = λ d. go d (d == home sh k) refl; commit = refl }
   where
-    go : (d : ℕ) (b : Bool) → (d == home sh k) ≡ b → among (LoadNot (s.after d)) (if b then LoadReq k (s.after (home sh k)) ∷ [] else []) ≡ 0
+    go : (d : ℕ) (b : Bool) → (d == home sh k) ≡ b → among (LoadNot (s.last_commit d)) (if b then LoadReq k (s.last_commit (home sh k)) ∷ [] else []) ≡ 0
     go d a q = grind (arith, nat_tests)
 
 -- a core whose directories are all ready awaits nothing and has spilled nothing
 pub after-exec : (sh : Shape) (p : Program) (c : ℕ) (s : CoreState) → OneCore sh s → IfSome (core_exec sh p c s) (λ o. AfterStep sh c s o)
-unfolding passes commit solo_commit committed_core noted after_commit
+unfolding passes commit solo_commit committed_core noted with_last_commit
 after-exec sh p c s h = each-exec sh p c s (AfterStep sh c s) go
   where
     rests : (t : ℕ) → s.phase ≡ Ready t → (a : Option Awaited) → s.awaited ≡ a → a ≡ None

@@ -3,8 +3,10 @@ use Rattle.tcc_serial.proofs.Names.{ℕ, zero, suc, ◌+◌, ◌≡◌, ◌<◌,
 use Rattle.tcc_serial.proofs.Names.{if◌then◌else◌, flat_map, arith, refl, ◌∙◌, nat_tests, Program, num, those, count_below, Dir, Msg, Skip}
 use Rattle.tcc_serial.proofs.Names.{Mark, Commit, WriteBack, Shape, home, lines, Cache, is_modified, writes_at, Spilled, holds}
 use Rattle.tcc_serial.proofs.Names.{spilled_mask, spilled_words, CoreState, Phase, Ready, Solo, Out, commit, commit_sends, solo_sends}
-use Rattle.tcc_serial.proofs.Names.{solo_marks, solo_backs, solo_writes_at, is_written, written_mask, core_exec, core_evict, from_dir}
-use Rattle.tcc_serial.proofs.Names.{total, Kind, MarkOf, AnyCommit, CommitOf, among, passes, has_marked, stores_line, marked_by, may_commit}
+use Rattle.tcc_serial.proofs.Names.{solo_marks_or_skip, solo_write_backs, solo_writes_at, is_written, written_mask, core_exec, core_evict}
+use Rattle.tcc_serial.proofs.Names.{from_dir}
+use Rattle.tcc_serial.proofs.Names.{sum_below, Kind, MarkOf, AnyCommit, CommitOf, among, passes, has_marked, stores_line, marked_by}
+use Rattle.tcc_serial.proofs.Names.{may_commit}
 use Rattle.tcc_serial.proofs.Names.{has_tid, solo_commit}
 use Rattle.tcc_serial.proofs.Serving.CoreCommits.{heard-free}
 use Rattle.tcc_serial.proofs.Counts.Links.{among-append, total-same, among-fewer, among-flat_map_none}
@@ -22,13 +24,13 @@ marks_after sh d t s o l = among (MarkOf t l) (o.sends (Dir d)) + marked_by sh s
 pub record Counts (sh : Shape) (d t n : ℕ) (s : CoreState) (o : Out) : Type 0 where
   pub held : has_tid s.phase t ≡ true
   pub each : (l : ℕ) → marks_after sh d t s o l ≤ num (nat_lt l (lines sh))
-  pub sum : total (marks_after sh d t s o) (lines sh) ≡ n
+  pub sum : sum_below (marks_after sh d t s o) (lines sh) ≡ n
 
 abbrev pub CountsAll : Shape → (dir tid : ℕ) → CoreState → Out → Type 0
 CountsAll sh d t s o = (n : ℕ) → 1 ≤ among (CommitOf t n) (o.sends (Dir d)) → Counts sh d t n s o
 
-pub total-num : (p : ℕ → Bool) (n : ℕ) → total (λ l. num (p l)) n ≡ count_below p n
-unfolding total count_below
+pub total-num : (p : ℕ → Bool) (n : ℕ) → sum_below (λ l. num (p l)) n ≡ count_below p n
+unfolding sum_below count_below
 total-num p zero = refl
 total-num p (suc n) = omega (arith, total-num p n)
 
@@ -82,20 +84,21 @@ counts-ready sh c d t u s ph ow n x =
 
 -- a core alone
 pub is-alone : (sh : Shape) (c : Cache) (sp : Spilled) (u d t n : ℕ) → 1 ≤ among (CommitOf t n) (solo_sends sh c sp u (Dir d)) → (u ≡ t) × (count_below (λ l. d == home sh l && is_written c sp l) (lines sh) ≡ n) × ((l : ℕ) → among (MarkOf t l) (solo_sends sh c sp u (Dir d)) ≡ num (nat_lt l (lines sh) && (d == home sh l && is_written c sp l)))
-unfolding solo_sends solo_marks solo_backs among passes
+unfolding solo_sends solo_marks_or_skip solo_write_backs among passes
 is-alone sh c sp u d t n x = go (nat_lt d sh.dirs) (solo_writes_at sh c sp d) x
   where
     p : ℕ → Bool
     p k = d == home sh k && is_written c sp k
 
-    backs : (k : Kind) → ((x m : ℕ) (ws : List ℕ) → num (passes k (WriteBack x m ws u)) ≡ 0) → among k (solo_backs sh sp u d) ≡ 0
+    backs : (k : Kind) → ((x m : ℕ) (ws : List ℕ) → num (passes k (WriteBack x m ws u)) ≡ 0) → among k (solo_write_backs sh sp u d) ≡ 0
     backs k e = among-flat_map_none k (λ x. WriteBack x (spilled_mask sp x) (spilled_words sp x) u ∷ []) (λ x. omega (arith, e x (spilled_mask sp x) (spilled_words sp x))) (those (λ x. d == home sh x && holds sp x) (lines sh))
 
     marks : List Msg
     marks = flat_map (λ k. Mark k (written_mask c sp k) u ∷ []) (those p (lines sh))
 
     sends : (a w : Bool) → List Msg
-    sends a w = if a then (if w then marks ++ Commit u (count_below p (lines sh)) ∷ [] else Skip u ∷ []) ++ solo_backs sh sp u d else []
+    sends a w =
+        if a then (if w then marks ++ Commit u (count_below p (lines sh)) ∷ [] else Skip u ∷ []) ++ solo_write_backs sh sp u d else []
 
     counted : among (CommitOf t n) (sends true true) ≡ num ((u == t) && (count_below p (lines sh) == n))
     counted = rw (among-append, among-append, marks-only (CommitOf t n) p (written_mask c sp) u (lines sh) (λ x m. refl), backs (CommitOf t n) (λ x m ws. refl)) (omega arith)

@@ -2,7 +2,8 @@
 use Rattle.tcc_serial.proofs.Names.{ℕ, ◌+◌, ◌≡◌, ◌≤◌, Bool, true, false, not, List, [], ◌∷◌, ◌++◌, ◌==◌, ◌&&◌, None, IfSome, nat_lt}
 use Rattle.tcc_serial.proofs.Names.{if◌then◌else◌, arith, refl, ap, ◌⊎◌, inl, inr, cases_eq, nat_tests, Program, num, any_word, Dir, Msg}
 use Rattle.tcc_serial.proofs.Names.{InvAck, Shape, home, lines, Cache, writes_at, is_modified, CoreState, Phase, Running, AwaitTid, Ready}
-use Rattle.tcc_serial.proofs.Names.{Overflowing, Solo, to, skip_all, abort_written, Out, commit, committed_core, phase_after, commit_sends}
+use Rattle.tcc_serial.proofs.Names.{Overflowing, Solo, to, skip_all, abort_written, Out, commit, committed_core, phase_after_commit}
+use Rattle.tcc_serial.proofs.Names.{commit_sends}
 use Rattle.tcc_serial.proofs.Names.{solo_sends, core_exec, core_evict, Resolves, Protocol, Marks, MarkOf, EmptyMarks, Skips, among, passes}
 use Rattle.tcc_serial.proofs.Names.{has_marked, stores_line, marked_by, has_tid, opens, Outcome, moves, solo_commit}
 use Rattle.tcc_serial.proofs.Counts.Links.{among-append, num-few}
@@ -166,7 +167,7 @@ solo-opens : (u t : ℕ) (w : Bool) (q : Phase) → q ≡ Solo u → u ≡ t →
 unfolding opens
 solo-opens u t w q e h = rw e (grind (arith, nat_tests))
 
-marking-alone : (sh : Shape) (d t l u : ℕ) (s : CoreState) (o : Out) (e : Outcome) → s.phase ≡ Solo u → o.core.phase ≡ phase_after e → o.sends ≡ solo_sends sh s.cache s.spilled u → Marking sh d t l s o
+marking-alone : (sh : Shape) (d t l u : ℕ) (s : CoreState) (o : Out) (e : Outcome) → s.phase ≡ Solo u → o.core.phase ≡ phase_after_commit e → o.sends ≡ solo_sends sh s.cache s.spilled u → Marking sh d t l s o
 unfolding has_tid has_marked marked_by
 marking-alone sh d t l u s o e q ph se = record {
   owned = λ x. own (rw se at x) (solo-owned sh s.cache s.spilled u d t);
@@ -191,7 +192,7 @@ unfolding commit solo_commit committed_core has_tid
 marking-exec sh p c d t l s = each-exec sh p c s (λ o. Marking sh d t l s o) go
   where
     ready : (u : ℕ) → s.phase ≡ Ready u → Marking sh d t l s (commit sh c u s)
-    ready u e = let f = told-commit sh s.cache u d t l in last-words sh d t l u s (commit sh c u s) (phase_after s.ended) refl (tid-after s.ended t) (λ z. mine u t s.phase (has-ready u s.phase e) z) (f.0) (f.1) (is-tid u t _ (swap (cases_eq u t)) (f.3)) (λ x. absurd (omega (arith, x, f.2)))
+    ready u e = let f = told-commit sh s.cache u d t l in last-words sh d t l u s (commit sh c u s) (phase_after_commit s.ended) refl (tid-after s.ended t) (λ z. mine u t s.phase (has-ready u s.phase e) z) (f.0) (f.1) (is-tid u t _ (swap (cases_eq u t)) (f.3)) (λ x. absurd (omega (arith, x, f.2)))
 
     go : (x : Did sh p c s) → Marking sh d t l s (out x)
     go (Commits_now u e) = ready u e

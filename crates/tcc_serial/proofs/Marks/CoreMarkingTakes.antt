@@ -4,8 +4,9 @@ use Rattle.tcc_serial.proofs.Names.{if◌then◌else◌, arith, refl, sym, ap, �
 use Rattle.tcc_serial.proofs.Names.{Msg, InvAck, ProbeReply, Fill, DataReq, Inv, Shape, home, lines, Cache, is_modified}
 use Rattle.tcc_serial.proofs.Names.{modified_mask, written_lines, writes_at, CoreState, Phase, Running, AwaitTid, DoomedTid, Probing, Ready}
 use Rattle.tcc_serial.proofs.Names.{Overflowing, Solo, to, marks_for, skip_all, abort_written, probe_all, Out, from_dir, all_replied}
-use Rattle.tcc_serial.proofs.Names.{probe_reply, fill, data_request, invalidate, ignored, grant, grant_phase, grant_sends, is_probed}
-use Rattle.tcc_serial.proofs.Names.{probing, Resolves, Marks, MarkOf, EmptyMarks, Skips, among, passes, has_marked, stores_line, marked_by}
+use Rattle.tcc_serial.proofs.Names.{probe_reply, fill, data_request, invalidate, ignored, grant, grant_in_phase, grant_sends, is_probed}
+use Rattle.tcc_serial.proofs.Names.{probing_or_ready, Resolves, Marks, MarkOf, EmptyMarks, Skips, among, passes, has_marked, stores_line}
+use Rattle.tcc_serial.proofs.Names.{marked_by}
 use Rattle.tcc_serial.proofs.Names.{has_tid, opens, waits_for_tid}
 use Rattle.tcc_serial.proofs.Counts.Links.{among-append, num-one}
 use Rattle.tcc_serial.proofs.Marks.CoreMarking.{Marking, Unsaid, unsaid-nothing, unsaid-append, acked, silent, silent-none, marking-steady}
@@ -208,7 +209,7 @@ told-probe : (sh : Shape) (u d t l : ℕ) → (among EmptyMarks (probe_all sh u 
 unfolding probe_all among passes
 told-probe sh u d t l = (grind arith, grind arith, grind arith)
 
-tid-probing : (b : Bool) (u t : ℕ) → has_tid (probing b u) t ≡ true → u ≡ t
+tid-probing : (b : Bool) (u t : ℕ) → has_tid (probing_or_ready b u) t ≡ true → u ≡ t
 unfolding has_tid
 tid-probing a u t x = grind (arith, nat_tests)
 
@@ -229,8 +230,8 @@ granting sh u d t l s w = go s.phase w
     quiet : (q : Phase) (b : Bool) → d < sh.dirs → is_probed sh s.cache d ≡ b → num (has_marked q && (not b && stores_line sh s.cache d l)) ≡ 0
     quiet q a x e = grind (arith, nat_tests, unprobed-stores)
 
-    go : (q : Phase) → waits_for_tid q ≡ true → Granting sh u d t l (grant_phase sh u s q)
-    go AwaitTid h = let f = told-grant sh s.cache u d t l in record { words = f.0; marks = f.1; owned = λ n. f.2 (other n); kept = λ x y. (tid-probing (any_below (is_probed sh s.cache) sh.dirs) u t y, quiet (probing (any_below (is_probed sh s.cache) sh.dirs) u) (is_probed sh s.cache d) x refl) }
+    go : (q : Phase) → waits_for_tid q ≡ true → Granting sh u d t l (grant_in_phase sh u s q)
+    go AwaitTid h = let f = told-grant sh s.cache u d t l in record { words = f.0; marks = f.1; owned = λ n. f.2 (other n); kept = λ x y. (tid-probing (any_below (is_probed sh s.cache) sh.dirs) u t y, quiet (probing_or_ready (any_below (is_probed sh s.cache) sh.dirs) u) (is_probed sh s.cache d) x refl) }
     go DoomedTid h = let f = told-skip sh u d t l in record { words = f.0; marks = f.1; owned = λ n. f.2 (other n); kept = λ x y. absurd (cc) }
     go (Overflowing None) h = let f = told-probe sh u d t l in record { words = f.0; marks = f.1; owned = λ n. f.2; kept = λ x y. (same y, refl) }
     go _ h = absurd (cc)

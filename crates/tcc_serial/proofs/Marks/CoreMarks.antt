@@ -3,7 +3,8 @@ use Rattle.tcc_serial.proofs.Names.{ℕ, zero, suc, ◌+◌, ◌≡◌, ◌<◌,
 use Rattle.tcc_serial.proofs.Names.{nat_lt, if◌then◌else◌, flat_map, arith, refl, ◌⊎◌, inl, inr, cases_eq, nat_tests, flat_map-append, num}
 use Rattle.tcc_serial.proofs.Names.{those, count_below, any_word, word_at, mask_of, Dir, Msg, Skip, Mark, Commit, WriteBack, Shape, home}
 use Rattle.tcc_serial.proofs.Names.{lines, Cache, is_modified, modified_mask, written_lines, writes_at, Spilled, holds, spilled_mask}
-use Rattle.tcc_serial.proofs.Names.{spilled_words, any_below-at, any_below-found, marks_for, solo_sends, solo_marks, solo_backs}
+use Rattle.tcc_serial.proofs.Names.{spilled_words, any_below-at, any_below-found, marks_for, solo_sends, solo_marks_or_skip}
+use Rattle.tcc_serial.proofs.Names.{solo_write_backs}
 use Rattle.tcc_serial.proofs.Names.{solo_writes_at, is_written, written_mask, Kind, Resolves, Marks, MarkOf, EmptyMarks, Skips, among}
 use Rattle.tcc_serial.proofs.Names.{passes, stores_line}
 use Rattle.tcc_serial.proofs.Counts.Links.{among-append, among-flat_map_none}
@@ -79,25 +80,25 @@ stores-writes sh c d l q = any_below-at (λ k. d == home sh k && is_modified c k
 
 -- alone: marks and a Commit, or a Skip
 pub solo-mark : (sh : Shape) (c : Cache) (sp : Spilled) (u d t l : ℕ) → among (MarkOf t l) (solo_sends sh c sp u (Dir d)) ≤ num (u == t)
-unfolding solo_sends solo_marks solo_backs among passes
+unfolding solo_sends solo_marks_or_skip solo_write_backs among passes
 solo-mark sh c sp u d t l = go (nat_lt d sh.dirs) (solo_writes_at sh c sp d)
   where
     p : ℕ → Bool
     p k = d == home sh k && is_written c sp k
 
-    backs : among (MarkOf t l) (solo_backs sh sp u d) ≡ 0
+    backs : among (MarkOf t l) (solo_write_backs sh sp u d) ≡ 0
     backs = among-flat_map_none (MarkOf t l) (λ k. WriteBack k (spilled_mask sp k) (spilled_words sp k) u ∷ []) (λ k. refl) (those (λ k. d == home sh k && holds sp k) (lines sh))
 
     few : (b : Bool) → num ((u == t) && b) ≤ num (u == t)
     few b = grind (arith, nat_tests)
 
-    go : (a w : Bool) → among (MarkOf t l) (if a then (if w then flat_map (λ k. Mark k (written_mask c sp k) u ∷ []) (those p (lines sh)) ++ Commit u (count_below p (lines sh)) ∷ [] else Skip u ∷ []) ++ solo_backs sh sp u d else []) ≤ num (u == t)
+    go : (a w : Bool) → among (MarkOf t l) (if a then (if w then flat_map (λ k. Mark k (written_mask c sp k) u ∷ []) (those p (lines sh)) ++ Commit u (count_below p (lines sh)) ∷ [] else Skip u ∷ []) ++ solo_write_backs sh sp u d else []) ≤ num (u == t)
     go false w = omega arith
     go true false = rw (among-append, backs) (omega arith)
     go true true = rw (among-append, among-append, backs, one-mark p (written_mask c sp) u t l (lines sh)) (omega (arith, few (nat_lt l (lines sh) && p l)))
 
 pub solo-full : (sh : Shape) (c : Cache) (sp : Spilled) (u d : ℕ) → among EmptyMarks (solo_sends sh c sp u (Dir d)) ≡ 0
-unfolding solo_sends solo_marks solo_backs among passes
+unfolding solo_sends solo_marks_or_skip solo_write_backs among passes
 solo-full sh c sp u d = go (nat_lt d sh.dirs) (solo_writes_at sh c sp d)
   where
     p : ℕ → Bool
@@ -106,31 +107,31 @@ solo-full sh c sp u d = go (nat_lt d sh.dirs) (solo_writes_at sh c sp d)
     second : (l : ℕ) → p l ≡ true → is_written c sp l ≡ true
     second l q = grind arith
 
-    backs : among EmptyMarks (solo_backs sh sp u d) ≡ 0
+    backs : among EmptyMarks (solo_write_backs sh sp u d) ≡ 0
     backs = among-flat_map_none EmptyMarks (λ k. WriteBack k (spilled_mask sp k) (spilled_words sp k) u ∷ []) (λ k. refl) (those (λ k. d == home sh k && holds sp k) (lines sh))
 
-    go : (a w : Bool) → among EmptyMarks (if a then (if w then flat_map (λ k. Mark k (written_mask c sp k) u ∷ []) (those p (lines sh)) ++ Commit u (count_below p (lines sh)) ∷ [] else Skip u ∷ []) ++ solo_backs sh sp u d else []) ≡ 0
+    go : (a w : Bool) → among EmptyMarks (if a then (if w then flat_map (λ k. Mark k (written_mask c sp k) u ∷ []) (those p (lines sh)) ++ Commit u (count_below p (lines sh)) ∷ [] else Skip u ∷ []) ++ solo_write_backs sh sp u d else []) ≡ 0
     go false w = refl
     go true false = rw (among-append, backs) (omega arith)
     go true true = rw (among-append, among-append, backs, full-marks p (written_mask c sp) u (lines sh) (λ k q. written-full c sp k (second k q))) (omega arith)
 
 -- where it skips, it sends no mark
 pub solo-skips : (sh : Shape) (c : Cache) (sp : Spilled) (u d t l : ℕ) → 1 ≤ among (Skips t) (solo_sends sh c sp u (Dir d)) → among (MarkOf t l) (solo_sends sh c sp u (Dir d)) ≡ 0
-unfolding solo_sends solo_marks solo_backs among passes
+unfolding solo_sends solo_marks_or_skip solo_write_backs among passes
 solo-skips sh c sp u d t l h = grind (arith, nat_tests, among-flat_map_none, among-append, marks-only)
 
 pub solo-owned : (sh : Shape) (c : Cache) (sp : Spilled) (u d t : ℕ) → among (Marks t) (solo_sends sh c sp u (Dir d)) + among (Resolves t) (solo_sends sh c sp u (Dir d)) ≡ 0 ⊎ (u ≡ t)
-unfolding solo_sends solo_marks solo_backs among passes
+unfolding solo_sends solo_marks_or_skip solo_write_backs among passes
 solo-owned sh c sp u d t = go (cases_eq u t)
   where
     p : ℕ → Bool
     p k = d == home sh k && is_written c sp k
 
-    backs : (k : Kind) → ((x m : ℕ) (ws : List ℕ) → num (passes k (WriteBack x m ws u)) ≡ 0) → among k (solo_backs sh sp u d) ≡ 0
+    backs : (k : Kind) → ((x m : ℕ) (ws : List ℕ) → num (passes k (WriteBack x m ws u)) ≡ 0) → among k (solo_write_backs sh sp u d) ≡ 0
     backs k e = among-flat_map_none k (λ x. WriteBack x (spilled_mask sp x) (spilled_words sp x) u ∷ []) (λ x. omega (arith, e x (spilled_mask sp x) (spilled_words sp x))) (those (λ x. d == home sh x && holds sp x) (lines sh))
 
     sends : (a w : Bool) → List Msg
-    sends a w = if a then (if w then flat_map (λ k. Mark k (written_mask c sp k) u ∷ []) (those p (lines sh)) ++ Commit u (count_below p (lines sh)) ∷ [] else Skip u ∷ []) ++ solo_backs sh sp u d else []
+    sends a w = if a then (if w then flat_map (λ k. Mark k (written_mask c sp k) u ∷ []) (those p (lines sh)) ++ Commit u (count_below p (lines sh)) ∷ [] else Skip u ∷ []) ++ solo_write_backs sh sp u d else []
 
     none : (u == t) ≡ false → (a w : Bool) → among (Marks t) (sends a w) + among (Resolves t) (sends a w) ≡ 0
     none q false w = refl

@@ -2,7 +2,7 @@
 use Rattle.tcc_serial.proofs.Names.{ℕ, ◌≡◌, ◌≤◌, Bool, true, false, List, [], ◌∷◌, ◌==◌, None, IfSome, if◌then◌else◌, arith, refl, ap}
 use Rattle.tcc_serial.proofs.Names.{◌⊎◌, inl, inr, nat_tests, Program, num, word_at, mask_of, Dir, Msg, InvAck, ProbeReply, Fill, Mark}
 use Rattle.tcc_serial.proofs.Names.{DataReq, Inv, Shape, home, Cache, modified_mask, written_lines, CoreState, Phase, Running, AwaitTid}
-use Rattle.tcc_serial.proofs.Names.{DoomedTid, Overflowing, Link, to, marks_for, Out, commit, committed_core, phase_after, core_exec}
+use Rattle.tcc_serial.proofs.Names.{DoomedTid, Overflowing, Link, to, marks_for, Out, commit, committed_core, phase_after_commit, core_exec}
 use Rattle.tcc_serial.proofs.Names.{core_evict, from_dir, probe_reply, fill, data_request, invalidate, ignored, MarkOf, MarkMask, live}
 use Rattle.tcc_serial.proofs.Names.{among, passes, has_marked, marked_by, has_tid, moves, solo_commit}
 use Rattle.tcc_serial.proofs.Counts.Links.{among-flat_map_none, among-fewer, live-fewer}
@@ -73,10 +73,10 @@ unfolding commit solo_commit committed_core has_tid
 masking-exec sh p c d t l s = each-exec sh p c s (λ o. Masking sh d t l s o) go
   where
     go : (x : Did sh p c s) → Masking sh d t l s (out x)
-    go (Commits_now u e) = gone sh d t l s (commit sh c u s) (phase_after s.ended) refl (tid-after s.ended t)
+    go (Commits_now u e) = gone sh d t l s (commit sh c u s) (phase_after_commit s.ended) refl (tid-after s.ended t)
     go (Room_wanted r i) = gone sh d t l s (moves (record s { phase = Overflowing None }) (say sh s Wants)) (Overflowing None) refl refl
     go (Ends_run n e f r i) = gone sh d t l s (moves (record (after_end s n e) { phase = AwaitTid }) (say sh s Wants)) AwaitTid refl refl
-    go (Ends_alone u n e f r i) = gone sh d t l s (solo_commit sh c u (after_end s n e)) (phase_after e) refl (tid-after e t)
+    go (Ends_alone u n e f r i) = gone sh d t l s (solo_commit sh c u (after_end s n e)) (phase_after_commit e) refl (tid-after e t)
     go x = masking-steady sh d t l s (out x) (did-steady x)
 
 pub masking-evict : (sh : Shape) (x y d t l : ℕ) (s : CoreState) → IfSome (core_evict sh x y s) (λ o. Masking sh d t l s o)

@@ -1,7 +1,7 @@
 -- Every event keeps that a Commit counts its Marks, and that none is in flight while acknowledgements are owed.
 use Rattle.tcc_serial.proofs.Names.{ℕ, ◌+◌, ◌≡◌, ◌<◌, ◌≤◌, true, false, List, ◌++◌, ◌==◌, ◌&&◌, nat_lt, arith, refl, ◌∙◌, ◌⊎◌, inl, inr}
 use Rattle.tcc_serial.proofs.Names.{cases_lt, nat_tests, num, count_below, has_mark, Dir, Msg, Skip, Shape, lines, writes_at, DirState}
-use Rattle.tcc_serial.proofs.Names.{Link, Out, total, sent_all, Resolves, MarkOf, EmptyMarks, CommitOf, live, among, passes, marks_of}
+use Rattle.tcc_serial.proofs.Names.{Link, Out, sum_below, sent_all, Resolves, MarkOf, EmptyMarks, CommitOf, live, among, passes, marks_of}
 use Rattle.tcc_serial.proofs.Names.{marked_by, MarksOf, CountsMarks, CountedOf, Grant, Pair, after_move, after_answer, opens, Contains}
 use Rattle.tcc_serial.proofs.Names.{nat_le, ap, World, Kind, AnyCommit, pair, share, grant_taken, part, handled, KeptTids, [], Option, Some}
 use Rattle.tcc_serial.proofs.Names.{None, IfSome, set, subst, cases_eq, Noted, Program, Local, Core, TidReq, Commit, Event, Phase}
@@ -99,7 +99,7 @@ none-away sh l v h = go (cases_lt l (lines sh))
     split : (x : ℕ) → x < lines sh → live (MarkOf u x) v.out + num (u == u && has_mark v.dir.lines x) ≡ live (MarkOf u x) v.out + num (has_mark v.dir.lines x)
     split x z = rw self refl
 
-    sum : total (λ x. live (MarkOf u x) v.out) (lines sh) ≡ 0
+    sum : sum_below (λ x. live (MarkOf u x) v.out) (lines sh) ≡ 0
     sum =
         let a = total-plus (λ x. live (MarkOf u x) v.out) (λ x. num (has_mark v.dir.lines x)) (λ x. live (MarkOf u x) v.out + num (u == u && has_mark v.dir.lines x)) (lines sh) split in
         omega (arith, a, h.sum, total-num (has_mark v.dir.lines) (lines sh))

@@ -9,7 +9,7 @@ use Rattle.tcc_serial.proofs.Names.{◌∙◌, cases_lt, Program, Local, Event, 
 use Rattle.tcc_serial.proofs.Names.{core_moves, core_takes, dir_takes, step, MarkOf, KeptCounted, NamedOf, KeptNamed, due, Pair, pair}
 use Rattle.tcc_serial.proofs.Names.{share, after_move, grant_taken, back_taken, after_answer, Kept, KeptTold, ◌++◌, Contains, append-nil}
 use Rattle.tcc_serial.proofs.Names.{Contains-append_cases, dir_asks, Any, Grant, granted_by, SparesCommitter, out_taken, handled}
-use Rattle.tcc_serial.proofs.Names.{line_words}
+use Rattle.tcc_serial.proofs.Names.{home_words}
 use Rattle.tcc_serial.proofs.Counts.DirOutcome.{Outcome, Waiting, Spent, AsksOwner, TakesProbe, TakesLoad, TakesCommit, outcome, none-to}
 use Rattle.tcc_serial.proofs.Counts.DirOutcome.{among-none}
 use Rattle.tcc_serial.proofs.Counts.Links.{among-append, among-flat_map_none, live-sends, live-takes, total-le, live-fewer, none-taken}
@@ -109,7 +109,7 @@ dir-names sh s c m = go (outcome sh s c m)
     go (Spent m i) = tt
     go (AsksOwner m l o w e) = λ j. none-to Invs o j (DataReq l) refl
     go (TakesProbe t h) = inl (λ j. none-to Invs c j (ProbeReply t s.serving.serving) refl)
-    go (TakesLoad l k h e o) = inl (λ j. none-to Invs c j (Fill l (line_words s l)) refl)
+    go (TakesLoad l k h e o) = inl (λ j. none-to Invs c j (Fill l (home_words s l)) refl)
     go (TakesCommit b e) = inr (same s.serving.serving, names-invs sh s.lines c s.serving.serving)
     go _ = inl (λ j. among-none Invs)
 

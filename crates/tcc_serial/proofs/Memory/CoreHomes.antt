@@ -4,10 +4,12 @@ use Rattle.tcc_serial.proofs.Names.{is_some, nat_lt, if◌then◌else◌, flat_m
 use Rattle.tcc_serial.proofs.Names.{count_below, any_word, word_at, Dir, Msg, LoadReq, Skip, Mark, Commit, WriteBack, Flush, InvAck, Shape}
 use Rattle.tcc_serial.proofs.Names.{home, lines, Cache, keeps, is_dirty, dirty_mask, dirty_copy, dirty_words, dirty_tag, is_modified}
 use Rattle.tcc_serial.proofs.Names.{modified_mask, written_lines, Spilled, holds, spilled_mask, spilled_words, CoreState, Sends, nothing}
-use Rattle.tcc_serial.proofs.Names.{to, flush, flushed, written_back, marks_for, commit, solo_commit, solo_sends, solo_marks, solo_backs}
+use Rattle.tcc_serial.proofs.Names.{to, flush_of, flush_line, write_back_line, marks_for, commit, solo_commit, solo_sends}
+use Rattle.tcc_serial.proofs.Names.{solo_marks_or_skip}
+use Rattle.tcc_serial.proofs.Names.{solo_write_backs}
 use Rattle.tcc_serial.proofs.Names.{solo_writes_at, is_written, written_mask, core_exec, core_evict, grant, from_dir, LinesAway, NoWord}
 use Rattle.tcc_serial.proofs.Names.{among, passes}
-use Rattle.tcc_rules.specs.Sends.{write_back}
+use Rattle.tcc_rules.specs.Sends.{write_back_of}
 use Rattle.tcc_serial.proofs.Counts.Links.{among-append}
 use Rattle.tcc_serial.proofs.Serving.CoreDue.{among-those_none}
 use Rattle.tcc_serial.proofs.Marks.CoreMarks.{some-mask, modified-full, written-full, holds-found}
@@ -81,19 +83,19 @@ spilled-full : (sp : Spilled) (l : ℕ) → holds sp l ≡ true → 0 < spilled_
 unfolding spilled_mask
 spilled-full sp l e = let x = holds-found sp l e in some-mask (λ k. is_some (sp (word_at l k))) (x.0) (x.1) (x.2)
 
-homely-flushed : (sh : Shape) (c : Cache) (l : ℕ) → HomelyOut sh (flushed sh c l)
-unfolding flushed dirty_copy
-homely-flushed sh c l d = homely-to sh (home sh l) d (flush (dirty_copy c l)) (λ e. go (is_dirty c l) refl e)
+homely-flushed : (sh : Shape) (c : Cache) (l : ℕ) → HomelyOut sh (flush_line sh c l)
+unfolding flush_line dirty_copy
+homely-flushed sh c l d = homely-to sh (home sh l) d (flush_of (dirty_copy c l)) (λ e. go (is_dirty c l) refl e)
   where
-    go : (b : Bool) → is_dirty c l ≡ b → d ≡ home sh l → Homely sh d (flush (cond b (Some (record { line = l; mask = dirty_mask c l; words = dirty_words c l; tag = dirty_tag c l })) None))
+    go : (b : Bool) → is_dirty c l ≡ b → d ≡ home sh l → Homely sh d (flush_of (cond b (Some (record { line = l; mask = dirty_mask c l; words = dirty_words c l; tag = dirty_tag c l })) None))
     go false q e = homely-none sh d
     go true q e = one-flush sh d l (dirty_mask c l) (dirty_words c l) (dirty_tag c l) e (dirty-full c l q)
 
-homely-written : (sh : Shape) (c : Cache) (l : ℕ) → HomelyOut sh (written_back sh c l)
-unfolding written_back dirty_copy
-homely-written sh c l d = homely-to sh (home sh l) d (write_back (dirty_copy c l)) (λ e. go (is_dirty c l) refl e)
+homely-written : (sh : Shape) (c : Cache) (l : ℕ) → HomelyOut sh (write_back_line sh c l)
+unfolding write_back_line dirty_copy
+homely-written sh c l d = homely-to sh (home sh l) d (write_back_of (dirty_copy c l)) (λ e. go (is_dirty c l) refl e)
   where
-    go : (b : Bool) → is_dirty c l ≡ b → d ≡ home sh l → Homely sh d (write_back (cond b (Some (record { line = l; mask = dirty_mask c l; words = dirty_words c l; tag = dirty_tag c l })) None))
+    go : (b : Bool) → is_dirty c l ≡ b → d ≡ home sh l → Homely sh d (write_back_of (cond b (Some (record { line = l; mask = dirty_mask c l; words = dirty_words c l; tag = dirty_tag c l })) None))
     go false q e = homely-none sh d
     go true q e = one-back sh d l (dirty_mask c l) (dirty_words c l) (dirty_tag c l) e (dirty-full c l q)
 
@@ -105,7 +107,7 @@ same-home : (d h : ℕ) → (d == h) ≡ true → d ≡ h
 same-home d h e = grind (arith, nat_tests)
 
 homely-solo : (sh : Shape) (c : Cache) (sp : Spilled) (u : ℕ) → HomelyOut sh (solo_sends sh c sp u)
-unfolding solo_sends solo_marks solo_backs among passes
+unfolding solo_sends solo_marks_or_skip solo_write_backs among passes
 homely-solo sh c sp u d =
     let p : ℕ → Bool = λ k. d == home sh k && is_written c sp k in
     go (nat_lt d sh.dirs) (solo_writes_at sh c sp d)
@@ -122,10 +124,10 @@ homely-solo sh c sp u d =
     skip : Homely sh d (Skip u ∷ [])
     skip = record { away = refl; words = refl }
 
-    go : (b w : Bool) → Homely sh d (if b then (if w then flat_map (λ k. Mark k (written_mask c sp k) u ∷ []) (those (λ k. d == home sh k && is_written c sp k) (lines sh)) ++ Commit u (count_below (λ k. d == home sh k && is_written c sp k) (lines sh)) ∷ [] else Skip u ∷ []) ++ solo_backs sh sp u d else [])
+    go : (b w : Bool) → Homely sh d (if b then (if w then flat_map (λ k. Mark k (written_mask c sp k) u ∷ []) (those (λ k. d == home sh k && is_written c sp k) (lines sh)) ++ Commit u (count_below (λ k. d == home sh k && is_written c sp k) (lines sh)) ∷ [] else Skip u ∷ []) ++ solo_write_backs sh sp u d else [])
     go false w = homely-none sh d
-    go true true = homely-append sh d (flat_map (λ k. Mark k (written_mask c sp k) u ∷ []) (those (λ k. d == home sh k && is_written c sp k) (lines sh)) ++ Commit u (count_below (λ k. d == home sh k && is_written c sp k) (lines sh)) ∷ []) (solo_backs sh sp u d) (homely-append sh d (flat_map (λ k. Mark k (written_mask c sp k) u ∷ []) (those (λ k. d == home sh k && is_written c sp k) (lines sh))) (Commit u (count_below (λ k. d == home sh k && is_written c sp k) (lines sh)) ∷ []) marks last) backs
-    go true false = homely-append sh d (Skip u ∷ []) (solo_backs sh sp u d) skip backs
+    go true true = homely-append sh d (flat_map (λ k. Mark k (written_mask c sp k) u ∷ []) (those (λ k. d == home sh k && is_written c sp k) (lines sh)) ++ Commit u (count_below (λ k. d == home sh k && is_written c sp k) (lines sh)) ∷ []) (solo_write_backs sh sp u d) (homely-append sh d (flat_map (λ k. Mark k (written_mask c sp k) u ∷ []) (those (λ k. d == home sh k && is_written c sp k) (lines sh))) (Commit u (count_below (λ k. d == home sh k && is_written c sp k) (lines sh)) ∷ []) marks last) backs
+    go true false = homely-append sh d (Skip u ∷ []) (solo_write_backs sh sp u d) skip backs
 
 homely-marks : (sh : Shape) (c : Cache) (u e : ℕ) → HomelyOut sh (to (Dir e) (marks_for sh c u e))
 unfolding marks_for written_lines
@@ -136,7 +138,7 @@ homely-said : (sh : Shape) (s : CoreState) (q : Said) → HomelyOut sh (say sh s
 unfolding passes
 homely-said sh s (Flushes l) = homely-flushed sh s.cache l
 homely-said sh s (Empties l) = homely-written sh s.cache l
-homely-said sh s (Requests l) = λ d. homely-to sh (home sh l) d (LoadReq l (s.after (home sh l)) ∷ []) (λ e. one-load sh d l (s.after (home sh l)) e)
+homely-said sh s (Requests l) = λ d. homely-to sh (home sh l) d (LoadReq l (s.last_commit (home sh l)) ∷ []) (λ e. one-load sh d l (s.last_commit (home sh l)) e)
 homely-said sh s (Tells_alone t) = homely-solo sh s.cache s.spilled t
 homely-said sh s (Marks_at e t) = homely-marks sh s.cache t e
 homely-said sh s q = λ d. record { away = quiet sh s (LinesAway sh.dirs d) q (λ x. refl) d; words = quiet sh s NoWord q (λ x. refl) d }

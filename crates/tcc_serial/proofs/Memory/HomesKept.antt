@@ -3,7 +3,7 @@ use Rattle.tcc_serial.proofs.Names.{ℕ, ◌%◌, ◌≡◌, ◌<◌, Bool, true
 use Rattle.tcc_serial.proofs.Names.{nat_lt, if◌then◌else◌, arith, refl, inl, inr, cases_eq, nat_tests, Program, Local, num, Lines}
 use Rattle.tcc_serial.proofs.Names.{no_lines, Core, Dir, Event, Msg, Fill, ProbeReply, DataReq, Inv, Shape, home, lines, DirState, World}
 use Rattle.tcc_serial.proofs.Names.{start, dir_start, in_flight, sent_all, Out, core_exec, core_evict, from_dir, grant, Sends, nothing, to}
-use Rattle.tcc_serial.proofs.Names.{Answer, Waits, Drops, Asks, Takes, dir_deliver, invalidations, is_invalidated, invs_to, line_words}
+use Rattle.tcc_serial.proofs.Names.{Answer, Waits, Drops, Asks, Takes, dir_deliver, invalidations, is_invalidated, invs_to, home_words}
 use Rattle.tcc_serial.proofs.Names.{core_moves, core_takes, dir_takes, step, IsUnknown, HomeOf, KeptHomes, LinesAway, NoWord, live, among}
 use Rattle.tcc_serial.proofs.Names.{passes, Kept, Pair, pair, after_answer, out_taken}
 use Rattle.tcc_serial.proofs.Counts.DirOutcome.{Outcome, AsksOwner, TakesSkip, TakesAbort, TakesProbe, TakesLoad, TakesMark, TakesCommit}
@@ -91,7 +91,7 @@ dir-homes sh d s c m cl aw h = go (outcome sh s c m) aw
     go (TakesProbe t i) a = record { lines = h; homely = λ j. one-to sh d c j (ProbeReply t s.serving.serving) (one-reply sh d t s.serving.serving) }
     go (TakesLoad l k i e o) a = let p = at-home (home sh l) d a in record {
       lines = record { known = λ x n. let u = h.known x n in record { sharers = λ j. rw (other sh d l x p n) (u.sharers j); owner = u.owner; tag = u.tag; asked = u.asked; mark = u.mark }; sharers = λ x j q. grind (arith, nat_tests, h.sharers x j, cl); owners = h.owners };
-      homely = λ j. one-to sh d c j (Fill l (line_words s l)) (one-fill sh d l (line_words s l) p);
+      homely = λ j. one-to sh d c j (Fill l (home_words s l)) (one-fill sh d l (home_words s l) p);
     }
     go (TakesMark l k i) a = let p = at-home (home sh l) d a in quietly sh d _ (record { known = λ x n. let u = h.known x n in record { sharers = u.sharers; owner = u.owner; tag = u.tag; asked = u.asked; mark = rw (other sh d l x p n) u.mark }; sharers = h.sharers; owners = h.owners })
     go (TakesCommit b e) a = record {

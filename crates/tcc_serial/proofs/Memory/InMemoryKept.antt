@@ -3,13 +3,16 @@ use Rattle.tcc_serial.proofs.Names.{nat_tests, ℕ, ◌≡◌, Bool, true, false
 use Rattle.tcc_serial.proofs.Names.{if◌then◌else◌, refl, Dir, Msg, Fill, ProbeReply, DataReq, Inv, Shape, Cache, is_marked, filled, cleaned}
 use Rattle.tcc_serial.proofs.Names.{invalidated, read_cleared, rolled_back, evicted, evicted_line, spill_line, CoreState, Awaited, Phase}
 use Rattle.tcc_serial.proofs.Names.{Running, AwaitTid, DoomedTid, Probing, Ready, Overflowing, Solo, Halted, nothing, to, marks_for}
-use Rattle.tcc_serial.proofs.Names.{written_back, moves, is_solo, roll_back, core_evict, evict_line, is_awaited, ignored, grant}
-use Rattle.tcc_serial.proofs.Names.{grant_phase, probe_reply, reply_phase, replied, all_replied, when_ready, when_alone, fill, fill_awaited}
-use Rattle.tcc_serial.proofs.Names.{data_request, invalidate, acknowledged, if_violated, is_violated, violated_in, without, from_dir, ◌≤◌}
+use Rattle.tcc_serial.proofs.Names.{write_back_line, moves, is_solo, roll_back, core_evict, evict_line, is_awaited, ignored, grant}
+use Rattle.tcc_serial.proofs.Names.{grant_in_phase, probe_reply, reply_in_phase, replied, all_replied, ready_once_replied}
+use Rattle.tcc_serial.proofs.Names.{solo_once_replied, fill, fill_awaited}
+use Rattle.tcc_serial.proofs.Names.{data_request, invalidate, acknowledged, if_violated, is_violated, violated_in_phase, words_invalidated}
+use Rattle.tcc_serial.proofs.Names.{from_dir, ◌≤◌}
 use Rattle.tcc_serial.proofs.Names.{[], ◌++◌, arith, Program, Local, Core, Event, lines, DirState, World, start, Out, core_exec, Answer}
 use Rattle.tcc_serial.proofs.Names.{Waits, Drops, Asks, Takes, dir_deliver, in_flight, sent_all, Sends, core_moves, core_takes, dir_takes}
 use Rattle.tcc_serial.proofs.Names.{step, CopyOf, live, KeptCores, Pair, pair, ◌∷◌, Contains, ◌⊎◌, inl, inr, subst, Noted, empty_cache}
-use Rattle.tcc_serial.proofs.Names.{core_start, dir_asks, vendor_gives, Stepped, History, and_noted, recorded, next, and_then, run_from}
+use Rattle.tcc_serial.proofs.Names.{core_start, dir_asks, vendor_gives, Stepped, History, and_noted, recorded, next_history, and_then}
+use Rattle.tcc_serial.proofs.Names.{run_from}
 use Rattle.tcc_serial.proofs.Names.{run, StaysInMemory, AccessesInMemory, CommitsInMemory, first_state}
 use Rattle.tcc_serial.proofs.Counts.Links.{live-sends, live-takes}
 use Rattle.tcc_serial.proofs.Counts.StepCases.{pairs_move, pairs_grant, pairs_back, pairs_dir, pairs_asks, pairs_vendor, OfAnswer}
@@ -28,7 +31,7 @@ pub evict-memory : (sh : Shape) (x y : ℕ) (s : CoreState) → CoreInMemory sh 
 unfolding core_evict
 evict-memory sh x y s k = go (s.cache.at x y)
   where
-    one : (l : ℕ) (b : Bool) → IfSome (if b then None else Some (moves (record s { cache = evicted x y s.cache; spilled = spill_line l s.cache s.spilled }) (written_back sh s.cache l))) (OutInMemory sh)
+    one : (l : ℕ) (b : Bool) → IfSome (if b then None else Some (moves (record s { cache = evicted x y s.cache; spilled = spill_line l s.cache s.spilled }) (write_back_line sh s.cache l))) (OutInMemory sh)
     one l true = tt
     one l false = (record { frames = λ m e. k.frames m (evicted-frames x y s.cache m e); accesses = k.accesses }, tt)
 
@@ -40,7 +43,7 @@ pub grant-memory : (sh : Shape) (u : ℕ) (s : CoreState) → CoreInMemory sh s 
 unfolding grant
 grant-memory sh u s k = go s.phase
   where
-    go : (q : Phase) → OutInMemory sh (grant_phase sh u s q)
+    go : (q : Phase) → OutInMemory sh (grant_in_phase sh u s q)
     go AwaitTid = (same-memory sh s _ refl refl refl k, tt)
     go DoomedTid = (same-memory sh s _ refl refl refl k, tt)
     go (Overflowing None) = (same-memory sh s _ refl refl refl k, tt)
@@ -58,15 +61,15 @@ reply-memory sh d u s k = go s.phase
     alone true = same-memory sh s _ refl refl refl k
     alone false = same-memory sh s _ refl refl refl k
 
-    probed : (a : Bool) → OutInMemory sh (if a then moves (when_ready sh u (replied d s)) (to (Dir d) (marks_for sh s.cache u d)) else ignored s)
+    probed : (a : Bool) → OutInMemory sh (if a then moves (ready_once_replied sh u (replied d s)) (to (Dir d) (marks_for sh s.cache u d)) else ignored s)
     probed true = (ready (all_replied sh (replied d s).owing), tt)
     probed false = (k, tt)
 
-    over : (a : Bool) → OutInMemory sh (if a then moves (when_alone sh u (replied d s)) nothing else ignored s)
+    over : (a : Bool) → OutInMemory sh (if a then moves (solo_once_replied sh u (replied d s)) nothing else ignored s)
     over true = (alone (all_replied sh (replied d s).owing), tt)
     over false = (k, tt)
 
-    go : (q : Phase) → OutInMemory sh (reply_phase sh d u s q)
+    go : (q : Phase) → OutInMemory sh (reply_in_phase sh d u s q)
     go (Probing v) = probed (v == u && s.owing d)
     go (Overflowing (Some v)) = over (v == u && s.owing d)
     go _ = (k, tt)
@@ -90,11 +93,11 @@ data-memory sh l s k = (same-memory sh s _ refl refl refl k, tt)
 
 -- a core that rolls back keeps its frames, and its attempt is empty
 invalidate-memory : (sh : Shape) (l m u : ℕ) (s : CoreState) → CoreInMemory sh s → OutInMemory sh (invalidate sh l m u s)
-unfolding invalidate acknowledged if_violated without invalidated roll_back rolled_back
+unfolding invalidate acknowledged if_violated words_invalidated invalidated roll_back rolled_back
 invalidate-memory sh l m u s k = go (is_violated l m u s) s.phase
   where
     r : CoreState
-    r = without l m s
+    r = words_invalidated l m s
 
     same : CoreInMemory sh r
     same = same-memory sh s r refl refl refl k
@@ -102,7 +105,7 @@ invalidate-memory sh l m u s k = go (is_violated l m u s) s.phase
     begun : CoreInMemory sh (roll_back r)
     begun = record { frames = k.frames; accesses = nothing-used sh }
 
-    go : (b : Bool) (q : Phase) → OutInMemory sh (if b then violated_in sh r q else ignored r)
+    go : (b : Bool) (q : Phase) → OutInMemory sh (if b then violated_in_phase sh r q else ignored r)
     go false q = (same, tt)
     go true Running = (begun, tt)
     go true AwaitTid = (same-memory sh (roll_back r) _ refl refl refl begun, tt)
@@ -215,7 +218,7 @@ step-in-memory sh p h e i k = go (step sh p h.world e) (step-cores sh p h.world 
     go (Some o) a q f = record { alone = a; cores = q.0; copies = f; commits = noted-memory sh o.noted h.commits (q.1) k.commits }
 
 run_from-memory : (sh : Shape) (p : Program) (es : List Event) (h : History) → StaysInMemory sh p → KeptInMemory sh h → IfSome (run_from sh p es h) (λ r. KeptInMemory sh r)
-unfolding run_from next
+unfolding run_from next_history
 run_from-memory sh p [] h i k = k
 run_from-memory sh p (e ∷ es) h i k = go (recorded h (step sh p h.world e)) (step-in-memory sh p h e i k) (λ g q. run_from-memory sh p es g i q)
   where

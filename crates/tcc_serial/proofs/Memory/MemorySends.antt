@@ -6,10 +6,12 @@ use Rattle.tcc_serial.proofs.Names.{WrittenInMemory, WordInMemory, CommitsInMemo
 use Rattle.tcc_serial.proofs.Names.{names_line, wrote, wrote_line, zero, ◌≤◌, ◌++◌, cond, Some, None, IfSome, nat_lt, if◌then◌else◌}
 use Rattle.tcc_serial.proofs.Names.{flat_map, flat_map-append, Program, those, count_below, Dir, Msg, Skip, Mark, Commit, WriteBack, Cache}
 use Rattle.tcc_serial.proofs.Names.{IsCache, is_dirty, dirty_mask, dirty_copy, dirty_words, dirty_tag, Spilled, holds, spilled_mask}
-use Rattle.tcc_serial.proofs.Names.{spilled_words, CoreState, Sends, nothing, flush, flushed, written_back, commit, solo_commit, solo_sends}
-use Rattle.tcc_serial.proofs.Names.{solo_marks, solo_backs, solo_writes_at, is_written, written_mask, core_exec, core_evict, grant}
+use Rattle.tcc_serial.proofs.Names.{spilled_words, CoreState, Sends, nothing, flush_of, flush_line, write_back_line, commit, solo_commit}
+use Rattle.tcc_serial.proofs.Names.{solo_sends}
+use Rattle.tcc_serial.proofs.Names.{solo_marks_or_skip, solo_write_backs, solo_writes_at, is_written, written_mask, core_exec, core_evict}
+use Rattle.tcc_serial.proofs.Names.{grant}
 use Rattle.tcc_serial.proofs.Names.{from_dir, CopyOf, among, passes, FramesInMemory}
-use Rattle.tcc_rules.specs.Sends.{write_back}
+use Rattle.tcc_rules.specs.Sends.{write_back_of}
 use Rattle.tcc_serial.proofs.Counts.Links.{among-append, among-flat_map_none}
 use Rattle.tcc_serial.proofs.Marks.StoredMasks.{stored-any, stored-line}
 use Rattle.tcc_serial.proofs.OneCore.Said.{Empties, Flushes, Said, Tells_alone, Wants, quiet, say}
@@ -103,20 +105,20 @@ dirty-memory sh c l k f e = let x = line-found (λ w. is_some (c.dirty w)) l e i
 another : (sh : Shape) (k l : ℕ) → k < lines sh → lines sh ≤ l → (k == l) ≡ false
 another sh k l i o = grind (arith, nat_tests)
 
-flushed-memory : (sh : Shape) (c : Cache) (k : ℕ) → IsCache sh c → FramesInMemory sh c → SendsInMemory sh (flushed sh c k)
-unfolding flushed dirty_copy among passes
+flushed-memory : (sh : Shape) (c : Cache) (k : ℕ) → IsCache sh c → FramesInMemory sh c → SendsInMemory sh (flush_line sh c k)
+unfolding flush_line dirty_copy among passes
 flushed-memory sh c k i f d l t o = go (d == home sh k) (is_dirty c k) refl
   where
-    go : (a b : Bool) → is_dirty c k ≡ b → among (CopyOf l t) (if a then flush (cond b (Some (record { line = k; mask = dirty_mask c k; words = dirty_words c k; tag = dirty_tag c k })) None) else []) ≡ 0
+    go : (a b : Bool) → is_dirty c k ≡ b → among (CopyOf l t) (if a then flush_of (cond b (Some (record { line = k; mask = dirty_mask c k; words = dirty_words c k; tag = dirty_tag c k })) None) else []) ≡ 0
     go false b q = refl
     go true false q = refl
     go true true q = rw (another sh k l (dirty-memory sh c k i f q) o) refl
 
-written-memory : (sh : Shape) (c : Cache) (k : ℕ) → IsCache sh c → FramesInMemory sh c → SendsInMemory sh (written_back sh c k)
-unfolding written_back dirty_copy among passes
+written-memory : (sh : Shape) (c : Cache) (k : ℕ) → IsCache sh c → FramesInMemory sh c → SendsInMemory sh (write_back_line sh c k)
+unfolding write_back_line dirty_copy among passes
 written-memory sh c k i f d l t o = go (d == home sh k) (is_dirty c k) refl
   where
-    go : (a b : Bool) → is_dirty c k ≡ b → among (CopyOf l t) (if a then write_back (cond b (Some (record { line = k; mask = dirty_mask c k; words = dirty_words c k; tag = dirty_tag c k })) None) else []) ≡ 0
+    go : (a b : Bool) → is_dirty c k ≡ b → among (CopyOf l t) (if a then write_back_of (cond b (Some (record { line = k; mask = dirty_mask c k; words = dirty_words c k; tag = dirty_tag c k })) None) else []) ≡ 0
     go false b q = refl
     go true false q = refl
     go true true q = rw (another sh k l (dirty-memory sh c k i f q) o) refl
@@ -138,7 +140,7 @@ unfolding among passes
 marks-memory sh f u ls l t o = among-flat_map_none (CopyOf l t) (λ k. Mark k (f k) u ∷ []) (λ k. refl) ls
 
 solo-memory : (sh : Shape) (c : Cache) (sp : Spilled) (u : ℕ) → SendsInMemory sh (solo_sends sh c sp u)
-unfolding solo_sends solo_marks solo_backs among passes
+unfolding solo_sends solo_marks_or_skip solo_write_backs among passes
 solo-memory sh c sp u d = go (nat_lt d sh.dirs) (solo_writes_at sh c sp d)
   where
     marks : List Msg
@@ -147,13 +149,13 @@ solo-memory sh c sp u d = go (nat_lt d sh.dirs) (solo_writes_at sh c sp d)
     last : List Msg
     last = Commit u (count_below (λ k. d == home sh k && is_written c sp k) (lines sh)) ∷ []
 
-    backs : NoneOutside sh (solo_backs sh sp u d)
+    backs : NoneOutside sh (solo_write_backs sh sp u d)
     backs = backs-memory sh sp u (lines sh) (λ k. d == home sh k && holds sp k) (omega arith)
 
-    go : (b w : Bool) → NoneOutside sh (if b then (if w then marks ++ last else Skip u ∷ []) ++ solo_backs sh sp u d else [])
+    go : (b w : Bool) → NoneOutside sh (if b then (if w then marks ++ last else Skip u ∷ []) ++ solo_write_backs sh sp u d else [])
     go false w = none-outside sh
-    go true true = both-outside sh (marks ++ last) (solo_backs sh sp u d) (both-outside sh marks last (marks-memory sh (written_mask c sp) u (those (λ k. d == home sh k && is_written c sp k) (lines sh))) (λ l t o. refl)) backs
-    go true false = both-outside sh (Skip u ∷ []) (solo_backs sh sp u d) (λ l t o. refl) backs
+    go true true = both-outside sh (marks ++ last) (solo_write_backs sh sp u d) (both-outside sh marks last (marks-memory sh (written_mask c sp) u (those (λ k. d == home sh k && is_written c sp k) (lines sh))) (λ l t o. refl)) backs
+    go true false = both-outside sh (Skip u ∷ []) (solo_write_backs sh sp u d) (λ l t o. refl) backs
 
 -- what a core sends has words of lines in memory alone
 said-memory : (sh : Shape) (s : CoreState) (q : Said) → IsCache sh s.cache → FramesInMemory sh s.cache → SendsInMemory sh (say sh s q)

@@ -2,7 +2,8 @@
 use Rattle.tcc_serial.proofs.Names.{ℕ, ◌==◌, true, false, List, [], ◌∷◌, Option, Some, None, IfSome, if◌then◌else◌, refl, Program, Local}
 use Rattle.tcc_serial.proofs.Names.{Dir, Event, Shape, empty_cache, none_spilled, empty-keeps, CoreState, World, start, core_start, Out}
 use Rattle.tcc_serial.proofs.Names.{core_exec, core_evict, from_dir, grant, Answer, Waits, dir_deliver, core_moves, core_takes, dir_takes}
-use Rattle.tcc_serial.proofs.Names.{dir_asks, vendor_gives, Stepped, step, History, and_noted, recorded, next, and_then, run_from, run}
+use Rattle.tcc_serial.proofs.Names.{dir_asks, vendor_gives, Stepped, step, History, and_noted, recorded, next_history, and_then, run_from}
+use Rattle.tcc_serial.proofs.Names.{run}
 use Rattle.tcc_serial.proofs.Names.{OneCore, KeptCores, Always}
 use Rattle.tcc_serial.proofs.Counts.StepCases.{OfAnswer, step_cases}
 use Rattle.tcc_serial.proofs.OneCore.WordsKept.{words-none}
@@ -46,7 +47,7 @@ start-cores sh entries ram c = record {
 }
 
 run_from-cores : (sh : Shape) (p : Program) (es : List Event) (h : History) → KeptCores sh h.world → IfSome (run_from sh p es h) (λ r. KeptCores sh r.world)
-unfolding run_from next
+unfolding run_from next_history
 run_from-cores sh p [] h k = k
 run_from-cores sh p (e ∷ es) h k = go (step sh p h.world e) (step-cores sh p h.world e k) (λ g q. run_from-cores sh p es g q)
   where

@@ -29,7 +29,7 @@ asked : (sh : Shape) (k : ℕ) (s : CoreState) → s.awaited ≡ None → LoadsS
 unfolding among passes
 asked sh k s n d l = rw n (let c = asked-count k l d (home sh k) (home sh l) (λ e. rw e refl) in omega (arith, one (d == home sh k), c))
   where
-    one : (b : Bool) → among (LoadOf l) (if b then LoadReq k (s.after (home sh k)) ∷ [] else []) ≡ num (b && k == l)
+    one : (b : Bool) → among (LoadOf l) (if b then LoadReq k (s.last_commit (home sh k)) ∷ [] else []) ≡ num (b && k == l)
     one a = grind (arith, nat_tests)
 
 pub loads-exec : (sh : Shape) (p : Program) (c : ℕ) (s : CoreState) → IfSome (core_exec sh p c s) (λ o. LoadsStep sh s o)

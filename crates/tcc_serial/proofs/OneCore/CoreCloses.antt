@@ -1,8 +1,9 @@
 -- A core's event leaves its checkpoint and its end, or commits an attempt that the plain machine gives over its view.
 use Rattle.tcc_serial.proofs.Names.{arith, ◌+◌, ℕ, suc, ◌≡◌, Option, Some, None, IfSome, IsSomeAnd, refl, subst, ◌⊎◌, inl, inr, Attempt}
 use Rattle.tcc_serial.proofs.Names.{Goes, begun, steps, then_step, when_going, plain_step, Program, Need, Ends, Halts, Traps, Shape}
-use Rattle.tcc_serial.proofs.Names.{CoreState, Ready, Solo, Out, finished, stepped, noted, commit, committed_core, solo_commit, phase_after}
-use Rattle.tcc_serial.proofs.Names.{ended_after, core_exec, Uses, Agrees, IsSmall, Reaches, EndFits, HasEnded, FollowsIn, end_after}
+use Rattle.tcc_serial.proofs.Names.{CoreState, Ready, Solo, Out, finished, one_more_instruction, noted, commit, committed_core, solo_commit}
+use Rattle.tcc_serial.proofs.Names.{phase_after_commit}
+use Rattle.tcc_serial.proofs.Names.{ended_after_commit, core_exec, Uses, Agrees, IsSmall, Reaches, EndFits, HasEnded, FollowsIn, end_after}
 use Rattle.tcc_attempt.specs.Follows.{Follows}
 use Rattle.tcc_serial.proofs.OneCore.Outcomes.{Commits_now, Did, Ends_alone, Ends_run, IsEnd, Room_wanted, after_end, each-exec, out}
 
@@ -19,8 +20,8 @@ pub record Closing (sh : Shape) (p : Program) (c t : ℕ) (s r : CoreState) (o :
   pub phase : (s.phase ≡ Ready t) ⊎ (s.phase ≡ Solo t)
   pub commit : o.commit ≡ Some (noted t c r)
   pub saved : o.core.saved ≡ r.local
-  pub after : o.core.phase ≡ phase_after r.ended
-  pub ended : o.core.ended ≡ ended_after r.ended
+  pub after : o.core.phase ≡ phase_after_commit r.ended
+  pub ended : o.core.ended ≡ ended_after_commit r.ended
   pub stores : r.stores ≡ s.stores
   pub ends : (us : Uses) → Follows sh p s us → HasEnded r.ended
   pub gives : (us : Uses) → Follows sh p s us → (ram : ℕ → ℕ) → IsSmall ram → Agrees us ram → IsSomeAnd (steps sh.base p r.n (begun s.saved ram)) (Gives r)
@@ -31,7 +32,7 @@ pub data Leaves (sh : Shape) (p : Program) (c : ℕ) (s : CoreState) (o : Out) :
 
 -- an attempt that ends
 next-gives : (p : Program) (base : ℕ) (s : CoreState) (ram : ℕ → ℕ) (a : Attempt) (need : Need) → IsEnd need → Reaches s ram a → s.ended ≡ Goes → p.need s.local ≡ need → IsSomeAnd (when_going base p a a.outcome) (Gives (finished p need 0 s))
-unfolding finished stepped plain_step
+unfolding finished one_more_instruction plain_step
 next-gives p base s ram a Ends i k e n = rw (k.outcome, e, k.local, n) (record { local = refl; loads = k.loads; stores = k.stores; console = k.console; outcome = refl })
 next-gives p base s ram a (Halts x) i k e n = rw (k.outcome, e, k.local, n) (record { local = refl; loads = k.loads; stores = k.stores; console = k.console; outcome = refl })
 next-gives p base s ram a (Traps x) i k e n = rw (k.outcome, e, k.local, n) (record { local = refl; loads = k.loads; stores = k.stores; console = k.console; outcome = refl })
@@ -51,7 +52,7 @@ last-gives sh p s us need t i ph n f ram sm ag =
     go (Some a) h = next-gives p sh.base s ram a need i h goes n
 
 ended-ends : (p : Program) (s : CoreState) (need : Need) → IsEnd need → HasEnded (finished p need 0 s).ended
-unfolding finished stepped
+unfolding finished one_more_instruction
 ended-ends p s Ends i = refl
 ended-ends p s (Halts k) i = refl
 ended-ends p s (Traps k) i = refl

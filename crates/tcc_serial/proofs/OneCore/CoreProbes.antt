@@ -3,7 +3,8 @@ use Rattle.tcc_serial.proofs.Names.{ℕ, ◌≡◌, ◌<◌, ◌≤◌, Bool, tr
 use Rattle.tcc_serial.proofs.Names.{if◌then◌else◌, arith, refl, sym, ap₂, ◌∙◌, nat_tests, put, Program, Outcome, HaltedWith, TrappedWith}
 use Rattle.tcc_serial.proofs.Names.{any_below, any_below-at, Msg, Fill, ProbeReply, DataReq, Inv, Shape, Cache, writes_at, reads_at}
 use Rattle.tcc_serial.proofs.Names.{CoreState, Phase, Running, AwaitTid, DoomedTid, Probing, Ready, Overflowing, Solo, Halted, Out}
-use Rattle.tcc_serial.proofs.Names.{commit, committed_core, phase_after, core_exec, core_evict, grant, grant_phase, from_dir, probing}
+use Rattle.tcc_serial.proofs.Names.{commit, committed_core, phase_after_commit, core_exec, core_evict, grant, grant_in_phase, from_dir}
+use Rattle.tcc_serial.proofs.Names.{probing_or_ready}
 use Rattle.tcc_serial.proofs.Names.{is_probed, probe_reply, all_replied, fill, data_request, invalidate, RepliesAbove, passes, tid_of}
 use Rattle.tcc_serial.proofs.Names.{asks_dir, may_commit, Reached, solo_commit}
 use Rattle.tcc_serial.proofs.OneCore.Executes.{Steady, did-steady}
@@ -34,7 +35,7 @@ asked-steady : (sh : Shape) (d x : ℕ) (s : CoreState) (o : Out) → Steady s o
 asked-steady sh d x s o y h = same-asked sh d x s o.core (y.phase) (y.owing)
     (acts-asked s.phase _ _ (λ n. ap₂ (λ a b. a || b) (writes_at-same sh o.core.cache s.cache d (y.modified n)) (reads_at-same sh o.core.cache s.cache d (y.read n)))) h
 
-asked-after : (sh : Shape) (d x : ℕ) (r : CoreState) (e : Outcome) → r.phase ≡ phase_after e → Reached sh d x r
+asked-after : (sh : Shape) (d x : ℕ) (r : CoreState) (e : Outcome) → r.phase ≡ phase_after_commit e → Reached sh d x r
 asked-after sh d x r (HaltedWith k) q = none-asked sh d x r Halted q (λ b. refl) refl
 asked-after sh d x r (TrappedWith k) q = none-asked sh d x r Halted q (λ b. refl) refl
 asked-after sh d x r _ q = none-asked sh d x r Running q (λ b. refl) refl
@@ -79,11 +80,11 @@ asked-grant sh u d x s h = go s.phase
     owes : d < sh.dirs → (writes_at sh s.cache d || reads_at sh s.cache d) ≡ true → is_probed sh s.cache d ≡ false → ⊥
     owes l a o = probed-owes sh s.cache d l a o
 
-    probed : (b : Bool) → any_below (is_probed sh s.cache) sh.dirs ≡ b → Reached sh d x (record s { owing = is_probed sh s.cache; phase = probing b u })
+    probed : (b : Bool) → any_below (is_probed sh s.cache) sh.dirs ≡ b → Reached sh d x (record s { owing = is_probed sh s.cache; phase = probing_or_ready b u })
     probed true q = record { reached = λ l a o. absurd (owes l a o); replied = λ l m. absurd (cc) }
     probed false q = record { reached = λ l a o. absurd (owes l a o); replied = λ l m. none-below (is_probed sh s.cache) sh.dirs d l q }
 
-    go : (q : Phase) → Reached sh d x (grant_phase sh u s q).core
+    go : (q : Phase) → Reached sh d x (grant_in_phase sh u s q).core
     go AwaitTid = probed (any_below (is_probed sh s.cache) sh.dirs) refl
     go DoomedTid = none-asked sh d x _ Running refl (λ b. refl) refl
     go (Overflowing None) = record { reached = λ l a o. absurd (grind (arith, nat_tests)); replied = λ l m. absurd (cc) }

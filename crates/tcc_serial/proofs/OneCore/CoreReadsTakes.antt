@@ -2,7 +2,8 @@
 use Rattle.tcc_serial.proofs.Names.{put, inl, inr, filled, cleaned, invalidated, OneCore, ℕ, ◌≡◌, ◌<◌, ◌≤◌, Bool, true, false, not, ◌&&◌}
 use Rattle.tcc_serial.proofs.Names.{◌==◌, List, Some, None, IfSome, is_some, unwrap_or, get_or, if◌then◌else◌, arith, refl, ◌⊎◌, nat_tests}
 use Rattle.tcc_serial.proofs.Names.{line_of, place_of, hit, Msg, Inv, Shape, home, Cache, rolled_back, read_cleared, CoreState, Phase}
-use Rattle.tcc_serial.proofs.Names.{AwaitTid, DoomedTid, Probing, Ready, Overflowing, Solo, grant, is_violated, is_above, without, from_dir}
+use Rattle.tcc_serial.proofs.Names.{AwaitTid, DoomedTid, Probing, Ready, Overflowing, Solo, grant, is_violated, may_be_above}
+use Rattle.tcc_serial.proofs.Names.{words_invalidated, from_dir}
 use Rattle.tcc_serial.proofs.Names.{has_tid, hit-line, hit-reads}
 use Rattle.tcc_maps.specs.CacheLook.{reads_masked}
 use Rattle.tcc_serial.proofs.OneCore.CoreReads.{StillRead, Reading, ValidOrPassed, ReadOf, read-kept, reads-same, as-before, tid-kept}
@@ -33,7 +34,7 @@ reads-filled l v ws c = go (l == line_of v)
 
 -- a masked word that is marked read
 -- a core that is ahead of TID u, or has it, has a TID up to u
-pub tid-ahead : (u : ℕ) (q : Phase) → is_above u q ≡ false → (t : ℕ) × (has_tid q t ≡ true) × (t ≤ u)
+pub tid-ahead : (u : ℕ) (q : Phase) → may_be_above u q ≡ false → (t : ℕ) × (has_tid q t ≡ true) × (t ≤ u)
 unfolding has_tid
 tid-ahead u (Probing t) h = (t, grind (arith, nat_tests), grind (arith, nat_tests))
 tid-ahead u (Ready t) h = (t, grind (arith, nat_tests), grind (arith, nat_tests))
@@ -46,20 +47,20 @@ abbrev pub PassesTid : Shape → CoreState → (dir serving line tid : ℕ) → 
 PassesTid sh s d n l u = home sh l ≡ d → (t : ℕ) → has_tid s.phase t ≡ true → t ≤ u → t < n
 
 -- a core that isn't violated: a read word that becomes invalid is one of a core that is ahead
-unhurt : (sh : Shape) (l m u d n : ℕ) (s : CoreState) → is_violated l m u s ≡ false → PassesTid sh s d n l u → ReadOf sh d n s → ReadOf sh d n (without l m s)
-unfolding without invalidated is_violated
+unhurt : (sh : Shape) (l m u d n : ℕ) (s : CoreState) → is_violated l m u s ≡ false → PassesTid sh s d n l u → ReadOf sh d n s → ReadOf sh d n (words_invalidated l m s)
+unfolding words_invalidated invalidated is_violated
 unhurt sh l m u d n s v p k x e y = go (hit l m x) refl
   where
     ahead : (a b : Bool) → a ≡ true → (a && b) ≡ false → b ≡ false
     ahead true b f q = q
     ahead false b f q = absurd (cc)
 
-    passed : l ≡ line_of x → is_above u s.phase ≡ false → (t : ℕ) × (has_tid s.phase t ≡ true) × (t < n)
+    passed : l ≡ line_of x → may_be_above u s.phase ≡ false → (t : ℕ) × (has_tid s.phase t ≡ true) × (t < n)
     passed i a = let z = tid-ahead u s.phase a in (z.0, z.1, p (rw i e) z.0 (z.1) (z.2))
 
     go : (b : Bool) → hit l m x ≡ b → ValidOrPassed (if b && not (s.cache.modified x) then None else s.cache.value x) s.phase n
     go false q = k x e y
-    go true q = let i = hit-line l m x q in inr (passed i (ahead (reads_masked l m s.cache) (is_above u s.phase) (hit-reads l m s.cache x y q i) v))
+    go true q = let i = hit-line l m x q in inr (passed i (ahead (reads_masked l m s.cache) (may_be_above u s.phase) (hit-reads l m s.cache x y q i) v))
 
 -- what is asked of a message: of an invalidation, that its line's home has passed the TID of a core that is ahead of it
 abbrev pub Admits : Shape → CoreState → (dir serving : ℕ) → Msg → Type 0
@@ -67,7 +68,7 @@ Admits sh s d n (Inv l m u) = PassesTid sh s d n l u
 Admits sh s d n _ = Unit {0}
 
 pub reads-back : (sh : Shape) (e d n : ℕ) (s : CoreState) (m : Msg) → OneCore sh s → Admits sh s d n m → ReadOf sh d n s → IfSome (from_dir sh e s m) (λ o. ReadOf sh d n o.core)
-unfolding without invalidated cleaned rolled_back read_cleared has_tid
+unfolding words_invalidated invalidated cleaned rolled_back read_cleared has_tid
 reads-back sh e d n s m h p k = given (from_dir sh e s m) (Admits sh s d n m) (λ o. ReadOf sh d n o.core) (each-back sh e s (λ m o. Admits sh s d n m → ReadOf sh d n o.core) go m) p
   where
     kept : (r : CoreState) → Reading s r → ReadOf sh d n r

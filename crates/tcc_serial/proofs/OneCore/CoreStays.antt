@@ -1,6 +1,6 @@
 -- What comes to a core leaves its checkpoint and its end, and so does an eviction: only an instruction commits.
 use Rattle.tcc_serial.proofs.Names.{ℕ, ◌≡◌, Bool, None, IfSome, refl, any_below, Msg, Shape, CoreState, AwaitTid, Out, arith}
-use Rattle.tcc_serial.proofs.Names.{core_evict, grant, from_dir, probing, is_probed, end_after, inl, inr, nat_tests}
+use Rattle.tcc_serial.proofs.Names.{core_evict, grant, from_dir, probing_or_ready, is_probed, end_after, inl, inr, nat_tests}
 use Rattle.tcc_serial.proofs.OneCore.Outcomes.{Last_probing, Last_room, Given, Given_doomed, Given_none, Given_room, Granted, Heard}
 use Rattle.tcc_serial.proofs.OneCore.Outcomes.{Hurt_alone, Hurt_probing, Hurt_running, Hurt_waiting, each-back, each-evict, each-grant}
 use Rattle.tcc_serial.proofs.OneCore.Outcomes.{granted, heard}
@@ -16,7 +16,7 @@ evict-rests sh x y s = each-evict sh x y s (Rests s) (λ l e a m. record { commi
 pub grant-rests : (sh : Shape) (u : ℕ) (s : CoreState) → Rests s (grant sh u s)
 grant-rests sh u s = each-grant sh u s (Rests s) go
   where
-    awaited : (b : Bool) → s.phase ≡ AwaitTid → end_after (probing b u) s.ended ≡ end_after s.phase s.ended
+    awaited : (b : Bool) → s.phase ≡ AwaitTid → end_after (probing_or_ready b u) s.ended ≡ end_after s.phase s.ended
     awaited a e = grind (arith, nat_tests)
 
     go : (x : Granted sh u s) → Rests s (granted x)

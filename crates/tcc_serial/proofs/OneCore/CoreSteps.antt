@@ -3,7 +3,8 @@ use Rattle.tcc_serial.proofs.Names.{ℕ, ◌+◌, ◌≡◌, ◌*◌, ◌%◌, B
 use Rattle.tcc_serial.proofs.Names.{if◌then◌else◌, arith, refl, sym, ap, ◌⊎◌, nat_tests, put, any_word, any_below, line_of, Node, Dir}
 use Rattle.tcc_serial.proofs.Names.{Vendor, InvAck, Shape, home, lines, Cache, reads_at, is_marked, keeps, evicted, evicted_line, filled}
 use Rattle.tcc_serial.proofs.Names.{cleaned, invalidated, read_cleared, any_below-at, CoreState, Awaited, Phase, Running, AwaitTid}
-use Rattle.tcc_serial.proofs.Names.{DoomedTid, Probing, Ready, Overflowing, Solo, Sends, nothing, to, flushed, written_back, abort_written}
+use Rattle.tcc_serial.proofs.Names.{DoomedTid, Probing, Ready, Overflowing, Solo, Sends, nothing, to, flush_line, write_back_line}
+use Rattle.tcc_serial.proofs.Names.{abort_written}
 use Rattle.tcc_serial.proofs.Names.{skip_all, marks_for, Out, moves, is_solo, core_evict, is_awaited, ignored, fill, fill_awaited}
 use Rattle.tcc_serial.proofs.Names.{data_request, invalidate, probe_reply, all_replied, Protocol, among, passes, Inv, Msg, ProbeReply}
 use Rattle.tcc_serial.proofs.OneCore.Executes.{Steady}
@@ -45,7 +46,7 @@ evicted-modified x y l c e m v = rw e (go (l == line_of v) refl)
     go true q = let u = unmarked-word c l v m (grind (arith, nat_tests)) in (sym (u.0), sym (u.1))
 
 pub steady-emptied : (sh : Shape) (x y : ℕ) (s : CoreState) (l : ℕ) → s.cache.at x y ≡ Some l → is_awaited s.awaited l ≡ false → (is_marked s.cache l ≡ false) ⊎ (is_solo s.phase ≡ true) → Steady s (emptied sh x y l s)
-unfolding written_back passes
+unfolding write_back_line passes
 steady-emptied sh x y s l e i m = record {
   phase = refl;
   owing = refl;
@@ -83,7 +84,7 @@ fill-steady l ws s = elim s.awaited as (λ a. Steady s (fill_awaited l ws s a)) 
     one a true = record { phase = refl; owing = refl; commit = refl; vendor = refl; quiet = λ d. refl; modified = λ h v. (cached a.stale v).0; read = λ h v. (cached a.stale v).1 }
 
 pub data-steady : (sh : Shape) (l : ℕ) (s : CoreState) → Steady s (data_request sh l s)
-unfolding data_request cleaned flushed passes
+unfolding data_request cleaned flush_line passes
 data-steady sh l s = record { phase = refl; owing = refl; commit = refl; vendor = refl; quiet = λ d. quiet sh s Protocol (Flushes l) (λ y. refl) d; modified = λ h v. refl; read = λ h v. refl }
 
 -- what an invalidation comes to, apart from the words that it makes invalid

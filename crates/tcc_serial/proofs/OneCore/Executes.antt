@@ -1,5 +1,5 @@
 -- What Exec may come to, as far as TIDs and messages about them go.
-use Rattle.tcc_serial.proofs.Names.{ℕ, ◌≡◌, [], None, refl, Program, word_of, line_of, Dir, Vendor, Shape, CoreState, flushed}
+use Rattle.tcc_serial.proofs.Names.{ℕ, ◌≡◌, [], None, refl, Program, word_of, line_of, Dir, Vendor, Shape, CoreState, flush_line}
 use Rattle.tcc_serial.proofs.Names.{Out, moves, Protocol, among, passes}
 use Rattle.tcc_serial.proofs.OneCore.Said.{quiet, Flushes, Requests, Said, Silent, Unheard, say}
 use Rattle.tcc_serial.proofs.OneCore.Outcomes.{Acts, Buffers, Commits_now, Did, Ends_alone, Ends_run, Finds, Frames, Frames_anew, Idles}
@@ -27,7 +27,7 @@ IfSteady (Commits_now t r) = Unit {0}
 IfSteady {sh} {p} {c} {s} x = Steady s (out x)
 
 pub did-steady : {sh : Shape} {p : Program} {c : ℕ} {s : CoreState} (x : Did sh p c s) → IfSteady x
-unfolding passes flushed
+unfolding passes flush_line
 did-steady {sh} {p} {c} {s} (Idles n l b g) = steady-said sh s _ Silent g.acts refl refl refl (λ x. refl)
 did-steady {sh} {p} {c} {s} (Finds a x z l g f) = steady-said sh s _ Silent g.acts refl refl refl (λ x. refl)
 did-steady {sh} {p} {c} {s} (Reads a x z l g r f) = steady-said sh s _ Silent g.acts refl refl refl (λ x. refl)

@@ -3,7 +3,8 @@ use Rattle.tcc_serial.proofs.Names.{awaits_replies, load_of, ◌⊎◌, put, sto
 use Rattle.tcc_serial.proofs.Names.{Some, None, IfSome, is_some, arith, refl, sym, ap, subst, ◌∙◌, nat_tests, Program, Need, Loads, word_of}
 use Rattle.tcc_serial.proofs.Names.{line_of, Shape, set_of, Cache, free_way, placed, placed_at, committed, words_dropped, none_spilled}
 use Rattle.tcc_serial.proofs.Names.{words_dropped-keeps, CoreState, Awaited, Phase, Running, AwaitTid, Ready, Overflowing, Solo, is_running}
-use Rattle.tcc_serial.proofs.Names.{is_solo, commit, committed_core, phase_after, solo_commit, core_exec, Words, OneCore, Empty, executes}
+use Rattle.tcc_serial.proofs.Names.{is_solo, commit, committed_core, phase_after_commit, solo_commit, core_exec, Words, OneCore, Empty}
+use Rattle.tcc_serial.proofs.Names.{executes}
 use Rattle.tcc_serial.proofs.Names.{rests}
 use Rattle.tcc_program.specs.Ram.{part}
 use Rattle.tcc_serial.proofs.OneCore.Outcomes.{Acts, awaiting, Acting, Buffers, Commits_now, Did, Ends_alone, Ends_run, Finds, Frames}
@@ -56,7 +57,7 @@ marked_words sh w x s v e h = subst (λ q. Words sh (is_solo q) (marked w s.cach
 -- the transaction has ended
 
 -- a core that has committed
-committed_one : (sh : Shape) (s r : CoreState) → r.phase ≡ phase_after s.ended → ((d : ℕ) → r.owing d ≡ false) → r.awaited ≡ None → ((b : Bool) → Words sh b r.cache r.spilled r.stores) → Empty r → OneCore sh r
+committed_one : (sh : Shape) (s r : CoreState) → r.phase ≡ phase_after_commit s.ended → ((d : ℕ) → r.owing d ≡ false) → r.awaited ≡ None → ((b : Bool) → Words sh b r.cache r.spilled r.stores) → Empty r → OneCore sh r
 committed_one sh s r e o n w m = record {
   words = w (is_solo r.phase);
   awaited = λ a q. absurd (cc);

@@ -3,7 +3,8 @@ use Rattle.tcc_serial.proofs.Names.{put, ◌⊎◌, inl, inr, Cache, Spilled, no
 use Rattle.tcc_serial.proofs.Names.{[], Option, Some, None, IfSome, nat_lt, arith, refl, sym, ap, subst, ◌∙◌, cases_lt, nat_tests}
 use Rattle.tcc_serial.proofs.Names.{any_below, Msg, Shape, is_marked, evicted, evicted_line, filled, invalidated, rolled_back, CoreState}
 use Rattle.tcc_serial.proofs.Names.{Awaited, Phase, Running, AwaitTid, DoomedTid, Probing, Ready, Overflowing, is_solo, core_evict}
-use Rattle.tcc_serial.proofs.Names.{is_awaited, grant, is_probed, probing, all_replied, without, staled, from_dir, Words, OneCore, executes}
+use Rattle.tcc_serial.proofs.Names.{is_awaited, grant, is_probed, probing_or_ready, all_replied, words_invalidated, staled, from_dir, Words}
+use Rattle.tcc_serial.proofs.Names.{OneCore, executes}
 use Rattle.tcc_serial.proofs.Names.{awaits_replies, rests}
 use Rattle.tcc_serial.proofs.OneCore.CoreProbes.{none-below, all-replied}
 use Rattle.tcc_serial.proofs.OneCore.WordsKept.{words-evicted, words-evicted_unmarked, words-filled, words-invalidated, words-cleaned}
@@ -75,7 +76,7 @@ replied_none sh s e d q h = go (cases_lt d sh.dirs)
 pub grant_one : (sh : Shape) (u : ℕ) (s : CoreState) → OneCore sh s → OneCore sh (grant sh u s).core
 grant_one sh u s h = each-grant sh u s (λ o. OneCore sh o.core) go
   where
-    probed : s.phase ≡ AwaitTid → (b : Bool) → any_below (is_probed sh s.cache) sh.dirs ≡ b → OneCore sh (record s { owing = is_probed sh s.cache; phase = probing b u })
+    probed : s.phase ≡ AwaitTid → (b : Bool) → any_below (is_probed sh s.cache) sh.dirs ≡ b → OneCore sh (record s { owing = is_probed sh s.cache; phase = probing_or_ready b u })
     probed e true q = rephased sh s _ AwaitTid (Probing u) e refl refl refl refl refl refl refl refl (λ d k. absurd (cc)) (λ d k. far_probed sh s.cache d k) h
     probed e false q = rephased sh s _ AwaitTid (Ready u) e refl refl refl refl refl refl refl refl (λ d k. none_probed sh s.cache d q) (λ d k. far_probed sh s.cache d k) h
 
@@ -100,8 +101,8 @@ data_one sh l s h = record {
 }
 
 -- an invalidation, and a roll back with it
-without_one : (sh : Shape) (l m : ℕ) (s : CoreState) → OneCore sh s → OneCore sh (without l m s)
-unfolding without invalidated
+without_one : (sh : Shape) (l m : ℕ) (s : CoreState) → OneCore sh s → OneCore sh (words_invalidated l m s)
+unfolding words_invalidated invalidated
 without_one sh l m s h = record {
   words = words-invalidated sh (is_solo s.phase) s.cache l m s.spilled s.stores (h.words);
   awaited = λ b k. held b s.awaited refl k;
@@ -133,7 +134,7 @@ rolled_one sh s r q h e a c p n l t o w z x = record {
     active a k = grind (arith, nat_tests)
 
 pub back_one : (sh : Shape) (e : ℕ) (s : CoreState) (m : Msg) → OneCore sh s → IfSome (from_dir sh e s m) (λ o. OneCore sh o.core)
-unfolding without cleaned invalidated none_spilled
+unfolding words_invalidated cleaned invalidated none_spilled
 back_one sh e s m h = each-back sh e s (λ m o. OneCore sh o.core) go m
   where
     far : (d : ℕ) → sh.dirs ≤ d → put s.owing e false d ≡ false
@@ -146,7 +147,7 @@ back_one sh e s m h = each-back sh e s (λ m o. OneCore sh o.core) go m
     filled_one a c q w = record { words = w; awaited = λ b k. absurd (cc); owing = h.owing; owers = h.owers; rested = λ k. absurd (executes-rests s.phase ((h.awaited a q).0) k) }
 
     hurt : (l m : ℕ) (q : Phase) (sp : Spilled) → awaits_replies q ≡ false → ((w : ℕ) → sp w ≡ None) → (executes q ≡ true) ⊎ (executes s.phase ≡ false) → OneCore sh (rolled l m s q sp)
-    hurt l m q sp a p x = rolled_one sh (without l m s) (rolled l m s q sp) q (without_one sh l m s h) refl a refl p refl refl refl refl refl refl x
+    hurt l m q sp a p x = rolled_one sh (words_invalidated l m s) (rolled l m s q sp) q (without_one sh l m s h) refl a refl p refl refl refl refl refl refl x
 
     waiting : (l m : ℕ) → (s.phase ≡ AwaitTid) ⊎ (s.phase ≡ Overflowing None) → OneCore sh (rolled l m s DoomedTid s.spilled)
     waiting l m (inl q) = hurt l m DoomedTid s.spilled refl (h.words.spilled_alone (rw q refl)) (inr (rw q refl))

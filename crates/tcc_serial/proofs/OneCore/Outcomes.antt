@@ -8,13 +8,20 @@ use Rattle.tcc_serial.proofs.Names.{line_of, any_word, any_below, Dir, Msg, Fill
 use Rattle.tcc_serial.proofs.Names.{lines, set_of, Cache, free_way, all_marked, is_marked, is_modified, writes_at, keeps, marked, stored}
 use Rattle.tcc_serial.proofs.Names.{placed, evicted, filled, invalidated, rolled_back, cleaned, read_cleared, Spilled, none_spilled, holds}
 use Rattle.tcc_serial.proofs.Names.{spill_line, any_below-found, CoreState, Awaited, Phase, Running, AwaitTid, DoomedTid, Probing, Ready}
-use Rattle.tcc_serial.proofs.Names.{Overflowing, Solo, Sends, nothing, to, to_dirs, when, flushed, abort_written, marks_for, Out, moves}
-use Rattle.tcc_serial.proofs.Names.{finished, stepped, is_running, is_solo, new_word, roll_back, commit, solo_commit, ask, place, overflow}
-use Rattle.tcc_serial.proofs.Names.{full_set, fetch, used, load_valid, load_spilled, load, buffered, framed, word_store, also_read}
-use Rattle.tcc_serial.proofs.Names.{change_valid, change_spilled, partial_store, close, execute_need, execute, core_exec, exec_phase}
-use Rattle.tcc_serial.proofs.Names.{unless_awaiting, core_evict, evict_line, is_awaited, grant, grant_phase, is_probed, probing, from_dir}
-use Rattle.tcc_serial.proofs.Names.{probe_reply, reply_phase, replied, all_replied, when_ready, when_alone, ignored, fill, fill_awaited}
-use Rattle.tcc_serial.proofs.Names.{data_request, invalidate, acknowledged, if_violated, violated_in, is_violated, without, staled, rests}
+use Rattle.tcc_serial.proofs.Names.{Overflowing, Solo, Sends, nothing, to, to_dirs, when, flush_line, abort_written, marks_for, Out, moves}
+use Rattle.tcc_serial.proofs.Names.{finished, one_more_instruction, is_running, is_solo, new_word, roll_back, commit, solo_commit}
+use Rattle.tcc_serial.proofs.Names.{request_line, place}
+use Rattle.tcc_serial.proofs.Names.{overflow}
+use Rattle.tcc_serial.proofs.Names.{full_set, miss, with_read_mark, load_valid, load_spilled, load, stored_in_buffer, stored_in_frame}
+use Rattle.tcc_serial.proofs.Names.{word_store, marks_read}
+use Rattle.tcc_serial.proofs.Names.{change_valid, change_spilled, partial_store, end_transaction, execute_need, execute, core_exec}
+use Rattle.tcc_serial.proofs.Names.{exec_in_phase}
+use Rattle.tcc_serial.proofs.Names.{unless_awaiting, core_evict, evict_line, is_awaited, grant, grant_in_phase, is_probed, probing_or_ready}
+use Rattle.tcc_serial.proofs.Names.{from_dir}
+use Rattle.tcc_serial.proofs.Names.{probe_reply, reply_in_phase, replied, all_replied, ready_once_replied, solo_once_replied, ignored, fill}
+use Rattle.tcc_serial.proofs.Names.{fill_awaited}
+use Rattle.tcc_serial.proofs.Names.{data_request, invalidate, acknowledged, if_violated, violated_in_phase, is_violated, words_invalidated}
+use Rattle.tcc_serial.proofs.Names.{staled, rests}
 use Rattle.tcc_serial.proofs.Names.{waits_for_tid, ◌⊎◌, TrappedWith}
 use Rattle.tcc_program.specs.Program.{unreserved}
 use Rattle.tcc_program.specs.Ram.{part}
@@ -137,7 +144,7 @@ said _ = Silent
 
 -- what finishing an instruction that stores leaves
 storing : (p : Program) (need : Need) (x a : ℕ) (s : CoreState) → StoresAt a need → (k : Storing s a) × ((c : Cache) (sp : Spilled) → finished p need x (record s { cache = c; spilled = sp }) ≡ after_store s a k c sp)
-unfolding finished stepped
+unfolding finished one_more_instruction
 storing p (Stores b z v) x a s e = (record { local = p.after s.local None; loads = s.loads; loaded = inl refl; store = store_of b z v; addr = e }, λ c sp. refl)
 storing p (Changes b f) x a s e = (record { local = p.after s.local (Some (part x b Word)); loads = s.loads ++ load_of b Word (part x b Word) ∷ []; loaded = inr (load_of b Word (part x b Word), e, refl); store = store_of b Word (f (part x b Word)); addr = e }, λ c sp. refl)
 storing p _ x a s e = absurd e
@@ -154,7 +161,8 @@ unmodified b m q = grind (arith, nat_tests)
 
 -- each outcome of Exec has what all outcomes have
 pub each-exec : (sh : Shape) (p : Program) (c : ℕ) (s : CoreState) (P : Out → Type 0) → ((d : Did sh p c s) → P (out d)) → IfSome (core_exec sh p c s) P
-unfolding core_exec execute load used partial_store word_store fetch full_set ask place overflow buffered framed finished stepped storing
+unfolding core_exec execute load with_read_mark partial_store word_store miss full_set request_line place overflow stored_in_buffer
+    stored_in_frame finished one_more_instruction storing
 each-exec sh p c s P k = go s.phase refl
   where
     w : ℕ → ℕ
@@ -166,10 +174,10 @@ each-exec sh p c s P k = go s.phase refl
     full n (Solo t) e a b = tt
     full n _ e a b = absurd a
 
-    fetched : (a : ℕ) (need : Need) → Acting p s need → AccessAt a need → IfSome (fetch sh (line_of (w a)) s) P
+    fetched : (a : ℕ) (need : Need) → Acting p s need → AccessAt a need → IfSome (miss sh (line_of (w a)) s) P
     fetched a need g at = go (s.cache.held (line_of (w a))) refl (is_some (free_way sh s.cache (set_of sh (line_of (w a))))) refl
       where
-        go : (x : Bool) → s.cache.held (line_of (w a)) ≡ x → (y : Bool) → is_some (free_way sh s.cache (set_of sh (line_of (w a)))) ≡ y → IfSome (if x then Some (ask sh (line_of (w a)) s) else (if y then Some (ask sh (line_of (w a)) (place sh (line_of (w a)) s)) else full_set sh (line_of (w a)) s)) P
+        go : (x : Bool) → s.cache.held (line_of (w a)) ≡ x → (y : Bool) → is_some (free_way sh s.cache (set_of sh (line_of (w a)))) ≡ y → IfSome (if x then Some (request_line sh (line_of (w a)) s) else (if y then Some (request_line sh (line_of (w a)) (place sh (line_of (w a)) s)) else full_set sh (line_of (w a)) s)) P
         go true e y f = k (Misses a need g at e)
         go false e true f = k (Misses_anew a need g at e f)
         go false e false f = full g.idle s.phase refl g.acts (all_marked sh s.cache (set_of sh (line_of (w a))))
@@ -178,21 +186,21 @@ each-exec sh p c s P k = go s.phase refl
     stores : (need : Need) (x a : ℕ) (at : StoresAt a need) (c : Cache) (sp : Spilled) (sends : Sends) → P (moves (after_store s a (storing p need x a s at).0 c sp) sends) → P (moves (finished p need x (record s { cache = c; spilled = sp })) sends)
     stores need x a at c sp sends h = subst (λ r. P (moves r sends)) (sym ((storing p need x a s at).1 c sp)) h
 
-    buffers : (need : Need) (x a y v : ℕ) → Acting p s need → (at : StoresAt a need) → line_of v ≡ line_of (w a) → is_some (s.spilled v) ≡ true → P (moves (finished p need x (buffered (w a) y s)) nothing)
+    buffers : (need : Need) (x a y v : ℕ) → Acting p s need → (at : StoresAt a need) → line_of v ≡ line_of (w a) → is_some (s.spilled v) ≡ true → P (moves (finished p need x (stored_in_buffer (w a) y s)) nothing)
     buffers need x a y v g at e f = stores need x a at s.cache (put s.spilled (w a) (Some y)) nothing (k (Buffers a y v need (storing p need x a s at).0 g at e f))
 
-    buffers_held : (need : Need) (x a y : ℕ) → Acting p s need → (at : StoresAt a need) → holds s.spilled (line_of (w a)) ≡ true → P (moves (finished p need x (buffered (w a) y s)) nothing)
+    buffers_held : (need : Need) (x a y : ℕ) → Acting p s need → (at : StoresAt a need) → holds s.spilled (line_of (w a)) ≡ true → P (moves (finished p need x (stored_in_buffer (w a) y s)) nothing)
     buffers_held need x a y g at h = let f = holds-word s.spilled (line_of (w a)) h in buffers need x a y f.0 g at (f.1) (f.2)
 
-    frames : (need : Need) (x a y : ℕ) (also : Bool) → Acting p s need → (at : StoresAt a need) → Framing sh s a also → P (moves (finished p need x (framed (w a) y also s)) (flushed sh s.cache (line_of (w a))))
-    frames need x a y also g at f = stores need x a at (stored (w a) y also s.cache) s.spilled (flushed sh s.cache (line_of (w a))) (k (Frames a y also need (storing p need x a s at).0 g at f))
+    frames : (need : Need) (x a y : ℕ) (also : Bool) → Acting p s need → (at : StoresAt a need) → Framing sh s a also → P (moves (finished p need x (stored_in_frame (w a) y also s)) (flush_line sh s.cache (line_of (w a))))
+    frames need x a y also g at f = stores need x a at (stored (w a) y also s.cache) s.spilled (flush_line sh s.cache (line_of (w a))) (k (Frames a y also need (storing p need x a s at).0 g at f))
 
     partly : (need : Need) (a : ℕ) → Acting p s need → StoresAt a need → AccessAt a need → IfSome (partial_store sh p need (w a) s) P
     partly need a g at acc = spilled (s.spilled (w a)) refl
       where
-        held : (x : ℕ) → s.cache.value (w a) ≡ Some x → (b : Bool) → holds s.spilled (line_of (w a)) ≡ b → IfSome (if b then Some (moves (finished p need x (buffered (w a) (new_word need x) s)) nothing) else Some (moves (finished p need x (framed (w a) (new_word need x) (also_read (w a) s) s)) (flushed sh s.cache (line_of (w a))))) P
+        held : (x : ℕ) → s.cache.value (w a) ≡ Some x → (b : Bool) → holds s.spilled (line_of (w a)) ≡ b → IfSome (if b then Some (moves (finished p need x (stored_in_buffer (w a) (new_word need x) s)) nothing) else Some (moves (finished p need x (stored_in_frame (w a) (new_word need x) (marks_read (w a) s) s)) (flush_line sh s.cache (line_of (w a))))) P
         held x e true h = buffers_held need x a (new_word need x) g at h
-        held x e false h = frames need x a (new_word need x) (also_read (w a) s) g at (record { held = inr (rw e refl); unspilled = h; alone = also-alone s.phase (not (s.cache.modified (w a))); read = λ q. (rw e refl, unmodified (is_running s.phase) (s.cache.modified (w a)) q) })
+        held x e false h = frames need x a (new_word need x) (marks_read (w a) s) g at (record { held = inr (rw e refl); unspilled = h; alone = also-alone s.phase (not (s.cache.modified (w a))); read = λ q. (rw e refl, unmodified (is_running s.phase) (s.cache.modified (w a)) q) })
 
         valid : (b : Option ℕ) → s.cache.value (w a) ≡ b → IfSome (change_valid sh p need (w a) s b) P
         valid (Some x) e = held x e (holds s.spilled (line_of (w a))) refl
@@ -209,9 +217,9 @@ each-exec sh p c s P k = go s.phase refl
         need = Stores a Word v
 
         go : (i : Bool) → holds s.spilled (line_of (w a)) ≡ i → (j : Bool) → s.cache.held (line_of (w a)) ≡ j → (f : Bool) → is_some (free_way sh s.cache (set_of sh (line_of (w a)))) ≡ f → IfSome (
-            if i then Some (moves (finished p need v (buffered (w a) v s)) nothing)
-            else (if j then Some (moves (finished p need v (framed (w a) v false s)) (flushed sh s.cache (line_of (w a))))
-            else (if f then Some (moves (finished p need v (framed (w a) v false (place sh (line_of (w a)) s))) nothing)
+            if i then Some (moves (finished p need v (stored_in_buffer (w a) v s)) nothing)
+            else (if j then Some (moves (finished p need v (stored_in_frame (w a) v false s)) (flush_line sh s.cache (line_of (w a))))
+            else (if f then Some (moves (finished p need v (stored_in_frame (w a) v false (place sh (line_of (w a)) s))) nothing)
             else full_set sh (line_of (w a)) s))) P
         go true h j e f i = buffers_held need v a v g refl h
         go false h true e f i = frames need v a v false g refl (record { held = inl e; unspilled = h; alone = λ q. refl; read = λ q. absurd (cc) })
@@ -233,7 +241,7 @@ each-exec sh p c s P k = go s.phase refl
         spilled (Some x) e = k (Finds a x z (p.after s.local (Some (part x a z))) g (inl (rw e refl)))
         spilled None e = valid (s.cache.value (w a)) refl
 
-    closes : (l : Local) (e : Outcome) → Ending p s l e → s.awaited ≡ None → (q : Phase) → s.phase ≡ q → Acts q → P (close sh c q (after_end s l e))
+    closes : (l : Local) (e : Outcome) → Ending p s l e → s.awaited ≡ None → (q : Phase) → s.phase ≡ q → Acts q → P (end_transaction sh c q (after_end s l e))
     closes l e f n Running r a = k (Ends_run l e f r n)
     closes l e f n (Solo t) r a = k (Ends_alone t l e f r n)
     closes l e f n _ r a = absurd a
@@ -254,7 +262,7 @@ each-exec sh p c s P k = go s.phase refl
     executes (Some a) e h = tt
     executes None e h = needs (p.need s.local) (record { acts = h; idle = e; need = refl })
 
-    go : (q : Phase) → s.phase ≡ q → IfSome (exec_phase sh p c s q) P
+    go : (q : Phase) → s.phase ≡ q → IfSome (exec_in_phase sh p c s q) P
     go Running e = executes s.awaited refl (rw e tt)
     go (Solo t) e = executes s.awaited refl (rw e tt)
     go (Ready t) e = k (Commits_now t e)
@@ -287,7 +295,7 @@ pub data Granted (sh : Shape) (t : ℕ) (s : CoreState) : Type 0 where
   Given_none : waits_for_tid s.phase ≡ false → Granted sh t s
 
 abbrev pub granted : {sh : Shape} {t : ℕ} {s : CoreState} → Granted sh t s → Out
-granted {sh} {t} {s} (Given e) = moves (record s { owing = is_probed sh s.cache; phase = probing (any_below (is_probed sh s.cache) sh.dirs) t }) (say sh s (Answers t))
+granted {sh} {t} {s} (Given e) = moves (record s { owing = is_probed sh s.cache; phase = probing_or_ready (any_below (is_probed sh s.cache) sh.dirs) t }) (say sh s (Answers t))
 granted {sh} {t} {s} (Given_doomed e) = moves (record s { phase = Running }) (say sh s (Skips_all t))
 granted {sh} {t} {s} (Given_room e) = moves (record s { owing = λ d. nat_lt d sh.dirs; phase = Overflowing (Some t) }) (say sh s (Probes_all t))
 granted {sh} {t} {s} (Given_none e) = moves s (say sh s Silent)
@@ -302,7 +310,7 @@ pub each-grant : (sh : Shape) (t : ℕ) (s : CoreState) (P : Out → Type 0) →
 unfolding grant waits_for_tid
 each-grant sh t s P k = go s.phase refl
   where
-    go : (q : Phase) → s.phase ≡ q → P (grant_phase sh t s q)
+    go : (q : Phase) → s.phase ≡ q → P (grant_in_phase sh t s q)
     go AwaitTid e = k (Given e)
     go DoomedTid e = k (Given_doomed e)
     go (Overflowing None) e = k (Given_room e)
@@ -407,17 +415,17 @@ unexpected u q r g h (inl x) = let z : expects q u ≡ (u == u) = ap (λ p. expe
 unexpected u q r g h (inr x) = let z : expects q u ≡ (u == u) = ap (λ p. expects p u) x in let y : (u == u) ≡ true = grind (arith, nat_tests) in let i : expects q u ≡ expects r u = ap (λ p. expects p u) g in cc
 
 pub each-back : (sh : Shape) (e : ℕ) (s : CoreState) (P : Msg → Out → Type 0) → ((d : Heard sh e s) → P (message d) (heard d)) → (m : Msg) → IfSome (from_dir sh e s m) (P m)
-unfolding probe_reply fill data_request invalidate acknowledged if_violated without roll_back
+unfolding probe_reply fill data_request invalidate acknowledged if_violated words_invalidated roll_back
 each-back sh e s P k m = go m
   where
-    reply : (u v : ℕ) (q : Phase) → s.phase ≡ q → P (ProbeReply u v) (reply_phase sh e u s q)
+    reply : (u v : ℕ) (q : Phase) → s.phase ≡ q → P (ProbeReply u v) (reply_in_phase sh e u s q)
     reply u v (Probing t) g = probed (t == u) (s.owing e) refl refl
       where
         ready : t ≡ u → s.owing e ≡ true → (b : Bool) → all_replied sh (put s.owing e false) ≡ b → P (ProbeReply u v) (moves (if b then record (replied e s) { phase = Ready u } else replied e s) (to (Dir e) (marks_for sh s.cache u e)))
         ready i o true r = k (Last_probing u v (rw (← i) g) o r)
         ready i o false r = k (Reply_probing u v (rw (← i) g) o r)
 
-        probed : (a b : Bool) → (t == u) ≡ a → s.owing e ≡ b → P (ProbeReply u v) (if a && b then moves (when_ready sh u (replied e s)) (to (Dir e) (marks_for sh s.cache u e)) else ignored s)
+        probed : (a b : Bool) → (t == u) ≡ a → s.owing e ≡ b → P (ProbeReply u v) (if a && b then moves (ready_once_replied sh u (replied e s)) (to (Dir e) (marks_for sh s.cache u e)) else ignored s)
         probed true true h o = ready (grind (arith, nat_tests)) o (all_replied sh (put s.owing e false)) refl
         probed true false h o = k (Ignores_reply u v (λ x. o))
         probed false b h o = k (Ignores_reply u v (λ x. absurd (unexpected u s.phase (Probing t) g h x)))
@@ -427,7 +435,7 @@ each-back sh e s P k m = go m
         alone i o true r = k (Last_room u v (rw (← i) g) o r)
         alone i o false r = k (Reply_room u v (rw (← i) g) o r)
 
-        over : (a b : Bool) → (t == u) ≡ a → s.owing e ≡ b → P (ProbeReply u v) (if a && b then moves (when_alone sh u (replied e s)) nothing else ignored s)
+        over : (a b : Bool) → (t == u) ≡ a → s.owing e ≡ b → P (ProbeReply u v) (if a && b then moves (solo_once_replied sh u (replied e s)) nothing else ignored s)
         over true true h o = alone (grind (arith, nat_tests)) o (all_replied sh (put s.owing e false)) refl
         over true false h o = k (Ignores_reply u v (λ x. o))
         over false b h o = k (Ignores_reply u v (λ x. absurd (unexpected u s.phase (Overflowing (Some t)) g h x)))
@@ -442,7 +450,7 @@ each-back sh e s P k m = go m
         one true h true i = k (Fills_none l ws a q (grind (arith, nat_tests)) i)
         one true h false i = k (Fills l ws a q (grind (arith, nat_tests)) i)
 
-    hurt : (l m u : ℕ) (b : Bool) → is_violated l m u s ≡ b → (q : Phase) → s.phase ≡ q → P (Inv l m u) (acknowledged sh l (if b then violated_in sh (without l m s) q else ignored (without l m s)))
+    hurt : (l m u : ℕ) (b : Bool) → is_violated l m u s ≡ b → (q : Phase) → s.phase ≡ q → P (Inv l m u) (acknowledged sh l (if b then violated_in_phase sh (words_invalidated l m s) q else ignored (words_invalidated l m s)))
     hurt l m u false v q e = k (Hurt_none l m u (inl v))
     hurt l m u true v Running e = subst (λ q. P (Inv l m u) (acked sh l (rolled l m s q s.spilled) nothing)) (sym e) (k (Hurt_running l m u v e))
     hurt l m u true v AwaitTid e = k (Hurt_waiting l m u v (inl e))

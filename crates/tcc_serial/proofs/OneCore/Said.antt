@@ -3,10 +3,12 @@ use Rattle.tcc_serial.proofs.Names.{ℕ, ◌≡◌, Bool, true, false, not, List
 use Rattle.tcc_serial.proofs.Names.{if◌then◌else◌, flat_map, arith, refl, those, count_below, Dir, Vendor, Tagged, Msg, TidReq, LoadReq}
 use Rattle.tcc_serial.proofs.Names.{Skip, Probe, Mark, Commit, Abort, WriteBack, Flush, InvAck, Shape, home, lines, is_modified, nat_tests}
 use Rattle.tcc_serial.proofs.Names.{modified_mask, written_lines, writes_at, reads_at, dirty_copy, holds, spilled_mask, spilled_words}
-use Rattle.tcc_serial.proofs.Names.{CoreState, Sends, nothing, to, flush, flushed, written_back, skip_all, probe_all, abort_written}
-use Rattle.tcc_serial.proofs.Names.{marks_for, commit_sends, solo_sends, solo_marks, solo_backs, solo_writes_at, is_written, written_mask}
+use Rattle.tcc_serial.proofs.Names.{CoreState, Sends, nothing, to, flush_of, flush_line, write_back_line, skip_all, probe_all}
+use Rattle.tcc_serial.proofs.Names.{abort_written}
+use Rattle.tcc_serial.proofs.Names.{marks_for, commit_sends, solo_sends, solo_marks_or_skip, solo_write_backs, solo_writes_at, is_written}
+use Rattle.tcc_serial.proofs.Names.{written_mask}
 use Rattle.tcc_serial.proofs.Names.{grant_sends, Kind, among, passes}
-use Rattle.tcc_rules.specs.Sends.{write_back}
+use Rattle.tcc_rules.specs.Sends.{write_back_of}
 use Rattle.tcc_serial.proofs.Counts.Links.{among-append, among-flat_map_none}
 
 -- what a core sends with one event
@@ -26,9 +28,9 @@ pub data Said : Type 0 where
 
 abbrev pub say : Shape → CoreState → Said → Sends
 say sh s Silent = nothing
-say sh s (Flushes l) = flushed sh s.cache l
-say sh s (Empties l) = written_back sh s.cache l
-say sh s (Requests l) = to (Dir (home sh l)) (LoadReq l (s.after (home sh l)) ∷ [])
+say sh s (Flushes l) = flush_line sh s.cache l
+say sh s (Empties l) = write_back_line sh s.cache l
+say sh s (Requests l) = to (Dir (home sh l)) (LoadReq l (s.last_commit (home sh l)) ∷ [])
 say sh s Wants = to Vendor (TidReq ∷ [])
 say sh s (Tells_commit t) = commit_sends sh s.cache t
 say sh s (Tells_alone t) = solo_sends sh s.cache s.spilled t
@@ -78,20 +80,22 @@ marks-quiet k f t ls h = among-flat_map_none k (λ l. Mark l (f l) t ∷ []) (λ
 
 -- nothing of the kind is among what is said
 pub quiet : (sh : Shape) (s : CoreState) (k : Kind) (q : Said) → Unheard k q → (d : ℕ) → among k (say sh s q (Dir d)) ≡ 0
-unfolding flushed written_back commit_sends solo_sends solo_marks solo_backs grant_sends skip_all probe_all abort_written marks_for among
+unfolding flush_line write_back_line commit_sends solo_sends solo_marks_or_skip solo_write_backs grant_sends skip_all probe_all
+    abort_written
+    marks_for among
 quiet sh s k (Flushes l) h d = go (d == home sh l) (dirty_copy s.cache l)
   where
-    go : (b : Bool) (t : Option Tagged) → among k (if b then flush t else []) ≡ 0
+    go : (b : Bool) (t : Option Tagged) → among k (if b then flush_of t else []) ≡ 0
     go true (Some t) = rw (h (record { line = t.line; mask = t.mask; words = t.words; tag = t.tag; count = 0 })) refl
     go true None = refl
     go false t = refl
 quiet sh s k (Empties l) h d = go (d == home sh l) (dirty_copy s.cache l)
   where
-    go : (b : Bool) (t : Option Tagged) → among k (if b then write_back t else []) ≡ 0
+    go : (b : Bool) (t : Option Tagged) → among k (if b then write_back_of t else []) ≡ 0
     go true (Some t) = rw (h (record { line = t.line; mask = t.mask; words = t.words; tag = t.tag; count = 0 })) refl
     go true None = refl
     go false t = refl
-quiet sh s k (Requests l) h d = one-quiet k _ (d == home sh l) (h (record { line = l; mask = 0; words = []; tag = s.after (home sh l); count = 0 }))
+quiet sh s k (Requests l) h d = one-quiet k _ (d == home sh l) (h (record { line = l; mask = 0; words = []; tag = s.last_commit (home sh l); count = 0 }))
 quiet sh s k (Tells_commit t) h d = go (nat_lt d sh.dirs) (writes_at sh s.cache d)
   where
     n : ℕ

@@ -2,7 +2,8 @@
 use Rattle.tcc_serial.proofs.Names.{ℕ, ◌≡◌, ◌≤◌, ◌≢◌, true, false, List, ◌∷◌, ◌++◌, map, Option, Some, None, IsSomeAnd, refl, sym, ap}
 use Rattle.tcc_serial.proofs.Names.{subst, ◌∙◌, map-append, Noted, CoreEnd, Run, Halt, Trap, order_of_commit, last_tid, Attempt, Plain}
 use Rattle.tcc_serial.proofs.Names.{Order, Outcome, Goes, Ended, HaltedWith, TrappedWith, begun, steps, closed, end_of, transaction}
-use Rattle.tcc_serial.proofs.Names.{commit_of, serial, Local, Program, CoreState, noted, phase_after, ended_after, insert_commit, HasEnded}
+use Rattle.tcc_serial.proofs.Names.{commit_of, serial, Local, Program, CoreState, noted, phase_after_commit, ended_after_commit}
+use Rattle.tcc_serial.proofs.Names.{insert_commit, HasEnded}
 use Rattle.tcc_serial.proofs.Names.{end_after, commits_touch, orders_core, Again, Inserted, CanInsert, times, stores_word, Aligned}
 use Rattle.tcc_serial.proofs.Names.{IsMemory, ◌<◌, Bool, ◌==◌, ◌||◌, [], Contains, arith, ◌⊎◌, inl, inr, nat_tests, Need, Loads, Stores}
 use Rattle.tcc_serial.proofs.Names.{Changes, num, line_of, writes_at, reads_at, Shape, home, Phase, Ready, Solo, World, Out, is_solo}
@@ -10,7 +11,8 @@ use Rattle.tcc_serial.proofs.Names.{History, Uses, Agrees, NeedFits, Fits, AllSt
 use Rattle.tcc_serial.proofs.Names.{plain_start, Invariants, Grant, holder, pair, asks_dir, may_commit, tid_of, has_tid, live_way}
 use Rattle.tcc_serial.proofs.Names.{loads_word, AlignedNeed, EachUse, is_given_up, Untold, Ways, worked_at, IfSome, if◌then◌else◌, Core}
 use Rattle.tcc_serial.proofs.Names.{Dir, Vendor, Msg, TidReq, TidGrant, in_flight, core_exec, core_evict, from_dir, grant, Answer, Waits}
-use Rattle.tcc_serial.proofs.Names.{Drops, Asks, Takes, dir_deliver, Stepped, and_noted, recorded, next, step, core_moves, core_takes}
+use Rattle.tcc_serial.proofs.Names.{Drops, Asks, Takes, dir_deliver, Stepped, and_noted, recorded, next_history, step, core_moves}
+use Rattle.tcc_serial.proofs.Names.{core_takes}
 use Rattle.tcc_serial.proofs.Names.{dir_takes, dir_asks, vendor_gives, CommitsSerial, CoreSerial, CoresSerial, IsSerial, EventsKeepSerial}
 use Rattle.tcc_serial.proofs.Counts.StepCases.{given, OfAnswer, step_cases}
 use Rattle.tcc_serial.proofs.Memory.MemorySends.{accesses_at_homes, marks_at_homes}
@@ -28,7 +30,7 @@ use Rattle.tcc_serial.proofs.Tids.Commits.{numbered-least, granted-at}
 record Closed (o : Outcome) : Type 0 where
   end : CoreEnd
   is : end_of o ≡ Some end
-  after : end ≡ end_after (phase_after o) (ended_after o)
+  after : end ≡ end_after (phase_after_commit o) (ended_after_commit o)
 
 has-closed : (o : Outcome) → HasEnded o → Closed o
 has-closed Goes h = absurd (cc)
@@ -79,7 +81,7 @@ pub record ClosedSerial (base : ℕ) (p : Program) (cs : List Noted) (c t : ℕ)
   pub plain : Plain
   pub commits : serial base p 0 (map order_of_commit (insert_commit (noted t c r) cs)) first ≡ Some (plain, insert_commit (noted t c r) cs)
   pub local : (plain.cores c).local ≡ r.local
-  pub ended : (plain.cores c).ended ≡ end_after (phase_after r.ended) (ended_after r.ended)
+  pub ended : (plain.cores c).ended ≡ end_after (phase_after_commit r.ended) (ended_after_commit r.ended)
   pub others : (e : ℕ) → e ≢ c → plain.cores e ≡ m.cores e
 
 pub closed-serial : (base : ℕ) (p : Program) (cs : List Noted) (c t : ℕ) (saved : Local) (r : CoreState) (first m : Plain) (s : SerialCut base p 0 (before t cs) (behind t cs) first m) → Aligned p → IsMemory first.ram → IsMemory s.start.ram
@@ -329,7 +331,7 @@ closed-cores sh p w cs c t e r o first m g f k = go (e == c) refl
         subst (λ j. CoreSerial o.core (g.plain.cores j)) (sym i) (record { local = g.local ∙ sym f.saved; ended = rw (f.after, f.ended) g.ended })
 
 pub events_serial : EventsKeepSerial
-unfolding next core_moves core_takes dir_takes dir_asks vendor_gives
+unfolding next_history core_moves core_takes dir_takes dir_asks vendor_gives
 events_serial sh p entries ram gs ys views m h e u k = whole (step sh p h.world e) (step_cases sh p h.world e (λ _. After sh p entries ram h) executes evicts grants backs answers gives)
   where
     whole : (o : Option Stepped) → IfSome o (After sh p entries ram h) → IfSome (recorded h o) (IsSerial sh p entries ram)

@@ -1,6 +1,7 @@
 -- The whole list along every run, from what each event keeps of it; and so every run is serial.
 use Rattle.tcc_serial.proofs.Names.{◌≡◌, List, [], ◌∷◌, ◌++◌, Option, Some, None, refl, ap, subst, sym, ◌∙◌, append_assoc, append-nil}
-use Rattle.tcc_serial.proofs.Names.{Program, Event, Shape, History, next, and_then, run_from, Views, views_after, views_from, granted_by}
+use Rattle.tcc_serial.proofs.Names.{Program, Event, Shape, History, next_history, and_then, run_from, Views, views_after, views_from}
+use Rattle.tcc_serial.proofs.Names.{granted_by}
 use Rattle.tcc_serial.proofs.Names.{grants_from, Ways, sent_by, ways_after, ways_from, ℕ, flat_map, inl, serial, Local, is_skipped}
 use Rattle.tcc_serial.proofs.Names.{first_serving, empty_cache, no_lines, Copy, seen, home_copy, copies, copies_of, copies_on, newest}
 use Rattle.tcc_serial.proofs.Names.{numbers, core_start, dir_start, vendor_start, start, ReadFits, CoresSerial, SeenSerial, plain_start}
@@ -26,7 +27,7 @@ pub record OneMore (sh : Shape) (p : Program) (es : List Event) (e : Event) (ys 
   pub ways : ways_from sh p (es ++ e ∷ []) ys first ≡ ways_after (sent_by sh p h.world e) (ways_from sh p es ys first)
   pub views : views_from sh p (es ++ e ∷ []) vs first ≡ views_after sh p h.world e (views_from sh p es vs first)
 
-only-one : (sh : Shape) (p : Program) (e : Event) (ys : Ways) (vs : Views) (first g : History) → next sh p first e ≡ Some g → OneMore sh p [] e ys vs first first g
+only-one : (sh : Shape) (p : Program) (e : Event) (ys : Ways) (vs : Views) (first g : History) → next_history sh p first e ≡ Some g → OneMore sh p [] e ys vs first first g
 unfolding run_from grants_from ways_from views_from
 only-one sh p e ys vs first g n = record {
   state = rw n refl;
@@ -39,12 +40,12 @@ abbrev or_else : History → Option History → History
 or_else h None = h
 or_else h (Some g) = g
 
-pub one-more : (sh : Shape) (p : Program) (es : List Event) (e : Event) (ys : Ways) (vs : Views) (first h g : History) → run_from sh p es first ≡ Some h → next sh p h e ≡ Some g → OneMore sh p es e ys vs first h g
+pub one-more : (sh : Shape) (p : Program) (es : List Event) (e : Event) (ys : Ways) (vs : Views) (first h g : History) → run_from sh p es first ≡ Some h → next_history sh p h e ≡ Some g → OneMore sh p es e ys vs first h g
 unfolding run_from grants_from ways_from views_from
-one-more sh p [] e ys vs first h g r n = subst (λ k. next sh p k e ≡ Some g → OneMore sh p [] e ys vs first k g) (ap (or_else first) r) (only-one sh p e ys vs first g) n
-one-more sh p (x ∷ es) e ys vs first h g r n = go (next sh p first x) refl r (λ f q. one-more sh p es e (ways_after (sent_by sh p first.world x) ys) (views_after sh p first.world x vs) f h g q n)
+one-more sh p [] e ys vs first h g r n = subst (λ k. next_history sh p k e ≡ Some g → OneMore sh p [] e ys vs first k g) (ap (or_else first) r) (only-one sh p e ys vs first g) n
+one-more sh p (x ∷ es) e ys vs first h g r n = go (next_history sh p first x) refl r (λ f q. one-more sh p es e (ways_after (sent_by sh p first.world x) ys) (views_after sh p first.world x vs) f h g q n)
   where
-    go : (o : Option History) → next sh p first x ≡ o → and_then (run_from sh p es) o ≡ Some h → ((f : History) → run_from sh p es f ≡ Some h → OneMore sh p es e (ways_after (sent_by sh p first.world x) ys) (views_after sh p first.world x vs) f h g) → OneMore sh p (x ∷ es) e ys vs first h g
+    go : (o : Option History) → next_history sh p first x ≡ o → and_then (run_from sh p es) o ≡ Some h → ((f : History) → run_from sh p es f ≡ Some h → OneMore sh p es e (ways_after (sent_by sh p first.world x) ys) (views_after sh p first.world x vs) f h g) → OneMore sh p (x ∷ es) e ys vs first h g
     go None q s more = absurd (cc)
     go (Some f) q s more = let k = more f s in record {
       state = rw q k.state;
@@ -174,8 +175,8 @@ proved sh p entries ram es h s r = record {
     o = memo sh p entries ram es
 
 -- one event keeps the whole list, where what is proved by itself holds after it
-step-all : (sh : Shape) (p : Program) (entries : ℕ → Local) (ram : ℕ → ℕ) (o : Memo) (h : History) (e : Event) → Suits sh p ram → AllOf sh p entries ram o h → IfSome (next sh p h e) (λ g. Proved sh p (memo_after sh p h e o) g → AllOf sh p entries ram (memo_after sh p h e o) g)
-step-all sh p entries ram o h e s a = go (next sh p h e) (homes_kept sh p entries ram o.gs o.ys o.vs (a.0) h e s (a.1)) (words_kept sh p entries ram o.gs o.ys o.vs (a.0) h e s (a.1)) (keeps_views sh p entries ram o.gs o.ys o.vs (a.0) h e (a.1)) (events_serial sh p entries ram o.gs o.ys o.vs (a.0) h e s (a.1))
+step-all : (sh : Shape) (p : Program) (entries : ℕ → Local) (ram : ℕ → ℕ) (o : Memo) (h : History) (e : Event) → Suits sh p ram → AllOf sh p entries ram o h → IfSome (next_history sh p h e) (λ g. Proved sh p (memo_after sh p h e o) g → AllOf sh p entries ram (memo_after sh p h e o) g)
+step-all sh p entries ram o h e s a = go (next_history sh p h e) (homes_kept sh p entries ram o.gs o.ys o.vs (a.0) h e s (a.1)) (words_kept sh p entries ram o.gs o.ys o.vs (a.0) h e s (a.1)) (keeps_views sh p entries ram o.gs o.ys o.vs (a.0) h e (a.1)) (events_serial sh p entries ram o.gs o.ys o.vs (a.0) h e s (a.1))
   where
     n : Memo
     n = memo_after sh p h e o
@@ -211,12 +212,12 @@ memo-more sh p entries ram es e h g k = rw (k.grants, k.ways, k.views) refl
 from-there : (sh : Shape) (p : Program) (entries : ℕ → Local) (ram : ℕ → ℕ) (past es : List Event) (h : History) → Suits sh p ram → run_from sh p past (first_state entries ram) ≡ Some h → AllOf sh p entries ram (memo sh p entries ram past) h → IfSome (run_from sh p es h) (λ g. AllOf sh p entries ram (memo sh p entries ram (past ++ es)) g)
 unfolding run_from
 from-there sh p entries ram past [] h s r a = rw append-nil a
-from-there sh p entries ram past (e ∷ es) h s r a = go (next sh p h e) refl (step-all sh p entries ram (memo sh p entries ram past) h e s a) (λ g q b. from-there sh p entries ram (past ++ e ∷ []) es g s (one-more sh p past e first_ways no_views (first_state entries ram) h g r q).state b)
+from-there sh p entries ram past (e ∷ es) h s r a = go (next_history sh p h e) refl (step-all sh p entries ram (memo sh p entries ram past) h e s a) (λ g q b. from-there sh p entries ram (past ++ e ∷ []) es g s (one-more sh p past e first_ways no_views (first_state entries ram) h g r q).state b)
   where
     o : Memo
     o = memo_after sh p h e (memo sh p entries ram past)
 
-    go : (x : Option History) → next sh p h e ≡ x → IfSome x (λ g. Proved sh p o g → AllOf sh p entries ram o g) → ((g : History) → next sh p h e ≡ Some g → AllOf sh p entries ram (memo sh p entries ram (past ++ e ∷ [])) g → IfSome (run_from sh p es g) (λ f. AllOf sh p entries ram (memo sh p entries ram ((past ++ e ∷ []) ++ es)) f)) → IfSome (and_then (run_from sh p es) x) (λ f. AllOf sh p entries ram (memo sh p entries ram (past ++ e ∷ es)) f)
+    go : (x : Option History) → next_history sh p h e ≡ x → IfSome x (λ g. Proved sh p o g → AllOf sh p entries ram o g) → ((g : History) → next_history sh p h e ≡ Some g → AllOf sh p entries ram (memo sh p entries ram (past ++ e ∷ [])) g → IfSome (run_from sh p es g) (λ f. AllOf sh p entries ram (memo sh p entries ram ((past ++ e ∷ []) ++ es)) f)) → IfSome (and_then (run_from sh p es) x) (λ f. AllOf sh p entries ram (memo sh p entries ram (past ++ e ∷ es)) f)
     go None q a more = tt
     go (Some g) q a more =
         let k = one-more sh p past e first_ways no_views (first_state entries ram) h g r q in

@@ -1,6 +1,7 @@
 -- All invariants together, through every event and along every run.
 use Rattle.tcc_serial.proofs.Names.{ℕ, List, [], ◌∷◌, ◌++◌, Option, Some, None, IfSome, arith, refl, sym, append_assoc, append-nil, Program}
-use Rattle.tcc_serial.proofs.Names.{Local, Event, Shape, World, start, core_start, Stepped, step, History, and_noted, recorded, next}
+use Rattle.tcc_serial.proofs.Names.{Local, Event, Shape, World, start, core_start, Stepped, step, History, and_noted, recorded}
+use Rattle.tcc_serial.proofs.Names.{next_history}
 use Rattle.tcc_serial.proofs.Names.{and_then, run_from, run, live, pair, has_tid, KeptCounted, KeptWhole, KeptNamed, KeptMarks, KeptMasks}
 use Rattle.tcc_serial.proofs.Names.{KeptStored, KeptCores, KeptCommitting, Grant, granted_by, then_grants, grants_from, KeptOwners}
 use Rattle.tcc_serial.proofs.Names.{LastGranted, SparesCommitter, Kept, KeptTold, KeptAll, Always, HoldsLast, SparesItsCommitter}
@@ -36,7 +37,7 @@ step-all sh p gs h e k = go (step sh p h.world e) (step-kept sh p h.world e (k.k
     go (Some o) a b c d f l q m n r y z u v = record { kept = a; owners = b; cores = c; committing = d; probing = f; last = l; spared = q (a.told); marks = m (a.told); counted = n (a.told); whole = r; named = y (a.told); asked = z; masks = u; stored = v (a.told) }
 
 run_from-all : (sh : Shape) (p : Program) (es : List Event) (gs : List Grant) (h : History) → KeptAll sh gs h → IfSome (run_from sh p es h) (λ r. KeptAll sh (gs ++ grants_from sh p es h) r)
-unfolding run_from grants_from next
+unfolding run_from grants_from next_history
 run_from-all sh p [] gs h k = rw append-nil k
 run_from-all sh p (e ∷ es) gs h k = go (recorded h (step sh p h.world e)) (step-all sh p gs h e k) (λ g q. run_from-all sh p es (gs ++ granted_by h.world e) g q)
   where

@@ -2,7 +2,8 @@
 use Rattle.tcc_serial.proofs.Names.{ℕ, List, [], ◌++◌, Option, Some, None, IfSome, Program, Local, Event, Shape, Stepped, step, History}
 use Rattle.tcc_serial.proofs.Names.{and_noted, recorded, run_from, run, KeptHomes, KeptLineOwners, KeptLoading, KeptAfter, first_state}
 use Rattle.tcc_serial.proofs.Names.{KeptAll, KeptTold, OneMark, Grant, granted_by, grants_from, ◌<◌, ◌≡◌, true, false, ◌∷◌, sym}
-use Rattle.tcc_serial.proofs.Names.{append_assoc, append-nil, start, next, and_then, KeptTags, KeptGets, KeptSharers, is_applied, stores_at}
+use Rattle.tcc_serial.proofs.Names.{append_assoc, append-nil, start, next_history, and_then, KeptTags, KeptGets, KeptSharers, is_applied}
+use Rattle.tcc_serial.proofs.Names.{stores_at}
 use Rattle.tcc_serial.proofs.Names.{Noted, KeptRun, then_grants, Ways, ways_after, sent_by, then_ways, ways_from, first_ways}
 use Rattle.tcc_serial.proofs.Copies.CopyFacts.{start-lines}
 use Rattle.tcc_serial.proofs.Copies.LinesKept.{KeptLines}
@@ -82,7 +83,7 @@ step-copies sh p gs ys h e k = go (step sh p h.world e) (step-run sh p gs ys h e
     }
 
 run_from-copies : (sh : Shape) (p : Program) (es : List Event) (gs : List Grant) (ys : Ways) (h : History) → KeptCopies sh gs ys h → IfSome (run_from sh p es h) (λ r. KeptCopies sh (gs ++ grants_from sh p es h) (ways_from sh p es ys h) r)
-unfolding run_from grants_from ways_from next
+unfolding run_from grants_from ways_from next_history
 run_from-copies sh p [] gs ys h k = rw append-nil k
 run_from-copies sh p (e ∷ es) gs ys h k = go (recorded h (step sh p h.world e)) (step-copies sh p gs ys h e k) (λ g q. run_from-copies sh p es (gs ++ granted_by h.world e) x g q)
   where

@@ -2,7 +2,7 @@
 use Rattle.tcc_serial.proofs.Names.{ℕ, ◌≡◌, ◌<◌, Bool, true, false, List, [], ◌∷◌, Option, Some, None, IfSome, nat_lt, if◌then◌else◌, arith}
 use Rattle.tcc_serial.proofs.Names.{nat_tests, Noted, Program, Event, TidGrant, Shape, CoreState, World, start, Out, core_exec, core_evict}
 use Rattle.tcc_serial.proofs.Names.{from_dir, grant, Answer, Waits, Drops, Asks, Takes, dir_deliver, Stepped, step, History, insert_commit}
-use Rattle.tcc_serial.proofs.Names.{and_noted, recorded, next, and_then, run_from, run, Kept}
+use Rattle.tcc_serial.proofs.Names.{and_noted, recorded, next_history, and_then, run_from, run, Kept}
 use Rattle.tcc_program.specs.Cores.{AreBy}
 use Rattle.tcc_serial.specs.NotedBy.{is_core, AreByCores, CommitsAreByCores}
 use Rattle.tcc_serial.proofs.Tids.CoreOwners.{KeepsHolder, holder-exec, holder-evict, holder-grant, holder-back}
@@ -55,7 +55,7 @@ listed-by sh (Some n) cs l k = inserted-by sh n cs l k
 
 run_from-by : (sh : Shape) (p : Program) (es : List Event) (h : History) → Kept sh h.world → AreByCores sh h.commits
     → IfSome (run_from sh p es h) (λ r. AreByCores sh r.commits)
-unfolding run_from next
+unfolding run_from next_history
 run_from-by sh p [] h k b = b
 run_from-by sh p (e ∷ es) h k b =
     go (step sh p h.world e) (step-kept sh p h.world e k) (step-by sh p h.world e k) (λ g q r. run_from-by sh p es g q r)

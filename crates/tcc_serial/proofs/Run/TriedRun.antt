@@ -7,14 +7,14 @@ use Rattle.tcc_serial.proofs.Names.{◌==◌, false, true, List, None}
 use Rattle.tcc_rules.proofs.Lemmas.{computed}
 use Rattle.tcc_program.specs.Registers.{zeroed, register, written}
 use Rattle.tcc_rules.specs.Rows.{padded, both_words, both_code}
-use Rattle.tcc_rules.specs.Small.{at_pc, address, call_need, small, entry}
+use Rattle.tcc_rules.specs.Small.{at_pc, address, call_need, small, image_entry}
 use Rattle.tcc_serial.specs.Tried.{tag_test, after_test, loading_test, above_test, owned_test, sharer_test, line_test, home_test, copy_test}
 use Rattle.tcc_serial.specs.Tried.{frame_test, word_test, tests, along, tried, tried_ram, tried_end, with_word, TriedFill, TriedRead}
 use Rattle.tcc_serial.specs.Tried.{TriedOwner, TriedAlone, TriedFails}
 
 -- all that the runs compute with, and what is counted at their ends
 unfoldable run_computed : Type 0
-unfolding computed zeroed register written padded both_words both_code at_pc address call_need small entry pair passes live
+unfolding computed zeroed register written padded both_words both_code at_pc address call_need small image_entry pair passes live
     stores_word names_line stores_in stored_mask stores_at wrote wrote_line wrote_mask last_of is_settled is_applied
     settled_in_line stored_there copies_with keeps_unmodified holds_line after_stores counts after_commits value_at
     word_copies tried_end

@@ -1,6 +1,7 @@
 -- What a core sends a Commit of is what it notes the commit of.
 use Rattle.tcc_serial.proofs.Names.{ℕ, ◌≡◌, ◌≤◌, List, ◌==◌, IfSome, arith, refl, nat_tests, Program, num, Dir, Msg, Shape, Cache}
-use Rattle.tcc_serial.proofs.Names.{Spilled, CoreState, Out, commit, commit_sends, noted, solo_sends, solo_marks, solo_backs, core_exec}
+use Rattle.tcc_serial.proofs.Names.{Spilled, CoreState, Out, commit, commit_sends, noted, solo_sends, solo_marks_or_skip, solo_write_backs}
+use Rattle.tcc_serial.proofs.Names.{core_exec}
 use Rattle.tcc_serial.proofs.Names.{core_evict, grant, from_dir, Commits, AnyCommit, among, passes, solo_commit}
 use Rattle.tcc_serial.proofs.Serving.CoreCommits.{heard-free, granted-free}
 use Rattle.tcc_serial.proofs.Counts.Links.{among-append, among-fewer, among-flat_map_none}
@@ -27,7 +28,7 @@ unfolding commit_sends among passes
 of-commit sh c u d t = grind (arith, nat_tests)
 
 of-solo : (sh : Shape) (c : Cache) (sp : Spilled) (u d t : ℕ) → among (Commits t) (solo_sends sh c sp u (Dir d)) ≤ num (u == t)
-unfolding solo_sends solo_marks solo_backs among passes
+unfolding solo_sends solo_marks_or_skip solo_write_backs among passes
 of-solo sh c sp u d t = grind (arith, nat_tests, among-flat_map_none, among-append)
 
 pub noted-exec : (sh : Shape) (p : Program) (c : ℕ) (s : CoreState) → IfSome (core_exec sh p c s) (λ o. CommitsNoted o)

@@ -3,11 +3,13 @@ use Rattle.tcc_serial.proofs.Names.{ℕ, ◌≡◌, ◌<◌, ◌≤◌, List, []
 use Rattle.tcc_serial.proofs.Names.{inl, inr, cases_order, nat_tests, Program, Local, num, Core, Dir, Event, Msg, Shape, DirState, World}
 use Rattle.tcc_serial.proofs.Names.{Link, start, in_flight, Sends, Out, core_exec, core_evict, from_dir, grant, Answer, Waits, Drops, Asks}
 use Rattle.tcc_serial.proofs.Names.{Takes, dir_deliver, core_moves, core_takes, dir_takes, Stepped, step, History, and_noted, recorded}
-use Rattle.tcc_serial.proofs.Names.{next, and_then, run_from, run, Resolves, Commits, CommitsAbove, live, passes, Pair, pair, after_move}
+use Rattle.tcc_serial.proofs.Names.{next_history, and_then, run_from, run, Resolves, Commits, CommitsAbove, live, passes, Pair, pair}
+use Rattle.tcc_serial.proofs.Names.{after_move}
 use Rattle.tcc_serial.proofs.Names.{grant_taken, back_taken, after_answer, out_taken, share, part, handled, Kept, Always, CommittingOf}
 use Rattle.tcc_serial.proofs.Names.{KeptCommitting, CommitsAreServed, true, ◌++◌, Contains, sym, ap, ◌∙◌, cases_lt, append-nil}
 use Rattle.tcc_serial.proofs.Names.{Contains-append_left, Contains-append_cases, Noted, CoreState, Phase, Running, AwaitTid, DoomedTid}
-use Rattle.tcc_serial.proofs.Names.{Probing, Ready, Overflowing, Solo, Halted, sent_all, grant_phase, dir_asks, vendor_gives, Invs, InvsNot}
+use Rattle.tcc_serial.proofs.Names.{Probing, Ready, Overflowing, Solo, Halted, sent_all, grant_in_phase, dir_asks, vendor_gives, Invs}
+use Rattle.tcc_serial.proofs.Names.{InvsNot}
 use Rattle.tcc_serial.proofs.Names.{Acks, among, due, KeptTold, Grant, granted_by, IsNumbered, holder, KeptOwners, SparedOf}
 use Rattle.tcc_serial.proofs.Names.{SparesCommitter, cases_eq}
 use Rattle.tcc_serial.proofs.Counts.Links.{live-sends, live-takes, total-le, live-fewer}
@@ -67,7 +69,7 @@ unfolding start pair live
 start-committing entries ram c d = refl
 
 run_from-committing : (sh : Shape) (p : Program) (es : List Event) (h : History) → Kept sh h.world → KeptCommitting h.world → IfSome (run_from sh p es h) (λ r. Kept sh r.world × KeptCommitting r.world)
-unfolding run_from next
+unfolding run_from next_history
 run_from-committing sh p [] h z k = (z, k)
 run_from-committing sh p (e ∷ es) h z k = go (step sh p h.world e) (step-kept sh p h.world e z) (step-committing sh p h.world e z k) (λ g a b. run_from-committing sh p es g a b)
   where
@@ -211,7 +213,7 @@ no-commit : (sh : Shape) (u t : ℕ) (s : CoreState) → 1 ≤ noted_tid t (gran
 unfolding grant
 no-commit sh u t s = go s.phase
   where
-    go : (q : Phase) → 1 ≤ noted_tid t (grant_phase sh u s q).commit → ⊥
+    go : (q : Phase) → 1 ≤ noted_tid t (grant_in_phase sh u s q).commit → ⊥
     go AwaitTid l = omega arith
     go DoomedTid l = omega arith
     go (Overflowing None) l = omega arith

@@ -4,8 +4,8 @@ use Rattle.tcc_serial.proofs.Names.{cond, if◌then◌else◌, flat_map, arith, 
 use Rattle.tcc_serial.proofs.Names.{count_below, Dir, Msg, Fill, Skip, ProbeReply, Mark, Commit, WriteBack, DataReq, Inv, InvAck, Shape}
 use Rattle.tcc_serial.proofs.Names.{home, lines, Cache, is_modified, modified_mask, written_lines, Spilled, holds, spilled_mask}
 use Rattle.tcc_serial.proofs.Names.{spilled_words, CoreState, Phase, AwaitTid, DoomedTid, Overflowing, Sends, to, marks_for, skip_all}
-use Rattle.tcc_serial.proofs.Names.{probe_all, abort_written, Out, commit, commit_sends, solo_sends, solo_marks, solo_backs}
-use Rattle.tcc_serial.proofs.Names.{solo_writes_at, is_written, written_mask, core_exec, core_evict, grant, grant_phase, grant_sends}
+use Rattle.tcc_serial.proofs.Names.{probe_all, abort_written, Out, commit, commit_sends, solo_sends, solo_marks_or_skip, solo_write_backs}
+use Rattle.tcc_serial.proofs.Names.{solo_writes_at, is_written, written_mask, core_exec, core_evict, grant, grant_in_phase, grant_sends}
 use Rattle.tcc_serial.proofs.Names.{from_dir, probe_reply, ignored, fill, data_request, invalidate, Kind, Acks, MarksAway, AnyResolve}
 use Rattle.tcc_serial.proofs.Names.{Protocol, among, passes, solo_commit}
 use Rattle.tcc_serial.proofs.Counts.Links.{among-append, among-flat_map_none}
@@ -73,8 +73,8 @@ clean-marks_for : (sh : Shape) (c : Cache) (t d : ℕ) → Clean sh d (marks_for
 unfolding marks_for written_lines
 clean-marks_for sh c t d = clean-marks sh d t (modified_mask c) (λ l. d == home sh l && is_modified c l) (lines sh) (λ l q. at-home d (home sh l) (is_modified c l) q)
 
-clean-backs : (sh : Shape) (sp : Spilled) (t d : ℕ) → Clean sh d (solo_backs sh sp t d)
-unfolding solo_backs among passes
+clean-backs : (sh : Shape) (sp : Spilled) (t d : ℕ) → Clean sh d (solo_write_backs sh sp t d)
+unfolding solo_write_backs among passes
 clean-backs sh sp t d = record {
   acks = among-flat_map_none Acks (λ l. WriteBack l (spilled_mask sp l) (spilled_words sp l) t ∷ []) (λ l. refl) (those (λ l. d == home sh l && holds sp l) (lines sh));
   marks = among-flat_map_none (MarksAway sh.dirs d) (λ l. WriteBack l (spilled_mask sp l) (spilled_words sp l) t ∷ []) (λ l. refl) (those (λ l. d == home sh l && holds sp l) (lines sh));
@@ -82,13 +82,13 @@ clean-backs sh sp t d = record {
 }
 
 clean-solo : (sh : Shape) (c : Cache) (sp : Spilled) (t d : ℕ) → Clean sh d (solo_sends sh c sp t (Dir d))
-unfolding solo_sends solo_marks among passes
+unfolding solo_sends solo_marks_or_skip among passes
 clean-solo sh c sp t d = go (nat_lt d sh.dirs) refl (solo_writes_at sh c sp d)
   where
-    go : (a : Bool) → nat_lt d sh.dirs ≡ a → (b : Bool) → Clean sh d (if a then (if b then flat_map (λ l. Mark l (written_mask c sp l) t ∷ []) (those (λ l. d == home sh l && is_written c sp l) (lines sh)) ++ Commit t (count_below (λ l. d == home sh l && is_written c sp l) (lines sh)) ∷ [] else Skip t ∷ []) ++ solo_backs sh sp t d else [])
+    go : (a : Bool) → nat_lt d sh.dirs ≡ a → (b : Bool) → Clean sh d (if a then (if b then flat_map (λ l. Mark l (written_mask c sp l) t ∷ []) (those (λ l. d == home sh l && is_written c sp l) (lines sh)) ++ Commit t (count_below (λ l. d == home sh l && is_written c sp l) (lines sh)) ∷ [] else Skip t ∷ []) ++ solo_write_backs sh sp t d else [])
     go false q b = record { acks = refl; marks = refl; far = λ x. refl }
-    go true q false = clean-append sh d (Skip t ∷ []) (solo_backs sh sp t d) (record { acks = refl; marks = refl; far = λ x. absurd (grind (arith, nat_tests)) }) (clean-backs sh sp t d)
-    go true q true = clean-append sh d _ (solo_backs sh sp t d) (clean-append sh d _ (Commit t (count_below (λ l. d == home sh l && is_written c sp l) (lines sh)) ∷ []) (clean-marks sh d t (written_mask c sp) (λ l. d == home sh l && is_written c sp l) (lines sh) (λ l q. at-home d (home sh l) (is_written c sp l) q)) (record { acks = refl; marks = refl; far = λ x. absurd (grind (arith, nat_tests)) })) (clean-backs sh sp t d)
+    go true q false = clean-append sh d (Skip t ∷ []) (solo_write_backs sh sp t d) (record { acks = refl; marks = refl; far = λ x. absurd (grind (arith, nat_tests)) }) (clean-backs sh sp t d)
+    go true q true = clean-append sh d _ (solo_write_backs sh sp t d) (clean-append sh d _ (Commit t (count_below (λ l. d == home sh l && is_written c sp l) (lines sh)) ∷ []) (clean-marks sh d t (written_mask c sp) (λ l. d == home sh l && is_written c sp l) (lines sh) (λ l q. at-home d (home sh l) (is_written c sp l) q)) (record { acks = refl; marks = refl; far = λ x. absurd (grind (arith, nat_tests)) })) (clean-backs sh sp t d)
 
 clean-commit : (sh : Shape) (c : Cache) (t d : ℕ) → Clean sh d (commit_sends sh c t (Dir d))
 unfolding commit_sends among passes
@@ -138,7 +138,7 @@ clean-grant sh u s = go s.phase
     still : CleanOut sh (ignored s)
     still = clean-steady sh s (ignored s) (ignored-steady s)
 
-    go : (q : Phase) → CleanOut sh (grant_phase sh u s q)
+    go : (q : Phase) → CleanOut sh (grant_in_phase sh u s q)
     go AwaitTid = clean-grants sh s.cache u
     go DoomedTid = clean-skip sh u
     go (Overflowing None) = clean-probe sh u

@@ -2,8 +2,9 @@
 use Rattle.tcc_serial.proofs.Names.{ℕ, zero, suc, ◌+◌, ◌-◌, ◌≡◌, ◌≤◌, ◌%◌, Bool, true, false, not, List, [], ◌∷◌, ◌==◌, cond}
 use Rattle.tcc_serial.proofs.Names.{if◌then◌else◌, flat_map, arith, refl, ◌⊎◌, inl, inr, nat_tests, flat_map-append, num, count_below}
 use Rattle.tcc_serial.proofs.Names.{those, Lines, has_mark, advance, kept, Core, Msg, Fill, Skip, ProbeReply, Commit, Abort, DataReq, Inv}
-use Rattle.tcc_serial.proofs.Names.{Shape, home, lines, DirState, Sends, nothing, total, Answer, Waits, Drops, Asks, Takes, dir_deliver}
-use Rattle.tcc_serial.proofs.Names.{owed_by, invalidations, invs_to, is_invalidated, line_words, Invs, InvsNot, InvsAway, Acks, MarksAway}
+use Rattle.tcc_serial.proofs.Names.{Shape, home, lines, DirState, Sends, nothing, sum_below, Answer, Waits, Drops, Asks, Takes, dir_deliver}
+use Rattle.tcc_serial.proofs.Names.{invalidation_count, invalidations, invs_to, is_invalidated, home_words, Invs, InvsNot, InvsAway, Acks}
+use Rattle.tcc_serial.proofs.Names.{MarksAway}
 use Rattle.tcc_serial.proofs.Names.{Resolves, among, passes}
 use Rattle.tcc_serial.proofs.Counts.DirOutcome.{Outcome, Waiting, Spent, AsksOwner, TakesSkip, TakesAbort, TakesProbe, TakesLoad, TakesMark}
 use Rattle.tcc_serial.proofs.Counts.DirOutcome.{TakesCommit, TakesAck, TakesCopy, IsSpent, NoneOwed, CopyPassed, outcome, among-none}
@@ -15,7 +16,7 @@ use Rattle.tcc_serial.proofs.Tids.DirTids.{OnceAt, unserved}
 
 -- the invalidations in what is sent to all cores
 abbrev pub invs_sent : Shape → Sends → ℕ
-invs_sent sh sends = total (λ j. among Invs (sends (Core j))) sh.cores
+invs_sent sh sends = sum_below (λ j. among Invs (sends (Core j))) sh.cores
 
 abbrev pub MarkedHome : Shape → (dir : ℕ) → DirState → Type 0
 MarkedHome sh d s = (l : ℕ) → has_mark s.lines l ≡ true → home sh l ≡ d
@@ -73,8 +74,8 @@ invs-those f t p (suc n) = rw flat_map-append (rw among-append (omega (arith, in
     last : (b : Bool) → among Invs (flat_map (λ l. Inv l (f l) t ∷ []) (cond b (n ∷ []) [])) ≡ num b
     last a = grind (arith, nat_tests)
 
-invs-invalidations : (sh : Shape) (ls : Lines) (c t : ℕ) → invs_sent sh (invalidations sh ls c t) ≡ owed_by sh ls c
-unfolding invalidations invs_to owed_by
+invs-invalidations : (sh : Shape) (ls : Lines) (c t : ℕ) → invs_sent sh (invalidations sh ls c t) ≡ invalidation_count sh ls c
+unfolding invalidations invs_to invalidation_count
 invs-invalidations sh ls c t = total-same (λ j. among Invs (flat_map (λ l. Inv l (ls.mark l) t ∷ []) (those (is_invalidated sh ls c j) (lines sh)))) (λ j. count_below (is_invalidated sh ls c j) (lines sh)) sh.cores (λ j l. invs-those ls.mark t (is_invalidated sh ls c j) (lines sh))
 
 is_invalidated-marked : (sh : Shape) (ls : Lines) (c j l : ℕ) → is_invalidated sh ls c j l ≡ true → has_mark ls l ≡ true
@@ -121,11 +122,11 @@ dir-due sh d s c m h k = go (outcome sh s c m) h
     go (TakesSkip u b e i) h a o = quiet-due sh d s _ nothing refl (given (Skip u) u b e (same u) h) none-quiet k
     go (TakesAbort u b e i) h a o = quiet-due sh d s _ nothing refl (given (Abort u) u b e (same u) h) none-quiet (λ x q. grind (arith, nat_tests, k x))
     go (TakesProbe u i) h a o = quiet-due sh d s s _ refl (inl refl) (λ j. none-to Invs c j (ProbeReply u s.serving.serving) refl) k
-    go (TakesLoad l x i e n) h a o = quiet-due sh d s _ _ refl (inl refl) (λ j. none-to Invs c j (Fill l (line_words s l)) refl) k
+    go (TakesLoad l x i e n) h a o = quiet-due sh d s _ _ refl (inl refl) (λ j. none-to Invs c j (Fill l (home_words s l)) refl) k
     go (TakesMark l n i) h a o = quiet-due sh d s _ nothing refl (inl refl) none-quiet (λ x q. grind (arith, nat_tests, k x, at-home (l % sh.dirs) d a))
     go (TakesCommit b e) h a o = let z : s.owed ≡ 0 = unserved s (Commit s.serving.serving (count_below (has_mark s.lines) (lines sh))) h (same s.serving.serving) in record {
       owed = omega (arith, z, invs-invalidations sh s.lines c s.serving.serving);
-      served = settled b (owed_by sh s.lines c) (invalidations sh s.lines c s.serving.serving) e (λ j. nots-sent sh s.lines c s.serving.serving j);
+      served = settled b (invalidation_count sh s.lines c) (invalidations sh s.lines c s.serving.serving) e (λ j. nots-sent sh s.lines c s.serving.serving j);
       invs = λ j. aways-sent sh d s.lines c s.serving.serving j k;
       marked = λ x q. grind (arith, nat_tests, k x);
     }

@@ -1,7 +1,7 @@
 -- A directory sends invalidations only where it takes the Commit of the served TID, and none to the core that commits.
 use Rattle.tcc_serial.proofs.Names.{ℕ, ◌≡◌, Bool, true, false, not, ◌==◌, ◌&&◌, nat_lt, arith, refl, ◌⊎◌, inl, inr, nat_tests, Lines}
 use Rattle.tcc_serial.proofs.Names.{has_mark, Core, Msg, Fill, ProbeReply, DataReq, Shape, lines, DirState, Sends, Answer, Asks, Takes}
-use Rattle.tcc_serial.proofs.Names.{dir_deliver, invalidations, invs_to, is_invalidated, line_words, Invs, Commits, among, passes}
+use Rattle.tcc_serial.proofs.Names.{dir_deliver, invalidations, invs_to, is_invalidated, home_words, Invs, Commits, among, passes}
 use Rattle.tcc_serial.proofs.Counts.DirOutcome.{Outcome, Waiting, Spent, AsksOwner, TakesProbe, TakesLoad, TakesCommit, outcome, among-none}
 use Rattle.tcc_serial.proofs.Counts.DirOutcome.{none-to}
 use Rattle.tcc_serial.proofs.Counts.Links.{those-none}
@@ -38,6 +38,6 @@ dir-spares sh s c m = go (outcome sh s c m)
     go (Spent q h) = tt
     go (AsksOwner q l o w e) = λ j. none-to Invs o j (DataReq l) refl
     go (TakesProbe t h) = inl (λ j. none-to Invs c j (ProbeReply t s.serving.serving) refl)
-    go (TakesLoad l k h e o) = inl (λ j. none-to Invs c j (Fill l (line_words s l)) refl)
+    go (TakesLoad l k h e o) = inl (λ j. none-to Invs c j (Fill l (home_words s l)) refl)
     go (TakesCommit b e) = inr (spares-invalidations sh s.lines c s.serving.serving, same s.serving.serving)
     go _ = inl (λ j. among-none Invs)

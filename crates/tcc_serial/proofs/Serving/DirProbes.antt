@@ -1,7 +1,7 @@
 -- The served TID only rises, and a directory replies to a probe once it has reached its TID.
 use Rattle.tcc_serial.proofs.Names.{ℕ, ◌≡◌, ◌≤◌, Bool, [], if◌then◌else◌, arith, refl, nat_tests, num, advance, kept}
 use Rattle.tcc_serial.proofs.Names.{advance-rises, Core, Msg, Fill, ProbeReply, DataReq, Shape, DirState, Link, Sends, nothing, Answer}
-use Rattle.tcc_serial.proofs.Names.{Asks, Takes, dir_deliver, line_words, RepliesAbove, among, live, passes, Serving}
+use Rattle.tcc_serial.proofs.Names.{Asks, Takes, dir_deliver, home_words, RepliesAbove, among, live, passes, Serving}
 use Rattle.tcc_serial.proofs.Counts.DirOutcome.{Outcome, AsksOwner, TakesSkip, TakesAbort, TakesProbe, TakesLoad, TakesMark, TakesCommit}
 use Rattle.tcc_serial.proofs.Counts.DirOutcome.{TakesAck, TakesCopy, outcome, among-none, none-to, none-invalidations}
 use Rattle.tcc_serial.proofs.Counts.Links.{live-fewer}
@@ -36,7 +36,7 @@ dir-rises sh s c m = go (outcome sh s c m)
     go (TakesSkip t b e h) = quietly _ (next-rises b s.serving (kept t s.serving) (omega arith))
     go (TakesAbort t b e h) = quietly _ (next-rises b s.serving (kept t s.serving) (omega arith))
     go (TakesProbe t h) = record { rises = omega arith; replies = λ j. none-to (RepliesAbove s.serving.serving) c j (ProbeReply t s.serving.serving) (grind (arith, nat_tests)) }
-    go (TakesLoad l k h e o) = record { rises = omega arith; replies = λ j. none-to (RepliesAbove s.serving.serving) c j (Fill l (line_words s l)) refl }
+    go (TakesLoad l k h e o) = record { rises = omega arith; replies = λ j. none-to (RepliesAbove s.serving.serving) c j (Fill l (home_words s l)) refl }
     go (TakesMark l k h) = quietly _ (omega arith)
     go (TakesCommit b e) = record { rises = next-rises b s.serving s.serving (omega arith); replies = λ j. none-invalidations (RepliesAbove (if b then advance s.serving else s.serving).serving) (λ x y z. refl) sh s.lines c s.serving.serving j }
     go (TakesAck l k b h e) = quietly _ (next-rises b s.serving s.serving (omega arith))

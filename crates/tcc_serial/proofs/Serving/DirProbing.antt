@@ -1,6 +1,6 @@
 -- A directory replies to a probe where it takes it, and to nothing else.
 use Rattle.tcc_serial.proofs.Names.{ℕ, ◌≡◌, false, [], refl, num, Core, Msg, LoadReq, Fill, ProbeReply, DataReq, Shape, DirState, Sends}
-use Rattle.tcc_serial.proofs.Names.{nothing, Answer, Waits, Drops, Asks, Takes, dir_deliver, line_words, Probes, Replies, among, passes}
+use Rattle.tcc_serial.proofs.Names.{nothing, Answer, Waits, Drops, Asks, Takes, dir_deliver, home_words, Probes, Replies, among, passes}
 use Rattle.tcc_serial.proofs.Counts.DirOutcome.{Outcome, Waiting, Spent, AsksOwner, TakesProbe, TakesLoad, TakesCommit, TakesCopy, IsSpent}
 use Rattle.tcc_serial.proofs.Counts.DirOutcome.{CopyPassed, outcome, among-to, among-none, none-to, none-invalidations}
 use Rattle.tcc_serial.proofs.Counts.StepCases.{same, differ}
@@ -38,7 +38,7 @@ dir-replies sh s c m = go (outcome sh s c m)
       own = λ t. rw (among-to (Replies t) c c (ProbeReply u s.serving.serving), same c) refl;
       others = λ j t n. rw (among-to (Replies t) c j (ProbeReply u s.serving.serving), differ j c n) refl;
     }
-    go (TakesLoad l k h e o) = quiet (LoadReq l k) _ (λ t. refl) (λ j t. none-to (Replies t) c j (Fill l (line_words s l)) refl)
+    go (TakesLoad l k h e o) = quiet (LoadReq l k) _ (λ t. refl) (λ j t. none-to (Replies t) c j (Fill l (home_words s l)) refl)
     go (TakesCommit b e) = quiet _ _ (λ t. refl) (λ j t. none-invalidations (Replies t) (λ x y z. refl) sh s.lines c s.serving.serving j)
     go (TakesCopy m l k ws g y e o) = quiet m nothing (λ t. y.alike (Probes t)) (λ j t. among-none (Replies t))
     go _ = record { own = λ t. among-none (Replies t); others = λ j t n. among-none (Replies t) }

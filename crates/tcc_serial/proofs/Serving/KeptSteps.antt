@@ -7,7 +7,8 @@ use Rattle.tcc_serial.proofs.Names.{dir_asks, vendor_gives, Invs, InvsNot, InvsA
 use Rattle.tcc_serial.proofs.Names.{Pair, pair, after_move, grant_taken, back_taken, after_answer, out_taken, after_grant}
 use Rattle.tcc_serial.proofs.Names.{after_other_grant, share, KeptTids, due, OwedAt, AtHomeOf, KeptOwed, Running, core_start, RepliesAbove}
 use Rattle.tcc_serial.proofs.Names.{Reached, ReachedOf, KeptProbes, [], ◌∷◌, Program, Serving, Event, core_exec, core_evict, grant, Answer}
-use Rattle.tcc_serial.proofs.Names.{Waits, Drops, Asks, Takes, dir_deliver, Stepped, step, History, and_noted, recorded, next, and_then}
+use Rattle.tcc_serial.proofs.Names.{Waits, Drops, Asks, Takes, dir_deliver, Stepped, step, History, and_noted, recorded, next_history}
+use Rattle.tcc_serial.proofs.Names.{and_then}
 use Rattle.tcc_serial.proofs.Names.{run_from, run, Resolves, handled, KeptTold, Kept}
 use Rattle.tcc_serial.proofs.Counts.Inside.{AnswersInside, dir-inside}
 use Rattle.tcc_serial.proofs.Counts.Links.{live-sends, live-takes, total-le, total-zero, live-fewer, none-taken}
@@ -423,7 +424,7 @@ step-kept sh p w e h = go (step sh p w e) (step-told sh p w e h.told) (step-prob
 
 -- and so does every run
 run_from-kept : (sh : Shape) (p : Program) (es : List Event) (h : History) → Kept sh h.world → IfSome (run_from sh p es h) (λ r. Kept sh r.world)
-unfolding run_from next
+unfolding run_from next_history
 run_from-kept sh p [] h k = k
 run_from-kept sh p (e ∷ es) h k = go (step sh p h.world e) (step-kept sh p h.world e k) (λ g q. run_from-kept sh p es g q)
   where

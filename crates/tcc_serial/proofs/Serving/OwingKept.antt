@@ -3,7 +3,8 @@ use Rattle.tcc_serial.proofs.Names.{ℕ, ◌≡◌, ◌<◌, ◌==◌, ◌&&◌,
 use Rattle.tcc_serial.proofs.Names.{arith, refl, ap₂, nat_tests, Program, Local, Outcome, any_below, Dir, Event, Msg, Fill, ProbeReply}
 use Rattle.tcc_serial.proofs.Names.{DataReq, Inv, Shape, writes_at, reads_at, any_below-at, CoreState, World, Phase, Running, AwaitTid}
 use Rattle.tcc_serial.proofs.Names.{DoomedTid, Probing, Ready, Overflowing, Solo, start, core_start, Out, commit, committed_core}
-use Rattle.tcc_serial.proofs.Names.{phase_after, core_exec, core_evict, from_dir, grant, grant_phase, is_probed, probing, all_replied, fill}
+use Rattle.tcc_serial.proofs.Names.{phase_after_commit, core_exec, core_evict, from_dir, grant, grant_in_phase, is_probed, probing_or_ready}
+use Rattle.tcc_serial.proofs.Names.{all_replied, fill}
 use Rattle.tcc_serial.proofs.Names.{data_request, invalidate, probe_reply, Answer, Waits, dir_deliver, core_moves, core_takes, dir_takes}
 use Rattle.tcc_serial.proofs.Names.{dir_asks, vendor_gives, step, OwingFits, awaits_replies, asks_dir, solo_commit}
 use Rattle.tcc_maps.specs.Words.{put}
@@ -49,7 +50,7 @@ same-owing sh s r e f g h = record {
 steady-owing : (sh : Shape) (s : CoreState) (o : Out) → Steady s o → OwingFits sh s → OwingFits sh o.core
 steady-owing sh s o y h = same-owing sh s o.core y.phase y.owing (λ a d. ap₂ (λ x z. x || z) (writes_at-same sh o.core.cache s.cache d (y.modified (not-acts s.phase a))) (reads_at-same sh o.core.cache s.cache d (y.read (not-acts s.phase a)))) h
 
-after-none : (e : Outcome) → awaits_replies (phase_after e) ≡ false
+after-none : (e : Outcome) → awaits_replies (phase_after_commit e) ≡ false
 after-none a = grind (arith, nat_tests)
 
 owing-exec : (sh : Shape) (p : Program) (c : ℕ) (s : CoreState) → OwingFits sh s → IfSome (core_exec sh p c s) (λ o. OwingFits sh o.core)
@@ -57,10 +58,11 @@ unfolding commit solo_commit committed_core
 owing-exec sh p c s h = each-exec sh p c s (λ o. OwingFits sh o.core) go
   where
     go : (x : Did sh p c s) → OwingFits sh (out x).core
-    go (Commits_now t e) = still-none sh s (commit sh c t s).core (Ready t) (phase_after s.ended) e refl refl (after-none s.ended) refl h
+    go (Commits_now t e) =
+        still-none sh s (commit sh c t s).core (Ready t) (phase_after_commit s.ended) e refl refl (after-none s.ended) refl h
     go (Room_wanted r i) = still-none sh s _ Running (Overflowing None) r refl refl refl refl h
     go (Ends_run l e f r i) = still-none sh s _ Running AwaitTid r refl refl refl refl h
-    go (Ends_alone t l e f r i) = still-none sh s _ (Solo t) (phase_after e) r refl refl (after-none e) refl h
+    go (Ends_alone t l e f r i) = still-none sh s _ (Solo t) (phase_after_commit e) r refl refl (after-none e) refl h
     go x = steady-owing sh s (out x) (did-steady x) h
 
 owing-evict : (sh : Shape) (x y : ℕ) (s : CoreState) → OwingFits sh s → IfSome (core_evict sh x y s) (λ o. OwingFits sh o.core)
@@ -77,7 +79,7 @@ owing-grant sh t s h = go s.phase refl
     asks : (d : ℕ) → is_probed sh s.cache d ≡ true → (d < sh.dirs) × ((writes_at sh s.cache d || reads_at sh s.cache d) ≡ true)
     asks d o = let y = both (nat_lt d sh.dirs) (writes_at sh s.cache d || reads_at sh s.cache d) o in let z = y.0 in (grind (arith, nat_tests), y.1)
 
-    probed : (b : Bool) → any_below (is_probed sh s.cache) sh.dirs ≡ b → OwingFits sh (record s { owing = is_probed sh s.cache; phase = probing b t })
+    probed : (b : Bool) → any_below (is_probed sh s.cache) sh.dirs ≡ b → OwingFits sh (record s { owing = is_probed sh s.cache; phase = probing_or_ready b t })
     probed true q = record { asked = λ d o. asks d o; waits = λ d o. refl; some = λ a l. q }
     probed false q = record {
       asked = λ d o. absurd (let y = none-below (is_probed sh s.cache) sh.dirs d ((asks d o).0) q in cc);
@@ -92,7 +94,7 @@ owing-grant sh t s h = go s.phase refl
       some = λ a l. any_below-at (λ d. nat_lt d sh.dirs) sh.dirs 0 l (grind (arith, nat_tests));
     }
 
-    go : (q : Phase) → s.phase ≡ q → OwingFits sh (grant_phase sh t s q).core
+    go : (q : Phase) → s.phase ≡ q → OwingFits sh (grant_in_phase sh t s q).core
     go AwaitTid e = probed (any_below (is_probed sh s.cache) sh.dirs) refl
     go DoomedTid e = still-none sh s (record s { phase = Running }) DoomedTid Running e refl refl refl refl h
     go (Overflowing None) e = every

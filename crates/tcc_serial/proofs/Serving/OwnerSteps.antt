@@ -5,7 +5,8 @@ use Rattle.tcc_serial.proofs.Names.{nat_tests, append-nil, length-append, Contai
 use Rattle.tcc_serial.proofs.Names.{Local, num, Core, Dir, Vendor, TidReq, TidGrant, Event, Shape, DirState, World, start, core_start}
 use Rattle.tcc_serial.proofs.Names.{vendor_start, in_flight, Sends, Out, core_exec, core_evict, from_dir, grant, Answer, Waits, Drops, Asks}
 use Rattle.tcc_serial.proofs.Names.{Takes, dir_deliver, core_moves, core_takes, dir_takes, dir_asks, vendor_gives, Stepped, step, History}
-use Rattle.tcc_serial.proofs.Names.{and_noted, recorded, next, and_then, run_from, run, Grants, live, among, passes, Pair, pair, after_move}
+use Rattle.tcc_serial.proofs.Names.{and_noted, recorded, next_history, and_then, run_from, run, Grants, live, among, passes, Pair, pair}
+use Rattle.tcc_serial.proofs.Names.{after_move}
 use Rattle.tcc_serial.proofs.Names.{grant_taken, after_grant, after_other_grant, share, sum_of, has_tid, KeptTids, Grant, granted_by}
 use Rattle.tcc_serial.proofs.Names.{then_grants, grants_from, IsNumbered, IsRising, AreGranted, times, holder, KeptOwners, Kept, Bool, true}
 use Rattle.tcc_serial.proofs.Names.{Contains-append_cases, Msg, Link, Phase, AsksTid, AnyGrant, waits_for_tid, RequestOf, LastGranted}
@@ -186,7 +187,7 @@ step-owners sh p gs w cs e z h = step_cases sh p w e (λ g o. KeptOwners sh (gs 
 
 -- and so does every run
 run_from-owners : (sh : Shape) (p : Program) (es : List Event) (gs : List Grant) (h : History) → Kept sh h.world → KeptOwners sh gs h.world h.commits → IfSome (run_from sh p es h) (λ r. KeptOwners sh (gs ++ grants_from sh p es h) r.world r.commits)
-unfolding run_from grants_from next
+unfolding run_from grants_from next_history
 run_from-owners sh p [] gs h k o = rw append-nil o
 run_from-owners sh p (e ∷ es) gs h k o = go (step sh p h.world e) (step-kept sh p h.world e k) (step-owners sh p gs h.world h.commits e (k.told.tids) o) (λ g q x. run_from-owners sh p es (gs ++ granted_by h.world e) g q x)
   where

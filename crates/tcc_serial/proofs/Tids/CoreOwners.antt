@@ -1,7 +1,8 @@
 -- A core has no TID but one that it was granted, and what it commits is the TID that it had.
 use Rattle.tcc_serial.proofs.Names.{ℕ, ◌+◌, ◌≡◌, ◌≤◌, true, ◌==◌, Option, Some, None, IfSome, arith, refl, nat_tests, Noted, Program, num}
 use Rattle.tcc_serial.proofs.Names.{any_below, Msg, Shape, CoreState, Phase, AwaitTid, DoomedTid, Overflowing, Out, commit, committed_core}
-use Rattle.tcc_serial.proofs.Names.{noted, phase_after, core_exec, core_evict, grant, grant_phase, from_dir, is_probed, ignored, has_tid}
+use Rattle.tcc_serial.proofs.Names.{noted, phase_after_commit, core_exec, core_evict, grant, grant_in_phase, from_dir, is_probed, ignored}
+use Rattle.tcc_serial.proofs.Names.{has_tid}
 use Rattle.tcc_serial.proofs.Names.{solo_commit}
 use Rattle.tcc_serial.proofs.Tids.CoreProbing.{tid-after, tid-probing}
 use Rattle.tcc_serial.proofs.OneCore.Outcomes.{Commits_now, Did, each-exec, out, each-evict, Ends_alone, Heard, Last_probing, Last_room}
@@ -20,7 +21,7 @@ pub record KeepsHolder (c : ℕ) (got : ℕ → ℕ) (s : CoreState) (o : Out) :
 abbrev pub none : ℕ → ℕ
 none t = 0
 
-holder-noted : (c u : ℕ) (s r : CoreState) (o : Out) → has_tid s.phase u ≡ true → ((t : ℕ) → has_tid s.phase t ≡ (u == t)) → o.core.phase ≡ phase_after r.ended → o.commit ≡ Some (noted u c r) → KeepsHolder c none s o
+holder-noted : (c u : ℕ) (s r : CoreState) (o : Out) → has_tid s.phase u ≡ true → ((t : ℕ) → has_tid s.phase t ≡ (u == t)) → o.core.phase ≡ phase_after_commit r.ended → o.commit ≡ Some (noted u c r) → KeepsHolder c none s o
 unfolding noted
 holder-noted c u s r o h k e n = record { holds = λ t. rw (e, n, tid-after r.ended t, k t) (omega arith); own = rw n refl }
 
@@ -43,7 +44,7 @@ holder-grant sh u c s = go s.phase
     still : KeepsHolder c (λ t. num (u == t)) s (ignored s)
     still = record { holds = λ t. omega arith; own = tt }
 
-    go : (q : Phase) → KeepsHolder c (λ t. num (u == t)) s (grant_phase sh u s q)
+    go : (q : Phase) → KeepsHolder c (λ t. num (u == t)) s (grant_in_phase sh u s q)
     go AwaitTid = record { holds = λ t. rw (tid-probing (any_below (is_probed sh s.cache) sh.dirs) u t) (omega arith); own = tt }
     go DoomedTid = record { holds = λ t. omega arith; own = tt }
     go (Overflowing None) = record { holds = λ t. omega arith; own = tt }

@@ -2,8 +2,9 @@
 use Rattle.tcc_serial.proofs.Names.{ℕ, ◌≡◌, ◌≤◌, Bool, true, false, List, [], ◌∷◌, ◌==◌, ◌&&◌, Some, None, IfSome, nat_lt, arith, refl, sym}
 use Rattle.tcc_serial.proofs.Names.{ap, ◌∙◌, nat_tests, Program, Outcome, num, any_below, Dir, Msg, Mark, InvAck, Shape, home, Cache}
 use Rattle.tcc_serial.proofs.Names.{modified_mask, written_lines, CoreState, Phase, Running, AwaitTid, DoomedTid, Overflowing, to}
-use Rattle.tcc_serial.proofs.Names.{marks_for, probe_all, Out, commit, committed_core, phase_after, core_exec, core_evict, grant}
-use Rattle.tcc_serial.proofs.Names.{grant_phase, grant_sends, is_probed, probing, Probes, Protocol, among, passes, has_tid, waits_for_tid}
+use Rattle.tcc_serial.proofs.Names.{marks_for, probe_all, Out, commit, committed_core, phase_after_commit, core_exec, core_evict, grant}
+use Rattle.tcc_serial.proofs.Names.{grant_in_phase, grant_sends, is_probed, probing_or_ready, Probes, Protocol, among, passes, has_tid}
+use Rattle.tcc_serial.proofs.Names.{waits_for_tid}
 use Rattle.tcc_serial.proofs.Names.{moves, solo_commit}
 use Rattle.tcc_serial.proofs.Counts.Links.{among-append, among-fewer, among-flat_map_none}
 use Rattle.tcc_serial.proofs.OneCore.Executes.{Steady}
@@ -42,7 +43,7 @@ pub none-to : (t h d : ℕ) (ms : List Msg) → among (Probes t) ms ≡ 0 → am
 unfolding among
 none-to t h d ms e = grind (arith, nat_tests)
 
-pub tid-after : (e : Outcome) (t : ℕ) → has_tid (phase_after e) t ≡ false
+pub tid-after : (e : Outcome) (t : ℕ) → has_tid (phase_after_commit e) t ≡ false
 unfolding has_tid
 tid-after a t = grind (arith, nat_tests)
 
@@ -53,8 +54,8 @@ unprobed-exec sh p c s = each-exec sh p c s (λ o. Unprobed s o) go
     go : (x : Did sh p c s) → Unprobed s (out x)
     go (Room_wanted r i) = unprobed-none s (moves (record s { phase = Overflowing None }) (say sh s Wants)) (Overflowing None) refl (λ t. refl) (λ d t. quiet sh s (Probes t) Wants (λ y. refl) d)
     go (Ends_run l e f r i) = unprobed-none s (moves (record (after_end s l e) { phase = AwaitTid }) (say sh s Wants)) AwaitTid refl (λ t. refl) (λ d t. quiet sh s (Probes t) Wants (λ y. refl) d)
-    go (Ends_alone u l e f r i) = unprobed-none s (solo_commit sh c u (after_end s l e)) (phase_after e) refl (tid-after e) (λ d t. quiet sh s (Probes t) (Tells_alone u) (λ y. refl) d)
-    go (Commits_now u e) = unprobed-none s (commit sh c u s) (phase_after s.ended) refl (tid-after s.ended) (λ d t. quiet sh s (Probes t) (Tells_commit u) (λ y. refl) d)
+    go (Ends_alone u l e f r i) = unprobed-none s (solo_commit sh c u (after_end s l e)) (phase_after_commit e) refl (tid-after e) (λ d t. quiet sh s (Probes t) (Tells_alone u) (λ y. refl) d)
+    go (Commits_now u e) = unprobed-none s (commit sh c u s) (phase_after_commit s.ended) refl (tid-after s.ended) (λ d t. quiet sh s (Probes t) (Tells_commit u) (λ y. refl) d)
     go x = record { sent = λ d t. quiet sh s (Probes t) (said x) (λ y. refl) d; kept = λ d t h. (h, refl) }
 
 pub unprobed-evict : (sh : Shape) (x y : ℕ) (s : CoreState) → IfSome (core_evict sh x y s) (λ o. Unprobed s o)
@@ -87,7 +88,7 @@ probes-all : (sh : Shape) (u d t : ℕ) → among (Probes t) (probe_all sh u (Di
 unfolding probe_all among passes
 probes-all sh u d t = grind (arith, nat_tests)
 
-pub tid-probing : (b : Bool) (u t : ℕ) → has_tid (probing b u) t ≡ (u == t)
+pub tid-probing : (b : Bool) (u t : ℕ) → has_tid (probing_or_ready b u) t ≡ (u == t)
 unfolding has_tid
 tid-probing a u t = grind (arith, nat_tests)
 
@@ -101,7 +102,7 @@ granted sh u s w = go s.phase refl w
     same : (t : ℕ) → (u == t) ≡ true → u ≡ t
     same t e = grind (arith, nat_tests)
 
-    go : (q : Phase) → s.phase ≡ q → waits_for_tid q ≡ true → Granted u (grant_phase sh u s q)
+    go : (q : Phase) → s.phase ≡ q → waits_for_tid q ≡ true → Granted u (grant_in_phase sh u s q)
     go AwaitTid e h = record {
       sent = λ d t n. probes-grant sh s.cache u d t ∙ other t (is_probed sh s.cache d) n;
       kept = λ d t k. let x : (u == t) ≡ true = sym (tid-probing (any_below (is_probed sh s.cache) sh.dirs) u t) ∙ k in (same t x, probes-grant sh s.cache u d t ∙ rw x refl);

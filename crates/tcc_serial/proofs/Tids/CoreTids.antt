@@ -2,8 +2,9 @@
 use Rattle.tcc_serial.proofs.Names.{ℕ, ◌+◌, ◌≡◌, ◌<◌, Bool, true, false, List, [], ◌∷◌, ◌==◌, ◌&&◌, Some, None, IfSome, if◌then◌else◌}
 use Rattle.tcc_serial.proofs.Names.{arith, refl, ◌⊎◌, inl, inr, Program, Outcome, num, any_below, Dir, Msg, Fill, ProbeReply, DataReq, Inv}
 use Rattle.tcc_serial.proofs.Names.{InvAck, Shape, home, writes_at, CoreState, Phase, Running, AwaitTid, DoomedTid, Probing, Ready}
-use Rattle.tcc_serial.proofs.Names.{Overflowing, Solo, Sends, to, marks_for, Out, commit, committed_core, phase_after, core_exec}
-use Rattle.tcc_serial.proofs.Names.{core_evict, grant, grant_phase, from_dir, probing, is_probed, probe_reply, ignored, all_replied, fill}
+use Rattle.tcc_serial.proofs.Names.{Overflowing, Solo, Sends, to, marks_for, Out, commit, committed_core, phase_after_commit, core_exec}
+use Rattle.tcc_serial.proofs.Names.{core_evict, grant, grant_in_phase, from_dir, probing_or_ready, is_probed, probe_reply, ignored}
+use Rattle.tcc_serial.proofs.Names.{all_replied, fill}
 use Rattle.tcc_serial.proofs.Names.{data_request, invalidate, Resolves, among, passes, opens, waits_for_tid, put, nat_tests, solo_commit}
 use Rattle.tcc_serial.proofs.Counts.Links.{among-append, resolves-commit_sends, resolves-abort_written, resolves-skip_all}
 use Rattle.tcc_serial.proofs.Counts.Links.{resolves-probe_all, resolves-grant_sends, resolves-marks_for, resolves-solo_sends, among-quiet}
@@ -27,7 +28,7 @@ acts Running = inr tt
 acts (Solo u) = inr tt
 acts _ = inl (λ h. h)
 
-opens-after : (e : Outcome) (a : Bool) (t : ℕ) → opens (phase_after e) a t ≡ false
+opens-after : (e : Outcome) (a : Bool) (t : ℕ) → opens (phase_after_commit e) a t ≡ false
 unfolding opens
 opens-after b a t = grind (arith, nat_tests)
 
@@ -52,7 +53,7 @@ part-exec sh p c d t s l = each-exec sh p c s (λ o. KeepsPart sh d t 0 s o) go
 pub part-evict : (sh : Shape) (x y d t : ℕ) (s : CoreState) → IfSome (core_evict sh x y s) (λ o. KeepsPart sh d t 0 s o)
 part-evict sh x y d t s = each-evict sh x y s (λ o. KeepsPart sh d t 0 s o) (λ k q u z. part-steady sh d t s (emptied sh x y k s) (steady-emptied sh x y s k q u z))
 
-opens-probing : (b : Bool) (u : ℕ) (w : Bool) (t : ℕ) → opens (probing b u) w t ≡ ((u == t) && w)
+opens-probing : (b : Bool) (u : ℕ) (w : Bool) (t : ℕ) → opens (probing_or_ready b u) w t ≡ ((u == t) && w)
 unfolding opens
 opens-probing a u w t = grind (arith, nat_tests)
 
@@ -60,7 +61,7 @@ pub part-grant : (sh : Shape) (u d t : ℕ) (s : CoreState) → d < sh.dirs → 
 unfolding grant waits_for_tid opens
 part-grant sh u d t s l w = go s.phase refl w
   where
-    go : (q : Phase) → s.phase ≡ q → waits_for_tid q ≡ true → KeepsPart sh d t (num (u == t)) s (grant_phase sh u s q)
+    go : (q : Phase) → s.phase ≡ q → waits_for_tid q ≡ true → KeepsPart sh d t (num (u == t)) s (grant_in_phase sh u s q)
     go AwaitTid e h = rw e (rw (opens-probing (any_below (is_probed sh s.cache) sh.dirs) u (writes_at sh s.cache d) t) (omega (arith, resolves-grant_sends sh s.cache u d t l)))
     go DoomedTid e h = rw e (omega (arith, resolves-skip_all sh u d t l))
     go (Overflowing None) e h = rw e (omega (arith, resolves-probe_all sh u d t))

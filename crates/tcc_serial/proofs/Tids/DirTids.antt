@@ -2,7 +2,7 @@
 use Rattle.tcc_serial.proofs.Names.{ℕ, ◌+◌, ◌-◌, ◌≡◌, ◌<◌, ◌≤◌, Bool, true, false, ◌==◌, nat_lt, if◌then◌else◌, arith, refl, nat_tests, num}
 use Rattle.tcc_serial.proofs.Names.{count_below, has_mark, Serving, advance, kept, is_skipped, Msg, Skip, Commit, Abort, Shape, lines}
 use Rattle.tcc_serial.proofs.Names.{advance-rises, advance-past, advance-stops, advance-keeps, kept-skips, DirState, Answer, Waits, Drops}
-use Rattle.tcc_serial.proofs.Names.{Asks, Takes, dir_deliver, owed_by, Resolves, passes, handled}
+use Rattle.tcc_serial.proofs.Names.{Asks, Takes, dir_deliver, invalidation_count, Resolves, passes, handled}
 use Rattle.tcc_serial.proofs.Counts.DirOutcome.{Outcome, Waiting, Spent, TakesSkip, TakesAbort, TakesCommit, TakesAck, TakesCopy, IsSpent}
 use Rattle.tcc_serial.proofs.Counts.DirOutcome.{SkipPassed, AbortPassed, CopyPassed, outcome}
 use Rattle.tcc_serial.proofs.Counts.StepCases.{same}
@@ -93,7 +93,7 @@ dir-handled sh s c m t = go (outcome sh s c m)
     go (Spent m i) h = spent i h
     go (TakesSkip u b e l) h = resolved (Skip u) u b e l (same u) refl h
     go (TakesAbort u b e l) h = resolved (Abort u) u b e l (same u) refl h
-    go (TakesCommit b e) h = let o : s.owed ≡ 0 = unserved s (Commit s.serving.serving (count_below (has_mark s.lines) (lines sh))) h (same s.serving.serving) in rw o (settled b (owed_by sh s.lines c) e)
+    go (TakesCommit b e) h = let o : s.owed ≡ 0 = unserved s (Commit s.serving.serving (count_below (has_mark s.lines) (lines sh))) h (same s.serving.serving) in rw o (settled b (invalidation_count sh s.lines c) e)
     go (TakesAck l k b i e) h = omega (arith, settled b (s.owed - 1) e, owed-handled s.serving s.owed t i)
     go (TakesCopy m l k ws g y e o) h = rw (y.alike (Resolves t)) (omega arith)
     go _ h = omega arith

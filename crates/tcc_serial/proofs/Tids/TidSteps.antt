@@ -2,7 +2,7 @@
 use Rattle.tcc_serial.proofs.Names.{ℕ, ◌+◌, ◌≡◌, ◌<◌, ◌≤◌, Bool, true, false, List, [], ◌∷◌, ◌==◌, Some, None, nat_le, slice_index_or}
 use Rattle.tcc_serial.proofs.Names.{arith, refl, sym, subst, ◌⊎◌, inl, inr, cases_lt, cases_eq, nat_tests, Local, first_serving, no_lines}
 use Rattle.tcc_serial.proofs.Names.{first-skips, num, Core, Dir, Vendor, Msg, TidReq, TidGrant, Shape, DirState, World, Link, start}
-use Rattle.tcc_serial.proofs.Names.{core_start, dir_start, vendor_start, in_flight, Sends, Out, grant, total, core_moves, core_takes}
+use Rattle.tcc_serial.proofs.Names.{core_start, dir_start, vendor_start, in_flight, Sends, Out, grant, sum_below, core_moves, core_takes}
 use Rattle.tcc_serial.proofs.Names.{dir_takes, dir_asks, vendor_gives, Kind, AsksTid, Grants, AnyGrant, Resolves, Any, live, among, passes}
 use Rattle.tcc_serial.proofs.Names.{Pair, pair, after_move, grant_taken, back_taken, after_answer, out_taken, after_grant}
 use Rattle.tcc_serial.proofs.Names.{after_other_grant, share, waits_for_tid, opens, part, handled, ResolvedAt, RequestOf, InsideOf}
@@ -169,7 +169,7 @@ dir-kept sh w c e k m s sends h i q ow hd =
   where
     here : c < sh.cores → (d t : ℕ) → d < sh.dirs → in_flight w.net (Core c) (Dir d) k ≡ Some m → handled s.serving s.owed t ≡ handled (w.dirs d).serving (w.dirs d).owed t + num (passes (Resolves t) m) → ResolvedAt sh (dir_takes w c d k s sends) d t
     here l d t x i hd =
-        let z : total (λ j. 0) sh.cores ≡ 0 = total-zero (λ j. 0) sh.cores (λ j y. refl) in
+        let z : sum_below (λ j. 0) sh.cores ≡ 0 = total-zero (λ j. 0) sh.cores (λ j y. refl) in
         let p = sum_dir (part sh d t) (λ j. 0) sh.cores w c k s sends d (num (passes (Resolves t) m)) 0 l (part-answered sh d t k m (pair w c d) s (sends (Core c)) i) (λ j n. part-still sh d t (pair w j d) s (sends (Core j))) in
         rw (same d) (omega (arith, h.resolved d t x))
 

@@ -4,7 +4,8 @@ use Rattle.tcc_serial.proofs.Names.{solo_commit, ℕ, ◌≡◌, ◌==◌, ◌&&
 use Rattle.tcc_serial.proofs.Names.{unwrap_or, get_or, if◌then◌else◌, arith, refl, ap, sym, ◌∙◌, nat_tests, Noted, Program, line_of}
 use Rattle.tcc_serial.proofs.Names.{place_of, word_at, has, hit, Dir, Skip, Mark, Commit, WriteBack, Shape, Cache, IsCache, committed}
 use Rattle.tcc_serial.proofs.Names.{words_dropped, Spilled, spilled_mask, spilled_words, has-mask_of, CoreState, Out, is_solo, noted}
-use Rattle.tcc_serial.proofs.Names.{committed_core, commit, solo_sends, solo_marks, solo_backs, core_exec, Kind, CopyWord, CopyNot, among}
+use Rattle.tcc_serial.proofs.Names.{committed_core, commit, solo_sends, solo_marks_or_skip, solo_write_backs, core_exec, Kind, CopyWord}
+use Rattle.tcc_serial.proofs.Names.{CopyNot, among}
 use Rattle.tcc_serial.proofs.Names.{passes, mark, skip}
 use Rattle.tcc_serial.proofs.Copies.CopySends.{commit-copies}
 use Rattle.tcc_serial.proofs.Counts.Links.{among-append, among-flat_map_none}
@@ -39,7 +40,7 @@ ready-word sh x id t s z = record {
 
 -- no message of the spilled lines is of this kind, and none of the marks is
 solo-none : (sh : Shape) (k : Kind) (c : Cache) (sp : Spilled) (t d : ℕ) → ((l : ℕ) → passes k (WriteBack l (spilled_mask sp l) (spilled_words sp l) t) ≡ false) → ((l m : ℕ) → passes k (Mark l m t) ≡ false) → ((n : ℕ) → passes k (Commit t n) ≡ false) → passes k (Skip t) ≡ false → among k (solo_sends sh c sp t (Dir d)) ≡ 0
-unfolding solo_sends solo_marks solo_backs among
+unfolding solo_sends solo_marks_or_skip solo_write_backs among
 solo-none sh k c sp t d back mark sent skip = grind (arith, nat_tests, among-flat_map_none, among-append)
 
 -- the spilled words of a line at the word's place

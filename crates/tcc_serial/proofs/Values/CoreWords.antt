@@ -1,7 +1,7 @@
 -- What a core's instructions and evictions do to a word's copies: where nothing is committed they are as many as before, with their values.
 use Rattle.tcc_serial.proofs.Names.{word_of, stored, solo_commit, marked, ℕ, ◌≡◌, ◌==◌, Bool, true, false, Some, None, IfSome, is_some}
 use Rattle.tcc_serial.proofs.Names.{if◌then◌else◌, arith, refl, ap, ◌∙◌, nat_tests, Program, line_of, Dir, Shape, home, IsCache, placed}
-use Rattle.tcc_serial.proofs.Names.{placed_at, dirty-evicted, value-evicted, CoreState, nothing, flushed, Out, moves, commit, core_exec}
+use Rattle.tcc_serial.proofs.Names.{placed_at, dirty-evicted, value-evicted, CoreState, nothing, flush_line, Out, moves, commit, core_exec}
 use Rattle.tcc_serial.proofs.Names.{core_evict, CopyOf, among, passes, Cache}
 use Rattle.tcc_serial.proofs.Copies.CoreCopies.{framed-dirty, placed-dirty, unheld-clean}
 use Rattle.tcc_serial.proofs.Values.WordCopies.{Carries, word-still, word-sent, flushed-words, back-home-words}
@@ -22,9 +22,9 @@ unfolding placed placed_at
 placed-value sh k c v = grind (arith, nat_tests)
 
 -- a store into a frame sends the line's dirty words home
-framed-sent : (sh : Shape) (w y : ℕ) (also : Bool) (s r : CoreState) → r.cache ≡ stored w y also s.cache → IsCache sh s.cache → Carries sh s (moves r (flushed sh s.cache (line_of w)))
+framed-sent : (sh : Shape) (w y : ℕ) (also : Bool) (s r : CoreState) → r.cache ≡ stored w y also s.cache → IsCache sh s.cache → Carries sh s (moves r (flush_line sh s.cache (line_of w)))
 unfolding stored
-framed-sent sh w y also s r c h v = word-sent sh (line_of w) v s (moves r (flushed sh s.cache (line_of w))) (ap (λ d. d.dirty v) c) (λ n. ap (λ d. d.value v) c ∙ other v n (v == w) refl) (flushed-words sh (line_of w) v s.cache h)
+framed-sent sh w y also s r c h v = word-sent sh (line_of w) v s (moves r (flush_line sh s.cache (line_of w))) (ap (λ d. d.dirty v) c) (λ n. ap (λ d. d.value v) c ∙ other v n (v == w) refl) (flushed-words sh (line_of w) v s.cache h)
   where
     other : (v : ℕ) → (line_of w ≡ line_of v → ⊥) → (b : Bool) → (v == w) ≡ b → (if b then Some y else s.cache.value v) ≡ s.cache.value v
     other v n a q = grind (arith, nat_tests)

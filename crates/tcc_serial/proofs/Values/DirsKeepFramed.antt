@@ -58,7 +58,7 @@ commit-passed sh cs c d a b n k s e l q =
 
 -- The word at home is as the core sees it, where its line has no owner and the core's last commit there is passed.
 home-word : (sh : Shape) (ram : ℕ → ℕ) (w : World) (cs : List Noted) (c d x : ℕ) → CommitsInMemory sh cs → KeptOwned sh w → HomeWords sh ram w cs → KeptAfter sh w cs → ((j : ℕ) → IsCache sh (w.cores j).cache) → c < sh.cores → d < sh.dirs → line_of x < lines sh → home sh (line_of x) ≡ d
-    → (w.dirs d).lines.owner (line_of x) ≡ None → (w.cores c).after d < (w.dirs d).serving.serving → (w.dirs d).words x ≡ value_at sh.base ram cs (w.dirs d) (Some c) None x
+    → (w.dirs d).lines.owner (line_of x) ≡ None → (w.cores c).last_commit d < (w.dirs d).serving.serving → (w.dirs d).words x ≡ value_at sh.base ram cs (w.dirs d) (Some c) None x
 unfolding pair
 home-word sh ram w cs c d x inside owned words after caches cl dl il e o p = words.at_home d x dl e none ∙ value-alike sh.base ram cs (w.dirs d) None None (w.dirs d) (Some c) None x (λ n k. alike n k (stores_word sh.base n.stores x) refl)
   where
@@ -70,18 +70,18 @@ home-word sh ram w cs c d x inside owned words after caches cl dl il e o p = wor
 
     alike : (n : Noted) → Contains cs n → (b : Bool) → stores_word sh.base n.stores x ≡ b → IsAlike sh.base (w.dirs d) None None (w.dirs d) (Some c) None x n
     alike n k false s = inr s
-    alike n k true s = inl (counts-passed (w.dirs d) c n (commit-passed sh cs c d ((w.cores c).after d) (w.dirs d).serving.serving n k (rw e at ((accesses_at_homes sh n.loads n.stores (inside n k)).stored x s)) ((after c d cl dl).last) p))
+    alike n k true s = inl (counts-passed (w.dirs d) c n (commit-passed sh cs c d ((w.cores c).last_commit d) (w.dirs d).serving.serving n k (rw e at ((accesses_at_homes sh n.loads n.stores (inside n k)).stored x s)) ((after c d cl dl).last) p))
 
 -- a load request carries the core's last commit there
-carried-after : (sh : Shape) (w : World) (cs : List Noted) (c d k l a : ℕ) → KeptAfter sh w cs → c < sh.cores → d < sh.dirs → in_flight w.net (Core c) (Dir d) k ≡ Some (LoadReq l a) → (w.cores c).after d ≡ a
+carried-after : (sh : Shape) (w : World) (cs : List Noted) (c d k l a : ℕ) → KeptAfter sh w cs → c < sh.cores → d < sh.dirs → in_flight w.net (Core c) (Dir d) k ≡ Some (LoadReq l a) → (w.cores c).last_commit d ≡ a
 unfolding pair passes
-carried-after sh w cs c d k l a h cl dl i = go (a == (w.cores c).after d) refl
+carried-after sh w cs c d k l a h cl dl i = go (a == (w.cores c).last_commit d) refl
   where
-    go : (b : Bool) → (a == (w.cores c).after d) ≡ b → (w.cores c).after d ≡ a
+    go : (b : Bool) → (a == (w.cores c).last_commit d) ≡ b → (w.cores c).last_commit d ≡ a
     go true q = grind (arith, nat_tests)
     go false q =
-        let z : num (not (a == (w.cores c).after d)) ≡ 1 = rw q refl in
-        absurd (omega (arith, z, (h c d cl dl).carried, live-some (LoadNot ((w.cores c).after d)) (w.net (Core c) (Dir d)) k (LoadReq l a) i))
+        let z : num (not (a == (w.cores c).last_commit d)) ≡ 1 = rw q refl in
+        absurd (omega (arith, z, (h c d cl dl).carried, live-some (LoadNot ((w.cores c).last_commit d)) (w.net (Core c) (Dir d)) k (LoadReq l a) i))
 
 pub answered-load : (sh : Shape) (ram : ℕ → ℕ) (w : World) (cs : List Noted) (c d k l a : ℕ) → CommitsInMemory sh cs → CommitsStand sh w cs → KeptHeld sh ram w cs → KeptOwned sh w → HomeWords sh ram w cs → KeptAfter sh w cs → ((j : ℕ) → IsCache sh (w.cores j).cache) → LoadsInMemory sh w → c < sh.cores → d < sh.dirs → in_flight w.net (Core c) (Dir d) k ≡ Some (LoadReq l a)
     → (b : Answer) → FillsBy c (LoadReq l a) b → FillsHome c l a (w.dirs d) b → OfAnswer w c d k (λ v. CommitsStand sh v cs → KeptHeld sh ram v cs) b

@@ -3,7 +3,8 @@ use Rattle.tcc_serial.proofs.Names.{ℕ, ◌≡◌, ◌<◌, ◌≤◌, ◌⊎�
 use Rattle.tcc_serial.proofs.Names.{nat_lt, get_or, arith, refl, sym, ap, subst, ◌∙◌, inl, inr, nat_tests, Noted, Plain, Local, Program}
 use Rattle.tcc_serial.proofs.Names.{line_of, Core, Dir, Vendor, Msg, LoadReq, Fill, Commit, Event, Shape, home, Awaited, CoreState}
 use Rattle.tcc_serial.proofs.Names.{DirState, Phase, Ready, Solo, World, Out, is_solo, noted, from_dir, grant, core_evict, is_awaited}
-use Rattle.tcc_serial.proofs.Names.{core_exec, dir_deliver, in_flight, History, Stepped, step, next, recorded, and_noted, insert_commit}
+use Rattle.tcc_serial.proofs.Names.{core_exec, dir_deliver, in_flight, History, Stepped, step, next_history, recorded, and_noted}
+use Rattle.tcc_serial.proofs.Names.{insert_commit}
 use Rattle.tcc_serial.proofs.Names.{core_moves, core_takes, Uses, sees, Suits, LoadingOf, LinesAway, LoadOf, InvWord, Commits, live, passes}
 use Rattle.tcc_serial.proofs.Names.{Carried, Invariants, executes, Grant, granted_by, Pair, pair, after_move, back_taken, grant_taken}
 use Rattle.tcc_serial.proofs.Names.{after_grant, after_other_grant, is_applied, CommitsStand, stores_word, after_stores, counts, value_at}
@@ -230,7 +231,7 @@ unfolding pair
 held-all sh ram w cs a b c d x cl dl e = record { framed = λ z p q. a c d x z cl dl e p q; filled = λ p. b c d x cl dl e p }
 
 pub words_kept : EventsKeepWords
-unfolding next pair
+unfolding next_history pair
 words_kept sh p entries ram gs ys views m h e u k = go (step sh p h.world e) (step-held sh p entries ram gs ys views m h e u k (held-all sh ram h.world h.commits k.unmodified_word_is_current_or_inv_in_flight k.filled_word_is_current_or_inv_in_flight))
   where
     go : (x : Option Stepped) → IfSome x (λ o. CommitsStand sh o.world (and_noted o.noted h.commits) → KeptHeld sh ram o.world (and_noted o.noted h.commits))

@@ -5,12 +5,14 @@ use Rattle.tcc_serial.proofs.Names.{Shape, home, any_below-at, DirState, Link, W
 use Rattle.tcc_serial.proofs.Names.{live, among, passes, CommitsInMemory, Pair, pair, after_answer, is_this, is_applied, CommitsStand}
 use Rattle.tcc_serial.proofs.Names.{stores_at, stores_word, counts, value_at, is_stale, zero, suc, ◌==◌, [], ◌∷◌, get_or, nat_le, set}
 use Rattle.tcc_serial.proofs.Names.{if◌then◌else◌, ap, subst, ◌∙◌, eight, has_mark, with_asked, Fill, DataReq, in_flight, Sends, to, Answer}
-use Rattle.tcc_serial.proofs.Names.{Waits, Drops, Asks, Takes, ask_owner, line_words, load_owned, load_request, dir_takes, dir_asks, ◌+◌}
+use Rattle.tcc_serial.proofs.Names.{Waits, Drops, Asks, Takes, ask_owner, home_words, load_unless_owned, load_request, dir_takes, dir_asks}
+use Rattle.tcc_serial.proofs.Names.{◌+◌}
 use Rattle.tcc_serial.proofs.Names.{cond, nat_lt, flat_map, sym, cases_eq, flat_map-append, those, count_below, Lines, has, hit, mask_of}
-use Rattle.tcc_serial.proofs.Names.{Commit, Inv, lines, has-mask_of, Awaited, settled, owned, owed_by, invalidations, invs_to}
+use Rattle.tcc_serial.proofs.Names.{Commit, Inv, lines, has-mask_of, Awaited, moved_on_if_settled, owned_by_committer, invalidation_count}
+use Rattle.tcc_serial.proofs.Names.{invalidations, invs_to}
 use Rattle.tcc_serial.proofs.Names.{is_invalidated, CommitsAreServed, KeptLoading, KeptSharers, CommitsLine, SharerOf, holds_line, is_fresh}
 use Rattle.tcc_serial.proofs.Names.{Kind, LoadOf, KeptCounted, IsRising, stores_in, stored_mask, SettledCommit, KeptStored}
-use Rattle.tcc_rules.specs.DirDeliver.{commit}
+use Rattle.tcc_rules.specs.DirDeliver.{dir_commit}
 use Rattle.tcc_serial.proofs.Counts.Links.{live-sends, live-fewer, among-fewer, num-same, live-takes, among-append}
 use Rattle.tcc_serial.proofs.Counts.StepCases.{same, either, dir-own, dir-other, pairs_dir, pairs_asks, differ, OfAnswer}
 use Rattle.tcc_serial.proofs.Lines.LoadsKept.{FillsBy}
@@ -126,8 +128,8 @@ abbrev pub FillsHome : (core line after : ℕ) → DirState → Answer → Type 
 FillsHome c l a s (Takes new sends) = Filling l a s new (sends (Core c))
 FillsHome c l a s _ = Unit {0}
 
-filled-word : (s : DirState) (l x y : ℕ) → (l ≡ line_of x → s.words x ≡ y) → (l == line_of x && not (get_or (line_words s l) (place_of x) 0 == y)) ≡ false
-unfolding line_words
+filled-word : (s : DirState) (l x y : ℕ) → (l ≡ line_of x → s.words x ≡ y) → (l == line_of x && not (get_or (home_words s l) (place_of x) 0 == y)) ≡ false
+unfolding home_words
 filled-word s l x y e = grind (arith, nat_tests, s.words, get_or-eight)
 
 owner-home : (o c l a : ℕ) (s : DirState) → FillsHome c l a s (ask_owner o l s)
@@ -142,10 +144,10 @@ pub load-home : (c l a : ℕ) (s : DirState) → FillsHome c l a s (load_request
 unfolding load_request among passes
 load-home c l a s = go (nat_le s.serving.serving a) (has_mark s.lines l) (s.lines.owner l) refl refl
   where
-    words : (x y : ℕ) → (l ≡ line_of x → s.words x ≡ y) → among (FillNot x y) (if c == c then Fill l (line_words s l) ∷ [] else []) ≡ 0
+    words : (x y : ℕ) → (l ≡ line_of x → s.words x ≡ y) → among (FillNot x y) (if c == c then Fill l (home_words s l) ∷ [] else []) ≡ 0
     words x y e = rw (same c) (rw (filled-word s l x y e) refl)
 
-    go : (b m : Bool) (o : Option ℕ) → nat_le s.serving.serving a ≡ b → s.lines.owner l ≡ o → FillsHome c l a s (if b || m then Waits else load_owned c l s o)
+    go : (b m : Bool) (o : Option ℕ) → nat_le s.serving.serving a ≡ b → s.lines.owner l ≡ o → FillsHome c l a s (if b || m then Waits else load_unless_owned c l s o)
     go true m o q e = tt
     go false true o q e = tt
     go false false (Some o) q e = owner-home o c l a s
@@ -196,11 +198,11 @@ Invalidates sh c s m Waits = Unit {0}
 Invalidates sh c s m (Takes new sends) = CountsMarked sh s m × ((j : ℕ) → sends (Core j) ≡ invs_to sh s.lines c s.serving.serving j)
 Invalidates sh c s m _ = ⊥
 
-pub commit-invalidates : (sh : Shape) (c u n : ℕ) (s : DirState) → Invalidates sh c s (Commit u n) (commit sh c u n s)
-unfolding commit invalidations
+pub commit-invalidates : (sh : Shape) (c u n : ℕ) (s : DirState) → Invalidates sh c s (Commit u n) (dir_commit sh c u n s)
+unfolding dir_commit invalidations
 commit-invalidates sh c u n s = go (s.serving.serving == u) (count_below (has_mark s.lines) (lines sh) == n) refl refl
   where
-    go : (a b : Bool) → (s.serving.serving == u) ≡ a → (count_below (has_mark s.lines) (lines sh) == n) ≡ b → Invalidates sh c s (Commit u n) (if a && b then Takes (settled (record s { lines = owned c u s.lines; owed = owed_by sh s.lines c })) (invalidations sh s.lines c u) else Waits)
+    go : (a b : Bool) → (s.serving.serving == u) ≡ a → (count_below (has_mark s.lines) (lines sh) == n) ≡ b → Invalidates sh c s (Commit u n) (if a && b then Takes (moved_on_if_settled (record s { lines = owned_by_committer c u s.lines; owed = invalidation_count sh s.lines c })) (invalidations sh s.lines c u) else Waits)
     go false b q r = tt
     go true false q r = tt
     go true true q r = let e : u ≡ s.serving.serving = grind (arith, nat_tests) in let f : n ≡ count_below (has_mark s.lines) (lines sh) = grind (arith, nat_tests) in (rw (e, f) refl, λ j. rw e refl)

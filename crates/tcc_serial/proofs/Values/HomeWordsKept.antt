@@ -1,7 +1,8 @@
 -- Every event keeps the values of home words and of copies on their way home.
 use Rattle.tcc_serial.proofs.Names.{ℕ, ◌≡◌, Noted, ◌<◌, ◌++◌, List, Option, Some, None, IfSome, refl, inl, inr, Plain, Local, Program, Dir}
 use Rattle.tcc_serial.proofs.Names.{Event, Shape, CoreState, World, Out, core_exec, core_evict, from_dir, dir_deliver, History, Stepped}
-use Rattle.tcc_serial.proofs.Names.{step, next, recorded, and_noted, core_moves, core_takes, Uses, Suits, Carried, Invariants, Grant}
+use Rattle.tcc_serial.proofs.Names.{step, next_history, recorded, and_noted, core_moves, core_takes, Uses, Suits, Carried, Invariants}
+use Rattle.tcc_serial.proofs.Names.{Grant}
 use Rattle.tcc_serial.proofs.Names.{granted_by, Ways, ways_after, sent_by, zero, suc, ◌||◌, Bool, true, false, cond, is_some, unwrap_or}
 use Rattle.tcc_serial.proofs.Names.{arith, ap, sym, subst, ◌∙◌, nat_tests, num, line_of, Core, home, lines, DirState, noted, insert_commit}
 use Rattle.tcc_serial.proofs.Names.{sees, copies_with, AboveOf, CopyWord, CopyNot, Commits, live, among, Pair, pair, after_move, is_this}
@@ -257,7 +258,7 @@ step-values sh p entries ram gs ys views m h e u k = node_cases sh p w e (λ x g
     taken c d n a i (Some o) r f = quietly o.commit (core_takes w (Dir d) c n o) r.commit (alike-keeps sh ram w (core_takes w (Dir d) c n o) h.commits refl (taken-alike sh ram h c d n a o b i f) b.values)
 
 pub homes_kept : EventsKeepHomes
-unfolding next
+unfolding next_history
 homes_kept sh p entries ram gs ys views m h e u k = go (step sh p h.world e) (step-values sh p entries ram gs ys views m h e u k)
   where
     go : (x : Option Stepped) → IfSome x (KeepsValues sh ram h) → IfSome (recorded h x) (λ g. Carried sh (gs ++ granted_by h.world e) (ways_after (sent_by sh p h.world e) ys) g → HomesHold sh ram g)

@@ -4,8 +4,8 @@ use Rattle.tcc_serial.proofs.Names.{refl, sym, ◌∙◌, nat_tests, num, line_o
 use Rattle.tcc_serial.proofs.Names.{Cache, IsCache, is_dirty, dirty_tag, dirty_mask, has-mask_of, Link, copies_with, CopyOf, CopyMask}
 use Rattle.tcc_serial.proofs.Names.{CopyWord, CopyNot, live, among, passes, Pair, is_this, word_copies, CopiesHave, ◌<◌, ◌⊎◌, cond}
 use Rattle.tcc_serial.proofs.Names.{unwrap_or, get_or, if◌then◌else◌, inl, inr, cases_eq, eight, Dir, home, dirty_words, dirty_copy}
-use Rattle.tcc_serial.proofs.Names.{CoreState, Out, to, flush, flushed, written_back}
-use Rattle.tcc_rules.specs.Sends.{write_back}
+use Rattle.tcc_serial.proofs.Names.{CoreState, Out, to, flush_of, flush_line, write_back_line}
+use Rattle.tcc_rules.specs.Sends.{write_back_of}
 use Rattle.tcc_serial.proofs.Copies.DirtyFrames.{some-dirty, tag-of}
 use Rattle.tcc_serial.proofs.Counts.Links.{live-fewer, among-fewer}
 
@@ -161,19 +161,19 @@ leaves-one sh k x c m h f g = record { same = λ e t. here e t (c.dirty x) refl;
     right t y q (inr n) = let z : (k == line_of x) ≡ false = grind (arith, nat_tests) in rw (g t y, z) refl
     right t y q (inl e) = let z : (line_of x == line_of x) ≡ true = grind (arith, nat_tests) in rw (g t y, e, z, mask-at c x) (omega (arith, wrong t y (c.dirty x) refl q))
 
-flush-leaves : (sh : Shape) (k x : ℕ) (c : Cache) → IsCache sh c → WordLeaves k x c (flush (dirty_copy c k))
+flush-leaves : (sh : Shape) (k x : ℕ) (c : Cache) → IsCache sh c → WordLeaves k x c (flush_of (dirty_copy c k))
 unfolding dirty_copy passes
 flush-leaves sh k x c h = go (is_dirty c k) refl
   where
-    go : (b : Bool) → is_dirty c k ≡ b → WordLeaves k x c (flush (cond b (Some (record { line = k; mask = dirty_mask c k; words = dirty_words c k; tag = dirty_tag c k })) None))
+    go : (b : Bool) → is_dirty c k ≡ b → WordLeaves k x c (flush_of (cond b (Some (record { line = k; mask = dirty_mask c k; words = dirty_words c k; tag = dirty_tag c k })) None))
     go false q = leaves-none sh k x c h q
     go true q = leaves-one sh k x c (Flush k (dirty_mask c k) (dirty_words c k) (dirty_tag c k)) h (λ t. refl) (λ t y. refl)
 
-back-leaves : (sh : Shape) (k x : ℕ) (c : Cache) → IsCache sh c → WordLeaves k x c (write_back (dirty_copy c k))
+back-leaves : (sh : Shape) (k x : ℕ) (c : Cache) → IsCache sh c → WordLeaves k x c (write_back_of (dirty_copy c k))
 unfolding dirty_copy passes
 back-leaves sh k x c h = go (is_dirty c k) refl
   where
-    go : (b : Bool) → is_dirty c k ≡ b → WordLeaves k x c (write_back (cond b (Some (record { line = k; mask = dirty_mask c k; words = dirty_words c k; tag = dirty_tag c k })) None))
+    go : (b : Bool) → is_dirty c k ≡ b → WordLeaves k x c (write_back_of (cond b (Some (record { line = k; mask = dirty_mask c k; words = dirty_words c k; tag = dirty_tag c k })) None))
     go false q = leaves-none sh k x c h q
     go true q = leaves-one sh k x c (WriteBack k (dirty_mask c k) (dirty_words c k) (dirty_tag c k)) h (λ t. refl) (λ t y. refl)
 
@@ -186,13 +186,14 @@ at-home sh k x c ms h = go (home sh (line_of x) == home sh k) refl
     go true q = h
     go false q = record { same = λ e. absurd (let y : (home sh (line_of x) == home sh k) ≡ true = rw e (grind (arith, nat_tests)) in cc); other = λ e t. refl; right = λ t y f. refl }
 
-pub flushed-words : (sh : Shape) (k x : ℕ) (c : Cache) → IsCache sh c → WordLeaves k x c (flushed sh c k (Dir (home sh (line_of x))))
-unfolding flushed
-flushed-words sh k x c h = at-home sh k x c (flush (dirty_copy c k)) (flush-leaves sh k x c h)
+pub flushed-words : (sh : Shape) (k x : ℕ) (c : Cache) → IsCache sh c → WordLeaves k x c (flush_line sh c k (Dir (home sh (line_of x))))
+unfolding flush_line
+flushed-words sh k x c h = at-home sh k x c (flush_of (dirty_copy c k)) (flush-leaves sh k x c h)
 
-pub back-home-words : (sh : Shape) (k x : ℕ) (c : Cache) → IsCache sh c → WordLeaves k x c (written_back sh c k (Dir (home sh (line_of x))))
-unfolding written_back
-back-home-words sh k x c h = at-home sh k x c (write_back (dirty_copy c k)) (back-leaves sh k x c h)
+pub back-home-words : (sh : Shape) (k x : ℕ) (c : Cache) → IsCache sh c →
+    WordLeaves k x c (write_back_line sh c k (Dir (home sh (line_of x))))
+unfolding write_back_line
+back-home-words sh k x c h = at-home sh k x c (write_back_of (dirty_copy c k)) (back-leaves sh k x c h)
 
 -- the dirty words of line k are sent, and become clean
 pub word-sent : (sh : Shape) (k x : ℕ) (s : CoreState) (o : Out) → o.core.cache.dirty x ≡ (if k == line_of x then None else s.cache.dirty x) → ((k ≡ line_of x → ⊥) → o.core.cache.value x ≡ s.cache.value x) → WordLeaves k x s.cache (o.sends (Dir (home sh (line_of x)))) → WordCarried sh x s o

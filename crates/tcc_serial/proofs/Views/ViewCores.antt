@@ -3,7 +3,7 @@ use Rattle.tcc_serial.proofs.Names.{line_of, word_of, moves, solo_commit, ℕ, �
 use Rattle.tcc_serial.proofs.Names.{Option, Some, None, IfSome, arith, refl, ap, sym, ◌∙◌, inl, inr, Noted, Byte, Half, Program, Need}
 use Rattle.tcc_serial.proofs.Names.{Loads, Stores, Changes, num, any_below, Msg, Inv, Shape, CoreState, Phase, Running, AwaitTid}
 use Rattle.tcc_serial.proofs.Names.{DoomedTid, Ready, Overflowing, Solo, Halted, Out, commit, noted, core_exec, core_evict, grant}
-use Rattle.tcc_serial.proofs.Names.{grant_phase, probing, is_probed, from_dir, is_violated, Uses, used_in, used_at, used_by}
+use Rattle.tcc_serial.proofs.Names.{grant_in_phase, probing_or_ready, is_probed, from_dir, is_violated, Uses, used_in, used_at, used_by}
 use Rattle.tcc_serial.proofs.Names.{uses_delivered, rolls_back, has_tid, waits_for_tid, EachUse, cond, rests, ◌&&◌}
 use Rattle.tcc_serial.proofs.Tids.CoreProbing.{tid-probing}
 use Rattle.tcc_serial.proofs.OneCore.Outcomes.{Acts, Buffers, Commits_now, Did, Ends_alone, Ends_run, Finds, Frames, Frames_anew, Idles}
@@ -91,11 +91,12 @@ pub grant-view : (sh : Shape) (u : ℕ) (s : CoreState) (us : Uses) → waits_fo
 unfolding grant has_tid waits_for_tid
 grant-view sh u s us w dm = go s.phase refl w
   where
-    unhalted : (b : Bool) → probing b u ≡ Halted → ⊥
+    unhalted : (b : Bool) → probing_or_ready b u ≡ Halted → ⊥
     unhalted true q = absurd (cc)
     unhalted false q = absurd (cc)
 
-    go : (q : Phase) → s.phase ≡ q → waits_for_tid q ≡ true → ((grant_phase sh u s q).commit ≡ None) × Gets u s us (grant_phase sh u s q)
+    go : (q : Phase) → s.phase ≡ q → waits_for_tid q ≡ true →
+        ((grant_in_phase sh u s q).commit ≡ None) × Gets u s us (grant_in_phase sh u s q)
     go AwaitTid e w = (refl, inr (λ t. rw (e, tid-probing (any_below (is_probed sh s.cache) sh.dirs) u t) (omega arith), unhalted (any_below (is_probed sh s.cache) sh.dirs)))
     go DoomedTid e w = (refl, inl (dm e))
     go (Overflowing None) e w = (refl, inr (λ t. rw e (omega arith), λ q. absurd (cc)))

@@ -7,9 +7,10 @@ use Rattle.tcc_serial.proofs.Names.{home, lines, any_below-at, DirState, World, 
 use Rattle.tcc_serial.proofs.Names.{History, dir_takes, keeps_unmodified, holds_line, Commits, CommitOf, live, CommitsInMemory, Carried}
 use Rattle.tcc_serial.proofs.Names.{Grant, Pair, pair, is_applied, is_this, CommitsStand, stored_mask, stores_in, MarkedCommit, stores_word}
 use Rattle.tcc_serial.proofs.Names.{counts, value_at, Ways, if◌then◌else◌, TidReq, TidGrant, Fill, ProbeReply, Commit, DataReq, Answer}
-use Rattle.tcc_serial.proofs.Names.{Waits, Drops, Asks, Takes, settled, owned, owed_by, dir_deliver, dir_asks, Uses, out_taken, EachUse}
+use Rattle.tcc_serial.proofs.Names.{Waits, Drops, Asks, Takes, moved_on_if_settled, owned_by_committer, invalidation_count, dir_deliver}
+use Rattle.tcc_serial.proofs.Names.{dir_asks, Uses, out_taken, EachUse}
 use Rattle.tcc_serial.proofs.Names.{has-mask_of, CommitsLine, IsPassed}
-use Rattle.tcc_rules.specs.DirDeliver.{commit}
+use Rattle.tcc_rules.specs.DirDeliver.{dir_commit}
 use Rattle.tcc_serial.proofs.Counts.Links.{among-append, live-takes}
 use Rattle.tcc_serial.proofs.Counts.StepCases.{same, dir-own, dir-other, either, AllPairs, pairs_dir, pairs_asks, asks-own, OfAnswer}
 use Rattle.tcc_serial.proofs.Counts.StepCases.{differ}
@@ -261,8 +262,8 @@ plain-views sh ram cs vs w c d k m a mem st q h i f = go a
     go (Takes s sends) = takes s sends
     go (Asks s sends) = λ z. near-asks sh ram cs vs w d s sends q h (λ j b cl dl g x y e r. inl (rw (same d) at (stays-value sh ram cs w (dir_asks w d s sends) j d x b mem st z dl e (λ n. ap (λ v. live (Commits n.tid.0) v.out) (asks-own w d s sends n.core.0)))))
 
-commit-views : (sh : Shape) (gs : List Grant) (ys : Ways) (ram : ℕ → ℕ) (vs : ℕ → Uses) (h : History) (c d k u n : ℕ) → Carried sh gs ys h → CommitsInMemory sh h.commits → AllSeen vs h.world → AllNear sh ram h.commits vs h.world → c < sh.cores → in_flight h.world.net (Core c) (Dir d) k ≡ Some (Commit u n) → OfAnswer h.world c d k (NearAfter sh ram h.commits vs) (commit sh c u n (h.world.dirs d))
-unfolding commit passes
+commit-views : (sh : Shape) (gs : List Grant) (ys : Ways) (ram : ℕ → ℕ) (vs : ℕ → Uses) (h : History) (c d k u n : ℕ) → Carried sh gs ys h → CommitsInMemory sh h.commits → AllSeen vs h.world → AllNear sh ram h.commits vs h.world → c < sh.cores → in_flight h.world.net (Core c) (Dir d) k ≡ Some (Commit u n) → OfAnswer h.world c d k (NearAfter sh ram h.commits vs) (dir_commit sh c u n (h.world.dirs d))
+unfolding dir_commit passes
 commit-views sh gs ys ram vs h c d k u n y mem q near cl i = go (s.serving.serving == u) refl (count_below (has_mark s.lines) (lines sh) == n) refl
   where
     w : World
@@ -272,7 +273,7 @@ commit-views sh gs ys ram vs h c d k u n y mem q near cl i = go (s.serving.servi
     s = w.dirs d
 
     r : DirState
-    r = settled (record s { lines = owned c u s.lines; owed = owed_by sh s.lines c })
+    r = moved_on_if_settled (record s { lines = owned_by_committer c u s.lines; owed = invalidation_count sh s.lines c })
 
     go : (a : Bool) → (s.serving.serving == u) ≡ a → (b : Bool) → (count_below (has_mark s.lines) (lines sh) == n) ≡ b
         → OfAnswer w c d k (NearAfter sh ram h.commits vs) (if a && b then Takes r (invalidations sh s.lines c u) else Waits)

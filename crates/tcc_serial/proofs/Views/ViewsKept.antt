@@ -1,11 +1,11 @@
 -- Every event keeps that a viewed word has the value that it has for its core, or that the attempt is doomed.
 use Rattle.tcc_serial.proofs.Names.{ℕ, ◌≡◌, ◌<◌, ◌≤◌, ◌⊎◌, ◌&&◌, Bool, true, false, List, [], Option, Some, None, IfSome, nat_lt, arith}
 use Rattle.tcc_serial.proofs.Names.{refl, ap, sym, subst, ◌∙◌, inl, inr, nat_tests, num, hit, Core, Dir, Vendor, Msg, TidReq, TidGrant, Inv}
-use Rattle.tcc_serial.proofs.Names.{Shape, put, DoomedTid, in_flight, Out, from_dir, grant, is_violated, is_above, History, core_takes}
+use Rattle.tcc_serial.proofs.Names.{Shape, put, DoomedTid, in_flight, Out, from_dir, grant, is_violated, may_be_above, History, core_takes}
 use Rattle.tcc_serial.proofs.Names.{vendor_gives, and_noted, Uses, Views, uses_delivered, Invs, InvWord, passes, live, Carried, Grant, Pair}
 use Rattle.tcc_serial.proofs.Names.{pair, after_move, grant_taken, back_taken, IsBound, value_at, dooms, Ways, hit-line, hit-reads, ◌++◌}
 use Rattle.tcc_serial.proofs.Names.{Program, line_of, home, core_exec, core_evict, Answer, Waits, Drops, Asks, Takes, dir_deliver, Stepped}
-use Rattle.tcc_serial.proofs.Names.{core_moves, dir_takes, dir_asks, step, next, recorded, UsesStand, uses_executed, views_after}
+use Rattle.tcc_serial.proofs.Names.{core_moves, dir_takes, dir_asks, step, next_history, recorded, UsesStand, uses_executed, views_after}
 use Rattle.tcc_serial.proofs.Names.{CarriedViews, granted_by, IsDoomed, ViewedWords, HaltedUsesNone, sent_by, ways_after}
 use Rattle.tcc_maps.specs.CacheLook.{reads_masked}
 use Rattle.tcc_serial.specs.KeepsViews.{KeepsViews}
@@ -65,7 +65,7 @@ spares-inv sh gs ys h k' c d k l n u x y b cl dl i v g s = go (passes (dooms b x
     no : passes (dooms b x) (Inv l n u) ≡ true → IsSeen (h.world.cores c).cache (h.world.cores c).phase x y → ⊥
     no q (inl r) =
         let f = hits b q in
-        let a = ahead (reads_masked l n (h.world.cores c).cache) (is_above u (h.world.cores c).phase) (hit-reads l n (h.world.cores c).cache x r f (hit-line l n x f)) v in
+        let a = ahead (reads_masked l n (h.world.cores c).cache) (may_be_above u (h.world.cores c).phase) (hit-reads l n (h.world.cores c).cache x r f (hit-line l n x f)) v in
         let t = tid-ahead u (h.world.cores c).phase a in
         below t.0 (t.2) (bound-own sh gs ys h k' c d t.0 b cl (t.1) g) q
     no q (inr r) = let o : num (passes (dooms b x) (Inv l n u)) ≡ 1 = ap num q in omega (arith, o, solo-undoomed sh gs ys h k' c d x b cl dl r, live-some (dooms b x) (h.world.net (Dir d) (Core c)) k (Inv l n u) i)
@@ -163,7 +163,7 @@ abbrev Keeping : Shape → Program → (ℕ → ℕ) → History → Views → S
 Keeping sh p ram h vs o = (gs : List Grant) (ys : Ways) → Carried sh gs ys (After h o) → CarriedViews sh p vs (After h o) → ViewedWords sh ram o.world (and_noted o.noted h.commits) vs × HaltedUsesNone o.world vs
 
 pub keeps_views : KeepsViews
-unfolding next
+unfolding next_history
 keeps_views sh p entries ram gs ys views m h e k = recording (step sh p h.world e) (event_cases sh p h.world views e (λ v x g. Keeping sh p ram h v)
     (λ c l. each (core_exec sh p c (h.world.cores c)) (λ o. put views c (uses_executed (Some o) (views c) (new_uses sh p h.world c))) (λ o. record { world = core_moves h.world c o; noted = o.commit }) (exec-views sh p gs ys ram views h k.carried k.carried_in_memory k.unmodified_word_is_current_or_inv_in_flight near c l))
     (λ c x y l. each (core_evict sh x y (h.world.cores c)) (λ o. views) (λ o. record { world = core_moves h.world c o; noted = o.commit }) (evict-views sh ram views h near c x y))

@@ -3,8 +3,9 @@
 use Rattle.tcc_serial.proofs.Names.{ℕ, ◌≡◌, ◌<◌, ◌≤◌, Bool, true, false, not, ◌==◌, ◌&&◌, Some, None, IfSome, if◌then◌else◌, arith, refl}
 use Rattle.tcc_serial.proofs.Names.{sym, ◌⊎◌, inl, inr, nat_tests, Noted, Program, Outcome, any_below, Dir, Msg, Fill, ProbeReply}
 use Rattle.tcc_serial.proofs.Names.{DataReq, Inv, Shape, Cache, writes_at, CoreState, Phase, Running, AwaitTid, DoomedTid, Probing, Ready}
-use Rattle.tcc_serial.proofs.Names.{Overflowing, Solo, Out, commit, committed_core, noted, phase_after, core_exec, core_evict, grant}
-use Rattle.tcc_serial.proofs.Names.{grant_phase, grant_sends, from_dir, probing, is_probed, probe_reply, ignored, all_replied, fill}
+use Rattle.tcc_serial.proofs.Names.{Overflowing, Solo, Out, commit, committed_core, noted, phase_after_commit, core_exec, core_evict, grant}
+use Rattle.tcc_serial.proofs.Names.{grant_in_phase, grant_sends, from_dir, probing_or_ready, is_probed, probe_reply, ignored, all_replied}
+use Rattle.tcc_serial.proofs.Names.{fill}
 use Rattle.tcc_serial.proofs.Names.{data_request, invalidate, put, Skips, among, passes, Words, OneCore, has_tid, Untold, told_by}
 use Rattle.tcc_serial.proofs.Names.{live_way, commit_way, Local, moves, solo_commit}
 use Rattle.tcc_serial.proofs.OneCore.Executes.{Steady, did-steady}
@@ -48,13 +49,13 @@ tells-none : (sh : Shape) (s : CoreState) (o : Out) (q : Phase) → o.core.phase
     → IfSome o.commit (TellsCommit sh s o) → Tells sh s o
 tells-none sh s o q e h c = record { skips = λ d t l x. absurd (let z = h (writes_at sh o.core.cache d) t in let y : skips_here q (writes_at sh o.core.cache d) t ≡ true = rw e at x in cc); commits = c }
 
-skips-after : (e : Outcome) (b : Bool) (t : ℕ) → skips_here (phase_after e) b t ≡ false
+skips-after : (e : Outcome) (b : Bool) (t : ℕ) → skips_here (phase_after_commit e) b t ≡ false
 skips-after a b t = grind (arith, nat_tests)
 
 tells-alone : (sh : Shape) (c u : ℕ) (s : CoreState) (l : Local) (e : Outcome) → s.phase ≡ Solo u → OneCore sh s
     → Tells sh s (solo_commit sh c u (after_end s l e))
 unfolding solo_commit committed_core noted has_tid live_way
-tells-alone sh c u s l e q h = tells-none sh s (solo_commit sh c u (after_end s l e)) (phase_after e) refl (skips-after e) (record {
+tells-alone sh c u s l e q h = tells-none sh s (solo_commit sh c u (after_end s l e)) (phase_after_commit e) refl (skips-after e) (record {
   has = rw q (grind (arith, nat_tests));
   told = λ d l. rw q (rw (← stored-solo sh s.cache s.spilled s.stores d words.named) (solo-told sh s.cache s.spilled u d Untold l));
 })
@@ -64,7 +65,7 @@ tells-alone sh c u s l e q h = tells-none sh s (solo_commit sh c u (after_end s 
 
 tells-committed : (sh : Shape) (id u : ℕ) (s : CoreState) → s.phase ≡ Ready u → OneCore sh s → Tells sh s (commit sh id u s)
 unfolding commit committed_core noted has_tid live_way
-tells-committed sh id u s e h = tells-none sh s (commit sh id u s) (phase_after s.ended) refl (skips-after s.ended) (record {
+tells-committed sh id u s e h = tells-none sh s (commit sh id u s) (phase_after_commit s.ended) refl (skips-after s.ended) (record {
   has = rw e (grind (arith, nat_tests));
   told = λ d l. rw e (rw (← stored-written sh s.cache s.spilled s.stores d (rw e at (h.words))) (ready-told sh s.cache u d l));
 })
@@ -83,7 +84,7 @@ pub tells-evict : (sh : Shape) (x y : ℕ) (s : CoreState) → IfSome (core_evic
 tells-evict sh x y s = each-evict sh x y s (λ o. Tells sh s o) (λ k q u z. tells-steady sh s (emptied sh x y k s) (steady-emptied sh x y s k q u z))
 
 -- a granted TID is skipped where nothing is written
-skips-granted : (sh : Shape) (c : Cache) (b : Bool) (u d t : ℕ) → d < sh.dirs → skips_here (probing b u) (writes_at sh c d) t ≡ true → 1 ≤ among (Skips t) (grant_sends sh c u (Dir d))
+skips-granted : (sh : Shape) (c : Cache) (b : Bool) (u d t : ℕ) → d < sh.dirs → skips_here (probing_or_ready b u) (writes_at sh c d) t ≡ true → 1 ≤ among (Skips t) (grant_sends sh c u (Dir d))
 unfolding grant_sends among passes
 skips-granted sh c b u d t l e = grind (arith, nat_tests)
 
@@ -94,10 +95,10 @@ tells-grant sh u s = go s.phase refl
     still : Tells sh s (ignored s)
     still = tells-steady sh s (ignored s) (ignored-steady s)
 
-    go : (q : Phase) → s.phase ≡ q → Tells sh s (grant_phase sh u s q)
+    go : (q : Phase) → s.phase ≡ q → Tells sh s (grant_in_phase sh u s q)
     go AwaitTid e = record { skips = λ d t l x. inr (skips-granted sh s.cache (any_below (is_probed sh s.cache) sh.dirs) u d t l x); commits = tt }
-    go DoomedTid e = tells-none sh s (grant_phase sh u s DoomedTid) Running refl (λ b t. refl) tt
-    go (Overflowing None) e = tells-none sh s (grant_phase sh u s (Overflowing None)) (Overflowing (Some u)) refl (λ b t. refl) tt
+    go DoomedTid e = tells-none sh s (grant_in_phase sh u s DoomedTid) Running refl (λ b t. refl) tt
+    go (Overflowing None) e = tells-none sh s (grant_in_phase sh u s (Overflowing None)) (Overflowing (Some u)) refl (λ b t. refl) tt
     go _ e = still
 
 tells-replied : (sh : Shape) (e u : ℕ) (s : CoreState) (o : Out) → Replied sh e u s o → Tells sh s o

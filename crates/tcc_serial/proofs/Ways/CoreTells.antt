@@ -1,7 +1,8 @@
 -- What a core with a TID says of it: it skips it at directories where it writes nothing, and commits it where it has stored.
 use Rattle.tcc_serial.proofs.Names.{ℕ, ◌≡◌, ◌<◌, List, ◌==◌, ◌&&◌, if◌then◌else◌, arith, refl, nat_tests, num, count_below, Dir, Skip, Mark}
-use Rattle.tcc_serial.proofs.Names.{Commit, WriteBack, Shape, home, lines, Cache, writes_at, Spilled, commit_sends, solo_sends, solo_marks}
-use Rattle.tcc_serial.proofs.Names.{solo_backs, solo_writes_at, is_written, Kind, Skips, Aborts, Commits, among, passes, Way, Untold}
+use Rattle.tcc_serial.proofs.Names.{Commit, WriteBack, Shape, home, lines, Cache, writes_at, Spilled, commit_sends, solo_sends}
+use Rattle.tcc_serial.proofs.Names.{solo_marks_or_skip}
+use Rattle.tcc_serial.proofs.Names.{solo_write_backs, solo_writes_at, is_written, Kind, Skips, Aborts, Commits, among, passes, Way, Untold}
 use Rattle.tcc_serial.proofs.Names.{Skipped, Committed, told_by}
 use Rattle.tcc_serial.proofs.Counts.Links.{among-append, among-flat_map_none}
 use Rattle.tcc_serial.proofs.Ways.WayParts.{told-skip, told-commit}
@@ -27,7 +28,7 @@ commits-apart t = record { marks = λ l m u. refl; backs = λ l m ws u. refl }
 
 -- alone: as many of a kind as there are words on the TID
 solo-said : (sh : Shape) (c : Cache) (sp : Spilled) (u d : ℕ) (k : Kind) → Apart k → d < sh.dirs → among k (solo_sends sh c sp u (Dir d)) ≡ (if solo_writes_at sh c sp d then num (passes k (Commit u (count_below (λ l. d == home sh l && is_written c sp l) (lines sh)))) else num (passes k (Skip u)))
-unfolding solo_sends solo_marks solo_backs among
+unfolding solo_sends solo_marks_or_skip solo_write_backs among
 solo-said sh c sp u d k a l = grind (arith, nat_tests, among-flat_map_none, a.backs, a.marks, among-append)
 
 pub solo-told : (sh : Shape) (c : Cache) (sp : Spilled) (u d : ℕ) (y : Way) → d < sh.dirs → told_by (solo_sends sh c sp u (Dir d)) u y ≡ (if solo_writes_at sh c sp d then Committed else Skipped)

@@ -2,7 +2,8 @@
 -- Commit came.
 use Rattle.tcc_serial.proofs.Names.{ℕ, ◌+◌, ◌-◌, ◌≡◌, ◌<◌, ◌≤◌, Bool, true, false, ◌==◌, ◌&&◌, nat_lt, if◌then◌else◌, arith, refl}
 use Rattle.tcc_serial.proofs.Names.{nat_tests, num, Serving, advance, kept, is_skipped, Msg, Skip, Abort, InvAck, Shape, advance-rises}
-use Rattle.tcc_serial.proofs.Names.{kept-skips, DirState, Answer, Asks, Takes, dir_deliver, owed_by, Skips, Aborts, Commits, passes}
+use Rattle.tcc_serial.proofs.Names.{kept-skips, DirState, Answer, Asks, Takes, dir_deliver, invalidation_count, Skips, Aborts, Commits}
+use Rattle.tcc_serial.proofs.Names.{passes}
 use Rattle.tcc_serial.proofs.Names.{Resolves}
 use Rattle.tcc_serial.proofs.Counts.DirOutcome.{Outcome, Waiting, Spent, AsksOwner, TakesSkip, TakesAbort, TakesCommit, TakesAck, outcome}
 use Rattle.tcc_serial.proofs.Counts.StepCases.{same}
@@ -56,6 +57,6 @@ dir-heard sh s c m t = go (outcome sh s c m)
     go (AsksOwner m l o w e) h = (refl, refl)
     go (TakesSkip u b e l) h = given (Skip u) u b e l (same u) (omega arith) h _ refl refl
     go (TakesAbort u b e l) h = given (Abort u) u b e l (same u) (omega arith) h _ refl refl
-    go (TakesCommit b e) h = settled _ b (owed_by sh s.lines c) e (grind (arith, nat_tests)) _ refl refl
+    go (TakesCommit b e) h = settled _ b (invalidation_count sh s.lines c) e (grind (arith, nat_tests)) _ refl refl
     go (TakesAck l k b i e) h = settled (InvAck l k) b (s.owed - 1) e (grind (arith, nat_tests)) _ refl refl
     go _ h = record { keeps = omega arith; owed = omega arith }

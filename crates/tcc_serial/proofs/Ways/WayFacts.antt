@@ -1,10 +1,11 @@
 -- The ways in which each TID was given to each directory along every run, and what the invariants on them say in words.
 use Rattle.tcc_serial.proofs.Names.{ℕ, List, [], ◌∷◌, ◌++◌, Option, Some, None, IfSome, arith, sym, append_assoc, append-nil, Program}
-use Rattle.tcc_serial.proofs.Names.{Local, Event, Shape, start, core_start, Stepped, step, History, and_noted, recorded, next, and_then}
+use Rattle.tcc_serial.proofs.Names.{Local, Event, Shape, start, core_start, Stepped, step, History, and_noted, recorded, next_history}
+use Rattle.tcc_serial.proofs.Names.{and_then}
 use Rattle.tcc_serial.proofs.Names.{run_from, run, KeptTold, KeptAll, KeptRun, Grant, granted_by, then_grants, grants_from, has_tid}
 use Rattle.tcc_serial.proofs.Names.{loads_word, Ways, ways_after, sent_by, then_ways, ways_from, first_ways, KeptWays, AlwaysTold, zero}
 use Rattle.tcc_serial.proofs.Names.{suc, ◌+◌, ◌≡◌, ◌<◌, ◌≤◌, Bool, true, false, ◌==◌, ◌&&◌, nat_lt, nat_le, refl, ap, ◌⊎◌, inl, inr}
-use Rattle.tcc_serial.proofs.Names.{nat_tests, num, Core, Dir, is_skipped, writes_at, total, Phase, World, Commits, live, holder, pair}
+use Rattle.tcc_serial.proofs.Names.{nat_tests, num, Core, Dir, is_skipped, writes_at, sum_below, Phase, World, Commits, live, holder, pair}
 use Rattle.tcc_serial.proofs.Names.{share, sum_of, opens, ResolvedAt, Way, Untold, Skipped, Aborted, Committed, part_in, kept_in, WayAt}
 use Rattle.tcc_serial.proofs.Names.{is_untold, is_given_up, UntoldWhereOpen, UntoldIsLive, Settled, WaysFit, AllWaysFit, given_up_by}
 use Rattle.tcc_serial.proofs.Names.{GivenUpOnce, LiveIsOpen, CommittedWhereStored, Contains, Noted, CommitsAreServed, times}
@@ -41,7 +42,7 @@ step-run sh p gs ys h e k = go (step sh p h.world e) (step-all sh p gs h e k.all
         }
 
 run_from-ways : (sh : Shape) (p : Program) (es : List Event) (gs : List Grant) (ys : Ways) (h : History) → KeptRun sh gs ys h → IfSome (run_from sh p es h) (λ r. KeptRun sh (gs ++ grants_from sh p es h) (ways_from sh p es ys h) r)
-unfolding run_from grants_from ways_from next
+unfolding run_from grants_from ways_from next_history
 run_from-ways sh p [] gs ys h k = rw append-nil k
 run_from-ways sh p (e ∷ es) gs ys h k = go (recorded h (step sh p h.world e)) (step-run sh p gs ys h e k) (λ g q. run_from-ways sh p es (gs ++ granted_by h.world e) x g q)
   where
@@ -89,12 +90,12 @@ pub untold_where_open : AlwaysTold UntoldWhereOpen
 untold_where_open = told_from UntoldWhereOpen (λ sh gs ys h k d t l p. untold-at sh h.world d t (ys d t) (k.all.kept.told.tids.resolved d t l) (k.ways d t l p))
 
 -- a sum that isn't 0 has a summand that isn't
-pub some-part : (f : ℕ → ℕ) (n : ℕ) → 1 ≤ total f n → (c : ℕ) × (c < n) × (1 ≤ f c)
-unfolding total
+pub some-part : (f : ℕ → ℕ) (n : ℕ) → 1 ≤ sum_below f n → (c : ℕ) × (c < n) × (1 ≤ f c)
+unfolding sum_below
 some-part f zero l = absurd (omega arith)
 some-part f (suc n) l = go (f n) refl (λ m. some-part f n m)
   where
-    go : (x : ℕ) → f n ≡ x → (1 ≤ total f n → (c : ℕ) × (c < n) × (1 ≤ f c)) → (c : ℕ) × (c < suc n) × (1 ≤ f c)
+    go : (x : ℕ) → f n ≡ x → (1 ≤ sum_below f n → (c : ℕ) × (c < n) × (1 ≤ f c)) → (c : ℕ) × (c < suc n) × (1 ≤ f c)
     go (suc x) e g = (n, omega arith, omega (arith, e))
     go zero e g = let r = g (omega (arith, l, e)) in (r.0, omega (arith, r.1), r.2)
 
@@ -199,7 +200,7 @@ all_ways_fit = told_from AllWaysFit (λ sh gs ys h k d t l p. ways-fit sh ys h.w
 
 -- given up: told, kept or passed
 given-split : (sh : Shape) (w : World) (d t n : ℕ) → sum_of (given_up_by t) n w d ≡ sum_of (part_in Skipped sh d t) n w d + sum_of (part_in Aborted sh d t) n w d
-unfolding total share given_up_by part_in
+unfolding sum_below share given_up_by part_in
 given-split sh w d t zero = refl
 given-split sh w d t (suc n) = omega (arith, given-split sh w d t n)
 

@@ -1,6 +1,7 @@
 -- Where a TID is, split by the ways, and what its core's messages make of it.
 use Rattle.tcc_serial.proofs.Names.{ℕ, zero, suc, ◌+◌, ◌≡◌, ◌≤◌, Bool, true, false, List, [], ◌∷◌, ◌==◌, ◌&&◌, Some, None, nat_lt, nat_le}
-use Rattle.tcc_serial.proofs.Names.{if◌then◌else◌, arith, refl, nat_tests, num, is_skipped, Msg, Shape, total, World, Link, Kind, Resolves}
+use Rattle.tcc_serial.proofs.Names.{if◌then◌else◌, arith, refl, nat_tests, num, is_skipped, Msg, Shape, sum_below, World, Link, Kind}
+use Rattle.tcc_serial.proofs.Names.{Resolves}
 use Rattle.tcc_serial.proofs.Names.{Skips, Aborts, Commits, live, among, passes, Pair, pair, share, sum_of, part, handled, ResolvedAt, Way}
 use Rattle.tcc_serial.proofs.Names.{Untold, Skipped, Aborted, Committed, told_by, part_in, kept_in, WayAt}
 
@@ -29,7 +30,7 @@ abbrev pub parts_in : Way → Shape → World → (dir tid : ℕ) → ℕ
 parts_in y sh w d t = sum_of (part_in y sh d t) sh.cores w d
 
 parts-split : (sh : Shape) (w : World) (d t n : ℕ) → sum_of (part sh d t) n w d ≡ sum_of (part_in Untold sh d t) n w d + sum_of (part_in Skipped sh d t) n w d + sum_of (part_in Aborted sh d t) n w d + sum_of (part_in Committed sh d t) n w d
-unfolding total share
+unfolding sum_below share
 parts-split sh w d t zero = refl
 parts-split sh w d t (suc n) = omega (arith, parts-split sh w d t n, part-split sh d t (pair w n d))
 

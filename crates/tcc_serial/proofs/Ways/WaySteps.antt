@@ -2,7 +2,7 @@
 use Rattle.tcc_serial.proofs.Names.{ℕ, ◌+◌, ◌≡◌, ◌<◌, true, List, [], ◌==◌, Option, Some, None, IfSome, nat_le, slice_index_or, arith, refl}
 use Rattle.tcc_serial.proofs.Names.{sym, subst, ◌⊎◌, inl, inr, cases_eq, nat_tests, Program, Local, num, Core, Dir, Vendor, Msg, TidReq}
 use Rattle.tcc_serial.proofs.Names.{TidGrant, Event, Shape, DirState, World, start, core_start, vendor_start, in_flight, Sends, nothing}
-use Rattle.tcc_serial.proofs.Names.{Out, core_exec, core_evict, from_dir, grant, Answer, Waits, Drops, Asks, Takes, dir_deliver, total}
+use Rattle.tcc_serial.proofs.Names.{Out, core_exec, core_evict, from_dir, grant, Answer, Waits, Drops, Asks, Takes, dir_deliver, sum_below}
 use Rattle.tcc_serial.proofs.Names.{core_moves, core_takes, dir_takes, dir_asks, vendor_gives, step, Skips, Aborts, Commits, live, among}
 use Rattle.tcc_serial.proofs.Names.{passes, Pair, pair, after_move, grant_taken, back_taken, after_answer, out_taken, after_grant}
 use Rattle.tcc_serial.proofs.Names.{after_other_grant, share, opens, ResolvedAt, Kept, KeptTold, Way, Untold, Skipped, Aborted, Committed}
@@ -86,7 +86,7 @@ way-dir sh w c e k m s sends d t y l i u r z h = go (cases_eq d e)
     here : in_flight w.net (Core c) (Dir d) k ≡ Some m → Heard (w.dirs d) m t s → ResolvedAt sh (dir_takes w c d k s sends) d t → WayAt sh (dir_takes w c d k s sends) d t y
     here i u z = way-heard sh w (dir_takes w c d k s sends) d t m y refl sum (rw (same d) u) r z h
       where
-        none : total (λ j. 0) sh.cores ≡ 0
+        none : sum_below (λ j. 0) sh.cores ≡ 0
         none = total-zero (λ j. 0) sh.cores (λ j y. refl)
 
         sum : (x : Way) → parts_in x sh (dir_takes w c d k s sends) d t + took m t x ≡ parts_in x sh w d t

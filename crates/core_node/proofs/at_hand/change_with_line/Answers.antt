@@ -2,7 +2,7 @@ use Rattle.std.proofs.Common.{ap, sym, ◌∙◌}
 use Rattle.tcc_maps.specs.Spilled.{holds}
 use Rattle.tcc_maps.specs.Words.{line_of, place_of}
 use Rattle.std.specs.Prelude.{get_or}
-use Rattle.tcc_rules.specs.Execute.{buffered, framed}
+use Rattle.tcc_rules.specs.Execute.{stored_in_buffer, stored_in_frame}
 use Rattle.tcc_rules.specs.Attempt.{finished, new_word}
 use Rattle.tcc_rules.specs.State.{CoreState}
 use Rattle.rv_exec.specs.Needs.{need_of}
@@ -15,7 +15,7 @@ use Rattle.core_node.proofs.Lined.{changed-buffered, changed-framed, lined-also,
 use Rattle.core_node.proofs.at_hand.change_with_line.Goals as goal
 
 pub fill_frame-requires-clause-found : goal.fill_frame-requires-clause-found
-unfolding core_of buffered
+unfolding core_of stored_in_buffer
 fill_frame-requires-clause-found c =
     let k = c.args.core.now in
     let m = c.finish_buffered.new.core in
@@ -46,9 +46,9 @@ returns-then-holds-clause-does c =
     let held = ap (holds (core_of k).spilled) (sym c.line_of_word-line.ensures) ∙ sym c.holds.ensures ∙ c.if-holds.true in
     lined-as k.config m.config (line_of w) _ ws _ (core_of m) (core_of c.fill_frame.new.core) c.fill_frame.ensures.does
     c.line_of_word-line.ensures e.stays.config e.does
-    ∙ lined-finished k.config (line_of w) ws p n x (buffered w c.new_word-value.result (core_of k))
+    ∙ lined-finished k.config (line_of w) ws p n x (stored_in_buffer w c.new_word-value.result (core_of k))
     ∙ ap (finished p n x) (lined-buffered k.config (line_of w) ws w c.new_word-value.result (core_of k))
-    ∙ ap (λ y. finished p n x (buffered w y (lined k.config (line_of w) ws (core_of k)))) c.new_word-value.ensures
+    ∙ ap (λ y. finished p n x (stored_in_buffer w y (lined k.config (line_of w) ws (core_of k)))) c.new_word-value.ensures
     ∙ sym (changed-buffered k.config (line_of w) ws p n w x (core_of k) held)
 
 pub returns-clause-does : goal.returns-clause-does
@@ -65,11 +65,11 @@ returns-clause-does c =
     let also = c.reads_too-also.result in
     let held = ap (holds (core_of k).spilled) (sym c.line_of_word-line.ensures) ∙ sym c.holds.ensures ∙ c.if-holds.false in
     c.store_framed.ensures.does.core
-    ∙ ap (framed w v also) (lined-as k.config m.config (line_of w) _ ws _ (core_of m) (core_of c.fill_frame-2.new.core)
+    ∙ ap (stored_in_frame w v also) (lined-as k.config m.config (line_of w) _ ws _ (core_of m) (core_of c.fill_frame-2.new.core)
     c.fill_frame-2.ensures.does c.line_of_word-line.ensures c.in-Ok.ensures.stays.config c.in-Ok.ensures.does
     ∙ lined-finished k.config (line_of w) ws p n x (core_of k))
     ∙ framed_finished p n x w v also (lined k.config (line_of w) ws (core_of k))
-    ∙ ap (λ y. finished p n x (framed w y also (lined k.config (line_of w) ws (core_of k)))) c.new_word-value.ensures
-    ∙ ap (λ b. finished p n x (framed w (new_word n x) b (lined k.config (line_of w) ws (core_of k))))
+    ∙ ap (λ y. finished p n x (stored_in_frame w y also (lined k.config (line_of w) ws (core_of k)))) c.new_word-value.ensures
+    ∙ ap (λ b. finished p n x (stored_in_frame w (new_word n x) b (lined k.config (line_of w) ws (core_of k))))
     (c.reads_too-also.ensures ∙ sym (lined-also k.config (line_of w) ws w (core_of k)))
     ∙ sym (changed-framed k.config (line_of w) ws p n w x (core_of k) held)

@@ -1,6 +1,6 @@
 use Rattle.std.proofs.Common.{is_some, refl, ap, ◌∙◌}
 use Rattle.tcc_maps.specs.Words.{line_of}
-use Rattle.tcc_rules.specs.Execute.{used}
+use Rattle.tcc_rules.specs.Execute.{with_read_mark}
 use Rattle.tcc_rules.specs.State.{CoreState}
 use Rattle.tcc_maps.specs.Cache.{Cache}
 use Rattle.rv_exec.specs.Needs.{need_of}
@@ -44,5 +44,5 @@ returns-clause-does c =
     let here = lined-as k.config m.config (line_of w) _ c.args.words.now _ (core_of m) (core_of c.fill_frame.new.core)
     c.fill_frame.ensures.does c.line_of_word.ensures c.in-Ok.ensures.stays.config c.in-Ok.ensures.does in
     c.mark_used.ensures.does
-    ∙ ap (used w) (here ∙ lined-finished k.config (line_of w) c.args.words.now p n _ (core_of k))
+    ∙ ap (with_read_mark w) (here ∙ lined-finished k.config (line_of w) c.args.words.now p n _ (core_of k))
     ∙ finished_used p n _ w _

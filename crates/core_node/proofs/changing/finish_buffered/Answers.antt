@@ -1,7 +1,7 @@
 use Rattle.std.proofs.Common.{ℕ, Option, ap, ◌∙◌}
 use Rattle.tcc_rules.specs.State.{CoreState}
-use Rattle.tcc_rules.specs.Attempt.{stepped}
-use Rattle.tcc_rules.specs.Execute.{buffered}
+use Rattle.tcc_rules.specs.Attempt.{one_more_instruction}
+use Rattle.tcc_rules.specs.Execute.{stored_in_buffer}
 use Rattle.rv_exec.specs.Needs.{need_of}
 use Rattle.rv_plain.specs.Attempts.{alone}
 use Rattle.core_node.specs.View.{core_of}
@@ -13,7 +13,7 @@ pub returns-clause-does : goal.returns-clause-does
 returns-clause-does c =
     let p = alone c.args.inst.now in
     let n = need_of c.args.need in
-    c.step.ensures.does ∙ ap (λ (o : Option ℕ). stepped p o (core_of c.store_buffered.new.core)) c.given.ensures
-    ∙ ap (λ (s : CoreState). stepped p (given n c.args.word) s)
-    (c.in-Ok-store_buffered.ensures.does ∙ ap (buffered c.args.w.0 c.args.value) c.in-Ok.ensures.does)
+    c.step.ensures.does ∙ ap (λ (o : Option ℕ). one_more_instruction p o (core_of c.store_buffered.new.core)) c.given.ensures
+    ∙ ap (λ (s : CoreState). one_more_instruction p (given n c.args.word) s)
+    (c.in-Ok-store_buffered.ensures.does ∙ ap (stored_in_buffer c.args.w.0 c.args.value) c.in-Ok.ensures.does)
     ∙ finished_buffered p n c.args.word c.args.w.0 c.args.value (core_of c.args.core.now) c.requires.goes_on

@@ -4,8 +4,8 @@ use Rattle.tcc_maps.specs.Shape.{Shape}
 use Rattle.tcc_maps.specs.Words.{line_of}
 use Rattle.tcc_rules.specs.State.{CoreState}
 use Rattle.tcc_rules.specs.Attempt.{moves, finished}
-use Rattle.tcc_rules.specs.Execute.{framed}
-use Rattle.tcc_rules.specs.Sends.{flushed}
+use Rattle.tcc_rules.specs.Execute.{stored_in_frame}
+use Rattle.tcc_rules.specs.Sends.{flush_line}
 use Rattle.rv_exec.specs.Needs.{need_of}
 use Rattle.rv_plain.specs.Attempts.{alone}
 use Rattle.spec_cache.specs.Held.{maps}
@@ -31,16 +31,16 @@ returns-clause-does c =
     let p = alone c.args.inst.now in
     let n = need_of c.args.need in
     let l = line_of c.args.w.0 in
-    let core : framed c.args.w.0 c.args.value c.args.also (core_of m)
-    ≡ finished p n c.args.word (framed c.args.w.0 c.args.value c.args.also (core_of k)) =
-    ap (framed c.args.w.0 c.args.value c.args.also) c.in-Ok.ensures.does
+    let core : stored_in_frame c.args.w.0 c.args.value c.args.also (core_of m)
+    ≡ finished p n c.args.word (stored_in_frame c.args.w.0 c.args.value c.args.also (core_of k)) =
+    ap (stored_in_frame c.args.w.0 c.args.value c.args.also) c.in-Ok.ensures.does
     ∙ framed_finished p n c.args.word c.args.w.0 c.args.value c.args.also (core_of k) in
     let cache : maps m.cache ≡ maps k.cache =
     ap (λ (s : CoreState). s.cache) c.in-Ok.ensures.does ∙ cache-finished p n c.args.word (core_of k) in
-    did_as _ (moves (framed c.args.w.0 c.args.value c.args.also (core_of m)) (flushed m.config (maps m.cache) l)) 1
+    did_as _ (moves (stored_in_frame c.args.w.0 c.args.value c.args.also (core_of m)) (flush_line m.config (maps m.cache) l)) 1
     c.args.out.now c.store_framed.new.out c.store_framed.new.core
-    (ap (λ (s : CoreState). moves s (flushed k.config (maps k.cache) l)) (sym core)
-    ∙ ap (λ (x : Cache). moves (framed c.args.w.0 c.args.value c.args.also (core_of m)) (flushed k.config x l)) (sym cache)
-    ∙ ap (λ (sh : Shape). moves (framed c.args.w.0 c.args.value c.args.also (core_of m)) (flushed sh (maps m.cache) l))
+    (ap (λ (s : CoreState). moves s (flush_line k.config (maps k.cache) l)) (sym core)
+    ∙ ap (λ (x : Cache). moves (stored_in_frame c.args.w.0 c.args.value c.args.also (core_of m)) (flush_line k.config x l)) (sym cache)
+    ∙ ap (λ (sh : Shape). moves (stored_in_frame c.args.w.0 c.args.value c.args.also (core_of m)) (flush_line sh (maps m.cache) l))
     (sym c.in-Ok.ensures.stays.config))
     c.store_framed.ensures.does

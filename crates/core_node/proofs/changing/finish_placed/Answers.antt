@@ -3,7 +3,7 @@ use Rattle.tcc_maps.specs.Cache.{Cache, free_way}
 use Rattle.tcc_maps.specs.Shape.{Shape, set_of}
 use Rattle.tcc_maps.specs.Words.{line_of}
 use Rattle.tcc_rules.specs.State.{CoreState}
-use Rattle.tcc_rules.specs.Execute.{framed, place}
+use Rattle.tcc_rules.specs.Execute.{stored_in_frame, place}
 use Rattle.rv_exec.specs.Needs.{need_of}
 use Rattle.rv_plain.specs.Attempts.{alone}
 use Rattle.spec_cache.specs.Held.{maps}
@@ -39,6 +39,6 @@ returns-clause-does c =
     let w = c.args.w.0 in
     let x = c.args.value in
     c.store_placed.ensures.does
-    ∙ ap (λ (sh : Shape). framed w x false (place sh (line_of w) (core_of m))) c.in-Ok.ensures.stays.config
-    ∙ ap (λ (s : CoreState). framed w x false (place k.config (line_of w) s)) c.in-Ok.ensures.does
+    ∙ ap (λ (sh : Shape). stored_in_frame w x false (place sh (line_of w) (core_of m))) c.in-Ok.ensures.stays.config
+    ∙ ap (λ (s : CoreState). stored_in_frame w x false (place k.config (line_of w) s)) c.in-Ok.ensures.does
     ∙ framed_placed k.config (line_of w) (alone c.args.inst.now) (need_of c.args.need) x w x false (core_of k)

@@ -3,7 +3,7 @@ use Rattle.tcc_maps.specs.Cache.{Cache}
 use Rattle.tcc_maps.specs.CacheChange.{stored}
 use Rattle.tcc_maps.specs.Words.{line_of}
 use Rattle.tcc_rules.specs.State.{CoreState}
-use Rattle.tcc_rules.specs.Execute.{framed, place}
+use Rattle.tcc_rules.specs.Execute.{stored_in_frame, place}
 use Rattle.spec_cache.specs.Held.{maps}
 use Rattle.core_node.specs.View.{core_of}
 use Rattle.core_node.proofs.Cores.{whole_cache}
@@ -19,11 +19,11 @@ store-requires c =
     ∙ placed_held k.config l (maps k.cache) c.requires.free
 
 pub returns-clause-does : goal.returns-clause-does
-unfolding core_of framed
+unfolding core_of stored_in_frame
 returns-clause-does c =
     let k = c.args.core.now in
     ap (λ (m : Cache). record (core_of c.place.new.core) { cache = m }) c.store.ensures.maps
-    ∙ ap (framed c.args.w.0 c.args.value false)
+    ∙ ap (stored_in_frame c.args.w.0 c.args.value false)
     (c.place.ensures.does ∙ ap (λ (x : ℕ). place k.config x (core_of k)) c.line_of_word.ensures)
 
 pub returns-clause-stays : goal.returns-clause-stays

@@ -1,7 +1,7 @@
 use Rattle.std.proofs.Common.{◌≡◌, ◌<◌, Some, refl, ap, ◌∙◌}
 use Rattle.tcc_base.specs.declared.access.Commit.{Commit as Noted}
 use Rattle.tcc_maps.specs.Cache.{writes_at}
-use Rattle.tcc_rules.specs.Commit.{after_commit, commit, committed_core, noted}
+use Rattle.tcc_rules.specs.Commit.{with_last_commit, commit, committed_core, noted}
 use Rattle.spec_cache.specs.Held.{maps}
 use Rattle.commit_engine.specs.Engine.{after_of}
 use Rattle.core_node.specs.View.{core_of, IsCore}
@@ -21,7 +21,7 @@ unfolding core_of commit committed_core
 returns-clause-does c =
     let k = c.args.core.now in
     let some : 0 < k.config.dirs = c.dirs.ensures.allowed.1.0 in
-    let after : after_of c.note_commit.new.after ≡ after_commit (writes_at k.config (maps k.cache)) c.args.tid.0 (after_of k.after) =
+    let after : after_of c.note_commit.new.after ≡ with_last_commit (writes_at k.config (maps k.cache)) c.args.tid.0 (after_of k.after) =
     c.note_commit.ensures.noted ∙ noted_written k.config (maps k.cache) c.written_homes-written.result.bits c.args.tid.0 c.dirs.result (after_of k.after)
     some c.dirs.ensures.value c.written_homes-written.ensures in
     record {

@@ -1,6 +1,6 @@
 use Rattle.std.proofs.Common.{◌≡◌, ◌<◌, Some, refl, ap, ◌∙◌}
 use Rattle.tcc_base.specs.declared.access.Commit.{Commit as Noted}
-use Rattle.tcc_rules.specs.Commit.{after_commit, solo_writes_at, solo_commit, committed_core, noted}
+use Rattle.tcc_rules.specs.Commit.{with_last_commit, solo_writes_at, solo_commit, committed_core, noted}
 use Rattle.spec_cache.specs.Held.{maps}
 use Rattle.overflow_buf.specs.Kept.{spilled}
 use Rattle.commit_engine.specs.Engine.{after_of}
@@ -22,7 +22,7 @@ unfolding core_of solo_commit committed_core
 returns-clause-does c =
     let k = c.args.core.now in
     let some : 0 < k.config.dirs = c.dirs.ensures.allowed.1.0 in
-    let after : after_of c.note_commit.new.after ≡ after_commit (solo_writes_at k.config (maps k.cache) (spilled k.spilled)) c.args.tid.0 (after_of k.after) =
+    let after : after_of c.note_commit.new.after ≡ with_last_commit (solo_writes_at k.config (maps k.cache) (spilled k.spilled)) c.args.tid.0 (after_of k.after) =
     c.note_commit.ensures.noted ∙ noted_alone k.config (maps k.cache) (spilled k.spilled) c.solo_homes-written.result.bits c.args.tid.0 c.dirs.result
     (after_of k.after) some c.dirs.ensures.value c.solo_homes-written.ensures in
     record {

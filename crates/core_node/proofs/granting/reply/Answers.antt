@@ -1,5 +1,5 @@
 use Rattle.std.proofs.Common.{refl, ap, ◌∙◌}
-use Rattle.tcc_rules.specs.CoreDeliver.{reply_phase}
+use Rattle.tcc_rules.specs.CoreDeliver.{reply_in_phase}
 use Rattle.commit_engine.specs.Engine.{phase_of}
 use Rattle.commit_engine.specs.declared.phase.Phase.{Phase}
 use Rattle.core_node.specs.View.{core_of}
@@ -27,5 +27,5 @@ returns-in-Halted-clause-does c = rw c.in-Halted.is (did_silently _ _ _ _ refl)
 pub returns-in-Overflowing-clause-does : goal.returns-in-Overflowing-clause-does
 returns-in-Overflowing-clause-does c =
     let k = c.args.core.now in
-    did_as _ _ _ _ _ _ (ap (λ (p : Phase). reply_phase k.config c.args.d.0 c.args.tid.0 (core_of k) (phase_of p)) c.in-Overflowing.is
+    did_as _ _ _ _ _ _ (ap (λ (p : Phase). reply_in_phase k.config c.args.d.0 c.args.tid.0 (core_of k) (phase_of p)) c.in-Overflowing.is
     ∙ c.reply_room.ensures.does) (did_silently _ _ _ _ refl)

@@ -1,6 +1,6 @@
 use Rattle.std.proofs.Common.{ap, ◌∙◌, Option}
 use Rattle.tcc_base.specs.declared.names.Tid.{Tid}
-use Rattle.tcc_rules.specs.CoreDeliver.{reply_phase}
+use Rattle.tcc_rules.specs.CoreDeliver.{reply_in_phase}
 use Rattle.commit_engine.specs.Engine.{phase_of}
 use Rattle.commit_engine.specs.declared.phase.Phase.TheVariants as code
 use Rattle.core_node.specs.View.{core_of}
@@ -9,10 +9,10 @@ use Rattle.core_node.proofs.granting.reply_room.Goals as goal
 pub returns-in-None-clause-does : goal.returns-in-None-clause-does
 returns-in-None-clause-does c =
     let k = c.args.core.now in
-    ap (λ (o : Option Tid). reply_phase k.config c.args.d.0 c.args.tid.0 (core_of k) (phase_of (code.Overflowing o))) c.in-None.is
+    ap (λ (o : Option Tid). reply_in_phase k.config c.args.d.0 c.args.tid.0 (core_of k) (phase_of (code.Overflowing o))) c.in-None.is
 
 pub returns-in-Some-clause-does : goal.returns-in-Some-clause-does
 returns-in-Some-clause-does c =
     let k = c.args.core.now in
-    ap (λ (o : Option Tid). reply_phase k.config c.args.d.0 c.args.tid.0 (core_of k) (phase_of (code.Overflowing o))) c.in-Some.is
+    ap (λ (o : Option Tid). reply_in_phase k.config c.args.d.0 c.args.tid.0 (core_of k) (phase_of (code.Overflowing o))) c.in-Some.is
     ∙ c.reply_overflowing.ensures.does

@@ -3,7 +3,7 @@ use Rattle.tcc_maps.specs.Cache.{Cache}
 use Rattle.tcc_maps.specs.Shape.{Shape}
 use Rattle.tcc_maps.specs.CacheLook.{look_load}
 use Rattle.tcc_rules.specs.State.{CoreState}
-use Rattle.tcc_rules.specs.Execute.{used}
+use Rattle.tcc_rules.specs.Execute.{with_read_mark}
 use Rattle.rv_exec.specs.Needs.{need_of}
 use Rattle.rv_plain.specs.Attempts.{alone}
 use Rattle.core_node.specs.View.{core_of}
@@ -72,7 +72,8 @@ returns-in-Ok-finish-clause-does c =
     rw (load_valid k.config p n c.args.w.0 c.in-Hit.word (core_of k)
     (sym c.in_default.ensures) (valid_hit k.cache.config c.args.w.0 c.in-Hit.word (core_of k).cache c.in-Hit.ensures.answer))
     (did_silently _ 1 c.args.out.now c.mark_used.new.core
-    (c.mark_used.ensures.does ∙ ap (used c.args.w.0) c.in-Ok-finish.ensures.does ∙ finished_used p n c.in-Hit.word c.args.w.0 (core_of k)))
+    (c.mark_used.ensures.does ∙ ap (with_read_mark c.args.w.0) c.in-Ok-finish.ensures.does
+    ∙ finished_used p n c.in-Hit.word c.args.w.0 (core_of k)))
 
 pub returns-in-Ok-finish-clause-blocked : goal.returns-in-Ok-finish-clause-blocked
 unfolding core_of

@@ -2,7 +2,7 @@ use Rattle.std.proofs.Common.{◌≡◌, ap, sym, subst, ◌∙◌}
 use Rattle.tcc_maps.specs.Shape.{Shape}
 use Rattle.tcc_rules.specs.State.{CoreState}
 use Rattle.tcc_rules.specs.Attempt.{Out}
-use Rattle.tcc_rules.specs.Execute.{ask, place}
+use Rattle.tcc_rules.specs.Execute.{request_line, place}
 use Rattle.spec_cache.specs.Held.{maps}
 use Rattle.core_node.specs.View.{core_of, Did}
 use Rattle.core_node.proofs.Placed.{placed_held}
@@ -29,9 +29,9 @@ returns-else-has_frame-clause-does c =
     let l = c.args.line.0 in
     let absent = sym c.has_frame.ensures ∙ c.if-has_frame.false in
     let free = way_free k.config l (core_of k) absent c.requires.found in
-    let same : ask c.place.new.core.config l (core_of c.place.new.core) ≡ ask k.config l (place k.config l (core_of k)) =
-    ap (λ (sh : Shape). ask sh l (core_of c.place.new.core)) c.place.ensures.stays.config
-    ∙ ap (ask k.config l) c.place.ensures.does in
+    let same : request_line c.place.new.core.config l (core_of c.place.new.core) ≡ request_line k.config l (place k.config l (core_of k)) =
+    ap (λ (sh : Shape). request_line sh l (core_of c.place.new.core)) c.place.ensures.stays.config
+    ∙ ap (request_line k.config l) c.place.ensures.does in
     rw (fetched_placed k.config l (core_of k) absent free)
     (subst (λ (o : Out). Did o 1 c.args.out.now c.ask-else-has_frame.new.core c.ask-else-has_frame.new.out)
     same c.ask-else-has_frame.ensures.does)

@@ -1,6 +1,6 @@
 use Rattle.std.proofs.Common.{ap, Option}
 use Rattle.tcc_base.specs.declared.names.Tid.{Tid}
-use Rattle.tcc_rules.specs.CoreDeliver.{violated_in}
+use Rattle.tcc_rules.specs.CoreDeliver.{violated_in_phase}
 use Rattle.commit_engine.specs.Engine.{phase_of}
 use Rattle.commit_engine.specs.declared.phase.Phase.TheVariants as code
 use Rattle.core_node.specs.View.{core_of}
@@ -10,12 +10,12 @@ use Rattle.core_node.proofs.rolling.give_room_up.Goals as goal
 pub returns-in-None-clause-does : goal.returns-in-None-clause-does
 returns-in-None-clause-does c =
     let k = c.args.core.now in
-    did_as _ _ _ _ _ _ (ap (λ (o : Option Tid). violated_in k.config (core_of k) (phase_of (code.Overflowing o))) c.in-None.is)
+    did_as _ _ _ _ _ _ (ap (λ (o : Option Tid). violated_in_phase k.config (core_of k) (phase_of (code.Overflowing o))) c.in-None.is)
     (did_silently _ _ _ _ c.doom.ensures.does)
 
 pub returns-in-Some-clause-does : goal.returns-in-Some-clause-does
 unfolding core_of
 returns-in-Some-clause-does c =
     let k = c.args.core.now in
-    did_as _ _ _ _ _ _ (ap (λ (o : Option Tid). violated_in k.config (core_of k) (phase_of
+    did_as _ _ _ _ _ _ (ap (λ (o : Option Tid). violated_in_phase k.config (core_of k) (phase_of
     (code.Overflowing o))) c.in-Some.is) c.give_way.ensures.does

@@ -1,6 +1,6 @@
 use Rattle.std.proofs.Common.{◌≡◌, Bool, refl, ap, ◌∙◌}
 use Rattle.tcc_maps.specs.Cache.{Cache}
-use Rattle.tcc_rules.specs.Execute.{used}
+use Rattle.tcc_rules.specs.Execute.{with_read_mark}
 use Rattle.tcc_rules.specs.Attempt.{is_running}
 use Rattle.spec_cache.specs.Held.{maps}
 use Rattle.spec_cache.specs.Look.{loaded}
@@ -11,7 +11,7 @@ use Rattle.core_node.proofs.Used.{loaded_valid, used_by, held-loaded}
 use Rattle.core_node.proofs.storing.mark_used.Goals as goal
 
 pub returns-clause-does : goal.returns-clause-does
-unfolding core_of used
+unfolding core_of with_read_mark
 returns-clause-does c =
     let k = c.args.core.now in
     let b = is_running (phase_of k.phase) in

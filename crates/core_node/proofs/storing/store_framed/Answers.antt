@@ -1,7 +1,7 @@
 use Rattle.std.proofs.Common.{refl, ap, ◌∙◌}
 use Rattle.tcc_maps.specs.CacheChange.{stored}
 use Rattle.tcc_maps.specs.Shape.{home}
-use Rattle.tcc_rules.specs.Execute.{framed}
+use Rattle.tcc_rules.specs.Execute.{stored_in_frame}
 use Rattle.spec_cache.specs.Held.{maps}
 use Rattle.core_node.specs.View.{core_of}
 use Rattle.core_node.proofs.Cores.{whole_cache}
@@ -11,7 +11,7 @@ use Rattle.tcc_maps.specs.Words.{line_of}
 use Rattle.std.specs.Prelude.{ℕ}
 
 pub returns-in-Some-clause-does : goal.returns-in-Some-clause-does
-unfolding core_of framed
+unfolding core_of stored_in_frame
 returns-in-Some-clause-does c =
     let k = c.args.core.now in
     record {
@@ -31,7 +31,7 @@ returns-in-Some-clause-stays c = record {
 }
 
 pub returns-in-None-clause-does : goal.returns-in-None-clause-does
-unfolding core_of framed
+unfolding core_of stored_in_frame
 returns-in-None-clause-does c =
     let k = c.args.core.now in
     record {

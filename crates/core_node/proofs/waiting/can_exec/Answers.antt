@@ -1,7 +1,7 @@
 use Rattle.std.proofs.Common.{is_some, ap, ◌∙◌, sym}
 use Rattle.image_load.specs.Contents.{started}
 use Rattle.rv_code.specs.Machine.{program}
-use Rattle.tcc_rules.specs.CoreExec.{core_exec, exec_phase}
+use Rattle.tcc_rules.specs.CoreExec.{core_exec, exec_in_phase}
 use Rattle.commit_engine.specs.Engine.{phase_of}
 use Rattle.commit_engine.specs.declared.phase.Phase.{Phase}
 use Rattle.core_node.specs.View.{core_of}
@@ -13,7 +13,7 @@ unfolding core_exec core_of
 returns-in-Running c =
     let k = c.args.core.now in
     c.can_execute.ensures ∙
-    sym (ap (λ (q : Phase). is_some (exec_phase k.config (program (started c.args.code.now)) k.id.0 (core_of k)
+    sym (ap (λ (q : Phase). is_some (exec_in_phase k.config (program (started c.args.code.now)) k.id.0 (core_of k)
     (phase_of q))) c.in-Running.is)
 
 pub returns-in-Solo : goal.returns-in-Solo
@@ -21,34 +21,35 @@ unfolding core_exec core_of
 returns-in-Solo c =
     let k = c.args.core.now in
     c.can_execute-in-Solo.ensures ∙
-    sym (ap (λ (q : Phase). is_some (exec_phase k.config (program (started c.args.code.now)) k.id.0 (core_of k) (phase_of q))) c.in-Solo.is)
+    sym (ap (λ (q : Phase). is_some (exec_in_phase k.config (program (started c.args.code.now)) k.id.0 (core_of k) (phase_of q)))
+    c.in-Solo.is)
 
 pub returns-in-Ready : goal.returns-in-Ready
 unfolding core_exec core_of
 returns-in-Ready c =
     let k = c.args.core.now in
-    sym (ap (λ (q : Phase). is_some (exec_phase k.config (program (started c.args.code.now)) k.id.0 (core_of k)
+    sym (ap (λ (q : Phase). is_some (exec_in_phase k.config (program (started c.args.code.now)) k.id.0 (core_of k)
     (phase_of q))) c.in-Ready.is)
 
 pub returns-in-AwaitTid : goal.returns-in-AwaitTid
 unfolding core_exec core_of
 returns-in-AwaitTid c =
     let k = c.args.core.now in
-    sym (ap (λ (q : Phase). is_some (exec_phase k.config (program (started c.args.code.now)) k.id.0 (core_of k)
+    sym (ap (λ (q : Phase). is_some (exec_in_phase k.config (program (started c.args.code.now)) k.id.0 (core_of k)
     (phase_of q))) c.in-AwaitTid.is)
 
 pub returns-in-DoomedTid : goal.returns-in-DoomedTid
 unfolding core_exec core_of
 returns-in-DoomedTid c =
     let k = c.args.core.now in
-    sym (ap (λ (q : Phase). is_some (exec_phase k.config (program (started c.args.code.now)) k.id.0 (core_of k)
+    sym (ap (λ (q : Phase). is_some (exec_in_phase k.config (program (started c.args.code.now)) k.id.0 (core_of k)
     (phase_of q))) c.in-DoomedTid.is)
 
 pub returns-in-Probing : goal.returns-in-Probing
 unfolding core_exec core_of
 returns-in-Probing c =
     let k = c.args.core.now in
-    sym (ap (λ (q : Phase). is_some (exec_phase k.config (program (started c.args.code.now)) k.id.0 (core_of k)
+    sym (ap (λ (q : Phase). is_some (exec_in_phase k.config (program (started c.args.code.now)) k.id.0 (core_of k)
     (phase_of q))) c.in-Probing.is)
 
 pub returns-in-Overflowing : goal.returns-in-Overflowing
@@ -56,12 +57,12 @@ unfolding core_exec core_of
 returns-in-Overflowing c =
     let k = c.args.core.now in
     sym (ap is_some (exec_overflowing k.config (program (started c.args.code.now)) k.id.0 (core_of k) c.in-Overflowing.field-0)) ∙
-    sym (ap (λ (q : Phase). is_some (exec_phase k.config (program (started c.args.code.now)) k.id.0 (core_of k)
+    sym (ap (λ (q : Phase). is_some (exec_in_phase k.config (program (started c.args.code.now)) k.id.0 (core_of k)
     (phase_of q))) c.in-Overflowing.is)
 
 pub returns-in-Halted : goal.returns-in-Halted
 unfolding core_exec core_of
 returns-in-Halted c =
     let k = c.args.core.now in
-    sym (ap (λ (q : Phase). is_some (exec_phase k.config (program (started c.args.code.now)) k.id.0 (core_of k)
+    sym (ap (λ (q : Phase). is_some (exec_in_phase k.config (program (started c.args.code.now)) k.id.0 (core_of k)
     (phase_of q))) c.in-Halted.is)

@@ -3,7 +3,7 @@ use borrow.Author.Tests.{eq-eqb, ne_eqb}
 use Rattle.tcc_maps.specs.Words.{count_below}
 use Rattle.tcc_maps.specs.Shape.{lines}
 use Rattle.tcc_maps.specs.Lines.{has_mark}
-use Rattle.tcc_rules.specs.DirDeliver.{commit}
+use Rattle.tcc_rules.specs.DirDeliver.{dir_commit}
 use Rattle.dir_lines.specs.Kept.{kept}
 use Rattle.directory.specs.declared.handled.Handled.TheVariants.{Handled as Done}
 use Rattle.directory.specs.Data.{dir_of}
@@ -30,7 +30,7 @@ returns-then-marked_lines-count-clause-gives c =
 
 pub returns-clause-gives : goal.returns-clause-gives
 returns-clause-gives c =
-    subst (λ d. Gives d c.settle.new.self c.args.out.now.list.items c.invalidate.new.out.list.items Done (commit d.lines.place.shape c.args.src.0 c.args.tid.0 c.args.count)) c.self.view_is
+    subst (λ d. Gives d c.settle.new.self c.args.out.now.list.items c.invalidate.new.out.list.items Done (dir_commit d.lines.place.shape c.args.src.0 c.args.tid.0 c.args.count)) c.self.view_is
     (commit-takes c.self.inside.lines.place.shape c.self.inside.lines c.self.inside.words c.self.inside.skips c.self.inside.owed c.own_marked.new.lines c.in_ok-owed.owed c.settle.new.self
     c.args.out.now.list.items c.invalidate.new.out.list.items c.args.src.0 c.args.tid.0 c.args.count c.own_marked.ensures.map c.in_ok-owed.ensures.count c.in_ok-owed.ensures.sent
     c.settle.ensures.settled (eq-eqb c.self.inside.skips.serving c.args.tid.0 (sym c.serving.ensures ∙ c.if-serving-tid.false))

@@ -1,6 +1,6 @@
 use Rattle.std.proofs.Common.{◌≡◌, None, option_map, ap, sym, ◌∙◌, arith}
 use borrow.Author.Tests.{lt-ltb, le-ltb}
-use Rattle.tcc_rules.specs.DirDeliver.{ask_owner, load_owned, load_request}
+use Rattle.tcc_rules.specs.DirDeliver.{ask_owner, load_unless_owned, load_request}
 use Rattle.dir_lines.specs.Kept.{kept}
 use Rattle.directory.specs.Data.{dir_of}
 use Rattle.directory.proofs.RuleCases.{le-true, le-false, load-early, load-marked, load-other}
@@ -29,7 +29,7 @@ returns-in-Some-clause-gives c =
     gives-ok c.args.self.now c.ask.new.self c.args.out.now.list.items c.ask.new.out.list.items c.ask.result (ask_owner c.in-Some.owner.0 c.args.line.0) (load_request c.args.src.0 c.args.line.0 c.args.after.0) (λ e.
     load-other c.args.src.0 c.args.line.0 c.args.after.0 (dir_of e c.args.self.now) (le-false c.args.self.now.serving.serving c.args.after.0 (omega arith))
     (le-ltb 0 ((kept c.args.self.now.lines).mark c.args.line.0) (omega arith))
-    ∙ ap (load_owned c.args.src.0 c.args.line.0 (dir_of e c.args.self.now))
+    ∙ ap (load_unless_owned c.args.src.0 c.args.line.0 (dir_of e c.args.self.now))
     (ap (λ d. (kept d.lines).owner c.args.line.0) (sym c.self.view_is) ∙ (sym c.get-record.ensures.owner ∙ ap (option_map (λ k. k.0)) c.in-Some.is)))
     c.ask.ensures.gives
 
@@ -38,9 +38,9 @@ unfolding dir_of
 returns-in-None-clause-gives c =
     let serving : c.serving.result.0 ≡ c.args.self.now.serving.serving = c.serving.ensures ∙ ap (λ d. d.serving.serving) c.self.view_is in
     let mark : c.get-record.result.mark.0 ≡ (kept c.args.self.now.lines).mark c.args.line.0 = c.get-record.ensures.mark ∙ ap (λ d. (kept d.lines).mark c.args.line.0) c.self.view_is in
-    gives-ok c.args.self.now c.fill.new.self c.args.out.now.list.items c.fill.new.out.list.items c.fill.result (λ s. load_owned c.args.src.0 c.args.line.0 s None) (load_request c.args.src.0 c.args.line.0 c.args.after.0) (λ e.
+    gives-ok c.args.self.now c.fill.new.self c.args.out.now.list.items c.fill.new.out.list.items c.fill.result (λ s. load_unless_owned c.args.src.0 c.args.line.0 s None) (load_request c.args.src.0 c.args.line.0 c.args.after.0) (λ e.
     load-other c.args.src.0 c.args.line.0 c.args.after.0 (dir_of e c.args.self.now) (le-false c.args.self.now.serving.serving c.args.after.0 (omega arith))
     (le-ltb 0 ((kept c.args.self.now.lines).mark c.args.line.0) (omega arith))
-    ∙ ap (load_owned c.args.src.0 c.args.line.0 (dir_of e c.args.self.now))
+    ∙ ap (load_unless_owned c.args.src.0 c.args.line.0 (dir_of e c.args.self.now))
     (ap (λ d. (kept d.lines).owner c.args.line.0) (sym c.self.view_is) ∙ (sym c.get-record.ensures.owner ∙ ap (option_map (λ k. k.0)) c.in-None.is)))
     c.fill.ensures.gives

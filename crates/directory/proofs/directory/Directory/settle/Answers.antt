@@ -2,7 +2,7 @@ use Rattle.std.proofs.Common.{ap, sym, ◌∙◌, ◌≡◌, ◌==◌, true, fal
 use borrow.Author.Tests.{eq-eqb, ne_eqb}
 use Rattle.tcc_maps.specs.Serving.{advance}
 use Rattle.tcc_maps.specs.Lines.{unmarked}
-use Rattle.tcc_rules.specs.DirDeliver.{settled, moved_on}
+use Rattle.tcc_rules.specs.DirDeliver.{moved_on_if_settled, moved_on}
 use Rattle.dir_lines.specs.Kept.{kept}
 use Rattle.dir_lines.specs.Words.{words_at}
 use Rattle.directory.specs.Data.{dir_of}
@@ -15,7 +15,7 @@ unfolding dir_of moved_on
 returns-then-self-eq0-clause-settled c = λ e.
     (λ i. record { words = words_at e c.self.inside.words; serving = c.advance.ensures i; lines = c.clear_marks.ensures.map i; owed = c.self.inside.owed })
     ∙ (sym (settled-none (dir_of e (data_of c.self.inside)) (eq-eqb c.self.inside.owed 0 c.if-self-eq0.true))
-    ∙ ap (λ d. settled (dir_of e d)) c.self.view_is)
+    ∙ ap (λ d. moved_on_if_settled (dir_of e d)) c.self.view_is)
 
 pub returns-else-self-eq0-clause-settled : goal.returns-else-self-eq0-clause-settled
 unfolding dir_of

@@ -1,5 +1,5 @@
 use Rattle.std.proofs.Common.{ap}
-use Rattle.tcc_rules.specs.DirDeliver.{dir_deliver, skip, abort, probe, load_request, mark, commit, acknowledgement, write_back}
+use Rattle.tcc_rules.specs.DirDeliver.{dir_deliver, skip, abort, probe, load_request, mark, dir_commit, acknowledgement, write_back}
 use Rattle.tcc_msg.specs.Plain.{msg_of}
 use Rattle.directory.specs.Data.{dir_of}
 use Rattle.directory.proofs.Giving.{gives-by, gives-ok}
@@ -38,7 +38,7 @@ returns-in-Mark-clause-gives c =
 pub returns-in-Commit-clause-gives : goal.returns-in-Commit-clause-gives
 unfolding dir_deliver
 returns-in-Commit-clause-gives c =
-    gives-ok c.args.self.now c.commit.new.self c.args.out.now.list.items c.commit.new.out.list.items c.commit.result (commit c.args.self.now.lines.place.shape c.args.src.0 c.in-Commit.tid.0 c.in-Commit.count) (λ s. dir_deliver c.args.self.now.lines.place.shape s c.args.src.0 (msg_of c.args.msg.now))
+    gives-ok c.args.self.now c.commit.new.self c.args.out.now.list.items c.commit.new.out.list.items c.commit.result (dir_commit c.args.self.now.lines.place.shape c.args.src.0 c.in-Commit.tid.0 c.in-Commit.count) (λ s. dir_deliver c.args.self.now.lines.place.shape s c.args.src.0 (msg_of c.args.msg.now))
     (λ e. ap (λ m. dir_deliver c.args.self.now.lines.place.shape (dir_of e c.args.self.now) c.args.src.0 (msg_of m)) c.in-Commit.is) c.commit.ensures.gives
 
 pub returns-in-InvAck-clause-gives : goal.returns-in-InvAck-clause-gives

@@ -5,7 +5,7 @@ use Rattle.tcc_maps.specs.Masks.{full}
 use Rattle.tcc_maps.specs.Shape.{lines}
 use Rattle.tcc_maps.specs.Lines.{has_mark}
 use Rattle.tcc_maps.specs.Judge.{judge}
-use Rattle.tcc_rules.specs.DirDeliver.{load_owned, mark_owned}
+use Rattle.tcc_rules.specs.DirDeliver.{load_unless_owned, mark_unless_owned}
 use Rattle.dir_lines.specs.Kept.{kept}
 use Rattle.directory.specs.Data.{dir_of}
 use Rattle.directory.specs.Gives.{is_taken}

@@ -5,7 +5,7 @@ use Rattle.tcc_maps.specs.Masks.{full}
 use Rattle.tcc_maps.specs.Shape.{lines}
 use Rattle.tcc_maps.specs.Lines.{has_mark}
 use Rattle.tcc_maps.specs.Judge.{judge}
-use Rattle.tcc_rules.specs.DirDeliver.{load_owned, mark_owned}
+use Rattle.tcc_rules.specs.DirDeliver.{load_unless_owned, mark_unless_owned}
 use Rattle.dir_lines.specs.Kept.{kept}
 use Rattle.directory.specs.Data.{dir_of}
 use Rattle.directory.specs.Gives.{is_taken}
@@ -36,7 +36,7 @@ returns-in-Some c = λ e k.
     ∙ (ask-taken c.in-Some.field-0.0 c.args.line.0 (dir_of e c.args.self.now)
     ∙ sym (ap is_taken (load-other k c.args.line.0 c.args.after.0 (dir_of e c.args.self.now) (le-false c.args.self.now.serving.serving c.args.after.0 (omega arith))
     (le-ltb 0 ((kept c.args.self.now.lines).mark c.args.line.0) (omega arith))
-    ∙ ap (load_owned k c.args.line.0 (dir_of e c.args.self.now))
+    ∙ ap (load_unless_owned k c.args.line.0 (dir_of e c.args.self.now))
     (ap (λ d. (kept d.lines).owner c.args.line.0) (sym c.self.view_is) ∙ (sym c.get-record.ensures.owner ∙ ap (option_map (λ q. q.0)) c.in-Some.is)))))
 
 pub returns-in-None : goal.returns-in-None
@@ -46,5 +46,5 @@ returns-in-None c = λ e k.
     let mark : c.get-record.result.mark.0 ≡ (kept c.args.self.now.lines).mark c.args.line.0 = c.get-record.ensures.mark ∙ ap (λ d. (kept d.lines).mark c.args.line.0) c.self.view_is in
     sym (ap is_taken (load-other k c.args.line.0 c.args.after.0 (dir_of e c.args.self.now) (le-false c.args.self.now.serving.serving c.args.after.0 (omega arith))
     (le-ltb 0 ((kept c.args.self.now.lines).mark c.args.line.0) (omega arith))
-    ∙ ap (load_owned k c.args.line.0 (dir_of e c.args.self.now))
+    ∙ ap (load_unless_owned k c.args.line.0 (dir_of e c.args.self.now))
     (ap (λ d. (kept d.lines).owner c.args.line.0) (sym c.self.view_is) ∙ (sym c.get-record.ensures.owner ∙ ap (option_map (λ q. q.0)) c.in-None.is))))

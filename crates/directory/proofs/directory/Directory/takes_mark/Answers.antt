@@ -5,7 +5,7 @@ use Rattle.tcc_maps.specs.Masks.{full}
 use Rattle.tcc_maps.specs.Shape.{lines}
 use Rattle.tcc_maps.specs.Lines.{has_mark}
 use Rattle.tcc_maps.specs.Judge.{judge}
-use Rattle.tcc_rules.specs.DirDeliver.{load_owned, mark_owned}
+use Rattle.tcc_rules.specs.DirDeliver.{load_unless_owned, mark_unless_owned}
 use Rattle.dir_lines.specs.Kept.{kept}
 use Rattle.directory.specs.Data.{dir_of}
 use Rattle.directory.specs.Gives.{is_taken}
@@ -34,7 +34,7 @@ returns-in-Some c = λ e.
     ∙ (ask-taken c.in-Some.field-0.0 c.args.line.0 (dir_of e c.args.self.now)
     ∙ sym (ap is_taken (mark-served c.args.line.0 c.args.mask.0 c.args.tid.0 (dir_of e c.args.self.now) (le-ltb c.args.tid.0 c.args.self.now.serving.serving (omega arith))
     (le-ltb c.args.self.now.serving.serving c.args.tid.0 (omega arith))
-    ∙ ap (mark_owned c.args.line.0 c.args.mask.0 (dir_of e c.args.self.now))
+    ∙ ap (mark_unless_owned c.args.line.0 c.args.mask.0 (dir_of e c.args.self.now))
     (ap (λ d. if c.args.mask.0 == full then None else (kept d.lines).owner c.args.line.0) (sym c.self.view_is) ∙ sym c.in-Some.ensures))))
 
 pub returns-in-None : goal.returns-in-None
@@ -43,5 +43,5 @@ returns-in-None c = λ e.
     let serving : c.serving-serving.result.0 ≡ c.args.self.now.serving.serving = c.serving-serving.ensures ∙ ap (λ d. d.serving.serving) c.self.view_is in
     sym (ap is_taken (mark-served c.args.line.0 c.args.mask.0 c.args.tid.0 (dir_of e c.args.self.now) (le-ltb c.args.tid.0 c.args.self.now.serving.serving (omega arith))
     (le-ltb c.args.self.now.serving.serving c.args.tid.0 (omega arith))
-    ∙ ap (mark_owned c.args.line.0 c.args.mask.0 (dir_of e c.args.self.now))
+    ∙ ap (mark_unless_owned c.args.line.0 c.args.mask.0 (dir_of e c.args.self.now))
     (ap (λ d. if c.args.mask.0 == full then None else (kept d.lines).owner c.args.line.0) (sym c.self.view_is) ∙ sym c.in-None.ensures)))

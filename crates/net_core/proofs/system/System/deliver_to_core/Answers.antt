@@ -10,7 +10,7 @@ use Rattle.tcc_msg.specs.Plain.{msg_of}
 use Rattle.tcc_rules.specs.Attempt.{Out}
 use Rattle.tcc_rules.specs.CoreDeliver.{core_deliver}
 use Rattle.tcc_rules.specs.Links.{in_flight, taking}
-use Rattle.tcc_rules.specs.Step.{taken}
+use Rattle.tcc_rules.specs.Step.{if_core_takes}
 use Rattle.core_bank.specs.Bank.{cores_of}
 use Rattle.in_flight.specs.Flights.{is_ready, net_of, with_mark}
 use Rattle.dir_bank.specs.Bank.{dirs_of}
@@ -57,7 +57,7 @@ rule m src core x = core_deliver (settings_of m) (cores_of m.cores core.0) (node
 
 stepped : (m n : Machine) (src : NodeId) (core : CoreId) (k : ℕ) (x : CodeMsg) → IsWhole m → m ≡ n → n.unsent ≡ []
     → in_flight (net_of n.flights) (node_of src) (Core core.0) k ≡ Some (msg_of x)
-    → step_of m (event src core k) ≡ taken (world_of m) (node_of src) core.0 k (rule m src core x)
+    → step_of m (event src core k) ≡ if_core_takes (world_of m) (node_of src) core.0 k (rule m src core x)
 stepped m n src core k x w e u f =
     let g = flown m n (node_of src) core.0 k (msg_of x) e u f in
     let t = core-there m w (node_of src) core.0 k (msg_of x) g in
