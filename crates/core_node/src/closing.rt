@@ -13,7 +13,7 @@ ghost use Rattle.rv_plain.specs.Attempts.{alone, outcome_of};
 ghost use Rattle.commit_engine.specs.Engine.{phase_of};
 ghost use Rattle.commit_engine.specs.Sent.{HasRoom};
 ghost use Rattle.commit_engine.specs.Solo.{solo_list};
-ghost use Rattle.core_node.specs.Answers.{Follows, IsMemory};
+ghost use Rattle.core_node.specs.Answers.{HappenedAs, IsMemory};
 ghost use Rattle.core_node.specs.Executing.{concluded};
 ghost use Rattle.core_node.specs.View.{core_of, IsCore, Did, Stays};
 
@@ -76,7 +76,7 @@ fn close_alone(
 ) -> Result<Option<Commit>, CoreError>
     requires whole { IsCore core.old }
     requires room { core.old.n < 2 ^ 32 - 1 }
-    ensures does { OnOk result (Follows (close_rule core.old.config core.old.id.0 (phase_of (Phase.Solo tid)) (concluded state.now (outcome_of ended) (core_of core.old))) out.old core.new out.new) }
+    ensures does { OnOk result (HappenedAs (close_rule core.old.config core.old.id.0 (phase_of (Phase.Solo tid)) (concluded state.now (outcome_of ended) (core_of core.old))) out.old core.new out.new) }
     ensures noted { IfOk result (λ c. c ≡ (close_rule core.old.config core.old.id.0 (phase_of (Phase.Solo tid)) (concluded state.now (outcome_of ended) (core_of core.old))).commit) }
     ensures cause { OnErr result (IsMemory result) }
     ensures stays { Stays core.old core.new }
@@ -99,7 +99,7 @@ fn close_running(
 ) -> Result<Option<Commit>, CoreError>
     requires whole { IsCore core.old }
     requires room { core.old.n < 2 ^ 32 - 1 }
-    ensures does { OnOk result (Follows (close_rule core.old.config core.old.id.0 (phase_of Phase.Running) (concluded state.now (outcome_of ended) (core_of core.old))) out.old core.new out.new) }
+    ensures does { OnOk result (HappenedAs (close_rule core.old.config core.old.id.0 (phase_of Phase.Running) (concluded state.now (outcome_of ended) (core_of core.old))) out.old core.new out.new) }
     ensures noted { IfOk result (λ c. c ≡ None) }
     ensures cause { OnErr result (IsMemory result) }
     ensures stays { Stays core.old core.new }
@@ -122,7 +122,7 @@ pub(crate) fn close(
 ) -> Result<Option<Commit>, CoreError>
     requires whole { IsCore core.old }
     requires room { core.old.n < 2 ^ 32 - 1 }
-    ensures does { OnOk result (Follows (close_rule core.old.config core.old.id.0 (phase_of core.old.phase) (concluded state.now (outcome_of ended) (core_of core.old))) out.old core.new out.new) }
+    ensures does { OnOk result (HappenedAs (close_rule core.old.config core.old.id.0 (phase_of core.old.phase) (concluded state.now (outcome_of ended) (core_of core.old))) out.old core.new out.new) }
     ensures noted { IfOk result (λ c. c ≡ (close_rule core.old.config core.old.id.0 (phase_of core.old.phase) (concluded state.now (outcome_of ended) (core_of core.old))).commit) }
     ensures cause { OnErr result (IsMemory result) }
     ensures stays { Stays core.old core.new }
@@ -150,7 +150,7 @@ pub(crate) fn end(
 ) -> Result<Option<Commit>, CoreError>
     requires whole { IsCore core.old }
     requires room { core.old.n < 2 ^ 32 - 1 }
-    ensures does { OnOk result (Follows (close_rule core.old.config core.old.id.0 (phase_of core.old.phase) (finished (alone inst.now) Ends 0 (core_of core.old))) out.old core.new out.new) }
+    ensures does { OnOk result (HappenedAs (close_rule core.old.config core.old.id.0 (phase_of core.old.phase) (finished (alone inst.now) Ends 0 (core_of core.old))) out.old core.new out.new) }
     ensures noted { IfOk result (λ c. c ≡ (close_rule core.old.config core.old.id.0 (phase_of core.old.phase) (finished (alone inst.now) Ends 0 (core_of core.old))).commit) }
     ensures cause { OnErr result (IsMemory result) }
     ensures stays { Stays core.old core.new }
@@ -171,7 +171,7 @@ pub(crate) fn stop(
 ) -> Result<Option<Commit>, CoreError>
     requires whole { IsCore core.old }
     requires room { core.old.n < 2 ^ 32 - 1 }
-    ensures does { OnOk result (Follows (close_rule core.old.config core.old.id.0 (phase_of core.old.phase) (concluded (unreserved core.old.state) (outcome_of ended) (core_of core.old))) out.old core.new out.new) }
+    ensures does { OnOk result (HappenedAs (close_rule core.old.config core.old.id.0 (phase_of core.old.phase) (concluded (unreserved core.old.state) (outcome_of ended) (core_of core.old))) out.old core.new out.new) }
     ensures noted { IfOk result (λ c. c ≡ (close_rule core.old.config core.old.id.0 (phase_of core.old.phase) (concluded (unreserved core.old.state) (outcome_of ended) (core_of core.old))).commit) }
     ensures cause { OnErr result (IsMemory result) }
     ensures stays { Stays core.old core.new }

@@ -34,7 +34,7 @@ use Rattle.core_node.specs.View.{IsKnown}
 use Rattle.core_node.specs.declared.exec.Executed.{Executed}
 use Rattle.core_node.specs.declared.exec.Executed.TheVariants as done
 use Rattle.commit_engine.specs.Sent.{followed}
-use Rattle.core_bank.specs.Acted.{Acted, Follows}
+use Rattle.core_bank.specs.Acted.{Acted, ActedAs}
 use Rattle.core_bank.specs.Bank.{CoresData, cores_of}
 use Rattle.dir_bank.specs.Bank.{dirs_of}
 use Rattle.in_flight.specs.Flights.{Flights, net_of}
@@ -177,7 +177,7 @@ links-after : (m n : Machine) (c : ℕ) (before out : Outgoing) (o : Out) → Ac
 links-after m n c before out o a s =
     λ i. sending (net_of n.flights) (a.sender i) ((ap sends_of a.unsent ∙ sent-alone before out o a.clear s) i)
 
-moves-world : (m n : Machine) (c : ℕ) (before out : Outgoing) (o : Out) → ActsFrom m n c before out → Follows o c m.cores n.cores before out
+moves-world : (m n : Machine) (c : ℕ) (before out : Outgoing) (o : Out) → ActsFrom m n c before out → ActedAs o c m.cores n.cores before out
     → n.flights ≡ m.flights → world_of n ≡ core_moves (world_of m) c o
 unfolding core_moves world_of
 moves-world m n c before out o a f flights = world-is n (core_moves (world_of m) c o) f.cores (same-dirs m n a.code a.dirs) a.next
@@ -185,7 +185,7 @@ moves-world m n c before out o a f flights = world-is n (core_moves (world_of m)
     ∙ ap (λ net. sending net (Core c) o.sends) (ap net_of flights ∙ sym (settled-net m a.settled)))
 
 takes-world : (m n : Machine) (src : Node) (c k : ℕ) (before out : Outgoing) (o : Out) → ActsFrom m n c before out
-    → Follows o c m.cores n.cores before out → net_of n.flights ≡ taking (net_of m.flights) src (Core c) k
+    → ActedAs o c m.cores n.cores before out → net_of n.flights ≡ taking (net_of m.flights) src (Core c) k
     → world_of n ≡ core_takes (world_of m) src c k o
 unfolding core_takes world_of
 takes-world m n src c k before out o a f flights = world-is n (core_takes (world_of m) src c k o) f.cores
