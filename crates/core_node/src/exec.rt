@@ -13,7 +13,7 @@ ghost use Rattle.core_node.specs.View.{awaited_of, core_of, IsCore, Stays};
 use crate::closing::stop;
 use crate::committing::commit;
 use crate::delivering::{CoreError, make_room};
-use crate::executing::execute;
+use crate::executing::execute_need;
 use crate::quick::exec_quickly;
 use crate::state::Core;
 use commit_engine::Phase;
@@ -49,7 +49,7 @@ fn exec_here(core: &mut Core, code: &Code, out: &mut Outgoing) -> Result<Option<
         Err(trap) => stop(core, Outcome::Trapped(trap), out),
         Ok(inst) => {
             let need = code.plan(&inst, &core.state);
-            execute(core, &inst, need, out)
+            execute_need(core, &inst, need, out)
         }
     }
 }
