@@ -88,7 +88,7 @@ unfoldable pub use Rattle.tcc_attempt.specs.Follows.{sees}
 pub use Rattle.tcc_attempt.specs.Marks.{UsesStand, AllStand, AttemptFits, MarksFit}
 pub use Rattle.tcc_attempt.specs.Views.{Views, uses_delivered, views_after, uses_executed, no_views, rolls_back, uses_violated}
 unfoldable pub use Rattle.tcc_attempt.specs.Views.{views_from}
-pub use Rattle.tcc_serial.specs.Aim.{Suits, AllHold, IsSerialExecution, RunsAreSerial}
+pub use Rattle.tcc_serial.specs.Theorem.{Suits, AllHold, IsSerialExecution, RunsAreSerial}
 pub use Rattle.tcc_serial.specs.Alone.{ReadFits, IsApart, OwingFits, PhaseFits}
 pub use Rattle.tcc_serial.specs.AtHomes.{MarkedAtHomes, AccessesAtHomes, MarksAtHomes, UsedAtHomes, WrittenInMemory}
 pub use Rattle.tcc_serial.specs.Commits.{end_after, CoresSerial, CommitsSerial, CoreSerial, SeenSerial}

@@ -23,7 +23,7 @@ ghost use Rattle.tcc_serial.specs.Laws.{Always, OneWay, OneRequest, NeverPasses,
 ghost use Rattle.tcc_serial.specs.WayLaws.{AlwaysTold, UntoldWhereOpen, UntoldIsLive, AllWaysFit, GivenUpOnce, LiveIsOpen, CommittedWhereStored, SmallerAreResolved, SmallerAreGivenUp, WorkIsReached};
 ghost use Rattle.tcc_serial.specs.AtHomes.{AccessesAtHomes, MarksAtHomes, WrittenInMemory};
 ghost use Rattle.tcc_serial.specs.Invariants.{StartHasAll, RunsCarry, RunsCarryViews, RunsStayInMemory};
-ghost use Rattle.tcc_serial.specs.Aim.{AllHold, RunsAreSerial};
+ghost use Rattle.tcc_serial.specs.Theorem.{AllHold, RunsAreSerial};
 ghost use Rattle.tcc_serial.specs.Sound.{AttemptsSound};
 ghost use Rattle.tcc_serial.specs.KeepsViews.{KeepsViews};
 ghost use Rattle.tcc_serial.specs.KeepsHomes.{EventsKeepHomes};
