@@ -161,7 +161,9 @@ fn load<'a>(alloc: Global, command: &Command, read: &[List<u8>]) -> Result<Loade
         | Command::Bus { machine, .. } => load_files(alloc, machine.raw, &machine.config, read),
         Command::Replay { machine, .. }
         | Command::Serial { machine, .. }
-        | Command::Why { machine, .. } => { load_files(alloc, machine.raw, &machine.config, &read[1..]) }
+        | Command::Why { machine, .. } => {
+            load_files(alloc, machine.raw, &machine.config, &read[1..])
+        }
         Command::Trial {
             config,
             work,
