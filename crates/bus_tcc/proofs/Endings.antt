@@ -10,7 +10,7 @@ use Rattle.tcc_rules.specs.Execute.{end_transaction, execute, execute_need}
 use Rattle.tcc_rules.specs.State.{CoreState, Phase, Running, AwaitTid, DoomedTid, Probing, Ready, Overflowing, Solo, Halted}
 use Rattle.bus_rules.specs.Commit.{commit_out, written_words}
 use Rattle.core_node.specs.Answers.{IsBlocked, IsMemory}
-use Rattle.core_node.specs.Executing.{Told}
+use Rattle.core_node.specs.Executing.{TellsOfEvent}
 use Rattle.core_node.specs.declared.exec.Executed.{Executed}
 use Rattle.core_node.specs.declared.delivering.CoreError.{CoreError}
 use Rattle.core_node.specs.declared.delivering.CoreError.TheVariants as core_error
@@ -129,5 +129,5 @@ pub never-blocked : (A B : Type 0) (error : CoreError) (o : Option Out) (x : Out
 never-blocked A B core_error.Blocked o x e b = let q = sym e ∙ b in absurd (cc)
 never-blocked A B core_error.Memory o x e b = record {}
 
-pub as-told : (a b : Executed) (o p : Option Out) → a ≡ b → o ≡ p → Told a o → Told b p
-as-told a b o p e q h = subst (Told b) q (subst (λ x. Told x o) e h)
+pub as-told : (a b : Executed) (o p : Option Out) → a ≡ b → o ≡ p → TellsOfEvent a o → TellsOfEvent b p
+as-told a b o p e q h = subst (TellsOfEvent b) q (subst (λ x. TellsOfEvent x o) e h)

@@ -20,7 +20,7 @@ use Rattle.bus_tcc.specs.Machine.{BusMachine, bus_history_of, bus_of, bus_progra
 use Rattle.bus_tcc.specs.Inside.{machine_of}
 use Rattle.bus_tcc.specs.Whole.{AreBefore, IsBusWhole}
 use Rattle.bus_tcc.specs.declared.engine.Engine.TheInside.{Inside}
-use Rattle.bus_tcc.specs.declared.event.BusStep.{BusStep as Told}
+use Rattle.bus_tcc.specs.declared.event.BusStep.{BusStep}
 use Rattle.bus_tcc.specs.declared.event.BusStep.TheVariants.{Moved}
 use Rattle.bus_tcc.proofs.Reaching.{reached-on, reached-same}
 
@@ -41,7 +41,7 @@ next-is m n e o s w cs = ap (recorded (record { world = bus_world_of m; commits 
     ∙ (λ i. Some (record { world = sym w i; commits = sym cs i }))
 
 -- the event was taken
-pub took-by : (m n : BusMachine) (e : BusEvent) (o : BusStepped) (t : Told) → bus_step_of m e ≡ Some o → bus_world_of n ≡ o.world
+pub took-by : (m n : BusMachine) (e : BusEvent) (o : BusStepped) (t : BusStep) → bus_step_of m e ≡ Some o → bus_world_of n ≡ o.world
     → n.commits ≡ and_noted o.noted m.commits → tid_told t ≡ tid_noted (Some o) → n.events ≡ m.events + 1 → n.code ≡ m.code
     → Took m n e t
 took-by m n e o t s w cs told events code = record {
@@ -52,7 +52,7 @@ took-by m n e o t s w cs told events code = record {
 }
 
 -- and the machine is whole
-pub took-whole : (m n : BusMachine) (e : BusEvent) (t : Told) → IsBusWhole m → Took m n e t → length n.ram ≡ length m.ram
+pub took-whole : (m n : BusMachine) (e : BusEvent) (t : BusStep) → IsBusWhole m → Took m n e t → length n.ram ≡ length m.ram
     → AreBefore n.next n.commits → IsBusWhole n
 took-whole m n e t w k ram noted = record {
   allowed = rw k.code w.allowed;

@@ -5,7 +5,7 @@ ghost use Rattle.tcc_base.specs.Settings.{IsAllowed};
 ghost use Rattle.bus_tcc.specs.Machine.{bus_settings_of, bus_world_of};
 
 use bus_tcc::BusSystem;
-use report_text::Words;
+use report_text::ShownWords;
 use rv_code::Code;
 use tcc_base::{Config, LineAddr, WordAddr};
 
@@ -22,7 +22,7 @@ pub struct Memory<'a> {
     pub bus: &'a BusSystem,
 }
 
-impl<'a> Words for Memory<'a> {
+impl<'a> ShownWords for Memory<'a> {
     ghost words = { λ m. (bus_world_of m.bus.now).ram };
 
     ghost count = { λ m. (bus_settings_of m.bus.now).ram / 4 };
@@ -42,7 +42,7 @@ pub struct FirstMemory<'a> {
     pub code: &'a Code,
 }
 
-impl<'a> Words for FirstMemory<'a> {
+impl<'a> ShownWords for FirstMemory<'a> {
     ghost words = { λ m. (started m.code.now).word };
 
     ghost count = { λ m. m.code.now.settings.ram / 4 };

@@ -21,20 +21,21 @@ come-to a b now cs c x e h v same l q =
 pub among : (b : Inside) (now : CoresData) (c : ℕ) (x : Core) → IsCoreOf b now c x → c < now.code.settings.cores
 among b now c x h = subst (λ d. c < d.code.settings.cores) h.seen h.exists
 
-abbrev pub Rests : CoresData → ℕ → Type 0
-Rests now c = IsAtRest now.code.settings (cores_of now c)
+abbrev pub CoreAtRest : CoresData → ℕ → Type 0
+CoreAtRest now c = IsAtRest now.code.settings (cores_of now c)
 
-pub rests-here : (b : Inside) (now : CoresData) (c : ℕ) (x : Core) → IsCoreOf b now c x → IsAtRest x.config (core_of x) → Rests now c
+pub rests-here : (b : Inside) (now : CoresData) (c : ℕ) (x : Core) → IsCoreOf b now c x → IsAtRest x.config (core_of x) → CoreAtRest now c
 rests-here b now c x h r =
     subst (λ s. IsAtRest s (cores_of now c)) (config-here b now c x h) (subst (IsAtRest x.config) (state-here b now c x h) r)
 
-pub rests-there : (b : Inside) (now : CoresData) (c : ℕ) (x : Core) → IsCoreOf b now c x → Rests now c → IsAtRest x.config (core_of x)
+pub rests-there : (b : Inside) (now : CoresData) (c : ℕ) (x : Core) → IsCoreOf b now c x → CoreAtRest now c → IsAtRest x.config (core_of x)
 rests-there b now c x h r =
     subst (λ s. IsAtRest s (core_of x)) (sym (config-here b now c x h))
     (subst (IsAtRest now.code.settings) (sym (state-here b now c x h)) r)
 
-pub one-more_rests : (now : CoresData) (n : ℕ) → ((j : ℕ) → j < n → Rests now j) → Rests now n → (j : ℕ) → j < n + 1 → Rests now j
+pub one-more_rests : (now : CoresData) (n : ℕ) → ((j : ℕ) → j < n → CoreAtRest now j) → CoreAtRest now n
+    → (j : ℕ) → j < n + 1 → CoreAtRest now j
 one-more_rests now n h r j l = elim (cases_eq j n) [
-  | inl e ↦ subst (Rests now) (sym e) r
+  | inl e ↦ subst (CoreAtRest now) (sym e) r
   | inr m ↦ h j (omega arith)
 ]

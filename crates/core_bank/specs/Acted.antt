@@ -7,10 +7,10 @@ use Rattle.tcc_rules.specs.Attempt.{Out}
 use Rattle.commit_engine.specs.Sent.{followed}
 use Rattle.core_bank.specs.Bank.{CoresData, cores_of}
 
-pub record Follows (o : Out) (core : ℕ) (old new : CoresData) (before out : Outgoing) : Type 0 where
+pub record ActedAs (o : Out) (core : ℕ) (old new : CoresData) (before out : Outgoing) : Type 0 where
   pub cores : cores_of new ≡ put (cores_of old) core o.core
   pub sends : sends_of out.list.items ≡ followed (sends_of before.list.items) o.sends
 
 abbrev pub Acted : Option Out → (core : ℕ) → (old new : CoresData) → (before out : Outgoing) → Type 0
 Acted None core old new before out = ⊥
-Acted (Some o) core old new before out = Follows o core old new before out
+Acted (Some o) core old new before out = ActedAs o core old new before out

@@ -25,7 +25,7 @@ use Rattle.core_node.specs.Answers.{Happened}
 use Rattle.core_node.proofs.Cores.{whole_cache}
 use Rattle.core_node.proofs.Loaded.{load_valid}
 use Rattle.core_node.proofs.Stored.{word_framed, partial_valid, change_framed}
-use Rattle.core_node.proofs.Steps.{follows_silently}
+use Rattle.core_node.proofs.Steps.{happened_silently}
 use Rattle.core_node.proofs.Used.{loaded_valid, used_by, held-loaded}
 
 pub quick_nothing : (sh : Shape) (p : Program) (id : ℕ) (s t : CoreState) → t ≡ one_more_instruction p None s
@@ -34,7 +34,7 @@ unfolding finished
 quick_nothing sh p id s t e = rw e refl
 
 pub quick_happened : (o : Option Out) (out : Outgoing) (c : Core) → o ≡ Some (moves (core_of c) nothing) → Happened o out c out
-quick_happened o out c e = rw e (follows_silently (moves (core_of c) nothing) out c refl refl)
+quick_happened o out c e = rw e (happened_silently (moves (core_of c) nothing) out c refl refl)
 
 finished_load : (p : Program) (addr : ℕ) (size : Size) (x : ℕ) (c : Cache) (s : CoreState)
     → one_more_instruction p (Some (part x addr size))

@@ -20,7 +20,7 @@ use Rattle.commit_engine.specs.Sent.{Sent, followed, mark_at}
 use Rattle.commit_engine.proofs.Lemmas.{sent_as, sent_nothing, sent_push, marks_are, followed-nothing}
 use Rattle.core_node.specs.declared.state.Core.{Core}
 use Rattle.core_node.specs.View.{core_of, Did}
-use Rattle.core_node.specs.Answers.{Follows}
+use Rattle.core_node.specs.Answers.{HappenedAs}
 
 -- nothing is sent
 pub did_silently : (s : CoreState) (n : ℕ) (out : Outgoing) (c : Core) → core_of c ≡ s → Did (moves s (λ dst. [])) n out c out
@@ -30,9 +30,9 @@ did_silently s n out c e = record { core = e; sent = sent_as out out (λ dst. []
 pub did_within : (o : Out) (m n : ℕ) (before out : Outgoing) (c : Core) → Did o m before c out → m ≤ n → Did o n before c out
 did_within o m n before out c d h = record { core = d.core; sent = sent_as before out o.sends o.sends m n d.sent refl h }
 
-pub follows_did : (o : Out) (n : ℕ) (first before out : Outgoing) (c : Core) → before.list.items ≡ first.list.items
-    → Did o n before c out → Follows o first c out
-follows_did o n first before out c e d = record { core = d.core; sends = rw (← e) d.sent.messages }
+pub happened_did : (o : Out) (n : ℕ) (first before out : Outgoing) (c : Core) → before.list.items ≡ first.list.items
+    → Did o n before c out → HappenedAs o first c out
+happened_did o n first before out c e d = record { core = d.core; sends = rw (← e) d.sent.messages }
 
 -- an acknowledgement behind a step
 pub did_acknowledged : (sh : Shape) (l : LineAddr) (o : Out) (n : ℕ) (before mid out : Outgoing) (c : Core) (d : DirId) (k : Bool)
@@ -80,8 +80,8 @@ fill_silent l ws s = by s.awaited
 pub did_as : (o p : Out) (n : ℕ) (before out : Outgoing) (c : Core) → o ≡ p → Did p n before c out → Did o n before c out
 did_as o p n before out c e d = subst (λ (q : Out). Did q n before c out) (sym e) d
 
-pub follows_silently : (o : Out) (out : Outgoing) (c : Core) → core_of c ≡ o.core → o.sends ≡ (λ dst. []) → Follows o out c out
-follows_silently o out c e f = record {
+pub happened_silently : (o : Out) (out : Outgoing) (c : Core) → core_of c ≡ o.core → o.sends ≡ (λ dst. []) → HappenedAs o out c out
+happened_silently o out c e f = record {
   core = e;
   sends = sym (ap (followed (sends_of out.list.items)) f
       ∙ followed-nothing (sends_of out.list.items));

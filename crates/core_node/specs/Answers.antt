@@ -10,13 +10,13 @@ use Rattle.core_node.specs.declared.delivering.CoreError.{CoreError}
 use Rattle.core_node.specs.declared.delivering.CoreError.TheVariants.{Blocked, Memory}
 
 -- a rule's event happened: the core is what the rule says, and so is what was sent to each node, in order
-pub record Follows (o : Out) (before : Outgoing) (new : Core) (out : Outgoing) : Type 0 where
+pub record HappenedAs (o : Out) (before : Outgoing) (new : Core) (out : Outgoing) : Type 0 where
   pub core : core_of new ≡ o.core
   pub sends : sends_of out.list.items ≡ followed (sends_of before.list.items) o.sends
 
 abbrev pub Happened : Option Out → Outgoing → Core → Outgoing → Type 0
 Happened None before new out = ⊥
-Happened (Some o) before new out = Follows o before new out
+Happened (Some o) before new out = HappenedAs o before new out
 
 -- blocked exactly where the rules have no event
 abbrev pub IsBlocked : {A : Type 0} → Result A CoreError → Option Out → Type 0

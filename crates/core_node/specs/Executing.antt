@@ -76,9 +76,10 @@ Tells Stepped s noted = (noted ≡ None) × (asks s ≡ false)
 Tells Asked s noted = (noted ≡ None) × (asks s ≡ true)
 Tells (Committed c) s noted = noted ≡ Some c
 
-abbrev pub Told : Executed → Option Out → Type 0
-Told e None = ⊥
-Told e (Some o) = Tells e o.core o.commit
+-- an event happened, and it is what an execution tells
+abbrev pub TellsOfEvent : Executed → Option Out → Type 0
+TellsOfEvent e None = ⊥
+TellsOfEvent e (Some o) = Tells e o.core o.commit
 
 -- done at once: a rule's event happened that sends and notes nothing; or else the state is as before
 abbrev pub AtOnce : Bool → Option Out → (old new : CoreState) → Type 0

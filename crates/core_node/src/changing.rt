@@ -17,7 +17,7 @@ ghost use Rattle.core_node.specs.Executing.{DidSome, GoesOn, IsAligned};
 ghost use Rattle.core_node.specs.View.{core_of, IsCore, Did, Stays};
 
 use crate::delivering::CoreError;
-use crate::finishing::{finish, given, note, step, take_back};
+use crate::finishing::{advance, finish, given, note, take_back};
 use crate::missing::{fetch, place};
 use crate::state::Core;
 use crate::storing::{line_of_word, runs, store_buffered, store_framed};
@@ -77,7 +77,7 @@ pub(crate) fn finish_buffered(
         take_back(core, need);
         return Err(CoreError::Memory);
     };
-    step(core, inst, given(need, word));
+    advance(core, inst, given(need, word));
     Ok(())
 }
 

@@ -13,7 +13,7 @@ ghost use Rattle.rv_plain.specs.Attempts.{alone, outcome_of};
 ghost use Rattle.commit_engine.specs.Engine.{phase_of};
 ghost use Rattle.commit_engine.specs.Sent.{HasRoom};
 ghost use Rattle.commit_engine.specs.Solo.{solo_list};
-ghost use Rattle.core_node.specs.Answers.{Follows, IsMemory};
+ghost use Rattle.core_node.specs.Answers.{HappenedAs, IsMemory};
 ghost use Rattle.core_node.specs.Executing.{concluded};
 ghost use Rattle.core_node.specs.View.{core_of, IsCore, Did, Stays};
 
@@ -89,7 +89,7 @@ fn close_alone(
 ) -> Result<Option<Commit>, CoreError>
     requires whole { IsCore core.old }
     requires room { core.old.n < 2 ^ 32 - 1 }
-    ensures does { OnOk result (Follows (end_transaction core.old.config core.old.id.0 (phase_of (Phase.Solo tid)) (concluded state.now (outcome_of ended) (core_of core.old))) out.old core.new out.new) }
+    ensures does { OnOk result (HappenedAs (end_transaction core.old.config core.old.id.0 (phase_of (Phase.Solo tid)) (concluded state.now (outcome_of ended) (core_of core.old))) out.old core.new out.new) }
     ensures noted { IfOk result (λ c. c ≡ (end_transaction core.old.config core.old.id.0 (phase_of (Phase.Solo tid)) (concluded state.now (outcome_of ended) (core_of core.old))).commit) }
     ensures cause { OnErr result (IsMemory result) }
     ensures stays { Stays core.old core.new }
@@ -112,7 +112,7 @@ fn close_running(
 ) -> Result<Option<Commit>, CoreError>
     requires whole { IsCore core.old }
     requires room { core.old.n < 2 ^ 32 - 1 }
-    ensures does { OnOk result (Follows (end_transaction core.old.config core.old.id.0 (phase_of Phase.Running) (concluded state.now (outcome_of ended) (core_of core.old))) out.old core.new out.new) }
+    ensures does { OnOk result (HappenedAs (end_transaction core.old.config core.old.id.0 (phase_of Phase.Running) (concluded state.now (outcome_of ended) (core_of core.old))) out.old core.new out.new) }
     ensures noted { IfOk result (λ c. c ≡ None) }
     ensures cause { OnErr result (IsMemory result) }
     ensures stays { Stays core.old core.new }
@@ -135,7 +135,7 @@ pub(crate) fn close(
 ) -> Result<Option<Commit>, CoreError>
     requires whole { IsCore core.old }
     requires room { core.old.n < 2 ^ 32 - 1 }
-    ensures does { OnOk result (Follows (end_transaction core.old.config core.old.id.0 (phase_of core.old.phase) (concluded state.now (outcome_of ended) (core_of core.old))) out.old core.new out.new) }
+    ensures does { OnOk result (HappenedAs (end_transaction core.old.config core.old.id.0 (phase_of core.old.phase) (concluded state.now (outcome_of ended) (core_of core.old))) out.old core.new out.new) }
     ensures noted { IfOk result (λ c. c ≡ (end_transaction core.old.config core.old.id.0 (phase_of core.old.phase) (concluded state.now (outcome_of ended) (core_of core.old))).commit) }
     ensures cause { OnErr result (IsMemory result) }
     ensures stays { Stays core.old core.new }
@@ -163,7 +163,7 @@ pub(crate) fn end(
 ) -> Result<Option<Commit>, CoreError>
     requires whole { IsCore core.old }
     requires room { core.old.n < 2 ^ 32 - 1 }
-    ensures does { OnOk result (Follows (end_transaction core.old.config core.old.id.0 (phase_of core.old.phase) (finished (alone inst.now) Ends 0 (core_of core.old))) out.old core.new out.new) }
+    ensures does { OnOk result (HappenedAs (end_transaction core.old.config core.old.id.0 (phase_of core.old.phase) (finished (alone inst.now) Ends 0 (core_of core.old))) out.old core.new out.new) }
     ensures noted { IfOk result (λ c. c ≡ (end_transaction core.old.config core.old.id.0 (phase_of core.old.phase) (finished (alone inst.now) Ends 0 (core_of core.old))).commit) }
     ensures cause { OnErr result (IsMemory result) }
     ensures stays { Stays core.old core.new }
@@ -184,7 +184,7 @@ pub(crate) fn stop(
 ) -> Result<Option<Commit>, CoreError>
     requires whole { IsCore core.old }
     requires room { core.old.n < 2 ^ 32 - 1 }
-    ensures does { OnOk result (Follows (end_transaction core.old.config core.old.id.0 (phase_of core.old.phase) (concluded (unreserved core.old.state) (outcome_of ended) (core_of core.old))) out.old core.new out.new) }
+    ensures does { OnOk result (HappenedAs (end_transaction core.old.config core.old.id.0 (phase_of core.old.phase) (concluded (unreserved core.old.state) (outcome_of ended) (core_of core.old))) out.old core.new out.new) }
     ensures noted { IfOk result (λ c. c ≡ (end_transaction core.old.config core.old.id.0 (phase_of core.old.phase) (concluded (unreserved core.old.state) (outcome_of ended) (core_of core.old))).commit) }
     ensures cause { OnErr result (IsMemory result) }
     ensures stays { Stays core.old core.new }

@@ -7,13 +7,13 @@ ghost use Rattle.image_load.specs.Contents.{started};
 ghost use Rattle.rv_code.specs.Machine.{program};
 ghost use Rattle.commit_engine.specs.Engine.{phase_of};
 ghost use Rattle.core_node.specs.Answers.{Happened, IsBlocked};
-ghost use Rattle.core_node.specs.Executing.{asks, overflows, Notes, Tells, Told};
+ghost use Rattle.core_node.specs.Executing.{asks, overflows, Notes, Tells, TellsOfEvent};
 ghost use Rattle.core_node.specs.View.{awaited_of, core_of, IsCore, Stays};
 
 use crate::closing::stop;
 use crate::committing::commit;
 use crate::delivering::{CoreError, make_room};
-use crate::executing::execute;
+use crate::executing::execute_need;
 use crate::quick::exec_quickly;
 use crate::state::Core;
 use commit_engine::Phase;
@@ -49,7 +49,7 @@ fn exec_here(core: &mut Core, code: &Code, out: &mut Outgoing) -> Result<Option<
         Err(trap) => stop(core, Outcome::Trapped(trap), out),
         Ok(inst) => {
             let need = code.plan(&inst, &core.state);
-            execute(core, &inst, need, out)
+            execute_need(core, &inst, need, out)
         }
     }
 }
@@ -167,7 +167,7 @@ fn exec_left(core: &mut Core, code: &Code, out: &mut Outgoing) -> Result<Execute
     requires counts { core.old.n < 2 ^ 32 - 1 }
     requires same { code.now.settings ≡ core.old.config }
     ensures does { OnOk result (Happened (core_exec core.old.config (program (started code.now)) core.old.id.0 (core_of core.old)) out.old core.new out.new) }
-    ensures told { IfOk result (λ e. Told e (core_exec core.old.config (program (started code.now)) core.old.id.0 (core_of core.old))) }
+    ensures told { IfOk result (λ e. TellsOfEvent e (core_exec core.old.config (program (started code.now)) core.old.id.0 (core_of core.old))) }
     ensures blocked { IsBlocked result (core_exec core.old.config (program (started code.now)) core.old.id.0 (core_of core.old)) }
     ensures stays { Stays core.old core.new }
     ensures unchanged { OnErr result (core_of core.new ≡ core_of core.old) }
@@ -184,7 +184,7 @@ pub(crate) fn exec(core: &mut Core, code: &Code, out: &mut Outgoing) -> Result<E
     requires counts { core.old.n < 2 ^ 32 - 1 }
     requires same { code.now.settings ≡ core.old.config }
     ensures does { OnOk result (Happened (core_exec core.old.config (program (started code.now)) core.old.id.0 (core_of core.old)) out.old core.new out.new) }
-    ensures told { IfOk result (λ e. Told e (core_exec core.old.config (program (started code.now)) core.old.id.0 (core_of core.old))) }
+    ensures told { IfOk result (λ e. TellsOfEvent e (core_exec core.old.config (program (started code.now)) core.old.id.0 (core_of core.old))) }
     ensures blocked { IsBlocked result (core_exec core.old.config (program (started code.now)) core.old.id.0 (core_of core.old)) }
     ensures stays { Stays core.old core.new }
     ensures unchanged { OnErr result (core_of core.new ≡ core_of core.old) }

@@ -144,7 +144,7 @@ fn proceed(
 
 /// The instruction at pc, which needs this. Gives what is noted of a commit, where the core is alone and its transaction ends.
 /// After an error the core is in the same state, and nothing was sent.
-pub(crate) fn execute(
+pub(crate) fn execute_need(
     core: &mut Core,
     inst: &Inst,
     need: Need,

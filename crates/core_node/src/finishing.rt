@@ -33,7 +33,7 @@ pub(crate) fn given(need: Need, word: u32) -> Option<u32>
 
 /// The next instruction, with the loaded bytes where there are any.
 #[tactic(auto, unfolding(crate::specs::View::core_of, tcc_rules::specs::Attempt::one_more_instruction))]
-pub(crate) fn step(core: &mut Core, inst: &Inst, loaded: Option<u32>)
+pub(crate) fn advance(core: &mut Core, inst: &Inst, loaded: Option<u32>)
     requires whole { IsCore core.old }
     requires room { core.old.n < 2 ^ 32 - 1 }
     ensures does { core_of core.new ≡ one_more_instruction (alone inst.now) loaded (core_of core.old) }
@@ -146,6 +146,6 @@ pub(crate) fn finish(core: &mut Core, inst: &Inst, need: Need, word: u32) -> Res
     ensures unchanged { OnErr result (core.new ≡ core.old) }
 {
     note(core, need, word)?;
-    step(core, inst, given(need, word));
+    advance(core, inst, given(need, word));
     Ok(())
 }

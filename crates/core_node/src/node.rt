@@ -16,7 +16,7 @@ ghost use Rattle.spec_cache.specs.Held.{maps};
 ghost use Rattle.spec_cache.specs.Look.{Views};
 ghost use Rattle.commit_engine.specs.Engine.{phase_of, after_of};
 ghost use Rattle.rv_code.specs.Machine.{start_local};
-ghost use Rattle.core_node.specs.Executing.{Told};
+ghost use Rattle.core_node.specs.Executing.{TellsOfEvent};
 ghost use Rattle.core_node.specs.Useful.{useful_evicts as useful_pairs};
 ghost use Rattle.core_node.specs.View.{core_of, IsKnown, Stays};
 ghost use Rattle.core_node.specs.Answers.{Happened, IsBlocked};
@@ -120,7 +120,7 @@ impl CoreNode {
         requires short { self.old.n < 4194304 }
         requires same { code.now.settings ≡ self.old.config }
         ensures does { OnOk result (Happened (core_exec self.old.config (program (started code.now)) self.old.id.0 (core_of self.old)) out.old self.new out.new) }
-        ensures told { IfOk result (λ e. Told e (core_exec self.old.config (program (started code.now)) self.old.id.0 (core_of self.old))) }
+        ensures told { IfOk result (λ e. TellsOfEvent e (core_exec self.old.config (program (started code.now)) self.old.id.0 (core_of self.old))) }
         ensures blocked { IsBlocked result (core_exec self.old.config (program (started code.now)) self.old.id.0 (core_of self.old)) }
         ensures stays { Stays self.old self.new }
         ensures unchanged { OnErr result (core_of self.new ≡ core_of self.old) }

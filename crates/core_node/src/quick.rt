@@ -21,7 +21,7 @@ ghost use Rattle.core_node.specs.View.{core_of, IsCore, Stays};
 
 use crate::changing::new_word;
 use crate::executing::word_at;
-use crate::finishing::step;
+use crate::finishing::advance;
 use crate::state::Core;
 use crate::storing::{line_of_word, runs};
 use commit_engine::Phase;
@@ -53,7 +53,7 @@ fn load_quickly(core: &mut Core, inst: &Inst, addr: u32, size: Size, w: WordAddr
         Look::Hit(word) => {
             let value = read_part(word, addr, size);
             core.loads.items.push_reserved(Load { addr, size, value });
-            step(core, inst, Some(value));
+            advance(core, inst, Some(value));
             true
         }
         _ => false,
@@ -83,7 +83,7 @@ fn store_quickly(core: &mut Core, inst: &Inst, addr: u32, value: u32, w: WordAdd
     core.stores
         .items
         .push_reserved(Stored { addr, size, value });
-    step(core, inst, None);
+    advance(core, inst, None);
     true
 }
 
@@ -133,7 +133,7 @@ fn part_quickly(
     core.stores
         .items
         .push_reserved(Stored { addr, size, value });
-    step(core, inst, None);
+    advance(core, inst, None);
     true
 }
 
@@ -150,7 +150,7 @@ fn need_quickly(core: &mut Core, inst: &Inst, need: Need) -> bool
 {
     match need {
         Need::Nothing => {
-            step(core, inst, None);
+            advance(core, inst, None);
             true
         }
         Need::Load { addr, size } => load_quickly(core, inst, addr, size, word_at(core, addr)),
@@ -196,7 +196,7 @@ fn here_quickly(core: &mut Core, code: &Code) -> bool
         Err(_) => false,
         Ok(inst) => {
             if needs_nothing(&inst) {
-                step(core, &inst, None);
+                advance(core, &inst, None);
                 return true;
             }
             let need = code.plan(&inst, &core.state);

@@ -107,7 +107,7 @@ impl Layout {
     }
 
     /// Lays a segment of an image into RAM, or answers why it can't be.
-    fn lay(&mut self, image: u32, segment: &Segment) -> Result<(), LoadFault>
+    fn lay_segment(&mut self, image: u32, segment: &Segment) -> Result<(), LoadFault>
         requires { length segment.now.bytes ≤ segment.now.size }
         ensures passed { OnOk result ((earlier : List Laid) → IsLaid self.old earlier →
             segment_fault self.old.config image earlier segment.now ≡ None) }
@@ -156,7 +156,7 @@ impl Layout {
         ensures config { self.new.config ≡ self.old.config }
     {
         for segment in segments(image) {
-            self.lay(number, segment)?;
+            self.lay_segment(number, segment)?;
         }
         if !self.is_entry(image.entry) {
             return Err(LoadFault::Entry { image: number });

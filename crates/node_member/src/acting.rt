@@ -126,7 +126,7 @@ fn grant(vendor: &mut Vendor, core: CoreId, out: &mut Outgoing) -> Result<(), No
 
 impl MemberKind {
     /// `Member::act` for what the member is.
-    fn act(
+    fn act_part(
         &mut self,
         code: &Code,
         event: Event,
@@ -182,7 +182,7 @@ impl Member {
         ensures uncounted { OnErr result (self.new.done ≡ self.old.done) }
         ensures unsent { OnErr result (out.new.list.items ≡ []) }
     {
-        let consumed = self.kind.act(&self.code, event, msg, out)?;
+        let consumed = self.kind.act_part(&self.code, event, msg, out)?;
         self.done += 1;
         Ok(consumed)
     }

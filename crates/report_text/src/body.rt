@@ -7,7 +7,7 @@ ghost use Rattle.report_text.specs.Lines.{load_line, mem_line};
 ghost use Rattle.report_text.specs.InLines.{line_text};
 
 use crate::lines::{push_commit, push_console, push_core, push_load, push_mem, push_pc, push_reg};
-use crate::shown::{CoreShown, Ending, Words};
+use crate::shown::{CoreShown, Ending, ShownWords};
 use reg_checkpoint::Regs;
 use std::alloc::AllocError;
 use tcc_base::{Commit, LineAddr, Load, Reg};
@@ -88,7 +88,7 @@ fn push_word(text: &mut String, addr: u32, value: u32, old: u32) -> Result<(), A
 }
 
 // The lines of those words of a line of RAM that changed.
-fn push_line<R: Words, L: Words>(
+fn push_line<R: ShownWords, L: ShownWords>(
     text: &mut String,
     base: u32,
     ram: &R,
@@ -116,7 +116,7 @@ fn push_line<R: Words, L: Words>(
 }
 
 #[tactic(auto, unfolding(crate::specs::Text::ram_text))]
-fn push_ram<R: Words, L: Words>(
+fn push_ram<R: ShownWords, L: ShownWords>(
     text: &mut String,
     base: u32,
     ram: &R,
@@ -135,7 +135,7 @@ fn push_ram<R: Words, L: Words>(
 }
 
 #[tactic(auto, unfolding(crate::specs::Text::body_text))]
-pub fn push_body<R: Words, L: Words>(
+pub fn push_body<R: ShownWords, L: ShownWords>(
     text: &mut String,
     ending: &Ending<R, L>,
 ) -> Result<(), AllocError>

@@ -11,6 +11,6 @@ mod texts;
 mod trials;
 
 pub use lines::{push_end, push_events};
-pub use shown::{CoreShown, Ending, Trial, Words};
+pub use shown::{CoreShown, Ending, ShownWords, Trial};
 pub use texts::{bus_machine_report, report, serial_report};
 pub use trials::trial_summary;

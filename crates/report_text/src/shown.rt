@@ -11,7 +11,7 @@ use work_gen::Work;
 /// A memory of whole lines of eight words of four bytes, which can be read line by line.
 ///
 /// To a contract it is the value of each word by its number, `words`, and the number of words, `count`.
-pub trait Words {
+pub trait ShownWords {
     ghost words: { Self → ℕ → ℕ };
 
     ghost count: { Self → ℕ };
@@ -26,7 +26,7 @@ pub trait Words {
         ensures { result ≡ map (words self.now) (range_with_len (8 * line.0) 8) };
 }
 
-impl Words for &[[u32; 8]] {
+impl ShownWords for &[[u32; 8]] {
     ghost words = { λ s. in_lines s.now };
 
     ghost count = { λ s. 8 * length s.now };

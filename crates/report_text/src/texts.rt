@@ -5,7 +5,7 @@ ghost use Rattle.report_text.specs.Text.{bus_text, ended_text, report_text, seri
 
 use crate::body::push_body;
 use crate::lines::{push_end, push_events};
-use crate::shown::{Ending, Words};
+use crate::shown::{Ending, ShownWords};
 use std::alloc::{AllocError, Global};
 use tcc_base::NoMemory;
 
@@ -13,7 +13,7 @@ use tcc_base::NoMemory;
 ///
 /// `ram` and `loaded` have equally many words, all below the address 2^32. Reads each word of both once. Fails only for want
 /// of memory.
-pub fn report<R: Words, L: Words>(
+pub fn report<R: ShownWords, L: ShownWords>(
     alloc: Global,
     done: bool,
     events: u64,
@@ -30,7 +30,7 @@ pub fn report<R: Words, L: Words>(
 ///
 /// `ram` and `loaded` have equally many words, all below the address 2^32. Reads each word of both once. Fails only for want
 /// of memory.
-pub fn bus_machine_report<R: Words, L: Words>(
+pub fn bus_machine_report<R: ShownWords, L: ShownWords>(
     alloc: Global,
     done: bool,
     events: u64,
@@ -47,7 +47,7 @@ pub fn bus_machine_report<R: Words, L: Words>(
 ///
 /// `ram` and `loaded` have equally many words, all below the address 2^32. Reads each word of both once. Fails only for want
 /// of memory.
-pub fn serial_report<R: Words, L: Words>(
+pub fn serial_report<R: ShownWords, L: ShownWords>(
     alloc: Global,
     ending: &Ending<R, L>,
 ) -> Result<String, NoMemory>
@@ -60,7 +60,7 @@ pub fn serial_report<R: Words, L: Words>(
 
 // All below the first line of a run's report.
 #[tactic(auto, unfolding(crate::specs::Text::ended_text))]
-fn push_ended<R: Words, L: Words>(
+fn push_ended<R: ShownWords, L: ShownWords>(
     text: &mut String,
     done: bool,
     events: u64,
@@ -77,7 +77,7 @@ fn push_ended<R: Words, L: Words>(
 }
 
 #[tactic(auto, unfolding(crate::specs::Text::report_text))]
-fn report_or_error<R: Words, L: Words>(
+fn report_or_error<R: ShownWords, L: ShownWords>(
     alloc: Global,
     done: bool,
     events: u64,
@@ -93,7 +93,7 @@ fn report_or_error<R: Words, L: Words>(
 }
 
 #[tactic(auto, unfolding(crate::specs::Text::bus_text))]
-fn bus_or_error<R: Words, L: Words>(
+fn bus_or_error<R: ShownWords, L: ShownWords>(
     alloc: Global,
     done: bool,
     events: u64,
@@ -109,7 +109,7 @@ fn bus_or_error<R: Words, L: Words>(
 }
 
 #[tactic(auto, unfolding(crate::specs::Text::serial_text))]
-fn serial_or_error<R: Words, L: Words>(
+fn serial_or_error<R: ShownWords, L: ShownWords>(
     alloc: Global,
     ending: &Ending<R, L>,
 ) -> Result<String, AllocError>

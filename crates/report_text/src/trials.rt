@@ -4,7 +4,7 @@ ghost use Rattle.report_text.specs.Trial.{work_line, commits_line, sum_line, tri
 
 use crate::growing::sum_of_growth;
 use crate::lines::{push_end, push_events};
-use crate::shown::{Trial, Words};
+use crate::shown::{ShownWords, Trial};
 use std::alloc::{AllocError, Global};
 use tcc_base::NoMemory;
 use work_gen::Work;
@@ -33,7 +33,7 @@ fn push_sum(text: &mut String, growth: u32) -> Result<(), AllocError>
 }
 
 #[tactic(auto, unfolding(crate::specs::Trial::trial_text))]
-fn summary_or_error<R: Words, L: Words>(
+fn summary_or_error<R: ShownWords, L: ShownWords>(
     alloc: Global,
     trial: &Trial<R, L>,
 ) -> Result<String, AllocError>
@@ -56,7 +56,7 @@ fn summary_or_error<R: Words, L: Words>(
 ///
 /// `ram` and `loaded` have equally many words, of 2^32 bytes at most. Reads each line of both once. Fails only for want of
 /// memory.
-pub fn trial_summary<R: Words, L: Words>(
+pub fn trial_summary<R: ShownWords, L: ShownWords>(
     alloc: Global,
     trial: &Trial<R, L>,
 ) -> Result<String, NoMemory>

@@ -205,7 +205,7 @@ impl Attempt {
     }
 
     #[tactic(auto, unfolding(crate::specs::Attempts::attempt_of))]
-    fn act(
+    fn serve(
         &mut self,
         memory: &mut BufferedRam,
         base: u32,
@@ -319,11 +319,11 @@ impl Attempt {
     {
         match code.inst(&self.state) {
             Err(trap) => Ok(self.end(Outcome::Trapped(trap))),
-            Ok(inst) => self.execute(memory, code, &inst),
+            Ok(inst) => self.execute_inst(memory, code, &inst),
         }
     }
 
-    fn execute(
+    fn execute_inst(
         &mut self,
         memory: &mut BufferedRam,
         code: &Code,
@@ -340,6 +340,6 @@ impl Attempt {
     {
         let base = code.config().base();
         let need = code.plan(inst, &self.state);
-        self.act(memory, base, inst, need)
+        self.serve(memory, base, inst, need)
     }
 }

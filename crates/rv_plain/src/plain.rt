@@ -241,10 +241,10 @@ fn execute_core(
     ensures cores_unchanged { OnErr result (cores.new ≡ cores.old) }
     ensures memory_unchanged { OnErr result (memory.new ≡ memory.old) }
 {
-    execute(alloc, code, memory, &mut cores.items[core.0 as usize], n)
+    transact_unless_ended(alloc, code, memory, &mut cores.items[core.0 as usize], n)
 }
 
-fn execute(
+fn transact_unless_ended(
     alloc: Global,
     code: &Code,
     memory: &mut BufferedRam,

@@ -11,7 +11,7 @@ use Rattle.tcc_program.specs.Orders.{order_of_commit}
 use Rattle.tcc_program.specs.Plain.{Plain}
 use Rattle.tcc_program.proofs.Lemmas.{consoles_are_printed, serial_takes_its_cores}
 use Rattle.tcc_rules.specs.Step.{History, run}
-use Rattle.tcc_serial.specs.Aim.{IsSerialExecution}
+use Rattle.tcc_serial.specs.Theorem.{IsSerialExecution}
 use Rattle.tcc_serial.specs.Commits.{plain_start as protocol_plain}
 use Rattle.tcc_serial.specs.NotedBy.{is_core, AreByCores}
 use Rattle.tcc_serial.specs.Shown.{shown_core}

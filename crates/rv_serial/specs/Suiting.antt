@@ -8,7 +8,7 @@ use Rattle.tcc_maps.specs.Nodes.{Event}
 use Rattle.tcc_program.specs.Program.{Local}
 use Rattle.tcc_rules.specs.State.{World, start as protocol_start}
 use Rattle.tcc_rules.specs.Step.{History, run}
-use Rattle.tcc_serial.specs.Aim.{Suits, IsSerialExecution}
+use Rattle.tcc_serial.specs.Theorem.{Suits, IsSerialExecution}
 
 abbrev pub RiscvProgramsSuit : Type 0
 RiscvProgramsSuit = (s : Start) → IsAllowed s.settings → Suits s.settings (program s) (first_ram s)

@@ -109,15 +109,15 @@ pub is_well_formed : (bytes : List ℕ) (c : Settings) (es : List Event) (a : Li
 is_well_formed bytes c es a f = record { allowed = f.allowed; count = f.count; named = All-from_recursion (Names c) es f.named }
 
 -- a schedule whose text begins with the bytes' front has these settings and begins with these events
-record Follows (c : Settings) (es : List Event) (s : Schedule) (n : ℕ) (a b : List ℕ) : Type 0 where
+record GoesOnFrom (c : Settings) (es : List Event) (s : Schedule) (n : ℕ) (a b : List ℕ) : Type 0 where
   config : c ≡ s.config
   beyond-is : Beyond c es s.events (length s.events) n a b
 
-follows : (bytes : List ℕ) (c : Settings) (es : List Event) (a : List ℕ) → Front bytes c es a → (s : Schedule) → IsWellFormed s
+goes_on-from : (bytes : List ℕ) (c : Settings) (es : List Event) (a : List ℕ) → Front bytes c es a → (s : Schedule) → IsWellFormed s
     → (n : ℕ) (b : List ℕ)
-    → bytes ≡ joined (take (suc (suc (length es + n))) (lines_of s)) ++ b → Follows c es s n a b
+    → bytes ≡ joined (take (suc (suc (length es + n))) (lines_of s)) ++ b → GoesOnFrom c es s n a b
 unfolding lines_of
-follows bytes c es a f s formed n b same =
+goes_on-from bytes c es a f s formed n b same =
     let lines : List (List ℕ) = take (length es + n) (body s.events (length s.events)) in
     let v : List ℕ = version_line (version_of s.config) in
     let apart : (v ++ (config_line s.config ++ joined lines)) ++ b ≡ v ++ (config_line s.config ++ (joined lines ++ b)) =
@@ -222,7 +222,7 @@ pub stuck : (bytes : List ℕ) (c : Settings) (es : List Event) (a : List ℕ) �
     → (s : Schedule) → IsWellFormed s → (n : ℕ) (b : List ℕ)
     → bytes ≡ joined (take (suc (suc (length es + suc n))) (lines_of s)) ++ b → ⊥
 stuck bytes c es a f no-event no-end s formed n b same =
-    let w = follows bytes c es a f s formed (suc n) b same in
+    let w = goes_on-from bytes c es a f s formed (suc n) b same in
     no_more c es a b s n f.allowed formed no-event no-end w.beyond-is.more w.beyond-is.whole w.beyond-is.named w.beyond-is.after
 
 -- the line after the events is neither an event's, where there may be one, nor the last
@@ -266,7 +266,7 @@ pub ended : (bytes : List ℕ) (c : Settings) (es : List Event) (a after : List 
     → (s : Schedule) → IsWellFormed s → (n : ℕ) (b : List ℕ) → bytes ≡ joined (take (suc (suc (length es + suc n))) (lines_of s)) ++ b
     → IsRead c es s n after b
 ended bytes c es a after f last s formed n b same =
-    let w = follows bytes c es a f s formed (suc n) b same in
+    let w = goes_on-from bytes c es a f s formed (suc n) b same in
     let rest = w.beyond-is in
     only_end c es a after b s n f.allowed formed f.count w.config last rest.more rest.whole rest.named rest.after
 

@@ -2,8 +2,8 @@
 use Rattle.std.specs.Prelude.{ℕ, ◌<◌, ◌≤◌, ◌≡◌, List, ◌++◌, codes}
 use Rattle.std.specs.Fmt.{decimal}
 use Rattle.rv_plain.specs.declared.plain.Order.{Order}
-use Rattle.serial_tool.specs.declared.fields.Told.{Told}
-use Rattle.serial_tool.specs.declared.fields.Told.TheVariants.{Other, Ordered, Faulty}
+use Rattle.serial_tool.specs.declared.fields.LineContent.{LineContent}
+use Rattle.serial_tool.specs.declared.fields.LineContent.TheVariants.{Other, Ordered, Faulty}
 
 -- the word with which an order's line begins
 abbrev pub commit_word : List ℕ
@@ -38,7 +38,7 @@ abbrev pub IsFaulty : (cores : ℕ) → List ℕ → Type 0
 IsFaulty cores line = IsCommitLine line × ((o : Order) → IsOrderLine cores line o → ⊥)
 
 -- what a line tells
-abbrev pub Tells : (cores : ℕ) → List ℕ → Told → Type 0
+abbrev pub Tells : (cores : ℕ) → List ℕ → LineContent → Type 0
 Tells cores line Other = IsCommitLine line → ⊥
 Tells cores line (Ordered o) = IsOrderLine cores line o
 Tells cores line Faulty = IsFaulty cores line

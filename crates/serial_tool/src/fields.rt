@@ -11,7 +11,7 @@ const LARGEST: u32 = 4_194_304;
 
 /// What a line of a file lists.
 #[derive(Clone, Copy)]
-pub enum Told {
+pub enum LineContent {
     /// Nothing: it doesn't begin with `commit `.
     Other,
     /// An order.
@@ -61,17 +61,17 @@ fn numbers(text: &str, cores: u8) -> Option<Order>
 }
 
 /// What a line lists, in a machine of so many cores.
-pub fn read_line(line: &[u8], cores: u8) -> Told
+pub fn read_line(line: &[u8], cores: u8) -> LineContent
     ensures { Tells cores line.now result }
 {
     let Some(text) = line.strip_prefix(b"commit ") else {
-        return Told::Other;
+        return LineContent::Other;
     };
     let Ok(text) = from_utf8(text) else {
-        return Told::Faulty;
+        return LineContent::Faulty;
     };
     match numbers(text, cores) {
-        Some(order) => Told::Ordered(order),
-        None => Told::Faulty,
+        Some(order) => LineContent::Ordered(order),
+        None => LineContent::Faulty,
     }
 }

@@ -2,7 +2,7 @@
 ghost use Rattle.std.specs.Prelude.{◌≡◌, ◌<◌, IfOk, IfErr, All};
 ghost use Rattle.serial_tool.specs.Lists.{IsList, IsReadFault};
 
-use crate::fields::{Told, read_line};
+use crate::fields::{LineContent, read_line};
 use rv_plain::Order;
 use schedule_text::TextFault;
 use std::alloc::Global;
@@ -31,12 +31,12 @@ pub fn read_orders(alloc: Global, bytes: &[u8], config: &Config) -> Result<Vec<L
     for (i, line) in bytes.split(|byte| *byte == b'\n').enumerate() {
         let number = i as u64 + 1;
         match read_line(line, cores) {
-            Told::Other => {}
-            Told::Ordered(order) => orders.push(Listed {
+            LineContent::Other => {}
+            LineContent::Ordered(order) => orders.push(Listed {
                 line: number,
                 order,
             })?,
-            Told::Faulty => return Err(TextFault::Line(number)),
+            LineContent::Faulty => return Err(TextFault::Line(number)),
         }
     }
     Ok(orders.items)

@@ -91,7 +91,7 @@ fn images_from<'a>(
 }
 
 /// The memory that the files load, or the first of them that is no image.
-pub fn lay<'a>(
+pub fn load_files<'a>(
     alloc: Global,
     is_raw: bool,
     config: &Config,

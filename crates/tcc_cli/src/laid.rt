@@ -4,7 +4,7 @@ ghost use Rattle.image_load.specs.Contents.{started};
 ghost use Rattle.tcc_base.specs.Settings.{IsAllowed};
 
 use image_load::Loaded;
-use report_text::Words;
+use report_text::ShownWords;
 use tcc_base::{Config, LineAddr, WordAddr};
 
 /// A law: settings that are there are allowed.
@@ -20,7 +20,7 @@ pub struct Laid<'a> {
     pub loaded: &'a Loaded,
 }
 
-impl<'a> Words for Laid<'a> {
+impl<'a> ShownWords for Laid<'a> {
     ghost words = { λ l. (started l.loaded.now).word };
 
     ghost count = { λ l. l.loaded.now.settings.ram / 4 };

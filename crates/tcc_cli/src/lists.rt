@@ -13,7 +13,7 @@ use crate::refusal::Refusal;
 use crate::reports::Finished;
 use crate::schedules::of_text;
 use image_load::Loaded;
-use report_text::{CoreShown, Ending, Words, serial_report};
+use report_text::{CoreShown, Ending, ShownWords, serial_report};
 use rv_plain::Plain;
 use serial_tool::{read_orders, run_orders};
 use std::alloc::Global;
@@ -38,7 +38,7 @@ impl<'a> Model for Flat<'a> {
     ghost invariant = { λ f. f.plain.now.loaded ≡ f.loaded.now };
 }
 
-impl<'a> Words for Flat<'a> {
+impl<'a> ShownWords for Flat<'a> {
     ghost words = { λ p. (plain_of p).ram };
 
     ghost count = { λ p. p.loaded.settings.ram / 4 };

@@ -12,7 +12,7 @@ ghost use Rattle.why_text.specs.Text.{why_text};
 use crate::laid::Laid;
 use image_load::Loaded;
 use net_core::System;
-use report_text::{CoreShown, Ending, Trial, Words, report, trial_summary};
+use report_text::{CoreShown, Ending, ShownWords, Trial, report, trial_summary};
 use std::alloc::Global;
 use std::marker::Model;
 use tcc_base::{CoreId, LineAddr, List, NoMemory};
@@ -46,7 +46,7 @@ impl<'a> Model for Committed<'a> {
     ghost invariant = { λ c. (c.system.now.unsent ≡ []) × (IsTrue c.done → IsDone (settings_of c.system.now) (world_of c.system.now)) };
 }
 
-impl<'a> Words for Committed<'a> {
+impl<'a> ShownWords for Committed<'a> {
     ghost words = { λ m. seen (settings_of m) (world_of m) };
 
     ghost count = { λ m. (settings_of m).ram / 4 };

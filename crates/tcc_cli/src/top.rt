@@ -11,7 +11,7 @@ ghost use Rattle.tcc_cli.specs.Top.{Caused, EndsOf};
 ghost use Rattle.tcc_words.specs.Bounds.{IsInBounds};
 
 use crate::files::{names, read_files};
-use crate::images::{bytes, lay};
+use crate::images::{bytes, load_files};
 use crate::lists::execute;
 use crate::on_bus::run_on_bus;
 use crate::refusal::{Refusal, refuse};
@@ -158,17 +158,19 @@ fn load<'a>(alloc: Global, command: &Command, read: &[List<u8>]) -> Result<Loade
     match command {
         Command::Run { machine, .. }
         | Command::Phases { machine, .. }
-        | Command::Bus { machine, .. } => lay(alloc, machine.raw, &machine.config, read),
+        | Command::Bus { machine, .. } => load_files(alloc, machine.raw, &machine.config, read),
         Command::Replay { machine, .. }
         | Command::Serial { machine, .. }
-        | Command::Why { machine, .. } => { lay(alloc, machine.raw, &machine.config, &read[1..]) }
+        | Command::Why { machine, .. } => {
+            load_files(alloc, machine.raw, &machine.config, &read[1..])
+        }
         Command::Trial {
             config,
             work,
             number,
             ..
         } => match workload(alloc, *work, *number) {
-            Ok(items) => lay(alloc, true, config, &[List { items }]),
+            Ok(items) => load_files(alloc, true, config, &[List { items }]),
             Err(NoMemory) => Err(Refusal::Memory),
         },
     }

@@ -7,7 +7,7 @@ use Rattle.tcc_rules.specs.Step.{History, Stepped, names_nodes, next_history, re
 use Rattle.phase_rules.specs.Phased.{is_held, phased_next}
 use Rattle.net_core.specs.Answers.{step_of}
 use Rattle.net_core.specs.Machine.{Machine, history_of, program_of, settings_of, start_of}
-use Rattle.net_core.specs.declared.taking.Step.{Step as Told}
+use Rattle.net_core.specs.declared.taking.Step.{Step}
 use Rattle.net_core.specs.declared.taking.StepError.{StepError}
 use Rattle.net_core.specs.declared.taking.StepError.TheVariants.{Memory, Refused}
 use Rattle.tcc_phase.specs.Answers.{cause_of, next_of}
@@ -116,19 +116,19 @@ absent-of m (Deliver Vendor f k) c q h = absurd (cc)
 -- ---- what is answered where an event isn't taken
 
 pub refused-so : (m : Machine) (e : Event) (x : StepError) → next_of m e ≡ goes m e → x ≡ cause_of (is_some (step_of m e))
-    → IsErrOf {T = Told} (Err x) Refused ↔ (next_of m e ≡ None)
+    → IsErrOf {T = Step} (Err x) Refused ↔ (next_of m e ≡ None)
 refused-so m e x free q = go (step_of m e) refl x q
   where
     go : (o : Option Stepped) → step_of m e ≡ o → (x : StepError) → x ≡ cause_of (is_some o)
-        → IsErrOf {T = Told} (Err x) Refused ↔ (next_of m e ≡ None)
+        → IsErrOf {T = Step} (Err x) Refused ↔ (next_of m e ≡ None)
     go None s Refused q = (λ r. free ∙ goes-none m e s, λ r. refl)
     go None s Memory q = absurd (cc)
     go (Some o) s Refused q = absurd (cc)
     go (Some o) s Memory q = (λ r. absurd (cc), λ r. let n = none-goes m e (sym free ∙ r) in absurd (cc))
 
 pub refused-as : (m : Machine) (e : Event) (x : StepError) → next_of m e ≡ goes m e
-    → IsErrOf {T = Told} (Err x) Refused ↔ (step_of m e ≡ None)
-    → IsErrOf {T = Told} (Err x) Refused ↔ (next_of m e ≡ None)
+    → IsErrOf {T = Step} (Err x) Refused ↔ (step_of m e ≡ None)
+    → IsErrOf {T = Step} (Err x) Refused ↔ (next_of m e ≡ None)
 refused-as m e x free r = (λ q. free ∙ goes-none m e (r.0 q), λ q. r.1 (none-goes m e (sym free ∙ q)))
 
 pub free-in : (p q : PhaseMachine) (e : Event) (b : Bool) → p ≡ q → Holds q.refined.machine e b → b ≡ false

@@ -9,7 +9,7 @@ use Rattle.tcc_msg.specs.Plain.{event_of}
 use Rattle.tcc_msg.specs.declared.event.Event.{Event as CodeEvent}
 use Rattle.phase_rules.specs.Phased.{phased_from, phased_next}
 use Rattle.net_core.specs.Machine.{Machine, history_of, start_of}
-use Rattle.net_core.specs.declared.taking.Step.{Step as Told}
+use Rattle.net_core.specs.declared.taking.Step.{Step}
 use Rattle.net_core.specs.declared.taking.StepError.{StepError}
 use Rattle.net_core.specs.declared.taking.StepError.TheVariants.{Refused, Memory}
 use Rattle.tcc_phase.specs.Answers.{Ran, StoppedAt, next_of}
@@ -50,7 +50,7 @@ same-next n o e h c = λ i. phased_next (started (c i)) (h i) e
 
 pub stopped-at : (m n o : Machine) (k : ℕ) (es : List CodeEvent) (e : CodeEvent) (error : StepError) → RanSo m n k es
     → slice_get es k ≡ Some e
-    → history_of o ≡ history_of n → o.cores.code ≡ n.cores.code → IsErrOf {T = Told} (Err error) Refused ↔ (next_of n (event_of e) ≡ None)
+    → history_of o ≡ history_of n → o.cores.code ≡ n.cores.code → IsErrOf {T = Step} (Err error) Refused ↔ (next_of n (event_of e) ≡ None)
     → StoppedAt m o k es error
 stopped-at m n o k es e Refused r at h c a = record {
   event = e;

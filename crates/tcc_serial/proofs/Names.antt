@@ -94,7 +94,7 @@ unfoldable pub use Rattle.tcc_attempt.specs.Follows.{sees}
 pub use Rattle.tcc_attempt.specs.Marks.{UsesStand, AllStand, AttemptFits, MarksFit}
 pub use Rattle.tcc_attempt.specs.Views.{Views, uses_delivered, views_after, uses_executed, no_views, rolls_back, uses_violated}
 unfoldable pub use Rattle.tcc_attempt.specs.Views.{views_from}
-pub use Rattle.tcc_serial.specs.Aim.{Suits, AllHold, IsSerialExecution, RunsAreSerial}
+pub use Rattle.tcc_serial.specs.Theorem.{Suits, AllHold, IsSerialExecution, RunsAreSerial}
 pub use Rattle.tcc_serial.specs.Alone.{ReadFits, IsApart, OwingFits, PhaseFits}
 pub use Rattle.tcc_serial.specs.AtHomes.{MarkedAtHomes, AccessesAtHomes, MarksAtHomes, UsedAtHomes, WrittenInMemory}
 pub use Rattle.tcc_serial.specs.Commits.{end_after, CoresSerial, CommitsSerial, CoreSerial, SeenSerial}
@@ -145,7 +145,7 @@ pub use Rattle.tcc_serial.specs.Tids.{KeptTids, ResolvedAt, RequestOf, InsideOf}
 unfoldable pub use Rattle.tcc_serial.specs.Tids.{has_tid, opens, handled, part, waits_for_tid}
 pub use Rattle.tcc_serial.specs.Told.{commit_way, KeptCommitted, KeptLive}
 unfoldable pub use Rattle.tcc_serial.specs.Told.{live_way}
-pub use Rattle.tcc_serial.specs.Uses.{IsMemory, Aligned, AlignedNeed, Follows, AgreeOnUsed, is_whole, reads_word, uses_next}
+pub use Rattle.tcc_serial.specs.Uses.{IsMemory, Aligned, AlignedNeed, SameAttempt, AgreeOnUsed, is_whole, reads_word, uses_next}
 unfoldable pub use Rattle.tcc_serial.specs.Uses.{stores_word, loads_word, uses, stores_whole}
 pub use Rattle.tcc_serial.specs.Values.{CopiesHave, EachUse, dooms, HomeWords, is_stale, IsDoomed, UnmodifiedWords, CopiesAbove}
 pub use Rattle.tcc_serial.specs.Values.{FilledWords, IsPassed, is_below, HaltedUsesNone, ViewedWords, ReadWords}

@@ -15,7 +15,7 @@ use Rattle.tcc_rules.specs.Rows.{e, x, d, c0, c1, d0, d1, v}
 use Rattle.tcc_rules.specs.State.{Solo, start}
 use Rattle.tcc_rules.specs.Step.{History, run}
 use Rattle.tcc_rules.specs.Useful.{useful}
-use Rattle.tcc_serial.specs.Aim.{Suits}
+use Rattle.tcc_serial.specs.Theorem.{Suits}
 use Rattle.tcc_serial.specs.Shown.{shown}
 
 -- the program

@@ -6,7 +6,7 @@ use Rattle.tcc_maps.specs.Nodes.{Event}
 use Rattle.tcc_maps.specs.Shape.{Shape}
 use Rattle.tcc_rules.specs.Step.{History, next_history}
 use Rattle.tcc_attempt.specs.Follows.{Uses}
-use Rattle.tcc_serial.specs.Aim.{Suits}
+use Rattle.tcc_serial.specs.Theorem.{Suits}
 use Rattle.tcc_serial.specs.Invariants.{Carried, Invariants}
 use Rattle.tcc_serial.specs.Owners.{Grant, granted_by}
 use Rattle.tcc_serial.specs.Values.{HomeWords, CopiesAbove}

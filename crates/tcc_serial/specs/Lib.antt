@@ -1,5 +1,5 @@
 pub mod KeepsWords
-pub mod Aim
+pub mod Theorem
 pub mod Alone
 pub mod Asked
 pub mod Count

@@ -61,7 +61,7 @@ IsMemory ram = (w : ℕ) → ram w < 2 ^ 32
 
 -- What the same instructions give over another memory: the same in all but memory, the same value in each word that they
 -- store, and each other word as it was.
-pub record Follows (base : ℕ) (here there : ℕ → ℕ) (a : Attempt) (other : Option Attempt) : Type 0 where
+pub record SameAttempt (base : ℕ) (here there : ℕ → ℕ) (a : Attempt) (other : Option Attempt) : Type 0 where
   pub ram : ℕ → ℕ
   pub same : other ≡ Some (record a { ram = ram })
   pub stored : (w : ℕ) → stores_word base a.stores w ≡ true → ram w ≡ a.ram w

@@ -5,7 +5,7 @@
 ghost use Rattle.std.specs.Prelude.{◌≡◌, ℕ, MatchOption, None, Some, List, ◌∷◌, ◌++◌};
 ghost use Rattle.tcc_program.specs.Program.{Local, Program};
 ghost use Rattle.tcc_program.specs.Plain.{steps, begun, Plain, Attempt, Order, serial};
-ghost use Rattle.tcc_serial.specs.Uses.{Aligned, IsMemory, AgreeOnUsed, Follows};
+ghost use Rattle.tcc_serial.specs.Uses.{Aligned, IsMemory, AgreeOnUsed, SameAttempt};
 ghost use Rattle.tcc_serial.specs.Insertion.{CanInsert, Inserted};
 ghost use Rattle.tcc_serial.specs.Named.{KeptNamed};
 ghost use Rattle.tcc_serial.specs.NotedBy.{CommitsAreByCores};
@@ -23,7 +23,7 @@ ghost use Rattle.tcc_serial.specs.Laws.{Always, OneWay, OneRequest, NeverPasses,
 ghost use Rattle.tcc_serial.specs.WayLaws.{AlwaysTold, UntoldWhereOpen, UntoldIsLive, AllWaysFit, GivenUpOnce, LiveIsOpen, CommittedWhereStored, SmallerAreResolved, SmallerAreGivenUp, WorkIsReached};
 ghost use Rattle.tcc_serial.specs.AtHomes.{AccessesAtHomes, MarksAtHomes, WrittenInMemory};
 ghost use Rattle.tcc_serial.specs.Invariants.{StartHasAll, RunsCarry, RunsCarryViews, RunsStayInMemory};
-ghost use Rattle.tcc_serial.specs.Aim.{AllHold, RunsAreSerial};
+ghost use Rattle.tcc_serial.specs.Theorem.{AllHold, RunsAreSerial};
 ghost use Rattle.tcc_serial.specs.Sound.{AttemptsSound};
 ghost use Rattle.tcc_serial.specs.KeepsViews.{KeepsViews};
 ghost use Rattle.tcc_serial.specs.KeepsHomes.{EventsKeepHomes};
@@ -34,7 +34,7 @@ ghost use Rattle.tcc_base.specs.declared.access.Commit.{Commit};
 
 /// Instructions over two memories that agree on the words used give the same.
 pub fn steps_depend_on_used_words()
-    ensures same { (base : ℕ) (p : Program) (n : ℕ) (l : Local) (here there : ℕ → ℕ) → Aligned p → IsMemory here → IsMemory there → AgreeOnUsed base p n l here there → MatchOption (steps base p n (begun l here)) (steps base p n (begun l there) ≡ None) (λ a. Follows base here there a (steps base p n (begun l there))) }
+    ensures same { (base : ℕ) (p : Program) (n : ℕ) (l : Local) (here there : ℕ → ℕ) → Aligned p → IsMemory here → IsMemory there → AgreeOnUsed base p n l here there → MatchOption (steps base p n (begun l here)) (steps base p n (begun l there) ≡ None) (λ a. SameAttempt base here there a (steps base p n (begun l there))) }
 {}
 
 /// A serial execution may be cut at any place, and one more transaction may be inserted there: where no later transaction is its

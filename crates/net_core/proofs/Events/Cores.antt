@@ -29,12 +29,12 @@ use Rattle.tcc_rules.specs.Step.{if_core_moves, names_nodes, step, if_core_takes
 use Rattle.core_node.specs.Answers.{IsBlocked}
 use Rattle.core_node.specs.declared.delivering.CoreError.{CoreError}
 use Rattle.core_node.specs.declared.delivering.CoreError.TheVariants.{Blocked, Memory}
-use Rattle.core_node.specs.Executing.{Told as CoreTold}
+use Rattle.core_node.specs.Executing.{TellsOfEvent}
 use Rattle.core_node.specs.View.{IsKnown}
 use Rattle.core_node.specs.declared.exec.Executed.{Executed}
 use Rattle.core_node.specs.declared.exec.Executed.TheVariants as done
 use Rattle.commit_engine.specs.Sent.{followed}
-use Rattle.core_bank.specs.Acted.{Acted, Follows}
+use Rattle.core_bank.specs.Acted.{Acted, ActedAs}
 use Rattle.core_bank.specs.Bank.{CoresData, cores_of}
 use Rattle.dir_bank.specs.Bank.{dirs_of}
 use Rattle.in_flight.specs.Flights.{Flights, net_of}
@@ -44,7 +44,7 @@ use Rattle.net_core.specs.Inside.{machine_of}
 use Rattle.net_core.specs.declared.system.System.TheInside.{Inside}
 use Rattle.net_core.specs.Machine.{Machine, history_of, program_of, settings_of, start_of, world_of}
 use Rattle.net_core.specs.Whole.{IsWhole}
-use Rattle.net_core.specs.declared.taking.Step.{Step as Told}
+use Rattle.net_core.specs.declared.taking.Step.{Step}
 use Rattle.net_core.specs.declared.taking.Step.TheVariants.{Moved}
 use Rattle.net_core.specs.declared.taking.Step.TheVariants as step_told
 use Rattle.net_core.proofs.Reaching.{in-bounds, settled-net, whole-bounded}
@@ -178,7 +178,7 @@ links-after : (m n : Machine) (c : ℕ) (before out : Outgoing) (o : Out) → Ac
 links-after m n c before out o a s =
     λ i. sending (net_of n.flights) (a.sender i) ((ap sends_of a.unsent ∙ sent-alone before out o a.clear s) i)
 
-moves-world : (m n : Machine) (c : ℕ) (before out : Outgoing) (o : Out) → ActsFrom m n c before out → Follows o c m.cores n.cores before out
+moves-world : (m n : Machine) (c : ℕ) (before out : Outgoing) (o : Out) → ActsFrom m n c before out → ActedAs o c m.cores n.cores before out
     → n.flights ≡ m.flights → world_of n ≡ core_moves (world_of m) c o
 unfolding core_moves world_of
 moves-world m n c before out o a f flights = world-is n (core_moves (world_of m) c o) f.cores (same-dirs m n a.code a.dirs) a.next
@@ -186,7 +186,7 @@ moves-world m n c before out o a f flights = world-is n (core_moves (world_of m)
     ∙ ap (λ net. sending net (Core c) o.sends) (ap net_of flights ∙ sym (settled-net m a.settled)))
 
 takes-world : (m n : Machine) (src : Node) (c k : ℕ) (before out : Outgoing) (o : Out) → ActsFrom m n c before out
-    → Follows o c m.cores n.cores before out → net_of n.flights ≡ taking (net_of m.flights) src (Core c) k
+    → ActedAs o c m.cores n.cores before out → net_of n.flights ≡ taking (net_of m.flights) src (Core c) k
     → world_of n ≡ core_takes (world_of m) src c k o
 unfolding core_takes world_of
 takes-world m n src c k before out o a f flights = world-is n (core_takes (world_of m) src c k o) f.cores
@@ -195,18 +195,18 @@ takes-world m n src c k before out o a f flights = world-is n (core_takes (world
     ∙ ap (λ net. sending net (Core c) o.sends) (flights ∙ ap (λ net. taking net src (Core c) k) (sym (settled-net m a.settled))))
 
 -- the commits after what a rule notes, and what is told of it
-abbrev pub NotesAs : (m n : Machine) → Told → Option Out → Type 0
+abbrev pub NotesAs : (m n : Machine) → Step → Option Out → Type 0
 NotesAs m n t None = ⊥
 NotesAs m n t (Some o) = (n.commits ≡ and_noted o.commit m.commits) × (tid_told t ≡ option_map (λ c. c.tid) o.commit)
 
-pub took-move : (m n : Machine) (e : Event) (c : ℕ) (before out : Outgoing) (t : Told) (o : Option Out) → ActsFrom m n c before out
+pub took-move : (m n : Machine) (e : Event) (c : ℕ) (before out : Outgoing) (t : Step) (o : Option Out) → ActsFrom m n c before out
     → Acted o c m.cores n.cores before out → n.flights ≡ m.flights → step_of m e ≡ if_core_moves (world_of m) c o → NotesAs m n t o →
     Took m n e t
 took-move m n e c before out t None a f flights is notes = absurd f
 took-move m n e c before out t (Some o) a f flights is notes =
     took-by m n e _ t is (moves-world m n c before out o a f flights) notes.0 notes.1 a.events a.code
 
-pub took-take : (m n : Machine) (e : Event) (src : Node) (c k : ℕ) (before out : Outgoing) (t : Told) (o : Option Out)
+pub took-take : (m n : Machine) (e : Event) (src : Node) (c k : ℕ) (before out : Outgoing) (t : Step) (o : Option Out)
     → ActsFrom m n c before out → Acted o c m.cores n.cores before out → net_of n.flights ≡ taking (net_of m.flights) src (Core c) k
     → step_of m e ≡ if_core_takes (world_of m) src c k o → NotesAs m n t o → Took m n e t
 took-take m n e src c k before out t None a f flights is notes = absurd f
@@ -220,7 +220,7 @@ marks-stay m n w code dirs flights =
     subst (λ f. AreMarked (settings_of m) (dirs_of (first_ram (start_of n)) n.dirs) f) (sym flights)
     (subst (λ ds. AreMarked (settings_of m) ds m.flights) (sym (same-dirs m n code dirs)) w.marked)
 
-pub move-whole : (m n : Machine) (e : Event) (t : Told) (c : ℕ) (before out : Outgoing) → IsWhole m → m.events < 4194304
+pub move-whole : (m n : Machine) (e : Event) (t : Step) (c : ℕ) (before out : Outgoing) → IsWhole m → m.events < 4194304
     → ActsFrom m n c before out
     → Took m n e t → n.flights ≡ m.flights → IsWhole n
 move-whole m n e t c before out w short a k flights = took-whole m n e t w short k (ap (λ d. d.settings) a.dirs) (ap (λ f. f.cores) flights)
@@ -262,7 +262,7 @@ short-attempt m c w few =
     omega (arith, most, count, few)
 
 -- what an execution told without a commit
-pub told-unnoted : (o : Option Out) (e : Executed) → CoreTold e o → (e ≡ done.Stepped) ⊎ (e ≡ done.Asked) → Unnoted o
+pub told-unnoted : (o : Option Out) (e : Executed) → TellsOfEvent e o → (e ≡ done.Stepped) ⊎ (e ≡ done.Asked) → Unnoted o
 told-unnoted None e t h = absurd t
 told-unnoted (Some o) done.Stepped t h = t.0
 told-unnoted (Some o) done.Asked t h = t.0
@@ -270,16 +270,16 @@ told-unnoted (Some o) (done.Committed c) t (inl h) = absurd (cc)
 told-unnoted (Some o) (done.Committed c) t (inr h) = absurd (cc)
 
 -- and with one
-told-noted : (o : Option Out) (c : Commit) → CoreTold (done.Committed c) o → (w : World) (core : ℕ)
+told-noted : (o : Option Out) (c : Commit) → TellsOfEvent (done.Committed c) o → (w : World) (core : ℕ)
     → (s : Stepped) × ((if_core_moves w core o ≡ Some s) × (s.noted ≡ Some c))
 told-noted None c t w core = absurd t
 told-noted (Some o) c t w core = (record { world = core_moves w core o; noted = o.commit }, (refl, t))
 
-pub commit-new : (m : Machine) (core : ℕ) (o : Option Out) (c : Commit) → IsWhole m → CoreTold (done.Committed c) o
+pub commit-new : (m : Machine) (core : ℕ) (o : Option Out) (c : Commit) → IsWhole m → TellsOfEvent (done.Committed c) o
     → step_of m (Exec core) ≡ if_core_moves (world_of m) core o → HasNone c.tid.0 m.commits
 commit-new m core o c w t is = let (s, p) = told-noted o c t (world_of m) core in new-tid m (Exec core) s c w (is ∙ p.0) p.1
 
-pub noted-as : (m n : Machine) (o : Option Out) (c : Commit) → CoreTold (done.Committed c) o → n.commits ≡ insert_commit c m.commits
+pub noted-as : (m n : Machine) (o : Option Out) (c : Commit) → TellsOfEvent (done.Committed c) o → n.commits ≡ insert_commit c m.commits
     → NotesAs m n (step_told.Committed c.tid) o
 noted-as m n None c t e = absurd t
 noted-as m n (Some o) c t e = (e ∙ ap (λ x. and_noted x m.commits) (sym t), ap (option_map (λ d. d.tid)) (sym t))

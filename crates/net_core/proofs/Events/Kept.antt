@@ -25,7 +25,7 @@ use Rattle.net_core.specs.Answers.{Kept, Took, step_of, tid_noted, tid_told}
 use Rattle.net_core.specs.Delivery.{AreMarked}
 use Rattle.net_core.specs.Machine.{Machine, history_of, program_of, settings_of, start_of, world_of}
 use Rattle.net_core.specs.Whole.{IsWhole}
-use Rattle.net_core.specs.declared.taking.Step.{Step as Told}
+use Rattle.net_core.specs.declared.taking.Step.{Step}
 use Rattle.net_core.proofs.Reaching.{reached-on, reached-same, run-on, settled-net}
 
 pub world-is : (n : Machine) (v : World) → cores_of n.cores ≡ v.cores → dirs_of (first_ram (start_of n)) n.dirs ≡ v.dirs → n.next ≡ v.next
@@ -47,7 +47,7 @@ next-is m n e o s w cs = ap (recorded (record { world = world_of m; commits = m.
     ∙ (λ i. Some (record { world = sym w i; commits = sym cs i }))
 
 -- the event was taken
-pub took-by : (m n : Machine) (e : Event) (o : Stepped) (t : Told) → step_of m e ≡ Some o → world_of n ≡ o.world
+pub took-by : (m n : Machine) (e : Event) (o : Stepped) (t : Step) → step_of m e ≡ Some o → world_of n ≡ o.world
     → n.commits ≡ and_noted o.noted m.commits → tid_told t ≡ tid_noted (Some o) → n.events ≡ m.events + 1 → n.cores.code ≡ m.cores.code
     → Took m n e t
 took-by m n e o t s w cs told events code = record {
@@ -58,7 +58,7 @@ took-by m n e o t s w cs told events code = record {
 }
 
 -- and the machine is whole
-pub took-whole : (m n : Machine) (e : Event) (t : Told) → IsWhole m → m.events < 4194304 → Took m n e t → n.dirs.settings ≡ m.dirs.settings
+pub took-whole : (m n : Machine) (e : Event) (t : Step) → IsWhole m → m.events < 4194304 → Took m n e t → n.dirs.settings ≡ m.dirs.settings
     → n.flights.cores ≡ m.flights.cores → n.flights.dirs ≡ m.flights.dirs
     → AreMarked (settings_of m) (dirs_of (first_ram (start_of n)) n.dirs) n.flights → IsWhole n
 took-whole m n e t w short k settings cores dirs marked = record {

@@ -11,7 +11,7 @@ use Rattle.tcc_msg.specs.declared.event.Event.{Event as CodeEvent}
 use Rattle.tcc_rules.specs.Step.{Stepped, and_then, next_history, recorded, run_from, step}
 use Rattle.net_core.specs.Answers.{Answers, Kept, Ran, StoppedAt, Took, step_of, tid_noted}
 use Rattle.net_core.specs.Machine.{Machine, history_of, program_of, settings_of}
-use Rattle.net_core.specs.declared.taking.Step.{Step as Told}
+use Rattle.net_core.specs.declared.taking.Step.{Step}
 use Rattle.net_core.specs.declared.taking.StepError.{StepError}
 use Rattle.net_core.specs.declared.taking.StepError.TheVariants.{Refused, Memory}
 use Rattle.net_core.proofs.Reaching.{after-all}
@@ -30,7 +30,7 @@ same-next : (m n : Machine) (e : Event) → Kept m n
 same-next m n e k = λ i. next_history (sym k.code i).settings (program (started (sym k.code i))) (sym k.history i) e
 
 -- an event taken between two calls that keep the state
-pub took-after : (m n o : Machine) (e : Event) (t : Told) → Kept m n → Took n o e t → Took m o e t
+pub took-after : (m n o : Machine) (e : Event) (t : Step) → Kept m n → Took n o e t → Took m o e t
 took-after m n o e t k w = record {
   next = same-next m n e k ∙ w.next;
   tells = w.tells ∙ ap tid_noted (kept-step m n e k);
@@ -42,7 +42,7 @@ pub answers-after : (m n o : Machine) (e : Event) (error : StepError) → Kept m
 answers-after m n o e Refused k a = (kept-on m n o k a.0, sym (kept-step m n e k) ∙ a.1)
 answers-after m n o e Memory k a = (kept-on m n o k a.0, λ q. a.1 (kept-step m n e k ∙ q))
 
-pub took-before : (m n o : Machine) (e : Event) (t : Told) → Took m n e t → Kept n o → Took m o e t
+pub took-before : (m n o : Machine) (e : Event) (t : Step) → Took m n e t → Kept n o → Took m o e t
 took-before m n o e t w k = record {
   next = w.next ∙ ap (λ h. Some h) (sym k.history);
   tells = w.tells;
@@ -53,11 +53,11 @@ took-before m n o e t w k = record {
 -- ---- refused exactly where the event isn't enabled
 
 pub refused-exactly : (m o : Machine) (e : Event) (error : StepError) → Answers m o e (Err error)
-    → IsErrOf {T = Told} (Err error) Refused ↔ (step_of m e ≡ None)
+    → IsErrOf {T = Step} (Err error) Refused ↔ (step_of m e ≡ None)
 refused-exactly m o e Refused a = (λ q. a.1, λ q. refl)
 refused-exactly m o e Memory a = (λ q. absurd (cc), λ q. absurd (a.1 q))
 
-pub taken-exactly : (m o : Machine) (e : Event) (t : Told) → Took m o e t → IsErrOf (Ok t) Refused ↔ (step_of m e ≡ None)
+pub taken-exactly : (m o : Machine) (e : Event) (t : Step) → Took m o e t → IsErrOf (Ok t) Refused ↔ (step_of m e ≡ None)
 unfolding next_history history_of
 taken-exactly m o e t w = (
   λ q. absurd (cc),
@@ -121,7 +121,7 @@ ran-more m n o k es e r at step count code = record {
 }
 
 -- what `step` answers, from its clauses
-pub answers-by : (m n : Machine) (e : Event) (error : StepError) → Kept m n → IsErrOf {T = Told} (Err error) Refused ↔ (step_of m e ≡ None)
+pub answers-by : (m n : Machine) (e : Event) (error : StepError) → Kept m n → IsErrOf {T = Step} (Err error) Refused ↔ (step_of m e ≡ None)
     → Answers m n e (Err error)
 answers-by m n e Refused k r = (k, r.0 refl)
 answers-by m n e Memory k r = (k, λ q. let p = r.1 q in absurd (cc))

@@ -39,17 +39,17 @@ use Rattle.tcc_phase.proofs.Requests.Asked.{AtMostOne, asked-after}
 use Rattle.tcc_phase.proofs.Requests.Behind.{behind-late}
 use Rattle.tcc_phase.proofs.Requests.Staying.{held-before, limits-same}
 
--- ---- the commit that was told
+-- ---- the TID that was told
 
--- what is told is what was noted
-pub record Told (t : Tid) (o : Option Commit) : Type 0 where
+-- it is that of the commit that was noted
+pub record TidOfNoted (t : Tid) (o : Option Commit) : Type 0 where
   pub commit : Commit
   pub noted : o ≡ Some commit
   pub tid : commit.tid ≡ t
 
-told : (t : Tid) (o : Option Commit) → Some t ≡ option_map (λ c. c.tid) o → Told t o
-told t None e = absurd (cc)
-told t (Some x) e = record { commit = x; noted = refl; tid = let q : t ≡ x.tid = cc in sym q }
+tid-of-noted : (t : Tid) (o : Option Commit) → Some t ≡ option_map (λ c. c.tid) o → TidOfNoted t o
+tid-of-noted t None e = absurd (cc)
+tid-of-noted t (Some x) e = record { commit = x; noted = refl; tid = let q : t ≡ x.tid = cc in sym q }
 
 none-told : (o : Option Commit) → None ≡ option_map (λ c. c.tid) o → o ≡ None
 none-told None e = refl
@@ -67,7 +67,7 @@ module _ (s : Start) (allowed : IsAllowed s.settings) (es : List Event) (e : Eve
   rises = rising s allowed (es ++ e ∷ []) g after
 
   -- the commit stands where its TID belongs
-  module _ (t : Tid) (w : Told t taken.out.noted) where
+  module _ (t : Tid) (w : TidOfNoted t taken.out.noted) where
     inserted : g.commits ≡ insert_commit w.commit h.commits
     inserted = taken.commits ∙ ap (λ o. and_noted o h.commits) w.noted
 
@@ -175,7 +175,7 @@ module _ (m n : Machine) (allowed : IsAllowed (settings_of m)) (es : List Event)
       go : (d : Step) → tid_told d ≡ option_map (λ c. c.tid) done-by.out.noted → IsListed n d phases (settings_of m).cores
       go Moved r = tt
       go (Committed t) r =
-          let w = told t done-by.out.noted r in
+          let w = tid-of-noted t done-by.out.noted r in
           let count = (in-phases (start_of m) fits es (history_of m) from).count in
           let most = place-most w.commit.tid.0 m.commits in
           let at = place (start_of m) fits es e (history_of m) (history_of n) from to t w in (
@@ -203,7 +203,7 @@ module _ (m n : Machine) (allowed : IsAllowed (settings_of m)) (es : List Event)
             each = λ c l. ap (λ xs. get_or xs c 0) k.1 ∙ was.each c l ∙ sym (w.1 c l);
           }
       go (Committed t) r k =
-          let w = told t done-by.out.noted r in
+          let w = tid-of-noted t done-by.out.noted r in
           let x : Commit = w.commit in
           let gr = noted (start_of m) fits es e (history_of m) (history_of n) from to done-by.out.noted x w.noted grows-so in
           let at = place (start_of m) fits es e (history_of m) (history_of n) from to t w in

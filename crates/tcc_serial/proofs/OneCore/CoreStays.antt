@@ -5,30 +5,30 @@ use Rattle.tcc_serial.proofs.OneCore.Outcomes.{Last_probing, Last_room, Given, G
 use Rattle.tcc_serial.proofs.OneCore.Outcomes.{Hurt_alone, Hurt_probing, Hurt_running, Hurt_waiting, each-back, each-evict, each-grant}
 use Rattle.tcc_serial.proofs.OneCore.Outcomes.{granted, heard}
 
-pub record Rests (s : CoreState) (o : Out) : Type 0 where
+pub record CheckpointStays (s : CoreState) (o : Out) : Type 0 where
   pub commit : o.commit ≡ None
   pub saved : o.core.saved ≡ s.saved
   pub ends : end_after o.core.phase o.core.ended ≡ end_after s.phase s.ended
 
-pub evict-rests : (sh : Shape) (x y : ℕ) (s : CoreState) → IfSome (core_evict sh x y s) (Rests s)
-evict-rests sh x y s = each-evict sh x y s (Rests s) (λ l e a m. record { commit = refl; saved = refl; ends = refl })
+pub evict-stays : (sh : Shape) (x y : ℕ) (s : CoreState) → IfSome (core_evict sh x y s) (CheckpointStays s)
+evict-stays sh x y s = each-evict sh x y s (CheckpointStays s) (λ l e a m. record { commit = refl; saved = refl; ends = refl })
 
-pub grant-rests : (sh : Shape) (u : ℕ) (s : CoreState) → Rests s (grant sh u s)
-grant-rests sh u s = each-grant sh u s (Rests s) go
+pub grant-stays : (sh : Shape) (u : ℕ) (s : CoreState) → CheckpointStays s (grant sh u s)
+grant-stays sh u s = each-grant sh u s (CheckpointStays s) go
   where
     awaited : (b : Bool) → s.phase ≡ AwaitTid → end_after (probing_or_ready b u) s.ended ≡ end_after s.phase s.ended
     awaited a e = grind (arith, nat_tests)
 
-    go : (x : Granted sh u s) → Rests s (granted x)
+    go : (x : Granted sh u s) → CheckpointStays s (granted x)
     go (Given e) = record { commit = refl; saved = refl; ends = awaited (any_below (is_probed sh s.cache) sh.dirs) e }
     go (Given_doomed e) = record { commit = refl; saved = refl; ends = rw e refl }
     go (Given_room e) = record { commit = refl; saved = refl; ends = rw e refl }
     go (Given_none e) = record { commit = refl; saved = refl; ends = refl }
 
-pub back-rests : (sh : Shape) (d : ℕ) (s : CoreState) (m : Msg) → IfSome (from_dir sh d s m) (Rests s)
-back-rests sh d s m = each-back sh d s (λ m o. Rests s o) go m
+pub back-stays : (sh : Shape) (d : ℕ) (s : CoreState) (m : Msg) → IfSome (from_dir sh d s m) (CheckpointStays s)
+back-stays sh d s m = each-back sh d s (λ m o. CheckpointStays s o) go m
   where
-    go : (x : Heard sh d s) → Rests s (heard x)
+    go : (x : Heard sh d s) → CheckpointStays s (heard x)
     go (Last_probing u v q o r) = record { commit = refl; saved = refl; ends = rw q refl }
     go (Last_room u v q o r) = record { commit = refl; saved = refl; ends = rw q refl }
     go (Hurt_running l m u v q) = record { commit = refl; saved = refl; ends = rw q refl }

@@ -3,7 +3,7 @@ use Rattle.tcc_serial.proofs.Names.{ℕ, zero, suc, ◌≡◌, ◌<◌, ◌%◌,
 use Rattle.tcc_serial.proofs.Names.{Some, None, MatchOption, if◌then◌else◌, arith, refl, ap, sym, ◌∙◌, nat_tests, Size, Word, Stored, Local}
 use Rattle.tcc_serial.proofs.Names.{Need, Nothing, Loads, Stores, Changes, Ends, Program, Attempt, Outcome, Goes, steps, begun, plain_step}
 use Rattle.tcc_serial.proofs.Names.{when_going, then_step, store_of, word_of, unit_of, patched, loaded, stores_word, stores_whole, is_whole}
-use Rattle.tcc_serial.proofs.Names.{reads_word, uses_next, uses, AlignedNeed, Aligned, IsMemory, Follows, AgreeOnUsed, IfSome, Load}
+use Rattle.tcc_serial.proofs.Names.{reads_word, uses_next, uses, AlignedNeed, Aligned, IsMemory, SameAttempt, AgreeOnUsed, IfSome, Load}
 use Rattle.tcc_serial.proofs.Names.{loads_word, patched-small}
 use Rattle.tcc_base.specs.Bytes.{bytes_of}
 use Rattle.tcc_program.specs.Plain.{stepped}
@@ -91,66 +91,66 @@ apart-stored base here there a ram addr size value ap e = record {
     there_kept : (w : ℕ) (b : Bool) → (word_of base addr == w) ≡ b → (stores_word base a.stores w || (b || false)) ≡ false → (if b then patched (ram (word_of base addr)) addr size value else ram w) ≡ there w
     there_kept w b q h = let k = kept (stores_word base a.stores w) b h in rw (k.1) (ap.kept_there w k.0)
 
-follows_from : (base : ℕ) (here there : ℕ → ℕ) (a : Attempt) (ram : ℕ → ℕ) (other : Option Attempt) → Apart base here there a ram → other ≡ Some (record a { ram = ram }) → Follows base here there a other
-follows_from base here there a ram other ap e = record { ram = ram; same = e; stored = ap.stored; kept_here = ap.kept_here; kept_there = ap.kept_there }
+same_from : (base : ℕ) (here there : ℕ → ℕ) (a : Attempt) (ram : ℕ → ℕ) (other : Option Attempt) → Apart base here there a ram → other ≡ Some (record a { ram = ram }) → SameAttempt base here there a other
+same_from base here there a ram other ap e = record { ram = ram; same = e; stored = ap.stored; kept_here = ap.kept_here; kept_there = ap.kept_there }
 
 -- the same words at an access give the same value
 same_loaded : (base : ℕ) (ram other : ℕ → ℕ) (addr : ℕ) (size : Size) → ram (word_of base addr) ≡ other (word_of base addr) → loaded base ram addr size ≡ loaded base other addr size
 unfolding loaded
 same_loaded base ram other addr size e = rw e refl
 
-follow_step : (base : ℕ) (p : Program) (here there : ℕ → ℕ) (a : Attempt) (ram : ℕ → ℕ) (need : Need) → Apart base here there a ram
+same_step : (base : ℕ) (p : Program) (here there : ℕ → ℕ) (a : Attempt) (ram : ℕ → ℕ) (need : Need) → Apart base here there a ram
     → IsMemory here → IsMemory there → AlignedNeed need
     → ((w : ℕ) → reads_word base need w ≡ true → ram w ≡ a.ram w)
-    → Follows base here there (stepped base p a need) (Some (stepped base p (record a { ram = ram }) need))
-follow_step base p here there a ram Nothing ap mh mt al reads = follows_from base here there (stepped base p a Nothing) ram _ (record { stored = ap.stored; kept_here = ap.kept_here; kept_there = ap.kept_there }) refl
-follow_step base p here there a ram (Loads addr size) ap mh mt al reads =
-    follows_from base here there (stepped base p a (Loads addr size)) ram _ (record { stored = ap.stored; kept_here = ap.kept_here; kept_there = ap.kept_there })
+    → SameAttempt base here there (stepped base p a need) (Some (stepped base p (record a { ram = ram }) need))
+same_step base p here there a ram Nothing ap mh mt al reads = same_from base here there (stepped base p a Nothing) ram _ (record { stored = ap.stored; kept_here = ap.kept_here; kept_there = ap.kept_there }) refl
+same_step base p here there a ram (Loads addr size) ap mh mt al reads =
+    same_from base here there (stepped base p a (Loads addr size)) ram _ (record { stored = ap.stored; kept_here = ap.kept_here; kept_there = ap.kept_there })
     (rw (same_loaded base ram a.ram addr size (reads (word_of base addr) (grind (arith, nat_tests)))) refl)
-follow_step base p here there a ram (Stores addr size value) ap mh mt al reads =
+same_step base p here there a ram (Stores addr size value) ap mh mt al reads =
     let q = apart-stored base here there a ram addr size value ap (same_patched base here there a ram addr size value ap mh mt al reads) in
-    follows_from base here there (stepped base p a (Stores addr size value)) (stored base ram addr size value) _ (record { stored = q.stored; kept_here = q.kept_here; kept_there = q.kept_there }) refl
-follow_step base p here there a ram (Changes addr changed) ap mh mt al reads =
+    same_from base here there (stepped base p a (Stores addr size value)) (stored base ram addr size value) _ (record { stored = q.stored; kept_here = q.kept_here; kept_there = q.kept_there }) refl
+same_step base p here there a ram (Changes addr changed) ap mh mt al reads =
     let e : ram (word_of base addr) ≡ a.ram (word_of base addr) = reads (word_of base addr) (grind (arith, nat_tests)) in
     let v : loaded base ram addr Word ≡ loaded base a.ram addr Word = same_loaded base ram a.ram addr Word e in
     let q = apart-stored base here there a ram addr Word (changed (loaded base a.ram addr Word)) ap (rw e refl) in
-    follows_from base here there (stepped base p a (Changes addr changed)) (stored base ram addr Word (changed (loaded base a.ram addr Word))) _ (record { stored = q.stored; kept_here = q.kept_here; kept_there = q.kept_there }) (rw v refl)
-follow_step base p here there a ram Ends ap mh mt al reads = follows_from base here there (stepped base p a Ends) ram _ (record { stored = ap.stored; kept_here = ap.kept_here; kept_there = ap.kept_there }) refl
-follow_step base p here there a ram x ap mh mt al reads = follows_from base here there (stepped base p a x) ram _ (record { stored = ap.stored; kept_here = ap.kept_here; kept_there = ap.kept_there }) refl
+    same_from base here there (stepped base p a (Changes addr changed)) (stored base ram addr Word (changed (loaded base a.ram addr Word))) _ (record { stored = q.stored; kept_here = q.kept_here; kept_there = q.kept_there }) (rw v refl)
+same_step base p here there a ram Ends ap mh mt al reads = same_from base here there (stepped base p a Ends) ram _ (record { stored = ap.stored; kept_here = ap.kept_here; kept_there = ap.kept_there }) refl
+same_step base p here there a ram x ap mh mt al reads = same_from base here there (stepped base p a x) ram _ (record { stored = ap.stored; kept_here = ap.kept_here; kept_there = ap.kept_there }) refl
 
 -- one more instruction, where the words that it uses agree
-follow_then : (base : ℕ) (p : Program) (here there : ℕ → ℕ) (a : Attempt) (other : Option Attempt) → Aligned p → IsMemory here → IsMemory there
-    → Follows base here there a other
+same_then : (base : ℕ) (p : Program) (here there : ℕ → ℕ) (a : Attempt) (other : Option Attempt) → Aligned p → IsMemory here → IsMemory there
+    → SameAttempt base here there a other
     → ((w : ℕ) → uses_next base p (Some a) w ≡ true → here w ≡ there w)
-    → MatchOption (then_step base p (Some a)) (then_step base p other ≡ None) (λ b. Follows base here there b (then_step base p other))
+    → MatchOption (then_step base p (Some a)) (then_step base p other ≡ None) (λ b. SameAttempt base here there b (then_step base p other))
 unfolding plain_step
-follow_then base p here there a other al mh mt f agree = rw (f.same) (go a.outcome)
+same_then base p here there a other al mh mt f agree = rw (f.same) (go a.outcome)
   where
     apart : Apart base here there a f.ram
     apart = record { stored = f.stored; kept_here = f.kept_here; kept_there = f.kept_there }
 
-    go : (o : Outcome) → MatchOption (when_going base p a o) (when_going base p (record a { ram = f.ram }) o ≡ None) (λ b. Follows base here there b (when_going base p (record a { ram = f.ram }) o))
-    go Goes = follow_step base p here there a f.ram (p.need a.local) apart mh mt (al a.local) (same_word base here there a f.ram (p.need a.local) apart agree)
+    go : (o : Outcome) → MatchOption (when_going base p a o) (when_going base p (record a { ram = f.ram }) o ≡ None) (λ b. SameAttempt base here there b (when_going base p (record a { ram = f.ram }) o))
+    go Goes = same_step base p here there a f.ram (p.need a.local) apart mh mt (al a.local) (same_word base here there a f.ram (p.need a.local) apart agree)
     go _ = refl
 
-abbrev Following : (base : ℕ) (here there : ℕ → ℕ) → Option Attempt → Option Attempt → Type 0
-Following base here there one other = MatchOption one (other ≡ None) (λ a. Follows base here there a other)
+abbrev SameOrNone : (base : ℕ) (here there : ℕ → ℕ) → Option Attempt → Option Attempt → Type 0
+SameOrNone base here there one other = MatchOption one (other ≡ None) (λ a. SameAttempt base here there a other)
 
-then_follow : (base : ℕ) (p : Program) (here there : ℕ → ℕ) (one other : Option Attempt) → Aligned p → IsMemory here → IsMemory there
-    → Following base here there one other
+then_same : (base : ℕ) (p : Program) (here there : ℕ → ℕ) (one other : Option Attempt) → Aligned p → IsMemory here → IsMemory there
+    → SameOrNone base here there one other
     → ((w : ℕ) → uses_next base p one w ≡ true → here w ≡ there w)
-    → Following base here there (then_step base p one) (then_step base p other)
-then_follow base p here there None other al mh mt f agree = rw f refl
-then_follow base p here there (Some a) other al mh mt f agree = follow_then base p here there a other al mh mt f agree
+    → SameOrNone base here there (then_step base p one) (then_step base p other)
+then_same base p here there None other al mh mt f agree = rw f refl
+then_same base p here there (Some a) other al mh mt f agree = same_then base p here there a other al mh mt f agree
 
-pub steps_follow : (base : ℕ) (p : Program) (n : ℕ) (l : Local) (here there : ℕ → ℕ) → Aligned p → IsMemory here → IsMemory there
+pub steps_same : (base : ℕ) (p : Program) (n : ℕ) (l : Local) (here there : ℕ → ℕ) → Aligned p → IsMemory here → IsMemory there
     → AgreeOnUsed base p n l here there
-    → MatchOption (steps base p n (begun l here)) (steps base p n (begun l there) ≡ None) (λ a. Follows base here there a (steps base p n (begun l there)))
+    → MatchOption (steps base p n (begun l here)) (steps base p n (begun l there) ≡ None) (λ a. SameAttempt base here there a (steps base p n (begun l there)))
 unfolding steps uses begun stores_word
-steps_follow base p zero l here there al mh mt agree = record { ram = there; same = refl; stored = λ w e. absurd (cc); kept_here = λ w e. refl; kept_there = λ w e. refl }
-steps_follow base p (suc n) l here there al mh mt agree =
-    then_follow base p here there (steps base p n (begun l here)) (steps base p n (begun l there)) al mh mt
-    (steps_follow base p n l here there al mh mt (λ w u. agree w (rw u refl)))
+steps_same base p zero l here there al mh mt agree = record { ram = there; same = refl; stored = λ w e. absurd (cc); kept_here = λ w e. refl; kept_there = λ w e. refl }
+steps_same base p (suc n) l here there al mh mt agree =
+    then_same base p here there (steps base p n (begun l here)) (steps base p n (begun l there)) al mh mt
+    (steps_same base p n l here there al mh mt (λ w u. agree w (rw u refl)))
     (λ w u. agree w (rw u ((elim (uses base p n (begun l here) w) as (λ b. (b || true) ≡ true) [ true ↦ refl | false ↦ refl ]))))
 
 -- Instructions whose accesses are aligned leave words of 32 bits, and each word that they use is named by their loads or stores.

@@ -3,12 +3,12 @@ use Rattle.tcc_serial.proofs.Names.{ℕ, ◌≡◌, ◌≢◌, Bool, true, false
 use Rattle.tcc_serial.proofs.Names.{nat_lt, if◌then◌else◌, arith, refl, sym, subst, ◌∙◌, nat_tests, put, CoreEnd, Run, Halt, Trap, Local}
 use Rattle.tcc_serial.proofs.Names.{Program, Attempt, Outcome, Goes, Ended, Trapped, steps, begun, Plain, closed, end_of, close_if, if_runs}
 use Rattle.tcc_serial.proofs.Names.{transaction, Order, commit_of, and_commit, after_order, serial, loads_word, stores_word, uses, Aligned}
-use Rattle.tcc_serial.proofs.Names.{IsMemory, Follows, AgreeOnUsed, commits_store, commits_touch, orders_core, Again, ◌<◌, ◌++◌, ap}
+use Rattle.tcc_serial.proofs.Names.{IsMemory, SameAttempt, AgreeOnUsed, commits_store, commits_touch, orders_core, Again, ◌<◌, ◌++◌, ap}
 use Rattle.tcc_serial.proofs.Names.{last_tid, IsBelow, Inserted, CanInsert}
 use Rattle.tcc_base.specs.declared.access.Commit.{Commit}
 use Rattle.tcc_program.proofs.Lemmas.{serial-append}
 use Rattle.tcc_program.specs.Plain.{Halted, close}
-use Rattle.tcc_serial.proofs.OneCore.UsedWords.{steps_follow, steps-memory, uses-named}
+use Rattle.tcc_serial.proofs.OneCore.UsedWords.{steps_same, steps-memory, uses-named}
 
 -- The same orders from another machine that agrees on the cores and words that they touch.
 
@@ -60,7 +60,7 @@ TwiceIf base p here there core one other = IfSome one (λ done. ((w : ℕ) → (
 
 closes_twice : (base : ℕ) (p : Program) (here there : Plain) (core : ℕ) (one other : Option Attempt) → there.cores core ≡ here.cores core
     → IfSome one (λ a. IsMemory a.ram) → IfSome other (λ a. IsMemory a.ram)
-    → IfSome one (λ a. ((w : ℕ) → (loads_word base a.loads w || stores_word base a.stores w) ≡ true → here.ram w ≡ there.ram w) → Follows base here.ram there.ram a other)
+    → IfSome one (λ a. ((w : ℕ) → (loads_word base a.loads w || stores_word base a.stores w) ≡ true → here.ram w ≡ there.ram w) → SameAttempt base here.ram there.ram a other)
     → TwiceIf base p here there core (close_if here core one) (close_if there core other)
 closes_twice base p here there core None other e m mo f = tt
 closes_twice base p here there core (Some a) other e m mo f = go a.outcome refl
@@ -76,14 +76,14 @@ run_twice base p here there core Run one other t = t
 run_twice base p here there core _ one other t = tt
 
 -- where the words named agree, the words used agree
-follows_named : (base : ℕ) (p : Program) (n : ℕ) (l : Local) (here there : ℕ → ℕ) → Aligned p → IsMemory here → IsMemory there
-    → IfSome (steps base p n (begun l here)) (λ a. ((w : ℕ) → (loads_word base a.loads w || stores_word base a.stores w) ≡ true → here w ≡ there w) → Follows base here there a (steps base p n (begun l there)))
-follows_named base p n l here there al mh mt = go (steps base p n (begun l here)) refl (uses-named base p n (begun l here)) (steps_follow base p n l here there al mh mt)
+same_named : (base : ℕ) (p : Program) (n : ℕ) (l : Local) (here there : ℕ → ℕ) → Aligned p → IsMemory here → IsMemory there
+    → IfSome (steps base p n (begun l here)) (λ a. ((w : ℕ) → (loads_word base a.loads w || stores_word base a.stores w) ≡ true → here w ≡ there w) → SameAttempt base here there a (steps base p n (begun l there)))
+same_named base p n l here there al mh mt = go (steps base p n (begun l here)) refl (uses-named base p n (begun l here)) (steps_same base p n l here there al mh mt)
   where
     go : (o : Option Attempt) → steps base p n (begun l here) ≡ o
         → ((w : ℕ) → uses base p n (begun l here) w ≡ true → IfSome o (λ a. (loads_word base a.loads w || stores_word base a.stores w) ≡ true))
-        → (AgreeOnUsed base p n l here there → MatchOption o (steps base p n (begun l there) ≡ None) (λ a. Follows base here there a (steps base p n (begun l there))))
-        → IfSome o (λ a. ((w : ℕ) → (loads_word base a.loads w || stores_word base a.stores w) ≡ true → here w ≡ there w) → Follows base here there a (steps base p n (begun l there)))
+        → (AgreeOnUsed base p n l here there → MatchOption o (steps base p n (begun l there) ≡ None) (λ a. SameAttempt base here there a (steps base p n (begun l there))))
+        → IfSome o (λ a. ((w : ℕ) → (loads_word base a.loads w || stores_word base a.stores w) ≡ true → here w ≡ there w) → SameAttempt base here there a (steps base p n (begun l there)))
     go None q u f = tt
     go (Some a) q u f = λ agree. f (λ w t. agree w (u w t))
 
@@ -94,7 +94,7 @@ unfolding transaction begun
 transaction_twice base p here there core n al mh mt e = rw e (run_twice base p here there core (here.cores core).ended _ _
     (closes_twice base p here there core (steps base p n (begun (here.cores core).local here.ram)) (steps base p n (begun (here.cores core).local there.ram)) e
     (steps-memory base p n (begun (here.cores core).local here.ram) al mh) (steps-memory base p n (begun (here.cores core).local there.ram) al mt)
-    (follows_named base p n (here.cores core).local here.ram there.ram al mh mt)))
+    (same_named base p n (here.cores core).local here.ram there.ram al mh mt)))
 
 -- the orders from two machines
 pub commits_touch-store : (base : ℕ) (cs : List Commit) (w : ℕ) → commits_touch base cs w ≡ false → commits_store base cs w ≡ false

@@ -17,7 +17,7 @@ use Rattle.tcc_serial.proofs.Names.{dir_takes, dir_asks, vendor_gives, CommitsSe
 use Rattle.tcc_serial.proofs.Counts.StepCases.{given, OfAnswer, step_cases}
 use Rattle.tcc_serial.proofs.Memory.MemorySends.{accesses_at_homes, marks_at_homes}
 use Rattle.tcc_serial.proofs.OneCore.CoreCloses.{Gives, Closing, Leaves, Stays, Closes, exec-leaves}
-use Rattle.tcc_serial.proofs.OneCore.CoreStays.{Rests, evict-rests, grant-rests, back-rests}
+use Rattle.tcc_serial.proofs.OneCore.CoreStays.{CheckpointStays, evict-stays, grant-stays, back-stays}
 use Rattle.tcc_serial.proofs.Order.InsertedOrders.{order_inserted, put-same, serial_again, serial-memory}
 use Rattle.tcc_serial.proofs.Order.SerialParts.{before, behind, cut-inserted, behind-below, before-smaller, last-below, SerialCut}
 use Rattle.tcc_serial.proofs.Order.SerialParts.{home-below, agrees-before, cut-joined, Each, each-listed, each-behind, each-both, each-then}
@@ -306,7 +306,7 @@ closed-core sh p entries ram gs ys views m h c t r o u k l f = closed-serial sh.
 abbrev After : Shape → Program → (ℕ → Local) → (ram : ℕ → ℕ) → History → Stepped → Type 0
 After sh p entries ram h o = IsSerial sh p entries ram (record { world = o.world; commits = and_noted o.noted h.commits })
 
-rested-core : (sh : Shape) (w : World) (c e : ℕ) (o : Out) (m : Plain) → Rests (w.cores c) o → CoreSerial (w.cores e) (m.cores e) → CoreSerial (if e == c then o.core else w.cores e) (m.cores e)
+rested-core : (sh : Shape) (w : World) (c e : ℕ) (o : Out) (m : Plain) → CheckpointStays (w.cores c) o → CoreSerial (w.cores e) (m.cores e) → CoreSerial (if e == c then o.core else w.cores e) (m.cores e)
 rested-core sh w c e o m r k = go (e == c) refl
   where
     go : (b : Bool) → (e == c) ≡ b → CoreSerial (if b then o.core else w.cores e) (m.cores e)
@@ -356,7 +356,7 @@ events_serial sh p entries ram gs ys views m h e u k = whole (step sh p h.world 
         go None q = tt
         go (Some o) q = one o q
 
-    rested : (c : ℕ) (o : Out) (w : World) → w.cores ≡ (λ j. if j == c then o.core else h.world.cores j) → Rests (h.world.cores c) o → After sh p entries ram h (record { world = w; noted = o.commit })
+    rested : (c : ℕ) (o : Out) (w : World) → w.cores ≡ (λ j. if j == c then o.core else h.world.cores j) → CheckpointStays (h.world.cores c) o → After sh p entries ram h (record { world = w; noted = o.commit })
     rested c o w q r = kept-serial sh p entries ram h m (record { world = w; noted = o.commit }) (r.commit) (k.commits_are_serial)
         (λ j y. subst (λ f. CoreSerial (f j) (m.cores j)) (sym q) (rested-core sh h.world c j o m r (k.committed_cores_are_serial j y)))
 
@@ -364,19 +364,19 @@ events_serial sh p entries ram gs ys views m h e u k = whole (step sh p h.world 
     same w q = kept-serial sh p entries ram h m (record { world = w; noted = None }) refl (k.commits_are_serial) (subst (λ f. (j : ℕ) → j < sh.cores → CoreSerial (f j) (m.cores j)) (sym q) (k.committed_cores_are_serial))
 
     evicts : (c x y : ℕ) → c < sh.cores → IfSome (core_evict sh x y (h.world.cores c)) (λ o. After sh p entries ram h (record { world = core_moves h.world c o; noted = o.commit }))
-    evicts c x y l = go (core_evict sh x y (h.world.cores c)) (evict-rests sh x y (h.world.cores c))
+    evicts c x y l = go (core_evict sh x y (h.world.cores c)) (evict-stays sh x y (h.world.cores c))
       where
-        go : (a : Option Out) → IfSome a (Rests (h.world.cores c)) → IfSome a (λ o. After sh p entries ram h (record { world = core_moves h.world c o; noted = o.commit }))
+        go : (a : Option Out) → IfSome a (CheckpointStays (h.world.cores c)) → IfSome a (λ o. After sh p entries ram h (record { world = core_moves h.world c o; noted = o.commit }))
         go None q = tt
         go (Some o) q = rested c o (core_moves h.world c o) refl q
 
     grants : (c n t : ℕ) → in_flight h.world.net Vendor (Core c) n ≡ Some (TidGrant t) → After sh p entries ram h (record { world = core_takes h.world Vendor c n (grant sh t (h.world.cores c)); noted = (grant sh t (h.world.cores c)).commit })
-    grants c n t i = rested c (grant sh t (h.world.cores c)) (core_takes h.world Vendor c n (grant sh t (h.world.cores c))) refl (grant-rests sh t (h.world.cores c))
+    grants c n t i = rested c (grant sh t (h.world.cores c)) (core_takes h.world Vendor c n (grant sh t (h.world.cores c))) refl (grant-stays sh t (h.world.cores c))
 
     backs : (c d n : ℕ) (a : Msg) → in_flight h.world.net (Dir d) (Core c) n ≡ Some a → IfSome (from_dir sh d (h.world.cores c) a) (λ o. After sh p entries ram h (record { world = core_takes h.world (Dir d) c n o; noted = o.commit }))
-    backs c d n a i = go (from_dir sh d (h.world.cores c) a) (back-rests sh d (h.world.cores c) a)
+    backs c d n a i = go (from_dir sh d (h.world.cores c) a) (back-stays sh d (h.world.cores c) a)
       where
-        go : (x : Option Out) → IfSome x (Rests (h.world.cores c)) → IfSome x (λ o. After sh p entries ram h (record { world = core_takes h.world (Dir d) c n o; noted = o.commit }))
+        go : (x : Option Out) → IfSome x (CheckpointStays (h.world.cores c)) → IfSome x (λ o. After sh p entries ram h (record { world = core_takes h.world (Dir d) c n o; noted = o.commit }))
         go None q = tt
         go (Some o) q = rested c o (core_takes h.world (Dir d) c n o) refl q
 

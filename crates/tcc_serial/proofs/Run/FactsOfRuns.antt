@@ -81,7 +81,7 @@ probes-taken : (sh : Shape) (gs : List Grant) (h : History) → KeptMore sh gs h
 probes-taken sh gs h m c d t x = (m.probed c d t x, none-coming (num (nat_le (pair h.world c d).next t)) (live (Grants t) (pair h.world c d).grants) (live (Probes t) (pair h.world c d).out + live (Replies t) (pair h.world c d).back) ((m.all.probing c d t).fresh) x)
 
 -- what is proved by itself of every run
-pub record Told (sh : Shape) (ys : Ways) (h : History) : Type 0 where
+pub record ProvedAlone (sh : Shape) (ys : Ways) (h : History) : Type 0 where
   pub untold : UntoldWhereOpen sh ys h
   pub is_live : UntoldIsLive sh ys h
   pub fit : AllWaysFit sh ys h
@@ -94,7 +94,7 @@ pub record Told (sh : Shape) (ys : Ways) (h : History) : Type 0 where
   pub marks : MarksOfCommits sh h.commits h.world
   pub stand : CommitsStand sh h.world h.commits
 
-carried : (sh : Shape) (gs : List Grant) (ys : Ways) (h : History) → KeptCopies sh gs ys h → Told sh ys h → Carried sh gs ys h
+carried : (sh : Shape) (gs : List Grant) (ys : Ways) (h : History) → KeptCopies sh gs ys h → ProvedAlone sh ys h → Carried sh gs ys h
 unfolding pair
 carried sh gs ys h x t = let m = x.more in let k = m.all in record {
   frames_stand_in_their_sets = λ c. (k.cores c).words.cache;
@@ -150,18 +150,18 @@ carried sh gs ys h x t = let m = x.more in let k = m.all in record {
   read_mark_is_valid_or_passed = read-words sh gs h.world h.commits k.owners k.last m.reads;
 }
 
-told-always : (sh : Shape) (p : Program) (entries : ℕ → Local) (ram : ℕ → ℕ) (es : List Event) → IfSome (run sh p (start entries ram) es) (λ h. Told sh (ways_from sh p es first_ways (first_state entries ram)) h)
-told-always sh p entries ram es = go (run sh p (start entries ram) es) (untold_where_open sh p entries ram es) (untold_is_live sh p entries ram es) (all_ways_fit sh p entries ram es) (given_up_once sh p entries ram es) (live_is_open sh p entries ram es) (committed_where_stored sh p entries ram es) (smaller_are_given_up sh p entries ram es) (work_is_reached sh p entries ram es) (marked_by_served sh p entries ram es) (marks_of_commits sh p entries ram es) (told_from (λ sh ys h. CommitsStand sh h.world h.commits) on-its-way sh p entries ram es)
+proved-alone : (sh : Shape) (p : Program) (entries : ℕ → Local) (ram : ℕ → ℕ) (es : List Event) → IfSome (run sh p (start entries ram) es) (λ h. ProvedAlone sh (ways_from sh p es first_ways (first_state entries ram)) h)
+proved-alone sh p entries ram es = go (run sh p (start entries ram) es) (untold_where_open sh p entries ram es) (untold_is_live sh p entries ram es) (all_ways_fit sh p entries ram es) (given_up_once sh p entries ram es) (live_is_open sh p entries ram es) (committed_where_stored sh p entries ram es) (smaller_are_given_up sh p entries ram es) (work_is_reached sh p entries ram es) (marked_by_served sh p entries ram es) (marks_of_commits sh p entries ram es) (told_from (λ sh ys h. CommitsStand sh h.world h.commits) on-its-way sh p entries ram es)
   where
     ys : Ways
     ys = ways_from sh p es first_ways (first_state entries ram)
 
-    go : (x : Option History) → IfSome x (λ h. UntoldWhereOpen sh ys h) → IfSome x (λ h. UntoldIsLive sh ys h) → IfSome x (λ h. AllWaysFit sh ys h) → IfSome x (λ h. GivenUpOnce sh ys h) → IfSome x (λ h. LiveIsOpen sh ys h) → IfSome x (λ h. CommittedWhereStored sh ys h) → IfSome x (λ h. SmallerAreGivenUp sh ys h) → IfSome x (λ h. WorkIsReached sh ys h) → IfSome x (λ h. MarkedByServed sh h.world) → IfSome x (λ h. MarksOfCommits sh h.commits h.world) → IfSome x (λ h. CommitsStand sh h.world h.commits) → IfSome x (λ h. Told sh ys h)
+    go : (x : Option History) → IfSome x (λ h. UntoldWhereOpen sh ys h) → IfSome x (λ h. UntoldIsLive sh ys h) → IfSome x (λ h. AllWaysFit sh ys h) → IfSome x (λ h. GivenUpOnce sh ys h) → IfSome x (λ h. LiveIsOpen sh ys h) → IfSome x (λ h. CommittedWhereStored sh ys h) → IfSome x (λ h. SmallerAreGivenUp sh ys h) → IfSome x (λ h. WorkIsReached sh ys h) → IfSome x (λ h. MarkedByServed sh h.world) → IfSome x (λ h. MarksOfCommits sh h.commits h.world) → IfSome x (λ h. CommitsStand sh h.world h.commits) → IfSome x (λ h. ProvedAlone sh ys h)
     go None a b c d f i j l m n q = tt
     go (Some h) a b c d f i j l m n q = record { untold = a; is_live = b; fit = c; once = d; is_open = f; committed = i; smaller = j; reached = l; served = m; marks = n; stand = q }
 
 pub runs_carry : RunsCarry
-runs_carry sh p entries ram es = go (run sh p (start entries ram) es) (run-copies sh p entries ram es) (told-always sh p entries ram es)
+runs_carry sh p entries ram es = go (run sh p (start entries ram) es) (run-copies sh p entries ram es) (proved-alone sh p entries ram es)
   where
     gs : List Grant
     gs = grants_from sh p es (first_state entries ram)
@@ -169,7 +169,8 @@ runs_carry sh p entries ram es = go (run sh p (start entries ram) es) (run-copie
     ys : Ways
     ys = ways_from sh p es first_ways (first_state entries ram)
 
-    go : (x : Option History) → IfSome x (λ h. KeptCopies sh gs ys h) → IfSome x (λ h. Told sh ys h) → IfSome x (λ h. Carried sh gs ys h)
+    go : (x : Option History) → IfSome x (λ h. KeptCopies sh gs ys h) → IfSome x (λ h. ProvedAlone sh ys h)
+        → IfSome x (λ h. Carried sh gs ys h)
     go None k t = tt
     go (Some h) k t = carried sh gs ys h k t
 

@@ -10,13 +10,13 @@ use Rattle.tcc_serial.proofs.OneCore.Outcomes.{Hurt_probing, Hurt_running, Hurt_
 use Rattle.tcc_serial.proofs.OneCore.Outcomes.{granted, heard, message}
 
 -- a core that commits nothing, in which words fade
-abbrev pub Rests : CoreState → Out → Type 0
-Rests s o = (o.commit ≡ None) × Fading s o.core
+abbrev pub OnlyFades : CoreState → Out → Type 0
+OnlyFades s o = (o.commit ≡ None) × Fading s o.core
 
-pub fading-grant : (sh : Shape) (u : ℕ) (s : CoreState) → Rests s (grant sh u s)
-fading-grant sh u s = each-grant sh u s (Rests s) go
+pub fading-grant : (sh : Shape) (u : ℕ) (s : CoreState) → OnlyFades s (grant sh u s)
+fading-grant sh u s = each-grant sh u s (OnlyFades s) go
   where
-    go : (x : Granted sh u s) → Rests s (granted x)
+    go : (x : Granted sh u s) → OnlyFades s (granted x)
     go (Given_none e) = (refl, fading s _ refl (fades-same s.cache))
     go _ = (refl, fading s _ refl (fades-same s.cache))
 
@@ -46,7 +46,7 @@ staled-fresh l a h = grind (arith, nat_tests)
 
 -- what an invalidation does: its words have no valid copy that isn't modified, and an awaited line of its line is stale
 pub record Invalidates (l m : ℕ) (s : CoreState) (o : Out) : Type 0 where
-  pub rests : Rests s o
+  pub rests : OnlyFades s o
   pub gone : (x y : ℕ) → hit l m x ≡ true → o.core.cache.value x ≡ Some y → o.core.cache.modified x ≡ false → ⊥
   pub staled : o.core.awaited ≡ staled l s.awaited
 
@@ -89,7 +89,7 @@ fades-cleaned l x c y e f = (e, f)
 
 -- what a message from a directory does, by its kind
 pub data Coming (s : CoreState) (m : Msg) (o : Out) : Type 0 where
-  Quiet : ((x : ℕ) → passes (InvWord x) m ≡ false) → Rests s o → Coming s m o
+  Quiet : ((x : ℕ) → passes (InvWord x) m ≡ false) → OnlyFades s o → Coming s m o
   Takes : (l n u : ℕ) → m ≡ Inv l n u → Invalidates l n s o → Coming s m o
   Brings : (l : ℕ) (ws : List ℕ) → m ≡ Fill l ws → Filled l ws s o → Coming s m o
 

@@ -15,7 +15,7 @@ use Rattle.tcc_serial.proofs.Counts.StepCases.{node_cases}
 use Rattle.tcc_serial.proofs.Lines.LoadsKept.{dir-fills}
 use Rattle.tcc_serial.proofs.Values.CoresKeepFramed.{no-fill, held-fades, held-quietly, held-invalid, held-filled, held-elsewhere}
 use Rattle.tcc_serial.proofs.Values.DirsKeepFramed.{answered-quietly, answered-load}
-use Rattle.tcc_serial.proofs.Values.FramedBacks.{Coming, Quiet, Takes, Brings, Rests, comes-back, fading-grant}
+use Rattle.tcc_serial.proofs.Values.FramedBacks.{Coming, Quiet, Takes, Brings, OnlyFades, comes-back, fading-grant}
 use Rattle.tcc_serial.proofs.Values.FramedCores.{Closing, Framing, Stays, Closes, fades-same, fading, framing-exec, fading-evict}
 use Rattle.tcc_serial.proofs.Values.FramedWords.{HeldOf, HeldAt, KeptHeld, few-not, load-home, answered-commit, commit-invalidates}
 use Rattle.tcc_serial.proofs.Values.ModifiedWords.{stored-served, stored-seen, Serves}
@@ -190,11 +190,11 @@ step-held sh p entries ram gs ys views m h e u k held = node_cases sh p w e (λ 
     executed c l (Some o) (Stays n f) = quietly c o (core_moves w c o) n (pairs_move P w c o (λ d x cl dl q. held-fades x _ (pair w c d) (after_move (pair w c d) o d) refl f (held c d x cl dl q)) held)
     executed c l (Some o) (Closes g) = λ after. committed sh p entries ram gs ys views m h c o u k held l g
 
-    emptied : (c : ℕ) (x : Option Out) → IfSome x (Rests (w.cores c)) → IfSome x (λ o. R (record { world = core_moves w c o; noted = o.commit }))
+    emptied : (c : ℕ) (x : Option Out) → IfSome x (OnlyFades (w.cores c)) → IfSome x (λ o. R (record { world = core_moves w c o; noted = o.commit }))
     emptied c None f = tt
     emptied c (Some o) f = quietly c o (core_moves w c o) (f.0) (pairs_move P w c o (λ d x cl dl q. held-fades x _ (pair w c d) (after_move (pair w c d) o d) refl (f.1) (held c d x cl dl q)) held)
 
-    granted : (c n : ℕ) (o : Out) → Rests (w.cores c) o → KeptHeld sh ram (core_takes w Vendor c n o) (and_noted o.commit h.commits)
+    granted : (c n : ℕ) (o : Out) → OnlyFades (w.cores c) o → KeptHeld sh ram (core_takes w Vendor c n o) (and_noted o.commit h.commits)
     granted c n o f = subst (λ q. KeptHeld sh ram (core_takes w Vendor c n o) (and_noted q h.commits)) (sym (f.0)) (pairs_grant P w c n o (λ d x cl dl q. held-fades x _ (pair w c d) (after_move (grant_taken (pair w c d) n) o d) refl (f.1) (held c d x cl dl q)) held)
 
     loading : (c d x : ℕ) → LoadingOf sh d (line_of x) (pair w c d)

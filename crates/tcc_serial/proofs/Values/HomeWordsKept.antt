@@ -13,7 +13,7 @@ use Rattle.tcc_serial.proofs.Copies.TagsKept.{untagged}
 use Rattle.tcc_serial.proofs.Counts.Links.{live-sends}
 use Rattle.tcc_serial.proofs.Counts.StepCases.{either, moves-own, moves-other, node_cases}
 use Rattle.tcc_serial.proofs.Marks.DirRecords.{dir-records}
-use Rattle.tcc_serial.proofs.OneCore.CoreStays.{Rests, grant-rests, back-rests}
+use Rattle.tcc_serial.proofs.OneCore.CoreStays.{CheckpointStays, grant-stays, back-stays}
 use Rattle.tcc_serial.proofs.Order.SerialParts.{each-listed}
 use Rattle.tcc_serial.proofs.Order.SerialSteps.{Stand, stand}
 use Rattle.tcc_serial.proofs.Values.CommitWords.{CommitsWord, CommitsWords, commits-exec}
@@ -230,8 +230,8 @@ unfolding core_moves core_takes
 step-values sh p entries ram gs ys views m h e u k = node_cases sh p w e (λ x g o. KeepsValues sh ram h o)
     (λ c l. executed c l (core_exec sh p c (w.cores c)) (framing-exec sh p c (w.cores c)) (commits-exec sh p c (w.cores c) (b.caches c) ((k.carried.marks_fit_the_phase c).spilled)) (words-exec sh p c (w.cores c) (b.caches c)))
     (λ c x y l. evicted c (core_evict sh x y (w.cores c)) (words-evict sh x y (w.cores c) (b.caches c)))
-    (λ c n t i. let o = grant sh t (w.cores c) in quietly o.commit (core_takes w Vendor c n o) (grant-rests sh t (w.cores c)).commit (alike-keeps sh ram w (core_takes w Vendor c n o) h.commits refl (granted-alike sh w c n o (words-grant sh t (w.cores c))) b.values))
-    (λ c d n a i. taken c d n a i (from_dir sh d (w.cores c) a) (back-rests sh d (w.cores c) a) (λ y. words-back sh y d (w.cores c) a (b.caches c)))
+    (λ c n t i. let o = grant sh t (w.cores c) in quietly o.commit (core_takes w Vendor c n o) (grant-stays sh t (w.cores c)).commit (alike-keeps sh ram w (core_takes w Vendor c n o) h.commits refl (granted-alike sh w c n o (words-grant sh t (w.cores c))) b.values))
+    (λ c d n a i. taken c d n a i (from_dir sh d (w.cores c) a) (back-stays sh d (w.cores c) a) (λ y. words-back sh y d (w.cores c) a (b.caches c)))
     (λ c d n a cl dl i. answered sh ram h c d n a (dir_deliver sh (w.dirs d) c a) b cl dl i (dir-records sh (w.dirs d) c a) (λ x. dir-words sh x (w.dirs d) c a))
     (λ c n i s. granted sh ram h c n b)
   where
@@ -253,7 +253,7 @@ step-values sh p entries ram gs ys views m h e u k = node_cases sh p w e (λ x g
     evicted c None a = tt
     evicted c (Some o) a = quietly o.commit (core_moves w c o) (a.0) (alike-keeps sh ram w (core_moves w c o) h.commits refl (moved-alike sh w c o (a.1)) b.values)
 
-    taken : (c d n : ℕ) (a : Msg) → in_flight w.net (Dir d) (Core c) n ≡ Some a → (x : Option Out) → IfSome x (Rests (w.cores c)) → ((y : ℕ) → IfSome x (WordBack sh y (w.cores c) a)) → IfSome x (λ o. KeepsValues sh ram h (record { world = core_takes w (Dir d) c n o; noted = o.commit }))
+    taken : (c d n : ℕ) (a : Msg) → in_flight w.net (Dir d) (Core c) n ≡ Some a → (x : Option Out) → IfSome x (CheckpointStays (w.cores c)) → ((y : ℕ) → IfSome x (WordBack sh y (w.cores c) a)) → IfSome x (λ o. KeepsValues sh ram h (record { world = core_takes w (Dir d) c n o; noted = o.commit }))
     taken c d n a i None r f = tt
     taken c d n a i (Some o) r f = quietly o.commit (core_takes w (Dir d) c n o) r.commit (alike-keeps sh ram w (core_takes w (Dir d) c n o) h.commits refl (taken-alike sh ram h c d n a o b i f) b.values)
 

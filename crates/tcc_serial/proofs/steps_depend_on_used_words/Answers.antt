@@ -1,5 +1,5 @@
-use Rattle.tcc_serial.proofs.OneCore.UsedWords.{steps_follow}
+use Rattle.tcc_serial.proofs.OneCore.UsedWords.{steps_same}
 use Rattle.tcc_serial.proofs.steps_depend_on_used_words.Goals as goal
 
 pub returns : goal.returns
-returns c = record { same = steps_follow }
+returns c = record { same = steps_same }

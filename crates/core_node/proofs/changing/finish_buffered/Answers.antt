@@ -13,7 +13,7 @@ pub returns-clause-does : goal.returns-clause-does
 returns-clause-does c =
     let p = alone c.args.inst.now in
     let n = need_of c.args.need in
-    c.step.ensures.does ∙ ap (λ (o : Option ℕ). one_more_instruction p o (core_of c.store_buffered.new.core)) c.given.ensures
+    c.advance.ensures.does ∙ ap (λ (o : Option ℕ). one_more_instruction p o (core_of c.store_buffered.new.core)) c.given.ensures
     ∙ ap (λ (s : CoreState). one_more_instruction p (given n c.args.word) s)
     (c.in-Ok-store_buffered.ensures.does ∙ ap (stored_in_buffer c.args.w.0 c.args.value) c.in-Ok.ensures.does)
     ∙ finished_buffered p n c.args.word c.args.w.0 c.args.value (core_of c.args.core.now) c.requires.goes_on

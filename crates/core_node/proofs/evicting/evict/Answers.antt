@@ -5,7 +5,7 @@ use Rattle.core_node.specs.declared.state.Core.{Core}
 use Rattle.core_node.specs.Answers.{Happened}
 use Rattle.core_node.specs.View.{core_of}
 use Rattle.core_node.proofs.Emptied.{evict_some, evicted_core, evicted_whole}
-use Rattle.core_node.proofs.Steps.{follows_did}
+use Rattle.core_node.proofs.Steps.{happened_did}
 use Rattle.core_node.proofs.evicting.evict.Goals as goal
 
 pub returns-clause-does : goal.returns-clause-does
@@ -22,7 +22,7 @@ returns-clause-does c =
     let core = evicted_core c.args.set c.args.way w.0 k m n c.in_ok-keep_modified.ensures.others c.empty.ensures.others
     c.empty.ensures.maps (c.in_ok-keep_modified.ensures.kept w.0 w.1.here) in
     subst (λ (o : Option Out). Happened o c.args.out.now n c.empty.new.out) (sym w.1.does)
-    (follows_did _ 1 c.args.out.now c.make_room.new.out c.empty.new.out n c.in_ok-make_room.ensures.unsent
+    (happened_did _ 1 c.args.out.now c.make_room.new.out c.empty.new.out n c.in_ok-make_room.ensures.unsent
     (record { core = core; sent = sent }))
 
 pub returns-clause-stays : goal.returns-clause-stays

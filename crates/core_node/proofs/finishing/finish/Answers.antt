@@ -12,6 +12,6 @@ pub returns-clause-does : goal.returns-clause-does
 returns-clause-does c =
     let p = alone c.args.inst.now in
     let n = need_of c.args.need in
-    c.step.ensures.does ∙ ap (λ (o : Option ℕ). one_more_instruction p o (core_of c.note.new.core)) c.given.ensures
+    c.advance.ensures.does ∙ ap (λ (o : Option ℕ). one_more_instruction p o (core_of c.note.new.core)) c.given.ensures
     ∙ ap (λ (s : CoreState). one_more_instruction p (given n c.args.word) s) c.in_ok-note.ensures.does
     ∙ finished_noted p n c.args.word (core_of c.args.core.now) c.requires.goes_on

@@ -15,7 +15,7 @@ returns-then-needs_nothing-clause-does c =
     let k = c.args.core.now in
     let e : planned c.in-Ok.inst k.state ≡ Nothing = c.needs_nothing.ensures c.if-needs_nothing.true k.state in
     rw (executed_as k.config (started c.args.code.now) k.id.0 (core_of k) c.in-Ok.inst Nothing c.in-Ok.ensures (rw e refl))
-    (quick_nothing k.config (alone c.in-Ok.inst) k.id.0 (core_of k) (core_of c.step.new.core) c.step.ensures.does)
+    (quick_nothing k.config (alone c.in-Ok.inst) k.id.0 (core_of k) (core_of c.advance.new.core) c.advance.ensures.does)
 
 pub returns-else-needs_nothing-clause-does : goal.returns-else-needs_nothing-clause-does
 unfolding core_of started

@@ -7,8 +7,8 @@ use Rattle.core_node.proofs.AtOnce.{quick_load, loaded_missing, cache_same, whol
 use Rattle.core_node.proofs.Loaded.{valid_hit, not_found}
 use Rattle.core_node.proofs.quick.load_quickly.Goals as goal
 
-pub step-requires-clause-whole : goal.step-requires-clause-whole
-step-requires-clause-whole c =
+pub advance-requires-clause-whole : goal.advance-requires-clause-whole
+advance-requires-clause-whole c =
     let w = subst (λ (k : Core). IsCore k) (sym c.core.view_is) c.requires.whole in
     let x = whole_loaded _ c.load.new.self c.args.w.0 c.runs.result w c.load.ensures.config c.load.ensures.maps in
     record { cache = x.cache; awaited = x.awaited; after = x.after }
@@ -17,11 +17,11 @@ pub returns-in-Hit-clause-does : goal.returns-in-Hit-clause-does
 unfolding core_of
 returns-in-Hit-clause-does c =
     rw (← c.core.view_is)
-    (quick_load _ (alone c.args.inst.now) c.args.addr c.args.size c.args.w.0 c.in-Hit.word (maps c.load.new.self) _ (core_of c.step.new.core)
+    (quick_load _ (alone c.args.inst.now) c.args.addr c.args.size c.args.w.0 c.in-Hit.word (maps c.load.new.self) _ (core_of c.advance.new.core)
     (sym c.in_default.ensures)
     (valid_hit _ c.args.w.0 c.in-Hit.word _ c.in-Hit.ensures.answer)
     (rw c.runs.ensures at c.load.ensures.maps)
-    (rw (c.push_reserved.ensures.items, c.read-value.ensures) at c.step.ensures.does))
+    (rw (c.push_reserved.ensures.items, c.read-value.ensures) at c.advance.ensures.does))
 
 pub returns-in_default-load-clause-does : goal.returns-in_default-load-clause-does
 returns-in_default-load-clause-does c =

@@ -7,8 +7,8 @@ use Rattle.core_node.proofs.AtOnce.{quick_part, cache_same, whole_stored, whole_
 use Rattle.core_node.proofs.Loaded.{valid_hit}
 use Rattle.core_node.proofs.quick.part_quickly.Goals as goal
 
-pub step-requires-clause-whole : goal.step-requires-clause-whole
-step-requires-clause-whole c =
+pub advance-requires-clause-whole : goal.advance-requires-clause-whole
+advance-requires-clause-whole c =
     let w = subst (λ (k : Core). IsCore k) (sym c.core.view_is) c.requires.whole in
     let s = rw c.if-not-store_clean.false at c.store_clean.ensures.does in
     let x = whole_stored _ c.store_clean.new.self c.args.w.0 c.new_word-new.result c.marks_too-also.result w c.store_clean.ensures.config s.maps in
@@ -21,10 +21,10 @@ returns-clause-does c =
     let t = rw c.new_word-new.ensures at s in
     rw (← c.core.view_is)
     (quick_part _ (alone c.args.inst.now) c.args.addr c.args.size c.args.value c.args.w.0 c.in-Hit.word c.marks_too-also.result (maps c.store_clean.new.self) _
-    (core_of c.step.new.core) (sym c.in_default.ensures)
+    (core_of c.advance.new.core) (sym c.in_default.ensures)
     (rw c.line_of_word.ensures at (sym c.holds.ensures ∙ c.if-holds.false))
     (valid_hit _ c.args.w.0 c.in-Hit.word _ c.in-Hit.ensures.answer) c.marks_too-also.ensures t
-    (rw c.push_reserved.ensures.items at c.step.ensures.does))
+    (rw c.push_reserved.ensures.items at c.advance.ensures.does))
 
 pub returns-then-not-store_clean-clause-does : goal.returns-then-not-store_clean-clause-does
 returns-then-not-store_clean-clause-does c =

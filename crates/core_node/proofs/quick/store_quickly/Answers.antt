@@ -6,8 +6,8 @@ use Rattle.core_node.specs.declared.state.Core.{Core}
 use Rattle.core_node.proofs.AtOnce.{quick_store, cache_same, whole_stored, whole_same}
 use Rattle.core_node.proofs.quick.store_quickly.Goals as goal
 
-pub step-requires-clause-whole : goal.step-requires-clause-whole
-step-requires-clause-whole c =
+pub advance-requires-clause-whole : goal.advance-requires-clause-whole
+advance-requires-clause-whole c =
     let w = subst (λ (k : Core). IsCore k) (sym c.core.view_is) c.requires.whole in
     let s = rw c.if-not-store_clean.false at c.store_clean.ensures.does in
     let x = whole_stored _ c.store_clean.new.self c.args.w.0 c.args.value false w c.store_clean.ensures.config s.maps in
@@ -18,9 +18,9 @@ unfolding core_of
 returns-clause-does c =
     let s = rw c.if-not-store_clean.false at c.store_clean.ensures.does in
     rw (← c.core.view_is)
-    (quick_store _ (alone c.args.inst.now) c.args.addr c.args.value c.args.w.0 (maps c.store_clean.new.self) _ (core_of c.step.new.core)
+    (quick_store _ (alone c.args.inst.now) c.args.addr c.args.value c.args.w.0 (maps c.store_clean.new.self) _ (core_of c.advance.new.core)
     (rw c.line_of_word.ensures at (sym c.holds.ensures ∙ c.if-holds.false)) s
-    (rw c.push_reserved.ensures.items at c.step.ensures.does))
+    (rw c.push_reserved.ensures.items at c.advance.ensures.does))
 
 pub returns-then-not-store_clean-clause-does : goal.returns-then-not-store_clean-clause-does
 returns-then-not-store_clean-clause-does c =

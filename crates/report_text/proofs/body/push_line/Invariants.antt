@@ -8,4 +8,4 @@ abbrev pub invariant-loop-k : goal.invariant-loop-k
 invariant-loop-k g l =
     string_bytes l.text
     ≡ string_bytes l.fn.text
-    ++ flat_map (word_text l.base (g.R.Words.words l.ram) (g.L.Words.words l.loaded)) (range_with_len (8 * l.line.0) l.k)
+    ++ flat_map (word_text l.base (g.R.ShownWords.words l.ram) (g.L.ShownWords.words l.loaded)) (range_with_len (8 * l.line.0) l.k)

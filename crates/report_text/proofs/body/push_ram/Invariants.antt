@@ -8,4 +8,4 @@ abbrev pub invariant-loop-line : goal.invariant-loop-line
 invariant-loop-line g l =
     string_bytes l.text
     ≡ string_bytes l.fn.text
-    ++ flat_map (word_text l.base (g.R.Words.words l.ram) (g.L.Words.words l.loaded)) (range_with_len 0 (8 * l.line))
+    ++ flat_map (word_text l.base (g.R.ShownWords.words l.ram) (g.L.ShownWords.words l.loaded)) (range_with_len 0 (8 * l.line))

@@ -7,7 +7,7 @@ use Rattle.report_text.proofs.growing.sum_of_growth.Goals as goal
 
 pub loop-line-preserved : goal.loop-line-preserved
 loop-line-preserved g c =
-    let grown = word_growth (g.R.Words.words c.args.ram.now) (g.L.Words.words c.args.loaded.now) in
+    let grown = word_growth (g.R.ShownWords.words c.args.ram.now) (g.L.ShownWords.words c.args.loaded.now) in
     let line = c.loop-line.line in
     let more = sum-eight_more grown line in
     sums-mod (sum (map grown (range_with_len 0 (8 * line)))) (sum (map grown (range_with_len (8 * line) 8)))

@@ -6,4 +6,4 @@ use Rattle.report_text.proofs.growing.sum_of_growth.Given as goal
 
 abbrev pub invariant-loop-line : goal.invariant-loop-line
 invariant-loop-line g l =
-    l.sum ≡ sum (map (word_growth (g.R.Words.words l.ram) (g.L.Words.words l.loaded)) (range_with_len 0 (8 * l.line))) % 2 ^ 32
+    l.sum ≡ sum (map (word_growth (g.R.ShownWords.words l.ram) (g.L.ShownWords.words l.loaded)) (range_with_len 0 (8 * l.line))) % 2 ^ 32

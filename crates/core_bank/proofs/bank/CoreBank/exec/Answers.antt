@@ -4,7 +4,7 @@ use Rattle.tcc_base.specs.Settings.{IsAllowed}
 use Rattle.core_node.specs.Answers.{IsBlocked}
 use Rattle.std.specs.Prelude.{◌<◌, IfOk}
 use Rattle.core_node.specs.View.{core_of}
-use Rattle.core_node.specs.Executing.{Told}
+use Rattle.core_node.specs.Executing.{TellsOfEvent}
 use Rattle.core_bank.proofs.Banks.{acted-config, acted-does, acted-unchanged, acted-whole, here, own-config, same-exec, state-here}
 use Rattle.core_bank.proofs.bank.CoreBank.exec.Goals as goal
 
@@ -57,7 +57,7 @@ returns-clause-told c =
     let h = here _ c.self.inside _ c.args.core.0 _ c.self-inside.view_is c.self.invariant c.self.view_is c.requires.exists
     c.index_mut.ensures.value in
     let same = same-exec _ _ _ _ h in
-    subst (λ o. IfOk c.exec-done.result (λ e. Told e o)) same c.exec-done.ensures.told
+    subst (λ o. IfOk c.exec-done.result (λ e. TellsOfEvent e o)) same c.exec-done.ensures.told
 
 pub returns-clause-blocked : goal.returns-clause-blocked
 returns-clause-blocked c =

@@ -7,7 +7,7 @@ use Rattle.tcc_rules.specs.CoreExec.{core_exec}
 use Rattle.commit_list.specs.Rising.{Commits}
 use Rattle.core_bank.specs.Bank.{cores_of}
 use Rattle.core_node.specs.declared.exec.Executed.{Executed}
-use Rattle.core_node.specs.Executing.{Told as CoreTold}
+use Rattle.core_node.specs.Executing.{TellsOfEvent}
 use Rattle.net_core.specs.Answers.{Answers, Took}
 use Rattle.net_core.specs.Inside.{machine_of}
 use Rattle.net_core.specs.declared.system.System.TheInside.{Inside}
@@ -74,7 +74,7 @@ pub insert-requires-clause-new : goal.insert-requires-clause-new
 insert-requires-clause-new c =
     let m = machine_of c.self.inside in
     commit-new m c.args.core.0 (rule m c.args.core.0) c.in-Committed.commit c.self.invariant
-    (subst (λ e. CoreTold e (rule m c.args.core.0)) c.in-Committed.is c.in-Ok.ensures.told)
+    (subst (λ e. TellsOfEvent e (rule m c.args.core.0)) c.in-Committed.is c.in-Ok.ensures.told)
     (exec-step_in m c.config.result.now c.args.core.0 (c.config.ensures ∙ ap settings_of (sym c.self.view_is))
     (subst (λ n. c.args.core.0 < n) c.cores.ensures.value c.if-core-cores.false))
 
@@ -107,7 +107,7 @@ took-commit c =
     (exec-step_in m c.config.result.now c.args.core.0 (c.config.ensures ∙ ap settings_of (sym c.self.view_is))
     (subst (λ n. c.args.core.0 < n) c.cores.ensures.value c.if-core-cores.false))
     (noted-as m n (rule m c.args.core.0) c.in-Committed.commit
-    (subst (λ e. CoreTold e (rule m c.args.core.0)) c.in-Committed.is c.in-Ok.ensures.told) c.insert.ensures)
+    (subst (λ e. TellsOfEvent e (rule m c.args.core.0)) c.in-Committed.is c.in-Ok.ensures.told) c.insert.ensures)
 
 pub invariant_of-self-in-Committed : goal.invariant_of-self-in-Committed
 invariant_of-self-in-Committed c =

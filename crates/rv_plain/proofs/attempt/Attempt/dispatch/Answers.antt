@@ -20,4 +20,4 @@ unfolding attempt_of started
 returns-in-Ok-clause-does c =
     let at = c.args.code.now in
     rw (buffered_step-found at.settings.base (started at) (attempt_of c.args.self.now c.args.memory.now Goes) c.in-Ok.inst c.in-Ok.ensures)
-    c.execute.ensures.does
+    c.execute_inst.ensures.does

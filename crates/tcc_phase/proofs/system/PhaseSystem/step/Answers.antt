@@ -6,7 +6,7 @@ use Rattle.tcc_msg.specs.Plain.{event_of}
 use Rattle.tcc_serial.specs.Owners.{IsRising}
 use Rattle.net_core.specs.Answers.{step_of}
 use Rattle.net_core.specs.Machine.{Machine, history_of, settings_of, start_of}
-use Rattle.net_core.specs.declared.taking.Step.{Step as Told}
+use Rattle.net_core.specs.declared.taking.Step.{Step}
 use Rattle.net_core.specs.declared.taking.StepError.TheVariants.{Refused}
 use Rattle.tcc_phase.specs.Answers.{cause_of, next_of}
 use Rattle.tcc_phase.specs.Kept.{IsKept}
@@ -31,7 +31,7 @@ returns-in-Err-clause-refused c =
     let e = event_of c.args.e in
     let m : Machine = c.args.self.now.refined.machine in
     refused-as m e c.in-Err.error (c.holds_back.ensures ∙ ap (λ b. if b then None else goes m e) c.if-holds_back.false)
-    (subst (λ (p : PhaseMachine). IsErrOf {T = Told} (Err c.in-Err.error) Refused ↔ (step_of p.refined.machine e ≡ None)) c.self.view_is
+    (subst (λ (p : PhaseMachine). IsErrOf {T = Step} (Err c.in-Err.error) Refused ↔ (step_of p.refined.machine e ≡ None)) c.self.view_is
     c.in-Err.ensures.refused)
 
 free : (c : goal.After-system-in-Ok) → next_of c.self.inside.refined.machine (event_of c.args.e)

@@ -1,7 +1,7 @@
 use Rattle.std.proofs.Common.{◌∙◌}
 use Rattle.tcc_cli.proofs.Refusing.{refused_form, refused_load_of}
 use Rattle.tcc_cli.proofs.Starting.{same_start, no_fault}
-use Rattle.tcc_cli.proofs.images.lay.Goals as goal
+use Rattle.tcc_cli.proofs.images.load_files.Goals as goal
 
 pub returns-in-Err-clause-refused : goal.returns-in-Err-clause-refused
 returns-in-Err-clause-refused c =

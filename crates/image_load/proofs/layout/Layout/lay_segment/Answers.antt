@@ -2,7 +2,7 @@ use Rattle.std.proofs.Common.{◌∙◌, ◌∷◌, ◌++◌, [], sym, ap}
 use Rattle.std.proofs.lemmas.List.{map-append}
 use Rattle.image_load.specs.Overlap.{extents_laid}
 use Rattle.image_load.proofs.FirstFaults.{segment_fault-outside, segment_fault-overlap, segment_fault-none}
-use Rattle.image_load.proofs.layout.Layout.lay.Goals as goal
+use Rattle.image_load.proofs.layout.Layout.lay_segment.Goals as goal
 
 pub returns-then-not-has_room_for-clause-fault : goal.returns-then-not-has_room_for-clause-fault
 returns-then-not-has_room_for-clause-fault c = λ _ earlier laid.

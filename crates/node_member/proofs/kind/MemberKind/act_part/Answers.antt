@@ -3,7 +3,7 @@ use Rattle.std.proofs.Common.{◌<◌, subst, sym}
 use Rattle.tcc_msg.specs.Plain.{event_of}
 use Rattle.node_member.specs.Placed.{IsPlaced}
 use Rattle.node_member.proofs.Events.{from-there}
-use Rattle.node_member.proofs.kind.MemberKind.act.Goals as goal
+use Rattle.node_member.proofs.kind.MemberKind.act_part.Goals as goal
 
 pub hand_to-requires-clause-core : goal.hand_to-requires-clause-core
 hand_to-requires-clause-core c =

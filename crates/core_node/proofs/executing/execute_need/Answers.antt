@@ -1,7 +1,7 @@
 use Rattle.rv_plain.specs.Attempts.{alone}
 use Rattle.core_node.specs.View.{core_of}
 use Rattle.core_node.proofs.Needed.{does_end, does_halt, does_trap}
-use Rattle.core_node.proofs.executing.execute.Goals as goal
+use Rattle.core_node.proofs.executing.execute_need.Goals as goal
 
 pub returns-in-End-clause-does : goal.returns-in-End-clause-does
 unfolding core_of
