@@ -1,7 +1,6 @@
 -- Where a machine has one directory and nothing is spilled, what a core has written is what is modified in the lines at home there.
-use Rattle.std.proofs.Common.{
-  ◌≡◌, ℕ, ◌<◌, ◌≤◌, ◌%◌, Bool, true, false, ◌||◌, ◌&&◌, ◌==◌, map, Option, Some, None, is_some, refl, ap, sym, ◌∙◌, arith
-}
+use Rattle.std.proofs.Common.{◌≡◌, ℕ, ◌<◌, ◌≤◌, ◌%◌, Bool, true, false, ◌||◌, ◌&&◌, ◌==◌, map, Option, Some, None, is_some}
+use Rattle.std.proofs.Common.{refl, ap, sym, ◌∙◌, arith}
 use Rattle.std.specs.Option.{option_map}
 use Rattle.tcc_base.specs.declared.names.LineAddr.{LineAddr}
 use Rattle.tcc_maps.specs.Words.{any_below, any_word, those, line_of, place_of, word_at}
