@@ -4,7 +4,7 @@ use Rattle.tcc_base.specs.declared.access.Commit.{Commit as Noted}
 use Rattle.tcc_maps.specs.Shape.{Shape}
 use Rattle.tcc_program.specs.Plain.{Plain}
 use Rattle.tcc_program.specs.Program.{Local, Program}
-use Rattle.tcc_serial.specs.Aim.{Suits}
+use Rattle.tcc_serial.specs.Theorem.{Suits}
 use Rattle.tcc_serial.specs.Commits.{CommitsSerial, CoreSerial}
 use Rattle.bus_rules.specs.State.{BusEvent, bus_start}
 use Rattle.bus_rules.specs.Step.{BusHistory, bus_run}

@@ -6,8 +6,8 @@ mod Starting
 mod Events
 mod Bounds
 mod Refining
-mod Taken
-mod Takes
+mod TakenLines
+mod AfterTake
 mod Writes
 mod Stores
 mod Cleaned

@@ -18,7 +18,7 @@ use Rattle.tcc_rules.specs.State.{CoreState}
 use Rattle.commit_engine.specs.Solo.{solo_list}
 use Rattle.bus_rules.specs.Commit.{written_words}
 use Rattle.core_node.specs.AtHand.{line_told, lines_told, word_told, words_in}
-use Rattle.bus_tcc.proofs.Taken.{any-at, place-back}
+use Rattle.bus_tcc.proofs.TakenLines.{any-at, place-back}
 
 eight-at : (f : ℕ → ℕ) (k : ℕ) → k < 8 → get_or (eight f) k 0 ≡ f k
 unfolding eight

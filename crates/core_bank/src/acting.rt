@@ -25,7 +25,8 @@ impl CoreBank {
         requires exists { core.0 < self.old.code.settings.cores }
         requires short { (cores_of self.old core.0).n < 4194304 }
         ensures does { OnOk result (Acted (core_exec self.old.code.settings (program (started self.old.code)) core.0 (cores_of self.old core.0)) core.0 self.old self.new out.old out.new) }
-        ensures told { IfOk result (λ e. TellsOfEvent e (core_exec self.old.code.settings (program (started self.old.code)) core.0 (cores_of self.old core.0))) }
+        ensures told { IfOk result (λ e. TellsOfEvent e
+            (core_exec self.old.code.settings (program (started self.old.code)) core.0 (cores_of self.old core.0))) }
         ensures blocked { IsBlocked result (core_exec self.old.code.settings (program (started self.old.code)) core.0 (cores_of self.old core.0)) }
         ensures code { self.new.code ≡ self.old.code }
         ensures unchanged { OnErr result (cores_of self.new ≡ cores_of self.old) }

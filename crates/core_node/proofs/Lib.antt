@@ -9,8 +9,8 @@ pub mod Dropped
 pub mod Emptied
 pub mod Enabled
 pub mod Evictions
-pub mod Fetched
-pub mod Fetches
+pub mod MissedLines
+pub mod InstAtPc
 pub mod Finished
 pub mod Handed
 pub mod Lemmas

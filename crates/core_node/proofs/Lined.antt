@@ -41,7 +41,7 @@ use Rattle.core_node.specs.declared.delivering.CoreError.{CoreError}
 use Rattle.core_node.specs.declared.delivering.CoreError.TheVariants.{Blocked, Memory}
 use Rattle.core_node.specs.Executing.{GoesOn, IsAligned}
 use Rattle.core_node.specs.Waiting.{misses}
-use Rattle.core_node.proofs.Fetches.{executed_as}
+use Rattle.core_node.proofs.InstAtPc.{executed_as}
 use Rattle.core_node.proofs.Finished.{cache-finished, finished_cache}
 use Rattle.core_node.proofs.Loaded.{load_missing, load_valid as valid_loads}
 use Rattle.core_node.proofs.Stored.{partial_missing, partial_valid}

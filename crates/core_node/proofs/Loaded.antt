@@ -14,7 +14,7 @@ use Rattle.core_node.proofs.Finished.{finished_cache, cache-finished, phase-fini
 use Rattle.spec_cache.specs.Look.{look_of}
 use Rattle.spec_cache.specs.declared.look.Look.{Look as CodeLook}
 use Rattle.spec_cache.specs.declared.look.Look.TheVariants as code
-use Rattle.core_node.proofs.Fetched.{never_hits_line}
+use Rattle.core_node.proofs.MissedLines.{never_hits_line}
 
 pub load_spilled : (sh : Shape) (p : Program) (n : Need) (w x : ℕ) (s : CoreState) → s.spilled w ≡ Some x
     → load sh p n w s ≡ Some (moves (finished p n x s) nothing)

@@ -14,7 +14,7 @@ use Rattle.spec_cache.specs.Look.{look_of}
 use Rattle.spec_cache.specs.declared.look.Look.{Look as CodeLook}
 use Rattle.spec_cache.specs.declared.look.Look.TheVariants as code
 use Rattle.core_node.proofs.Blocked.{some_not}
-use Rattle.core_node.proofs.Fetched.{look_by}
+use Rattle.core_node.proofs.MissedLines.{look_by}
 use Rattle.core_node.proofs.Loaded.{not_hit, not_miss}
 
 abbrev store_by : (held free marked : Bool) → (set : ℕ) → Look

@@ -167,7 +167,8 @@ fn exec_left(core: &mut Core, code: &Code, out: &mut Outgoing) -> Result<Execute
     requires counts { core.old.n < 2 ^ 32 - 1 }
     requires same { code.now.settings ≡ core.old.config }
     ensures does { OnOk result (Happened (core_exec core.old.config (program (started code.now)) core.old.id.0 (core_of core.old)) out.old core.new out.new) }
-    ensures told { IfOk result (λ e. TellsOfEvent e (core_exec core.old.config (program (started code.now)) core.old.id.0 (core_of core.old))) }
+    ensures told { IfOk result (λ e. TellsOfEvent e
+        (core_exec core.old.config (program (started code.now)) core.old.id.0 (core_of core.old))) }
     ensures blocked { IsBlocked result (core_exec core.old.config (program (started code.now)) core.old.id.0 (core_of core.old)) }
     ensures stays { Stays core.old core.new }
     ensures unchanged { OnErr result (core_of core.new ≡ core_of core.old) }
@@ -184,7 +185,8 @@ pub(crate) fn exec(core: &mut Core, code: &Code, out: &mut Outgoing) -> Result<E
     requires counts { core.old.n < 2 ^ 32 - 1 }
     requires same { code.now.settings ≡ core.old.config }
     ensures does { OnOk result (Happened (core_exec core.old.config (program (started code.now)) core.old.id.0 (core_of core.old)) out.old core.new out.new) }
-    ensures told { IfOk result (λ e. TellsOfEvent e (core_exec core.old.config (program (started code.now)) core.old.id.0 (core_of core.old))) }
+    ensures told { IfOk result (λ e. TellsOfEvent e
+        (core_exec core.old.config (program (started code.now)) core.old.id.0 (core_of core.old))) }
     ensures blocked { IsBlocked result (core_exec core.old.config (program (started code.now)) core.old.id.0 (core_of core.old)) }
     ensures stays { Stays core.old core.new }
     ensures unchanged { OnErr result (core_of core.new ≡ core_of core.old) }

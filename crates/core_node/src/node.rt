@@ -120,7 +120,8 @@ impl CoreNode {
         requires short { self.old.n < 4194304 }
         requires same { code.now.settings ≡ self.old.config }
         ensures does { OnOk result (Happened (core_exec self.old.config (program (started code.now)) self.old.id.0 (core_of self.old)) out.old self.new out.new) }
-        ensures told { IfOk result (λ e. TellsOfEvent e (core_exec self.old.config (program (started code.now)) self.old.id.0 (core_of self.old))) }
+        ensures told { IfOk result (λ e. TellsOfEvent e
+            (core_exec self.old.config (program (started code.now)) self.old.id.0 (core_of self.old))) }
         ensures blocked { IsBlocked result (core_exec self.old.config (program (started code.now)) self.old.id.0 (core_of self.old)) }
         ensures stays { Stays self.old self.new }
         ensures unchanged { OnErr result (core_of self.new ≡ core_of self.old) }

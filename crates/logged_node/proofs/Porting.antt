@@ -1,8 +1,8 @@
 -- The ports of a node, and what moves through them.
 pub mod Seats
-pub mod Moved
+pub mod SeveralMoves
 pub mod Pools
-pub mod Places
+pub mod ChangedElement
 pub mod Posted
 pub mod Rooms
 pub mod Placed

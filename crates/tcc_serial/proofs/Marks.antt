@@ -5,8 +5,8 @@ pub mod CoreMarkingTakes
 pub mod DirMarks
 pub mod MarksKept
 pub mod StoredMasks
-pub mod CoreMasks
-pub mod MasksKept
+pub mod ModifiedMasks
+pub mod ModifiedMasksKept
 pub mod CommitMasks
 pub mod StoredKept
 pub mod PartlyMarkedUnowned

@@ -14,7 +14,7 @@ use Rattle.tcc_rules.specs.Attempt.{Out, finished}
 use Rattle.tcc_rules.specs.CoreEvict.{core_evict}
 use Rattle.tcc_rules.specs.State.{CoreState, AwaitTid, Solo, core_start}
 use Rattle.tcc_attempt.specs.Follows.{Uses, Agrees, IsSmall, NeedFits, Fits, HasEnded}
-use Rattle.tcc_serial.specs.Aim.{Suits}
+use Rattle.tcc_serial.specs.Theorem.{Suits}
 use Rattle.tcc_serial.specs.Commits.{CommitsSerial, CoreSerial, plain_start}
 use Rattle.tcc_attempt.proofs.Lemmas.{Claim, finished-claims, in-to, none-used, start-follows}
 use Rattle.bus_rules.specs.Commit.{BusStepped, written_words, with_words, bus_commit, all_clean, commit_out}

@@ -19,7 +19,7 @@ use Rattle.logged_node.specs.Acts.{Flushes, Gathers, SameMember}
 use Rattle.logged_node.specs.Moves.{Both, Grows, Room, SameSent, Stands, numbered}
 use Rattle.logged_node.specs.Node.{IsNode, IsRun, NodeData, got_from, last_stamp, run_alone, sent_to}
 use Rattle.logged_node.specs.Ports.{PortData, RoomData, got_at, port_to}
-use Rattle.logged_node.proofs.Porting.Moved.{grows-then, room-refl, room-then, room-weaker, stands-grows, stands-refl}
+use Rattle.logged_node.proofs.Porting.SeveralMoves.{grows-then, room-refl, room-then, room-weaker, stands-grows, stands-refl}
 use Rattle.logged_node.proofs.Running.Stored.{Includes, get-behind, log-filled_more, stored-more}
 
 -- ---- what came

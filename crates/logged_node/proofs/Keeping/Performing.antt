@@ -26,7 +26,7 @@ use Rattle.logged_node.specs.declared.choosing.Deed.{Deed}
 use Rattle.logged_node.specs.declared.room.Waiting.{Waiting}
 use Rattle.logged_node.proofs.Keeping.Gathering.{run-same}
 use Rattle.logged_node.proofs.Keeping.Handling.{Handles, handles-for, loses-ahead, loses-fresh, loses-got}
-use Rattle.logged_node.proofs.Porting.Moved.{links-refl, links-then, room-refl, room-then}
+use Rattle.logged_node.proofs.Porting.SeveralMoves.{links-refl, links-then, room-refl, room-then}
 use Rattle.logged_node.proofs.Porting.Posted.{node_eq-refl}
 use Rattle.logged_node.proofs.Running.Local.{after, run-push}
 use Rattle.logged_node.proofs.Running.Stamps.{last-push, rises-push}

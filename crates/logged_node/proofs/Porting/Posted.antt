@@ -18,7 +18,7 @@ use Rattle.node_logs.specs.Filled.{mail_of}
 use Rattle.node_logs.specs.declared.logs.Mail.{Mail}
 use Rattle.logged_node.specs.Peers.{seat}
 use Rattle.logged_node.specs.Ports.{PortData, RoomData, handed_to, port_to, sent_at}
-use Rattle.logged_node.proofs.Porting.Places.{get-set, get-set_other}
+use Rattle.logged_node.proofs.Porting.ChangedElement.{get-set, get-set_other}
 use Rattle.logged_node.proofs.Porting.Seats.{seat-same}
 
 -- the room with the message on its link

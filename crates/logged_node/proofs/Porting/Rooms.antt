@@ -27,8 +27,8 @@ use Rattle.logged_node.specs.Ports.{AreCarried, IsPortAt, IsRoom, PortData, Room
 use Rattle.logged_node.specs.Ports.{taken_from}
 use Rattle.logged_node.specs.declared.port.Letter.{Letter}
 use Rattle.logged_node.specs.declared.room.Waiting.{Waiting}
-use Rattle.logged_node.proofs.Porting.Moved.{both-refl, links-refl, room-places, stands-refl}
-use Rattle.logged_node.proofs.Porting.Places.{each-set, each-weaker, get-set, get-set_other, ports-keep}
+use Rattle.logged_node.proofs.Porting.SeveralMoves.{both-refl, links-refl, room-places, stands-refl}
+use Rattle.logged_node.proofs.Porting.ChangedElement.{each-set, each-weaker, get-set, get-set_other, ports-keep}
 use Rattle.logged_node.proofs.Porting.Posted.{node_eq-refl, posted, with_sent}
 use Rattle.logged_node.proofs.Porting.Seats.{seat-below, seat-same}
 

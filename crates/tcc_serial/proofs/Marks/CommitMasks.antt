@@ -12,7 +12,7 @@ use Rattle.tcc_serial.proofs.Serving.CommitOwners.{few-of}
 use Rattle.tcc_serial.proofs.Marks.CoreCounts.{is-commit, is-alone, has-solo}
 use Rattle.tcc_serial.proofs.Marks.CoreMarking.{mine, told-commit, has-ready}
 use Rattle.tcc_serial.proofs.Marks.CoreMarkingTakes.{unmarked}
-use Rattle.tcc_serial.proofs.Marks.CoreMasks.{own-mask, few-masked}
+use Rattle.tcc_serial.proofs.Marks.ModifiedMasks.{own-mask, few-masked}
 use Rattle.tcc_serial.proofs.Marks.StoredMasks.{unspilled, stored-line, stored-any, stored-cases, modified-line, modified-stored}
 use Rattle.tcc_serial.proofs.Marks.StoredMasks.{written-line, written-stored}
 use Rattle.tcc_serial.proofs.OneCore.Said.{quiet, Empties}

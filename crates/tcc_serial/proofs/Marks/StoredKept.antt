@@ -17,12 +17,12 @@ use Rattle.tcc_serial.proofs.Marks.CommitMasks.{Storing, StoresAll, storing-exec
 use Rattle.tcc_serial.proofs.Serving.CoreCommits.{granted-free}
 use Rattle.tcc_serial.proofs.Marks.CoreMarking.{Marking, marking-exec, marking-evict}
 use Rattle.tcc_serial.proofs.Marks.CoreMarkingTakes.{marking-back, granting}
-use Rattle.tcc_serial.proofs.Marks.CoreMasks.{few-masked, passes-masked}
+use Rattle.tcc_serial.proofs.Marks.ModifiedMasks.{few-masked, passes-masked}
 use Rattle.tcc_serial.proofs.Marks.CountsKept.{none-sent, marks-stay, told-ahead, is-commit, none-away}
 use Rattle.tcc_serial.proofs.Marks.DirMarks.{Marked, Stays, MarkedBy, dir-marked}
 use Rattle.tcc_serial.proofs.Marks.MarksKept.{open-untold, taken-less, empty-one, skip-unmarked, only-there, no-request, no-empty}
 use Rattle.tcc_serial.proofs.Marks.MarksKept.{taken-back as back-marks}
-use Rattle.tcc_serial.proofs.Marks.MasksKept.{wrong-few, wrong-falls, masked-there}
+use Rattle.tcc_serial.proofs.Marks.ModifiedMasksKept.{wrong-few, wrong-falls, masked-there}
 use Rattle.tcc_serial.proofs.Marks.NamedKept.{marks-same}
 use Rattle.tcc_serial.proofs.Marks.OwesByCommit.{CountsMarked, OwesBy, dir-owes}
 use Rattle.tcc_serial.proofs.Serving.CommitOwners.{few-of}

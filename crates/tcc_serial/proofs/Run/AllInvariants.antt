@@ -11,7 +11,7 @@ use Rattle.tcc_serial.specs.Probing.{KeptProbing, OneProbe}
 use Rattle.tcc_serial.proofs.Lines.AskedKept.{step-asked, start-asked}
 use Rattle.tcc_serial.proofs.Marks.CountsKept.{step-counted, start-counted}
 use Rattle.tcc_serial.proofs.Marks.MarksKept.{step-marks, start-marks}
-use Rattle.tcc_serial.proofs.Marks.MasksKept.{step-masks, start-masks}
+use Rattle.tcc_serial.proofs.Marks.ModifiedMasksKept.{step-masks, start-masks}
 use Rattle.tcc_serial.proofs.Marks.NamedKept.{step-named, start-named}
 use Rattle.tcc_serial.proofs.Marks.PartlyMarkedUnowned.{step-whole, start-whole}
 use Rattle.tcc_serial.proofs.Marks.StoredKept.{step-stored, start-stored}

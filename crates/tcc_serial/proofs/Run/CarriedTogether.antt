@@ -15,7 +15,7 @@ use Rattle.tcc_serial.proofs.Lines.LineOwnersKept.{step-line-owners, start-line-
 use Rattle.tcc_serial.proofs.Lines.LoadsKept.{step-loading, start-loading}
 use Rattle.tcc_serial.proofs.Lines.SharersStep.{step-sharers, start-sharers}
 use Rattle.tcc_serial.proofs.Marks.AfterKept.{step-after, start-after}
-use Rattle.tcc_serial.proofs.Marks.MasksKept.{step-one-mark, start-one-mark}
+use Rattle.tcc_serial.proofs.Marks.ModifiedMasksKept.{step-one-mark, start-one-mark}
 use Rattle.tcc_serial.proofs.Marks.NamedKept.{KeptUnacked, step-unacked, start-unacked}
 use Rattle.tcc_serial.proofs.Marks.ReadsKept.{KeptReads, step-reads, start-reads}
 use Rattle.tcc_serial.proofs.Memory.HomesKept.{step-homes, start-homes}

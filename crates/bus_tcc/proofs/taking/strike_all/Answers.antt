@@ -1,7 +1,7 @@
 -- All lines are struck.
 use Rattle.std.proofs.Common.{◌+◌, refl, sym, subst, ◌∙◌, arith}
 use Rattle.core_node.specs.View.{core_of}
-use Rattle.bus_tcc.proofs.Taken.{Strikes, strikes-all, strikes-first, strikes-next}
+use Rattle.bus_tcc.proofs.TakenLines.{Strikes, strikes-all, strikes-first, strikes-next}
 use Rattle.bus_tcc.proofs.taking.strike_all.Goals as goal
 
 pub loop-line-init : goal.loop-line-init

@@ -1,7 +1,7 @@
 -- The lines so far are struck.
 use Rattle.std.proofs.Common.{◌≡◌}
 use Rattle.core_node.specs.View.{core_of}
-use Rattle.bus_tcc.proofs.Taken.{Strikes}
+use Rattle.bus_tcc.proofs.TakenLines.{Strikes}
 use Rattle.bus_tcc.proofs.taking.strike_all.Given as goal
 
 abbrev pub invariant-loop-line : goal.invariant-loop-line

@@ -5,7 +5,7 @@ use Rattle.tcc_rules.specs.State.{CoreState}
 use Rattle.spec_cache.specs.Held.{maps}
 use Rattle.core_node.specs.AtHand.{lined}
 use Rattle.core_node.specs.View.{core_of}
-use Rattle.core_node.proofs.Fetched.{way_free}
+use Rattle.core_node.proofs.MissedLines.{way_free}
 use Rattle.core_node.proofs.Placed.{placed_held}
 use Rattle.core_node.proofs.at_hand.fill_frame.Goals as goal
 

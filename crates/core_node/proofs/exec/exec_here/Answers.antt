@@ -2,7 +2,7 @@ use Rattle.image_load.specs.Contents.{started}
 use Rattle.rv_exec.specs.Needs.{need_of}
 use Rattle.core_node.specs.View.{core_of}
 use Rattle.core_node.proofs.Blocked.{blocked_some}
-use Rattle.core_node.proofs.Fetches.{executed_as, trapped_as}
+use Rattle.core_node.proofs.InstAtPc.{executed_as, trapped_as}
 use Rattle.core_node.proofs.exec.exec_here.Goals as goal
 
 pub returns-in-Ok-clause-does : goal.returns-in-Ok-clause-does

@@ -1,7 +1,7 @@
 use Rattle.std.proofs.Common.{refl, ap, sym, ◌∙◌}
 use Rattle.spec_cache.specs.Look.{look_of}
 use Rattle.core_node.specs.View.{core_of}
-use Rattle.core_node.proofs.Fetched.{fetched_overflow, fetched_waits, never_hits}
+use Rattle.core_node.proofs.MissedLines.{fetched_overflow, fetched_waits, never_hits}
 use Rattle.core_node.proofs.missing.fetch.Goals as goal
 
 pub returns-then-is_alone-clause-blocked : goal.returns-then-is_alone-clause-blocked

@@ -6,7 +6,7 @@ use Rattle.tcc_rules.specs.Execute.{request_line, place}
 use Rattle.spec_cache.specs.Held.{maps}
 use Rattle.core_node.specs.View.{core_of, Did}
 use Rattle.core_node.proofs.Placed.{placed_held}
-use Rattle.core_node.proofs.Fetched.{way_free, fetched_held, fetched_placed}
+use Rattle.core_node.proofs.MissedLines.{way_free, fetched_held, fetched_placed}
 use Rattle.core_node.proofs.missing.request.Goals as goal
 
 pub ask-requires-else-has_frame-clause-held : goal.ask-requires-else-has_frame-clause-held

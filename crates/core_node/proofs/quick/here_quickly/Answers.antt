@@ -6,7 +6,7 @@ use Rattle.rv_exec.specs.Needs.{need_of}
 use Rattle.rv_plain.specs.Attempts.{alone}
 use Rattle.core_node.specs.View.{core_of}
 use Rattle.core_node.proofs.AtOnce.{quick_nothing}
-use Rattle.core_node.proofs.Fetches.{executed_as}
+use Rattle.core_node.proofs.InstAtPc.{executed_as}
 use Rattle.core_node.proofs.quick.here_quickly.Goals as goal
 
 pub returns-then-needs_nothing-clause-does : goal.returns-then-needs_nothing-clause-does

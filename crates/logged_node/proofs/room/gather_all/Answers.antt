@@ -3,8 +3,8 @@ use Rattle.std.proofs.Common.{◌<◌, length, get_or, arith}
 use Rattle.std.specs.Prelude.{slice_get}
 use Rattle.std.proofs.lemmas.Option.{slice_get-get_or}
 use Rattle.logged_node.specs.Moves.{Takes}
-use Rattle.logged_node.proofs.Porting.Moved.{both-refl, takes-refl, takes-then}
-use Rattle.logged_node.proofs.Porting.Places.{each-then_set}
+use Rattle.logged_node.proofs.Porting.SeveralMoves.{both-refl, takes-refl, takes-then}
+use Rattle.logged_node.proofs.Porting.ChangedElement.{each-then_set}
 use Rattle.logged_node.proofs.room.gather_all.Goals as goal
 
 pub loop-port-init : goal.loop-port-init

@@ -3,7 +3,7 @@ use Rattle.std.proofs.Common.{ap, sym, ◌∙◌, is_some, subst, ◌<◌}
 use Rattle.bus_tcc.specs.Left.{is_left}
 use Rattle.bus_tcc.specs.Machine.{bus_of, bus_world_of}
 use Rattle.bus_tcc.proofs.Enabling.{take-enabled}
-use Rattle.bus_tcc.proofs.Takes.{no-core}
+use Rattle.bus_tcc.proofs.AfterTake.{no-core}
 use Rattle.bus_tcc.proofs.engine.Engine.allows_take.Goals as goal
 
 pub returns-then-core-cores : goal.returns-then-core-cores

@@ -6,7 +6,7 @@ use Rattle.bus_tcc.specs.Inside.{machine_of}
 use Rattle.bus_tcc.specs.Left.{without_core}
 use Rattle.bus_tcc.specs.Machine.{bus_of, bus_settings_of}
 use Rattle.bus_tcc.specs.declared.event.BusStep.TheVariants.{Moved}
-use Rattle.bus_tcc.proofs.Takes.{TookLines, after_take, lines-took, lines-whole, no-core, not-left}
+use Rattle.bus_tcc.proofs.AfterTake.{TookLines, after_take, lines-took, lines-whole, no-core, not-left}
 use Rattle.bus_tcc.proofs.engine.Engine.take.Goals as goal
 
 pub returns-then-core-cores : goal.returns-then-core-cores

@@ -1,5 +1,5 @@
 -- Messages are taken one by one.
-use Rattle.logged_node.proofs.Porting.Moved.{takes-refl, takes-then}
+use Rattle.logged_node.proofs.Porting.SeveralMoves.{takes-refl, takes-then}
 use Rattle.logged_node.proofs.port.Port.gather.Goals as goal
 use Rattle.logged_node.proofs.port.Port.gather.Goals.{in-None, in-Some+in_ok-take_in+then-not-branch}
 

@@ -2,7 +2,7 @@
 use Rattle.std.proofs.Common.{sym, ◌∙◌, arith}
 use Rattle.std.proofs.lemmas.List.{length_push}
 use Rattle.logged_node.specs.PortInside.{port_of}
-use Rattle.logged_node.proofs.Porting.Moved.{takes-push, takes-refl, takes-same}
+use Rattle.logged_node.proofs.Porting.SeveralMoves.{takes-push, takes-refl, takes-same}
 use Rattle.logged_node.proofs.Porting.Pools.{port-push}
 use Rattle.logged_node.proofs.port.Port.take_in.Goals as goal
 

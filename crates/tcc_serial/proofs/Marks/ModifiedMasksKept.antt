@@ -12,7 +12,7 @@ use Rattle.tcc_serial.proofs.Counts.StepCases.{pairs_move, pairs_grant, pairs_ba
 use Rattle.tcc_serial.proofs.Counts.StepCases.{step_cases}
 use Rattle.tcc_serial.proofs.Marks.CoreMarking.{Marking, marking-exec, marking-evict, few}
 use Rattle.tcc_serial.proofs.Marks.CoreMarkingTakes.{Granting, marking-back, granting}
-use Rattle.tcc_serial.proofs.Marks.CoreMasks.{Masking, live-masked, passes-masked, masking-exec, masking-evict, masking-back}
+use Rattle.tcc_serial.proofs.Marks.ModifiedMasks.{Masking, live-masked, passes-masked, masking-exec, masking-evict, masking-back}
 use Rattle.tcc_serial.proofs.Marks.DirMarks.{Marked, Stays, MarkedBy, dir-marked, marks-grow}
 use Rattle.tcc_serial.proofs.Marks.MarksKept.{marks-granted, has-granted, is-granted, skip-unmarked, only-there, kinds, falls, taken-less}
 use Rattle.tcc_serial.proofs.Serving.KeptSteps.{core_of_back}

@@ -25,7 +25,7 @@ use Rattle.bus_tcc.specs.declared.event.BusStep.TheVariants.{Moved}
 use Rattle.bus_tcc.specs.declared.engine.Engine.TheInside.{Inside}
 use Rattle.bus_tcc.proofs.Bounds.{bounded, core-bounded}
 use Rattle.bus_tcc.proofs.Events.{bank_in, took-by, took-whole, world-is}
-use Rattle.bus_tcc.proofs.Taken.{InMemory, IsClean, took-taken}
+use Rattle.bus_tcc.proofs.TakenLines.{InMemory, IsClean, took-taken}
 
 -- what the rules make of it
 abbrev pub taken_step : Shape → BusWorld → (core : ℕ) → Bus → BusStepped

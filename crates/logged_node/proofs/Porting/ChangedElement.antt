@@ -7,7 +7,7 @@ use Rattle.tcc_base.specs.Settings.{Settings}
 use Rattle.tcc_maps.specs.Nodes.{Node}
 use Rattle.logged_node.specs.Moves.{AtEach, Both, SameLinks}
 use Rattle.logged_node.specs.Ports.{ArePorts, IsPortAt, PortData}
-use Rattle.logged_node.proofs.Porting.Moved.{both-refl, both-then, both-weaker}
+use Rattle.logged_node.proofs.Porting.SeveralMoves.{both-refl, both-then, both-weaker}
 
 pub get-set : {A : Type 0} (xs : List A) (i : ℕ) (x : A) → i < length xs → slice_get (slice_set xs i x) i ≡ Some x
 get-set [] i x h = absurd (omega arith)
