@@ -1,13 +1,13 @@
 // What a core that has just begun does with messages and with a frame to empty, a load, and an end with its commit.
 ghost use Rattle.std.specs.Prelude.{◌≡◌, ◌<◌, IfOk};
 
+use crate::loading::code_of;
 use commit_engine::Phase;
 use core_node::{CoreError, CoreNode, Executed};
-use image_load::{load, raw};
 use rv_code::Code;
 use std::alloc::Global;
 use std::test::Fail;
-use tcc_base::{Config, CoreId, DirId, LineAddr, List, NodeId, Tid};
+use tcc_base::{Config, CoreId, DirId, LineAddr, NodeId, Tid};
 use tcc_msg::{Msg, Outgoing};
 
 // What a core answers to a message of the vendor, whether it has sent anything, and what it does then.
@@ -103,16 +103,6 @@ fn an_empty_way_stays(rt: HostRuntime) -> Result<(), Fail> {
     Ok(())
 }
 
-// The code of this image, for a core and two directories.
-fn code_of(alloc: Global, image: &[u8]) -> Result<Code, Fail> {
-    let cfg = Config::new(1, 2, 4, 1, 0, 65_536)?;
-    let file = List {
-        items: image.to_vec(alloc)?,
-    };
-    let images = raw(alloc, &cfg, &[file])?;
-    Ok(Code::new(alloc, load(alloc, &cfg, &images)?)?)
-}
-
 // How an instruction ended.
 #[derive(Clone, Copy, Debug, PartialEq, Eq)]
 enum Done {
@@ -156,8 +146,8 @@ fn begun(alloc: Global, code: &Code) -> Result<CoreNode, Fail>
 }
 
 // What a core does that begins with this image and executes, and what it sends.
-fn executed(alloc: Global, image: &[u8]) -> Result<(Done, Outgoing), Fail> {
-    let code = code_of(alloc, image)?;
+fn executed(alloc: Global, image: &[u32]) -> Result<(Done, Outgoing), Fail> {
+    let code = code_of(alloc, 1, 2, image)?;
     let mut core = begun(alloc, &code)?;
     let mut out = Outgoing::new(alloc);
     let done = exec(&mut core, &code, &mut out);
@@ -167,7 +157,7 @@ fn executed(alloc: Global, image: &[u8]) -> Result<(Done, Outgoing), Fail> {
 #[test]
 fn a_load_asks_for_its_line(rt: HostRuntime) -> Result<(), Fail> {
     // lw x5,96(x0)
-    let (done, out) = executed(rt.alloc(), &[0x83, 0x22, 0x00, 0x06])?;
+    let (done, out) = executed(rt.alloc(), &[0x0600_2283])?;
     assert_eq!(rt; done, Done::Asked);
     let request = Msg::LoadReq {
         line: LineAddr(3),
@@ -181,8 +171,8 @@ fn a_load_asks_for_its_line(rt: HostRuntime) -> Result<(), Fail> {
 }
 
 // What a core does that begins with this image, executes, takes TID 1 and executes; and what it sends.
-fn committed(alloc: Global, image: &[u8]) -> Result<((Done, bool, Done), Outgoing), Fail> {
-    let code = code_of(alloc, image)?;
+fn committed(alloc: Global, image: &[u32]) -> Result<((Done, bool, Done), Outgoing), Fail> {
+    let code = code_of(alloc, 1, 2, image)?;
     let mut core = begun(alloc, &code)?;
     let mut out = Outgoing::new(alloc);
     let done = take_tid(&mut core, &code, &mut out);
@@ -192,7 +182,7 @@ fn committed(alloc: Global, image: &[u8]) -> Result<((Done, bool, Done), Outgoin
 #[test]
 fn a_transaction_ends_and_commits(rt: HostRuntime) -> Result<(), Fail> {
     // ecall
-    let (done, out) = committed(rt.alloc(), &[0x73, 0x00, 0x00, 0x00])?;
+    let (done, out) = committed(rt.alloc(), &[0x73])?;
     assert_eq!(rt; done, (Done::Stepped, true, Done::Committed));
     let tid = Tid(1);
     let sent = [
@@ -212,8 +202,8 @@ fn useful(core: &CoreNode, code: &Code) -> (usize, Option<(u16, u8)>)
 }
 
 // The same of a core that begins with this image.
-fn useful_at_first(alloc: Global, image: &[u8]) -> Result<(usize, Option<(u16, u8)>), Fail> {
-    let code = code_of(alloc, image)?;
+fn useful_at_first(alloc: Global, image: &[u32]) -> Result<(usize, Option<(u16, u8)>), Fail> {
+    let code = code_of(alloc, 1, 2, image)?;
     let core = begun(alloc, &code)?;
     Ok(useful(&core, &code))
 }
@@ -221,9 +211,6 @@ fn useful_at_first(alloc: Global, image: &[u8]) -> Result<(usize, Option<(u16, u
 #[test]
 fn an_empty_cache_has_no_useful_eviction(rt: HostRuntime) -> Result<(), Fail> {
     // ecall
-    assert_eq!(rt;
-        useful_at_first(rt.alloc(), &[0x73, 0x00, 0x00, 0x00])?,
-        (0, None)
-    );
+    assert_eq!(rt; useful_at_first(rt.alloc(), &[0x73])?, (0, None));
     Ok(())
 }

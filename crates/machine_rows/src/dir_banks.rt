@@ -1,20 +1,15 @@
 // A bank of two directories, with ample memory.
+use crate::loading::loaded;
 use dir_bank::DirBank;
 use directory::Handled;
-use image_load::{load, raw};
 use std::test::Fail;
-use tcc_base::{Config, CoreId, DirId, List, Tid, WordAddr};
+use tcc_base::{CoreId, DirId, Tid, WordAddr};
 use tcc_msg::{Msg, Outgoing};
 
 #[test]
 fn each_directory_answers_for_itself(rt: HostRuntime) -> Result<(), Fail> {
     let alloc = rt.alloc();
-    let config = Config::new(1, 2, 16, 2, 0x8000_0000, 65_536)?;
-    let file = List {
-        items: [0x73, 0, 0, 0].to_vec(alloc)?,
-    };
-    let images = raw(alloc, &config, &[file])?;
-    let loaded = load(alloc, &config, &images)?;
+    let loaded = loaded(alloc, 1, 2, [&[0x73], &[]])?;
     let mut bank = DirBank::start(alloc, &loaded)?;
     assert_eq!(rt; bank.word(WordAddr(0)), 0x73);
     let mut out = Outgoing::new(alloc);

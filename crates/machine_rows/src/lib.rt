@@ -6,6 +6,12 @@ mod cores;
 #[cfg(test)]
 mod dir_banks;
 #[cfg(test)]
+mod events;
+#[cfg(test)]
+mod loading;
+#[cfg(test)]
+mod outcomes;
+#[cfg(test)]
 mod systems;
 #[cfg(test)]
 mod waiting;

@@ -1,53 +1,18 @@
 // Whole machines: from raw images, by events, to what the commits leave.
 ghost use Rattle.std.specs.Prelude.{◌≡◌, ◌≤◌, ◌+◌, length, IfOk};
 
+use crate::events::{C0, C1, D0, D1, V, event, events, name};
+use crate::loading::{STORE_AND_COPY, STORES_24, STORES_SEVEN_AND_HALTS, begun};
+use crate::outcomes::{Known, Listed, Played, come_to, end, home, is_useful, known, useful};
 use directory::LineState;
-use image_load::{Loaded, load, raw};
 use net_core::{Step, StepError, System};
 use std::alloc::Global;
 use std::test::Fail;
-use tcc_base::{Config, CoreEnd, CoreId, DirId, LineAddr, List, Mask, NodeId, Tid, WordAddr};
+use tcc_base::{CoreEnd, CoreId, List, Mask, Tid};
 use tcc_msg::{Event, Name};
-
-const C0: NodeId = NodeId::Core(CoreId(0));
-
-const C1: NodeId = NodeId::Core(CoreId(1));
-
-const D0: NodeId = NodeId::Dir(DirId(0));
-
-const D1: NodeId = NodeId::Dir(DirId(1));
-
-const V: NodeId = NodeId::Vendor;
-
-// An event: a core executes, it empties a way of a set, or a message is delivered.
-macro_rules! event {
-    (e $core:literal) => {
-        Event::Exec(CoreId($core))
-    };
-    (x $core:literal $set:literal $way:literal) => {
-        Event::Evict(CoreId($core), $set, $way)
-    };
-    (d $src:ident $dst:ident $seq:literal) => {
-        Event::Deliver(Name {
-            src: $src,
-            dst: $dst,
-            seq: $seq,
-        })
-    };
-}
-
-macro_rules! events {
-    ($(($($part:tt)*))*) => {
-        [$(event!($($part)*)),*]
-    };
-}
 
 // lui x6,0x80000; sw x11,64(x6); ecall
 const STORES_16: [u32; 3] = [0x8000_0337, 0x04b3_2023, 0x0000_0073];
-// lui x6,0x80000; sw x11,96(x6); ecall
-const STORES_24: [u32; 3] = [0x8000_0337, 0x06b3_2023, 0x0000_0073];
-// lui x6,0x80000; lw x5,96(x6); sw x5,64(x6); ecall
-const COPIES_24_TO_16: [u32; 4] = [0x8000_0337, 0x0603_2283, 0x0453_2023, 0x0000_0073];
 // lui x6,0x80000; lw x5,96(x6); sw x11,64(x6); ecall
 const READS_24_STORES_16: [u32; 4] = [0x8000_0337, 0x0603_2283, 0x04b3_2023, 0x0000_0073];
 // lui x6,0x80000; lw x5,96(x6); bnez x5,past the next; ebreak; ecall
@@ -73,19 +38,6 @@ const STORES_32_TO_39: [u32; 10] = [
     0x08b3_2e23,
     0x0000_0073,
 ];
-// addi x5,x0,7; lui x6,0x80000; sw x5,64(x6); ecall; addi x17,x0,93; ecall
-const STORES_SEVEN_AND_HALTS: [u32; 6] = [
-    0x0070_0293,
-    0x8000_0337,
-    0x0453_2023,
-    0x0000_0073,
-    0x05d0_0893,
-    0x0000_0073,
-];
-
-// A store beside a copy of what it stores.
-const STORE_AND_COPY: [&[u32]; 2] = [&STORES_24, &COPIES_24_TO_16];
-
 // The second core gets TID 2 first and commits first; then the first core commits TID 1.
 const CROSSED: [Event; 17] = events![
     (e 0) (e 0) (e 0) (d C0 V 0) (e 1) (e 1) (e 1) (d C1 V 0) (d V C1 0) (d V C0 0) (d C0 D1 0)
@@ -140,112 +92,10 @@ const EARLY_WORDS: [Event; 11] = events![
     (d C0 D0 3)
 ];
 
-// The file of these words.
-fn file(alloc: Global, words: &[u32]) -> Result<List<u8>, Fail> {
-    let mut items = Vec::new(alloc);
-    for word in words {
-        items.extend_from_slice(&word.to_le_bytes())?;
-    }
-    Ok(List { items })
-}
-
-// What one image is loaded to.
-fn one_loaded(alloc: Global, cfg: &Config, image: &[u32]) -> Result<Loaded, Fail> {
-    let images = raw(alloc, cfg, &[file(alloc, image)?])?;
-    Ok(load(alloc, cfg, &images)?)
-}
-
-// What two images are loaded to.
-fn two_loaded(alloc: Global, cfg: &Config, first: &[u32], second: &[u32]) -> Result<Loaded, Fail> {
-    let files = [file(alloc, first)?, file(alloc, second)?];
-    let images = raw(alloc, cfg, &files)?;
-    Ok(load(alloc, cfg, &images)?)
-}
-
-// A machine of so many cores and directories that begins with these images in turn: of 16 sets of 2 ways, with 65,536 bytes of RAM from
-// 0x80000000 on.
-fn begun(alloc: Global, cores: u64, dirs: u64, images: [&[u32]; 2]) -> Result<System, Fail>
-    ensures none_taken { IfOk result (λ s. s.events ≡ 0) }
-{
-    let cfg = Config::new(cores, dirs, 16, 2, 0x8000_0000, 65_536)?;
-    let [first, second] = images;
-    let loaded = if second.is_empty() {
-        one_loaded(alloc, &cfg, first)?
-    } else {
-        two_loaded(alloc, &cfg, first, second)?
-    };
-    Ok(System::start(alloc, &loaded)?)
-}
-
-// What a machine has come to, with the words 16 and 24 and the line 4 of its memory.
-#[derive(Clone, Copy, Debug, PartialEq, Eq)]
-struct Played {
-    run: Result<(), (u64, StepError)>,
-    events: u64,
-    commits: [Option<Listed>; 3],
-    pcs: [Option<u32>; 2],
-    words: [Option<u32>; 2],
-    line: Option<[u32; 8]>,
-}
-
-// The TID, core and number of instructions of a commit, and what its first load gave.
-#[derive(Clone, Copy, Debug, PartialEq, Eq)]
-struct Listed(u64, u8, u32, Option<u32>);
-
 // TID 1 of the first core, and TID 2 of the second, each of three instructions and without a load.
 const FIRST: Option<Listed> = Some(Listed(1, 0, 3, None));
 
 const SECOND: Option<Listed> = Some(Listed(2, 1, 3, None));
-
-// The k-th commit, from 0.
-fn commit(system: &System, k: usize) -> Option<Listed> {
-    let commit = system.commits().get(k)?;
-    let load = commit.loads.items.as_slice().first();
-    let value = load.map(|load| load.value);
-    Some(Listed(commit.tid.0, commit.core.0, commit.n, value))
-}
-
-// Where a core stands by its last commit.
-fn pc(system: &System, core: u8) -> Option<u32> {
-    let exists = core < system.config().cores();
-    exists.then(|| system.committed(CoreId(core)).pc())
-}
-
-// A word as it is committed.
-fn word(system: &System, w: u32) -> Option<u32> {
-    if !system.is_settled() || w >= system.config().words() {
-        return None;
-    }
-    Some(system.seen_word(WordAddr(w)))
-}
-
-// The words of a line as they are committed.
-fn line(system: &System, line: u32) -> Option<[u32; 8]> {
-    if !system.is_settled() || line >= system.config().words() / 8 {
-        return None;
-    }
-    Some(system.seen_line(LineAddr(line)))
-}
-
-// The words of a line at its home, where the machine is done.
-fn home(system: &System, line: u32) -> Option<[u32; 8]> {
-    if !system.done() || line >= system.config().words() / 8 {
-        return None;
-    }
-    Some(system.home_line(LineAddr(line)))
-}
-
-// What the machine has come to by a run that ended so.
-fn come_to(system: &System, run: Result<(), (u64, StepError)>) -> Played {
-    Played {
-        run,
-        events: system.events(),
-        commits: [commit(system, 0), commit(system, 1), commit(system, 2)],
-        pcs: [pc(system, 0), pc(system, 1)],
-        words: [word(system, 16), word(system, 24)],
-        line: line(system, 4),
-    }
-}
 
 // What a machine comes to by these events, or before the one that it doesn't take.
 fn run(system: &mut System, events: &[Event]) -> Played
@@ -275,34 +125,6 @@ fn all_taken(events: u64, commits: [Option<Listed>; 2], pcs: [u32; 2], words: [u
     }
 }
 
-// The useful events, where all that was sent stands on its links.
-fn useful(alloc: Global, system: &System) -> Result<List<Event>, Fail> {
-    if !system.is_settled() {
-        return Err("some messages don't stand on their links")?;
-    }
-    Ok(system.useful(alloc)?)
-}
-
-// Whether one event is useful.
-fn is_useful(system: &System, e: Event) -> Option<bool> {
-    if !system.is_settled() {
-        return None;
-    }
-    Some(system.is_useful(e))
-}
-
-// The TID that a directory serves, how many lines it has marked, and what the home of a line knows of it.
-type Known = (u64, u32, LineState);
-
-fn known(system: &System, dir: u8, line: u32) -> Option<Known> {
-    if dir >= system.config().dirs() || line >= system.config().words() / 8 {
-        return None;
-    }
-    let dir = DirId(dir);
-    let state = system.line_state(LineAddr(line));
-    Some((system.serving(dir).0, system.marked_lines(dir), state))
-}
-
 // Takes the useful event of number 0, where there is one.
 fn take_first(system: &mut System) -> Option<Result<Step, StepError>> {
     if !system.is_settled() || system.events() >= 4_194_304 {
@@ -322,12 +144,6 @@ fn take_all(system: &mut System) -> Result<(), (u64, StepError)> {
         }
     }
     Ok(())
-}
-
-// How the first core stands.
-fn end(system: &System) -> Option<CoreEnd> {
-    let exists = system.config().cores() > 0;
-    exists.then(|| system.ended(CoreId(0)))
 }
 
 // What a machine comes to; the words of line 2 at its home where it is done; and how the first core stood before the first event and
