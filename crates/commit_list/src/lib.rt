@@ -3,7 +3,5 @@
 #![tactic(auto)]
 
 mod list;
-#[cfg(test)]
-mod tests;
 
 pub use list::CommitList;

@@ -6,8 +6,6 @@ mod bank;
 mod choosing;
 mod counting;
 mod reading;
-#[cfg(test)]
-mod tests;
 
 pub use bank::CoreBank;
 pub use counting::start_cores;

@@ -8,8 +8,6 @@ mod invalidate;
 mod loading;
 mod rules;
 mod takes;
-#[cfg(test)]
-mod tests;
 mod waits;
 
 pub use directory::{Directory, LineState};

@@ -10,6 +10,3 @@ mod read;
 pub use fault::ElfFault;
 pub use image::{Image, Segment};
 pub use read::read_elf;
-
-#[cfg(test)]
-mod tests;

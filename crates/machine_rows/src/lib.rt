@@ -1,16 +1,29 @@
-// Tests of a core, of all directories together, and of the machine that cores and directories make, by their public calls.
+// Tests of nodes, of all cores and all directories together, and of the machine that they make, with what chooses, keeps and replays
+// its events, by their public calls.
 #![tactic(auto)]
 
+#[cfg(test)]
+mod choosers;
+#[cfg(test)]
+mod commits;
+#[cfg(test)]
+mod core_banks;
 #[cfg(test)]
 mod cores;
 #[cfg(test)]
 mod dir_banks;
+#[cfg(test)]
+mod directories;
 #[cfg(test)]
 mod events;
 #[cfg(test)]
 mod loading;
 #[cfg(test)]
 mod outcomes;
+#[cfg(test)]
+mod phases;
+#[cfg(test)]
+mod replays;
 #[cfg(test)]
 mod systems;
 #[cfg(test)]

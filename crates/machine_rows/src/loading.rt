@@ -8,6 +8,9 @@ use std::alloc::Global;
 use std::test::Fail;
 use tcc_base::{Config, List};
 
+// addi x17,x0,93; ecall
+pub(crate) const HALTS: [u32; 2] = [0x05d0_0893, 0x0000_0073];
+
 // addi x5,x0,7; lui x6,0x80000; sw x5,64(x6); ecall; addi x17,x0,93; ecall
 pub(crate) const STORES_SEVEN_AND_HALTS: [u32; 6] = [
     0x0070_0293,

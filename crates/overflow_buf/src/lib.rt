@@ -5,6 +5,3 @@ mod buffer;
 mod line;
 
 pub use buffer::OverflowBuf;
-
-#[cfg(test)]
-mod tests;

@@ -4,8 +4,6 @@
 mod check;
 mod regs;
 mod state;
-#[cfg(test)]
-mod tests;
 
 pub use check::Check;
 pub use regs::Regs;

@@ -3,8 +3,6 @@
 
 mod code;
 mod start;
-#[cfg(test)]
-mod tests;
 
 pub use code::Code;
 pub use start::start_state;

@@ -6,8 +6,6 @@ mod laws;
 mod need;
 mod operations;
 mod planning;
-#[cfg(test)]
-mod tests;
 
 pub use finishing::finish;
 pub use laws::{divisions_and_products, program_runs_the_table};

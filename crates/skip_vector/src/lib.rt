@@ -4,8 +4,6 @@
 mod ring;
 mod set;
 mod skips;
-#[cfg(test)]
-mod tests;
 mod vector;
 
 pub use ring::{MAX_AHEAD, RingSkips};

@@ -2,8 +2,6 @@
 #![tactic(auto)]
 
 mod halves;
-#[cfg(test)]
-mod tests;
 mod tree;
 
 pub use tree::{MAX_PLACES, SumTree};

@@ -7,8 +7,6 @@ mod collections;
 mod config;
 mod names;
 mod reg;
-#[cfg(test)]
-mod tests;
 
 pub use access::{Commit, CoreEnd, Load, Size, Stored, Tagged};
 pub use collections::{List, NoMemory, Text};

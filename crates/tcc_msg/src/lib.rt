@@ -5,8 +5,6 @@ mod event;
 mod msg;
 mod outgoing;
 mod pool;
-#[cfg(test)]
-mod tests;
 
 pub use event::{Event, Name, Schedule};
 pub use msg::Msg;

@@ -6,8 +6,6 @@ mod ledger;
 mod running;
 mod system;
 mod taking;
-#[cfg(test)]
-mod tests;
 
 pub use running::phase_run;
 pub use system::PhaseSystem;

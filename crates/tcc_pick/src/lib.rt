@@ -2,7 +2,5 @@
 #![tactic(auto)]
 
 mod chooser;
-#[cfg(test)]
-mod tests;
 
 pub use chooser::Chooser;

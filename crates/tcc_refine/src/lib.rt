@@ -2,7 +2,5 @@
 #![tactic(auto)]
 
 mod refined;
-#[cfg(test)]
-mod tests;
 
 pub use refined::Refined;

@@ -2,8 +2,6 @@
 #![tactic(auto)]
 
 mod replaying;
-#[cfg(test)]
-mod tests;
 
 pub use replaying::{
     ReplayFault, equal_events_give_equal_machines, replay, what_runs_is_not_refused,

@@ -49,16 +49,3 @@ impl Default for Vendor {
         Vendor::new()
     }
 }
-
-#[cfg(test)]
-mod tests {
-    use super::*;
-
-    #[test]
-    fn gives_1_2_3(rt: HostRuntime) {
-        let mut vendor = Vendor::default();
-        assert_eq!(rt; vendor.grant(), Tid(1));
-        assert_eq!(rt; vendor.grant(), Tid(2));
-        assert_eq!(rt; vendor.grant(), Tid(3));
-    }
-}

@@ -1,8 +1,8 @@
 // Each call of the pool and of what is sent, with ample memory.
-use crate::{Msg, Name, Outgoing, Pool};
 use std::mem::size_of;
 use std::test::Fail;
 use tcc_base::{CoreId, DirId, LineAddr, NodeId, Tid};
+use tcc_msg::{Msg, Name, Outgoing, Pool};
 
 fn name(core: u8, seq: u64) -> Name {
     Name {

@@ -1,5 +1,5 @@
 // Each call of a buffer once, with ample memory.
-use super::OverflowBuf;
+use overflow_buf::OverflowBuf;
 use std::test::Fail;
 use tcc_base::{LineAddr, Mask, Tagged, Tid, WordAddr};
 

@@ -1,21 +1,12 @@
 // Machines of two cores and two directories that run by a seed, with ample memory.
-use crate::Chooser;
-use image_load::{Loaded, load, raw};
+use crate::loading::{STORES_SEVEN_AND_HALTS, loaded};
+use image_load::Loaded;
 use net_core::System;
 use std::alloc::Global;
 use std::test::Fail;
-use tcc_base::{Config, List};
 use tcc_msg::Event;
+use tcc_pick::Chooser;
 use tcc_refine::Refined;
-
-const IMAGE: [u8; 24] = [
-    0x93, 0x02, 0x70, 0x00, // addi x5,x0,7
-    0x37, 0x03, 0x00, 0x80, // lui x6,0x80000
-    0x23, 0x20, 0x53, 0x04, // sw x5,64(x6)
-    0x73, 0x00, 0x00, 0x00, // ecall, which ends the transaction
-    0x93, 0x08, 0xd0, 0x05, // addi x17,x0,93
-    0x73, 0x00, 0x00, 0x00, // ecall, which halts
-];
 
 /// What a core's number stands for where there is none.
 const NONE: u8 = 255;
@@ -32,15 +23,6 @@ struct State {
     first: [u8; 5],
     /// The cores of the commits, by rising TID.
     commits: [u8; 5],
-}
-
-/// The image in the memory of two cores.
-fn loaded(alloc: Global) -> Result<Loaded, Fail> {
-    let config = Config::new(2, 2, 16, 2, 0x8000_0000, 65_536)?;
-    let file = List {
-        items: IMAGE.to_vec(alloc)?,
-    };
-    Ok(load(alloc, &config, &raw(alloc, &config, &[file])?)?)
 }
 
 /// The core that an event executes on.
@@ -147,7 +129,7 @@ fn a_seed_decides_what_comes(rt: HostRuntime) -> Result<(), Fail> {
             },
         },
     ];
-    let loaded = loaded(rt.alloc())?;
+    let loaded = loaded(rt.alloc(), 2, 2, [&STORES_SEVEN_AND_HALTS, &[]])?;
     for row in &rows {
         assert_eq!(rt;
             state_after(rt.alloc(), &loaded, row.seed, row.calls)?,

@@ -1,22 +1,13 @@
-// A machine that keeps its events.
-use crate::Refined;
-use image_load::{Loaded, load, raw};
+// Two cores that halt at once: the events that a machine keeps, and a list of events taken from the start.
+use crate::loading::{HALTS, loaded};
+use image_load::Loaded;
 use net_core::{Step, StepError};
 use std::alloc::Global;
 use std::test::Fail;
-use tcc_base::{Config, CoreId, List};
+use tcc_base::CoreId;
 use tcc_msg::Event;
-
-/// The memory of two cores whose first instructions halt.
-fn loaded(alloc: Global) -> Result<Loaded, Fail> {
-    // addi x17, x0, 93; ecall
-    let image = [0x93, 0x08, 0xd0, 0x05, 0x73, 0x00, 0x00, 0x00];
-    let config = Config::new(2, 1, 16, 2, 0x8000_0000, 65_536)?;
-    let file = List {
-        items: image.to_vec(alloc)?,
-    };
-    Ok(load(alloc, &config, &raw(alloc, &config, &[file])?)?)
-}
+use tcc_refine::Refined;
+use tcc_replay::{ReplayFault, replay};
 
 /// What a machine answers to these events, one after another.
 fn answers(
@@ -48,7 +39,7 @@ fn answers_and_lists(
 
 #[test]
 fn keeps_the_events_that_it_took(rt: HostRuntime) -> Result<(), Fail> {
-    let loaded = loaded(rt.alloc())?;
+    let loaded = loaded(rt.alloc(), 2, 1, [&HALTS, &[]])?;
     let [first, second, refused] = [1, 0, 2].map(|core: u8| Event::Exec(CoreId(core)));
     let events = [first, refused, second];
     let answers = [Ok(Step::Moved), Err(StepError::Refused), Ok(Step::Moved)];
@@ -56,5 +47,30 @@ fn keeps_the_events_that_it_took(rt: HostRuntime) -> Result<(), Fail> {
         answers_and_lists(rt.alloc(), &loaded, events, [first, second])?,
         (answers, true)
     );
+    Ok(())
+}
+
+/// How many events the machine has taken, and how many commits it has, where all of these two are taken.
+fn replayed(
+    alloc: Global,
+    loaded: &Loaded,
+    events: [Event; 2],
+) -> Result<(usize, usize), ReplayFault> {
+    let machine = replay(alloc, loaded, &events)?;
+    Ok((machine.taken().len(), machine.system().commits().len()))
+}
+
+#[test]
+fn takes_all_events_or_names_the_first_that_is_not_enabled(rt: HostRuntime) -> Result<(), Fail> {
+    let loaded = loaded(rt.alloc(), 2, 1, [&HALTS, &[]])?;
+    let rows = [
+        ([1, 0], Ok((2, 0))),
+        ([1, 2], Err(ReplayFault::Refused(1))),
+        ([2, 1], Err(ReplayFault::Refused(0))),
+    ];
+    for (cores, answer) in rows {
+        let events = cores.map(|core: u8| Event::Exec(CoreId(core)));
+        assert_eq!(rt; replayed(rt.alloc(), &loaded, events), answer);
+    }
     Ok(())
 }

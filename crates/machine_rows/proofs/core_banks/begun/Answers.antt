@@ -1,7 +1,7 @@
 -- The cores that begin.
 use Rattle.std.proofs.Common.{◌<◌, ℕ, sym, subst, arith}
 use Rattle.tcc_rules.specs.State.{core_start}
-use Rattle.core_bank.proofs.tests.begun.Goals as goal
+use Rattle.machine_rows.proofs.core_banks.begun.Goals as goal
 
 pub returns-clause-short : goal.returns-clause-short
 unfolding core_start

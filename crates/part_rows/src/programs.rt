@@ -1,6 +1,6 @@
 // The instructions of a program of two words, and what lies beside them.
-use crate::{Code, start_state};
 use image_load::{load, raw};
+use rv_code::{Code, start_state};
 use rv_decode::Inst;
 use rv_exec::Need;
 use std::test::Fail;

@@ -5,11 +5,11 @@ ghost use Rattle.dir_lines.specs.Pages.{is_at_home};
 ghost use Rattle.directory.specs.Foreign.{HasSmallTids, is_foreign};
 ghost use Rattle.tcc_msg.specs.Plain.{msg_of};
 
-use crate::{Cause, DirError, Directory, Handled, LineState};
-use image_load::{Loaded, load, raw};
+use crate::loading::loaded;
+use directory::{Cause, DirError, Directory, Handled, LineState};
 use std::alloc::Global;
 use std::test::Fail;
-use tcc_base::{Config, CoreId, DirId, LineAddr, List, Mask, NodeId, Tid, WordAddr};
+use tcc_base::{CoreId, DirId, LineAddr, Mask, NodeId, Tid, WordAddr};
 use tcc_msg::{Msg, Outgoing};
 
 const LINE: LineAddr = LineAddr(1);
@@ -91,27 +91,13 @@ macro_rules! msg {
     };
 }
 
-// RAM of 32 lines; the second one begins with the word 7.
-fn loaded(alloc: Global, config: &Config) -> Result<Loaded, Fail>
-    ensures { IfOk result (λ l. l.settings ≡ config.now) }
-{
-    let mut bytes = [0u8; 64];
-    bytes[32] = 7;
-    let file = List {
-        items: bytes.to_vec(alloc)?,
-    };
-    let images = raw(alloc, config, &[file])?;
-    Ok(load(alloc, config, &images)?)
-}
-
-// The second of two directories of a machine with 64 cores and that RAM.
+// The second of two directories of a machine with 64 cores, whose second line begins with the word 7.
 fn begun(alloc: Global) -> Result<Directory, Fail>
     ensures cores { IfOk result (λ d. d.lines.place.shape.cores ≡ 64) }
     ensures home { IfOk result (λ d. is_at_home d.lines.place 1 ≡ true) }
 {
-    let config = Config::new(64, 2, 16, 2, 0x8000_0000, 1024)?;
-    let memory = loaded(alloc, &config)?;
-    let dir = Directory::start(alloc, &config, &memory, DirId(1))?;
+    let loaded = loaded(alloc, 64, 2, [&[0, 0, 0, 0, 0, 0, 0, 0, 7], &[]])?;
+    let dir = Directory::start(alloc, loaded.config(), &loaded, DirId(1))?;
     Ok(dir)
 }
 

@@ -2,32 +2,26 @@
 ghost use Rattle.std.specs.Prelude.{◌≡◌, ◌<◌, ℕ, IfOk};
 ghost use Rattle.core_bank.specs.Bank.{cores_of};
 
-use crate::CoreBank;
+use crate::loading::code_of;
+use core_bank::CoreBank;
 use core_node::Executed;
-use image_load::{load, raw};
-use rv_code::Code;
 use std::alloc::Global;
 use std::test::Fail;
-use tcc_base::{Config, CoreEnd, CoreId, DirId, LineAddr, List, NodeId};
+use tcc_base::{CoreEnd, CoreId, DirId, LineAddr, NodeId};
 use tcc_msg::{Event, Msg, Outgoing};
 
 // Two cores that begin with this image.
-fn begun(alloc: Global, image: &[u8]) -> Result<CoreBank, Fail>
+fn begun(alloc: Global, image: &[u32]) -> Result<CoreBank, Fail>
     ensures cores { IfOk result (λ b. b.code.settings.cores ≡ 2) }
     ensures short { IfOk result (λ b. (c : ℕ) → (cores_of b c).n < 4194304) }
 {
-    let cfg = Config::new(2, 1, 4, 1, 0, 65_536)?;
-    let file = List {
-        items: image.to_vec(alloc)?,
-    };
-    let code = Code::new(alloc, load(alloc, &cfg, &raw(alloc, &cfg, &[file])?)?)?;
-    Ok(CoreBank::start(alloc, code)?)
+    Ok(CoreBank::start(alloc, code_of(alloc, 2, 1, image)?)?)
 }
 
 #[test]
 fn all_cores_can_begin(rt: HostRuntime) -> Result<(), Fail> {
     // ecall
-    let bank = begun(rt.alloc(), &[0x73, 0x00, 0x00, 0x00])?;
+    let bank = begun(rt.alloc(), &[0x73])?;
     assert_eq!(rt; (bank.exec_total(), bank.evict_total()), (2, 0));
     assert_eq!(rt; bank.exec_at(1), Some(Event::Exec(CoreId(1))));
     assert_eq!(rt; (bank.exec_at(2), bank.evict_at(0)), (None, None));
@@ -39,7 +33,7 @@ fn all_cores_can_begin(rt: HostRuntime) -> Result<(), Fail> {
 #[test]
 fn a_core_that_waits_can_not_execute(rt: HostRuntime) -> Result<(), Fail> {
     // lw x5,96(x0)
-    let mut bank = begun(rt.alloc(), &[0x83, 0x22, 0x00, 0x06])?;
+    let mut bank = begun(rt.alloc(), &[0x0600_2283])?;
     let mut out = Outgoing::new(rt.alloc());
     let done = bank.exec(CoreId(0), &mut out)?;
     assert!(rt; matches!(&done, Executed::Asked));

@@ -1,5 +1,5 @@
 // Settings at each of their limits, and a list's end.
-use crate::{Config, Limit, List};
+use tcc_base::{Config, Limit, List};
 
 #[test]
 fn settings_name_the_first_limit_that_they_break(rt: HostRuntime) {

@@ -2,9 +2,9 @@
 // reservations and atomic memory operations.
 ghost use Rattle.std.specs.Prelude.{◌<◌};
 
-use crate::{Need, amo_value, finish, plan};
 use reg_checkpoint::{Regs, State};
 use rv_decode::{AmoOp, Cond, Inst, LoadKind, RegOp};
+use rv_exec::{Need, amo_value, finish, plan};
 use std::process::Abort;
 use tcc_base::{Reg, Size};
 

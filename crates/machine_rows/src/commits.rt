@@ -1,7 +1,7 @@
 // Commits that come out of order, with ample memory.
 ghost use Rattle.std.specs.Prelude.{◌≡◌, IfOk};
 
-use crate::CommitList;
+use commit_list::CommitList;
 use std::alloc::Global;
 use std::test::Fail;
 use tcc_base::{Commit, CoreId, List, NoMemory, Tid};

@@ -1,13 +1,13 @@
 // Machines of two and of four cores that run by phases, with ample memory.
-ghost use Rattle.std.specs.Prelude.{◌≡◌, ◌≤◌, length, IfOk};
-
-use crate::{PhaseSystem, phase_run};
-use image_load::{Loaded, load, raw};
+use crate::events::{C1, V, event, events, name};
+use crate::loading::loaded;
+use image_load::Loaded;
 use net_core::StepError;
 use std::alloc::Global;
 use std::test::Fail;
-use tcc_base::{Config, CoreId, List, NodeId};
+use tcc_base::CoreId;
 use tcc_msg::{Event, Name};
+use tcc_phase::{PhaseSystem, phase_run};
 use tcc_refine::Refined;
 
 // add x27,x0,x10, so that each core is in the phase of its number; ecall; ecall; addi x17,x0,93; ecall, which halts
@@ -19,40 +19,8 @@ const OWN_PHASE: [u32; 5] = [
     0x0000_0073,
 ];
 
-const C1: NodeId = NodeId::Core(CoreId(1));
-
-// The delivery of a message.
-macro_rules! delivered {
-    ($src:expr, $dst:expr, $seq:literal) => {
-        Event::Deliver(Name {
-            src: $src,
-            dst: $dst,
-            seq: $seq,
-        })
-    };
-}
-
 // The second core commits once, is then in phase 1, and asks for its next TID.
-const TOO_EARLY: [Event; 7] = [
-    Event::Exec(CoreId(1)),
-    Event::Exec(CoreId(1)),
-    delivered!(C1, NodeId::Vendor, 0),
-    delivered!(NodeId::Vendor, C1, 0),
-    Event::Exec(CoreId(1)),
-    Event::Exec(CoreId(1)),
-    delivered!(C1, NodeId::Vendor, 1),
-];
-
-/// The image in the memory of so many cores.
-fn loaded(alloc: Global, cores: u64) -> Result<Loaded, Fail> {
-    let config = Config::new(cores, 1, 16, 2, 0x8000_0000, 65_536)?;
-    let mut items = Vec::new(alloc);
-    for word in OWN_PHASE {
-        items.extend_from_slice(&word.to_le_bytes())?;
-    }
-    let file = List { items };
-    Ok(load(alloc, &config, &raw(alloc, &config, &[file])?)?)
-}
+const TOO_EARLY: [Event; 7] = events![(e 1) (e 1) (d C1 V 0) (d V C1 0) (e 1) (e 1) (d C1 V 1)];
 
 /// What a machine has come to.
 #[derive(Clone, Copy, Debug, PartialEq, Eq)]
@@ -88,7 +56,7 @@ fn first_phases(phases: &[u32]) -> [u32; 6] {
 
 /// Where a machine of so many cores comes to by a seed.
 fn state_after(alloc: Global, cores: u64, seed: u64) -> Result<State, Fail> {
-    let loaded = loaded(alloc, cores)?;
+    let loaded = loaded(alloc, cores, 1, [&OWN_PHASE, &[]])?;
     let machine = phase_run(alloc, &loaded, seed, 9_000)?;
     let refined = machine.inner();
     Ok(State {
@@ -129,7 +97,7 @@ fn too_early(machine: &mut PhaseSystem) -> Option<(Result<(), (u64, StepError)>,
 
 #[test]
 fn a_request_of_a_later_phase_is_refused(rt: HostRuntime) -> Result<(), Fail> {
-    let loaded = loaded(rt.alloc(), 2)?;
+    let loaded = loaded(rt.alloc(), 2, 1, [&OWN_PHASE, &[]])?;
     let mut machine = PhaseSystem::start(rt.alloc(), &loaded)?;
     assert_eq!(rt;
         too_early(&mut machine),

@@ -1,5 +1,5 @@
 // A small file made by hand, whole, cut to each length, and with single fields changed.
-use super::{ElfFault, read_elf};
+use image_elf::{ElfFault, read_elf};
 use std::test::Fail;
 
 /// An empty header of a type that is passed over, beside one writable and executable segment of two instructions and eight

@@ -1,5 +1,5 @@
 // What a caller sees of registers and checkpoints, at fixed values.
-use crate::{Check, Regs, State};
+use reg_checkpoint::{Check, Regs, State};
 use std::test::Fail;
 use tcc_base::Reg;
 

@@ -1,7 +1,7 @@
 use Rattle.std.proofs.Common.{◌≡◌, ◌≢◌, [], ◌∷◌, ◌∙◌, ap, arith}
 use Rattle.tcc_rules.specs.Step.{insert_commit}
 use Rattle.commit_list.specs.Rising.{HasNone}
-use Rattle.commit_list.proofs.tests.commits_stand_by_rising_tid.Goals as goal
+use Rattle.machine_rows.proofs.commits.commits_stand_by_rising_tid.Goals as goal
 
 pub insert-requires-clause-new : goal.insert-requires-clause-new
 unfolding HasNone

@@ -1,8 +1,8 @@
 // Counts put at places, and where numbers fall among them.
 ghost use Rattle.std.specs.Prelude.{◌≡◌, IfOk, length};
 
-use crate::SumTree;
 use std::alloc::Global;
+use sum_tree::SumTree;
 use tcc_base::NoMemory;
 
 // The counts 2, 0, 3.

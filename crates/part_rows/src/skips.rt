@@ -1,5 +1,5 @@
 // Both forms, and the vector, under the same calls.
-use crate::{RingSkips, SetSkips, SkipVector, Skips};
+use skip_vector::{RingSkips, SetSkips, SkipVector, Skips};
 use std::test::Fail;
 use tcc_base::Tid;
 
