@@ -1,17 +1,10 @@
 // One word for each row of the instruction table, decoded and encoded again, and words outside the table.
 //
 // The words are those that GNU as 2.40 makes of these instructions with -march=rv32ima.
-ghost use Rattle.std.specs.Prelude.{◌<◌};
-
+use crate::registers::x;
 use rv_decode::{AmoOp, Cond, ImmOp, Inst, LoadKind, RegOp, decode, encode};
 use std::process::Abort;
 use tcc_base::{Reg, Size};
-
-fn x(number: u8) -> Reg
-    requires { number < 32 }
-{
-    Reg::new(number).unwrap()
-}
 
 fn branch(cond: Cond, rs1: Reg, rs2: Reg, offset: i32) -> Inst {
     Inst::Branch {

@@ -1,20 +1,13 @@
 // Effects at values from outside: the tables of the manual's "M" extension, corners of shifts, products, branches and loads, and of
 // reservations and atomic memory operations.
-ghost use Rattle.std.specs.Prelude.{◌<◌};
-
+use crate::registers::x;
 use reg_checkpoint::{Regs, State};
 use rv_decode::{AmoOp, Cond, Inst, LoadKind, RegOp};
 use rv_exec::{Need, amo_value, finish, plan};
 use std::process::Abort;
-use tcc_base::{Reg, Size};
+use tcc_base::Size;
 
 const PC: u32 = 0x8000_0010;
-
-fn x(number: u8) -> Reg
-    requires { number < 32 }
-{
-    Reg::new(number).unwrap()
-}
 
 /// A core whose x1 and x2 have these values.
 fn at(a: u32, b: u32) -> State {

@@ -1,11 +1,11 @@
 // Transactions of a program of six instructions, alone and one after another.
-ghost use Rattle.std.specs.Prelude.{◌≡◌, ◌<◌, All, IfSome};
+ghost use Rattle.std.specs.Prelude.{◌≡◌, ◌<◌, All, IfOk};
 
-use image_load::{load, raw};
+use crate::programs::loaded;
 use rv_plain::{Done, Order, Plain, PlainFault, SerialFault};
 use std::alloc::Global;
 use std::test::Fail;
-use tcc_base::{Commit, Config, CoreEnd, CoreId, List, Reg, Size, Stored, Tid, WordAddr};
+use tcc_base::{Commit, CoreEnd, CoreId, Reg, Size, Stored, Tid, WordAddr};
 
 const IMAGE: [u8; 24] = [
     0x93, 0x02, 0x70, 0x00, // addi x5, x0, 7
@@ -16,21 +16,12 @@ const IMAGE: [u8; 24] = [
     0x73, 0x00, 0x00, 0x00, // ecall: halts with the core's number
 ];
 
-fn machine(alloc: Global) -> Option<Plain>
-    ensures cores { IfSome result (λ p. p.loaded.settings.cores ≡ 2) }
-    ensures ram { IfSome result (λ p. p.loaded.settings.ram ≡ 65536) }
+fn machine(alloc: Global) -> Result<Plain, Fail>
+    ensures cores { IfOk result (λ p. p.loaded.settings.cores ≡ 2) }
+    ensures ram { IfOk result (λ p. p.loaded.settings.ram ≡ 65536) }
 {
-    let config = Config::new(2, 1, 16, 2, 0x8000_0000, 65_536).ok()?;
-    let file = List {
-        items: IMAGE.to_vec(alloc).ok()?,
-    };
-    match raw(alloc, &config, &[file]) {
-        Err(_) => None,
-        Ok(images) => match load(alloc, &config, &images) {
-            Err(_) => None,
-            Ok(loaded) => Plain::start(alloc, &config, &loaded).ok(),
-        },
-    }
+    let loaded = loaded(alloc, &IMAGE)?;
+    Ok(Plain::start(alloc, loaded.config(), &loaded)?)
 }
 
 fn order(tid: u64, core: u8, n: u32) -> Order
@@ -89,9 +80,9 @@ fn transact(plain: &mut Plain, n: u32) -> (Result<Accesses, PlainFault>, Seen)
 }
 
 // Transactions of 0, 2, 5, 4, 2 and 2 instructions.
-fn all_transacted(alloc: Global) -> Option<[(Result<Accesses, PlainFault>, Seen); 6]> {
+fn all_transacted(alloc: Global) -> Result<[(Result<Accesses, PlainFault>, Seen); 6], Fail> {
     let mut plain = machine(alloc)?;
-    Some([
+    Ok([
         transact(&mut plain, 0),
         transact(&mut plain, 2),
         transact(&mut plain, 5),
@@ -111,7 +102,7 @@ fn halted(core: u32) -> Seen {
 
 #[test]
 fn transactions_end_at_their_last_instruction(rt: HostRuntime) -> Result<(), Fail> {
-    let told = all_transacted(rt.alloc()).ok_or("no memory")?;
+    let told = all_transacted(rt.alloc())?;
     let store = Stored {
         addr: 0x8000_0040,
         size: Size::Word,
@@ -186,14 +177,14 @@ fn execute(plain: &mut Plain) -> Told
 }
 
 // The same of the machine that begins so.
-fn executed(alloc: Global) -> Option<Told> {
+fn executed(alloc: Global) -> Result<Told, Fail> {
     let mut plain = machine(alloc)?;
-    Some(execute(&mut plain))
+    Ok(execute(&mut plain))
 }
 
 #[test]
 fn orders_are_all_executed_or_none(rt: HostRuntime) -> Result<(), Fail> {
-    let told = executed(rt.alloc()).ok_or("no memory")?;
+    let told = executed(rt.alloc())?;
     let faults = [
         Err(SerialFault::NotRising(0)),
         Err(SerialFault::NotRising(1)),

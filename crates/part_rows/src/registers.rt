@@ -1,12 +1,20 @@
 // What a caller sees of registers and checkpoints, at fixed values.
+ghost use Rattle.std.specs.Prelude.{◌<◌};
+
 use reg_checkpoint::{Check, Regs, State};
-use std::test::Fail;
 use tcc_base::Reg;
 
+/// A register by its number.
+pub(crate) fn x(number: u8) -> Reg
+    requires { number < 32 }
+{
+    Reg::new(number).unwrap()
+}
+
 #[test]
-fn restores_what_was_saved(rt: HostRuntime) -> Result<(), Fail> {
-    let zero = Reg::new(0).ok_or("x0")?;
-    let last = Reg::new(31).ok_or("x31")?;
+fn restores_what_was_saved(rt: HostRuntime) {
+    let zero = x(0);
+    let last = x(31);
     let mut regs = Regs::new();
     regs.set(last, 0xffff_ffff);
     regs.set(zero, 7);
@@ -22,5 +30,4 @@ fn restores_what_was_saved(rt: HostRuntime) -> Result<(), Fail> {
     assert_eq!(rt; saved.get(zero), 0);
     assert_eq!(rt; saved.pc(), 0x8000_0000);
     assert_eq!(rt; saved.reserved(), None);
-    Ok(())
 }
