@@ -14,8 +14,6 @@ mod reports;
 mod running;
 mod schedules;
 mod status;
-#[cfg(test)]
-mod tests;
 mod top;
 
 pub use laws::{answers_are_complete, open_runs_take_all_events, replays_print_the_same};

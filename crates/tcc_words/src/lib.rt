@@ -7,8 +7,6 @@ mod grammar;
 mod laws;
 mod numbers;
 mod reading;
-#[cfg(test)]
-mod tests;
 
 pub use command::{Command, Field, Machine, Verb, WordsFault};
 pub use laws::{commands_are_in_bounds, words_ask_for_one_command};

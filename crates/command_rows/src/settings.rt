@@ -1,7 +1,7 @@
 // Command lines, and what they ask for or why they are refused.
-use crate::{Command, Field, WordsFault, settings};
 use std::alloc::Global;
 use std::process::Abort;
+use tcc_words::{Command, Field, WordsFault, settings};
 use work_gen::Work;
 
 /// The words are refused for this cause.

@@ -1,7 +1,7 @@
 // The program's answers and texts, over files and outputs in memory.
 mod atomics;
 mod buses;
-mod files;
+mod images;
 mod outputs;
 mod phases;
 mod records;
@@ -13,12 +13,12 @@ mod trials;
 mod waits;
 mod words;
 
-use crate::tcc_main;
 use std::alloc::{AllocError, Global};
 use std::process::Abort;
 use std::sync::Wait;
 use std::test::Fail;
 use std::thread::Threads;
+use tcc_cli::tcc_main;
 use tcc_world::{Gate, MapStore, OpenGate, VecSink};
 
 /// What a test's runtime can do: panic, wait, and start threads.
