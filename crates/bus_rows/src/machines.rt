@@ -1,5 +1,5 @@
 // Whole machines: from raw images, by events, to what the commits leave.
-use crate::{BusError, BusEvent, BusSystem};
+use bus_tcc::{BusError, BusEvent, BusSystem};
 use image_load::{load, raw};
 use std::alloc::Global;
 use std::test::Fail;

@@ -1,8 +1,8 @@
 // Reports of machines with one bus after some events, and after those that a seed picks, letter by letter, with ample memory.
 ghost use Rattle.std.specs.Prelude.{◌≡◌, IfOk};
 
-use crate::{bus_report, bus_run};
 use bus_tcc::{BusEvent, BusSystem};
+use bus_tool::{bus_report, bus_run};
 use image_load::{Loaded, load, raw};
 use std::alloc::Global;
 use std::test::Fail;
