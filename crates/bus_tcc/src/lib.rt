@@ -22,8 +22,6 @@ mod storing;
 mod system;
 mod take;
 mod taking;
-#[cfg(test)]
-mod tests;
 mod together;
 mod useful;
 mod uses;

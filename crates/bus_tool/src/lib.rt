@@ -4,8 +4,6 @@
 mod memory;
 mod reports;
 mod running;
-#[cfg(test)]
-mod tests;
 
 pub use reports::bus_report;
 pub use running::bus_run;

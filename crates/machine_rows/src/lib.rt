@@ -1,7 +1,9 @@
-// Tests of nodes, of all cores and all directories together, and of the machine that they make, with what chooses, keeps and replays
-// its events, by their public calls.
+// Tests of nodes, of all cores and all directories together, of the machine that they make, with what chooses, keeps and replays its
+// events, and of the machine with one bus, by their public calls.
 #![tactic(auto)]
 
+#[cfg(test)]
+mod bus;
 #[cfg(test)]
 mod choosers;
 #[cfg(test)]

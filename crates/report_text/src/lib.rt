@@ -5,8 +5,6 @@ mod body;
 mod growing;
 mod lines;
 mod shown;
-#[cfg(test)]
-mod tests;
 mod texts;
 mod trials;
 

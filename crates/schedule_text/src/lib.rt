@@ -6,8 +6,6 @@ mod fields;
 mod laws;
 mod lines;
 mod reading;
-#[cfg(test)]
-mod tests;
 mod writing;
 
 pub use fault::TextFault;

@@ -5,8 +5,6 @@ mod execution;
 mod fields;
 mod laws;
 mod reading;
-#[cfg(test)]
-mod tests;
 
 pub use execution::{Executed, run_orders};
 pub use laws::{lists_are_read_alike, lists_are_run_alike};

@@ -113,27 +113,3 @@ impl<R: Files> Store for DiskStore<R> {
         }
     }
 }
-
-#[cfg(test)]
-mod tests {
-    use super::*;
-    use std::process;
-    use std::test::Fail;
-
-    #[test]
-    fn writes_and_reads_back(rt: HostRuntime) -> Result<(), Fail> {
-        let mut store = DiskStore::new(rt, rt.alloc());
-        let name = format!(in rt.alloc(); "/tmp/tcc_world_{}", process::id(rt.process()))?;
-        store.write(rt.alloc(), name.as_str(), b"two\nlines\n")?;
-        assert_eq!(rt;
-            store.read(rt.alloc(), name.as_str())?.as_slice(),
-            b"two\nlines\n".as_slice()
-        );
-        fs::remove_file(&rt, name.as_str())?;
-        let missing = store.read(rt.alloc(), name.as_str());
-        assert!(rt; matches!(missing, Err(StoreError::Failed)));
-        let nowhere = store.write(rt.alloc(), "/tmp/tcc_world_no_folder/file", b"x");
-        assert!(rt; matches!(nowhere, Err(StoreError::Failed)));
-        Ok(())
-    }
-}

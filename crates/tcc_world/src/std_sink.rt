@@ -43,27 +43,3 @@ impl<W: Write> Sink for StdSink<W> {
         }
     }
 }
-
-#[cfg(test)]
-mod tests {
-    use super::*;
-    use crate::write_all;
-    use std::test::Fail;
-
-    #[test]
-    fn writes_to_the_streams_and_counts_a_full_one(rt: HostRuntime) -> Result<(), Fail> {
-        let mut out = StdSink::new(rt.stdout());
-        write_all(&mut out, b"to standard output\n")?;
-        let mut err = StdSink::new(rt.stderr());
-        write_all(&mut err, b"to standard error\n")?;
-        let mut kept = StdSink::new(Vec::new(rt.alloc()));
-        write_all(&mut kept, b"once ")?;
-        write_all(&mut kept, b"and whole")?;
-        assert_eq!(rt; kept.stream.as_slice(), b"once and whole".as_slice());
-        let mut room = [0; 3];
-        let mut full = StdSink::new(room.as_mut_slice());
-        assert_eq!(rt; write_all(&mut full, b"four"), Err(SinkFailed));
-        assert_eq!(rt; full.faults, 1);
-        Ok(())
-    }
-}

@@ -4,8 +4,6 @@
 mod lines;
 mod links;
 mod nodes;
-#[cfg(test)]
-mod tests;
 mod texts;
 
 pub use texts::why;

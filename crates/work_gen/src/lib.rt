@@ -3,8 +3,6 @@
 
 mod assembler;
 mod program;
-#[cfg(test)]
-mod tests;
 mod work;
 
 pub use program::{MAX_NUMBER, workload};

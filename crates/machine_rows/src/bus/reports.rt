@@ -1,12 +1,13 @@
 // Reports of machines with one bus after some events, and after those that a seed picks, letter by letter, with ample memory.
-ghost use Rattle.std.specs.Prelude.{◌≡◌, IfOk};
+ghost use Rattle.std.specs.Prelude.{◌≡◌};
 
-use crate::{bus_report, bus_run};
+use super::loading::loaded;
 use bus_tcc::{BusEvent, BusSystem};
-use image_load::{Loaded, load, raw};
+use bus_tool::{bus_report, bus_run};
+use image_load::Loaded;
 use std::alloc::Global;
 use std::test::Fail;
-use tcc_base::{Config, CoreId, List};
+use tcc_base::CoreId;
 
 /// Two transactions: one stores 7, one halts.
 const STORES_SEVEN: [u32; 6] = [
@@ -52,20 +53,6 @@ reg 11 00000002
 reg 17 0000005d
 mem 80000040 00000007
 ";
-
-/// A machine of so many cores, whose caches have so many sets and ways, with this image.
-fn loaded(alloc: Global, shape: [u64; 3], image: &[u32]) -> Result<Loaded, Fail>
-    ensures { IfOk result (λ l. l.settings.dirs ≡ 1) }
-{
-    let [cores, sets, ways] = shape;
-    let config = Config::new(cores, 1, sets, ways, 0x8000_0000, 65_536)?;
-    let mut items = Vec::new(alloc);
-    for word in image {
-        items.extend_from_slice(&word.to_le_bytes())?;
-    }
-    let file = List { items };
-    Ok(load(alloc, &config, &raw(alloc, &config, &[file])?)?)
-}
 
 /// The report after these events.
 fn report_after(alloc: Global, loaded: &Loaded, events: &[BusEvent]) -> Result<String, Fail>

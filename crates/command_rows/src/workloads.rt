@@ -1,10 +1,10 @@
 // The words of each workload's image, as clang 14 assembles the same lines for riscv32.
 ghost use Rattle.std.specs.Prelude.{◌≤◌};
 
-use crate::{Work, workload};
 use std::alloc::Global;
 use std::process::Abort;
 use tcc_base::NoMemory;
+use work_gen::{Work, workload};
 
 /// The image of the workload is these words, little-endian.
 fn has_words(

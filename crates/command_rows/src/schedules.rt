@@ -1,5 +1,5 @@
 // Texts that are read, texts that are refused with their line, and each kind of line.
-use crate::{TextFault, read, write};
+use schedule_text::{TextFault, read, write};
 use std::alloc::Global;
 use std::test::Fail;
 use tcc_base::{CoreId, DirId, NodeId};

@@ -1,8 +1,10 @@
 // Reports of two small machines and summaries of trials, letter by letter.
 ghost use Rattle.std.specs.Prelude.{◌≡◌, ◌≤◌, length};
 
-use crate::{CoreShown, Ending, Trial, bus_machine_report, report, serial_report, trial_summary};
 use reg_checkpoint::Regs;
+use report_text::{
+    CoreShown, Ending, Trial, bus_machine_report, report, serial_report, trial_summary,
+};
 use std::alloc::{AllocError, Global};
 use std::test::Fail;
 use tcc_base::{Commit, CoreEnd, CoreId, List, Load, NoMemory, Reg, Size, Tid};

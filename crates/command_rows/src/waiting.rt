@@ -1,13 +1,13 @@
 // Texts in the middle of runs, with each reason once, and at the end of one.
 ghost use Rattle.std.specs.Prelude.{◌≡◌, ◌≤◌, IfOk, length};
 
-use crate::why;
 use image_load::{load, raw};
 use net_core::System;
 use schedule_text::read;
 use std::alloc::Global;
 use std::test::Fail;
 use tcc_base::{Config, List};
+use why_text::why;
 
 // lui x6,0x80000; sw x11,96(x6); ecall
 const STORES_24: [u32; 3] = [0x8000_0337, 0x06b3_2023, 0x0000_0073];

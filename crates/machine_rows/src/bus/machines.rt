@@ -1,9 +1,9 @@
 // Whole machines: from raw images, by events, to what the commits leave.
-use crate::{BusError, BusEvent, BusSystem};
-use image_load::{load, raw};
+use super::loading::loaded;
+use bus_tcc::{BusError, BusEvent, BusSystem};
 use std::alloc::Global;
 use std::test::Fail;
-use tcc_base::{Config, CoreEnd, CoreId, List, Reg, WordAddr};
+use tcc_base::{CoreEnd, CoreId, Reg, WordAddr};
 
 // An event: a core executes, it empties a way of a set, or it takes the packet.
 macro_rules! event {
@@ -108,20 +108,9 @@ struct State {
     first: [Option<BusEvent>; 3],
 }
 
-/// The file of these words.
-fn file(alloc: Global, words: &[u32]) -> Result<List<u8>, Fail> {
-    let mut items = Vec::new(alloc);
-    for word in words {
-        items.extend_from_slice(&word.to_le_bytes())?;
-    }
-    Ok(List { items })
-}
-
 /// The machine of a row before its first event.
 fn begun(alloc: Global, row: &Row) -> Result<BusSystem, Fail> {
-    let cfg = Config::new(row.cores, 1, row.sets, row.ways, 0x8000_0000, 65_536)?;
-    let files = [file(alloc, row.image)?];
-    let loaded = load(alloc, &cfg, &raw(alloc, &cfg, &files)?)?;
+    let loaded = loaded(alloc, [row.cores, row.sets, row.ways], row.image)?;
     Ok(BusSystem::start(alloc, &loaded)?)
 }
 

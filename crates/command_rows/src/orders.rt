@@ -1,10 +1,10 @@
 // Files that list orders, files that are refused with their line, and what the plain machine makes of a list.
 ghost use Rattle.std.specs.Prelude.{◌≡◌, ◌<◌, IfSome, All};
 
-use crate::{Listed, read_orders, run_orders};
 use image_load::{Loaded, load, raw};
 use rv_plain::Order;
 use schedule_text::TextFault;
+use serial_tool::{Listed, read_orders, run_orders};
 use std::alloc::Global;
 use std::test::Fail;
 use tcc_base::{Config, CoreId, List, Load, Size, Tid, WordAddr};
