@@ -1,21 +1,38 @@
 // Sinks: the streams of the system, and bytes in memory, with failures by number and where there is no room.
+use std::alloc::Global;
+use std::io::Write;
 use std::test::Fail;
 use tcc_world::{Sink, SinkFailed, StdSink, VecSink, write_all};
 
-#[test]
-fn writes_to_the_streams_and_counts_a_full_one(rt: HostRuntime) -> Result<(), Fail> {
-    let mut out = StdSink::new(rt.stdout());
-    write_all(&mut out, b"to standard output\n")?;
-    let mut err = StdSink::new(rt.stderr());
-    write_all(&mut err, b"to standard error\n")?;
-    let mut kept = StdSink::new(Vec::new(rt.alloc()));
+/// Writes this to a stream.
+fn tell<W: Write + Drop>(stream: W, text: &[u8]) -> Result<(), SinkFailed> {
+    let mut sink = StdSink::new(stream);
+    write_all(&mut sink, text)
+}
+
+/// What was written in two pieces to a vector.
+fn written_twice(alloc: Global) -> Result<StdSink<Vec<u8>>, SinkFailed> {
+    let mut kept = StdSink::new(Vec::new(alloc));
     write_all(&mut kept, b"once ")?;
     write_all(&mut kept, b"and whole")?;
-    assert_eq!(rt; kept.stream.as_slice(), b"once and whole".as_slice());
+    Ok(kept)
+}
+
+/// How a text of four bytes is written to three, and how many faults are counted.
+fn written_too_much() -> (Result<(), SinkFailed>, u64) {
     let mut room = [0; 3];
     let mut full = StdSink::new(room.as_mut_slice());
-    assert_eq!(rt; write_all(&mut full, b"four"), Err(SinkFailed));
-    assert_eq!(rt; full.faults, 1);
+    let told = write_all(&mut full, b"four");
+    (told, full.faults)
+}
+
+#[test]
+fn writes_to_the_streams_and_counts_a_full_one(rt: HostRuntime) -> Result<(), Fail> {
+    tell(rt.stdout(), b"to standard output\n")?;
+    tell(rt.stderr(), b"to standard error\n")?;
+    let kept = written_twice(rt.alloc())?;
+    assert_eq!(rt; kept.stream.as_slice(), b"once and whole".as_slice());
+    assert_eq!(rt; written_too_much(), (Err(SinkFailed), 1));
     Ok(())
 }
 

@@ -12,6 +12,9 @@ cores 2 dirs 2 sets 16 ways 2 base 2147483648 ram 65536
 e 0\ne 0\ne 0\nd c0 v 0\ne 1\ne 1\ne 1\nd c1 v 0\nd v c1 0\nd v c0 0\nd c0 d1 0\nd c1 d1 0\nd d1 c1 0\ne 1
 end 14\n";
 
+// The first two lines of a schedule of two cores.
+const TWO_CORES: &str = "tcc-schedule 1\ncores 2 dirs 1 sets 4 ways 2 base 0 ram 32\n";
+
 // What is read of a text, written again.
 fn rewritten(alloc: Global, text: &str) -> Option<Vec<u8>> {
     let schedule = read(alloc, text.as_bytes()).ok()?;
@@ -26,6 +29,17 @@ fn fault(alloc: Global, text: &[u8]) -> Option<u64> {
     }
 }
 
+// The line with which a text of these two parts is refused.
+fn fault_of(alloc: Global, head: &str, tail: &str) -> Result<Option<u64>, Fail> {
+    let text = format!(in alloc; "{head}{tail}")?;
+    Ok(fault(alloc, text.as_bytes()))
+}
+
+// A delivery of the message of this name.
+fn delivery(src: NodeId, dst: NodeId, seq: u64) -> Event {
+    Event::Deliver(Name { src, dst, seq })
+}
+
 #[test]
 fn each_kind_of_line_is_read(rt: HostRuntime) -> Result<(), Fail> {
     let text = "tcc-schedule 2\ncores 64 dirs 3 sets 1024 ways 16 base 4278190080 ram 16777216
@@ -37,18 +51,17 @@ e 63\nx 9 1023 15\nd c10 d2 4611686018427387903\nd v c0 0\nend 4\n";
     assert_eq!(rt; schedule.config.sets(), 1024);
     assert_eq!(rt; schedule.config.base(), 0xff00_0000);
     let core = CoreId(0);
-    let name = |src, dst, seq| Event::Deliver(Name { src, dst, seq });
     assert_eq!(rt;
         schedule.events.items.as_slice(),
         [
             Event::Exec(CoreId(63)),
             Event::Evict(CoreId(9), 1023, 15),
-            name(
+            delivery(
                 NodeId::Core(CoreId(10)),
                 NodeId::Dir(DirId(2)),
                 (1 << 62) - 1
             ),
-            name(NodeId::Vendor, NodeId::Core(core), 0),
+            delivery(NodeId::Vendor, NodeId::Core(core), 0),
         ]
         .as_slice()
     );
@@ -90,8 +103,8 @@ fn other_first_lines_are_refused(rt: HostRuntime) -> Result<(), Fail> {
         ("tcc-schedule 1\ncores 1 dirs 1 sets 3", 2),
         ("tcc-schedule 1\ncores 1  dirs 1 sets 1", 2),
     ] {
-        let text = format!(in rt.alloc(); "{head} ways 1 base 0 ram 32\nend 0\n")?;
-        assert_eq!(rt; fault(rt.alloc(), text.as_bytes()), Some(line), "{head}");
+        let got = fault_of(rt.alloc(), head, " ways 1 base 0 ram 32\nend 0\n")?;
+        assert_eq!(rt; got, Some(line), "{head}");
     }
     Ok(())
 }
@@ -114,10 +127,8 @@ fn other_further_lines_are_refused(rt: HostRuntime) -> Result<(), Fail> {
         ("e 0\nend 1", 4),
         ("end 0\ne 0\n", 4),
     ] {
-        let text = format!(in rt.alloc();
-            "tcc-schedule 1\ncores 2 dirs 1 sets 4 ways 2 base 0 ram 32\n{tail}"
-        )?;
-        assert_eq!(rt; fault(rt.alloc(), text.as_bytes()), Some(line), "{tail}");
+        let got = fault_of(rt.alloc(), TWO_CORES, tail)?;
+        assert_eq!(rt; got, Some(line), "{tail}");
     }
     Ok(())
 }

@@ -1,19 +1,18 @@
 // Command lines, and what they ask for or why they are refused.
 use std::alloc::Global;
 use std::process::Abort;
+use std::test::Fail;
 use tcc_words::{Command, Field, WordsFault, settings};
 use work_gen::Work;
 
-/// The words are refused for this cause.
-fn is_refused<'a>(rt: &impl Abort, alloc: Global, words: &'a [&'a str], fault: WordsFault) {
-    match settings(alloc, words) {
-        Ok(_) => panic!(rt; "these words are a command"),
-        Err(found) => assert_eq!(rt; found, fault),
-    }
+/// What the words of a command line ask for.
+fn asked(alloc: Global, line: &str) -> Result<Result<Command, WordsFault>, Fail> {
+    let words: Vec<&str> = line.split_whitespace().collect(alloc)?;
+    Ok(settings(alloc, &words))
 }
 
 #[test]
-fn run_has_its_defaults(rt: HostRuntime) {
+fn run_has_its_defaults(rt: HostRuntime) -> Result<(), Fail> {
     let Ok(
         Command::Run {
             machine,
@@ -23,27 +22,19 @@ fn run_has_its_defaults(rt: HostRuntime) {
             threads,
             keep,
         },
-    ) = settings(rt.alloc(), &["run", "a"])
+    ) = asked(rt.alloc(), "run a")?
     else {
-        panic!(rt; "these words are a command");
+        panic!(rt; "they ask for another command, or for none");
     };
     assert!(rt; !machine.raw && machine.config.sets() == 16 && machine.config.ways() == 2);
     assert!(rt; machine.config.base() == 0x8000_0000 && machine.config.words() == 16_384);
     assert!(rt; images.items.len() == 1 && steps == 1_000_000 && seed == 0);
     assert!(rt; threads.is_none() && keep.is_none());
+    Ok(())
 }
 
 #[test]
-fn options_stand_among_images(rt: HostRuntime) {
-    let words = [
-        "run",
-        "a",
-        "--cores=2",
-        "b",
-        "--raw",
-        "--seed",
-        "0xFFffFFffFFffFFff",
-    ];
+fn options_stand_among_images(rt: HostRuntime) -> Result<(), Fail> {
     let Ok(
         Command::Run {
             machine,
@@ -51,17 +42,20 @@ fn options_stand_among_images(rt: HostRuntime) {
             seed,
             ..
         },
-    ) = settings(rt.alloc(), words.as_slice())
+    ) = asked(
+        rt.alloc(),
+        "run a --cores=2 b --raw --seed 0xFFffFFffFFffFFff",
+    )?
     else {
-        panic!(rt; "these words are a command");
+        panic!(rt; "they ask for another command, or for none");
     };
     assert!(rt; machine.raw && machine.config.cores() == 2 && images.items.len() == 2);
     assert_eq!(rt; seed, u64::MAX);
+    Ok(())
 }
 
 #[test]
-fn a_trial_has_its_workload(rt: HostRuntime) {
-    let words = ["trial", "--cores", "2", "--seed", "1", "counters", "0100"];
+fn a_trial_has_its_workload(rt: HostRuntime) -> Result<(), Fail> {
     let Ok(
         Command::Trial {
             work,
@@ -70,48 +64,49 @@ fn a_trial_has_its_workload(rt: HostRuntime) {
             seed,
             ..
         },
-    ) = settings(rt.alloc(), words.as_slice())
+    ) = asked(rt.alloc(), "trial --cores 2 --seed 1 counters 0100")?
     else {
-        panic!(rt; "these words are a command");
+        panic!(rt; "they ask for another command, or for none");
     };
     assert!(rt; work == Work::Counters && number == 100 && steps == 1_000_000 && seed == 1);
+    Ok(())
 }
 
 #[test]
-fn a_replay_has_its_schedule_first(rt: HostRuntime) {
+fn a_replay_has_its_schedule_first(rt: HostRuntime) -> Result<(), Fail> {
     let Ok(
         Command::Replay {
             schedule,
             images,
             ..
         },
-    ) = settings(rt.alloc(), &["replay", "s", "x", "y"])
+    ) = asked(rt.alloc(), "replay s x y")?
     else {
-        panic!(rt; "these words are a command");
+        panic!(rt; "they ask for another command, or for none");
     };
     assert!(rt; schedule.items.as_str() == "s" && images.items.len() == 2);
+    Ok(())
 }
 
 #[test]
-fn why_has_its_schedule_first(rt: HostRuntime) {
-    let words = ["why", "--raw", "s", "--cores=2", "x", "y"];
+fn why_has_its_schedule_first(rt: HostRuntime) -> Result<(), Fail> {
     let Ok(
         Command::Why {
             machine,
             schedule,
             images,
         },
-    ) = settings(rt.alloc(), words.as_slice())
+    ) = asked(rt.alloc(), "why --raw s --cores=2 x y")?
     else {
-        panic!(rt; "these words are a command");
+        panic!(rt; "they ask for another command, or for none");
     };
     assert!(rt; machine.raw && machine.config.cores() == 2);
     assert!(rt; schedule.items.as_str() == "s" && images.items.len() == 2);
+    Ok(())
 }
 
 #[test]
-fn phases_are_a_run_without_threads(rt: HostRuntime) {
-    let words = ["phases", "--seed", "3", "--record", "r", "a", "--steps=7"];
+fn phases_are_a_run_without_threads(rt: HostRuntime) -> Result<(), Fail> {
     let Ok(
         Command::Phases {
             images,
@@ -120,27 +115,17 @@ fn phases_are_a_run_without_threads(rt: HostRuntime) {
             keep,
             ..
         },
-    ) = settings(rt.alloc(), words.as_slice())
+    ) = asked(rt.alloc(), "phases --seed 3 --record r a --steps=7")?
     else {
-        panic!(rt; "these words are a command");
+        panic!(rt; "they ask for another command, or for none");
     };
     assert!(rt; images.items.len() == 1 && steps == 7 && seed == 3);
     assert!(rt; keep.is_some_and(|name| name.items.as_str() == "r"));
+    Ok(())
 }
 
 #[test]
-fn a_bus_has_one_directory(rt: HostRuntime) {
-    let words = [
-        "bus",
-        "--raw",
-        "--cores=4",
-        "--sets",
-        "1",
-        "a",
-        "--seed",
-        "3",
-        "b",
-    ];
+fn a_bus_has_one_directory(rt: HostRuntime) -> Result<(), Fail> {
     let Ok(
         Command::Bus {
             machine,
@@ -148,189 +133,127 @@ fn a_bus_has_one_directory(rt: HostRuntime) {
             steps,
             seed,
         },
-    ) = settings(rt.alloc(), words.as_slice())
+    ) = asked(rt.alloc(), "bus --raw --cores=4 --sets 1 a --seed 3 b")?
     else {
-        panic!(rt; "these words are a command");
+        panic!(rt; "they ask for another command, or for none");
     };
     assert!(rt; machine.raw && machine.config.cores() == 4 && machine.config.sets() == 1);
     assert!(rt; machine.config.dirs() == 1 && machine.config.words() == 16_384);
     assert!(rt; images.items.len() == 2 && steps == 1_000_000 && seed == 3);
+    Ok(())
 }
 
-#[test]
-fn words_that_are_no_command(rt: HostRuntime) {
-    is_refused(&rt, rt.alloc(), &[], WordsFault::Words);
-    is_refused(&rt, rt.alloc(), &["walk", "a"], WordsFault::Words);
-    is_refused(&rt, rt.alloc(), &["run"], WordsFault::Words);
-    is_refused(&rt, rt.alloc(), &["replay", "s"], WordsFault::Words);
-    is_refused(&rt, rt.alloc(), &["why", "s"], WordsFault::Words);
-    is_refused(&rt, rt.alloc(), &["phases"], WordsFault::Words);
-    is_refused(&rt, rt.alloc(), &["bus", "--raw"], WordsFault::Words);
+/// A command line that is refused, and the cause.
+type Refused = (&'static str, WordsFault);
+
+/// Each line is refused for its cause.
+fn are_refused(rt: &impl Abort, alloc: Global, rows: &[Refused]) -> Result<(), Fail> {
+    for (line, fault) in rows {
+        match asked(alloc, line)? {
+            Ok(_) => panic!(rt; "{line}"),
+            Err(found) => assert_eq!(rt; found, *fault, "{line}"),
+        }
+    }
+    Ok(())
 }
 
-#[test]
-fn words_that_clap_refuses(rt: HostRuntime) {
-    is_refused(
-        &rt,
-        rt.alloc(),
-        &["run", "--cores", "-1", "a"],
-        WordsFault::Words,
-    );
-    is_refused(
-        &rt,
-        rt.alloc(),
-        &["run", "--sets", "1", "--sets", "1", "a"],
-        WordsFault::Words,
-    );
-    is_refused(&rt, rt.alloc(), &["run", "--help", "a"], WordsFault::Words);
-    is_refused(
-        &rt,
-        rt.alloc(),
-        &["replay", "--seed", "1", "s", "a"],
-        WordsFault::Words,
-    );
-    is_refused(
-        &rt,
-        rt.alloc(),
-        &["why", "--steps", "1", "s", "a"],
-        WordsFault::Words,
-    );
-    is_refused(
-        &rt,
-        rt.alloc(),
-        &["phases", "--threads", "2", "--record", "r", "a"],
-        WordsFault::Words,
-    );
-}
+/// No command, one that there isn't, and commands without the names that they need.
+const NO_COMMAND: [Refused; 7] = [
+    ("", WordsFault::Words),
+    ("walk a", WordsFault::Words),
+    ("run", WordsFault::Words),
+    ("replay s", WordsFault::Words),
+    ("why s", WordsFault::Words),
+    ("phases", WordsFault::Words),
+    ("bus --raw", WordsFault::Words),
+];
 
 #[test]
-fn a_bus_has_no_directories_threads_or_record(rt: HostRuntime) {
-    is_refused(
-        &rt,
-        rt.alloc(),
-        &["bus", "--dirs", "2", "a"],
-        WordsFault::Words,
-    );
-    is_refused(
-        &rt,
-        rt.alloc(),
-        &["bus", "a", "--dirs=1"],
-        WordsFault::Words,
-    );
-    is_refused(
-        &rt,
-        rt.alloc(),
-        &["bus", "--threads", "2", "a"],
-        WordsFault::Words,
-    );
-    is_refused(
-        &rt,
-        rt.alloc(),
-        &["bus", "--record", "r", "a"],
-        WordsFault::Words,
-    );
+fn words_that_are_no_command(rt: HostRuntime) -> Result<(), Fail> {
+    are_refused(&rt, rt.alloc(), &NO_COMMAND)
 }
 
+/// Values that look like options, options that stand twice, that there aren't, or that other commands have.
+const NOT_READ: [Refused; 6] = [
+    ("run --cores -1 a", WordsFault::Words),
+    ("run --sets 1 --sets 1 a", WordsFault::Words),
+    ("run --help a", WordsFault::Words),
+    ("replay --seed 1 s a", WordsFault::Words),
+    ("why --steps 1 s a", WordsFault::Words),
+    ("phases --threads 2 --record r a", WordsFault::Words),
+];
+
 #[test]
-fn values_that_are_no_numbers(rt: HostRuntime) {
-    is_refused(
-        &rt,
-        rt.alloc(),
-        &["run", "--cores", "-", "a"],
-        WordsFault::Value(Field::Cores),
-    );
-    is_refused(
-        &rt,
-        rt.alloc(),
-        &["run", "--cores=", "a"],
-        WordsFault::Value(Field::Cores),
-    );
-    is_refused(
-        &rt,
-        rt.alloc(),
-        &["run", "--dirs", "0X2", "a"],
-        WordsFault::Value(Field::Dirs),
-    );
-    is_refused(
-        &rt,
-        rt.alloc(),
-        &["run", "--seed", "18446744073709551616", "a"],
+fn words_that_clap_refuses(rt: HostRuntime) -> Result<(), Fail> {
+    are_refused(&rt, rt.alloc(), &NOT_READ)
+}
+
+/// Options of a run that a bus hasn't.
+const NOT_OF_A_BUS: [Refused; 4] = [
+    ("bus --dirs 2 a", WordsFault::Words),
+    ("bus a --dirs=1", WordsFault::Words),
+    ("bus --threads 2 a", WordsFault::Words),
+    ("bus --record r a", WordsFault::Words),
+];
+
+#[test]
+fn a_bus_has_no_directories_threads_or_record(rt: HostRuntime) -> Result<(), Fail> {
+    are_refused(&rt, rt.alloc(), &NOT_OF_A_BUS)
+}
+
+/// Values without digits, with others, or with too many.
+const NO_NUMBERS: [Refused; 4] = [
+    ("run --cores - a", WordsFault::Value(Field::Cores)),
+    ("run --cores= a", WordsFault::Value(Field::Cores)),
+    ("run --dirs 0X2 a", WordsFault::Value(Field::Dirs)),
+    (
+        "run --seed 18446744073709551616 a",
         WordsFault::Value(Field::Seed),
-    );
-}
+    ),
+];
 
 #[test]
-fn values_out_of_range(rt: HostRuntime) {
-    is_refused(
-        &rt,
-        rt.alloc(),
-        &["run", "--raw", "--cores", "65", "a"],
-        WordsFault::Value(Field::Cores),
-    );
-    is_refused(
-        &rt,
-        rt.alloc(),
-        &["run", "--raw", "--steps", "4194305", "a"],
+fn values_that_are_no_numbers(rt: HostRuntime) -> Result<(), Fail> {
+    are_refused(&rt, rt.alloc(), &NO_NUMBERS)
+}
+
+/// Numbers that are too large, and threads without a record.
+const OUT_OF_RANGE: [Refused; 5] = [
+    ("run --raw --cores 65 a", WordsFault::Value(Field::Cores)),
+    (
+        "run --raw --steps 4194305 a",
         WordsFault::Value(Field::Steps),
-    );
-    is_refused(
-        &rt,
-        rt.alloc(),
-        &["run", "--base", "0xffff8000", "a"],
-        WordsFault::Value(Field::Base),
-    );
-    is_refused(
-        &rt,
-        rt.alloc(),
-        &["run", "--threads", "4", "a"],
-        WordsFault::Value(Field::Threads),
-    );
-    is_refused(
-        &rt,
-        rt.alloc(),
-        &["bus", "--steps", "4194305", "a"],
-        WordsFault::Value(Field::Steps),
-    );
-}
+    ),
+    ("run --base 0xffff8000 a", WordsFault::Value(Field::Base)),
+    ("run --threads 4 a", WordsFault::Value(Field::Threads)),
+    ("bus --steps 4194305 a", WordsFault::Value(Field::Steps)),
+];
 
 #[test]
-fn the_first_of_two_faulty_fields(rt: HostRuntime) {
-    is_refused(
-        &rt,
-        rt.alloc(),
-        &["run", "--sets", "x", "--cores", "0", "a"],
-        WordsFault::Value(Field::Cores),
-    );
-    is_refused(
-        &rt,
-        rt.alloc(),
-        &["run", "--base", "1", "--ram", "1", "a"],
-        WordsFault::Value(Field::Ram),
-    );
-    is_refused(
-        &rt,
-        rt.alloc(),
-        &["trial", "primes", "0"],
-        WordsFault::Value(Field::Kind),
-    );
-    is_refused(
-        &rt,
-        rt.alloc(),
-        &["trial", "sharing", "2048"],
-        WordsFault::Value(Field::Number),
-    );
+fn values_out_of_range(rt: HostRuntime) -> Result<(), Fail> {
+    are_refused(&rt, rt.alloc(), &OUT_OF_RANGE)
 }
 
+/// Of two fields with faults the first, and of one.
+const TWO_FAULTS: [Refused; 4] = [
+    ("run --sets x --cores 0 a", WordsFault::Value(Field::Cores)),
+    ("run --base 1 --ram 1 a", WordsFault::Value(Field::Ram)),
+    ("trial primes 0", WordsFault::Value(Field::Kind)),
+    ("trial sharing 2048", WordsFault::Value(Field::Number)),
+];
+
 #[test]
-fn too_many_images(rt: HostRuntime) {
-    let words = [
-        "run", "1", "2", "3", "4", "5", "6", "7", "8", "9", "10", "11", "12", "13", "14", "15",
-        "16", "17",
-    ];
-    is_refused(
-        &rt,
-        rt.alloc(),
-        words.as_slice(),
-        WordsFault::Value(Field::Images),
-    );
+fn the_first_of_two_faulty_fields(rt: HostRuntime) -> Result<(), Fail> {
+    are_refused(&rt, rt.alloc(), &TWO_FAULTS)
+}
+
+/// Seventeen images.
+const TOO_MANY: [Refused; 1] = [(
+    "run 1 2 3 4 5 6 7 8 9 10 11 12 13 14 15 16 17",
+    WordsFault::Value(Field::Images),
+)];
+
+#[test]
+fn too_many_images(rt: HostRuntime) -> Result<(), Fail> {
+    are_refused(&rt, rt.alloc(), &TOO_MANY)
 }
