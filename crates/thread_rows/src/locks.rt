@@ -3,7 +3,7 @@ ghost use Rattle.std.specs.Prelude.{◌≡◌, ℕ, ◌+◌, ◌^◌, ◌<◌, �
 ghost use Rattle.node_logs.specs.Fitting.{node_count};
 ghost use Rattle.node_locks.specs.Wiring.{links_of, logs_of};
 
-use image_load::{load, raw};
+use crate::images::loaded;
 use logged_node::Act;
 use node_locks::{Farm, Nodes, Setup, Ticket};
 use node_logs::Logs;
@@ -14,7 +14,7 @@ use std::sync::ledger::{Blank, Ledger};
 use std::test::*;
 use std::thread;
 use std::thread::Threads;
-use tcc_base::{Config, List};
+use tcc_base::Config;
 
 // lui x6,0x80000; sw x11,64(x6); ecall
 const STORES_16: [u8; 12] = [
@@ -26,15 +26,11 @@ fn start(alloc: Global) -> Result<Nodes, Fail>
     ensures logs { IfOk result (λ n. All (λ log. log ≡ []) (logs_of n.nodes)) }
 {
     let config = Config::new(2, 2, 4, 1, 0x8000_0000, 65_536)?;
-    let file = List {
-        items: STORES_16.to_vec(alloc)?,
-    };
-    let images = raw(alloc, &config, &[file])?;
-    Ok(Nodes::new(alloc, &load(alloc, &config, &images)?)?)
+    Ok(Nodes::new(alloc, &loaded(alloc, &config, &STORES_16)?)?)
 }
 
 // How many entries the logs have.
-fn entries(logs: &Logs) -> u64 {
+pub(crate) fn entries(logs: &Logs) -> u64 {
     let mut count: u64 = 0;
     for log in logs.by_node.items.as_slice() {
         count = count.wrapping_add(log.items.len() as u64);

@@ -5,27 +5,24 @@ ghost use Rattle.tcc_maps.specs.Bridge.{node_of};
 ghost use Rattle.tcc_msg.specs.Plain.{msg_of};
 ghost use Rattle.node_logs.specs.Carried.{IsCarried};
 
-use image_load::{Loaded, load, raw};
+use crate::images::loaded;
+use image_load::Loaded;
 use node_member::Member;
 use rv_code::Code;
 use std::alloc::Global;
 use std::sync::Arc;
 use std::test::Fail;
-use tcc_base::{Config, CoreId, DirId, List, NodeId, Tid};
+use tcc_base::{Config, CoreId, DirId, NodeId, Tid};
 use tcc_msg::{Event, Msg, Name, Outgoing};
 
 const CORE: NodeId = NodeId::Core(CoreId(0));
 
 // One core, one directory, and an image of one instruction: ecall.
-fn loaded(alloc: Global) -> Result<Loaded, Fail>
+fn start(alloc: Global) -> Result<Loaded, Fail>
     ensures { IfOk result (λ l. l.settings ≡ record { cores = 1; dirs = 1; sets = 4; ways = 1; base = 0; ram = 65536 }) }
 {
     let config = Config::new(1, 1, 4, 1, 0, 65_536)?;
-    let file = List {
-        items: [0x73, 0x00, 0x00, 0x00].to_vec(alloc)?,
-    };
-    let images = raw(alloc, &config, &[file])?;
-    Ok(load(alloc, &config, &images)?)
+    loaded(alloc, &config, &[0x73, 0x00, 0x00, 0x00])
 }
 
 fn code(alloc: Global, loaded: &Loaded) -> Result<Arc<Code, Global>, Fail>
@@ -89,7 +86,7 @@ fn ask_turn(dir: &mut Member, out: &mut Outgoing) -> Result<usize, Fail>
 #[test]
 fn a_core_asks_for_a_tid(rt: HostRuntime) -> Result<(), Fail> {
     let alloc = rt.alloc();
-    let loaded = loaded(alloc)?;
+    let loaded = start(alloc)?;
     let code = code(alloc, &loaded)?;
     let mut core = Member::core(alloc, code, CoreId(0))?;
     let mut out = Outgoing::new(alloc);
@@ -101,7 +98,7 @@ fn a_core_asks_for_a_tid(rt: HostRuntime) -> Result<(), Fail> {
 #[test]
 fn a_directory_answers_a_probe(rt: HostRuntime) -> Result<(), Fail> {
     let alloc = rt.alloc();
-    let loaded = loaded(alloc)?;
+    let loaded = start(alloc)?;
     let code = code(alloc, &loaded)?;
     let mut dir = Member::directory(alloc, code, &loaded, DirId(0))?;
     let mut out = Outgoing::new(alloc);
@@ -113,7 +110,7 @@ fn a_directory_answers_a_probe(rt: HostRuntime) -> Result<(), Fail> {
 #[test]
 fn the_vendor_gives_a_tid(rt: HostRuntime) -> Result<(), Fail> {
     let alloc = rt.alloc();
-    let loaded = loaded(alloc)?;
+    let loaded = start(alloc)?;
     let code = code(alloc, &loaded)?;
     let mut vendor = Member::vendor(code);
     let mut out = Outgoing::new(alloc);

@@ -1,12 +1,13 @@
 // Machines of two cores on host threads, with ample memory.
 ghost use Rattle.std.specs.Prelude.{◌≤◌};
 
-use image_load::{Loaded, load, raw};
+use crate::images::loaded;
+use image_load::Loaded;
 use std::alloc::Global;
 use std::sync::Wait;
 use std::test::Fail;
 use std::thread::Threads;
-use tcc_base::{Commit, Config, CoreId, DirId, List, NodeId};
+use tcc_base::{Commit, Config, CoreId, DirId, NodeId};
 use tcc_msg::{Event, Name};
 use tcc_refine::Refined;
 use tcc_replay::replay;
@@ -31,12 +32,9 @@ const STORES: [u8; 24] = [
 ];
 
 /// An image in the memory of two cores and one directory.
-fn loaded(alloc: Global, image: &[u8]) -> Result<Loaded, Fail> {
+fn executing(alloc: Global, image: &[u8]) -> Result<Loaded, Fail> {
     let config = Config::new(2, 1, 16, 2, 0x8000_0000, 65_536)?;
-    let file = List {
-        items: image.to_vec(alloc)?,
-    };
-    Ok(load(alloc, &config, &raw(alloc, &config, &[file])?)?)
+    loaded(alloc, &config, image)
 }
 
 fn exec(core: u8) -> Event {
@@ -86,7 +84,7 @@ fn observe_run<R: Threads + Wait + Sync>(
 ) -> Result<(bool, usize, usize, bool), Fail>
     requires { (1 ≤ threads) × (threads ≤ 16) × (steps ≤ 4194304) }
 {
-    let loaded = loaded(alloc, &STORES)?;
+    let loaded = executing(alloc, &STORES)?;
     let plan = WorkPlan {
         threads,
         steps,
@@ -127,7 +125,7 @@ fn one_thread_decides_all_events(rt: HostRuntime) -> Result<(), Fail> {
         exec(0),
         deliver(first, dir),
     ];
-    let loaded = loaded(rt.alloc(), &HALTS)?;
+    let loaded = executing(rt.alloc(), &HALTS)?;
     for seed in [0, 1, 0xffff_ffff_ffff_ffff] {
         let plan = WorkPlan {
             threads: 1,

@@ -3,8 +3,10 @@ ghost use Rattle.std.specs.Prelude.{◌≡◌, ◌<◌, ◌≤◌, [], All};
 ghost use Rattle.node_logs.specs.Fitting.{node_count};
 ghost use Rattle.node_locks.specs.Wiring.{links_of, logs_of};
 
+use crate::images::{TURNS, adding};
+use crate::locks::entries;
 use crossbeam_utils::atomic::AtomicCell;
-use image_load::{Loaded, load, raw};
+use image_load::Loaded;
 use logged_node::Act;
 use node_locks::{Farm, Nodes, Setup};
 use node_logs::{Logged, Logs};
@@ -18,29 +20,12 @@ use std::sync::ledger::{Blank, Ledger};
 use std::test::Fail;
 use std::thread;
 use std::thread::Threads;
-use tcc_base::{Config, List, NoMemory};
+use tcc_base::{List, NoMemory};
 use tcc_workers::{Ended, WorkPlan, work};
 use tcc_world::{Gate, OpenGate};
 
-/// Adds 1 to the word at 80000040, a hundred times, each time in a transaction, and halts.
-const IMAGE: [u8; 40] = [
-    0x37, 0x03, 0x00, 0x80, // lui x6,0x80000
-    0x93, 0x03, 0x40, 0x06, // addi x7,x0,100
-    0x83, 0x22, 0x03, 0x04, // lw x5,64(x6)
-    0x93, 0x82, 0x12, 0x00, // addi x5,x5,1
-    0x23, 0x20, 0x53, 0x04, // sw x5,64(x6)
-    0x73, 0x00, 0x00, 0x00, // ecall, which ends the transaction
-    0x93, 0x83, 0xf3, 0xff, // addi x7,x7,-1
-    0xe3, 0x96, 0x03, 0xfe, // bne x7,x0,-20
-    0x93, 0x08, 0xd0, 0x05, // addi x17,x0,93
-    0x73, 0x00, 0x00, 0x00, // ecall, which halts
-];
-
 /// How often a worker looks before it gives up waiting.
 const LOOKS: u32 = 10_000_000;
-
-/// More turns than the image needs.
-const TURNS: u32 = 1_000_000;
 
 /// A gate that counts each worker's passes, and at which the first two workers wait for one another: worker 1 before its first turn
 /// until worker 2 has passed, and worker 2 before its second until worker 1 has.
@@ -88,15 +73,6 @@ struct Harvest {
     ended: Ended,
     moved: u64,
     logs: Logs,
-}
-
-/// The image in the memory of two cores and so many directories.
-fn loaded(alloc: Global, dirs: u64) -> Result<Loaded, Fail> {
-    let config = Config::new(2, dirs, 16, 2, 0x8000_0000, 1_024)?;
-    let file = List {
-        items: IMAGE.to_vec(alloc)?,
-    };
-    Ok(load(alloc, &config, &raw(alloc, &config, &[file])?)?)
 }
 
 /// Nodes behind locks, worked at, and closed.
@@ -181,15 +157,6 @@ fn by_hand<R: Wait>(
     nodes.close(rt, alloc).map_err(|_| NoMemory)
 }
 
-/// How many entries are in all logs.
-fn entries(logs: &[List<Logged>]) -> u64 {
-    let mut entries = 0u64;
-    for log in logs {
-        entries = entries.wrapping_add(log.items.len() as u64);
-    }
-    entries
-}
-
 fn are_same(a: &[List<Logged>], b: &[List<Logged>]) -> bool {
     a.len() == b.len() && a.iter().zip(b).all(|(x, y)| x.items == y.items)
 }
@@ -202,7 +169,7 @@ fn two_workers_take_turns_and_end_quiet(rt: HostRuntime) -> Result<(), Fail> {
         steps: 1_000_000,
         seed: 7,
     };
-    let loaded = loaded(rt.alloc(), 1)?;
+    let loaded = adding(rt.alloc(), 1)?;
     let all = worked(&rt, rt.alloc(), &loaded, &plan, &gate)?;
     assert!(rt; !gate.gave_up.load(), "the workers didn't meet");
     assert_eq!(rt; all.ended, Ended::Quiet);
@@ -214,7 +181,7 @@ fn two_workers_take_turns_and_end_quiet(rt: HostRuntime) -> Result<(), Fail> {
 
 #[test]
 fn one_worker_acts_at_the_nodes_in_turn(rt: HostRuntime) -> Result<(), Fail> {
-    let loaded = loaded(rt.alloc(), 2)?;
+    let loaded = adding(rt.alloc(), 2)?;
     for (steps, ended) in [(30, Ended::Full), (1_000_000, Ended::Quiet)] {
         let plan = WorkPlan {
             threads: 1,
@@ -225,7 +192,7 @@ fn one_worker_acts_at_the_nodes_in_turn(rt: HostRuntime) -> Result<(), Fail> {
         assert_eq!(rt; all.ended, ended);
         let logs = by_hand(&rt, rt.alloc(), &loaded, steps, 6)?;
         assert!(rt; are_same(&all.logs.by_node.items, &logs.by_node.items));
-        assert_eq!(rt; all.moved, entries(&logs.by_node.items));
+        assert_eq!(rt; all.moved, entries(&logs));
     }
     Ok(())
 }
