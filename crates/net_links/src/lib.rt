@@ -6,8 +6,6 @@
 mod inlet;
 mod outlet;
 mod rule;
-#[cfg(test)]
-mod tests;
 mod wire;
 
 pub use inlet::Inlet;

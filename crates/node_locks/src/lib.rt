@@ -8,8 +8,6 @@ mod making;
 mod nodes;
 mod places;
 mod setup;
-#[cfg(test)]
-mod tests;
 mod ticket;
 
 pub use farm::Farm;

@@ -5,7 +5,5 @@ mod acting;
 mod choosing;
 mod kind;
 mod member;
-#[cfg(test)]
-mod tests;
 
 pub use member::Member;

@@ -4,4 +4,3 @@ pub mod Lists
 pub mod Merged
 pub mod Places
 pub mod Ties
-pub mod Worked

@@ -6,9 +6,6 @@ ghost use Rattle.std.specs.List.{flat_map};
 ghost use Rattle.node_logs.specs.Fitting.{IsMergeOf};
 ghost use Rattle.stamp_merge.specs.Merging.{AreByStamp, AreLogs, MergeIsOne, MergedLogsRun};
 
-#[cfg(test)]
-mod tests;
-
 use node_logs::{Logged, Logs};
 use std::alloc::{AllocError, Global};
 use tcc_base::{List, NoMemory};

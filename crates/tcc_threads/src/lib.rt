@@ -5,8 +5,6 @@ mod apart;
 mod going;
 mod laws;
 mod running;
-#[cfg(test)]
-mod tests;
 
 pub use laws::{joined_schedules_are_runs, open_joined_runs_take_all_events};
 pub use running::run_threads;

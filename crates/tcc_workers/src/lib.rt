@@ -4,8 +4,6 @@
 mod plan;
 mod shift;
 mod slots;
-#[cfg(test)]
-mod tests;
 mod working;
 
 pub use plan::{Ended, WorkPlan};
