@@ -58,7 +58,7 @@ impl System {
     pub fn step(&mut self, e: Event) -> Result<Step, StepError>
         requires { self.old.events < 4194304 }
         ensures next { OnOk result
-            (next (settings_of self.old) (program_of self.old) (history_of self.old) (event_of e) ≡ Some (history_of self.new)) }
+            (next_history (settings_of self.old) (program_of self.old) (history_of self.old) (event_of e) ≡ Some (history_of self.new)) }
         ensures told { IfOk result (λ s. tid_told s ≡ tid_noted (step_of self.old (event_of e))) }
         ensures refused { IsErrOf result StepError.Refused ↔ (step_of self.old (event_of e) ≡ None) }
         ensures unchanged { OnErr result (history_of self.new ≡ history_of self.old) }

@@ -45,7 +45,7 @@ impl PhaseSystem {
     /// Whether an event, which may name anything, is held back.
     fn holds_back(&self, e: Event) -> bool
         ensures { next_of self.now.refined.machine (event_of e)
-            ≡ (if result then None else next (settings_of self.now.refined.machine) (program_of self.now.refined.machine)
+            ≡ (if result then None else next_history (settings_of self.now.refined.machine) (program_of self.now.refined.machine)
             (history_of self.now.refined.machine) (event_of e)) }
     {
         let system = self.refined.system();

@@ -77,7 +77,7 @@ impl Refined {
     pub fn step(&mut self, e: Event) -> Result<Step, StepError>
         requires { self.old.machine.events < 4194304 }
         ensures next { OnOk result
-            (next (settings_of self.old.machine) (program_of self.old.machine) (history_of self.old.machine) (event_of e)
+            (next_history (settings_of self.old.machine) (program_of self.old.machine) (history_of self.old.machine) (event_of e)
             ≡ Some (history_of self.new.machine)) }
         ensures told { IfOk result (λ s. tid_told s ≡ tid_noted (step_of self.old.machine (event_of e))) }
         ensures refused { IsErrOf result StepError.Refused ↔ (step_of self.old.machine (event_of e) ≡ None) }

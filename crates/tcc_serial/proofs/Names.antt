@@ -43,19 +43,17 @@ pub use Rattle.tcc_maps.specs.Spilled.{Spilled}
 unfoldable pub use Rattle.tcc_maps.specs.Spilled.{holds, spill_line, spilled_mask, spilled_words, none_spilled}
 pub use Rattle.tcc_maps.specs.Words.{num, line_of, word_at, place_of, or_else}
 unfoldable pub use Rattle.tcc_maps.specs.Words.{count_below, those, any_below, any_word, eight}
-pub use Rattle.tcc_maps.proofs.Lemmas.{any_below-at, any_below-found, has-mask_of, advance-rises, dirty-evicted, kept-skips, advance-keeps}
-pub use Rattle.tcc_maps.proofs.Lemmas.{advance-past, advance-stops, cleaned-keeps, committed-keeps, empty-keeps, evicted-keeps}
-pub use Rattle.tcc_maps.proofs.Lemmas.{filled-keeps, first-skips, invalidated-keeps, marked-keeps, placed-keeps, read-placed}
-pub use Rattle.tcc_maps.proofs.Lemmas.{read_cleared-keeps, rolled_back-keeps, stored-keeps, value-evicted, value-placed}
-pub use Rattle.tcc_maps.proofs.Lemmas.{words_dropped-keeps}
+pub use Rattle.tcc_maps.proofs.Lemmas.{words_dropped-keeps, read_cleared-keeps, invalidated-keeps, rolled_back-keeps, any_below-found}
+pub use Rattle.tcc_maps.proofs.Lemmas.{committed-keeps, advance-rises, dirty-evicted, advance-keeps, advance-stops, cleaned-keeps}
+pub use Rattle.tcc_maps.proofs.Lemmas.{evicted-keeps, value-evicted, any_below-at, advance-past, filled-keeps, marked-keeps, placed-keeps}
+pub use Rattle.tcc_maps.proofs.Lemmas.{stored-keeps, value-placed, has-mask_of, empty-keeps, first-skips, read-placed, kept-skips}
 pub use Rattle.tcc_rules.specs.Attempt.{Out, moves, is_solo, new_word, is_running}
 unfoldable pub use Rattle.tcc_rules.specs.Attempt.{finished, one_more_instruction, roll_back}
 unfoldable pub use Rattle.tcc_rules.specs.Commit.{commit, committed_core, noted, solo_sends, is_written, commit_sends, solo_writes_at}
 unfoldable pub use Rattle.tcc_rules.specs.Commit.{written_mask, solo_commit, solo_write_backs, solo_marks_or_skip, with_last_commit}
 pub use Rattle.tcc_rules.specs.Commit.{phase_after_commit, ended_after_commit}
 pub use Rattle.tcc_rules.specs.CoreDeliver.{from_dir, grant_in_phase, ignored, all_replied, replied, reply_in_phase, violated_in_phase}
-pub use Rattle.tcc_rules.specs.CoreDeliver.{solo_once_replied}
-pub use Rattle.tcc_rules.specs.CoreDeliver.{ready_once_replied, fill_awaited, probing_or_ready, staled, may_be_above}
+pub use Rattle.tcc_rules.specs.CoreDeliver.{solo_once_replied, ready_once_replied, fill_awaited, probing_or_ready, staled, may_be_above}
 unfoldable pub use Rattle.tcc_rules.specs.CoreDeliver.{grant, data_request, probe_reply, fill, invalidate, is_violated, acknowledged}
 unfoldable pub use Rattle.tcc_rules.specs.CoreDeliver.{if_violated, words_invalidated, grant_sends, is_probed, core_deliver}
 pub use Rattle.tcc_rules.specs.CoreEvict.{is_awaited, evict_line}
@@ -82,8 +80,7 @@ pub use Rattle.tcc_rules.specs.State.{World, CoreState, DirState, Halted, Ready,
 pub use Rattle.tcc_rules.specs.State.{Probing, Awaited, Link}
 unfoldable pub use Rattle.tcc_rules.specs.State.{start, core_start, dir_start, vendor_start}
 pub use Rattle.tcc_rules.specs.Step.{History, and_noted, Stepped, recorded, and_then, if_in_flight, delivered, is_node, if_core_moves}
-pub use Rattle.tcc_rules.specs.Step.{if_core_takes}
-pub use Rattle.tcc_rules.specs.Step.{answered}
+pub use Rattle.tcc_rules.specs.Step.{if_core_takes, answered}
 unfoldable pub use Rattle.tcc_rules.specs.Step.{core_moves, step, core_takes, dir_takes, dir_asks, vendor_gives, insert_commit, run}
 unfoldable pub use Rattle.tcc_rules.specs.Step.{next_history}
 unfoldable pub use Rattle.tcc_rules.specs.Step.{run_from, happens, names_nodes}
@@ -104,11 +101,10 @@ pub use Rattle.tcc_serial.specs.Copies.{KeptLoading, CommitsLine, SharerOf, is_f
 pub use Rattle.tcc_serial.specs.Copies.{KeptAfter, KeptLineOwners, KeptOwned, KeptAbove, KeptGets, AfterOf, GetsOf, HomeOf, IsUnknown}
 pub use Rattle.tcc_serial.specs.Copies.{OwnedOf}
 unfoldable pub use Rattle.tcc_serial.specs.Copies.{keeps_unmodified, copies_with, holds_line, settled_in_line, stored_there}
-pub use Rattle.tcc_serial.specs.Count.{Commits, Resolves, CopyOf, Kind, MarkOf, FillOf, Grants, Invs, CopyWord, Acks, EmptyMarks, Skips}
-pub use Rattle.tcc_serial.specs.Count.{CommitOf, CopyNot, InvWord, LoadOf, CopyMask, GoneOf, InvOf, InvsAway, InvsNot, Protocol, Any}
-pub use Rattle.tcc_serial.specs.Count.{AnyCommit, Marks, Aborts, FillNot, MarkMask, Probes, AckOf, AnyResolve, LinesAway, Replies}
-pub use Rattle.tcc_serial.specs.Count.{CommitsAbove, InvBelow, LoadNot, MarksAway, RepliesAbove, AnyGrant, Asks as AsksTid, DataOf, InvMask}
-pub use Rattle.tcc_serial.specs.Count.{NoWord}
+pub use Rattle.tcc_serial.specs.Count.{Asks as AsksTid, CommitsAbove, RepliesAbove, EmptyMarks, AnyResolve, AnyCommit, LinesAway, MarksAway}
+pub use Rattle.tcc_serial.specs.Count.{Resolves, CopyWord, CommitOf, CopyMask, InvsAway, Protocol, MarkMask, InvBelow, AnyGrant, Commits}
+pub use Rattle.tcc_serial.specs.Count.{CopyNot, InvWord, InvsNot, FillNot, Replies, LoadNot, InvMask, CopyOf, MarkOf, FillOf, Grants}
+pub use Rattle.tcc_serial.specs.Count.{LoadOf, GoneOf, Aborts, Probes, DataOf, NoWord, Skips, InvOf, Marks, AckOf, Kind, Invs, Acks, Any}
 unfoldable pub use Rattle.tcc_serial.specs.Count.{passes, live, among}
 pub use Rattle.tcc_serial.specs.Counted.{KeptCounted, CountedOf, CountsMarks}
 pub use Rattle.tcc_serial.specs.InMemory.{CommitsInMemory, AccessesInMemory, CopiesInMemory, FramesInMemory, LoadsInMemory, NeedInMemory}

@@ -4,8 +4,7 @@ use Rattle.tcc_serial.proofs.Names.{None, nat_lt, if◌then◌else◌, flat_map,
 use Rattle.tcc_serial.proofs.Names.{count_below, Dir, Msg, Skip, Mark, Commit, WriteBack, Flush, Shape, home, lines, Cache, is_dirty}
 use Rattle.tcc_serial.proofs.Names.{dirty_tag, dirty_mask, dirty_words, dirty_copy, Spilled, holds, spilled_mask, spilled_words}
 use Rattle.tcc_serial.proofs.Names.{commit_sends, solo_sends, solo_marks_or_skip, solo_write_backs, solo_writes_at, is_written}
-use Rattle.tcc_serial.proofs.Names.{written_mask, to, flush_of}
-use Rattle.tcc_serial.proofs.Names.{flush_line, write_back_line, CopyOf, CopyMask, among, passes}
+use Rattle.tcc_serial.proofs.Names.{written_mask, to, flush_of, flush_line, write_back_line, CopyOf, CopyMask, among, passes}
 use Rattle.tcc_rules.specs.Sends.{write_back_of}
 use Rattle.tcc_serial.proofs.Copies.DirtyFrames.{frame_copy, frame_wrong}
 use Rattle.tcc_serial.proofs.Counts.Links.{among-append, among-flat_map_none}

@@ -3,10 +3,9 @@ use Rattle.tcc_serial.proofs.Names.{ℕ, zero, suc, ◌≡◌, ◌<◌, ◌==◌
 use Rattle.tcc_serial.proofs.Names.{slice_index_or, nat_lt, if◌then◌else◌, arith, refl, ap, ◌∙◌, nat_tests, Noted, num, any_below, any_word}
 use Rattle.tcc_serial.proofs.Names.{word_at, mask_of, insert_commit, times, stores_in, stores_word, names_line, wrote, wrote_line}
 use Rattle.tcc_serial.proofs.Names.{wrote_mask, ◌+◌, ◌≤◌, ◌⊎◌, sym, subst, inl, inr, cases_eq, cases_lt, Core, Dir, Shape, sum_below}
-use Rattle.tcc_serial.proofs.Names.{DirState}
-use Rattle.tcc_serial.proofs.Names.{History, Commits, live, KeptRun, Grant, pair, share, is_applied, CommitsStand, stores_at, Skipped}
-use Rattle.tcc_serial.proofs.Names.{Committed, Ways, part_in, kept_in, WayAt, Some, writes_at, Msg, Out, Sends, Stepped, Resolves, among}
-use Rattle.tcc_serial.proofs.Names.{holder, has_tid, part, handled, live_way, Option, IfSome}
+use Rattle.tcc_serial.proofs.Names.{DirState, History, Commits, live, KeptRun, Grant, pair, share, is_applied, CommitsStand, stores_at}
+use Rattle.tcc_serial.proofs.Names.{Skipped, Committed, Ways, part_in, kept_in, WayAt, Some, writes_at, Msg, Out, Sends, Stepped, Resolves}
+use Rattle.tcc_serial.proofs.Names.{among, holder, has_tid, part, handled, live_way, Option, IfSome}
 use Rattle.tcc_serial.proofs.Counts.Links.{total-zero, total-le}
 use Rattle.tcc_serial.proofs.Marks.MaskLaws.{few-any}
 use Rattle.tcc_serial.proofs.Serving.CommitSteps.{of-resolves}

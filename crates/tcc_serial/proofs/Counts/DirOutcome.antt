@@ -6,10 +6,8 @@ use Rattle.tcc_serial.proofs.Names.{is_owner, Current, Outdated, TooEarly, advan
 use Rattle.tcc_serial.proofs.Names.{ProbeReply, Mark, Commit, Abort, WriteBack, Flush, DataReq, Inv, InvAck, Shape, lines, DirState}
 use Rattle.tcc_serial.proofs.Names.{nothing, to, Answer, Waits, Drops, Asks, Takes, skip, abort, acknowledgement, dir_deliver, moved_on}
 use Rattle.tcc_serial.proofs.Names.{moved_on_if_settled, owned_by_committer, invalidation_count, invalidations, invs_to, is_invalidated}
-use Rattle.tcc_serial.proofs.Names.{unless_keeps, ask_owner, load_unless_owned}
-use Rattle.tcc_serial.proofs.Names.{load_request, home_words, mark_taken, mark_unless_owned, mark, judged, write_back, came_home, probe}
-use Rattle.tcc_serial.proofs.Names.{Kind, among}
-use Rattle.tcc_serial.proofs.Names.{passes}
+use Rattle.tcc_serial.proofs.Names.{unless_keeps, ask_owner, load_unless_owned, load_request, home_words, mark_taken, mark_unless_owned}
+use Rattle.tcc_serial.proofs.Names.{mark, judged, write_back, came_home, probe, Kind, among, passes}
 use Rattle.tcc_rules.specs.DirDeliver.{dir_commit}
 use Rattle.tcc_serial.proofs.Counts.Links.{among-flat_map_none}
 

@@ -6,9 +6,8 @@ use Rattle.tcc_serial.proofs.Names.{after_move, grant_taken, back_taken, after_a
 use Rattle.tcc_serial.proofs.Names.{sum_of, Option, Some, None, IfSome, nat_lt, if◌then◌else◌, Program, Event, Exec, Evict, Deliver, TidReq}
 use Rattle.tcc_serial.proofs.Names.{Shape, in_flight, Sends, nothing, core_exec, core_evict, core_deliver, grant, Answer, Waits, Drops}
 use Rattle.tcc_serial.proofs.Names.{Asks, Takes, dir_deliver, Stepped, step, if_core_moves, if_core_takes, answered, delivered}
-use Rattle.tcc_serial.proofs.Names.{if_in_flight, happens}
-use Rattle.tcc_serial.proofs.Names.{names_nodes, is_node, Grant, grant_for, granted_by, sends_of, sends_for, sent_by, Uses, used_by, Views}
-use Rattle.tcc_serial.proofs.Names.{uses_executed, uses_delivered, views_after, put}
+use Rattle.tcc_serial.proofs.Names.{if_in_flight, happens, names_nodes, is_node, Grant, grant_for, granted_by, sends_of, sends_for, sent_by}
+use Rattle.tcc_serial.proofs.Names.{Uses, used_by, Views, uses_executed, uses_delivered, views_after, put}
 use Rattle.tcc_rules.specs.VendorDeliver.{Granted}
 use Rattle.tcc_serial.proofs.Counts.Links.{total-same, total-at, total-plus}
 

@@ -4,10 +4,8 @@ use Rattle.tcc_serial.proofs.Names.{if◌then◌else◌, flat_map, arith, refl, 
 use Rattle.tcc_serial.proofs.Names.{Mark, Commit, WriteBack, Shape, home, lines, Cache, is_modified, writes_at, Spilled, holds}
 use Rattle.tcc_serial.proofs.Names.{spilled_mask, spilled_words, CoreState, Phase, Ready, Solo, Out, commit, commit_sends, solo_sends}
 use Rattle.tcc_serial.proofs.Names.{solo_marks_or_skip, solo_write_backs, solo_writes_at, is_written, written_mask, core_exec, core_evict}
-use Rattle.tcc_serial.proofs.Names.{from_dir}
-use Rattle.tcc_serial.proofs.Names.{sum_below, Kind, MarkOf, AnyCommit, CommitOf, among, passes, has_marked, stores_line, marked_by}
-use Rattle.tcc_serial.proofs.Names.{may_commit}
-use Rattle.tcc_serial.proofs.Names.{has_tid, solo_commit}
+use Rattle.tcc_serial.proofs.Names.{from_dir, sum_below, Kind, MarkOf, AnyCommit, CommitOf, among, passes, has_marked, stores_line}
+use Rattle.tcc_serial.proofs.Names.{marked_by, may_commit, has_tid, solo_commit}
 use Rattle.tcc_serial.proofs.Serving.CoreCommits.{heard-free}
 use Rattle.tcc_serial.proofs.Counts.Links.{among-append, total-same, among-fewer, among-flat_map_none}
 use Rattle.tcc_serial.proofs.Marks.CoreMarks.{one-mark, marks-only}

@@ -1,13 +1,12 @@
 -- What each message to a core does to its Marks, Skips and the words on its TID.
 use Rattle.tcc_serial.proofs.Names.{ℕ, ◌+◌, ◌≡◌, ◌<◌, ◌≤◌, Bool, true, false, not, List, [], ◌∷◌, ◌++◌, ◌==◌, ◌&&◌, Some, None, IfSome}
 use Rattle.tcc_serial.proofs.Names.{if◌then◌else◌, arith, refl, sym, ap, ◌∙◌, ◌⊎◌, inl, inr, cases_eq, nat_tests, put, num, any_below, Dir}
-use Rattle.tcc_serial.proofs.Names.{Msg, InvAck, ProbeReply, Fill, DataReq, Inv, Shape, home, lines, Cache, is_modified}
-use Rattle.tcc_serial.proofs.Names.{modified_mask, written_lines, writes_at, CoreState, Phase, Running, AwaitTid, DoomedTid, Probing, Ready}
-use Rattle.tcc_serial.proofs.Names.{Overflowing, Solo, to, marks_for, skip_all, abort_written, probe_all, Out, from_dir, all_replied}
-use Rattle.tcc_serial.proofs.Names.{probe_reply, fill, data_request, invalidate, ignored, grant, grant_in_phase, grant_sends, is_probed}
-use Rattle.tcc_serial.proofs.Names.{probing_or_ready, Resolves, Marks, MarkOf, EmptyMarks, Skips, among, passes, has_marked, stores_line}
-use Rattle.tcc_serial.proofs.Names.{marked_by}
-use Rattle.tcc_serial.proofs.Names.{has_tid, opens, waits_for_tid}
+use Rattle.tcc_serial.proofs.Names.{Msg, InvAck, ProbeReply, Fill, DataReq, Inv, Shape, home, lines, Cache, is_modified, modified_mask}
+use Rattle.tcc_serial.proofs.Names.{written_lines, writes_at, CoreState, Phase, Running, AwaitTid, DoomedTid, Probing, Ready, Overflowing}
+use Rattle.tcc_serial.proofs.Names.{Solo, to, marks_for, skip_all, abort_written, probe_all, Out, from_dir, all_replied, probe_reply, fill}
+use Rattle.tcc_serial.proofs.Names.{data_request, invalidate, ignored, grant, grant_in_phase, grant_sends, is_probed, probing_or_ready}
+use Rattle.tcc_serial.proofs.Names.{Resolves, Marks, MarkOf, EmptyMarks, Skips, among, passes, has_marked, stores_line, marked_by, has_tid}
+use Rattle.tcc_serial.proofs.Names.{opens, waits_for_tid}
 use Rattle.tcc_serial.proofs.Counts.Links.{among-append, num-one}
 use Rattle.tcc_serial.proofs.Marks.CoreMarking.{Marking, Unsaid, unsaid-nothing, unsaid-append, acked, silent, silent-none, marking-steady}
 use Rattle.tcc_serial.proofs.Marks.CoreMarking.{last-words, is-tid, swap, mine, self, told-abort, told-skip, marked-same, stores-same}

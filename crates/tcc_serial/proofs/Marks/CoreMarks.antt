@@ -4,9 +4,8 @@ use Rattle.tcc_serial.proofs.Names.{nat_lt, if◌then◌else◌, flat_map, arith
 use Rattle.tcc_serial.proofs.Names.{those, count_below, any_word, word_at, mask_of, Dir, Msg, Skip, Mark, Commit, WriteBack, Shape, home}
 use Rattle.tcc_serial.proofs.Names.{lines, Cache, is_modified, modified_mask, written_lines, writes_at, Spilled, holds, spilled_mask}
 use Rattle.tcc_serial.proofs.Names.{spilled_words, any_below-at, any_below-found, marks_for, solo_sends, solo_marks_or_skip}
-use Rattle.tcc_serial.proofs.Names.{solo_write_backs}
-use Rattle.tcc_serial.proofs.Names.{solo_writes_at, is_written, written_mask, Kind, Resolves, Marks, MarkOf, EmptyMarks, Skips, among}
-use Rattle.tcc_serial.proofs.Names.{passes, stores_line}
+use Rattle.tcc_serial.proofs.Names.{solo_write_backs, solo_writes_at, is_written, written_mask, Kind, Resolves, Marks, MarkOf, EmptyMarks}
+use Rattle.tcc_serial.proofs.Names.{Skips, among, passes, stores_line}
 use Rattle.tcc_serial.proofs.Counts.Links.{among-append, among-flat_map_none}
 
 -- marks of some lines, one each

@@ -1,15 +1,14 @@
 -- Every event keeps that invalidations in flight name marked lines with their masks, once each.
-use Rattle.tcc_serial.proofs.Names.{ℕ, zero, suc, ◌+◌, ◌≡◌, ◌≤◌, Bool, true, false, List, [], ◌∷◌, ◌==◌, ◌&&◌, Some, None, IfSome, nat_lt}
-use Rattle.tcc_serial.proofs.Names.{if◌then◌else◌, flat_map, arith, refl, ◌⊎◌, inl, inr, cases_eq, nat_tests, flat_map-append, num, those}
-use Rattle.tcc_serial.proofs.Names.{Lines, has_mark, Core, Dir, Msg, Fill, ProbeReply, Mark, DataReq, Inv, InvAck, Shape, home}
-use Rattle.tcc_serial.proofs.Names.{lines, CoreState, DirState, Link, to, Out, from_dir, probe_reply, fill, data_request, invalidate}
-use Rattle.tcc_serial.proofs.Names.{Answer, Waits, Drops, Asks, Takes, dir_deliver, invalidations, invs_to, is_invalidated, Invs}
-use Rattle.tcc_serial.proofs.Names.{InvsAway, Acks, InvOf, InvMask, AckOf, Resolves, live, among, passes, ◌<◌, Option, set, sym, ap, subst}
-use Rattle.tcc_serial.proofs.Names.{◌∙◌, cases_lt, Program, Local, Event, World, start, in_flight, Sends, core_exec, core_evict, grant}
-use Rattle.tcc_serial.proofs.Names.{core_moves, core_takes, dir_takes, step, MarkOf, KeptCounted, NamedOf, KeptNamed, due, Pair, pair}
-use Rattle.tcc_serial.proofs.Names.{share, after_move, grant_taken, back_taken, after_answer, Kept, KeptTold, ◌++◌, Contains, append-nil}
-use Rattle.tcc_serial.proofs.Names.{Contains-append_cases, dir_asks, Any, Grant, granted_by, SparesCommitter, out_taken, handled}
-use Rattle.tcc_serial.proofs.Names.{home_words}
+use Rattle.tcc_serial.proofs.Names.{Contains-append_cases, flat_map-append, SparesCommitter, is_invalidated, if◌then◌else◌, invalidations}
+use Rattle.tcc_serial.proofs.Names.{data_request, after_answer, probe_reply, dir_deliver, KeptCounted, grant_taken, ProbeReply, invalidate}
+use Rattle.tcc_serial.proofs.Names.{core_evict, core_moves, core_takes, after_move, back_taken, append-nil, granted_by, home_words}
+use Rattle.tcc_serial.proofs.Names.{nat_tests, CoreState, in_flight, core_exec, dir_takes, KeptNamed, out_taken, flat_map, cases_eq}
+use Rattle.tcc_serial.proofs.Names.{has_mark, DirState, from_dir, InvsAway, Resolves, cases_lt, KeptTold, Contains, dir_asks, DataReq}
+use Rattle.tcc_serial.proofs.Names.{invs_to, InvMask, Program, NamedOf, handled, IfSome, nat_lt, InvAck, Answer, passes, Option, MarkOf}
+use Rattle.tcc_serial.proofs.Names.{false, arith, those, Lines, Shape, lines, Waits, Drops, Takes, InvOf, AckOf, among, subst, Local, Event}
+use Rattle.tcc_serial.proofs.Names.{World, start, Sends, grant, share, Grant, zero, Bool, true, List, ◌==◌, ◌&&◌, Some, None, refl, Core}
+use Rattle.tcc_serial.proofs.Names.{Fill, Mark, home, Link, fill, Asks, Invs, Acks, live, step, Pair, pair, Kept, ◌++◌, suc, ◌+◌, ◌≡◌, ◌≤◌}
+use Rattle.tcc_serial.proofs.Names.{◌∷◌, ◌⊎◌, inl, inr, num, Dir, Msg, Inv, Out, ◌<◌, set, sym, ◌∙◌, due, Any, [], to, ap, ℕ}
 use Rattle.tcc_serial.proofs.Counts.DirOutcome.{Outcome, Waiting, Spent, AsksOwner, TakesProbe, TakesLoad, TakesCommit, outcome, none-to}
 use Rattle.tcc_serial.proofs.Counts.DirOutcome.{among-none}
 use Rattle.tcc_serial.proofs.Counts.Links.{among-append, among-flat_map_none, live-sends, live-takes, total-le, live-fewer, none-taken}

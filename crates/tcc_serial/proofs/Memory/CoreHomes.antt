@@ -5,10 +5,8 @@ use Rattle.tcc_serial.proofs.Names.{count_below, any_word, word_at, Dir, Msg, Lo
 use Rattle.tcc_serial.proofs.Names.{home, lines, Cache, keeps, is_dirty, dirty_mask, dirty_copy, dirty_words, dirty_tag, is_modified}
 use Rattle.tcc_serial.proofs.Names.{modified_mask, written_lines, Spilled, holds, spilled_mask, spilled_words, CoreState, Sends, nothing}
 use Rattle.tcc_serial.proofs.Names.{to, flush_of, flush_line, write_back_line, marks_for, commit, solo_commit, solo_sends}
-use Rattle.tcc_serial.proofs.Names.{solo_marks_or_skip}
-use Rattle.tcc_serial.proofs.Names.{solo_write_backs}
-use Rattle.tcc_serial.proofs.Names.{solo_writes_at, is_written, written_mask, core_exec, core_evict, grant, from_dir, LinesAway, NoWord}
-use Rattle.tcc_serial.proofs.Names.{among, passes}
+use Rattle.tcc_serial.proofs.Names.{solo_marks_or_skip, solo_write_backs, solo_writes_at, is_written, written_mask, core_exec, core_evict}
+use Rattle.tcc_serial.proofs.Names.{grant, from_dir, LinesAway, NoWord, among, passes}
 use Rattle.tcc_rules.specs.Sends.{write_back_of}
 use Rattle.tcc_serial.proofs.Counts.Links.{among-append}
 use Rattle.tcc_serial.proofs.Serving.CoreDue.{among-those_none}

@@ -5,15 +5,13 @@ use Rattle.tcc_serial.proofs.Names.{invalidated, read_cleared, rolled_back, evic
 use Rattle.tcc_serial.proofs.Names.{Running, AwaitTid, DoomedTid, Probing, Ready, Overflowing, Solo, Halted, nothing, to, marks_for}
 use Rattle.tcc_serial.proofs.Names.{write_back_line, moves, is_solo, roll_back, core_evict, evict_line, is_awaited, ignored, grant}
 use Rattle.tcc_serial.proofs.Names.{grant_in_phase, probe_reply, reply_in_phase, replied, all_replied, ready_once_replied}
-use Rattle.tcc_serial.proofs.Names.{solo_once_replied, fill, fill_awaited}
-use Rattle.tcc_serial.proofs.Names.{data_request, invalidate, acknowledged, if_violated, is_violated, violated_in_phase, words_invalidated}
-use Rattle.tcc_serial.proofs.Names.{from_dir, ◌≤◌}
-use Rattle.tcc_serial.proofs.Names.{[], ◌++◌, arith, Program, Local, Core, Event, lines, DirState, World, start, Out, core_exec, Answer}
-use Rattle.tcc_serial.proofs.Names.{Waits, Drops, Asks, Takes, dir_deliver, in_flight, sent_all, Sends, core_moves, core_takes, dir_takes}
-use Rattle.tcc_serial.proofs.Names.{step, CopyOf, live, KeptCores, Pair, pair, ◌∷◌, Contains, ◌⊎◌, inl, inr, subst, Noted, empty_cache}
-use Rattle.tcc_serial.proofs.Names.{core_start, dir_asks, vendor_gives, Stepped, History, and_noted, recorded, next_history, and_then}
-use Rattle.tcc_serial.proofs.Names.{run_from}
-use Rattle.tcc_serial.proofs.Names.{run, StaysInMemory, AccessesInMemory, CommitsInMemory, first_state}
+use Rattle.tcc_serial.proofs.Names.{solo_once_replied, fill, fill_awaited, data_request, invalidate, acknowledged, if_violated, is_violated}
+use Rattle.tcc_serial.proofs.Names.{violated_in_phase, words_invalidated, from_dir, ◌≤◌, [], ◌++◌, arith, Program, Local, Core, Event}
+use Rattle.tcc_serial.proofs.Names.{lines, DirState, World, start, Out, core_exec, Answer, Waits, Drops, Asks, Takes, dir_deliver}
+use Rattle.tcc_serial.proofs.Names.{in_flight, sent_all, Sends, core_moves, core_takes, dir_takes, step, CopyOf, live, KeptCores, Pair}
+use Rattle.tcc_serial.proofs.Names.{pair, ◌∷◌, Contains, ◌⊎◌, inl, inr, subst, Noted, empty_cache, core_start, dir_asks, vendor_gives}
+use Rattle.tcc_serial.proofs.Names.{Stepped, History, and_noted, recorded, next_history, and_then, run_from, run, StaysInMemory}
+use Rattle.tcc_serial.proofs.Names.{AccessesInMemory, CommitsInMemory, first_state}
 use Rattle.tcc_serial.proofs.Counts.Links.{live-sends, live-takes}
 use Rattle.tcc_serial.proofs.Counts.StepCases.{pairs_move, pairs_grant, pairs_back, pairs_dir, pairs_asks, pairs_vendor, OfAnswer}
 use Rattle.tcc_serial.proofs.Counts.StepCases.{step_cases}

@@ -7,10 +7,8 @@ use Rattle.tcc_serial.proofs.Names.{names_line, wrote, wrote_line, zero, ◌≤�
 use Rattle.tcc_serial.proofs.Names.{flat_map, flat_map-append, Program, those, count_below, Dir, Msg, Skip, Mark, Commit, WriteBack, Cache}
 use Rattle.tcc_serial.proofs.Names.{IsCache, is_dirty, dirty_mask, dirty_copy, dirty_words, dirty_tag, Spilled, holds, spilled_mask}
 use Rattle.tcc_serial.proofs.Names.{spilled_words, CoreState, Sends, nothing, flush_of, flush_line, write_back_line, commit, solo_commit}
-use Rattle.tcc_serial.proofs.Names.{solo_sends}
-use Rattle.tcc_serial.proofs.Names.{solo_marks_or_skip, solo_write_backs, solo_writes_at, is_written, written_mask, core_exec, core_evict}
-use Rattle.tcc_serial.proofs.Names.{grant}
-use Rattle.tcc_serial.proofs.Names.{from_dir, CopyOf, among, passes, FramesInMemory}
+use Rattle.tcc_serial.proofs.Names.{solo_sends, solo_marks_or_skip, solo_write_backs, solo_writes_at, is_written, written_mask, core_exec}
+use Rattle.tcc_serial.proofs.Names.{core_evict, grant, from_dir, CopyOf, among, passes, FramesInMemory}
 use Rattle.tcc_rules.specs.Sends.{write_back_of}
 use Rattle.tcc_serial.proofs.Counts.Links.{among-append, among-flat_map_none}
 use Rattle.tcc_serial.proofs.Marks.StoredMasks.{stored-any, stored-line}

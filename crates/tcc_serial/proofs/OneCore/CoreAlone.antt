@@ -3,8 +3,7 @@ use Rattle.tcc_serial.proofs.Names.{ℕ, ◌==◌, true, false, List, [], ◌∷
 use Rattle.tcc_serial.proofs.Names.{Dir, Event, Shape, empty_cache, none_spilled, empty-keeps, CoreState, World, start, core_start, Out}
 use Rattle.tcc_serial.proofs.Names.{core_exec, core_evict, from_dir, grant, Answer, Waits, dir_deliver, core_moves, core_takes, dir_takes}
 use Rattle.tcc_serial.proofs.Names.{dir_asks, vendor_gives, Stepped, step, History, and_noted, recorded, next_history, and_then, run_from}
-use Rattle.tcc_serial.proofs.Names.{run}
-use Rattle.tcc_serial.proofs.Names.{OneCore, KeptCores, Always}
+use Rattle.tcc_serial.proofs.Names.{run, OneCore, KeptCores, Always}
 use Rattle.tcc_serial.proofs.Counts.StepCases.{OfAnswer, step_cases}
 use Rattle.tcc_serial.proofs.OneCore.WordsKept.{words-none}
 use Rattle.tcc_serial.proofs.OneCore.OneCoreExec.{exec_one}

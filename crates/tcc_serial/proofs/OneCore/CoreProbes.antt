@@ -2,11 +2,10 @@
 use Rattle.tcc_serial.proofs.Names.{ℕ, ◌≡◌, ◌<◌, ◌≤◌, Bool, true, false, ◌==◌, ◌&&◌, ◌||◌, Option, Some, None, IfSome, nat_lt}
 use Rattle.tcc_serial.proofs.Names.{if◌then◌else◌, arith, refl, sym, ap₂, ◌∙◌, nat_tests, put, Program, Outcome, HaltedWith, TrappedWith}
 use Rattle.tcc_serial.proofs.Names.{any_below, any_below-at, Msg, Fill, ProbeReply, DataReq, Inv, Shape, Cache, writes_at, reads_at}
-use Rattle.tcc_serial.proofs.Names.{CoreState, Phase, Running, AwaitTid, DoomedTid, Probing, Ready, Overflowing, Solo, Halted, Out}
-use Rattle.tcc_serial.proofs.Names.{commit, committed_core, phase_after_commit, core_exec, core_evict, grant, grant_in_phase, from_dir}
-use Rattle.tcc_serial.proofs.Names.{probing_or_ready}
-use Rattle.tcc_serial.proofs.Names.{is_probed, probe_reply, all_replied, fill, data_request, invalidate, RepliesAbove, passes, tid_of}
-use Rattle.tcc_serial.proofs.Names.{asks_dir, may_commit, Reached, solo_commit}
+use Rattle.tcc_serial.proofs.Names.{CoreState, Phase, Running, AwaitTid, DoomedTid, Probing, Ready, Overflowing, Solo, Halted, Out, commit}
+use Rattle.tcc_serial.proofs.Names.{committed_core, phase_after_commit, core_exec, core_evict, grant, grant_in_phase, from_dir}
+use Rattle.tcc_serial.proofs.Names.{probing_or_ready, is_probed, probe_reply, all_replied, fill, data_request, invalidate, RepliesAbove}
+use Rattle.tcc_serial.proofs.Names.{passes, tid_of, asks_dir, may_commit, Reached, solo_commit}
 use Rattle.tcc_serial.proofs.OneCore.Executes.{Steady, did-steady}
 use Rattle.tcc_serial.proofs.OneCore.CoreSteps.{reads_at-same, fill-steady, data-steady, Hurt, Unhurt, Rolled, Doomed, Aborted, Gave_up}
 use Rattle.tcc_serial.proofs.OneCore.CoreSteps.{Invalidated, invalidate-cases, Replied, Ignored, Probed, Left_alone, reply-cases}

@@ -3,8 +3,7 @@ use Rattle.tcc_serial.proofs.Names.{put, inl, inr, filled, cleaned, invalidated,
 use Rattle.tcc_serial.proofs.Names.{◌==◌, List, Some, None, IfSome, is_some, unwrap_or, get_or, if◌then◌else◌, arith, refl, ◌⊎◌, nat_tests}
 use Rattle.tcc_serial.proofs.Names.{line_of, place_of, hit, Msg, Inv, Shape, home, Cache, rolled_back, read_cleared, CoreState, Phase}
 use Rattle.tcc_serial.proofs.Names.{AwaitTid, DoomedTid, Probing, Ready, Overflowing, Solo, grant, is_violated, may_be_above}
-use Rattle.tcc_serial.proofs.Names.{words_invalidated, from_dir}
-use Rattle.tcc_serial.proofs.Names.{has_tid, hit-line, hit-reads}
+use Rattle.tcc_serial.proofs.Names.{words_invalidated, from_dir, has_tid, hit-line, hit-reads}
 use Rattle.tcc_maps.specs.CacheLook.{reads_masked}
 use Rattle.tcc_serial.proofs.OneCore.CoreReads.{StillRead, Reading, ValidOrPassed, ReadOf, read-kept, reads-same, as-before, tid-kept}
 use Rattle.tcc_serial.proofs.OneCore.CoreReads.{no-tid}

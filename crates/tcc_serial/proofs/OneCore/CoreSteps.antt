@@ -1,12 +1,11 @@
 -- What a core's rules leave alone: evictions, fills, data requests, invalidations.
-use Rattle.tcc_serial.proofs.Names.{ℕ, ◌+◌, ◌≡◌, ◌*◌, ◌%◌, Bool, true, false, List, [], ◌∷◌, ◌++◌, ◌==◌, ◌&&◌, ◌||◌, Some, None, IfSome}
-use Rattle.tcc_serial.proofs.Names.{if◌then◌else◌, arith, refl, sym, ap, ◌⊎◌, nat_tests, put, any_word, any_below, line_of, Node, Dir}
-use Rattle.tcc_serial.proofs.Names.{Vendor, InvAck, Shape, home, lines, Cache, reads_at, is_marked, keeps, evicted, evicted_line, filled}
-use Rattle.tcc_serial.proofs.Names.{cleaned, invalidated, read_cleared, any_below-at, CoreState, Awaited, Phase, Running, AwaitTid}
-use Rattle.tcc_serial.proofs.Names.{DoomedTid, Probing, Ready, Overflowing, Solo, Sends, nothing, to, flush_line, write_back_line}
-use Rattle.tcc_serial.proofs.Names.{abort_written}
-use Rattle.tcc_serial.proofs.Names.{skip_all, marks_for, Out, moves, is_solo, core_evict, is_awaited, ignored, fill, fill_awaited}
-use Rattle.tcc_serial.proofs.Names.{data_request, invalidate, probe_reply, all_replied, Protocol, among, passes, Inv, Msg, ProbeReply}
+use Rattle.tcc_serial.proofs.Names.{write_back_line, if◌then◌else◌, abort_written, evicted_line, read_cleared, any_below-at, fill_awaited}
+use Rattle.tcc_serial.proofs.Names.{data_request, invalidated, Overflowing, probe_reply, all_replied, flush_line, core_evict, is_awaited}
+use Rattle.tcc_serial.proofs.Names.{invalidate, ProbeReply, nat_tests, any_below, is_marked, CoreState, DoomedTid, marks_for, any_word}
+use Rattle.tcc_serial.proofs.Names.{reads_at, AwaitTid, skip_all, Protocol, line_of, evicted, cleaned, Awaited, Running, Probing, nothing}
+use Rattle.tcc_serial.proofs.Names.{is_solo, ignored, IfSome, Vendor, InvAck, filled, passes, false, arith, Shape, lines, Cache, keeps}
+use Rattle.tcc_serial.proofs.Names.{Phase, Ready, Sends, moves, among, Bool, true, List, ◌++◌, ◌==◌, ◌&&◌, ◌||◌, Some, None, refl, Node}
+use Rattle.tcc_serial.proofs.Names.{home, Solo, fill, ◌+◌, ◌≡◌, ◌*◌, ◌%◌, ◌∷◌, sym, ◌⊎◌, put, Dir, Out, Inv, Msg, [], ap, to, ℕ}
 use Rattle.tcc_serial.proofs.OneCore.Executes.{Steady}
 use Rattle.tcc_serial.proofs.OneCore.Said.{quiet, Empties, Aborts_all, Said, Silent, Skips_all, say, Flushes}
 use Rattle.tcc_serial.proofs.OneCore.Outcomes.{Acts, acked, each-evict, emptied, Heard, Hurt_alone, Hurt_none, Hurt_probing, Hurt_running}

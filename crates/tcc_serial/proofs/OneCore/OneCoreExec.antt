@@ -4,8 +4,7 @@ use Rattle.tcc_serial.proofs.Names.{Some, None, IfSome, is_some, arith, refl, sy
 use Rattle.tcc_serial.proofs.Names.{line_of, Shape, set_of, Cache, free_way, placed, placed_at, committed, words_dropped, none_spilled}
 use Rattle.tcc_serial.proofs.Names.{words_dropped-keeps, CoreState, Awaited, Phase, Running, AwaitTid, Ready, Overflowing, Solo, is_running}
 use Rattle.tcc_serial.proofs.Names.{is_solo, commit, committed_core, phase_after_commit, solo_commit, core_exec, Words, OneCore, Empty}
-use Rattle.tcc_serial.proofs.Names.{executes}
-use Rattle.tcc_serial.proofs.Names.{rests}
+use Rattle.tcc_serial.proofs.Names.{executes, rests}
 use Rattle.tcc_program.specs.Ram.{part}
 use Rattle.tcc_serial.proofs.OneCore.Outcomes.{Acts, awaiting, Acting, Buffers, Commits_now, Did, Ends_alone, Ends_run, Finds, Frames}
 use Rattle.tcc_serial.proofs.OneCore.Outcomes.{Frames_anew, Idles, Misses, Misses_anew, Reads, Room_wanted, after_end, after_load}

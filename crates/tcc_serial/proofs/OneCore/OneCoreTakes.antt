@@ -4,8 +4,7 @@ use Rattle.tcc_serial.proofs.Names.{[], Option, Some, None, IfSome, nat_lt, arit
 use Rattle.tcc_serial.proofs.Names.{any_below, Msg, Shape, is_marked, evicted, evicted_line, filled, invalidated, rolled_back, CoreState}
 use Rattle.tcc_serial.proofs.Names.{Awaited, Phase, Running, AwaitTid, DoomedTid, Probing, Ready, Overflowing, is_solo, core_evict}
 use Rattle.tcc_serial.proofs.Names.{is_awaited, grant, is_probed, probing_or_ready, all_replied, words_invalidated, staled, from_dir, Words}
-use Rattle.tcc_serial.proofs.Names.{OneCore, executes}
-use Rattle.tcc_serial.proofs.Names.{awaits_replies, rests}
+use Rattle.tcc_serial.proofs.Names.{OneCore, executes, awaits_replies, rests}
 use Rattle.tcc_serial.proofs.OneCore.CoreProbes.{none-below, all-replied}
 use Rattle.tcc_serial.proofs.OneCore.WordsKept.{words-evicted, words-evicted_unmarked, words-filled, words-invalidated, words-cleaned}
 use Rattle.tcc_serial.proofs.OneCore.WordsKept.{words-rolled, words-alone}

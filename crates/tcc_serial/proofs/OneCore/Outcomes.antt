@@ -10,19 +10,13 @@ use Rattle.tcc_serial.proofs.Names.{placed, evicted, filled, invalidated, rolled
 use Rattle.tcc_serial.proofs.Names.{spill_line, any_below-found, CoreState, Awaited, Phase, Running, AwaitTid, DoomedTid, Probing, Ready}
 use Rattle.tcc_serial.proofs.Names.{Overflowing, Solo, Sends, nothing, to, to_dirs, when, flush_line, abort_written, marks_for, Out, moves}
 use Rattle.tcc_serial.proofs.Names.{finished, one_more_instruction, is_running, is_solo, new_word, roll_back, commit, solo_commit}
-use Rattle.tcc_serial.proofs.Names.{request_line, place}
-use Rattle.tcc_serial.proofs.Names.{overflow}
-use Rattle.tcc_serial.proofs.Names.{full_set, miss, with_read_mark, load_valid, load_spilled, load, stored_in_buffer, stored_in_frame}
-use Rattle.tcc_serial.proofs.Names.{word_store, marks_read}
-use Rattle.tcc_serial.proofs.Names.{change_valid, change_spilled, partial_store, end_transaction, execute_need, execute, core_exec}
-use Rattle.tcc_serial.proofs.Names.{exec_in_phase}
-use Rattle.tcc_serial.proofs.Names.{unless_awaiting, core_evict, evict_line, is_awaited, grant, grant_in_phase, is_probed, probing_or_ready}
-use Rattle.tcc_serial.proofs.Names.{from_dir}
-use Rattle.tcc_serial.proofs.Names.{probe_reply, reply_in_phase, replied, all_replied, ready_once_replied, solo_once_replied, ignored, fill}
-use Rattle.tcc_serial.proofs.Names.{fill_awaited}
-use Rattle.tcc_serial.proofs.Names.{data_request, invalidate, acknowledged, if_violated, violated_in_phase, is_violated, words_invalidated}
-use Rattle.tcc_serial.proofs.Names.{staled, rests}
-use Rattle.tcc_serial.proofs.Names.{waits_for_tid, ◌⊎◌, TrappedWith}
+use Rattle.tcc_serial.proofs.Names.{request_line, place, overflow, full_set, miss, with_read_mark, load_valid, load_spilled, load}
+use Rattle.tcc_serial.proofs.Names.{stored_in_buffer, stored_in_frame, word_store, marks_read, change_valid, change_spilled, partial_store}
+use Rattle.tcc_serial.proofs.Names.{end_transaction, execute_need, execute, core_exec, exec_in_phase, unless_awaiting, core_evict}
+use Rattle.tcc_serial.proofs.Names.{evict_line, is_awaited, grant, grant_in_phase, is_probed, probing_or_ready, from_dir, probe_reply}
+use Rattle.tcc_serial.proofs.Names.{reply_in_phase, replied, all_replied, ready_once_replied, solo_once_replied, ignored, fill}
+use Rattle.tcc_serial.proofs.Names.{fill_awaited, data_request, invalidate, acknowledged, if_violated, violated_in_phase, is_violated}
+use Rattle.tcc_serial.proofs.Names.{words_invalidated, staled, rests, waits_for_tid, ◌⊎◌, TrappedWith}
 use Rattle.tcc_program.specs.Program.{unreserved}
 use Rattle.tcc_program.specs.Ram.{part}
 use Rattle.tcc_rules.specs.Sends.{then_send}

@@ -4,10 +4,8 @@ use Rattle.tcc_serial.proofs.Names.{if◌then◌else◌, flat_map, arith, refl, 
 use Rattle.tcc_serial.proofs.Names.{Skip, Probe, Mark, Commit, Abort, WriteBack, Flush, InvAck, Shape, home, lines, is_modified, nat_tests}
 use Rattle.tcc_serial.proofs.Names.{modified_mask, written_lines, writes_at, reads_at, dirty_copy, holds, spilled_mask, spilled_words}
 use Rattle.tcc_serial.proofs.Names.{CoreState, Sends, nothing, to, flush_of, flush_line, write_back_line, skip_all, probe_all}
-use Rattle.tcc_serial.proofs.Names.{abort_written}
-use Rattle.tcc_serial.proofs.Names.{marks_for, commit_sends, solo_sends, solo_marks_or_skip, solo_write_backs, solo_writes_at, is_written}
-use Rattle.tcc_serial.proofs.Names.{written_mask}
-use Rattle.tcc_serial.proofs.Names.{grant_sends, Kind, among, passes}
+use Rattle.tcc_serial.proofs.Names.{abort_written, marks_for, commit_sends, solo_sends, solo_marks_or_skip, solo_write_backs}
+use Rattle.tcc_serial.proofs.Names.{solo_writes_at, is_written, written_mask, grant_sends, Kind, among, passes}
 use Rattle.tcc_rules.specs.Sends.{write_back_of}
 use Rattle.tcc_serial.proofs.Counts.Links.{among-append, among-flat_map_none}
 

@@ -1,19 +1,17 @@
 -- Each event keeps the commits serial: an instruction that commits inserts its transaction, and no other event commits.
-use Rattle.tcc_serial.proofs.Names.{ℕ, ◌≡◌, ◌≤◌, ◌≢◌, true, false, List, ◌∷◌, ◌++◌, map, Option, Some, None, IsSomeAnd, refl, sym, ap}
-use Rattle.tcc_serial.proofs.Names.{subst, ◌∙◌, map-append, Noted, CoreEnd, Run, Halt, Trap, order_of_commit, last_tid, Attempt, Plain}
-use Rattle.tcc_serial.proofs.Names.{Order, Outcome, Goes, Ended, HaltedWith, TrappedWith, begun, steps, closed, end_of, transaction}
-use Rattle.tcc_serial.proofs.Names.{commit_of, serial, Local, Program, CoreState, noted, phase_after_commit, ended_after_commit}
-use Rattle.tcc_serial.proofs.Names.{insert_commit, HasEnded}
-use Rattle.tcc_serial.proofs.Names.{end_after, commits_touch, orders_core, Again, Inserted, CanInsert, times, stores_word, Aligned}
-use Rattle.tcc_serial.proofs.Names.{IsMemory, ◌<◌, Bool, ◌==◌, ◌||◌, [], Contains, arith, ◌⊎◌, inl, inr, nat_tests, Need, Loads, Stores}
-use Rattle.tcc_serial.proofs.Names.{Changes, num, line_of, writes_at, reads_at, Shape, home, Phase, Ready, Solo, World, Out, is_solo}
-use Rattle.tcc_serial.proofs.Names.{History, Uses, Agrees, NeedFits, Fits, AllStand, UsesStand, Suits, UsedAtHomes, MarkedAtHomes}
-use Rattle.tcc_serial.proofs.Names.{plain_start, Invariants, Grant, holder, pair, asks_dir, may_commit, tid_of, has_tid, live_way}
-use Rattle.tcc_serial.proofs.Names.{loads_word, AlignedNeed, EachUse, is_given_up, Untold, Ways, worked_at, IfSome, if◌then◌else◌, Core}
-use Rattle.tcc_serial.proofs.Names.{Dir, Vendor, Msg, TidReq, TidGrant, in_flight, core_exec, core_evict, from_dir, grant, Answer, Waits}
-use Rattle.tcc_serial.proofs.Names.{Drops, Asks, Takes, dir_deliver, Stepped, and_noted, recorded, next_history, step, core_moves}
-use Rattle.tcc_serial.proofs.Names.{core_takes}
-use Rattle.tcc_serial.proofs.Names.{dir_takes, dir_asks, vendor_gives, CommitsSerial, CoreSerial, CoresSerial, IsSerial, EventsKeepSerial}
+use Rattle.tcc_serial.proofs.Names.{phase_after_commit, ended_after_commit, EventsKeepSerial, order_of_commit, insert_commit, commits_touch}
+use Rattle.tcc_serial.proofs.Names.{MarkedAtHomes, if◌then◌else◌, CommitsSerial, next_history, vendor_gives, TrappedWith, transaction}
+use Rattle.tcc_serial.proofs.Names.{orders_core, stores_word, UsedAtHomes, plain_start, AlignedNeed, is_given_up, dir_deliver, CoresSerial}
+use Rattle.tcc_serial.proofs.Names.{map-append, HaltedWith, Invariants, may_commit, loads_word, core_evict, core_moves, core_takes}
+use Rattle.tcc_serial.proofs.Names.{CoreSerial, IsSomeAnd, commit_of, CoreState, end_after, CanInsert, nat_tests, writes_at, UsesStand}
+use Rattle.tcc_serial.proofs.Names.{worked_at, in_flight, core_exec, and_noted, dir_takes, last_tid, HasEnded, Inserted, IsMemory, Contains}
+use Rattle.tcc_serial.proofs.Names.{reads_at, NeedFits, AllStand, asks_dir, live_way, TidGrant, from_dir, recorded, dir_asks, IsSerial}
+use Rattle.tcc_serial.proofs.Names.{CoreEnd, Attempt, Outcome, Program, Aligned, Changes, line_of, is_solo, History, has_tid, EachUse}
+use Rattle.tcc_serial.proofs.Names.{Stepped, Option, closed, end_of, serial, Stores, Agrees, holder, tid_of, Untold, IfSome, Vendor, TidReq}
+use Rattle.tcc_serial.proofs.Names.{Answer, false, subst, Noted, Plain, Order, Ended, begun, steps, Local, noted, Again, times, arith}
+use Rattle.tcc_serial.proofs.Names.{Loads, Shape, Phase, Ready, World, Suits, Grant, grant, Waits, Drops, Takes, true, List, ◌++◌, Some}
+use Rattle.tcc_serial.proofs.Names.{None, refl, Halt, Trap, Goes, Bool, ◌==◌, ◌||◌, Need, home, Solo, Uses, Fits, pair, Ways, Core, Asks}
+use Rattle.tcc_serial.proofs.Names.{step, ◌≡◌, ◌≤◌, ◌≢◌, ◌∷◌, map, sym, ◌∙◌, Run, ◌<◌, ◌⊎◌, inl, inr, num, Out, Dir, Msg, ap, [], ℕ}
 use Rattle.tcc_serial.proofs.Counts.StepCases.{given, OfAnswer, step_cases}
 use Rattle.tcc_serial.proofs.Memory.MemorySends.{accesses_at_homes, marks_at_homes}
 use Rattle.tcc_serial.proofs.OneCore.CoreCloses.{Gives, Closing, Leaves, Stays, Closes, exec-leaves}

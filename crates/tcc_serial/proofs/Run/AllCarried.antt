@@ -1,14 +1,13 @@
 -- The whole list along every run, from what each event keeps of it; and so every run is serial.
 use Rattle.tcc_serial.proofs.Names.{◌≡◌, List, [], ◌∷◌, ◌++◌, Option, Some, None, refl, ap, subst, sym, ◌∙◌, append_assoc, append-nil}
 use Rattle.tcc_serial.proofs.Names.{Program, Event, Shape, History, next_history, and_then, run_from, Views, views_after, views_from}
-use Rattle.tcc_serial.proofs.Names.{granted_by}
-use Rattle.tcc_serial.proofs.Names.{grants_from, Ways, sent_by, ways_after, ways_from, ℕ, flat_map, inl, serial, Local, is_skipped}
-use Rattle.tcc_serial.proofs.Names.{first_serving, empty_cache, no_lines, Copy, seen, home_copy, copies, copies_of, copies_on, newest}
-use Rattle.tcc_serial.proofs.Names.{numbers, core_start, dir_start, vendor_start, start, ReadFits, CoresSerial, SeenSerial, plain_start}
-use Rattle.tcc_serial.proofs.Names.{live, Carried, StartHasAll, first_state, marks_of, pair, first_ways, run, HomeWords, CopiesAbove}
-use Rattle.tcc_serial.proofs.Names.{UnmodifiedWords, FilledWords, CopiesHave, value_at, after_commits, start-follows, IfSome, Plain}
-use Rattle.tcc_serial.proofs.Names.{no_views, Suits, AllHold, IsSerialExecution, RunsAreSerial, CarriedInMemory, CarriedViews, Invariants}
-use Rattle.tcc_serial.proofs.Names.{Grant, IsSerial, ViewedWords, HaltedUsesNone}
+use Rattle.tcc_serial.proofs.Names.{granted_by, grants_from, Ways, sent_by, ways_after, ways_from, ℕ, flat_map, inl, serial, Local}
+use Rattle.tcc_serial.proofs.Names.{is_skipped, first_serving, empty_cache, no_lines, Copy, seen, home_copy, copies, copies_of, copies_on}
+use Rattle.tcc_serial.proofs.Names.{newest, numbers, core_start, dir_start, vendor_start, start, ReadFits, CoresSerial, SeenSerial}
+use Rattle.tcc_serial.proofs.Names.{plain_start, live, Carried, StartHasAll, first_state, marks_of, pair, first_ways, run, HomeWords}
+use Rattle.tcc_serial.proofs.Names.{CopiesAbove, UnmodifiedWords, FilledWords, CopiesHave, value_at, after_commits, start-follows, IfSome}
+use Rattle.tcc_serial.proofs.Names.{Plain, no_views, Suits, AllHold, IsSerialExecution, RunsAreSerial, CarriedInMemory, CarriedViews}
+use Rattle.tcc_serial.proofs.Names.{Invariants, Grant, IsSerial, ViewedWords, HaltedUsesNone}
 use Rattle.tcc_serial.specs.KeepsHomes.{HomesHold}
 use Rattle.tcc_serial.proofs.Memory.InMemoryKept.{start-memory}
 use Rattle.tcc_serial.proofs.Order.SerialSteps.{events_serial}

@@ -3,8 +3,7 @@ use Rattle.tcc_serial.proofs.Names.{ℕ, List, [], ◌++◌, Option, Some, None,
 use Rattle.tcc_serial.proofs.Names.{and_noted, recorded, run_from, run, KeptHomes, KeptLineOwners, KeptLoading, KeptAfter, first_state}
 use Rattle.tcc_serial.proofs.Names.{KeptAll, KeptTold, OneMark, Grant, granted_by, grants_from, ◌<◌, ◌≡◌, true, false, ◌∷◌, sym}
 use Rattle.tcc_serial.proofs.Names.{append_assoc, append-nil, start, next_history, and_then, KeptTags, KeptGets, KeptSharers, is_applied}
-use Rattle.tcc_serial.proofs.Names.{stores_at}
-use Rattle.tcc_serial.proofs.Names.{Noted, KeptRun, then_grants, Ways, ways_after, sent_by, then_ways, ways_from, first_ways}
+use Rattle.tcc_serial.proofs.Names.{stores_at, Noted, KeptRun, then_grants, Ways, ways_after, sent_by, then_ways, ways_from, first_ways}
 use Rattle.tcc_serial.proofs.Copies.CopyFacts.{start-lines}
 use Rattle.tcc_serial.proofs.Copies.LinesKept.{KeptLines}
 use Rattle.tcc_serial.proofs.Copies.LinesStep.{step-lines}

@@ -1,8 +1,7 @@
 -- What a core sends a Commit of is what it notes the commit of.
-use Rattle.tcc_serial.proofs.Names.{ℕ, ◌≡◌, ◌≤◌, List, ◌==◌, IfSome, arith, refl, nat_tests, Program, num, Dir, Msg, Shape, Cache}
-use Rattle.tcc_serial.proofs.Names.{Spilled, CoreState, Out, commit, commit_sends, noted, solo_sends, solo_marks_or_skip, solo_write_backs}
-use Rattle.tcc_serial.proofs.Names.{core_exec}
-use Rattle.tcc_serial.proofs.Names.{core_evict, grant, from_dir, Commits, AnyCommit, among, passes, solo_commit}
+use Rattle.tcc_serial.proofs.Names.{ℕ, ◌≡◌, ◌≤◌, List, ◌==◌, IfSome, arith, refl, nat_tests, Program, num, Dir, Msg, Shape, Cache, Spilled}
+use Rattle.tcc_serial.proofs.Names.{CoreState, Out, commit, commit_sends, noted, solo_sends, solo_marks_or_skip, solo_write_backs}
+use Rattle.tcc_serial.proofs.Names.{core_exec, core_evict, grant, from_dir, Commits, AnyCommit, among, passes, solo_commit}
 use Rattle.tcc_serial.proofs.Serving.CoreCommits.{heard-free, granted-free}
 use Rattle.tcc_serial.proofs.Counts.Links.{among-append, among-fewer, among-flat_map_none}
 use Rattle.tcc_serial.proofs.Tids.CoreOwners.{noted_tid}

@@ -4,13 +4,11 @@ use Rattle.tcc_serial.proofs.Names.{inl, inr, cases_order, nat_tests, Program, L
 use Rattle.tcc_serial.proofs.Names.{Link, start, in_flight, Sends, Out, core_exec, core_evict, from_dir, grant, Answer, Waits, Drops, Asks}
 use Rattle.tcc_serial.proofs.Names.{Takes, dir_deliver, core_moves, core_takes, dir_takes, Stepped, step, History, and_noted, recorded}
 use Rattle.tcc_serial.proofs.Names.{next_history, and_then, run_from, run, Resolves, Commits, CommitsAbove, live, passes, Pair, pair}
-use Rattle.tcc_serial.proofs.Names.{after_move}
-use Rattle.tcc_serial.proofs.Names.{grant_taken, back_taken, after_answer, out_taken, share, part, handled, Kept, Always, CommittingOf}
-use Rattle.tcc_serial.proofs.Names.{KeptCommitting, CommitsAreServed, true, ◌++◌, Contains, sym, ap, ◌∙◌, cases_lt, append-nil}
-use Rattle.tcc_serial.proofs.Names.{Contains-append_left, Contains-append_cases, Noted, CoreState, Phase, Running, AwaitTid, DoomedTid}
-use Rattle.tcc_serial.proofs.Names.{Probing, Ready, Overflowing, Solo, Halted, sent_all, grant_in_phase, dir_asks, vendor_gives, Invs}
-use Rattle.tcc_serial.proofs.Names.{InvsNot}
-use Rattle.tcc_serial.proofs.Names.{Acks, among, due, KeptTold, Grant, granted_by, IsNumbered, holder, KeptOwners, SparedOf}
+use Rattle.tcc_serial.proofs.Names.{after_move, grant_taken, back_taken, after_answer, out_taken, share, part, handled, Kept, Always}
+use Rattle.tcc_serial.proofs.Names.{CommittingOf, KeptCommitting, CommitsAreServed, true, ◌++◌, Contains, sym, ap, ◌∙◌, cases_lt}
+use Rattle.tcc_serial.proofs.Names.{append-nil, Contains-append_left, Contains-append_cases, Noted, CoreState, Phase, Running, AwaitTid}
+use Rattle.tcc_serial.proofs.Names.{DoomedTid, Probing, Ready, Overflowing, Solo, Halted, sent_all, grant_in_phase, dir_asks, vendor_gives}
+use Rattle.tcc_serial.proofs.Names.{Invs, InvsNot, Acks, among, due, KeptTold, Grant, granted_by, IsNumbered, holder, KeptOwners, SparedOf}
 use Rattle.tcc_serial.proofs.Names.{SparesCommitter, cases_eq}
 use Rattle.tcc_serial.proofs.Counts.Links.{live-sends, live-takes, total-le, live-fewer}
 use Rattle.tcc_serial.proofs.Counts.StepCases.{pairs_move, pairs_grant, pairs_back, pairs_dir, pairs_asks, pairs_vendor, OfAnswer}

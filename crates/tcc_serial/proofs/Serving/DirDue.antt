@@ -1,11 +1,10 @@
 -- What a directory's rules do to what it is owed and to what it sends about marked lines.
-use Rattle.tcc_serial.proofs.Names.{ℕ, zero, suc, ◌+◌, ◌-◌, ◌≡◌, ◌≤◌, ◌%◌, Bool, true, false, not, List, [], ◌∷◌, ◌==◌, cond}
-use Rattle.tcc_serial.proofs.Names.{if◌then◌else◌, flat_map, arith, refl, ◌⊎◌, inl, inr, nat_tests, flat_map-append, num, count_below}
-use Rattle.tcc_serial.proofs.Names.{those, Lines, has_mark, advance, kept, Core, Msg, Fill, Skip, ProbeReply, Commit, Abort, DataReq, Inv}
-use Rattle.tcc_serial.proofs.Names.{Shape, home, lines, DirState, Sends, nothing, sum_below, Answer, Waits, Drops, Asks, Takes, dir_deliver}
+use Rattle.tcc_serial.proofs.Names.{ℕ, zero, suc, ◌+◌, ◌-◌, ◌≡◌, ◌≤◌, ◌%◌, Bool, true, false, not, List, [], ◌∷◌, ◌==◌, cond, if◌then◌else◌}
+use Rattle.tcc_serial.proofs.Names.{flat_map, arith, refl, ◌⊎◌, inl, inr, nat_tests, flat_map-append, num, count_below, those, Lines}
+use Rattle.tcc_serial.proofs.Names.{has_mark, advance, kept, Core, Msg, Fill, Skip, ProbeReply, Commit, Abort, DataReq, Inv, Shape, home}
+use Rattle.tcc_serial.proofs.Names.{lines, DirState, Sends, nothing, sum_below, Answer, Waits, Drops, Asks, Takes, dir_deliver}
 use Rattle.tcc_serial.proofs.Names.{invalidation_count, invalidations, invs_to, is_invalidated, home_words, Invs, InvsNot, InvsAway, Acks}
-use Rattle.tcc_serial.proofs.Names.{MarksAway}
-use Rattle.tcc_serial.proofs.Names.{Resolves, among, passes}
+use Rattle.tcc_serial.proofs.Names.{MarksAway, Resolves, among, passes}
 use Rattle.tcc_serial.proofs.Counts.DirOutcome.{Outcome, Waiting, Spent, AsksOwner, TakesSkip, TakesAbort, TakesProbe, TakesLoad, TakesMark}
 use Rattle.tcc_serial.proofs.Counts.DirOutcome.{TakesCommit, TakesAck, TakesCopy, IsSpent, NoneOwed, CopyPassed, outcome, among-none}
 use Rattle.tcc_serial.proofs.Counts.DirOutcome.{none-to}

@@ -8,8 +8,7 @@ use Rattle.tcc_serial.proofs.Names.{Pair, pair, after_move, grant_taken, back_ta
 use Rattle.tcc_serial.proofs.Names.{after_other_grant, share, KeptTids, due, OwedAt, AtHomeOf, KeptOwed, Running, core_start, RepliesAbove}
 use Rattle.tcc_serial.proofs.Names.{Reached, ReachedOf, KeptProbes, [], ◌∷◌, Program, Serving, Event, core_exec, core_evict, grant, Answer}
 use Rattle.tcc_serial.proofs.Names.{Waits, Drops, Asks, Takes, dir_deliver, Stepped, step, History, and_noted, recorded, next_history}
-use Rattle.tcc_serial.proofs.Names.{and_then}
-use Rattle.tcc_serial.proofs.Names.{run_from, run, Resolves, handled, KeptTold, Kept}
+use Rattle.tcc_serial.proofs.Names.{and_then, run_from, run, Resolves, handled, KeptTold, Kept}
 use Rattle.tcc_serial.proofs.Counts.Inside.{AnswersInside, dir-inside}
 use Rattle.tcc_serial.proofs.Counts.Links.{live-sends, live-takes, total-le, total-zero, live-fewer, none-taken}
 use Rattle.tcc_serial.proofs.Counts.StepCases.{same, differ, given, pairs_move, pairs_grant, pairs_back, pairs_dir, pairs_asks}

@@ -4,9 +4,8 @@ use Rattle.tcc_serial.proofs.Names.{arith, refl, ap₂, nat_tests, Program, Loca
 use Rattle.tcc_serial.proofs.Names.{DataReq, Inv, Shape, writes_at, reads_at, any_below-at, CoreState, World, Phase, Running, AwaitTid}
 use Rattle.tcc_serial.proofs.Names.{DoomedTid, Probing, Ready, Overflowing, Solo, start, core_start, Out, commit, committed_core}
 use Rattle.tcc_serial.proofs.Names.{phase_after_commit, core_exec, core_evict, from_dir, grant, grant_in_phase, is_probed, probing_or_ready}
-use Rattle.tcc_serial.proofs.Names.{all_replied, fill}
-use Rattle.tcc_serial.proofs.Names.{data_request, invalidate, probe_reply, Answer, Waits, dir_deliver, core_moves, core_takes, dir_takes}
-use Rattle.tcc_serial.proofs.Names.{dir_asks, vendor_gives, step, OwingFits, awaits_replies, asks_dir, solo_commit}
+use Rattle.tcc_serial.proofs.Names.{all_replied, fill, data_request, invalidate, probe_reply, Answer, Waits, dir_deliver, core_moves}
+use Rattle.tcc_serial.proofs.Names.{core_takes, dir_takes, dir_asks, vendor_gives, step, OwingFits, awaits_replies, asks_dir, solo_commit}
 use Rattle.tcc_maps.specs.Words.{put}
 use Rattle.tcc_serial.proofs.OneCore.CoreProbes.{none-below, all-replied}
 use Rattle.tcc_serial.proofs.OneCore.CoreSteps.{reads_at-same, fill-steady, data-steady, Hurt, Unhurt, Rolled, Doomed, Aborted, Gave_up}

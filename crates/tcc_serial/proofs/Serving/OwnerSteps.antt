@@ -1,15 +1,14 @@
 -- Each kind of event keeps who has which TID, and the list of commits.
-use Rattle.tcc_serial.proofs.Names.{ℕ, ◌+◌, ◌≡◌, ◌<◌, ◌≤◌, ◌==◌, false, List, [], ◌∷◌, ◌++◌, Contains, Option, Some, None, IfSome}
-use Rattle.tcc_serial.proofs.Names.{slice_index_or, nat_le, arith, refl, sym, ap, subst, append_assoc, ◌∙◌, ◌⊎◌, inl, inr, cases_eq}
-use Rattle.tcc_serial.proofs.Names.{nat_tests, append-nil, length-append, Contains-append_left, Contains-append_right, Noted, Program}
-use Rattle.tcc_serial.proofs.Names.{Local, num, Core, Dir, Vendor, TidReq, TidGrant, Event, Shape, DirState, World, start, core_start}
-use Rattle.tcc_serial.proofs.Names.{vendor_start, in_flight, Sends, Out, core_exec, core_evict, from_dir, grant, Answer, Waits, Drops, Asks}
-use Rattle.tcc_serial.proofs.Names.{Takes, dir_deliver, core_moves, core_takes, dir_takes, dir_asks, vendor_gives, Stepped, step, History}
-use Rattle.tcc_serial.proofs.Names.{and_noted, recorded, next_history, and_then, run_from, run, Grants, live, among, passes, Pair, pair}
-use Rattle.tcc_serial.proofs.Names.{after_move}
-use Rattle.tcc_serial.proofs.Names.{grant_taken, after_grant, after_other_grant, share, sum_of, has_tid, KeptTids, Grant, granted_by}
-use Rattle.tcc_serial.proofs.Names.{then_grants, grants_from, IsNumbered, IsRising, AreGranted, times, holder, KeptOwners, Kept, Bool, true}
-use Rattle.tcc_serial.proofs.Names.{Contains-append_cases, Msg, Link, Phase, AsksTid, AnyGrant, waits_for_tid, RequestOf, LastGranted}
+use Rattle.tcc_serial.proofs.Names.{Contains-append_right, Contains-append_cases, Contains-append_left, after_other_grant, slice_index_or}
+use Rattle.tcc_serial.proofs.Names.{length-append, waits_for_tid, append_assoc, vendor_start, vendor_gives, next_history, dir_deliver}
+use Rattle.tcc_serial.proofs.Names.{grant_taken, after_grant, then_grants, grants_from, LastGranted, append-nil, core_start, core_evict}
+use Rattle.tcc_serial.proofs.Names.{core_moves, core_takes, after_move, granted_by, IsNumbered, AreGranted, KeptOwners, nat_tests}
+use Rattle.tcc_serial.proofs.Names.{in_flight, core_exec, dir_takes, and_noted, RequestOf, Contains, cases_eq, TidGrant, DirState, from_dir}
+use Rattle.tcc_serial.proofs.Names.{dir_asks, recorded, and_then, run_from, KeptTids, IsRising, AnyGrant, Program, Stepped, History}
+use Rattle.tcc_serial.proofs.Names.{has_tid, AsksTid, Option, IfSome, nat_le, Vendor, TidReq, Answer, Grants, passes, sum_of, holder, false}
+use Rattle.tcc_serial.proofs.Names.{arith, subst, Noted, Local, Event, Shape, World, start, Sends, grant, Waits, Drops, Takes, among, share}
+use Rattle.tcc_serial.proofs.Names.{Grant, times, Phase, ◌==◌, List, ◌++◌, Some, None, refl, Core, Asks, step, live, Pair, pair, Kept, Bool}
+use Rattle.tcc_serial.proofs.Names.{true, Link, ◌+◌, ◌≡◌, ◌<◌, ◌≤◌, ◌∷◌, sym, ◌∙◌, ◌⊎◌, inl, inr, num, Dir, Out, run, Msg, [], ap, ℕ}
 use Rattle.tcc_serial.proofs.Counts.Links.{live-sends, live-takes, total-le, total-zero, total-same, live-fewer}
 use Rattle.tcc_serial.proofs.Counts.StepCases.{OfAnswer, step_cases, given, pairs_move, pairs_grant, pairs_back, pairs_vendor, sum_move}
 use Rattle.tcc_serial.proofs.Counts.StepCases.{sum_grant, sum_back, sum_back_away, sum_vendor, pairs_dir, pairs_asks}

@@ -1,14 +1,13 @@
 -- Every event keeps that one probe or reply is in flight for each directory that owes one, and of whose TID it is.
-use Rattle.tcc_serial.proofs.Names.{ℕ, ◌+◌, ◌≡◌, ◌≤◌, ◌==◌, List, [], ◌∷◌, ◌++◌, Contains, Option, Some, None, IfSome, arith, refl, sym}
-use Rattle.tcc_serial.proofs.Names.{◌⊎◌, inl, inr, cases_eq, nat_tests, append-nil, Contains-append_left, Noted, Program, Local, num, Core}
-use Rattle.tcc_serial.proofs.Names.{Dir, Vendor, Event, Msg, TidGrant, Fill, ProbeReply, DataReq, Inv, Shape, CoreState, World, start}
-use Rattle.tcc_serial.proofs.Names.{in_flight, sent_all, Out, core_exec, core_evict, from_dir, grant, ignored, fill, data_request}
-use Rattle.tcc_serial.proofs.Names.{invalidate, probe_reply, marks_for, Answer, Waits, Drops, Asks, Takes, dir_deliver, core_moves}
-use Rattle.tcc_serial.proofs.Names.{core_takes, step, Grants, Probes, Replies, live, among, passes, Kept, Grant, granted_by, holder}
-use Rattle.tcc_serial.proofs.Names.{KeptOwners, Pair, pair, Bool, true, false, nat_le, slice_index_or, if◌then◌else◌, ap, subst, ◌∙◌, put}
-use Rattle.tcc_serial.proofs.Names.{DirState, Phase, Probing, Ready, Overflowing, Solo, Sends, all_replied, dir_takes, after_move}
-use Rattle.tcc_serial.proofs.Names.{grant_taken, back_taken, after_answer, out_taken, after_grant, after_other_grant, has_tid, OneCore}
-use Rattle.tcc_serial.proofs.Names.{KeptCores}
+use Rattle.tcc_serial.proofs.Names.{Contains-append_left, after_other_grant, slice_index_or, if◌then◌else◌, data_request, after_answer}
+use Rattle.tcc_serial.proofs.Names.{probe_reply, dir_deliver, Overflowing, all_replied, grant_taken, after_grant, append-nil, ProbeReply}
+use Rattle.tcc_serial.proofs.Names.{core_evict, invalidate, core_moves, core_takes, granted_by, KeptOwners, after_move, back_taken}
+use Rattle.tcc_serial.proofs.Names.{nat_tests, CoreState, in_flight, core_exec, marks_for, dir_takes, out_taken, KeptCores, Contains}
+use Rattle.tcc_serial.proofs.Names.{cases_eq, TidGrant, sent_all, from_dir, DirState, Program, DataReq, ignored, Replies, Probing, has_tid}
+use Rattle.tcc_serial.proofs.Names.{OneCore, Option, IfSome, Vendor, Answer, Grants, Probes, passes, holder, nat_le, arith, Noted, Local}
+use Rattle.tcc_serial.proofs.Names.{Event, Shape, World, start, grant, Waits, Drops, Takes, among, Grant, false, subst, Phase, Ready, Sends}
+use Rattle.tcc_serial.proofs.Names.{◌==◌, List, ◌++◌, Some, None, refl, Core, Fill, fill, Asks, step, live, Kept, Pair, pair, Bool, true}
+use Rattle.tcc_serial.proofs.Names.{Solo, ◌+◌, ◌≡◌, ◌≤◌, ◌∷◌, sym, ◌⊎◌, inl, inr, num, Dir, Msg, Inv, Out, ◌∙◌, put, [], ap, ℕ}
 use Rattle.tcc_serial.specs.Probing.{ProbingOf, KeptProbing}
 use Rattle.tcc_serial.proofs.Counts.Links.{live-sends, live-takes}
 use Rattle.tcc_serial.proofs.Counts.StepCases.{pairs_move, pairs_grant, pairs_back, pairs_dir, pairs_asks, pairs_vendor, OfAnswer}

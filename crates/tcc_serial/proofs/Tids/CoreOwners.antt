@@ -2,8 +2,7 @@
 use Rattle.tcc_serial.proofs.Names.{ℕ, ◌+◌, ◌≡◌, ◌≤◌, true, ◌==◌, Option, Some, None, IfSome, arith, refl, nat_tests, Noted, Program, num}
 use Rattle.tcc_serial.proofs.Names.{any_below, Msg, Shape, CoreState, Phase, AwaitTid, DoomedTid, Overflowing, Out, commit, committed_core}
 use Rattle.tcc_serial.proofs.Names.{noted, phase_after_commit, core_exec, core_evict, grant, grant_in_phase, from_dir, is_probed, ignored}
-use Rattle.tcc_serial.proofs.Names.{has_tid}
-use Rattle.tcc_serial.proofs.Names.{solo_commit}
+use Rattle.tcc_serial.proofs.Names.{has_tid, solo_commit}
 use Rattle.tcc_serial.proofs.Tids.CoreProbing.{tid-after, tid-probing}
 use Rattle.tcc_serial.proofs.OneCore.Outcomes.{Commits_now, Did, each-exec, out, each-evict, Ends_alone, Heard, Last_probing, Last_room}
 use Rattle.tcc_serial.proofs.OneCore.Outcomes.{after_end, each-back, heard}

@@ -4,8 +4,7 @@ use Rattle.tcc_serial.proofs.Names.{ap, ◌∙◌, nat_tests, Program, Outcome, 
 use Rattle.tcc_serial.proofs.Names.{modified_mask, written_lines, CoreState, Phase, Running, AwaitTid, DoomedTid, Overflowing, to}
 use Rattle.tcc_serial.proofs.Names.{marks_for, probe_all, Out, commit, committed_core, phase_after_commit, core_exec, core_evict, grant}
 use Rattle.tcc_serial.proofs.Names.{grant_in_phase, grant_sends, is_probed, probing_or_ready, Probes, Protocol, among, passes, has_tid}
-use Rattle.tcc_serial.proofs.Names.{waits_for_tid}
-use Rattle.tcc_serial.proofs.Names.{moves, solo_commit}
+use Rattle.tcc_serial.proofs.Names.{waits_for_tid, moves, solo_commit}
 use Rattle.tcc_serial.proofs.Counts.Links.{among-append, among-fewer, among-flat_map_none}
 use Rattle.tcc_serial.proofs.OneCore.Executes.{Steady}
 use Rattle.tcc_serial.proofs.OneCore.CoreSteps.{Hurt, Unhurt, Rolled, Doomed, Aborted, Gave_up, Invalidated, steady-emptied}

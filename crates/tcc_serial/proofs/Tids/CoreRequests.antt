@@ -3,8 +3,7 @@ use Rattle.tcc_serial.proofs.Names.{arith, nat_tests, ℕ, ◌+◌, ◌≡◌, B
 use Rattle.tcc_serial.proofs.Names.{any_below, Vendor, Msg, Shape, CoreState, Phase, AwaitTid, DoomedTid, Overflowing, skip_all, probe_all}
 use Rattle.tcc_serial.proofs.Names.{Out, commit, committed_core, commit_sends, phase_after_commit, solo_sends, core_exec, core_evict, grant}
 use Rattle.tcc_serial.proofs.Names.{grant_in_phase, grant_sends, from_dir, probing_or_ready, is_probed, among, passes, waits_for_tid}
-use Rattle.tcc_serial.proofs.Names.{abort_written}
-use Rattle.tcc_serial.proofs.Names.{flush_line, solo_commit}
+use Rattle.tcc_serial.proofs.Names.{abort_written, flush_line, solo_commit}
 use Rattle.tcc_serial.specs.Count.{Asks}
 use Rattle.tcc_serial.proofs.OneCore.Executes.{Steady}
 use Rattle.tcc_serial.proofs.OneCore.CoreSteps.{steady-emptied}

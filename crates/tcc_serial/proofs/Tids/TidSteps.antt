@@ -1,16 +1,14 @@
 -- Each kind of event keeps the invariants.
-use Rattle.tcc_serial.proofs.Names.{ℕ, ◌+◌, ◌≡◌, ◌<◌, ◌≤◌, Bool, true, false, List, [], ◌∷◌, ◌==◌, Some, None, nat_le, slice_index_or}
-use Rattle.tcc_serial.proofs.Names.{arith, refl, sym, subst, ◌⊎◌, inl, inr, cases_lt, cases_eq, nat_tests, Local, first_serving, no_lines}
-use Rattle.tcc_serial.proofs.Names.{first-skips, num, Core, Dir, Vendor, Msg, TidReq, TidGrant, Shape, DirState, World, Link, start}
-use Rattle.tcc_serial.proofs.Names.{core_start, dir_start, vendor_start, in_flight, Sends, Out, grant, sum_below, core_moves, core_takes}
-use Rattle.tcc_serial.proofs.Names.{dir_takes, dir_asks, vendor_gives, Kind, AsksTid, Grants, AnyGrant, Resolves, Any, live, among, passes}
-use Rattle.tcc_serial.proofs.Names.{Pair, pair, after_move, grant_taken, back_taken, after_answer, out_taken, after_grant}
-use Rattle.tcc_serial.proofs.Names.{after_other_grant, share, waits_for_tid, opens, part, handled, ResolvedAt, RequestOf, InsideOf}
-use Rattle.tcc_serial.proofs.Names.{KeptTids}
+use Rattle.tcc_serial.proofs.Names.{after_other_grant, slice_index_or, first_serving, waits_for_tid, vendor_start, vendor_gives}
+use Rattle.tcc_serial.proofs.Names.{after_answer, first-skips, grant_taken, after_grant, core_start, core_moves, core_takes, after_move}
+use Rattle.tcc_serial.proofs.Names.{back_taken, ResolvedAt, nat_tests, dir_start, in_flight, sum_below, dir_takes, out_taken, RequestOf}
+use Rattle.tcc_serial.proofs.Names.{cases_lt, cases_eq, no_lines, TidGrant, DirState, dir_asks, AnyGrant, Resolves, InsideOf, KeptTids}
+use Rattle.tcc_serial.proofs.Names.{AsksTid, handled, nat_le, Vendor, TidReq, Grants, passes, false, arith, subst, Local, Shape, World}
+use Rattle.tcc_serial.proofs.Names.{start, Sends, grant, among, share, opens, Bool, true, List, ◌==◌, Some, None, refl, Core, Link, Kind}
+use Rattle.tcc_serial.proofs.Names.{live, Pair, pair, part, ◌+◌, ◌≡◌, ◌<◌, ◌≤◌, ◌∷◌, sym, ◌⊎◌, inl, inr, num, Dir, Msg, Out, Any, [], ℕ}
 use Rattle.tcc_serial.proofs.Counts.Links.{live-sends, live-takes, total-le, total-zero}
-use Rattle.tcc_serial.proofs.Counts.StepCases.{same, differ, given, pairs_move, pairs_grant, pairs_back, pairs_dir, pairs_asks}
-use Rattle.tcc_serial.proofs.Counts.StepCases.{pairs_vendor, sum_move, sum_grant, sum_back, sum_back_away, sum_dir, sum_dir_away, sum_asks}
-use Rattle.tcc_serial.proofs.Counts.StepCases.{sum_vendor}
+use Rattle.tcc_serial.proofs.Counts.StepCases.{sum_back_away, pairs_vendor, sum_dir_away, pairs_grant, pairs_move, pairs_back, pairs_asks}
+use Rattle.tcc_serial.proofs.Counts.StepCases.{sum_vendor, pairs_dir, sum_grant, sum_move, sum_back, sum_asks, sum_dir, differ, given, same}
 use Rattle.tcc_serial.proofs.Tids.CoreRequests.{KeepsRequests, requests-grant}
 use Rattle.tcc_serial.proofs.Tids.CoreTids.{KeepsPart, part-grant}
 

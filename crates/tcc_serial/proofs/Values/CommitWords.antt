@@ -5,8 +5,7 @@ use Rattle.tcc_serial.proofs.Names.{unwrap_or, get_or, if◌then◌else◌, arit
 use Rattle.tcc_serial.proofs.Names.{place_of, word_at, has, hit, Dir, Skip, Mark, Commit, WriteBack, Shape, Cache, IsCache, committed}
 use Rattle.tcc_serial.proofs.Names.{words_dropped, Spilled, spilled_mask, spilled_words, has-mask_of, CoreState, Out, is_solo, noted}
 use Rattle.tcc_serial.proofs.Names.{committed_core, commit, solo_sends, solo_marks_or_skip, solo_write_backs, core_exec, Kind, CopyWord}
-use Rattle.tcc_serial.proofs.Names.{CopyNot, among}
-use Rattle.tcc_serial.proofs.Names.{passes, mark, skip}
+use Rattle.tcc_serial.proofs.Names.{CopyNot, among, passes, mark, skip}
 use Rattle.tcc_serial.proofs.Copies.CopySends.{commit-copies}
 use Rattle.tcc_serial.proofs.Counts.Links.{among-append, among-flat_map_none}
 use Rattle.tcc_serial.proofs.Values.WordCopies.{among-words, among-others, at-place, get-eight}

@@ -4,11 +4,10 @@ use Rattle.tcc_serial.proofs.Names.{nat_lt, get_or, arith, refl, sym, ap, subst,
 use Rattle.tcc_serial.proofs.Names.{line_of, Core, Dir, Vendor, Msg, LoadReq, Fill, Commit, Event, Shape, home, Awaited, CoreState}
 use Rattle.tcc_serial.proofs.Names.{DirState, Phase, Ready, Solo, World, Out, is_solo, noted, from_dir, grant, core_evict, is_awaited}
 use Rattle.tcc_serial.proofs.Names.{core_exec, dir_deliver, in_flight, History, Stepped, step, next_history, recorded, and_noted}
-use Rattle.tcc_serial.proofs.Names.{insert_commit}
-use Rattle.tcc_serial.proofs.Names.{core_moves, core_takes, Uses, sees, Suits, LoadingOf, LinesAway, LoadOf, InvWord, Commits, live, passes}
-use Rattle.tcc_serial.proofs.Names.{Carried, Invariants, executes, Grant, granted_by, Pair, pair, after_move, back_taken, grant_taken}
-use Rattle.tcc_serial.proofs.Names.{after_grant, after_other_grant, is_applied, CommitsStand, stores_word, after_stores, counts, value_at}
-use Rattle.tcc_serial.proofs.Names.{UnmodifiedWords, FilledWords, Ways, ways_after, sent_by, Contains}
+use Rattle.tcc_serial.proofs.Names.{insert_commit, core_moves, core_takes, Uses, sees, Suits, LoadingOf, LinesAway, LoadOf, InvWord}
+use Rattle.tcc_serial.proofs.Names.{Commits, live, passes, Carried, Invariants, executes, Grant, granted_by, Pair, pair, after_move}
+use Rattle.tcc_serial.proofs.Names.{back_taken, grant_taken, after_grant, after_other_grant, is_applied, CommitsStand, stores_word}
+use Rattle.tcc_serial.proofs.Names.{after_stores, counts, value_at, UnmodifiedWords, FilledWords, Ways, ways_after, sent_by, Contains}
 use Rattle.tcc_serial.specs.KeepsWords.{EventsKeepWords}
 use Rattle.tcc_serial.proofs.Counts.StepCases.{either, moves-own, moves-other, pairs_move, pairs_grant, pairs_back, pairs_vendor, OfAnswer}
 use Rattle.tcc_serial.proofs.Counts.StepCases.{node_cases}

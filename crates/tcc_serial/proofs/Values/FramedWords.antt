@@ -6,12 +6,11 @@ use Rattle.tcc_serial.proofs.Names.{live, among, passes, CommitsInMemory, Pair, 
 use Rattle.tcc_serial.proofs.Names.{stores_at, stores_word, counts, value_at, is_stale, zero, suc, ◌==◌, [], ◌∷◌, get_or, nat_le, set}
 use Rattle.tcc_serial.proofs.Names.{if◌then◌else◌, ap, subst, ◌∙◌, eight, has_mark, with_asked, Fill, DataReq, in_flight, Sends, to, Answer}
 use Rattle.tcc_serial.proofs.Names.{Waits, Drops, Asks, Takes, ask_owner, home_words, load_unless_owned, load_request, dir_takes, dir_asks}
-use Rattle.tcc_serial.proofs.Names.{◌+◌}
-use Rattle.tcc_serial.proofs.Names.{cond, nat_lt, flat_map, sym, cases_eq, flat_map-append, those, count_below, Lines, has, hit, mask_of}
-use Rattle.tcc_serial.proofs.Names.{Commit, Inv, lines, has-mask_of, Awaited, moved_on_if_settled, owned_by_committer, invalidation_count}
-use Rattle.tcc_serial.proofs.Names.{invalidations, invs_to}
-use Rattle.tcc_serial.proofs.Names.{is_invalidated, CommitsAreServed, KeptLoading, KeptSharers, CommitsLine, SharerOf, holds_line, is_fresh}
-use Rattle.tcc_serial.proofs.Names.{Kind, LoadOf, KeptCounted, IsRising, stores_in, stored_mask, SettledCommit, KeptStored}
+use Rattle.tcc_serial.proofs.Names.{◌+◌, cond, nat_lt, flat_map, sym, cases_eq, flat_map-append, those, count_below, Lines, has, hit}
+use Rattle.tcc_serial.proofs.Names.{mask_of, Commit, Inv, lines, has-mask_of, Awaited, moved_on_if_settled, owned_by_committer}
+use Rattle.tcc_serial.proofs.Names.{invalidation_count, invalidations, invs_to, is_invalidated, CommitsAreServed, KeptLoading, KeptSharers}
+use Rattle.tcc_serial.proofs.Names.{CommitsLine, SharerOf, holds_line, is_fresh, Kind, LoadOf, KeptCounted, IsRising, stores_in}
+use Rattle.tcc_serial.proofs.Names.{stored_mask, SettledCommit, KeptStored}
 use Rattle.tcc_rules.specs.DirDeliver.{dir_commit}
 use Rattle.tcc_serial.proofs.Counts.Links.{live-sends, live-fewer, among-fewer, num-same, live-takes, among-append}
 use Rattle.tcc_serial.proofs.Counts.StepCases.{same, either, dir-own, dir-other, pairs_dir, pairs_asks, differ, OfAnswer}

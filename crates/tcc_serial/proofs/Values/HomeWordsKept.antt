@@ -2,12 +2,11 @@
 use Rattle.tcc_serial.proofs.Names.{ℕ, ◌≡◌, Noted, ◌<◌, ◌++◌, List, Option, Some, None, IfSome, refl, inl, inr, Plain, Local, Program, Dir}
 use Rattle.tcc_serial.proofs.Names.{Event, Shape, CoreState, World, Out, core_exec, core_evict, from_dir, dir_deliver, History, Stepped}
 use Rattle.tcc_serial.proofs.Names.{step, next_history, recorded, and_noted, core_moves, core_takes, Uses, Suits, Carried, Invariants}
-use Rattle.tcc_serial.proofs.Names.{Grant}
-use Rattle.tcc_serial.proofs.Names.{granted_by, Ways, ways_after, sent_by, zero, suc, ◌||◌, Bool, true, false, cond, is_some, unwrap_or}
-use Rattle.tcc_serial.proofs.Names.{arith, ap, sym, subst, ◌∙◌, nat_tests, num, line_of, Core, home, lines, DirState, noted, insert_commit}
-use Rattle.tcc_serial.proofs.Names.{sees, copies_with, AboveOf, CopyWord, CopyNot, Commits, live, among, Pair, pair, after_move, is_this}
-use Rattle.tcc_serial.proofs.Names.{is_applied, stores_word, after_stores, counts, word_copies, CopiesHave, wrote_line, Vendor, Msg}
-use Rattle.tcc_serial.proofs.Names.{in_flight, grant, CommitsStand}
+use Rattle.tcc_serial.proofs.Names.{Grant, granted_by, Ways, ways_after, sent_by, zero, suc, ◌||◌, Bool, true, false, cond, is_some}
+use Rattle.tcc_serial.proofs.Names.{unwrap_or, arith, ap, sym, subst, ◌∙◌, nat_tests, num, line_of, Core, home, lines, DirState, noted}
+use Rattle.tcc_serial.proofs.Names.{insert_commit, sees, copies_with, AboveOf, CopyWord, CopyNot, Commits, live, among, Pair, pair}
+use Rattle.tcc_serial.proofs.Names.{after_move, is_this, is_applied, stores_word, after_stores, counts, word_copies, CopiesHave, wrote_line}
+use Rattle.tcc_serial.proofs.Names.{Vendor, Msg, in_flight, grant, CommitsStand}
 use Rattle.tcc_serial.specs.KeepsHomes.{HomesHold, EventsKeepHomes}
 use Rattle.tcc_serial.proofs.Copies.TagsKept.{untagged}
 use Rattle.tcc_serial.proofs.Counts.Links.{live-sends}

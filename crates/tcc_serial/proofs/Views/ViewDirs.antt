@@ -8,8 +8,7 @@ use Rattle.tcc_serial.proofs.Names.{History, dir_takes, keeps_unmodified, holds_
 use Rattle.tcc_serial.proofs.Names.{Grant, Pair, pair, is_applied, is_this, CommitsStand, stored_mask, stores_in, MarkedCommit, stores_word}
 use Rattle.tcc_serial.proofs.Names.{counts, value_at, Ways, if◌then◌else◌, TidReq, TidGrant, Fill, ProbeReply, Commit, DataReq, Answer}
 use Rattle.tcc_serial.proofs.Names.{Waits, Drops, Asks, Takes, moved_on_if_settled, owned_by_committer, invalidation_count, dir_deliver}
-use Rattle.tcc_serial.proofs.Names.{dir_asks, Uses, out_taken, EachUse}
-use Rattle.tcc_serial.proofs.Names.{has-mask_of, CommitsLine, IsPassed}
+use Rattle.tcc_serial.proofs.Names.{dir_asks, Uses, out_taken, EachUse, has-mask_of, CommitsLine, IsPassed}
 use Rattle.tcc_rules.specs.DirDeliver.{dir_commit}
 use Rattle.tcc_serial.proofs.Counts.Links.{among-append, live-takes}
 use Rattle.tcc_serial.proofs.Counts.StepCases.{same, dir-own, dir-other, either, AllPairs, pairs_dir, pairs_asks, asks-own, OfAnswer}

@@ -1,12 +1,11 @@
 -- What each of a core's rules says of its TID: where it goes on with it, it has skipped it at directories where it writes nothing;
 -- and where it commits, it has spoken at each directory.
 use Rattle.tcc_serial.proofs.Names.{ℕ, ◌≡◌, ◌<◌, ◌≤◌, Bool, true, false, not, ◌==◌, ◌&&◌, Some, None, IfSome, if◌then◌else◌, arith, refl}
-use Rattle.tcc_serial.proofs.Names.{sym, ◌⊎◌, inl, inr, nat_tests, Noted, Program, Outcome, any_below, Dir, Msg, Fill, ProbeReply}
-use Rattle.tcc_serial.proofs.Names.{DataReq, Inv, Shape, Cache, writes_at, CoreState, Phase, Running, AwaitTid, DoomedTid, Probing, Ready}
+use Rattle.tcc_serial.proofs.Names.{sym, ◌⊎◌, inl, inr, nat_tests, Noted, Program, Outcome, any_below, Dir, Msg, Fill, ProbeReply, DataReq}
+use Rattle.tcc_serial.proofs.Names.{Inv, Shape, Cache, writes_at, CoreState, Phase, Running, AwaitTid, DoomedTid, Probing, Ready}
 use Rattle.tcc_serial.proofs.Names.{Overflowing, Solo, Out, commit, committed_core, noted, phase_after_commit, core_exec, core_evict, grant}
 use Rattle.tcc_serial.proofs.Names.{grant_in_phase, grant_sends, from_dir, probing_or_ready, is_probed, probe_reply, ignored, all_replied}
-use Rattle.tcc_serial.proofs.Names.{fill}
-use Rattle.tcc_serial.proofs.Names.{data_request, invalidate, put, Skips, among, passes, Words, OneCore, has_tid, Untold, told_by}
+use Rattle.tcc_serial.proofs.Names.{fill, data_request, invalidate, put, Skips, among, passes, Words, OneCore, has_tid, Untold, told_by}
 use Rattle.tcc_serial.proofs.Names.{live_way, commit_way, Local, moves, solo_commit}
 use Rattle.tcc_serial.proofs.OneCore.Executes.{Steady, did-steady}
 use Rattle.tcc_serial.proofs.OneCore.CoreSteps.{ignored-steady, fill-steady, data-steady, Hurt, Unhurt, Rolled, Doomed, Aborted, Gave_up}

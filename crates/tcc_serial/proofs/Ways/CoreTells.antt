@@ -1,9 +1,8 @@
 -- What a core with a TID says of it: it skips it at directories where it writes nothing, and commits it where it has stored.
 use Rattle.tcc_serial.proofs.Names.{ℕ, ◌≡◌, ◌<◌, List, ◌==◌, ◌&&◌, if◌then◌else◌, arith, refl, nat_tests, num, count_below, Dir, Skip, Mark}
 use Rattle.tcc_serial.proofs.Names.{Commit, WriteBack, Shape, home, lines, Cache, writes_at, Spilled, commit_sends, solo_sends}
-use Rattle.tcc_serial.proofs.Names.{solo_marks_or_skip}
-use Rattle.tcc_serial.proofs.Names.{solo_write_backs, solo_writes_at, is_written, Kind, Skips, Aborts, Commits, among, passes, Way, Untold}
-use Rattle.tcc_serial.proofs.Names.{Skipped, Committed, told_by}
+use Rattle.tcc_serial.proofs.Names.{solo_marks_or_skip, solo_write_backs, solo_writes_at, is_written, Kind, Skips, Aborts, Commits, among}
+use Rattle.tcc_serial.proofs.Names.{passes, Way, Untold, Skipped, Committed, told_by}
 use Rattle.tcc_serial.proofs.Counts.Links.{among-append, among-flat_map_none}
 use Rattle.tcc_serial.proofs.Ways.WayParts.{told-skip, told-commit}
 

@@ -3,8 +3,7 @@
 use Rattle.tcc_serial.proofs.Names.{ℕ, ◌+◌, ◌-◌, ◌≡◌, ◌<◌, ◌≤◌, Bool, true, false, ◌==◌, ◌&&◌, nat_lt, if◌then◌else◌, arith, refl}
 use Rattle.tcc_serial.proofs.Names.{nat_tests, num, Serving, advance, kept, is_skipped, Msg, Skip, Abort, InvAck, Shape, advance-rises}
 use Rattle.tcc_serial.proofs.Names.{kept-skips, DirState, Answer, Asks, Takes, dir_deliver, invalidation_count, Skips, Aborts, Commits}
-use Rattle.tcc_serial.proofs.Names.{passes}
-use Rattle.tcc_serial.proofs.Names.{Resolves}
+use Rattle.tcc_serial.proofs.Names.{passes, Resolves}
 use Rattle.tcc_serial.proofs.Counts.DirOutcome.{Outcome, Waiting, Spent, AsksOwner, TakesSkip, TakesAbort, TakesCommit, TakesAck, outcome}
 use Rattle.tcc_serial.proofs.Counts.StepCases.{same}
 use Rattle.tcc_serial.proofs.Tids.DirTids.{OnceAt, unserved, advance-count}

@@ -1,10 +1,9 @@
 -- The ways in which each TID was given to each directory along every run, and what the invariants on them say in words.
 use Rattle.tcc_serial.proofs.Names.{ℕ, List, [], ◌∷◌, ◌++◌, Option, Some, None, IfSome, arith, sym, append_assoc, append-nil, Program}
 use Rattle.tcc_serial.proofs.Names.{Local, Event, Shape, start, core_start, Stepped, step, History, and_noted, recorded, next_history}
-use Rattle.tcc_serial.proofs.Names.{and_then}
-use Rattle.tcc_serial.proofs.Names.{run_from, run, KeptTold, KeptAll, KeptRun, Grant, granted_by, then_grants, grants_from, has_tid}
-use Rattle.tcc_serial.proofs.Names.{loads_word, Ways, ways_after, sent_by, then_ways, ways_from, first_ways, KeptWays, AlwaysTold, zero}
-use Rattle.tcc_serial.proofs.Names.{suc, ◌+◌, ◌≡◌, ◌<◌, ◌≤◌, Bool, true, false, ◌==◌, ◌&&◌, nat_lt, nat_le, refl, ap, ◌⊎◌, inl, inr}
+use Rattle.tcc_serial.proofs.Names.{and_then, run_from, run, KeptTold, KeptAll, KeptRun, Grant, granted_by, then_grants, grants_from}
+use Rattle.tcc_serial.proofs.Names.{has_tid, loads_word, Ways, ways_after, sent_by, then_ways, ways_from, first_ways, KeptWays, AlwaysTold}
+use Rattle.tcc_serial.proofs.Names.{zero, suc, ◌+◌, ◌≡◌, ◌<◌, ◌≤◌, Bool, true, false, ◌==◌, ◌&&◌, nat_lt, nat_le, refl, ap, ◌⊎◌, inl, inr}
 use Rattle.tcc_serial.proofs.Names.{nat_tests, num, Core, Dir, is_skipped, writes_at, sum_below, Phase, World, Commits, live, holder, pair}
 use Rattle.tcc_serial.proofs.Names.{share, sum_of, opens, ResolvedAt, Way, Untold, Skipped, Aborted, Committed, part_in, kept_in, WayAt}
 use Rattle.tcc_serial.proofs.Names.{is_untold, is_given_up, UntoldWhereOpen, UntoldIsLive, Settled, WaysFit, AllWaysFit, given_up_by}
