@@ -63,13 +63,11 @@ unfoldable pub use Rattle.tcc_rules.specs.CoreExec.{core_exec}
 pub use Rattle.tcc_rules.specs.DirDeliver.{Asks, Answer, Drops, Takes, Waits, load_unless_owned, judged, mark_unless_owned, mark_taken}
 pub use Rattle.tcc_rules.specs.DirDeliver.{unless_keeps}
 unfoldable pub use Rattle.tcc_rules.specs.DirDeliver.{dir_deliver, write_back, invalidations, invalidation_count, owned_by_committer}
-unfoldable pub use Rattle.tcc_rules.specs.DirDeliver.{moved_on_if_settled, ask_owner}
-unfoldable pub use Rattle.tcc_rules.specs.DirDeliver.{load_request, abort, acknowledgement, mark, moved_on, probe, skip, came_home, invs_to}
-unfoldable pub use Rattle.tcc_rules.specs.DirDeliver.{is_invalidated, sum_below, home_words}
+unfoldable pub use Rattle.tcc_rules.specs.DirDeliver.{moved_on_if_settled, ask_owner, load_request, abort, acknowledgement, mark, moved_on}
+unfoldable pub use Rattle.tcc_rules.specs.DirDeliver.{probe, skip, came_home, invs_to, is_invalidated, sum_below, home_words}
 pub use Rattle.tcc_rules.specs.Execute.{end_transaction, execute_need, marks_read, change_spilled, change_valid, load_spilled, load_valid}
 unfoldable pub use Rattle.tcc_rules.specs.Execute.{execute, load, partial_store, word_store, request_line, stored_in_buffer, miss}
-unfoldable pub use Rattle.tcc_rules.specs.Execute.{stored_in_frame, full_set}
-unfoldable pub use Rattle.tcc_rules.specs.Execute.{overflow, place, with_read_mark}
+unfoldable pub use Rattle.tcc_rules.specs.Execute.{stored_in_frame, full_set, overflow, place, with_read_mark}
 pub use Rattle.tcc_rules.specs.Links.{in_flight}
 unfoldable pub use Rattle.tcc_rules.specs.Links.{sent_all}
 pub use Rattle.tcc_rules.specs.Seen.{Copy, numbers, copy_in, copy_of}
@@ -82,8 +80,7 @@ unfoldable pub use Rattle.tcc_rules.specs.State.{start, core_start, dir_start, v
 pub use Rattle.tcc_rules.specs.Step.{History, and_noted, Stepped, recorded, and_then, if_in_flight, delivered, is_node, if_core_moves}
 pub use Rattle.tcc_rules.specs.Step.{if_core_takes, answered}
 unfoldable pub use Rattle.tcc_rules.specs.Step.{core_moves, step, core_takes, dir_takes, dir_asks, vendor_gives, insert_commit, run}
-unfoldable pub use Rattle.tcc_rules.specs.Step.{next_history}
-unfoldable pub use Rattle.tcc_rules.specs.Step.{run_from, happens, names_nodes}
+unfoldable pub use Rattle.tcc_rules.specs.Step.{next_history, run_from, happens, names_nodes}
 pub use Rattle.tcc_attempt.proofs.Lemmas.{hit-line, hit-reads, valid-held, attempts-fit, patched-small, start-follows}
 pub use Rattle.tcc_attempt.specs.Follows.{Uses, Agrees, Reaches, FollowsIn, HasEnded, IsSmall, NeedFits, used_by, EndFits, Fits, used_at}
 pub use Rattle.tcc_attempt.specs.Follows.{used_in}

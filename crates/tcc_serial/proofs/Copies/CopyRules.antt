@@ -1,12 +1,11 @@
 -- What a core's events do to the copies of a line: all keep them, but that a commit makes new ones.
-use Rattle.tcc_serial.proofs.Names.{ℕ, ◌≡◌, ◌<◌, ◌==◌, ◌&&◌, ◌||◌, Bool, true, false, not, Option, Some, None, is_some, if◌then◌else◌}
-use Rattle.tcc_serial.proofs.Names.{arith, refl, sym, ◌∙◌, num, any_word, word_at, mask_of, Dir, Shape, home, lines, Cache, is_modified}
-use Rattle.tcc_serial.proofs.Names.{modified_mask, committed, words_dropped, Spilled, holds, spilled_mask, any_below-at, CoreState, Ready}
-use Rattle.tcc_serial.proofs.Names.{commit, committed_core, noted, solo_commit, commit_sends, is_written, written_mask, OneCore, Words}
-use Rattle.tcc_serial.proofs.Names.{stores_in, names_line, ◌+◌, ◌≤◌, ◌⊎◌, IfSome, inl, inr, cases_eq, nat_tests, Program, word_of, line_of}
-use Rattle.tcc_serial.proofs.Names.{hit, Msg, Inv, IsCache, filled, cleaned, invalidated, rolled_back, read_cleared, nothing, Out, moves}
-use Rattle.tcc_serial.proofs.Names.{is_solo, grant, from_dir, core_exec, core_evict, dirty-evicted, CopyOf, among, passes, stored, marked}
-use Rattle.tcc_serial.proofs.Names.{placed}
+use Rattle.tcc_serial.proofs.Names.{committed_core, if◌then◌else◌, modified_mask, words_dropped, dirty-evicted, spilled_mask, any_below-at}
+use Rattle.tcc_serial.proofs.Names.{commit_sends, written_mask, read_cleared, is_modified, solo_commit, invalidated, rolled_back, committed}
+use Rattle.tcc_serial.proofs.Names.{is_written, names_line, core_evict, CoreState, stores_in, nat_tests, core_exec, any_word, cases_eq, ◌≡◌}
+use Rattle.tcc_serial.proofs.Names.{from_dir, is_some, word_at, mask_of, Spilled, OneCore, Program, word_of, line_of, IsCache, cleaned, ◌<◌}
+use Rattle.tcc_serial.proofs.Names.{nothing, is_solo, Option, commit, IfSome, filled, CopyOf, passes, stored, marked, placed, false, arith}
+use Rattle.tcc_serial.proofs.Names.{Shape, lines, Cache, holds, Ready, noted, Words, moves, grant, among, ◌==◌, ◌&&◌, ◌||◌, Bool, true, not}
+use Rattle.tcc_serial.proofs.Names.{Some, None, refl, home, sym, ◌∙◌, num, Dir, ◌+◌, ◌≤◌, ◌⊎◌, inl, inr, hit, Msg, Inv, Out, ℕ}
 use Rattle.tcc_serial.proofs.Copies.CopySends.{few-masks, commit-copies, solo-copies, solo-wrong, flushed-leaves, back-home-leaves}
 use Rattle.tcc_serial.proofs.Copies.CoreCopies.{Conserves, conserves-still, conserves-sent, framed-dirty, placed-dirty}
 use Rattle.tcc_serial.proofs.Copies.DirtyFrames.{wrong-copy, IsClean, clean-frame, in-line, committed-frame, frame_copy, fewer-frame}

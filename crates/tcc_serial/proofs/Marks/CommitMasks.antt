@@ -1,11 +1,10 @@
 -- What a core has marked, or marks, by a TID that it commits is what the commit stored.
-use Rattle.tcc_serial.proofs.Names.{ℕ, ◌+◌, ◌≡◌, ◌≤◌, Bool, true, false, not, List, [], ◌∷◌, ◌==◌, ◌&&◌, Some, IfSome, nat_lt, arith, refl}
-use Rattle.tcc_serial.proofs.Names.{sym, ap, ◌∙◌, ◌⊎◌, inl, inr, nat_tests, Noted, Program, num, any_below, Dir, Msg, Commit, Shape, home}
-use Rattle.tcc_serial.proofs.Names.{lines, Cache, is_modified, modified_mask, writes_at, Spilled, CoreState, Phase, Ready, Solo, Out, noted}
-use Rattle.tcc_serial.proofs.Names.{commit, commit_sends, solo_sends, solo_marks_or_skip, solo_write_backs, solo_writes_at, is_written}
-use Rattle.tcc_serial.proofs.Names.{written_mask}
-use Rattle.tcc_serial.proofs.Names.{core_exec, core_evict, from_dir, Commits, AnyCommit, CommitOf, MarkOf, MarkMask, among, passes}
-use Rattle.tcc_serial.proofs.Names.{has_marked, stores_line, marked_by, OneCore, stores_in, stored_mask, stores_at, has_tid, solo_commit}
+use Rattle.tcc_serial.proofs.Names.{solo_marks_or_skip, solo_write_backs, solo_writes_at, modified_mask, commit_sends, written_mask, IfSome}
+use Rattle.tcc_serial.proofs.Names.{is_modified, stores_line, stored_mask, solo_commit, solo_sends, is_written, core_evict, has_marked, ◌+◌}
+use Rattle.tcc_serial.proofs.Names.{nat_tests, any_below, writes_at, CoreState, core_exec, AnyCommit, marked_by, stores_in, stores_at, Bool}
+use Rattle.tcc_serial.proofs.Names.{from_dir, CommitOf, MarkMask, Program, Spilled, Commits, OneCore, has_tid, nat_lt, Commit, commit, true}
+use Rattle.tcc_serial.proofs.Names.{MarkOf, passes, false, arith, Noted, Shape, lines, Cache, Phase, Ready, noted, among, List, ◌==◌, ◌&&◌}
+use Rattle.tcc_serial.proofs.Names.{Some, refl, home, Solo, ◌≡◌, ◌≤◌, not, ◌∷◌, sym, ◌∙◌, ◌⊎◌, inl, inr, num, Dir, Msg, Out, [], ap, ℕ}
 use Rattle.tcc_serial.proofs.Serving.CoreCommits.{heard-free}
 use Rattle.tcc_serial.proofs.Counts.Links.{among-append, among-flat_map_none}
 use Rattle.tcc_serial.proofs.Serving.CommitOwners.{few-of}

@@ -1,14 +1,13 @@
 -- Every event keeps that a Commit counts its Marks, and that none is in flight while acknowledgements are owed.
-use Rattle.tcc_serial.proofs.Names.{ℕ, ◌+◌, ◌≡◌, ◌<◌, ◌≤◌, true, false, List, ◌++◌, ◌==◌, ◌&&◌, nat_lt, arith, refl, ◌∙◌, ◌⊎◌, inl, inr}
-use Rattle.tcc_serial.proofs.Names.{cases_lt, nat_tests, num, count_below, has_mark, Dir, Msg, Skip, Shape, lines, writes_at, DirState}
-use Rattle.tcc_serial.proofs.Names.{Link, Out, sum_below, sent_all, Resolves, MarkOf, EmptyMarks, CommitOf, live, among, passes, marks_of}
-use Rattle.tcc_serial.proofs.Names.{marked_by, MarksOf, CountsMarks, CountedOf, Grant, Pair, after_move, after_answer, opens, Contains}
-use Rattle.tcc_serial.proofs.Names.{nat_le, ap, World, Kind, AnyCommit, pair, share, grant_taken, part, handled, KeptTids, [], Option, Some}
-use Rattle.tcc_serial.proofs.Names.{None, IfSome, set, subst, cases_eq, Noted, Program, Local, Core, TidReq, Commit, Event, Phase}
-use Rattle.tcc_serial.proofs.Names.{start, dir_start, in_flight, Sends, core_exec, core_evict, from_dir, grant, Answer, Waits}
-use Rattle.tcc_serial.proofs.Names.{Drops, Asks, Takes, dir_deliver, core_moves, core_takes, dir_takes, dir_asks, step, Acks, KeptMarks}
-use Rattle.tcc_serial.proofs.Names.{KeptCounted, KeptCores, awaits_replies, KeptOwners, back_taken, after_grant, after_other_grant}
-use Rattle.tcc_serial.proofs.Names.{may_commit, Kept, KeptTold, skip}
+use Rattle.tcc_serial.proofs.Names.{after_other_grant, awaits_replies, after_answer, count_below, CountsMarks, grant_taken, dir_deliver, ap}
+use Rattle.tcc_serial.proofs.Names.{KeptCounted, after_grant, EmptyMarks, after_move, core_evict, core_moves, core_takes, KeptOwners, false}
+use Rattle.tcc_serial.proofs.Names.{back_taken, may_commit, nat_tests, writes_at, sum_below, marked_by, CountedOf, AnyCommit, dir_start, []}
+use Rattle.tcc_serial.proofs.Names.{in_flight, core_exec, dir_takes, KeptMarks, KeptCores, cases_lt, has_mark, DirState, sent_all, Resolves}
+use Rattle.tcc_serial.proofs.Names.{CommitOf, marks_of, Contains, KeptTids, cases_eq, from_dir, dir_asks, KeptTold, MarksOf, handled, arith}
+use Rattle.tcc_serial.proofs.Names.{Program, nat_lt, MarkOf, passes, nat_le, Option, IfSome, TidReq, Commit, Answer, Shape, lines, among, ℕ}
+use Rattle.tcc_serial.proofs.Names.{Grant, opens, World, share, subst, Noted, Local, Event, Phase, start, Sends, grant, Waits, Drops, Takes}
+use Rattle.tcc_serial.proofs.Names.{true, List, ◌++◌, ◌==◌, ◌&&◌, refl, Skip, Link, live, Pair, Kind, pair, part, Some, None, Core, Asks}
+use Rattle.tcc_serial.proofs.Names.{step, Acks, Kept, skip, ◌+◌, ◌≡◌, ◌<◌, ◌≤◌, ◌∙◌, ◌⊎◌, inl, inr, num, Dir, Msg, Out, set}
 use Rattle.tcc_serial.proofs.Serving.CoreCommits.{granted-free}
 use Rattle.tcc_serial.proofs.Counts.Links.{live-sends, total-same, total-plus, total-le, live-fewer, live-takes}
 use Rattle.tcc_serial.proofs.Counts.StepCases.{dir-own, dir-other, asks-own, pairs_move, pairs_grant, pairs_back, pairs_dir, pairs_asks}

@@ -1,15 +1,14 @@
 -- Every event keeps that a TID that commits has marked what its commit stored, also while acknowledgements of it are owed.
-use Rattle.tcc_serial.proofs.Names.{ℕ, zero, suc, ◌+◌, ◌≡◌, ◌<◌, ◌≤◌, Bool, true, false, List, [], ◌∷◌, ◌++◌, Contains, Option, Some, None}
-use Rattle.tcc_serial.proofs.Names.{length, slice_index_or, nat_lt, if◌then◌else◌, arith, refl, ◌∙◌, ◌⊎◌, inl, inr, cases_lt, nat_tests}
-use Rattle.tcc_serial.proofs.Names.{Noted, num, modified_mask, writes_at, has_mark, Dir, Msg, Skip, Shape, DirState, Link, Out, sent_all}
-use Rattle.tcc_serial.proofs.Names.{insert_commit, and_noted, Kind, Resolves, Commits, AnyCommit, MarkOf, MarkMask, EmptyMarks, live, among}
-use Rattle.tcc_serial.proofs.Names.{passes, marks_of, marked_by, MarksOf, wrong_marks, MaskedOf, Grant, Pair, after_move, grant_taken}
-use Rattle.tcc_serial.proofs.Names.{after_answer, stored_mask, MarkedWith, MarkedCommit, SettledCommit, StoredOf, opens, IfSome, set, sym}
-use Rattle.tcc_serial.proofs.Names.{ap, subst, Program, Local, count_below, Core, TidReq, Commit, Event, lines, World, start, dir_start}
-use Rattle.tcc_serial.proofs.Names.{in_flight, Sends, core_exec, core_evict, from_dir, grant, Answer, Waits, Drops, Asks, Takes}
-use Rattle.tcc_serial.proofs.Names.{dir_deliver, core_moves, core_takes, dir_takes, dir_asks, step, CommitOf, Acks, KeptCounted, KeptMarks}
-use Rattle.tcc_serial.proofs.Names.{KeptMasks, KeptCores, KeptOwners, pair, back_taken, after_grant, after_other_grant, KeptStored, Kept}
-use Rattle.tcc_serial.proofs.Names.{KeptTold, skip}
+use Rattle.tcc_serial.proofs.Names.{after_other_grant, slice_index_or, if◌then◌else◌, modified_mask, insert_commit, SettledCommit, Contains}
+use Rattle.tcc_serial.proofs.Names.{after_answer, MarkedCommit, wrong_marks, grant_taken, stored_mask, count_below, dir_deliver, EmptyMarks}
+use Rattle.tcc_serial.proofs.Names.{KeptCounted, after_grant, after_move, MarkedWith, core_evict, core_moves, core_takes, KeptOwners, false}
+use Rattle.tcc_serial.proofs.Names.{back_taken, KeptStored, nat_tests, writes_at, and_noted, AnyCommit, marked_by, dir_start, in_flight, []}
+use Rattle.tcc_serial.proofs.Names.{core_exec, dir_takes, KeptMarks, KeptMasks, KeptCores, cases_lt, has_mark, DirState, sent_all, Resolves}
+use Rattle.tcc_serial.proofs.Names.{MarkMask, marks_of, MaskedOf, StoredOf, from_dir, dir_asks, CommitOf, KeptTold, Commits, MarksOf, arith}
+use Rattle.tcc_serial.proofs.Names.{Program, Option, length, nat_lt, MarkOf, passes, IfSome, TidReq, Commit, Answer, Noted, Shape, among, ℕ}
+use Rattle.tcc_serial.proofs.Names.{Grant, opens, subst, Local, Event, lines, World, start, Sends, grant, Waits, Drops, Takes, zero, Bool}
+use Rattle.tcc_serial.proofs.Names.{true, List, ◌++◌, Some, None, refl, Skip, Link, Kind, live, Pair, Core, Asks, step, Acks, pair, Kept}
+use Rattle.tcc_serial.proofs.Names.{skip, suc, ◌+◌, ◌≡◌, ◌<◌, ◌≤◌, ◌∷◌, ◌∙◌, ◌⊎◌, inl, inr, num, Dir, Msg, Out, set, sym, ap}
 use Rattle.tcc_serial.proofs.Counts.Links.{live-sends, num-few, live-takes}
 use Rattle.tcc_serial.proofs.Counts.StepCases.{dir-own, dir-other, asks-own, pairs_move, pairs_grant, pairs_back, pairs_dir, pairs_asks}
 use Rattle.tcc_serial.proofs.Counts.StepCases.{pairs_vendor, OfAnswer, step_cases}

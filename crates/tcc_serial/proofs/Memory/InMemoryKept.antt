@@ -1,17 +1,16 @@
 -- Along every run of a program whose accesses lie in memory, frames and what was loaded and stored lie there too.
-use Rattle.tcc_serial.proofs.Names.{nat_tests, ℕ, ◌≡◌, Bool, true, false, not, ◌&&◌, ◌||◌, ◌==◌, List, Option, Some, None, IfSome}
-use Rattle.tcc_serial.proofs.Names.{if◌then◌else◌, refl, Dir, Msg, Fill, ProbeReply, DataReq, Inv, Shape, Cache, is_marked, filled, cleaned}
-use Rattle.tcc_serial.proofs.Names.{invalidated, read_cleared, rolled_back, evicted, evicted_line, spill_line, CoreState, Awaited, Phase}
-use Rattle.tcc_serial.proofs.Names.{Running, AwaitTid, DoomedTid, Probing, Ready, Overflowing, Solo, Halted, nothing, to, marks_for}
-use Rattle.tcc_serial.proofs.Names.{write_back_line, moves, is_solo, roll_back, core_evict, evict_line, is_awaited, ignored, grant}
-use Rattle.tcc_serial.proofs.Names.{grant_in_phase, probe_reply, reply_in_phase, replied, all_replied, ready_once_replied}
-use Rattle.tcc_serial.proofs.Names.{solo_once_replied, fill, fill_awaited, data_request, invalidate, acknowledged, if_violated, is_violated}
-use Rattle.tcc_serial.proofs.Names.{violated_in_phase, words_invalidated, from_dir, ◌≤◌, [], ◌++◌, arith, Program, Local, Core, Event}
-use Rattle.tcc_serial.proofs.Names.{lines, DirState, World, start, Out, core_exec, Answer, Waits, Drops, Asks, Takes, dir_deliver}
-use Rattle.tcc_serial.proofs.Names.{in_flight, sent_all, Sends, core_moves, core_takes, dir_takes, step, CopyOf, live, KeptCores, Pair}
-use Rattle.tcc_serial.proofs.Names.{pair, ◌∷◌, Contains, ◌⊎◌, inl, inr, subst, Noted, empty_cache, core_start, dir_asks, vendor_gives}
-use Rattle.tcc_serial.proofs.Names.{Stepped, History, and_noted, recorded, next_history, and_then, run_from, run, StaysInMemory}
-use Rattle.tcc_serial.proofs.Names.{AccessesInMemory, CommitsInMemory, first_state}
+use Rattle.tcc_serial.proofs.Names.{ready_once_replied, solo_once_replied, violated_in_phase, words_invalidated, AccessesInMemory, AwaitTid}
+use Rattle.tcc_serial.proofs.Names.{write_back_line, CommitsInMemory, grant_in_phase, reply_in_phase, if◌then◌else◌, StaysInMemory, DataReq}
+use Rattle.tcc_serial.proofs.Names.{read_cleared, evicted_line, fill_awaited, data_request, acknowledged, vendor_gives, next_history, false}
+use Rattle.tcc_serial.proofs.Names.{invalidated, rolled_back, Overflowing, probe_reply, all_replied, if_violated, is_violated, dir_deliver}
+use Rattle.tcc_serial.proofs.Names.{empty_cache, first_state, ProbeReply, spill_line, core_evict, evict_line, is_awaited, invalidate, Shape}
+use Rattle.tcc_serial.proofs.Names.{core_moves, core_takes, core_start, nat_tests, is_marked, CoreState, DoomedTid, marks_for, roll_back, ℕ}
+use Rattle.tcc_serial.proofs.Names.{core_exec, in_flight, dir_takes, KeptCores, and_noted, from_dir, DirState, sent_all, Contains, dir_asks}
+use Rattle.tcc_serial.proofs.Names.{recorded, and_then, run_from, cleaned, evicted, Awaited, Running, Probing, nothing, is_solo, ignored}
+use Rattle.tcc_serial.proofs.Names.{replied, Program, Stepped, History, Option, IfSome, filled, Halted, Answer, CopyOf, Cache, Phase, Ready}
+use Rattle.tcc_serial.proofs.Names.{moves, grant, arith, Local, Event, lines, World, start, Waits, Drops, Takes, Sends, subst, Noted, Bool}
+use Rattle.tcc_serial.proofs.Names.{true, ◌&&◌, ◌||◌, ◌==◌, List, Some, None, refl, Fill, Solo, fill, ◌++◌, Core, Asks, step, live, Pair}
+use Rattle.tcc_serial.proofs.Names.{pair, ◌≡◌, not, Dir, Msg, Inv, ◌≤◌, Out, ◌∷◌, ◌⊎◌, inl, inr, run, to, []}
 use Rattle.tcc_serial.proofs.Counts.Links.{live-sends, live-takes}
 use Rattle.tcc_serial.proofs.Counts.StepCases.{pairs_move, pairs_grant, pairs_back, pairs_dir, pairs_asks, pairs_vendor, OfAnswer}
 use Rattle.tcc_serial.proofs.Counts.StepCases.{step_cases}

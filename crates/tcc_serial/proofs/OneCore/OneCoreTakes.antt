@@ -8,10 +8,9 @@ use Rattle.tcc_serial.proofs.Names.{OneCore, executes, awaits_replies, rests}
 use Rattle.tcc_serial.proofs.OneCore.CoreProbes.{none-below, all-replied}
 use Rattle.tcc_serial.proofs.OneCore.WordsKept.{words-evicted, words-evicted_unmarked, words-filled, words-invalidated, words-cleaned}
 use Rattle.tcc_serial.proofs.OneCore.WordsKept.{words-rolled, words-alone}
-use Rattle.tcc_serial.proofs.OneCore.Outcomes.{Last_probing, Last_room, Fills, Fills_none, Given, Given_doomed, Given_none, Given_room}
-use Rattle.tcc_serial.proofs.OneCore.Outcomes.{Granted, Hands_out, Heard, Hurt_alone, Hurt_probing, Hurt_running, Hurt_waiting}
-use Rattle.tcc_serial.proofs.OneCore.Outcomes.{Reply_probing, Reply_room, Hurt_none, each-back, each-evict, each-grant, granted, heard}
-use Rattle.tcc_serial.proofs.OneCore.Outcomes.{rolled}
+use Rattle.tcc_serial.proofs.OneCore.Outcomes.{Reply_probing, Last_probing, Given_doomed, Hurt_probing, Hurt_running, Hurt_waiting, Granted}
+use Rattle.tcc_serial.proofs.OneCore.Outcomes.{Fills_none, Given_none, Given_room, Hurt_alone, Reply_room, each-evict, each-grant, granted}
+use Rattle.tcc_serial.proofs.OneCore.Outcomes.{Last_room, Hands_out, Hurt_none, each-back, rolled, Fills, Given, Heard, heard}
 
 -- a line that isn't awaited keeps its frame where another is emptied
 evicted-held : (c : Cache) (s y l m : ℕ) → c.at s y ≡ Some l → (m == l) ≡ false → c.held m ≡ true → (evicted s y c).held m ≡ true

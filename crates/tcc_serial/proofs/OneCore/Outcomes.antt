@@ -1,22 +1,21 @@
 -- What an event of a core comes to: one constructor for each outcome, with the whole new state and what is sent. Each rule of a core is
 -- walked here once; a fact about all events of a core is proved from their outcomes.
-use Rattle.tcc_serial.proofs.Names.{Kind, passes, among, ℕ, ◌+◌, ◌*◌, ◌≡◌, Bool, true, false, not, List, [], ◌∷◌, ◌++◌, ◌==◌, ◌&&◌, ◌||◌}
-use Rattle.tcc_serial.proofs.Names.{Option, Some, None, IfSome, is_some, nat_lt, if◌then◌else◌, arith, refl, sym, ap, subst, inl, inr}
-use Rattle.tcc_serial.proofs.Names.{nat_tests, put, Load, Stored, Size, Byte, Half, Word, Local, Program, Need, Nothing, Loads, Stores}
-use Rattle.tcc_serial.proofs.Names.{Changes, Prints, Ends, Halts, Traps, Outcome, Goes, Ended, HaltedWith, load_of, store_of, word_of}
-use Rattle.tcc_serial.proofs.Names.{line_of, any_word, any_below, Dir, Msg, Fill, ProbeReply, Abort, DataReq, Inv, InvAck, Shape, home}
-use Rattle.tcc_serial.proofs.Names.{lines, set_of, Cache, free_way, all_marked, is_marked, is_modified, writes_at, keeps, marked, stored}
-use Rattle.tcc_serial.proofs.Names.{placed, evicted, filled, invalidated, rolled_back, cleaned, read_cleared, Spilled, none_spilled, holds}
-use Rattle.tcc_serial.proofs.Names.{spill_line, any_below-found, CoreState, Awaited, Phase, Running, AwaitTid, DoomedTid, Probing, Ready}
-use Rattle.tcc_serial.proofs.Names.{Overflowing, Solo, Sends, nothing, to, to_dirs, when, flush_line, abort_written, marks_for, Out, moves}
-use Rattle.tcc_serial.proofs.Names.{finished, one_more_instruction, is_running, is_solo, new_word, roll_back, commit, solo_commit}
-use Rattle.tcc_serial.proofs.Names.{request_line, place, overflow, full_set, miss, with_read_mark, load_valid, load_spilled, load}
-use Rattle.tcc_serial.proofs.Names.{stored_in_buffer, stored_in_frame, word_store, marks_read, change_valid, change_spilled, partial_store}
-use Rattle.tcc_serial.proofs.Names.{end_transaction, execute_need, execute, core_exec, exec_in_phase, unless_awaiting, core_evict}
-use Rattle.tcc_serial.proofs.Names.{evict_line, is_awaited, grant, grant_in_phase, is_probed, probing_or_ready, from_dir, probe_reply}
-use Rattle.tcc_serial.proofs.Names.{reply_in_phase, replied, all_replied, ready_once_replied, solo_once_replied, ignored, fill}
-use Rattle.tcc_serial.proofs.Names.{fill_awaited, data_request, invalidate, acknowledged, if_violated, violated_in_phase, is_violated}
-use Rattle.tcc_serial.proofs.Names.{words_invalidated, staled, rests, waits_for_tid, ◌⊎◌, TrappedWith}
+use Rattle.tcc_serial.proofs.Names.{one_more_instruction, ready_once_replied, solo_once_replied, violated_in_phase, words_invalidated, Kind}
+use Rattle.tcc_serial.proofs.Names.{stored_in_buffer, probing_or_ready, any_below-found, stored_in_frame, end_transaction, unless_awaiting}
+use Rattle.tcc_serial.proofs.Names.{with_read_mark, change_spilled, grant_in_phase, reply_in_phase, if◌then◌else◌, abort_written, nat_tests}
+use Rattle.tcc_serial.proofs.Names.{partial_store, exec_in_phase, waits_for_tid, read_cleared, none_spilled, request_line, load_spilled, []}
+use Rattle.tcc_serial.proofs.Names.{change_valid, execute_need, fill_awaited, data_request, acknowledged, is_modified, invalidated, is_some}
+use Rattle.tcc_serial.proofs.Names.{rolled_back, Overflowing, solo_commit, probe_reply, all_replied, if_violated, is_violated, TrappedWith}
+use Rattle.tcc_serial.proofs.Names.{HaltedWith, ProbeReply, all_marked, spill_line, flush_line, is_running, load_valid, word_store, Program}
+use Rattle.tcc_serial.proofs.Names.{marks_read, core_evict, evict_line, is_awaited, invalidate, any_below, is_marked, writes_at, CoreState}
+use Rattle.tcc_serial.proofs.Names.{DoomedTid, marks_for, roll_back, core_exec, is_probed, store_of, any_word, free_way, AwaitTid, finished}
+use Rattle.tcc_serial.proofs.Names.{new_word, overflow, full_set, from_dir, Nothing, Changes, Outcome, load_of, word_of, line_of, DataReq}
+use Rattle.tcc_serial.proofs.Names.{evicted, cleaned, Spilled, Awaited, Running, Probing, nothing, to_dirs, is_solo, execute, replied, Bool}
+use Rattle.tcc_serial.proofs.Names.{ignored, passes, Option, IfSome, nat_lt, Stored, Stores, Prints, InvAck, set_of, marked, stored, placed}
+use Rattle.tcc_serial.proofs.Names.{filled, commit, staled, among, false, arith, subst, Local, Loads, Halts, Traps, Ended, Abort, Shape, ap}
+use Rattle.tcc_serial.proofs.Names.{lines, Cache, keeps, holds, Phase, Ready, Sends, moves, place, grant, rests, true, List, ◌++◌, ◌==◌, to}
+use Rattle.tcc_serial.proofs.Names.{◌&&◌, ◌||◌, Some, None, refl, Load, Size, Byte, Half, Word, Need, Ends, Goes, Fill, home, Solo, when, ℕ}
+use Rattle.tcc_serial.proofs.Names.{miss, load, fill, ◌+◌, ◌*◌, ◌≡◌, not, ◌∷◌, sym, inl, inr, put, Dir, Msg, Inv, Out, ◌⊎◌}
 use Rattle.tcc_program.specs.Program.{unreserved}
 use Rattle.tcc_program.specs.Ram.{part}
 use Rattle.tcc_rules.specs.Sends.{then_send}

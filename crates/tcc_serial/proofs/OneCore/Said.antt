@@ -79,8 +79,7 @@ marks-quiet k f t ls h = among-flat_map_none k (λ l. Mark l (f l) t ∷ []) (λ
 -- nothing of the kind is among what is said
 pub quiet : (sh : Shape) (s : CoreState) (k : Kind) (q : Said) → Unheard k q → (d : ℕ) → among k (say sh s q (Dir d)) ≡ 0
 unfolding flush_line write_back_line commit_sends solo_sends solo_marks_or_skip solo_write_backs grant_sends skip_all probe_all
-    abort_written
-    marks_for among
+    abort_written marks_for among
 quiet sh s k (Flushes l) h d = go (d == home sh l) (dirty_copy s.cache l)
   where
     go : (b : Bool) (t : Option Tagged) → among k (if b then flush_of t else []) ≡ 0

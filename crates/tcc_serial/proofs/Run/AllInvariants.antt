@@ -1,10 +1,9 @@
 -- All invariants together, through every event and along every run.
-use Rattle.tcc_serial.proofs.Names.{ℕ, List, [], ◌∷◌, ◌++◌, Option, Some, None, IfSome, arith, refl, sym, append_assoc, append-nil, Program}
-use Rattle.tcc_serial.proofs.Names.{Local, Event, Shape, World, start, core_start, Stepped, step, History, and_noted, recorded}
-use Rattle.tcc_serial.proofs.Names.{next_history, and_then, run_from, run, live, pair, has_tid, KeptCounted, KeptWhole, KeptNamed}
-use Rattle.tcc_serial.proofs.Names.{KeptMarks, KeptMasks, KeptStored, KeptCores, KeptCommitting, Grant, granted_by, then_grants}
-use Rattle.tcc_serial.proofs.Names.{grants_from, KeptOwners, LastGranted, SparesCommitter, Kept, KeptTold, KeptAll, Always, HoldsLast}
-use Rattle.tcc_serial.proofs.Names.{SparesItsCommitter, MarksAreStored}
+use Rattle.tcc_serial.proofs.Names.{SparesItsCommitter, SparesCommitter, KeptCommitting, MarksAreStored, append_assoc, next_history, Option}
+use Rattle.tcc_serial.proofs.Names.{KeptCounted, then_grants, grants_from, LastGranted, append-nil, core_start, KeptStored, granted_by, ◌∷◌}
+use Rattle.tcc_serial.proofs.Names.{KeptOwners, and_noted, KeptWhole, KeptNamed, KeptMarks, KeptMasks, KeptCores, HoldsLast, recorded, List}
+use Rattle.tcc_serial.proofs.Names.{and_then, run_from, KeptTold, Program, Stepped, History, has_tid, KeptAll, IfSome, Always, arith, Local}
+use Rattle.tcc_serial.proofs.Names.{Event, Shape, World, start, Grant, ◌++◌, Some, None, refl, step, live, pair, Kept, sym, run, [], ℕ}
 use Rattle.tcc_serial.specs.Asked.{KeptAsked}
 use Rattle.tcc_serial.specs.Probing.{KeptProbing, OneProbe}
 use Rattle.tcc_serial.proofs.Lines.AskedKept.{step-asked, start-asked}

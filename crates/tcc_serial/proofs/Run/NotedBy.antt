@@ -64,8 +64,7 @@ run_from-by sh p (e ∷ es) h k b =
         → ((g : History) → Kept sh g.world → AreByCores sh g.commits → IfSome (run_from sh p es g) (λ r. AreByCores sh r.commits))
         → IfSome (and_then (run_from sh p es) (recorded h x)) (λ r. AreByCores sh r.commits)
     go None q n f = tt
-    go (Some o) q n f =
-        f (record { world = o.world; commits = and_noted o.noted h.commits }) q (listed-by sh o.noted h.commits n b)
+    go (Some o) q n f = f (record { world = o.world; commits = and_noted o.noted h.commits }) q (listed-by sh o.noted h.commits n b)
 
 pub commits_are_by_cores : CommitsAreByCores
 unfolding run AreBy

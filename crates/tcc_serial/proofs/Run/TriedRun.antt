@@ -15,9 +15,8 @@ use Rattle.tcc_serial.specs.Tried.{TriedOwner, TriedAlone, TriedFails}
 -- all that the runs compute with, and what is counted at their ends
 unfoldable run_computed : Type 0
 unfolding computed zeroed register written padded both_words both_code at_pc address call_need small image_entry pair passes live
-    stores_word names_line stores_in stored_mask stores_at wrote wrote_line wrote_mask last_of is_settled is_applied
-    settled_in_line stored_there copies_with keeps_unmodified holds_line after_stores counts after_commits value_at
-    word_copies tried_end
+    stores_word names_line stores_in stored_mask stores_at wrote wrote_line wrote_mask last_of is_settled is_applied settled_in_line
+    stored_there copies_with keeps_unmodified holds_line after_stores counts after_commits value_at word_copies tried_end
 run_computed = Unit {0}
 
 pub tried_fill : TriedFill

@@ -1,15 +1,14 @@
 -- Every event keeps that a Commit in flight is of the served TID, and that no invalidation goes to the core that committed.
-use Rattle.tcc_serial.proofs.Names.{ℕ, ◌≡◌, ◌<◌, ◌≤◌, List, [], ◌∷◌, Option, Some, None, IfSome, nat_lt, slice_index_or, arith, refl, ◌⊎◌}
-use Rattle.tcc_serial.proofs.Names.{inl, inr, cases_order, nat_tests, Program, Local, num, Core, Dir, Event, Msg, Shape, DirState, World}
-use Rattle.tcc_serial.proofs.Names.{Link, start, in_flight, Sends, Out, core_exec, core_evict, from_dir, grant, Answer, Waits, Drops, Asks}
-use Rattle.tcc_serial.proofs.Names.{Takes, dir_deliver, core_moves, core_takes, dir_takes, Stepped, step, History, and_noted, recorded}
-use Rattle.tcc_serial.proofs.Names.{next_history, and_then, run_from, run, Resolves, Commits, CommitsAbove, live, passes, Pair, pair}
-use Rattle.tcc_serial.proofs.Names.{after_move, grant_taken, back_taken, after_answer, out_taken, share, part, handled, Kept, Always}
-use Rattle.tcc_serial.proofs.Names.{CommittingOf, KeptCommitting, CommitsAreServed, true, ◌++◌, Contains, sym, ap, ◌∙◌, cases_lt}
-use Rattle.tcc_serial.proofs.Names.{append-nil, Contains-append_left, Contains-append_cases, Noted, CoreState, Phase, Running, AwaitTid}
-use Rattle.tcc_serial.proofs.Names.{DoomedTid, Probing, Ready, Overflowing, Solo, Halted, sent_all, grant_in_phase, dir_asks, vendor_gives}
-use Rattle.tcc_serial.proofs.Names.{Invs, InvsNot, Acks, among, due, KeptTold, Grant, granted_by, IsNumbered, holder, KeptOwners, SparedOf}
-use Rattle.tcc_serial.proofs.Names.{SparesCommitter, cases_eq}
+use Rattle.tcc_serial.proofs.Names.{Contains-append_cases, Contains-append_left, CommitsAreServed, SparesCommitter, slice_index_or, Program}
+use Rattle.tcc_serial.proofs.Names.{KeptCommitting, grant_in_phase, next_history, CommitsAbove, after_answer, CommittingOf, vendor_gives, ℕ}
+use Rattle.tcc_serial.proofs.Names.{cases_order, dir_deliver, grant_taken, Overflowing, core_evict, core_moves, core_takes, after_move, ◌≡◌}
+use Rattle.tcc_serial.proofs.Names.{back_taken, append-nil, granted_by, IsNumbered, KeptOwners, nat_tests, in_flight, core_exec, dir_takes}
+use Rattle.tcc_serial.proofs.Names.{and_noted, out_taken, CoreState, DoomedTid, DirState, from_dir, recorded, and_then, run_from, Resolves}
+use Rattle.tcc_serial.proofs.Names.{Contains, cases_lt, AwaitTid, sent_all, dir_asks, KeptTold, SparedOf, cases_eq, Stepped, History, arith}
+use Rattle.tcc_serial.proofs.Names.{Commits, handled, Running, Probing, InvsNot, Option, IfSome, nat_lt, Answer, passes, Always, Halted, []}
+use Rattle.tcc_serial.proofs.Names.{holder, Local, Event, Shape, World, start, Sends, grant, Waits, Drops, Takes, share, Noted, Phase, List}
+use Rattle.tcc_serial.proofs.Names.{Ready, among, Grant, Some, None, refl, Core, Link, Asks, step, live, Pair, pair, part, Kept, true, ◌++◌}
+use Rattle.tcc_serial.proofs.Names.{Solo, Invs, Acks, ◌<◌, ◌≤◌, ◌∷◌, ◌⊎◌, inl, inr, num, Dir, Msg, Out, run, sym, ◌∙◌, due, ap}
 use Rattle.tcc_serial.proofs.Counts.Links.{live-sends, live-takes, total-le, live-fewer}
 use Rattle.tcc_serial.proofs.Counts.StepCases.{pairs_move, pairs_grant, pairs_back, pairs_dir, pairs_asks, pairs_vendor, OfAnswer}
 use Rattle.tcc_serial.proofs.Counts.StepCases.{step_cases, same, given}

@@ -1,11 +1,10 @@
 -- What a core's rules do to its part of a TID.
-use Rattle.tcc_serial.proofs.Names.{ℕ, ◌+◌, ◌≡◌, ◌<◌, Bool, true, false, List, [], ◌∷◌, ◌==◌, ◌&&◌, Some, None, IfSome, if◌then◌else◌}
-use Rattle.tcc_serial.proofs.Names.{arith, refl, ◌⊎◌, inl, inr, Program, Outcome, num, any_below, Dir, Msg, Fill, ProbeReply, DataReq, Inv}
-use Rattle.tcc_serial.proofs.Names.{InvAck, Shape, home, writes_at, CoreState, Phase, Running, AwaitTid, DoomedTid, Probing, Ready}
-use Rattle.tcc_serial.proofs.Names.{Overflowing, Solo, Sends, to, marks_for, Out, commit, committed_core, phase_after_commit, core_exec}
-use Rattle.tcc_serial.proofs.Names.{core_evict, grant, grant_in_phase, from_dir, probing_or_ready, is_probed, probe_reply, ignored}
-use Rattle.tcc_serial.proofs.Names.{all_replied, fill}
-use Rattle.tcc_serial.proofs.Names.{data_request, invalidate, Resolves, among, passes, opens, waits_for_tid, put, nat_tests, solo_commit}
+use Rattle.tcc_serial.proofs.Names.{phase_after_commit, probing_or_ready, committed_core, grant_in_phase, if◌then◌else◌, waits_for_tid, ◌+◌}
+use Rattle.tcc_serial.proofs.Names.{data_request, Overflowing, probe_reply, all_replied, solo_commit, ProbeReply, core_evict, invalidate, ℕ}
+use Rattle.tcc_serial.proofs.Names.{any_below, writes_at, CoreState, DoomedTid, marks_for, core_exec, is_probed, nat_tests, AwaitTid, false}
+use Rattle.tcc_serial.proofs.Names.{from_dir, Resolves, Program, Outcome, DataReq, Running, Probing, ignored, IfSome, InvAck, commit, arith}
+use Rattle.tcc_serial.proofs.Names.{passes, Shape, Phase, Ready, Sends, grant, among, opens, Bool, true, List, ◌==◌, ◌&&◌, Some, None, refl}
+use Rattle.tcc_serial.proofs.Names.{Fill, home, Solo, fill, ◌≡◌, ◌<◌, ◌∷◌, ◌⊎◌, inl, inr, num, Dir, Msg, Inv, Out, put, [], to}
 use Rattle.tcc_serial.proofs.Counts.Links.{among-append, resolves-commit_sends, resolves-abort_written, resolves-skip_all}
 use Rattle.tcc_serial.proofs.Counts.Links.{resolves-probe_all, resolves-grant_sends, resolves-marks_for, resolves-solo_sends, among-quiet}
 use Rattle.tcc_serial.proofs.OneCore.Executes.{Steady, did-steady}

@@ -1,16 +1,15 @@
 -- A word in a core's frames and in the Fills on their way to the core: it has its value, or an invalidation of it is on its way too.
-use Rattle.tcc_serial.proofs.Names.{ℕ, ◌≡◌, ◌<◌, ◌≤◌, ◌⊎◌, Bool, true, false, not, ◌&&◌, ◌||◌, List, Contains, Option, Some, None, is_some}
-use Rattle.tcc_serial.proofs.Names.{arith, refl, inl, inr, nat_tests, Noted, num, line_of, place_of, word_at, any_word, Msg, Core, Dir}
-use Rattle.tcc_serial.proofs.Names.{Shape, home, any_below-at, DirState, Link, World, keeps_unmodified, FillOf, FillNot, InvWord, Commits}
-use Rattle.tcc_serial.proofs.Names.{live, among, passes, CommitsInMemory, Pair, pair, after_answer, is_this, is_applied, CommitsStand}
-use Rattle.tcc_serial.proofs.Names.{stores_at, stores_word, counts, value_at, is_stale, zero, suc, ◌==◌, [], ◌∷◌, get_or, nat_le, set}
-use Rattle.tcc_serial.proofs.Names.{if◌then◌else◌, ap, subst, ◌∙◌, eight, has_mark, with_asked, Fill, DataReq, in_flight, Sends, to, Answer}
-use Rattle.tcc_serial.proofs.Names.{Waits, Drops, Asks, Takes, ask_owner, home_words, load_unless_owned, load_request, dir_takes, dir_asks}
-use Rattle.tcc_serial.proofs.Names.{◌+◌, cond, nat_lt, flat_map, sym, cases_eq, flat_map-append, those, count_below, Lines, has, hit}
-use Rattle.tcc_serial.proofs.Names.{mask_of, Commit, Inv, lines, has-mask_of, Awaited, moved_on_if_settled, owned_by_committer}
-use Rattle.tcc_serial.proofs.Names.{invalidation_count, invalidations, invs_to, is_invalidated, CommitsAreServed, KeptLoading, KeptSharers}
-use Rattle.tcc_serial.proofs.Names.{CommitsLine, SharerOf, holds_line, is_fresh, Kind, LoadOf, KeptCounted, IsRising, stores_in}
-use Rattle.tcc_serial.proofs.Names.{stored_mask, SettledCommit, KeptStored}
+use Rattle.tcc_serial.proofs.Names.{moved_on_if_settled, owned_by_committer, invalidation_count, load_unless_owned, keeps_unmodified, false}
+use Rattle.tcc_serial.proofs.Names.{CommitsAreServed, CommitsInMemory, flat_map-append, is_invalidated, if◌then◌else◌, invalidations, arith}
+use Rattle.tcc_serial.proofs.Names.{SettledCommit, any_below-at, after_answer, CommitsStand, load_request, stores_word, count_below, Option}
+use Rattle.tcc_serial.proofs.Names.{has-mask_of, KeptLoading, KeptSharers, CommitsLine, KeptCounted, stored_mask, is_applied, with_asked, ℕ}
+use Rattle.tcc_serial.proofs.Names.{home_words, holds_line, KeptStored, nat_tests, stores_at, in_flight, ask_owner, dir_takes, stores_in}
+use Rattle.tcc_serial.proofs.Names.{Contains, place_of, any_word, DirState, value_at, is_stale, has_mark, dir_asks, flat_map, cases_eq, ◌≡◌}
+use Rattle.tcc_serial.proofs.Names.{SharerOf, is_fresh, IsRising, is_some, line_of, word_at, FillNot, InvWord, Commits, is_this, DataReq}
+use Rattle.tcc_serial.proofs.Names.{mask_of, Awaited, invs_to, FillOf, passes, counts, get_or, nat_le, Answer, nat_lt, Commit, LoadOf, Bool}
+use Rattle.tcc_serial.proofs.Names.{Noted, Shape, World, among, subst, eight, Sends, Waits, Drops, Takes, those, Lines, lines, true, ◌&&◌}
+use Rattle.tcc_serial.proofs.Names.{◌||◌, List, Some, None, refl, Core, home, Link, live, Pair, pair, zero, ◌==◌, Fill, Asks, cond, Kind}
+use Rattle.tcc_serial.proofs.Names.{◌<◌, ◌≤◌, ◌⊎◌, not, inl, inr, num, Msg, Dir, suc, ◌∷◌, set, ◌∙◌, ◌+◌, sym, has, hit, Inv, [], ap, to}
 use Rattle.tcc_rules.specs.DirDeliver.{dir_commit}
 use Rattle.tcc_serial.proofs.Counts.Links.{live-sends, live-fewer, among-fewer, num-same, live-takes, among-append}
 use Rattle.tcc_serial.proofs.Counts.StepCases.{same, either, dir-own, dir-other, pairs_dir, pairs_asks, differ, OfAnswer}

@@ -1,9 +1,8 @@
 -- What each kind of event does to a core's view, as a pair of the core and a directory sees it.
-use Rattle.tcc_serial.proofs.Names.{ℕ, ◌+◌, ◌≡◌, ◌<◌, ◌≤◌, ◌⊎◌, ◌==◌, ◌++◌, false, List, [], Option, Some, None, slice_index_or, arith}
-use Rattle.tcc_serial.proofs.Names.{refl, ap, ◌∙◌, inl, inr, nat_tests, Noted, num, line_of, Msg, TidGrant, Shape, home, CoreState}
-use Rattle.tcc_serial.proofs.Names.{DirState, Halted, sent_all, Out, Uses, Grants, passes, live, among, holder, Pair, after_move}
-use Rattle.tcc_serial.proofs.Names.{grant_taken, back_taken, after_answer, out_taken, after_grant, after_other_grant, IsBound, has_tid}
-use Rattle.tcc_serial.proofs.Names.{value_at, dooms, EachUse}
+use Rattle.tcc_serial.proofs.Names.{after_other_grant, slice_index_or, after_answer, grant_taken, after_grant, after_move, back_taken, ◌==◌}
+use Rattle.tcc_serial.proofs.Names.{nat_tests, CoreState, out_taken, TidGrant, DirState, sent_all, value_at, line_of, IsBound, has_tid, ◌+◌}
+use Rattle.tcc_serial.proofs.Names.{EachUse, Option, Halted, Grants, passes, holder, false, arith, Noted, Shape, among, dooms, ◌++◌, List}
+use Rattle.tcc_serial.proofs.Names.{Some, None, refl, home, Uses, live, Pair, ◌≡◌, ◌<◌, ◌≤◌, ◌⊎◌, ◌∙◌, inl, inr, num, Msg, Out, [], ap, ℕ}
 use Rattle.tcc_serial.proofs.Counts.Links.{live-sends, live-takes}
 use Rattle.tcc_serial.proofs.Serving.OwnerSteps.{holder-given}
 use Rattle.tcc_serial.proofs.Views.ViewCores.{Keeps}

@@ -1,9 +1,8 @@
 -- What a directory keeps as skipped is a TID of which a Skip or an Abort came, and it is owed acknowledgements only for one whose
 -- Commit came.
-use Rattle.tcc_serial.proofs.Names.{ℕ, ◌+◌, ◌-◌, ◌≡◌, ◌<◌, ◌≤◌, Bool, true, false, ◌==◌, ◌&&◌, nat_lt, if◌then◌else◌, arith, refl}
-use Rattle.tcc_serial.proofs.Names.{nat_tests, num, Serving, advance, kept, is_skipped, Msg, Skip, Abort, InvAck, Shape, advance-rises}
-use Rattle.tcc_serial.proofs.Names.{kept-skips, DirState, Answer, Asks, Takes, dir_deliver, invalidation_count, Skips, Aborts, Commits}
-use Rattle.tcc_serial.proofs.Names.{passes, Resolves}
+use Rattle.tcc_serial.proofs.Names.{invalidation_count, if◌then◌else◌, advance-rises, dir_deliver, is_skipped, kept-skips, nat_tests, false}
+use Rattle.tcc_serial.proofs.Names.{DirState, Resolves, Serving, advance, Commits, nat_lt, InvAck, Answer, Aborts, passes, arith, Abort, ℕ}
+use Rattle.tcc_serial.proofs.Names.{Shape, Takes, Skips, Bool, true, ◌==◌, ◌&&◌, refl, kept, Skip, Asks, ◌+◌, ◌-◌, ◌≡◌, ◌<◌, ◌≤◌, num, Msg}
 use Rattle.tcc_serial.proofs.Counts.DirOutcome.{Outcome, Waiting, Spent, AsksOwner, TakesSkip, TakesAbort, TakesCommit, TakesAck, outcome}
 use Rattle.tcc_serial.proofs.Counts.StepCases.{same}
 use Rattle.tcc_serial.proofs.Tids.DirTids.{OnceAt, unserved, advance-count}
