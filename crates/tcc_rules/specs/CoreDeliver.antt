@@ -3,7 +3,7 @@
 use Rattle.std.specs.Prelude.{ℕ, Bool, true, false, not, List, [], ◌∷◌, ◌++◌, Option, Some, None, nat_lt, ◌==◌, ◌&&◌, ◌||◌, if◌then◌else◌}
 use Rattle.tcc_base.specs.Put.{put}
 use Rattle.tcc_maps.specs.Words.{any_below}
-use Rattle.tcc_maps.specs.Nodes.{Node, Core, Dir, Vendor, Msg, TidReq, TidGrant, LoadReq, Fill, Skip, Probe, ProbeReply, Mark, Commit, Abort, WriteBack, Flush, DataReq, Inv, InvAck}
+use Rattle.tcc_maps.specs.Nodes.{Node, Core, Dir, Vendor, Msg, TidGrant, Fill, Skip, Probe, ProbeReply, DataReq, Inv, InvAck}
 use Rattle.tcc_maps.specs.Shape.{Shape, home}
 use Rattle.tcc_maps.specs.Cache.{Cache, writes_at, reads_at, keeps}
 use Rattle.tcc_maps.specs.CacheChange.{filled, invalidated, cleaned, read_cleared}
@@ -39,12 +39,7 @@ grant_in_phase sh t s DoomedTid = moves (record s { phase = Running }) (skip_all
 grant_in_phase sh t s (Overflowing None) = moves
     (record s { owing = λ d. nat_lt d sh.dirs; phase = Overflowing (Some t) })
     (probe_all sh t)
-grant_in_phase sh t s (Overflowing (Some u)) = ignored s
-grant_in_phase sh t s Running = ignored s
-grant_in_phase sh t s (Probing u) = ignored s
-grant_in_phase sh t s (Ready u) = ignored s
-grant_in_phase sh t s (Solo u) = ignored s
-grant_in_phase sh t s Halted = ignored s
+grant_in_phase sh t s _ = ignored s
 
 unfoldable pub grant : Shape → (tid : ℕ) → CoreState → Out
 grant sh t s = grant_in_phase sh t s s.phase
@@ -76,13 +71,7 @@ reply_in_phase sh d t s (Overflowing (Some u)) =
     if u == t && s.owing d
     then moves (solo_once_replied sh t (replied d s)) nothing
     else ignored s
-reply_in_phase sh d t s (Overflowing None) = ignored s
-reply_in_phase sh d t s Running = ignored s
-reply_in_phase sh d t s AwaitTid = ignored s
-reply_in_phase sh d t s DoomedTid = ignored s
-reply_in_phase sh d t s (Ready u) = ignored s
-reply_in_phase sh d t s (Solo u) = ignored s
-reply_in_phase sh d t s Halted = ignored s
+reply_in_phase sh d t s _ = ignored s
 
 unfoldable pub probe_reply : Shape → (dir tid : ℕ) → CoreState → Out
 probe_reply sh d t s = reply_in_phase sh d t s s.phase
@@ -124,8 +113,7 @@ violated_in_phase sh s (Probing t) = moves (record (roll_back s) { phase = Runni
 violated_in_phase sh s (Ready t) = moves (record (roll_back s) { phase = Running }) (abort_written sh s.cache t)
 violated_in_phase sh s (Overflowing (Some t)) = moves (record (roll_back s) { phase = Running; spilled = none_spilled }) (skip_all sh t)
 violated_in_phase sh s (Solo t) = moves (record (roll_back s) { phase = Running; spilled = none_spilled }) (skip_all sh t)
-violated_in_phase sh s DoomedTid = ignored s
-violated_in_phase sh s Halted = ignored s
+violated_in_phase sh s _ = ignored s
 
 unfoldable pub if_violated : Shape → Bool → CoreState → Out
 if_violated sh violated s = if violated then violated_in_phase sh s s.phase else ignored s
@@ -157,17 +145,7 @@ from_dir sh d s (ProbeReply t serving) = Some (probe_reply sh d t s)
 from_dir sh d s (Fill l ws) = Some (fill l ws s)
 from_dir sh d s (DataReq l) = Some (data_request sh l s)
 from_dir sh d s (Inv l m t) = Some (invalidate sh l m t s)
-from_dir sh d s TidReq = None
-from_dir sh d s (TidGrant t) = None
-from_dir sh d s (LoadReq l after) = None
-from_dir sh d s (Skip t) = None
-from_dir sh d s (Probe t) = None
-from_dir sh d s (Mark l m t) = None
-from_dir sh d s (Commit t count) = None
-from_dir sh d s (Abort t) = None
-from_dir sh d s (WriteBack l m ws t) = None
-from_dir sh d s (Flush l m ws t) = None
-from_dir sh d s (InvAck l k) = None
+from_dir sh d s _ = None
 
 abbrev pub from_vendor : Shape → CoreState → Msg → Option Out
 from_vendor sh s (TidGrant t) = Some (grant sh t s)

@@ -2,7 +2,7 @@
 use Rattle.std.specs.Prelude.{ℕ, Option, Some, None}
 use Rattle.tcc_program.specs.Program.{Program}
 use Rattle.tcc_maps.specs.Shape.{Shape}
-use Rattle.tcc_rules.specs.State.{CoreState, Awaited, Phase, Running, AwaitTid, DoomedTid, Probing, Ready, Overflowing, Solo, Halted}
+use Rattle.tcc_rules.specs.State.{CoreState, Awaited, Phase, Running, Ready, Solo}
 use Rattle.tcc_rules.specs.Attempt.{Out}
 use Rattle.tcc_rules.specs.Commit.{commit}
 use Rattle.tcc_rules.specs.Execute.{execute}
@@ -17,11 +17,7 @@ abbrev pub exec_in_phase : Shape → Program → (core : ℕ) → CoreState → 
 exec_in_phase sh p id s Running = unless_awaiting sh p id s s.awaited
 exec_in_phase sh p id s (Solo t) = unless_awaiting sh p id s s.awaited
 exec_in_phase sh p id s (Ready t) = Some (commit sh id t s)
-exec_in_phase sh p id s AwaitTid = None
-exec_in_phase sh p id s DoomedTid = None
-exec_in_phase sh p id s (Probing t) = None
-exec_in_phase sh p id s (Overflowing t) = None
-exec_in_phase sh p id s Halted = None
+exec_in_phase sh p id s _ = None
 
 unfoldable pub core_exec : Shape → Program → (core : ℕ) → CoreState → Option Out
 core_exec sh p id s = exec_in_phase sh p id s s.phase

@@ -3,7 +3,7 @@ use Rattle.std.specs.Prelude.{ℕ, zero, suc, ◌+◌, ◌-◌, Bool, true, fals
 use Rattle.std.specs.List.{flat_map}
 use Rattle.tcc_maps.specs.Words.{count_below, those, eight, word_at, place_of}
 use Rattle.tcc_maps.specs.Masks.{hit, full}
-use Rattle.tcc_maps.specs.Nodes.{Core, Dir, Vendor, Msg, TidReq, TidGrant, LoadReq, Fill, Skip, Probe, ProbeReply, Mark, Commit, Abort, WriteBack, Flush, DataReq, Inv, InvAck}
+use Rattle.tcc_maps.specs.Nodes.{Core, Dir, Vendor, Msg, LoadReq, Fill, Skip, Probe, ProbeReply, Mark, Commit, Abort, WriteBack, Flush, DataReq, Inv, InvAck}
 use Rattle.tcc_maps.specs.Shape.{Shape, lines}
 use Rattle.tcc_maps.specs.Serving.{advance, skipped, kept}
 use Rattle.tcc_maps.specs.Lines.{Lines, with_sharer, with_owner, with_asked, with_mark, unmarked, has_mark}
@@ -159,9 +159,4 @@ dir_deliver sh s c (Commit t count) = dir_commit sh c t count s
 dir_deliver sh s c (InvAck l keeps) = acknowledgement c l keeps s
 dir_deliver sh s c (WriteBack l m ws g) = write_back c l m ws g s
 dir_deliver sh s c (Flush l m ws g) = write_back c l m ws g s
-dir_deliver sh s c TidReq = Waits
-dir_deliver sh s c (TidGrant t) = Waits
-dir_deliver sh s c (Fill l ws) = Waits
-dir_deliver sh s c (ProbeReply t serving) = Waits
-dir_deliver sh s c (DataReq l) = Waits
-dir_deliver sh s c (Inv l m t) = Waits
+dir_deliver sh s c _ = Waits

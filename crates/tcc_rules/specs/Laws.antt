@@ -79,10 +79,7 @@ tids_in (m ∷ ms) = tid_in m ++ tids_in ms
 -- the TIDs that the vendor sent to the one whose message it took
 abbrev pub given_by : World → Event → World → List ℕ
 given_by w (Deliver src Vendor k) v = tids_in (drop (length (w.net Vendor src)) (v.net Vendor src))
-given_by w (Deliver src (Core c) k) v = []
-given_by w (Deliver src (Dir d) k) v = []
-given_by w (Exec c) v = []
-given_by w (Evict c x y) v = []
+given_by w _ v = []
 
 abbrev pub and_given : (rest : World → List ℕ) → World → Event → Option Stepped → List ℕ
 and_given rest w e None = []

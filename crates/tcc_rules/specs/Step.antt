@@ -65,10 +65,7 @@ abbrev pub delivered : Shape → World → (src dst : Node) → (k : ℕ) → Ms
 delivered sh w src (Core c) k m = if_core_takes w src c k (core_deliver sh (w.cores c) src m)
 delivered sh w (Core c) (Dir d) k m = answered w c d k (dir_deliver sh (w.dirs d) c m)
 delivered sh w (Core c) Vendor k m = if_vendor_gives w c k (vendor_deliver w.next c m)
-delivered sh w (Dir e) (Dir d) k m = None
-delivered sh w Vendor (Dir d) k m = None
-delivered sh w (Dir e) Vendor k m = None
-delivered sh w Vendor Vendor k m = None
+delivered sh w _ _ k m = None
 
 -- a name that is no message in flight isn't enabled
 abbrev pub if_in_flight : Shape → World → (src dst : Node) → (k : ℕ) → Option Msg → Option Stepped
