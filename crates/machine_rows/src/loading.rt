@@ -40,7 +40,7 @@ fn file(alloc: Global, words: &[u32]) -> Result<List<u8>, Fail> {
 }
 
 // What one image is loaded to.
-fn one_loaded(alloc: Global, cfg: &Config, image: &[u32]) -> Result<Loaded, Fail>
+pub(crate) fn one_loaded(alloc: Global, cfg: &Config, image: &[u32]) -> Result<Loaded, Fail>
     ensures { IfOk result (λ l. l.settings ≡ cfg.now) }
 {
     let images = raw(alloc, cfg, &[file(alloc, image)?])?;

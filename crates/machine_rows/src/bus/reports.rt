@@ -2,22 +2,13 @@
 ghost use Rattle.std.specs.Prelude.{◌≡◌};
 
 use super::loading::loaded;
+use crate::loading::STORES_SEVEN_AND_HALTS;
 use bus_tcc::{BusEvent, BusSystem};
 use bus_tool::{bus_report, bus_run};
 use image_load::Loaded;
 use std::alloc::Global;
 use std::test::Fail;
 use tcc_base::CoreId;
-
-/// Two transactions: one stores 7, one halts.
-const STORES_SEVEN: [u32; 6] = [
-    0x0070_0293, // addi x5,x0,7
-    0x8000_0337, // lui x6,0x80000
-    0x0453_2023, // sw x5,64(x6)
-    0x0000_0073, // ecall, which ends the transaction
-    0x05d0_0893, // addi x17,x0,93
-    0x0000_0073, // ecall, which halts
-];
 
 /// One transaction that stores to two lines.
 const STORES_TWICE: [u32; 5] = [
@@ -78,7 +69,7 @@ const T1: BusEvent = BusEvent::Take(CoreId(1));
 #[test]
 fn one_core_stores_and_halts(rt: HostRuntime) -> Result<(), Fail> {
     let alloc = rt.alloc();
-    let loaded = loaded(alloc, [1, 16, 2], &STORES_SEVEN)?;
+    let loaded = loaded(alloc, [1, 16, 2], &STORES_SEVEN_AND_HALTS)?;
     let want = "tcc-bus 1
 end open
 events 0
@@ -121,7 +112,7 @@ mem 80000060 00000001
 #[test]
 fn two_cores_take_turns_on_the_bus(rt: HostRuntime) -> Result<(), Fail> {
     let alloc = rt.alloc();
-    let loaded = loaded(alloc, [2, 16, 2], &STORES_SEVEN)?;
+    let loaded = loaded(alloc, [2, 16, 2], &STORES_SEVEN_AND_HALTS)?;
     let events = [
         E0, E0, E1, E0, E1, E0, E0, E1, T1, E0, E1, E0, E1, E1, T0, E0, E1, E1,
     ];
@@ -145,7 +136,7 @@ fn report_by(alloc: Global, loaded: &Loaded, seed: u64, steps: u16) -> Result<St
 #[test]
 fn a_core_by_itself_ends_by_every_seed(rt: HostRuntime) -> Result<(), Fail> {
     let alloc = rt.alloc();
-    let one = loaded(alloc, [1, 16, 2], &STORES_SEVEN)?;
+    let one = loaded(alloc, [1, 16, 2], &STORES_SEVEN_AND_HALTS)?;
     let want = format!(in alloc;
         "tcc-bus 1\nend done\nevents 8\ncommit 1 0 4\ncommit 2 0 2\ncore 0 halt 0\n{SEVEN_STORED}"
     )?;
@@ -172,7 +163,7 @@ mem 80000060 00000001
 #[test]
 fn a_seed_decides_who_commits_first(rt: HostRuntime) -> Result<(), Fail> {
     let alloc = rt.alloc();
-    let loaded = loaded(alloc, [2, 16, 2], &STORES_SEVEN)?;
+    let loaded = loaded(alloc, [2, 16, 2], &STORES_SEVEN_AND_HALTS)?;
     for (seed, commits) in [
         (
             1,
@@ -195,7 +186,7 @@ fn a_seed_decides_who_commits_first(rt: HostRuntime) -> Result<(), Fail> {
 #[test]
 fn a_run_ends_open_where_no_more_was_asked_for(rt: HostRuntime) -> Result<(), Fail> {
     let alloc = rt.alloc();
-    let loaded = loaded(alloc, [2, 16, 2], &STORES_SEVEN)?;
+    let loaded = loaded(alloc, [2, 16, 2], &STORES_SEVEN_AND_HALTS)?;
     let want = "tcc-bus 1
 end open
 events 6
