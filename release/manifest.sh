@@ -3,19 +3,22 @@
 
 released=$root/release/tcc-x86_64-linux
 
-# crates_of NAME: the repository's crates that NAME stands on, by crates.txt, each after those that it stands on itself, and NAME last
-crates_of() {
+# lines_of NAME: the lines of crates.txt for the crates that NAME stands on, each after those that it stands on itself, and NAME's last
+lines_of() {
     awk -v top="$1" '
-        /^[^#]*:/ { colon = index($0, ":"); split(substr($0, 1, colon - 1), words, " "); below[words[1]] = substr($0, colon + 1) }
+        /^[^#]*:/ { colon = index($0, ":"); split(substr($0, 1, colon - 1), words, " "); below[words[1]] = substr($0, colon + 1); line[words[1]] = $0 }
         function visit(name, parts, count, i) {
             if (!(name in below) || name in seen) return
             seen[name] = 1
             count = split(below[name], parts, " ")
             for (i = 1; i <= count; i++) visit(parts[i])
-            print name
+            print line[name]
         }
         END { visit(top) }' "$root/crates.txt"
 }
+
+# crates_of NAME: these crates' names
+crates_of() { lines_of "$1" | sed 's/[ :].*//'; }
 
 # The checksum of what the bytes of the program depend on beside the kit: its crates' lines of crates.txt and their .rt files.
 sources_sum() (
@@ -24,7 +27,7 @@ sources_sum() (
     mapfile -t names < <(crates_of tcc)
     folders=("${names[@]/#/crates/}")
     {
-        for name in "${names[@]}"; do grep -E "^$name( |:)" crates.txt; done
+        lines_of tcc
         find "${folders[@]/%//src}" -type f -name '*.rt' -print0 | sort -z | xargs -0 sha256sum
     } | checksum
 )
