@@ -1,0 +1,34 @@
+# Completion of bash for hoopoelarder. Made by share/make.
+_hoopoelarder() {
+    local word=${COMP_WORDS[COMP_CWORD]} before=${COMP_WORDS[COMP_CWORD - 1]}
+    COMPREPLY=()
+    if [ "$COMP_CWORD" = 1 ]; then
+        mapfile -t COMPREPLY < <(compgen -W "run phases replay why serial trial bus help cc --help --version --where" -- "$word")
+        return
+    fi
+    case $before in
+    --cores | --dirs | --sets | --ways | --ram | --base | --steps | --seed | --threads)
+        return
+        ;;
+    esac
+    case $word in
+    -*)
+        case ${COMP_WORDS[1]} in
+        run) mapfile -t COMPREPLY < <(compgen -W "--cores --dirs --sets --ways --ram --base --raw --steps --seed --record --threads --help" -- "$word") ;;
+        phases) mapfile -t COMPREPLY < <(compgen -W "--cores --dirs --sets --ways --ram --base --raw --steps --seed --record --help" -- "$word") ;;
+        replay) mapfile -t COMPREPLY < <(compgen -W "--cores --dirs --sets --ways --ram --base --raw --help" -- "$word") ;;
+        why) mapfile -t COMPREPLY < <(compgen -W "--cores --dirs --sets --ways --ram --base --raw --help" -- "$word") ;;
+        serial) mapfile -t COMPREPLY < <(compgen -W "--cores --dirs --sets --ways --ram --base --raw --help" -- "$word") ;;
+        trial) mapfile -t COMPREPLY < <(compgen -W "--cores --dirs --sets --ways --steps --seed --help" -- "$word") ;;
+        bus) mapfile -t COMPREPLY < <(compgen -W "--cores --sets --ways --ram --base --raw --steps --seed --help" -- "$word") ;;
+        esac
+        return
+        ;;
+    esac
+    case ${COMP_WORDS[1]} in
+    help) mapfile -t COMPREPLY < <(compgen -W "run phases replay why serial trial bus" -- "$word") ;;
+    trial) mapfile -t COMPREPLY < <(compgen -W "counters transfers stencil sharing" -- "$word") ;;
+    *) mapfile -t COMPREPLY < <(compgen -f -- "$word") ;;
+    esac
+}
+complete -o filenames -F _hoopoelarder hoopoelarder

@@ -1,0 +1,109 @@
+#compdef hoopoelarder
+# Completion of zsh for hoopoelarder. Made by share/make.
+_hoopoelarder() {
+    local -a commands
+    commands=(
+        'run:runs programs, and prints a report'
+        'phases:runs programs so that earlier phases commit first, and prints the phases and a report'
+        'replay:runs a recorded schedule whole, and prints its report'
+        'why:runs a schedule, and prints which messages wait then, and for what'
+        'serial:runs a report's transactions one after another, without caches'
+        'trial:runs a workload, and prints a summary'
+        'bus:runs programs on a machine with one bus and no directories, and prints a report'
+        'help:prints a page of usage'
+        'cc:compiles C for the machine'
+    )
+    if ((CURRENT == 2)); then
+        _describe command commands
+        return
+    fi
+    case $words[2] in
+    run)
+        _arguments \
+            '--cores[the number of cores\: 1 to 64 (1)]:N:' \
+            '--dirs[the number of directories\: 1 to 64 (1)]:N:' \
+            '--sets[how many sets a cache has\: a power of two from 1 to 1024 (16)]:N:' \
+            '--ways[how many ways a set has\: 1 to 16 (2)]:N:' \
+            '--ram[the bytes of memory\: a multiple of 32 from 32 to 16777216 (65536)]:N:' \
+            '--base[the address of the first one\: a multiple of 32, with base + RAM at most 2^32 (0x80000000)]:N:' \
+            '--raw[the images are raw; without it they are ELF files]' \
+            '--steps[the largest number of events\: 0 to 4194304 (1000000)]:N:' \
+            '--seed[what the choice of events begins with\: 0 to 18446744073709551615 (0)]:N:' \
+            '--record[the file to which the schedule is written when the run has ended]:NAME:_files' \
+            '--threads[so many host threads act on the machine at once\: 1 to 16, only with --record]:N:' \
+            '1:command:' '*:file:_files'
+        ;;
+    phases)
+        _arguments \
+            '--cores[the number of cores\: 1 to 64 (1)]:N:' \
+            '--dirs[the number of directories\: 1 to 64 (1)]:N:' \
+            '--sets[how many sets a cache has\: a power of two from 1 to 1024 (16)]:N:' \
+            '--ways[how many ways a set has\: 1 to 16 (2)]:N:' \
+            '--ram[the bytes of memory\: a multiple of 32 from 32 to 16777216 (65536)]:N:' \
+            '--base[the address of the first one\: a multiple of 32, with base + RAM at most 2^32 (0x80000000)]:N:' \
+            '--raw[the images are raw; without it they are ELF files]' \
+            '--steps[the largest number of events\: 0 to 4194304 (1000000)]:N:' \
+            '--seed[what the choice of events begins with\: 0 to 18446744073709551615 (0)]:N:' \
+            '--record[the file to which the schedule is written when the run has ended]:NAME:_files' \
+            '1:command:' '*:file:_files'
+        ;;
+    replay)
+        _arguments \
+            '--cores[the number of cores\: 1 to 64 (1)]:N:' \
+            '--dirs[the number of directories\: 1 to 64 (1)]:N:' \
+            '--sets[how many sets a cache has\: a power of two from 1 to 1024 (16)]:N:' \
+            '--ways[how many ways a set has\: 1 to 16 (2)]:N:' \
+            '--ram[the bytes of memory\: a multiple of 32 from 32 to 16777216 (65536)]:N:' \
+            '--base[the address of the first one\: a multiple of 32, with base + RAM at most 2^32 (0x80000000)]:N:' \
+            '--raw[the images are raw; without it they are ELF files]' \
+            '1:command:' '*:file:_files'
+        ;;
+    why)
+        _arguments \
+            '--cores[the number of cores\: 1 to 64 (1)]:N:' \
+            '--dirs[the number of directories\: 1 to 64 (1)]:N:' \
+            '--sets[how many sets a cache has\: a power of two from 1 to 1024 (16)]:N:' \
+            '--ways[how many ways a set has\: 1 to 16 (2)]:N:' \
+            '--ram[the bytes of memory\: a multiple of 32 from 32 to 16777216 (65536)]:N:' \
+            '--base[the address of the first one\: a multiple of 32, with base + RAM at most 2^32 (0x80000000)]:N:' \
+            '--raw[the images are raw; without it they are ELF files]' \
+            '1:command:' '*:file:_files'
+        ;;
+    serial)
+        _arguments \
+            '--cores[the number of cores\: 1 to 64 (1)]:N:' \
+            '--dirs[the number of directories\: 1 to 64 (1)]:N:' \
+            '--sets[how many sets a cache has\: a power of two from 1 to 1024 (16)]:N:' \
+            '--ways[how many ways a set has\: 1 to 16 (2)]:N:' \
+            '--ram[the bytes of memory\: a multiple of 32 from 32 to 16777216 (65536)]:N:' \
+            '--base[the address of the first one\: a multiple of 32, with base + RAM at most 2^32 (0x80000000)]:N:' \
+            '--raw[the images are raw; without it they are ELF files]' \
+            '1:command:' '*:file:_files'
+        ;;
+    trial)
+        _arguments \
+            '--cores[the number of cores\: 1 to 64 (1)]:N:' \
+            '--dirs[the number of directories\: 1 to 64 (1)]:N:' \
+            '--sets[how many sets a cache has\: a power of two from 1 to 1024 (16)]:N:' \
+            '--ways[how many ways a set has\: 1 to 16 (2)]:N:' \
+            '--steps[the largest number of events\: 0 to 4194304 (1000000)]:N:' \
+            '--seed[what the choice of events begins with\: 0 to 18446744073709551615 (0)]:N:' \
+            '1:command:' '2:kind:(counters transfers stencil sharing)' '3:number:'
+        ;;
+    bus)
+        _arguments \
+            '--cores[the number of cores\: 1 to 64 (1)]:N:' \
+            '--sets[how many sets a cache has\: a power of two from 1 to 1024 (16)]:N:' \
+            '--ways[how many ways a set has\: 1 to 16 (2)]:N:' \
+            '--ram[the bytes of memory\: a multiple of 32 from 32 to 16777216 (65536)]:N:' \
+            '--base[the address of the first one\: a multiple of 32, with base + RAM at most 2^32 (0x80000000)]:N:' \
+            '--raw[the images are raw; without it they are ELF files]' \
+            '--steps[the largest number of events\: 0 to 4194304 (1000000)]:N:' \
+            '--seed[what the choice of events begins with\: 0 to 18446744073709551615 (0)]:N:' \
+            '1:command:' '*:file:_files'
+        ;;
+    help) _describe command commands ;;
+    *) _files ;;
+    esac
+}
+_hoopoelarder "$@"
