@@ -5,11 +5,27 @@
 #ifndef MACHINE_H
 #define MACHINE_H
 
-/* Ends the transaction. The next one begins behind the call. */
+/* Ends the transaction. The next one begins after the call. */
 static inline void commit(void)
 {
     register unsigned number asm("a7") = 0;
     asm volatile("ecall" : : "r"(number) : "memory");
+}
+
+/* Ends the transaction, and halts the core with this code. */
+static inline __attribute__((noreturn)) void halt(int code)
+{
+    register int status asm("a0") = code;
+    register unsigned number asm("a7") = 93;
+    asm volatile("ecall" : : "r"(status), "r"(number) : "memory");
+    __builtin_unreachable();
+}
+
+/* Says the phase of this core's next transaction, for `phases`; it is read where a transaction begins, so this comes right before a commit.
+   The phase is register x27, which compiled code has to leave alone: compile with -ffixed-x27, as `tcc cc` does. */
+static inline void set_phase(unsigned phase)
+{
+    asm volatile("mv x27, %0" : : "r"(phase));
 }
 
 /* Puts a byte on the console. */
