@@ -1,0 +1,45 @@
+# make check      the tests that need no prover: half a minute on four processors
+# make prove      proves everything anew, with all tests: the gate
+# make install    installs the program as `hoopoelarder` below PREFIX, with its man page, completions and examples
+# make uninstall  takes that away
+PREFIX = /usr/local
+name = hoopoelarder
+lib = $(DESTDIR)$(PREFIX)/lib/$(name)
+doc = $(DESTDIR)$(PREFIX)/share/doc/$(name)
+man = $(DESTDIR)$(PREFIX)/share/man/man1
+bash = $(DESTDIR)$(PREFIX)/share/bash-completion/completions
+zsh = $(DESTDIR)$(PREFIX)/share/zsh/site-functions
+
+.PHONY: check prove install uninstall
+
+check:
+	release/check
+	.ci/boundaries
+	docs/check
+	share/make --check
+	examples/check
+
+prove:
+	.ci/run
+
+install:
+	release/check
+	install -d $(lib)/share/cc $(lib)/share/pages $(DESTDIR)$(PREFIX)/bin $(man) $(bash) $(zsh) $(doc)/examples
+	install -m 755 tcc release/tcc-x86_64-linux $(lib)
+	install -m 644 VERSION release/manifest $(lib)
+	install -m 755 share/launch $(lib)/share
+	install -m 644 share/checked.sh share/hints.py share/words.txt $(lib)/share
+	install -m 644 share/pages/* $(lib)/share/pages
+	install -m 755 share/cc/cc $(lib)/share/cc
+	install -m 644 share/cc/*.[cSl]* examples/machine.h $(lib)/share/cc
+	ln -sf ../lib/$(name)/tcc $(DESTDIR)$(PREFIX)/bin/$(name)
+	install -m 644 share/$(name).1 $(man)
+	install -m 644 share/completion.bash $(bash)/$(name)
+	install -m 644 share/completion.zsh $(zsh)/_$(name)
+	install -m 644 README.md LICENSE CHANGELOG.md docs/*.md $(doc)
+	install -m 644 examples/*.c examples/*.s examples/*.bin examples/*.elf examples/machine.h $(doc)/examples
+	cp -r examples/template $(doc)/examples
+
+uninstall:
+	rm -rf $(lib) $(doc)
+	rm -f $(DESTDIR)$(PREFIX)/bin/$(name) $(man)/$(name).1 $(bash)/$(name) $(zsh)/_$(name)
