@@ -8,5 +8,5 @@ mod image;
 mod read;
 
 pub use fault::ElfFault;
-pub use image::{Image, Segment};
+pub use image::{Bytes, Image, Segment};
 pub use read::read_elf;

@@ -6,8 +6,8 @@ ghost use Rattle.image_elf.specs.declared.fault.ElfFault.TheVariants.{Memory};
 
 use crate::fault::ElfFault;
 use crate::header::{ProgramHeader, half_at, word_at};
-use crate::image::{Image, Segment};
-use std::alloc::{AllocError, Global};
+use crate::image::{Bytes, Image, Segment};
+use std::alloc::Global;
 use tcc_base::List;
 
 /// The size of the ELF header.
@@ -115,39 +115,35 @@ fn test_segment(file: &[u8], index: u32, header: ProgramHeader) -> Result<(), El
 }
 
 /// What a header's segment holds of the file.
-fn contents(alloc: Global, file: &[u8], header: ProgramHeader) -> Result<Vec<u8>, AllocError>
+fn contents<'a>(file: &'a [u8], header: ProgramHeader) -> &'a [u8]
     requires { header.p_filesz ≢ 0 → header.p_offset + header.p_filesz ≤ length file.now }
-    ensures { IfOk result (λ bytes. bytes.items ≡ contents_of file.now header) }
+    ensures { result.now ≡ contents_of file.now header }
 {
     if header.p_filesz == 0 {
-        return Ok(Vec::new(alloc));
+        return &[];
     }
     let first = header.p_offset as usize;
-    file[first..first + header.p_filesz as usize].to_vec(alloc)
+    &file[first..first + header.p_filesz as usize]
 }
 
 /// The segment of a header that passed its tests, where it is loaded and isn't empty.
-fn segment(
-    alloc: Global,
-    file: &[u8],
-    index: u32,
-    header: ProgramHeader,
-) -> Result<Option<Segment>, AllocError>
+fn segment<'a>(file: &'a [u8], index: u32, header: ProgramHeader) -> Option<Segment<'a>>
     requires { first_fault (segment_tests file.now index header) ≡ None }
-    ensures value { IfOk result (λ segment. segment ≡ segment_of file.now index header) }
-    ensures within { IfOk result (λ segment. IfSome segment (λ s. length s.bytes ≤ s.size)) }
+    ensures value { result ≡ segment_of file.now index header }
+    ensures within { IfSome result (λ s. length s.bytes ≤ s.size) }
 {
     if header.p_type != LOAD || header.p_memsz == 0 {
-        return Ok(None);
+        return None;
     }
-    let bytes = contents(alloc, file, header)?;
-    Ok(Some(Segment {
+    Some(Segment {
         index,
         addr: header.p_vaddr,
-        bytes: List { items: bytes },
+        bytes: Bytes {
+            items: contents(file, header),
+        },
         size: header.p_memsz,
         exec: header.p_flags & EXECUTE != 0,
-    }))
+    })
 }
 
 /// The image of an ELF file, or the fault of the first test that the file fails. The tests are, in order:
@@ -165,8 +161,9 @@ fn segment(
 /// | its file size is at most its memory size, and it ends at 2^32 at most (type 1 only) | `BadSegment` of its index |
 /// | its file size is 0, or the file has all its bytes (type 1 only) | `Short` of as many as that takes |
 ///
-/// A segment is kept where its type is 1 and its memory size isn't 0. `Memory` may come at any file.
-pub fn read_elf(alloc: Global, bytes: &[u8]) -> Result<Image, ElfFault>
+/// A segment is kept where its type is 1 and its memory size isn't 0. Its bytes stay in the file, so that the image takes memory for
+/// at most 65,535 segments, whatever their sizes are. `Memory` may come at any file.
+pub fn read_elf<'a>(alloc: Global, bytes: &'a [u8]) -> Result<Image<'a>, ElfFault>
     ensures image { IfOk result (λ image. image ≡ image_of bytes.now) }
     ensures accepted { OnOk result (first_fault (tests bytes.now) ≡ None) }
     ensures fault { IfErr result (λ fault. fault ≢ Memory → first_fault (tests bytes.now) ≡ Some fault) }
@@ -180,7 +177,7 @@ pub fn read_elf(alloc: Global, bytes: &[u8]) -> Result<Image, ElfFault>
     for index in 0..count {
         let header = ProgramHeader::read(bytes, table + 32 * index as usize);
         test_segment(bytes, index, header)?;
-        if let Some(kept) = segment(alloc, bytes, index, header)? {
+        if let Some(kept) = segment(bytes, index, header) {
             segments.push(kept)?;
         }
     }

@@ -12,17 +12,17 @@ use std::alloc::{AllocError, Global};
 use tcc_base::Config;
 
 /// An image's segments.
-fn segments(image: &Image) -> &[Segment]
+fn segments<'a, 'b>(image: &'b Image<'a>) -> &'b [Segment<'a>]
     ensures { result.now ≡ image.now.segments }
 {
     &image.segments.items
 }
 
 /// What a segment holds of its file.
-fn contents(segment: &Segment) -> &[u8]
+fn contents<'a>(segment: &Segment<'a>) -> &'a [u8]
     ensures { result.now ≡ segment.now.bytes }
 {
-    &segment.bytes.items
+    segment.bytes.items
 }
 
 /// The bytes of RAM with two marks for each, whether it lies in a segment and whether in an executable one, and the extents

@@ -5,12 +5,17 @@ ghost use Rattle.image_load.specs.Raw.{raw_image, raw_images, raw_fault};
 ghost use Rattle.image_load.specs.declared.fault.LoadFault.TheVariants.{Memory};
 
 use crate::fault::LoadFault;
-use image_elf::{Image, Segment};
+use image_elf::{Bytes, Image, Segment};
 use std::alloc::{AllocError, Global};
 use tcc_base::{Config, List};
 
 /// The image of a raw file that begins at an address: one executable segment, with its entry at its first byte.
-fn image_at(alloc: Global, addr: u32, size: u32, file: &[u8]) -> Result<Image, AllocError>
+fn image_at<'a>(
+    alloc: Global,
+    addr: u32,
+    size: u32,
+    file: &'a [u8],
+) -> Result<Image<'a>, AllocError>
     requires { size ≡ length file.now }
     ensures value { IfOk result (λ image. image ≡ raw_image addr file.now) }
     ensures within { IfOk result IsWithinSizes }
@@ -19,9 +24,7 @@ fn image_at(alloc: Global, addr: u32, size: u32, file: &[u8]) -> Result<Image, A
     segments.push(Segment {
         index: 0,
         addr,
-        bytes: List {
-            items: file.to_vec(alloc)?,
-        },
+        bytes: Bytes { items: file },
         size,
         exec: true,
     })?;
@@ -40,8 +43,13 @@ fn bytes(file: &List<u8>) -> &[u8]
 
 /// The images of 1 to 16 raw files, or the first file that doesn't fit. The first begins at the base of RAM, each next one at
 /// the first multiple of 32 at or after the end of the one before. Each has one segment, index 0, which is executable, and its
-/// entry at its first byte. `Outside` names the first file whose first address, or one of whose bytes, lies outside RAM.
-pub fn raw(alloc: Global, config: &Config, files: &[List<u8>]) -> Result<Vec<Image>, LoadFault>
+/// entry at its first byte. `Outside` names the first file whose first address, or one of whose bytes, lies outside RAM. The images
+/// stand in the files, and nothing is copied.
+pub fn raw<'a>(
+    alloc: Global,
+    config: &Config,
+    files: &'a [List<u8>],
+) -> Result<Vec<Image<'a>>, LoadFault>
     requires some { 1 ≤ length files.now }
     requires few { length files.now ≤ 16 }
     ensures images { IfOk result (λ images. images.items ≡ raw_images config.now.base files.now) }

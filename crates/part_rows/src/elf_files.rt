@@ -26,7 +26,7 @@ fn reads_the_whole_file(rt: HostRuntime) -> Result<(), Fail> {
         (segment.index, segment.addr, segment.size, segment.exec),
         (1, 0x8000_0000, 16, true)
     );
-    assert_eq!(rt; segment.bytes.items.as_slice(), &FILE[116..]);
+    assert_eq!(rt; segment.bytes.items, &FILE[116..]);
     Ok(())
 }
 

@@ -2,7 +2,7 @@
 ghost use Rattle.std.specs.Prelude.{◌≡◌, ◌<◌, ◌/◌, IfOk, IfSome};
 ghost use Rattle.image_elf.specs.Elf.{IsWithinSizes};
 
-use image_elf::{Image, Segment};
+use image_elf::{Bytes, Image, Segment};
 use image_load::{LoadFault, Loaded, load, raw};
 use std::alloc::{AllocError, Global};
 use std::test::Fail;
@@ -25,18 +25,16 @@ struct Part {
 }
 
 /// The image of a part; its byte is aa.
-fn image(alloc: Global, part: Part) -> Result<Image, AllocError>
+fn image<'a>(alloc: Global, part: Part) -> Result<Image<'a>, AllocError>
     ensures { IfOk result IsWithinSizes }
 {
-    let mut bytes = Vec::new(alloc);
-    if part.size > 0 {
-        bytes.push(0xaa)?;
-    }
     let mut segments = Vec::new(alloc);
     segments.push(Segment {
         index: 5,
         addr: part.addr,
-        bytes: List { items: bytes },
+        bytes: Bytes {
+            items: if part.size > 0 { &[0xaa] } else { &[] },
+        },
         size: part.size,
         exec: part.exec,
     })?;

@@ -33,7 +33,7 @@ fn of_elf<'a>(number: u32, fault: ElfFault) -> Refusal<'a>
 }
 
 /// The images of ELF files, or the first file that isn't an image.
-fn read_images<'a>(alloc: Global, files: &[List<u8>]) -> Result<Vec<Image>, Refusal<'a>>
+fn read_images<'a, 'b>(alloc: Global, files: &'b [List<u8>]) -> Result<Vec<Image<'b>>, Refusal<'a>>
     requires few { length files.now ≤ 16 }
     ensures images { IfOk result (λ images. images.items ≡ map image_of files.now) }
     ensures count { IfOk result (λ images. length images.items ≡ length files.now) }
@@ -67,12 +67,12 @@ fn of_load<'a>(fault: LoadFault) -> Refusal<'a>
 
 /// The images that the files are.
 #[tactic(auto, unfolding(crate::specs::Images::form_fault))]
-fn images_from<'a>(
+fn images_from<'a, 'b>(
     alloc: Global,
     is_raw: bool,
     config: &Config,
-    files: &[List<u8>],
-) -> Result<Vec<Image>, Refusal<'a>>
+    files: &'b [List<u8>],
+) -> Result<Vec<Image<'b>>, Refusal<'a>>
     requires some { 1 ≤ length files.now }
     requires few { length files.now ≤ 16 }
     ensures images { IfOk result (λ images. images.items ≡ images_of is_raw config.now files.now) }

@@ -23,4 +23,4 @@ loop-index-preserved c =
     = c.read-header.ensures ∙ ap (λ at. header_at c.args.bytes.now (at + 32 * c.loop-index.index)) c.word_at-table.ensures in
     let tested = segments_tests-passed file c.loop-index.index c.half_at-count.result c.loop-index-test.true (rw read at c.in_ok-test_segment.ensures.ok) in
     let kept = segments_from-left file c.loop-index.index c.half_at-count.result c.loop-index-test.true in
-    elim c.match-branch-5.branch [ in-Some+in_ok-push w ↦ grind (arith, common_steps) | in_default w ↦ grind (arith, common_steps) ]
+    elim c.match-segment.branch [ in-Some+in_ok-push w ↦ grind (arith, common_steps) | in_default w ↦ grind (arith, common_steps) ]
