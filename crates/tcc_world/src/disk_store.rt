@@ -104,12 +104,14 @@ impl<R: Files> Store for DiskStore<R> {
 
     #[tactic(auto, using(crate::proofs::Holding::booking))]
     fn write(&mut self, alloc: Global, name: &str, bytes: &[u8]) -> Result<(), StoreError> {
+        // booked first, so that memory for it is found while the file is as it was
+        self.failed_writes.book(alloc, name)?;
         match fs::write(&self.rt, name, bytes) {
-            Ok(()) => Ok(()),
-            Err(_) => {
-                self.failed_writes.book(alloc, name)?;
-                Err(StoreError::Failed)
+            Ok(()) => {
+                self.failed_writes.forget_last();
+                Ok(())
             }
+            Err(_) => Err(StoreError::Failed),
         }
     }
 }

@@ -190,6 +190,7 @@ impl Store for MapStore {
 
         ensures stored { OnOk result (by_name.get self.new.files name.now ≡ (if true then Some bytes.now else None)) }
         ensures cause { IsErrOf result StoreError.Failed → Rose (times self.old.unwritten name.now) (times self.new.unwritten name.now) }
+        ensures unwritten { IsErrOf result StoreError.Memory → (n : List ℕ) → by_name.get self.new.files n ≡ by_name.get self.old.files n }
         ensures others_stay { (n : List ℕ) → n ≢ name.now → by_name.get self.new.files n ≡ by_name.get self.old.files n }
         ensures tells_stays { true ≡ true }
         ensures reads { (n : List ℕ) → times self.new.unread n ≡ times self.old.unread n }

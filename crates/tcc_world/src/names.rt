@@ -1,5 +1,5 @@
 // The names of the calls that failed, in order.
-ghost use Rattle.std.specs.Prelude.{◌≡◌, [], ◌∷◌, ◌++◌, OnOk, OnErr};
+ghost use Rattle.std.specs.Prelude.{◌≡◌, [], ◌∷◌, ◌++◌, ◌-◌, length, take, OnOk, OnErr};
 
 use std::alloc::{AllocError, Global};
 use std::marker::Model;
@@ -33,5 +33,12 @@ impl NameList {
         let name = String::from_str(alloc, name)?;
         self.items.push(name)?;
         Ok(())
+    }
+
+    /// Takes the last name out again, where there is one.
+    pub(crate) fn forget_last(&mut self)
+        ensures { self.new ≡ take (length self.old - 1) self.old }
+    {
+        self.items.pop();
     }
 }

@@ -54,10 +54,12 @@ pub trait Store {
         ensures writes { (n : List ℕ) → failed_writes self.new n ≡ failed_writes self.old n };
 
     /// Makes these bytes the contents of the name, and leaves all other names. `Failed` comes only where the name's
-    /// count of failed writes rose in this call. After an error nothing is said of the contents of this one name.
+    /// count of failed writes rose in this call, and then nothing is said of the contents of this one name. `Memory` comes
+    /// before anything is written: all contents are as they were.
     fn write(&mut self, alloc: Global, name: &str, bytes: &[u8]) -> Result<(), StoreError>
         ensures stored { OnOk result (contents self.new name.now ≡ (if tells self.old then Some bytes.now else None)) }
         ensures cause { IsErrOf result StoreError.Failed → Rose (failed_writes self.old name.now) (failed_writes self.new name.now) }
+        ensures unwritten { IsErrOf result StoreError.Memory → (n : List ℕ) → contents self.new n ≡ contents self.old n }
 
         ensures others_stay { (n : List ℕ) → n ≢ name.now → contents self.new n ≡ contents self.old n }
         ensures tells_stays { tells self.new ≡ tells self.old }
