@@ -1,28 +1,38 @@
 #!/bin/bash
 # Tries the changed rules of bench/wrong_rules, beside those that the gate tries (crates/tcc_rules/must-fail): each edit changes
-# one definition of tcc_rules, and a worked schedule must refuse it. An edit is tried on the crate of its definition, so the
-# schedules of tcc_worked stand in it here, in a copy. It takes some minutes, and ends with 1 where an edit isn't refused.
+# one definition, and a worked schedule must refuse it. An edit is tried on the crate of its definition. So the schedules of
+# tcc_worked stand in tcc_rules here, in a copy, and with them the definitions of other crates that edits change: the changes of
+# caches (tcc_maps) and who is held back (phase_rules). It takes some minutes, and ends with 1 where an edit isn't refused.
+# Words after its name are the edits to try, without '.edit'; else it tries all.
 set -eu
 cd "$(dirname "$0")/.."
 copy=$(mktemp -d)
 trap 'rm -rf "$copy"' EXIT
 
+below='tcc_base tcc_program tcc_maps reg_checkpoint rv_decode rv_exec image_elf image_load rv_code rv_plain'
 mkdir "$copy/crates"
 cp HANDLES "$copy"
-grep -E '^tcc_(base|program|maps|rules):' crates.txt > "$copy/crates.txt"
-for crate in tcc_base tcc_program tcc_maps tcc_rules; do
+grep -E "^(${below// /|}):" crates.txt > "$copy/crates.txt"
+grep '^tcc_worked:' crates.txt | sed 's/^tcc_worked/tcc_rules/; s/ \(tcc_rules\|phase_rules\)\b//g' >> "$copy/crates.txt"
+for crate in $below tcc_rules; do
     cp -r "crates/$crate" "$copy/crates"
     rm -rf "$copy/crates/$crate/must-fail"
 done
 rules="$copy/crates/tcc_rules"
-cp -r bench/wrong_rules "$rules/must-fail"
+mkdir "$rules/must-fail"
+if [ $# = 0 ]; then cp bench/wrong_rules/*.edit "$rules/must-fail"; fi
+for edit; do cp "bench/wrong_rules/$edit.edit" "$rules/must-fail"; done
+
 cat crates/tcc_worked/specs/Lib.antt >> "$rules/specs/Lib.antt"
+printf 'pub mod %s\n' CacheChange Phases Phased >> "$rules/specs/Lib.antt"
 grep -v -e '^//!' -e '^#!' crates/tcc_worked/src/lib.rt >> "$rules/src/lib.rt"
 for file in crates/tcc_worked/specs/*.antt; do
     case $file in */Lib.antt) ;; *) cp "$file" "$rules/specs" ;; esac
 done
+cp crates/tcc_maps/specs/CacheChange.antt crates/phase_rules/specs/Phase{s,d}.antt "$rules/specs"
 cp -r crates/tcc_worked/proofs/* "$rules/proofs"
-sed -i 's/Rattle\.tcc_worked\./Rattle.tcc_rules./g' "$rules/src/lib.rt" "$rules"/specs/*.antt "$rules"/proofs/*/*.antt
+find "$rules" -name '*.antt' -o -name '*.rt' | xargs sed -i 's/Rattle\.tcc_maps\.specs\.CacheChange\./Rattle.tcc_rules.specs.CacheChange./g
+    s/Rattle\.\(tcc_worked\|phase_rules\)\./Rattle.tcc_rules./g'
 
 cd "$copy"
 rt must-fail tcc_rules > told 2>&1 || true

@@ -1,13 +1,32 @@
 -- Schedules that show the rules of a core that goes on alone.
-use Rattle.std.specs.Prelude.{List, [], ◌∷◌}
+use Rattle.std.specs.Prelude.{List, [], ◌∷◌, Some}
 use Rattle.tcc_program.specs.Program.{Halts}
 use Rattle.tcc_program.specs.Plain.{Goes, Halted as HaltedWith}
 use Rattle.tcc_maps.specs.Nodes.{Event}
-use Rattle.tcc_rules.specs.State.{Running, Solo, Halted}
+use Rattle.tcc_rules.specs.State.{Running, Overflowing, Solo, Halted}
 use Rattle.tcc_rules.specs.Rows.{e, x, d, c0, d0, d1, v}
 use Rattle.tcc_rules.specs.Needs.{lw, sw, sb, add}
 use Rattle.tcc_rules.specs.Told.{Told, machine, Tells}
 use Rattle.tcc_rules.specs.Names.{noted_commit, stands, got, wrote}
+
+-- a core that overflows waits for the replies of all directories, also where it used nothing
+abbrev pub all_reply_events : List Event
+all_reply_events =
+    e 0 ∷ d c0 d0 0 ∷ d d0 c0 0 ∷ e 0 ∷ e 0 ∷ d c0 v 0 ∷ d v c0 0 ∷ d c0 d0 1 ∷ d d0 c0 1 ∷ []
+
+abbrev pub all_reply : Told
+all_reply = record {
+  commits = [];
+  cores = stands 0 [] (Overflowing (Some 1)) Goes (0 ∷ []) ∷ stands 16 [] Running Goes [] ∷ [];
+  words = [];
+  useful = e 1 ∷ d c0 d1 0 ∷ [];
+}
+
+abbrev pub AllReply : Type 0
+AllReply =
+    Tells (machine 2 2 1 1 256)
+    ((lw 0 ∷ sw 8 5 ∷ []) ∷ [] ∷ [])
+    all_reply_events all_reply
 
 -- a core that is alone has no read marks
 abbrev pub unmarked_alone_events : List Event
@@ -109,4 +128,4 @@ WordInBuffer =
     word_in_buffer_events word_in_buffer
 
 abbrev pub AloneAre : Type 0
-AloneAre = UnmarkedAlone × SpilledWordLoaded × SpilledWordChanged × PartInBuffer × WordInBuffer
+AloneAre = AllReply × UnmarkedAlone × SpilledWordLoaded × SpilledWordChanged × PartInBuffer × WordInBuffer

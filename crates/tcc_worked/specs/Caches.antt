@@ -109,5 +109,51 @@ RoomBeforeOverflow =
     ((sw 0 4 ∷ lw 8 ∷ Ends ∷ sw 16 5 ∷ sw 24 5 ∷ []) ∷ [] ∷ [])
     room_before_overflow_events room_before_overflow
 
+-- a line that was invalidated while it is awaited stays stale, though another line is invalidated after it
+abbrev pub stays_stale_events : List Event
+stays_stale_events =
+    e 0 ∷ d c0 d0 0 ∷ d d0 c0 0 ∷ e 0 ∷ e 0 ∷ d c0 d0 1 ∷ e 1 ∷ e 1 ∷ e 1 ∷ d c1 v 0 ∷ d v c1 0 ∷ d c1 d0 0 ∷ d d0 c1 0 ∷
+    d c1 d0 1 ∷ d c1 d0 2 ∷ e 1 ∷ d c1 d0 3 ∷ d d0 c0 2 ∷ d d0 c0 3 ∷ d d0 c0 1 ∷ e 0 ∷ []
+
+abbrev pub stays_stale : Told
+stays_stale = record {
+  commits = noted_commit 1 1 3 [] (wrote 0 4 ∷ wrote 9 5 ∷ []) [] ∷ [];
+  cores = stands 0 [] Running Goes (8 ∷ []) ∷ stands 19 [] Running Goes [] ∷ [];
+  words = (0, 4) ∷ (9, 5) ∷ [];
+  useful = e 1 ∷ x 1 0 0 ∷ x 1 0 1 ∷ d c0 d0 2 ∷ d c0 d0 3 ∷ [];
+}
+
+abbrev pub StaysStale : Type 0
+StaysStale =
+    Tells (machine 2 1 1 2 256)
+    ((lw 8 ∷ lw 0 ∷ []) ∷ (sw 0 4 ∷ sw 9 5 ∷ Ends ∷ []) ∷ [])
+    stays_stale_events stays_stale
+
+-- an invalidated word is dirty no more: to empty its frame is of no use
+abbrev pub invalidated_is_clean_events : List Event
+invalidated_is_clean_events =
+    e 0 ∷ e 0 ∷ d c0 v 0 ∷ d v c0 0 ∷ d c0 d0 0 ∷ d d0 c0 0 ∷ e 0 ∷ d c0 d0 1 ∷ d c0 d0 2 ∷ e 1 ∷ e 1 ∷ e 1 ∷ e 1 ∷ e 1 ∷ e 1 ∷
+    e 1 ∷ e 1 ∷ e 1 ∷ d c1 v 0 ∷ d v c1 0 ∷ d c1 d0 0 ∷ d d0 c1 0 ∷ d c1 d0 1 ∷ e 1 ∷ d c1 d0 2 ∷ d d0 c0 1 ∷ []
+
+abbrev pub invalidated_is_clean : Told
+invalidated_is_clean = record {
+  commits =
+      noted_commit 1 0 2 [] (wrote 0 4 ∷ []) [] ∷
+      noted_commit 2 1 9 []
+      (wrote 0 20 ∷ wrote 1 21 ∷ wrote 2 22 ∷ wrote 3 23 ∷ wrote 4 24 ∷ wrote 5 25 ∷ wrote 6 26 ∷ wrote 7 27 ∷ []) [] ∷
+      [];
+  cores = stands 2 [] Running Goes [] ∷ stands 25 [] Running Goes [] ∷ [];
+  words = (0, 20) ∷ (1, 21) ∷ (2, 22) ∷ (3, 23) ∷ (4, 24) ∷ (5, 25) ∷ (6, 26) ∷ (7, 27) ∷ [];
+  useful = e 0 ∷ e 1 ∷ x 1 0 0 ∷ d c0 d0 3 ∷ [];
+}
+
+abbrev pub InvalidatedIsClean : Type 0
+InvalidatedIsClean =
+    Tells (machine 2 1 1 1 256)
+    ((sw 0 4 ∷ Ends ∷ []) ∷
+    (sw 0 20 ∷ sw 1 21 ∷ sw 2 22 ∷ sw 3 23 ∷ sw 4 24 ∷ sw 5 25 ∷ sw 6 26 ∷ sw 7 27 ∷ Ends ∷ []) ∷
+    [])
+    invalidated_is_clean_events invalidated_is_clean
+
 abbrev pub CachesAre : Type 0
-CachesAre = StaleFill × StillAwaits × StoredWordStays × RoomIsUseful × RoomBeforeOverflow
+CachesAre = StaleFill × StillAwaits × StoredWordStays × RoomIsUseful × RoomBeforeOverflow × StaysStale × InvalidatedIsClean

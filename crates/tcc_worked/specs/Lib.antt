@@ -3,3 +3,5 @@ pub mod Caches
 pub mod Violations
 pub mod Alone
 pub mod Whole
+pub mod Inside
+pub mod Held

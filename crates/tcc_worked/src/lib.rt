@@ -1,10 +1,13 @@
-//! Worked schedules of the protocol's rules, beside those of tcc_rules: each tells a rule from one that is nearly the same. The
-//! functions here have no body: the contract of each is that its schedules end as they must, computed by the definitions.
+//! Worked schedules of the protocol's rules and of runs by phases, beside those of tcc_rules and phase_rules: each tells a rule from one that
+//! is nearly the same. The functions here have no body: the contract of each is that its schedules end as they must, computed by the
+//! definitions.
 #![tactic(auto)]
 
 ghost use Rattle.tcc_worked.specs.Alone.{AloneAre};
 ghost use Rattle.tcc_worked.specs.Caches.{CachesAre};
+ghost use Rattle.tcc_worked.specs.Held.{HeldAre};
 ghost use Rattle.tcc_worked.specs.Homes.{HomesAre};
+ghost use Rattle.tcc_worked.specs.Inside.{InsideAre};
 ghost use Rattle.tcc_worked.specs.Violations.{ViolationsAre};
 ghost use Rattle.tcc_worked.specs.Whole.{WholeAre};
 
@@ -31,4 +34,14 @@ pub fn alone()
 /// Three cores up to the end of all.
 pub fn whole()
     ensures schedules { WholeAre }
+{}
+
+/// What no report shows: reservations, who owes a core a reply, and what a reply says.
+pub fn inside()
+    ensures schedules { InsideAre }
+{}
+
+/// Phases: a request is held back for each core in an earlier one.
+pub fn held()
+    ensures schedules { HeldAre }
 {}

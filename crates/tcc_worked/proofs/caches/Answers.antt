@@ -8,4 +8,4 @@ use Rattle.tcc_worked.proofs.caches.Goals as goal
 
 pub returns : goal.returns
 unfolding computed changed need_at needs_after needs entry words_with told_core first_words told
-returns c = record { schedules = (refl, refl, refl, refl, refl) }
+returns c = record { schedules = (refl, refl, refl, refl, refl, refl, refl) }
