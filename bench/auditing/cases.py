@@ -49,7 +49,7 @@ def machine(draw):
 
 
 def choice(draw, steps):
-    return ["--steps", str(draw.choice(steps)), "--seed", str(draw.choice([0, 1, draw.getrandbits(64)]))]
+    return ["--steps", str(draw.choice(steps)), "--seed", str(draw.choice([0, draw.getrandbits(8), draw.getrandbits(64)]))]
 
 
 def images(draw):
