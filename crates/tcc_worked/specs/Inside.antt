@@ -1,4 +1,4 @@
--- Schedules whose ends no report shows: reservations, who owes a core a reply, and what a reply says.
+-- Schedules that are looked at from inside: reservations, who owes a core a reply, and what a reply says.
 use Rattle.std.specs.Prelude.{ℕ, ◌≡◌, ◌==◌, List, [], ◌∷◌, ◌++◌, map, filter, Option, Some, None, option_map, if◌then◌else◌}
 use Rattle.tcc_program.specs.Program.{Need, Nothing, Loads, Stores, Ends, Halts, Traps, Program}
 use Rattle.tcc_maps.specs.Nodes.{Event, ProbeReply}

@@ -36,7 +36,7 @@ pub fn whole()
     ensures schedules { WholeAre }
 {}
 
-/// What no report shows: reservations, who owes a core a reply, and what a reply says.
+/// States and messages from inside: reservations, who owes a core a reply, and what a reply says.
 pub fn inside()
     ensures schedules { InsideAre }
 {}
