@@ -46,7 +46,7 @@ pub(crate) fn written_marks(core: &Core) -> Result<Vec<(LineAddr, Mask)>, CoreEr
     ensures marks { IfOk result (λ v. map mark_of v.items ≡ solo_list core.now.config (maps core.now.cache) (words_of core.now.spilled)) }
     ensures cause { OnErr result (IsMemory result) }
 {
-    if core.config.dirs() == 1 && core.spilled.next_line(LineAddr(0)).is_none() {
+    if core.config.dirs() == 1 && core.spilled.is_empty() {
         marks_at(core, DirId(0))
     } else {
         solo_marks(core)

@@ -1,10 +1,9 @@
 -- What an overflow buffer keeps, line by line, and the map from words to values that it stands for.
-use Rattle.std.specs.Prelude.{ℕ, ◌<◌, ◌≤◌, ◌≡◌, true, false, ◌≢◌, ◌==◌, List, length, get_or, Option, Some, None, if◌then◌else◌}
+use Rattle.std.specs.Prelude.{ℕ, ◌<◌, ◌≡◌, ◌≢◌, ◌==◌, List, length, get_or, Option, Some, None, if◌then◌else◌}
 use Rattle.std.specs.Map.{lookup}
 use Rattle.tcc_maps.specs.Words.{line_of, place_of, eight}
 use Rattle.tcc_maps.specs.Masks.{has}
-use Rattle.tcc_maps.specs.Spilled.{Spilled, holds}
-use Rattle.tcc_base.specs.declared.names.LineAddr.{LineAddr}
+use Rattle.tcc_maps.specs.Spilled.{Spilled}
 use Rattle.overflow_buf.specs.declared.line.SpilledLine.{SpilledLine}
 
 abbrev pub Entries : Type 0
@@ -44,11 +43,3 @@ IsBuffer es = (l : ℕ) → IsLine (kept_at es l)
 -- the masked words new, and the others as they were
 unfoldable pub merged : ℕ → List ℕ → List ℕ → List ℕ
 merged m new old = eight (λ k. if has m k then get_or new k 0 else get_or old k 0)
-
-abbrev pub line_number : LineAddr → ℕ
-line_number l = l.0
-
--- the lowest line, from a line on, of which a word is kept, where there is one
-abbrev pub IsNextLine : Spilled → (start : ℕ) → Option ℕ → Type 0
-IsNextLine sp start None = (l : ℕ) → start ≤ l → holds sp l ≡ false
-IsNextLine sp start (Some n) = (start ≤ n) × (holds sp n ≡ true) × ((l : ℕ) → start ≤ l → l < n → holds sp l ≡ false)

@@ -1,22 +1,20 @@
-// The buffer: the kept words of all lines, by line.
-ghost use Rattle.std.specs.Prelude.{◌≡◌, ◌<◌, ℕ, Option, Some, None, IfSome, IfNone, OnOk, OnErr, cond, length, ◌==◌};
-ghost use Rattle.std.specs.Option.{option_map};
+// The buffer: the kept words of all lines, in an index map by line.
+ghost use Rattle.std.specs.Prelude.{◌≡◌, ◌<◌, ◌↔◌, ℕ, Option, Some, None, IsTrue, IfSome, IfNone, OnOk, OnErr, cond, length, ◌==◌};
 ghost use Rattle.tcc_base.specs.Put.{put as put_value};
 ghost use Rattle.tcc_maps.specs.Bridge.{tagged_of};
-ghost use Rattle.tcc_maps.specs.Words.{count_below};
-ghost use Rattle.tcc_maps.specs.Spilled.{none_spilled, spill as spill_words, holds as holds_word, spilled_mask, spilled_line, IsBelow};
-ghost use Rattle.overflow_buf.specs.Kept.{IsBuffer, IsSpilled, IsNextLine, line_number, kept_at, spilled, without_line};
+ghost use Rattle.tcc_maps.specs.Spilled.{none_spilled, spill as spill_words, holds as holds_word, spilled_mask, spilled_line};
+ghost use Rattle.overflow_buf.specs.Kept.{IsBuffer, IsSpilled, kept_at, spilled, without_line};
 
 use crate::line::{SpilledLine, with_word, with_words};
+use indexmap::IndexMap;
 use std::alloc::Global;
-use std::collections::BTreeMap;
 use std::marker::Model;
 use tcc_base::{LineAddr, Mask, NoMemory, Tagged, Tid, WordAddr};
 
 /// Spilled words by their line. Contracts speak of the map from a kept word to its value.
 #[derive(Debug, Drop)]
 pub struct OverflowBuf {
-    lines: BTreeMap<u32, SpilledLine>,
+    lines: IndexMap<u32, SpilledLine>,
 }
 
 impl Model for OverflowBuf {
@@ -35,7 +33,7 @@ impl OverflowBuf {
         ensures { spilled result ≡ none_spilled }
     {
         OverflowBuf {
-            lines: BTreeMap::new(alloc),
+            lines: IndexMap::new(alloc),
         }
     }
 
@@ -125,25 +123,15 @@ impl OverflowBuf {
         }
     }
 
-    /// The lowest line from `from` on of which a word is kept; None exactly where there is none. So calls with one line more each time
-    /// give all lines in rising order.
-    pub fn next_line(&self, from: LineAddr) -> Option<LineAddr>
-        ensures { IsNextLine (spilled self.now) from.0 (option_map line_number result) }
+    /// Whether no word is kept.
+    pub fn is_empty(&self) -> bool
+        ensures { IsTrue result ↔ (spilled self.now ≡ none_spilled) }
     {
-        match self.lines.range(from.0..).next() {
-            None => None,
-            Some((line, _)) => Some(LineAddr(*line)),
-        }
+        self.lines.is_empty()
     }
 
-    /// The number of lines of which words are kept.
-    pub fn len(&self) -> usize
-        ensures { (n : ℕ) → IsBelow n (spilled self.now) → result ≡ count_below (holds_word (spilled self.now)) n }
-    {
-        self.lines.len()
-    }
-
-    /// Takes the kept words of the lowest line away, and gives that line with the mask of these words; None where no word is kept.
+    /// Takes the kept words of some line away, and gives that line with the mask of these words; None exactly where no word is kept. It
+    /// takes constant time and no memory.
     pub fn take_line(&mut self) -> Option<(LineAddr, Mask)>
         ensures none { IfNone result (spilled self.old ≡ none_spilled) }
         ensures same { IfNone result (self.new ≡ self.old) }
@@ -151,7 +139,7 @@ impl OverflowBuf {
         ensures taken { IfSome result (λ t. spilled self.new ≡ without_line t.0.0 (spilled self.old)) }
         ensures fewer { IfSome result (λ t. length self.new < length self.old) }
     {
-        match self.lines.pop_first() {
+        match self.lines.pop() {
             None => None,
             Some((line, kept)) => Some((LineAddr(line), kept.mask)),
         }

@@ -16,7 +16,7 @@ fn words_are_kept_and_handed_out(rt: HostRuntime) -> Result<(), Fail> {
     assert!(rt; !buf.holds(LineAddr(2)));
     assert_eq!(rt; buf.mask(LineAddr(3)), Mask(0b111));
     assert_eq!(rt; buf.mask(LineAddr(2)), Mask(0));
-    assert_eq!(rt; buf.len(), 2);
+    assert!(rt; !buf.is_empty());
     let first = Tagged {
         line: LineAddr(1),
         mask: Mask(1),
@@ -29,13 +29,14 @@ fn words_are_kept_and_handed_out(rt: HostRuntime) -> Result<(), Fail> {
         words: [1, 20, 3, 0, 0, 0, 0, 0],
         tag: Tid(5),
     };
-    assert_eq!(rt; buf.next_line(LineAddr(0)), Some(LineAddr(1)));
     assert_eq!(rt; buf.line(LineAddr(1), Tid(5)), first);
-    assert_eq!(rt; buf.next_line(LineAddr(2)), Some(LineAddr(3)));
     assert_eq!(rt; buf.line(LineAddr(3), Tid(5)), second);
-    assert_eq!(rt; buf.next_line(LineAddr(4)), None);
+    assert_eq!(rt; buf.take_line(), Some((LineAddr(1), Mask(1))));
+    assert!(rt; !buf.holds(LineAddr(1)));
+    assert!(rt; buf.holds(LineAddr(3)));
     buf.clear();
     assert!(rt; !buf.holds(LineAddr(3)));
-    assert_eq!(rt; buf.len(), 0);
+    assert!(rt; buf.is_empty());
+    assert_eq!(rt; buf.take_line(), None);
     Ok(())
 }
