@@ -99,3 +99,61 @@ abbrev pub AloneOnTheBus : Type 0
 AloneOnTheBus =
     BusTells (machine 2 1 1 1 256) alone_code alone_events takes_the_bus
     × BusTells (machine 2 1 1 1 256) alone_code (alone_events ++ x 0 0 0 ∷ e 0 ∷ e 0 ∷ e 0 ∷ []) reads_what_it_spilled
+
+-- while a packet is to be taken no core goes alone; once it is taken the core does, and its read marks are gone
+abbrev pub late_code : Codes
+late_code = (lw 0 ∷ lw 8 ∷ Ends ∷ []) ∷ (sw 16 7 ∷ Ends ∷ []) ∷ []
+
+abbrev pub late_events : List BusEvent
+late_events = e 0 ∷ e 1 ∷ e 1 ∷ e 1 ∷ []
+
+abbrev pub waits_for_the_packet : BusTold
+waits_for_the_packet = record {
+  commits = noted_commit 1 1 2 [] (wrote 16 7 ∷ []) [] ∷ [];
+  cores = stands 0 [] Running Goes (0 ∷ []) ∷ stands 18 [] Running Goes [] ∷ [];
+  words = (16, 7) ∷ [];
+  left = 0 ∷ [];
+  useful = e 1 ∷ t 0 ∷ [];
+}
+
+abbrev pub alone_after_it : BusTold
+alone_after_it = record {
+  commits = noted_commit 1 1 2 [] (wrote 16 7 ∷ []) [] ∷ [];
+  cores = stands 0 [] (Solo 2) Goes [] ∷ stands 18 [] Running Goes [] ∷ [];
+  words = (16, 7) ∷ [];
+  left = [];
+  useful = e 1 ∷ x 0 0 0 ∷ [];
+}
+
+abbrev pub AloneAfterThePacket : Type 0
+AloneAfterThePacket =
+    BusTells (machine 2 1 1 1 256) late_code late_events waits_for_the_packet
+    × BusTells (machine 2 1 1 1 256) late_code (late_events ++ t 0 ∷ e 0 ∷ []) alone_after_it
+
+-- a commit of a transaction that wrote nothing sends no packet
+abbrev pub reads_only : BusTold
+reads_only = record {
+  commits = noted_commit 1 0 2 (got 0 100 ∷ []) [] [] ∷ [];
+  cores = stands 2 (100 ∷ []) Running Goes [] ∷ stands 16 [] Running Goes [] ∷ [];
+  words = [];
+  left = [];
+  useful = e 0 ∷ e 1 ∷ [];
+}
+
+abbrev pub NothingToTake : Type 0
+NothingToTake = BusTells (machine 2 1 1 1 256) ((lw 0 ∷ Ends ∷ []) ∷ []) (e 0 ∷ e 0 ∷ e 0 ∷ []) reads_only
+
+-- a core that waited for the bus begins anew too, and runs
+abbrev pub runs_anew : BusTold
+runs_anew = record {
+  commits = noted_commit 1 1 2 [] (wrote 0 9 ∷ []) [] ∷ [];
+  cores = stands 0 [] Running Goes [] ∷ stands 18 [] Running Goes [] ∷ [];
+  words = (0, 9) ∷ [];
+  left = [];
+  useful = e 0 ∷ e 1 ∷ [];
+}
+
+abbrev pub WaitingBeginsAnew : Type 0
+WaitingBeginsAnew =
+    BusTells (machine 2 1 1 1 256) ((lw 0 ∷ Ends ∷ []) ∷ (sw 0 9 ∷ Ends ∷ []) ∷ [])
+    (e 0 ∷ e 0 ∷ e 1 ∷ e 1 ∷ e 1 ∷ t 0 ∷ []) runs_anew

@@ -1,13 +1,15 @@
 -- Exec: one instruction of a core that runs or is alone, or the commit of a transaction that has ended.
-use Rattle.std.specs.Prelude.{ℕ, List, Option, Some, None}
-use Rattle.tcc_maps.specs.CacheChange.{read_cleared}
-use Rattle.tcc_maps.specs.Shape.{Shape}
-use Rattle.tcc_maps.specs.Words.{put, eight, word_at}
-use Rattle.tcc_program.specs.Program.{Need, Ends, Halts, Traps, Program}
+use Rattle.std.specs.Prelude.{ℕ, List, Option, Some, None, is_some, if◌then◌else◌}
+use Rattle.tcc_base.specs.declared.access.Size.TheVariants.{Byte, Half, Word}
+use Rattle.tcc_maps.specs.Cache.{Cache, free_way}
+use Rattle.tcc_maps.specs.CacheChange.{filled, placed, read_cleared}
+use Rattle.tcc_maps.specs.Shape.{Shape, set_of}
+use Rattle.tcc_maps.specs.Words.{put, eight, line_of, word_at}
+use Rattle.tcc_program.specs.Program.{Need, Loads, Stores, Changes, Ends, Halts, Traps, Program}
+use Rattle.tcc_program.specs.Ram.{word_of}
 use Rattle.tcc_rules.specs.Attempt.{Out, finished}
-use Rattle.tcc_rules.specs.CoreDeliver.{fill}
 use Rattle.tcc_rules.specs.CoreExec.{core_exec}
-use Rattle.tcc_rules.specs.State.{CoreState, Awaited, Phase, Running, AwaitTid, Overflowing, Solo}
+use Rattle.tcc_rules.specs.State.{CoreState, Phase, Running, AwaitTid, Overflowing, Solo}
 use Rattle.bus_rules.specs.Commit.{BusStepped, bus_commit}
 use Rattle.bus_rules.specs.State.{Bus, Free, Alone, Packet, BusWorld}
 
@@ -15,18 +17,34 @@ use Rattle.bus_rules.specs.State.{Bus, Free, Alone, Packet, BusWorld}
 unfoldable pub line_words : (ram : ℕ → ℕ) → (line : ℕ) → List ℕ
 line_words ram l = eight (λ k. ram (word_at l k))
 
--- a line that the core asks for comes from memory at once, and the instruction is executed with it
-abbrev pub with_line : Shape → Program → (ram : ℕ → ℕ) → (core : ℕ) → Out → Option Awaited → Option Out
-with_line sh p ram c o None = Some o
-with_line sh p ram c o (Some a) = core_exec sh p c (fill a.line (line_words ram a.line) o.core).core
+-- the word that an instruction reads; to store a whole word is to read none
+abbrev pub word_read : (base : ℕ) → Need → Option ℕ
+word_read base (Loads addr size) = Some (word_of base addr)
+word_read base (Stores addr Word value) = None
+word_read base (Stores addr Half value) = Some (word_of base addr)
+word_read base (Stores addr Byte value) = Some (word_of base addr)
+word_read base (Changes addr changed) = Some (word_of base addr)
+word_read base _ = None
 
-abbrev pub if_executed : Shape → Program → (ram : ℕ → ℕ) → (core : ℕ) → Option Out → Option Out
-if_executed sh p ram c None = None
-if_executed sh p ram c (Some o) = with_line sh p ram c o o.core.awaited
+-- a line has a frame where it has one or a way of its set is free, and memory's words there where none are valid
+abbrev pub line_filled : Shape → (ram : ℕ → ℕ) → (line : ℕ) → Cache → Cache
+line_filled sh ram l c =
+    if c.held l then filled l (line_words ram l) c
+    else if is_some (free_way sh c (set_of sh l)) then filled l (line_words ram l) (placed sh l c)
+    else c
 
--- an instruction, as a core of the directory machine executes it; None: the core waits for room in its cache
+-- so has the line of a word that is read, unless the word is spilled: also where the word itself is valid
+abbrev pub with_line_of : Shape → (ram : ℕ → ℕ) → CoreState → (read : Option ℕ) → Cache
+with_line_of sh ram s None = s.cache
+with_line_of sh ram s (Some w) = if is_some (s.spilled w) then s.cache else line_filled sh ram (line_of w) s.cache
+
+-- a core with the line of the word that its instruction reads
+unfoldable pub line_at_hand : Shape → Program → (ram : ℕ → ℕ) → CoreState → CoreState
+line_at_hand sh p ram s = record s { cache = with_line_of sh ram s (word_read sh.base (p.need s.local)) }
+
+-- an instruction, as a core of the directory machine executes it, with that line; None: the core waits for room in its cache
 unfoldable pub instruction : Shape → Program → (ram : ℕ → ℕ) → (core : ℕ) → CoreState → Option Out
-instruction sh p ram c s = if_executed sh p ram c (core_exec sh p c s)
+instruction sh p ram c s = core_exec sh p c (line_at_hand sh p ram s)
 
 -- only where the bus is free
 abbrev pub when_free : {A : Type 0} → Bus → A → Option A

@@ -37,6 +37,11 @@ bus_told sh codes h = record {
 abbrev pub BusTells : Shape → Codes → List BusEvent → BusTold → Type 0
 BusTells sh codes es t = option_map (bus_told sh codes) (bus_run sh (needs codes) (bus_start entry first_words) es) ≡ Some t
 
+-- every event is enabled where it comes, and a core's attempt has loaded these values then, the last one first
+abbrev pub Finds : Shape → Codes → List BusEvent → (core : ℕ) → (values : List ℕ) → Type 0
+Finds sh codes es c xs =
+    option_map (λ h. (h.world.cores c).local.regs) (bus_run sh (needs codes) (bus_start entry first_words) es) ≡ Some xs
+
 abbrev pub e : (core : ℕ) → BusEvent
 e c = Exec c
 

@@ -1,19 +1,29 @@
 -- An instruction with its line at hand, and what the machine is after it.
 use Rattle.std.proofs.Common.{◌≡◌, ◌≢◌, ℕ, ◌+◌, ◌<◌, Bool, true, false, not, ◌&&◌, List, length, Option, Some, None, Err, refl, ap, sym}
-use Rattle.std.proofs.Common.{◌∙◌, subst}
-use Rattle.std.specs.Prelude.{if◌then◌else◌, Contains}
+use Rattle.std.proofs.Common.{◌∙◌, subst, arith}
+use Rattle.std.specs.Prelude.{zero, suc, ◌==◌, ◌||◌, get_or, is_some, unwrap_or, if◌then◌else◌, Contains}
+use Rattle.std.proofs.lemmas.Bool.Decides.{nat_tests}
 use Rattle.tcc_base.specs.Put.{put}
-use Rattle.tcc_maps.specs.Shape.{Shape}
-use Rattle.tcc_program.specs.Program.{Program}
+use Rattle.tcc_base.specs.declared.access.Size.TheVariants.{Byte, Half, Word}
+use Rattle.tcc_maps.specs.Cache.{Cache, free_way}
+use Rattle.tcc_maps.specs.CacheChange.{filled, placed}
+use Rattle.tcc_maps.specs.Masks.{has, mask_of}
+use Rattle.tcc_maps.specs.Shape.{Shape, set_of}
+use Rattle.tcc_maps.specs.Words.{line_of, place_of, word_at}
+use Rattle.tcc_maps.proofs.Lemmas.{has-mask_of}
+use Rattle.tcc_program.specs.Program.{Need, Nothing, Loads, Stores, Changes, Prints, Ends, Halts, Traps, Program}
+use Rattle.tcc_program.specs.Ram.{word_of}
 use Rattle.tcc_rules.specs.Attempt.{Out}
 use Rattle.tcc_rules.specs.CoreExec.{core_exec}
-use Rattle.tcc_rules.specs.State.{CoreState, Awaited, Phase, Running, AwaitTid, DoomedTid, Probing, Ready, Overflowing, Solo, Halted}
+use Rattle.tcc_rules.specs.State.{CoreState, Phase, Running, AwaitTid, DoomedTid, Probing, Ready, Overflowing, Solo, Halted}
 use Rattle.core_node.proofs.Lemmas.{alone-with}
 use Rattle.core_node.specs.Answers.{IsBlocked}
-use Rattle.core_node.specs.AtHand.{Leaves, exec_with, executes, goes_alone, line_at, with_awaited}
+use Rattle.core_node.specs.AtHand.{Leaves, executes, filling, goes_alone, is_whole, line_at, lined, need_fills, ready, with_line}
+use Rattle.core_node.specs.AtHand.{word_fills}
 use Rattle.core_node.specs.Executing.{overflows}
 use Rattle.bus_rules.specs.Commit.{BusStepped}
-use Rattle.bus_rules.specs.Exec.{executed, goes_on, gone_alone, if_executed, instruction, line_words, core_changed, when_free, with_line}
+use Rattle.bus_rules.specs.Exec.{executed, goes_on, gone_alone, instruction, line_at_hand, line_words, core_changed, when_free}
+use Rattle.bus_rules.specs.Exec.{with_line_of, word_read}
 use Rattle.bus_rules.specs.State.{Bus, BusWorld, Exec, Free, Alone, Packet}
 use Rattle.bus_tcc.specs.Bank.{Executed, ExecutedAt, gone_if}
 use Rattle.core_node.specs.declared.delivering.CoreError.{CoreError}
@@ -30,19 +40,85 @@ use Rattle.bus_tcc.specs.declared.event.BusStep.TheVariants.{Moved}
 use Rattle.bus_tcc.proofs.Bounds.{core-bounded}
 use Rattle.bus_tcc.proofs.Events.{StaysBut, bank_in, stays-kept, took-by, took-whole, world-is}
 
--- the rules' instruction is an execution with its line at hand
-pub as-instruction : (sh : Shape) (p : Program) (ws : List ℕ) (c : ℕ) (s : CoreState)
-    → exec_with sh p (line_at ws) c (core_exec sh p c s) ≡ instruction sh p (word_in ws) c s
-unfolding instruction line_words
-as-instruction sh p ws c s = by (core_exec sh p c s)
-  where
-    by_line : (o : Out) (a : Option Awaited) → with_awaited sh p (line_at ws) c o a ≡ with_line sh p (word_in ws) c o a
-    by_line o None = refl
-    by_line o (Some a) = refl
+-- a line that is whole isn't changed where it is filled
+all-ones : (k : ℕ) → k < 8 → has 255 k ≡ true
+unfolding has
+all-ones zero l = refl
+all-ones (suc zero) l = refl
+all-ones (suc (suc zero)) l = refl
+all-ones (suc (suc (suc zero))) l = refl
+all-ones (suc (suc (suc (suc zero)))) l = refl
+all-ones (suc (suc (suc (suc (suc zero))))) l = refl
+all-ones (suc (suc (suc (suc (suc (suc zero)))))) l = refl
+all-ones (suc (suc (suc (suc (suc (suc (suc zero))))))) l = refl
+all-ones (suc (suc (suc (suc (suc (suc (suc (suc k)))))))) l = absurd (omega arith)
 
-    by : (o : Option Out) → exec_with sh p (line_at ws) c o ≡ if_executed sh p (word_in ws) c o
-    by None = refl
-    by (Some o) = by_line o o.core.awaited
+whole-value : (l : ℕ) (c : Cache) → mask_of (λ k. is_some (c.value (word_at l k))) ≡ 255 → (v : ℕ) → l ≡ line_of v
+    → is_some (c.value v) ≡ true
+whole-value l c e v q =
+    let at : word_at l (place_of v) ≡ v = omega arith in
+    ap (λ w. is_some (c.value w)) (sym at)
+    ∙ sym (has-mask_of (λ k. is_some (c.value (word_at l k))) (place_of v) (omega arith))
+    ∙ ap (λ m. has m (place_of v)) e
+    ∙ all-ones (place_of v) (omega arith)
+
+filled-whole : (l : ℕ) (ws : List ℕ) (c : Cache) → mask_of (λ k. is_some (c.value (word_at l k))) ≡ 255 → filled l ws c ≡ c
+unfolding filled
+filled-whole l ws c e = λ i. record c { value = λ v. (same v) i }
+  where
+    by : (v : ℕ) (b : Bool) → (l == line_of v) ≡ b → (o : Option ℕ) → c.value v ≡ o
+        → (if b then Some (unwrap_or o (get_or ws (place_of v) 0)) else o) ≡ o
+    by v false q o r = refl
+    by v true q (Some x) r = refl
+    by v true q None r = absurd (let i = whole-value l c e v (grind (arith, nat_tests)) in cc)
+
+    same : (v : ℕ) → (if l == line_of v then Some (unwrap_or (c.value v) (get_or ws (place_of v) 0)) else c.value v) ≡ c.value v
+    same v = by v (l == line_of v) refl (c.value v) refl
+
+-- the line of the word that an instruction reads is the rules'
+word-line : (sh : Shape) (ws : List ℕ) (s : CoreState) (w : ℕ)
+    → with_line sh (line_at ws) s (filling sh w s) ≡ record s { cache = with_line_of sh (word_in ws) s (Some w) }
+unfolding lined line_words word_fills is_whole
+word-line sh ws s w = by (is_some (s.spilled w)) (s.cache.held l) refl (mask == 255) refl (is_some (free_way sh s.cache (set_of sh l)))
+  where
+    l : ℕ
+    l = line_of w
+
+    mask : ℕ
+    mask = mask_of (λ k. is_some (s.cache.value (word_at l k)))
+
+    full : Cache → Cache
+    full c = filled l (line_at ws l) c
+
+    by : (o h : Bool) → s.cache.held l ≡ h → (a : Bool) → (mask == 255) ≡ a → (f : Bool)
+        → with_line sh (line_at ws) s (if (if o || (h && a) then false else h || f) then Some w else None)
+        ≡ record s { cache = if o then s.cache else if h then full s.cache else if f then full (placed sh l s.cache) else s.cache }
+    by true h e a q f = refl
+    by false true e true q f =
+        let is : mask ≡ 255 = grind (arith, nat_tests) in
+        ap (λ (c : Cache). record s { cache = c }) (sym (filled-whole l (line_at ws l) s.cache is))
+    by false true e false q f = rw e refl
+    by false false e a q true = rw e refl
+    by false false e a q false = refl
+
+need-line : (sh : Shape) (ws : List ℕ) (s : CoreState) (n : Need)
+    → with_line sh (line_at ws) s (need_fills sh s n) ≡ record s { cache = with_line_of sh (word_in ws) s (word_read sh.base n) }
+need-line sh ws s Nothing = refl
+need-line sh ws s (Loads addr size) = word-line sh ws s (word_of sh.base addr)
+need-line sh ws s (Stores addr Word value) = refl
+need-line sh ws s (Stores addr Half value) = word-line sh ws s (word_of sh.base addr)
+need-line sh ws s (Stores addr Byte value) = word-line sh ws s (word_of sh.base addr)
+need-line sh ws s (Changes addr changed) = word-line sh ws s (word_of sh.base addr)
+need-line sh ws s (Prints byte) = refl
+need-line sh ws s Ends = refl
+need-line sh ws s (Halts code) = refl
+need-line sh ws s (Traps cause) = refl
+
+-- the rules' instruction is an execution with that line
+pub as-instruction : (sh : Shape) (p : Program) (ws : List ℕ) (c : ℕ) (s : CoreState)
+    → core_exec sh p c (ready sh p (line_at ws) s) ≡ instruction sh p (word_in ws) c s
+unfolding instruction line_at_hand
+as-instruction sh p ws c s = ap (core_exec sh p c) (need-line sh ws s (p.need s.local))
 
 -- it makes a core wait to go on alone where an execution would
 pub instruction-alone : (sh : Shape) (p : Program) (ws : List ℕ) (c : ℕ) (s : CoreState) → executes s.phase ≡ true → s.awaited ≡ None

@@ -1,18 +1,17 @@
 -- An execution with its line at hand makes the core wait to go on alone where one without does.
-use Rattle.std.proofs.Common.{◌≡◌, ℕ, Bool, true, false, not, ◌||◌, ◌&&◌, if◌then◌else◌, Option, Some, None, List, refl, ap, sym, ◌∙◌}
-use Rattle.std.proofs.Common.{subst}
+use Rattle.std.proofs.Common.{◌≡◌, ℕ, Bool, true, false, not, ◌||◌, ◌&&◌, if◌then◌else◌, Option, Some, None, is_some, List, refl, ap, sym}
+use Rattle.std.proofs.Common.{◌∙◌, subst}
 use Rattle.tcc_base.specs.declared.access.Size.TheVariants.{Byte, Half, Word}
 use Rattle.tcc_maps.specs.Shape.{Shape}
 use Rattle.tcc_maps.specs.Words.{line_of}
 use Rattle.tcc_program.specs.Program.{Need, Nothing, Loads, Stores, Changes, Prints, Ends, Halts, Traps, Program}
 use Rattle.tcc_rules.specs.Attempt.{is_solo}
 use Rattle.tcc_rules.specs.CoreExec.{core_exec}
-use Rattle.tcc_rules.specs.Execute.{request_line, execute, execute_need, miss}
+use Rattle.tcc_rules.specs.Execute.{execute}
 use Rattle.tcc_rules.specs.State.{CoreState, Phase, Running, AwaitTid, DoomedTid, Probing, Ready, Overflowing, Solo, Halted}
-use Rattle.core_node.specs.AtHand.{exec_with, executes, goes_alone, lined, need_lacks, need_overflows, word_overflows}
+use Rattle.core_node.specs.AtHand.{executes, goes_alone, lined, need_fills, need_overflows, ready, with_line, word_overflows}
 use Rattle.core_node.specs.Executing.{overflows}
-use Rattle.core_node.proofs.Lined.{exec-executes, exec-lined, exec-with_none, fetch-asks, lacks-some, lined-local, lined-phase}
-use Rattle.core_node.proofs.Lined.{lined-value, need-asks, with_frame, Lacks}
+use Rattle.core_node.proofs.Lined.{exec-executes, fills-some, lined-awaited, lined-local, lined-phase, lined-value, need-fills-so, Fills}
 use Rattle.core_node.proofs.Overflows.{need-alone}
 
 not-waiting : (q : Phase) → executes q ≡ true → overflows q ≡ false
@@ -29,57 +28,55 @@ or-some : (b r : Bool) → (if b || true then false else r) ≡ false
 or-some true r = refl
 or-some false r = refl
 
--- a line that came leaves no set full
-word-lined : (sh : Shape) (w : ℕ) (ws : List ℕ) (s : CoreState) → Lacks sh w s → word_overflows sh w (lined sh (line_of w) ws s) ≡ false
+-- a line that is filled leaves no set full
+word-lined : (sh : Shape) (w : ℕ) (ws : List ℕ) (s : CoreState) → word_overflows sh w (lined sh (line_of w) ws s) ≡ false
 unfolding word_overflows
-word-lined sh w ws s l = rw (lined-value sh w ws s l.value) (or-some _ _)
+word-lined sh w ws s = rw (lined-value sh w ws s) (or-some _ _)
 
-by-word : (sh : Shape) (w v : ℕ) (ws : List ℕ) (s : CoreState) → Lacks sh w s → v ≡ w
-    → word_overflows sh v (lined sh (line_of w) ws s) ≡ false
-by-word sh w v ws s l e = subst (λ u. word_overflows sh u (lined sh (line_of w) ws s) ≡ false) (sym e) (word-lined sh w ws s l)
+-- nor is the set full before that
+word-framed : (sh : Shape) (w : ℕ) (s : CoreState) → Fills sh w s → word_overflows sh w s ≡ false
+unfolding word_overflows
+word-framed sh w s l = rw l.frame (by (is_some (s.spilled w) || is_some (s.cache.value w)))
+  where
+    by : (b : Bool) → (if b then false else false) ≡ false
+    by true = refl
+    by false = refl
 
-need-lined : (sh : Shape) (s : CoreState) (need : Need) (w : ℕ) (ws : List ℕ) → Lacks sh w s → need_lacks sh s need ≡ Some w
-    → need_overflows sh (lined sh (line_of w) ws s) need ≡ false
-need-lined sh s Nothing w ws l e = refl
-need-lined sh s (Loads addr size) w ws l e = by-word sh w _ ws s l (lacks-some _ _ _ e).1
-need-lined sh s (Stores addr Word value) w ws l e = cc
-need-lined sh s (Stores addr Half value) w ws l e = by-word sh w _ ws s l (lacks-some _ _ _ e).1
-need-lined sh s (Stores addr Byte value) w ws l e = by-word sh w _ ws s l (lacks-some _ _ _ e).1
-need-lined sh s (Changes addr changed) w ws l e = by-word sh w _ ws s l (lacks-some _ _ _ e).1
-need-lined sh s (Prints byte) w ws l e = refl
-need-lined sh s Ends w ws l e = refl
-need-lined sh s (Halts code) w ws l e = refl
-need-lined sh s (Traps code) w ws l e = refl
+by-word : (sh : Shape) (s : CoreState) (v w : ℕ) → word_overflows sh w s ≡ false → v ≡ w → word_overflows sh v s ≡ false
+by-word sh s v w l e = subst (λ u. word_overflows sh u s ≡ false) (sym e) l
 
-executed-lined : (sh : Shape) (p : Program) (id : ℕ) (s : CoreState) (w : ℕ) (ws : List ℕ) → Lacks sh w s → overflows s.phase ≡ false
-    → need_lacks sh s (p.need s.local) ≡ Some w → goes_alone (execute sh p id (lined sh (line_of w) ws s)) ≡ false
+-- an instruction that fills a line: after that, and before
+need-alone-not : (sh : Shape) (s t : CoreState) (need : Need) (w : ℕ) → word_overflows sh w t ≡ false → need_fills sh s need ≡ Some w
+    → need_overflows sh t need ≡ false
+need-alone-not sh s t Nothing w l e = refl
+need-alone-not sh s t (Loads addr size) w l e = by-word sh t _ w l (fills-some _ _ _ e).1
+need-alone-not sh s t (Stores addr Word value) w l e = cc
+need-alone-not sh s t (Stores addr Half value) w l e = by-word sh t _ w l (fills-some _ _ _ e).1
+need-alone-not sh s t (Stores addr Byte value) w l e = by-word sh t _ w l (fills-some _ _ _ e).1
+need-alone-not sh s t (Changes addr changed) w l e = by-word sh t _ w l (fills-some _ _ _ e).1
+need-alone-not sh s t (Prints byte) w l e = refl
+need-alone-not sh s t Ends w l e = refl
+need-alone-not sh s t (Halts code) w l e = refl
+need-alone-not sh s t (Traps code) w l e = refl
+
+not-alone : (sh : Shape) (p : Program) (id : ℕ) (s t : CoreState) (w : ℕ) → executes t.phase ≡ true → t.awaited ≡ None
+    → word_overflows sh w t ≡ false → need_fills sh s (p.need t.local) ≡ Some w → goes_alone (core_exec sh p id t) ≡ false
 unfolding execute
-executed-lined sh p id s w ws l e n =
-    let t = lined sh (line_of w) ws s in
-    ap (λ x. goes_alone (execute_need sh p id t (p.need x))) (lined-local sh (line_of w) ws s)
-    ∙ need-alone sh p id t (p.need s.local) (ap overflows (lined-phase sh (line_of w) ws s) ∙ e)
-    ∙ ap (λ b. b && not (is_solo t.phase)) (need-lined sh s (p.need s.local) w ws l n)
-
-asking-stays : (sh : Shape) (l : ℕ) (s : CoreState) → goes_alone (Some (request_line sh l s)) ≡ overflows s.phase
-unfolding request_line
-asking-stays sh l s = refl
-
-asked : (sh : Shape) (p : Program) (id : ℕ) (s : CoreState) (w : ℕ) → need_lacks sh s (p.need s.local) ≡ Some w
-    → execute sh p id s ≡ miss sh (line_of w) s
-unfolding execute
-asked sh p id s w n = (need-asks sh p id s (p.need s.local) w n).asks
+not-alone sh p id s t w e a l n =
+    ap goes_alone (exec-executes sh p id t e a)
+    ∙ need-alone sh p id t (p.need t.local) (not-waiting t.phase e)
+    ∙ ap (λ b. b && not (is_solo t.phase)) (need-alone-not sh s t (p.need t.local) w l n)
 
 pub alone-with : (sh : Shape) (p : Program) (f : ℕ → List ℕ) (id : ℕ) (s : CoreState) → executes s.phase ≡ true → s.awaited ≡ None
-    → goes_alone (exec_with sh p f id (core_exec sh p id s)) ≡ goes_alone (core_exec sh p id s)
-alone-with sh p f id s e a = by (need_lacks sh s (p.need s.local)) refl
+    → goes_alone (core_exec sh p id (ready sh p f s)) ≡ goes_alone (core_exec sh p id s)
+alone-with sh p f id s e a = by (need_fills sh s (p.need s.local)) refl
   where
-    by : (o : Option ℕ) → need_lacks sh s (p.need s.local) ≡ o
-        → goes_alone (exec_with sh p f id (core_exec sh p id s)) ≡ goes_alone (core_exec sh p id s)
-    by None n = ap goes_alone (exec-with_none sh p f id s e a n)
+    by : (o : Option ℕ) → need_fills sh s (p.need s.local) ≡ o
+        → goes_alone (core_exec sh p id (with_line sh f s o)) ≡ goes_alone (core_exec sh p id s)
+    by None n = refl
     by (Some w) n =
-        let l = (need-asks sh p id s (p.need s.local) w n).lacks in
-        let q = asked sh p id s w n in
-        ap goes_alone (exec-lined sh p f id s w e a l q)
-        ∙ executed-lined sh p id s w (f (line_of w)) l (not-waiting s.phase e) n
-        ∙ sym (ap goes_alone (exec-executes sh p id s e a ∙ q ∙ fetch-asks sh (line_of w) s l.frame)
-        ∙ asking-stays sh (line_of w) (with_frame sh (line_of w) s) ∙ not-waiting s.phase e)
+        let l = line_of w in
+        let t = lined sh l (f l) s in
+        not-alone sh p id s t w (ap executes (lined-phase sh l (f l) s) ∙ e) (lined-awaited sh l (f l) s ∙ a) (word-lined sh w (f l) s)
+        (ap (λ x. need_fills sh s (p.need x)) (lined-local sh l (f l) s) ∙ n)
+        ∙ sym (not-alone sh p id s s w e a (word-framed sh w s (need-fills-so sh s (p.need s.local) w n)) n)

@@ -1,11 +1,11 @@
--- What a core does where memory is at hand: a line that it asks for comes at once, and what it writes is told by line.
-use Rattle.std.specs.Prelude.{ℕ, ◌≡◌, Bool, true, false, not, ◌&&◌, ◌||◌, List, [], ◌∷◌, map, get_or, unwrap_or, Option, Some, None}
-use Rattle.std.specs.Prelude.{is_some, if◌then◌else◌}
+-- What a core does where memory is at hand: the line of a word that it reads is filled first, and what it writes is told by line.
+use Rattle.std.specs.Prelude.{ℕ, ◌≡◌, Bool, true, false, not, ◌&&◌, ◌||◌, ◌==◌, List, [], ◌∷◌, map, get_or, unwrap_or, Option, Some}
+use Rattle.std.specs.Prelude.{None, is_some, if◌then◌else◌}
 use Rattle.tcc_base.specs.declared.access.Size.TheVariants.{Byte, Half, Word}
 use Rattle.tcc_base.specs.declared.access.Tagged.{Tagged}
 use Rattle.tcc_base.specs.declared.names.WordAddr.{WordAddr}
-use Rattle.tcc_maps.specs.Cache.{free_way, all_marked}
-use Rattle.tcc_maps.specs.Masks.{hit}
+use Rattle.tcc_maps.specs.Cache.{Cache, free_way, all_marked}
+use Rattle.tcc_maps.specs.Masks.{hit, mask_of}
 use Rattle.tcc_maps.specs.Shape.{Shape, set_of}
 use Rattle.tcc_maps.specs.Spilled.{holds}
 use Rattle.tcc_maps.specs.Words.{eight, line_of, or_else, place_of, word_at}
@@ -13,25 +13,14 @@ use Rattle.tcc_program.specs.Program.{Need, Loads, Stores, Changes, Ends, Halts,
 use Rattle.tcc_program.specs.Ram.{word_of}
 use Rattle.tcc_maps.specs.CacheChange.{filled, placed}
 use Rattle.tcc_rules.specs.Attempt.{Out, finished, is_running, is_solo, new_word}
-use Rattle.tcc_rules.specs.CoreDeliver.{fill}
-use Rattle.tcc_rules.specs.CoreExec.{core_exec}
 use Rattle.tcc_rules.specs.Execute.{marks_read, stored_in_buffer, stored_in_frame}
-use Rattle.tcc_rules.specs.State.{CoreState, Awaited, Phase}
+use Rattle.tcc_rules.specs.State.{CoreState, Phase}
 use Rattle.commit_engine.specs.Solo.{solo_list}
 use Rattle.core_node.specs.Executing.{overflows}
 
 -- the words of a line of a memory
 abbrev pub line_at : (ram : List ℕ) → (line : ℕ) → List ℕ
 line_at ram l = eight (λ k. get_or ram (word_at l k) 0)
-
--- an instruction, executed with the line that it asks for
-abbrev pub with_awaited : Shape → Program → (lines : ℕ → List ℕ) → (core : ℕ) → Out → Option Awaited → Option Out
-with_awaited sh p f c o None = Some o
-with_awaited sh p f c o (Some a) = core_exec sh p c (fill a.line (f a.line) o.core).core
-
-abbrev pub exec_with : Shape → Program → (lines : ℕ → List ℕ) → (core : ℕ) → Option Out → Option Out
-exec_with sh p f c None = None
-exec_with sh p f c (Some o) = with_awaited sh p f c o o.core.awaited
 
 -- the state that an event leaves
 abbrev pub Leaves : Option Out → CoreState → Type 0
@@ -75,23 +64,39 @@ need_overflows sh s _ = false
 unfoldable pub lined : Shape → (line : ℕ) → (words : List ℕ) → CoreState → CoreState
 lined sh l ws s = record s { cache = filled l ws (if s.cache.held l then s.cache else placed sh l s.cache) }
 
--- the word is neither spilled nor valid, and its line has a frame or may have one
-unfoldable pub word_lacks : Shape → (word : ℕ) → CoreState → Bool
-word_lacks sh w s =
-    if is_some (s.spilled w) || is_some (s.cache.value w) then false
+-- the line has a frame in which all words are valid
+unfoldable pub is_whole : (line : ℕ) → Cache → Bool
+is_whole l c = c.held l && mask_of (λ k. is_some (c.value (word_at l k))) == 255
+
+-- to read the word fills its line: the word isn't spilled, and its line isn't whole and has a frame or may have one
+unfoldable pub word_fills : Shape → (word : ℕ) → CoreState → Bool
+word_fills sh w s =
+    if is_some (s.spilled w) || is_whole (line_of w) s.cache then false
     else s.cache.held (line_of w) || is_some (free_way sh s.cache (set_of sh (line_of w)))
 
-abbrev pub lacking : Shape → (word : ℕ) → CoreState → Option ℕ
-lacking sh w s = if word_lacks sh w s then Some w else None
+abbrev pub filling : Shape → (word : ℕ) → CoreState → Option ℕ
+filling sh w s = if word_fills sh w s then Some w else None
 
--- the word for which an instruction asks for a line
-abbrev pub need_lacks : Shape → CoreState → Need → Option ℕ
-need_lacks sh s (Loads addr size) = lacking sh (word_of sh.base addr) s
-need_lacks sh s (Stores addr Word value) = None
-need_lacks sh s (Stores addr Half value) = lacking sh (word_of sh.base addr) s
-need_lacks sh s (Stores addr Byte value) = lacking sh (word_of sh.base addr) s
-need_lacks sh s (Changes addr changed) = lacking sh (word_of sh.base addr) s
-need_lacks sh s _ = None
+-- the word that an instruction reads and for which it fills a line
+abbrev pub need_fills : Shape → CoreState → Need → Option ℕ
+need_fills sh s (Loads addr size) = filling sh (word_of sh.base addr) s
+need_fills sh s (Stores addr Word value) = None
+need_fills sh s (Stores addr Half value) = filling sh (word_of sh.base addr) s
+need_fills sh s (Stores addr Byte value) = filling sh (word_of sh.base addr) s
+need_fills sh s (Changes addr changed) = filling sh (word_of sh.base addr) s
+need_fills sh s _ = None
+
+-- the core with that word's line
+abbrev pub with_line : Shape → (lines : ℕ → List ℕ) → CoreState → (word : Option ℕ) → CoreState
+with_line sh f s None = s
+with_line sh f s (Some w) = lined sh (line_of w) (f (line_of w)) s
+
+abbrev pub ready : Shape → Program → (lines : ℕ → List ℕ) → CoreState → CoreState
+ready sh p f s = with_line sh f s (need_fills sh s (p.need s.local))
+
+-- the value of a word of a line with these words: the core's, where it is valid
+abbrev pub word_lined : (words : List ℕ) → (word : ℕ) → CoreState → ℕ
+word_lined ws w s = unwrap_or (s.cache.value w) (get_or ws (place_of w) 0)
 
 -- a word that was found in a frame is changed, and its instruction is done
 abbrev pub changed : Program → Need → (word x : ℕ) → CoreState → CoreState

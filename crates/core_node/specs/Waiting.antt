@@ -17,8 +17,8 @@ is_full (NeedsRoom set) = false
 is_full (Overflow set) = true
 
 -- the line has a frame or may have one
-abbrev pub misses : Look → Bool
-misses (Hit value) = false
-misses Miss = true
-misses (NeedsRoom set) = false
-misses (Overflow set) = false
+abbrev pub has_way : Look → Bool
+has_way (Hit value) = true
+has_way Miss = true
+has_way (NeedsRoom set) = false
+has_way (Overflow set) = false

@@ -1,4 +1,4 @@
-// An instruction on a machine whose memory is at hand: a line that it asks for comes at once.
+// An instruction on a machine whose memory is at hand: the line of a word that it reads is filled first.
 ghost use Rattle.std.specs.Prelude.{◌≡◌, ◌<◌, ◌-◌, ◌^◌, ◌||◌, get_or, true, Some, None, IfOk, IfSome, OnOk, OnErr};
 ghost use Rattle.std.specs.Option.{option_map};
 ghost use Rattle.image_load.specs.Contents.{started};
@@ -11,18 +11,18 @@ ghost use Rattle.spec_cache.specs.Look.{look_of};
 ghost use Rattle.tcc_maps.specs.CacheChange.{filled};
 ghost use Rattle.tcc_maps.specs.CacheLook.{Miss as Misses, look_line};
 ghost use Rattle.tcc_maps.specs.Shape.{lines};
-ghost use Rattle.tcc_maps.specs.Words.{line_of, place_of};
+ghost use Rattle.tcc_maps.specs.Words.{line_of};
 ghost use Rattle.tcc_rules.specs.Attempt.{finished};
 ghost use Rattle.tcc_rules.specs.CoreExec.{core_exec};
 ghost use Rattle.tcc_rules.specs.Execute.{execute_need, with_read_mark};
 ghost use Rattle.commit_engine.specs.Engine.{phase_of};
 ghost use Rattle.commit_engine.specs.Sent.{HasRoom};
 ghost use Rattle.core_node.specs.Answers.{IsBlocked, IsMemory};
-ghost use Rattle.core_node.specs.AtHand.{Leaves, changed, exec_with, executes, lacking as lacking_by, ends_by, line_at as line_of_list, lined, need_lacks, word_lacks};
-ghost use Rattle.core_node.specs.AtHand.{number_of};
+ghost use Rattle.core_node.specs.AtHand.{Leaves, changed, ends_by, executes, filling as filling_by, is_whole as is_whole_by};
+ghost use Rattle.core_node.specs.AtHand.{line_at as line_of_list, lined, need_fills, number_of, ready, word_fills, word_lined};
 ghost use Rattle.core_node.specs.Executing.{GoesOn, IsAligned};
 ghost use Rattle.core_node.specs.View.{core_of, IsCore, Stays};
-ghost use Rattle.core_node.specs.Waiting.{misses};
+ghost use Rattle.core_node.specs.Waiting.{has_way as has_way_by};
 
 use crate::changing::{finish_buffered, new_word, reads_too};
 use crate::delivering::{CoreError, make_room};
@@ -35,7 +35,7 @@ use crate::storing::{line_of_word, mark_used, store_framed};
 use rv_code::Code;
 use rv_decode::Inst;
 use rv_exec::Need;
-use spec_cache::Look;
+use spec_cache::{Look, SpecCache};
 use tcc_base::{LineAddr, Size, WordAddr};
 use tcc_msg::Outgoing;
 
@@ -66,60 +66,84 @@ fn line_at(ram: &[u32], line: LineAddr) -> [u32; 8]
     ]
 }
 
-/// Whether the cache answers that a line may be asked for.
-fn is_miss(look: Look) -> bool
-    ensures { result ≡ misses (look_of look) }
+/// Whether the cache answers that a line has a frame or may have one.
+fn has_way(look: Look) -> bool
+    ensures { result ≡ has_way_by (look_of look) }
 {
     match look {
-        Look::Miss => true,
-        Look::Hit(_) | Look::NeedsRoom(_) | Look::Overflow(_) => false,
+        Look::Hit(_) | Look::Miss => true,
+        Look::NeedsRoom(_) | Look::Overflow(_) => false,
     }
 }
 
-/// Whether a word is neither spilled nor valid, and its line has a frame or may have one.
-fn lacks(core: &Core, w: WordAddr) -> bool
-    requires { IsCore core.now }
-    ensures { result ≡ word_lacks core.now.config w.0 (core_of core.now) }
+/// Whether a line has a frame in which all words are valid.
+fn is_whole(cache: &SpecCache, line: LineAddr) -> bool
+    ensures { result ≡ is_whole_by line.0 (maps cache.now) }
 {
-    match core.spilled.get(w) {
-        Some(_) => false,
-        None => is_miss(core.cache.look_load(w)),
+    match cache.frame_of(line) {
+        Some(frame) => frame.valid.0 == 255,
+        None => false,
     }
 }
 
-/// The word, if the core lacks it so.
-fn if_lacking(core: &Core, w: WordAddr) -> Option<WordAddr>
+/// Whether to read a word fills its line: the word isn't spilled, and its line isn't whole and has a frame or may have one.
+fn fills(core: &Core, w: WordAddr) -> bool
+    requires { IsCore core.now }
+    ensures { result ≡ word_fills core.now.config w.0 (core_of core.now) }
+{
+    if let Some(_) = core.spilled.get(w) {
+        return false;
+    }
+    if is_whole(&core.cache, line_of_word(w)) {
+        return false;
+    }
+    has_way(core.cache.look_store(w, true))
+}
+
+/// The word, if to read it fills its line.
+fn if_filling(core: &Core, w: WordAddr) -> Option<WordAddr>
     requires whole { IsCore core.now }
     requires exists { line_of w.0 < lines core.now.config }
-    ensures word { option_map number_of result ≡ lacking_by core.now.config w.0 (core_of core.now) }
+    ensures word { option_map number_of result ≡ filling_by core.now.config w.0 (core_of core.now) }
     ensures exists { IfSome result (λ v. line_of v.0 < lines core.now.config) }
 {
-    if lacks(core, w) { Some(w) } else { None }
+    if fills(core, w) { Some(w) } else { None }
 }
 
-/// The word for which an instruction asks for a line.
-fn lacking(core: &Core, need: Need) -> Option<WordAddr>
+/// The word that an instruction reads and for which it fills a line.
+fn filling(core: &Core, need: Need) -> Option<WordAddr>
     requires whole { IsCore core.now }
     requires served { IsServed core.now.config.base core.now.config.ram need }
-    ensures word { option_map number_of result ≡ need_lacks core.now.config (core_of core.now) (need_of need) }
+    ensures word { option_map number_of result ≡ need_fills core.now.config (core_of core.now) (need_of need) }
     ensures exists { IfSome result (λ v. line_of v.0 < lines core.now.config) }
 {
     match need {
-        Need::Load { addr, .. } => if_lacking(core, word_in_ram(core, addr)),
+        Need::Load { addr, .. } => if_filling(core, word_in_ram(core, addr)),
         Need::Store { addr, size, .. } => {
             let w = word_in_ram(core, addr);
             match size {
                 Size::Word => None,
-                Size::Half => if_lacking(core, w),
-                Size::Byte => if_lacking(core, w),
+                Size::Half => if_filling(core, w),
+                Size::Byte => if_filling(core, w),
             }
         }
-        Need::Amo { addr, .. } => if_lacking(core, word_in_ram(core, addr)),
+        Need::Amo { addr, .. } => if_filling(core, word_in_ram(core, addr)),
         Need::Nothing => None,
         Need::Console(_) => None,
         Need::End => None,
         Need::Halt(_) => None,
         Need::Trap(_) => None,
+    }
+}
+
+/// The value of a word of a line with these words: the core's, where it is valid.
+fn word_of_line(core: &Core, w: WordAddr, words: &[u32; 8]) -> u32
+    requires { IsCore core.now }
+    ensures { result ≡ word_lined words.now w.0 (core_of core.now) }
+{
+    match core.cache.look_load(w) {
+        Look::Hit(word) => word,
+        _ => words[w.0 as usize % 8],
     }
 }
 
@@ -152,7 +176,7 @@ fn fill_held(core: &mut Core, line: LineAddr, words: &[u32; 8])
     core.cache.fill(line, words);
 }
 
-/// A load that lacks its word, of which these are its line's: it is done, and the line has a frame then.
+/// A load that fills its line with these words: it is done, and no word of the line is invalid then.
 fn load_with_line(
     core: &mut Core,
     inst: &Inst,
@@ -164,13 +188,14 @@ fn load_with_line(
     requires counts { core.old.n < 2 ^ 32 - 1 }
     requires goes_on { GoesOn (need_of need) }
     requires exists { line_of w.0 < lines core.old.config }
-    requires lacks { word_lacks core.old.config w.0 (core_of core.old) ≡ true }
-    ensures does { OnOk result (core_of core.new ≡ finished (alone inst.now) (need_of need) (get_or words.now (place_of w.0) 0) (with_read_mark w.0 (lined core.old.config (line_of w.0) words.now (core_of core.old)))) }
+    requires fills { word_fills core.old.config w.0 (core_of core.old) ≡ true }
+    ensures does { OnOk result (core_of core.new ≡ finished (alone inst.now) (need_of need) (word_lined words.now w.0 (core_of core.old)) (with_read_mark w.0 (lined core.old.config (line_of w.0) words.now (core_of core.old)))) }
     ensures cause { OnErr result (IsMemory result) }
     ensures stays { Stays core.old core.new }
     ensures unchanged { OnErr result (core.new ≡ core.old) }
 {
-    let Ok(()) = finish(core, inst, need, words[w.0 as usize % 8]) else {
+    let word = word_of_line(core, w, words);
+    let Ok(()) = finish(core, inst, need, word) else {
         return Err(CoreError::Memory);
     };
     fill_frame(core, line_of_word(w), words);
@@ -192,15 +217,15 @@ fn change_with_line(
     requires goes_on { GoesOn (need_of need) }
     requires aligned { IsAligned need }
     requires exists { line_of w.0 < lines core.old.config }
-    requires lacks { word_lacks core.old.config w.0 (core_of core.old) ≡ true }
+    requires fills { word_fills core.old.config w.0 (core_of core.old) ≡ true }
     requires room { HasRoom out.old 1 }
-    ensures does { OnOk result (core_of core.new ≡ changed (alone inst.now) (need_of need) w.0 (get_or words.now (place_of w.0) 0) (lined core.old.config (line_of w.0) words.now (core_of core.old))) }
+    ensures does { OnOk result (core_of core.new ≡ changed (alone inst.now) (need_of need) w.0 (word_lined words.now w.0 (core_of core.old)) (lined core.old.config (line_of w.0) words.now (core_of core.old))) }
     ensures cause { OnErr result (IsMemory result) }
     ensures stays { Stays core.old core.new }
     ensures unchanged { OnErr result (core_of core.new ≡ core_of core.old) }
 {
     let line = line_of_word(w);
-    let word = words[w.0 as usize % 8];
+    let word = word_of_line(core, w, words);
     let value = new_word(need, word);
     if core.spilled.holds(line) {
         finish_buffered(core, inst, need, word, w, value)?;
@@ -216,7 +241,7 @@ fn change_with_line(
     Ok(())
 }
 
-/// The instruction that lacks its word, of which these are its line's.
+/// The instruction that fills its word's line with these words.
 fn execute_with_line(
     core: &mut Core,
     inst: &Inst,
@@ -229,7 +254,7 @@ fn execute_with_line(
     requires counts { core.old.n < 2 ^ 32 - 1 }
     requires served { IsServed core.old.config.base core.old.config.ram need }
     requires exists { line_of w.0 < lines core.old.config }
-    requires lacks { need_lacks core.old.config (core_of core.old) (need_of need) ≡ Some w.0 }
+    requires fills { need_fills core.old.config (core_of core.old) (need_of need) ≡ Some w.0 }
     ensures does { OnOk result (Leaves (execute_need core.old.config (alone inst.now) core.old.id.0 (lined core.old.config (line_of w.0) words.now (core_of core.old)) (need_of need)) (core_of core.new)) }
     ensures cause { OnErr result (IsMemory result) }
     ensures stays { Stays core.old core.new }
@@ -260,7 +285,7 @@ fn exec_plainly(core: &mut Core, code: &Code, out: &mut Outgoing) -> Result<(), 
     }
 }
 
-/// Executes one instruction of a core that runs or is alone and awaits no line, with the line that it asks for.
+/// Executes one instruction of a core that runs or is alone and awaits no line, with the line of the word that it reads.
 pub(crate) fn exec_from(
     core: &mut Core,
     code: &Code,
@@ -272,8 +297,8 @@ pub(crate) fn exec_from(
     requires same { code.now.settings ≡ core.old.config }
     requires executes { executes (phase_of core.old.phase) ≡ true }
     requires idle { core.old.awaited ≡ None }
-    ensures does { OnOk result (Leaves (exec_with core.old.config (program (started code.now)) (line_of_list ram.now) core.old.id.0 (core_exec core.old.config (program (started code.now)) core.old.id.0 (core_of core.old))) (core_of core.new)) }
-    ensures blocked { IsBlocked result (exec_with core.old.config (program (started code.now)) (line_of_list ram.now) core.old.id.0 (core_exec core.old.config (program (started code.now)) core.old.id.0 (core_of core.old))) }
+    ensures does { OnOk result (Leaves (core_exec core.old.config (program (started code.now)) core.old.id.0 (ready core.old.config (program (started code.now)) (line_of_list ram.now) (core_of core.old))) (core_of core.new)) }
+    ensures blocked { IsBlocked result (core_exec core.old.config (program (started code.now)) core.old.id.0 (ready core.old.config (program (started code.now)) (line_of_list ram.now) (core_of core.old))) }
     ensures stays { Stays core.old core.new }
     ensures unchanged { OnErr result (core_of core.new ≡ core_of core.old) }
 {
@@ -281,7 +306,7 @@ pub(crate) fn exec_from(
         return exec_plainly(core, code, out);
     };
     let need = code.plan(&inst, &core.state);
-    match lacking(core, need) {
+    match filling(core, need) {
         None => exec_plainly(core, code, out),
         Some(w) => {
             let words = line_at(ram, line_of_word(w));

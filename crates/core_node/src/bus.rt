@@ -13,7 +13,7 @@ ghost use Rattle.tcc_rules.specs.CoreDeliver.{words_invalidated};
 ghost use Rattle.tcc_rules.specs.CoreExec.{core_exec};
 ghost use Rattle.tcc_rules.specs.State.{Running, Solo};
 ghost use Rattle.core_node.specs.Answers.{IsBlocked, IsMemory};
-ghost use Rattle.core_node.specs.AtHand.{Leaves, ends_by, exec_with, executes, goes_alone, line_at, lines_told};
+ghost use Rattle.core_node.specs.AtHand.{Leaves, ends_by, executes, goes_alone, line_at, lines_told, ready};
 ghost use Rattle.core_node.specs.View.{core_of, IsCore, Stays};
 
 use crate::at_hand::{ends, exec_from};
@@ -128,9 +128,9 @@ impl CoreNode {
         }
     }
 
-    /// Executes one instruction of a core that runs or is alone and awaits no line; a line that it asks for comes from memory, whose
-    /// words these are, at once. Blocked exactly where it waits for room. After an error the core is as before. The attempt has fewer
-    /// than 4,194,304 instructions.
+    /// Executes one instruction of a core that runs or is alone and awaits no line. Where it reads a word that isn't spilled, all words of
+    /// its line that aren't valid come from memory, whose words these are. Blocked exactly where it waits for room. After an error the
+    /// core is as before. The attempt has fewer than 4,194,304 instructions.
     pub fn exec_from(
         &mut self,
         code: &Code,
@@ -141,8 +141,8 @@ impl CoreNode {
         requires same { code.now.settings ≡ self.old.config }
         requires executes { executes (core_of self.old).phase ≡ true }
         requires idle { (core_of self.old).awaited ≡ None }
-        ensures does { OnOk result (Leaves (exec_with self.old.config (program (started code.now)) (line_at ram.now) self.old.id.0 (core_exec self.old.config (program (started code.now)) self.old.id.0 (core_of self.old))) (core_of self.new)) }
-        ensures blocked { IsBlocked result (exec_with self.old.config (program (started code.now)) (line_at ram.now) self.old.id.0 (core_exec self.old.config (program (started code.now)) self.old.id.0 (core_of self.old))) }
+        ensures does { OnOk result (Leaves (core_exec self.old.config (program (started code.now)) self.old.id.0 (ready self.old.config (program (started code.now)) (line_at ram.now) (core_of self.old))) (core_of self.new)) }
+        ensures blocked { IsBlocked result (core_exec self.old.config (program (started code.now)) self.old.id.0 (ready self.old.config (program (started code.now)) (line_at ram.now) (core_of self.old))) }
         ensures stays { Stays self.old self.new }
         ensures unchanged { OnErr result (core_of self.new ≡ core_of self.old) }
     {

@@ -5,7 +5,7 @@ use Rattle.tcc_rules.specs.Needs.{need_at, needs_after, needs, entry}
 use Rattle.tcc_rules.specs.Rows.{changed}
 use Rattle.tcc_rules.specs.Told.{words_with, told_core, first_words}
 use Rattle.bus_rules.specs.Commit.{written_words, with_words, wrote_some, all_clean, bus_commit}
-use Rattle.bus_rules.specs.Exec.{line_words, instruction, gone_alone, bus_exec}
+use Rattle.bus_rules.specs.Exec.{line_words, line_at_hand, instruction, gone_alone, bus_exec}
 use Rattle.bus_rules.specs.State.{bus_start}
 use Rattle.bus_rules.specs.Step.{bus_names, bus_step, bus_next, bus_from, bus_run}
 use Rattle.bus_rules.specs.Take.{reads_some, packet_invalidated, packet_taken, bus_take}
@@ -15,7 +15,15 @@ use Rattle.bus_rules.proofs.worked_bus_schedules.Goals as goal
 
 pub returns : goal.returns
 unfolding computed need_at needs_after needs entry changed words_with told_core first_words written_words with_words wrote_some all_clean
-    bus_commit line_words instruction gone_alone bus_exec bus_start bus_names bus_step bus_next bus_from bus_run reads_some
+    bus_commit line_words line_at_hand instruction gone_alone bus_exec bus_start bus_names bus_step bus_next bus_from bus_run reads_some
     packet_invalidated
     packet_taken bus_take bus_told bus_is_useful bus_execs bus_evicts bus_takes bus_useful
-returns c = record { anew = (refl, refl); taken = (refl, refl); alone = (refl, refl) }
+returns c = record {
+  anew = (refl, refl);
+  taken = (refl, refl);
+  alone = (refl, refl);
+  late = (refl, refl);
+  quiet = refl;
+  waiting = refl;
+  fills = (refl, refl, refl, refl, refl);
+}

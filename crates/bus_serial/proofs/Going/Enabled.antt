@@ -1,15 +1,15 @@
 -- An instruction of a core in bounds: it can be executed where the core by itself executes, and a core that is alone doesn't wait for that.
 use Rattle.std.specs.Prelude.{ℕ, ◌≡◌, true, Option, Some, None, is_some, IfSome}
-use Rattle.std.proofs.Common.{refl, ap, sym, ◌∙◌}
+use Rattle.std.proofs.Common.{ap, ◌∙◌}
 use Rattle.tcc_maps.specs.Shape.{Shape}
 use Rattle.tcc_program.specs.Program.{Program}
 use Rattle.tcc_rules.specs.Attempt.{Out, is_solo}
 use Rattle.tcc_rules.specs.CoreExec.{core_exec}
 use Rattle.tcc_rules.specs.State.{CoreState, Solo}
 use Rattle.tcc_serial.specs.OneCore.{executes}
-use Rattle.bus_rules.specs.Exec.{if_executed, instruction}
+use Rattle.bus_rules.specs.Exec.{instruction}
 use Rattle.bus_serial.specs.Bounds.{BusCoreInBounds}
-use Rattle.bus_serial.proofs.Going.Live.{any_line, instruction-goes, need-any}
+use Rattle.bus_serial.proofs.Going.Live.{any_line, instruction-enabled, need-any}
 use Rattle.bus_serial.proofs.OneCore.Fine.{Fine, Ways, Stays, Closes, Overflows, Left, instruction-left}
 use Rattle.bus_serial.proofs.OneCore.Instruction.{Executes}
 
@@ -26,14 +26,7 @@ fine sh n s k = record {
 -- it can be executed exactly where the core by itself executes
 pub instruction-some : (sh : Shape) (n : ℕ) (p : Program) (ram : ℕ → ℕ) (c : ℕ) (s : CoreState) → BusCoreInBounds sh n s → Executes p s
     → executes s.phase ≡ true → is_some (instruction sh p ram c s) ≡ is_some (core_exec sh p c s)
-unfolding instruction
-instruction-some sh n p ram c s k x e = by (core_exec sh p c s) refl
-  where
-    by : (o : Option Out) → core_exec sh p c s ≡ o → is_some (if_executed sh p ram c o) ≡ is_some o
-    by None q = refl
-    by (Some o) q =
-        ap (λ y. is_some (if_executed sh p ram c y)) (sym q)
-        ∙ instruction-goes sh n p ram c s (fine sh n s k) x e (ap is_some q)
+instruction-some sh n p ram c s k x e = instruction-enabled sh p ram c s k.awaited e
 
 -- it leaves a core alone that is so
 pub alone-stays : (sh : Shape) (n : ℕ) (p : Program) (ram : ℕ → ℕ) (c t : ℕ) (s : CoreState) → BusCoreInBounds sh n s → Executes p s

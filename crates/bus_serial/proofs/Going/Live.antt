@@ -1,10 +1,10 @@
 -- No state is stuck: a core takes the packet, or the core that is alone goes on, or any core that hasn't halted does.
-use Rattle.std.specs.Prelude.{ℕ, ◌≡◌, ◌<◌, Bool, true, false, ◌==◌, ◌&&◌, [], length, Option, Some, None, is_some, IfSome, nat_lt}
+use Rattle.std.specs.Prelude.{ℕ, ◌≡◌, ◌<◌, Bool, true, false, ◌==◌, ◌&&◌, ◌||◌, [], length, Option, Some, None, is_some, IfSome, nat_lt}
+use Rattle.std.specs.Prelude.{unwrap_or, if◌then◌else◌}
 use Rattle.std.proofs.Common.{arith, refl, ap, sym, inl, inr, ◌∙◌, ◌⊎◌}
 use Rattle.std.proofs.lemmas.Bool.Decides.{nat_tests}
 use Rattle.tcc_base.specs.declared.access.Size.TheVariants.{Byte, Half, Word}
-use Rattle.tcc_maps.specs.Cache.{Cache}
-use Rattle.tcc_maps.specs.CacheChange.{filled}
+use Rattle.tcc_maps.specs.Cache.{free_way}
 use Rattle.tcc_maps.specs.Shape.{Shape, set_of}
 use Rattle.tcc_maps.specs.Words.{line_of}
 use Rattle.tcc_maps.proofs.Lemmas.{any_below-found}
@@ -13,10 +13,10 @@ use Rattle.tcc_rules.specs.Attempt.{Out, is_solo}
 use Rattle.tcc_rules.specs.CoreEvict.{core_evict}
 use Rattle.tcc_rules.specs.CoreExec.{core_exec}
 use Rattle.tcc_rules.specs.State.{CoreState, Awaited, Phase, Running, AwaitTid, Overflowing, Solo, Halted}
-use Rattle.tcc_rules.specs.Useful.{room_for_line, room_for_word, room_for_store, room_for_need, room_unless_awaiting, room_in_phase, room}
+use Rattle.tcc_rules.specs.Useful.{room_for_line, room_for_word, room_for_need, room_unless_awaiting, room_in_phase, room}
 use Rattle.tcc_serial.specs.OneCore.{executes}
 use Rattle.tcc_live.proofs.Lemmas.{WantsSome, emptied, exec-or}
-use Rattle.bus_rules.specs.Exec.{line_words, with_line, if_executed, instruction, executed, goes_on, exec_alone, bus_exec_in_phase}
+use Rattle.bus_rules.specs.Exec.{word_read, line_at_hand, instruction, executed, goes_on, exec_alone, bus_exec_in_phase}
 use Rattle.bus_rules.specs.Exec.{bus_exec}
 use Rattle.bus_rules.specs.State.{Bus, Free, Alone, Packet, BusWorld, Exec, Evict, Take, bus_start}
 use Rattle.bus_rules.specs.Step.{BusHistory, if_evicted, bus_names, bus_step, bus_run}
@@ -24,10 +24,10 @@ use Rattle.bus_rules.specs.Take.{bus_take}
 use Rattle.bus_rules.specs.Useful.{bus_is_useful, bus_useful, BusIsDone}
 use Rattle.bus_serial.specs.Laws.{HasCaches, BusNeverStuck}
 use Rattle.bus_serial.proofs.InOrder.Bounded.{InOrder, runs-in-order}
-use Rattle.bus_serial.proofs.OneCore.Did.{How, Ran, Closed, Overflowed, Asked, Executed, NeedIn, wanted, exec-executed}
-use Rattle.bus_serial.proofs.OneCore.Filled.{filled-valid, fill-is}
-use Rattle.bus_serial.proofs.OneCore.Fine.{Fine, Ways, Stays, Closes, Overflows, Left, first-sound, instruction-left}
-use Rattle.bus_serial.proofs.OneCore.Instruction.{Executes, with_words, word_wanted, First}
+use Rattle.bus_serial.proofs.OneCore.Did.{NeedIn}
+use Rattle.bus_serial.proofs.OneCore.Filled.{Hand, Same, Has, at-hand}
+use Rattle.bus_serial.proofs.OneCore.Fine.{Fine, Ways, Stays, Closes, Overflows, Left, instruction-left}
+use Rattle.bus_serial.proofs.OneCore.Instruction.{Executes, read_by}
 use Rattle.bus_serial.proofs.Going.Listed.{NoneUseful, none-useful}
 use Rattle.bus_serial.proofs.InOrder.Ordered.{PacketFits, PhaseFits, BusFits, Ordered}
 
@@ -41,17 +41,28 @@ need-any base (Stores addr size value) = tt
 need-any base (Changes addr changed) = tt
 need-any base _ = tt
 
--- a core with the line that it asked for wants no room
-filled-room : (sh : Shape) (n : Need) (s : CoreState) → is_some (s.cache.value (wanted sh.base n)) ≡ true
-    → s.cache.held (line_of (wanted sh.base n)) ≡ true → room_for_need sh s n ≡ None
-unfolding room_for_word room_for_store room_for_line
-filled-room sh Nothing s v h = refl
-filled-room sh (Loads addr size) s v h = rw v (grind (arith, nat_tests))
-filled-room sh (Stores addr Word x) s v h = rw h (grind (arith, nat_tests))
-filled-room sh (Stores addr Half x) s v h = rw v (grind (arith, nat_tests))
-filled-room sh (Stores addr Byte x) s v h = rw v (grind (arith, nat_tests))
-filled-room sh (Changes addr f) s v h = rw v (grind (arith, nat_tests))
-filled-room sh _ s v h = refl
+-- a core that has a frame for the line of the word that it reads wants no room
+or-some : (a b : Bool) (r : Option ℕ) → b ≡ true → (if a then None else if b then None else r) ≡ None
+or-some true b r e = refl
+or-some false true r e = refl
+or-some false false r e = absurd (cc)
+
+framed-room : (sh : Shape) (w : ℕ) (s : CoreState)
+    → (s.cache.held (line_of w) || is_some (free_way sh s.cache (set_of sh (line_of w)))) ≡ true → room_for_word sh w s ≡ None
+unfolding room_for_word room_for_line
+framed-room sh w s f = or-some (is_some (s.spilled w) || is_some (s.cache.value w)) _ _ f
+
+same-some : (v w : ℕ) → Some v ≡ Some w → v ≡ w
+same-some v w e = ap (λ (o : Option ℕ). unwrap_or o 0) e
+
+reading-room : (sh : Shape) (n : Need) (w : ℕ) (s : CoreState) → word_read sh.base n ≡ Some w
+    → (s.cache.held (line_of w) || is_some (free_way sh s.cache (set_of sh (line_of w)))) ≡ true → room_for_need sh s n ≡ None
+reading-room sh (Loads addr size) w s e f = rw (same-some _ w e) (framed-room sh w s f)
+reading-room sh (Stores addr Word x) w s e f = absurd (cc)
+reading-room sh (Stores addr Half x) w s e f = rw (same-some _ w e) (framed-room sh w s f)
+reading-room sh (Stores addr Byte x) w s e f = rw (same-some _ w e) (framed-room sh w s f)
+reading-room sh (Changes addr g) w s e f = rw (same-some _ w e) (framed-room sh w s f)
+reading-room sh _ w s e f = absurd (cc)
 
 no-room : (sh : Shape) (p : Program) (s : CoreState) → s.awaited ≡ None → room_for_need sh s (p.need s.local) ≡ None → room sh p s ≡ None
 unfolding room
@@ -66,59 +77,38 @@ no-room sh p s a e = go s.phase
     go (Solo t) = at s.awaited
     go _ = refl
 
--- an instruction, where the core executes by itself
-pub instruction-goes : (sh : Shape) (n : ℕ) (p : Program) (ram : ℕ → ℕ) (c : ℕ) (s : CoreState) → Fine sh any_line n s → Executes p s
-    → executes s.phase ≡ true → is_some (core_exec sh p c s) ≡ true → is_some (instruction sh p ram c s) ≡ true
-unfolding instruction filled
-instruction-goes sh n p ram c s k x q i = go (core_exec sh p c s) refl i
-    (exec-executed sh any_line p c s (need-any sh.base (p.need s.local)) k.awaited x)
+-- a core that executes and wants no room can execute
+never-waits : (sh : Shape) (p : Program) (c : ℕ) (s : CoreState) → executes s.phase ≡ true → s.awaited ≡ None
+    → room_for_need sh s (p.need s.local) ≡ None → is_some (core_exec sh p c s) ≡ true
+never-waits sh p c s x a r = by (no-room sh p s a r) (exec-or sh p c s x a)
   where
-    w : ℕ
-    w = word_wanted sh p s
+    by : room sh p s ≡ None → (is_some (core_exec sh p c s) ≡ true) ⊎ WantsSome sh s (room sh p s) → is_some (core_exec sh p c s) ≡ true
+    by e (inl i) = i
+    by e (inr m) = absurd (let j = m.wants.room in cc)
 
-    second : (d : Cache) (o : Out) → First sh any_line p c s d o
-        → let u = with_words ram (line_of w) s d in is_some (core_exec sh p c u) ≡ true
-    second d o f =
-        let u = with_words ram (line_of w) s d in
-        let valid = filled-valid (line_of w) (line_words ram (line_of w)) d w refl in
-        let held : d.held (line_of w) ≡ true = (first-sound sh any_line n p c s d o k f).awaits in
-        let none = no-room sh p u refl (filled-room sh (p.need s.local) u valid held) in
-        by u none (exec-or sh p c u q refl)
-      where
-        by : (u : CoreState) → room sh p u ≡ None → (is_some (core_exec sh p c u) ≡ true) ⊎ WantsSome sh u (room sh p u)
-            → is_some (core_exec sh p c u) ≡ true
-        by u e (inl i) = i
-        by u e (inr m) = absurd (let j = m.wants.room in cc)
+-- it can be executed exactly where the core by itself executes
+pub instruction-enabled : (sh : Shape) (p : Program) (ram : ℕ → ℕ) (c : ℕ) (s : CoreState) → s.awaited ≡ None
+    → executes s.phase ≡ true → is_some (instruction sh p ram c s) ≡ is_some (core_exec sh p c s)
+unfolding instruction line_at_hand
+instruction-enabled sh p ram c s a q = go (at-hand sh ram s (read_by sh p s))
+  where
+    t : CoreState
+    t = line_at_hand sh p ram s
 
-    one : (o : Out) → (b : Option Awaited) → o.core.awaited ≡ b → b ≡ None → is_some (with_line sh p ram c o b) ≡ true
-    one o None e f = refl
-    one o (Some y) e f = absurd (cc)
-
-    asks : (d : Cache) (o : Out) → First sh any_line p c s d o → is_some (with_line sh p ram c o o.core.awaited) ≡ true
-    asks d o f =
-        let y : o.core.awaited ≡ Some (record { line = line_of w; stale = false }) = ap (λ (t : CoreState). t.awaited) f.asks in
-        rw y (rw f.asks (rw (fill-is (line_of w) (line_words ram (line_of w)) s d) (second d o f)))
-
-    by : (o : Out) → core_exec sh p c s ≡ Some o → Executed any_line w s o → How w s o.core
-        → is_some (with_line sh p ram c o o.core.awaited) ≡ true
-    by o e z (Ran i a) = one o o.core.awaited refl (a ∙ k.awaited)
-    by o e z (Closed r i a) = one o o.core.awaited refl (a ∙ k.awaited)
-    by o e z (Overflowed m i) = one o o.core.awaited refl (ap (λ (t : CoreState). t.awaited) i ∙ k.awaited)
-    by o e z (Asked d m i) = asks d o (record { is = e; executed = z; asks = i })
-
-    go : (y : Option Out) → core_exec sh p c s ≡ y → is_some y ≡ true → IfSome y (Executed any_line w s)
-        → is_some (if_executed sh p ram c y) ≡ true
-    go None e i z = absurd (cc)
-    go (Some o) e i z = by o e z z.how
+    go : Hand sh s t (read_by sh p s) → is_some (core_exec sh p c t) ≡ is_some (core_exec sh p c s)
+    go (Same e h) = ap (λ u. is_some (core_exec sh p c u)) e
+    go (Has w r n f v h) =
+        never-waits sh p c t q a (reading-room sh (p.need s.local) w t r (rw h refl))
+        ∙ sym (never-waits sh p c s q a (reading-room sh (p.need s.local) w s r f))
 
 -- an instruction, or room in a set
-instruction-or : (sh : Shape) (n : ℕ) (p : Program) (ram : ℕ → ℕ) (c : ℕ) (s : CoreState) → Fine sh any_line n s → Executes p s
+instruction-or : (sh : Shape) (n : ℕ) (p : Program) (ram : ℕ → ℕ) (c : ℕ) (s : CoreState) → Fine sh any_line n s
     → executes s.phase ≡ true → (is_some (instruction sh p ram c s) ≡ true) ⊎ WantsSome sh s (room sh p s)
-instruction-or sh n p ram c s k x q = by (exec-or sh p c s q k.awaited)
+instruction-or sh n p ram c s k q = by (exec-or sh p c s q k.awaited)
   where
     by : (is_some (core_exec sh p c s) ≡ true) ⊎ WantsSome sh s (room sh p s)
         → (is_some (instruction sh p ram c s) ≡ true) ⊎ WantsSome sh s (room sh p s)
-    by (inl i) = inl (instruction-goes sh n p ram c s k x q i)
+    by (inl i) = inl (instruction-enabled sh p ram c s k.awaited q ∙ i)
     by (inr m) = inr m
 
 -- with the bus free, or as the core that has it, an instruction is one event
@@ -164,7 +154,7 @@ exec-some sh n p w c k f r b = go s.phase refl r
 
     either : Executes p s → executes s.phase ≡ true
         → (is_some (goes_on w c (instruction sh p w.ram c s)) ≡ true) ⊎ WantsSome sh s (room sh p s)
-    either x q = by (instruction-or sh n p w.ram c s k x q)
+    either x q = by (instruction-or sh n p w.ram c s k q)
       where
         by : (is_some (instruction sh p w.ram c s) ≡ true) ⊎ WantsSome sh s (room sh p s)
             → (is_some (goes_on w c (instruction sh p w.ram c s)) ≡ true) ⊎ WantsSome sh s (room sh p s)

@@ -1,11 +1,11 @@
 -- A core's attempt and memory: the attempt is what the plain machine does over a memory that has the words which it used, and memory has
 -- them, but for words of a packet that the core is still to take.
-use Rattle.std.specs.Prelude.{ℕ, ◌≡◌, Bool, true, false, not, ◌==◌, ◌&&◌, ◌||◌, [], ◌∷◌, ◌++◌, Option, Some, None, IfSome, if◌then◌else◌}
-use Rattle.std.proofs.Common.{refl, sym, ◌∙◌}
+use Rattle.std.specs.Prelude.{ℕ, ◌≡◌, ◌⊎◌, Bool, true, false, not, cond, ◌==◌, ◌&&◌, ◌||◌, [], ◌∷◌, ◌++◌, Option, Some, None, IfSome}
+use Rattle.std.specs.Prelude.{unwrap_or, if◌then◌else◌}
+use Rattle.std.proofs.Common.{refl, sym, inl, inr, ◌∙◌}
 use Rattle.tcc_base.specs.declared.access.Size.TheVariants.{Byte, Half, Word}
-use Rattle.tcc_maps.specs.Cache.{Cache}
+use Rattle.tcc_maps.specs.Cache.{Cache, IsCache}
 use Rattle.tcc_maps.specs.CacheChange.{evicted, read_cleared}
-use Rattle.tcc_maps.specs.Nodes.{Dir, Fill}
 use Rattle.tcc_maps.specs.Shape.{Shape}
 use Rattle.tcc_maps.specs.Spilled.{spill_line}
 use Rattle.tcc_maps.specs.Words.{line_of}
@@ -14,22 +14,19 @@ use Rattle.tcc_program.specs.Plain.{Goes}
 use Rattle.tcc_program.specs.Program.{Need, Loads, Stores, Changes, Program}
 use Rattle.tcc_program.specs.Ram.{word_of}
 use Rattle.tcc_rules.specs.Attempt.{Out, moves, is_solo}
-use Rattle.tcc_rules.specs.CoreDeliver.{fill, core_deliver}
 use Rattle.tcc_rules.specs.CoreEvict.{is_awaited, evict_line, core_evict}
 use Rattle.tcc_rules.specs.CoreExec.{core_exec}
 use Rattle.tcc_rules.specs.Sends.{write_back_line}
-use Rattle.tcc_rules.specs.State.{CoreState, Overflowing, Solo}
+use Rattle.tcc_rules.specs.State.{CoreState, Phase, Running, Overflowing, Solo}
 use Rattle.tcc_attempt.specs.Follows.{Uses, Fits, Follows, EndFits, sees, used_in, used_at, used_by}
-use Rattle.tcc_attempt.specs.Marks.{MarksFit, AttemptFits, owed_in}
-use Rattle.tcc_attempt.specs.Sound.{SoundCore}
+use Rattle.tcc_attempt.specs.Marks.{AllStand, AttemptFits, MarksFit, UsesStand, owed_in}
 use Rattle.tcc_attempt.specs.Views.{uses_after}
-use Rattle.tcc_attempt.proofs.Lemmas.{core_deliver-fit, core_deliver-follows, core_evict-fit, core_evict-follows, core_exec-fit}
-use Rattle.tcc_attempt.proofs.Lemmas.{core_exec-follows, follows-into}
-use Rattle.bus_rules.specs.Exec.{line_words, instruction, gone_alone}
-use Rattle.bus_serial.proofs.OneCore.Did.{Did, NeedIn}
-use Rattle.bus_serial.proofs.OneCore.Filled.{Coherent, did-coherent, filled-coherent, fill-is}
-use Rattle.bus_serial.proofs.OneCore.Fine.{Fine, first-sound, filled-fine}
-use Rattle.bus_serial.proofs.OneCore.Instruction.{if-at, Executes, with_words, asking, word_wanted, Once, First, instructed}
+use Rattle.tcc_attempt.proofs.Lemmas.{core_evict-fit, core_evict-follows, core_exec-fit, core_exec-follows, follows-into, follows-same}
+use Rattle.bus_rules.specs.Exec.{with_line_of, line_at_hand, instruction, gone_alone}
+use Rattle.bus_serial.proofs.OneCore.Did.{LineSet, NeedIn, goes}
+use Rattle.bus_serial.proofs.OneCore.Filled.{Coherent, Grown, did-coherent, grown-coherent, read-grown}
+use Rattle.bus_serial.proofs.OneCore.Fine.{Fine, hand-fine}
+use Rattle.bus_serial.proofs.OneCore.Instruction.{if-at, Executes, Once, instructed, read_by, read-in}
 use Rattle.bus_serial.proofs.InOrder.Bounded.{in_memory}
 
 -- memory has these values, but for the words that are gone
@@ -113,47 +110,81 @@ once-follow sh n p ram gone c s o f k e h = record {
       (used-agrees ram gone sh.base s (p.need s.local) h.coherent);
 }
 
-filled-fits : (sh : Shape) (p : Program) (l : ℕ) (ram : ℕ → ℕ) (s : CoreState) (d : Cache) (us : Uses) → SoundCore sh (asking l s d)
-    → AttemptFits sh p (asking l s d) us → AttemptFits sh p (with_words ram l s d) us
-unfolding core_deliver
-filled-fits sh p l ram s d us k h = rw (fill-is l (line_words ram l) s d) at both
+-- the marks of an attempt in a cache that has grown
+all-stand : (sh : Shape) (M : LineSet) (ram : ℕ → ℕ) (c d : Cache) (us : Uses) → Grown sh M ram c d → AllStand false c us
+    → AllStand false d us
+all-stand sh M ram c d [] g h = tt
+all-stand sh M ram c d (u ∷ us) g h = (
+  record {
+    marked = g.read u.0 ∙ h.0.marked;
+    value = λ e. g.keeps u.0 u.1 (h.0.value (sym (g.modified u.0) ∙ e));
+  },
+  all-stand sh M ram c d us g (h.1),
+)
+
+uses-stand : (sh : Shape) (M : LineSet) (ram : ℕ → ℕ) (c d : Cache) (us : Uses) (q : Phase) → Grown sh M ram c d
+    → (q ≡ Running) ⊎ (is_solo q ≡ true) → UsesStand c us q → UsesStand d us q
+uses-stand sh M ram c d us Running g x h = all-stand sh M ram c d us g h
+uses-stand sh M ram c d us (Solo t) g x h = λ w. g.read w ∙ h w
+uses-stand sh M ram c d us q g (inl e) h = absurd (cc)
+uses-stand sh M ram c d us q g (inr e) h = absurd (cc)
+
+-- it sees what it saw
+grown-sees : (sh : Shape) (M : LineSet) (memory : ℕ → ℕ) (s : CoreState) (d : Cache) → IsCache sh s.cache → Grown sh M memory s.cache d
+    → (ram : ℕ → ℕ) (v : ℕ) → sees (record s { cache = d }) ram v ≡ sees s ram v
+unfolding sees
+grown-sees sh M memory s d k g ram v = rw (g.modified v) (go (s.cache.modified v) refl (s.cache.value v) refl)
   where
-    t : CoreState
-    t = asking l s d
+    go : (m : Bool) → s.cache.modified v ≡ m → (o : Option ℕ) → s.cache.value v ≡ o
+        → unwrap_or (s.spilled v) (cond m (unwrap_or (d.value v) 0) (ram v)) ≡ unwrap_or (s.spilled v) (cond m (unwrap_or o 0) (ram v))
+    go false e o f = refl
+    go true e (Some x) f = rw (g.keeps v x f) refl
+    go true e None f = absurd (let i = k.modified v e in cc)
 
-    both : AttemptFits sh p (fill l (line_words ram l) t).core us
-    both = record {
-      follows = core_deliver-follows sh p t us (Dir 0) (Fill l (line_words ram l)) k h.follows;
-      marks = core_deliver-fit sh t us (Dir 0) (Fill l (line_words ram l)) h.marks;
-    }
+executes-so : (p : Program) (s : CoreState) → Executes p s → (s.phase ≡ Running) ⊎ (is_solo s.phase ≡ true)
+executes-so p s (inl e) = inl e
+executes-so p s (inr e) = inr (go (is_solo s.phase) e)
+  where
+    go : (b : Bool) → (b && goes (p.need s.local)) ≡ true → b ≡ true
+    go true e = refl
+    go false e = absurd (cc)
 
-first-follow : (sh : Shape) (n : ℕ) (p : Program) (ram : ℕ → ℕ) (gone : ℕ → Bool) (c : ℕ) (s : CoreState) (d : Cache) (o : Out) → Fits p
-    → Fine sh (in_memory sh) n s → First sh (in_memory sh) p c s d o → Follow sh p ram gone s
-    → Follow sh p ram gone (with_words ram (line_of (word_wanted sh p s)) s d)
-first-follow sh n p ram gone c s d o f k e h = record {
-  uses = h.uses ++ used_by sh.base s (p.need s.local);
-  fits = filled-fits sh p l ram s d (h.uses ++ used_by sh.base s (p.need s.local)) (first-sound sh (in_memory sh) n p c s d o k e)
-      (rw e.asks at (exec-fits sh n p c s h.uses o f k e.is e.executed.quiet h.fits));
-  coherent = filled-coherent ram gone l d (did-coherent (in_memory sh) ram gone s (asking l s d) did h.coherent);
-  agrees = agrees-append gone ram h.uses (used_by sh.base s (p.need s.local)) h.agrees
-      (used-agrees ram gone sh.base s (p.need s.local) h.coherent);
+-- a core with the line of the word that its instruction reads
+hand-follow : (sh : Shape) (n : ℕ) (p : Program) (ram : ℕ → ℕ) (gone : ℕ → Bool) (s : CoreState)
+    → NeedIn (in_memory sh) sh.base (p.need s.local) → Fine sh (in_memory sh) n s → Executes p s → Follow sh p ram gone s
+    → Follow sh p ram gone (line_at_hand sh p ram s)
+unfolding line_at_hand
+hand-follow sh n p ram gone s m k x h = record {
+  uses = h.uses;
+  fits = record {
+    follows = follows-same sh p s h.uses d s.spilled s.awaited s.owing (grown-sees sh M ram s d k.sound.cache g) h.fits.follows;
+    marks = record {
+      stand = uses-stand sh M ram s.cache d h.uses s.phase g (executes-so p s x) h.fits.marks.stand;
+      used = λ w r. h.fits.marks.used w (sym (g.read w) ∙ r);
+      awaits = h.fits.marks.awaits;
+      owes = h.fits.marks.owes;
+    };
+  };
+  coherent = grown-coherent sh M ram gone s.cache d g h.coherent;
+  agrees = h.agrees;
 }
   where
-    l : ℕ
-    l = line_of (word_wanted sh p s)
+    M : LineSet
+    M = in_memory sh
 
-    did : Did (in_memory sh) s (asking l s d)
-    did = rw e.asks at e.executed.did
+    d : Cache
+    d = with_line_of sh ram s (read_by sh p s)
+
+    g : Grown sh M ram s.cache d
+    g = read-grown sh M ram s (read_by sh p s) (read-in M sh.base (p.need s.local) m)
 
 pub instruction-follow : (sh : Shape) (n : ℕ) (p : Program) (ram : ℕ → ℕ) (gone : ℕ → Bool) (c : ℕ) (s : CoreState) → Fits p
     → NeedIn (in_memory sh) sh.base (p.need s.local) → Fine sh (in_memory sh) n s → Executes p s → Follow sh p ram gone s
     → IfSome (instruction sh p ram c s) (λ o. Follow sh p ram gone o.core)
 instruction-follow sh n p ram gone c s f m k x h = instructed sh (in_memory sh) p ram c s (λ o. Follow sh p ram gone o.core) m k.awaited x
-    (λ o e. once-follow sh n p ram gone c s o f k e h)
-    (λ d o r e g.
-    let u = with_words ram (line_of (word_wanted sh p s)) s d in
-    once-follow sh n p ram gone c u r f (filled-fine sh (in_memory sh) n p ram c s d o k e) g
-    (first-follow sh n p ram gone c s d o f k e h))
+    (λ o e.
+    once-follow sh n p ram gone c (line_at_hand sh p ram s) o f (hand-fine sh (in_memory sh) n p ram s m k) e
+    (hand-follow sh n p ram gone s m k x h))
 
 -- the core has the bus
 pub alone-follow : (sh : Shape) (p : Program) (ram : ℕ → ℕ) (gone : ℕ → Bool) (t : ℕ) (s : CoreState) → s.phase ≡ Overflowing None

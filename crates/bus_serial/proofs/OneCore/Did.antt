@@ -21,6 +21,7 @@ use Rattle.tcc_rules.specs.CoreExec.{unless_awaiting, exec_in_phase, core_exec}
 use Rattle.tcc_rules.specs.Sends.{Sends, nothing, flush_line}
 use Rattle.tcc_bounds.specs.Bounds.{AttemptCounted}
 use Rattle.tcc_bounds.proofs.Lemmas.{finishes, marked_read, weak}
+use Rattle.bus_rules.specs.Exec.{word_read}
 
 -- a set of lines
 abbrev pub LineSet : Type 1
@@ -46,17 +47,15 @@ did-nothing M s = record {
   saved = refl;
 }
 
--- how the instruction went, where it looked for the word w
-pub data How (w : ℕ) (s t : CoreState) : Type 0 where
-  Ran : (phase : t.phase ≡ s.phase) → (awaited : t.awaited ≡ s.awaited) → How w s t
-  Closed : (runs : s.phase ≡ Running) → (phase : t.phase ≡ AwaitTid) → (awaited : t.awaited ≡ s.awaited) → How w s t
-  Overflowed : (solo : is_solo s.phase ≡ false) → (is : t ≡ record s { phase = Overflowing None }) → How w s t
-  Asked : (cache : Cache) → (missing : s.cache.value w ≡ None)
-      → (is : t ≡ record s { cache = cache; awaited = Some (record { line = line_of w; stale = false }) }) → How w s t
+-- how the instruction went
+pub data How (s t : CoreState) : Type 0 where
+  Ran : (phase : t.phase ≡ s.phase) → (awaited : t.awaited ≡ s.awaited) → How s t
+  Closed : (runs : s.phase ≡ Running) → (phase : t.phase ≡ AwaitTid) → (awaited : t.awaited ≡ s.awaited) → How s t
+  Overflowed : (solo : is_solo s.phase ≡ false) → (is : t ≡ record s { phase = Overflowing None }) → How s t
 
-pub record Executed (M : LineSet) (w : ℕ) (s : CoreState) (o : Out) : Type 0 where
+pub record Executed (M : LineSet) (s : CoreState) (o : Out) : Type 0 where
   pub did : Did M s o.core
-  pub how : How w s o.core
+  pub how : How s o.core
   pub quiet : o.commit ≡ None
   pub attempt : (n : ℕ) → AttemptCounted n s → AttemptCounted (n + 1) o.core
 
@@ -67,12 +66,14 @@ NeedIn M base (Stores addr size value) = M (line_of (word_of base addr))
 NeedIn M base (Changes addr changed) = M (line_of (word_of base addr))
 NeedIn M base _ = Unit {0}
 
--- the word that an instruction looks for
-abbrev pub wanted : (base : ℕ) → Need → ℕ
-wanted base (Loads addr size) = word_of base addr
-wanted base (Stores addr size value) = word_of base addr
-wanted base (Changes addr changed) = word_of base addr
-wanted base _ = 0
+-- the line has a frame or may have one
+abbrev pub has_way : Shape → (line : ℕ) → Cache → Bool
+has_way sh l c = c.held l || is_some (free_way sh c (set_of sh l))
+
+-- the line of a word that is read isn't asked for: the word is spilled or valid, or its line can't have a frame
+abbrev pub AtHand : Shape → CoreState → (read : Option ℕ) → Type 0
+AtHand sh s None = Unit {0}
+AtHand sh s (Some w) = (is_some (s.spilled w) || (is_some (s.cache.value w) || not (has_way sh (line_of w) s.cache))) ≡ true
 
 -- an instruction's end
 
@@ -83,18 +84,18 @@ finished-did M p Nothing x s t d =
 finished-did M p _ x s t d =
     record { stays = d.stays; value = d.value; clean = d.clean; frames = d.frames; spilled = d.spilled; saved = d.saved }
 
-finished-how : (p : Program) (need : Need) (x w : ℕ) (s t : CoreState) → t.phase ≡ s.phase → t.awaited ≡ s.awaited
-    → How w s (finished p need x t)
+finished-how : (p : Program) (need : Need) (x : ℕ) (s t : CoreState) → t.phase ≡ s.phase → t.awaited ≡ s.awaited
+    → How s (finished p need x t)
 unfolding finished one_more_instruction
-finished-how p Nothing x w s t e a = Ran e a
-finished-how p _ x w s t e a = Ran e a
+finished-how p Nothing x s t e a = Ran e a
+finished-how p _ x s t e a = Ran e a
 
-ends : (M : LineSet) (p : Program) (need : Need) (x w : ℕ) (s t : CoreState) (sends : Sends) → Did M s t → t.phase ≡ s.phase
+ends : (M : LineSet) (p : Program) (need : Need) (x : ℕ) (s t : CoreState) (sends : Sends) → Did M s t → t.phase ≡ s.phase
     → t.awaited ≡ s.awaited → ((n : ℕ) → AttemptCounted n s → AttemptCounted n t)
-    → Executed M w s (moves (finished p need x t) sends)
-ends M p need x w s t sends d e a g = record {
+    → Executed M s (moves (finished p need x t) sends)
+ends M p need x s t sends d e a g = record {
   did = finished-did M p need x s t d;
-  how = finished-how p need x w s t e a;
+  how = finished-how p need x s t e a;
   quiet = refl;
   attempt = λ n k. finishes n p need x t (g n k);
 }
@@ -192,23 +193,13 @@ place-did sh M l s m = go (free_way sh s.cache (set_of sh l))
       saved = refl;
     }
 
--- asking for a line, or for the bus
+-- asking for the bus
 
-asked : (sh : Shape) (M : LineSet) (w : ℕ) (s : CoreState) (c : Cache) → s.cache.value w ≡ None → Did M s (record s { cache = c })
-    → Executed M w s (request_line sh (line_of w) (record s { cache = c }))
-unfolding request_line
-asked sh M w s c n d = record {
-  did = record { stays = d.stays; value = d.value; clean = d.clean; frames = d.frames; spilled = d.spilled; saved = d.saved };
-  how = Asked c n refl;
-  quiet = refl;
-  attempt = λ n k. weak n s.n s.loads s.stores s.console k;
-}
-
-full : (sh : Shape) (M : LineSet) (l w : ℕ) (s : CoreState) → IfSome (full_set sh l s) (Executed M w s)
+full : (sh : Shape) (M : LineSet) (l : ℕ) (s : CoreState) → IfSome (full_set sh l s) (Executed M s)
 unfolding full_set overflow
-full sh M l w s = go (is_solo s.phase) refl (not (all_marked sh s.cache (set_of sh l)))
+full sh M l s = go (is_solo s.phase) refl (not (all_marked sh s.cache (set_of sh l)))
   where
-    go : (b : Bool) → is_solo s.phase ≡ b → (c : Bool) → IfSome (if b || c then None else Some (overflow s)) (Executed M w s)
+    go : (b : Bool) → is_solo s.phase ≡ b → (c : Bool) → IfSome (if b || c then None else Some (overflow s)) (Executed M s)
     go true e c = tt
     go false e true = tt
     go false e false = record {
@@ -225,69 +216,78 @@ full sh M l w s = go (is_solo s.phase) refl (not (all_marked sh s.cache (set_of 
       attempt = λ n k. weak n s.n s.loads s.stores s.console k;
     }
 
-fetches : (sh : Shape) (M : LineSet) (w : ℕ) (s : CoreState) → M (line_of w) → s.cache.value w ≡ None
-    → IfSome (miss sh (line_of w) s) (Executed M w s)
-unfolding miss place
-fetches sh M w s m n = go (s.cache.held (line_of w)) (is_some (free_way sh s.cache (set_of sh (line_of w))))
+-- a line that isn't asked for
+no-way : (spilled valid : Option ℕ) (b : Bool) → spilled ≡ None → valid ≡ None → (is_some spilled || (is_some valid || not b)) ≡ true
+    → b ≡ false
+no-way (Some x) v b e f h = absurd (cc)
+no-way None (Some y) b e f h = absurd (cc)
+no-way None None true e f h = absurd (cc)
+no-way None None false e f h = refl
+
+misses : (sh : Shape) (M : LineSet) (w : ℕ) (s : CoreState) → s.spilled w ≡ None → s.cache.value w ≡ None → AtHand sh s (Some w)
+    → IfSome (miss sh (line_of w) s) (Executed M s)
+unfolding miss
+misses sh M w s p n h = go (s.cache.held (line_of w)) (is_some (free_way sh s.cache (set_of sh (line_of w))))
+    (no-way (s.spilled w) (s.cache.value w) _ p n h)
   where
-    go : (a b : Bool) → IfSome (
+    go : (a b : Bool) → (a || b) ≡ false → IfSome (
         if a then Some (request_line sh (line_of w) s)
-        else (if b then Some (request_line sh (line_of w) (place sh (line_of w) s)) else full_set sh (line_of w) s)) (Executed M w s)
-    go true b = asked sh M w s s.cache n (did-nothing M s)
-    go false true = asked sh M w s (placed sh (line_of w) s.cache) n (place-did sh M (line_of w) s m)
-    go false false = full sh M (line_of w) w s
+        else (if b then Some (request_line sh (line_of w) (place sh (line_of w) s)) else full_set sh (line_of w) s)) (Executed M s)
+    go true b e = absurd (cc)
+    go false true e = absurd (cc)
+    go false false e = full sh M (line_of w) s
 
 -- by what the instruction needs
 
-loads : (sh : Shape) (M : LineSet) (p : Program) (need : Need) (w : ℕ) (s : CoreState) → M (line_of w)
-    → IfSome (load sh p need w s) (Executed M w s)
+loads : (sh : Shape) (M : LineSet) (p : Program) (need : Need) (w : ℕ) (s : CoreState) → AtHand sh s (Some w)
+    → IfSome (load sh p need w s) (Executed M s)
 unfolding load
-loads sh M p need w s m = go (s.spilled w)
+loads sh M p need w s h = go (s.spilled w) refl
   where
-    valid : (o : Option ℕ) → s.cache.value w ≡ o → IfSome (load_valid sh p need w s o) (Executed M w s)
-    valid (Some x) e =
-        let q = used-phase w s in ends M p need x w s (with_read_mark w s) nothing (used-did M w s) q.0 q.1 (λ n k. marked_read n w s k)
-    valid None e = fetches sh M w s m e
+    valid : s.spilled w ≡ None → (o : Option ℕ) → s.cache.value w ≡ o → IfSome (load_valid sh p need w s o) (Executed M s)
+    valid f (Some x) e =
+        let q = used-phase w s in ends M p need x s (with_read_mark w s) nothing (used-did M w s) q.0 q.1 (λ n k. marked_read n w s k)
+    valid f None e = misses sh M w s f e h
 
-    go : (o : Option ℕ) → IfSome (load_spilled sh p need w s o) (Executed M w s)
-    go (Some x) = ends M p need x w s s nothing (did-nothing M s) refl refl (λ n k. k)
-    go None = valid (s.cache.value w) refl
+    go : (o : Option ℕ) → s.spilled w ≡ o → IfSome (load_spilled sh p need w s o) (Executed M s)
+    go (Some x) f = ends M p need x s s nothing (did-nothing M s) refl refl (λ n k. k)
+    go None f = valid f (s.cache.value w) refl
 
 buffers : (sh : Shape) (M : LineSet) (p : Program) (need : Need) (w x y : ℕ) (s : CoreState) → M (line_of w)
-    → Executed M w s (moves (finished p need y (stored_in_buffer w x s)) nothing)
+    → Executed M s (moves (finished p need y (stored_in_buffer w x s)) nothing)
 unfolding stored_in_buffer
-buffers sh M p need w x y s m = ends M p need y w s (stored_in_buffer w x s) nothing (buffered-did M w x s m) refl refl (λ n k. k)
+buffers sh M p need w x y s m = ends M p need y s (stored_in_buffer w x s) nothing (buffered-did M w x s m) refl refl (λ n k. k)
 
 frames : (sh : Shape) (M : LineSet) (p : Program) (need : Need) (w x y : ℕ) (also : Bool) (s : CoreState) (c : Cache) (sends : Sends)
     → Did M s (record s { cache = c }) →
-    Executed M w s (moves (finished p need y (stored_in_frame w x also (record s { cache = c }))) sends)
+    Executed M s (moves (finished p need y (stored_in_frame w x also (record s { cache = c }))) sends)
 unfolding stored_in_frame
 frames sh M p need w x y also s c sends d =
     let t = record s { cache = c } in
-    ends M p need y w s (stored_in_frame w x also t) sends (framed-did M w x also s t d) refl refl (λ n k. k)
+    ends M p need y s (stored_in_frame w x also t) sends (framed-did M w x also s t d) refl refl (λ n k. k)
 
-partly : (sh : Shape) (M : LineSet) (p : Program) (need : Need) (w : ℕ) (s : CoreState) → M (line_of w)
-    → IfSome (partial_store sh p need w s) (Executed M w s)
+partly : (sh : Shape) (M : LineSet) (p : Program) (need : Need) (w : ℕ) (s : CoreState) → M (line_of w) → AtHand sh s (Some w)
+    → IfSome (partial_store sh p need w s) (Executed M s)
 unfolding partial_store
-partly sh M p need w s m = go (s.spilled w)
+partly sh M p need w s m h = go (s.spilled w) refl
   where
     one : (x : ℕ) (b : Bool) → IfSome (
         if b then Some (moves (finished p need x (stored_in_buffer w (new_word need x) s)) nothing)
         else Some (moves (finished p need x (stored_in_frame w (new_word need x) (marks_read w s) s)) (flush_line sh s.cache (line_of w))))
-        (Executed M w s)
+        (Executed M s)
     one x true = buffers sh M p need w (new_word need x) x s m
     one x false = frames sh M p need w (new_word need x) x (marks_read w s) s s.cache (flush_line sh s.cache (line_of w)) (did-nothing M s)
 
-    valid : (o : Option ℕ) → s.cache.value w ≡ o → IfSome (change_valid sh p need w s o) (Executed M w s)
-    valid None e = fetches sh M w s m e
-    valid (Some x) e = one x (holds s.spilled (line_of w))
+    valid : s.spilled w ≡ None → (o : Option ℕ) → s.cache.value w ≡ o → IfSome (change_valid sh p need w s o) (Executed M s)
+    valid f None e = misses sh M w s f e h
+    valid f (Some x) e = one x (holds s.spilled (line_of w))
 
-    go : (o : Option ℕ) → IfSome (change_spilled sh p need w s o) (Executed M w s)
-    go (Some x) = buffers sh M p need w (new_word need x) x s m
-    go None = valid (s.cache.value w) refl
+    go : (o : Option ℕ) → s.spilled w ≡ o → IfSome (change_spilled sh p need w s o) (Executed M s)
+    go (Some x) f = buffers sh M p need w (new_word need x) x s m
+    go None f = valid f (s.cache.value w) refl
 
 wholly : (sh : Shape) (M : LineSet) (p : Program) (need : Need) (w x : ℕ) (s : CoreState) → M (line_of w)
-    → IfSome (word_store sh p need w x s) (Executed M w s)
+    → IfSome (word_store sh p need w x s) (Executed M s)
 unfolding word_store place
 wholly sh M p need w x s m = go (holds s.spilled (line_of w)) (s.cache.held (line_of w))
     (is_some (free_way sh s.cache (set_of sh (line_of w))))
@@ -296,11 +296,11 @@ wholly sh M p need w x s m = go (holds s.spilled (line_of w)) (s.cache.held (lin
         if a then Some (moves (finished p need x (stored_in_buffer w x s)) nothing)
         else (if b then Some (moves (finished p need x (stored_in_frame w x false s)) (flush_line sh s.cache (line_of w)))
         else (if d then Some (moves (finished p need x (stored_in_frame w x false (place sh (line_of w) s))) nothing)
-        else full_set sh (line_of w) s))) (Executed M w s)
+        else full_set sh (line_of w) s))) (Executed M s)
     go true b d = buffers sh M p need w x x s m
     go false true d = frames sh M p need w x x false s s.cache (flush_line sh s.cache (line_of w)) (did-nothing M s)
     go false false true = frames sh M p need w x x false s (placed sh (line_of w) s.cache) nothing (place-did sh M (line_of w) s m)
-    go false false false = full sh M (line_of w) w s
+    go false false false = full sh M (line_of w) s
 
 -- the instruction doesn't end the transaction
 abbrev pub goes : Need → Bool
@@ -314,9 +314,9 @@ unfolding finished one_more_instruction
 finished-awaits p Nothing x s = refl
 finished-awaits p _ x s = refl
 
-closes : (sh : Shape) (M : LineSet) (p : Program) (id w : ℕ) (need : Need) (s : CoreState) (q : Phase) → s.phase ≡ q → q ≡ Running
-    → Executed M w s (end_transaction sh id q (finished p need 0 s))
-closes sh M p id w need s Running e r =
+closes : (sh : Shape) (M : LineSet) (p : Program) (id : ℕ) (need : Need) (s : CoreState) (q : Phase) → s.phase ≡ q → q ≡ Running
+    → Executed M s (end_transaction sh id q (finished p need 0 s))
+closes sh M p id need s Running e r =
     let d = finished-did M p need 0 s s (did-nothing M s) in
     record {
       did = record { stays = d.stays; value = d.value; clean = d.clean; frames = d.frames; spilled = d.spilled; saved = d.saved };
@@ -324,36 +324,36 @@ closes sh M p id w need s Running e r =
       quiet = refl;
       attempt = λ n k. finishes n p need 0 s k;
     }
-closes sh M p id w need s q e r = absurd (cc)
+closes sh M p id need s q e r = absurd (cc)
 
 needs : (sh : Shape) (M : LineSet) (p : Program) (id : ℕ) (s : CoreState) (need : Need) → NeedIn M sh.base need
-    → (s.phase ≡ Running) ⊎ (goes need ≡ true) → IfSome (execute_need sh p id s need) (Executed M (wanted sh.base need) s)
-needs sh M p id s Nothing m g = ends M p Nothing 0 0 s s nothing (did-nothing M s) refl refl (λ n k. k)
-needs sh M p id s (Prints byte) m g = ends M p (Prints byte) 0 0 s s nothing (did-nothing M s) refl refl (λ n k. k)
-needs sh M p id s (Loads addr size) m g = loads sh M p (Loads addr size) (word_of sh.base addr) s m
-needs sh M p id s (Stores addr Word x) m g = wholly sh M p (Stores addr Word x) (word_of sh.base addr) x s m
-needs sh M p id s (Stores addr Half x) m g = partly sh M p (Stores addr Half x) (word_of sh.base addr) s m
-needs sh M p id s (Stores addr Byte x) m g = partly sh M p (Stores addr Byte x) (word_of sh.base addr) s m
-needs sh M p id s (Changes addr f) m g = partly sh M p (Changes addr f) (word_of sh.base addr) s m
-needs sh M p id s Ends m (inl e) = closes sh M p id 0 Ends s s.phase refl e
-needs sh M p id s (Halts code) m (inl e) = closes sh M p id 0 (Halts code) s s.phase refl e
-needs sh M p id s (Traps code) m (inl e) = closes sh M p id 0 (Traps code) s s.phase refl e
-needs sh M p id s need m (inr e) = absurd (cc)
+    → AtHand sh s (word_read sh.base need) → (s.phase ≡ Running) ⊎ (goes need ≡ true) → IfSome (execute_need sh p id s need) (Executed M s)
+needs sh M p id s Nothing m h g = ends M p Nothing 0 s s nothing (did-nothing M s) refl refl (λ n k. k)
+needs sh M p id s (Prints byte) m h g = ends M p (Prints byte) 0 s s nothing (did-nothing M s) refl refl (λ n k. k)
+needs sh M p id s (Loads addr size) m h g = loads sh M p (Loads addr size) (word_of sh.base addr) s h
+needs sh M p id s (Stores addr Word x) m h g = wholly sh M p (Stores addr Word x) (word_of sh.base addr) x s m
+needs sh M p id s (Stores addr Half x) m h g = partly sh M p (Stores addr Half x) (word_of sh.base addr) s m h
+needs sh M p id s (Stores addr Byte x) m h g = partly sh M p (Stores addr Byte x) (word_of sh.base addr) s m h
+needs sh M p id s (Changes addr f) m h g = partly sh M p (Changes addr f) (word_of sh.base addr) s m h
+needs sh M p id s Ends m h (inl e) = closes sh M p id Ends s s.phase refl e
+needs sh M p id s (Halts code) m h (inl e) = closes sh M p id (Halts code) s s.phase refl e
+needs sh M p id s (Traps code) m h (inl e) = closes sh M p id (Traps code) s s.phase refl e
+needs sh M p id s need m h (inr e) = absurd (cc)
 
 -- an instruction of a core that runs, or of one that is alone and doesn't end its transaction
-pub exec-executed : (sh : Shape) (M : LineSet) (p : Program) (id : ℕ) (s : CoreState) → NeedIn M sh.base (p.need s.local) → s.awaited ≡ None
-    → (s.phase ≡ Running) ⊎ ((is_solo s.phase && goes (p.need s.local)) ≡ true)
-    → IfSome (core_exec sh p id s) (Executed M (wanted sh.base (p.need s.local)) s)
+pub exec-executed : (sh : Shape) (M : LineSet) (p : Program) (id : ℕ) (s : CoreState) → NeedIn M sh.base (p.need s.local)
+    → AtHand sh s (word_read sh.base (p.need s.local)) → s.awaited ≡ None
+    → (s.phase ≡ Running) ⊎ ((is_solo s.phase && goes (p.need s.local)) ≡ true) → IfSome (core_exec sh p id s) (Executed M s)
 unfolding core_exec execute
-exec-executed sh M p id s m a g = go s.phase refl g
+exec-executed sh M p id s m h a g = go s.phase refl g
   where
     awaiting : (o : Option Awaited) → o ≡ None → (s.phase ≡ Running) ⊎ (goes (p.need s.local) ≡ true)
-        → IfSome (unless_awaiting sh p id s o) (Executed M (wanted sh.base (p.need s.local)) s)
-    awaiting None e g = needs sh M p id s (p.need s.local) m g
+        → IfSome (unless_awaiting sh p id s o) (Executed M s)
+    awaiting None e g = needs sh M p id s (p.need s.local) m h g
     awaiting (Some x) e g = absurd (cc)
 
     go : (q : Phase) → s.phase ≡ q → (q ≡ Running) ⊎ ((is_solo q && goes (p.need s.local)) ≡ true)
-        → IfSome (exec_in_phase sh p id s q) (Executed M (wanted sh.base (p.need s.local)) s)
+        → IfSome (exec_in_phase sh p id s q) (Executed M s)
     go Running e g = awaiting s.awaited a (inl e)
     go (Solo t) e (inl h) = absurd (cc)
     go (Solo t) e (inr h) = awaiting s.awaited a (inr h)

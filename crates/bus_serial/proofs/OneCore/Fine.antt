@@ -4,27 +4,25 @@ use Rattle.std.specs.Prelude.{ℕ, ◌+◌, ◌≡◌, Bool, true, false, not, �
 use Rattle.std.specs.Prelude.{unwrap_or, if◌then◌else◌}
 use Rattle.std.proofs.Common.{refl, ap, sym, inl, inr, ◌∙◌}
 use Rattle.tcc_maps.specs.Cache.{Cache, is_marked}
-use Rattle.tcc_maps.specs.CacheChange.{filled, evicted, read_cleared}
-use Rattle.tcc_maps.specs.Nodes.{Dir, Fill}
+use Rattle.tcc_maps.specs.CacheChange.{evicted, read_cleared}
 use Rattle.tcc_maps.specs.Shape.{Shape}
 use Rattle.tcc_maps.specs.Spilled.{spill_line}
 use Rattle.tcc_maps.specs.Words.{line_of}
 use Rattle.tcc_maps.proofs.Lemmas.{dirty-evicted, held-evicted, read_cleared-keeps}
 use Rattle.tcc_program.specs.Program.{Program}
 use Rattle.tcc_rules.specs.Attempt.{Out, moves, is_solo}
-use Rattle.tcc_rules.specs.CoreDeliver.{core_deliver}
 use Rattle.tcc_rules.specs.CoreEvict.{is_awaited, evict_line, core_evict}
 use Rattle.tcc_rules.specs.CoreExec.{core_exec}
 use Rattle.tcc_rules.specs.Sends.{write_back_line}
 use Rattle.tcc_rules.specs.State.{CoreState, Awaited, Running, AwaitTid, Overflowing}
 use Rattle.tcc_attempt.specs.Sound.{AwaitsHeld, SoundCore}
 use Rattle.tcc_bounds.specs.Bounds.{AttemptCounted}
-use Rattle.tcc_attempt.proofs.Lemmas.{core_deliver-sound, core_evict-sound, core_exec-sound, valid-held}
+use Rattle.tcc_attempt.proofs.Lemmas.{core_evict-sound, core_exec-sound, valid-held}
 use Rattle.tcc_bounds.proofs.Lemmas.{weak}
-use Rattle.bus_rules.specs.Exec.{line_words, instruction, gone_alone}
-use Rattle.bus_serial.proofs.OneCore.Did.{LineSet, Did, How, Ran, Closed, Overflowed, Asked, NeedIn}
-use Rattle.bus_serial.proofs.OneCore.Filled.{fill-is}
-use Rattle.bus_serial.proofs.OneCore.Instruction.{if-at, Executes, with_words, asking, word_wanted, Once, First, instructed}
+use Rattle.bus_rules.specs.Exec.{with_line_of, line_at_hand, instruction, gone_alone}
+use Rattle.bus_serial.proofs.OneCore.Did.{LineSet, How, Ran, Closed, Overflowed, NeedIn}
+use Rattle.bus_serial.proofs.OneCore.Filled.{Grown, read-grown}
+use Rattle.bus_serial.proofs.OneCore.Instruction.{if-at, Executes, Once, instructed, read_by, read-in}
 
 pub record Fine (sh : Shape) (M : LineSet) (n : ℕ) (s : CoreState) : Type 0 where
   pub awaited : s.awaited ≡ None
@@ -59,11 +57,10 @@ pub record Left (sh : Shape) (M : LineSet) (n : ℕ) (s : CoreState) (o : Out) :
   pub quiet : o.commit ≡ None
   pub saved : o.core.saved ≡ s.saved
 
-ways-of : (w : ℕ) (s t : CoreState) → t.awaited ≡ None → How w s t → Ways s t
-ways-of w s t n (Ran e a) = Stays e
-ways-of w s t n (Closed r e a) = Closes r e
-ways-of w s t n (Overflowed q e) = Overflows q (ap (λ (t : CoreState). t.phase) e)
-ways-of w s t n (Asked c m e) = absurd (let i = ap (λ (t : CoreState). t.awaited) e in cc)
+ways-of : (s t : CoreState) → How s t → Ways s t
+ways-of s t (Ran e a) = Stays e
+ways-of s t (Closed r e a) = Closes r e
+ways-of s t (Overflowed q e) = Overflows q (ap (λ (t : CoreState). t.phase) e)
 
 once-left : (sh : Shape) (M : LineSet) (n : ℕ) (p : Program) (c : ℕ) (s : CoreState) (o : Out) → NeedIn M sh.base (p.need s.local)
     → Fine sh M n s
@@ -77,7 +74,7 @@ once-left sh M n p c s o m k e = record {
     frames = λ l h. held l (e.executed.did.frames l h);
     spilled = λ x h. spilt x (e.executed.did.spilled x h);
   };
-  ways = ways-of (word_wanted sh p s) s o.core e.none e.executed.how;
+  ways = ways-of s o.core e.executed.how;
   quiet = e.executed.quiet;
   saved = e.executed.did.saved;
 }
@@ -90,57 +87,52 @@ once-left sh M n p c s o m k e = record {
     spilt x (inl h) = k.spilled x h
     spilt x (inr h) = h
 
--- what Fill leaves of a core that is sound
-filled-sound : (sh : Shape) (l : ℕ) (ram : ℕ → ℕ) (s : CoreState) (c : Cache) → SoundCore sh (asking l s c)
-    → SoundCore sh (with_words ram l s c)
-unfolding core_deliver
-filled-sound sh l ram s c k =
-    rw (fill-is l (line_words ram l) s c) at (core_deliver-sound sh (asking l s c) (Dir 0) (Fill l (line_words ram l)) k)
-
-pub first-sound : (sh : Shape) (M : LineSet) (n : ℕ) (p : Program) (c : ℕ) (s : CoreState) (d : Cache) (o : Out) → Fine sh M n s
-    → First sh M p c s d o
-    → SoundCore sh (asking (line_of (word_wanted sh p s)) s d)
-first-sound sh M n p c s d o k f =
-    rw f.asks at (if-at (core_exec sh p c s) o (λ o. SoundCore sh o.core) f.is (core_exec-sound sh p c s k.sound))
-
--- a core with the line that it asked for
-pub filled-fine : (sh : Shape) (M : LineSet) (n : ℕ) (p : Program) (ram : ℕ → ℕ) (c : ℕ) (s : CoreState) (d : Cache) (o : Out)
-    → Fine sh M n s
-    → First sh M p c s d o → Fine sh M n (with_words ram (line_of (word_wanted sh p s)) s d)
-unfolding filled
-filled-fine sh M n p ram c s d o k f = record {
-  awaited = refl;
-  clean = λ x. did.clean x (k.clean x);
-  sound = filled-sound sh l ram s d (first-sound sh M n p c s d o k f);
+-- a core with the line of the word that its instruction reads
+pub hand-fine : (sh : Shape) (M : LineSet) (n : ℕ) (p : Program) (ram : ℕ → ℕ) (s : CoreState) → NeedIn M sh.base (p.need s.local)
+    → Fine sh M n s → Fine sh M n (line_at_hand sh p ram s)
+unfolding line_at_hand
+hand-fine sh M n p ram s m k = record {
+  awaited = k.awaited;
+  clean = λ x. g.dirty x ∙ k.clean x;
+  sound = record {
+    cache = g.cache k.sound.cache;
+    awaits = awaits s.awaited k.awaited;
+    alone = k.sound.alone;
+    apart = λ v w i j. let a = k.sound.apart v w i j in (g.modified w ∙ a.0, g.dirty w ∙ a.1);
+    unmarked = λ i w. let a = k.sound.unmarked i w in (g.read w ∙ a.0, g.modified w ∙ a.1);
+  };
   attempt = k.attempt;
-  frames = λ j h. held j (did.frames j h);
+  frames = λ l h. held l (g.held l h);
   spilled = k.spilled;
 }
   where
-    l : ℕ
-    l = line_of (word_wanted sh p s)
+    d : Cache
+    d = with_line_of sh ram s (read_by sh p s)
 
-    did : Did M s (asking l s d)
-    did = rw f.asks at f.executed.did
+    g : Grown sh M ram s.cache d
+    g = read-grown sh M ram s (read_by sh p s) (read-in M sh.base (p.need s.local) m)
 
-    held : (j : ℕ) → (s.cache.held j ≡ true) ⊎ (M j) → M j
-    held j (inl h) = k.frames j h
-    held j (inr h) = h
+    awaits : (o : Option Awaited) → o ≡ None → AwaitsHeld d o
+    awaits None e = tt
+    awaits (Some a) e = absurd (cc)
+
+    held : (l : ℕ) → (s.cache.held l ≡ true) ⊎ (M l) → M l
+    held l (inl h) = k.frames l h
+    held l (inr h) = h
 
 pub instruction-left : (sh : Shape) (M : LineSet) (n : ℕ) (p : Program) (ram : ℕ → ℕ) (c : ℕ) (s : CoreState)
     → NeedIn M sh.base (p.need s.local)
     → Fine sh M n s → Executes p s → IfSome (instruction sh p ram c s) (Left sh M n s)
+unfolding line_at_hand
 instruction-left sh M n p ram c s m k x = instructed sh M p ram c s (Left sh M n s) m k.awaited x
-    (λ o e. once-left sh M n p c s o m k e)
-    (λ d o r f e.
-    let u = with_words ram (line_of (word_wanted sh p s)) s d in
-    let l = once-left sh M n p c u r m (filled-fine sh M n p ram c s d o k f) e in
-    record { fine = l.fine; ways = same s d r.core l.ways; quiet = l.quiet; saved = l.saved })
+    (λ o e.
+    let l = once-left sh M n p c (line_at_hand sh p ram s) o m (hand-fine sh M n p ram s m k) e in
+    record { fine = l.fine; ways = same o.core l.ways; quiet = l.quiet; saved = l.saved })
   where
-    same : (s : CoreState) (d : Cache) (t : CoreState) → Ways (with_words ram (line_of (word_wanted sh p s)) s d) t → Ways s t
-    same s d t (Stays e) = Stays e
-    same s d t (Closes r e) = Closes r e
-    same s d t (Overflows q e) = Overflows q e
+    same : (t : CoreState) → Ways (line_at_hand sh p ram s) t → Ways s t
+    same t (Stays e) = Stays e
+    same t (Closes r e) = Closes r e
+    same t (Overflows q e) = Overflows q e
 
 -- Evict
 

@@ -1,13 +1,12 @@
 use Rattle.std.proofs.Common.{ap, sym, ◌∙◌}
 use Rattle.tcc_maps.specs.Spilled.{holds}
-use Rattle.tcc_maps.specs.Words.{line_of, place_of}
-use Rattle.std.specs.Prelude.{get_or}
+use Rattle.tcc_maps.specs.Words.{line_of}
 use Rattle.tcc_rules.specs.Execute.{stored_in_buffer, stored_in_frame}
 use Rattle.tcc_rules.specs.Attempt.{finished, new_word}
 use Rattle.tcc_rules.specs.State.{CoreState}
 use Rattle.rv_exec.specs.Needs.{need_of}
 use Rattle.rv_plain.specs.Attempts.{alone}
-use Rattle.core_node.specs.AtHand.{lined}
+use Rattle.core_node.specs.AtHand.{changed, lined}
 use Rattle.core_node.specs.View.{core_of}
 use Rattle.core_node.proofs.Changed.{framed_finished}
 use Rattle.core_node.proofs.Finished.{cache-finished}
@@ -20,7 +19,7 @@ fill_frame-requires-clause-found c =
     let k = c.args.core.now in
     let m = c.finish_buffered.new.core in
     let e = c.in_ok-finish_buffered.ensures in
-    rw c.line_of_word-line.ensures (miss-after k.config m.config c.args.w.0 (core_of k) (core_of m) c.requires.lacks e.stays.config
+    rw c.line_of_word-line.ensures (miss-after k.config m.config c.args.w.0 (core_of k) (core_of m) c.requires.fills e.stays.config
     (ap (λ (s : CoreState). s.cache) e.does ∙ cache-finished (alone c.args.inst.now) (need_of c.args.need) _ _))
 
 pub fill_frame-requires-2-clause-found : goal.fill_frame-requires-2-clause-found
@@ -28,7 +27,7 @@ unfolding core_of
 fill_frame-requires-2-clause-found c =
     let k = c.args.core.now in
     let m = c.finish.new.core in
-    rw c.line_of_word-line.ensures (miss-after k.config m.config c.args.w.0 (core_of k) (core_of m) c.requires.lacks
+    rw c.line_of_word-line.ensures (miss-after k.config m.config c.args.w.0 (core_of k) (core_of m) c.requires.fills
     c.in-Ok.ensures.stays.config
     (ap (λ (s : CoreState). s.cache) c.in-Ok.ensures.does ∙ cache-finished (alone c.args.inst.now) (need_of c.args.need) _ (core_of k)))
 
@@ -40,7 +39,7 @@ returns-then-holds-clause-does c =
     let e = c.in_ok-finish_buffered.ensures in
     let w = c.args.w.0 in
     let ws = c.args.words.now in
-    let x = get_or ws (place_of w) 0 in
+    let x = c.word_of_line-word.result in
     let p = alone c.args.inst.now in
     let n = need_of c.args.need in
     let held = ap (holds (core_of k).spilled) (sym c.line_of_word-line.ensures) ∙ sym c.holds.ensures ∙ c.if-holds.true in
@@ -50,6 +49,7 @@ returns-then-holds-clause-does c =
     ∙ ap (finished p n x) (lined-buffered k.config (line_of w) ws w c.new_word-value.result (core_of k))
     ∙ ap (λ y. finished p n x (stored_in_buffer w y (lined k.config (line_of w) ws (core_of k)))) c.new_word-value.ensures
     ∙ sym (changed-buffered k.config (line_of w) ws p n w x (core_of k) held)
+    ∙ ap (λ y. changed p n w y (lined k.config (line_of w) ws (core_of k))) c.word_of_line-word.ensures
 
 pub returns-clause-does : goal.returns-clause-does
 unfolding core_of
@@ -58,7 +58,7 @@ returns-clause-does c =
     let m = c.finish.new.core in
     let w = c.args.w.0 in
     let ws = c.args.words.now in
-    let x = get_or ws (place_of w) 0 in
+    let x = c.word_of_line-word.result in
     let p = alone c.args.inst.now in
     let n = need_of c.args.need in
     let v = c.new_word-value.result in
@@ -73,3 +73,4 @@ returns-clause-does c =
     ∙ ap (λ b. finished p n x (stored_in_frame w (new_word n x) b (lined k.config (line_of w) ws (core_of k))))
     (c.reads_too-also.ensures ∙ sym (lined-also k.config (line_of w) ws w (core_of k)))
     ∙ sym (changed-framed k.config (line_of w) ws p n w x (core_of k) held)
+    ∙ ap (λ y. changed p n w y (lined k.config (line_of w) ws (core_of k))) c.word_of_line-word.ensures

@@ -1,6 +1,6 @@
 use Rattle.rv_plain.specs.Attempts.{alone}
 use Rattle.core_node.specs.View.{core_of}
-use Rattle.core_node.proofs.Lined.{change-leaves, lacking-goes-on, lacking-word, load-leaves, on-ok, served-aligned}
+use Rattle.core_node.proofs.Lined.{change-leaves, filling-goes-on, filling-word, load-leaves, on-ok, served-aligned}
 use Rattle.core_node.proofs.at_hand.execute_with_line.Goals as goal
 
 pub load_with_line-requires : goal.load_with_line-requires
@@ -9,9 +9,9 @@ load_with_line-requires c =
     record {
       whole = c.requires.whole;
       counts = c.requires.counts;
-      goes_on = lacking-goes-on k.config (core_of k) c.args.need c.args.w.0 c.requires.lacks;
+      goes_on = filling-goes-on k.config (core_of k) c.args.need c.args.w.0 c.requires.fills;
       exists = c.requires.exists;
-      lacks = lacking-word k.config (core_of k) c.args.need c.args.w.0 c.requires.lacks;
+      fills = filling-word k.config (core_of k) c.args.need c.args.w.0 c.requires.fills;
     }
 
 pub change_with_line-requires : goal.change_with_line-requires
@@ -20,10 +20,10 @@ change_with_line-requires c =
     record {
       whole = c.requires.whole;
       counts = c.requires.counts;
-      goes_on = lacking-goes-on k.config (core_of k) c.args.need c.args.w.0 c.requires.lacks;
+      goes_on = filling-goes-on k.config (core_of k) c.args.need c.args.w.0 c.requires.fills;
       aligned = served-aligned k.config.base k.config.ram c.args.need c.requires.served;
       exists = c.requires.exists;
-      lacks = lacking-word k.config (core_of k) c.args.need c.args.w.0 c.requires.lacks;
+      fills = filling-word k.config (core_of k) c.args.need c.args.w.0 c.requires.fills;
       room = c.in_ok-make_room-in_default.ensures.room;
     }
 
@@ -33,7 +33,7 @@ returns-in-Load-clause-does c =
     on-ok c.load_with_line.result
     (load-leaves k.config (alone c.args.inst.now) k.id.0 (core_of k) (core_of c.load_with_line.new.core) c.args.need c.in-Load.addr
     c.in-Load.size
-    c.args.w.0 c.args.words.now c.in-Load.is c.requires.lacks) c.load_with_line.ensures.does
+    c.args.w.0 c.args.words.now c.in-Load.is c.requires.fills) c.load_with_line.ensures.does
 
 pub returns-in_ok-make_room-in_default : goal.returns-in_ok-make_room-in_default
 returns-in_ok-make_room-in_default c =
@@ -41,7 +41,7 @@ returns-in_ok-make_room-in_default c =
     record {
       does = on-ok c.change_with_line.result
           (change-leaves k.config (alone c.args.inst.now) k.id.0 (core_of k) (core_of c.change_with_line.new.core) c.args.need
-          c.args.w.0 c.args.words.now c.in_default.not-Load c.requires.lacks) c.change_with_line.ensures.does;
+          c.args.w.0 c.args.words.now c.in_default.not-Load c.requires.fills) c.change_with_line.ensures.does;
       cause = c.change_with_line.ensures.cause;
       stays = c.change_with_line.ensures.stays;
       unchanged = c.change_with_line.ensures.unchanged;
