@@ -13,22 +13,26 @@ use Rattle.std.proofs.Common.{refl}
 use Rattle.watch.proofs.worked_facts.Goals as goal
 
 pub returns-clause-doomed_attempt : goal.returns-clause-doomed_attempt
-unfolding computed zeroed register written padded both_words both_code at_pc address call_need small image_entry last_loaded last_stored done addr_of
+unfolding computed zeroed register written padded both_words both_code at_pc address call_need small image_entry last_loaded last_stored
+    done addr_of
     executed evicted taken committer words_read sent_to sent happened facts_from facts_along
 returns-clause-doomed_attempt c = refl
 
 pub returns-clause-before_the_fill : goal.returns-clause-before_the_fill
-unfolding computed zeroed register written padded both_words both_code at_pc address call_need small image_entry last_loaded last_stored done addr_of
+unfolding computed zeroed register written padded both_words both_code at_pc address call_need small image_entry last_loaded last_stored
+    done addr_of
     executed evicted taken committer words_read sent_to sent happened facts_from facts_along
 returns-clause-before_the_fill c = refl
 
 pub returns-clause-over_a_dirty_owner : goal.returns-clause-over_a_dirty_owner
-unfolding computed zeroed register written padded both_words both_code at_pc address call_need small image_entry last_loaded last_stored done addr_of
+unfolding computed zeroed register written padded both_words both_code at_pc address call_need small image_entry last_loaded last_stored
+    done addr_of
     executed evicted taken committer words_read sent_to sent happened facts_from facts_along
 returns-clause-over_a_dirty_owner c = refl
 
 pub returns-clause-alone_after_overflow : goal.returns-clause-alone_after_overflow
-unfolding computed zeroed register written padded both_words both_code at_pc address call_need small image_entry last_loaded last_stored done addr_of
+unfolding computed zeroed register written padded both_words both_code at_pc address call_need small image_entry last_loaded last_stored
+    done addr_of
     executed evicted taken committer words_read sent_to sent happened facts_from facts_along
 returns-clause-alone_after_overflow c = refl
 
