@@ -6,3 +6,5 @@ pub mod Noting
 pub mod SoloLists
 pub mod SoloMasks
 pub mod SoloSteps
+pub mod Rising
+pub mod WrittenLines

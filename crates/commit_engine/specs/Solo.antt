@@ -1,6 +1,8 @@
 -- What a core that is alone has written, line by line, and what goes to the home of each line.
 use Rattle.std.specs.Prelude.{ℕ, List, [], ◌∷◌, map, length, ◌==◌, if◌then◌else◌}
 use Rattle.std.specs.List.{flat_map}
+use Rattle.tcc_base.specs.declared.names.LineAddr.{LineAddr}
+use Rattle.tcc_base.specs.declared.names.Mask.{Mask}
 use Rattle.tcc_maps.specs.Words.{those}
 use Rattle.tcc_maps.specs.Nodes.{Dir, Msg, Skip, Mark, Commit, WriteBack}
 use Rattle.tcc_maps.specs.Shape.{Shape, home, lines}
@@ -12,6 +14,10 @@ use Rattle.tcc_rules.specs.Sends.{Sends, to, when}
 -- the lines with modified or spilled words, rising, each with the mask of these words
 unfoldable pub solo_list : Shape → Cache → Spilled → List (ℕ × ℕ)
 solo_list sh c sp = map (λ l. (l, written_mask c sp l)) (those (is_written c sp) (lines sh))
+
+-- the line of a mark
+abbrev pub line_in : LineAddr × Mask → ℕ
+line_in m = m.0.0
 
 -- to the home of each line of a list what f says
 unfoldable pub at_homes : Shape → (ℕ × ℕ → List Msg) → List (ℕ × ℕ) → Sends

@@ -7,6 +7,7 @@ mod homes;
 mod phase;
 mod sending;
 mod solo;
+mod written;
 
 pub use commits::{note_commit, send_commits};
 pub use dir_set::DirSet;

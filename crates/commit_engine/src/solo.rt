@@ -11,6 +11,7 @@ ghost use Rattle.commit_engine.specs.Solo.{at_homes, closing, here, marked_line,
 ghost use Rattle.commit_engine.specs.Sent.{HasRoom, Sent, to_first};
 
 use crate::dir_set::DirSet;
+use crate::written::written_lines;
 use overflow_buf::OverflowBuf;
 use spec_cache::SpecCache;
 use tcc_base::{Config, DirId, LineAddr, Mask, NoMemory, NodeId, Tid};
@@ -28,20 +29,23 @@ fn written_mask(cache: &SpecCache, spilled: &OverflowBuf, line: LineAddr) -> Mas
 }
 
 /// Puts all lines that have modified or spilled words into the list, rising, each with the mask of these words, in place of what
-/// the list held. Looks at each line of RAM once.
+/// the list held. Takes time in the marked frames for each directory, and in the spilled lines, which it sorts.
 pub fn solo_marks_into(
     cfg: &Config,
     cache: &SpecCache,
     spilled: &OverflowBuf,
     marks: &mut Vec<(LineAddr, Mask)>,
 ) -> Result<(), NoMemory>
+    requires { cache.now.config ≡ cfg.now }
     ensures { OnOk result (map mark_of marks.new.items ≡ solo_list cfg.now (maps cache.now) (words_of spilled.now)) }
 {
+    let lines = written_lines(cfg, cache, spilled)?;
+    let end = cfg.words() / 8;
     marks.clear();
-    for l in 0..cfg.words() / 8 {
-        let mask = written_mask(cache, spilled, LineAddr(l));
-        if mask.0 != 0 {
-            let Ok(()) = marks.push((LineAddr(l), mask)) else {
+    for line in &lines {
+        if *line < end {
+            let mask = written_mask(cache, spilled, LineAddr(*line));
+            let Ok(()) = marks.push((LineAddr(*line), mask)) else {
                 return Err(NoMemory);
             };
         }

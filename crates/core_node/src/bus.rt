@@ -150,7 +150,7 @@ impl CoreNode {
     }
 
     /// All lines that the attempt has written, each with the mask of these words, what the core has of it and this TID. Takes time in
-    /// the cache's marked frames where the machine has one directory and nothing is spilled, else in RAM's lines.
+    /// the cache's marked frames, and in the spilled lines, which it puts in order.
     pub fn written(&self, tid: Tid) -> Result<List<Tagged>, CoreError>
         requires small { lines self.now.config < 536870911 }
         ensures lines { IfOk result (λ ts. ts ≡ lines_told self.now.config tid.0 (core_of self.now)) }

@@ -28,8 +28,10 @@ use rv_plain::Outcome;
 use tcc_base::{Commit, DirId, LineAddr, Mask, NodeId, Tid};
 use tcc_msg::{Msg, Outgoing};
 
-/// All lines that the core has written, each with the mask of the words. Takes time in RAM's lines.
+/// All lines that the core has written, each with the mask of the words. Takes time in the cache's marked frames for each directory, and
+/// in the spilled lines, which it puts in order.
 fn solo_marks(core: &Core) -> Result<Vec<(LineAddr, Mask)>, CoreError>
+    requires { IsCore core.now }
     ensures marks { IfOk result (λ v. map mark_of v.items ≡ solo_list core.now.config (maps core.now.cache) (words_of core.now.spilled)) }
     ensures cause { OnErr result (IsMemory result) }
 {
@@ -40,7 +42,7 @@ fn solo_marks(core: &Core) -> Result<Vec<(LineAddr, Mask)>, CoreError>
     }
 }
 
-/// The same. Where the machine has one directory and nothing is spilled it takes time in the cache's marked frames, else in RAM's lines.
+/// The same. Where the machine has one directory and nothing is spilled it takes one pass over the cache's marked frames.
 pub(crate) fn written_marks(core: &Core) -> Result<Vec<(LineAddr, Mask)>, CoreError>
     requires { IsCore core.now }
     ensures marks { IfOk result (λ v. map mark_of v.items ≡ solo_list core.now.config (maps core.now.cache) (words_of core.now.spilled)) }

@@ -114,7 +114,7 @@ impl CoreNode {
     /// Executes one instruction of a core that runs or is alone, or commits a transaction whose directories all serve its TID. Blocked
     /// exactly where the rules don't allow it: in any other phase, while a line is awaited, and while the instruction waits for room.
     /// After an error the core is as before and nothing is sent. The attempt has fewer than 4,194,304 instructions. Takes constant time,
-    /// but for a commit, which takes time in the cache's frames, and for one of a core that is alone in RAM's lines.
+    /// but for a commit, which takes time in the cache's frames, and for one of a core that is alone also in the spilled lines.
     #[inline]
     pub fn exec(&mut self, code: &Code, out: &mut Outgoing) -> Result<Executed, CoreError>
         requires short { self.old.n < 4194304 }

@@ -52,7 +52,7 @@ fn line_here(core: &Core, line: LineAddr, mask: Mask, tid: Tid) -> Tagged
 }
 
 /// All lines that the attempt has written, each with the mask of these words and what the core has of it. Takes time in the cache's
-/// marked frames where the machine has one directory and nothing is spilled, else in RAM's lines.
+/// marked frames, and in the spilled lines, which it puts in order.
 pub(crate) fn written(core: &Core, tid: Tid) -> Result<List<Tagged>, CoreError>
     requires whole { IsCore core.now }
     requires small { lines core.now.config < 536870911 }

@@ -1,8 +1,8 @@
 -- What a change of the index map's entries says of the kept lines.
 use Rattle.std.proofs.Common.{ℕ, ◌<◌, ◌≡◌, true, false, cond, [], ◌∷◌, ◌++◌, length, Some, None, is_some, nat_eq, refl, sym, ◌∙◌, ap}
-use Rattle.std.proofs.Common.{arith, Bool}
-use Rattle.std.specs.Map.{lookup}
-use Rattle.std.proofs.lemmas.Bool.{false≢true, eq-eqb}
+use Rattle.std.proofs.Common.{arith, Bool, List, length, zero, suc, ◌⊎◌, inl, inr, Contains, subst}
+use Rattle.std.specs.Map.{keys_of, lookup}
+use Rattle.std.proofs.lemmas.Bool.{false≢true, cases_eq, eq-eqb, ne_eqb}
 use Rattle.tcc_maps.specs.Words.{line_of, place_of, any_word, any_below}
 use Rattle.tcc_maps.specs.Spilled.{none_spilled, holds}
 use Rattle.overflow_buf.specs.declared.line.SpilledLine.{SpilledLine}
@@ -79,3 +79,33 @@ no_entry (e ∷ es) b n =
 pub no_word : (es : Entries) → length es ≡ 0 → spilled es ≡ none_spilled
 no_word [] e = spilled-empty
 no_word (x ∷ es) e = absurd (omega arith)
+
+-- ---- the keys of the kept lines
+
+head_or_tail : (x k : ℕ) (xs : List ℕ) → Contains (x ∷ xs) k → (x ≡ k) ⊎ Contains xs k
+head_or_tail x k xs (zero, b, e) = inl e
+head_or_tail x k xs (suc i, b, e) = inr (i, omega arith, e)
+
+in_tail : (x k : ℕ) (xs : List ℕ) → Contains xs k → Contains (x ∷ xs) k
+in_tail x k xs c = (suc c.0, (let h : c.0 < length xs = c.1 in omega arith), c.2)
+
+pub key_kept : (es : Entries) (l : ℕ) → Contains (keys_of es) l → is_some (kept_at es l) ≡ true
+unfolding kept_at
+key_kept [] l c = absurd (let h : c.0 < 0 = c.1 in omega arith)
+key_kept (e ∷ es) l c = elim (cases_eq l e.0) [
+  | inl q ↦ rw (eq-eqb l e.0 q) refl
+  | inr n ↦ rw (ne_eqb l e.0 n)
+      (key_kept es l (elim (head_or_tail e.0 l (keys_of es) c) [ inl q ↦ absurd (n (sym q)) | inr d ↦ d ]))
+]
+
+pub kept_key : (es : Entries) (l : ℕ) → is_some (kept_at es l) ≡ true → Contains (keys_of es) l
+unfolding kept_at
+kept_key [] l k = absurd (false≢true k)
+kept_key (e ∷ es) l k = elim (cases_eq l e.0) [
+  | inl q ↦ subst (λ (x : ℕ). Contains (keys_of (e ∷ es)) x) (sym q) (0, omega arith, refl)
+  | inr n ↦ in_tail e.0 l (keys_of es) (kept_key es l (rw (ne_eqb l e.0 n) at k))
+]
+
+-- a line is kept exactly where a word of it is
+pub kept_holds : (es : Entries) → IsBuffer es → (l : ℕ) → is_some (kept_at es l) ≡ holds (spilled es) l
+kept_holds es s l = holds-line es l (kept_at es l) refl (s l)

@@ -1,5 +1,7 @@
 // The buffer: the kept words of all lines, in an index map by line.
-ghost use Rattle.std.specs.Prelude.{◌≡◌, ◌<◌, ◌↔◌, ℕ, Option, Some, None, IsTrue, IfSome, IfNone, OnOk, OnErr, cond, length, ◌==◌};
+ghost use Rattle.std.specs.Prelude.{◌≡◌, ◌≢◌, ◌<◌, ◌↔◌, ℕ, true, Option, Some, None, IsTrue, IfSome, IfNone, IfOk, OnOk, OnErr, cond, length, Contains, nat_eq, ◌==◌};
+ghost use Rattle.std.specs.List.{AllPairs, IsDistinct};
+ghost use Rattle.std.specs.Map.{keys_of};
 ghost use Rattle.tcc_base.specs.Put.{put as put_value};
 ghost use Rattle.tcc_maps.specs.Bridge.{tagged_of};
 ghost use Rattle.tcc_maps.specs.Spilled.{none_spilled, spill as spill_words, holds as holds_word, spilled_mask, spilled_line};
@@ -7,7 +9,7 @@ ghost use Rattle.overflow_buf.specs.Kept.{IsBuffer, IsSpilled, kept_at, spilled,
 
 use crate::line::{SpilledLine, with_word, with_words};
 use indexmap::IndexMap;
-use std::alloc::Global;
+use std::alloc::{AllocError, Global};
 use std::marker::Model;
 use tcc_base::{LineAddr, Mask, NoMemory, Tagged, Tid, WordAddr};
 
@@ -128,6 +130,26 @@ impl OverflowBuf {
         ensures { IsTrue result ↔ (spilled self.now ≡ none_spilled) }
     {
         self.lines.is_empty()
+    }
+
+    /// The keys of the map.
+    fn keys(&self) -> Result<Vec<u32>, AllocError>
+        ensures keys { IfOk result (λ v. v.items ≡ keys_of self.now) }
+        ensures distinct { IfOk result (λ v. IsDistinct nat_eq v.items) }
+        ensures in_order { IsBuffer self.now }
+    {
+        self.lines.keys().copied().collect(*self.lines.allocator())
+    }
+
+    /// The lines of which words are kept, each once, in no order. Takes memory for them.
+    pub fn lines(&self) -> Result<Vec<u32>, NoMemory>
+        ensures kept { IfOk result (λ v. (l : ℕ) → Contains v.items l ↔ (holds_word (spilled self.now) l ≡ true)) }
+        ensures once { IfOk result (λ v. AllPairs (λ a b. a ≢ b) v.items) }
+    {
+        match self.keys() {
+            Ok(lines) => Ok(lines),
+            Err(_) => Err(NoMemory),
+        }
     }
 
     /// Takes the kept words of some line away, and gives that line with the mask of these words; None exactly where no word is kept. It

@@ -97,7 +97,9 @@ fn sent_alone(
     cfg: &Config,
     cache: &SpecCache,
     spilled: &OverflowBuf,
-) -> Result<(Outgoing, DirSet), Fail> {
+) -> Result<(Outgoing, DirSet), Fail>
+    requires { cache.now.config ≡ cfg.now }
+{
     let mut marks = Vec::new(alloc);
     solo_marks_into(cfg, cache, spilled, &mut marks)?;
     let mut out = Outgoing::new(alloc);
