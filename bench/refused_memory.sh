@@ -1,9 +1,13 @@
 #!/bin/bash
 # Refuses one request for memory of a command, the first, then the second and so on, until the command makes fewer, and looks at how each of
 # these calls ends: as when nothing is refused, or with status 7, the line `tcc: memory` and nothing on standard output. Of a run on host
-# threads, whose schedule isn't the same each time, the replay of the record has to print the same bytes. Needs a C compiler: the requests
-# go to `malloc` and `realloc`, and a small library before the C library's counts and refuses them. TCC names the program to run.
+# threads, whose schedule isn't the same each time, the replay of the record has to print the same bytes. It also looks at the files that
+# each call opens: those that the command names, in order, each once and no other, or the first of them; and at a record after status 7,
+# which is as it was or whole. Needs a C compiler: the requests go to `malloc`, `realloc` and `open`, and a small library before the C
+# library's counts and refuses them. TCC names the program to run. With --short it refuses the first forty requests of each command, and
+# then one of seventeen.
 set -eu
+short=${1:-}
 here=$(dirname "$(readlink -f "$0")")
 program=$(readlink -f -- "${TCC:-$here/../release/tcc-x86_64-linux}")
 room=$(mktemp -d)
@@ -13,6 +17,8 @@ cd "$room"
 cat >refuse.c <<'C'
 #define _GNU_SOURCE
 #include <dlfcn.h>
+#include <fcntl.h>
+#include <stdarg.h>
 #include <stdatomic.h>
 #include <stdio.h>
 #include <stdlib.h>
@@ -22,11 +28,13 @@ cat >refuse.c <<'C'
 static atomic_long asked, refused;
 static void *(*real_malloc)(size_t);
 static void *(*real_realloc)(void *, size_t);
+static int (*real_open)(const char *, int, ...);
 
 __attribute__((constructor)) static void begin(void) {
     const char *number = getenv("REFUSED");
     real_malloc = dlsym(RTLD_NEXT, "malloc");
     real_realloc = dlsym(RTLD_NEXT, "realloc");
+    real_open = dlsym(RTLD_NEXT, "open");
     atomic_store(&asked, 0);
     atomic_store(&refused, number ? atol(number) : 0);
 }
@@ -58,6 +66,20 @@ void *realloc(void *old, size_t size) {
         real_realloc = dlsym(RTLD_NEXT, "realloc");
     return atomic_fetch_add(&asked, 1) + 1 == atomic_load(&refused) ? NULL : real_realloc(old, size);
 }
+
+/* writes down what is opened, to read or to write */
+int open(const char *path, int flags, ...) {
+    va_list rest;
+    va_start(rest, flags);
+    int mode = flags & O_CREAT ? va_arg(rest, int) : 0;
+    va_end(rest);
+    int list = real_open("opened", O_WRONLY | O_APPEND | O_CREAT, 0666);
+    if (list >= 0) {
+        dprintf(list, "%c %s\n", (flags & O_ACCMODE) == O_RDONLY ? 'r' : 'w', path);
+        close(list);
+    }
+    return real_open(path, flags, mode);
+}
 C
 cc -O1 -shared -fPIC -o refuse.so refuse.c -ldl
 
@@ -70,6 +92,7 @@ words 80000337 04b32023 06b32023 04b32023 05d00893 00000073 >spill
 call() {
     local number=$1 status=0
     shift
+    : >opened
     REFUSED=$number LD_PRELOAD=$room/refuse.so "$program" "$@" >output 2>error || status=$?
     echo "$status"
 }
@@ -80,20 +103,37 @@ complain() {
     failed=1
 }
 
-# each_refused CHECK WORDS..: the command with each of its requests refused, one by one
+# opened_in_order FILES [COUNT]: whether what was opened are these files, in order; or so many of them, the first
+opened_in_order() {
+    printf '%s' "${1:+$1$'\n'}" | head -n "${2:-99}" | cmp -s - opened
+}
+
+# the record is as it was before the call, or that of a run
+sound() {
+    [ -z "$1" ] || [ "$(cat "$1")" = old ] || cmp -s "$1" whole \
+        || { [ "$2" = replayed ] && "$program" replay --raw --cores 2 "$1" count >again; }
+}
+
+# each_refused CHECK FILES WORDS..: the command, which opens these files, with each of its requests refused, one by one
 each_refused() {
-    local check=$1 number=0 refusals=0 status wanted
-    shift
+    local check=$1 files=$2 number=0 refusals=0 status wanted record
+    shift 2
+    record=$(sed -n 's/^w //p' <<<"$files")
     wanted=$(call 0 "$@")
     cp output wanted
+    [ -z "$record" ] || cp "$record" whole
+    opened_in_order "$files" || complain "$*: opens other files: $(cat opened)"
     asked=0
     while [ "$number" -le "$asked" ]; do
-        number=$((number + 1))
+        if [ "$short" = --short ] && [ "$number" -ge 40 ]; then number=$((number + 17)); else number=$((number + 1)); fi
+        [ -z "$record" ] || echo old >"$record"
         status=$(call "$number" "$@")
         asked=$(cat asked)
+        opened_in_order "$files" "$(wc -l <opened)" || complain "request $number of $*: opens other files: $(cat opened)"
         if [ "$status" = 7 ]; then
             refusals=$((refusals + 1))
             [ ! -s output ] && [ "$(cat error)" = "tcc: memory" ] || complain "request $number of $*: what is written isn't a refusal's"
+            sound "$record" "$check" || complain "request $number of $*: the record is neither as it was nor whole"
         elif [ "$status" = "$wanted" ]; then
             [ ! -s error ] || complain "request $number of $*: $(cat error)"
             "$check" || complain "request $number of $*: another text"
@@ -110,16 +150,16 @@ same() { cmp -s output wanted; }
 # the replay of what was recorded prints the same
 replayed() { cp output first && "$program" replay --raw --cores 2 schedule count >again && cmp -s first again; }
 
-each_refused same run --raw count
-each_refused same run --raw --sets 1 --ways 1 --record schedule spill
-each_refused same replay --raw --sets 1 --ways 1 schedule spill
+each_refused same "r count" run --raw count
+each_refused same $'r spill\nw schedule' run --raw --sets 1 --ways 1 --record schedule spill
+each_refused same $'r schedule\nr spill' replay --raw --sets 1 --ways 1 schedule spill
 cp wanted report
-each_refused same serial --raw --sets 1 --ways 1 report spill
-each_refused same why --raw --sets 1 --ways 1 schedule spill
-each_refused same phases --raw --cores 2 --record ordered count
-each_refused same trial --cores 2 --seed 1 counters 5
-each_refused same bus --raw --cores 2 --seed 1 count
-each_refused same bus --raw --cores 2 --sets 1 --ways 1 spill
-each_refused same run --cores 2 --seed 7 "$here/../examples/bank.elf"
-each_refused replayed run --raw --threads 4 --cores 2 --record schedule count
+each_refused same $'r report\nr spill' serial --raw --sets 1 --ways 1 report spill
+each_refused same $'r schedule\nr spill' why --raw --sets 1 --ways 1 schedule spill
+each_refused same $'r count\nw ordered' phases --raw --cores 2 --record ordered count
+each_refused same "" trial --cores 2 --seed 1 counters 5
+each_refused same "r count" bus --raw --cores 2 --seed 1 count
+each_refused same "r spill" bus --raw --cores 2 --sets 1 --ways 1 spill
+each_refused same "r $here/../examples/bank.elf" run --cores 2 --seed 7 "$here/../examples/bank.elf"
+each_refused replayed $'r count\nw schedule' run --raw --threads 4 --cores 2 --record schedule count
 exit "$failed"

@@ -97,6 +97,32 @@ fn the_file_that_is_not_read_or_written_is_named(rt: HostRuntime) -> Result<(), 
     Ok(())
 }
 
+/// A command line, and its number of reads and writes: one for each file that it names.
+const CALLS: [(u64, &str); 6] = [
+    (1, "run --raw a"),
+    (2, "run --raw a a"),
+    (3, "run --raw a --record s b"),
+    (2, "phases --raw --record s a"),
+    (2, "serial --raw b a"),
+    (1, "bus --raw a"),
+];
+
+#[test]
+fn each_file_is_read_once_and_the_record_written_once(rt: HostRuntime) -> Result<(), Fail> {
+    let alloc = rt.alloc();
+    for (calls, command) in CALLS {
+        for (number, fails) in [(calls - 1, true), (calls, false)] {
+            let failing = World {
+                fails: Some(number),
+                ..over(&FILES)
+            };
+            let ended = call(&rt, alloc, command, &failing)?;
+            assert_eq!(rt; ended.status == 5, fails, "{command}");
+        }
+    }
+    Ok(())
+}
+
 #[test]
 fn a_name_stands_in_its_line_as_it_was_given(rt: HostRuntime) -> Result<(), Fail> {
     let words = ["run", "--raw", " no such  file\n"];
