@@ -15,7 +15,11 @@ abbrev pub Rises : List ℕ → Type 0
 Rises xs = AllPairs (λ x y. x < y) xs
 
 above_head : (x k : ℕ) (xs : List ℕ) → Rises (x ∷ xs) → Contains xs k → x < k
-above_head x k xs r c = let h : c.0 < length xs = c.1 in let e : get_or xs c.0 k ≡ k = c.2 in let b : x < get_or xs c.0 k = r 0 (suc c.0) k (omega arith) (omega arith) in omega (arith, b, e)
+above_head x k xs r c =
+    let h : c.0 < length xs = c.1 in
+    let e : get_or xs c.0 k ≡ k = c.2 in
+    let b : x < get_or xs c.0 k = r 0 (suc c.0) k (omega arith) (omega arith) in
+    omega (arith, b, e)
 
 tail_rises : (x : ℕ) (xs : List ℕ) → Rises (x ∷ xs) → Rises xs
 tail_rises x xs r = λ i j d h l. r (suc i) (suc j) d (omega arith) (omega arith)
@@ -24,7 +28,8 @@ at_head : (x : ℕ) (xs : List ℕ) → Contains (x ∷ xs) x
 at_head x xs = (0, omega arith, refl)
 
 -- two rising lists of the same numbers are the same
-pub rising_same : (xs ys : List ℕ) → Rises xs → Rises ys → ((k : ℕ) → Contains xs k → Contains ys k) → ((k : ℕ) → Contains ys k → Contains xs k) → xs ≡ ys
+pub rising_same : (xs ys : List ℕ) → Rises xs → Rises ys → ((k : ℕ) → Contains xs k → Contains ys k)
+    → ((k : ℕ) → Contains ys k → Contains xs k) → xs ≡ ys
 rising_same [] [] r t f g = refl
 rising_same [] (y ∷ ys) r t f g = absurd (let c = g y (at_head y ys) in let h : c.0 < 0 = c.1 in omega arith)
 rising_same (x ∷ xs) [] r t f g = absurd (let c = f x (at_head x xs) in let h : c.0 < 0 = c.1 in omega arith)
@@ -34,13 +39,15 @@ rising_same (x ∷ xs) (y ∷ ys) r t f g =
     (λ k c. later x y k xs ys r (f k) c (sym e)) (λ k c. later y x k ys xs t (g k) c e) in
     cc
   where
-    later : (x y k : ℕ) (xs ys : List ℕ) → Rises (x ∷ xs) → (Contains (x ∷ xs) k → Contains (y ∷ ys) k) → Contains xs k → y ≡ x → Contains ys k
+    later : (x y k : ℕ) (xs ys : List ℕ) → Rises (x ∷ xs) → (Contains (x ∷ xs) k → Contains (y ∷ ys) k) → Contains xs k → y ≡ x
+        → Contains ys k
     later x y k xs ys r f c e = elim (head_or_tail y k ys (f (in_tail x k xs c))) [
       | inl q ↦ absurd (let b : x < k = above_head x k xs r c in omega (arith, b, e, q))
       | inr d ↦ d
     ]
 
-    same_head : (x y : ℕ) (xs ys : List ℕ) → Rises (x ∷ xs) → Rises (y ∷ ys) → ((k : ℕ) → Contains (x ∷ xs) k → Contains (y ∷ ys) k) → ((k : ℕ) → Contains (y ∷ ys) k → Contains (x ∷ xs) k) → x ≡ y
+    same_head : (x y : ℕ) (xs ys : List ℕ) → Rises (x ∷ xs) → Rises (y ∷ ys) → ((k : ℕ) → Contains (x ∷ xs) k → Contains (y ∷ ys) k)
+        → ((k : ℕ) → Contains (y ∷ ys) k → Contains (x ∷ xs) k) → x ≡ y
     same_head x y xs ys r t f g = elim (head_or_tail y x ys (f x (at_head x xs))) [
       | inl q ↦ sym q
       | inr c ↦ elim (head_or_tail x y xs (g y (at_head y ys))) [

@@ -63,8 +63,8 @@ gathered-none sh c sp ls h = record {
   only = λ l i. written-or c sp l ∙ or-right (is_modified c l) (holds sp l) ((h l).0 i);
 }
 
-pub gathered-more : (sh : Shape) (c : Cache) (sp : Spilled) (d : ℕ) (ls ms : List ℕ) → Gathered sh c sp d ls → ms ≡ ls ++ written_lines sh c d
-    → Gathered sh c sp (d + 1) ms
+pub gathered-more : (sh : Shape) (c : Cache) (sp : Spilled) (d : ℕ) (ls ms : List ℕ) → Gathered sh c sp d ls
+    → ms ≡ ls ++ written_lines sh c d → Gathered sh c sp (d + 1) ms
 unfolding written_lines
 gathered-more sh c sp d ls ms g e = record {
   modified = λ l b m less. subst (λ (xs : List ℕ). Contains xs l) (sym e) (at l b m less (cases_eq d (home sh l)));
@@ -122,7 +122,8 @@ pub marks-out : (f : ℕ → ℕ) (n : ℕ) (ls : List ℕ) (i d : ℕ) (ms : Li
     → ms ≡ map (λ l. (l, f l)) (filter (below n) (take i ls)) → ms ≡ map (λ l. (l, f l)) (filter (below n) (take (i + 1) ls))
 marks-out f n ls i d ms h t e =
     e ∙ ap (map (λ l. (l, f l))) (sym (filter_more (below n) ls i d h
-    ∙ ap (λ b. filter (below n) (take i ls) ++ cond b (get_or ls i d ∷ []) []) (over (get_or ls i d) n t) ∙ append-nil (filter (below n) (take i ls))))
+    ∙ ap (λ b. filter (below n) (take i ls) ++ cond b (get_or ls i d ∷ []) []) (over (get_or ls i d) n t)
+    ∙ append-nil (filter (below n) (take i ls))))
 
 pub marks-whole : (sh : Shape) (c : Cache) (sp : Spilled) (ls : List ℕ) (n i : ℕ) (ms : List (ℕ × ℕ)) → n ≡ lines sh → length ls ≤ i
     → Rises ls → ((l : ℕ) → l < lines sh → is_written c sp l ≡ true → Contains ls l) → ((l : ℕ) → Contains ls l → is_written c sp l ≡ true)

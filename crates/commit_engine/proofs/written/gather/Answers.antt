@@ -21,7 +21,8 @@ loop-d-preserved c =
     let ms : map mark_of c.in_ok-marks.marks.items ≡ marks_by_home c.args.cfg.now (maps c.args.cache.now) c.loop-d.d =
     subst (λ (sh : Shape). map mark_of c.in_ok-marks.marks.items ≡ marks_by_home sh (maps c.args.cache.now) c.loop-d.d) c.requires
     c.in_ok-marks.ensures in
-    gathered-more c.args.cfg.now (maps c.args.cache.now) (words_of c.args.spilled.now) c.loop-d.d was c.add_lines.new.lines.items c.loop-d.invariant
+    gathered-more c.args.cfg.now (maps c.args.cache.now) (words_of c.args.spilled.now) c.loop-d.d was c.add_lines.new.lines.items
+    c.loop-d.invariant
     (c.in_ok-add_lines.ensures ∙ ap (λ (xs : List (LineAddr × Mask)). was ++ map line_in xs) c.deref.ensures.value
     ∙ ap (λ (xs : List ℕ). was ++ xs) (marks-lines c.args.cfg.now (maps c.args.cache.now) c.loop-d.d c.in_ok-marks.marks.items ms))
 
