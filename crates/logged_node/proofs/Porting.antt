@@ -2,6 +2,7 @@
 pub mod Seats
 pub mod SeveralMoves
 pub mod Pools
+pub mod Named
 pub mod ChangedElement
 pub mod Posted
 pub mod Rooms

@@ -1,9 +1,7 @@
 -- What a node does in one call.
-use Rattle.std.specs.Prelude.{ℕ, ◌≡◌, ◌<◌, ◌+◌, ◌%◌, ◌⊎◌, Bool, true, false, not, ◌==◌, List, [], ◌∷◌, ◌++◌, length, Option, Some, None}
+use Rattle.std.specs.Prelude.{ℕ, ◌≡◌, ◌<◌, ◌+◌, ◌%◌, ◌⊎◌, Bool, true, false, List, [], ◌∷◌, ◌++◌, length, Option, Some}
 use Rattle.std.specs.Prelude.{slice_get, option_map, if◌then◌else◌}
-use Rattle.std.specs.List.{filter}
 use Rattle.tcc_maps.specs.Nodes.{Node, Event, Exec, Evict, Deliver, node_eq}
-use Rattle.tcc_maps.specs.Bridge.{node_of}
 use Rattle.tcc_msg.specs.Plain.{event_of}
 use Rattle.tcc_rules.specs.Local as rules
 use Rattle.node_logs.specs.declared.logs.Logged.{Logged}
@@ -13,7 +11,7 @@ use Rattle.node_member.specs.Data.{MemberData, state_of}
 use Rattle.logged_node.specs.Choice.{useful, stamp_after}
 use Rattle.logged_node.specs.Moves.{SameLinks, Grows, Stands, Room, SameSent}
 use Rattle.logged_node.specs.Node.{NodeData, last_stamp, sent_to}
-use Rattle.logged_node.specs.Ports.{PortData, RoomData, all_but}
+use Rattle.logged_node.specs.Ports.{PortData, all_but}
 use Rattle.logged_node.specs.declared.node.Act.{Act}
 use Rattle.logged_node.specs.declared.node.Act.TheVariants.{Moved, Idle, Memory}
 

@@ -1,7 +1,6 @@
 -- What a node can do now: its own useful events, and the messages that wait and that it would take.
 use Rattle.std.specs.Prelude.{ℕ, Bool, ◌+◌, ◌^◌, ◌&&◌, max, nat_lt, is_some, List, [], ◌++◌, map, Option, Some, None, if◌then◌else◌}
 use Rattle.std.specs.List.{filter, flat_map}
-use Rattle.tcc_base.specs.Settings.{Settings}
 use Rattle.tcc_maps.specs.Bridge.{node_of}
 use Rattle.tcc_maps.specs.Nodes.{Node, Event, Deliver}
 use Rattle.tcc_msg.specs.Plain.{msg_of}
@@ -10,8 +9,8 @@ use Rattle.node_logs.specs.Filled.{mail_of}
 use Rattle.node_logs.specs.declared.logs.Mail.{Mail}
 use Rattle.node_member.specs.Data.{MemberData, state_of}
 use Rattle.node_member.specs.Own.{own_events}
-use Rattle.logged_node.specs.Ports.{PortData, RoomData}
-use Rattle.logged_node.specs.Node.{NodeData, last_stamp, here}
+use Rattle.logged_node.specs.Ports.{PortData}
+use Rattle.logged_node.specs.Node.{NodeData, last_stamp}
 
 -- a stamp above the last one, and above that of the message that is handled
 abbrev pub stamp_after : (last : ℕ) → Option rules.Mail → ℕ

@@ -1,7 +1,6 @@
 -- Two nodes that are linked.
 use Rattle.std.specs.Prelude.{◌≡◌, Some}
 use Rattle.tcc_maps.specs.Bridge.{node_of}
-use Rattle.logged_node.specs.Node.{NodeData, here}
 use Rattle.logged_node.specs.Ports.{PortData, RoomData, port_to}
 
 -- what the one sends to the other is what the other takes from it

@@ -1,7 +1,6 @@
 -- Messages move between a node's links, its pools and what it has yet to send, and nothing else changes.
 use Rattle.std.specs.Prelude.{ℕ, suc, ◌≡◌, List, [], ◌∷◌, ◌++◌, length, Option, Some, None, slice_get}
 use Rattle.tcc_maps.specs.Nodes.{Node}
-use Rattle.tcc_rules.specs.Local as rules
 use Rattle.node_logs.specs.declared.logs.Mail.{Mail}
 use Rattle.logged_node.specs.Ports.{PortData, RoomData, port_to, handed_to}
 

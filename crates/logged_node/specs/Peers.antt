@@ -1,5 +1,5 @@
 -- The peers of a node, and the order of its ports.
-use Rattle.std.specs.Prelude.{ℕ, ◌+◌, ◌==◌, Option, Some, None, nat_lt, if◌then◌else◌}
+use Rattle.std.specs.Prelude.{ℕ, ◌+◌, Option, Some, None, nat_lt, if◌then◌else◌}
 use Rattle.tcc_base.specs.Settings.{Settings}
 use Rattle.tcc_maps.specs.Nodes.{Node, Core, Dir, Vendor}
 

@@ -17,6 +17,7 @@ use std::alloc::Global;
 use std::marker::Model;
 use std::sync::Wait;
 use tcc_base::{Config, NoMemory, NodeId};
+use tcc_msg::{Name, Pool};
 
 /// No event has a later stamp.
 const LAST_STAMP: u64 = 0x4000_0000_0000_0000;
@@ -32,10 +33,11 @@ pub(crate) struct Letter {
 /// A node's ends of the links to and from one peer, and the pool of messages from there that have arrived and aren't handled.
 #[derive(Drop)]
 pub struct Port {
+    own: NodeId,
     peer: NodeId,
     outlet: Outlet,
     inlet: Inlet,
-    pool: Vec<(u64, Mail)>,
+    pool: Pool<Mail>,
     /// How many messages were taken from the inlet.
     taken: u64,
 }
@@ -63,17 +65,19 @@ fn is_ready(member: &Member, last: u64, src: NodeId, mail: &Mail) -> bool
 }
 
 impl Port {
-    /// A port to this peer, from whose link nothing was taken. Takes no memory.
-    pub fn new(alloc: Global, peer: NodeId, outlet: Outlet, inlet: Inlet) -> Port
+    /// A node's port to this peer, from whose link nothing was taken. Takes no memory.
+    pub fn new(alloc: Global, own: NodeId, peer: NodeId, outlet: Outlet, inlet: Inlet) -> Port
+        requires own { inlet.ends.dst ≡ own }
         requires peer { inlet.ends.src ≡ peer }
         requires unused { inlet.got ≡ [] }
         ensures { result ≡ record { outlet = outlet; inlet = inlet; pool = [] } }
     {
         Port {
+            own,
             peer,
             outlet,
             inlet,
-            pool: Vec::new(alloc),
+            pool: Pool::new(alloc),
             taken: 0,
         }
     }
@@ -91,8 +95,8 @@ impl Port {
         let (there, arrives) = link(alloc, config, one, other)?;
         let (back, returns) = link(alloc, config, other, one)?;
         Ok((
-            Port::new(alloc, other, there, returns),
-            Port::new(alloc, one, back, arrives),
+            Port::new(alloc, one, other, there, returns),
+            Port::new(alloc, other, one, back, arrives),
         ))
     }
 
@@ -119,13 +123,16 @@ impl Port {
         if self.taken == u64::MAX {
             return Ok(false);
         }
-        if self.pool.reserve(1).is_err() {
-            return Err(NoMemory);
-        }
+        self.pool.reserve()?;
         let Some(mail) = self.inlet.pop(rt) else {
             return Ok(false);
         };
-        self.pool.push_reserved((self.taken, mail));
+        let name = Name {
+            src: self.peer,
+            dst: self.own,
+            seq: self.taken,
+        };
+        self.pool.add_reserved(name, mail);
         self.taken += 1;
         Ok(true)
     }
@@ -142,6 +149,20 @@ impl Port {
         Ok(())
     }
 
+    /// The message that waits at a place of the pool.
+    fn letter(&self, place: usize) -> Letter
+        requires { place < length self.now.pool }
+        ensures place { result.place ≡ place }
+        ensures letter { IsLetter self.now result }
+    {
+        let (name, mail) = self.pool.at(place).unwrap();
+        Letter {
+            place,
+            number: name.seq,
+            mail: *mail,
+        }
+    }
+
     /// How many of the waiting messages the member would take now.
     pub(crate) fn ready_count(&self, member: &Member, last: u64) -> usize
         requires settings { self.now.inlet.ends.settings ≡ member.now.code.settings }
@@ -149,8 +170,9 @@ impl Port {
         ensures { result ≡ length (ready_in member.now last self.now) }
     {
         let mut count = 0;
-        for (_, mail) in &self.pool {
-            if is_ready(member, last, self.peer, mail) {
+        for place in 0..self.pool.len() {
+            let letter = self.letter(place);
+            if is_ready(member, last, self.peer, &letter.mail) {
                 count += 1;
             }
         }
@@ -169,14 +191,11 @@ impl Port {
         ensures past { IfErr result (λ n. n ≤ k) }
     {
         let mut count = 0;
-        for (place, (number, mail)) in self.pool.iter().enumerate() {
-            if is_ready(member, last, self.peer, mail) {
+        for place in 0..self.pool.len() {
+            let letter = self.letter(place);
+            if is_ready(member, last, self.peer, &letter.mail) {
                 if count == k {
-                    return Ok(Letter {
-                        place,
-                        number: *number,
-                        mail: *mail,
-                    });
+                    return Ok(letter);
                 }
                 count += 1;
             }
@@ -189,7 +208,7 @@ impl Port {
         requires { IsLetter self.old letter.now }
         ensures { self.new ≡ record self.old { pool = all_but letter.now.number self.old.pool } }
     {
-        let _ = self.pool.remove(letter.place);
+        let _ = self.pool.remove_at(letter.place);
     }
 
     /// What the peer's port has taken is a beginning of what was sent here.

@@ -57,12 +57,12 @@ fn join_two(
         return Err(NoMemory);
     };
     if rooms[core as usize]
-        .push(Port::new(alloc, peer, outlet, inlet))
+        .push(Port::new(alloc, own, peer, outlet, inlet))
         .is_err()
     {
         return Err(NoMemory);
     }
-    rooms[place].push(Port::new(alloc, own, back, theirs))
+    rooms[place].push(Port::new(alloc, peer, own, back, theirs))
 }
 
 // Links a core with all nodes behind the cores.

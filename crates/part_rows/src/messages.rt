@@ -33,6 +33,9 @@ fn a_pool_holds_each_message_until_it_is_removed(rt: HostRuntime) -> Result<(), 
     assert_eq!(rt; pool.at(0), Some((name(0, 1), &skip(9))));
     assert_eq!(rt; pool.at(1), Some((name(1, 0), &skip(8))));
     assert_eq!(rt; pool.at(2), None);
+    assert_eq!(rt; pool.remove_at(0), Some((name(0, 1), skip(9))));
+    assert_eq!(rt; pool.at(0), Some((name(1, 0), &skip(8))));
+    assert_eq!(rt; pool.remove_at(1), None);
     Ok(())
 }
 

@@ -1,5 +1,5 @@
 -- Names are equal where their numbers are, and a look-up depends on the test alone.
-use Rattle.std.proofs.Common.{◌≡◌, ◌==◌, ◌&&◌, Bool, List, Option, cond, if◌then◌else◌, refl, sym, ◌∙◌}
+use Rattle.std.proofs.Common.{◌≡◌, ◌==◌, ◌&&◌, Bool, List, Option, cond, if◌then◌else◌, refl, ap, sym, ◌∙◌}
 use Rattle.std.specs.Map.{lookup}
 use Rattle.tcc_base.specs.declared.names.NodeId.{NodeId}
 use Rattle.tcc_base.specs.declared.names.NodeId.TheVariants.{Core, Dir, Vendor}
@@ -8,7 +8,7 @@ use Rattle.tcc_msg.specs.contracts.event.NamePartialEq.TheImpl.{eq-value as name
 use Rattle.tcc_base.specs.contracts.names.NodeIdPartialEq.TheImpl.{eq-value as node}
 use Rattle.tcc_maps.specs.Nodes.{node_eq}
 use Rattle.tcc_maps.specs.Bridge.{node_of}
-use Rattle.tcc_msg.specs.Held.{name_eq, held}
+use Rattle.tcc_msg.specs.Held.{PoolData, name_eq, held}
 
 pub eq-node_eq : (a b : NodeId) → node.it a b ≡ node_eq (node_of a) (node_of b)
 eq-node_eq (Core a) (Core b) = refl
@@ -38,3 +38,7 @@ pub held-updated : {M : Type 0} (old new : List (Name × M)) (n : Name) (w : Opt
     → ((q : Name) → lookup (name.it q) new ≡ cond (name.it n q) w (lookup (name.it q) old))
     → held new ≡ (λ q. if name_eq n q then w else held old q)
 held-updated old new n w h = λ i q. (sym (held-is new q) ∙ (h q ∙ (λ j. cond (eq-name_eq n q j) w (held-is old q j)))) i
+
+-- pools that are the same hold the same messages
+pub messages-same : {M : Type 0} (p q : PoolData M) → p ≡ q → p.messages ≡ q.messages
+messages-same p q e = ap (λ (x : PoolData _). x.messages) e

@@ -1,5 +1,5 @@
 -- Messages move, and what always holds of the node is kept.
-use Rattle.std.proofs.Common.{◌≡◌, ℕ, suc, ◌<◌, ◌≤◌, ◌+◌, Bool, false, List, [], ◌∷◌, ◌++◌, length, map, Option, Some, None, length-append}
+use Rattle.std.proofs.Common.{◌≡◌, ℕ, suc, ◌≤◌, Bool, false, List, [], ◌∷◌, ◌++◌, length, map, Option, Some, None, length-append}
 use Rattle.std.proofs.Common.{refl, ap, sym, ◌∙◌, subst, arith}
 use Rattle.std.specs.Prelude.{slice_get, All, IfSome}
 use Rattle.std.proofs.lemmas.List.{length-map, map-append}
@@ -14,10 +14,10 @@ use Rattle.tcc_rules.specs.Local.{Mail, Side, local, side_start, state_at}
 use Rattle.node_logs.specs.Filled.{filled, mail_of}
 use Rattle.node_logs.specs.declared.logs.Logged.{Logged}
 use Rattle.node_logs.specs.declared.logs.Mail.{Mail as CodeMail}
-use Rattle.node_member.specs.Data.{MemberData, state_of}
+use Rattle.node_member.specs.Data.{MemberData}
 use Rattle.logged_node.specs.Acts.{Flushes, Gathers, SameMember}
-use Rattle.logged_node.specs.Moves.{Both, Grows, Room, SameSent, Stands, numbered}
-use Rattle.logged_node.specs.Node.{IsNode, IsRun, NodeData, got_from, last_stamp, run_alone, sent_to}
+use Rattle.logged_node.specs.Moves.{Both, Grows, SameSent, Stands, numbered}
+use Rattle.logged_node.specs.Node.{IsNode, IsRun, NodeData, got_from, last_stamp, run_alone}
 use Rattle.logged_node.specs.Ports.{PortData, RoomData, got_at, port_to}
 use Rattle.logged_node.proofs.Porting.SeveralMoves.{grows-then, room-refl, room-then, room-weaker, stands-grows, stands-refl}
 use Rattle.logged_node.proofs.Running.Stored.{Includes, get-behind, log-filled_more, stored-more}

@@ -1,6 +1,6 @@
 -- A message that waits is handled.
-use Rattle.std.proofs.Common.{◌≡◌, ℕ, ◌<◌, ◌≤◌, ◌+◌, max, Bool, true, false, not, cond, ◌&&◌, List, length, map, Option, Some, None, refl}
-use Rattle.std.proofs.Common.{ap, sym, ◌∙◌, subst, arith}
+use Rattle.std.proofs.Common.{◌≡◌, ℕ, ◌<◌, ◌≤◌, Bool, true, false, not, cond, ◌&&◌, List, length, map, Option, Some, None, refl}
+use Rattle.std.proofs.Common.{ap, ◌∙◌, arith}
 use Rattle.std.specs.Prelude.{slice_get, option_and_then, All, IfSome, IsSomeAnd, ◌==◌}
 use Rattle.std.specs.List.{filter}
 use Rattle.std.proofs.lemmas.Bool.Decides.{nat_tests}
@@ -12,11 +12,11 @@ use Rattle.tcc_rules.specs.Local.{Mail, consumed, is_gone}
 use Rattle.tcc_rules.proofs.Lemmas.{node_eq-eq}
 use Rattle.node_logs.specs.Filled.{handled, mail_of}
 use Rattle.node_logs.specs.declared.logs.Mail.{Mail as CodeMail}
-use Rattle.logged_node.specs.Acts.{Loses, left_of}
+use Rattle.logged_node.specs.Acts.{Loses}
 use Rattle.logged_node.specs.Choice.{stamp_after}
 use Rattle.logged_node.specs.Deeds.{IsFor, IsWaiting, mail_in}
 use Rattle.logged_node.specs.Moves.{Both}
-use Rattle.logged_node.specs.Node.{CameBefore, NodeData, got_from, here, last_stamp}
+use Rattle.logged_node.specs.Node.{CameBefore}
 use Rattle.logged_node.specs.Ports.{PortData, RoomData, got_at, port_to, taken_from}
 use Rattle.logged_node.specs.declared.room.Waiting.{Waiting}
 use Rattle.logged_node.proofs.Porting.Pools.{all-at, others}

@@ -1,6 +1,6 @@
 -- The node does an event, and what always holds of it is kept.
 use Rattle.std.proofs.Common.{◌≡◌, ℕ, ◌<◌, ◌≤◌, ◌+◌, ◌^◌, Bool, true, false, List, [], ◌∷◌, ◌++◌, length, map, Option, Some, None}
-use Rattle.std.proofs.Common.{append-nil, refl, ap, sym, ◌∙◌, subst, arith}
+use Rattle.std.proofs.Common.{append-nil, refl, ap, sym, ◌∙◌, arith}
 use Rattle.std.specs.Prelude.{option_map, Result, Ok, Err, OnErr, is_err}
 use Rattle.std.proofs.lemmas.List.{length_push}
 use Rattle.std.proofs.lemmas.List.Elements.{All-push}
@@ -11,16 +11,16 @@ use Rattle.tcc_maps.specs.Nodes.{Node, Event, Exec, Evict, Deliver, node_eq}
 use Rattle.tcc_msg.specs.Plain.{event_of, sends_of}
 use Rattle.tcc_msg.specs.declared.msg.Msg.{Msg}
 use Rattle.tcc_rules.specs.Step.{names_nodes}
-use Rattle.tcc_rules.specs.Local.{Acted, Mail, Side, at_node, consumed, is_gone, mailed}
+use Rattle.tcc_rules.specs.Local.{Mail, Side, at_node, mailed}
 use Rattle.node_logs.specs.Filled.{filled}
 use Rattle.node_logs.specs.declared.logs.Logged.{Logged}
-use Rattle.node_member.specs.Acting.{Acts, acted_by}
+use Rattle.node_member.specs.Acting.{acted_by}
 use Rattle.node_member.specs.Data.{MemberData, state_of}
 use Rattle.logged_node.specs.Acts.{Flushes, Loses, Performs}
 use Rattle.logged_node.specs.Choice.{stamp_after}
 use Rattle.logged_node.specs.Deeds.{IsFor, IsPossible, IsWaiting, mail_in}
 use Rattle.logged_node.specs.Moves.{Both, Room, SameSent, Stands}
-use Rattle.logged_node.specs.Node.{CameBefore, IsNode, IsRun, NodeData, got_from, here, last_from, last_stamp, run_alone, sent_to}
+use Rattle.logged_node.specs.Node.{CameBefore, IsNode, IsRun, NodeData, got_from, here, last_stamp, run_alone}
 use Rattle.logged_node.specs.Ports.{PortData, RoomData, handed_to, port_to, sent_at}
 use Rattle.logged_node.specs.declared.choosing.Deed.{Deed}
 use Rattle.logged_node.specs.declared.room.Waiting.{Waiting}

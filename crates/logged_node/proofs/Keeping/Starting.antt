@@ -1,6 +1,6 @@
 -- A node that has done nothing.
-use Rattle.std.proofs.Common.{◌≡◌, ℕ, ◌<◌, ◌≤◌, false, List, [], ◌++◌, length, map, Option, Some, None, refl, ap, sym, ◌∙◌, arith}
-use Rattle.std.specs.Prelude.{slice_get, All, IfSome}
+use Rattle.std.proofs.Common.{◌≡◌, false, List, [], ◌++◌, map, Option, Some, None, refl, ap, sym, arith}
+use Rattle.std.specs.Prelude.{All, IfSome}
 use Rattle.image_load.specs.Contents.{started}
 use Rattle.rv_serial.specs.Suiting.{world_at_start}
 use Rattle.tcc_base.specs.Settings.{Settings}

@@ -1,19 +1,18 @@
 -- The useful events by number.
-use Rattle.std.proofs.Common.{◌≡◌, ℕ, zero, suc, ◌+◌, ◌-◌, ◌%◌, ◌^◌, ◌<◌, ◌≤◌, ◌⊎◌, Bool, true, false, cond, List, [], ◌∷◌, ◌++◌, length}
-use Rattle.std.proofs.Common.{map, Option, Some, None, length-append, refl, ap, sym, ◌∙◌, inl, inr, arith}
+use Rattle.std.proofs.Common.{◌≡◌, ℕ, zero, suc, ◌+◌, ◌%◌, ◌^◌, ◌<◌, ◌≤◌, ◌⊎◌, Bool, true, false, cond, List, [], ◌∷◌, length}
+use Rattle.std.proofs.Common.{map, Option, Some, None, length-append, refl, ap, sym, ◌∙◌, arith}
 use Rattle.std.specs.Prelude.{nat_lt, is_some, slice_get, option_map, MatchOption}
 use Rattle.std.proofs.lemmas.Bool.Decides.{nat_tests}
 use Rattle.std.proofs.lemmas.List.{length-map}
-use Rattle.std.proofs.lemmas.Option.{slice_get-map, slice_get_past, slice_get_within}
+use Rattle.std.proofs.lemmas.Option.{slice_get-map}
 use Rattle.image_load.specs.Contents.{started}
 use Rattle.rv_code.specs.Machine.{program}
 use Rattle.tcc_program.specs.Program.{Program}
 use Rattle.tcc_maps.specs.Bridge.{node_of}
 use Rattle.tcc_maps.specs.Nodes.{Node, Event, Exec, Evict, Deliver}
 use Rattle.tcc_maps.specs.Shape.{Shape}
-use Rattle.tcc_msg.specs.Plain.{event_of, msg_of}
+use Rattle.tcc_msg.specs.Plain.{event_of}
 use Rattle.tcc_rules.specs.Local.{Mail, NodeState, AtCore, AtDir, AtVendor, act}
-use Rattle.node_logs.specs.Filled.{mail_of}
 use Rattle.node_member.specs.Acting.{MayDo, acted_by}
 use Rattle.node_member.specs.Data.{MemberData, state_of}
 use Rattle.node_member.specs.Own.{own_events}

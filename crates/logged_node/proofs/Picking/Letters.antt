@@ -1,12 +1,17 @@
 -- A message that waits, as the code tells of it.
-use Rattle.std.proofs.Common.{◌≡◌, ℕ, ◌<◌, List, length, get_or, Some, refl}
-use Rattle.std.proofs.lemmas.Option.{slice_get-get_or}
+use Rattle.std.proofs.Common.{◌≡◌, ℕ, ◌<◌, List, length, get_or, Some, subst, sym, ◌∙◌}
+use Rattle.std.specs.Prelude.{slice_get}
+use Rattle.std.proofs.lemmas.Option.{same_Some, slice_get-get_or, slice_get_within}
 use Rattle.node_logs.specs.declared.logs.Mail.{Mail}
 use Rattle.logged_node.specs.Deeds.{IsLetter}
 use Rattle.logged_node.specs.Ports.{IsEntry, IsPort, PortData}
 
-pub letter-at : (p : PortData) (i : ℕ) (d : ℕ × Mail) → IsPort p → i < length p.pool
-    → IsLetter p (record { place = i; number = (get_or p.pool i d).0; mail = (get_or p.pool i d).1 })
-letter-at p i d h l =
-    let e : IsEntry p.inlet (get_or p.pool i d) = h.entries i d l in
-    record { entry = slice_get-get_or p.pool i d l; brought = e.brought; carried = e.carried }
+pub read-at : (es : List (ℕ × Mail)) (i : ℕ) (d e : ℕ × Mail) → i < length es → slice_get es i ≡ Some e → get_or es i d ≡ e
+read-at es i d e l h = same_Some (get_or es i d) e (sym (slice_get-get_or es i d l) ∙ h)
+
+pub letter-at : (p : PortData) (i : ℕ) (e : ℕ × Mail) → IsPort p → slice_get p.pool i ≡ Some e
+    → IsLetter p (record { place = i; number = e.0; mail = e.1 })
+letter-at p i e h g =
+    let l = slice_get_within p.pool i e g in
+    let x : IsEntry p.inlet e = subst (IsEntry p.inlet) (read-at p.pool i e e l g) (h.entries i e l) in
+    record { entry = g; brought = x.brought; carried = x.carried }

@@ -1,6 +1,6 @@
 -- A pool with one more message, and with one less.
-use Rattle.std.proofs.Common.{◌≡◌, ℕ, zero, suc, ◌<◌, ◌≤◌, ◌+◌, Bool, true, false, not, cond, List, [], ◌∷◌, ◌++◌, length, take, drop}
-use Rattle.std.proofs.Common.{Option, Some, None, length-append, refl, ap, sym, ◌∙◌, arith}
+use Rattle.std.proofs.Common.{◌≡◌, ℕ, zero, suc, ◌<◌, ◌≤◌, Bool, true, false, not, List, [], ◌∷◌, ◌++◌, length, take, drop}
+use Rattle.std.proofs.Common.{Some, refl, ap, sym, arith}
 use Rattle.std.specs.Prelude.{slice_get, All, ◌==◌}
 use Rattle.std.specs.List.{filter, remove}
 use Rattle.std.proofs.lemmas.Bool.Decides.{nat_tests}
@@ -39,7 +39,7 @@ all-at P [] k x h e = absurd (cc)
 all-at P (y ∷ xs) zero x h e = let p : P y = h 0 y (omega arith) in rw (same_Some y x e) at p
 all-at P (y ∷ xs) (suc k) x h e = all-at P xs k x (λ j d l. h (suc j) d (omega arith)) e
 
-below-got : (i : InletData) (es : List (ℕ × Mail)) (k : ℕ) (e : ℕ × Mail) → All (IsEntry i) es → slice_get es k ≡ Some e
+pub below-got : (i : InletData) (es : List (ℕ × Mail)) (k : ℕ) (e : ℕ × Mail) → All (IsEntry i) es → slice_get es k ≡ Some e
     → e.0 < length i.got
 below-got i es k e h g = slice_get_within i.got e.0 e.1 (all-at (IsEntry i) es k e h g).brought
 

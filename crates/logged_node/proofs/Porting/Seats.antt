@@ -1,11 +1,11 @@
 -- Each peer has its own port, and what is carried goes to a peer.
-use Rattle.std.proofs.Common.{◌≡◌, ℕ, ◌<◌, Bool, true, false, ◌&&◌, Option, Some, None, refl, ap, sym, ◌∙◌, arith}
+use Rattle.std.proofs.Common.{◌≡◌, ℕ, ◌<◌, Bool, true, false, ◌&&◌, Some, refl, ap, sym, ◌∙◌, arith}
 use Rattle.std.specs.Prelude.{nat_lt}
 use Rattle.std.proofs.lemmas.Bool.Decides.{nat_tests}
 use Rattle.std.proofs.lemmas.Option.{cond_some, same_Some}
 use Rattle.tcc_base.specs.Settings.{Settings}
 use Rattle.tcc_maps.specs.Nodes.{Node, Core, Dir, Vendor, Msg}
-use Rattle.tcc_live.specs.Fits.{fits, goes_to_dir, goes_to_core, is_request, is_grant}
+use Rattle.tcc_live.specs.Fits.{fits, goes_to_dir, goes_to_core, is_grant}
 use Rattle.node_logs.specs.Carried.{IsCarried}
 use Rattle.logged_node.specs.Peers.{if_below, seat, peer_count}
 

@@ -1,5 +1,5 @@
 -- The run of a log with one more entry.
-use Rattle.std.proofs.Common.{◌≡◌, ℕ, Bool, true, false, not, ◌&&◌, List, [], ◌∷◌, ◌++◌, map, Option, Some, None, refl, ap, ◌∙◌}
+use Rattle.std.proofs.Common.{◌≡◌, ℕ, true, false, List, [], ◌∷◌, ◌++◌, map, Option, Some, None, refl, ap, ◌∙◌}
 use Rattle.std.specs.Prelude.{option_map}
 use Rattle.std.proofs.lemmas.List.{map-append}
 use Rattle.image_load.specs.Start.{Start}
@@ -10,8 +10,8 @@ use Rattle.tcc_maps.specs.Nodes.{Node, Event, node_eq}
 use Rattle.tcc_maps.specs.Shape.{Shape}
 use Rattle.tcc_msg.specs.Plain.{event_of}
 use Rattle.tcc_rules.specs.Step.{names_nodes}
-use Rattle.tcc_rules.specs.Local.{Acted, Entry, Mail, Side, NodeState, act, at_node, consumed, is_gone, local, local_step, mailed}
-use Rattle.tcc_rules.specs.Local.{side_after, side_start, side_then, state_at}
+use Rattle.tcc_rules.specs.Local.{Acted, Entry, Mail, Side, act, at_node, consumed, is_gone, local, local_step, mailed}
+use Rattle.tcc_rules.specs.Local.{side_start, side_then, state_at}
 use Rattle.node_logs.specs.Filled.{entry_of, filled, handled}
 use Rattle.node_logs.specs.declared.logs.Logged.{Logged}
 use Rattle.logged_node.specs.Node.{run_alone}

@@ -1,6 +1,6 @@
 -- What a log's entries handled, when more has come.
 use Rattle.std.proofs.Common.{◌≡◌, ℕ, ◌<◌, List, [], ◌∷◌, ◌++◌, map, Option, Some, None, refl, ap, sym, ◌∙◌}
-use Rattle.std.specs.Prelude.{slice_get, IsSomeAnd, All}
+use Rattle.std.specs.Prelude.{slice_get, IsSomeAnd}
 use Rattle.std.proofs.lemmas.List.Elements.{All-head, All-tail, All-weaker}
 use Rattle.tcc_maps.specs.Nodes.{Node, Event, Exec, Evict, Deliver}
 use Rattle.tcc_msg.specs.Plain.{event_of}

@@ -1,10 +1,9 @@
 -- The event of a number.
-use Rattle.std.proofs.Common.{None, Some, ◌≡◌, ◌<◌, ◌-◌, length, ap, sym, ◌∙◌, refl, arith}
+use Rattle.std.proofs.Common.{None, Some, ◌-◌, ap, ◌∙◌, refl, arith}
 use Rattle.tcc_maps.specs.Bridge.{node_of}
 use Rattle.tcc_maps.specs.Nodes.{Deliver}
 use Rattle.tcc_msg.specs.Plain.{event_of}
 use Rattle.node_logs.specs.Filled.{mail_of}
-use Rattle.logged_node.specs.Choice.{all_deliveries, own_choices}
 use Rattle.logged_node.specs.Node.{last_stamp}
 use Rattle.logged_node.specs.NodeInside.{node_of_parts}
 use Rattle.logged_node.proofs.Picking.Choices.{own-kth, own-some, possible-own, possible-waiting, useful-length, waiting-kth}

@@ -1,12 +1,9 @@
 -- An event is done.
-use Rattle.std.proofs.Common.{◌≡◌, true, false, List, [], ◌∷◌, ◌++◌, refl, ap, sym, ◌∙◌}
+use Rattle.std.proofs.Common.{[], ◌∷◌, ◌++◌, refl, ap, sym, ◌∙◌}
 use Rattle.tcc_maps.specs.Bridge.{node_of}
-use Rattle.tcc_maps.specs.Nodes.{Deliver}
 use Rattle.tcc_msg.specs.Plain.{event_of}
 use Rattle.node_logs.specs.declared.logs.Logged.{Logged}
-use Rattle.logged_node.specs.Acts.{Loses, Performs}
 use Rattle.logged_node.specs.Deeds.{IsPossible, mail_in}
-use Rattle.logged_node.specs.Moves.{Room}
 use Rattle.logged_node.specs.Node.{NodeData}
 use Rattle.logged_node.specs.NodeInside.{node_of_parts}
 use Rattle.logged_node.proofs.Keeping.Gathering.{gathers-refl, gathers-same}

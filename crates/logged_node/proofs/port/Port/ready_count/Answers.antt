@@ -1,10 +1,14 @@
 -- How many may be taken.
-use Rattle.std.proofs.Common.{◌≡◌, ℕ, Bool, true, false, get_or, add-zero, sym, ◌∙◌, arith}
+use Rattle.std.proofs.Common.{◌≡◌, ◌<◌, ◌≤◌, ℕ, Bool, List, true, false, length, map, get_or, Some, add-zero, ap, sym, ◌∙◌, arith}
+use Rattle.std.specs.Prelude.{slice_get}
+use Rattle.std.proofs.lemmas.List.{length-map}
 use Rattle.tcc_maps.specs.Bridge.{node_of}
-use Rattle.node_logs.specs.declared.logs.Mail.{Mail}
 use Rattle.tcc_msg.specs.declared.msg.Msg.TheVariants.{TidReq}
+use Rattle.node_logs.specs.declared.logs.Mail.{Mail}
 use Rattle.logged_node.specs.Choice.{ready, ready_in}
+use Rattle.logged_node.specs.PortInside.{entry_of}
 use Rattle.logged_node.proofs.Picking.Filters.{count-all, count-more, kept-below}
+use Rattle.logged_node.proofs.Picking.Letters.{read-at}
 use Rattle.logged_node.proofs.port.Port.ready_count.Goals as goal
 use Rattle.logged_node.proofs.port.Port.ready_count.Goals.{then-is_ready, else-is_ready}
 
@@ -12,28 +16,35 @@ pub overflow_add-count : goal.overflow_add-count
 overflow_add-count c =
     omega (
       arith,
-      kept-below (ready c.args.member.now c.args.last (node_of c.self.inside.inlet.ends.src)) c.self.inside.pool.items
-          c.loop-mail.mail-index,
+      kept-below (ready c.args.member.now c.args.last (node_of c.self.inside.inlet.ends.src)) (map entry_of c.self.inside.pool.messages)
+          c.loop-place.place,
     )
 
-pub loop-mail-preserved : goal.loop-mail-preserved
+pub loop-place-preserved : goal.loop-place-preserved
 unfolding ready
-loop-mail-preserved c =
-    let v = c.deref-mail-items.ensures.value in
-    let l = rw v at c.loop-mail-test.true in
+loop-place-preserved c =
+    let xs : List (ℕ × Mail) = map entry_of c.self.inside.pool.messages in
     let none : ℕ × Mail = (0, record { stamp = 0; msg = TidReq }) in
+    let x : ℕ × Mail = (c.letter-letter.result.number, c.letter-letter.result.mail) in
+    let l : c.loop-place.place < length xs =
+    omega (arith, c.loop-place-test.true, c.len-place-end.ensures, length-map c.self.inside.pool.messages entry_of) in
+    let e : slice_get xs c.loop-place.place ≡ Some x =
+    rw (c.letter-letter.ensures.place, ← c.self.view_is) at c.letter-letter.ensures.letter.entry in
     let p : ℕ × Mail → Bool = ready c.args.member.now c.args.last (node_of c.self.inside.inlet.ends.src) in
-    let t : p (get_or c.self.inside.pool.items c.loop-mail.mail-index none) ≡ c.is_ready.result =
-    rw (← c.self.invariant.peer, ← v) (sym c.is_ready.ensures.ready) in
+    let t : p (get_or xs c.loop-place.place none) ≡ c.is_ready.result =
+    ap p (read-at xs c.loop-place.place none x l e) ∙ (rw (← c.self.invariant.peer) (sym c.is_ready.ensures.ready)) in
     elim c.if-is_ready.branch [
-      | then-is_ready w ↦ count-more p c.self.inside.pool.items c.loop-mail.mail-index c.loop-mail.count c.if-is_ready.count none true l
-          c.loop-mail.invariant (t ∙ w.if-is_ready.true) w.count-is
-      | else-is_ready w ↦ count-more p c.self.inside.pool.items c.loop-mail.mail-index c.loop-mail.count c.if-is_ready.count none false l
-          c.loop-mail.invariant (t ∙ w.if-is_ready.false) (w.count-is ∙ sym (add-zero c.loop-mail.count))
+      | then-is_ready w ↦ count-more p xs c.loop-place.place c.loop-place.count c.if-is_ready.count none true l c.loop-place.invariant
+          (t ∙ w.if-is_ready.true) w.count-is
+      | else-is_ready w ↦ count-more p xs c.loop-place.place c.loop-place.count c.if-is_ready.count none false l c.loop-place.invariant
+          (t ∙ w.if-is_ready.false) (w.count-is ∙ sym (add-zero c.loop-place.count))
     ]
 
 pub returns : goal.returns
 unfolding ready_in
 returns c =
-    rw (← c.self.view_is) (count-all (ready c.args.member.now c.args.last (node_of c.self.inside.inlet.ends.src)) c.self.inside.pool.items
-    c.loop-mail.mail-index c.loop-mail.count (rw c.deref-mail-items.ensures.value at c.loop-mail-test.false) c.loop-mail.invariant)
+    let xs : List (ℕ × Mail) = map entry_of c.self.inside.pool.messages in
+    let l : length xs ≤ c.loop-place.place =
+    omega (arith, c.loop-place-test.false, c.len-place-end.ensures, length-map c.self.inside.pool.messages entry_of) in
+    rw (← c.self.view_is) (count-all (ready c.args.member.now c.args.last (node_of c.self.inside.inlet.ends.src)) xs
+    c.loop-place.place c.loop-place.count l c.loop-place.invariant)

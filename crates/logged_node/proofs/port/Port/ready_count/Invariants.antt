@@ -1,10 +1,12 @@
 -- How many of those so far may be taken.
-use Rattle.std.proofs.Common.{◌≡◌, length, take}
+use Rattle.std.proofs.Common.{◌≡◌, length, map, take}
 use Rattle.std.specs.List.{filter}
-use Rattle.logged_node.specs.Choice.{ready}
 use Rattle.tcc_maps.specs.Bridge.{node_of}
+use Rattle.logged_node.specs.Choice.{ready}
+use Rattle.logged_node.specs.PortInside.{entry_of}
 use Rattle.logged_node.proofs.port.Port.ready_count.Given as goal
 
-abbrev pub invariant-loop-mail : goal.invariant-loop-mail
-invariant-loop-mail l =
-    l.count ≡ length (filter (ready l.member l.last (node_of l.self-inside.inlet.ends.src)) (take l.mail-index l.self-inside.pool.items))
+abbrev pub invariant-loop-place : goal.invariant-loop-place
+invariant-loop-place l =
+    l.count ≡ length (filter (ready l.member l.last (node_of l.self-inside.inlet.ends.src))
+    (take l.place (map entry_of l.self-inside.pool.messages)))

@@ -1,31 +1,49 @@
 -- One more message is taken from the link.
-use Rattle.std.proofs.Common.{sym, ◌∙◌, arith}
+use Rattle.std.proofs.Common.{map, refl, arith}
 use Rattle.std.proofs.lemmas.List.{length_push}
-use Rattle.logged_node.specs.PortInside.{port_of}
+use Rattle.std.proofs.lemmas.List.Elements.{All-push}
+use Rattle.tcc_msg.specs.declared.event.Name.{Name}
+use Rattle.logged_node.specs.PortInside.{IsNamed, entry_of, port_of}
+use Rattle.logged_node.proofs.Porting.Named.{entries-push, held-above}
+use Rattle.logged_node.proofs.Porting.Pools.{below-got, port-push}
 use Rattle.logged_node.proofs.Porting.SeveralMoves.{takes-push, takes-refl, takes-same}
-use Rattle.logged_node.proofs.Porting.Pools.{port-push}
 use Rattle.logged_node.proofs.port.Port.take_in.Goals as goal
 
 pub returns-then-self : goal.returns-then-self
 returns-then-self g c = takes-refl _
 
-pub returns-then-is_err : goal.returns-then-is_err
-returns-then-is_err g c = takes-same _ _ (rw c.reserve.ensures.items c.self.view_is)
+pub returns-in_err-reserve : goal.returns-in_err-reserve
+returns-in_err-reserve g c = takes-same _ _ (rw c.reserve.ensures.keeps c.self.view_is)
 
 pub returns-in_default : goal.returns-in_default
-returns-in_default g c = takes-same _ _ (rw (c.in_default.ensures.none, c.reserve.ensures.items) c.self.view_is)
+returns-in_default g c = takes-same _ _ (rw (c.in_default.ensures.none, c.reserve.ensures.keeps) c.self.view_is)
+
+pub add_reserved-requires-clause-new : goal.add_reserved-requires-clause-new
+add_reserved-requires-clause-new g c =
+    let ms = c.self.inside.pool.messages in
+    let n : Name = record { src = c.self.inside.peer; dst = c.self.inside.own; seq = c.self.inside.taken } in
+    rw c.reserve.ensures.keeps (held-above ms n (λ k e h.
+    let b = below-got c.self.inside.inlet (map entry_of ms) k e c.self.invariant.port.entries h in
+    omega (arith, b, c.self.invariant.taken)))
 
 pub invariant_of-self-2 : goal.invariant_of-self-2
 invariant_of-self-2 g c =
     let i = c.self.invariant in
+    let ms = c.self.inside.pool.messages in
+    let n : Name = record { src = c.self.inside.peer; dst = c.self.inside.own; seq = c.self.inside.taken } in
     record {
+      own = rw c.in-Some.ensures.taken i.own;
       peer = rw c.in-Some.ensures.taken i.peer;
       taken = rw c.in-Some.ensures.taken (omega (arith, i.taken, length_push c.self.inside.inlet.got c.in-Some.mail));
-      port = rw (c.in-Some.ensures.taken, c.push_reserved.ensures.items, c.reserve.ensures.items)
+      names = rw (c.add_reserved.ensures.order, c.reserve.ensures.keeps)
+          (All-push (IsNamed c.self.inside.peer c.self.inside.own) ms (n, c.in-Some.mail) i.names (record { src = refl; dst = refl }));
+      port = rw (c.in-Some.ensures.taken, c.add_reserved.ensures.order, c.reserve.ensures.keeps, entries-push ms n c.in-Some.mail)
           (port-push (port_of c.self.inside) c.in-Some.mail c.self.inside.taken i.taken c.in-Some.ensures.carried i.port);
     }
 
 pub returns : goal.returns
 returns g c =
-    rw (← c.self.view_is, c.in-Some.ensures.taken, c.push_reserved.ensures.items, c.reserve.ensures.items)
+    let ms = c.self.inside.pool.messages in
+    let n : Name = record { src = c.self.inside.peer; dst = c.self.inside.own; seq = c.self.inside.taken } in
+    rw (← c.self.view_is, c.in-Some.ensures.taken, c.add_reserved.ensures.order, c.reserve.ensures.keeps, entries-push ms n c.in-Some.mail)
     (takes-push (port_of c.self.inside) c.in-Some.mail c.self.inside.taken c.self.invariant.taken)

@@ -1,5 +1,4 @@
 -- A message is taken out of its pool.
-use Rattle.std.proofs.Common.{◌≡◌}
 use Rattle.logged_node.specs.Deeds.{IsWaiting}
 use Rattle.logged_node.specs.RoomInside.{room_of}
 use Rattle.logged_node.proofs.Porting.Rooms.{dropped-room, dropped-sent, dropped-whole, port-read}

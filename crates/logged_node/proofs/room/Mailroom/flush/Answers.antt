@@ -1,7 +1,7 @@
 -- One message after another goes onto its link.
-use Rattle.std.proofs.Common.{refl, ◌∙◌, arith}
+use Rattle.std.proofs.Common.{refl, arith}
 use Rattle.logged_node.specs.Moves.{Stands}
-use Rattle.logged_node.proofs.Porting.SeveralMoves.{room-refl, room-then, stands-refl, stands-then}
+use Rattle.logged_node.proofs.Porting.SeveralMoves.{room-refl, stands-refl}
 use Rattle.logged_node.proofs.room.Mailroom.flush.Goals as goal
 
 pub loop-init : goal.loop-init

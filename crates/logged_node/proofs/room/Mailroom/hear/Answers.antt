@@ -1,5 +1,5 @@
 -- What the peer has taken is a beginning of what was sent.
-use Rattle.std.proofs.Common.{◌≡◌, ap, sym, ◌∙◌, arith}
+use Rattle.std.proofs.Common.{ap, sym, ◌∙◌, arith}
 use Rattle.tcc_maps.specs.Bridge.{node_of}
 use Rattle.logged_node.specs.Linked.{IsLinkedTo}
 use Rattle.logged_node.specs.RoomInside.{room_of}

@@ -1,5 +1,5 @@
 -- The first message goes onto its link.
-use Rattle.std.proofs.Common.{◌≡◌, ℕ, ◌<◌, ◌∷◌, drop, ◌+◌, length, length-drop, refl, sym, ◌∙◌, arith}
+use Rattle.std.proofs.Common.{◌<◌, drop, ◌+◌, length, length-drop, refl, sym, ◌∙◌, arith}
 use Rattle.std.proofs.lemmas.Option.{slice_get_read}
 use Rattle.tcc_maps.specs.Bridge.{node_of}
 use Rattle.tcc_msg.specs.Plain.{msg_of}

@@ -1,5 +1,5 @@
 -- How many the member would take.
-use Rattle.std.proofs.Common.{◌≡◌, length, refl, ap, ◌∙◌, arith}
+use Rattle.std.proofs.Common.{length, refl, ap, ◌∙◌, arith}
 use Rattle.std.proofs.lemmas.Option.{slice_get_read}
 use Rattle.tcc_maps.specs.Bridge.{node_of}
 use Rattle.logged_node.specs.Choice.{all_deliveries, deliveries}
