@@ -43,7 +43,8 @@ fn file(alloc: Global, words: &[u32]) -> Result<List<u8>, Fail> {
 pub(crate) fn one_loaded(alloc: Global, cfg: &Config, image: &[u32]) -> Result<Loaded, Fail>
     ensures { IfOk result (λ l. l.settings ≡ cfg.now) }
 {
-    let images = raw(alloc, cfg, &[file(alloc, image)?])?;
+    let files = [file(alloc, image)?];
+    let images = raw(alloc, cfg, &files)?;
     Ok(load(alloc, cfg, &images)?)
 }
 

@@ -432,7 +432,8 @@ fn refuses_raw_files_past_the_end(rt: HostRuntime) -> Result<(), Fail> {
 
 /// The fault of loading an empty raw file.
 fn fault_of_empty(alloc: Global, config: &Config) -> Result<Option<LoadFault>, Fail> {
-    let images = raw(alloc, config, &[file(alloc, 0)?])?;
+    let files = [file(alloc, 0)?];
+    let images = raw(alloc, config, &files)?;
     Ok(load(alloc, config, &images).err())
 }
 

@@ -21,10 +21,10 @@ pub(crate) fn loaded(alloc: Global, image: &[u8]) -> Result<Loaded, Fail>
     ensures ram { IfOk result (λ l. l.settings.ram ≡ 65536) }
 {
     let config = Config::new(2, 1, 16, 2, 0x8000_0000, 65_536)?;
-    let file = List {
+    let files = [List {
         items: image.to_vec(alloc)?,
-    };
-    let images = raw(alloc, &config, &[file])?;
+    }];
+    let images = raw(alloc, &config, &files)?;
     Ok(load(alloc, &config, &images)?)
 }
 
