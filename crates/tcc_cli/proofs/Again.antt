@@ -182,7 +182,7 @@ record Again (s : Start) (events : List Event) (ends : History) (done : Bool) (v
 run-again : Facts → (v : Around) (replay : List (List ℕ)) (g : Written) (other : Status) (machine : Machine) (images : List (List ℕ))
     (name : List ℕ) (files : List (List ℕ)) (text_of_end : Bool → ℕ → History → List ℕ) (done : Bool) (text : List ℕ)
     (l : Left v machine images name files text_of_end done text) → IsCommand replay (Replay machine name images)
-    → Caused replay v g other → HasNoFault v → other ≢ Memory
+    → Caused replay v g other → HasNoFault (Replay machine name images) v → other ≢ Memory
     → Again (start_of machine.raw machine.config files) l.events l.ends done v other
 run-again f v replay g other machine images name files text_of_end done text l asked again none enough =
     let c = Replay machine name images in

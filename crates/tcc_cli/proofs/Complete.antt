@@ -1,7 +1,8 @@
 -- Why the program's answers are complete.
 use Rattle.std.proofs.Common.{ℕ, ◌≡◌, ◌≢◌, List, [], ◌∷◌, drop, get_or, Bool, true, false, Option, Some, None, Ok, Err, refl, sym, ◌∙◌}
-use Rattle.std.proofs.Common.{◌⊎◌, ap, subst, inl, inr}
-use Rattle.std.specs.Prelude.{IsSome}
+use Rattle.std.proofs.Common.{◌⊎◌, ◌++◌, zero, arith, ap, subst, inl, inr}
+use Rattle.std.specs.Prelude.{Contains, IsSome}
+use Rattle.std.proofs.lemmas.List.Elements.{Contains-append_right}
 use Rattle.tcc_cli.proofs.Excluded.{excluded}
 use Rattle.tcc_cli.proofs.Facts.{Facts}
 use Rattle.tcc_cli.specs.Around.{Around}
@@ -66,7 +67,7 @@ ended false status e = inr (inl e)
 -- what is left to answer after each end of the command
 left : Facts → (w : Around) (status : Status) (c : Command) (files : List (List ℕ)) (end : End) → IsInBounds c → status ≡ status_of end
     → EndsOf c w end
-    → AreTold w.files.before (files_of c) files → HasNoFault w → IsLeft c files status
+    → AreTold w.files.before (files_of c) files → HasNoFault c w → IsLeft c files status
 left f w status c files (Ok done) bounds is (read, text, started, comes, whole) told none =
     let same = given-told w.files.before (files_of c) files read told started.given in
     let images : fault_from c files ≡ None = subst (λ fs. fault_from c fs ≡ None) same started.images in
@@ -95,9 +96,12 @@ left f w status c files (Err (why.Schedule line)) bounds is ((read, started, fau
       schedule = λ _ _ _. inl is;
       neither = λ _ fine. absurd (fine line (subst (λ fs. IsFaultyLine c fs line) same faulty));
     }
-left f w status c files (Err (why.Store name)) bounds is (inl (first, untouched), silent) told none = absurd
-    (none.reads name.now first.rose)
-left f w status c files (Err (why.Store name)) bounds is (inr (began, named, rose), silent) told none = absurd (none.writes name.now rose)
+left f w status c files (Err (why.Store name)) bounds is (inl (first, untouched), silent) told none =
+    let here : Contains (first.earlier ++ name.now ∷ first.later) name.now =
+    Contains-append_right first.earlier (name.now ∷ first.later) name.now (zero, omega arith, refl) in
+    absurd (none.reads name.now (subst (λ ns. Contains ns name.now) (sym first.names_are) here) first.rose)
+left f w status c files (Err (why.Store name)) bounds is (inr (began, named, rose), silent) told none = absurd
+    (none.writes name.now named rose)
 left f w status c files (Err why.Output) bounds is (read, done, text, started, comes, cut) told none = absurd (none.out cut.3)
 left f w status c files (Err why.Memory) bounds is e told none = out-of-memory c files status is
 
@@ -117,7 +121,7 @@ of-command f words w c end a (inr (away, untouched, silent)) = inr away
 
 answers-left : Facts → (words : List (List ℕ)) (w : Around) (status : Status) (c : Command) (files : List (List ℕ)) (end : End)
     → status ≡ status_of end → EndsOf c w end ⊎ IsTurnedAway words end → IsCommand words c → AreTold w.files.before (files_of c) files
-    → HasNoFault w → IsLeft c files status
+    → HasNoFault c w → IsLeft c files status
 answers-left f words w status c files end is (inl ends) a told none = left f w status c files end
     (f.in_bounds words c a) is ends told none
 answers-left f words w status c files end is (inr away) a told none = turned-away f words status c files end is away a

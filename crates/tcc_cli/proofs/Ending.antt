@@ -1,10 +1,13 @@
 -- From the end of a command, or of the words, to the answer of the program.
-use Rattle.std.proofs.Common.{◌≡◌, ◌≢◌, ℕ, List, Some, None, Err, inl, inr, sym, subst, ◌∙◌}
+use Rattle.std.proofs.Common.{◌≡◌, ◌≢◌, ℕ, List, Some, None, Ok, Err, Result, IfOk, String, Global, inl, inr, refl, ap, sym, subst, ◌∙◌}
+use Rattle.std.specs.declared.vec.IntoIter.{IntoIter}
 use Rattle.image_load.specs.Contents.{started}
 use Rattle.tcc_cli.specs.Around.{Around, FilesAround, IsUntouched}
+use Rattle.tcc_cli.specs.Comes.{HasRecorded}
 use Rattle.tcc_cli.specs.Commands.{fault_from, files_of, record_of}
 use Rattle.tcc_cli.specs.Failing.{IsStopped}
 use Rattle.tcc_cli.specs.Lines.{IsSilent, IsTold, Written}
+use Rattle.tcc_cli.specs.Process.{words_in}
 use Rattle.tcc_cli.specs.Reading.{AreGiven}
 use Rattle.tcc_cli.specs.Refusals.{End, line_of, refusal_status, status_of, words_refusal}
 use Rattle.tcc_cli.specs.Top.{Caused, EndsOf, IsTurnedAway, Notes, Started}
@@ -33,6 +36,18 @@ words-refused words w err status f r h is untouched silent status_is told = reco
   others = λ n _. untouched n;
 }
 
+-- want of memory before the words were collected
+no-memory : (words : List (List ℕ)) (w : Around) (err : Written) (status : Status) → IsUntouched w.files → IsSilent w.out
+    → status ≡ refusal_status why.Memory → IsTold (line_of why.Memory) err → Caused words w err status
+no-memory words w err status untouched silent status_is told =
+    words-refused words w err status fault.Memory why.Memory tt refl untouched silent status_is told
+
+pub not-collected : {E : Type 0} (given : Result (IntoIter (String Global) Global) E) (w : Around) (err : Written) (status : Status)
+    → IsUntouched w.files → IsSilent w.out → status ≡ refusal_status why.Memory → IsTold (line_of why.Memory) err
+    → IfOk given (λ words. Caused (words_in words) w err status)
+not-collected (Ok words) w err status untouched silent is told = no-memory (words_in words) w err status untouched silent is told
+not-collected (Err e) w err status untouched silent is told = tt
+
 pub command-ended : (words : List (List ℕ)) (w : Around) (err : Written) (status : Status) (c : Command) (end : End) → IsCommand words c
     → EndsOf c w end → ((n : List ℕ) → record_of c ≢ Some n → w.files.after n ≡ w.files.before n)
     → status ≡ status_of end → Notes err end → Caused words w err status
@@ -58,17 +73,24 @@ begun c w names read two three are given second third images = record {
 pub record IsLater (files later : FilesAround) : Type 0 where
   pub contents : (n : List ℕ) → later.before n ≡ files.before n
   pub writes : (n : List ℕ) → later.writes_before n ≡ files.writes_before n
-  pub after : (n : List ℕ) → files.after n ≡ later.after n
+  pub after : files.after ≡ later.after
+  pub tells : files.tells ≡ later.tells
   pub writes_after : (n : List ℕ) → later.writes_after n ≡ files.writes_after n
+
+still : (w : Around) (f : FilesAround) → IsLater w.files f → IsUntouched f → IsUntouched w.files
+still w f s untouched n = ap (λ g. g n) s.after ∙ untouched n ∙ s.contents n
 
 pub stopped : (c : Command) (w : Around) (f : FilesAround) (files : List (List ℕ)) (r : Refusal) → IsLater w.files f → IsStopped c files f r
     → Started c w files → IsSilent w.out → EndsOf c w (Err r)
-stopped c w f files (why.Schedule line) s h started silent = ((files, started, h.0), (λ n. s.after n ∙ h.1 n ∙ s.contents n), silent)
+stopped c w f files (why.Schedule line) s h started silent = ((files, started, h.0), still w f s h.1, silent)
 stopped c w f files (why.Store name) s h started silent =
     let rose = subst (λ k. Rose k (w.files.writes_after name.now)) (s.writes name.now)
     (subst (λ k. Rose (f.writes_before name.now) k) (s.writes_after name.now) h.1) in
     (inr ((files, started), h.0, rose), silent)
-stopped c w f files why.Memory s h started silent = silent
+stopped c w f files why.Memory s (inl untouched) started silent = (inl (still w f s untouched), silent)
+stopped c w f files why.Memory s (inr recorded) started silent =
+    let told = subst (λ g. HasRecorded c files f.tells g) (sym s.after) recorded in
+    (inr (files, started, subst (λ b. HasRecorded c files b w.files.after) (sym s.tells) told), silent)
 stopped c w f files why.Words s h started silent = h
 stopped c w f files (why.Value field) s h started silent = h
 stopped c w f files (why.Image bad) s h started silent = absurd h

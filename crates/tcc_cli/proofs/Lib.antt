@@ -17,3 +17,4 @@ mod Shown
 mod Starting
 mod Taken
 mod Truth
+mod Yielded

@@ -5,7 +5,7 @@ use Rattle.tcc_cli.specs.Lists.{IsExecuted, IsListFault}
 use Rattle.tcc_cli.specs.OnBus.{RanOnBus}
 use Rattle.tcc_cli.specs.Phased.{IsPhasePicked, RanInPhases}
 use Rattle.tcc_cli.specs.Runs.{run_text, summary_text}
-use Rattle.tcc_cli.specs.Schedules.{IsMade, IsPicked, IsRecorded, IsScheduleFault, IsScheduleOf, Ran}
+use Rattle.tcc_cli.specs.Schedules.{IsMade, IsPicked, IsRecorded, IsScheduleFault, IsScheduleOf, Ran, RecordsOne}
 use Rattle.tcc_words.specs.declared.command.Command.{Command}
 use Rattle.tcc_words.specs.declared.command.Command.TheVariants.{Run, Replay, Serial, Trial, Why, Phases, Bus}
 use Rattle.why_text.specs.Text.{why_text}
@@ -33,6 +33,14 @@ Comes (Phases machine images steps seed keep) files tells told done text =
     done text
 Comes (Bus machine images steps seed) files tells told done text =
     RanOnBus (start_from (Bus machine images steps seed) files) seed steps done text
+
+-- the record holds, whole, a schedule that the command may run
+abbrev pub HasRecorded : Command → (files : List (List ℕ)) → (tells : Bool) → (told : List ℕ → Option (List ℕ)) → Type 0
+HasRecorded (Run machine images steps seed threads keep) files tells told =
+    RecordsOne (IsMade threads (start_from (Run machine images steps seed threads keep) files) seed steps) machine.config keep tells told
+HasRecorded (Phases machine images steps seed keep) files tells told =
+    RecordsOne (IsPhasePicked (start_from (Phases machine images steps seed keep) files) seed steps) machine.config keep tells told
+HasRecorded _ files tells told = ⊥
 
 -- the line at which the file of a command is refused
 abbrev pub IsFaultyLine : Command → (files : List (List ℕ)) → (line : ℕ) → Type 0

@@ -6,12 +6,13 @@ use Rattle.schedule_text.specs.Faults.{IsFirstFault}
 use Rattle.schedule_text.specs.declared.fault.TextFault.{TextFault}
 use Rattle.schedule_text.specs.declared.fault.TextFault.TheVariants as text
 use Rattle.tcc_cli.specs.Around.{FilesAround, IsUntouched}
-use Rattle.tcc_cli.specs.Comes.{IsFaultyLine}
+use Rattle.tcc_cli.specs.Comes.{HasRecorded, IsFaultyLine}
 use Rattle.tcc_cli.specs.Commands.{record_of}
 use Rattle.tcc_cli.specs.Lists.{IsListFault}
-use Rattle.tcc_cli.specs.Schedules.{HasOtherSettings, IsScheduleFault}
+use Rattle.tcc_cli.specs.Schedules.{HasOtherSettings, IsScheduleFault, RecordsOne}
 use Rattle.tcc_cli.specs.declared.refusal.Refusal.{Refusal}
 use Rattle.tcc_cli.specs.declared.refusal.Refusal.TheVariants.{Schedule, Store, Memory}
+use Rattle.tcc_msg.specs.declared.event.Event.{Event}
 use Rattle.tcc_replay.specs.declared.replaying.ReplayFault.{ReplayFault}
 use Rattle.tcc_replay.specs.declared.replaying.ReplayFault.TheVariants as replay
 use Rattle.tcc_words.specs.declared.command.Command.{Command}
@@ -46,13 +47,19 @@ IsListRefused s bytes (Schedule line) = IsListFault s bytes line
 IsListRefused s bytes Memory = Unit {0}
 IsListRefused s bytes _ = ⊥
 
--- the record wasn't written
+-- the record wasn't written: the store refused to, or memory ran out before
 abbrev pub IsNotWritten : (keep : Option (List ℕ)) → FilesAround → Refusal → Type 0
 IsNotWritten keep f (Store name) = (keep ≡ Some name.now) × Rose (f.writes_before name.now) (f.writes_after name.now)
-IsNotWritten keep f Memory = Unit {0}
+IsNotWritten keep f Memory = IsUntouched f
 IsNotWritten keep f _ = ⊥
+
+-- a run stops before its text is made; where memory runs out no contents have changed, or the record is whole
+abbrev pub IsRunStopped : (IsSchedule : List Event → Type 0) → Settings → (keep : Option (List ℕ)) → FilesAround → Refusal → Type 0
+IsRunStopped IsSchedule settings keep f Memory = IsUntouched f ⊎ RecordsOne IsSchedule settings keep f.tells f.after
+IsRunStopped IsSchedule settings keep f other = IsNotWritten keep f other
 
 -- a command stops before its text is made
 abbrev pub IsStopped : Command → (files : List (List ℕ)) → FilesAround → Refusal → Type 0
 IsStopped c files f (Schedule line) = IsFaultyLine c files line × IsUntouched f
+IsStopped c files f Memory = IsUntouched f ⊎ HasRecorded c files f.tells f.after
 IsStopped c files f other = IsNotWritten (record_of c) f other

@@ -26,10 +26,10 @@ use Rattle.tcc_words.specs.declared.command.Command.{Command}
 use Rattle.tcc_words.specs.declared.command.Command.TheVariants.{Replay, Phases}
 use Rattle.tcc_world.specs.Faults.{Rose}
 
--- no file failed to be read or written, and the output didn't fail
-pub record HasNoFault (w : Around) : Type 0 where
-  pub reads : (name : List ℕ) → Rose (w.files.reads_before name) (w.files.reads_after name) → ⊥
-  pub writes : (name : List ℕ) → Rose (w.files.writes_before name) (w.files.writes_after name) → ⊥
+-- none of a command's files failed to be read or written, and the output didn't fail
+pub record HasNoFault (c : Command) (w : Around) : Type 0 where
+  pub reads : (name : List ℕ) → Contains (files_of c) name → Rose (w.files.reads_before name) (w.files.reads_after name) → ⊥
+  pub writes : (name : List ℕ) → record_of c ≡ Some name → Rose (w.files.writes_before name) (w.files.writes_after name) → ⊥
   pub out : Rose w.out.faults_before w.out.faults_after → ⊥
 
 -- the store tells the bytes of these files
@@ -50,7 +50,8 @@ pub record IsLeft (c : Command) (files : List (List ℕ)) (status : Status) : Ty
 abbrev pub AnswersAreComplete : Type 0
 AnswersAreComplete =
     (words : List (List ℕ)) (w : Around) (err : Written) (status : Status) (c : Command) (files : List (List ℕ))
-    → Caused words w err status → IsCommand words c → AreTold w.files.before (files_of c) files → HasNoFault w → IsLeft c files status
+    → Caused words w err status → IsCommand words c → AreTold w.files.before (files_of c) files → HasNoFault c w
+    → IsLeft c files status
 
 -- words that are no command are refused, and no others, unless memory runs out
 abbrev pub OthersAreRefused : Type 0
@@ -107,4 +108,5 @@ abbrev pub ReplaysPrintTheSame : Type 0
 ReplaysPrintTheSame =
     (w v : Around) (recorded replay : List (List ℕ)) (e f : Written) (status other : Status) (c : Command) (name : List ℕ)
     → ReplaysRecord w v recorded replay c name → Caused recorded w e status → (status ≡ Done) ⊎ (status ≡ Stopped)
-    → Caused replay v f other → HasNoFault v → other ≢ Memory → (other ≡ status) × IsPrintedAgain c w.out v.out
+    → Caused replay v f other → HasNoFault (Replay (machine_of c) name (image_names c)) v → other ≢ Memory
+    → (other ≡ status) × IsPrintedAgain c w.out v.out

@@ -8,6 +8,7 @@ pub mod Lines
 pub mod Lists
 pub mod OnBus
 pub mod Phased
+pub mod Process
 pub mod Reading
 pub mod Refusals
 pub mod Runs

@@ -30,6 +30,12 @@ abbrev pub IsRecorded : (record_name : Option (List ℕ)) → (tells : Bool) →
 IsRecorded None tells told s = Unit {0}
 IsRecorded (Some name) tells told s = IsWellFormed s × (told name ≡ (if tells then Some (text_of s) else None))
 
+-- the record, where one is asked for, is whole: it holds a schedule that is so
+abbrev pub RecordsOne : (IsSchedule : List Event → Type 0) → Settings → (record_name : Option (List ℕ)) → (tells : Bool)
+    → (told : List ℕ → Option (List ℕ)) → Type 0
+RecordsOne IsSchedule settings record_name tells told =
+    (es : List Event) × IsSchedule es × IsRecorded record_name tells told (record { config = settings; events = es })
+
 -- the schedule that a seed picks, and the record of it
 abbrev pub IsPicked : Start → (seed steps : ℕ) → List Event → Type 0
 IsPicked s seed steps es = map event_of es ≡ picked_by s seed steps

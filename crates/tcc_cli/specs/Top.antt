@@ -1,7 +1,7 @@
 -- What the program's answers say: how the call ended, its cause, and what was written.
 use Rattle.std.specs.Prelude.{ℕ, Bool, List, ◌≡◌, ◌≢◌, ◌⊎◌, Some, None, Ok, Err}
 use Rattle.tcc_cli.specs.Around.{Around, IsUntouched}
-use Rattle.tcc_cli.specs.Comes.{Comes, IsFaultyLine}
+use Rattle.tcc_cli.specs.Comes.{Comes, HasRecorded, IsFaultyLine}
 use Rattle.tcc_cli.specs.Commands.{fault_from, files_of, record_of}
 use Rattle.tcc_cli.specs.Lines.{Written, IsTold, IsCut, IsWhole, IsSilent}
 use Rattle.tcc_cli.specs.Reading.{AreGiven, FailedFirst}
@@ -29,7 +29,7 @@ FailedToWrite c w name =
     ((files : List (List ℕ)) × Started c w files) × (record_of c ≡ Some name)
     × Rose (w.files.writes_before name) (w.files.writes_after name)
 
--- how a command ends, and why
+-- how a command ends, and why; where memory ran out, no contents have changed, or the record is whole
 abbrev pub EndsOf : Command → Around → End → Type 0
 EndsOf c w (Ok done) =
     (files : List (List ℕ)) × (text : List ℕ) × Started c w files × Comes c files w.files.tells w.files.after done text × IsWhole text w.out
@@ -44,7 +44,9 @@ EndsOf c w (Err (why.Store name)) = (FailedToRead c w name.now ⊎ FailedToWrite
 EndsOf c w (Err why.Output) =
     (files : List (List ℕ)) × (done : Bool) × (text : List ℕ) × Started c w files
     × Comes c files w.files.tells w.files.after done text × IsCut text w.out
-EndsOf c w (Err why.Memory) = IsSilent w.out
+EndsOf c w (Err why.Memory) =
+    (IsUntouched w.files ⊎ ((files : List (List ℕ)) × Started c w files × HasRecorded c files w.files.tells w.files.after))
+    × IsSilent w.out
 
 -- words that are no command are refused; they may not have been read for want of memory
 abbrev pub IsTurnedAway : List (List ℕ) → End → Type 0

@@ -8,6 +8,7 @@ mod laws;
 mod lists;
 mod on_bus;
 mod phases;
+mod process;
 mod records;
 mod refusal;
 mod reports;
@@ -17,6 +18,7 @@ mod status;
 mod top;
 
 pub use laws::{answers_are_complete, open_runs_take_all_events, replays_print_the_same};
+pub use process::tcc_process;
 pub use refusal::{ImageFault, Reader, Refusal, refuse};
 pub use status::Status;
 pub use top::tcc_main;

@@ -2,7 +2,7 @@
 ghost use Rattle.std.specs.Prelude.{◌≡◌, ◌≢◌, ◌≤◌, ℕ, List as Seq, IfErr, IfOk, IfSome, Some};
 ghost use Rattle.std.specs.String.{string_bytes};
 ghost use Rattle.image_load.specs.Contents.{started};
-ghost use Rattle.tcc_cli.specs.Failing.{IsNotWritten, IsScheduleRefused};
+ghost use Rattle.tcc_cli.specs.Failing.{IsRunStopped, IsScheduleRefused};
 ghost use Rattle.tcc_cli.specs.Phased.{IsPhasePicked, RanInPhases};
 ghost use Rattle.tcc_cli.specs.Runs.{run_text, summary_text};
 ghost use Rattle.tcc_cli.specs.Schedules.{IsMade, IsPicked, IsRecorded, IsScheduleOf, Ran};
@@ -38,15 +38,16 @@ pub fn run_recorded<'a, R: Threads + Wait + Sync, F: Store, G: Gate + Sync>(
         (λ es. IsMade plan.threads (started loaded.now) plan.seed plan.steps es
         × IsRecorded keep.now (F.tells files.old) (F.contents files.new) (record { config = loaded.now.settings; events = es }))
         (run_text (started loaded.now)) f.done (string_bytes f.text)) }
-    ensures failed { IfErr result (IsNotWritten keep.now (record {
-      tells = F.tells files.old;
-      before = F.contents files.old;
-      after = F.contents files.new;
-      reads_before = F.failed_reads files.old;
-      reads_after = F.failed_reads files.new;
-      writes_before = F.failed_writes files.old;
-      writes_after = F.failed_writes files.new;
-    })) }
+    ensures failed { IfErr result (IsRunStopped (IsMade plan.threads (started loaded.now) plan.seed plan.steps) loaded.now.settings
+        keep.now (record {
+          tells = F.tells files.old;
+          before = F.contents files.old;
+          after = F.contents files.new;
+          reads_before = F.failed_reads files.old;
+          reads_after = F.failed_reads files.new;
+          writes_before = F.failed_writes files.old;
+          writes_after = F.failed_writes files.new;
+        })) }
     ensures others { (n : Seq ℕ) → keep.now ≢ Some n → F.contents files.new n ≡ F.contents files.old n }
 {
     let refined = match run_by(rt, alloc, loaded, plan, gate) {
@@ -121,15 +122,16 @@ pub fn run_phased<'a, F: Store>(
         (λ es. IsPhasePicked (started loaded.now) seed steps es
         × IsRecorded keep.now (F.tells files.old) (F.contents files.new) (record { config = loaded.now.settings; events = es }))
         f.done (string_bytes f.text)) }
-    ensures failed { IfErr result (IsNotWritten keep.now (record {
-      tells = F.tells files.old;
-      before = F.contents files.old;
-      after = F.contents files.new;
-      reads_before = F.failed_reads files.old;
-      reads_after = F.failed_reads files.new;
-      writes_before = F.failed_writes files.old;
-      writes_after = F.failed_writes files.new;
-    })) }
+    ensures failed { IfErr result (IsRunStopped (IsPhasePicked (started loaded.now) seed steps) loaded.now.settings
+        keep.now (record {
+          tells = F.tells files.old;
+          before = F.contents files.old;
+          after = F.contents files.new;
+          reads_before = F.failed_reads files.old;
+          reads_after = F.failed_reads files.new;
+          writes_before = F.failed_writes files.old;
+          writes_after = F.failed_writes files.new;
+        })) }
     ensures others { (n : Seq ℕ) → keep.now ≢ Some n → F.contents files.new n ≡ F.contents files.old n }
 {
     let system = match phase_run(alloc, loaded, seed, steps) {

@@ -44,7 +44,7 @@ use work_gen::workload;
 /// are no command, or a value isn't allowed. `Image`: the files were read, and one isn't an image. `Schedule`: the schedule or list isn't
 /// in its grammar, has other settings than the command's, or can't be run to its end. `StoreFault`: a file wasn't read, and this is the
 /// first, or the record wasn't written. `SinkFault`: `out` failed, after a first part of the text. `Memory`: there wasn't enough memory; no
-/// clause says that memory was short.
+/// clause says that memory was short. The record is then as it was, or whole, with the schedule of the run.
 ///
 /// Refusals come in this order: words, files that aren't read (the schedule or list first, then the images), images, the schedule or list,
 /// the record, the output. Nothing is written to `out` with a refusal but `SinkFault`. A refusal writes its line to `err`, as far as `err`

@@ -1,8 +1,13 @@
 // Words that aren't a command's, values that aren't allowed, and some that are. Where words are refused no file is looked for.
 use super::runs::{STORE, STORE_REPORT};
-use super::{Held, Host, Row, answer, check, over};
-use std::alloc::Global;
+use super::{Held, Host, Row, answer, check, lines, over, store};
+use std::alloc::{AllocError, Global};
+use std::env::Args;
+use std::io;
+use std::io::ErrorKind;
 use std::test::Fail;
+use tcc_cli::tcc_process;
+use tcc_world::{OpenGate, VecSink};
 
 /// Command lines whose words don't stand as a command's do.
 const WORDS: [&str; 34] = [
@@ -202,6 +207,57 @@ fn values_in_range_are_taken(rt: HostRuntime) -> Result<(), Fail> {
             text: "tcc: store a",
         };
         check(&rt, rt.alloc(), &row)?;
+    }
+    Ok(())
+}
+
+/// What a process writes that was started with these texts, beside a raw image `a`: its status, and both outputs.
+fn started(
+    rt: &impl Host,
+    alloc: Global,
+    given: io::Result<Args>,
+) -> Result<(u8, VecSink, VecSink), Fail> {
+    let mut files = store(alloc, &over(&[("a", Held::Image(STORE))]))?;
+    let mut out = VecSink::new(alloc, 4096, Vec::new(alloc))?;
+    let mut err = VecSink::new(alloc, 4096, Vec::new(alloc))?;
+    let status = tcc_process(rt, alloc, given, &mut files, &mut out, &mut err, &OpenGate);
+    Ok((status.number(), out, err))
+}
+
+/// These words, as the texts that a process is started with.
+fn texts(alloc: Global, words: &[&str]) -> Result<Args, AllocError> {
+    let mut texts = Vec::new(alloc);
+    for word in words {
+        texts.push(String::from_str(alloc, word)?)?;
+    }
+    Ok(texts.into_iter())
+}
+
+#[test]
+fn the_first_text_is_no_word(rt: HostRuntime) -> Result<(), Fail> {
+    let alloc = rt.alloc();
+    let given = texts(alloc, &["run", "run", "--raw", "a"])?;
+    let (status, out, err) = started(&rt, alloc, Ok(given))?;
+    assert_eq!(rt; status, 0);
+    assert_eq!(rt; out.bytes(), lines(alloc, &[STORE_REPORT])?.as_slice());
+    assert_eq!(rt; err.bytes().len(), 0);
+    let (status, _, err) = started(&rt, alloc, Ok(texts(alloc, &[])?))?;
+    assert_eq!(rt; status, 2);
+    assert_eq!(rt; err.bytes(), b"tcc: words\n".as_slice());
+    Ok(())
+}
+
+#[test]
+fn texts_that_are_not_there_are_refused(rt: HostRuntime) -> Result<(), Fail> {
+    let alloc = rt.alloc();
+    for (kind, wanted, line) in [
+        (ErrorKind::OutOfMemory, 7, "tcc: memory"),
+        (ErrorKind::InvalidData, 2, "tcc: words"),
+    ] {
+        let (status, out, err) = started(&rt, alloc, Err(io::Error::from(kind)))?;
+        assert_eq!(rt; status, wanted);
+        assert_eq!(rt; out.bytes().len(), 0);
+        assert_eq!(rt; err.bytes(), lines(alloc, &[line])?.as_slice());
     }
     Ok(())
 }

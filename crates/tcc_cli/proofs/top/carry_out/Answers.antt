@@ -53,7 +53,8 @@ returns-in-Err-finish-clause-ends g c =
     let later : IsLater files mid = record {
       contents = c.in-Ok-read_files.ensures.contents;
       writes = c.in-Ok-read_files.ensures.writes;
-      after = λ n. refl;
+      after = refl;
+      tells = sym c.in-Ok-read_files.ensures.tells;
       writes_after = λ n. refl;
     } in
     stopped c.args.command.now w mid c.deref-3.result.now c.in-Err-finish.refusal later c.in-Err-finish.ensures.refused

@@ -1,0 +1,7 @@
+-- The words so far.
+use Rattle.std.proofs.Common.{◌≡◌, map, take}
+use Rattle.std.specs.String.{string_bytes}
+use Rattle.tcc_cli.proofs.process.words_of.Given as goal
+
+abbrev pub invariant-loop-text : goal.invariant-loop-text
+invariant-loop-text l = map (λ w. w.now) l.words.items ≡ map string_bytes (take l.text-index l.texts)
