@@ -164,7 +164,7 @@ impl Member {
     ///
     /// The event is one of this node, names nodes of the machine and is enabled; its message is one that its link carries; and the
     /// member has done fewer than 4,194,304 events. Takes constant time, but for a commit, which takes time in the cache's frames
-    /// and for a core that is alone in RAM's lines, and for what is sent.
+    /// and for a core that is alone in the lines that it wrote, and for what is sent.
     pub fn act(
         &mut self,
         event: Event,
