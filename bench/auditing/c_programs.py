@@ -106,9 +106,10 @@ def compiled(room, text, level):
 
 
 def example_texts():
-    """The C programs among the examples, by name."""
+    """The C programs among the examples that need no C library, by name."""
     names = sorted(name for name in os.listdir(EXAMPLES) if name.endswith(".c"))
-    return {name: open(os.path.join(EXAMPLES, name), encoding="ascii").read() for name in names}
+    texts = {name: open(os.path.join(EXAMPLES, name), encoding="ascii").read() for name in names}
+    return {name: text for name, text in texts.items() if "#include <" not in text}
 
 
 def example_images():
