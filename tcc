@@ -2,7 +2,7 @@
 # Runs the simulator from any folder: ./tcc run [OPTION]... IMAGE...
 #
 # What runs is the proved program in release/, where that is of these sources and runs on this computer. Else it is crates/tcc/out/tcc,
-# which is proved and built first where it isn't of these sources. Whether it is, takes a third of a second to find out; so what was found
+# which is proved and built first where it isn't of these sources. Whether it is, takes a tenth of a second to find out; so what was found
 # is kept in release/checked with the state of each source (its inode, size and time of change), and here that is all that is looked at.
 # Words, file names, standard streams and exit status are the program's own. What else the launcher does (pages of usage, hints, records
 # that are whole or not there, the settings of a schedule) is in share/launch.
