@@ -28,7 +28,7 @@ install:
 	install -m 755 tcc release/tcc-x86_64-linux $(lib)
 	install -m 644 VERSION release/manifest $(lib)
 	install -m 755 share/launch $(lib)/share
-	install -m 644 share/checked.sh share/hints.py share/words.txt $(lib)/share
+	install -m 644 share/checked.sh share/hints.py share/words.py share/words.txt $(lib)/share
 	install -m 644 share/pages/* $(lib)/share/pages
 	install -m 755 share/cc/cc $(lib)/share/cc
 	install -m 644 share/cc/*.[cSl]* examples/machine.h $(lib)/share/cc

@@ -14,7 +14,9 @@ import subprocess
 import sys
 import tempfile
 
-HERE = os.path.dirname(os.path.realpath(__file__))
+sys.dont_write_bytecode = True
+from words import table
+
 KINDS = ["counters", "transfers", "stencil", "sharing"]
 LONGEST = 268_435_456
 MACHINES = {3: "x86", 62: "x86-64", 40: "ARM", 183: "ARM of 64 bits", 8: "MIPS", 20: "PowerPC", 22: "S/390", 243: "RISC-V"}
@@ -29,30 +31,10 @@ TRAPS = {
     7: "a store outside RAM",
     11: "an ECALL with an unknown number in x17",
 }
-SEGMENT_HINT = "compile with -march=rv32ima -mabi=ilp32, or with `tcc cc`"
+COMPILE_HINT = "compile with -march=rv32ima -mabi=ilp32, or with `tcc cc`"
 
 
 # The words.
-
-def table():
-    """The commands with their words, and the options with value, limits and commands, by words.txt."""
-    lines = []
-    with open(os.path.join(HERE, "words.txt"), encoding="utf-8") as file:
-        for line in file.read().split("\n"):
-            if line.startswith(" "):
-                lines[-1] += line
-            elif line and not line.startswith("#"):
-                lines.append(line)
-    commands, options = {}, {}
-    for line in lines:
-        kind, rest = line.split(" ", 1)
-        fields = [it.strip() for it in rest.split("|")]
-        if kind == "command":
-            commands[fields[0]] = fields[1]
-        elif kind == "option":
-            options[fields[0]] = {"value": fields[1], "limits": fields[2], "commands": fields[4].split()}
-    return commands, options
-
 
 class Words:
     """What the words say, as the program reads them."""
@@ -69,7 +51,7 @@ class Words:
                 self.files.append(word)
                 continue
             if not word.startswith("--"):
-                near = [f"--{it}" for it in options if it.startswith(word[1]) and self.command in options[it]["commands"]]
+                near = [f"--{it}" for it in options if it.startswith(word[1]) and self.command in options[it].commands]
                 self.say("options begin with two hyphens" + (f": {', '.join(near)}?" if near else f" (see {self.command} --help)"))
                 continue
             name, equals, value = word[2:].partition("=")
@@ -81,21 +63,21 @@ class Words:
     def option(self, name, value, rest, options):
         known = options.get(name)
         if known is None:
-            near = difflib.get_close_matches(name, [it for it in options if self.command in options[it]["commands"]], 1)
+            near = difflib.get_close_matches(name, [it for it in options if self.command in options[it].commands], 1)
             self.say(f"there is no option --{name}" + (f"; --{near[0]}?" if near else f" (see {self.command} --help)"))
             return
-        if self.command not in known["commands"]:
+        if self.command not in known.commands:
             self.say(f"{self.command} has no option --{name}" + reason(self.command, name))
         if name in self.given:
             self.say(f"--{name} is given twice")
-        if not known["value"]:
+        if not known.value:
             if value is not None:
                 self.say(f"--{name} takes no value")
             self.given[name] = ""
         elif value is not None:
             self.given[name] = value
         elif not rest or (rest[0].startswith("-") and rest[0] != "-"):
-            limits = f": {known['limits']}" if known["limits"] else ""
+            limits = f": {known.limits}" if known.limits else ""
             self.say(f"--{name} needs a value{limits}" + (f" (one that begins with a hyphen as --{name}={rest[0]})" if rest else ""))
             self.given[name] = ""
         else:
@@ -130,9 +112,9 @@ def words_hint(words, commands, options):
         return said.fault
     if words[0] == "trial":
         return "trial takes two words, KIND and NUMBER, as in trial counters 50"
-    missing = commands[words[0]].replace("[OPTION]... ", "").replace("...", "").split()[len(said.files):]
+    missing = commands[words[0]].words.replace("[OPTION]... ", "").replace("...", "").split()[len(said.files):]
     if missing:
-        return f"{' and '.join(missing)} {'is' if len(missing) == 1 else 'are'} missing: {words[0]} {commands[words[0]]}"
+        return f"{' and '.join(missing)} {'is' if len(missing) == 1 else 'are'} missing: {words[0]} {commands[words[0]].words}"
     return None
 
 
@@ -160,10 +142,10 @@ def value_hint(field, words, options):
         if re.fullmatch(r"[0-9]+[kKmMgG](i?B)?", given):
             size = int(re.match(r"[0-9]+", given)[0]) << {"k": 10, "m": 20, "g": 30}[re.search(r"[a-zA-Z]", given)[0].lower()]
             return f"numbers are written out: --{field} {size}"
-        return f"--{field} is a number ({options[field]['limits']}), in decimal or in hexadecimal after 0x; this is {given!r}"
+        return f"--{field} is a number ({options[field].limits}), in decimal or in hexadecimal after 0x; this is {given!r}"
     if field == "base" and number(given) % 32 == 0 and ram:
         return f"RAM of {ram} bytes from {number(given):x} would end after 2^32: the base is at most {(1 << 32) - ram:#x}"
-    return f"--{field} is {options[field]['limits']}, and this is {given}"
+    return f"--{field} is {options[field].limits}, and this is {given}"
 
 
 # The images.
@@ -184,11 +166,11 @@ def elf_hint(fault, place, data):
         kind = "a text" if data[:256].isascii() and b"\0" not in data[:256] else "no ELF file"
         return f"it is {kind}; if it is a raw image: --raw"
     if fault == 3 and place == 4:
-        return f"it is an ELF file of 64 bits, for {elf_machine(data)}; this machine has 32: {SEGMENT_HINT}"
+        return f"it is an ELF file of 64 bits, for {elf_machine(data)}; this machine has 32: {COMPILE_HINT}"
     if fault == 3 and place == 5:
         return "it is big-endian; this machine is little-endian"
     if fault == 3 and place == 18:
-        return f"it is for {elf_machine(data)}, and not for RISC-V: {SEGMENT_HINT}"
+        return f"it is for {elf_machine(data)}, and not for RISC-V: {COMPILE_HINT}"
     if fault == 4:
         kind = struct.unpack("<H", data[16:18])[0]
         return {1: "it is an object file: link it, as by `tcc cc -o x.elf x.o`",
@@ -359,7 +341,7 @@ def is_elf(said):
 
 
 def hint(program, status, line, report, words):
-    commands, options = table()
+    commands, options = ({it.name: it for it in rows} for rows in table())
     if line == "tcc: words":
         return words_hint(words, commands, options)
     if line.startswith("tcc: value "):
