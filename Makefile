@@ -1,5 +1,5 @@
 # make check      the tests that need no prover: half a minute on four processors
-# make prove      proves everything anew, with all tests: the gate
+# make prove      the gate: proves everything, with all tests and the edits that must be refused
 # make install    installs the program as `hoopoelarder` below PREFIX, with its man page, completions and examples
 # make uninstall  takes that away
 PREFIX = /usr/local
