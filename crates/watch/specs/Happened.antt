@@ -1,12 +1,11 @@
 -- What an event did: the facts about the node that acts, by the rules' states and commits before and after it.
-use Rattle.std.specs.Prelude.{ℕ, Bool, true, false, List, [], ◌∷◌, ◌++◌, length, Option, Some, None, nat_le, ◌==◌, if◌then◌else◌}
+use Rattle.std.specs.Prelude.{ℕ, ◌+◌, Bool, true, false, List, [], ◌∷◌, ◌++◌, length, drop, Option, Some, None, ◌==◌, if◌then◌else◌}
 use Rattle.std.specs.List.{flat_map}
 use Rattle.tcc_base.specs.declared.access.Commit.{Commit as Noted}
 use Rattle.tcc_program.specs.Program.{Program}
-use Rattle.tcc_maps.specs.Words.{those}
 use Rattle.tcc_maps.specs.Nodes.{Node, Core, Dir, Vendor, Msg, Event, Exec, Evict, Deliver}
 use Rattle.tcc_maps.specs.Shape.{Shape}
-use Rattle.tcc_rules.specs.State.{Phase, Running, AwaitTid, DoomedTid, Probing, Ready, Overflowing, Solo, Halted, World}
+use Rattle.tcc_rules.specs.State.{Phase, Running, AwaitTid, DoomedTid, Probing, Ready, Overflowing, Solo, Halted, Link, World}
 use Rattle.tcc_rules.specs.Links.{in_flight}
 use Rattle.tcc_rules.specs.DirDeliver.{dir_deliver}
 use Rattle.tcc_rules.specs.Step.{History, Stepped, step}
@@ -70,15 +69,14 @@ moved w v (Core c) = phase_fact c (w.cores c).phase (v.cores c).phase
 moved w v (Dir d) = serves_fact d (w.dirs d).serving.serving (v.dirs d).serving.serving
 moved w v Vendor = []
 
--- what it has sent, by destination and number
-abbrev pub sent_message : (src dst : Node) → (k : ℕ) → Option Msg → List Fact
-sent_message src dst k None = []
-sent_message src dst k (Some m) = Sent src dst k m ∷ []
+-- what it has sent, by destination and number: what stands on a link behind all that was sent there before
+unfoldable pub numbered : (src dst : Node) → (k : ℕ) → Link → List Fact
+numbered src dst k [] = []
+numbered src dst k (None ∷ ms) = numbered src dst (k + 1) ms
+numbered src dst k (Some m ∷ ms) = Sent src dst k m ∷ numbered src dst (k + 1) ms
 
 unfoldable pub sent_to : (w v : World) → (src dst : Node) → List Fact
-sent_to w v src dst =
-    flat_map (λ k. sent_message src dst k (in_flight v.net src dst k))
-    (those (λ k. nat_le (length (w.net src dst)) k) (length (v.net src dst)))
+sent_to w v src dst = numbered src dst (length (w.net src dst)) (drop (length (w.net src dst)) (v.net src dst))
 
 unfoldable pub sent : Shape → (w v : World) → (src : Node) → List Fact
 sent sh w v src = flat_map (sent_to w v src) (nodes sh)

@@ -3,7 +3,7 @@ use Rattle.std.specs.Prelude.{ℕ, Bool, true, false, List, [], ◌∷◌, Optio
 use Rattle.tcc_base.specs.declared.access.Commit.{Commit as Noted}
 use Rattle.tcc_maps.specs.Cache.{is_dirty}
 use Rattle.tcc_maps.specs.Masks.{has, mask_of}
-use Rattle.tcc_maps.specs.Words.{word_at}
+use Rattle.tcc_maps.specs.Words.{or_else, word_at}
 use Rattle.tcc_maps.specs.Nodes.{Node, Dir, Vendor, Msg, TidGrant, Fill, ProbeReply, DataReq, Inv}
 use Rattle.tcc_rules.specs.State.{CoreState, Awaited, Phase, AwaitTid, DoomedTid, Probing, Ready, Overflowing, Solo}
 use Rattle.tcc_rules.specs.DirDeliver.{Answer, Waits, Drops, Asks, Takes}
@@ -46,10 +46,15 @@ is_of_use _ _ s = false
 unfoldable pub taken : Node → Msg → (before : CoreState) → List Fact
 taken src m s = if is_of_use src m s then Took m ∷ [] else Dropped m ∷ []
 
--- the core that committed this TID
-unfoldable pub committer : (tid : ℕ) → List Noted → ℕ
-committer t [] = 0
-committer t (c ∷ cs) = if c.tid.0 == t then c.core.0 else committer t cs
+-- the commit of this TID; there is at most one
+unfoldable pub commit_of : (tid : ℕ) → List Noted → Option Noted
+commit_of t [] = None
+commit_of t (c ∷ cs) = or_else (commit_of t cs) (if c.tid.0 == t then Some c else None)
+
+-- the core that committed it
+abbrev pub committer : Option Noted → ℕ
+committer None = 0
+committer (Some c) = c.core.0
 
 -- the masked words of the line that are marked read
 unfoldable pub words_read : (line mask : ℕ) → CoreState → ℕ
@@ -71,7 +76,7 @@ given_up c (Some t) = GaveUp t c ∷ []
 abbrev pub violated : (core : ℕ) → List Noted → Msg → (s t : CoreState) → List Fact
 violated c commits (Inv l m u) s t =
     if nat_lt 0 s.n && t.n == 0
-    then Violated c (committer u commits) u l (words_read l m s) s.n s.phase ∷ given_up c (tid_in s.phase)
+    then Violated c (committer (commit_of u commits)) u l (words_read l m s) s.n s.phase ∷ given_up c (tid_in s.phase)
     else []
 violated c commits _ s t = []
 
