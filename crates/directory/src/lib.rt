@@ -7,6 +7,7 @@ mod handled;
 mod invalidate;
 mod loading;
 mod rules;
+mod showing;
 mod takes;
 mod waits;
 

@@ -1,6 +1,6 @@
 // The skips as a ring of flags, one for each TID above the served one as far as the last that was skipped.
 ghost use Rattle.std.specs.Prelude.{◌≡◌, ℕ, ◌+◌, ◌-◌, ◌^◌, ◌<◌, ◌≤◌, ◌++◌, Bool, false, OnOk, OnErr, length, replicate};
-ghost use Rattle.tcc_maps.specs.Serving.{Serving, first_serving, skipped, skip_at, advance as advanced};
+ghost use Rattle.tcc_maps.specs.Serving.{Serving, first_serving, is_skipped, skipped, skip_at, advance as advanced};
 
 use crate::skips::Skips;
 use std::alloc::Global;
@@ -28,6 +28,29 @@ impl Model for RingSkips {
     ghost view = { λ s. record { serving = s.serving; skips = s.ahead.items } };
 
     ghost invariant = { λ s. (s.serving ≤ 2 ^ 62 + 1) × (0 < length s.ahead.items → s.serving + length s.ahead.items < 2 ^ 62) };
+}
+
+impl RingSkips {
+    /// How many TIDs above the served one are kept, skipped or not: no TID behind them was skipped. It takes constant time.
+    pub fn skips_ahead(&self) -> usize
+        ensures { result ≡ length self.now.skips }
+    {
+        self.ahead.len()
+    }
+
+    /// Whether the TID is above the served one and was skipped. It takes constant time.
+    #[tactic(auto, unfolding(tcc_maps::specs::Serving::is_skipped))]
+    pub fn is_skipped(&self, tid: Tid) -> bool
+        ensures { result ≡ is_skipped self.now tid.0 }
+    {
+        if tid.0 <= self.serving {
+            return false;
+        }
+        match self.ahead.get((tid.0 - self.serving - 1) as usize) {
+            Some(skipped) => *skipped,
+            None => false,
+        }
+    }
 }
 
 impl Skips for RingSkips {

@@ -1,6 +1,6 @@
 // The skip vector that a directory keeps: the ring.
-ghost use Rattle.std.specs.Prelude.{◌≡◌, ℕ, ◌^◌, ◌<◌, ◌≤◌, OnOk, OnErr};
-ghost use Rattle.tcc_maps.specs.Serving.{Serving, first_serving, skipped, advance as advanced};
+ghost use Rattle.std.specs.Prelude.{◌≡◌, ℕ, ◌^◌, ◌<◌, ◌≤◌, OnOk, OnErr, length};
+ghost use Rattle.tcc_maps.specs.Serving.{Serving, first_serving, is_skipped, skipped, advance as advanced};
 
 use crate::ring::RingSkips;
 use crate::skips::Skips;
@@ -37,6 +37,20 @@ impl SkipVector {
         ensures { result.0 ≡ self.now.serving }
     {
         self.skips.serving()
+    }
+
+    /// How many TIDs above the served one are kept, skipped or not: no TID behind them was skipped. It takes constant time.
+    pub fn skips_ahead(&self) -> usize
+        ensures { result ≡ length self.now.skips }
+    {
+        self.skips.skips_ahead()
+    }
+
+    /// Whether the TID is above the served one and was skipped. It takes constant time.
+    pub fn is_skipped(&self, tid: Tid) -> bool
+        ensures { result ≡ is_skipped self.now tid.0 }
+    {
+        self.skips.is_skipped(tid)
     }
 
     /// Notes that the TID gives up: one above the served TID is kept, the served one advances, a lower one changes nothing.

@@ -30,6 +30,13 @@ impl Vendor {
         Vendor { next: 1 }
     }
 
+    /// The TID that it gives next. It takes constant time.
+    pub fn next(&self) -> Tid
+        ensures { result.0 ≡ self.now }
+    {
+        Tid(self.next)
+    }
+
     /// Gives the next TID: 1, 2, 3 and so on. Fewer than `MAX_GRANTS` were given before. It takes constant time and no memory.
     pub fn grant(&mut self) -> Tid
         requires { self.old ≤ MAX_GRANTS }

@@ -1,0 +1,34 @@
+// What is shown of a directory beside a line's state: the skips and the sharers.
+ghost use Rattle.std.specs.Prelude.{◌≡◌, ℕ, length};
+ghost use Rattle.tcc_maps.specs.Masks.{has};
+ghost use Rattle.tcc_maps.specs.Serving.{is_skipped};
+ghost use Rattle.dir_lines.specs.Home.{IsAtHome};
+ghost use Rattle.directory.specs.Data.{dir_of};
+
+use crate::directory::Directory;
+use dir_lines::CoreSet;
+use tcc_base::{LineAddr, Tid};
+
+impl Directory {
+    /// How many TIDs above the served one are kept, skipped or not: no TID behind them was skipped. It takes constant time.
+    pub fn skips_ahead(&self) -> usize
+        ensures { (elsewhere : ℕ → ℕ) → result ≡ length (dir_of elsewhere self.now).serving.skips }
+    {
+        self.skips.skips_ahead()
+    }
+
+    /// Whether the TID is above the served one and was skipped. It takes constant time.
+    pub fn is_skipped(&self, tid: Tid) -> bool
+        ensures { (elsewhere : ℕ → ℕ) → result ≡ is_skipped (dir_of elsewhere self.now).serving tid.0 }
+    {
+        self.skips.is_skipped(tid)
+    }
+
+    /// The cores that share a line that is at home here. It takes constant time.
+    pub fn sharers(&self, line: LineAddr) -> CoreSet
+        requires { IsAtHome self.now.lines.place line.0 }
+        ensures { (elsewhere : ℕ → ℕ) (c : ℕ) → has result.0 c ≡ (dir_of elsewhere self.now).lines.sharers line.0 c }
+    {
+        self.lines.get(line).sharers
+    }
+}
