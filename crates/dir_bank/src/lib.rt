@@ -5,5 +5,6 @@ mod answering;
 mod bank;
 mod marking;
 mod reading;
+mod showing;
 
 pub use bank::DirBank;
