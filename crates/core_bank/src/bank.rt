@@ -54,8 +54,8 @@ impl CoreBank {
         })
     }
 
-    /// The core of this number.
-    pub(crate) fn core(&self, core: CoreId) -> &CoreNode
+    /// The core of this number, to be read. It takes constant time.
+    pub fn core(&self, core: CoreId) -> &CoreNode
         requires { core.0 < self.now.code.settings.cores }
         ensures config { result.now.config ≡ self.now.code.settings }
         ensures id { result.now.id ≡ core }

@@ -222,6 +222,13 @@ impl CoreNode {
         self.core.cache.frame_of(line)
     }
 
+    /// All that the core holds, to be read. It takes constant time.
+    pub fn core(&self) -> &Core
+        ensures { result.now ≡ self.now }
+    {
+        &self.core
+    }
+
     /// The checkpoint: registers and pc as the last commit left them.
     pub fn check(&self) -> &Check
         ensures { result.now ≡ self.now.check }

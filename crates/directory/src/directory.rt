@@ -95,6 +95,14 @@ impl Directory {
         self.skips.serving()
     }
 
+    /// How many acknowledgements are owed for the commit that is served. It takes constant time.
+    #[tactic(auto, unfolding(crate::specs::Data::dir_of))]
+    pub fn owed(&self) -> u64
+        ensures { (elsewhere : ℕ → ℕ) → result ≡ (dir_of elsewhere self.now).owed }
+    {
+        self.owed as u64
+    }
+
     /// The number of marked lines. It takes constant time.
     pub fn marked_lines(&self) -> u32
         ensures { (elsewhere : ℕ → ℕ) → result ≡ count_below (has_mark (dir_of elsewhere self.now).lines) (line_count self.now.lines.place.shape) }

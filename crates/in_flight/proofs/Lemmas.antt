@@ -1,4 +1,5 @@
--- What other crates may cite: the list of marked deliveries is that of the rules where the marks are right, and marks after a change.
+-- What other crates may cite: the list of marked deliveries is that of the rules where the marks are right, and marks after a change;
+-- and a node is itself.
 use Rattle.std.proofs.Common.{◌≡◌, ℕ, suc, zero, ◌<◌, ◌==◌, Bool, true, false, cond, ◌&&◌, if◌then◌else◌, List, [], ◌∷◌, ◌++◌, map, length}
 use Rattle.std.proofs.Common.{refl, ap, ◌∙◌}
 use Rattle.std.specs.List.{flat_map, filter}
@@ -12,7 +13,7 @@ use Rattle.tcc_rules.specs.Seen.{numbers}
 use Rattle.tcc_rules.specs.Useful.{nodes, delivers}
 use Rattle.in_flight.specs.Flights.{Flights, net_of, is_ready, with_mark, nodes_of, ready_on, ready_list}
 use Rattle.in_flight.proofs.Numbers.{those-same}
-use Rattle.in_flight.proofs.Placing.{node_eq-own}
+pub use Rattle.in_flight.proofs.Placing.{node_eq-own}
 pub use Rattle.in_flight.proofs.Reading.{marked-flies}
 
 filter-flat : {A B : Type 0} (q : B → Bool) (g : A → List B) (xs : List A) → filter q (flat_map g xs) ≡ flat_map (λ x. filter q (g x)) xs

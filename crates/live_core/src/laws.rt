@@ -11,7 +11,7 @@ pub fn reasons_are_the_rules()
 {}
 
 /// A law: what the rules have led to is in bounds, and isn't stuck.
-pub(crate) fn machines_are_live(system: &System)
+pub fn machines_are_live(system: &System)
     ensures { IsLive system.now }
 {
     system.events();

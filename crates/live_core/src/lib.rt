@@ -7,6 +7,6 @@ mod reason;
 mod waiting;
 
 pub use finding::{find, find_for, has_halted};
-pub use laws::reasons_are_the_rules;
+pub use laws::{machines_are_live, reasons_are_the_rules};
 pub use reason::Reason;
 pub use waiting::waits_because;

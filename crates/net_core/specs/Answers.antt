@@ -1,9 +1,12 @@
 -- What the calls that take events answer.
-use Rattle.std.specs.Prelude.{ℕ, ◌+◌, ◌≡◌, ◌≢◌, List, map, take, Option, Some, None, option_map, slice_get, Result, Ok, Err}
+use Rattle.std.specs.Prelude.{ℕ, ◌+◌, ◌≡◌, ◌≢◌, List, ◌++◌, length, map, take, Option, Some, None, option_map, slice_get, Result, Ok, Err}
 use Rattle.tcc_base.specs.declared.names.Tid.{Tid}
-use Rattle.tcc_maps.specs.Nodes.{Event}
-use Rattle.tcc_msg.specs.Plain.{event_of}
+use Rattle.tcc_maps.specs.Nodes.{Node, Core, Msg, Event, Exec, Evict, Deliver}
+use Rattle.tcc_msg.specs.Plain.{event_of, sends_of}
 use Rattle.tcc_msg.specs.declared.event.Event.{Event as CodeEvent}
+use Rattle.tcc_rules.specs.Links.{sent_all}
+use Rattle.tcc_rules.specs.Sends.{Sends}
+use Rattle.tcc_rules.specs.State.{Link, World}
 use Rattle.tcc_rules.specs.Step.{Stepped, step, next_history, run_from}
 use Rattle.core_node.specs.declared.delivering.CoreError.{CoreError}
 use Rattle.core_node.specs.declared.delivering.CoreError.TheVariants.{Blocked}
@@ -32,10 +35,27 @@ abbrev pub tid_noted : Option Stepped → Option Tid
 tid_noted None = None
 tid_noted (Some o) = option_map (λ c. c.tid) o.noted
 
+-- the node that acts
+abbrev pub acts_in : Event → Node
+acts_in (Exec c) = Core c
+acts_in (Evict c set way) = Core c
+acts_in (Deliver src dst k) = dst
+
+-- on the link from src to dst these messages stand behind as many as were sent before
+pub record StandBehind (before after : World) (src dst : Node) (messages : List Msg) : Type 0 where
+  pub front : Link
+  pub as_many : length front ≡ length (before.net src dst)
+  pub behind : after.net src dst ≡ front ++ sent_all messages
+
+-- what the acting node sent, and nothing else, is new on its links
+abbrev pub IsSent : (before after : World) → (src : Node) → Sends → Type 0
+IsSent before after src sends = (dst : Node) → StandBehind before after src dst (sends dst)
+
 -- the event was taken
 pub record Took (old new : Machine) (e : Event) (told : Step) : Type 0 where
   pub next : next_history (settings_of old) (program_of old) (history_of old) e ≡ Some (history_of new)
   pub tells : tid_told told ≡ tid_noted (step_of old e)
+  pub sent : IsSent (world_of old) (world_of new) (acts_in e) (sends_of new.last)
   pub events : new.events ≡ old.events + 1
   pub code : new.cores.code ≡ old.cores.code
 

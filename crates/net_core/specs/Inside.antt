@@ -12,6 +12,7 @@ machine_of s = record {
   flights = s.flights;
   sender = s.sender;
   unsent = drop s.placed s.out.list.items;
+  last = s.out.list.items;
   commits = s.commits.list;
   room = s.commits.room;
   events = s.events;

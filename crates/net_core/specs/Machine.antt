@@ -24,6 +24,7 @@ pub record Machine : Type 0 where
   pub flights : Flights
   pub sender : NodeId  -- who sent last
   pub unsent : List (NodeId × Msg)  -- what it sent that doesn't stand on its links yet; it is in flight all the same
+  pub last : List (NodeId × Msg)  -- what the last event sent, in order; nothing behind a call that failed
   pub commits : List Commit
   pub room : ℕ  -- for so many more commits
   pub events : ℕ  -- how many events were taken

@@ -8,6 +8,7 @@ mod choosing;
 mod copies;
 mod enabling;
 mod flying;
+mod nodes;
 mod placing;
 mod readers;
 mod reading;
@@ -15,5 +16,6 @@ mod seeing;
 mod system;
 mod taking;
 
+pub use nodes::{node_at, node_count};
 pub use system::System;
 pub use taking::{Step, StepError};

@@ -5,15 +5,16 @@ ghost use Rattle.tcc_rules.specs.Useful.{nodes};
 
 use tcc_base::{Config, CoreId, DirId, NodeId};
 
-/// How many nodes there are.
-pub(crate) fn node_count(config: &Config) -> usize
+/// How many nodes a machine has. It takes constant time.
+pub fn node_count(config: &Config) -> usize
     ensures { result ≡ length (nodes config.now) }
 {
     config.cores() as usize + config.dirs() as usize + 1
 }
 
-/// The node at this place, from 0; `None` exactly where there are no more nodes.
-pub(crate) fn node_at(config: &Config, place: usize) -> Option<NodeId>
+/// The node at this place, from 0, in the order of cores, directories and the vendor; `None` exactly where there are no more nodes. It
+/// takes constant time.
+pub fn node_at(config: &Config, place: usize) -> Option<NodeId>
     ensures { option_map node_of result ≡ slice_get (nodes config.now) place }
 {
     let cores = config.cores() as usize;

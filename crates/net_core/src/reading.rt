@@ -1,5 +1,7 @@
 // What is committed, and what the nodes hold.
-ghost use Rattle.std.specs.Prelude.{◌≡◌, ◌<◌, ◌↔◌, ◌/◌, [], IsTrue, IfOk};
+ghost use Rattle.std.specs.Prelude.{◌≡◌, ◌<◌, ◌↔◌, [], IsTrue, IfOk, length};
+ghost use Rattle.core_node.specs.View.{core_of};
+ghost use Rattle.tcc_maps.specs.Bridge.{node_of};
 ghost use Rattle.tcc_maps.specs.Shape.{lines};
 ghost use Rattle.tcc_program.specs.Cores.{printed};
 ghost use Rattle.tcc_rules.specs.Seen.{IsDone};
@@ -7,10 +9,12 @@ ghost use Rattle.tcc_serial.specs.Commits.{end_after};
 ghost use Rattle.net_core.specs.Machine.{settings_of, world_of};
 
 use crate::system::System;
+use core_node::CoreNode;
 use reg_checkpoint::Check;
 use rv_code::Code;
 use std::alloc::Global;
-use tcc_base::{Commit, Config, CoreEnd, CoreId, List, NoMemory};
+use tcc_base::{Commit, Config, CoreEnd, CoreId, List, NoMemory, NodeId};
+use tcc_msg::Msg;
 
 impl System {
     /// The settings.
@@ -32,6 +36,31 @@ impl System {
         ensures { result.now ≡ self.now.commits }
     {
         self.commits.as_slice()
+    }
+
+    /// The core of this number, to be read. It takes constant time.
+    pub fn core(&self, core: CoreId) -> &CoreNode
+        requires { core.0 < (settings_of self.now).cores }
+        ensures state { core_of result.now ≡ (world_of self.now).cores core.0 }
+        ensures config { result.now.config ≡ settings_of self.now }
+    {
+        self.cores.core(core)
+    }
+
+    /// What the last event sent, in order, with the destinations; nothing behind a call that failed. It takes constant time.
+    pub fn last_sent(&self) -> &[(NodeId, Msg)]
+        ensures { result.now ≡ self.now.last }
+    {
+        self.out.list.as_slice()
+    }
+
+    /// How many messages were sent on a link, where all that was sent stands on its links; 0 where there is no such link. It takes
+    /// constant time.
+    pub fn sent_on(&self, src: NodeId, dst: NodeId) -> u64
+        requires { self.now.unsent ≡ [] }
+        ensures { result ≡ length ((world_of self.now).net (node_of src) (node_of dst)) }
+    {
+        self.flights.sent(src, dst)
     }
 
     /// The registers and pc of a core as its last commit left them.

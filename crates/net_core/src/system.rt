@@ -94,6 +94,7 @@ impl System {
     pub fn settle(&mut self) -> Result<(), NoMemory>
         ensures settled { OnOk result (self.new.unsent ≡ []) }
         ensures history { history_of self.new ≡ history_of self.old }
+        ensures last { self.new.last ≡ self.old.last }
         ensures cores { self.new.cores ≡ self.old.cores }
         ensures room { self.new.room ≡ self.old.room }
         ensures events { self.new.events ≡ self.old.events }

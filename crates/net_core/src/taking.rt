@@ -1,10 +1,10 @@
 // The machine takes events.
 ghost use Rattle.std.specs.Prelude.{◌≡◌, ◌≢◌, ◌+◌, ◌<◌, ◌≤◌, ◌↔◌, [], length, Err, IsTrue, None, Some, IsErrOf, IfOk, IfErr, OnOk, OnErr};
 ghost use Rattle.std.specs.Prelude.{is_ok, if◌then◌else◌};
-ghost use Rattle.tcc_msg.specs.Plain.{event_of};
+ghost use Rattle.tcc_msg.specs.Plain.{event_of, sends_of};
 ghost use Rattle.tcc_rules.specs.Step.{next_history};
-ghost use Rattle.net_core.specs.Answers.{Answers, Kept, Ran, StoppedAt, step_of, tid_noted, tid_told};
-ghost use Rattle.net_core.specs.Machine.{history_of, settings_of, program_of};
+ghost use Rattle.net_core.specs.Answers.{Answers, IsSent, Kept, Ran, StoppedAt, acts_in, step_of, tid_noted, tid_told};
+ghost use Rattle.net_core.specs.Machine.{history_of, program_of, settings_of, world_of};
 
 use crate::system::System;
 use tcc_base::Tid;
@@ -60,6 +60,7 @@ impl System {
         ensures next { OnOk result
             (next_history (settings_of self.old) (program_of self.old) (history_of self.old) (event_of e) ≡ Some (history_of self.new)) }
         ensures told { IfOk result (λ s. tid_told s ≡ tid_noted (step_of self.old (event_of e))) }
+        ensures sent { OnOk result (IsSent (world_of self.old) (world_of self.new) (acts_in (event_of e)) (sends_of self.new.last)) }
         ensures refused { IsErrOf result StepError.Refused ↔ (step_of self.old (event_of e) ≡ None) }
         ensures unchanged { OnErr result (history_of self.new ≡ history_of self.old) }
         ensures counted { self.new.events ≡ (if is_ok result then self.old.events + 1 else self.old.events) }

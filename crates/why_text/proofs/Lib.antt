@@ -1,5 +1,4 @@
 -- The proofs of this crate.
 mod Lists
-mod Places
 mod Flying
 mod Written

@@ -42,12 +42,3 @@ only-those f p none (suc n) =
     last : (b : Bool) → p n ≡ b → flat_map f (cond b (n ∷ []) []) ≡ flat_map f (n ∷ [])
     last true e = refl
     last false e = sym (ap (λ ys. ys ++ []) (none n e))
-
-pub numbers-at : (n i : ℕ) → i < n → slice_get (numbers n) i ≡ Some i
-unfolding those
-numbers-at zero i h = absurd (omega arith)
-numbers-at (suc n) i h = elim (cases_lt i n) [
-  | inl l ↦ get-left (numbers n) (n ∷ []) i (rw (numbers-length n) l) ∙ numbers-at n i l
-  | inr m ↦ (let last : i ≡ n = omega arith in
-      get-right (numbers n) (n ∷ []) 0 i (omega (arith, last, numbers-length n)) ∙ ap Some (sym last))
-]

@@ -3,7 +3,6 @@
 
 mod lines;
 mod links;
-mod nodes;
 mod texts;
 
 pub use texts::why;

@@ -7,9 +7,8 @@ ghost use Rattle.why_text.specs.Lines.{line_if_waiting};
 ghost use Rattle.why_text.specs.Text.{link_text, text_from, waits_text};
 
 use crate::lines::push_wait;
-use crate::nodes::{node_at, node_count};
 use live_core::waits_because;
-use net_core::System;
+use net_core::{System, node_at, node_count};
 use std::alloc::AllocError;
 use tcc_base::NodeId;
 use tcc_msg::Name;

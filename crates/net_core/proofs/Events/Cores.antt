@@ -38,7 +38,7 @@ use Rattle.core_bank.specs.Acted.{Acted, ActedAs}
 use Rattle.core_bank.specs.Bank.{CoresData, cores_of}
 use Rattle.dir_bank.specs.Bank.{dirs_of}
 use Rattle.in_flight.specs.Flights.{Flights, net_of}
-use Rattle.net_core.specs.Answers.{Answers, Took, refusal_of, step_of, tid_told}
+use Rattle.net_core.specs.Answers.{Answers, Took, acts_in, refusal_of, step_of, tid_told}
 use Rattle.net_core.specs.Delivery.{AreMarked}
 use Rattle.net_core.specs.Inside.{machine_of}
 use Rattle.net_core.specs.declared.system.System.TheInside.{Inside}
@@ -48,7 +48,7 @@ use Rattle.net_core.specs.declared.taking.Step.{Step}
 use Rattle.net_core.specs.declared.taking.Step.TheVariants.{Moved}
 use Rattle.net_core.specs.declared.taking.Step.TheVariants as step_told
 use Rattle.net_core.proofs.Reaching.{in-bounds, settled-net, whole-bounded}
-use Rattle.net_core.proofs.Events.Kept.{StaysBut, new-tid, same-dirs, stays-kept, took-by, took-whole, world-is}
+use Rattle.net_core.proofs.Events.Kept.{StaysBut, as-many, as-many_taken, new-tid, same-dirs, stays-kept, took-by, took-whole, world-is}
 
 -- ---- how a system stands after a call of its cores
 
@@ -161,6 +161,7 @@ pub record ActsFrom (m n : Machine) (c : ℕ) (before out : Outgoing) : Type 0 w
   pub next : n.next ≡ m.next
   pub sender : node_of n.sender ≡ Core c
   pub unsent : n.unsent ≡ out.list.items
+  pub last : n.last ≡ n.unsent
   pub settled : m.unsent ≡ []
   pub clear : before.list.items ≡ []
   pub events : n.events ≡ m.events + 1
@@ -200,18 +201,28 @@ NotesAs m n t None = ⊥
 NotesAs m n t (Some o) = (n.commits ≡ and_noted o.commit m.commits) × (tid_told t ≡ option_map (λ c. c.tid) o.commit)
 
 pub took-move : (m n : Machine) (e : Event) (c : ℕ) (before out : Outgoing) (t : Step) (o : Option Out) → ActsFrom m n c before out
-    → Acted o c m.cores n.cores before out → n.flights ≡ m.flights → step_of m e ≡ if_core_moves (world_of m) c o → NotesAs m n t o →
-    Took m n e t
-took-move m n e c before out t None a f flights is notes = absurd f
-took-move m n e c before out t (Some o) a f flights is notes =
+    → Acted o c m.cores n.cores before out → n.flights ≡ m.flights → step_of m e ≡ if_core_moves (world_of m) c o → NotesAs m n t o
+    → Core c ≡ acts_in e → Took m n e t
+took-move m n e c before out t None a f flights is notes acting = absurd f
+took-move m n e c before out t (Some o) a f flights is notes acting =
     took-by m n e _ t is (moves-world m n c before out o a f flights) notes.0 notes.1 a.events a.code
+    (record {
+      sender = a.sender ∙ acting;
+      last = a.last;
+      as_many = λ dst. as-many m n (acts_in e) dst a.settled (ap net_of flights);
+    })
 
 pub took-take : (m n : Machine) (e : Event) (src : Node) (c k : ℕ) (before out : Outgoing) (t : Step) (o : Option Out)
     → ActsFrom m n c before out → Acted o c m.cores n.cores before out → net_of n.flights ≡ taking (net_of m.flights) src (Core c) k
-    → step_of m e ≡ if_core_takes (world_of m) src c k o → NotesAs m n t o → Took m n e t
-took-take m n e src c k before out t None a f flights is notes = absurd f
-took-take m n e src c k before out t (Some o) a f flights is notes =
+    → step_of m e ≡ if_core_takes (world_of m) src c k o → NotesAs m n t o → Core c ≡ acts_in e → Took m n e t
+took-take m n e src c k before out t None a f flights is notes acting = absurd f
+took-take m n e src c k before out t (Some o) a f flights is notes acting =
     took-by m n e _ t is (takes-world m n src c k before out o a f flights) notes.0 notes.1 a.events a.code
+    (record {
+      sender = a.sender ∙ acting;
+      last = a.last;
+      as_many = λ dst. as-many_taken m n src (Core c) k (acts_in e) dst a.settled flights;
+    })
 
 -- marks stay right where neither directories nor what stands on links has changed
 pub marks-stay : (m n : Machine) → IsWhole m → n.cores.code ≡ m.cores.code → n.dirs ≡ m.dirs → n.flights ≡ m.flights
@@ -277,7 +288,7 @@ told-noted (Some o) c t w core = (record { world = core_moves w core o; noted = 
 
 pub commit-new : (m : Machine) (core : ℕ) (o : Option Out) (c : Commit) → IsWhole m → TellsOfEvent (done.Committed c) o
     → step_of m (Exec core) ≡ if_core_moves (world_of m) core o → HasNone c.tid.0 m.commits
-commit-new m core o c w t is = let (s, p) = told-noted o c t (world_of m) core in new-tid m (Exec core) s c w (is ∙ p.0) p.1
+commit-new m core o c w t is = let (s, p) = told-noted o c t (world_of m) core in new-tid m (Exec core) s c w.reached (is ∙ p.0) p.1
 
 pub noted-as : (m n : Machine) (o : Option Out) (c : Commit) → TellsOfEvent (done.Committed c) o → n.commits ≡ insert_commit c m.commits
     → NotesAs m n (step_told.Committed c.tid) o

@@ -1,5 +1,5 @@
 -- The machine after a directory took a message, or asked for what it needs to take it.
-use Rattle.std.proofs.Common.{◌≡◌, ◌≢◌, ℕ, ◌+◌, ◌<◌, Bool, true, false, not, ◌&&◌, [], Some, None, refl, ap, sym, ◌∙◌, subst, arith}
+use Rattle.std.proofs.Common.{◌≡◌, ◌≢◌, ℕ, ◌+◌, ◌<◌, Bool, true, false, not, ◌&&◌, [], length, Some, None, refl, ap, sym, ◌∙◌, subst, arith}
 use Rattle.std.specs.Prelude.{◌==◌, if◌then◌else◌}
 use Rattle.std.proofs.lemmas.Bool.{lt-ltb}
 use Rattle.std.proofs.lemmas.Bool.Decides.{nat_tests}
@@ -33,7 +33,7 @@ use Rattle.net_core.specs.Taking.{SameTaking, is_renewed}
 use Rattle.net_core.specs.Whole.{IsWhole}
 use Rattle.net_core.specs.declared.taking.Step.TheVariants.{Moved}
 use Rattle.net_core.proofs.Reaching.{in-bounds, may-go, settled-net, small-tids}
-use Rattle.net_core.proofs.Events.Kept.{took-by, took-whole, world-is}
+use Rattle.net_core.proofs.Events.Kept.{HasSent, as-many, as-many_taken, took-by, took-whole, world-is}
 use Rattle.net_core.proofs.Events.Marks.{still-flies}
 use Rattle.net_core.proofs.Events.TakesAlike.{taken-alike}
 
@@ -144,6 +144,7 @@ pub record ActsAt (m n : Machine) (c d k : ℕ) (x : Msg) (h : Handled) : Type 0
   pub settings : n.dirs.settings ≡ m.dirs.settings
   pub settled : m.unsent ≡ []
   pub sender : node_of n.sender ≡ Dir d
+  pub last : n.last ≡ n.unsent
   pub acted : Acted d m.dirs n.dirs [] n.unsent h (λ s. dir_deliver m.dirs.settings s c x)
   pub net : net_of n.flights ≡ net_after h (net_of m.flights) c d k
   pub flight_cores : n.flights.cores ≡ m.flights.cores
@@ -202,6 +203,21 @@ drops-world m n c d k x a =
     takes-world m n c d k x Dropped (rule_dirs m d) (λ dst. []) a refl (λ i. still.0 (first_ram (start_of m)) i d)
     (ap sends_of still.1 ∙ nothing-is)
 
+-- what it sent stands behind as many messages as were sent before
+has-sent : (m n : Machine) (c d k : ℕ) (x : Msg) (h : Handled) → ActsAt m n c d k x h → HasSent m n (Dir d)
+has-sent m n c d k x h a = record {
+  sender = a.sender;
+  last = a.last;
+  as_many = λ dst. by h a.net dst;
+}
+  where
+    by : (h : Handled) → net_of n.flights ≡ net_after h (net_of m.flights) c d k → (dst : Node)
+        → length (net_of n.flights (Dir d) dst) ≡ length ((world_of m).net (Dir d) dst)
+    by Done e dst = as-many_taken m n (Core c) (Dir d) k (Dir d) dst a.settled e
+    by Dropped e dst = as-many_taken m n (Core c) (Dir d) k (Dir d) dst a.settled e
+    by Asked e dst = as-many m n (Dir d) dst a.settled e
+    by Waits e dst = as-many m n (Dir d) dst a.settled e
+
 -- the event was taken
 pub acts-took : (m n : Machine) (c d k : ℕ) (x : Msg) (h : Handled) → IsWhole m → in_flight (net_of m.flights) (Core c) (Dir d) k ≡ Some x
     → says_taken m c d x ≡ true → ActsAt m n c d k x h → Took m n (Deliver (Core c) (Dir d) k) Moved
@@ -209,17 +225,17 @@ acts-took m n c d k x Done w e t a =
     took-by m n (Deliver (Core c) (Dir d) k) _ Moved
     (dir-step m c d k x w a.settled e ∙ ap (answered (world_of m) c d k) (its-answer m n c d k x Done w a))
     (takes-world m n c d k x Done (now_at m n d) (sends_of n.unsent) a refl refl refl)
-    a.commits refl a.events (ap (λ y. y.code) a.cores)
+    a.commits refl a.events (ap (λ y. y.code) a.cores) (has-sent m n c d k x Done a)
 acts-took m n c d k x Asked w e t a =
     took-by m n (Deliver (Core c) (Dir d) k) _ Moved
     (dir-step m c d k x w a.settled e ∙ ap (answered (world_of m) c d k) (its-answer m n c d k x Asked w a))
     (asks-world m n c d k x a)
-    a.commits refl a.events (ap (λ y. y.code) a.cores)
+    a.commits refl a.events (ap (λ y. y.code) a.cores) (has-sent m n c d k x Asked a)
 acts-took m n c d k x Dropped w e t a =
     took-by m n (Deliver (Core c) (Dir d) k) _ Moved
     (dir-step m c d k x w a.settled e ∙ ap (answered (world_of m) c d k) (its-answer m n c d k x Dropped w a))
     (drops-world m n c d k x a)
-    a.commits refl a.events (ap (λ y. y.code) a.cores)
+    a.commits refl a.events (ap (λ y. y.code) a.cores) (has-sent m n c d k x Dropped a)
 acts-took m n c d k x Waits w e t a =
     let q : is_taken (answer_to m c d x) ≡ false = ap is_taken (its-answer m n c d k x Waits w a) in
     let r : is_taken (answer_to m c d x) ≡ true = sym (is-taken m c d k x w a.settled e) ∙ t in

@@ -1,7 +1,7 @@
 -- The machine after an event of one node.
-use Rattle.std.proofs.Common.{◌≡◌, ℕ, ◌+◌, ◌<◌, ◌≤◌, Bool, true, false, List, [], ◌∷◌, ◌++◌, Some, refl}
-use Rattle.std.proofs.Common.{ap, sym, ◌∙◌, subst, arith}
-use Rattle.std.specs.Prelude.{nat_lt, ◌==◌, if◌then◌else◌}
+use Rattle.std.proofs.Common.{◌≡◌, ℕ, ◌+◌, ◌<◌, ◌≤◌, Bool, true, false, List, [], ◌∷◌, ◌++◌, length, Some, None, refl}
+use Rattle.std.proofs.Common.{ap, sym, ◌∙◌, subst, arith, length-set}
+use Rattle.std.specs.Prelude.{nat_lt, ◌==◌, ◌&&◌, slice_set, if◌then◌else◌}
 use Rattle.std.proofs.lemmas.Bool.Decides.{nat_tests}
 use Rattle.image_load.specs.Contents.{started}
 use Rattle.rv_code.specs.Machine.{first_ram}
@@ -10,20 +10,23 @@ use Rattle.rv_serial.specs.Suiting.{world_at_start}
 use Rattle.rv_serial.proofs.Lemmas.{committed_tids_were_granted_once}
 use Rattle.tcc_base.specs.declared.access.Commit.{Commit}
 use Rattle.tcc_maps.specs.Bridge.{node_of}
-use Rattle.tcc_maps.specs.Nodes.{Event}
+use Rattle.tcc_maps.specs.Nodes.{Node, Event, node_eq}
 use Rattle.tcc_maps.specs.Words.{num}
 use Rattle.tcc_msg.specs.Plain.{sends_of}
-use Rattle.tcc_rules.specs.Links.{sending}
-use Rattle.tcc_rules.specs.State.{World}
+use Rattle.tcc_rules.specs.Links.{sending, sent_all, taking}
+use Rattle.tcc_rules.specs.Sends.{Sends}
+use Rattle.tcc_rules.specs.State.{Link, World}
 use Rattle.tcc_rules.specs.Step.{History, Stepped, and_noted, insert_commit, next_history, recorded, run}
 use Rattle.tcc_serial.specs.Owners.{times}
 use Rattle.commit_list.specs.Rising.{HasNone}
 use Rattle.core_bank.specs.Bank.{cores_of}
 use Rattle.dir_bank.specs.Bank.{dirs_of}
 use Rattle.in_flight.specs.Flights.{net_of}
-use Rattle.net_core.specs.Answers.{Kept, Took, step_of, tid_noted, tid_told}
+use Rattle.in_flight.proofs.Lemmas.{node_eq-own}
+use Rattle.net_core.specs.Answers.{IsSent, Kept, Took, acts_in, step_of, tid_noted, tid_told}
 use Rattle.net_core.specs.Delivery.{AreMarked}
 use Rattle.net_core.specs.Machine.{Machine, history_of, program_of, settings_of, start_of, world_of}
+use Rattle.net_core.specs.Reached.{Reached}
 use Rattle.net_core.specs.Whole.{IsWhole}
 use Rattle.net_core.specs.declared.taking.Step.{Step}
 use Rattle.net_core.proofs.Reaching.{reached-on, reached-same, run-on, settled-net}
@@ -46,13 +49,51 @@ unfolding next_history history_of
 next-is m n e o s w cs = ap (recorded (record { world = world_of m; commits = m.commits })) s
     ∙ (λ i. Some (record { world = sym w i; commits = sym cs i }))
 
+-- a node has sent, and none of it stands on its links yet: those have as many messages as before
+pub record HasSent (m n : Machine) (src : Node) : Type 0 where
+  pub sender : node_of n.sender ≡ src
+  pub last : n.last ≡ n.unsent
+  pub as_many : (dst : Node) → length (net_of n.flights src dst) ≡ length ((world_of m).net src dst)
+
+behind-own : (net : Node → Node → Link) (src dst : Node) (sends : Sends) → sending net src sends src dst ≡ net src dst ++ sent_all (sends dst)
+behind-own net src dst sends = rw (node_eq-own src) refl
+
+sent-by : (m n : Machine) (src : Node) → HasSent m n src → IsSent (world_of m) (world_of n) src (sends_of n.last)
+unfolding world_of
+sent-by m n src h = λ dst. record {
+  front = net_of n.flights src dst;
+  as_many = h.as_many dst;
+  behind = (λ i. sending (net_of n.flights) (h.sender i) (sends_of (sym h.last i)) src dst)
+      ∙ behind-own (net_of n.flights) src dst (sends_of n.last);
+}
+
+-- as many messages where the links are as before, and where one message was taken out
+pub as-many : (m n : Machine) (src dst : Node) → m.unsent ≡ [] → net_of n.flights ≡ net_of m.flights
+    → length (net_of n.flights src dst) ≡ length ((world_of m).net src dst)
+as-many m n src dst settled e = ap (λ net. length (net src dst)) (e ∙ sym (settled-net m settled))
+
+length-taking : (net : Node → Node → Link) (s d : Node) (k : ℕ) (src dst : Node) → length (taking net s d k src dst) ≡ length (net src dst)
+length-taking net s d k src dst = by (node_eq src s && node_eq dst d)
+  where
+    by : (b : Bool) → length (if b then slice_set (net src dst) k None else net src dst) ≡ length (net src dst)
+    by true = length-set (net src dst) k None
+    by false = refl
+
+pub as-many_taken : (m n : Machine) (s d : Node) (k : ℕ) (src dst : Node) → m.unsent ≡ []
+    → net_of n.flights ≡ taking (net_of m.flights) s d k
+    → length (net_of n.flights src dst) ≡ length ((world_of m).net src dst)
+as-many_taken m n s d k src dst settled e =
+    ap (λ net. length (net src dst)) e ∙ length-taking (net_of m.flights) s d k src dst
+    ∙ ap (λ net. length (net src dst)) (sym (settled-net m settled))
+
 -- the event was taken
 pub took-by : (m n : Machine) (e : Event) (o : Stepped) (t : Step) → step_of m e ≡ Some o → world_of n ≡ o.world
     → n.commits ≡ and_noted o.noted m.commits → tid_told t ≡ tid_noted (Some o) → n.events ≡ m.events + 1 → n.cores.code ≡ m.cores.code
-    → Took m n e t
-took-by m n e o t s w cs told events code = record {
+    → HasSent m n (acts_in e) → Took m n e t
+took-by m n e o t s w cs told events code h = record {
   next = next-is m n e o s w cs;
   tells = told ∙ ap tid_noted (sym s);
+  sent = sent-by m n (acts_in e) h;
   events = events;
   code = code;
 }
@@ -137,17 +178,17 @@ none-among t (c ∷ cs) e = (λ q. other q, none-among t cs (omega (arith, e)))
         let one : num (c.tid.0 == t) ≡ 1 = rw same refl in absurd (omega (arith, e, one))
 
 -- a commit that an event notes has a TID that no commit before it has
-pub new-tid : (m : Machine) (e : Event) (o : Stepped) (c : Commit) → IsWhole m → step_of m e ≡ Some o → o.noted ≡ Some c
+pub new-tid : (m : Machine) (e : Event) (o : Stepped) (c : Commit) → Reached m → step_of m e ≡ Some o → o.noted ≡ Some c
     → HasNone c.tid.0 m.commits
 unfolding next_history history_of started
-new-tid m e o c w s noted =
+new-tid m e o c r s noted =
     let h : History = record { world = o.world; commits = insert_commit c m.commits } in
     let there : next_history (settings_of m) (program_of m) (history_of m) e ≡ Some h =
     ap (recorded (record { world = world_of m; commits = m.commits })) s
     ∙ ap (λ n. Some (record { world = o.world; commits = and_noted n m.commits })) noted in
-    let es : List Event = w.reached.taken ++ e ∷ [] in
+    let es : List Event = r.taken ++ e ∷ [] in
     let all : run (settings_of m) (program_of m) (world_at_start (start_of m)) es ≡ Some h =
-    run-on (settings_of m) (program_of m) (world_at_start (start_of m)) w.reached.taken e (history_of m) w.reached.reaches ∙ there in
+    run-on (settings_of m) (program_of m) (world_at_start (start_of m)) r.taken e (history_of m) r.reaches ∙ there in
     let t : TidsOf (grants_of (start_of m) es) h.commits = rw all at (committed_tids_were_granted_once (start_of m) es) in
     let once : times c.tid.0 (insert_commit c m.commits) ≤ 1 = t.once c.tid.0 in
     let sum : times c.tid.0 (insert_commit c m.commits) ≡ num (c.tid.0 == c.tid.0) + times c.tid.0 m.commits =

@@ -1,16 +1,16 @@
 -- Calls that leave the rules' state as it is, and events taken one after another.
 use Rattle.std.proofs.Common.{◌≡◌, ◌≢◌, ℕ, zero, suc, ◌+◌, ◌↔◌, true, false, List, [], ◌∷◌, ◌++◌, map, take}
-use Rattle.std.proofs.Common.{Option, Some, None, Ok, Err, IsErrOf, refl, ap, sym, ◌∙◌, arith}
+use Rattle.std.proofs.Common.{Option, Some, None, Ok, Err, IsErrOf, refl, ap, sym, ◌∙◌, subst, arith}
 use Rattle.std.specs.Prelude.{slice_get, is_some}
 use Rattle.std.proofs.lemmas.List.{map-append}
 use Rattle.image_load.specs.Contents.{started}
 use Rattle.rv_code.specs.Machine.{program}
 use Rattle.tcc_maps.specs.Nodes.{Event}
-use Rattle.tcc_msg.specs.Plain.{event_of}
+use Rattle.tcc_msg.specs.Plain.{event_of, sends_of}
 use Rattle.tcc_msg.specs.declared.event.Event.{Event as CodeEvent}
 use Rattle.tcc_rules.specs.Step.{Stepped, and_then, next_history, recorded, run_from, step}
-use Rattle.net_core.specs.Answers.{Answers, Kept, Ran, StoppedAt, Took, step_of, tid_noted}
-use Rattle.net_core.specs.Machine.{Machine, history_of, program_of, settings_of}
+use Rattle.net_core.specs.Answers.{Answers, IsSent, Kept, Ran, StoppedAt, Took, acts_in, step_of, tid_noted}
+use Rattle.net_core.specs.Machine.{Machine, history_of, program_of, settings_of, world_of}
 use Rattle.net_core.specs.declared.taking.Step.{Step}
 use Rattle.net_core.specs.declared.taking.StepError.{StepError}
 use Rattle.net_core.specs.declared.taking.StepError.TheVariants.{Refused, Memory}
@@ -21,6 +21,10 @@ use Rattle.net_core.proofs.Reaching.{after-all}
 pub kept-step : (m n : Machine) (e : Event) → Kept m n → step_of n e ≡ step_of m e
 unfolding history_of
 kept-step m n e k = λ i. step (k.code i).settings (program (started (k.code i))) ((ap (λ h. h.world) k.history) i) e
+
+pub kept-world : (m n : Machine) → Kept m n → world_of n ≡ world_of m
+unfolding history_of
+kept-world m n k = ap (λ h. h.world) k.history
 
 pub kept-on : (m n o : Machine) → Kept m n → Kept n o → Kept m o
 kept-on m n o k j = record { history = j.history ∙ k.history; events = j.events ∙ k.events; code = j.code ∙ k.code }
@@ -34,6 +38,7 @@ pub took-after : (m n o : Machine) (e : Event) (t : Step) → Kept m n → Took 
 took-after m n o e t k w = record {
   next = same-next m n e k ∙ w.next;
   tells = w.tells ∙ ap tid_noted (kept-step m n e k);
+  sent = subst (λ v. IsSent v (world_of o) (acts_in e) (sends_of o.last)) (kept-world m n k) w.sent;
   events = w.events ∙ ap (λ x. x + 1) k.events;
   code = w.code ∙ k.code;
 }
@@ -42,10 +47,12 @@ pub answers-after : (m n o : Machine) (e : Event) (error : StepError) → Kept m
 answers-after m n o e Refused k a = (kept-on m n o k a.0, sym (kept-step m n e k) ∙ a.1)
 answers-after m n o e Memory k a = (kept-on m n o k a.0, λ q. a.1 (kept-step m n e k ∙ q))
 
-pub took-before : (m n o : Machine) (e : Event) (t : Step) → Took m n e t → Kept n o → Took m o e t
-took-before m n o e t w k = record {
+pub took-before : (m n o : Machine) (e : Event) (t : Step) → Took m n e t → Kept n o → o.last ≡ n.last → Took m o e t
+took-before m n o e t w k last = record {
   next = w.next ∙ ap (λ h. Some h) (sym k.history);
   tells = w.tells;
+  sent = subst (λ xs. IsSent (world_of m) (world_of o) (acts_in e) (sends_of xs)) (sym last)
+      (subst (λ v. IsSent (world_of m) v (acts_in e) (sends_of n.last)) (sym (kept-world n o k)) w.sent);
   events = k.events ∙ w.events;
   code = k.code ∙ w.code;
 }

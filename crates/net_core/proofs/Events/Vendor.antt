@@ -28,7 +28,7 @@ use Rattle.net_core.specs.Machine.{Machine, history_of, settings_of, start_of, w
 use Rattle.net_core.specs.Whole.{IsWhole}
 use Rattle.net_core.specs.declared.taking.Step.TheVariants.{Moved}
 use Rattle.net_core.proofs.Reaching.{in-bounds, settled-net, whole-bounded}
-use Rattle.net_core.proofs.Events.Kept.{same-dirs, took-by, took-whole, world-is}
+use Rattle.net_core.proofs.Events.Kept.{as-many_taken, same-dirs, took-by, took-whole, world-is}
 use Rattle.net_core.proofs.Events.Marks.{marks-taken}
 
 -- ---- what the rules say
@@ -97,6 +97,7 @@ pub record GivesTo (m n : Machine) (c k : ℕ) : Type 0 where
   pub dirs : n.dirs ≡ m.dirs
   pub next : n.next ≡ m.next + 1
   pub sender : node_of n.sender ≡ Vendor
+  pub last : n.last ≡ n.unsent
   pub sends : sends_of n.unsent ≡ to (Core c) (TidGrant m.next ∷ [])
   pub settled : m.unsent ≡ []
   pub net : net_of n.flights ≡ taking (net_of m.flights) (Core c) Vendor k
@@ -130,6 +131,11 @@ gives-took m n c k x w g e =
     took-by m n (Deliver (Core c) Vendor k) _ Moved
     (grant-step m c k x w (ap (λ net. in_flight net (Core c) Vendor k) (settled-net m g.settled) ∙ e))
     (gives-world m n c k g) g.commits refl g.events (ap (λ x. x.code) g.cores)
+    (record {
+      sender = g.sender;
+      last = g.last;
+      as_many = λ dst. as-many_taken m n (Core c) Vendor k Vendor dst g.settled g.net;
+    })
 
 pub gives-whole : (m n : Machine) (c k : ℕ) (x : Msg) → IsWhole m → m.events < 4194304 → GivesTo m n c k
     → in_flight (net_of m.flights) (Core c) Vendor k ≡ Some x → IsWhole n

@@ -1,7 +1,7 @@
 -- A core, a directory, the vendor, or none.
 use Rattle.std.proofs.Common.{◌-◌, sym, arith}
-use Rattle.why_text.proofs.Places.{core-at, dir-at, no-more, vendor-at}
-use Rattle.why_text.proofs.nodes.node_at.Goals as goal
+use Rattle.net_core.proofs.Places.{core-at, dir-at, no-more, vendor-at}
+use Rattle.net_core.proofs.nodes.node_at.Goals as goal
 
 pub returns-then-place-cores : goal.returns-then-place-cores
 returns-then-place-cores c =

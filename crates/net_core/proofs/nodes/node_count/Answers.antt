@@ -1,6 +1,6 @@
 use Rattle.std.proofs.Common.{sym}
-use Rattle.why_text.proofs.Places.{nodes-length}
-use Rattle.why_text.proofs.nodes.node_count.Goals as goal
+use Rattle.net_core.proofs.Places.{nodes-length}
+use Rattle.net_core.proofs.nodes.node_count.Goals as goal
 
 pub returns : goal.returns
 returns c = rw (c.cores.ensures.value, c.dirs.ensures.value) (sym (nodes-length c.args.config.now))

@@ -105,6 +105,7 @@ acts c = record {
   next = refl;
   sender = refl;
   unsent = refl;
+  last = refl;
   settled = ap (λ m. m.unsent) c.self.view_is ∙ c.requires.settled;
   clear = c.clear.ensures;
   events = refl;
@@ -127,7 +128,7 @@ took c =
     (stepped m c.args.self.now c.args.name.src c.args.core c.args.name.seq c.args.msg c.self.invariant c.self.view_is
     c.requires.settled c.requires.flies)
     (unnoted-as m n (rule m c.args.name.src c.args.core c.args.msg) c.args.core.0 c.clear.new.self c.deliver.new.out c.in-Ok.ensures.does
-    (deliver-unnoted (settings_of m) (cores_of m.cores c.args.core.0) (node_of c.args.name.src) (msg_of c.args.msg)) refl)
+    (deliver-unnoted (settings_of m) (cores_of m.cores c.args.core.0) (node_of c.args.name.src) (msg_of c.args.msg)) refl) refl
 
 pub invariant_of-self-in-Ok : goal.invariant_of-self-in-Ok
 invariant_of-self-in-Ok c =

@@ -152,6 +152,7 @@ acts c =
       settings = c.in-Ok.ensures.settings;
       settled = ap (λ x. x.unsent) c.self.view_is ∙ c.requires.settled;
       sender = refl;
+      last = refl;
       acted = subst (λ xs. Acted c.args.dir.0 m.dirs c.deliver.new.self xs c.deliver.new.out.list.items c.in-Ok.handled
           (λ s. dir_deliver m.dirs.settings s c.args.core.0 (msg_of c.args.msg))) c.clear.ensures c.in-Ok.ensures.does;
       net = c.look_again.ensures.net ∙ c.take_handled.ensures.net

@@ -53,6 +53,7 @@ acts c = record {
   next = refl;
   sender = refl;
   unsent = refl;
+  last = refl;
   settled = ap (λ m. m.unsent) c.self.view_is ∙ c.requires.settled;
   clear = c.clear.ensures;
   events = refl;
@@ -68,7 +69,7 @@ took c =
     (evict-step_in m c.config.result.now c.args.core.0 c.args.set c.args.way (c.config.ensures ∙ ap settings_of (sym c.self.view_is))
     (c.if-not-has_way.ensures.0 refl))
     (unnoted-as m (after_core c.self.inside c.evict.new.self c.evict.new.out c.self.inside.flights c.args.core)
-    _ c.args.core.0 c.clear.new.self c.evict.new.out c.in-Ok.ensures.does (evict-unnoted _ c.args.set c.args.way _) refl)
+    _ c.args.core.0 c.clear.new.self c.evict.new.out c.in-Ok.ensures.does (evict-unnoted _ c.args.set c.args.way _) refl) refl
 
 pub invariant_of-self-in-Ok : goal.invariant_of-self-in-Ok
 invariant_of-self-in-Ok c =

@@ -91,6 +91,7 @@ committed c = record {
   next = refl;
   sender = refl;
   unsent = refl;
+  last = refl;
   settled = ap (λ m. m.unsent) c.self.view_is ∙ c.requires.settled;
   clear = c.clear.ensures;
   events = refl;
@@ -107,7 +108,7 @@ took-commit c =
     (exec-step_in m c.config.result.now c.args.core.0 (c.config.ensures ∙ ap settings_of (sym c.self.view_is))
     (subst (λ n. c.args.core.0 < n) c.cores.ensures.value c.if-core-cores.false))
     (noted-as m n (rule m c.args.core.0) c.in-Committed.commit
-    (subst (λ e. TellsOfEvent e (rule m c.args.core.0)) c.in-Committed.is c.in-Ok.ensures.told) c.insert.ensures)
+    (subst (λ e. TellsOfEvent e (rule m c.args.core.0)) c.in-Committed.is c.in-Ok.ensures.told) c.insert.ensures) refl
 
 pub invariant_of-self-in-Committed : goal.invariant_of-self-in-Committed
 invariant_of-self-in-Committed c =
@@ -131,6 +132,7 @@ acts c = record {
   next = refl;
   sender = refl;
   unsent = refl;
+  last = refl;
   settled = ap (λ m. m.unsent) c.self.view_is ∙ c.requires.settled;
   clear = c.clear.ensures;
   events = refl;
@@ -146,7 +148,7 @@ took c =
     (exec-step_in m c.config.result.now c.args.core.0 (c.config.ensures ∙ ap settings_of (sym c.self.view_is))
     (subst (λ n. c.args.core.0 < n) c.cores.ensures.value c.if-core-cores.false))
     (unnoted-as m n (rule m c.args.core.0) c.args.core.0 c.clear.new.self c.exec.new.out c.in-Ok.ensures.does
-    (told-unnoted (rule m c.args.core.0) c.in-Ok.executed c.in-Ok.ensures.told c.in-Stepped.is) refl)
+    (told-unnoted (rule m c.args.core.0) c.in-Ok.executed c.in-Ok.ensures.told c.in-Stepped.is) refl) refl
 
 pub invariant_of-self-in-Stepped : goal.invariant_of-self-in-Stepped
 invariant_of-self-in-Stepped c =

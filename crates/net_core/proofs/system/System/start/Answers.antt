@@ -16,6 +16,7 @@ the_machine c = record {
   flights = c.in_ok-new.field-0;
   sender = Vendor;
   unsent = c.new-4.result.list.items;
+  last = c.new-4.result.list.items;
   commits = c.new-5.result.list;
   room = c.new-5.result.room;
   events = 0;

@@ -1,15 +1,26 @@
 -- The nodes of a machine by place.
-use Rattle.std.proofs.Common.{◌≡◌, ℕ, ◌+◌, ◌<◌, List, [], ◌∷◌, ◌++◌, map, length, length-append, Some, None, ap, sym, ◌∙◌, arith}
+use Rattle.std.proofs.Common.{◌≡◌, ℕ, zero, suc, ◌+◌, ◌<◌, inl, inr, List, [], ◌∷◌, ◌++◌, map, length, length-append, Some, None}
+use Rattle.std.proofs.Common.{ap, sym, ◌∙◌, arith}
 use Rattle.std.specs.Prelude.{slice_get}
+use Rattle.std.proofs.lemmas.Bool.{cases_lt}
 use Rattle.std.specs.Option.{option_map}
 use Rattle.std.proofs.lemmas.List.{length-map}
 use Rattle.std.proofs.lemmas.Option.{slice_get-map, slice_get_past}
 use Rattle.tcc_maps.specs.Nodes.{Node, Core, Dir, Vendor}
 use Rattle.tcc_maps.specs.Shape.{Shape}
+use Rattle.tcc_maps.specs.Words.{those}
 use Rattle.tcc_rules.specs.Seen.{numbers}
 use Rattle.tcc_rules.specs.Useful.{nodes}
 use Rattle.core_bank.proofs.Lemmas.{get-left, get-right, numbers-length}
-use Rattle.why_text.proofs.Lists.{numbers-at}
+
+numbers-at : (n i : ℕ) → i < n → slice_get (numbers n) i ≡ Some i
+unfolding those
+numbers-at zero i h = absurd (omega arith)
+numbers-at (suc n) i h = elim (cases_lt i n) [
+  | inl l ↦ get-left (numbers n) (n ∷ []) i (rw (numbers-length n) l) ∙ numbers-at n i l
+  | inr m ↦ (let last : i ≡ n = omega arith in
+      get-right (numbers n) (n ∷ []) 0 i (omega (arith, last, numbers-length n)) ∙ ap Some (sym last))
+]
 
 cores-length : (sh : Shape) → length (map Core (numbers sh.cores)) ≡ sh.cores
 cores-length sh = length-map (numbers sh.cores) Core ∙ numbers-length sh.cores
