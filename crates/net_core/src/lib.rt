@@ -13,6 +13,7 @@ mod placing;
 mod readers;
 mod reading;
 mod seeing;
+mod showing;
 mod system;
 mod taking;
 
