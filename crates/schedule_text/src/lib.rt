@@ -11,4 +11,4 @@ mod writing;
 pub use fault::TextFault;
 pub use laws::{texts_tell_schedules_apart, the_first_fault_is_one, what_was_written_is_read};
 pub use reading::read;
-pub use writing::{push_event, push_node, write};
+pub use writing::{push_config, push_event, push_node, write};

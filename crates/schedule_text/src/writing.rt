@@ -23,8 +23,9 @@ fn ram_bytes(config: &Config) -> u32
     4 * config.words()
 }
 
+/// Appends the line of the settings. After want of memory a part of it may stand there.
 #[tactic(auto, unfolding(crate::specs::Grammar::config_line))]
-fn push_config(text: &mut String, config: &Config) -> Result<(), AllocError>
+pub fn push_config(text: &mut String, config: &Config) -> Result<(), AllocError>
     ensures { OnOk result (string_bytes text.new ≡ string_bytes text.old ++ config_line config.now) }
 {
     let ram = ram_bytes(config);
