@@ -1,0 +1,2 @@
+-- What other crates may cite: the parts of a trace, and what one more event adds to the text of a run, and to the run.
+pub use Rattle.watch_trace.proofs.Growing.{run-more, text-more, text-shown, text-hidden, text-none, trace-parts}

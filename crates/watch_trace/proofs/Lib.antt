@@ -1,0 +1,5 @@
+mod Lists
+mod Hex
+mod Written
+mod Growing
+pub mod Lemmas

@@ -1,0 +1,10 @@
+-- Whether a mask has a place is its bit there.
+use Rattle.std.proofs.Common.{arith}
+use Rattle.std.proofs.lemmas.Nat.Bits.{shr_and_one}
+use Rattle.std.proofs.lemmas.Bool.Decides.{nat_tests}
+use Rattle.tcc_maps.specs.Masks.{has}
+use Rattle.watch_trace.proofs.words.has.Goals as goal
+
+pub returns : goal.returns
+unfolding has
+returns c = rw shr_and_one (grind (arith, nat_tests))
