@@ -1,0 +1,11 @@
+-- What the contracts of this crate cite.
+pub mod Tables
+pub mod Messages
+pub mod Places
+pub mod Sizes
+pub mod Counts
+pub mod CountsInside
+pub mod Totals
+pub mod Lines
+pub mod Text
+pub mod Csv

@@ -1,0 +1,121 @@
+// The whole text of counts, and the two lines of a table.
+ghost use Rattle.std.specs.Prelude.{◌≡◌, ◌++◌, ◌+◌, ◌≤◌, ◌^◌, IfOk, OnOk, All, length, string_bytes, option_map};
+ghost use Rattle.std.specs.List.{flat_map};
+ghost use Rattle.schedule_text.specs.Grammar.{config_line};
+ghost use Rattle.watch_count.specs.Text.{table_text, rows_from, tables_text, kinds_from, messages_text, entry_line, entry_conflict, count_text};
+ghost use Rattle.watch_count.specs.Csv.{names, settings_cells, seed_cells, end_cell, core_cells, messages_cells, csv_text};
+ghost use Rattle.watch_count.specs.Sizes.{core_size, messages_size};
+
+use crate::messages::MessageCounts;
+use crate::places::{Conflict, ConflictCounts, LineCounts};
+use crate::rows::{
+    Table, push_conflict_line, push_line_line, push_messages_line, push_named, push_row,
+};
+use crate::tables::CoreCounts;
+use crate::totals::{all_cores, all_messages};
+use std::alloc::AllocError;
+use std::collections::BTreeMap;
+use tcc_base::Config;
+
+/// The bytes of RAM.
+fn ram_bytes(config: &Config) -> u32
+    ensures { result ≡ config.now.ram }
+{
+    4 * config.words()
+}
+
+/// The settings, as in a schedule.
+#[tactic(auto, unfolding(schedule_text::specs::Grammar::config_line, crate::specs::Lines::named))]
+pub(crate) fn push_config(text: &mut String, config: &Config) -> Result<(), AllocError>
+    ensures { OnOk result (string_bytes text.new ≡ string_bytes text.old ++ config_line config.now) }
+{
+    push_named(text, "cores ", config.cores() as u64)?;
+    push_named(text, " dirs ", config.dirs() as u64)?;
+    push_named(text, " sets ", config.sets() as u64)?;
+    push_named(text, " ways ", config.ways() as u64)?;
+    push_named(text, " base ", config.base() as u64)?;
+    push_named(text, " ram ", ram_bytes(config) as u64)?;
+    text.push_str("\n")
+}
+
+/// The rows of a table for each core.
+fn push_rows(text: &mut String, table: Table, cores: &[CoreCounts]) -> Result<(), AllocError>
+    ensures { OnOk result (string_bytes text.new ≡ string_bytes text.old ++ rows_from table 0 cores.now) }
+{
+    for (number, core) in cores.iter().enumerate() {
+        push_row(text, table, Some(number), core)?;
+    }
+    Ok(())
+}
+
+#[tactic(auto, unfolding(crate::specs::Text::table_text))]
+fn push_table(text: &mut String, table: Table, cores: &[CoreCounts]) -> Result<(), AllocError>
+    requires small { All (λ c. core_size c ≤ 2 ^ 56) cores.now }
+    requires few { length cores.now ≤ 64 }
+    ensures { OnOk result (string_bytes text.new ≡ string_bytes text.old ++ table_text table cores.now) }
+{
+    push_rows(text, table, cores)?;
+    push_row(text, table, None, &all_cores(cores))
+}
+
+/// The five tables.
+#[tactic(auto, unfolding(crate::specs::Text::tables_text))]
+pub(crate) fn push_tables(text: &mut String, cores: &[CoreCounts]) -> Result<(), AllocError>
+    requires small { All (λ c. core_size c ≤ 2 ^ 56) cores.now }
+    requires few { length cores.now ≤ 64 }
+    ensures { OnOk result (string_bytes text.new ≡ string_bytes text.old ++ tables_text cores.now) }
+{
+    push_table(text, Table::Attempts, cores)?;
+    push_table(text, Table::Instructions, cores)?;
+    push_table(text, Table::Accesses, cores)?;
+    push_table(text, Table::Evictions, cores)?;
+    push_table(text, Table::Phases, cores)
+}
+
+fn push_kinds(text: &mut String, messages: &[MessageCounts; 15]) -> Result<(), AllocError>
+    ensures { OnOk result (string_bytes text.new ≡ string_bytes text.old ++ kinds_from 0 messages.now) }
+{
+    for (place, kind) in messages.iter().enumerate() {
+        push_messages_line(text, place, kind)?;
+    }
+    Ok(())
+}
+
+/// The lines of the kinds of message.
+#[tactic(auto, unfolding(crate::specs::Text::messages_text))]
+pub(crate) fn push_messages(
+    text: &mut String,
+    messages: &[MessageCounts; 15],
+) -> Result<(), AllocError>
+    requires { All (λ m. messages_size m ≤ 2 ^ 56) messages.now }
+    ensures { OnOk result (string_bytes text.new ≡ string_bytes text.old ++ messages_text messages.now) }
+{
+    push_kinds(text, messages)?;
+    push_messages_line(text, 15, &all_messages(messages))
+}
+
+/// The lines of lines of memory.
+pub(crate) fn push_lines(
+    text: &mut String,
+    lines: &BTreeMap<u32, LineCounts>,
+) -> Result<(), AllocError>
+    ensures { OnOk result (string_bytes text.new ≡ string_bytes text.old ++ flat_map entry_line lines.now.entries) }
+{
+    for (line, counts) in lines {
+        push_line_line(text, *line, counts)?;
+    }
+    Ok(())
+}
+
+/// The lines of conflicts.
+pub(crate) fn push_conflicts(
+    text: &mut String,
+    conflicts: &BTreeMap<Conflict, ConflictCounts>,
+) -> Result<(), AllocError>
+    ensures { OnOk result (string_bytes text.new ≡ string_bytes text.old ++ flat_map entry_conflict conflicts.now.entries) }
+{
+    for (conflict, counts) in conflicts {
+        push_conflict_line(text, conflict, counts)?;
+    }
+    Ok(())
+}
