@@ -1,5 +1,5 @@
 -- Totals are no larger than their parts together.
-use Rattle.std.proofs.Common.{◌≡◌, ℕ, ◌+◌, ◌<◌, List, ◌∷◌, drop, get_or, length, ap, sym, ◌∙◌, arith}
+use Rattle.std.proofs.Common.{◌≡◌, ℕ, ◌+◌, ◌<◌, List, drop, get_or, length, ap, sym, ◌∙◌, arith}
 use Rattle.std.proofs.lemmas.List.{at_drop_more}
 use Rattle.watch_count.specs.declared.tables.CoreCounts.{CoreCounts}
 use Rattle.watch_count.specs.declared.messages.MessageCounts.{MessageCounts}

@@ -1,15 +1,12 @@
 -- No number grows by more than a fact's weight.
-use Rattle.std.proofs.Common.{◌≡◌, ℕ, zero, suc, ◌+◌, ◌≤◌, ◌^◌, Bool, true, false, cond, List, [], ◌∷◌, map, Option, Some, None, arith}
+use Rattle.std.proofs.Common.{ℕ, zero, suc, ◌+◌, ◌≤◌, Bool, true, false, cond, List, [], ◌∷◌, Option, Some, None, arith}
 use Rattle.std.specs.Prelude.{All, unwrap_or}
 use Rattle.std.specs.declared.cmp.Ordering.{Ordering}
-use Rattle.std.specs.BTreeMap.{is_at, insert_entry}
+use Rattle.std.specs.BTreeMap.{is_at}
 use Rattle.std.specs.Map.{lookup, values_of}
-use Rattle.std.proofs.lemmas.List.Elements.{All-nil, All-cons, All-head, All-tail, All-map, All-weaker}
+use Rattle.std.proofs.lemmas.List.Elements.{All-nil, All-cons, All-head, All-tail, All-weaker}
 use Rattle.std.proofs.lemmas.Map.Views.{All-values-insert_entry}
-use Rattle.tcc_maps.specs.Nodes.{Msg}
-use Rattle.watch.specs.Facts.{Fact, Done}
-use Rattle.watch_count.specs.declared.tables.PhaseName.{PhaseName}
-use Rattle.watch_count.specs.declared.tables.Attempts.{Attempts}
+use Rattle.watch.specs.Facts.{Fact}
 use Rattle.watch_count.specs.declared.tables.CoreCounts.{CoreCounts}
 use Rattle.watch_count.specs.declared.messages.MessageCounts.{MessageCounts}
 use Rattle.watch_count.specs.declared.places.LineCounts.{LineCounts}

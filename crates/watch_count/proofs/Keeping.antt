@@ -1,5 +1,5 @@
 -- No number is above the bound, whatever is counted.
-use Rattle.std.proofs.Common.{◌≡◌, ℕ, ◌+◌, ◌≤◌, ◌^◌, List, map, length, arith}
+use Rattle.std.proofs.Common.{ℕ, ◌+◌, ◌≤◌, List, map, arith}
 use Rattle.std.specs.Prelude.{All}
 use Rattle.std.specs.Map.{values_of}
 use Rattle.std.specs.Ordering.{nat_cmp}
@@ -12,7 +12,8 @@ use Rattle.watch_count.specs.Places.{nothing_there, line_of, line_after, no_conf
 use Rattle.watch_count.specs.Sizes.{core_size, messages_size, line_size, conflict_size, weight}
 use Rattle.watch_count.specs.Counts.{Counts, core_of, changed_if, kept_changed_if, conflict_cmp}
 use Rattle.watch_count.specs.CountsInside.{IsKept}
-use Rattle.watch_count.proofs.Growth.{core-grows, event-grows, messages-grow, line-grows, conflict-grows, All-changed_if, All-kept_changed_if}
+use Rattle.watch_count.proofs.Growth.{core-grows, event-grows, messages-grow, line-grows, conflict-grows}
+use Rattle.watch_count.proofs.Growth.{All-changed_if, All-kept_changed_if}
 
 -- what is below a bound is below a greater one
 pub all-below : {A : Type 0} (size : A → ℕ) (b w : ℕ) (xs : List A) → All (λ x. size x ≤ b) xs → All (λ x. size x ≤ b + w) xs
@@ -27,7 +28,8 @@ cores-kept a f c k =
 pub cores-came : (c : Counts) → IsKept c → All (λ x. core_size x ≤ c.bound + 1) (map event_came c.cores)
 cores-came c k =
     All-map (λ x. core_size x ≤ c.bound + 1) event_came c.cores
-    (All-weaker (λ x. core_size x ≤ c.bound) (λ x. core_size (event_came x) ≤ c.bound + 1) (λ x h. omega (arith, event-grows x)) c.cores k.cores)
+    (All-weaker (λ x. core_size x ≤ c.bound) (λ x. core_size (event_came x) ≤ c.bound + 1)
+    (λ x h. omega (arith, event-grows x)) c.cores k.cores)
 
 pub messages-kept : (f : Fact) (c : Counts) → IsKept c
     → All (λ x. messages_size x ≤ c.bound + weight f) (changed_if (kind_of f) (messages_after f) c.messages)
@@ -39,7 +41,8 @@ pub lines-kept : (f : Fact) (c : Counts) → IsKept c
     → All (λ x. line_size x ≤ c.bound + weight f) (values_of (kept_changed_if nat_cmp nothing_there (line_of f) (line_after f) c.lines))
 unfolding line_size
 lines-kept f c k =
-    All-kept_changed_if nat_cmp (λ x. line_size x ≤ c.bound) (λ x. line_size x ≤ c.bound + weight f) nothing_there (omega arith) (line_after f)
+    All-kept_changed_if nat_cmp (λ x. line_size x ≤ c.bound) (λ x. line_size x ≤ c.bound + weight f) nothing_there
+    (omega arith) (line_after f)
     (λ x h. omega (arith, line-grows f x)) (λ x h. omega arith) (line_of f) c.lines k.lines
 
 pub conflicts-kept : (f : Fact) (c : Counts) → IsKept c
@@ -47,5 +50,6 @@ pub conflicts-kept : (f : Fact) (c : Counts) → IsKept c
     (values_of (kept_changed_if conflict_cmp no_conflict (conflict_of f) (conflict_after f) c.conflicts))
 unfolding conflict_size
 conflicts-kept f c k =
-    All-kept_changed_if conflict_cmp (λ x. conflict_size x ≤ c.bound) (λ x. conflict_size x ≤ c.bound + weight f) no_conflict (omega arith)
+    All-kept_changed_if conflict_cmp (λ x. conflict_size x ≤ c.bound) (λ x. conflict_size x ≤ c.bound + weight f) no_conflict
+    (omega arith)
     (conflict_after f) (λ x h. omega (arith, conflict-grows f x)) (λ x h. omega arith) (conflict_of f) c.conflicts k.conflicts

@@ -3,7 +3,8 @@ use Rattle.std.proofs.Common.{◌≡◌, ℕ, zero, suc, ◌+◌, ◌<◌, ◌�
 use Rattle.std.proofs.Common.{Option, Some, None, refl, ap, sym, ◌∙◌, arith}
 use Rattle.watch_count.specs.Counts.{changed, changed_if}
 
-pub set-changed : {A : Type 0} (f : A → A) (k : ℕ) (xs : List A) (y d : A) → k < length xs → y ≡ f (get_or xs k d) → set xs k y ≡ changed k f xs
+pub set-changed : {A : Type 0} (f : A → A) (k : ℕ) (xs : List A) (y d : A) → k < length xs → y ≡ f (get_or xs k d)
+    → set xs k y ≡ changed k f xs
 unfolding changed
 set-changed f k [] y d l e = absurd (omega arith)
 set-changed f zero (x ∷ xs) y d l e = ap (λ z. z ∷ xs) e

@@ -1,5 +1,5 @@
 -- The fields of counts, and what always holds of them.
-use Rattle.std.specs.Prelude.{◌≡◌, ◌≤◌, ◌^◌, length, All}
+use Rattle.std.specs.Prelude.{◌≤◌, ◌^◌, length, All}
 use Rattle.std.specs.Map.{values_of}
 use Rattle.watch_count.specs.declared.counts.Counts.TheInside.{Inside}
 use Rattle.watch_count.specs.Sizes.{core_size, messages_size, line_size, conflict_size}

@@ -1,5 +1,5 @@
 -- The totals as two rows for a table: the names, and the numbers.
-use Rattle.std.specs.Prelude.{ℕ, List, [], ◌∷◌, ◌++◌, Bool, true, false, Option, Some, None, codes}
+use Rattle.std.specs.Prelude.{ℕ, List, ◌++◌, Bool, true, false, Option, Some, None, codes}
 use Rattle.std.specs.Fmt.{decimal}
 use Rattle.tcc_base.specs.Settings.{Settings}
 use Rattle.schedule_text.specs.Grammar.{newline}
@@ -40,7 +40,8 @@ attempts_cells c = cell c.attempts.begun ++ cell c.attempts.committed ++ cell c.
     ++ cell c.attempts.still_open ++ cell c.attempts.row ++ cell c.attempts.gave_up
 
 unfoldable pub instructions_cells : CoreCounts → List ℕ
-instructions_cells c = cell c.instructions.executed ++ cell c.instructions.committed ++ cell c.instructions.lost ++ cell c.instructions.still_open
+instructions_cells c = cell c.instructions.executed ++ cell c.instructions.committed
+    ++ cell c.instructions.lost ++ cell c.instructions.still_open
 
 unfoldable pub accesses_cells : CoreCounts → List ℕ
 accesses_cells c = cell c.accesses.loads ++ cell c.accesses.stores ++ cell c.accesses.changes

@@ -9,3 +9,4 @@ pub mod Totals
 pub mod Lines
 pub mod Text
 pub mod Csv
+pub mod Worked

@@ -1,6 +1,5 @@
 -- The text of counts: which lines it has, and in what order; and the two lines of a table.
-use Rattle.std.specs.Prelude.{ℕ, ◌+◌, List, [], ◌∷◌, ◌++◌, Bool, true, false, Option, Some, None, codes}
-use Rattle.std.specs.Fmt.{decimal}
+use Rattle.std.specs.Prelude.{ℕ, ◌+◌, List, [], ◌∷◌, ◌++◌, Bool, Some, None, codes}
 use Rattle.std.specs.List.{flat_map}
 use Rattle.tcc_base.specs.Settings.{Settings}
 use Rattle.schedule_text.specs.Grammar.{newline, config_line}
@@ -12,7 +11,7 @@ use Rattle.watch_count.specs.declared.places.Conflict.{Conflict}
 use Rattle.watch_count.specs.declared.places.ConflictCounts.{ConflictCounts}
 use Rattle.watch_count.specs.declared.rows.Table.{Table}
 use Rattle.watch_count.specs.declared.rows.Table.TheVariants.{Attempts, Instructions, Accesses, Evictions, Phases}
-use Rattle.watch_count.specs.Totals.{all_cores, all_messages, in_flight}
+use Rattle.watch_count.specs.Totals.{all_cores, all_messages}
 use Rattle.watch_count.specs.Lines.{row, messages_line, line_line, conflict_line}
 use Rattle.watch_count.specs.Counts.{Counts}
 

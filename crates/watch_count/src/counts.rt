@@ -7,11 +7,14 @@ ghost use Rattle.tcc_maps.specs.Bridge.{node_of};
 ghost use Rattle.watch.specs.Plain.{fact_of};
 ghost use Rattle.watch_count.specs.Tables.{nothing, core_after, event_came};
 ghost use Rattle.watch_count.specs.Messages.{kind_of as plain_kind_of, messages_after};
-ghost use Rattle.watch_count.specs.Places.{nothing_there, line_of as plain_line_of, line_after, no_conflict, conflict_of as plain_conflict_of, conflict_after};
+ghost use Rattle.watch_count.specs.Places.{nothing_there, line_of as plain_line_of, line_after};
+ghost use Rattle.watch_count.specs.Places.{no_conflict, conflict_of as plain_conflict_of, conflict_after};
 ghost use Rattle.watch_count.specs.Sizes.{core_size, messages_size, line_size, conflict_size, weight as plain_weight, weights};
 ghost use Rattle.watch_count.specs.Text.{count_text};
 ghost use Rattle.watch_count.specs.Csv.{csv_text};
-ghost use Rattle.watch_count.specs.Counts.{core_taking, core_of as plain_core_of, changed_if, kept_changed, kept_changed_if, conflict_cmp, nothing_counted, counted, event_begun, event_counted};
+ghost use Rattle.watch_count.specs.Counts.{core_taking, core_of as plain_core_of, changed_if};
+ghost use Rattle.watch_count.specs.Counts.{kept_changed, kept_changed_if, conflict_cmp};
+ghost use Rattle.watch_count.specs.Counts.{nothing_counted, counted, event_begun, event_counted};
 
 use crate::cells::{
     push_cell, push_core_cells, push_end_cell, push_messages_cells, push_names, push_seed,

@@ -11,6 +11,7 @@ mod rows;
 mod tables;
 mod texts;
 mod totals;
+mod worked;
 
 pub use counts::Counts;
 pub use messages::MessageCounts;
@@ -19,3 +20,4 @@ pub use rows::Table;
 pub use tables::{
     Accesses, Attempts, CoreCounts, Evictions, Instructions, PhaseName, Phases, phase_name,
 };
+pub use worked::worked_counts;

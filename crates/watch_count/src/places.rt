@@ -1,7 +1,8 @@
 // What is counted of a line, and of a conflict.
 ghost use Rattle.std.specs.Prelude.{◌≡◌, ◌≤◌, ◌^◌, Some, None};
 ghost use Rattle.watch.specs.Plain.{fact_of};
-ghost use Rattle.watch_count.specs.Places.{line_of as plain_line_of, line_after, conflict_of as plain_conflict_of, conflict_after, nothing_there, no_conflict};
+ghost use Rattle.watch_count.specs.Places.{line_of as plain_line_of, line_after, nothing_there};
+ghost use Rattle.watch_count.specs.Places.{conflict_of as plain_conflict_of, conflict_after, no_conflict};
 ghost use Rattle.watch_count.specs.Sizes.{line_size, conflict_size};
 
 use tcc_msg::Msg;

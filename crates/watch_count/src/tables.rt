@@ -23,8 +23,8 @@ pub enum PhaseName {
     Halted,
 }
 
-/// Attempts of a core. `still_open` is 1 where one has begun that hasn't ended; `unbroken` are the violations since the last commit, and `row`
-/// the most that there ever were.
+/// Attempts of a core. `still_open` is 1 where one has begun that hasn't ended; `unbroken` are the violations since the last commit, and
+/// `row` the most that there ever were.
 #[derive(Clone, Copy, Debug, PartialEq, Eq)]
 pub struct Attempts {
     pub begun: u64,

@@ -2,7 +2,8 @@
 ghost use Rattle.std.specs.Prelude.{◌≡◌, ◌++◌, ◌+◌, ◌≤◌, ◌^◌, IfOk, OnOk, All, length, string_bytes, option_map};
 ghost use Rattle.std.specs.List.{flat_map};
 ghost use Rattle.schedule_text.specs.Grammar.{config_line};
-ghost use Rattle.watch_count.specs.Text.{table_text, rows_from, tables_text, kinds_from, messages_text, entry_line, entry_conflict, count_text};
+ghost use Rattle.watch_count.specs.Text.{table_text, rows_from, tables_text, kinds_from, messages_text};
+ghost use Rattle.watch_count.specs.Text.{entry_line, entry_conflict};
 ghost use Rattle.watch_count.specs.Csv.{names, settings_cells, seed_cells, end_cell, core_cells, messages_cells, csv_text};
 ghost use Rattle.watch_count.specs.Sizes.{core_size, messages_size};
 

@@ -2,7 +2,8 @@
 ghost use Rattle.std.specs.Prelude.{◌≡◌, ◌+◌, ◌*◌, ◌≤◌, ◌^◌, length, All};
 ghost use Rattle.watch_count.specs.Totals.{attempts_plus, instructions_plus, accesses_plus, evictions_plus, phases_plus, core_plus};
 ghost use Rattle.watch_count.specs.Totals.{all_cores as plain_all_cores, all_messages as plain_all_messages, messages_plus};
-ghost use Rattle.watch_count.specs.Sizes.{attempts_size, instructions_size, accesses_size, evictions_size, phases_size, core_size, messages_size};
+ghost use Rattle.watch_count.specs.Sizes.{attempts_size, instructions_size, accesses_size, evictions_size, phases_size};
+ghost use Rattle.watch_count.specs.Sizes.{core_size, messages_size};
 
 use crate::messages::MessageCounts;
 use crate::tables::{Accesses, Attempts, CoreCounts, Evictions, Instructions, Phases};

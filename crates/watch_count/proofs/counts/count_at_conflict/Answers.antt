@@ -11,4 +11,5 @@ pub count-requires : goal.count-requires
 unfolding conflict_size
 count-requires c =
     rw c.conflict_counts-counts.ensures
-    (kept-or-fresh (λ n. conflict_size n ≤ 2 ^ 62) no_conflict (omega arith) (is_at (conflict_cmp c.args.conflict)) c.args.conflicts.now.entries c.requires)
+    (kept-or-fresh (λ n. conflict_size n ≤ 2 ^ 62) no_conflict (omega arith) (is_at (conflict_cmp c.args.conflict))
+    c.args.conflicts.now.entries c.requires)

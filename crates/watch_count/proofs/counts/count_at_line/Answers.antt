@@ -11,4 +11,5 @@ pub count-requires : goal.count-requires
 unfolding line_size
 count-requires c =
     rw c.line_counts-counts.ensures
-    (kept-or-fresh (λ n. line_size n ≤ 2 ^ 62) nothing_there (omega arith) (is_at (nat_cmp c.args.line)) c.args.lines.now.entries c.requires)
+    (kept-or-fresh (λ n. line_size n ≤ 2 ^ 62) nothing_there (omega arith) (is_at (nat_cmp c.args.line))
+    c.args.lines.now.entries c.requires)

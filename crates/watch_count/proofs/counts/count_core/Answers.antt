@@ -1,5 +1,5 @@
 -- The core's numbers are changed in their place, where there is such a core.
-use Rattle.std.proofs.Common.{arith, sym, rules}
+use Rattle.std.proofs.Common.{sym, rules}
 use Rattle.tcc_maps.specs.Bridge.{node_of}
 use Rattle.watch.specs.Plain.{fact_of}
 use Rattle.watch_count.specs.Tables.{nothing, core_after}

@@ -1,5 +1,5 @@
 -- The next core has counted the event.
-use Rattle.std.proofs.Common.{ap, get_or, rules, arith}
+use Rattle.std.proofs.Common.{ap, get_or, rules}
 use Rattle.watch_count.specs.Tables.{nothing, event_came}
 use Rattle.watch_count.proofs.Lists.{map-more}
 use Rattle.watch_count.proofs.counts.count_event.Goals as goal

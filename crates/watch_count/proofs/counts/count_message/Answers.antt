@@ -1,5 +1,4 @@
 -- The kind's numbers are changed in their place.
-use Rattle.tcc_maps.specs.Bridge.{node_of}
 use Rattle.watch.specs.Plain.{fact_of}
 use Rattle.watch_count.specs.Messages.{kind_of, no_messages, messages_after}
 use Rattle.watch_count.proofs.Lists.{set-changed_if}

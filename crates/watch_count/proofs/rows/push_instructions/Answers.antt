@@ -34,4 +34,6 @@ returns c =
     c.in_ok-push_named-3.ensures
     c.in_ok-push_named-4.ensures
     last)
-    (went-well c.push_str-2.result (string_bytes c.push_str-2.new.self) (string_bytes c.push_named-4.new.text ++ newline) (string_bytes c.push_named-4.new.text) c.push_str-2.ensures.bytes)
+    (went-well c.push_str-2.result (string_bytes c.push_str-2.new.self)
+    (string_bytes c.push_named-4.new.text ++ newline) (string_bytes c.push_named-4.new.text)
+    c.push_str-2.ensures.bytes)

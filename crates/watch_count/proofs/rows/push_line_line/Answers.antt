@@ -31,4 +31,6 @@ returns c =
     c.in_ok-push_named-4.ensures
     c.in_ok-push_named-5.ensures
     last)
-    (went-well c.push_str.result (string_bytes c.push_str.new.self) (string_bytes c.push_named-5.new.text ++ newline) (string_bytes c.push_named-5.new.text) c.push_str.ensures.bytes)
+    (went-well c.push_str.result (string_bytes c.push_str.new.self)
+    (string_bytes c.push_named-5.new.text ++ newline) (string_bytes c.push_named-5.new.text)
+    c.push_str.ensures.bytes)

@@ -38,4 +38,6 @@ returns c =
     c.in_ok-push_named-4.ensures
     (c.in_ok-push_named-5.ensures ∙ ap (λ n. t6 ++ named (codes " flight ") n) c.in_flight-flight.ensures)
     last)
-    (went-well c.push_str-2.result (string_bytes c.push_str-2.new.self) (string_bytes c.push_named-5.new.text ++ newline) (string_bytes c.push_named-5.new.text) c.push_str-2.ensures.bytes)
+    (went-well c.push_str-2.result (string_bytes c.push_str-2.new.self)
+    (string_bytes c.push_named-5.new.text ++ newline) (string_bytes c.push_named-5.new.text)
+    c.push_str-2.ensures.bytes)

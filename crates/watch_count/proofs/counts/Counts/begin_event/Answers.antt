@@ -1,5 +1,5 @@
 -- The fields are those of an event that begins.
-use Rattle.std.proofs.Common.{ap, ◌+◌, ◌≤◌, ◌^◌, ◌≡◌, ◌∙◌, map, arith}
+use Rattle.std.proofs.Common.{ap, ◌∙◌, map, arith}
 use Rattle.std.specs.Vec.{with_items}
 use Rattle.std.proofs.lemmas.List.{with_items_is}
 use Rattle.watch_count.specs.Tables.{event_came}

@@ -1,8 +1,7 @@
 -- The next fact is counted.
-use Rattle.std.proofs.Common.{ap, map, ◌+◌, ◌≤◌, ◌^◌, ◌≡◌, ◌∙◌, arith, rules}
+use Rattle.std.proofs.Common.{ap, map, arith}
 use Rattle.tcc_maps.specs.Bridge.{node_of}
 use Rattle.watch.specs.Plain.{fact_of}
-use Rattle.watch_count.specs.Sizes.{weights}
 use Rattle.watch_count.specs.Counts.{all_counted, event_begun, event_counted}
 use Rattle.watch_count.proofs.Views.{facts-more, facts-all, small-more}
 use Rattle.watch_count.proofs.counts.Counts.event.Goals as goal

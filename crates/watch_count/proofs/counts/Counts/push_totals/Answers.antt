@@ -43,4 +43,6 @@ returns c =
     (c.in_ok-push_messages_cells.ensures ∙ ap (λ m. t7 ++ messages_cells m) c.all_messages.ensures)
     last
     ∙ ap (λ s. string_bytes c.args.text.now ++ csv_text c.args.config.now c.args.seed c.args.done c.args.events s) c.self.view_is)
-    (went-well c.push_str-2.result (string_bytes c.push_str-2.new.self) (string_bytes c.push_messages_cells.new.text ++ newline) (string_bytes c.push_messages_cells.new.text) c.push_str-2.ensures.bytes)
+    (went-well c.push_str-2.result (string_bytes c.push_str-2.new.self)
+    (string_bytes c.push_messages_cells.new.text ++ newline) (string_bytes c.push_messages_cells.new.text)
+    c.push_str-2.ensures.bytes)
