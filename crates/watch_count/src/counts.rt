@@ -256,7 +256,8 @@ impl Counts {
         count_event(&mut self.cores);
     }
 
-    /// An event of this node, with its facts. After want of memory some of its facts are counted, and the counts are of no use any more.
+    /// An event of this node, with its facts. No number overflows while the bound stays at most 2^56: an event adds 1 to it, and the
+    /// weights of its facts. After want of memory some of the facts are counted and others aren't, so the counts are of no use any more.
     /// Takes constant time for each core and each fact, but for the logarithm of the lines and conflicts so far.
     pub fn event(&mut self, actor: NodeId, facts: &[Fact]) -> Result<(), NoMemory>
         requires { self.old.bound + 1 + weights (map fact_of facts.now) ≤ 2 ^ 56 }
