@@ -55,7 +55,8 @@ pub record HasSent (m n : Machine) (src : Node) : Type 0 where
   pub last : n.last ≡ n.unsent
   pub as_many : (dst : Node) → length (net_of n.flights src dst) ≡ length ((world_of m).net src dst)
 
-behind-own : (net : Node → Node → Link) (src dst : Node) (sends : Sends) → sending net src sends src dst ≡ net src dst ++ sent_all (sends dst)
+behind-own : (net : Node → Node → Link) (src dst : Node) (sends : Sends)
+    → sending net src sends src dst ≡ net src dst ++ sent_all (sends dst)
 behind-own net src dst sends = rw (node_eq-own src) refl
 
 sent-by : (m n : Machine) (src : Node) → HasSent m n src → IsSent (world_of m) (world_of n) src (sends_of n.last)
