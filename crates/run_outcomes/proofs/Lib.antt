@@ -1,8 +1,10 @@
 -- Proofs.
+pub mod Added
 pub mod Alls
 pub mod Elsewhere
 pub mod Leads
-pub mod Search
+pub mod Once
+pub mod Reach
+pub mod Serially
 pub mod Told
 pub mod Untouched
-pub mod Views

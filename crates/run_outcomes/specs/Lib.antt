@@ -1,6 +1,7 @@
 -- What the contracts of this crate cite.
 pub mod Changes
+pub mod Explored
 pub mod Left
 pub mod Next
-pub mod Search
+pub mod Serially
 pub mod States

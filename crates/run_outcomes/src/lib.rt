@@ -3,5 +3,9 @@
 
 mod changes;
 mod next;
+mod search;
+mod states;
 
 pub use next::{Executor, Next};
+pub use search::{Exploration, Limits, explore};
+pub use states::Snapshot;

@@ -70,6 +70,13 @@ impl Executor {
         })
     }
 
+    /// The number of cores.
+    pub fn cores(&self) -> u8
+        ensures { result ≡ self.now.settings.cores }
+    {
+        self.code.config().cores()
+    }
+
     /// The next transaction of a core, of at most `longest` instructions, where RAM is as it was loaded but for these words.
     ///
     /// Takes the time of the instructions, and a logarithm for each word that is changed.

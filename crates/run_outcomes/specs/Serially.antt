@@ -17,5 +17,5 @@ abbrev pub HasEveryEnd : (base : ℕ) → Program → List Plain → Plain → T
 HasEveryEnd base p machines m = (last : ℕ) (orders : List Order) → IfSome (serial base p last orders m) (λ r. Contains machines r.0)
 
 -- a serial execution leads from the one machine to the other
-abbrev pub Leads : (base : ℕ) → Program → List Order → Plain → Plain → Type 0
-Leads base p orders m n = IsSomeAnd (serial base p 0 orders m) (λ r. n ≡ r.0)
+abbrev pub IsReached : (base : ℕ) → Program → (from to : Plain) → Type 0
+IsReached base p from to = (orders : List Order) × IsSomeAnd (serial base p 0 orders from) (λ r. to ≡ r.0)

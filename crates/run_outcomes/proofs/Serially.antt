@@ -1,7 +1,7 @@
 -- Where every state's next transactions lead to states of the list, every serial execution does.
 use Rattle.std.proofs.Common.{ℕ, ◌≡◌, List, [], ◌∷◌, ◌++◌, Bool, true, false, Option, Some, None, IfSome, All, Contains, refl, nat_lt, if◌then◌else◌}
 use Rattle.std.proofs.lemmas.List.Elements.{All-contains, Contains-append_left}
-use Rattle.run_outcomes.specs.Search.{IsFollowed, AreFollowed, HasEveryEnd}
+use Rattle.run_outcomes.specs.Serially.{IsFollowed, AreFollowed, HasEveryEnd}
 use Rattle.tcc_base.specs.declared.access.Commit.{Commit}
 use Rattle.tcc_program.specs.Plain.{Plain, Attempt, Order, transaction, serial, after_order, and_commit, commit_of}
 use Rattle.tcc_program.specs.Program.{Program}

@@ -1,0 +1,102 @@
+-- What becomes of the states that were found when one more is added.
+use Rattle.std.proofs.Common.{ℕ, ◌≡◌, ◌+◌, ◌<◌, ◌≤◌, ◌/◌, List, [], ◌∷◌, ◌++◌, Some, All, Contains, map, refl, sym, ◌∙◌, ap, subst, length, length-set, slice_set, slice_index_or, arith, inl, inr}
+use Rattle.std.proofs.lemmas.Grind.{common_steps}
+use Rattle.std.proofs.lemmas.List.Elements.{All-push, All-nil, All-cons, All-get_or, Contains-push}
+use Rattle.std.proofs.lemmas.Bool.{cases_lt}
+use Rattle.image_load.specs.Contents.{Contents, started}
+use Rattle.run_outcomes.proofs.Once.{followed-by-one}
+use Rattle.run_outcomes.proofs.Reach.{leads-transaction, reached-next, contains-map, state-kept}
+use Rattle.run_outcomes.specs.Changes.{changed_ram, value_in, AreInside}
+use Rattle.run_outcomes.specs.Explored.{AreFound, IsFollowedAt, IsReachedState, machines, state_at, no_snapshot}
+use Rattle.run_outcomes.specs.Next.{IsNext}
+use Rattle.run_outcomes.specs.States.{machine_of, core_in, after_core, IsPlaced}
+use Rattle.run_outcomes.specs.declared.next.Next.TheVariants.{Leads}
+use Rattle.run_outcomes.specs.declared.states.Place.{Place}
+use Rattle.run_outcomes.specs.declared.states.Place.TheVariants.{Known, New, Full}
+use Rattle.run_outcomes.specs.declared.states.Snapshot.{Snapshot}
+use Rattle.image_load.specs.Start.{Start}
+use Rattle.rv_code.specs.Machine.{program, first_ram}
+use Rattle.rv_plain.specs.Buffered.{seen}
+use Rattle.rv_plain.specs.Cores.{core_of, no_state}
+use Rattle.rv_plain.specs.Machine.{plain_start, start_core, core_at_start}
+use Rattle.rv_plain.specs.declared.plain.CoreState.{CoreState}
+use Rattle.tcc_program.specs.Plain.{serial}
+
+sized-at : (l : Contents) (states : List Snapshot) (k : ℕ) → AreFound l states → k < length states
+    → length (state_at states k).cores ≡ l.settings.cores
+sized-at l states k found lt = All-get_or (λ s. length s.cores ≡ l.settings.cores) states k no_snapshot lt found.sized
+
+pub added-found : (l : Contents) (old new : List Snapshot) (k c limit longest n : ℕ) (after : CoreState) (left : List (ℕ × ℕ))
+    (place : Place) → AreFound l old → k < length old → c < l.settings.cores
+    → IsNext l (core_in (state_at old k) c) (state_at old k).changes longest (Leads n after left)
+    → IsPlaced old new (after_core (state_at old k) c after left) limit place → AreFound l new
+added-found l old new k c limit longest n after left Known found lt core next placed = subst (AreFound l) (sym placed.0) found
+added-found l old new k c limit longest n after left Full found lt core next placed = subst (AreFound l) (sym placed.0) found
+added-found l old new k c limit longest n after left New found lt core next placed =
+    let s = state_at old k in
+    let sized = sized-at l old k found lt in
+    let inside : c < length s.cores = rw sized core in
+    let transaction = leads-transaction l s c n after left inside next.2 in
+    subst (AreFound l) (sym placed.0) (record {
+      some = grind (arith, common_steps, found.some);
+      first = ap (machine_of l) (state-kept old (after_core s c after left ∷ []) 0 found.some) ∙ found.first;
+      inside = All-push (λ x. AreInside (l.settings.ram / 4) x.changes) old (after_core s c after left) found.inside next.1;
+      sized = All-push (λ x. length x.cores ≡ l.settings.cores) old (after_core s c after left) found.sized
+          (length-set s.cores c after ∙ sized);
+      reached = All-push (IsReachedState l) old (after_core s c after left) found.reached
+          (reached-next l.settings.base (program (started l)) (plain_start (started l)) (machine_of l s) c n
+          (machine_of l (after_core s c after left), next.2.attempt)
+          (All-get_or (IsReachedState l) old k no_snapshot lt found.reached) transaction);
+    })
+
+pub added-followed : (l : Contents) (old new : List Snapshot) (k c limit longest n : ℕ) (after : CoreState) (left : List (ℕ × ℕ))
+    (place : Place) → AreFound l old → k < length old → c < l.settings.cores
+    → IsNext l (core_in (state_at old k) c) (state_at old k).changes longest (Leads n after left)
+    → IsPlaced old new (after_core (state_at old k) c after left) limit place → (place ≡ Full → ⊥) → IsFollowedAt l new k c
+added-followed l old new k c limit longest n after left Full found lt core next placed room = absurd (room refl)
+added-followed l old new k c limit longest n after left Known found lt core next placed room =
+    let s = state_at old k in
+    let inside : c < length s.cores = rw (sized-at l old k found lt) core in
+    subst (λ x. IsFollowedAt l x k c) (sym placed.0)
+    (followed-by-one l.settings.base (program (started l)) (machines l old) (machine_of l s) c n
+    (machine_of l (after_core s c after left), next.2.attempt) (leads-transaction l s c n after left inside next.2)
+    (contains-map (machine_of l) old (after_core s c after left) placed.1))
+added-followed l old new k c limit longest n after left New found lt core next placed room =
+    let s = state_at old k in
+    let s' = after_core s c after left in
+    let inside : c < length s.cores = rw (sized-at l old k found lt) core in
+    subst (λ x. IsFollowedAt l x k c) (sym placed.0)
+    (rw (state-kept old (s' ∷ []) k lt)
+    (followed-by-one l.settings.base (program (started l)) (machines l (old ++ s' ∷ [])) (machine_of l s) c n
+    (machine_of l s', next.2.attempt) (leads-transaction l s c n after left inside next.2)
+    (contains-map (machine_of l) (old ++ s' ∷ []) s' (Contains-push old s'))))
+
+core-started : (s : Start) (cores : List CoreState) → length cores ≡ s.settings.cores
+    → ((k : ℕ) → k < s.settings.cores → core_of (slice_index_or cores k no_state) ≡ start_core s.settings.cores k (s.entry k))
+    → (c : ℕ) → core_of (slice_index_or cores c no_state) ≡ core_at_start s c
+core-started s cores len each c =
+    elim (cases_lt c s.settings.cores) [ inl h ↦ grind (arith, common_steps, each c h) | inr h ↦ grind (arith, common_steps) ]
+
+machine-started : (l : Contents) (cores : List CoreState) → length cores ≡ l.settings.cores
+    → ((k : ℕ) → k < l.settings.cores → core_of (slice_index_or cores k no_state) ≡ start_core l.settings.cores k ((started l).entry k))
+    → machine_of l (record { cores = cores; changes = [] }) ≡ plain_start (started l)
+unfolding machine_of changed_ram plain_start seen value_in started
+machine-started l cores len each = λ i. record {
+  ram = first_ram (started l);
+  cores = λ c. (core-started (started l) cores len each c) i;
+}
+
+pub first-found : (l : Contents) (cores : List CoreState) (states : List Snapshot) → length cores ≡ l.settings.cores
+    → ((k : ℕ) → k < l.settings.cores → core_of (slice_index_or cores k no_state) ≡ start_core l.settings.cores k ((started l).entry k))
+    → states ≡ record { cores = cores; changes = [] } ∷ [] → AreFound l states
+unfolding serial
+first-found l cores states len each is =
+    let s : Snapshot = record { cores = cores; changes = [] } in
+    subst (AreFound l) (sym is) (record {
+      some = omega arith;
+      first = machine-started l cores len each;
+      inside = All-cons (λ x. AreInside (l.settings.ram / 4) x.changes) s [] (All-nil (λ change. change.0 < l.settings.ram / 4))
+          (All-nil (λ x. AreInside (l.settings.ram / 4) x.changes));
+      sized = All-cons (λ x. length x.cores ≡ l.settings.cores) s [] len (All-nil (λ x. length x.cores ≡ l.settings.cores));
+      reached = All-cons (IsReachedState l) s [] ([], machine-started l cores len each) (All-nil (IsReachedState l));
+    })

@@ -1,0 +1,79 @@
+-- A core's next transaction has one number of instructions.
+use Rattle.std.proofs.Common.{ℕ, zero, suc, ◌≡◌, ◌+◌, ◌-◌, ◌<◌, ◌≤◌, ◌⊎◌, inl, inr, Option, Some, None, IfSome, IsSomeAnd, Contains, List, refl, sym, ◌∙◌, add-zero, arith, subst}
+use Rattle.std.proofs.Math.Nat.{add-suc}
+use Rattle.std.proofs.lemmas.Bool.{cases_lt}
+use Rattle.run_outcomes.specs.Serially.{IsFollowed}
+use Rattle.rv_plain.specs.Endings.{HasEnded}
+use Rattle.tcc_base.specs.declared.access.CoreEnd.{CoreEnd}
+use Rattle.tcc_base.specs.declared.access.CoreEnd.TheVariants.{Run, Halt, Trap}
+use Rattle.tcc_program.specs.Plain.{Attempt, Outcome, Goes, Ended, Halted, Trapped, Plain, steps, begun, transaction, close, close_if, if_runs, when_going, then_step, end_of, closed}
+use Rattle.tcc_program.specs.Program.{Program}
+
+-- no instruction follows one that ends the transaction
+none-after : (base : ℕ) (p : Program) (a : Attempt) (o : Outcome) → HasEnded o → when_going base p a o ≡ None
+none-after base p a Goes h = absurd h
+none-after base p a Ended h = refl
+none-after base p a (Halted code) h = refl
+none-after base p a (Trapped code) h = refl
+
+steps-none : (base : ℕ) (p : Program) (start : Attempt) (k d : ℕ) → steps base p (suc k) start ≡ None
+    → steps base p (suc k + d) start ≡ None
+unfolding steps
+steps-none base p start k zero h = simp add-zero h
+steps-none base p start k (suc d) h = simp add-suc (rw (steps-none base p start k d h) refl)
+
+then-none : (base : ℕ) (p : Program) (x : Option Attempt) → IsSomeAnd x (λ a. HasEnded a.outcome) → then_step base p x ≡ None
+then-none base p None h = absurd h
+then-none base p (Some a) h = none-after base p a a.outcome h
+
+steps-past : (base : ℕ) (p : Program) (start : Attempt) (k n : ℕ) → k < n
+    → IsSomeAnd (steps base p k start) (λ a. HasEnded a.outcome) → steps base p n start ≡ None
+unfolding steps
+steps-past base p start k n lt h =
+    let e : suc k + (n - suc k) ≡ n = omega arith in
+    subst (λ j. steps base p j start ≡ None) e
+    (steps-none base p start k (n - suc k) (then-none base p (steps base p k start) h))
+
+closes : (m : Plain) (core : ℕ) (a : Attempt) (o : Outcome) → IsSomeAnd (close m core a (end_of o)) (λ r. Unit {0}) → HasEnded o
+closes m core a Goes h = absurd h
+closes m core a Ended h = tt
+closes m core a (Halted code) h = tt
+closes m core a (Trapped code) h = tt
+
+runs-ended : (m : Plain) (core : ℕ) (end : CoreEnd) (x : Option Attempt)
+    → IsSomeAnd (if_runs end (close_if m core x)) (λ r. Unit {0}) → IsSomeAnd x (λ a. HasEnded a.outcome)
+runs-ended m core Run None h = absurd h
+runs-ended m core Run (Some a) h = closes m core a a.outcome h
+runs-ended m core (Halt code) x h = absurd h
+runs-ended m core (Trap code) x h = absurd h
+
+none-runs : (m : Plain) (core : ℕ) (end : CoreEnd) → if_runs end (close_if m core None) ≡ None
+none-runs m core Run = refl
+none-runs m core (Halt code) = refl
+none-runs m core (Trap code) = refl
+
+-- where k instructions are the transaction, no more of them are one
+transaction-past : (base : ℕ) (p : Program) (m : Plain) (core k n : ℕ) → k < n
+    → IsSomeAnd (transaction base p m core k) (λ r. Unit {0}) → transaction base p m core n ≡ None
+unfolding transaction
+transaction-past base p m core k n lt h =
+    let c = m.cores core in
+    rw (steps-past base p (begun c.local m.ram) k n lt
+    (runs-ended m core c.ended (steps base p k (begun c.local m.ram)) h)) (none-runs m core c.ended)
+
+pub followed-by-one : (base : ℕ) (p : Program) (ms : List Plain) (m : Plain) (core n : ℕ) (r : Plain × Attempt)
+    → transaction base p m core n ≡ Some r → Contains ms r.0 → IsFollowed base p ms m core
+unfolding IsFollowed
+followed-by-one base p ms m core n r is has k =
+    elim (cases_lt k n) [
+      | inl lt ↦ before (transaction base p m core k) (λ h. transaction-past base p m core k n lt h)
+      | inr le ↦ elim (cases_lt n k) [
+        | inl more ↦ rw (transaction-past base p m core n k more (rw is tt)) tt
+        | inr same ↦ let e : k ≡ n = omega arith in rw (e, is) has
+      ]
+    ]
+  where
+    before : (x : Option (Plain × Attempt)) → (IsSomeAnd x (λ y. Unit {0}) → transaction base p m core n ≡ None)
+        → IfSome x (λ y. Contains ms y.0)
+    before None h = tt
+    before (Some y) h = absurd (subst (λ x. IfSome x (λ z. ⊥)) (sym (h tt) ∙ is) tt)

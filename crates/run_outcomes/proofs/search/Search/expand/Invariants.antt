@@ -1,0 +1,12 @@
+use Rattle.std.proofs.Common.{◌≡◌, ℕ, ◌<◌, ◌≤◌, length}
+use Rattle.run_outcomes.specs.Explored.{AreFound, IsGrown, IsFollowedAt}
+use Rattle.run_outcomes.proofs.search.Search.expand.Given as goal
+
+abbrev pub invariant-loop-core : goal.invariant-loop-core
+invariant-loop-core l =
+    AreFound l.self.executor l.self.table
+    × (l.self.executor ≡ l.fn.self.executor)
+    × IsGrown l.fn.self.table l.self.table
+    × (length l.fn.self.table ≤ l.limits.states → length l.self.table ≤ l.limits.states)
+    × (l.self.endless ≡ 0 → (core : ℕ) → core < l.core → IsFollowedAt l.self.executor l.self.table l.number core)
+    × (l.fn.self.endless ≤ l.self.endless)

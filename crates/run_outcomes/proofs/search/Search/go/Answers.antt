@@ -1,0 +1,30 @@
+use Rattle.std.proofs.Common.{◌≡◌, ◌∙◌, ◌+◌, ◌<◌, ◌≤◌, ap, sym, subst, refl, length, length-append, arith, ℕ}
+use Rattle.run_outcomes.proofs.Reach.{expanded-step, all-states}
+use Rattle.run_outcomes.specs.Explored.{IsFollowedAt}
+use Rattle.run_outcomes.proofs.search.Search.go.Goals as goal
+
+pub loop-number-preserved : goal.loop-number-preserved
+loop-number-preserved c =
+    let old = c.loop-number.self in
+    let new = c.expand.new.self in
+    let n = c.loop-number.number in
+    let below : n < length old.table = grind arith in
+    let e = c.in_ok-expand.ensures in
+    let longer : length new.table ≡ length old.table + length e.grown.0 =
+    ap length e.grown.1 ∙ length-append old.table e.grown.0 in (
+      e.found,
+      e.loaded ∙ c.loop-number.invariant.1,
+      e.few c.loop-number.invariant.2,
+      omega (arith, below, longer),
+      λ none.
+          let before : old.endless ≡ 0 = omega (arith, e.endless, none) in
+          expanded-step new.executor old.table new.table n e.grown below
+          (rw e.loaded (c.loop-number.invariant.4 before))
+          (e.followed c.if-branch.false none),
+    )
+
+pub returns-clause-all : goal.returns-clause-all
+returns-clause-all c = λ full endless.
+    let all : length c.loop-number.self.table ≤ c.loop-number.number = grind arith in
+    all-states c.loop-number.self.executor c.loop-number.self.table c.loop-number.invariant.0
+    (λ k lt. c.loop-number.invariant.4 endless k (omega arith))

@@ -1,0 +1,36 @@
+use Rattle.std.proofs.Common.{◌≡◌, ◌∙◌, ap, sym, subst, false, true, IsFalse}
+use Rattle.std.proofs.lemmas.Bool.{false≢true}
+use Rattle.run_outcomes.proofs.Added.{added-found, added-followed}
+use Rattle.run_outcomes.proofs.Reach.{followed-stopped}
+use Rattle.run_outcomes.specs.Explored.{AreFound, IsFollowedAt, machines, state_at}
+use Rattle.run_outcomes.specs.Next.{IsNext}
+use Rattle.run_outcomes.specs.States.{IsPlaced, core_in, after_core}
+use Rattle.run_outcomes.specs.declared.next.Next.TheVariants.{Leads}
+use Rattle.run_outcomes.proofs.search.Search.reach.Goals as goal
+
+pub returns-in-Stopped-clause-followed : goal.returns-in-Stopped-clause-followed
+returns-in-Stopped-clause-followed c = λ full endless.
+    let s = state_at c.args.self.now.table c.args.number in
+    let next = rw (c.in-Stopped.is, c.state-state.ensures) at c.in_ok-next.ensures.next in
+    rw c.next_in.ensures.unchanged
+    (followed-stopped c.args.self.now.executor s c.args.core.0 (machines c.args.self.now.executor c.args.self.now.table) next)
+
+pub returns-in_ok-place-in-Leads-clause-found : goal.returns-in_ok-place-in-Leads-clause-found
+returns-in_ok-place-in-Leads-clause-found c =
+    let l = c.args.self.now.executor in
+    let next = rw (c.in-Leads.is, c.state-state.ensures) at c.in_ok-next.ensures.next in
+    let placed = rw (c.in_ok-left-in-Leads.ensures, c.state-state.ensures) at c.in_ok-place-in-Leads.ensures.placed in
+    rw c.next_in.ensures.unchanged
+    (added-found l c.args.self.now.table c.add.new.self c.args.number c.args.core.0 c.args.limits.states c.args.limits.longest
+    c.in-Leads.n c.in-Leads.after c.in-Leads.changes c.in_ok-place-in-Leads.place c.requires.found c.requires.number c.requires.core
+    next placed)
+
+pub returns-in_ok-place-in-Leads-clause-followed : goal.returns-in_ok-place-in-Leads-clause-followed
+returns-in_ok-place-in-Leads-clause-followed c = λ room endless.
+    let l = c.args.self.now.executor in
+    let next = rw (c.in-Leads.is, c.state-state.ensures) at c.in_ok-next.ensures.next in
+    let placed = rw (c.in_ok-left-in-Leads.ensures, c.state-state.ensures) at c.in_ok-place-in-Leads.ensures.placed in
+    rw c.next_in.ensures.unchanged
+    (added-followed l c.args.self.now.table c.add.new.self c.args.number c.args.core.0 c.args.limits.states c.args.limits.longest
+    c.in-Leads.n c.in-Leads.after c.in-Leads.changes c.in_ok-place-in-Leads.place c.requires.found c.requires.number c.requires.core
+    next placed (λ is. false≢true (sym (rw (c.eq.ensures, is) at room))))

@@ -1,0 +1,200 @@
+// The search: breadth first through the states of the plain machine, each transaction of each core from each of them.
+ghost use Rattle.std.specs.Prelude.{◌≡◌, ℕ, ◌<◌, ◌≤◌, ◌/◌, IfOk, OnOk, IsFalse, IsTrue, length, slice_index_or};
+ghost use Rattle.image_load.specs.Contents.{started};
+ghost use Rattle.rv_plain.specs.Cores.{core_of, no_state};
+ghost use Rattle.rv_plain.specs.Machine.{plain_start, start_core};
+ghost use Rattle.run_outcomes.specs.Changes.{AreInside};
+ghost use Rattle.run_outcomes.specs.Next.{IsNext};
+ghost use Rattle.run_outcomes.specs.Explored.{AreFound, AreAllStates, IsFollowedAt, IsGrown, state_at};
+ghost use Rattle.run_outcomes.specs.States.{core_in};
+
+use crate::next::{Executor, Next};
+use crate::states::{Place, Snapshot, Table, next_state};
+use image_load::Loaded;
+use rv_code::start_state;
+use rv_plain::CoreState;
+use std::alloc::Global;
+use tcc_base::{CoreEnd, CoreId, List, NoMemory};
+
+/// How far a search goes.
+#[derive(Clone, Copy, Debug, PartialEq, Eq)]
+pub struct Limits {
+    /// The most states.
+    pub states: usize,
+    /// The most instructions of a transaction.
+    pub longest: u32,
+}
+
+/// What a search has found so far.
+#[derive(Debug, Drop)]
+struct Search {
+    alloc: Global,
+    executor: Executor,
+    table: Table,
+    endless: u64,
+}
+
+/// The states that a search has found.
+#[derive(Debug, Drop)]
+pub struct Exploration {
+    executor: Executor,
+    table: Table,
+    done: bool,
+}
+
+fn first_core(alloc: Global, cores: u8, core: u8, entry: u32) -> CoreState
+    ensures { core_of result ≡ start_core cores core entry }
+{
+    CoreState {
+        state: start_state(cores, core, entry),
+        ended: CoreEnd::Run,
+        console: List::new(alloc),
+    }
+}
+
+/// Each core at its entry.
+fn first_cores(alloc: Global, loaded: &Loaded) -> Result<List<CoreState>, NoMemory>
+    ensures length { IfOk result (λ cores. length cores ≡ loaded.now.settings.cores) }
+    ensures each { IfOk result (λ cores. (k : ℕ) → k < loaded.now.settings.cores
+        → core_of (slice_index_or cores k no_state) ≡ start_core loaded.now.settings.cores k ((started loaded.now).entry k)) }
+{
+    let count = loaded.config().cores();
+    let mut cores = List::new(alloc);
+    for core in 0..count {
+        cores.push(first_core(alloc, count, core, loaded.entry(CoreId(core))))?;
+    }
+    Ok(cores)
+}
+
+/// The next transaction of a core of a state.
+fn next_in(
+    executor: &mut Executor,
+    state: &Snapshot,
+    core: CoreId,
+    longest: u32,
+) -> Result<Next, NoMemory>
+    requires core { core.0 < length state.now.cores }
+    requires inside { AreInside (executor.old.settings.ram / 4) state.now.changes }
+    ensures next { IfOk result (IsNext executor.old (core_in state.now core.0) state.now.changes longest) }
+    ensures unchanged { executor.new ≡ executor.old }
+{
+    executor.next(
+        &state.cores.items[core.0 as usize],
+        &state.changes.items,
+        longest,
+    )
+}
+
+impl Search {
+    /// The search before its first transaction.
+    fn new(alloc: Global, loaded: &Loaded) -> Result<Search, NoMemory>
+        ensures loaded { IfOk result (λ s. s.executor ≡ loaded.now) }
+        ensures found { IfOk result (λ s. AreFound s.executor s.table) }
+        ensures one { IfOk result (λ s. length s.table ≡ 1) }
+    {
+        let executor = Executor::new(alloc, loaded)?;
+        let cores = first_cores(alloc, loaded)?;
+        let mut table = Table::new(alloc);
+        table.add_first(Snapshot {
+            cores,
+            changes: List::new(alloc),
+        })?;
+        Ok(Search {
+            alloc,
+            executor,
+            table,
+            endless: 0,
+        })
+    }
+
+    /// Adds the state after the next transaction of a core of a state; true where there may be no further state.
+    fn reach(&mut self, number: usize, core: CoreId, limits: Limits) -> Result<bool, NoMemory>
+        requires found { AreFound self.old.executor self.old.table }
+        requires number { number < length self.old.table }
+        requires core { core.0 < self.old.executor.settings.cores }
+        ensures found { OnOk result (AreFound self.new.executor self.new.table) }
+        ensures loaded { self.new.executor ≡ self.old.executor }
+        ensures grown { OnOk result (IsGrown self.old.table self.new.table) }
+        ensures few { OnOk result (length self.old.table ≤ limits.states → length self.new.table ≤ limits.states) }
+        ensures followed { IfOk result (λ full. IsFalse full → self.new.endless ≡ 0
+            → IsFollowedAt self.new.executor self.new.table number core.0) }
+        ensures endless { self.old.endless ≤ self.new.endless }
+    {
+        let state = self.table.state(number);
+        let next = next_in(&mut self.executor, state, core, limits.longest)?;
+        match next {
+            Next::Stopped => Ok(false),
+            Next::Endless => {
+                self.endless = self.endless.saturating_add(1);
+                Ok(false)
+            }
+            Next::Leads {
+                core: after,
+                changes,
+                ..
+            } => {
+                let left = next_state(self.alloc, state, core, after, changes)?;
+                let place = self.table.add(left, limits.states)?;
+                Ok(place == Place::Full)
+            }
+        }
+    }
+
+    /// Adds the states after the next transactions of all cores of a state; true where there may be no further state.
+    fn expand(&mut self, number: usize, limits: Limits) -> Result<bool, NoMemory>
+        requires found { AreFound self.old.executor self.old.table }
+        requires number { number < length self.old.table }
+        ensures found { OnOk result (AreFound self.new.executor self.new.table) }
+        ensures loaded { self.new.executor ≡ self.old.executor }
+        ensures grown { OnOk result (IsGrown self.old.table self.new.table) }
+        ensures few { OnOk result (length self.old.table ≤ limits.states → length self.new.table ≤ limits.states) }
+        ensures followed { IfOk result (λ full. IsFalse full → self.new.endless ≡ 0
+            → (core : ℕ) → IsFollowedAt self.new.executor self.new.table number core) }
+        ensures endless { self.old.endless ≤ self.new.endless }
+    {
+        let count = self.executor.cores();
+        for core in 0..count {
+            if self.reach(number, CoreId(core), limits)? {
+                return Ok(true);
+            }
+        }
+        Ok(false)
+    }
+
+    /// Goes through all states, up to the limit; true where the limit ended it.
+    fn go(&mut self, limits: Limits) -> Result<bool, NoMemory>
+        requires found { AreFound self.old.executor self.old.table }
+        requires few { length self.old.table ≤ limits.states }
+        ensures found { OnOk result (AreFound self.new.executor self.new.table) }
+        ensures loaded { self.new.executor ≡ self.old.executor }
+        ensures few { OnOk result (length self.new.table ≤ limits.states) }
+        ensures all { IfOk result (λ full. IsFalse full → self.new.endless ≡ 0 → AreAllStates self.new.executor self.new.table) }
+    {
+        let mut number = 0;
+        while number < self.table.len() {
+            if self.expand(number, limits)? {
+                return Ok(true);
+            }
+            number += 1;
+        }
+        Ok(false)
+    }
+}
+
+/// Executes the next transaction of each core from each state that it finds, breadth first from the program's start, until there is no
+/// new state or would be one more than `limits.states`. A transaction of more than `limits.longest` instructions is left out.
+pub fn explore(alloc: Global, loaded: &Loaded, limits: Limits) -> Result<Exploration, NoMemory>
+    requires { 1 ≤ limits.states }
+    ensures loaded { IfOk result (λ e. e.executor ≡ loaded.now) }
+    ensures found { IfOk result (λ e. AreFound e.executor e.table) }
+    ensures all { IfOk result (λ e. IsTrue e.done → AreAllStates e.executor e.table) }
+{
+    let mut search = Search::new(alloc, loaded)?;
+    let full = search.go(limits)?;
+    let done = !full && search.endless == 0;
+    Ok(Exploration {
+        executor: search.executor,
+        table: search.table,
+        done,
+    })
+}
