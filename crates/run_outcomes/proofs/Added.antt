@@ -1,5 +1,5 @@
 -- What becomes of the states that were found when one more is added.
-use Rattle.std.proofs.Common.{ℕ, ◌≡◌, ◌+◌, ◌<◌, ◌≤◌, ◌/◌, List, [], ◌∷◌, ◌++◌, Some, All, Contains, map, refl, sym, ◌∙◌, ap, subst, length, length-set, slice_set, slice_index_or, arith, inl, inr}
+use Rattle.std.proofs.Common.{ℕ, ◌≡◌, ◌+◌, ◌<◌, ◌≤◌, ◌/◌, List, [], ◌∷◌, ◌++◌, Some, All, Contains, map, refl, sym, ◌∙◌, ap, subst, length, length-append, length-set, slice_set, slice_index_or, arith, inl, inr}
 use Rattle.std.proofs.lemmas.Grind.{common_steps}
 use Rattle.std.proofs.lemmas.List.Elements.{All-push, All-nil, All-cons, All-get_or, Contains-push}
 use Rattle.std.proofs.lemmas.Bool.{cases_lt}
@@ -7,10 +7,11 @@ use Rattle.image_load.specs.Contents.{Contents, started}
 use Rattle.run_outcomes.proofs.Once.{followed-by-one}
 use Rattle.run_outcomes.proofs.Reach.{leads-transaction, reached-next, contains-map, state-kept}
 use Rattle.run_outcomes.specs.Changes.{changed_ram, value_in, AreInside}
-use Rattle.run_outcomes.specs.Explored.{AreFound, IsFollowedAt, IsReachedState, machines, state_at, no_snapshot}
+use Rattle.run_outcomes.specs.Explored.{AreFound, AreLed, IsWay, IsNoted, way_at, IsFollowedAt, IsReachedState, machines, state_at, no_snapshot}
 use Rattle.run_outcomes.specs.Next.{IsNext}
 use Rattle.run_outcomes.specs.States.{machine_of, core_in, after_core, IsPlaced}
 use Rattle.run_outcomes.specs.declared.next.Next.TheVariants.{Leads}
+use Rattle.run_outcomes.specs.declared.search.Way.{Way}
 use Rattle.run_outcomes.specs.declared.states.Place.{Place}
 use Rattle.run_outcomes.specs.declared.states.Place.TheVariants.{Known, New, Full}
 use Rattle.run_outcomes.specs.declared.states.Snapshot.{Snapshot}
@@ -100,3 +101,64 @@ first-found l cores states len each is =
       sized = All-cons (λ x. length x.cores ≡ l.settings.cores) s [] len (All-nil (λ x. length x.cores ≡ l.settings.cores));
       reached = All-cons (IsReachedState l) s [] ([], machine-started l cores len each) (All-nil (IsReachedState l));
     })
+
+-- the way to a state stays as the lists grow
+way-kept : (l : Contents) (old more : List Snapshot) (w w' : Way) (k : ℕ) → k < length old → w' ≡ w → IsWay l old w k
+    → IsWay l (old ++ more) w' k
+way-kept l old more w w' k lt e h =
+    let from : w.from < length old = omega (arith, h.before) in
+    subst (λ x. IsWay l (old ++ more) x k) (sym e) (record {
+      before = h.before;
+      leads = rw (state-kept old more k lt, state-kept old more w.from from) h.leads;
+    })
+
+pub added-led : (l : Contents) (old new : List Snapshot) (ways noted : List Way) (k c limit longest n : ℕ) (after : CoreState)
+    (left : List (ℕ × ℕ)) (place : Place) → AreFound l old → AreLed l old ways → k < length old → c < l.settings.cores
+    → IsNext l (core_in (state_at old k) c) (state_at old k).changes longest (Leads n after left)
+    → IsPlaced old new (after_core (state_at old k) c after left) limit place
+    → IsNoted ways noted place (record { from = k; core = record { 0 = c }; n = n }) → AreLed l new noted
+added-led l old new ways noted k c limit longest n after left Known found led lt core next placed is =
+    rw (placed.0, is) led
+added-led l old new ways noted k c limit longest n after left Full found led lt core next placed is =
+    rw (placed.0, is) led
+added-led l old new ways noted k c limit longest n after left New found led lt core next placed is =
+    let s = state_at old k in
+    let s' = after_core s c after left in
+    let way : Way = record { from = k; core = record { 0 = c }; n = n } in
+    let inside : c < length s.cores = rw (sized-at l old k found lt) core in
+    rw (placed.0, is) (record {
+      counted = length-append ways (way ∷ []) ∙ ap (λ j. j + 1) led.counted ∙ sym (length-append old (s' ∷ []));
+      led = λ j positive below.
+          elim (cases_lt j (length old)) [
+            | inl early ↦
+                let there : j < length ways = rw led.counted early in
+                way-kept l old (s' ∷ []) (way_at ways j) (way_at (ways ++ way ∷ []) j) j early (way-stays ways way j there)
+                (led.led j positive early)
+            | inr late ↦
+                let at : j ≡ length old = omega (arith, length-append old (s' ∷ []), below) in
+                let last : way_at (ways ++ way ∷ []) j ≡ way = way-last ways way j (at ∙ sym led.counted) in
+                rw (last, at) (record {
+                  before = lt;
+                  leads = rw (
+                    state-kept old (s' ∷ []) k lt,
+                    state-last old s',
+                    leads-transaction l s c n after left inside next.2,
+                  ) refl;
+                })
+          ];
+    })
+  where
+    way-stays : (ws : List Way) (w : Way) (j : ℕ) → j < length ws → way_at (ws ++ w ∷ []) j ≡ way_at ws j
+    way-stays ws w j lt' = grind (arith, common_steps)
+
+    way-last : (ws : List Way) (w : Way) (j : ℕ) → j ≡ length ws → way_at (ws ++ w ∷ []) j ≡ w
+    way-last ws w j e = grind (arith, common_steps)
+
+    state-last : (ss : List Snapshot) (s' : Snapshot) → state_at (ss ++ s' ∷ []) (length ss) ≡ s'
+    state-last ss s' = grind (arith, common_steps)
+
+pub first-led : (l : Contents) (states : List Snapshot) (ways : List Way) → length ways ≡ 1 → length states ≡ 1 → AreLed l states ways
+first-led l states ways w s = record {
+  counted = w ∙ sym s;
+  led = λ k positive below. absurd (omega (arith, positive, below, s));
+}

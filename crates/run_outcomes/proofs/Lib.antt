@@ -4,6 +4,7 @@ pub mod Alls
 pub mod Elsewhere
 pub mod Leads
 pub mod Once
+pub mod Paths
 pub mod Reach
 pub mod Serially
 pub mod Told

@@ -1,13 +1,16 @@
 -- What a search through the states of a loaded program knows.
-use Rattle.std.specs.Prelude.{ℕ, ◌≡◌, ◌<◌, ◌/◌, List, [], ◌++◌, All, length, map, slice_index_or}
+use Rattle.std.specs.Prelude.{ℕ, ◌≡◌, ◌<◌, ◌/◌, List, [], ◌∷◌, ◌++◌, All, IsSomeAnd, length, map, slice_index_or}
 use Rattle.image_load.specs.Contents.{Contents, started}
 use Rattle.run_outcomes.specs.Changes.{AreInside}
 use Rattle.run_outcomes.specs.Serially.{IsFollowed, IsReached, HasEveryEnd}
 use Rattle.run_outcomes.specs.States.{machine_of}
+use Rattle.run_outcomes.specs.declared.search.Way.{Way}
+use Rattle.run_outcomes.specs.declared.states.Place.{Place}
+use Rattle.run_outcomes.specs.declared.states.Place.TheVariants.{Known, New, Full}
 use Rattle.run_outcomes.specs.declared.states.Snapshot.{Snapshot}
 use Rattle.rv_code.specs.Machine.{program}
 use Rattle.rv_plain.specs.Machine.{plain_start}
-use Rattle.tcc_program.specs.Plain.{Plain}
+use Rattle.tcc_program.specs.Plain.{Plain, transaction}
 
 abbrev pub no_snapshot : Snapshot
 no_snapshot = record { cores = []; changes = [] }
@@ -44,3 +47,27 @@ pub record AreFound (l : Contents) (states : List Snapshot) : Type 0 where
 -- the states are those and further ones
 abbrev pub IsGrown : (old new : List Snapshot) → Type 0
 IsGrown old new = (more : List Snapshot) × (new ≡ old ++ more)
+
+abbrev pub no_way : Way
+no_way = record { from = 0; core = record { 0 = 0 }; n = 0 }
+
+-- by which transaction the state of that number was found
+abbrev pub way_at : List Way → ℕ → Way
+way_at ways k = slice_index_or ways k no_way
+
+-- the transaction leads to the state of that number, from one before it
+pub record IsWay (l : Contents) (states : List Snapshot) (way : Way) (k : ℕ) : Type 0 where
+  pub before : way.from < k
+  pub leads : IsSomeAnd (transaction l.settings.base (program (started l)) (machine_of l (state_at states way.from)) way.core.0 way.n)
+      (λ r. machine_of l (state_at states k) ≡ r.0)
+
+-- each state but the first was found by its transaction
+pub record AreLed (l : Contents) (states : List Snapshot) (ways : List Way) : Type 0 where
+  pub counted : length ways ≡ length states
+  pub led : (k : ℕ) → 0 < k → k < length states → IsWay l states (way_at ways k) k
+
+-- the way to a state is noted where it is new
+abbrev pub IsNoted : (old new : List Way) → Place → Way → Type 0
+IsNoted old new Known way = new ≡ old
+IsNoted old new New way = new ≡ old ++ way ∷ []
+IsNoted old new Full way = new ≡ old

@@ -5,3 +5,4 @@ pub mod Left
 pub mod Next
 pub mod Serially
 pub mod States
+pub mod Ways

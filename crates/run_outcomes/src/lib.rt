@@ -2,10 +2,12 @@
 #![tactic(auto)]
 
 mod changes;
+mod exploration;
 mod next;
 mod search;
 mod states;
 
+pub use exploration::{Exploration, explore};
 pub use next::{Executor, Next};
-pub use search::{Exploration, Limits, explore};
+pub use search::Limits;
 pub use states::Snapshot;

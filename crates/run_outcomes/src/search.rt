@@ -1,11 +1,11 @@
 // The search: breadth first through the states of the plain machine, each transaction of each core from each of them.
-ghost use Rattle.std.specs.Prelude.{◌≡◌, ℕ, ◌<◌, ◌≤◌, ◌/◌, IfOk, OnOk, IsFalse, IsTrue, length, slice_index_or};
+ghost use Rattle.std.specs.Prelude.{◌≡◌, ℕ, ◌<◌, ◌≤◌, ◌/◌, IfOk, OnOk, IsFalse, length, slice_index_or};
 ghost use Rattle.image_load.specs.Contents.{started};
 ghost use Rattle.rv_plain.specs.Cores.{core_of, no_state};
 ghost use Rattle.rv_plain.specs.Machine.{plain_start, start_core};
 ghost use Rattle.run_outcomes.specs.Changes.{AreInside};
 ghost use Rattle.run_outcomes.specs.Next.{IsNext};
-ghost use Rattle.run_outcomes.specs.Explored.{AreFound, AreAllStates, IsFollowedAt, IsGrown, state_at};
+ghost use Rattle.run_outcomes.specs.Explored.{AreFound, AreLed, AreAllStates, IsFollowedAt, IsGrown, IsNoted};
 ghost use Rattle.run_outcomes.specs.States.{core_in};
 
 use crate::next::{Executor, Next};
@@ -25,21 +25,22 @@ pub struct Limits {
     pub longest: u32,
 }
 
-/// What a search has found so far.
-#[derive(Debug, Drop)]
-struct Search {
-    alloc: Global,
-    executor: Executor,
-    table: Table,
-    endless: u64,
+/// The transaction by which a state was found: from which state, of which core, and of how many instructions.
+#[derive(Clone, Copy, Debug, PartialEq, Eq)]
+pub(crate) struct Way {
+    pub(crate) from: usize,
+    pub(crate) core: CoreId,
+    pub(crate) n: u32,
 }
 
-/// The states that a search has found.
+/// What a search has found so far.
 #[derive(Debug, Drop)]
-pub struct Exploration {
-    executor: Executor,
-    table: Table,
-    done: bool,
+pub(crate) struct Search {
+    pub(crate) alloc: Global,
+    pub(crate) executor: Executor,
+    pub(crate) table: Table,
+    pub(crate) ways: List<Way>,
+    pub(crate) endless: u64,
 }
 
 fn first_core(alloc: Global, cores: u8, core: u8, entry: u32) -> CoreState
@@ -85,11 +86,22 @@ fn next_in(
     )
 }
 
+/// Notes the way to a state where it is a new one.
+fn note(ways: &mut List<Way>, place: Place, way: Way) -> Result<(), NoMemory>
+    ensures { OnOk result (IsNoted ways.old ways.new place way) }
+{
+    match place {
+        Place::New => ways.push(way),
+        Place::Known | Place::Full => Ok(()),
+    }
+}
+
 impl Search {
     /// The search before its first transaction.
-    fn new(alloc: Global, loaded: &Loaded) -> Result<Search, NoMemory>
+    pub(crate) fn new(alloc: Global, loaded: &Loaded) -> Result<Search, NoMemory>
         ensures loaded { IfOk result (λ s. s.executor ≡ loaded.now) }
         ensures found { IfOk result (λ s. AreFound s.executor s.table) }
+        ensures led { IfOk result (λ s. AreLed s.executor s.table s.ways) }
         ensures one { IfOk result (λ s. length s.table ≡ 1) }
     {
         let executor = Executor::new(alloc, loaded)?;
@@ -99,10 +111,17 @@ impl Search {
             cores,
             changes: List::new(alloc),
         })?;
+        let mut ways = List::new(alloc);
+        ways.push(Way {
+            from: 0,
+            core: CoreId(0),
+            n: 0,
+        })?;
         Ok(Search {
             alloc,
             executor,
             table,
+            ways,
             endless: 0,
         })
     }
@@ -110,9 +129,11 @@ impl Search {
     /// Adds the state after the next transaction of a core of a state; true where there may be no further state.
     fn reach(&mut self, number: usize, core: CoreId, limits: Limits) -> Result<bool, NoMemory>
         requires found { AreFound self.old.executor self.old.table }
+        requires led { AreLed self.old.executor self.old.table self.old.ways }
         requires number { number < length self.old.table }
         requires core { core.0 < self.old.executor.settings.cores }
         ensures found { OnOk result (AreFound self.new.executor self.new.table) }
+        ensures led { OnOk result (AreLed self.new.executor self.new.table self.new.ways) }
         ensures loaded { self.new.executor ≡ self.old.executor }
         ensures grown { OnOk result (IsGrown self.old.table self.new.table) }
         ensures few { OnOk result (length self.old.table ≤ limits.states → length self.new.table ≤ limits.states) }
@@ -129,12 +150,18 @@ impl Search {
                 Ok(false)
             }
             Next::Leads {
+                n,
                 core: after,
                 changes,
-                ..
             } => {
                 let left = next_state(self.alloc, state, core, after, changes)?;
                 let place = self.table.add(left, limits.states)?;
+                let way = Way {
+                    from: number,
+                    core,
+                    n,
+                };
+                note(&mut self.ways, place, way)?;
                 Ok(place == Place::Full)
             }
         }
@@ -143,8 +170,10 @@ impl Search {
     /// Adds the states after the next transactions of all cores of a state; true where there may be no further state.
     fn expand(&mut self, number: usize, limits: Limits) -> Result<bool, NoMemory>
         requires found { AreFound self.old.executor self.old.table }
+        requires led { AreLed self.old.executor self.old.table self.old.ways }
         requires number { number < length self.old.table }
         ensures found { OnOk result (AreFound self.new.executor self.new.table) }
+        ensures led { OnOk result (AreLed self.new.executor self.new.table self.new.ways) }
         ensures loaded { self.new.executor ≡ self.old.executor }
         ensures grown { OnOk result (IsGrown self.old.table self.new.table) }
         ensures few { OnOk result (length self.old.table ≤ limits.states → length self.new.table ≤ limits.states) }
@@ -162,10 +191,12 @@ impl Search {
     }
 
     /// Goes through all states, up to the limit; true where the limit ended it.
-    fn go(&mut self, limits: Limits) -> Result<bool, NoMemory>
+    pub(crate) fn go(&mut self, limits: Limits) -> Result<bool, NoMemory>
         requires found { AreFound self.old.executor self.old.table }
+        requires led { AreLed self.old.executor self.old.table self.old.ways }
         requires few { length self.old.table ≤ limits.states }
         ensures found { OnOk result (AreFound self.new.executor self.new.table) }
+        ensures led { OnOk result (AreLed self.new.executor self.new.table self.new.ways) }
         ensures loaded { self.new.executor ≡ self.old.executor }
         ensures few { OnOk result (length self.new.table ≤ limits.states) }
         ensures all { IfOk result (λ full. IsFalse full → self.new.endless ≡ 0 → AreAllStates self.new.executor self.new.table) }
@@ -179,22 +210,4 @@ impl Search {
         }
         Ok(false)
     }
-}
-
-/// Executes the next transaction of each core from each state that it finds, breadth first from the program's start, until there is no
-/// new state or would be one more than `limits.states`. A transaction of more than `limits.longest` instructions is left out.
-pub fn explore(alloc: Global, loaded: &Loaded, limits: Limits) -> Result<Exploration, NoMemory>
-    requires { 1 ≤ limits.states }
-    ensures loaded { IfOk result (λ e. e.executor ≡ loaded.now) }
-    ensures found { IfOk result (λ e. AreFound e.executor e.table) }
-    ensures all { IfOk result (λ e. IsTrue e.done → AreAllStates e.executor e.table) }
-{
-    let mut search = Search::new(alloc, loaded)?;
-    let full = search.go(limits)?;
-    let done = !full && search.endless == 0;
-    Ok(Exploration {
-        executor: search.executor,
-        table: search.table,
-        done,
-    })
 }

@@ -23,6 +23,7 @@ loop-core-preserved c =
           followed-step new.executor old.table new.table c.args.number c.loop-core.core e.grown below
           (rw e.loaded (inv.4 before)) (e.followed c.if-branch.false none),
       omega (arith, e.endless, inv.5),
+      e.led,
     )
 
 pub returns-clause-followed : goal.returns-clause-followed

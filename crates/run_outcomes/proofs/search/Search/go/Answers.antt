@@ -21,6 +21,7 @@ loop-number-preserved c =
           expanded-step new.executor old.table new.table n e.grown below
           (rw e.loaded (c.loop-number.invariant.4 before))
           (e.followed c.if-branch.false none),
+      e.led,
     )
 
 pub returns-clause-all : goal.returns-clause-all

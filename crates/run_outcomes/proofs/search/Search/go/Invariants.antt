@@ -1,5 +1,5 @@
 use Rattle.std.proofs.Common.{◌≡◌, ℕ, ◌<◌, ◌≤◌, ◌-◌, length}
-use Rattle.run_outcomes.specs.Explored.{AreFound, IsFollowedAt}
+use Rattle.run_outcomes.specs.Explored.{AreFound, AreLed, IsFollowedAt}
 use Rattle.run_outcomes.proofs.search.Search.go.Given as goal
 
 abbrev pub invariant-loop-number : goal.invariant-loop-number
@@ -9,6 +9,7 @@ invariant-loop-number l =
     × (length l.self.table ≤ l.limits.states)
     × (l.number ≤ length l.self.table)
     × (l.self.endless ≡ 0 → (k : ℕ) → k < l.number → (core : ℕ) → IsFollowedAt l.self.executor l.self.table k core)
+    × AreLed l.self.executor l.self.table l.self.ways
 
 abbrev pub decreases-loop-number : goal.decreases-loop-number
 decreases-loop-number l = l.limits.states - l.number

@@ -1,6 +1,6 @@
 use Rattle.std.proofs.Common.{◌≡◌, ◌∙◌, ap, sym, subst, false, true, IsFalse}
 use Rattle.std.proofs.lemmas.Bool.{false≢true}
-use Rattle.run_outcomes.proofs.Added.{added-found, added-followed}
+use Rattle.run_outcomes.proofs.Added.{added-found, added-followed, added-led}
 use Rattle.run_outcomes.proofs.Reach.{followed-stopped}
 use Rattle.run_outcomes.specs.Explored.{AreFound, IsFollowedAt, machines, state_at}
 use Rattle.run_outcomes.specs.Next.{IsNext}
@@ -15,8 +15,8 @@ returns-in-Stopped-clause-followed c = λ full endless.
     rw c.next_in.ensures.unchanged
     (followed-stopped c.args.self.now.executor s c.args.core.0 (machines c.args.self.now.executor c.args.self.now.table) next)
 
-pub returns-in_ok-place-in-Leads-clause-found : goal.returns-in_ok-place-in-Leads-clause-found
-returns-in_ok-place-in-Leads-clause-found c =
+pub returns-in_ok-note-in-Leads-clause-found : goal.returns-in_ok-note-in-Leads-clause-found
+returns-in_ok-note-in-Leads-clause-found c =
     let l = c.args.self.now.executor in
     let next = rw (c.in-Leads.is, c.state-state.ensures) at c.in_ok-next.ensures.next in
     let placed = rw (c.in_ok-left-in-Leads.ensures, c.state-state.ensures) at c.in_ok-place-in-Leads.ensures.placed in
@@ -25,8 +25,8 @@ returns-in_ok-place-in-Leads-clause-found c =
     c.in-Leads.n c.in-Leads.after c.in-Leads.changes c.in_ok-place-in-Leads.place c.requires.found c.requires.number c.requires.core
     next placed)
 
-pub returns-in_ok-place-in-Leads-clause-followed : goal.returns-in_ok-place-in-Leads-clause-followed
-returns-in_ok-place-in-Leads-clause-followed c = λ room endless.
+pub returns-in_ok-note-in-Leads-clause-followed : goal.returns-in_ok-note-in-Leads-clause-followed
+returns-in_ok-note-in-Leads-clause-followed c = λ room endless.
     let l = c.args.self.now.executor in
     let next = rw (c.in-Leads.is, c.state-state.ensures) at c.in_ok-next.ensures.next in
     let placed = rw (c.in_ok-left-in-Leads.ensures, c.state-state.ensures) at c.in_ok-place-in-Leads.ensures.placed in
@@ -34,3 +34,13 @@ returns-in_ok-place-in-Leads-clause-followed c = λ room endless.
     (added-followed l c.args.self.now.table c.add.new.self c.args.number c.args.core.0 c.args.limits.states c.args.limits.longest
     c.in-Leads.n c.in-Leads.after c.in-Leads.changes c.in_ok-place-in-Leads.place c.requires.found c.requires.number c.requires.core
     next placed (λ is. false≢true (sym (rw (c.eq.ensures, is) at room))))
+
+pub returns-in_ok-note-in-Leads-clause-led : goal.returns-in_ok-note-in-Leads-clause-led
+returns-in_ok-note-in-Leads-clause-led c =
+    let l = c.args.self.now.executor in
+    let next = rw (c.in-Leads.is, c.state-state.ensures) at c.in_ok-next.ensures.next in
+    let placed = rw (c.in_ok-left-in-Leads.ensures, c.state-state.ensures) at c.in_ok-place-in-Leads.ensures.placed in
+    rw c.next_in.ensures.unchanged
+    (added-led l c.args.self.now.table c.add.new.self c.args.self.now.ways c.note.new.ways c.args.number c.args.core.0
+    c.args.limits.states c.args.limits.longest c.in-Leads.n c.in-Leads.after c.in-Leads.changes c.in_ok-place-in-Leads.place
+    c.requires.found c.requires.led c.requires.number c.requires.core next placed c.in_ok-note-in-Leads.ensures)

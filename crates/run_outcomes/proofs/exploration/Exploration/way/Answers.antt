@@ -1,0 +1,16 @@
+use Rattle.std.proofs.Common.{◌≡◌, ◌∙◌, ap, subst}
+use Rattle.run_outcomes.proofs.Paths.{way-if}
+use Rattle.run_outcomes.specs.Explored.{AreFound, AreLed}
+use Rattle.run_outcomes.specs.Ways.{Explored, LeadFrom}
+use Rattle.run_outcomes.proofs.exploration.Exploration.way.Goals as goal
+
+pub returns : goal.returns
+returns c =
+    let e = c.args.self.now in
+    let back : c.deref.result.now ≡ c.in_ok-ways.ways = c.deref.ensures.value ∙ c.ways.view_is in
+    let ways = ap (λ (x : Explored). x.ways) c.self.view_is in
+    let lead = subst (λ ws. LeadFrom ws 0 c.args.number c.in_ok-ways.ways) ways c.in_ok-ways.ensures in
+    let orders = rw back at c.orders_of.ensures in
+    let known : AreFound e.loaded e.states × AreLed e.loaded e.states e.ways =
+    subst (λ (x : Explored). AreFound x.loaded x.states × AreLed x.loaded x.states x.ways) c.self.view_is c.self.invariant in
+    way-if e.loaded e.states e.ways c.in_ok-ways.ways c.args.number c.orders_of.result known c.requires lead orders

@@ -1,0 +1,26 @@
+-- The way that leads to a state.
+use Rattle.std.specs.Prelude.{ℕ, ◌+◌, ◌<◌, ◌≡◌, Bool, List, [], ◌∷◌}
+use Rattle.image_load.specs.Contents.{Contents}
+use Rattle.run_outcomes.specs.Explored.{way_at}
+use Rattle.run_outcomes.specs.declared.search.Way.{Way}
+use Rattle.run_outcomes.specs.declared.states.Snapshot.{Snapshot}
+use Rattle.tcc_program.specs.Plain.{Order}
+
+-- what is known of an exploration: the states that were found, in their order, by which transaction each was found, how many
+-- transactions didn't end, and whether all states were found
+pub record Explored : Type 0 where
+  pub loaded : Contents
+  pub states : List Snapshot
+  pub ways : List Way
+  pub endless : ℕ
+  pub done : Bool
+
+-- these transactions, the last one first, lead from the first state to the one of that number
+abbrev pub LeadFrom : (ways : List Way) → (from to : ℕ) → (back : List Way) → Type 0
+LeadFrom ways from to [] = from ≡ to
+LeadFrom ways from to (w ∷ back) = (0 < to) × (w ≡ way_at ways to) × LeadFrom ways from w.from back
+
+-- transactions as orders, under TIDs from this one on
+unfoldable pub orders_from : (tid : ℕ) → List Way → List Order
+orders_from tid [] = []
+orders_from tid (w ∷ ways) = record { tid = tid; core = w.core.0; n = w.n } ∷ orders_from (tid + 1) ways

@@ -1,0 +1,152 @@
+// The states that a search has found, and the transactions that lead to each of them.
+ghost use Rattle.std.specs.Prelude.{◌≡◌, ℕ, ◌<◌, ◌≤◌, IfOk, IsTrue, IsSomeAnd, length, map, reverse};
+ghost use Rattle.image_load.specs.Contents.{started};
+ghost use Rattle.rv_code.specs.Machine.{program};
+ghost use Rattle.rv_plain.specs.Machine.{plain_start};
+ghost use Rattle.rv_plain.specs.PlainState.{order_of};
+ghost use Rattle.tcc_program.specs.Plain.{serial};
+ghost use Rattle.run_outcomes.specs.Explored.{AreFound, AreAllStates, state_at, way_at};
+ghost use Rattle.run_outcomes.specs.Ways.{LeadFrom, orders_from};
+ghost use Rattle.run_outcomes.specs.States.{machine_of};
+
+use crate::next::Executor;
+use crate::search::{Limits, Search, Way};
+use crate::states::{Snapshot, Table};
+use image_load::Loaded;
+use rv_plain::Order;
+use std::alloc::Global;
+use std::marker::Model;
+use tcc_base::{List, NoMemory, Tid};
+
+/// The states that a search has found.
+#[derive(Debug, Drop)]
+pub struct Exploration {
+    alloc: Global,
+    executor: Executor,
+    table: Table,
+    ways: List<Way>,
+    endless: u64,
+    done: bool,
+}
+
+impl Model for Exploration {
+    ghost use Rattle.std.specs.Prelude.{◌≡◌, true};
+    ghost use Rattle.run_outcomes.specs.Explored.{AreFound, AreLed, AreAllStates};
+    ghost use Rattle.run_outcomes.specs.Ways.{Explored};
+
+    ghost Value = { Explored };
+
+    ghost view = { λ e. record { loaded = e.executor; states = e.table; ways = e.ways; endless = e.endless; done = e.done } };
+
+    ghost invariant = { λ e. AreFound e.executor e.table × AreLed e.executor e.table e.ways };
+}
+
+/// Executes the next transaction of each core from each state that it finds, breadth first from the program's start, until there is no
+/// new state or would be one more than `limits.states`. A transaction of more than `limits.longest` instructions is left out.
+///
+/// `done` is true only where each serial execution of the program ends in one of the states that were found; some serial execution
+/// leads to each of them. The time is that of the instructions, and for each transaction of what the state holds.
+pub fn explore(alloc: Global, loaded: &Loaded, limits: Limits) -> Result<Exploration, NoMemory>
+    requires { 1 ≤ limits.states }
+    ensures loaded { IfOk result (λ e. e.loaded ≡ loaded.now) }
+    ensures found { IfOk result (λ e. AreFound e.loaded e.states) }
+    ensures few { IfOk result (λ e. length e.states ≤ limits.states) }
+    ensures all { IfOk result (λ e. IsTrue e.done → AreAllStates e.loaded e.states) }
+{
+    let mut search = Search::new(alloc, loaded)?;
+    let full = search.go(limits)?;
+    let done = !full && search.endless == 0;
+    Ok(Exploration {
+        alloc,
+        executor: search.executor,
+        table: search.table,
+        ways: search.ways,
+        endless: search.endless,
+        done,
+    })
+}
+
+impl Exploration {
+    /// Whether all states were found. Constant time.
+    pub fn done(&self) -> bool
+        ensures { result ≡ self.now.done }
+    {
+        self.done
+    }
+
+    /// The number of states. Constant time.
+    pub fn len(&self) -> usize
+        ensures { result ≡ length self.now.states }
+    {
+        self.table.len()
+    }
+
+    /// The state of that number, from 0, in the order in which they were found. Constant time.
+    pub fn state(&self, number: usize) -> &Snapshot
+        requires { number < length self.now.states }
+        ensures { result.now ≡ state_at self.now.states number }
+    {
+        self.table.state(number)
+    }
+
+    /// Of how many pairs of a state and a core the next transaction didn't end. Constant time.
+    pub fn endless(&self) -> u64
+        ensures { result ≡ self.now.endless }
+    {
+        self.endless
+    }
+
+    /// The orders, under the TIDs 1, 2, 3 and so on, whose serial execution leads from the program's start to the state of that number.
+    /// Takes time in their number.
+    pub fn way(&self, number: usize) -> Result<List<Order>, NoMemory>
+        requires { number < length self.now.states }
+        ensures { IfOk result (λ orders. IsSomeAnd (serial self.now.loaded.settings.base (program (started self.now.loaded)) 0
+            (map order_of orders) (plain_start (started self.now.loaded)))
+            (λ r. machine_of self.now.loaded (state_at self.now.states number) ≡ r.0)) }
+    {
+        let ways = steps_back(self.alloc, &self.ways, number)?;
+        orders_of(self.alloc, &ways.items)
+    }
+}
+
+/// The transaction by which the state of that number was found.
+fn way_to(ways: &List<Way>, number: usize) -> Way
+    requires { number < length ways.now }
+    ensures { result ≡ way_at ways.now number }
+{
+    ways.items[number]
+}
+
+/// The transactions that lead to a state, the last one first.
+fn steps_back(alloc: Global, ways: &List<Way>, number: usize) -> Result<List<Way>, NoMemory>
+    requires inside { number < length ways.now }
+    requires back { (i : ℕ) → 0 < i → i < length ways.now → (way_at ways.now i).from < i }
+    ensures { IfOk result (LeadFrom ways.now 0 number) }
+{
+    let mut back = List::new(alloc);
+    let mut at = number;
+    while at > 0 {
+        let way = way_to(ways, at);
+        back.push(way)?;
+        at = way.from;
+    }
+    Ok(back)
+}
+
+/// These transactions, of which the last comes first, as orders.
+fn orders_of(alloc: Global, back: &[Way]) -> Result<List<Order>, NoMemory>
+    ensures { IfOk result (λ orders. map order_of orders ≡ orders_from 1 (reverse back.now)) }
+{
+    let mut orders = List::new(alloc);
+    let mut k = back.len();
+    while k > 0 {
+        k -= 1;
+        let way = back[k];
+        orders.push(Order {
+            tid: Tid((back.len() - k) as u64),
+            core: way.core,
+            n: way.n,
+        })?;
+    }
+    Ok(orders)
+}
