@@ -7,5 +7,6 @@ pub mod Once
 pub mod Paths
 pub mod Reach
 pub mod Serially
+pub mod Telling
 pub mod Told
 pub mod Untouched

@@ -4,10 +4,12 @@
 mod changes;
 mod exploration;
 mod next;
+mod outcomes;
 mod search;
 mod states;
 
 pub use exploration::{Exploration, explore};
 pub use next::{Executor, Next};
+pub use outcomes::{Results, Tell, tell_results};
 pub use search::Limits;
 pub use states::Snapshot;

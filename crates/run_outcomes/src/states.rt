@@ -85,7 +85,7 @@ fn are_same_cores(a: &[CoreState], b: &[CoreState]) -> bool
     true
 }
 
-fn are_same_changes(a: &[(u32, u32)], b: &[(u32, u32)]) -> bool
+pub(crate) fn are_same_changes(a: &[(u32, u32)], b: &[(u32, u32)]) -> bool
     ensures { IsTrue result → a.now ≡ b.now }
 {
     if a.len() != b.len() {
@@ -99,7 +99,7 @@ fn are_same_changes(a: &[(u32, u32)], b: &[(u32, u32)]) -> bool
     true
 }
 
-fn is_same(a: &Snapshot, b: &Snapshot) -> bool
+pub(crate) fn is_same(a: &Snapshot, b: &Snapshot) -> bool
     ensures { IsTrue result → a.now ≡ b.now }
 {
     are_same_cores(&a.cores.items, &b.cores.items)
