@@ -1,5 +1,5 @@
 -- What becomes of the states that were found when one more is added.
-use Rattle.std.proofs.Common.{ℕ, ◌≡◌, ◌+◌, ◌<◌, ◌≤◌, ◌/◌, List, [], ◌∷◌, ◌++◌, Some, All, Contains, map, refl, sym, ◌∙◌, ap, subst, length, length-append, length-set, slice_set, slice_index_or, arith, inl, inr}
+use Rattle.std.proofs.Common.{ℕ, ◌≡◌, ◌+◌, ◌<◌, ◌/◌, List, [], ◌∷◌, ◌++◌, refl, sym, ◌∙◌, ap, subst, length, length-append, length-set, slice_index_or, arith, inl, inr}
 use Rattle.std.proofs.lemmas.Grind.{common_steps}
 use Rattle.std.proofs.lemmas.List.Elements.{All-push, All-nil, All-cons, All-get_or, Contains-push}
 use Rattle.std.proofs.lemmas.Bool.{cases_lt}

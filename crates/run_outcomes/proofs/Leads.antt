@@ -1,11 +1,11 @@
 -- From an attempt of the code to the core's next transaction.
-use Rattle.std.proofs.Common.{ℕ, ◌≡◌, ◌==◌, ◌+◌, ◌*◌, ◌/◌, ◌≤◌, ◌<◌, Bool, true, false, List, [], ◌∷◌, Option, Some, None, IfSome, IsSomeAnd, Result, Ok, Err, IfOk, All, refl, sym, ◌∙◌, ap, subst, if◌then◌else◌, length, drop, get_or, arith}
+use Rattle.std.proofs.Common.{ℕ, ◌≡◌, ◌+◌, ◌*◌, ◌/◌, ◌≤◌, ◌<◌, List, [], ◌∷◌, Some, None, IfSome, IsSomeAnd, Result, Ok, Err, IfOk, All, refl, sym, ◌∙◌, ap, subst, length, drop, get_or, arith}
 use Rattle.std.proofs.lemmas.Bool.{ne_eqb}
 use Rattle.std.proofs.lemmas.List.{drop_more}
 use Rattle.std.proofs.lemmas.List.Elements.{All-head, All-tail}
 use Rattle.image_load.specs.Contents.{Contents, started}
 use Rattle.rv_code.specs.Machine.{first_ram, program}
-use Rattle.rv_plain.specs.Attempts.{attempt_of, outcome_of}
+use Rattle.rv_plain.specs.Attempts.{attempt_of}
 use Rattle.rv_plain.specs.Buffered.{seen, plain_view, or_else}
 use Rattle.rv_plain.specs.Store.{Store, buffer_of}
 use Rattle.rv_plain.specs.declared.attempt.Attempt.{Attempt as CodeAttempt}

@@ -1,15 +1,14 @@
 -- From a core's next transaction to the states that follow.
-use Rattle.std.proofs.Common.{ℕ, ◌≡◌, ◌==◌, ◌+◌, ◌<◌, ◌≤◌, ◌/◌, Bool, true, false, List, [], ◌∷◌, ◌++◌, Option, Some, None, IfSome, IsSomeAnd, All, Contains, map, refl, sym, ◌∙◌, ap, subst, if◌then◌else◌, length, get_or, slice_set, slice_index_or, nat_lt, append_assoc, arith, inl, inr}
+use Rattle.std.proofs.Common.{ℕ, ◌≡◌, ◌+◌, ◌<◌, ◌≤◌, true, List, [], ◌∷◌, ◌++◌, Option, Some, None, IsSomeAnd, Contains, map, refl, sym, ◌∙◌, ap, subst, length, slice_set, slice_index_or, nat_lt, append_assoc, arith, inl, inr}
 use Rattle.std.proofs.lemmas.Grind.{common_steps}
 use Rattle.std.proofs.lemmas.Bool.{cases_lt}
 use Rattle.std.proofs.lemmas.Bool.Decides.{nat_tests}
 use Rattle.std.proofs.lemmas.List.{map-append, get_or-map, length-map, get_or_past}
-use Rattle.std.proofs.lemmas.List.Elements.{All-push, All-nil, All-cons, All-get_or, All-from_get_or, All-map, Contains-push, Contains-append_left, Contains-get_or, All-contains}
+use Rattle.std.proofs.lemmas.List.Elements.{All-get_or, All-from_get_or, All-map, Contains-get_or}
 use Rattle.image_load.specs.Contents.{Contents, started}
-use Rattle.run_outcomes.proofs.Once.{followed-by-one}
 use Rattle.run_outcomes.proofs.Serially.{followed-more, every-end}
-use Rattle.run_outcomes.specs.Changes.{changed_ram, AreInside}
-use Rattle.run_outcomes.specs.Explored.{AreFound, AreAllStates, IsFollowedAt, IsGrown, IsReachedState, machines, state_at, no_snapshot}
+use Rattle.run_outcomes.specs.Changes.{changed_ram}
+use Rattle.run_outcomes.specs.Explored.{AreFound, AreAllStates, IsFollowedAt, IsGrown, machines, state_at, no_snapshot}
 use Rattle.run_outcomes.specs.Next.{LeadsTo}
 use Rattle.run_outcomes.specs.Serially.{IsFollowed, IsReached}
 use Rattle.run_outcomes.specs.States.{machine_of, core_in, after_core}
@@ -24,7 +23,7 @@ use Rattle.tcc_base.specs.declared.access.CoreEnd.TheVariants.{Run, Halt, Trap}
 use Rattle.tcc_base.specs.declared.access.Commit.{Commit}
 use Rattle.tcc_program.proofs.Lemmas.{serial-snoc}
 use Rattle.tcc_program.specs.Orders.{last_tid}
-use Rattle.tcc_program.specs.Plain.{Plain, PlainCore, Attempt, Order, transaction, closed, begun, steps, close_if, if_runs, end_of, serial}
+use Rattle.tcc_program.specs.Plain.{Plain, PlainCore, Attempt, Order, transaction, closed, begun, steps, close_if, if_runs, serial}
 use Rattle.tcc_program.specs.Program.{Program}
 
 cores-put : (cores : List CoreState) (c : ℕ) (new : CoreState) (to : PlainCore) → core_of new ≡ to → c < length cores

@@ -1,5 +1,5 @@
 -- Where every state's next transactions lead to states of the list, every serial execution does.
-use Rattle.std.proofs.Common.{ℕ, ◌≡◌, List, [], ◌∷◌, ◌++◌, Bool, true, false, Option, Some, None, IfSome, All, Contains, refl, nat_lt, if◌then◌else◌}
+use Rattle.std.proofs.Common.{ℕ, List, [], ◌∷◌, ◌++◌, Bool, true, false, Option, Some, None, IfSome, Contains, nat_lt, if◌then◌else◌}
 use Rattle.std.proofs.lemmas.List.Elements.{All-contains, Contains-append_left}
 use Rattle.run_outcomes.specs.Serially.{IsFollowed, AreFollowed, HasEveryEnd}
 use Rattle.tcc_base.specs.declared.access.Commit.{Commit}

@@ -1,10 +1,9 @@
 -- Results that are told stay told as more are found.
-use Rattle.std.proofs.Common.{ℕ, ◌≡◌, ◌+◌, ◌<◌, List, [], ◌∷◌, ◌++◌, length, slice_index_or, length-append, arith, subst, sym}
+use Rattle.std.proofs.Common.{ℕ, ◌≡◌, ◌<◌, List, ◌++◌, length, slice_index_or, length-append, arith, subst, sym}
 use Rattle.std.proofs.lemmas.Grind.{common_steps}
 use Rattle.run_outcomes.specs.Explored.{state_at}
-use Rattle.run_outcomes.specs.Results.{AreAlike, IsTold, IsEnd}
+use Rattle.run_outcomes.specs.Results.{AreAlike, IsTold}
 use Rattle.run_outcomes.specs.declared.outcomes.Tell.{Tell}
-use Rattle.run_outcomes.specs.declared.outcomes.Tell.TheVariants.{Consoles, Memory, Everything}
 use Rattle.run_outcomes.specs.declared.states.Snapshot.{Snapshot}
 
 pub told-grown : (tell : Tell) (states : List Snapshot) (old more : List ℕ) (k : ℕ) → IsTold tell states old k

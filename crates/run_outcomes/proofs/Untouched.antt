@@ -1,5 +1,5 @@
 -- The words that changes and stores touch, and what is told of all others.
-use Rattle.std.proofs.Common.{ℕ, ◌≡◌, ◌<◌, ◌*◌, ◌++◌, true, List, map, All, Contains, Result, Ok, Err, IfOk, inl, inr, arith}
+use Rattle.std.proofs.Common.{ℕ, ◌≡◌, ◌<◌, ◌*◌, ◌++◌, true, List, map, All, Result, Ok, Err, IfOk, inl, inr, arith}
 use Rattle.std.proofs.lemmas.Bool.Decides.{nat_tests}
 use Rattle.std.proofs.lemmas.List.Elements.{All-append, All-map, All-weaker}
 use Rattle.std.proofs.lemmas.List.Sorted.{All-permutation, IsPermutation-sym}
@@ -11,7 +11,6 @@ use Rattle.run_outcomes.specs.Left.{IsTold, IsUntouched, AreStoresInside, sees}
 use Rattle.rv_code.specs.Machine.{in_ram}
 use Rattle.rv_plain.specs.Buffered.{seen}
 use Rattle.rv_plain.specs.Store.{Store}
-use Rattle.tcc_base.specs.Bytes.{bytes_of}
 use Rattle.tcc_base.specs.Settings.{Settings}
 use Rattle.tcc_base.specs.declared.access.Size.{Size}
 use Rattle.tcc_base.specs.declared.access.Size.TheVariants.{Byte, Half, Word}

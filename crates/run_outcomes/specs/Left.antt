@@ -1,6 +1,5 @@
 -- What an attempt that has ended leaves of its core and of RAM.
 use Rattle.std.specs.Prelude.{ℕ, ◌++◌, ◌≡◌, true, List, Some, IfSome, All, Contains, length}
-use Rattle.image_load.specs.Contents.{Contents}
 use Rattle.run_outcomes.specs.Changes.{value_in, AreInside}
 use Rattle.run_outcomes.specs.declared.next.Next.{Next}
 use Rattle.run_outcomes.specs.declared.next.Next.TheVariants.{Stopped, Endless, Leads}

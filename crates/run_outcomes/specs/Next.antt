@@ -1,5 +1,5 @@
 -- The next transaction of a core, to its end.
-use Rattle.std.specs.Prelude.{ℕ, ◌≤◌, ◌*◌, ◌/◌, ◌++◌, ◌≡◌, List, Option, Some, IsSomeAnd}
+use Rattle.std.specs.Prelude.{ℕ, ◌≤◌, ◌/◌, ◌++◌, ◌≡◌, List, Option, Some, IsSomeAnd}
 use Rattle.image_load.specs.Contents.{Contents, started}
 use Rattle.run_outcomes.specs.Changes.{changed_ram, AreInside}
 use Rattle.run_outcomes.specs.declared.next.Next.{Next}

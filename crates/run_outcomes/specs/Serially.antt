@@ -1,6 +1,5 @@
 -- A search through the states of the plain machine: which are reached, and what it means that none is left out.
-use Rattle.std.specs.Prelude.{ℕ, List, Option, IfSome, IsSomeAnd, All, Contains, ◌≡◌}
-use Rattle.tcc_base.specs.declared.access.Commit.{Commit}
+use Rattle.std.specs.Prelude.{ℕ, List, IfSome, IsSomeAnd, All, Contains, ◌≡◌}
 use Rattle.tcc_program.specs.Plain.{Plain, Order, transaction, serial}
 use Rattle.tcc_program.specs.Program.{Program}
 

@@ -1,4 +1,4 @@
-use Rattle.std.proofs.Common.{refl, ◌≡◌, ◌∙◌, sym, ◌<◌, ◌-◌, ◌+◌, ℕ, take, get_or, length, Contains, subst, arith, All}
+use Rattle.std.proofs.Common.{◌≡◌, ◌∙◌, sym, ◌<◌, ◌-◌, take, get_or, length, Contains, subst, arith}
 use Rattle.std.proofs.lemmas.List.{take_more, get_or-take, length-take}
 use Rattle.std.proofs.lemmas.List.Elements.{All-nil, All-push, Contains-get_or}
 use Rattle.run_outcomes.proofs.Told.{told-nothing, told-again, told-same, told-push}

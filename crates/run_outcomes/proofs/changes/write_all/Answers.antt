@@ -1,9 +1,8 @@
-use Rattle.std.proofs.Common.{refl, sym, ◌∙◌, ap, ◌≡◌, ◌<◌, ◌≤◌, ℕ, ◌+◌, ◌-◌, drop, length, get_or, Some, arith}
+use Rattle.std.proofs.Common.{refl, ◌∙◌, ◌≡◌, ◌<◌, ◌≤◌, ◌+◌, ◌-◌, length, arith}
 use Rattle.std.proofs.lemmas.List.{drop_all}
 use Rattle.rv_plain.specs.Store.{buffer_of}
 use Rattle.run_outcomes.proofs.Leads.{value_in-drop}
 use Rattle.run_outcomes.specs.Changes.{value_in}
-use Rattle.tcc_base.specs.Put.{put}
 use Rattle.run_outcomes.proofs.changes.write_all.Goals as goal
 
 pub loop-k-init : goal.loop-k-init

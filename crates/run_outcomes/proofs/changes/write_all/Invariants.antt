@@ -1,4 +1,4 @@
-use Rattle.std.proofs.Common.{◌≡◌, ◌≤◌, ℕ, drop, length}
+use Rattle.std.proofs.Common.{◌≡◌, ◌≤◌, drop, length}
 use Rattle.rv_plain.specs.Store.{buffer_of}
 use Rattle.run_outcomes.specs.Changes.{value_in}
 use Rattle.run_outcomes.proofs.changes.write_all.Given as goal

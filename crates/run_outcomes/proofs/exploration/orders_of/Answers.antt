@@ -1,4 +1,4 @@
-use Rattle.std.proofs.Common.{◌≤◌, ◌<◌, ◌-◌, length, refl, arith}
+use Rattle.std.proofs.Common.{◌≤◌, ◌<◌, length, refl, arith}
 use Rattle.std.proofs.lemmas.List.{drop_all}
 use Rattle.run_outcomes.proofs.Paths.{orders-step}
 use Rattle.run_outcomes.specs.Ways.{orders_from}

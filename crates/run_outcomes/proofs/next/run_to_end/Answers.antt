@@ -1,4 +1,4 @@
-use Rattle.std.proofs.Common.{refl, ◌≡◌, ℕ, Option, Some, ◌+◌, ◌≤◌, arith, subst}
+use Rattle.std.proofs.Common.{refl, ◌≡◌, Some, ◌+◌, ◌≤◌, arith, subst}
 use Rattle.image_load.specs.Contents.{started}
 use Rattle.rv_code.specs.Machine.{program}
 use Rattle.rv_plain.specs.Attempts.{attempt_of}

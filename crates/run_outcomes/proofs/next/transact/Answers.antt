@@ -1,4 +1,4 @@
-use Rattle.std.proofs.Common.{◌≡◌, ◌∙◌, ap, Some, length, arith, ◌*◌}
+use Rattle.std.proofs.Common.{◌≡◌, ◌∙◌, ap, length, ◌*◌}
 use Rattle.run_outcomes.proofs.Leads.{run-steps, stores-in-ram, next-if, endless}
 use Rattle.run_outcomes.specs.Changes.{changed_ram}
 use Rattle.rv_plain.specs.Attempts.{attempt_of}

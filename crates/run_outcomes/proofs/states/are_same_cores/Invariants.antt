@@ -1,4 +1,4 @@
-use Rattle.std.proofs.Common.{◌≡◌, take, length}
+use Rattle.std.proofs.Common.{◌≡◌, take}
 use Rattle.run_outcomes.proofs.states.are_same_cores.Given as goal
 
 abbrev pub invariant-loop-k : goal.invariant-loop-k

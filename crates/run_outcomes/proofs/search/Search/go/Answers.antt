@@ -1,6 +1,5 @@
-use Rattle.std.proofs.Common.{◌≡◌, ◌∙◌, ◌+◌, ◌<◌, ◌≤◌, ap, sym, subst, refl, length, length-append, arith, ℕ}
+use Rattle.std.proofs.Common.{◌≡◌, ◌∙◌, ◌+◌, ◌<◌, ◌≤◌, ap, length, length-append, arith}
 use Rattle.run_outcomes.proofs.Reach.{expanded-step, all-states}
-use Rattle.run_outcomes.specs.Explored.{IsFollowedAt}
 use Rattle.run_outcomes.proofs.search.Search.go.Goals as goal
 
 pub loop-number-preserved : goal.loop-number-preserved

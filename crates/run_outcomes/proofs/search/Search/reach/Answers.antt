@@ -1,11 +1,8 @@
-use Rattle.std.proofs.Common.{◌≡◌, ◌∙◌, ap, sym, subst, false, true, IsFalse}
+use Rattle.std.proofs.Common.{sym}
 use Rattle.std.proofs.lemmas.Bool.{false≢true}
 use Rattle.run_outcomes.proofs.Added.{added-found, added-followed, added-led}
 use Rattle.run_outcomes.proofs.Reach.{followed-stopped}
-use Rattle.run_outcomes.specs.Explored.{AreFound, IsFollowedAt, machines, state_at}
-use Rattle.run_outcomes.specs.Next.{IsNext}
-use Rattle.run_outcomes.specs.States.{IsPlaced, core_in, after_core}
-use Rattle.run_outcomes.specs.declared.next.Next.TheVariants.{Leads}
+use Rattle.run_outcomes.specs.Explored.{machines, state_at}
 use Rattle.run_outcomes.proofs.search.Search.reach.Goals as goal
 
 pub returns-in-Stopped-clause-followed : goal.returns-in-Stopped-clause-followed
