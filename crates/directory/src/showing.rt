@@ -1,5 +1,5 @@
 // What is shown of a directory beside a line's state: the skips and the sharers.
-ghost use Rattle.std.specs.Prelude.{◌≡◌, ℕ, length};
+ghost use Rattle.std.specs.Prelude.{◌≡◌, ◌+◌, ◌<◌, ◌^◌, ℕ, length};
 ghost use Rattle.tcc_maps.specs.Masks.{has};
 ghost use Rattle.tcc_maps.specs.Serving.{is_skipped};
 ghost use Rattle.dir_lines.specs.Home.{IsAtHome};
@@ -12,7 +12,8 @@ use tcc_base::{LineAddr, Tid};
 impl Directory {
     /// How many TIDs above the served one are kept, skipped or not: no TID behind them was skipped. It takes constant time.
     pub fn skips_ahead(&self) -> usize
-        ensures { (elsewhere : ℕ → ℕ) → result ≡ length (dir_of elsewhere self.now).serving.skips }
+        ensures count { (elsewhere : ℕ → ℕ) → result ≡ length (dir_of elsewhere self.now).serving.skips }
+        ensures fits { (elsewhere : ℕ → ℕ) → (dir_of elsewhere self.now).serving.serving + result < 2 ^ 63 }
     {
         self.skips.skips_ahead()
     }

@@ -33,7 +33,8 @@ impl Model for RingSkips {
 impl RingSkips {
     /// How many TIDs above the served one are kept, skipped or not: no TID behind them was skipped. It takes constant time.
     pub fn skips_ahead(&self) -> usize
-        ensures { result ≡ length self.now.skips }
+        ensures count { result ≡ length self.now.skips }
+        ensures fits { self.now.serving + result < 2 ^ 63 }
     {
         self.ahead.len()
     }

@@ -1,5 +1,5 @@
 // The skip vector that a directory keeps: the ring.
-ghost use Rattle.std.specs.Prelude.{◌≡◌, ℕ, ◌^◌, ◌<◌, ◌≤◌, OnOk, OnErr, length};
+ghost use Rattle.std.specs.Prelude.{◌≡◌, ℕ, ◌+◌, ◌^◌, ◌<◌, ◌≤◌, OnOk, OnErr, length};
 ghost use Rattle.tcc_maps.specs.Serving.{Serving, first_serving, is_skipped, skipped, advance as advanced};
 
 use crate::ring::RingSkips;
@@ -41,7 +41,8 @@ impl SkipVector {
 
     /// How many TIDs above the served one are kept, skipped or not: no TID behind them was skipped. It takes constant time.
     pub fn skips_ahead(&self) -> usize
-        ensures { result ≡ length self.now.skips }
+        ensures count { result ≡ length self.now.skips }
+        ensures fits { self.now.serving + result < 2 ^ 63 }
     {
         self.skips.skips_ahead()
     }
