@@ -1,0 +1,62 @@
+-- What becomes of the message, and what is told behind its delivery, are all that it did.
+use Rattle.std.proofs.Common.{◌<◌, ◌++◌, map, sym, ◌∙◌, subst}
+use Rattle.tcc_maps.specs.Bridge.{node_of}
+use Rattle.tcc_maps.specs.Nodes.{Core, Dir, Deliver}
+use Rattle.tcc_msg.specs.Plain.{msg_of}
+use Rattle.net_core.specs.Answers.{tid_told}
+use Rattle.net_core.specs.Machine.{settings_of, world_of}
+use Rattle.watch.specs.Happened.{serves_fact}
+use Rattle.watch.specs.Plain.{fact_of}
+use Rattle.watch_machine.specs.Telling.{Advanced, commit_told, last_facts}
+use Rattle.watch_machine.proofs.Enabled.{answer-told, ends-named, is-below}
+use Rattle.watch_machine.proofs.Happening.{advanced-from, advanced-to, flown, room-for, told-all}
+use Rattle.watch_machine.proofs.delivering.watch_dir.Goals as goal
+
+pub what_became-requires-clause-dir : goal.what_became-requires-clause-dir
+what_became-requires-clause-dir c =
+    is-below c.args.dir.0 (settings_of c.args.system.now).dirs
+    (ends-named c.args.system.now (Core c.args.core.0) (Dir c.args.dir.0) c.args.name.seq c.requires.enabled).to
+
+pub what_became-requires-clause-line : goal.what_became-requires-clause-line
+what_became-requires-clause-line c =
+    (c.machines_are_live.ensures.messages (Core c.args.core.0) (Dir c.args.dir.0) c.args.name.seq (msg_of c.args.msg) c.requires.flies).line
+
+pub serving-before-requires : goal.serving-before-requires
+serving-before-requires c =
+    is-below c.args.dir.0 (settings_of c.args.system.now).dirs
+    (ends-named c.args.system.now (Core c.args.core.0) (Dir c.args.dir.0) c.args.name.seq c.requires.enabled).to
+
+pub tell_dir-requires-clause-dir : goal.tell_dir-requires-clause-dir
+tell_dir-requires-clause-dir c =
+    subst (λ k. c.args.dir.0 < k.settings.dirs) (sym c.in_ok-step.ensures.code)
+    (is-below c.args.dir.0 (settings_of c.args.system.now).dirs
+    (ends-named c.args.system.now (Core c.args.core.0) (Dir c.args.dir.0) c.args.name.seq c.requires.enabled).to)
+
+-- the event, where its source and destination are known
+went : (c : goal.After-tell_dir-arg-1) → Advanced c.args.system.now c.advance.new.system
+    (Deliver (Core c.args.core.0) (Dir c.args.dir.0) c.args.name.seq) c.in_ok-step.step
+went c =
+    advanced-from c.args.system.now c.advance.new.system _ _ (Dir c.args.dir.0) c.args.name.seq c.in_ok-step.step c.requires.source
+    (advanced-to c.args.system.now c.advance.new.system (node_of c.args.name.src) _ _ c.args.name.seq c.in_ok-step.step
+    c.requires.destination c.in_ok-step.ensures)
+
+pub tell_dir-requires-clause-room : goal.tell_dir-requires-clause-room
+tell_dir-requires-clause-room c = room-for c.args.system.now c.advance.new.system (Dir c.args.dir.0) (went c).sent
+
+pub returns-in-Ok : goal.returns-in-Ok
+returns-in-Ok c =
+    let m = c.args.system.now in
+    let n = c.advance.new.system in
+    let x = msg_of c.args.msg in
+    let core = c.args.core.0 in
+    let dir = c.args.dir.0 in
+    let k = c.args.name.seq in
+    let e = Deliver (Core core) (Dir dir) k in
+    let a = advanced-from m n _ _ (Dir dir) k c.in_ok-step.step c.requires.source
+    (advanced-to m n (node_of c.args.name.src) _ _ k c.in_ok-step.step c.requires.destination c.in_ok-step.ensures) in
+    let told = c.fact_of_message-fact.ensures ∙ answer-told m core dir k c.what_became.result x c.requires.flies c.requires.enabled
+    c.what_became.ensures ∙ sym (flown m n (Core core) (Dir dir) k x c.requires.flies) in
+    told-all m n e c.in_ok-step.step c.tell_dir.new.facts c.events.ensures.reached a
+    (c.in-Ok.ensures
+    ∙ (λ i. map fact_of (c.requires.empty i) ++ (told i ++ (commit_told (tid_told c.in_ok-step.step) n.commits
+    ++ (serves_fact dir (c.serving-before.ensures i) ((world_of n).dirs dir).serving.serving ++ last_facts n (Dir dir))))))

@@ -1,0 +1,25 @@
+-- What `watch` answers.
+use Rattle.std.specs.Prelude.{◌≡◌, ◌≢◌, ◌+◌, List, [], map, Some, None, Result, Ok, Err}
+use Rattle.tcc_maps.specs.Nodes.{Event}
+use Rattle.tcc_rules.specs.Step.{next_history}
+use Rattle.net_core.specs.Answers.{Kept, step_of}
+use Rattle.net_core.specs.Machine.{Machine, history_of, program_of, settings_of}
+use Rattle.net_core.specs.declared.taking.StepError.{StepError}
+use Rattle.net_core.specs.declared.taking.StepError.TheVariants.{Refused, Memory}
+use Rattle.watch.specs.Happened.{happened}
+use Rattle.watch.specs.Plain.{fact_of}
+use Rattle.watch.specs.declared.fact.Fact.{Fact}
+
+-- the event was taken, and these facts are what it did
+pub record TookAndTold (old new : Machine) (e : Event) (facts : List Fact) : Type 0 where
+  pub next : next_history (settings_of old) (program_of old) (history_of old) e ≡ Some (history_of new)
+  pub told : map fact_of facts ≡ happened (settings_of old) (program_of old) (history_of old) e
+  pub settled : new.unsent ≡ []
+  pub events : new.events ≡ old.events + 1
+  pub code : new.cores.code ≡ old.cores.code
+
+-- or it isn't enabled, and nothing happened; or memory was wanting
+abbrev pub Watched : (old new : Machine) → Event → List Fact → Result (Unit {0}) StepError → Type 0
+Watched old new e facts (Ok u) = TookAndTold old new e facts
+Watched old new e facts (Err Refused) = Kept old new × (step_of old e ≡ None)
+Watched old new e facts (Err Memory) = step_of old e ≢ None

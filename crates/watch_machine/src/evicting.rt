@@ -1,0 +1,87 @@
+// A way is emptied.
+ghost use Rattle.std.specs.Prelude.{◌≡◌, ◌≢◌, ◌++◌, ◌<◌, [], None, OnOk, map};
+ghost use Rattle.std.specs.Option.{option_to_list};
+ghost use Rattle.tcc_maps.specs.Nodes.{Core, Evict};
+ghost use Rattle.commit_engine.specs.Engine.{phase_of};
+ghost use Rattle.core_node.specs.View.{core_of};
+ghost use Rattle.net_core.specs.Answers.{step_of, tid_told};
+ghost use Rattle.net_core.specs.Machine.{settings_of, world_of};
+ghost use Rattle.watch.specs.Happened.{phase_fact};
+ghost use Rattle.watch.specs.Instructions.{evicted as emptied};
+ghost use Rattle.watch.specs.Plain.{fact_of};
+ghost use Rattle.watch_machine.specs.Telling.{HasRoomFor, commit_told, last_facts};
+ghost use Rattle.watch_machine.specs.Watched.{Watched};
+
+use crate::commits::tell_commit;
+use crate::moving::tell_phase;
+use crate::sending::{advance, tell_sent};
+use commit_engine::Phase;
+use core_node::CoreNode;
+use net_core::{Step, StepError, System};
+use tcc_base::{CoreId, List, NoMemory, NodeId};
+use tcc_msg::Event;
+use watch::Fact;
+
+/// The line that a way holds, with its dirty and modified words.
+#[tactic(auto, unfolding(watch::specs::Instructions::evicted))]
+fn evicted(core: &CoreNode, id: CoreId, set: u16, way: u8) -> Option<Fact>
+    requires set_exists { set < core.now.config.sets }
+    requires way_exists { way < core.now.config.ways }
+    ensures { map fact_of (option_to_list result) ≡ emptied id.0 set way (core_of core.now) }
+{
+    let frame = core.frame(set, way)?;
+    Some(Fact::Evicted {
+        core: id,
+        line: frame.line,
+        dirty: frame.dirty,
+        modified: frame.modified,
+    })
+}
+
+/// Tells of an eviction: what stood in the way, and the machine after it.
+fn tell_evict(
+    system: &System,
+    id: CoreId,
+    held: Option<Fact>,
+    before: Phase,
+    step: Step,
+    facts: &mut List<Fact>,
+) -> Result<(), NoMemory>
+    requires core { id.0 < (settings_of system.now).cores }
+    requires settled { system.now.unsent ≡ [] }
+    requires room { HasRoomFor system.now (Core id.0) }
+    ensures { OnOk result (map fact_of facts.new ≡ map fact_of facts.old ++ (map fact_of (option_to_list held)
+        ++ (commit_told (tid_told step) system.now.commits
+        ++ (phase_fact id.0 (phase_of before) ((world_of system.now).cores id.0).phase ++ last_facts system.now (Core id.0))))) }
+{
+    if let Some(fact) = held {
+        facts.push(fact)?;
+    }
+    tell_commit(system.commits(), step, facts)?;
+    tell_phase(id, before, system.core(id).phase(), facts)?;
+    tell_sent(system, NodeId::Core(id), facts)
+}
+
+/// A way of a core is emptied, which is enabled.
+pub(crate) fn watch_evict(
+    system: &mut System,
+    id: CoreId,
+    set: u16,
+    way: u8,
+    facts: &mut List<Fact>,
+) -> Result<(), StepError>
+    requires few { system.old.events < 4194304 }
+    requires empty { facts.old ≡ [] }
+    requires enabled { step_of system.old (Evict id.0 set way) ≢ None }
+    ensures { Watched system.old system.new (Evict id.0 set way) facts.new result }
+{
+    let core = system.core(id);
+    let held = evicted(core, id, set, way);
+    let before = core.phase();
+    system.events();
+    let step = advance(system, Event::Evict(id, set, way))?;
+    match tell_evict(system, id, held, before, step, facts) {
+        Ok(()) => Ok(()),
+        Err(NoMemory) => Err(StepError::Memory),
+    }
+}

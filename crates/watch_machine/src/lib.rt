@@ -1,0 +1,14 @@
+//! Takes an event on the machine and tells what it did: `watch` looks at the acting node before and after, and its contract says that
+//! the facts are those that `happened` of the crate `watch` defines by the rules' states alone.
+#![tactic(auto)]
+
+mod answering;
+mod commits;
+mod delivering;
+mod evicting;
+mod executing;
+mod moving;
+mod sending;
+mod watching;
+
+pub use watching::watch;

@@ -1,0 +1,115 @@
+// An event is taken, and what its node sent is told.
+ghost use Rattle.std.specs.Prelude.{◌≡◌, ◌+◌, ◌^◌, ◌++◌, ◌<◌, [], OnOk, length, map};
+ghost use Rattle.tcc_maps.specs.Bridge.{node_of};
+ghost use Rattle.tcc_maps.specs.Nodes.{node_eq};
+ghost use Rattle.tcc_msg.specs.Plain.{event_of, sends_of};
+ghost use Rattle.watch.specs.Plain.{fact_of};
+ghost use Rattle.watch_machine.specs.Telling.{Advances, HasRoomFor, last_facts, last_to, numbered_from};
+
+use net_core::{Step, StepError, System, node_at, node_count};
+use tcc_base::{List, NoMemory, NodeId};
+use tcc_msg::{Event, Msg};
+use watch::Fact;
+
+/// Takes an event, and puts on its links what it sent.
+pub(crate) fn advance(system: &mut System, e: Event) -> Result<Step, StepError>
+    requires { system.old.events < 4194304 }
+    ensures { Advances system.old system.new (event_of e) result }
+{
+    let step = system.step(e)?;
+    match system.settle() {
+        Ok(()) => Ok(step),
+        Err(NoMemory) => Err(StepError::Memory),
+    }
+}
+
+/// Whether what is sent to the one node goes to the other: the two are one.
+fn goes_to(to: NodeId, dst: NodeId) -> bool
+    ensures { result ≡ node_eq (node_of dst) (node_of to) }
+{
+    dst == to
+}
+
+/// How many messages go to a node.
+fn count_to(messages: &[(NodeId, Msg)], dst: NodeId) -> u64
+    ensures { result ≡ length (sends_of messages.now (node_of dst)) }
+{
+    let mut count = 0;
+    for (to, _) in messages {
+        if goes_to(*to, dst) {
+            count += 1;
+        }
+    }
+    count
+}
+
+/// Tells of the messages that go to a node, the first of which has this number.
+fn tell_numbered(
+    messages: &[(NodeId, Msg)],
+    src: NodeId,
+    dst: NodeId,
+    first: u64,
+    facts: &mut List<Fact>,
+) -> Result<(), NoMemory>
+    requires { first + length (sends_of messages.now (node_of dst)) < 2 ^ 64 }
+    ensures { OnOk result (map fact_of facts.new
+        ≡ map fact_of facts.old ++ numbered_from (node_of src) (node_of dst) first (sends_of messages.now (node_of dst))) }
+{
+    let mut seq = first;
+    for (to, msg) in messages {
+        if goes_to(*to, dst) {
+            facts.push(Fact::Sent {
+                src,
+                dst,
+                seq,
+                msg: *msg,
+            })?;
+            seq += 1;
+        }
+    }
+    Ok(())
+}
+
+/// Tells of what the last event sent to one node.
+#[tactic(auto, unfolding(crate::specs::Telling::last_to))]
+fn tell_link(
+    system: &System,
+    src: NodeId,
+    dst: NodeId,
+    facts: &mut List<Fact>,
+) -> Result<(), NoMemory>
+    requires settled { system.now.unsent ≡ [] }
+    requires room { HasRoomFor system.now (node_of src) }
+    ensures { OnOk result (map fact_of facts.new ≡ map fact_of facts.old ++ last_to system.now (node_of src) (node_of dst)) }
+{
+    let messages = system.last_sent();
+    let count = count_to(messages, dst);
+    if count == 0 {
+        return Ok(());
+    }
+    let first = system.sent_on(src, dst) - count;
+    tell_numbered(messages, src, dst, first, facts)
+}
+
+/// Tells of what the last event sent, by destination and number.
+#[tactic(auto, unfolding(crate::specs::Telling::last_facts))]
+pub(crate) fn tell_sent(
+    system: &System,
+    src: NodeId,
+    facts: &mut List<Fact>,
+) -> Result<(), NoMemory>
+    requires settled { system.now.unsent ≡ [] }
+    requires room { HasRoomFor system.now (node_of src) }
+    ensures { OnOk result (map fact_of facts.new ≡ map fact_of facts.old ++ last_facts system.now (node_of src)) }
+{
+    if system.last_sent().is_empty() {
+        return Ok(());
+    }
+    let config = system.config();
+    for place in 0..node_count(config) {
+        if let Some(dst) = node_at(config, place) {
+            tell_link(system, src, dst, facts)?;
+        }
+    }
+    Ok(())
+}

@@ -1,0 +1,55 @@
+// An event is taken, and what it did is told.
+ghost use Rattle.std.specs.Prelude.{◌≡◌, ◌≢◌, ◌<◌, [], None};
+ghost use Rattle.tcc_maps.specs.Bridge.{node_of};
+ghost use Rattle.tcc_maps.specs.Nodes.{Deliver};
+ghost use Rattle.tcc_msg.specs.Plain.{event_of};
+ghost use Rattle.net_core.specs.Answers.{step_of};
+ghost use Rattle.watch_machine.specs.Watched.{Watched};
+
+use crate::delivering::{watch_core, watch_dir, watch_vendor};
+use crate::evicting::watch_evict;
+use crate::executing::watch_exec;
+use net_core::{StepError, System};
+use tcc_base::{List, NodeId};
+use tcc_msg::{Event, Name};
+use watch::Fact;
+
+/// Takes an event, which may name anything, and leaves in `facts` what it did, in place of what stood there. Behind it all that was sent
+/// stands on its links.
+///
+/// `Refused` comes exactly where the event isn't enabled, and nothing has happened then. `Memory`: there was no memory for the event, or
+/// none to tell of it, and then it may have been taken; what stands in `facts` is of no use.
+///
+/// The time is that of the event, with a constant for each fact, and for an event that sends a pass over the machine's nodes.
+pub fn watch(system: &mut System, e: Event, facts: &mut List<Fact>) -> Result<(), StepError>
+    requires few { system.old.events < 4194304 }
+    ensures { Watched system.old system.new (event_of e) facts.new result }
+{
+    facts.items.clear();
+    if !system.enabled(e) {
+        return Err(StepError::Refused);
+    }
+    match e {
+        Event::Exec(core) => watch_exec(system, core, facts),
+        Event::Evict(core, set, way) => watch_evict(system, core, set, way, facts),
+        Event::Deliver(name) => watch_delivery(system, name, facts),
+    }
+}
+
+/// A message is delivered, which is enabled.
+fn watch_delivery(system: &mut System, name: Name, facts: &mut List<Fact>) -> Result<(), StepError>
+    requires few { system.old.events < 4194304 }
+    requires empty { facts.old ≡ [] }
+    requires enabled { step_of system.old (Deliver (node_of name.src) (node_of name.dst) name.seq) ≢ None }
+    ensures { Watched system.old system.new (Deliver (node_of name.src) (node_of name.dst) name.seq) facts.new result }
+{
+    let Some(&msg) = system.in_flight(name) else {
+        return Err(StepError::Refused);
+    };
+    match (name.src, name.dst) {
+        (_, NodeId::Core(core)) => watch_core(system, core, name, msg, facts),
+        (NodeId::Core(core), NodeId::Dir(dir)) => watch_dir(system, core, dir, name, msg, facts),
+        (NodeId::Core(core), NodeId::Vendor) => watch_vendor(system, core, name, msg, facts),
+        _ => Err(StepError::Refused),
+    }
+}
