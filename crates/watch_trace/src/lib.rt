@@ -12,7 +12,9 @@ ghost use Rattle.watch_trace.specs.Rows.{AreWritten, finished_rows, undone_rows,
 ghost use Rattle.watch_trace.specs.Rows.{LastOfDoomedAttempt, FirstAndLastLines};
 
 pub use facts::{push_event_facts, push_fact, push_facts};
+pub use lines::push_name;
 pub use texts::{push_head, push_tail};
+pub use words::{push_message, push_phase, push_values};
 
 /// Lines of facts of each kind, as a second implementation wrote them, and the text of some events.
 pub fn worked_lines()

@@ -110,9 +110,9 @@ pub(crate) fn push_came_to(text: &mut String, core: CoreId, phase: Phase) -> Res
     push_phase(text, phase)
 }
 
-/// The name of a message: its link, and its number there.
+/// Appends the name of a message: its link, and its number there. After want of memory a part of it may stand there.
 #[tactic(auto, unfolding(crate::specs::Lines::name_words))]
-fn push_name(text: &mut String, src: NodeId, dst: NodeId, seq: u64) -> Result<(), AllocError>
+pub fn push_name(text: &mut String, src: NodeId, dst: NodeId, seq: u64) -> Result<(), AllocError>
     ensures { OnOk result (string_bytes text.new ≡ string_bytes text.old ++ name_words (node_of src) (node_of dst) seq) }
 {
     push_node(text, src)?;

@@ -43,8 +43,8 @@ fn push_value(text: &mut String, mask: u8, words: &[u32; 8], k: usize) -> Result
     }
 }
 
-/// The eight words of a line.
-fn push_values(text: &mut String, mask: u8, words: &[u32; 8]) -> Result<(), AllocError>
+/// Appends the eight words of a line, with a dash for each that the mask hasn't. After want of memory a part of them may stand there.
+pub fn push_values(text: &mut String, mask: u8, words: &[u32; 8]) -> Result<(), AllocError>
     ensures { OnOk result (string_bytes text.new ≡ string_bytes text.old ++ value_words mask words.now) }
 {
     text.push_str(" words")?;
@@ -115,9 +115,9 @@ fn push_acknowledged(text: &mut String, line: LineAddr, keeps: bool) -> Result<(
     push_keeps(text, keeps)
 }
 
-/// A message, by its kind.
+/// Appends a message: its kind, and its fields by name. After want of memory a part of it may stand there.
 #[tactic(auto, unfolding(crate::specs::Words::message_words))]
-pub(crate) fn push_message(text: &mut String, msg: &Msg) -> Result<(), AllocError>
+pub fn push_message(text: &mut String, msg: &Msg) -> Result<(), AllocError>
     ensures { OnOk result (string_bytes text.new ≡ string_bytes text.old ++ message_words (msg_of msg.now)) }
 {
     match msg {
@@ -155,9 +155,9 @@ pub(crate) fn push_message(text: &mut String, msg: &Msg) -> Result<(), AllocErro
     }
 }
 
-/// A phase, with its TID where it has one.
+/// Appends a phase, with its TID where it has one. After want of memory a part of it may stand there.
 #[tactic(auto, unfolding(crate::specs::Words::phase_words))]
-pub(crate) fn push_phase(text: &mut String, phase: Phase) -> Result<(), AllocError>
+pub fn push_phase(text: &mut String, phase: Phase) -> Result<(), AllocError>
     ensures { OnOk result (string_bytes text.new ≡ string_bytes text.old ++ phase_words (phase_of phase)) }
 {
     match phase {
