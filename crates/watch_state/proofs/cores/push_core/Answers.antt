@@ -1,0 +1,30 @@
+-- The attempt, the registers, the cache, and what was spilled.
+use Rattle.std.proofs.Common.{◌++◌, string_bytes}
+use Rattle.std.specs.List.{flat_map}
+use Rattle.tcc_maps.specs.Shape.{lines}
+use Rattle.tcc_rules.specs.Seen.{numbers}
+use Rattle.overflow_buf.specs.Kept.{spilled}
+use Rattle.core_node.specs.View.{core_of}
+use Rattle.watch_state.specs.Cores.{attempt_records, cached_records, core_records, register_records, set_records, spilled_records}
+use Rattle.watch_state.proofs.Growing.{lines-then}
+use Rattle.watch_state.proofs.cores.push_core.Goals as goal
+
+pub returns : goal.returns
+unfolding core_records cached_records core_of
+returns c =
+    let id = c.args.id.0 in
+    let core = c.args.core.now in
+    let sh = core.config in
+    let attempt = attempt_records sh id (core_of core) in
+    let registers = register_records id (core_of core) in
+    let ways = flat_map (set_records id sh.ways (core_of core).cache) (numbers sh.sets) in
+    let spills = flat_map (spilled_records sh id (core_of core).spilled) (numbers (lines sh)) in
+    let t0 = string_bytes c.args.text.now in
+    let t1 = string_bytes c.push_attempt.new.text in
+    let t2 = string_bytes c.push_registers.new.text in
+    let t3 = string_bytes c.push_ways.new.text in
+    let t4 = string_bytes c.push_spills.new.text in
+    lines-then attempt (registers ++ (ways ++ spills)) t0 t1 t4 (rw c.core-held.ensures at c.in_ok-push_attempt.ensures)
+    (lines-then registers (ways ++ spills) t1 t2 t4 (rw c.core-held.ensures at c.in_ok-push_registers.ensures)
+    (lines-then ways spills t2 t3 t4 (rw (c.sets.ensures.value, c.ways.ensures.value, c.core-held.ensures) at c.in_ok-push_ways.ensures)
+    (rw c.core-held.ensures at c.in_ok-push_spills.ensures)))

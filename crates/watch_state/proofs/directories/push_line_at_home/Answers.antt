@@ -1,0 +1,33 @@
+-- The line is at home here, or elsewhere.
+use Rattle.std.proofs.Common.{◌++◌, ap, sym, ◌∙◌, rules, string_bytes}
+use Rattle.directory.specs.Data.{dir_of}
+use Rattle.watch_state.specs.Directories.{line_record}
+use Rattle.watch_state.specs.Lines.{record_lines}
+use Rattle.watch_state.proofs.Growing.{lines-none}
+use Rattle.watch_state.proofs.ShownLines.{IsRead, elsewhere-at-home, here-at-home, line-shown}
+use Rattle.watch_state.proofs.directories.push_line_at_home.Goals as goal
+
+pub returns-in_ok-push_line : goal.returns-in_ok-push_line
+returns-in_ok-push_line c = λ e.
+    let sh = c.args.config.now in
+    let l = c.args.line.0 in
+    let ls = (dir_of e c.args.dir.now).lines in
+    let read : IsRead ls l c.line_state-state.result c.sharers.result = record {
+      owner = c.line_state-state.ensures.owner e;
+      tag = c.line_state-state.ensures.tag e;
+      asked = c.line_state-state.ensures.asked e;
+      mark = c.line_state-state.ensures.mark e;
+      sharers = c.sharers.ensures e;
+    } in
+    c.in_ok-push_line.ensures
+    ∙ ap (λ rs. string_bytes c.args.text.now ++ record_lines rs)
+    (line-shown sh ls l c.home-home.result.0 c.cores.result c.line_state-state.result c.sharers.result read c.home-home.ensures.value
+    c.cores.ensures.value
+    ∙ sym (here-at-home sh c.args.id.0 l (line_record sh ls) (c.if-id-home.true ∙ c.home-home.ensures.value)))
+
+pub returns-else-id-home : goal.returns-else-id-home
+returns-else-id-home c = λ e.
+    let sh = c.args.config.now in
+    let ls = (dir_of e c.args.dir.now).lines in
+    rw (elsewhere-at-home sh c.args.id.0 c.args.line.0 (line_record sh ls) (λ q. c.if-id-home.false (q ∙ sym c.home-home.ensures.value)), lines-none)
+    (search rules)

@@ -1,0 +1,21 @@
+use Rattle.std.proofs.Common.{◌≡◌, arith, string_bytes}
+use Rattle.image_load.specs.Contents.{started}
+use Rattle.rv_code.specs.Machine.{first_ram}
+use Rattle.tcc_maps.specs.Words.{word_at}
+use Rattle.directory.specs.Data.{dir_of}
+use Rattle.watch_state.specs.Directories.{word_record, word_records}
+use Rattle.watch_state.proofs.Growing.{lines-more}
+use Rattle.watch_state.proofs.homes.push_words.Goals as goal
+
+pub loop-k-preserved : goal.loop-k-preserved
+loop-k-preserved c = λ e.
+    lines-more
+    (λ k. word_record c.args.code.now.settings (first_ram (started c.args.code.now)) (dir_of e c.args.dir.now).words (word_at c.args.line.0 k))
+    c.loop-k.k (string_bytes c.args.text.now) (string_bytes c.loop-k.text) (string_bytes c.push_word.new.text) (c.loop-k.invariant e)
+    (c.in_ok-push_word.ensures e)
+
+pub returns : goal.returns
+unfolding word_records
+returns c = λ e.
+    let all : c.loop-k.k ≡ 8 = omega (arith, c.loop-k-test.false) in
+    rw all at (c.loop-k.invariant e)

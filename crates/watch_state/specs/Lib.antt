@@ -1,0 +1,7 @@
+-- What the contracts of this crate cite: the records of a state, which of them there are, and the text.
+pub mod Records
+pub mod Lines
+pub mod Cores
+pub mod Directories
+pub mod Text
+pub mod Shown
