@@ -4,8 +4,8 @@ use Rattle.tcc_program.specs.Registers.{zeroed, register, written}
 use Rattle.tcc_rules.specs.Rows.{padded, both_words, both_code}
 use Rattle.tcc_rules.specs.Small.{at_pc, address, call_need, small, image_entry}
 use Rattle.watch.specs.Instructions.{last_loaded, last_stored, done, addr_of, executed, evicted}
-use Rattle.watch.specs.Messages.{taken, committer, words_read}
-use Rattle.watch.specs.Happened.{sent_to, sent, happened}
+use Rattle.watch.specs.Messages.{taken, commit_of, words_read}
+use Rattle.watch.specs.Happened.{numbered, sent_to, sent, happened}
 use Rattle.std.specs.Fmt.{char_count, digits, padded_integral}
 use Rattle.tcc_maps.specs.Masks.{has}
 use Rattle.schedule_text.specs.Grammar.{config_line, node_word, event_line}
@@ -40,9 +40,9 @@ returns-clause-sent c = refl
 
 pub returns-clause-last_of_doomed_attempt : goal.returns-clause-last_of_doomed_attempt
 unfolding computed zeroed register written padded both_words both_code at_pc address call_need small image_entry last_loaded last_stored
-    done addr_of executed evicted taken committer words_read sent_to sent happened field char_count digits padded_integral node_word
-    event_line committed_words keeps_words acknowledged_words message_words phase_words cause_words name_words fact_words fact_line
-    event_and_facts event_texts text_from
+    done addr_of executed evicted taken commit_of words_read numbered sent_to sent happened field char_count digits padded_integral
+    node_word event_line committed_words keeps_words acknowledged_words message_words phase_words cause_words name_words fact_words
+    fact_line event_and_facts event_texts text_from
 returns-clause-last_of_doomed_attempt c = refl
 
 pub returns-clause-first_and_last : goal.returns-clause-first_and_last
