@@ -1,7 +1,7 @@
 -- What is shown of a frame is what the rules' cache has of its line.
-use Rattle.std.proofs.Common.{◌≡◌, ℕ, zero, suc, ◌*◌, ◌+◌, ◌<◌, ◌/◌, ◌%◌, Bool, true, false, not, cond, ◌||◌, ◌==◌, if◌then◌else◌, List, [], ◌∷◌, ◌++◌, Option, Some, None, is_some, codes, refl, ap, sym, ◌∙◌, arith, inl, inr}
+use Rattle.std.proofs.Common.{◌≡◌, ℕ, zero, suc, ◌*◌, ◌+◌, ◌<◌, Bool, true, false, cond, ◌==◌, if◌then◌else◌, List}
+use Rattle.std.proofs.Common.{[], ◌++◌, Option, Some, None, is_some, codes, refl, ap, sym, ◌∙◌, arith, inl, inr}
 use Rattle.std.specs.Prelude.{get_or, unwrap_or}
-use Rattle.std.specs.List.{flat_map, range_with_len}
 use Rattle.std.specs.Fmt.{decimal}
 use Rattle.std.proofs.lemmas.Bool.{cases_Bool}
 use Rattle.std.proofs.lemmas.Bool.Decides.{nat_tests}
@@ -14,7 +14,7 @@ use Rattle.spec_cache.specs.declared.frame.FrameView.{FrameView}
 use Rattle.schedule_text.specs.Grammar.{newline}
 use Rattle.watch_trace.specs.Words.{value_word, value_words}
 use Rattle.watch_state.specs.Cores.{frame_of, held_record, way_record}
-use Rattle.watch_state.specs.Lines.{frame_words, key_words, record_line, record_lines, value_of}
+use Rattle.watch_state.specs.Lines.{frame_words, key_words, record_line, record_lines}
 use Rattle.watch_state.specs.Records.{Holds}
 use Rattle.watch_state.specs.Shown.{shown_frame}
 use Rattle.watch_state.proofs.Growing.{line-alone, lines-none}
@@ -89,10 +89,11 @@ tag-shown : (c : Cache) (l : ℕ) (f : FrameView) → Views c l f → (if f.dirt
 unfolding dirty_tag first_of_line dirty_mask mask_of
 tag-shown c l f v =
     let p : ℕ → Bool = λ k. is_some (c.dirty (word_at l k)) in
+    let at : (k : ℕ) → k < 8 → c.dirty (word_at l k) ≡ cond (p k) (Some f.tag.0) None = λ k. dirty-at c l k f v in
     chosen f.tag.0 f.dirty.0 (p 0) (p 1) (p 2) (p 3) (p 4) (p 5) (p 6) (p 7) v.dirty
-    ∙ sym (λ i. unwrap_or (or_else (dirty-at c l 0 f v (omega arith) i) (or_else (dirty-at c l 1 f v (omega arith) i)
-    (or_else (dirty-at c l 2 f v (omega arith) i) (or_else (dirty-at c l 3 f v (omega arith) i) (or_else (dirty-at c l 4 f v (omega arith) i)
-    (or_else (dirty-at c l 5 f v (omega arith) i) (or_else (dirty-at c l 6 f v (omega arith) i) (dirty-at c l 7 f v (omega arith) i)))))))) 0)
+    ∙ sym (λ i. unwrap_or (or_else (at 0 (omega arith) i) (or_else (at 1 (omega arith) i) (or_else (at 2 (omega arith) i)
+    (or_else (at 3 (omega arith) i) (or_else (at 4 (omega arith) i) (or_else (at 5 (omega arith) i)
+    (or_else (at 6 (omega arith) i) (at 7 (omega arith) i)))))))) 0)
 
 -- ---- the whole
 
@@ -109,7 +110,7 @@ frame-shown c l f v =
 
 pub way-shown : (id x y : ℕ) (c : Cache) (f : FrameView) → c.at x y ≡ Some f.line.0 → Views c f.line.0 f
     → record_line (Holds id x y (shown_frame (if f.dirty.0 == 0 then 0 else f.tag.0) f)) ≡ record_lines (way_record id c x y)
-unfolding way_record record_line key_words value_of
+unfolding way_record record_line
 way-shown id x y c f e v =
     ap (λ t. key_words (Holds id x y (frame_of c f.line.0)) ++ t ++ newline) (frame-shown c f.line.0 f v)
     ∙ sym (line-alone (Holds id x y (frame_of c f.line.0))) ∙ ap (λ o. record_lines (held_record id x y c o)) (sym e)

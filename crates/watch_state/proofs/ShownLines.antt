@@ -1,5 +1,6 @@
 -- What is shown of a line is what the rules' directory knows of it.
-use Rattle.std.proofs.Common.{◌≡◌, ◌≢◌, ℕ, ◌<◌, ◌/◌, ◌^◌, nat_lt, arith, true, Bool, not, ◌||◌, ◌==◌, if◌then◌else◌, List, [], ◌∷◌, Option, Some, None, is_some, refl, ap, sym, ◌∙◌}
+use Rattle.std.proofs.Common.{◌≡◌, ◌≢◌, ℕ, ◌<◌, ◌/◌, ◌^◌, nat_lt, arith, true, not, ◌||◌, ◌==◌, if◌then◌else◌}
+use Rattle.std.proofs.Common.{List, [], ◌∷◌, Option, Some, None, is_some, refl, ap, ◌∙◌}
 use Rattle.std.specs.Prelude.{option_map}
 use Rattle.std.proofs.lemmas.Bool.{ne_eqb}
 use Rattle.std.proofs.lemmas.Bool.Decides.{nat_tests}
@@ -13,8 +14,8 @@ use Rattle.dir_lines.specs.declared.core_set.CoreSet.{CoreSet}
 use Rattle.directory.specs.declared.directory.LineState.{LineState}
 use Rattle.watch_state.specs.Directories.{at_home, known_of, line_record, word_record}
 use Rattle.watch_state.specs.Cores.{addr_of}
-use Rattle.watch_state.specs.Records.{Known, HomeWord, LineIs, Record}
-use Rattle.watch_state.specs.Shown.{knows, shown_line, shown_record}
+use Rattle.watch_state.specs.Records.{HomeWord, LineIs, Record}
+use Rattle.watch_state.specs.Shown.{knows, shown_record}
 
 -- what was read of a line at its home
 pub record IsRead (ls : Lines) (l : ℕ) (s : LineState) (x : CoreSet) : Type 0 where

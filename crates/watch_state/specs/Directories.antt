@@ -1,5 +1,5 @@
 -- The records of a directory, in their order. What is as in an untouched machine has none, but for the directory itself.
-use Rattle.std.specs.Prelude.{ℕ, ◌+◌, Bool, not, ◌==◌, ◌&&◌, ◌||◌, List, [], ◌∷◌, ◌++◌, Option, is_some, length, if◌then◌else◌}
+use Rattle.std.specs.Prelude.{ℕ, ◌+◌, Bool, not, ◌==◌, ◌||◌, List, [], ◌∷◌, ◌++◌, is_some, length, if◌then◌else◌}
 use Rattle.std.specs.List.{flat_map}
 use Rattle.tcc_maps.specs.Lines.{Lines}
 use Rattle.tcc_maps.specs.Serving.{Serving, is_skipped}
@@ -26,7 +26,9 @@ known_of sh ls l = record {
 
 -- something is known of the line
 abbrev pub is_known : Shape → Lines → (line : ℕ) → Bool
-is_known sh ls l = is_some (ls.owner l) || (not (ls.tag l == 0) || (ls.asked l || (not (ls.mark l == 0) || any_below (ls.sharers l) sh.cores)))
+is_known sh ls l =
+    is_some (ls.owner l)
+    || (not (ls.tag l == 0) || (ls.asked l || (not (ls.mark l == 0) || any_below (ls.sharers l) sh.cores)))
 
 unfoldable pub line_record : Shape → Lines → (line : ℕ) → List Record
 line_record sh ls l = if is_known sh ls l then LineIs l (known_of sh ls l) ∷ [] else []

@@ -39,7 +39,7 @@ outcome_words (Halted code) = codes " halt " ++ decimal code
 outcome_words (Trapped cause) = codes " trap " ++ decimal cause
 
 -- the record's key
-unfoldable pub key_words : Record → List ℕ
+abbrev pub key_words : Record → List ℕ
 key_words (CoreIs core n pc phase) = codes "core " ++ decimal core
 key_words (Reserved core addr) = codes "reserved " ++ decimal core
 key_words (EndedBy core outcome) = codes "ended " ++ decimal core
@@ -76,7 +76,7 @@ abbrev pub known_words : Known → List ℕ
 known_words k = owner_words k.home k.owner ++ mark_words k.tag k.asked k.mark ++ codes " sharers" ++ numbers_or_none k.sharers
 
 -- the record's value
-unfoldable pub value_of : Record → List ℕ
+abbrev pub value_of : Record → List ℕ
 value_of (CoreIs core n pc phase) = codes " n " ++ decimal n ++ codes " pc " ++ hex 8 pc ++ codes " phase " ++ phase_words phase
 value_of (Reserved core addr) = codes " " ++ hex 8 addr
 value_of (EndedBy core outcome) = outcome_words outcome

@@ -1,5 +1,5 @@
 // What a core's attempt has come to, each record appended to a text. Where memory runs out, the text holds a part of it.
-ghost use Rattle.std.specs.Prelude.{◌≡◌, ◌<◌, ◌≤◌, ◌++◌, OnOk, string_bytes, option_map};
+ghost use Rattle.std.specs.Prelude.{◌≡◌, ◌<◌, ◌≤◌, ◌++◌, ◌==◌, ◌∷◌, [], OnOk, string_bytes, if◌then◌else◌};
 ghost use Rattle.std.specs.List.{flat_map};
 ghost use Rattle.tcc_maps.specs.Masks.{has};
 ghost use Rattle.tcc_maps.specs.Words.{those};
@@ -9,7 +9,7 @@ ghost use Rattle.rv_plain.specs.Attempts.{outcome_of};
 ghost use Rattle.core_node.specs.View.{awaited_of, core_of};
 ghost use Rattle.watch_state.specs.Cores.{attempt_records, awaited_record, committed_record, ended_record, owed_record, reserved_record};
 ghost use Rattle.watch_state.specs.Lines.{record_line, record_lines};
-ghost use Rattle.watch_state.specs.Records.{CoreIs, OwedBy};
+ghost use Rattle.watch_state.specs.Records.{CommittedAt, CoreIs, OwedBy};
 
 use crate::numbers::{any_in, push_numbers};
 use commit_engine::Phase;
@@ -19,7 +19,7 @@ use std::alloc::AllocError;
 use tcc_base::{Config, CoreId, Tid};
 use watch_trace::push_phase;
 
-#[tactic(auto, unfolding(crate::specs::Lines::record_line, crate::specs::Lines::key_words, crate::specs::Lines::value_of))]
+#[tactic(auto, unfolding(crate::specs::Lines::record_line))]
 fn push_core_is(
     text: &mut String,
     core: CoreId,
@@ -34,7 +34,7 @@ fn push_core_is(
     text.push_str("\n")
 }
 
-#[tactic(auto, unfolding(crate::specs::Lines::record_lines, crate::specs::Lines::record_line, crate::specs::Lines::key_words, crate::specs::Lines::value_of))]
+#[tactic(auto, unfolding(crate::specs::Lines::record_lines, crate::specs::Lines::record_line))]
 fn push_reserved(text: &mut String, core: CoreId, reserved: Option<u32>) -> Result<(), AllocError>
     ensures { OnOk result (string_bytes text.new ≡ string_bytes text.old ++ record_lines (reserved_record core.0 reserved)) }
 {
@@ -44,7 +44,7 @@ fn push_reserved(text: &mut String, core: CoreId, reserved: Option<u32>) -> Resu
     }
 }
 
-#[tactic(auto, unfolding(crate::specs::Lines::record_lines, crate::specs::Lines::record_line, crate::specs::Lines::key_words, crate::specs::Lines::value_of))]
+#[tactic(auto, unfolding(crate::specs::Lines::record_lines, crate::specs::Lines::record_line))]
 fn push_ended(text: &mut String, core: CoreId, ended: Outcome) -> Result<(), AllocError>
     ensures { OnOk result (string_bytes text.new ≡ string_bytes text.old ++ record_lines (ended_record core.0 (outcome_of ended))) }
 {
@@ -56,7 +56,7 @@ fn push_ended(text: &mut String, core: CoreId, ended: Outcome) -> Result<(), All
     }
 }
 
-#[tactic(auto, unfolding(crate::specs::Lines::record_lines, crate::specs::Lines::record_line, crate::specs::Lines::key_words, crate::specs::Lines::value_of))]
+#[tactic(auto, unfolding(crate::specs::Lines::record_lines, crate::specs::Lines::record_line))]
 fn push_awaited(text: &mut String, core: CoreId, awaited: Option<Awaited>) -> Result<(), AllocError>
     ensures { OnOk result (string_bytes text.new ≡ string_bytes text.old ++ record_lines (awaited_record core.0 (awaited_of awaited))) }
 {
@@ -73,7 +73,7 @@ fn push_awaited(text: &mut String, core: CoreId, awaited: Option<Awaited>) -> Re
     }
 }
 
-#[tactic(auto, unfolding(crate::specs::Lines::record_line, crate::specs::Lines::key_words, crate::specs::Lines::value_of))]
+#[tactic(auto, unfolding(crate::specs::Lines::record_line))]
 fn push_owed_by(text: &mut String, core: CoreId, bits: u64, dirs: u8) -> Result<(), AllocError>
     requires { dirs ≤ 64 }
     ensures { OnOk result (string_bytes text.new ≡ string_bytes text.old ++ record_line (OwedBy core.0 (those (has bits) dirs))) }
@@ -95,7 +95,18 @@ fn push_owed(text: &mut String, core: CoreId, bits: u64, dirs: u8) -> Result<(),
     }
 }
 
-#[tactic(auto, unfolding(crate::specs::Lines::record_lines, crate::specs::Lines::record_line, crate::specs::Lines::key_words, crate::specs::Lines::value_of, crate::specs::Cores::committed_record, commit_engine::specs::Engine::after_of))]
+#[tactic(auto, unfolding(crate::specs::Lines::record_lines, crate::specs::Lines::record_line))]
+fn push_last(text: &mut String, core: CoreId, dir: u8, tid: u64) -> Result<(), AllocError>
+    ensures { OnOk result (string_bytes text.new
+        ≡ string_bytes text.old ++ record_lines (if tid == 0 then [] else CommittedAt core.0 dir tid ∷ [])) }
+{
+    if tid == 0 {
+        return Ok(());
+    }
+    write!(text, "last {} {dir} {tid}\n", core.0)
+}
+
+#[tactic(auto, unfolding(crate::specs::Cores::committed_record, commit_engine::specs::Engine::after_of))]
 fn push_committed(
     text: &mut String,
     core: CoreId,
@@ -103,13 +114,10 @@ fn push_committed(
     dir: u8,
 ) -> Result<(), AllocError>
     requires { dir < 64 }
-    ensures { OnOk result (string_bytes text.new ≡ string_bytes text.old ++ record_lines (committed_record core.0 (after_of after.now) dir)) }
+    ensures { OnOk result (string_bytes text.new
+        ≡ string_bytes text.old ++ record_lines (committed_record core.0 (after_of after.now) dir)) }
 {
-    let tid = after[dir as usize].0;
-    if tid == 0 {
-        return Ok(());
-    }
-    write!(text, "last {} {dir} {tid}\n", core.0)
+    push_last(text, core, dir, after[dir as usize].0)
 }
 
 #[tactic(auto, unfolding(crate::specs::Lines::record_lines, tcc_maps::specs::Words::those))]

@@ -1,5 +1,6 @@
 // What a directory knows, each record appended to a text. Where memory runs out, the text holds a part of it.
-ghost use Rattle.std.specs.Prelude.{◌≡◌, ◌+◌, ◌<◌, ◌≤◌, ◌++◌, ◌==◌, ◌/◌, ◌%◌, ◌^◌, ◌∷◌, [], ℕ, OnOk, string_bytes, length, option_map, if◌then◌else◌};
+ghost use Rattle.std.specs.Prelude.{◌≡◌, ◌+◌, ◌<◌, ◌≤◌, ◌++◌, ◌==◌, ◌/◌, ◌%◌, ◌^◌, ◌∷◌, [], ℕ, length};
+ghost use Rattle.std.specs.Prelude.{OnOk, string_bytes, option_map, if◌then◌else◌};
 ghost use Rattle.std.specs.List.{flat_map};
 ghost use Rattle.image_load.specs.Contents.{started};
 ghost use Rattle.rv_code.specs.Machine.{first_ram};
@@ -23,7 +24,7 @@ use rv_code::Code;
 use std::alloc::AllocError;
 use tcc_base::{Config, CoreId, DirId, LineAddr, Mask, Tid};
 
-#[tactic(auto, unfolding(crate::specs::Lines::record_line, crate::specs::Lines::key_words, crate::specs::Lines::value_of))]
+#[tactic(auto, unfolding(crate::specs::Lines::record_line))]
 fn push_directory_is(
     text: &mut String,
     dir: DirId,
@@ -35,7 +36,7 @@ fn push_directory_is(
     write!(text, "dir {} serves {} owed {owed}\n", dir.0, serving.0)
 }
 
-#[tactic(auto, unfolding(crate::specs::Lines::record_lines, crate::specs::Lines::record_line, crate::specs::Lines::key_words, crate::specs::Lines::value_of))]
+#[tactic(auto, unfolding(crate::specs::Lines::record_lines, crate::specs::Lines::record_line))]
 fn push_skipped(text: &mut String, dir: DirId, tid: Tid) -> Result<(), AllocError>
     ensures { OnOk result (string_bytes text.new ≡ string_bytes text.old ++ record_line (Skipped dir.0 tid.0)) }
 {
@@ -61,7 +62,7 @@ fn push_mark(text: &mut String, tag: Tid, asked: bool, mark: Mask) -> Result<(),
 }
 
 /// The line of a line of memory of which something is known.
-#[tactic(auto, unfolding(crate::specs::Lines::record_line, crate::specs::Lines::key_words, crate::specs::Lines::value_of))]
+#[tactic(auto, unfolding(crate::specs::Lines::record_line))]
 fn push_known(
     text: &mut String,
     line: LineAddr,

@@ -11,7 +11,7 @@ use tcc_msg::{Msg, Name};
 use watch_trace::{push_message, push_name};
 
 /// Appends the record of the vendor, with the TID that it gives next. After want of memory a part of it may stand there.
-#[tactic(auto, unfolding(crate::specs::Lines::record_line, crate::specs::Lines::key_words, crate::specs::Lines::value_of))]
+#[tactic(auto, unfolding(crate::specs::Lines::record_line))]
 pub fn push_vendor(text: &mut String, next: Tid) -> Result<(), AllocError>
     ensures { OnOk result (string_bytes text.new ≡ string_bytes text.old ++ record_line (VendorIs next.0)) }
 {
@@ -19,7 +19,7 @@ pub fn push_vendor(text: &mut String, next: Tid) -> Result<(), AllocError>
 }
 
 /// Appends the record of a message in flight. After want of memory a part of it may stand there.
-#[tactic(auto, unfolding(crate::specs::Lines::record_line, crate::specs::Lines::key_words, crate::specs::Lines::value_of))]
+#[tactic(auto, unfolding(crate::specs::Lines::record_line))]
 pub fn push_flight(text: &mut String, name: Name, msg: &Msg) -> Result<(), AllocError>
     ensures { OnOk result (string_bytes text.new ≡ string_bytes text.old
         ++ record_line (InFlight (node_of name.src) (node_of name.dst) name.seq (msg_of msg.now))) }

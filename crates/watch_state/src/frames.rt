@@ -36,7 +36,7 @@ fn push_frame(text: &mut String, frame: &FrameView, tag: Tid) -> Result<(), Allo
     push_values(text, frame.valid.0, &frame.words)
 }
 
-#[tactic(auto, unfolding(crate::specs::Lines::record_line, crate::specs::Lines::key_words, crate::specs::Lines::value_of))]
+#[tactic(auto, unfolding(crate::specs::Lines::record_line))]
 fn push_holds(
     text: &mut String,
     core: CoreId,
@@ -44,8 +44,8 @@ fn push_holds(
     way: u8,
     frame: &FrameView,
 ) -> Result<(), AllocError>
-    ensures { OnOk result (string_bytes text.new
-        ≡ string_bytes text.old ++ record_line (Holds core.0 set way (shown_frame (if frame.now.dirty.0 == 0 then 0 else frame.now.tag.0) frame.now))) }
+    ensures { let tag = (if frame.now.dirty.0 == 0 then 0 else frame.now.tag.0) in OnOk result (string_bytes text.new
+        ≡ string_bytes text.old ++ record_line (Holds core.0 set way (shown_frame tag frame.now))) }
 {
     write!(text, "frame {} {set} {way}", core.0)?;
     push_frame(text, frame, tag_of_dirty(frame))?;

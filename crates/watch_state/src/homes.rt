@@ -18,7 +18,7 @@ use rv_code::Code;
 use std::alloc::AllocError;
 use tcc_base::{DirId, LineAddr, WordAddr};
 
-#[tactic(auto, unfolding(crate::specs::Lines::record_lines, crate::specs::Lines::record_line, crate::specs::Lines::key_words, crate::specs::Lines::value_of))]
+#[tactic(auto, unfolding(crate::specs::Lines::record_lines, crate::specs::Lines::record_line))]
 fn push_changed(text: &mut String, addr: u32, value: u32, first: u32) -> Result<(), AllocError>
     ensures { OnOk result (string_bytes text.new
         ≡ string_bytes text.old ++ record_lines (if value == first then [] else HomeWord addr value ∷ [])) }
@@ -96,9 +96,9 @@ pub(crate) fn push_home_words(
     code: &Code,
 ) -> Result<(), AllocError>
     requires { dir.now.lines.place ≡ record { shape = code.now.settings; dir = id.0 } }
-    ensures { (elsewhere : ℕ → ℕ) → OnOk result (string_bytes text.new ≡ string_bytes text.old ++ record_lines
-        (flat_map (at_home code.now.settings id.0
-        (word_records code.now.settings (first_ram (started code.now)) (dir_of elsewhere dir.now).words)) (numbers (lines code.now.settings)))) }
+    ensures { (elsewhere : ℕ → ℕ) → let sh = code.now.settings in OnOk result (string_bytes text.new ≡ string_bytes text.old ++ record_lines
+        (flat_map (at_home sh id.0 (word_records sh (first_ram (started code.now)) (dir_of elsewhere dir.now).words))
+        (numbers (lines sh)))) }
 {
     for line in 0..code.config().words() / 8 {
         push_words_at_home(text, id, dir, code, LineAddr(line))?;

@@ -12,7 +12,7 @@ use reg_checkpoint::Regs;
 use std::alloc::AllocError;
 use tcc_base::{CoreId, Reg};
 
-#[tactic(auto, unfolding(crate::specs::Lines::record_lines, crate::specs::Lines::record_line, crate::specs::Lines::key_words, crate::specs::Lines::value_of, crate::specs::Cores::register_record))]
+#[tactic(auto, unfolding(crate::specs::Lines::record_lines, crate::specs::Lines::record_line, crate::specs::Cores::register_record))]
 fn push_register(text: &mut String, core: CoreId, regs: &Regs, r: Reg) -> Result<(), AllocError>
     ensures { OnOk result (string_bytes text.new ≡ string_bytes text.old ++ record_lines (register_record core.0 regs.now r)) }
 {
@@ -23,7 +23,7 @@ fn push_register(text: &mut String, core: CoreId, regs: &Regs, r: Reg) -> Result
     write!(text, "reg {} {} {value:08x}\n", core.0, r.number())
 }
 
-#[tactic(auto, unfolding(crate::specs::Lines::record_lines, crate::specs::Lines::record_line, crate::specs::Lines::key_words, crate::specs::Lines::value_of, crate::specs::Cores::saved_record))]
+#[tactic(auto, unfolding(crate::specs::Lines::record_lines, crate::specs::Lines::record_line, crate::specs::Cores::saved_record))]
 fn push_saved_register(
     text: &mut String,
     core: CoreId,
@@ -39,7 +39,7 @@ fn push_saved_register(
     write!(text, "saved {} {} {value:08x}\n", core.0, r.number())
 }
 
-#[tactic(auto, unfolding(crate::specs::Lines::record_line, crate::specs::Lines::key_words, crate::specs::Lines::value_of))]
+#[tactic(auto, unfolding(crate::specs::Lines::record_line))]
 fn push_saved_pc(text: &mut String, core: CoreId, pc: u32) -> Result<(), AllocError>
     ensures { OnOk result (string_bytes text.new ≡ string_bytes text.old ++ record_line (SavedPc core.0 pc)) }
 {

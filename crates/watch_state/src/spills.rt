@@ -11,7 +11,7 @@ use overflow_buf::OverflowBuf;
 use std::alloc::AllocError;
 use tcc_base::{Config, CoreId, LineAddr, WordAddr};
 
-#[tactic(auto, unfolding(crate::specs::Lines::record_lines, crate::specs::Lines::record_line, crate::specs::Lines::key_words, crate::specs::Lines::value_of))]
+#[tactic(auto, unfolding(crate::specs::Lines::record_lines, crate::specs::Lines::record_line))]
 fn push_spilled(
     text: &mut String,
     core: CoreId,

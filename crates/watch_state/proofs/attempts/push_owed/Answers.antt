@@ -1,5 +1,5 @@
 -- No directory owes the core a reply.
-use Rattle.std.proofs.Common.{ap, sym, ◌∙◌, rules}
+use Rattle.std.proofs.Common.{sym, ◌∙◌, rules}
 use Rattle.tcc_maps.specs.Masks.{has}
 use Rattle.watch_state.proofs.Growing.{none-owed}
 use Rattle.watch_state.proofs.attempts.push_owed.Goals as goal

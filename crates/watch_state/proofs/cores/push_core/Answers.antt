@@ -3,7 +3,6 @@ use Rattle.std.proofs.Common.{◌++◌, string_bytes}
 use Rattle.std.specs.List.{flat_map}
 use Rattle.tcc_maps.specs.Shape.{lines}
 use Rattle.tcc_rules.specs.Seen.{numbers}
-use Rattle.overflow_buf.specs.Kept.{spilled}
 use Rattle.core_node.specs.View.{core_of}
 use Rattle.watch_state.specs.Cores.{attempt_records, cached_records, core_records, register_records, set_records, spilled_records}
 use Rattle.watch_state.proofs.Growing.{lines-then}

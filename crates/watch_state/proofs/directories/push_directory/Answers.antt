@@ -27,5 +27,6 @@ returns c = λ e.
     let t3 = string_bytes c.push_lines.new.text in
     let t4 = string_bytes c.push_home_words.new.text in
     lines-then (first ∷ skips) (known ++ words) t0 t2 t4
-    (line-then first skips t0 t1 t2 (rw (c.serving.ensures e, c.owed.ensures e) at c.in_ok-push_directory_is.ensures) (c.in_ok-push_skips.ensures e))
+    (line-then first skips t0 t1 t2 (rw (c.serving.ensures e, c.owed.ensures e) at c.in_ok-push_directory_is.ensures)
+    (c.in_ok-push_skips.ensures e))
     (lines-then known words t2 t3 t4 (rw c.config.ensures at (c.in_ok-push_lines.ensures e)) (c.in_ok-push_home_words.ensures e))

@@ -1,5 +1,6 @@
 -- The line is at home here, or elsewhere.
-use Rattle.std.proofs.Common.{◌++◌, ap, sym, ◌∙◌, rules, string_bytes}
+use Rattle.std.proofs.Common.{◌≢◌, ◌++◌, ap, sym, ◌∙◌, rules, string_bytes}
+use Rattle.tcc_maps.specs.Shape.{home}
 use Rattle.directory.specs.Data.{dir_of}
 use Rattle.watch_state.specs.Directories.{line_record}
 use Rattle.watch_state.specs.Lines.{record_lines}
@@ -29,5 +30,6 @@ pub returns-else-id-home : goal.returns-else-id-home
 returns-else-id-home c = λ e.
     let sh = c.args.config.now in
     let ls = (dir_of e c.args.dir.now).lines in
-    rw (elsewhere-at-home sh c.args.id.0 c.args.line.0 (line_record sh ls) (λ q. c.if-id-home.false (q ∙ sym c.home-home.ensures.value)), lines-none)
+    let away : c.args.id.0 ≢ home sh c.args.line.0 = λ q. c.if-id-home.false (q ∙ sym c.home-home.ensures.value) in
+    rw (elsewhere-at-home sh c.args.id.0 c.args.line.0 (line_record sh ls) away, lines-none)
     (search rules)

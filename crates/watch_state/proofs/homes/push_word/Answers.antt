@@ -14,6 +14,7 @@ returns c = λ e.
     let w = c.args.word.0 in
     c.in_ok-push_changed.ensures
     ∙ ap (λ rs. string_bytes c.args.text.now ++ record_lines rs)
-    (word-shown c.args.code.now.settings (first_ram s) (dir_of e c.args.dir.now).words w (c.base.result + 4 * w) c.word.result c.word-2.result
+    (word-shown c.args.code.now.settings (first_ram s) (dir_of e c.args.dir.now).words w
+    (c.base.result + 4 * w) c.word.result c.word-2.result
     (ap (λ b. b + 4 * w) (c.base.ensures.value ∙ ap (λ t. t.base) c.config.ensures)) (c.word.ensures e)
     (sym (first-is s w c.word-2.result c.requires.exists c.word-2.ensures (omega (arith, c.word-2.type_inv)))))

@@ -9,8 +9,10 @@ use Rattle.watch_state.proofs.homes.push_words.Goals as goal
 
 pub loop-k-preserved : goal.loop-k-preserved
 loop-k-preserved c = λ e.
+    let sh = c.args.code.now.settings in
+    let words = (dir_of e c.args.dir.now).words in
     lines-more
-    (λ k. word_record c.args.code.now.settings (first_ram (started c.args.code.now)) (dir_of e c.args.dir.now).words (word_at c.args.line.0 k))
+    (λ k. word_record sh (first_ram (started c.args.code.now)) words (word_at c.args.line.0 k))
     c.loop-k.k (string_bytes c.args.text.now) (string_bytes c.loop-k.text) (string_bytes c.push_word.new.text) (c.loop-k.invariant e)
     (c.in_ok-push_word.ensures e)
 

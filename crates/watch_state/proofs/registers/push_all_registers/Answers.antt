@@ -13,7 +13,8 @@ loop-number-preserved c =
           lines-more (register_record c.args.core.0 c.args.regs.now) c.loop-number.number (string_bytes c.args.text.now)
           (string_bytes c.loop-number.text) (string_bytes c.match-new.text) c.loop-number.invariant
           (ap string_bytes b.text-is ∙ b.in_ok-push_register.ensures
-          ∙ ap (λ (r : ℕ). string_bytes c.loop-number.text ++ record_lines (register_record c.args.core.0 c.args.regs.now r)) b.in-Some.ensures.value)
+          ∙ ap (λ (r : ℕ). string_bytes c.loop-number.text ++ record_lines (register_record c.args.core.0 c.args.regs.now r))
+          b.in-Some.ensures.value)
       | in_default b ↦ grind (arith, common_steps)
     ]
 
