@@ -1,3 +1,7 @@
+-- The proofs of this crate.
 pub mod Growing
 pub mod ShownFrames
 pub mod ShownLines
+pub mod Listed
+pub mod Flying
+pub mod Parts

@@ -3,5 +3,6 @@ pub mod Records
 pub mod Lines
 pub mod Cores
 pub mod Directories
+pub mod Events
 pub mod Text
 pub mod Shown

@@ -50,13 +50,14 @@ event_text sh p w e =
     then (if is_useful sh p w e then codes "useful " else codes "useless ") ++ event_line (shown_event_of e)
     else []
 
--- all that are enabled: Exec by core, Evict by core, set and way, Deliver by source, destination and number
-unfoldable pub events_text : Shape → Program → World → List ℕ
-events_text sh p w =
-    flat_map (event_text sh p w) (execs sh) ++ (flat_map (event_text sh p w) (evicts sh) ++ flat_map (event_text sh p w) (delivers sh w))
+-- those of these events that are enabled
+unfoldable pub events_text : Shape → Program → World → List Event → List ℕ
+events_text sh p w es = flat_map (event_text sh p w) es
 
--- whether the run is done and how many events it took, as is told here
+-- whether the run is done and how many events it took, as is told here; of the events all that are enabled, in the order of useful events:
+-- Exec by core, Evict by core, set and way, Deliver by source, destination and number
 unfoldable pub state_text : Start → (done : Bool) → (events : ℕ) → History → List ℕ
 state_text s done events h =
     codes "tcc-state 1" ++ newline ++ config_line s.settings ++ record_lines (state_records s h.world)
-    ++ events_text s.settings (program s) h.world ++ end_line done ++ events_line events
+    ++ events_text s.settings (program s) h.world (execs s.settings ++ (evicts s.settings ++ delivers s.settings h.world))
+    ++ end_line done ++ events_line events

@@ -1,0 +1,73 @@
+-- On a link the messages in flight are all of which anything is written.
+use Rattle.std.proofs.Common.{◌≡◌, ℕ, false, List, [], length, Option, Some, None, is_some, refl, ap, sym, ◌∙◌}
+use Rattle.std.specs.List.{flat_map}
+use Rattle.std.proofs.lemmas.List.Folds.{flat_map-map}
+use Rattle.tcc_maps.specs.Nodes.{Node, Event, Deliver, Msg}
+use Rattle.tcc_maps.specs.Words.{those}
+use Rattle.tcc_rules.specs.Links.{in_flight}
+use Rattle.tcc_rules.specs.Seen.{numbers}
+use Rattle.tcc_rules.specs.State.{World}
+use Rattle.tcc_rules.specs.Step.{is_enabled}
+use Rattle.net_core.proofs.Lemmas.{absent-refused}
+use Rattle.net_core.specs.Machine.{Machine, program_of, settings_of, world_of}
+use Rattle.watch_state.specs.Events.{link_delivers}
+use Rattle.watch_state.specs.Lines.{record_line, record_lines}
+use Rattle.watch_state.specs.Records.{InFlight}
+use Rattle.watch_state.specs.Text.{event_text, events_text, flight_record, link_records}
+use Rattle.watch_state.proofs.Growing.{line-alone, lines-none}
+use Rattle.watch_state.proofs.Listed.{flat-flat, only-those}
+
+-- the numbers of those in flight on a link
+abbrev pub flying_on : World → (src dst : Node) → List ℕ
+flying_on w src dst = those (λ k. is_some (in_flight w.net src dst k)) (length (w.net src dst))
+
+-- ---- their records
+
+abbrev pub flight_lines : World → (src dst : Node) → ℕ → List ℕ
+flight_lines w src dst k = record_lines (flight_record src dst k (in_flight w.net src dst k))
+
+none-flies : (src dst : Node) (k : ℕ) (o : Option Msg) → is_some o ≡ false → record_lines (flight_record src dst k o) ≡ []
+none-flies src dst k None e = lines-none
+none-flies src dst k (Some m) e = absurd (cc)
+
+pub flight-written : (w : World) (src dst : Node) (k : ℕ) (m : Msg) → in_flight w.net src dst k ≡ Some m
+    → record_line (InFlight src dst k m) ≡ flight_lines w src dst k
+flight-written w src dst k m e =
+    sym (ap (λ o. record_lines (flight_record src dst k o)) e ∙ line-alone (InFlight src dst k m))
+
+pub flights-written : (w : World) (src dst : Node)
+    → flat_map (flight_lines w src dst) (flying_on w src dst) ≡ record_lines (link_records w src dst)
+unfolding link_records record_lines
+flights-written w src dst =
+    only-those (flight_lines w src dst) (λ k. is_some (in_flight w.net src dst k))
+    (λ k e. none-flies src dst k (in_flight w.net src dst k) e) (length (w.net src dst))
+    ∙ sym (flat-flat record_line (λ k. flight_record src dst k (in_flight w.net src dst k)) (numbers (length (w.net src dst))))
+
+-- ---- their deliveries
+
+-- what is written of an event
+abbrev pub text_of_event : Machine → Event → List ℕ
+text_of_event m e = event_text (settings_of m) (program_of m) (world_of m) e
+
+abbrev pub deliver_text : Machine → (src dst : Node) → ℕ → List ℕ
+deliver_text m src dst k = text_of_event m (Deliver src dst k)
+
+not-some : (o : Option Msg) → is_some o ≡ false → o ≡ None
+not-some None e = refl
+not-some (Some m) e = absurd (cc)
+
+none-delivered : (m : Machine) (src dst : Node) (k : ℕ) → is_some (in_flight (world_of m).net src dst k) ≡ false
+    → deliver_text m src dst k ≡ []
+unfolding event_text is_enabled
+none-delivered m src dst k e =
+    let absent = absent-refused m src dst k (not-some (in_flight (world_of m).net src dst k) e) in
+    rw absent refl
+
+pub delivers-written : (m : Machine) (src dst : Node)
+    → flat_map (deliver_text m src dst) (flying_on (world_of m) src dst)
+    ≡ events_text (settings_of m) (program_of m) (world_of m) (link_delivers (world_of m) src dst)
+unfolding events_text link_delivers
+delivers-written m src dst =
+    only-those (deliver_text m src dst) (λ k. is_some (in_flight (world_of m).net src dst k)) (none-delivered m src dst)
+    (length ((world_of m).net src dst))
+    ∙ sym (flat_map-map (text_of_event m) (λ k. Deliver src dst k) (numbers (length ((world_of m).net src dst))))

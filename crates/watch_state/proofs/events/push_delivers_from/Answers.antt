@@ -1,0 +1,29 @@
+-- Each destination in turn.
+use Rattle.std.proofs.Common.{string_bytes, ap, sym, ◌∙◌, arith}
+use Rattle.std.specs.Prelude.{slice_get}
+use Rattle.tcc_maps.specs.Bridge.{node_of}
+use Rattle.tcc_rules.specs.Useful.{nodes}
+use Rattle.net_core.specs.Machine.{settings_of, world_of}
+use Rattle.watch_state.specs.Events.{link_delivers}
+use Rattle.watch_state.specs.Text.{events_text}
+use Rattle.watch_state.proofs.Flying.{text_of_event}
+use Rattle.watch_state.proofs.Listed.{flats-listed, none-past}
+use Rattle.watch_state.proofs.events.push_delivers_from.Goals as goal
+use Rattle.watch_state.proofs.events.push_delivers_from.Goals.{in-Some+in_ok-push_link_delivers, in_default}
+
+pub loop-place-preserved : goal.loop-place-preserved
+unfolding events_text
+loop-place-preserved c =
+    let m = c.args.system.now in
+    let k = c.loop-place.place in
+    elim c.match-node_at.branch [
+      | in-Some+in_ok-push_link_delivers b ↦
+          flats-listed (text_of_event m) (link_delivers (world_of m) (node_of c.args.src)) (nodes (settings_of m)) k
+          (node_of b.in-Some.dst)
+          (string_bytes c.args.text.now) (string_bytes c.loop-place.text) (string_bytes c.match-node_at.text)
+          (sym (b.in-Some.ensures ∙ ap (λ s. slice_get (nodes s) k) c.config-config.ensures)) c.loop-place.invariant
+          (ap string_bytes b.text-is ∙ b.in_ok-push_link_delivers.ensures)
+      | in_default b ↦
+          absurd (none-past (nodes c.config-config.result.now) k (sym b.in_default.ensures)
+          (omega (arith, c.node_count-place-end.ensures, c.loop-place-test.true)))
+    ]

@@ -1,0 +1,16 @@
+-- The deliveries to the nodes so far are written.
+use Rattle.std.proofs.Common.{◌≡◌, ◌++◌, string_bytes, take}
+use Rattle.std.specs.List.{flat_map}
+use Rattle.tcc_maps.specs.Bridge.{node_of}
+use Rattle.tcc_rules.specs.Useful.{nodes}
+use Rattle.net_core.specs.Machine.{program_of, settings_of, world_of}
+use Rattle.watch_state.specs.Events.{link_delivers}
+use Rattle.watch_state.specs.Text.{events_text}
+use Rattle.watch_state.proofs.events.push_delivers_from.Given as goal
+
+abbrev pub invariant-loop-place : goal.invariant-loop-place
+invariant-loop-place l =
+    string_bytes l.text
+    ≡ string_bytes l.fn.text
+    ++ events_text (settings_of l.system) (program_of l.system) (world_of l.system)
+    (flat_map (link_delivers (world_of l.system) (node_of l.src)) (take l.place (nodes (settings_of l.system))))

@@ -1,0 +1,15 @@
+-- The lines of the cores so far are written.
+use Rattle.std.proofs.Common.{◌≡◌, ◌++◌, string_bytes}
+use Rattle.std.specs.List.{flat_map}
+use Rattle.tcc_rules.specs.Seen.{numbers}
+use Rattle.net_core.specs.Machine.{program_of, settings_of, world_of}
+use Rattle.watch_state.specs.Events.{core_evicts}
+use Rattle.watch_state.specs.Text.{events_text}
+use Rattle.watch_state.proofs.events.push_evicts.Given as goal
+
+abbrev pub invariant-loop-core : goal.invariant-loop-core
+invariant-loop-core l =
+    string_bytes l.text
+    ≡ string_bytes l.fn.text
+    ++ events_text (settings_of l.system) (program_of l.system) (world_of l.system)
+    (flat_map (core_evicts (settings_of l.system)) (numbers l.core))

@@ -1,0 +1,28 @@
+-- Each way in turn.
+use Rattle.std.proofs.Common.{◌≡◌, ◌++◌, ap, arith, sym, ◌∙◌, string_bytes}
+use Rattle.std.proofs.lemmas.List.Folds.{flat_map-map}
+use Rattle.tcc_base.specs.Settings.{Settings}
+use Rattle.tcc_maps.specs.Nodes.{Evict}
+use Rattle.tcc_rules.specs.Seen.{numbers}
+use Rattle.net_core.specs.Machine.{settings_of}
+use Rattle.watch_state.specs.Events.{set_evicts}
+use Rattle.watch_state.specs.Text.{events_text}
+use Rattle.watch_state.proofs.Flying.{text_of_event}
+use Rattle.watch_state.proofs.Growing.{piece-more}
+use Rattle.watch_state.proofs.events.push_set_evicts.Goals as goal
+
+pub loop-way-preserved : goal.loop-way-preserved
+loop-way-preserved c =
+    piece-more (λ k. text_of_event c.args.system.now (Evict c.args.core.0 c.args.set k)) c.loop-way.way (string_bytes c.args.text.now)
+    (string_bytes c.loop-way.text) (string_bytes c.push_if_enabled.new.text) c.loop-way.invariant c.in_ok-push_if_enabled.ensures
+
+pub returns : goal.returns
+unfolding events_text set_evicts
+returns c =
+    let m = c.args.system.now in
+    let bound : c.ways-way-end.result ≡ (settings_of m).ways =
+    c.ways-way-end.ensures.value ∙ ap (λ (s : Settings). s.ways) c.config.ensures in
+    let all : c.loop-way.way ≡ (settings_of m).ways = omega (arith, bound, c.loop-way-test.false, c.loop-way.auto.way-end) in
+    (rw all at c.loop-way.invariant)
+    ∙ ap (λ t. string_bytes c.args.text.now ++ t)
+    (sym (flat_map-map (text_of_event m) (λ k. Evict c.args.core.0 c.args.set k) (numbers (settings_of m).ways)))

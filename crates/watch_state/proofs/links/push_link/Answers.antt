@@ -1,0 +1,36 @@
+-- Each message in flight in turn.
+use Rattle.std.proofs.Common.{string_bytes, ap, sym, ◌∙◌, ◌++◌, arith}
+use Rattle.tcc_maps.specs.Bridge.{node_of}
+use Rattle.tcc_msg.specs.Plain.{msg_of}
+use Rattle.net_core.specs.Machine.{world_of}
+use Rattle.watch_state.proofs.Flying.{flight-written, flight_lines, flights-written, flying_on}
+use Rattle.watch_state.proofs.Listed.{none-past, text-listed, text-whole}
+use Rattle.watch_state.proofs.links.push_link.Goals as goal
+use Rattle.watch_state.proofs.links.push_link.Goals.{in-Some+in_ok-push_flight, in_default}
+
+pub loop-i-preserved : goal.loop-i-preserved
+loop-i-preserved c =
+    let w = world_of c.args.system.now in
+    let src = node_of c.args.src in
+    let dst = node_of c.args.dst in
+    elim c.match-flying_at.branch [
+      | in-Some+in_ok-push_flight b ↦
+          text-listed (flight_lines w src dst) (flying_on w src dst) c.loop-i.i b.in-Some.seq
+          (string_bytes c.args.text.now) (string_bytes c.loop-i.text) (string_bytes c.match-flying_at.text)
+          (sym b.in-Some.ensures.number) c.loop-i.invariant
+          (ap string_bytes b.text-is ∙ b.in_ok-push_flight.ensures
+          ∙ ap (λ t. string_bytes c.loop-i.text ++ t)
+          (flight-written w src dst b.in-Some.seq (msg_of b.in-Some.msg.now) b.in-Some.ensures.own))
+      | in_default b ↦
+          absurd (none-past (flying_on w src dst) c.loop-i.i (sym b.in_default.ensures.number)
+          (omega (arith, c.flying-i-end.ensures, c.loop-i-test.true)))
+    ]
+
+pub returns : goal.returns
+returns c =
+    let w = world_of c.args.system.now in
+    let src = node_of c.args.src in
+    let dst = node_of c.args.dst in
+    text-whole (flight_lines w src dst) (flying_on w src dst) c.loop-i.i (string_bytes c.args.text.now) (string_bytes c.loop-i.text)
+    (omega (arith, c.flying-i-end.ensures, c.loop-i-test.false)) c.loop-i.invariant
+    ∙ ap (λ lines. string_bytes c.args.text.now ++ lines) (flights-written w src dst)
