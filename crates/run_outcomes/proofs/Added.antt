@@ -1,5 +1,6 @@
 -- What becomes of the states that were found when one more is added.
-use Rattle.std.proofs.Common.{ℕ, ◌≡◌, ◌+◌, ◌<◌, ◌/◌, List, [], ◌∷◌, ◌++◌, refl, sym, ◌∙◌, ap, subst, length, length-append, length-set, slice_index_or, arith, inl, inr}
+use Rattle.std.proofs.Common.{ℕ, ◌≡◌, ◌+◌, ◌<◌, ◌/◌, List, [], ◌∷◌, ◌++◌, refl, sym, ◌∙◌, ap, subst, length, length-append}
+use Rattle.std.proofs.Common.{length-set, slice_index_or, arith, inl, inr}
 use Rattle.std.proofs.lemmas.Grind.{common_steps}
 use Rattle.std.proofs.lemmas.List.Elements.{All-push, All-nil, All-cons, All-get_or, Contains-push}
 use Rattle.std.proofs.lemmas.Bool.{cases_lt}
@@ -7,7 +8,8 @@ use Rattle.image_load.specs.Contents.{Contents, started}
 use Rattle.run_outcomes.proofs.Once.{followed-by-one}
 use Rattle.run_outcomes.proofs.Reach.{leads-transaction, reached-next, contains-map, state-kept}
 use Rattle.run_outcomes.specs.Changes.{changed_ram, value_in, AreInside}
-use Rattle.run_outcomes.specs.Explored.{AreFound, AreLed, IsWay, IsNoted, way_at, IsFollowedAt, IsReachedState, machines, state_at, no_snapshot}
+use Rattle.run_outcomes.specs.Explored.{AreFound, AreLed, IsWay, IsNoted, way_at, IsFollowedAt, IsReachedState, machines}
+use Rattle.run_outcomes.specs.Explored.{state_at, no_snapshot}
 use Rattle.run_outcomes.specs.Next.{IsNext}
 use Rattle.run_outcomes.specs.States.{machine_of, core_in, after_core, IsPlaced}
 use Rattle.run_outcomes.specs.declared.next.Next.TheVariants.{Leads}

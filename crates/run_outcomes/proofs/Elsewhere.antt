@@ -1,5 +1,6 @@
 -- A transaction changes no word but those that it stores to, and stores in RAM alone.
-use Rattle.std.proofs.Common.{ℕ, zero, suc, ◌≡◌, Bool, true, false, [], ◌∷◌, ◌++◌, Option, Some, None, IfSome, All, refl, sym, ◌∙◌, if◌then◌else◌}
+use Rattle.std.proofs.Common.{ℕ, zero, suc, ◌≡◌, Bool, true, false, [], ◌∷◌, ◌++◌, Option, Some, None, IfSome, All, refl, sym}
+use Rattle.std.proofs.Common.{◌∙◌, if◌then◌else◌}
 use Rattle.std.proofs.lemmas.List.Elements.{All-push, All-nil}
 use Rattle.std.proofs.lemmas.Bool.{ne_eqb}
 use Rattle.image_load.specs.Start.{Start}
@@ -14,7 +15,8 @@ use Rattle.tcc_base.specs.Put.{put}
 use Rattle.tcc_base.specs.Settings.{Settings}
 use Rattle.tcc_base.specs.declared.access.Size.{Size}
 use Rattle.tcc_base.specs.declared.access.Size.TheVariants.{Word}
-use Rattle.tcc_program.specs.Plain.{Attempt, Outcome, Goes, Ended, Halted, Trapped, stepped, plain_step, steps, when_going, then_step, store_of}
+use Rattle.tcc_program.specs.Plain.{Attempt, Outcome, Goes, Ended, Halted, Trapped, stepped, plain_step, steps, when_going}
+use Rattle.tcc_program.specs.Plain.{then_step, store_of}
 use Rattle.tcc_program.specs.Program.{Local, Need, Nothing, Loads, Stores, Changes, Prints, Ends, Halts, Traps, Program}
 use Rattle.tcc_program.specs.Ram.{loaded, stored, word_of, patched}
 

@@ -10,3 +10,4 @@ pub mod Serially
 pub mod Telling
 pub mod Told
 pub mod Untouched
+pub mod Viewed

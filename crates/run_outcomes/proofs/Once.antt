@@ -1,12 +1,14 @@
 -- A core's next transaction has one number of instructions.
-use Rattle.std.proofs.Common.{ℕ, zero, suc, ◌≡◌, ◌+◌, ◌-◌, ◌<◌, inl, inr, Option, Some, None, IfSome, IsSomeAnd, Contains, List, refl, sym, ◌∙◌, add-zero, arith, subst}
+use Rattle.std.proofs.Common.{ℕ, zero, suc, ◌≡◌, ◌+◌, ◌-◌, ◌<◌, inl, inr, Option, Some, None, IfSome, IsSomeAnd, Contains, List}
+use Rattle.std.proofs.Common.{refl, sym, ◌∙◌, add-zero, arith, subst}
 use Rattle.std.proofs.Math.Nat.{add-suc}
 use Rattle.std.proofs.lemmas.Bool.{cases_lt}
 use Rattle.run_outcomes.specs.Serially.{IsFollowed}
 use Rattle.rv_plain.specs.Endings.{HasEnded}
 use Rattle.tcc_base.specs.declared.access.CoreEnd.{CoreEnd}
 use Rattle.tcc_base.specs.declared.access.CoreEnd.TheVariants.{Run, Halt, Trap}
-use Rattle.tcc_program.specs.Plain.{Attempt, Outcome, Goes, Ended, Halted, Trapped, Plain, steps, begun, transaction, close, close_if, if_runs, when_going, then_step, end_of}
+use Rattle.tcc_program.specs.Plain.{Attempt, Outcome, Goes, Ended, Halted, Trapped, Plain, steps, begun, transaction, close}
+use Rattle.tcc_program.specs.Plain.{close_if, if_runs, when_going, then_step, end_of}
 use Rattle.tcc_program.specs.Program.{Program}
 
 -- no instruction follows one that ends the transaction

@@ -1,5 +1,6 @@
 -- The transactions that led to a state are a serial execution from the start to it.
-use Rattle.std.proofs.Common.{ℕ, ◌≡◌, ◌+◌, ◌<◌, List, [], ◌∷◌, ◌++◌, reverse, Option, Some, None, IsSomeAnd, refl, sym, ◌∙◌, ap, subst, true, nat_lt, length, map, drop, add-zero, ◌-◌, ◌≤◌, Result, Ok, Err, IfOk, arith}
+use Rattle.std.proofs.Common.{ℕ, ◌≡◌, ◌+◌, ◌<◌, List, [], ◌∷◌, ◌++◌, reverse, Option, Some, None, IsSomeAnd, refl, sym, ◌∙◌, ap}
+use Rattle.std.proofs.Common.{subst, true, nat_lt, length, map, drop, add-zero, ◌-◌, ◌≤◌, Result, Ok, Err, IfOk, arith}
 use Rattle.std.proofs.lemmas.List.{reverse-append, length-reverse, length-drop, drop_more, map-append}
 use Rattle.std.proofs.lemmas.Bool.Decides.{nat_tests}
 use Rattle.image_load.specs.Contents.{Contents, started}

@@ -1,5 +1,6 @@
 -- From a core's next transaction to the states that follow.
-use Rattle.std.proofs.Common.{ℕ, ◌≡◌, ◌+◌, ◌<◌, ◌≤◌, true, List, [], ◌∷◌, ◌++◌, Option, Some, None, IsSomeAnd, Contains, map, refl, sym, ◌∙◌, ap, subst, length, slice_set, slice_index_or, nat_lt, append_assoc, arith, inl, inr}
+use Rattle.std.proofs.Common.{ℕ, ◌≡◌, ◌+◌, ◌<◌, ◌≤◌, true, List, [], ◌∷◌, ◌++◌, Option, Some, None, IsSomeAnd, Contains, map}
+use Rattle.std.proofs.Common.{refl, sym, ◌∙◌, ap, subst, length, slice_set, slice_index_or, nat_lt, append_assoc, arith, inl, inr}
 use Rattle.std.proofs.lemmas.Grind.{common_steps}
 use Rattle.std.proofs.lemmas.Bool.{cases_lt}
 use Rattle.std.proofs.lemmas.Bool.Decides.{nat_tests}
