@@ -2,6 +2,7 @@
 pub mod Added
 pub mod Alls
 pub mod Elsewhere
+pub mod Every
 pub mod Leads
 pub mod Once
 pub mod Paths

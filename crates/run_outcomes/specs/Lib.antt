@@ -3,6 +3,7 @@ pub mod Changes
 pub mod Explored
 pub mod Left
 pub mod Next
+pub mod Outcomes
 pub mod Results
 pub mod Serially
 pub mod States

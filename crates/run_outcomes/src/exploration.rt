@@ -30,7 +30,7 @@ pub struct Exploration {
 }
 
 impl Model for Exploration {
-    ghost use Rattle.std.specs.Prelude.{◌≡◌, true};
+    ghost use Rattle.std.specs.Prelude.{IsTrue};
     ghost use Rattle.run_outcomes.specs.Explored.{AreFound, AreLed, AreAllStates};
     ghost use Rattle.run_outcomes.specs.Ways.{Explored};
 
@@ -38,7 +38,8 @@ impl Model for Exploration {
 
     ghost view = { λ e. record { loaded = e.executor; states = e.table; ways = e.ways; endless = e.endless; done = e.done } };
 
-    ghost invariant = { λ e. AreFound e.executor e.table × AreLed e.executor e.table e.ways };
+    ghost invariant = { λ e. AreFound e.executor e.table × AreLed e.executor e.table e.ways
+        × (IsTrue e.done → AreAllStates e.executor e.table) };
 }
 
 /// Executes the next transaction of each core from each state that it finds, breadth first from the program's start, until there is no
@@ -69,7 +70,9 @@ pub fn explore(alloc: Global, loaded: &Loaded, limits: Limits) -> Result<Explora
 impl Exploration {
     /// Whether all states were found. Constant time.
     pub fn done(&self) -> bool
-        ensures { result ≡ self.now.done }
+        ensures done { result ≡ self.now.done }
+        ensures all { IsTrue result → AreAllStates self.now.loaded self.now.states }
+        ensures found { AreFound self.now.loaded self.now.states }
     {
         self.done
     }

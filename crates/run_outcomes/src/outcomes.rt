@@ -1,6 +1,7 @@
 // The results: states in which all cores have ended, those that tell the same taken together.
 ghost use Rattle.std.specs.Prelude.{◌≡◌, ℕ, ◌<◌, ◌↔◌, ◌++◌, List as Seq, All, IfOk, OnOk, IfSome, IsTrue, length, map, slice_index_or};
 ghost use Rattle.run_outcomes.specs.Explored.{state_at};
+ghost use Rattle.run_outcomes.specs.Outcomes.{HasEveryOutcome};
 ghost use Rattle.run_outcomes.specs.Results.{HasStopped, IsEnd, AreAlike, AreEnds, IsTold, told_core};
 
 use crate::exploration::Exploration;
@@ -21,11 +22,12 @@ pub enum Tell {
 }
 
 /// The results of an exploration: for each the number of the first state that tells it, in the order in which these were found, and
-/// how many states tell it.
+/// how many states tell it. `done` says that the program can have no other.
 #[derive(Debug, Drop)]
 pub struct Results {
     pub firsts: List<usize>,
     pub counts: List<u64>,
+    pub done: bool,
 }
 
 fn has_stopped(core: &CoreState) -> bool
@@ -149,14 +151,18 @@ fn count(counts: &mut List<u64>, i: usize) {
 }
 
 /// The results among the states that were found: states in which all cores have ended, those that tell the same taken together. Each
-/// stands for the first of them.
+/// stands for the first of them. Where all states were found, and so `done` is true, every serial execution of the program after
+/// which all cores have ended tells one of these results, in whatever order the cores took turns.
 ///
 /// Takes time in these states and the results.
 pub fn tell_results(alloc: Global, explored: &Exploration, tell: Tell) -> Result<Results, NoMemory>
     ensures ends { IfOk result (λ o. AreEnds explored.now.states o.firsts) }
     ensures all { IfOk result (λ o. (k : ℕ) → k < length explored.now.states → IsEnd (state_at explored.now.states k)
         → IsTold tell explored.now.states o.firsts k) }
+    ensures done { IfOk result (λ o. o.done ≡ explored.now.done) }
+    ensures every { IfOk result (λ o. IsTrue o.done → HasEveryOutcome explored.now.loaded tell explored.now.states o.firsts) }
 {
+    let done = explored.done();
     let mut firsts = List::new(alloc);
     let mut counts = List::new(alloc);
     for k in 0..explored.len() {
@@ -164,5 +170,9 @@ pub fn tell_results(alloc: Global, explored: &Exploration, tell: Tell) -> Result
             note(explored, tell, &mut firsts, &mut counts, k)?;
         }
     }
-    Ok(Results { firsts, counts })
+    Ok(Results {
+        firsts,
+        counts,
+        done,
+    })
 }

@@ -1,5 +1,6 @@
-use Rattle.std.proofs.Common.{ℕ, ◌≡◌, ◌∙◌, List, sym, subst, inl, inr, arith}
+use Rattle.std.proofs.Common.{ℕ, ◌≡◌, ◌<◌, ◌∙◌, List, length, sym, subst, inl, inr, arith}
 use Rattle.std.proofs.lemmas.Bool.{cases_lt, false≢true}
+use Rattle.run_outcomes.proofs.Every.{every-outcome}
 use Rattle.run_outcomes.proofs.Telling.{told-grown}
 use Rattle.run_outcomes.specs.Explored.{state_at}
 use Rattle.run_outcomes.specs.Results.{AreEnds, IsEnd, IsTold}
@@ -36,3 +37,11 @@ loop-k-preserved c =
         ],
       )
     ]
+
+pub returns-clause-every : goal.returns-clause-every
+returns-clause-every c =
+    let e = c.args.explored.now in
+    let told = λ (k : ℕ) (below : k < length e.states) (end : IsEnd (state_at e.states k)).
+    let before : k < c.loop-k.k = grind arith in c.loop-k.invariant.1 k before end in
+    λ all. every-outcome e.loaded c.args.tell e.states c.loop-k.firsts c.done-done.ensures.found c.loop-k.invariant.0 told
+    (c.done-done.ensures.all all)

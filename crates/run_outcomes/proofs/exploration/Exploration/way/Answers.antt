@@ -12,5 +12,6 @@ returns c =
     let lead = subst (λ ws. LeadFrom ws 0 c.args.number c.in_ok-ways.ways) ways c.in_ok-ways.ensures in
     let orders = rw back at c.orders_of.ensures in
     let known : AreFound e.loaded e.states × AreLed e.loaded e.states e.ways =
-    subst (λ (x : Explored). AreFound x.loaded x.states × AreLed x.loaded x.states x.ways) c.self.view_is c.self.invariant in
+    subst (λ (x : Explored). AreFound x.loaded x.states × AreLed x.loaded x.states x.ways) c.self.view_is
+    (c.self.invariant.0, c.self.invariant.1) in
     way-if e.loaded e.states e.ways c.in_ok-ways.ways c.args.number c.orders_of.result known c.requires lead orders
