@@ -1,9 +1,12 @@
 -- What a search through the states of a loaded program knows.
-use Rattle.std.specs.Prelude.{ℕ, ◌≡◌, ◌<◌, ◌/◌, List, [], ◌∷◌, ◌++◌, All, IsSomeAnd, length, map, slice_index_or}
+use Rattle.std.specs.Prelude.{ℕ, ◌≡◌, ◌<◌, ◌/◌, List, [], ◌∷◌, ◌++◌, All, IsSomeAnd, Option, Some, None, length, map, slice_index_or}
 use Rattle.image_load.specs.Contents.{Contents, started}
 use Rattle.run_outcomes.specs.Changes.{AreInside}
+use Rattle.run_outcomes.specs.Next.{IsNext}
 use Rattle.run_outcomes.specs.Serially.{IsFollowed, IsReached, HasEveryEnd}
-use Rattle.run_outcomes.specs.States.{machine_of}
+use Rattle.run_outcomes.specs.States.{machine_of, core_in}
+use Rattle.run_outcomes.specs.declared.next.Next.TheVariants.{Endless}
+use Rattle.run_outcomes.specs.declared.search.Pair.{Pair}
 use Rattle.run_outcomes.specs.declared.search.Way.{Way}
 use Rattle.run_outcomes.specs.declared.states.Place.{Place}
 use Rattle.run_outcomes.specs.declared.states.Place.TheVariants.{Known, New, Full}
@@ -71,3 +74,14 @@ abbrev pub IsNoted : (old new : List Way) → Place → Way → Type 0
 IsNoted old new Known way = new ≡ old
 IsNoted old new New way = new ≡ old ++ way ∷ []
 IsNoted old new Full way = new ≡ old
+
+-- the state is among these, and so many instructions of its core, which runs, don't end a transaction
+abbrev pub IsEndless : Contents → List Snapshot → (longest : ℕ) → Pair → Type 0
+IsEndless l states longest pair =
+    (pair.state < length states) × (pair.core.0 < l.settings.cores)
+    × IsNext l (core_in (state_at states pair.state) pair.core.0) (state_at states pair.state).changes longest Endless
+
+-- what is noted of transactions that don't end: how many there are, and of one of them the state and the core
+abbrev pub IsEndlessNoted : Contents → List Snapshot → (longest endless : ℕ) → Option Pair → Type 0
+IsEndlessNoted l states longest endless None = endless ≡ 0
+IsEndlessNoted l states longest endless (Some pair) = (0 < endless) × IsEndless l states longest pair

@@ -1,18 +1,20 @@
 -- The way that leads to a state.
-use Rattle.std.specs.Prelude.{ℕ, ◌+◌, ◌<◌, ◌≡◌, Bool, List, [], ◌∷◌}
+use Rattle.std.specs.Prelude.{ℕ, ◌+◌, ◌<◌, ◌≡◌, Bool, Option, List, [], ◌∷◌}
 use Rattle.image_load.specs.Contents.{Contents}
 use Rattle.run_outcomes.specs.Explored.{way_at}
+use Rattle.run_outcomes.specs.declared.search.Pair.{Pair}
 use Rattle.run_outcomes.specs.declared.search.Way.{Way}
 use Rattle.run_outcomes.specs.declared.states.Snapshot.{Snapshot}
 use Rattle.tcc_program.specs.Plain.{Order}
 
 -- what is known of an exploration: the states that were found, in their order, by which transaction each was found, how many
--- transactions didn't end, and whether all states were found
+-- transactions didn't end, which was the first of these, and whether all states were found
 pub record Explored : Type 0 where
   pub loaded : Contents
   pub states : List Snapshot
   pub ways : List Way
   pub endless : ℕ
+  pub endless_at : Option Pair
   pub done : Bool
 
 -- these transactions, the last one first, lead from the first state to the one of that number

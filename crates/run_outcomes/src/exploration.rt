@@ -5,12 +5,12 @@ ghost use Rattle.rv_code.specs.Machine.{program};
 ghost use Rattle.rv_plain.specs.Machine.{plain_start};
 ghost use Rattle.rv_plain.specs.PlainState.{order_of};
 ghost use Rattle.tcc_program.specs.Plain.{serial};
-ghost use Rattle.run_outcomes.specs.Explored.{AreFound, AreAllStates, state_at, way_at};
+ghost use Rattle.run_outcomes.specs.Explored.{AreFound, AreAllStates, IsEndlessNoted, state_at, way_at};
 ghost use Rattle.run_outcomes.specs.Ways.{LeadFrom, orders_from};
 ghost use Rattle.run_outcomes.specs.States.{machine_of};
 
 use crate::next::Executor;
-use crate::search::{Limits, Search, Way};
+use crate::search::{Limits, Pair, Search, Way};
 use crate::states::{Snapshot, Table};
 use image_load::Loaded;
 use rv_plain::Order;
@@ -26,6 +26,7 @@ pub struct Exploration {
     table: Table,
     ways: List<Way>,
     endless: u64,
+    endless_at: Option<Pair>,
     done: bool,
 }
 
@@ -36,14 +37,22 @@ impl Model for Exploration {
 
     ghost Value = { Explored };
 
-    ghost view = { λ e. record { loaded = e.executor; states = e.table; ways = e.ways; endless = e.endless; done = e.done } };
+    ghost view = { λ e. record {
+      loaded = e.executor;
+      states = e.table;
+      ways = e.ways;
+      endless = e.endless;
+      endless_at = e.endless_at;
+      done = e.done;
+    } };
 
     ghost invariant = { λ e. AreFound e.executor e.table × AreLed e.executor e.table e.ways
         × (IsTrue e.done → AreAllStates e.executor e.table) };
 }
 
 /// Executes the next transaction of each core from each state that it finds, breadth first from the program's start, until there is no
-/// new state or would be one more than `limits.states`. A transaction of more than `limits.longest` instructions is left out.
+/// new state or would be one more than `limits.states`. A transaction of more than `limits.longest` instructions is left out, and
+/// noted as endless.
 ///
 /// `done` is true only where each serial execution of the program ends in one of the states that were found; some serial execution
 /// leads to each of them. The time is that of the instructions, and for each transaction of what the state holds.
@@ -53,6 +62,7 @@ pub fn explore(alloc: Global, loaded: &Loaded, limits: Limits) -> Result<Explora
     ensures found { IfOk result (λ e. AreFound e.loaded e.states) }
     ensures few { IfOk result (λ e. length e.states ≤ limits.states) }
     ensures all { IfOk result (λ e. IsTrue e.done → AreAllStates e.loaded e.states) }
+    ensures endless { IfOk result (λ e. IsEndlessNoted e.loaded e.states limits.longest e.endless e.endless_at) }
 {
     let mut search = Search::new(alloc, loaded)?;
     let full = search.go(limits)?;
@@ -63,6 +73,7 @@ pub fn explore(alloc: Global, loaded: &Loaded, limits: Limits) -> Result<Explora
         table: search.table,
         ways: search.ways,
         endless: search.endless,
+        endless_at: search.endless_at,
         done,
     })
 }
@@ -97,6 +108,13 @@ impl Exploration {
         ensures { result ≡ self.now.endless }
     {
         self.endless
+    }
+
+    /// Of the first of these pairs the state and the core; None where there is none. Constant time.
+    pub fn endless_at(&self) -> Option<Pair>
+        ensures { result ≡ self.now.endless_at }
+    {
+        self.endless_at
     }
 
     /// The orders, under the TIDs 1, 2, 3 and so on, whose serial execution leads from the program's start to the state of that number.

@@ -11,5 +11,5 @@ mod states;
 pub use exploration::{Exploration, explore};
 pub use next::{Executor, Next};
 pub use outcomes::{Results, Tell, tell_results};
-pub use search::Limits;
+pub use search::{Limits, Pair};
 pub use states::Snapshot;

@@ -1,11 +1,11 @@
 // The search: breadth first through the states of the plain machine, each transaction of each core from each of them.
-ghost use Rattle.std.specs.Prelude.{◌≡◌, ℕ, ◌<◌, ◌≤◌, ◌/◌, IfOk, OnOk, IsFalse, length, slice_index_or};
+ghost use Rattle.std.specs.Prelude.{◌≡◌, ℕ, ◌<◌, ◌≤◌, ◌/◌, IfOk, OnOk, IfSome, IfNone, IsFalse, Some, length, slice_index_or};
 ghost use Rattle.image_load.specs.Contents.{started};
 ghost use Rattle.rv_plain.specs.Cores.{core_of, no_state};
 ghost use Rattle.rv_plain.specs.Machine.{plain_start, start_core};
 ghost use Rattle.run_outcomes.specs.Changes.{AreInside};
 ghost use Rattle.run_outcomes.specs.Next.{IsNext};
-ghost use Rattle.run_outcomes.specs.Explored.{AreFound, AreLed, AreAllStates, IsFollowedAt, IsGrown, IsNoted};
+ghost use Rattle.run_outcomes.specs.Explored.{AreFound, AreLed, AreAllStates, IsFollowedAt, IsGrown, IsNoted, IsEndlessNoted};
 ghost use Rattle.run_outcomes.specs.States.{core_in};
 
 use crate::next::{Executor, Next};
@@ -33,6 +33,13 @@ pub(crate) struct Way {
     pub(crate) n: u32,
 }
 
+/// A state, by its number, and one of its cores.
+#[derive(Clone, Copy, Debug, PartialEq, Eq)]
+pub struct Pair {
+    pub state: usize,
+    pub core: CoreId,
+}
+
 /// What a search has found so far.
 #[derive(Debug, Drop)]
 pub(crate) struct Search {
@@ -41,6 +48,7 @@ pub(crate) struct Search {
     pub(crate) table: Table,
     pub(crate) ways: List<Way>,
     pub(crate) endless: u64,
+    pub(crate) endless_at: Option<Pair>,
 }
 
 fn first_core(alloc: Global, cores: u8, core: u8, entry: u32) -> CoreState
@@ -96,6 +104,17 @@ fn note(ways: &mut List<Way>, place: Place, way: Way) -> Result<(), NoMemory>
     }
 }
 
+/// The first of these pairs.
+fn first_of(first: Option<Pair>, pair: Pair) -> Option<Pair>
+    ensures kept { IfSome first (λ known. result ≡ Some known) }
+    ensures new { IfNone first (result ≡ Some pair) }
+{
+    match first {
+        Some(known) => Some(known),
+        None => Some(pair),
+    }
+}
+
 impl Search {
     /// The search before its first transaction.
     pub(crate) fn new(alloc: Global, loaded: &Loaded) -> Result<Search, NoMemory>
@@ -103,6 +122,7 @@ impl Search {
         ensures found { IfOk result (λ s. AreFound s.executor s.table) }
         ensures led { IfOk result (λ s. AreLed s.executor s.table s.ways) }
         ensures one { IfOk result (λ s. length s.table ≡ 1) }
+        ensures noted { IfOk result (λ s. (longest : ℕ) → IsEndlessNoted s.executor s.table longest s.endless s.endless_at) }
     {
         let executor = Executor::new(alloc, loaded)?;
         let cores = first_cores(alloc, loaded)?;
@@ -123,6 +143,7 @@ impl Search {
             table,
             ways,
             endless: 0,
+            endless_at: None,
         })
     }
 
@@ -130,10 +151,13 @@ impl Search {
     fn reach(&mut self, number: usize, core: CoreId, limits: Limits) -> Result<bool, NoMemory>
         requires found { AreFound self.old.executor self.old.table }
         requires led { AreLed self.old.executor self.old.table self.old.ways }
+        requires noted { IsEndlessNoted self.old.executor self.old.table limits.longest self.old.endless self.old.endless_at }
         requires number { number < length self.old.table }
         requires core { core.0 < self.old.executor.settings.cores }
         ensures found { OnOk result (AreFound self.new.executor self.new.table) }
         ensures led { OnOk result (AreLed self.new.executor self.new.table self.new.ways) }
+        ensures noted { OnOk result (IsEndlessNoted self.new.executor self.new.table limits.longest self.new.endless
+            self.new.endless_at) }
         ensures loaded { self.new.executor ≡ self.old.executor }
         ensures grown { OnOk result (IsGrown self.old.table self.new.table) }
         ensures few { OnOk result (length self.old.table ≤ limits.states → length self.new.table ≤ limits.states) }
@@ -146,7 +170,12 @@ impl Search {
         match next {
             Next::Stopped => Ok(false),
             Next::Endless => {
+                let pair = Pair {
+                    state: number,
+                    core,
+                };
                 self.endless = self.endless.saturating_add(1);
+                self.endless_at = first_of(self.endless_at, pair);
                 Ok(false)
             }
             Next::Leads {
@@ -171,9 +200,12 @@ impl Search {
     fn expand(&mut self, number: usize, limits: Limits) -> Result<bool, NoMemory>
         requires found { AreFound self.old.executor self.old.table }
         requires led { AreLed self.old.executor self.old.table self.old.ways }
+        requires noted { IsEndlessNoted self.old.executor self.old.table limits.longest self.old.endless self.old.endless_at }
         requires number { number < length self.old.table }
         ensures found { OnOk result (AreFound self.new.executor self.new.table) }
         ensures led { OnOk result (AreLed self.new.executor self.new.table self.new.ways) }
+        ensures noted { OnOk result (IsEndlessNoted self.new.executor self.new.table limits.longest self.new.endless
+            self.new.endless_at) }
         ensures loaded { self.new.executor ≡ self.old.executor }
         ensures grown { OnOk result (IsGrown self.old.table self.new.table) }
         ensures few { OnOk result (length self.old.table ≤ limits.states → length self.new.table ≤ limits.states) }
@@ -194,9 +226,12 @@ impl Search {
     pub(crate) fn go(&mut self, limits: Limits) -> Result<bool, NoMemory>
         requires found { AreFound self.old.executor self.old.table }
         requires led { AreLed self.old.executor self.old.table self.old.ways }
+        requires noted { IsEndlessNoted self.old.executor self.old.table limits.longest self.old.endless self.old.endless_at }
         requires few { length self.old.table ≤ limits.states }
         ensures found { OnOk result (AreFound self.new.executor self.new.table) }
         ensures led { OnOk result (AreLed self.new.executor self.new.table self.new.ways) }
+        ensures noted { OnOk result (IsEndlessNoted self.new.executor self.new.table limits.longest self.new.endless
+            self.new.endless_at) }
         ensures loaded { self.new.executor ≡ self.old.executor }
         ensures few { OnOk result (length self.new.table ≤ limits.states) }
         ensures all { IfOk result (λ full. IsFalse full → self.new.endless ≡ 0 → AreAllStates self.new.executor self.new.table) }

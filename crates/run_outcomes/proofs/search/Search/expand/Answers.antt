@@ -24,6 +24,7 @@ loop-core-preserved c =
           (rw e.loaded (inv.4 before)) (e.followed c.if-branch.false none),
       omega (arith, e.endless, inv.5),
       e.led,
+      e.noted,
     )
 
 pub returns-clause-followed : goal.returns-clause-followed

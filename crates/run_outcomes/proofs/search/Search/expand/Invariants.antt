@@ -1,5 +1,5 @@
 use Rattle.std.proofs.Common.{◌≡◌, ℕ, ◌<◌, ◌≤◌, length}
-use Rattle.run_outcomes.specs.Explored.{AreFound, AreLed, IsGrown, IsFollowedAt}
+use Rattle.run_outcomes.specs.Explored.{AreFound, AreLed, IsGrown, IsFollowedAt, IsEndlessNoted}
 use Rattle.run_outcomes.proofs.search.Search.expand.Given as goal
 
 abbrev pub invariant-loop-core : goal.invariant-loop-core
@@ -11,3 +11,4 @@ invariant-loop-core l =
     × (l.self.endless ≡ 0 → (core : ℕ) → core < l.core → IsFollowedAt l.self.executor l.self.table l.number core)
     × (l.fn.self.endless ≤ l.self.endless)
     × AreLed l.self.executor l.self.table l.self.ways
+    × IsEndlessNoted l.self.executor l.self.table l.limits.longest l.self.endless l.self.endless_at

@@ -21,6 +21,7 @@ loop-number-preserved c =
           (rw e.loaded (c.loop-number.invariant.4 before))
           (e.followed c.if-branch.false none),
       e.led,
+      e.noted,
     )
 
 pub returns-clause-all : goal.returns-clause-all

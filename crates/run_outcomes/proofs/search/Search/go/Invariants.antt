@@ -1,5 +1,5 @@
 use Rattle.std.proofs.Common.{◌≡◌, ℕ, ◌<◌, ◌≤◌, ◌-◌, length}
-use Rattle.run_outcomes.specs.Explored.{AreFound, AreLed, IsFollowedAt}
+use Rattle.run_outcomes.specs.Explored.{AreFound, AreLed, IsFollowedAt, IsEndlessNoted}
 use Rattle.run_outcomes.proofs.search.Search.go.Given as goal
 
 abbrev pub invariant-loop-number : goal.invariant-loop-number
@@ -10,6 +10,7 @@ invariant-loop-number l =
     × (l.number ≤ length l.self.table)
     × (l.self.endless ≡ 0 → (k : ℕ) → k < l.number → (core : ℕ) → IsFollowedAt l.self.executor l.self.table k core)
     × AreLed l.self.executor l.self.table l.self.ways
+    × IsEndlessNoted l.self.executor l.self.table l.limits.longest l.self.endless l.self.endless_at
 
 abbrev pub decreases-loop-number : goal.decreases-loop-number
 decreases-loop-number l = l.limits.states - l.number
