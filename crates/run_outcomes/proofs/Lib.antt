@@ -1,6 +1,7 @@
 -- Proofs.
 pub mod Added
 pub mod Alls
+pub mod Counting
 pub mod Elsewhere
 pub mod Every
 pub mod Leads

@@ -1,5 +1,6 @@
 -- What the contracts of this crate cite.
 pub mod Changes
+pub mod Counted
 pub mod Explored
 pub mod Left
 pub mod Next

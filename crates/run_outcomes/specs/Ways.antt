@@ -8,11 +8,12 @@ use Rattle.run_outcomes.specs.declared.states.Snapshot.{Snapshot}
 use Rattle.tcc_program.specs.Plain.{Order}
 
 -- what is known of an exploration: the states that were found, in their order, by which transaction each was found, how many
--- transactions didn't end, which was the first of these, and whether all states were found
+-- transactions were executed and how many didn't end, which was the first of these, and whether all states were found
 pub record Explored : Type 0 where
   pub loaded : Contents
   pub states : List Snapshot
   pub ways : List Way
+  pub transactions : ℕ
   pub endless : ℕ
   pub endless_at : Option Pair
   pub done : Bool

@@ -5,6 +5,7 @@ ghost use Rattle.rv_code.specs.Machine.{program};
 ghost use Rattle.rv_plain.specs.Machine.{plain_start};
 ghost use Rattle.rv_plain.specs.PlainState.{order_of};
 ghost use Rattle.tcc_program.specs.Plain.{serial};
+ghost use Rattle.run_outcomes.specs.Counted.{Counts, all_running};
 ghost use Rattle.run_outcomes.specs.Explored.{AreFound, AreAllStates, IsEndlessNoted, state_at, way_at};
 ghost use Rattle.run_outcomes.specs.Ways.{LeadFrom, orders_from};
 ghost use Rattle.run_outcomes.specs.States.{machine_of};
@@ -25,6 +26,7 @@ pub struct Exploration {
     executor: Executor,
     table: Table,
     ways: List<Way>,
+    transactions: u64,
     endless: u64,
     endless_at: Option<Pair>,
     done: bool,
@@ -41,6 +43,7 @@ impl Model for Exploration {
       loaded = e.executor;
       states = e.table;
       ways = e.ways;
+      transactions = e.transactions;
       endless = e.endless;
       endless_at = e.endless_at;
       done = e.done;
@@ -62,6 +65,8 @@ pub fn explore(alloc: Global, loaded: &Loaded, limits: Limits) -> Result<Explora
     ensures found { IfOk result (λ e. AreFound e.loaded e.states) }
     ensures few { IfOk result (λ e. length e.states ≤ limits.states) }
     ensures all { IfOk result (λ e. IsTrue e.done → AreAllStates e.loaded e.states) }
+    ensures transactions { IfOk result (λ e. IsTrue e.done → Counts e.transactions
+        (all_running e.loaded.settings.cores e.states (length e.states))) }
     ensures endless { IfOk result (λ e. IsEndlessNoted e.loaded e.states limits.longest e.endless e.endless_at) }
 {
     let mut search = Search::new(alloc, loaded)?;
@@ -72,6 +77,7 @@ pub fn explore(alloc: Global, loaded: &Loaded, limits: Limits) -> Result<Explora
         executor: search.executor,
         table: search.table,
         ways: search.ways,
+        transactions: search.transactions,
         endless: search.endless,
         endless_at: search.endless_at,
         done,
@@ -101,6 +107,14 @@ impl Exploration {
         ensures { result.now ≡ state_at self.now.states number }
     {
         self.table.state(number)
+    }
+
+    /// How many transactions were executed: where all states were found, one of each core that runs, in each state. Stays at the
+    /// largest number once it has come to it. Constant time.
+    pub fn transactions(&self) -> u64
+        ensures { result ≡ self.now.transactions }
+    {
+        self.transactions
     }
 
     /// Of how many pairs of a state and a core the next transaction didn't end. Constant time.

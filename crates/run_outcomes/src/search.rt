@@ -1,11 +1,12 @@
 // The search: breadth first through the states of the plain machine, each transaction of each core from each of them.
-ghost use Rattle.std.specs.Prelude.{◌≡◌, ℕ, ◌<◌, ◌≤◌, ◌/◌, IfOk, OnOk, IfSome, IfNone, IsFalse, Some, length, slice_index_or};
+ghost use Rattle.std.specs.Prelude.{◌≡◌, ℕ, ◌+◌, ◌<◌, ◌≤◌, ◌/◌, IfOk, OnOk, IfSome, IfNone, IsFalse, Some, length, slice_index_or};
 ghost use Rattle.image_load.specs.Contents.{started};
 ghost use Rattle.rv_plain.specs.Cores.{core_of, no_state};
 ghost use Rattle.rv_plain.specs.Machine.{plain_start, start_core};
 ghost use Rattle.run_outcomes.specs.Changes.{AreInside};
 ghost use Rattle.run_outcomes.specs.Next.{IsNext};
-ghost use Rattle.run_outcomes.specs.Explored.{AreFound, AreLed, AreAllStates, IsFollowedAt, IsGrown, IsNoted, IsEndlessNoted};
+ghost use Rattle.run_outcomes.specs.Counted.{Counts, all_running, running, runs};
+ghost use Rattle.run_outcomes.specs.Explored.{AreFound, AreLed, AreAllStates, IsFollowedAt, IsGrown, IsNoted, IsEndlessNoted, state_at};
 ghost use Rattle.run_outcomes.specs.States.{core_in};
 
 use crate::next::{Executor, Next};
@@ -47,6 +48,7 @@ pub(crate) struct Search {
     pub(crate) executor: Executor,
     pub(crate) table: Table,
     pub(crate) ways: List<Way>,
+    pub(crate) transactions: u64,
     pub(crate) endless: u64,
     pub(crate) endless_at: Option<Pair>,
 }
@@ -122,6 +124,7 @@ impl Search {
         ensures found { IfOk result (λ s. AreFound s.executor s.table) }
         ensures led { IfOk result (λ s. AreLed s.executor s.table s.ways) }
         ensures one { IfOk result (λ s. length s.table ≡ 1) }
+        ensures none { IfOk result (λ s. s.transactions ≡ 0) }
         ensures noted { IfOk result (λ s. (longest : ℕ) → IsEndlessNoted s.executor s.table longest s.endless s.endless_at) }
     {
         let executor = Executor::new(alloc, loaded)?;
@@ -142,6 +145,7 @@ impl Search {
             executor,
             table,
             ways,
+            transactions: 0,
             endless: 0,
             endless_at: None,
         })
@@ -163,6 +167,8 @@ impl Search {
         ensures few { OnOk result (length self.old.table ≤ limits.states → length self.new.table ≤ limits.states) }
         ensures followed { IfOk result (λ full. IsFalse full → self.new.endless ≡ 0
             → IsFollowedAt self.new.executor self.new.table number core.0) }
+        ensures counted { IfOk result (λ full. IsFalse full → self.new.endless ≡ 0 → Counts self.new.transactions
+            (self.old.transactions + runs (core_in (state_at self.old.table number) core.0).ended)) }
         ensures endless { self.old.endless ≤ self.new.endless }
     {
         let state = self.table.state(number);
@@ -183,6 +189,7 @@ impl Search {
                 core: after,
                 changes,
             } => {
+                self.transactions = self.transactions.saturating_add(1);
                 let left = next_state(self.alloc, state, core, after, changes)?;
                 let place = self.table.add(left, limits.states)?;
                 let way = Way {
@@ -197,6 +204,7 @@ impl Search {
     }
 
     /// Adds the states after the next transactions of all cores of a state; true where there may be no further state.
+    #[tactic(auto, unfolding(crate::specs::Counted::total))]
     fn expand(&mut self, number: usize, limits: Limits) -> Result<bool, NoMemory>
         requires found { AreFound self.old.executor self.old.table }
         requires led { AreLed self.old.executor self.old.table self.old.ways }
@@ -211,6 +219,8 @@ impl Search {
         ensures few { OnOk result (length self.old.table ≤ limits.states → length self.new.table ≤ limits.states) }
         ensures followed { IfOk result (λ full. IsFalse full → self.new.endless ≡ 0
             → (core : ℕ) → IsFollowedAt self.new.executor self.new.table number core) }
+        ensures counted { IfOk result (λ full. IsFalse full → self.new.endless ≡ 0 → Counts self.new.transactions
+            (self.old.transactions + running (state_at self.old.table number) self.old.executor.settings.cores)) }
         ensures endless { self.old.endless ≤ self.new.endless }
     {
         let count = self.executor.cores();
@@ -223,11 +233,13 @@ impl Search {
     }
 
     /// Goes through all states, up to the limit; true where the limit ended it.
+    #[tactic(auto, unfolding(crate::specs::Counted::total))]
     pub(crate) fn go(&mut self, limits: Limits) -> Result<bool, NoMemory>
         requires found { AreFound self.old.executor self.old.table }
         requires led { AreLed self.old.executor self.old.table self.old.ways }
         requires noted { IsEndlessNoted self.old.executor self.old.table limits.longest self.old.endless self.old.endless_at }
         requires few { length self.old.table ≤ limits.states }
+        requires none { self.old.transactions ≡ 0 }
         ensures found { OnOk result (AreFound self.new.executor self.new.table) }
         ensures led { OnOk result (AreLed self.new.executor self.new.table self.new.ways) }
         ensures noted { OnOk result (IsEndlessNoted self.new.executor self.new.table limits.longest self.new.endless
@@ -235,6 +247,8 @@ impl Search {
         ensures loaded { self.new.executor ≡ self.old.executor }
         ensures few { OnOk result (length self.new.table ≤ limits.states) }
         ensures all { IfOk result (λ full. IsFalse full → self.new.endless ≡ 0 → AreAllStates self.new.executor self.new.table) }
+        ensures counted { IfOk result (λ full. IsFalse full → self.new.endless ≡ 0 → Counts self.new.transactions
+            (all_running self.new.executor.settings.cores self.new.table (length self.new.table))) }
     {
         let mut number = 0;
         while number < self.table.len() {

@@ -1,7 +1,10 @@
-use Rattle.std.proofs.Common.{◌≡◌, ◌∙◌, ap, sym, ◌+◌, ◌<◌, ◌≤◌, length, length-append, arith, inl, inr}
+use Rattle.std.proofs.Common.{◌≡◌, ◌∙◌, ap, sym, subst, ◌+◌, ◌<◌, ◌≤◌, length, length-append, arith, inl, inr}
 use Rattle.std.proofs.lemmas.Bool.{cases_lt}
 use Rattle.image_load.specs.Contents.{Contents}
-use Rattle.run_outcomes.proofs.Reach.{followed-step, followed-beyond, grown-grown}
+use Rattle.run_outcomes.proofs.Counting.{running-next}
+use Rattle.run_outcomes.proofs.Reach.{followed-step, followed-beyond, grown-grown, state-kept}
+use Rattle.run_outcomes.specs.Counted.{Counts, running}
+use Rattle.run_outcomes.specs.Explored.{state_at}
 use Rattle.run_outcomes.proofs.search.Search.expand.Goals as goal
 
 pub loop-core-preserved : goal.loop-core-preserved
@@ -25,6 +28,12 @@ loop-core-preserved c =
       omega (arith, e.endless, inv.5),
       e.led,
       e.noted,
+      λ none.
+          let before : old.endless ≡ 0 = omega (arith, e.endless, none) in
+          let same : state_at old.table c.args.number ≡ state_at first.table c.args.number =
+          ap (λ x. state_at x c.args.number) inv.2.1 ∙ state-kept first.table inv.2.0 c.args.number c.requires.number in
+          running-next (state_at first.table c.args.number) (state_at old.table c.args.number) first.transactions old.transactions
+          new.transactions c.loop-core.core same (inv.8 before) (e.counted c.if-branch.false none),
     )
 
 pub returns-clause-followed : goal.returns-clause-followed
@@ -44,3 +53,12 @@ returns-clause-followed c = λ full none core.
           let beyond : old.executor.settings.cores ≤ core = omega (arith, count, ge) in
           followed-beyond old.executor old.table c.args.number core inv.0 below beyond
     ]
+
+pub returns-clause-counted : goal.returns-clause-counted
+returns-clause-counted c = λ full none.
+    let first = c.args.self.now in
+    let old = c.loop-core.self in
+    let inv = c.loop-core.invariant in
+    let reached : c.cores-count.result ≡ c.loop-core.core = grind arith in
+    let count : c.loop-core.core ≡ first.executor.settings.cores = sym reached ∙ c.cores-count.ensures in
+    subst (λ n. Counts old.transactions (first.transactions + running (state_at first.table c.args.number) n)) count (inv.8 none)

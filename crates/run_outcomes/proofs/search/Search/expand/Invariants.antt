@@ -1,5 +1,6 @@
-use Rattle.std.proofs.Common.{◌≡◌, ℕ, ◌<◌, ◌≤◌, length}
-use Rattle.run_outcomes.specs.Explored.{AreFound, AreLed, IsGrown, IsFollowedAt, IsEndlessNoted}
+use Rattle.std.proofs.Common.{◌≡◌, ℕ, ◌+◌, ◌<◌, ◌≤◌, length}
+use Rattle.run_outcomes.specs.Counted.{Counts, running}
+use Rattle.run_outcomes.specs.Explored.{AreFound, AreLed, IsGrown, IsFollowedAt, IsEndlessNoted, state_at}
 use Rattle.run_outcomes.proofs.search.Search.expand.Given as goal
 
 abbrev pub invariant-loop-core : goal.invariant-loop-core
@@ -12,3 +13,5 @@ invariant-loop-core l =
     × (l.fn.self.endless ≤ l.self.endless)
     × AreLed l.self.executor l.self.table l.self.ways
     × IsEndlessNoted l.self.executor l.self.table l.limits.longest l.self.endless l.self.endless_at
+    × (l.self.endless ≡ 0 → Counts l.self.transactions
+    (l.fn.self.transactions + running (state_at l.fn.self.table l.number) l.core))

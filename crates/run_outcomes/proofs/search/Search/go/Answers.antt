@@ -1,5 +1,7 @@
-use Rattle.std.proofs.Common.{◌≡◌, ◌∙◌, ◌+◌, ◌<◌, ◌≤◌, ap, length, length-append, arith}
+use Rattle.std.proofs.Common.{◌≡◌, ◌∙◌, ◌+◌, ◌<◌, ◌≤◌, ap, length, length-append, subst, arith}
+use Rattle.run_outcomes.proofs.Counting.{states-next}
 use Rattle.run_outcomes.proofs.Reach.{expanded-step, all-states}
+use Rattle.run_outcomes.specs.Counted.{Counts, all_running}
 use Rattle.run_outcomes.proofs.search.Search.go.Goals as goal
 
 pub loop-number-preserved : goal.loop-number-preserved
@@ -22,6 +24,10 @@ loop-number-preserved c =
           (e.followed c.if-branch.false none),
       e.led,
       e.noted,
+      λ none.
+          let before : old.endless ≡ 0 = omega (arith, e.endless, none) in
+          rw e.loaded (states-next old.executor.settings.cores old.table new.table n old.transactions new.transactions e.grown below
+          (c.loop-number.invariant.7 before) (e.counted c.if-branch.false none)),
     )
 
 pub returns-clause-all : goal.returns-clause-all
@@ -29,3 +35,9 @@ returns-clause-all c = λ full endless.
     let all : length c.loop-number.self.table ≤ c.loop-number.number = grind arith in
     all-states c.loop-number.self.executor c.loop-number.self.table c.loop-number.invariant.0
     (λ k lt. c.loop-number.invariant.4 endless k (omega arith))
+
+pub returns-clause-counted : goal.returns-clause-counted
+returns-clause-counted c = λ full endless.
+    let s = c.loop-number.self in
+    let all : c.loop-number.number ≡ length s.table = grind arith in
+    subst (λ n. Counts s.transactions (all_running s.executor.settings.cores s.table n)) all (c.loop-number.invariant.7 endless)

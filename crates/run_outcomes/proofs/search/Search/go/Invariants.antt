@@ -1,4 +1,5 @@
 use Rattle.std.proofs.Common.{◌≡◌, ℕ, ◌<◌, ◌≤◌, ◌-◌, length}
+use Rattle.run_outcomes.specs.Counted.{Counts, all_running}
 use Rattle.run_outcomes.specs.Explored.{AreFound, AreLed, IsFollowedAt, IsEndlessNoted}
 use Rattle.run_outcomes.proofs.search.Search.go.Given as goal
 
@@ -11,6 +12,7 @@ invariant-loop-number l =
     × (l.self.endless ≡ 0 → (k : ℕ) → k < l.number → (core : ℕ) → IsFollowedAt l.self.executor l.self.table k core)
     × AreLed l.self.executor l.self.table l.self.ways
     × IsEndlessNoted l.self.executor l.self.table l.limits.longest l.self.endless l.self.endless_at
+    × (l.self.endless ≡ 0 → Counts l.self.transactions (all_running l.self.executor.settings.cores l.self.table l.number))
 
 abbrev pub decreases-loop-number : goal.decreases-loop-number
 decreases-loop-number l = l.limits.states - l.number

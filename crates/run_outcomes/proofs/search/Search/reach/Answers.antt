@@ -1,8 +1,11 @@
-use Rattle.std.proofs.Common.{sym}
+use Rattle.std.proofs.Common.{◌≡◌, ap, sym, arith}
 use Rattle.std.proofs.lemmas.Bool.{false≢true}
 use Rattle.run_outcomes.proofs.Added.{added-found, added-followed, added-led}
+use Rattle.run_outcomes.proofs.Counting.{stopped-runs}
 use Rattle.run_outcomes.proofs.Reach.{followed-stopped}
+use Rattle.run_outcomes.specs.Counted.{runs}
 use Rattle.run_outcomes.specs.Explored.{machines, state_at}
+use Rattle.run_outcomes.specs.States.{core_in}
 use Rattle.run_outcomes.proofs.search.Search.reach.Goals as goal
 
 pub returns-in-Stopped-clause-followed : goal.returns-in-Stopped-clause-followed
@@ -41,3 +44,17 @@ returns-in_ok-note-in-Leads-clause-led c =
     (added-led l c.args.self.now.table c.add.new.self c.args.self.now.ways c.note.new.ways c.args.number c.args.core.0
     c.args.limits.states c.args.limits.longest c.in-Leads.n c.in-Leads.after c.in-Leads.changes c.in_ok-place-in-Leads.place
     c.requires.found c.requires.led c.requires.number c.requires.core next placed c.in_ok-note-in-Leads.ensures)
+
+pub returns-in-Stopped-clause-counted : goal.returns-in-Stopped-clause-counted
+returns-in-Stopped-clause-counted c = λ full none small.
+    let s = state_at c.args.self.now.table c.args.number in
+    let next = rw (c.in-Stopped.is, c.state-state.ensures) at c.in_ok-next.ensures.next in
+    let ended : runs (core_in s c.args.core.0).ended ≡ 0 = stopped-runs (core_in s c.args.core.0).ended next in
+    omega (arith, ended)
+
+pub returns-in_ok-note-in-Leads-clause-counted : goal.returns-in_ok-note-in-Leads-clause-counted
+returns-in_ok-note-in-Leads-clause-counted c = λ room none small.
+    let s = state_at c.args.self.now.table c.args.number in
+    let next = rw (c.in-Leads.is, c.state-state.ensures) at c.in_ok-next.ensures.next in
+    let one : runs (core_in s c.args.core.0).ended ≡ 1 = ap runs next.2.runs in
+    grind (arith, one, small)
