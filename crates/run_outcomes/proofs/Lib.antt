@@ -5,6 +5,7 @@ pub mod Counting
 pub mod Elsewhere
 pub mod Every
 pub mod Leads
+pub mod Noted
 pub mod Once
 pub mod Paths
 pub mod Reach

@@ -1,5 +1,6 @@
 // The states of the plain machine that a search has found, each with a number, and found again by what it holds.
-ghost use Rattle.std.specs.Prelude.{◌≡◌, ℕ, ◌<◌, ◌≤◌, IfOk, OnOk, OnErr, IfSome, IfNone, Some, [], ◌∷◌, ◌++◌, length, IsTrue, slice_get, slice_index_or};
+ghost use Rattle.std.specs.Prelude.{◌≡◌, ℕ, ◌<◌, ◌≤◌, IfOk, OnOk, OnErr, IfSome, IfNone, Some, [], ◌∷◌, ◌++◌, length};
+ghost use Rattle.std.specs.Prelude.{IsTrue, slice_get, slice_index_or};
 ghost use Rattle.rv_plain.specs.Cores.{no_state};
 ghost use Rattle.run_outcomes.specs.Explored.{state_at};
 ghost use Rattle.run_outcomes.specs.States.{after_core, IsPlaced};

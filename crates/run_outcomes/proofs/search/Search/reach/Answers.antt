@@ -2,10 +2,11 @@ use Rattle.std.proofs.Common.{◌≡◌, ap, sym, arith}
 use Rattle.std.proofs.lemmas.Bool.{false≢true}
 use Rattle.run_outcomes.proofs.Added.{added-found, added-followed, added-led}
 use Rattle.run_outcomes.proofs.Counting.{stopped-runs}
+use Rattle.run_outcomes.proofs.Noted.{noted-placed}
 use Rattle.run_outcomes.proofs.Reach.{followed-stopped}
 use Rattle.run_outcomes.specs.Counted.{runs}
 use Rattle.run_outcomes.specs.Explored.{machines, state_at}
-use Rattle.run_outcomes.specs.States.{core_in}
+use Rattle.run_outcomes.specs.States.{core_in, after_core}
 use Rattle.run_outcomes.proofs.search.Search.reach.Goals as goal
 
 pub returns-in-Stopped-clause-followed : goal.returns-in-Stopped-clause-followed
@@ -58,3 +59,12 @@ returns-in_ok-note-in-Leads-clause-counted c = λ room none small.
     let next = rw (c.in-Leads.is, c.state-state.ensures) at c.in_ok-next.ensures.next in
     let one : runs (core_in s c.args.core.0).ended ≡ 1 = ap runs next.2.runs in
     grind (arith, one, small)
+
+pub returns-in_ok-note-in-Leads-clause-noted : goal.returns-in_ok-note-in-Leads-clause-noted
+returns-in_ok-note-in-Leads-clause-noted c =
+    let before = c.args.self.now in
+    let after = after_core (state_at before.table c.args.number) c.args.core.0 c.in-Leads.after c.in-Leads.changes in
+    let placed = rw (c.in_ok-left-in-Leads.ensures, c.state-state.ensures) at c.in_ok-place-in-Leads.ensures.placed in
+    rw c.next_in.ensures.unchanged
+    (noted-placed before.executor before.table c.add.new.self after c.args.limits.states c.args.limits.longest before.endless
+    before.endless_at c.in_ok-place-in-Leads.place placed c.requires.noted)
