@@ -23,9 +23,10 @@ use crate::cells::{
 use crate::messages::{MessageCounts, kind_of};
 use crate::places::{Conflict, ConflictCounts, LineCounts, conflict_of, line_of};
 use crate::tables::CoreCounts;
-use crate::texts::{push_config, push_conflicts, push_lines, push_messages, push_tables};
+use crate::texts::{push_conflicts, push_lines, push_messages, push_tables};
 use crate::totals::{all_cores, all_messages};
 use report_text::{push_end, push_events};
+use schedule_text::push_config;
 use std::alloc::{AllocError, Global};
 use std::collections::BTreeMap;
 use std::marker::Model;

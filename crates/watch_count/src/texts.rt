@@ -1,7 +1,6 @@
 // The whole text of counts, and the two lines of a table.
 ghost use Rattle.std.specs.Prelude.{◌≡◌, ◌++◌, ◌+◌, ◌≤◌, ◌^◌, IfOk, OnOk, All, length, string_bytes, option_map};
 ghost use Rattle.std.specs.List.{flat_map};
-ghost use Rattle.schedule_text.specs.Grammar.{config_line};
 ghost use Rattle.watch_count.specs.Text.{table_text, rows_from, tables_text, kinds_from, messages_text};
 ghost use Rattle.watch_count.specs.Text.{entry_line, entry_conflict};
 ghost use Rattle.watch_count.specs.Csv.{names, settings_cells, seed_cells, end_cell, core_cells, messages_cells, csv_text};
@@ -9,35 +8,11 @@ ghost use Rattle.watch_count.specs.Sizes.{core_size, messages_size};
 
 use crate::messages::MessageCounts;
 use crate::places::{Conflict, ConflictCounts, LineCounts};
-use crate::rows::{
-    Table, push_conflict_line, push_line_line, push_messages_line, push_named, push_row,
-};
+use crate::rows::{Table, push_conflict_line, push_line_line, push_messages_line, push_row};
 use crate::tables::CoreCounts;
 use crate::totals::{all_cores, all_messages};
 use std::alloc::AllocError;
 use std::collections::BTreeMap;
-use tcc_base::Config;
-
-/// The bytes of RAM.
-fn ram_bytes(config: &Config) -> u32
-    ensures { result ≡ config.now.ram }
-{
-    4 * config.words()
-}
-
-/// The settings, as in a schedule.
-#[tactic(auto, unfolding(schedule_text::specs::Grammar::config_line, crate::specs::Lines::named))]
-pub(crate) fn push_config(text: &mut String, config: &Config) -> Result<(), AllocError>
-    ensures { OnOk result (string_bytes text.new ≡ string_bytes text.old ++ config_line config.now) }
-{
-    push_named(text, "cores ", config.cores() as u64)?;
-    push_named(text, " dirs ", config.dirs() as u64)?;
-    push_named(text, " sets ", config.sets() as u64)?;
-    push_named(text, " ways ", config.ways() as u64)?;
-    push_named(text, " base ", config.base() as u64)?;
-    push_named(text, " ram ", ram_bytes(config) as u64)?;
-    text.push_str("\n")
-}
 
 /// The rows of a table for each core.
 fn push_rows(text: &mut String, table: Table, cores: &[CoreCounts]) -> Result<(), AllocError>
