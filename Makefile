@@ -24,12 +24,15 @@ prove:
 
 install:
 	release/check
-	install -d $(lib)/share/cc $(lib)/share/pages $(DESTDIR)$(PREFIX)/bin $(man) $(bash) $(zsh) $(doc)/examples
+	install -d $(lib)/share/cc $(lib)/share/pages $(lib)/share/look/page $(lib)/share/sweep $(DESTDIR)$(PREFIX)/bin $(man) $(bash) $(zsh) $(doc)/examples
 	install -m 755 tcc release/tcc-x86_64-linux $(lib)
 	install -m 644 VERSION release/manifest $(lib)
 	install -m 755 share/launch $(lib)/share
 	install -m 644 share/checked.sh share/hints.py share/words.py share/words.txt $(lib)/share
 	install -m 644 share/pages/* $(lib)/share/pages
+	install -m 644 share/look/*.py $(lib)/share/look
+	install -m 644 share/look/page/* $(lib)/share/look/page
+	install -m 644 share/sweep/*.py $(lib)/share/sweep
 	install -m 755 share/cc/cc $(lib)/share/cc
 	install -m 644 share/cc/*.[cSl]* examples/machine.h $(lib)/share/cc
 	ln -sf ../lib/$(name)/tcc $(DESTDIR)$(PREFIX)/bin/$(name)
@@ -38,7 +41,8 @@ install:
 	install -m 644 share/completion.zsh $(zsh)/_$(name)
 	install -m 644 README.md LICENSE CHANGELOG.md docs/*.md $(doc)
 	install -m 644 examples/*.c examples/*.s examples/*.bin examples/*.elf examples/machine.h $(doc)/examples
-	cp -r examples/template $(doc)/examples
+	cp -r examples/template examples/exercises examples/experiments examples/kernels examples/litmus $(doc)/examples
+	cp -r docs/look docs/experiments $(doc)
 
 uninstall:
 	rm -rf $(lib) $(doc)

@@ -18,13 +18,13 @@ launch() { exec bash -- "$root/share/launch" "$0" "$@"; }
 . "$root/share/checked.sh"
 
 case ${1-} in
-run | phases | serial | trial | bus) ;;
+run | phases | serial | trial | bus | trace | count | state) ;;
 *) launch "$@" ;;
 esac
 for word; do
     case $word in
     --) break ;;
-    -h | --help | --record | --record=*) launch "$@" ;;
+    -h | --help | --record | --record=* | --schedule | --schedule=*) launch "$@" ;;
     esac
 done
 case ${TCC_HINTS-} in

@@ -10,8 +10,15 @@ _hoopoelarder() {
         'serial:runs a report's transactions one after another, without caches'
         'trial:runs a workload, and prints a summary'
         'bus:runs programs on a machine with one bus and no directories, and prints a report'
+        'trace:prints what each event of a run did'
+        'count:prints how often what happened in a run'
+        'state:prints the state after a run, or after its first events'
         'help:prints a page of usage'
         'cc:compiles C for the machine'
+        'look:shows what happened in a run'
+        'step:walks through a run in the terminal'
+        'sweep:counts runs of all combinations of options'
+        'plot:draws curves from what sweep counted'
     )
     if ((CURRENT == 2)); then
         _describe command commands
@@ -100,6 +107,53 @@ _hoopoelarder() {
             '--raw[the images are raw; without it they are ELF files]' \
             '--steps[the largest number of events\: 0 to 4194304 (1000000)]:N:' \
             '--seed[what the choice of events begins with\: 0 to 18446744073709551615 (0)]:N:' \
+            '1:command:' '*:file:_files'
+        ;;
+    trace)
+        _arguments \
+            '--cores[the number of cores\: 1 to 64 (1)]:N:' \
+            '--dirs[the number of directories\: 1 to 64 (1)]:N:' \
+            '--sets[how many sets a cache has\: a power of two from 1 to 1024 (16)]:N:' \
+            '--ways[how many ways a set has\: 1 to 16 (2)]:N:' \
+            '--ram[the bytes of memory\: a multiple of 32 from 32 to 16777216 (65536)]:N:' \
+            '--base[the address of the first one\: a multiple of 32, with base + RAM at most 2^32 (0x80000000)]:N:' \
+            '--raw[the images are raw; without it they are ELF files]' \
+            '--steps[the largest number of events\: 0 to 4194304 (1000000)]:N:' \
+            '--seed[what the choice of events begins with\: 0 to 18446744073709551615 (0)]:N:' \
+            '--schedule[the run is that of this schedule; then there is neither --steps nor --seed]:NAME:_files' \
+            '--from[events before this one, counted from 0, aren'\''t printed\: 0 to 4194304 (0)]:N:' \
+            '--to[at most so many events are taken\: 0 to 4194304 (4194304)]:N:' \
+            '--states[the state at the beginning is printed too, and what each event changed of it]' \
+            '1:command:' '*:file:_files'
+        ;;
+    count)
+        _arguments \
+            '--cores[the number of cores\: 1 to 64 (1)]:N:' \
+            '--dirs[the number of directories\: 1 to 64 (1)]:N:' \
+            '--sets[how many sets a cache has\: a power of two from 1 to 1024 (16)]:N:' \
+            '--ways[how many ways a set has\: 1 to 16 (2)]:N:' \
+            '--ram[the bytes of memory\: a multiple of 32 from 32 to 16777216 (65536)]:N:' \
+            '--base[the address of the first one\: a multiple of 32, with base + RAM at most 2^32 (0x80000000)]:N:' \
+            '--raw[the images are raw; without it they are ELF files]' \
+            '--steps[the largest number of events\: 0 to 4194304 (1000000)]:N:' \
+            '--seed[what the choice of events begins with\: 0 to 18446744073709551615 (0)]:N:' \
+            '--schedule[the run is that of this schedule; then there is neither --steps nor --seed]:NAME:_files' \
+            '--csv[only the totals are printed, as two rows for a table]' \
+            '1:command:' '*:file:_files'
+        ;;
+    state)
+        _arguments \
+            '--cores[the number of cores\: 1 to 64 (1)]:N:' \
+            '--dirs[the number of directories\: 1 to 64 (1)]:N:' \
+            '--sets[how many sets a cache has\: a power of two from 1 to 1024 (16)]:N:' \
+            '--ways[how many ways a set has\: 1 to 16 (2)]:N:' \
+            '--ram[the bytes of memory\: a multiple of 32 from 32 to 16777216 (65536)]:N:' \
+            '--base[the address of the first one\: a multiple of 32, with base + RAM at most 2^32 (0x80000000)]:N:' \
+            '--raw[the images are raw; without it they are ELF files]' \
+            '--steps[the largest number of events\: 0 to 4194304 (1000000)]:N:' \
+            '--seed[what the choice of events begins with\: 0 to 18446744073709551615 (0)]:N:' \
+            '--schedule[the run is that of this schedule; then there is neither --steps nor --seed]:NAME:_files' \
+            '--events[at most so many events are taken\: 0 to 4194304 (4194304)]:N:' \
             '1:command:' '*:file:_files'
         ;;
     help) _describe command commands ;;

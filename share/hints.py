@@ -91,6 +91,8 @@ def reason(command, name):
         return ": there are no messages, so no schedule"
     if command in ("replay", "why") and name in ("seed", "steps"):
         return ": a schedule says which events there are"
+    if command in ("trace", "count", "state") and name == "record":
+        return ": run writes a record"
     if command == "trial" and name in ("raw", "ram", "base"):
         return ": it makes its own image"
     return ""
@@ -110,6 +112,8 @@ def words_hint(words, commands, options):
     said = Words(words, options)
     if said.fault:
         return said.fault
+    if "schedule" in said.given and ("steps" in said.given or "seed" in said.given):
+        return "a schedule says which events there are: it stands with neither --steps nor --seed"
     if words[0] == "trial":
         return "trial takes two words, KIND and NUMBER, as in trial counters 50"
     missing = commands[words[0]].words.replace("[OPTION]... ", "").replace("...", "").split()[len(said.files):]
@@ -276,7 +280,7 @@ def settings_of(said):
 
 def schedule_hint(line, said, program, words):
     at = int(line.rsplit(" ", 1)[1])
-    name = said.files[0]
+    name = said.given.get("schedule") or said.files[0]
     lines = read(name).decode("utf-8", "replace").split("\n")
     here = lines[at - 1] if at <= len(lines) else ""
     if said.command == "serial":
@@ -296,7 +300,7 @@ def schedule_hint(line, said, program, words):
         return f"{name} ends before line {at}; the last line of a schedule is `end` with the number of events"
     if not re.fullmatch(r"e \d+|x \d+ \d+ \d+|d [cd]\d+ [cd]\d+ \d+|d c\d+ v \d+|d v c\d+ \d+", here):
         return f"line {at} is `{here[:60]}`, which is no event and not the right end"
-    following = next_event(program, words, name, lines, at)
+    following = next_event(program, words, name, lines, at) if said.command in ("replay", "why") else None
     return f"event {at - 3}, `{here}`, isn't enabled there" + (f"; `{following}` would be" if following else "")
 
 

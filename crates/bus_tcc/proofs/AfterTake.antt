@@ -1,5 +1,5 @@
 -- The machine after a core took the packet that is on the bus.
-use Rattle.std.proofs.Common.{◌≡◌, ℕ, ◌+◌, ◌<◌, ◌≤◌, Bool, true, false, List, length, Option, Some, None, is_some, refl, ap, sym, ◌∙◌}
+use Rattle.std.proofs.Common.{◌≡◌, ℕ, ◌+◌, ◌<◌, ◌≤◌, Bool, true, false, List, [], length, Option, Some, None, is_some, refl, ap, sym, ◌∙◌}
 use Rattle.std.proofs.Common.{subst, arith}
 use Rattle.std.specs.Prelude.{Contains, nat_lt, if◌then◌else◌}
 use Rattle.std.proofs.lemmas.Bool.{lt-ltb}
@@ -17,7 +17,8 @@ use Rattle.core_node.specs.AtHand.{words_in}
 use Rattle.bus_tcc.specs.Answers.{Took, bus_step_of}
 use Rattle.bus_tcc.specs.Inside.{machine_of}
 use Rattle.bus_tcc.specs.Left.{is_left, packet_words, without_core}
-use Rattle.bus_tcc.specs.Machine.{BusMachine, bus_history_of, bus_of, bus_settings_of, bus_world_of, word_in}
+use Rattle.bus_tcc.specs.Machine.{BusMachine, bus_history_of, bus_of, bus_settings_of, bus_world_of, is_free, word_in}
+use Rattle.bus_tcc.specs.Packets.{lines_on}
 use Rattle.bus_tcc.specs.Taking.{took}
 use Rattle.bus_tcc.specs.Whole.{IsBusWhole}
 use Rattle.bus_tcc.specs.declared.bus.Bus.{Bus as CodeBus}
@@ -25,6 +26,7 @@ use Rattle.bus_tcc.specs.declared.event.BusStep.TheVariants.{Moved}
 use Rattle.bus_tcc.specs.declared.engine.Engine.TheInside.{Inside}
 use Rattle.bus_tcc.proofs.Bounds.{bounded, core-bounded}
 use Rattle.bus_tcc.proofs.Events.{bank_in, took-by, took-whole, world-is}
+use Rattle.bus_tcc.proofs.PacketLines.{unless-in-order}
 use Rattle.bus_tcc.proofs.TakenLines.{InMemory, IsClean, took-taken}
 
 -- what the rules make of it
@@ -82,6 +84,7 @@ pub record TookLines (m n : BusMachine) (c : ℕ) (ts : List Tagged) : Type 0 wh
   pub ram : n.ram ≡ m.ram
   pub next : n.next ≡ m.next
   pub bus : bus_of n.bus ≡ without_core c (bus_settings_of m).cores (bus_of m.bus)
+  pub packet : lines_on n.bus ≡ (if is_free (bus_of n.bus) then [] else lines_on m.bus)
   pub commits : n.commits ≡ m.commits
   pub events : n.events ≡ m.events + 1
 
@@ -101,6 +104,7 @@ lines-took m n c ts w l left t =
 pub lines-whole : (m n : BusMachine) (c : ℕ) (ts : List Tagged) → IsBusWhole m → TookLines m n c ts → Took m n (Take c) Moved → IsBusWhole n
 lines-whole m n c ts w t k = took-whole m n (Take c) Moved w k (ap length t.ram)
     (λ d i. subst (λ y. d.tid.0 < y) (sym t.next) (w.noted d (subst (λ cs. Contains cs d) t.commits i)))
+    (unless-in-order (bus_settings_of m) (is_free (bus_of n.bus)) (lines_on n.bus) (lines_on m.bus) t.packet w.packet)
 
 abbrev pub after_take : Inside → CoresData → CodeBus → BusMachine
 after_take s b bus = record (machine_of s) { code = b.code; cores = b.cores; bus = bus; events = s.events + 1 }

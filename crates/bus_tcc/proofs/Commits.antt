@@ -19,9 +19,11 @@ use Rattle.bus_rules.specs.Commit.{all_clean, commit_out, wrote_some, written_wo
 use Rattle.core_node.specs.AtHand.{line_told, lines_told, words_in}
 use Rattle.bus_tcc.specs.Cleaning.{cleaned_by}
 use Rattle.bus_tcc.specs.Committing.{CanCommit, IsCommitOf}
+use Rattle.bus_tcc.specs.Packets.{AreInOrder}
 use Rattle.bus_tcc.specs.Storing.{AreInside}
 use Rattle.bus_tcc.proofs.Cleaned.{cleaned-all, is_among, word-among}
-use Rattle.bus_tcc.proofs.Writes.{lines-written}
+use Rattle.bus_tcc.proofs.PacketLines.{told-in-order}
+use Rattle.bus_tcc.proofs.Writes.{lines-written, the_line, told-each}
 
 -- the lines that are told
 pub told-lines : (sh : Shape) (s : CoreState) (t : ℕ) → CanCommit sh s → words_in (lines_told sh t s) ≡ written_words s
@@ -81,20 +83,6 @@ mapped f [] i d h = absurd (omega (arith, h))
 mapped f (x ∷ xs) zero d h = refl
 mapped f (x ∷ xs) (suc i) d h = mapped f xs i d (omega (arith, h))
 
-map-twice : (f : ℕ × ℕ → Tagged) (g : ℕ → ℕ × ℕ) (xs : List ℕ) → map f (map g xs) ≡ map (λ l. f (g l)) xs
-map-twice f g [] = refl
-map-twice f g (x ∷ xs) = ap (λ ts. f (g x) ∷ ts) (map-twice f g xs)
-
-abbrev the_line : CoreState → (tid line : ℕ) → Tagged
-the_line s t l = line_told s t (l, written_mask s.cache s.spilled l)
-
--- one line for each that was written
-told-each : (sh : Shape) (s : CoreState) (t : ℕ)
-    → lines_told sh t s ≡ map (the_line s t) (those (is_written s.cache s.spilled) (lines sh))
-unfolding lines_told solo_list
-told-each sh s t =
-    map-twice (line_told s t) (λ l. (l, written_mask s.cache s.spilled l)) (those (is_written s.cache s.spilled) (lines sh))
-
 its-line : (s : CoreState) (t l : ℕ) → (the_line s t l).line.0 ≡ l
 unfolding line_told
 its-line s t l = refl
@@ -140,6 +128,7 @@ is-commit sh c t s d ts k same noted = record {
   words = ap words_in same ∙ told-lines sh s t k;
   inside = subst (AreInside (sh.ram / 4)) (sym same) (told-inside sh s t);
   empty = ap (λ l. length l == 0) same ∙ told-empty sh s t;
+  order = subst (AreInOrder sh) (sym same) (told-in-order sh s t k.valid k.inside);
 }
 
 pub commit-leaves : (sh : Shape) (c t : ℕ) (s now new : CoreState) (ts : List Tagged) → CanCommit sh s → ts ≡ lines_told sh t s

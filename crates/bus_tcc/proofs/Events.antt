@@ -18,6 +18,7 @@ use Rattle.bus_tcc.specs.Answers.{Answers, Kept, Took, bus_step_of, refusal_of, 
 use Rattle.bus_tcc.specs.Bank.{Acted}
 use Rattle.bus_tcc.specs.Machine.{BusMachine, bus_history_of, bus_of, bus_program_of, bus_settings_of, bus_world_of, word_in}
 use Rattle.bus_tcc.specs.Inside.{machine_of}
+use Rattle.bus_tcc.specs.Packets.{AreInOrder, lines_on}
 use Rattle.bus_tcc.specs.Whole.{AreBefore, IsBusWhole}
 use Rattle.bus_tcc.specs.declared.engine.Engine.TheInside.{Inside}
 use Rattle.bus_tcc.specs.declared.event.BusStep.{BusStep}
@@ -53,12 +54,13 @@ took-by m n e o t s w cs told events code = record {
 
 -- and the machine is whole
 pub took-whole : (m n : BusMachine) (e : BusEvent) (t : BusStep) → IsBusWhole m → Took m n e t → length n.ram ≡ length m.ram
-    → AreBefore n.next n.commits → IsBusWhole n
-took-whole m n e t w k ram noted = record {
+    → AreBefore n.next n.commits → AreInOrder (bus_settings_of m) (lines_on n.bus) → IsBusWhole n
+took-whole m n e t w k ram noted packet = record {
   allowed = rw k.code w.allowed;
   one_home = rw k.code w.one_home;
   ram = rw k.code (ram ∙ w.ram);
   noted = noted;
+  packet = subst (λ x. AreInOrder x.settings (lines_on n.bus)) (sym k.code) packet;
   reached = reached-on m n e w.reached k.next k.events k.code;
 }
 
@@ -92,6 +94,8 @@ stays-whole m n w s =
       one_home = rw s.code w.one_home;
       ram = rw s.code (ap length s.ram ∙ w.ram);
       noted = λ c h. subst (λ t. c.tid.0 < t) (sym s.next) (w.noted c (subst (λ cs. Contains cs c) s.commits h));
+      packet = subst (λ b. AreInOrder (bus_settings_of n) (lines_on b)) (sym s.bus)
+          (subst (λ x. AreInOrder x.settings (lines_on m.bus)) (sym s.code) w.packet);
       reached = reached-same m n w.reached k.history k.events k.code;
     }
 
@@ -118,6 +122,7 @@ moved-took m n e c (Some o) s is a =
 pub moved-whole : (m n : BusMachine) (e : BusEvent) → IsBusWhole m → MovesOne m n → Took m n e Moved → IsBusWhole n
 moved-whole m n e w s k = took-whole m n e Moved w k (ap length s.ram)
     (λ c h. subst (λ t. c.tid.0 < t) (sym s.next) (w.noted c (subst (λ cs. Contains cs c) s.commits h)))
+    (subst (λ b. AreInOrder (bus_settings_of m) (lines_on b)) (sym s.bus) w.packet)
 
 evicted-none : (w : BusWorld) (c : ℕ) (o : Option Out) → o ≡ None → if_evicted w c o ≡ None
 evicted-none w c o e = ap (if_evicted w c) e

@@ -1,5 +1,5 @@
 -- An instruction with its line at hand, and what the machine is after it.
-use Rattle.std.proofs.Common.{◌≡◌, ◌≢◌, ℕ, ◌+◌, ◌<◌, Bool, true, false, not, ◌&&◌, List, length, Option, Some, None, Err, refl, ap, sym}
+use Rattle.std.proofs.Common.{◌≡◌, ◌≢◌, ℕ, ◌+◌, ◌<◌, Bool, true, false, not, ◌&&◌, List, [], length, Option, Some, None, Err, refl, ap, sym}
 use Rattle.std.proofs.Common.{◌∙◌, subst, arith}
 use Rattle.std.specs.Prelude.{zero, suc, ◌==◌, ◌||◌, get_or, is_some, unwrap_or, if◌then◌else◌, Contains}
 use Rattle.std.proofs.lemmas.Bool.Decides.{nat_tests}
@@ -34,11 +34,13 @@ use Rattle.core_bank.specs.Bank.{CoresData, cores_of}
 use Rattle.bus_tcc.specs.Inside.{machine_of}
 use Rattle.bus_tcc.specs.declared.bus.Bus.{Bus as CodeBus}
 use Rattle.bus_tcc.specs.declared.engine.Engine.TheInside.{Inside}
+use Rattle.bus_tcc.specs.Packets.{lines_on}
 use Rattle.bus_tcc.specs.Whole.{IsBusWhole}
 use Rattle.bus_tcc.specs.declared.event.BusError.TheVariants.{Refused}
 use Rattle.bus_tcc.specs.declared.event.BusStep.TheVariants.{Moved}
 use Rattle.bus_tcc.proofs.Bounds.{core-bounded}
 use Rattle.bus_tcc.proofs.Events.{StaysBut, bank_in, stays-kept, took-by, took-whole, world-is}
+use Rattle.bus_tcc.proofs.PacketLines.{unless-in-order}
 
 -- a line that is whole isn't changed where it is filled
 all-ones : (k : ℕ) → k < 8 → has 255 k ≡ true
@@ -184,6 +186,7 @@ pub record HasExecuted (m n : BusMachine) (c : ℕ) (alone : Bool) : Type 0 wher
   pub ram : n.ram ≡ m.ram
   pub next : n.next ≡ m.next
   pub bus : bus_of n.bus ≡ (if alone then Alone c else bus_of m.bus)
+  pub packet : lines_on n.bus ≡ (if alone then [] else lines_on m.bus)
   pub commits : n.commits ≡ m.commits
   pub events : n.events ≡ m.events + 1
 
@@ -203,6 +206,7 @@ pub executed-whole : (m n : BusMachine) (c : ℕ) (alone : Bool) → IsBusWhole 
     → IsBusWhole n
 executed-whole m n c alone w h k = took-whole m n (Exec c) Moved w k (ap length h.ram)
     (λ d i. subst (λ t. d.tid.0 < t) (sym h.next) (w.noted d (subst (λ cs. Contains cs d) h.commits i)))
+    (unless-in-order (bus_settings_of m) alone (lines_on n.bus) (lines_on m.bus) h.packet w.packet)
 
 -- ---- where it isn't enabled
 

@@ -7,6 +7,7 @@ mod Events
 mod Bounds
 mod Refining
 mod TakenLines
+mod PacketLines
 mod AfterTake
 mod Writes
 mod Stores

@@ -28,6 +28,7 @@ use Rattle.bus_tcc.specs.Committing.{CanCommit, IsCommitOf}
 use Rattle.bus_tcc.specs.Ending.{CommitsBy, at_commit}
 use Rattle.bus_tcc.specs.Left.{all_but}
 use Rattle.bus_tcc.specs.Machine.{BusMachine, bus_of, bus_program_of, bus_history_of, bus_settings_of, bus_world_of, is_free, word_in}
+use Rattle.bus_tcc.specs.Packets.{lines_on}
 use Rattle.bus_tcc.specs.Whole.{AreBefore, IsBusWhole}
 use Rattle.bus_tcc.specs.declared.committing.Written.{Written}
 use Rattle.bus_tcc.specs.declared.event.BusError.TheVariants.{Refused, Memory}
@@ -36,6 +37,7 @@ use Rattle.bus_tcc.proofs.Bounds.{bounded, core-bounded}
 use Rattle.bus_tcc.proofs.Endings.{waiting-commits}
 use Rattle.bus_tcc.proofs.Events.{StaysBut, bank_in, stays-kept, took-by, took-whole, world-is}
 use Rattle.bus_tcc.proofs.Instructions.{busy-so, free-so}
+use Rattle.bus_tcc.proofs.PacketLines.{unless-in-order}
 
 -- ---- a commit by the next TID stands at the end
 
@@ -207,6 +209,7 @@ pub record HasPublished (m n : BusMachine) (c : ℕ) (s : CoreState) (w : Writte
   pub bus : bus_of n.bus
       ≡ (if not (length w.lines == 0) && any_below (all_but c (bus_settings_of m).cores) (bus_settings_of m).cores
       then Packet (words_in w.lines) (all_but c (bus_settings_of m).cores) else Free)
+  pub packet : lines_on n.bus ≡ (if is_free (bus_of n.bus) then [] else w.lines)
   pub next : n.next ≡ m.next + 1
   pub commits : n.commits ≡ insert_commit w.commit m.commits
   pub events : n.events ≡ m.events + 1
@@ -251,6 +254,7 @@ published-whole m n c s w k h t =
     took-whole m n (Exec c) (Committed (record { 0 = m.next })) k t h.count
     (subst (λ x. AreBefore x n.commits) (sym h.next) (subst (AreBefore (m.next + 1)) (sym (commits-then m n c s w k h))
     (all-before w.commit m.next m.commits (tid-number (bus_settings_of m) c m.next s w h.wrote) k.noted)))
+    (unless-in-order (bus_settings_of m) (is_free (bus_of n.bus)) (lines_on n.bus) w.lines h.packet h.wrote.order)
 
 -- no commit has the next TID
 pub new-tid : (m : BusMachine) (c : ℕ) (s : CoreState) (w : Written) → IsBusWhole m → IsCommitOf (bus_settings_of m) c m.next s w

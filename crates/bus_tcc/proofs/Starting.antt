@@ -12,9 +12,11 @@ use Rattle.bus_rules.specs.State.{bus_start}
 use Rattle.bus_rules.specs.Step.{bus_from, bus_run}
 use Rattle.bus_serial.specs.Given.{bus_at_start}
 use Rattle.core_bank.specs.Bank.{cores_of, first_core}
-use Rattle.bus_tcc.specs.Machine.{BusMachine, bus_history_of, bus_of, bus_start_of, bus_world_of}
+use Rattle.bus_tcc.specs.Machine.{BusMachine, bus_history_of, bus_of, bus_settings_of, bus_start_of, bus_world_of}
+use Rattle.bus_tcc.specs.Packets.{AreInOrder, lines_on}
 use Rattle.bus_tcc.specs.Whole.{BusReached, IsBusWhole}
 use Rattle.bus_tcc.specs.declared.bus.Bus.TheVariants.{Free}
+use Rattle.bus_tcc.proofs.PacketLines.{none-in-order}
 
 -- what the parts of the first machine are
 pub record IsFirst (c : Contents) (m : BusMachine) : Type 0 where
@@ -46,6 +48,7 @@ first-whole c m f = record {
   one_home = subst (λ k. k.settings.dirs ≡ 1) (sym f.code) f.one_home;
   ram = f.count ∙ ap (λ k. k.settings.ram / 4) (sym f.code);
   noted = λ d h. absurd (none d (subst (λ ds. Contains ds d) f.commits h));
+  packet = subst (λ b. AreInOrder (bus_settings_of m) (lines_on b)) (sym f.bus) (none-in-order (bus_settings_of m));
   reached = reached-first m (first-history c m f ∙ ap (λ k. bus_at_start (started k)) (sym f.code)) f.events;
 }
   where

@@ -20,7 +20,7 @@ use Rattle.bus_rules.specs.Commit.{written_words}
 use Rattle.core_node.specs.AtHand.{line_told, lines_told, word_told, words_in}
 use Rattle.bus_tcc.proofs.TakenLines.{any-at, place-back}
 
-eight-at : (f : ℕ → ℕ) (k : ℕ) → k < 8 → get_or (eight f) k 0 ≡ f k
+pub eight-at : (f : ℕ → ℕ) (k : ℕ) → k < 8 → get_or (eight f) k 0 ≡ f k
 unfolding eight
 eight-at f zero h = refl
 eight-at f (suc zero) h = refl
@@ -80,7 +80,7 @@ wrote-line s w e = by (s.cache.modified w) refl e
     by true q h = or-left _ _ (any-at s.cache.modified w q)
     by false q h = or-right _ _ (any-at (λ v. is_some (s.spilled v)) w h)
 
-abbrev the_line : CoreState → (tid line : ℕ) → Tagged
+abbrev pub the_line : CoreState → (tid line : ℕ) → Tagged
 the_line s t l = line_told s t (l, written_mask s.cache s.spilled l)
 
 -- its own line
@@ -141,13 +141,16 @@ map-twice : (f : ℕ × ℕ → Tagged) (g : ℕ → ℕ × ℕ) (xs : List ℕ)
 map-twice f g [] = refl
 map-twice f g (x ∷ xs) = ap (λ ts. f (g x) ∷ ts) (map-twice f g xs)
 
+-- one line for each that was written
+pub told-each : (sh : Shape) (s : CoreState) (t : ℕ)
+    → lines_told sh t s ≡ map (the_line s t) (those (is_written s.cache s.spilled) (lines sh))
+unfolding lines_told solo_list
+told-each sh s t =
+    map-twice (line_told s t) (λ l. (l, written_mask s.cache s.spilled l)) (those (is_written s.cache s.spilled) (lines sh))
+
 told-words : (sh : Shape) (s : CoreState) (t w : ℕ)
     → words_in (lines_told sh t s) w ≡ (if nat_lt (line_of w) (lines sh) then told_word s w else None)
-unfolding lines_told solo_list
-told-words sh s t w =
-    ap (λ ts. words_in ts w) (map-twice (line_told s t) (λ l. (l, written_mask s.cache s.spilled l)) (those (is_written s.cache
-    s.spilled) (lines sh)))
-    ∙ below-lines s t w (lines sh)
+told-words sh s t w = ap (λ ts. words_in ts w) (told-each sh s t) ∙ below-lines s t w (lines sh)
 
 told-written : (o : Option ℕ) (b : Bool) (v : Option ℕ) → (b ≡ true → is_some v ≡ true)
     → (if b || is_some o then Some (unwrap_or (or_else o v) 0) else None) ≡ or_else o (if b then v else None)

@@ -5,6 +5,7 @@ use Rattle.tcc_maps.specs.Words.{line_of}
 use Rattle.tcc_rules.specs.State.{CoreState}
 use Rattle.bus_rules.specs.Commit.{commit_out, wrote_some, written_words}
 use Rattle.core_node.specs.AtHand.{words_in}
+use Rattle.bus_tcc.specs.Packets.{AreInOrder}
 use Rattle.bus_tcc.specs.Storing.{AreInside}
 use Rattle.bus_tcc.specs.declared.committing.Written.{Written}
 
@@ -20,3 +21,4 @@ pub record IsCommitOf (sh : Shape) (core tid : ℕ) (s : CoreState) (w : Written
   pub words : words_in w.lines ≡ written_words s
   pub inside : AreInside (sh.ram / 4) w.lines
   pub empty : (length w.lines == 0) ≡ not (wrote_some sh s)
+  pub order : AreInOrder sh w.lines

@@ -6,6 +6,7 @@ pub mod Cleaning
 pub mod Committing
 pub mod Ending
 pub mod Left
+pub mod Packets
 pub mod Storing
 pub mod Taking
 pub mod Whole

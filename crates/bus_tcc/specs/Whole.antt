@@ -5,6 +5,7 @@ use Rattle.tcc_base.specs.declared.access.Commit.{Commit}
 use Rattle.bus_rules.specs.State.{BusEvent}
 use Rattle.bus_rules.specs.Step.{bus_run}
 use Rattle.bus_serial.specs.Given.{bus_at_start}
+use Rattle.bus_tcc.specs.Packets.{AreInOrder, lines_on}
 use Rattle.bus_tcc.specs.Machine.{BusMachine, bus_history_of, bus_program_of, bus_settings_of, bus_start_of}
 
 -- some list of events, as many as were taken, leads there from the start
@@ -22,4 +23,5 @@ pub record IsBusWhole (m : BusMachine) : Type 0 where
   pub one_home : (bus_settings_of m).dirs ≡ 1
   pub ram : length m.ram ≡ (bus_settings_of m).ram / 4
   pub noted : AreBefore m.next m.commits
+  pub packet : AreInOrder (bus_settings_of m) (lines_on m.bus)
   pub reached : BusReached m

@@ -1,11 +1,12 @@
 // The bus: who has it, and the packet that is on it.
-ghost use Rattle.std.specs.Prelude.{◌≡◌, ◌<◌, ◌≤◌, false, not, nat_lt, filter, length, option_map, slice_get};
+ghost use Rattle.std.specs.Prelude.{◌≡◌, ◌<◌, ◌≤◌, [], false, not, nat_lt, filter, length, option_map, slice_get, if◌then◌else◌};
 ghost use Rattle.tcc_rules.specs.Seen.{numbers};
 ghost use Rattle.tcc_base.specs.Put.{put};
 ghost use Rattle.tcc_maps.specs.Masks.{has};
 ghost use Rattle.tcc_maps.specs.Words.{any_below};
 ghost use Rattle.core_node.specs.AtHand.{words_in};
 ghost use Rattle.bus_tcc.specs.Left.{is_left, number_of, packet_words, without_core};
+ghost use Rattle.bus_tcc.specs.Packets.{lines_on};
 ghost use Rattle.bus_rules.specs.Useful.{is_packet};
 ghost use Rattle.bus_tcc.specs.Machine.{bus_of, is_free};
 
@@ -162,7 +163,8 @@ impl Bus {
 
     /// The lines of the packet that is on it; none where there is none.
     pub fn lines(&self) -> &[Tagged]
-        ensures { words_in result.now ≡ packet_words (bus_of self.now) }
+        ensures words { words_in result.now ≡ packet_words (bus_of self.now) }
+        ensures lines { result.now ≡ lines_on self.now }
     {
         match self {
             Bus::Packet(packet) => lines_of(packet),
@@ -175,7 +177,8 @@ impl Bus {
     pub fn leave(&mut self, core: CoreId, cores: u8)
         requires exists { core.0 < 64 }
         requires few { cores ≤ 64 }
-        ensures { bus_of self.new ≡ without_core core.0 cores (bus_of self.old) }
+        ensures bus { bus_of self.new ≡ without_core core.0 cores (bus_of self.old) }
+        ensures lines { lines_on self.new ≡ (if is_free (bus_of self.new) then [] else lines_on self.old) }
     {
         let empty = match self {
             Bus::Packet(packet) => packet.leave(core, cores),

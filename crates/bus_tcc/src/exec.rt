@@ -1,11 +1,12 @@
 // A core executes.
-ghost use Rattle.std.specs.Prelude.{◌≡◌, ◌<◌, ◌&&◌, not, true, if◌then◌else◌};
+ghost use Rattle.std.specs.Prelude.{◌≡◌, ◌<◌, ◌&&◌, [], not, true, if◌then◌else◌};
 ghost use Rattle.bus_rules.specs.Exec.{goes_on, instruction};
 ghost use Rattle.bus_rules.specs.State.{Alone, Exec};
 ghost use Rattle.core_node.specs.AtHand.{executes, goes_alone};
 ghost use Rattle.tcc_rules.specs.CoreExec.{core_exec};
 ghost use Rattle.bus_tcc.specs.Answers.{Answers, bus_step_of};
 ghost use Rattle.bus_tcc.specs.Machine.{bus_of, bus_program_of, bus_settings_of, bus_world_of, is_free};
+ghost use Rattle.bus_tcc.specs.Packets.{lines_on};
 
 use crate::bus::Bus;
 use crate::engine::Engine;
@@ -22,7 +23,8 @@ fn is_barred_by(free: bool, overflows: bool) -> bool
 
 /// A core that has gone alone has the bus.
 fn take_if(bus: &mut Bus, alone: bool, core: CoreId)
-    ensures { bus_of bus.new ≡ (if alone then Alone core.0 else bus_of bus.old) }
+    ensures bus { bus_of bus.new ≡ (if alone then Alone core.0 else bus_of bus.old) }
+    ensures lines { lines_on bus.new ≡ (if alone then [] else lines_on bus.old) }
 {
     if alone {
         *bus = Bus::Alone(core);

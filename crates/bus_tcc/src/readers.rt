@@ -1,15 +1,18 @@
 // What is committed, and what memory holds.
-ghost use Rattle.std.specs.Prelude.{◌≡◌, ◌<◌, ◌/◌, ◌*◌, ◌↔◌, IsTrue, IfOk};
+ghost use Rattle.std.specs.Prelude.{◌≡◌, ◌<◌, ◌/◌, ◌*◌, ◌↔◌, IsTrue, IfOk, map};
 ghost use Rattle.bus_rules.specs.Exec.{line_words};
 ghost use Rattle.bus_rules.specs.Useful.{BusIsDone};
 ghost use Rattle.core_node.specs.View.{core_of};
 ghost use Rattle.rv_plain.specs.Attempts.{outcome_of};
 ghost use Rattle.tcc_rules.specs.State.{Halted};
-ghost use Rattle.bus_tcc.specs.Machine.{bus_settings_of, bus_world_of, word_in};
+ghost use Rattle.bus_tcc.specs.Left.{packet_words};
+ghost use Rattle.bus_tcc.specs.Machine.{bus_of, bus_settings_of, bus_world_of, word_in};
+ghost use Rattle.bus_tcc.specs.Packets.{lines_on, packet_line_of, packet_lines};
 ghost use Rattle.bus_tcc.specs.Refined.{IsBusRefined};
 ghost use Rattle.tcc_program.specs.Cores.{printed};
 ghost use Rattle.tcc_serial.specs.Commits.{end_after};
 
+use crate::bus::Bus;
 use crate::engine::Engine;
 use commit_engine::Phase;
 use core_node::CoreNode;
@@ -17,7 +20,7 @@ use reg_checkpoint::Check;
 use rv_code::Code;
 use rv_plain::Outcome;
 use std::alloc::Global;
-use tcc_base::{Commit, Config, CoreEnd, CoreId, LineAddr, List, NoMemory, WordAddr};
+use tcc_base::{Commit, Config, CoreEnd, CoreId, LineAddr, List, NoMemory, Tid, WordAddr};
 
 impl Engine {
     /// The settings.
@@ -63,6 +66,32 @@ impl Engine {
         ensures { let c = (bus_world_of self.now).cores core.0 in result ≡ end_after c.phase c.ended }
     {
         end_of(self.cores.core(core))
+    }
+
+    /// A core. It takes constant time.
+    pub(crate) fn core(&self, core: CoreId) -> &CoreNode
+        requires { core.0 < (bus_settings_of self.now).cores }
+        ensures config { result.now.config ≡ bus_settings_of self.now }
+        ensures id { result.now.id ≡ core }
+        ensures state { core_of result.now ≡ (bus_world_of self.now).cores core.0 }
+    {
+        self.cores.core(core)
+    }
+
+    /// Who has the bus, with the packet that is on it. It takes constant time.
+    pub(crate) fn bus(&self) -> &Bus
+        ensures bus { bus_of result.now ≡ (bus_world_of self.now).bus }
+        ensures lines { map packet_line_of (lines_on result.now)
+            ≡ packet_lines (bus_settings_of self.now) (packet_words (bus_world_of self.now).bus) }
+    {
+        &self.bus
+    }
+
+    /// The TID of the next commit.
+    pub(crate) fn next(&self) -> Tid
+        ensures { result.0 ≡ (bus_world_of self.now).next }
+    {
+        self.next
     }
 
     /// A word of memory, zero beyond it. It takes constant time.

@@ -1,26 +1,31 @@
 // The machine as one object.
-ghost use Rattle.std.specs.Prelude.{◌≡◌, ◌<◌, ◌↔◌, IsTrue, IfOk};
+ghost use Rattle.std.specs.Prelude.{◌≡◌, ◌<◌, ◌↔◌, IsTrue, IfOk, map};
 ghost use Rattle.image_load.specs.Contents.{started};
 ghost use Rattle.bus_rules.specs.Exec.{line_words};
 ghost use Rattle.bus_rules.specs.Useful.{BusIsDone};
 ghost use Rattle.bus_serial.specs.Given.{bus_at_start};
 ghost use Rattle.bus_tcc.specs.Answers.{Answers};
-ghost use Rattle.bus_tcc.specs.Machine.{bus_event_of, bus_history_of, bus_settings_of, bus_world_of};
+ghost use Rattle.bus_tcc.specs.Left.{packet_words};
+ghost use Rattle.bus_tcc.specs.Machine.{bus_event_of, bus_history_of, bus_of, bus_settings_of, bus_world_of};
+ghost use Rattle.bus_tcc.specs.Packets.{lines_on, packet_line_of, packet_lines};
+ghost use Rattle.core_node.specs.View.{core_of as state_of};
 ghost use Rattle.bus_tcc.specs.Refined.{IsBusRefined};
 ghost use Rattle.bus_tcc.specs.Parts.{CountedBut, CountedIn, core_named};
 ghost use Rattle.bus_tcc.specs.Whole.{BusReached};
 ghost use Rattle.tcc_program.specs.Cores.{printed};
 ghost use Rattle.tcc_serial.specs.Commits.{end_after};
 
+use crate::bus::Bus;
 use crate::counts::Counts;
 use crate::engine::Engine;
 use crate::event::{BusError, BusEvent, BusStep};
+use core_node::CoreNode;
 use image_load::Loaded;
 use reg_checkpoint::Check;
 use rv_code::Code;
 use std::alloc::Global;
 use std::marker::Model;
-use tcc_base::{Commit, Config, CoreEnd, CoreId, LineAddr, List, NoMemory, WordAddr};
+use tcc_base::{Commit, Config, CoreEnd, CoreId, LineAddr, List, NoMemory, Tid, WordAddr};
 
 /// The machine. In a clause `bus_history_of` makes of it the state of the rules with the commits so far, which some list of events
 /// leads to from the start: `events` says so.
@@ -142,6 +147,33 @@ impl BusSystem {
         ensures { let c = (bus_world_of self.now).cores core.0 in result ≡ end_after c.phase c.ended }
     {
         self.engine.ended(core)
+    }
+
+    /// A core. It takes constant time.
+    pub fn core(&self, core: CoreId) -> &CoreNode
+        requires { core.0 < (bus_settings_of self.now).cores }
+        ensures config { result.now.config ≡ bus_settings_of self.now }
+        ensures id { result.now.id ≡ core }
+        ensures state { state_of result.now ≡ (bus_world_of self.now).cores core.0 }
+    {
+        self.engine.core(core)
+    }
+
+    /// Who has the bus, with the packet that is on it: its lines stand by rising line, each once with all its words. It takes constant
+    /// time.
+    pub fn bus(&self) -> &Bus
+        ensures bus { bus_of result.now ≡ (bus_world_of self.now).bus }
+        ensures lines { map packet_line_of (lines_on result.now)
+            ≡ packet_lines (bus_settings_of self.now) (packet_words (bus_world_of self.now).bus) }
+    {
+        self.engine.bus()
+    }
+
+    /// The TID of the next commit. That of the packet that is on the bus is one less.
+    pub fn next(&self) -> Tid
+        ensures { result.0 ≡ (bus_world_of self.now).next }
+    {
+        self.engine.next()
     }
 
     /// A word of memory, zero beyond it. It takes constant time.

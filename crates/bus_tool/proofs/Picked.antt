@@ -26,12 +26,12 @@ picks-first : (k : ℕ) (g : Lcg) (m : BusMachine)
 unfolding bus_picked first_words bus_history_of
 picks-first k g m = refl
 
-picks-none : (k : ℕ) (g : Lcg) (m : BusMachine) → chosen_at g m ≡ None → picks (suc k) g m ≡ []
+pub picks-none : (k : ℕ) (g : Lcg) (m : BusMachine) → chosen_at g m ≡ None → picks (suc k) g m ≡ []
 picks-none k g m e = picks-first k g m
     ∙ ap (bus_pick (bus_settings_of m) (bus_program_of m) (bus_history_of m)
     (bus_picked (bus_settings_of m) (bus_program_of m) (first_words pcg32 k (pcg32 g).1))) e
 
-no-words : (k : ℕ) (g : Lcg) (m : BusMachine) → k ≡ 0 → picks k g m ≡ []
+pub no-words : (k : ℕ) (g : Lcg) (m : BusMachine) → k ≡ 0 → picks k g m ≡ []
 unfolding bus_picked first_words
 no-words k g m e = ap (λ j. picks j g m) e
 
@@ -41,7 +41,7 @@ same-code : (k : ℕ) (g : Lcg) (m n : BusMachine) → n.code ≡ m.code
 same-code k g m n c =
     λ i. bus_picked (sym c i).settings (program (started (sym c i))) (first_words pcg32 k g) (bus_history_of n)
 
-picks-one : (k : ℕ) (g : Lcg) (m n : BusMachine) (e : BusEvent) → chosen_at g m ≡ Some e
+pub picks-one : (k : ℕ) (g : Lcg) (m n : BusMachine) (e : BusEvent) → chosen_at g m ≡ Some e
     → bus_next (bus_settings_of m) (bus_program_of m) (bus_history_of m) e ≡ Some (bus_history_of n) → n.code ≡ m.code
     → picks (suc k) g m ≡ e ∷ picks k (pcg32 g).1 n
 picks-one k g m n e c s code =

@@ -15,7 +15,7 @@ use Rattle.bus_tool.specs.Picking.{TookPicked, picks}
 use Rattle.bus_tool.specs.Running.{RanBySeed, bus_picked_by, seeded}
 
 -- what a generator picks for the machine at its start
-picks-there : (c : Contents) (m : BusMachine) (g : Lcg) (seed steps : ℕ) → m.code ≡ c → bus_history_of m ≡ bus_at_start (started c)
+pub picks-there : (c : Contents) (m : BusMachine) (g : Lcg) (seed steps : ℕ) → m.code ≡ c → bus_history_of m ≡ bus_at_start (started c)
     → g ≡ seeded seed → picks steps g m ≡ bus_picked_by (started c) seed steps
 unfolding started
 picks-there c m g seed steps code history e =

@@ -6,4 +6,4 @@ mod reports;
 mod running;
 
 pub use reports::bus_report;
-pub use running::bus_run;
+pub use running::{bus_run, pick};

@@ -17,8 +17,8 @@ use std::alloc::Global;
 use tcc_base::NoMemory;
 
 /// The event that the generator's next word picks: with m useful events the one at `word mod m` of them. `None` exactly where none is
-/// useful, and then no word is drawn.
-fn pick(words: &mut Lcg64Xsh32, bus: &BusSystem) -> Option<BusEvent>
+/// useful, and then no word is drawn. It takes the time of `BusSystem::useful_count` and `BusSystem::useful_at`, and no memory.
+pub fn pick(words: &mut Lcg64Xsh32, bus: &BusSystem) -> Option<BusEvent>
     ensures chosen { option_map bus_event_of result ≡ bus_chosen (pcg32 words.old).0 (bus_useful_of bus.now) }
     ensures drawn { words.new ≡ (if is_some result then (pcg32 words.old).1 else words.old) }
 {

@@ -2,6 +2,7 @@
 mod atomics;
 mod buses;
 mod images;
+mod looks;
 mod outputs;
 mod phases;
 mod records;

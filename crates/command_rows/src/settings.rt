@@ -2,7 +2,7 @@
 use std::alloc::Global;
 use std::process::Abort;
 use std::test::Fail;
-use tcc_words::{Command, Field, WordsFault, settings};
+use tcc_words::{Command, Field, Source, View, WordsFault, settings};
 use work_gen::Work;
 
 /// What the words of a command line ask for.
@@ -143,6 +143,57 @@ fn a_bus_has_one_directory(rt: HostRuntime) -> Result<(), Fail> {
     Ok(())
 }
 
+#[test]
+fn a_run_is_looked_at_by_seed_or_by_schedule(rt: HostRuntime) -> Result<(), Fail> {
+    let Ok(Command::Look { source, view, .. }) = asked(rt.alloc(), "trace --seed 3 --from 5 a")?
+    else {
+        panic!(rt; "they ask for another command, or for none");
+    };
+    assert_eq!(rt;
+        view,
+        View::Trace {
+            from: 5,
+            to: 4_194_304,
+            states: false
+        }
+    );
+    assert!(rt;
+        matches!(
+            source,
+            Source::Seed {
+                steps: 1_000_000,
+                seed: 3
+            }
+        )
+    );
+    let Ok(Command::Look { view, .. }) = asked(rt.alloc(), "trace --states --to=9 a")? else {
+        panic!(rt; "they ask for another command, or for none");
+    };
+    assert_eq!(rt;
+        view,
+        View::Trace {
+            from: 0,
+            to: 9,
+            states: true
+        }
+    );
+    let Ok(Command::Look { source, view, .. }) = asked(rt.alloc(), "count a --csv --schedule s")?
+    else {
+        panic!(rt; "they ask for another command, or for none");
+    };
+    assert_eq!(rt; view, View::Count { csv: true });
+    let Source::Schedule(name) = source else {
+        panic!(rt; "it is the run of a seed");
+    };
+    let text = name.items;
+    assert_eq!(rt; text.as_str(), "s");
+    let Ok(Command::Look { images, view, .. }) = asked(rt.alloc(), "state --events=7 a b")? else {
+        panic!(rt; "they ask for another command, or for none");
+    };
+    assert!(rt; view == View::State { events: 7 } && images.items.len() == 2);
+    Ok(())
+}
+
 /// A command line that is refused, and the cause.
 type Refused = (&'static str, WordsFault);
 
@@ -158,7 +209,7 @@ fn are_refused(rt: &impl Abort, alloc: Global, rows: &[Refused]) -> Result<(), F
 }
 
 /// No command, one that there isn't, and commands without the names that they need.
-const NO_COMMAND: [Refused; 7] = [
+const NO_COMMAND: [Refused; 8] = [
     ("", WordsFault::Words),
     ("walk a", WordsFault::Words),
     ("run", WordsFault::Words),
@@ -166,6 +217,7 @@ const NO_COMMAND: [Refused; 7] = [
     ("why s", WordsFault::Words),
     ("phases", WordsFault::Words),
     ("bus --raw", WordsFault::Words),
+    ("trace --schedule s", WordsFault::Words),
 ];
 
 #[test]
@@ -201,6 +253,24 @@ fn a_bus_has_no_directories_threads_or_record(rt: HostRuntime) -> Result<(), Fai
     are_refused(&rt, rt.alloc(), &NOT_OF_A_BUS)
 }
 
+/// Options of one look that another hasn't, and a schedule beside what chooses other events.
+const NOT_TOGETHER: [Refused; 9] = [
+    ("trace --csv a", WordsFault::Words),
+    ("count --states a", WordsFault::Words),
+    ("state --states a", WordsFault::Words),
+    ("trace --states=true a", WordsFault::Words),
+    ("count --from 1 a", WordsFault::Words),
+    ("state --to 1 a", WordsFault::Words),
+    ("trace --record r a", WordsFault::Words),
+    ("count --schedule s --steps 1 a", WordsFault::Words),
+    ("state --seed 1 --schedule s a", WordsFault::Words),
+];
+
+#[test]
+fn options_that_do_not_go_together(rt: HostRuntime) -> Result<(), Fail> {
+    are_refused(&rt, rt.alloc(), &NOT_TOGETHER)
+}
+
 /// Values without digits, with others, or with too many.
 const NO_NUMBERS: [Refused; 4] = [
     ("run --cores - a", WordsFault::Value(Field::Cores)),
@@ -218,7 +288,7 @@ fn values_that_are_no_numbers(rt: HostRuntime) -> Result<(), Fail> {
 }
 
 /// Numbers that are too large, and threads without a record.
-const OUT_OF_RANGE: [Refused; 5] = [
+const OUT_OF_RANGE: [Refused; 8] = [
     ("run --raw --cores 65 a", WordsFault::Value(Field::Cores)),
     (
         "run --raw --steps 4194305 a",
@@ -227,6 +297,9 @@ const OUT_OF_RANGE: [Refused; 5] = [
     ("run --base 0xffff8000 a", WordsFault::Value(Field::Base)),
     ("run --threads 4 a", WordsFault::Value(Field::Threads)),
     ("bus --steps 4194305 a", WordsFault::Value(Field::Steps)),
+    ("trace --from 4194305 a", WordsFault::Value(Field::From)),
+    ("trace --to 4194305 a", WordsFault::Value(Field::To)),
+    ("state --events 4194305 a", WordsFault::Value(Field::Events)),
 ];
 
 #[test]
@@ -235,11 +308,12 @@ fn values_out_of_range(rt: HostRuntime) -> Result<(), Fail> {
 }
 
 /// Of two fields with faults the first, and of one.
-const TWO_FAULTS: [Refused; 4] = [
+const TWO_FAULTS: [Refused; 5] = [
     ("run --sets x --cores 0 a", WordsFault::Value(Field::Cores)),
     ("run --base 1 --ram 1 a", WordsFault::Value(Field::Ram)),
     ("trial primes 0", WordsFault::Value(Field::Kind)),
     ("trial sharing 2048", WordsFault::Value(Field::Number)),
+    ("trace --to x --seed x a", WordsFault::Value(Field::Seed)),
 ];
 
 #[test]

@@ -55,8 +55,10 @@ fn push_registers(text: &mut String, regs: &Regs) -> Result<(), AllocError>
     Ok(())
 }
 
+/// Appends the lines of a core: how it ended, its pc, its registers that aren't 0, and what it has printed. After want of memory a part
+/// of them may stand there.
 #[tactic(auto, unfolding(crate::specs::Text::core_text, crate::specs::Text::console_text))]
-fn push_core_lines(text: &mut String, number: usize, core: &CoreShown) -> Result<(), AllocError>
+pub fn push_core_lines(text: &mut String, number: usize, core: &CoreShown) -> Result<(), AllocError>
     ensures { OnOk result (string_bytes text.new ≡ string_bytes text.old ++ core_text number core.now) }
 {
     push_core(text, number, core.end)?;

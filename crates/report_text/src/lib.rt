@@ -8,7 +8,8 @@ mod shown;
 mod texts;
 mod trials;
 
-pub use lines::{push_end, push_events};
+pub use body::push_core_lines;
+pub use lines::{push_console, push_core, push_end, push_events, push_mem};
 pub use shown::{CoreShown, Ending, ShownWords, Trial};
 pub use texts::{bus_machine_report, report, serial_report};
 pub use trials::trial_summary;

@@ -41,6 +41,7 @@ pub fn push_load(text: &mut String, load: &Load) -> Result<(), AllocError>
     write!(text, "load {:08x} {size} {:08x}\n", load.addr, load.value)
 }
 
+/// Appends the line that says how a core ended. After want of memory a part of it may stand there.
 #[tactic(auto, unfolding(crate::specs::Lines::core_line))]
 pub fn push_core(text: &mut String, core: usize, end: CoreEnd) -> Result<(), AllocError>
     ensures { OnOk result (string_bytes text.new ≡ string_bytes text.old ++ core_line core end) }
@@ -75,6 +76,7 @@ fn push_bytes(text: &mut String, bytes: &[u8]) -> Result<(), AllocError>
     Ok(())
 }
 
+/// Appends the line of the bytes that a core has printed. After want of memory a part of it may stand there.
 #[tactic(auto, unfolding(crate::specs::Lines::console_line))]
 pub fn push_console(text: &mut String, console: &[u8]) -> Result<(), AllocError>
     ensures { OnOk result (string_bytes text.new ≡ string_bytes text.old ++ console_line console.now) }
@@ -84,6 +86,7 @@ pub fn push_console(text: &mut String, console: &[u8]) -> Result<(), AllocError>
     text.push_str("\n")
 }
 
+/// Appends the line of a word of RAM, by its address in bytes. After want of memory a part of it may stand there.
 #[tactic(auto, unfolding(crate::specs::Lines::mem_line))]
 pub fn push_mem(text: &mut String, addr: u32, value: u32) -> Result<(), AllocError>
     ensures { OnOk result (string_bytes text.new ≡ string_bytes text.old ++ mem_line addr value) }

@@ -2,13 +2,14 @@
 use Rattle.std.proofs.Common.{ℕ, ◌≡◌, ◌+◌, ◌<◌, ◌/◌, List, [], ◌∷◌, ◌++◌, refl, sym, ◌∙◌, ap, subst, length, length-append}
 use Rattle.std.proofs.Common.{length-set, slice_index_or, arith, inl, inr}
 use Rattle.std.proofs.lemmas.Grind.{common_steps}
-use Rattle.std.proofs.lemmas.List.Elements.{All-push, All-nil, All-cons, All-get_or, Contains-push}
+use Rattle.std.proofs.lemmas.List.Elements.{All-push, All-nil, All-cons, All-get_or}
 use Rattle.std.proofs.lemmas.Bool.{cases_lt}
 use Rattle.image_load.specs.Contents.{Contents, started}
-use Rattle.run_outcomes.proofs.Once.{followed-by-one}
-use Rattle.run_outcomes.proofs.Reach.{leads-transaction, reached-next, contains-map, state-kept}
-use Rattle.run_outcomes.specs.Changes.{changed_ram, value_in, AreInside}
-use Rattle.run_outcomes.specs.Explored.{AreFound, AreLed, IsWay, IsNoted, way_at, IsFollowedAt, IsReachedState, machines}
+use Rattle.run_outcomes.proofs.Distinct.{once-more}
+use Rattle.run_outcomes.proofs.Normal.{normal-nothing}
+use Rattle.run_outcomes.proofs.Reach.{leads-transaction, reached-next, state-kept}
+use Rattle.run_outcomes.specs.Changes.{changed_ram, value_in, AreInside, AreNormal}
+use Rattle.run_outcomes.specs.Explored.{AreFound, AreLed, IsWay, IsNoted, way_at, IsReachedState}
 use Rattle.run_outcomes.specs.Explored.{state_at, no_snapshot}
 use Rattle.run_outcomes.specs.Next.{IsNext}
 use Rattle.run_outcomes.specs.States.{machine_of, core_in, after_core, IsPlaced}
@@ -25,7 +26,7 @@ use Rattle.rv_plain.specs.Machine.{plain_start, start_core, core_at_start}
 use Rattle.rv_plain.specs.declared.plain.CoreState.{CoreState}
 use Rattle.tcc_program.specs.Plain.{serial}
 
-sized-at : (l : Contents) (states : List Snapshot) (k : ℕ) → AreFound l states → k < length states
+pub sized-at : (l : Contents) (states : List Snapshot) (k : ℕ) → AreFound l states → k < length states
     → length (state_at states k).cores ≡ l.settings.cores
 sized-at l states k found lt = All-get_or (λ s. length s.cores ≡ l.settings.cores) states k no_snapshot lt found.sized
 
@@ -33,9 +34,9 @@ pub added-found : (l : Contents) (old new : List Snapshot) (k c limit longest n 
     (place : Place) → AreFound l old → k < length old → c < l.settings.cores
     → IsNext l (core_in (state_at old k) c) (state_at old k).changes longest (Leads n after left)
     → IsPlaced old new (after_core (state_at old k) c after left) limit place → AreFound l new
-added-found l old new k c limit longest n after left Known found lt core next placed = subst (AreFound l) (sym placed.0) found
+added-found l old new k c limit longest n after left (Known number) found lt core next placed = subst (AreFound l) (sym placed.0) found
 added-found l old new k c limit longest n after left Full found lt core next placed = subst (AreFound l) (sym placed.0) found
-added-found l old new k c limit longest n after left New found lt core next placed =
+added-found l old new k c limit longest n after left (New number) found lt core next placed =
     let s = state_at old k in
     let sized = sized-at l old k found lt in
     let inside : c < length s.cores = rw sized core in
@@ -46,33 +47,13 @@ added-found l old new k c limit longest n after left New found lt core next plac
       inside = All-push (λ x. AreInside (l.settings.ram / 4) x.changes) old (after_core s c after left) found.inside next.1;
       sized = All-push (λ x. length x.cores ≡ l.settings.cores) old (after_core s c after left) found.sized
           (length-set s.cores c after ∙ sized);
+      normal = All-push (λ x. AreNormal (first_ram (started l)) x.changes) old (after_core s c after left) found.normal next.3;
+      once = once-more l old (after_core s c after left) found (length-set s.cores c after ∙ sized) next.3 placed.2;
       reached = All-push (IsReachedState l) old (after_core s c after left) found.reached
           (reached-next l.settings.base (program (started l)) (plain_start (started l)) (machine_of l s) c n
           (machine_of l (after_core s c after left), next.2.attempt)
           (All-get_or (IsReachedState l) old k no_snapshot lt found.reached) transaction);
     })
-
-pub added-followed : (l : Contents) (old new : List Snapshot) (k c limit longest n : ℕ) (after : CoreState) (left : List (ℕ × ℕ))
-    (place : Place) → AreFound l old → k < length old → c < l.settings.cores
-    → IsNext l (core_in (state_at old k) c) (state_at old k).changes longest (Leads n after left)
-    → IsPlaced old new (after_core (state_at old k) c after left) limit place → (place ≡ Full → ⊥) → IsFollowedAt l new k c
-added-followed l old new k c limit longest n after left Full found lt core next placed room = absurd (room refl)
-added-followed l old new k c limit longest n after left Known found lt core next placed room =
-    let s = state_at old k in
-    let inside : c < length s.cores = rw (sized-at l old k found lt) core in
-    subst (λ x. IsFollowedAt l x k c) (sym placed.0)
-    (followed-by-one l.settings.base (program (started l)) (machines l old) (machine_of l s) c n
-    (machine_of l (after_core s c after left), next.2.attempt) (leads-transaction l s c n after left inside next.2)
-    (contains-map (machine_of l) old (after_core s c after left) placed.1))
-added-followed l old new k c limit longest n after left New found lt core next placed room =
-    let s = state_at old k in
-    let s' = after_core s c after left in
-    let inside : c < length s.cores = rw (sized-at l old k found lt) core in
-    subst (λ x. IsFollowedAt l x k c) (sym placed.0)
-    (rw (state-kept old (s' ∷ []) k lt)
-    (followed-by-one l.settings.base (program (started l)) (machines l (old ++ s' ∷ [])) (machine_of l s) c n
-    (machine_of l s', next.2.attempt) (leads-transaction l s c n after left inside next.2)
-    (contains-map (machine_of l) (old ++ s' ∷ []) s' (Contains-push old s'))))
 
 core-started : (s : Start) (cores : List CoreState) → length cores ≡ s.settings.cores
     → ((k : ℕ) → k < s.settings.cores → core_of (slice_index_or cores k no_state) ≡ start_core s.settings.cores k (s.entry k))
@@ -101,6 +82,9 @@ first-found l cores states len each is =
       inside = All-cons (λ x. AreInside (l.settings.ram / 4) x.changes) s [] (All-nil (λ change. change.0 < l.settings.ram / 4))
           (All-nil (λ x. AreInside (l.settings.ram / 4) x.changes));
       sized = All-cons (λ x. length x.cores ≡ l.settings.cores) s [] len (All-nil (λ x. length x.cores ≡ l.settings.cores));
+      normal = All-cons (λ x. AreNormal (first_ram (started l)) x.changes) s [] (normal-nothing (first_ram (started l)))
+          (All-nil (λ x. AreNormal (first_ram (started l)) x.changes));
+      once = λ i j lt lt' same. omega (arith, lt, lt');
       reached = All-cons (IsReachedState l) s [] ([], machine-started l cores len each) (All-nil (IsReachedState l));
     })
 
@@ -119,11 +103,11 @@ pub added-led : (l : Contents) (old new : List Snapshot) (ways noted : List Way)
     → IsNext l (core_in (state_at old k) c) (state_at old k).changes longest (Leads n after left)
     → IsPlaced old new (after_core (state_at old k) c after left) limit place
     → IsNoted ways noted place (record { from = k; core = record { 0 = c }; n = n }) → AreLed l new noted
-added-led l old new ways noted k c limit longest n after left Known found led lt core next placed is =
+added-led l old new ways noted k c limit longest n after left (Known number) found led lt core next placed is =
     rw (placed.0, is) led
 added-led l old new ways noted k c limit longest n after left Full found led lt core next placed is =
     rw (placed.0, is) led
-added-led l old new ways noted k c limit longest n after left New found led lt core next placed is =
+added-led l old new ways noted k c limit longest n after left (New number) found led lt core next placed is =
     let s = state_at old k in
     let s' = after_core s c after left in
     let way : Way = record { from = k; core = record { 0 = c }; n = n } in

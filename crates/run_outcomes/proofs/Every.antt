@@ -1,7 +1,7 @@
 -- Where all states were found, and each in which all cores have ended tells a result, no serial execution tells another.
 use Rattle.std.proofs.Common.{ℕ, ◌≡◌, ◌<◌, List, Option, Some, None, IfSome, Contains, length, map, slice_index_or}
 use Rattle.std.proofs.Common.{sym, ◌∙◌, ap, subst}
-use Rattle.std.proofs.lemmas.List.{get_or-map, length-map}
+use Rattle.std.proofs.lemmas.List.{get_or-map, get_or_default, length-map}
 use Rattle.std.proofs.lemmas.List.Elements.{All-get_or, All-from_get_or}
 use Rattle.image_load.specs.Contents.{Contents, started}
 use Rattle.run_outcomes.specs.Changes.{changed_ram}
@@ -28,6 +28,14 @@ told-at a b core in-a in-b same =
     sym (get_or-map told_core a core no_state none in-a) ∙ ap (λ xs. slice_index_or xs core none) same
     ∙ get_or-map told_core b core no_state none in-b
 
+-- and so do the items that were read there
+pub told-items : (a b : List CoreState) (k : ℕ) (x y : CoreState) → k < length a → length a ≡ length b → x ≡ slice_index_or a k x
+    → y ≡ slice_index_or b k y → map told_core a ≡ map told_core b → told_core x ≡ told_core y
+told-items a b k x y lt sized is is' same =
+    let lt' : k < length b = subst (λ n. k < n) sized lt in
+    ap told_core (is ∙ get_or_default a k x no_state lt) ∙ told-at a b k lt lt' same
+    ∙ sym (ap told_core (is' ∙ get_or_default b k y no_state lt'))
+
 same-consoles : (l : Contents) (a b : Snapshot) → length a.cores ≡ l.settings.cores → length b.cores ≡ l.settings.cores
     → map told_core a.cores ≡ map told_core b.cores → TellSameConsoles l.settings.cores (machine_of l a) (machine_of l b)
 unfolding machine_of
@@ -42,7 +50,7 @@ alike-same l Memory a b sized-a sized-b alike = (same-consoles l a b sized-a siz
 alike-same l Everything a b sized-a sized-b alike = ap (machine_of l) alike
 
 -- where all of the machine's cores have ended, all of the state's have
-ended-state : (l : Contents) (s : Snapshot) → length s.cores ≡ l.settings.cores → HaveEnded l.settings.cores (machine_of l s) → IsEnd s
+pub ended-state : (l : Contents) (s : Snapshot) → length s.cores ≡ l.settings.cores → HaveEnded l.settings.cores (machine_of l s) → IsEnd s
 unfolding machine_of
 ended-state l s sized ended =
     All-from_get_or HasStopped s.cores no_state (λ core lt. ended core (subst (λ n. core < n) sized lt))

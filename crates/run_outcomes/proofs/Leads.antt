@@ -14,7 +14,7 @@ use Rattle.rv_plain.specs.declared.attempt.Outcome.{Outcome as CodeOutcome}
 use Rattle.rv_plain.specs.declared.attempt.Outcome.TheVariants as code
 use Rattle.rv_plain.specs.declared.plain.CoreState.{CoreState}
 use Rattle.run_outcomes.proofs.Elsewhere.{Keeps, steps-keeps}
-use Rattle.run_outcomes.specs.Changes.{value_in, changed_ram, AreInside}
+use Rattle.run_outcomes.specs.Changes.{value_in, changed_ram, AreInside, AreNormal}
 use Rattle.run_outcomes.specs.Left.{sees, IsUntouched, Leaves, IsLeft, AreStoresInside}
 use Rattle.run_outcomes.specs.Next.{LeadsTo, IsNext, next_steps}
 use Rattle.run_outcomes.specs.declared.next.Next.{Next}
@@ -132,6 +132,7 @@ next-if l core changes longest n m a o (Ok (Leads k after changed)) runs ram who
       rw left.0 few,
       subst (λ len. AreInside len changed) words left.1.inside,
       rw left.0 (leads l core after changes changed a.n m a o runs ram h left.1),
+      subst (λ r. AreNormal r changed) ram left.1.normal,
     )
 
 pub endless : (l : Contents) (core : CoreState) (changes : List (ℕ × ℕ)) (longest : ℕ) (m : Store) (a : CodeAttempt)

@@ -1,15 +1,24 @@
 -- Proofs.
 pub mod Added
 pub mod Alls
+pub mod Chained
 pub mod Counting
+pub mod Distinct
+pub mod Edged
 pub mod Elsewhere
+pub mod Ends
 pub mod Every
+pub mod Grouped
 pub mod Leads
+pub mod Lemmas
+pub mod Marking
+pub mod Normal
 pub mod Noted
 pub mod Once
 pub mod Paths
 pub mod Reach
 pub mod Serially
+pub mod Tallies
 pub mod Telling
 pub mod Told
 pub mod Untouched

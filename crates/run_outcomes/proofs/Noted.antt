@@ -20,9 +20,9 @@ noted-grown l old more longest endless (Some pair) h =
 pub noted-placed : (l : Contents) (old new : List Snapshot) (s : Snapshot) (limit longest endless : ℕ) (at : Option Pair)
     (place : Place) → IsPlaced old new s limit place → IsEndlessNoted l old longest endless at
     → IsEndlessNoted l new longest endless at
-noted-placed l old new s limit longest endless at Known placed h =
+noted-placed l old new s limit longest endless at (Known number) placed h =
     subst (λ x. IsEndlessNoted l x longest endless at) (sym placed.0) h
-noted-placed l old new s limit longest endless at New placed h =
+noted-placed l old new s limit longest endless at (New number) placed h =
     subst (λ x. IsEndlessNoted l x longest endless at) (sym placed.0) (noted-grown l old (s ∷ []) longest endless at h)
 noted-placed l old new s limit longest endless at Full placed h =
     subst (λ x. IsEndlessNoted l x longest endless at) (sym placed.0) h

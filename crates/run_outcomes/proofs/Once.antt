@@ -1,9 +1,8 @@
 -- A core's next transaction has one number of instructions.
-use Rattle.std.proofs.Common.{ℕ, zero, suc, ◌≡◌, ◌+◌, ◌-◌, ◌<◌, inl, inr, Option, Some, None, IfSome, IsSomeAnd, Contains, List}
+use Rattle.std.proofs.Common.{ℕ, zero, suc, ◌≡◌, ◌+◌, ◌-◌, ◌<◌, inl, inr, Option, Some, None, IfSome, IsSomeAnd}
 use Rattle.std.proofs.Common.{refl, sym, ◌∙◌, add-zero, arith, subst}
 use Rattle.std.proofs.Math.Nat.{add-suc}
 use Rattle.std.proofs.lemmas.Bool.{cases_lt}
-use Rattle.run_outcomes.specs.Serially.{IsFollowed}
 use Rattle.rv_plain.specs.Endings.{HasEnded}
 use Rattle.tcc_base.specs.declared.access.CoreEnd.{CoreEnd}
 use Rattle.tcc_base.specs.declared.access.CoreEnd.TheVariants.{Run, Halt, Trap}
@@ -63,10 +62,10 @@ transaction-past base p m core k n lt h =
     rw (steps-past base p (begun c.local m.ram) k n lt
     (runs-ended m core c.ended (steps base p k (begun c.local m.ram)) h)) (none-runs m core c.ended)
 
-pub followed-by-one : (base : ℕ) (p : Program) (ms : List Plain) (m : Plain) (core n : ℕ) (r : Plain × Attempt)
-    → transaction base p m core n ≡ Some r → Contains ms r.0 → IsFollowed base p ms m core
-unfolding IsFollowed
-followed-by-one base p ms m core n r is has k =
+-- what holds of the machine after one transaction of the core holds after whatever is its next one
+pub by-one : (base : ℕ) (p : Program) (m : Plain) (core n : ℕ) (r : Plain × Attempt) (Q : Plain → Type 0)
+    → transaction base p m core n ≡ Some r → Q r.0 → (k : ℕ) → IfSome (transaction base p m core k) (λ y. Q y.0)
+by-one base p m core n r Q is has k =
     elim (cases_lt k n) [
       | inl lt ↦ before (transaction base p m core k) (λ h. transaction-past base p m core k n lt h)
       | inr le ↦ elim (cases_lt n k) [
@@ -76,6 +75,6 @@ followed-by-one base p ms m core n r is has k =
     ]
   where
     before : (x : Option (Plain × Attempt)) → (IsSomeAnd x (λ y. Unit {0}) → transaction base p m core n ≡ None)
-        → IfSome x (λ y. Contains ms y.0)
+        → IfSome x (λ y. Q y.0)
     before None h = tt
     before (Some y) h = absurd (subst (λ x. IfSome x (λ z. ⊥)) (sym (h tt) ∙ is) tt)

@@ -1,12 +1,13 @@
 -- The transactions that led to a state are a serial execution from the start to it.
 use Rattle.std.proofs.Common.{ℕ, ◌≡◌, ◌+◌, ◌<◌, List, [], ◌∷◌, ◌++◌, reverse, Option, Some, None, IsSomeAnd, refl, sym, ◌∙◌, ap}
-use Rattle.std.proofs.Common.{subst, true, nat_lt, length, map, drop, add-zero, ◌-◌, ◌≤◌, Result, Ok, Err, IfOk, arith}
+use Rattle.std.proofs.Common.{subst, true, false, nat_lt, length, map, drop, add-zero, ◌-◌, ◌≤◌, ◌==◌, zero, suc, Result, Ok, Err, IfOk}
+use Rattle.std.proofs.Common.{Bool, if◌then◌else◌, arith}
 use Rattle.std.proofs.lemmas.List.{reverse-append, length-reverse, length-drop, drop_more, map-append}
 use Rattle.std.proofs.lemmas.Bool.Decides.{nat_tests}
 use Rattle.image_load.specs.Contents.{Contents, started}
 use Rattle.run_outcomes.specs.Explored.{AreFound, AreLed, IsWay, state_at, way_at, no_way}
 use Rattle.run_outcomes.specs.States.{machine_of}
-use Rattle.run_outcomes.specs.Ways.{LeadFrom, orders_from}
+use Rattle.run_outcomes.specs.Ways.{LeadFrom, back_from, orders_from, orders_to}
 use Rattle.run_outcomes.specs.declared.search.Way.{Way}
 use Rattle.run_outcomes.specs.declared.states.Snapshot.{Snapshot}
 use Rattle.rv_code.specs.Machine.{program}
@@ -109,3 +110,59 @@ pub way-if : {E : Type 0} (l : Contents) (states : List Snapshot) (ways back : L
 way-if l states ways back to (Err e) known lt lead is = tt
 way-if l states ways back to (Ok orders) known lt lead is =
     rw is (path-leads l states ways back to known.0 known.1 lt lead)
+
+-- each transaction begins at a state before the one to which it leads
+abbrev pub AreBefore : List Way → Type 0
+AreBefore ways = (i : ℕ) → 0 < i → i < length ways → (way_at ways i).from < i
+
+-- the transactions that lead to a state are just those by which it and those before it were found
+pub back-only : (ways : List Way) (most k : ℕ) (back : List Way) → AreBefore ways → k < length ways → k ≤ most → LeadFrom ways 0 k back
+    → back ≡ back_from ways most k
+unfolding back_from
+back-only ways zero k [] before inside few h = refl
+back-only ways zero k (w ∷ back) before inside few h = absurd (let positive = h.0 in omega (arith, positive, few))
+back-only ways (suc most) k [] before inside few h =
+    let none : (k == 0) ≡ true = rw (← h) refl in
+    rw none refl
+back-only ways (suc most) k (w ∷ back) before inside few h =
+    let some : (k == 0) ≡ false = let positive = h.0 in grind (arith, nat_tests, positive) in
+    let earlier : w.from < k = subst (λ x. x.from < k) (sym h.1) (before k h.0 inside) in
+    rw (some, ← h.1)
+    (ap (λ ws. w ∷ ws) (back-only ways most w.from back before (omega (arith, earlier, inside)) (omega (arith, earlier, few)) h.2))
+
+back-leads : (ways : List Way) (most k : ℕ) → AreBefore ways → k < length ways → k ≤ most → LeadFrom ways 0 k (back_from ways most k)
+unfolding back_from
+back-leads ways zero k before inside few = omega (arith, few)
+back-leads ways (suc most) k before inside few =
+    go (k == 0) refl
+    (λ earlier. back-leads ways most (way_at ways k).from before (omega (arith, earlier, inside)) (omega (arith, earlier, few)))
+  where
+    go : (b : Bool) → (k == 0) ≡ b
+        → ((way_at ways k).from < k → LeadFrom ways 0 (way_at ways k).from (back_from ways most (way_at ways k).from))
+        → LeadFrom ways 0 k (if b then [] else way_at ways k ∷ back_from ways most (way_at ways k).from)
+    go true e later = grind (arith, nat_tests, e)
+    go false e later =
+        let some : 0 < k = grind (arith, nat_tests, e) in (some, refl, later (before k some inside))
+
+before-led : (l : Contents) (states : List Snapshot) (ways : List Way) → AreLed l states ways → AreBefore ways
+before-led l states ways led i positive inside =
+    (led.led i positive (subst (λ n. i < n) led.counted inside)).before
+
+pub orders-if : {E : Type 0} (l : Contents) (states : List Snapshot) (ways back : List Way) (to : ℕ) (r : Result (List CodeOrder) E)
+    → AreLed l states ways → to < length states → LeadFrom ways 0 to back
+    → IfOk r (λ orders. map order_of orders ≡ orders_from 1 (reverse back))
+    → IfOk r (λ orders. map order_of orders ≡ orders_to ways to)
+orders-if l states ways back to (Err e) led lt lead is = tt
+orders-if l states ways back to (Ok orders) led lt lead is =
+    let inside : to < length ways = subst (λ n. to < n) (sym led.counted) lt in
+    is ∙ ap (λ ws. orders_from 1 (reverse ws)) (back-only ways to to back (before-led l states ways led) inside (omega arith) lead)
+
+-- the orders to a state lead there
+pub orders_to-lead : (l : Contents) (states : List Snapshot) (ways : List Way) (to : ℕ) → AreFound l states → AreLed l states ways
+    → to < length states
+    → IsSomeAnd (serial l.settings.base (program (started l)) 0 (orders_to ways to) (plain_start (started l)))
+    (λ r. machine_of l (state_at states to) ≡ r.0)
+orders_to-lead l states ways to found led lt =
+    let inside : to < length ways = subst (λ n. to < n) (sym led.counted) lt in
+    path-leads l states ways (back_from ways to to) to found led lt
+    (back-leads ways to to (before-led l states ways led) inside (omega arith))

@@ -1,13 +1,12 @@
 -- From a core's next transaction to the states that follow.
 use Rattle.std.proofs.Common.{ℕ, ◌≡◌, ◌+◌, ◌<◌, ◌≤◌, true, List, [], ◌∷◌, ◌++◌, Option, Some, None, IsSomeAnd, Contains, map}
-use Rattle.std.proofs.Common.{refl, sym, ◌∙◌, ap, subst, length, slice_set, slice_index_or, nat_lt, append_assoc, arith, inl, inr}
+use Rattle.std.proofs.Common.{refl, sym, ◌∙◌, ap, subst, length, slice_set, slice_index_or, nat_lt, append_assoc, arith}
 use Rattle.std.proofs.lemmas.Grind.{common_steps}
-use Rattle.std.proofs.lemmas.Bool.{cases_lt}
 use Rattle.std.proofs.lemmas.Bool.Decides.{nat_tests}
-use Rattle.std.proofs.lemmas.List.{map-append, get_or-map, length-map, get_or_past}
+use Rattle.std.proofs.lemmas.List.{get_or-map, length-map, get_or_past}
 use Rattle.std.proofs.lemmas.List.Elements.{All-get_or, All-from_get_or, All-map, Contains-get_or}
 use Rattle.image_load.specs.Contents.{Contents, started}
-use Rattle.run_outcomes.proofs.Serially.{followed-more, every-end}
+use Rattle.run_outcomes.proofs.Serially.{every-end}
 use Rattle.run_outcomes.specs.Changes.{changed_ram}
 use Rattle.run_outcomes.specs.Explored.{AreFound, AreAllStates, IsFollowedAt, IsGrown, machines, state_at, no_snapshot}
 use Rattle.run_outcomes.specs.Next.{LeadsTo}
@@ -61,11 +60,10 @@ stops base p m c n Run h = absurd (h refl)
 stops base p m c n (Halt code) h = refl
 stops base p m c n (Trap code) h = refl
 
-pub followed-stopped : (l : Contents) (s : Snapshot) (c : ℕ) (ms : List Plain) → ((core_in s c).ended ≡ Run → ⊥)
-    → IsFollowed l.settings.base (program (started l)) ms (machine_of l s) c
-unfolding IsFollowed transaction machine_of
-followed-stopped l s c ms h n =
-    rw (stops l.settings.base (program (started l)) (machine_of l s) c n (core_in s c).ended h) tt
+pub no-transaction : (l : Contents) (s : Snapshot) (c n : ℕ) → ((core_in s c).ended ≡ Run → ⊥)
+    → transaction l.settings.base (program (started l)) (machine_of l s) c n ≡ None
+unfolding transaction machine_of
+no-transaction l s c n h = stops l.settings.base (program (started l)) (machine_of l s) c n (core_in s c).ended h
 
 -- one transaction more from a machine that is reached
 pub reached-next : (base : ℕ) (p : Program) (start m : Plain) (c n : ℕ) (d : Plain × Attempt) → IsReached base p start m
@@ -91,34 +89,8 @@ contains-map f xs x h =
 pub state-kept : (old more : List Snapshot) (k : ℕ) → k < length old → state_at (old ++ more) k ≡ state_at old k
 state-kept old more k lt = grind (arith, common_steps)
 
-pub grown-grown : (a b c : List Snapshot) → IsGrown a b → IsGrown b c → IsGrown a c
+pub grown-grown : {X : Type 0} (a b c : List X) → IsGrown a b → IsGrown b c → IsGrown a c
 grown-grown a b c h g = (h.0 ++ g.0, g.1 ∙ ap (λ x. x ++ g.0) h.1 ∙ append_assoc a h.0 g.0)
-
-pub followed-grown : (l : Contents) (old new : List Snapshot) (k core : ℕ) → IsGrown old new → k < length old
-    → IsFollowedAt l old k core → IsFollowedAt l new k core
-followed-grown l old new k core g lt h =
-    rw (g.1, state-kept old g.0 k lt, map-append (machine_of l) old g.0)
-    (followed-more l.settings.base (program (started l)) (machines l old) (machines l g.0) (machine_of l (state_at old k)) core h)
-
-pub followed-step : (l : Contents) (old new : List Snapshot) (k n : ℕ) → IsGrown old new → k < length old
-    → ((core : ℕ) → core < n → IsFollowedAt l old k core) → IsFollowedAt l new k n
-    → (core : ℕ) → core < n + 1 → IsFollowedAt l new k core
-followed-step l old new k n g lt each last core below =
-    elim (cases_lt core n) [
-      | inl h ↦ followed-grown l old new k core g lt (each core h)
-      | inr h ↦ let e : core ≡ n = omega arith in rw e last
-    ]
-
-pub expanded-step : (l : Contents) (old new : List Snapshot) (n : ℕ) → IsGrown old new → n < length old
-    → ((k : ℕ) → k < n → (core : ℕ) → IsFollowedAt l old k core) → ((core : ℕ) → IsFollowedAt l new n core)
-    → (k : ℕ) → k < n + 1 → (core : ℕ) → IsFollowedAt l new k core
-expanded-step l old new n g lt each last k below core =
-    elim (cases_lt k n) [
-      | inl h ↦
-          let there : k < length old = omega arith in
-          followed-grown l old new k core g there (each k h core)
-      | inr h ↦ let e : k ≡ n = omega arith in rw e (last core)
-    ]
 
 pub all-states : (l : Contents) (states : List Snapshot) → AreFound l states
     → ((k : ℕ) → k < length states → (core : ℕ) → IsFollowedAt l states k core) → AreAllStates l states
@@ -133,13 +105,12 @@ all-states l states found each =
     (subst (λ m. Contains ms m) found.first
     (contains-map (machine_of l) states (state_at states 0) (Contains-get_or states 0 no_snapshot found.some)))
 
--- a core that the machine doesn't have has no next transaction
-pub followed-beyond : (l : Contents) (states : List Snapshot) (k core : ℕ) → AreFound l states → k < length states
-    → l.settings.cores ≤ core → IsFollowedAt l states k core
-followed-beyond l states k core found lt beyond =
+-- a core that the machine doesn't have has halted
+pub beyond-halted : (l : Contents) (states : List Snapshot) (k core : ℕ) → AreFound l states → k < length states
+    → l.settings.cores ≤ core → (core_in (state_at states k) core).ended ≡ Run → ⊥
+beyond-halted l states k core found lt beyond e =
     let sized : length (state_at states k).cores ≡ l.settings.cores =
     All-get_or (λ s. length s.cores ≡ l.settings.cores) states k no_snapshot lt found.sized in
     let out : length (state_at states k).cores ≤ core = omega arith in
     let none : core_in (state_at states k) core ≡ no_state = get_or_past (state_at states k).cores core no_state out in
-    followed-stopped l (state_at states k) core (machines l states)
-    (λ e. subst HasHalted (ap (λ c. c.ended) (sym none) ∙ e) tt)
+    subst HasHalted (ap (λ c. c.ended) (sym none) ∙ e) tt

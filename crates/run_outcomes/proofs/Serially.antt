@@ -1,6 +1,6 @@
 -- Where every state's next transactions lead to states of the list, every serial execution does.
-use Rattle.std.proofs.Common.{ℕ, List, [], ◌∷◌, ◌++◌, Bool, true, false, Option, Some, None, IfSome, Contains, nat_lt, if◌then◌else◌}
-use Rattle.std.proofs.lemmas.List.Elements.{All-contains, Contains-append_left}
+use Rattle.std.proofs.Common.{ℕ, List, [], ◌∷◌, Bool, true, false, Option, Some, None, IfSome, Contains, nat_lt, if◌then◌else◌}
+use Rattle.std.proofs.lemmas.List.Elements.{All-contains}
 use Rattle.run_outcomes.specs.Serially.{IsFollowed, AreFollowed, HasEveryEnd}
 use Rattle.tcc_base.specs.declared.access.Commit.{Commit}
 use Rattle.tcc_program.specs.Plain.{Plain, Attempt, Order, transaction, serial, after_order, and_commit, commit_of}
@@ -33,12 +33,3 @@ every-end base p ms closed m has last (o ∷ os) =
     (order-ends base p ms o os (transaction base p m o.core o.n)
     (All-contains (λ m'. (core : ℕ) → IsFollowed base p ms m' core) ms m closed has o.core o.n)
     (λ m' has'. every-end base p ms closed m' has' o.tid os))
-
-pub followed-more : (base : ℕ) (p : Program) (ms more : List Plain) (m : Plain) (core : ℕ) → IsFollowed base p ms m core
-    → IsFollowed base p (ms ++ more) m core
-unfolding IsFollowed
-followed-more base p ms more m core f n = go (transaction base p m core n) (f n)
-  where
-    go : (x : Option (Plain × Attempt)) → IfSome x (λ r. Contains ms r.0) → IfSome x (λ r. Contains (ms ++ more) r.0)
-    go None h = tt
-    go (Some r) h = Contains-append_left ms more r.0 h

@@ -1,5 +1,5 @@
 -- Memory told by the words that differ from the start.
-use Rattle.std.specs.Prelude.{ℕ, ◌<◌, List, [], ◌∷◌, Option, Some, None, All}
+use Rattle.std.specs.Prelude.{ℕ, ◌≡◌, ◌+◌, ◌<◌, ◌≤◌, List, [], ◌∷◌, Option, Some, None, All}
 use Rattle.image_load.specs.Contents.{Contents, started}
 use Rattle.rv_code.specs.Machine.{first_ram}
 use Rattle.rv_plain.specs.Buffered.{seen}
@@ -17,3 +17,13 @@ changed_ram l changes = seen (first_ram (started l)) (value_in changes)
 -- each word is one of RAM's
 abbrev pub AreInside : (words : ℕ) → (changes : List (ℕ × ℕ)) → Type 0
 AreInside words changes = All (λ change. change.0 < words) changes
+
+-- the words of the changes ascend from this one on, and each change differs from this RAM
+unfoldable pub AreNormalFrom : (ram : ℕ → ℕ) → (word : ℕ) → (changes : List (ℕ × ℕ)) → Type 0
+AreNormalFrom ram word [] = Unit {0}
+AreNormalFrom ram word (change ∷ changes) =
+    (word ≤ change.0) × (change.1 ≡ ram change.0 → ⊥) × AreNormalFrom ram (change.0 + 1) changes
+
+-- changes as only one list tells them: in ascending order, each word once, none that is as in this RAM
+abbrev pub AreNormal : (ram : ℕ → ℕ) → (changes : List (ℕ × ℕ)) → Type 0
+AreNormal ram changes = AreNormalFrom ram 0 changes

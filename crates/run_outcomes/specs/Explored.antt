@@ -1,7 +1,7 @@
 -- What a search through the states of a loaded program knows.
 use Rattle.std.specs.Prelude.{ℕ, ◌≡◌, ◌<◌, ◌/◌, List, [], ◌∷◌, ◌++◌, All, IsSomeAnd, Option, Some, None, length, map, slice_index_or}
 use Rattle.image_load.specs.Contents.{Contents, started}
-use Rattle.run_outcomes.specs.Changes.{AreInside}
+use Rattle.run_outcomes.specs.Changes.{AreInside, AreNormal}
 use Rattle.run_outcomes.specs.Next.{IsNext}
 use Rattle.run_outcomes.specs.Serially.{IsFollowed, IsReached, HasEveryEnd}
 use Rattle.run_outcomes.specs.States.{machine_of, core_in}
@@ -11,7 +11,7 @@ use Rattle.run_outcomes.specs.declared.search.Way.{Way}
 use Rattle.run_outcomes.specs.declared.states.Place.{Place}
 use Rattle.run_outcomes.specs.declared.states.Place.TheVariants.{Known, New, Full}
 use Rattle.run_outcomes.specs.declared.states.Snapshot.{Snapshot}
-use Rattle.rv_code.specs.Machine.{program}
+use Rattle.rv_code.specs.Machine.{program, first_ram}
 use Rattle.rv_plain.specs.Machine.{plain_start}
 use Rattle.tcc_program.specs.Plain.{Plain, transaction}
 
@@ -39,17 +39,25 @@ IsFollowedAt l states k core =
 abbrev pub AreAllStates : Contents → List Snapshot → Type 0
 AreAllStates l states = HasEveryEnd l.settings.base (program (started l)) (machines l states) (plain_start (started l))
 
--- states that were found: the program's start, and others that serial executions reach
+-- each state stands there once: two numbers of the same machine are the same number
+abbrev pub AreOnce : Contents → List Snapshot → Type 0
+AreOnce l states =
+    (i j : ℕ) → i < length states → j < length states
+    → machine_of l (state_at states i) ≡ machine_of l (state_at states j) → i ≡ j
+
+-- states that were found, each once: the program's start, and others that serial executions reach
 pub record AreFound (l : Contents) (states : List Snapshot) : Type 0 where
   pub some : 0 < length states
   pub first : machine_of l (state_at states 0) ≡ plain_start (started l)
   pub inside : All (λ s. AreInside (l.settings.ram / 4) s.changes) states
   pub sized : All (λ s. length s.cores ≡ l.settings.cores) states
+  pub normal : All (λ s. AreNormal (first_ram (started l)) s.changes) states
   pub reached : All (IsReachedState l) states
+  pub once : AreOnce l states
 
--- the states are those and further ones
-abbrev pub IsGrown : (old new : List Snapshot) → Type 0
-IsGrown old new = (more : List Snapshot) × (new ≡ old ++ more)
+-- a list has those and further ones
+abbrev pub IsGrown : {X : Type 0} → (old new : List X) → Type 0
+IsGrown {X} old new = (more : List X) × (new ≡ old ++ more)
 
 abbrev pub no_way : Way
 no_way = record { from = 0; core = record { 0 = 0 }; n = 0 }
@@ -71,8 +79,8 @@ pub record AreLed (l : Contents) (states : List Snapshot) (ways : List Way) : Ty
 
 -- the way to a state is noted where it is new
 abbrev pub IsNoted : (old new : List Way) → Place → Way → Type 0
-IsNoted old new Known way = new ≡ old
-IsNoted old new New way = new ≡ old ++ way ∷ []
+IsNoted old new (Known number) way = new ≡ old
+IsNoted old new (New number) way = new ≡ old ++ way ∷ []
 IsNoted old new Full way = new ≡ old
 
 -- the state is among these, and so many instructions of its core, which runs, don't end a transaction

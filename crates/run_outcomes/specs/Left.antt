@@ -1,6 +1,6 @@
 -- What an attempt that has ended leaves of its core and of RAM.
 use Rattle.std.specs.Prelude.{ℕ, ◌++◌, ◌≡◌, true, List, Some, IfSome, All, Contains, length}
-use Rattle.run_outcomes.specs.Changes.{value_in, AreInside}
+use Rattle.run_outcomes.specs.Changes.{value_in, AreInside, AreNormal}
 use Rattle.run_outcomes.specs.declared.next.Next.{Next}
 use Rattle.run_outcomes.specs.declared.next.Next.TheVariants.{Stopped, Endless, Leads}
 use Rattle.rv_code.specs.Machine.{in_ram}
@@ -40,6 +40,7 @@ pub record Leaves (base : ℕ) (m : Store) (core : CoreState) (changes : List (�
   pub ends : end_of (outcome_of o) ≡ Some after.ended
   pub prints : after.console ≡ core.console ++ a.console
   pub inside : AreInside (length m.ram) left
+  pub normal : AreNormal (flat m.ram) left
   pub ram : (w : ℕ) → (IsUntouched base changes a.stores w → flat m.ram w ≡ sees m w)
       → seen (flat m.ram) (value_in left) w ≡ sees m w
 

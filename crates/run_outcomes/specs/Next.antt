@@ -1,10 +1,10 @@
 -- The next transaction of a core, to its end.
 use Rattle.std.specs.Prelude.{ℕ, ◌≤◌, ◌/◌, ◌++◌, ◌≡◌, List, Option, Some, IsSomeAnd}
 use Rattle.image_load.specs.Contents.{Contents, started}
-use Rattle.run_outcomes.specs.Changes.{changed_ram, AreInside}
+use Rattle.run_outcomes.specs.Changes.{changed_ram, AreInside, AreNormal}
 use Rattle.run_outcomes.specs.declared.next.Next.{Next}
 use Rattle.run_outcomes.specs.declared.next.Next.TheVariants.{Stopped, Endless, Leads}
-use Rattle.rv_code.specs.Machine.{program}
+use Rattle.rv_code.specs.Machine.{program, first_ram}
 use Rattle.rv_plain.specs.declared.plain.CoreState.{CoreState}
 use Rattle.tcc_base.specs.declared.access.CoreEnd.TheVariants.{Run}
 use Rattle.tcc_program.specs.Plain.{Attempt, Goes, steps, begun, end_of}
@@ -24,7 +24,8 @@ pub record LeadsTo (l : Contents) (core : CoreState) (before : ℕ → ℕ) (n :
   pub ram : left ≡ attempt.ram
 
 -- what is told of the next transaction of a core whose RAM has these changes: the core has halted; or it runs, and so many
--- instructions don't end its transaction; or its transaction has at most so many instructions and leaves this core and these changes
+-- instructions don't end its transaction; or its transaction has at most so many instructions and leaves this core and these changes,
+-- as only one list tells them
 abbrev pub IsNext : Contents → CoreState → (changes : List (ℕ × ℕ)) → (longest : ℕ) → Next → Type 0
 IsNext l core changes longest Stopped = core.ended ≡ Run → ⊥
 IsNext l core changes longest Endless =
@@ -32,3 +33,4 @@ IsNext l core changes longest Endless =
 IsNext l core changes longest (Leads n after left) =
     (n ≤ longest) × AreInside (l.settings.ram / 4) left
     × LeadsTo l core (changed_ram l changes) n after (changed_ram l left)
+    × AreNormal (first_ram (started l)) left

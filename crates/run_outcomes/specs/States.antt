@@ -20,8 +20,13 @@ machine_of l s = record { ram = changed_ram l s.changes; cores = λ c. core_of (
 abbrev pub after_core : Snapshot → (core : ℕ) → CoreState → (changes : List (ℕ × ℕ)) → Snapshot
 after_core s c core changes = record { cores = slice_set s.cores c core; changes = changes }
 
+-- the state has that number among these
+abbrev pub IsNumbered : List Snapshot → Snapshot → (number : ℕ) → Type 0
+IsNumbered states s number = (number < length states) × (slice_index_or states number s ≡ s)
+
 -- what became of a state that was to be added to these, of which there may be so many
 abbrev pub IsPlaced : (old new : List Snapshot) → Snapshot → (limit : ℕ) → Place → Type 0
-IsPlaced old new s limit Known = (new ≡ old) × Contains old s
-IsPlaced old new s limit New = (new ≡ old ++ s ∷ []) × (length old < limit)
+IsPlaced old new s limit (Known number) = (new ≡ old) × IsNumbered old s number
+IsPlaced old new s limit (New number) =
+    (new ≡ old ++ s ∷ []) × (length old < limit) × (Contains old s → ⊥) × (number ≡ length old)
 IsPlaced old new s limit Full = (new ≡ old) × (limit ≤ length old)

@@ -6,7 +6,7 @@ ghost use Rattle.rv_plain.specs.Buffered.{seen};
 ghost use Rattle.rv_plain.specs.Store.{buffer_of};
 ghost use Rattle.tcc_program.specs.Ram.{flat, word_of};
 ghost use Rattle.run_outcomes.specs.Left.{IsTold, IsUntouched, sees};
-ghost use Rattle.run_outcomes.specs.Changes.{value_in, AreInside};
+ghost use Rattle.run_outcomes.specs.Changes.{value_in, AreInside, AreNormal};
 
 use rv_plain::BufferedRam;
 use std::alloc::Global;
@@ -29,7 +29,7 @@ pub(crate) fn write_all(memory: &mut BufferedRam, changes: &[(u32, u32)]) -> Res
 }
 
 /// The words in which RAM will differ from the start after these changes and what waits, where the changes were those before, and
-/// all stores since are these. They are in ascending order, each with its value.
+/// all stores since are these. They are in ascending order, each once, with its value.
 pub(crate) fn left_words(
     alloc: Global,
     base: u32,
@@ -43,6 +43,7 @@ pub(crate) fn left_words(
         → (IsUntouched base changes.now stores.now w → flat memory.now.ram w ≡ sees memory.now w)
         → seen (flat memory.now.ram) (value_in left) w ≡ sees memory.now w) }
     ensures inside { IfOk result (AreInside (length memory.now.ram)) }
+    ensures normal { IfOk result (AreNormal (flat memory.now.ram)) }
 {
     let words = touched(alloc, base, changes, stores)?;
     differing(alloc, memory, &words)
@@ -88,9 +89,11 @@ fn differing(
     memory: &BufferedRam,
     words: &[u32],
 ) -> Result<List<(u32, u32)>, NoMemory>
-    requires { All (λ w. w < length memory.now.ram) words.now }
+    requires inside { All (λ w. w < length memory.now.ram) words.now }
+    requires sorted { IsSorted nat_cmp words.now }
     ensures told { IfOk result (IsTold memory.now words.now) }
     ensures inside { IfOk result (AreInside (length memory.now.ram)) }
+    ensures normal { IfOk result (AreNormal (flat memory.now.ram)) }
 {
     let mut changes = List::new(alloc);
     for (k, w) in words.iter().enumerate() {

@@ -6,12 +6,13 @@ ghost use Rattle.rv_plain.specs.Machine.{plain_start};
 ghost use Rattle.rv_plain.specs.PlainState.{order_of};
 ghost use Rattle.tcc_program.specs.Plain.{serial};
 ghost use Rattle.run_outcomes.specs.Counted.{Counts, all_running};
-ghost use Rattle.run_outcomes.specs.Explored.{AreFound, AreAllStates, IsEndlessNoted, state_at, way_at};
-ghost use Rattle.run_outcomes.specs.Ways.{LeadFrom, orders_from};
+ghost use Rattle.run_outcomes.specs.Edges.{AreAllEdges, AreEdges};
+ghost use Rattle.run_outcomes.specs.Explored.{AreFound, AreLed, AreOnce, AreAllStates, IsEndlessNoted, state_at, way_at};
+ghost use Rattle.run_outcomes.specs.Ways.{LeadFrom, orders_from, orders_to};
 ghost use Rattle.run_outcomes.specs.States.{machine_of};
 
 use crate::next::Executor;
-use crate::search::{Limits, Pair, Search, Way};
+use crate::search::{Edge, Limits, Pair, Search, Way};
 use crate::states::{Snapshot, Table};
 use image_load::Loaded;
 use rv_plain::Order;
@@ -26,6 +27,7 @@ pub struct Exploration {
     executor: Executor,
     table: Table,
     ways: List<Way>,
+    edges: List<Edge>,
     transactions: u64,
     endless: u64,
     endless_at: Option<Pair>,
@@ -34,6 +36,7 @@ pub struct Exploration {
 
 impl Model for Exploration {
     ghost use Rattle.std.specs.Prelude.{IsTrue};
+    ghost use Rattle.run_outcomes.specs.Edges.{AreAllEdges, AreEdges};
     ghost use Rattle.run_outcomes.specs.Explored.{AreFound, AreLed, AreAllStates};
     ghost use Rattle.run_outcomes.specs.Ways.{Explored};
 
@@ -43,6 +46,7 @@ impl Model for Exploration {
       loaded = e.executor;
       states = e.table;
       ways = e.ways;
+      edges = e.edges;
       transactions = e.transactions;
       endless = e.endless;
       endless_at = e.endless_at;
@@ -50,7 +54,8 @@ impl Model for Exploration {
     } };
 
     ghost invariant = { λ e. AreFound e.executor e.table × AreLed e.executor e.table e.ways
-        × (IsTrue e.done → AreAllStates e.executor e.table) };
+        × (IsTrue e.done → AreAllStates e.executor e.table) × AreEdges e.executor e.table e.edges
+        × (IsTrue e.done → AreAllEdges e.executor e.table e.edges) };
 }
 
 /// Executes the next transaction of each core from each state that it finds, breadth first from the program's start, until there is no
@@ -58,11 +63,13 @@ impl Model for Exploration {
 /// noted as endless.
 ///
 /// `done` is true only where each serial execution of the program ends in one of the states that were found; some serial execution
-/// leads to each of them. The time is that of the instructions, and for each transaction of what the state holds.
+/// leads to each of them, and none is found twice. The time is that of the instructions, and for each transaction of what the state holds.
 pub fn explore(alloc: Global, loaded: &Loaded, limits: Limits) -> Result<Exploration, NoMemory>
     requires { 1 ≤ limits.states }
     ensures loaded { IfOk result (λ e. e.loaded ≡ loaded.now) }
     ensures found { IfOk result (λ e. AreFound e.loaded e.states) }
+    ensures led { IfOk result (λ e. AreLed e.loaded e.states e.ways) }
+    ensures once { IfOk result (λ e. AreOnce e.loaded e.states) }
     ensures few { IfOk result (λ e. length e.states ≤ limits.states) }
     ensures all { IfOk result (λ e. IsTrue e.done → AreAllStates e.loaded e.states) }
     ensures transactions { IfOk result (λ e. IsTrue e.done → Counts e.transactions
@@ -77,6 +84,7 @@ pub fn explore(alloc: Global, loaded: &Loaded, limits: Limits) -> Result<Explora
         executor: search.executor,
         table: search.table,
         ways: search.ways,
+        edges: search.edges,
         transactions: search.transactions,
         endless: search.endless,
         endless_at: search.endless_at,
@@ -109,6 +117,16 @@ impl Exploration {
         self.table.state(number)
     }
 
+    /// From which state a transaction leads to which: where all states were found, of each core that runs, in each state.
+    pub(crate) fn edges(&self) -> &[Edge]
+        ensures edges { result.now ≡ self.now.edges }
+        ensures right { AreEdges self.now.loaded self.now.states self.now.edges }
+        ensures all { IsTrue self.now.done → AreAllEdges self.now.loaded self.now.states self.now.edges }
+        ensures found { AreFound self.now.loaded self.now.states }
+    {
+        &self.edges.items
+    }
+
     /// How many transactions were executed: where all states were found, one of each core that runs, in each state. Stays at the
     /// largest number once it has come to it. Constant time.
     pub fn transactions(&self) -> u64
@@ -135,7 +153,8 @@ impl Exploration {
     /// Takes time in their number.
     pub fn way(&self, number: usize) -> Result<List<Order>, NoMemory>
         requires { number < length self.now.states }
-        ensures { IfOk result (λ orders. IsSomeAnd (serial self.now.loaded.settings.base (program (started self.now.loaded)) 0
+        ensures orders { IfOk result (λ orders. map order_of orders ≡ orders_to self.now.ways number) }
+        ensures leads { IfOk result (λ orders. IsSomeAnd (serial self.now.loaded.settings.base (program (started self.now.loaded)) 0
             (map order_of orders) (plain_start (started self.now.loaded)))
             (λ r. machine_of self.now.loaded (state_at self.now.states number) ≡ r.0)) }
     {

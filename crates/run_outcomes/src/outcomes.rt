@@ -1,9 +1,15 @@
 // The results: states in which all cores have ended, those that tell the same taken together.
-ghost use Rattle.std.specs.Prelude.{◌≡◌, ℕ, ◌<◌, ◌↔◌, ◌++◌, List as Seq, All, IfOk, OnOk, IfSome, IsTrue, length, map, slice_index_or};
+ghost use Rattle.std.specs.Prelude.{List as Seq, ◌≡◌, ℕ, ◌+◌, ◌-◌, ◌^◌, ◌<◌, ◌↔◌, ◌++◌, [], ◌∷◌, All, IfOk, OnOk, IfSome};
+ghost use Rattle.std.specs.Prelude.{IfNone, IsTrue, length, map};
+ghost use Rattle.std.specs.Prelude.{slice_index, slice_set};
+ghost use Rattle.run_outcomes.specs.Chains.{AreChained};
 ghost use Rattle.run_outcomes.specs.Explored.{state_at};
 ghost use Rattle.run_outcomes.specs.Outcomes.{HasEveryOutcome};
-ghost use Rattle.run_outcomes.specs.Results.{HasStopped, IsEnd, AreAlike, AreEnds, IsTold, told_core};
+ghost use Rattle.run_outcomes.specs.Results.{HasStopped, IsEnd, AreAlike, AreApart, AreCounted, AreEnds, AreGroups, AreLeast, IsTold};
+ghost use Rattle.run_outcomes.specs.Results.{mixed_told, told_core, told_digest};
 
+use crate::chains::Chains;
+use crate::digests::{digest, digest_of_end, mix, mix_bytes, mix_changes};
 use crate::exploration::Exploration;
 use crate::states::{Snapshot, are_same_changes, is_same};
 use rv_plain::CoreState;
@@ -52,7 +58,7 @@ fn have_stopped(cores: &[CoreState]) -> bool
 }
 
 /// Whether all cores have ended.
-fn is_end(state: &Snapshot) -> bool
+pub(crate) fn is_end(state: &Snapshot) -> bool
     ensures stopped { IsTrue result → IsEnd state.now }
     ensures all { IsEnd state.now → IsTrue result }
 {
@@ -60,13 +66,13 @@ fn is_end(state: &Snapshot) -> bool
 }
 
 fn tells_same_core(a: &CoreState, b: &CoreState) -> bool
-    ensures { IsTrue result → told_core a.now ≡ told_core b.now }
+    ensures { IsTrue result ↔ (told_core a.now ≡ told_core b.now) }
 {
     a.ended == b.ended && a.console.items == b.console.items
 }
 
 fn tell_same_cores(a: &[CoreState], b: &[CoreState]) -> bool
-    ensures { IsTrue result → map told_core a.now ≡ map told_core b.now }
+    ensures { IsTrue result ↔ (map told_core a.now ≡ map told_core b.now) }
 {
     if a.len() != b.len() {
         return false;
@@ -80,20 +86,20 @@ fn tell_same_cores(a: &[CoreState], b: &[CoreState]) -> bool
 }
 
 fn have_same_cores(a: &Snapshot, b: &Snapshot) -> bool
-    ensures { IsTrue result → map told_core a.now.cores ≡ map told_core b.now.cores }
+    ensures { IsTrue result ↔ (map told_core a.now.cores ≡ map told_core b.now.cores) }
 {
     tell_same_cores(&a.cores.items, &b.cores.items)
 }
 
 fn have_same_changes(a: &Snapshot, b: &Snapshot) -> bool
-    ensures { IsTrue result → a.now.changes ≡ b.now.changes }
+    ensures { IsTrue result ↔ (a.now.changes ≡ b.now.changes) }
 {
     are_same_changes(&a.changes.items, &b.changes.items)
 }
 
 /// Whether two states tell the same.
 fn are_alike(tell: Tell, a: &Snapshot, b: &Snapshot) -> bool
-    ensures { IsTrue result → AreAlike tell a.now b.now }
+    ensures { IsTrue result ↔ AreAlike tell a.now b.now }
 {
     match tell {
         Tell::Consoles => have_same_cores(a, b),
@@ -102,51 +108,118 @@ fn are_alike(tell: Tell, a: &Snapshot, b: &Snapshot) -> bool
     }
 }
 
-/// At which of these states one tells the same as state k.
-fn place(explored: &Exploration, tell: Tell, firsts: &[usize], k: usize) -> Option<usize>
-    requires ends { AreEnds explored.now.states firsts.now }
-    requires state { k < length explored.now.states }
-    ensures { IfSome result (λ i. (i < length firsts.now)
-        × AreAlike tell (state_at explored.now.states (slice_index_or firsts.now i 0)) (state_at explored.now.states k)) }
+/// By which results are found: states that tell the same have the same.
+#[tactic(auto, unfolding(crate::specs::Results::told_digest))]
+fn digest_told(tell: Tell, state: &Snapshot) -> u64
+    ensures { result ≡ told_digest tell state.now }
 {
-    for (i, first) in firsts.iter().enumerate() {
-        if are_alike(tell, explored.state(*first), explored.state(k)) {
+    match tell {
+        Tell::Consoles => mix_told(&state.cores.items),
+        Tell::Memory => mix_changes(mix_told(&state.cores.items), &state.changes.items),
+        Tell::Everything => digest(state),
+    }
+}
+
+#[tactic(auto, unfolding(crate::specs::Results::mixed_told))]
+fn mix_told(cores: &[CoreState]) -> u64
+    ensures { result ≡ mixed_told cores.now }
+{
+    let mut sum = 0;
+    for core in cores {
+        sum = mix_bytes(mix(sum, digest_of_end(core.ended)), &core.console.items);
+    }
+    sum
+}
+
+/// Results, each by the number of the first state that tells it, with how many tell it, and by what is told.
+#[derive(Debug, Drop)]
+struct Groups {
+    firsts: List<usize>,
+    counts: List<u64>,
+    chains: Chains,
+}
+
+fn first_in(firsts: &[usize], i: usize) -> usize
+    requires { i < length firsts.now }
+    ensures { result ≡ slice_index firsts.now i }
+{
+    firsts[i]
+}
+
+impl Groups {
+    /// One more state tells the result of that index.
+    fn count(&mut self, i: usize)
+        requires inside { i < length self.old.counts }
+        requires small { slice_index self.old.counts i < 2 ^ 64 - 1 }
+        ensures { self.new ≡ record self.old { counts = slice_set self.old.counts i (slice_index self.old.counts i + 1) } }
+    {
+        self.counts.items[i] += 1;
+    }
+
+    /// A further result, which the state of this number tells, with the digest of what it tells.
+    fn add(&mut self, first: usize, digest: u64) -> Result<(), NoMemory>
+        ensures firsts { OnOk result (self.new.firsts ≡ self.old.firsts ++ first ∷ []) }
+        ensures counts { OnOk result (self.new.counts ≡ self.old.counts ++ 1 ∷ []) }
+        ensures chains { OnOk result ((keys : Seq ℕ) → AreChained keys self.old.chains
+            → AreChained (keys ++ digest ∷ []) self.new.chains) }
+    {
+        self.firsts.push(first)?;
+        self.counts.push(1)?;
+        self.chains.add(digest)
+    }
+}
+
+/// Which of these states tells the same as state k, whose digest this is.
+fn place(
+    explored: &Exploration,
+    tell: Tell,
+    firsts: &[usize],
+    chains: &Chains,
+    digest: u64,
+    k: usize,
+) -> Option<usize>
+    requires ends { AreEnds explored.now.states firsts.now }
+    requires chained { AreChained (map (λ i. told_digest tell (state_at explored.now.states i)) firsts.now) chains.now }
+    requires digest { digest ≡ told_digest tell (state_at explored.now.states k) }
+    requires state { k < length explored.now.states }
+    ensures alike { IfSome result (λ i. (i < length firsts.now)
+        × AreAlike tell (state_at explored.now.states (slice_index firsts.now i)) (state_at explored.now.states k)) }
+    ensures absent { IfNone result ((i : ℕ) → i < length firsts.now
+        → AreAlike tell (state_at explored.now.states (slice_index firsts.now i)) (state_at explored.now.states k) → ⊥) }
+{
+    let mut next = chains.newest(digest);
+    while let Some(i) = next {
+        let first = first_in(firsts, i);
+        if are_alike(tell, explored.state(first), explored.state(k)) {
             return Some(i);
         }
+        next = chains.older(i);
     }
     None
 }
 
-/// Counts state k, in which all cores have ended, among those that tell the same.
-fn note(
-    explored: &Exploration,
-    tell: Tell,
-    firsts: &mut List<usize>,
-    counts: &mut List<u64>,
-    k: usize,
-) -> Result<(), NoMemory>
-    requires ends { AreEnds explored.now.states firsts.old }
+/// Counts state k, in which all cores have ended, among those that tell the same. Constant time beside what the state holds.
+fn note(explored: &Exploration, tell: Tell, groups: &mut Groups, k: usize) -> Result<(), NoMemory>
+    requires groups { AreGroups tell explored.now.states groups.old k }
     requires state { k < length explored.now.states }
     requires end { IsEnd (state_at explored.now.states k) }
-    ensures ends { OnOk result (AreEnds explored.now.states firsts.new) }
-    ensures grown { OnOk result ((more : Seq ℕ) × (firsts.new ≡ firsts.old ++ more)) }
-    ensures told { OnOk result (IsTold tell explored.now.states firsts.new k) }
+    requires few { k < 2 ^ 64 - 1 }
+    ensures { OnOk result (AreGroups tell explored.now.states groups.new (k + 1)) }
 {
-    match place(explored, tell, &firsts.items, k) {
+    let digest = digest_told(tell, explored.state(k));
+    match place(
+        explored,
+        tell,
+        &groups.firsts.items,
+        &groups.chains,
+        digest,
+        k,
+    ) {
         Some(i) => {
-            count(counts, i);
+            groups.count(i);
             Ok(())
         }
-        None => {
-            firsts.push(k)?;
-            counts.push(1)
-        }
-    }
-}
-
-fn count(counts: &mut List<u64>, i: usize) {
-    if let Some(count) = counts.items.get_mut(i) {
-        *count = count.saturating_add(1);
+        None => groups.add(k, digest),
     }
 }
 
@@ -154,25 +227,32 @@ fn count(counts: &mut List<u64>, i: usize) {
 /// stands for the first of them. Where all states were found, and so `done` is true, every serial execution of the program after
 /// which all cores have ended tells one of these results, in whatever order the cores took turns.
 ///
-/// Takes time in these states and the results.
+/// Takes time in what the states hold, and memory in the results.
 pub fn tell_results(alloc: Global, explored: &Exploration, tell: Tell) -> Result<Results, NoMemory>
     ensures ends { IfOk result (λ o. AreEnds explored.now.states o.firsts) }
+    ensures apart { IfOk result (λ o. AreApart tell explored.now.states o.firsts) }
+    ensures least { IfOk result (λ o. AreLeast tell explored.now.states o.firsts) }
     ensures all { IfOk result (λ o. (k : ℕ) → k < length explored.now.states → IsEnd (state_at explored.now.states k)
         → IsTold tell explored.now.states o.firsts k) }
+    ensures counted { IfOk result (λ o. length o.counts ≡ length o.firsts) }
+    ensures counts { IfOk result (λ o. AreCounted tell explored.now.states o.firsts o.counts (length explored.now.states)) }
     ensures done { IfOk result (λ o. o.done ≡ explored.now.done) }
     ensures every { IfOk result (λ o. IsTrue o.done → HasEveryOutcome explored.now.loaded tell explored.now.states o.firsts) }
 {
     let done = explored.done();
-    let mut firsts = List::new(alloc);
-    let mut counts = List::new(alloc);
+    let mut groups = Groups {
+        firsts: List::new(alloc),
+        counts: List::new(alloc),
+        chains: Chains::new(alloc),
+    };
     for k in 0..explored.len() {
         if is_end(explored.state(k)) {
-            note(explored, tell, &mut firsts, &mut counts, k)?;
+            note(explored, tell, &mut groups, k)?;
         }
     }
     Ok(Results {
-        firsts,
-        counts,
+        firsts: groups.firsts,
+        counts: groups.counts,
         done,
     })
 }

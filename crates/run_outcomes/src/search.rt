@@ -6,7 +6,8 @@ ghost use Rattle.rv_plain.specs.Machine.{plain_start, start_core};
 ghost use Rattle.run_outcomes.specs.Changes.{AreInside};
 ghost use Rattle.run_outcomes.specs.Next.{IsNext};
 ghost use Rattle.run_outcomes.specs.Counted.{Counts, all_running, running, runs};
-ghost use Rattle.run_outcomes.specs.Explored.{AreFound, AreLed, AreAllStates, IsFollowedAt, IsGrown, IsNoted, IsEndlessNoted, state_at};
+ghost use Rattle.run_outcomes.specs.Explored.{AreFound, AreLed, AreAllStates, IsGrown, IsNoted, IsEndlessNoted, state_at};
+ghost use Rattle.run_outcomes.specs.Edges.{AreAllEdges, AreEdges, IsEdgedAt, IsJoined};
 ghost use Rattle.run_outcomes.specs.States.{core_in};
 
 use crate::next::{Executor, Next};
@@ -34,6 +35,13 @@ pub(crate) struct Way {
     pub(crate) n: u32,
 }
 
+/// A transaction leads from the one state to the other, each by its number.
+#[derive(Clone, Copy, Debug, PartialEq, Eq)]
+pub(crate) struct Edge {
+    pub(crate) from: usize,
+    pub(crate) to: usize,
+}
+
 /// A state, by its number, and one of its cores.
 #[derive(Clone, Copy, Debug, PartialEq, Eq)]
 pub struct Pair {
@@ -48,6 +56,7 @@ pub(crate) struct Search {
     pub(crate) executor: Executor,
     pub(crate) table: Table,
     pub(crate) ways: List<Way>,
+    pub(crate) edges: List<Edge>,
     pub(crate) transactions: u64,
     pub(crate) endless: u64,
     pub(crate) endless_at: Option<Pair>,
@@ -96,13 +105,23 @@ fn next_in(
     )
 }
 
-/// Notes the way to a state where it is a new one.
-fn note(ways: &mut List<Way>, place: Place, way: Way) -> Result<(), NoMemory>
-    ensures { OnOk result (IsNoted ways.old ways.new place way) }
+/// Notes the edge to a state, and the way to it where it is a new one.
+fn note(
+    ways: &mut List<Way>,
+    edges: &mut List<Edge>,
+    place: Place,
+    way: Way,
+) -> Result<(), NoMemory>
+    ensures ways { OnOk result (IsNoted ways.old ways.new place way) }
+    ensures edges { OnOk result (IsJoined edges.old edges.new place way.from) }
 {
     match place {
-        Place::New => ways.push(way),
-        Place::Known | Place::Full => Ok(()),
+        Place::Known(to) => edges.push(Edge { from: way.from, to }),
+        Place::New(to) => {
+            ways.push(way)?;
+            edges.push(Edge { from: way.from, to })
+        }
+        Place::Full => Ok(()),
     }
 }
 
@@ -123,6 +142,7 @@ impl Search {
         ensures loaded { IfOk result (λ s. s.executor ≡ loaded.now) }
         ensures found { IfOk result (λ s. AreFound s.executor s.table) }
         ensures led { IfOk result (λ s. AreLed s.executor s.table s.ways) }
+        ensures edges { IfOk result (λ s. AreEdges s.executor s.table s.edges) }
         ensures one { IfOk result (λ s. length s.table ≡ 1) }
         ensures none { IfOk result (λ s. s.transactions ≡ 0) }
         ensures noted { IfOk result (λ s. (longest : ℕ) → IsEndlessNoted s.executor s.table longest s.endless s.endless_at) }
@@ -145,6 +165,7 @@ impl Search {
             executor,
             table,
             ways,
+            edges: List::new(alloc),
             transactions: 0,
             endless: 0,
             endless_at: None,
@@ -155,18 +176,21 @@ impl Search {
     fn reach(&mut self, number: usize, core: CoreId, limits: Limits) -> Result<bool, NoMemory>
         requires found { AreFound self.old.executor self.old.table }
         requires led { AreLed self.old.executor self.old.table self.old.ways }
+        requires edges { AreEdges self.old.executor self.old.table self.old.edges }
         requires noted { IsEndlessNoted self.old.executor self.old.table limits.longest self.old.endless self.old.endless_at }
         requires number { number < length self.old.table }
         requires core { core.0 < self.old.executor.settings.cores }
         ensures found { OnOk result (AreFound self.new.executor self.new.table) }
         ensures led { OnOk result (AreLed self.new.executor self.new.table self.new.ways) }
+        ensures edges { OnOk result (AreEdges self.new.executor self.new.table self.new.edges) }
         ensures noted { OnOk result (IsEndlessNoted self.new.executor self.new.table limits.longest self.new.endless
             self.new.endless_at) }
         ensures loaded { self.new.executor ≡ self.old.executor }
         ensures grown { OnOk result (IsGrown self.old.table self.new.table) }
+        ensures joined { OnOk result (IsGrown self.old.edges self.new.edges) }
         ensures few { OnOk result (length self.old.table ≤ limits.states → length self.new.table ≤ limits.states) }
-        ensures followed { IfOk result (λ full. IsFalse full → self.new.endless ≡ 0
-            → IsFollowedAt self.new.executor self.new.table number core.0) }
+        ensures edged { IfOk result (λ full. IsFalse full → self.new.endless ≡ 0
+            → IsEdgedAt self.new.executor self.new.table self.new.edges number core.0) }
         ensures counted { IfOk result (λ full. IsFalse full → self.new.endless ≡ 0 → Counts self.new.transactions
             (self.old.transactions + runs (core_in (state_at self.old.table number) core.0).ended)) }
         ensures endless { self.old.endless ≤ self.new.endless }
@@ -197,7 +221,7 @@ impl Search {
                     core,
                     n,
                 };
-                note(&mut self.ways, place, way)?;
+                note(&mut self.ways, &mut self.edges, place, way)?;
                 Ok(place == Place::Full)
             }
         }
@@ -208,17 +232,20 @@ impl Search {
     fn expand(&mut self, number: usize, limits: Limits) -> Result<bool, NoMemory>
         requires found { AreFound self.old.executor self.old.table }
         requires led { AreLed self.old.executor self.old.table self.old.ways }
+        requires edges { AreEdges self.old.executor self.old.table self.old.edges }
         requires noted { IsEndlessNoted self.old.executor self.old.table limits.longest self.old.endless self.old.endless_at }
         requires number { number < length self.old.table }
         ensures found { OnOk result (AreFound self.new.executor self.new.table) }
         ensures led { OnOk result (AreLed self.new.executor self.new.table self.new.ways) }
+        ensures edges { OnOk result (AreEdges self.new.executor self.new.table self.new.edges) }
         ensures noted { OnOk result (IsEndlessNoted self.new.executor self.new.table limits.longest self.new.endless
             self.new.endless_at) }
         ensures loaded { self.new.executor ≡ self.old.executor }
         ensures grown { OnOk result (IsGrown self.old.table self.new.table) }
+        ensures joined { OnOk result (IsGrown self.old.edges self.new.edges) }
         ensures few { OnOk result (length self.old.table ≤ limits.states → length self.new.table ≤ limits.states) }
-        ensures followed { IfOk result (λ full. IsFalse full → self.new.endless ≡ 0
-            → (core : ℕ) → IsFollowedAt self.new.executor self.new.table number core) }
+        ensures edged { IfOk result (λ full. IsFalse full → self.new.endless ≡ 0
+            → (core : ℕ) → IsEdgedAt self.new.executor self.new.table self.new.edges number core) }
         ensures counted { IfOk result (λ full. IsFalse full → self.new.endless ≡ 0 → Counts self.new.transactions
             (self.old.transactions + running (state_at self.old.table number) self.old.executor.settings.cores)) }
         ensures endless { self.old.endless ≤ self.new.endless }
@@ -237,16 +264,20 @@ impl Search {
     pub(crate) fn go(&mut self, limits: Limits) -> Result<bool, NoMemory>
         requires found { AreFound self.old.executor self.old.table }
         requires led { AreLed self.old.executor self.old.table self.old.ways }
+        requires edges { AreEdges self.old.executor self.old.table self.old.edges }
         requires noted { IsEndlessNoted self.old.executor self.old.table limits.longest self.old.endless self.old.endless_at }
         requires few { length self.old.table ≤ limits.states }
         requires none { self.old.transactions ≡ 0 }
         ensures found { OnOk result (AreFound self.new.executor self.new.table) }
         ensures led { OnOk result (AreLed self.new.executor self.new.table self.new.ways) }
+        ensures edges { OnOk result (AreEdges self.new.executor self.new.table self.new.edges) }
         ensures noted { OnOk result (IsEndlessNoted self.new.executor self.new.table limits.longest self.new.endless
             self.new.endless_at) }
         ensures loaded { self.new.executor ≡ self.old.executor }
         ensures few { OnOk result (length self.new.table ≤ limits.states) }
         ensures all { IfOk result (λ full. IsFalse full → self.new.endless ≡ 0 → AreAllStates self.new.executor self.new.table) }
+        ensures all_edges { IfOk result (λ full. IsFalse full → self.new.endless ≡ 0
+            → AreAllEdges self.new.executor self.new.table self.new.edges) }
         ensures counted { IfOk result (λ full. IsFalse full → self.new.endless ≡ 0 → Counts self.new.transactions
             (all_running self.new.executor.settings.cores self.new.table (length self.new.table))) }
     {

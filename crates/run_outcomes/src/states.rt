@@ -1,15 +1,18 @@
 // The states of the plain machine that a search has found, each with a number, and found again by what it holds.
-ghost use Rattle.std.specs.Prelude.{◌≡◌, ℕ, ◌<◌, ◌≤◌, IfOk, OnOk, OnErr, IfSome, IfNone, Some, [], ◌∷◌, ◌++◌, length};
-ghost use Rattle.std.specs.Prelude.{IsTrue, slice_get, slice_index_or};
+ghost use Rattle.std.specs.Prelude.{◌≡◌, ℕ, ◌<◌, ◌≤◌, IfOk, OnOk, OnErr, IfSome, IfNone, [], ◌∷◌, ◌++◌, length};
+ghost use Rattle.std.specs.Prelude.{IsTrue, Contains, ◌↔◌, map, slice_index_or};
+ghost use Rattle.run_outcomes.specs.Chains.{AreChained};
 ghost use Rattle.rv_plain.specs.Cores.{no_state};
+ghost use Rattle.run_outcomes.specs.Digests.{state_digest};
 ghost use Rattle.run_outcomes.specs.Explored.{state_at};
-ghost use Rattle.run_outcomes.specs.States.{after_core, IsPlaced};
+ghost use Rattle.run_outcomes.specs.States.{after_core, IsNumbered, IsPlaced};
 
-use indexmap::IndexMap;
+use crate::chains::Chains;
+use crate::digests::digest;
 use rv_plain::CoreState;
 use std::alloc::Global;
 use std::marker::Model;
-use tcc_base::{CoreEnd, CoreId, List, NoMemory, Reg};
+use tcc_base::{CoreId, List, NoMemory};
 
 /// A state of the plain machine between two transactions: each core, and the words in which RAM differs from the start, each with its
 /// value.
@@ -22,8 +25,11 @@ pub struct Snapshot {
 /// What became of a state that was to be added.
 #[derive(Clone, Copy, Debug, PartialEq, Eq)]
 pub(crate) enum Place {
-    Known,
-    New,
+    /// It is the state of that number.
+    Known(usize),
+    /// It is a new one, of that number.
+    New(usize),
+    /// There may be no further state.
     Full,
 }
 
@@ -39,15 +45,15 @@ fn copy_core(alloc: Global, core: &CoreState) -> Result<CoreState, NoMemory>
     })
 }
 
-/// The same core states.
+/// The same core states, in memory for no more.
 fn copy_cores(alloc: Global, cores: &[CoreState]) -> Result<List<CoreState>, NoMemory>
     ensures { IfOk result (λ copy. copy ≡ cores.now) }
 {
-    let mut copy = List::new(alloc);
+    let mut copy = Vec::with_capacity(alloc, cores.len()).map_err(|_| NoMemory)?;
     for core in cores {
-        copy.push(copy_core(alloc, core)?)?;
+        copy.push(copy_core(alloc, core)?).map_err(|_| NoMemory)?;
     }
-    Ok(copy)
+    Ok(List { items: copy })
 }
 
 /// The state after a transaction of one of its cores. Takes time and memory in the cores and what they have printed.
@@ -67,13 +73,13 @@ pub(crate) fn next_state(
 }
 
 fn is_same_core(a: &CoreState, b: &CoreState) -> bool
-    ensures { IsTrue result → a.now ≡ b.now }
+    ensures { IsTrue result ↔ (a.now ≡ b.now) }
 {
     a.state == b.state && a.ended == b.ended && a.console.items == b.console.items
 }
 
 fn are_same_cores(a: &[CoreState], b: &[CoreState]) -> bool
-    ensures { IsTrue result → a.now ≡ b.now }
+    ensures { IsTrue result ↔ (a.now ≡ b.now) }
 {
     if a.len() != b.len() {
         return false;
@@ -87,7 +93,7 @@ fn are_same_cores(a: &[CoreState], b: &[CoreState]) -> bool
 }
 
 pub(crate) fn are_same_changes(a: &[(u32, u32)], b: &[(u32, u32)]) -> bool
-    ensures { IsTrue result → a.now ≡ b.now }
+    ensures { IsTrue result ↔ (a.now ≡ b.now) }
 {
     if a.len() != b.len() {
         return false;
@@ -101,80 +107,34 @@ pub(crate) fn are_same_changes(a: &[(u32, u32)], b: &[(u32, u32)]) -> bool
 }
 
 pub(crate) fn is_same(a: &Snapshot, b: &Snapshot) -> bool
-    ensures { IsTrue result → a.now ≡ b.now }
+    ensures { IsTrue result ↔ (a.now ≡ b.now) }
 {
     are_same_cores(&a.cores.items, &b.cores.items)
         && are_same_changes(&a.changes.items, &b.changes.items)
 }
 
-/// By which states are found: states that are the same have the same.
-fn digest(state: &Snapshot) -> u64 {
-    let mut sum = 0;
-    for core in &state.cores.items {
-        sum = mixed(sum, digest_of_core(core));
-    }
-    for (w, value) in &state.changes.items {
-        sum = mixed(sum, *w as u64);
-        sum = mixed(sum, *value as u64);
-    }
-    sum
+fn state_in(states: &[Snapshot], number: usize) -> &Snapshot
+    requires { number < length states.now }
+    ensures { result.now ≡ state_at states.now number }
+{
+    &states[number]
 }
 
-fn digest_of_core(core: &CoreState) -> u64 {
-    let mut sum = mixed(core.state.pc() as u64, digest_of_end(core.ended));
-    for number in 1..32 {
-        if let Some(r) = Reg::new(number) {
-            sum = mixed(sum, core.state.regs().get(r) as u64);
+/// Which of these states this one is; None exactly where it is none of them.
+fn find(states: &[Snapshot], chains: &Chains, digest: u64, state: &Snapshot) -> Option<usize>
+    requires chained { AreChained (map state_digest states.now) chains.now }
+    requires digest { digest ≡ state_digest state.now }
+    ensures found { IfSome result (IsNumbered states.now state.now) }
+    ensures absent { IfNone result (Contains states.now state.now → ⊥) }
+{
+    let mut next = chains.newest(digest);
+    while let Some(number) = next {
+        if is_same(state_in(states, number), state) {
+            return Some(number);
         }
+        next = chains.older(number);
     }
-    for byte in &core.console.items {
-        sum = mixed(sum, *byte as u64);
-    }
-    sum
-}
-
-fn digest_of_end(end: CoreEnd) -> u64 {
-    match end {
-        CoreEnd::Run => 0,
-        CoreEnd::Halt(code) => 1 + code as u64,
-        CoreEnd::Trap(cause) => 1 + (1 << 32) + cause as u64,
-    }
-}
-
-fn mixed(sum: u64, more: u64) -> u64 {
-    let turned = sum.rotate_left(5) ^ more;
-    turned.wrapping_mul(0x517c_c1b7_2722_0a95)
-}
-
-/// Numbers by digest: the newest of each, and from each number the next older one with the same digest.
-#[derive(Debug, Drop)]
-struct Chains {
-    newest: IndexMap<u64, usize>,
-    older: List<usize>,
-}
-
-impl Chains {
-    fn newest(&self, digest: u64) -> Option<usize> {
-        self.newest.get(&digest).copied()
-    }
-
-    fn older(&self, number: usize) -> Option<usize>
-        ensures { IfSome result (λ older. older < number) }
-    {
-        let older = *self.older.items.get(number)?;
-        if older < number { Some(older) } else { None }
-    }
-
-    /// The next number, by this digest.
-    fn add(&mut self, digest: u64) -> Result<(), NoMemory> {
-        let number = self.older.items.len();
-        let older = self.newest(digest).unwrap_or(number);
-        self.older.push(older)?;
-        match self.newest.insert(digest, number) {
-            Ok(_) => Ok(()),
-            Err(_) => Err(NoMemory),
-        }
-    }
+    None
 }
 
 /// The states that were found, in the order of their numbers.
@@ -185,12 +145,16 @@ pub(crate) struct Table {
 }
 
 impl Model for Table {
-    ghost use Rattle.std.specs.Prelude.{List};
+    ghost use Rattle.std.specs.Prelude.{List, map};
+    ghost use Rattle.run_outcomes.specs.Chains.{AreChained};
+    ghost use Rattle.run_outcomes.specs.Digests.{state_digest};
     ghost use Rattle.run_outcomes.specs.declared.states.Snapshot.{Snapshot};
 
     ghost Value = { List Snapshot };
 
     ghost view = { λ t. t.states };
+
+    ghost invariant = { λ t. AreChained (map state_digest t.states) t.chains };
 }
 
 impl Table {
@@ -199,10 +163,7 @@ impl Table {
     {
         Table {
             states: List::new(alloc),
-            chains: Chains {
-                newest: IndexMap::new(alloc),
-                older: List::new(alloc),
-            },
+            chains: Chains::new(alloc),
         }
     }
 
@@ -210,8 +171,24 @@ impl Table {
     pub(crate) fn add_first(&mut self, state: Snapshot) -> Result<(), NoMemory>
         ensures { OnOk result (self.new ≡ self.old ++ state ∷ []) }
     {
-        self.chains.add(digest(&state))?;
-        self.states.push(state)
+        let digest = digest(&state);
+        self.push(digest, state)
+    }
+
+    /// Adds a state, by its digest; after want of memory the table is as before.
+    fn push(&mut self, digest: u64, state: Snapshot) -> Result<(), NoMemory>
+        requires { digest ≡ state_digest state }
+        ensures pushed { OnOk result (self.new ≡ self.old ++ state ∷ []) }
+        ensures unchanged { OnErr result (self.new ≡ self.old) }
+    {
+        self.states.push(state)?;
+        match self.chains.add(digest) {
+            Ok(()) => Ok(()),
+            Err(e) => {
+                self.states.pop();
+                Err(e)
+            }
+        }
     }
 
     pub(crate) fn len(&self) -> usize
@@ -224,20 +201,7 @@ impl Table {
         requires { number < length self.now }
         ensures { result.now ≡ state_at self.now number }
     {
-        &self.states.items[number]
-    }
-
-    /// The number of this state, where it was found again.
-    fn find(&self, digest: u64, state: &Snapshot) -> Option<usize>
-        ensures { IfSome result (λ number. slice_get self.now number ≡ Some state.now) }
-    {
-        let mut number = self.chains.newest(digest)?;
-        loop {
-            if is_same(self.states.items.get(number)?, state) {
-                return Some(number);
-            }
-            number = self.chains.older(number)?;
-        }
+        state_in(&self.states.items, number)
     }
 
     /// Adds a state that isn't there yet, where fewer than `limit` are.
@@ -246,14 +210,14 @@ impl Table {
         ensures unchanged { OnErr result (self.new ≡ self.old) }
     {
         let digest = digest(&state);
-        if self.find(digest, &state).is_some() {
-            return Ok(Place::Known);
+        if let Some(number) = find(&self.states.items, &self.chains, digest, &state) {
+            return Ok(Place::Known(number));
         }
         if self.len() >= limit {
             return Ok(Place::Full);
         }
-        self.chains.add(digest)?;
-        self.states.push(state)?;
-        Ok(Place::New)
+        let number = self.len();
+        self.push(digest, state)?;
+        Ok(Place::New(number))
     }
 }

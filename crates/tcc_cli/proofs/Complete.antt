@@ -102,7 +102,8 @@ left f w status c files (Err (why.Store name)) bounds is (inl (first, untouched)
     absurd (none.reads name.now (subst (λ ns. Contains ns name.now) (sym first.names_are) here) first.rose)
 left f w status c files (Err (why.Store name)) bounds is (inr (began, named, rose), silent) told none = absurd
     (none.writes name.now named rose)
-left f w status c files (Err why.Output) bounds is (read, done, text, started, comes, cut) told none = absurd (none.out cut.3)
+left f w status c files (Err why.Output) bounds is (inl (read, done, text, started, comes, cut)) told none = absurd (none.out cut.3)
+left f w status c files (Err why.Output) bounds is (inr (begun, rose)) told none = absurd (none.out rose)
 left f w status c files (Err why.Memory) bounds is e told none = out-of-memory c files status is
 
 turned-away : Facts → (words : List (List ℕ)) (status : Status) (c : Command) (files : List (List ℕ)) (end : End) → status ≡ status_of end

@@ -1,11 +1,12 @@
 -- From the end of a command, or of the words, to the answer of the program.
-use Rattle.std.proofs.Common.{◌≡◌, ◌≢◌, ℕ, List, Some, None, Ok, Err, Result, IfOk, String, Global, inl, inr, refl, ap, sym, subst, ◌∙◌}
+use Rattle.std.proofs.Common.{◌≡◌, ◌≢◌, ℕ, Bool, List, Some, None, Ok, Err, Result, IfOk, String, Global}
+use Rattle.std.proofs.Common.{inl, inr, refl, ap, sym, subst, ◌∙◌}
 use Rattle.std.specs.declared.vec.IntoIter.{IntoIter}
 use Rattle.image_load.specs.Contents.{started}
 use Rattle.tcc_cli.specs.Around.{Around, FilesAround, IsUntouched}
-use Rattle.tcc_cli.specs.Comes.{HasRecorded}
+use Rattle.tcc_cli.specs.Comes.{Comes, HasRecorded}
 use Rattle.tcc_cli.specs.Commands.{fault_from, files_of, record_of}
-use Rattle.tcc_cli.specs.Failing.{IsStopped}
+use Rattle.tcc_cli.specs.Failing.{IsStopped, Tells}
 use Rattle.tcc_cli.specs.Lines.{IsSilent, IsTold, Written}
 use Rattle.tcc_cli.specs.Process.{words_in}
 use Rattle.tcc_cli.specs.Reading.{AreGiven}
@@ -80,18 +81,39 @@ pub record IsLater (files later : FilesAround) : Type 0 where
 still : (w : Around) (f : FilesAround) → IsLater w.files f → IsUntouched f → IsUntouched w.files
 still w f s untouched n = ap (λ g. g n) s.after ∙ untouched n ∙ s.contents n
 
-pub stopped : (c : Command) (w : Around) (f : FilesAround) (files : List (List ℕ)) (r : Refusal) → IsLater w.files f → IsStopped c files f r
+stopped : (c : Command) (w : Around) (f : FilesAround) (files : List (List ℕ)) (r : Refusal) → IsLater w.files f → IsStopped c files f r
     → Started c w files → IsSilent w.out → EndsOf c w (Err r)
 stopped c w f files (why.Schedule line) s h started silent = ((files, started, h.0), still w f s h.1, silent)
 stopped c w f files (why.Store name) s h started silent =
     let rose = subst (λ k. Rose k (w.files.writes_after name.now)) (s.writes name.now)
     (subst (λ k. Rose (f.writes_before name.now) k) (s.writes_after name.now) h.1) in
     (inr ((files, started), h.0, rose), silent)
-stopped c w f files why.Memory s (inl untouched) started silent = (inl (still w f s untouched), silent)
+stopped c w f files why.Memory s (inl untouched) started silent = inl (inl (still w f s untouched), silent)
 stopped c w f files why.Memory s (inr recorded) started silent =
     let told = subst (λ g. HasRecorded c files f.tells g) (sym s.after) recorded in
-    (inr (files, started, subst (λ b. HasRecorded c files b w.files.after) (sym s.tells) told), silent)
+    inl (inr (files, started, subst (λ b. HasRecorded c files b w.files.after) (sym s.tells) told), silent)
 stopped c w f files why.Words s h started silent = h
 stopped c w f files (why.Value field) s h started silent = h
 stopped c w f files (why.Image bad) s h started silent = absurd h
 stopped c w f files why.Output s h started silent = absurd h
+
+comes-later : (c : Command) (w : Around) (f : FilesAround) (files : List (List ℕ)) (done : Bool) (text : List ℕ) → IsLater w.files f
+    → Comes c files f.tells f.after done text → Comes c files w.files.tells w.files.after done text
+comes-later c w f files done text s h =
+    subst (λ b. Comes c files b w.files.after done text) (sym s.tells)
+    (subst (λ g. Comes c files f.tells g done text) (sym s.after) h)
+
+-- what a command tells, and its end
+pub told : (c : Command) (w : Around) (f : FilesAround) (files : List (List ℕ)) (end : End) → IsLater w.files f → Tells c files f w.out end
+    → Started c w files → EndsOf c w end
+told c w f files (Ok done) s h started = (files, h.0, started, comes-later c w f files done h.0 s h.1, h.2)
+told c w f files (Err why.Output) s (inl h) started =
+    inl (files, h.0, h.1, started, comes-later c w f files h.0 h.1 s h.2, h.3)
+told c w f files (Err why.Output) s (inr h) started = inr (((files, started, h.0), still w f s h.2), h.1)
+told c w f files (Err why.Memory) s (inl h) started = stopped c w f files why.Memory s h.0 started h.1
+told c w f files (Err why.Memory) s (inr h) started = inr ((files, started, h.0), still w f s h.1)
+told c w f files (Err (why.Schedule line)) s h started = stopped c w f files (why.Schedule line) s h.0 started h.1
+told c w f files (Err (why.Store name)) s h started = stopped c w f files (why.Store name) s h.0 started h.1
+told c w f files (Err why.Words) s h started = stopped c w f files why.Words s h.0 started h.1
+told c w f files (Err (why.Value field)) s h started = stopped c w f files (why.Value field) s h.0 started h.1
+told c w f files (Err (why.Image bad)) s h started = stopped c w f files (why.Image bad) s h.0 started h.1

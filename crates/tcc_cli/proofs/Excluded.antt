@@ -1,5 +1,5 @@
 -- What comes to an end has no faulty line.
-use Rattle.std.proofs.Common.{◌≡◌, ◌≤◌, ℕ, Bool, List, Option, Some, None, inl, inr, ap, sym, subst, ◌∙◌}
+use Rattle.std.proofs.Common.{◌≡◌, ◌≤◌, ℕ, Bool, List, map, take, Option, Some, None, inl, inr, ap, sym, subst, ◌∙◌}
 use Rattle.image_load.specs.Start.{Start}
 use Rattle.schedule_text.specs.Faults.{IsFirstFault}
 use Rattle.tcc_base.specs.Settings.{IsAllowed, Settings}
@@ -9,16 +9,20 @@ use Rattle.tcc_cli.specs.Commands.{head_of, start_from, tail_of}
 use Rattle.tcc_cli.specs.Images.{start_of}
 use Rattle.tcc_cli.specs.Lists.{IsExecuted, IsListFault}
 use Rattle.tcc_cli.specs.Comes.{Comes, IsFaultyLine}
+use Rattle.tcc_cli.specs.Looks.{AreFirst, IsFaultOfFirst, LookedAt, most_of, view_text}
 use Rattle.tcc_cli.specs.Schedules.{IsScheduleFault, IsScheduleOf, Ran}
-use Rattle.tcc_cli.specs.Runs.{run_text}
+use Rattle.tcc_cli.specs.Runs.{IsRun, run_text}
 use Rattle.why_text.specs.Text.{why_text}
+use Rattle.tcc_maps.specs.Nodes.{Event as RulesEvent}
+use Rattle.tcc_msg.specs.Plain.{event_of}
 use Rattle.tcc_msg.specs.declared.event.Event.{Event}
 use Rattle.serial_tool.specs.Runs.{serial_by}
 use Rattle.tcc_replay.specs.Replayed.{history_by}
 use Rattle.tcc_rules.specs.Step.{History}
 use Rattle.tcc_words.specs.Bounds.{IsInBounds}
 use Rattle.tcc_words.specs.declared.command.Command.{Command}
-use Rattle.tcc_words.specs.declared.command.Command.TheVariants.{Replay, Serial, Why}
+use Rattle.tcc_words.specs.declared.command.Command.TheVariants.{Replay, Serial, Why, Look}
+use Rattle.tcc_words.specs.declared.command.Source.TheVariants.{Schedule}
 
 -- two schedules of one text with the same settings have the same events
 pub same-events : Facts → (settings : Settings) (es fs : List Event) (bytes : List ℕ) → IsScheduleOf settings es bytes
@@ -41,6 +45,21 @@ schedule-excluded f s settings bytes line text_of_end done text ran (inr (inl (t
 schedule-excluded f s settings bytes line text_of_end done text ran (inr (inr (es, i, is, refused, at))) =
     let same = same-events f settings ran.events es bytes ran.schedule is in
     f.runs_go_on s es ran.ends i (subst (λ xs. history_by s xs ≡ Some ran.ends) same ran.runs.is_run) refused
+
+look-excluded : Facts → (s : Start) (settings : Settings) (bytes : List ℕ) (most line : ℕ)
+    (text_of_run : Bool → List RulesEvent → History → List ℕ) (done : Bool) (text : List ℕ)
+    → LookedAt s (AreFirst settings bytes most) text_of_run done text → IsFaultOfFirst s settings bytes most line → ⊥
+look-excluded f s settings bytes most line text_of_run done text looked (inl fault) =
+    let all = looked.are.0 in let is = looked.are.1 in
+    f.no_faulty_line (record { config = settings; events = all }) line is.formed (subst (IsFirstFault line) is.text fault)
+look-excluded f s settings bytes most line text_of_run done text looked (inr (inl (two, other))) =
+    let all = looked.are.0 in let is = looked.are.1 in
+    other.other (ap (λ x. x.config) (f.one_schedule other.schedule
+    (record { config = settings; events = all }) other.formed is.formed (sym other.text ∙ is.text)))
+look-excluded f s settings bytes most line text_of_run done text looked (inr (inr (es, i, is, refused, at))) =
+    let same : looked.are.0 ≡ es = same-events f settings looked.are.0 es bytes looked.are.1 is in
+    let taken : looked.events ≡ map event_of (take most es) = looked.are.2 ∙ ap (λ xs. map event_of (take most xs)) same in
+    f.runs_go_on s (take most es) looked.ends i (subst (λ xs. IsRun s xs looked.ends) taken looked.runs.is_run) refused
 
 list-excluded : Facts → (s : Start) (bytes text : List ℕ) (line : ℕ) → s.settings.cores ≤ 64 → IsExecuted s bytes text
     → IsListFault s bytes line → ⊥
@@ -66,4 +85,7 @@ excluded f (Serial machine list images) files tells told done text line bounds c
 excluded f (Why machine schedule images) files tells told done text line bounds comes fault =
     let s = start_from (Why machine schedule images) files in
     schedule-excluded f s machine.config (head_of files) line (why_text s) done text comes fault
+excluded f (Look machine images (Schedule name) view) files tells told done text line bounds comes fault =
+    let s = start_from (Look machine images (Schedule name) view) files in
+    look-excluded f s machine.config (head_of files) (most_of view) line (view_text view None s) done text comes fault
 excluded f _ files tells told done text line bounds comes fault = fault

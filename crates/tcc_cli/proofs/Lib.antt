@@ -7,6 +7,7 @@ mod Excluded
 mod Executed
 mod Facts
 mod Loading
+mod Looking
 mod Machines
 mod Naming
 mod Numbered
@@ -17,4 +18,5 @@ mod Shown
 mod Starting
 mod Taken
 mod Truth
+mod Watched
 mod Yielded

@@ -2,13 +2,26 @@
 use Rattle.std.specs.Prelude.{ℕ, Bool, true, List, ◌≡◌, Option}
 use Rattle.tcc_cli.specs.Commands.{head_of, start_from}
 use Rattle.tcc_cli.specs.Lists.{IsExecuted, IsListFault}
+use Rattle.tcc_base.specs.Settings.{Settings}
+use Rattle.tcc_cli.specs.Lines.{Written}
+use Rattle.tcc_cli.specs.Looks.{ArePicked, AreFirst, IsBegun, IsFaultOfFirst, LookedAt, most_of, seed_of, view_text}
 use Rattle.tcc_cli.specs.OnBus.{RanOnBus}
 use Rattle.tcc_cli.specs.Phased.{IsPhasePicked, RanInPhases}
 use Rattle.tcc_cli.specs.Runs.{run_text, summary_text}
 use Rattle.tcc_cli.specs.Schedules.{IsMade, IsPicked, IsRecorded, IsScheduleFault, IsScheduleOf, Ran, RecordsOne}
+use Rattle.image_load.specs.Start.{Start}
+use Rattle.tcc_maps.specs.Nodes.{Event}
 use Rattle.tcc_words.specs.declared.command.Command.{Command}
-use Rattle.tcc_words.specs.declared.command.Command.TheVariants.{Run, Replay, Serial, Trial, Why, Phases, Bus}
+use Rattle.tcc_words.specs.declared.command.Command.TheVariants.{Run, Replay, Serial, Trial, Why, Phases, Bus, Look}
+use Rattle.tcc_words.specs.declared.command.Source.{Source}
+use Rattle.tcc_words.specs.declared.command.Source.TheVariants.{Seed, Schedule}
+use Rattle.tcc_words.specs.declared.command.View.TheVariants.{Trace}
 use Rattle.why_text.specs.Text.{why_text}
+
+-- the events of the run that is looked at, at most so many
+abbrev pub AreLookedAt : Source → (most : ℕ) → Start → Settings → (files : List (List ℕ)) → List Event → Type 0
+AreLookedAt (Seed steps seed) most s settings files es = ArePicked s seed steps most es
+AreLookedAt (Schedule name) most s settings files es = AreFirst settings (head_of files) most es
 
 -- what each command comes to, where its files have these bytes: the text that it prints, and what stands in the record then
 abbrev pub Comes : Command → (files : List (List ℕ)) → (tells : Bool) → (told : List ℕ → Option (List ℕ)) → Bool → List ℕ → Type 0
@@ -33,6 +46,16 @@ Comes (Phases machine images steps seed keep) files tells told done text =
     done text
 Comes (Bus machine images steps seed) files tells told done text =
     RanOnBus (start_from (Bus machine images steps seed) files) seed steps done text
+Comes (Look machine images source view) files tells told done text =
+    let s = start_from (Look machine images source view) files in
+    LookedAt s (AreLookedAt source (most_of view) s machine.config files) (view_text view (seed_of source) s) done text
+
+-- a first part of what a command prints was written while it went on: only a trace is written so
+abbrev pub HasBegun : Command → (files : List (List ℕ)) → Written → Type 0
+HasBegun (Look machine images source (Trace from to states)) files o =
+    let s = start_from (Look machine images source (Trace from to states)) files in
+    IsBegun s (AreLookedAt source to s machine.config files) (record { from = from; states = states }) o
+HasBegun _ files o = ⊥
 
 -- the record holds, whole, a schedule that the command may run
 abbrev pub HasRecorded : Command → (files : List (List ℕ)) → (tells : Bool) → (told : List ℕ → Option (List ℕ)) → Type 0
@@ -50,4 +73,6 @@ IsFaultyLine (Serial machine list images) files line =
     IsListFault (start_from (Serial machine list images) files) (head_of files) line
 IsFaultyLine (Why machine schedule images) files line =
     IsScheduleFault (start_from (Why machine schedule images) files) machine.config (head_of files) line
+IsFaultyLine (Look machine images (Schedule name) view) files line =
+    IsFaultOfFirst (start_from (Look machine images (Schedule name) view) files) machine.config (head_of files) (most_of view) line
 IsFaultyLine _ files line = ⊥

@@ -4,7 +4,9 @@ use Rattle.image_load.specs.Start.{Start}
 use Rattle.tcc_cli.specs.Images.{fault_of, start_of}
 use Rattle.tcc_cli.specs.declared.refusal.ImageFault.{ImageFault}
 use Rattle.tcc_words.specs.declared.command.Command.{Command}
-use Rattle.tcc_words.specs.declared.command.Command.TheVariants.{Run, Replay, Serial, Trial, Why, Phases, Bus}
+use Rattle.tcc_words.specs.declared.command.Command.TheVariants.{Run, Replay, Serial, Trial, Why, Phases, Bus, Look}
+use Rattle.tcc_words.specs.declared.command.Source.{Source}
+use Rattle.tcc_words.specs.declared.command.Source.TheVariants.{Seed, Schedule}
 use Rattle.tcc_words.specs.declared.command.Machine.{Machine}
 use Rattle.work_gen.specs.Programs.{image, program}
 
@@ -17,6 +19,12 @@ image_names (Trial config work number steps seed) = []
 image_names (Why machine schedule images) = images
 image_names (Phases machine images steps seed keep) = images
 image_names (Bus machine images steps seed) = images
+image_names (Look machine images source view) = images
+
+-- the file of the run that is looked at, and those behind it
+abbrev pub with_file : Source → List (List ℕ) → List (List ℕ)
+with_file (Seed steps seed) images = images
+with_file (Schedule name) images = name ∷ images
 
 -- the names of the files that are read, in order: the schedule or the list, and then the images
 abbrev pub files_of : Command → List (List ℕ)
@@ -27,6 +35,7 @@ files_of (Trial config work number steps seed) = []
 files_of (Why machine schedule images) = schedule ∷ images
 files_of (Phases machine images steps seed keep) = images
 files_of (Bus machine images steps seed) = images
+files_of (Look machine images source view) = with_file source images
 
 -- the name of the file that is written
 abbrev pub record_of : Command → Option (List ℕ)
@@ -43,6 +52,7 @@ machine_of (Trial config work number steps seed) = record { config = config; raw
 machine_of (Why machine schedule images) = machine
 machine_of (Phases machine images steps seed keep) = machine
 machine_of (Bus machine images steps seed) = machine
+machine_of (Look machine images source view) = machine
 
 -- the first of some files, and those after it
 abbrev pub head_of : List (List ℕ) → List ℕ
@@ -53,6 +63,11 @@ abbrev pub tail_of : List (List ℕ) → List (List ℕ)
 tail_of [] = []
 tail_of (file ∷ files) = files
 
+-- the files behind that of the run that is looked at
+abbrev pub behind_file : Source → (files : List (List ℕ)) → List (List ℕ)
+behind_file (Seed steps seed) files = files
+behind_file (Schedule name) files = tail_of files
+
 -- the images' bytes, where the files have these
 abbrev pub images_in : Command → (files : List (List ℕ)) → List (List ℕ)
 images_in (Run machine images steps seed threads keep) files = files
@@ -62,6 +77,7 @@ images_in (Trial config work number steps seed) files = image (program work numb
 images_in (Why machine schedule images) files = tail_of files
 images_in (Phases machine images steps seed keep) files = files
 images_in (Bus machine images steps seed) files = files
+images_in (Look machine images source view) files = behind_file source files
 
 -- the start of the machine with these images, and the first of them that is no image
 abbrev pub start_from : Command → (files : List (List ℕ)) → Start

@@ -1,21 +1,26 @@
 -- Why the steps of a command refuse to go on.
-use Rattle.std.specs.Prelude.{ℕ, List, ◌≡◌, ◌+◌, ◌<◌, ◌^◌, ◌⊎◌, Option, Some}
+use Rattle.std.specs.Prelude.{ℕ, Bool, List, Ok, Err, ◌≡◌, ◌+◌, ◌<◌, ◌^◌, ◌⊎◌, Option, Some}
 use Rattle.image_load.specs.Start.{Start}
 use Rattle.tcc_base.specs.Settings.{Settings}
 use Rattle.schedule_text.specs.Faults.{IsFirstFault}
 use Rattle.schedule_text.specs.declared.fault.TextFault.{TextFault}
 use Rattle.schedule_text.specs.declared.fault.TextFault.TheVariants as text
 use Rattle.tcc_cli.specs.Around.{FilesAround, IsUntouched}
-use Rattle.tcc_cli.specs.Comes.{HasRecorded, IsFaultyLine}
+use Rattle.tcc_cli.specs.Comes.{Comes, HasBegun, HasRecorded, IsFaultyLine}
 use Rattle.tcc_cli.specs.Commands.{record_of}
+use Rattle.tcc_cli.specs.Lines.{Written, IsCut, IsSilent, IsWhole}
 use Rattle.tcc_cli.specs.Lists.{IsListFault}
+use Rattle.tcc_cli.specs.Refusals.{End}
 use Rattle.tcc_cli.specs.Schedules.{HasOtherSettings, IsScheduleFault, RecordsOne}
 use Rattle.tcc_cli.specs.declared.refusal.Refusal.{Refusal}
-use Rattle.tcc_cli.specs.declared.refusal.Refusal.TheVariants.{Schedule, Store, Memory}
+use Rattle.tcc_cli.specs.declared.refusal.Refusal.TheVariants.{Schedule, Store, Output, Memory}
 use Rattle.tcc_msg.specs.declared.event.Event.{Event}
 use Rattle.tcc_replay.specs.declared.replaying.ReplayFault.{ReplayFault}
 use Rattle.tcc_replay.specs.declared.replaying.ReplayFault.TheVariants as replay
 use Rattle.tcc_words.specs.declared.command.Command.{Command}
+use Rattle.tcc_words.specs.declared.command.Command.TheVariants.{Look}
+use Rattle.tcc_words.specs.declared.command.View.{View}
+use Rattle.tcc_words.specs.declared.command.View.TheVariants.{Trace}
 use Rattle.tcc_world.specs.Faults.{Rose}
 
 -- what faults of a text and of a replay are to the program; event i stands on line i + 3
@@ -58,8 +63,26 @@ abbrev pub IsRunStopped : (IsSchedule : List Event → Type 0) → Settings → 
 IsRunStopped IsSchedule settings keep f Memory = IsUntouched f ⊎ RecordsOne IsSchedule settings keep f.tells f.after
 IsRunStopped IsSchedule settings keep f other = IsNotWritten keep f other
 
+-- a text that is written when it is made, as a trace isn't
+abbrev pub IsUntraced : View → Type 0
+IsUntraced (Trace from to states) = ⊥
+IsUntraced _ = Unit {0}
+
+abbrev pub IsPrinted : Command → Type 0
+IsPrinted (Look machine images source view) = IsUntraced view
+IsPrinted _ = Unit {0}
+
 -- a command stops before its text is made
 abbrev pub IsStopped : Command → (files : List (List ℕ)) → FilesAround → Refusal → Type 0
 IsStopped c files f (Schedule line) = IsFaultyLine c files line × IsUntouched f
 IsStopped c files f Memory = IsUntouched f ⊎ HasRecorded c files f.tells f.after
 IsStopped c files f other = IsNotWritten (record_of c) f other
+
+-- how a command ended that had these files, and what was written
+abbrev pub Tells : Command → (files : List (List ℕ)) → FilesAround → Written → End → Type 0
+Tells c files f o (Ok done) = (text : List ℕ) × Comes c files f.tells f.after done text × IsWhole text o
+Tells c files f o (Err Output) =
+    ((done : Bool) × (text : List ℕ) × Comes c files f.tells f.after done text × IsCut text o)
+    ⊎ (HasBegun c files o × Rose o.faults_before o.faults_after × IsUntouched f)
+Tells c files f o (Err Memory) = (IsStopped c files f Memory × IsSilent o) ⊎ (HasBegun c files o × IsUntouched f)
+Tells c files f o (Err other) = IsStopped c files f other × IsSilent o

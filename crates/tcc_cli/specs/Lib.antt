@@ -5,6 +5,7 @@ pub mod Failing
 pub mod Images
 pub mod Laws
 pub mod Lines
+pub mod Looks
 pub mod Lists
 pub mod OnBus
 pub mod Phased

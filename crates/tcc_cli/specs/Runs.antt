@@ -27,10 +27,14 @@ IsRun s es h = run s.settings (program s) (world_at_start s) es ≡ Some h
 
 -- A run of the rules. The headline: its commits are a serial execution of the plain machine, and what is committed is that machine
 -- after them. `done` is whether every core has halted, nothing is in flight and no frame has a dirty word.
-pub record RunsTo (s : Start) (es : List Event) (done : Bool) (h : History) : Type 0 where
-  pub is_run : IsRun s (map event_of es) h
+pub record RunsBy (s : Start) (es : List rules.Event) (done : Bool) (h : History) : Type 0 where
+  pub is_run : IsRun s es h
   pub is_done : IsTrue done ↔ IsDone s.settings h.world
   pub serial : IsSerial s h
+
+-- by the events of a schedule
+abbrev pub RunsTo : Start → List Event → Bool → History → Type 0
+RunsTo s es done h = RunsBy s (map event_of es) done h
 
 -- what is committed, as the plain machine that executed the commits
 abbrev pub shown : Start → History → Shown

@@ -55,9 +55,12 @@ pub record Ran (s : Start) (IsSchedule : List Event → Type 0) (text_of_end : B
   pub text_is : text ≡ text_of_end done (length events) ends
 
 -- the line at which a schedule is refused: the first that the grammar doesn't allow, or the second where its settings aren't the
--- command's, or that of the first event that isn't enabled at its turn
-abbrev pub IsScheduleFault : Start → Settings → (bytes : List ℕ) → (line : ℕ) → Type 0
-IsScheduleFault s settings bytes line =
+-- command's, or that of the first event that isn't enabled at its turn, where this part of its events is taken
+abbrev pub IsFaultOf : (part : List Event → List Event) → Start → Settings → (bytes : List ℕ) → (line : ℕ) → Type 0
+IsFaultOf part s settings bytes line =
     IsFirstFault line bytes
     ⊎ ((line ≡ 2) × HasOtherSettings settings bytes)
-    ⊎ ((es : List Event) × (i : ℕ) × IsScheduleOf settings es bytes × IsRefusedAt s es i × (line ≡ i + 3))
+    ⊎ ((es : List Event) × (i : ℕ) × IsScheduleOf settings es bytes × IsRefusedAt s (part es) i × (line ≡ i + 3))
+
+abbrev pub IsScheduleFault : Start → Settings → (bytes : List ℕ) → (line : ℕ) → Type 0
+IsScheduleFault s settings bytes line = IsFaultOf (λ es. es) s settings bytes line

@@ -1,7 +1,7 @@
 -- What the program's answers say: how the call ended, its cause, and what was written.
 use Rattle.std.specs.Prelude.{ℕ, Bool, List, ◌≡◌, ◌≢◌, ◌⊎◌, Some, None, Ok, Err}
 use Rattle.tcc_cli.specs.Around.{Around, IsUntouched}
-use Rattle.tcc_cli.specs.Comes.{Comes, HasRecorded, IsFaultyLine}
+use Rattle.tcc_cli.specs.Comes.{Comes, HasBegun, HasRecorded, IsFaultyLine}
 use Rattle.tcc_cli.specs.Commands.{fault_from, files_of, record_of}
 use Rattle.tcc_cli.specs.Lines.{Written, IsTold, IsCut, IsWhole, IsSilent}
 use Rattle.tcc_cli.specs.Reading.{AreGiven, FailedFirst}
@@ -29,7 +29,11 @@ FailedToWrite c w name =
     ((files : List (List ℕ)) × Started c w files) × (record_of c ≡ Some name)
     × Rose (w.files.writes_before name) (w.files.writes_after name)
 
--- how a command ends, and why; where memory ran out, no contents have changed, or the record is whole
+-- a trace broke off
+abbrev pub HasWrittenPart : Command → Around → Type 0
+HasWrittenPart c w = ((files : List (List ℕ)) × Started c w files × HasBegun c files w.out) × IsUntouched w.files
+
+-- how a command ends, and why; where memory ran out, no contents have changed, or the record is whole; a trace may have been begun
 abbrev pub EndsOf : Command → Around → End → Type 0
 EndsOf c w (Ok done) =
     (files : List (List ℕ)) × (text : List ℕ) × Started c w files × Comes c files w.files.tells w.files.after done text × IsWhole text w.out
@@ -42,11 +46,13 @@ EndsOf c w (Err (why.Schedule line)) =
     ((files : List (List ℕ)) × Started c w files × IsFaultyLine c files line) × IsUntouched w.files × IsSilent w.out
 EndsOf c w (Err (why.Store name)) = (FailedToRead c w name.now ⊎ FailedToWrite c w name.now) × IsSilent w.out
 EndsOf c w (Err why.Output) =
-    (files : List (List ℕ)) × (done : Bool) × (text : List ℕ) × Started c w files
-    × Comes c files w.files.tells w.files.after done text × IsCut text w.out
+    ((files : List (List ℕ)) × (done : Bool) × (text : List ℕ) × Started c w files
+    × Comes c files w.files.tells w.files.after done text × IsCut text w.out)
+    ⊎ (HasWrittenPart c w × Rose w.out.faults_before w.out.faults_after)
 EndsOf c w (Err why.Memory) =
-    (IsUntouched w.files ⊎ ((files : List (List ℕ)) × Started c w files × HasRecorded c files w.files.tells w.files.after))
-    × IsSilent w.out
+    ((IsUntouched w.files ⊎ ((files : List (List ℕ)) × Started c w files × HasRecorded c files w.files.tells w.files.after))
+    × IsSilent w.out)
+    ⊎ HasWrittenPart c w
 
 -- words that are no command are refused; they may not have been read for want of memory
 abbrev pub IsTurnedAway : List (List ℕ) → End → Type 0

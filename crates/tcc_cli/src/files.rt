@@ -6,7 +6,7 @@ ghost use Rattle.tcc_cli.specs.Reading.{AreGiven, RefusedFiles};
 use crate::refusal::Refusal;
 use std::alloc::Global;
 use tcc_base::{List, NoMemory, Text};
-use tcc_words::Command;
+use tcc_words::{Command, Source};
 use tcc_world::{Store, StoreError};
 
 /// The name of the schedule or list.
@@ -19,10 +19,15 @@ fn first_name(command: &Command) -> Option<&str>
             Some(schedule.items.as_str())
         }
         Command::Serial { list, .. } => Some(list.items.as_str()),
+        Command::Look {
+            source: Source::Schedule(schedule),
+            ..
+        } => Some(schedule.items.as_str()),
         Command::Run { .. }
         | Command::Trial { .. }
         | Command::Phases { .. }
-        | Command::Bus { .. } => None,
+        | Command::Bus { .. }
+        | Command::Look { .. } => None,
     }
 }
 
@@ -36,7 +41,8 @@ fn image_names(command: &Command) -> &[Text]
         | Command::Serial { images, .. }
         | Command::Why { images, .. }
         | Command::Phases { images, .. }
-        | Command::Bus { images, .. } => &images.items,
+        | Command::Bus { images, .. }
+        | Command::Look { images, .. } => &images.items,
         Command::Trial { .. } => &[],
     }
 }

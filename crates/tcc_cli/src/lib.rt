@@ -6,6 +6,7 @@ mod images;
 mod laid;
 mod laws;
 mod lists;
+mod looks;
 mod on_bus;
 mod phases;
 mod process;
@@ -16,6 +17,7 @@ mod running;
 mod schedules;
 mod status;
 mod top;
+mod traces;
 
 pub use laws::{answers_are_complete, open_runs_take_all_events, replays_print_the_same};
 pub use process::tcc_process;

@@ -2,6 +2,7 @@
 ghost use Rattle.std.specs.Prelude.{◌≡◌, ◌≤◌, [], IfErr, IfOk, IfSome, length, map};
 ghost use Rattle.image_load.specs.Contents.{started};
 ghost use Rattle.tcc_cli.specs.Failing.{HasLine, IsReadFault, IsScheduleRefused, replay_refusal, text_refusal};
+ghost use Rattle.tcc_cli.specs.Looks.{AreFirst, IsFirstRefused};
 ghost use Rattle.tcc_cli.specs.Runs.{picked_by};
 ghost use Rattle.tcc_cli.specs.Schedules.{IsMade, IsScheduleOf};
 ghost use Rattle.tcc_msg.specs.Plain.{event_of};
@@ -110,6 +111,32 @@ fn of_replay<'a>(fault: ReplayFault) -> Refusal<'a>
     match fault {
         ReplayFault::Refused(i) => Refusal::Schedule(i + 3),
         ReplayFault::Memory => Refusal::Memory,
+    }
+}
+
+/// The machine after the first events of the schedule that a file holds, at most so many; or the line at which it is refused.
+pub fn run_first<'a>(
+    alloc: Global,
+    loaded: &Loaded,
+    config: &Config,
+    bytes: &[u8],
+    most: u64,
+) -> Result<Refined, Refusal<'a>>
+    requires { loaded.now.settings ≡ config.now }
+    ensures code { IfOk result (λ r. r.machine.cores.code ≡ loaded.now) }
+    ensures first { IfOk result (λ r. AreFirst config.now bytes.now most (map event_of r.taken)) }
+    ensures few { IfOk result (λ r. length r.taken ≤ 4194304) }
+    ensures settled { IfOk result (λ r. r.machine.unsent ≡ []) }
+    ensures refused { IfErr result (IsFirstRefused (started loaded.now) config.now bytes.now most) }
+{
+    let mut schedule = match schedule_in(alloc, config, bytes) {
+        Ok(schedule) => schedule,
+        Err(fault) => return Err(of_text(fault)),
+    };
+    schedule.events.items.truncate(most as usize);
+    match replay(alloc, loaded, &schedule.events.items) {
+        Ok(refined) => Ok(refined),
+        Err(fault) => Err(of_replay(fault)),
     }
 }
 

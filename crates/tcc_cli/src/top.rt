@@ -3,7 +3,7 @@ ghost use Rattle.std.specs.Prelude.{◌≡◌, ◌≢◌, ℕ, List as Seq, leng
 ghost use Rattle.std.specs.String.{string_bytes};
 ghost use Rattle.image_load.specs.Contents.{started};
 ghost use Rattle.tcc_cli.specs.Commands.{fault_from, files_of, machine_of, record_of, start_from};
-ghost use Rattle.tcc_cli.specs.Failing.{IsStopped};
+ghost use Rattle.tcc_cli.specs.Failing.{IsPrinted, IsStopped, Tells};
 ghost use Rattle.tcc_cli.specs.Lines.{IsWhole, IsCut};
 ghost use Rattle.tcc_cli.specs.Reading.{RefusedImages};
 ghost use Rattle.tcc_cli.specs.Comes.{Comes};
@@ -13,19 +13,22 @@ ghost use Rattle.tcc_words.specs.Bounds.{IsInBounds};
 use crate::files::{names, read_files};
 use crate::images::{bytes, load_files};
 use crate::lists::execute;
+use crate::looks::{look_by_schedule, look_by_seed};
 use crate::on_bus::run_on_bus;
 use crate::refusal::{Refusal, refuse};
 use crate::reports::Finished;
 use crate::running::{run_again, run_and_tell, run_phased, run_recorded, run_trial};
 use crate::schedules::RunPlan;
 use crate::status::Status;
+use crate::traces::{trace_by_schedule, trace_by_seed};
 use image_load::Loaded;
 use std::alloc::Global;
 use std::sync::Wait;
 use std::thread::Threads;
 use tcc_base::{List, NoMemory};
-use tcc_words::{Command, commands_are_in_bounds, settings};
+use tcc_words::{Command, Source, View, commands_are_in_bounds, settings};
 use tcc_world::{Gate, Sink, SinkFailed, Store, write_all};
+use watch_run::Shown;
 use work_gen::workload;
 
 /// Does what the words ask for, and answers how that ended.
@@ -35,20 +38,23 @@ use work_gen::workload;
 /// report; `serial [..] REPORT IMAGE..` executes the commits that a report lists on the plain machine and writes its report; `trial [..]
 /// KIND NUMBER` runs a workload and writes a summary; `why [..] SCHEDULE IMAGE..` runs the schedule of a file whole and writes why each
 /// message waits that is in flight then, and what can happen next; `phases [..] IMAGE..` runs images as `run` does by a seed, but holds
-/// back the requests of later phases, and writes the phase of each commit and then the report; `bus [..] IMAGE..` runs images on the machine
-/// with one bus for at most so many events that a seed picks, and writes its report.
+/// back the requests of later phases, and writes the phase of each commit and then the report; `bus [..] IMAGE..` runs images on the
+/// machine with one bus for at most so many events that a seed picks, and writes its report; `trace [..] IMAGE..` writes what each event of
+/// a run does while it goes on, with `--states` also which records it changes, `count [..] IMAGE..` how often what happened in it, and
+/// `state [..] IMAGE..` the state after it: a run as `run` makes it by a seed, or by the schedule of a file.
 ///
-/// `Done`: at the end every core has halted, nothing is in flight (no packet on the bus) and no frame has a dirty word, or the list ran to
-/// its end. `Stopped`: the
-/// machine isn't done; a run has then taken all the events that were asked for. With both the whole text was written. `Words`: the words
-/// are no command, or a value isn't allowed. `Image`: the files were read, and one isn't an image. `Schedule`: the schedule or list isn't
-/// in its grammar, has other settings than the command's, or can't be run to its end. `StoreFault`: a file wasn't read, and this is the
-/// first, or the record wasn't written. `SinkFault`: `out` failed, after a first part of the text. `Memory`: there wasn't enough memory; no
-/// clause says that memory was short. The record is then as it was, or whole, with the schedule of the run.
+/// `Done`: at the end every core has halted, nothing is in flight (no packet on the bus) and no frame has a dirty word, or the list ran
+/// to its end. `Stopped`: the machine isn't done; a run has then taken all the events that were asked for. With both the whole text was
+/// written. `Words`: the words are no command, or a value isn't allowed. `Image`: the files were read, and one isn't an image.
+/// `Schedule`: the schedule or list isn't in its grammar, has other settings than the command's, or can't be run to its end.
+/// `StoreFault`: a file wasn't read, and this is the first, or the record wasn't written. `SinkFault`: `out` failed, after a first part
+/// of the text. `Memory`: there wasn't enough memory; no clause says that memory was short. The record is then as it was, or whole, with
+/// the schedule of the run; of a trace a first part may have been written.
 ///
 /// Refusals come in this order: words, files that aren't read (the schedule or list first, then the images), images, the schedule or list,
-/// the record, the output. Nothing is written to `out` with a refusal but `SinkFault`. A refusal writes its line to `err`, as far as `err`
-/// takes it; nothing else is written there. Of the contents that `files` tells none changes but the record's.
+/// the record, the output. Nothing is written to `out` with a refusal but `SinkFault`, and of a trace with `Memory`. A refusal writes its
+/// line to `err`, as far as `err` takes it; nothing else is written there. Of the contents that `files` tells none changes but the
+/// record's.
 ///
 /// With `--threads` it starts so many threads, and may wait for them and for the locks that they share: that it returns then isn't proved.
 /// Each passes the gate before each of its turns. Without `--threads` it waits for nobody.
@@ -136,14 +142,7 @@ fn carry_out<'a, R: Threads + Wait + Sync, F: Store, O: Sink, G: Gate + Sync>(
         Ok(loaded) => loaded,
         Err(refusal) => return Err(refusal),
     };
-    let finished = match finish(rt, alloc, command, &loaded, &read, files, gate) {
-        Ok(finished) => finished,
-        Err(refusal) => return Err(refusal),
-    };
-    match show(&finished, out) {
-        Ok(done) => Ok(done),
-        Err(SinkFailed) => Err(Refusal::Output),
-    }
+    tell(rt, alloc, command, &loaded, &read, files, out, gate)
 }
 
 /// The memory from which a command's machine starts, where its files have these bytes; or the first image that is refused.
@@ -158,12 +157,20 @@ fn load<'a>(alloc: Global, command: &Command, read: &[List<u8>]) -> Result<Loade
     match command {
         Command::Run { machine, .. }
         | Command::Phases { machine, .. }
-        | Command::Bus { machine, .. } => load_files(alloc, machine.raw, &machine.config, read),
+        | Command::Bus { machine, .. }
+        | Command::Look {
+            machine,
+            source: Source::Seed { .. },
+            ..
+        } => load_files(alloc, machine.raw, &machine.config, read),
         Command::Replay { machine, .. }
         | Command::Serial { machine, .. }
-        | Command::Why { machine, .. } => {
-            load_files(alloc, machine.raw, &machine.config, &read[1..])
-        }
+        | Command::Why { machine, .. }
+        | Command::Look {
+            machine,
+            source: Source::Schedule(_),
+            ..
+        } => { load_files(alloc, machine.raw, &machine.config, &read[1..]) }
         Command::Trial {
             config,
             work,
@@ -173,6 +180,123 @@ fn load<'a>(alloc: Global, command: &Command, read: &[List<u8>]) -> Result<Loade
             Ok(items) => load_files(alloc, true, config, &[List { items }]),
             Err(NoMemory) => Err(Refusal::Memory),
         },
+    }
+}
+
+/// Runs what a command asks for from what was loaded, and writes the record and the text: whether it tells of an end.
+fn tell<'a, R: Threads + Wait + Sync, F: Store, O: Sink, G: Gate + Sync>(
+    rt: &R,
+    alloc: Global,
+    command: &'a Command,
+    loaded: &Loaded,
+    read: &[List<u8>],
+    files: &mut F,
+    out: &mut O,
+    gate: &G,
+) -> Result<bool, Refusal<'a>>
+    requires bounds { IsInBounds command.now }
+    requires count { length read.now ≡ length (files_of command.now) }
+    requires start { started loaded.now ≡ start_from command.now read.now }
+    requires settings { loaded.now.settings ≡ (machine_of command.now).config }
+    ensures tells { Tells command.now read.now
+        (record {
+          tells = F.tells files.old;
+          before = F.contents files.old;
+          after = F.contents files.new;
+          reads_before = F.failed_reads files.old;
+          reads_after = F.failed_reads files.new;
+          writes_before = F.failed_writes files.old;
+          writes_after = F.failed_writes files.new;
+        })
+        (record {
+          before = O.bytes out.old;
+          after = O.bytes out.new;
+          faults_before = O.faults out.old;
+          faults_after = O.faults out.new;
+        })
+        result }
+    ensures others { (n : Seq ℕ) → record_of command.now ≢ Some n → F.contents files.new n ≡ F.contents files.old n }
+{
+    match command {
+        Command::Look {
+            source: Source::Seed { steps, seed },
+            view: View::Trace { from, to, states },
+            ..
+        } => trace_by_seed(
+            alloc,
+            loaded,
+            *seed,
+            *steps,
+            Shown {
+                from: *from,
+                states: *states,
+            },
+            *to,
+            out,
+        ),
+        Command::Look {
+            machine,
+            source: Source::Schedule(_),
+            view: View::Trace { from, to, states },
+            ..
+        } => trace_by_schedule(
+            alloc,
+            loaded,
+            &machine.config,
+            bytes(&read[0]),
+            Shown {
+                from: *from,
+                states: *states,
+            },
+            *to,
+            out,
+        ),
+        _ => print(rt, alloc, command, loaded, read, files, out, gate),
+    }
+}
+
+/// Runs what a command asks for whose text is written when it is made.
+fn print<'a, R: Threads + Wait + Sync, F: Store, O: Sink, G: Gate + Sync>(
+    rt: &R,
+    alloc: Global,
+    command: &'a Command,
+    loaded: &Loaded,
+    read: &[List<u8>],
+    files: &mut F,
+    out: &mut O,
+    gate: &G,
+) -> Result<bool, Refusal<'a>>
+    requires printed { IsPrinted command.now }
+    requires bounds { IsInBounds command.now }
+    requires count { length read.now ≡ length (files_of command.now) }
+    requires start { started loaded.now ≡ start_from command.now read.now }
+    requires settings { loaded.now.settings ≡ (machine_of command.now).config }
+    ensures tells { Tells command.now read.now
+        (record {
+          tells = F.tells files.old;
+          before = F.contents files.old;
+          after = F.contents files.new;
+          reads_before = F.failed_reads files.old;
+          reads_after = F.failed_reads files.new;
+          writes_before = F.failed_writes files.old;
+          writes_after = F.failed_writes files.new;
+        })
+        (record {
+          before = O.bytes out.old;
+          after = O.bytes out.new;
+          faults_before = O.faults out.old;
+          faults_after = O.faults out.new;
+        })
+        result }
+    ensures others { (n : Seq ℕ) → record_of command.now ≢ Some n → F.contents files.new n ≡ F.contents files.old n }
+{
+    let finished = match finish(rt, alloc, command, loaded, read, files, gate) {
+        Ok(finished) => finished,
+        Err(refusal) => return Err(refusal),
+    };
+    match show(&finished, out) {
+        Ok(done) => Ok(done),
+        Err(SinkFailed) => Err(Refusal::Output),
     }
 }
 
@@ -186,6 +310,7 @@ fn finish<'a, R: Threads + Wait + Sync, F: Store, G: Gate + Sync>(
     files: &mut F,
     gate: &G,
 ) -> Result<Finished, Refusal<'a>>
+    requires printed { IsPrinted command.now }
     requires bounds { IsInBounds command.now }
     requires count { length read.now ≡ length (files_of command.now) }
     requires start { started loaded.now ≡ start_from command.now read.now }
@@ -250,6 +375,20 @@ fn finish<'a, R: Threads + Wait + Sync, F: Store, G: Gate + Sync>(
             Ok(finished) => Ok(finished),
             Err(NoMemory) => Err(Refusal::Memory),
         },
+        Command::Look {
+            source: Source::Seed { steps, seed },
+            view,
+            ..
+        } => match look_by_seed(alloc, loaded, *seed, *steps, *view) {
+            Ok(finished) => Ok(finished),
+            Err(NoMemory) => Err(Refusal::Memory),
+        },
+        Command::Look {
+            machine,
+            source: Source::Schedule(_),
+            view,
+            ..
+        } => look_by_schedule(alloc, loaded, &machine.config, bytes(&read[0]), *view),
     }
 }
 

@@ -37,7 +37,7 @@ unfolding picked first_words
 picks-first k g m = refl
 
 -- no event is useful
-picks-none : (k : ℕ) (g : Lcg) (m : Machine) → chosen_at g m ≡ None → picks (suc k) g m ≡ []
+pub picks-none : (k : ℕ) (g : Lcg) (m : Machine) → chosen_at g m ≡ None → picks (suc k) g m ≡ []
 picks-none k g m e = picks-first k g m
     ∙ ap (pick (settings_of m) (program_of m) (world_of m) (picked (settings_of m) (program_of m) (words k (pcg32 g).1))) e
 
@@ -51,7 +51,7 @@ leads-to h (Some s) g rest e = ap rest (ap (of s.world) e)
     of w None = w
     of w (Some g) = g.world
 
-picks-one : (k : ℕ) (g : Lcg) (m n : Machine) (e : Event) → chosen_at g m ≡ Some e
+pub picks-one : (k : ℕ) (g : Lcg) (m n : Machine) (e : Event) → chosen_at g m ≡ Some e
     → next_history (settings_of m) (program_of m) (history_of m) e ≡ Some (history_of n) → n.cores.code ≡ m.cores.code
     → picks (suc k) g m ≡ e ∷ picks k (pcg32 g).1 n
 unfolding next_history history_of
@@ -61,7 +61,7 @@ picks-one k g m n e c s code = picks-first k g m
     (record { world = world_of n; commits = n.commits }) (picked (settings_of m) (program_of m) (words k (pcg32 g).1)) s
     ∙ (λ i. picked (sym code i).settings (program (started (sym code i))) (words k (pcg32 g).1) (world_of n)))
 
-no-words : (g : Lcg) (m : Machine) (left : ℕ) → left ≡ 0 → picks left g m ≡ []
+pub no-words : (g : Lcg) (m : Machine) (left : ℕ) → left ≡ 0 → picks left g m ≡ []
 unfolding picked first_words
 no-words g m left e = ap (λ k. picks k g m) e
 

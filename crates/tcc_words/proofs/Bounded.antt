@@ -8,17 +8,22 @@ use Rattle.clap.specs.Words.{first_of, matches_of}
 use Rattle.tcc_base.specs.Settings.{Settings, IsAllowed}
 use Rattle.tcc_words.proofs.OneCommand.{one-value}
 use Rattle.tcc_words.proofs.Unasked.{IsApart, unasked}
-use Rattle.tcc_words.specs.Asked.{HasPlaces, HasSettings, IsCommand, MayBeGiven, Asks}
-use Rattle.tcc_words.specs.Bounds.{IsInBounds}
+use Rattle.tcc_words.specs.Asked.{AsksLook, AsksSource, AsksView, HasPlaces, HasSettings, IsCommand, MayBeGiven, Asks}
+use Rattle.tcc_words.specs.Bounds.{IsFew, IsInBounds, IsNear}
 use Rattle.tcc_words.specs.Grammar.{grammar}
 use Rattle.tcc_words.specs.Fields.{Allows, IsValue, images_of}
 use Rattle.tcc_words.specs.Numbers.{IsNumber}
 use Rattle.tcc_words.specs.declared.command.Command.{Command}
 use Rattle.tcc_words.specs.declared.command.Command.TheVariants as command
 use Rattle.tcc_words.specs.declared.command.Field.{Field}
-use Rattle.tcc_words.specs.declared.command.Field.TheVariants.{Cores, Dirs, Sets, Ways, Ram, Base, Steps, Threads, Images, Number}
+use Rattle.tcc_words.specs.declared.command.Field.TheVariants.{Cores, Dirs, Sets, Ways, Ram, Base, Steps, From, To, Events}
+use Rattle.tcc_words.specs.declared.command.Field.TheVariants.{Threads, Images, Number}
+use Rattle.tcc_words.specs.declared.command.Source.{Source}
+use Rattle.tcc_words.specs.declared.command.Source.TheVariants as source
 use Rattle.tcc_words.specs.declared.command.Verb.{Verb}
-use Rattle.tcc_words.specs.declared.command.Verb.TheVariants.{Run, Replay, Serial, Trial, Why, Phases, Bus}
+use Rattle.tcc_words.specs.declared.command.Verb.TheVariants.{Run, Replay, Serial, Trial, Why, Phases, Bus, Trace, Count, State}
+use Rattle.tcc_words.specs.declared.command.View.{View}
+use Rattle.tcc_words.specs.declared.command.View.TheVariants as view
 
 -- settings that stand in allowed fields are allowed
 allowed : (rows : List Row) (s : Settings) → HasSettings rows s → ((field : Field) → Allows rows field) → IsAllowed s
@@ -98,6 +103,31 @@ has-none : (verb : Verb) (words : List Text) (rows : List Row) → matches_of (g
 has-none Bus words rows read = subst (λ r. first_of (codes "dirs") r ≡ None) read (no-dirs words)
 has-none _ words rows read = tt
 
+source-few : (rows : List Row) (s : Source) → AsksSource rows s → ((field : Field) → Allows rows field) → IsFew s
+source-few rows (source.Seed steps seed) a every = steps-few rows steps a.1 every
+source-few rows (source.Schedule name) a every = tt
+
+number-near : (default : ℕ) (text : Option Text) (n : ℕ) → IsValue default text n → ((m : ℕ) × IsValue default text m × (m ≤ 4194304))
+    → n ≤ 4194304
+number-near default text n h a = subst (λ k. k ≤ 4194304) (one-value default text a.0 n a.1 h) a.2
+
+view-near : (verb : Verb) (rows : List Row) (v : View) → AsksView verb rows v → ((field : Field) → Allows rows field) → IsNear v
+view-near Trace rows (view.Trace from to states) a every = (
+  number-near 0 (first_of (codes "from") rows) from a.0 (every From),
+  number-near 4194304 (first_of (codes "to") rows) to a.1 (every To),
+)
+view-near Count rows (view.Count csv) a every = tt
+view-near State rows (view.State events) a every = number-near 4194304 (first_of (codes "events") rows) events a (every Events)
+view-near _ rows v a every = absurd a
+
+looking : (verb : Verb) (rows : List Row) (v : View) (c : Command) → 1 ≤ length (images_of rows)
+    → ((field : Field) → Allows rows field) → AsksLook rows v c → AsksView verb rows v → IsInBounds c
+looking verb rows v (command.Look machine images source view) places every a b =
+    let some = images-some rows images a.1 places every in
+    let near = subst IsNear (sym a.3) (view-near verb rows v b every) in
+    record { allowed = allowed rows machine.config a.0.0 every; numbers = (some.0, some.1, source-few rows source a.2 every, near) }
+looking verb rows v _ places every a b = absurd a
+
 bounded : (verb : Verb) (rows : List Row) (c : Command) → HasPlaces verb rows → HasNone verb rows → ((field : Field) → Allows rows field)
     → Asks verb rows c → IsInBounds c
 bounded Run rows (command.Run machine images steps seed threads keep) places none every a =
@@ -120,6 +150,9 @@ bounded Bus rows (command.Bus machine images steps seed) places none every a =
     let some = images-some rows images a.1 places every in
     let one = one-dir rows machine.config.dirs none a.0.0.dirs in
     record { allowed = allowed rows machine.config a.0.0 every; numbers = (some.0, some.1, steps-few rows steps a.2 every, one) }
+bounded Trace rows c places none every a = looking Trace rows a.0 c places.0 every a.1 a.2
+bounded Count rows c places none every a = looking Count rows a.0 c places.0 every a.1 a.2
+bounded State rows c places none every a = looking State rows a.0 c places.0 every a.1 a.2
 bounded Run rows _ places none every a = absurd a
 bounded Replay rows _ places none every a = absurd a
 bounded Serial rows _ places none every a = absurd a

@@ -7,7 +7,7 @@ use Rattle.tcc_base.specs.Settings.{Settings}
 use Rattle.work_gen.specs.Names.{work_word}
 use Rattle.work_gen.specs.declared.work.Work.{Work}
 use Rattle.work_gen.specs.declared.work.Work.TheVariants.{Counters, Transfers, Stencil, Sharing}
-use Rattle.tcc_words.specs.Asked.{Asks, HasMachine, HasSettings, IsGiven, MayBeGiven, Stands}
+use Rattle.tcc_words.specs.Asked.{Asks, AsksLook, AsksSource, AsksView, HasMachine, HasSettings, IsGiven, MayBeGiven, Stands}
 use Rattle.tcc_words.specs.Fields.{Allows, BreaksFirst, IsSaid, IsValue, default_of, field_word, order}
 use Rattle.tcc_words.specs.Grammar.{grammar}
 use Rattle.tcc_words.specs.Laws.{CommandsAreNotRefused, WordsAskForOneCommand}
@@ -15,10 +15,15 @@ use Rattle.tcc_words.specs.Numbers.{IsNumber}
 use Rattle.tcc_words.specs.declared.command.Command.{Command}
 use Rattle.tcc_words.specs.declared.command.Command.TheVariants as command
 use Rattle.tcc_words.specs.declared.command.Field.{Field}
-use Rattle.tcc_words.specs.declared.command.Field.TheVariants.{Cores, Dirs, Sets, Ways, Ram, Base, Steps, Seed}
+use Rattle.tcc_words.specs.declared.command.Field.TheVariants.{Cores, Dirs, Sets, Ways, Ram, Base, Steps, Seed, From, To}
+use Rattle.tcc_words.specs.declared.command.Field.TheVariants.{Events}
 use Rattle.tcc_words.specs.declared.command.Machine.{Machine}
+use Rattle.tcc_words.specs.declared.command.Source.{Source}
+use Rattle.tcc_words.specs.declared.command.Source.TheVariants as source
 use Rattle.tcc_words.specs.declared.command.Verb.{Verb}
-use Rattle.tcc_words.specs.declared.command.Verb.TheVariants.{Run, Replay, Serial, Trial, Why, Phases, Bus}
+use Rattle.tcc_words.specs.declared.command.Verb.TheVariants.{Run, Replay, Serial, Trial, Why, Phases, Bus, Trace, Count, State}
+use Rattle.tcc_words.specs.declared.command.View.{View}
+use Rattle.tcc_words.specs.declared.command.View.TheVariants as view
 use Rattle.tcc_words.specs.declared.command.WordsFault.TheVariants as fault
 use Rattle.tcc_words.proofs.Standing.{stands-verb}
 
@@ -164,6 +169,48 @@ one-bus rows (command.Bus m images steps seed) (command.Bus n images' steps' see
 one-bus rows (command.Bus m images steps seed) _ a b = absurd b
 one-bus rows _ d a b = absurd a
 
+one-source : (rows : List Row) (s t : Source) → AsksSource rows s → AsksSource rows t → s ≡ t
+one-source rows (source.Seed steps seed) (source.Seed steps' seed') a b =
+    let most = one-said rows Steps steps steps' a.1 b.1 in
+    let start = one-said rows Seed seed seed' a.2 b.2 in
+    λ i. source.Seed (most i) (start i)
+one-source rows (source.Seed steps seed) (source.Schedule name) a b = let none = a.0 in absurd cc
+one-source rows (source.Schedule name) (source.Seed steps seed) a b = let none = b.0 in absurd cc
+one-source rows (source.Schedule name) (source.Schedule other) a b =
+    let same : name ≡ other = one-some _ name other a b in
+    λ i. source.Schedule (same i)
+
+one-view : (verb : Verb) (rows : List Row) (v w : View) → AsksView verb rows v → AsksView verb rows w → v ≡ w
+one-view Trace rows (view.Trace from to states) (view.Trace from' to' states') a b =
+    let first = one-said rows From from from' a.0 b.0 in
+    let last = one-said rows To to to' a.1 b.1 in
+    let records = same-truth (first_of (codes "states") rows ≡ Some (codes "true")) states states' a.2 b.2 in
+    λ i. view.Trace (first i) (last i) (records i)
+one-view Count rows (view.Count csv) (view.Count csv') a b =
+    ap (λ (c : Bool). view.Count c) (same-truth (first_of (codes "csv") rows ≡ Some (codes "true")) csv csv' a b)
+one-view State rows (view.State events) (view.State events') a b =
+    ap (λ (n : ℕ). view.State n) (one-said rows Events events events' a b)
+one-view Trace rows (view.Trace from to states) _ a b = absurd b
+one-view Count rows (view.Count csv) _ a b = absurd b
+one-view State rows (view.State events) _ a b = absurd b
+one-view _ rows v w a b = absurd a
+
+one-look : (rows : List Row) (v : View) (c d : Command) → AsksLook rows v c → AsksLook rows v d → c ≡ d
+one-look rows v (command.Look m images source view) (command.Look n images' source' view') a b =
+    let machine = one-machine rows m n a.0 b.0 in
+    let files : images ≡ images' = a.1 ∙ sym b.1 in
+    let run = one-source rows source source' a.2 b.2 in
+    let same : view ≡ view' = a.3 ∙ sym b.3 in
+    λ i. command.Look (machine i) (files i) (run i) (same i)
+one-look rows v (command.Look m images source view) _ a b = absurd b
+one-look rows v _ d a b = absurd a
+
+one-looking : (verb : Verb) (rows : List Row) (c d : Command) → ((v : View) × AsksLook rows v c × AsksView verb rows v)
+    → ((v : View) × AsksLook rows v d × AsksView verb rows v) → c ≡ d
+one-looking verb rows c d a b =
+    let same : b.0 ≡ a.0 = one-view verb rows b.0 a.0 b.2 a.2 in
+    one-look rows a.0 c d a.1 (subst (λ v. AsksLook rows v d) same b.1)
+
 one-asked : (verb : Verb) (rows : List Row) (c d : Command) → Asks verb rows c → Asks verb rows d → c ≡ d
 one-asked Run rows c d a b = one-run rows c d a b
 one-asked Replay rows c d a b = one-replay rows c d a b
@@ -172,6 +219,9 @@ one-asked Trial rows c d a b = one-trial rows c d a b
 one-asked Why rows c d a b = one-why rows c d a b
 one-asked Phases rows c d a b = one-phases rows c d a b
 one-asked Bus rows c d a b = one-bus rows c d a b
+one-asked Trace rows c d a b = one-looking Trace rows c d a b
+one-asked Count rows c d a b = one-looking Count rows c d a b
+one-asked State rows c d a b = one-looking State rows c d a b
 
 -- what words stand for
 one-reading : (words : List Text) (v w : Verb) (r s : List Row) → Stands words v r → Stands words w s → (w ≡ v) × (s ≡ r)

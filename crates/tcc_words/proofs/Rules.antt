@@ -3,11 +3,11 @@ use Rattle.std.proofs.Common.{◌≡◌, true, List, [], ◌∷◌, ◌++◌, re
 use Rattle.clap.specs.Words.{App, Rule, Text, is_simple, with_rule}
 use Rattle.clap.specs.Faults.{is_simple_and_free}
 use Rattle.clap.specs.Simple.{on_top}
-use Rattle.tcc_words.specs.Grammar.{core_rules, event_rules, grammar, machine_rules, memory_rules, option, place, places, plain}
+use Rattle.tcc_words.specs.Grammar.{core_rules, event_rules, flag, grammar, machine_rules, memory_rules, option, place, places, plain}
 use Rattle.tcc_words.specs.Grammar.{node_rules, rules, verb_word}
-use Rattle.tcc_words.specs.Grammar.{file_rules, record_rules, with_rules}
+use Rattle.tcc_words.specs.Grammar.{file_rules, record_rules, source_rules, with_rules}
 use Rattle.tcc_words.specs.declared.command.Verb.{Verb}
-use Rattle.tcc_words.specs.declared.command.Verb.TheVariants.{Run, Replay, Serial, Trial, Why, Phases, Bus}
+use Rattle.tcc_words.specs.declared.command.Verb.TheVariants.{Run, Replay, Serial, Trial, Why, Phases, Bus, Trace, Count, State}
 
 put_rules : App → List Rule → App
 put_rules a rs = on_top (λ s. record s { rules = rs }) a
@@ -71,6 +71,25 @@ pub trial_made : (verb : Verb) (name : Text) (bare nodes events kind made : App)
 unfolding grammar
 trial_made verb name bare nodes events kind made v n e0 e1 e2 e3 e4 = rw (e4, e3, e2, e1, e0, n, v) refl
 
+pub trace_made : (verb : Verb) (name : Text) (bare source from to states made : App) → verb ≡ Trace → name ≡ verb_word verb
+    → bare ≡ plain name [] → source ≡ with_rules source_rules bare → from ≡ with_rule source (option (codes "from"))
+    → to ≡ with_rule from (option (codes "to")) → states ≡ with_rule to (flag (codes "states"))
+    → made ≡ with_rule states (places (codes "image")) → made ≡ grammar verb
+unfolding grammar
+trace_made verb name bare source from to states made v n e0 e1 e2 e3 e4 e5 = rw (e5, e4, e3, e2, e1, e0, n, v) refl
+
+pub count_made : (verb : Verb) (name : Text) (bare source csv made : App) → verb ≡ Count → name ≡ verb_word verb
+    → bare ≡ plain name [] → source ≡ with_rules source_rules bare → csv ≡ with_rule source (flag (codes "csv"))
+    → made ≡ with_rule csv (places (codes "image")) → made ≡ grammar verb
+unfolding grammar
+count_made verb name bare source csv made v n e0 e1 e2 e3 = rw (e3, e2, e1, e0, n, v) refl
+
+pub state_made : (verb : Verb) (name : Text) (bare source events made : App) → verb ≡ State → name ≡ verb_word verb
+    → bare ≡ plain name [] → source ≡ with_rules source_rules bare → events ≡ with_rule source (option (codes "events"))
+    → made ≡ with_rule events (places (codes "image")) → made ≡ grammar verb
+unfolding grammar
+state_made verb name bare source events made v n e0 e1 e2 e3 = rw (e3, e2, e1, e0, n, v) refl
+
 pub grammar-simple : (verb : Verb) → is_simple (grammar verb) ≡ true
 unfolding grammar
 grammar-simple Run = refl
@@ -80,6 +99,9 @@ grammar-simple Trial = refl
 grammar-simple Why = refl
 grammar-simple Phases = refl
 grammar-simple Bus = refl
+grammar-simple Trace = refl
+grammar-simple Count = refl
+grammar-simple State = refl
 
 pub grammar-free : (verb : Verb) → is_simple_and_free (grammar verb) ≡ true
 unfolding grammar
@@ -90,3 +112,6 @@ grammar-free Trial = refl
 grammar-free Why = refl
 grammar-free Phases = refl
 grammar-free Bus = refl
+grammar-free Trace = refl
+grammar-free Count = refl
+grammar-free State = refl

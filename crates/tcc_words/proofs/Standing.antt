@@ -1,5 +1,5 @@
 -- Words stand for one command at most.
-use Rattle.std.proofs.Common.{◌≡◌, ℕ, ◌==◌, if◌then◌else◌, List, [], ◌∷◌, Some, map, get_or, refl, sym, ap, subst, ◌∙◌}
+use Rattle.std.proofs.Common.{◌≡◌, ℕ, ◌+◌, ◌*◌, ◌==◌, if◌then◌else◌, List, [], ◌∷◌, Some, map, get_or, refl, sym, ap, subst, ◌∙◌}
 use Rattle.std.specs.Prelude.{option_map, slice_get}
 use Rattle.std.specs.Borrow.{Bor}
 use Rattle.clap.specs.Faults.{fault_of}
@@ -10,16 +10,17 @@ use Rattle.tcc_words.specs.Grammar.{IsRefusal, grammar, verb_word}
 use Rattle.tcc_words.specs.declared.command.WordsFault.{WordsFault}
 use Rattle.tcc_words.specs.declared.command.WordsFault.TheVariants as fault
 use Rattle.tcc_words.specs.declared.command.Verb.{Verb}
-use Rattle.tcc_words.specs.declared.command.Verb.TheVariants.{Run, Replay, Serial, Trial, Why, Phases, Bus}
+use Rattle.tcc_words.specs.declared.command.Verb.TheVariants.{Run, Replay, Serial, Trial, Why, Phases, Bus, Trace, Count, State}
 
--- the names of commands differ in their third letters
+-- a number by which the names of commands differ
 tag : Text → ℕ
-tag text = get_or text 2 0
+tag text = 4 * get_or text 0 0 + get_or text 2 0
 
 tagged : ℕ → Verb
 tagged n =
-    if n == 110 then Run else if n == 112 then Replay else if n == 114 then Serial else if n == 105 then Trial
-    else if n == 121 then Why else if n == 97 then Phases else Bus
+    if n == 566 then Run else if n == 568 then Replay else if n == 574 then Serial else if n == 569 then Trial
+    else if n == 597 then Why else if n == 545 then Phases else if n == 507 then Bus else if n == 561 then Trace
+    else if n == 513 then Count else State
 
 tagged-again : (v : Verb) → tagged (tag (verb_word v)) ≡ v
 unfolding tag tagged
@@ -30,6 +31,9 @@ tagged-again Trial = refl
 tagged-again Why = refl
 tagged-again Phases = refl
 tagged-again Bus = refl
+tagged-again Trace = refl
+tagged-again Count = refl
+tagged-again State = refl
 
 verb-same : (v w : Verb) → verb_word v ≡ verb_word w → v ≡ w
 verb-same v w e = sym (tagged-again v) ∙ ap (λ (text : Text). tagged (tag text)) e ∙ tagged-again w

@@ -13,14 +13,24 @@ use Rattle.tcc_words.specs.declared.fields.Values.{Values}
 use Rattle.tcc_words.specs.declared.command.Command.{Command}
 use Rattle.tcc_words.specs.declared.command.Command.TheVariants as command
 use Rattle.tcc_words.specs.declared.command.Field.{Field}
-use Rattle.tcc_words.specs.declared.command.Field.TheVariants.{Cores, Dirs, Sets, Ways, Ram, Base, Steps, Seed}
+use Rattle.tcc_words.specs.declared.command.Field.TheVariants.{Cores, Dirs, Sets, Ways, Ram, Base, Steps, Seed, From, To}
+use Rattle.tcc_words.specs.declared.command.Field.TheVariants.{Events}
 use Rattle.tcc_words.specs.declared.command.Machine.{Machine}
+use Rattle.tcc_words.specs.declared.command.Source.{Source}
+use Rattle.tcc_words.specs.declared.command.Source.TheVariants as source
 use Rattle.tcc_words.specs.declared.command.Verb.{Verb}
-use Rattle.tcc_words.specs.declared.command.Verb.TheVariants.{Run, Replay, Serial, Trial, Why, Phases, Bus}
+use Rattle.tcc_words.specs.declared.command.Verb.TheVariants.{Run, Replay, Serial, Trial, Why, Phases, Bus, Trace, Count, State}
+use Rattle.tcc_words.specs.declared.command.View.{View}
+use Rattle.tcc_words.specs.declared.command.View.TheVariants as view
 use Rattle.tcc_words.specs.declared.command.WordsFault.{WordsFault}
 use Rattle.tcc_words.specs.declared.command.WordsFault.TheVariants as fault
 
--- each place of the command has its word
+-- a schedule stands with neither a number of events nor a seed
+abbrev pub GoTogether : List Row → Type 0
+GoTogether rows = IsSome (first_of (codes "schedule") rows)
+    → (first_of (codes "steps") rows ≡ None) × (first_of (codes "seed") rows ≡ None)
+
+-- each place of the command has its word, and its options go together
 abbrev pub HasPlaces : Verb → List Row → Type 0
 HasPlaces Run rows = 1 ≤ length (images_of rows)
 HasPlaces Replay rows = IsSome (first_of (codes "schedule") rows) × (1 ≤ length (images_of rows))
@@ -29,6 +39,9 @@ HasPlaces Trial rows = IsSome (first_of (codes "kind") rows) × IsSome (first_of
 HasPlaces Why rows = IsSome (first_of (codes "schedule") rows) × (1 ≤ length (images_of rows))
 HasPlaces Phases rows = 1 ≤ length (images_of rows)
 HasPlaces Bus rows = 1 ≤ length (images_of rows)
+HasPlaces Trace rows = (1 ≤ length (images_of rows)) × GoTogether rows
+HasPlaces Count rows = (1 ≤ length (images_of rows)) × GoTogether rows
+HasPlaces State rows = (1 ≤ length (images_of rows)) × GoTogether rows
 
 -- the first word names a command, and clap takes the words after it; these are the options and places that it reads
 pub record Stands (words : List Text) (verb : Verb) (rows : List Row) : Type 0 where
@@ -61,6 +74,26 @@ MayBeGiven rows name n = MatchOption n (first_of name rows ≡ None) (IsGiven ro
 abbrev pub HasWork : List Row → Option Work → Type 0
 HasWork rows work = first_of (codes "kind") rows ≡ option_map work_word work
 
+-- the run that is looked at
+abbrev pub AsksSource : List Row → Source → Type 0
+AsksSource rows (source.Seed steps seed) =
+    (first_of (codes "schedule") rows ≡ None) × IsSaid rows Steps steps × IsSaid rows Seed seed
+AsksSource rows (source.Schedule name) = first_of (codes "schedule") rows ≡ Some name
+
+-- a command that looks so
+abbrev pub AsksLook : List Row → View → Command → Type 0
+AsksLook rows v (command.Look machine images source view) =
+    HasMachine rows machine × (images ≡ images_of rows) × AsksSource rows source × (view ≡ v)
+AsksLook rows v _ = ⊥
+
+-- what is told of the run
+abbrev pub AsksView : Verb → List Row → View → Type 0
+AsksView Trace rows (view.Trace from to states) =
+    IsSaid rows From from × IsSaid rows To to × (IsTrue states ↔ (first_of (codes "states") rows ≡ Some (codes "true")))
+AsksView Count rows (view.Count csv) = IsTrue csv ↔ (first_of (codes "csv") rows ≡ Some (codes "true"))
+AsksView State rows (view.State events) = IsSaid rows Events events
+AsksView _ rows v = ⊥
+
 -- the command that is asked for
 abbrev pub Asks : Verb → List Row → Command → Type 0
 Asks Run rows (command.Run machine images steps seed threads keep) =
@@ -80,6 +113,9 @@ Asks Phases rows (command.Phases machine images steps seed keep) =
     × (keep ≡ first_of (codes "record") rows)
 Asks Bus rows (command.Bus machine images steps seed) =
     HasMachine rows machine × (images ≡ images_of rows) × IsSaid rows Steps steps × IsSaid rows Seed seed
+Asks Trace rows c = (v : View) × AsksLook rows v c × AsksView Trace rows v
+Asks Count rows c = (v : View) × AsksLook rows v c × AsksView Count rows v
+Asks State rows c = (v : View) × AsksLook rows v c × AsksView State rows v
 Asks _ _ _ = ⊥
 
 -- what stands in the fields, where all of it is allowed
@@ -87,6 +123,9 @@ pub record HasValues (rows : List Row) (v : Values) : Type 0 where
   pub settings : HasSettings rows v.config
   pub steps : IsSaid rows Steps v.steps
   pub seed : IsSaid rows Seed v.seed
+  pub from : IsSaid rows From v.from
+  pub to : IsSaid rows To v.to
+  pub events : IsSaid rows Events v.events
   pub threads : MayBeGiven rows (codes "threads") v.threads
   pub work : HasWork rows v.work
   pub number : MayBeGiven rows (codes "number") v.number

@@ -4,7 +4,11 @@ use Rattle.clap.specs.Words.{Text}
 use Rattle.tcc_base.specs.Settings.{Settings, IsAllowed}
 use Rattle.tcc_words.specs.Asked.{IsCommand}
 use Rattle.tcc_words.specs.declared.command.Command.{Command}
-use Rattle.tcc_words.specs.declared.command.Command.TheVariants.{Run, Replay, Serial, Trial, Why, Phases, Bus}
+use Rattle.tcc_words.specs.declared.command.Command.TheVariants.{Run, Replay, Serial, Trial, Why, Phases, Bus, Look}
+use Rattle.tcc_words.specs.declared.command.Source.{Source}
+use Rattle.tcc_words.specs.declared.command.Source.TheVariants.{Seed, Schedule}
+use Rattle.tcc_words.specs.declared.command.View.{View}
+use Rattle.tcc_words.specs.declared.command.View.TheVariants.{Trace, Count, State}
 
 abbrev pub config_of : Command → Settings
 config_of (Run machine images steps seed threads keep) = machine.config
@@ -14,6 +18,17 @@ config_of (Trial config work number steps seed) = config
 config_of (Why machine schedule images) = machine.config
 config_of (Phases machine images steps seed keep) = machine.config
 config_of (Bus machine images steps seed) = machine.config
+config_of (Look machine images source view) = machine.config
+
+-- at most 4,194,304 events
+abbrev pub IsFew : Source → Type 0
+IsFew (Seed steps seed) = steps ≤ 4194304
+IsFew (Schedule name) = Unit {0}
+
+abbrev pub IsNear : View → Type 0
+IsNear (Trace from to states) = (from ≤ 4194304) × (to ≤ 4194304)
+IsNear (Count csv) = Unit {0}
+IsNear (State events) = events ≤ 4194304
 
 -- 1 to 16 images, at most 4,194,304 events, 1 to 16 threads and only with a record, a workload's number from 1 to 2047; where there are
 -- no directories the settings have one
@@ -27,6 +42,7 @@ AreNumbers (Why machine schedule images) = (1 ≤ length images) × (length imag
 AreNumbers (Phases machine images steps seed keep) = (1 ≤ length images) × (length images ≤ 16) × (steps ≤ 4194304)
 AreNumbers (Bus machine images steps seed) =
     (1 ≤ length images) × (length images ≤ 16) × (steps ≤ 4194304) × (machine.config.dirs ≡ 1)
+AreNumbers (Look machine images source view) = (1 ≤ length images) × (length images ≤ 16) × IsFew source × IsNear view
 
 pub record IsInBounds (c : Command) : Type 0 where
   pub allowed : IsAllowed (config_of c)

@@ -7,8 +7,8 @@ use Rattle.work_gen.specs.declared.work.Work.{Work}
 use Rattle.work_gen.specs.Names.{work_word}
 use Rattle.tcc_words.specs.Numbers.{IsNumber}
 use Rattle.tcc_words.specs.declared.command.Field.{Field}
-use Rattle.tcc_words.specs.declared.command.Field.TheVariants.{Cores, Dirs, Sets, Ways, Ram, Base, Steps, Seed, Threads, Images, Kind}
-use Rattle.tcc_words.specs.declared.command.Field.TheVariants.{Number}
+use Rattle.tcc_words.specs.declared.command.Field.TheVariants.{Cores, Dirs, Sets, Ways, Ram, Base, Steps, Seed, From, To}
+use Rattle.tcc_words.specs.declared.command.Field.TheVariants.{Events, Threads, Images, Kind, Number}
 
 -- the word of a field: of an option, what stands behind the two hyphens
 abbrev pub field_word : Field → Text
@@ -20,6 +20,9 @@ field_word Ram = codes "ram"
 field_word Base = codes "base"
 field_word Steps = codes "steps"
 field_word Seed = codes "seed"
+field_word From = codes "from"
+field_word To = codes "to"
+field_word Events = codes "events"
 field_word Threads = codes "threads"
 field_word Images = codes "images"
 field_word Kind = codes "kind"
@@ -35,6 +38,9 @@ default_of Ram = 65536
 default_of Base = 0x80000000
 default_of Steps = 1000000
 default_of Seed = 0
+default_of From = 0
+default_of To = 4194304
+default_of Events = 4194304
 default_of _ = 0
 
 -- the number that a text writes, or the default where there is none
@@ -60,6 +66,9 @@ Allows rows Ram = (n : ℕ) × IsSaid rows Ram n × (32 ≤ n) × (n ≤ 1677721
 Allows rows Base = (n ram : ℕ) × IsSaid rows Base n × IsSaid rows Ram ram × (n % 32 ≡ 0) × (n + ram ≤ 2 ^ 32)
 Allows rows Steps = (n : ℕ) × IsSaid rows Steps n × (n ≤ 4194304)
 Allows rows Seed = (n : ℕ) × IsSaid rows Seed n
+Allows rows From = (n : ℕ) × IsSaid rows From n × (n ≤ 4194304)
+Allows rows To = (n : ℕ) × IsSaid rows To n × (n ≤ 4194304)
+Allows rows Events = (n : ℕ) × IsSaid rows Events n × (n ≤ 4194304)
 Allows rows Threads = IfSome (first_of (codes "threads") rows)
     (λ text. ((n : ℕ) × IsNumber text n × (1 ≤ n) × (n ≤ 16)) × IsSome (first_of (codes "record") rows))
 Allows rows Images = length (images_of rows) ≤ 16
@@ -71,7 +80,7 @@ abbrev pub machine_fields : List Field
 machine_fields = Cores ∷ Dirs ∷ Sets ∷ Ways ∷ Ram ∷ Base ∷ []
 
 abbrev pub order : List Field
-order = machine_fields ++ Steps ∷ Seed ∷ Threads ∷ Images ∷ Kind ∷ Number ∷ []
+order = machine_fields ++ Steps ∷ Seed ∷ From ∷ To ∷ Events ∷ Threads ∷ Images ∷ Kind ∷ Number ∷ []
 
 -- the first of these fields in which something stands that isn't allowed
 abbrev pub BreaksFirst : List Row → List Field → Field → Type 0

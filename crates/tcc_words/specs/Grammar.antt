@@ -7,7 +7,7 @@ use Rattle.clap.specs.declared.builder.action.ArgAction.TheVariants.{Append, Set
 use Rattle.tcc_words.specs.declared.command.WordsFault.{WordsFault}
 use Rattle.tcc_words.specs.declared.command.WordsFault.TheVariants as fault
 use Rattle.tcc_words.specs.declared.command.Verb.{Verb}
-use Rattle.tcc_words.specs.declared.command.Verb.TheVariants.{Run, Replay, Serial, Trial, Why, Phases, Bus}
+use Rattle.tcc_words.specs.declared.command.Verb.TheVariants.{Run, Replay, Serial, Trial, Why, Phases, Bus, Trace, Count, State}
 
 -- the first word of a command
 abbrev pub verb_word : Verb → Text
@@ -18,6 +18,9 @@ verb_word Trial = codes "trial"
 verb_word Why = codes "why"
 verb_word Phases = codes "phases"
 verb_word Bus = codes "bus"
+verb_word Trace = codes "trace"
+verb_word Count = codes "count"
+verb_word State = codes "state"
 
 -- an option with a value, `--name value` or `--name=value`, at most once
 abbrev pub option : Text → Rule
@@ -57,8 +60,13 @@ record_rules = option (codes "record") ∷ places (codes "image") ∷ []
 abbrev pub file_rules : Text → List Rule
 file_rules file = machine_rules ++ place file ∷ places (codes "image") ∷ []
 
+-- the machine, and the run that is looked at: by a seed or by a schedule
+abbrev pub source_rules : List Rule
+source_rules = machine_rules ++ event_rules ++ option (codes "schedule") ∷ []
+
 -- run [..] IMAGE...    replay [..] SCHEDULE IMAGE...    serial [..] REPORT IMAGE...    trial [..] KIND NUMBER
 -- why [..] SCHEDULE IMAGE...    phases [..] IMAGE...    bus [..] IMAGE...
+-- trace [..] IMAGE...    count [..] IMAGE...    state [..] IMAGE...
 abbrev pub rules : Verb → List Rule
 rules Run = machine_rules ++ event_rules ++ option (codes "threads") ∷ record_rules
 rules Replay = file_rules (codes "schedule")
@@ -67,6 +75,9 @@ rules Trial = node_rules ++ event_rules ++ place (codes "kind") ∷ place (codes
 rules Why = file_rules (codes "schedule")
 rules Phases = machine_rules ++ event_rules ++ record_rules
 rules Bus = core_rules ++ memory_rules ++ event_rules ++ places (codes "image") ∷ []
+rules Trace = source_rules ++ option (codes "from") ∷ option (codes "to") ∷ flag (codes "states") ∷ places (codes "image") ∷ []
+rules Count = source_rules ++ flag (codes "csv") ∷ places (codes "image") ∷ []
+rules State = source_rules ++ option (codes "events") ∷ places (codes "image") ∷ []
 
 -- a simple command of clap's, without help
 abbrev pub plain : Text → List Rule → App

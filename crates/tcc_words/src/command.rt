@@ -23,6 +23,12 @@ pub enum Verb {
     Phases,
     /// Runs images on the machine with one bus.
     Bus,
+    /// Tells what each event of a run did.
+    Trace,
+    /// Counts what happened in a run.
+    Count,
+    /// Shows the state after a run.
+    State,
 }
 
 impl Verb {
@@ -38,6 +44,9 @@ impl Verb {
             Verb::Why => "why",
             Verb::Phases => "phases",
             Verb::Bus => "bus",
+            Verb::Trace => "trace",
+            Verb::Count => "count",
+            Verb::State => "state",
         }
     }
 
@@ -53,6 +62,9 @@ impl Verb {
             "why" => Some(Verb::Why),
             "phases" => Some(Verb::Phases),
             "bus" => Some(Verb::Bus),
+            "trace" => Some(Verb::Trace),
+            "count" => Some(Verb::Count),
+            "state" => Some(Verb::State),
             _ => None,
         }
     }
@@ -64,6 +76,27 @@ pub struct Machine {
     pub config: Config,
     /// Whether all images are raw; else all are ELF files.
     pub raw: bool,
+}
+
+/// Which run is looked at.
+#[derive(Debug, Drop)]
+pub enum Source {
+    /// The one of at most `steps` events that `seed` picks.
+    Seed { steps: u64, seed: u64 },
+    /// The one by the schedule of a file.
+    Schedule(Text),
+}
+
+/// What is told of a run.
+#[derive(Clone, Copy, Debug, PartialEq, Eq)]
+pub enum View {
+    /// What each event did, from number `from` on, of at most `to` events; with `states` also the records of the state at the beginning, and
+    /// those that each event changed.
+    Trace { from: u64, to: u64, states: bool },
+    /// How often what happened; with `csv` the totals alone, as two rows for a table.
+    Count { csv: bool },
+    /// The state after at most so many events.
+    State { events: u64 },
 }
 
 /// A command with its settings. Files stand as their names.
@@ -121,6 +154,13 @@ pub enum Command {
         steps: u64,
         seed: u64,
     },
+    /// Look at a run of the images.
+    Look {
+        machine: Machine,
+        images: List<Text>,
+        source: Source,
+        view: View,
+    },
 }
 
 /// The fields of a command, in the order in which they are tested.
@@ -142,6 +182,12 @@ pub enum Field {
     Steps,
     /// Any number.
     Seed,
+    /// 0 to 4,194,304: the number of the first event that is shown.
+    From,
+    /// 0 to 4,194,304 events.
+    To,
+    /// 0 to 4,194,304 events.
+    Events,
     /// 1 to 16, and only together with a file for the schedule.
     Threads,
     /// 1 to 16 names.
@@ -166,6 +212,9 @@ impl Field {
             Field::Base => "base",
             Field::Steps => "steps",
             Field::Seed => "seed",
+            Field::From => "from",
+            Field::To => "to",
+            Field::Events => "events",
             Field::Threads => "threads",
             Field::Images => "images",
             Field::Kind => "kind",
@@ -184,6 +233,7 @@ impl Field {
             Field::Ram => 65_536,
             Field::Base => 0x8000_0000,
             Field::Steps => 1_000_000,
+            Field::To | Field::Events => 4_194_304,
             _ => 0,
         }
     }

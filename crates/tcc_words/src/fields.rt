@@ -4,7 +4,7 @@ ghost use Rattle.clap.specs.Words.{all_of, first_of, found_of, rows_of};
 ghost use Rattle.tcc_base.specs.Settings.{IsAllowed};
 ghost use Rattle.tcc_words.specs.Fields.{Allows, BreaksFirst, IsSaid, images_of, machine_fields, order};
 ghost use Rattle.tcc_words.specs.Asked.{HasSettings, HasValues, HasWork, IsFaulty, MayBeGiven};
-ghost use Rattle.tcc_words.specs.declared.command.Field.TheVariants.{Steps, Seed, Threads, Images, Kind, Number};
+ghost use Rattle.tcc_words.specs.declared.command.Field.TheVariants.{Steps, Seed, From, To, Events, Threads, Images, Kind, Number};
 
 use crate::command::Field;
 use crate::numbers::number;
@@ -27,6 +27,9 @@ pub struct Values {
     pub config: Config,
     pub steps: u64,
     pub seed: u64,
+    pub from: u64,
+    pub to: u64,
+    pub events: u64,
     pub threads: Option<u8>,
     pub work: Option<Work>,
     pub number: Option<u32>,
@@ -54,12 +57,18 @@ pub fn read_values(matches: &ArgMatches) -> Result<Values, Field>
     let config = config(matches)?;
     let steps = steps(matches)?;
     let seed = seed(matches)?;
+    let from = from(matches)?;
+    let to = to(matches)?;
+    let events = events(matches)?;
     let threads = threads(matches)?;
     count_images(matches)?;
     Ok(Values {
         config,
         steps,
         seed,
+        from,
+        to,
+        events,
         threads,
         work: work(matches)?,
         number: transactions(matches)?,
@@ -112,6 +121,48 @@ fn steps(matches: &ArgMatches) -> Result<u64, Field>
         Ok(steps)
     } else {
         Err(Field::Steps)
+    }
+}
+
+/// The number of the first event that is shown.
+fn from(matches: &ArgMatches) -> Result<u64, Field>
+    ensures said { IfOk result (IsSaid (rows_of (found_of matches.now)) From) }
+    ensures allowed { IfOk result (λ _. Allows (rows_of (found_of matches.now)) From) }
+    ensures faulty { IfErr result (IsFaulty (rows_of (found_of matches.now)) From) }
+{
+    let from = said_or(matches, Field::From, u64::MAX);
+    if from <= MAX_STEPS {
+        Ok(from)
+    } else {
+        Err(Field::From)
+    }
+}
+
+/// The number of events at most of which a trace tells.
+fn to(matches: &ArgMatches) -> Result<u64, Field>
+    ensures said { IfOk result (IsSaid (rows_of (found_of matches.now)) To) }
+    ensures allowed { IfOk result (λ _. Allows (rows_of (found_of matches.now)) To) }
+    ensures faulty { IfErr result (IsFaulty (rows_of (found_of matches.now)) To) }
+{
+    let to = said_or(matches, Field::To, u64::MAX);
+    if to <= MAX_STEPS {
+        Ok(to)
+    } else {
+        Err(Field::To)
+    }
+}
+
+/// The number of events at most after which the state is shown.
+fn events(matches: &ArgMatches) -> Result<u64, Field>
+    ensures said { IfOk result (IsSaid (rows_of (found_of matches.now)) Events) }
+    ensures allowed { IfOk result (λ _. Allows (rows_of (found_of matches.now)) Events) }
+    ensures faulty { IfErr result (IsFaulty (rows_of (found_of matches.now)) Events) }
+{
+    let events = said_or(matches, Field::Events, u64::MAX);
+    if events <= MAX_STEPS {
+        Ok(events)
+    } else {
+        Err(Field::Events)
     }
 }
 

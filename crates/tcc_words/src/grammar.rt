@@ -3,7 +3,8 @@ ghost use Rattle.std.specs.Prelude.{◌≡◌, map, IfOk, IfErr, []};
 ghost use Rattle.clap.specs.Words.{app_of, rule_of, rows_of, found_of, matches_of, with_rule};
 ghost use Rattle.clap.specs.Faults.{fault_of};
 ghost use Rattle.tcc_words.specs.Grammar.{IsRefusal, grammar, option, flag, place, places, plain, verb_word, with_rules};
-ghost use Rattle.tcc_words.specs.Grammar.{core_rules, event_rules, file_rules, machine_rules, memory_rules, node_rules, record_rules};
+ghost use Rattle.tcc_words.specs.Grammar.{core_rules, event_rules, file_rules, machine_rules, memory_rules, node_rules};
+ghost use Rattle.tcc_words.specs.Grammar.{record_rules, source_rules};
 
 use crate::command::{Verb, WordsFault};
 use clap::error::ErrorKind;
@@ -64,6 +65,23 @@ fn grammar<'a>(alloc: Global, verb: Verb, name: &'a str) -> Result<clap::Command
             let cores = with_cores(alloc, named)?;
             let machine = with_memory(alloc, cores)?;
             let events = with_events(alloc, machine)?;
+            with_places(alloc, events, "image")
+        }
+        Verb::Trace => {
+            let source = with_source(alloc, named)?;
+            let from = with_option(alloc, source, "from")?;
+            let to = with_option(alloc, from, "to")?;
+            let states = with_flag(alloc, to, "states")?;
+            with_places(alloc, states, "image")
+        }
+        Verb::Count => {
+            let source = with_source(alloc, named)?;
+            let csv = with_flag(alloc, source, "csv")?;
+            with_places(alloc, csv, "image")
+        }
+        Verb::State => {
+            let source = with_source(alloc, named)?;
+            let events = with_option(alloc, source, "events")?;
             with_places(alloc, events, "image")
         }
     }
@@ -133,6 +151,18 @@ fn with_events<'a>(
 {
     let steps = with_option(alloc, command, "steps")?;
     with_option(alloc, steps, "seed")
+}
+
+/// The options of the machine, and those that say which run is looked at.
+fn with_source<'a>(
+    alloc: Global,
+    command: clap::Command<'a>,
+) -> Result<clap::Command<'a>, AllocError>
+    ensures { IfOk result (λ c. app_of c ≡ with_rules source_rules (app_of command.entry)) }
+{
+    let machine = with_machine(alloc, command)?;
+    let events = with_events(alloc, machine)?;
+    with_option(alloc, events, "schedule")
 }
 
 /// The option of the record, and the images.

@@ -8,6 +8,6 @@ mod laws;
 mod numbers;
 mod reading;
 
-pub use command::{Command, Field, Machine, Verb, WordsFault};
+pub use command::{Command, Field, Machine, Source, Verb, View, WordsFault};
 pub use laws::{commands_are_in_bounds, words_ask_for_one_command};
 pub use reading::settings;

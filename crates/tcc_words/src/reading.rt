@@ -3,9 +3,10 @@ ghost use Rattle.std.specs.Prelude.{◌≡◌, ◌↔◌, ◌≤◌, codes, leng
 ghost use Rattle.clap.specs.Words.{Row, first_of, found_of, rows_of};
 ghost use Rattle.tcc_words.specs.Fields.{images_of};
 ghost use Rattle.tcc_words.specs.declared.command.Verb.TheVariants.{Trial};
-ghost use Rattle.tcc_words.specs.Asked.{Asks, HasMachine, HasPlaces, HasSettings, HasValues, IsCommand, IsRefused};
+ghost use Rattle.tcc_words.specs.Asked.{Asks, AsksLook, AsksSource, GoTogether, HasMachine, HasPlaces, HasSettings, HasValues};
+ghost use Rattle.tcc_words.specs.Asked.{IsCommand, IsRefused};
 
-use crate::command::{Command, Machine, Verb, WordsFault};
+use crate::command::{Command, Machine, Source, Verb, View, WordsFault};
 use crate::fields::{Values, images, read_values, text};
 use crate::grammar::read;
 use clap::ArgMatches;
@@ -50,7 +51,16 @@ fn has_places(verb: Verb, matches: &ArgMatches) -> bool
         Verb::Replay | Verb::Why => text(matches, "schedule").is_some() && has_images(matches),
         Verb::Serial => text(matches, "report").is_some() && has_images(matches),
         Verb::Trial => text(matches, "kind").is_some() && text(matches, "number").is_some(),
+        Verb::Trace | Verb::Count | Verb::State => has_images(matches) && go_together(matches),
     }
+}
+
+/// Whether neither the number of events nor a seed stands beside a schedule.
+fn go_together(matches: &ArgMatches) -> bool
+    ensures { IsTrue result ↔ GoTogether (rows_of (found_of matches.now)) }
+{
+    text(matches, "schedule").is_none()
+        || (text(matches, "steps").is_none() && text(matches, "seed").is_none())
 }
 
 /// Whether an image is named.
@@ -109,6 +119,51 @@ fn command(
         Verb::Bus => Ok(Command::Bus {
             machine: machine(matches, values.config),
             images: image_names(alloc, matches)?,
+            steps: values.steps,
+            seed: values.seed,
+        }),
+        Verb::Trace => {
+            let (from, to) = (values.from, values.to);
+            let states = text(matches, "states") == Some("true");
+            look(alloc, matches, values, View::Trace { from, to, states })
+        }
+        Verb::Count => {
+            let csv = text(matches, "csv") == Some("true");
+            look(alloc, matches, values, View::Count { csv })
+        }
+        Verb::State => {
+            let events = values.events;
+            look(alloc, matches, values, View::State { events })
+        }
+    }
+}
+
+/// The command that looks at a run so, with these values.
+fn look(
+    alloc: Global,
+    matches: &ArgMatches,
+    values: &Values,
+    view: View,
+) -> Result<Command, NoMemory>
+    requires { HasValues (rows_of (found_of matches.now)) values.now }
+    ensures { IfOk result (AsksLook (rows_of (found_of matches.now)) view) }
+{
+    Ok(Command::Look {
+        machine: machine(matches, values.config),
+        images: image_names(alloc, matches)?,
+        source: source(alloc, matches, values)?,
+        view,
+    })
+}
+
+/// The run that is looked at, with these values.
+fn source(alloc: Global, matches: &ArgMatches, values: &Values) -> Result<Source, NoMemory>
+    requires { HasValues (rows_of (found_of matches.now)) values.now }
+    ensures { IfOk result (AsksSource (rows_of (found_of matches.now))) }
+{
+    match text(matches, "schedule") {
+        Some(name) => Ok(Source::Schedule(owned(alloc, name)?)),
+        None => Ok(Source::Seed {
             steps: values.steps,
             seed: values.seed,
         }),

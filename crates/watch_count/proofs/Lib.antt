@@ -1,4 +1,5 @@
 -- The proofs of this crate.
+pub mod Lemmas
 mod Growth
 mod Adding
 mod Lists

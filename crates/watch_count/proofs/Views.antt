@@ -101,6 +101,16 @@ small-more a fs i d s now l e h =
     ∙ sum_by-cons weight (fact_of (get_or fs i d)) (map fact_of (drop (i + 1) fs)) in
     omega (arith, bound, one, h)
 
+-- what the facts from this one on weigh
+pub weights-more : (fs : List CodeFact) (i : ℕ) (d : CodeFact) (w : ℕ) → i < length fs → w ≡ weight (fact_of (get_or fs i d))
+    → weights (map fact_of (drop i fs)) ≡ w + weights (map fact_of (drop (i + 1) fs))
+weights-more fs i d w l is = at_drop_more (λ ys. weights (map fact_of ys)) fs i d l
+    ∙ sum_by-cons weight (fact_of (get_or fs i d)) (map fact_of (drop (i + 1) fs))
+    ∙ ap (λ n. n + weights (map fact_of (drop (i + 1) fs))) (sym is)
+
+pub weights-none : (fs : List CodeFact) (i : ℕ) → length fs ≤ i → weights (map fact_of (drop i fs)) ≡ 0
+weights-none fs i l = ap (λ ys. weights (map fact_of ys)) (drop_all i fs l)
+
 pub one-fits : (a : Node) (fs : List CodeFact) (i : ℕ) (d : CodeFact) (b : ℕ) → i < length fs
     → b + weights (map fact_of (drop i fs)) ≤ 2 ^ 56 → b + weight (fact_of (get_or fs i d)) ≤ 2 ^ 56
 one-fits a fs i d b l h =

@@ -8,15 +8,19 @@ use Rattle.watch_count.specs.declared.messages.MessageCounts.{MessageCounts}
 use Rattle.watch_count.specs.Totals.{all_cores, all_messages, in_flight}
 use Rattle.watch_count.specs.Counts.{Counts}
 
-abbrev pub names : List ℕ
-names =
-    codes "tcc-count,cores,dirs,sets,ways,base,ram,seed,steps,end,events"
-    ++ codes ",attempts_begun,attempts_committed,attempts_violated,attempts_open,attempts_row,attempts_gaveup"
+-- those of the five tables
+abbrev pub table_names : List ℕ
+table_names =
+    codes ",attempts_begun,attempts_committed,attempts_violated,attempts_open,attempts_row,attempts_gaveup"
     ++ codes ",instructions_executed,instructions_committed,instructions_lost,instructions_open"
     ++ codes ",accesses_loads,accesses_stores,accesses_changes,accesses_misses,accesses_fills,accesses_overflows"
     ++ codes ",evictions_clean,evictions_dirty,evictions_modified"
     ++ codes ",phases_Running,phases_AwaitTid,phases_DoomedTid,phases_Probing"
     ++ codes ",phases_Ready,phases_Overflowing,phases_Solo,phases_Halted"
+
+abbrev pub names : List ℕ
+names =
+    codes "tcc-count,cores,dirs,sets,ways,base,ram,seed,steps,end,events" ++ table_names
     ++ codes ",messages_sent,messages_took,messages_dropped,messages_asked,messages_flight"
 
 -- a number, with the comma that stands before it

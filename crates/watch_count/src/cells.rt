@@ -1,6 +1,6 @@
 // The rows of the table that `--csv` asks for, each number with the comma that stands before it.
 ghost use Rattle.std.specs.Prelude.{◌≡◌, ◌++◌, OnOk, string_bytes};
-ghost use Rattle.watch_count.specs.Csv.{names, cell, settings_cells, seed_cells, end_cell, attempts_cells, instructions_cells};
+ghost use Rattle.watch_count.specs.Csv.{names, table_names, cell, settings_cells, seed_cells, end_cell, attempts_cells, instructions_cells};
 ghost use Rattle.watch_count.specs.Csv.{accesses_cells, evictions_cells, phases_cells, core_cells, messages_cells};
 
 use crate::messages::MessageCounts;
@@ -8,11 +8,11 @@ use crate::tables::CoreCounts;
 use std::alloc::AllocError;
 use tcc_base::Config;
 
-/// The names of the columns.
-pub(crate) fn push_names(text: &mut String) -> Result<(), AllocError>
-    ensures { OnOk result (string_bytes text.new ≡ string_bytes text.old ++ names) }
+/// Appends the names of the columns of the five tables, each with the comma that stands before it. After want of memory a part of them may
+/// stand there.
+pub fn push_table_names(text: &mut String) -> Result<(), AllocError>
+    ensures { OnOk result (string_bytes text.new ≡ string_bytes text.old ++ table_names) }
 {
-    text.push_str("tcc-count,cores,dirs,sets,ways,base,ram,seed,steps,end,events")?;
     text.push_str(
         ",attempts_begun,attempts_committed,attempts_violated,attempts_open,attempts_row,attempts_gaveup",
     )?;
@@ -24,12 +24,20 @@ pub(crate) fn push_names(text: &mut String) -> Result<(), AllocError>
     )?;
     text.push_str(",evictions_clean,evictions_dirty,evictions_modified")?;
     text.push_str(",phases_Running,phases_AwaitTid,phases_DoomedTid,phases_Probing")?;
-    text.push_str(",phases_Ready,phases_Overflowing,phases_Solo,phases_Halted")?;
+    text.push_str(",phases_Ready,phases_Overflowing,phases_Solo,phases_Halted")
+}
+
+/// The names of the columns.
+pub(crate) fn push_names(text: &mut String) -> Result<(), AllocError>
+    ensures { OnOk result (string_bytes text.new ≡ string_bytes text.old ++ names) }
+{
+    text.push_str("tcc-count,cores,dirs,sets,ways,base,ram,seed,steps,end,events")?;
+    push_table_names(text)?;
     text.push_str(",messages_sent,messages_took,messages_dropped,messages_asked,messages_flight")
 }
 
-/// A number.
-pub(crate) fn push_cell(text: &mut String, number: u64) -> Result<(), AllocError>
+/// Appends a number and the comma that stands before it. After want of memory a part of it may stand there.
+pub fn push_cell(text: &mut String, number: u64) -> Result<(), AllocError>
     ensures { OnOk result (string_bytes text.new ≡ string_bytes text.old ++ cell number) }
 {
     write!(text, ",{number}")
@@ -51,9 +59,9 @@ pub(crate) fn push_settings(text: &mut String, config: &Config) -> Result<(), Al
     write!(text, ",{},{},{ram}", config.ways(), config.base())
 }
 
-/// The seed and the number of steps, where the run has them.
+/// Appends the seed and the number of steps, where the run has them. After want of memory a part of it may stand there.
 #[tactic(auto, unfolding(crate::specs::Csv::seed_cells))]
-pub(crate) fn push_seed(text: &mut String, seed: Option<(u64, u64)>) -> Result<(), AllocError>
+pub fn push_seed(text: &mut String, seed: Option<(u64, u64)>) -> Result<(), AllocError>
     ensures { OnOk result (string_bytes text.new ≡ string_bytes text.old ++ seed_cells seed) }
 {
     match seed {
@@ -62,9 +70,9 @@ pub(crate) fn push_seed(text: &mut String, seed: Option<(u64, u64)>) -> Result<(
     }
 }
 
-/// Whether the run is done.
+/// Appends whether the run is done. After want of memory a part of it may stand there.
 #[tactic(auto, unfolding(crate::specs::Csv::end_cell))]
-pub(crate) fn push_end_cell(text: &mut String, done: bool) -> Result<(), AllocError>
+pub fn push_end_cell(text: &mut String, done: bool) -> Result<(), AllocError>
     ensures { OnOk result (string_bytes text.new ≡ string_bytes text.old ++ end_cell done) }
 {
     text.push_str(if done { ",done" } else { ",open" })

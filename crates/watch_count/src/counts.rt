@@ -1,5 +1,6 @@
 // The counts of a run, which grow event by event.
-ghost use Rattle.std.specs.Prelude.{◌≡◌, ◌+◌, ◌≤◌, ◌^◌, Some, None, IfOk, OnOk, OnErr, All, map, unwrap_or, ◌++◌, string_bytes};
+ghost use Rattle.std.specs.Prelude.{◌≡◌, ◌+◌, ◌≤◌, ◌^◌, Some, None, IfOk, OnOk, OnErr, IsTrue, All, length, map, unwrap_or, ◌++◌, string_bytes};
+ghost use Rattle.std.specs.List.{flat_map};
 ghost use Rattle.std.specs.Ordering.{nat_cmp};
 ghost use Rattle.std.specs.Map.{values_of, lookup};
 ghost use Rattle.std.specs.BTreeMap.{is_at};
@@ -10,8 +11,9 @@ ghost use Rattle.watch_count.specs.Messages.{kind_of as plain_kind_of, messages_
 ghost use Rattle.watch_count.specs.Places.{nothing_there, line_of as plain_line_of, line_after};
 ghost use Rattle.watch_count.specs.Places.{no_conflict, conflict_of as plain_conflict_of, conflict_after};
 ghost use Rattle.watch_count.specs.Sizes.{core_size, messages_size, line_size, conflict_size, weight as plain_weight, weights};
-ghost use Rattle.watch_count.specs.Text.{count_text};
-ghost use Rattle.watch_count.specs.Csv.{csv_text};
+ghost use Rattle.watch_count.specs.Text.{count_text, entry_conflict, entry_line, tables_text};
+ghost use Rattle.watch_count.specs.Totals.{all_cores as plain_all_cores};
+ghost use Rattle.watch_count.specs.Csv.{core_cells, csv_text};
 ghost use Rattle.watch_count.specs.Counts.{core_taking, core_of as plain_core_of, changed_if};
 ghost use Rattle.watch_count.specs.Counts.{kept_changed, kept_changed_if, conflict_cmp};
 ghost use Rattle.watch_count.specs.Counts.{nothing_counted, counted, event_begun, event_counted};
@@ -54,6 +56,9 @@ impl Model for Counts {
 
     ghost invariant = { λ c. IsKept (counts_of c) };
 }
+
+/// No number comes above this.
+const LIMIT: u64 = 72_057_594_037_927_936;
 
 /// The number of a core.
 fn taker(actor: NodeId) -> Option<usize>
@@ -257,10 +262,27 @@ impl Counts {
         count_event(&mut self.cores);
     }
 
-    /// An event of this node, with its facts. No number overflows while the bound stays at most 2^56: an event adds 1 to it, and the
-    /// weights of its facts. After want of memory some of the facts are counted and others aren't, so the counts are of no use any more.
-    /// Takes constant time for each core and each fact, but for the logarithm of the lines and conflicts so far.
-    pub fn event(&mut self, actor: NodeId, facts: &[Fact]) -> Result<(), NoMemory>
+    /// Whether no number can come above 2^56 by an event with these facts.
+    fn fits(&self, facts: &[Fact]) -> bool
+        ensures { IsTrue result → self.now.bound + 1 + weights (map fact_of facts.now) ≤ 2 ^ 56 }
+    {
+        let mut room = LIMIT - self.bound;
+        if room == 0 {
+            return false;
+        }
+        room -= 1;
+        for fact in facts {
+            let weight = weight(fact);
+            if room < weight {
+                return false;
+            }
+            room -= weight;
+        }
+        true
+    }
+
+    /// An event that fits.
+    fn count_all(&mut self, actor: NodeId, facts: &[Fact]) -> Result<(), NoMemory>
         requires { self.old.bound + 1 + weights (map fact_of facts.now) ≤ 2 ^ 56 }
         ensures { OnOk result (self.new ≡ event_counted (node_of actor) (map fact_of facts.now) self.old) }
     {
@@ -269,6 +291,79 @@ impl Counts {
             self.count(actor, fact)?;
         }
         Ok(())
+    }
+
+    /// An event of this node, with its facts. It fails for want of memory, and where a number could come above 2^56, to which no run of
+    /// fewer than 2^24 events comes whose facts are fewer than a million each. Some of the facts may be counted then and others not, so
+    /// the counts are of no use any more. Takes constant time for each core and each fact, but for the logarithm of the lines and
+    /// conflicts so far.
+    pub fn event(&mut self, actor: NodeId, facts: &[Fact]) -> Result<(), NoMemory>
+        ensures { OnOk result (self.new ≡ event_counted (node_of actor) (map fact_of facts.now) self.old) }
+    {
+        if self.fits(facts) {
+            self.count_all(actor, facts)
+        } else {
+            Err(NoMemory)
+        }
+    }
+
+    /// An event of whichever node comes: it counts in the phase that each core is in before it. It fails where a number could come above
+    /// 2^56, and then nothing has changed. Takes time in the number of cores. With `fact` for each of its facts it is `event`.
+    pub fn begin(&mut self) -> Result<(), NoMemory>
+        ensures { OnOk result (self.new ≡ event_begun self.old) }
+    {
+        if self.bound >= LIMIT {
+            return Err(NoMemory);
+        }
+        self.begin_event();
+        Ok(())
+    }
+
+    /// One more fact of the event that came last, which is one of this node. It fails for want of memory, and where a number could come
+    /// above 2^56; the counts are of no use then. Takes constant time, but for the logarithm of the lines and conflicts so far.
+    pub fn fact(&mut self, actor: NodeId, fact: &Fact) -> Result<(), NoMemory>
+        ensures { OnOk result (self.new ≡ counted (node_of actor) (fact_of fact.now) self.old) }
+    {
+        if LIMIT - self.bound < weight(fact) {
+            return Err(NoMemory);
+        }
+        self.count(actor, fact)
+    }
+
+    /// How many cores there are.
+    pub fn core_count(&self) -> usize
+        ensures { result ≡ length self.now.cores }
+    {
+        self.cores.len()
+    }
+
+    /// Appends the five tables. After want of memory a part of them may stand there.
+    pub fn push_tables(&self, text: &mut String) -> Result<(), AllocError>
+        ensures { OnOk result (string_bytes text.new ≡ string_bytes text.old ++ tables_text self.now.cores) }
+    {
+        push_tables(text, &self.cores)
+    }
+
+    /// Appends the lines of lines of memory. After want of memory a part of them may stand there.
+    pub fn push_lines(&self, text: &mut String) -> Result<(), AllocError>
+        ensures { OnOk result (string_bytes text.new ≡ string_bytes text.old ++ flat_map entry_line self.now.lines) }
+    {
+        push_lines(text, &self.lines)
+    }
+
+    /// Appends the lines of conflicts. After want of memory a part of them may stand there.
+    pub fn push_conflicts(&self, text: &mut String) -> Result<(), AllocError>
+        ensures { OnOk result (string_bytes text.new ≡ string_bytes text.old ++ flat_map entry_conflict self.now.conflicts) }
+    {
+        push_conflicts(text, &self.conflicts)
+    }
+
+    /// Appends the numbers of all cores together in the five tables, each with the comma that stands before it. After want of memory a
+    /// part of them may stand there.
+    pub fn push_table_cells(&self, text: &mut String) -> Result<(), AllocError>
+        ensures { OnOk result (string_bytes text.new ≡ string_bytes text.old ++ core_cells (plain_all_cores self.now.cores)) }
+    {
+        push_core_cells(text, &all_cores(&self.cores))
     }
 
     #[tactic(auto, unfolding(crate::specs::Text::count_text))]

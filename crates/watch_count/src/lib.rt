@@ -13,10 +13,11 @@ mod texts;
 mod totals;
 mod worked;
 
+pub use cells::{push_cell, push_end_cell, push_seed, push_table_names};
 pub use counts::Counts;
 pub use messages::MessageCounts;
 pub use places::{Conflict, ConflictCounts, LineCounts};
-pub use rows::Table;
+pub use rows::{Table, push_named};
 pub use tables::{
     Accesses, Attempts, CoreCounts, Evictions, Instructions, PhaseName, Phases, phase_name,
 };

@@ -27,9 +27,9 @@ fn push_who(text: &mut String, who: Option<usize>) -> Result<(), AllocError>
     }
 }
 
-/// A name, and its number.
+/// Appends a name, and its number. After want of memory a part of it may stand there.
 #[tactic(auto, unfolding(crate::specs::Lines::named))]
-pub(crate) fn push_named(text: &mut String, name: &str, number: u64) -> Result<(), AllocError>
+pub fn push_named(text: &mut String, name: &str, number: u64) -> Result<(), AllocError>
     ensures { OnOk result (string_bytes text.new ≡ string_bytes text.old ++ named name.now number) }
 {
     text.push_str(name)?;

@@ -1,6 +1,5 @@
 -- The proofs of this crate.
 mod Named
-mod Masks
 mod Numbering
 mod Small
 mod Happening

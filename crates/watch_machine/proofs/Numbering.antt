@@ -97,8 +97,3 @@ node-told f ns k n old now new at h e =
 pub nodes-told : (f : Node → List Fact) (ns : List Node) (k : ℕ) (old now : List Fact) → length ns ≤ k
     → now ≡ old ++ flat_map f (take k ns) → now ≡ old ++ flat_map f ns
 nodes-told f ns k old now l h = h ∙ ap (λ ys. old ++ flat_map f ys) (take_all k ns l)
-
-pub none-past : {A : Type 0} (xs : List A) (k : ℕ) → slice_get xs k ≡ None → k < length xs → ⊥
-none-past [] k e l = omega (arith, l)
-none-past (x ∷ xs) zero e l = cc
-none-past (x ∷ xs) (suc k) e l = none-past xs k e (omega (arith, l))

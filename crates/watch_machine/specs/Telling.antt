@@ -1,12 +1,10 @@
 -- The parts of what is told: what is seen of a node before an event, and what is told of it behind the event.
 use Rattle.std.specs.Prelude.{ℕ, ◌≡◌, ◌≢◌, ◌+◌, ◌-◌, ◌≤◌, List, [], ◌∷◌, length, Option, Some, None, Result, Ok, Err}
 use Rattle.std.specs.List.{flat_map}
-use Rattle.rv_exec.specs.Needs.{need_of}
 use Rattle.tcc_base.specs.declared.access.Commit.{Commit}
 use Rattle.tcc_base.specs.declared.names.Tid.{Tid}
 use Rattle.tcc_maps.specs.Nodes.{Node, Msg as PlainMsg, Inv, Event}
 use Rattle.tcc_msg.specs.Plain.{msg_of, sends_of}
-use Rattle.tcc_program.specs.Program.{Program}
 use Rattle.tcc_rules.specs.DirDeliver.{Answer, Waits}
 use Rattle.tcc_rules.specs.State.{CoreState}
 use Rattle.tcc_rules.specs.Step.{next_history}
@@ -23,18 +21,6 @@ use Rattle.watch.specs.Messages.{answered, commit_of, committer, is_of_use, word
 use Rattle.watch_machine.specs.declared.answering.Became.{Became}
 use Rattle.watch_machine.specs.declared.answering.Became.TheVariants as became
 use Rattle.watch_machine.specs.declared.delivering.SeenBy.{SeenBy}
-use Rattle.watch_machine.specs.declared.executing.Seen.{Seen}
-
--- a core's phase, pc and what its instruction needs were seen
-pub record Saw (seen : Seen) (p : Program) (s : CoreState) : Type 0 where
-  pub phase : phase_of seen.phase ≡ s.phase
-  pub pc : seen.pc ≡ s.local.pc
-  pub need : need_of seen.need ≡ p.need s.local
-
--- a TID as a number
-abbrev pub plain_tid : Option Tid → Option ℕ
-plain_tid None = None
-plain_tid (Some t) = Some t.0
 
 -- the words of an invalidation that are marked read
 abbrev pub words_hit : PlainMsg → CoreState → ℕ

@@ -13,15 +13,14 @@ ghost use Rattle.net_core.specs.Answers.{step_of, tid_told};
 ghost use Rattle.net_core.specs.Machine.{settings_of, world_of};
 ghost use Rattle.watch.specs.Happened.{phase_fact, serves_fact};
 ghost use Rattle.watch.specs.Facts.{Took};
-ghost use Rattle.watch.specs.Messages.{commit_of as commit_in, committer as committer_of};
 ghost use Rattle.watch.specs.Messages.{awaits as awaits_line, grant_given_up, has_probed as probed, is_of_use as of_use};
-ghost use Rattle.watch.specs.Messages.{taken, tid_in as tid_of_phase, violated, waits_for_tid as waits, words_read as read_words};
+ghost use Rattle.watch.specs.Messages.{taken, tid_in as tid_of_phase, violated, waits_for_tid as waits};
 ghost use Rattle.watch.specs.Plain.{fact_of};
 ghost use Rattle.watch_machine.specs.Telling.{HasRoomFor, SawMessage, commit_told, last_facts, told_of};
 ghost use Rattle.watch_machine.specs.Watched.{Watched};
 
 use crate::answering::{Became, what_became};
-use crate::commits::{commit_of, tell_commit};
+use crate::commits::tell_commit;
 use crate::moving::{tell_phase, tell_serving};
 use crate::sending::{advance, tell_sent};
 use commit_engine::Phase;
@@ -31,6 +30,7 @@ use net_core::{Step, StepError, System};
 use tcc_base::{Commit, CoreId, DirId, LineAddr, List, Mask, NoMemory, NodeId, Tid};
 use tcc_msg::{Event, Msg, Name};
 use watch::Fact;
+use watch_core::{committer, words_read};
 
 /// Whether a core waits for a TID.
 fn waits_for_tid(phase: Phase) -> bool
@@ -99,17 +99,6 @@ fn has_dirty(core: &CoreNode, line: LineAddr) -> bool
     match core.frame_of(line) {
         Some(frame) => frame.dirty.0 != 0,
         None => false,
-    }
-}
-
-/// The words of a line under a mask that are marked read.
-#[tactic(auto, unfolding(watch::specs::Messages::words_read))]
-fn words_read(core: &CoreNode, line: LineAddr, mask: Mask) -> Mask
-    ensures { result.0 ≡ read_words line.0 mask.0 (core_of core.now) }
-{
-    match core.frame_of(line) {
-        Some(frame) => Mask(frame.read.0 & mask.0),
-        None => Mask(0),
     }
 }
 
@@ -192,16 +181,6 @@ fn tell_taken(seen: &SeenBy, facts: &mut List<Fact>) -> Result<(), NoMemory>
     } else {
         Fact::Dropped(seen.msg)
     })
-}
-
-/// The core that committed this TID.
-fn committer(commits: &[Commit], tid: Tid) -> CoreId
-    ensures { result.0 ≡ committer_of (commit_in tid.0 commits.now) }
-{
-    match commit_of(commits, tid) {
-        Some(commit) => commit.core,
-        None => CoreId(0),
-    }
 }
 
 /// Tells of an attempt that an invalidation undid, and of the TID that was given up with it. `n` is what the attempt has now.

@@ -3,11 +3,9 @@ ghost use Rattle.std.specs.Prelude.{◌≡◌, ◌≢◌, ◌++◌, ◌<◌, [],
 ghost use Rattle.std.specs.Option.{option_to_list};
 ghost use Rattle.tcc_maps.specs.Nodes.{Core, Evict};
 ghost use Rattle.commit_engine.specs.Engine.{phase_of};
-ghost use Rattle.core_node.specs.View.{core_of};
 ghost use Rattle.net_core.specs.Answers.{step_of, tid_told};
 ghost use Rattle.net_core.specs.Machine.{settings_of, world_of};
 ghost use Rattle.watch.specs.Happened.{phase_fact};
-ghost use Rattle.watch.specs.Instructions.{evicted as emptied};
 ghost use Rattle.watch.specs.Plain.{fact_of};
 ghost use Rattle.watch_machine.specs.Telling.{HasRoomFor, commit_told, last_facts};
 ghost use Rattle.watch_machine.specs.Watched.{Watched};
@@ -16,27 +14,11 @@ use crate::commits::tell_commit;
 use crate::moving::tell_phase;
 use crate::sending::{advance, tell_sent};
 use commit_engine::Phase;
-use core_node::CoreNode;
 use net_core::{Step, StepError, System};
 use tcc_base::{CoreId, List, NoMemory, NodeId};
 use tcc_msg::Event;
 use watch::Fact;
-
-/// The line that a way holds, with its dirty and modified words.
-#[tactic(auto, unfolding(watch::specs::Instructions::evicted))]
-fn evicted(core: &CoreNode, id: CoreId, set: u16, way: u8) -> Option<Fact>
-    requires set_exists { set < core.now.config.sets }
-    requires way_exists { way < core.now.config.ways }
-    ensures { map fact_of (option_to_list result) ≡ emptied id.0 set way (core_of core.now) }
-{
-    let frame = core.frame(set, way)?;
-    Some(Fact::Evicted {
-        core: id,
-        line: frame.line,
-        dirty: frame.dirty,
-        modified: frame.modified,
-    })
-}
+use watch_core::evicted;
 
 /// Tells of an eviction: what stood in the way, and the machine after it.
 fn tell_evict(

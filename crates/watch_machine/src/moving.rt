@@ -1,41 +1,13 @@
 // Where a node has come to: a core's phase, the TID that a directory serves.
 ghost use Rattle.std.specs.Prelude.{◌≡◌, ◌++◌, OnOk, map};
 ghost use Rattle.commit_engine.specs.Engine.{phase_of};
-ghost use Rattle.watch.specs.Happened.{phase_fact, same_phase as are_same, same_tid as are_one, serves_fact};
+ghost use Rattle.watch.specs.Happened.{phase_fact, serves_fact};
 ghost use Rattle.watch.specs.Plain.{fact_of};
-ghost use Rattle.watch_machine.specs.Telling.{plain_tid};
 
 use commit_engine::Phase;
 use tcc_base::{CoreId, DirId, List, NoMemory, Tid};
 use watch::Fact;
-
-fn same_tid(a: Option<Tid>, b: Option<Tid>) -> bool
-    ensures { result ≡ are_one (plain_tid a) (plain_tid b) }
-{
-    match (a, b) {
-        (None, None) => true,
-        (Some(t), Some(u)) => t.0 == u.0,
-        (None, Some(_)) => false,
-        (Some(_), None) => false,
-    }
-}
-
-/// Whether two phases are one, with their TIDs.
-fn same_phase(a: Phase, b: Phase) -> bool
-    ensures { result ≡ are_same (phase_of a) (phase_of b) }
-{
-    match (a, b) {
-        (Phase::Running, Phase::Running) => true,
-        (Phase::AwaitTid, Phase::AwaitTid) => true,
-        (Phase::DoomedTid, Phase::DoomedTid) => true,
-        (Phase::Probing(t), Phase::Probing(u)) => t.0 == u.0,
-        (Phase::Ready(t), Phase::Ready(u)) => t.0 == u.0,
-        (Phase::Overflowing(t), Phase::Overflowing(u)) => same_tid(t, u),
-        (Phase::Solo(t), Phase::Solo(u)) => t.0 == u.0,
-        (Phase::Halted, Phase::Halted) => true,
-        _ => false,
-    }
-}
+use watch_core::same_phase;
 
 /// Tells of a core's phase, where it isn't what it was.
 pub(crate) fn tell_phase(

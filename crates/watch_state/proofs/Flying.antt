@@ -1,5 +1,5 @@
 -- On a link the messages in flight are all of which anything is written.
-use Rattle.std.proofs.Common.{◌≡◌, ℕ, false, List, [], length, Option, Some, None, is_some, refl, ap, sym, ◌∙◌}
+use Rattle.std.proofs.Common.{◌≡◌, ℕ, false, List, [], ◌∷◌, ◌++◌, append-nil, length, Option, Some, None, is_some, refl, ap, sym, ◌∙◌}
 use Rattle.std.specs.List.{flat_map}
 use Rattle.std.proofs.lemmas.List.Folds.{flat_map-map}
 use Rattle.tcc_maps.specs.Nodes.{Node, Event, Deliver, Msg}
@@ -11,10 +11,9 @@ use Rattle.tcc_rules.specs.Step.{is_enabled}
 use Rattle.net_core.proofs.Lemmas.{absent-refused}
 use Rattle.net_core.specs.Machine.{Machine, program_of, settings_of, world_of}
 use Rattle.watch_state.specs.Events.{link_delivers}
-use Rattle.watch_state.specs.Lines.{record_line, record_lines}
+use Rattle.watch_state.specs.Lines.{led_lines, record_line}
 use Rattle.watch_state.specs.Records.{InFlight}
 use Rattle.watch_state.specs.Text.{event_text, events_text, flight_record, link_records}
-use Rattle.watch_state.proofs.Growing.{line-alone, lines-none}
 use Rattle.watch_state.proofs.Listed.{flat-flat, only-those}
 
 -- the numbers of those in flight on a link
@@ -23,25 +22,29 @@ flying_on w src dst = those (λ k. is_some (in_flight w.net src dst k)) (length 
 
 -- ---- their records
 
-abbrev pub flight_lines : World → (src dst : Node) → ℕ → List ℕ
-flight_lines w src dst k = record_lines (flight_record src dst k (in_flight w.net src dst k))
+abbrev pub flight_lines : (lead : List ℕ) → World → (src dst : Node) → ℕ → List ℕ
+flight_lines lead w src dst k = led_lines lead (flight_record src dst k (in_flight w.net src dst k))
 
-none-flies : (src dst : Node) (k : ℕ) (o : Option Msg) → is_some o ≡ false → record_lines (flight_record src dst k o) ≡ []
-none-flies src dst k None e = lines-none
-none-flies src dst k (Some m) e = absurd (cc)
+none-flies : (lead : List ℕ) (src dst : Node) (k : ℕ) (o : Option Msg) → is_some o ≡ false
+    → led_lines lead (flight_record src dst k o) ≡ []
+unfolding led_lines
+none-flies lead src dst k None e = refl
+none-flies lead src dst k (Some m) e = absurd (cc)
 
-pub flight-written : (w : World) (src dst : Node) (k : ℕ) (m : Msg) → in_flight w.net src dst k ≡ Some m
-    → record_line (InFlight src dst k m) ≡ flight_lines w src dst k
-flight-written w src dst k m e =
-    sym (ap (λ o. record_lines (flight_record src dst k o)) e ∙ line-alone (InFlight src dst k m))
+pub flight-written : (lead : List ℕ) (w : World) (src dst : Node) (k : ℕ) (m : Msg) → in_flight w.net src dst k ≡ Some m
+    → lead ++ record_line (InFlight src dst k m) ≡ flight_lines lead w src dst k
+unfolding led_lines
+flight-written lead w src dst k m e =
+    sym (ap (λ o. led_lines lead (flight_record src dst k o)) e ∙ append-nil (lead ++ record_line (InFlight src dst k m)))
 
-pub flights-written : (w : World) (src dst : Node)
-    → flat_map (flight_lines w src dst) (flying_on w src dst) ≡ record_lines (link_records w src dst)
-unfolding link_records record_lines
-flights-written w src dst =
-    only-those (flight_lines w src dst) (λ k. is_some (in_flight w.net src dst k))
-    (λ k e. none-flies src dst k (in_flight w.net src dst k) e) (length (w.net src dst))
-    ∙ sym (flat-flat record_line (λ k. flight_record src dst k (in_flight w.net src dst k)) (numbers (length (w.net src dst))))
+pub flights-written : (lead : List ℕ) (w : World) (src dst : Node)
+    → flat_map (flight_lines lead w src dst) (flying_on w src dst) ≡ led_lines lead (link_records w src dst)
+unfolding link_records led_lines
+flights-written lead w src dst =
+    only-those (flight_lines lead w src dst) (λ k. is_some (in_flight w.net src dst k))
+    (λ k e. none-flies lead src dst k (in_flight w.net src dst k) e) (length (w.net src dst))
+    ∙ sym (flat-flat (λ r. lead ++ record_line r) (λ k. flight_record src dst k (in_flight w.net src dst k))
+    (numbers (length (w.net src dst))))
 
 -- ---- their deliveries
 

@@ -8,7 +8,7 @@ use Rattle.std.proofs.lemmas.List.Concat.{flat_map-append}
 use Rattle.std.proofs.lemmas.Option.{get_or_from_slice_get, slice_get_within}
 use Rattle.tcc_maps.specs.Words.{those}
 use Rattle.tcc_rules.specs.Seen.{numbers}
-use Rattle.watch_state.specs.Lines.{record_line, record_lines}
+use Rattle.watch_state.specs.Lines.{led_lines, record_line}
 use Rattle.watch_state.specs.Records.{Record}
 use Rattle.watch_state.proofs.Growing.{piece-more}
 
@@ -44,11 +44,11 @@ flats-listed h f xs k x old now new at q e =
     text-listed (λ y. flat_map h (f y)) xs k x old now new at (q ∙ ap (λ t. old ++ t) (flat-flat h f (take k xs))) e
     ∙ ap (λ t. old ++ t) (sym (flat-flat h f (take (k + 1) xs)))
 
-pub lines-listed : {A : Type 0} (f : A → List Record) (xs : List A) (k : ℕ) (x : A) (old now new : List ℕ)
-    → slice_get xs k ≡ Some x → now ≡ old ++ record_lines (flat_map f (take k xs)) → new ≡ now ++ record_lines (f x)
-    → new ≡ old ++ record_lines (flat_map f (take (k + 1) xs))
-unfolding record_lines
-lines-listed f xs k x old now new at q e = flats-listed record_line f xs k x old now new at q e
+pub led-listed : {A : Type 0} (lead : List ℕ) (f : A → List Record) (xs : List A) (k : ℕ) (x : A) (old now new : List ℕ)
+    → slice_get xs k ≡ Some x → now ≡ old ++ led_lines lead (flat_map f (take k xs)) → new ≡ now ++ led_lines lead (f x)
+    → new ≡ old ++ led_lines lead (flat_map f (take (k + 1) xs))
+unfolding led_lines
+led-listed lead f xs k x old now new at q e = flats-listed (λ r. lead ++ record_line r) f xs k x old now new at q e
 
 -- ---- all elements
 
@@ -73,3 +73,8 @@ only-those f p none (suc n) =
     last : (b : Bool) → p n ≡ b → flat_map f (cond b (n ∷ []) []) ≡ flat_map f (n ∷ [])
     last true e = refl
     last false e = sym (ap (λ ys. ys ++ []) (none n e))
+
+pub none-of : {A : Type 0} (f : ℕ → List A) → ((k : ℕ) → f k ≡ []) → (n : ℕ) → flat_map f (numbers n) ≡ []
+unfolding those
+none-of f none zero = refl
+none-of f none (suc n) = flat_map-append f (numbers n) (n ∷ []) ∙ (λ i. none-of f none n i ++ (none n i ++ []))

@@ -1,23 +1,18 @@
 -- What is shown of a frame is what the rules' cache has of its line.
-use Rattle.std.proofs.Common.{◌≡◌, ℕ, zero, suc, ◌*◌, ◌+◌, ◌<◌, Bool, true, false, cond, ◌==◌, if◌then◌else◌, List}
-use Rattle.std.proofs.Common.{[], ◌++◌, Option, Some, None, is_some, codes, refl, ap, sym, ◌∙◌, arith, inl, inr}
+use Rattle.std.proofs.Common.{◌≡◌, ℕ, ◌*◌, ◌+◌, ◌<◌, Bool, true, false, cond, ◌==◌, if◌then◌else◌}
+use Rattle.std.proofs.Common.{[], ◌∷◌, Option, Some, None, is_some, refl, ap, sym, ◌∙◌, arith, inl, inr}
 use Rattle.std.specs.Prelude.{get_or, unwrap_or}
-use Rattle.std.specs.Fmt.{decimal}
 use Rattle.std.proofs.lemmas.Bool.{cases_Bool}
 use Rattle.std.proofs.lemmas.Bool.Decides.{nat_tests}
 use Rattle.tcc_maps.specs.Cache.{Cache, dirty_mask, dirty_tag, first_of_line}
-use Rattle.tcc_maps.specs.Masks.{has, mask_of}
+use Rattle.tcc_maps.specs.Masks.{has, mask_of, masked}
 use Rattle.tcc_maps.specs.Words.{eight, line_of, num, or_else, place_of, word_at}
 use Rattle.tcc_maps.proofs.Lemmas.{has-mask_of}
 use Rattle.spec_cache.specs.Look.{Views}
 use Rattle.spec_cache.specs.declared.frame.FrameView.{FrameView}
-use Rattle.schedule_text.specs.Grammar.{newline}
-use Rattle.watch_trace.specs.Words.{value_word, value_words}
 use Rattle.watch_state.specs.Cores.{frame_of, held_record, way_record}
-use Rattle.watch_state.specs.Lines.{frame_words, key_words, record_line, record_lines}
 use Rattle.watch_state.specs.Records.{Holds}
 use Rattle.watch_state.specs.Shown.{shown_frame}
-use Rattle.watch_state.proofs.Growing.{line-alone, lines-none}
 
 -- a valid word of the line
 word-here : (c : Cache) (l k : ℕ) (f : FrameView) → Views c l f → k < 8 → has f.valid.0 k ≡ true
@@ -29,33 +24,28 @@ word-here c l k f v b h =
     sym (has-mask_of (λ j. is_some (c.value (word_at l j))) k b) ∙ ap (λ m. has m k) (sym v.valid) ∙ h in
     ap (λ j. get_or f.words j 0) (sym place) ∙ ap (λ o. unwrap_or o 0) (sym (v.words (word_at l k) line valid))
 
--- words are written alike where all that the mask has are the same
-word-alike : (m k : ℕ) (ws vs : List ℕ) → (has m k ≡ true → get_or ws k 0 ≡ get_or vs k 0) → value_word m ws k ≡ value_word m vs k
-word-alike m k ws vs h = elim (cases_Bool (has m k)) [
-  | inl t ↦ rw (h t) refl
-  | inr n ↦ rw n refl
-]
+-- each word, 0 where it isn't valid
+word-shown : (c : Cache) (l k : ℕ) (f : FrameView) → Views c l f → k < 8
+    → (if has f.valid.0 k then get_or f.words k 0 else 0) ≡ unwrap_or (c.value (word_at l k)) 0
+word-shown c l k f v b =
+    let same : has f.valid.0 k ≡ is_some (c.value (word_at l k)) =
+    ap (λ m. has m k) v.valid ∙ has-mask_of (λ j. is_some (c.value (word_at l j))) k b in
+    elim (cases_Bool (has f.valid.0 k)) [
+      | inl t ↦ rw t (word-here c l k f v b t)
+      | inr n ↦ rw n (sym (nothing (c.value (word_at l k)) (sym same ∙ n)))
+    ]
+  where
+    nothing : (o : Option ℕ) → is_some o ≡ false → unwrap_or o 0 ≡ 0
+    nothing None e = refl
+    nothing (Some x) e = absurd (cc)
 
-words-alike : (m : ℕ) (ws vs : List ℕ) → ((k : ℕ) → k < 8 → has m k ≡ true → get_or ws k 0 ≡ get_or vs k 0)
-    → value_words m ws ≡ value_words m vs
-unfolding value_words
-words-alike m ws vs h = λ i.
-    codes " words" ++ (word-alike m 0 ws vs (h 0 (omega arith)) i ++ (word-alike m 1 ws vs (h 1 (omega arith)) i
-    ++ (word-alike m 2 ws vs (h 2 (omega arith)) i ++ (word-alike m 3 ws vs (h 3 (omega arith)) i
-    ++ (word-alike m 4 ws vs (h 4 (omega arith)) i ++ (word-alike m 5 ws vs (h 5 (omega arith)) i
-    ++ (word-alike m 6 ws vs (h 6 (omega arith)) i ++ (word-alike m 7 ws vs (h 7 (omega arith)) i ++ []))))))))
-
-eight-at : (g : ℕ → ℕ) (k : ℕ) → k < 8 → get_or (eight g) k 0 ≡ g k
-unfolding eight
-eight-at g zero b = refl
-eight-at g (suc zero) b = refl
-eight-at g (suc (suc zero)) b = refl
-eight-at g (suc (suc (suc zero))) b = refl
-eight-at g (suc (suc (suc (suc zero)))) b = refl
-eight-at g (suc (suc (suc (suc (suc zero))))) b = refl
-eight-at g (suc (suc (suc (suc (suc (suc zero)))))) b = refl
-eight-at g (suc (suc (suc (suc (suc (suc (suc zero))))))) b = refl
-eight-at g (suc (suc (suc (suc (suc (suc (suc (suc k)))))))) b = absurd (omega (arith, b))
+words-shown : (c : Cache) (l : ℕ) (f : FrameView) → Views c l f
+    → masked f.valid.0 f.words ≡ eight (λ k. unwrap_or (c.value (word_at l k)) 0)
+unfolding masked eight
+words-shown c l f v = λ i.
+    word-shown c l 0 f v (omega arith) i ∷ word-shown c l 1 f v (omega arith) i ∷ word-shown c l 2 f v (omega arith) i
+    ∷ word-shown c l 3 f v (omega arith) i ∷ word-shown c l 4 f v (omega arith) i ∷ word-shown c l 5 f v (omega arith) i
+    ∷ word-shown c l 6 f v (omega arith) i ∷ word-shown c l 7 f v (omega arith) i ∷ []
 
 -- ---- the tag of the first dirty word
 
@@ -97,24 +87,24 @@ tag-shown c l f v =
 
 -- ---- the whole
 
-frame-shown : (c : Cache) (l : ℕ) (f : FrameView) → Views c l f
-    → frame_words (shown_frame (if f.dirty.0 == 0 then 0 else f.tag.0) f) ≡ frame_words (frame_of c l)
-unfolding frame_words frame_of
-frame-shown c l f v =
-    let all : ℕ → ℕ = λ k. unwrap_or (c.value (word_at l k)) 0 in
-    let words : value_words f.valid.0 f.words ≡ value_words f.valid.0 (eight all) =
-    words-alike f.valid.0 f.words (eight all) (λ k b h. word-here c l k f v b h ∙ sym (eight-at all k b)) in
-    λ i. codes " line " ++ decimal (v.line i) ++ codes " valid " ++ decimal (v.valid i) ++ codes " read " ++ decimal (v.read i)
-    ++ codes " modified " ++ decimal (v.modified i) ++ codes " dirty " ++ decimal (v.dirty i)
-    ++ codes " tag " ++ decimal (tag-shown c l f v i) ++ (words ∙ ap (λ m. value_words m (eight all)) v.valid) i
+frame-shown : (c : Cache) (l : ℕ) (f : FrameView) → Views c l f → shown_frame f ≡ frame_of c l
+unfolding frame_of
+frame-shown c l f v = λ i. record {
+  line = v.line i;
+  valid = v.valid i;
+  read = v.read i;
+  modified = v.modified i;
+  dirty = v.dirty i;
+  tag = tag-shown c l f v i;
+  words = words-shown c l f v i;
+}
 
 pub way-shown : (id x y : ℕ) (c : Cache) (f : FrameView) → c.at x y ≡ Some f.line.0 → Views c f.line.0 f
-    → record_line (Holds id x y (shown_frame (if f.dirty.0 == 0 then 0 else f.tag.0) f)) ≡ record_lines (way_record id c x y)
-unfolding way_record record_line
-way-shown id x y c f e v =
-    ap (λ t. key_words (Holds id x y (frame_of c f.line.0)) ++ t ++ newline) (frame-shown c f.line.0 f v)
-    ∙ sym (line-alone (Holds id x y (frame_of c f.line.0))) ∙ ap (λ o. record_lines (held_record id x y c o)) (sym e)
-
-pub way-empty : (id x y : ℕ) (c : Cache) → c.at x y ≡ None → record_lines (way_record id c x y) ≡ []
+    → Holds id x y (shown_frame f) ∷ [] ≡ way_record id c x y
 unfolding way_record
-way-empty id x y c e = ap (λ o. record_lines (held_record id x y c o)) e ∙ lines-none
+way-shown id x y c f e v =
+    ap (λ t. Holds id x y t ∷ []) (frame-shown c f.line.0 f v) ∙ ap (λ o. held_record id x y c o) (sym e)
+
+pub way-empty : (id x y : ℕ) (c : Cache) → c.at x y ≡ None → way_record id c x y ≡ []
+unfolding way_record
+way-empty id x y c e = ap (λ o. held_record id x y c o) e

@@ -101,3 +101,7 @@ record_line r = key_words r ++ value_of r ++ newline
 -- the lines of records, one after another
 unfoldable pub record_lines : List Record → List ℕ
 record_lines rs = flat_map record_line rs
+
+-- with the same bytes before each line
+unfoldable pub led_lines : (lead : List ℕ) → List Record → List ℕ
+led_lines lead rs = flat_map (λ r. lead ++ record_line r) rs

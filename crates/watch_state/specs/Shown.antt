@@ -1,6 +1,6 @@
 -- What the code's own parts show, as the values of records.
 use Rattle.std.specs.Prelude.{ℕ, Bool, not, ◌==◌, ◌||◌, List, [], ◌∷◌, is_some, option_map, if◌then◌else◌}
-use Rattle.tcc_maps.specs.Masks.{has}
+use Rattle.tcc_maps.specs.Masks.{has, masked}
 use Rattle.tcc_maps.specs.Words.{any_below, those}
 use Rattle.dir_lines.specs.declared.core_set.CoreSet.{CoreSet}
 use Rattle.directory.specs.declared.directory.LineState.{LineState}
@@ -24,14 +24,14 @@ knows s sharers cores = is_some s.owner || (not (s.tag.0 == 0) || (s.asked || (n
 abbrev pub shown_record : (line home cores : ℕ) → LineState → CoreSet → List Record
 shown_record l home cores s sharers = if knows s sharers cores then LineIs l (shown_line home cores s sharers) ∷ [] else []
 
--- with this tag
-abbrev pub shown_frame : (tag : ℕ) → FrameView → Frame
-shown_frame tag f = record {
+-- without a tag where no word is dirty, and without the words that aren't valid
+abbrev pub shown_frame : FrameView → Frame
+shown_frame f = record {
   line = f.line.0;
   valid = f.valid.0;
   read = f.read.0;
   modified = f.modified.0;
   dirty = f.dirty.0;
-  tag = tag;
-  words = f.words;
+  tag = if f.dirty.0 == 0 then 0 else f.tag.0;
+  words = masked f.valid.0 f.words;
 }

@@ -1,28 +1,44 @@
-// A core, all its records appended to a text.
-ghost use Rattle.std.specs.Prelude.{◌≡◌, ◌++◌, OnOk, string_bytes};
+// A core, all its records appended to a list.
+ghost use Rattle.std.specs.Prelude.{◌≡◌, ◌++◌, OnOk, map};
 ghost use Rattle.core_node.specs.View.{core_of};
-ghost use Rattle.watch_state.specs.Cores.{core_records};
-ghost use Rattle.watch_state.specs.Lines.{record_lines};
+ghost use Rattle.watch_state.specs.Cores.{cached_records, core_records};
+ghost use Rattle.watch_state.specs.Plain.{record_of};
 
-use crate::attempts::push_attempt;
-use crate::frames::push_ways;
-use crate::registers::push_registers;
-use crate::spills::push_spills;
+use crate::attempts::add_attempt;
+use crate::frames::add_ways;
+use crate::records::Record;
+use crate::registers::add_registers;
+use crate::spills::add_spills;
 use core_node::CoreNode;
-use std::alloc::AllocError;
-use tcc_base::CoreId;
+use tcc_base::{CoreId, List, NoMemory};
 
-/// Appends the records of a core, which has this number. It takes time in the frames of its cache and in the lines of RAM. After want of
-/// memory a part of them may stand there.
-pub fn push_core(text: &mut String, id: CoreId, core: &CoreNode) -> Result<(), AllocError>
-    ensures { OnOk result (string_bytes text.new
-        ≡ string_bytes text.old ++ record_lines (core_records core.now.config id.0 (core_of core.now))) }
+/// Appends the records of a core, which has this number. It takes time in its registers, the directories and the frames of its cache, and
+/// in the lines of RAM only while it has spilled words. After want of memory a part of them may stand there.
+pub(crate) fn add_core(
+    records: &mut List<Record>,
+    id: CoreId,
+    core: &CoreNode,
+) -> Result<(), NoMemory>
+    ensures { OnOk result (map record_of records.new
+        ≡ map record_of records.old ++ core_records core.now.config id.0 (core_of core.now)) }
 {
     let held = core.core();
     let config = held.config;
-    push_attempt(text, &config, id, held)?;
-    push_registers(text, id, held)?;
-    push_ways(text, id, core, config.sets(), config.ways())?;
-    push_spills(text, id, &config, &held.spilled)?;
+    add_attempt(records, &config, id, held)?;
+    add_registers(records, id, held)?;
+    add_ways(records, id, core, config.sets(), config.ways())?;
+    add_spills(records, id, &config, &held.spilled)?;
     Ok(())
+}
+
+/// Appends what the cache of a core holds, and what it has spilled. It takes time in the frames of the cache, and in the lines of RAM only
+/// while the core has spilled words. After want of memory a part of it may stand there.
+pub fn add_cached(records: &mut List<Record>, id: CoreId, core: &CoreNode) -> Result<(), NoMemory>
+    ensures { OnOk result (map record_of records.new
+        ≡ map record_of records.old ++ cached_records core.now.config id.0 (core_of core.now)) }
+{
+    let held = core.core();
+    let config = held.config;
+    add_ways(records, id, core, config.sets(), config.ways())?;
+    add_spills(records, id, &config, &held.spilled)
 }

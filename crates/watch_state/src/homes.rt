@@ -1,6 +1,6 @@
-// The home words of a directory that aren't as they were loaded, each record appended to a text. Where memory runs out, the text holds a
+// The home words of a directory that aren't as they were loaded, each record appended to a list. Where memory runs out, the list holds a
 // part of it.
-ghost use Rattle.std.specs.Prelude.{◌≡◌, ◌+◌, ◌*◌, ◌/◌, ◌^◌, ◌<◌, ◌++◌, ◌==◌, ◌∷◌, [], ℕ, OnOk, string_bytes, if◌then◌else◌};
+ghost use Rattle.std.specs.Prelude.{◌≡◌, ◌+◌, ◌*◌, ◌/◌, ◌^◌, ◌<◌, ◌++◌, ◌==◌, ◌∷◌, [], ℕ, OnOk, map, if◌then◌else◌};
 ghost use Rattle.std.specs.List.{flat_map};
 ghost use Rattle.image_load.specs.Contents.{started};
 ghost use Rattle.rv_code.specs.Machine.{first_ram};
@@ -10,98 +10,103 @@ ghost use Rattle.tcc_rules.specs.Seen.{numbers};
 ghost use Rattle.dir_lines.specs.Home.{IsAtHome};
 ghost use Rattle.directory.specs.Data.{dir_of};
 ghost use Rattle.watch_state.specs.Directories.{at_home, word_record, word_records};
-ghost use Rattle.watch_state.specs.Lines.{record_line, record_lines};
+ghost use Rattle.watch_state.specs.Plain.{record_of};
 ghost use Rattle.watch_state.specs.Records.{HomeWord};
 
+use crate::attempts::add;
+use crate::records::Record;
 use directory::Directory;
 use rv_code::Code;
-use std::alloc::AllocError;
-use tcc_base::{DirId, LineAddr, WordAddr};
+use tcc_base::{DirId, LineAddr, List, NoMemory, WordAddr};
 
-#[tactic(auto, unfolding(crate::specs::Lines::record_lines, crate::specs::Lines::record_line))]
-fn push_changed(text: &mut String, addr: u32, value: u32, first: u32) -> Result<(), AllocError>
-    ensures { OnOk result (string_bytes text.new
-        ≡ string_bytes text.old ++ record_lines (if value == first then [] else HomeWord addr value ∷ [])) }
+fn add_changed(
+    records: &mut List<Record>,
+    addr: u32,
+    value: u32,
+    first: u32,
+) -> Result<(), NoMemory>
+    ensures { OnOk result (map record_of records.new
+        ≡ map record_of records.old ++ (if value == first then [] else HomeWord addr value ∷ [])) }
 {
     if value == first {
         return Ok(());
     }
-    write!(text, "home {addr:08x} {value:08x}\n")
+    add(records, Record::HomeWord { addr, value })
 }
 
 #[tactic(auto, unfolding(crate::specs::Directories::word_record))]
-fn push_word(
-    text: &mut String,
+fn add_word(
+    records: &mut List<Record>,
     dir: &Directory,
     code: &Code,
     word: WordAddr,
-) -> Result<(), AllocError>
+) -> Result<(), NoMemory>
     requires at_home { IsAtHome dir.now.lines.place (line_of word.0) }
     requires exists { word.0 < code.now.settings.ram / 4 }
-    ensures { (elsewhere : ℕ → ℕ) → OnOk result (string_bytes text.new ≡ string_bytes text.old ++ record_lines
-        (word_record code.now.settings (first_ram (started code.now)) (dir_of elsewhere dir.now).words word.0)) }
+    ensures { (elsewhere : ℕ → ℕ) → OnOk result (map record_of records.new ≡ map record_of records.old
+        ++ word_record code.now.settings (first_ram (started code.now)) (dir_of elsewhere dir.now).words word.0) }
 {
     let addr = code.config().base() + 4 * word.0;
-    push_changed(text, addr, dir.word(word), code.word(word))?;
+    add_changed(records, addr, dir.word(word), code.word(word))?;
     Ok(())
 }
 
 /// The words of a line that is at home at the directory.
-#[tactic(auto, unfolding(crate::specs::Directories::word_records, tcc_maps::specs::Words::those, crate::specs::Lines::record_lines))]
-fn push_words(
-    text: &mut String,
+#[tactic(auto, unfolding(crate::specs::Directories::word_records, tcc_maps::specs::Words::those))]
+fn add_words(
+    records: &mut List<Record>,
     dir: &Directory,
     code: &Code,
     line: LineAddr,
-) -> Result<(), AllocError>
+) -> Result<(), NoMemory>
     requires at_home { IsAtHome dir.now.lines.place line.0 }
     requires exists { line.0 < lines code.now.settings }
     requires small { line.0 < 2 ^ 29 }
-    ensures { (elsewhere : ℕ → ℕ) → OnOk result (string_bytes text.new ≡ string_bytes text.old ++ record_lines
-        (word_records code.now.settings (first_ram (started code.now)) (dir_of elsewhere dir.now).words line.0)) }
+    ensures { (elsewhere : ℕ → ℕ) → OnOk result (map record_of records.new ≡ map record_of records.old
+        ++ word_records code.now.settings (first_ram (started code.now)) (dir_of elsewhere dir.now).words line.0) }
 {
     for k in 0..8 {
-        push_word(text, dir, code, WordAddr(8 * line.0 + k))?;
+        add_word(records, dir, code, WordAddr(8 * line.0 + k))?;
     }
     Ok(())
 }
 
 /// The words of a line, where it is at home at the directory.
-fn push_words_at_home(
-    text: &mut String,
+fn add_words_at_home(
+    records: &mut List<Record>,
     id: DirId,
     dir: &Directory,
     code: &Code,
     line: LineAddr,
-) -> Result<(), AllocError>
+) -> Result<(), NoMemory>
     requires place { dir.now.lines.place ≡ record { shape = code.now.settings; dir = id.0 } }
     requires exists { line.0 < lines code.now.settings }
     requires small { line.0 < 2 ^ 29 }
-    ensures { (elsewhere : ℕ → ℕ) → OnOk result (string_bytes text.new ≡ string_bytes text.old ++ record_lines (at_home code.now.settings
-        id.0 (word_records code.now.settings (first_ram (started code.now)) (dir_of elsewhere dir.now).words) line.0)) }
+    ensures { (elsewhere : ℕ → ℕ) → OnOk result (map record_of records.new ≡ map record_of records.old ++ at_home code.now.settings
+        id.0 (word_records code.now.settings (first_ram (started code.now)) (dir_of elsewhere dir.now).words) line.0) }
 {
     let home = code.config().home(line);
     if id.0 == home.0 {
-        push_words(text, dir, code, line)?;
+        add_words(records, dir, code, line)?;
     }
     Ok(())
 }
 
 /// All words at home at the directory that aren't as they were loaded, by rising address.
-#[tactic(auto, unfolding(tcc_maps::specs::Words::those, crate::specs::Lines::record_lines))]
-pub(crate) fn push_home_words(
-    text: &mut String,
+#[tactic(auto, unfolding(tcc_maps::specs::Words::those))]
+pub(crate) fn add_home_words(
+    records: &mut List<Record>,
     id: DirId,
     dir: &Directory,
     code: &Code,
-) -> Result<(), AllocError>
+) -> Result<(), NoMemory>
     requires { dir.now.lines.place ≡ record { shape = code.now.settings; dir = id.0 } }
-    ensures { (elsewhere : ℕ → ℕ) → let sh = code.now.settings in OnOk result (string_bytes text.new ≡ string_bytes text.old ++ record_lines
-        (flat_map (at_home sh id.0 (word_records sh (first_ram (started code.now)) (dir_of elsewhere dir.now).words))
-        (numbers (lines sh)))) }
+    ensures { (elsewhere : ℕ → ℕ) → let sh = code.now.settings in OnOk result (map record_of records.new ≡ map record_of records.old
+        ++ flat_map (at_home sh id.0 (word_records sh (first_ram (started code.now)) (dir_of elsewhere dir.now).words))
+        (numbers (lines sh))) }
 {
     for line in 0..code.config().words() / 8 {
-        push_words_at_home(text, id, dir, code, LineAddr(line))?;
+        add_words_at_home(records, id, dir, code, LineAddr(line))?;
     }
     Ok(())
 }

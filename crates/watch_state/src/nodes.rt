@@ -1,5 +1,5 @@
 // All nodes of a machine, the records of each appended to a text. Where memory runs out, the text holds a part of them.
-ghost use Rattle.std.specs.Prelude.{◌≡◌, ◌++◌, OnOk, string_bytes};
+ghost use Rattle.std.specs.Prelude.{◌≡◌, ◌++◌, ◌<◌, ◌∷◌, [], OnOk, string_bytes, map};
 ghost use Rattle.std.specs.List.{flat_map};
 ghost use Rattle.rv_code.specs.Machine.{first_ram};
 ghost use Rattle.tcc_rules.specs.Seen.{numbers};
@@ -7,50 +7,134 @@ ghost use Rattle.net_core.specs.Machine.{settings_of, start_of, world_of};
 ghost use Rattle.watch_state.specs.Cores.{core_records};
 ghost use Rattle.watch_state.specs.Directories.{directory_records};
 ghost use Rattle.watch_state.specs.Lines.{record_lines};
+ghost use Rattle.watch_state.specs.Plain.{record_of};
+ghost use Rattle.watch_state.specs.Records.{VendorIs};
 ghost use Rattle.watch_state.specs.Text.{node_records};
 
-use crate::cores::push_core;
-use crate::directories::push_directory;
-use crate::flights::push_vendor;
+use crate::attempts::add;
+use crate::cores::add_core;
+use crate::directories::add_directory;
+use crate::lines::push_records;
+use crate::records::Record;
 use net_core::System;
-use std::alloc::AllocError;
-use tcc_base::{CoreId, DirId};
+use std::alloc::{AllocError, Global};
+use tcc_base::{CoreId, DirId, List, NoMemory, Tid};
+
+/// Appends the record of the vendor, with the TID that it gives next. After want of memory the list is as before.
+pub fn add_vendor(records: &mut List<Record>, next: Tid) -> Result<(), NoMemory>
+    ensures { OnOk result (map record_of records.new ≡ map record_of records.old ++ VendorIs next.0 ∷ []) }
+{
+    add(records, Record::VendorIs { next })
+}
+
+/// Appends the records of a core of the machine. It takes the time of `add_core`. After want of memory a part of them may stand there.
+pub fn add_core_of(
+    records: &mut List<Record>,
+    system: &System,
+    core: CoreId,
+) -> Result<(), NoMemory>
+    requires { core.0 < (settings_of system.now).cores }
+    ensures { OnOk result (map record_of records.new ≡ map record_of records.old
+        ++ core_records (settings_of system.now) core.0 ((world_of system.now).cores core.0)) }
+{
+    add_core(records, core, system.core(core))
+}
+
+/// Appends the records of a directory of the machine. It takes the time of `add_directory`. After want of memory a part of them may stand
+/// there.
+pub fn add_directory_of(
+    records: &mut List<Record>,
+    system: &System,
+    dir: DirId,
+) -> Result<(), NoMemory>
+    requires { dir.0 < (settings_of system.now).dirs }
+    ensures { OnOk result (map record_of records.new ≡ map record_of records.old ++ directory_records
+        (settings_of system.now) (first_ram (start_of system.now)) dir.0 ((world_of system.now).dirs dir.0)) }
+{
+    add_directory(records, dir, system.directory(dir), system.code())
+}
+
+fn push_core(
+    text: &mut String,
+    records: &mut List<Record>,
+    id: CoreId,
+    system: &System,
+) -> Result<(), AllocError>
+    requires { id.0 < (settings_of system.now).cores }
+    ensures { OnOk result (string_bytes text.new ≡ string_bytes text.old
+        ++ record_lines (core_records (settings_of system.now) id.0 ((world_of system.now).cores id.0))) }
+{
+    records.items.clear();
+    add_core_of(records, system, id).map_err(|_| AllocError)?;
+    push_records(text, &records.items)
+}
+
+fn push_directory(
+    text: &mut String,
+    records: &mut List<Record>,
+    id: DirId,
+    system: &System,
+) -> Result<(), AllocError>
+    requires { id.0 < (settings_of system.now).dirs }
+    ensures { OnOk result (string_bytes text.new ≡ string_bytes text.old ++ record_lines
+        (directory_records (settings_of system.now) (first_ram (start_of system.now)) id.0 ((world_of system.now).dirs id.0))) }
+{
+    records.items.clear();
+    add_directory_of(records, system, id).map_err(|_| AllocError)?;
+    push_records(text, &records.items)
+}
+
+fn push_vendor(text: &mut String, records: &mut List<Record>, next: Tid) -> Result<(), AllocError>
+    ensures { OnOk result (string_bytes text.new ≡ string_bytes text.old ++ record_lines (VendorIs next.0 ∷ [])) }
+{
+    records.items.clear();
+    add_vendor(records, next).map_err(|_| AllocError)?;
+    push_records(text, &records.items)
+}
 
 #[tactic(auto, unfolding(tcc_maps::specs::Words::those, crate::specs::Lines::record_lines))]
-fn push_cores(text: &mut String, system: &System) -> Result<(), AllocError>
+fn push_cores(
+    text: &mut String,
+    records: &mut List<Record>,
+    system: &System,
+) -> Result<(), AllocError>
     ensures { let sh = settings_of system.now in OnOk result (string_bytes text.new ≡ string_bytes text.old
         ++ record_lines (flat_map (λ c. core_records sh c ((world_of system.now).cores c)) (numbers sh.cores))) }
 {
     for core in 0..system.config().cores() {
-        push_core(text, CoreId(core), system.core(CoreId(core)))?;
+        push_core(text, records, CoreId(core), system)?;
     }
     Ok(())
 }
 
 #[tactic(auto, unfolding(tcc_maps::specs::Words::those, crate::specs::Lines::record_lines))]
-fn push_directories(text: &mut String, system: &System) -> Result<(), AllocError>
+fn push_directories(
+    text: &mut String,
+    records: &mut List<Record>,
+    system: &System,
+) -> Result<(), AllocError>
     ensures { let sh = settings_of system.now in let first = first_ram (start_of system.now) in
         OnOk result (string_bytes text.new ≡ string_bytes text.old
         ++ record_lines (flat_map (λ d. directory_records sh first d ((world_of system.now).dirs d)) (numbers sh.dirs))) }
 {
     for dir in 0..system.config().dirs() {
-        push_directory(
-            text,
-            DirId(dir),
-            system.directory(DirId(dir)),
-            system.code(),
-        )?;
+        push_directory(text, records, DirId(dir), system)?;
     }
     Ok(())
 }
 
-/// The records of all nodes.
-pub(crate) fn push_nodes(text: &mut String, system: &System) -> Result<(), AllocError>
+/// The records of all nodes. It takes memory for those of one.
+pub(crate) fn push_nodes(
+    alloc: Global,
+    text: &mut String,
+    system: &System,
+) -> Result<(), AllocError>
     ensures { OnOk result (string_bytes text.new ≡ string_bytes text.old
         ++ record_lines (node_records (settings_of system.now) (first_ram (start_of system.now)) (world_of system.now))) }
 {
-    push_cores(text, system)?;
-    push_directories(text, system)?;
-    push_vendor(text, system.next_tid())?;
+    let mut records = List::new(alloc);
+    push_cores(text, &mut records, system)?;
+    push_directories(text, &mut records, system)?;
+    push_vendor(text, &mut records, system.next_tid())?;
     Ok(())
 }

@@ -24,9 +24,18 @@ pub(crate) fn any_in(bits: u64, count: u8) -> bool
     !DirSet { bits }.is_empty_below(count)
 }
 
-/// The numbers below this count that are in the set.
+/// The set without the numbers from this count on.
+pub fn only_below(bits: u64, count: u8) -> u64
+    requires { count ≤ 64 }
+    ensures { those (has result) 64 ≡ those (has bits) count }
+{
+    let beyond = DirSet { bits }.minus(DirSet::below(count));
+    DirSet { bits }.minus(beyond).bits
+}
+
+/// Appends the numbers below this count that are in the set, each behind a space. After want of memory a part of them may stand there.
 #[tactic(auto, unfolding(tcc_maps::specs::Words::those))]
-pub(crate) fn push_numbers(text: &mut String, bits: u64, count: u8) -> Result<(), AllocError>
+pub fn push_numbers(text: &mut String, bits: u64, count: u8) -> Result<(), AllocError>
     requires { count ≤ 64 }
     ensures { OnOk result (string_bytes text.new ≡ string_bytes text.old ++ number_words (those (has bits) count)) }
 {

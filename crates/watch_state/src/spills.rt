@@ -1,80 +1,96 @@
-// The words that a core has spilled, each record appended to a text. Where memory runs out, the text holds a part of it.
-ghost use Rattle.std.specs.Prelude.{◌≡◌, ◌+◌, ◌*◌, ◌/◌, ◌^◌, ◌<◌, ◌≤◌, ◌++◌, OnOk, string_bytes};
+// The words that a core has spilled, each record appended to a list. Where memory runs out, the list holds a part of it.
+ghost use Rattle.std.specs.Prelude.{◌≡◌, ◌+◌, ◌*◌, ◌/◌, ◌^◌, ◌<◌, ◌++◌, OnOk, map};
 ghost use Rattle.std.specs.List.{flat_map};
 ghost use Rattle.tcc_maps.specs.Shape.{lines};
 ghost use Rattle.tcc_rules.specs.Seen.{numbers};
 ghost use Rattle.overflow_buf.specs.Kept.{spilled};
 ghost use Rattle.watch_state.specs.Cores.{spilled_record, spilled_records, spilled_word};
-ghost use Rattle.watch_state.specs.Lines.{record_line, record_lines};
+ghost use Rattle.watch_state.specs.Plain.{record_of};
 
+use crate::attempts::add;
+use crate::records::Record;
 use overflow_buf::OverflowBuf;
-use std::alloc::AllocError;
-use tcc_base::{Config, CoreId, LineAddr, WordAddr};
+use tcc_base::{Config, CoreId, LineAddr, List, NoMemory, WordAddr};
 
-#[tactic(auto, unfolding(crate::specs::Lines::record_lines, crate::specs::Lines::record_line))]
-fn push_spilled(
-    text: &mut String,
+fn add_spilled(
+    records: &mut List<Record>,
     core: CoreId,
     addr: u32,
     value: Option<u32>,
-) -> Result<(), AllocError>
-    ensures { OnOk result (string_bytes text.new ≡ string_bytes text.old ++ record_lines (spilled_record core.0 addr value)) }
+) -> Result<(), NoMemory>
+    ensures { OnOk result (map record_of records.new ≡ map record_of records.old ++ spilled_record core.0 addr value) }
 {
     match value {
-        Some(value) => write!(text, "spilled {} {addr:08x} {value:08x}\n", core.0),
+        Some(value) => add(records, Record::Spilled { core, addr, value }),
         None => Ok(()),
     }
 }
 
 #[tactic(auto, unfolding(crate::specs::Cores::spilled_word))]
-fn push_word(
-    text: &mut String,
+fn add_word(
+    records: &mut List<Record>,
     core: CoreId,
     config: &Config,
     kept: &OverflowBuf,
     word: WordAddr,
-) -> Result<(), AllocError>
+) -> Result<(), NoMemory>
     requires { word.0 < config.now.ram / 4 }
-    ensures { OnOk result (string_bytes text.new
-        ≡ string_bytes text.old ++ record_lines (spilled_word config.now core.0 (spilled kept.now) word.0)) }
+    ensures { OnOk result (map record_of records.new
+        ≡ map record_of records.old ++ spilled_word config.now core.0 (spilled kept.now) word.0) }
 {
     let addr = config.base() + 4 * word.0;
-    push_spilled(text, core, addr, kept.get(word))
+    add_spilled(records, core, addr, kept.get(word))
 }
 
 /// The spilled words of a line.
-#[tactic(auto, unfolding(crate::specs::Cores::spilled_records, tcc_maps::specs::Words::those, crate::specs::Lines::record_lines))]
-fn push_line(
-    text: &mut String,
+#[tactic(auto, unfolding(crate::specs::Cores::spilled_records, tcc_maps::specs::Words::those))]
+fn add_line(
+    records: &mut List<Record>,
     core: CoreId,
     config: &Config,
     kept: &OverflowBuf,
     line: LineAddr,
-) -> Result<(), AllocError>
+) -> Result<(), NoMemory>
     requires exists { line.0 < lines config.now }
     requires small { line.0 < 2 ^ 29 }
-    ensures { OnOk result (string_bytes text.new
-        ≡ string_bytes text.old ++ record_lines (spilled_records config.now core.0 (spilled kept.now) line.0)) }
+    ensures { OnOk result (map record_of records.new
+        ≡ map record_of records.old ++ spilled_records config.now core.0 (spilled kept.now) line.0) }
 {
     for k in 0..8 {
-        push_word(text, core, config, kept, WordAddr(8 * line.0 + k))?;
+        add_word(records, core, config, kept, WordAddr(8 * line.0 + k))?;
     }
     Ok(())
 }
 
-/// All spilled words, by rising address.
-#[tactic(auto, unfolding(tcc_maps::specs::Words::those, crate::specs::Lines::record_lines))]
-pub(crate) fn push_spills(
-    text: &mut String,
+/// All spilled words, by rising address, of a core that has spilled some.
+#[tactic(auto, unfolding(tcc_maps::specs::Words::those))]
+fn add_lines(
+    records: &mut List<Record>,
     core: CoreId,
     config: &Config,
     kept: &OverflowBuf,
-) -> Result<(), AllocError>
-    ensures { OnOk result (string_bytes text.new ≡ string_bytes text.old
-        ++ record_lines (flat_map (spilled_records config.now core.0 (spilled kept.now)) (numbers (lines config.now)))) }
+) -> Result<(), NoMemory>
+    ensures { OnOk result (map record_of records.new ≡ map record_of records.old
+        ++ flat_map (spilled_records config.now core.0 (spilled kept.now)) (numbers (lines config.now))) }
 {
     for line in 0..config.words() / 8 {
-        push_line(text, core, config, kept, LineAddr(line))?;
+        add_line(records, core, config, kept, LineAddr(line))?;
     }
     Ok(())
+}
+
+/// All spilled words, by rising address. It takes time in the lines of RAM where the core has spilled any, and else constant time.
+pub(crate) fn add_spills(
+    records: &mut List<Record>,
+    core: CoreId,
+    config: &Config,
+    kept: &OverflowBuf,
+) -> Result<(), NoMemory>
+    ensures { OnOk result (map record_of records.new ≡ map record_of records.old
+        ++ flat_map (spilled_records config.now core.0 (spilled kept.now)) (numbers (lines config.now))) }
+{
+    if kept.is_empty() {
+        return Ok(());
+    }
+    add_lines(records, core, config, kept)
 }

@@ -17,8 +17,8 @@ use tcc_base::NoMemory;
 /// All that was sent stands on its links.
 ///
 /// Takes time in the lines of RAM for each core and directory, in the frames of all caches, for each pair of nodes and each message in
-/// flight, and for each eviction that is enabled in the number of useful ones; takes memory for the text alone. Fails only for want of
-/// memory.
+/// flight, and for each eviction that is enabled in the number of useful ones; takes memory for the text and the records of one node. Fails
+/// only for want of memory.
 pub fn state(alloc: Global, done: bool, events: u64, system: &System) -> Result<String, NoMemory>
     requires settled { system.now.unsent ≡ [] }
     ensures { IfOk result (λ text. string_bytes text ≡ state_text (start_of system.now) done events (history_of system.now)) }
@@ -37,8 +37,8 @@ fn state_or_error(
 {
     let mut text = String::from_str(alloc, "tcc-state 1\n")?;
     push_config(&mut text, system.config())?;
-    push_nodes(&mut text, system)?;
-    push_links(&mut text, system)?;
+    push_nodes(alloc, &mut text, system)?;
+    push_links(&mut text, "", system)?;
     push_all_enabled(&mut text, system)?;
     push_end(&mut text, done)?;
     push_events(&mut text, events)?;

@@ -8,25 +8,25 @@ ghost use Rattle.report_text.specs.Lines.{hex};
 use itoa::Buffer;
 use std::alloc::AllocError;
 
-/// A decimal number without leading zeros.
-pub(crate) fn push_decimal(text: &mut String, number: u64) -> Result<(), AllocError>
+/// Appends a decimal number without leading zeros. After want of memory a part of it may stand there.
+pub fn push_decimal(text: &mut String, number: u64) -> Result<(), AllocError>
     ensures { OnOk result (string_bytes text.new ≡ string_bytes text.old ++ decimal number) }
 {
     let mut buffer = Buffer::new();
     text.push_str(buffer.format(number))
 }
 
-/// A decimal number behind its name.
+/// Appends a decimal number behind its name. After want of memory a part of it may stand there.
 #[tactic(auto, unfolding(crate::specs::Words::field))]
-pub(crate) fn push_field(text: &mut String, name: &str, number: u64) -> Result<(), AllocError>
+pub fn push_field(text: &mut String, name: &str, number: u64) -> Result<(), AllocError>
     ensures { OnOk result (string_bytes text.new ≡ string_bytes text.old ++ field name.now number) }
 {
     text.push_str(name)?;
     push_decimal(text, number)
 }
 
-/// Two decimal numbers, each behind its name.
-pub(crate) fn push_fields(
+/// Appends two decimal numbers, each behind its name. After want of memory a part of them may stand there.
+pub fn push_fields(
     text: &mut String,
     name: &str,
     number: u64,
@@ -69,8 +69,8 @@ fn push_four_digits(text: &mut String, value: u16) -> Result<(), AllocError>
     push_byte(text, (value % 256) as u8)
 }
 
-/// A word in eight hexadecimal digits.
-pub(crate) fn push_hex(text: &mut String, value: u32) -> Result<(), AllocError>
+/// Appends a word in eight hexadecimal digits. After want of memory a part of it may stand there.
+pub fn push_hex(text: &mut String, value: u32) -> Result<(), AllocError>
     ensures { OnOk result (string_bytes text.new ≡ string_bytes text.old ++ hex 8 value) }
 {
     push_four_digits(text, (value / 65536) as u16)?;

@@ -15,8 +15,9 @@ fn push_version(text: &mut String) -> Result<(), AllocError>
     text.push_str("tcc-trace 1\n")
 }
 
+/// Appends the number of the first event that is shown. After want of memory a part of the line may stand there.
 #[tactic(auto, unfolding(crate::specs::Text::from_line))]
-fn push_from(text: &mut String, from: u64) -> Result<(), AllocError>
+pub fn push_from(text: &mut String, from: u64) -> Result<(), AllocError>
     ensures { OnOk result (string_bytes text.new ≡ string_bytes text.old ++ from_line from) }
 {
     text.push_str("from ")?;

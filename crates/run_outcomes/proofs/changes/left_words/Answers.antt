@@ -2,8 +2,11 @@ use Rattle.run_outcomes.proofs.Untouched.{touched-inside, told-if}
 use Rattle.std.proofs.Common.{length}
 use Rattle.run_outcomes.proofs.changes.left_words.Goals as goal
 
-pub differing-requires : goal.differing-requires
-differing-requires c =
+pub differing-requires-clause-sorted : goal.differing-requires-clause-sorted
+differing-requires-clause-sorted c = rw c.deref.ensures.value c.in_ok-words.ensures.sorted
+
+pub differing-requires-clause-inside : goal.differing-requires-clause-inside
+differing-requires-clause-inside c =
     rw c.deref.ensures.value
     (touched-inside c.args.base (length c.args.memory.now.ram) c.args.changes.now c.args.stores.now c.in_ok-words.words.items
     c.requires.changes c.requires.stores c.in_ok-words.ensures.same)

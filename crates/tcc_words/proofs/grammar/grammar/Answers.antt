@@ -1,7 +1,7 @@
 use Rattle.std.proofs.Common.{◌≡◌, ◌⊎◌, ap, codes, inl, inr}
 use Rattle.std.proofs.lemmas.Result.{IfOk-weaker}
 use Rattle.tcc_words.specs.Grammar.{file_rules, rules}
-use Rattle.tcc_words.proofs.Rules.{bus_made, filed_made, phases_made, run_made, trial_made}
+use Rattle.tcc_words.proofs.Rules.{bus_made, count_made, filed_made, phases_made, run_made, state_made, trace_made, trial_made}
 use Rattle.tcc_words.proofs.grammar.grammar.Goals as goal
 use Rattle.tcc_words.specs.declared.command.Verb.{Verb}
 use Rattle.tcc_words.specs.declared.command.Verb.TheVariants.{Replay, Why}
@@ -43,3 +43,22 @@ returns-in_ok-events-in-Bus c =
     IfOk-weaker c.with_places.result _ _ (λ m h. bus_made c.args.verb c.args.name.now _ _ _ _ _ c.in-Bus.is c.requires
     c.bare-named.ensures c.in_ok-cores-in-Bus.ensures c.in_ok-machine-in-Bus.ensures c.in_ok-events-in-Bus.ensures h)
     c.with_places.ensures
+
+pub returns-in_ok-states-in-Trace : goal.returns-in_ok-states-in-Trace
+returns-in_ok-states-in-Trace c =
+    IfOk-weaker c.with_places-in-Trace.result _ _ (λ m h. trace_made c.args.verb c.args.name.now _ _ _ _ _ _ c.in-Trace.is c.requires
+    c.bare-named.ensures c.in_ok-source-in-Trace.ensures c.in_ok-from-in-Trace.ensures c.in_ok-to-in-Trace.ensures
+    c.in_ok-states-in-Trace.ensures h)
+    c.with_places-in-Trace.ensures
+
+pub returns-in_ok-csv-in-Count : goal.returns-in_ok-csv-in-Count
+returns-in_ok-csv-in-Count c =
+    IfOk-weaker c.with_places-in-Count.result _ _ (λ m h. count_made c.args.verb c.args.name.now _ _ _ _ c.in-Count.is c.requires
+    c.bare-named.ensures c.in_ok-source-in-Count.ensures c.in_ok-csv-in-Count.ensures h)
+    c.with_places-in-Count.ensures
+
+pub returns-in_ok-events-in-State : goal.returns-in_ok-events-in-State
+returns-in_ok-events-in-State c =
+    IfOk-weaker c.with_places-in-State.result _ _ (λ m h. state_made c.args.verb c.args.name.now _ _ _ _ c.in-State.is c.requires
+    c.bare-named.ensures c.in_ok-source-in-State.ensures c.in_ok-events-in-State.ensures h)
+    c.with_places-in-State.ensures

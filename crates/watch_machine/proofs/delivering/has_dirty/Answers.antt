@@ -1,7 +1,7 @@
 -- The mask of the frame's dirty words, and no dirty word where there is no frame.
 use Rattle.std.proofs.Common.{sym, refl}
 use Rattle.core_node.specs.View.{core_of}
-use Rattle.watch_machine.proofs.Masks.{clean, dirty-bit}
+use Rattle.watch_core.proofs.Lemmas.{clean, dirty-bit}
 use Rattle.watch_machine.proofs.delivering.has_dirty.Goals as goal
 
 pub returns-in-Some : goal.returns-in-Some

@@ -6,7 +6,7 @@ use Rattle.tcc_maps.specs.Nodes.{Core, Exec}
 use Rattle.net_core.specs.Machine.{settings_of, world_of}
 use Rattle.watch.specs.Instructions.{executed}
 use Rattle.watch.specs.Plain.{fact_of}
-use Rattle.watch_machine.specs.Telling.{Saw}
+use Rattle.watch_core.specs.Seen.{Saw}
 use Rattle.watch_machine.proofs.Enabled.{core-named}
 use Rattle.watch_machine.proofs.Happening.{room-for, told-all, told_behind}
 use Rattle.watch_machine.proofs.executing.watch_exec.Goals as goal

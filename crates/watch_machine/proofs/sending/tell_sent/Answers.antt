@@ -8,7 +8,8 @@ use Rattle.tcc_rules.specs.Useful.{nodes}
 use Rattle.net_core.specs.Machine.{settings_of}
 use Rattle.watch.specs.Plain.{fact_of}
 use Rattle.watch_machine.specs.Telling.{last_to}
-use Rattle.watch_machine.proofs.Numbering.{node-told, none-past, nothing-sent}
+use Rattle.watch_core.proofs.Lemmas.{none-past}
+use Rattle.watch_machine.proofs.Numbering.{node-told, nothing-sent}
 use Rattle.watch_machine.proofs.sending.tell_sent.Goals as goal
 use Rattle.watch_machine.proofs.sending.tell_sent.Goals.{in-Some+in_ok-tell_link, in_default}
 

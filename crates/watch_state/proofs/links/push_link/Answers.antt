@@ -15,12 +15,12 @@ loop-i-preserved c =
     let dst = node_of c.args.dst in
     elim c.match-flying_at.branch [
       | in-Some+in_ok-push_flight b ↦
-          text-listed (flight_lines w src dst) (flying_on w src dst) c.loop-i.i b.in-Some.seq
+          text-listed (flight_lines c.args.lead.now w src dst) (flying_on w src dst) c.loop-i.i b.in-Some.seq
           (string_bytes c.args.text.now) (string_bytes c.loop-i.text) (string_bytes c.match-flying_at.text)
           (sym b.in-Some.ensures.number) c.loop-i.invariant
           (ap string_bytes b.text-is ∙ b.in_ok-push_flight.ensures
           ∙ ap (λ t. string_bytes c.loop-i.text ++ t)
-          (flight-written w src dst b.in-Some.seq (msg_of b.in-Some.msg.now) b.in-Some.ensures.own))
+          (flight-written c.args.lead.now w src dst b.in-Some.seq (msg_of b.in-Some.msg.now) b.in-Some.ensures.own))
       | in_default b ↦
           absurd (none-past (flying_on w src dst) c.loop-i.i (sym b.in_default.ensures.number)
           (omega (arith, c.flying-i-end.ensures, c.loop-i-test.true)))
@@ -31,6 +31,6 @@ returns c =
     let w = world_of c.args.system.now in
     let src = node_of c.args.src in
     let dst = node_of c.args.dst in
-    text-whole (flight_lines w src dst) (flying_on w src dst) c.loop-i.i (string_bytes c.args.text.now) (string_bytes c.loop-i.text)
-    (omega (arith, c.flying-i-end.ensures, c.loop-i-test.false)) c.loop-i.invariant
-    ∙ ap (λ lines. string_bytes c.args.text.now ++ lines) (flights-written w src dst)
+    text-whole (flight_lines c.args.lead.now w src dst) (flying_on w src dst) c.loop-i.i (string_bytes c.args.text.now)
+    (string_bytes c.loop-i.text) (omega (arith, c.flying-i-end.ensures, c.loop-i-test.false)) c.loop-i.invariant
+    ∙ ap (λ lines. string_bytes c.args.text.now ++ lines) (flights-written c.args.lead.now w src dst)

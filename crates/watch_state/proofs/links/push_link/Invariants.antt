@@ -10,5 +10,5 @@ abbrev pub invariant-loop-i : goal.invariant-loop-i
 invariant-loop-i l =
     string_bytes l.text
     ≡ string_bytes l.fn.text
-    ++ flat_map (flight_lines (world_of l.system) (node_of l.src) (node_of l.dst))
+    ++ flat_map (flight_lines l.lead (world_of l.system) (node_of l.src) (node_of l.dst))
     (take l.i (flying_on (world_of l.system) (node_of l.src) (node_of l.dst)))

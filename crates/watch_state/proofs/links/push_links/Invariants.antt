@@ -3,7 +3,7 @@ use Rattle.std.proofs.Common.{◌≡◌, ◌++◌, string_bytes, take}
 use Rattle.std.specs.List.{flat_map}
 use Rattle.tcc_rules.specs.Useful.{nodes}
 use Rattle.net_core.specs.Machine.{settings_of, world_of}
-use Rattle.watch_state.specs.Lines.{record_lines}
+use Rattle.watch_state.specs.Lines.{led_lines}
 use Rattle.watch_state.specs.Text.{records_from}
 use Rattle.watch_state.proofs.links.push_links.Given as goal
 
@@ -11,4 +11,4 @@ abbrev pub invariant-loop-place : goal.invariant-loop-place
 invariant-loop-place l =
     string_bytes l.text
     ≡ string_bytes l.fn.text
-    ++ record_lines (flat_map (records_from (settings_of l.system) (world_of l.system)) (take l.place (nodes (settings_of l.system))))
+    ++ led_lines l.lead (flat_map (records_from (settings_of l.system) (world_of l.system)) (take l.place (nodes (settings_of l.system))))

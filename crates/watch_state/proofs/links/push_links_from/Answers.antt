@@ -5,7 +5,7 @@ use Rattle.tcc_maps.specs.Bridge.{node_of}
 use Rattle.tcc_rules.specs.Useful.{nodes}
 use Rattle.net_core.specs.Machine.{settings_of, world_of}
 use Rattle.watch_state.specs.Text.{link_records}
-use Rattle.watch_state.proofs.Listed.{lines-listed, none-past}
+use Rattle.watch_state.proofs.Listed.{led-listed, none-past}
 use Rattle.watch_state.proofs.links.push_links_from.Goals as goal
 use Rattle.watch_state.proofs.links.push_links_from.Goals.{in-Some+in_ok-push_link, in_default}
 
@@ -15,7 +15,7 @@ loop-place-preserved c =
     let k = c.loop-place.place in
     elim c.match-node_at.branch [
       | in-Some+in_ok-push_link b ↦
-          lines-listed (link_records (world_of c.args.system.now) (node_of c.args.src)) (nodes sh) k (node_of b.in-Some.dst)
+          led-listed c.args.lead.now (link_records (world_of c.args.system.now) (node_of c.args.src)) (nodes sh) k (node_of b.in-Some.dst)
           (string_bytes c.args.text.now) (string_bytes c.loop-place.text) (string_bytes c.match-node_at.text)
           (sym (b.in-Some.ensures ∙ ap (λ s. slice_get (nodes s) k) c.config-config.ensures)) c.loop-place.invariant
           (ap string_bytes b.text-is ∙ b.in_ok-push_link.ensures)

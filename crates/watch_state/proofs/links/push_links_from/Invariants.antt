@@ -4,7 +4,7 @@ use Rattle.std.specs.List.{flat_map}
 use Rattle.tcc_maps.specs.Bridge.{node_of}
 use Rattle.tcc_rules.specs.Useful.{nodes}
 use Rattle.net_core.specs.Machine.{settings_of, world_of}
-use Rattle.watch_state.specs.Lines.{record_lines}
+use Rattle.watch_state.specs.Lines.{led_lines}
 use Rattle.watch_state.specs.Text.{link_records}
 use Rattle.watch_state.proofs.links.push_links_from.Given as goal
 
@@ -12,4 +12,4 @@ abbrev pub invariant-loop-place : goal.invariant-loop-place
 invariant-loop-place l =
     string_bytes l.text
     ≡ string_bytes l.fn.text
-    ++ record_lines (flat_map (link_records (world_of l.system) (node_of l.src)) (take l.place (nodes (settings_of l.system))))
+    ++ led_lines l.lead (flat_map (link_records (world_of l.system) (node_of l.src)) (take l.place (nodes (settings_of l.system))))

@@ -1,15 +1,15 @@
 -- The cores, the directories and the vendor.
-use Rattle.std.proofs.Common.{ℕ, [], ◌∷◌, ◌++◌, ap, sym, ◌∙◌, string_bytes}
+use Rattle.std.proofs.Common.{ℕ, [], ◌∷◌, ◌++◌, ap, ◌∙◌, string_bytes}
 use Rattle.std.specs.List.{flat_map}
 use Rattle.rv_code.specs.Machine.{first_ram}
 use Rattle.tcc_rules.specs.Seen.{numbers}
 use Rattle.net_core.specs.Machine.{settings_of, start_of, world_of}
 use Rattle.watch_state.specs.Cores.{core_records}
 use Rattle.watch_state.specs.Directories.{directory_records}
-use Rattle.watch_state.specs.Lines.{record_line}
+use Rattle.watch_state.specs.Lines.{record_lines}
 use Rattle.watch_state.specs.Records.{VendorIs}
 use Rattle.watch_state.specs.Text.{node_records}
-use Rattle.watch_state.proofs.Growing.{line-alone, lines-then}
+use Rattle.watch_state.proofs.Growing.{lines-then}
 use Rattle.watch_state.proofs.nodes.push_nodes.Goals as goal
 
 pub returns : goal.returns
@@ -27,5 +27,4 @@ returns c =
     let t3 = string_bytes c.push_vendor.new.text in
     lines-then cores (dirs ++ vendor) t0 t1 t3 c.in_ok-push_cores.ensures
     (lines-then dirs vendor t1 t2 t3 c.in_ok-push_directories.ensures
-    (c.in_ok-push_vendor.ensures ∙ ap (λ (t : ℕ). t2 ++ record_line (VendorIs t)) c.next_tid.ensures
-    ∙ ap (λ line. t2 ++ line) (sym (line-alone (VendorIs w.next)))))
+    (c.in_ok-push_vendor.ensures ∙ ap (λ (t : ℕ). t2 ++ record_lines (VendorIs t ∷ [])) c.next_tid.ensures))

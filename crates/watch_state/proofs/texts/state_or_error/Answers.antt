@@ -10,7 +10,7 @@ use Rattle.report_text.specs.Lines.{end_line, events_line}
 use Rattle.net_core.specs.Machine.{history_of, program_of, settings_of, start_of, world_of}
 use Rattle.watch_state.specs.Lines.{record_lines}
 use Rattle.watch_state.specs.Text.{events_text, node_records, records_from, state_records, state_text}
-use Rattle.watch_state.proofs.Growing.{lines-then}
+use Rattle.watch_state.proofs.Growing.{led-none, lines-then}
 use Rattle.watch_state.proofs.texts.state_or_error.Goals as goal
 
 pub returns : goal.returns
@@ -32,6 +32,7 @@ returns c =
     c.in_ok-push_events.ensures
     ∙ ap (λ t. t ++ events_line c.args.events) (c.in_ok-push_end.ensures
     ∙ ap (λ t. t ++ end_line c.args.done) (c.in_ok-push_all_enabled.ensures
-    ∙ ap (λ t. t ++ events) (lines-then of_nodes flights t1 t2 t3 c.in_ok-push_nodes.ensures c.in_ok-push_links.ensures
+    ∙ ap (λ t. t ++ events) (lines-then of_nodes flights t1 t2 t3 c.in_ok-push_nodes.ensures
+    (c.in_ok-push_links.ensures ∙ ap (λ t. t2 ++ t) (led-none flights))
     ∙ ap (λ t. t ++ records) (c.in_ok-push_config.ensures ∙ ap (λ (s : Settings). t0 ++ config_line s) c.config.ensures
     ∙ ap (λ t. t ++ config) head))))

@@ -82,7 +82,8 @@ executed c = record {
   code = c.in-Ok.ensures.code;
   ram = refl;
   next = refl;
-  bus = c.take_if.ensures;
+  bus = c.take_if.ensures.bus;
+  packet = c.take_if.ensures.lines;
   commits = refl;
   events = refl;
 }

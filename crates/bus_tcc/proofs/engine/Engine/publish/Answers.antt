@@ -133,7 +133,8 @@ published c =
       wrote = c.in-Ok-commit.ensures.wrote;
       count = c.store_all.ensures.count;
       ram = c.store_all.ensures.words ∙ ap (λ l. with_words (words_in l) (word_in m.ram)) c.tagged.ensures;
-      bus = c.bus_with.ensures
+      packet = c.bus_with.ensures.lines;
+      bus = c.bus_with.ensures.bus
           ∙ ap (λ j. if not (length w.lines == 0) && any_below (all_but n j) j then Packet (words_in w.lines) (all_but n j)
           else Free)
           same;

@@ -2,7 +2,8 @@ use Rattle.std.proofs.Common.{◌≡◌, ◌∙◌, ap, sym, subst, ◌+◌, ◌
 use Rattle.std.proofs.lemmas.Bool.{cases_lt}
 use Rattle.image_load.specs.Contents.{Contents}
 use Rattle.run_outcomes.proofs.Counting.{running-next}
-use Rattle.run_outcomes.proofs.Reach.{followed-step, followed-beyond, grown-grown, state-kept}
+use Rattle.run_outcomes.proofs.Edged.{edged-step, edged-beyond}
+use Rattle.run_outcomes.proofs.Reach.{grown-grown, state-kept}
 use Rattle.run_outcomes.specs.Counted.{Counts, running}
 use Rattle.run_outcomes.specs.Explored.{state_at}
 use Rattle.run_outcomes.proofs.search.Search.expand.Goals as goal
@@ -23,8 +24,8 @@ loop-core-preserved c =
       λ few. e.few (inv.3 few),
       λ none.
           let before : old.endless ≡ 0 = omega (arith, e.endless, none) in
-          followed-step new.executor old.table new.table c.args.number c.loop-core.core e.grown below
-          (rw e.loaded (inv.4 before)) (e.followed c.if-branch.false none),
+          edged-step new.executor old.table new.table old.edges new.edges c.args.number c.loop-core.core e.grown e.joined below
+          (rw e.loaded (inv.4 before)) (e.edged c.if-branch.false none),
       omega (arith, e.endless, inv.5),
       e.led,
       e.noted,
@@ -34,10 +35,12 @@ loop-core-preserved c =
           ap (λ x. state_at x c.args.number) inv.2.1 ∙ state-kept first.table inv.2.0 c.args.number c.requires.number in
           running-next (state_at first.table c.args.number) (state_at old.table c.args.number) first.transactions old.transactions
           new.transactions c.loop-core.core same (inv.8 before) (e.counted c.if-branch.false none),
+      e.edges,
+      grown-grown first.edges old.edges new.edges inv.10 e.joined,
     )
 
-pub returns-clause-followed : goal.returns-clause-followed
-returns-clause-followed c = λ full none core.
+pub returns-clause-edged : goal.returns-clause-edged
+returns-clause-edged c = λ full none core.
     let first = c.args.self.now in
     let old = c.loop-core.self in
     let inv = c.loop-core.invariant in
@@ -51,7 +54,7 @@ returns-clause-followed c = λ full none core.
       | inl lt ↦ inv.4 none core lt
       | inr ge ↦
           let beyond : old.executor.settings.cores ≤ core = omega (arith, count, ge) in
-          followed-beyond old.executor old.table c.args.number core inv.0 below beyond
+          edged-beyond old.executor old.table old.edges c.args.number core inv.0 below beyond
     ]
 
 pub returns-clause-counted : goal.returns-clause-counted

@@ -1,6 +1,7 @@
 use Rattle.std.proofs.Common.{◌≡◌, ◌∙◌, ◌+◌, ◌<◌, ◌≤◌, ap, length, length-append, subst, arith}
 use Rattle.run_outcomes.proofs.Counting.{states-next}
-use Rattle.run_outcomes.proofs.Reach.{expanded-step, all-states}
+use Rattle.run_outcomes.proofs.Edged.{expanded-step, edged-followed}
+use Rattle.run_outcomes.proofs.Reach.{all-states}
 use Rattle.run_outcomes.specs.Counted.{Counts, all_running}
 use Rattle.run_outcomes.proofs.search.Search.go.Goals as goal
 
@@ -19,22 +20,29 @@ loop-number-preserved c =
       omega (arith, below, longer),
       λ none.
           let before : old.endless ≡ 0 = omega (arith, e.endless, none) in
-          expanded-step new.executor old.table new.table n e.grown below
+          expanded-step new.executor old.table new.table old.edges new.edges n e.grown e.joined below
           (rw e.loaded (c.loop-number.invariant.4 before))
-          (e.followed c.if-branch.false none),
+          (e.edged c.if-branch.false none),
       e.led,
       e.noted,
       λ none.
           let before : old.endless ≡ 0 = omega (arith, e.endless, none) in
           rw e.loaded (states-next old.executor.settings.cores old.table new.table n old.transactions new.transactions e.grown below
           (c.loop-number.invariant.7 before) (e.counted c.if-branch.false none)),
+      e.edges,
     )
 
 pub returns-clause-all : goal.returns-clause-all
 returns-clause-all c = λ full endless.
     let all : length c.loop-number.self.table ≤ c.loop-number.number = grind arith in
     all-states c.loop-number.self.executor c.loop-number.self.table c.loop-number.invariant.0
-    (λ k lt. c.loop-number.invariant.4 endless k (omega arith))
+    (λ k lt core. edged-followed c.loop-number.self.executor c.loop-number.self.table c.loop-number.self.edges k core
+    (c.loop-number.invariant.4 endless k (omega arith) core))
+
+pub returns-clause-all_edges : goal.returns-clause-all_edges
+returns-clause-all_edges c = λ full endless k lt.
+    let all : length c.loop-number.self.table ≤ c.loop-number.number = grind arith in
+    c.loop-number.invariant.4 endless k (omega arith)
 
 pub returns-clause-counted : goal.returns-clause-counted
 returns-clause-counted c = λ full endless.

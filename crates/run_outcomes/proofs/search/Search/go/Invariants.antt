@@ -1,6 +1,7 @@
 use Rattle.std.proofs.Common.{◌≡◌, ℕ, ◌<◌, ◌≤◌, ◌-◌, length}
 use Rattle.run_outcomes.specs.Counted.{Counts, all_running}
-use Rattle.run_outcomes.specs.Explored.{AreFound, AreLed, IsFollowedAt, IsEndlessNoted}
+use Rattle.run_outcomes.specs.Edges.{AreEdges, IsEdgedAt}
+use Rattle.run_outcomes.specs.Explored.{AreFound, AreLed, IsEndlessNoted}
 use Rattle.run_outcomes.proofs.search.Search.go.Given as goal
 
 abbrev pub invariant-loop-number : goal.invariant-loop-number
@@ -9,10 +10,12 @@ invariant-loop-number l =
     × (l.self.executor ≡ l.fn.self.executor)
     × (length l.self.table ≤ l.limits.states)
     × (l.number ≤ length l.self.table)
-    × (l.self.endless ≡ 0 → (k : ℕ) → k < l.number → (core : ℕ) → IsFollowedAt l.self.executor l.self.table k core)
+    × (l.self.endless ≡ 0 → (k : ℕ) → k < l.number → (core : ℕ)
+    → IsEdgedAt l.self.executor l.self.table l.self.edges k core)
     × AreLed l.self.executor l.self.table l.self.ways
     × IsEndlessNoted l.self.executor l.self.table l.limits.longest l.self.endless l.self.endless_at
     × (l.self.endless ≡ 0 → Counts l.self.transactions (all_running l.self.executor.settings.cores l.self.table l.number))
+    × AreEdges l.self.executor l.self.table l.self.edges
 
 abbrev pub decreases-loop-number : goal.decreases-loop-number
 decreases-loop-number l = l.limits.states - l.number

@@ -1,20 +1,20 @@
 use Rattle.std.proofs.Common.{◌≡◌, ap, sym, arith}
 use Rattle.std.proofs.lemmas.Bool.{false≢true}
-use Rattle.run_outcomes.proofs.Added.{added-found, added-followed, added-led}
+use Rattle.run_outcomes.proofs.Added.{added-found, added-led}
 use Rattle.run_outcomes.proofs.Counting.{stopped-runs}
+use Rattle.run_outcomes.proofs.Edged.{added-edged, added-edges, edged-stopped, joined-grown}
 use Rattle.run_outcomes.proofs.Noted.{noted-placed}
-use Rattle.run_outcomes.proofs.Reach.{followed-stopped}
 use Rattle.run_outcomes.specs.Counted.{runs}
-use Rattle.run_outcomes.specs.Explored.{machines, state_at}
+use Rattle.run_outcomes.specs.Explored.{state_at}
 use Rattle.run_outcomes.specs.States.{core_in, after_core}
 use Rattle.run_outcomes.proofs.search.Search.reach.Goals as goal
 
-pub returns-in-Stopped-clause-followed : goal.returns-in-Stopped-clause-followed
-returns-in-Stopped-clause-followed c = λ full endless.
-    let s = state_at c.args.self.now.table c.args.number in
+pub returns-in-Stopped-clause-edged : goal.returns-in-Stopped-clause-edged
+returns-in-Stopped-clause-edged c = λ full endless.
+    let before = c.args.self.now in
     let next = rw (c.in-Stopped.is, c.state-state.ensures) at c.in_ok-next.ensures.next in
     rw c.next_in.ensures.unchanged
-    (followed-stopped c.args.self.now.executor s c.args.core.0 (machines c.args.self.now.executor c.args.self.now.table) next)
+    (edged-stopped before.executor before.table before.edges c.args.number c.args.core.0 next)
 
 pub returns-in_ok-note-in-Leads-clause-found : goal.returns-in_ok-note-in-Leads-clause-found
 returns-in_ok-note-in-Leads-clause-found c =
@@ -26,15 +26,31 @@ returns-in_ok-note-in-Leads-clause-found c =
     c.in-Leads.n c.in-Leads.after c.in-Leads.changes c.in_ok-place-in-Leads.place c.requires.found c.requires.number c.requires.core
     next placed)
 
-pub returns-in_ok-note-in-Leads-clause-followed : goal.returns-in_ok-note-in-Leads-clause-followed
-returns-in_ok-note-in-Leads-clause-followed c = λ room endless.
-    let l = c.args.self.now.executor in
+pub returns-in_ok-note-in-Leads-clause-edged : goal.returns-in_ok-note-in-Leads-clause-edged
+returns-in_ok-note-in-Leads-clause-edged c = λ room endless.
+    let before = c.args.self.now in
     let next = rw (c.in-Leads.is, c.state-state.ensures) at c.in_ok-next.ensures.next in
     let placed = rw (c.in_ok-left-in-Leads.ensures, c.state-state.ensures) at c.in_ok-place-in-Leads.ensures.placed in
     rw c.next_in.ensures.unchanged
-    (added-followed l c.args.self.now.table c.add.new.self c.args.number c.args.core.0 c.args.limits.states c.args.limits.longest
-    c.in-Leads.n c.in-Leads.after c.in-Leads.changes c.in_ok-place-in-Leads.place c.requires.found c.requires.number c.requires.core
-    next placed (λ is. false≢true (sym (rw (c.eq.ensures, is) at room))))
+    (added-edged before.executor before.table c.add.new.self before.edges c.note.new.edges c.args.number c.args.core.0
+    c.args.limits.states c.args.limits.longest c.in-Leads.n c.in-Leads.after c.in-Leads.changes c.in_ok-place-in-Leads.place
+    c.requires.found c.requires.number c.requires.core next placed c.in_ok-note-in-Leads.ensures.edges
+    (λ is. false≢true (sym (rw (c.eq.ensures, is) at room))))
+
+pub returns-in_ok-note-in-Leads-clause-edges : goal.returns-in_ok-note-in-Leads-clause-edges
+returns-in_ok-note-in-Leads-clause-edges c =
+    let before = c.args.self.now in
+    let next = rw (c.in-Leads.is, c.state-state.ensures) at c.in_ok-next.ensures.next in
+    let placed = rw (c.in_ok-left-in-Leads.ensures, c.state-state.ensures) at c.in_ok-place-in-Leads.ensures.placed in
+    rw c.next_in.ensures.unchanged
+    (added-edges before.executor before.table c.add.new.self before.edges c.note.new.edges c.args.number c.args.core.0
+    c.args.limits.states c.args.limits.longest c.in-Leads.n c.in-Leads.after c.in-Leads.changes c.in_ok-place-in-Leads.place
+    c.requires.found c.requires.number c.requires.core next placed c.in_ok-note-in-Leads.ensures.edges c.requires.edges)
+
+pub returns-in_ok-note-in-Leads-clause-joined : goal.returns-in_ok-note-in-Leads-clause-joined
+returns-in_ok-note-in-Leads-clause-joined c =
+    joined-grown c.args.self.now.edges c.note.new.edges c.in_ok-place-in-Leads.place c.args.number
+    c.in_ok-note-in-Leads.ensures.edges
 
 pub returns-in_ok-note-in-Leads-clause-led : goal.returns-in_ok-note-in-Leads-clause-led
 returns-in_ok-note-in-Leads-clause-led c =
@@ -44,7 +60,7 @@ returns-in_ok-note-in-Leads-clause-led c =
     rw c.next_in.ensures.unchanged
     (added-led l c.args.self.now.table c.add.new.self c.args.self.now.ways c.note.new.ways c.args.number c.args.core.0
     c.args.limits.states c.args.limits.longest c.in-Leads.n c.in-Leads.after c.in-Leads.changes c.in_ok-place-in-Leads.place
-    c.requires.found c.requires.led c.requires.number c.requires.core next placed c.in_ok-note-in-Leads.ensures)
+    c.requires.found c.requires.led c.requires.number c.requires.core next placed c.in_ok-note-in-Leads.ensures.ways)
 
 pub returns-in-Stopped-clause-counted : goal.returns-in-Stopped-clause-counted
 returns-in-Stopped-clause-counted c = λ full none small.

@@ -1,0 +1,14 @@
+-- The lines of the sets so far are written.
+use Rattle.std.proofs.Common.{◌≡◌, ◌++◌, string_bytes}
+use Rattle.std.specs.List.{flat_map}
+use Rattle.tcc_rules.specs.Seen.{numbers}
+use Rattle.bus_tcc.specs.Machine.{bus_program_of, bus_settings_of, bus_world_of}
+use Rattle.bus_state.specs.Text.{set_evicts, enabled_lines}
+use Rattle.bus_state.proofs.events.push_core_evicts.Given as goal
+
+abbrev pub invariant-loop-set : goal.invariant-loop-set
+invariant-loop-set l =
+    string_bytes l.text
+    ≡ string_bytes l.fn.text
+    ++ enabled_lines (bus_settings_of l.system) (bus_program_of l.system) (bus_world_of l.system)
+    (flat_map (set_evicts (bus_settings_of l.system) l.core.0) (numbers l.set))

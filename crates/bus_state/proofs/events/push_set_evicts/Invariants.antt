@@ -1,0 +1,12 @@
+-- The lines of the ways so far are written.
+use Rattle.std.proofs.Common.{◌≡◌, ◌++◌, string_bytes}
+use Rattle.std.specs.List.{flat_map}
+use Rattle.tcc_rules.specs.Seen.{numbers}
+use Rattle.bus_rules.specs.State.{Evict}
+use Rattle.bus_state.proofs.Told.{text_of_event}
+use Rattle.bus_state.proofs.events.push_set_evicts.Given as goal
+
+abbrev pub invariant-loop-way : goal.invariant-loop-way
+invariant-loop-way l =
+    string_bytes l.text
+    ≡ string_bytes l.fn.text ++ flat_map (λ k. text_of_event l.system (Evict l.core.0 l.set k)) (numbers l.way)

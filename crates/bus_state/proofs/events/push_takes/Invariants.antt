@@ -1,0 +1,11 @@
+-- The lines of the cores so far are written.
+use Rattle.std.proofs.Common.{◌≡◌, ◌++◌, string_bytes}
+use Rattle.std.specs.List.{flat_map}
+use Rattle.tcc_rules.specs.Seen.{numbers}
+use Rattle.bus_rules.specs.State.{Take}
+use Rattle.bus_state.proofs.Told.{text_of_event}
+use Rattle.bus_state.proofs.events.push_takes.Given as goal
+
+abbrev pub invariant-loop-core : goal.invariant-loop-core
+invariant-loop-core l =
+    string_bytes l.text ≡ string_bytes l.fn.text ++ flat_map (λ k. text_of_event l.system (Take k)) (numbers l.core)

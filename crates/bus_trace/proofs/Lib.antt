@@ -1,0 +1,4 @@
+-- The proofs of this crate.
+pub mod Lemmas
+mod Values
+mod Growing

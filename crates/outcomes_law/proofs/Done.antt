@@ -1,0 +1,51 @@
+-- Where a run is done all cores have ended, and so what it shows is an outcome.
+use Rattle.std.proofs.Common.{◌≡◌, true, Option, Some, None, IfSome, nat_lt, subst, arith}
+use Rattle.std.proofs.lemmas.Bool.Decides.{nat_tests}
+use Rattle.image_load.specs.Contents.{started}
+use Rattle.image_load.specs.Start.{Start}
+use Rattle.outcomes_text.specs.Laws.{HasOutcome}
+use Rattle.outcomes_text.specs.Table.{table_of}
+use Rattle.run_outcomes.specs.Outcomes.{HaveEnded}
+use Rattle.rv_code.specs.Machine.{first_ram, program}
+use Rattle.rv_serial.proofs.Lemmas.{runs_give_the_plain_machine}
+use Rattle.rv_serial.specs.Given.{IsSerial, committed}
+use Rattle.rv_serial.specs.Suiting.{local_at_start, world_at_start}
+use Rattle.tcc_base.specs.declared.access.CoreEnd.TheVariants.{Run}
+use Rattle.tcc_program.specs.Plain.{Outcome, Goes, Ended, Halted as HaltedWith, Trapped as TrappedWith}
+use Rattle.tcc_rules.specs.Seen.{IsDone}
+use Rattle.tcc_rules.specs.State.{Phase, Halted}
+use Rattle.tcc_rules.specs.Step.{History, run}
+use Rattle.tcc_serial.specs.Commits.{end_after}
+use Rattle.outcomes_law.specs.Laws.{DoneRunsAreOutcomes, shown}
+use Rattle.outcomes_law.proofs.Halts.{AllFit, fits, is_end, run-fits}
+use Rattle.outcomes_law.proofs.Reports.{reports-are-outcomes}
+
+halted-ended : (o : Outcome) → is_end o ≡ true → end_after Halted o ≡ Run → ⊥
+halted-ended Goes f r = absurd cc
+halted-ended Ended f r = absurd cc
+halted-ended (HaltedWith code) f r = absurd cc
+halted-ended (TrappedWith code) f r = absurd cc
+
+pub core-ended : (q : Phase) (o : Outcome) → q ≡ Halted → fits q o ≡ true → end_after q o ≡ Run → ⊥
+core-ended q o e f r =
+    halted-ended o (subst (λ p. fits p o ≡ true) e f) (subst (λ p. end_after p o ≡ Run) e r)
+
+done-ended : (s : Start) (h : History) → AllFit h.world → IsDone s.settings h.world → HaveEnded s.settings.cores (committed s h)
+unfolding committed
+done-ended s h all done core lt =
+    let there : nat_lt core s.settings.cores ≡ true = grind (arith, nat_tests, lt) in
+    rw there (core-ended (h.world.cores core).phase (h.world.cores core).ended (done.halted core lt) (all core))
+
+pub done-runs-are-outcomes : DoneRunsAreOutcomes
+unfolding started
+done-runs-are-outcomes tell e r stuck es allowed every =
+    go (run s.settings (program s) (world_at_start s) es) (runs_give_the_plain_machine s es allowed)
+    (run-fits s.settings (program s) (local_at_start s) (first_ram s) es)
+  where
+    s : Start
+    s = started e.loaded
+
+    go : (x : Option History) → IfSome x (IsSerial s) → IfSome x (λ h. AllFit h.world)
+        → IfSome x (λ h. IsDone e.loaded.settings h.world → HasOutcome tell (table_of e r stuck) (shown s h.commits (committed s h)))
+    go None serial fit = tt
+    go (Some h) serial fit = λ done. reports-are-outcomes tell e r stuck h every serial (done-ended s h fit done)

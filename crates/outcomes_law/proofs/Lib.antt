@@ -1,0 +1,6 @@
+-- Proofs.
+mod BusDone
+mod BusHalts
+mod Done
+mod Halts
+mod Reports

@@ -1,0 +1,126 @@
+-- What is told of a run that is looked at, from the start that the command's files give.
+use Rattle.std.proofs.Common.{◌≡◌, ℕ, Bool, List, [], ◌∷◌, length, get_or, Option, Result, Ok, Err, IfOk, IfErr}
+use Rattle.std.proofs.Common.{inl, inr, refl, sym, ap, subst, ◌∙◌, arith}
+use Rattle.image_load.specs.Start.{Start}
+use Rattle.tcc_base.specs.Settings.{Settings}
+use Rattle.tcc_cli.specs.Around.{FilesAround, IsUntouched}
+use Rattle.tcc_cli.specs.Comes.{AreLookedAt, Comes, IsFaultyLine}
+use Rattle.tcc_cli.specs.Commands.{files_of, head_of, machine_of, start_from}
+use Rattle.tcc_cli.specs.Failing.{IsStopped, Tells}
+use Rattle.tcc_cli.specs.Lines.{IsSilent, Written}
+use Rattle.tcc_cli.specs.Looks.{IsTraceStopped, IsTraceTold, LookedAt, most_of, seed_of, view_text}
+use Rattle.tcc_cli.specs.declared.refusal.Refusal.{Refusal}
+use Rattle.tcc_cli.specs.declared.refusal.Refusal.TheVariants as why
+use Rattle.tcc_words.specs.declared.command.Command.{Command}
+use Rattle.tcc_words.specs.declared.command.Command.TheVariants.{Look}
+use Rattle.tcc_words.specs.declared.command.Machine.{Machine}
+use Rattle.tcc_words.specs.declared.command.Source.{Source}
+use Rattle.tcc_words.specs.declared.command.Source.TheVariants.{Schedule}
+use Rattle.tcc_words.specs.declared.command.View.{View}
+use Rattle.tcc_words.specs.declared.command.View.TheVariants.{Trace}
+use Rattle.watch_run.specs.declared.telling.Shown.{Shown}
+
+-- what stops before its text is made has written nothing
+pub stopped-tells : (c : Command) (files : List (List ℕ)) (f : FilesAround) (o : Written) (r : Refusal) → IsStopped c files f r → IsSilent o
+    → Tells c files f o (Err r)
+stopped-tells c files f o why.Words h silent = absurd h
+stopped-tells c files f o (why.Value field) h silent = absurd h
+stopped-tells c files f o (why.Image bad) h silent = absurd h
+stopped-tells c files f o (why.Schedule line) h silent = (h, silent)
+stopped-tells c files f o (why.Store name) h silent = (h, silent)
+stopped-tells c files f o why.Output h silent = absurd h
+stopped-tells c files f o why.Memory h silent = inl (h, silent)
+
+-- a command that looks at a run, and what its machine starts from
+pub record Looks (c : Command) (files : List (List ℕ)) (s : Start) (settings : Settings) (machine : Machine) (images : List (List ℕ))
+    (source : Source) (view : View) : Type 0 where
+  pub is : c ≡ Look machine images source view
+  pub start : s ≡ start_from c files
+  pub config : settings ≡ (machine_of c).config
+
+-- what is told at a start and by settings is told by the command
+pub by-command : (P : Start → Settings → Type 0) (Q : Command → Type 0) (c : Command) (files : List (List ℕ)) (s : Start)
+    (settings : Settings) (machine : Machine) (images : List (List ℕ)) (source : Source) (view : View)
+    → Looks c files s settings machine images source view
+    → (P (start_from (Look machine images source view) files) machine.config → Q (Look machine images source view)) → P s settings → Q c
+by-command P Q c files s settings machine images source view l make p =
+    let from : s ≡ start_from (Look machine images source view) files = l.start ∙ ap (λ d. start_from d files) l.is in
+    let config : settings ≡ machine.config = l.config ∙ ap (λ d. (machine_of d).config) l.is in
+    subst Q (sym l.is) (make (subst (λ t. P (start_from (Look machine images source view) files) t) config
+    (subst (λ q. P q settings) from p)))
+
+pub looked-comes : (c : Command) (files : List (List ℕ)) (s : Start) (settings : Settings) (machine : Machine) (images : List (List ℕ))
+    (source : Source) (view : View) (tells : Bool) (told : List ℕ → Option (List ℕ)) (done : Bool) (text : List ℕ)
+    → Looks c files s settings machine images source view
+    → LookedAt s (AreLookedAt source (most_of view) s settings files) (view_text view (seed_of source) s) done text
+    → Comes c files tells told done text
+looked-comes c files s settings machine images source view tells told done text l h =
+    by-command (λ q t. LookedAt q (AreLookedAt source (most_of view) q t files) (view_text view (seed_of source) q) done text)
+    (λ d. Comes d files tells told done text) c files s settings machine images source view l (λ x. x) h
+
+-- what is shown from this event on, with records or without
+abbrev pub shown_by : (from : ℕ) → (states : Bool) → Shown
+shown_by from states = record { from = from; states = states }
+
+-- a trace that ended, and one that broke off; the files are as they were
+pub traced-tells : (c : Command) (files : List (List ℕ)) (s : Start) (settings : Settings) (machine : Machine) (images : List (List ℕ))
+    (source : Source) (from to : ℕ) (states : Bool) (f : FilesAround) (o : Written) (done : Bool)
+    → Looks c files s settings machine images source (Trace from to states)
+    → IsTraceTold s (AreLookedAt source to s settings files) (shown_by from states) o done → Tells c files f o (Ok done)
+traced-tells c files s settings machine images source from to states f o done l h =
+    by-command (λ q t. IsTraceTold q (AreLookedAt source to q t files) (shown_by from states) o done) (λ d. Tells d files f o (Ok done))
+    c files s settings machine images source (Trace from to states) l (λ x. x) h
+
+of-stopped : (files : List (List ℕ)) (machine : Machine) (images : List (List ℕ)) (source : Source) (from to : ℕ) (states : Bool)
+    (f : FilesAround) (o : Written) (r : Refusal) → IsUntouched f
+    → IsTraceStopped (start_from (Look machine images source (Trace from to states)) files)
+    (AreLookedAt source to (start_from (Look machine images source (Trace from to states)) files) machine.config files)
+    (shown_by from states) (IsFaultyLine (Look machine images source (Trace from to states)) files) o r
+    → Tells (Look machine images source (Trace from to states)) files f o (Err r)
+of-stopped files machine images source from to states f o why.Words untouched h = absurd h
+of-stopped files machine images source from to states f o (why.Value field) untouched h = absurd h
+of-stopped files machine images source from to states f o (why.Image bad) untouched h = absurd h
+of-stopped files machine images source from to states f o (why.Schedule line) untouched h = ((h.0, untouched), h.1)
+of-stopped files machine images source from to states f o (why.Store name) untouched h = absurd h
+of-stopped files machine images source from to states f o why.Output untouched (inl h) = inl h
+of-stopped files machine images source from to states f o why.Output untouched (inr h) = inr (h.0, h.1, untouched)
+of-stopped files machine images source from to states f o why.Memory untouched (inl h) = inl (inl untouched, h)
+of-stopped files machine images source from to states f o why.Memory untouched (inr h) = inr (h, untouched)
+
+-- the faulty lines are those of the command
+pub broken-tells : (c : Command) (files : List (List ℕ)) (s : Start) (settings : Settings) (machine : Machine) (images : List (List ℕ))
+    (source : Source) (from to : ℕ) (states : Bool) (faulty : Start → Settings → ℕ → Type 0) (f : FilesAround) (o : Written) (r : Refusal)
+    → Looks c files s settings machine images source (Trace from to states)
+    → faulty (start_from (Look machine images source (Trace from to states)) files) machine.config
+    ≡ IsFaultyLine (Look machine images source (Trace from to states)) files
+    → IsUntouched f
+    → IsTraceStopped s (AreLookedAt source to s settings files) (shown_by from states) (faulty s settings) o r → Tells c files f o (Err r)
+broken-tells c files s settings machine images source from to states faulty f o r l same untouched h =
+    by-command (λ q t. IsTraceStopped q (AreLookedAt source to q t files) (shown_by from states) (faulty q t) o r)
+    (λ d. Tells d files f o (Err r)) c files s settings machine images source (Trace from to states) l
+    (λ x. of-stopped files machine images source from to states f o r untouched
+    (subst (λ lines. IsTraceStopped (start_from (Look machine images source (Trace from to states)) files)
+    (AreLookedAt source to (start_from (Look machine images source (Trace from to states)) files) machine.config files)
+    (shown_by from states) lines o r)
+    same x)) h
+
+-- a trace, however it ended
+pub trace-tells : (c : Command) (files : List (List ℕ)) (s : Start) (settings : Settings) (machine : Machine) (images : List (List ℕ))
+    (source : Source) (from to : ℕ) (states : Bool) (faulty : Start → Settings → ℕ → Type 0) (f : FilesAround) (o : Written)
+    (x : Result Bool Refusal)
+    → Looks c files s settings machine images source (Trace from to states)
+    → faulty (start_from (Look machine images source (Trace from to states)) files) machine.config
+    ≡ IsFaultyLine (Look machine images source (Trace from to states)) files
+    → IsUntouched f → IfOk x (IsTraceTold s (AreLookedAt source to s settings files) (shown_by from states) o)
+    → IfErr x (IsTraceStopped s (AreLookedAt source to s settings files) (shown_by from states) (faulty s settings) o) → Tells c files f o x
+trace-tells c files s settings machine images source from to states faulty f o (Ok done) l same untouched told stopped =
+    traced-tells c files s settings machine images source from to states f o done l told
+trace-tells c files s settings machine images source from to states faulty f o (Err r) l same untouched told stopped =
+    broken-tells c files s settings machine images source from to states faulty f o r l same untouched stopped
+
+-- the file of a schedule is the first that was read
+pub first-file : (c : Command) (read : List (List ℕ)) (machine : Machine) (images : List (List ℕ)) (name : List ℕ) (view : View)
+    (d : List ℕ) → length read ≡ length (files_of c) → c ≡ Look machine images (Schedule name) view → get_or read 0 d ≡ head_of read
+first-file c [] machine images name view d e is =
+    let more = e ∙ ap (λ b. length (files_of b)) is in absurd (omega (arith, more))
+first-file c (x ∷ xs) machine images name view d e is = refl

@@ -1,0 +1,168 @@
+-- What was counted or traced of a run, as what is told of it.
+use Rattle.std.proofs.Common.{◌≡◌, ℕ, ◌≤◌, Bool, true, false, List, [], ◌∷◌, Option}
+use Rattle.std.proofs.Common.{Some, None, Result, Ok, Err, IfErr, IfOk, IsTrue, ◌↔◌, length, map}
+use Rattle.std.proofs.Common.{inl, inr, refl, sym, ap, ◌∙◌, subst, arith, if◌then◌else◌, drop}
+use Rattle.image_load.specs.Start.{Start}
+use Rattle.rand_pcg.specs.Lcg.{Lcg}
+use Rattle.rv_code.specs.Machine.{program}
+use Rattle.rv_serial.specs.Going.{picked_from}
+use Rattle.rv_serial.specs.Suiting.{world_at_start}
+use Rattle.tcc_base.specs.Settings.{Settings}
+use Rattle.tcc_cli.specs.Lines.{Written}
+use Rattle.std.proofs.lemmas.List.{length-map}
+use Rattle.tcc_cli.specs.Looks.{ArePicked, IsTraceStopped, IsTraceTold, LookedAt, broken_refusal, view_text}
+use Rattle.tcc_cli.specs.Runs.{RunsBy, RunsTo, picked_by}
+use Rattle.tcc_cli.specs.declared.refusal.Refusal.{Refusal}
+use Rattle.tcc_cli.specs.declared.refusal.Refusal.TheVariants as why
+use Rattle.tcc_maps.specs.Nodes.{Event}
+use Rattle.tcc_msg.specs.Plain.{event_of}
+use Rattle.tcc_msg.specs.declared.event.Event.{Event as Listed}
+use Rattle.tcc_pick.specs.Words.{seeded, words}
+use Rattle.tcc_rules.specs.Laws.{PickedEnds}
+use Rattle.tcc_rules.specs.Picked.{picked}
+use Rattle.tcc_rules.specs.Seen.{IsDone}
+use Rattle.tcc_rules.specs.Step.{History}
+use Rattle.tcc_words.specs.declared.command.View.TheVariants.{Count, State}
+use Rattle.tcc_world.specs.Faults.{Rose}
+use Rattle.watch_count.specs.Counts.{Counts}
+use Rattle.watch_count.specs.Csv.{csv_text}
+use Rattle.watch_count.specs.Text.{count_text}
+use Rattle.watch_run.specs.declared.telling.Shown.{Shown}
+use Rattle.watch_run.specs.Looked.{IsCounted}
+use Rattle.watch_run.specs.Written.{IsTraceBroken, LeadsTo}
+use Rattle.watch_state.specs.Text.{state_text}
+use Rattle.watch_run.specs.declared.tracing.Broken.{Broken}
+use Rattle.watch_run.specs.declared.tracing.Broken.TheVariants.{Memory, Output}
+use Rattle.tcc_cli.proofs.Taken.{as-many}
+
+-- a seed's events at the start
+pub picked-so : (s : Start) (left steps seed : ℕ) (g : Lcg) → left ≡ steps → g ≡ seeded seed
+    → picked s.settings (program s) (words left g) (world_at_start s) ≡ picked_by s seed steps
+picked-so s left steps seed g n e = λ i. picked_from s (words (n i) (e i))
+
+pub picked-few : PickedEnds → (s : Start) (left steps : ℕ) (g : Lcg) → left ≡ steps
+    → length (picked s.settings (program s) (words left g) (world_at_start s)) ≤ steps
+picked-few ends s left steps g n =
+    let most = (ends s.settings (program s) (words left g) (world_at_start s)).0 in
+    let count = as-many left g in
+    omega (arith, most, count, n)
+
+-- the end of a run
+pub run-so : (s : Start) (es : List Event) (d e : Bool) (h : History) → LeadsTo s es d h → e ≡ d → RunsBy s es e h
+run-so s es d e h l is = record {
+  is_run = l.is_run;
+  is_done = subst (λ b. IsTrue b ↔ IsDone s.settings h.world) (sym is) l.is_done;
+  serial = l.serial;
+}
+
+text-so : (s : Start) (settings : Settings) (es : List Event) (d e : Bool) (h : History) (n : ℕ) (counts : Counts) (csv : Bool)
+    (seed : Option (ℕ × ℕ)) → IsCounted s es d n counts → settings ≡ s.settings → e ≡ d
+    → (if csv then csv_text settings seed d n counts else count_text settings d n counts) ≡ view_text (Count csv) seed s e es h
+text-so s settings es d e h n counts true seed k q is = λ i. csv_text (q i) seed (sym is i) (k.all i) (k.counted i)
+text-so s settings es d e h n counts false seed k q is = λ i. count_text (q i) (sym is i) (k.all i) (k.counted i)
+
+-- what was counted of a run, and its text
+pub counted-so : {A E : Type 0} (s : Start) (settings : Settings) (Are : List Event → Type 0) (es : List Event) (d : Bool) (n : ℕ)
+    (counts : Counts) (csv : Bool) (seed : Option (ℕ × ℕ)) (done : A → Bool) (text : A → List ℕ) (x : Result A E) → Are es
+    → IsCounted s es d n counts → settings ≡ s.settings → IfOk x (λ f. done f ≡ d)
+    → IfOk x (λ f. text f ≡ (if csv then csv_text settings seed d n counts else count_text settings d n counts))
+    → IfOk x (λ f. LookedAt s Are (view_text (Count csv) seed s) (done f) (text f))
+counted-so s settings Are es d n counts csv seed done text (Ok f) are k q is told = record {
+  events = es;
+  ends = k.ends;
+  are = are;
+  runs = run-so s es d (done f) k.ends k.leads is;
+  text_is = told ∙ text-so s settings es d (done f) k.ends n counts csv seed k q is;
+}
+counted-so s settings Are es d n counts csv seed done text (Err e) are k q is told = tt
+
+-- why a trace broke off, and what was written of it
+pub broken-so : (s : Start) (Are : List Event → Type 0) (shown : Shown) (faulty : ℕ → Type 0) (es : List Event) (a b : Option (List ℕ))
+    (f g : ℕ) (broken : Broken) (r : Refusal) → Are es → r ≡ broken_refusal broken
+    → IsTraceBroken s shown es (record { before = a; after = b; faults_before = f; faults_after = g }) broken
+    → IsTraceStopped s Are shown faulty (record { before = a; after = b; faults_before = f; faults_after = g }) r
+broken-so s Are shown faulty es a b f g Memory r are is h =
+    subst (IsTraceStopped s Are shown faulty (record { before = a; after = b; faults_before = f; faults_after = g })) (sym is)
+    (inr (es, are, h))
+broken-so s Are shown faulty es a b f g Output r are is (inl h, rose) =
+    subst (IsTraceStopped s Are shown faulty (record { before = a; after = b; faults_before = f; faults_after = g })) (sym is)
+    (inr ((es, are, h), rose))
+broken-so s Are shown faulty es a b f g Output r are is (inr h, rose) =
+    subst (IsTraceStopped s Are shown faulty (record { before = a; after = b; faults_before = f; faults_after = g })) (sym is)
+    (inl (
+      h.done,
+      _,
+      record {
+        events = es;
+        ends = h.ends;
+        are = are;
+        runs = run-so s es h.done h.done h.ends h.leads refl;
+        text_is = refl;
+      },
+      (h.n, h.short, h.cut, rose),
+    ))
+
+-- the list from its first event on
+pub listed-so : {A B : Type 0} (f : A → B) (at : ℕ) (xs ys : List A) → at ≡ 0 → xs ≡ ys → map f (drop at xs) ≡ map f ys
+listed-so f at xs ys e q = ap (λ n. map f (drop n xs)) e ∙ ap (map f) (whole xs ∙ q)
+  where
+    whole : {A : Type 0} (zs : List A) → drop 0 zs ≡ zs
+    whole [] = refl
+    whole (z ∷ zs) = refl
+
+-- the state of a run's end, and its text
+pub state-so : {A E : Type 0} (s : Start) (code : List Listed) (events : ℕ) (h : History) (done : A → Bool)
+    (text : A → List ℕ) (x : Result A E) → IfOk x (λ f. RunsTo s code (done f) h)
+    → IfOk x (λ f. text f ≡ state_text s (done f) (length code) h)
+    → IfOk x (λ f. LookedAt s (λ fs. fs ≡ map event_of code) (view_text (State events) None s) (done f) (text f))
+state-so s code events h done text (Ok f) runs told = record {
+  events = map event_of code;
+  ends = h;
+  are = refl;
+  runs = runs;
+  text_is = told ∙ ap (λ n. state_text s (done f) n h) (sym (length-map code event_of));
+}
+state-so s code events h done text (Err e) runs told = tt
+
+-- what is told of these events is told of those, where these are those
+pub looked-by : {A E : Type 0} (s : Start) (These Those : List Event → Type 0) (text_of_run : Bool → List Event → History → List ℕ)
+    (done : A → Bool) (text : A → List ℕ) (x : Result A E) → ((es : List Event) → These es → Those es)
+    → IfOk x (λ f. LookedAt s These text_of_run (done f) (text f)) → IfOk x (λ f. LookedAt s Those text_of_run (done f) (text f))
+looked-by s These Those text_of_run done text (Ok f) are l = record {
+  events = l.events;
+  ends = l.ends;
+  are = are l.events l.are;
+  runs = l.runs;
+  text_is = l.text_is;
+}
+looked-by s These Those text_of_run done text (Err e) are l = tt
+
+told-by : (s : Start) (These Those : List Event → Type 0) (shown : Shown) (o : Written) (done : Bool)
+    → ((es : List Event) → These es → Those es)
+    → IsTraceTold s These shown o done → IsTraceTold s Those shown o done
+told-by s These Those shown o done are (text, l, whole) =
+    (text, record { events = l.events; ends = l.ends; are = are l.events l.are; runs = l.runs; text_is = l.text_is }, whole)
+
+pub all-told-by : {E : Type 0} (s : Start) (These Those : List Event → Type 0) (shown : Shown) (o : Written) (x : Result Bool E)
+    → ((es : List Event) → These es → Those es) → IfOk x (IsTraceTold s These shown o) → IfOk x (IsTraceTold s Those shown o)
+all-told-by s These Those shown o (Ok done) are t = told-by s These Those shown o done are t
+all-told-by s These Those shown o (Err e) are t = tt
+
+stopped-by : (s : Start) (These Those : List Event → Type 0) (shown : Shown) (faulty : ℕ → Type 0) (o : Written) (r : Refusal)
+    → ((es : List Event) → These es → Those es) → IsTraceStopped s These shown (λ line. ⊥) o r → IsTraceStopped s Those shown faulty o r
+stopped-by s These Those shown faulty o why.Words are h = absurd h
+stopped-by s These Those shown faulty o (why.Value field) are h = absurd h
+stopped-by s These Those shown faulty o (why.Image bad) are h = absurd h
+stopped-by s These Those shown faulty o (why.Schedule line) are h = absurd h.0
+stopped-by s These Those shown faulty o (why.Store name) are h = absurd h
+stopped-by s These Those shown faulty o why.Output are (inl (done, text, l, cut)) =
+    inl (done, text, record { events = l.events; ends = l.ends; are = are l.events l.are; runs = l.runs; text_is = l.text_is }, cut)
+stopped-by s These Those shown faulty o why.Output are (inr ((es, e, h), rose)) = inr ((es, are es e, h), rose)
+stopped-by s These Those shown faulty o why.Memory are (inl h) = inl h
+stopped-by s These Those shown faulty o why.Memory are (inr (es, e, h)) = inr (es, are es e, h)
+
+pub all-stopped-by : {A : Type 0} (s : Start) (These Those : List Event → Type 0) (shown : Shown) (faulty : ℕ → Type 0) (o : Written)
+    (x : Result A Refusal) → ((es : List Event) → These es → Those es) → IfErr x (IsTraceStopped s These shown (λ line. ⊥) o)
+    → IfErr x (IsTraceStopped s Those shown faulty o)
+all-stopped-by s These Those shown faulty o (Ok y) are h = tt
+all-stopped-by s These Those shown faulty o (Err r) are h = stopped-by s These Those shown faulty o r are h

@@ -1,0 +1,96 @@
+-- Runs that are looked at: which events they take, and what is told of them.
+use Rattle.std.specs.Prelude.{ℕ, Bool, true, false, List, length, map, min, take, ◌≡◌, ◌⊎◌, Option, Some, None}
+use Rattle.image_load.specs.Start.{Start}
+use Rattle.rv_serial.specs.Suiting.{world_at_start}
+use Rattle.tcc_base.specs.Settings.{Settings}
+use Rattle.tcc_cli.specs.Lines.{Written, IsWhole, IsCut}
+use Rattle.tcc_cli.specs.Runs.{RunsBy, picked_by}
+use Rattle.tcc_cli.specs.Schedules.{IsFaultOf, IsScheduleOf}
+use Rattle.tcc_cli.specs.declared.refusal.Refusal.{Refusal}
+use Rattle.tcc_cli.specs.declared.refusal.Refusal.TheVariants as why
+use Rattle.tcc_maps.specs.Nodes.{Event}
+use Rattle.tcc_msg.specs.Plain.{event_of}
+use Rattle.tcc_msg.specs.declared.event.Event.{Event as Listed}
+use Rattle.tcc_rules.specs.Step.{History}
+use Rattle.tcc_words.specs.declared.command.Source.{Source}
+use Rattle.tcc_words.specs.declared.command.Source.TheVariants.{Seed, Schedule}
+use Rattle.tcc_words.specs.declared.command.View.{View}
+use Rattle.tcc_words.specs.declared.command.View.TheVariants.{Trace, Count, State}
+use Rattle.tcc_world.specs.Faults.{Rose}
+use Rattle.watch_count.specs.Csv.{csv_text}
+use Rattle.watch_count.specs.Text.{count_text}
+use Rattle.watch_run.specs.declared.tracing.Broken.{Broken}
+use Rattle.watch_run.specs.declared.tracing.Broken.TheVariants as broken
+use Rattle.watch_run.specs.declared.telling.Shown.{Shown}
+use Rattle.watch_run.specs.Looked.{counts_of_run}
+use Rattle.watch_run.specs.Shown.{shown_trace, trace_with}
+use Rattle.watch_run.specs.Written.{IsTraceBegun}
+use Rattle.watch_state.specs.Text.{state_text}
+
+-- at most so many events are taken
+abbrev pub most_of : View → ℕ
+most_of (Trace from to states) = to
+most_of (Count csv) = 4194304
+most_of (State events) = events
+
+-- the first events that a seed picks, and those of the schedule that a file holds
+abbrev pub ArePicked : Start → (seed steps most : ℕ) → List Event → Type 0
+ArePicked s seed steps most es = es ≡ picked_by s seed (min steps most)
+
+abbrev pub AreFirst : Settings → (bytes : List ℕ) → (most : ℕ) → List Event → Type 0
+AreFirst settings bytes most es = (all : List Listed) × IsScheduleOf settings all bytes × (es ≡ map event_of (take most all))
+
+-- the line at which a schedule is refused of which the first so many events are taken: its whole text is read before
+abbrev pub IsFaultOfFirst : Start → Settings → (bytes : List ℕ) → (most line : ℕ) → Type 0
+IsFaultOfFirst s settings bytes most line = IsFaultOf (take most) s settings bytes line
+
+abbrev pub IsFirstRefused : Start → Settings → (bytes : List ℕ) → (most : ℕ) → Refusal → Type 0
+IsFirstRefused s settings bytes most (why.Schedule line) = IsFaultOfFirst s settings bytes most line
+IsFirstRefused s settings bytes most why.Memory = Unit {0}
+IsFirstRefused s settings bytes most _ = ⊥
+
+-- the seed and the number of steps of a run; a schedule has none
+abbrev pub seed_of : Source → Option (ℕ × ℕ)
+seed_of (Seed steps seed) = Some (seed, steps)
+seed_of (Schedule name) = None
+
+-- what is told of a run by these events: the trace, with records or without, the counts or the state at the end
+abbrev pub view_text : View → (seed : Option (ℕ × ℕ)) → Start → (done : Bool) → List Event → History → List ℕ
+view_text (Trace from to states) seed s done es h = trace_with states s (world_at_start s) from es done
+view_text (Count true) seed s done es h = csv_text s.settings seed done (length es) (counts_of_run s es)
+view_text (Count false) seed s done es h = count_text s.settings done (length es) (counts_of_run s es)
+view_text (State events) seed s done es h = state_text s done (length es) h
+
+-- A run by such events, from this start, with its end and the text of all that. The headline: see `RunsBy`.
+pub record LookedAt (s : Start) (AreEvents : List Event → Type 0) (text_of_run : Bool → List Event → History → List ℕ) (done : Bool)
+    (text : List ℕ) : Type 0 where
+  pub events : List Event
+  pub ends : History
+  pub are : AreEvents events
+  pub runs : RunsBy s events done ends
+  pub text_is : text ≡ text_of_run done events ends
+
+-- a first part of a trace was written: of its first lines and of those of its first events, and none of its last lines
+abbrev pub IsBegun : Start → (AreEvents : List Event → Type 0) → Shown → Written → Type 0
+IsBegun s AreEvents shown o = (es : List Event) × AreEvents es × IsTraceBegun s shown es o.before o.after
+
+-- how a trace ended, and what was written: all of it, or a first part where the output failed or memory ran out
+abbrev pub IsTraceTold : Start → (AreEvents : List Event → Type 0) → Shown → Written → Bool → Type 0
+IsTraceTold s AreEvents shown o done =
+    (text : List ℕ) × LookedAt s AreEvents (λ d es h. shown_trace shown s (world_at_start s) es d) done text × IsWhole text o
+
+abbrev pub IsTraceCut : Start → (AreEvents : List Event → Type 0) → Shown → Written → Type 0
+IsTraceCut s AreEvents shown o =
+    (done : Bool) × (text : List ℕ) × LookedAt s AreEvents (λ d es h. shown_trace shown s (world_at_start s) es d) done text × IsCut text o
+
+abbrev pub IsTraceStopped : Start → (AreEvents : List Event → Type 0) → Shown → (faulty : ℕ → Type 0) → Written → Refusal → Type 0
+IsTraceStopped s AreEvents shown faulty o (why.Schedule line) = faulty line × (o.after ≡ o.before)
+IsTraceStopped s AreEvents shown faulty o why.Output =
+    IsTraceCut s AreEvents shown o ⊎ (IsBegun s AreEvents shown o × Rose o.faults_before o.faults_after)
+IsTraceStopped s AreEvents shown faulty o why.Memory = (o.after ≡ o.before) ⊎ IsBegun s AreEvents shown o
+IsTraceStopped s AreEvents shown faulty o _ = ⊥
+
+-- what a trace that broke off is to the program
+abbrev pub broken_refusal : Broken → Refusal
+broken_refusal broken.Memory = why.Memory
+broken_refusal broken.Output = why.Output

@@ -1,0 +1,55 @@
+-- What holds of changes.
+use Rattle.std.specs.Prelude.{ℕ, ◌≡◌, Bool, List, [], ◌++◌, Some}
+use Rattle.std.specs.List.{flat_map}
+use Rattle.image_load.specs.Start.{Start}
+use Rattle.rv_code.specs.Machine.{first_ram}
+use Rattle.tcc_program.specs.Program.{Program}
+use Rattle.tcc_maps.specs.Nodes.{Node, Event}
+use Rattle.tcc_maps.specs.Shape.{Shape}
+use Rattle.tcc_rules.specs.State.{World}
+use Rattle.tcc_rules.specs.Step.{History, next_history}
+use Rattle.tcc_rules.specs.Useful.{nodes}
+use Rattle.watch.specs.Happened.{actor}
+use Rattle.watch_state.specs.Text.{records_from, state_records}
+use Rattle.watch_trace.specs.Text.{trace_text}
+use Rattle.watch_changes.specs.Changes.{AreChangesOrdered, AreNew, change_lines, changes, put_on}
+use Rattle.watch_changes.specs.Nodes.{AreAlikeBut, records_at}
+use Rattle.watch_changes.specs.Text.{facts_alone, shown_text}
+
+-- the records that a node had, with the changes put on them, are those that it has
+abbrev pub ChangesLeadOn : Type 0
+ChangesLeadOn =
+    (sh : Shape) (first : ℕ → ℕ) (w v : World) (n : Node)
+    → put_on (records_at sh first w n) (changes (records_at sh first w n) (records_at sh first v n)) ≡ records_at sh first v n
+
+-- no record is told twice
+abbrev pub NoneTwice : Type 0
+NoneTwice =
+    (sh : Shape) (first : ℕ → ℕ) (w v : World) (n : Node)
+    → AreChangesOrdered (changes (records_at sh first w n) (records_at sh first v n))
+
+-- and none that is as it was
+abbrev pub NoneAsItWas : Type 0
+NoneAsItWas =
+    (sh : Shape) (first : ℕ → ℕ) (w v : World) (n : Node)
+    → AreNew (records_at sh first w n) (changes (records_at sh first w n) (records_at sh first v n))
+
+-- an event leaves the records of all nodes as they are but those of the node that acts
+abbrev pub OthersStay : Type 0
+OthersStay =
+    (sh : Shape) (p : Program) (first : ℕ → ℕ) (h k : History) (e : Event) → next_history sh p h e ≡ Some k
+    → AreAlikeBut sh first (actor e) h.world k.world
+
+-- with the facts alone it is the trace without records
+abbrev pub WithoutRecords : Type 0
+WithoutRecords =
+    (s : Start) (first : World) (from : ℕ) (es : List Event) (done : Bool)
+    → shown_text facts_alone s first from es done ≡ trace_text s first from es done
+
+-- where a window begins all records are told, node by node, and then the messages in flight
+abbrev pub BeginsByNode : Type 0
+BeginsByNode =
+    (s : Start) (w : World)
+    → change_lines (changes [] (state_records s w))
+    ≡ flat_map (λ n. change_lines (changes [] (records_at s.settings (first_ram s) w n))) (nodes s.settings)
+    ++ flat_map (λ n. change_lines (changes [] (records_from s.settings w n))) (nodes s.settings)

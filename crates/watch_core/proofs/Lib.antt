@@ -1,0 +1,5 @@
+-- The proofs of this crate.
+pub mod Lemmas
+mod Lasts
+mod Masks
+mod Named

@@ -1,0 +1,59 @@
+-- Where the events of a run lead to from what was loaded.
+use Rattle.std.proofs.Common.{◌≡◌, ◌↔◌, Bool, List, IsTrue, Some, ap, sym, subst, ◌∙◌}
+use Rattle.image_load.specs.Contents.{Contents, started}
+use Rattle.image_load.specs.Start.{Start}
+use Rattle.rv_code.specs.Machine.{program}
+use Rattle.rv_serial.specs.Given.{IsSerial}
+use Rattle.rv_serial.specs.Suiting.{world_at_start}
+use Rattle.rv_serial.proofs.Lemmas.{runs_give_the_plain_machine}
+use Rattle.tcc_base.specs.Settings.{IsAllowed}
+use Rattle.tcc_maps.specs.Nodes.{Event}
+use Rattle.tcc_rules.specs.Seen.{IsDone}
+use Rattle.tcc_rules.specs.State.{World}
+use Rattle.tcc_rules.specs.Step.{History, run, run_from}
+use Rattle.net_core.specs.Machine.{Machine, history_of, program_of, settings_of, start_of, world_of}
+use Rattle.net_core.specs.Reached.{first_history}
+use Rattle.watch_count.specs.Counts.{Counts, nothing_counted, run_counted}
+use Rattle.watch_run.specs.Going.{Went}
+use Rattle.watch_run.specs.Looked.{counts_of_run, run_facts}
+use Rattle.watch_run.specs.Written.{LeadsTo}
+
+-- the start of a machine is that of what was loaded, and its state the first one
+pub record StartsAt (c : Contents) (m : Machine) : Type 0 where
+  pub code : m.cores.code ≡ c
+  pub first : history_of m ≡ first_history (started c)
+
+pub world-first : (c : Contents) (m : Machine) → StartsAt c m → world_of m ≡ world_at_start (started c)
+unfolding history_of
+world-first c m s = ap (λ h. h.world) s.first
+
+-- what comes for the machine is what comes at the start
+pub coming-first : (coming : Start → World → List Event) (c : Contents) (m : Machine) → StartsAt c m
+    → coming (start_of m) (world_of m) ≡ coming (started c) (world_at_start (started c))
+coming-first coming c m s = λ i. coming (started (s.code i)) (world-first c m s i)
+
+serial-of : (c : Contents) (es : List Event) (h : History) → IsAllowed c.settings
+    → run c.settings (program (started c)) (world_at_start (started c)) es ≡ Some h → IsSerial (started c) h
+unfolding started
+serial-of c es h allowed r = rw r at (runs_give_the_plain_machine (started c) es allowed)
+
+pub leads : (c : Contents) (m n : Machine) (es : List Event) (done : Bool) → IsAllowed c.settings → StartsAt c m → Went m n es
+    → (IsTrue done ↔ IsDone (settings_of n) (world_of n)) → LeadsTo (started c) es done (history_of n)
+unfolding history_of started run
+leads c m n es done allowed s w is =
+    let ran : run c.settings (program (started c)) (world_at_start (started c)) es ≡ Some (history_of n) =
+    (λ i. run_from (sym s.code i).settings (program (started (sym s.code i))) es (sym s.first i)) ∙ w.ran in
+    record {
+      is_run = ran;
+      is_done = subst (λ k. IsTrue done ↔ IsDone k.settings (world_of n)) (w.code ∙ s.code) is;
+      serial = serial-of c es (history_of n) allowed ran;
+    }
+
+-- what is counted of the run of a machine at its start is what is counted of the run from there
+pub counted-first : (c : Contents) (m : Machine) (es fs : List Event) (before counts : Counts) → StartsAt c m → es ≡ fs
+    → counts ≡ run_counted (run_facts (settings_of m) (program_of m) es (history_of m)) before
+    → before ≡ nothing_counted (settings_of m).cores → counts ≡ counts_of_run (started c) fs
+unfolding counts_of_run started
+counted-first c m es fs before counts s f e b =
+    e ∙ (λ i. run_counted (run_facts (s.code i).settings (program (started (s.code i))) (f i) (s.first i))
+    ((b ∙ ap (λ k. nothing_counted k.settings.cores) s.code) i))

@@ -1,0 +1,6 @@
+-- What the contracts of this crate cite.
+pub mod Going
+pub mod Shown
+pub mod Telling
+pub mod Written
+pub mod Looked

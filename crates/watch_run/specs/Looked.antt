@@ -1,0 +1,33 @@
+-- What is counted of a run.
+use Rattle.std.specs.Prelude.{ℕ, ◌≡◌, Bool, List, [], ◌∷◌, Option, Some, None, length}
+use Rattle.image_load.specs.Start.{Start}
+use Rattle.rv_code.specs.Machine.{program}
+use Rattle.tcc_maps.specs.Nodes.{Node, Event}
+use Rattle.tcc_maps.specs.Shape.{Shape}
+use Rattle.tcc_program.specs.Program.{Program}
+use Rattle.tcc_rules.specs.Step.{History, next_history}
+use Rattle.net_core.specs.Reached.{first_history}
+use Rattle.watch.specs.Facts.{Fact}
+use Rattle.watch.specs.Happened.{actor, happened}
+use Rattle.watch_count.specs.Counts.{Counts, nothing_counted, run_counted}
+use Rattle.watch_run.specs.Written.{LeadsTo}
+
+abbrev pub and_later : Node × List Fact → (History → List (Node × List Fact)) → Option History → List (Node × List Fact)
+and_later first later None = []
+and_later first later (Some h) = first ∷ later h
+
+-- each event's node and its facts, from this state on, up to the first that isn't enabled
+unfoldable pub run_facts : Shape → Program → List Event → History → List (Node × List Fact)
+run_facts sh p [] h = []
+run_facts sh p (e ∷ es) h = and_later (actor e, happened sh p h e) (run_facts sh p es) (next_history sh p h e)
+
+-- what is counted of a run by these events
+unfoldable pub counts_of_run : Start → List Event → Counts
+counts_of_run s es = run_counted (run_facts s.settings (program s) es (first_history s)) (nothing_counted s.settings.cores)
+
+-- the run was counted to its end
+pub record IsCounted (s : Start) (es : List Event) (done : Bool) (events : ℕ) (counts : Counts) : Type 0 where
+  pub ends : History
+  pub leads : LeadsTo s es done ends
+  pub all : events ≡ length es
+  pub counted : counts ≡ counts_of_run s es

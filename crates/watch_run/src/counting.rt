@@ -1,0 +1,96 @@
+// What is counted of a run while it goes on.
+ghost use Rattle.std.specs.Prelude.{◌≡◌, ◌+◌, ◌<◌, ◌≤◌, [], IfOk, OnOk, length};
+ghost use Rattle.image_load.specs.Contents.{started};
+ghost use Rattle.net_core.specs.Machine.{history_of, program_of, settings_of, start_of, world_of};
+ghost use Rattle.rv_serial.specs.Suiting.{world_at_start};
+ghost use Rattle.tcc_msg.specs.Plain.{event_of};
+ghost use Rattle.watch.specs.Happened.{actor as plain_actor, happened};
+ghost use Rattle.watch_count.specs.Counts.{event_counted, run_counted};
+ghost use Rattle.watch_run.specs.Going.{Took, Went};
+ghost use Rattle.watch_run.specs.Looked.{IsCounted, run_facts};
+
+use crate::events::{Events, actor, settings_are_allowed};
+use image_load::Loaded;
+use net_core::System;
+use std::alloc::Global;
+use tcc_base::{List, NoMemory};
+use tcc_msg::Event;
+use watch::Fact;
+use watch_count::Counts;
+use watch_machine::watch;
+
+/// What was counted of a run, whether it is done, and how many events it took.
+#[derive(Debug, Drop)]
+pub struct Counted {
+    pub counts: Counts,
+    pub done: bool,
+    pub events: u64,
+}
+
+/// Takes an event, and counts what it did.
+fn count_event(
+    system: &mut System,
+    e: Event,
+    facts: &mut List<Fact>,
+    counts: &mut Counts,
+) -> Result<(), NoMemory>
+    requires few { system.old.events < 4194304 }
+    ensures took { OnOk result (Took system.old system.new (event_of e)) }
+    ensures counted { OnOk result (counts.new ≡ event_counted (plain_actor (event_of e))
+        (happened (settings_of system.old) (program_of system.old) (history_of system.old) (event_of e)) counts.old) }
+{
+    match watch(system, e, facts) {
+        Ok(()) => {}
+        Err(_) => return Err(NoMemory),
+    }
+    counts.event(actor(e), &facts.items)
+}
+
+/// Takes the events that are to come, at most so many, and counts what they did.
+fn count_events<E: Events>(
+    alloc: Global,
+    system: &mut System,
+    events: &mut E,
+    most: u32,
+    counts: &mut Counts,
+) -> Result<(), NoMemory>
+    requires few { system.old.events + most ≤ 4194304 }
+    requires settled { system.old.unsent ≡ [] }
+    requires enough { length (E.coming events.old (start_of system.old) (world_of system.old)) ≤ most }
+    ensures went { OnOk result (Went system.old system.new (E.coming events.old (start_of system.old) (world_of system.old))) }
+    ensures counted { OnOk result (counts.new ≡ run_counted (run_facts (settings_of system.old) (program_of system.old)
+        (E.coming events.old (start_of system.old) (world_of system.old)) (history_of system.old)) counts.old) }
+{
+    let mut facts = List::new(alloc);
+    for _ in 0..most {
+        let Some(e) = events.next(system) else {
+            return Ok(());
+        };
+        count_event(system, e, &mut facts, counts)?;
+    }
+    Ok(())
+}
+
+/// Counts what the events that are to come do in the run from what was loaded, at most so many. The time is that of the events, and a
+/// constant for each core and each fact of an event; the memory is that of the machine and of the tables.
+pub fn count<E: Events>(
+    alloc: Global,
+    loaded: &Loaded,
+    events: &mut E,
+    most: u32,
+) -> Result<Counted, NoMemory>
+    requires few { most ≤ 4194304 }
+    requires enough { length (E.coming events.old (started loaded.now) (world_at_start (started loaded.now))) ≤ most }
+    ensures { IfOk result (λ c. IsCounted (started loaded.now)
+        (E.coming events.old (started loaded.now) (world_at_start (started loaded.now))) c.done c.events c.counts) }
+{
+    settings_are_allowed(loaded.config());
+    let mut system = System::start(alloc, loaded)?;
+    let mut counts = Counts::new(alloc, system.config())?;
+    count_events(alloc, &mut system, events, most, &mut counts)?;
+    Ok(Counted {
+        counts,
+        done: system.done(),
+        events: system.events(),
+    })
+}

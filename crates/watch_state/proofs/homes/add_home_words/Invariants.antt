@@ -1,0 +1,17 @@
+-- The records of the memory's lines so far are there.
+use Rattle.std.proofs.Common.{◌≡◌, ◌++◌, ℕ, map}
+use Rattle.std.specs.List.{flat_map}
+use Rattle.image_load.specs.Contents.{started}
+use Rattle.rv_code.specs.Machine.{first_ram}
+use Rattle.tcc_rules.specs.Seen.{numbers}
+use Rattle.directory.specs.Data.{dir_of}
+use Rattle.watch_state.specs.Directories.{at_home, word_records}
+use Rattle.watch_state.specs.Plain.{record_of}
+use Rattle.watch_state.proofs.homes.add_home_words.Given as goal
+
+abbrev pub invariant-loop-line : goal.invariant-loop-line
+invariant-loop-line l =
+    (elsewhere : ℕ → ℕ) → map record_of l.records
+    ≡ map record_of l.fn.records
+    ++ flat_map (at_home l.code.settings l.id.0
+    (word_records l.code.settings (first_ram (started l.code)) (dir_of elsewhere l.dir).words)) (numbers l.line)
