@@ -5,11 +5,11 @@ use Rattle.std.proofs.lemmas.Grind.{common_steps}
 use Rattle.std.proofs.lemmas.List.Elements.{All-push, All-nil, All-cons, All-get_or}
 use Rattle.std.proofs.lemmas.Bool.{cases_lt}
 use Rattle.image_load.specs.Contents.{Contents, started}
-use Rattle.run_outcomes.proofs.Distinct.{once-more}
+use Rattle.run_outcomes.proofs.Distinct.{no-machine, once-more}
 use Rattle.run_outcomes.proofs.Normal.{normal-nothing}
 use Rattle.run_outcomes.proofs.Reach.{leads-transaction, reached-next, state-kept}
 use Rattle.run_outcomes.specs.Changes.{changed_ram, value_in, AreInside, AreNormal}
-use Rattle.run_outcomes.specs.Explored.{AreFound, AreLed, IsWay, IsNoted, way_at, IsReachedState}
+use Rattle.run_outcomes.specs.Explored.{AreFound, AreLed, HasFurther, IsWay, IsNoted, way_at, IsReachedState}
 use Rattle.run_outcomes.specs.Explored.{state_at, no_snapshot}
 use Rattle.run_outcomes.specs.Next.{IsNext}
 use Rattle.run_outcomes.specs.States.{machine_of, core_in, after_core, IsPlaced}
@@ -30,6 +30,18 @@ pub sized-at : (l : Contents) (states : List Snapshot) (k : ℕ) → AreFound l 
     → length (state_at states k).cores ≡ l.settings.cores
 sized-at l states k found lt = All-get_or (λ s. length s.cores ≡ l.settings.cores) states k no_snapshot lt found.sized
 
+-- a serial execution leads to the state after a transaction
+reached-after : (l : Contents) (old : List Snapshot) (k c longest n : ℕ) (after : CoreState) (left : List (ℕ × ℕ))
+    → AreFound l old → k < length old → c < l.settings.cores
+    → IsNext l (core_in (state_at old k) c) (state_at old k).changes longest (Leads n after left)
+    → IsReachedState l (after_core (state_at old k) c after left)
+reached-after l old k c longest n after left found lt core next =
+    let s = state_at old k in
+    let inside : c < length s.cores = rw (sized-at l old k found lt) core in
+    reached-next l.settings.base (program (started l)) (plain_start (started l)) (machine_of l s) c n
+    (machine_of l (after_core s c after left), next.2.attempt)
+    (All-get_or (IsReachedState l) old k no_snapshot lt found.reached) (leads-transaction l s c n after left inside next.2)
+
 pub added-found : (l : Contents) (old new : List Snapshot) (k c limit longest n : ℕ) (after : CoreState) (left : List (ℕ × ℕ))
     (place : Place) → AreFound l old → k < length old → c < l.settings.cores
     → IsNext l (core_in (state_at old k) c) (state_at old k).changes longest (Leads n after left)
@@ -39,8 +51,6 @@ added-found l old new k c limit longest n after left Full found lt core next pla
 added-found l old new k c limit longest n after left (New number) found lt core next placed =
     let s = state_at old k in
     let sized = sized-at l old k found lt in
-    let inside : c < length s.cores = rw sized core in
-    let transaction = leads-transaction l s c n after left inside next.2 in
     subst (AreFound l) (sym placed.0) (record {
       some = grind (arith, common_steps, found.some);
       first = ap (machine_of l) (state-kept old (after_core s c after left ∷ []) 0 found.some) ∙ found.first;
@@ -50,10 +60,20 @@ added-found l old new k c limit longest n after left (New number) found lt core 
       normal = All-push (λ x. AreNormal (first_ram (started l)) x.changes) old (after_core s c after left) found.normal next.3;
       once = once-more l old (after_core s c after left) found (length-set s.cores c after ∙ sized) next.3 placed.2;
       reached = All-push (IsReachedState l) old (after_core s c after left) found.reached
-          (reached-next l.settings.base (program (started l)) (plain_start (started l)) (machine_of l s) c n
-          (machine_of l (after_core s c after left), next.2.attempt)
-          (All-get_or (IsReachedState l) old k no_snapshot lt found.reached) transaction);
+          (reached-after l old k c longest n after left found lt core next);
     })
+
+-- a state that finds no room is a further one
+pub added-further : (l : Contents) (old new : List Snapshot) (k c limit longest n : ℕ) (after : CoreState) (left : List (ℕ × ℕ))
+    (place : Place) → AreFound l old → k < length old → c < l.settings.cores
+    → IsNext l (core_in (state_at old k) c) (state_at old k).changes longest (Leads n after left)
+    → IsPlaced old new (after_core (state_at old k) c after left) limit place → place ≡ Full → HasFurther l new
+added-further l old new k c limit longest n after left place found lt core next placed is =
+    let s = after_core (state_at old k) c after left in
+    let full = subst (IsPlaced old new s limit) is placed in
+    let sized : length s.cores ≡ l.settings.cores = length-set (state_at old k).cores c after ∙ sized-at l old k found lt in
+    subst (HasFurther l) (sym full.0)
+    (s, reached-after l old k c longest n after left found lt core next, no-machine l old s found sized next.3 full.2)
 
 core-started : (s : Start) (cores : List CoreState) → length cores ≡ s.settings.cores
     → ((k : ℕ) → k < s.settings.cores → core_of (slice_index_or cores k no_state) ≡ start_core s.settings.cores k (s.entry k))

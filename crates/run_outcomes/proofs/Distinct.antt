@@ -40,6 +40,16 @@ same-state l a b sized sized' h k same =
     let changes : a.changes ≡ b.changes = same-ram l a b h k same in
     λ i. record { cores = cores i; changes = changes i }
 
+-- none of the states that were found is the machine of a state that isn't among them
+pub no-machine : (l : Contents) (old : List Snapshot) (s : Snapshot) → AreFound l old → length s.cores ≡ l.settings.cores
+    → AreNormal (first_ram (started l)) s.changes → (Contains old s → ⊥)
+    → (k : ℕ) → k < length old → machine_of l (state_at old k) ≡ machine_of l s → ⊥
+no-machine l old s found sized normal new k below e =
+    let is : state_at old k ≡ s =
+    same-state l (state_at old k) s (All-get_or (λ x. length x.cores ≡ l.settings.cores) old k no_snapshot below found.sized) sized
+    (All-get_or (λ x. AreNormal (first_ram (started l)) x.changes) old k no_snapshot below found.normal) normal e in
+    new (subst (Contains old) is (Contains-get_or old k no_snapshot below))
+
 pub once-more : (l : Contents) (old : List Snapshot) (s : Snapshot) → AreFound l old → length s.cores ≡ l.settings.cores
     → AreNormal (first_ram (started l)) s.changes → (Contains old s → ⊥) → AreOnce l (old ++ s ∷ [])
 once-more l old s found sized normal new i j lt lt' same =
@@ -63,11 +73,7 @@ once-more l old s found sized normal new i j lt lt' same =
     last k e = grind (arith, common_steps)
 
     other : (k : ℕ) → k < length old → machine_of l (state_at old k) ≡ machine_of l s → ⊥
-    other k below e =
-        let is : state_at old k ≡ s =
-        same-state l (state_at old k) s (All-get_or (λ x. length x.cores ≡ l.settings.cores) old k no_snapshot below found.sized) sized
-        (All-get_or (λ x. AreNormal (first_ram (started l)) x.changes) old k no_snapshot below found.normal) normal e in
-        new (subst (Contains old) is (Contains-get_or old k no_snapshot below))
+    other = no-machine l old s found sized normal new
 
 pub numbered : (states : List Snapshot) (s : Snapshot) (k : ℕ) → k < length states → state_at states k ≡ s → IsNumbered states s k
 numbered states s k lt is = (lt, get_or_default states k s no_snapshot lt ∙ is)

@@ -1,5 +1,6 @@
 -- What a search through the states of a loaded program knows.
-use Rattle.std.specs.Prelude.{ℕ, ◌≡◌, ◌<◌, ◌/◌, List, [], ◌∷◌, ◌++◌, All, IsSomeAnd, Option, Some, None, length, map, slice_index_or}
+use Rattle.std.specs.Prelude.{ℕ, ◌≡◌, ◌<◌, ◌/◌, ◌⊎◌, List, [], ◌∷◌, ◌++◌, All, IsSomeAnd, Option, Some, None}
+use Rattle.std.specs.Prelude.{length, map, slice_index_or}
 use Rattle.image_load.specs.Contents.{Contents, started}
 use Rattle.run_outcomes.specs.Changes.{AreInside, AreNormal}
 use Rattle.run_outcomes.specs.Next.{IsNext}
@@ -38,6 +39,16 @@ IsFollowedAt l states k core =
 -- each serial execution from the program's start ends in one of the states
 abbrev pub AreAllStates : Contents → List Snapshot → Type 0
 AreAllStates l states = HasEveryEnd l.settings.base (program (started l)) (machines l states) (plain_start (started l))
+
+-- some serial execution ends in a state that isn't among these
+abbrev pub HasFurther : Contents → List Snapshot → Type 0
+HasFurther l states =
+    (s : Snapshot) × IsReachedState l s
+    × ((k : ℕ) → k < length states → machine_of l (state_at states k) ≡ machine_of l s → ⊥)
+
+-- why not all states were found: a transaction didn't end, or there were as many as the limit allows and there is a further one
+abbrev pub IsOpen : Contents → List Snapshot → (limit endless : ℕ) → Type 0
+IsOpen l states limit endless = (0 < endless) ⊎ ((length states ≡ limit) × HasFurther l states)
 
 -- each state stands there once: two numbers of the same machine are the same number
 abbrev pub AreOnce : Contents → List Snapshot → Type 0

@@ -29,4 +29,4 @@ abbrev pub IsPlaced : (old new : List Snapshot) → Snapshot → (limit : ℕ) �
 IsPlaced old new s limit (Known number) = (new ≡ old) × IsNumbered old s number
 IsPlaced old new s limit (New number) =
     (new ≡ old ++ s ∷ []) × (length old < limit) × (Contains old s → ⊥) × (number ≡ length old)
-IsPlaced old new s limit Full = (new ≡ old) × (limit ≤ length old)
+IsPlaced old new s limit Full = (new ≡ old) × (limit ≤ length old) × (Contains old s → ⊥)

@@ -1,5 +1,5 @@
 // The states that a search has found, and the transactions that lead to each of them.
-ghost use Rattle.std.specs.Prelude.{◌≡◌, ℕ, ◌<◌, ◌≤◌, IfOk, IsTrue, IsSomeAnd, length, map, reverse};
+ghost use Rattle.std.specs.Prelude.{◌≡◌, ℕ, ◌<◌, ◌≤◌, IfOk, IsFalse, IsTrue, IsSomeAnd, length, map, reverse};
 ghost use Rattle.image_load.specs.Contents.{started};
 ghost use Rattle.rv_code.specs.Machine.{program};
 ghost use Rattle.rv_plain.specs.Machine.{plain_start};
@@ -7,7 +7,7 @@ ghost use Rattle.rv_plain.specs.PlainState.{order_of};
 ghost use Rattle.tcc_program.specs.Plain.{serial};
 ghost use Rattle.run_outcomes.specs.Counted.{Counts, all_running};
 ghost use Rattle.run_outcomes.specs.Edges.{AreAllEdges, AreEdges};
-ghost use Rattle.run_outcomes.specs.Explored.{AreFound, AreLed, AreOnce, AreAllStates, IsEndlessNoted, state_at, way_at};
+ghost use Rattle.run_outcomes.specs.Explored.{AreFound, AreLed, AreOnce, AreAllStates, IsEndlessNoted, IsOpen, state_at, way_at};
 ghost use Rattle.run_outcomes.specs.Ways.{LeadFrom, orders_from, orders_to};
 ghost use Rattle.run_outcomes.specs.States.{machine_of};
 
@@ -63,7 +63,9 @@ impl Model for Exploration {
 /// noted as endless.
 ///
 /// `done` is true only where each serial execution of the program ends in one of the states that were found; some serial execution
-/// leads to each of them, and none is found twice. The time is that of the instructions, and for each transaction of what the state holds.
+/// leads to each of them, and none is found twice. It is false only where a transaction was noted as endless, or where `limits.states`
+/// states were found and some serial execution ends in a further one. The time is that of the instructions, and for each transaction of
+/// what the state holds.
 pub fn explore(alloc: Global, loaded: &Loaded, limits: Limits) -> Result<Exploration, NoMemory>
     requires { 1 ≤ limits.states }
     ensures loaded { IfOk result (λ e. e.loaded ≡ loaded.now) }
@@ -74,6 +76,7 @@ pub fn explore(alloc: Global, loaded: &Loaded, limits: Limits) -> Result<Explora
     ensures all { IfOk result (λ e. IsTrue e.done → AreAllStates e.loaded e.states) }
     ensures transactions { IfOk result (λ e. IsTrue e.done → Counts e.transactions
         (all_running e.loaded.settings.cores e.states (length e.states))) }
+    ensures open { IfOk result (λ e. IsFalse e.done → IsOpen e.loaded e.states limits.states e.endless) }
     ensures endless { IfOk result (λ e. IsEndlessNoted e.loaded e.states limits.longest e.endless e.endless_at) }
 {
     let mut search = Search::new(alloc, loaded)?;

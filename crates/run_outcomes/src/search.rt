@@ -1,12 +1,12 @@
 // The search: breadth first through the states of the plain machine, each transaction of each core from each of them.
-ghost use Rattle.std.specs.Prelude.{◌≡◌, ℕ, ◌+◌, ◌<◌, ◌≤◌, ◌/◌, IfOk, OnOk, IfSome, IfNone, IsFalse, Some, length, slice_index_or};
+ghost use Rattle.std.specs.Prelude.{◌≡◌, ℕ, ◌+◌, ◌<◌, ◌≤◌, ◌/◌, IfOk, OnOk, IfSome, IfNone, IsFalse, IsTrue, Some, length, slice_index_or};
 ghost use Rattle.image_load.specs.Contents.{started};
 ghost use Rattle.rv_plain.specs.Cores.{core_of, no_state};
 ghost use Rattle.rv_plain.specs.Machine.{plain_start, start_core};
 ghost use Rattle.run_outcomes.specs.Changes.{AreInside};
 ghost use Rattle.run_outcomes.specs.Next.{IsNext};
 ghost use Rattle.run_outcomes.specs.Counted.{Counts, all_running, running, runs};
-ghost use Rattle.run_outcomes.specs.Explored.{AreFound, AreLed, AreAllStates, IsGrown, IsNoted, IsEndlessNoted, state_at};
+ghost use Rattle.run_outcomes.specs.Explored.{AreFound, AreLed, AreAllStates, HasFurther, IsGrown, IsNoted, IsEndlessNoted, state_at};
 ghost use Rattle.run_outcomes.specs.Edges.{AreAllEdges, AreEdges, IsEdgedAt, IsJoined};
 ghost use Rattle.run_outcomes.specs.States.{core_in};
 
@@ -172,7 +172,7 @@ impl Search {
         })
     }
 
-    /// Adds the state after the next transaction of a core of a state; true where there may be no further state.
+    /// Adds the state after the next transaction of a core of a state; true where there is a further state, and no room for it.
     fn reach(&mut self, number: usize, core: CoreId, limits: Limits) -> Result<bool, NoMemory>
         requires found { AreFound self.old.executor self.old.table }
         requires led { AreLed self.old.executor self.old.table self.old.ways }
@@ -194,6 +194,8 @@ impl Search {
         ensures counted { IfOk result (λ full. IsFalse full → self.new.endless ≡ 0 → Counts self.new.transactions
             (self.old.transactions + runs (core_in (state_at self.old.table number) core.0).ended)) }
         ensures endless { self.old.endless ≤ self.new.endless }
+        ensures limit { IfOk result (λ full. IsTrue full → limits.states ≤ length self.new.table) }
+        ensures further { IfOk result (λ full. IsTrue full → HasFurther self.new.executor self.new.table) }
     {
         let state = self.table.state(number);
         let next = next_in(&mut self.executor, state, core, limits.longest)?;
@@ -227,7 +229,7 @@ impl Search {
         }
     }
 
-    /// Adds the states after the next transactions of all cores of a state; true where there may be no further state.
+    /// Adds the states after the next transactions of all cores of a state; true where there is a further state, and no room for it.
     #[tactic(auto, unfolding(crate::specs::Counted::total))]
     fn expand(&mut self, number: usize, limits: Limits) -> Result<bool, NoMemory>
         requires found { AreFound self.old.executor self.old.table }
@@ -249,6 +251,8 @@ impl Search {
         ensures counted { IfOk result (λ full. IsFalse full → self.new.endless ≡ 0 → Counts self.new.transactions
             (self.old.transactions + running (state_at self.old.table number) self.old.executor.settings.cores)) }
         ensures endless { self.old.endless ≤ self.new.endless }
+        ensures limit { IfOk result (λ full. IsTrue full → limits.states ≤ length self.new.table) }
+        ensures further { IfOk result (λ full. IsTrue full → HasFurther self.new.executor self.new.table) }
     {
         let count = self.executor.cores();
         for core in 0..count {
@@ -259,7 +263,7 @@ impl Search {
         Ok(false)
     }
 
-    /// Goes through all states, up to the limit; true where the limit ended it.
+    /// Goes through all states, up to the limit; true where the limit ended it, and there is a further state.
     #[tactic(auto, unfolding(crate::specs::Counted::total))]
     pub(crate) fn go(&mut self, limits: Limits) -> Result<bool, NoMemory>
         requires found { AreFound self.old.executor self.old.table }
@@ -280,6 +284,8 @@ impl Search {
             → AreAllEdges self.new.executor self.new.table self.new.edges) }
         ensures counted { IfOk result (λ full. IsFalse full → self.new.endless ≡ 0 → Counts self.new.transactions
             (all_running self.new.executor.settings.cores self.new.table (length self.new.table))) }
+        ensures limit { IfOk result (λ full. IsTrue full → length self.new.table ≡ limits.states) }
+        ensures further { IfOk result (λ full. IsTrue full → HasFurther self.new.executor self.new.table) }
     {
         let mut number = 0;
         while number < self.table.len() {

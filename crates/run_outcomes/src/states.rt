@@ -29,7 +29,7 @@ pub(crate) enum Place {
     Known(usize),
     /// It is a new one, of that number.
     New(usize),
-    /// There may be no further state.
+    /// It is none of them, and there may be no further one.
     Full,
 }
 

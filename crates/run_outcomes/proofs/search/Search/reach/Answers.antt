@@ -1,12 +1,13 @@
 use Rattle.std.proofs.Common.{◌≡◌, ap, sym, arith}
 use Rattle.std.proofs.lemmas.Bool.{false≢true}
-use Rattle.run_outcomes.proofs.Added.{added-found, added-led}
+use Rattle.run_outcomes.proofs.Added.{added-found, added-further, added-led}
 use Rattle.run_outcomes.proofs.Counting.{stopped-runs}
 use Rattle.run_outcomes.proofs.Edged.{added-edged, added-edges, edged-stopped, joined-grown}
 use Rattle.run_outcomes.proofs.Noted.{noted-placed}
 use Rattle.run_outcomes.specs.Counted.{runs}
 use Rattle.run_outcomes.specs.Explored.{state_at}
 use Rattle.run_outcomes.specs.States.{core_in, after_core}
+use Rattle.run_outcomes.specs.declared.states.Place.TheVariants.{Full}
 use Rattle.run_outcomes.proofs.search.Search.reach.Goals as goal
 
 pub returns-in-Stopped-clause-edged : goal.returns-in-Stopped-clause-edged
@@ -84,3 +85,14 @@ returns-in_ok-note-in-Leads-clause-noted c =
     rw c.next_in.ensures.unchanged
     (noted-placed before.executor before.table c.add.new.self after c.args.limits.states c.args.limits.longest before.endless
     before.endless_at c.in_ok-place-in-Leads.place placed c.requires.noted)
+
+pub returns-in_ok-note-in-Leads-clause-further : goal.returns-in_ok-note-in-Leads-clause-further
+returns-in_ok-note-in-Leads-clause-further c = λ full.
+    let l = c.args.self.now.executor in
+    let next = rw (c.in-Leads.is, c.state-state.ensures) at c.in_ok-next.ensures.next in
+    let placed = rw (c.in_ok-left-in-Leads.ensures, c.state-state.ensures) at c.in_ok-place-in-Leads.ensures.placed in
+    let is : c.in_ok-place-in-Leads.place ≡ Full = grind (arith, c.eq.ensures, full) in
+    rw c.next_in.ensures.unchanged
+    (added-further l c.args.self.now.table c.add.new.self c.args.number c.args.core.0 c.args.limits.states c.args.limits.longest
+    c.in-Leads.n c.in-Leads.after c.in-Leads.changes c.in_ok-place-in-Leads.place c.requires.found c.requires.number c.requires.core
+    next placed is)
