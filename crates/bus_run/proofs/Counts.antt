@@ -6,6 +6,7 @@ use Rattle.bus_rules.specs.State.{BusEvent}
 use Rattle.bus_rules.specs.Step.{bus_next}
 use Rattle.bus_tcc.specs.Machine.{BusMachine, bus_history_of, bus_program_of, bus_settings_of}
 use Rattle.bus_tool.specs.Running.{bus_picked_by}
+use Rattle.bus_tool.proofs.Lemmas.{no-words}
 use Rattle.bus_watch.specs.Facts.{BusFact}
 use Rattle.bus_watch.specs.Happened.{bus_happened, core_of}
 use Rattle.bus_watch.specs.Plain.{bus_fact_of}
@@ -15,7 +16,7 @@ use Rattle.bus_run.specs.Counting.{AreCounted, facts}
 use Rattle.bus_run.specs.Going.{GoneOn, Moves, Starts, coming}
 use Rattle.bus_run.specs.Laws.{gone-more, gone-none}
 use Rattle.bus_run.specs.declared.running.BusRun.{BusRun}
-use Rattle.bus_run.proofs.Going.{gone-end, gone-one, none-left}
+use Rattle.bus_run.proofs.Going.{gone-end, gone-one}
 use Rattle.bus_run.proofs.Leading.{coming-first}
 
 -- what an event does to a machine
@@ -79,7 +80,7 @@ pub tallied-all : (first now : BusRun) (number : ℕ) (before counts : BusCounts
     → number ≡ first.left → AreCounted first now before counts
 tallied-all first now number before counts t e =
     let left = t.left in
-    let none : coming now ≡ [] = none-left now.left now.words now.system (omega (arith, left, e)) in
+    let none : coming now ≡ [] = no-words now.left now.words now.system (omega (arith, left, e)) in
     record {
       gone = t.gone;
       ended = none;

@@ -1,5 +1,5 @@
 -- One event more, or no event any more.
-use Rattle.std.proofs.Common.{◌≡◌, ℕ, zero, suc, ◌+◌, List, [], ◌∷◌, length, Option, Some, None, refl, ap, sym, ◌∙◌, arith}
+use Rattle.std.proofs.Common.{◌≡◌, ℕ, zero, suc, List, [], ◌∷◌, length, Some, None, refl, ap, sym, ◌∙◌, arith}
 use Rattle.image_load.specs.Contents.{started}
 use Rattle.rand_pcg.specs.Lcg.{Lcg}
 use Rattle.rand_pcg.specs.Pcg.{pcg32}
@@ -14,10 +14,6 @@ use Rattle.bus_run.specs.Going.{GoneOn, Led, Moves, coming, runs, texts}
 use Rattle.bus_run.specs.declared.running.BusRun.{BusRun}
 
 -- ---- the words that are left
-
--- no word is left
-pub none-left : (k : ℕ) (g : Lcg) (m : BusMachine) → k ≡ 0 → picks k g m ≡ []
-none-left k g m e = no-words k g m e
 
 -- no event is useful
 pub none-picked : (k : ℕ) (g : Lcg) (m : BusMachine) → chosen_at g m ≡ None → picks k g m ≡ []

@@ -1,5 +1,5 @@
 -- Where a run leads to from its start.
-use Rattle.std.proofs.Common.{◌≡◌, ◌↔◌, ℕ, ◌+◌, Bool, [], length, IsTrue, Some, ap, sym, ◌∙◌, subst, arith}
+use Rattle.std.proofs.Common.{◌≡◌, ◌↔◌, ℕ, Bool, [], length, IsTrue, ap, sym, ◌∙◌, subst, arith}
 use Rattle.image_load.specs.Contents.{Contents, started}
 use Rattle.rv_code.specs.Machine.{program}
 use Rattle.bus_rules.specs.Step.{bus_from, bus_run}

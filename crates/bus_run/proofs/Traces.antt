@@ -1,5 +1,5 @@
 -- The whole of a trace, and where it breaks off.
-use Rattle.std.proofs.Common.{◌≡◌, ℕ, zero, suc, ◌+◌, ◌<◌, ◌≤◌, ◌↔◌, Bool, List, [], ◌∷◌, ◌++◌, drop, length, take, Option, IsTrue}
+use Rattle.std.proofs.Common.{◌≡◌, ℕ, zero, suc, ◌+◌, ◌≤◌, ◌↔◌, Bool, List, [], ◌∷◌, ◌++◌, drop, length, take, Option, IsTrue}
 use Rattle.std.proofs.Common.{append-nil, append_assoc, inl, inr, refl, ap, sym, ◌∙◌, subst, arith}
 use Rattle.std.proofs.Math.Seq.{take-append-add}
 use Rattle.std.proofs.lemmas.List.{length-append}
@@ -7,19 +7,20 @@ use Rattle.std.specs.Io.KnownBytes.{Appends}
 use Rattle.image_load.specs.Contents.{Contents, started}
 use Rattle.rv_code.specs.Machine.{program}
 use Rattle.schedule_text.specs.Grammar.{joined}
+use Rattle.tcc_base.specs.Settings.{Settings}
 use Rattle.bus_rules.specs.Useful.{BusIsDone}
 use Rattle.bus_serial.specs.Given.{bus_at_start}
 use Rattle.bus_tcc.specs.Machine.{bus_history_of, bus_settings_of, bus_world_of}
 use Rattle.bus_tcc.specs.Refined.{IsBusRefined}
 use Rattle.bus_tool.specs.Running.{bus_picked_by}
-use Rattle.bus_trace.specs.Text.{bus_event_texts, bus_head_text, bus_text_from, bus_trace_text}
+use Rattle.bus_trace.specs.Text.{bus_event_texts, bus_head_text, bus_text_from}
 use Rattle.bus_trace.proofs.Lemmas.{bus_trace-parts}
 use Rattle.watch_trace.specs.Text.{tail_text}
-use Rattle.text_runs.specs.Pieces.{HasBegun, IsCut, IsEndCut, IsPart, IsPut, IsStopped, IsTold, Written, window}
+use Rattle.text_runs.specs.Pieces.{IsCut, IsEndCut, IsPart, IsStopped, IsTold, Written, window}
 use Rattle.text_runs.specs.declared.pieces.Broken.{Broken}
 use Rattle.text_runs.specs.declared.pieces.Broken.TheVariants.{Memory, Output}
 use Rattle.text_runs.proofs.Lemmas.{appends-more, put-cut, rose-later}
-use Rattle.bus_run.specs.Going.{GoneOn, Led, Starts, coming, texts}
+use Rattle.bus_run.specs.Going.{Led, Starts, coming, texts}
 use Rattle.bus_run.specs.Traced.{IsBusTraceBroken, IsBusTraceCut, IsBusTraced, bus_lines_by, bus_trace_by}
 use Rattle.bus_run.specs.declared.running.BusRun.{BusRun}
 use Rattle.bus_run.proofs.Leading.{as-many, coming-first, leads}
@@ -47,6 +48,11 @@ part-longer xs ys a b (n, p) = let r = take-longer n xs ys in (r.0, subst (Appen
 
 -- ---- from the start
 
+-- what is held first
+pub head-is : (from : ℕ) (r : BusRun) (s : Settings) (none text : List ℕ) → none ≡ [] → s ≡ bus_settings_of r.system
+    → text ≡ none ++ bus_head_text s from → text ≡ bus_head_text (bus_settings_of r.system) from
+head-is from r s none text n k e = e ∙ ap (λ xs. xs ++ bus_head_text s from) n ∙ ap (λ x. bus_head_text x from) k
+
 -- the first lines, and those of the events
 lines-are : (c : Contents) (seed steps from : ℕ) (r : BusRun) (held : List ℕ) → Starts c seed steps r
     → held ≡ bus_head_text (bus_settings_of r.system) from
@@ -56,14 +62,6 @@ lines-are c seed steps from r held s e = λ i.
     (e ∙ ap (λ k. bus_head_text k.settings from) s.code) i
     ++ window from
     (bus_event_texts (s.code i).settings (program (started (s.code i))) (coming-first c seed steps r s i) (s.history i))
-
--- nothing was written
-pub begun-none : (bytes : List ℕ) (a : Option (List ℕ)) → Appends a a [] → IsPart bytes a a
-begun-none bytes a p = (0, subst (Appends a a) (sym (none bytes)) p)
-  where
-    none : (xs : List ℕ) → take 0 xs ≡ []
-    none [] = refl
-    none (x ∷ xs) = refl
 
 -- what was written of the first texts is a first part of all
 begun-part : (c : Contents) (seed steps from : ℕ) (r n : BusRun) (held : List ℕ) (told : List (List ℕ)) (a b : Option (List ℕ))
@@ -92,7 +90,8 @@ all-told r n told l e = l.texts_are ∙ ap (λ es. told ++ texts n.system es) e 
 
 -- what was put out, what is held and the last lines are the trace
 whole-is : (c : Contents) (seed steps from : ℕ) (r n : BusRun) (held now : List ℕ) (x y : Option (List ℕ)) (done : Bool)
-    → Starts c seed steps r → held ≡ bus_head_text (bus_settings_of r.system) from → (t : IsTold (Led r n) (coming n ≡ []) from held now x y)
+    → Starts c seed steps r → held ≡ bus_head_text (bus_settings_of r.system) from
+    → (t : IsTold (Led r n) (coming n ≡ []) from held now x y)
     → t.put.written ++ (now ++ tail_text done n.system.events) ≡ bus_trace_by (started c) seed steps from done
 whole-is c seed steps from r n held now x y done s e t =
     let tail = tail_text done n.system.events in

@@ -1,5 +1,5 @@
 -- What a trace of the machine with one bus has written while its run goes on.
-use Rattle.std.specs.Prelude.{ℕ, ◌<◌, ◌⊎◌, Bool, List, ◌++◌, Option, length, take}
+use Rattle.std.specs.Prelude.{ℕ, ◌⊎◌, Bool, List, ◌++◌, Option}
 use Rattle.std.specs.Io.KnownBytes.{Appends}
 use Rattle.image_load.specs.Start.{Start}
 use Rattle.rv_code.specs.Machine.{program}

@@ -1,29 +1,25 @@
 -- From the machine at its start to the end of the trace.
-use Rattle.std.proofs.Common.{◌≡◌, ◌∙◌, ◌++◌, ap, subst}
+use Rattle.std.proofs.Common.{◌++◌, subst}
 use Rattle.std.proofs.lemmas.Result.{err_from_is_err_and}
-use Rattle.std.specs.String.{string_bytes}
-use Rattle.watch_trace.specs.Text.{tail_text}
-use Rattle.bus_tcc.specs.Machine.{bus_settings_of}
-use Rattle.bus_trace.specs.Text.{bus_head_text}
-use Rattle.text_runs.specs.Pieces.{IsEndCut, Written}
 use Rattle.std.specs.Io.KnownBytes.{Appends}
-use Rattle.bus_run.proofs.Traces.{ended-broken, stopped-broken, traced}
+use Rattle.std.specs.String.{string_bytes}
+use Rattle.text_runs.specs.Pieces.{IsEndCut, Written}
+use Rattle.watch_trace.specs.Text.{tail_text}
+use Rattle.bus_run.proofs.Traces.{ended-broken, head-is, stopped-broken, traced}
 use Rattle.bus_run.proofs.tracing.trace_on_bus.Goals as goal
 
 pub returns-in_err-tell_events-clause-broken : goal.returns-in_err-tell_events-clause-broken
 returns-in_err-tell_events-clause-broken g c =
-    let head : string_bytes c.push_bus_head.new.text ≡ bus_head_text (bus_settings_of c.in-Ok.run'.system) c.args.from =
-    c.in-Ok-push_bus_head.ensures ∙ ap (λ xs. xs ++ bus_head_text c.config.result.now c.args.from) c.new-held.ensures.bytes
-    ∙ ap (λ s. bus_head_text s c.args.from) c.config.ensures in
+    let head = head-is c.args.from c.in-Ok.run' c.config.result.now _ (string_bytes c.push_bus_head.new.text) c.new-held.ensures.bytes
+    c.config.ensures c.in-Ok-push_bus_head.ensures in
     let p = err_from_is_err_and c.from_residual.result c.from_residual.ensures.1 in
-    rw (p.1, p.2) (stopped-broken c.args.loaded.now c.args.seed c.args.steps c.args.from c.in-Ok.run' (string_bytes c.push_bus_head.new.text)
-    _ c.in_err-tell_events.field-0.0 c.in-Ok.ensures head c.in_err-tell_events.ensures.stopped)
+    rw (p.1, p.2) (stopped-broken c.args.loaded.now c.args.seed c.args.steps c.args.from c.in-Ok.run'
+    (string_bytes c.push_bus_head.new.text) _ c.in_err-tell_events.field-0.0 c.in-Ok.ensures head c.in_err-tell_events.ensures.stopped)
 
 pub returns-in_err-tell_end-clause-broken : goal.returns-in_err-tell_end-clause-broken
 returns-in_err-tell_end-clause-broken g c =
-    let head : string_bytes c.push_bus_head.new.text ≡ bus_head_text (bus_settings_of c.in-Ok.run'.system) c.args.from =
-    c.in-Ok-push_bus_head.ensures ∙ ap (λ xs. xs ++ bus_head_text c.config.result.now c.args.from) c.new-held.ensures.bytes
-    ∙ ap (λ s. bus_head_text s c.args.from) c.config.ensures in
+    let head = head-is c.args.from c.in-Ok.run' c.config.result.now _ (string_bytes c.push_bus_head.new.text) c.new-held.ensures.bytes
+    c.config.ensures c.in-Ok-push_bus_head.ensures in
     let output : Written = record {
       before = g.O.Sink.bytes c.tell_events.new.out;
       after = g.O.Sink.bytes c.tell_end.new.out;
@@ -40,9 +36,8 @@ returns-in_err-tell_end-clause-broken g c =
 
 pub returns-clause-traced : goal.returns-clause-traced
 returns-clause-traced g c =
-    let head : string_bytes c.push_bus_head.new.text ≡ bus_head_text (bus_settings_of c.in-Ok.run'.system) c.args.from =
-    c.in-Ok-push_bus_head.ensures ∙ ap (λ xs. xs ++ bus_head_text c.config.result.now c.args.from) c.new-held.ensures.bytes
-    ∙ ap (λ s. bus_head_text s c.args.from) c.config.ensures in
+    let head = head-is c.args.from c.in-Ok.run' c.config.result.now _ (string_bytes c.push_bus_head.new.text) c.new-held.ensures.bytes
+    c.config.ensures c.in-Ok-push_bus_head.ensures in
     traced c.args.loaded.now c.args.seed c.args.steps c.args.from c.in-Ok.run' c.tell_events.new.run
     (string_bytes c.push_bus_head.new.text) (string_bytes c.tell_events.new.held) (g.O.Sink.bytes c.args.out.now)
     (g.O.Sink.bytes c.tell_events.new.out) (g.O.Sink.bytes c.tell_end.new.out) c.done-done.result c.in-Ok.ensures head

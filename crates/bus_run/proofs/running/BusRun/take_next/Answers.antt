@@ -2,14 +2,15 @@
 use Rattle.std.proofs.Common.{refl, ap, sym, ◌∙◌, arith}
 use Rattle.bus_tcc.specs.Machine.{bus_event_of}
 use Rattle.bus_tool.specs.Picking.{picks}
-use Rattle.bus_run.proofs.Going.{first-picked, none-left, none-picked}
+use Rattle.bus_tool.proofs.Lemmas.{no-words}
+use Rattle.bus_run.proofs.Going.{first-picked, none-picked}
 use Rattle.bus_run.proofs.running.BusRun.take_next.Goals as goal
 
 -- no word is left
 pub returns-then-self-eq0 : goal.returns-then-self-eq0
 returns-then-self-eq0 c =
     let run = c.args.self.now in
-    let none = none-left run.left run.words run.system c.if-self-eq0.true in
+    let none = no-words run.left run.words run.system c.if-self-eq0.true in
     (refl, refl, none, none)
 
 -- no event is useful
