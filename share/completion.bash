@@ -3,11 +3,15 @@ _hoopoelarder() {
     local word=${COMP_WORDS[COMP_CWORD]} before=${COMP_WORDS[COMP_CWORD - 1]}
     COMPREPLY=()
     if [ "$COMP_CWORD" = 1 ]; then
-        mapfile -t COMPREPLY < <(compgen -W "run phases replay why serial trial bus trace count state help cc look step sweep plot --help --version --where" -- "$word")
+        mapfile -t COMPREPLY < <(compgen -W "run phases replay why serial trial bus trace count state outcomes help cc look step sweep plot --help --version --where" -- "$word")
         return
     fi
-    case $before in
-    --cores | --dirs | --sets | --ways | --ram | --base | --steps | --seed | --from | --to | --events | --threads)
+    case "${COMP_WORDS[1]} $before" in
+    *" --cores" | *" --dirs" | *" --sets" | *" --ways" | *" --ram" | *" --base" | *" --steps" | *" --seed" | *" --from" | *" --to" | *" --events" | "outcomes --states" | *" --longest" | *" --threads")
+        return
+        ;;
+    *" --tell")
+        mapfile -t COMPREPLY < <(compgen -W "consoles memory all" -- "$word")
         return
         ;;
     esac
@@ -21,15 +25,16 @@ _hoopoelarder() {
         serial) mapfile -t COMPREPLY < <(compgen -W "--cores --dirs --sets --ways --ram --base --raw --help" -- "$word") ;;
         trial) mapfile -t COMPREPLY < <(compgen -W "--cores --dirs --sets --ways --steps --seed --help" -- "$word") ;;
         bus) mapfile -t COMPREPLY < <(compgen -W "--cores --sets --ways --ram --base --raw --steps --seed --help" -- "$word") ;;
-        trace) mapfile -t COMPREPLY < <(compgen -W "--cores --dirs --sets --ways --ram --base --raw --steps --seed --schedule --from --to --states --help" -- "$word") ;;
-        count) mapfile -t COMPREPLY < <(compgen -W "--cores --dirs --sets --ways --ram --base --raw --steps --seed --schedule --csv --help" -- "$word") ;;
-        state) mapfile -t COMPREPLY < <(compgen -W "--cores --dirs --sets --ways --ram --base --raw --steps --seed --schedule --events --help" -- "$word") ;;
+        trace) mapfile -t COMPREPLY < <(compgen -W "--cores --dirs --sets --ways --ram --base --raw --steps --seed --schedule --bus --from --to --states --help" -- "$word") ;;
+        count) mapfile -t COMPREPLY < <(compgen -W "--cores --dirs --sets --ways --ram --base --raw --steps --seed --schedule --bus --csv --help" -- "$word") ;;
+        state) mapfile -t COMPREPLY < <(compgen -W "--cores --dirs --sets --ways --ram --base --raw --steps --seed --schedule --bus --events --help" -- "$word") ;;
+        outcomes) mapfile -t COMPREPLY < <(compgen -W "--cores --ram --base --raw --states --longest --tell --help" -- "$word") ;;
         esac
         return
         ;;
     esac
     case ${COMP_WORDS[1]} in
-    help) mapfile -t COMPREPLY < <(compgen -W "run phases replay why serial trial bus trace count state" -- "$word") ;;
+    help) mapfile -t COMPREPLY < <(compgen -W "run phases replay why serial trial bus trace count state outcomes" -- "$word") ;;
     trial) mapfile -t COMPREPLY < <(compgen -W "counters transfers stencil sharing" -- "$word") ;;
     *) mapfile -t COMPREPLY < <(compgen -f -- "$word") ;;
     esac

@@ -13,6 +13,7 @@ _hoopoelarder() {
         'trace:prints what each event of a run did'
         'count:prints how often what happened in a run'
         'state:prints the state after a run, or after its first events'
+        'outcomes:lists all results that a program can have'
         'help:prints a page of usage'
         'cc:compiles C for the machine'
         'look:shows what happened in a run'
@@ -120,7 +121,8 @@ _hoopoelarder() {
             '--raw[the images are raw; without it they are ELF files]' \
             '--steps[the largest number of events\: 0 to 4194304 (1000000)]:N:' \
             '--seed[what the choice of events begins with\: 0 to 18446744073709551615 (0)]:N:' \
-            '--schedule[the run is that of this schedule; then there is neither --steps nor --seed]:NAME:_files' \
+            '--schedule[the run is that of this schedule; then there is neither --steps, --seed nor --bus]:NAME:_files' \
+            '--bus[the run is that of the machine with one bus; then there is neither --dirs nor --states]' \
             '--from[events before this one, counted from 0, aren'\''t printed\: 0 to 4194304 (0)]:N:' \
             '--to[at most so many events are taken\: 0 to 4194304 (4194304)]:N:' \
             '--states[the state at the beginning is printed too, and what each event changed of it]' \
@@ -137,7 +139,8 @@ _hoopoelarder() {
             '--raw[the images are raw; without it they are ELF files]' \
             '--steps[the largest number of events\: 0 to 4194304 (1000000)]:N:' \
             '--seed[what the choice of events begins with\: 0 to 18446744073709551615 (0)]:N:' \
-            '--schedule[the run is that of this schedule; then there is neither --steps nor --seed]:NAME:_files' \
+            '--schedule[the run is that of this schedule; then there is neither --steps, --seed nor --bus]:NAME:_files' \
+            '--bus[the run is that of the machine with one bus; then there is neither --dirs nor --states]' \
             '--csv[only the totals are printed, as two rows for a table]' \
             '1:command:' '*:file:_files'
         ;;
@@ -152,8 +155,20 @@ _hoopoelarder() {
             '--raw[the images are raw; without it they are ELF files]' \
             '--steps[the largest number of events\: 0 to 4194304 (1000000)]:N:' \
             '--seed[what the choice of events begins with\: 0 to 18446744073709551615 (0)]:N:' \
-            '--schedule[the run is that of this schedule; then there is neither --steps nor --seed]:NAME:_files' \
+            '--schedule[the run is that of this schedule; then there is neither --steps, --seed nor --bus]:NAME:_files' \
+            '--bus[the run is that of the machine with one bus; then there is neither --dirs nor --states]' \
             '--events[at most so many events are taken\: 0 to 4194304 (4194304)]:N:' \
+            '1:command:' '*:file:_files'
+        ;;
+    outcomes)
+        _arguments \
+            '--cores[the number of cores\: 1 to 64 (1)]:N:' \
+            '--ram[the bytes of memory\: a multiple of 32 from 32 to 16777216 (65536)]:N:' \
+            '--base[the address of the first one\: a multiple of 32, with base + RAM at most 2^32 (0x80000000)]:N:' \
+            '--raw[the images are raw; without it they are ELF files]' \
+            '--states[at most so many states are found\: 1 to 4194304 (1000000)]:N:' \
+            '--longest[the largest number of instructions of a transaction\: 1 to 4194304 (100000)]:N:' \
+            '--tell[what makes two results different\: consoles, memory or all (consoles)]:WHAT:(consoles memory all)' \
             '1:command:' '*:file:_files'
         ;;
     help) _describe command commands ;;

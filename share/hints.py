@@ -31,6 +31,8 @@ TRAPS = {
     7: "a store outside RAM",
     11: "an ECALL with an unknown number in x17",
 }
+# What doesn't go together with --bus.
+OFF_THE_BUS = {"schedule": "no schedules", "dirs": "no directories", "states": "no records in its trace"}
 COMPILE_HINT = "compile with -march=rv32ima -mabi=ilp32, or with `tcc cc`"
 
 
@@ -93,6 +95,8 @@ def reason(command, name):
         return ": a schedule says which events there are"
     if command in ("trace", "count", "state") and name == "record":
         return ": run writes a record"
+    if command == "outcomes" and name in ("dirs", "sets", "ways", "seed", "steps", "schedule", "bus"):
+        return ": it lists the results of all runs, on any machine"
     if command == "trial" and name in ("raw", "ram", "base"):
         return ": it makes its own image"
     return ""
@@ -114,6 +118,10 @@ def words_hint(words, commands, options):
         return said.fault
     if "schedule" in said.given and ("steps" in said.given or "seed" in said.given):
         return "a schedule says which events there are: it stands with neither --steps nor --seed"
+    if "bus" in said.given:
+        for name, why in OFF_THE_BUS.items():
+            if name in said.given:
+                return f"--bus stands without --{name}: the machine with one bus has {why}"
     if words[0] == "trial":
         return "trial takes two words, KIND and NUMBER, as in trial counters 50"
     missing = commands[words[0]].words.replace("[OPTION]... ", "").replace("...", "").split()[len(said.files):]
@@ -141,6 +149,8 @@ def value_hint(field, words, options):
     if field == "threads" and "record" not in said.given:
         return "--threads needs --record NAME: which events come first may differ each time, and the record says which it was"
     given = said.given.get(field, "")
+    if field == "tell":
+        return f"--tell is {options[field].limits}, and this is {given}"
     ram, base = (number(said.given.get(it, standard)) for it, standard in (("ram", "65536"), ("base", "0x80000000")))
     if number(given) is None:
         if re.fullmatch(r"[0-9]+[kKmMgG](i?B)?", given):
@@ -345,7 +355,10 @@ def is_elf(said):
 
 
 def hint(program, status, line, report, words):
-    commands, options = ({it.name: it for it in rows} for rows in table())
+    commands, options = table()
+    commands = {it.name: it for it in commands}
+    # of two options with one name it is that of the command
+    options = {it.name: it for it in sorted(options, key=lambda it: words[0] in it.commands)}
     if line == "tcc: words":
         return words_hint(words, commands, options)
     if line.startswith("tcc: value "):

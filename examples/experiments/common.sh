@@ -4,6 +4,7 @@ TCC=$(readlink -f -- "${TCC:-$here/../../tcc}")
 export TCC
 machine=(--ram 131072 --seeds 1..5)
 large=(--sets 64 --ways 4)
+both=(reserve-1 kmeans-1 maze maze-copy) # those that run on one bus too
 programs=(reserve-1 reserve-4 reserve-16 kmeans-1 kmeans-4 kmeans-16 maze maze-copy)
 
 sweep() { python3 "$here/../../share/sweep/sweep.py" "$@"; }
@@ -41,5 +42,7 @@ draw() (
         picture messages dirs messages/attempts_committed dirs/{reserve-1,kmeans-1}.csv &&
         picture misses sets misses/instructions sets/{reserve-1,kmeans-1,maze,maze-copy}.csv &&
         picture small sets lost/instructions sets/{reserve-1,kmeans-1,maze,maze-copy}.csv &&
-        python3 "$here/spans.py" draw "$rows/spans.csv" "$pictures/span.svg"
+        python3 "$here/spans.py" draw "$rows/spans.csv" "$pictures/span.svg" &&
+        python3 "$here/buses.py" draw "$rows/bus.csv" instructions_lost/instructions_executed "$pictures/bus-lost.svg" &&
+        python3 "$here/buses.py" draw "$rows/bus.csv" attempts_committed "$pictures/bus-commits.svg"
 )

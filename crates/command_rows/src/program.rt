@@ -3,6 +3,7 @@ mod atomics;
 mod buses;
 mod images;
 mod looks;
+mod outcomes;
 mod outputs;
 mod phases;
 mod records;

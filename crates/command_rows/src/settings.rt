@@ -1,4 +1,5 @@
 // Command lines, and what they ask for or why they are refused.
+use run_outcomes::{Limits, Tell};
 use std::alloc::Global;
 use std::process::Abort;
 use std::test::Fail;
@@ -194,6 +195,67 @@ fn a_run_is_looked_at_by_seed_or_by_schedule(rt: HostRuntime) -> Result<(), Fail
     Ok(())
 }
 
+#[test]
+fn a_run_on_the_bus_is_looked_at(rt: HostRuntime) -> Result<(), Fail> {
+    let Ok(
+        Command::LookOnBus {
+            machine,
+            images,
+            steps,
+            seed,
+            view,
+        },
+    ) = asked(rt.alloc(), "count --bus --seed 3 --cores=4 --csv a")?
+    else {
+        panic!(rt; "they ask for another command, or for none");
+    };
+    assert!(rt; machine.config.cores() == 4 && machine.config.dirs() == 1);
+    assert!(rt; images.items.len() == 1 && steps == 1_000_000 && seed == 3);
+    assert_eq!(rt; view, View::Count { csv: true });
+    Ok(())
+}
+
+#[test]
+fn outcomes_have_their_limits(rt: HostRuntime) -> Result<(), Fail> {
+    let Ok(
+        Command::Outcomes {
+            images,
+            limits,
+            tell,
+            ..
+        },
+    ) = asked(rt.alloc(), "outcomes a")?
+    else {
+        panic!(rt; "they ask for another command, or for none");
+    };
+    assert_eq!(rt; images.items.len(), 1);
+    assert_eq!(rt;
+        limits,
+        Limits {
+            states: 1_000_000,
+            longest: 100_000
+        }
+    );
+    assert_eq!(rt; tell, Tell::Consoles);
+    let Ok(
+        Command::Outcomes {
+            machine,
+            images,
+            limits,
+            tell,
+        },
+    ) = asked(
+        rt.alloc(),
+        "outcomes --states 5 --longest=7 --tell all --cores 3 a --raw b",
+    )?
+    else {
+        panic!(rt; "they ask for another command, or for none");
+    };
+    assert!(rt; machine.raw && machine.config.cores() == 3 && images.items.len() == 2);
+    assert!(rt; limits.states == 5 && limits.longest == 7 && tell == Tell::Everything);
+    Ok(())
+}
+
 /// A command line that is refused, and the cause.
 type Refused = (&'static str, WordsFault);
 
@@ -209,7 +271,7 @@ fn are_refused(rt: &impl Abort, alloc: Global, rows: &[Refused]) -> Result<(), F
 }
 
 /// No command, one that there isn't, and commands without the names that they need.
-const NO_COMMAND: [Refused; 8] = [
+const NO_COMMAND: [Refused; 9] = [
     ("", WordsFault::Words),
     ("walk a", WordsFault::Words),
     ("run", WordsFault::Words),
@@ -218,6 +280,7 @@ const NO_COMMAND: [Refused; 8] = [
     ("phases", WordsFault::Words),
     ("bus --raw", WordsFault::Words),
     ("trace --schedule s", WordsFault::Words),
+    ("outcomes --states 3", WordsFault::Words),
 ];
 
 #[test]
@@ -253,8 +316,8 @@ fn a_bus_has_no_directories_threads_or_record(rt: HostRuntime) -> Result<(), Fai
     are_refused(&rt, rt.alloc(), &NOT_OF_A_BUS)
 }
 
-/// Options of one look that another hasn't, and a schedule beside what chooses other events.
-const NOT_TOGETHER: [Refused; 9] = [
+/// Options of one look that another hasn't, a schedule beside what chooses other events, and the bus beside what it hasn't.
+const NOT_TOGETHER: [Refused; 13] = [
     ("trace --csv a", WordsFault::Words),
     ("count --states a", WordsFault::Words),
     ("state --states a", WordsFault::Words),
@@ -264,11 +327,29 @@ const NOT_TOGETHER: [Refused; 9] = [
     ("trace --record r a", WordsFault::Words),
     ("count --schedule s --steps 1 a", WordsFault::Words),
     ("state --seed 1 --schedule s a", WordsFault::Words),
+    ("count --bus --schedule s a", WordsFault::Words),
+    ("trace --dirs 1 --bus a", WordsFault::Words),
+    ("trace --bus --states a", WordsFault::Words),
+    ("run --bus a", WordsFault::Words),
 ];
 
 #[test]
 fn options_that_do_not_go_together(rt: HostRuntime) -> Result<(), Fail> {
     are_refused(&rt, rt.alloc(), &NOT_TOGETHER)
+}
+
+/// Options of machines and runs, which make no difference to the outcomes.
+const NOT_OF_OUTCOMES: [Refused; 5] = [
+    ("outcomes --dirs 2 a", WordsFault::Words),
+    ("outcomes --sets 1 a", WordsFault::Words),
+    ("outcomes --seed 1 a", WordsFault::Words),
+    ("outcomes --schedule s a", WordsFault::Words),
+    ("outcomes --bus a", WordsFault::Words),
+];
+
+#[test]
+fn outcomes_have_no_caches_directories_or_events(rt: HostRuntime) -> Result<(), Fail> {
+    are_refused(&rt, rt.alloc(), &NOT_OF_OUTCOMES)
 }
 
 /// Values without digits, with others, or with too many.
@@ -288,7 +369,7 @@ fn values_that_are_no_numbers(rt: HostRuntime) -> Result<(), Fail> {
 }
 
 /// Numbers that are too large, and threads without a record.
-const OUT_OF_RANGE: [Refused; 8] = [
+const OUT_OF_RANGE: [Refused; 13] = [
     ("run --raw --cores 65 a", WordsFault::Value(Field::Cores)),
     (
         "run --raw --steps 4194305 a",
@@ -300,6 +381,17 @@ const OUT_OF_RANGE: [Refused; 8] = [
     ("trace --from 4194305 a", WordsFault::Value(Field::From)),
     ("trace --to 4194305 a", WordsFault::Value(Field::To)),
     ("state --events 4194305 a", WordsFault::Value(Field::Events)),
+    ("outcomes --states 0 a", WordsFault::Value(Field::States)),
+    (
+        "outcomes --states 4194305 a",
+        WordsFault::Value(Field::States),
+    ),
+    ("outcomes --longest 0 a", WordsFault::Value(Field::Longest)),
+    (
+        "outcomes --longest 4194305 a",
+        WordsFault::Value(Field::Longest),
+    ),
+    ("outcomes --tell some a", WordsFault::Value(Field::Tell)),
 ];
 
 #[test]
@@ -308,12 +400,16 @@ fn values_out_of_range(rt: HostRuntime) -> Result<(), Fail> {
 }
 
 /// Of two fields with faults the first, and of one.
-const TWO_FAULTS: [Refused; 5] = [
+const TWO_FAULTS: [Refused; 6] = [
     ("run --sets x --cores 0 a", WordsFault::Value(Field::Cores)),
     ("run --base 1 --ram 1 a", WordsFault::Value(Field::Ram)),
     ("trial primes 0", WordsFault::Value(Field::Kind)),
     ("trial sharing 2048", WordsFault::Value(Field::Number)),
     ("trace --to x --seed x a", WordsFault::Value(Field::Seed)),
+    (
+        "outcomes --tell x --longest 0 a",
+        WordsFault::Value(Field::Longest),
+    ),
 ];
 
 #[test]

@@ -1,5 +1,6 @@
 -- The proofs of this crate.
 mod Again
+mod BusViews
 mod Comes
 mod Complete
 mod Ending
@@ -16,6 +17,7 @@ mod Pieces
 mod Refusing
 mod Shown
 mod Starting
+mod Tables
 mod Taken
 mod Truth
 mod Watched

@@ -1,6 +1,6 @@
 -- What was counted or traced of a run, as what is told of it.
 use Rattle.std.proofs.Common.{◌≡◌, ℕ, ◌≤◌, Bool, true, false, List, [], ◌∷◌, Option}
-use Rattle.std.proofs.Common.{Some, None, Result, Ok, Err, IfErr, IfOk, IsTrue, ◌↔◌, length, map}
+use Rattle.std.proofs.Common.{None, Result, Ok, Err, IfErr, IfOk, IsTrue, ◌↔◌, length, map}
 use Rattle.std.proofs.Common.{inl, inr, refl, sym, ap, ◌∙◌, subst, arith, if◌then◌else◌, drop}
 use Rattle.image_load.specs.Start.{Start}
 use Rattle.rand_pcg.specs.Lcg.{Lcg}
@@ -10,7 +10,7 @@ use Rattle.rv_serial.specs.Suiting.{world_at_start}
 use Rattle.tcc_base.specs.Settings.{Settings}
 use Rattle.tcc_cli.specs.Lines.{Written}
 use Rattle.std.proofs.lemmas.List.{length-map}
-use Rattle.tcc_cli.specs.Looks.{ArePicked, IsTraceStopped, IsTraceTold, LookedAt, broken_refusal, view_text}
+use Rattle.tcc_cli.specs.Looks.{IsTraceStopped, IsTraceTold, LookedAt, broken_refusal, view_text}
 use Rattle.tcc_cli.specs.Runs.{RunsBy, RunsTo, picked_by}
 use Rattle.tcc_cli.specs.declared.refusal.Refusal.{Refusal}
 use Rattle.tcc_cli.specs.declared.refusal.Refusal.TheVariants as why
@@ -23,7 +23,6 @@ use Rattle.tcc_rules.specs.Picked.{picked}
 use Rattle.tcc_rules.specs.Seen.{IsDone}
 use Rattle.tcc_rules.specs.Step.{History}
 use Rattle.tcc_words.specs.declared.command.View.TheVariants.{Count, State}
-use Rattle.tcc_world.specs.Faults.{Rose}
 use Rattle.watch_count.specs.Counts.{Counts}
 use Rattle.watch_count.specs.Csv.{csv_text}
 use Rattle.watch_count.specs.Text.{count_text}

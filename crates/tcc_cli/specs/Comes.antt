@@ -5,14 +5,16 @@ use Rattle.tcc_cli.specs.Lists.{IsExecuted, IsListFault}
 use Rattle.tcc_base.specs.Settings.{Settings}
 use Rattle.tcc_cli.specs.Lines.{Written}
 use Rattle.tcc_cli.specs.Looks.{ArePicked, AreFirst, IsBegun, IsFaultOfFirst, LookedAt, most_of, seed_of, view_text}
+use Rattle.tcc_cli.specs.BusLooks.{IsBusTraceBegun, LookedAtBus}
 use Rattle.tcc_cli.specs.OnBus.{RanOnBus}
+use Rattle.tcc_cli.specs.Outcomes.{IsTable, IsTableBegun}
 use Rattle.tcc_cli.specs.Phased.{IsPhasePicked, RanInPhases}
 use Rattle.tcc_cli.specs.Runs.{run_text, summary_text}
 use Rattle.tcc_cli.specs.Schedules.{IsMade, IsPicked, IsRecorded, IsScheduleFault, IsScheduleOf, Ran, RecordsOne}
 use Rattle.image_load.specs.Start.{Start}
 use Rattle.tcc_maps.specs.Nodes.{Event}
 use Rattle.tcc_words.specs.declared.command.Command.{Command}
-use Rattle.tcc_words.specs.declared.command.Command.TheVariants.{Run, Replay, Serial, Trial, Why, Phases, Bus, Look}
+use Rattle.tcc_words.specs.declared.command.Command.TheVariants.{Run, Replay, Serial, Trial, Why, Phases, Bus, Look, LookOnBus, Outcomes}
 use Rattle.tcc_words.specs.declared.command.Source.{Source}
 use Rattle.tcc_words.specs.declared.command.Source.TheVariants.{Seed, Schedule}
 use Rattle.tcc_words.specs.declared.command.View.TheVariants.{Trace}
@@ -49,12 +51,20 @@ Comes (Bus machine images steps seed) files tells told done text =
 Comes (Look machine images source view) files tells told done text =
     let s = start_from (Look machine images source view) files in
     LookedAt s (AreLookedAt source (most_of view) s machine.config files) (view_text view (seed_of source) s) done text
+Comes (LookOnBus machine images steps seed view) files tells told done text =
+    LookedAtBus (start_from (LookOnBus machine images steps seed view) files) seed steps view done text
+Comes (Outcomes machine images limits tell) files tells told done text =
+    IsTable (start_from (Outcomes machine images limits tell) files) limits tell done text
 
--- a first part of what a command prints was written while it went on: only a trace is written so
+-- a first part of what a command prints was written while it went on: only traces and tables of outcomes are written so
 abbrev pub HasBegun : Command → (files : List (List ℕ)) → Written → Type 0
 HasBegun (Look machine images source (Trace from to states)) files o =
     let s = start_from (Look machine images source (Trace from to states)) files in
     IsBegun s (AreLookedAt source to s machine.config files) (record { from = from; states = states }) o
+HasBegun (LookOnBus machine images steps seed (Trace from to states)) files o =
+    IsBusTraceBegun (start_from (LookOnBus machine images steps seed (Trace from to states)) files) seed steps from to o
+HasBegun (Outcomes machine images limits tell) files o =
+    IsTableBegun (start_from (Outcomes machine images limits tell) files) limits tell o
 HasBegun _ files o = ⊥
 
 -- the record holds, whole, a schedule that the command may run

@@ -4,7 +4,7 @@ use Rattle.image_load.specs.Start.{Start}
 use Rattle.tcc_cli.specs.Images.{fault_of, start_of}
 use Rattle.tcc_cli.specs.declared.refusal.ImageFault.{ImageFault}
 use Rattle.tcc_words.specs.declared.command.Command.{Command}
-use Rattle.tcc_words.specs.declared.command.Command.TheVariants.{Run, Replay, Serial, Trial, Why, Phases, Bus, Look}
+use Rattle.tcc_words.specs.declared.command.Command.TheVariants.{Run, Replay, Serial, Trial, Why, Phases, Bus, Look, LookOnBus, Outcomes}
 use Rattle.tcc_words.specs.declared.command.Source.{Source}
 use Rattle.tcc_words.specs.declared.command.Source.TheVariants.{Seed, Schedule}
 use Rattle.tcc_words.specs.declared.command.Machine.{Machine}
@@ -20,6 +20,8 @@ image_names (Why machine schedule images) = images
 image_names (Phases machine images steps seed keep) = images
 image_names (Bus machine images steps seed) = images
 image_names (Look machine images source view) = images
+image_names (LookOnBus machine images steps seed view) = images
+image_names (Outcomes machine images limits tell) = images
 
 -- the file of the run that is looked at, and those behind it
 abbrev pub with_file : Source → List (List ℕ) → List (List ℕ)
@@ -36,6 +38,8 @@ files_of (Why machine schedule images) = schedule ∷ images
 files_of (Phases machine images steps seed keep) = images
 files_of (Bus machine images steps seed) = images
 files_of (Look machine images source view) = with_file source images
+files_of (LookOnBus machine images steps seed view) = images
+files_of (Outcomes machine images limits tell) = images
 
 -- the name of the file that is written
 abbrev pub record_of : Command → Option (List ℕ)
@@ -53,6 +57,8 @@ machine_of (Why machine schedule images) = machine
 machine_of (Phases machine images steps seed keep) = machine
 machine_of (Bus machine images steps seed) = machine
 machine_of (Look machine images source view) = machine
+machine_of (LookOnBus machine images steps seed view) = machine
+machine_of (Outcomes machine images limits tell) = machine
 
 -- the first of some files, and those after it
 abbrev pub head_of : List (List ℕ) → List ℕ
@@ -78,6 +84,8 @@ images_in (Why machine schedule images) files = tail_of files
 images_in (Phases machine images steps seed keep) files = files
 images_in (Bus machine images steps seed) files = files
 images_in (Look machine images source view) files = behind_file source files
+images_in (LookOnBus machine images steps seed view) files = files
+images_in (Outcomes machine images limits tell) files = files
 
 -- the start of the machine with these images, and the first of them that is no image
 abbrev pub start_from : Command → (files : List (List ℕ)) → Start

@@ -18,7 +18,7 @@ use Rattle.tcc_msg.specs.declared.event.Event.{Event}
 use Rattle.tcc_replay.specs.declared.replaying.ReplayFault.{ReplayFault}
 use Rattle.tcc_replay.specs.declared.replaying.ReplayFault.TheVariants as replay
 use Rattle.tcc_words.specs.declared.command.Command.{Command}
-use Rattle.tcc_words.specs.declared.command.Command.TheVariants.{Look}
+use Rattle.tcc_words.specs.declared.command.Command.TheVariants.{Look, LookOnBus, Outcomes}
 use Rattle.tcc_words.specs.declared.command.View.{View}
 use Rattle.tcc_words.specs.declared.command.View.TheVariants.{Trace}
 use Rattle.tcc_world.specs.Faults.{Rose}
@@ -63,13 +63,15 @@ abbrev pub IsRunStopped : (IsSchedule : List Event → Type 0) → Settings → 
 IsRunStopped IsSchedule settings keep f Memory = IsUntouched f ⊎ RecordsOne IsSchedule settings keep f.tells f.after
 IsRunStopped IsSchedule settings keep f other = IsNotWritten keep f other
 
--- a text that is written when it is made, as a trace isn't
+-- a text that is written when it is made, as a trace and a table of outcomes aren't
 abbrev pub IsUntraced : View → Type 0
 IsUntraced (Trace from to states) = ⊥
 IsUntraced _ = Unit {0}
 
 abbrev pub IsPrinted : Command → Type 0
 IsPrinted (Look machine images source view) = IsUntraced view
+IsPrinted (LookOnBus machine images steps seed view) = IsUntraced view
+IsPrinted (Outcomes machine images limits tell) = ⊥
 IsPrinted _ = Unit {0}
 
 -- a command stops before its text is made

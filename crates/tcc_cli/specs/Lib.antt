@@ -1,4 +1,5 @@
 pub mod Around
+pub mod BusLooks
 pub mod Comes
 pub mod Commands
 pub mod Failing
@@ -8,6 +9,7 @@ pub mod Lines
 pub mod Looks
 pub mod Lists
 pub mod OnBus
+pub mod Outcomes
 pub mod Phased
 pub mod Process
 pub mod Reading

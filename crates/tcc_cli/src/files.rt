@@ -27,7 +27,9 @@ fn first_name(command: &Command) -> Option<&str>
         | Command::Trial { .. }
         | Command::Phases { .. }
         | Command::Bus { .. }
-        | Command::Look { .. } => None,
+        | Command::Look { .. }
+        | Command::LookOnBus { .. }
+        | Command::Outcomes { .. } => None,
     }
 }
 
@@ -42,7 +44,9 @@ fn image_names(command: &Command) -> &[Text]
         | Command::Why { images, .. }
         | Command::Phases { images, .. }
         | Command::Bus { images, .. }
-        | Command::Look { images, .. } => &images.items,
+        | Command::Look { images, .. }
+        | Command::LookOnBus { images, .. }
+        | Command::Outcomes { images, .. } => &images.items,
         Command::Trial { .. } => &[],
     }
 }

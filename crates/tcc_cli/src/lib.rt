@@ -1,6 +1,7 @@
 // All that the program does, from its words to its status, over any files, outputs and gate.
 #![tactic(auto)]
 
+mod bus_looks;
 mod files;
 mod images;
 mod laid;
@@ -8,6 +9,7 @@ mod laws;
 mod lists;
 mod looks;
 mod on_bus;
+mod outcomes;
 mod phases;
 mod process;
 mod records;

@@ -10,11 +10,13 @@ ghost use Rattle.tcc_cli.specs.Comes.{Comes};
 ghost use Rattle.tcc_cli.specs.Top.{Caused, EndsOf};
 ghost use Rattle.tcc_words.specs.Bounds.{IsInBounds};
 
+use crate::bus_looks::{look_on_bus, trace_bus};
 use crate::files::{names, read_files};
 use crate::images::{bytes, load_files};
 use crate::lists::execute;
 use crate::looks::{look_by_schedule, look_by_seed};
 use crate::on_bus::run_on_bus;
+use crate::outcomes::write_outcomes;
 use crate::refusal::{Refusal, refuse};
 use crate::reports::Finished;
 use crate::running::{run_again, run_and_tell, run_phased, run_recorded, run_trial};
@@ -41,20 +43,21 @@ use work_gen::workload;
 /// back the requests of later phases, and writes the phase of each commit and then the report; `bus [..] IMAGE..` runs images on the
 /// machine with one bus for at most so many events that a seed picks, and writes its report; `trace [..] IMAGE..` writes what each event of
 /// a run does while it goes on, with `--states` also which records it changes, `count [..] IMAGE..` how often what happened in it, and
-/// `state [..] IMAGE..` the state after it: a run as `run` makes it by a seed, or by the schedule of a file.
+/// `state [..] IMAGE..` the state after it: a run as `run` makes it by a seed, or as `bus` does, or by the schedule of a file; `outcomes
+/// [..] IMAGE..` searches all results that the images can have, on whatever machine, and writes their table.
 ///
 /// `Done`: at the end every core has halted, nothing is in flight (no packet on the bus) and no frame has a dirty word, or the list ran
-/// to its end. `Stopped`: the machine isn't done; a run has then taken all the events that were asked for. With both the whole text was
-/// written. `Words`: the words are no command, or a value isn't allowed. `Image`: the files were read, and one isn't an image.
-/// `Schedule`: the schedule or list isn't in its grammar, has other settings than the command's, or can't be run to its end.
-/// `StoreFault`: a file wasn't read, and this is the first, or the record wasn't written. `SinkFault`: `out` failed, after a first part
-/// of the text. `Memory`: there wasn't enough memory; no clause says that memory was short. The record is then as it was, or whole, with
-/// the schedule of the run; of a trace a first part may have been written.
+/// to its end, or the table has all results. `Stopped`: the machine isn't done, and a run has then taken all the events that were asked
+/// for; or the search isn't. With both the whole text was written. `Words`: the words are no command, or a value isn't allowed. `Image`:
+/// the files were read, and one isn't an image. `Schedule`: the schedule or list isn't in its grammar, has other settings than the
+/// command's, or can't be run to its end. `StoreFault`: a file wasn't read, and this is the first, or the record wasn't written.
+/// `SinkFault`: `out` failed, after a first part of the text. `Memory`: there wasn't enough memory; no clause says that memory was short.
+/// The record is then as it was, or whole, with the schedule of the run; of a trace or a table a first part may have been written.
 ///
 /// Refusals come in this order: words, files that aren't read (the schedule or list first, then the images), images, the schedule or list,
-/// the record, the output. Nothing is written to `out` with a refusal but `SinkFault`, and of a trace with `Memory`. A refusal writes its
-/// line to `err`, as far as `err` takes it; nothing else is written there. Of the contents that `files` tells none changes but the
-/// record's.
+/// the record, the output. Nothing is written to `out` with a refusal but `SinkFault`, and of a trace or a table with `Memory`. A refusal
+/// writes its line to `err`, as far as `err` takes it; nothing else is written there. Of the contents that `files` tells none changes but
+/// the record's.
 ///
 /// With `--threads` it starts so many threads, and may wait for them and for the locks that they share: that it returns then isn't proved.
 /// Each passes the gate before each of its turns. Without `--threads` it waits for nobody.
@@ -158,6 +161,8 @@ fn load<'a>(alloc: Global, command: &Command, read: &[List<u8>]) -> Result<Loade
         Command::Run { machine, .. }
         | Command::Phases { machine, .. }
         | Command::Bus { machine, .. }
+        | Command::LookOnBus { machine, .. }
+        | Command::Outcomes { machine, .. }
         | Command::Look {
             machine,
             source: Source::Seed { .. },
@@ -251,6 +256,15 @@ fn tell<'a, R: Threads + Wait + Sync, F: Store, O: Sink, G: Gate + Sync>(
             *to,
             out,
         ),
+        Command::LookOnBus {
+            steps,
+            seed,
+            view: View::Trace { from, to, .. },
+            ..
+        } => trace_bus(alloc, loaded, *seed, *steps, *from, *to, out),
+        Command::Outcomes { limits, tell, .. } => {
+            write_outcomes(alloc, loaded, *limits, *tell, out)
+        }
         _ => print(rt, alloc, command, loaded, read, files, out, gate),
     }
 }
@@ -389,6 +403,16 @@ fn finish<'a, R: Threads + Wait + Sync, F: Store, G: Gate + Sync>(
             view,
             ..
         } => look_by_schedule(alloc, loaded, &machine.config, bytes(&read[0]), *view),
+        Command::LookOnBus {
+            steps,
+            seed,
+            view,
+            ..
+        } => match look_on_bus(alloc, loaded, *seed, *steps, *view) {
+            Ok(finished) => Ok(finished),
+            Err(NoMemory) => Err(Refusal::Memory),
+        },
+        Command::Outcomes { .. } => unreachable!(),
     }
 }
 

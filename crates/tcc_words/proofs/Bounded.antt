@@ -1,5 +1,6 @@
 -- The numbers of a command are those of allowed fields.
-use Rattle.std.proofs.Common.{◌≡◌, ℕ, ◌+◌, ◌%◌, ◌^◌, ◌≤◌, IsTrue, List, length, Option, Some, None, refl, sym, subst, ◌∙◌}
+use Rattle.std.proofs.Common.{◌≡◌, ◌↔◌, ℕ, ◌+◌, ◌%◌, ◌^◌, ◌≤◌, Bool, true, false, IsTrue, List, length, Option, Some, None}
+use Rattle.std.proofs.Common.{refl, sym, subst, ◌∙◌}
 use Rattle.std.specs.Int.{is_power_of_two}
 use Rattle.std.specs.Prelude.{IfSome, IsSome, codes}
 use Rattle.clap.specs.Walk.{Row, Text}
@@ -8,8 +9,9 @@ use Rattle.clap.specs.Words.{first_of, matches_of}
 use Rattle.tcc_base.specs.Settings.{Settings, IsAllowed}
 use Rattle.tcc_words.proofs.OneCommand.{one-value}
 use Rattle.tcc_words.proofs.Unasked.{IsApart, unasked}
-use Rattle.tcc_words.specs.Asked.{AsksLook, AsksSource, AsksView, HasPlaces, HasSettings, IsCommand, MayBeGiven, Asks}
-use Rattle.tcc_words.specs.Bounds.{IsFew, IsInBounds, IsNear}
+use Rattle.tcc_words.specs.Asked.{AsksLook, AsksSource, AsksView, GoTogether, HasPlaces, HasSettings, IsCommand, IsFlagged, MayBeGiven}
+use Rattle.tcc_words.specs.Asked.{Asks}
+use Rattle.tcc_words.specs.Bounds.{IsFew, IsInBounds, IsNear, IsPlain}
 use Rattle.tcc_words.specs.Grammar.{grammar}
 use Rattle.tcc_words.specs.Fields.{Allows, IsValue, images_of}
 use Rattle.tcc_words.specs.Numbers.{IsNumber}
@@ -17,11 +19,11 @@ use Rattle.tcc_words.specs.declared.command.Command.{Command}
 use Rattle.tcc_words.specs.declared.command.Command.TheVariants as command
 use Rattle.tcc_words.specs.declared.command.Field.{Field}
 use Rattle.tcc_words.specs.declared.command.Field.TheVariants.{Cores, Dirs, Sets, Ways, Ram, Base, Steps, From, To, Events}
-use Rattle.tcc_words.specs.declared.command.Field.TheVariants.{Threads, Images, Number}
+use Rattle.tcc_words.specs.declared.command.Field.TheVariants.{States, Longest, Threads, Images, Number}
 use Rattle.tcc_words.specs.declared.command.Source.{Source}
 use Rattle.tcc_words.specs.declared.command.Source.TheVariants as source
 use Rattle.tcc_words.specs.declared.command.Verb.{Verb}
-use Rattle.tcc_words.specs.declared.command.Verb.TheVariants.{Run, Replay, Serial, Trial, Why, Phases, Bus, Trace, Count, State}
+use Rattle.tcc_words.specs.declared.command.Verb.TheVariants.{Run, Replay, Serial, Trial, Why, Phases, Bus, Trace, Count, State, Outcomes}
 use Rattle.tcc_words.specs.declared.command.View.{View}
 use Rattle.tcc_words.specs.declared.command.View.TheVariants as view
 
@@ -111,6 +113,10 @@ number-near : (default : ℕ) (text : Option Text) (n : ℕ) → IsValue default
     → n ≤ 4194304
 number-near default text n h a = subst (λ k. k ≤ 4194304) (one-value default text a.0 n a.1 h) a.2
 
+some-of : (default : ℕ) (text : Option Text) (n : ℕ) → IsValue default text n
+    → ((m : ℕ) × IsValue default text m × (1 ≤ m) × (m ≤ 4194304)) → 1 ≤ n
+some-of default text n h a = subst (λ k. 1 ≤ k) (one-value default text a.0 n a.1 h) a.2
+
 view-near : (verb : Verb) (rows : List Row) (v : View) → AsksView verb rows v → ((field : Field) → Allows rows field) → IsNear v
 view-near Trace rows (view.Trace from to states) a every = (
   number-near 0 (first_of (codes "from") rows) from a.0 (every From),
@@ -120,12 +126,30 @@ view-near Count rows (view.Count csv) a every = tt
 view-near State rows (view.State events) a every = number-near 4194304 (first_of (codes "events") rows) events a (every Events)
 view-near _ rows v a every = absurd a
 
-looking : (verb : Verb) (rows : List Row) (v : View) (c : Command) → 1 ≤ length (images_of rows)
+none-flagged : (b : Bool) (P : Type 0) → (IsTrue b ↔ P) → (P → ⊥) → b ≡ false
+none-flagged true P is none = absurd (none (is.0 refl))
+none-flagged false P is none = refl
+
+view-plain : (verb : Verb) (rows : List Row) (v : View) → AsksView verb rows v → (IsFlagged (codes "records") rows → ⊥) → IsPlain v
+view-plain Trace rows (view.Trace from to states) a none = none-flagged states (IsFlagged (codes "records") rows) a.2 none
+view-plain Count rows (view.Count csv) a none = tt
+view-plain State rows (view.State events) a none = tt
+view-plain _ rows v a none = absurd a
+
+looking : (verb : Verb) (rows : List Row) (v : View) (c : Command) → (1 ≤ length (images_of rows)) × GoTogether rows
     → ((field : Field) → Allows rows field) → AsksLook rows v c → AsksView verb rows v → IsInBounds c
 looking verb rows v (command.Look machine images source view) places every a b =
-    let some = images-some rows images a.1 places every in
-    let near = subst IsNear (sym a.3) (view-near verb rows v b every) in
-    record { allowed = allowed rows machine.config a.0.0 every; numbers = (some.0, some.1, source-few rows source a.2 every, near) }
+    let some = images-some rows images a.2 places.0 every in
+    let near = subst IsNear (sym a.4) (view-near verb rows v b every) in
+    record { allowed = allowed rows machine.config a.1.0 every; numbers = (some.0, some.1, source-few rows source a.3 every, near) }
+looking verb rows v (command.LookOnBus machine images steps seed view) places every a b =
+    let some = images-some rows images a.2 places.0 every in
+    let few = steps-few rows steps a.3 every in
+    let with = places.1.bus a.0 in
+    let one = one-dir rows machine.config.dirs with.0 a.1.0.dirs in
+    let near = subst IsNear (sym a.5) (view-near verb rows v b every) in
+    let bare = subst IsPlain (sym a.5) (view-plain verb rows v b with.1) in
+    record { allowed = allowed rows machine.config a.1.0 every; numbers = (some.0, some.1, few, one, near, bare) }
 looking verb rows v _ places every a b = absurd a
 
 bounded : (verb : Verb) (rows : List Row) (c : Command) → HasPlaces verb rows → HasNone verb rows → ((field : Field) → Allows rows field)
@@ -150,9 +174,14 @@ bounded Bus rows (command.Bus machine images steps seed) places none every a =
     let some = images-some rows images a.1 places every in
     let one = one-dir rows machine.config.dirs none a.0.0.dirs in
     record { allowed = allowed rows machine.config a.0.0 every; numbers = (some.0, some.1, steps-few rows steps a.2 every, one) }
-bounded Trace rows c places none every a = looking Trace rows a.0 c places.0 every a.1 a.2
-bounded Count rows c places none every a = looking Count rows a.0 c places.0 every a.1 a.2
-bounded State rows c places none every a = looking State rows a.0 c places.0 every a.1 a.2
+bounded Trace rows c places none every a = looking Trace rows a.0 c places every a.1 a.2
+bounded Count rows c places none every a = looking Count rows a.0 c places every a.1 a.2
+bounded State rows c places none every a = looking State rows a.0 c places every a.1 a.2
+bounded Outcomes rows (command.Outcomes machine images limits tell) places none every a =
+    let some = images-some rows images a.1 places every in
+    let states = some-of 1000000 (first_of (codes "states") rows) limits.states a.2 (every States) in
+    let longest = some-of 100000 (first_of (codes "longest") rows) limits.longest a.3 (every Longest) in
+    record { allowed = allowed rows machine.config a.0.0 every; numbers = (some.0, some.1, states, longest) }
 bounded Run rows _ places none every a = absurd a
 bounded Replay rows _ places none every a = absurd a
 bounded Serial rows _ places none every a = absurd a
@@ -160,6 +189,7 @@ bounded Trial rows _ places none every a = absurd a
 bounded Why rows _ places none every a = absurd a
 bounded Phases rows _ places none every a = absurd a
 bounded Bus rows _ places none every a = absurd a
+bounded Outcomes rows _ places none every a = absurd a
 
 pub in-bounds : (words : List Text) (c : Command) → IsCommand words c → IsInBounds c
 in-bounds words c h = bounded h.verb h.rows c h.stands.places (has-none h.verb words h.rows h.stands.read) h.allowed h.asks

@@ -7,8 +7,11 @@ use Rattle.tcc_base.specs.Settings.{Settings}
 use Rattle.work_gen.specs.Names.{work_word}
 use Rattle.work_gen.specs.declared.work.Work.{Work}
 use Rattle.work_gen.specs.declared.work.Work.TheVariants.{Counters, Transfers, Stencil, Sharing}
-use Rattle.tcc_words.specs.Asked.{Asks, AsksLook, AsksSource, AsksView, HasMachine, HasSettings, IsGiven, MayBeGiven, Stands}
-use Rattle.tcc_words.specs.Fields.{Allows, BreaksFirst, IsSaid, IsValue, default_of, field_word, order}
+use Rattle.tcc_words.specs.Asked.{Asks, AsksLook, AsksSource, AsksView, HasMachine, HasSettings, HasTell, IsFlagged, IsGiven, MayBeGiven}
+use Rattle.tcc_words.specs.Asked.{Stands}
+use Rattle.run_outcomes.specs.declared.outcomes.Tell.{Tell}
+use Rattle.run_outcomes.specs.declared.outcomes.Tell.TheVariants.{Consoles, Memory, Everything}
+use Rattle.tcc_words.specs.Fields.{Allows, BreaksFirst, IsSaid, IsValue, default_of, field_word, order, tell_word}
 use Rattle.tcc_words.specs.Grammar.{grammar}
 use Rattle.tcc_words.specs.Laws.{CommandsAreNotRefused, WordsAskForOneCommand}
 use Rattle.tcc_words.specs.Numbers.{IsNumber}
@@ -16,12 +19,12 @@ use Rattle.tcc_words.specs.declared.command.Command.{Command}
 use Rattle.tcc_words.specs.declared.command.Command.TheVariants as command
 use Rattle.tcc_words.specs.declared.command.Field.{Field}
 use Rattle.tcc_words.specs.declared.command.Field.TheVariants.{Cores, Dirs, Sets, Ways, Ram, Base, Steps, Seed, From, To}
-use Rattle.tcc_words.specs.declared.command.Field.TheVariants.{Events}
+use Rattle.tcc_words.specs.declared.command.Field.TheVariants.{Events, States, Longest}
 use Rattle.tcc_words.specs.declared.command.Machine.{Machine}
 use Rattle.tcc_words.specs.declared.command.Source.{Source}
 use Rattle.tcc_words.specs.declared.command.Source.TheVariants as source
 use Rattle.tcc_words.specs.declared.command.Verb.{Verb}
-use Rattle.tcc_words.specs.declared.command.Verb.TheVariants.{Run, Replay, Serial, Trial, Why, Phases, Bus, Trace, Count, State}
+use Rattle.tcc_words.specs.declared.command.Verb.TheVariants.{Run, Replay, Serial, Trial, Why, Phases, Bus, Trace, Count, State, Outcomes}
 use Rattle.tcc_words.specs.declared.command.View.{View}
 use Rattle.tcc_words.specs.declared.command.View.TheVariants as view
 use Rattle.tcc_words.specs.declared.command.WordsFault.TheVariants as fault
@@ -74,7 +77,7 @@ same-truth P false true p q = p.1 (q.0 refl)
 one-machine : (rows : List Row) (m n : Machine) → HasMachine rows m → HasMachine rows n → m ≡ n
 one-machine rows m n a b =
     let config = one-settings rows m.config n.config a.0 b.0 in
-    let raw = same-truth (first_of (codes "raw") rows ≡ Some (codes "true")) m.raw n.raw a.1 b.1 in
+    let raw = same-truth (IsFlagged (codes "raw") rows) m.raw n.raw a.1 b.1 in
     λ i. record { config = config i; raw = raw i }
 
 -- ---- the workload
@@ -184,10 +187,10 @@ one-view : (verb : Verb) (rows : List Row) (v w : View) → AsksView verb rows v
 one-view Trace rows (view.Trace from to states) (view.Trace from' to' states') a b =
     let first = one-said rows From from from' a.0 b.0 in
     let last = one-said rows To to to' a.1 b.1 in
-    let records = same-truth (first_of (codes "states") rows ≡ Some (codes "true")) states states' a.2 b.2 in
+    let records = same-truth (IsFlagged (codes "records") rows) states states' a.2 b.2 in
     λ i. view.Trace (first i) (last i) (records i)
 one-view Count rows (view.Count csv) (view.Count csv') a b =
-    ap (λ (c : Bool). view.Count c) (same-truth (first_of (codes "csv") rows ≡ Some (codes "true")) csv csv' a b)
+    ap (λ (c : Bool). view.Count c) (same-truth (IsFlagged (codes "csv") rows) csv csv' a b)
 one-view State rows (view.State events) (view.State events') a b =
     ap (λ (n : ℕ). view.State n) (one-said rows Events events events' a b)
 one-view Trace rows (view.Trace from to states) _ a b = absurd b
@@ -197,12 +200,22 @@ one-view _ rows v w a b = absurd a
 
 one-look : (rows : List Row) (v : View) (c d : Command) → AsksLook rows v c → AsksLook rows v d → c ≡ d
 one-look rows v (command.Look m images source view) (command.Look n images' source' view') a b =
-    let machine = one-machine rows m n a.0 b.0 in
-    let files : images ≡ images' = a.1 ∙ sym b.1 in
-    let run = one-source rows source source' a.2 b.2 in
-    let same : view ≡ view' = a.3 ∙ sym b.3 in
+    let machine = one-machine rows m n a.1 b.1 in
+    let files : images ≡ images' = a.2 ∙ sym b.2 in
+    let run = one-source rows source source' a.3 b.3 in
+    let same : view ≡ view' = a.4 ∙ sym b.4 in
     λ i. command.Look (machine i) (files i) (run i) (same i)
+one-look rows v (command.LookOnBus m images steps seed view) (command.LookOnBus n images' steps' seed' view') a b =
+    let machine = one-machine rows m n a.1 b.1 in
+    let files : images ≡ images' = a.2 ∙ sym b.2 in
+    let most = one-said rows Steps steps steps' a.3 b.3 in
+    let start = one-said rows Seed seed seed' a.4 b.4 in
+    let same : view ≡ view' = a.5 ∙ sym b.5 in
+    λ i. command.LookOnBus (machine i) (files i) (most i) (start i) (same i)
+one-look rows v (command.Look m images source view) (command.LookOnBus n images' steps seed view') a b = absurd (a.0 b.0)
+one-look rows v (command.LookOnBus m images steps seed view) (command.Look n images' source view') a b = absurd (b.0 a.0)
 one-look rows v (command.Look m images source view) _ a b = absurd b
+one-look rows v (command.LookOnBus m images steps seed view) _ a b = absurd b
 one-look rows v _ d a b = absurd a
 
 one-looking : (verb : Verb) (rows : List Row) (c d : Command) → ((v : View) × AsksLook rows v c × AsksView verb rows v)
@@ -210,6 +223,30 @@ one-looking : (verb : Verb) (rows : List Row) (c d : Command) → ((v : View) ×
 one-looking verb rows c d a b =
     let same : b.0 ≡ a.0 = one-view verb rows b.0 a.0 b.2 a.2 in
     one-look rows a.0 c d a.1 (subst (λ v. AsksLook rows v d) same b.1)
+
+-- a number by which the words of what is told differ
+told-of : ℕ → Tell
+told-of n = if n == 99 then Consoles else (if n == 109 then Memory else Everything)
+
+told-again : (t : Tell) → told-of (get_or (tell_word t) 0 0) ≡ t
+unfolding told-of
+told-again Consoles = refl
+told-again Memory = refl
+told-again Everything = refl
+
+one-tell : (rows : List Row) (s t : Tell) → HasTell rows s → HasTell rows t → s ≡ t
+one-tell rows s t a b = sym (told-again s) ∙ ap (λ (word : Text). told-of (get_or word 0 0)) (sym a ∙ b) ∙ told-again t
+
+one-outcomes : (rows : List Row) (c d : Command) → Asks Outcomes rows c → Asks Outcomes rows d → c ≡ d
+one-outcomes rows (command.Outcomes m images limits tell) (command.Outcomes n images' limits' tell') a b =
+    let machine = one-machine rows m n a.0 b.0 in
+    let files : images ≡ images' = a.1 ∙ sym b.1 in
+    let states = one-said rows States limits.states limits'.states a.2 b.2 in
+    let longest = one-said rows Longest limits.longest limits'.longest a.3 b.3 in
+    let told = one-tell rows tell tell' a.4 b.4 in
+    λ i. command.Outcomes (machine i) (files i) (record { states = states i; longest = longest i }) (told i)
+one-outcomes rows (command.Outcomes m images limits tell) _ a b = absurd b
+one-outcomes rows _ d a b = absurd a
 
 one-asked : (verb : Verb) (rows : List Row) (c d : Command) → Asks verb rows c → Asks verb rows d → c ≡ d
 one-asked Run rows c d a b = one-run rows c d a b
@@ -222,6 +259,7 @@ one-asked Bus rows c d a b = one-bus rows c d a b
 one-asked Trace rows c d a b = one-looking Trace rows c d a b
 one-asked Count rows c d a b = one-looking Count rows c d a b
 one-asked State rows c d a b = one-looking State rows c d a b
+one-asked Outcomes rows c d a b = one-outcomes rows c d a b
 
 -- what words stand for
 one-reading : (words : List Text) (v w : Verb) (r s : List Row) → Stands words v r → Stands words w s → (w ≡ v) × (s ≡ r)

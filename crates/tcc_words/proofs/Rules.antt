@@ -7,7 +7,7 @@ use Rattle.tcc_words.specs.Grammar.{core_rules, event_rules, flag, grammar, mach
 use Rattle.tcc_words.specs.Grammar.{node_rules, rules, verb_word}
 use Rattle.tcc_words.specs.Grammar.{file_rules, record_rules, source_rules, with_rules}
 use Rattle.tcc_words.specs.declared.command.Verb.{Verb}
-use Rattle.tcc_words.specs.declared.command.Verb.TheVariants.{Run, Replay, Serial, Trial, Why, Phases, Bus, Trace, Count, State}
+use Rattle.tcc_words.specs.declared.command.Verb.TheVariants.{Run, Replay, Serial, Trial, Why, Phases, Bus, Trace, Count, State, Outcomes}
 
 put_rules : App → List Rule → App
 put_rules a rs = on_top (λ s. record s { rules = rs }) a
@@ -73,13 +73,13 @@ trial_made verb name bare nodes events kind made v n e0 e1 e2 e3 e4 = rw (e4, e3
 
 pub trace_made : (verb : Verb) (name : Text) (bare source from to states made : App) → verb ≡ Trace → name ≡ verb_word verb
     → bare ≡ plain name [] → source ≡ with_rules source_rules bare → from ≡ with_rule source (option (codes "from"))
-    → to ≡ with_rule from (option (codes "to")) → states ≡ with_rule to (flag (codes "states"))
+    → to ≡ with_rule from (option (codes "to")) → states ≡ with_rule to (flag (codes "records") (codes "states"))
     → made ≡ with_rule states (places (codes "image")) → made ≡ grammar verb
 unfolding grammar
 trace_made verb name bare source from to states made v n e0 e1 e2 e3 e4 e5 = rw (e5, e4, e3, e2, e1, e0, n, v) refl
 
 pub count_made : (verb : Verb) (name : Text) (bare source csv made : App) → verb ≡ Count → name ≡ verb_word verb
-    → bare ≡ plain name [] → source ≡ with_rules source_rules bare → csv ≡ with_rule source (flag (codes "csv"))
+    → bare ≡ plain name [] → source ≡ with_rules source_rules bare → csv ≡ with_rule source (flag (codes "csv") (codes "csv"))
     → made ≡ with_rule csv (places (codes "image")) → made ≡ grammar verb
 unfolding grammar
 count_made verb name bare source csv made v n e0 e1 e2 e3 = rw (e3, e2, e1, e0, n, v) refl
@@ -89,6 +89,14 @@ pub state_made : (verb : Verb) (name : Text) (bare source events made : App) →
     → made ≡ with_rule events (places (codes "image")) → made ≡ grammar verb
 unfolding grammar
 state_made verb name bare source events made v n e0 e1 e2 e3 = rw (e3, e2, e1, e0, n, v) refl
+
+pub outcomes_made : (verb : Verb) (name : Text) (bare cores memory states longest tell made : App) → verb ≡ Outcomes
+    → name ≡ verb_word verb → bare ≡ plain name [] → cores ≡ with_rule bare (option (codes "cores"))
+    → memory ≡ with_rules memory_rules cores → states ≡ with_rule memory (option (codes "states"))
+    → longest ≡ with_rule states (option (codes "longest")) → tell ≡ with_rule longest (option (codes "tell"))
+    → made ≡ with_rule tell (places (codes "image")) → made ≡ grammar verb
+unfolding grammar
+outcomes_made verb name bare cores memory states longest tell made v n e0 e1 e2 e3 e4 e5 e6 = rw (e6, e5, e4, e3, e2, e1, e0, n, v) refl
 
 pub grammar-simple : (verb : Verb) → is_simple (grammar verb) ≡ true
 unfolding grammar
@@ -102,6 +110,7 @@ grammar-simple Bus = refl
 grammar-simple Trace = refl
 grammar-simple Count = refl
 grammar-simple State = refl
+grammar-simple Outcomes = refl
 
 pub grammar-free : (verb : Verb) → is_simple_and_free (grammar verb) ≡ true
 unfolding grammar
@@ -115,3 +124,4 @@ grammar-free Bus = refl
 grammar-free Trace = refl
 grammar-free Count = refl
 grammar-free State = refl
+grammar-free Outcomes = refl

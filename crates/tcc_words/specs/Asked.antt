@@ -1,34 +1,40 @@
 -- What the words of a command line ask for, and why they are refused.
 use Rattle.std.specs.Prelude.{ℕ, ◌≡◌, ◌≤◌, List, [], Option, Some, None, ◌↔◌, IsTrue, IsSome, MatchOption, option_map}
-use Rattle.std.specs.Prelude.{slice_get, length, codes}
+use Rattle.std.specs.Prelude.{slice_get, length, codes, unwrap_or}
 use Rattle.clap.specs.Words.{Row, Text, first_of, matches_of}
 use Rattle.clap.specs.Faults.{fault_of}
 use Rattle.tcc_base.specs.Settings.{Settings}
 use Rattle.tcc_words.specs.Numbers.{IsNumber}
 use Rattle.tcc_words.specs.Grammar.{grammar, verb_word}
 use Rattle.work_gen.specs.Names.{work_word}
-use Rattle.tcc_words.specs.Fields.{Allows, BreaksFirst, IsSaid, images_of, order}
+use Rattle.tcc_words.specs.Fields.{Allows, BreaksFirst, IsSaid, images_of, order, tell_word}
+use Rattle.run_outcomes.specs.declared.outcomes.Tell.{Tell}
 use Rattle.work_gen.specs.declared.work.Work.{Work}
 use Rattle.tcc_words.specs.declared.fields.Values.{Values}
 use Rattle.tcc_words.specs.declared.command.Command.{Command}
 use Rattle.tcc_words.specs.declared.command.Command.TheVariants as command
 use Rattle.tcc_words.specs.declared.command.Field.{Field}
 use Rattle.tcc_words.specs.declared.command.Field.TheVariants.{Cores, Dirs, Sets, Ways, Ram, Base, Steps, Seed, From, To}
-use Rattle.tcc_words.specs.declared.command.Field.TheVariants.{Events}
+use Rattle.tcc_words.specs.declared.command.Field.TheVariants.{Events, States, Longest}
 use Rattle.tcc_words.specs.declared.command.Machine.{Machine}
 use Rattle.tcc_words.specs.declared.command.Source.{Source}
 use Rattle.tcc_words.specs.declared.command.Source.TheVariants as source
 use Rattle.tcc_words.specs.declared.command.Verb.{Verb}
-use Rattle.tcc_words.specs.declared.command.Verb.TheVariants.{Run, Replay, Serial, Trial, Why, Phases, Bus, Trace, Count, State}
+use Rattle.tcc_words.specs.declared.command.Verb.TheVariants.{Run, Replay, Serial, Trial, Why, Phases, Bus, Trace, Count, State, Outcomes}
 use Rattle.tcc_words.specs.declared.command.View.{View}
 use Rattle.tcc_words.specs.declared.command.View.TheVariants as view
 use Rattle.tcc_words.specs.declared.command.WordsFault.{WordsFault}
 use Rattle.tcc_words.specs.declared.command.WordsFault.TheVariants as fault
 
--- a schedule stands with neither a number of events nor a seed
-abbrev pub GoTogether : List Row → Type 0
-GoTogether rows = IsSome (first_of (codes "schedule") rows)
-    → (first_of (codes "steps") rows ≡ None) × (first_of (codes "seed") rows ≡ None)
+-- an option without a value stands there, which is kept under the name
+abbrev pub IsFlagged : (name : Text) → List Row → Type 0
+IsFlagged name rows = first_of name rows ≡ Some (codes "true")
+
+-- a schedule stands with neither a number of events nor a seed nor the bus, and the bus with neither directories nor records
+pub record GoTogether (rows : List Row) : Type 0 where
+  pub schedule : IsSome (first_of (codes "schedule") rows)
+      → (first_of (codes "steps") rows ≡ None) × (first_of (codes "seed") rows ≡ None) × (IsFlagged (codes "bus") rows → ⊥)
+  pub bus : IsFlagged (codes "bus") rows → (first_of (codes "dirs") rows ≡ None) × (IsFlagged (codes "records") rows → ⊥)
 
 -- each place of the command has its word, and its options go together
 abbrev pub HasPlaces : Verb → List Row → Type 0
@@ -42,6 +48,7 @@ HasPlaces Bus rows = 1 ≤ length (images_of rows)
 HasPlaces Trace rows = (1 ≤ length (images_of rows)) × GoTogether rows
 HasPlaces Count rows = (1 ≤ length (images_of rows)) × GoTogether rows
 HasPlaces State rows = (1 ≤ length (images_of rows)) × GoTogether rows
+HasPlaces Outcomes rows = 1 ≤ length (images_of rows)
 
 -- the first word names a command, and clap takes the words after it; these are the options and places that it reads
 pub record Stands (words : List Text) (verb : Verb) (rows : List Row) : Type 0 where
@@ -61,7 +68,7 @@ pub record HasSettings (rows : List Row) (s : Settings) : Type 0 where
 
 -- the machine, and whether all images are raw
 abbrev pub HasMachine : List Row → Machine → Type 0
-HasMachine rows m = HasSettings rows m.config × (IsTrue m.raw ↔ (first_of (codes "raw") rows ≡ Some (codes "true")))
+HasMachine rows m = HasSettings rows m.config × (IsTrue m.raw ↔ IsFlagged (codes "raw") rows)
 
 -- a number that must be given, and one that may be
 abbrev pub IsGiven : List Row → Text → ℕ → Type 0
@@ -74,6 +81,10 @@ MayBeGiven rows name n = MatchOption n (first_of name rows ≡ None) (IsGiven ro
 abbrev pub HasWork : List Row → Option Work → Type 0
 HasWork rows work = first_of (codes "kind") rows ≡ option_map work_word work
 
+-- what makes two outcomes different: consoles, where nothing is said
+abbrev pub HasTell : List Row → Tell → Type 0
+HasTell rows tell = unwrap_or (first_of (codes "tell") rows) (codes "consoles") ≡ tell_word tell
+
 -- the run that is looked at
 abbrev pub AsksSource : List Row → Source → Type 0
 AsksSource rows (source.Seed steps seed) =
@@ -83,14 +94,17 @@ AsksSource rows (source.Schedule name) = first_of (codes "schedule") rows ≡ So
 -- a command that looks so
 abbrev pub AsksLook : List Row → View → Command → Type 0
 AsksLook rows v (command.Look machine images source view) =
-    HasMachine rows machine × (images ≡ images_of rows) × AsksSource rows source × (view ≡ v)
+    (IsFlagged (codes "bus") rows → ⊥) × HasMachine rows machine × (images ≡ images_of rows) × AsksSource rows source × (view ≡ v)
+AsksLook rows v (command.LookOnBus machine images steps seed view) =
+    IsFlagged (codes "bus") rows × HasMachine rows machine × (images ≡ images_of rows) × IsSaid rows Steps steps × IsSaid rows Seed seed
+    × (view ≡ v)
 AsksLook rows v _ = ⊥
 
 -- what is told of the run
 abbrev pub AsksView : Verb → List Row → View → Type 0
 AsksView Trace rows (view.Trace from to states) =
-    IsSaid rows From from × IsSaid rows To to × (IsTrue states ↔ (first_of (codes "states") rows ≡ Some (codes "true")))
-AsksView Count rows (view.Count csv) = IsTrue csv ↔ (first_of (codes "csv") rows ≡ Some (codes "true"))
+    IsSaid rows From from × IsSaid rows To to × (IsTrue states ↔ IsFlagged (codes "records") rows)
+AsksView Count rows (view.Count csv) = IsTrue csv ↔ IsFlagged (codes "csv") rows
 AsksView State rows (view.State events) = IsSaid rows Events events
 AsksView _ rows v = ⊥
 
@@ -116,6 +130,9 @@ Asks Bus rows (command.Bus machine images steps seed) =
 Asks Trace rows c = (v : View) × AsksLook rows v c × AsksView Trace rows v
 Asks Count rows c = (v : View) × AsksLook rows v c × AsksView Count rows v
 Asks State rows c = (v : View) × AsksLook rows v c × AsksView State rows v
+Asks Outcomes rows (command.Outcomes machine images limits tell) =
+    HasMachine rows machine × (images ≡ images_of rows) × IsSaid rows States limits.states × IsSaid rows Longest limits.longest
+    × HasTell rows tell
 Asks _ _ _ = ⊥
 
 -- what stands in the fields, where all of it is allowed
@@ -126,6 +143,9 @@ pub record HasValues (rows : List Row) (v : Values) : Type 0 where
   pub from : IsSaid rows From v.from
   pub to : IsSaid rows To v.to
   pub events : IsSaid rows Events v.events
+  pub states : IsSaid rows States v.states
+  pub longest : IsSaid rows Longest v.longest
+  pub tell : HasTell rows v.tell
   pub threads : MayBeGiven rows (codes "threads") v.threads
   pub work : HasWork rows v.work
   pub number : MayBeGiven rows (codes "number") v.number

@@ -1,10 +1,10 @@
 -- The numbers of a command are within their bounds.
-use Rattle.std.specs.Prelude.{◌≡◌, ◌≤◌, List, length, IfSome, IsSome}
+use Rattle.std.specs.Prelude.{◌≡◌, ◌≤◌, false, List, length, IfSome, IsSome}
 use Rattle.clap.specs.Words.{Text}
 use Rattle.tcc_base.specs.Settings.{Settings, IsAllowed}
 use Rattle.tcc_words.specs.Asked.{IsCommand}
 use Rattle.tcc_words.specs.declared.command.Command.{Command}
-use Rattle.tcc_words.specs.declared.command.Command.TheVariants.{Run, Replay, Serial, Trial, Why, Phases, Bus, Look}
+use Rattle.tcc_words.specs.declared.command.Command.TheVariants.{Run, Replay, Serial, Trial, Why, Phases, Bus, Look, LookOnBus, Outcomes}
 use Rattle.tcc_words.specs.declared.command.Source.{Source}
 use Rattle.tcc_words.specs.declared.command.Source.TheVariants.{Seed, Schedule}
 use Rattle.tcc_words.specs.declared.command.View.{View}
@@ -19,6 +19,8 @@ config_of (Why machine schedule images) = machine.config
 config_of (Phases machine images steps seed keep) = machine.config
 config_of (Bus machine images steps seed) = machine.config
 config_of (Look machine images source view) = machine.config
+config_of (LookOnBus machine images steps seed view) = machine.config
+config_of (Outcomes machine images limits tell) = machine.config
 
 -- at most 4,194,304 events
 abbrev pub IsFew : Source → Type 0
@@ -30,8 +32,13 @@ IsNear (Trace from to states) = (from ≤ 4194304) × (to ≤ 4194304)
 IsNear (Count csv) = Unit {0}
 IsNear (State events) = events ≤ 4194304
 
+-- a trace without records
+abbrev pub IsPlain : View → Type 0
+IsPlain (Trace from to states) = states ≡ false
+IsPlain _ = Unit {0}
+
 -- 1 to 16 images, at most 4,194,304 events, 1 to 16 threads and only with a record, a workload's number from 1 to 2047; where there are
--- no directories the settings have one
+-- no directories the settings have one; at least one state, and one instruction
 abbrev pub AreNumbers : Command → Type 0
 AreNumbers (Run machine images steps seed threads keep) =
     (1 ≤ length images) × (length images ≤ 16) × (steps ≤ 4194304) × IfSome threads (λ t. (1 ≤ t) × (t ≤ 16) × IsSome keep)
@@ -43,6 +50,11 @@ AreNumbers (Phases machine images steps seed keep) = (1 ≤ length images) × (l
 AreNumbers (Bus machine images steps seed) =
     (1 ≤ length images) × (length images ≤ 16) × (steps ≤ 4194304) × (machine.config.dirs ≡ 1)
 AreNumbers (Look machine images source view) = (1 ≤ length images) × (length images ≤ 16) × IsFew source × IsNear view
+AreNumbers (LookOnBus machine images steps seed view) =
+    (1 ≤ length images) × (length images ≤ 16) × (steps ≤ 4194304) × (machine.config.dirs ≡ 1) × IsNear view
+    × IsPlain view
+AreNumbers (Outcomes machine images limits tell) =
+    (1 ≤ length images) × (length images ≤ 16) × (1 ≤ limits.states) × (1 ≤ limits.longest)
 
 pub record IsInBounds (c : Command) : Type 0 where
   pub allowed : IsAllowed (config_of c)

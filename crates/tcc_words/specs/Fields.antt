@@ -8,7 +8,9 @@ use Rattle.work_gen.specs.Names.{work_word}
 use Rattle.tcc_words.specs.Numbers.{IsNumber}
 use Rattle.tcc_words.specs.declared.command.Field.{Field}
 use Rattle.tcc_words.specs.declared.command.Field.TheVariants.{Cores, Dirs, Sets, Ways, Ram, Base, Steps, Seed, From, To}
-use Rattle.tcc_words.specs.declared.command.Field.TheVariants.{Events, Threads, Images, Kind, Number}
+use Rattle.tcc_words.specs.declared.command.Field.TheVariants.{Events, States, Longest, Tell, Threads, Images, Kind, Number}
+use Rattle.run_outcomes.specs.declared.outcomes.Tell.{Tell as Told}
+use Rattle.run_outcomes.specs.declared.outcomes.Tell.TheVariants.{Consoles, Memory, Everything}
 
 -- the word of a field: of an option, what stands behind the two hyphens
 abbrev pub field_word : Field → Text
@@ -23,12 +25,15 @@ field_word Seed = codes "seed"
 field_word From = codes "from"
 field_word To = codes "to"
 field_word Events = codes "events"
+field_word States = codes "states"
+field_word Longest = codes "longest"
+field_word Tell = codes "tell"
 field_word Threads = codes "threads"
 field_word Images = codes "images"
 field_word Kind = codes "kind"
 field_word Number = codes "number"
 
--- the number of a field that isn't given; the last four have none
+-- the number of a field that isn't given; the others have none
 abbrev pub default_of : Field → ℕ
 default_of Cores = 1
 default_of Dirs = 1
@@ -41,6 +46,8 @@ default_of Seed = 0
 default_of From = 0
 default_of To = 4194304
 default_of Events = 4194304
+default_of States = 1000000
+default_of Longest = 100000
 default_of _ = 0
 
 -- the number that a text writes, or the default where there is none
@@ -51,6 +58,12 @@ IsValue default (Some text) n = IsNumber text n
 -- the number of a field, in what clap read
 abbrev pub IsSaid : List Row → Field → ℕ → Type 0
 IsSaid rows field n = IsValue (default_of field) (first_of (field_word field) rows) n
+
+-- the words that say what makes two outcomes different
+abbrev pub tell_word : Told → Text
+tell_word Consoles = codes "consoles"
+tell_word Memory = codes "memory"
+tell_word Everything = codes "all"
 
 -- the names of the images
 abbrev pub images_of : List Row → List Text
@@ -69,6 +82,9 @@ Allows rows Seed = (n : ℕ) × IsSaid rows Seed n
 Allows rows From = (n : ℕ) × IsSaid rows From n × (n ≤ 4194304)
 Allows rows To = (n : ℕ) × IsSaid rows To n × (n ≤ 4194304)
 Allows rows Events = (n : ℕ) × IsSaid rows Events n × (n ≤ 4194304)
+Allows rows States = (n : ℕ) × IsSaid rows States n × (1 ≤ n) × (n ≤ 4194304)
+Allows rows Longest = (n : ℕ) × IsSaid rows Longest n × (1 ≤ n) × (n ≤ 4194304)
+Allows rows Tell = IfSome (first_of (codes "tell") rows) (λ text. (t : Told) × (text ≡ tell_word t))
 Allows rows Threads = IfSome (first_of (codes "threads") rows)
     (λ text. ((n : ℕ) × IsNumber text n × (1 ≤ n) × (n ≤ 16)) × IsSome (first_of (codes "record") rows))
 Allows rows Images = length (images_of rows) ≤ 16
@@ -80,7 +96,7 @@ abbrev pub machine_fields : List Field
 machine_fields = Cores ∷ Dirs ∷ Sets ∷ Ways ∷ Ram ∷ Base ∷ []
 
 abbrev pub order : List Field
-order = machine_fields ++ Steps ∷ Seed ∷ From ∷ To ∷ Events ∷ Threads ∷ Images ∷ Kind ∷ Number ∷ []
+order = machine_fields ++ Steps ∷ Seed ∷ From ∷ To ∷ Events ∷ States ∷ Longest ∷ Tell ∷ Threads ∷ Images ∷ Kind ∷ Number ∷ []
 
 -- the first of these fields in which something stands that isn't allowed
 abbrev pub BreaksFirst : List Row → List Field → Field → Type 0

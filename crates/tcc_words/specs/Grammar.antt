@@ -7,7 +7,7 @@ use Rattle.clap.specs.declared.builder.action.ArgAction.TheVariants.{Append, Set
 use Rattle.tcc_words.specs.declared.command.WordsFault.{WordsFault}
 use Rattle.tcc_words.specs.declared.command.WordsFault.TheVariants as fault
 use Rattle.tcc_words.specs.declared.command.Verb.{Verb}
-use Rattle.tcc_words.specs.declared.command.Verb.TheVariants.{Run, Replay, Serial, Trial, Why, Phases, Bus, Trace, Count, State}
+use Rattle.tcc_words.specs.declared.command.Verb.TheVariants.{Run, Replay, Serial, Trial, Why, Phases, Bus, Trace, Count, State, Outcomes}
 
 -- the first word of a command
 abbrev pub verb_word : Verb → Text
@@ -21,14 +21,15 @@ verb_word Bus = codes "bus"
 verb_word Trace = codes "trace"
 verb_word Count = codes "count"
 verb_word State = codes "state"
+verb_word Outcomes = codes "outcomes"
 
 -- an option with a value, `--name value` or `--name=value`, at most once
 abbrev pub option : Text → Rule
 option name = record (new_rule name) { long = Some name }
 
--- an option without a value, `--name`, at most once
-abbrev pub flag : Text → Rule
-flag name = record (option name) { action = Some SetTrue }
+-- an option without a value, `--word`, at most once, which is kept under the name
+abbrev pub flag : (name word : Text) → Rule
+flag name word = record (new_rule name) { long = Some word; action = Some SetTrue }
 
 -- a word that must stand there, and one or more
 abbrev pub place : Text → Rule
@@ -45,7 +46,7 @@ abbrev pub core_rules : List Rule
 core_rules = option (codes "cores") ∷ option (codes "sets") ∷ option (codes "ways") ∷ []
 
 abbrev pub memory_rules : List Rule
-memory_rules = option (codes "ram") ∷ option (codes "base") ∷ flag (codes "raw") ∷ []
+memory_rules = option (codes "ram") ∷ option (codes "base") ∷ flag (codes "raw") (codes "raw") ∷ []
 
 abbrev pub machine_rules : List Rule
 machine_rules = node_rules ++ memory_rules
@@ -60,13 +61,13 @@ record_rules = option (codes "record") ∷ places (codes "image") ∷ []
 abbrev pub file_rules : Text → List Rule
 file_rules file = machine_rules ++ place file ∷ places (codes "image") ∷ []
 
--- the machine, and the run that is looked at: by a seed or by a schedule
+-- the machine, and the run that is looked at: by a seed, on the bus too, or by a schedule
 abbrev pub source_rules : List Rule
-source_rules = machine_rules ++ event_rules ++ option (codes "schedule") ∷ []
+source_rules = machine_rules ++ event_rules ++ option (codes "schedule") ∷ flag (codes "bus") (codes "bus") ∷ []
 
 -- run [..] IMAGE...    replay [..] SCHEDULE IMAGE...    serial [..] REPORT IMAGE...    trial [..] KIND NUMBER
 -- why [..] SCHEDULE IMAGE...    phases [..] IMAGE...    bus [..] IMAGE...
--- trace [..] IMAGE...    count [..] IMAGE...    state [..] IMAGE...
+-- trace [..] IMAGE...    count [..] IMAGE...    state [..] IMAGE...    outcomes [..] IMAGE...
 abbrev pub rules : Verb → List Rule
 rules Run = machine_rules ++ event_rules ++ option (codes "threads") ∷ record_rules
 rules Replay = file_rules (codes "schedule")
@@ -75,9 +76,13 @@ rules Trial = node_rules ++ event_rules ++ place (codes "kind") ∷ place (codes
 rules Why = file_rules (codes "schedule")
 rules Phases = machine_rules ++ event_rules ++ record_rules
 rules Bus = core_rules ++ memory_rules ++ event_rules ++ places (codes "image") ∷ []
-rules Trace = source_rules ++ option (codes "from") ∷ option (codes "to") ∷ flag (codes "states") ∷ places (codes "image") ∷ []
-rules Count = source_rules ++ flag (codes "csv") ∷ places (codes "image") ∷ []
+rules Trace =
+    source_rules ++ option (codes "from") ∷ option (codes "to") ∷ flag (codes "records") (codes "states") ∷ places (codes "image") ∷ []
+rules Count = source_rules ++ flag (codes "csv") (codes "csv") ∷ places (codes "image") ∷ []
 rules State = source_rules ++ option (codes "events") ∷ places (codes "image") ∷ []
+rules Outcomes =
+    option (codes "cores") ∷ memory_rules ++ option (codes "states") ∷ option (codes "longest") ∷ option (codes "tell")
+    ∷ places (codes "image") ∷ []
 
 -- a simple command of clap's, without help
 abbrev pub plain : Text → List Rule → App

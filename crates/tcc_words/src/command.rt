@@ -3,6 +3,7 @@ ghost use Rattle.std.specs.Prelude.{◌≡◌, MatchOption};
 ghost use Rattle.tcc_words.specs.Fields.{field_word, default_of};
 ghost use Rattle.tcc_words.specs.Grammar.{verb_word};
 
+use run_outcomes::{Limits, Tell};
 use tcc_base::{Config, List, Text};
 use work_gen::Work;
 
@@ -29,6 +30,8 @@ pub enum Verb {
     Count,
     /// Shows the state after a run.
     State,
+    /// Lists all results that a program can have.
+    Outcomes,
 }
 
 impl Verb {
@@ -47,6 +50,7 @@ impl Verb {
             Verb::Trace => "trace",
             Verb::Count => "count",
             Verb::State => "state",
+            Verb::Outcomes => "outcomes",
         }
     }
 
@@ -65,6 +69,7 @@ impl Verb {
             "trace" => Some(Verb::Trace),
             "count" => Some(Verb::Count),
             "state" => Some(Verb::State),
+            "outcomes" => Some(Verb::Outcomes),
             _ => None,
         }
     }
@@ -90,8 +95,8 @@ pub enum Source {
 /// What is told of a run.
 #[derive(Clone, Copy, Debug, PartialEq, Eq)]
 pub enum View {
-    /// What each event did, from number `from` on, of at most `to` events; with `states` also the records of the state at the beginning, and
-    /// those that each event changed.
+    /// What each event did, from number `from` on, of at most `to` events; with `states` also the records of the state at the beginning,
+    /// and those that each event changed.
     Trace { from: u64, to: u64, states: bool },
     /// How often what happened; with `csv` the totals alone, as two rows for a table.
     Count { csv: bool },
@@ -161,6 +166,22 @@ pub enum Command {
         source: Source,
         view: View,
     },
+    /// Look at a run of the images on the machine with one bus, of at most `steps` events that `seed` chooses. Its settings have one
+    /// directory.
+    LookOnBus {
+        machine: Machine,
+        images: List<Text>,
+        steps: u64,
+        seed: u64,
+        view: View,
+    },
+    /// Search the results of the images within these limits; `tell` says what makes two of them different.
+    Outcomes {
+        machine: Machine,
+        images: List<Text>,
+        limits: Limits,
+        tell: Tell,
+    },
 }
 
 /// The fields of a command, in the order in which they are tested.
@@ -188,6 +209,12 @@ pub enum Field {
     To,
     /// 0 to 4,194,304 events.
     Events,
+    /// 1 to 4,194,304 states.
+    States,
+    /// 1 to 4,194,304 instructions of a transaction.
+    Longest,
+    /// What is told of a state.
+    Tell,
     /// 1 to 16, and only together with a file for the schedule.
     Threads,
     /// 1 to 16 names.
@@ -215,6 +242,9 @@ impl Field {
             Field::From => "from",
             Field::To => "to",
             Field::Events => "events",
+            Field::States => "states",
+            Field::Longest => "longest",
+            Field::Tell => "tell",
             Field::Threads => "threads",
             Field::Images => "images",
             Field::Kind => "kind",
@@ -232,7 +262,8 @@ impl Field {
             Field::Ways => 2,
             Field::Ram => 65_536,
             Field::Base => 0x8000_0000,
-            Field::Steps => 1_000_000,
+            Field::Steps | Field::States => 1_000_000,
+            Field::Longest => 100_000,
             Field::To | Field::Events => 4_194_304,
             _ => 0,
         }

@@ -1,18 +1,21 @@
 // The fields of a command as numbers, names and settings, in the order in which they are tested.
-ghost use Rattle.std.specs.Prelude.{◌≡◌, ◌≢◌, ℕ, [], ◌∷◌, codes, map, option_map, IfOk, IfErr};
+ghost use Rattle.std.specs.Prelude.{◌≡◌, ◌≢◌, ℕ, [], ◌∷◌, codes, map, option_map, IfOk, IfErr, MatchOption};
 ghost use Rattle.clap.specs.Words.{all_of, first_of, found_of, rows_of};
 ghost use Rattle.tcc_base.specs.Settings.{IsAllowed};
-ghost use Rattle.tcc_words.specs.Fields.{Allows, BreaksFirst, IsSaid, images_of, machine_fields, order};
-ghost use Rattle.tcc_words.specs.Asked.{HasSettings, HasValues, HasWork, IsFaulty, MayBeGiven};
-ghost use Rattle.tcc_words.specs.declared.command.Field.TheVariants.{Steps, Seed, From, To, Events, Threads, Images, Kind, Number};
+ghost use Rattle.tcc_words.specs.Fields.{Allows, BreaksFirst, IsSaid, images_of, machine_fields, order, tell_word};
+ghost use Rattle.tcc_words.specs.Asked.{HasSettings, HasTell, HasValues, HasWork, IsFaulty, MayBeGiven};
+ghost use Rattle.tcc_words.specs.declared.command.Field.TheVariants.{Steps, Seed, From, To, Events, States, Longest};
+ghost use Rattle.tcc_words.specs.declared.command.Field.TheVariants.{Tell as TellField};
+ghost use Rattle.tcc_words.specs.declared.command.Field.TheVariants.{Threads, Images, Kind, Number};
 
 use crate::command::Field;
 use crate::numbers::number;
 use clap::ArgMatches;
+use run_outcomes::Tell;
 use tcc_base::{Config, Limit};
 use work_gen::{MAX_NUMBER, Work};
 
-/// The largest number of events.
+/// The largest number of events, and of a list's transactions and of the instructions of each: `serial` takes no more.
 const MAX_STEPS: u64 = 4_194_304;
 
 /// The largest number of host threads.
@@ -30,6 +33,9 @@ pub struct Values {
     pub from: u64,
     pub to: u64,
     pub events: u64,
+    pub states: usize,
+    pub longest: u32,
+    pub tell: Tell,
     pub threads: Option<u8>,
     pub work: Option<Work>,
     pub number: Option<u32>,
@@ -60,6 +66,9 @@ pub fn read_values(matches: &ArgMatches) -> Result<Values, Field>
     let from = from(matches)?;
     let to = to(matches)?;
     let events = events(matches)?;
+    let states = states(matches)?;
+    let longest = longest(matches)?;
+    let tell = tell(matches)?;
     let threads = threads(matches)?;
     count_images(matches)?;
     Ok(Values {
@@ -69,6 +78,9 @@ pub fn read_values(matches: &ArgMatches) -> Result<Values, Field>
         from,
         to,
         events,
+        states,
+        longest,
+        tell,
         threads,
         work: work(matches)?,
         number: transactions(matches)?,
@@ -163,6 +175,58 @@ fn events(matches: &ArgMatches) -> Result<u64, Field>
         Ok(events)
     } else {
         Err(Field::Events)
+    }
+}
+
+/// The number of states at most that are found.
+fn states(matches: &ArgMatches) -> Result<usize, Field>
+    ensures said { IfOk result (IsSaid (rows_of (found_of matches.now)) States) }
+    ensures allowed { IfOk result (λ _. Allows (rows_of (found_of matches.now)) States) }
+    ensures faulty { IfErr result (IsFaulty (rows_of (found_of matches.now)) States) }
+{
+    let states = said_or(matches, Field::States, 0);
+    if 1 <= states && states <= MAX_STEPS {
+        Ok(states as usize)
+    } else {
+        Err(Field::States)
+    }
+}
+
+/// The number of instructions at most of a transaction.
+fn longest(matches: &ArgMatches) -> Result<u32, Field>
+    ensures said { IfOk result (IsSaid (rows_of (found_of matches.now)) Longest) }
+    ensures allowed { IfOk result (λ _. Allows (rows_of (found_of matches.now)) Longest) }
+    ensures faulty { IfErr result (IsFaulty (rows_of (found_of matches.now)) Longest) }
+{
+    let longest = said_or(matches, Field::Longest, 0);
+    if 1 <= longest && longest <= MAX_STEPS {
+        Ok(longest as u32)
+    } else {
+        Err(Field::Longest)
+    }
+}
+
+/// What makes two outcomes different: how the cores ended and what they printed, where nothing is said.
+fn tell(matches: &ArgMatches) -> Result<Tell, Field>
+    ensures told { IfOk result (HasTell (rows_of (found_of matches.now))) }
+    ensures allowed { IfOk result (λ _. Allows (rows_of (found_of matches.now)) TellField) }
+    ensures faulty { IfErr result (IsFaulty (rows_of (found_of matches.now)) TellField) }
+{
+    match text(matches, "tell") {
+        None => Ok(Tell::Consoles),
+        Some(word) => told_by(word).ok_or(Field::Tell),
+    }
+}
+
+/// What this word says; None exactly where it says nothing.
+fn told_by(word: &str) -> Option<Tell>
+    ensures { MatchOption result ((t : Tell) → word.now ≡ tell_word t → ⊥) (λ t. word.now ≡ tell_word t) }
+{
+    match word {
+        "consoles" => Some(Tell::Consoles),
+        "memory" => Some(Tell::Memory),
+        "all" => Some(Tell::Everything),
+        _ => None,
     }
 }
 

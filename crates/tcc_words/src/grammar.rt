@@ -71,18 +71,26 @@ fn grammar<'a>(alloc: Global, verb: Verb, name: &'a str) -> Result<clap::Command
             let source = with_source(alloc, named)?;
             let from = with_option(alloc, source, "from")?;
             let to = with_option(alloc, from, "to")?;
-            let states = with_flag(alloc, to, "states")?;
+            let states = with_flag(alloc, to, "records", "states")?;
             with_places(alloc, states, "image")
         }
         Verb::Count => {
             let source = with_source(alloc, named)?;
-            let csv = with_flag(alloc, source, "csv")?;
+            let csv = with_flag(alloc, source, "csv", "csv")?;
             with_places(alloc, csv, "image")
         }
         Verb::State => {
             let source = with_source(alloc, named)?;
             let events = with_option(alloc, source, "events")?;
             with_places(alloc, events, "image")
+        }
+        Verb::Outcomes => {
+            let cores = with_option(alloc, named, "cores")?;
+            let memory = with_memory(alloc, cores)?;
+            let states = with_option(alloc, memory, "states")?;
+            let longest = with_option(alloc, states, "longest")?;
+            let tell = with_option(alloc, longest, "tell")?;
+            with_places(alloc, tell, "image")
         }
     }
 }
@@ -139,7 +147,7 @@ fn with_memory<'a>(
 {
     let ram = with_option(alloc, command, "ram")?;
     let base = with_option(alloc, ram, "base")?;
-    with_flag(alloc, base, "raw")
+    with_flag(alloc, base, "raw", "raw")
 }
 
 /// The options of the events.
@@ -162,7 +170,8 @@ fn with_source<'a>(
 {
     let machine = with_machine(alloc, command)?;
     let events = with_events(alloc, machine)?;
-    with_option(alloc, events, "schedule")
+    let schedule = with_option(alloc, events, "schedule")?;
+    with_flag(alloc, schedule, "bus", "bus")
 }
 
 /// The option of the record, and the images.
@@ -200,15 +209,16 @@ fn with_option<'a>(
     command.arg(Arg::new(alloc, name).long(name))
 }
 
-/// An option without a value.
+/// An option without a value, which is kept under the name.
 fn with_flag<'a>(
     alloc: Global,
     command: clap::Command<'a>,
     name: &'a str,
+    word: &'a str,
 ) -> Result<clap::Command<'a>, AllocError>
-    ensures { IfOk result (λ c. app_of c ≡ with_rule (app_of command.entry) (flag name.entry.now)) }
+    ensures { IfOk result (λ c. app_of c ≡ with_rule (app_of command.entry) (flag name.entry.now word.entry.now)) }
 {
-    command.arg(Arg::new(alloc, name).long(name).action(ArgAction::SetTrue))
+    command.arg(Arg::new(alloc, name).long(word).action(ArgAction::SetTrue))
 }
 
 /// A word that must stand there.

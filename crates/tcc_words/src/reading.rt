@@ -4,12 +4,13 @@ ghost use Rattle.clap.specs.Words.{Row, first_of, found_of, rows_of};
 ghost use Rattle.tcc_words.specs.Fields.{images_of};
 ghost use Rattle.tcc_words.specs.declared.command.Verb.TheVariants.{Trial};
 ghost use Rattle.tcc_words.specs.Asked.{Asks, AsksLook, AsksSource, GoTogether, HasMachine, HasPlaces, HasSettings, HasValues};
-ghost use Rattle.tcc_words.specs.Asked.{IsCommand, IsRefused};
+ghost use Rattle.tcc_words.specs.Asked.{IsCommand, IsFlagged, IsRefused};
 
 use crate::command::{Command, Machine, Source, Verb, View, WordsFault};
 use crate::fields::{Values, images, read_values, text};
 use crate::grammar::read;
 use clap::ArgMatches;
+use run_outcomes::Limits;
 use std::alloc::Global;
 use tcc_base::{Config, List, NoMemory, Text};
 
@@ -47,7 +48,7 @@ fn has_places(verb: Verb, matches: &ArgMatches) -> bool
     ensures { IsTrue result ↔ HasPlaces verb (rows_of (found_of matches.now)) }
 {
     match verb {
-        Verb::Run | Verb::Phases | Verb::Bus => has_images(matches),
+        Verb::Run | Verb::Phases | Verb::Bus | Verb::Outcomes => has_images(matches),
         Verb::Replay | Verb::Why => text(matches, "schedule").is_some() && has_images(matches),
         Verb::Serial => text(matches, "report").is_some() && has_images(matches),
         Verb::Trial => text(matches, "kind").is_some() && text(matches, "number").is_some(),
@@ -55,12 +56,24 @@ fn has_places(verb: Verb, matches: &ArgMatches) -> bool
     }
 }
 
-/// Whether neither the number of events nor a seed stands beside a schedule.
+/// Whether no number of events, seed or bus stands beside a schedule, and no directories or records beside the bus.
 fn go_together(matches: &ArgMatches) -> bool
     ensures { IsTrue result ↔ GoTogether (rows_of (found_of matches.now)) }
 {
+    if is_flagged(matches, "bus") {
+        return text(matches, "schedule").is_none()
+            && text(matches, "dirs").is_none()
+            && !is_flagged(matches, "records");
+    }
     text(matches, "schedule").is_none()
         || (text(matches, "steps").is_none() && text(matches, "seed").is_none())
+}
+
+/// Whether the option without a value stands there that is kept under the name.
+fn is_flagged(matches: &ArgMatches, name: &str) -> bool
+    ensures { IsTrue result ↔ IsFlagged name.now (rows_of (found_of matches.now)) }
+{
+    text(matches, name) == Some("true")
 }
 
 /// Whether an image is named.
@@ -124,17 +137,26 @@ fn command(
         }),
         Verb::Trace => {
             let (from, to) = (values.from, values.to);
-            let states = text(matches, "states") == Some("true");
+            let states = is_flagged(matches, "records");
             look(alloc, matches, values, View::Trace { from, to, states })
         }
         Verb::Count => {
-            let csv = text(matches, "csv") == Some("true");
+            let csv = is_flagged(matches, "csv");
             look(alloc, matches, values, View::Count { csv })
         }
         Verb::State => {
             let events = values.events;
             look(alloc, matches, values, View::State { events })
         }
+        Verb::Outcomes => Ok(Command::Outcomes {
+            machine: machine(matches, values.config),
+            images: image_names(alloc, matches)?,
+            limits: Limits {
+                states: values.states,
+                longest: values.longest,
+            },
+            tell: values.tell,
+        }),
     }
 }
 
@@ -148,6 +170,15 @@ fn look(
     requires { HasValues (rows_of (found_of matches.now)) values.now }
     ensures { IfOk result (AsksLook (rows_of (found_of matches.now)) view) }
 {
+    if is_flagged(matches, "bus") {
+        return Ok(Command::LookOnBus {
+            machine: machine(matches, values.config),
+            images: image_names(alloc, matches)?,
+            steps: values.steps,
+            seed: values.seed,
+            view,
+        });
+    }
     Ok(Command::Look {
         machine: machine(matches, values.config),
         images: image_names(alloc, matches)?,
@@ -195,7 +226,7 @@ fn machine(matches: &ArgMatches, config: Config) -> Machine
 {
     Machine {
         config,
-        raw: text(matches, "raw") == Some("true"),
+        raw: is_flagged(matches, "raw"),
     }
 }
 

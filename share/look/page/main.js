@@ -110,7 +110,7 @@ class Page {
         this.timeline.setCursor(at);
         this.slider.value = this.number.value = trace.first + at;
         this.slider.setAttribute("aria-valuetext", `after ${trace.first + at} events`);
-        byId("records").textContent = trace.hasStates ? state.text().join("\n") : "The trace has no records: make it with --states.";
+        byId("records").textContent = trace.hasStates ? state.text().join("\n") : trace.noRecords;
         document.body.dataset.at = String(trace.first + at);
     }
 

@@ -41,7 +41,7 @@ class Nodes {
         const [core] = by("core");
         const badge = element("span", { class: "phase " + phase.split(" ")[0], "data-phase": phase }, phase);
         const head = element("h3", {}, nodeName(name) + " ", badge);
-        if (!core) return [head, element("p", { class: "soft" }, "The trace has no records: make it with --states.")];
+        if (!core) return [head, element("p", { class: "soft" }, this.trace.noRecords)];
         const pc = parseInt(core[5], 16);
         const notes = [];
         for (const it of by("awaits")) notes.push(`waits for line ${it[3]}${it[5] === "1" ? ", stale" : ""}`);
@@ -118,7 +118,7 @@ class Nodes {
             return [line, this.holds(Number(w[1])), w[5], w[7], w[9] === "1" ? "yes" : "no", mark, w.slice(13).join(" ")];
         });
         const home = by("home").map((w) => [this.program.name(parseInt(w[1], 16)), w[2]]);
-        if (!dir) return [element("h3", {}, nodeName(name)), element("p", { class: "soft" }, "The trace has no records.")];
+        if (!dir) return [element("h3", {}, nodeName(name)), element("p", { class: "soft" }, this.trace.noRecords)];
         const text = element("p", {}, "serves TID ", element("b", { "data-serves": dir[3] }, dir[3]),
             `; ${plural(Number(dir[5]), "acknowledgement")} owed`, skips.length ? `; skipped: ${skips.join(", ")}` : "");
         const heads = ["line", "holds", "owner", "tag", "asked", "mark", "sharers"];
@@ -131,7 +131,7 @@ class Nodes {
     bus(records) {
         const by = (kind) => records.filter((it) => it.startsWith(kind + " ")).map((it) => it.split(" "));
         const [arbiter] = by("arbiter");
-        if (!arbiter) return [element("h3", {}, "the bus"), element("p", { class: "soft" }, "The trace has no records.")];
+        if (!arbiter) return [element("h3", {}, "the bus"), element("p", { class: "soft" }, this.trace.noRecords)];
         const cores = arbiter.slice(4).map((it) => "core " + it).join(", ");
         const state = { free: "free", alone: `${cores} has it alone`, left: `a packet is out; it is to be taken by ${cores}` }[arbiter[3]];
         const packet = by("packet").map((w) => [`${w[1]} ${this.holds(Number(w[1]))}`, this.words(w.slice(5), {})]);

@@ -278,10 +278,85 @@ end open
 events 5
 ";
 
+/// On the machine with one bus.
+const BUS_TRACE: &str = "tcc-bus-trace 1
+cores 1 sets 16 ways 2 base 2147483648 ram 65536
+from 0
+e 0
+ did 0 80000000 local
+e 0
+ did 0 80000004 local
+e 0
+ did 0 80000008 store 80000040 4 00000007
+e 0
+ did 0 8000000c end
+ phase 0 AwaitTid
+e 0
+ commit 1 0 4
+ phase 0 Running
+e 0
+ did 0 80000010 local
+e 0
+ did 0 80000014 halt 0
+ phase 0 AwaitTid
+e 0
+ commit 2 0 2
+ phase 0 Halted
+end done
+events 8
+";
+
+/// Event 1 there.
+const BUS_WINDOW: &str = "tcc-bus-trace 1
+cores 1 sets 16 ways 2 base 2147483648 ram 65536
+from 1
+e 0
+ did 0 80000004 local
+end open
+events 2
+";
+
+const BUS_COUNT: &str = "tcc-bus-count 1
+cores 1 sets 16 ways 2 base 2147483648 ram 65536
+attempts 0 begun 2 committed 2 violated 0 open 0 row 0 gaveup 0
+attempts all begun 2 committed 2 violated 0 open 0 row 0 gaveup 0
+instructions 0 executed 6 committed 6 lost 0 open 0
+instructions all executed 6 committed 6 lost 0 open 0
+accesses 0 loads 0 stores 1 changes 0 misses 0 fills 0 overflows 0
+accesses all loads 0 stores 1 changes 0 misses 0 fills 0 overflows 0
+evictions 0 clean 0 dirty 0 modified 0
+evictions all clean 0 dirty 0 modified 0
+phases 0 Running 6 AwaitTid 2 DoomedTid 0 Probing 0 Ready 0 Overflowing 0 Solo 0 Halted 0
+phases all Running 6 AwaitTid 2 DoomedTid 0 Probing 0 Ready 0 Overflowing 0 Solo 0 Halted 0
+packets all sent 0 took 0 left 0
+end done
+events 8
+";
+
+/// After five events there.
+const BUS_STATE: &str = "tcc-bus-state 1
+cores 1 sets 16 ways 2 base 2147483648 ram 65536
+core 0 n 0 pc 80000010 phase Running
+reg 0 5 00000007
+reg 0 6 80000000
+reg 0 11 00000001
+saved 0 pc 80000010
+saved 0 5 00000007
+saved 0 6 80000000
+saved 0 11 00000001
+frame 0 2 0 line 2 valid 1 read 0 modified 0 dirty 0 tag 0 words 00000007 - - - - - - -
+arbiter next 2 free
+mem 80000040 00000007
+useful e 0
+useless x 0 2 0
+end open
+events 5
+";
+
 /// A command line over the image `a`, its status, and its text.
 type Look = (&'static str, u8, &'static str);
 
-const LOOKS: [Look; 9] = [
+const LOOKS: [Look; 14] = [
     ("trace --raw a", 0, TRACE),
     ("trace --raw --seed 0 --steps 19 --to 19 a", 0, TRACE),
     ("trace --raw --from 4 --to 6 a", 1, WINDOW),
@@ -291,6 +366,11 @@ const LOOKS: [Look; 9] = [
     ("trace --states --raw --from 20 a", 0, NO_WINDOW),
     ("count --raw a", 0, COUNT),
     ("state --raw --events 5 a", 1, STATE),
+    ("trace --bus --raw a", 0, BUS_TRACE),
+    ("trace --raw --bus --from 1 --to 2 a", 1, BUS_WINDOW),
+    ("count --raw --bus --seed 7 a", 0, BUS_COUNT),
+    ("state --raw --events=5 --bus a", 1, BUS_STATE),
+    ("trace --bus --raw --steps 8 --to 9 a", 0, BUS_TRACE),
 ];
 
 /// The command line gives its status and its text over the image `a` and the schedule `s`.
@@ -347,7 +427,7 @@ const DAMAGED: &str = "tcc-schedule 1
 cores 1 dirs 1 sets 16 ways 2 base 2147483648 ram 65536
 e 0\nd v c0 0\nend 2\n";
 
-const REFUSED: [Look; 7] = [
+const REFUSED: [Look; 9] = [
     ("trace --raw --schedule s a", 4, "tcc: schedule line 4\n"),
     ("count --raw --schedule s a", 4, "tcc: schedule line 4\n"),
     ("state --raw --schedule s a", 4, "tcc: schedule line 4\n"),
@@ -356,9 +436,15 @@ const REFUSED: [Look; 7] = [
         4,
         "tcc: schedule line 2\n",
     ),
-    ("trace --raw --states --schedule s a", 4, "tcc: schedule line 4\n"),
+    (
+        "trace --raw --states --schedule s a",
+        4,
+        "tcc: schedule line 4\n",
+    ),
     ("trace --raw --schedule t a", 5, "tcc: store t\n"),
     ("trace --raw --schedule s --seed 1 a", 2, "tcc: words\n"),
+    ("count --raw --schedule s --bus a", 2, "tcc: words\n"),
+    ("state --raw --bus --dirs 1 a", 2, "tcc: words\n"),
 ];
 
 #[test]
@@ -381,7 +467,11 @@ fn events_that_are_not_taken_may_be_at_fault(rt: HostRuntime) -> Result<(), Fail
 }
 
 /// Over the smallest memory that holds the stored word.
-const SHORT: [&str; 2] = ["trace --raw --ram 96 a", "trace --raw --ram 96 --states --from 9 a"];
+const SHORT: [&str; 3] = [
+    "trace --raw --ram 96 a",
+    "trace --raw --ram 96 --states --from 9 a",
+    "trace --raw --ram 96 --bus a",
+];
 
 #[test]
 fn a_short_output_has_the_first_bytes_of_the_trace(rt: HostRuntime) -> Result<(), Fail> {

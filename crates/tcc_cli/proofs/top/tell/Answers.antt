@@ -1,10 +1,11 @@
--- A trace by a schedule or by a seed, from the start that the command's files give.
-use Rattle.std.proofs.Common.{◌≡◌, ◌∙◌, List, ℕ, IfErr, IfOk, ap, refl, subst, sym}
+-- A trace by a schedule, by a seed or on the bus, from the start that the command's files give.
+use Rattle.std.proofs.Common.{◌≡◌, ◌∙◌, IfErr, IfOk, ap, refl, subst, sym}
 use Rattle.image_load.specs.Contents.{started}
-use Rattle.tcc_words.specs.declared.command.Command.TheVariants.{Look}
+use Rattle.tcc_words.specs.declared.command.Command.TheVariants.{Look, LookOnBus}
 use Rattle.tcc_words.specs.declared.command.Source.TheVariants.{Schedule, Seed}
 use Rattle.tcc_words.specs.declared.command.View.TheVariants.{Trace}
-use Rattle.tcc_cli.proofs.Looking.{Looks, first-file, shown_by, trace-tells}
+use Rattle.tcc_cli.proofs.BusViews.{bus-trace-tells}
+use Rattle.tcc_cli.proofs.Looking.{first-file, shown_by, trace-tells}
 use Rattle.tcc_cli.specs.Around.{FilesAround}
 use Rattle.tcc_cli.specs.Commands.{head_of, machine_of}
 use Rattle.tcc_cli.specs.Lines.{Written}
@@ -79,3 +80,29 @@ returns-in-Look-default-default-Seed-Trace-clause-tells g c =
     trace-tells c.args.command.now c.args.read.now s config it.machine it.images (Seed it.steps it.seed) it.from it.to it.states
     (λ q settings line. ⊥) f o c.trace_by_seed.result
     (record { is = is; start = c.requires.start; config = ap (λ d. (machine_of d).config) (sym is) }) refl (λ n. refl) told stopped
+
+pub returns-in-LookOnBus-default-default-default-default-Trace-clause-tells
+    : goal.returns-in-LookOnBus-default-default-default-default-Trace-clause-tells
+returns-in-LookOnBus-default-default-default-default-Trace-clause-tells g c =
+    let it = c.in-LookOnBus-default-default-default-default-Trace in
+    let view : it.view ≡ Trace it.from it.to it.view-2 = rw it.is at it.view-is in
+    let is : c.args.command.now ≡ LookOnBus it.machine it.images it.steps it.seed (Trace it.from it.to it.view-2) =
+    it.is ∙ (λ i. LookOnBus it.machine it.images it.steps it.seed (view i)) in
+    let o : Written = record {
+      before = g.O.Sink.bytes c.args.out.now;
+      after = g.O.Sink.bytes c.trace_bus.new.out;
+      faults_before = g.O.Sink.faults c.args.out.now;
+      faults_after = g.O.Sink.faults c.trace_bus.new.out;
+    } in
+    let f : FilesAround = record {
+      tells = g.F.Store.tells c.args.files.now;
+      before = g.F.Store.contents c.args.files.now;
+      after = g.F.Store.contents c.args.files.now;
+      reads_before = g.F.Store.failed_reads c.args.files.now;
+      reads_after = g.F.Store.failed_reads c.args.files.now;
+      writes_before = g.F.Store.failed_writes c.args.files.now;
+      writes_after = g.F.Store.failed_writes c.args.files.now;
+    } in
+    bus-trace-tells c.args.command.now c.args.read.now (started c.args.loaded.now) it.machine it.images it.steps it.seed it.from it.to
+    it.view-2 f o c.trace_bus.result is c.requires.start (λ n. refl) (rw (it.from-is, it.to-is) at c.trace_bus.ensures.told)
+    (rw (it.from-is, it.to-is) at c.trace_bus.ensures.stopped)

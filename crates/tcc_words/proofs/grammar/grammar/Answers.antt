@@ -1,7 +1,8 @@
 use Rattle.std.proofs.Common.{◌≡◌, ◌⊎◌, ap, codes, inl, inr}
 use Rattle.std.proofs.lemmas.Result.{IfOk-weaker}
 use Rattle.tcc_words.specs.Grammar.{file_rules, rules}
-use Rattle.tcc_words.proofs.Rules.{bus_made, count_made, filed_made, phases_made, run_made, state_made, trace_made, trial_made}
+use Rattle.tcc_words.proofs.Rules.{bus_made, count_made, filed_made, outcomes_made, phases_made, run_made}
+use Rattle.tcc_words.proofs.Rules.{state_made, trace_made, trial_made}
 use Rattle.tcc_words.proofs.grammar.grammar.Goals as goal
 use Rattle.tcc_words.specs.declared.command.Verb.{Verb}
 use Rattle.tcc_words.specs.declared.command.Verb.TheVariants.{Replay, Why}
@@ -62,3 +63,10 @@ returns-in_ok-events-in-State c =
     IfOk-weaker c.with_places-in-State.result _ _ (λ m h. state_made c.args.verb c.args.name.now _ _ _ _ c.in-State.is c.requires
     c.bare-named.ensures c.in_ok-source-in-State.ensures c.in_ok-events-in-State.ensures h)
     c.with_places-in-State.ensures
+
+pub returns-in_ok-tell-in-Outcomes : goal.returns-in_ok-tell-in-Outcomes
+returns-in_ok-tell-in-Outcomes c =
+    IfOk-weaker c.with_places-in-Outcomes.result _ _ (λ m h. outcomes_made c.args.verb c.args.name.now _ _ _ _ _ _ _ c.in-Outcomes.is
+    c.requires c.bare-named.ensures c.in_ok-cores-in-Outcomes.ensures c.in_ok-memory-in-Outcomes.ensures
+    c.in_ok-states-in-Outcomes.ensures c.in_ok-longest-in-Outcomes.ensures c.in_ok-tell-in-Outcomes.ensures h)
+    c.with_places-in-Outcomes.ensures

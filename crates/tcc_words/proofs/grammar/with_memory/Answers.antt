@@ -8,6 +8,7 @@ use Rattle.tcc_words.proofs.grammar.with_memory.Goals as goal
 pub returns : goal.returns
 returns c =
     IfOk-weaker c.with_flag.result _ _ (λ m h. h
-    ∙ (ap (λ (a : App). with_rule a (flag (codes "raw")))
+    ∙ (ap (λ (a : App). with_rule a (flag (codes "raw") (codes "raw")))
     (c.in_ok-base.ensures ∙ ap (λ (a : App). with_rule a (option (codes "base"))) c.in_ok-ram.ensures)
-    ∙ three_rules (app_of c.args.command) (option (codes "ram")) (option (codes "base")) (flag (codes "raw")))) c.with_flag.ensures
+    ∙ three_rules (app_of c.args.command) (option (codes "ram")) (option (codes "base")) (flag (codes "raw") (codes "raw"))))
+    c.with_flag.ensures

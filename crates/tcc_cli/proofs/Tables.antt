@@ -1,0 +1,43 @@
+-- The table of what was searched, and why it broke off.
+use Rattle.std.proofs.Common.{◌≡◌, ℕ, Bool, List, Option, refl, inr, subst, sym}
+use Rattle.image_load.specs.Contents.{started}
+use Rattle.image_load.specs.Start.{Start}
+use Rattle.outcomes_text.specs.Table.{table_of, table_text}
+use Rattle.outcomes_text.specs.Written.{IsBroken}
+use Rattle.outcomes_text.specs.declared.writing.Broken.{Broken}
+use Rattle.outcomes_text.specs.declared.writing.Broken.TheVariants.{Memory, Output}
+use Rattle.run_outcomes.specs.Ways.{Explored}
+use Rattle.run_outcomes.specs.declared.outcomes.Results.{Results}
+use Rattle.run_outcomes.specs.declared.outcomes.Tell.{Tell}
+use Rattle.run_outcomes.specs.declared.search.Limits.{Limits}
+use Rattle.run_outcomes.specs.declared.stuck.Stuck.{Stuck}
+use Rattle.tcc_cli.specs.Outcomes.{AreResults, AreSearched, AreStuck, IsTable, IsTableStopped, table_refusal}
+use Rattle.tcc_cli.specs.declared.refusal.Refusal.{Refusal}
+
+-- the table of what was searched
+pub one-table : (s : Start) (limits : Limits) (tell : Tell) (e : Explored) (r : Results) (stuck : Stuck) → started e.loaded ≡ s
+    → AreSearched limits e → AreResults tell e r → AreStuck e stuck
+    → IsTable s limits tell r.done (table_text tell (table_of e r stuck))
+one-table s limits tell e r stuck start searched told ends = record {
+  explored = e;
+  results = r;
+  stuck = stuck;
+  start = start;
+  searched = searched;
+  told = told;
+  ends = ends;
+  is_done = refl;
+  text_is = refl;
+}
+
+-- why it broke off
+pub table-broken : (s : Start) (limits : Limits) (tell : Tell) (done : Bool) (text : List ℕ) (a b : Option (List ℕ)) (f g : ℕ)
+    (broken : Broken) (r : Refusal) → IsTable s limits tell done text → r ≡ table_refusal broken
+    → IsBroken text (record { before = a; after = b; faults_before = f; faults_after = g }) broken
+    → IsTableStopped s limits tell (record { before = a; after = b; faults_before = f; faults_after = g }) r
+table-broken s limits tell done text a b f g Memory r table is h =
+    subst (IsTableStopped s limits tell (record { before = a; after = b; faults_before = f; faults_after = g })) (sym is)
+    (inr (done, text, table, (h.n, h.short, h.appended)))
+table-broken s limits tell done text a b f g Output r table is (h, rose) =
+    subst (IsTableStopped s limits tell (record { before = a; after = b; faults_before = f; faults_after = g })) (sym is)
+    (done, text, table, (h.n, h.short, h.appended, rose))
