@@ -15,6 +15,7 @@ zsh = $(DESTDIR)$(PREFIX)/share/zsh/site-functions
 check:
 	release/check
 	.ci/boundaries
+	.ci/layout
 	docs/check
 	share/make --check
 	examples/check
