@@ -1,7 +1,8 @@
 #!/bin/bash
 # Refuses one request for memory of a command, the first, then the second and so on, until the command makes fewer, and looks at how each of
-# these calls ends: as when nothing is refused, or with status 7, the line `tcc: memory` and nothing on standard output. Of a run on host
-# threads, whose schedule isn't the same each time, the replay of the record has to print the same bytes. It also looks at the files that
+# these calls ends: as when nothing is refused, or with status 7, the line `tcc: memory` and nothing on standard output, or of a trace and
+# of a table of outcomes a first part. Of a run on host threads, whose schedule isn't the same each time, the replay of the record has to
+# print the same bytes. It also looks at the files that
 # each call opens: those that the command names, in order, each once and no other, or the first of them; and at a record after status 7,
 # which is as it was or whole. Needs a C compiler: the requests go to `malloc`, `realloc` and `open`, and a small library before the C
 # library's counts and refuses them. TCC names the program to run. With --short it refuses the first forty requests of each command, and
@@ -114,6 +115,15 @@ sound() {
         || { [ "$2" = replayed ] && "$program" replay --raw --cores 2 "$1" count >again; }
 }
 
+# what was written before the refusal: nothing, or of a trace and of a table of outcomes a first part, and not all
+begun() {
+    local written
+    written=$(stat -c %s output)
+    [ "$written" = 0 ] || {
+        [[ $1 == trace || $1 == outcomes ]] && [ "$written" -lt "$(stat -c %s wanted)" ] && cmp -s -n "$written" output wanted
+    }
+}
+
 # each_refused CHECK FILES WORDS..: the command, which opens these files, with each of its requests refused, one by one
 each_refused() {
     local check=$1 files=$2 number=0 refusals=0 status wanted record
@@ -132,7 +142,7 @@ each_refused() {
         opened_in_order "$files" "$(wc -l <opened)" || complain "request $number of $*: opens other files: $(cat opened)"
         if [ "$status" = 7 ]; then
             refusals=$((refusals + 1))
-            [ ! -s output ] && [ "$(cat error)" = "tcc: memory" ] || complain "request $number of $*: what is written isn't a refusal's"
+            begun "$1" && [ "$(cat error)" = "tcc: memory" ] || complain "request $number of $*: what is written isn't a refusal's"
             sound "$record" "$check" || complain "request $number of $*: the record is neither as it was nor whole"
         elif [ "$status" = "$wanted" ]; then
             [ ! -s error ] || complain "request $number of $*: $(cat error)"
@@ -158,6 +168,13 @@ each_refused same $'r report\nr spill' serial --raw --sets 1 --ways 1 report spi
 each_refused same $'r schedule\nr spill' why --raw --sets 1 --ways 1 schedule spill
 each_refused same $'r count\nw ordered' phases --raw --cores 2 --record ordered count
 each_refused same "" trial --cores 2 --seed 1 counters 5
+for look in "trace --states" trace count state "trace --bus" "count --bus --csv" "state --bus"; do
+    read -ra look <<<"$look"
+    each_refused same "r count" "${look[@]}" --raw --cores 2 --steps 900 count
+done
+each_refused same $'r schedule\nr spill' trace --raw --sets 1 --ways 1 --schedule schedule spill
+each_refused same "r count" outcomes --raw --tell all count
+each_refused same "r count" outcomes --raw --cores 2 --states 300 count
 each_refused same "r count" bus --raw --cores 2 --seed 1 count
 each_refused same "r spill" bus --raw --cores 2 --sets 1 --ways 1 spill
 each_refused same "r $here/../examples/bank.elf" run --cores 2 --seed 7 "$here/../examples/bank.elf"
