@@ -1,0 +1,16 @@
+// Runs of the machine with caches and directories whose transactions commit in the order of a list.
+#![tactic(auto)]
+
+ghost use Rattle.follow_run.specs.Laws.{FollowedEnds, FollowedRuns};
+
+mod agreeing;
+mod following;
+
+pub use agreeing::agrees;
+pub use following::follow;
+
+/// What follows a list is a run: each event is useful where it comes, so many of them, or fewer where none may come.
+pub fn a_followed_schedule_is_a_run()
+    ensures runs { FollowedRuns }
+    ensures ends { FollowedEnds }
+{}
