@@ -9,7 +9,7 @@ mod following;
 pub use agreeing::agrees;
 pub use following::follow;
 
-/// What follows a list is a run: each event is useful where it comes, so many of them, or fewer where none may come.
+/// What follows a list is a run: each event is useful where it comes. There are so many of them, or fewer where none may come at the end.
 pub fn a_followed_schedule_is_a_run()
     ensures runs { FollowedRuns }
     ensures ends { FollowedEnds }
