@@ -1,0 +1,10 @@
+-- Proofs.
+mod Committed
+mod Delivered
+mod Events
+mod Executed
+mod Kept
+mod Rows
+mod Summed
+mod Taken
+mod Told
