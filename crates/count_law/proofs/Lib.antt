@@ -1,10 +1,16 @@
 -- Proofs.
+mod Balanced
 mod Committed
 mod Delivered
 mod Events
 mod Executed
+mod Flights
+mod Flown
+mod Heard
 mod Kept
+mod Nodes
 mod Rows
+mod Said
 mod Summed
 mod Taken
 mod Told

@@ -9,7 +9,7 @@ use Rattle.watch_count.specs.Counts.{Counts, core_of, changed, changed_if, count
 use Rattle.watch_count.specs.Tables.{nothing, core_after, event_came}
 use Rattle.watch_count.specs.declared.tables.CoreCounts.{CoreCounts}
 
--- the fact counts for core j
+-- the fact counts for row j
 abbrev pub is_told : (j : ℕ) → Option ℕ → Bool
 is_told j None = false
 is_told j (Some c) = c == j
@@ -37,7 +37,7 @@ row-changed f zero (suc j) (x ∷ xs) d l = grind (arith, nat_tests)
 row-changed f (suc k) zero (x ∷ xs) d l = grind (arith, nat_tests)
 row-changed f (suc k) (suc j) (x ∷ xs) d l = let rest = row-changed f k j xs d (omega arith) in grind (arith, nat_tests, rest)
 
-row-changed_if : {A : Type 0} (f : A → A) (o : Option ℕ) (j : ℕ) (xs : List A) (d : A) → j < length xs
+pub row-changed_if : {A : Type 0} (f : A → A) (o : Option ℕ) (j : ℕ) (xs : List A) (d : A) → j < length xs
     → get_or (changed_if o f xs) j d ≡ (if is_told j o then f (get_or xs j d) else get_or xs j d)
 row-changed_if f None j xs d l = refl
 row-changed_if f (Some k) j xs d l = row-changed f k j xs d l
@@ -48,7 +48,7 @@ length-changed f k [] = refl
 length-changed f zero (x ∷ xs) = refl
 length-changed f (suc k) (x ∷ xs) = ap (λ n. suc n) (length-changed f k xs)
 
-length-changed_if : {A : Type 0} (f : A → A) (o : Option ℕ) (xs : List A) → length (changed_if o f xs) ≡ length xs
+pub length-changed_if : {A : Type 0} (f : A → A) (o : Option ℕ) (xs : List A) → length (changed_if o f xs) ≡ length xs
 length-changed_if f None xs = refl
 length-changed_if f (Some k) xs = length-changed f k xs
 
