@@ -23,7 +23,7 @@ use Rattle.tcc_words.specs.declared.command.Field.TheVariants.{States, Longest, 
 use Rattle.tcc_words.specs.declared.command.Source.{Source}
 use Rattle.tcc_words.specs.declared.command.Source.TheVariants as source
 use Rattle.tcc_words.specs.declared.command.Verb.{Verb}
-use Rattle.tcc_words.specs.declared.command.Verb.TheVariants.{Run, Replay, Serial, Trial, Why, Phases, Bus, Trace, Count, State, Outcomes}
+use Rattle.tcc_words.specs.declared.command.Verb.TheVariants.{Run, Replay, Serial, Trial, Why, Phases, Bus, Trace, Count, State, Outcomes, Follow}
 use Rattle.tcc_words.specs.declared.command.View.{View}
 use Rattle.tcc_words.specs.declared.command.View.TheVariants as view
 
@@ -182,6 +182,8 @@ bounded Outcomes rows (command.Outcomes machine images limits tell) places none 
     let states = some-of 1000000 (first_of (codes "states") rows) limits.states a.2 (every States) in
     let longest = some-of 100000 (first_of (codes "longest") rows) limits.longest a.3 (every Longest) in
     record { allowed = allowed rows machine.config a.0.0 every; numbers = (some.0, some.1, states, longest) }
+bounded Follow rows (command.Follow machine list images keep) places none every a =
+    record { allowed = allowed rows machine.config a.0.0 every; numbers = images-some rows images a.2 places.1 every }
 bounded Run rows _ places none every a = absurd a
 bounded Replay rows _ places none every a = absurd a
 bounded Serial rows _ places none every a = absurd a
@@ -190,6 +192,7 @@ bounded Why rows _ places none every a = absurd a
 bounded Phases rows _ places none every a = absurd a
 bounded Bus rows _ places none every a = absurd a
 bounded Outcomes rows _ places none every a = absurd a
+bounded Follow rows _ places none every a = absurd a
 
 pub in-bounds : (words : List Text) (c : Command) → IsCommand words c → IsInBounds c
 in-bounds words c h = bounded h.verb h.rows c h.stands.places (has-none h.verb words h.rows h.stands.read) h.allowed h.asks

@@ -24,7 +24,7 @@ use Rattle.tcc_words.specs.declared.command.Machine.{Machine}
 use Rattle.tcc_words.specs.declared.command.Source.{Source}
 use Rattle.tcc_words.specs.declared.command.Source.TheVariants as source
 use Rattle.tcc_words.specs.declared.command.Verb.{Verb}
-use Rattle.tcc_words.specs.declared.command.Verb.TheVariants.{Run, Replay, Serial, Trial, Why, Phases, Bus, Trace, Count, State, Outcomes}
+use Rattle.tcc_words.specs.declared.command.Verb.TheVariants.{Run, Replay, Serial, Trial, Why, Phases, Bus, Trace, Count, State, Outcomes, Follow}
 use Rattle.tcc_words.specs.declared.command.View.{View}
 use Rattle.tcc_words.specs.declared.command.View.TheVariants as view
 use Rattle.tcc_words.specs.declared.command.WordsFault.TheVariants as fault
@@ -248,6 +248,16 @@ one-outcomes rows (command.Outcomes m images limits tell) (command.Outcomes n im
 one-outcomes rows (command.Outcomes m images limits tell) _ a b = absurd b
 one-outcomes rows _ d a b = absurd a
 
+one-follow : (rows : List Row) (c d : Command) → Asks Follow rows c → Asks Follow rows d → c ≡ d
+one-follow rows (command.Follow m file images keep) (command.Follow n file' images' keep') a b =
+    let machine = one-machine rows m n a.0 b.0 in
+    let files : file ≡ file' = one-some _ file file' a.1 b.1 in
+    let loaded : images ≡ images' = a.2 ∙ sym b.2 in
+    let kept : keep ≡ keep' = a.3 ∙ sym b.3 in
+    λ i. command.Follow (machine i) (files i) (loaded i) (kept i)
+one-follow rows (command.Follow m file images keep) _ a b = absurd b
+one-follow rows _ d a b = absurd a
+
 one-asked : (verb : Verb) (rows : List Row) (c d : Command) → Asks verb rows c → Asks verb rows d → c ≡ d
 one-asked Run rows c d a b = one-run rows c d a b
 one-asked Replay rows c d a b = one-replay rows c d a b
@@ -260,6 +270,7 @@ one-asked Trace rows c d a b = one-looking Trace rows c d a b
 one-asked Count rows c d a b = one-looking Count rows c d a b
 one-asked State rows c d a b = one-looking State rows c d a b
 one-asked Outcomes rows c d a b = one-outcomes rows c d a b
+one-asked Follow rows c d a b = one-follow rows c d a b
 
 -- what words stand for
 one-reading : (words : List Text) (v w : Verb) (r s : List Row) → Stands words v r → Stands words w s → (w ≡ v) × (s ≡ r)

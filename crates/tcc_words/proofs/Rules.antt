@@ -7,7 +7,7 @@ use Rattle.tcc_words.specs.Grammar.{core_rules, event_rules, flag, grammar, mach
 use Rattle.tcc_words.specs.Grammar.{node_rules, rules, verb_word}
 use Rattle.tcc_words.specs.Grammar.{file_rules, record_rules, source_rules, with_rules}
 use Rattle.tcc_words.specs.declared.command.Verb.{Verb}
-use Rattle.tcc_words.specs.declared.command.Verb.TheVariants.{Run, Replay, Serial, Trial, Why, Phases, Bus, Trace, Count, State, Outcomes}
+use Rattle.tcc_words.specs.declared.command.Verb.TheVariants.{Run, Replay, Serial, Trial, Why, Phases, Bus, Trace, Count, State, Outcomes, Follow}
 
 put_rules : App → List Rule → App
 put_rules a rs = on_top (λ s. record s { rules = rs }) a
@@ -98,6 +98,12 @@ pub outcomes_made : (verb : Verb) (name : Text) (bare cores memory states longes
 unfolding grammar
 outcomes_made verb name bare cores memory states longest tell made v n e0 e1 e2 e3 e4 e5 e6 = rw (e6, e5, e4, e3, e2, e1, e0, n, v) refl
 
+pub follow_made : (verb : Verb) (name : Text) (bare machine kept list made : App) → verb ≡ Follow → name ≡ verb_word verb
+    → bare ≡ plain name [] → machine ≡ with_rules machine_rules bare → kept ≡ with_rule machine (option (codes "record"))
+    → list ≡ with_rule kept (place (codes "report")) → made ≡ with_rule list (places (codes "image")) → made ≡ grammar verb
+unfolding grammar
+follow_made verb name bare machine kept list made v n e0 e1 e2 e3 e4 = rw (e4, e3, e2, e1, e0, n, v) refl
+
 pub grammar-simple : (verb : Verb) → is_simple (grammar verb) ≡ true
 unfolding grammar
 grammar-simple Run = refl
@@ -111,6 +117,7 @@ grammar-simple Trace = refl
 grammar-simple Count = refl
 grammar-simple State = refl
 grammar-simple Outcomes = refl
+grammar-simple Follow = refl
 
 pub grammar-free : (verb : Verb) → is_simple_and_free (grammar verb) ≡ true
 unfolding grammar
@@ -125,3 +132,4 @@ grammar-free Trace = refl
 grammar-free Count = refl
 grammar-free State = refl
 grammar-free Outcomes = refl
+grammar-free Follow = refl

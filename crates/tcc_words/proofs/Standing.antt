@@ -10,7 +10,7 @@ use Rattle.tcc_words.specs.Grammar.{IsRefusal, grammar, verb_word}
 use Rattle.tcc_words.specs.declared.command.WordsFault.{WordsFault}
 use Rattle.tcc_words.specs.declared.command.WordsFault.TheVariants as fault
 use Rattle.tcc_words.specs.declared.command.Verb.{Verb}
-use Rattle.tcc_words.specs.declared.command.Verb.TheVariants.{Run, Replay, Serial, Trial, Why, Phases, Bus, Trace, Count, State, Outcomes}
+use Rattle.tcc_words.specs.declared.command.Verb.TheVariants.{Run, Replay, Serial, Trial, Why, Phases, Bus, Trace, Count, State, Outcomes, Follow}
 
 -- a number by which the names of commands differ
 tag : Text → ℕ
@@ -20,7 +20,8 @@ tagged : ℕ → Verb
 tagged n =
     if n == 566 then Run else if n == 568 then Replay else if n == 574 then Serial else if n == 569 then Trial
     else if n == 597 then Why else if n == 545 then Phases else if n == 507 then Bus else if n == 561 then Trace
-    else if n == 513 then Count else if n == 557 then State else Outcomes
+    else if n == 513 then Count else if n == 557 then State
+    else if n == 516 then Follow else Outcomes
 
 tagged-again : (v : Verb) → tagged (tag (verb_word v)) ≡ v
 unfolding tag tagged
@@ -35,6 +36,7 @@ tagged-again Trace = refl
 tagged-again Count = refl
 tagged-again State = refl
 tagged-again Outcomes = refl
+tagged-again Follow = refl
 
 verb-same : (v w : Verb) → verb_word v ≡ verb_word w → v ≡ w
 verb-same v w e = sym (tagged-again v) ∙ ap (λ (text : Text). tagged (tag text)) e ∙ tagged-again w

@@ -20,7 +20,7 @@ use Rattle.tcc_words.specs.declared.command.Machine.{Machine}
 use Rattle.tcc_words.specs.declared.command.Source.{Source}
 use Rattle.tcc_words.specs.declared.command.Source.TheVariants as source
 use Rattle.tcc_words.specs.declared.command.Verb.{Verb}
-use Rattle.tcc_words.specs.declared.command.Verb.TheVariants.{Run, Replay, Serial, Trial, Why, Phases, Bus, Trace, Count, State, Outcomes}
+use Rattle.tcc_words.specs.declared.command.Verb.TheVariants.{Run, Replay, Serial, Trial, Why, Phases, Bus, Trace, Count, State, Outcomes, Follow}
 use Rattle.tcc_words.specs.declared.command.View.{View}
 use Rattle.tcc_words.specs.declared.command.View.TheVariants as view
 use Rattle.tcc_words.specs.declared.command.WordsFault.{WordsFault}
@@ -49,6 +49,7 @@ HasPlaces Trace rows = (1 ≤ length (images_of rows)) × GoTogether rows
 HasPlaces Count rows = (1 ≤ length (images_of rows)) × GoTogether rows
 HasPlaces State rows = (1 ≤ length (images_of rows)) × GoTogether rows
 HasPlaces Outcomes rows = 1 ≤ length (images_of rows)
+HasPlaces Follow rows = IsSome (first_of (codes "report") rows) × (1 ≤ length (images_of rows))
 
 -- the first word names a command, and clap takes the words after it; these are the options and places that it reads
 pub record Stands (words : List Text) (verb : Verb) (rows : List Row) : Type 0 where
@@ -133,6 +134,9 @@ Asks State rows c = (v : View) × AsksLook rows v c × AsksView State rows v
 Asks Outcomes rows (command.Outcomes machine images limits tell) =
     HasMachine rows machine × (images ≡ images_of rows) × IsSaid rows States limits.states × IsSaid rows Longest limits.longest
     × HasTell rows tell
+Asks Follow rows (command.Follow machine report images keep) =
+    HasMachine rows machine × (first_of (codes "report") rows ≡ Some report) × (images ≡ images_of rows)
+    × (keep ≡ first_of (codes "record") rows)
 Asks _ _ _ = ⊥
 
 -- what stands in the fields, where all of it is allowed

@@ -4,7 +4,7 @@ use Rattle.clap.specs.Words.{Text}
 use Rattle.tcc_base.specs.Settings.{Settings, IsAllowed}
 use Rattle.tcc_words.specs.Asked.{IsCommand}
 use Rattle.tcc_words.specs.declared.command.Command.{Command}
-use Rattle.tcc_words.specs.declared.command.Command.TheVariants.{Run, Replay, Serial, Trial, Why, Phases, Bus, Look, LookOnBus, Outcomes}
+use Rattle.tcc_words.specs.declared.command.Command.TheVariants.{Run, Replay, Serial, Trial, Why, Phases, Bus, Look, LookOnBus, Outcomes, Follow}
 use Rattle.tcc_words.specs.declared.command.Source.{Source}
 use Rattle.tcc_words.specs.declared.command.Source.TheVariants.{Seed, Schedule}
 use Rattle.tcc_words.specs.declared.command.View.{View}
@@ -21,6 +21,7 @@ config_of (Bus machine images steps seed) = machine.config
 config_of (Look machine images source view) = machine.config
 config_of (LookOnBus machine images steps seed view) = machine.config
 config_of (Outcomes machine images limits tell) = machine.config
+config_of (Follow machine list images keep) = machine.config
 
 -- at most 4,194,304 events
 abbrev pub IsFew : Source → Type 0
@@ -55,6 +56,7 @@ AreNumbers (LookOnBus machine images steps seed view) =
     × IsPlain view
 AreNumbers (Outcomes machine images limits tell) =
     (1 ≤ length images) × (length images ≤ 16) × (1 ≤ limits.states) × (1 ≤ limits.longest)
+AreNumbers (Follow machine list images keep) = (1 ≤ length images) × (length images ≤ 16)
 
 pub record IsInBounds (c : Command) : Type 0 where
   pub allowed : IsAllowed (config_of c)

@@ -7,7 +7,7 @@ use Rattle.clap.specs.declared.builder.action.ArgAction.TheVariants.{Append, Set
 use Rattle.tcc_words.specs.declared.command.WordsFault.{WordsFault}
 use Rattle.tcc_words.specs.declared.command.WordsFault.TheVariants as fault
 use Rattle.tcc_words.specs.declared.command.Verb.{Verb}
-use Rattle.tcc_words.specs.declared.command.Verb.TheVariants.{Run, Replay, Serial, Trial, Why, Phases, Bus, Trace, Count, State, Outcomes}
+use Rattle.tcc_words.specs.declared.command.Verb.TheVariants.{Run, Replay, Serial, Trial, Why, Phases, Bus, Trace, Count, State, Outcomes, Follow}
 
 -- the first word of a command
 abbrev pub verb_word : Verb → Text
@@ -22,6 +22,7 @@ verb_word Trace = codes "trace"
 verb_word Count = codes "count"
 verb_word State = codes "state"
 verb_word Outcomes = codes "outcomes"
+verb_word Follow = codes "follow"
 
 -- an option with a value, `--name value` or `--name=value`, at most once
 abbrev pub option : Text → Rule
@@ -67,7 +68,7 @@ source_rules = machine_rules ++ event_rules ++ option (codes "schedule") ∷ fla
 
 -- run [..] IMAGE...    replay [..] SCHEDULE IMAGE...    serial [..] REPORT IMAGE...    trial [..] KIND NUMBER
 -- why [..] SCHEDULE IMAGE...    phases [..] IMAGE...    bus [..] IMAGE...
--- trace [..] IMAGE...    count [..] IMAGE...    state [..] IMAGE...    outcomes [..] IMAGE...
+-- trace [..] IMAGE...    count [..] IMAGE...    state [..] IMAGE...    outcomes [..] IMAGE...    follow [..] LIST IMAGE...
 abbrev pub rules : Verb → List Rule
 rules Run = machine_rules ++ event_rules ++ option (codes "threads") ∷ record_rules
 rules Replay = file_rules (codes "schedule")
@@ -83,6 +84,7 @@ rules State = source_rules ++ option (codes "events") ∷ places (codes "image")
 rules Outcomes =
     option (codes "cores") ∷ memory_rules ++ option (codes "states") ∷ option (codes "longest") ∷ option (codes "tell")
     ∷ places (codes "image") ∷ []
+rules Follow = machine_rules ++ option (codes "record") ∷ place (codes "report") ∷ places (codes "image") ∷ []
 
 -- a simple command of clap's, without help
 abbrev pub plain : Text → List Rule → App

@@ -32,6 +32,8 @@ pub enum Verb {
     State,
     /// Lists all results that a program can have.
     Outcomes,
+    /// Runs images so that the transactions of a list commit in its order.
+    Follow,
 }
 
 impl Verb {
@@ -51,6 +53,7 @@ impl Verb {
             Verb::Count => "count",
             Verb::State => "state",
             Verb::Outcomes => "outcomes",
+            Verb::Follow => "follow",
         }
     }
 
@@ -70,6 +73,7 @@ impl Verb {
             "count" => Some(Verb::Count),
             "state" => Some(Verb::State),
             "outcomes" => Some(Verb::Outcomes),
+            "follow" => Some(Verb::Follow),
             _ => None,
         }
     }
@@ -181,6 +185,14 @@ pub enum Command {
         images: List<Text>,
         limits: Limits,
         tell: Tell,
+    },
+    /// Run the images so that the transactions of the list of a file commit in its order. The schedule is written to the file `keep`,
+    /// where there is one.
+    Follow {
+        machine: Machine,
+        list: Text,
+        images: List<Text>,
+        keep: Option<Text>,
     },
 }
 

@@ -84,6 +84,12 @@ fn grammar<'a>(alloc: Global, verb: Verb, name: &'a str) -> Result<clap::Command
             let events = with_option(alloc, source, "events")?;
             with_places(alloc, events, "image")
         }
+        Verb::Follow => {
+            let machine = with_machine(alloc, named)?;
+            let record = with_option(alloc, machine, "record")?;
+            let list = with_place(alloc, record, "report")?;
+            with_places(alloc, list, "image")
+        }
         Verb::Outcomes => {
             let cores = with_option(alloc, named, "cores")?;
             let memory = with_memory(alloc, cores)?;

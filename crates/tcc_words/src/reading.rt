@@ -50,7 +50,7 @@ fn has_places(verb: Verb, matches: &ArgMatches) -> bool
     match verb {
         Verb::Run | Verb::Phases | Verb::Bus | Verb::Outcomes => has_images(matches),
         Verb::Replay | Verb::Why => text(matches, "schedule").is_some() && has_images(matches),
-        Verb::Serial => text(matches, "report").is_some() && has_images(matches),
+        Verb::Serial | Verb::Follow => text(matches, "report").is_some() && has_images(matches),
         Verb::Trial => text(matches, "kind").is_some() && text(matches, "number").is_some(),
         Verb::Trace | Verb::Count | Verb::State => has_images(matches) && go_together(matches),
     }
@@ -156,6 +156,12 @@ fn command(
                 longest: values.longest,
             },
             tell: values.tell,
+        }),
+        Verb::Follow => Ok(Command::Follow {
+            machine: machine(matches, values.config),
+            list: given(alloc, matches, "report")?,
+            images: image_names(alloc, matches)?,
+            keep: record_name(alloc, matches)?,
         }),
     }
 }

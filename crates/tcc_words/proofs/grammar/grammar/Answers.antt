@@ -1,7 +1,7 @@
 use Rattle.std.proofs.Common.{◌≡◌, ◌⊎◌, ap, codes, inl, inr}
 use Rattle.std.proofs.lemmas.Result.{IfOk-weaker}
 use Rattle.tcc_words.specs.Grammar.{file_rules, rules}
-use Rattle.tcc_words.proofs.Rules.{bus_made, count_made, filed_made, outcomes_made, phases_made, run_made}
+use Rattle.tcc_words.proofs.Rules.{bus_made, count_made, filed_made, follow_made, outcomes_made, phases_made, run_made}
 use Rattle.tcc_words.proofs.Rules.{state_made, trace_made, trial_made}
 use Rattle.tcc_words.proofs.grammar.grammar.Goals as goal
 use Rattle.tcc_words.specs.declared.command.Verb.{Verb}
@@ -70,3 +70,9 @@ returns-in_ok-tell-in-Outcomes c =
     c.requires c.bare-named.ensures c.in_ok-cores-in-Outcomes.ensures c.in_ok-memory-in-Outcomes.ensures
     c.in_ok-states-in-Outcomes.ensures c.in_ok-longest-in-Outcomes.ensures c.in_ok-tell-in-Outcomes.ensures h)
     c.with_places-in-Outcomes.ensures
+
+pub returns-in_ok-list-in-Follow : goal.returns-in_ok-list-in-Follow
+returns-in_ok-list-in-Follow c =
+    IfOk-weaker c.with_places-in-Follow.result _ _ (λ m h. follow_made c.args.verb c.args.name.now _ _ _ _ _ c.in-Follow.is c.requires
+    c.bare-named.ensures c.in_ok-machine-in-Follow.ensures c.in_ok-record-in-Follow.ensures c.in_ok-list-in-Follow.ensures h)
+    c.with_places-in-Follow.ensures
