@@ -18,7 +18,7 @@ launch() { exec bash -- "$root/share/launch" "$0" "$@"; }
 . "$root/share/checked.sh"
 
 case ${1-} in
-run | phases | serial | trial | bus | trace | count | state | outcomes) ;;
+run | phases | serial | trial | bus | trace | count | state | outcomes | follow) ;;
 *) launch "$@" ;;
 esac
 for word; do

@@ -3,7 +3,7 @@ _hoopoelarder() {
     local word=${COMP_WORDS[COMP_CWORD]} before=${COMP_WORDS[COMP_CWORD - 1]}
     COMPREPLY=()
     if [ "$COMP_CWORD" = 1 ]; then
-        mapfile -t COMPREPLY < <(compgen -W "run phases replay why serial trial bus trace count state outcomes help cc look step sweep plot --help --version --where" -- "$word")
+        mapfile -t COMPREPLY < <(compgen -W "run phases replay why serial trial bus trace count state outcomes follow help cc look step sweep plot --help --version --where" -- "$word")
         return
     fi
     case "${COMP_WORDS[1]} $before" in
@@ -29,12 +29,13 @@ _hoopoelarder() {
         count) mapfile -t COMPREPLY < <(compgen -W "--cores --dirs --sets --ways --ram --base --raw --steps --seed --schedule --bus --csv --help" -- "$word") ;;
         state) mapfile -t COMPREPLY < <(compgen -W "--cores --dirs --sets --ways --ram --base --raw --steps --seed --schedule --bus --events --help" -- "$word") ;;
         outcomes) mapfile -t COMPREPLY < <(compgen -W "--cores --ram --base --raw --states --longest --tell --help" -- "$word") ;;
+        follow) mapfile -t COMPREPLY < <(compgen -W "--cores --dirs --sets --ways --ram --base --raw --record --help" -- "$word") ;;
         esac
         return
         ;;
     esac
     case ${COMP_WORDS[1]} in
-    help) mapfile -t COMPREPLY < <(compgen -W "run phases replay why serial trial bus trace count state outcomes" -- "$word") ;;
+    help) mapfile -t COMPREPLY < <(compgen -W "run phases replay why serial trial bus trace count state outcomes follow" -- "$word") ;;
     trial) mapfile -t COMPREPLY < <(compgen -W "counters transfers stencil sharing" -- "$word") ;;
     *) mapfile -t COMPREPLY < <(compgen -f -- "$word") ;;
     esac

@@ -14,6 +14,7 @@ _hoopoelarder() {
         'count:prints how often what happened in a run'
         'state:prints the state after a run, or after its first events'
         'outcomes:lists all results that a program can have'
+        'follow:runs programs so that a list's transactions commit in its order'
         'help:prints a page of usage'
         'cc:compiles C for the machine'
         'look:shows what happened in a run'
@@ -169,6 +170,18 @@ _hoopoelarder() {
             '--states[at most so many states are found\: 1 to 4194304 (1000000)]:N:' \
             '--longest[the largest number of instructions of a transaction\: 1 to 4194304 (100000)]:N:' \
             '--tell[what makes two results different\: consoles, memory or all (consoles)]:WHAT:(consoles memory all)' \
+            '1:command:' '*:file:_files'
+        ;;
+    follow)
+        _arguments \
+            '--cores[the number of cores\: 1 to 64 (1)]:N:' \
+            '--dirs[the number of directories\: 1 to 64 (1)]:N:' \
+            '--sets[how many sets a cache has\: a power of two from 1 to 1024 (16)]:N:' \
+            '--ways[how many ways a set has\: 1 to 16 (2)]:N:' \
+            '--ram[the bytes of memory\: a multiple of 32 from 32 to 16777216 (65536)]:N:' \
+            '--base[the address of the first one\: a multiple of 32, with base + RAM at most 2^32 (0x80000000)]:N:' \
+            '--raw[the images are raw; without it they are ELF files]' \
+            '--record[the file to which the schedule is written when the run has ended]:NAME:_files' \
             '1:command:' '*:file:_files'
         ;;
     help) _describe command commands ;;

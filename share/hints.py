@@ -31,6 +31,8 @@ TRAPS = {
     7: "a store outside RAM",
     11: "an ECALL with an unknown number in x17",
 }
+# The commands whose first word is a schedule or a list.
+WITH_FILE = ("replay", "why", "serial", "follow")
 # What doesn't go together with --bus.
 OFF_THE_BUS = {"schedule": "no schedules", "dirs": "no directories", "states": "no records in its trace"}
 COMPILE_HINT = "compile with -march=rv32ima -mabi=ilp32, or with `tcc cc`"
@@ -93,6 +95,8 @@ def reason(command, name):
         return ": there are no messages, so no schedule"
     if command in ("replay", "why") and name in ("seed", "steps"):
         return ": a schedule says which events there are"
+    if command == "follow" and name in ("seed", "steps"):
+        return ": the list says which transactions there are"
     if command in ("trace", "count", "state") and name == "record":
         return ": run writes a record"
     if command == "outcomes" and name in ("dirs", "sets", "ways", "seed", "steps", "schedule", "bus"):
@@ -140,7 +144,7 @@ def number(text):
 def value_hint(field, words, options):
     said = Words(words, options)
     if field == "images":
-        return f"there are at most 16 images, and these are {len(said.files) - (words[0] in ('replay', 'why', 'serial'))}"
+        return f"there are at most 16 images, and these are {len(said.files) - (words[0] in WITH_FILE)}"
     if field == "kind":
         near = difflib.get_close_matches(said.files[0], KINDS, 1)
         return f"there is no workload {said.files[0]}" + (f"; {near[0]}?" if near else f"; there are {', '.join(KINDS)}")
@@ -245,7 +249,7 @@ def read(name):
 
 def image_hint(line, said):
     index, kind, fault, place = re.fullmatch(r"tcc: image (\d+) (elf|load) (\d+) (\d+)", line).groups()
-    images = said.files[1:] if said.command in ("replay", "why", "serial") else said.files
+    images = said.files[1:] if said.command in WITH_FILE else said.files
     name = images[int(index)]
     data = read(name)
     hint = elf_hint(int(fault), int(place), data) if kind == "elf" else load_hint(int(fault), int(place), data, said, "raw" in said.given)
@@ -293,7 +297,7 @@ def schedule_hint(line, said, program, words):
     name = said.given.get("schedule") or said.files[0]
     lines = read(name).decode("utf-8", "replace").split("\n")
     here = lines[at - 1] if at <= len(lines) else ""
-    if said.command == "serial":
+    if said.command in ("serial", "follow"):
         if not any(it.startswith("commit ") for it in lines):
             return f"{name} has no commit lines"
         return f"line {at} is `{here}`: its TID doesn't rise, its core isn't there, or its transaction hasn't so many instructions"

@@ -18,8 +18,8 @@ pub struct Executed {
     pub commits: List<Commit>,
 }
 
-/// The orders without their lines.
-fn orders_of(alloc: Global, listed: &[Listed]) -> Result<List<Order>, NoMemory>
+/// The orders without their lines, in a list of its own.
+pub fn orders_of(alloc: Global, listed: &[Listed]) -> Result<List<Order>, NoMemory>
     ensures { IfOk result (λ orders. orders ≡ map (λ l. l.order) listed.now) }
 {
     let mut orders = List::new(alloc);

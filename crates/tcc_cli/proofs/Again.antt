@@ -12,10 +12,12 @@ use Rattle.tcc_cli.proofs.Excluded.{excluded, same-events}
 use Rattle.tcc_cli.proofs.Facts.{Facts}
 use Rattle.tcc_cli.proofs.Truth.{one-truth}
 use Rattle.tcc_cli.specs.Around.{Around}
-use Rattle.tcc_cli.specs.Commands.{fault_from, image_names, record_of}
+use Rattle.tcc_cli.specs.Commands.{fault_from, image_names, record_of, tail_of}
+use Rattle.tcc_cli.specs.Following.{Follows}
 use Rattle.tcc_cli.specs.Images.{fault_of, start_of}
 use Rattle.tcc_cli.specs.Laws.{AreTold, HasNoFault, IsLeft, IsSameReport, ReplaysPrintTheSame, ReplaysRecord}
 use Rattle.tcc_cli.specs.Lines.{IsWhole, Written}
+use Rattle.tcc_cli.specs.Reading.{AreGiven}
 use Rattle.tcc_cli.specs.Refusals.{End, status_of}
 use Rattle.tcc_cli.specs.Phased.{IsPhasePicked, phases_text}
 use Rattle.tcc_cli.specs.Runs.{RunsTo, run_text}
@@ -31,7 +33,7 @@ use Rattle.tcc_rules.specs.Seen.{IsDone}
 use Rattle.tcc_rules.specs.Step.{History}
 use Rattle.tcc_words.specs.Asked.{IsCommand}
 use Rattle.tcc_words.specs.declared.command.Command.{Command}
-use Rattle.tcc_words.specs.declared.command.Command.TheVariants.{Run, Replay, Phases}
+use Rattle.tcc_words.specs.declared.command.Command.TheVariants.{Run, Replay, Phases, Follow}
 use Rattle.tcc_words.specs.declared.command.Machine.{Machine}
 
 -- how a command ended that wasn't refused
@@ -206,6 +208,13 @@ run-again f v replay g other machine images name files text_of_end done text l a
     (subst (λ fs. Comes c fs v.files.tells v.files.after x.done u) same ran_again) in
     record { status_is = x.status_is ∙ ap (λ d. status_of (Ok d)) (sym one.0); whole = subst (λ t. IsWhole t v.out) one.1 whole }
 
+-- the files behind a list
+tail-told : (told : List ℕ → Option (List ℕ)) (list : List ℕ) (names files : List (List ℕ)) (read : List (List ℕ)) → AreTold told names files
+    → AreGiven told (list ∷ names) read → tail_of read ≡ files
+unfolding AreGiven
+tail-told told list names files [] t g = absurd g
+tail-told told list names files (first ∷ read) t g = given-told told names files read t g.1
+
 report-behind : (s : Start) (done : Bool) (events : ℕ) (h : History) (text : List ℕ) (o p : Written) → text ≡ phases_text s done events h
     → IsWhole text o → IsWhole (run_text s done events h) p → IsSameReport o p
 unfolding phases_text
@@ -239,6 +248,20 @@ prints-the-same f w v recorded replay e g status other (Phases machine images st
     let is : text ≡ phases_text s x.done (length l.events) l.ends =
     subst (λ fs. text ≡ phases_text (start_of machine.raw machine.config fs) x.done (length l.events) l.ends) same l.text_is in
     (a.status_is ∙ sym x.status_is, report-behind s x.done (length l.events) l.ends text w.out v.out is whole a.whole)
+prints-the-same f w v recorded replay e g status other (Follow machine list images keep) name r h good again none enough =
+    let c = Follow machine list images keep in
+    let x = well f recorded w e status c r.first h good in
+    let (read, text, started, ran, whole) = x.ends in
+    let s = start_of machine.raw machine.config r.files in
+    let same = tail-told w.files.before list images r.files read r.told started.given in
+    let l = left-by w v machine images name (tail_of read) r.files keep
+    (λ es. Follows (start_of machine.raw machine.config (tail_of read)) ran.orders es)
+    (run_text (start_of machine.raw machine.config (tail_of read))) x.done text
+    same started.images r.named r.tells (r.left name) (images-told f w v recorded replay e status c name r h) ran.ran in
+    let a = run-again f v replay g other machine images name r.files _ x.done text l r.second again none enough in
+    let is : text ≡ run_text s x.done (length l.events) l.ends =
+    subst (λ fs. text ≡ run_text (start_of machine.raw machine.config fs) x.done (length l.events) l.ends) same l.text_is in
+    (a.status_is ∙ sym x.status_is, (text, whole, subst (λ t. IsWhole t v.out) (sym is) a.whole))
 prints-the-same f w v recorded replay e g status other _ name r h good again none enough = absurd (unlike r.named)
   where
     unlike : ◌≡◌ {A = Option (List ℕ)} None (Some name) → ⊥

@@ -1,4 +1,5 @@
 -- What comes to an end has no faulty line.
+use Rattle.std.specs.Prelude.{IsSome}
 use Rattle.std.proofs.Common.{◌≡◌, ◌≤◌, ℕ, Bool, List, map, take, Option, Some, None, inl, inr, ap, sym, subst, ◌∙◌}
 use Rattle.image_load.specs.Start.{Start}
 use Rattle.schedule_text.specs.Faults.{IsFirstFault}
@@ -7,7 +8,7 @@ use Rattle.tcc_cli.proofs.Comes.{start_settings}
 use Rattle.tcc_cli.proofs.Facts.{Facts}
 use Rattle.tcc_cli.specs.Commands.{head_of, start_from, tail_of}
 use Rattle.tcc_cli.specs.Images.{start_of}
-use Rattle.tcc_cli.specs.Lists.{IsExecuted, IsListFault}
+use Rattle.tcc_cli.specs.Lists.{IsListFault}
 use Rattle.tcc_cli.specs.Comes.{Comes, IsFaultyLine}
 use Rattle.tcc_cli.specs.Looks.{AreFirst, IsFaultOfFirst, LookedAt, most_of, view_text}
 use Rattle.tcc_cli.specs.Schedules.{IsScheduleFault, IsScheduleOf, Ran}
@@ -16,12 +17,14 @@ use Rattle.why_text.specs.Text.{why_text}
 use Rattle.tcc_maps.specs.Nodes.{Event as RulesEvent}
 use Rattle.tcc_msg.specs.Plain.{event_of}
 use Rattle.tcc_msg.specs.declared.event.Event.{Event}
+use Rattle.serial_tool.specs.Lists.{IsList}
 use Rattle.serial_tool.specs.Runs.{serial_by}
+use Rattle.serial_tool.specs.declared.reading.Listed.{Listed}
 use Rattle.tcc_replay.specs.Replayed.{history_by}
 use Rattle.tcc_rules.specs.Step.{History}
 use Rattle.tcc_words.specs.Bounds.{IsInBounds}
 use Rattle.tcc_words.specs.declared.command.Command.{Command}
-use Rattle.tcc_words.specs.declared.command.Command.TheVariants.{Replay, Serial, Why, Look}
+use Rattle.tcc_words.specs.declared.command.Command.TheVariants.{Replay, Serial, Why, Look, Follow}
 use Rattle.tcc_words.specs.declared.command.Source.TheVariants.{Schedule}
 
 -- two schedules of one text with the same settings have the same events
@@ -61,14 +64,18 @@ look-excluded f s settings bytes most line text_of_run done text looked (inr (in
     let taken : looked.events ≡ map event_of (take most es) = looked.are.2 ∙ ap (λ xs. map event_of (take most xs)) same in
     f.runs_go_on s (take most es) looked.ends i (subst (λ xs. IsRun s xs looked.ends) taken looked.runs.is_run) refused
 
-list-excluded : Facts → (s : Start) (bytes text : List ℕ) (line : ℕ) → s.settings.cores ≤ 64 → IsExecuted s bytes text
-    → IsListFault s bytes line → ⊥
-list-excluded f s bytes text line few e (inl fault) = f.no_faulty_order s.settings.cores bytes e.orders line e.list fault
-list-excluded f s bytes text line few e (inr (orders, is, stuck)) =
-    let same = f.one_list s.settings.cores bytes orders e.orders few is e.list in
-    let none : serial_by s e.orders ≡ None = subst (λ os. serial_by s os ≡ None) same (f.stuck_has_no_run s orders line stuck) in
-    let some = e.executed in
-    absurd (cc)
+list-excluded : Facts → (s : Start) (bytes : List ℕ) (listed : List Listed) (line : ℕ) → s.settings.cores ≤ 64
+    → IsList s.settings.cores bytes listed → IsSome (serial_by s listed) → IsListFault s bytes line → ⊥
+list-excluded f s bytes listed line few list some (inl fault) = f.no_faulty_order s.settings.cores bytes listed line list fault
+list-excluded f s bytes listed line few list some (inr (orders, is, stuck)) =
+    let same = f.one_list s.settings.cores bytes orders listed few is list in
+    none-some (serial_by s listed) (subst (λ os. serial_by s os ≡ None) same (f.stuck_has_no_run s orders line stuck)) some
+  where
+    none-some : {A : Type 0} (x : Option A) → x ≡ None → IsSome x → ⊥
+    none-some x e h = absurd (cc)
+
+some-of : {A : Type 0} (x : Option A) (a : A) → x ≡ Some a → IsSome x
+some-of x a e = subst IsSome (sym e) tt
 
 few-cores : (raw : Bool) (s : Settings) (files : List (List ℕ)) → IsAllowed s → (start_of raw s files).settings.cores ≤ 64
 few-cores raw s files allowed = subst (λ t. t.cores ≤ 64) (sym (start_settings raw s files)) allowed.0.1
@@ -79,9 +86,12 @@ excluded f (Replay machine schedule images) files tells told done text line boun
     let s = start_from (Replay machine schedule images) files in
     schedule-excluded f s machine.config (head_of files) line (run_text s) done text comes fault
 excluded f (Serial machine list images) files tells told done text line bounds comes fault =
-    list-excluded f (start_from (Serial machine list images) files) (head_of files) text line (few-cores machine.raw machine.config
-    (tail_of files) bounds.allowed)
-    comes.1 fault
+    let s = start_from (Serial machine list images) files in
+    list-excluded f s (head_of files) comes.1.orders line (few-cores machine.raw machine.config (tail_of files) bounds.allowed) comes.1.list
+    (some-of (serial_by s comes.1.orders) (comes.1.machine, comes.1.commits) comes.1.executed) fault
+excluded f (Follow machine list images keep) files tells told done text line bounds comes fault =
+    list-excluded f (start_from (Follow machine list images keep) files) (head_of files) comes.listed.listed line
+    (few-cores machine.raw machine.config (tail_of files) bounds.allowed) comes.listed.list comes.listed.executed fault
 excluded f (Why machine schedule images) files tells told done text line bounds comes fault =
     let s = start_from (Why machine schedule images) files in
     schedule-excluded f s machine.config (head_of files) line (why_text s) done text comes fault

@@ -1,6 +1,7 @@
 -- What each command comes to, and where its file is refused.
 use Rattle.std.specs.Prelude.{ℕ, Bool, true, List, ◌≡◌, Option}
 use Rattle.tcc_cli.specs.Commands.{head_of, start_from}
+use Rattle.tcc_cli.specs.Following.{IsFollowed, RanFollowing}
 use Rattle.tcc_cli.specs.Lists.{IsExecuted, IsListFault}
 use Rattle.tcc_base.specs.Settings.{Settings}
 use Rattle.tcc_cli.specs.Lines.{Written}
@@ -14,7 +15,7 @@ use Rattle.tcc_cli.specs.Schedules.{IsMade, IsPicked, IsRecorded, IsScheduleFaul
 use Rattle.image_load.specs.Start.{Start}
 use Rattle.tcc_maps.specs.Nodes.{Event}
 use Rattle.tcc_words.specs.declared.command.Command.{Command}
-use Rattle.tcc_words.specs.declared.command.Command.TheVariants.{Run, Replay, Serial, Trial, Why, Phases, Bus, Look, LookOnBus, Outcomes}
+use Rattle.tcc_words.specs.declared.command.Command.TheVariants.{Run, Replay, Serial, Trial, Why, Phases, Bus, Look, LookOnBus, Outcomes, Follow}
 use Rattle.tcc_words.specs.declared.command.Source.{Source}
 use Rattle.tcc_words.specs.declared.command.Source.TheVariants.{Seed, Schedule}
 use Rattle.tcc_words.specs.declared.command.View.TheVariants.{Trace}
@@ -55,6 +56,9 @@ Comes (LookOnBus machine images steps seed view) files tells told done text =
     LookedAtBus (start_from (LookOnBus machine images steps seed view) files) seed steps view done text
 Comes (Outcomes machine images limits tell) files tells told done text =
     IsTable (start_from (Outcomes machine images limits tell) files) limits tell done text
+Comes (Follow machine list images keep) files tells told done text =
+    RanFollowing (start_from (Follow machine list images keep) files) (head_of files)
+    (λ es. IsRecorded keep tells told (record { config = machine.config; events = es })) done text
 
 -- a first part of what a command prints was written while it went on: only traces and tables of outcomes are written so
 abbrev pub HasBegun : Command → (files : List (List ℕ)) → Written → Type 0
@@ -73,6 +77,8 @@ HasRecorded (Run machine images steps seed threads keep) files tells told =
     RecordsOne (IsMade threads (start_from (Run machine images steps seed threads keep) files) seed steps) machine.config keep tells told
 HasRecorded (Phases machine images steps seed keep) files tells told =
     RecordsOne (IsPhasePicked (start_from (Phases machine images steps seed keep) files) seed steps) machine.config keep tells told
+HasRecorded (Follow machine list images keep) files tells told =
+    RecordsOne (IsFollowed (start_from (Follow machine list images keep) files) (head_of files)) machine.config keep tells told
 HasRecorded _ files tells told = ⊥
 
 -- the line at which the file of a command is refused
@@ -85,4 +91,6 @@ IsFaultyLine (Why machine schedule images) files line =
     IsScheduleFault (start_from (Why machine schedule images) files) machine.config (head_of files) line
 IsFaultyLine (Look machine images (Schedule name) view) files line =
     IsFaultOfFirst (start_from (Look machine images (Schedule name) view) files) machine.config (head_of files) (most_of view) line
+IsFaultyLine (Follow machine list images keep) files line =
+    IsListFault (start_from (Follow machine list images keep) files) (head_of files) line
 IsFaultyLine _ files line = ⊥

@@ -4,7 +4,7 @@ use Rattle.image_load.specs.Start.{Start}
 use Rattle.tcc_cli.specs.Images.{fault_of, start_of}
 use Rattle.tcc_cli.specs.declared.refusal.ImageFault.{ImageFault}
 use Rattle.tcc_words.specs.declared.command.Command.{Command}
-use Rattle.tcc_words.specs.declared.command.Command.TheVariants.{Run, Replay, Serial, Trial, Why, Phases, Bus, Look, LookOnBus, Outcomes}
+use Rattle.tcc_words.specs.declared.command.Command.TheVariants.{Run, Replay, Serial, Trial, Why, Phases, Bus, Look, LookOnBus, Outcomes, Follow}
 use Rattle.tcc_words.specs.declared.command.Source.{Source}
 use Rattle.tcc_words.specs.declared.command.Source.TheVariants.{Seed, Schedule}
 use Rattle.tcc_words.specs.declared.command.Machine.{Machine}
@@ -22,6 +22,7 @@ image_names (Bus machine images steps seed) = images
 image_names (Look machine images source view) = images
 image_names (LookOnBus machine images steps seed view) = images
 image_names (Outcomes machine images limits tell) = images
+image_names (Follow machine list images keep) = images
 
 -- the file of the run that is looked at, and those behind it
 abbrev pub with_file : Source → List (List ℕ) → List (List ℕ)
@@ -40,11 +41,13 @@ files_of (Bus machine images steps seed) = images
 files_of (Look machine images source view) = with_file source images
 files_of (LookOnBus machine images steps seed view) = images
 files_of (Outcomes machine images limits tell) = images
+files_of (Follow machine list images keep) = list ∷ images
 
 -- the name of the file that is written
 abbrev pub record_of : Command → Option (List ℕ)
 record_of (Run machine images steps seed threads keep) = keep
 record_of (Phases machine images steps seed keep) = keep
+record_of (Follow machine list images keep) = keep
 record_of _ = None
 
 -- the machine, and whether its images are raw; a workload is
@@ -59,6 +62,7 @@ machine_of (Bus machine images steps seed) = machine
 machine_of (Look machine images source view) = machine
 machine_of (LookOnBus machine images steps seed view) = machine
 machine_of (Outcomes machine images limits tell) = machine
+machine_of (Follow machine list images keep) = machine
 
 -- the first of some files, and those after it
 abbrev pub head_of : List (List ℕ) → List ℕ
@@ -86,6 +90,7 @@ images_in (Bus machine images steps seed) files = files
 images_in (Look machine images source view) files = behind_file source files
 images_in (LookOnBus machine images steps seed view) files = files
 images_in (Outcomes machine images limits tell) files = files
+images_in (Follow machine list images keep) files = tail_of files
 
 -- the start of the machine with these images, and the first of them that is no image
 abbrev pub start_from : Command → (files : List (List ℕ)) → Start

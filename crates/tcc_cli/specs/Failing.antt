@@ -8,6 +8,7 @@ use Rattle.schedule_text.specs.declared.fault.TextFault.TheVariants as text
 use Rattle.tcc_cli.specs.Around.{FilesAround, IsUntouched}
 use Rattle.tcc_cli.specs.Comes.{Comes, HasBegun, HasRecorded, IsFaultyLine}
 use Rattle.tcc_cli.specs.Commands.{record_of}
+use Rattle.tcc_cli.specs.Following.{IsFollowed}
 use Rattle.tcc_cli.specs.Lines.{Written, IsCut, IsSilent, IsWhole}
 use Rattle.tcc_cli.specs.Lists.{IsListFault}
 use Rattle.tcc_cli.specs.Refusals.{End}
@@ -62,6 +63,11 @@ IsNotWritten keep f _ = ⊥
 abbrev pub IsRunStopped : (IsSchedule : List Event → Type 0) → Settings → (keep : Option (List ℕ)) → FilesAround → Refusal → Type 0
 IsRunStopped IsSchedule settings keep f Memory = IsUntouched f ⊎ RecordsOne IsSchedule settings keep f.tells f.after
 IsRunStopped IsSchedule settings keep f other = IsNotWritten keep f other
+
+-- and so does a run that follows a list, which may be refused
+abbrev pub IsFollowStopped : Start → (bytes : List ℕ) → Settings → (keep : Option (List ℕ)) → FilesAround → Refusal → Type 0
+IsFollowStopped s bytes settings keep f (Schedule line) = IsListFault s bytes line × IsUntouched f
+IsFollowStopped s bytes settings keep f other = IsRunStopped (IsFollowed s bytes) settings keep f other
 
 -- a text that is written when it is made, as a trace and a table of outcomes aren't
 abbrev pub IsUntraced : View → Type 0

@@ -8,6 +8,7 @@ pub mod Laws
 pub mod Lines
 pub mod Looks
 pub mod Lists
+pub mod Following
 pub mod OnBus
 pub mod Outcomes
 pub mod Phased

@@ -18,7 +18,7 @@ fn first_name(command: &Command) -> Option<&str>
         Command::Replay { schedule, .. } | Command::Why { schedule, .. } => {
             Some(schedule.items.as_str())
         }
-        Command::Serial { list, .. } => Some(list.items.as_str()),
+        Command::Serial { list, .. } | Command::Follow { list, .. } => Some(list.items.as_str()),
         Command::Look {
             source: Source::Schedule(schedule),
             ..
@@ -46,7 +46,8 @@ fn image_names(command: &Command) -> &[Text]
         | Command::Bus { images, .. }
         | Command::Look { images, .. }
         | Command::LookOnBus { images, .. }
-        | Command::Outcomes { images, .. } => &images.items,
+        | Command::Outcomes { images, .. }
+        | Command::Follow { images, .. } => &images.items,
         Command::Trial { .. } => &[],
     }
 }

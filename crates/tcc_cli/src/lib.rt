@@ -3,6 +3,7 @@
 
 mod bus_looks;
 mod files;
+mod following;
 mod images;
 mod laid;
 mod laws;

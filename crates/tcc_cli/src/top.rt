@@ -12,6 +12,7 @@ ghost use Rattle.tcc_words.specs.Bounds.{IsInBounds};
 
 use crate::bus_looks::{look_on_bus, trace_bus};
 use crate::files::{names, read_files};
+use crate::following::run_following;
 use crate::images::{bytes, load_files};
 use crate::lists::execute;
 use crate::looks::{look_by_schedule, look_by_seed};
@@ -44,7 +45,9 @@ use work_gen::workload;
 /// machine with one bus for at most so many events that a seed picks, and writes its report; `trace [..] IMAGE..` writes what each event of
 /// a run does while it goes on, with `--states` also which records it changes, `count [..] IMAGE..` how often what happened in it, and
 /// `state [..] IMAGE..` the state after it: a run as `run` makes it by a seed, or as `bus` does, or by the schedule of a file; `outcomes
-/// [..] IMAGE..` searches all results that the images can have, on whatever machine, and writes their table.
+/// [..] IMAGE..` searches all results that the images can have, on whatever machine, and writes their table; `follow [..] LIST IMAGE..` runs
+/// images for at most 4,194,304 events so that their transactions commit in the order of a list, whose lines are as a report's, writes the
+/// schedule to a file where one is named, and then the report.
 ///
 /// `Done`: at the end every core has halted, nothing is in flight (no packet on the bus) and no frame has a dirty word, or the list ran
 /// to its end, or the table has all results. `Stopped`: the machine isn't done, and a run has then taken all the events that were asked
@@ -170,6 +173,7 @@ fn load<'a>(alloc: Global, command: &Command, read: &[List<u8>]) -> Result<Loade
         } => load_files(alloc, machine.raw, &machine.config, read),
         Command::Replay { machine, .. }
         | Command::Serial { machine, .. }
+        | Command::Follow { machine, .. }
         | Command::Why { machine, .. }
         | Command::Look {
             machine,
@@ -412,6 +416,7 @@ fn finish<'a, R: Threads + Wait + Sync, F: Store, G: Gate + Sync>(
             Ok(finished) => Ok(finished),
             Err(NoMemory) => Err(Refusal::Memory),
         },
+        Command::Follow { keep, .. } => run_following(alloc, loaded, bytes(&read[0]), keep, files),
         Command::Outcomes { .. } => unreachable!(),
     }
 }

@@ -1,7 +1,7 @@
 // All results of a program: their table, and the reports of its runs, which show one of them. The texts are a second implementation's.
 use super::atomics::ADD;
 use super::runs::{COUNT, HALT, STORE};
-use super::{Held, Host, Row, World, call, call_beside, check, over};
+use super::{Held, Host, Row, World, call, call_beside, check, count, over};
 use std::alloc::Global;
 use std::str;
 use std::test::Fail;
@@ -121,14 +121,40 @@ fn tables_list_all_results(rt: HostRuntime) -> Result<(), Fail> {
     Ok(())
 }
 
+/// The way to an outcome of `LOST` in which one of two additions is lost.
+const LIST: &str = "commit 1 0 3\ncommit 2 1 3\ncommit 3 0 4\ncommit 4 1 4\n";
+
 #[test]
 fn a_list_of_an_outcome_leads_to_it(rt: HostRuntime) -> Result<(), Fail> {
-    let list = b"commit 1 0 3\ncommit 2 1 3\ncommit 3 0 4\ncommit 4 1 4\n";
     let command = "serial --raw --cores 2 --ram 96 r a";
-    let given = call_beside(&rt, rt.alloc(), command, LOST, "r", list)?;
+    let given = call_beside(&rt, rt.alloc(), command, LOST, "r", LIST.as_bytes())?;
     let text = str::from_utf8(&given.out)?;
     assert_eq!(rt; given.status, 0);
     assert!(rt; text.split_once("\nmem 80000040 00000001\n").is_some());
+    Ok(())
+}
+
+/// The machines on which the list is followed.
+const MACHINES: [&str; 3] = ["--dirs 2", "--sets 1 --ways 1", "--sets 2 --dirs 3"];
+
+#[test]
+fn a_list_is_followed_and_the_record_replayed(rt: HostRuntime) -> Result<(), Fail> {
+    let alloc = rt.alloc();
+    for machine in MACHINES {
+        let follow = format!(in alloc; "follow --raw --cores 2 --ram 96 {machine} --record s r a")?;
+        let given = call_beside(&rt, alloc, &follow, LOST, "r", LIST.as_bytes())?;
+        let replay = format!(in alloc; "replay --raw --cores 2 --ram 96 {machine} s a")?;
+        let record = given.record.ok_or("no record was written")?;
+        let again = call_beside(&rt, alloc, &replay, LOST, "s", &record)?;
+        let text = str::from_utf8(&given.out)?;
+        assert_eq!(rt; given.status, 0, "{machine}");
+        assert_eq!(rt; again.status, 0, "{machine}");
+        assert_eq!(rt; given.out.as_slice(), again.out.as_slice(), "{machine}");
+        assert!(rt; text.split_once("\nmem 80000040 00000001\n").is_some());
+        for line in LIST.lines() {
+            assert_eq!(rt; count(&given.out, line, line), 1, "{machine}");
+        }
+    }
     Ok(())
 }
 

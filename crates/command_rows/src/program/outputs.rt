@@ -61,7 +61,7 @@ fn the_status_is_the_same_where_no_line_is_written(rt: HostRuntime) -> Result<()
 }
 
 /// The number of the call that fails, a command line, and the file that is named.
-const FAILING: [(u64, &str, &str); 11] = [
+const FAILING: [(u64, &str, &str); 13] = [
     (9, "run --raw a no-such-file", "no-such-file"),
     (0, "run --raw a b", "a"),
     (1, "run --raw a b", "b"),
@@ -70,6 +70,8 @@ const FAILING: [(u64, &str, &str); 11] = [
     // the schedule and the list are read first
     (9, "replay --raw s c", "s"),
     (9, "serial --raw c s", "c"),
+    (9, "follow --raw c s", "c"),
+    (2, "follow --raw --record s b a", "s"),
     (1, "replay a b b", "b"),
     (0, "why --raw a b", "a"),
     (9, "why --raw a c", "c"),
@@ -98,12 +100,13 @@ fn the_file_that_is_not_read_or_written_is_named(rt: HostRuntime) -> Result<(), 
 }
 
 /// A command line, and its number of reads and writes: one for each file that it names.
-const CALLS: [(u64, &str); 6] = [
+const CALLS: [(u64, &str); 7] = [
     (1, "run --raw a"),
     (2, "run --raw a a"),
     (3, "run --raw a --record s b"),
     (2, "phases --raw --record s a"),
     (2, "serial --raw b a"),
+    (3, "follow --raw --record s b a"),
     (1, "bus --raw a"),
 ];
 

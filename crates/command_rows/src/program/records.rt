@@ -106,9 +106,11 @@ const FILES: [File; 3] = [
 ];
 
 /// A command line, the room on the output, the status, and what the record holds then.
-const KEPT: [(&str, u64, u8, &str); 10] = [
+const KEPT: [(&str, u64, u8, &str); 11] = [
     ("run --raw --record s a", 4096, 0, HALTED),
     ("run a --record=s --raw --steps 0", 4096, 1, NOTHING),
+    // a list without transactions is followed by no event
+    ("follow --raw --record s b a", 4096, 1, NOTHING),
     // it is written before the report
     ("run --raw --record s a", 10, 6, HALTED),
     ("run --raw a", 4096, 0, OLD),

@@ -35,6 +35,9 @@ const FAULTY: [(&str, u64); 17] = [
 
 const SERIAL: &str = "serial --raw --cores 2 --dirs 2 r x y";
 
+/// A list that is followed is read and tried in the same way.
+const FOLLOW: &str = "follow --raw --cores 2 --dirs 2 r x y";
+
 /// The two images, beside a list.
 fn beside<'a>(list: Held<'a>) -> [File<'a>; 3] {
     [
@@ -49,13 +52,15 @@ fn faulty_lists_are_refused_with_a_line(rt: HostRuntime) -> Result<(), Fail> {
     let alloc = rt.alloc();
     for (list, line) in FAULTY {
         let text = format!(in alloc; "tcc: schedule line {line}")?;
-        let row = Row {
-            command: SERIAL,
-            files: &beside(Held::Bytes(list.as_bytes())),
-            status: 4,
-            text: text.as_str(),
-        };
-        check(&rt, alloc, &row)?;
+        for command in [SERIAL, FOLLOW] {
+            let row = Row {
+                command,
+                files: &beside(Held::Bytes(list.as_bytes())),
+                status: 4,
+                text: text.as_str(),
+            };
+            check(&rt, alloc, &row)?;
+        }
     }
     Ok(())
 }

@@ -10,7 +10,7 @@ use tcc_cli::tcc_process;
 use tcc_world::{OpenGate, VecSink};
 
 /// Command lines whose words don't stand as a command's do.
-const WORDS: [&str; 34] = [
+const WORDS: [&str; 36] = [
     "",
     "walk --raw a",
     "Run --raw a",
@@ -21,6 +21,7 @@ const WORDS: [&str; 34] = [
     "run --raw",
     "replay --raw s",
     "serial --raw r",
+    "follow --raw r",
     "trial counters",
     "trial counters 5 6",
     "why --raw s",
@@ -40,6 +41,7 @@ const WORDS: [&str; 34] = [
     "replay --raw --steps 6 s a",
     "replay --raw --record t s a",
     "serial --raw --seed 1 r a",
+    "follow --raw --steps 6 r a",
     "trial --raw counters 5",
     "trial --ram 65536 counters 5",
     "trial --record s counters 5",
@@ -52,7 +54,7 @@ const WORDS: [&str; 34] = [
 ];
 
 /// Command lines with a value that isn't allowed, and the first field in which one stands.
-const VALUES: [(&str, &str); 52] = [
+const VALUES: [(&str, &str); 53] = [
     ("run --raw --cores 65 a", "cores"),
     (
         "run --cores 0 --dirs 0 --sets 0 --ways 0 --ram 0 --steps x a",
@@ -75,6 +77,7 @@ const VALUES: [(&str, &str); 52] = [
     ("run --sets 2048 a", "sets"),
     ("run --sets +16 a", "sets"),
     ("serial --ways 0 --sets 3 r a", "sets"),
+    ("follow --dirs 0 --record= r a", "dirs"),
     ("run --ways 0 a", "ways"),
     ("run --ways 17 --ram 0 a", "ways"),
     ("run --ways two --steps x a", "ways"),

@@ -1,0 +1,38 @@
+-- A run that follows the list of a file.
+use Rattle.std.proofs.Common.{◌≡◌, ℕ, Bool, List, map, length, IfSome, sym, subst}
+use Rattle.std.specs.Prelude.{IsSome}
+use Rattle.follow_run.specs.Following.{followed_by}
+use Rattle.follow_run.specs.Laws.{FollowedKeeps, Keeps}
+use Rattle.image_load.specs.Start.{Start}
+use Rattle.rv_code.specs.Machine.{program}
+use Rattle.rv_plain.specs.Machine.{plain_start}
+use Rattle.rv_serial.specs.Suiting.{AfterRun}
+use Rattle.tcc_base.specs.Settings.{IsAllowed}
+use Rattle.tcc_cli.specs.Following.{Follows, IsFollowed, IsListed, RanFollowing}
+use Rattle.tcc_cli.specs.Runs.{IsRun, RunsTo, run_text}
+use Rattle.tcc_maps.specs.Nodes as rules
+use Rattle.tcc_msg.specs.Plain.{event_of}
+use Rattle.tcc_msg.specs.declared.event.Event.{Event}
+use Rattle.tcc_program.specs.Plain.{Order, serial}
+use Rattle.tcc_rules.specs.Step.{History}
+
+-- what holds after a run holds of the state that it leads to
+after-so : (s : Start) (es : List rules.Event) (h : History) (P : History → Type 0) → IsRun s es h → AfterRun s es P → P h
+after-so s es h P is after = subst (λ o. IfSome o P) is after
+
+-- the commits are those of the list, as far as the run has come
+kept-list : FollowedKeeps → (s : Start) (bytes : List ℕ) (orders : List Order) (es : List Event) (h : History) → IsAllowed s.settings
+    → IsListed s bytes orders → Follows s orders es → IsRun s (map event_of es) h → Keeps s orders h
+kept-list keeps s bytes orders es h allowed l f is =
+    let some = subst (λ os. IsSome (serial s.settings.base (program s) 0 os (plain_start s))) (sym l.orders_are) l.executed in
+    after-so s (followed_by s orders 4194304) h (Keeps s orders) (subst (λ fs. IsRun s fs h) f is) (keeps s orders 4194304 allowed some)
+
+pub followed-ran : FollowedKeeps → (s : Start) (bytes : List ℕ) (IsKept : List Event → Type 0) (es : List Event) (h : History) (done : Bool)
+    (text : List ℕ) → IsAllowed s.settings → IsFollowed s bytes es → IsKept es → RunsTo s es done h → text ≡ run_text s done (length es) h
+    → RanFollowing s bytes IsKept done text
+followed-ran keeps s bytes IsKept es h done text allowed (orders, listed, follows) kept runs told = record {
+  orders = orders;
+  listed = listed;
+  ran = record { events = es; ends = h; schedule = (follows, kept); runs = runs; text_is = told };
+  keeps = kept-list keeps s bytes orders es h allowed listed follows runs.is_run;
+}

@@ -1,0 +1,24 @@
+-- What was run, its record and its report.
+use Rattle.std.proofs.Common.{List, ap, subst, sym}
+use Rattle.image_load.specs.Contents.{started}
+use Rattle.net_core.specs.Machine.{history_of}
+use Rattle.tcc_base.specs.Settings.{IsAllowed}
+use Rattle.tcc_cli.proofs.Followed.{followed-ran}
+use Rattle.tcc_cli.specs.Schedules.{IsRecorded}
+use Rattle.tcc_msg.specs.declared.event.Event.{Event}
+use Rattle.tcc_cli.proofs.following.run_following.Goals as goal
+
+pub returns-in-Ok-report_of-clause-ran : goal.returns-in-Ok-report_of-clause-ran
+unfolding started
+returns-in-Ok-report_of-clause-ran g c =
+    let settings = c.args.loaded.now.settings in
+    let told = g.F.Store.tells c.args.files.now in
+    let contents = g.F.Store.contents c.record.new.files in
+    followed-ran c.the_commits_are_the_lists.ensures (started c.args.loaded.now) c.args.bytes.now
+    (λ (es : List Event). IsRecorded c.args.keep.now told contents (record { config = settings; events = es }))
+    c.in-Ok.refined.taken (history_of c.in-Ok.refined.machine) _ _
+    (subst IsAllowed c.config.ensures c.settings_are_allowed.ensures)
+    c.in-Ok.ensures.followed
+    (subst (λ k. IsRecorded c.args.keep.now told contents (record { config = k.settings; events = c.in-Ok.refined.taken }))
+    c.in-Ok.ensures.code c.in-Ok-record.ensures.recorded)
+    c.in-Ok-report_of.ensures.runs c.in-Ok-report_of.ensures.text
