@@ -47,7 +47,7 @@ impl Counts {
         }
     }
 
-    /// Counts a core anew. Takes time in the logarithm of the number of cores, and in the ways of a set where the core waits for room.
+    /// Counts a core anew. Takes constant time, and time in the ways of a set where the core waits for room.
     pub(crate) fn renew(&mut self, core: CoreId, bank: &BusBank)
         requires exists { core.0 < bank.now.code.settings.cores }
         requires places { HavePlaces bank.now.code.settings self.old }

@@ -21,8 +21,8 @@ use tcc_msg::{Msg, Name};
 /// `is_ready` the marks; only a message in flight is ever marked.
 ///
 /// Messages are not copied. With n messages in flight on a link, a call that names one takes time that goes with the logarithm of n;
-/// `take` moves those behind it, and `ready_at` passes over those of one link. A change of a mark and `ready_at` take time that goes
-/// with the logarithm of the number of links. Only `new` and `push` take memory.
+/// `take` moves those behind it, and `ready_at` passes over those of one link. A change of a mark takes constant time, and `ready_at` goes
+/// with the number of links divided by 256. Only `new` and `push` take memory.
 #[derive(Debug, Drop)]
 pub struct InFlight {
     grid: Grid,
@@ -126,8 +126,8 @@ impl InFlight {
         }
     }
 
-    /// Sends one message, behind the others on its link, marked or not. After want of memory nothing is changed. It takes time that
-    /// goes with the logarithm of the number of links, but for the growth of the link.
+    /// Sends one message, behind the others on its link, marked or not. After want of memory nothing is changed. It takes constant
+    /// time but for the growth of the link.
     pub fn push(&mut self, src: NodeId, dst: NodeId, msg: Msg, ready: bool) -> Result<(), NoMemory>
         requires { is_link self.old.cores self.old.dirs (node_of src) (node_of dst) ≡ true }
         ensures cores { self.new.cores ≡ self.old.cores }

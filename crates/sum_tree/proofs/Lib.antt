@@ -1,3 +1,2 @@
-pub mod Halving
-pub mod Changes
-pub mod Finding
+pub mod Summed
+pub mod Falling

@@ -6,3 +6,9 @@ pub record FallsAt (counts : List ℕ) (k place into : ℕ) : Type 0 where
   pub before : k ≡ sum (take place counts) + into
   pub within : into < slice_index counts place
   pub exists : place < length counts
+
+-- so of what is counted from a place on
+pub record FallsFrom (counts : List ℕ) (from k place into : ℕ) : Type 0 where
+  pub before : sum (take from counts) + k ≡ sum (take place counts) + into
+  pub within : into < slice_index counts place
+  pub exists : place < length counts

@@ -1,3 +1,3 @@
 -- What the contracts of this crate cite.
+pub mod Blocks
 pub mod Falls
-pub mod Halves

@@ -2,7 +2,7 @@
 ghost use Rattle.std.specs.Prelude.{◌≡◌, ℕ, ◌<◌, ◌≤◌, ◌↔◌, List, length, replicate, sum, slice_index, slice_set, nat_eq, IfOk, IfSome, IsSome};
 ghost use Rattle.sum_tree.specs.Falls.{FallsAt};
 
-use crate::halves::{change, place_of};
+use crate::blocks::{BLOCK, blocks_of, fall_in_counts, fall_in_sums};
 use std::alloc::{AllocError, Global};
 use std::marker::Model;
 use tcc_base::NoMemory;
@@ -12,24 +12,26 @@ pub const MAX_PLACES: usize = 65_536;
 
 /// A count for each of a fixed number of places. In a clause it is the list of the counts.
 ///
-/// `set` and `find` take time that goes with the logarithm of the number of places, all other calls but `new` constant time. No
-/// call but `new` takes memory.
+/// All calls but `new` and `find` take constant time. `find` goes over one number for each 256 places, and over 32 more, at most. No call but
+/// `new` takes memory.
 #[derive(Debug, Drop)]
 pub struct SumTree {
     counts: Vec<u32>,
+    // of each block of counts, and of each block of these
     sums: Vec<u64>,
+    tops: Vec<u64>,
     total: u64,
 }
 
 impl Model for SumTree {
     ghost use Rattle.std.specs.Prelude.{ℕ, List};
-    ghost use Rattle.sum_tree.specs.Halves.{AreSums};
+    ghost use Rattle.sum_tree.specs.Blocks.{AreSums};
 
     ghost Value = { List ℕ };
 
     ghost view = { λ t. t.counts.items };
 
-    ghost invariant = { λ t. AreSums t.counts.items t.sums.items t.total };
+    ghost invariant = { λ t. AreSums t.counts.items t.sums.items t.tops.items t.total };
 }
 
 impl SumTree {
@@ -38,10 +40,11 @@ impl SumTree {
         requires { places ≤ MAX_PLACES }
         ensures { IfOk result (λ t. t ≡ replicate places 0) }
     {
-        let halvings = places.saturating_sub(1);
+        let blocks = blocks_of(places);
         Ok(SumTree {
             counts: zero_counts(alloc, places).map_err(|_| NoMemory)?,
-            sums: zero_sums(alloc, halvings).map_err(|_| NoMemory)?,
+            sums: zero_sums(alloc, blocks).map_err(|_| NoMemory)?,
+            tops: zero_sums(alloc, blocks_of(blocks)).map_err(|_| NoMemory)?,
             total: 0,
         })
     }
@@ -80,11 +83,14 @@ impl SumTree {
         requires { place < length self.old }
         ensures { self.new ≡ slice_set self.old place count }
     {
-        let counts = self.counts.as_slice();
-        let total = self.total - u64::from(counts[place]) + u64::from(count);
-        change(counts, self.sums.as_mut_slice(), place, count);
+        let was = u64::from(self.counts[place]);
+        let is = u64::from(count);
+        let block = place / BLOCK;
+        let top = block / BLOCK;
         self.counts[place] = count;
-        self.total = total;
+        self.sums[block] = self.sums[block] - was + is;
+        self.tops[top] = self.tops[top] - was + is;
+        self.total = self.total - was + is;
     }
 
     /// The place in which the k-th falls, counted from 0 through the places in order, and how far into that place; None exactly
@@ -93,11 +99,12 @@ impl SumTree {
         ensures falls { IfSome result (λ at. FallsAt self.now k at.0 at.1) }
         ensures below { IsSome result ↔ (k < sum self.now) }
     {
-        if k < self.total {
-            Some(place_of(&self.counts, &self.sums, k))
-        } else {
-            None
+        if k >= self.total {
+            return None;
         }
+        let (top, into_top) = fall_in_sums(&self.tops, 0, k);
+        let (block, into_block) = fall_in_sums(&self.sums, BLOCK * top, into_top);
+        Some(fall_in_counts(&self.counts, BLOCK * block, into_block))
     }
 }
 
@@ -109,8 +116,8 @@ fn zero_counts(alloc: Global, places: usize) -> Result<Vec<u32>, AllocError>
 }
 
 // So many sums of 0.
-fn zero_sums(alloc: Global, halvings: usize) -> Result<Vec<u64>, AllocError>
-    ensures { IfOk result (λ v. v.items ≡ replicate halvings 0) }
+fn zero_sums(alloc: Global, count: usize) -> Result<Vec<u64>, AllocError>
+    ensures { IfOk result (λ v. v.items ≡ replicate count 0) }
 {
-    vec![in alloc; 0; halvings]
+    vec![in alloc; 0; count]
 }

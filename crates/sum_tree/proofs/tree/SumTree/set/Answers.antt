@@ -1,16 +1,60 @@
-use Rattle.std.proofs.Common.{◌≡◌, length, sum, ap, arith}
-use Rattle.sum_tree.proofs.Finding.{sum_fits}
+-- A new count changes the sum of its block, the sum of that block's block, and the total.
+use Rattle.std.proofs.Common.{◌<◌, ◌/◌, ◌∙◌, arith, length, subst, sym}
+use Rattle.sum_tree.proofs.Summed.{changed-sums, place-changes, read-at}
 use Rattle.sum_tree.proofs.tree.SumTree.set.Goals as goal
 
-pub change-requires-clause-fits : goal.change-requires-clause-fits
-change-requires-clause-fits c =
-    let same : length c.as_slice-counts.result.now ≡ length c.self.inside.counts.items = ap length c.as_slice-counts.ensures.value in
-    let fits = sum_fits c.as_slice-counts.result.now (omega (arith, c.self.invariant.few)) c.type_inv.counts in
-    omega (arith, fits)
+pub overflow_sub-index : goal.overflow_sub-index
+overflow_sub-index c =
+    let there = subst (λ l. c.args.place < length l) (sym c.self.view_is) c.requires in
+    let h = place-changes _ _ _ _ c.args.place c.args.count c.self.invariant there (omega (arith, c.ranges.count.fits)) in
+    let was = c.from-was.ensures ∙ c.index.ensures ∙ read-at c.self.inside.counts.items c.args.place c.index.result.now there in
+    let is = c.from-is.ensures in
+    let sum = c.index-2.ensures ∙ read-at c.self.inside.sums.items (c.args.place / 16) c.index-2.result.now h.block in
+    omega (arith, h.in_sum, was, sum)
 
-pub overflow_add-total : goal.overflow_add-total
-overflow_add-total c =
-    let same : length c.as_slice-counts.result.now ≡ length c.self.inside.counts.items = ap length c.as_slice-counts.ensures.value in
-    let total : sum c.as_slice-counts.result.now ≡ sum c.self.inside.counts.items = ap (λ xs. sum xs) c.as_slice-counts.ensures.value in
-    let fits = sum_fits c.as_slice-counts.result.now (omega (arith, c.self.invariant.few)) c.type_inv.counts in
-    omega (arith, fits, c.self.invariant.whole)
+pub overflow_add-index : goal.overflow_add-index
+overflow_add-index c =
+    let there = subst (λ l. c.args.place < length l) (sym c.self.view_is) c.requires in
+    let h = place-changes _ _ _ _ c.args.place c.args.count c.self.invariant there (omega (arith, c.ranges.count.fits)) in
+    let was = c.from-was.ensures ∙ c.index.ensures ∙ read-at c.self.inside.counts.items c.args.place c.index.result.now there in
+    let is = c.from-is.ensures in
+    let sum = c.index-2.ensures ∙ read-at c.self.inside.sums.items (c.args.place / 16) c.index-2.result.now h.block in
+    omega (arith, h.sum_fits, h.in_sum, was, is, sum)
+
+pub overflow_sub-index-2 : goal.overflow_sub-index-2
+overflow_sub-index-2 c =
+    let there = subst (λ l. c.args.place < length l) (sym c.self.view_is) c.requires in
+    let h = place-changes _ _ _ _ c.args.place c.args.count c.self.invariant there (omega (arith, c.ranges.count.fits)) in
+    let was = c.from-was.ensures ∙ c.index.ensures ∙ read-at c.self.inside.counts.items c.args.place c.index.result.now there in
+    let is = c.from-is.ensures in
+    let top = c.index-3.ensures ∙ read-at c.self.inside.tops.items (c.args.place / 16 / 16) c.index-3.result.now h.top in
+    omega (arith, h.in_top, was, top)
+
+pub overflow_add-index-2 : goal.overflow_add-index-2
+overflow_add-index-2 c =
+    let there = subst (λ l. c.args.place < length l) (sym c.self.view_is) c.requires in
+    let h = place-changes _ _ _ _ c.args.place c.args.count c.self.invariant there (omega (arith, c.ranges.count.fits)) in
+    let was = c.from-was.ensures ∙ c.index.ensures ∙ read-at c.self.inside.counts.items c.args.place c.index.result.now there in
+    let is = c.from-is.ensures in
+    let top = c.index-3.ensures ∙ read-at c.self.inside.tops.items (c.args.place / 16 / 16) c.index-3.result.now h.top in
+    omega (arith, h.top_fits, h.in_top, was, is, top)
+
+pub overflow_add-self : goal.overflow_add-self
+overflow_add-self c =
+    let there = subst (λ l. c.args.place < length l) (sym c.self.view_is) c.requires in
+    let h = place-changes _ _ _ _ c.args.place c.args.count c.self.invariant there (omega (arith, c.ranges.count.fits)) in
+    let was = c.from-was.ensures ∙ c.index.ensures ∙ read-at c.self.inside.counts.items c.args.place c.index.result.now there in
+    let is = c.from-is.ensures in
+    omega (arith, h.total_fits, h.in_total, was, is)
+
+pub invariant_of-self : goal.invariant_of-self
+invariant_of-self c =
+    let there = subst (λ l. c.args.place < length l) (sym c.self.view_is) c.requires in
+    let h = place-changes _ _ _ _ c.args.place c.args.count c.self.invariant there (omega (arith, c.ranges.count.fits)) in
+    let was = c.from-was.ensures ∙ c.index.ensures ∙ read-at c.self.inside.counts.items c.args.place c.index.result.now there in
+    let is = c.from-is.ensures in
+    let sum = c.index-2.ensures ∙ read-at c.self.inside.sums.items (c.args.place / 16) c.index-2.result.now h.block in
+    let top = c.index-3.ensures ∙ read-at c.self.inside.tops.items (c.args.place / 16 / 16) c.index-3.result.now h.top in
+    let w = c.from-was.result in
+    let changed = changed-sums _ _ _ _ c.args.place w c.args.count c.self.invariant there was (omega (arith, c.ranges.count.fits)) in
+    rw (sum, top, is) changed
