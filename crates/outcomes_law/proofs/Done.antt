@@ -1,5 +1,5 @@
 -- Where a run is done all cores have ended, and so what it shows is an outcome.
-use Rattle.std.proofs.Common.{◌≡◌, true, Option, Some, None, IfSome, nat_lt, subst, arith}
+use Rattle.std.proofs.Common.{◌≡◌, true, Option, Some, None, IfSome, List, nat_lt, subst, arith}
 use Rattle.std.proofs.lemmas.Bool.Decides.{nat_tests}
 use Rattle.image_load.specs.Contents.{started}
 use Rattle.image_load.specs.Start.{Start}
@@ -9,8 +9,9 @@ use Rattle.run_outcomes.specs.Outcomes.{HaveEnded}
 use Rattle.rv_code.specs.Machine.{first_ram, program}
 use Rattle.rv_serial.proofs.Lemmas.{runs_give_the_plain_machine}
 use Rattle.rv_serial.specs.Given.{IsSerial, committed}
-use Rattle.rv_serial.specs.Suiting.{local_at_start, world_at_start}
+use Rattle.rv_serial.specs.Suiting.{AfterRun, local_at_start, world_at_start}
 use Rattle.tcc_base.specs.declared.access.CoreEnd.TheVariants.{Run}
+use Rattle.tcc_maps.specs.Nodes.{Event}
 use Rattle.tcc_program.specs.Plain.{Outcome, Goes, Ended, Halted as HaltedWith, Trapped as TrappedWith}
 use Rattle.tcc_rules.specs.Seen.{IsDone}
 use Rattle.tcc_rules.specs.State.{Phase, Halted}
@@ -36,16 +37,27 @@ done-ended s h all done core lt =
     let there : nat_lt core s.settings.cores ≡ true = grind (arith, nat_tests, lt) in
     rw there (core-ended (h.world.cores core).phase (h.world.cores core).ended (done.halted core lt) (all core))
 
+-- so after every run
+pub done-runs-have-ended : (s : Start) (es : List Event)
+    → AfterRun s es (λ h. IsDone s.settings h.world → HaveEnded s.settings.cores (committed s h))
+done-runs-have-ended s es =
+    go (run s.settings (program s) (world_at_start s) es) (run-fits s.settings (program s) (local_at_start s) (first_ram s) es)
+  where
+    go : (x : Option History) → IfSome x (λ h. AllFit h.world)
+        → IfSome x (λ h. IsDone s.settings h.world → HaveEnded s.settings.cores (committed s h))
+    go None fit = tt
+    go (Some h) fit = done-ended s h fit
+
 pub done-runs-are-outcomes : DoneRunsAreOutcomes
 unfolding started
 done-runs-are-outcomes tell e r stuck es allowed every =
-    go (run s.settings (program s) (world_at_start s) es) (runs_give_the_plain_machine s es allowed)
-    (run-fits s.settings (program s) (local_at_start s) (first_ram s) es)
+    go (run s.settings (program s) (world_at_start s) es) (runs_give_the_plain_machine s es allowed) (done-runs-have-ended s es)
   where
     s : Start
     s = started e.loaded
 
-    go : (x : Option History) → IfSome x (IsSerial s) → IfSome x (λ h. AllFit h.world)
+    go : (x : Option History) → IfSome x (IsSerial s)
+        → IfSome x (λ h. IsDone e.loaded.settings h.world → HaveEnded e.loaded.settings.cores (committed s h))
         → IfSome x (λ h. IsDone e.loaded.settings h.world → HasOutcome tell (table_of e r stuck) (shown s h.commits (committed s h)))
-    go None serial fit = tt
-    go (Some h) serial fit = λ done. reports-are-outcomes tell e r stuck h every serial (done-ended s h fit done)
+    go None serial ended = tt
+    go (Some h) serial ended = λ done. reports-are-outcomes tell e r stuck h every serial (ended done)

@@ -3,4 +3,5 @@ mod BusDone
 mod BusHalts
 mod Done
 mod Halts
+pub mod Lemmas
 mod Reports

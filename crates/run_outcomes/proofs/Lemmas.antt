@@ -1,2 +1,3 @@
--- What other crates may cite: the orders to a state lead there.
+-- What other crates may cite: that a core's next transaction has one number of instructions, and that the orders to a state lead there.
+pub use Rattle.run_outcomes.proofs.Once.{transaction-past}
 pub use Rattle.run_outcomes.proofs.Paths.{orders_to-lead}

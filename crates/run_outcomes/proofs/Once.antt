@@ -54,7 +54,7 @@ none-runs m core (Halt code) = refl
 none-runs m core (Trap code) = refl
 
 -- where k instructions are the transaction, no more of them are one
-transaction-past : (base : ℕ) (p : Program) (m : Plain) (core k n : ℕ) → k < n
+pub transaction-past : (base : ℕ) (p : Program) (m : Plain) (core k n : ℕ) → k < n
     → IsSomeAnd (transaction base p m core k) (λ r. Unit {0}) → transaction base p m core n ≡ None
 unfolding transaction
 transaction-past base p m core k n lt h =
