@@ -1,5 +1,11 @@
 -- The proofs of this crate.
+mod Along
+mod Clear
 mod Compared
 mod Finding
 mod Followed
+mod InTurn
+mod Keeping
+mod Lengths
 mod Runs
+mod Turning

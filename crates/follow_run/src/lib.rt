@@ -1,7 +1,7 @@
 // Runs of the machine with caches and directories whose transactions commit in the order of a list.
 #![tactic(auto)]
 
-ghost use Rattle.follow_run.specs.Laws.{FollowedEnds, FollowedRuns};
+ghost use Rattle.follow_run.specs.Laws.{FollowedEnds, FollowedKeeps, FollowedRuns};
 
 mod agreeing;
 mod following;
@@ -13,4 +13,10 @@ pub use following::follow;
 pub fn a_followed_schedule_is_a_run()
     ensures runs { FollowedRuns }
     ensures ends { FollowedEnds }
+{}
+
+/// A run that follows a list that the plain machine can execute commits the list's transactions, in its order: the same cores, and the same
+/// numbers of instructions. Where the run is done it has committed all of them.
+pub fn the_commits_are_the_lists()
+    ensures { FollowedKeeps }
 {}

@@ -19,7 +19,7 @@ impl System {
     }
 
     /// The k-th useful event, from 0: `Exec` by core, `Evict` by core, set and way, `Deliver` by source, destination and number. `None`
-    /// exactly where there are no more than k. The time goes with the logarithm of the numbers of cores and of links, and with what is
+    /// exactly where there are no more than k. The time goes with the numbers of cores and of links divided by 256, and with what is
     /// in flight on one link.
     pub fn useful_at(&self, k: u64) -> Option<Event>
         requires { self.now.unsent ≡ [] }
