@@ -1,5 +1,5 @@
 -- A count of transactions keeps up with the cores that run.
-use Rattle.std.proofs.Common.{ℕ, zero, suc, ◌+◌, ◌≡◌, ◌<◌, List, refl, ◌∙◌, ap, length, add-one, arith}
+use Rattle.std.proofs.Common.{ℕ, zero, suc, ◌+◌, ◌≡◌, ◌<◌, ◌^◌, ◌-◌, min, List, refl, ◌∙◌, ap, length, add-one, arith}
 use Rattle.run_outcomes.proofs.Reach.{state-kept}
 use Rattle.run_outcomes.specs.Counted.{total, runs, running, all_running, Counts}
 use Rattle.run_outcomes.specs.Explored.{IsGrown, state_at}
@@ -28,9 +28,9 @@ stopped-runs (Trap code) h = refl
 -- one core more
 pub running-next : (s s' : Snapshot) (first before now core : ℕ) → s' ≡ s → Counts before (first + running s core)
     → Counts now (before + runs (core_in s' core).ended) → Counts now (first + running s (core + 1))
-running-next s s' first before now core same old new small =
-    let n : now ≡ before + runs (core_in s' core).ended = new small in
-    let o : before ≡ first + running s core = old (omega (arith, n, small)) in
+running-next s s' first before now core same old new =
+    let n : now ≡ min (before + runs (core_in s' core).ended) (2 ^ 64 - 1) = new in
+    let o : before ≡ min (first + running s core) (2 ^ 64 - 1) = old in
     let t : running s (core + 1) ≡ running s core + runs (core_in s core).ended =
     total-next (λ c. runs (core_in s c).ended) core in
     let r : runs (core_in s' core).ended ≡ runs (core_in s core).ended = ap (λ x. runs (core_in x core).ended) same in
@@ -40,9 +40,9 @@ running-next s s' first before now core same old new small =
 pub states-next : (cores : ℕ) (old new : List Snapshot) (n before now : ℕ) → IsGrown old new → n < length old
     → Counts before (all_running cores old n) → Counts now (before + running (state_at old n) cores)
     → Counts now (all_running cores new (n + 1))
-states-next cores old new n before now g lt was is small =
-    let s : now ≡ before + running (state_at old n) cores = is small in
-    let o : before ≡ all_running cores old n = was (omega (arith, s, small)) in
+states-next cores old new n before now g lt was is =
+    let s : now ≡ min (before + running (state_at old n) cores) (2 ^ 64 - 1) = is in
+    let o : before ≡ min (all_running cores old n) (2 ^ 64 - 1) = was in
     let kept : (k : ℕ) → k < length old → state_at new k ≡ state_at old k =
     λ k below. ap (λ x. state_at x k) g.1 ∙ state-kept old g.0 k below in
     let t : all_running cores new (n + 1) ≡ all_running cores new n + running (state_at new n) cores =

@@ -67,7 +67,7 @@ last-edge l states edges joined k to m is inside same =
 nothing-more : (xs : List Snapshot) → xs ++ [] ≡ xs
 nothing-more xs = grind (arith, common_steps)
 
-placed-grown : (old new : List Snapshot) (s : Snapshot) (limit : ℕ) (place : Place) → IsPlaced old new s limit place → IsGrown old new
+pub placed-grown : (old new : List Snapshot) (s : Snapshot) (limit : ℕ) (place : Place) → IsPlaced old new s limit place → IsGrown old new
 placed-grown old new s limit (Known number) h = ([], h.0 ∙ sym (nothing-more old))
 placed-grown old new s limit (New number) h = (s ∷ [], h.0)
 placed-grown old new s limit Full h = ([], h.0 ∙ sym (nothing-more old))

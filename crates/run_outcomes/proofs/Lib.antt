@@ -13,7 +13,6 @@ pub mod Leads
 pub mod Lemmas
 pub mod Marking
 pub mod Normal
-pub mod Noted
 pub mod Once
 pub mod Paths
 pub mod Reach
@@ -21,5 +20,6 @@ pub mod Serially
 pub mod Tallies
 pub mod Telling
 pub mod Told
+pub mod Tried
 pub mod Untouched
 pub mod Viewed

@@ -1,5 +1,5 @@
 -- A core's next transaction has one number of instructions.
-use Rattle.std.proofs.Common.{ℕ, zero, suc, ◌≡◌, ◌+◌, ◌-◌, ◌<◌, inl, inr, Option, Some, None, IfSome, IsSomeAnd}
+use Rattle.std.proofs.Common.{ℕ, zero, suc, ◌≡◌, ◌+◌, ◌-◌, ◌<◌, ◌≤◌, inl, inr, Option, Some, None, IfSome, IsSomeAnd}
 use Rattle.std.proofs.Common.{refl, sym, ◌∙◌, add-zero, arith, subst}
 use Rattle.std.proofs.Math.Nat.{add-suc}
 use Rattle.std.proofs.lemmas.Bool.{cases_lt}
@@ -61,6 +61,29 @@ transaction-past base p m core k n lt h =
     let c = m.cores core in
     rw (steps-past base p (begun c.local m.ram) k n lt
     (runs-ended m core c.ended (steps base p k (begun c.local m.ram)) h)) (none-runs m core c.ended)
+
+-- where so many instructions don't end the core's transaction, no fewer do
+pub not-yet : (base : ℕ) (p : Program) (m : Plain) (core n longest : ℕ) → n ≤ longest
+    → IsSomeAnd (steps base p longest (begun (m.cores core).local m.ram)) (λ a. a.outcome ≡ Goes)
+    → IsSomeAnd (transaction base p m core n) (λ r. Unit {0}) → ⊥
+unfolding transaction
+not-yet base p m core n longest le goes h =
+    let c = m.cores core in
+    let start = begun c.local m.ram in
+    let ended = runs-ended m core c.ended (steps base p n start) h in
+    elim (cases_lt n longest) [
+      | inl lt ↦ gone (steps base p longest start) (steps-past base p start n longest lt ended) goes
+      | inr ge ↦
+          let e : n ≡ longest = omega (arith, le, ge) in
+          both (steps base p longest start) (subst (λ j. IsSomeAnd (steps base p j start) (λ a. HasEnded a.outcome)) e ended) goes
+    ]
+  where
+    gone : (x : Option Attempt) → x ≡ None → IsSomeAnd x (λ a. a.outcome ≡ Goes) → ⊥
+    gone x e h' = subst (λ y. IsSomeAnd y (λ a. a.outcome ≡ Goes)) e h'
+
+    both : (x : Option Attempt) → IsSomeAnd x (λ a. HasEnded a.outcome) → IsSomeAnd x (λ a. a.outcome ≡ Goes) → ⊥
+    both None e g = absurd e
+    both (Some a) e g = subst HasEnded g e
 
 -- what holds of the machine after one transaction of the core holds after whatever is its next one
 pub by-one : (base : ℕ) (p : Program) (m : Plain) (core n : ℕ) (r : Plain × Attempt) (Q : Plain → Type 0)

@@ -1,5 +1,5 @@
 -- How many transactions an exploration has executed: one of each core that runs, in each state.
-use Rattle.std.specs.Prelude.{ℕ, zero, suc, ◌+◌, ◌-◌, ◌^◌, ◌≡◌, ◌<◌, List}
+use Rattle.std.specs.Prelude.{ℕ, zero, suc, ◌+◌, ◌-◌, ◌^◌, ◌≡◌, List, min}
 use Rattle.run_outcomes.specs.Explored.{state_at}
 use Rattle.run_outcomes.specs.States.{core_in}
 use Rattle.run_outcomes.specs.declared.states.Snapshot.{Snapshot}
@@ -25,6 +25,6 @@ running s cores = total (λ core. runs (core_in s core).ended) cores
 abbrev pub all_running : (cores : ℕ) → List Snapshot → (count : ℕ) → ℕ
 all_running cores states count = total (λ k. running (state_at states k) cores) count
 
--- a count is right unless it has come to the largest number, where it stays
+-- a count of 64 bits is exact, or has come to the largest number, where it stays
 abbrev pub Counts : (count exact : ℕ) → Type 0
-Counts count exact = count < 2 ^ 64 - 1 → count ≡ exact
+Counts count exact = count ≡ min exact (2 ^ 64 - 1)

@@ -1,5 +1,5 @@
 -- What a search through the states of a loaded program knows.
-use Rattle.std.specs.Prelude.{ℕ, ◌≡◌, ◌<◌, ◌/◌, ◌⊎◌, List, [], ◌∷◌, ◌++◌, All, IsSomeAnd, Option, Some, None}
+use Rattle.std.specs.Prelude.{ℕ, ◌≡◌, ◌<◌, ◌/◌, ◌⊎◌, List, [], ◌∷◌, ◌++◌, All, IsSomeAnd}
 use Rattle.std.specs.Prelude.{length, map, slice_index_or}
 use Rattle.image_load.specs.Contents.{Contents, started}
 use Rattle.run_outcomes.specs.Changes.{AreInside, AreNormal}
@@ -99,8 +99,3 @@ abbrev pub IsEndless : Contents → List Snapshot → (longest : ℕ) → Pair �
 IsEndless l states longest pair =
     (pair.state < length states) × (pair.core.0 < l.settings.cores)
     × IsNext l (core_in (state_at states pair.state) pair.core.0) (state_at states pair.state).changes longest Endless
-
--- what is noted of transactions that don't end: how many there are, and of one of them the state and the core
-abbrev pub IsEndlessNoted : Contents → List Snapshot → (longest endless : ℕ) → Option Pair → Type 0
-IsEndlessNoted l states longest endless None = endless ≡ 0
-IsEndlessNoted l states longest endless (Some pair) = (0 < endless) × IsEndless l states longest pair

@@ -13,4 +13,5 @@ pub mod Results
 pub mod Serially
 pub mod States
 pub mod Stuck
+pub mod Tried
 pub mod Ways

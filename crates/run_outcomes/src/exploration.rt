@@ -7,7 +7,8 @@ ghost use Rattle.rv_plain.specs.PlainState.{order_of};
 ghost use Rattle.tcc_program.specs.Plain.{serial};
 ghost use Rattle.run_outcomes.specs.Counted.{Counts, all_running};
 ghost use Rattle.run_outcomes.specs.Edges.{AreAllEdges, AreEdges};
-ghost use Rattle.run_outcomes.specs.Explored.{AreFound, AreLed, AreOnce, AreAllStates, IsEndlessNoted, IsOpen, state_at, way_at};
+ghost use Rattle.run_outcomes.specs.Explored.{AreFound, AreLed, AreOnce, AreAllStates, IsOpen, state_at, way_at};
+ghost use Rattle.run_outcomes.specs.Tried.{HasTried};
 ghost use Rattle.run_outcomes.specs.Ways.{LeadFrom, orders_from, orders_to};
 ghost use Rattle.run_outcomes.specs.States.{machine_of};
 
@@ -66,6 +67,9 @@ impl Model for Exploration {
 /// leads to each of them, and none is found twice. It is false only where a transaction was noted as endless, or where `limits.states`
 /// states were found and some serial execution ends in a further one. The time is that of the instructions, and for each transaction of
 /// what the state holds.
+///
+/// What is counted and noted is exact also where it is false: the states are taken by their numbers, in each the cores by theirs, up to
+/// the first transaction that leads to a state for which there is no room.
 pub fn explore(alloc: Global, loaded: &Loaded, limits: Limits) -> Result<Exploration, NoMemory>
     requires { 1 ≤ limits.states }
     ensures loaded { IfOk result (λ e. e.loaded ≡ loaded.now) }
@@ -77,7 +81,7 @@ pub fn explore(alloc: Global, loaded: &Loaded, limits: Limits) -> Result<Explora
     ensures transactions { IfOk result (λ e. IsTrue e.done → Counts e.transactions
         (all_running e.loaded.settings.cores e.states (length e.states))) }
     ensures open { IfOk result (λ e. IsFalse e.done → IsOpen e.loaded e.states limits.states e.endless) }
-    ensures endless { IfOk result (λ e. IsEndlessNoted e.loaded e.states limits.longest e.endless e.endless_at) }
+    ensures tried { IfOk result (λ e. HasTried limits e) }
 {
     let mut search = Search::new(alloc, loaded)?;
     let full = search.go(limits)?;

@@ -1,14 +1,16 @@
 // The search: breadth first through the states of the plain machine, each transaction of each core from each of them.
-ghost use Rattle.std.specs.Prelude.{◌≡◌, ℕ, ◌+◌, ◌<◌, ◌≤◌, ◌/◌, IfOk, OnOk, IfSome, IfNone, IsFalse, IsTrue, Some, length, slice_index_or};
+ghost use Rattle.std.specs.Prelude.{◌≡◌, ℕ, ◌+◌, ◌*◌, ◌<◌, ◌≤◌, ◌/◌, IfOk, OnOk, IfSome, IfNone, IsFalse, IsTrue, Some, None};
+ghost use Rattle.std.specs.Prelude.{length, slice_index_or};
 ghost use Rattle.image_load.specs.Contents.{started};
 ghost use Rattle.rv_plain.specs.Cores.{core_of, no_state};
 ghost use Rattle.rv_plain.specs.Machine.{plain_start, start_core};
 ghost use Rattle.run_outcomes.specs.Changes.{AreInside};
 ghost use Rattle.run_outcomes.specs.Next.{IsNext};
 ghost use Rattle.run_outcomes.specs.Counted.{Counts, all_running, running, runs};
-ghost use Rattle.run_outcomes.specs.Explored.{AreFound, AreLed, AreAllStates, HasFurther, IsGrown, IsNoted, IsEndlessNoted, state_at};
+ghost use Rattle.run_outcomes.specs.Explored.{AreFound, AreLed, AreAllStates, HasFurther, IsGrown, IsNoted, state_at};
 ghost use Rattle.run_outcomes.specs.Edges.{AreAllEdges, AreEdges, IsEdgedAt, IsJoined};
 ghost use Rattle.run_outcomes.specs.States.{core_in};
+ghost use Rattle.run_outcomes.specs.Tried.{AreTried, AreTriedTo, out_if};
 
 use crate::next::{Executor, Next};
 use crate::states::{Place, Snapshot, Table, next_state};
@@ -145,7 +147,8 @@ impl Search {
         ensures edges { IfOk result (λ s. AreEdges s.executor s.table s.edges) }
         ensures one { IfOk result (λ s. length s.table ≡ 1) }
         ensures none { IfOk result (λ s. s.transactions ≡ 0) }
-        ensures noted { IfOk result (λ s. (longest : ℕ) → IsEndlessNoted s.executor s.table longest s.endless s.endless_at) }
+        ensures tried { IfOk result (λ s. (longest : ℕ)
+            → AreTried s.executor s.table longest 0 None s.transactions s.endless s.endless_at) }
     {
         let executor = Executor::new(alloc, loaded)?;
         let cores = first_cores(alloc, loaded)?;
@@ -177,14 +180,16 @@ impl Search {
         requires found { AreFound self.old.executor self.old.table }
         requires led { AreLed self.old.executor self.old.table self.old.ways }
         requires edges { AreEdges self.old.executor self.old.table self.old.edges }
-        requires noted { IsEndlessNoted self.old.executor self.old.table limits.longest self.old.endless self.old.endless_at }
+        requires tried { AreTried self.old.executor self.old.table limits.longest (number * self.old.executor.settings.cores + core.0) None
+            self.old.transactions self.old.endless self.old.endless_at }
         requires number { number < length self.old.table }
         requires core { core.0 < self.old.executor.settings.cores }
         ensures found { OnOk result (AreFound self.new.executor self.new.table) }
         ensures led { OnOk result (AreLed self.new.executor self.new.table self.new.ways) }
         ensures edges { OnOk result (AreEdges self.new.executor self.new.table self.new.edges) }
-        ensures noted { OnOk result (IsEndlessNoted self.new.executor self.new.table limits.longest self.new.endless
-            self.new.endless_at) }
+        ensures tried { IfOk result (λ full. AreTried self.new.executor self.new.table limits.longest
+            (number * self.old.executor.settings.cores + core.0 + 1) (out_if full (number * self.old.executor.settings.cores + core.0))
+            self.new.transactions self.new.endless self.new.endless_at) }
         ensures loaded { self.new.executor ≡ self.old.executor }
         ensures grown { OnOk result (IsGrown self.old.table self.new.table) }
         ensures joined { OnOk result (IsGrown self.old.edges self.new.edges) }
@@ -235,13 +240,14 @@ impl Search {
         requires found { AreFound self.old.executor self.old.table }
         requires led { AreLed self.old.executor self.old.table self.old.ways }
         requires edges { AreEdges self.old.executor self.old.table self.old.edges }
-        requires noted { IsEndlessNoted self.old.executor self.old.table limits.longest self.old.endless self.old.endless_at }
+        requires tried { AreTried self.old.executor self.old.table limits.longest (number * self.old.executor.settings.cores) None
+            self.old.transactions self.old.endless self.old.endless_at }
         requires number { number < length self.old.table }
         ensures found { OnOk result (AreFound self.new.executor self.new.table) }
         ensures led { OnOk result (AreLed self.new.executor self.new.table self.new.ways) }
         ensures edges { OnOk result (AreEdges self.new.executor self.new.table self.new.edges) }
-        ensures noted { OnOk result (IsEndlessNoted self.new.executor self.new.table limits.longest self.new.endless
-            self.new.endless_at) }
+        ensures tried { IfOk result (λ full. AreTriedTo self.new.executor self.new.table limits.longest
+            ((number + 1) * self.old.executor.settings.cores) full self.new.transactions self.new.endless self.new.endless_at) }
         ensures loaded { self.new.executor ≡ self.old.executor }
         ensures grown { OnOk result (IsGrown self.old.table self.new.table) }
         ensures joined { OnOk result (IsGrown self.old.edges self.new.edges) }
@@ -269,14 +275,15 @@ impl Search {
         requires found { AreFound self.old.executor self.old.table }
         requires led { AreLed self.old.executor self.old.table self.old.ways }
         requires edges { AreEdges self.old.executor self.old.table self.old.edges }
-        requires noted { IsEndlessNoted self.old.executor self.old.table limits.longest self.old.endless self.old.endless_at }
+        requires tried { AreTried self.old.executor self.old.table limits.longest 0 None
+            self.old.transactions self.old.endless self.old.endless_at }
         requires few { length self.old.table ≤ limits.states }
         requires none { self.old.transactions ≡ 0 }
         ensures found { OnOk result (AreFound self.new.executor self.new.table) }
         ensures led { OnOk result (AreLed self.new.executor self.new.table self.new.ways) }
         ensures edges { OnOk result (AreEdges self.new.executor self.new.table self.new.edges) }
-        ensures noted { OnOk result (IsEndlessNoted self.new.executor self.new.table limits.longest self.new.endless
-            self.new.endless_at) }
+        ensures tried { IfOk result (λ full. AreTriedTo self.new.executor self.new.table limits.longest
+            (length self.new.table * self.new.executor.settings.cores) full self.new.transactions self.new.endless self.new.endless_at) }
         ensures loaded { self.new.executor ≡ self.old.executor }
         ensures few { OnOk result (length self.new.table ≤ limits.states) }
         ensures all { IfOk result (λ full. IsFalse full → self.new.endless ≡ 0 → AreAllStates self.new.executor self.new.table) }

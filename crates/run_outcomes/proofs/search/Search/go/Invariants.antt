@@ -1,7 +1,8 @@
-use Rattle.std.proofs.Common.{◌≡◌, ℕ, ◌<◌, ◌≤◌, ◌-◌, length}
+use Rattle.std.proofs.Common.{◌≡◌, ℕ, ◌*◌, ◌<◌, ◌≤◌, ◌-◌, None, length}
 use Rattle.run_outcomes.specs.Counted.{Counts, all_running}
 use Rattle.run_outcomes.specs.Edges.{AreEdges, IsEdgedAt}
-use Rattle.run_outcomes.specs.Explored.{AreFound, AreLed, IsEndlessNoted}
+use Rattle.run_outcomes.specs.Explored.{AreFound, AreLed}
+use Rattle.run_outcomes.specs.Tried.{AreTried}
 use Rattle.run_outcomes.proofs.search.Search.go.Given as goal
 
 abbrev pub invariant-loop-number : goal.invariant-loop-number
@@ -13,7 +14,8 @@ invariant-loop-number l =
     × (l.self.endless ≡ 0 → (k : ℕ) → k < l.number → (core : ℕ)
     → IsEdgedAt l.self.executor l.self.table l.self.edges k core)
     × AreLed l.self.executor l.self.table l.self.ways
-    × IsEndlessNoted l.self.executor l.self.table l.limits.longest l.self.endless l.self.endless_at
+    × AreTried l.self.executor l.self.table l.limits.longest (l.number * l.self.executor.settings.cores) None l.self.transactions
+    l.self.endless l.self.endless_at
     × (l.self.endless ≡ 0 → Counts l.self.transactions (all_running l.self.executor.settings.cores l.self.table l.number))
     × AreEdges l.self.executor l.self.table l.self.edges
 
