@@ -7,12 +7,13 @@ use Rattle.outcomes_text.specs.Table.{table_of, table_text}
 use Rattle.outcomes_text.specs.declared.writing.Broken.{Broken}
 use Rattle.outcomes_text.specs.declared.writing.Broken.TheVariants as broken
 use Rattle.run_outcomes.specs.Counted.{Counts, all_running}
-use Rattle.run_outcomes.specs.Explored.{AreFound, AreLed, IsEndlessNoted, IsOpen}
+use Rattle.run_outcomes.specs.Explored.{AreFound, AreLed, IsOpen}
 use Rattle.run_outcomes.specs.HowMany.{HowMany, IsFirst}
 use Rattle.run_outcomes.specs.Outcomes.{HasEveryOutcome}
 use Rattle.run_outcomes.specs.Results.{AreApart, AreCounted, AreEnds, AreLeast, IsEnd, IsTold}
 use Rattle.run_outcomes.specs.Explored.{state_at}
 use Rattle.run_outcomes.specs.Stuck.{CannotEnd}
+use Rattle.run_outcomes.specs.Tried.{HasTried}
 use Rattle.run_outcomes.specs.Ways.{Explored}
 use Rattle.run_outcomes.specs.declared.outcomes.Results.{Results}
 use Rattle.run_outcomes.specs.declared.outcomes.Tell.{Tell}
@@ -24,12 +25,13 @@ use Rattle.tcc_cli.specs.declared.refusal.Refusal.TheVariants as why
 
 -- The states that were found, each once, and reached by the transactions that lead to it, are no more than the limit. Where the search
 -- is done each serial execution of the program ends in one of them; where it isn't, a transaction didn't end or there is a further state.
+-- How many transactions ended and how many didn't is exact in both cases, and so is which was the first that didn't.
 pub record AreSearched (limits : Limits) (e : Explored) : Type 0 where
   pub found : AreFound e.loaded e.states
   pub led : AreLed e.loaded e.states e.ways
   pub few : length e.states ≤ limits.states
+  pub tried : HasTried limits e
   pub transactions : IsTrue e.done → Counts e.transactions (all_running e.loaded.settings.cores e.states (length e.states))
-  pub endless : IsEndlessNoted e.loaded e.states limits.longest e.endless e.endless_at
   pub unfinished : IsFalse e.done → IsOpen e.loaded e.states limits.states e.endless
 
 -- The results among these states: those in which all cores have ended, no two that tell the same, each by the first state that tells it
