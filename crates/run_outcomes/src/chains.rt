@@ -1,5 +1,5 @@
 // Numbers that are found by their keys, in constant time where few have the same key.
-ghost use Rattle.std.specs.Prelude.{◌≡◌, ℕ, ◌<◌, [], ◌∷◌, ◌++◌, List as Seq, IfSome, OnOk, OnErr, length, slice_index};
+ghost use Rattle.std.specs.Prelude.{◌≡◌, ℕ, ◌<◌, [], ◌∷◌, ◌++◌, List as Seq, IfOk, IfSome, OnOk, OnErr, length, slice_index};
 ghost use Rattle.run_outcomes.specs.Chains.{AreChained, last_with};
 
 use indexmap::IndexMap;
@@ -10,8 +10,18 @@ use tcc_base::{List, NoMemory};
 /// the number itself where there is none.
 #[derive(Debug, Drop)]
 pub(crate) struct Chains {
-    newest: IndexMap<u64, usize>,
-    older: List<usize>,
+    newest: IndexMap<u64, u32>,
+    older: List<u32>,
+}
+
+/// A number in 32 bits. There are no more states and edges than those count.
+pub(crate) fn small(number: usize) -> Result<u32, NoMemory>
+    ensures { IfOk result (λ small. small ≡ number) }
+{
+    if number > u32::MAX as usize {
+        return Err(NoMemory);
+    }
+    Ok(number as u32)
 }
 
 impl Chains {
@@ -36,7 +46,8 @@ impl Chains {
     pub(crate) fn newest(&self, key: u64) -> Option<usize>
         ensures { (keys : Seq ℕ) → AreChained keys self.now → result ≡ last_with keys key (length keys) }
     {
-        self.newest.get(&key).copied()
+        let number = *self.newest.get(&key)?;
+        Some(number as usize)
     }
 
     /// The next older number with the key of this one. Constant time.
@@ -45,7 +56,7 @@ impl Chains {
             → result ≡ last_with keys (slice_index keys number) number }
         ensures smaller { IfSome result (λ older. older < number) }
     {
-        let older = *self.older.items.get(number)?;
+        let older = *self.older.items.get(number)? as usize;
         if older < number { Some(older) } else { None }
     }
 
@@ -55,7 +66,8 @@ impl Chains {
         ensures unchanged { OnErr result ((keys : Seq ℕ) → AreChained keys self.old → AreChained keys self.new) }
     {
         let number = self.len();
-        let older = self.newest(key).unwrap_or(number);
+        let older = small(self.newest(key).unwrap_or(number))?;
+        let number = small(number)?;
         self.older.push(older)?;
         match self.newest.insert(key, number) {
             Ok(_) => Ok(()),

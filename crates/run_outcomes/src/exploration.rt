@@ -14,7 +14,7 @@ ghost use Rattle.run_outcomes.specs.States.{machine_of};
 
 use crate::next::Executor;
 use crate::search::{Edge, Limits, Pair, Search, Way};
-use crate::states::{Snapshot, Table};
+use crate::states::{Snapshot, state_in};
 use image_load::Loaded;
 use rv_plain::Order;
 use std::alloc::Global;
@@ -26,7 +26,7 @@ use tcc_base::{List, NoMemory, Tid};
 pub struct Exploration {
     alloc: Global,
     executor: Executor,
-    table: Table,
+    states: List<Snapshot>,
     ways: List<Way>,
     edges: List<Edge>,
     transactions: u64,
@@ -45,7 +45,7 @@ impl Model for Exploration {
 
     ghost view = { λ e. record {
       loaded = e.executor;
-      states = e.table;
+      states = e.states;
       ways = e.ways;
       edges = e.edges;
       transactions = e.transactions;
@@ -54,9 +54,9 @@ impl Model for Exploration {
       done = e.done;
     } };
 
-    ghost invariant = { λ e. AreFound e.executor e.table × AreLed e.executor e.table e.ways
-        × (IsTrue e.done → AreAllStates e.executor e.table) × AreEdges e.executor e.table e.edges
-        × (IsTrue e.done → AreAllEdges e.executor e.table e.edges) };
+    ghost invariant = { λ e. AreFound e.executor e.states × AreLed e.executor e.states e.ways
+        × (IsTrue e.done → AreAllStates e.executor e.states) × AreEdges e.executor e.states e.edges
+        × (IsTrue e.done → AreAllEdges e.executor e.states e.edges) };
 }
 
 /// Executes the next transaction of each core from each state that it finds, breadth first from the program's start, until there is no
@@ -89,7 +89,7 @@ pub fn explore(alloc: Global, loaded: &Loaded, limits: Limits) -> Result<Explora
     Ok(Exploration {
         alloc,
         executor: search.executor,
-        table: search.table,
+        states: search.table.into_states(),
         ways: search.ways,
         edges: search.edges,
         transactions: search.transactions,
@@ -113,7 +113,7 @@ impl Exploration {
     pub fn len(&self) -> usize
         ensures { result ≡ length self.now.states }
     {
-        self.table.len()
+        self.states.items.len()
     }
 
     /// The state of that number, from 0, in the order in which they were found. Constant time.
@@ -121,7 +121,7 @@ impl Exploration {
         requires { number < length self.now.states }
         ensures { result.now ≡ state_at self.now.states number }
     {
-        self.table.state(number)
+        state_in(&self.states.items, number)
     }
 
     /// From which state a transaction leads to which: where all states were found, of each core that runs, in each state.
@@ -189,7 +189,7 @@ fn steps_back(alloc: Global, ways: &List<Way>, number: usize) -> Result<List<Way
     while at > 0 {
         let way = way_to(ways, at);
         back.push(way)?;
-        at = way.from;
+        at = way.from as usize;
     }
     Ok(back)
 }

@@ -12,6 +12,7 @@ ghost use Rattle.run_outcomes.specs.Edges.{AreAllEdges, AreEdges, IsEdgedAt, IsJ
 ghost use Rattle.run_outcomes.specs.States.{core_in};
 ghost use Rattle.run_outcomes.specs.Tried.{AreTried, AreTriedTo, out_if};
 
+use crate::chains::small;
 use crate::next::{Executor, Next};
 use crate::states::{Place, Snapshot, Table, next_state};
 use image_load::Loaded;
@@ -32,7 +33,7 @@ pub struct Limits {
 /// The transaction by which a state was found: from which state, of which core, and of how many instructions.
 #[derive(Clone, Copy, Debug, PartialEq, Eq)]
 pub(crate) struct Way {
-    pub(crate) from: usize,
+    pub(crate) from: u32,
     pub(crate) core: CoreId,
     pub(crate) n: u32,
 }
@@ -40,8 +41,8 @@ pub(crate) struct Way {
 /// A transaction leads from the one state to the other, each by its number.
 #[derive(Clone, Copy, Debug, PartialEq, Eq)]
 pub(crate) struct Edge {
-    pub(crate) from: usize,
-    pub(crate) to: usize,
+    pub(crate) from: u32,
+    pub(crate) to: u32,
 }
 
 /// A state, by its number, and one of its cores.
@@ -107,21 +108,30 @@ fn next_in(
     )
 }
 
-/// Notes the edge to a state, and the way to it where it is a new one.
+/// Notes the edge from the state of this number to another one, and the way to that where it is new.
 fn note(
     ways: &mut List<Way>,
     edges: &mut List<Edge>,
     place: Place,
-    way: Way,
+    number: usize,
+    core: CoreId,
+    n: u32,
 ) -> Result<(), NoMemory>
-    ensures ways { OnOk result (IsNoted ways.old ways.new place way) }
-    ensures edges { OnOk result (IsJoined edges.old edges.new place way.from) }
+    ensures ways { OnOk result (IsNoted ways.old ways.new place (record { from = number; core = core; n = n })) }
+    ensures edges { OnOk result (IsJoined edges.old edges.new place number) }
 {
+    let from = small(number)?;
     match place {
-        Place::Known(to) => edges.push(Edge { from: way.from, to }),
+        Place::Known(to) => edges.push(Edge {
+            from,
+            to: small(to)?,
+        }),
         Place::New(to) => {
-            ways.push(way)?;
-            edges.push(Edge { from: way.from, to })
+            ways.push(Way { from, core, n })?;
+            edges.push(Edge {
+                from,
+                to: small(to)?,
+            })
         }
         Place::Full => Ok(()),
     }
@@ -223,12 +233,7 @@ impl Search {
                 self.transactions = self.transactions.saturating_add(1);
                 let left = next_state(self.alloc, state, core, after, changes)?;
                 let place = self.table.add(left, limits.states)?;
-                let way = Way {
-                    from: number,
-                    core,
-                    n,
-                };
-                note(&mut self.ways, &mut self.edges, place, way)?;
+                note(&mut self.ways, &mut self.edges, place, number, core, n)?;
                 Ok(place == Place::Full)
             }
         }

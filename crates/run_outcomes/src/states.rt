@@ -113,7 +113,7 @@ pub(crate) fn is_same(a: &Snapshot, b: &Snapshot) -> bool
         && are_same_changes(&a.changes.items, &b.changes.items)
 }
 
-fn state_in(states: &[Snapshot], number: usize) -> &Snapshot
+pub(crate) fn state_in(states: &[Snapshot], number: usize) -> &Snapshot
     requires { number < length states.now }
     ensures { result.now ≡ state_at states.now number }
 {
@@ -189,6 +189,13 @@ impl Table {
                 Err(e)
             }
         }
+    }
+
+    /// The states by themselves, without the memory that finds them.
+    pub(crate) fn into_states(self) -> List<Snapshot>
+        ensures { result ≡ self }
+    {
+        self.states
     }
 
     pub(crate) fn len(&self) -> usize

@@ -87,7 +87,7 @@ fn source_of(edges: &[Edge], i: usize) -> usize
     requires { i < length edges.now }
     ensures { result ≡ (edge_at edges.now i).from }
 {
-    edges[i].from
+    edges[i].from as usize
 }
 
 /// Marks the states from which an edge leads to this one. Takes time in these edges.
