@@ -1,0 +1,3 @@
+-- Proofs.
+mod Facts
+mod Outcomes
