@@ -1,3 +1,6 @@
 -- Proofs.
 mod Facts
 mod Outcomes
+mod Nodes
+mod Links
+mod Grown
