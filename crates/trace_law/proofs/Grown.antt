@@ -72,7 +72,7 @@ new-part w v a d g =
 
 -- ---- the numbers that are told
 
-numbers-append : (s d : Node) (fs gs : List Fact) → numbers_in s d (fs ++ gs) ≡ numbers_in s d fs ++ numbers_in s d gs
+pub numbers-append : (s d : Node) (fs gs : List Fact) → numbers_in s d (fs ++ gs) ≡ numbers_in s d fs ++ numbers_in s d gs
 unfolding numbers_in
 numbers-append s d [] gs = refl
 numbers-append s d (f ∷ fs) gs =

@@ -4,3 +4,4 @@ mod Outcomes
 mod Nodes
 mod Links
 mod Grown
+mod Events
