@@ -5,3 +5,4 @@ mod Nodes
 mod Links
 mod Grown
 mod Events
+mod Numbered
