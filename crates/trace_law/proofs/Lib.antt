@@ -6,3 +6,5 @@ mod Links
 mod Grown
 mod Events
 mod Numbered
+mod WasSent
+mod Consumed
