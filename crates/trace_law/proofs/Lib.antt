@@ -8,3 +8,4 @@ mod Events
 mod Numbered
 mod WasSent
 mod Consumed
+mod Committed
