@@ -9,3 +9,4 @@ mod Numbered
 mod WasSent
 mod Consumed
 mod Committed
+mod Words
