@@ -10,3 +10,4 @@ mod WasSent
 mod Consumed
 mod Committed
 mod Words
+mod Scheduled

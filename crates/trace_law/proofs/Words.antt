@@ -99,7 +99,7 @@ free-committed : (line mask tid : ℕ) → free (committed_words line mask tid) 
 unfolding committed_words field
 free-committed line mask tid = simp (free-append, free-decimal)
 
-free-node : (n : Node) → free (node_word (shown_node_of n)) ≡ true
+pub free-node : (n : Node) → free (node_word (shown_node_of n)) ≡ true
 unfolding node_word
 free-node (Core c) = free-decimal c
 free-node (Dir d) = free-decimal d
