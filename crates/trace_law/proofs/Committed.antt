@@ -1,7 +1,6 @@
 -- After each run the commits that are told, put in by rising TID, are the commits of the run.
-use Rattle.std.proofs.Common.{◌≡◌, ℕ, Bool, true, false, List, [], ◌∷◌, ◌++◌, map, Option, Some, None, IfSome, nat_lt, if◌then◌else◌}
+use Rattle.std.proofs.Common.{◌≡◌, Bool, true, false, List, [], ◌∷◌, ◌++◌, map, Option, Some, None, IfSome, nat_lt, if◌then◌else◌}
 use Rattle.std.proofs.Common.{refl, sym, ap, ◌∙◌}
-use Rattle.std.proofs.lemmas.List.{append-nil, append_assoc}
 use Rattle.tcc_base.specs.declared.access.Commit.{Commit as Noted}
 use Rattle.tcc_maps.specs.Nodes.{Event}
 use Rattle.tcc_maps.specs.Shape.{Shape}
@@ -9,7 +8,7 @@ use Rattle.tcc_program.specs.Program.{Program}
 use Rattle.tcc_rules.specs.Step.{History, Stepped, insert_commit, and_noted, and_then, next_history, recorded, run, run_from, step}
 use Rattle.watch.specs.Facts.{Fact}
 use Rattle.watch.specs.Happened.{facts_of, happened}
-use Rattle.trace_law.specs.Commits.{CommitLines, CommitTold, as_told, commits_in, insert, with_inserted, by_tid}
+use Rattle.trace_law.specs.Commits.{CommitLines, CommitTold, as_told, commits_in, insert, with_inserted}
 use Rattle.trace_law.specs.Told.{if_enabled, told, facts_in, begun}
 use Rattle.trace_law.proofs.Events.{noted, commits-append, event-commits}
 use Rattle.trace_law.proofs.Outcomes.{Happens, step-outcome}

@@ -1,26 +1,26 @@
 -- After each run one event consumed a message that was sent and isn't in flight, and none another.
-use Rattle.std.proofs.Common.{◌≡◌, ◌==◌, ◌+◌, ℕ, Bool, true, false, not, List, [], ◌∷◌, ◌++◌, Option, Some, None, IfSome, ◌&&◌}
-use Rattle.std.proofs.Common.{is_some, nat_lt, if◌then◌else◌, cond, length, refl, sym, ap, subst, ◌∙◌, arith}
-use Rattle.std.specs.List.{count_by, list_any}
+use Rattle.std.proofs.Common.{◌≡◌, ◌==◌, ◌+◌, ℕ, Bool, true, false, List, [], ◌∷◌, ◌++◌, Option, Some, None, IfSome, ◌&&◌}
+use Rattle.std.proofs.Common.{if◌then◌else◌, cond, refl, sym, ap, subst, ◌∙◌, arith}
+use Rattle.std.specs.List.{count_by}
 use Rattle.std.specs.Prelude.{slice_set, slice_index_or}
 use Rattle.std.proofs.lemmas.Bool.Decides.{nat_tests}
 use Rattle.std.proofs.lemmas.List.Sums.{sum_by-cons}
 use Rattle.tcc_maps.specs.Nodes.{Node, Core, Msg, Event, Exec, Evict, Deliver, node_eq}
 use Rattle.tcc_maps.specs.Shape.{Shape}
 use Rattle.tcc_program.specs.Program.{Program}
-use Rattle.tcc_rules.specs.Links.{in_flight, sent_all, sending, taking}
+use Rattle.tcc_rules.specs.Links.{in_flight, sent_all, sending}
 use Rattle.tcc_rules.specs.Sends.{Sends}
 use Rattle.tcc_rules.specs.State.{Link, World}
 use Rattle.tcc_rules.specs.Step.{History, Stepped, and_noted, and_then, next_history, recorded, run, run_from, step}
 use Rattle.tcc_rules.proofs.Lemmas.{node_eq-eq}
 use Rattle.watch.specs.Facts.{Fact}
 use Rattle.watch.specs.Happened.{acted, facts_of, happened}
-use Rattle.trace_law.specs.Sent.{ConsumedOnce, NothingSent, is_consumed, is_delivery, consumes, is_gone}
+use Rattle.trace_law.specs.Sent.{ConsumedOnce, NothingSent, is_delivery, consumes, is_gone}
 use Rattle.trace_law.specs.Told.{Told, if_enabled, told, begun}
 use Rattle.trace_law.proofs.Events.{consumed_by, event-consumed}
 use Rattle.trace_law.proofs.Grown.{eq-sym}
 use Rattle.trace_law.proofs.Links.{gone_in, gone-sent, gone-set}
-use Rattle.trace_law.proofs.Outcomes.{Alone, Heard, Outcome, Happens, leaves, left, step-outcome}
+use Rattle.trace_law.proofs.Outcomes.{Alone, Outcome, Happens, leaves, left, step-outcome}
 
 -- what is sent isn't gone
 gone-sending : (links : Node → Node → Link) (a : Node) (sends : Sends) (s d : Node) (j : ℕ)
@@ -127,7 +127,8 @@ runs-consumed sh p s d j (e ∷ es) h = go (step sh p h.world e) (step-outcome s
         i = record { world = t.world; commits = and_noted t.noted h.commits }
 
         last : (x : Option History)
-            → IfSome x (λ g. cond (is_gone g.world s d j) 1 0 ≡ count_by (consumes s d j) (told sh p es i) + cond (is_gone t.world s d j) 1 0)
+            → IfSome x (λ g. cond (is_gone g.world s d j) 1 0
+            ≡ count_by (consumes s d j) (told sh p es i) + cond (is_gone t.world s d j) 1 0)
             → IfSome x (λ g. cond (is_gone g.world s d j) 1 0
             ≡ count_by (consumes s d j) (event_told sh p h e t ∷ told sh p es i) + cond (is_gone h.world s d j) 1 0)
         last None q = tt

@@ -1,32 +1,31 @@
 -- All facts of one event: the commits, the numbers and the messages that they tell of.
-use Rattle.std.proofs.Common.{◌≡◌, ◌⊎◌, ℕ, Bool, true, false, List, [], ◌∷◌, ◌++◌, map, Option, Some, None, IfSome, ◌&&◌, ◌||◌, if◌then◌else◌}
-use Rattle.std.proofs.Common.{◌+◌, length, drop, refl, sym, ap, subst, ◌∙◌, inl, inr, arith}
-use Rattle.std.specs.List.{flat_map, Contains, list_any}
+use Rattle.std.proofs.Common.{◌≡◌, ℕ, Bool, true, false, List, [], ◌∷◌, ◌++◌, Option, Some, None, ◌&&◌, ◌||◌, if◌then◌else◌}
+use Rattle.std.proofs.Common.{◌+◌, length, drop, refl, sym, ap, ◌∙◌}
+use Rattle.std.specs.List.{flat_map, list_any}
 use Rattle.std.specs.Prelude.{slice_set, slice_index_or}
-use Rattle.std.proofs.lemmas.Bool.Decides.{nat_tests}
 use Rattle.std.proofs.lemmas.List.{append-nil, append_assoc}
 use Rattle.std.proofs.lemmas.List.Folds.{list_any-append}
 use Rattle.tcc_base.specs.declared.access.Commit.{Commit as Noted}
 use Rattle.tcc_maps.specs.Nodes.{Node, Msg, Event, Exec, Evict, Deliver, node_eq}
 use Rattle.tcc_maps.specs.Shape.{Shape}
 use Rattle.tcc_program.specs.Program.{Program}
-use Rattle.tcc_rules.specs.Links.{in_flight, sent_all, taking}
+use Rattle.tcc_rules.specs.Links.{in_flight}
 use Rattle.tcc_rules.specs.State.{Link, World}
 use Rattle.tcc_rules.specs.Step.{History, Stepped}
 use Rattle.tcc_rules.specs.Useful.{nodes}
-use Rattle.watch.specs.Facts.{Fact, Sent}
+use Rattle.watch.specs.Facts.{Fact}
 use Rattle.watch.specs.Happened.{actor, acted, commit_fact, moved, numbered, sent_to, sent, facts_of}
 use Rattle.trace_law.specs.Commits.{CommitTold, as_told, commit_in, commits_in}
 use Rattle.trace_law.specs.Sent.{numbers_in, is_consumed}
-use Rattle.trace_law.proofs.Facts.{all_plain, plain-commits, plain-numbers, plain-consumed, heard_in, all_heard, plain-heard, moved-plain}
+use Rattle.trace_law.proofs.Facts.{plain-commits, plain-numbers, plain-consumed, heard_in, all_heard, plain-heard, moved-plain}
 use Rattle.trace_law.proofs.Grown.{Grown, numbers-append}
 use Rattle.trace_law.proofs.Links.{length-set, in-set}
-use Rattle.trace_law.proofs.Nodes.{flat-none}
 use Rattle.trace_law.proofs.Outcomes.{Alone, End, IsTaken, IsDropped, IsKept, fact_of, leaves, left, Heard, Outcome, Happens}
 
 -- ---- the links
 
-left-length : (b : Bool) (net : Node → Node → Link) (src dst : Node) (k : ℕ) (s d : Node) → length (left b net src dst k s d) ≡ length (net s d)
+left-length : (b : Bool) (net : Node → Node → Link) (src dst : Node) (k : ℕ) (s d : Node)
+    → length (left b net src dst k s d) ≡ length (net s d)
 left-length true net src dst k s d = go (node_eq s src && node_eq d dst)
   where
     go : (c : Bool) → length (if c then slice_set (net s d) k None else net s d) ≡ length (net s d)
@@ -273,7 +272,8 @@ module _ (sh : Shape) (p : Program) (h : History) (e : Event) (t : Stepped) (o :
   pub event-heard : all_heard (facts_of sh p h e (Some t)) ≡ heard_by h.world t.world e fs o.did
   event-heard =
       heard-parts fs (commit_fact t.noted) came last
-      ∙ four (all_heard fs) (all_heard (commit_fact t.noted)) (all_heard came) (all_heard last) (heard_by h.world t.world e fs o.did) [] [] []
+      ∙ four (all_heard fs) (all_heard (commit_fact t.noted)) (all_heard came) (all_heard last)
+      (heard_by h.world t.world e fs o.did) [] [] []
       (did-heard h.world t.world e fs o.did) (commit-heard t.noted) (plain-heard came (moved-plain h.world t.world (actor e)))
       (sent-heard sh h.world t.world (actor e))
       ∙ append-nil (heard_by h.world t.world e fs o.did)

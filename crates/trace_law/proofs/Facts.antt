@@ -1,16 +1,14 @@
 -- Facts that tell of no message and no commit, and what parts of an event's facts are so.
-use Rattle.std.proofs.Common.{◌≡◌, ◌==◌, ◌+◌, ℕ, Bool, true, false, List, [], ◌∷◌, ◌++◌, Option, Some, None, nat_lt, ◌&&◌}
-use Rattle.std.proofs.Common.{if◌then◌else◌, refl, arith}
-use Rattle.std.specs.List.{flat_map, list_any}
-use Rattle.std.proofs.lemmas.Bool.Decides.{nat_tests}
+use Rattle.std.proofs.Common.{◌≡◌, ◌==◌, ℕ, Bool, true, false, List, [], ◌∷◌, ◌++◌, Option, Some, None, nat_lt, ◌&&◌}
+use Rattle.std.proofs.Common.{if◌then◌else◌, refl}
+use Rattle.std.specs.List.{list_any}
 use Rattle.tcc_base.specs.declared.access.Commit.{Commit as Noted}
 use Rattle.tcc_maps.specs.Nodes.{Node, Core, Dir, Vendor, Msg, TidGrant, Inv}
 use Rattle.tcc_maps.specs.Shape.{Shape}
 use Rattle.tcc_program.specs.Program.{Program}
-use Rattle.tcc_rules.specs.State.{Awaited, CoreState, Phase, DoomedTid, Ready, Overflowing, Link, World}
-use Rattle.tcc_rules.specs.Useful.{nodes}
+use Rattle.tcc_rules.specs.State.{Awaited, CoreState, Phase, DoomedTid, Ready, Overflowing, World}
 use Rattle.watch.specs.Facts.{Fact, Took, Dropped, AskedOwner, Committed, Sent, CameTo, Serves, Violated}
-use Rattle.watch.specs.Happened.{commit_fact, moved, same_phase, numbered, sent_to, sent}
+use Rattle.watch.specs.Happened.{moved, same_phase}
 use Rattle.watch.specs.Instructions.{executed, executed_in, missed_or_else, overflowed_or_done, evicted, evicted_line}
 use Rattle.watch.specs.Messages.{violated, grant_given_up, given_up, tid_in, committer, commit_of, words_read}
 use Rattle.trace_law.specs.Commits.{commits_in}

@@ -1,15 +1,15 @@
 -- What an event makes of the links, and what it tells as sent.
-use Rattle.std.proofs.Common.{◌≡◌, ◌==◌, ◌+◌, ◌⊎◌, ℕ, zero, suc, Bool, true, false, List, [], ◌∷◌, ◌++◌, Option, Some, None}
+use Rattle.std.proofs.Common.{◌≡◌, ◌+◌, ◌⊎◌, ℕ, zero, suc, Bool, true, false, List, [], ◌∷◌, ◌++◌, Some, None}
 use Rattle.std.proofs.Common.{◌&&◌, if◌then◌else◌, length, drop, refl, sym, ap, subst, ◌∙◌, inl, inr, arith}
-use Rattle.std.specs.List.{flat_map, Contains, list_any}
-use Rattle.std.specs.Prelude.{slice_set, slice_index_or}
+use Rattle.std.specs.List.{flat_map, Contains}
+use Rattle.std.specs.Prelude.{slice_index_or}
 use Rattle.std.proofs.lemmas.Bool.Decides.{nat_tests}
 use Rattle.std.proofs.lemmas.List.{append-nil, append_assoc}
-use Rattle.std.proofs.lemmas.List.Elements.{Contains-append_left, Contains-append_right}
+use Rattle.std.proofs.lemmas.List.Elements.{Contains-append_right}
 use Rattle.tcc_maps.specs.Nodes.{Node, Core, Dir, Vendor, Msg, node_eq}
 use Rattle.tcc_maps.specs.Shape.{Shape}
 use Rattle.tcc_rules.specs.Laws.{counting}
-use Rattle.tcc_rules.specs.Links.{in_flight, sent_all, sending, taking}
+use Rattle.tcc_rules.specs.Links.{in_flight, sent_all, sending}
 use Rattle.tcc_rules.specs.Sends.{Sends}
 use Rattle.tcc_rules.specs.State.{Link, World}
 use Rattle.tcc_rules.specs.Step.{is_node}
@@ -17,12 +17,9 @@ use Rattle.tcc_rules.specs.Useful.{nodes}
 use Rattle.tcc_rules.proofs.Lemmas.{node_eq-eq}
 use Rattle.watch.specs.Facts.{Fact, Sent}
 use Rattle.watch.specs.Happened.{numbered, sent_to, sent}
-use Rattle.trace_law.specs.Commits.{commits_in}
-use Rattle.trace_law.specs.Sent.{number_in, numbers_in, is_consumed}
-use Rattle.trace_law.proofs.Facts.{all_heard}
-use Rattle.trace_law.proofs.Links.{length-sent, length-set, behind, counting-more, in-sent, in-set}
-use Rattle.trace_law.proofs.Nodes.{where_so, node-once, node-gives, flat-none}
-use Rattle.trace_law.proofs.Outcomes.{left}
+use Rattle.trace_law.specs.Sent.{number_in, numbers_in}
+use Rattle.trace_law.proofs.Links.{length-sent, behind, counting-more, in-sent}
+use Rattle.trace_law.proofs.Nodes.{where_so, node-once, node-gives}
 
 pub eq-self : (n : Node) → node_eq n n ≡ true
 eq-self (Core c) = grind (arith, nat_tests)
@@ -144,8 +141,14 @@ numbers-grown sh w v a s d g node =
         let same : a ≡ s = node_eq-eq a s e in
         let old : length (w.net a d) ≡ 0 + length (w.net s d) = omega (arith, ap (λ n. length (w.net n d)) same) in
         let all : length (w.net s d) + length (g.sends d) ≡ length (v.net s d) =
-        omega (arith, ap (λ n. length (w.net n d)) same, ap (λ n. length (v.net n d)) same, ap length (own-link w v a d g),
-        length-sent (g.links a d) (g.sends d), g.long a d) in
+        omega (
+          arith,
+          ap (λ n. length (w.net n d)) same,
+          ap (λ n. length (v.net n d)) same,
+          ap length (own-link w v a d g),
+          length-sent (g.links a d) (g.sends d),
+          g.long a d,
+        ) in
         ap (λ k. counting 0 (length (w.net s d)) ++ counting k (length (g.sends d))) old
         ∙ sym (counting-more 0 (length (w.net s d)) (length (g.sends d))) ∙ ap (counting 0) all
     go false e =

@@ -59,13 +59,15 @@ pub node-once : {A : Type 0} (sh : Shape) (n : Node) (xs : List A) → is_node s
     → flat_map (λ s. where_so (node_eq s n) xs) (nodes sh) ≡ xs
 node-once {A} sh (Core c) xs e =
     in-parts sh (λ s. where_so (node_eq s (Core c)) xs)
-    ∙ parts-are (flat_map (λ j. where_so (j == c) xs) (those (λ k. true) sh.cores)) (flat_map {A = A} (λ d. []) (those (λ k. true) sh.dirs)) []
-    xs [] [] (number-once c sh.cores xs ∙ ap (λ b. where_so b xs) e) (flat-none (those (λ k. true) sh.dirs)) refl
+    ∙ parts-are (flat_map (λ j. where_so (j == c) xs) (those (λ k. true) sh.cores))
+    (flat_map {A = A} (λ d. []) (those (λ k. true) sh.dirs)) [] xs [] []
+    (number-once c sh.cores xs ∙ ap (λ b. where_so b xs) e) (flat-none (those (λ k. true) sh.dirs)) refl
     ∙ append-none xs
 node-once {A} sh (Dir d) xs e =
     in-parts sh (λ s. where_so (node_eq s (Dir d)) xs)
-    ∙ parts-are (flat_map {A = A} (λ c. []) (those (λ k. true) sh.cores)) (flat_map (λ j. where_so (j == d) xs) (those (λ k. true) sh.dirs)) []
-    [] xs [] (flat-none (those (λ k. true) sh.cores)) (number-once d sh.dirs xs ∙ ap (λ b. where_so b xs) e) refl
+    ∙ parts-are (flat_map {A = A} (λ c. []) (those (λ k. true) sh.cores))
+    (flat_map (λ j. where_so (j == d) xs) (those (λ k. true) sh.dirs)) [] [] xs []
+    (flat-none (those (λ k. true) sh.cores)) (number-once d sh.dirs xs ∙ ap (λ b. where_so b xs) e) refl
     ∙ append-none xs
 node-once {A} sh Vendor xs e =
     in-parts sh (λ s. where_so (node_eq s Vendor) xs)

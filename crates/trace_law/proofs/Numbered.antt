@@ -1,16 +1,15 @@
 -- After each run the messages that are told as sent on a link are numbered.
-use Rattle.std.proofs.Common.{◌≡◌, ℕ, true, List, [], ◌∷◌, ◌++◌, Option, Some, None, IfSome, length, refl, sym, ap, ◌∙◌}
+use Rattle.std.proofs.Common.{◌≡◌, ℕ, true, List, [], ◌∷◌, ◌++◌, Option, Some, None, IfSome, length, sym, ap, ◌∙◌}
 use Rattle.std.proofs.lemmas.List.{append-nil, append_assoc}
 use Rattle.tcc_maps.specs.Nodes.{Node, Event}
 use Rattle.tcc_maps.specs.Shape.{Shape}
 use Rattle.tcc_program.specs.Program.{Program}
 use Rattle.tcc_rules.specs.Laws.{counting}
-use Rattle.tcc_rules.specs.State.{World}
 use Rattle.tcc_rules.specs.Step.{History, Stepped, and_noted, and_then, is_node, next_history, recorded, run, run_from, step}
 use Rattle.watch.specs.Facts.{Fact}
-use Rattle.watch.specs.Happened.{actor, acted, sent, facts_of, happened}
-use Rattle.trace_law.specs.Sent.{SentNumbered, NothingSent, numbers_in}
-use Rattle.trace_law.specs.Told.{Told, if_enabled, told, facts_in, begun}
+use Rattle.watch.specs.Happened.{actor, acted, facts_of, happened}
+use Rattle.trace_law.specs.Sent.{SentNumbered, numbers_in}
+use Rattle.trace_law.specs.Told.{if_enabled, told, facts_in, begun}
 use Rattle.trace_law.proofs.Events.{event-grown, event-numbers}
 use Rattle.trace_law.proofs.Grown.{numbers-append, numbers-grown}
 use Rattle.trace_law.proofs.Outcomes.{Happens, step-outcome}
@@ -65,7 +64,8 @@ unfolding run counting
 sent-numbered sh p w es none = go (run sh p w es) each
   where
     each : (s d : Node) → is_node sh d ≡ true
-        → IfSome (run_from sh p es (begun w)) (λ h. numbers_in s d (facts_in (told sh p es (begun w))) ≡ counting 0 (length (h.world.net s d)))
+        → IfSome (run_from sh p es (begun w))
+        (λ h. numbers_in s d (facts_in (told sh p es (begun w))) ≡ counting 0 (length (h.world.net s d)))
     each s d node = runs-numbered sh p s d node es (begun w) [] (ap (λ l. counting 0 (length l)) (sym (none s d)))
 
     go : (x : Option History)

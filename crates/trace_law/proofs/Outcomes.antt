@@ -1,5 +1,5 @@
 -- What each event does to the links, and what it tells of the message that it delivers.
-use Rattle.std.proofs.Common.{◌≡◌, ℕ, Bool, true, false, List, [], ◌∷◌, ◌++◌, Option, Some, None, IfSome, ◌&&◌, if◌then◌else◌, refl}
+use Rattle.std.proofs.Common.{◌≡◌, ℕ, Bool, true, false, List, [], ◌∷◌, ◌++◌, Option, Some, None, IfSome, if◌then◌else◌, refl}
 use Rattle.tcc_base.specs.declared.access.Commit.{Commit as Noted}
 use Rattle.tcc_maps.specs.Nodes.{Node, Core, Dir, Vendor, Msg, Event, Exec, Evict, Deliver}
 use Rattle.tcc_maps.specs.Shape.{Shape}
@@ -11,12 +11,12 @@ use Rattle.tcc_rules.specs.CoreExec.{core_exec}
 use Rattle.tcc_rules.specs.DirDeliver.{Answer, Waits, Drops, Asks, Takes, dir_deliver}
 use Rattle.tcc_rules.specs.Links.{in_flight, sending, taking}
 use Rattle.tcc_rules.specs.Sends.{Sends}
-use Rattle.tcc_rules.specs.State.{CoreState, Link, World}
-use Rattle.tcc_rules.specs.Step.{History, Stepped, core_moves, core_takes, dir_takes, dir_asks, vendor_gives, if_core_moves, is_node}
+use Rattle.tcc_rules.specs.State.{Link, World}
+use Rattle.tcc_rules.specs.Step.{History, Stepped, core_moves, core_takes, dir_takes, dir_asks, vendor_gives, if_core_moves}
 use Rattle.tcc_rules.specs.Step.{if_core_takes, answered, if_vendor_gives, delivered, if_in_flight, names_nodes, happens, step}
 use Rattle.tcc_rules.specs.VendorDeliver.{Granted, vendor_deliver}
 use Rattle.watch.specs.Facts.{Fact, Took, Dropped, AskedOwner}
-use Rattle.watch.specs.Happened.{actor, acted}
+use Rattle.watch.specs.Happened.{acted}
 use Rattle.watch.specs.Happened.{if_in_flight as told_if_in_flight, delivered as told_delivered}
 use Rattle.watch.specs.Instructions.{executed, evicted}
 use Rattle.watch.specs.Messages.{answered as told_answered, taken, is_of_use, violated, grant_given_up}
@@ -97,10 +97,26 @@ core-outcome w src c k m cs (Some o) e = go (is_of_use src m (w.cores c))
     rest = violated c cs m (w.cores c) (v.cores c) ++ grant_given_up c m (w.cores c).phase
 
     go : (b : Bool) → Heard w v src (Core c) k ((if b then Took m ∷ [] else Dropped m ∷ []) ++ rest)
-    go true = record { message = m; flew = e; end = IsTaken; rest = rest; tells = refl;
-      plain = undone-plain c cs m (w.cores c) (v.cores c); sends = o.sends; grown = refl }
-    go false = record { message = m; flew = e; end = IsDropped; rest = rest; tells = refl;
-      plain = undone-plain c cs m (w.cores c) (v.cores c); sends = o.sends; grown = refl }
+    go true = record {
+      message = m;
+      flew = e;
+      end = IsTaken;
+      rest = rest;
+      tells = refl;
+      plain = undone-plain c cs m (w.cores c) (v.cores c);
+      sends = o.sends;
+      grown = refl;
+    }
+    go false = record {
+      message = m;
+      flew = e;
+      end = IsDropped;
+      rest = rest;
+      tells = refl;
+      plain = undone-plain c cs m (w.cores c) (v.cores c);
+      sends = o.sends;
+      grown = refl;
+    }
 
 none-plain : all_plain [] ≡ true
 unfolding all_plain
@@ -111,19 +127,51 @@ answer-outcome : (w : World) (c d k : ℕ) (m : Msg) (a : Answer) → in_flight 
     → IfSome (answered w c d k a) (After w (Deliver (Core c) (Dir d) k) (λ v. told_answered m a))
 unfolding dir_takes dir_asks
 answer-outcome w c d k m Waits e = tt
-answer-outcome w c d k m Drops e = record { message = m; flew = e; end = IsDropped; rest = []; tells = refl; plain = none-plain;
-  sends = λ dst. []; grown = refl }
-answer-outcome w c d k m (Asks s sends) e = record { message = m; flew = e; end = IsKept; rest = []; tells = refl; plain = none-plain;
-  sends = sends; grown = refl }
-answer-outcome w c d k m (Takes s sends) e = record { message = m; flew = e; end = IsTaken; rest = []; tells = refl; plain = none-plain;
-  sends = sends; grown = refl }
+answer-outcome w c d k m Drops e = record {
+  message = m;
+  flew = e;
+  end = IsDropped;
+  rest = [];
+  tells = refl;
+  plain = none-plain;
+  sends = λ dst. [];
+  grown = refl;
+}
+answer-outcome w c d k m (Asks s sends) e = record {
+  message = m;
+  flew = e;
+  end = IsKept;
+  rest = [];
+  tells = refl;
+  plain = none-plain;
+  sends = sends;
+  grown = refl;
+}
+answer-outcome w c d k m (Takes s sends) e = record {
+  message = m;
+  flew = e;
+  end = IsTaken;
+  rest = [];
+  tells = refl;
+  plain = none-plain;
+  sends = sends;
+  grown = refl;
+}
 
 vendor-outcome : (w : World) (c k : ℕ) (m : Msg) (g : Option Granted) → in_flight w.net (Core c) Vendor k ≡ Some m
     → IfSome (if_vendor_gives w c k g) (After w (Deliver (Core c) Vendor k) (λ v. Took m ∷ []))
 unfolding vendor_gives
 vendor-outcome w c k m None e = tt
-vendor-outcome w c k m (Some g) e = record { message = m; flew = e; end = IsTaken; rest = []; tells = refl; plain = none-plain;
-  sends = g.sends; grown = refl }
+vendor-outcome w c k m (Some g) e = record {
+  message = m;
+  flew = e;
+  end = IsTaken;
+  rest = [];
+  tells = refl;
+  plain = none-plain;
+  sends = g.sends;
+  grown = refl;
+}
 
 deliver-outcome : (sh : Shape) (cs : List Noted) (w : World) (src dst : Node) (k : ℕ) (m : Msg) → in_flight w.net src dst k ≡ Some m
     → IfSome (delivered sh w src dst k m) (After w (Deliver src dst k) (λ v. told_delivered sh cs w v src dst m))

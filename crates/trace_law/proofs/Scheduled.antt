@@ -1,23 +1,22 @@
 -- The lines of a trace that don't begin with a space are those of its events.
-use Rattle.std.proofs.Common.{◌≡◌, ◌==◌, ℕ, zero, suc, Bool, true, false, not, List, [], ◌∷◌, ◌++◌, map, drop, length, filter, Option, Some, None}
-use Rattle.std.proofs.Common.{◌&&◌, IsSome, codes, if◌then◌else◌, cond, refl, sym, ap, subst, ◌∙◌, arith}
+use Rattle.std.proofs.Common.{◌≡◌, ◌==◌, ℕ, Bool, true, false, not, List, [], ◌∷◌, ◌++◌, map, drop, length, filter, Option, Some, None}
+use Rattle.std.proofs.Common.{◌&&◌, IsSome, codes, if◌then◌else◌, cond, refl, sym, ap, ◌∙◌}
 use Rattle.std.specs.Fmt.{decimal}
 use Rattle.std.specs.List.{flat_map}
-use Rattle.std.proofs.lemmas.Bool.Decides.{nat_tests}
 use Rattle.std.proofs.lemmas.Grind.{flat_map-append}
 use Rattle.std.proofs.lemmas.List.{append-nil, append_assoc, drop-map, length-map}
-use Rattle.tcc_maps.specs.Nodes.{Node, Event, Exec, Evict, Deliver}
+use Rattle.tcc_maps.specs.Nodes.{Event, Exec, Evict, Deliver}
 use Rattle.tcc_maps.specs.Shape.{Shape}
-use Rattle.tcc_msg.specs.declared.event.Schedule.{Schedule}
 use Rattle.tcc_program.specs.Program.{Program}
 use Rattle.tcc_rules.specs.Step.{History, and_then, next_history, run_from}
-use Rattle.schedule_text.specs.Grammar.{newline, version_of, version_line, config_line, node_word, event_line, end_line, lines_of, joined, text_of}
+use Rattle.schedule_text.specs.Grammar.{newline, version_of, version_line, config_line, node_word, event_line, end_line, lines_of, joined}
 use Rattle.watch.specs.Facts.{Fact}
 use Rattle.watch.specs.Happened.{happened}
 use Rattle.watch_trace.specs.Lines.{fact_words, fact_line}
 use Rattle.watch_trace.specs.Shown.{shown_node_of, shown_event_of}
 use Rattle.watch_trace.specs.Text.{event_and_facts, event_text, if_enabled as if_enabled_text, event_texts, text_from}
-use Rattle.trace_law.specs.Lines.{EventLines, LinesAreTold, ScheduleLines, lines_told, lines_in, with_byte, begins_with_space, unindented, event_lines}
+use Rattle.trace_law.specs.Lines.{EventLines, LinesAreTold, ScheduleLines, event_lines, lines_told}
+use Rattle.trace_law.specs.Lines.{lines_in, with_byte, begins_with_space, unindented}
 use Rattle.trace_law.specs.Told.{Told, if_enabled, told}
 use Rattle.trace_law.proofs.Words.{free, free-append, free-decimal, free-node, free-fact}
 

@@ -5,20 +5,20 @@ use Rattle.std.specs.List.{Contains}
 use Rattle.std.specs.Prelude.{slice_index_or}
 use Rattle.std.proofs.lemmas.List.{append_assoc}
 use Rattle.std.proofs.lemmas.List.Elements.{Contains-append_left, Contains-append_right}
-use Rattle.tcc_maps.specs.Nodes.{Node, Msg, Event, Exec, Evict, Deliver}
+use Rattle.tcc_maps.specs.Nodes.{Node, Msg, Event, Deliver}
 use Rattle.tcc_maps.specs.Shape.{Shape}
 use Rattle.tcc_program.specs.Program.{Program}
 use Rattle.tcc_rules.specs.Links.{in_flight}
 use Rattle.tcc_rules.specs.State.{Link, World}
-use Rattle.tcc_rules.specs.Step.{History, Stepped, and_noted, and_then, is_node, names_nodes, next_history, recorded, step}
+use Rattle.tcc_rules.specs.Step.{History, Stepped, and_noted, is_node, names_nodes, next_history, recorded, step}
 use Rattle.watch.specs.Facts.{Fact, Took, Dropped, AskedOwner, Sent}
 use Rattle.watch.specs.Happened.{actor, acted, commit_fact, moved, sent, facts_of, happened}
 use Rattle.trace_law.specs.Sent.{HeardWasSent, NothingSent, Hears}
 use Rattle.trace_law.specs.Told.{Told, if_enabled, told, facts_in, begun}
-use Rattle.trace_law.proofs.Events.{event-grown, event-heard, heard_by}
+use Rattle.trace_law.proofs.Events.{event-grown, event-heard}
 use Rattle.trace_law.proofs.Facts.{heard_in, all_heard}
 use Rattle.trace_law.proofs.Grown.{flies-or-sent}
-use Rattle.trace_law.proofs.Outcomes.{Outcome, Happens, step-outcome}
+use Rattle.trace_law.proofs.Outcomes.{Happens, step-outcome}
 
 -- each message that is in flight to a node of the machine is told as sent
 FliesAsSent : Shape → (before : List Fact) → World → Type 0
@@ -134,7 +134,8 @@ runs-heard sh p src dst k facts m after hears (x ∷ es) h sofar before was e =
         → ((i : History) (now : List Fact) (bs : List Told) → FliesAsSent sh now i.world
         → told sh p es i ≡ bs ++ delivery src dst k facts ∷ after → Contains (now ++ facts_in bs) (Sent src dst k m))
         → (bs : List Told)
-        → if_enabled (record { event = x; facts = facts_of sh p h x o }) (told sh p es) (recorded h o) ≡ bs ++ delivery src dst k facts ∷ after
+        → if_enabled (record { event = x; facts = facts_of sh p h x o }) (told sh p es) (recorded h o)
+        ≡ bs ++ delivery src dst k facts ∷ after
         → Contains (sofar ++ facts_in bs) (Sent src dst k m)
     go None did rest bs f = absurd (never-told bs after (delivery src dst k facts) f)
     go (Some t) did rest [] f =
@@ -162,5 +163,5 @@ none-flies sh w none s d k m node f = absurd (nothing (w.net s d) (none s d) f)
     nothing (x ∷ l) e f = cc
 
 pub heard-was-sent : HeardWasSent
-heard-was-sent sh p w es before after src dst k facts m none e hears =
+heard-was-sent sh p w es none before after src dst k facts m e hears =
     runs-heard sh p src dst k facts m after hears es (begun w) [] before (none-flies sh w none) e

@@ -1,12 +1,11 @@
 -- The words of a trace have no line feed.
-use Rattle.std.proofs.Common.{◌≡◌, ◌==◌, ◌+◌, ◌-◌, ◌/◌, ◌%◌, ◌^◌, ℕ, zero, suc, Bool, true, false, not, List, [], ◌∷◌, ◌++◌, Option, Some, None}
-use Rattle.std.proofs.Common.{◌&&◌, codes, if◌then◌else◌, get_or, length, nat_lt, replicate, refl, ap, ◌∙◌, arith}
-use Rattle.std.specs.Fmt.{decimal, digits, digits_onto, digit_glyph, padded_integral, format_spec, char_count}
+use Rattle.std.proofs.Common.{◌≡◌, ◌==◌, ◌-◌, ◌/◌, ◌%◌, ℕ, zero, suc, Bool, true, false, not, List, [], ◌∷◌, ◌++◌, Some, None}
+use Rattle.std.proofs.Common.{◌&&◌, codes, if◌then◌else◌, get_or, length, replicate, refl, ap, ◌∙◌, arith}
+use Rattle.std.specs.Fmt.{decimal, digits, digits_onto, digit_glyph, padded_integral, char_count}
 use Rattle.std.specs.List.{flat_map, range_with_len}
 use Rattle.std.proofs.lemmas.Bool.Decides.{nat_tests}
-use Rattle.tcc_base.specs.Bytes.{bytes_of}
 use Rattle.tcc_base.specs.declared.access.Size.{Size}
-use Rattle.tcc_maps.specs.Masks.{has, full}
+use Rattle.tcc_maps.specs.Masks.{has}
 use Rattle.tcc_maps.specs.Nodes.{Node, Core, Dir, Vendor}
 use Rattle.tcc_maps.specs.Nodes.{Msg, TidReq, TidGrant, LoadReq, Fill, Skip, Probe, ProbeReply, Mark, Commit, Abort}
 use Rattle.tcc_maps.specs.Nodes.{WriteBack, Flush, DataReq, Inv, InvAck}
@@ -18,8 +17,8 @@ use Rattle.watch.specs.Facts.{Serves, Sent}
 use Rattle.watch.specs.Facts.{Done, Plainly, Loaded, Stored, Changed, Printed, Ended, HaltedWith, TrappedWith}
 use Rattle.watch_trace.specs.Lines.{wanted_words, cause_words, name_words, fact_words}
 use Rattle.watch_trace.specs.Shown.{shown_node_of}
-use Rattle.watch_trace.specs.Words.{field, value_word, value_words, home_words, committed_words, fill_words, keeps_words, acknowledged_words}
-use Rattle.watch_trace.specs.Words.{message_words, phase_words, access_words, done_words}
+use Rattle.watch_trace.specs.Words.{field, value_word, value_words, home_words, committed_words, fill_words}
+use Rattle.watch_trace.specs.Words.{keeps_words, acknowledged_words, message_words, phase_words, access_words, done_words}
 
 -- no line feed is among these bytes
 abbrev pub free : List ℕ → Bool
@@ -39,15 +38,16 @@ free-glyph d = grind (arith, nat_tests)
 
 free-digits_onto : (k base n : ℕ) (more : List ℕ) → free more ≡ true → free (digits_onto k base false n more) ≡ true
 free-digits_onto zero base n more e = e
-free-digits_onto (suc k) base n more e = go (n / base == 0) one (free-digits_onto k base (n / base) (digit_glyph false (n % base) ∷ more) one)
+free-digits_onto (suc k) base n more e =
+    go (n / base == 0) one (free-digits_onto k base (n / base) (digit_glyph false (n % base) ∷ more) one)
   where
     one : free (digit_glyph false (n % base) ∷ more) ≡ true
     one = rw (free-glyph (n % base)) e
 
     go : (b : Bool) → free (digit_glyph false (n % base) ∷ more) ≡ true
         → free (digits_onto k base false (n / base) (digit_glyph false (n % base) ∷ more)) ≡ true
-        → free (if b then digit_glyph false (n % base) ∷ more else digits_onto k base false (n / base) (digit_glyph false (n % base) ∷ more))
-        ≡ true
+        → free (if b then digit_glyph false (n % base) ∷ more
+        else digits_onto k base false (n / base) (digit_glyph false (n % base) ∷ more)) ≡ true
     go true f rest = f
     go false f rest = rest
 

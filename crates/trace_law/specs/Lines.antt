@@ -1,6 +1,5 @@
 -- The text of a trace, and the schedule in it.
 use Rattle.std.specs.Prelude.{ℕ, ◌==◌, ◌≡◌, Bool, false, not, List, [], ◌∷◌, ◌++◌, drop, length, map, filter, IsSome, if◌then◌else◌}
-use Rattle.tcc_base.specs.Settings.{Settings}
 use Rattle.tcc_maps.specs.Nodes.{Event}
 use Rattle.tcc_maps.specs.Shape.{Shape}
 use Rattle.tcc_msg.specs.declared.event.Schedule.{Schedule}

@@ -1,7 +1,8 @@
 -- The messages that a trace tells of: as sent, and as taken, dropped or kept waiting.
-use Rattle.std.specs.Prelude.{ℕ, ◌≡◌, ◌⊎◌, ◌==◌, ◌&&◌, Bool, true, false, not, List, [], ◌∷◌, ◌++◌, length, is_some, nat_lt, IfSome, if◌then◌else◌}
+use Rattle.std.specs.Prelude.{ℕ, ◌≡◌, ◌⊎◌, ◌==◌, ◌&&◌, Bool, true, false, not, List, [], ◌∷◌, ◌++◌, length}
+use Rattle.std.specs.Prelude.{is_some, nat_lt, IfSome, if◌then◌else◌}
 use Rattle.std.specs.List.{Contains, count_by, list_any}
-use Rattle.tcc_maps.specs.Nodes.{Node, Msg, Event, Exec, Evict, Deliver, node_eq}
+use Rattle.tcc_maps.specs.Nodes.{Node, Msg, Event, Deliver, node_eq}
 use Rattle.tcc_maps.specs.Shape.{Shape}
 use Rattle.tcc_program.specs.Program.{Program}
 use Rattle.tcc_rules.specs.Laws.{counting}
@@ -11,7 +12,7 @@ use Rattle.tcc_rules.specs.Step.{is_node, run}
 use Rattle.watch.specs.Facts.{Fact, Took, Dropped, AskedOwner, Sent}
 use Rattle.trace_law.specs.Told.{Told, told, facts_in, begun}
 
--- nothing was sent before
+-- nothing was sent before, as at a program's start
 abbrev pub NothingSent : World → Type 0
 NothingSent w = (src dst : Node) → w.net src dst ≡ []
 
@@ -39,8 +40,9 @@ Hears m fs = Contains fs (Took m) ⊎ (Contains fs (Dropped m) ⊎ Contains fs (
 -- it was told as sent before, with the number under which it is delivered
 abbrev pub HeardWasSent : Type 0
 HeardWasSent =
-    (sh : Shape) (p : Program) (w : World) (es : List Event) (before after : List Told) (src dst : Node) (k : ℕ) (facts : List Fact) (m : Msg)
-    → NothingSent w → told sh p es (begun w) ≡ before ++ record { event = Deliver src dst k; facts = facts } ∷ after → Hears m facts
+    (sh : Shape) (p : Program) (w : World) (es : List Event) → NothingSent w
+    → (before after : List Told) (src dst : Node) (k : ℕ) (facts : List Fact) (m : Msg)
+    → told sh p es (begun w) ≡ before ++ record { event = Deliver src dst k; facts = facts } ∷ after → Hears m facts
     → Contains (facts_in before) (Sent src dst k m)
 
 abbrev pub is_delivery : (src dst : Node) → (k : ℕ) → Event → Bool

@@ -24,8 +24,8 @@ pub fn sent_lines_are_numbered()
     ensures { SentNumbered }
 {}
 
-/// What is told to be taken, dropped or to have made a directory ask was told to be sent before. A message is consumed by one event where it
-/// was sent and isn't in flight, and else by none.
+/// What is told to be taken, to be dropped or to have made a directory ask was told to be sent before. A message is consumed by one event
+/// where it was sent and isn't in flight, and else by none.
 pub fn messages_are_consumed_once()
     ensures heard { HeardWasSent }
     ensures once { ConsumedOnce }
