@@ -14,7 +14,8 @@ abbrev pub RiscvNeverStuck : Type 0
 RiscvNeverStuck =
     (s : Start) (es : List Event) → IsAllowed s.settings → AfterRun s es (λ h. DoneWhereNoneUseful s.settings (program s) h.world)
 
--- For each core that hasn't halted some useful event isn't the delivery of another core's request for a TID.
+-- For each core that hasn't halted some useful event isn't the delivery of another core's request for a TID, and no Exec of another core
+-- without a TID.
 abbrev pub RiscvCoresGoOn : Type 0
 RiscvCoresGoOn = (s : Start) (es : List Event) → IsAllowed s.settings → AfterRun s es (λ h. EachGoesOn s.settings (program s) h.world)
 

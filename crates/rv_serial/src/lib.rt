@@ -41,8 +41,8 @@ pub fn a_riscv_image_runs()
 {}
 
 /// After every run from such a start the machine is done, or some event is useful; for each core that hasn't halted one is another
-/// than to deliver another core's request for a TID; and a schedule that a chooser picks has an event for each random word, or ends
-/// where all is done.
+/// than to deliver another core's request for a TID or to execute another core that has none; and a schedule that a chooser picks has
+/// an event for each random word, or ends where all is done.
 pub fn riscv_machines_are_never_stuck()
     ensures done { RiscvNeverStuck }
     ensures goes_on { RiscvCoresGoOn }

@@ -1,6 +1,6 @@
 -- Useful events, from messages in flight and from what their takers do.
 use Rattle.std.specs.Prelude.{ℕ, ◌≡◌, ◌<◌, ◌≤◌, Bool, true, false, Option, Some, None, is_some, nat_lt}
-use Rattle.std.proofs.Common.{arith, refl, ◌⊎◌, inl, inr}
+use Rattle.std.proofs.Common.{arith, refl, sym, subst, ◌⊎◌, inl, inr}
 use Rattle.std.proofs.lemmas.Bool.Decides.{nat_tests}
 use Rattle.tcc_program.specs.Program.{Program}
 use Rattle.tcc_maps.specs.Nodes.{Node, Core, Dir, Vendor, Event, Exec, Evict, Deliver, Msg, TidReq, TidGrant, Fill, ProbeReply, DataReq, Inv}
@@ -18,17 +18,23 @@ use Rattle.tcc_rules.specs.Step.{is_enabled}
 use Rattle.tcc_rules.specs.Useful.{is_of_use, is_useful, holds_written, is_this_set, room}
 use Rattle.tcc_serial.specs.Count.{Kind, Asks as Requests, live, passes}
 use Rattle.tcc_live.specs.Fits.{goes_to_core, is_grant, is_request}
-use Rattle.tcc_live.specs.Progress.{spares, GoesOn}
+use Rattle.tcc_live.specs.Progress.{spares, GoesOn, IsPlaced}
 use Rattle.tcc_live.proofs.Found.{back, out, found}
 
--- a useful event that is no other core's request for a TID, whichever core asks
+-- a useful event that is no other core's request for a TID, whichever core asks, and executes none but a core that has a TID
 pub record Moves (sh : Shape) (p : Program) (w : World) : Type 0 where
   pub event : Event
   pub is_useful : is_useful sh p w event ≡ true
   pub spares : (c : ℕ) → spares c event ≡ true
+  pub placed : (a : ℕ) → event ≡ Exec a → IsPlaced w a
 
 pub goes_on : (sh : Shape) (p : Program) (w : World) (c : ℕ) → Moves sh p w → GoesOn sh p w c
-goes_on sh p w c m = record { event = m.event; is_useful = m.is_useful; spares = m.spares c }
+goes_on sh p w c m = record {
+  event = m.event;
+  is_useful = m.is_useful;
+  spares = m.spares c;
+  executes = λ a e. inr (m.placed a e);
+}
 
 -- what is enabled
 
@@ -62,14 +68,31 @@ some_granted w c k m h = absurd (cc)
 
 -- useful events
 
-pub exec_moves : (sh : Shape) (p : Program) (w : World) (c : ℕ) → c < sh.cores → is_some (core_exec sh p c (w.cores c)) ≡ true
-    → Moves sh p w
+exec_useful : (sh : Shape) (p : Program) (w : World) (c : ℕ) → c < sh.cores → is_some (core_exec sh p c (w.cores c)) ≡ true
+    → is_useful sh p w (Exec c) ≡ true
 unfolding is_useful is_enabled step names_nodes happens
-exec_moves sh p w c l h = record {
+exec_useful sh p w c l h = rw (below c sh.cores l, some_moved w c (core_exec sh p c (w.cores c)) h) refl
+
+same_core : (c a : ℕ) → Exec c ≡ Exec a → c ≡ a
+same_core c a e = cc
+
+-- an Exec of a core that has a TID, or of the core that is to go on
+pub exec_moves : (sh : Shape) (p : Program) (w : World) (c : ℕ) → c < sh.cores → IsPlaced w c
+    → is_some (core_exec sh p c (w.cores c)) ≡ true → Moves sh p w
+exec_moves sh p w c l i h = record {
   event = Exec c;
-  is_useful = rw
-      (below c sh.cores l, some_moved w c (core_exec sh p c (w.cores c)) h) refl;
+  is_useful = exec_useful sh p w c l h;
   spares = λ j. refl;
+  placed = λ a e. subst (IsPlaced w) (same_core c a e) i;
+}
+
+pub exec_goes_on : (sh : Shape) (p : Program) (w : World) (c : ℕ) → c < sh.cores → is_some (core_exec sh p c (w.cores c)) ≡ true
+    → GoesOn sh p w c
+exec_goes_on sh p w c l h = record {
+  event = Exec c;
+  is_useful = exec_useful sh p w c l h;
+  spares = refl;
+  executes = λ a e. inl (sym (same_core c a e));
 }
 
 -- an Evict of a way whose line has words that leave it, or in a set where the core waits for room
@@ -81,6 +104,7 @@ evict_moves sh p w c x y l i j h u = record {
   event = Evict c x y;
   is_useful = rw (below c sh.cores l, below x sh.sets i, below y sh.ways j, some_moved w c (core_evict sh x y (w.cores c)) h) (used u);
   spares = λ j. refl;
+  placed = λ a e. absurd (cc);
 }
   where
     used : (holds_written (w.cores c).cache ((w.cores c).cache.at x y) ≡ true) ⊎ (is_this_set (room sh p (w.cores c)) x ≡ true)
@@ -101,6 +125,7 @@ back_moves sh p w d c k m i l e h = record {
   is_useful = delivers sh p w (Dir d) (Core c) k m (below d sh.dirs i) (below c sh.cores l) e
       (some_taken w (Dir d) c k (from_dir sh d (w.cores c) m) (some m h));
   spares = λ j. refl;
+  placed = λ a e. absurd (cc);
 }
   where
     some : (m : Msg) → goes_to_core m ≡ true → is_some (from_dir sh d (w.cores c) m) ≡ true
@@ -118,6 +143,7 @@ grant_moves sh p w c k m l e h = record {
   is_useful = delivers sh p w Vendor (Core c) k m refl (below c sh.cores l) e
       (some_taken w Vendor c k (from_vendor sh (w.cores c) m) (some m h));
   spares = λ j. refl;
+  placed = λ a e. absurd (cc);
 }
   where
     some : (m : Msg) → is_grant m ≡ true → is_some (from_vendor sh (w.cores c) m) ≡ true
@@ -131,6 +157,7 @@ out_moves sh p w c d k m l i e h = record {
   is_useful = delivers sh p w (Core c) (Dir d) k m (below c sh.cores l) (below d sh.dirs i) e
       (some_answered w c d k (dir_deliver sh (w.dirs d) c m) h);
   spares = λ j. refl;
+  placed = λ a e. absurd (cc);
 }
 
 -- a core's own request for a TID, or that of any core
@@ -165,4 +192,5 @@ ask_goes_on sh p w c l h =
       is_useful = ask_useful sh p w c x.at x.msg l x.there
           (requested x.msg x.passes);
       spares = grind (arith, nat_tests);
+      executes = λ a e. absurd (cc);
     }

@@ -1,5 +1,5 @@
--- Each core that hasn't halted goes on, by an event that is no other core's request for a TID.
-use Rattle.std.specs.Prelude.{ℕ, zero, suc, ◌+◌, ◌≡◌, ◌<◌, ◌≤◌, Bool, true, false, Option, Some, None}
+-- Each core that hasn't halted goes on, by an event that is no other core's request for a TID, and no Exec of another core without one.
+use Rattle.std.specs.Prelude.{ℕ, zero, suc, ◌+◌, ◌≡◌, ◌<◌, ◌≤◌, Bool, true, false, Option, Some, None, is_some}
 use Rattle.std.proofs.Common.{arith, refl, ◌⊎◌, inl, inr}
 use Rattle.std.proofs.lemmas.Bool.Decides.{nat_tests}
 use Rattle.tcc_program.specs.Program.{Program}
@@ -8,13 +8,14 @@ use Rattle.tcc_maps.specs.Nodes.{Core, Vendor, Msg}
 use Rattle.tcc_maps.specs.Lines.{has_mark}
 use Rattle.tcc_maps.specs.Shape.{Shape}
 use Rattle.tcc_rules.specs.State.{Awaited, Phase, Running, AwaitTid, DoomedTid, Probing, Ready, Overflowing, Solo, Halted}
+use Rattle.tcc_rules.specs.CoreExec.{core_exec}
 use Rattle.tcc_rules.specs.Step.{History}
 use Rattle.tcc_serial.specs.Count.{Asks, AnyGrant, live, passes}
 use Rattle.tcc_serial.specs.Pairs.{pair}
 use Rattle.tcc_serial.specs.Tids.{waits_for_tid, has_tid}
 use Rattle.tcc_live.specs.Fits.{is_grant}
 use Rattle.tcc_live.specs.Progress.{GoesOn, EachGoesOn}
-use Rattle.tcc_live.proofs.Events.{Moves, goes_on, grant_counted, ask_goes_on}
+use Rattle.tcc_live.proofs.Events.{Moves, goes_on, exec_goes_on, grant_counted, ask_goes_on}
 use Rattle.tcc_live.proofs.Holder.{NoneHeld, none_or_moves, after_next, awaited_moves}
 use Rattle.tcc_live.proofs.Room.{room_moves}
 use Rattle.tcc_live.proofs.Found.{serving_at}
@@ -39,7 +40,7 @@ waiting sh p h c k l q = go (live AnyGrant (h.world.net Vendor (Core c))) refl
 
 -- a core that runs: alone with itself, or it awaits a line, and its home serves a TID beyond all that were granted
 running : (sh : Shape) (p : Program) (h : History) (c : ℕ) → Reached sh p h → NoneHeld sh p h.world → c < sh.cores
-    → (h.world.cores c).phase ≡ Running → Moves sh p h.world
+    → (h.world.cores c).phase ≡ Running → GoesOn sh p h.world c
 running sh p h c k n l e = go (h.world.cores c).awaited refl
   where
     unmarked : (d m : ℕ) → d < sh.dirs → h.world.next ≤ serving_at h.world d → has_mark (h.world.dirs d).lines m ≡ false
@@ -55,9 +56,13 @@ running sh p h c k n l e = go (h.world.cores c).awaited refl
     served d i (inl m) = inl m
     served d i (inr b) = inr (omega (arith, b, after_next sh p h c d k l i), λ m. unmarked d m i b)
 
-    go : (o : Option Awaited) → (h.world.cores c).awaited ≡ o → Moves sh p h.world
-    go None a = room_moves sh p h.world c k.equipped l (rw e refl) a
-    go (Some a) q = awaited_moves sh p h c a k l q (λ d i. served d i (n.beyond d i))
+    moved : (is_some (core_exec sh p c (h.world.cores c)) ≡ true) ⊎ Moves sh p h.world → GoesOn sh p h.world c
+    moved (inl x) = exec_goes_on sh p h.world c l x
+    moved (inr m) = goes_on sh p h.world c m
+
+    go : (o : Option Awaited) → (h.world.cores c).awaited ≡ o → GoesOn sh p h.world c
+    go None a = moved (room_moves sh p h.world c k.equipped l (rw e refl) a)
+    go (Some a) q = goes_on sh p h.world c (awaited_moves sh p h c a k l q (λ d i. served d i (n.beyond d i)))
 
 pub each_goes_on : (sh : Shape) (p : Program) (h : History) → Reached sh p h → EachGoesOn sh p h.world
 unfolding waits_for_tid has_tid
@@ -70,7 +75,7 @@ each_goes_on sh p h k c l n = go (h.world.cores c).phase refl (none_or_moves sh 
     go : (q : Phase) → (h.world.cores c).phase ≡ q → Moves sh p h.world ⊎ NoneHeld sh p h.world → GoesOn sh p h.world c
     go Halted e r = absurd (n e)
     go Running e (inl m) = goes_on sh p h.world c m
-    go Running e (inr a) = goes_on sh p h.world c (running sh p h c k a l e)
+    go Running e (inr a) = running sh p h c k a l e
     go AwaitTid e r = waiting sh p h c k l (rw e refl)
     go DoomedTid e r = waiting sh p h c k l (rw e refl)
     go (Overflowing None) e r = waiting sh p h c k l (rw e refl)

@@ -1,5 +1,5 @@
 -- The core that has the least TID goes on: every directory serves it or a later one.
-use Rattle.std.specs.Prelude.{ℕ, zero, suc, ◌+◌, ◌-◌, ◌≡◌, ◌<◌, ◌≤◌, true, false, ◌==◌, ◌&&◌, Contains, Option, Some, None}
+use Rattle.std.specs.Prelude.{ℕ, zero, suc, ◌+◌, ◌-◌, ◌≡◌, ◌<◌, ◌≤◌, true, false, ◌==◌, ◌&&◌, Contains, Option, Some, None, is_some}
 use Rattle.std.proofs.Common.{arith, refl, ◌⊎◌, inl, inr}
 use Rattle.std.proofs.lemmas.Bool.{cases_lt}
 use Rattle.std.proofs.lemmas.Bool.Decides.{nat_tests}
@@ -182,15 +182,19 @@ alone sh p h c t k l e = go (h.world.cores c).awaited refl
         let s = serves d i in
         grind (arith, nat_tests)
 
+    moved : (is_some (core_exec sh p c (h.world.cores c)) ≡ true) ⊎ Moves sh p h.world → Moves sh p h.world
+    moved (inl x) = exec_moves sh p h.world c l (t, has) x
+    moved (inr m) = m
+
     go : (o : Option Awaited) → (h.world.cores c).awaited ≡ o → Moves sh p h.world
-    go None a = room_moves sh p h.world c k.equipped l (rw e refl) a
+    go None a = moved (room_moves sh p h.world c k.equipped l (rw e refl) a)
     go (Some a) q = awaited_moves sh p h c a k l q (λ d i. inr
         (omega (arith, after_held sh p h c d t k l i has, serves d i), λ m. unmarked d m i))
 
 -- a core that may commit
 ready : (sh : Shape) (p : Program) (w : World) (c t : ℕ) → c < sh.cores → (w.cores c).phase ≡ Ready t → Moves sh p w
-unfolding core_exec
-ready sh p w c t l e = exec_moves sh p w c l (rw e refl)
+unfolding core_exec has_tid
+ready sh p w c t l e = exec_moves sh p w c l (t, rw e (grind (arith, nat_tests))) (rw e refl)
 
 holder_moves : (sh : Shape) (p : Program) (h : History) (c t : ℕ) → Reached sh p h → AllReach sh p h.world t → c < sh.cores
     → has_tid (h.world.cores c).phase t ≡ true → Moves sh p h.world

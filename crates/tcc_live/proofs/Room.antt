@@ -18,7 +18,7 @@ use Rattle.tcc_rules.specs.Execute.{full_set, miss, load, word_store, change_val
 use Rattle.tcc_rules.specs.Useful.{room_for_line, room_for_word, room_for_store, room_for_need, room_unless_awaiting, room_in_phase, room}
 use Rattle.tcc_serial.specs.OneCore.{executes}
 use Rattle.tcc_live.specs.Progress.{IsEquipped}
-use Rattle.tcc_live.proofs.Events.{Moves, exec_moves, evict_moves}
+use Rattle.tcc_live.proofs.Events.{Moves, evict_moves}
 
 -- the room that is wanted is in the line's set, where no way is free, and the core is alone or some way is unmarked
 pub record Wants (sh : Shape) (l : ℕ) (s : CoreState) (wanted : Option ℕ) : Type 0 where
@@ -185,13 +185,15 @@ emptied sh l s r n a v = go (is_solo s.phase) refl
         record { way = w.0; below = w.1; evicts = evicts sh x w.0 s a (taken-way sh s.cache x w.0 v.full (w.1)) (inr (w.2)) }
 
 pub room_moves : (sh : Shape) (p : Program) (w : World) (c : ℕ) → IsEquipped sh p → c < sh.cores → executes (w.cores c).phase ≡ true
-    → (w.cores c).awaited ≡ None → Moves sh p w
+    → (w.cores c).awaited ≡ None → (is_some (core_exec sh p c (w.cores c)) ≡ true) ⊎ Moves sh p w
 room_moves sh p w c k i x a = go (exec-or sh p c (w.cores c) x a)
   where
-    go : (is_some (core_exec sh p c (w.cores c)) ≡ true) ⊎ WantsSome sh (w.cores c) (room sh p (w.cores c)) → Moves sh p w
-    go (inl e) = exec_moves sh p w c i e
+    go : (is_some (core_exec sh p c (w.cores c)) ≡ true) ⊎ WantsSome sh (w.cores c) (room sh p (w.cores c))
+        → (is_some (core_exec sh p c (w.cores c)) ≡ true) ⊎ Moves sh p w
+    go (inl e) = inl e
     go (inr v) =
         let u = v.wants in
         let e = emptied sh v.line (w.cores c) (room sh p (w.cores c)) k.ways a u in
         let n = k.sets in
-        evict_moves sh p w c (set_of sh v.line) e.way i (omega arith) e.below e.evicts (inr (rw u.room (grind (arith, nat_tests))))
+        inr (evict_moves sh p w c (set_of sh v.line) e.way i (omega arith) e.below e.evicts
+        (inr (rw u.room (grind (arith, nat_tests)))))

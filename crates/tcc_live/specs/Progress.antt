@@ -1,7 +1,7 @@
 -- No state is stuck: what is useful in each state that a run reaches.
-use Rattle.std.specs.Prelude.{ℕ, ◌≡◌, ◌≢◌, ◌<◌, ◌≤◌, Bool, true, List, [], length, Option, IfSome, ◌==◌}
+use Rattle.std.specs.Prelude.{ℕ, ◌≡◌, ◌≢◌, ◌<◌, ◌≤◌, ◌⊎◌, Bool, true, List, [], length, Option, IfSome, ◌==◌}
 use Rattle.tcc_program.specs.Program.{Local, Program}
-use Rattle.tcc_maps.specs.Nodes.{Core, Vendor, Event, Deliver}
+use Rattle.tcc_maps.specs.Nodes.{Core, Vendor, Event, Exec, Deliver}
 use Rattle.tcc_maps.specs.Shape.{Shape}
 use Rattle.tcc_rules.specs.State.{World, Halted, start}
 use Rattle.tcc_rules.specs.Picked.{picked}
@@ -9,6 +9,7 @@ use Rattle.tcc_rules.specs.Seen.{IsDone}
 use Rattle.tcc_rules.specs.Step.{History, run}
 use Rattle.tcc_rules.specs.Useful.{is_useful, useful}
 use Rattle.tcc_serial.specs.InMemory.{StaysInMemory}
+use Rattle.tcc_serial.specs.Tids.{has_tid}
 
 -- there is a directory, caches have a set and a way, and the program's accesses lie in memory
 pub record IsEquipped (sh : Shape) (p : Program) : Type 0 where
@@ -31,11 +32,16 @@ abbrev pub spares : (core : ℕ) → Event → Bool
 spares c (Deliver (Core j) Vendor k) = j == c
 spares c _ = true
 
--- a useful event for which no other core gets a place in the order
+-- the core has a TID, and so a place in the order
+abbrev pub IsPlaced : World → (core : ℕ) → Type 0
+IsPlaced w c = (tid : ℕ) × (has_tid (w.cores c).phase tid ≡ true)
+
+-- a useful event for which no other core gets a place in the order, and by which no other core executes but one that has a place
 pub record GoesOn (sh : Shape) (p : Program) (w : World) (c : ℕ) : Type 0 where
   pub event : Event
   pub is_useful : is_useful sh p w event ≡ true
   pub spares : spares c event ≡ true
+  pub executes : (a : ℕ) → event ≡ Exec a → (a ≡ c) ⊎ IsPlaced w a
 
 -- For each core that hasn't halted there is one.
 abbrev pub EachGoesOn : Shape → Program → World → Type 0

@@ -18,7 +18,8 @@ pub fn no_state_is_stuck()
 {}
 
 /// In every state that a run reaches, for each core that hasn't halted some useful event is another than to deliver another core's
-/// request for a TID: so no core has to take a place in the order for another one to go on.
+/// request for a TID: so no core has to take a place in the order for another one to go on. Nor does that event execute another core
+/// that has no place.
 pub fn each_core_goes_on()
     ensures goes_on { InEachState EachGoesOn }
 {}
