@@ -1,5 +1,5 @@
 -- Where a run is done all cores have ended, and so what it shows is an outcome.
-use Rattle.std.proofs.Common.{◌≡◌, true, Option, Some, None, IfSome, List, nat_lt, subst, arith}
+use Rattle.std.proofs.Common.{◌≡◌, ◌<◌, ℕ, true, Option, Some, None, IfSome, List, nat_lt, subst, arith}
 use Rattle.std.proofs.lemmas.Bool.Decides.{nat_tests}
 use Rattle.image_load.specs.Contents.{started}
 use Rattle.image_load.specs.Start.{Start}
@@ -31,22 +31,34 @@ pub core-ended : (q : Phase) (o : Outcome) → q ≡ Halted → fits q o ≡ tru
 core-ended q o e f r =
     halted-ended o (subst (λ p. fits p o ≡ true) e f) (subst (λ p. end_after p o ≡ Run) e r)
 
-done-ended : (s : Start) (h : History) → AllFit h.world → IsDone s.settings h.world → HaveEnded s.settings.cores (committed s h)
+-- a core that has halted has ended
+abbrev pub HaltsEnd : Start → History → Type 0
+HaltsEnd s h = (core : ℕ) → core < s.settings.cores → (h.world.cores core).phase ≡ Halted
+    → ((committed s h).cores core).ended ≡ Run → ⊥
+
+halts-end : (s : Start) (h : History) → AllFit h.world → HaltsEnd s h
 unfolding committed
-done-ended s h all done core lt =
+halts-end s h all core lt halted =
     let there : nat_lt core s.settings.cores ≡ true = grind (arith, nat_tests, lt) in
-    rw there (core-ended (h.world.cores core).phase (h.world.cores core).ended (done.halted core lt) (all core))
+    rw there (core-ended (h.world.cores core).phase (h.world.cores core).ended halted (all core))
 
 -- so after every run
-pub done-runs-have-ended : (s : Start) (es : List Event)
-    → AfterRun s es (λ h. IsDone s.settings h.world → HaveEnded s.settings.cores (committed s h))
-done-runs-have-ended s es =
+pub halted-cores-have-ended : (s : Start) (es : List Event) → AfterRun s es (HaltsEnd s)
+halted-cores-have-ended s es =
     go (run s.settings (program s) (world_at_start s) es) (run-fits s.settings (program s) (local_at_start s) (first_ram s) es)
   where
-    go : (x : Option History) → IfSome x (λ h. AllFit h.world)
-        → IfSome x (λ h. IsDone s.settings h.world → HaveEnded s.settings.cores (committed s h))
+    go : (x : Option History) → IfSome x (λ h. AllFit h.world) → IfSome x (HaltsEnd s)
     go None fit = tt
-    go (Some h) fit = done-ended s h fit
+    go (Some h) fit = halts-end s h fit
+
+pub done-runs-have-ended : (s : Start) (es : List Event)
+    → AfterRun s es (λ h. IsDone s.settings h.world → HaveEnded s.settings.cores (committed s h))
+done-runs-have-ended s es = go (run s.settings (program s) (world_at_start s) es) (halted-cores-have-ended s es)
+  where
+    go : (x : Option History) → IfSome x (HaltsEnd s)
+        → IfSome x (λ h. IsDone s.settings h.world → HaveEnded s.settings.cores (committed s h))
+    go None ends = tt
+    go (Some h) ends = λ done core lt. ends core lt (done.halted core lt)
 
 pub done-runs-are-outcomes : DoneRunsAreOutcomes
 unfolding started

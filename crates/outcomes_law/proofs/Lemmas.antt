@@ -1,2 +1,2 @@
--- What other crates may cite: that all cores have ended where a run is done.
-pub use Rattle.outcomes_law.proofs.Done.{done-runs-have-ended}
+-- What other crates may cite: that a core that has halted has ended, and so all have where a run is done.
+pub use Rattle.outcomes_law.proofs.Done.{HaltsEnd, halted-cores-have-ended, done-runs-have-ended}
