@@ -8,7 +8,7 @@ use Rattle.tcc_maps.specs.Nodes.{Event}
 use Rattle.follow_run.specs.Following.{may_come, next_of}
 
 -- the list from an event on begins with it
-from-here : (us : List Event) (k : ℕ) (e : Event) → slice_get us k ≡ Some e → drop k us ≡ e ∷ drop (suc k) us
+pub from-here : {A : Type 0} (us : List A) (k : ℕ) (e : A) → slice_get us k ≡ Some e → drop k us ≡ e ∷ drop (suc k) us
 from-here [] k e h = absurd (cc)
 from-here (x ∷ us) zero e h = let same : x ≡ e = cc in ap (λ y. y ∷ us) same
 from-here (x ∷ us) (suc k) e h = from-here us k e h
@@ -31,7 +31,7 @@ pub next-none : (turn : Option ℕ) (us : List Event) (k : ℕ) → length us �
 unfolding next_of
 next-none turn us k h = ap (find (may_come turn)) (drop_all k us h)
 
-pub none-past : (us : List Event) (k : ℕ) → slice_get us k ≡ None → k < length us → ⊥
+pub none-past : {A : Type 0} (us : List A) (k : ℕ) → slice_get us k ≡ None → k < length us → ⊥
 none-past [] k e l = omega (arith, l)
 none-past (x ∷ us) zero e l = cc
 none-past (x ∷ us) (suc k) e l = none-past us k e (omega (arith, l))

@@ -21,10 +21,10 @@ use Rattle.follow_run.proofs.Along.{Kept, followed-kept}
 use Rattle.follow_run.proofs.Lengths.{FirstPart, all-of-them, first-part}
 
 -- a core that the machine doesn't have doesn't run either
-all-ended : (s : Start) (h : History) → HaveEnded s.settings.cores (committed s h)
-    → (core : ℕ) → ((committed s h).cores core).ended ≡ Run → ⊥
+pub one-ended : (s : Start) (h : History) (core : ℕ) → (core < s.settings.cores → ((committed s h).cores core).ended ≡ Run → ⊥)
+    → ((committed s h).cores core).ended ≡ Run → ⊥
 unfolding committed
-all-ended s h ended core = go (nat_lt core s.settings.cores) refl (ended core)
+one-ended s h core = go (nat_lt core s.settings.cores) refl
   where
     one : Bool → PlainCore
     one b = if b then shown_core core (h.world.cores core) h.commits else no_core
@@ -34,18 +34,22 @@ all-ended s h ended core = go (nat_lt core s.settings.cores) refl (ended core)
     go true e f r = f (grind (arith, nat_tests, e)) (rw e r)
     go false e f r = cc
 
-keeps : (s : Start) (os : List Order) (h : History) → IsSome (serial s.settings.base (program s) 0 os (plain_start s)) → IsSerial s h
-    → Kept s os h → (IsDone s.settings h.world → HaveEnded s.settings.cores (committed s h)) → Keeps s os h
+-- what is committed is the first part of the list
+abbrev pub IsPart : Start → List Order → History → Type 0
+IsPart s os h = FirstPart s.settings.base (program s) h.commits os (committed s h)
+
+pub is-part : (s : Start) (os : List Order) (h : History) → IsSome (serial s.settings.base (program s) 0 os (plain_start s)) → IsSerial s h
+    → Kept s os h → IsPart s os h
 unfolding IsSerial
-keeps s os h some given kept ended = record {
+is-part s os h some given kept =
+    first-part s.settings.base (program s) 0 0 h.commits os (plain_start s) (committed s h, h.commits) kept.in_turn.firsts given some
+
+keeps : (s : Start) (os : List Order) (h : History) → IsPart s os h
+    → (IsDone s.settings h.world → HaveEnded s.settings.cores (committed s h)) → Keeps s os h
+keeps s os h part ended = record {
   firsts = part.agree;
-  all = λ done. all-of-them s.settings.base (program s) h.commits os (committed s h) part (all-ended s h (ended done));
+  all = λ done. all-of-them s.settings.base (program s) h.commits os (committed s h) part (λ core. one-ended s h core (ended done core));
 }
-  where
-    part : FirstPart s.settings.base (program s) h.commits os (committed s h)
-    part =
-        first-part s.settings.base (program s) 0 0 h.commits os (plain_start s) (committed s h, h.commits) kept.in_turn.firsts
-        given some
 
 pub followed-keeps : FollowedKeeps
 followed-keeps s os most allowed some =
@@ -56,4 +60,4 @@ followed-keeps s os most allowed some =
     go : (x : Option History) → IfSome x (IsSerial s) → IfSome x (Kept s os)
         → IfSome x (λ h. IsDone s.settings h.world → HaveEnded s.settings.cores (committed s h)) → IfSome x (Keeps s os)
     go None given kept ended = tt
-    go (Some h) given kept ended = keeps s os h some given kept ended
+    go (Some h) given kept ended = keeps s os h (is-part s os h some given kept) ended

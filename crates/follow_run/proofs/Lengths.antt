@@ -88,14 +88,19 @@ no-transaction : (base : ℕ) (p : Program) (m : Plain) (core n : ℕ) → ((m.c
 unfolding transaction
 no-transaction base p m core n h = none-runs (m.cores core).ended _ h
 
+-- the core of the first order runs
+pub first-runs : (base : ℕ) (p : Program) (last : ℕ) (o : Order) (os : List Order) (m : Plain) → IsSome (serial base p last (o ∷ os) m)
+    → ((m.cores o.core).ended ≡ Run → ⊥) → ⊥
+first-runs base p last o os m s ended =
+    let (end, all) = found (serial base p last (o ∷ os) m) s in
+    let does = (begins base p last o os m end all).does in
+    let none = no-transaction base p m o.core o.n ended in
+    cc
+
 none-left : (base : ℕ) (p : Program) (last : ℕ) (os : List Order) (m : Plain) → ((core : ℕ) → (m.cores core).ended ≡ Run → ⊥)
     → IsSome (serial base p last os m) → os ≡ []
 none-left base p last [] m ended s = refl
-none-left base p last (o ∷ os) m ended s =
-    let (end, all) = found (serial base p last (o ∷ os) m) s in
-    let does = (begins base p last o os m end all).does in
-    let none = no-transaction base p m o.core o.n (ended o.core) in
-    absurd (cc)
+none-left base p last (o ∷ os) m ended s = absurd (first-runs base p last o os m s (ended o.core))
 
 pub all-of-them : (base : ℕ) (p : Program) (cs : List Noted) (os : List Order) (end : Plain) → FirstPart base p cs os end
     → ((core : ℕ) → (end.cores core).ended ≡ Run → ⊥) → Agree cs os

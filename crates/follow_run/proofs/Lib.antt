@@ -1,7 +1,7 @@
 -- The proofs of this crate.
 mod Along
 mod Clear
-mod Compared
+mod Ending
 mod Finding
 mod Followed
 mod InTurn

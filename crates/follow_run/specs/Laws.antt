@@ -31,3 +31,10 @@ abbrev pub FollowedKeeps : Type 0
 FollowedKeeps =
     (s : Start) (orders : List Order) (most : ℕ) → IsAllowed s.settings
     → IsSome (serial s.settings.base (program s) 0 orders (plain_start s)) → AfterRun s (followed_by s orders most) (Keeps s orders)
+
+-- Such a run isn't stuck before the list's end: it has so many events, or has committed all of the list.
+abbrev pub FollowedAll : Type 0
+FollowedAll =
+    (s : Start) (orders : List Order) (most : ℕ) → IsAllowed s.settings
+    → IsSome (serial s.settings.base (program s) 0 orders (plain_start s)) → length (followed_by s orders most) < most
+    → AfterRun s (followed_by s orders most) (λ h. Agree h.commits orders)
