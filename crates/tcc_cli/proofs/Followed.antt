@@ -1,8 +1,9 @@
 -- A run that follows the list of a file.
-use Rattle.std.proofs.Common.{◌≡◌, ℕ, Bool, List, map, length, IfSome, sym, subst}
+use Rattle.std.proofs.Common.{◌≡◌, ◌<◌, ℕ, Bool, List, map, length, IfSome, ap, sym, subst, ◌∙◌}
+use Rattle.std.proofs.lemmas.List.{length-map}
 use Rattle.std.specs.Prelude.{IsSome}
-use Rattle.follow_run.specs.Following.{followed_by}
-use Rattle.follow_run.specs.Laws.{FollowedKeeps, Keeps}
+use Rattle.follow_run.specs.Following.{Agree, followed_by}
+use Rattle.follow_run.specs.Laws.{FollowedAll, FollowedKeeps, Keeps}
 use Rattle.image_load.specs.Start.{Start}
 use Rattle.rv_code.specs.Machine.{program}
 use Rattle.rv_plain.specs.Machine.{plain_start}
@@ -27,12 +28,22 @@ kept-list keeps s bytes orders es h allowed l f is =
     let some = subst (λ os. IsSome (serial s.settings.base (program s) 0 os (plain_start s))) (sym l.orders_are) l.executed in
     after-so s (followed_by s orders 4194304) h (Keeps s orders) (subst (λ fs. IsRun s fs h) f is) (keeps s orders 4194304 allowed some)
 
-pub followed-ran : FollowedKeeps → (s : Start) (bytes : List ℕ) (IsKept : List Event → Type 0) (es : List Event) (h : History) (done : Bool)
+-- and are all of them, where events are left
+all-kept : FollowedAll → (s : Start) (bytes : List ℕ) (orders : List Order) (es : List Event) (h : History) → IsAllowed s.settings
+    → IsListed s bytes orders → Follows s orders es → IsRun s (map event_of es) h → length es < 4194304 → Agree h.commits orders
+all-kept all s bytes orders es h allowed l f is few =
+    let some = subst (λ os. IsSome (serial s.settings.base (program s) 0 os (plain_start s))) (sym l.orders_are) l.executed in
+    let count = sym (length-map es event_of) ∙ ap length f in
+    after-so s (followed_by s orders 4194304) h (λ g. Agree g.commits orders) (subst (λ fs. IsRun s fs h) f is)
+    (all s orders 4194304 allowed some (subst (λ n. n < 4194304) count few))
+
+pub followed-ran : FollowedKeeps → FollowedAll → (s : Start) (bytes : List ℕ) (IsKept : List Event → Type 0) (es : List Event) (h : History) (done : Bool)
     (text : List ℕ) → IsAllowed s.settings → IsFollowed s bytes es → IsKept es → RunsTo s es done h → text ≡ run_text s done (length es) h
     → RanFollowing s bytes IsKept done text
-followed-ran keeps s bytes IsKept es h done text allowed (orders, listed, follows) kept runs told = record {
+followed-ran keeps all s bytes IsKept es h done text allowed (orders, listed, follows) kept runs told = record {
   orders = orders;
   listed = listed;
   ran = record { events = es; ends = h; schedule = (follows, kept); runs = runs; text_is = told };
   keeps = kept-list keeps s bytes orders es h allowed listed follows runs.is_run;
+  all = all-kept all s bytes orders es h allowed listed follows runs.is_run;
 }

@@ -1,6 +1,6 @@
 -- A run whose transactions commit in the order of a list.
-use Rattle.std.specs.Prelude.{ℕ, ◌≡◌, Bool, List, map, IsSome}
-use Rattle.follow_run.specs.Following.{followed_by}
+use Rattle.std.specs.Prelude.{ℕ, ◌≡◌, ◌<◌, Bool, List, map, length, IsSome}
+use Rattle.follow_run.specs.Following.{Agree, followed_by}
 use Rattle.follow_run.specs.Laws.{Keeps}
 use Rattle.image_load.specs.Start.{Start}
 use Rattle.rv_plain.specs.PlainState.{order_of}
@@ -28,9 +28,10 @@ abbrev pub IsFollowed : Start → (bytes : List ℕ) → List Event → Type 0
 IsFollowed s bytes es = (orders : List Order) × IsListed s bytes orders × Follows s orders es
 
 -- A run by the schedule that follows a list, with the text of its end. Its commits are the first of the list's transactions, in their
--- order; where it is done they are all of them.
+-- order. They are all of them where it is done, and where it took fewer events than there may be: it isn't stuck before the list's end.
 pub record RanFollowing (s : Start) (bytes : List ℕ) (IsKept : List Event → Type 0) (done : Bool) (text : List ℕ) : Type 0 where
   pub orders : List Order
   pub listed : IsListed s bytes orders
   pub ran : Ran s (λ es. Follows s orders es × IsKept es) (run_text s) done text
   pub keeps : Keeps s orders ran.ends
+  pub all : length ran.events < 4194304 → Agree ran.ends.commits orders
