@@ -137,6 +137,21 @@ fn find(states: &[Snapshot], chains: &Chains, digest: u64, state: &Snapshot) -> 
     None
 }
 
+/// Makes room for a further state and, where there is none, for a quarter more than there are: after it has doubled, half of the memory
+/// would be empty.
+fn make_room(states: &mut List<Snapshot>) -> Result<(), NoMemory>
+    ensures { states.new ≡ states.old }
+{
+    let count = states.items.len();
+    if count < states.items.capacity() {
+        return Ok(());
+    }
+    states
+        .items
+        .reserve_exact(count / 4 + 16)
+        .map_err(|_| NoMemory)
+}
+
 /// The states that were found, in the order of their numbers.
 #[derive(Debug, Drop)]
 pub(crate) struct Table {
@@ -181,6 +196,7 @@ impl Table {
         ensures pushed { OnOk result (self.new ≡ self.old ++ state ∷ []) }
         ensures unchanged { OnErr result (self.new ≡ self.old) }
     {
+        make_room(&mut self.states)?;
         self.states.push(state)?;
         match self.chains.add(digest) {
             Ok(()) => Ok(()),
