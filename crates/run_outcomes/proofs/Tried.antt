@@ -395,14 +395,3 @@ pub has-tried : (limits : Limits) (e : Explored) (full : Bool)
 has-tried limits e full (None, some, h) limit whole cut = record { out = None; tried = h; full = tt; done = whole (sym some) }
 has-tried limits e full (Some i, some, h) limit whole cut =
     record { out = Some i; tried = h; full = limit (sym some); done = cut (sym some) }
-
--- the first pair whose transaction doesn't end is one of a state that was found
-pub endless-inside : (limits : Limits) (e : Explored) → HasTried limits e → IfSome e.endless_at (λ pair. pair.state < length e.states)
-endless-inside limits e h = go e.endless_at h.tried.endless_first
-  where
-    go : (at : Option Pair)
-        → IsFirstPair (IsEndlessAt e.loaded e.states limits.longest) e.loaded.settings.cores
-        (tried_of (length e.states * e.loaded.settings.cores) h.out) at
-        → IfSome at (λ pair. pair.state < length e.states)
-    go None first = tt
-    go (Some pair) first = subst (λ (p : Pair). p.state < length e.states) (sym first.2) first.1.1.0
