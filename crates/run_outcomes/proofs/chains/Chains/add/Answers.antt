@@ -14,4 +14,5 @@ returns-in-Ok-clause-added c = λ keys h.
     ∙ ap (unwrap_or (last_with keys c.args.key (length keys))) number in
     chained-more keys c.args.key old (record { newest = c.insert.new.self; older = c.push.new.self }) c.in_ok-older.older h
     c.in_ok-push.ensures first
-    (λ q. c.in-Ok.ensures.updates.0 q ∙ ap (λ n. cond (nat_eq c.args.key q) (Some n) (get nat_eq old.newest q)) (c.in_ok-number.ensures ∙ number))
+    (λ q. c.in-Ok.ensures.updates.0 q
+    ∙ ap (λ n. cond (nat_eq c.args.key q) (Some n) (get nat_eq old.newest q)) (c.in_ok-number.ensures ∙ number))
