@@ -7,6 +7,7 @@ mod Ending
 mod Excluded
 mod Executed
 mod Facts
+mod Followed
 mod Loading
 mod Looking
 mod Machines
