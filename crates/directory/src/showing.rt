@@ -1,7 +1,10 @@
-// What is shown of a directory beside a line's state: the skips and the sharers.
-ghost use Rattle.std.specs.Prelude.{◌≡◌, ◌+◌, ◌<◌, ◌^◌, ℕ, length};
+// What is shown of a directory beside a line's state: the skips, the sharers and which lines are marked.
+ghost use Rattle.std.specs.Prelude.{◌≡◌, ◌+◌, ◌<◌, ◌^◌, ℕ, length, option_map, slice_get};
+ghost use Rattle.tcc_maps.specs.Lines.{has_mark};
 ghost use Rattle.tcc_maps.specs.Masks.{has};
 ghost use Rattle.tcc_maps.specs.Serving.{is_skipped};
+ghost use Rattle.tcc_maps.specs.Shape.{lines as line_count};
+ghost use Rattle.tcc_maps.specs.Words.{those};
 ghost use Rattle.dir_lines.specs.Home.{IsAtHome};
 ghost use Rattle.directory.specs.Data.{dir_of};
 
@@ -31,5 +34,13 @@ impl Directory {
         ensures { (elsewhere : ℕ → ℕ) (c : ℕ) → has result.0 c ≡ (dir_of elsewhere self.now).lines.sharers line.0 c }
     {
         self.lines.get(line).sharers
+    }
+
+    /// The k-th marked line in rising order, from 0; `None` exactly where there are no more than k. It takes constant time.
+    pub fn marked_line(&self, k: usize) -> Option<LineAddr>
+        ensures { (elsewhere : ℕ → ℕ) → option_map (λ l. l.0) result
+            ≡ slice_get (those (has_mark (dir_of elsewhere self.now).lines) (line_count self.now.lines.place.shape)) k }
+    {
+        self.lines.marked_line(k)
     }
 }
