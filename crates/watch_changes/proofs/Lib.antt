@@ -7,9 +7,14 @@ pub mod Rising
 pub mod OrderedCores
 pub mod OrderedDirectories
 pub mod Ordered
+pub mod Splitting
+pub mod Parting
+pub mod Ruling
+pub mod Touching
+pub mod Listing
+pub mod Silent
 pub mod Acting
 pub mod Traced
-pub mod Renewing
 pub mod Coded
 pub mod Told
 pub mod Lemmas

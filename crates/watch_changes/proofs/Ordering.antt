@@ -1,5 +1,5 @@
 -- Lists of records that lie between two keys, piece by piece.
-use Rattle.std.proofs.Common.{◌≡◌, ℕ, zero, suc, ◌<◌, Bool, true, false, List, [], ◌∷◌, ◌++◌}
+use Rattle.std.proofs.Common.{◌≡◌, ℕ, zero, suc, ◌<◌, Bool, true, false, cond, List, [], ◌∷◌, ◌++◌}
 use Rattle.std.proofs.Common.{refl, ap, subst, sym, ◌∙◌, arith}
 use Rattle.std.specs.List.{flat_map}
 use Rattle.std.proofs.lemmas.List.Concat.{flat_map-append}
@@ -112,18 +112,25 @@ lie-append k l m rs ss u v a b = record {
 
 -- ---- pieces by number, each between the key of its number and that of the next
 
-pub lie-numbers : (f : ℕ → List Record) (k : ℕ → List ℕ) → ((n : ℕ) → IsUpTo (k n) (k (suc n)))
-    → (n : ℕ) → ((j : ℕ) → j < n → Lie (k j) (k (suc j)) (f j)) → Lie (k zero) (k n) (flat_map f (numbers n))
+-- of the numbers with a property
+pub lie-those : (f : ℕ → List Record) (k : ℕ → List ℕ) (p : ℕ → Bool) → ((n : ℕ) → IsUpTo (k n) (k (suc n)))
+    → (n : ℕ) → ((j : ℕ) → j < n → Lie (k j) (k (suc j)) (f j)) → Lie (k zero) (k n) (flat_map f (those p n))
 unfolding those
-lie-numbers f k up zero h = lie-none (k zero) (k zero)
-lie-numbers f k up (suc n) h =
-    let last : flat_map f (n ∷ []) ≡ f n = append-nil (f n) in
-    let all : flat_map f (numbers (suc n)) ≡ flat_map f (numbers n) ++ f n =
-    flat_map-append f (numbers n) (n ∷ []) ∙ ap (λ rs. flat_map f (numbers n) ++ rs) last in
-    subst (λ rs. Lie (k zero) (k (suc n)) rs) (sym all)
-    (lie-append (k zero) (k n) (k (suc n)) (flat_map f (numbers n)) (f n) (first n) (up n)
-    (lie-numbers f k up n (λ j b. h j (omega (arith, b)))) (h n (omega arith)))
+lie-those f k p up zero h = lie-none (k zero) (k zero)
+lie-those f k p up (suc n) h =
+    subst (λ rs. Lie (k zero) (k (suc n)) rs) (sym (flat_map-append f (those p n) (cond (p n) (n ∷ []) [])))
+    (lie-append (k zero) (k n) (k (suc n)) (flat_map f (those p n)) (flat_map f (cond (p n) (n ∷ []) [])) (first n) (up n)
+    (lie-those f k p up n (λ j b. h j (omega (arith, b)))) (last (p n)))
   where
     first : (m : ℕ) → IsUpTo (k zero) (k m)
     first zero = up-to-self (k zero)
     first (suc m) = up-to-up-to (k zero) (k m) (k (suc m)) (first m) (up m)
+
+    last : (b : Bool) → Lie (k n) (k (suc n)) (flat_map f (cond b (n ∷ []) []))
+    last true = subst (λ rs. Lie (k n) (k (suc n)) rs) (sym (append-nil (f n))) (h n (omega arith))
+    last false = lie-none (k n) (k (suc n))
+
+-- of all numbers
+pub lie-numbers : (f : ℕ → List Record) (k : ℕ → List ℕ) → ((n : ℕ) → IsUpTo (k n) (k (suc n)))
+    → (n : ℕ) → ((j : ℕ) → j < n → Lie (k j) (k (suc j)) (f j)) → Lie (k zero) (k n) (flat_map f (numbers n))
+lie-numbers f k up n h = lie-those f k (λ j. true) up n h

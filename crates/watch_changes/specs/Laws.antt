@@ -15,6 +15,7 @@ use Rattle.watch_trace.specs.Text.{trace_text}
 use Rattle.watch_changes.specs.Changes.{AreChangesOrdered, AreNew, change_lines, changes, put_on}
 use Rattle.watch_changes.specs.Nodes.{AreAlikeBut, records_at}
 use Rattle.watch_changes.specs.Text.{facts_alone, shown_text}
+use Rattle.watch_changes.specs.Touched.{part_records, touched}
 
 -- the records that a node had, with the changes put on them, are those that it has
 abbrev pub ChangesLeadOn : Type 0
@@ -39,6 +40,13 @@ abbrev pub OthersStay : Type 0
 OthersStay =
     (sh : Shape) (p : Program) (first : ℕ → ℕ) (h k : History) (e : Event) → next_history sh p h e ≡ Some k
     → AreAlikeBut sh first (actor e) h.world k.world
+
+-- and what changed of this node is what changed of the part that the event touches
+abbrev pub TouchedSuffices : Type 0
+TouchedSuffices =
+    (sh : Shape) (p : Program) (first : ℕ → ℕ) (h k : History) (e : Event) → next_history sh p h e ≡ Some k
+    → changes (records_at sh first h.world (actor e)) (records_at sh first k.world (actor e))
+    ≡ changes (part_records sh first h.world (touched sh h.world e)) (part_records sh first k.world (touched sh h.world e))
 
 -- with the facts alone it is the trace without records
 abbrev pub WithoutRecords : Type 0

@@ -3,6 +3,7 @@ pub mod Order
 pub mod Same
 pub mod Changes
 pub mod Nodes
+pub mod Touched
 pub mod Text
 pub mod Plain
 pub mod Laws

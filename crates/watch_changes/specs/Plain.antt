@@ -1,8 +1,11 @@
 -- What the code keeps and finds, in the words of the definitions.
-use Rattle.std.specs.Prelude.{ℕ, ◌≡◌, true, false, List, [], ◌∷◌, ◌++◌, get_or, length, map}
-use Rattle.tcc_maps.specs.Nodes.{Node, Core, Dir, Vendor, node_eq}
-use Rattle.tcc_maps.specs.Shape.{Shape}
-use Rattle.tcc_rules.specs.State.{World}
+use Rattle.std.specs.Prelude.{ℕ, ◌≡◌, ◌<◌, ◌==◌, nat_lt, true, List, [], ◌∷◌, map, if◌then◌else◌}
+use Rattle.std.specs.List.{All}
+use Rattle.tcc_base.specs.declared.names.LineAddr.{LineAddr}
+use Rattle.tcc_base.specs.declared.names.NodeId.{NodeId}
+use Rattle.tcc_maps.specs.Bridge.{node_of}
+use Rattle.tcc_maps.specs.Nodes.{Node, Core, Dir, Vendor}
+use Rattle.tcc_maps.specs.Shape.{Shape, lines}
 use Rattle.tcc_rules.specs.Step.{is_node}
 use Rattle.rv_code.specs.Machine.{first_ram}
 use Rattle.net_core.specs.Machine.{Machine, settings_of, start_of, world_of}
@@ -11,6 +14,7 @@ use Rattle.watch_state.specs.Records as plain_record
 use Rattle.watch_state.specs.declared.records.Record.{Record}
 use Rattle.watch_changes.specs.Changes as plain
 use Rattle.watch_changes.specs.Nodes.{records_at}
+use Rattle.watch_changes.specs.Touched.{Part, OfCore, OfDirectory, OfVendor, part_records}
 use Rattle.watch_changes.specs.declared.meeting.Key.{Key}
 use Rattle.watch_changes.specs.declared.meeting.Meeting.{Meeting}
 use Rattle.watch_changes.specs.declared.meeting.Meeting.TheVariants as code
@@ -24,37 +28,58 @@ meeting_of code.Left = plain.Left
 meeting_of code.Came = plain.Came
 meeting_of code.Changed = plain.Changed
 
--- the records that are kept of each node
-pub record ByNode : Type 0 where
-  pub cores : List (List Record)
-  pub dirs : List (List Record)
-  pub vendor : List Record
+-- ---- lines
 
-abbrev pub kept_at : ByNode → Node → List Record
-kept_at k (Core c) = get_or k.cores c []
-kept_at k (Dir d) = get_or k.dirs d []
-kept_at k Vendor = k.vendor
+abbrev pub line_numbers : List LineAddr → List ℕ
+line_numbers ls = map (λ l. l.0) ls
 
--- they are those of this state
-abbrev pub IsKept : ByNode → Shape → (first : ℕ → ℕ) → World → Type 0
-IsKept k sh first w = (n : Node) → is_node sh n ≡ true → map record_of (kept_at k n) ≡ records_at sh first w n
+-- one more among rising numbers, where it isn't one of them
+unfoldable pub with_line : (line : ℕ) → List ℕ → List ℕ
+with_line l [] = l ∷ []
+with_line l (j ∷ js) = if nat_lt j l then j ∷ with_line l js else if l == j then j ∷ js else l ∷ j ∷ js
 
--- of this node they are these now, and of all others as they were
-pub record Renewed (old new : ByNode) (n : Node) (rs : List plain_record.Record) : Type 0 where
-  pub own : map record_of (kept_at new n) ≡ rs
-  pub others : (m : Node) → node_eq m n ≡ false → kept_at new m ≡ kept_at old m
+-- ---- the part of a node's records that an event may change
 
--- there is a list for each node
-pub record Fits (k : ByNode) (sh : Shape) : Type 0 where
-  pub cores : length k.cores ≡ sh.cores
-  pub dirs : length k.dirs ≡ sh.dirs
+-- the node, and of a directory the lines
+pub record Listed : Type 0 where
+  pub node : NodeId
+  pub known : List LineAddr
+  pub words : List LineAddr
+
+abbrev pub part_at : Node → (known words : List ℕ) → Part
+part_at (Core c) known words = OfCore c
+part_at (Dir d) known words = OfDirectory d known words
+part_at Vendor known words = OfVendor
+
+abbrev pub part_of : Listed → Part
+part_of p = part_at (node_of p.node) (line_numbers p.known) (line_numbers p.words)
+
+-- a machine with these settings has the node and the lines
+pub record IsInside (sh : Shape) (p : Listed) : Type 0 where
+  pub node : is_node sh (node_of p.node) ≡ true
+  pub known : All (λ l. l.0 < lines sh) p.known
+  pub words : All (λ l. l.0 < lines sh) p.words
+
+-- its records, as the machine is
+abbrev pub records_of_part : Machine → Listed → List plain_record.Record
+records_of_part m p = part_records (settings_of m) (first_ram (start_of m)) (world_of m) (part_of p)
+
+-- with the records as they were
+pub record Seen : Type 0 where
+  pub part : Listed
+  pub records : List Record
+
+-- they are those of this machine
+pub record IsSeen (m : Machine) (b : Seen) : Type 0 where
+  pub inside : IsInside (settings_of m) b.part
+  pub records : map record_of b.records ≡ records_of_part m b.part
+
+-- what changed of it since
+abbrev pub changes_since : Seen → Machine → List plain.Change
+changes_since b m = plain.changes (map record_of b.records) (records_of_part m b.part)
+
+-- ---- all records of a node
 
 -- of a node of this machine, as it is
 abbrev pub records_now : Machine → Node → List plain_record.Record
 records_now m n = records_at (settings_of m) (first_ram (start_of m)) (world_of m) n
-
--- a node of this machine was looked at: what changed of its records stands behind the text, and they are kept
-pub record Looked (old new : ByNode) (m : Machine) (n : Node) (before after : List ℕ) : Type 0 where
-  pub told : after ≡ before ++ plain.change_lines (plain.changes (map record_of (kept_at old n)) (records_now m n))
-  pub kept : Renewed old new n (records_now m n)
-  pub fits : Fits new (settings_of m)

@@ -1,8 +1,8 @@
 -- The proofs of this crate.
 mod Going
-mod Keeping
 mod Leading
 mod Picking
 mod Tallies
+mod Told
 mod Traced
 mod Written

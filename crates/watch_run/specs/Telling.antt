@@ -1,25 +1,26 @@
--- A run that is told event by event: its lines, and the records that are kept for them.
-use Rattle.std.specs.Prelude.{ℕ, ◌≡◌, Bool, true, List, Option, Some, None}
-use Rattle.tcc_maps.specs.Nodes.{Node, Event}
-use Rattle.tcc_maps.specs.Shape.{Shape}
-use Rattle.tcc_rules.specs.State.{World}
-use Rattle.net_core.specs.Machine.{Machine, history_of, program_of, settings_of, start_of}
-use Rattle.watch_changes.specs.Plain.{ByNode, Fits, IsKept, Looked}
+-- A run that is told event by event: its lines, and what an event changed.
+use Rattle.std.specs.Prelude.{ℕ, ◌≡◌, Bool, true, false, List, ◌++◌, Option, Some, None}
+use Rattle.tcc_maps.specs.Nodes.{Event}
+use Rattle.tcc_rules.specs.Step.{is_node}
+use Rattle.net_core.specs.Machine.{Machine, history_of, program_of, settings_of, start_of, world_of}
+use Rattle.watch.specs.Happened.{actor}
+use Rattle.watch_changes.specs.Changes.{change_lines}
+use Rattle.watch_changes.specs.Plain.{IsSeen, Seen, changes_since, part_of}
 use Rattle.watch_changes.specs.Text.{shown_from, shows}
+use Rattle.watch_changes.specs.Touched.{touched}
 use Rattle.watch_run.specs.declared.telling.Shown.{Shown}
 
--- those of this state, where records are shown and the window has begun; else none
-abbrev pub Keeps : (states begun : Bool) → Option ByNode → Shape → (first : ℕ → ℕ) → World → Type 0
-Keeps true true (Some k) sh first w = IsKept k sh first w × Fits k sh
-Keeps true true None sh first w = ⊥
-Keeps _ _ (Some k) sh first w = ⊥
-Keeps _ _ None sh first w = Unit {0}
+-- where records are shown, what this event may change was seen before it; else nothing was
+abbrev pub IsLook : (states : Bool) → Option Seen → Machine → Event → Type 0
+IsLook true (Some b) m e =
+    IsSeen m b × (is_node (settings_of m) (actor e) ≡ true → part_of b.part ≡ touched (settings_of m) (world_of m) e)
+IsLook false None m e = Unit {0}
+IsLook _ _ m e = ⊥
 
--- a node was looked at, where records are kept; else nothing is told
-abbrev pub IsLookedAt : (old new : Option ByNode) → Machine → Node → (before after : List ℕ) → Type 0
-IsLookedAt (Some k) (Some l) m n before after = Looked k l m n before after
-IsLookedAt None None m n before after = after ≡ before
-IsLookedAt _ _ m n before after = ⊥
+-- what changed of it is told
+abbrev pub IsTold : Option Seen → Machine → (before after : List ℕ) → Type 0
+IsTold (Some b) m before after = after ≡ before ++ change_lines (changes_since b m)
+IsTold None m before after = after ≡ before
 
 -- the lines of the events that are shown, from a machine's state on
 abbrev pub lines_from : Shown → Machine → List Event → List ℕ

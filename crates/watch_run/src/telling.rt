@@ -1,25 +1,21 @@
 // What is told of a run, event by event.
-ghost use Rattle.std.specs.Prelude.{◌≡◌, ◌++◌, ◌+◌, ◌<◌, ◌==◌, [], IfOk, IfSome, OnOk, if◌then◌else◌, map, nat_le, string_bytes, true};
-ghost use Rattle.rv_code.specs.Machine.{first_ram};
-ghost use Rattle.tcc_maps.specs.Bridge.{node_of};
+ghost use Rattle.std.specs.Prelude.{◌≡◌, ◌++◌, ◌+◌, ◌<◌, ◌≤◌, ◌==◌, [], IfOk, IfSome, OnOk, if◌then◌else◌, map, string_bytes};
 ghost use Rattle.tcc_msg.specs.Plain.{event_of};
-ghost use Rattle.tcc_rules.specs.Step.{is_node};
 ghost use Rattle.net_core.specs.Machine.{history_of, program_of, settings_of, start_of, world_of};
-ghost use Rattle.watch.specs.Happened.{actor as plain_actor, happened};
+ghost use Rattle.watch.specs.Happened.{happened};
 ghost use Rattle.watch.specs.Plain.{fact_of};
-ghost use Rattle.watch_trace.specs.Text.{event_and_facts};
+ghost use Rattle.watch_trace.specs.Text.{event_and_facts, event_text};
 ghost use Rattle.watch_changes.specs.Text.{added, shows};
-ghost use Rattle.watch_changes.specs.Plain.{Fits};
+ghost use Rattle.watch_changes.specs.Plain.{IsInside};
 ghost use Rattle.watch_run.specs.Going.{Took};
-ghost use Rattle.watch_run.specs.Telling.{IsLookedAt, Keeps};
+ghost use Rattle.watch_run.specs.Telling.{IsLook, IsTold};
 
-use crate::events::actor;
 use net_core::System;
 use std::alloc::{AllocError, Global};
-use tcc_base::{List, NoMemory, NodeId};
+use tcc_base::{List, NoMemory};
 use tcc_msg::Event;
 use watch::Fact;
-use watch_changes::Kept;
+use watch_changes::{Before, begin as begin_records};
 use watch_machine::watch;
 use watch_trace::push_event_facts;
 
@@ -45,65 +41,73 @@ fn take(system: &mut System, e: Event, facts: &mut List<Fact>) -> Result<(), NoM
     }
 }
 
-/// The records of all nodes and their lines, where records are shown.
+/// The lines of all records, where records are shown.
 fn begin_window(
     alloc: Global,
     states: bool,
     system: &System,
     text: &mut String,
-) -> Result<Option<Kept>, NoMemory>
-    requires settled { system.now.unsent ≡ [] }
-    ensures keeps { IfOk result (λ kept. Keeps states true kept (settings_of system.now) (first_ram (start_of system.now))
-        (world_of system.now)) }
-    ensures text { OnOk result (string_bytes text.new
+) -> Result<(), NoMemory>
+    requires { system.now.unsent ≡ [] }
+    ensures { OnOk result (string_bytes text.new
         ≡ string_bytes text.old ++ (shows states (start_of system.now)).begins (world_of system.now)) }
 {
     if !states {
-        return Ok(None);
+        return Ok(());
     }
-    match Kept::begin(alloc, text, system) {
-        Ok(kept) => Ok(Some(kept)),
+    match begin_records(alloc, text, system) {
+        Ok(()) => Ok(()),
         Err(_) => Err(NoMemory),
     }
 }
 
-/// What changed of a node that has acted, where its records are kept.
+/// The records that an event may change, as they are before it, where records are shown.
+fn look(alloc: Global, states: bool, system: &System, e: Event) -> Result<Option<Before>, NoMemory>
+    ensures { IfOk result (λ before. IsLook states before system.now (event_of e)) }
+{
+    if states {
+        return match Before::look(alloc, system, e) {
+            Ok(before) => Ok(Some(before)),
+            Err(_) => Err(NoMemory),
+        };
+    }
+    Ok(None)
+}
+
+/// What changed of them.
 fn tell_changes(
     alloc: Global,
-    kept: &mut Option<Kept>,
+    before: &Option<Before>,
     system: &System,
-    node: NodeId,
     text: &mut String,
 ) -> Result<(), AllocError>
-    requires exists { is_node (settings_of system.now) (node_of node) ≡ true }
-    requires fits { IfSome kept.old (λ k. Fits k (settings_of system.now)) }
-    ensures { OnOk result (IsLookedAt kept.old kept.new system.now (node_of node) (string_bytes text.old) (string_bytes text.new)) }
+    requires { IfSome before.now (λ b. IsInside (settings_of system.now) b.part) }
+    ensures { OnOk result (IsTold before.now system.now (string_bytes text.old) (string_bytes text.new)) }
 {
-    match kept {
-        Some(kept) => kept.event(alloc, text, system, node),
+    match before {
+        Some(before) => before.tell(alloc, text, system),
         None => Ok(()),
     }
 }
 
-/// The text of an event that a machine has taken: what it did, and what changed of its node, where records are kept.
+/// The text of an event that a machine has taken: what it did, and what it changed, where records are shown.
 fn tell_event(
     alloc: Global,
-    kept: &mut Option<Kept>,
+    before: &Option<Before>,
     system: &System,
     e: Event,
     facts: &[Fact],
     text: &mut String,
 ) -> Result<(), NoMemory>
-    requires exists { is_node (settings_of system.now) (plain_actor (event_of e)) ≡ true }
-    requires fits { IfSome kept.old (λ k. Fits k (settings_of system.now)) }
-    ensures { OnOk result (IsLookedAt kept.old kept.new system.now (plain_actor (event_of e))
+    requires { IfSome before.now (λ b. IsInside (settings_of system.now) b.part) }
+    ensures { OnOk result (IsTold before.now system.now
         (string_bytes text.old ++ event_and_facts (event_of e) (map fact_of facts.now)) (string_bytes text.new)) }
 {
     match push_event_facts(text, &e, facts) {
         Ok(()) => {}
         Err(_) => return Err(NoMemory),
     }
-    match tell_changes(alloc, kept, system, actor(e), text) {
+    match tell_changes(alloc, before, system, text) {
         Ok(()) => Ok(()),
         Err(_) => Err(NoMemory),
     }
@@ -115,21 +119,39 @@ pub(crate) fn begin(
     shown: Shown,
     system: &System,
     text: &mut String,
-) -> Result<Option<Kept>, NoMemory>
-    requires settled { system.now.unsent ≡ [] }
-    ensures keeps { IfOk result (λ kept. Keeps shown.states (nat_le shown.from 0) kept (settings_of system.now)
-        (first_ram (start_of system.now)) (world_of system.now)) }
-    ensures text { OnOk result (string_bytes text.new ≡ string_bytes text.old ++ (if shown.from == 0
+) -> Result<(), NoMemory>
+    requires { system.now.unsent ≡ [] }
+    ensures { OnOk result (string_bytes text.new ≡ string_bytes text.old ++ (if shown.from == 0
         then (shows shown.states (start_of system.now)).begins (world_of system.now) else [])) }
 {
     if shown.from != 0 {
-        return Ok(None);
+        return Ok(());
     }
     begin_window(alloc, shown.states, system, text)
 }
 
+/// Takes an event of the window, and appends its text.
+fn shown_event(
+    alloc: Global,
+    system: &mut System,
+    e: Event,
+    states: bool,
+    facts: &mut List<Fact>,
+    text: &mut String,
+) -> Result<(), NoMemory>
+    requires few { system.old.events < 4194304 }
+    ensures took { OnOk result (Took system.old system.new (event_of e)) }
+    ensures text { OnOk result (string_bytes text.new ≡ string_bytes text.old
+        ++ (event_text (settings_of system.old) (program_of system.old) (history_of system.old) (event_of e)
+        ++ (shows states (start_of system.old)).event (world_of system.old) (world_of system.new) (event_of e))) }
+{
+    let before = look(alloc, states, system, e)?;
+    take(system, e, facts)?;
+    tell_event(alloc, &before, system, e, &facts.items, text)
+}
+
 /// Takes event number `number`, and appends what it adds: its text in the window, and just before the window all records. `facts` is a
-/// place for what the event did, and `kept` has the records of all nodes where they are shown, from the beginning of the window on.
+/// place for what the event did.
 pub(crate) fn event(
     alloc: Global,
     system: &mut System,
@@ -137,27 +159,21 @@ pub(crate) fn event(
     shown: Shown,
     number: u32,
     facts: &mut List<Fact>,
-    kept: &mut Option<Kept>,
     text: &mut String,
 ) -> Result<(), NoMemory>
     requires few { system.old.events < 4194304 }
-    requires keeps { Keeps shown.states (nat_le shown.from number) kept.old (settings_of system.old)
-        (first_ram (start_of system.old)) (world_of system.old) }
     ensures took { OnOk result (Took system.old system.new (event_of e)) }
-    ensures keeps { OnOk result (Keeps shown.states (nat_le shown.from (number + 1)) kept.new (settings_of system.old)
-        (first_ram (start_of system.old)) (world_of system.new)) }
     ensures text { OnOk result (string_bytes text.new ≡ string_bytes text.old
         ++ added (shows shown.states (start_of system.old)) (settings_of system.old) (program_of system.old)
         shown.from number (event_of e) (history_of system.old) (history_of system.new)) }
 {
-    take(system, e, facts)?;
     let number = number as u64;
     if shown.from <= number {
-        return tell_event(alloc, kept, system, e, &facts.items, text);
+        return shown_event(alloc, system, e, shown.states, facts, text);
     }
+    take(system, e, facts)?;
     if shown.from == number + 1 {
-        *kept = begin_window(alloc, shown.states, system, text)?;
-        return Ok(());
+        return begin_window(alloc, shown.states, system, text);
     }
     Ok(())
 }

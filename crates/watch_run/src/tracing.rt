@@ -85,15 +85,15 @@ fn trace_events<E: Events, O: Sink>(
         })) }
 {
     let mut facts = List::new(alloc);
-    let mut kept = match begin(alloc, shown, system, held) {
-        Ok(kept) => kept,
+    match begin(alloc, shown, system, held) {
+        Ok(()) => {}
         Err(NoMemory) => return Err(Broken::Memory),
-    };
+    }
     for number in 0..most {
         let Some(e) = events.next(system) else {
             return Ok(());
         };
-        match event(alloc, system, e, shown, number, &mut facts, &mut kept, held) {
+        match event(alloc, system, e, shown, number, &mut facts, held) {
             Ok(()) => {}
             Err(NoMemory) => return Err(Broken::Memory),
         }
@@ -143,7 +143,8 @@ fn end_trace<O: Sink>(
 ///
 /// It is written in pieces as it comes, so a first part of it may have been written where it fails: but the last lines, which tell of
 /// the end, stand there only where all of it does, or where the output failed within them. The time is that of the events and of their
-/// texts, with records also that of each event's node; the memory is that of the machine, of a piece, and of what one event does.
+/// texts, with records also that of looking at what each event may change; the memory is that of the machine, of a piece, and of what one
+/// event does.
 pub fn trace<E: Events, O: Sink>(
     alloc: Global,
     loaded: &Loaded,

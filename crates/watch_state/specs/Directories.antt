@@ -44,9 +44,17 @@ at_home sh d f l = if d == home sh l then f l else []
 unfoldable pub word_records : Shape → (first words : ℕ → ℕ) → (line : ℕ) → List Record
 word_records sh first words l = flat_map (λ k. word_record sh first words (word_at l k)) (numbers 8)
 
--- `first` are the loaded words
-unfoldable pub directory_records : Shape → (first : ℕ → ℕ) → (dir : ℕ) → DirState → List Record
-directory_records sh first d s =
+-- the directory itself, and the TIDs that were skipped
+unfoldable pub serving_records : (dir : ℕ) → DirState → List Record
+serving_records d s =
     DirectoryIs d s.serving.serving s.owed ∷ flat_map (skipped_record d s.serving) (numbers (length s.serving.skips))
-    ++ (flat_map (at_home sh d (line_record sh s.lines)) (numbers (lines sh))
-    ++ flat_map (at_home sh d (word_records sh first s.words)) (numbers (lines sh)))
+
+-- with what it knows of some lines, and the home words of some; `first` are the loaded words
+unfoldable pub directory_part : Shape → (first : ℕ → ℕ) → (dir : ℕ) → (known words : List ℕ) → DirState → List Record
+directory_part sh first d known words s =
+    serving_records d s
+    ++ (flat_map (at_home sh d (line_record sh s.lines)) known ++ flat_map (at_home sh d (word_records sh first s.words)) words)
+
+-- of all lines
+unfoldable pub directory_records : Shape → (first : ℕ → ℕ) → (dir : ℕ) → DirState → List Record
+directory_records sh first d s = directory_part sh first d (numbers (lines sh)) (numbers (lines sh)) s

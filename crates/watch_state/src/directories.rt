@@ -1,6 +1,6 @@
 // What a directory knows, each record appended to a list. Where memory runs out, the list holds a part of it.
 ghost use Rattle.std.specs.Prelude.{◌≡◌, ◌+◌, ◌<◌, ◌≤◌, ◌++◌, ◌==◌, ◌∷◌, [], ℕ, length, OnOk, map, if◌then◌else◌};
-ghost use Rattle.std.specs.List.{flat_map};
+ghost use Rattle.std.specs.List.{All, flat_map};
 ghost use Rattle.image_load.specs.Contents.{started};
 ghost use Rattle.rv_code.specs.Machine.{first_ram};
 ghost use Rattle.tcc_maps.specs.Serving.{is_skipped};
@@ -8,13 +8,13 @@ ghost use Rattle.tcc_maps.specs.Shape.{home, lines};
 ghost use Rattle.tcc_rules.specs.Seen.{numbers};
 ghost use Rattle.dir_lines.specs.Home.{IsAtHome};
 ghost use Rattle.directory.specs.Data.{dir_of};
-ghost use Rattle.watch_state.specs.Directories.{at_home, directory_records, line_record, skipped_record};
+ghost use Rattle.watch_state.specs.Directories.{at_home, directory_part, directory_records, line_record, serving_records, skipped_record};
 ghost use Rattle.watch_state.specs.Plain.{record_of};
 ghost use Rattle.watch_state.specs.Records.{LineIs, Skipped};
 ghost use Rattle.watch_state.specs.Shown.{knows, shown_line, shown_record};
 
 use crate::attempts::add;
-use crate::homes::add_home_words;
+use crate::homes::{add_home_words, add_words_of};
 use crate::numbers::{any_in, only_below};
 use crate::records::{Known, Record};
 use dir_lines::CoreSet;
@@ -152,6 +152,41 @@ fn add_lines(
     Ok(())
 }
 
+/// Those of some lines that are at home at the directory of which something is known.
+fn add_some_lines(
+    records: &mut List<Record>,
+    config: &Config,
+    id: DirId,
+    dir: &Directory,
+    some: &[LineAddr],
+) -> Result<(), NoMemory>
+    requires place { dir.now.lines.place ≡ record { shape = config.now; dir = id.0 } }
+    requires exist { All (λ l. l.0 < lines config.now) some.now }
+    ensures { (elsewhere : ℕ → ℕ) → OnOk result (map record_of records.new ≡ map record_of records.old
+        ++ flat_map (at_home config.now id.0 (line_record config.now (dir_of elsewhere dir.now).lines)) (map (λ l. l.0) some.now)) }
+{
+    for line in some {
+        add_line_at_home(records, config, id, dir, *line)?;
+    }
+    Ok(())
+}
+
+/// The directory itself, and the TIDs that were skipped.
+fn add_serving(records: &mut List<Record>, id: DirId, dir: &Directory) -> Result<(), NoMemory>
+    ensures { (elsewhere : ℕ → ℕ) → OnOk result (map record_of records.new
+        ≡ map record_of records.old ++ serving_records id.0 (dir_of elsewhere dir.now)) }
+{
+    let (serving, owed) = (dir.serving(), dir.owed());
+    let directory_is = Record::DirectoryIs {
+        dir: id,
+        serving,
+        owed,
+    };
+    add(records, directory_is)?;
+    add_skips(records, id, dir)?;
+    Ok(())
+}
+
 /// Appends the records of a directory, which has this number, of a machine that began with this code. It takes time in the lines of RAM.
 /// After want of memory a part of them may stand there.
 pub(crate) fn add_directory(
@@ -164,15 +199,31 @@ pub(crate) fn add_directory(
     ensures { (elsewhere : ℕ → ℕ) → OnOk result (map record_of records.new ≡ map record_of records.old
         ++ directory_records code.now.settings (first_ram (started code.now)) id.0 (dir_of elsewhere dir.now)) }
 {
-    let (serving, owed) = (dir.serving(), dir.owed());
-    let directory_is = Record::DirectoryIs {
-        dir: id,
-        serving,
-        owed,
-    };
-    add(records, directory_is)?;
-    add_skips(records, id, dir)?;
+    add_serving(records, id, dir)?;
     add_lines(records, code.config(), id, dir)?;
     add_home_words(records, id, dir, code)?;
+    Ok(())
+}
+
+/// The same with what is known of some lines alone, and the home words of some. It takes time in these lines, and in the TIDs that are
+/// kept as skipped.
+pub(crate) fn add_part(
+    records: &mut List<Record>,
+    id: DirId,
+    dir: &Directory,
+    code: &Code,
+    known: &[LineAddr],
+    words: &[LineAddr],
+) -> Result<(), NoMemory>
+    requires place { dir.now.lines.place ≡ record { shape = code.now.settings; dir = id.0 } }
+    requires known { All (λ l. l.0 < lines code.now.settings) known.now }
+    requires words { All (λ l. l.0 < lines code.now.settings) words.now }
+    ensures { (elsewhere : ℕ → ℕ) → OnOk result (map record_of records.new ≡ map record_of records.old
+        ++ directory_part code.now.settings (first_ram (started code.now)) id.0 (map (λ l. l.0) known.now) (map (λ l. l.0) words.now)
+        (dir_of elsewhere dir.now)) }
+{
+    add_serving(records, id, dir)?;
+    add_some_lines(records, code.config(), id, dir, known)?;
+    add_words_of(records, id, dir, code, words)?;
     Ok(())
 }

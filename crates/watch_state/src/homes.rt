@@ -1,7 +1,7 @@
 // The home words of a directory that aren't as they were loaded, each record appended to a list. Where memory runs out, the list holds a
 // part of it.
-ghost use Rattle.std.specs.Prelude.{◌≡◌, ◌+◌, ◌*◌, ◌/◌, ◌^◌, ◌<◌, ◌++◌, ◌==◌, ◌∷◌, [], ℕ, OnOk, map, if◌then◌else◌};
-ghost use Rattle.std.specs.List.{flat_map};
+ghost use Rattle.std.specs.Prelude.{◌≡◌, ◌+◌, ◌*◌, ◌/◌, ◌^◌, ◌<◌, ◌≤◌, ◌++◌, ◌==◌, ◌∷◌, [], ℕ, OnOk, map, if◌then◌else◌};
+ghost use Rattle.std.specs.List.{All, flat_map};
 ghost use Rattle.image_load.specs.Contents.{started};
 ghost use Rattle.rv_code.specs.Machine.{first_ram};
 ghost use Rattle.tcc_maps.specs.Shape.{home, lines};
@@ -107,6 +107,34 @@ pub(crate) fn add_home_words(
 {
     for line in 0..code.config().words() / 8 {
         add_words_at_home(records, id, dir, code, LineAddr(line))?;
+    }
+    Ok(())
+}
+
+/// A law: a line of RAM has a number below 2 to the 29.
+fn lines_are_few(code: &Code)
+    ensures { lines code.now.settings ≤ 2 ^ 29 }
+{
+    code.config().words();
+}
+
+/// The words of some lines that are at home at the directory, where they aren't as they were loaded.
+pub(crate) fn add_words_of(
+    records: &mut List<Record>,
+    id: DirId,
+    dir: &Directory,
+    code: &Code,
+    some: &[LineAddr],
+) -> Result<(), NoMemory>
+    requires place { dir.now.lines.place ≡ record { shape = code.now.settings; dir = id.0 } }
+    requires exist { All (λ l. l.0 < lines code.now.settings) some.now }
+    ensures { (elsewhere : ℕ → ℕ) → let sh = code.now.settings in OnOk result (map record_of records.new ≡ map record_of records.old
+        ++ flat_map (at_home sh id.0 (word_records sh (first_ram (started code.now)) (dir_of elsewhere dir.now).words))
+        (map (λ l. l.0) some.now)) }
+{
+    lines_are_few(code);
+    for line in some {
+        add_words_at_home(records, id, dir, code, *line)?;
     }
     Ok(())
 }

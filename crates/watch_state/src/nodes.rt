@@ -1,11 +1,12 @@
 // All nodes of a machine, the records of each appended to a text. Where memory runs out, the text holds a part of them.
 ghost use Rattle.std.specs.Prelude.{◌≡◌, ◌++◌, ◌<◌, ◌∷◌, [], OnOk, string_bytes, map};
-ghost use Rattle.std.specs.List.{flat_map};
+ghost use Rattle.std.specs.List.{All, flat_map};
 ghost use Rattle.rv_code.specs.Machine.{first_ram};
+ghost use Rattle.tcc_maps.specs.Shape.{lines};
 ghost use Rattle.tcc_rules.specs.Seen.{numbers};
 ghost use Rattle.net_core.specs.Machine.{settings_of, start_of, world_of};
 ghost use Rattle.watch_state.specs.Cores.{core_records};
-ghost use Rattle.watch_state.specs.Directories.{directory_records};
+ghost use Rattle.watch_state.specs.Directories.{directory_part, directory_records};
 ghost use Rattle.watch_state.specs.Lines.{record_lines};
 ghost use Rattle.watch_state.specs.Plain.{record_of};
 ghost use Rattle.watch_state.specs.Records.{VendorIs};
@@ -13,12 +14,12 @@ ghost use Rattle.watch_state.specs.Text.{node_records};
 
 use crate::attempts::add;
 use crate::cores::add_core;
-use crate::directories::add_directory;
+use crate::directories::{add_directory, add_part};
 use crate::lines::push_records;
 use crate::records::Record;
 use net_core::System;
 use std::alloc::{AllocError, Global};
-use tcc_base::{CoreId, DirId, List, NoMemory, Tid};
+use tcc_base::{CoreId, DirId, LineAddr, List, NoMemory, Tid};
 
 /// Appends the record of the vendor, with the TID that it gives next. After want of memory the list is as before.
 pub fn add_vendor(records: &mut List<Record>, next: Tid) -> Result<(), NoMemory>
@@ -52,6 +53,33 @@ pub fn add_directory_of(
         (settings_of system.now) (first_ram (start_of system.now)) dir.0 ((world_of system.now).dirs dir.0)) }
 {
     add_directory(records, dir, system.directory(dir), system.code())
+}
+
+/// Appends the records of a directory of the machine, but of what it knows of lines only that of some lines of RAM, and of the home words
+/// only those of some. It takes time in these lines, and in the TIDs that the directory keeps as skipped. After want of memory a part of
+/// them may stand there.
+pub fn add_directory_part(
+    records: &mut List<Record>,
+    system: &System,
+    dir: DirId,
+    known: &[LineAddr],
+    words: &[LineAddr],
+) -> Result<(), NoMemory>
+    requires exists { dir.0 < (settings_of system.now).dirs }
+    requires known { All (λ l. l.0 < lines (settings_of system.now)) known.now }
+    requires words { All (λ l. l.0 < lines (settings_of system.now)) words.now }
+    ensures { OnOk result (map record_of records.new ≡ map record_of records.old ++ directory_part
+        (settings_of system.now) (first_ram (start_of system.now)) dir.0 (map (λ l. l.0) known.now) (map (λ l. l.0) words.now)
+        ((world_of system.now).dirs dir.0)) }
+{
+    add_part(
+        records,
+        dir,
+        system.directory(dir),
+        system.code(),
+        known,
+        words,
+    )
 }
 
 fn push_core(

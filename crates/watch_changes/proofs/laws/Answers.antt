@@ -4,6 +4,7 @@ use Rattle.watch_changes.proofs.Acting.{acts-alone}
 use Rattle.watch_changes.proofs.Beginning.{begins-by-node}
 use Rattle.watch_changes.proofs.Merging.{changes-new, changes-ordered, put-changes}
 use Rattle.watch_changes.proofs.Ordered.{records-ordered}
+use Rattle.watch_changes.proofs.Touching.{touched-suffices}
 use Rattle.watch_changes.proofs.Traced.{plain-trace}
 use Rattle.watch_changes.proofs.laws.Goals as goal
 
@@ -21,6 +22,9 @@ returns-clause-none_as_it_was c = λ sh first w v n.
 
 pub returns-clause-others_stay : goal.returns-clause-others_stay
 returns-clause-others_stay c = acts-alone
+
+pub returns-clause-touched_suffices : goal.returns-clause-touched_suffices
+returns-clause-touched_suffices c = touched-suffices
 
 pub returns-clause-without_records : goal.returns-clause-without_records
 returns-clause-without_records c = plain-trace

@@ -1,9 +1,6 @@
--- The events so far were taken, their texts are held or written, and the records of their end are kept where they are shown.
-use Rattle.std.proofs.Common.{nat_le}
+-- The events so far were taken, and their texts are held or written.
 use Rattle.std.specs.String.{string_bytes}
-use Rattle.rv_code.specs.Machine.{first_ram}
-use Rattle.net_core.specs.Machine.{settings_of, start_of, world_of}
-use Rattle.watch_run.specs.Telling.{Keeps}
+use Rattle.net_core.specs.Machine.{start_of, world_of}
 use Rattle.watch_run.proofs.Written.{Going}
 use Rattle.watch_run.proofs.tracing.trace_events.Given as goal
 
@@ -13,5 +10,3 @@ invariant-loop-number g l = Going l.fn.system l.system
     (g.E.Events.coming l.events (start_of l.system) (world_of l.system))
     l.number l.shown (string_bytes l.fn.held) (string_bytes l.held)
     (g.O.Sink.bytes l.fn.out) (g.O.Sink.bytes l.out) (g.O.Sink.faults l.fn.out) (g.O.Sink.faults l.out)
-    × Keeps l.shown.states (nat_le l.shown.from l.number) l.kept (settings_of l.system) (first_ram (start_of l.system))
-    (world_of l.system)

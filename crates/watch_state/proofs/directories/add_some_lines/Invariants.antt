@@ -1,0 +1,14 @@
+-- The records of the lines so far are there, and those of the lines to come are missing.
+use Rattle.std.proofs.Common.{◌≡◌, ◌++◌, ℕ, drop, map}
+use Rattle.std.specs.List.{flat_map}
+use Rattle.directory.specs.Data.{dir_of}
+use Rattle.watch_state.specs.Directories.{at_home, line_record}
+use Rattle.watch_state.specs.Plain.{record_of}
+use Rattle.watch_state.proofs.directories.add_some_lines.Given as goal
+
+abbrev pub invariant-loop-line : goal.invariant-loop-line
+invariant-loop-line l =
+    (elsewhere : ℕ → ℕ) → map record_of l.records
+    ++ flat_map (at_home l.config l.id.0 (line_record l.config (dir_of elsewhere l.dir).lines)) (map (λ j. j.0) (drop l.line-index l.some))
+    ≡ map record_of l.fn.records
+    ++ flat_map (at_home l.config l.id.0 (line_record l.config (dir_of elsewhere l.dir).lines)) (map (λ j. j.0) l.some)
