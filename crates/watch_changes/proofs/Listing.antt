@@ -111,7 +111,8 @@ with-those l (suc n) p b = go (λ h. with-those l n p h) (n == l) refl (p n)
         let last : n ≡ l = grind (arith, nat_tests) in
         ap (λ m. with_line l (those p n ++ cond t (m ∷ []) [])) last
         ∙ with-behind l (those p n) (cond t (l ∷ []) []) (those-less l n p (omega (arith, last)))
-        ∙ (λ i. sym (more-outside l n p (omega (arith, last))) i ++ with-self l t i) ∙ ap (λ m. those (λ j. j == l || p j) n ++ m ∷ []) (sym last)
+        ∙ (λ i. sym (more-outside l n p (omega (arith, last))) i ++ with-self l t i)
+        ∙ ap (λ m. those (λ j. j == l || p j) n ++ m ∷ []) (sym last)
     go ih false e true =
         let less : l < n = grind (arith, nat_tests) in
         with-before l n (those p n) less ∙ ap (λ ys. ys ++ n ∷ []) (ih less)

@@ -88,8 +88,10 @@ known-changes sh d p ls ks alike n =
 
 words-changes : (sh : Shape) (d : ℕ) (first : ℕ → ℕ) (q : ℕ → Bool) (ws vs : ℕ → ℕ)
     → ((l : ℕ) → q l ≡ false → word_records sh first ws l ≡ word_records sh first vs l) → (n : ℕ)
-    → changes (flat_map (at_home sh d (word_records sh first ws)) (numbers n)) (flat_map (at_home sh d (word_records sh first vs)) (numbers n))
-    ≡ changes (flat_map (at_home sh d (word_records sh first ws)) (those q n)) (flat_map (at_home sh d (word_records sh first vs)) (those q n))
+    → changes (flat_map (at_home sh d (word_records sh first ws)) (numbers n))
+    (flat_map (at_home sh d (word_records sh first vs)) (numbers n))
+    ≡ changes (flat_map (at_home sh d (word_records sh first ws)) (those q n))
+    (flat_map (at_home sh d (word_records sh first vs)) (those q n))
 unfolding at_home
 words-changes sh d first q ws vs alike n =
     changes-those (at_home sh d (word_records sh first ws)) (at_home sh d (word_records sh first vs)) (λ l. at_word sh (word_at l 0)) q
@@ -102,7 +104,8 @@ words-changes sh d first q ws vs alike n =
 parts-changes : (sh : Shape) (first : ℕ → ℕ) (d n : ℕ) (p q : ℕ → Bool) (s t : DirState)
     → changes (directory_part sh first d (those p n) (those q n) s) (directory_part sh first d (those p n) (those q n) t)
     ≡ changes (serving_records d s) (serving_records d t)
-    ++ (changes (flat_map (at_home sh d (line_record sh s.lines)) (those p n)) (flat_map (at_home sh d (line_record sh t.lines)) (those p n))
+    ++ (changes (flat_map (at_home sh d (line_record sh s.lines)) (those p n))
+    (flat_map (at_home sh d (line_record sh t.lines)) (those p n))
     ++ changes (flat_map (at_home sh d (word_records sh first s.words)) (those q n))
     (flat_map (at_home sh d (word_records sh first t.words)) (those q n)))
 unfolding directory_part

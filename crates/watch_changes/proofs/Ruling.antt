@@ -1,5 +1,6 @@
 -- A directory that takes a message leaves as they are all lines but its own line and the marked ones.
-use Rattle.std.proofs.Common.{◌≡◌, ℕ, zero, suc, ◌-◌, ◌<◌, ◌==◌, ◌&&◌, ◌||◌, Bool, true, false, not, List, [], ◌∷◌, ◌++◌, Option, Some, None}
+use Rattle.std.proofs.Common.{◌≡◌, ℕ, zero, suc, ◌-◌, ◌<◌, ◌==◌, ◌&&◌, ◌||◌, Bool, true, false, not, List, [], ◌∷◌, ◌++◌}
+use Rattle.std.proofs.Common.{Option, Some, None}
 use Rattle.std.proofs.Common.{if◌then◌else◌, nat_le, nat_lt, is_some, refl, ap, subst, sym, ◌∙◌, arith}
 use Rattle.std.specs.List.{flat_map}
 use Rattle.std.proofs.lemmas.Bool.Decides.{nat_tests}
@@ -12,7 +13,8 @@ use Rattle.tcc_maps.specs.Nodes.{TidReq, TidGrant}
 use Rattle.tcc_maps.specs.Serving.{advance}
 use Rattle.tcc_maps.specs.Shape.{Shape, home, lines}
 use Rattle.tcc_maps.specs.Words.{any_below, count_below, line_of, those, word_at}
-use Rattle.tcc_rules.specs.DirDeliver.{Answer, Waits, Drops, Asks, Takes, abort, acknowledgement, ask_owner, came_home, dir_commit, dir_deliver}
+use Rattle.tcc_rules.specs.DirDeliver.{Answer, Waits, Drops, Asks, Takes, abort, acknowledgement, ask_owner, came_home}
+use Rattle.tcc_rules.specs.DirDeliver.{dir_commit, dir_deliver}
 use Rattle.tcc_rules.specs.DirDeliver.{invalidation_count, judged, load_request, load_unless_owned, mark, mark_taken}
 use Rattle.tcc_rules.specs.DirDeliver.{mark_unless_owned, moved_on, moved_on_if_settled, owned_by_committer, probe, skip, unless_keeps}
 use Rattle.tcc_rules.specs.DirDeliver.{write_back}

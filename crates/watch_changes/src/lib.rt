@@ -1,6 +1,7 @@
 //! What changed of a machine's records, event by event. `changes` of specs/Changes defines what is told of two lists of records, and
-//! `states_text` of specs/Text the trace that tells it below the facts of each event. `push_changes` writes the changes, `begin` all records
-//! where a window begins, `Before` has the records that an event may change as they were before it, and `laws` says what holds of changes.
+//! `states_text` of specs/Text the trace that tells it below the facts of each event. `push_changes` writes the changes, `begin` all
+//! records where a window begins, `Before` has the records that an event may change as they were before it, and `laws` says what holds of
+//! changes.
 #![tactic(auto)]
 
 mod before;
@@ -12,7 +13,8 @@ mod touched;
 mod walking;
 mod window;
 
-ghost use Rattle.watch_changes.specs.Laws.{BeginsByNode, ChangesLeadOn, NoneAsItWas, NoneTwice, OthersStay, TouchedSuffices, WithoutRecords};
+ghost use Rattle.watch_changes.specs.Laws.{BeginsByNode, ChangesLeadOn, NoneAsItWas, NoneTwice, OthersStay};
+ghost use Rattle.watch_changes.specs.Laws.{TouchedSuffices, WithoutRecords};
 
 pub use before::Before;
 pub use walking::push_changes;

@@ -12,6 +12,7 @@ tell_event-requires c =
 
 pub returns-clause-text : goal.returns-clause-text
 returns-clause-text c =
-    text-tells c.tell_event.result c.args.states _ c.args.system.now c.take.new.system (event_of c.args.e) (string_bytes c.args.text.now) _ _
+    text-tells c.tell_event.result c.args.states _ c.args.system.now c.take.new.system (event_of c.args.e)
+    (string_bytes c.args.text.now) _ _
     c.in_ok-take.ensures.took c.in_ok-before.ensures
     (ap (map fact_of) (c.deref.ensures.value ∙ c.facts.view_is) ∙ c.in_ok-take.ensures.facts) c.tell_event.ensures

@@ -16,7 +16,8 @@ returns c = λ e.
     let sh = c.args.code.now.settings in
     let d = dir_of e c.args.dir.now in
     let known = flat_map (at_home sh id (line_record sh d.lines)) (map (λ l. l.0) c.args.known.now) in
-    let words = flat_map (at_home sh id (word_records sh (first_ram (started c.args.code.now)) d.words)) (map (λ l. l.0) c.args.words.now) in
+    let words =
+    flat_map (at_home sh id (word_records sh (first_ram (started c.args.code.now)) d.words)) (map (λ l. l.0) c.args.words.now) in
     let t0 = map record_of c.args.records.now in
     let t1 = map record_of c.add_serving.new.records in
     let t2 = map record_of c.add_some_lines.new.records in
