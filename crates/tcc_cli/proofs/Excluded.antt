@@ -1,6 +1,6 @@
 -- What comes to an end has no faulty line.
 use Rattle.std.specs.Prelude.{IsSome}
-use Rattle.std.proofs.Common.{◌≡◌, ◌≤◌, ℕ, Bool, List, map, take, Option, Some, None, inl, inr, ap, sym, subst, ◌∙◌}
+use Rattle.std.proofs.Common.{◌≡◌, ◌≤◌, ℕ, Bool, List, map, take, Option, Some, None, inl, inr, ap, refl, sym, subst, ◌∙◌}
 use Rattle.image_load.specs.Start.{Start}
 use Rattle.schedule_text.specs.Faults.{IsFirstFault}
 use Rattle.tcc_base.specs.Settings.{IsAllowed, Settings}
@@ -75,7 +75,7 @@ list-excluded f s bytes listed line few list some (inr (orders, is, stuck)) =
     none-some x e h = absurd (cc)
 
 some-of : {A : Type 0} (x : Option A) (a : A) → x ≡ Some a → IsSome x
-some-of x a e = subst IsSome (sym e) tt
+some-of x a e = subst IsSome (sym e) refl
 
 few-cores : (raw : Bool) (s : Settings) (files : List (List ℕ)) → IsAllowed s → (start_of raw s files).settings.cores ≤ 64
 few-cores raw s files allowed = subst (λ t. t.cores ≤ 64) (sym (start_settings raw s files)) allowed.0.1

@@ -1,21 +1,43 @@
 -- A run that follows the list of a file.
-use Rattle.std.proofs.Common.{◌≡◌, ◌<◌, ℕ, Bool, List, map, length, IfSome, ap, sym, subst, ◌∙◌}
+use Rattle.std.proofs.Common.{◌≡◌, ◌<◌, ℕ, Bool, List, [], ◌∷◌, map, length, IfSome, Some, ap, refl, sym, subst, ◌∙◌}
 use Rattle.std.proofs.lemmas.List.{length-map}
 use Rattle.std.specs.Prelude.{IsSome}
 use Rattle.follow_run.specs.Following.{Agree, followed_by}
 use Rattle.follow_run.specs.Laws.{FollowedAll, FollowedKeeps, Keeps}
+use Rattle.image_load.specs.Contents.{Contents, started}
 use Rattle.image_load.specs.Start.{Start}
 use Rattle.rv_code.specs.Machine.{program}
 use Rattle.rv_plain.specs.Machine.{plain_start}
+use Rattle.rv_plain.specs.PlainState.{order_of}
+use Rattle.rv_plain.specs.declared.plain.Order.{Order as CodeOrder}
 use Rattle.rv_serial.specs.Suiting.{AfterRun}
+use Rattle.serial_tool.specs.Lists.{IsList}
+use Rattle.serial_tool.specs.Runs.{serial_by}
+use Rattle.serial_tool.specs.declared.reading.Listed.{Listed}
 use Rattle.tcc_base.specs.Settings.{IsAllowed}
+use Rattle.tcc_base.specs.declared.access.Commit.{Commit}
 use Rattle.tcc_cli.specs.Following.{Follows, IsFollowed, IsListed, RanFollowing}
 use Rattle.tcc_cli.specs.Runs.{IsRun, RunsTo, run_text}
 use Rattle.tcc_maps.specs.Nodes as rules
 use Rattle.tcc_msg.specs.Plain.{event_of}
 use Rattle.tcc_msg.specs.declared.event.Event.{Event}
-use Rattle.tcc_program.specs.Plain.{Order, serial}
+use Rattle.tcc_program.specs.Plain.{Order, Plain, serial}
 use Rattle.tcc_rules.specs.Step.{History}
+
+-- what the plain machine has executed is listed
+pub was-listed : (l : Contents) (bytes : List ℕ) (listed there : List Listed) (orders : List CodeOrder) (done : Plain × List Commit)
+    → IsList (started l).settings.cores bytes listed → there ≡ listed → serial_by (started l) listed ≡ Some done
+    → orders ≡ map (λ k. k.order) there → IsListed (started l) bytes (map order_of orders)
+was-listed l bytes listed there orders done list same ran are = record {
+  listed = listed;
+  list = list;
+  executed = subst IsSome (sym ran) refl;
+  orders_are = ap (map order_of) (are ∙ ap (map (λ k. k.order)) same) ∙ twice listed;
+}
+  where
+    twice : (ks : List Listed) → map order_of (map (λ k. k.order) ks) ≡ map (λ k. order_of k.order) ks
+    twice [] = refl
+    twice (k ∷ ks) = ap (λ os. order_of k.order ∷ os) (twice ks)
 
 -- what holds after a run holds of the state that it leads to
 after-so : (s : Start) (es : List rules.Event) (h : History) (P : History → Type 0) → IsRun s es h → AfterRun s es P → P h
