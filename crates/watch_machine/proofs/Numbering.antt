@@ -1,6 +1,6 @@
 -- The messages of a list that go to one node, and their numbers.
-use Rattle.std.proofs.Common.{◌≡◌, ℕ, zero, suc, ◌+◌, ◌-◌, ◌<◌, ◌≤◌, Bool, true, false, List, [], ◌∷◌, ◌++◌, take, drop, length, get_or}
-use Rattle.std.proofs.Common.{Some, None, refl, ap, sym, ◌∙◌, append_assoc, append-nil, arith}
+use Rattle.std.proofs.Common.{◌≡◌, ℕ, ◌+◌, ◌-◌, ◌<◌, ◌≤◌, Bool, true, false, List, [], ◌∷◌, ◌++◌, take, drop, length, get_or}
+use Rattle.std.proofs.Common.{Some, refl, ap, sym, ◌∙◌, append_assoc, append-nil, arith}
 use Rattle.std.specs.Prelude.{slice_get}
 use Rattle.std.specs.List.{flat_map}
 use Rattle.std.proofs.lemmas.List.{drop_all, drop_more, flat_map_more, take_all, take_more}
@@ -12,7 +12,7 @@ use Rattle.tcc_msg.specs.Plain.{msg_of, sends_of}
 use Rattle.tcc_msg.specs.declared.msg.Msg.{Msg}
 use Rattle.net_core.specs.Machine.{Machine}
 use Rattle.watch.specs.Facts.{Fact, Sent}
-use Rattle.watch_machine.specs.Telling.{count_on, last_facts, last_to, numbered_from}
+use Rattle.watch_machine.specs.Telling.{count_on, last_to, numbered_from}
 
 pub goes : (m : NodeId × Msg) (ms : List (NodeId × Msg)) (n : Node) → node_eq n (node_of m.0) ≡ true
     → sends_of (m ∷ ms) n ≡ msg_of m.1 ∷ sends_of ms n
@@ -74,16 +74,6 @@ none-to m src dst e = go (sends_of m.last dst) e
     go : (ms : List PlainMsg) → length ms ≡ 0 → numbered_from src dst (count_on m src dst - length ms) ms ≡ []
     go [] e = refl
     go (x ∷ xs) e = absurd (omega (arith, e))
-
-none-at-all : (m : Machine) (src : Node) (ns : List Node) → m.last ≡ [] → flat_map (last_to m src) ns ≡ []
-none-at-all m src [] e = refl
-none-at-all m src (n ∷ ns) e =
-    let none : length (sends_of m.last n) ≡ 0 = ap (λ ms. length (sends_of ms n)) e ∙ ap length (nothing-goes n) in
-    ap (λ fs. fs ++ flat_map (last_to m src) ns) (none-to m src n none) ∙ none-at-all m src ns e
-
-pub nothing-sent : (m : Machine) (src : Node) → m.last ≡ [] → last_facts m src ≡ []
-unfolding last_facts
-nothing-sent m src e = none-at-all m src _ e
 
 -- the facts of the next node are appended
 pub node-told : (f : Node → List Fact) (ns : List Node) (k : ℕ) (n : Node) (old now new : List Fact) → slice_get ns k ≡ Some n

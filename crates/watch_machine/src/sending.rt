@@ -1,13 +1,15 @@
 // An event is taken, and what its node sent is told.
-ghost use Rattle.std.specs.Prelude.{◌≡◌, ◌+◌, ◌^◌, ◌++◌, ◌<◌, [], OnOk, length, map};
+ghost use Rattle.std.specs.Prelude.{◌≡◌, ◌+◌, ◌^◌, ◌++◌, ◌<◌, [], IfSome, IsTrue, OnOk, length, map, true};
 ghost use Rattle.tcc_maps.specs.Bridge.{node_of};
 ghost use Rattle.tcc_maps.specs.Nodes.{node_eq};
 ghost use Rattle.tcc_msg.specs.Plain.{event_of, sends_of};
+ghost use Rattle.tcc_rules.specs.Step.{is_node};
 ghost use Rattle.watch.specs.Plain.{fact_of};
+ghost use Rattle.watch_machine.specs.Rising.{Rises, each_told, place_of as plain_place_of};
 ghost use Rattle.watch_machine.specs.Telling.{Advances, HasRoomFor, last_facts, last_to, numbered_from};
 
 use net_core::{Step, StepError, System, node_at, node_count};
-use tcc_base::{List, NoMemory, NodeId};
+use tcc_base::{Config, List, NoMemory, NodeId};
 use tcc_msg::{Event, Msg};
 use watch::Fact;
 
@@ -91,8 +93,77 @@ fn tell_link(
     tell_numbered(messages, src, dst, first, facts)
 }
 
-/// Tells of what the last event sent, by destination and number.
+/// Tells of what the last event sent, with a look at every node.
 #[tactic(auto, unfolding(crate::specs::Telling::last_facts))]
+fn tell_links(system: &System, src: NodeId, facts: &mut List<Fact>) -> Result<(), NoMemory>
+    requires settled { system.now.unsent ≡ [] }
+    requires room { HasRoomFor system.now (node_of src) }
+    ensures { OnOk result (map fact_of facts.new ≡ map fact_of facts.old ++ last_facts system.now (node_of src)) }
+{
+    let config = system.config();
+    for place in 0..node_count(config) {
+        if let Some(dst) = node_at(config, place) {
+            tell_link(system, src, dst, facts)?;
+        }
+    }
+    Ok(())
+}
+
+/// The place of a node in the order of all; `None` where there is no such node.
+fn place_of(config: &Config, node: NodeId) -> Option<u32>
+    ensures { IfSome result (λ p. (is_node config.now (node_of node) ≡ true) × (p ≡ plain_place_of config.now (node_of node))) }
+{
+    let cores = config.cores();
+    let dirs = config.dirs();
+    match node {
+        NodeId::Core(core) if core.0 < cores => Some(core.0 as u32),
+        NodeId::Dir(dir) if dir.0 < dirs => Some(cores as u32 + dir.0 as u32),
+        NodeId::Vendor => Some(cores as u32 + dirs as u32),
+        _ => None,
+    }
+}
+
+/// Whether messages go to different nodes, in their order, as one message always does.
+fn rises(config: &Config, messages: &[(NodeId, Msg)]) -> bool
+    ensures { IsTrue result → Rises config.now 0 messages.now }
+{
+    let mut next = 0u64;
+    for (to, _) in messages {
+        let Some(place) = place_of(config, *to) else {
+            return false;
+        };
+        if (place as u64) < next {
+            return false;
+        }
+        next = place as u64 + 1;
+    }
+    true
+}
+
+/// Tells of messages in their order, each of which is the last of its link.
+fn tell_each(
+    system: &System,
+    src: NodeId,
+    messages: &[(NodeId, Msg)],
+    facts: &mut List<Fact>,
+) -> Result<(), NoMemory>
+    requires settled { system.now.unsent ≡ [] }
+    ensures { OnOk result (map fact_of facts.new ≡ map fact_of facts.old ++ each_told system.now (node_of src) messages.now) }
+{
+    for (dst, msg) in messages {
+        let sent = system.sent_on(src, *dst);
+        facts.push(Fact::Sent {
+            src,
+            dst: *dst,
+            seq: sent.saturating_sub(1),
+            msg: *msg,
+        })?;
+    }
+    Ok(())
+}
+
+/// Tells of what the last event sent, by destination and number. The time is linear in what was sent where the messages go to different
+/// nodes in their order; else it is that of a look at all of them for each node.
 pub(crate) fn tell_sent(
     system: &System,
     src: NodeId,
@@ -102,14 +173,10 @@ pub(crate) fn tell_sent(
     requires room { HasRoomFor system.now (node_of src) }
     ensures { OnOk result (map fact_of facts.new ≡ map fact_of facts.old ++ last_facts system.now (node_of src)) }
 {
-    if system.last_sent().is_empty() {
-        return Ok(());
+    let messages = system.last_sent();
+    if rises(system.config(), messages) {
+        tell_each(system, src, messages, facts)
+    } else {
+        tell_links(system, src, facts)
     }
-    let config = system.config();
-    for place in 0..node_count(config) {
-        if let Some(dst) = node_at(config, place) {
-            tell_link(system, src, dst, facts)?;
-        }
-    }
-    Ok(())
 }

@@ -20,7 +20,8 @@ use watch::Fact;
 /// `Refused` comes exactly where the event isn't enabled, and nothing has happened then. `Memory`: there was no memory for the event, or
 /// none to tell of it, and then it may have been taken; what stands in `facts` is of no use.
 ///
-/// The time is that of the event, with a constant for each fact, and for an event that sends a pass over the machine's nodes.
+/// The time is that of the event, with a constant for each fact, and a pass over the machine's nodes for an event that sends several
+/// messages which don't go to different nodes in their order.
 pub fn watch(system: &mut System, e: Event, facts: &mut List<Fact>) -> Result<(), StepError>
     requires few { system.old.events < 4194304 }
     ensures { Watched system.old system.new (event_of e) facts.new result }

@@ -6,7 +6,7 @@ use Rattle.tcc_rules.specs.Useful.{nodes}
 use Rattle.net_core.specs.Machine.{settings_of}
 use Rattle.watch.specs.Plain.{fact_of}
 use Rattle.watch_machine.specs.Telling.{last_to}
-use Rattle.watch_machine.proofs.sending.tell_sent.Given as goal
+use Rattle.watch_machine.proofs.sending.tell_links.Given as goal
 
 abbrev pub invariant-loop-place : goal.invariant-loop-place
 invariant-loop-place l =
