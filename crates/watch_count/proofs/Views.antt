@@ -6,7 +6,6 @@ use Rattle.std.specs.Map.{values_of}
 use Rattle.std.specs.Ordering.{nat_cmp}
 use Rattle.std.proofs.lemmas.List.{length-map, at_drop_more, drop_all}
 use Rattle.std.proofs.lemmas.List.Elements.{All-same}
-use Rattle.std.proofs.lemmas.List.Sums.{sum_by-cons}
 use Rattle.tcc_maps.specs.Nodes.{Node}
 use Rattle.watch.specs.Facts.{Fact}
 use Rattle.watch.specs.Plain.{fact_of}
@@ -19,7 +18,7 @@ use Rattle.watch_count.specs.declared.places.ConflictCounts.{ConflictCounts}
 use Rattle.watch_count.specs.Tables.{core_after, event_came}
 use Rattle.watch_count.specs.Messages.{kind_of, messages_after}
 use Rattle.watch_count.specs.Places.{nothing_there, line_of, line_after, no_conflict, conflict_of, conflict_after}
-use Rattle.watch_count.specs.Sizes.{core_size, messages_size, line_size, conflict_size, weight, weights}
+use Rattle.watch_count.specs.Sizes.{core_size, messages_size, line_size, conflict_size, weight}
 use Rattle.watch_count.specs.Counts.{Counts, core_of, changed_if, kept_changed_if, conflict_cmp, counted, all_counted, event_begun}
 use Rattle.watch_count.specs.CountsInside.{IsKept}
 use Rattle.watch_count.proofs.Lists.{length-changed_if}
@@ -90,30 +89,3 @@ pub facts-all : (a : Node) (fs : List CodeFact) (i : ℕ) (s all : Counts) → l
     → all_counted a (map fact_of (drop i fs)) s ≡ all → s ≡ all
 unfolding all_counted
 facts-all a fs i s all l h = sym (ap (λ ys. all_counted a (map fact_of ys) s) (drop_all i fs l)) ∙ h
-
-pub small-more : (a : Node) (fs : List CodeFact) (i : ℕ) (d : CodeFact) (s now : Counts) → i < length fs
-    → now ≡ counted a (fact_of (get_or fs i d)) s
-    → s.bound + weights (map fact_of (drop i fs)) ≤ 2 ^ 56 → now.bound + weights (map fact_of (drop (i + 1) fs)) ≤ 2 ^ 56
-unfolding counted
-small-more a fs i d s now l e h =
-    let bound : now.bound ≡ s.bound + weight (fact_of (get_or fs i d)) = ap (λ c. c.bound) e in
-    let one = at_drop_more (λ ys. weights (map fact_of ys)) fs i d l
-    ∙ sum_by-cons weight (fact_of (get_or fs i d)) (map fact_of (drop (i + 1) fs)) in
-    omega (arith, bound, one, h)
-
--- what the facts from this one on weigh
-pub weights-more : (fs : List CodeFact) (i : ℕ) (d : CodeFact) (w : ℕ) → i < length fs → w ≡ weight (fact_of (get_or fs i d))
-    → weights (map fact_of (drop i fs)) ≡ w + weights (map fact_of (drop (i + 1) fs))
-weights-more fs i d w l is = at_drop_more (λ ys. weights (map fact_of ys)) fs i d l
-    ∙ sum_by-cons weight (fact_of (get_or fs i d)) (map fact_of (drop (i + 1) fs))
-    ∙ ap (λ n. n + weights (map fact_of (drop (i + 1) fs))) (sym is)
-
-pub weights-none : (fs : List CodeFact) (i : ℕ) → length fs ≤ i → weights (map fact_of (drop i fs)) ≡ 0
-weights-none fs i l = ap (λ ys. weights (map fact_of ys)) (drop_all i fs l)
-
-pub one-fits : (a : Node) (fs : List CodeFact) (i : ℕ) (d : CodeFact) (b : ℕ) → i < length fs
-    → b + weights (map fact_of (drop i fs)) ≤ 2 ^ 56 → b + weight (fact_of (get_or fs i d)) ≤ 2 ^ 56
-one-fits a fs i d b l h =
-    let one = at_drop_more (λ ys. weights (map fact_of ys)) fs i d l
-    ∙ sum_by-cons weight (fact_of (get_or fs i d)) (map fact_of (drop (i + 1) fs)) in
-    omega (arith, one, h)

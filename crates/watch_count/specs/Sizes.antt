@@ -1,6 +1,5 @@
 -- How large numbers can be: the numbers of one core together, and what a fact adds to them at most.
-use Rattle.std.specs.Prelude.{ℕ, ◌+◌, List}
-use Rattle.std.specs.List.{sum_by}
+use Rattle.std.specs.Prelude.{ℕ, ◌+◌}
 use Rattle.watch.specs.Facts.{Fact, Violated, Committed}
 use Rattle.watch_count.specs.declared.tables.Attempts.{Attempts}
 use Rattle.watch_count.specs.declared.tables.Instructions.{Instructions}
@@ -46,6 +45,3 @@ unfoldable pub weight : Fact → ℕ
 weight (Violated c by t l words lost p) = lost + 5
 weight (Committed t c n) = n + 5
 weight _ = 5
-
-abbrev pub weights : List Fact → ℕ
-weights fs = sum_by weight fs

@@ -1,5 +1,5 @@
 // The counts of a run, which grow event by event.
-ghost use Rattle.std.specs.Prelude.{◌≡◌, ◌+◌, ◌≤◌, ◌^◌, Some, None, IfOk, OnOk, OnErr, IsTrue, All, length, map, unwrap_or, ◌++◌, string_bytes};
+ghost use Rattle.std.specs.Prelude.{◌≡◌, ◌+◌, ◌≤◌, ◌^◌, Some, None, IfOk, OnOk, OnErr, All, length, map, unwrap_or, ◌++◌, string_bytes};
 ghost use Rattle.std.specs.List.{flat_map};
 ghost use Rattle.std.specs.Ordering.{nat_cmp};
 ghost use Rattle.std.specs.Map.{values_of, lookup};
@@ -10,7 +10,7 @@ ghost use Rattle.watch_count.specs.Tables.{nothing, core_after, event_came};
 ghost use Rattle.watch_count.specs.Messages.{kind_of as plain_kind_of, messages_after};
 ghost use Rattle.watch_count.specs.Places.{nothing_there, line_of as plain_line_of, line_after};
 ghost use Rattle.watch_count.specs.Places.{no_conflict, conflict_of as plain_conflict_of, conflict_after};
-ghost use Rattle.watch_count.specs.Sizes.{core_size, messages_size, line_size, conflict_size, weight as plain_weight, weights};
+ghost use Rattle.watch_count.specs.Sizes.{core_size, messages_size, line_size, conflict_size, weight as plain_weight};
 ghost use Rattle.watch_count.specs.Text.{count_text, entry_conflict, entry_line, tables_text};
 ghost use Rattle.watch_count.specs.Totals.{all_cores as plain_all_cores};
 ghost use Rattle.watch_count.specs.Csv.{core_cells, csv_text};
@@ -106,9 +106,7 @@ fn count_core(cores: &mut [CoreCounts], actor: NodeId, fact: &Fact)
 {
     if let Some(place) = core_of(actor, fact) {
         if place < cores.len() {
-            let mut core = cores[place];
-            core.count(fact);
-            cores[place] = core;
+            cores[place].count(fact);
         }
     }
 }
@@ -118,7 +116,7 @@ fn count_event(cores: &mut [CoreCounts])
     ensures { cores.new ≡ map event_came cores.old }
 {
     for core in cores.iter_mut() {
-        core.phases = core.phases.with_event(core.phase);
+        core.phases.count(core.phase);
     }
 }
 
@@ -128,9 +126,7 @@ fn count_message(messages: &mut [MessageCounts; 15], fact: &Fact)
 {
     if let Some(place) = kind_of(fact) {
         if place < messages.len() {
-            let mut kind = messages[place];
-            kind.count(fact);
-            messages[place] = kind;
+            messages[place].count(fact);
         }
     }
 }
@@ -262,37 +258,6 @@ impl Counts {
         count_event(&mut self.cores);
     }
 
-    /// Whether no number can come above 2^56 by an event with these facts.
-    fn fits(&self, facts: &[Fact]) -> bool
-        ensures { IsTrue result → self.now.bound + 1 + weights (map fact_of facts.now) ≤ 2 ^ 56 }
-    {
-        let mut room = LIMIT - self.bound;
-        if room == 0 {
-            return false;
-        }
-        room -= 1;
-        for fact in facts {
-            let weight = weight(fact);
-            if room < weight {
-                return false;
-            }
-            room -= weight;
-        }
-        true
-    }
-
-    /// An event that fits.
-    fn count_all(&mut self, actor: NodeId, facts: &[Fact]) -> Result<(), NoMemory>
-        requires { self.old.bound + 1 + weights (map fact_of facts.now) ≤ 2 ^ 56 }
-        ensures { OnOk result (self.new ≡ event_counted (node_of actor) (map fact_of facts.now) self.old) }
-    {
-        self.begin_event();
-        for fact in facts {
-            self.count(actor, fact)?;
-        }
-        Ok(())
-    }
-
     /// An event of this node, with its facts. It fails for want of memory, and where a number could come above 2^56, to which no run of
     /// fewer than 2^24 events comes whose facts are fewer than a million each. Some of the facts may be counted then and others not, so
     /// the counts are of no use any more. Takes constant time for each core and each fact, but for the logarithm of the lines and
@@ -300,11 +265,11 @@ impl Counts {
     pub fn event(&mut self, actor: NodeId, facts: &[Fact]) -> Result<(), NoMemory>
         ensures { OnOk result (self.new ≡ event_counted (node_of actor) (map fact_of facts.now) self.old) }
     {
-        if self.fits(facts) {
-            self.count_all(actor, facts)
-        } else {
-            Err(NoMemory)
+        self.begin()?;
+        for fact in facts {
+            self.fact(actor, fact)?;
         }
+        Ok(())
     }
 
     /// An event of whichever node comes: it counts in the phase that each core is in before it. It fails where a number could come above

@@ -217,22 +217,20 @@ impl Evictions {
 impl Phases {
     /// One more event came in this phase. No number overflows.
     #[tactic(auto, unfolding(crate::specs::Tables::phase_counted, crate::specs::Sizes::phases_size))]
-    pub(crate) fn with_event(self, phase: PhaseName) -> Phases
-        requires { phases_size self ≤ 2 ^ 62 }
-        ensures { result ≡ phase_counted phase self }
+    pub(crate) fn count(&mut self, phase: PhaseName)
+        requires { phases_size self.old ≤ 2 ^ 62 }
+        ensures { self.new ≡ phase_counted phase self.old }
     {
-        let mut phases = self;
         match phase {
-            PhaseName::Running => phases.running += 1,
-            PhaseName::AwaitTid => phases.await_tid += 1,
-            PhaseName::DoomedTid => phases.doomed_tid += 1,
-            PhaseName::Probing => phases.probing += 1,
-            PhaseName::Ready => phases.ready += 1,
-            PhaseName::Overflowing => phases.overflowing += 1,
-            PhaseName::Solo => phases.solo += 1,
-            PhaseName::Halted => phases.halted += 1,
+            PhaseName::Running => self.running += 1,
+            PhaseName::AwaitTid => self.await_tid += 1,
+            PhaseName::DoomedTid => self.doomed_tid += 1,
+            PhaseName::Probing => self.probing += 1,
+            PhaseName::Ready => self.ready += 1,
+            PhaseName::Overflowing => self.overflowing += 1,
+            PhaseName::Solo => self.solo += 1,
+            PhaseName::Halted => self.halted += 1,
         }
-        phases
     }
 }
 

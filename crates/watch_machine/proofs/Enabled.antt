@@ -1,5 +1,5 @@
 -- What an enabled event names: it exists; and a directory that takes a message doesn't let it wait.
-use Rattle.std.proofs.Common.{◌≡◌, ◌≢◌, ℕ, ◌<◌, Bool, true, false, ◌&&◌, Option, Some, None, refl, ap, ◌∙◌, arith}
+use Rattle.std.proofs.Common.{◌≡◌, ◌≢◌, ℕ, ◌<◌, Bool, true, false, Option, Some, None, refl, ap, ◌∙◌, arith}
 use Rattle.std.specs.Prelude.{nat_lt, if◌then◌else◌}
 use Rattle.std.proofs.lemmas.Bool.Decides.{nat_tests}
 use Rattle.tcc_base.specs.Settings.{Settings}
@@ -13,11 +13,14 @@ use Rattle.tcc_rules.specs.DirDeliver.{Answer, dir_deliver}
 use Rattle.tcc_rules.specs.DirDeliver as rules
 use Rattle.tcc_rules.specs.Links.{in_flight}
 use Rattle.tcc_rules.specs.State.{World}
-use Rattle.tcc_rules.specs.Step.{answered, happens, if_in_flight, is_node, names_nodes, step}
+use Rattle.tcc_rules.specs.Step.{Stepped, answered, happens, if_in_flight, is_node, names_nodes, next_history, recorded, step}
+use Rattle.tcc_live.specs.Fits.{fits}
+use Rattle.live_core.specs.Reached.{IsLive}
 use Rattle.net_core.specs.Answers.{step_of}
-use Rattle.net_core.specs.Machine.{Machine, program_of, settings_of, world_of}
+use Rattle.net_core.specs.Machine.{Machine, history_of, program_of, settings_of, world_of}
+use Rattle.net_core.specs.declared.taking.Step.{Step}
 use Rattle.watch.specs.Messages as facts
-use Rattle.watch_machine.specs.Telling.{IsAnswer, told_of}
+use Rattle.watch_machine.specs.Telling.{Advanced, IsAnswer, told_of}
 use Rattle.watch_machine.specs.declared.answering.Became.{Became}
 
 -- all that an enabled event names exists
@@ -50,15 +53,32 @@ pub record Ends (s : Settings) (src dst : Node) : Type 0 where
   pub from : is_node s src ≡ true
   pub to : is_node s dst ≡ true
 
-pub ends-named : (m : Machine) (src dst : Node) (k : ℕ) → step_of m (Deliver src dst k) ≢ None → Ends (settings_of m) src dst
-unfolding names_nodes
-ends-named m src dst k h = by (is_node (settings_of m) src) refl (is_node (settings_of m) dst) refl (named m (Deliver src dst k) h)
+-- a message goes only where it fits
+fitting : (s : Settings) (src dst : Node) (x : Msg) → fits s src dst x ≡ true → Ends s src dst
+unfolding fits
+fitting s (Core c) (Dir d) x e = record { from = grind (arith, nat_tests); to = grind (arith, nat_tests) }
+fitting s (Core c) Vendor x e = record { from = grind (arith, nat_tests); to = refl }
+fitting s (Dir d) (Core c) x e = record { from = grind (arith, nat_tests); to = grind (arith, nat_tests) }
+fitting s Vendor (Core c) x e = record { from = refl; to = grind (arith, nat_tests) }
+fitting s (Core c) (Core d) x e = absurd (cc)
+fitting s (Dir c) (Dir d) x e = absurd (cc)
+fitting s (Dir c) Vendor x e = absurd (cc)
+fitting s Vendor (Dir d) x e = absurd (cc)
+fitting s Vendor Vendor x e = absurd (cc)
+
+pub flying-ends : (m : Machine) (src dst : Node) (k : ℕ) (x : Msg) → IsLive m → in_flight (world_of m).net src dst k ≡ Some x
+    → Ends (settings_of m) src dst
+flying-ends m src dst k x l f = fitting (settings_of m) src dst x (l.messages src dst k x f).fits
+
+-- what was taken was enabled
+pub taken-enabled : (m n : Machine) (e : Event) (told : Step) → Advanced m n e told → step_of m e ≢ None
+unfolding next_history history_of
+taken-enabled m n e told a = λ q. by (step_of m e) q a.next
   where
-    by : (a : Bool) → is_node (settings_of m) src ≡ a → (b : Bool) → is_node (settings_of m) dst ≡ b → (a && b) ≡ true
-        → Ends (settings_of m) src dst
-    by true p true q e = record { from = p; to = q }
-    by true p false q e = absurd (cc)
-    by false p b q e = absurd (cc)
+    by : (s : Option Stepped) → s ≡ None
+        → recorded (record { world = world_of m; commits = m.commits }) s ≡ Some (record { world = world_of n; commits = n.commits }) → ⊥
+    by None q p = absurd (cc)
+    by (Some o) q p = absurd (cc)
 
 pub is-below : (n k : ℕ) → nat_lt n k ≡ true → n < k
 is-below n k e = grind (arith, nat_tests)

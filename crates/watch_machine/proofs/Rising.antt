@@ -126,7 +126,8 @@ same-node (Dir d) = grind (arith, nat_tests)
 same-node Vendor = refl
 
 -- what one message to a node tells
-one-told : (m : Machine) (src n : Node) (x : PlainMsg) → sends_of m.last n ≡ x ∷ [] → last_to m src n ≡ Sent src n (count_on m src n - 1) x ∷ []
+one-told : (m : Machine) (src n : Node) (x : PlainMsg) → sends_of m.last n ≡ x ∷ []
+    → last_to m src n ≡ Sent src n (count_on m src n - 1) x ∷ []
 unfolding last_to numbered_from
 one-told m src n x e = ap (λ ms. numbered_from src n (count_on m src n - length ms) ms) e
 

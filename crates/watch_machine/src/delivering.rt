@@ -249,7 +249,7 @@ fn tell_core(
     tell_sent(system, NodeId::Core(id), facts)
 }
 
-/// A message is delivered to a core, which is enabled.
+/// A message that is in flight to a core is delivered.
 pub(crate) fn watch_core(
     system: &mut System,
     id: CoreId,
@@ -260,10 +260,10 @@ pub(crate) fn watch_core(
     requires few { system.old.events < 4194304 }
     requires empty { facts.old ≡ [] }
     requires flies { in_flight (world_of system.old).net (node_of name.src) (Core id.0) name.seq ≡ Some (msg_of msg) }
-    requires enabled { step_of system.old (Deliver (node_of name.src) (Core id.0) name.seq) ≢ None }
     requires destination { name.dst ≡ NodeId.Core id }
     ensures { Watched system.old system.new (Deliver (node_of name.src) (Core id.0) name.seq) facts.new result }
 {
+    machines_are_live(system);
     let seen = look(system.core(id), system.commits(), name.src, msg);
     system.events();
     let step = advance(system, Event::Deliver(name))?;
@@ -306,7 +306,7 @@ fn fact_of_message(became: Became, msg: Msg) -> Fact
     }
 }
 
-/// A core's message is delivered to a directory, which is enabled.
+/// A core's message that is in flight to a directory is delivered, if the directory takes it now.
 pub(crate) fn watch_dir(
     system: &mut System,
     core: CoreId,
@@ -318,7 +318,6 @@ pub(crate) fn watch_dir(
     requires few { system.old.events < 4194304 }
     requires empty { facts.old ≡ [] }
     requires flies { in_flight (world_of system.old).net (Core core.0) (Dir dir.0) name.seq ≡ Some (msg_of msg) }
-    requires enabled { step_of system.old (Deliver (Core core.0) (Dir dir.0) name.seq) ≢ None }
     requires source { name.src ≡ NodeId.Core core }
     requires destination { name.dst ≡ NodeId.Dir dir }
     ensures { Watched system.old system.new (Deliver (Core core.0) (Dir dir.0) name.seq) facts.new result }
@@ -351,7 +350,7 @@ fn tell_vendor(
     tell_sent(system, NodeId::Vendor, facts)
 }
 
-/// A core's message is delivered to the vendor, which is enabled.
+/// A core's message that is in flight to the vendor is delivered.
 pub(crate) fn watch_vendor(
     system: &mut System,
     core: CoreId,
@@ -362,7 +361,6 @@ pub(crate) fn watch_vendor(
     requires few { system.old.events < 4194304 }
     requires empty { facts.old ≡ [] }
     requires flies { in_flight (world_of system.old).net (Core core.0) Vendor name.seq ≡ Some (msg_of msg) }
-    requires enabled { step_of system.old (Deliver (Core core.0) Vendor name.seq) ≢ None }
     requires source { name.src ≡ NodeId.Core core }
     requires destination { name.dst ≡ NodeId.Vendor }
     ensures { Watched system.old system.new (Deliver (Core core.0) Vendor name.seq) facts.new result }

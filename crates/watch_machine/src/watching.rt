@@ -1,9 +1,8 @@
 // An event is taken, and what it did is told.
-ghost use Rattle.std.specs.Prelude.{◌≡◌, ◌≢◌, ◌<◌, [], None};
+ghost use Rattle.std.specs.Prelude.{◌≡◌, ◌<◌, []};
 ghost use Rattle.tcc_maps.specs.Bridge.{node_of};
 ghost use Rattle.tcc_maps.specs.Nodes.{Deliver};
 ghost use Rattle.tcc_msg.specs.Plain.{event_of};
-ghost use Rattle.net_core.specs.Answers.{step_of};
 ghost use Rattle.watch_machine.specs.Watched.{Watched};
 
 use crate::delivering::{watch_core, watch_dir, watch_vendor};
@@ -27,21 +26,27 @@ pub fn watch(system: &mut System, e: Event, facts: &mut List<Fact>) -> Result<()
     ensures { Watched system.old system.new (event_of e) facts.new result }
 {
     facts.items.clear();
-    if !system.enabled(e) {
-        return Err(StepError::Refused);
-    }
     match e {
-        Event::Exec(core) => watch_exec(system, core, facts),
-        Event::Evict(core, set, way) => watch_evict(system, core, set, way, facts),
+        Event::Exec(core) => {
+            if !system.enabled(e) {
+                return Err(StepError::Refused);
+            }
+            watch_exec(system, core, facts)
+        }
+        Event::Evict(core, set, way) => {
+            if !system.enabled(e) {
+                return Err(StepError::Refused);
+            }
+            watch_evict(system, core, set, way, facts)
+        }
         Event::Deliver(name) => watch_delivery(system, name, facts),
     }
 }
 
-/// A message is delivered, which is enabled.
+/// A message is delivered, if there is one of this name and its node takes it.
 fn watch_delivery(system: &mut System, name: Name, facts: &mut List<Fact>) -> Result<(), StepError>
     requires few { system.old.events < 4194304 }
     requires empty { facts.old ≡ [] }
-    requires enabled { step_of system.old (Deliver (node_of name.src) (node_of name.dst) name.seq) ≢ None }
     ensures { Watched system.old system.new (Deliver (node_of name.src) (node_of name.dst) name.seq) facts.new result }
 {
     let Some(&msg) = system.in_flight(name) else {

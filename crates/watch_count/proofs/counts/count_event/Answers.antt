@@ -8,4 +8,4 @@ pub loop-core-preserved : goal.loop-core-preserved
 unfolding event_came
 loop-core-preserved c =
     map-more event_came c.loop-core.core-index c.args.cores.now c.loop-core.cores _ nothing (search rules) c.loop-core.invariant
-    (ap (λ p. record (get_or c.loop-core.cores c.loop-core.core-index nothing) { phases = p }) c.with_event-core.ensures)
+    (ap (λ p. record (get_or c.loop-core.cores c.loop-core.core-index nothing) { phases = p }) c.count.ensures)

@@ -8,26 +8,29 @@ use Rattle.net_core.specs.Machine.{settings_of, world_of}
 use Rattle.watch.specs.Messages.{grant_given_up, taken, violated}
 use Rattle.watch.specs.Plain.{fact_of}
 use Rattle.watch_machine.specs.Telling.{Advanced, SawMessage}
-use Rattle.watch_machine.proofs.Enabled.{ends-named, is-below, known}
+use Rattle.watch_machine.proofs.Enabled.{flying-ends as ends, is-below, known, taken-enabled}
 use Rattle.watch_machine.proofs.Happening.{advanced-to, flown, joined, room-for, told-all, told_behind}
 use Rattle.watch_machine.proofs.delivering.watch_core.Goals as goal
 
 pub core-requires : goal.core-requires
 core-requires c =
     is-below c.args.id.0 (settings_of c.args.system.now).cores
-    (ends-named c.args.system.now (node_of c.args.name.src) (Core c.args.id.0) c.args.name.seq c.requires.enabled).to
+    (ends c.args.system.now (node_of c.args.name.src) (Core c.args.id.0) c.args.name.seq (msg_of c.args.msg) c.machines_are_live.ensures
+    c.requires.flies).to
 
 pub look-seen-requires : goal.look-seen-requires
 look-seen-requires c =
     subst (λ s. IsKnown s c.args.name.src) (sym c.core.ensures.config)
     (known (settings_of c.args.system.now) c.args.name.src
-    (ends-named c.args.system.now (node_of c.args.name.src) (Core c.args.id.0) c.args.name.seq c.requires.enabled).from)
+    (ends c.args.system.now (node_of c.args.name.src) (Core c.args.id.0) c.args.name.seq (msg_of c.args.msg) c.machines_are_live.ensures
+    c.requires.flies).from)
 
 pub tell_core-requires-clause-core : goal.tell_core-requires-clause-core
 tell_core-requires-clause-core c =
     subst (λ k. c.args.id.0 < k.settings.cores) (sym c.in_ok-step.ensures.code)
     (is-below c.args.id.0 (settings_of c.args.system.now).cores
-    (ends-named c.args.system.now (node_of c.args.name.src) (Core c.args.id.0) c.args.name.seq c.requires.enabled).to)
+    (ends c.args.system.now (node_of c.args.name.src) (Core c.args.id.0) c.args.name.seq (msg_of c.args.msg) c.machines_are_live.ensures
+    c.requires.flies).to)
 
 -- the event, where its destination is known
 went : (c : goal.After-tell_core-arg-1) → Advanced c.args.system.now c.advance.new.system
@@ -59,3 +62,12 @@ returns-in-Ok c =
     ++ (grant_given_up id x s.phase ++ behind)))) c.requires.empty
     ∙ joined (taken src x s) (violated id m.commits x s ((world_of n).cores id)) (grant_given_up id x s.phase) behind
     ∙ ap (λ fs. fs ++ behind) (sym (flown m n src (Core id) c.args.name.seq x c.requires.flies)))
+
+pub returns-in-Err : goal.returns-in-Err
+returns-in-Err c =
+    let m = c.args.system.now in
+    let n = c.advance.new.system in
+    let src = node_of c.args.name.src in
+    let k = c.args.name.seq in
+    taken-enabled m n (Deliver src (Core c.args.id.0) k) c.in_ok-step.step
+    (advanced-to m n src _ _ k c.in_ok-step.step c.requires.destination c.in_ok-step.ensures)

@@ -8,14 +8,15 @@ use Rattle.net_core.specs.Machine.{settings_of, world_of}
 use Rattle.watch.specs.Happened.{serves_fact}
 use Rattle.watch.specs.Plain.{fact_of}
 use Rattle.watch_machine.specs.Telling.{Advanced, commit_told, last_facts}
-use Rattle.watch_machine.proofs.Enabled.{answer-told, ends-named, is-below}
+use Rattle.watch_machine.proofs.Enabled.{answer-told, flying-ends as ends, is-below, taken-enabled}
 use Rattle.watch_machine.proofs.Happening.{advanced-from, advanced-to, flown, room-for, told-all}
 use Rattle.watch_machine.proofs.delivering.watch_dir.Goals as goal
 
 pub what_became-requires-clause-dir : goal.what_became-requires-clause-dir
 what_became-requires-clause-dir c =
     is-below c.args.dir.0 (settings_of c.args.system.now).dirs
-    (ends-named c.args.system.now (Core c.args.core.0) (Dir c.args.dir.0) c.args.name.seq c.requires.enabled).to
+    (ends c.args.system.now (Core c.args.core.0) (Dir c.args.dir.0) c.args.name.seq (msg_of c.args.msg) c.machines_are_live.ensures
+    c.requires.flies).to
 
 pub what_became-requires-clause-line : goal.what_became-requires-clause-line
 what_became-requires-clause-line c =
@@ -24,13 +25,15 @@ what_became-requires-clause-line c =
 pub serving-before-requires : goal.serving-before-requires
 serving-before-requires c =
     is-below c.args.dir.0 (settings_of c.args.system.now).dirs
-    (ends-named c.args.system.now (Core c.args.core.0) (Dir c.args.dir.0) c.args.name.seq c.requires.enabled).to
+    (ends c.args.system.now (Core c.args.core.0) (Dir c.args.dir.0) c.args.name.seq (msg_of c.args.msg) c.machines_are_live.ensures
+    c.requires.flies).to
 
 pub tell_dir-requires-clause-dir : goal.tell_dir-requires-clause-dir
 tell_dir-requires-clause-dir c =
     subst (λ k. c.args.dir.0 < k.settings.dirs) (sym c.in_ok-step.ensures.code)
     (is-below c.args.dir.0 (settings_of c.args.system.now).dirs
-    (ends-named c.args.system.now (Core c.args.core.0) (Dir c.args.dir.0) c.args.name.seq c.requires.enabled).to)
+    (ends c.args.system.now (Core c.args.core.0) (Dir c.args.dir.0) c.args.name.seq (msg_of c.args.msg) c.machines_are_live.ensures
+    c.requires.flies).to)
 
 -- the event, where its source and destination are known
 went : (c : goal.After-tell_dir-arg-1) → Advanced c.args.system.now c.advance.new.system
@@ -54,9 +57,19 @@ returns-in-Ok c =
     let e = Deliver (Core core) (Dir dir) k in
     let a = advanced-from m n _ _ (Dir dir) k c.in_ok-step.step c.requires.source
     (advanced-to m n (node_of c.args.name.src) _ _ k c.in_ok-step.step c.requires.destination c.in_ok-step.ensures) in
-    let told = c.fact_of_message-fact.ensures ∙ answer-told m core dir k c.what_became.result x c.requires.flies c.requires.enabled
-    c.what_became.ensures ∙ sym (flown m n (Core core) (Dir dir) k x c.requires.flies) in
+    let told = c.fact_of_message-fact.ensures ∙ answer-told m core dir k c.what_became.result x c.requires.flies
+    (taken-enabled m n e c.in_ok-step.step a) c.what_became.ensures ∙ sym (flown m n (Core core) (Dir dir) k x c.requires.flies) in
     told-all m n e c.in_ok-step.step c.tell_dir.new.facts c.events.ensures.reached a
     (c.in-Ok.ensures
     ∙ (λ i. map fact_of (c.requires.empty i) ++ (told i ++ (commit_told (tid_told c.in_ok-step.step) n.commits
     ++ (serves_fact dir (c.serving-before.ensures i) ((world_of n).dirs dir).serving.serving ++ last_facts n (Dir dir))))))
+
+pub returns-in-Err : goal.returns-in-Err
+returns-in-Err c =
+    let m = c.args.system.now in
+    let n = c.advance.new.system in
+    let dst = Dir c.args.dir.0 in
+    let k = c.args.name.seq in
+    taken-enabled m n (Deliver (Core c.args.core.0) dst k) c.in_ok-step.step
+    (advanced-from m n _ _ dst k c.in_ok-step.step c.requires.source
+    (advanced-to m n (node_of c.args.name.src) _ _ k c.in_ok-step.step c.requires.destination c.in_ok-step.ensures))

@@ -6,6 +6,7 @@ use Rattle.tcc_msg.specs.Plain.{msg_of}
 use Rattle.watch.specs.Facts.{Took}
 use Rattle.watch.specs.Plain.{fact_of}
 use Rattle.watch_machine.specs.Telling.{Advanced}
+use Rattle.watch_machine.proofs.Enabled.{taken-enabled}
 use Rattle.watch_machine.proofs.Happening.{advanced-from, advanced-to, flown, room-for, told-all, told_behind}
 use Rattle.watch_machine.proofs.delivering.watch_vendor.Goals as goal
 
@@ -35,3 +36,12 @@ returns-in-Ok c =
     (c.in-Ok.ensures
     ∙ ap (λ fs. map fact_of fs ++ (Took x ∷ behind)) c.requires.empty
     ∙ ap (λ fs. fs ++ behind) (sym (flown m n (Core core) Vendor k x c.requires.flies)))
+
+pub returns-in-Err : goal.returns-in-Err
+returns-in-Err c =
+    let m = c.args.system.now in
+    let n = c.advance.new.system in
+    let k = c.args.name.seq in
+    taken-enabled m n (Deliver (Core c.args.core.0) Vendor k) c.in_ok-step.step
+    (advanced-from m n _ _ Vendor k c.in_ok-step.step c.requires.source
+    (advanced-to m n (node_of c.args.name.src) _ _ k c.in_ok-step.step c.requires.destination c.in_ok-step.ensures))
