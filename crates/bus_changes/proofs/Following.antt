@@ -269,3 +269,12 @@ events-follow s es h k e allowed run next =
 
     bounded : IsBusBounded s.settings (length es) h
     bounded = at (bus_run s.settings (program s) (bus_at_start s).world es) run (riscv_bus_runs_are_bounded s es allowed)
+
+-- the core that an event names exists
+pub acts-there : (sh : Shape) (p : Program) (h k : BusHistory) (e : BusEvent) → bus_next sh p h e ≡ Some k → core_of e < sh.cores
+unfolding bus_next bus_step
+acts-there sh p h k e n = go (bus_names sh e) refl n
+  where
+    go : (b : Bool) → bus_names sh e ≡ b → recorded h (if b then bus_happens sh p h.world e else None) ≡ Some k → core_of e < sh.cores
+    go true q r = names-core sh e q
+    go false q r = absurd (cc)

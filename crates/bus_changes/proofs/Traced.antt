@@ -11,7 +11,7 @@ use Rattle.watch_trace.specs.Text.{tail_text}
 use Rattle.bus_trace.specs.Text.{bus_event_text, bus_event_texts, bus_head_text, bus_text_from, bus_trace_text, if_enabled}
 use Rattle.bus_changes.specs.Text.{bus_facts_alone, bus_shown_from, bus_shown_text, bus_shown_texts, if_bus_shown, if_bus_taken}
 
-plain-events : (sh : Shape) (p : Program) (es : List BusEvent) (h : BusHistory)
+pub plain-events : (sh : Shape) (p : Program) (es : List BusEvent) (h : BusHistory)
     → bus_shown_texts bus_facts_alone sh p es h ≡ bus_event_texts sh p es h
 unfolding bus_shown_texts bus_event_texts
 plain-events sh p [] h = refl

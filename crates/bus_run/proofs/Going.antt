@@ -1,15 +1,16 @@
 -- One event more, or no event any more.
-use Rattle.std.proofs.Common.{◌≡◌, ℕ, zero, suc, List, [], ◌∷◌, length, Some, None, refl, ap, sym, ◌∙◌, arith}
+use Rattle.std.proofs.Common.{◌≡◌, ℕ, zero, suc, Bool, List, [], ◌∷◌, ◌++◌, length, Some, None, refl, ap, sym, ◌∙◌, arith}
 use Rattle.image_load.specs.Contents.{started}
 use Rattle.rand_pcg.specs.Lcg.{Lcg}
 use Rattle.rand_pcg.specs.Pcg.{pcg32}
 use Rattle.rv_code.specs.Machine.{program}
 use Rattle.bus_rules.specs.State.{BusEvent}
 use Rattle.bus_rules.specs.Step.{and_then, bus_from, bus_next}
-use Rattle.bus_tcc.specs.Machine.{BusMachine, bus_history_of, bus_program_of, bus_settings_of}
+use Rattle.bus_tcc.specs.Machine.{BusMachine, bus_history_of, bus_program_of, bus_settings_of, bus_start_of}
 use Rattle.bus_tool.specs.Picking.{picks}
 use Rattle.bus_tool.proofs.Lemmas.{chosen_at, no-words, picks-none, picks-one}
-use Rattle.bus_trace.specs.Text.{bus_event_text, bus_event_texts, if_enabled}
+use Rattle.bus_trace.specs.Text.{bus_event_text}
+use Rattle.bus_changes.specs.Text.{bus_shown_texts, bus_shows, if_bus_shown}
 use Rattle.bus_run.specs.Going.{GoneOn, Led, Moves, coming, runs, texts}
 use Rattle.bus_run.specs.declared.running.BusRun.{BusRun}
 
@@ -38,17 +39,23 @@ runs-one m n e es s code =
     ap (and_then (bus_from (bus_settings_of m) (bus_program_of m) es)) s
     ∙ (λ i. bus_from (sym code i).settings (program (started (sym code i))) es (bus_history_of n))
 
--- the text of what an event does to a machine
-abbrev pub text_at : BusMachine → BusEvent → List ℕ
-text_at m e = bus_event_text (bus_settings_of m) (bus_program_of m) (bus_history_of m) e
+-- the text of what an event does to a machine that it leads to another state, with records or without
+abbrev pub text_at : (states : Bool) → (m n : BusMachine) → BusEvent → List ℕ
+text_at states m n e =
+    bus_event_text (bus_settings_of m) (bus_program_of m) (bus_history_of m) e
+    ++ (bus_shows states (bus_start_of m)).event (bus_history_of m).world (bus_history_of n).world e
 
-texts-one : (m n : BusMachine) (e : BusEvent) (es : List BusEvent)
+texts-one : (states : Bool) (m n : BusMachine) (e : BusEvent) (es : List BusEvent)
     → bus_next (bus_settings_of m) (bus_program_of m) (bus_history_of m) e ≡ Some (bus_history_of n) → n.code ≡ m.code
-    → texts m (e ∷ es) ≡ text_at m e ∷ texts n es
-unfolding bus_event_texts
-texts-one m n e es s code =
-    ap (if_enabled (text_at m e) (bus_event_texts (bus_settings_of m) (bus_program_of m) es)) s
-    ∙ (λ i. text_at m e ∷ bus_event_texts (sym code i).settings (program (started (sym code i))) es (bus_history_of n))
+    → texts states m (e ∷ es) ≡ text_at states m n e ∷ texts states n es
+unfolding bus_shown_texts
+texts-one states m n e es s code =
+    let x = bus_shows states (bus_start_of m) in
+    ap (if_bus_shown x (bus_settings_of m) (bus_program_of m) e (bus_history_of m)
+    (bus_shown_texts x (bus_settings_of m) (bus_program_of m) es)) s
+    ∙ (λ i. text_at states m n e
+    ∷ bus_shown_texts (bus_shows states (started (sym code i))) (sym code i).settings (program (started (sym code i))) es
+    (bus_history_of n))
 
 pub gone-one : (old new : BusRun) (e : BusEvent) → Moves old new (Some e) → GoneOn old new
 gone-one old new e (t, first, left) =
@@ -61,10 +68,11 @@ gone-one old new e (t, first, left) =
       words = omega (arith, events, left);
     }
 
-pub led-one : (old new : BusRun) (e : BusEvent) → Moves old new (Some e) → Led old new (text_at old.system e ∷ [])
-led-one old new e (t, first, left) = record {
+pub led-one : (states : Bool) (old new : BusRun) (e : BusEvent) → Moves old new (Some e)
+    → Led states old new (text_at states old.system new.system e ∷ [])
+led-one states old new e (t, first, left) = record {
   gone = gone-one old new e (t, first, left);
-  texts_are = ap (texts old.system) first ∙ texts-one old.system new.system e (coming new) t.next t.code;
+  texts_are = ap (texts states old.system) first ∙ texts-one states old.system new.system e (coming new) t.next t.code;
 }
 
 -- ---- none comes any more
@@ -81,8 +89,8 @@ gone-end old new (same, left, none, still) =
       words = omega (arith, events, left);
     }
 
-pub led-end : (old new : BusRun) → Moves old new None → Led old new []
-led-end old new (same, left, none, still) = record {
+pub led-end : (states : Bool) (old new : BusRun) → Moves old new None → Led states old new []
+led-end states old new (same, left, none, still) = record {
   gone = gone-end old new (same, left, none, still);
-  texts_are = ap (texts old.system) none ∙ ap (λ m. texts m []) (sym same) ∙ ap (texts new.system) (sym still);
+  texts_are = ap (texts states old.system) none ∙ ap (λ m. texts states m []) (sym same) ∙ ap (texts states new.system) (sym still);
 }

@@ -1,4 +1,6 @@
 -- The proofs of this crate.
+mod Acting
+mod Before
 mod Counts
 mod Going
 mod Leading

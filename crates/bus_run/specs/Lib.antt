@@ -5,3 +5,4 @@ pub mod Leading
 pub mod Traced
 pub mod Counted
 pub mod Counting
+pub mod Shown

@@ -22,7 +22,7 @@ pub struct BusCounted {
 }
 
 /// The core that an event names.
-fn core_of(e: BusEvent) -> CoreId
+pub(crate) fn core_of(e: BusEvent) -> CoreId
     ensures { result.0 ≡ plain_core (bus_event_of e) }
 {
     match e {

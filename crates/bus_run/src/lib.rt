@@ -1,10 +1,12 @@
-//! Runs of the machine with one bus that are looked at while they go on: `trace_on_bus` writes what each event does as it comes, and
-//! `count_on_bus` counts it. The events are those that a seed picks. Neither keeps the schedule, so the memory that they take doesn't
+//! Runs of the machine with one bus that are looked at while they go on: `trace_on_bus` writes what each event does as it comes, with records
+//! of what changed or without, and `count_on_bus` counts it. The events are those that a seed picks. Neither keeps the schedule, so the memory that they take doesn't
 //! grow with it.
 #![tactic(auto)]
 
 mod counting;
 mod running;
+mod showing;
+mod skipping;
 mod telling;
 mod tracing;
 

@@ -1,5 +1,5 @@
 // What each event did as a text.
-ghost use Rattle.std.specs.Prelude.{◌≡◌, ◌+◌, ◌++◌, ◌≤◌, [], OnOk, map, string_bytes, if◌then◌else◌};
+ghost use Rattle.std.specs.Prelude.{◌≡◌, ◌+◌, ◌++◌, ◌≤◌, [], OnOk, map, string_bytes, false, if◌then◌else◌};
 ghost use Rattle.bus_tcc.specs.Machine.{bus_event_of};
 ghost use Rattle.bus_trace.specs.Text.{bus_event_and_facts};
 ghost use Rattle.bus_watch.specs.Plain.{bus_fact_of};
@@ -14,7 +14,7 @@ use tcc_base::NoMemory;
 use text_runs::TextRun;
 
 /// Appends what an event did, where it is shown.
-fn push_shown(
+pub(crate) fn push_shown(
     text: &mut String,
     shown: bool,
     e: &BusEvent,
@@ -33,7 +33,7 @@ fn push_shown(
 }
 
 impl TextRun for BusRun {
-    ghost leads = { Led };
+    ghost leads = { Led false };
 
     ghost left = { λ r. r.left };
 
@@ -49,7 +49,7 @@ impl TextRun for BusRun {
         Ok(true)
     }
 
-    ghost stays = { led-none };
+    ghost stays = { led-none false };
 
-    ghost goes_on = { led-more };
+    ghost goes_on = { led-more false };
 }

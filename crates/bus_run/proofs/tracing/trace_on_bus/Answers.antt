@@ -5,42 +5,45 @@ use Rattle.std.specs.Io.KnownBytes.{Appends}
 use Rattle.std.specs.String.{string_bytes}
 use Rattle.text_runs.specs.Pieces.{IsEndCut, Written}
 use Rattle.watch_trace.specs.Text.{tail_text}
-use Rattle.bus_run.proofs.Traces.{ended-broken, head-is, stopped-broken, traced}
+use Rattle.bus_run.proofs.Traces.{ended-broken, head-is, traced}
 use Rattle.bus_run.proofs.tracing.trace_on_bus.Goals as goal
 
-pub returns-in_err-tell_events-clause-broken : goal.returns-in_err-tell_events-clause-broken
-returns-in_err-tell_events-clause-broken g c =
-    let head = head-is c.args.from c.in-Ok.run' c.config.result.now _ (string_bytes c.push_bus_head.new.text) c.new-held.ensures.bytes
-    c.config.ensures c.in-Ok-push_bus_head.ensures in
+pub returns-in_err-run-clause-broken : goal.returns-in_err-run-clause-broken
+returns-in_err-run-clause-broken g c =
+    let loaded = c.args.loaded.now in
+    let head = head-is c.args.from loaded c.in-Ok.run' c.config.result.now _ (string_bytes c.push_bus_head.new.text) c.new-held.ensures.bytes
+    c.config.ensures c.in-Ok.ensures.code c.in-Ok-push_bus_head.ensures in
     let p = err_from_is_err_and c.from_residual.result c.from_residual.ensures.1 in
-    rw (p.1, p.2) (stopped-broken c.args.loaded.now c.args.seed c.args.steps c.args.from c.in-Ok.run'
-    (string_bytes c.push_bus_head.new.text) _ c.in_err-tell_events.field-0.0 c.in-Ok.ensures head c.in_err-tell_events.ensures.stopped)
+    rw (p.1, p.2) (c.in_err-run.ensures.broken loaded c.args.seed c.args.steps c.in-Ok.ensures head)
 
 pub returns-in_err-tell_end-clause-broken : goal.returns-in_err-tell_end-clause-broken
 returns-in_err-tell_end-clause-broken g c =
-    let head = head-is c.args.from c.in-Ok.run' c.config.result.now _ (string_bytes c.push_bus_head.new.text) c.new-held.ensures.bytes
-    c.config.ensures c.in-Ok-push_bus_head.ensures in
+    let loaded = c.args.loaded.now in
+    let head = head-is c.args.from loaded c.in-Ok.run' c.config.result.now _ (string_bytes c.push_bus_head.new.text) c.new-held.ensures.bytes
+    c.config.ensures c.in-Ok.ensures.code c.in-Ok-push_bus_head.ensures in
     let output : Written = record {
-      before = g.O.Sink.bytes c.tell_events.new.out;
+      before = g.O.Sink.bytes c.tell_run.new.out;
       after = g.O.Sink.bytes c.tell_end.new.out;
-      faults_before = g.O.Sink.faults c.tell_events.new.out;
+      faults_before = g.O.Sink.faults c.tell_run.new.out;
       faults_after = g.O.Sink.faults c.tell_end.new.out;
     } in
+    let held = string_bytes c.tell_run.new.held in
     let p = err_from_is_err_and c.from_residual-in_err-tell_end.result c.from_residual-in_err-tell_end.ensures.1 in
-    rw (p.1, p.2) (ended-broken c.args.loaded.now c.args.seed c.args.steps c.args.from c.in-Ok.run' c.tell_events.new.run
-    (string_bytes c.push_bus_head.new.text) (string_bytes c.tell_events.new.held) (g.O.Sink.bytes c.args.out.now) output
-    (g.O.Sink.faults c.args.out.now) c.done-done.result c.in_err-tell_end.field-0.0 c.in-Ok.ensures head
-    c.in_ok-tell_events.ensures.told c.in_ok-tell_events.ensures.faults_stay c.commits.ensures.refined c.done-done.ensures
-    (subst (λ k. IsEndCut (string_bytes c.tell_events.new.held) (tail_text c.done-done.result k) output c.in_err-tell_end.field-0.0)
-    c.events.ensures.count c.in_err-tell_end.ensures.cut))
+    rw (p.1, p.2) (ended-broken c.args.states loaded c.args.seed c.args.steps c.args.from c.in_ok-run.run' held
+    (g.O.Sink.bytes c.args.out.now) output (g.O.Sink.faults c.args.out.now) c.done-done.result c.in_err-tell_end.field-0.0
+    (c.in_ok-run.ensures.told loaded c.args.seed c.args.steps c.in-Ok.ensures head) c.in_ok-run.ensures.faults_stay
+    c.commits.ensures.refined c.done-done.ensures
+    (subst (λ k. IsEndCut held (tail_text c.done-done.result k) output c.in_err-tell_end.field-0.0) c.events.ensures.count
+    c.in_err-tell_end.ensures.cut))
 
 pub returns-clause-traced : goal.returns-clause-traced
 returns-clause-traced g c =
-    let head = head-is c.args.from c.in-Ok.run' c.config.result.now _ (string_bytes c.push_bus_head.new.text) c.new-held.ensures.bytes
-    c.config.ensures c.in-Ok-push_bus_head.ensures in
-    traced c.args.loaded.now c.args.seed c.args.steps c.args.from c.in-Ok.run' c.tell_events.new.run
-    (string_bytes c.push_bus_head.new.text) (string_bytes c.tell_events.new.held) (g.O.Sink.bytes c.args.out.now)
-    (g.O.Sink.bytes c.tell_events.new.out) (g.O.Sink.bytes c.tell_end.new.out) c.done-done.result c.in-Ok.ensures head
-    c.in_ok-tell_events.ensures.told c.commits.ensures.refined c.done-done.ensures
-    (subst (λ k. Appends (g.O.Sink.bytes c.tell_events.new.out) (g.O.Sink.bytes c.tell_end.new.out)
-    (string_bytes c.tell_events.new.held ++ tail_text c.done-done.result k)) c.events.ensures.count c.in_ok-tell_end.ensures.ended)
+    let loaded = c.args.loaded.now in
+    let head = head-is c.args.from loaded c.in-Ok.run' c.config.result.now _ (string_bytes c.push_bus_head.new.text) c.new-held.ensures.bytes
+    c.config.ensures c.in-Ok.ensures.code c.in-Ok-push_bus_head.ensures in
+    let held = string_bytes c.tell_run.new.held in
+    traced c.args.states loaded c.args.seed c.args.steps c.args.from c.in_ok-run.run' held (g.O.Sink.bytes c.args.out.now)
+    (g.O.Sink.bytes c.tell_run.new.out) (g.O.Sink.bytes c.tell_end.new.out) c.done-done.result
+    (c.in_ok-run.ensures.told loaded c.args.seed c.args.steps c.in-Ok.ensures head) c.commits.ensures.refined c.done-done.ensures
+    (subst (λ k. Appends (g.O.Sink.bytes c.tell_run.new.out) (g.O.Sink.bytes c.tell_end.new.out) (held ++ tail_text c.done-done.result k))
+    c.events.ensures.count c.in_ok-tell_end.ensures.ended)
