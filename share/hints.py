@@ -34,7 +34,7 @@ TRAPS = {
 # The commands whose first word is a schedule or a list.
 WITH_FILE = ("replay", "why", "serial", "follow")
 # What doesn't go together with --bus.
-OFF_THE_BUS = {"schedule": "no schedules", "dirs": "no directories", "states": "no records in its trace"}
+OFF_THE_BUS = {"schedule": "no schedules", "dirs": "no directories"}
 COMPILE_HINT = "compile with -march=rv32ima -mabi=ilp32, or with `tcc cc`"
 
 

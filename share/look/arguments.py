@@ -117,8 +117,8 @@ def told(command, *words):
 
 
 def open_source(arguments, states=False, keep=False):
-    """The trace that the words ask for, and what is known of its program. `states` asks a run for records too, which one on the bus hasn't;
-    with `keep` the lines that were read are in `trace.stream.lines`."""
+    """The trace that the words ask for, and what is known of its program. `states` asks a run for records too; with `keep` the
+    lines that were read are in `trace.stream.lines`."""
     files, raw = arguments.files or ["-"], arguments.has("raw")
     base = arguments.number("base", 0x80000000)
     if files[0] == "-" or first_line(files[0]).startswith((b"tcc-trace", b"tcc-bus-trace")):
@@ -127,7 +127,7 @@ def open_source(arguments, states=False, keep=False):
         trace, images = open_trace(files[0], keep), []
     else:
         words, images = program_words(arguments)
-        lines = told("trace", *words, *(["--states"] if states and not arguments.has("bus") else []), "--", *images)
+        lines = told("trace", *words, *(["--states"] if states else []), "--", *images)
         trace = Trace(Kept(lines) if keep else lines, "the trace")
         base = trace.settings.base
     return trace, Program(arguments.elf or images, raw, base)

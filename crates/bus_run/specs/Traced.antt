@@ -4,6 +4,7 @@ use Rattle.std.specs.Io.KnownBytes.{Appends}
 use Rattle.image_load.specs.Start.{Start}
 use Rattle.rv_code.specs.Machine.{program}
 use Rattle.tcc_world.specs.Faults.{Rose}
+use Rattle.bus_rules.specs.State.{BusEvent}
 use Rattle.bus_rules.specs.Step.{BusHistory}
 use Rattle.bus_serial.specs.Given.{bus_at_start}
 use Rattle.bus_tool.specs.Running.{bus_picked_by}
@@ -14,10 +15,14 @@ use Rattle.text_runs.specs.declared.pieces.Broken.{Broken}
 use Rattle.text_runs.specs.declared.pieces.Broken.TheVariants.{Memory, Output}
 use Rattle.bus_run.specs.Leading.{BusLeadsTo}
 
--- the trace of the schedule that a seed picks, from event number `from` on, with records or without
+-- the trace of the run by these events, from number `from` on, with records or without
+abbrev pub bus_trace_of : (states : Bool) → Start → (from : ℕ) → List BusEvent → (done : Bool) → List ℕ
+bus_trace_of false s from es done = bus_trace_text s (bus_at_start s).world from es done
+bus_trace_of true s from es done = bus_states_text s (bus_at_start s).world from es done
+
+-- and by the schedule that a seed picks
 abbrev pub bus_trace_by : (states : Bool) → Start → (seed steps from : ℕ) → (done : Bool) → List ℕ
-bus_trace_by false s seed steps from done = bus_trace_text s (bus_at_start s).world from (bus_picked_by s seed steps) done
-bus_trace_by true s seed steps from done = bus_states_text s (bus_at_start s).world from (bus_picked_by s seed steps) done
+bus_trace_by states s seed steps from done = bus_trace_of states s from (bus_picked_by s seed steps) done
 
 -- its lines but for the first ones and the last ones
 abbrev pub bus_events_by : (states : Bool) → Start → (seed steps from : ℕ) → List ℕ

@@ -77,7 +77,7 @@ bus-state l seed steps events m done n text code ran is count told = record {
 
 stopped-so : (files : List (List ℕ)) (machine : Machine) (images : List (List ℕ)) (steps seed from to : ℕ) (states : Bool)
     (f : FilesAround) (o : Written) (r : Refusal) → IsUntouched f
-    → IsBusTraceStopped (start_from (LookOnBus machine images steps seed (Trace from to states)) files) seed steps from to o r
+    → IsBusTraceStopped (start_from (LookOnBus machine images steps seed (Trace from to states)) files) seed steps from to states o r
     → Tells (LookOnBus machine images steps seed (Trace from to states)) files f o (Err r)
 stopped-so files machine images steps seed from to states f o why.Words untouched h = absurd h
 stopped-so files machine images steps seed from to states f o (why.Value field) untouched h = absurd h
@@ -85,18 +85,18 @@ stopped-so files machine images steps seed from to states f o (why.Image bad) un
 stopped-so files machine images steps seed from to states f o (why.Schedule line) untouched h = absurd h
 stopped-so files machine images steps seed from to states f o (why.Store name) untouched h = absurd h
 stopped-so files machine images steps seed from to states f o why.Output untouched (inl (done, text, l, cut)) =
-    inl (done, text, record { ends = l.ends; runs = l.runs; text_is = l.text_is }, cut)
+    inl (done, text, l, cut)
 stopped-so files machine images steps seed from to states f o why.Output untouched (inr (begun, rose)) = inr (begun, rose, untouched)
 stopped-so files machine images steps seed from to states f o why.Memory untouched begun = inr (begun, untouched)
 
 told-so : (files : List (List ℕ)) (machine : Machine) (images : List (List ℕ)) (steps seed from to : ℕ) (states : Bool)
     (f : FilesAround) (o : Written) (x : Result Bool Refusal) → IsUntouched f
     → IfOk x (IsBusTraceTold (start_from (LookOnBus machine images steps seed (Trace from to states)) files) seed steps
-    (Trace from to false) o)
-    → IfErr x (IsBusTraceStopped (start_from (LookOnBus machine images steps seed (Trace from to states)) files) seed steps from to o)
+    (Trace from to states) o)
+    → IfErr x (IsBusTraceStopped (start_from (LookOnBus machine images steps seed (Trace from to states)) files) seed steps from to states o)
     → Tells (LookOnBus machine images steps seed (Trace from to states)) files f o x
 told-so files machine images steps seed from to states f o (Ok done) untouched (text, l, whole) stopped =
-    (text, record { ends = l.ends; runs = l.runs; text_is = l.text_is }, whole)
+    (text, l, whole)
 told-so files machine images steps seed from to states f o (Err r) untouched told stopped =
     stopped-so files machine images steps seed from to states f o r untouched stopped
 
@@ -104,11 +104,11 @@ told-so files machine images steps seed from to states f o (Err r) untouched tol
 pub bus-trace-tells : (c : Command) (files : List (List ℕ)) (s : Start) (machine : Machine) (images : List (List ℕ))
     (steps seed from to : ℕ) (states : Bool) (f : FilesAround) (o : Written) (x : Result Bool Refusal)
     → c ≡ LookOnBus machine images steps seed (Trace from to states) → s ≡ start_from c files → IsUntouched f
-    → IfOk x (IsBusTraceTold s seed steps (Trace from to false) o) → IfErr x (IsBusTraceStopped s seed steps from to o)
+    → IfOk x (IsBusTraceTold s seed steps (Trace from to states) o) → IfErr x (IsBusTraceStopped s seed steps from to states o)
     → Tells c files f o x
 bus-trace-tells c files s machine images steps seed from to states f o x is start untouched told stopped =
     let begins : s ≡ start_from (LookOnBus machine images steps seed (Trace from to states)) files =
     start ∙ ap (λ d. start_from d files) is in
     subst (λ d. Tells d files f o x) (sym is) (told-so files machine images steps seed from to states f o x untouched
-    (subst (λ q. IfOk x (IsBusTraceTold q seed steps (Trace from to false) o)) begins told)
-    (subst (λ q. IfErr x (IsBusTraceStopped q seed steps from to o)) begins stopped))
+    (subst (λ q. IfOk x (IsBusTraceTold q seed steps (Trace from to states) o)) begins told)
+    (subst (λ q. IfErr x (IsBusTraceStopped q seed steps from to states o)) begins stopped))

@@ -6,11 +6,9 @@ use Rattle.bus_count.specs.Text.{bus_count_text}
 use Rattle.bus_rules.specs.State.{BusEvent}
 use Rattle.bus_rules.specs.Step.{BusHistory}
 use Rattle.bus_run.specs.Counted.{counts_of_bus_run}
-use Rattle.bus_run.specs.Traced.{bus_lines_by}
-use Rattle.bus_serial.specs.Given.{bus_at_start}
+use Rattle.bus_run.specs.Traced.{bus_lines_by, bus_trace_of}
 use Rattle.bus_state.specs.Text.{bus_state_text}
 use Rattle.bus_tool.specs.Running.{bus_picked_by}
-use Rattle.bus_trace.specs.Text.{bus_trace_text}
 use Rattle.tcc_cli.specs.Lines.{Written, IsCut, IsWhole}
 use Rattle.tcc_cli.specs.Looks.{most_of}
 use Rattle.tcc_cli.specs.OnBus.{BusRunsTo}
@@ -25,7 +23,7 @@ use Rattle.text_runs.specs.declared.pieces.Broken.TheVariants as broken
 
 -- what is told of a run by these events: the trace, the counts or the state at the end
 abbrev pub bus_view_text : View → (seed steps : ℕ) → Start → (done : Bool) → List BusEvent → BusHistory → List ℕ
-bus_view_text (Trace from to states) seed steps s done es h = bus_trace_text s (bus_at_start s).world from es done
+bus_view_text (Trace from to states) seed steps s done es h = bus_trace_of states s from es done
 bus_view_text (Count true) seed steps s done es h =
     bus_csv_text s.settings (Some (seed, steps)) done (length es) (counts_of_bus_run s es)
 bus_view_text (Count false) seed steps s done es h = bus_count_text s.settings done (length es) (counts_of_bus_run s es)
@@ -46,19 +44,19 @@ abbrev pub IsBusTraceTold : Start → (seed steps : ℕ) → View → Written �
 IsBusTraceTold s seed steps view o done = (text : List ℕ) × LookedAtBus s seed steps view done text × IsWhole text o
 
 -- a first part of the trace was written: of its first lines and of those of its events, and none of its last lines
-abbrev pub IsBusTraceBegun : Start → (seed steps from to : ℕ) → Written → Type 0
-IsBusTraceBegun s seed steps from to o = IsPart (bus_lines_by s seed (min steps to) from) o.before o.after
+abbrev pub IsBusTraceBegun : Start → (seed steps from to : ℕ) → (states : Bool) → Written → Type 0
+IsBusTraceBegun s seed steps from to states o = IsPart (bus_lines_by states s seed (min steps to) from) o.before o.after
 
 abbrev pub IsBusTraceCut : Start → (seed steps : ℕ) → View → Written → Type 0
 IsBusTraceCut s seed steps view o = (done : Bool) × (text : List ℕ) × LookedAtBus s seed steps view done text × IsCut text o
 
 -- why a trace broke off, of which the events from this number on, to that number, were to be told
-abbrev pub IsBusTraceStopped : Start → (seed steps from to : ℕ) → Written → Refusal → Type 0
-IsBusTraceStopped s seed steps from to o why.Output =
-    IsBusTraceCut s seed steps (Trace from to false) o
-    ⊎ (IsBusTraceBegun s seed steps from to o × Rose o.faults_before o.faults_after)
-IsBusTraceStopped s seed steps from to o why.Memory = IsBusTraceBegun s seed steps from to o
-IsBusTraceStopped s seed steps from to o _ = ⊥
+abbrev pub IsBusTraceStopped : Start → (seed steps from to : ℕ) → (states : Bool) → Written → Refusal → Type 0
+IsBusTraceStopped s seed steps from to states o why.Output =
+    IsBusTraceCut s seed steps (Trace from to states) o
+    ⊎ (IsBusTraceBegun s seed steps from to states o × Rose o.faults_before o.faults_after)
+IsBusTraceStopped s seed steps from to states o why.Memory = IsBusTraceBegun s seed steps from to states o
+IsBusTraceStopped s seed steps from to states o _ = ⊥
 
 -- what a trace that broke off is to the program
 abbrev pub text_refusal : Broken → Refusal

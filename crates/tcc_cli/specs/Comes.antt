@@ -66,7 +66,7 @@ HasBegun (Look machine images source (Trace from to states)) files o =
     let s = start_from (Look machine images source (Trace from to states)) files in
     IsBegun s (AreLookedAt source to s machine.config files) (record { from = from; states = states }) o
 HasBegun (LookOnBus machine images steps seed (Trace from to states)) files o =
-    IsBusTraceBegun (start_from (LookOnBus machine images steps seed (Trace from to states)) files) seed steps from to o
+    IsBusTraceBegun (start_from (LookOnBus machine images steps seed (Trace from to states)) files) seed steps from to states o
 HasBegun (Outcomes machine images limits tell) files o =
     IsTableBegun (start_from (Outcomes machine images limits tell) files) limits tell o
 HasBegun _ files o = ⊥

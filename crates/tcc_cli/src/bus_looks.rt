@@ -1,5 +1,5 @@
 // Runs of the machine with one bus that are looked at: their traces, what is counted of them, and the state that they come to.
-ghost use Rattle.std.specs.Prelude.{◌≡◌, ◌≤◌, false, IfErr, IfOk, if◌then◌else◌};
+ghost use Rattle.std.specs.Prelude.{◌≡◌, ◌≤◌, IfErr, IfOk, if◌then◌else◌};
 ghost use Rattle.std.specs.String.{string_bytes};
 ghost use Rattle.bus_count.specs.Csv.{bus_csv_text};
 ghost use Rattle.bus_count.specs.Text.{bus_count_text};
@@ -18,6 +18,7 @@ use std::alloc::Global;
 use tcc_base::{Config, NoMemory};
 use tcc_words::View;
 use tcc_world::Sink;
+use watch_run::Shown;
 
 /// What a trace that broke off is to the program.
 fn of_broken<'a>(broken: Broken) -> Refusal<'a>
@@ -29,26 +30,26 @@ fn of_broken<'a>(broken: Broken) -> Refusal<'a>
     }
 }
 
-/// Writes the trace of the run that a seed picks, of at most `to` events, from number `from` on.
+/// Writes the trace of the run that a seed picks, of at most `to` events.
 pub fn trace_bus<'a, O: Sink>(
     alloc: Global,
     loaded: &Loaded,
     seed: u64,
     steps: u64,
-    from: u64,
+    shown: Shown,
     to: u64,
     out: &mut O,
 ) -> Result<bool, Refusal<'a>>
     requires one_home { loaded.now.settings.dirs ≡ 1 }
     requires few { steps ≤ 4194304 }
-    ensures told { IfOk result (IsBusTraceTold (started loaded.now) seed steps (View.Trace from to false)
+    ensures told { IfOk result (IsBusTraceTold (started loaded.now) seed steps (View.Trace shown.from to shown.states)
         (record {
           before = O.bytes out.old;
           after = O.bytes out.new;
           faults_before = O.faults out.old;
           faults_after = O.faults out.new;
         })) }
-    ensures stopped { IfErr result (IsBusTraceStopped (started loaded.now) seed steps from to
+    ensures stopped { IfErr result (IsBusTraceStopped (started loaded.now) seed steps shown.from to shown.states
         (record {
           before = O.bytes out.old;
           after = O.bytes out.new;
@@ -56,7 +57,8 @@ pub fn trace_bus<'a, O: Sink>(
           faults_after = O.faults out.new;
         })) }
 {
-    match trace_on_bus(alloc, loaded, seed, steps.min(to), from, out) {
+    let Shown { from, states } = shown;
+    match trace_on_bus(alloc, loaded, seed, steps.min(to), from, states, out) {
         Ok(done) => Ok(done),
         Err(broken) => Err(of_broken(broken)),
     }

@@ -263,9 +263,20 @@ fn tell<'a, R: Threads + Wait + Sync, F: Store, O: Sink, G: Gate + Sync>(
         Command::LookOnBus {
             steps,
             seed,
-            view: View::Trace { from, to, .. },
+            view: View::Trace { from, to, states },
             ..
-        } => trace_bus(alloc, loaded, *seed, *steps, *from, *to, out),
+        } => trace_bus(
+            alloc,
+            loaded,
+            *seed,
+            *steps,
+            Shown {
+                from: *from,
+                states: *states,
+            },
+            *to,
+            out,
+        ),
         Command::Outcomes { limits, tell, .. } => {
             write_outcomes(alloc, loaded, *limits, *tell, out)
         }

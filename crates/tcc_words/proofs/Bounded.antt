@@ -11,7 +11,7 @@ use Rattle.tcc_words.proofs.OneCommand.{one-value}
 use Rattle.tcc_words.proofs.Unasked.{IsApart, unasked}
 use Rattle.tcc_words.specs.Asked.{AsksLook, AsksSource, AsksView, GoTogether, HasPlaces, HasSettings, IsCommand, IsFlagged, MayBeGiven}
 use Rattle.tcc_words.specs.Asked.{Asks}
-use Rattle.tcc_words.specs.Bounds.{IsFew, IsInBounds, IsNear, IsPlain}
+use Rattle.tcc_words.specs.Bounds.{IsFew, IsInBounds, IsNear}
 use Rattle.tcc_words.specs.Grammar.{grammar}
 use Rattle.tcc_words.specs.Fields.{Allows, IsValue, images_of}
 use Rattle.tcc_words.specs.Numbers.{IsNumber}
@@ -126,16 +126,6 @@ view-near Count rows (view.Count csv) a every = tt
 view-near State rows (view.State events) a every = number-near 4194304 (first_of (codes "events") rows) events a (every Events)
 view-near _ rows v a every = absurd a
 
-none-flagged : (b : Bool) (P : Type 0) → (IsTrue b ↔ P) → (P → ⊥) → b ≡ false
-none-flagged true P is none = absurd (none (is.0 refl))
-none-flagged false P is none = refl
-
-view-plain : (verb : Verb) (rows : List Row) (v : View) → AsksView verb rows v → (IsFlagged (codes "records") rows → ⊥) → IsPlain v
-view-plain Trace rows (view.Trace from to states) a none = none-flagged states (IsFlagged (codes "records") rows) a.2 none
-view-plain Count rows (view.Count csv) a none = tt
-view-plain State rows (view.State events) a none = tt
-view-plain _ rows v a none = absurd a
-
 looking : (verb : Verb) (rows : List Row) (v : View) (c : Command) → (1 ≤ length (images_of rows)) × GoTogether rows
     → ((field : Field) → Allows rows field) → AsksLook rows v c → AsksView verb rows v → IsInBounds c
 looking verb rows v (command.Look machine images source view) places every a b =
@@ -145,11 +135,9 @@ looking verb rows v (command.Look machine images source view) places every a b =
 looking verb rows v (command.LookOnBus machine images steps seed view) places every a b =
     let some = images-some rows images a.2 places.0 every in
     let few = steps-few rows steps a.3 every in
-    let with = places.1.bus a.0 in
-    let one = one-dir rows machine.config.dirs with.0 a.1.0.dirs in
+    let one = one-dir rows machine.config.dirs (places.1.bus a.0) a.1.0.dirs in
     let near = subst IsNear (sym a.5) (view-near verb rows v b every) in
-    let bare = subst IsPlain (sym a.5) (view-plain verb rows v b with.1) in
-    record { allowed = allowed rows machine.config a.1.0 every; numbers = (some.0, some.1, few, one, near, bare) }
+    record { allowed = allowed rows machine.config a.1.0 every; numbers = (some.0, some.1, few, one, near) }
 looking verb rows v _ places every a b = absurd a
 
 bounded : (verb : Verb) (rows : List Row) (c : Command) → HasPlaces verb rows → HasNone verb rows → ((field : Field) → Allows rows field)

@@ -30,11 +30,11 @@ use Rattle.tcc_words.specs.declared.command.WordsFault.TheVariants as fault
 abbrev pub IsFlagged : (name : Text) → List Row → Type 0
 IsFlagged name rows = first_of name rows ≡ Some (codes "true")
 
--- a schedule stands with neither a number of events nor a seed nor the bus, and the bus with neither directories nor records
+-- a schedule stands with neither a number of events nor a seed nor the bus, and the bus without directories
 pub record GoTogether (rows : List Row) : Type 0 where
   pub schedule : IsSome (first_of (codes "schedule") rows)
       → (first_of (codes "steps") rows ≡ None) × (first_of (codes "seed") rows ≡ None) × (IsFlagged (codes "bus") rows → ⊥)
-  pub bus : IsFlagged (codes "bus") rows → (first_of (codes "dirs") rows ≡ None) × (IsFlagged (codes "records") rows → ⊥)
+  pub bus : IsFlagged (codes "bus") rows → first_of (codes "dirs") rows ≡ None
 
 -- each place of the command has its word, and its options go together
 abbrev pub HasPlaces : Verb → List Row → Type 0

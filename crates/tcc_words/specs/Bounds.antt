@@ -1,5 +1,5 @@
 -- The numbers of a command are within their bounds.
-use Rattle.std.specs.Prelude.{◌≡◌, ◌≤◌, false, List, length, IfSome, IsSome}
+use Rattle.std.specs.Prelude.{◌≡◌, ◌≤◌, List, length, IfSome, IsSome}
 use Rattle.clap.specs.Words.{Text}
 use Rattle.tcc_base.specs.Settings.{Settings, IsAllowed}
 use Rattle.tcc_words.specs.Asked.{IsCommand}
@@ -33,11 +33,6 @@ IsNear (Trace from to states) = (from ≤ 4194304) × (to ≤ 4194304)
 IsNear (Count csv) = Unit {0}
 IsNear (State events) = events ≤ 4194304
 
--- a trace without records
-abbrev pub IsPlain : View → Type 0
-IsPlain (Trace from to states) = states ≡ false
-IsPlain _ = Unit {0}
-
 -- 1 to 16 images, at most 4,194,304 events, 1 to 16 threads and only with a record, a workload's number from 1 to 2047; where there are
 -- no directories the settings have one; at least one state, and one instruction
 abbrev pub AreNumbers : Command → Type 0
@@ -53,7 +48,6 @@ AreNumbers (Bus machine images steps seed) =
 AreNumbers (Look machine images source view) = (1 ≤ length images) × (length images ≤ 16) × IsFew source × IsNear view
 AreNumbers (LookOnBus machine images steps seed view) =
     (1 ≤ length images) × (length images ≤ 16) × (steps ≤ 4194304) × (machine.config.dirs ≡ 1) × IsNear view
-    × IsPlain view
 AreNumbers (Outcomes machine images limits tell) =
     (1 ≤ length images) × (length images ≤ 16) × (1 ≤ limits.states) × (1 ≤ limits.longest)
 AreNumbers (Follow machine list images keep) = (1 ≤ length images) × (length images ≤ 16)

@@ -56,14 +56,12 @@ fn has_places(verb: Verb, matches: &ArgMatches) -> bool
     }
 }
 
-/// Whether no number of events, seed or bus stands beside a schedule, and no directories or records beside the bus.
+/// Whether no number of events, seed or bus stands beside a schedule, and no directories beside the bus.
 fn go_together(matches: &ArgMatches) -> bool
     ensures { IsTrue result ↔ GoTogether (rows_of (found_of matches.now)) }
 {
     if is_flagged(matches, "bus") {
-        return text(matches, "schedule").is_none()
-            && text(matches, "dirs").is_none()
-            && !is_flagged(matches, "records");
+        return text(matches, "schedule").is_none() && text(matches, "dirs").is_none();
     }
     text(matches, "schedule").is_none()
         || (text(matches, "steps").is_none() && text(matches, "seed").is_none())

@@ -16,7 +16,7 @@ class Trace {
         this.count = this.starts.length - 1;
         this.done = text.startsWith("end done", this.starts[this.count]);
         this.hasStates = text[this.body] === " ";
-        this.noRecords = "The trace has no records" + (this.bus ? "." : ": make it with --states.");
+        this.noRecords = "The trace has no records: make it with --states.";
     }
 
     // The offset of each event's line, and behind them that of the line `end`.

@@ -85,8 +85,8 @@ pub returns-in-LookOnBus-default-default-default-default-Trace-clause-tells
     : goal.returns-in-LookOnBus-default-default-default-default-Trace-clause-tells
 returns-in-LookOnBus-default-default-default-default-Trace-clause-tells g c =
     let it = c.in-LookOnBus-default-default-default-default-Trace in
-    let view : it.view ≡ Trace it.from it.to it.view-2 = rw it.is at it.view-is in
-    let is : c.args.command.now ≡ LookOnBus it.machine it.images it.steps it.seed (Trace it.from it.to it.view-2) =
+    let view : it.view ≡ Trace it.from it.to it.states = rw it.is at it.view-is in
+    let is : c.args.command.now ≡ LookOnBus it.machine it.images it.steps it.seed (Trace it.from it.to it.states) =
     it.is ∙ (λ i. LookOnBus it.machine it.images it.steps it.seed (view i)) in
     let o : Written = record {
       before = g.O.Sink.bytes c.args.out.now;
@@ -104,5 +104,5 @@ returns-in-LookOnBus-default-default-default-default-Trace-clause-tells g c =
       writes_after = g.F.Store.failed_writes c.args.files.now;
     } in
     bus-trace-tells c.args.command.now c.args.read.now (started c.args.loaded.now) it.machine it.images it.steps it.seed it.from it.to
-    it.view-2 f o c.trace_bus.result is c.requires.start (λ n. refl) (rw (it.from-is, it.to-is) at c.trace_bus.ensures.told)
-    (rw (it.from-is, it.to-is) at c.trace_bus.ensures.stopped)
+    it.states f o c.trace_bus.result is c.requires.start (λ n. refl) (rw (it.from-is, it.to-is, it.states-is) at c.trace_bus.ensures.told)
+    (rw (it.from-is, it.to-is, it.states-is) at c.trace_bus.ensures.stopped)
