@@ -316,6 +316,42 @@ end open
 events 2
 ";
 
+/// With records from event 3 on.
+const BUS_STATES: &str = "tcc-bus-trace 1
+cores 1 sets 16 ways 2 base 2147483648 ram 65536
+from 3
+ core 0 n 3 pc 8000000c phase Running
+ reg 0 5 00000007
+ reg 0 6 80000000
+ reg 0 11 00000001
+ saved 0 pc 80000000
+ saved 0 11 00000001
+ frame 0 2 0 line 2 valid 1 read 0 modified 1 dirty 0 tag 0 words 00000007 - - - - - - -
+ arbiter next 1 free
+e 0
+ did 0 8000000c end
+ phase 0 AwaitTid
+ core 0 n 4 pc 80000010 phase AwaitTid
+ ended 0 end
+e 0
+ commit 1 0 4
+ phase 0 Running
+ core 0 n 0 pc 80000010 phase Running
+ gone ended 0
+ saved 0 pc 80000010
+ saved 0 5 00000007
+ saved 0 6 80000000
+ frame 0 2 0 line 2 valid 1 read 0 modified 0 dirty 0 tag 0 words 00000007 - - - - - - -
+ arbiter next 2 free
+ mem 80000040 00000007
+e 0
+ did 0 80000010 local
+ core 0 n 1 pc 80000014 phase Running
+ reg 0 17 0000005d
+end open
+events 6
+";
+
 const BUS_COUNT: &str = "tcc-bus-count 1
 cores 1 sets 16 ways 2 base 2147483648 ram 65536
 attempts 0 begun 2 committed 2 violated 0 open 0 row 0 gaveup 0
@@ -356,7 +392,7 @@ events 5
 /// A command line over the image `a`, its status, and its text.
 type Look = (&'static str, u8, &'static str);
 
-const LOOKS: [Look; 14] = [
+const LOOKS: [Look; 15] = [
     ("trace --raw a", 0, TRACE),
     ("trace --raw --seed 0 --steps 19 --to 19 a", 0, TRACE),
     ("trace --raw --from 4 --to 6 a", 1, WINDOW),
@@ -368,6 +404,11 @@ const LOOKS: [Look; 14] = [
     ("state --raw --events 5 a", 1, STATE),
     ("trace --bus --raw a", 0, BUS_TRACE),
     ("trace --raw --bus --from 1 --to 2 a", 1, BUS_WINDOW),
+    (
+        "trace --raw --states --bus --from 3 --to 6 a",
+        1,
+        BUS_STATES,
+    ),
     ("count --raw --bus --seed 7 a", 0, BUS_COUNT),
     ("state --raw --events=5 --bus a", 1, BUS_STATE),
     ("trace --bus --raw --steps 8 --to 9 a", 0, BUS_TRACE),
@@ -467,10 +508,11 @@ fn events_that_are_not_taken_may_be_at_fault(rt: HostRuntime) -> Result<(), Fail
 }
 
 /// Over the smallest memory that holds the stored word.
-const SHORT: [&str; 3] = [
+const SHORT: [&str; 4] = [
     "trace --raw --ram 96 a",
     "trace --raw --ram 96 --states --from 9 a",
     "trace --raw --ram 96 --bus a",
+    "trace --raw --ram 96 --bus --states --from 6 a",
 ];
 
 #[test]
