@@ -16,7 +16,8 @@ use Rattle.tcc_rules.specs.CoreEvict.{core_evict}
 use Rattle.tcc_rules.specs.Commit.{is_written}
 use Rattle.tcc_rules.specs.State.{CoreState, Phase, Running, AwaitTid, DoomedTid, Probing, Ready, Overflowing, Solo, Halted}
 use Rattle.bus_rules.specs.Commit.{BusStepped, all_clean, bus_commit, commit_out, others, packet, with_words, written_words, wrote_some}
-use Rattle.bus_rules.specs.Exec.{bus_exec, bus_exec_in_phase, core_changed, exec_alone, executed, goes_on, gone_alone, instruction, when_free}
+use Rattle.bus_rules.specs.Exec.{bus_exec, bus_exec_in_phase, core_changed, exec_alone, executed, goes_on}
+use Rattle.bus_rules.specs.Exec.{gone_alone, instruction, when_free}
 use Rattle.bus_rules.specs.State.{Alone, Bus, BusEvent, BusWorld, Evict, Exec, Free, Packet, Take}
 use Rattle.bus_rules.specs.Step.{BusHistory, and_noted, bus_happens, bus_names, bus_next, bus_run, bus_step, if_evicted, recorded}
 use Rattle.bus_rules.specs.Take.{bus_left, bus_take, packet_taken, take_from}

@@ -29,7 +29,8 @@ pub record PartsLeadOn : Type 0 where
       → put_on_part (Some (arbiter_record n t b)) (arbiter_changes n t b u a) ≡ Some (arbiter_record n u a)
   pub packet : (f g : ℕ → Option ℕ) (l : ℕ)
       → put_on_part (option_map PacketHas (line_in f l)) (line_changes (line_in f l) (line_in g l)) ≡ option_map PacketHas (line_in g l)
-  pub memory : (addr was is first : ℕ) → put_on_part (value_record addr was first) (value_changes addr was is first) ≡ value_record addr is first
+  pub memory : (addr was is first : ℕ)
+      → put_on_part (value_record addr was first) (value_changes addr was is first) ≡ value_record addr is first
 
 -- an event of a run leaves all cores as they are but the one that it names, puts no packet in the place of another, and changes memory only
 -- where it commits, in the lines of the packet that it sends

@@ -1,5 +1,5 @@
--- The text of a trace with records: all of them where the window begins, and below each event's facts those of the acting core that changed,
--- and then those of the bus and of memory.
+-- The text of a trace with records: all of them where the window begins, and below each event's facts those of the acting core that
+-- changed, and then those of the bus and of memory.
 -- It is one definition with that of a trace without records: what is shown besides the facts is said apart.
 use Rattle.std.specs.Prelude.{ℕ, zero, suc, Bool, true, false, List, [], ◌∷◌, ◌++◌, Option, Some, None, length, map}
 use Rattle.image_load.specs.Start.{Start}

@@ -84,7 +84,8 @@ fn tell_one(
 ) -> Result<bool, NoMemory>
     requires few { run.old.system.events + run.old.left ≤ 4194304 }
     requires kept { IsKept kept.old (bus_settings_of run.old.system) (bus_world_of run.old.system) }
-    ensures tells { IfOk result (Tells (Led true run.old run.new) (coming run.new ≡ []) shown (string_bytes text.old) (string_bytes text.new)) }
+    ensures tells { IfOk result (Tells (Led true run.old run.new) (coming run.new ≡ []) shown
+        (string_bytes text.old) (string_bytes text.new)) }
     ensures fewer { IfOk result (λ more. IsTrue more → run.new.left < run.old.left) }
     ensures few { OnOk result (run.new.system.events + run.new.left ≤ 4194304) }
     ensures kept { OnOk result (IsKept kept.new (bus_settings_of run.new.system) (bus_world_of run.new.system)) }

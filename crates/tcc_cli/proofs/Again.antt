@@ -209,7 +209,7 @@ run-again f v replay g other machine images name files text_of_end done text l a
     record { status_is = x.status_is ∙ ap (λ d. status_of (Ok d)) (sym one.0); whole = subst (λ t. IsWhole t v.out) one.1 whole }
 
 -- the files behind a list
-tail-told : (told : List ℕ → Option (List ℕ)) (list : List ℕ) (names files : List (List ℕ)) (read : List (List ℕ)) → AreTold told names files
+tail-told : (told : List ℕ → Option (List ℕ)) (list : List ℕ) (names files read : List (List ℕ)) → AreTold told names files
     → AreGiven told (list ∷ names) read → tail_of read ≡ files
 unfolding AreGiven
 tail-told told list names files [] t g = absurd g

@@ -93,7 +93,8 @@ told-so : (files : List (List ℕ)) (machine : Machine) (images : List (List ℕ
     (f : FilesAround) (o : Written) (x : Result Bool Refusal) → IsUntouched f
     → IfOk x (IsBusTraceTold (start_from (LookOnBus machine images steps seed (Trace from to states)) files) seed steps
     (Trace from to states) o)
-    → IfErr x (IsBusTraceStopped (start_from (LookOnBus machine images steps seed (Trace from to states)) files) seed steps from to states o)
+    → IfErr x (IsBusTraceStopped (start_from (LookOnBus machine images steps seed (Trace from to states)) files) seed steps from to states
+    o)
     → Tells (LookOnBus machine images steps seed (Trace from to states)) files f o x
 told-so files machine images steps seed from to states f o (Ok done) untouched (text, l, whole) stopped =
     (text, l, whole)

@@ -7,7 +7,8 @@ use Rattle.tcc_words.specs.Grammar.{core_rules, event_rules, flag, grammar, mach
 use Rattle.tcc_words.specs.Grammar.{node_rules, rules, verb_word}
 use Rattle.tcc_words.specs.Grammar.{file_rules, record_rules, source_rules, with_rules}
 use Rattle.tcc_words.specs.declared.command.Verb.{Verb}
-use Rattle.tcc_words.specs.declared.command.Verb.TheVariants.{Run, Replay, Serial, Trial, Why, Phases, Bus, Trace, Count, State, Outcomes, Follow}
+use Rattle.tcc_words.specs.declared.command.Verb.TheVariants.{Run, Replay, Serial, Trial, Why, Phases, Bus, Trace, Count, State}
+use Rattle.tcc_words.specs.declared.command.Verb.TheVariants.{Outcomes, Follow}
 
 put_rules : App → List Rule → App
 put_rules a rs = on_top (λ s. record s { rules = rs }) a

@@ -10,7 +10,8 @@ use Rattle.tcc_words.specs.Grammar.{IsRefusal, grammar, verb_word}
 use Rattle.tcc_words.specs.declared.command.WordsFault.{WordsFault}
 use Rattle.tcc_words.specs.declared.command.WordsFault.TheVariants as fault
 use Rattle.tcc_words.specs.declared.command.Verb.{Verb}
-use Rattle.tcc_words.specs.declared.command.Verb.TheVariants.{Run, Replay, Serial, Trial, Why, Phases, Bus, Trace, Count, State, Outcomes, Follow}
+use Rattle.tcc_words.specs.declared.command.Verb.TheVariants.{Run, Replay, Serial, Trial, Why, Phases, Bus, Trace, Count, State}
+use Rattle.tcc_words.specs.declared.command.Verb.TheVariants.{Outcomes, Follow}
 
 -- a number by which the names of commands differ
 tag : Text → ℕ

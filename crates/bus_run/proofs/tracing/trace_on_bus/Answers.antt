@@ -11,16 +11,16 @@ use Rattle.bus_run.proofs.tracing.trace_on_bus.Goals as goal
 pub returns-in_err-run-clause-broken : goal.returns-in_err-run-clause-broken
 returns-in_err-run-clause-broken g c =
     let loaded = c.args.loaded.now in
-    let head = head-is c.args.from loaded c.in-Ok.run' c.config.result.now _ (string_bytes c.push_bus_head.new.text) c.new-held.ensures.bytes
-    c.config.ensures c.in-Ok.ensures.code c.in-Ok-push_bus_head.ensures in
+    let head = head-is c.args.from loaded c.in-Ok.run' c.config.result.now _ (string_bytes c.push_bus_head.new.text)
+    c.new-held.ensures.bytes c.config.ensures c.in-Ok.ensures.code c.in-Ok-push_bus_head.ensures in
     let p = err_from_is_err_and c.from_residual.result c.from_residual.ensures.1 in
     rw (p.1, p.2) (c.in_err-run.ensures.broken loaded c.args.seed c.args.steps c.in-Ok.ensures head)
 
 pub returns-in_err-tell_end-clause-broken : goal.returns-in_err-tell_end-clause-broken
 returns-in_err-tell_end-clause-broken g c =
     let loaded = c.args.loaded.now in
-    let head = head-is c.args.from loaded c.in-Ok.run' c.config.result.now _ (string_bytes c.push_bus_head.new.text) c.new-held.ensures.bytes
-    c.config.ensures c.in-Ok.ensures.code c.in-Ok-push_bus_head.ensures in
+    let head = head-is c.args.from loaded c.in-Ok.run' c.config.result.now _ (string_bytes c.push_bus_head.new.text)
+    c.new-held.ensures.bytes c.config.ensures c.in-Ok.ensures.code c.in-Ok-push_bus_head.ensures in
     let output : Written = record {
       before = g.O.Sink.bytes c.tell_run.new.out;
       after = g.O.Sink.bytes c.tell_end.new.out;
@@ -39,8 +39,8 @@ returns-in_err-tell_end-clause-broken g c =
 pub returns-clause-traced : goal.returns-clause-traced
 returns-clause-traced g c =
     let loaded = c.args.loaded.now in
-    let head = head-is c.args.from loaded c.in-Ok.run' c.config.result.now _ (string_bytes c.push_bus_head.new.text) c.new-held.ensures.bytes
-    c.config.ensures c.in-Ok.ensures.code c.in-Ok-push_bus_head.ensures in
+    let head = head-is c.args.from loaded c.in-Ok.run' c.config.result.now _ (string_bytes c.push_bus_head.new.text)
+    c.new-held.ensures.bytes c.config.ensures c.in-Ok.ensures.code c.in-Ok-push_bus_head.ensures in
     let held = string_bytes c.tell_run.new.held in
     traced c.args.states loaded c.args.seed c.args.steps c.args.from c.in_ok-run.run' held (g.O.Sink.bytes c.args.out.now)
     (g.O.Sink.bytes c.tell_run.new.out) (g.O.Sink.bytes c.tell_end.new.out) c.done-done.result

@@ -14,7 +14,8 @@ returns-in-Ok-report_of-clause-ran g c =
     let settings = c.args.loaded.now.settings in
     let told = g.F.Store.tells c.args.files.now in
     let contents = g.F.Store.contents c.record.new.files in
-    followed-ran c.the_commits_are_the_lists.ensures.keeps c.the_commits_are_the_lists.ensures.ends (started c.args.loaded.now) c.args.bytes.now
+    followed-ran c.the_commits_are_the_lists.ensures.keeps c.the_commits_are_the_lists.ensures.ends
+    (started c.args.loaded.now) c.args.bytes.now
     (λ (es : List Event). IsRecorded c.args.keep.now told contents (record { config = settings; events = es }))
     c.in-Ok.refined.taken (history_of c.in-Ok.refined.machine) _ _
     (subst IsAllowed c.config.ensures c.settings_are_allowed.ensures)
