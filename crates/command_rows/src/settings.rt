@@ -329,7 +329,7 @@ const NOT_TOGETHER: [Refused; 13] = [
     ("state --seed 1 --schedule s a", WordsFault::Words),
     ("count --bus --schedule s a", WordsFault::Words),
     ("trace --dirs 1 --bus a", WordsFault::Words),
-    ("trace --bus --states a", WordsFault::Words),
+    ("count --bus --states a", WordsFault::Words),
     ("run --bus a", WordsFault::Words),
 ];
 

@@ -60,8 +60,8 @@ all-kept all s bytes orders es h allowed l f is few =
     (all s orders 4194304 allowed some (subst (λ n. n < 4194304) count few))
 
 pub followed-ran : FollowedKeeps → FollowedAll → (s : Start) (bytes : List ℕ) (IsKept : List Event → Type 0) (es : List Event)
-    (h : History) (done : Bool) (text : List ℕ) → IsAllowed s.settings → IsFollowed s bytes es → IsKept es → RunsTo s es done h → text ≡ run_text s done (length es) h
-    → RanFollowing s bytes IsKept done text
+    (h : History) (done : Bool) (text : List ℕ) → IsAllowed s.settings → IsFollowed s bytes es → IsKept es
+    → RunsTo s es done h → text ≡ run_text s done (length es) h → RanFollowing s bytes IsKept done text
 followed-ran keeps all s bytes IsKept es h done text allowed (orders, listed, follows) kept runs told = record {
   orders = orders;
   listed = listed;
