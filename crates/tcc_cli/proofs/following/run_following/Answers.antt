@@ -1,5 +1,5 @@
 -- What was run, its record and its report.
-use Rattle.std.proofs.Common.{List, ap, subst, sym}
+use Rattle.std.proofs.Common.{List, subst}
 use Rattle.image_load.specs.Contents.{started}
 use Rattle.net_core.specs.Machine.{history_of}
 use Rattle.tcc_base.specs.Settings.{IsAllowed}
