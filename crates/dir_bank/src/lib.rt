@@ -5,6 +5,7 @@ mod answering;
 mod bank;
 mod marking;
 mod reading;
+mod remarking;
 mod showing;
 
 pub use bank::DirBank;

@@ -1,4 +1,4 @@
--- The links of the rules and the marks after a change of one lane.
+-- The links of the rules and the marks after a change of one lane. What is listed plays no part in either.
 use Rattle.std.proofs.Common.{◌≡◌, ℕ, ◌<◌, ◌==◌, Bool, true, false, ◌&&◌, if◌then◌else◌, List, [], map, length, get_or, set, Some, None}
 use Rattle.std.proofs.Common.{refl, ap, sym, ◌∙◌}
 use Rattle.std.proofs.lemmas.Bool.{and_parts}
@@ -11,7 +11,7 @@ use Rattle.in_flight.specs.Flights.{Flights, lane_at, lane, net_of, is_ready, wi
 use Rattle.in_flight.proofs.Lanes.{lane-set, take-message}
 
 abbrev pub with_lanes : ℕ → ℕ → List Lane → Flights
-with_lanes cs ds ls = record { cores = cs; dirs = ds; lanes = ls }
+with_lanes cs ds ls = record { cores = cs; dirs = ds; lanes = ls; index = [] }
 
 -- the lane of the link that is named
 pub same-lane : (cs ds : ℕ) (ls : List Lane) (s0 d0 s d : Node) (i : ℕ) → place cs ds s0 d0 ≡ Some i → (node_eq s s0 && node_eq d d0) ≡ true

@@ -13,5 +13,7 @@ pub mod Behind
 pub mod Taking
 pub mod Quiet
 pub mod Listing
+pub mod Listed
+pub mod Listings
 pub mod Lemmas
 pub mod Worked

@@ -20,7 +20,7 @@ asks : Lane
 asks = Some (record { msg = TidReq; ready = true }) ∷ []
 
 three : Flights
-three = record { cores = 1; dirs = 1; lanes = [] ∷ skips ∷ asks ∷ [] ∷ [] ∷ [] ∷ [] ∷ [] ∷ [] ∷ [] }
+three = record { cores = 1; dirs = 1; lanes = [] ∷ skips ∷ asks ∷ [] ∷ [] ∷ [] ∷ [] ∷ [] ∷ [] ∷ []; index = [] }
 
 links : net_of three (Core 0) (Dir 0) ≡ None ∷ Some (plain.Skip 7) ∷ Some (plain.Skip 8) ∷ []
 unfolding three skips net_of lane place message

@@ -1,22 +1,26 @@
 -- The messages in flight of a machine: as the links of the rules, with a mark on each, and the list of those that are marked.
-use Rattle.std.specs.Prelude.{ℕ, Bool, ◌==◌, ◌&&◌, List, [], ◌∷◌, ◌++◌, map, length, slice_index_or, slice_set}
+use Rattle.std.specs.Prelude.{ℕ, ◌≡◌, Bool, ◌==◌, ◌&&◌, List, [], ◌∷◌, ◌++◌, map, length, slice_index_or, slice_set}
 use Rattle.std.specs.Prelude.{Option, Some, None, false, if◌then◌else◌}
 use Rattle.std.specs.List.{flat_map, count_by, sum_by}
 use Rattle.tcc_base.specs.declared.names.NodeId.{NodeId}
 use Rattle.tcc_maps.specs.Words.{those}
-use Rattle.tcc_maps.specs.Nodes.{Node, Core, Dir, Vendor, Event, Deliver, node_eq}
+use Rattle.tcc_maps.specs.Nodes.{Node, Core, Dir, Vendor, Event, Deliver, Msg as PlainMsg, node_eq}
 use Rattle.tcc_maps.specs.Bridge.{node_of}
 use Rattle.tcc_msg.specs.declared.msg.Msg.{Msg}
+use Rattle.tcc_rules.specs.Links.{in_flight}
 use Rattle.tcc_rules.specs.State.{Link}
 use Rattle.tcc_rules.specs.Seen.{numbers}
 use Rattle.in_flight.specs.Lane.{Lane, message, is_marked, is_waiting}
 use Rattle.in_flight.specs.Places.{place}
+use Rattle.in_flight.specs.Subject.{Index, IsListed, entry_of}
+use Rattle.in_flight.specs.declared.subject.Entry.{Entry}
 
 -- one lane for each pair of nodes, by source and then destination
 pub record Flights : Type 0 where
   pub cores : ℕ
   pub dirs : ℕ
   pub lanes : List Lane
+  pub index : Index  -- messages to directories, by what they are about
 
 -- the lane of a link; nothing where there is no such link
 abbrev pub lane_at : List Lane → Option ℕ → Lane
@@ -33,6 +37,11 @@ net_of f src dst = map message (lane f src dst)
 -- the message of that number is in flight and may be delivered
 unfoldable pub is_ready : Flights → Node → Node → ℕ → Bool
 is_ready f src dst k = is_marked (slice_index_or (lane f src dst) k None)
+
+-- what is in flight to a directory, and about something, is listed
+unfoldable pub AllListed : (Node → Node → Link) → Index → Type 0
+AllListed net x = (c d k : ℕ) (m : PlainMsg) (e : Entry) → in_flight net (Core c) (Dir d) k ≡ Some m
+    → entry_of (Core c) (Dir d) k m ≡ Some e → IsListed x e
 
 -- how many messages are in flight
 unfoldable pub flying : Flights → ℕ

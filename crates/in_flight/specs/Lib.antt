@@ -1,4 +1,5 @@
 -- What the contracts of this crate cite.
+pub mod Subject
 pub mod Lane
 pub mod Laid
 pub mod LaneInside

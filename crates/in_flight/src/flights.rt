@@ -2,14 +2,16 @@
 ghost use Rattle.std.specs.Prelude.{◌≡◌, ◌↔◌, ◌+◌, ◌-◌, ◌^◌, ◌≤◌, ◌<◌, ℕ, true, false, [], ◌∷◌, length, replicate, IsTrue, IfOk, OnOk, OnErr};
 ghost use Rattle.std.specs.Prelude.{slice_get, slice_index, slice_set, Option, Some, None, IsSome, IfNone, IfSome, option_map, is_some};
 ghost use Rattle.tcc_maps.specs.Words.{those, num};
-ghost use Rattle.tcc_maps.specs.Nodes.{Node, Deliver};
+ghost use Rattle.tcc_maps.specs.Nodes.{Node, Core, Dir, Deliver, Msg as PlainMsg};
 ghost use Rattle.tcc_maps.specs.Bridge.{node_of};
 ghost use Rattle.tcc_msg.specs.Plain.{msg_of, sends_of};
 ghost use Rattle.tcc_rules.specs.Links.{in_flight, sending, taking};
 
 use crate::grid::Grid;
+use crate::index::Index;
 use crate::lane::Lane;
 use crate::sending::send_one;
+use crate::subject::{Entry, Subject, entry_of};
 use std::alloc::Global;
 use std::marker::Model;
 use sum_tree::SumTree;
@@ -29,6 +31,7 @@ pub struct InFlight {
     lanes: Vec<Lane>,
     ready: SumTree,
     flying: u64,
+    index: Index,
 }
 
 impl Model for InFlight {
@@ -46,6 +49,7 @@ impl Model for InFlight {
 impl InFlight {
     ghost use Rattle.in_flight.specs.Flights.{lane, net_of, is_ready, with_mark, ready_list, flying};
     ghost use Rattle.in_flight.specs.Places.{is_link};
+    ghost use Rattle.in_flight.specs.Subject.{IsListed, about, bucket, entry, key, of_key, subject_of};
 
     /// Nothing was sent. Its time and memory go with the number of pairs of nodes.
     pub fn new(alloc: Global, cores: u8, dirs: u8) -> Result<InFlight, NoMemory>
@@ -63,6 +67,7 @@ impl InFlight {
             lanes: empty_lanes(alloc, pairs)?,
             ready: SumTree::new(alloc, pairs)?,
             flying: 0,
+            index: Index::new(alloc)?,
         })
     }
 
@@ -154,9 +159,18 @@ impl InFlight {
         if self.flying == u64::MAX {
             return Err(NoMemory);
         }
-        send_one(self.grid, src, dst, self.lanes.as_mut_slice(), msg)?;
-        self.flying += 1;
-        Ok(())
+        let entry = entry_of(src, dst, self.sent(src, dst), &msg);
+        self.index.list(entry)?;
+        match send_one(self.grid, src, dst, self.lanes.as_mut_slice(), msg) {
+            Ok(()) => {
+                self.flying += 1;
+                Ok(())
+            }
+            Err(NoMemory) => {
+                self.index.take_back(entry);
+                Err(NoMemory)
+            }
+        }
     }
 
     /// Takes the message of that name out; `None` exactly where it isn't in flight, and then nothing is changed.
@@ -170,6 +184,8 @@ impl InFlight {
     {
         let at = self.grid.place(name.src, name.dst)?;
         let held = self.lanes[at].take(name.seq)?;
+        self.index
+            .unlist(entry_of(name.src, name.dst, name.seq, &held.msg));
         self.flying -= 1;
         count_mark(&mut self.ready, at, held.ready, false);
         Some(held.msg)
@@ -203,11 +219,33 @@ impl InFlight {
         ensures cores { self.new.cores ≡ self.old.cores }
         ensures dirs { self.new.dirs ≡ self.old.dirs }
         ensures net { net_of self.new ≡ net_of self.old }
+        ensures index { self.new.index ≡ self.old.index }
         ensures ready { is_ready self.new ≡ with_mark (is_ready self.old) (node_of src) (node_of dst) seq ready }
     {
         if let Some(at) = self.grid.place(src, dst) {
             let was = self.lanes[at].set_ready(seq, ready);
             count_mark(&mut self.ready, at, was, ready);
+        }
+    }
+
+    /// How many messages are listed together with those that are about this. It takes constant time.
+    pub fn listed(&self, on: Subject) -> usize
+        ensures count { result ≡ length (bucket self.now.index (key (subject_of on))) }
+        ensures all { (c d k : ℕ) (m : PlainMsg) → in_flight (net_of self.now) (Core c) (Dir d) k ≡ Some m
+            → about d m ≡ Some (subject_of on) → IsListed self.now.index (entry (subject_of on) c d k) }
+    {
+        self.index.len(on.key())
+    }
+
+    /// The i-th of these, where it has their key. It takes constant time.
+    pub fn listed_at(&self, on: Subject, i: usize) -> Option<Entry>
+        ensures { result ≡ of_key (key (subject_of on)) (slice_get (bucket self.now.index (key (subject_of on))) i) }
+    {
+        let entry = self.index.get(on.key(), i)?;
+        if entry.key == on.key() {
+            Some(entry)
+        } else {
+            None
         }
     }
 

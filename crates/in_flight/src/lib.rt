@@ -3,8 +3,11 @@
 
 mod flights;
 mod grid;
+mod index;
 mod lane;
 mod sending;
+mod subject;
 
 pub use flights::InFlight;
 pub use lane::{Held, Lane, Waiting};
+pub use subject::{Entry, Subject};

@@ -1,9 +1,12 @@
--- What decides whether a directory takes a message, and which messages may change that once they were handled.
-use Rattle.std.specs.Prelude.{ℕ, ◌≡◌, Bool, true, false, not, ◌==◌, ◌&&◌}
-use Rattle.tcc_maps.specs.Nodes.{Node, Msg, Dir, node_eq, LoadReq, Skip, Probe, Abort, InvAck}
+-- What decides whether a directory takes a message, and which messages have to be looked at again once it has handled one.
+use Rattle.std.specs.Prelude.{ℕ, ◌≡◌, ◌≢◌, Bool, true, false, ◌==◌, if◌then◌else◌, Option, Some, None}
+use Rattle.tcc_maps.specs.Nodes.{Msg, LoadReq, Skip, Probe, Mark, Abort, WriteBack, Flush, InvAck}
 use Rattle.tcc_rules.specs.State.{DirState}
 use Rattle.directory.specs.declared.handled.Handled.{Handled}
 use Rattle.directory.specs.declared.handled.Handled.TheVariants.{Handled as Done, Waits, Asked, Dropped}
+use Rattle.in_flight.specs.Subject.{Subject, Line, Marks, about}
+use Rattle.net_core.specs.declared.looking.Look.{Look as CodeLook}
+use Rattle.net_core.specs.declared.looking.Look.TheVariants as code
 
 -- the same TID is served, and each line is known as it was but for its sharers
 pub record SameTaking (s t : DirState) : Type 0 where
@@ -13,19 +16,51 @@ pub record SameTaking (s t : DirState) : Type 0 where
   pub asked : t.lines.asked ≡ s.lines.asked
   pub tag : t.lines.tag ≡ s.lines.tag
 
--- whether a message that was handled so may have changed any of this, where the one TID was served before it and the other is served
--- after it: skips, acknowledgements and what gives a TID up do only where the directory moves on, answers to probes and fills never
-abbrev pub may_matter : Handled → Msg → (before after : ℕ) → Bool
-may_matter Done (Skip t) before after = not (after == before)
-may_matter Done (Abort t) before after = not (after == before)
-may_matter Done (InvAck l keeps) before after = not (after == before)
-may_matter Done (Probe t) before after = false
-may_matter Done (LoadReq l last) before after = false
-may_matter Done m before after = true
-may_matter Asked m before after = true
-may_matter Waits m before after = false
-may_matter Dropped m before after = false
+-- the same of each line but this one
+pub record SameBut (line : ℕ) (s t : DirState) : Type 0 where
+  pub serving : t.serving.serving ≡ s.serving.serving
+  pub mark : (l : ℕ) → l ≢ line → t.lines.mark l ≡ s.lines.mark l
+  pub owner : (l : ℕ) → l ≢ line → t.lines.owner l ≡ s.lines.owner l
+  pub asked : (l : ℕ) → l ≢ line → t.lines.asked l ≡ s.lines.asked l
+  pub tag : (l : ℕ) → l ≢ line → t.lines.tag l ≡ s.lines.tag l
 
--- the marks of messages to the directory are looked at again
-abbrev pub is_renewed : (again : Bool) → (dir : ℕ) → (dst : Node) → Bool
-is_renewed again d dst = node_eq dst (Dir d) && again
+-- none; those about this line, and those about the marks; or all
+pub data Look : Type 0 where
+  Nothing : Look
+  AtLine : (line : ℕ) → Look
+  All : Look
+
+abbrev pub look_of : CodeLook → Look
+look_of code.Nothing = Nothing
+look_of (code.Line l) = AtLine l.0
+look_of code.All = All
+
+-- after a message that was handled so, where the one TID was served before it and the other is served after it. Skips, acknowledgements
+-- and what gives a TID up matter only where the directory moves on, and answers to probes and fills never; a mark, a question for a line's
+-- data and what comes home change what is known of one line
+abbrev pub looks : Handled → Msg → (before after : ℕ) → Look
+looks Done (Skip t) before after = if after == before then Nothing else All
+looks Done (Abort t) before after = if after == before then Nothing else All
+looks Done (InvAck l keeps) before after = if after == before then Nothing else All
+looks Done (Probe t) before after = Nothing
+looks Done (LoadReq l last) before after = Nothing
+looks Done (Mark l m t) before after = AtLine l
+looks Done (WriteBack l m ws t) before after = AtLine l
+looks Done (Flush l m ws t) before after = AtLine l
+looks Done m before after = All
+looks Asked (LoadReq l last) before after = AtLine l
+looks Asked (Mark l m t) before after = AtLine l
+looks Asked m before after = All
+looks Waits m before after = Nothing
+looks Dropped m before after = Nothing
+
+-- the message is among those that are looked at
+abbrev pub is_at : (line dir : ℕ) → Option Subject → Bool
+is_at l d None = false
+is_at l d (Some (Line k)) = k == l
+is_at l d (Some (Marks e)) = e == d
+
+abbrev pub is_seen : Look → (dir : ℕ) → Msg → Bool
+is_seen Nothing d m = false
+is_seen (AtLine l) d m = is_at l d (about d m)
+is_seen All d m = true

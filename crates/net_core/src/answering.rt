@@ -1,24 +1,19 @@
 // A message is delivered: to a core, to a directory, or to the vendor.
-ghost use Rattle.std.specs.Prelude.{◌≡◌, ◌<◌, ℕ, [], Some, true, false, if◌then◌else◌};
+ghost use Rattle.std.specs.Prelude.{◌≡◌, ◌<◌, ℕ, [], Some, if◌then◌else◌};
 ghost use Rattle.tcc_maps.specs.Bridge.{node_of};
 ghost use Rattle.tcc_maps.specs.Nodes.{Node, Msg as PlainMsg, Core, Deliver, Dir, Vendor};
 ghost use Rattle.tcc_msg.specs.Plain.{msg_of};
-ghost use Rattle.tcc_rules.specs.DirDeliver.{dir_deliver};
 ghost use Rattle.tcc_rules.specs.Links.{in_flight, taking};
-ghost use Rattle.dir_bank.specs.Bank.{dirs_of};
-ghost use Rattle.directory.specs.Foreign.{is_foreign};
-ghost use Rattle.directory.specs.Gives.{is_taken};
 ghost use Rattle.in_flight.specs.Flights.{is_ready, net_of};
 ghost use Rattle.net_core.specs.Answers.{Answers};
 ghost use Rattle.net_core.specs.Delivery.{is_consumed};
-ghost use Rattle.net_core.specs.Taking.{is_renewed, may_matter};
 
+use crate::looking::{look_again, looks};
 use crate::system::System;
 use crate::taking::{Step, StepError};
-use dir_bank::DirBank;
 use directory::Handled;
 use in_flight::InFlight;
-use tcc_base::{CoreId, DirId, NodeId, Tid};
+use tcc_base::{CoreId, DirId, NodeId};
 use tcc_msg::{Msg, Name};
 
 /// Takes a message out, where its directory has consumed it.
@@ -35,40 +30,6 @@ fn take_handled(flights: &mut InFlight, name: Name, handled: Handled)
             flights.take(name);
         }
         Handled::Waits | Handled::Asked => {}
-    }
-}
-
-/// Whether a directory may take other messages than before, now that it has handled this one: TID `before` was served before it, and
-/// `after` is served after it. Most messages change nothing that another one looks at.
-fn may_matter(msg: &Msg, handled: Handled, before: Tid, after: Tid) -> bool
-    ensures { result ≡ may_matter handled (msg_of msg.now) before.0 after.0 }
-{
-    match handled {
-        Handled::Handled => match msg {
-            Msg::Skip { .. } | Msg::Abort { .. } | Msg::InvAck { .. } => after.0 != before.0,
-            Msg::Probe { .. } | Msg::LoadReq { .. } => false,
-            _ => true,
-        },
-        Handled::Asked => true,
-        Handled::Waits | Handled::Dropped => false,
-    }
-}
-
-/// Looks at all messages to a directory again, where that may matter.
-fn look_again(flights: &mut InFlight, dirs: &DirBank, dir: DirId, again: bool)
-    requires exists { dir.0 < dirs.now.settings.dirs }
-    requires home { (c k : ℕ) (m : PlainMsg) → in_flight (net_of flights.old) (Core c) (Dir dir.0) k ≡ Some m
-        → is_foreign (record { shape = dirs.now.settings; dir = dir.0 }) m ≡ false }
-    ensures cores { flights.new.cores ≡ flights.old.cores }
-    ensures dirs { flights.new.dirs ≡ flights.old.dirs }
-    ensures net { net_of flights.new ≡ net_of flights.old }
-    ensures here { again ≡ true → (ram : ℕ → ℕ) (c k : ℕ) (m : PlainMsg) → c < dirs.now.settings.cores
-        → in_flight (net_of flights.old) (Core c) (Dir dir.0) k ≡ Some m
-        → is_ready flights.new (Core c) (Dir dir.0) k ≡ is_taken (dir_deliver dirs.now.settings (dirs_of ram dirs.now dir.0) c m) }
-    ensures others { (s d : Node) (k : ℕ) → is_renewed again dir.0 d ≡ false → is_ready flights.new s d k ≡ is_ready flights.old s d k }
-{
-    if again {
-        dirs.mark(flights, dir);
     }
 }
 
@@ -114,8 +75,8 @@ impl System {
             Err(_) => Err(StepError::Memory),
             Ok(handled) => {
                 take_handled(&mut self.flights, name, handled);
-                let again = may_matter(&msg, handled, before, self.dirs.serving(dir));
-                look_again(&mut self.flights, &self.dirs, dir, again);
+                let look = looks(&msg, handled, before, self.dirs.serving(dir));
+                look_again(&mut self.flights, &self.dirs, dir, look);
                 self.sender = NodeId::Dir(dir);
                 self.placed = 0;
                 self.events += 1;

@@ -8,6 +8,7 @@ mod choosing;
 mod copies;
 mod enabling;
 mod flying;
+mod looking;
 mod nodes;
 mod placing;
 mod readers;

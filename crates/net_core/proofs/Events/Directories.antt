@@ -9,7 +9,7 @@ use Rattle.tcc_base.specs.Put.{put}
 use Rattle.tcc_base.specs.Settings.{Settings}
 use Rattle.tcc_bounds.proofs.Lemmas.{fits_out}
 use Rattle.tcc_maps.specs.Bridge.{node_of}
-use Rattle.tcc_maps.specs.Nodes.{Node, Core, Dir, Vendor, Deliver, Msg}
+use Rattle.tcc_maps.specs.Nodes.{Node, Core, Dir, Vendor, Deliver, Msg, node_eq}
 use Rattle.tcc_msg.specs.Plain.{sends_of}
 use Rattle.tcc_rules.specs.DirDeliver.{Answer, dir_deliver}
 use Rattle.tcc_rules.specs.DirDeliver as rules
@@ -29,13 +29,11 @@ use Rattle.in_flight.specs.Places.{is_link}
 use Rattle.net_core.specs.Answers.{Took, step_of}
 use Rattle.net_core.specs.Delivery.{AreMarked, is_consumed, is_deliverable}
 use Rattle.net_core.specs.Machine.{Machine, settings_of, start_of, world_of}
-use Rattle.net_core.specs.Taking.{SameTaking, is_renewed}
 use Rattle.net_core.specs.Whole.{IsWhole}
 use Rattle.net_core.specs.declared.taking.Step.TheVariants.{Moved}
 use Rattle.net_core.proofs.Reaching.{in-bounds, may-go, settled-net, small-tids}
 use Rattle.net_core.proofs.Events.Kept.{HasSent, as-many, as-many_taken, took-by, took-whole, world-is}
 use Rattle.net_core.proofs.Events.Marks.{still-flies}
-use Rattle.net_core.proofs.Events.TakesAlike.{taken-alike}
 
 -- ---- what the rules say
 
@@ -136,8 +134,7 @@ net_after h net c d k = if is_consumed h then taking net (Core c) (Dir d) k else
 abbrev pub now_at : (m n : Machine) → (dir : ℕ) → DirState
 now_at m n d = dirs_of (first_ram (start_of m)) n.dirs d
 
--- a directory acted, and what it sent doesn't stand on its links yet; messages to it are marked as it says now, or nothing that
--- decides on them has changed
+-- a directory acted, and what it sent doesn't stand on its links yet; messages to it that were marked as it said are marked as it says
 pub record ActsAt (m n : Machine) (c d k : ℕ) (x : Msg) (h : Handled) : Type 0 where
   pub cores : n.cores ≡ m.cores
   pub next : n.next ≡ m.next
@@ -149,12 +146,10 @@ pub record ActsAt (m n : Machine) (c d k : ℕ) (x : Msg) (h : Handled) : Type 0
   pub net : net_of n.flights ≡ net_after h (net_of m.flights) c d k
   pub flight_cores : n.flights.cores ≡ m.flights.cores
   pub flight_dirs : n.flights.dirs ≡ m.flights.dirs
-  pub again : Bool
-  pub here : again ≡ true
-      → (ram : ℕ → ℕ) (b i : ℕ) (y : Msg) → b < n.dirs.settings.cores → in_flight (net_of n.flights) (Core b) (Dir d) i ≡ Some y
-      → is_ready n.flights (Core b) (Dir d) i ≡ is_taken (dir_deliver n.dirs.settings (dirs_of ram n.dirs d) b y)
-  pub same : again ≡ false → SameTaking (rule_dirs m d) (now_at m n d)
-  pub others : (s e : Node) (i : ℕ) (y : Msg) → in_flight (net_of n.flights) s e i ≡ Some y → is_renewed again d e ≡ false
+  pub here : (b i : ℕ) (y : Msg) → in_flight (net_of n.flights) (Core b) (Dir d) i ≡ Some y
+      → is_ready m.flights (Core b) (Dir d) i ≡ is_taken (dir_deliver m.dirs.settings (rule_dirs m d) b y)
+      → is_ready n.flights (Core b) (Dir d) i ≡ is_taken (dir_deliver m.dirs.settings (now_at m n d) b y)
+  pub others : (s e : Node) (i : ℕ) (y : Msg) → in_flight (net_of n.flights) s e i ≡ Some y → node_eq e (Dir d) ≡ false
       → is_ready n.flights s e i ≡ is_ready m.flights s e i
   pub commits : n.commits ≡ m.commits
   pub events : n.events ≡ m.events + 1
@@ -261,33 +256,20 @@ belongs-there m f c d k h w settled net b i y fly = comes m b d i y w settled
 -- a link to another node
 mark-elsewhere : (m n : Machine) (c d k : ℕ) (x : Msg) (h : Handled) (s e : Node) (i : ℕ) (y : Msg) → IsWhole m
     → (a : ActsAt m n c d k x h) → in_flight (net_of m.flights) s e i ≡ Some y → in_flight (net_of n.flights) s e i ≡ Some y
-    → is_renewed a.again d e ≡ false
+    → node_eq e (Dir d) ≡ false
     → is_ready n.flights s e i ≡ is_deliverable (settings_of m) (rule_dirs m) s e y
 unfolding AreMarked
 mark-elsewhere m n c d k x h s e i y w a old now other = a.others s e i y now other ∙ w.marked s e i y old
-
-and-false : (b : Bool) → (b && false) ≡ false
-and-false true = refl
-and-false false = refl
 
 -- a link to this directory
 mark-here : (m n : Machine) (c d k : ℕ) (x : Msg) (h : Handled) (b i : ℕ) (y : Msg) → IsWhole m → ActsAt m n c d k x h
     → in_flight (net_of m.flights) (Core b) (Dir d) i ≡ Some y → in_flight (net_of n.flights) (Core b) (Dir d) i ≡ Some y
     → is_ready n.flights (Core b) (Dir d) i ≡ is_taken (dir_deliver (settings_of m) (rule_dirs n d) b y)
-mark-here m n c d k x h b i y w a old now = by a.again refl
-  where
-    here : rule_dirs n d ≡ now_at m n d
-    here = λ j. dirs_of (first_ram (started (a.cores j).code)) n.dirs d
-
-    by : (r : Bool) → a.again ≡ r → is_ready n.flights (Core b) (Dir d) i ≡ is_taken (dir_deliver (settings_of m) (rule_dirs n d) b y)
-    by true q =
-        let there = comes m b d i y w a.settled old in
-        a.here q (first_ram (start_of n)) b i y (subst (λ s. b < s.cores) (sym a.settings) there.core) now
-        ∙ ap (λ s. is_taken (dir_deliver s (rule_dirs n d) b y)) (a.settings ∙ w.dirs)
-    by false q =
-        mark-elsewhere m n c d k x h (Core b) (Dir d) i y w a old now (ap (λ r. is_renewed r d (Dir d)) q ∙ and-false (d == d))
-        ∙ sym (taken-alike (settings_of m) (rule_dirs m d) (now_at m n d) b y (a.same q))
-        ∙ ap (λ s. is_taken (dir_deliver (settings_of m) s b y)) (sym here)
+unfolding AreMarked
+mark-here m n c d k x h b i y w a old now =
+    a.here b i y now (w.marked (Core b) (Dir d) i y old ∙ ap (λ s. is_taken (dir_deliver s (rule_dirs m d) b y)) (sym w.dirs))
+    ∙ ap (λ s. is_taken (dir_deliver s (now_at m n d) b y)) w.dirs
+    ∙ sym (λ j. is_taken (dir_deliver (settings_of m) (dirs_of (first_ram (started (a.cores j).code)) n.dirs d) b y))
 
 -- a link to a directory
 mark-at : (m n : Machine) (c d k : ℕ) (x : Msg) (h : Handled) (b e i : ℕ) (y : Msg) → IsWhole m → ActsAt m n c d k x h
@@ -296,7 +278,7 @@ mark-at : (m n : Machine) (c d k : ℕ) (x : Msg) (h : Handled) (b e i : ℕ) (y
 mark-at m n c d k x h b e i y w a old now = by (e == d) refl
   where
     by : (t : Bool) → (e == d) ≡ t → is_ready n.flights (Core b) (Dir e) i ≡ is_taken (dir_deliver (settings_of m) (rule_dirs n e) b y)
-    by false q = mark-elsewhere m n c d k x h (Core b) (Dir e) i y w a old now (ap (λ r. r && a.again) q)
+    by false q = mark-elsewhere m n c d k x h (Core b) (Dir e) i y w a old now q
         ∙ ap (λ s. is_taken (dir_deliver (settings_of m) s b y))
         (sym ((λ j. dirs-after m n c d k x h a j e) ∙ ap (λ r. if r then now_at m n d else rule_dirs m e) q))
     by true q =

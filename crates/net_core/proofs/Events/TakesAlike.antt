@@ -1,6 +1,7 @@
 -- A directory takes the same messages in states that differ only where no message looks.
-use Rattle.std.proofs.Common.{◌≡◌, ℕ, Bool, true, false, ◌||◌, ◌&&◌, List, Option, Some, None, refl, sym, ◌∙◌}
+use Rattle.std.proofs.Common.{◌≡◌, ◌≢◌, ℕ, Bool, true, false, ◌||◌, ◌&&◌, List, Option, Some, None, refl, sym, ◌∙◌}
 use Rattle.std.specs.Prelude.{nat_lt, nat_le, ◌==◌, if◌then◌else◌}
+use Rattle.std.proofs.lemmas.Bool.{eq-eqb, false≢true}
 use Rattle.tcc_base.specs.Settings.{Settings}
 use Rattle.tcc_maps.specs.Judge.{Judgement, judge, Current, Outdated, TooEarly}
 use Rattle.tcc_maps.specs.Lines.{has_mark}
@@ -13,7 +14,7 @@ use Rattle.tcc_rules.specs.DirDeliver.{Answer, abort, acknowledgement, ask_owner
 use Rattle.tcc_rules.specs.DirDeliver.{load_unless_owned, load_request, mark, mark_unless_owned, probe, skip, write_back}
 use Rattle.tcc_rules.specs.State.{DirState}
 use Rattle.directory.specs.Gives.{is_taken}
-use Rattle.net_core.specs.Taking.{SameTaking}
+use Rattle.net_core.specs.Taking.{AtLine, SameBut, SameTaking, is_seen}
 
 if-taken : (b : Bool) (x y : Answer) (p q : Bool) → is_taken x ≡ p → is_taken y ≡ q → is_taken (if b then x else y) ≡ (if b then p else q)
 if-taken true x y p q e f = e
@@ -131,3 +132,37 @@ taken-alike sh s t c (Fill l ws) e = refl
 taken-alike sh s t c (ProbeReply k serving) e = refl
 taken-alike sh s t c (DataReq l) e = refl
 taken-alike sh s t c (Inv l m k) e = refl
+
+-- ---- in states that differ at one line only, what isn't about it
+
+home-but : (c l m : ℕ) (ws : List ℕ) (g line : ℕ) (s t : DirState) → SameBut line s t → l ≢ line
+    → is_taken (write_back c l m ws g t) ≡ is_taken (write_back c l m ws g s)
+home-but c l m ws g line s t e ne =
+    home-taken c l m ws g t ∙ (λ i. comes_home (judge (e.owner l ne i) (e.tag l ne i) c g)) ∙ sym (home-taken c l m ws g s)
+
+other-line : (a b : ℕ) → (a == b) ≡ false → a ≢ b
+other-line a b f q = let same : (a == b) ≡ true = eq-eqb a b q in false≢true (sym f ∙ same)
+
+pub taken-but : (sh : Settings) (s t : DirState) (c d line : ℕ) (m : Msg) → SameBut line s t → is_seen (AtLine line) d m ≡ false
+    → is_taken (dir_deliver sh t c m) ≡ is_taken (dir_deliver sh s c m)
+unfolding dir_deliver
+taken-but sh s t c d line (Skip k) e f = skip-taken k t ∙ sym (skip-taken k s)
+taken-but sh s t c d line (Abort k) e f = abort-taken k t ∙ sym (abort-taken k s)
+taken-but sh s t c d line (InvAck l keeps) e f = acknowledgement-taken c l keeps t ∙ sym (acknowledgement-taken c l keeps s)
+taken-but sh s t c d line (Probe k) e f =
+    probe-taken c k t ∙ (λ i. if nat_lt (e.serving i) k then false else true) ∙ sym (probe-taken c k s)
+taken-but sh s t c d line (LoadReq l last) e f =
+    let ne = other-line l line f in
+    load-taken c l last t ∙ (λ i. loads (e.serving i) last (e.mark l ne i) (e.owner l ne i) (e.asked l ne i)) ∙ sym (load-taken c l last s)
+taken-but sh s t c d line (Mark l m k) e f =
+    let ne = other-line l line f in
+    mark-taken l m k t ∙ (λ i. marks k (e.serving i) (m == full) (e.owner l ne i) (e.asked l ne i)) ∙ sym (mark-taken l m k s)
+taken-but sh s t c d line (Commit k count) e f = absurd (other-line d d f refl)
+taken-but sh s t c d line (WriteBack l m ws g) e f = home-but c l m ws g line s t e (other-line l line f)
+taken-but sh s t c d line (Flush l m ws g) e f = home-but c l m ws g line s t e (other-line l line f)
+taken-but sh s t c d line TidReq e f = refl
+taken-but sh s t c d line (TidGrant k) e f = refl
+taken-but sh s t c d line (Fill l ws) e f = refl
+taken-but sh s t c d line (ProbeReply k serving) e f = refl
+taken-but sh s t c d line (DataReq l) e f = refl
+taken-but sh s t c d line (Inv l m k) e f = refl

@@ -1,7 +1,7 @@
 -- The count is 0 exactly where nothing is in flight.
 use Rattle.std.proofs.Common.{◌∙◌, sym}
 use Rattle.std.proofs.lemmas.Bool.{eqb-true, eq-eqb}
-use Rattle.in_flight.specs.Flights.{flying}
+use Rattle.in_flight.specs.Flights.{flying, lane, net_of}
 use Rattle.in_flight.proofs.Lanes.{Laned}
 use Rattle.in_flight.proofs.Quiet.{quiet, quiet-count}
 use Rattle.in_flight.proofs.flights.InFlight.is_empty.Goals as goal
@@ -14,6 +14,7 @@ returns-clause-count c =
     ((λ t. sym c.self.invariant.flying ∙ eqb-true i.flying 0 t), (λ e. eq-eqb i.flying 0 (c.self.invariant.flying ∙ e)))
 
 pub returns-clause-quiet : goal.returns-clause-quiet
+unfolding net_of lane
 returns-clause-quiet c =
     let i = c.self.inside in
     let laned : Laned i.grid.cores i.grid.dirs i.lanes.items =

@@ -4,11 +4,13 @@ use Rattle.std.specs.List.{sum}
 use Rattle.std.proofs.lemmas.Bool.{cases_lt, false≢true}
 use Rattle.std.proofs.lemmas.List.{get_or_read}
 use Rattle.tcc_maps.specs.Nodes.{Deliver}
+use Rattle.in_flight.specs.Flights.{ready_list, nodes_of, ready_on, net_of, is_ready, lane}
 use Rattle.in_flight.proofs.Taking.{Stands}
 use Rattle.in_flight.proofs.Listing.{same-length, ready-listed, ready-past}
 use Rattle.in_flight.proofs.flights.InFlight.ready_at.Goals as goal
 
 pub returns-in_err-at : goal.returns-in_err-at
+unfolding ready_list nodes_of ready_on net_of is_ready lane
 returns-in_err-at c =
     let i = c.self.inside in
     let stands : Stands i.grid.cores i.grid.dirs i.lanes.items i.ready i.flying = record {
@@ -21,6 +23,7 @@ returns-in_err-at c =
     rw (← c.self.view_is, c.from_residual.ensures) (sym (ready-past _ _ _ _ _ stands c.args.k past))
 
 pub returns-in_err-seq : goal.returns-in_err-seq
+unfolding ready_list nodes_of ready_on net_of is_ready lane
 returns-in_err-seq c =
     let i = c.self.inside in
     let stands : Stands i.grid.cores i.grid.dirs i.lanes.items i.ready i.flying = record {
@@ -35,6 +38,7 @@ returns-in_err-seq c =
     lane c.in_err-seq.ensures)
 
 pub returns : goal.returns
+unfolding ready_list nodes_of ready_on net_of is_ready lane
 returns c =
     let i = c.self.inside in
     let stands : Stands i.grid.cores i.grid.dirs i.lanes.items i.ready i.flying = record {

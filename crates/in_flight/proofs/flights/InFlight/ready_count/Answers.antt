@@ -1,11 +1,13 @@
 -- The sum of the counts by place.
 use Rattle.std.proofs.Common.{◌∙◌, sym}
+use Rattle.in_flight.specs.Flights.{ready_list, nodes_of, ready_on, net_of, is_ready, lane}
 use Rattle.in_flight.proofs.Taking.{Stands}
 use Rattle.in_flight.proofs.Reading.{marked-flies}
 use Rattle.in_flight.proofs.Listing.{ready-count}
 use Rattle.in_flight.proofs.flights.InFlight.ready_count.Goals as goal
 
 pub returns-clause-count : goal.returns-clause-count
+unfolding ready_list nodes_of ready_on net_of is_ready lane
 returns-clause-count c =
     let i = c.self.inside in
     let stands : Stands i.grid.cores i.grid.dirs i.lanes.items i.ready i.flying = record {

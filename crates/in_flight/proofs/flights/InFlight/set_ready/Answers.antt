@@ -8,7 +8,7 @@ use Rattle.tcc_maps.specs.Bridge.{node_of}
 use Rattle.tcc_rules.specs.Links.{in_flight}
 use Rattle.in_flight.specs.Lane.{is_marked, is_waiting}
 use Rattle.in_flight.specs.Places.{place}
-use Rattle.in_flight.specs.Flights.{net_of, is_ready}
+use Rattle.in_flight.specs.Flights.{AllListed, net_of, is_ready, lane}
 use Rattle.in_flight.proofs.Lanes.{Laned}
 use Rattle.in_flight.proofs.Flown.{with_lanes}
 use Rattle.in_flight.proofs.Reading.{flown-no_lane}
@@ -29,6 +29,7 @@ index_mut-requires c =
     omega (arith, below i.grid.cores i.grid.dirs i.lanes.items i.ready i.flying s d c.in-Some.at stands at, i.lanes.ok)
 
 pub set_ready-was-requires : goal.set_ready-was-requires
+unfolding net_of lane
 set_ready-was-requires c =
     let i = c.self.inside in
     let s = node_of c.args.src in
@@ -58,6 +59,7 @@ count_mark-requires-clause-place c =
     counted-below i.grid.cores i.grid.dirs i.lanes.items i.ready i.flying s d c.in-Some.at stands at
 
 pub count_mark-requires-clause-counted : goal.count_mark-requires-clause-counted
+unfolding net_of lane
 count_mark-requires-clause-counted c =
     let i = c.self.inside in
     let s = node_of c.args.src in
@@ -79,6 +81,7 @@ count_mark-requires-clause-counted c =
     c.args.ready stands at e some)
 
 pub count_mark-requires-clause-fits : goal.count_mark-requires-clause-fits
+unfolding net_of lane
 count_mark-requires-clause-fits c =
     let i = c.self.inside in
     let s = node_of c.args.src in
@@ -101,6 +104,7 @@ count_mark-requires-clause-fits c =
     stands at e some few)
 
 pub invariant_of-self : goal.invariant_of-self
+unfolding net_of lane
 invariant_of-self c =
     let i = c.self.inside in
     let s = node_of c.args.src in
@@ -130,9 +134,14 @@ invariant_of-self c =
           ∙ (ap (λ b. set i.ready c.in-Some.at (get_or i.ready c.in-Some.at 0 + num c.args.ready - num b)) c.set_ready-was.ensures.was
           ∙ (after.counted.counted ∙ ap (map (count_by is_marked)) (sym items)));
       flying = after.counted.flying ∙ ap (sum_by (count_by is_waiting)) (sym items);
+      listed = subst (λ n. AllListed n i.index)
+          (sym (ap (λ ls. net_of (with_lanes i.grid.cores i.grid.dirs ls)) items
+          ∙ marked-net i.grid.cores i.grid.dirs i.lanes.items i.ready i.flying s d c.in-Some.at c.args.seq c.index_mut.result.now
+          c.args.ready stands at e)) c.self.invariant.listed;
     }
 
 pub returns-in-Some-clause-net : goal.returns-in-Some-clause-net
+unfolding net_of lane
 returns-in-Some-clause-net c =
     let i = c.self.inside in
     let s = node_of c.args.src in
@@ -151,6 +160,7 @@ returns-in-Some-clause-net c =
     stands at e)
 
 pub returns-in-Some-clause-ready : goal.returns-in-Some-clause-ready
+unfolding net_of is_ready lane
 returns-in-Some-clause-ready c =
     let i = c.self.inside in
     let s = node_of c.args.src in
@@ -173,6 +183,7 @@ returns-in-Some-clause-ready c =
     stands at e some)
 
 pub returns-in_default-clause-ready : goal.returns-in_default-clause-ready
+unfolding net_of lane
 returns-in_default-clause-ready c =
     let i = c.self.inside in
     let s = node_of c.args.src in

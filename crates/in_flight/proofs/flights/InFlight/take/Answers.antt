@@ -3,17 +3,20 @@ use Rattle.std.proofs.Common.{◌≡◌, [], map, get_or, set, Some, sym, ap, su
 use Rattle.std.specs.List.{count_by, sum_by}
 use Rattle.std.proofs.lemmas.List.{get_or_read}
 use Rattle.tcc_maps.specs.Bridge.{node_of}
+use Rattle.tcc_msg.specs.Plain.{msg_of}
 use Rattle.in_flight.specs.Lane.{is_marked, is_waiting}
 use Rattle.in_flight.specs.Places.{place}
-use Rattle.in_flight.specs.Flights.{net_of, is_ready}
+use Rattle.in_flight.specs.Flights.{AllListed, net_of, is_ready, lane}
 use Rattle.in_flight.proofs.Lanes.{Laned}
 use Rattle.in_flight.proofs.Flown.{with_lanes}
+use Rattle.in_flight.proofs.Listings.{taken-listed}
 use Rattle.in_flight.proofs.Reading.{flown-some, flown-none, flown-no_lane}
 use Rattle.in_flight.proofs.Taking.{Stands, below, counted-below, taken-flying, taken-marked, taken-stands, taken-net, taken-ready}
 use Rattle.in_flight.proofs.Taking.{no_link-net, no_link-ready, place-no_lane, place-lane}
 use Rattle.in_flight.proofs.flights.InFlight.take.Goals as goal
 
 pub returns-in_err-at-clause-given : goal.returns-in_err-at-clause-given
+unfolding net_of lane
 returns-in_err-at-clause-given c =
     let i = c.self.inside in
     let s = node_of c.args.name.src in
@@ -23,9 +26,10 @@ returns-in_err-at-clause-given c =
       counted = record { counted = c.self.invariant.counted; flying = c.self.invariant.flying };
     } in
     let none = place-no_lane i.grid.cores i.grid.dirs i.lanes.items s d (sym c.place.ensures ∙ c.in_err-at.was) in
-    rw (← c.self.view_is, c.from_residual.ensures) (flown-no_lane _ s d c.args.name.seq none)
+    rw (← c.self.view_is, c.from_residual.ensures) (flown-no_lane (with_lanes i.grid.cores i.grid.dirs i.lanes.items) s d c.args.name.seq none)
 
 pub returns-in_err-at-clause-net : goal.returns-in_err-at-clause-net
+unfolding net_of lane
 returns-in_err-at-clause-net c =
     let i = c.self.inside in
     let s = node_of c.args.name.src in
@@ -35,9 +39,10 @@ returns-in_err-at-clause-net c =
       counted = record { counted = c.self.invariant.counted; flying = c.self.invariant.flying };
     } in
     let none = place-no_lane i.grid.cores i.grid.dirs i.lanes.items s d (sym c.place.ensures ∙ c.in_err-at.was) in
-    rw (← c.self.view_is) (no_link-net _ s d c.args.name.seq none)
+    rw (← c.self.view_is) (no_link-net (with_lanes i.grid.cores i.grid.dirs i.lanes.items) s d c.args.name.seq none)
 
 pub returns-in_err-at-clause-ready : goal.returns-in_err-at-clause-ready
+unfolding is_ready lane
 returns-in_err-at-clause-ready c =
     let i = c.self.inside in
     let s = node_of c.args.name.src in
@@ -47,7 +52,7 @@ returns-in_err-at-clause-ready c =
       counted = record { counted = c.self.invariant.counted; flying = c.self.invariant.flying };
     } in
     let none = place-no_lane i.grid.cores i.grid.dirs i.lanes.items s d (sym c.place.ensures ∙ c.in_err-at.was) in
-    rw (← c.self.view_is) (no_link-ready _ s d c.args.name.seq none)
+    rw (← c.self.view_is) (no_link-ready (with_lanes i.grid.cores i.grid.dirs i.lanes.items) s d c.args.name.seq none)
 
 pub index_mut-requires : goal.index_mut-requires
 index_mut-requires c =
@@ -62,6 +67,7 @@ index_mut-requires c =
     omega (arith, below i.grid.cores i.grid.dirs i.lanes.items i.ready i.flying s d c.in_ok-at.at stands at, i.lanes.ok)
 
 pub returns-in_err-held-clause-given : goal.returns-in_err-held-clause-given
+unfolding net_of lane
 returns-in_err-held-clause-given c =
     let i = c.self.inside in
     let s = node_of c.args.name.src in
@@ -75,10 +81,11 @@ returns-in_err-held-clause-given c =
     get_or_read i.lanes.items c.in_ok-at.at c.index_mut.result.now
     (below i.grid.cores i.grid.dirs i.lanes.items i.ready i.flying s d c.in_ok-at.at stands at) c.index_mut.ensures.value [] in
     rw (← c.self.view_is, c.from_residual-in_err-held.ensures)
-    (flown-none _ s d c.args.name.seq _ (e ∙ sym (place-lane i.grid.cores i.grid.dirs i.lanes.items s d c.in_ok-at.at at))
+    (flown-none (with_lanes i.grid.cores i.grid.dirs i.lanes.items) s d c.args.name.seq _ (e ∙ sym (place-lane i.grid.cores i.grid.dirs i.lanes.items s d c.in_ok-at.at at))
     c.in_err-held.ensures.given)
 
 pub returns-in_err-held-clause-net : goal.returns-in_err-held-clause-net
+unfolding net_of lane
 returns-in_err-held-clause-net c =
     let i = c.self.inside in
     let s = node_of c.args.name.src in
@@ -96,6 +103,7 @@ returns-in_err-held-clause-net c =
     e)
 
 pub returns-in_err-held-clause-ready : goal.returns-in_err-held-clause-ready
+unfolding is_ready lane
 returns-in_err-held-clause-ready c =
     let i = c.self.inside in
     let s = node_of c.args.name.src in
@@ -157,6 +165,7 @@ count_mark-requires-clause-counted c =
     c.in_ok-held.held stands at e c.in_ok-held.ensures.given
 
 pub invariant_of-self-2 : goal.invariant_of-self-2
+unfolding net_of lane
 invariant_of-self-2 c =
     let i = c.self.inside in
     let s = node_of c.args.name.src in
@@ -180,9 +189,16 @@ invariant_of-self-2 c =
       unlinked = laned.unlinked;
       counted = c.count_mark.ensures ∙ (after.counted.counted ∙ ap (map (count_by is_marked)) (sym items));
       flying = after.counted.flying ∙ ap (sum_by (count_by is_waiting)) (sym items);
+      listed = subst (λ n. AllListed n c.unlist.new.self)
+          (sym (ap (λ ls. net_of (with_lanes i.grid.cores i.grid.dirs ls)) items
+          ∙ taken-net i.grid.cores i.grid.dirs i.lanes.items i.ready i.flying s d c.in_ok-at.at c.args.name.seq c.index_mut.result.now
+          stands at e))
+          (taken-listed _ i.index c.unlist.new.self s d c.args.name.seq (msg_of c.in_ok-held.held.msg)
+          (λ f ne l. c.unlist.ensures f (λ q. ne (sym c.entry_of.ensures ∙ q)) l) c.self.invariant.listed);
     }
 
 pub returns-clause-given : goal.returns-clause-given
+unfolding net_of lane
 returns-clause-given c =
     let i = c.self.inside in
     let s = node_of c.args.name.src in
@@ -196,10 +212,11 @@ returns-clause-given c =
     get_or_read i.lanes.items c.in_ok-at.at c.index_mut.result.now
     (below i.grid.cores i.grid.dirs i.lanes.items i.ready i.flying s d c.in_ok-at.at stands at) c.index_mut.ensures.value [] in
     rw (← c.self.view_is)
-    (flown-some _ s d c.args.name.seq _ c.in_ok-held.held (e ∙ sym (place-lane i.grid.cores i.grid.dirs i.lanes.items s d c.in_ok-at.at at))
+    (flown-some (with_lanes i.grid.cores i.grid.dirs i.lanes.items) s d c.args.name.seq _ c.in_ok-held.held (e ∙ sym (place-lane i.grid.cores i.grid.dirs i.lanes.items s d c.in_ok-at.at at))
     c.in_ok-held.ensures.given)
 
 pub returns-clause-net : goal.returns-clause-net
+unfolding net_of lane
 returns-clause-net c =
     let i = c.self.inside in
     let s = node_of c.args.name.src in
@@ -217,6 +234,7 @@ returns-clause-net c =
     e)
 
 pub returns-clause-ready : goal.returns-clause-ready
+unfolding is_ready lane
 returns-clause-ready c =
     let i = c.self.inside in
     let s = node_of c.args.name.src in

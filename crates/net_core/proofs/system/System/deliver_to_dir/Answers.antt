@@ -1,27 +1,29 @@
 -- A directory takes a message.
-use Rattle.std.proofs.Common.{◌≡◌, ◌≢◌, ◌∙◌, ◌+◌, ◌<◌, ap, refl, sym, subst, true, false, Some, None}
+use Rattle.std.proofs.Common.{◌≡◌, ◌≢◌, ◌∙◌, ◌+◌, ◌<◌, ℕ, ⊎_elim, ap, refl, sym, subst, true, false, Some, None}
+use Rattle.std.proofs.lemmas.Bool.{cases_Bool}
 use Rattle.std.specs.Prelude.{if◌then◌else◌}
 use Rattle.tcc_base.specs.declared.names.NodeId.TheVariants as code_node
 use Rattle.tcc_maps.specs.Bridge.{node_of}
-use Rattle.tcc_maps.specs.Nodes.{Core, Dir, Deliver}
+use Rattle.tcc_maps.specs.Nodes.{Core, Dir, Deliver, Msg}
 use Rattle.tcc_msg.specs.Plain.{msg_of, sends_of}
 use Rattle.tcc_rules.specs.DirDeliver.{dir_deliver}
 use Rattle.tcc_rules.specs.Links.{in_flight, taking}
 use Rattle.dir_bank.specs.Acted.{Acted}
 use Rattle.directory.specs.Foreign.{is_foreign}
-use Rattle.in_flight.specs.Flights.{net_of}
+use Rattle.directory.specs.Gives.{is_taken}
+use Rattle.in_flight.specs.Flights.{is_ready, net_of}
 use Rattle.net_core.specs.Answers.{Kept, Took, step_of}
 use Rattle.net_core.specs.Delivery.{is_consumed}
 use Rattle.net_core.specs.Inside.{machine_of}
 use Rattle.net_core.specs.Machine.{Machine, start_of}
-use Rattle.net_core.specs.Taking.{SameTaking, may_matter}
+use Rattle.net_core.specs.Taking.{is_seen, look_of, looks}
 use Rattle.rv_code.specs.Machine.{first_ram}
 use Rattle.net_core.specs.declared.taking.Step.TheVariants.{Moved}
 use Rattle.net_core.proofs.Reaching.{nothing-left}
 use Rattle.net_core.proofs.Events.Kept.{StaysBut, stays-kept, stays-whole}
 use Rattle.net_core.proofs.Events.Directories.{ActsAt, acts-took, acts-whole, belongs-there, comes-at, enabled, now_at, refused, rule_dirs}
 use Rattle.net_core.proofs.Events.Directories.{says_taken, small-at}
-use Rattle.net_core.proofs.Events.Quiet.{quiet-after}
+use Rattle.net_core.proofs.Events.Quiet.{quiet-after, taken-unseen}
 use Rattle.net_core.proofs.system.System.deliver_to_dir.Goals as goal
 
 -- ---- what is in flight belongs there
@@ -112,12 +114,13 @@ look_again-requires-clause-home c = λ b i y fly.
     let m = machine_of c.self.inside in
     let settled = ap (λ x. x.unsent) c.self.view_is ∙ c.requires.settled in
     let net = net_of c.self.inside.flights in
-    subst (λ s. is_foreign (record { shape = s; dir = c.args.dir.0 }) y ≡ false) (sym c.in-Ok.ensures.settings)
-    (belongs-there m c.take_handled.new.flights c.args.core.0 c.args.dir.0 c.args.name.seq c.in-Ok.handled c.self.invariant settled
-    (c.take_handled.ensures.net
+    let there = belongs-there m c.take_handled.new.flights c.args.core.0 c.args.dir.0 c.args.name.seq c.in-Ok.handled c.self.invariant
+    settled (c.take_handled.ensures.net
     ∙ (λ j. if is_consumed c.in-Ok.handled
     then taking net (node_of (c.requires.source j)) (node_of (c.requires.destination j)) c.args.name.seq else net))
-    b i y fly).belongs
+    b i y fly in
+    subst (λ s. (b < s.cores) × (is_foreign (record { shape = s; dir = c.args.dir.0 }) y ≡ false)) (sym c.in-Ok.ensures.settings)
+    (there.core, there.belongs)
 
 abbrev after : (c : goal.After-self-in-Ok-2-1) → Machine
 after c = machine_of (record c.self.inside {
@@ -129,17 +132,38 @@ after c = machine_of (record c.self.inside {
   events = c.self.inside.events + 1;
 })
 
--- the directory takes what it took before, where nothing was looked at again
-same-taking : (c : goal.After-self-in-Ok-2-1) → c.may_matter-again.result ≡ false
-    → SameTaking (rule_dirs (machine_of c.self.inside) c.args.dir.0) (now_at (machine_of c.self.inside) (after c) c.args.dir.0)
-same-taking c f =
+-- what isn't looked at again is taken as before
+unseen : (c : goal.After-self-in-Ok-2-1) (b : ℕ) (y : Msg) → is_seen (look_of c.looks-look.result) c.args.dir.0 y ≡ false
+    → is_taken (dir_deliver (machine_of c.self.inside).dirs.settings (now_at (machine_of c.self.inside) (after c) c.args.dir.0) b y)
+    ≡ is_taken (dir_deliver (machine_of c.self.inside).dirs.settings (rule_dirs (machine_of c.self.inside) c.args.dir.0) b y)
+unseen c b y f =
     let m = machine_of c.self.inside in
     let ram = first_ram (start_of m) in
     let did = c.in-Ok.ensures.does in
-    quiet-after m.dirs.settings (rule_dirs m c.args.dir.0) (now_at m (after c) c.args.dir.0) c.args.core.0 (msg_of c.args.msg)
-    c.in-Ok.handled (sends_of did.sent) (did.answer ram) (λ q. λ i. (did.still q).0 ram i c.args.dir.0)
-    ((λ i. may_matter c.in-Ok.handled (msg_of c.args.msg) (sym (c.serving-before.ensures ram) i) (sym (c.serving.ensures ram) i))
-    ∙ sym c.may_matter-again.ensures ∙ f)
+    let look = c.looks-look.ensures ∙ (λ i. looks c.in-Ok.handled (msg_of c.args.msg) (c.serving-before.ensures ram i) (c.serving.ensures ram i)) in
+    let same = quiet-after m.dirs.settings (rule_dirs m c.args.dir.0) (now_at m (after c) c.args.dir.0) c.args.core.0 (msg_of c.args.msg)
+    c.in-Ok.handled (sends_of did.sent) (did.answer ram) (λ q. λ i. (did.still q).0 ram i c.args.dir.0) in
+    taken-unseen _ m.dirs.settings (rule_dirs m c.args.dir.0) (now_at m (after c) c.args.dir.0) b c.args.dir.0 y same
+    (ap (λ l. is_seen l c.args.dir.0 y) (sym look) ∙ f)
+
+-- a message that was marked as the directory said is marked as it says
+here : (c : goal.After-self-in-Ok-2-1) (b i : ℕ) (y : Msg) → in_flight (net_of c.look_again.new.flights) (Core b) (Dir c.args.dir.0) i ≡ Some y
+    → is_ready c.self.inside.flights (Core b) (Dir c.args.dir.0) i
+    ≡ is_taken (dir_deliver (machine_of c.self.inside).dirs.settings (rule_dirs (machine_of c.self.inside) c.args.dir.0) b y)
+    → is_ready c.look_again.new.flights (Core b) (Dir c.args.dir.0) i
+    ≡ is_taken (dir_deliver (machine_of c.self.inside).dirs.settings (now_at (machine_of c.self.inside) (after c) c.args.dir.0) b y)
+here c b i y fly was =
+    let m = machine_of c.self.inside in
+    let d = c.args.dir.0 in
+    let ram = first_ram (start_of m) in
+    let there = subst (λ f. in_flight f (Core b) (Dir d) i ≡ Some y) c.look_again.ensures.net fly in
+    let settings = ap (λ s. is_taken (dir_deliver s (now_at m (after c) d) b y)) c.in-Ok.ensures.settings in
+    ⊎_elim
+    (λ seen. c.look_again.ensures.seen ram b i y there seen ∙ settings)
+    (λ not_seen. ⊎_elim (λ now. now ∙ settings)
+    (λ kept. kept ∙ c.take_handled.ensures.marks (Core b) (Dir d) i y there ∙ was ∙ sym (unseen c b y not_seen))
+    (c.look_again.ensures.here ram b i y there))
+    (cases_Bool (is_seen (look_of c.looks-look.result) d y))
 
 acts : (c : goal.After-self-in-Ok-2-1)
     → ActsAt (machine_of c.self.inside) (after c) c.args.core.0 c.args.dir.0 c.args.name.seq (msg_of c.args.msg) c.in-Ok.handled
@@ -160,10 +184,7 @@ acts c =
           then taking net (node_of (c.requires.source j)) (node_of (c.requires.destination j)) c.args.name.seq else net);
       flight_cores = c.look_again.ensures.cores ∙ c.take_handled.ensures.cores;
       flight_dirs = c.look_again.ensures.dirs ∙ c.take_handled.ensures.dirs;
-      again = c.may_matter-again.result;
-      here = λ q ram b i y l fly. c.look_again.ensures.here q ram b i y l
-          (subst (λ f. in_flight f (Core b) (Dir c.args.dir.0) i ≡ Some y) c.look_again.ensures.net fly);
-      same = same-taking c;
+      here = here c;
       others = λ s e i y fly other. c.look_again.ensures.others s e i other
           ∙ c.take_handled.ensures.marks s e i y (subst (λ f. in_flight f s e i ≡ Some y) c.look_again.ensures.net fly);
       commits = refl;
