@@ -23,8 +23,5 @@ listed-at_home p k l e =
 pub listed-count : (p : Pages) → length (those (has_mark (kept p)) (lines p.place.shape)) ≡ count_below (has_mark (kept p)) (lines p.place.shape)
 listed-count p = length-those (has_mark (kept p)) (lines p.place.shape)
 
-pub is_at_home-true : (h : Home) (l : ℕ) → IsAtHome h l → is_at_home h l ≡ true
-is_at_home-true h l a = pages.is_at_home-true h l a
-
 pub is_at_home-only : (h : Home) (l : ℕ) → is_at_home h l ≡ true → IsAtHome h l
 is_at_home-only h l e = pages.is_at_home-only h l e

@@ -1,14 +1,15 @@
 -- The home words while they are loaded line by line.
-use Rattle.std.proofs.Common.{◌≡◌, ℕ, zero, suc, ◌+◌, ◌^◌, ◌<◌, ◌≤◌, Bool, true, false, ◌&&◌, ◌==◌, eqb, nat_lt, if◌then◌else◌, List}
-use Rattle.std.proofs.Common.{get_or, refl, ap, sym, subst, ◌∙◌, arith}
-use borrow.Author.Tests.{eqb-true, eqb-false, ltb-true}
+use Rattle.std.proofs.Common.{◌≡◌, ℕ, zero, suc, ◌+◌, ◌*◌, ◌/◌, ◌%◌, ◌^◌, ◌<◌, ◌≤◌, Bool, true, false, ◌&&◌, ◌==◌, eqb}
+use Rattle.std.proofs.Common.{List, get_or, nat_lt, if◌then◌else◌, refl, ap, sym, ◌∙◌, arith}
+use Rattle.std.proofs.Math.Nat.{mod-add-div', mod-eq_of_lt, mul-le-mul_right}
+use borrow.Author.Tests.{eqb-true, eqb-false, ltb-true, ltb-false}
 use Rattle.tcc_maps.specs.Words.{eight, word_at, line_of, place_of}
 use Rattle.tcc_maps.specs.Masks.{has, hit}
 use Rattle.tcc_maps.specs.Shape.{lines}
 use Rattle.dir_lines.specs.Home.{Home, IsAtHome}
 use Rattle.dir_lines.specs.Pages.{is_at_home}
 use Rattle.dir_lines.specs.Words.{Words, words_at, with_words}
-use Rattle.dir_lines.proofs.Lemmas.{is_at_home-true}
+use Rattle.dir_lines.proofs.Lemmas.{is_at_home-only}
 
 eight-at : (f : ℕ → ℕ) (k : ℕ) → k < 8 → get_or (eight f) k 0 ≡ f k
 unfolding eight
@@ -47,9 +48,49 @@ has-full (suc (suc (suc (suc (suc (suc zero)))))) h = refl
 has-full (suc (suc (suc (suc (suc (suc (suc zero))))))) h = refl
 has-full (suc (suc (suc (suc (suc (suc (suc (suc k)))))))) h = absurd (omega arith)
 
+-- the words of the first n lines are loaded
+abbrev pub LoadedBelow : (ram : ℕ → ℕ) (p : Words) (n : ℕ) → Type 0
+LoadedBelow ram p n = (w : ℕ) → line_of w < n → words_at ram p w ≡ ram w
+
+-- no line from n on and below m is at home
+abbrev pub NoneBetween : (h : Home) (n m : ℕ) → Type 0
+NoneBetween h n m = (l : ℕ) → n ≤ l → l < m → IsAtHome h l → ⊥
+
+-- the first line of a home, and its next one
+pub none-before : (h : Home) → h.dir < h.shape.dirs → NoneBetween h 0 h.dir
+none-before h exists l from lt at =
+    let own : l % h.shape.dirs ≡ l = mod-eq_of_lt (omega arith) in
+    let here : l % h.shape.dirs ≡ h.dir = at.1 in
+    absurd (omega arith)
+
+pub none-after : (h : Home) (n : ℕ) → n % h.shape.dirs ≡ h.dir → NoneBetween h (n + 1) (n + h.shape.dirs)
+none-after h n own l from lt at = by (nat_lt (n / d) (l / d)) refl
+  where
+    d : ℕ
+    d = h.shape.dirs
+
+    below : n % d + n / d * d ≡ n
+    below = mod-add-div' n d
+
+    here : l % d + l / d * d ≡ l
+    here = mod-add-div' l d
+
+    by : (b : Bool) → nat_lt (n / d) (l / d) ≡ b → ⊥
+    by true f =
+        let up : (n / d + 1) * d ≤ l / d * d = mul-le-mul_right d (omega (arith, ltb-true (n / d) (l / d) f)) in
+        let more : (n / d + 1) * d ≡ n / d * d + d = omega arith in
+        let x : n % d + n / d * d ≡ n = below in let y : l % d + l / d * d ≡ l = here in
+        let z : l % d ≡ n % d = at.1 ∙ sym own in
+        omega arith
+    by false f =
+        let down : l / d * d ≤ n / d * d = mul-le-mul_right d (omega (arith, ltb-false (n / d) (l / d) f)) in
+        let x : n % d + n / d * d ≡ n = below in let y : l % d + l / d * d ≡ l = here in
+        let z : l % d ≡ n % d = at.1 ∙ sym own in
+        omega arith
+
 -- a line that was written
-pub loaded-here : (ram : ℕ → ℕ) (old new : Words) (n : ℕ) (ws : List ℕ) → words_at ram new ≡ with_words n 255 ws (words_at ram old)
-    → ws ≡ eight (λ k. ram (word_at n k)) → ((w : ℕ) → line_of w < n → words_at ram old w ≡ ram w) → (w : ℕ) → line_of w < n + 1 → words_at ram new w ≡ ram w
+pub loaded-here : (ram : ℕ → ℕ) (old new : Words) (n : ℕ) (ws : List ℕ)
+    → words_at ram new ≡ with_words n 255 ws (words_at ram old) → ws ≡ eight (λ k. ram (word_at n k)) → LoadedBelow ram old n → LoadedBelow ram new (n + 1)
 unfolding hit
 loaded-here ram old new n ws e v h w lt = (λ i. e i w) ∙ by (eqb n (line_of w)) refl
   where
@@ -61,18 +102,18 @@ loaded-here ram old new n ws e v h w lt = (λ i. e i w) ∙ by (eqb n (line_of w
         rw (f, all) (ap (λ xs. get_or xs (place_of w) 0) v ∙ (eight-at (λ k. ram (word_at n k)) (place_of w) (omega arith) ∙ ap ram own))
     by false f = rw f (h w (omega (arith, eqb-false n (line_of w) f)))
 
--- a line of another home
-pub loaded-away : (ram : ℕ → ℕ) (p : Words) (n : ℕ) → is_at_home p.place n ≡ false → ((w : ℕ) → line_of w < n → words_at ram p w ≡ ram w)
-    → (w : ℕ) → line_of w < n + 1 → words_at ram p w ≡ ram w
+-- lines of other homes
+pub loaded-past : (ram : ℕ → ℕ) (p : Words) (n m : ℕ) → NoneBetween p.place n m → LoadedBelow ram p n → LoadedBelow ram p m
 unfolding words_at
-loaded-away ram p n away h w lt = by (eqb (line_of w) n) refl
+loaded-past ram p n m none below w lt = by (is_at_home p.place (line_of w)) refl (nat_lt (line_of w) n) refl
   where
-    by : (b : Bool) → eqb (line_of w) n ≡ b → words_at ram p w ≡ ram w
-    by true f = let off : is_at_home p.place (line_of w) ≡ false = subst (λ k. is_at_home p.place k ≡ false) (sym (eqb-true (line_of w) n f)) away in rw off refl
-    by false f = h w (omega (arith, eqb-false (line_of w) n f))
+    by : (a : Bool) → is_at_home p.place (line_of w) ≡ a → (b : Bool) → nat_lt (line_of w) n ≡ b → words_at ram p w ≡ ram w
+    by false f b g = rw f refl
+    by true f true g = below w (ltb-true (line_of w) n g)
+    by true f false g = absurd (none (line_of w) (ltb-false (line_of w) n g) lt (is_at_home-only p.place (line_of w) f))
 
 -- all lines
-pub loaded-all : (ram : ℕ → ℕ) (p : Words) (n : ℕ) → lines p.place.shape ≤ n → ((w : ℕ) → line_of w < n → words_at ram p w ≡ ram w) → words_at ram p ≡ ram
+pub loaded-all : (ram : ℕ → ℕ) (p : Words) (n : ℕ) → lines p.place.shape ≤ n → LoadedBelow ram p n → words_at ram p ≡ ram
 unfolding words_at
 loaded-all ram p n e h = λ i w. by w (nat_lt (line_of w) (lines p.place.shape)) refl i
   where
@@ -84,7 +125,7 @@ loaded-all ram p n e h = λ i w. by w (nat_lt (line_of w) (lines p.place.shape))
 abbrev pub SmallBelow : (ram : ℕ → ℕ) (h : Home) (n : ℕ) → Type 0
 SmallBelow ram h n = (w : ℕ) → line_of w < n → IsAtHome h (line_of w) → ram w < 2 ^ 32
 
--- one more line whose words are, and one that isn't at home
+-- one more line whose words are, and lines of other homes
 pub small-here : (ram : ℕ → ℕ) (h : Home) (n : ℕ) → ((k : ℕ) → k < 8 → ram (word_at n k) < 2 ^ 32)
     → SmallBelow ram h n → SmallBelow ram h (n + 1)
 small-here ram h n here below = λ w lt a. by w lt a (eqb n (line_of w)) refl
@@ -96,15 +137,12 @@ small-here ram h n here below = λ w lt a. by w lt a (eqb n (line_of w)) refl
         rw (← own) (here (place_of w) (omega arith))
     by w lt a false f = below w (omega (arith, eqb-false n (line_of w) f)) a
 
-pub small-away : (ram : ℕ → ℕ) (h : Home) (n : ℕ) → is_at_home h n ≡ false → SmallBelow ram h n → SmallBelow ram h (n + 1)
-small-away ram h n away below = λ w lt a. by w lt a (eqb (line_of w) n) refl
+pub small-past : (ram : ℕ → ℕ) (h : Home) (n m : ℕ) → NoneBetween h n m → SmallBelow ram h n → SmallBelow ram h m
+small-past ram h n m none below w lt at = by (nat_lt (line_of w) n) refl
   where
-    by : (w : ℕ) → line_of w < n + 1 → IsAtHome h (line_of w) → (b : Bool) → eqb (line_of w) n ≡ b → ram w < 2 ^ 32
-    by w lt a true f =
-        let same : is_at_home h n ≡ is_at_home h (line_of w) = ap (is_at_home h) (sym (eqb-true (line_of w) n f)) in
-        let home : is_at_home h (line_of w) ≡ true = is_at_home-true h (line_of w) a in
-        cc
-    by w lt a false f = below w (omega (arith, eqb-false (line_of w) n f)) a
+    by : (b : Bool) → nat_lt (line_of w) n ≡ b → ram w < 2 ^ 32
+    by true f = below w (ltb-true (line_of w) n f) at
+    by false f = absurd (none (line_of w) (ltb-false (line_of w) n f) lt at)
 
 -- of all lines
 pub small-all : (ram : ℕ → ℕ) (h : Home) (n : ℕ) → lines h.shape ≤ n → SmallBelow ram h n

@@ -62,8 +62,8 @@ impl Model for Directory {
 }
 
 impl Directory {
-    /// A directory at the start: it serves TID 1, its home words are the loaded words, and nothing else is known. Its time goes with
-    /// the machine's number of lines, and its memory with the number of those at home here.
+    /// A directory at the start: it serves TID 1, its home words are the loaded words, and nothing else is known. Its time and
+    /// memory go with the number of lines that are at home here.
     pub fn start(
         alloc: Global,
         cfg: &Config,
@@ -79,7 +79,7 @@ impl Directory {
     {
         let lines = DirLines::new(alloc, cfg, id)?;
         let mut words = HomeWords::new(alloc, cfg, id)?;
-        load_words(&lines, &mut words, loaded);
+        load_words(&mut words, cfg, id, loaded);
         Ok(Directory {
             lines,
             words,

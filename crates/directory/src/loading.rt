@@ -6,23 +6,25 @@ ghost use Rattle.dir_lines.specs.Home.{IsAtHome};
 ghost use Rattle.dir_lines.specs.Words.{words_at};
 ghost use Rattle.image_load.specs.Contents.{started};
 
-use dir_lines::{DirLines, HomeWords};
+use dir_lines::HomeWords;
 use image_load::Loaded;
-use tcc_base::{LineAddr, Mask, WordAddr};
+use tcc_base::{Config, DirId, LineAddr, Mask, WordAddr};
 
-// Gives each home word its loaded value.
-pub(crate) fn load_words(lines: &DirLines, words: &mut HomeWords, loaded: &Loaded)
-    requires place { words.old.place ≡ lines.now.place }
-    requires made_for { loaded.now.settings ≡ lines.now.place.shape }
+// Gives each home word its loaded value, line by line of those that are at home here.
+pub(crate) fn load_words(words: &mut HomeWords, cfg: &Config, id: DirId, loaded: &Loaded)
+    requires exists { id.0 < cfg.now.dirs }
+    requires place { words.old.place ≡ record { shape = cfg.now; dir = id.0 } }
+    requires made_for { loaded.now.settings ≡ cfg.now }
     ensures place { words.new.place ≡ words.old.place }
     ensures words { words_at (started loaded.now).word words.new ≡ (started loaded.now).word }
-    ensures fits { (w : ℕ) → IsAtHome lines.now.place (line_number w) → (started loaded.now).word w < 2 ^ 32 }
+    ensures fits { (w : ℕ) → IsAtHome words.old.place (line_number w) → (started loaded.now).word w < 2 ^ 32 }
 {
-    for line in 0..lines.config().words() / 8 {
-        if lines.has_line(LineAddr(line)) {
-            let values = loaded_line(loaded, line);
-            words.write(LineAddr(line), Mask(255), &values);
-        }
+    let count = cfg.words() / 8;
+    let dirs = cfg.dirs() as u32;
+    let mut line = id.0 as u32;
+    while line < count {
+        words.write(LineAddr(line), Mask(255), &loaded_line(loaded, line));
+        line += dirs;
     }
 }
 

@@ -1,11 +1,13 @@
-use Rattle.std.proofs.Common.{◌≡◌, ℕ, ◌<◌}
-use Rattle.tcc_maps.specs.Words.{line_of}
-use Rattle.dir_lines.specs.Words.{words_at}
+-- The lines below this one, which is at home, are loaded.
+use Rattle.std.proofs.Common.{◌≡◌, ◌%◌, ◌-◌}
 use Rattle.image_load.specs.Contents.{started}
-use Rattle.directory.proofs.LoadedWords.{SmallBelow}
+use Rattle.directory.proofs.LoadedWords.{LoadedBelow, SmallBelow}
 use Rattle.directory.proofs.loading.load_words.Given as goal
 
 abbrev pub invariant-loop-line : goal.invariant-loop-line
 invariant-loop-line l =
-    (l.words.place ≡ l.fn.words.place) × ((w : ℕ) → line_of w < l.line → words_at (started l.loaded).word l.words w ≡ (started l.loaded).word w)
-    × SmallBelow (started l.loaded).word l.lines.place l.line
+    (l.words.place ≡ l.fn.words.place) × (l.line % l.fn.words.place.shape.dirs ≡ l.fn.words.place.dir)
+    × LoadedBelow (started l.loaded).word l.words l.line × SmallBelow (started l.loaded).word l.fn.words.place l.line
+
+abbrev pub decreases-loop-line : goal.decreases-loop-line
+decreases-loop-line l = l.count - l.line
