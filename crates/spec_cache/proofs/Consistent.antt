@@ -1,7 +1,7 @@
 -- The maps of a cache fit together: the ways and the lines, and the marks of a line.
-use Rattle.std.proofs.Common.{ℕ, ◌+◌, ◌*◌, ◌/◌, ◌%◌, ◌<◌, ◌≡◌, ◌≢◌, Bool, true, false, cond, get_or, Option, Some, None, is_some, nat_lt, refl, sym, ◌∙◌, ap, subst, arith}
+use Rattle.std.proofs.Common.{ℕ, zero, suc, ◌+◌, ◌*◌, ◌/◌, ◌%◌, ◌<◌, ◌≡◌, ◌≢◌, Bool, true, false, cond, List, [], ◌∷◌, length, get_or, Option, Some, None, is_some, nat_lt, refl, sym, ◌∙◌, ap, subst, arith}
 use Rattle.std.proofs.lemmas.Bool.{false≢true, ltb-true, eqb-true}
-use Rattle.std.proofs.lemmas.Nat.{div-mul-add}
+use Rattle.std.proofs.lemmas.Nat.{div_below, div-mul-add}
 use Rattle.tcc_maps.specs.Words.{line_of, place_of}
 use Rattle.tcc_maps.specs.Masks.{has}
 use Rattle.tcc_maps.specs.Shape.{set_of}
@@ -73,6 +73,11 @@ same_tag : (o : Option FrameView) (j k t u : ℕ) → dirty_in o j ≡ Some t �
 same_tag o j k t u d e = let p = tag_of o j t d in let q = tag_of o k u e in
     let z : Some p.0 ≡ Some q.0 = sym p.1 ∙ q.1 in let y : p.0 ≡ q.0 = cc in p.2 ∙ ap (λ (x : FrameView). x.tag.0) y ∙ sym q.2
 
+some-within : (fs : List (Option FrameView)) (i : ℕ) (f : FrameView) → get_or fs i None ≡ Some f → i < length fs
+some-within [] i f e = absurd (let z : None ≡ Some f = e in cc)
+some-within (o ∷ os) zero f e = omega arith
+some-within (o ∷ os) (suc i) f e = let b = some-within os i f e in omega (arith, b)
+
 module _ (h : Held) (s : IsHeld h) where
   -- what stands at a set and way
   pub way_of : (t y l : ℕ) → (maps h).at t y ≡ Some l → (y < h.config.ways) × ((f : FrameView) × (get_or h.frames (t * h.config.ways + y) None ≡ Some f) × (f.line.0 ≡ l))
@@ -117,3 +122,16 @@ module _ (h : Held) (s : IsHeld h) where
     either = λ v w e m. unfold maps in not_either (frame_of h.frames (line_of w)) (frame_found h s (line_of w)) (place_of v) (place_of w) (subst (λ (x : ℕ). modified_in (frame_of h.frames x) (place_of v) ≡ true) e m);
     one_tag = λ v w t u e m n. unfold maps in same_tag (frame_of h.frames (line_of w)) (place_of v) (place_of w) t u (subst (λ (x : ℕ). dirty_in (frame_of h.frames x) (place_of v) ≡ Some t) e m) n;
   }
+
+  -- there is no such set, or no such way
+  pub no_such_way : (t y : ℕ) → (t < h.config.sets → y < h.config.ways → ⊥) → None ≡ (maps h).at t y
+  no_such_way t y none = go ((maps h).at t y) refl
+    where
+      go : (o : Option ℕ) → (maps h).at t y ≡ o → None ≡ o
+      go None e = refl
+      go (Some l) e =
+          let r = way_of t y l e in
+          let inside : t * h.config.ways + y < length h.frames = some-within h.frames (t * h.config.ways + y) r.1.0 r.1.1 in
+          let set : (t * h.config.ways + y) / h.config.ways < h.config.sets =
+          div_below (t * h.config.ways + y) h.config.ways h.config.sets s.allowed.3.0 (omega (arith, inside, s.filled_ways)) in
+          absurd (none (rw (div-mul-add t h.config.ways y r.0) at set) r.0)

@@ -18,6 +18,7 @@ pub mod Forms
 pub mod Marked
 pub mod PlaceLaws
 pub mod NotedWays
+pub mod MarkedSets
 pub mod InPlaces
 pub mod Indexed
 pub mod Counted

@@ -19,7 +19,7 @@ same_default [] k a b h = absurd (omega arith)
 same_default (x ∷ xs) zero a b h = refl
 same_default (x ∷ xs) (suc k) a b h = same_default xs k a b (omega arith)
 
-place_in : (ps : List ℕ) (i : ℕ) → Contains ps i → (j : ℕ) × (j < length ps) × (get_or ps j 0 ≡ i)
+pub place_in : (ps : List ℕ) (i : ℕ) → Contains ps i → (j : ℕ) × (j < length ps) × (get_or ps j 0 ≡ i)
 place_in ps i c = (c.0, c.1, same_default ps c.0 0 i c.1 ∙ c.2)
 
 -- ---- a frame that is read or written is marked

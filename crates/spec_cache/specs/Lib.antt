@@ -3,6 +3,7 @@ pub mod Change
 pub mod Held
 pub mod Look
 pub mod Home
+pub mod MarkedSets
 pub mod Useful
 pub mod PerSet
 pub mod Tracked

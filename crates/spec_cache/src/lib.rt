@@ -9,6 +9,7 @@ mod home_counts;
 mod in_place;
 mod list_frames;
 mod look;
+mod marked_sets;
 mod marks;
 mod masks;
 mod noted;

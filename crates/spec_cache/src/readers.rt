@@ -1,11 +1,14 @@
 // What a core asks of its cache between its changes: single frames, and what all frames hold together.
-ghost use Rattle.std.specs.Prelude.{◌≡◌, ◌<◌, ◌≤◌, ◌+◌, ◌*◌, ◌&&◌, ◌==◌, ℕ, Option, None, Some, MatchOption, IfSome, OnOk, cond, length, get_or, map};
-ghost use Rattle.tcc_maps.specs.Words.{any_below, count_below};
-ghost use Rattle.tcc_maps.specs.Shape.{lines, home};
-ghost use Rattle.tcc_maps.specs.Cache.{keeps as keeps_word, is_marked as marked_line, is_modified as modified_line, is_dirty as dirty_line, writes_at as any_write, marks_by_home as every_mark};
-ghost use Rattle.tcc_maps.specs.CacheUse.{useful_ways};
+ghost use Rattle.std.specs.Prelude.{◌≡◌, ◌<◌, ◌≤◌, ◌+◌, ◌*◌, ◌&&◌, ◌||◌, ◌==◌, ℕ, Option, None, Some, MatchOption, IfOk, IfSome, OnOk, cond, length, get_or, map};
+ghost use Rattle.std.specs.Option.{option_map};
+ghost use Rattle.tcc_maps.specs.Words.{any_below, count_below, those};
+ghost use Rattle.tcc_maps.specs.Shape.{lines, home, set_of};
+ghost use Rattle.tcc_maps.specs.Cache.{IsCache, keeps as keeps_word, is_marked as marked_line, is_modified as modified_line, is_dirty as dirty_line, writes_at as any_write, marks_by_home as every_mark};
+ghost use Rattle.tcc_maps.specs.CacheUse.{is_number, useful_ways};
+ghost use Rattle.tcc_maps.specs.CacheLook.{reads_masked as any_masked};
 ghost use Rattle.spec_cache.specs.Held.{maps};
 ghost use Rattle.spec_cache.specs.Home.{mark_of};
+ghost use Rattle.spec_cache.specs.MarkedSets.{has_marked};
 ghost use Rattle.spec_cache.specs.Useful.{wants_of, useful_in, in_set};
 ghost use Rattle.spec_cache.specs.PerSet.{count_set, idle_way, used_way, IsNthWay};
 
@@ -14,7 +17,7 @@ use crate::frames::{line_of_word, place_of_word};
 use crate::masks::has;
 use crate::useful::Wants;
 use crate::ways::Ways;
-use tcc_base::{Config, DirId, LineAddr, Mask, NoMemory, WordAddr};
+use tcc_base::{Config, DirId, LineAddr, List, Mask, NoMemory, WordAddr};
 
 impl SpecCache {
     /// The machine's settings.
@@ -84,6 +87,49 @@ impl SpecCache {
     {
         *marks = self.marks_by_home(d)?;
         Ok(())
+    }
+
+    /// The set in which a line may have a frame. It takes constant time.
+    pub fn set_of_line(&self, line: LineAddr) -> u16
+        ensures value { result ≡ set_of self.now.config line.0 }
+        ensures exists { result < self.now.config.sets }
+        ensures consistent { IsCache self.now.config (maps self.now) }
+    {
+        self.frames.set_of_line(line)
+    }
+
+    /// The line that a way holds; None exactly where it holds none, or there is no such way. It takes constant time.
+    pub fn line_at(&self, set: u16, way: u8) -> Option<LineAddr>
+        ensures { option_map (λ l. l.0) result ≡ (maps self.now).at set way }
+    {
+        let config = self.frames.config();
+        if set >= config.sets() || way >= config.ways() {
+            return None;
+        }
+        match self.way(set, way) {
+            Some((line, _)) => Some(line),
+            None => None,
+        }
+    }
+
+    /// Whether a masked word of the line is marked read. It takes time in the ways of a set.
+    pub fn reads_masked(&self, line: LineAddr, mask: Mask) -> bool
+        ensures { result ≡ any_masked line.0 mask.0 (maps self.now) }
+    {
+        match self.frames.find(line) {
+            None => false,
+            Some((_, frame)) => frame.read.0 & mask.0 != 0,
+        }
+    }
+
+    /// The sets in which a frame is marked, and this one, in rising order. It takes time in the frames that were marked since the last
+    /// commit or roll back, and memory for their sets.
+    pub fn marked_sets(&self, and: Option<u16>) -> Result<List<u16>, NoMemory>
+        requires { IfSome and (λ x. x < self.now.config.sets) }
+        ensures { IfOk result (λ sets. sets
+            ≡ those (λ x. is_number and x || has_marked self.now.config (maps self.now) x) self.now.config.sets) }
+    {
+        self.frames.marked_sets(and)
     }
 
     /// Whether any word is dirty.

@@ -1,15 +1,19 @@
 // The frames of a cache in one array, a line's frame among the ways of its set.
-ghost use Rattle.std.specs.Prelude.{◌≡◌, ◌*◌, ◌≤◌, replicate, Option, None, IfOk, IfSome, MatchBool, cond, ◌<◌};
+ghost use Rattle.std.specs.Prelude.{◌≡◌, ◌*◌, ◌≤◌, replicate, Option, None, IfOk, IfSome, MatchBool, cond, ◌<◌, ◌||◌};
+ghost use Rattle.tcc_maps.specs.CacheUse.{is_number};
 ghost use Rattle.tcc_maps.specs.CacheLook.{look_load as load_answer, Hit};
+ghost use Rattle.tcc_maps.specs.Words.{those};
 ghost use Rattle.spec_cache.specs.Held.{maps};
 ghost use Rattle.spec_cache.specs.Look.{loaded, StoresClean};
 ghost use Rattle.spec_cache.specs.Home.{reads_in};
+ghost use Rattle.spec_cache.specs.MarkedSets.{has_marked};
 ghost use Rattle.spec_cache.specs.Useful.{writes_in, dirty_way};
 ghost use Rattle.spec_cache.specs.PerSet.{idle_way, used_way, count_set};
 ghost use Rattle.spec_cache.specs.Tracked.{count_ways};
 
 use crate::frame::{Change, FrameView};
 use crate::frames::{Frames, line_of_word, place_of_word};
+use crate::marked_sets::{all_marked_sets, push_some, put_sets_in_order};
 use crate::noted::{all_written_in, change_at};
 use crate::places::Places;
 use crate::quotients::set_of;
@@ -17,7 +21,7 @@ use crate::tracked::Tracked;
 use crate::ways::{Ways, is_marked};
 use std::alloc::Global;
 use std::marker::Model;
-use tcc_base::{Config, DirId, LineAddr, NoMemory, WordAddr};
+use tcc_base::{Config, DirId, LineAddr, List, NoMemory, WordAddr};
 
 /// The frames in one array: way `y` of set `s` stands at `s * ways + y`, a line is looked for in its set alone, and the
 /// frames with marks are known by place, so that no call visits all of them.
@@ -112,6 +116,21 @@ impl SetFrames {
         ensures in_order { IsHeld self.now }
     {
         self.ways.dirty_count()
+    }
+
+    /// The sets in which a frame is marked, and this one, in rising order.
+    pub(crate) fn marked_sets(&self, and: Option<u16>) -> Result<List<u16>, NoMemory>
+        requires { IfSome and (λ x. x < self.now.config.sets) }
+        ensures { IfOk result (λ sets. sets
+            ≡ those (λ x. is_number and x || has_marked self.now.config (maps self.now) x) self.now.config.sets) }
+    {
+        let ways = self.ways.frames();
+        let config = self.ways.config();
+        let places = self.marked.as_slice();
+        let mut sets = all_marked_sets(self.ways.allocator(), &config, ways, places)?;
+        push_some(&mut sets, and)?;
+        put_sets_in_order(&mut sets.items);
+        Ok(sets)
     }
 }
 
