@@ -1,5 +1,5 @@
 -- Totals are no larger than their parts together.
-use Rattle.std.proofs.Common.{◌≡◌, ℕ, ◌+◌, ◌<◌, List, drop, get_or, length, ap, sym, ◌∙◌, arith}
+use Rattle.std.proofs.Common.{◌≡◌, ℕ, ◌+◌, ◌<◌, List, drop, map, get_or, length, ap, sym, ◌∙◌, arith}
 use Rattle.std.proofs.lemmas.List.{at_drop_more}
 use Rattle.watch_count.specs.declared.tables.CoreCounts.{CoreCounts}
 use Rattle.watch_count.specs.declared.messages.MessageCounts.{MessageCounts}
@@ -17,10 +17,11 @@ unfolding messages_plus messages_size
 messages-add a b = omega arith
 
 -- the next one is added
-pub cores-more : (cs : List CoreCounts) (i : ℕ) (d t now all : CoreCounts) → i < length cs → now ≡ core_plus t (get_or cs i d)
-    → cores_after t (drop i cs) ≡ all → cores_after now (drop (i + 1) cs) ≡ all
+pub cores-more : {A : Type 0} (f : A → CoreCounts) (cs : List A) (i : ℕ) (d : A) (t now all : CoreCounts) → i < length cs
+    → now ≡ core_plus t (f (get_or cs i d)) → cores_after t (map f (drop i cs)) ≡ all → cores_after now (map f (drop (i + 1) cs)) ≡ all
 unfolding cores_after
-cores-more cs i d t now all l e h = ap (λ x. cores_after x (drop (i + 1) cs)) e ∙ sym (at_drop_more (cores_after t) cs i d l) ∙ h
+cores-more f cs i d t now all l e h =
+    ap (λ x. cores_after x (map f (drop (i + 1) cs))) e ∙ sym (at_drop_more (λ ys. cores_after t (map f ys)) cs i d l) ∙ h
 
 pub messages-more : (ms : List MessageCounts) (i : ℕ) (d t now all : MessageCounts) → i < length ms → now ≡ messages_plus t (get_or ms i d)
     → messages_sum t (drop i ms) ≡ all → messages_sum now (drop (i + 1) ms) ≡ all

@@ -1,5 +1,6 @@
 -- The proofs of this crate.
 pub mod Lemmas
+mod Staying
 mod Growth
 mod Adding
 mod Lists

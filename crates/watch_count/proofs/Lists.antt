@@ -1,6 +1,8 @@
 -- A list of which one element changes.
-use Rattle.std.proofs.Common.{◌≡◌, ℕ, zero, suc, ◌+◌, ◌<◌, ◌≤◌, List, [], ◌∷◌, ◌++◌, map, take, drop, set, get_or, length}
+use Rattle.std.proofs.Common.{◌≡◌, ℕ, zero, suc, ◌<◌, ◌≤◌, List, [], ◌∷◌, map, set, get_or, length, replicate}
 use Rattle.std.proofs.Common.{Option, Some, None, refl, ap, sym, ◌∙◌, arith}
+use Rattle.std.specs.Prelude.{All}
+use Rattle.std.proofs.lemmas.List.Elements.{All-head, All-tail}
 use Rattle.watch_count.specs.Counts.{changed, changed_if}
 
 pub set-changed : {A : Type 0} (f : A → A) (k : ℕ) (xs : List A) (y d : A) → k < length xs → y ≡ f (get_or xs k d)
@@ -33,17 +35,25 @@ pub length-changed_if : {A : Type 0} (f : A → A) (o : Option ℕ) (xs : List A
 length-changed_if f None xs = refl
 length-changed_if f (Some k) xs = length-changed f k xs
 
--- a list that is mapped in place, element by element
-mapped : {A : Type 0} (f : A → A) (i : ℕ) (xs : List A) (d : A) → i < length xs
-    → set (map f (take i xs) ++ drop i xs) i (f (get_or (map f (take i xs) ++ drop i xs) i d)) ≡ map f (take (i + 1) xs) ++ drop (i + 1) xs
-mapped f i [] d l = absurd (omega arith)
-mapped f zero (x ∷ xs) d l = refl
-mapped f (suc i) (x ∷ xs) d l =
-    let next : suc (i + 1) ≡ suc i + 1 = omega arith in
-    ap (λ zs. f x ∷ zs) (mapped f i xs d (omega arith)) ∙ ap (λ k. map f (take k (x ∷ xs)) ++ drop k (x ∷ xs)) next
+-- an element is changed before all are mapped
+map-changed : {A B : Type 0} (f : A → B) (g : B → B) (k : ℕ) (xs : List A) (y d : A) → k < length xs → f y ≡ g (f (get_or xs k d))
+    → map f (set xs k y) ≡ changed k g (map f xs)
+unfolding changed
+map-changed f g k [] y d l e = absurd (omega arith)
+map-changed f g zero (x ∷ xs) y d l e = ap (λ z. z ∷ map f xs) e
+map-changed f g (suc k) (x ∷ xs) y d l e = ap (λ zs. f x ∷ zs) (map-changed f g k xs y d (omega arith) e)
 
-pub map-more : {A : Type 0} (f : A → A) (i : ℕ) (xs now : List A) (y d : A) → i < length xs
-    → now ≡ map f (take i xs) ++ drop i xs → y ≡ f (get_or now i d)
-    → set now i y ≡ map f (take (i + 1) xs) ++ drop (i + 1) xs
-map-more f i xs now y d l h e =
-    ap (λ z. set now i z) e ∙ ap (λ zs. set zs i (f (get_or zs i d))) h ∙ mapped f i xs d l
+pub map-changed_if : {A B : Type 0} (f : A → B) (g : B → B) (k : ℕ) (o : Option ℕ) (xs : List A) (y d : A) → Some k ≡ o → k < length xs
+    → f y ≡ g (f (get_or xs k d)) → map f (set xs k y) ≡ changed_if o g (map f xs)
+map-changed_if f g k o xs y d at l e = map-changed f g k xs y d l e ∙ ap (λ p. changed_if p g (map f xs)) at
+
+-- what holds of all that are mapped holds of one
+pub map-at : {A B : Type 0} (P : B → Type 0) (f : A → B) (xs : List A) (k : ℕ) (d : A) → All P (map f xs) → k < length xs
+    → P (f (get_or xs k d))
+map-at P f [] k d all l = absurd (omega arith)
+map-at P f (x ∷ xs) zero d all l = All-head P (f x) (map f xs) all
+map-at P f (x ∷ xs) (suc k) d all l = map-at P f xs k d (All-tail P (f x) (map f xs) all) (omega arith)
+
+pub map-replicate : {A B : Type 0} (f : A → B) (n : ℕ) (x : A) → map f (replicate n x) ≡ replicate n (f x)
+map-replicate f zero x = refl
+map-replicate f (suc n) x = ap (λ ys. f x ∷ ys) (map-replicate f n x)

@@ -3,6 +3,7 @@ pub mod Tables
 pub mod Messages
 pub mod Places
 pub mod Sizes
+pub mod KeptCores
 pub mod Counts
 pub mod CountsInside
 pub mod Totals

@@ -6,7 +6,8 @@ ghost use Rattle.std.specs.Map.{values_of, lookup};
 ghost use Rattle.std.specs.BTreeMap.{is_at};
 ghost use Rattle.tcc_maps.specs.Bridge.{node_of};
 ghost use Rattle.watch.specs.Plain.{fact_of};
-ghost use Rattle.watch_count.specs.Tables.{nothing, core_after, event_came};
+ghost use Rattle.watch_count.specs.Tables.{core_after};
+ghost use Rattle.watch_count.specs.KeptCores.{numbers_after};
 ghost use Rattle.watch_count.specs.Messages.{kind_of as plain_kind_of, messages_after};
 ghost use Rattle.watch_count.specs.Places.{nothing_there, line_of as plain_line_of, line_after};
 ghost use Rattle.watch_count.specs.Places.{no_conflict, conflict_of as plain_conflict_of, conflict_after};
@@ -22,9 +23,9 @@ use crate::cells::{
     push_cell, push_core_cells, push_end_cell, push_messages_cells, push_names, push_seed,
     push_settings,
 };
+use crate::kept::KeptCore;
 use crate::messages::{MessageCounts, kind_of};
 use crate::places::{Conflict, ConflictCounts, LineCounts, conflict_of, line_of};
-use crate::tables::CoreCounts;
 use crate::texts::{push_conflicts, push_lines, push_messages, push_tables};
 use crate::totals::{all_cores, all_messages};
 use report_text::{push_end, push_events};
@@ -39,22 +40,25 @@ use watch::Fact;
 /// How often what happened in the events so far: by core, by kind of message, by line, and by conflict.
 #[derive(Debug, Drop)]
 pub struct Counts {
-    cores: Vec<CoreCounts>,
+    cores: Vec<KeptCore>,
     messages: [MessageCounts; 15],
     lines: BTreeMap<u32, LineCounts>,
     conflicts: BTreeMap<Conflict, ConflictCounts>,
+    /// How many events have come.
+    events: u64,
+    /// No number is above this.
     bound: u64,
 }
 
 impl Model for Counts {
     ghost use Rattle.watch_count.specs.Counts.{Counts as Numbers};
-    ghost use Rattle.watch_count.specs.CountsInside.{counts_of, IsKept};
+    ghost use Rattle.watch_count.specs.CountsInside.{counts_of, IsInside};
 
     ghost Value = { Numbers };
 
     ghost view = { counts_of };
 
-    ghost invariant = { λ c. IsKept (counts_of c) };
+    ghost invariant = { IsInside };
 }
 
 /// No number comes above this.
@@ -100,23 +104,19 @@ fn weight(fact: &Fact) -> u64
     }
 }
 
-fn count_core(cores: &mut [CoreCounts], actor: NodeId, fact: &Fact)
-    requires { All (λ c. core_size c ≤ 2 ^ 62) cores.old }
-    ensures { cores.new ≡ changed_if (plain_core_of (node_of actor) (fact_of fact.now)) (core_after (fact_of fact.now)) cores.old }
+/// A fact of an event, after so many events with that one.
+fn count_core(cores: &mut [KeptCore], events: u64, actor: NodeId, fact: &Fact)
+    requires small { All (λ c. core_size c ≤ 2 ^ 62) (map (numbers_after events) cores.old) }
+    requires since { All (λ k. k.since ≤ events) cores.old }
+    ensures counts { map (numbers_after events) cores.new
+        ≡ changed_if (plain_core_of (node_of actor) (fact_of fact.now)) (core_after (fact_of fact.now))
+        (map (numbers_after events) cores.old) }
+    ensures since { All (λ k. k.since ≤ events) cores.new }
 {
     if let Some(place) = core_of(actor, fact) {
         if place < cores.len() {
-            cores[place].count(fact);
+            cores[place].count(events, fact);
         }
-    }
-}
-
-fn count_event(cores: &mut [CoreCounts])
-    requires { All (λ c. core_size c ≤ 2 ^ 62) cores.old }
-    ensures { cores.new ≡ map event_came cores.old }
-{
-    for core in cores.iter_mut() {
-        core.phases.count(core.phase);
     }
 }
 
@@ -227,13 +227,14 @@ impl Counts {
     {
         let mut cores = Vec::with_capacity(alloc, config.cores() as usize).map_err(|_| NoMemory)?;
         for _ in 0..config.cores() {
-            cores.push(CoreCounts::nothing()).map_err(|_| NoMemory)?;
+            cores.push(KeptCore::nothing()).map_err(|_| NoMemory)?;
         }
         Ok(Counts {
             cores,
             messages: [MessageCounts::nothing(); 15],
             lines: BTreeMap::new(alloc),
             conflicts: BTreeMap::new(alloc),
+            events: 0,
             bound: 0,
         })
     }
@@ -244,7 +245,7 @@ impl Counts {
         ensures { OnOk result (self.new ≡ counted (node_of actor) (fact_of fact.now) self.old) }
     {
         self.bound += weight(fact);
-        count_core(&mut self.cores, actor, fact);
+        count_core(&mut self.cores, self.events, actor, fact);
         count_message(&mut self.messages, fact);
         count_line(&mut self.lines, fact)?;
         count_conflict(&mut self.conflicts, fact)
@@ -255,13 +256,12 @@ impl Counts {
         ensures { self.new ≡ event_begun self.old }
     {
         self.bound += 1;
-        count_event(&mut self.cores);
+        self.events += 1;
     }
 
     /// An event of this node, with its facts. It fails for want of memory, and where a number could come above 2^56, to which no run of
     /// fewer than 2^24 events comes whose facts are fewer than a million each. Some of the facts may be counted then and others not, so
-    /// the counts are of no use any more. Takes constant time for each core and each fact, but for the logarithm of the lines and
-    /// conflicts so far.
+    /// the counts are of no use any more. Takes constant time for each fact, but for the logarithm of the lines and conflicts so far.
     pub fn event(&mut self, actor: NodeId, facts: &[Fact]) -> Result<(), NoMemory>
         ensures { OnOk result (self.new ≡ event_counted (node_of actor) (map fact_of facts.now) self.old) }
     {
@@ -273,7 +273,7 @@ impl Counts {
     }
 
     /// An event of whichever node comes: it counts in the phase that each core is in before it. It fails where a number could come above
-    /// 2^56, and then nothing has changed. Takes time in the number of cores. With `fact` for each of its facts it is `event`.
+    /// 2^56, and then nothing has changed. Takes constant time. With `fact` for each of its facts it is `event`.
     pub fn begin(&mut self) -> Result<(), NoMemory>
         ensures { OnOk result (self.new ≡ event_begun self.old) }
     {
@@ -306,7 +306,7 @@ impl Counts {
     pub fn push_tables(&self, text: &mut String) -> Result<(), AllocError>
         ensures { OnOk result (string_bytes text.new ≡ string_bytes text.old ++ tables_text self.now.cores) }
     {
-        push_tables(text, &self.cores)
+        push_tables(text, &self.cores, self.events)
     }
 
     /// Appends the lines of lines of memory. After want of memory a part of them may stand there.
@@ -328,7 +328,7 @@ impl Counts {
     pub fn push_table_cells(&self, text: &mut String) -> Result<(), AllocError>
         ensures { OnOk result (string_bytes text.new ≡ string_bytes text.old ++ core_cells (plain_all_cores self.now.cores)) }
     {
-        push_core_cells(text, &all_cores(&self.cores))
+        push_core_cells(text, &all_cores(&self.cores, self.events))
     }
 
     #[tactic(auto, unfolding(crate::specs::Text::count_text))]
@@ -343,7 +343,7 @@ impl Counts {
     {
         text.push_str("tcc-count 1\n")?;
         push_config(text, config)?;
-        push_tables(text, &self.cores)?;
+        push_tables(text, &self.cores, self.events)?;
         push_messages(text, &self.messages)?;
         push_lines(text, &self.lines)?;
         push_conflicts(text, &self.conflicts)?;
@@ -368,7 +368,7 @@ impl Counts {
         push_seed(text, seed)?;
         push_end_cell(text, done)?;
         push_cell(text, events)?;
-        push_core_cells(text, &all_cores(&self.cores))?;
+        push_core_cells(text, &all_cores(&self.cores, self.events))?;
         push_messages_cells(text, &all_messages(&self.messages))?;
         text.push_str("\n")
     }

@@ -5,6 +5,7 @@
 
 mod cells;
 mod counts;
+mod kept;
 mod messages;
 mod places;
 mod rows;

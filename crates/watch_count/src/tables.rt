@@ -3,7 +3,8 @@ ghost use Rattle.std.specs.Prelude.{◌≡◌, ◌+◌, ◌≤◌, ◌^◌};
 ghost use Rattle.commit_engine.specs.Engine.{phase_of};
 ghost use Rattle.watch.specs.Plain.{fact_of, done_of};
 ghost use Rattle.watch_count.specs.Tables.{name_of, nothing, attempts_after, instructions_after, accesses_after, done_counted};
-ghost use Rattle.watch_count.specs.Tables.{evictions_after, phase_counted, phase_after, core_after};
+ghost use Rattle.watch_count.specs.Tables.{evictions_after, phase_after, core_after};
+ghost use Rattle.watch_count.specs.KeptCores.{stayed};
 ghost use Rattle.watch_count.specs.Sizes.{attempts_size, instructions_size, accesses_size, evictions_size, phases_size, core_size, weight};
 
 use commit_engine::Phase;
@@ -215,21 +216,21 @@ impl Evictions {
 }
 
 impl Phases {
-    /// One more event came in this phase. No number overflows.
-    #[tactic(auto, unfolding(crate::specs::Tables::phase_counted, crate::specs::Sizes::phases_size))]
-    pub(crate) fn count(&mut self, phase: PhaseName)
-        requires { phases_size self.old ≤ 2 ^ 62 }
-        ensures { self.new ≡ phase_counted phase self.old }
+    /// So many more events came in this phase. No number overflows.
+    #[tactic(auto, unfolding(crate::specs::KeptCores::stayed, crate::specs::Sizes::phases_size))]
+    pub(crate) fn stay(&mut self, events: u64, phase: PhaseName)
+        requires { phases_size self.old + events ≤ 2 ^ 63 }
+        ensures { self.new ≡ stayed events phase self.old }
     {
         match phase {
-            PhaseName::Running => self.running += 1,
-            PhaseName::AwaitTid => self.await_tid += 1,
-            PhaseName::DoomedTid => self.doomed_tid += 1,
-            PhaseName::Probing => self.probing += 1,
-            PhaseName::Ready => self.ready += 1,
-            PhaseName::Overflowing => self.overflowing += 1,
-            PhaseName::Solo => self.solo += 1,
-            PhaseName::Halted => self.halted += 1,
+            PhaseName::Running => self.running += events,
+            PhaseName::AwaitTid => self.await_tid += events,
+            PhaseName::DoomedTid => self.doomed_tid += events,
+            PhaseName::Probing => self.probing += events,
+            PhaseName::Ready => self.ready += events,
+            PhaseName::Overflowing => self.overflowing += events,
+            PhaseName::Solo => self.solo += events,
+            PhaseName::Halted => self.halted += events,
         }
     }
 }

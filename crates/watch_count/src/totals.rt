@@ -1,10 +1,12 @@
 // The numbers of all cores together, and of all kinds of message.
-ghost use Rattle.std.specs.Prelude.{◌≡◌, ◌+◌, ◌*◌, ◌≤◌, ◌^◌, length, All};
+ghost use Rattle.std.specs.Prelude.{◌≡◌, ◌+◌, ◌*◌, ◌≤◌, ◌^◌, length, map, All};
+ghost use Rattle.watch_count.specs.KeptCores.{numbers_after};
 ghost use Rattle.watch_count.specs.Totals.{attempts_plus, instructions_plus, accesses_plus, evictions_plus, phases_plus, core_plus};
 ghost use Rattle.watch_count.specs.Totals.{all_cores as plain_all_cores, all_messages as plain_all_messages, messages_plus};
 ghost use Rattle.watch_count.specs.Sizes.{attempts_size, instructions_size, accesses_size, evictions_size, phases_size};
 ghost use Rattle.watch_count.specs.Sizes.{core_size, messages_size};
 
+use crate::kept::KeptCore;
 use crate::messages::MessageCounts;
 use crate::tables::{Accesses, Attempts, CoreCounts, Evictions, Instructions, Phases};
 
@@ -83,15 +85,15 @@ fn add_core(to: &mut CoreCounts, more: &CoreCounts)
     add_phases(&mut to.phases, &more.phases);
 }
 
-/// The numbers of all cores together.
-pub(crate) fn all_cores(cores: &[CoreCounts]) -> CoreCounts
-    requires small { All (λ c. core_size c ≤ 2 ^ 56) cores.now }
+/// The numbers of all cores together, when so many events have come.
+pub(crate) fn all_cores(cores: &[KeptCore], events: u64) -> CoreCounts
+    requires small { All (λ c. core_size c ≤ 2 ^ 56) (map (numbers_after events) cores.now) }
     requires few { length cores.now ≤ 64 }
-    ensures { result ≡ plain_all_cores cores.now }
+    ensures { result ≡ plain_all_cores (map (numbers_after events) cores.now) }
 {
     let mut total = CoreCounts::nothing();
     for core in cores {
-        add_core(&mut total, core);
+        add_core(&mut total, &core.numbers(events));
     }
     total
 }

@@ -1,7 +1,7 @@
--- Each core so far has no number above 0.
+-- Of each core so far nothing is kept.
 use Rattle.std.proofs.Common.{◌≡◌, replicate}
-use Rattle.watch_count.specs.Tables.{nothing}
+use Rattle.watch_count.specs.KeptCores.{nothing_kept}
 use Rattle.watch_count.proofs.counts.Counts.new.Given as goal
 
 abbrev pub invariant-loop : goal.invariant-loop
-invariant-loop l = l.cores.items ≡ replicate l.counter nothing
+invariant-loop l = l.cores.items ≡ replicate l.counter nothing_kept

@@ -1,7 +1,8 @@
 -- Piece after piece.
-use Rattle.std.proofs.Common.{◌++◌, string_bytes, codes, ap, ◌∙◌}
+use Rattle.std.proofs.Common.{◌++◌, string_bytes, codes, map, ap, ◌∙◌}
 use Rattle.std.proofs.lemmas.Result.{on_ok_weaker}
 use Rattle.schedule_text.specs.Grammar.{newline}
+use Rattle.watch_count.specs.KeptCores.{numbers_after}
 use Rattle.watch_count.specs.Totals.{all_cores, all_messages}
 use Rattle.watch_count.specs.Csv.{names, cell, settings_cells, seed_cells, end_cell, core_cells, messages_cells, csv_text}
 use Rattle.watch_count.proofs.Pieces.{grown9, went-well}
@@ -10,6 +11,7 @@ use Rattle.watch_count.proofs.counts.Counts.push_totals.Goals as goal
 pub returns : goal.returns
 unfolding csv_text
 returns c =
+    let n = numbers_after c.self.inside.events in
     let t0 = string_bytes c.args.text.now in
     let t1 = string_bytes c.push_names.new.text in
     let t2 = string_bytes c.push_str.new.self in
@@ -26,7 +28,7 @@ returns c =
     let p4 = seed_cells c.args.seed in
     let p5 = end_cell c.args.done in
     let p6 = cell c.args.events in
-    let p7 = core_cells (all_cores c.self.inside.cores.items) in
+    let p7 = core_cells (all_cores (map n c.self.inside.cores.items)) in
     let p8 = messages_cells (all_messages c.self.inside.messages) in
     let p9 = newline in
     on_ok_weaker c.push_str-2.result
@@ -39,7 +41,7 @@ returns c =
     c.in_ok-push_end_cell.ensures
     c.in_ok-push_cell.ensures
     (c.in_ok-push_core_cells.ensures
-    ∙ ap (λ cs. t6 ++ core_cells cs) (c.all_cores.ensures ∙ ap all_cores c.deref.ensures.value))
+    ∙ ap (λ cs. t6 ++ core_cells cs) (c.all_cores.ensures ∙ ap (λ ks. all_cores (map n ks)) c.deref.ensures.value))
     (c.in_ok-push_messages_cells.ensures ∙ ap (λ m. t7 ++ messages_cells m) c.all_messages.ensures)
     last
     ∙ ap (λ s. string_bytes c.args.text.now ++ csv_text c.args.config.now c.args.seed c.args.done c.args.events s) c.self.view_is)
