@@ -1,2 +1,3 @@
--- What other crates may cite: texts that grow piece by piece.
+-- What other crates may cite: texts that grow piece by piece, and what messages add that were sent.
 pub use Rattle.watch_count.proofs.Pieces.{grown8, grown9, went-well}
+pub use Rattle.watch_count.proofs.Sending.{counted-append, sent-both, sent-told}

@@ -1,6 +1,7 @@
 -- The proofs of this crate.
 pub mod Lemmas
 mod Staying
+mod Sending
 mod Growth
 mod Adding
 mod Lists

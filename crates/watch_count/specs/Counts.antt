@@ -4,8 +4,8 @@ use Rattle.std.specs.declared.cmp.Ordering.{Ordering}
 use Rattle.std.specs.Ordering.{nat_cmp, on, then_cmp}
 use Rattle.std.specs.BTreeMap.{is_at, insert_entry}
 use Rattle.std.specs.Map.{lookup}
-use Rattle.tcc_maps.specs.Nodes.{Node, Core, Fill}
-use Rattle.watch.specs.Facts.{Fact, Did, Missed, Overflowed, Evicted, Took, Violated, GaveUp, Committed, CameTo}
+use Rattle.tcc_maps.specs.Nodes.{Node, Core, Vendor, Msg, Fill}
+use Rattle.watch.specs.Facts.{Fact, Did, Missed, Overflowed, Evicted, Took, Violated, GaveUp, Committed, CameTo, Sent}
 use Rattle.watch_count.specs.declared.tables.CoreCounts.{CoreCounts}
 use Rattle.watch_count.specs.declared.messages.MessageCounts.{MessageCounts}
 use Rattle.watch_count.specs.declared.places.LineCounts.{LineCounts}
@@ -79,6 +79,10 @@ counted a f c = record {
 unfoldable pub all_counted : (actor : Node) → List Fact → Counts → Counts
 all_counted a [] c = c
 all_counted a (f ∷ fs) c = all_counted a fs (counted a f c)
+
+-- a message was sent: what it adds depends on its kind alone, not on who sent it to whom, nor on its number
+unfoldable pub message_sent : Counts → Msg → Counts
+message_sent c m = counted Vendor (Sent Vendor Vendor 0 m) c
 
 -- an event comes
 unfoldable pub event_begun : Counts → Counts

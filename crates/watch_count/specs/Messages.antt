@@ -34,10 +34,14 @@ kind_of (AskedOwner m) = Some (kind_place m)
 kind_of (Sent src dst k m) = Some (kind_place m)
 kind_of _ = None
 
+-- one more was sent
+abbrev pub one_sent : MessageCounts → MessageCounts
+one_sent c = record c { sent = c.sent + 1 }
+
 -- a fact about a message of this kind; one that only asked stays in flight
 unfoldable pub messages_after : Fact → MessageCounts → MessageCounts
 messages_after (Took m) c = record c { took = c.took + 1 }
 messages_after (Dropped m) c = record c { dropped = c.dropped + 1 }
 messages_after (AskedOwner m) c = record c { asked = c.asked + 1 }
-messages_after (Sent src dst k m) c = record c { sent = c.sent + 1 }
+messages_after (Sent src dst k m) c = one_sent c
 messages_after _ c = c

@@ -1,6 +1,6 @@
 // The counts of a run, which grow event by event.
 ghost use Rattle.std.specs.Prelude.{◌≡◌, ◌+◌, ◌≤◌, ◌^◌, Some, None, IfOk, OnOk, OnErr, All, length, map, unwrap_or, ◌++◌, string_bytes};
-ghost use Rattle.std.specs.List.{flat_map};
+ghost use Rattle.std.specs.List.{flat_map, fold};
 ghost use Rattle.std.specs.Ordering.{nat_cmp};
 ghost use Rattle.std.specs.Map.{values_of, lookup};
 ghost use Rattle.std.specs.BTreeMap.{is_at};
@@ -8,14 +8,15 @@ ghost use Rattle.tcc_maps.specs.Bridge.{node_of};
 ghost use Rattle.watch.specs.Plain.{fact_of};
 ghost use Rattle.watch_count.specs.Tables.{core_after};
 ghost use Rattle.watch_count.specs.KeptCores.{numbers_after};
-ghost use Rattle.watch_count.specs.Messages.{kind_of as plain_kind_of, messages_after};
+ghost use Rattle.tcc_msg.specs.Plain.{msg_of};
+ghost use Rattle.watch_count.specs.Messages.{kind_of as plain_kind_of, kind_place as plain_kind_place, messages_after, one_sent};
 ghost use Rattle.watch_count.specs.Places.{nothing_there, line_of as plain_line_of, line_after};
 ghost use Rattle.watch_count.specs.Places.{no_conflict, conflict_of as plain_conflict_of, conflict_after};
 ghost use Rattle.watch_count.specs.Sizes.{core_size, messages_size, line_size, conflict_size, weight as plain_weight};
 ghost use Rattle.watch_count.specs.Text.{count_text, entry_conflict, entry_line, tables_text};
 ghost use Rattle.watch_count.specs.Totals.{all_cores as plain_all_cores};
 ghost use Rattle.watch_count.specs.Csv.{core_cells, csv_text};
-ghost use Rattle.watch_count.specs.Counts.{core_taking, core_of as plain_core_of, changed_if};
+ghost use Rattle.watch_count.specs.Counts.{core_taking, core_of as plain_core_of, changed, changed_if, message_sent};
 ghost use Rattle.watch_count.specs.Counts.{kept_changed, kept_changed_if, conflict_cmp};
 ghost use Rattle.watch_count.specs.Counts.{nothing_counted, counted, event_begun, event_counted};
 
@@ -24,7 +25,7 @@ use crate::cells::{
     push_settings,
 };
 use crate::kept::KeptCore;
-use crate::messages::{MessageCounts, kind_of};
+use crate::messages::{MessageCounts, kind_of, kind_place};
 use crate::places::{Conflict, ConflictCounts, LineCounts, conflict_of, line_of};
 use crate::texts::{push_conflicts, push_lines, push_messages, push_tables};
 use crate::totals::{all_cores, all_messages};
@@ -128,6 +129,17 @@ fn count_message(messages: &mut [MessageCounts; 15], fact: &Fact)
         if place < messages.len() {
             messages[place].count(fact);
         }
+    }
+}
+
+#[tactic(auto, unfolding(crate::specs::Sizes::messages_size))]
+fn count_sent(messages: &mut [MessageCounts; 15], msg: &Msg)
+    requires { All (λ c. messages_size c ≤ 2 ^ 62) messages.old }
+    ensures { messages.new ≡ changed (plain_kind_place (msg_of msg.now)) one_sent messages.old }
+{
+    let place = kind_place(msg);
+    if place < messages.len() {
+        messages[place].sent += 1;
     }
 }
 
@@ -293,6 +305,29 @@ impl Counts {
             return Err(NoMemory);
         }
         self.count(actor, fact)
+    }
+
+    /// A message that was sent.
+    fn message(&mut self, msg: &Msg) -> Result<(), NoMemory>
+        ensures { OnOk result (self.new ≡ message_sent self.old (msg_of msg.now)) }
+    {
+        if LIMIT - self.bound < 5 {
+            return Err(NoMemory);
+        }
+        self.bound += 5;
+        count_sent(&mut self.messages, msg);
+        Ok(())
+    }
+
+    /// Messages that the event sent that came last, in whatever order: what they add depends on their kinds alone. It fails where a number
+    /// could come above 2^56; the counts are of no use then. Takes constant time for each. `fact` with `Fact::Sent` of each does the same.
+    pub fn sent(&mut self, messages: &[(NodeId, Msg)]) -> Result<(), NoMemory>
+        ensures { OnOk result (self.new ≡ fold message_sent self.old (map (λ m. msg_of m.1) messages.now)) }
+    {
+        for (_, msg) in messages {
+            self.message(msg)?;
+        }
+        Ok(())
     }
 
     /// How many cores there are.

@@ -19,7 +19,7 @@ pub struct MessageCounts {
 }
 
 /// The place of a message's kind among the fifteen.
-fn kind_place(msg: &Msg) -> usize
+pub(crate) fn kind_place(msg: &Msg) -> usize
     ensures { result ≡ plain_kind_place (msg_of msg.now) }
 {
     match msg {
