@@ -4,7 +4,10 @@
 mod plan;
 mod shift;
 mod slots;
+mod turns;
 mod working;
 
 pub use plan::{Ended, WorkPlan};
+pub use shift::Shift;
+pub use turns::{AtFarm, Call, Turns};
 pub use working::work;

@@ -1,16 +1,14 @@
 // The turns that one worker takes.
-ghost use Rattle.std.specs.Prelude.{◌≡◌, ◌+◌, ◌%◌, ◌^◌, ◌<◌, ◌≤◌, OnErr};
+ghost use Rattle.std.specs.Prelude.{◌≡◌, ◌+◌, ◌%◌, ◌^◌, ◌<◌, ◌≤◌, OnErr, is_ok};
+ghost use Rattle.tcc_workers.specs.Calls.{TookTurns};
 ghost use Rattle.tcc_workers.specs.Words.{words_of};
 
+use crate::turns::Turns;
 use logged_node::Act;
-use node_locks::{Farm, Setup, Ticket};
 use rand_core::SeedableRng;
 use rand_core::utils::NextWord;
 use rand_pcg::Lcg64Xsh32;
-use std::sync::Wait;
-use std::sync::ledger::Ledger;
 use tcc_base::NoMemory;
-use tcc_world::Gate;
 
 /// How one worker takes turns: until its ticket counts so many events, or so many turns in a row found nothing to do.
 #[derive(Clone, Copy, Debug)]
@@ -39,31 +37,26 @@ impl Shift {
         Lcg64Xsh32::seed_from_u64(self.seed.wrapping_add(u64::from(self.worker)))
     }
 
-    /// Takes turns with this ticket: turn k is at `node(k)`, with the next word of the generator, after `gate.pass(worker, k)`. It ends
-    /// when the ticket counts `until` events, after `patience` Idle turns in a row, or at want of memory, which is its error.
-    pub fn take_turns<W: Setup, E: Ledger, T: Ledger, R: Wait, G: Gate>(
-        &self,
-        rt: &R,
-        farm: &Farm<W, E, T>,
-        ticket: &mut Ticket<T>,
-        gate: &G,
-    ) -> Result<(), NoMemory>
-        requires counted { ticket.old.moved ≤ self.now.until }
+    /// Takes turns with this ticket: turn k is at `node(k)`, with the next word of the generator, after the gate's pass for (worker, k). It
+    /// ends when the ticket counts `until` events, after `patience` Idle turns in a row, or at want of memory, which is its error.
+    pub fn take_turns<K, P: Turns<K>>(&self, place: &P, ticket: &mut K) -> Result<(), NoMemory>
+        requires counted { P.moved ticket.old ≤ self.now.until }
         requires until { self.now.until ≤ 4194304 }
-        requires parts { 0 < ticket.old.parts }
-        ensures few { ticket.new.moved ≤ self.now.until }
-        ensures short { OnErr result (ticket.new.moved < self.now.until) }
-        ensures parts { ticket.new.parts ≡ ticket.old.parts }
+        requires parts { 0 < P.parts ticket.old }
+        ensures took { TookTurns self.now P.count (P.moved ticket.old) (P.moved ticket.new) (P.calls ticket.old) (P.calls ticket.new) (is_ok result) }
+        ensures few { P.moved ticket.new ≤ self.now.until }
+        ensures short { OnErr result (P.moved ticket.new < self.now.until) }
+        ensures parts { P.parts ticket.new ≡ P.parts ticket.old }
     {
-        let nodes = farm.nodes();
+        let nodes = place.nodes();
         let mut words = self.words();
         let mut idle = 0;
         for turn in 0..(self.until + 1) * u64::from(self.patience) {
-            if ticket.moved() == self.until || idle == self.patience {
+            if place.moved(ticket) == self.until || idle == self.patience {
                 break;
             }
-            gate.pass(self.worker, turn);
-            match farm.turn(rt, self.node(turn, nodes), words.next_word(), ticket) {
+            place.pass(ticket, self.worker, turn);
+            match place.turn(ticket, self.node(turn, nodes), words.next_word()) {
                 Act::Moved => idle = 0,
                 Act::Idle => idle += 1,
                 Act::Memory => return Err(NoMemory),

@@ -3,6 +3,7 @@ ghost use Rattle.std.specs.Prelude.{◌≡◌, ℕ, slice_index_or, Ok, ◌+◌,
 ghost use Rattle.std.specs.List.{list_all, sum_by};
 
 use crate::plan::WorkPlan;
+use crate::turns::AtFarm;
 use node_locks::{Farm, Setup, Ticket};
 use std::alloc::Global;
 use std::sync::Wait;
@@ -51,7 +52,7 @@ impl<T: Ledger> Slot<T> {
     {
         self.met = plan
             .share(self.worker)
-            .take_turns(rt, farm, &mut self.ticket, gate);
+            .take_turns(&AtFarm { rt, farm, gate }, &mut self.ticket);
     }
 }
 

@@ -4,6 +4,7 @@ ghost use Rattle.tcc_workers.specs.declared.plan.Ended.TheVariants.{Full, Quiet}
 
 use crate::plan::{Ended, WorkPlan};
 use crate::slots::{do_shares, hand_out, take_back};
+use crate::turns::AtFarm;
 use node_locks::{Farm, Setup, Ticket};
 use std::alloc::Global;
 use std::sync::Wait;
@@ -51,7 +52,7 @@ pub fn work<
     }
     if plan
         .rounds(farm.nodes())
-        .take_turns(rt, farm, &mut ticket, gate)
+        .take_turns(&AtFarm { rt, farm, gate }, &mut ticket)
         .is_err()
     {
         return Err((ticket, NoMemory));
