@@ -17,4 +17,6 @@ mod rounds;
 #[cfg(test)]
 mod runs;
 #[cfg(test)]
+mod turns;
+#[cfg(test)]
 mod workers;
