@@ -71,14 +71,18 @@ pub flying-ends : (m : Machine) (src dst : Node) (k : ℕ) (x : Msg) → IsLive 
 flying-ends m src dst k x l f = fitting (settings_of m) src dst x (l.messages src dst k x f).fits
 
 -- what was taken was enabled
-pub taken-enabled : (m n : Machine) (e : Event) (told : Step) → Advanced m n e told → step_of m e ≢ None
+pub next-enabled : (m n : Machine) (e : Event) → next_history (settings_of m) (program_of m) (history_of m) e ≡ Some (history_of n)
+    → step_of m e ≢ None
 unfolding next_history history_of
-taken-enabled m n e told a = λ q. by (step_of m e) q a.next
+next-enabled m n e next = λ q. by (step_of m e) q next
   where
     by : (s : Option Stepped) → s ≡ None
         → recorded (record { world = world_of m; commits = m.commits }) s ≡ Some (record { world = world_of n; commits = n.commits }) → ⊥
     by None q p = absurd (cc)
     by (Some o) q p = absurd (cc)
+
+pub taken-enabled : (m n : Machine) (e : Event) (told : Step) → Advanced m n e told → step_of m e ≢ None
+taken-enabled m n e told a = next-enabled m n e a.next
 
 pub is-below : (n k : ℕ) → nat_lt n k ≡ true → n < k
 is-below n k e = grind (arith, nat_tests)

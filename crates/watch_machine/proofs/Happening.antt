@@ -24,7 +24,7 @@ use Rattle.watch.specs.Messages.{commit_of}
 use Rattle.watch.specs.Plain.{fact_of}
 use Rattle.watch.specs.declared.fact.Fact.{Fact as CodeFact}
 use Rattle.watch_machine.specs.Telling.{Advanced, HasRoomFor, commit_told, count_on, last_facts, last_to, numbered_from}
-use Rattle.watch_machine.specs.Watched.{TookAndTold}
+use Rattle.watch_machine.specs.Watched.{TookAndToldOfNode}
 use Rattle.watch_machine.proofs.Named.{inserted-named}
 
 -- ---- the rules' step
@@ -115,16 +115,16 @@ actor-is (Exec c) = refl
 actor-is (Evict c x y) = refl
 actor-is (Deliver src dst k) = refl
 
--- what is told behind the event itself
+-- what is told behind the event itself, but for what it sent
 abbrev pub told_behind : (m n : Machine) → Event → Step → List Fact
-told_behind m n e told =
-    commit_told (tid_told told) n.commits ++ (moved (world_of m) (world_of n) (acts_in e) ++ last_facts n (acts_in e))
+told_behind m n e told = commit_told (tid_told told) n.commits ++ moved (world_of m) (world_of n) (acts_in e)
 
 abbrev pub told_of_event : (m n : Machine) → Event → List Fact
 told_of_event m n e = acted (settings_of m) (program_of m) m.commits (world_of m) (world_of n) e
 
 happened-is : (m n : Machine) (e : Event) (told : Step) → Reached m → Advanced m n e told
-    → happened (settings_of m) (program_of m) (history_of m) e ≡ told_of_event m n e ++ told_behind m n e told
+    → happened (settings_of m) (program_of m) (history_of m) e ≡ told_of_event m n e
+    ++ (commit_told (tid_told told) n.commits ++ (moved (world_of m) (world_of n) (acts_in e) ++ last_facts n (acts_in e)))
 unfolding happened history_of
 happened-is m n e told r a =
     let s = step-is m n e told r a in
@@ -137,16 +137,24 @@ happened-is m n e told r a =
     ++ (commit_told (tid_told told) n.commits ++ (moved (world_of m) (world_of n) (acts_in e) ++ fs)))
     (sent-is m n (acts_in e) a.code a.sent)
 
--- the event was taken, and what was told of it is what it did
+-- the event was taken, and what was told of it is what it did at its node
 pub told-all : (m n : Machine) (e : Event) (told : Step) (facts : List CodeFact) → Reached m → Advanced m n e told
-    → map fact_of facts ≡ told_of_event m n e ++ told_behind m n e told → TookAndTold m n e facts
-told-all m n e told facts r a f = record {
-  next = a.next;
-  told = f ∙ sym (happened-is m n e told r a);
-  settled = a.settled;
-  events = a.events;
-  code = a.code;
-}
+    → map fact_of facts ≡ told_of_event m n e ++ told_behind m n e told → TookAndToldOfNode m n e facts
+told-all m n e told facts r a f =
+    let of_event = told_of_event m n e in
+    let noted = commit_told (tid_told told) n.commits in
+    let came_to = moved (world_of m) (world_of n) (acts_in e) in
+    let sends = last_facts n (acts_in e) in
+    record {
+      next = a.next;
+      told = (λ i. f i ++ last_facts n (actor-is e i)) ∙ append_assoc of_event (noted ++ came_to) sends
+          ∙ ap (λ fs. of_event ++ fs) (append_assoc noted came_to sends) ∙ sym (happened-is m n e told r a);
+      room = subst (HasRoomFor n) (sym (actor-is e)) (room-for m n (acts_in e) a.sent);
+      ends = a.ends;
+      settled = a.settled;
+      events = a.events;
+      code = a.code;
+    }
 
 -- ---- a delivery
 

@@ -1,4 +1,6 @@
 -- The proofs of this crate.
+pub mod Lemmas
+mod AnyOrder
 mod Named
 mod Numbering
 mod Rising

@@ -26,7 +26,7 @@ use Rattle.watch_machine.proofs.Numbering.{goes, none-to, nothing-goes, stays}
 -- ---- nodes by place
 
 -- these nodes have the places from k on
-Placed : Shape → ℕ → List Node → Type 0
+unfoldable pub Placed : Shape → ℕ → List Node → Type 0
 Placed sh k [] = Unit {0}
 Placed sh k (n ∷ ns) = ((place_of sh n ≡ k) × (is_node sh n ≡ true)) × Placed sh (k + 1) ns
 
@@ -69,7 +69,7 @@ dirs-placed sh (suc n) l =
     (ap (λ i. sh.cores + i) (sym (dirs-many n)))
     ((refl, below n sh.dirs (omega (arith, l))), tt))
 
-nodes-placed : (sh : Shape) → Placed sh 0 (nodes sh)
+pub nodes-placed : (sh : Shape) → Placed sh 0 (nodes sh)
 unfolding nodes Placed
 nodes-placed sh =
     placed-append sh 0 sh.cores (map Core (numbers sh.cores)) (map Dir (numbers sh.dirs) ++ Vendor ∷ [])
@@ -77,20 +77,20 @@ nodes-placed sh =
     (placed-append sh sh.cores (sh.cores + sh.dirs) (map Dir (numbers sh.dirs)) (Vendor ∷ []) (dirs-placed sh sh.dirs (omega arith))
     (ap (λ i. sh.cores + i) (sym (dirs-many sh.dirs))) ((refl, refl), tt))
 
-nodes-many : (sh : Shape) → length (nodes sh) ≡ sh.cores + sh.dirs + 1
+pub nodes-many : (sh : Shape) → length (nodes sh) ≡ sh.cores + sh.dirs + 1
 unfolding nodes
 nodes-many sh =
     length-append (map Core (numbers sh.cores)) (map Dir (numbers sh.dirs) ++ Vendor ∷ [])
     ∙ omega (arith, cores-many sh.cores, dirs-many sh.dirs, length-append (map Dir (numbers sh.dirs)) (Vendor ∷ []))
 
 -- a node's place is below their number
-place-below : (sh : Shape) (n : Node) → is_node sh n ≡ true → place_of sh n < sh.cores + sh.dirs + 1
+pub place-below : (sh : Shape) (n : Node) → is_node sh n ≡ true → place_of sh n < sh.cores + sh.dirs + 1
 place-below sh (Core c) e = omega (arith, above c sh.cores e)
 place-below sh (Dir d) e = omega (arith, above d sh.dirs e)
 place-below sh Vendor e = omega arith
 
 -- and it is of no other node
-one-place : (sh : Shape) (a b : Node) → is_node sh a ≡ true → is_node sh b ≡ true → place_of sh a ≡ place_of sh b → a ≡ b
+pub one-place : (sh : Shape) (a b : Node) → is_node sh a ≡ true → is_node sh b ≡ true → place_of sh a ≡ place_of sh b → a ≡ b
 one-place sh (Core c) (Core d) e f p = ap Core p
 one-place sh (Core c) (Dir d) e f p = absurd (omega (arith, above c sh.cores e, p))
 one-place sh (Core c) Vendor e f p = absurd (omega (arith, above c sh.cores e, p))
@@ -102,7 +102,7 @@ one-place sh Vendor (Dir d) e f p = absurd (omega (arith, above d sh.dirs f, p))
 one-place sh Vendor Vendor e f p = refl
 
 -- nodes at two places are two
-two-nodes : (sh : Shape) (a b : Node) → (place_of sh a ≡ place_of sh b → ⊥) → node_eq a b ≡ false
+pub two-nodes : (sh : Shape) (a b : Node) → (place_of sh a ≡ place_of sh b → ⊥) → node_eq a b ≡ false
 two-nodes sh a b h = go (node_eq a b) refl
   where
     go : (t : Bool) → node_eq a b ≡ t → t ≡ false
@@ -120,7 +120,7 @@ none-before sh j (x ∷ xs) n r l =
     stays x xs n (two-nodes sh n (node_of x.0) (λ e. omega (arith, before, e)))
     ∙ none-before sh (place_of sh (node_of x.0) + 1) xs n r.1.1 (omega (arith, before))
 
-same-node : (n : Node) → node_eq n n ≡ true
+pub same-node : (n : Node) → node_eq n n ≡ true
 same-node (Core c) = grind (arith, nat_tests)
 same-node (Dir d) = grind (arith, nat_tests)
 same-node Vendor = refl
@@ -134,6 +134,13 @@ one-told m src n x e = ap (λ ms. numbered_from src n (count_on m src n - length
 -- the messages that are left are all that go to nodes from place k on
 abbrev AllFrom : Machine → Shape → ℕ → List (NodeId × Msg) → Type 0
 AllFrom m sh k ms = (n : Node) → k ≤ place_of sh n → sends_of m.last n ≡ sends_of ms n
+
+-- what isn't at a place, and not before it, is behind it
+pub past : (i j : ℕ) → i ≤ j → (j ≡ i → ⊥) → i + 1 ≤ j
+past i j l h = elim (cases_lt i j) [
+  | inl g ↦ omega (arith, g)
+  | inr g ↦ absurd (h (omega (arith, l, g)))
+]
 
 told-from : (m : Machine) (src : Node) (sh : Shape) (ns : List Node) (k : ℕ) (ms : List (NodeId × Msg)) → Placed sh k ns
     → k + length ns ≡ sh.cores + sh.dirs + 1 → Rises sh k ms → AllFrom m sh k ms → flat_map (last_to m src) ns ≡ each_told m src ms
@@ -164,12 +171,6 @@ told-from m src sh (n ∷ ns) k (x ∷ xs) p e r a = elim (cases_eq (place_of sh
       (none-to m src n (ap length (a n (omega (arith, p.0.0)) ∙ none-before sh (k + 1) (x ∷ xs) n rest (omega (arith, p.0.0)))))
       ∙ told-from m src sh ns (k + 1) (x ∷ xs) p.1 (omega (arith, e)) rest (λ o l. a o (omega (arith, l)))
 ]
-  where
-    past : (i j : ℕ) → i ≤ j → (j ≡ i → ⊥) → i + 1 ≤ j
-    past i j l h = elim (cases_lt i j) [
-      | inl g ↦ omega (arith, g)
-      | inr g ↦ absurd (h (omega (arith, l, g)))
-    ]
 
 -- each in its turn is all by node
 pub rising-told : (m : Machine) (src : Node) → Rises (settings_of m) 0 m.last → each_told m src m.last ≡ last_facts m src

@@ -1,13 +1,14 @@
 -- The parts of what is told: what is seen of a node before an event, and what is told of it behind the event.
-use Rattle.std.specs.Prelude.{ℕ, ◌≡◌, ◌≢◌, ◌+◌, ◌-◌, ◌≤◌, List, [], ◌∷◌, length, Option, Some, None, Result, Ok, Err}
+use Rattle.std.specs.Prelude.{ℕ, ◌≡◌, ◌≢◌, ◌+◌, ◌-◌, ◌≤◌, true, List, [], ◌∷◌, All, length, Option, Some, None, Result, Ok, Err}
 use Rattle.std.specs.List.{flat_map}
 use Rattle.tcc_base.specs.declared.access.Commit.{Commit}
 use Rattle.tcc_base.specs.declared.names.Tid.{Tid}
+use Rattle.tcc_maps.specs.Bridge.{node_of}
 use Rattle.tcc_maps.specs.Nodes.{Node, Msg as PlainMsg, Inv, Event}
 use Rattle.tcc_msg.specs.Plain.{msg_of, sends_of}
 use Rattle.tcc_rules.specs.DirDeliver.{Answer, Waits}
 use Rattle.tcc_rules.specs.State.{CoreState}
-use Rattle.tcc_rules.specs.Step.{next_history}
+use Rattle.tcc_rules.specs.Step.{is_node, next_history}
 use Rattle.tcc_rules.specs.Useful.{nodes}
 use Rattle.commit_engine.specs.Engine.{phase_of}
 use Rattle.net_core.specs.Answers.{Kept, IsSent, acts_in, step_of, tid_noted, tid_told}
@@ -43,11 +44,12 @@ pub record SawMessage (seen : SeenBy) (src : Node) (m : PlainMsg) (commits : Lis
 
 -- ---- the step
 
--- the event was taken, and all that was sent stands on its links
+-- the event was taken, and all that was sent stands on its links, between nodes that exist
 pub record Advanced (old new : Machine) (e : Event) (told : Step) : Type 0 where
   pub next : next_history (settings_of old) (program_of old) (history_of old) e ≡ Some (history_of new)
   pub tells : tid_told told ≡ tid_noted (step_of old e)
   pub sent : IsSent (world_of old) (world_of new) (acts_in e) (sends_of new.last)
+  pub ends : All (λ m. is_node (settings_of new) (node_of m.0) ≡ true) new.last
   pub settled : new.unsent ≡ []
   pub events : new.events ≡ old.events + 1
   pub code : new.cores.code ≡ old.cores.code

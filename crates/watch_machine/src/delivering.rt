@@ -16,13 +16,13 @@ ghost use Rattle.watch.specs.Facts.{Took};
 ghost use Rattle.watch.specs.Messages.{awaits as awaits_line, grant_given_up, has_probed as probed, is_of_use as of_use};
 ghost use Rattle.watch.specs.Messages.{taken, tid_in as tid_of_phase, violated, waits_for_tid as waits};
 ghost use Rattle.watch.specs.Plain.{fact_of};
-ghost use Rattle.watch_machine.specs.Telling.{HasRoomFor, SawMessage, commit_told, last_facts, told_of};
-ghost use Rattle.watch_machine.specs.Watched.{Watched};
+ghost use Rattle.watch_machine.specs.Telling.{SawMessage, commit_told, told_of};
+ghost use Rattle.watch_machine.specs.Watched.{WatchedNode};
 
 use crate::answering::{Became, what_became};
 use crate::commits::tell_commit;
 use crate::moving::{tell_phase, tell_serving};
-use crate::sending::{advance, tell_sent};
+use crate::sending::advance;
 use commit_engine::Phase;
 use core_node::{Awaited, CoreNode};
 use live_core::machines_are_live;
@@ -228,25 +228,21 @@ fn tell_core(
     step: Step,
     facts: &mut List<Fact>,
 ) -> Result<(), NoMemory>
-    requires core { id.0 < (settings_of system.now).cores }
-    requires settled { system.now.unsent ≡ [] }
-    requires room { HasRoomFor system.now (Core id.0) }
+    requires { id.0 < (settings_of system.now).cores }
     ensures { (src : Node) (m : PlainMsg) (cs : Seq Commit) (s : CoreState) → SawMessage seen.now src m cs s
         → OnOk result (map fact_of facts.new ≡ map fact_of facts.old
         ++ (taken src m s
         ++ (violated id.0 cs m s ((world_of system.now).cores id.0)
         ++ (grant_given_up id.0 m s.phase
         ++ (commit_told (tid_told step) system.now.commits
-        ++ (phase_fact id.0 s.phase ((world_of system.now).cores id.0).phase
-        ++ last_facts system.now (Core id.0))))))) }
+        ++ phase_fact id.0 s.phase ((world_of system.now).cores id.0).phase))))) }
 {
     let core = system.core(id);
     tell_taken(seen, facts)?;
     tell_violated(id, seen, core.instructions(), facts)?;
     tell_given_up(id, seen, facts)?;
     tell_commit(system.commits(), step, facts)?;
-    tell_phase(id, seen.phase, core.phase(), facts)?;
-    tell_sent(system, NodeId::Core(id), facts)
+    tell_phase(id, seen.phase, core.phase(), facts)
 }
 
 /// A message that is in flight to a core is delivered.
@@ -261,7 +257,7 @@ pub(crate) fn watch_core(
     requires empty { facts.old ≡ [] }
     requires flies { in_flight (world_of system.old).net (node_of name.src) (Core id.0) name.seq ≡ Some (msg_of msg) }
     requires destination { name.dst ≡ NodeId.Core id }
-    ensures { Watched system.old system.new (Deliver (node_of name.src) (Core id.0) name.seq) facts.new result }
+    ensures { WatchedNode system.old system.new (Deliver (node_of name.src) (Core id.0) name.seq) facts.new result }
 {
     machines_are_live(system);
     let seen = look(system.core(id), system.commits(), name.src, msg);
@@ -282,17 +278,14 @@ fn tell_dir(
     step: Step,
     facts: &mut List<Fact>,
 ) -> Result<(), NoMemory>
-    requires dir { dir.0 < (settings_of system.now).dirs }
-    requires settled { system.now.unsent ≡ [] }
-    requires room { HasRoomFor system.now (Dir dir.0) }
+    requires { dir.0 < (settings_of system.now).dirs }
     ensures { OnOk result (map fact_of facts.new ≡ map fact_of facts.old
         ++ (fact_of fact ∷ (commit_told (tid_told step) system.now.commits
-        ++ (serves_fact dir.0 before.0 ((world_of system.now).dirs dir.0).serving.serving ++ last_facts system.now (Dir dir.0))))) }
+        ++ serves_fact dir.0 before.0 ((world_of system.now).dirs dir.0).serving.serving))) }
 {
     facts.push(fact)?;
     tell_commit(system.commits(), step, facts)?;
-    tell_serving(dir, before, system.serving(dir), facts)?;
-    tell_sent(system, NodeId::Dir(dir), facts)
+    tell_serving(dir, before, system.serving(dir), facts)
 }
 
 /// The fact of what became of a message.
@@ -320,7 +313,7 @@ pub(crate) fn watch_dir(
     requires flies { in_flight (world_of system.old).net (Core core.0) (Dir dir.0) name.seq ≡ Some (msg_of msg) }
     requires source { name.src ≡ NodeId.Core core }
     requires destination { name.dst ≡ NodeId.Dir dir }
-    ensures { Watched system.old system.new (Deliver (Core core.0) (Dir dir.0) name.seq) facts.new result }
+    ensures { WatchedNode system.old system.new (Deliver (Core core.0) (Dir dir.0) name.seq) facts.new result }
 {
     machines_are_live(system);
     let fact = fact_of_message(what_became(system, dir, core, &msg), msg);
@@ -340,14 +333,11 @@ fn tell_vendor(
     step: Step,
     facts: &mut List<Fact>,
 ) -> Result<(), NoMemory>
-    requires settled { system.now.unsent ≡ [] }
-    requires room { HasRoomFor system.now Vendor }
     ensures { OnOk result (map fact_of facts.new ≡ map fact_of facts.old ++ (Took (msg_of msg)
-        ∷ (commit_told (tid_told step) system.now.commits ++ last_facts system.now Vendor))) }
+        ∷ commit_told (tid_told step) system.now.commits)) }
 {
     facts.push(Fact::Took(msg))?;
-    tell_commit(system.commits(), step, facts)?;
-    tell_sent(system, NodeId::Vendor, facts)
+    tell_commit(system.commits(), step, facts)
 }
 
 /// A core's message that is in flight to the vendor is delivered.
@@ -363,7 +353,7 @@ pub(crate) fn watch_vendor(
     requires flies { in_flight (world_of system.old).net (Core core.0) Vendor name.seq ≡ Some (msg_of msg) }
     requires source { name.src ≡ NodeId.Core core }
     requires destination { name.dst ≡ NodeId.Vendor }
-    ensures { Watched system.old system.new (Deliver (Core core.0) Vendor name.seq) facts.new result }
+    ensures { WatchedNode system.old system.new (Deliver (Core core.0) Vendor name.seq) facts.new result }
 {
     system.events();
     let step = advance(system, Event::Deliver(name))?;

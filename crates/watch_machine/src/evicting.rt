@@ -1,21 +1,21 @@
 // A way is emptied.
 ghost use Rattle.std.specs.Prelude.{◌≡◌, ◌≢◌, ◌++◌, ◌<◌, [], None, OnOk, map};
 ghost use Rattle.std.specs.Option.{option_to_list};
-ghost use Rattle.tcc_maps.specs.Nodes.{Core, Evict};
+ghost use Rattle.tcc_maps.specs.Nodes.{Evict};
 ghost use Rattle.commit_engine.specs.Engine.{phase_of};
 ghost use Rattle.net_core.specs.Answers.{step_of, tid_told};
 ghost use Rattle.net_core.specs.Machine.{settings_of, world_of};
 ghost use Rattle.watch.specs.Happened.{phase_fact};
 ghost use Rattle.watch.specs.Plain.{fact_of};
-ghost use Rattle.watch_machine.specs.Telling.{HasRoomFor, commit_told, last_facts};
-ghost use Rattle.watch_machine.specs.Watched.{Watched};
+ghost use Rattle.watch_machine.specs.Telling.{commit_told};
+ghost use Rattle.watch_machine.specs.Watched.{WatchedNode};
 
 use crate::commits::tell_commit;
 use crate::moving::tell_phase;
-use crate::sending::{advance, tell_sent};
+use crate::sending::advance;
 use commit_engine::Phase;
 use net_core::{Step, StepError, System};
-use tcc_base::{CoreId, List, NoMemory, NodeId};
+use tcc_base::{CoreId, List, NoMemory};
 use tcc_msg::Event;
 use watch::Fact;
 use watch_core::evicted;
@@ -29,19 +29,16 @@ fn tell_evict(
     step: Step,
     facts: &mut List<Fact>,
 ) -> Result<(), NoMemory>
-    requires core { id.0 < (settings_of system.now).cores }
-    requires settled { system.now.unsent ≡ [] }
-    requires room { HasRoomFor system.now (Core id.0) }
+    requires { id.0 < (settings_of system.now).cores }
     ensures { OnOk result (map fact_of facts.new ≡ map fact_of facts.old ++ (map fact_of (option_to_list held)
         ++ (commit_told (tid_told step) system.now.commits
-        ++ (phase_fact id.0 (phase_of before) ((world_of system.now).cores id.0).phase ++ last_facts system.now (Core id.0))))) }
+        ++ phase_fact id.0 (phase_of before) ((world_of system.now).cores id.0).phase))) }
 {
     if let Some(fact) = held {
         facts.push(fact)?;
     }
     tell_commit(system.commits(), step, facts)?;
-    tell_phase(id, before, system.core(id).phase(), facts)?;
-    tell_sent(system, NodeId::Core(id), facts)
+    tell_phase(id, before, system.core(id).phase(), facts)
 }
 
 /// A way of a core is emptied, which is enabled.
@@ -55,7 +52,7 @@ pub(crate) fn watch_evict(
     requires few { system.old.events < 4194304 }
     requires empty { facts.old ≡ [] }
     requires enabled { step_of system.old (Evict id.0 set way) ≢ None }
-    ensures { Watched system.old system.new (Evict id.0 set way) facts.new result }
+    ensures { WatchedNode system.old system.new (Evict id.0 set way) facts.new result }
 {
     let core = system.core(id);
     let held = evicted(core, id, set, way);

@@ -2,7 +2,7 @@
 ghost use Rattle.std.specs.Prelude.{◌≡◌, ◌≢◌, ◌++◌, ◌<◌, [], None, OnOk, map};
 ghost use Rattle.std.specs.Option.{option_to_list};
 ghost use Rattle.tcc_program.specs.Program.{Program};
-ghost use Rattle.tcc_maps.specs.Nodes.{Core as CoreOf, Exec};
+ghost use Rattle.tcc_maps.specs.Nodes.{Exec};
 ghost use Rattle.tcc_rules.specs.State.{CoreState};
 ghost use Rattle.core_node.specs.View.{core_of};
 ghost use Rattle.net_core.specs.Answers.{step_of, tid_told};
@@ -11,16 +11,16 @@ ghost use Rattle.net_core.specs.Machine.{program_of, settings_of, world_of};
 ghost use Rattle.watch.specs.Instructions.{executed};
 ghost use Rattle.watch.specs.Plain.{fact_of};
 ghost use Rattle.watch_core.specs.Seen.{Saw};
-ghost use Rattle.watch_machine.specs.Telling.{HasRoomFor, commit_told, last_facts};
-ghost use Rattle.watch_machine.specs.Watched.{Watched};
+ghost use Rattle.watch_machine.specs.Telling.{commit_told};
+ghost use Rattle.watch_machine.specs.Watched.{WatchedNode};
 
 use crate::commits::tell_commit;
 use crate::moving::tell_phase;
-use crate::sending::{advance, tell_sent};
+use crate::sending::advance;
 use commit_engine::Phase;
 use core_node::CoreNode;
 use net_core::{Step, StepError, System};
-use tcc_base::{Config, CoreId, List, NoMemory, NodeId};
+use tcc_base::{Config, CoreId, List, NoMemory};
 use tcc_msg::Event;
 use watch::Fact;
 use watch_core::{Seen, addr_of, line_at, look_at, what_done};
@@ -76,22 +76,18 @@ fn tell_exec(
     step: Step,
     facts: &mut List<Fact>,
 ) -> Result<(), NoMemory>
-    requires core { id.0 < (settings_of system.now).cores }
-    requires settled { system.now.unsent ≡ [] }
-    requires room { HasRoomFor system.now (CoreOf id.0) }
+    requires { id.0 < (settings_of system.now).cores }
     ensures { (s : CoreState) → Saw seen (program_of system.now) s → OnOk result (map fact_of facts.new ≡ map fact_of facts.old
         ++ (executed (settings_of system.now) (program_of system.now) id.0 s ((world_of system.now).cores id.0)
         ++ (commit_told (tid_told step) system.now.commits
-        ++ (phase_fact id.0 s.phase ((world_of system.now).cores id.0).phase
-        ++ last_facts system.now (CoreOf id.0))))) }
+        ++ phase_fact id.0 s.phase ((world_of system.now).cores id.0).phase))) }
 {
     let node = system.core(id);
     if let Some(fact) = attempted(system.config(), node, id, seen) {
         facts.push(fact)?;
     }
     tell_commit(system.commits(), step, facts)?;
-    tell_phase(id, seen.phase, node.phase(), facts)?;
-    tell_sent(system, NodeId::Core(id), facts)
+    tell_phase(id, seen.phase, node.phase(), facts)
 }
 
 /// A core executes, which is enabled.
@@ -103,7 +99,7 @@ pub(crate) fn watch_exec(
     requires few { system.old.events < 4194304 }
     requires empty { facts.old ≡ [] }
     requires enabled { step_of system.old (Exec id.0) ≢ None }
-    ensures { Watched system.old system.new (Exec id.0) facts.new result }
+    ensures { WatchedNode system.old system.new (Exec id.0) facts.new result }
 {
     let seen = look(system, id);
     system.events();

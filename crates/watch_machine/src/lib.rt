@@ -1,5 +1,5 @@
 //! Takes an event on the machine and tells what it did: `watch` looks at the acting node before and after, and its contract says that
-//! the facts are those that `happened` of the crate `watch` defines by the rules' states alone.
+//! the facts are those that `happened` of the crate `watch` defines by the rules' states alone. `watch_node` leaves out what was sent.
 #![tactic(auto)]
 
 mod answering;
@@ -11,4 +11,4 @@ mod moving;
 mod sending;
 mod watching;
 
-pub use watching::watch;
+pub use watching::{actor, watch, watch_node};

@@ -8,6 +8,7 @@ ghost use Rattle.watch.specs.Plain.{fact_of};
 ghost use Rattle.watch_machine.specs.Rising.{Rises, each_told, place_of as plain_place_of};
 ghost use Rattle.watch_machine.specs.Telling.{Advances, HasRoomFor, last_facts, last_to, numbered_from};
 
+use live_core::machines_are_live;
 use net_core::{Step, StepError, System, node_at, node_count};
 use tcc_base::{Config, List, NoMemory, NodeId};
 use tcc_msg::{Event, Msg};
@@ -20,7 +21,10 @@ pub(crate) fn advance(system: &mut System, e: Event) -> Result<Step, StepError>
 {
     let step = system.step(e)?;
     match system.settle() {
-        Ok(()) => Ok(step),
+        Ok(()) => {
+            machines_are_live(system);
+            Ok(step)
+        }
         Err(NoMemory) => Err(StepError::Memory),
     }
 }

@@ -3,15 +3,27 @@ ghost use Rattle.std.specs.Prelude.{◌≡◌, ◌<◌, []};
 ghost use Rattle.tcc_maps.specs.Bridge.{node_of};
 ghost use Rattle.tcc_maps.specs.Nodes.{Deliver};
 ghost use Rattle.tcc_msg.specs.Plain.{event_of};
-ghost use Rattle.watch_machine.specs.Watched.{Watched};
+ghost use Rattle.watch.specs.Happened.{actor as plain_actor};
+ghost use Rattle.watch_machine.specs.Watched.{Watched, WatchedNode};
 
 use crate::delivering::{watch_core, watch_dir, watch_vendor};
 use crate::evicting::watch_evict;
 use crate::executing::watch_exec;
+use crate::sending::tell_sent;
 use net_core::{StepError, System};
-use tcc_base::{List, NodeId};
+use tcc_base::{List, NoMemory, NodeId};
 use tcc_msg::{Event, Name};
 use watch::Fact;
+
+/// The node at which an event happens.
+pub fn actor(e: Event) -> NodeId
+    ensures { node_of result ≡ plain_actor (event_of e) }
+{
+    match e {
+        Event::Exec(core) | Event::Evict(core, _, _) => NodeId::Core(core),
+        Event::Deliver(name) => name.dst,
+    }
+}
 
 /// Takes an event, which may name anything, and leaves in `facts` what it did, in place of what stood there. Behind it all that was sent
 /// stands on its links.
@@ -24,6 +36,19 @@ use watch::Fact;
 pub fn watch(system: &mut System, e: Event, facts: &mut List<Fact>) -> Result<(), StepError>
     requires few { system.old.events < 4194304 }
     ensures { Watched system.old system.new (event_of e) facts.new result }
+{
+    watch_node(system, e, facts)?;
+    match tell_sent(system, actor(e), facts) {
+        Ok(()) => Ok(()),
+        Err(NoMemory) => Err(StepError::Memory),
+    }
+}
+
+/// As `watch`, but what the event sent isn't told; it is what `last_sent` of the machine gives. This is for those to whom the numbers of
+/// messages and the order of their destinations don't matter. The time is that of the event, with a constant for each fact.
+pub fn watch_node(system: &mut System, e: Event, facts: &mut List<Fact>) -> Result<(), StepError>
+    requires few { system.old.events < 4194304 }
+    ensures { WatchedNode system.old system.new (event_of e) facts.new result }
 {
     facts.items.clear();
     match e {
@@ -47,7 +72,7 @@ pub fn watch(system: &mut System, e: Event, facts: &mut List<Fact>) -> Result<()
 fn watch_delivery(system: &mut System, name: Name, facts: &mut List<Fact>) -> Result<(), StepError>
     requires few { system.old.events < 4194304 }
     requires empty { facts.old ≡ [] }
-    ensures { Watched system.old system.new (Deliver (node_of name.src) (node_of name.dst) name.seq) facts.new result }
+    ensures { WatchedNode system.old system.new (Deliver (node_of name.src) (node_of name.dst) name.seq) facts.new result }
 {
     let Some(&msg) = system.in_flight(name) else {
         return Err(StepError::Refused);

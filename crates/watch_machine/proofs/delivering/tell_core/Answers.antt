@@ -1,7 +1,7 @@
 -- One fact after another is told.
 use Rattle.std.proofs.Common.{◌≡◌, ◌++◌, List, Result, Ok, Err, OnOk, map, ap, ◌∙◌, append_assoc}
 use Rattle.tcc_base.specs.declared.collections.NoMemory.{NoMemory}
-use Rattle.tcc_maps.specs.Nodes.{Core}
+use Rattle.commit_engine.specs.Engine.{phase_of}
 use Rattle.core_node.specs.View.{core_of}
 use Rattle.net_core.specs.Answers.{tid_told}
 use Rattle.net_core.specs.Machine.{world_of}
@@ -9,7 +9,7 @@ use Rattle.watch.specs.Facts.{Fact}
 use Rattle.watch.specs.Happened.{phase_fact}
 use Rattle.watch.specs.Messages.{grant_given_up, taken, violated}
 use Rattle.watch.specs.Plain.{fact_of}
-use Rattle.watch_machine.specs.Telling.{commit_told, last_facts}
+use Rattle.watch_machine.specs.Telling.{commit_told}
 use Rattle.watch_machine.proofs.delivering.tell_core.Goals as goal
 
 on-ok : (r : Result (Unit {0}) NoMemory) (P Q : Type 0) → (P → Q) → OnOk r P → OnOk r Q
@@ -31,23 +31,20 @@ returns c = λ src m cs s saw.
     ∙ (λ i. map fact_of c.tell_violated.new.facts ++ grant_given_up id (saw.msg i) (saw.phase i)) in
     let commit = c.in_ok-tell_commit.ensures
     ∙ ap (λ cs. map fact_of c.tell_given_up.new.facts ++ commit_told (tid_told c.args.step) cs) c.commits.ensures in
-    let phase = c.in_ok-tell_phase.ensures
-    ∙ (λ i. map fact_of c.tell_commit.new.facts ++ phase_fact id (saw.phase i) (after i)) in
     let f0 = map fact_of c.args.facts.now in
     let f1 = map fact_of c.tell_taken.new.facts in
     let f2 = map fact_of c.tell_violated.new.facts in
     let f3 = map fact_of c.tell_given_up.new.facts in
     let f4 = map fact_of c.tell_commit.new.facts in
     let f5 = map fact_of c.tell_phase.new.facts in
-    let f6 = map fact_of c.tell_sent.new.facts in
     let a = taken src m s in
     let b = violated id cs m s t in
     let d = grant_given_up id m s.phase in
     let e = commit_told (tid_told c.args.step) c.args.system.now.commits in
     let g = phase_fact id s.phase t.phase in
-    let h = last_facts c.args.system.now (Core id) in
-    on-ok c.tell_sent.result (f6 ≡ f5 ++ h) (f6 ≡ f0 ++ (a ++ (b ++ (d ++ (e ++ (g ++ h))))))
-    (λ last. and-then f1 f0 a (b ++ (d ++ (e ++ (g ++ h)))) f6 (c.in_ok-tell_taken.ensures src m cs s saw)
-    (and-then f2 f1 b (d ++ (e ++ (g ++ h))) f6 (c.in_ok-tell_violated.ensures src m cs s t saw n)
-    (and-then f3 f2 d (e ++ (g ++ h)) f6 given (and-then f4 f3 e (g ++ h) f6 commit (and-then f5 f4 g h f6 phase last)))))
-    c.tell_sent.ensures
+    on-ok c.tell_phase.result (f5 ≡ f4 ++ phase_fact id (phase_of c.args.seen.now.phase) (phase_of c.phase.result))
+    (f5 ≡ f0 ++ (a ++ (b ++ (d ++ (e ++ g)))))
+    (λ last. and-then f1 f0 a (b ++ (d ++ (e ++ g))) f5 (c.in_ok-tell_taken.ensures src m cs s saw)
+    (and-then f2 f1 b (d ++ (e ++ g)) f5 (c.in_ok-tell_violated.ensures src m cs s t saw n)
+    (and-then f3 f2 d (e ++ g) f5 given (and-then f4 f3 e g f5 commit (last ∙ (λ i. f4 ++ phase_fact id (saw.phase i) (after i)))))))
+    c.tell_phase.ensures

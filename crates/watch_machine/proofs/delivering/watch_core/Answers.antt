@@ -7,9 +7,9 @@ use Rattle.core_node.specs.View.{IsKnown, core_of}
 use Rattle.net_core.specs.Machine.{settings_of, world_of}
 use Rattle.watch.specs.Messages.{grant_given_up, taken, violated}
 use Rattle.watch.specs.Plain.{fact_of}
-use Rattle.watch_machine.specs.Telling.{Advanced, SawMessage}
+use Rattle.watch_machine.specs.Telling.{SawMessage}
 use Rattle.watch_machine.proofs.Enabled.{flying-ends as ends, is-below, known, taken-enabled}
-use Rattle.watch_machine.proofs.Happening.{advanced-to, flown, joined, room-for, told-all, told_behind}
+use Rattle.watch_machine.proofs.Happening.{advanced-to, flown, joined, told-all, told_behind}
 use Rattle.watch_machine.proofs.delivering.watch_core.Goals as goal
 
 pub core-requires : goal.core-requires
@@ -25,22 +25,12 @@ look-seen-requires c =
     (ends c.args.system.now (node_of c.args.name.src) (Core c.args.id.0) c.args.name.seq (msg_of c.args.msg) c.machines_are_live.ensures
     c.requires.flies).from)
 
-pub tell_core-requires-clause-core : goal.tell_core-requires-clause-core
-tell_core-requires-clause-core c =
+pub tell_core-requires : goal.tell_core-requires
+tell_core-requires c =
     subst (λ k. c.args.id.0 < k.settings.cores) (sym c.in_ok-step.ensures.code)
     (is-below c.args.id.0 (settings_of c.args.system.now).cores
     (ends c.args.system.now (node_of c.args.name.src) (Core c.args.id.0) c.args.name.seq (msg_of c.args.msg) c.machines_are_live.ensures
     c.requires.flies).to)
-
--- the event, where its destination is known
-went : (c : goal.After-tell_core-arg-1) → Advanced c.args.system.now c.advance.new.system
-    (Deliver (node_of c.args.name.src) (Core c.args.id.0) c.args.name.seq) c.in_ok-step.step
-went c =
-    advanced-to c.args.system.now c.advance.new.system (node_of c.args.name.src) _ _ c.args.name.seq c.in_ok-step.step
-    c.requires.destination c.in_ok-step.ensures
-
-pub tell_core-requires-clause-room : goal.tell_core-requires-clause-room
-tell_core-requires-clause-room c = room-for c.args.system.now c.advance.new.system (Core c.args.id.0) (went c).sent
 
 pub returns-in-Ok : goal.returns-in-Ok
 returns-in-Ok c =

@@ -7,9 +7,9 @@ use Rattle.net_core.specs.Answers.{tid_told}
 use Rattle.net_core.specs.Machine.{settings_of, world_of}
 use Rattle.watch.specs.Happened.{serves_fact}
 use Rattle.watch.specs.Plain.{fact_of}
-use Rattle.watch_machine.specs.Telling.{Advanced, commit_told, last_facts}
+use Rattle.watch_machine.specs.Telling.{commit_told}
 use Rattle.watch_machine.proofs.Enabled.{answer-told, flying-ends as ends, is-below, taken-enabled}
-use Rattle.watch_machine.proofs.Happening.{advanced-from, advanced-to, flown, room-for, told-all}
+use Rattle.watch_machine.proofs.Happening.{advanced-from, advanced-to, flown, told-all}
 use Rattle.watch_machine.proofs.delivering.watch_dir.Goals as goal
 
 pub what_became-requires-clause-dir : goal.what_became-requires-clause-dir
@@ -28,23 +28,12 @@ serving-before-requires c =
     (ends c.args.system.now (Core c.args.core.0) (Dir c.args.dir.0) c.args.name.seq (msg_of c.args.msg) c.machines_are_live.ensures
     c.requires.flies).to
 
-pub tell_dir-requires-clause-dir : goal.tell_dir-requires-clause-dir
-tell_dir-requires-clause-dir c =
+pub tell_dir-requires : goal.tell_dir-requires
+tell_dir-requires c =
     subst (λ k. c.args.dir.0 < k.settings.dirs) (sym c.in_ok-step.ensures.code)
     (is-below c.args.dir.0 (settings_of c.args.system.now).dirs
     (ends c.args.system.now (Core c.args.core.0) (Dir c.args.dir.0) c.args.name.seq (msg_of c.args.msg) c.machines_are_live.ensures
     c.requires.flies).to)
-
--- the event, where its source and destination are known
-went : (c : goal.After-tell_dir-arg-1) → Advanced c.args.system.now c.advance.new.system
-    (Deliver (Core c.args.core.0) (Dir c.args.dir.0) c.args.name.seq) c.in_ok-step.step
-went c =
-    advanced-from c.args.system.now c.advance.new.system _ _ (Dir c.args.dir.0) c.args.name.seq c.in_ok-step.step c.requires.source
-    (advanced-to c.args.system.now c.advance.new.system (node_of c.args.name.src) _ _ c.args.name.seq c.in_ok-step.step
-    c.requires.destination c.in_ok-step.ensures)
-
-pub tell_dir-requires-clause-room : goal.tell_dir-requires-clause-room
-tell_dir-requires-clause-room c = room-for c.args.system.now c.advance.new.system (Dir c.args.dir.0) (went c).sent
 
 pub returns-in-Ok : goal.returns-in-Ok
 returns-in-Ok c =
@@ -62,7 +51,7 @@ returns-in-Ok c =
     told-all m n e c.in_ok-step.step c.tell_dir.new.facts c.events.ensures.reached a
     (c.in-Ok.ensures
     ∙ (λ i. map fact_of (c.requires.empty i) ++ (told i ++ (commit_told (tid_told c.in_ok-step.step) n.commits
-    ++ (serves_fact dir (c.serving-before.ensures i) ((world_of n).dirs dir).serving.serving ++ last_facts n (Dir dir))))))
+    ++ serves_fact dir (c.serving-before.ensures i) ((world_of n).dirs dir).serving.serving))))
 
 pub returns-in-Err : goal.returns-in-Err
 returns-in-Err c =

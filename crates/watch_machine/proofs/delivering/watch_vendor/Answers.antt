@@ -1,25 +1,15 @@
--- The request is taken, and what is told behind it is what was sent.
-use Rattle.std.proofs.Common.{◌++◌, ◌∷◌, map, ap, sym, ◌∙◌}
+-- The request is taken, and a commit is told behind it.
+use Rattle.std.proofs.Common.{◌++◌, ◌∷◌, append-nil, map, ap, sym, ◌∙◌}
 use Rattle.tcc_maps.specs.Bridge.{node_of}
 use Rattle.tcc_maps.specs.Nodes.{Core, Vendor, Deliver}
 use Rattle.tcc_msg.specs.Plain.{msg_of}
+use Rattle.net_core.specs.Answers.{tid_told}
 use Rattle.watch.specs.Facts.{Took}
 use Rattle.watch.specs.Plain.{fact_of}
-use Rattle.watch_machine.specs.Telling.{Advanced}
+use Rattle.watch_machine.specs.Telling.{commit_told}
 use Rattle.watch_machine.proofs.Enabled.{taken-enabled}
-use Rattle.watch_machine.proofs.Happening.{advanced-from, advanced-to, flown, room-for, told-all, told_behind}
+use Rattle.watch_machine.proofs.Happening.{advanced-from, advanced-to, flown, told-all, told_behind}
 use Rattle.watch_machine.proofs.delivering.watch_vendor.Goals as goal
-
--- the event, where its source and destination are known
-went : (c : goal.After-tell_vendor-arg-1) → Advanced c.args.system.now c.advance.new.system
-    (Deliver (Core c.args.core.0) Vendor c.args.name.seq) c.in_ok-step.step
-went c =
-    advanced-from c.args.system.now c.advance.new.system _ _ Vendor c.args.name.seq c.in_ok-step.step c.requires.source
-    (advanced-to c.args.system.now c.advance.new.system (node_of c.args.name.src) _ _ c.args.name.seq c.in_ok-step.step
-    c.requires.destination c.in_ok-step.ensures)
-
-pub tell_vendor-requires-clause-room : goal.tell_vendor-requires-clause-room
-tell_vendor-requires-clause-room c = room-for c.args.system.now c.advance.new.system Vendor (went c).sent
 
 pub returns-in-Ok : goal.returns-in-Ok
 returns-in-Ok c =
@@ -32,9 +22,11 @@ returns-in-Ok c =
     let a = advanced-from m n _ _ Vendor k c.in_ok-step.step c.requires.source
     (advanced-to m n (node_of c.args.name.src) _ _ k c.in_ok-step.step c.requires.destination c.in_ok-step.ensures) in
     let behind = told_behind m n e c.in_ok-step.step in
+    let noted = commit_told (tid_told c.in_ok-step.step) n.commits in
     told-all m n e c.in_ok-step.step c.tell_vendor.new.facts c.events.ensures.reached a
     (c.in-Ok.ensures
-    ∙ ap (λ fs. map fact_of fs ++ (Took x ∷ behind)) c.requires.empty
+    ∙ ap (λ fs. map fact_of fs ++ (Took x ∷ noted)) c.requires.empty
+    ∙ ap (λ fs. Took x ∷ fs) (sym (append-nil noted))
     ∙ ap (λ fs. fs ++ behind) (sym (flown m n (Core core) Vendor k x c.requires.flies)))
 
 pub returns-in-Err : goal.returns-in-Err

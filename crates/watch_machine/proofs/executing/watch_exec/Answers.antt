@@ -2,26 +2,22 @@
 use Rattle.std.proofs.Common.{◌<◌, ◌++◌, map, ap, sym, ◌∙◌, subst}
 use Rattle.image_load.specs.Contents.{started}
 use Rattle.rv_code.specs.Machine.{program}
-use Rattle.tcc_maps.specs.Nodes.{Core, Exec}
+use Rattle.tcc_maps.specs.Nodes.{Exec}
 use Rattle.net_core.specs.Machine.{settings_of, world_of}
 use Rattle.watch.specs.Instructions.{executed}
 use Rattle.watch.specs.Plain.{fact_of}
 use Rattle.watch_core.specs.Seen.{Saw}
 use Rattle.watch_machine.proofs.Enabled.{core-named}
-use Rattle.watch_machine.proofs.Happening.{room-for, told-all, told_behind}
+use Rattle.watch_machine.proofs.Happening.{told-all, told_behind}
 use Rattle.watch_machine.proofs.executing.watch_exec.Goals as goal
 
 pub look-seen-requires : goal.look-seen-requires
 look-seen-requires c = core-named c.args.system.now c.args.id.0 c.requires.enabled
 
-pub tell_exec-requires-clause-core : goal.tell_exec-requires-clause-core
-tell_exec-requires-clause-core c =
+pub tell_exec-requires : goal.tell_exec-requires
+tell_exec-requires c =
     subst (λ k. c.args.id.0 < k.settings.cores) (sym c.in_ok-step.ensures.code)
     (core-named c.args.system.now c.args.id.0 c.requires.enabled)
-
-pub tell_exec-requires-clause-room : goal.tell_exec-requires-clause-room
-tell_exec-requires-clause-room c =
-    room-for c.args.system.now c.advance.new.system (Core c.args.id.0) c.in_ok-step.ensures.sent
 
 pub returns-in-Ok : goal.returns-in-Ok
 returns-in-Ok c =
