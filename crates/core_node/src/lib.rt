@@ -19,6 +19,7 @@ mod node;
 mod overflowing;
 mod quick;
 mod rolling;
+mod sets;
 mod state;
 mod storing;
 mod useful;
