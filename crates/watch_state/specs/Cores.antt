@@ -95,3 +95,10 @@ cached_records sh c s =
 
 unfoldable pub core_records : Shape → (core : ℕ) → CoreState → List Record
 core_records sh c s = attempt_records sh c s ++ (register_records c s ++ cached_records sh c s)
+
+-- the same with the frames of some sets alone
+unfoldable pub core_part : Shape → (core : ℕ) → (sets : List ℕ) → CoreState → List Record
+core_part sh c sets s =
+    attempt_records sh c s
+    ++ (register_records c s
+    ++ (flat_map (set_records c sh.ways s.cache) sets ++ flat_map (spilled_records sh c s.spilled) (numbers (lines sh))))

@@ -1,6 +1,6 @@
 // What the ways of a cache hold, each record appended to a list. Where memory runs out, the list holds a part of it.
 ghost use Rattle.std.specs.Prelude.{◌≡◌, ◌<◌, ◌++◌, ◌==◌, ◌∷◌, [], OnOk, get_or, map, if◌then◌else◌};
-ghost use Rattle.std.specs.List.{flat_map};
+ghost use Rattle.std.specs.List.{All, flat_map};
 ghost use Rattle.tcc_maps.specs.Masks.{has, masked};
 ghost use Rattle.tcc_rules.specs.Seen.{numbers};
 ghost use Rattle.core_node.specs.View.{core_of};
@@ -135,6 +135,25 @@ pub(crate) fn add_ways(
 {
     for set in 0..sets {
         add_set(records, id, core, set, ways)?;
+    }
+    Ok(())
+}
+
+/// What the ways of some sets hold.
+pub(crate) fn add_sets(
+    records: &mut List<Record>,
+    id: CoreId,
+    core: &CoreNode,
+    sets: &[u16],
+    ways: u8,
+) -> Result<(), NoMemory>
+    requires exist { All (λ x. x < core.now.config.sets) sets.now }
+    requires ways { ways ≡ core.now.config.ways }
+    ensures { OnOk result (map record_of records.new
+        ≡ map record_of records.old ++ flat_map (set_records id.0 ways (core_of core.now).cache) sets.now) }
+{
+    for set in sets {
+        add_set(records, id, core, *set, ways)?;
     }
     Ok(())
 }

@@ -23,7 +23,7 @@ pub use attempts::add_progress;
 pub use cores::add_cached;
 pub use lines::{push_flight, push_record, push_records};
 pub use links::push_links;
-pub use nodes::{add_core_of, add_directory_of, add_directory_part, add_vendor};
+pub use nodes::{add_core_of, add_core_part, add_directory_of, add_directory_part, add_vendor};
 pub use numbers::{only_below, push_numbers};
 pub use records::{Known, Record};
 pub use registers::add_registers;

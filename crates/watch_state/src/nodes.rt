@@ -5,7 +5,7 @@ ghost use Rattle.rv_code.specs.Machine.{first_ram};
 ghost use Rattle.tcc_maps.specs.Shape.{lines};
 ghost use Rattle.tcc_rules.specs.Seen.{numbers};
 ghost use Rattle.net_core.specs.Machine.{settings_of, start_of, world_of};
-ghost use Rattle.watch_state.specs.Cores.{core_records};
+ghost use Rattle.watch_state.specs.Cores.{core_part, core_records};
 ghost use Rattle.watch_state.specs.Directories.{directory_part, directory_records};
 ghost use Rattle.watch_state.specs.Lines.{record_lines};
 ghost use Rattle.watch_state.specs.Plain.{record_of};
@@ -13,7 +13,7 @@ ghost use Rattle.watch_state.specs.Records.{VendorIs};
 ghost use Rattle.watch_state.specs.Text.{node_records};
 
 use crate::attempts::add;
-use crate::cores::add_core;
+use crate::cores::{add_core, add_part_of_core};
 use crate::directories::{add_directory, add_part};
 use crate::lines::push_records;
 use crate::records::Record;
@@ -39,6 +39,23 @@ pub fn add_core_of(
         ++ core_records (settings_of system.now) core.0 ((world_of system.now).cores core.0)) }
 {
     add_core(records, core, system.core(core))
+}
+
+/// Appends the records of a core of the machine, but of its frames only those of some sets. It takes time in its registers, the
+/// directories and the ways of these sets, and in the lines of RAM only while it has spilled words. After want of memory a part of them may
+/// stand there.
+pub fn add_core_part(
+    records: &mut List<Record>,
+    system: &System,
+    core: CoreId,
+    sets: &[u16],
+) -> Result<(), NoMemory>
+    requires exists { core.0 < (settings_of system.now).cores }
+    requires sets { All (λ x. x < (settings_of system.now).sets) sets.now }
+    ensures { OnOk result (map record_of records.new ≡ map record_of records.old
+        ++ core_part (settings_of system.now) core.0 sets.now ((world_of system.now).cores core.0)) }
+{
+    add_part_of_core(records, core, system.core(core), sets)
 }
 
 /// Appends the records of a directory of the machine. It takes the time of `add_directory`. After want of memory a part of them may stand
