@@ -10,8 +10,12 @@ pub mod Ordered
 pub mod Splitting
 pub mod Parting
 pub mod Ruling
+pub mod KeptFrames
+pub mod Reaching
+pub mod CoreParting
 pub mod Touching
 pub mod Listing
+pub mod ReachedSets
 pub mod Silent
 pub mod Acting
 pub mod Traced

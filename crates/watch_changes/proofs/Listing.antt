@@ -14,7 +14,7 @@ use Rattle.tcc_maps.proofs.Lemmas.{those-only}
 use Rattle.watch_changes.specs.Plain.{line_numbers, with_line}
 
 -- sets that are alike below a bound
-those-alike : (p q : ℕ → Bool) (n : ℕ) → ((k : ℕ) → k < n → p k ≡ q k) → those p n ≡ those q n
+pub those-alike : (p q : ℕ → Bool) (n : ℕ) → ((k : ℕ) → k < n → p k ≡ q k) → those p n ≡ those q n
 unfolding those
 those-alike p q zero same = refl
 those-alike p q (suc n) same =

@@ -19,11 +19,11 @@ use Rattle.watch_changes.proofs.Rising.{fourth-lower, head-lower, kind-up-to, li
 use Rattle.watch_changes.proofs.Ordering.{IsUpTo, Lie, lie-append, lie-none, lie-numbers, lower-is-up-to, up-to-self, widened}
 
 -- where the records of a kind of a core begin
-abbrev of_kind : (kind core : ℕ) → List ℕ
+abbrev pub of_kind : (kind core : ℕ) → List ℕ
 of_kind n c = n ∷ c ∷ 0 ∷ 0 ∷ []
 
 -- the records of one kind and those of the kinds behind it
-joined : (c n m o : ℕ) → n < m → m < o → (rs ss : List Record) → Lie (of_kind n c) (of_kind m c) rs → Lie (of_kind m c) (of_kind o c) ss
+pub joined : (c n m o : ℕ) → n < m → m < o → (rs ss : List Record) → Lie (of_kind n c) (of_kind m c) rs → Lie (of_kind m c) (of_kind o c) ss
     → Lie (of_kind n c) (of_kind o c) (rs ++ ss)
 joined c n m o b d rs ss v w =
     let x = c ∷ 0 ∷ 0 ∷ [] in
@@ -34,7 +34,7 @@ alone c n r e =
     lie-at (of_kind n c) (of_kind (suc n) c) r e (head-lower n (suc n) (c ∷ 0 ∷ 0 ∷ []) (c ∷ 0 ∷ 0 ∷ []) (omega arith))
 
 -- records of one kind by a number
-abbrev by_number : (kind core : ℕ) → ℕ → List ℕ
+abbrev pub by_number : (kind core : ℕ) → ℕ → List ℕ
 by_number n c x = n ∷ c ∷ x ∷ 0 ∷ []
 
 numbered : (n c : ℕ) (f : ℕ → List Record) → ((x : ℕ) → Lie (by_number n c x) (by_number n c (suc x)) (f x)) → (count : ℕ)
@@ -73,7 +73,7 @@ committed-lies c last d =
     lie-unless (by_number 5 c d) (by_number 5 c (suc d)) (last d == 0) (CommittedAt c d (last d) ∷ [])
     (at_number 5 c d (CommittedAt c d (last d)) refl)
 
-attempt-lies : (sh : Shape) (c : ℕ) (s : CoreState) → Lie (of_kind 0 c) (of_kind 6 c) (attempt_records sh c s)
+pub attempt-lies : (sh : Shape) (c : ℕ) (s : CoreState) → Lie (of_kind 0 c) (of_kind 6 c) (attempt_records sh c s)
 unfolding attempt_records
 attempt-lies sh c s =
     let reserved = reserved_record c s.local.reserved in
@@ -103,7 +103,7 @@ saved-lies c regs r =
     lie-unless (by_number 8 c r) (by_number 8 c (suc r)) (register regs r == 0) (SavedRegister c r (register regs r) ∷ [])
     (at_number 8 c r (SavedRegister c r (register regs r)) refl)
 
-registers-lie : (c : ℕ) (s : CoreState) → Lie (of_kind 6 c) (of_kind 9 c) (register_records c s)
+pub registers-lie : (c : ℕ) (s : CoreState) → Lie (of_kind 6 c) (of_kind 9 c) (register_records c s)
 unfolding register_records
 registers-lie c s =
     let regs = flat_map (register_record c s.local.regs) (numbers 32) in
@@ -129,7 +129,7 @@ way-lies : (c : ℕ) (cache : Cache) (x y : ℕ) → Lie (at_way c x y) (at_way 
 unfolding way_record
 way-lies c cache x y = held-lies c x y cache (cache.at x y)
 
-set-lies : (c ways : ℕ) (cache : Cache) (x : ℕ) → Lie (by_number 9 c x) (by_number 9 c (suc x)) (set_records c ways cache x)
+pub set-lies : (c ways : ℕ) (cache : Cache) (x : ℕ) → Lie (by_number 9 c x) (by_number 9 c (suc x)) (set_records c ways cache x)
 unfolding set_records
 set-lies c ways cache x =
     let rs = flat_map (way_record c cache x) (numbers ways) in
@@ -169,7 +169,7 @@ spilled-lie sh c sp l =
     (lie-numbers f k up 8
     (λ j b. subst (λ w. Lie (k j) (at_word sh c w) (f j)) (sym (next j)) (word-lies sh c (word_at l j) sp)))
 
-all-spilled-lie : (sh : Shape) (c : ℕ) (sp : ℕ → Option ℕ)
+pub all-spilled-lie : (sh : Shape) (c : ℕ) (sp : ℕ → Option ℕ)
     → Lie (of_kind 10 c) (of_kind 11 c) (flat_map (spilled_records sh c sp) (numbers (lines sh)))
 all-spilled-lie sh c sp =
     let k : ℕ → List ℕ = λ l. at_word sh c (word_at l 0) in

@@ -21,7 +21,7 @@ use Rattle.watch_changes.proofs.Splitting.{changes-append, changes-those}
 
 -- ---- records that are compared with themselves
 
-abbrev AreTelling : List Record → Type 0
+abbrev pub AreTelling : List Record → Type 0
 AreTelling [] = Unit {0}
 AreTelling (r ∷ rs) = (same r r ≡ true) × AreTelling rs
 
@@ -30,7 +30,7 @@ unfolding changes meeting
 none-changed [] t = refl
 none-changed (r ∷ rs) t = rw t.0 (none-changed rs t.1)
 
-none-of-same : (rs ss : List Record) → AreTelling rs → rs ≡ ss → changes rs ss ≡ []
+pub none-of-same : (rs ss : List Record) → AreTelling rs → rs ≡ ss → changes rs ss ≡ []
 none-of-same rs ss t e = ap (λ xs. changes rs xs) (sym e) ∙ none-changed rs t
 
 telling-if : (b : Bool) (rs : List Record) → AreTelling rs → AreTelling (if b then rs else [])
@@ -45,7 +45,7 @@ telling-append : (rs ss : List Record) → AreTelling rs → AreTelling ss → A
 telling-append [] ss t u = u
 telling-append (r ∷ rs) ss t u = (t.0, telling-append rs ss t.1 u)
 
-telling-flat : (f : ℕ → List Record) → ((k : ℕ) → AreTelling (f k)) → (ks : List ℕ) → AreTelling (flat_map f ks)
+pub telling-flat : (f : ℕ → List Record) → ((k : ℕ) → AreTelling (f k)) → (ks : List ℕ) → AreTelling (flat_map f ks)
 telling-flat f h [] = record {}
 telling-flat f h (k ∷ ks) = telling-append (f k) (flat_map f ks) (h k) (telling-flat f h ks)
 

@@ -89,7 +89,7 @@ owned-elsewhere j c t ls e =
 
 -- ---- the words of a line
 
-flat-alike : (f g : ℕ → List Record) (n : ℕ) → ((k : ℕ) → k < n → f k ≡ g k) → flat_map f (numbers n) ≡ flat_map g (numbers n)
+pub flat-alike : (f g : ℕ → List Record) (n : ℕ) → ((k : ℕ) → k < n → f k ≡ g k) → flat_map f (numbers n) ≡ flat_map g (numbers n)
 unfolding those
 flat-alike f g zero h = refl
 flat-alike f g (suc n) h =

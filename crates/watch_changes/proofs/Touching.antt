@@ -5,20 +5,27 @@ use Rattle.tcc_program.specs.Program.{Program}
 use Rattle.tcc_maps.specs.Nodes.{Node, Core, Dir, Vendor, Msg, Event, Exec, Evict, Deliver}
 use Rattle.tcc_maps.specs.Shape.{Shape, lines}
 use Rattle.tcc_maps.specs.Words.{put, those}
+use Rattle.tcc_rules.specs.Attempt.{Out}
 use Rattle.tcc_rules.specs.CoreDeliver.{core_deliver}
+use Rattle.tcc_rules.specs.CoreEvict.{core_evict}
+use Rattle.tcc_rules.specs.CoreExec.{core_exec}
 use Rattle.tcc_rules.specs.DirDeliver.{Answer, Waits, Drops, Asks, Takes, dir_deliver}
 use Rattle.tcc_rules.specs.Links.{in_flight}
-use Rattle.tcc_rules.specs.State.{DirState, World}
-use Rattle.tcc_rules.specs.Step.{History, Stepped, answered, delivered, dir_asks, dir_takes, happens, if_core_takes}
+use Rattle.tcc_rules.specs.State.{CoreState, DirState, World}
+use Rattle.tcc_rules.specs.Step.{History, Stepped, answered, core_moves, core_takes, delivered, dir_asks, dir_takes, happens}
+use Rattle.tcc_rules.specs.Step.{if_core_moves, if_core_takes}
 use Rattle.tcc_rules.specs.Step.{if_in_flight, if_vendor_gives, names_nodes, next_history, recorded, step}
 use Rattle.tcc_rules.specs.VendorDeliver.{vendor_deliver}
 use Rattle.watch.specs.Happened.{actor}
 use Rattle.watch_changes.specs.Changes.{changes}
+use Rattle.watch_state.specs.Cores.{core_part, core_records}
 use Rattle.watch_state.specs.Directories.{directory_part, directory_records}
 use Rattle.watch_changes.specs.Nodes.{records_at}
-use Rattle.watch_changes.specs.Touched.{Part, OfCore, OfVendor, may_change, may_come_home, part_records, touched, touched_at}
-use Rattle.watch_changes.specs.Touched.{touched_by}
+use Rattle.watch_changes.specs.Touched.{Part, NoMore, OfVendor, Reach, may_change, may_come_home, part_records, touched, touched_at}
+use Rattle.watch_changes.specs.Touched.{reach_of_delivery, reach_of_exec, reach_of_msg, reached_by, reaches, touched_by}
+use Rattle.watch_changes.proofs.CoreParting.{core-changes}
 use Rattle.watch_changes.proofs.Parting.{part-changes}
+use Rattle.watch_changes.proofs.Reaching.{IsWithin, OutWithin, deliver-within, evict-within, exec-within}
 use Rattle.watch_changes.proofs.Ruling.{AnswerChanges, IsChangedBy, alike-record, answer-changes, same-lines}
 
 -- what changed of a node is what changed of a part of it
@@ -26,9 +33,14 @@ abbrev pub Suffices : Shape → (first : ℕ → ℕ) → (w v : World) → Node
 Suffices sh first w v n part =
     changes (records_at sh first w n) (records_at sh first v n) ≡ changes (part_records sh first w part) (part_records sh first v part)
 
-all-of-core : (sh : Shape) (first : ℕ → ℕ) (w v : World) (c : ℕ) → Suffices sh first w v (Core c) (OfCore c)
+-- a core that an event has changed
+of-core : (sh : Shape) (first : ℕ → ℕ) (w v : World) (c : ℕ) (r : Reach) (t : CoreState) → IsWithin sh r (w.cores c).cache t.cache
+    → v.cores c ≡ t → Suffices sh first w v (Core c) (reached_by sh c (w.cores c).cache r)
 unfolding records_at part_records
-all-of-core sh first w v c = refl
+of-core sh first w v c r t x e =
+    subst (λ s. changes (core_records sh c (w.cores c)) (core_records sh c s)
+    ≡ changes (core_part sh c (those (reaches sh (w.cores c).cache r) sh.sets) (w.cores c))
+    (core_part sh c (those (reaches sh (w.cores c).cache r) sh.sets) s)) (sym e) (core-changes sh r c (w.cores c) t x)
 
 all-of-vendor : (sh : Shape) (first : ℕ → ℕ) (w v : World) → Suffices sh first w v Vendor OfVendor
 unfolding records_at part_records
@@ -54,9 +66,17 @@ abbrev IsEnough : Shape → (first : ℕ → ℕ) → World → Node → Part �
 IsEnough sh first w n part None = Unit {0}
 IsEnough sh first w n part (Some o) = Suffices sh first w o.world n part
 
-if-core : (sh : Shape) (first : ℕ → ℕ) (w : World) (c : ℕ) (o : Option Stepped) → IsEnough sh first w (Core c) (OfCore c) o
-if-core sh first w c None = record {}
-if-core sh first w c (Some o) = all-of-core sh first w o.world c
+if-moves : (sh : Shape) (first : ℕ → ℕ) (w : World) (c : ℕ) (r : Reach) (o : Option Out) → OutWithin sh r (w.cores c) o
+    → IsEnough sh first w (Core c) (reached_by sh c (w.cores c).cache r) (if_core_moves w c o)
+unfolding core_moves
+if-moves sh first w c r None x = record {}
+if-moves sh first w c r (Some o) x = of-core sh first w _ c r o.core x (put-here w.cores c o.core)
+
+if-takes : (sh : Shape) (first : ℕ → ℕ) (w : World) (src : Node) (c k : ℕ) (r : Reach) (o : Option Out) → OutWithin sh r (w.cores c) o
+    → IsEnough sh first w (Core c) (reached_by sh c (w.cores c).cache r) (if_core_takes w src c k o)
+unfolding core_takes
+if-takes sh first w src c k r None x = record {}
+if-takes sh first w src c k r (Some o) x = of-core sh first w _ c r o.core x (put-here w.cores c o.core)
 
 if-vendor : (sh : Shape) (first : ℕ → ℕ) (w : World) (o : Option Stepped) → IsEnough sh first w Vendor OfVendor o
 if-vendor sh first w None = record {}
@@ -76,7 +96,8 @@ if-answered sh first w c d k m (Takes t sends) x = of-directory sh first w _ d m
 
 delivered-enough : (sh : Shape) (first : ℕ → ℕ) (w : World) (src dst : Node) (k : ℕ) (m : Msg)
     → IsEnough sh first w dst (touched_at sh w dst (Some m)) (delivered sh w src dst k m)
-delivered-enough sh first w src (Core c) k m = if-core sh first w c (if_core_takes w src c k (core_deliver sh (w.cores c) src m))
+delivered-enough sh first w src (Core c) k m =
+    if-takes sh first w src c k (reach_of_msg (w.cores c) m) (core_deliver sh (w.cores c) src m) (deliver-within sh (w.cores c) src m)
 delivered-enough sh first w (Core c) (Dir d) k m =
     if-answered sh first w c d k m (dir_deliver sh (w.dirs d) c m) (answer-changes sh (w.dirs d) c m)
 delivered-enough sh first w (Dir c) (Dir d) k m = record {}
@@ -91,18 +112,22 @@ flying-enough sh first w src dst k None = record {}
 flying-enough sh first w src dst k (Some m) = delivered-enough sh first w src dst k m
 
 happens-enough : (sh : Shape) (p : Program) (first : ℕ → ℕ) (w : World) (e : Event)
-    → IsEnough sh first w (actor e) (touched sh w e) (happens sh p w e)
+    → IsEnough sh first w (actor e) (touched sh p w e) (happens sh p w e)
 unfolding happens touched
-happens-enough sh p first w (Exec c) = if-core sh first w c (happens sh p w (Exec c))
-happens-enough sh p first w (Evict c x y) = if-core sh first w c (happens sh p w (Evict c x y))
+happens-enough sh p first w (Exec c) =
+    let s = w.cores c in
+    if-moves sh first w c (reach_of_exec sh (p.need s.local) s.phase) (core_exec sh p c s) (exec-within sh p c s)
+happens-enough sh p first w (Evict c x y) =
+    let s = w.cores c in
+    if-moves sh first w c (record { line = s.cache.at x y; more = NoMore }) (core_evict sh x y s) (evict-within sh x y s)
 happens-enough sh p first w (Deliver src dst k) = flying-enough sh first w src dst k (in_flight w.net src dst k)
 
 step-enough : (sh : Shape) (p : Program) (first : ℕ → ℕ) (w : World) (e : Event)
-    → IsEnough sh first w (actor e) (touched sh w e) (step sh p w e)
+    → IsEnough sh first w (actor e) (touched sh p w e) (step sh p w e)
 unfolding step
 step-enough sh p first w e = go (names_nodes sh e)
   where
-    go : (b : Bool) → IsEnough sh first w (actor e) (touched sh w e) (if b then happens sh p w e else None)
+    go : (b : Bool) → IsEnough sh first w (actor e) (touched sh p w e) (if b then happens sh p w e else None)
     go true = happens-enough sh p first w e
     go false = record {}
 
@@ -119,7 +144,7 @@ recorded-enough sh first n part h k (Some o) a e = subst (λ v. Suffices sh firs
 
 pub touched-suffices : (sh : Shape) (p : Program) (first : ℕ → ℕ) (h k : History) (e : Event) → next_history sh p h e ≡ Some k
     → changes (records_at sh first h.world (actor e)) (records_at sh first k.world (actor e))
-    ≡ changes (part_records sh first h.world (touched sh h.world e)) (part_records sh first k.world (touched sh h.world e))
+    ≡ changes (part_records sh first h.world (touched sh p h.world e)) (part_records sh first k.world (touched sh p h.world e))
 unfolding next_history
 touched-suffices sh p first h k e q =
-    recorded-enough sh first (actor e) (touched sh h.world e) h k (step sh p h.world e) (step-enough sh p first h.world e) q
+    recorded-enough sh first (actor e) (touched sh p h.world e) h k (step sh p h.world e) (step-enough sh p first h.world e) q

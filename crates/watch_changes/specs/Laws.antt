@@ -46,7 +46,7 @@ abbrev pub TouchedSuffices : Type 0
 TouchedSuffices =
     (sh : Shape) (p : Program) (first : ℕ → ℕ) (h k : History) (e : Event) → next_history sh p h e ≡ Some k
     → changes (records_at sh first h.world (actor e)) (records_at sh first k.world (actor e))
-    ≡ changes (part_records sh first h.world (touched sh h.world e)) (part_records sh first k.world (touched sh h.world e))
+    ≡ changes (part_records sh first h.world (touched sh p h.world e)) (part_records sh first k.world (touched sh p h.world e))
 
 -- with the facts alone it is the trace without records
 abbrev pub WithoutRecords : Type 0

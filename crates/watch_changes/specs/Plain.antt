@@ -1,6 +1,7 @@
 -- What the code keeps and finds, in the words of the definitions.
 use Rattle.std.specs.Prelude.{ℕ, ◌≡◌, ◌<◌, ◌==◌, nat_lt, true, List, [], ◌∷◌, map, if◌then◌else◌}
 use Rattle.std.specs.List.{All}
+use Rattle.std.specs.Option.{option_map}
 use Rattle.tcc_base.specs.declared.names.LineAddr.{LineAddr}
 use Rattle.tcc_base.specs.declared.names.NodeId.{NodeId}
 use Rattle.tcc_maps.specs.Bridge.{node_of}
@@ -14,10 +15,13 @@ use Rattle.watch_state.specs.Records as plain_record
 use Rattle.watch_state.specs.declared.records.Record.{Record}
 use Rattle.watch_changes.specs.Changes as plain
 use Rattle.watch_changes.specs.Nodes.{records_at}
-use Rattle.watch_changes.specs.Touched.{Part, OfCore, OfDirectory, OfVendor, part_records}
+use Rattle.watch_changes.specs.Touched.{More, NoMore, Marked, Every, Reach, Part, OfCore, OfDirectory, OfVendor, part_records}
 use Rattle.watch_changes.specs.declared.meeting.Key.{Key}
 use Rattle.watch_changes.specs.declared.meeting.Meeting.{Meeting}
 use Rattle.watch_changes.specs.declared.meeting.Meeting.TheVariants as code
+use Rattle.watch_changes.specs.declared.reach.More.{More as CodeMore}
+use Rattle.watch_changes.specs.declared.reach.More.TheVariants as code_more
+use Rattle.watch_changes.specs.declared.reach.Reach.{Reach as CodeReach}
 
 abbrev pub numbers_of_key : Key → List ℕ
 numbers_of_key k = k.kind ∷ k.first ∷ k.second ∷ k.third ∷ []
@@ -38,25 +42,37 @@ unfoldable pub with_line : (line : ℕ) → List ℕ → List ℕ
 with_line l [] = l ∷ []
 with_line l (j ∷ js) = if nat_lt j l then j ∷ with_line l js else if l == j then j ∷ js else l ∷ j ∷ js
 
+-- ---- what an event may change of a core's frames
+
+abbrev pub more_of : CodeMore → More
+more_of code_more.NoMore = NoMore
+more_of code_more.Marked = Marked
+more_of code_more.Every = Every
+
+abbrev pub reach_of : CodeReach → Reach
+reach_of r = record { line = option_map (λ l. l.0) r.line; more = more_of r.more }
+
 -- ---- the part of a node's records that an event may change
 
--- the node, and of a directory the lines
+-- the node, of a core the sets, and of a directory the lines
 pub record Listed : Type 0 where
   pub node : NodeId
+  pub sets : List ℕ
   pub known : List LineAddr
   pub words : List LineAddr
 
-abbrev pub part_at : Node → (known words : List ℕ) → Part
-part_at (Core c) known words = OfCore c
-part_at (Dir d) known words = OfDirectory d known words
-part_at Vendor known words = OfVendor
+abbrev pub part_at : Node → (sets known words : List ℕ) → Part
+part_at (Core c) sets known words = OfCore c sets
+part_at (Dir d) sets known words = OfDirectory d known words
+part_at Vendor sets known words = OfVendor
 
 abbrev pub part_of : Listed → Part
-part_of p = part_at (node_of p.node) (line_numbers p.known) (line_numbers p.words)
+part_of p = part_at (node_of p.node) p.sets (line_numbers p.known) (line_numbers p.words)
 
--- a machine with these settings has the node and the lines
+-- a machine with these settings has the node, the sets and the lines
 pub record IsInside (sh : Shape) (p : Listed) : Type 0 where
   pub node : is_node sh (node_of p.node) ≡ true
+  pub sets : All (λ x. x < sh.sets) p.sets
   pub known : All (λ l. l.0 < lines sh) p.known
   pub words : All (λ l. l.0 < lines sh) p.words
 

@@ -2,7 +2,7 @@
 ghost use Rattle.std.specs.Prelude.{◌≡◌, ◌++◌, IfOk, OnOk, string_bytes, true};
 ghost use Rattle.tcc_msg.specs.Plain.{event_of};
 ghost use Rattle.tcc_rules.specs.Step.{is_node};
-ghost use Rattle.net_core.specs.Machine.{settings_of, world_of};
+ghost use Rattle.net_core.specs.Machine.{program_of, settings_of, world_of};
 ghost use Rattle.watch.specs.Happened.{actor};
 ghost use Rattle.watch_changes.specs.Changes.{change_lines};
 ghost use Rattle.watch_changes.specs.Plain.{IsInside, IsSeen, changes_since, part_of};
@@ -33,15 +33,16 @@ impl Model for Before {
 }
 
 impl Before {
-    /// Looks at the node of an event that is to come, which may name anything: at all records of a core or of the vendor, and at a
-    /// directory only at itself and at the lines of which the event may change something.
+    /// Looks at the node of an event that is to come, which may name anything: at a core but for the frames that the event can't change, at
+    /// a directory only at itself and at the lines of which the event may change something, and at the vendor.
     ///
-    /// It takes time and memory in a core's registers, directories and frames, and in the lines of RAM only while the core has spilled
+    /// It takes time and memory in a core's registers, directories and the ways of one set, where marks may be cleared in those of the sets
+    /// with marked frames, in all frames where a core that is alone may commit, and in the lines of RAM only while the core has spilled
     /// words; at a directory in the TIDs that it keeps as skipped, and where marks may be cleared in the marked lines.
     pub fn look(alloc: Global, system: &System, e: Event) -> Result<Before, AllocError>
         ensures seen { IfOk result (IsSeen system.now) }
         ensures touched { is_node (settings_of system.now) (actor (event_of e)) ≡ true → IfOk result (λ b.
-            part_of b.part ≡ touched (settings_of system.now) (world_of system.now) (event_of e)) }
+            part_of b.part ≡ touched (settings_of system.now) (program_of system.now) (world_of system.now) (event_of e)) }
     {
         let part = match Part::of(alloc, system, e) {
             Ok(part) => part,

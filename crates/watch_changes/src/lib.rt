@@ -8,6 +8,7 @@ mod before;
 mod lines;
 mod meeting;
 mod part;
+mod reach;
 mod same;
 mod touched;
 mod walking;

@@ -70,7 +70,7 @@ unfolding history_of started
 look-tells true (Some b) n o e before after t h q =
     let sh = settings_of n in
     let first = first_ram (start_of n) in
-    let part : part_of b.part ≡ touched sh (world_of n) e =
+    let part : part_of b.part ≡ touched sh (program_of n) (world_of n) e =
     h.1 (actor-is sh (program_of n) (history_of n) (history_of o) e t.next) in
     q ∙ ap (λ cs. before ++ change_lines cs)
     ((λ i. changes (h.0.records i) (now-before n o e b.part t i))

@@ -13,7 +13,7 @@ use Rattle.watch_run.specs.declared.telling.Shown.{Shown}
 -- where records are shown, what this event may change was seen before it; else nothing was
 abbrev pub IsLook : (states : Bool) → Option Seen → Machine → Event → Type 0
 IsLook true (Some b) m e =
-    IsSeen m b × (is_node (settings_of m) (actor e) ≡ true → part_of b.part ≡ touched (settings_of m) (world_of m) e)
+    IsSeen m b × (is_node (settings_of m) (actor e) ≡ true → part_of b.part ≡ touched (settings_of m) (program_of m) (world_of m) e)
 IsLook false None m e = Unit {0}
 IsLook _ _ m e = ⊥
 

@@ -8,7 +8,7 @@ use Rattle.tcc_rules.specs.Links.{in_flight}
 use Rattle.net_core.specs.Machine.{settings_of, world_of}
 use Rattle.watch_changes.specs.Plain.{part_of}
 use Rattle.watch_changes.specs.Touched.{touched, touched_at}
-use Rattle.watch_changes.proofs.part.Part.by_delivery.Goals as goal
+use Rattle.watch_changes.proofs.part.Part.to_directory.Goals as goal
 
 pub returns-in-Some-clause-touched : goal.returns-in-Some-clause-touched
 unfolding touched
