@@ -56,12 +56,17 @@ fn line(system: &System, line: u32) -> Option<[u32; 8]> {
     Some(system.seen_line(LineAddr(line)))
 }
 
-// The words of a line at its home, where the machine is done.
-pub(crate) fn home(system: &System, line: u32) -> Option<[u32; 8]> {
-    if !system.done() || line >= system.config().words() / 8 {
-        return None;
+// The same as RAM as a whole is read.
+pub(crate) fn ram_line(
+    alloc: Global,
+    system: &System,
+    line: u32,
+) -> Result<Option<[u32; 8]>, Fail> {
+    if !system.is_settled() || line >= system.config().words() / 8 {
+        return Ok(None);
     }
-    Some(system.home_line(LineAddr(line)))
+    let ram = system.seen_ram(alloc)?;
+    Ok(Some(ram.line(LineAddr(line))))
 }
 
 // What the machine has come to by a run that ended so.

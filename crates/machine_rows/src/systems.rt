@@ -3,7 +3,7 @@ ghost use Rattle.std.specs.Prelude.{◌≡◌, ◌≤◌, ◌+◌, length, IfOk}
 
 use crate::events::{C0, C1, D0, D1, V, event, events, name};
 use crate::loading::{STORE_AND_COPY, STORES_24, STORES_SEVEN_AND_HALTS, begun};
-use crate::outcomes::{Known, Listed, Played, come_to, end, home, is_useful, known, useful};
+use crate::outcomes::{Known, Listed, Played, come_to, end, is_useful, known, ram_line, useful};
 use directory::LineState;
 use net_core::{Step, StepError, System};
 use std::alloc::Global;
@@ -146,31 +146,30 @@ fn take_all(system: &mut System) -> Result<(), (u64, StepError)> {
     Ok(())
 }
 
-// What a machine comes to; the words of line 2 at its home where it is done; and how the first core stood before the first event and
-// stands then.
+// What a machine comes to; the words of line 2 as RAM is read; and how the first core stood before the first event and stands then.
 type PlayedOut = (Played, Option<[u32; 8]>, [Option<CoreEnd>; 2]);
 
-fn play_out(system: &mut System) -> PlayedOut {
+fn play_out(alloc: Global, system: &mut System) -> Result<PlayedOut, Fail> {
     let before = end(system);
     let run = take_all(system);
     let played = come_to(system, run);
-    (played, home(system, 2), [before, end(system)])
+    Ok((played, ram_line(alloc, system, 2)?, [before, end(system)]))
 }
 
 // The same of a machine of one core and one directory that begins with this image.
 fn played_out(alloc: Global, image: &[u32]) -> Result<PlayedOut, Fail> {
     let mut system = begun(alloc, 1, 1, [image, &[]])?;
-    Ok(play_out(&mut system))
+    play_out(alloc, &mut system)
 }
 
 #[test]
 fn the_useful_events_lead_to_the_end(rt: HostRuntime) -> Result<(), Fail> {
-    let (played, home, ends) = played_out(rt.alloc(), &STORES_SEVEN_AND_HALTS)?;
+    let (played, line, ends) = played_out(rt.alloc(), &STORES_SEVEN_AND_HALTS)?;
     let commits = [Some(Listed(1, 0, 4, None)), Some(Listed(2, 0, 2, None))];
     let taken = all_taken(19, commits, [0x8000_0014, 0], [7, 0]);
     let pcs = [taken.pcs[0], None];
     assert_eq!(rt; played, Played { pcs, ..taken });
-    assert_eq!(rt; home, Some([7, 0, 0, 0, 0, 0, 0, 0]));
+    assert_eq!(rt; line, Some([7, 0, 0, 0, 0, 0, 0, 0]));
     assert_eq!(rt; ends, [Some(CoreEnd::Run), Some(CoreEnd::Halt(0))]);
     Ok(())
 }
@@ -360,5 +359,46 @@ fn words_do_not_come_home_before_their_commit(rt: HostRuntime) -> Result<(), Fai
     let played = play(rt.alloc(), 1, [&STORES_32, &STORES_32_TO_39], &EARLY_WORDS)?;
     assert_eq!(rt; played.run, Err((10, StepError::Refused)));
     assert_eq!(rt; played.events, 10);
+    Ok(())
+}
+
+// The words of a line as RAM is read, after these events where they are taken.
+fn run_to_ram(
+    alloc: Global,
+    system: &mut System,
+    events: &[Event],
+    line: u32,
+) -> Result<Option<[u32; 8]>, Fail>
+    requires { system.old.events + length events.now ≤ 4194304 }
+{
+    let _ = system.run(events);
+    ram_line(alloc, system, line)
+}
+
+// The same of a machine of two cores that begins with these images.
+fn ram_after(
+    alloc: Global,
+    dirs: u64,
+    images: [&[u32]; 2],
+    events: &[Event],
+    line: u32,
+) -> Result<Option<[u32; 8]>, Fail>
+    requires { length events.now ≤ 4194304 }
+{
+    let mut system = begun(alloc, 2, dirs, images)?;
+    run_to_ram(alloc, &mut system, events, line)
+}
+
+#[test]
+fn ram_is_read_where_its_newest_words_are(rt: HostRuntime) -> Result<(), Fail> {
+    let alloc = rt.alloc();
+    // Line 2 is in a frame of the first core, line 4 on its way home, and line 5 at home.
+    let framed = ram_after(alloc, 2, [&STORES_16, &STORES_24], &CROSSED, 2)?;
+    assert_eq!(rt; framed, Some([2, 0, 0, 0, 0, 0, 0, 0]));
+    let images: [&[u32]; 2] = [&STORES_32, &STORES_32_TO_39];
+    let flying = ram_after(alloc, 1, images, &WHOLE_LINE[..11], 4)?;
+    assert_eq!(rt; flying, Some([0x8000_0000, 0, 0, 0, 0, 0, 0, 0]));
+    let home = ram_after(alloc, 1, images, &WHOLE_LINE[..11], 5)?;
+    assert_eq!(rt; home, Some([0; 8]));
     Ok(())
 }

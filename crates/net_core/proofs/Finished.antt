@@ -1,6 +1,6 @@
 -- When a machine is done: nothing is in flight, and all its cores are at rest.
 use Rattle.std.proofs.Common.{◌≡◌, ℕ, ◌<◌, Bool, true, false, List, [], ◌∷◌, ◌++◌, length, Option, Some, None, is_some, refl, ap, sym}
-use Rattle.std.proofs.Common.{◌∙◌, subst, arith, get_or}
+use Rattle.std.proofs.Common.{◌∙◌, subst, get_or}
 use Rattle.std.specs.Prelude.{◌↔◌, IsTrue}
 use Rattle.tcc_base.specs.declared.names.NodeId.{NodeId}
 use Rattle.tcc_bounds.specs.Bounds.{CacheInMemory}
@@ -8,8 +8,8 @@ use Rattle.tcc_maps.specs.Bridge.{node_of}
 use Rattle.tcc_maps.specs.Cache.{Cache, is_dirty}
 use Rattle.tcc_maps.specs.Nodes.{Node, Msg as PlainMsg}
 use Rattle.tcc_maps.specs.Shape.{Shape, lines}
-use Rattle.tcc_maps.specs.Words.{any_below, any_word, line_of, place_of, word_at}
-use Rattle.tcc_maps.proofs.Lemmas.{any_below-at, any_below-found}
+use Rattle.tcc_maps.specs.Words.{any_below, any_word, word_at}
+use Rattle.tcc_maps.proofs.Lemmas.{any_below-found}
 use Rattle.tcc_msg.specs.Plain.{msg_of, sends_of}
 use Rattle.tcc_msg.specs.declared.msg.Msg.{Msg}
 use Rattle.tcc_rules.specs.Links.{in_flight, sending, sent_all}
@@ -21,24 +21,19 @@ use Rattle.in_flight.specs.Flights.{net_of}
 use Rattle.net_core.specs.Machine.{Machine, history_of, settings_of, world_of}
 use Rattle.net_core.specs.Whole.{IsWhole}
 use Rattle.net_core.proofs.Links.Placing.{node_eq-itself}
-use Rattle.net_core.proofs.Words.Newest.{own-word}
+use Rattle.net_core.proofs.Words.Away.{clean-line}
 use Rattle.net_core.proofs.Reaching.{settled-net, whole-bounded}
 
 -- ---- one cache
 
 -- no line has a dirty word where no line in memory has one
 clean-word : (sh : Shape) (c : Cache) (v : ℕ) → CacheInMemory sh c → any_below (is_dirty c) (lines sh) ≡ false → c.dirty v ≡ None
-unfolding is_dirty any_word
 clean-word sh c v m none = go (c.dirty v) refl
   where
     go : (o : Option ℕ) → c.dirty v ≡ o → o ≡ None
     go None e = refl
     go (Some g) e =
-        let dirty : is_some (c.dirty v) ≡ true = ap is_some e in
-        let here : is_some (c.dirty (word_at (line_of v) (place_of v))) ≡ true = ap (λ w. is_some (c.dirty w)) (own-word v) ∙ dirty in
-        let line : is_dirty c (line_of v) ≡ true =
-        any_below-at (λ k. is_some (c.dirty (word_at (line_of v) k))) 8 (place_of v) (omega arith) here in
-        let some : any_below (is_dirty c) (lines sh) ≡ true = any_below-at (is_dirty c) (lines sh) (line_of v) (m.dirty v dirty) line in
+        let free : c.dirty v ≡ None = clean-line sh c v (m.dirty v (ap is_some e)) none in
         absurd (cc)
 
 clean-lines : (sh : Shape) (c : Cache) → ((v : ℕ) → c.dirty v ≡ None) → any_below (is_dirty c) (lines sh) ≡ false

@@ -2,3 +2,4 @@
 pub mod Places
 pub mod Newest
 pub mod Seen
+pub mod Away

@@ -5,5 +5,6 @@ pub mod Delivery
 pub mod Whole
 pub mod Answers
 pub mod Inside
+pub mod Away
 pub mod Copies
 pub mod Taking

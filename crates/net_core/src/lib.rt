@@ -10,14 +10,17 @@ mod enabling;
 mod flying;
 mod looking;
 mod nodes;
+mod noting;
 mod placing;
 mod readers;
 mod reading;
 mod seeing;
+mod seen_ram;
 mod showing;
 mod system;
 mod taking;
 
 pub use nodes::{node_at, node_count};
+pub use seen_ram::SeenRam;
 pub use system::System;
 pub use taking::{Step, StepError};

@@ -4,7 +4,7 @@ ghost use Rattle.std.specs.List.{range_with_len};
 ghost use Rattle.tcc_maps.specs.Cache.{IsCache};
 ghost use Rattle.tcc_maps.specs.Nodes.{Core, Dir};
 ghost use Rattle.tcc_maps.specs.Words.{word_at};
-ghost use Rattle.tcc_rules.specs.Seen.{IsDone, copies_on, copy_in, seen};
+ghost use Rattle.tcc_rules.specs.Seen.{copies_on, copy_in, seen};
 ghost use Rattle.in_flight.specs.Flights.{net_of};
 ghost use Rattle.core_bank.specs.Bank.{cores_of};
 ghost use Rattle.net_core.specs.Machine.{settings_of, world_of};
@@ -65,15 +65,6 @@ impl System {
             newest_on_link(&self.flights, core, home, line, &mut best);
         }
         values(&best)
-    }
-
-    /// The eight words of a line at its home: all that is committed, where the machine is done. It takes constant time.
-    pub fn home_line(&self, line: LineAddr) -> [u32; 8]
-        requires done { IsDone (settings_of self.now) (world_of self.now) }
-        requires inside { 8 * line.0 < (settings_of self.now).ram / 4 }
-        ensures { result ≡ map (seen (settings_of self.now) (world_of self.now)) (range_with_len (8 * line.0) 8) }
-    {
-        self.dirs.line_words(line)
     }
 
     /// A word as it is committed, where all that was sent stands on its links. Its time goes with the number of cores and of the

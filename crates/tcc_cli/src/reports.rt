@@ -11,7 +11,7 @@ ghost use Rattle.why_text.specs.Text.{why_text};
 
 use crate::laid::Laid;
 use image_load::Loaded;
-use net_core::System;
+use net_core::{SeenRam, System};
 use report_text::{CoreShown, Ending, ShownWords, Trial, report, trial_summary};
 use std::alloc::Global;
 use std::marker::Model;
@@ -27,23 +27,18 @@ pub struct Finished {
     pub text: String,
 }
 
-/// RAM as the machine has committed it, where all that was sent stands on its links.
+/// RAM as the machine has committed it.
 #[derive(Drop)]
 struct Committed<'a> {
-    system: &'a System,
-    done: bool,
+    ram: SeenRam<'a>,
 }
 
 impl<'a> Model for Committed<'a> {
-    ghost use Rattle.std.specs.Prelude.{◌≡◌, [], IsTrue};
-    ghost use Rattle.net_core.specs.Machine.{Machine, settings_of, world_of};
-    ghost use Rattle.tcc_rules.specs.Seen.{IsDone};
+    ghost use Rattle.net_core.specs.Machine.{Machine};
 
     ghost Value = { Machine };
 
-    ghost view = { λ c. c.system.now };
-
-    ghost invariant = { λ c. (c.system.now.unsent ≡ []) × (IsTrue c.done → IsDone (settings_of c.system.now) (world_of c.system.now)) };
+    ghost view = { λ c. c.ram };
 }
 
 impl<'a> ShownWords for Committed<'a> {
@@ -52,15 +47,11 @@ impl<'a> ShownWords for Committed<'a> {
     ghost count = { λ m. (settings_of m).ram / 4 };
 
     fn line_count(&self) -> usize {
-        self.system.config().words() as usize / 8
+        self.ram.line_count()
     }
 
     fn line(&self, line: LineAddr) -> [u32; 8] {
-        if self.done {
-            self.system.home_line(line)
-        } else {
-            self.system.seen_line(line)
-        }
+        self.ram.line(line)
     }
 }
 
@@ -110,11 +101,12 @@ pub fn report_of(alloc: Global, loaded: &Loaded, refined: &Refined) -> Result<Fi
     let done = system.done();
     let consoles = consoles(alloc, system)?;
     let cores = cores(alloc, system, &consoles)?;
+    let ram = system.seen_ram(alloc)?;
     let ending = Ending {
         commits: system.commits(),
         cores: &cores.items,
         base: system.config().base(),
-        ram: &Committed { system, done },
+        ram: &Committed { ram },
         loaded: &Laid { loaded },
     };
     let text = report(alloc, done, refined.taken().len() as u64, &ending)?;
@@ -137,13 +129,14 @@ pub fn summary_of(
 {
     let system = refined.system();
     let done = system.done();
+    let ram = system.seen_ram(alloc)?;
     let trial = Trial {
         work,
         number,
         done,
         events: refined.taken().len() as u64,
         commits: system.commits().len(),
-        ram: &Committed { system, done },
+        ram: &Committed { ram },
         loaded: &Laid { loaded },
     };
     let text = trial_summary(alloc, &trial)?;

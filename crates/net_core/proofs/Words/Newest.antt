@@ -30,7 +30,7 @@ pub own-word : (w : ℕ) → word_at (line_of w) (place_of w) ≡ w
 own-word w = omega arith
 
 -- the frame's mask says whether the word is dirty
-hit-dirty : (c : Cache) (w : ℕ) → hit (line_of w) (dirty_mask c (line_of w)) w ≡ is_some (c.dirty w)
+pub hit-dirty : (c : Cache) (w : ℕ) → hit (line_of w) (dirty_mask c (line_of w)) w ≡ is_some (c.dirty w)
 unfolding hit dirty_mask
 hit-dirty c w =
     let place : place_of w < 8 = omega arith in
@@ -115,20 +115,30 @@ pub copies-waiting : (w : ℕ) (link : Link) → flat_map (copy_at w link) (wait
 copies-waiting w link = sym (copies-first w link (length link) (omega arith)) ∙ ap (copies_on w) (take_all (length link) link (omega arith))
 
 -- one more of them
+pub copies-took : (w : ℕ) (link : Link) (i k : ℕ) (m : Msg) → Some k ≡ slice_get (waiting_on link) i → get_or link k None ≡ Some m
+    → flat_map (copy_at w link) (take i (waiting_on link)) ++ copy_of w m ≡ flat_map (copy_at w link) (take (i + 1) (waiting_on link))
+unfolding copy_at
+copies-took w link i k m at own =
+    let before : List ℕ = take i (waiting_on link) in
+    let copy : copy_of w m ≡ flat_map (copy_at w link) (k ∷ []) =
+    ap (copy_there w) (sym own) ∙ sym (append-nil (copy_there w (get_or link k None))) in
+    ap (λ cs. flat_map (copy_at w link) before ++ cs) copy
+    ∙ (sym (flat_map-append (copy_at w link) before (k ∷ []))
+    ∙ ap (flat_map (copy_at w link)) (sym (took-more (waiting_on link) i k (sym at))))
+
 pub newest-more : (a : Copy) (w : ℕ) (link : Link) (i k : ℕ) (m : Msg) → Some k ≡ slice_get (waiting_on link) i
     → get_or link k None ≡ Some m
     → newest (newest a (flat_map (copy_at w link) (take i (waiting_on link)))) (copy_of w m)
     ≡ newest a (flat_map (copy_at w link) (take (i + 1) (waiting_on link)))
-unfolding copy_at
 newest-more a w link i k m at own =
-    let before : List ℕ = take i (waiting_on link) in
-    let copy : copy_of w m ≡ flat_map (copy_at w link) (k ∷ []) =
-    ap (copy_there w) (sym own) ∙ sym (append-nil (copy_there w (get_or link k None))) in
-    sym (newest-append a (flat_map (copy_at w link) before) (copy_of w m))
-    ∙ ap (newest a) (ap (λ cs. flat_map (copy_at w link) before ++ cs) copy
-    ∙ (sym (flat_map-append (copy_at w link) before (k ∷ []))
-    ∙ ap (flat_map (copy_at w link)) (sym (took-more (waiting_on link) i k (sym at)))))
+    sym (newest-append a (flat_map (copy_at w link) (take i (waiting_on link))) (copy_of w m))
+    ∙ ap (newest a) (copies-took w link i k m at own)
+
+-- all of them
+pub copies-took_all : (w : ℕ) (link : Link) (i : ℕ) → length (waiting_on link) ≤ i
+    → flat_map (copy_at w link) (take i (waiting_on link)) ≡ copies_on w link
+copies-took_all w link i l = ap (flat_map (copy_at w link)) (take_all i (waiting_on link) l) ∙ copies-waiting w link
 
 pub newest-all : (a : Copy) (w : ℕ) (link : Link) (i : ℕ) → length (waiting_on link) ≤ i
     → newest a (flat_map (copy_at w link) (take i (waiting_on link))) ≡ newest a (copies_on w link)
-newest-all a w link i l = ap (newest a) (ap (flat_map (copy_at w link)) (take_all i (waiting_on link) l) ∙ copies-waiting w link)
+newest-all a w link i l = ap (newest a) (copies-took_all w link i l)

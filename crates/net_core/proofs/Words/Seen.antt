@@ -1,5 +1,5 @@
 -- A word as the commits left it, core by core.
-use Rattle.std.proofs.Common.{◌≡◌, ℕ, zero, suc, ◌+◌, ◌<◌, ◌≤◌, List, [], ◌∷◌, ◌++◌, get_or, Some, None, refl, ap}
+use Rattle.std.proofs.Common.{◌≡◌, ℕ, suc, ◌+◌, ◌<◌, List, [], ◌∷◌, ◌++◌, get_or, Some, ap}
 use Rattle.std.proofs.Common.{sym, ◌∙◌, subst, arith, append-nil}
 use Rattle.std.specs.List.{flat_map}
 use Rattle.std.proofs.lemmas.List.Concat.{flat_map-append}
@@ -11,8 +11,8 @@ use Rattle.tcc_maps.specs.Cache.{Cache, IsCache}
 use Rattle.tcc_maps.specs.Nodes.{Core, Dir, Event}
 use Rattle.tcc_maps.specs.Shape.{Shape, home}
 use Rattle.tcc_maps.specs.Words.{eight, line_of, those, word_at}
-use Rattle.tcc_rules.specs.Seen.{Copy, IsDone, copies, copies_of, copies_on, copy_in, home_copy, newest, numbers, seen}
-use Rattle.tcc_rules.specs.State.{DirState, Link, World}
+use Rattle.tcc_rules.specs.Seen.{Copy, copies, copies_of, copies_on, copy_in, home_copy, newest, numbers, seen}
+use Rattle.tcc_rules.specs.State.{DirState, World}
 use Rattle.tcc_rules.specs.Step.{History, run}
 use Rattle.tcc_serial.proofs.Lemmas.{runs_carry}
 use Rattle.core_bank.specs.Bank.{cores_of}
@@ -57,7 +57,7 @@ copies-next m v n =
     ap (flat_map own) (numbers-more n)
     ∙ (flat_map-append own (numbers n) (n ∷ []) ∙ ap (λ cs. first_copies m v n ++ cs) (append-nil (own n)))
 
-own-copies : (m : Machine) (v n : ℕ) → m.unsent ≡ [] → let c : Cache = (cores_of m.cores n).cache in
+pub own-copies : (m : Machine) (v n : ℕ) → m.unsent ≡ [] → let c : Cache = (cores_of m.cores n).cache in
     copies_of (settings_of m) (world_of m) v n
     ≡ copy_in (c.value v) (c.dirty v) ++ copies_on v (net_of m.flights (Core n) (Dir (home (settings_of m) (line_of v))))
 unfolding copies_of world_of
@@ -110,43 +110,23 @@ pub best-last : (m : Machine) (v n : ℕ) → n ≡ (settings_of m).cores → (b
 unfolding seen copies
 best-last m v n e = ap (λ k. (best_of m v k).value) e
 
--- ---- where the machine is done
+-- ---- where no copy is away
 
-link-quiet : (v : ℕ) (link : Link) → ((k : ℕ) → get_or link k None ≡ None) → copies_on v link ≡ []
-unfolding copies_on
-link-quiet v [] h = refl
-link-quiet v (None ∷ ms) h = link-quiet v ms (λ k. h (suc k))
-link-quiet v (Some m ∷ ms) h = absurd (let none = h 0 in cc)
-
-core-clean : (s : Shape) (w : World) (v c : ℕ) → IsDone s w → c < s.cores → copies_of s w v c ≡ []
-unfolding copies_of
-core-clean s w v c d l =
-    let h : ℕ = home s (line_of v) in
-    rw (d.clean c v l) (link-quiet v (w.net (Core c) (Dir h)) (d.quiet (Core c) (Dir h)))
-
-cores-clean : (s : Shape) (w : World) (v n : ℕ) → IsDone s w → n ≤ s.cores → flat_map (copies_of s w v) (numbers n) ≡ []
-unfolding those
-cores-clean s w v zero d l = refl
-cores-clean s w v (suc n) d l =
-    flat_map-append (copies_of s w v) (numbers n) (n ∷ [])
-    ∙ (λ i. cores-clean s w v n d (omega arith) i ++ (core-clean s w v n d (omega arith) i ++ []))
-
-clean-seen : (s : Shape) (w : World) (v : ℕ) → IsDone s w → (home_copy s w v).value ≡ seen s w v
-unfolding seen copies
-clean-seen s w v d =
-    ap (λ (c : Copy). c.value) (newest-none (home_copy s w v)
-    ∙ ap (newest (home_copy s w v)) (sym (cores-clean s w v s.cores d (omega arith))))
+home-newest : (s : Shape) (w : World) (v : ℕ) → copies s w v ≡ [] → (home_copy s w v).value ≡ seen s w v
+unfolding seen
+home-newest s w v none = ap (λ (c : Copy). c.value) (newest-none (home_copy s w v) ∙ ap (newest (home_copy s w v)) (sym none))
 
 -- only the home has the word
-pub done-seen : (m now : Machine) (v value : ℕ) → m ≡ now → m.dirs.settings ≡ settings_of m → IsDone (settings_of now) (world_of now)
+pub home-seen : (m now : Machine) (v value : ℕ) → m ≡ now → m.dirs.settings ≡ settings_of m
+    → copies (settings_of now) (world_of now) v ≡ []
     → ((ram : ℕ → ℕ) → value ≡ (dirs_of ram m.dirs (home m.dirs.settings (line_of v))).words v)
     → value ≡ seen (settings_of now) (world_of now) v
 unfolding world_of home_copy
-done-seen m now v value same s d x =
+home-seen m now v value same s none x =
     let ram : ℕ → ℕ = first_ram (start_of m) in
     let here : value ≡ (home_copy (settings_of m) (world_of m) v).value =
     x ram ∙ ap (λ q. (dirs_of ram m.dirs (home q (line_of v))).words v) s in
-    here ∙ ap (λ k. (home_copy (settings_of k) (world_of k) v).value) same ∙ clean-seen (settings_of now) (world_of now) v d
+    here ∙ ap (λ k. (home_copy (settings_of k) (world_of k) v).value) same ∙ home-newest (settings_of now) (world_of now) v none
 
 -- ---- the home words of a line
 

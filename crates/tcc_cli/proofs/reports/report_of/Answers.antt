@@ -14,8 +14,8 @@ same : (c : goal.After-drop-consoles-inside-2)
       commits = c.commits.result.now;
       cores = c.deref.result.now;
       base = c.base.result;
-      count = (settings_of c.system-system.result.now).ram / 4;
-      ram = seen (settings_of c.system-system.result.now) (world_of c.system-system.result.now);
+      count = (settings_of c.in_ok-ram.ram).ram / 4;
+      ram = seen (settings_of c.in_ok-ram.ram) (world_of c.in_ok-ram.ram);
       loaded = (started c.args.loaded.now).word;
     })
     ≡ run_text (started c.args.loaded.now) c.done-done.result (length c.args.refined.now.taken) (history_of c.args.refined.now.machine)
@@ -23,6 +23,7 @@ unfolding run_text committed history_of started
 same c =
     let m = c.args.refined.now.machine in
     let is = c.system-system.ensures.machine in
+    let read : c.in_ok-ram.ram ≡ m = c.in_ok-ram.ensures ∙ is in
     let code = c.requires.code in
     λ i. report_text c.done-done.result (length (c.taken.ensures.taken i)) (record {
       commits = (c.commits.ensures ∙ ap (λ n. n.commits) is) i;
@@ -30,8 +31,8 @@ same c =
           ∙ ap (λ n. (shown (start_of n) (history_of n)).cores) is ∙ ap (λ k. (shown (started k) (history_of m)).cores) code) i;
       base = (c.base.ensures.value ∙ ap (λ s. s.base) c.config.ensures ∙ ap (λ n. (settings_of n).base) is
           ∙ ap (λ k. k.settings.base) code) i;
-      count = (ap (λ n. (settings_of n).ram / 4) is ∙ ap (λ k. k.settings.ram / 4) code) i;
-      ram = (ap (λ n. seen (settings_of n) (world_of n)) is ∙ ap (λ k. seen k.settings (world_of m)) code) i;
+      count = (ap (λ n. (settings_of n).ram / 4) read ∙ ap (λ k. k.settings.ram / 4) code) i;
+      ram = (ap (λ n. seen (settings_of n) (world_of n)) read ∙ ap (λ k. seen k.settings (world_of m)) code) i;
       loaded = (started c.args.loaded.now).word;
     })
 
