@@ -84,9 +84,10 @@ module _ (s : Shift) (nodes before : ℕ) (old : Option (List Call)) where
     turning-spent spent = turning-over (turning-bounded spent)
 
     -- one more turn, at the node and with the word of its number, after the gate
-    module _ (more : moved ≡ s.until → ⊥) (patient : idle ≡ s.patience → ⊥) (count : ℕ) (counts : count ≡ nodes) (node pick : ℕ) (drawn : Lcg)
-        (at : node ≡ (s.worker + turn) % count) (draws : (pick, drawn) ≡ pcg32 words) (mid next : Option (List Call))
-        (passed : Made new mid (Pass s.worker turn ∷ [])) (took : Made mid next (Turn node pick ∷ [])) (kept after : ℕ) (keeps : kept ≡ moved) where
+    module _ (more : moved ≡ s.until → ⊥) (patient : idle ≡ s.patience → ⊥) (count : ℕ) (counts : count ≡ nodes)
+        (node pick : ℕ) (drawn : Lcg) (at : node ≡ (s.worker + turn) % count) (draws : (pick, drawn) ≡ pcg32 words)
+        (mid next : Option (List Call)) (passed : Made new mid (Pass s.worker turn ∷ [])) (took : Made mid next (Turn node pick ∷ []))
+        (kept after : ℕ) (keeps : kept ≡ moved) where
       left : moved < s.until
       left = elim (eq-or-lt_of_le t.few) [ inl all ↦ absurd (more all) | inr short ↦ short ]
 
@@ -106,7 +107,8 @@ module _ (s : Shift) (nodes before : ℕ) (old : Option (List Call)) where
           let word : pick ≡ nth_word turn (words_of s.seed s.worker) = ap (λ p. p.0) draws ∙ ap (λ g. (pcg32 g).0) t.drawn in
           let place : node ≡ (s.worker + turn) % nodes = at ∙ ap (λ n. (s.worker + turn) % n) counts in
           let both : Made new next (Pass s.worker turn ∷ Turn node pick ∷ []) = made-more new mid next _ _ passed took in
-          let named : Made new next (Pass s.worker turn ∷ Turn ((s.worker + turn) % nodes) (nth_word turn (words_of s.seed s.worker)) ∷ []) =
+          let named : Made new next
+          (Pass s.worker turn ∷ Turn ((s.worker + turn) % nodes) (nth_word turn (words_of s.seed s.worker)) ∷ []) =
           subst (λ p. Made new next (Pass s.worker turn ∷ Turn ((s.worker + turn) % nodes) p ∷ [])) word
           (subst (λ n. Made new next (Pass s.worker turn ∷ Turn n pick ∷ [])) place both) in
           made-more old new next (calls_of s nodes turn) _ t.made named

@@ -22,13 +22,15 @@ loop-turn-preserved g c = (
   elim c.match-turn.branch [
     | in-Moved w ↦
         subst (λ k. Turning c.args.self.now g.P.Turns.count (g.P.Turns.moved c.args.ticket.now) (g.P.Turns.calls c.args.ticket.now)
-        (c.loop-turn.turn + 1) k (g.P.Turns.moved c.turn.new.ticket) c.next_word.new.self (g.P.Turns.calls c.turn.new.ticket)) (sym w.idle-is)
+        (c.loop-turn.turn + 1) k (g.P.Turns.moved c.turn.new.ticket) c.next_word.new.self (g.P.Turns.calls c.turn.new.ticket))
+        (sym w.idle-is)
         (turning-moved c.args.self.now g.P.Turns.count _ _ _ _ _ _ _ c.loop-turn.invariant.0
         (λ e. c.if-moved-self.false (c.moved.ensures ∙ e)) c.if-idle-self.false _ c.nodes-nodes.ensures.count _ _ _ c.node.ensures.at
         c.next_word.ensures _ _ c.pass.ensures.made c.turn.ensures.made _ _ c.pass.ensures.moved w.in-Moved.ensures.moved)
     | in-Idle w ↦
         subst (λ k. Turning c.args.self.now g.P.Turns.count (g.P.Turns.moved c.args.ticket.now) (g.P.Turns.calls c.args.ticket.now)
-        (c.loop-turn.turn + 1) k (g.P.Turns.moved c.turn.new.ticket) c.next_word.new.self (g.P.Turns.calls c.turn.new.ticket)) (sym w.idle-is)
+        (c.loop-turn.turn + 1) k (g.P.Turns.moved c.turn.new.ticket) c.next_word.new.self (g.P.Turns.calls c.turn.new.ticket))
+        (sym w.idle-is)
         (turning-idle c.args.self.now g.P.Turns.count _ _ _ _ _ _ _ c.loop-turn.invariant.0
         (λ e. c.if-moved-self.false (c.moved.ensures ∙ e)) c.if-idle-self.false _ c.nodes-nodes.ensures.count _ _ _ c.node.ensures.at
         c.next_word.ensures _ _ c.pass.ensures.made c.turn.ensures.made _ _ c.pass.ensures.moved w.in-Idle.ensures.moved)
