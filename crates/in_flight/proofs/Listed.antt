@@ -106,7 +106,8 @@ listed-on x e f is listed =
     (λ same. record {
       at = listed.at;
       there = ap (λ b. slice_get b listed.at) (bucket-put x e.key f.key (bucket x e.key ++ e ∷ []) is same)
-          ∙ front-get (bucket x e.key) listed.at e f (subst (λ b. slice_get b listed.at ≡ Some f) (bucket-alike x f.key e.key same) listed.there);
+          ∙ front-get (bucket x e.key) listed.at e f
+          (subst (λ b. slice_get b listed.at ≡ Some f) (bucket-alike x f.key e.key same) listed.there);
     })
     (λ other. record {
       at = listed.at;

@@ -14,8 +14,8 @@ use Rattle.tcc_maps.specs.Serving.{Serving, kept, skipped}
 use Rattle.tcc_maps.specs.Shape.{lines}
 use Rattle.tcc_maps.specs.Words.{count_below}
 use Rattle.tcc_maps.proofs.Lemmas.{advance-rises}
-use Rattle.tcc_rules.specs.DirDeliver.{Answer, Waits, Drops, Asks, Takes, abort, acknowledgement, ask_owner, came_home, dir_commit, dir_deliver}
-use Rattle.tcc_rules.specs.DirDeliver.{judged, load_request, load_unless_owned, mark, mark_taken, mark_unless_owned, moved_on}
+use Rattle.tcc_rules.specs.DirDeliver.{Answer, Waits, Drops, Asks, Takes, abort, acknowledgement, ask_owner, came_home, dir_commit}
+use Rattle.tcc_rules.specs.DirDeliver.{dir_deliver, judged, load_request, load_unless_owned, mark, mark_taken, mark_unless_owned, moved_on}
 use Rattle.tcc_rules.specs.DirDeliver.{moved_on_if_settled, probe, skip, unless_keeps, write_back}
 use Rattle.tcc_rules.specs.Sends.{Sends, nothing, to}
 use Rattle.tcc_rules.specs.State.{DirState}

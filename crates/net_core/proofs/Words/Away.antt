@@ -86,7 +86,8 @@ pub core-covered : (m now : Machine) (w n : ℕ) (x : CoreState) → m ≡ now �
     → copies_of (settings_of now) (world_of now) w n ≡ []
 core-covered m now w n x same settled core clean sent =
     let c : Cache = (cores_of now.cores n).cache in
-    let free : c.dirty w ≡ None = ap (λ k. (cores_of k.cores n).cache.dirty w) (sym same) ∙ (ap (λ s. s.cache.dirty w) (sym core) ∙ clean) in
+    let free : c.dirty w ≡ None =
+    ap (λ k. (cores_of k.cores n).cache.dirty w) (sym same) ∙ (ap (λ s. s.cache.dirty w) (sym core) ∙ clean) in
     own-copies now w n settled ∙ rw (free, sent) refl
 
 cores-covered : (s : Shape) (w : World) (v n : ℕ) → ((c : ℕ) → c < n → copies_of s w v c ≡ []) → flat_map (copies_of s w v) (numbers n) ≡ []

@@ -22,7 +22,8 @@ remark_listed-requires c =
     let x = c.index-directory.result.now in
     let are : AreDirs b.settings b.dirs = subst (λ v. AreDirs v.settings v.dirs) c.self.view_is c.self.invariant.dirs in
     let is : x ≡ get_or b.dirs d x =
-    subst (λ v. x ≡ get_or v.dirs d x) c.self.view_is (subst (λ i. x ≡ get_or i.dirs d x) c.self-inside.view_is c.index-directory.ensures) in
+    subst (λ v. x ≡ get_or v.dirs d x) c.self.view_is
+    (subst (λ i. x ≡ get_or i.dirs d x) c.self-inside.view_is c.index-directory.ensures) in
     let a = at b d x are c.requires.exists is in
     record {
       home = λ core k m fly. subst (λ p. (core < p.shape.cores) × (is_foreign p m ≡ false)) (sym a.place)
@@ -36,10 +37,12 @@ returns-clause-its c = λ ram core k m fly on.
     let x = c.index-directory.result.now in
     let are : AreDirs b.settings b.dirs = subst (λ v. AreDirs v.settings v.dirs) c.self.view_is c.self.invariant.dirs in
     let is : x ≡ get_or b.dirs d x =
-    subst (λ v. x ≡ get_or v.dirs d x) c.self.view_is (subst (λ i. x ≡ get_or i.dirs d x) c.self-inside.view_is c.index-directory.ensures) in
+    subst (λ v. x ≡ get_or v.dirs d x) c.self.view_is
+    (subst (λ i. x ≡ get_or i.dirs d x) c.self-inside.view_is c.index-directory.ensures) in
     let a = at b d x are c.requires.exists is in
     let all : c.loop-i.i ≡ c.listed-i-end.result = omega (arith, c.loop-i-test.false, c.loop-i.auto.i-end) in
-    subst (λ s. is_ready c.loop-i.flights (Core core) (Dir d) k ≡ is_taken (dir_deliver b.settings s core m)) (sym (dirs-at ram b d x a.got))
+    subst (λ s. is_ready c.loop-i.flights (Core core) (Dir d) k ≡ is_taken (dir_deliver b.settings s core m))
+    (sym (dirs-at ram b d x a.got))
     (subst (λ p. is_ready c.loop-i.flights (Core core) (Dir d) k ≡ is_taken (dir_deliver p.shape (dir_of ram x) core m)) a.place
     (about-all x d (subject_of c.args.on) c.loop-i.i c.args.flights.now c.loop-i.flights c.loop-i.invariant
     (all ∙ c.listed-i-end.ensures.count) ram core k m (c.listed-i-end.ensures.all core d k m fly on) fly))
@@ -51,7 +54,8 @@ returns-clause-here c = λ ram core k m fly.
     let x = c.index-directory.result.now in
     let are : AreDirs b.settings b.dirs = subst (λ v. AreDirs v.settings v.dirs) c.self.view_is c.self.invariant.dirs in
     let is : x ≡ get_or b.dirs d x =
-    subst (λ v. x ≡ get_or v.dirs d x) c.self.view_is (subst (λ i. x ≡ get_or i.dirs d x) c.self-inside.view_is c.index-directory.ensures) in
+    subst (λ v. x ≡ get_or v.dirs d x) c.self.view_is
+    (subst (λ i. x ≡ get_or i.dirs d x) c.self-inside.view_is c.index-directory.ensures) in
     let a = at b d x are c.requires.exists is in
     let kept = is_ready c.loop-i.flights (Core core) (Dir d) k ≡ is_ready c.args.flights.now (Core core) (Dir d) k in
     subst (λ s. (is_ready c.loop-i.flights (Core core) (Dir d) k ≡ is_taken (dir_deliver b.settings s core m)) ⊎ kept)

@@ -26,7 +26,8 @@ returns-in_err-at-clause-given c =
       counted = record { counted = c.self.invariant.counted; flying = c.self.invariant.flying };
     } in
     let none = place-no_lane i.grid.cores i.grid.dirs i.lanes.items s d (sym c.place.ensures ∙ c.in_err-at.was) in
-    rw (← c.self.view_is, c.from_residual.ensures) (flown-no_lane (with_lanes i.grid.cores i.grid.dirs i.lanes.items) s d c.args.name.seq none)
+    rw (← c.self.view_is, c.from_residual.ensures)
+    (flown-no_lane (with_lanes i.grid.cores i.grid.dirs i.lanes.items) s d c.args.name.seq none)
 
 pub returns-in_err-at-clause-net : goal.returns-in_err-at-clause-net
 unfolding net_of lane
@@ -81,7 +82,8 @@ returns-in_err-held-clause-given c =
     get_or_read i.lanes.items c.in_ok-at.at c.index_mut.result.now
     (below i.grid.cores i.grid.dirs i.lanes.items i.ready i.flying s d c.in_ok-at.at stands at) c.index_mut.ensures.value [] in
     rw (← c.self.view_is, c.from_residual-in_err-held.ensures)
-    (flown-none (with_lanes i.grid.cores i.grid.dirs i.lanes.items) s d c.args.name.seq _ (e ∙ sym (place-lane i.grid.cores i.grid.dirs i.lanes.items s d c.in_ok-at.at at))
+    (flown-none (with_lanes i.grid.cores i.grid.dirs i.lanes.items) s d c.args.name.seq _
+    (e ∙ sym (place-lane i.grid.cores i.grid.dirs i.lanes.items s d c.in_ok-at.at at))
     c.in_err-held.ensures.given)
 
 pub returns-in_err-held-clause-net : goal.returns-in_err-held-clause-net
@@ -212,7 +214,8 @@ returns-clause-given c =
     get_or_read i.lanes.items c.in_ok-at.at c.index_mut.result.now
     (below i.grid.cores i.grid.dirs i.lanes.items i.ready i.flying s d c.in_ok-at.at stands at) c.index_mut.ensures.value [] in
     rw (← c.self.view_is)
-    (flown-some (with_lanes i.grid.cores i.grid.dirs i.lanes.items) s d c.args.name.seq _ c.in_ok-held.held (e ∙ sym (place-lane i.grid.cores i.grid.dirs i.lanes.items s d c.in_ok-at.at at))
+    (flown-some (with_lanes i.grid.cores i.grid.dirs i.lanes.items) s d c.args.name.seq _ c.in_ok-held.held
+    (e ∙ sym (place-lane i.grid.cores i.grid.dirs i.lanes.items s d c.in_ok-at.at at))
     c.in_ok-held.ensures.given)
 
 pub returns-clause-net : goal.returns-clause-net

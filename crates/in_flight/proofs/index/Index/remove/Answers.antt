@@ -14,7 +14,8 @@ returns c = λ e ne listed.
     let list = c.list.view_is ∙ bucket-read x f.key c.index_mut.result.now c.self.invariant c.index_mut.ensures.value in
     elim c.match-place_of.branch [
       | in-Some w ↦ subst (λ y. IsListed y e)
-          (ap (λ b. set x (f.key % 4096) b) (sym (w.remove.ensures.items ∙ ap (λ b. take w.in-Some.at b ++ drop (suc w.in-Some.at) b) list)) ∙ ap (λ y. y.lists.items) (sym w.self-inside-is))
+          (ap (λ b. set x (f.key % 4096) b) (sym (w.remove.ensures.items ∙ ap (λ b. take w.in-Some.at b ++ drop (suc w.in-Some.at) b) list))
+          ∙ ap (λ y. y.lists.items) (sym w.self-inside-is))
           (removed x e f w.in-Some.at c.self.invariant
           (ap (λ b. slice_get b w.in-Some.at) (sym (c.deref.ensures.value ∙ list)) ∙ w.in-Some.ensures.found) ne before)
       | in_default w ↦ subst (λ y. IsListed y e)

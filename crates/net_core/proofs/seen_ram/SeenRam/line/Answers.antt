@@ -24,7 +24,8 @@ returns-else-is_noted c =
     let inside : l < lines (settings_of now) = line-inside (settings_of now).ram l allowed.2 c.requires.inside in
     let free : is_noted c.self.inside.notes.items l ≡ false =
     ap (λ notes. is_noted notes l) (sym c.deref.ensures.value) ∙ (sym c.is_noted.ensures ∙ c.if-is_noted.false) in
-    let none : CoversCopies now c.self.inside.notes.items = subst (λ k. CoversCopies k c.self.inside.notes.items) c.self.view_is c.self.invariant.1 in
+    let none : CoversCopies now c.self.inside.notes.items =
+    subst (λ k. CoversCopies k c.self.inside.notes.items) c.self.view_is c.self.invariant.1 in
     line-is (seen (settings_of now) (world_of now)) l ws (ap length (c.line_words.ensures (λ w. 0)) ∙ eight-long _)
     (λ k b.
     let line : line_of (word_at l k) ≡ l = placed-line l k b in

@@ -140,14 +140,16 @@ unseen c b y f =
     let m = machine_of c.self.inside in
     let ram = first_ram (start_of m) in
     let did = c.in-Ok.ensures.does in
-    let look = c.looks-look.ensures ∙ (λ i. looks c.in-Ok.handled (msg_of c.args.msg) (c.serving-before.ensures ram i) (c.serving.ensures ram i)) in
+    let look = c.looks-look.ensures
+    ∙ (λ i. looks c.in-Ok.handled (msg_of c.args.msg) (c.serving-before.ensures ram i) (c.serving.ensures ram i)) in
     let same = quiet-after m.dirs.settings (rule_dirs m c.args.dir.0) (now_at m (after c) c.args.dir.0) c.args.core.0 (msg_of c.args.msg)
     c.in-Ok.handled (sends_of did.sent) (did.answer ram) (λ q. λ i. (did.still q).0 ram i c.args.dir.0) in
     taken-unseen _ m.dirs.settings (rule_dirs m c.args.dir.0) (now_at m (after c) c.args.dir.0) b c.args.dir.0 y same
     (ap (λ l. is_seen l c.args.dir.0 y) (sym look) ∙ f)
 
 -- a message that was marked as the directory said is marked as it says
-here : (c : goal.After-self-in-Ok-2-1) (b i : ℕ) (y : Msg) → in_flight (net_of c.look_again.new.flights) (Core b) (Dir c.args.dir.0) i ≡ Some y
+here : (c : goal.After-self-in-Ok-2-1) (b i : ℕ) (y : Msg)
+    → in_flight (net_of c.look_again.new.flights) (Core b) (Dir c.args.dir.0) i ≡ Some y
     → is_ready c.self.inside.flights (Core b) (Dir c.args.dir.0) i
     ≡ is_taken (dir_deliver (machine_of c.self.inside).dirs.settings (rule_dirs (machine_of c.self.inside) c.args.dir.0) b y)
     → is_ready c.look_again.new.flights (Core b) (Dir c.args.dir.0) i

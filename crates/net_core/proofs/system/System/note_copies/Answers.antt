@@ -17,7 +17,8 @@ pub note_core-requires : goal.note_core-requires
 note_core-requires c =
     let m : Machine = machine_of c.self.inside in record {
       cache = subst (λ s. IsCache s (core_of c.core.result.now).cache) (sym c.core.ensures.config)
-          (subst (λ (x : CoreState). IsCache (settings_of m) x.cache) (sym c.core.ensures.state) (whole-caches m c.self.invariant c.args.core.0));
+          (subst (λ (x : CoreState). IsCache (settings_of m) x.cache) (sym c.core.ensures.state)
+          (whole-caches m c.self.invariant c.args.core.0));
     }
 
 pub returns : goal.returns
