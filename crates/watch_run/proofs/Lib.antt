@@ -6,3 +6,4 @@ mod Tallies
 mod Told
 mod Traced
 mod Written
+mod Sent

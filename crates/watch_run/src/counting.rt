@@ -1,15 +1,16 @@
 // What is counted of a run while it goes on.
-ghost use Rattle.std.specs.Prelude.{◌≡◌, ◌+◌, ◌<◌, ◌≤◌, [], IfOk, OnOk, length};
+ghost use Rattle.std.specs.Prelude.{◌≡◌, ◌+◌, ◌<◌, ◌≤◌, [], IfOk, OnOk, length, map};
 ghost use Rattle.image_load.specs.Contents.{started};
 ghost use Rattle.net_core.specs.Machine.{history_of, program_of, settings_of, start_of, world_of};
 ghost use Rattle.rv_serial.specs.Suiting.{world_at_start};
 ghost use Rattle.tcc_msg.specs.Plain.{event_of};
 ghost use Rattle.watch.specs.Happened.{actor as plain_actor, happened};
+ghost use Rattle.watch.specs.Plain.{fact_of};
 ghost use Rattle.watch_count.specs.Counts.{event_counted, run_counted};
 ghost use Rattle.watch_run.specs.Going.{Took, Went};
 ghost use Rattle.watch_run.specs.Looked.{IsCounted, run_facts};
 
-use crate::events::{Events, actor, settings_are_allowed};
+use crate::events::{Events, settings_are_allowed};
 use image_load::Loaded;
 use net_core::System;
 use std::alloc::Global;
@@ -17,7 +18,7 @@ use tcc_base::{List, NoMemory};
 use tcc_msg::Event;
 use watch::Fact;
 use watch_count::Counts;
-use watch_machine::watch;
+use watch_machine::{actor, watch_node};
 
 /// What was counted of a run, whether it is done, and how many events it took.
 #[derive(Debug, Drop)]
@@ -27,7 +28,14 @@ pub struct Counted {
     pub events: u64,
 }
 
-/// Takes an event, and counts what it did.
+/// Counts what an event did at its node.
+fn count_facts(e: Event, facts: &List<Fact>, counts: &mut Counts) -> Result<(), NoMemory>
+    ensures { OnOk result (counts.new ≡ event_counted (plain_actor (event_of e)) (map fact_of facts.now) counts.old) }
+{
+    counts.event(actor(e), &facts.items)
+}
+
+/// Takes an event, and counts what it did. What it sent is counted as it stands in the machine: no order and no numbers are wanted for it.
 fn count_event(
     system: &mut System,
     e: Event,
@@ -39,11 +47,12 @@ fn count_event(
     ensures counted { OnOk result (counts.new ≡ event_counted (plain_actor (event_of e))
         (happened (settings_of system.old) (program_of system.old) (history_of system.old) (event_of e)) counts.old) }
 {
-    match watch(system, e, facts) {
+    match watch_node(system, e, facts) {
         Ok(()) => {}
         Err(_) => return Err(NoMemory),
     }
-    counts.event(actor(e), &facts.items)
+    count_facts(e, facts, counts)?;
+    counts.sent(system.last_sent())
 }
 
 /// Takes the events that are to come, at most so many, and counts what they did.
@@ -72,7 +81,7 @@ fn count_events<E: Events>(
 }
 
 /// Counts what the events that are to come do in the run from what was loaded, at most so many. The time is that of the events, and a
-/// constant for each core and each fact of an event; the memory is that of the machine and of the tables.
+/// constant for each fact of an event; the memory is that of the machine and of the tables.
 pub fn count<E: Events>(
     alloc: Global,
     loaded: &Loaded,

@@ -3,18 +3,16 @@ ghost use Rattle.std.specs.Prelude.{◌≡◌, IfSome, List as Seq, None, [], dr
 ghost use Rattle.image_load.specs.Start.{Start};
 ghost use Rattle.rv_code.specs.Machine.{program};
 ghost use Rattle.tcc_base.specs.Settings.{IsAllowed};
-ghost use Rattle.tcc_maps.specs.Bridge.{node_of};
 ghost use Rattle.tcc_maps.specs.Nodes.{Event as PlainEvent};
 ghost use Rattle.tcc_msg.specs.Plain.{event_of};
 ghost use Rattle.tcc_pick.specs.Words.{seeded, words};
 ghost use Rattle.tcc_rules.specs.Picked.{picked};
 ghost use Rattle.tcc_rules.specs.State.{World};
 ghost use Rattle.net_core.specs.Machine.{start_of, world_of};
-ghost use Rattle.watch.specs.Happened.{actor as plain_actor};
 ghost use Rattle.watch_run.specs.Going.{IsFirst};
 
 use net_core::System;
-use tcc_base::{Config, NodeId};
+use tcc_base::Config;
 use tcc_msg::Event;
 use tcc_pick::Chooser;
 
@@ -23,16 +21,6 @@ pub(crate) fn settings_are_allowed(config: &Config)
     ensures { IsAllowed config.now }
 {
     config.cores();
-}
-
-/// The node at which an event happens.
-pub(crate) fn actor(e: Event) -> NodeId
-    ensures { node_of result ≡ plain_actor (event_of e) }
-{
-    match e {
-        Event::Exec(core) | Event::Evict(core, _, _) => NodeId::Core(core),
-        Event::Deliver(name) => name.dst,
-    }
 }
 
 /// What gives the events of a run, one after another.
