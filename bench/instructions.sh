@@ -4,7 +4,7 @@
 # run, however busy the computer is. Where PEER names another simulator with the same command line, its numbers stand beside ours, with
 # how many times its number ours is, and both have to print the same texts. TCC names the program; without it, it is the one in release/.
 #
-#   bench/instructions.sh [GROUP]...     GROUP: often own trials lines starts hot bus record (without one, all)
+#   bench/instructions.sh [GROUP]...     GROUP: often own trials lines starts hot bus record look (without one, all)
 #
 # STEPS is the most events of a run (200000), LINES the sizes of a transaction in lines (1000 4000 16000 64000).
 set -eu
@@ -12,6 +12,7 @@ program=$(readlink -f -- "${TCC:-$(dirname "$0")/../release/tcc-x86_64-linux}")
 peer=${PEER:+$(readlink -f -- "$PEER")}
 steps=${STEPS:-200000}
 lines=${LINES:-1000 4000 16000 64000}
+counters=$(readlink -f -- "$(dirname "$0")/../examples/workloads/counters.bin")
 room=$(mktemp -d)
 trap 'rm -rf "$room"' EXIT
 cd "$room"
@@ -182,13 +183,25 @@ record() {
     a_whole "replay of $steps events" replay $machine schedule often
 }
 
+# A run that is looked at: in sums, as a trace, and with what each event changed of the state.
+look() {
+    local size cores dirs sets ways machine words
+    for size in "16 16 16 2" "64 64 16 2" "8 4 1024 16"; do
+        read -r cores dirs sets ways <<<"$size"
+        machine="--raw --cores $cores --dirs $dirs --sets $sets --ways $ways"
+        for words in run count trace "trace --states"; do
+            a_row "$words, $cores x $dirs, $sets x $ways frames" "$steps" $words $machine "$counters"
+        done
+    done
+}
+
 printf '%-44s %10s' "instructions an event" ours
 [ -z "$peer" ] || printf ' %10s' theirs
 echo
-for group in "${@:-often own trials lines starts hot bus record}"; do
+for group in "${@:-often own trials lines starts hot bus record look}"; do
     for name in $group; do
         case $name in
-            often | own | trials | lines | starts | hot | bus | record) $name ;;
+            often | own | trials | lines | starts | hot | bus | record | look) $name ;;
             *) echo "there is no group '$name'" >&2 && exit 2 ;;
         esac
     done
