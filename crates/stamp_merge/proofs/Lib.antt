@@ -2,3 +2,4 @@
 mod Laws
 pub mod Lemmas
 mod Sorting
+mod Stamps

@@ -6,6 +6,9 @@ ghost use Rattle.std.specs.List.{flat_map};
 ghost use Rattle.node_logs.specs.Fitting.{IsMergeOf};
 ghost use Rattle.stamp_merge.specs.Merging.{AreByStamp, AreLogs, MergeIsOne, MergedLogsRun};
 
+mod counting;
+
+use counting::by_counting;
 use node_logs::{Logged, Logs};
 use std::alloc::{AllocError, Global};
 use tcc_base::{List, NoMemory};
@@ -33,8 +36,8 @@ fn events_of(alloc: Global, entries: &[Logged]) -> Result<Vec<Event>, AllocError
     entries.iter().map(|entry| entry.event).collect(alloc)
 }
 
-/// The events of all logs by stamp; those of one stamp in the order of their logs.
-fn by_stamp(alloc: Global, logs: &[List<Logged>]) -> Result<Vec<Event>, AllocError>
+/// The events of all logs by stamp; those of one stamp in the order of their logs. Entries are compared, whatever their stamps are.
+fn by_comparing(alloc: Global, logs: &[List<Logged>]) -> Result<Vec<Event>, AllocError>
     ensures { IfOk result (λ events. AreByStamp (flat_map (λ log. log) logs.now) events.items) }
 {
     let mut entries = gathered(alloc, logs)?;
@@ -42,10 +45,21 @@ fn by_stamp(alloc: Global, logs: &[List<Logged>]) -> Result<Vec<Event>, AllocErr
     events_of(alloc, &entries)
 }
 
+/// The events of all logs by stamp; those of one stamp in the order of their logs.
+fn by_stamp(alloc: Global, logs: &[List<Logged>]) -> Result<Vec<Event>, AllocError>
+    ensures { IfOk result (λ events. AreByStamp (flat_map (λ log. log) logs.now) events.items) }
+{
+    match by_counting(alloc, logs)? {
+        Some(events) => Ok(events),
+        None => by_comparing(alloc, logs),
+    }
+}
+
 /// The schedule that logs are together: the events of all of them by stamp, and those of one stamp in the order of their nodes.
 /// Each node has its log, of its own events alone, and stamps rise along it. The logs stay as they are. The error is want of
-/// memory: while it sorts, it has room for each entry twice, beside the logs. Its time grows no faster than n log n for n entries,
-/// and as n log m for m long logs.
+/// memory: beside the logs there is room for the events, and for a u32 for each stamp up to the highest. Its time grows as the number
+/// of entries and of stamps. With more than four stamps for each entry and a thousand, or with 2^32 entries or more, it compares: then
+/// it has room for each entry twice, and its time grows no faster than n log n for n entries, and as n log m for m long logs.
 pub fn merge(alloc: Global, logs: &Logs) -> Result<Schedule, NoMemory>
     requires logs { AreLogs logs.now.config logs.now.by_node }
     ensures config { IfOk result (λ schedule. schedule.config ≡ logs.now.config) }

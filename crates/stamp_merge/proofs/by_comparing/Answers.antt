@@ -4,7 +4,7 @@ use Rattle.std.proofs.lemmas.Result.{IfOk-weaker}
 use Rattle.std.proofs.lemmas.List.Sorted.{IsNonDecreasingBy-from_sort_by_key, answers_always}
 use Rattle.node_logs.specs.declared.logs.Logged.{Logged}
 use Rattle.stamp_merge.specs.Merging.{AreByStamp}
-use Rattle.stamp_merge.proofs.by_stamp.Goals as goal
+use Rattle.stamp_merge.proofs.by_comparing.Goals as goal
 
 pub returns : goal.returns
 returns c =
